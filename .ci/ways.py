@@ -3,7 +3,7 @@ import functools
 import os
 import sys
 
-MOST = 400_000
+MOST = 500_000
 
 with open(os.path.join(os.path.dirname(os.path.abspath(__file__)), "..", "crates.txt"), encoding="utf-8") as file:
     lines = [line.split("#")[0].partition(":") for line in file]

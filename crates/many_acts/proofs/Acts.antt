@@ -13,6 +13,5 @@ pub mod Counts
 mod RowSteps
 pub mod Courses
 pub mod Agree
-mod Samples
 pub mod Reclaiming
 pub mod AsSteps

@@ -22,4 +22,3 @@ pub mod Acts
 pub mod Reclaimed
 pub mod Lists
 pub mod Onward
-mod Samples

@@ -3,3 +3,4 @@ pub mod Acts
 pub mod Carries
 pub mod Links
 pub mod Given
+mod Samples

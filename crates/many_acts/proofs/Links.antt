@@ -10,4 +10,3 @@ pub mod Before
 pub mod Makings
 pub mod Steps
 pub mod Lists
-mod Samples

@@ -6,4 +6,3 @@ pub mod Looks
 pub mod Lookups
 pub mod Makings
 pub mod Sees
-mod Samples

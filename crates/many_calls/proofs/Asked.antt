@@ -15,4 +15,3 @@ pub mod Begins
 pub mod Replies
 pub mod Leaves
 pub mod OneCurrent
-mod Samples

@@ -11,4 +11,3 @@ pub mod Within
 pub mod Promised
 pub mod Rooms
 pub mod Sweeps
-mod Samples

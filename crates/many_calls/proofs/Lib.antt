@@ -7,3 +7,4 @@ pub mod Together
 pub mod MapBegins
 pub mod Claims
 pub mod Given
+mod Samples

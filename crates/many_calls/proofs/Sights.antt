@@ -4,4 +4,3 @@ pub mod Parts
 pub mod Sources
 pub mod Wider
 pub mod Seen
-mod Samples

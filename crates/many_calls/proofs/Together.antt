@@ -36,4 +36,3 @@ pub mod Narrowed
 pub mod Guards
 pub mod MapStands
 pub mod Linked
-mod Samples

@@ -8,12 +8,12 @@ use Rattle.map_facts_late.specs.Given.RawDeclared.machines.call.Calling.{Calling
 use Rattle.map_facts_late.specs.Given.RawDeclared.machines.call.Calling.TheVariants as at
 use Rattle.map_facts_late.specs.Given.RuleChart.{Chart, Holds, Still}
 use Rattle.map_facts_late.specs.Given.RuleWords.{Blocks, place_word}
-use Rattle.many_calls.specs.Asked.{Asked, last_told}
+use Rattle.many_calls.specs.Asked.{Asked, last_reply}
 
 module _ {K V : Type 0} (hash : K → ℕ) (c : Chart K) (blocks : Blocks) (keys : K → Bool) (asked : List (Asked V)) where
   -- it was told something about this pair
   abbrev pub WasAsked : ℕ → Type 0
-  WasAsked n = last_told (Some n) asked ≢ None
+  WasAsked n = last_reply (Some n) asked ≢ None
 
   -- the pair has left the map
   abbrev pub HasGone : ℕ → Type 0
@@ -29,7 +29,7 @@ module _ {K V : Type 0} (hash : K → ℕ) (c : Chart K) (blocks : Blocks) (keys
 
   -- the word is that of a pair that it was told nothing about
   abbrev pub IsNew : ℕ → Type 0
-  IsNew word = (n : ℕ) × IsOfKeys n × (borrowed : Bool) × (word ≡ place_word hash c blocks (Holds n Still borrowed)) × (last_told (Some n) asked ≡ None)
+  IsNew word = (n : ℕ) × IsOfKeys n × (borrowed : Bool) × (word ≡ place_word hash c blocks (Holds n Still borrowed)) × (last_reply (Some n) asked ≡ None)
 
   -- Each pair that it was asked about has left the map, but the one that it remembers. Where it asks, all have, and the pair is a new one.
   abbrev pub AskedAt : Replies K V → Calling → Type 0

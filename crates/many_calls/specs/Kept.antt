@@ -60,5 +60,5 @@ module _ {K V : Type 0} (w : World (Node K V)) where
     pub pair : IsPair b
 
   -- What is deferred behind a linked table is a pair of this owner's, and another table is linked behind that one: it is to be copied, or was.
-  abbrev pub BehindIsOwned : Chart K → Blocks → ℕ → Type 0
-  BehindIsOwned c blocks owner = (t x : ℕ) → c.first ≤ t → t < c.past → where_is x w.log ≡ With (blocks.table t) → IsPairOf owner x × (suc t < c.past)
+  abbrev pub DeferredIsOwned : Chart K → Blocks → ℕ → Type 0
+  DeferredIsOwned c blocks owner = (t x : ℕ) → c.first ≤ t → t < c.past → where_is x w.log ≡ With (blocks.table t) → IsPairOf owner x × (suc t < c.past)

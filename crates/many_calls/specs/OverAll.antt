@@ -46,8 +46,8 @@ abbrev pub come_to : CallOverAll → ℕ → List ℕ → Sweep → CallOverAll
 come_to o entered done p = record { began = o.began; entered = entered; done = done; told = o.told; sweep = p }
 
 -- it is told whether to keep this pair
-abbrev pub told_of : CallOverAll → ℕ → Bool → CallOverAll
-told_of o n keeps =
+abbrev pub with_verdict : CallOverAll → ℕ → Bool → CallOverAll
+with_verdict o n keeps =
     record { began = o.began; entered = o.entered; done = cond keeps (n ∷ o.done) o.done; told = verdict n keeps; sweep = after_reply o.sweep keeps }
 
 -- the row that it stands at
@@ -72,13 +72,13 @@ SweepClaims t _ = ⊥
 
 module _ {K : Type 0} (hash : K → ℕ) (c : Chart K) (blocks : Blocks) where
   -- what a retaining is about to remove is the very pair that it was told last not to keep
-  abbrev pub TriesTold : Option Verdict → Purpose → Sweeping → Type 0
-  TriesTold told purpose (at.Tries word) = purpose ≡ Retains → (n : ℕ) × NamesPair hash c blocks word n × (told ≡ verdict n false)
-  TriesTold told purpose _ = Unit {0}
+  abbrev pub TriesAsReplied : Option Verdict → Purpose → Sweeping → Type 0
+  TriesAsReplied told purpose (at.Tries word) = purpose ≡ Retains → (n : ℕ) × NamesPair hash c blocks word n × (told ≡ verdict n false)
+  TriesAsReplied told purpose _ = Unit {0}
 
 -- No pair is removed, or one that the map had: a clearing removes any, a retaining that which it was told last not to keep, and a walk none.
-abbrev pub RemovesTold : {K : Type 0} → CallOverAll → Chart K → Chart K → Type 0
-RemovesTold o c c2 =
+abbrev pub RemovesAsReplied : {K : Type 0} → CallOverAll → Chart K → Chart K → Type 0
+RemovesAsReplied o c c2 =
     (c2.current ≡ c.current)
     ⊎ ((n : ℕ) × (c.current n ≡ true) × (c2.current ≡ put c.current n false)
     × ((o.sweep.purpose ≡ Clears) ⊎ ((o.sweep.purpose ≡ Retains) × (o.told ≡ verdict n false))))

@@ -14,7 +14,7 @@ use Rattle.map_facts_late.specs.Given.RuleChart.{Chart}
 use Rattle.map_facts_late.specs.Given.RuleWords.{Blocks}
 use Rattle.map_facts_late.specs.Given.PointsFactsCalls.{Change, Stored, Replaced}
 use Rattle.map_facts_late.specs.Kinds.{IsFit}
-use Rattle.many_calls.specs.Asked.{Asked, last_told, ToldWithin, AnswersTold, ChangesTold, KeepsTold}
+use Rattle.many_calls.specs.Asked.{Asked, last_reply, RepliesWithin, AnswersAsReplied, ChangesAsReplied, RemembersReplies}
 use Rattle.many_calls.specs.AskedOnce.{AsksOnce}
 use Rattle.many_calls.specs.Kind.{Kind}
 
@@ -52,15 +52,15 @@ kind_of (Begun kind pair) = kind
 kind_of (IsTold kind its asked) = kind
 
 -- a reply that is taken is kept
-abbrev pub and_told : {K V : Type 0} → Given K V → Option ℕ → MachineReply V → Result Unit (MachineReply V) → Given K V
-and_told (IsTold kind its asked) about told (Ok taken) = IsTold kind its (record { about = about; told = told } ∷ asked)
-and_told given about told _ = given
+abbrev pub with_reply : {K V : Type 0} → Given K V → Option ℕ → MachineReply V → Result Unit (MachineReply V) → Given K V
+with_reply (IsTold kind its asked) about told (Ok taken) = IsTold kind its (record { about = about; told = told } ∷ asked)
+with_reply given about told _ = given
 
 -- It was told nothing about this before. One that stores nothing only chooses whether to remove a pair, and may ask about it again.
 abbrev pub AsksFirst : {K V : Type 0} → Given K V → Option ℕ → Type 0
 AsksFirst (Begun kind pair) about = ⊥
-AsksFirst (IsTold kind (Some key) asked) about = last_told about asked ≡ None
-AsksFirst (IsTold kind None asked) None = last_told None asked ≡ None
+AsksFirst (IsTold kind (Some key) asked) about = last_reply about asked ≡ None
+AsksFirst (IsTold kind None asked) None = last_reply None asked ≡ None
 AsksFirst (IsTold kind None asked) (Some n) = Unit {0}
 
 -- what a call hands back, which it has not stored, is the pair that it was begun with, if with one
@@ -71,7 +71,7 @@ HandsBack (IsTold kind its asked) value = Unit {0}
 -- it was told last to remove what is not there
 abbrev pub RemovesNone : {K V : Type 0} → Given K V → Type 0
 RemovesNone (Begun kind pair) = ⊥
-RemovesNone (IsTold kind its asked) = last_told None asked ≡ Some reply.Remove
+RemovesNone (IsTold kind its asked) = last_reply None asked ≡ Some reply.Remove
 
 -- a call is of this kind, where it stands so
 abbrev pub IsOfKind : {K V Q : Type 0} → Kind → KeyCall K V Q → Calling → Type 0
@@ -81,16 +81,16 @@ module _ {K V : Type 0} (hash : K → ℕ) (m : Mem (Node K V)) (c : Chart K) (b
   -- what was stored is the pair that the call was begun with, if it was begun with one; or what was changed is what it was told to change
   abbrev pub StoresGiven : Given K V → Change → Type 0
   StoresGiven (Begun kind pair) change = StoresIt m c blocks pair change
-  StoresGiven (IsTold kind its asked) change = ChangesTold hash m c blocks its asked change
+  StoresGiven (IsTold kind its asked) change = ChangesAsReplied hash m c blocks its asked change
 
   -- what an answer without a change leaves so is what it was told to leave so
   abbrev pub LeavesGiven : Given K V → KeyAnswer → Type 0
   LeavesGiven (Begun kind pair) answer = Unit {0}
-  LeavesGiven (IsTold kind its asked) answer = AnswersTold hash m c blocks its asked kind answer
+  LeavesGiven (IsTold kind its asked) answer = AnswersAsReplied hash m c blocks its asked kind answer
 
   -- It keeps its pair, or what it was told, until then, and which pairs of its keys it has asked about. It is of its kind, and was told nothing else.
   abbrev pub KeepsGiven : (K → Bool) → {Q : Type 0} → Given K V → Change → KeyCall K V Q → Calling → Type 0
   KeepsGiven keys (Begun kind pair) change p stands = (p.replies.takes ≡ takes.Nothing) × KeepsIt m c blocks pair change p stands × IsOfKind kind p stands
   KeepsGiven keys (IsTold kind its asked) change p stands =
-      KeepsTold hash m c blocks its asked change p stands × AsksOnce hash c blocks keys asked its p.replies stands
-      × IsOfKind kind p stands × ToldWithin asked kind
+      RemembersReplies hash m c blocks its asked change p stands × AsksOnce hash c blocks keys asked its p.replies stands
+      × IsOfKind kind p stands × RepliesWithin asked kind

@@ -28,20 +28,20 @@ use Rattle.map_facts_late.specs.Given.RawDeclared.machines.call.KeyCall.{KeyCall
 use Rattle.map_facts_late.specs.Given.RuleChart.{Still, Holds, Chart}
 use Rattle.map_facts_late.specs.Given.RuleWords.{Blocks, place_word}
 use Rattle.map_facts_late.specs.Given.RuleMaps.{IsClass}
-use Rattle.map_facts_late.specs.Given.RuleInWorld.{IsHeldBy, IsMapIn, Went}
+use Rattle.map_facts_late.specs.Given.RuleInWorld.{IsHeldBy, IsMapIn, StepSpec}
 use Rattle.map_facts_late.specs.Given.RuleMoments.{Moments, Remembers}
 use Rattle.map_facts_late.specs.Given.PointsFactsIdle.{IsIdle}
-use Rattle.map_facts_late.specs.Given.PointsFactsCalls.{Change, Unchanged, Tells, CallFacts}
+use Rattle.map_facts_late.specs.Given.PointsFactsCalls.{Change, Unchanged, AnswersChange, CallFacts}
 use Rattle.many_calls.specs.Claims.{AreFew, IsToClaim, ClaimsFit}
-use Rattle.many_calls.specs.Kept.{IsMaking, IsWithin, AllKeptBy, AllOwned, BehindIsOwned}
-use Rattle.many_calls.specs.Asked.{told_before}
+use Rattle.many_calls.specs.Kept.{IsMaking, IsWithin, AllKeptBy, AllOwned, DeferredIsOwned}
+use Rattle.many_calls.specs.Asked.{replies_before}
 use Rattle.map_facts_late.specs.Kinds.{FaultFits}
 use Rattle.map_facts_late.specs.Kinds as kinds
 use Rattle.many_calls.specs.Kind.{gets, removes, inserts, tries_to_insert, computes, updates, updates_or_inserts, tries_to_insert_with, removes_if}
-use Rattle.many_calls.specs.Pairs.{Given, Begun, IsTold, kind_of, and_told, AsksFirst, HandsBack, RemovesNone, StoresGiven, LeavesGiven, KeepsGiven}
+use Rattle.many_calls.specs.Pairs.{Given, Begun, IsTold, kind_of, with_reply, AsksFirst, HandsBack, RemovesNone, StoresGiven, LeavesGiven, KeepsGiven}
 use Rattle.many_calls.specs.Rows.{row_of, once_over, LeavesSlots}
 use Rattle.many_calls.specs.Rooms.{CallForRoom, row_of_room, room_once_over, RoomClaims}
-use Rattle.many_calls.specs.OverAll.{CallOverAll, row_of_sweep, sweep_once_over, SweepClaims, TriesTold}
+use Rattle.many_calls.specs.OverAll.{CallOverAll, row_of_sweep, sweep_once_over, SweepClaims, TriesAsReplied}
 use Rattle.map_facts_late.specs.Given.ReservesDeclared.sweep.Sweep.{Sweep}
 use Rattle.map_facts_late.specs.Given.ReservesDeclared.sweep.Swept.{Swept}
 use Rattle.map_facts_late.specs.Given.ReservesDeclared.sweep.Swept.TheVariants as swept
@@ -60,15 +60,15 @@ use Rattle.map_facts_late.specs.Given.ResizeDeclared.yielding.Yielding.TheVarian
 use Rattle.map_facts_late.specs.Given.ReservesReserve.{reserving, reserve_plan}
 use Rattle.map_facts_late.specs.Given.ReservesDeclared.reserve.Reserve.{Reserve}
 use Rattle.map_facts_late.specs.FactsReserves.{ReserveFacts}
-use Rattle.map_facts_late.specs.LateReserves.{LateReserveFacts}
-use Rattle.map_facts_late.specs.LateToldReserves.{LateReserveTold}
-use Rattle.map_facts_late.specs.ToldReserves.{ReserveTold, IsRowOfReserve}
-use Rattle.many_calls.specs.Sights.{SeesSources, Sight, seen_by, IsPartOf, IsGrown, IsSight}
+use Rattle.map_facts_late.specs.LateReserves.{SupersededReserveFacts}
+use Rattle.map_facts_late.specs.LateToldReserves.{SupersededReserveOutcome}
+use Rattle.map_facts_late.specs.ToldReserves.{ReserveOutcome, IsRowOfReserve}
+use Rattle.many_calls.specs.Sights.{SourcesAreVisible, Visible, seen_by, IsPartOf, IsGrown, IsVisibility}
 use Rattle.many_calls.specs.Since.{WasChanged, SoSince, Since}
-use Rattle.map_facts_late.specs.Given.PointsTold.{IsRowOfCall, CallTold}
-use Rattle.map_facts_late.specs.Given.PointsSteps.{AreLawful, told_first}
-use Rattle.map_facts_late.specs.LateCalls.{LateCallFacts}
-use Rattle.map_facts_late.specs.LateTold.{LateTold}
+use Rattle.map_facts_late.specs.Given.PointsTold.{IsRowOfCall, CallOutcome}
+use Rattle.map_facts_late.specs.Given.PointsSteps.{AreLawful, first_reply}
+use Rattle.map_facts_late.specs.LateCalls.{SupersededCallFacts}
+use Rattle.map_facts_late.specs.LateTold.{SupersededCallOutcome}
 
 -- a call on one key that is under way: the keys that it is asked for, what it stores, the moment of the map at which it began, and what it has changed
 pub record CallOnKey (K V Q : Type 0) : Type 0 where
@@ -121,9 +121,9 @@ ClaimsInto t (Counting sum) = ⊥
 ClaimsInto t (OverAll o) = SweepClaims t o.sweep.stands
 
 -- what was told about this is kept, if it is taken
-abbrev pub told_about : {K V Q : Type 0} → CallOnKey K V Q → Option ℕ → MachineReply V → CallOnKey K V Q
-told_about u about told =
-    record { keys = u.keys; pair = and_told u.pair about told (replied u.call told).1; began = u.began; change = u.change; call = (replied u.call told).0 }
+abbrev pub replied_about : {K V Q : Type 0} → CallOnKey K V Q → Option ℕ → MachineReply V → CallOnKey K V Q
+replied_about u about told =
+    record { keys = u.keys; pair = with_reply u.pair about told (replied u.call told).1; began = u.began; change = u.change; call = (replied u.call told).0 }
 
 -- of the calls of many callers
 module _ {K V Q : Type 0} (calls : ℕ → Option (UnderWay K V Q)) where
@@ -174,7 +174,7 @@ IsReclaimed w w2 value = (b : ℕ) × (value_at w.memory b ≡ Some value) × ((
 abbrev pub no_blocks : Blocks
 no_blocks = record { table = λ t. 0; pair = λ n. 0; table_known = λ t. false; pair_known = λ n. false }
 
-abbrev pub no_sight : Sight
+abbrev pub no_sight : Visible
 no_sight = record { tables = λ t. false; pairs = λ n. false }
 
 -- a row that works on slots alone: it neither retires nor defers a block
@@ -195,14 +195,14 @@ module _ {K Q : Type 0} (V : Type 0) (same : K → K → Bool) (hash : K → ℕ
   -- it was begun with, if with any, is what it stores, or has stored, or it goes by what it was told. If it was told to remove what is not there, the map
   -- had none of its keys at a moment since it began.
   pub record Knows (w : World (Node K V)) (c : Chart K) (seen : Blocks) (i : ℕ) (u : CallOnKey K V Q) (p : KeyCall K V Q) : Type 0 where
-    pub facts : CallFacts same hash asks w i (in_slot setting (slot i)) c seen u.keys u.change p ⊎ ((u.change ≡ Unchanged) × LateCallFacts same hash asks w i (in_slot setting (slot i)) c seen u.keys u.began p)
+    pub facts : CallFacts same hash asks w i (in_slot setting (slot i)) c seen u.keys u.change p ⊎ ((u.change ≡ Unchanged) × SupersededCallFacts same hash asks w i (in_slot setting (slot i)) c seen u.keys u.began p)
     pub since : Since hash c seen u.keys u.began u.change p.stands
     pub pair : KeepsGiven hash w.memory c seen u.keys u.pair u.change p p.stands
     pub none : RemovesNone u.pair → SoSince hash c seen u.keys u.began answers.Absent
 
   -- It knows of its reservation what the point says, in the root's table or in one that the root has left since it began.
   pub record KnowsRoom (w : World (Node K V)) (c : Chart K) (seen : Blocks) (i began : ℕ) (p : Reserve) : Type 0 where
-    pub facts : ReserveFacts same hash w i (in_slot setting (slot i)) c seen p ⊎ LateReserveFacts same hash w i (in_slot setting (slot i)) c seen began p
+    pub facts : ReserveFacts same hash w i (in_slot setting (slot i)) c seen p ⊎ SupersededReserveFacts same hash w i (in_slot setting (slot i)) c seen began p
     pub began_before : began ≤ c.now
 
   -- It knows of its sweep what the point says, and what the sweep has come to; and what a retaining is about to remove it was told not to keep.
@@ -211,46 +211,46 @@ module _ {K Q : Type 0} (V : Type 0) (same : K → K → Bool) (hash : K → ℕ
     pub began_before : o.began ≤ c.now
     pub from : o.began ≤ o.entered
     pub covers : CoversAt hash c seen p o.entered o.done p.stands
-    pub tries : TriesTold hash c seen o.told p.purpose p.stands
+    pub tries : TriesAsReplied hash c seen o.told p.purpose p.stands
 
   -- The caller has no row under way: it stands at none, or has yet to begin it. Or it is within that row, and knows what its point says once
   -- the row is over.
-  abbrev pub Stands : World (Node K V) → Chart K → Blocks → ℕ → UnderWay K V Q → Type 0
-  Stands w c seen i (OnKey u) =
+  abbrev pub IsAtPoint : World (Node K V) → Chart K → Blocks → ℕ → UnderWay K V Q → Type 0
+  IsAtPoint w c seen i (OnKey u) =
       ((w.row i ≡ Rests) × Knows w c seen i u u.call)
       ⊎ ((w.row i ≡ row_of (slot i) u.call.stands) × IsRowOfCall u.call.stands × Knows w c seen i u (once_over u.call))
-  Stands w c seen i (ForRoom r) =
+  IsAtPoint w c seen i (ForRoom r) =
       ((w.row i ≡ Rests) × KnowsRoom w c seen i r.began r.reserve)
       ⊎ ((w.row i ≡ row_of_room r.reserve.stands) × IsRowOfReserve r.reserve.stands × KnowsRoom w c seen i r.began (room_once_over r.reserve))
-  Stands w c seen i (Counting sum) = (w.row i ≡ Rests) × SumFacts (in_slot setting (slot i)) sum × IsIdle same hash w i (in_slot setting (slot i)) c seen
-  Stands w c seen i (OverAll o) =
+  IsAtPoint w c seen i (Counting sum) = (w.row i ≡ Rests) × SumFacts (in_slot setting (slot i)) sum × IsIdle same hash w i (in_slot setting (slot i)) c seen
+  IsAtPoint w c seen i (OverAll o) =
       ((w.row i ≡ Rests) × KnowsSweep w c seen i o o.sweep)
       ⊎ ((w.row i ≡ row_of_sweep (slot i) o.sweep.stands) × IsRowOfSweep o.sweep.stands × KnowsSweep w c seen i o (sweep_once_over o.sweep))
 
   -- The world came about from the start, the map stands by its rule, what may be looked at is the map's own and there, whoever takes the next step,
   -- and what a section sees it holds. What is deferred behind a linked table is a pair of the map's own.
-  pub record Ground (w : World (Node K V)) (c : Chart K) (blocks : Blocks) (sights : ℕ → Sight) : Type 0 where
+  pub record Ground (w : World (Node K V)) (c : Chart K) (blocks : Blocks) (sights : ℕ → Visible) : Type 0 where
     pub came : CameAbout setting.batch_size w
     pub map : IsMapIn same hash setting w c blocks
     pub moments : Moments (is_incremental setting.mode) c
     pub kept : AllKeptBy w c blocks
     pub owned : AllOwned w c blocks setting.counter
-    pub behind : BehindIsOwned w c blocks setting.counter
-    pub sources : SeesSources c blocks.table_known
+    pub behind : DeferredIsOwned w c blocks setting.counter
+    pub sources : SourcesAreVisible c blocks.table_known
     pub counter : IsMaking (w.hand setting.counter)
-    pub sight : (s : ℕ) → IsInside (w.uses s) → IsSight c blocks (sights s) × IsWithin w s c (seen_by blocks (sights s)) setting
+    pub sight : (s : ℕ) → IsInside (w.uses s) → IsVisibility c blocks (sights s) × IsWithin w s c (seen_by blocks (sights s)) setting
 
   -- Callers have calls on one map, by caller, each but a counting within a critical section of its slot, and each section has a sight. Each call knows
   -- what its program point knows, and a caller that has none has no part in a copying, and puts nothing behind a linked table.
-  pub record Together (w : World (Node K V)) (c : Chart K) (blocks : Blocks) (sights : ℕ → Sight) (calls : ℕ → Option (UnderWay K V Q)) : Type 0 where
+  pub record Together (w : World (Node K V)) (c : Chart K) (blocks : Blocks) (sights : ℕ → Visible) (calls : ℕ → Option (UnderWay K V Q)) : Type 0 where
     pub ground : Ground w c blocks sights
     pub inside : (i : ℕ) (u : UnderWay K V Q) → calls i ≡ Some u → UnlessCounts u (IsInside (w.uses (slot i)))
-    pub stand : (i : ℕ) (u : UnderWay K V Q) → calls i ≡ Some u → Stands w c (seen_by blocks (sights (slot i))) i u
+    pub stand : (i : ℕ) (u : UnderWay K V Q) → calls i ≡ Some u → IsAtPoint w c (seen_by blocks (sights (slot i))) i u
     pub idle : (i : ℕ) → calls i ≡ None → IsIdle same hash w i (in_slot setting (slot i)) c blocks
     pub onto : PutsWithin calls w c blocks
     pub few : is_incremental setting.mode ≡ false → StayFew calls c
 
-  -- A map that has no table yet: its root leads nowhere, and its counter is there. All stand together with no call.
+  -- A map that has no table yet: its root leads nowhere, and its counter is there. The invariant of all holds with no call.
   abbrev pub MapBeginsTogether : Type 0
   MapBeginsTogether =
       (w : World (Node K V)) (calls : ℕ → Option (UnderWay K V Q)) → ((i : ℕ) → calls i ≡ None)
@@ -271,8 +271,8 @@ module _ {K Q : Type 0} (V : Type 0) (same : K → K → Bool) (hash : K → ℕ
     Computes : (key : K) → IsBegun i (same key) (IsTold computes (Some key) []) (computing (in_slot setting (slot i)) (hash key) key)
     Updates : (key : K) → IsBegun i (same key) (IsTold updates (Some key) []) (updating (in_slot setting (slot i)) (hash key) key)
     UpdatesOrInserts : (key : K) (absent : Option V)
-        → IsBegun i (same key) (IsTold updates_or_inserts (Some key) (told_before absent))
-        (updating_or_inserting (in_slot setting (slot i)) (hash key) key (told_first absent))
+        → IsBegun i (same key) (IsTold updates_or_inserts (Some key) (replies_before absent))
+        (updating_or_inserting (in_slot setting (slot i)) (hash key) key (first_reply absent))
     TriesToInsertWith : (key : K)
         → IsBegun i (same key) (IsTold tries_to_insert_with (Some key) []) (trying_to_insert_with (in_slot setting (slot i)) (hash key) key)
     RemovesIf : (q : Q) (code : ℕ) → code < 2 ^ 64 → IsClass same hash (asks q) code
@@ -285,7 +285,7 @@ module _ {K Q : Type 0} (V : Type 0) (same : K → K → Bool) (hash : K → ℕ
   -- A caller that has no call, and no row under way, begins one within its section. In blocking mode, few are under way with it.
   abbrev pub BeginsTogether : Type 0
   BeginsTogether =
-      (w : World (Node K V)) (c : Chart K) (blocks : Blocks) (sights : ℕ → Sight) (calls : ℕ → Option (UnderWay K V Q)) (i : ℕ) → AreLawful same hash → Together w c blocks sights calls → calls i ≡ None
+      (w : World (Node K V)) (c : Chart K) (blocks : Blocks) (sights : ℕ → Visible) (calls : ℕ → Option (UnderWay K V Q)) (i : ℕ) → AreLawful same hash → Together w c blocks sights calls → calls i ≡ None
       → w.row i ≡ Rests → IsInside (w.uses (slot i)) → (is_incremental setting.mode ≡ false → AreFew (λ j. (j ≡ i) ⊎ HasCall calls j))
       → (keys : K → Bool) (pair : Given K V) (call : KeyCall K V Q) → IsBegun i keys pair call → Together w c blocks sights (with_at calls i (Some (OnKey (begun_at c keys pair call))))
 
@@ -296,7 +296,7 @@ module _ {K Q : Type 0} (V : Type 0) (same : K → K → Bool) (hash : K → ℕ
   AnswersOnce w c seen i u change answer =
       kinds.Fits (kind_of u.pair).present (kind_of u.pair).absent (kind_of u.pair).takes answer
       × (((change ≡ Unchanged) × SoSince hash c seen u.keys u.began answer × LeavesGiven hash w.memory c seen u.pair answer)
-      ⊎ (((m : ℕ) × (u.began ≤ m) × (m < c.now) × WasChanged hash c seen u.keys m change) × Tells same hash asks w i (in_slot setting (slot i)) c seen u.keys change change answer
+      ⊎ (((m : ℕ) × (u.began ≤ m) × (m < c.now) × WasChanged hash c seen u.keys m change) × AnswersChange same hash asks w i (in_slot setting (slot i)) c seen u.keys change change answer
       × StoresGiven hash w.memory c seen u.pair change))
 
   -- A refusal is one of the call's kind, and the call has changed nothing. Where it is one to remove what is not there, it was told last to do so, and the
@@ -307,46 +307,46 @@ module _ {K Q : Type 0} (V : Type 0) (same : K → K → Bool) (hash : K → ℕ
       × (fault ≡ RemoveNothing → RemovesNone u.pair × SoSince hash c seen u.keys u.began answers.Absent)
 
   -- What a step of a call tells, in its table, or in one that the root has left, where the call has changed nothing.
-  pub data StepTold (c : Chart K) (i : ℕ) (u : CallOnKey K V Q) (p2 : KeyCall K V Q) (progress : Called (Node K V)) (w2 : World (Node K V)) (c2 : Chart K) (blocks2 : Blocks) : Type 0 where
-    Fresh : CallTold same hash asks i (in_slot setting (slot i)) u.keys c u.change u.call w2 c2 blocks2 p2 progress → StepTold c i u p2 progress w2 c2 blocks2
-    Late : is_incremental setting.mode ≡ false → u.change ≡ Unchanged → LateTold same hash asks i (in_slot setting (slot i)) u.keys u.began c u.call w2 c2 blocks2 p2 progress → StepTold c i u p2 progress w2 c2 blocks2
+  pub data StepOutcome (c : Chart K) (i : ℕ) (u : CallOnKey K V Q) (p2 : KeyCall K V Q) (progress : Called (Node K V)) (w2 : World (Node K V)) (c2 : Chart K) (blocks2 : Blocks) : Type 0 where
+    Fresh : CallOutcome same hash asks i (in_slot setting (slot i)) u.keys c u.change u.call w2 c2 blocks2 p2 progress → StepOutcome c i u p2 progress w2 c2 blocks2
+    Late : is_incremental setting.mode ≡ false → u.change ≡ Unchanged → SupersededCallOutcome same hash asks i (in_slot setting (slot i)) u.keys u.began c u.call w2 c2 blocks2 p2 progress → StepOutcome c i u p2 progress w2 c2 blocks2
 
   -- what the call has changed then
-  abbrev pub change_told : {c : Chart K} {i : ℕ} {u : CallOnKey K V Q} {p2 : KeyCall K V Q} {progress : Called (Node K V)} {w2 : World (Node K V)} {c2 : Chart K} {blocks2 : Blocks}
-      → StepTold c i u p2 progress w2 c2 blocks2 → Change
-  change_told (Fresh told) = told.change2
-  change_told (Late blocking none told) = Unchanged
+  abbrev pub change_observed : {c : Chart K} {i : ℕ} {u : CallOnKey K V Q} {p2 : KeyCall K V Q} {progress : Called (Node K V)} {w2 : World (Node K V)} {c2 : Chart K} {blocks2 : Blocks}
+      → StepOutcome c i u p2 progress w2 c2 blocks2 → Change
+  change_observed (Fresh told) = told.change2
+  change_observed (Late blocking none told) = Unchanged
 
-  -- Where a step of a call leads that is none of a row, from within its section: one move at most was made, by this caller, it tells what it did, and all
-  -- calls stand together.
-  pub record StepsTogether (w : World (Node K V)) (c : Chart K) (blocks : Blocks) (sights : ℕ → Sight) (calls : ℕ → Option (UnderWay K V Q)) (i : ℕ) (u : CallOnKey K V Q)
+  -- Where a step of a call leads that is none of a row, from within its section: one move at most was made, by this caller, it tells what it did, and the
+  -- invariant of all calls holds.
+  pub record StepsTogether (w : World (Node K V)) (c : Chart K) (blocks : Blocks) (sights : ℕ → Visible) (calls : ℕ → Option (UnderWay K V Q)) (i : ℕ) (u : CallOnKey K V Q)
       (m2 : Mem (Node K V)) (p2 : KeyCall K V Q) (progress : Called (Node K V)) : Type 0 where
     pub inside : IsInside (w.uses (slot i))
-    pub went : Went same hash (in_slot setting (slot i)) i w c (seen_by blocks (sights (slot i))) m2 (StepTold c i u p2 progress)
+    pub went : StepSpec same hash (in_slot setting (slot i)) i w c (seen_by blocks (sights (slot i))) m2 (StepOutcome c i u p2 progress)
     pub remembers : Remembers (is_incremental setting.mode) c went.c2
     pub blocks2 : Blocks
     pub grown : IsGrown c blocks went.blocks2 blocks2
-    pub sights2 : ℕ → Sight
-    pub together : Together went.w2 went.c2 blocks2 sights2 (with_at calls i (next_of (record { keys = u.keys; pair = u.pair; began = u.began; change = change_told went.told; call = p2 }) progress))
-    pub answers : (answer : KeyAnswer) → progress ≡ called.Done answer → AnswersOnce went.w2 went.c2 went.blocks2 i u (change_told went.told) answer
-    pub refuses : (fault : Fault) → progress ≡ called.Refused fault → RefusesOnce went.c2 went.blocks2 u (change_told went.told) fault
+    pub sights2 : ℕ → Visible
+    pub together : Together went.w2 went.c2 blocks2 sights2 (with_at calls i (next_of (record { keys = u.keys; pair = u.pair; began = u.began; change = change_observed went.told; call = p2 }) progress))
+    pub answers : (answer : KeyAnswer) → progress ≡ called.Done answer → AnswersOnce went.w2 went.c2 went.blocks2 i u (change_observed went.told) answer
+    pub refuses : (fault : Fault) → progress ≡ called.Refused fault → RefusesOnce went.c2 went.blocks2 u (change_observed went.told) fault
     pub hands : (value : Node K V) → progress ≡ called.Unstored value → HandsBack u.pair value
 
-  -- The promise: whichever caller takes a step of its call that is none of a row of the collector, it may take it, and they
-  -- stand together again. A call that answers has changed the map once at most, or tells what was so, at a moment since it began, and each by what it
-  -- was told; one that is refused has changed nothing. What it hands back is the pair that it was begun with.
-  abbrev pub CallsStandTogether : Type 0
-  CallsStandTogether =
+  -- The promise: whichever caller takes a step of its call that is none of a row of the collector, it may take it, and the invariant holds again. A call that
+  -- answers has changed the map once at most, or tells what was so, at a moment since it began, and each by what it was told; one that is refused has changed
+  -- nothing. What it hands back is the pair that it was begun with.
+  abbrev pub CallsPreserveTheInvariant : Type 0
+  CallsPreserveTheInvariant =
       AreLawful same hash → IsPowerOfTwo setting.initial
-      → (w : World (Node K V)) (c : Chart K) (blocks : Blocks) (sights : ℕ → Sight) (calls : ℕ → Option (UnderWay K V Q)) → Together w c blocks sights calls
+      → (w : World (Node K V)) (c : Chart K) (blocks : Blocks) (sights : ℕ → Visible) (calls : ℕ → Option (UnderWay K V Q)) → Together w c blocks sights calls
       → (i : ℕ) (u : CallOnKey K V Q) → calls i ≡ Some (OnKey u) → (IsRowOfCall u.call.stands → ⊥)
       → May Can Took value_at w.memory (call_plan asks same hash u.call)
       × ((m2 : Mem (Node K V)) (p2 : KeyCall K V Q) (progress : Called (Node K V)) → Steps Took value_at w.memory (call_plan asks same hash u.call) m2 (p2, progress)
       → StepsTogether w c blocks sights calls i u m2 p2 progress)
 
-  -- Where a step of a row leads: the row has begun with it, or went on. The map and what is looked at of it are as they were, and all calls
-  -- stand together. What is given back was in a block that the row has taken away.
-  pub record RowStepsTogether (w : World (Node K V)) (c : Chart K) (blocks : Blocks) (sights : ℕ → Sight) (calls : ℕ → Option (UnderWay K V Q)) (i : ℕ) (u : CallOnKey K V Q)
+  -- Where a step of a row leads: the row has begun with it, or went on. The map and what is looked at of it are as they were, and the invariant of all calls
+  -- holds. What is given back was in a block that the row has taken away.
+  pub record RowStepsTogether (w : World (Node K V)) (c : Chart K) (blocks : Blocks) (sights : ℕ → Visible) (calls : ℕ → Option (UnderWay K V Q)) (i : ℕ) (u : CallOnKey K V Q)
       (m2 : Mem (Node K V)) (p2 : KeyCall K V Q) (progress : Called (Node K V)) : Type 0 where
     pub w2 : World (Node K V)
     pub memory : w2.memory ≡ m2
@@ -361,18 +361,18 @@ module _ {K Q : Type 0} (V : Type 0) (same : K → K → Bool) (hash : K → ℕ
     pub slots : LeavesSlots (slot i) i w w2
 
   -- The promise of the steps of rows within calls.
-  abbrev pub RowsStandTogether : Type 0
-  RowsStandTogether =
+  abbrev pub RowsPreserveTheInvariant : Type 0
+  RowsPreserveTheInvariant =
       AreLawful same hash
-      → (w : World (Node K V)) (c : Chart K) (blocks : Blocks) (sights : ℕ → Sight) (calls : ℕ → Option (UnderWay K V Q)) → Together w c blocks sights calls
+      → (w : World (Node K V)) (c : Chart K) (blocks : Blocks) (sights : ℕ → Visible) (calls : ℕ → Option (UnderWay K V Q)) → Together w c blocks sights calls
       → (i : ℕ) (u : CallOnKey K V Q) → calls i ≡ Some (OnKey u) → IsRowOfCall u.call.stands
       → May Can Took value_at w.memory (call_plan asks same hash u.call)
       × ((m2 : Mem (Node K V)) (p2 : KeyCall K V Q) (progress : Called (Node K V)) → Steps Took value_at w.memory (call_plan asks same hash u.call) m2 (p2, progress)
       → RowStepsTogether w c blocks sights calls i u m2 p2 progress)
 
-  -- all stand together, with what may be looked at then of what could be before, and by whom
+  -- the invariant of all holds, with what may be looked at then of what could be before, and by whom
   abbrev pub AllStand : World (Node K V) → Chart K → Blocks → (ℕ → Option (UnderWay K V Q)) → Type 0
-  AllStand w c before calls = (blocks : Blocks) × (sights : ℕ → Sight) × Together w c blocks sights calls × IsPartOf c blocks before
+  AllStand w c before calls = (blocks : Blocks) × (sights : ℕ → Visible) × Together w c blocks sights calls × IsPartOf c blocks before
 
   -- what a caller that has no call may do: it registers, enters, leaves, refreshes, flushes or gives up its slot, and ends no section in which a call
   -- is under way that needs it
@@ -384,10 +384,10 @@ module _ {K Q : Type 0} (V : Type 0) (same : K → K → Bool) (hash : K → ℕ
       × ((w2 : World (Node K V)) → Happens deferred_word setting.batch_size (Step i) w w2 → AllStand w2 c blocks calls)
 
   -- The promise of rows between calls.
-  abbrev pub GuardsStandTogether : Type 0
-  GuardsStandTogether =
+  abbrev pub GuardsPreserveTheInvariant : Type 0
+  GuardsPreserveTheInvariant =
       AreLawful same hash
-      → (w : World (Node K V)) (c : Chart K) (blocks : Blocks) (sights : ℕ → Sight) (calls : ℕ → Option (UnderWay K V Q)) → Together w c blocks sights calls
+      → (w : World (Node K V)) (c : Chart K) (blocks : Blocks) (sights : ℕ → Visible) (calls : ℕ → Option (UnderWay K V Q)) → Together w c blocks sights calls
       → (i : ℕ) → calls i ≡ None → GuardsOf w c blocks calls i
 
   -- what a call asks about: the pair of a word, or none
@@ -403,54 +403,54 @@ module _ {K Q : Type 0} (V : Type 0) (same : K → K → Bool) (hash : K → ℕ
       ((about : Option ℕ) × AsksAbout c seen asks_at about)
       × ((gap : Gap) → asks_at ≡ asking.Absent gap → AsksFirst u.pair None)
       × ((word n : ℕ) → asks_at ≡ asking.Present word → AsksAbout c seen asks_at (Some n) → AsksFirst u.pair (Some n))
-      × ((about : Option ℕ) → AsksAbout c seen asks_at about → (reply : MachineReply V) → GoesOn (told_about u about reply))
+      × ((about : Option ℕ) → AsksAbout c seen asks_at about → (reply : MachineReply V) → GoesOn (replied_about u about reply))
 
-  -- A call that asks is told what to do, or is told something that it does not take. All calls stand together then, and it has changed nothing by
-  -- that; at all other points it takes nothing.
-  abbrev pub RepliesStandTogether : Type 0
-  RepliesStandTogether =
+  -- A call that asks is told what to do, or is told something that it does not take. The invariant of all calls holds then, and it has changed nothing by that;
+  -- at all other points it takes nothing.
+  abbrev pub RepliesPreserveTheInvariant : Type 0
+  RepliesPreserveTheInvariant =
       AreLawful same hash → IsPowerOfTwo setting.initial
-      → (w : World (Node K V)) (c : Chart K) (blocks : Blocks) (sights : ℕ → Sight) (calls : ℕ → Option (UnderWay K V Q)) → Together w c blocks sights calls
+      → (w : World (Node K V)) (c : Chart K) (blocks : Blocks) (sights : ℕ → Visible) (calls : ℕ → Option (UnderWay K V Q)) → Together w c blocks sights calls
       → (i : ℕ) (u : CallOnKey K V Q) → calls i ≡ Some (OnKey u) → (asks_at : Asking) → u.call.stands ≡ at.Asks asks_at
       → RepliesTaken c (seen_by blocks (sights (slot i))) u asks_at (λ told. Together w c blocks sights (with_at calls i (Some (OnKey told))))
 
   -- A caller that has no call, and no row under way, begins a reservation within its section. In blocking mode, few calls are under way with it.
   abbrev pub RoomsBeginTogether : Type 0
   RoomsBeginTogether =
-      (w : World (Node K V)) (c : Chart K) (blocks : Blocks) (sights : ℕ → Sight) (calls : ℕ → Option (UnderWay K V Q)) (i : ℕ) → Together w c blocks sights calls → calls i ≡ None
+      (w : World (Node K V)) (c : Chart K) (blocks : Blocks) (sights : ℕ → Visible) (calls : ℕ → Option (UnderWay K V Q)) (i : ℕ) → Together w c blocks sights calls → calls i ≡ None
       → w.row i ≡ Rests → IsInside (w.uses (slot i)) → (is_incremental setting.mode ≡ false → AreFew (λ j. (j ≡ i) ⊎ HasCall calls j))
       → (additional : ℕ) → Together w c blocks sights (with_at calls i (Some (ForRoom (record { began = c.now; reserve = reserving (in_slot setting (slot i)) additional }))))
 
   -- what a step of a reservation tells, in its table, or in one that the root has left
-  pub data RoomTold (c : Chart K) (i : ℕ) (r : CallForRoom) (p2 : Reserve) (end : Yielding (Node K V) Unit) (w2 : World (Node K V)) (c2 : Chart K) (blocks2 : Blocks) : Type 0 where
-    FreshRoom : ReserveTold same hash i (in_slot setting (slot i)) c r.reserve w2 c2 blocks2 p2 end → RoomTold c i r p2 end w2 c2 blocks2
-    LateRoom : is_incremental setting.mode ≡ false → LateReserveTold same hash i (in_slot setting (slot i)) r.began c r.reserve w2 c2 blocks2 p2 end → RoomTold c i r p2 end w2 c2 blocks2
+  pub data RoomOutcome (c : Chart K) (i : ℕ) (r : CallForRoom) (p2 : Reserve) (end : Yielding (Node K V) Unit) (w2 : World (Node K V)) (c2 : Chart K) (blocks2 : Blocks) : Type 0 where
+    FreshRoom : ReserveOutcome same hash i (in_slot setting (slot i)) c r.reserve w2 c2 blocks2 p2 end → RoomOutcome c i r p2 end w2 c2 blocks2
+    LateRoom : is_incremental setting.mode ≡ false → SupersededReserveOutcome same hash i (in_slot setting (slot i)) r.began c r.reserve w2 c2 blocks2 p2 end → RoomOutcome c i r p2 end w2 c2 blocks2
 
-  -- Where a step of a reservation leads that is none of a row: one move at most was made, by this caller, no pair of the map has changed, and all calls
-  -- stand together.
-  pub record RoomStepsTogether (w : World (Node K V)) (c : Chart K) (blocks : Blocks) (sights : ℕ → Sight) (calls : ℕ → Option (UnderWay K V Q)) (i : ℕ) (r : CallForRoom)
+  -- Where a step of a reservation leads that is none of a row: one move at most was made, by this caller, no pair of the map has changed, and the invariant of
+  -- all calls holds.
+  pub record RoomStepsTogether (w : World (Node K V)) (c : Chart K) (blocks : Blocks) (sights : ℕ → Visible) (calls : ℕ → Option (UnderWay K V Q)) (i : ℕ) (r : CallForRoom)
       (m2 : Mem (Node K V)) (p2 : Reserve) (end : Yielding (Node K V) Unit) : Type 0 where
     pub inside : IsInside (w.uses (slot i))
-    pub went : Went same hash (in_slot setting (slot i)) i w c (seen_by blocks (sights (slot i))) m2 (RoomTold c i r p2 end)
+    pub went : StepSpec same hash (in_slot setting (slot i)) i w c (seen_by blocks (sights (slot i))) m2 (RoomOutcome c i r p2 end)
     pub remembers : Remembers (is_incremental setting.mode) c went.c2
     pub same_pairs : went.c2.current ≡ c.current
     pub blocks2 : Blocks
     pub grown : IsGrown c blocks went.blocks2 blocks2
-    pub sights2 : ℕ → Sight
+    pub sights2 : ℕ → Visible
     pub together : Together went.w2 went.c2 blocks2 sights2 (with_at calls i (next_for_room (record { began = r.began; reserve = p2 }) end))
 
-  -- The promise: whichever caller takes a step of its reservation that is none of a row of the collector, it may take it, and all stand together again.
-  abbrev pub RoomsStandTogether : Type 0
-  RoomsStandTogether =
+  -- The promise: whichever caller takes a step of its reservation that is none of a row of the collector, it may take it, and the invariant of all holds again.
+  abbrev pub RoomsPreserveTheInvariant : Type 0
+  RoomsPreserveTheInvariant =
       AreLawful same hash → IsPowerOfTwo setting.initial
-      → (w : World (Node K V)) (c : Chart K) (blocks : Blocks) (sights : ℕ → Sight) (calls : ℕ → Option (UnderWay K V Q)) → Together w c blocks sights calls
+      → (w : World (Node K V)) (c : Chart K) (blocks : Blocks) (sights : ℕ → Visible) (calls : ℕ → Option (UnderWay K V Q)) → Together w c blocks sights calls
       → (i : ℕ) (r : CallForRoom) → calls i ≡ Some (ForRoom r) → (IsRowOfReserve r.reserve.stands → ⊥)
       → May Can Took value_at w.memory (reserve_plan hash r.reserve)
       × ((m2 : Mem (Node K V)) (p2 : Reserve) (end : Yielding (Node K V) Unit) → Steps Took value_at w.memory (reserve_plan hash r.reserve) m2 (p2, end)
       → RoomStepsTogether w c blocks sights calls i r m2 p2 end)
 
   -- Where a step of a row within a reservation leads: as within a call on one key.
-  pub record RoomRowsTogether (w : World (Node K V)) (c : Chart K) (blocks : Blocks) (sights : ℕ → Sight) (calls : ℕ → Option (UnderWay K V Q)) (i : ℕ) (r : CallForRoom)
+  pub record RoomRowsTogether (w : World (Node K V)) (c : Chart K) (blocks : Blocks) (sights : ℕ → Visible) (calls : ℕ → Option (UnderWay K V Q)) (i : ℕ) (r : CallForRoom)
       (m2 : Mem (Node K V)) (p2 : Reserve) (end : Yielding (Node K V) Unit) : Type 0 where
     pub w2 : World (Node K V)
     pub memory : w2.memory ≡ m2
@@ -461,10 +461,10 @@ module _ {K Q : Type 0} (V : Type 0) (same : K → K → Bool) (hash : K → ℕ
     pub slots : LeavesSlots (slot i) i w w2
 
   -- The promise of the steps of rows within reservations.
-  abbrev pub RoomRowsStandTogether : Type 0
-  RoomRowsStandTogether =
+  abbrev pub RoomRowsPreserveTheInvariant : Type 0
+  RoomRowsPreserveTheInvariant =
       AreLawful same hash
-      → (w : World (Node K V)) (c : Chart K) (blocks : Blocks) (sights : ℕ → Sight) (calls : ℕ → Option (UnderWay K V Q)) → Together w c blocks sights calls
+      → (w : World (Node K V)) (c : Chart K) (blocks : Blocks) (sights : ℕ → Visible) (calls : ℕ → Option (UnderWay K V Q)) → Together w c blocks sights calls
       → (i : ℕ) (r : CallForRoom) → calls i ≡ Some (ForRoom r) → IsRowOfReserve r.reserve.stands
       → May Can Took value_at w.memory (reserve_plan hash r.reserve)
       × ((m2 : Mem (Node K V)) (p2 : Reserve) (end : Yielding (Node K V) Unit) → Steps Took value_at w.memory (reserve_plan hash r.reserve) m2 (p2, end)
@@ -474,14 +474,14 @@ module _ {K Q : Type 0} (V : Type 0) (same : K → K → Bool) (hash : K → ℕ
   -- way with it.
   abbrev pub CountingsBeginTogether : Type 0
   CountingsBeginTogether =
-      (w : World (Node K V)) (c : Chart K) (blocks : Blocks) (sights : ℕ → Sight) (calls : ℕ → Option (UnderWay K V Q)) (i : ℕ) → Together w c blocks sights calls → calls i ≡ None
+      (w : World (Node K V)) (c : Chart K) (blocks : Blocks) (sights : ℕ → Visible) (calls : ℕ → Option (UnderWay K V Q)) (i : ℕ) → Together w c blocks sights calls → calls i ≡ None
       → w.row i ≡ Rests → (is_incremental setting.mode ≡ false → AreFew (λ j. (j ≡ i) ⊎ HasCall calls j))
       → Together w c blocks sights (with_at calls i (Some (Counting (summing (in_slot setting (slot i))))))
 
   -- The promise: whichever caller takes a step of its counting, it may take it. It changes nothing, never waits, and is never refused.
-  abbrev pub CountingsStandTogether : Type 0
-  CountingsStandTogether =
-      (w : World (Node K V)) (c : Chart K) (blocks : Blocks) (sights : ℕ → Sight) (calls : ℕ → Option (UnderWay K V Q)) → Together w c blocks sights calls
+  abbrev pub CountingsPreserveTheInvariant : Type 0
+  CountingsPreserveTheInvariant =
+      (w : World (Node K V)) (c : Chart K) (blocks : Blocks) (sights : ℕ → Visible) (calls : ℕ → Option (UnderWay K V Q)) → Together w c blocks sights calls
       → (i : ℕ) (sum : Sum) → calls i ≡ Some (Counting sum)
       → May Can Took value_at w.memory (sum_plan sum)
       × ((m2 : Mem (Node K V)) (sum2 : Sum) (end : Advance ℕ) → Steps Took value_at w.memory (sum_plan sum) m2 (sum2, end)

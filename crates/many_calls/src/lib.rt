@@ -1,4 +1,4 @@
-//! Calls of many callers on one map, side by side: whoever takes the next step, all stand together.
+//! Calls of many callers on one map, side by side: under every interleaving the invariant of all holds.
 #![tactic(auto)]
 
 pub mod law;

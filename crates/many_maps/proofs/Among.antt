@@ -14,4 +14,3 @@ pub mod Begins
 pub mod Choices
 pub mod Own
 pub mod Owners
-mod Samples

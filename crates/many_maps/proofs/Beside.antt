@@ -2,4 +2,3 @@
 pub mod Maps
 pub mod Makings
 pub mod Endings
-mod Samples

@@ -18,8 +18,8 @@ use Rattle.many_maps.specs.Endings.{Finishing, EndingsTogether}
 
 module _ {K Q : Type 0} (V : Type 0) (same : K → K → Bool) (asks : Q → K → Bool) (batch_size roots : ℕ) (slot : ℕ → ℕ) where
   -- A caller that has no call on any map, makes none and ends none, and has no row under way, begins to count the pairs of one, outside of any section too.
-  abbrev pub CountingsBeginAmong : Type 0
-  CountingsBeginAmong =
+  abbrev pub CountingsBeginWithEndings : Type 0
+  CountingsBeginWithEndings =
       (w : World (Node K V)) (maps : ℕ → Option (Standing K)) (calls : ℕ → ℕ → Option (UnderWay K V Q)) (makers : ℕ → Option (Beginning K)) (enders : ℕ → Option (Finishing K V))
       → EndingsTogether V same asks batch_size roots slot w maps calls makers enders
       → (i : ℕ) → makers i ≡ None → enders i ≡ None → ((n : ℕ) → calls n i ≡ None) → w.row i ≡ Rests
@@ -27,8 +27,8 @@ module _ {K Q : Type 0} (V : Type 0) (same : K → K → Bool) (asks : Q → K �
       → EndingsTogether V same asks batch_size roots slot w maps (with_call calls m i (Some (Counting (summing (in_slot s.setting (slot i)))))) makers enders
 
   -- The promise of their steps: nothing changes.
-  abbrev pub CountingsStandAmong : Type 0
-  CountingsStandAmong =
+  abbrev pub CountingsPreserveWithEndings : Type 0
+  CountingsPreserveWithEndings =
       (w : World (Node K V)) (maps : ℕ → Option (Standing K)) (calls : ℕ → ℕ → Option (UnderWay K V Q)) (makers : ℕ → Option (Beginning K)) (enders : ℕ → Option (Finishing K V))
       → EndingsTogether V same asks batch_size roots slot w maps calls makers enders
       → (m : ℕ) (s : Standing K) → maps m ≡ Some s → (i : ℕ) (sum : Sum) → calls m i ≡ Some (Counting sum)

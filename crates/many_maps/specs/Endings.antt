@@ -1,4 +1,4 @@
--- Maps that end while others have calls on other maps, and while maps are made: whoever takes the next step, all stand together.
+-- Maps that end while others have calls on other maps, and while maps are made: under every interleaving the invariant of all holds.
 use Rattle.std.specs.Prelude.{◌≡◌, ◌≢◌, ℕ, ◌<◌, ◌≤◌, ◌⊎◌, Bool, false, cond, List, [], ◌∷◌, ◌++◌, Option, Some, None}
 use Rattle.many_calls.specs.Given.SeizeWordsMem.{Mem, Can, Took, value_at}
 use Rattle.many_calls.specs.Given.SeizeWordsPlan.{May, Steps}
@@ -30,7 +30,7 @@ use Rattle.many_calls.specs.Claims.{AreFew}
 use Rattle.many_maps.specs.Maps.{Standing, IsSameMap, with_call}
 use Rattle.many_maps.specs.Makings.{Beginning, HasTaken, HasMade, MakingsTogether, StepsOfMaking, IsMade}
 use Rattle.many_calls.specs.Sights.{seen_by}
-use Rattle.many_calls.specs.Together.{RepliesTaken, CallOnKey, UnderWay, OnKey, UnlessCounts, HasCall, IsOfSlots, Closes, IsBegun, begun_at, next_of, change_told, StepsTogether, RowStepsTogether}
+use Rattle.many_calls.specs.Together.{RepliesTaken, CallOnKey, UnderWay, OnKey, UnlessCounts, HasCall, IsOfSlots, Closes, IsBegun, begun_at, next_of, change_observed, StepsTogether, RowStepsTogether}
 use Rattle.many_maps.specs.FactsEnds.{Deed, LeavesTable, events_of, taken_by, left_by, joined_by, Spares, RootIs, BeganIn, CarryTheirs, EndFacts, back_of, wait_before}
 use Rattle.many_maps.specs.Orders.{pairs_of}
 
@@ -110,7 +110,7 @@ module _ {K Q : Type 0} (V : Type 0) (same : K → K → Bool) (asks : Q → K �
     pub their_counters : (i j : ℕ) (f g : Finishing K V) → i ≢ j → enders i ≡ Some f → enders j ≡ Some g → HasCounter f → HasCounter g
         → f.setting.counter ≢ g.setting.counter
 
-  -- they stand together as they were, but for what may be looked at
+  -- the invariant holds as before, but for what may be looked at
   abbrev pub AllEndingsStand : World (Node K V) → (ℕ → Option (Standing K)) → (ℕ → ℕ → Option (UnderWay K V Q)) → (ℕ → Option (Beginning K)) → (ℕ → Option (Finishing K V)) → Type 0
   AllEndingsStand w maps calls makers enders = (maps2 : ℕ → Option (Standing K)) × ((m : ℕ) → IsSameMap (maps m) (maps2 m)) × EndingsTogether w maps2 calls makers enders
 
@@ -134,14 +134,14 @@ module _ {K Q : Type 0} (V : Type 0) (same : K → K → Bool) (asks : Q → K �
   module _ (w : World (Node K V)) (maps : ℕ → Option (Standing K)) (calls : ℕ → ℕ → Option (UnderWay K V Q)) (makers : ℕ → Option (Beginning K)) (enders : ℕ → Option (Finishing K V))
       (i : ℕ) (f : Finishing K V) where
     -- The end goes on, and has taken no block away; or it has taken one, whose value it hands out; or it is over. It never waits.
-    abbrev pub FinishingTold : World (Node K V) → Deed → EndMap × Settled (Node K V) → Type 0
-    FinishingTold w2 deed (e, settled.Goes) =
+    abbrev pub FinishingOutcome : World (Node K V) → Deed → EndMap × Settled (Node K V) → Type 0
+    FinishingOutcome w2 deed (e, settled.Goes) =
         (taken_by deed ≡ []) × EndingsTogether w2 maps calls makers (with_at enders i (Some (record f { machine = e; waits = f.waits ++ waiting_by deed })))
-    FinishingTold w2 deed (e, settled.Waits) = ⊥
-    FinishingTold w2 deed (e, settled.Gave value) =
+    FinishingOutcome w2 deed (e, settled.Waits) = ⊥
+    FinishingOutcome w2 deed (e, settled.Gave value) =
         (b : ℕ) × (value_at w.memory b ≡ Some value) × (taken_by deed ≡ b ∷ [])
         × EndingsTogether w2 maps calls makers (with_at enders i (Some (record f { machine = e; back = f.back ++ b ∷ []; waits = f.waits ++ waiting_by deed })))
-    FinishingTold w2 deed (e, settled.Done) = (taken_by deed ≡ []) × HasFinished w2.memory f × EndingsTogether w2 maps calls makers (with_at enders i None)
+    FinishingOutcome w2 deed (e, settled.Done) = (taken_by deed ≡ []) × HasFinished w2.memory f × EndingsTogether w2 maps calls makers (with_at enders i None)
 
     -- What a deed is done to: what it reclaims or leaves over was not left over before, but for a table of the map, and what it links to another block waits;
     -- and it leaves over pairs, or a table of the map that is not reclaimed.
@@ -161,9 +161,9 @@ module _ {K Q : Type 0} (V : Type 0) (same : K → K → Bool) (asks : Q → K �
       pub memory : w2.memory ≡ m2
       pub spares : Spares f.setting i w w2 deed
       pub done_to : IsDoneTo deed
-      pub told : FinishingTold w2 deed end
+      pub told : FinishingOutcome w2 deed end
 
-  -- The promise: whichever caller takes a step of its end of a map, it may take it, and all stand together again.
+  -- The promise: whichever caller takes a step of its end of a map, it may take it, and the invariant of all holds again.
   abbrev pub EndingsStand : Type 0
   EndingsStand =
       (w : World (Node K V)) (maps : ℕ → Option (Standing K)) (calls : ℕ → ℕ → Option (UnderWay K V Q)) (makers : ℕ → Option (Beginning K)) (enders : ℕ → Option (Finishing K V))
@@ -172,8 +172,8 @@ module _ {K Q : Type 0} (V : Type 0) (same : K → K → Bool) (asks : Q → K �
       × ((m2 : Mem (Node K V)) (end : EndMap × Settled (Node K V)) → Steps Took value_at w.memory (end_map_plan f.machine) m2 end → StepsOfEnding w maps calls makers enders i f m2 end)
 
   -- A caller that has no call on any map, makes none and ends none, and has no row under way, begins a call on one, within its section.
-  abbrev pub CallsBeginAmong : Type 0
-  CallsBeginAmong =
+  abbrev pub CallsBeginWithEndings : Type 0
+  CallsBeginWithEndings =
       (w : World (Node K V)) (maps : ℕ → Option (Standing K)) (calls : ℕ → ℕ → Option (UnderWay K V Q)) (makers : ℕ → Option (Beginning K)) (enders : ℕ → Option (Finishing K V))
       → EndingsTogether w maps calls makers enders → (i : ℕ) → makers i ≡ None → enders i ≡ None → ((n : ℕ) → calls n i ≡ None) → w.row i ≡ Rests → IsInside (w.uses (slot i))
       → (m : ℕ) (s : Standing K) → maps m ≡ Some s → (is_incremental s.setting.mode ≡ false → AreFew (λ j. (j ≡ i) ⊎ HasCall (calls m) j))
@@ -181,49 +181,49 @@ module _ {K Q : Type 0} (V : Type 0) (same : K → K → Bool) (asks : Q → K �
       → EndingsTogether w maps (with_call calls m i (Some (OnKey (begun_at V same s.hash asks s.setting slot s.chart keys pair call)))) makers enders
 
   -- where a step of a call leads that is none of a row, with ends of maps under way: they go on as they were
-  pub record StepsAmong (w : World (Node K V)) (maps : ℕ → Option (Standing K)) (calls : ℕ → ℕ → Option (UnderWay K V Q)) (makers : ℕ → Option (Beginning K)) (enders : ℕ → Option (Finishing K V))
+  pub record StepsWithEndings (w : World (Node K V)) (maps : ℕ → Option (Standing K)) (calls : ℕ → ℕ → Option (UnderWay K V Q)) (makers : ℕ → Option (Beginning K)) (enders : ℕ → Option (Finishing K V))
       (m : ℕ) (s : Standing K) (i : ℕ) (u : CallOnKey K V Q) (m2 : Mem (Node K V)) (p2 : KeyCall K V Q) (progress : Called (Node K V)) : Type 0 where
     pub no_row : IsRowOfCall u.call.stands → ⊥
     pub step : StepsTogether V same s.hash asks s.setting slot w s.chart s.blocks s.sights (calls m) i u m2 p2 progress
     pub together : EndingsTogether step.went.w2 (with_at maps m (Some (record s { chart = step.went.c2; blocks = step.blocks2; sights = step.sights2 })))
-        (with_call calls m i (next_of (record { keys = u.keys; pair = u.pair; began = u.began; change = change_told V same s.hash asks s.setting slot step.went.told; call = p2 }) progress)) makers enders
+        (with_call calls m i (next_of (record { keys = u.keys; pair = u.pair; began = u.began; change = change_observed V same s.hash asks s.setting slot step.went.told; call = p2 }) progress)) makers enders
 
   -- The promise of steps of calls.
-  abbrev pub CallsStandAmong : Type 0
-  CallsStandAmong =
+  abbrev pub CallsPreserveWithEndings : Type 0
+  CallsPreserveWithEndings =
       (w : World (Node K V)) (maps : ℕ → Option (Standing K)) (calls : ℕ → ℕ → Option (UnderWay K V Q)) (makers : ℕ → Option (Beginning K)) (enders : ℕ → Option (Finishing K V))
       → EndingsTogether w maps calls makers enders → (m : ℕ) (s : Standing K) → maps m ≡ Some s → (i : ℕ) (u : CallOnKey K V Q) → calls m i ≡ Some (OnKey u) → (IsRowOfCall u.call.stands → ⊥)
       → May Can Took value_at w.memory (call_plan asks same s.hash u.call)
       × ((m2 : Mem (Node K V)) (p2 : KeyCall K V Q) (progress : Called (Node K V)) → Steps Took value_at w.memory (call_plan asks same s.hash u.call) m2 (p2, progress)
-      → StepsAmong w maps calls makers enders m s i u m2 p2 progress)
+      → StepsWithEndings w maps calls makers enders m s i u m2 p2 progress)
 
   -- The promise of replies: ends of maps go on as they were, too.
-  abbrev pub RepliesStandAmong : Type 0
-  RepliesStandAmong =
+  abbrev pub RepliesPreserveWithEndings : Type 0
+  RepliesPreserveWithEndings =
       (w : World (Node K V)) (maps : ℕ → Option (Standing K)) (calls : ℕ → ℕ → Option (UnderWay K V Q)) (makers : ℕ → Option (Beginning K)) (enders : ℕ → Option (Finishing K V))
       → EndingsTogether w maps calls makers enders → (m : ℕ) (s : Standing K) → maps m ≡ Some s → (i : ℕ) (u : CallOnKey K V Q) → calls m i ≡ Some (OnKey u)
       → (asks_at : Asking) → u.call.stands ≡ at.Asks asks_at
       → RepliesTaken V same s.hash asks s.setting slot s.chart (seen_by s.blocks (s.sights (slot i))) u asks_at (λ told. EndingsTogether w maps (with_call calls m i (Some (OnKey told))) makers enders)
 
   -- where a step of a row within a call leads
-  pub record RowStepsAmong (w : World (Node K V)) (maps : ℕ → Option (Standing K)) (calls : ℕ → ℕ → Option (UnderWay K V Q)) (makers : ℕ → Option (Beginning K)) (enders : ℕ → Option (Finishing K V))
+  pub record RowStepsWithEndings (w : World (Node K V)) (maps : ℕ → Option (Standing K)) (calls : ℕ → ℕ → Option (UnderWay K V Q)) (makers : ℕ → Option (Beginning K)) (enders : ℕ → Option (Finishing K V))
       (m : ℕ) (s : Standing K) (i : ℕ) (u : CallOnKey K V Q) (m2 : Mem (Node K V)) (p2 : KeyCall K V Q) (progress : Called (Node K V)) : Type 0 where
     pub is_row : IsRowOfCall u.call.stands
     pub step : RowStepsTogether V same s.hash asks s.setting slot w s.chart s.blocks s.sights (calls m) i u m2 p2 progress
     pub together : AllEndingsStand step.w2 maps (with_call calls m i (next_of (record { keys = u.keys; pair = u.pair; began = u.began; change = u.change; call = p2 }) progress)) makers enders
 
   -- The promise of the steps of rows within calls.
-  abbrev pub RowsStandAmong : Type 0
-  RowsStandAmong =
+  abbrev pub RowsPreserveWithEndings : Type 0
+  RowsPreserveWithEndings =
       (w : World (Node K V)) (maps : ℕ → Option (Standing K)) (calls : ℕ → ℕ → Option (UnderWay K V Q)) (makers : ℕ → Option (Beginning K)) (enders : ℕ → Option (Finishing K V))
       → EndingsTogether w maps calls makers enders → (m : ℕ) (s : Standing K) → maps m ≡ Some s → (i : ℕ) (u : CallOnKey K V Q) → calls m i ≡ Some (OnKey u) → IsRowOfCall u.call.stands
       → May Can Took value_at w.memory (call_plan asks same s.hash u.call)
       × ((m2 : Mem (Node K V)) (p2 : KeyCall K V Q) (progress : Called (Node K V)) → Steps Took value_at w.memory (call_plan asks same s.hash u.call) m2 (p2, progress)
-      → RowStepsAmong w maps calls makers enders m s i u m2 p2 progress)
+      → RowStepsWithEndings w maps calls makers enders m s i u m2 p2 progress)
 
   -- The promise of rows between calls, of whoever has no call, whether it makes a map, ends one, or neither.
-  abbrev pub GuardsStandAmong : Type 0
-  GuardsStandAmong =
+  abbrev pub GuardsPreserveWithEndings : Type 0
+  GuardsPreserveWithEndings =
       (w : World (Node K V)) (maps : ℕ → Option (Standing K)) (calls : ℕ → ℕ → Option (UnderWay K V Q)) (makers : ℕ → Option (Beginning K)) (enders : ℕ → Option (Finishing K V))
       → EndingsTogether w maps calls makers enders → (i : ℕ) → ((m : ℕ) → calls m i ≡ None)
       → ((request : Request) → IsOfSlots request → ((m j : ℕ) (u : UnderWay K V Q) → calls m j ≡ Some u → UnlessCounts u (Closes request (slot j) → ⊥))
@@ -232,8 +232,8 @@ module _ {K Q : Type 0} (V : Type 0) (same : K → K → Bool) (asks : Q → K �
       × ((w2 : World (Node K V)) → Happens deferred_word batch_size (Step i) w w2 → AllEndingsStand w2 maps calls makers enders)
 
   -- A caller that has no call, makes no map and ends none begins to make one, of a number that no map has, and none that is being made.
-  abbrev pub MakingsBeginAmong : Type 0
-  MakingsBeginAmong =
+  abbrev pub MakingsBeginWithEndings : Type 0
+  MakingsBeginWithEndings =
       (w : World (Node K V)) (maps : ℕ → Option (Standing K)) (calls : ℕ → ℕ → Option (UnderWay K V Q)) (makers : ℕ → Option (Beginning K)) (enders : ℕ → Option (Finishing K V))
       → EndingsTogether w maps calls makers enders → (i : ℕ) → enders i ≡ None
       → (b : Beginning K) → MakingsTogether V same asks batch_size roots slot w maps calls (with_at makers i (Some b)) → b.machine ≡ opening b.given roots b.places
@@ -242,21 +242,21 @@ module _ {K Q : Type 0} (V : Type 0) (same : K → K → Bool) (asks : Q → K �
   module _ (w : World (Node K V)) (maps : ℕ → Option (Standing K)) (calls : ℕ → ℕ → Option (UnderWay K V Q)) (makers : ℕ → Option (Beginning K)) (enders : ℕ → Option (Finishing K V))
       (i : ℕ) (b : Beginning K) where
     -- what a making tells, with ends of maps under way
-    abbrev pub MakingToldAmong : World (Node K V) → NewMap × Advance Setting → Type 0
-    MakingToldAmong w2 (n, progress.Goes) = EndingsTogether w2 maps calls (with_at makers i (Some (record b { machine = n }))) enders
-    MakingToldAmong w2 (n, progress.Waits) = ⊥
-    MakingToldAmong w2 (n, progress.Done answer) = (s : Standing K) × IsMade V same asks batch_size roots slot b answer s × EndingsTogether w2 (with_at maps b.map (Some s)) calls (with_at makers i None) enders
-    MakingToldAmong w2 (n, progress.Refused fault) = EndingsTogether w2 maps calls (with_at makers i None) enders
+    abbrev pub MakingOutcomeWithEndings : World (Node K V) → NewMap × Advance Setting → Type 0
+    MakingOutcomeWithEndings w2 (n, progress.Goes) = EndingsTogether w2 maps calls (with_at makers i (Some (record b { machine = n }))) enders
+    MakingOutcomeWithEndings w2 (n, progress.Waits) = ⊥
+    MakingOutcomeWithEndings w2 (n, progress.Done answer) = (s : Standing K) × IsMade V same asks batch_size roots slot b answer s × EndingsTogether w2 (with_at maps b.map (Some s)) calls (with_at makers i None) enders
+    MakingOutcomeWithEndings w2 (n, progress.Refused fault) = EndingsTogether w2 maps calls (with_at makers i None) enders
 
-    pub record MakingStepsAmong (m2 : Mem (Node K V)) (end : NewMap × Advance Setting) : Type 0 where
+    pub record MakingStepsWithEndings (m2 : Mem (Node K V)) (end : NewMap × Advance Setting) : Type 0 where
       pub step : StepsOfMaking V same asks batch_size roots slot w maps calls makers i b m2 end
-      pub told : MakingToldAmong step.w2 end
+      pub told : MakingOutcomeWithEndings step.w2 end
 
   -- The promise of steps of makings.
-  abbrev pub MakingsStandAmong : Type 0
-  MakingsStandAmong =
+  abbrev pub MakingsPreserveWithEndings : Type 0
+  MakingsPreserveWithEndings =
       (w : World (Node K V)) (maps : ℕ → Option (Standing K)) (calls : ℕ → ℕ → Option (UnderWay K V Q)) (makers : ℕ → Option (Beginning K)) (enders : ℕ → Option (Finishing K V))
       → EndingsTogether w maps calls makers enders → (i : ℕ) (b : Beginning K) → makers i ≡ Some b
       → May Can Took value_at w.memory (new_map_plan {K = K} {V = V} b.machine)
       × ((m2 : Mem (Node K V)) (end : NewMap × Advance Setting) → Steps Took value_at w.memory (new_map_plan b.machine) m2 end
-      → MakingStepsAmong w maps calls makers enders i b m2 end)
+      → MakingStepsWithEndings w maps calls makers enders i b m2 end)

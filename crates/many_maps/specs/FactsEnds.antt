@@ -108,7 +108,7 @@ RootAt hash setting c blocks m at.Over = Unit {0}
 RootAt hash setting c blocks m _ = (word_at m (Root setting.root) ≡ Some (root_word hash c blocks)) × (word_at m (Used setting.root) ≡ Some 1)
 
 -- a block in use has this list of further values, which the collector has, each once
-pub record HasBehind {K V : Type 0} (w : World (Node K V)) (b : ℕ) (list : List ℕ) : Type 0 where
+pub record HasDeferred {K V : Type 0} (w : World (Node K V)) (b : ℕ) (list : List ℕ) : Type 0 where
   pub are : FurtherAre deferred_word w.memory b list
   pub once : (x : ℕ) → times x list ≤ 1
   pub theirs : (x : ℕ) → 0 < times x list → (w.hand x ≡ Handed) × (where_is x w.log ≡ With b) × IsSome (value_at w.memory x)
@@ -170,7 +170,7 @@ module _ {K : Type 0} (setting : Setting) (c : Chart K) (blocks : Blocks) (lists
   IsItsDeed i w past past2 Looks = past2 ≡ past
   IsItsDeed i w past past2 (TakesPair b) = (past2 ≡ past) × (w.hand b ≡ InUse setting.counter) × (n : ℕ) × (c.current n ≡ true) × (b ≡ blocks.pair n)
   IsItsDeed i w past past2 (LeavesTable b further) =
-      (past2 ≡ suc past) × (w.hand b ≡ InUse setting.counter) × HasBehind w b further × (c.first ≤ past) × (past < c.past) × (b ≡ blocks.table past) × (further ≡ lists past)
+      (past2 ≡ suc past) × (w.hand b ≡ InUse setting.counter) × HasDeferred w b further × (c.first ≤ past) × (past < c.past) × (b ≡ blocks.table past) × (further ≡ lists past)
   IsItsDeed i w past past2 (JoinsPair b word) = (past2 ≡ past) × (w.hand b ≡ LeftTo i) × (0 < times b (wait_before past))
   IsItsDeed i w past past2 (TakesLeft b) =
       (past2 ≡ past) × (w.hand b ≡ LeftTo i) × ((owns ≡ true) ⊎ ((t : ℕ) × (c.first ≤ t) × (t < c.past) × (b ≡ blocks.table t)))
@@ -183,7 +183,7 @@ module _ {K : Type 0} (setting : Setting) (c : Chart K) (blocks : Blocks) (lists
       pub still : IsOverStill setting.counter w0 w (blocks.table t)
       pub words : (i word : ℕ) → i ≢ DEFERRED → word_at w0.memory (Word (blocks.table t) i) ≡ Some word → word_at w.memory (Word (blocks.table t) i) ≡ Some word
       pub used : past ≤ t → IsUsedYet setting.counter w (blocks.table t)
-      pub carries : past ≤ t → HasBehind w (blocks.table t) (lists t)
+      pub carries : past ≤ t → HasDeferred w (blocks.table t) (lists t)
       pub left : t < past → (w.hand (blocks.table t) ≡ LeftTo caller) × (times (blocks.table t) (wait_before past) ≡ 0)
 
     -- Since the map was to end these blocks were reclaimed, and its others are still there. What waits is left to this caller, each block once.
@@ -287,14 +287,14 @@ module _ {K : Type 0} (setting : Setting) (c : Chart K) (blocks : Blocks) (lists
         pub root : RootIs setting w.memory (wait_before past)
 
       -- where a step of it led, by what it did
-      abbrev pub EndTold : World (Node K V) → World (Node K V) → Deed → ℕ → List ℕ → EndMap × Settled (Node K V) → Type 0
-      EndTold w w2 deed past2 back (e, settled.Goes) = (taken_by deed ≡ []) × EndFacts w2 e past2 back
-      EndTold w w2 deed past2 back (e, settled.Waits) = ⊥
-      EndTold w w2 deed past2 back (e, settled.Gave value) = (b : ℕ) × (taken_by deed ≡ b ∷ []) × (value_at w.memory b ≡ Some value) × EndFacts w2 e past2 (back ++ b ∷ [])
-      EndTold w w2 deed past2 back (e, settled.Done) = (taken_by deed ≡ []) × HasEnded w2 past2 back
+      abbrev pub EndOutcome : World (Node K V) → World (Node K V) → Deed → ℕ → List ℕ → EndMap × Settled (Node K V) → Type 0
+      EndOutcome w w2 deed past2 back (e, settled.Goes) = (taken_by deed ≡ []) × EndFacts w2 e past2 back
+      EndOutcome w w2 deed past2 back (e, settled.Waits) = ⊥
+      EndOutcome w w2 deed past2 back (e, settled.Gave value) = (b : ℕ) × (taken_by deed ≡ b ∷ []) × (value_at w.memory b ≡ Some value) × EndFacts w2 e past2 (back ++ b ∷ [])
+      EndOutcome w w2 deed past2 back (e, settled.Done) = (taken_by deed ≡ []) × HasEnded w2 past2 back
 
       -- A step of the end of a map came to this memory.
-      pub record EndWent (w : World (Node K V)) (past : ℕ) (back : List ℕ) (m2 : Mem (Node K V)) (end : EndMap × Settled (Node K V)) : Type 0 where
+      pub record EndStepSpec (w : World (Node K V)) (past : ℕ) (back : List ℕ) (m2 : Mem (Node K V)) (end : EndMap × Settled (Node K V)) : Type 0 where
         pub w2 : World (Node K V)
         pub deed : Deed
         pub past2 : ℕ
@@ -303,14 +303,14 @@ module _ {K : Type 0} (setting : Setting) (c : Chart K) (blocks : Blocks) (lists
         pub fresh : IsFresh back deed
         pub spares : Spares setting caller w w2 deed
         pub its : IsItsDeed caller w past past2 deed
-        pub told : EndTold w w2 deed past2 back end
+        pub told : EndOutcome w w2 deed past2 back end
 
   module _ {V : Type 0} (same : K → K → Bool) (hash : K → ℕ) where
     -- The map stood in this world, in which its end began. Where it owns its collector, its tables carry what they carried then.
     pub record BeganIn (w0 : World (Node K V)) : Type 0 where
       pub map : IsMapIn same hash setting w0 c blocks
       pub counter : IsMaking (w0.hand setting.counter)
-      pub owned : owns ≡ true → (t : ℕ) → c.first ≤ t → t < c.past → HasBehind w0 (blocks.table t) (lists t)
+      pub owned : owns ≡ true → (t : ℕ) → c.first ≤ t → t < c.past → HasDeferred w0 (blocks.table t) (lists t)
 
     -- a block is the map's, it can be reached, and no row is putting another one behind it
     abbrev pub StandsFree : World (Node K V) → ℕ → Type 0
@@ -324,5 +324,5 @@ module _ {K : Type 0} (setting : Setting) (c : Chart K) (blocks : Blocks) (lists
       pub used : word_at w.memory (Used setting.root) ≡ Some 1
       pub tables : (t : ℕ) → c.first ≤ t → t < c.past → StandsFree w (blocks.table t)
       pub pairs : (n : ℕ) → c.current n ≡ true → StandsFree w (blocks.pair n)
-      pub carries : (t : ℕ) → c.first ≤ t → t < c.past → HasBehind w (blocks.table t) (lists t)
+      pub carries : (t : ℕ) → c.first ≤ t → t < c.past → HasDeferred w (blocks.table t) (lists t)
       pub free : owns ≡ true → (s x : ℕ) → holds s x w.log ≡ false

@@ -28,15 +28,15 @@ use Rattle.many_calls.specs.Given.RuleChart.{Chart}
 use Rattle.many_calls.specs.Given.RuleWords.{Blocks}
 use Rattle.many_calls.specs.Given.RuleMoments.{Remembers}
 use Rattle.many_calls.specs.Given.LateCovers.{NamesPair}
-use Rattle.many_calls.specs.OverAll.{told_of, come_to, gone_on}
+use Rattle.many_calls.specs.OverAll.{with_verdict, come_to, gone_on}
 use Rattle.many_calls.specs.Rows.{LeavesSlots}
-use Rattle.many_calls.specs.Sights.{Sight, seen_by}
-use Rattle.many_calls.specs.Together.{UnderWay, OnKey, ForRoom, Counting, OverAll, told_about, AsksAbout, next_of, next_for_room, next_of_counting, next_over_all, change_told}
+use Rattle.many_calls.specs.Sights.{Visible, seen_by}
+use Rattle.many_calls.specs.Together.{UnderWay, OnKey, ForRoom, Counting, OverAll, replied_about, AsksAbout, next_of, next_for_room, next_of_counting, next_over_all, change_observed}
 use Rattle.many_maps.specs.Makings.{Beginning}
 use Rattle.many_maps.specs.Maps.{Standing, IsSameMap, with_call}
-use Rattle.many_maps.specs.Endings.{Finishing, EndingsTogether, StepsAmong, RowStepsAmong}
-use Rattle.many_maps.specs.Rooms.{RoomStepsAmong, RoomRowsAmong}
-use Rattle.many_maps.specs.Sweeps.{SweepStepsAmong, SweepRowsAmong}
+use Rattle.many_maps.specs.Endings.{Finishing, EndingsTogether, StepsWithEndings, RowStepsWithEndings}
+use Rattle.many_maps.specs.Rooms.{RoomStepsWithEndings, RoomRowsWithEndings}
+use Rattle.many_maps.specs.Sweeps.{SweepStepsWithEndings, SweepRowsWithEndings}
 
 -- the machine of a call that is under way
 abbrev pub machine_of : {K V Q : Type 0} → UnderWay K V Q → Machine K V Q
@@ -46,15 +46,15 @@ machine_of (Counting sum) = kinds.Count sum
 machine_of (OverAll o) = kinds.Sweep o.sweep
 
 -- it is under way on as this machine, or has ended
-abbrev pub GoesOnAs : {K V Q : Type 0} → Machine K V Q → Progress (Node K V) → Option (UnderWay K V Q) → Type 0
-GoesOnAs machine (progress.Done answer) next = next ≡ None
-GoesOnAs machine (progress.Refused fault) next = next ≡ None
-GoesOnAs {K} {V} {Q} machine _ next = (u : UnderWay K V Q) × (next ≡ Some u) × (machine_of u ≡ machine)
+abbrev pub ContinuesAs : {K V Q : Type 0} → Machine K V Q → Progress (Node K V) → Option (UnderWay K V Q) → Type 0
+ContinuesAs machine (progress.Done answer) next = next ≡ None
+ContinuesAs machine (progress.Refused fault) next = next ≡ None
+ContinuesAs {K} {V} {Q} machine _ next = (u : UnderWay K V Q) × (next ≡ Some u) × (machine_of u ≡ machine)
 
 -- a map that stands does so on, with its setting, and nothing of its history is forgotten
-abbrev pub StandsOn : {K : Type 0} → Standing K → Option (Standing K) → Type 0
-StandsOn {K} s after =
-    (chart : Chart K) × (blocks : Blocks) × (sights : ℕ → Sight) × Remembers (is_incremental s.setting.mode) s.chart chart
+abbrev pub MapContinues : {K : Type 0} → Standing K → Option (Standing K) → Type 0
+MapContinues {K} s after =
+    (chart : Chart K) × (blocks : Blocks) × (sights : ℕ → Visible) × Remembers (is_incremental s.setting.mode) s.chart chart
     × (after ≡ Some (record s { chart = chart; blocks = blocks; sights = sights }))
 
 module _ {K Q : Type 0} (V : Type 0) (same : K → K → Bool) (asks : Q → K → Bool) (batch_size roots : ℕ) (slot : ℕ → ℕ) where
@@ -63,7 +63,7 @@ module _ {K Q : Type 0} (V : Type 0) (same : K → K → Bool) (asks : Q → K �
       (m : ℕ) (s : Standing K) (i : ℕ) (m2 : Mem (Node K V)) where
     -- Where it has come: the tables of its map have moved on, and those of the others are as they were,
     abbrev pub HasMoved : World (Node K V) → (ℕ → Option (Standing K)) → Option (UnderWay K V Q)
-        → World (Node K V) → Chart K → Blocks → (ℕ → Sight) → Option (UnderWay K V Q) → Type 0
+        → World (Node K V) → Chart K → Blocks → (ℕ → Visible) → Option (UnderWay K V Q) → Type 0
     HasMoved w2 maps2 next v chart blocks sights it =
         (w2 ≡ v) × (maps2 ≡ with_at maps m (Some (record s { chart = chart; blocks = blocks; sights = sights }))) × (next ≡ it)
 
@@ -76,71 +76,71 @@ module _ {K Q : Type 0} (V : Type 0) (same : K → K → Bool) (asks : Q → K �
       abbrev pub DidOfKind : UnderWay K V Q → Machine K V Q → Progress (Node K V) → Type 0
       DidOfKind (OnKey u) machine told =
           (p2 : KeyCall K V Q) × (end : Called (Node K V)) × (machine ≡ kinds.Key p2) × (told ≡ of_called end)
-          × (((to : StepsAmong V same asks batch_size roots slot w maps calls makers enders m s i u m2 p2 end)
+          × (((to : StepsWithEndings V same asks batch_size roots slot w maps calls makers enders m s i u m2 p2 end)
           × HasMoved w2 maps2 next to.step.went.w2 to.step.went.c2 to.step.blocks2 to.step.sights2
-          (next_of (record { keys = u.keys; pair = u.pair; began = u.began; change = change_told V same s.hash asks s.setting slot to.step.went.told; call = p2 }) end))
-          ⊎ ((to : RowStepsAmong V same asks batch_size roots slot w maps calls makers enders m s i u m2 p2 end)
+          (next_of (record { keys = u.keys; pair = u.pair; began = u.began; change = change_observed V same s.hash asks s.setting slot to.step.went.told; call = p2 }) end))
+          ⊎ ((to : RowStepsWithEndings V same asks batch_size roots slot w maps calls makers enders m s i u m2 p2 end)
           × HasStayed w2 maps2 next to.step.w2 (next_of (record { keys = u.keys; pair = u.pair; began = u.began; change = u.change; call = p2 }) end)))
       DidOfKind (ForRoom r) machine told =
           (p2 : Reserve) × (end : Yielding (Node K V) Unit) × (machine ≡ kinds.Reserve p2) × (told ≡ of_outcome end)
-          × (((to : RoomStepsAmong V same asks batch_size roots slot w maps calls makers enders m s i r m2 p2 end)
+          × (((to : RoomStepsWithEndings V same asks batch_size roots slot w maps calls makers enders m s i r m2 p2 end)
           × HasMoved w2 maps2 next to.step.went.w2 to.step.went.c2 to.step.blocks2 to.step.sights2 (next_for_room (record { began = r.began; reserve = p2 }) end))
-          ⊎ ((to : RoomRowsAmong V same asks batch_size roots slot w maps calls makers enders m s i r m2 p2 end)
+          ⊎ ((to : RoomRowsWithEndings V same asks batch_size roots slot w maps calls makers enders m s i r m2 p2 end)
           × HasStayed w2 maps2 next to.step.w2 (next_for_room (record { began = r.began; reserve = p2 }) end)))
       DidOfKind (Counting sum) machine told =
           (sum2 : Sum) × (end : Counted ℕ) × (machine ≡ kinds.Count sum2) × (told ≡ of_counting end) × (m2 ≡ w.memory)
           × HasStayed w2 maps2 next w (next_of_counting sum2 end)
       DidOfKind (OverAll o) machine told =
           (p2 : Sweep) × (end : Swept (Node K V)) × (machine ≡ kinds.Sweep p2) × (told ≡ of_swept end)
-          × (((to : SweepStepsAmong V same asks batch_size roots slot w maps calls makers enders m s i o m2 p2 end)
+          × (((to : SweepStepsWithEndings V same asks batch_size roots slot w maps calls makers enders m s i o m2 p2 end)
           × HasMoved w2 maps2 next to.step.went.w2 to.step.went.c2 to.step.blocks2 to.step.sights2 (next_over_all (come_to o to.step.entered2 to.step.done2 p2) end))
-          ⊎ ((to : SweepRowsAmong V same asks batch_size roots slot w maps calls makers enders m s i o m2 p2 end)
+          ⊎ ((to : SweepRowsWithEndings V same asks batch_size roots slot w maps calls makers enders m s i o m2 p2 end)
           × HasStayed w2 maps2 next to.step.w2 (next_over_all (gone_on o p2) end)))
 
     -- Where a step of a machine leads: its map stands on, the others as they were, and all calls, makings and ends with them. No other caller's row has gone on,
     -- this one's has if it is within one, and none is under way once the machine has ended. Each slot is used as it was.
-    pub record MachineStepsAmong (u : UnderWay K V Q) (machine : Machine K V Q) (told : Progress (Node K V)) : Type 0 where
+    pub record MachineStepsWithEndings (u : UnderWay K V Q) (machine : Machine K V Q) (told : Progress (Node K V)) : Type 0 where
       pub w2 : World (Node K V)
       pub memory : w2.memory ≡ m2
       pub rows : (j : ℕ) → j ≢ i → w2.row j ≡ w.row j
       pub slots : LeavesSlots (slot i) i w w2
       pub maps2 : ℕ → Option (Standing K)
-      pub its_map : StandsOn s (maps2 m)
+      pub its_map : MapContinues s (maps2 m)
       pub others : (n : ℕ) → n ≢ m → IsSameMap (maps n) (maps2 n)
       pub next : Option (UnderWay K V Q)
-      pub goes_on : GoesOnAs machine told next
+      pub goes_on : ContinuesAs machine told next
       pub rests : next ≡ None → w2.row i ≡ Rests
       pub together : EndingsTogether V same asks batch_size roots slot w2 maps2 (with_call calls m i next) makers enders
       pub did : DidOfKind w2 maps2 next u machine told
 
   -- What is under way once it was told something. A call that asks goes on by that, with what it was told; one that takes no reply goes on as it was.
-  abbrev pub ToldOfKind : Standing K → ℕ → UnderWay K V Q → MachineReply V → UnderWay K V Q → Type 0
-  ToldOfKind s i (OnKey u) told next =
+  abbrev pub RepliedOfKind : Standing K → ℕ → UnderWay K V Q → MachineReply V → UnderWay K V Q → Type 0
+  RepliedOfKind s i (OnKey u) told next =
       ((asks_at : Asking) × (about : Option ℕ) × (u.call.stands ≡ at.Asks asks_at)
       × AsksAbout V same s.hash asks s.setting slot s.chart (seen_by s.blocks (s.sights (slot i))) asks_at about
-      × (next ≡ OnKey (told_about u about told)))
+      × (next ≡ OnKey (replied_about u about told)))
       ⊎ (next ≡ OnKey u)
-  ToldOfKind s i (OverAll o) told next =
+  RepliedOfKind s i (OverAll o) told next =
       ((word n : ℕ) × (o.sweep.stands ≡ sweeping.Asks word) × NamesPair s.hash s.chart (seen_by s.blocks (s.sights (slot i))) word n
-      × (((told ≡ reply.Yes) × (next ≡ OverAll (told_of o n true))) ⊎ ((told ≡ reply.No) × (next ≡ OverAll (told_of o n false)))))
+      × (((told ≡ reply.Yes) × (next ≡ OverAll (with_verdict o n true))) ⊎ ((told ≡ reply.No) × (next ≡ OverAll (with_verdict o n false)))))
       ⊎ (next ≡ OverAll o)
-  ToldOfKind s i u told next = next ≡ u
+  RepliedOfKind s i u told next = next ≡ u
 
-  -- The promise of what machines are told, and asked for, at any moment: all stand together then.
-  abbrev pub MachinesToldAmong : Type 0
-  MachinesToldAmong =
+  -- The promise of what machines are told, and asked for, at any moment: the invariant of all holds then.
+  abbrev pub MachinesRepliedWithEndings : Type 0
+  MachinesRepliedWithEndings =
       (w : World (Node K V)) (maps : ℕ → Option (Standing K)) (calls : ℕ → ℕ → Option (UnderWay K V Q))
       (makers : ℕ → Option (Beginning K)) (enders : ℕ → Option (Finishing K V))
       → EndingsTogether V same asks batch_size roots slot w maps calls makers enders
       → (m : ℕ) (s : Standing K) → maps m ≡ Some s → (i : ℕ) (u : UnderWay K V Q) → calls m i ≡ Some u
-      → ((told : MachineReply V) → (next : UnderWay K V Q) × (machine_of next ≡ (machine_replied (machine_of u) told).0) × ToldOfKind s i u told next
+      → ((told : MachineReply V) → (next : UnderWay K V Q) × (machine_of next ≡ (machine_replied (machine_of u) told).0) × RepliedOfKind s i u told next
       × EndingsTogether V same asks batch_size roots slot w maps (with_call calls m i (Some next)) makers enders)
       × ((next : UnderWay K V Q) × (machine_of next ≡ (machine_asked (machine_of u)).0)
       × EndingsTogether V same asks batch_size roots slot w maps (with_call calls m i (Some next)) makers enders)
 
-  -- The promise: whichever caller takes the next step of the machine that it has under way on a map, it may take it, and all stand together again.
-  abbrev pub MachinesStandAmong : Type 0
-  MachinesStandAmong =
+  -- The promise: whichever caller takes the next step of the machine that it has under way on a map, it may take it, and the invariant of all holds again.
+  abbrev pub MachinesPreserveWithEndings : Type 0
+  MachinesPreserveWithEndings =
       (w : World (Node K V)) (maps : ℕ → Option (Standing K)) (calls : ℕ → ℕ → Option (UnderWay K V Q))
       (makers : ℕ → Option (Beginning K)) (enders : ℕ → Option (Finishing K V))
       → EndingsTogether V same asks batch_size roots slot w maps calls makers enders
@@ -148,4 +148,4 @@ module _ {K Q : Type 0} (V : Type 0) (same : K → K → Bool) (asks : Q → K �
       → May Can Took value_at w.memory (machine_plan asks same s.hash (machine_of u))
       × ((m2 : Mem (Node K V)) (machine : Machine K V Q) (told : Progress (Node K V))
       → Steps Took value_at w.memory (machine_plan asks same s.hash (machine_of u)) m2 (machine, told)
-      → MachineStepsAmong w maps calls makers enders m s i m2 u machine told)
+      → MachineStepsWithEndings w maps calls makers enders m s i m2 u machine told)

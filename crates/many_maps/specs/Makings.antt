@@ -1,4 +1,4 @@
--- Maps that are made among calls of many callers on other maps: whoever takes the next step, of a making or of a call, all stand together.
+-- Maps that are made among calls of many callers on other maps: under every interleaving of makings and calls the invariant of all holds.
 use Rattle.std.specs.Prelude.{◌≡◌, ◌≢◌, ℕ, ◌+◌, ◌*◌, ◌<◌, ◌≤◌, ◌^◌, ◌⊎◌, Bool, false, List, max, Option, Some, None}
 use Rattle.std.specs.Int.{IsPowerOfTwo}
 use Rattle.many_calls.specs.Given.SeizeWordsMem.{Mem, Can, Took, value_at, word_at}
@@ -37,7 +37,7 @@ use Rattle.many_calls.specs.Pairs.{Given}
 use Rattle.many_calls.specs.Claims.{AreFew}
 use Rattle.many_maps.specs.Maps.{Standing, IsSameMap, with_call, MapsTogether}
 use Rattle.many_calls.specs.Sights.{seen_by}
-use Rattle.many_calls.specs.Together.{RepliesTaken, OnKey, CallOnKey, UnderWay, UnlessCounts, HasCall, IsOfSlots, Closes, IsBegun, begun_at, next_of, change_told, no_blocks, StepsTogether, RowStepsTogether}
+use Rattle.many_calls.specs.Together.{RepliesTaken, OnKey, CallOnKey, UnderWay, UnlessCounts, HasCall, IsOfSlots, Closes, IsBegun, begun_at, next_of, change_observed, no_blocks, StepsTogether, RowStepsTogether}
 
 -- The making of a map that is under way: the number that the map is to have, the setting that the making began with, as many places as its first
 -- table is to have, 0 for no table, the hash of its keys, and the machine. The map stands from the step on at which the machine answers.
@@ -142,7 +142,7 @@ module _ {K Q : Type 0} (V : Type 0) (same : K → K → Bool) (asks : Q → K �
     pub roots_apart : (i m : ℕ) (b : Beginning K) (s : Standing K) → makers i ≡ Some b → maps m ≡ Some s → HasTaken b.machine.stands → b.machine.setting.root ≢ s.setting.root
     pub counters_apart : (i m : ℕ) (b : Beginning K) (s : Standing K) → makers i ≡ Some b → maps m ≡ Some s → HasMade b.machine.stands → b.machine.setting.counter ≢ s.setting.counter
 
-  -- they stand together as they were, but for what may be looked at
+  -- the invariant holds as before, but for what may be looked at
   abbrev pub AllMakingsStand : World (Node K V) → (ℕ → Option (Standing K)) → (ℕ → ℕ → Option (UnderWay K V Q)) → (ℕ → Option (Beginning K)) → Type 0
   AllMakingsStand w maps calls makers = (maps2 : ℕ → Option (Standing K)) × ((m : ℕ) → IsSameMap (maps m) (maps2 m)) × MakingsTogether w maps2 calls makers
 
@@ -172,13 +172,13 @@ module _ {K Q : Type 0} (V : Type 0) (same : K → K → Bool) (asks : Q → K �
 
   -- What a making has, its root and its counter, it has still as it goes on, unless the counter was taken away, and its map has it at the end. One that
   -- is refused has given its root up, and its counter was taken away; if it had no root, nothing is changed.
-  abbrev pub KeepsIts : World (Node K V) → World (Node K V) → NewMap → NewMap × Advance Setting → Type 0
-  KeepsIts w w2 n (n2, progress.Goes) =
+  abbrev pub PreservesItsOwn : World (Node K V) → World (Node K V) → NewMap → NewMap × Advance Setting → Type 0
+  PreservesItsOwn w w2 n (n2, progress.Goes) =
       (HasTaken n.stands → HasTaken n2.stands × (n2.setting.root ≡ n.setting.root))
       × (HasMade n.stands → (HasMade n2.stands × (n2.setting.counter ≡ n.setting.counter)) ⊎ (value_at w2.memory n.setting.counter ≡ None))
-  KeepsIts w w2 n (n2, progress.Waits) = ⊥
-  KeepsIts w w2 n (n2, progress.Done answer) = (HasTaken n.stands → answer.root ≡ n.setting.root) × (HasMade n.stands → answer.counter ≡ n.setting.counter)
-  KeepsIts w w2 n (n2, progress.Refused fault) =
+  PreservesItsOwn w w2 n (n2, progress.Waits) = ⊥
+  PreservesItsOwn w w2 n (n2, progress.Done answer) = (HasTaken n.stands → answer.root ≡ n.setting.root) × (HasMade n.stands → answer.counter ≡ n.setting.counter)
+  PreservesItsOwn w w2 n (n2, progress.Refused fault) =
       (HasTaken n.stands → IsFreeRoot w2 n.setting.root) × (HasMade n.stands → value_at w2.memory n.setting.counter ≡ None) × ((HasTaken n.stands → ⊥) → w2.memory ≡ w.memory)
 
   -- the making goes on with this root
@@ -198,11 +198,11 @@ module _ {K Q : Type 0} (V : Type 0) (same : K → K → Bool) (asks : Q → K �
 
   module _ (w : World (Node K V)) (maps : ℕ → Option (Standing K)) (calls : ℕ → ℕ → Option (UnderWay K V Q)) (makers : ℕ → Option (Beginning K)) (i : ℕ) (b : Beginning K) where
     -- A making goes on; or its map stands, open to calls, and the making is over; or it is over without a map. It never waits.
-    abbrev pub MakingTold : World (Node K V) → NewMap × Advance Setting → Type 0
-    MakingTold w2 (n, progress.Goes) = MakingsTogether w2 maps calls (with_at makers i (Some (record b { machine = n })))
-    MakingTold w2 (n, progress.Waits) = ⊥
-    MakingTold w2 (n, progress.Done answer) = (s : Standing K) × IsMade b answer s × MakingsTogether w2 (with_at maps b.map (Some s)) calls (with_at makers i None)
-    MakingTold w2 (n, progress.Refused fault) = MakingsTogether w2 maps calls (with_at makers i None)
+    abbrev pub MakingOutcome : World (Node K V) → NewMap × Advance Setting → Type 0
+    MakingOutcome w2 (n, progress.Goes) = MakingsTogether w2 maps calls (with_at makers i (Some (record b { machine = n })))
+    MakingOutcome w2 (n, progress.Waits) = ⊥
+    MakingOutcome w2 (n, progress.Done answer) = (s : Standing K) × IsMade b answer s × MakingsTogether w2 (with_at maps b.map (Some s)) calls (with_at makers i None)
+    MakingOutcome w2 (n, progress.Refused fault) = MakingsTogether w2 maps calls (with_at makers i None)
 
     -- Where a step of a making leads: users' events alone lead there, the maps that stood stand as they were, and what is nobody's is left alone. A block
     -- that is out is in the hands that had it, and what is out then was so, or is the first table of the making's map.
@@ -212,13 +212,13 @@ module _ {K Q : Type 0} (V : Type 0) (same : K → K → Bool) (asks : Q → K �
       pub users : AllUsers events
       pub runs : Runs deferred_word batch_size events w w2
       pub memory : w2.memory ≡ m2
-      pub keeps : KeepsIts w w2 b.machine end
+      pub keeps : PreservesItsOwn w w2 b.machine end
       pub rest : LeavesRest w w2 b.machine end
       pub outs : (x : ℕ) → IsOut (w.hand x) → w2.hand x ≡ w.hand x
       pub links : (x : ℕ) → IsOut (w2.hand x) → IsOut (w.hand x) ⊎ IsFirstTable w2 end x
-      pub told : MakingTold w2 end
+      pub told : MakingOutcome w2 end
 
-  -- The promise: whichever caller takes a step of its making, it may take it, and all stand together again.
+  -- The promise: whichever caller takes a step of its making, it may take it, and the invariant of all holds again.
   abbrev pub MakingsStand : Type 0
   MakingsStand =
       (w : World (Node K V)) (maps : ℕ → Option (Standing K)) (calls : ℕ → ℕ → Option (UnderWay K V Q)) (makers : ℕ → Option (Beginning K)) → MakingsTogether w maps calls makers
@@ -227,8 +227,8 @@ module _ {K Q : Type 0} (V : Type 0) (same : K → K → Bool) (asks : Q → K �
       × ((m2 : Mem (Node K V)) (end : NewMap × Advance Setting) → Steps Took value_at w.memory (new_map_plan b.machine) m2 end → StepsOfMaking w maps calls makers i b m2 end)
 
   -- A caller that has no call on any map, makes none, and has no row under way, begins a call on one, within its section.
-  abbrev pub CallsBeginBeside : Type 0
-  CallsBeginBeside =
+  abbrev pub CallsBeginWithMakings : Type 0
+  CallsBeginWithMakings =
       (w : World (Node K V)) (maps : ℕ → Option (Standing K)) (calls : ℕ → ℕ → Option (UnderWay K V Q)) (makers : ℕ → Option (Beginning K)) → MakingsTogether w maps calls makers
       → (i : ℕ) → makers i ≡ None → ((n : ℕ) → calls n i ≡ None) → w.row i ≡ Rests → IsInside (w.uses (slot i))
       → (m : ℕ) (s : Standing K) → maps m ≡ Some s → (is_incremental s.setting.mode ≡ false → AreFew (λ j. (j ≡ i) ⊎ HasCall (calls m) j))
@@ -236,46 +236,46 @@ module _ {K Q : Type 0} (V : Type 0) (same : K → K → Bool) (asks : Q → K �
       → MakingsTogether w maps (with_call calls m i (Some (OnKey (begun_at V same s.hash asks s.setting slot s.chart keys pair call)))) makers
 
   -- where a step of a call leads that is none of a row, with makings under way: they go on as they were
-  pub record StepsBeside (w : World (Node K V)) (maps : ℕ → Option (Standing K)) (calls : ℕ → ℕ → Option (UnderWay K V Q)) (makers : ℕ → Option (Beginning K)) (m : ℕ) (s : Standing K)
+  pub record StepsWithMakings (w : World (Node K V)) (maps : ℕ → Option (Standing K)) (calls : ℕ → ℕ → Option (UnderWay K V Q)) (makers : ℕ → Option (Beginning K)) (m : ℕ) (s : Standing K)
       (i : ℕ) (u : CallOnKey K V Q) (m2 : Mem (Node K V)) (p2 : KeyCall K V Q) (progress : Called (Node K V)) : Type 0 where
     pub step : StepsTogether V same s.hash asks s.setting slot w s.chart s.blocks s.sights (calls m) i u m2 p2 progress
     pub together : MakingsTogether step.went.w2 (with_at maps m (Some (record s { chart = step.went.c2; blocks = step.blocks2; sights = step.sights2 })))
-        (with_call calls m i (next_of (record { keys = u.keys; pair = u.pair; began = u.began; change = change_told V same s.hash asks s.setting slot step.went.told; call = p2 }) progress)) makers
+        (with_call calls m i (next_of (record { keys = u.keys; pair = u.pair; began = u.began; change = change_observed V same s.hash asks s.setting slot step.went.told; call = p2 }) progress)) makers
 
   -- The promise of steps of calls.
-  abbrev pub CallsStandBeside : Type 0
-  CallsStandBeside =
+  abbrev pub CallsPreserveWithMakings : Type 0
+  CallsPreserveWithMakings =
       (w : World (Node K V)) (maps : ℕ → Option (Standing K)) (calls : ℕ → ℕ → Option (UnderWay K V Q)) (makers : ℕ → Option (Beginning K)) → MakingsTogether w maps calls makers
       → (m : ℕ) (s : Standing K) → maps m ≡ Some s → (i : ℕ) (u : CallOnKey K V Q) → calls m i ≡ Some (OnKey u) → (IsRowOfCall u.call.stands → ⊥)
       → May Can Took value_at w.memory (call_plan asks same s.hash u.call)
       × ((m2 : Mem (Node K V)) (p2 : KeyCall K V Q) (progress : Called (Node K V)) → Steps Took value_at w.memory (call_plan asks same s.hash u.call) m2 (p2, progress)
-      → StepsBeside w maps calls makers m s i u m2 p2 progress)
+      → StepsWithMakings w maps calls makers m s i u m2 p2 progress)
 
   -- The promise of replies: makings go on as they were.
-  abbrev pub RepliesStandBeside : Type 0
-  RepliesStandBeside =
+  abbrev pub RepliesPreserveWithMakings : Type 0
+  RepliesPreserveWithMakings =
       (w : World (Node K V)) (maps : ℕ → Option (Standing K)) (calls : ℕ → ℕ → Option (UnderWay K V Q)) (makers : ℕ → Option (Beginning K)) → MakingsTogether w maps calls makers
       → (m : ℕ) (s : Standing K) → maps m ≡ Some s → (i : ℕ) (u : CallOnKey K V Q) → calls m i ≡ Some (OnKey u) → (asks_at : Asking) → u.call.stands ≡ calling.Asks asks_at
       → RepliesTaken V same s.hash asks s.setting slot s.chart (seen_by s.blocks (s.sights (slot i))) u asks_at (λ told. MakingsTogether w maps (with_call calls m i (Some (OnKey told))) makers)
 
   -- where a step of a row within a call leads
-  pub record RowStepsBeside (w : World (Node K V)) (maps : ℕ → Option (Standing K)) (calls : ℕ → ℕ → Option (UnderWay K V Q)) (makers : ℕ → Option (Beginning K)) (m : ℕ) (s : Standing K)
+  pub record RowStepsWithMakings (w : World (Node K V)) (maps : ℕ → Option (Standing K)) (calls : ℕ → ℕ → Option (UnderWay K V Q)) (makers : ℕ → Option (Beginning K)) (m : ℕ) (s : Standing K)
       (i : ℕ) (u : CallOnKey K V Q) (m2 : Mem (Node K V)) (p2 : KeyCall K V Q) (progress : Called (Node K V)) : Type 0 where
     pub step : RowStepsTogether V same s.hash asks s.setting slot w s.chart s.blocks s.sights (calls m) i u m2 p2 progress
     pub together : AllMakingsStand step.w2 maps (with_call calls m i (next_of (record { keys = u.keys; pair = u.pair; began = u.began; change = u.change; call = p2 }) progress)) makers
 
   -- The promise of the steps of rows within calls.
-  abbrev pub RowsStandBeside : Type 0
-  RowsStandBeside =
+  abbrev pub RowsPreserveWithMakings : Type 0
+  RowsPreserveWithMakings =
       (w : World (Node K V)) (maps : ℕ → Option (Standing K)) (calls : ℕ → ℕ → Option (UnderWay K V Q)) (makers : ℕ → Option (Beginning K)) → MakingsTogether w maps calls makers
       → (m : ℕ) (s : Standing K) → maps m ≡ Some s → (i : ℕ) (u : CallOnKey K V Q) → calls m i ≡ Some (OnKey u) → IsRowOfCall u.call.stands
       → May Can Took value_at w.memory (call_plan asks same s.hash u.call)
       × ((m2 : Mem (Node K V)) (p2 : KeyCall K V Q) (progress : Called (Node K V)) → Steps Took value_at w.memory (call_plan asks same s.hash u.call) m2 (p2, progress)
-      → RowStepsBeside w maps calls makers m s i u m2 p2 progress)
+      → RowStepsWithMakings w maps calls makers m s i u m2 p2 progress)
 
   -- The promise of rows between calls, of whoever has no call, whether it makes a map or not.
-  abbrev pub GuardsStandBeside : Type 0
-  GuardsStandBeside =
+  abbrev pub GuardsPreserveWithMakings : Type 0
+  GuardsPreserveWithMakings =
       (w : World (Node K V)) (maps : ℕ → Option (Standing K)) (calls : ℕ → ℕ → Option (UnderWay K V Q)) (makers : ℕ → Option (Beginning K)) → MakingsTogether w maps calls makers
       → (i : ℕ) → ((m : ℕ) → calls m i ≡ None)
       → ((request : Request) → IsOfSlots request → ((m j : ℕ) (u : UnderWay K V Q) → calls m j ≡ Some u → UnlessCounts u (Closes request (slot j) → ⊥))

@@ -1,4 +1,4 @@
--- Several maps on one collector, with calls of many callers on each: whoever takes the next step, all maps stand together.
+-- Several maps on one collector, with calls of many callers on each: under every interleaving the invariant of all maps holds.
 use Rattle.std.specs.Prelude.{◌≡◌, ◌≢◌, ◌≤◌, ℕ, ◌⊎◌, Bool, false, Option, Some, None}
 use Rattle.std.specs.Int.{IsPowerOfTwo}
 use Rattle.many_calls.specs.Given.SeizeWordsMem.{Mem, Can, Took, value_at, word_at}
@@ -23,8 +23,8 @@ use Rattle.many_calls.specs.Given.PointsTold.{IsRowOfCall}
 use Rattle.many_calls.specs.Pairs.{Given}
 use Rattle.many_calls.specs.Claims.{AreFew}
 use Rattle.many_calls.specs.Kept.{IsMaking}
-use Rattle.many_calls.specs.Sights.{Sight, IsPartOf, seen_by}
-use Rattle.many_calls.specs.Together.{RepliesTaken, CallOnKey, UnderWay, OnKey, UnlessCounts, HasCall, CameAbout, IsOfSlots, Closes, IsBegun, begun_at, next_of, change_told, no_blocks, no_sight, Together, StepsTogether, RowStepsTogether}
+use Rattle.many_calls.specs.Sights.{Visible, IsPartOf, seen_by}
+use Rattle.many_calls.specs.Together.{RepliesTaken, CallOnKey, UnderWay, OnKey, UnlessCounts, HasCall, CameAbout, IsOfSlots, Closes, IsBegun, begun_at, next_of, change_observed, no_blocks, no_sight, Together, StepsTogether, RowStepsTogether}
 
 -- a map that stands: its setting, the hash of its keys, its tables, the blocks that may be looked at, and what each section sees of them
 pub record Standing (K : Type 0) : Type 0 where
@@ -32,7 +32,7 @@ pub record Standing (K : Type 0) : Type 0 where
   pub hash : K → ℕ
   pub chart : Chart K
   pub blocks : Blocks
-  pub sights : ℕ → Sight
+  pub sights : ℕ → Visible
 
 -- one that has no table yet
 abbrev pub new_map : {K : Type 0} → Setting → (K → ℕ) → Standing K
@@ -45,7 +45,7 @@ with_call calls m i it = with_at calls m (with_at (calls m) i it)
 -- the map is as it was, but that fewer of its blocks may be looked at, and by whom
 abbrev pub IsSameMap : {K : Type 0} → Option (Standing K) → Option (Standing K) → Type 0
 IsSameMap None after = after ≡ None
-IsSameMap (Some s) after = (blocks : Blocks) × (sights : ℕ → Sight) × (after ≡ Some (record s { blocks = blocks; sights = sights })) × IsPartOf s.chart blocks s.blocks
+IsSameMap (Some s) after = (blocks : Blocks) × (sights : ℕ → Visible) × (after ≡ Some (record s { blocks = blocks; sights = sights })) × IsPartOf s.chart blocks s.blocks
 
 -- Maps by number, on a collector with batches of this size.
 module _ {K Q : Type 0} (V : Type 0) (same : K → K → Bool) (asks : Q → K → Bool) (batch_size : ℕ) (slot : ℕ → ℕ) where
@@ -59,7 +59,7 @@ module _ {K Q : Type 0} (V : Type 0) (same : K → K → Bool) (asks : Q → K �
     pub only : (m i : ℕ) → maps m ≡ None → calls m i ≡ None
     pub once : (m n i : ℕ) → HasCall (calls m) i → HasCall (calls n) i → m ≡ n
 
-  -- they stand together as they were, but for what may be looked at
+  -- the invariant holds as before, but for what may be looked at
   abbrev pub AllMapsStand : World (Node K V) → (ℕ → Option (Standing K)) → (ℕ → ℕ → Option (UnderWay K V Q)) → Type 0
   AllMapsStand w maps calls = (maps2 : ℕ → Option (Standing K)) × ((m : ℕ) → IsSameMap (maps m) (maps2 m)) × MapsTogether w maps2 calls
 
@@ -91,9 +91,10 @@ module _ {K Q : Type 0} (V : Type 0) (same : K → K → Bool) (asks : Q → K �
       (m2 : Mem (Node K V)) (p2 : KeyCall K V Q) (progress : Called (Node K V)) : Type 0 where
     pub step : StepsTogether V same s.hash asks s.setting slot w s.chart s.blocks s.sights (calls m) i u m2 p2 progress
     pub together : MapsTogether step.went.w2 (with_at maps m (Some (record s { chart = step.went.c2; blocks = step.blocks2; sights = step.sights2 })))
-        (with_call calls m i (next_of (record { keys = u.keys; pair = u.pair; began = u.began; change = change_told V same s.hash asks s.setting slot step.went.told; call = p2 }) progress))
+        (with_call calls m i (next_of (record { keys = u.keys; pair = u.pair; began = u.began; change = change_observed V same s.hash asks s.setting slot step.went.told; call = p2 }) progress))
 
-  -- The promise: whichever caller takes a step of its call, on whichever map, if it is none of a row, it may take it, and all maps stand together again.
+  -- The promise: whichever caller takes a step of its call, on whichever map, if it is none of a row, it may take it, and the invariant of all maps holds
+  -- again.
   abbrev pub CallsStandInMaps : Type 0
   CallsStandInMaps =
       (w : World (Node K V)) (maps : ℕ → Option (Standing K)) (calls : ℕ → ℕ → Option (UnderWay K V Q)) → MapsTogether w maps calls
@@ -102,8 +103,8 @@ module _ {K Q : Type 0} (V : Type 0) (same : K → K → Bool) (asks : Q → K �
       × ((m2 : Mem (Node K V)) (p2 : KeyCall K V Q) (progress : Called (Node K V)) → Steps Took value_at w.memory (call_plan asks same s.hash u.call) m2 (p2, progress)
       → StepsInMaps w maps calls m s i u m2 p2 progress)
 
-  -- The promise of replies: a call that asks, on whichever map, is told what to do, or what it does not take. All maps stand together then, as they were,
-  -- with that call and with all others.
+  -- The promise of replies: a call that asks, on whichever map, is told what to do, or what it does not take. The invariant of all maps holds then, as they
+  -- were, with that call and with all others.
   abbrev pub RepliesStandInMaps : Type 0
   RepliesStandInMaps =
       (w : World (Node K V)) (maps : ℕ → Option (Standing K)) (calls : ℕ → ℕ → Option (UnderWay K V Q)) → MapsTogether w maps calls

@@ -14,7 +14,7 @@ use Rattle.many_calls.specs.Given.RawDeclared.machines.end_map.EndMap.{EndMap}
 use Rattle.many_calls.specs.Given.PointsSteps.{AreLawful}
 use Rattle.many_calls.specs.Together.{UnderWay}
 use Rattle.many_maps.specs.Endings.{Finishing, finishing_of, AllPairsOnce, EndingsTogether}
-use Rattle.many_maps.specs.FactsEnds.{Deed, events_of, taken_by, BeganIn, EndFacts, HasBehind, back_of}
+use Rattle.many_maps.specs.FactsEnds.{Deed, events_of, taken_by, BeganIn, EndFacts, HasDeferred, back_of}
 use Rattle.many_maps.specs.Makings.{Beginning, IsFreeRoot}
 use Rattle.many_maps.specs.Maps.{Standing}
 
@@ -35,7 +35,7 @@ pub record OwnEndFacts {K V : Type 0} (same : K → K → Bool) (batch_size : �
 -- free.
 pub record HasEndedWhole {K V : Type 0} (w : World (Node K V)) (f : Finishing K V) : Type 0 where
   pub lists : ℕ → List ℕ
-  pub carried : (t : ℕ) → f.chart.first ≤ t → t < f.chart.past → HasBehind f.began (f.blocks.table t) (lists t)
+  pub carried : (t : ℕ) → f.chart.first ≤ t → t < f.chart.past → HasDeferred f.began (f.blocks.table t) (lists t)
   pub back_is : f.back ≡ back_of f.setting f.chart f.blocks lists true
   pub once : (x : ℕ) → times x f.back ≤ 1
   pub free : IsFreeRoot w f.setting.root
@@ -61,12 +61,12 @@ module _ {K Q : Type 0} (V : Type 0) (same : K → K → Bool) (asks : Q → K �
         → OwnEnding (with_at maps m None) calls makers enders w2 i (owning_end_of s w) × AllPairsOnce (is_incremental s.setting.mode) s.chart
 
     -- The end goes on, and has taken no block away; or it has taken one, whose value it hands out; or it is over. It never waits.
-    abbrev pub OwnEndingTold : Finishing K V → World (Node K V) → Deed → EndMap × Settled (Node K V) → Type 0
-    OwnEndingTold f w2 deed (e, settled.Goes) = (taken_by deed ≡ []) × OwnEnding maps calls makers enders w2 i (record f { machine = e })
-    OwnEndingTold f w2 deed (e, settled.Waits) = ⊥
-    OwnEndingTold f w2 deed (e, settled.Gave value) =
+    abbrev pub OwnEndingOutcome : Finishing K V → World (Node K V) → Deed → EndMap × Settled (Node K V) → Type 0
+    OwnEndingOutcome f w2 deed (e, settled.Goes) = (taken_by deed ≡ []) × OwnEnding maps calls makers enders w2 i (record f { machine = e })
+    OwnEndingOutcome f w2 deed (e, settled.Waits) = ⊥
+    OwnEndingOutcome f w2 deed (e, settled.Gave value) =
         (b : ℕ) × (value_at w.memory b ≡ Some value) × (taken_by deed ≡ b ∷ []) × OwnEnding maps calls makers enders w2 i (record f { machine = e; back = f.back ++ b ∷ [] })
-    OwnEndingTold f w2 deed (e, settled.Done) =
+    OwnEndingOutcome f w2 deed (e, settled.Done) =
         (taken_by deed ≡ []) × HasEndedWhole w2 f × EndingsTogether V same asks batch_size roots slot w2 maps calls makers enders
 
     -- where a step of it leads, by what it did
@@ -75,7 +75,7 @@ module _ {K Q : Type 0} (V : Type 0) (same : K → K → Bool) (asks : Q → K �
       pub deed : Deed
       pub runs : Runs deferred_word batch_size (events_of i deed) w w2
       pub memory : w2.memory ≡ m2
-      pub told : OwnEndingTold f w2 deed end
+      pub told : OwnEndingOutcome f w2 deed end
 
     -- The promise: whoever ends such a map may take each step, while nobody else takes one.
     abbrev pub OwnEndingsStand : Type 0

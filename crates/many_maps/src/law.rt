@@ -3,15 +3,15 @@ ghost use Rattle.std.specs.Prelude.{ℕ, Bool, Option};
 ghost use Rattle.many_calls.specs.Given.SeizeWorld.{World};
 ghost use Rattle.many_calls.specs.Given.TablesDeclared.node.Node.{Node};
 ghost use Rattle.many_calls.specs.Together.{UnderWay};
-ghost use Rattle.many_maps.specs.Makings.{Beginning, NoMakingsBegin, MakingsBegin, MakingsStand, CallsBeginBeside, CallsStandBeside, RepliesStandBeside, RowsStandBeside, GuardsStandBeside};
+ghost use Rattle.many_maps.specs.Makings.{Beginning, NoMakingsBegin, MakingsBegin, MakingsStand, CallsBeginWithMakings, CallsPreserveWithMakings, RepliesPreserveWithMakings, RowsPreserveWithMakings, GuardsPreserveWithMakings};
 ghost use Rattle.many_maps.specs.Owners.{OwnEndingsBegin, OwnEndingsStand};
 ghost use Rattle.many_maps.specs.Maps.{Standing, NoMapsBegin, MapsCome, CallsBeginInMaps, CallsStandInMaps, RepliesStandInMaps, RowsStandInMaps, GuardsStandInMaps};
-ghost use Rattle.many_maps.specs.Choices.{ChoicesStandAmong};
-ghost use Rattle.many_maps.specs.Countings.{CountingsBeginAmong, CountingsStandAmong};
-ghost use Rattle.many_maps.specs.Endings.{Finishing, NoEndingsBegin, EndingsBegin, EndingsStand, CallsBeginAmong, CallsStandAmong, RepliesStandAmong, RowsStandAmong, GuardsStandAmong, MakingsBeginAmong, MakingsStandAmong};
-ghost use Rattle.many_maps.specs.Machines.{MachinesStandAmong, MachinesToldAmong};
-ghost use Rattle.many_maps.specs.Rooms.{RoomsBeginAmong, RoomsStandAmong, RoomRowsStandAmong};
-ghost use Rattle.many_maps.specs.Sweeps.{SweepsBeginAmong, SweepsStandAmong, SweepsToldAmong, SweepRowsStandAmong, WalksStopAmong};
+ghost use Rattle.many_maps.specs.Choices.{ChoicesPreserveTheInvariant};
+ghost use Rattle.many_maps.specs.Countings.{CountingsBeginWithEndings, CountingsPreserveWithEndings};
+ghost use Rattle.many_maps.specs.Endings.{Finishing, NoEndingsBegin, EndingsBegin, EndingsStand, CallsBeginWithEndings, CallsPreserveWithEndings, RepliesPreserveWithEndings, RowsPreserveWithEndings, GuardsPreserveWithEndings, MakingsBeginWithEndings, MakingsPreserveWithEndings};
+ghost use Rattle.many_maps.specs.Machines.{MachinesPreserveWithEndings, MachinesRepliedWithEndings};
+ghost use Rattle.many_maps.specs.Rooms.{RoomsBeginWithEndings, RoomsPreserveWithEndings, RoomRowsPreserveWithEndings};
+ghost use Rattle.many_maps.specs.Sweeps.{SweepsBeginWithEndings, SweepsPreserveWithEndings, SweepsRepliedWithEndings, SweepRowsPreserveWithEndings, WalksStopWithEndings};
 
 /// Maps end meanwhile. Any number of callers that have no call and make no map end maps of the same collector, each one at most, on which nobody has
 /// a call, and take their steps in any order among those of calls, rows and makings. From the first moment on the map does not stand, and its pairs
@@ -24,18 +24,18 @@ pub fn maps_end_meanwhile<K, V, Q>()
     ensures starts { (same : K → K → Bool) (asks : Q → K → Bool) (batch_size : ℕ) (roots : ℕ) (slot : ℕ → ℕ) → NoEndingsBegin {Q = Q} V same asks batch_size roots slot }
     ensures begins { (same : K → K → Bool) (asks : Q → K → Bool) (batch_size : ℕ) (roots : ℕ) (slot : ℕ → ℕ) → EndingsBegin {Q = Q} V same asks batch_size roots slot }
     ensures steps { (same : K → K → Bool) (asks : Q → K → Bool) (batch_size : ℕ) (roots : ℕ) (slot : ℕ → ℕ) → EndingsStand {Q = Q} V same asks batch_size roots slot }
-    ensures calls_begin { (same : K → K → Bool) (asks : Q → K → Bool) (batch_size : ℕ) (roots : ℕ) (slot : ℕ → ℕ) → CallsBeginAmong V same asks batch_size roots slot }
-    ensures calls_step { (same : K → K → Bool) (asks : Q → K → Bool) (batch_size : ℕ) (roots : ℕ) (slot : ℕ → ℕ) → CallsStandAmong V same asks batch_size roots slot }
-    ensures replies { (same : K → K → Bool) (asks : Q → K → Bool) (batch_size : ℕ) (roots : ℕ) (slot : ℕ → ℕ) → RepliesStandAmong V same asks batch_size roots slot }
-    ensures rows { (same : K → K → Bool) (asks : Q → K → Bool) (batch_size : ℕ) (roots : ℕ) (slot : ℕ → ℕ) → RowsStandAmong V same asks batch_size roots slot }
-    ensures guards { (same : K → K → Bool) (asks : Q → K → Bool) (batch_size : ℕ) (roots : ℕ) (slot : ℕ → ℕ) → GuardsStandAmong V same asks batch_size roots slot }
-    ensures makings_begin { (same : K → K → Bool) (asks : Q → K → Bool) (batch_size : ℕ) (roots : ℕ) (slot : ℕ → ℕ) → MakingsBeginAmong {Q = Q} V same asks batch_size roots slot }
-    ensures makings_step { (same : K → K → Bool) (asks : Q → K → Bool) (batch_size : ℕ) (roots : ℕ) (slot : ℕ → ℕ) → MakingsStandAmong {Q = Q} V same asks batch_size roots slot }
+    ensures calls_begin { (same : K → K → Bool) (asks : Q → K → Bool) (batch_size : ℕ) (roots : ℕ) (slot : ℕ → ℕ) → CallsBeginWithEndings V same asks batch_size roots slot }
+    ensures calls_step { (same : K → K → Bool) (asks : Q → K → Bool) (batch_size : ℕ) (roots : ℕ) (slot : ℕ → ℕ) → CallsPreserveWithEndings V same asks batch_size roots slot }
+    ensures replies { (same : K → K → Bool) (asks : Q → K → Bool) (batch_size : ℕ) (roots : ℕ) (slot : ℕ → ℕ) → RepliesPreserveWithEndings V same asks batch_size roots slot }
+    ensures rows { (same : K → K → Bool) (asks : Q → K → Bool) (batch_size : ℕ) (roots : ℕ) (slot : ℕ → ℕ) → RowsPreserveWithEndings V same asks batch_size roots slot }
+    ensures guards { (same : K → K → Bool) (asks : Q → K → Bool) (batch_size : ℕ) (roots : ℕ) (slot : ℕ → ℕ) → GuardsPreserveWithEndings V same asks batch_size roots slot }
+    ensures makings_begin { (same : K → K → Bool) (asks : Q → K → Bool) (batch_size : ℕ) (roots : ℕ) (slot : ℕ → ℕ) → MakingsBeginWithEndings {Q = Q} V same asks batch_size roots slot }
+    ensures makings_step { (same : K → K → Bool) (asks : Q → K → Bool) (batch_size : ℕ) (roots : ℕ) (slot : ℕ → ℕ) → MakingsPreserveWithEndings {Q = Q} V same asks batch_size roots slot }
 {}
 
-/// And the number of the next block may be chosen at any moment: all stand together then as they were.
+/// And the number of the next block may be chosen at any moment: the invariant of all holds then as before.
 pub fn choices_stand_among<K, V, Q>()
-    ensures stands { (same : K → K → Bool) (asks : Q → K → Bool) (batch_size : ℕ) (roots : ℕ) (slot : ℕ → ℕ) → ChoicesStandAmong V same asks batch_size roots slot }
+    ensures stands { (same : K → K → Bool) (asks : Q → K → Bool) (batch_size : ℕ) (roots : ℕ) (slot : ℕ → ℕ) → ChoicesPreserveTheInvariant V same asks batch_size roots slot }
 {}
 
 /// A map that owns its collector ends, where it is the only one that stands, nothing else is under way, and nobody is inside of a slot. Whoever ends it may
@@ -51,15 +51,15 @@ pub fn maps_end_with_their_collector<K, V, Q>()
 /// Whichever caller takes the next step of its reservation may take it, that of a row of the collector within it, too. In its map it does what it does
 /// where that is the only one (`reservations_stand_together`), and all calls, makings and ends go on as they were.
 pub fn reservations_stand_among<K, V, Q>()
-    ensures begins { (same : K → K → Bool) (asks : Q → K → Bool) (batch_size : ℕ) (roots : ℕ) (slot : ℕ → ℕ) → RoomsBeginAmong V same asks batch_size roots slot }
-    ensures steps { (same : K → K → Bool) (asks : Q → K → Bool) (batch_size : ℕ) (roots : ℕ) (slot : ℕ → ℕ) → RoomsStandAmong V same asks batch_size roots slot }
-    ensures rows { (same : K → K → Bool) (asks : Q → K → Bool) (batch_size : ℕ) (roots : ℕ) (slot : ℕ → ℕ) → RoomRowsStandAmong V same asks batch_size roots slot }
+    ensures begins { (same : K → K → Bool) (asks : Q → K → Bool) (batch_size : ℕ) (roots : ℕ) (slot : ℕ → ℕ) → RoomsBeginWithEndings V same asks batch_size roots slot }
+    ensures steps { (same : K → K → Bool) (asks : Q → K → Bool) (batch_size : ℕ) (roots : ℕ) (slot : ℕ → ℕ) → RoomsPreserveWithEndings V same asks batch_size roots slot }
+    ensures rows { (same : K → K → Bool) (asks : Q → K → Bool) (batch_size : ℕ) (roots : ℕ) (slot : ℕ → ℕ) → RoomRowsPreserveWithEndings V same asks batch_size roots slot }
 {}
 
 /// And so do countings of the pairs of maps (`countings_stand_together`): their steps change nothing.
 pub fn countings_stand_among<K, V, Q>()
-    ensures begins { (same : K → K → Bool) (asks : Q → K → Bool) (batch_size : ℕ) (roots : ℕ) (slot : ℕ → ℕ) → CountingsBeginAmong V same asks batch_size roots slot }
-    ensures steps { (same : K → K → Bool) (asks : Q → K → Bool) (batch_size : ℕ) (roots : ℕ) (slot : ℕ → ℕ) → CountingsStandAmong V same asks batch_size roots slot }
+    ensures begins { (same : K → K → Bool) (asks : Q → K → Bool) (batch_size : ℕ) (roots : ℕ) (slot : ℕ → ℕ) → CountingsBeginWithEndings V same asks batch_size roots slot }
+    ensures steps { (same : K → K → Bool) (asks : Q → K → Bool) (batch_size : ℕ) (roots : ℕ) (slot : ℕ → ℕ) → CountingsPreserveWithEndings V same asks batch_size roots slot }
 {}
 
 /// And so do walks, clearings and retainings of maps. A caller that has no call, makes no map and ends none may begin one over a map that stands, within its
@@ -67,21 +67,21 @@ pub fn countings_stand_among<K, V, Q>()
 /// any later moment. In its map it does what it does where that is the only one (`sweeps_stand_together`), and all calls, makings and ends go on as they
 /// were.
 pub fn sweeps_stand_among<K, V, Q>()
-    ensures begins { (same : K → K → Bool) (asks : Q → K → Bool) (batch_size : ℕ) (roots : ℕ) (slot : ℕ → ℕ) → SweepsBeginAmong V same asks batch_size roots slot }
-    ensures steps { (same : K → K → Bool) (asks : Q → K → Bool) (batch_size : ℕ) (roots : ℕ) (slot : ℕ → ℕ) → SweepsStandAmong V same asks batch_size roots slot }
-    ensures told { (same : K → K → Bool) (asks : Q → K → Bool) (batch_size : ℕ) (roots : ℕ) (slot : ℕ → ℕ) → SweepsToldAmong V same asks batch_size roots slot }
-    ensures rows { (same : K → K → Bool) (asks : Q → K → Bool) (batch_size : ℕ) (roots : ℕ) (slot : ℕ → ℕ) → SweepRowsStandAmong V same asks batch_size roots slot }
-    ensures stops { (same : K → K → Bool) (asks : Q → K → Bool) (batch_size : ℕ) (roots : ℕ) (slot : ℕ → ℕ) → WalksStopAmong V same asks batch_size roots slot }
+    ensures begins { (same : K → K → Bool) (asks : Q → K → Bool) (batch_size : ℕ) (roots : ℕ) (slot : ℕ → ℕ) → SweepsBeginWithEndings V same asks batch_size roots slot }
+    ensures steps { (same : K → K → Bool) (asks : Q → K → Bool) (batch_size : ℕ) (roots : ℕ) (slot : ℕ → ℕ) → SweepsPreserveWithEndings V same asks batch_size roots slot }
+    ensures told { (same : K → K → Bool) (asks : Q → K → Bool) (batch_size : ℕ) (roots : ℕ) (slot : ℕ → ℕ) → SweepsRepliedWithEndings V same asks batch_size roots slot }
+    ensures rows { (same : K → K → Bool) (asks : Q → K → Bool) (batch_size : ℕ) (roots : ℕ) (slot : ℕ → ℕ) → SweepRowsPreserveWithEndings V same asks batch_size roots slot }
+    ensures stops { (same : K → K → Bool) (asks : Q → K → Bool) (batch_size : ℕ) (roots : ℕ) (slot : ℕ → ℕ) → WalksStopWithEndings V same asks batch_size roots slot }
 {}
 
 /// One law for all kinds. Whichever caller takes the next step of the machine that it has under way on a map, be that a call on one key, a reservation, a
 /// counting or a sweep, or a row of the collector within it, it may take it. The map stands on, with its history, the others as they were, and all calls,
-/// makings and ends with them; the caller has the machine under way that the step has left, or none, if that has answered or was refused. What the step
-/// did is what the law of its kind says, and led there. No row of another caller has gone on. And whatever it is told at any moment, or if it is asked for the
-/// next pair, all stand together then: a call that asks goes on by that, with what it was told, and one that takes no reply goes on as it was.
+/// makings and ends with them; the caller has the machine under way that the step has left, or none, if that has answered or was refused. What the step did is
+/// what the law of its kind says, and led there. No row of another caller has gone on. And whatever it is told at any moment, or if it is asked for the next
+/// pair, the invariant of all holds then: a call that asks goes on by that, with what it was told, and one that takes no reply goes on as it was.
 pub fn machines_stand_among<K, V, Q>()
-    ensures steps { (same : K → K → Bool) (asks : Q → K → Bool) (batch_size : ℕ) (roots : ℕ) (slot : ℕ → ℕ) → MachinesStandAmong V same asks batch_size roots slot }
-    ensures told { (same : K → K → Bool) (asks : Q → K → Bool) (batch_size : ℕ) (roots : ℕ) (slot : ℕ → ℕ) → MachinesToldAmong V same asks batch_size roots slot }
+    ensures steps { (same : K → K → Bool) (asks : Q → K → Bool) (batch_size : ℕ) (roots : ℕ) (slot : ℕ → ℕ) → MachinesPreserveWithEndings V same asks batch_size roots slot }
+    ensures told { (same : K → K → Bool) (asks : Q → K → Bool) (batch_size : ℕ) (roots : ℕ) (slot : ℕ → ℕ) → MachinesRepliedWithEndings V same asks batch_size roots slot }
 {}
 
 /// So do the calls on any number of maps on one collector. Any number of callers have calls under way, each one at most, on whichever map, and
@@ -110,9 +110,9 @@ pub fn maps_are_made<K, V, Q>()
     ensures starts { (same : K → K → Bool) (asks : Q → K → Bool) (batch_size : ℕ) (roots : ℕ) (slot : ℕ → ℕ) → NoMakingsBegin {Q = Q} V same asks batch_size roots slot }
     ensures begins { (same : K → K → Bool) (asks : Q → K → Bool) (batch_size : ℕ) (roots : ℕ) (slot : ℕ → ℕ) → MakingsBegin {Q = Q} V same asks batch_size roots slot }
     ensures steps { (same : K → K → Bool) (asks : Q → K → Bool) (batch_size : ℕ) (roots : ℕ) (slot : ℕ → ℕ) → MakingsStand {Q = Q} V same asks batch_size roots slot }
-    ensures calls_begin { (same : K → K → Bool) (asks : Q → K → Bool) (batch_size : ℕ) (roots : ℕ) (slot : ℕ → ℕ) → CallsBeginBeside V same asks batch_size roots slot }
-    ensures calls_step { (same : K → K → Bool) (asks : Q → K → Bool) (batch_size : ℕ) (roots : ℕ) (slot : ℕ → ℕ) → CallsStandBeside V same asks batch_size roots slot }
-    ensures replies { (same : K → K → Bool) (asks : Q → K → Bool) (batch_size : ℕ) (roots : ℕ) (slot : ℕ → ℕ) → RepliesStandBeside V same asks batch_size roots slot }
-    ensures rows { (same : K → K → Bool) (asks : Q → K → Bool) (batch_size : ℕ) (roots : ℕ) (slot : ℕ → ℕ) → RowsStandBeside V same asks batch_size roots slot }
-    ensures guards { (same : K → K → Bool) (asks : Q → K → Bool) (batch_size : ℕ) (roots : ℕ) (slot : ℕ → ℕ) → GuardsStandBeside V same asks batch_size roots slot }
+    ensures calls_begin { (same : K → K → Bool) (asks : Q → K → Bool) (batch_size : ℕ) (roots : ℕ) (slot : ℕ → ℕ) → CallsBeginWithMakings V same asks batch_size roots slot }
+    ensures calls_step { (same : K → K → Bool) (asks : Q → K → Bool) (batch_size : ℕ) (roots : ℕ) (slot : ℕ → ℕ) → CallsPreserveWithMakings V same asks batch_size roots slot }
+    ensures replies { (same : K → K → Bool) (asks : Q → K → Bool) (batch_size : ℕ) (roots : ℕ) (slot : ℕ → ℕ) → RepliesPreserveWithMakings V same asks batch_size roots slot }
+    ensures rows { (same : K → K → Bool) (asks : Q → K → Bool) (batch_size : ℕ) (roots : ℕ) (slot : ℕ → ℕ) → RowsPreserveWithMakings V same asks batch_size roots slot }
+    ensures guards { (same : K → K → Bool) (asks : Q → K → Bool) (batch_size : ℕ) (roots : ℕ) (slot : ℕ → ℕ) → GuardsPreserveWithMakings V same asks batch_size roots slot }
 {}

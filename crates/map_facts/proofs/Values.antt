@@ -6,6 +6,4 @@ pub mod Copying
 pub mod Copiers
 pub mod Sought
 pub mod Steps
-pub mod Seeks
 pub mod Own
-pub mod Never

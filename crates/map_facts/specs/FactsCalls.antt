@@ -35,7 +35,7 @@ use Rattle.map_rule.specs.Words.{Blocks, place_word}
 use Rattle.map_rule.specs.Maps.{spot_of, IsTable, IsTrial, IsClass, NoneBefore, IsAbsent, IsPair}
 use Rattle.map_facts.specs.FactsTables.{NewTableFacts}
 use Rattle.map_facts.specs.FactsLooks.{LookupFacts}
-use Rattle.map_facts.specs.FactsDisposes.{StandsBefore, StandsNowhere, HasLeft, DisposeFacts}
+use Rattle.map_facts.specs.FactsDisposes.{LiesBefore, LiesNowhere, HasLeft, DisposeFacts}
 use Rattle.map_facts.specs.FactsCopies.{CopierFacts}
 use Rattle.map_facts.specs.FactsCopiesBlocking.{CopierFactsBlocking}
 use Rattle.map_facts.specs.FactsIdle.{IsIdle}
@@ -175,12 +175,12 @@ module _ {K V Q : Type 0} (same : K → K → Bool) (hash : K → ℕ) (asks : Q
   IsKnown n = (n < c.stored) × (blocks.pair_known n ≡ true)
 
   -- an answer tells a change
-  abbrev pub Tells : Change → KeyAnswer → Type 0
-  Tells (Stored n) (answers.Stored word) = IsKnown n × (word ≡ place_word hash c blocks (Holds n Still false))
-  Tells (Replaced o n) (answers.Replaced old new) =
+  abbrev pub AnswersChange : Change → KeyAnswer → Type 0
+  AnswersChange (Stored n) (answers.Stored word) = IsKnown n × (word ≡ place_word hash c blocks (Holds n Still false))
+  AnswersChange (Replaced o n) (answers.Replaced old new) =
       IsKnown o × IsKnown n × (borrowed : Bool) × (old ≡ place_word hash c blocks (Holds o Still borrowed)) × (new ≡ place_word hash c blocks (Holds n Still false))
-  Tells (Removed n) (answers.Removed word) = IsKnown n × (borrowed : Bool) × (word ≡ place_word hash c blocks (Holds n Still borrowed))
-  Tells _ _ = ⊥
+  AnswersChange (Removed n) (answers.Removed word) = IsKnown n × (borrowed : Bool) × (word ≡ place_word hash c blocks (Holds n Still borrowed))
+  AnswersChange _ _ = ⊥
 
   -- until it has changed something, or ends
   abbrev pub Seeks : Calling → Type 0
@@ -237,9 +237,9 @@ module _ {K V Q : Type 0} (same : K → K → Bool) (hash : K → ℕ) (asks : Q
       ((removed ≡ 0) × (n : ℕ) × (change ≡ Stored n) × IsKnown n × (p.own ≡ place_word hash c blocks (Holds n Still false)))
       ⊎ ((n : ℕ) × (t : ℕ) × (borrowed : Bool) × (change ≡ Removed n) × HasLeft w caller setting c blocks n × (removed ≡ place_word hash c blocks (Holds n Still borrowed))
       × IsTable c blocks p.trial.table t
-      × cond (cond (is_incremental setting.mode) borrowed false) ((w.hand (blocks.pair n) ≡ Parting caller) × StandsBefore w caller setting c blocks n t)
-      ((w.hand (blocks.pair n) ≡ Cutting caller) × StandsNowhere w caller setting c blocks n))
-  CallingFacts p (at.Disposes dispose answer) = DisposeFacts w caller setting c blocks dispose × Tells change answer
+      × cond (cond (is_incremental setting.mode) borrowed false) ((w.hand (blocks.pair n) ≡ Parting caller) × LiesBefore w caller setting c blocks n t)
+      ((w.hand (blocks.pair n) ≡ Cutting caller) × LiesNowhere w caller setting c blocks n))
+  CallingFacts p (at.Disposes dispose answer) = DisposeFacts w caller setting c blocks dispose × AnswersChange change answer
   CallingFacts p (at.Drops end) = (change ≡ Unchanged) × IsOwnPair p.own p.hash
   CallingFacts p (at.Over end) = change ≡ Unchanged
 

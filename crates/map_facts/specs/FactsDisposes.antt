@@ -27,22 +27,22 @@ module _ {K V : Type 0} (w : World (Node K V)) (caller : ℕ) (setting : Setting
     HasLeft n = (n < c.stored) × (blocks.pair_known n ≡ true) × (c.current n ≡ false)
 
     -- it stands in tables before this one alone
-    abbrev pub StandsBefore : ℕ → ℕ → Type 0
-    StandsBefore n t = (u j : ℕ) (phase : Phase) (borrowed : Bool) → c.place u j ≡ Holds n phase borrowed → u < t
+    abbrev pub LiesBefore : ℕ → ℕ → Type 0
+    LiesBefore n t = (u j : ℕ) (phase : Phase) (borrowed : Bool) → c.place u j ≡ Holds n phase borrowed → u < t
 
     -- no table that is linked names it
-    abbrev pub StandsNowhere : ℕ → Type 0
-    StandsNowhere n = (u j : ℕ) (phase : Phase) (borrowed : Bool) → c.first ≤ u → u < c.past → c.place u j ≢ Holds n phase borrowed
+    abbrev pub LiesNowhere : ℕ → Type 0
+    LiesNowhere n = (u j : ℕ) (phase : Phase) (borrowed : Bool) → c.first ≤ u → u < c.past → c.place u j ≢ Holds n phase borrowed
 
     -- pair n was taken out of table t
     abbrev pub DisposingFacts : ℕ → ℕ → Disposing → Type 0
-    DisposingFacts n t (at.Settles settle) = IsToRetire settle (blocks.pair n) × StandsNowhere n
-    DisposingFacts n t at.Reads = (is_incremental setting.mode ≡ true) × (w.hand (blocks.pair n) ≡ Parting caller) × StandsBefore n t
+    DisposingFacts n t (at.Settles settle) = IsToRetire settle (blocks.pair n) × LiesNowhere n
+    DisposingFacts n t at.Reads = (is_incremental setting.mode ≡ true) × (w.hand (blocks.pair n) ≡ Parting caller) × LiesBefore n t
     DisposingFacts n t (at.Walks table) =
-        (is_incremental setting.mode ≡ true) × (w.hand (blocks.pair n) ≡ Parting caller) × StandsBefore n t
+        (is_incremental setting.mode ≡ true) × (w.hand (blocks.pair n) ≡ Parting caller) × LiesBefore n t
         × (u : ℕ) × (u < t) × (blocks.table_known u ≡ true) × (table ≡ blocks.table u * 2048)
     DisposingFacts n t (at.Defers defer) =
-        (w.hand (blocks.pair n) ≡ Parting caller) × StandsBefore n t
+        (w.hand (blocks.pair n) ≡ Parting caller) × LiesBefore n t
         × (u : ℕ) × (suc u ≡ t) × (blocks.table_known u ≡ true) × (defer ≡ deferring (blocks.pair n * 2048) (Word (blocks.table u) DEFERRED))
         × (is_incremental setting.mode ≡ true)
     DisposingFacts n t at.Over = Unit {0}

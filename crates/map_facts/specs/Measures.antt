@@ -1,4 +1,4 @@
--- Numbers that show that machines come to an end: each step that goes on leads to lower ones.
+-- Numbers that show that machines terminate: each step that goes on leads to lower ones.
 use Rattle.std.specs.Prelude.{◌≡◌, ℕ, ◌<◌, false, List, [], ◌∷◌, length, ◌⊎◌}
 use Rattle.map_rule.specs.Chart.{Chart}
 use Rattle.map_rule.specs.Moves.{is_of_caller}
@@ -9,11 +9,11 @@ IsBelow [] ys = ⊥
 IsBelow (x ∷ xs) [] = ⊥
 IsBelow (x ∷ xs) (y ∷ ys) = (x < y) ⊎ ((x ≡ y) × IsBelow xs ys)
 
--- from these numbers on, going on to lower ones, as many, comes to an end
+-- from these numbers on, going on to lower ones, as many, terminates
 pub data EndsFrom : List ℕ → Type 0 where
   ends : (xs : List ℕ) → ((ys : List ℕ) → length ys ≡ length xs → IsBelow ys xs → EndsFrom ys) → EndsFrom xs
 
--- each descent comes to an end
+-- each descent terminates
 abbrev pub DescentsEnd : Type 0
 DescentsEnd = (numbers : List ℕ) → EndsFrom numbers
 

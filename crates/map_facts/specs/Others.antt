@@ -8,7 +8,7 @@ use Rattle.papaya_raw.specs.Given.TablesDeclared.setting.Setting.{Setting}
 use Rattle.map_rule.specs.Chart.{Chart}
 use Rattle.map_rule.specs.Words.{Blocks}
 use Rattle.map_rule.specs.Maps.{spot_of}
-use Rattle.map_rule.specs.InWorld.{IsMapIn, KeepsBlocks, Went}
+use Rattle.map_rule.specs.InWorld.{IsMapIn, PreservesBlocks, StepSpec}
 use Rattle.map_rule.specs.Moments.{Moments}
 use Rattle.map_rule.specs.Leaves.{Leaves}
 use Rattle.map_facts.specs.Steps.{AreLawful}
@@ -22,12 +22,12 @@ module _ {K V : Type 0} (same : K → K → Bool) (hash : K → ℕ) (setting : 
     pub pairs : (n : ℕ) → n < c.stored → blocks.pair_known n ≡ true → (blocks2.pair n ≡ blocks.pair n) × (blocks2.pair_known n ≡ true)
     pub values : (n : ℕ) → n < c.stored → blocks.pair_known n ≡ true → value_at w2.memory (blocks.pair n) ≡ value_at w.memory (blocks.pair n)
     -- what it has it has still
-    pub own : KeepsBlocks caller w.memory w.hand w2.memory w2.hand
+    pub own : PreservesBlocks caller w.memory w.hand w2.memory w2.hand
 
 module _ {K : Type 0} (V : Type 0) (same : K → K → Bool) (hash : K → ℕ) where
   -- The promise: each step of a caller is such a step to each other one.
   abbrev pub StepsAreOfOthers : Type 0
   StepsAreOfOthers =
       AreLawful same hash → (setting : Setting) (caller : ℕ) (w : World (Node K V)) (c : Chart K) (blocks : Blocks) → IsMapIn same hash setting w c blocks → Moments (is_incremental setting.mode) c
-      → (m2 : Mem (Node K V)) (went : Went same hash setting caller w c blocks m2 (λ w2 c2 blocks2. Unit {0})) (i : ℕ) → i ≢ caller
+      → (m2 : Mem (Node K V)) (went : StepSpec same hash setting caller w c blocks m2 (λ w2 c2 blocks2. Unit {0})) (i : ℕ) → i ≢ caller
       → OthersStep same hash setting i w c blocks went.w2 went.c2 went.blocks2

@@ -23,16 +23,16 @@ use Rattle.map_rule.specs.Chart.{Chart}
 use Rattle.map_rule.specs.Rule.{IsLawful}
 use Rattle.map_rule.specs.Words.{Blocks}
 use Rattle.map_rule.specs.Maps.{spot_of, IsClass, IsMap}
-use Rattle.map_rule.specs.InWorld.{IsMapIn, Went}
+use Rattle.map_rule.specs.InWorld.{IsMapIn, StepSpec}
 use Rattle.map_facts.specs.FactsLooks.{LookupFacts}
 use Rattle.map_facts.specs.FactsCalls.{Change, Unchanged, CallFacts}
-use Rattle.map_facts.specs.Told.{LookupTold, IsRowOfCall, HasAnswered, CallTold}
+use Rattle.map_facts.specs.Told.{LookupOutcome, IsRowOfCall, HasAnswered, CallOutcome}
 use Rattle.map_facts.specs.FactsIdle.{IsIdle}
 
 -- what a call may know from the beginning is to be stored where its key is missing
-abbrev pub told_first : {V : Type 0} → Option V → Told V
-told_first (Some value) = tells.Value value
-told_first None = tells.Nothing
+abbrev pub first_reply : {V : Type 0} → Option V → Told V
+first_reply (Some value) = tells.Value value
+first_reply None = tells.Nothing
 
 -- keys are lawful, and a hash is a word
 pub record AreLawful {K : Type 0} (same : K → K → Bool) (hash : K → ℕ) : Type 0 where
@@ -52,20 +52,20 @@ module _ {K : Type 0} (V : Type 0) (same : K → K → Bool) (hash : K → ℕ) 
       → IsClass same hash keys code → IsMap same hash mode root m c blocks → LookupFacts same hash mode root keys code c blocks l
       → May Can Took value_at m (lookup_plan keys l)
       × ((m2 : Mem (Node K V)) (end : Lookup × Advance (Option ℕ)) → Steps Took value_at m (lookup_plan keys l) m2 end
-      → (m2 ≡ m) × LookupTold same hash mode root keys code c blocks end)
+      → (m2 ≡ m) × LookupOutcome same hash mode root keys code c blocks end)
 
 module _ {K Q : Type 0} (V : Type 0) (same : K → K → Bool) (hash : K → ℕ) (asks : Q → K → Bool) where
   -- Where a map stands in the collector's world, a call that knows what its point knows may take its step, if that is no step of a row of the
   -- collector. It makes one move at most, and the map stands where it leads. A call changes the map in one step at most, and this is the change
   -- that it tells; one that changes nothing tells what is so.
-  abbrev pub CallsKeepTheMap : Type 0
-  CallsKeepTheMap =
+  abbrev pub CallsPreserveTheMap : Type 0
+  CallsPreserveTheMap =
       AreLawful same hash → (setting : Setting) → IsPowerOfTwo setting.initial
       → (w : World (Node K V)) (caller : ℕ) (c : Chart K) (blocks : Blocks) (keys : K → Bool) (change : Change) (p : KeyCall K V Q)
       → IsMapIn same hash setting w c blocks → CallFacts same hash asks w caller setting c blocks keys change p → (IsRowOfCall p.stands → ⊥)
       → May Can Took value_at w.memory (call_plan asks same hash p)
       × ((m2 : Mem (Node K V)) (p2 : KeyCall K V Q) (progress : Called (Node K V)) → Steps Took value_at w.memory (call_plan asks same hash p) m2 (p2, progress)
-      → Went same hash setting caller w c blocks m2 (λ w2 c2 blocks2. CallTold same hash asks caller setting keys c change p w2 c2 blocks2 p2 progress))
+      → StepSpec same hash setting caller w c blocks m2 (λ w2 c2 blocks2. CallOutcome same hash asks caller setting keys c change p w2 c2 blocks2 p2 progress))
 
   -- a call that has changed nothing knows what its point knows
   abbrev pub Begins : Setting → World (Node K V) → ℕ → Chart K → Blocks → (K → Bool) → KeyCall K V Q → Type 0
@@ -89,7 +89,7 @@ module _ {K Q : Type 0} (V : Type 0) (same : K → K → Bool) (hash : K → ℕ
       × ((key : K) (absent : Option V)
       → Begins setting w caller c blocks (same key) (computing setting (hash key) key)
       × Begins setting w caller c blocks (same key) (updating setting (hash key) key)
-      × Begins setting w caller c blocks (same key) (updating_or_inserting setting (hash key) key (told_first absent))
+      × Begins setting w caller c blocks (same key) (updating_or_inserting setting (hash key) key (first_reply absent))
       × Begins setting w caller c blocks (same key) (trying_to_insert_with setting (hash key) key))
 
   -- A call that is told what it has asked, or anything else, knows what its next point knows. What it is to answer then is what it has asked, and

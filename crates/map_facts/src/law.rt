@@ -2,7 +2,7 @@
 ghost use Rattle.std.specs.Prelude.{ℕ, Bool};
 ghost use Rattle.map_facts.specs.Looks.{LookupsLoad, LookupsLookOn};
 ghost use Rattle.map_facts.specs.MeasuresLooks.{LookupsAreShort};
-ghost use Rattle.map_facts.specs.Steps.{LookupsBegin, LookupsTell, CallsBegin, AskingCallsBegin, RepliesAreTaken, CallsKeepTheMap};
+ghost use Rattle.map_facts.specs.Steps.{LookupsBegin, LookupsTell, CallsBegin, AskingCallsBegin, RepliesAreTaken, CallsPreserveTheMap};
 
 /// Where a map stands in the collector's world, a call that knows what its program point is to know may take its step, if that is none of a row of
 /// the collector. It then knows what the next point is to know, and the map stands where the step leads, after one move of its tables at most. A call changes the map in one step at most. The step that comes to its answer
@@ -13,7 +13,7 @@ pub fn steps_keep_the_map<K, V, Q>()
     ensures calls_begin { (same : K → K → Bool) (hash : K → ℕ) (asks : Q → K → Bool) → CallsBegin V same hash asks }
     ensures asking_calls_begin { (same : K → K → Bool) (hash : K → ℕ) (asks : Q → K → Bool) → AskingCallsBegin V same hash asks }
     ensures replies { (same : K → K → Bool) (hash : K → ℕ) (asks : Q → K → Bool) → RepliesAreTaken V same hash asks }
-    ensures calls { (same : K → K → Bool) (hash : K → ℕ) (asks : Q → K → Bool) → CallsKeepTheMap V same hash asks }
+    ensures calls { (same : K → K → Bool) (hash : K → ℕ) (asks : Q → K → Bool) → CallsPreserveTheMap V same hash asks }
 {}
 
 /// Each step of a lookup is a load, until it has ended. It loads the root once, and in each table that it enters a word for each of its tries and the

@@ -18,14 +18,14 @@ use Rattle.map_facts.specs.Given.ResizeDeclared.new_table.Making.TheVariants as 
 use Rattle.map_facts.specs.Given.RuleChart.{Chart}
 use Rattle.map_facts.specs.Given.RuleWords.{Blocks}
 use Rattle.map_facts.specs.Given.RuleMaps.{IsTable}
-use Rattle.map_facts.specs.Given.RuleInWorld.{IsMapIn, Went, SparesPairs}
+use Rattle.map_facts.specs.Given.RuleInWorld.{IsMapIn, StepSpec, SparesPairs}
 use Rattle.map_facts.proofs.Given.RuleMoves.Writes.{put_elsewhere}
 use Rattle.map_facts.proofs.Given.RuleWorld.WentStill.{went_still, spares_same}
 use Rattle.map_facts.specs.FactsTables.{first_status}
 use Rattle.map_facts.specs.Told.{OnlyLinks}
 use Rattle.map_facts.proofs.Making.TableDrops.{may_drops, drops_tell}
 use Rattle.map_facts_late.specs.Left.{Left}
-use Rattle.map_facts_late.specs.LateCalls.{LateFirst, LateFirstFacts}
+use Rattle.map_facts_late.specs.LateCalls.{SupersededFirst, SupersededFirstFacts}
 
 module _ {K : Type 0} (hash : K → ℕ) (setting : Setting) (c c2 : Chart K) (began t : ℕ) where
   -- a table that the root has left stays so, where a table is linked
@@ -50,7 +50,7 @@ module _ {K V : Type 0} (same : K → K → Bool) (hash : K → ℕ) (caller : �
   abbrev pub FirstTells : World (Node K V) → Chart K → Blocks → NewTable × Advance Table → Type 0
   FirstTells w2 c2 blocks2 end = SparesPairs w w2 × (c2 ≡ c) × (table : Table) × (u : ℕ) × IsTable c2 blocks2 table u × Left c2 began u × (end.1 ≡ progress.Done table)
 
-  may_at : (stands : Point) → LateFirst w caller setting c blocks began stands → May Can Took value_at w.memory (plan_at making stands)
+  may_at : (stands : Point) → SupersededFirst w caller setting c blocks began stands → May Can Took value_at w.memory (plan_at making stands)
   may_at (makes.Drops table found) (own, planned, u, left, made, known, is) = may_drops same hash w caller setting c blocks map making table (first_status (Root setting.root)) own found u made known is
   may_at (makes.Over table) point = tt
   may_at (makes.Sums before reason sum) point = absurd point
@@ -59,8 +59,8 @@ module _ {K V : Type 0} (same : K → K → Bool) (hash : K → ℕ) (caller : �
   may_at (makes.Links table) point = absurd point
   may_at (makes.Refused fault) point = absurd point
 
-  went_at : (stands : Point) → LateFirst w caller setting c blocks began stands → (m2 : Mem (Node K V)) (end : NewTable × Advance Table) → Steps Took value_at w.memory (plan_at making stands) m2 end
-      → Went same hash setting caller w c blocks m2 (λ w2 c2 blocks2. FirstTells w2 c2 blocks2 end)
+  went_at : (stands : Point) → SupersededFirst w caller setting c blocks began stands → (m2 : Mem (Node K V)) (end : NewTable × Advance Table) → Steps Took value_at w.memory (plan_at making stands) m2 end
+      → StepSpec same hash setting caller w c blocks m2 (λ w2 c2 blocks2. FirstTells w2 c2 blocks2 end)
   went_at (makes.Drops table found) (own, planned, u, left, made, known, is) m2 end steps =
       drops_tell same hash w caller setting c blocks map making table (first_status (Root setting.root)) own found u made known is FirstTells
       (λ w2 map2 spares found_one entered. (spares, refl, found_one, u, entered, left, refl)) m2 end steps
@@ -73,9 +73,9 @@ module _ {K V : Type 0} (same : K → K → Bool) (hash : K → ℕ) (caller : �
   went_at (makes.Links table) point m2 end steps = absurd point
   went_at (makes.Refused fault) point m2 end steps = absurd point
 
-  pub may_first : LateFirstFacts w caller setting c blocks began making → May Can Took value_at w.memory (new_table_plan making)
+  pub may_first : SupersededFirstFacts w caller setting c blocks began making → May Can Took value_at w.memory (new_table_plan making)
   may_first facts = may_at making.stands facts.point
 
-  pub went_first : LateFirstFacts w caller setting c blocks began making → (m2 : Mem (Node K V)) (end : NewTable × Advance Table) → Steps Took value_at w.memory (new_table_plan making) m2 end
-      → Went same hash setting caller w c blocks m2 (λ w2 c2 blocks2. FirstTells w2 c2 blocks2 end)
+  pub went_first : SupersededFirstFacts w caller setting c blocks began making → (m2 : Mem (Node K V)) (end : NewTable × Advance Table) → Steps Took value_at w.memory (new_table_plan making) m2 end
+      → StepSpec same hash setting caller w c blocks m2 (λ w2 c2 blocks2. FirstTells w2 c2 blocks2 end)
   went_first facts m2 end steps = went_at making.stands facts.point m2 end steps

@@ -4,4 +4,3 @@ pub mod Late
 pub mod Laws
 pub mod Making
 pub mod Reserves
-pub mod Samples

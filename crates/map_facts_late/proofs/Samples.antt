@@ -1,5 +1,7 @@
 -- What may be answered from a table that the root has left, in tables of one place and one pair: it was removed since.
 pub mod Plans
+pub mod Rooms
+mod KindsKept
 use Rattle.std.proofs.Common.{◌≡◌, ℕ, suc, true, false, refl, eqb, arith, subst}
 use Rattle.map_facts.specs.Given.RawDeclared.machines.answer.KeyAnswer.TheVariants as answers
 use Rattle.map_facts.specs.Given.RuleChart.{Chart, Still, Holds}

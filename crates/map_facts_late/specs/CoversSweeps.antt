@@ -17,12 +17,12 @@ use Rattle.map_facts.specs.Given.ReservesDeclared.sweep.Swept.TheVariants.{Pair}
 use Rattle.map_facts.specs.Given.RuleChart.{Chart}
 use Rattle.map_facts.specs.Given.RuleWords.{Blocks}
 use Rattle.map_facts.specs.Given.RuleMoments.{Moments}
-use Rattle.map_facts.specs.Given.RuleInWorld.{IsMapIn, Went}
+use Rattle.map_facts.specs.Given.RuleInWorld.{IsMapIn, StepSpec}
 use Rattle.map_facts.specs.Steps.{AreLawful}
 use Rattle.map_facts_late.specs.Left.{ClaimsAreFew}
 use Rattle.map_facts_late.specs.Covers.{NamesPair, CoversAt}
 use Rattle.map_facts_late.specs.FactsSweeps.{SweepFacts}
-use Rattle.map_facts_late.specs.ToldSweeps.{IsRowOfSweep, SweepTold}
+use Rattle.map_facts_late.specs.ToldSweeps.{IsRowOfSweep, SweepOutcome}
 
 module _ {K : Type 0} (hash : K → ℕ) (c : Chart K) (blocks : Blocks) (done done2 : List ℕ) where
   -- a pair is done that the word names
@@ -61,19 +61,19 @@ module _ {K : Type 0} (V : Type 0) (same : K → K → Bool) (hash : K → ℕ) 
       → IsMapIn same hash setting w c blocks → Moments (is_incremental setting.mode) c → (is_incremental setting.mode ≡ false → ClaimsAreFew c) → began ≤ c.now
       → SweepFacts same hash w caller setting c blocks began p → (IsRowOfSweep p.stands → ⊥)
       → (m2 : Mem (Node K V)) (p2 : Sweep) (end : Swept (Node K V)) → Steps Took value_at w.memory (sweep_plan hash p) m2 (p2, end)
-      → Went same hash setting caller w c blocks m2 (λ w2 c2 blocks2. SweepTold same hash caller setting began c blocks p w2 c2 blocks2 p2 end × CoversOn hash began c blocks p c2 blocks2 p2 end)
+      → StepSpec same hash setting caller w c blocks m2 (λ w2 c2 blocks2. SweepOutcome same hash caller setting began c blocks p w2 c2 blocks2 p2 end × CoversOn hash began c blocks p c2 blocks2 p2 end)
 
   -- By each step of another caller it stays at what it has come to.
   abbrev pub SweepsStayCovered : Type 0
   SweepsStayCovered =
       AreLawful same hash → (setting : Setting) (w : World (Node K V)) (caller : ℕ) (c : Chart K) (blocks : Blocks) (began : ℕ) (p : Sweep)
       → IsMapIn same hash setting w c blocks → Moments (is_incremental setting.mode) c → SweepFacts same hash w caller setting c blocks began p
-      → (other : ℕ) (m2 : Mem (Node K V)) (went : Went same hash setting other w c blocks m2 (λ w2 c2 blocks2. Unit {0}))
+      → (other : ℕ) (m2 : Mem (Node K V)) (went : StepSpec same hash setting other w c blocks m2 (λ w2 c2 blocks2. Unit {0}))
       → (entered : ℕ) (done : List ℕ) → CoversAt hash c blocks p entered done p.stands → CoversAt hash went.c2 went.blocks2 p entered done p.stands
 
   -- By what it is asked for, and told, it comes to more, too.
-  abbrev pub SweepsAreToldOn : Type 0
-  SweepsAreToldOn =
+  abbrev pub SweepsAreRepliedOn : Type 0
+  SweepsAreRepliedOn =
       (setting : Setting) (w : World (Node K V)) (caller : ℕ) (c : Chart K) (blocks : Blocks) (began : ℕ) (p : Sweep)
       → IsMapIn same hash setting w c blocks → SweepFacts same hash w caller setting c blocks began p
       → (entered : ℕ) (done : List ℕ) → CoversAt hash c blocks p entered done p.stands

@@ -14,10 +14,10 @@ use Rattle.map_facts.specs.Given.ReservesDeclared.sweep.Sweeping.TheVariants as 
 use Rattle.map_facts.specs.Given.RuleChart.{Still, Holds, Chart}
 use Rattle.map_facts.specs.Given.RuleWords.{Blocks, place_word}
 use Rattle.map_facts.specs.Given.RuleMaps.{IsTable}
-use Rattle.map_facts.specs.FactsDisposes.{StandsBefore, StandsNowhere, HasLeft, DisposeFacts}
+use Rattle.map_facts.specs.FactsDisposes.{LiesBefore, LiesNowhere, HasLeft, DisposeFacts}
 use Rattle.map_facts.specs.FactsIdle.{IsIdle}
 use Rattle.map_facts_late.specs.Left.{Entered}
-use Rattle.map_facts_late.specs.LateCopies.{LateCopierFacts}
+use Rattle.map_facts_late.specs.LateCopies.{SupersededCopierFacts}
 use Rattle.map_facts_late.specs.FactsReserves.{CopiesWhole}
 
 -- it copies pairs, and may have places that are its own to copy
@@ -52,14 +52,14 @@ module _ {K V : Type 0} (same : K → K → Bool) (hash : K → ℕ) (w : World 
   abbrev pub CopiesTable : Copier → Type 0
   CopiesTable copier =
       CopiesWhole same hash w caller setting c blocks copier
-      ⊎ ((is_incremental setting.mode ≡ false) × LateCopierFacts same hash w caller setting c blocks began copier)
+      ⊎ ((is_incremental setting.mode ≡ false) × SupersededCopierFacts same hash w caller setting c blocks began copier)
 
   -- the pair of a word was taken out of its table
   abbrev pub HasTaken : ℕ → ℕ → Type 0
   HasTaken removed t =
       (n : ℕ) × (borrowed : Bool) × HasLeft w caller setting c blocks n × (removed ≡ place_word hash c blocks (Holds n Still borrowed))
-      × cond (cond (is_incremental setting.mode) borrowed false) ((w.hand (blocks.pair n) ≡ Parting caller) × StandsBefore w caller setting c blocks n t)
-      ((w.hand (blocks.pair n) ≡ Cutting caller) × StandsNowhere w caller setting c blocks n)
+      × cond (cond (is_incremental setting.mode) borrowed false) ((w.hand (blocks.pair n) ≡ Parting caller) × LiesBefore w caller setting c blocks n t)
+      ((w.hand (blocks.pair n) ≡ Cutting caller) × LiesNowhere w caller setting c blocks n)
 
   -- what a sweep knows at a point
   abbrev pub SweepingFacts : Sweep → Sweeping → Type 0

@@ -39,43 +39,43 @@ IsRoom fault = (fault ≡ Memory) ⊎ (fault ≡ Capacity)
 -- Each fault that a machine has to tell, at whichever of its points, is such a one, and each table behind which it is to put another one once the pairs are
 -- counted is of these. A reservation is to need no more places than a table can have.
 module _ (Is : Fault → Type 0) (Last : Table → Reason → Type 0) where
-  abbrev pub StandsInMaking : Making → Type 0
-  StandsInMaking (makes.Sums before reason sum) = Last before reason
-  StandsInMaking (makes.Refused fault) = Is fault
-  StandsInMaking _ = Unit {0}
+  abbrev pub HoldsInMaking : Making → Type 0
+  HoldsInMaking (makes.Sums before reason sum) = Last before reason
+  HoldsInMaking (makes.Refused fault) = Is fault
+  HoldsInMaking _ = Unit {0}
 
-  abbrev pub StandsInCopying : Copying → Type 0
-  StandsInCopying (copies.Grows word code making) = StandsInMaking making.stands
-  StandsInCopying (copies.Remakes making) = StandsInMaking making.stands
-  StandsInCopying (copies.Tallies word fault) = Is fault
-  StandsInCopying (copies.Unmarks word fault) = Is fault
-  StandsInCopying (copies.Unclaims fault) = Is fault
-  StandsInCopying (copies.Refused fault) = Is fault
-  StandsInCopying _ = Unit {0}
+  abbrev pub HoldsInCopying : Copying → Type 0
+  HoldsInCopying (copies.Grows word code making) = HoldsInMaking making.stands
+  HoldsInCopying (copies.Remakes making) = HoldsInMaking making.stands
+  HoldsInCopying (copies.Tallies word fault) = Is fault
+  HoldsInCopying (copies.Unmarks word fault) = Is fault
+  HoldsInCopying (copies.Unclaims fault) = Is fault
+  HoldsInCopying (copies.Refused fault) = Is fault
+  HoldsInCopying _ = Unit {0}
 
-  abbrev pub StandsInReserving : Reserving → Type 0
-  StandsInReserving (reserves.Makes making) = StandsInMaking making.stands
-  StandsInReserving (reserves.Follows table need) = need ≤ 2 ^ 48
-  StandsInReserving (reserves.Grows table making) = StandsInMaking making.stands
-  StandsInReserving (reserves.Copies copier) = StandsInCopying copier.stands
-  StandsInReserving (reserves.Refused fault) = Is fault
-  StandsInReserving _ = Unit {0}
+  abbrev pub HoldsInReserving : Reserving → Type 0
+  HoldsInReserving (reserves.Makes making) = HoldsInMaking making.stands
+  HoldsInReserving (reserves.Follows table need) = need ≤ 2 ^ 48
+  HoldsInReserving (reserves.Grows table making) = HoldsInMaking making.stands
+  HoldsInReserving (reserves.Copies copier) = HoldsInCopying copier.stands
+  HoldsInReserving (reserves.Refused fault) = Is fault
+  HoldsInReserving _ = Unit {0}
 
-  abbrev pub StandsInSweeping : Sweeping → Type 0
-  StandsInSweeping (sweeps.Copies copier) = StandsInCopying copier.stands
-  StandsInSweeping (sweeps.Refused fault) = Is fault
-  StandsInSweeping _ = Unit {0}
+  abbrev pub HoldsInSweeping : Sweeping → Type 0
+  HoldsInSweeping (sweeps.Copies copier) = HoldsInCopying copier.stands
+  HoldsInSweeping (sweeps.Refused fault) = Is fault
+  HoldsInSweeping _ = Unit {0}
 
   -- of a call in this table: at its end it is of these, too, where a pair is asked for that is to be stored behind it
-  abbrev pub StandsInCalling : Table → Calling → Type 0
-  StandsInCalling table (calls.Firsts making) = StandsInMaking making.stands
-  StandsInCalling table (calls.Allocs making) = StandsInMaking making.stands
-  StandsInCalling table (calls.Helps copier goal) = StandsInCopying copier.stands
-  StandsInCalling table (calls.Copies copier) = StandsInCopying copier.stands
-  StandsInCalling table (calls.Asks (asking.Absent gaps.Last)) = (reason : Reason) → GoesByTable reason → Last table reason
-  StandsInCalling table (calls.Drops (ends.Refused fault)) = Is fault
-  StandsInCalling table (calls.Over (ends.Refused fault)) = Is fault
-  StandsInCalling table _ = Unit {0}
+  abbrev pub HoldsInCalling : Table → Calling → Type 0
+  HoldsInCalling table (calls.Firsts making) = HoldsInMaking making.stands
+  HoldsInCalling table (calls.Allocs making) = HoldsInMaking making.stands
+  HoldsInCalling table (calls.Helps copier goal) = HoldsInCopying copier.stands
+  HoldsInCalling table (calls.Copies copier) = HoldsInCopying copier.stands
+  HoldsInCalling table (calls.Asks (asking.Absent gaps.Last)) = (reason : Reason) → GoesByTable reason → Last table reason
+  HoldsInCalling table (calls.Drops (ends.Refused fault)) = Is fault
+  HoldsInCalling table (calls.Over (ends.Refused fault)) = Is fault
+  HoldsInCalling table _ = Unit {0}
 
 -- any table
 abbrev pub AnyTable : Table → Reason → Type 0
@@ -84,16 +84,16 @@ AnyTable before reason = Unit {0}
 -- Each fault that a machine has to tell, at whichever of its points, is such a one;
 module _ (Is : Fault → Type 0) where
   abbrev pub SoInMaking : Making → Type 0
-  SoInMaking stands = StandsInMaking Is AnyTable stands
+  SoInMaking stands = HoldsInMaking Is AnyTable stands
 
   abbrev pub SoInCopying : Copying → Type 0
-  SoInCopying stands = StandsInCopying Is AnyTable stands
+  SoInCopying stands = HoldsInCopying Is AnyTable stands
 
   abbrev pub SoInReserving : Reserving → Type 0
-  SoInReserving stands = StandsInReserving Is AnyTable stands
+  SoInReserving stands = HoldsInReserving Is AnyTable stands
 
   abbrev pub SoInSweeping : Sweeping → Type 0
-  SoInSweeping stands = StandsInSweeping Is AnyTable stands
+  SoInSweeping stands = HoldsInSweeping Is AnyTable stands
 
   abbrev pub SoInCalling : Calling → Type 0
   SoInCalling (calls.Firsts making) = SoInMaking making.stands
@@ -156,6 +156,6 @@ module _ (K V : Type 0) where
       → Steps Took value_at m (sweep_plan hash p) m2 end → RoomInSweeping end.0.stands × SweepRefusesRoom end.1
 
 -- and so it is once it was asked for the next pair of a walk, or told whether to keep one
-abbrev pub ToldSweepsRefuseRoom : Type 0
-ToldSweepsRefuseRoom =
+abbrev pub RepliedSweepsRefuseRoom : Type 0
+RepliedSweepsRefuseRoom =
     (p : Sweep) → RoomInSweeping p.stands → RoomInSweeping (after_next p).stands × ((keeps : Bool) → RoomInSweeping (after_reply p keeps).stands)

@@ -35,7 +35,7 @@ use Rattle.map_facts.specs.Given.RawDeclared.machines.call.Calling.TheVariants a
 use Rattle.map_facts_late.specs.Faults.{IsRoom, RoomInMaking, RoomInCopying}
 
 -- what it was told of a pair it may do, and choices are not kept
-pub record ToldFits {K V : Type 0} (takes : Takes) (r : Replies K V) : Type 0 where
+pub record RepliesFit {K V : Type 0} (takes : Takes) (r : Replies K V) : Type 0 where
   pub takes_is : r.takes ≡ takes
   pub removes : r.present ≡ tells.Removes → takes ≡ told.Changes
   pub choices : takes ≡ told.Choices → r.present ≡ tells.Nothing
@@ -113,21 +113,21 @@ module _ (present : There) (absent : Missing) (takes : Takes) where
   FitsAt _ = IsMore
 
   -- what it tells
-  abbrev pub TellsFit : {T : Type 0} → Called T → Type 0
-  TellsFit (called.Done answer) = Fits answer
-  TellsFit (called.Refused fault) = FaultFits fault
-  TellsFit (called.Asks None) = absent ≡ missing.Asks
-  TellsFit (called.Asks (Some word)) = present ≡ there.Asks
-  TellsFit _ = Unit {0}
+  abbrev pub OutcomeFits : {T : Type 0} → Called T → Type 0
+  OutcomeFits (called.Done answer) = Fits answer
+  OutcomeFits (called.Refused fault) = FaultFits fault
+  OutcomeFits (called.Asks None) = absent ≡ missing.Asks
+  OutcomeFits (called.Asks (Some word)) = present ≡ there.Asks
+  OutcomeFits _ = Unit {0}
 
   module _ {K V Q : Type 0} where
     -- a call is of this kind, and so is where it stands; the word of its own pair is none of a pair that was removed
     abbrev pub IsFit : KeyCall K V Q → Type 0
-    IsFit p = (p.there ≡ present) × (p.missing ≡ absent) × ToldFits takes p.replies × (p.own ≢ TOMBSTONE) × FitsAt p.stands
+    IsFit p = (p.there ≡ present) × (p.missing ≡ absent) × RepliesFit takes p.replies × (p.own ≢ TOMBSTONE) × FitsAt p.stands
 
     -- and what it tells
-    abbrev pub ComesFit : KeyCall K V Q × Called (Node K V) → Type 0
-    ComesFit end = IsFit end.0 × TellsFit end.1
+    abbrev pub StepFits : KeyCall K V Q × Called (Node K V) → Type 0
+    StepFits end = IsFit end.0 × OutcomeFits end.1
 
 module _ (K V Q : Type 0) where
   -- The kinds that never ask, from their first points on,
@@ -150,14 +150,14 @@ module _ (K V Q : Type 0) where
       × IsFit there.Asks missing.Answers told.Choices (removing_if {K = K} {V = V} setting code q)
 
   -- A call stays of its kind, whatever its step finds in memory, and answers as one of it,
-  abbrev pub CallsKeepTheirKind : Type 0
-  CallsKeepTheirKind =
+  abbrev pub CallsPreserveTheirKind : Type 0
+  CallsPreserveTheirKind =
       (asks : Q → K → Bool) (same : K → K → Bool) (hash : K → ℕ) (present : There) (absent : Missing) (takes : Takes) (p : KeyCall K V Q) → IsFit present absent takes p
-      → (m m2 : Mem (Node K V)) (end : KeyCall K V Q × Called (Node K V)) → Steps Took value_at m (call_plan asks same hash p) m2 end → ComesFit present absent takes end
+      → (m m2 : Mem (Node K V)) (end : KeyCall K V Q × Called (Node K V)) → Steps Took value_at m (call_plan asks same hash p) m2 end → StepFits present absent takes end
 
   -- and so it does when it is told what it has asked, or is told something else.
-  abbrev pub RepliesKeepTheKind : Type 0
-  RepliesKeepTheKind =
+  abbrev pub RepliesPreserveTheKind : Type 0
+  RepliesPreserveTheKind =
       (present : There) (absent : Missing) (takes : Takes) (p : KeyCall K V Q) → IsFit present absent takes p → (reply : MachineReply V) → IsFit present absent takes (replied p reply).0
 
 -- a lookup: it has no block of its own, and looks for its key until it is over

@@ -13,27 +13,27 @@ use Rattle.map_facts.specs.Given.ReservesDeclared.reserve.Reserve.{Reserve}
 use Rattle.map_facts.specs.Given.RuleChart.{Chart}
 use Rattle.map_facts.specs.Given.RuleWords.{Blocks}
 use Rattle.map_facts.specs.Given.RuleMoments.{Moments}
-use Rattle.map_facts.specs.Given.RuleInWorld.{IsMapIn, Went, SparesPairs}
+use Rattle.map_facts.specs.Given.RuleInWorld.{IsMapIn, StepSpec, SparesPairs}
 use Rattle.map_facts.specs.Others.{OthersStep}
 use Rattle.map_facts.specs.Steps.{AreLawful}
 use Rattle.map_facts_late.specs.Left.{ClaimsAreFew}
 use Rattle.map_facts_late.specs.FactsReserves.{ReserveFacts}
 use Rattle.map_facts_late.specs.ToldReserves.{IsRowOfReserve}
-use Rattle.map_facts_late.specs.LateReserves.{LateReserveFacts}
-use Rattle.map_facts_late.specs.LateToldReserves.{LateReserveTold}
+use Rattle.map_facts_late.specs.LateReserves.{SupersededReserveFacts}
+use Rattle.map_facts_late.specs.LateToldReserves.{SupersededReserveOutcome}
 
 module _ {K : Type 0} (V : Type 0) (same : K → K → Bool) (hash : K → ℕ) where
   -- A reservation in a table that the root has left may take its step, if that is none of a row of the collector, while claims are few. It makes one
   -- move at most, and the map stands where it leads. Pairs that callers made and have not linked are as they were.
-  abbrev pub LateReservesKeepTheMap : Type 0
-  LateReservesKeepTheMap =
+  abbrev pub SupersededReservesPreserveTheMap : Type 0
+  SupersededReservesPreserveTheMap =
       AreLawful same hash → (setting : Setting) → IsPowerOfTwo setting.initial
       → (w : World (Node K V)) (caller : ℕ) (c : Chart K) (blocks : Blocks) (began : ℕ) (p : Reserve)
       → IsMapIn same hash setting w c blocks → Moments (is_incremental setting.mode) c → ClaimsAreFew c
-      → LateReserveFacts same hash w caller setting c blocks began p → (IsRowOfReserve p.stands → ⊥)
+      → SupersededReserveFacts same hash w caller setting c blocks began p → (IsRowOfReserve p.stands → ⊥)
       → May Can Took value_at w.memory (reserve_plan hash p)
       × ((m2 : Mem (Node K V)) (p2 : Reserve) (outcome : Yielding (Node K V) Unit) → Steps Took value_at w.memory (reserve_plan hash p) m2 (p2, outcome)
-      → Went same hash setting caller w c blocks m2 (λ w2 c2 blocks2. SparesPairs w w2 × LateReserveTold same hash caller setting began c p w2 c2 blocks2 p2 outcome))
+      → StepSpec same hash setting caller w c blocks m2 (λ w2 c2 blocks2. SparesPairs w w2 × SupersededReserveOutcome same hash caller setting began c p w2 c2 blocks2 p2 outcome))
 
   -- While others step, a reservation that began at this moment knows on what its program point is to know; or, where the root leaves its table in
   -- blocking mode, what it is to know then, and it knows that on.
@@ -43,5 +43,5 @@ module _ {K : Type 0} (V : Type 0) (same : K → K → Bool) (hash : K → ℕ) 
       → Moments (is_incremental setting.mode) c → OthersStep same hash setting caller w c blocks w2 c2 blocks2 → (is_incremental setting.mode ≡ false → ClaimsAreFew c2)
       → (began : ℕ) → began ≤ c.now → (p : Reserve)
       → (ReserveFacts same hash w caller setting c blocks p
-      → ReserveFacts same hash w2 caller setting c2 blocks2 p ⊎ LateReserveFacts same hash w2 caller setting c2 blocks2 began p)
-      × (LateReserveFacts same hash w caller setting c blocks began p → LateReserveFacts same hash w2 caller setting c2 blocks2 began p)
+      → ReserveFacts same hash w2 caller setting c2 blocks2 p ⊎ SupersededReserveFacts same hash w2 caller setting c2 blocks2 began p)
+      × (SupersededReserveFacts same hash w caller setting c blocks began p → SupersededReserveFacts same hash w2 caller setting c2 blocks2 began p)

@@ -26,22 +26,22 @@ use Rattle.map_facts.specs.FactsCalls.{MayAsk, Unchanged, ByReply, holding, HasI
 use Rattle.map_facts.specs.FactsCopiesBlocking.{HasNoShares}
 use Rattle.map_facts.specs.FactsTables.{IsOwnTable, IsPlanned, NewTableFacts, first_status}
 use Rattle.map_facts_late.specs.Left.{Left}
-use Rattle.map_facts_late.specs.LateLooks.{IsLateTrial, LateLookupFacts}
-use Rattle.map_facts_late.specs.LateCopies.{LateCopierFacts}
+use Rattle.map_facts_late.specs.LateLooks.{IsSupersededTrial, SupersededLookupFacts}
+use Rattle.map_facts_late.specs.LateCopies.{SupersededCopierFacts}
 
 module _ {K V : Type 0} (w : World (Node K V)) (caller : ℕ) (setting : Setting) (c : Chart K) (blocks : Blocks) (began : ℕ) where
   -- A making of the first table that came too late: it has found another one there, which the root has left since.
-  abbrev pub LateFirst : Point → Type 0
-  LateFirst (makes.Drops table found) =
+  abbrev pub SupersededFirst : Point → Type 0
+  SupersededFirst (makes.Drops table found) =
       IsOwnTable w caller table (first_status (Root setting.root)) × IsPlanned table 0
       × (u : ℕ) × Left c began u × (u < c.past) × (blocks.table_known u ≡ true) × (found ≡ blocks.table u * 2048)
-  LateFirst (makes.Over table) = (u : ℕ) × IsTable c blocks table u × Left c began u
-  LateFirst _ = ⊥
+  SupersededFirst (makes.Over table) = (u : ℕ) × IsTable c blocks table u × Left c began u
+  SupersededFirst _ = ⊥
 
-  pub record LateFirstFacts (n : NewTable) : Type 0 where
+  pub record SupersededFirstFacts (n : NewTable) : Type 0 where
     pub setting_is : n.setting ≡ setting
     pub link_is : n.link ≡ Root setting.root
-    pub point : LateFirst n.stands
+    pub point : SupersededFirst n.stands
 
 module _ {K V Q : Type 0} (same : K → K → Bool) (hash : K → ℕ) (asks : Q → K → Bool) (w : World (Node K V)) (caller : ℕ) (setting : Setting) (c : Chart K) (blocks : Blocks)
     (keys : K → Bool) (began : ℕ) where
@@ -50,45 +50,45 @@ module _ {K V Q : Type 0} (same : K → K → Bool) (hash : K → ℕ) (asks : Q
   Its p = HasIts same hash asks w caller setting c blocks keys Unchanged p
 
   -- where the key is missing
-  abbrev pub LateGap : KeyCall K V Q → Gap → Type 0
-  LateGap p gaps.Free = IsLateTrial same hash keys p.hash c blocks began p.trial
-  LateGap p gaps.Past = (t : ℕ) × IsTable c blocks p.trial.table t × Left c began t
-  LateGap p _ = ⊥
+  abbrev pub SupersededGap : KeyCall K V Q → Gap → Type 0
+  SupersededGap p gaps.Free = IsSupersededTrial same hash keys p.hash c blocks began p.trial
+  SupersededGap p gaps.Past = (t : ℕ) × IsTable c blocks p.trial.table t × Left c began t
+  SupersededGap p _ = ⊥
 
   -- where it asks, or goes by what it was told
-  abbrev pub LateAsking : KeyCall K V Q → Asking → Type 0
-  LateAsking p (asking.Absent gap) = Its p × (p.missing ≡ missing.Asks) × LateGap p gap
-  LateAsking p (asking.Present word) =
-      Its p × (p.there ≡ there.Asks) × NamesPair same hash asks w caller setting c blocks keys Unchanged word × IsLateTrial same hash keys p.hash c blocks began p.trial
-  LateAsking p (asking.Fills word) =
+  abbrev pub SupersededAsking : KeyCall K V Q → Asking → Type 0
+  SupersededAsking p (asking.Absent gap) = Its p × (p.missing ≡ missing.Asks) × SupersededGap p gap
+  SupersededAsking p (asking.Present word) =
+      Its p × (p.there ≡ there.Asks) × NamesPair same hash asks w caller setting c blocks keys Unchanged word × IsSupersededTrial same hash keys p.hash c blocks began p.trial
+  SupersededAsking p (asking.Fills word) =
       IsToFill same hash asks w caller setting c blocks keys Unchanged p × (holding p.replies.takes p.missing ≡ ByReply) × ((v : V) × (value_for p.replies word ≡ Some v))
-      × MayReplace same hash asks w caller setting c blocks keys Unchanged word × IsLateTrial same hash keys p.hash c blocks began p.trial
-  LateAsking p (asking.GivesUp word) =
+      × MayReplace same hash asks w caller setting c blocks keys Unchanged word × IsSupersededTrial same hash keys p.hash c blocks began p.trial
+  SupersededAsking p (asking.GivesUp word) =
       Its p × (holding p.replies.takes p.missing ≡ ByReply) × (p.own ≢ 0) × NamesPair same hash asks w caller setting c blocks keys Unchanged word
-      × IsLateTrial same hash keys p.hash c blocks began p.trial
+      × IsSupersededTrial same hash keys p.hash c blocks began p.trial
 
   -- what it knows at a point
-  abbrev pub LateCalling : KeyCall K V Q → Calling → Type 0
-  LateCalling p (at.Looks lookup) =
+  abbrev pub SupersededCalling : KeyCall K V Q → Calling → Type 0
+  SupersededCalling p (at.Looks lookup) =
       (p.own ≡ 0) × (p.missing ≡ missing.Answers) × (p.there ≡ there.Answers) × (q : Q) × (p.asked ≡ Some q) × ((k : K) → asks q k ≡ keys k)
-      × LateLookupFacts same hash keys p.hash c blocks began setting.mode setting.root lookup
-  LateCalling p at.Probes = Its p × IsLateTrial same hash keys p.hash c blocks began p.trial
-  LateCalling p (at.Tries word new) =
-      Its p × IsLateTrial same hash keys p.hash c blocks began p.trial × MayTry same hash asks w caller setting c blocks keys Unchanged p word new
-  LateCalling p at.Nexts = Its p × (t : ℕ) × IsTable c blocks p.trial.table t × Left c began t
-  LateCalling p (at.Firsts making) = Its p × (p.missing ≢ missing.Answers) × LateFirstFacts w caller setting c blocks began making
-  LateCalling p (at.Allocs making) =
+      × SupersededLookupFacts same hash keys p.hash c blocks began setting.mode setting.root lookup
+  SupersededCalling p at.Probes = Its p × IsSupersededTrial same hash keys p.hash c blocks began p.trial
+  SupersededCalling p (at.Tries word new) =
+      Its p × IsSupersededTrial same hash keys p.hash c blocks began p.trial × MayTry same hash asks w caller setting c blocks keys Unchanged p word new
+  SupersededCalling p at.Nexts = Its p × (t : ℕ) × IsTable c blocks p.trial.table t × Left c began t
+  SupersededCalling p (at.Firsts making) = Its p × (p.missing ≢ missing.Answers) × SupersededFirstFacts w caller setting c blocks began making
+  SupersededCalling p (at.Allocs making) =
       Its p × (t : ℕ) × IsTable c blocks p.trial.table t × Left c began t × NewTableFacts w caller setting c blocks (Word (blocks.table t) NEXT) (suc t) making
-  LateCalling p (at.Copies copier) = Its p × LateCopierFacts same hash w caller setting c blocks began copier
-  LateCalling p (at.Asks asks_at) = LateAsking p asks_at
-  LateCalling p _ = ⊥
+  SupersededCalling p (at.Copies copier) = Its p × SupersededCopierFacts same hash w caller setting c blocks began copier
+  SupersededCalling p (at.Asks asks_at) = SupersededAsking p asks_at
+  SupersededCalling p _ = ⊥
 
   -- what it knows where it stands
-  pub record LateCallFacts (p : KeyCall K V Q) : Type 0 where
+  pub record SupersededCallFacts (p : KeyCall K V Q) : Type 0 where
     pub blocking : is_incremental setting.mode ≡ false
     pub setting_is : p.setting ≡ setting
     pub may : MayAsk p
     pub code : p.hash < 2 ^ 64
     pub class : IsClass same hash keys p.hash
     pub idle : HasNoShares same hash w caller setting c blocks
-    pub point : LateCalling p p.stands
+    pub point : SupersededCalling p p.stands

@@ -23,7 +23,7 @@ use Rattle.map_facts_late.specs.Left.{Left}
 module _ {K V : Type 0} (same : K → K → Bool) (hash : K → ℕ) (w : World (Node K V)) (caller : ℕ) (setting : Setting) (c : Chart K) (blocks : Blocks) (began : ℕ) where
   -- It copies a table u that the root has left since its call began, into one that was linked while that was the root, and that the root has come
   -- to, or has passed. It has no part in a copying that goes on.
-  pub record CopiesLate (p : Copier) (u t : ℕ) : Type 0 where
+  pub record CopiesSuperseded (p : Copier) (u t : ℕ) : Type 0 where
     pub source : IsTable c blocks p.source u
     pub target : IsTable c blocks p.target t
     pub order : u < t
@@ -35,14 +35,14 @@ module _ {K V : Type 0} (same : K → K → Bool) (hash : K → ℕ) (w : World 
 
   -- the one that it copies into was aborted
   abbrev pub CopiesAborted : Copier → ℕ → ℕ → Type 0
-  CopiesAborted p u t = CopiesLate p u t × (c.status t ≡ ABORTED)
+  CopiesAborted p u t = CopiesSuperseded p u t × (c.status t ≡ ABORTED)
 
   -- it is at one of the places that it is to copy
   abbrev pub HasRange : Copier → ℕ → Type 0
   HasRange p u = (p.place < p.end) × (p.end ≤ c.len u)
 
   -- it copies pair n, with this key and word
-  pub record WorksLate (p : Copier) (u t n : ℕ) (k : K) (word : ℕ) : Type 0 where
+  pub record WorksOnSuperseded (p : Copier) (u t n : ℕ) (k : K) (word : ℕ) : Type 0 where
     pub copies : CopiesAborted p u t
     pub inside : HasRange p u
     pub place : c.place u p.place ≡ Holds n Copying false
@@ -50,40 +50,40 @@ module _ {K V : Type 0} (same : K → K → Bool) (hash : K → ℕ) (w : World 
     pub word_is : word ≡ place_word hash c blocks (Holds n Still false)
 
   -- a try at the table that it copies into
-  abbrev pub TriesLate : Copier → ℕ → ℕ → Table → Probe → Type 0
-  TriesLate p word code table probe =
-      (u : ℕ) × (t : ℕ) × (n : ℕ) × (k : K) × (j : ℕ) × WorksLate p u t n k word × (code ≡ hash k) × (table ≡ p.target)
+  abbrev pub TriesAtSuperseded : Copier → ℕ → ℕ → Table → Probe → Type 0
+  TriesAtSuperseded p word code table probe =
+      (u : ℕ) × (t : ℕ) × (n : ℕ) × (k : K) × (j : ℕ) × WorksOnSuperseded p u t n k word × (code ≡ hash k) × (table ≡ p.target)
       × IsTrial c blocks (trial_at table probe) code t j
 
   -- The tables from s on, up to its target, which was the root and which the root has left, are its own: it has unlinked them.
-  abbrev pub HasUnlinkedLate : Copier → ℕ → ℕ → Type 0
-  HasUnlinkedLate p s t =
+  abbrev pub HasUnlinkedSuperseded : Copier → ℕ → ℕ → Type 0
+  HasUnlinkedSuperseded p s t =
       (s < t) × IsTable c blocks p.target t × Left c began t × HasNoShares same hash w caller setting c blocks
       × ((u : ℕ) → s ≤ u → u < t → (blocks.table_known u ≡ true) × (w.hand (blocks.table u) ≡ Cutting caller))
 
   -- what it knows at a point
-  abbrev pub LateCopying : Copier → Point → Type 0
-  LateCopying p at.Asks = (u : ℕ) × (t : ℕ) × CopiesLate p u t
-  LateCopying p at.Sees = (u : ℕ) × (t : ℕ) × CopiesLate p u t
-  LateCopying p at.Claims = (u : ℕ) × (t : ℕ) × CopiesLate p u t
-  LateCopying p at.Marks = (u : ℕ) × (t : ℕ) × CopiesAborted p u t × HasRange p u
-  LateCopying p (at.Probes word code table probe) = TriesLate p word code table probe
-  LateCopying p (at.Puts word code table probe) = TriesLate p word code table probe
-  LateCopying p at.Counts = (u : ℕ) × (t : ℕ) × CopiesAborted p u t
-  LateCopying p at.Aborts = (u : ℕ) × (t : ℕ) × CopiesAborted p u t
-  LateCopying p at.Replaces = (u : ℕ) × (t : ℕ) × CopiesAborted p u t
-  LateCopying p (at.Remakes making) =
+  abbrev pub SupersededCopying : Copier → Point → Type 0
+  SupersededCopying p at.Asks = (u : ℕ) × (t : ℕ) × CopiesSuperseded p u t
+  SupersededCopying p at.Sees = (u : ℕ) × (t : ℕ) × CopiesSuperseded p u t
+  SupersededCopying p at.Claims = (u : ℕ) × (t : ℕ) × CopiesSuperseded p u t
+  SupersededCopying p at.Marks = (u : ℕ) × (t : ℕ) × CopiesAborted p u t × HasRange p u
+  SupersededCopying p (at.Probes word code table probe) = TriesAtSuperseded p word code table probe
+  SupersededCopying p (at.Puts word code table probe) = TriesAtSuperseded p word code table probe
+  SupersededCopying p at.Counts = (u : ℕ) × (t : ℕ) × CopiesAborted p u t
+  SupersededCopying p at.Aborts = (u : ℕ) × (t : ℕ) × CopiesAborted p u t
+  SupersededCopying p at.Replaces = (u : ℕ) × (t : ℕ) × CopiesAborted p u t
+  SupersededCopying p (at.Remakes making) =
       (u : ℕ) × (t : ℕ) × CopiesAborted p u t × NewTableFacts w caller setting c blocks (Word (blocks.table t) NEXT) (suc t) making
-  LateCopying p at.Promotes = (u : ℕ) × (t : ℕ) × CopiesLate p u t
-  LateCopying p at.Announces = (s : ℕ) × (t : ℕ) × IsTable c blocks p.source s × HasUnlinkedLate p s t
-  LateCopying p (at.Succeeds table) = (s : ℕ) × (t : ℕ) × HasUnlinkedLate p s t × (table ≡ blocks.table s * 2048)
-  LateCopying p (at.Retires settle rest) =
-      (s : ℕ) × (t : ℕ) × HasUnlinkedLate p s t × IsToRetire w caller setting settle (blocks.table s)
+  SupersededCopying p at.Promotes = (u : ℕ) × (t : ℕ) × CopiesSuperseded p u t
+  SupersededCopying p at.Announces = (s : ℕ) × (t : ℕ) × IsTable c blocks p.source s × HasUnlinkedSuperseded p s t
+  SupersededCopying p (at.Succeeds table) = (s : ℕ) × (t : ℕ) × HasUnlinkedSuperseded p s t × (table ≡ blocks.table s * 2048)
+  SupersededCopying p (at.Retires settle rest) =
+      (s : ℕ) × (t : ℕ) × HasUnlinkedSuperseded p s t × IsToRetire w caller setting settle (blocks.table s)
       × ((suc s < t → rest ≡ blocks.table (suc s) * 2048) × (suc s ≡ t → rest ≡ 0))
-  LateCopying p at.Over = (t : ℕ) × IsTable c blocks p.target t × Left c began t × HasNoShares same hash w caller setting c blocks
-  LateCopying p _ = ⊥
+  SupersededCopying p at.Over = (t : ℕ) × IsTable c blocks p.target t × Left c began t × HasNoShares same hash w caller setting c blocks
+  SupersededCopying p _ = ⊥
 
   -- what it knows where it stands
-  pub record LateCopierFacts (p : Copier) : Type 0 where
+  pub record SupersededCopierFacts (p : Copier) : Type 0 where
     pub setting_is : p.setting ≡ setting
-    pub point : LateCopying p p.stands
+    pub point : SupersededCopying p p.stands

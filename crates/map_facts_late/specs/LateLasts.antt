@@ -14,7 +14,7 @@ use Rattle.map_facts.specs.FactsIdle.{IsIdle}
 use Rattle.map_facts.specs.Others.{OthersStep}
 use Rattle.map_facts.specs.Steps.{AreLawful}
 use Rattle.map_facts_late.specs.Left.{ClaimsAreFew}
-use Rattle.map_facts_late.specs.LateCalls.{LateCallFacts}
+use Rattle.map_facts_late.specs.LateCalls.{SupersededCallFacts}
 
 module _ {K Q : Type 0} (V : Type 0) (same : K → K → Bool) (hash : K → ℕ) (asks : Q → K → Bool) where
   -- While others step, a call that began at this moment knows on what its program point is to know; or, where the root leaves its table in blocking
@@ -26,5 +26,5 @@ module _ {K Q : Type 0} (V : Type 0) (same : K → K → Bool) (hash : K → ℕ
       → (IsIdle same hash w caller setting c blocks → IsIdle same hash w2 caller setting c2 blocks2)
       × ((keys : K → Bool) (began : ℕ) → began ≤ c.now → (change : Change) (p : KeyCall K V Q)
       → (CallFacts same hash asks w caller setting c blocks keys change p
-      → CallFacts same hash asks w2 caller setting c2 blocks2 keys change p ⊎ ((change ≡ Unchanged) × LateCallFacts same hash asks w2 caller setting c2 blocks2 keys began p))
-      × (LateCallFacts same hash asks w caller setting c blocks keys began p → LateCallFacts same hash asks w2 caller setting c2 blocks2 keys began p))
+      → CallFacts same hash asks w2 caller setting c2 blocks2 keys change p ⊎ ((change ≡ Unchanged) × SupersededCallFacts same hash asks w2 caller setting c2 blocks2 keys began p))
+      × (SupersededCallFacts same hash asks w caller setting c blocks keys began p → SupersededCallFacts same hash asks w2 caller setting c2 blocks2 keys began p))

@@ -13,17 +13,17 @@ use Rattle.map_facts_late.specs.Left.{Left}
 
 module _ {K : Type 0} (same : K → K → Bool) (hash : K → ℕ) (keys : K → Bool) (code : ℕ) (c : Chart K) (blocks : Blocks) (began : ℕ) where
   -- it is at a try there, and no key of these was met at the tries before
-  abbrev pub IsLateTrial : Trial → Type 0
-  IsLateTrial trial =
+  abbrev pub IsSupersededTrial : Trial → Type 0
+  IsSupersededTrial trial =
       (t : ℕ) × (j : ℕ) × IsTrial c blocks trial code t j × ((k : K) → keys k ≡ true → Passed same (spot_of hash) false c t k j) × Left c began t
 
-  abbrev pub LateLooking : Looking → Type 0
-  LateLooking (at.Probes trial) = IsLateTrial trial
-  LateLooking _ = ⊥
+  abbrev pub SupersededLooking : Looking → Type 0
+  SupersededLooking (at.Probes trial) = IsSupersededTrial trial
+  SupersededLooking _ = ⊥
 
   -- what a lookup knows there
-  pub record LateLookupFacts (mode : ResizeMode) (root : ℕ) (l : Lookup) : Type 0 where
+  pub record SupersededLookupFacts (mode : ResizeMode) (root : ℕ) (l : Lookup) : Type 0 where
     pub root_is : l.root ≡ root
     pub mode_is : l.mode ≡ mode
     pub hash_is : l.hash ≡ code
-    pub point : LateLooking l.stands
+    pub point : SupersededLooking l.stands

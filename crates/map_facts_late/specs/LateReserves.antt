@@ -16,8 +16,8 @@ use Rattle.map_facts.specs.Given.RuleMaps.{IsTable}
 use Rattle.map_facts.specs.FactsCopiesBlocking.{HasNoShares}
 use Rattle.map_facts.specs.FactsTables.{SumFacts, NewTableFacts}
 use Rattle.map_facts_late.specs.Left.{Left}
-use Rattle.map_facts_late.specs.LateCalls.{LateFirstFacts}
-use Rattle.map_facts_late.specs.LateCopies.{LateCopierFacts}
+use Rattle.map_facts_late.specs.LateCalls.{SupersededFirstFacts}
+use Rattle.map_facts_late.specs.LateCopies.{SupersededCopierFacts}
 
 module _ {K V : Type 0} (same : K → K → Bool) (hash : K → ℕ) (w : World (Node K V)) (caller : ℕ) (setting : Setting) (c : Chart K) (blocks : Blocks) (began : ℕ) where
   -- its table was the root, and the root has left it
@@ -25,18 +25,18 @@ module _ {K V : Type 0} (same : K → K → Bool) (hash : K → ℕ) (w : World 
   IsLeftTable table = (t : ℕ) × IsTable c blocks table t × Left c began t
 
   -- what it knows at a point
-  abbrev pub LateReserving : Reserving → Type 0
-  LateReserving (at.Makes making) = LateFirstFacts w caller setting c blocks began making
-  LateReserving (at.Sums table sum) = IsLeftTable table × SumFacts setting sum
-  LateReserving (at.Follows table need) = IsLeftTable table
-  LateReserving (at.Grows table making) =
+  abbrev pub SupersededReserving : Reserving → Type 0
+  SupersededReserving (at.Makes making) = SupersededFirstFacts w caller setting c blocks began making
+  SupersededReserving (at.Sums table sum) = IsLeftTable table × SumFacts setting sum
+  SupersededReserving (at.Follows table need) = IsLeftTable table
+  SupersededReserving (at.Grows table making) =
       (t : ℕ) × IsTable c blocks table t × Left c began t × NewTableFacts w caller setting c blocks (Word (blocks.table t) NEXT) (suc t) making
-  LateReserving (at.Copies copier) = LateCopierFacts same hash w caller setting c blocks began copier
-  LateReserving _ = ⊥
+  SupersededReserving (at.Copies copier) = SupersededCopierFacts same hash w caller setting c blocks began copier
+  SupersededReserving _ = ⊥
 
   -- what it knows where it stands
-  pub record LateReserveFacts (p : Reserve) : Type 0 where
+  pub record SupersededReserveFacts (p : Reserve) : Type 0 where
     pub blocking : is_incremental setting.mode ≡ false
     pub setting_is : p.setting ≡ setting
     pub idle : HasNoShares same hash w caller setting c blocks
-    pub point : LateReserving p.stands
+    pub point : SupersededReserving p.stands

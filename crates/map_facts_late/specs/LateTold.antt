@@ -21,12 +21,12 @@ use Rattle.map_facts.specs.Given.RuleWords.{Blocks}
 use Rattle.map_facts.specs.Given.RuleMaps.{IsTable}
 use Rattle.map_facts.specs.FactsCalls.{IsCopying, Unchanged, CallFacts}
 use Rattle.map_facts.specs.FactsCopiesBlocking.{HasNoShares, CopierFactsBlocking}
-use Rattle.map_facts.specs.Told.{HasAnswered, MovedBeside}
+use Rattle.map_facts.specs.Told.{HasAnswered, MovedBesideCopying}
 use Rattle.map_facts_late.specs.Was.{SoSince}
 use Rattle.map_facts_late.specs.Left.{Entered}
-use Rattle.map_facts_late.specs.LateLooks.{LateLookupFacts}
-use Rattle.map_facts_late.specs.LateCopies.{LateCopierFacts}
-use Rattle.map_facts_late.specs.LateCalls.{LateCallFacts}
+use Rattle.map_facts_late.specs.LateLooks.{SupersededLookupFacts}
+use Rattle.map_facts_late.specs.LateCopies.{SupersededCopierFacts}
+use Rattle.map_facts_late.specs.LateCalls.{SupersededCallFacts}
 
 -- the answer of a lookup, as that of a call
 abbrev pub answer_of : Option ℕ → KeyAnswer
@@ -35,37 +35,37 @@ answer_of None = answers.Absent
 
 module _ {K : Type 0} (same : K → K → Bool) (hash : K → ℕ) (mode : ResizeMode) (root : ℕ) (keys : K → Bool) (code : ℕ) (c : Chart K) (blocks : Blocks) (began : ℕ) where
   -- a lookup stays in its table, and ends with what was so as the root left it
-  abbrev pub LateLookupTold : Lookup × Advance (Option ℕ) → Type 0
-  LateLookupTold (l, progress.Goes) = LateLookupFacts same hash keys code c blocks began mode root l
-  LateLookupTold (l, progress.Waits) = ⊥
-  LateLookupTold (l, progress.Done found) = SoSince hash c blocks keys began (answer_of found)
-  LateLookupTold (l, progress.Refused fault) = ⊥
+  abbrev pub SupersededLookupOutcome : Lookup × Advance (Option ℕ) → Type 0
+  SupersededLookupOutcome (l, progress.Goes) = SupersededLookupFacts same hash keys code c blocks began mode root l
+  SupersededLookupOutcome (l, progress.Waits) = ⊥
+  SupersededLookupOutcome (l, progress.Done found) = SoSince hash c blocks keys began (answer_of found)
+  SupersededLookupOutcome (l, progress.Refused fault) = ⊥
 
 module _ {K V : Type 0} (same : K → K → Bool) (hash : K → ℕ) (caller : ℕ) (setting : Setting) (began : ℕ) (w : World (Node K V)) (c : Chart K) (blocks : Blocks) where
   -- a copier ends with a table that is the root's, or was since its call began, and has no part in a copying then
-  abbrev pub LateCopierAfter : Copier × Yielding (Node K V) Table → Type 0
-  LateCopierAfter (p, outcome.Goes) = CopierFactsBlocking same hash w caller setting c blocks p ⊎ LateCopierFacts same hash w caller setting c blocks began p
-  LateCopierAfter (p, outcome.Waits) = LateCopierFacts same hash w caller setting c blocks began p
-  LateCopierAfter (p, outcome.Gave value) = ⊥
-  LateCopierAfter (p, outcome.Done table) = ((t : ℕ) × IsTable c blocks table t × Entered c began t) × HasNoShares same hash w caller setting c blocks
-  LateCopierAfter (p, outcome.Refused fault) = HasNoShares same hash w caller setting c blocks
+  abbrev pub SupersededCopierAfter : Copier × Yielding (Node K V) Table → Type 0
+  SupersededCopierAfter (p, outcome.Goes) = CopierFactsBlocking same hash w caller setting c blocks p ⊎ SupersededCopierFacts same hash w caller setting c blocks began p
+  SupersededCopierAfter (p, outcome.Waits) = SupersededCopierFacts same hash w caller setting c blocks began p
+  SupersededCopierAfter (p, outcome.Gave value) = ⊥
+  SupersededCopierAfter (p, outcome.Done table) = ((t : ℕ) × IsTable c blocks table t × Entered c began t) × HasNoShares same hash w caller setting c blocks
+  SupersededCopierAfter (p, outcome.Refused fault) = HasNoShares same hash w caller setting c blocks
 
   -- it changes none of the pairs that the map has
-  abbrev pub LateCopierTold : Chart K → Copier × Yielding (Node K V) Table → Type 0
-  LateCopierTold before end = LateCopierAfter end × (c.current ≡ before.current)
+  abbrev pub SupersededCopierOutcome : Chart K → Copier × Yielding (Node K V) Table → Type 0
+  SupersededCopierOutcome before end = SupersededCopierAfter end × (c.current ≡ before.current)
 
 module _ {K V Q : Type 0} (same : K → K → Bool) (hash : K → ℕ) (asks : Q → K → Bool) (caller : ℕ) (setting : Setting) (keys : K → Bool) (began : ℕ) where
   -- it goes on there, or in the root's table; at its end it has no part in a copying
-  abbrev pub LateAfter : World (Node K V) → Chart K → Blocks → KeyCall K V Q → Called (Node K V) → Type 0
-  LateAfter w c blocks p (called.Done answer) = HasAnswered answer p.stands × HasNoShares same hash w caller setting c blocks
-  LateAfter w c blocks p (called.Gave value) = ⊥
-  LateAfter w c blocks p (called.Refused fault) = HasNoShares same hash w caller setting c blocks
-  LateAfter w c blocks p progress =
-      CallFacts same hash asks w caller setting c blocks keys Unchanged p ⊎ LateCallFacts same hash asks w caller setting c blocks keys began p
+  abbrev pub SupersededCallAfter : World (Node K V) → Chart K → Blocks → KeyCall K V Q → Called (Node K V) → Type 0
+  SupersededCallAfter w c blocks p (called.Done answer) = HasAnswered answer p.stands × HasNoShares same hash w caller setting c blocks
+  SupersededCallAfter w c blocks p (called.Gave value) = ⊥
+  SupersededCallAfter w c blocks p (called.Refused fault) = HasNoShares same hash w caller setting c blocks
+  SupersededCallAfter w c blocks p progress =
+      CallFacts same hash asks w caller setting c blocks keys Unchanged p ⊎ SupersededCallFacts same hash asks w caller setting c blocks keys began p
 
   -- A call changes no pair of the map there. What it answers or asks was so at a moment since it began.
-  pub record LateTold (c : Chart K) (p : KeyCall K V Q) (w2 : World (Node K V)) (c2 : Chart K) (blocks2 : Blocks) (p2 : KeyCall K V Q) (progress : Called (Node K V)) : Type 0 where
-    pub facts : LateAfter w2 c2 blocks2 p2 progress
+  pub record SupersededCallOutcome (c : Chart K) (p : KeyCall K V Q) (w2 : World (Node K V)) (c2 : Chart K) (blocks2 : Blocks) (p2 : KeyCall K V Q) (progress : Called (Node K V)) : Type 0 where
+    pub facts : SupersededCallAfter w2 c2 blocks2 p2 progress
     pub same_pairs : c2.current ≡ c.current
-    pub beside : (IsCopying p.stands → ⊥) → MovedBeside hash setting.mode c c2
+    pub beside : (IsCopying p.stands → ⊥) → MovedBesideCopying hash setting.mode c c2
     pub answers : (answer : KeyAnswer) → HasAnswered answer p2.stands → (HasAnswered answer p.stands → ⊥) → SoSince hash c2 blocks2 keys began answer

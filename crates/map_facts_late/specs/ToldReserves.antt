@@ -14,7 +14,7 @@ use Rattle.map_facts.specs.Given.ReservesDeclared.reserve.Reserving.TheVariants 
 use Rattle.map_facts.specs.Given.RuleChart.{Chart}
 use Rattle.map_facts.specs.Given.RuleWords.{Blocks}
 use Rattle.map_facts.specs.Given.RuleMaps.{IsTable}
-use Rattle.map_facts.specs.Told.{IsRowOfCopier, CopierTold, CopierToldBlocking, OnlyLinks}
+use Rattle.map_facts.specs.Told.{IsRowOfCopier, CopierOutcome, CopierOutcomeBlocking, OnlyLinks}
 use Rattle.map_facts.specs.FactsIdle.{IsIdle}
 use Rattle.map_facts_late.specs.FactsReserves.{CopiesPairs, IsEnding, ReserveFacts}
 
@@ -26,11 +26,11 @@ module _ {K V : Type 0} (w : World (Node K V)) (caller : ℕ) (setting : Setting
   EndsAtRoot (p, _) = IsEnding same hash w caller setting c blocks p p.stands
 
   -- a step of the copying of a whole table
-  abbrev pub WholeTold : Copier × Yielding (Node K V) Table → Type 0
-  WholeTold end =
+  abbrev pub WholeCopyOutcome : Copier × Yielding (Node K V) Table → Type 0
+  WholeCopyOutcome end =
       cond (is_incremental setting.mode)
-      (CopierTold w caller setting c blocks same hash end × (end.0.whole ≡ true) × EndsAtRoot end)
-      (CopierToldBlocking w caller setting c blocks same hash end)
+      (CopierOutcome w caller setting c blocks same hash end × (end.0.whole ≡ true) × EndsAtRoot end)
+      (CopierOutcomeBlocking w caller setting c blocks same hash end)
 
   -- a reservation ends with no part in a copying
   abbrev pub ReserveAfter : Reserve × Yielding (Node K V) Unit → Type 0
@@ -41,7 +41,7 @@ module _ {K V : Type 0} (w : World (Node K V)) (caller : ℕ) (setting : Setting
   ReserveAfter (p, outcome.Refused fault) = IsIdle same hash w caller setting c blocks
 
 -- A step of a reservation changes no pair of the map, and beside its copying it links a table at most.
-pub record ReserveTold {K V : Type 0} (same : K → K → Bool) (hash : K → ℕ) (caller : ℕ) (setting : Setting) (c : Chart K) (p : Reserve) (w2 : World (Node K V)) (c2 : Chart K) (blocks2 : Blocks)
+pub record ReserveOutcome {K V : Type 0} (same : K → K → Bool) (hash : K → ℕ) (caller : ℕ) (setting : Setting) (c : Chart K) (p : Reserve) (w2 : World (Node K V)) (c2 : Chart K) (blocks2 : Blocks)
     (p2 : Reserve) (end : Yielding (Node K V) Unit) : Type 0 where
   pub facts : ReserveAfter w2 caller setting c2 blocks2 same hash (p2, end)
   pub same_pairs : c2.current ≡ c.current

@@ -27,10 +27,10 @@ IsRowOfSweep (at.Disposes dispose) = IsRowOf dispose.stands
 IsRowOfSweep _ = ⊥
 
 -- the word of a pair that it shows, or asks about
-abbrev pub word_told : {T : Type 0} → Swept T → Option ℕ
-word_told (swept.Pair word) = Some word
-word_told (swept.Asks word) = Some word
-word_told _ = None
+abbrev pub word_shown : {T : Type 0} → Swept T → Option ℕ
+word_shown (swept.Pair word) = Some word
+word_shown (swept.Asks word) = Some word
+word_shown _ = None
 
 -- it reads the word of its place there
 abbrev pub ReadsPlace : Sweeping → Type 0
@@ -40,17 +40,17 @@ ReadsPlace _ = ⊥
 
 -- What it tells says where it stands: it is ready behind a pair that it shows, which it has read at its place, asks where it says so, and is over at its
 -- end.
-abbrev pub TellsSo : {T : Type 0} → Sweeping → Sweeping → Swept T → Type 0
-TellsSo was stands (swept.Pair word) = ReadsPlace was × (stands ≡ at.Ready)
-TellsSo was stands (swept.Asks word) = stands ≡ at.Asks word
-TellsSo was stands swept.Done = stands ≡ at.Over
-TellsSo was stands (swept.Refused fault) = stands ≡ at.Refused fault
-TellsSo was stands _ = Unit {0}
+abbrev pub OutcomeAgrees : {T : Type 0} → Sweeping → Sweeping → Swept T → Type 0
+OutcomeAgrees was stands (swept.Pair word) = ReadsPlace was × (stands ≡ at.Ready)
+OutcomeAgrees was stands (swept.Asks word) = stands ≡ at.Asks word
+OutcomeAgrees was stands swept.Done = stands ≡ at.Over
+OutcomeAgrees was stands (swept.Refused fault) = stands ≡ at.Refused fault
+OutcomeAgrees was stands _ = Unit {0}
 
 -- where it stands after a step
-pub record StandsThen {T : Type 0} (p p2 : Sweep) (end : Swept T) : Type 0 where
+pub record IsAtPointThen {T : Type 0} (p p2 : Sweep) (end : Swept T) : Type 0 where
   pub purpose : p2.purpose ≡ p.purpose
-  pub tells : TellsSo p.stands p2.stands end
+  pub tells : OutcomeAgrees p.stands p2.stands end
   -- a retaining comes to remove a pair by what it is told alone
   pub tries : p.purpose ≡ Retains → (word : ℕ) → p2.stands ≢ at.Tries word
   -- a copying that begins is to claim no places yet
@@ -79,9 +79,9 @@ module _ {K V : Type 0} (same : K → K → Bool) (hash : K → ℕ) (caller : �
 
   -- It changes no pair of the map, but the one that it removes; and beside its copying it makes no other change of the tables. A pair that it shows, or
   -- comes to ask about, stands at its place.
-  pub record SweepTold (c : Chart K) (blocks : Blocks) (p : Sweep) (w2 : World (Node K V)) (c2 : Chart K) (blocks2 : Blocks) (p2 : Sweep) (end : Swept (Node K V)) : Type 0 where
+  pub record SweepOutcome (c : Chart K) (blocks : Blocks) (p : Sweep) (w2 : World (Node K V)) (c2 : Chart K) (blocks2 : Blocks) (p2 : Sweep) (end : Swept (Node K V)) : Type 0 where
     pub facts : SweepAfter w2 c2 blocks2 (p2, end)
     pub changes : (c2.current ≡ c.current) ⊎ RemovesPair hash c blocks p c2
     pub beside : (CopiesPairs p.stands → ⊥) → OnlyRemoves hash setting.mode c c2
-    pub shows : (word : ℕ) → word_told end ≡ Some word → p.stands ≢ at.Asks word → (n : ℕ) × (phase : Phase) × NamesThere hash c2 blocks2 p word n phase
-    pub stands : StandsThen p p2 end
+    pub shows : (word : ℕ) → word_shown end ≡ Some word → p.stands ≢ at.Asks word → (n : ℕ) × (phase : Phase) × NamesThere hash c2 blocks2 p word n phase
+    pub stands : IsAtPointThen p p2 end

@@ -1,16 +1,16 @@
 //! What is promised of reservations and sweeps, of calls by their kind, and of calls in tables that the root has left, while others step.
 ghost use Rattle.std.specs.Prelude.{ℕ, Bool};
-ghost use Rattle.map_facts_late.specs.Faults.{ReservesRefuseRoom, ReservesAskOn, SweepsRefuseRoom, ToldSweepsRefuseRoom};
-ghost use Rattle.map_facts_late.specs.Kinds.{KindsBegin, AskingKindsBegin, CallsKeepTheirKind, RepliesKeepTheKind, LookupsLeaveTheMemory};
+ghost use Rattle.map_facts_late.specs.Faults.{ReservesRefuseRoom, ReservesAskOn, SweepsRefuseRoom, RepliedSweepsRefuseRoom};
+ghost use Rattle.map_facts_late.specs.Kinds.{KindsBegin, AskingKindsBegin, CallsPreserveTheirKind, RepliesPreserveTheKind, LookupsLeaveTheMemory};
 ghost use Rattle.map_facts_late.specs.LateLasts.{CallsKnowOn};
-ghost use Rattle.map_facts_late.specs.LateSteps.{LateLookupsTell, LateCopiersKeepTheMap, LateCallsKeepTheMap, LateRepliesAreTaken};
+ghost use Rattle.map_facts_late.specs.LateSteps.{SupersededLookupsAnswer, SupersededCopiersPreserveTheMap, SupersededCallsPreserveTheMap, SupersededRepliesAreTaken};
 ghost use Rattle.map_facts.specs.Others.{StepsAreOfOthers};
-ghost use Rattle.map_facts_late.specs.LastsReserves.{LateReservesKeepTheMap, ReservesKnowOn};
-ghost use Rattle.map_facts_late.specs.StepsReserves.{ReservesBegin, ReservesKeepTheMap};
-ghost use Rattle.map_facts_late.specs.CoversSweeps.{SweepsCover, SweepsStayCovered, SweepsAreToldOn};
+ghost use Rattle.map_facts_late.specs.LastsReserves.{SupersededReservesPreserveTheMap, ReservesKnowOn};
+ghost use Rattle.map_facts_late.specs.StepsReserves.{ReservesBegin, ReservesPreserveTheMap};
+ghost use Rattle.map_facts_late.specs.CoversSweeps.{SweepsCover, SweepsStayCovered, SweepsAreRepliedOn};
 ghost use Rattle.map_facts_late.specs.LastsSweeps.{SweepsKnowOn};
-ghost use Rattle.map_facts_late.specs.RowsSweeps.{SweepsGoOn, SweepsRestOn};
-ghost use Rattle.map_facts_late.specs.StepsSweeps.{SweepsBegin, SweepsAreTold, SweepsKeepTheMap};
+ghost use Rattle.map_facts_late.specs.RowsSweeps.{SweepsContinue, SweepsRestOn};
+ghost use Rattle.map_facts_late.specs.StepsSweeps.{SweepsBegin, SweepsAreReplied, SweepsPreserveTheMap};
 
 /// Where pairs move in blocking mode, the root of a map may leave the table that a call works in. That table names just the pairs that the map had
 /// then. A lookup there may take its step: it changes nothing, and ends with what was so at a moment since its call began. A copier may take its step,
@@ -18,10 +18,10 @@ ghost use Rattle.map_facts_late.specs.StepsSweeps.{SweepsBegin, SweepsAreTold, S
 /// root's table, and the map stands where the step leads, after one move at most. It changes none of the pairs that the map has, and what a call
 /// answers, or asks, was so at a moment since it began. One that is told what it has asked knows what its next point is to know.
 pub fn late_steps_keep_the_map<K, V, Q>()
-    ensures lookups { (same : K → K → Bool) (hash : K → ℕ) → LateLookupsTell V same hash }
-    ensures copiers { (same : K → K → Bool) (hash : K → ℕ) → LateCopiersKeepTheMap V same hash }
-    ensures calls { (same : K → K → Bool) (hash : K → ℕ) (asks : Q → K → Bool) → LateCallsKeepTheMap V same hash asks }
-    ensures replies { (same : K → K → Bool) (hash : K → ℕ) (asks : Q → K → Bool) → LateRepliesAreTaken V same hash asks }
+    ensures lookups { (same : K → K → Bool) (hash : K → ℕ) → SupersededLookupsAnswer V same hash }
+    ensures copiers { (same : K → K → Bool) (hash : K → ℕ) → SupersededCopiersPreserveTheMap V same hash }
+    ensures calls { (same : K → K → Bool) (hash : K → ℕ) (asks : Q → K → Bool) → SupersededCallsPreserveTheMap V same hash asks }
+    ensures replies { (same : K → K → Bool) (hash : K → ℕ) (asks : Q → K → Bool) → SupersededRepliesAreTaken V same hash asks }
 {}
 
 /// In both modes a step of one caller leaves to all others what they have and look at. While others step, a call knows on what its program point is to
@@ -37,14 +37,14 @@ pub fn calls_know_on<K, V, Q>()
 /// begins where that is so knows what its first point is to know.
 pub fn reservations_keep_the_map<K, V>()
     ensures begins { (same : K → K → Bool) (hash : K → ℕ) → ReservesBegin V same hash }
-    ensures steps { (same : K → K → Bool) (hash : K → ℕ) → ReservesKeepTheMap V same hash }
+    ensures steps { (same : K → K → Bool) (hash : K → ℕ) → ReservesPreserveTheMap V same hash }
 {}
 
 /// While others step, a reservation knows on what its program point is to know; or, where the root leaves its table in blocking mode, what is to be
 /// known then, if claims are few. There it may take its step, too, if that is none of a row: it goes on there, copies into the table behind, or comes to
 /// the root's table. It changes none of the pairs that the map has, and at its end its caller has no part in a copying.
 pub fn reservations_know_on<K, V>()
-    ensures late { (same : K → K → Bool) (hash : K → ℕ) → LateReservesKeepTheMap V same hash }
+    ensures late { (same : K → K → Bool) (hash : K → ℕ) → SupersededReservesPreserveTheMap V same hash }
     ensures known { (same : K → K → Bool) (hash : K → ℕ) → ReservesKnowOn V same hash }
 {}
 
@@ -60,8 +60,8 @@ pub fn reservations_know_on<K, V>()
 pub fn calls_keep_their_kind<K, V, Q>()
     ensures begins { KindsBegin K V Q }
     ensures asking { AskingKindsBegin K V Q }
-    ensures kept { CallsKeepTheirKind K V Q }
-    ensures replies { RepliesKeepTheKind K V Q }
+    ensures kept { CallsPreserveTheirKind K V Q }
+    ensures replies { RepliesPreserveTheKind K V Q }
     ensures lookups { LookupsLeaveTheMemory K V Q }
 {}
 
@@ -74,7 +74,7 @@ pub fn reservations_ask_for_room<K, V>()
 /// A sweep is refused memory and capacity alone, at each of its steps, whatever it was asked for and told between them.
 pub fn sweeps_are_refused_for_room<K, V>()
     ensures refused { SweepsRefuseRoom K V }
-    ensures told { ToldSweepsRefuseRoom }
+    ensures told { RepliedSweepsRefuseRoom }
 {}
 
 /// Where a map stands in the collector's world, a sweep that knows what its program point is to know may take its step, if that is none of a row of the
@@ -83,8 +83,8 @@ pub fn sweeps_are_refused_for_room<K, V>()
 /// begins knows what its first point is to know, where its caller has no part in a copying, and it knows on what it is asked for, and told.
 pub fn sweeps_keep_the_map<K, V>()
     ensures begins { (same : K → K → Bool) (hash : K → ℕ) → SweepsBegin V same hash }
-    ensures told { (same : K → K → Bool) (hash : K → ℕ) → SweepsAreTold V same hash }
-    ensures steps { (same : K → K → Bool) (hash : K → ℕ) → SweepsKeepTheMap V same hash }
+    ensures told { (same : K → K → Bool) (hash : K → ℕ) → SweepsAreReplied V same hash }
+    ensures steps { (same : K → K → Bool) (hash : K → ℕ) → SweepsPreserveTheMap V same hash }
 {}
 
 /// While others step, a sweep knows on what its program point is to know, also where the root leaves its table, if claims are few in blocking mode.
@@ -98,12 +98,12 @@ pub fn sweeps_know_on<K, V>()
 pub fn sweeps_cover<K, V>()
     ensures steps { (same : K → K → Bool) (hash : K → ℕ) → SweepsCover V same hash }
     ensures others { (same : K → K → Bool) (hash : K → ℕ) → SweepsStayCovered V same hash }
-    ensures told { (same : K → K → Bool) (hash : K → ℕ) → SweepsAreToldOn V same hash }
+    ensures told { (same : K → K → Bool) (hash : K → ℕ) → SweepsAreRepliedOn V same hash }
 {}
 
 /// While a row of the collector disposes of the pair that a sweep has removed, the sweep knows on where it is, also while others step; after the row its
 /// place is behind it, it knows what its next point is to know, and has come to what it comes to there.
 pub fn sweeps_go_on<K, V>()
-    ensures after { (same : K → K → Bool) (hash : K → ℕ) → SweepsGoOn V same hash }
+    ensures after { (same : K → K → Bool) (hash : K → ℕ) → SweepsContinue V same hash }
     ensures rests { (same : K → K → Bool) (hash : K → ℕ) → SweepsRestOn V same hash }
 {}

@@ -46,11 +46,11 @@ module _ {K V : Type 0} where
   probes c word hash table probe = Do (Load (at_place table probe.i)) (place_read c word hash table probe)
 
   -- the place is taken, unless another caller was faster
-  abbrev pub put_told : Copier → ℕ → ℕ → Table → Probe → Out (Node K V) → Then (Node K V) (Copier × Yielding (Node K V) Table)
-  put_told c word hash table probe (Exchanged (Ok found)) = to (pair_put c word)
-  put_told c word hash table probe (Exchanged (Err found)) = to (next_try c word hash table probe)
-  put_told c word hash table probe _ = to c
+  abbrev pub after_put : Copier → ℕ → ℕ → Table → Probe → Out (Node K V) → Then (Node K V) (Copier × Yielding (Node K V) Table)
+  after_put c word hash table probe (Exchanged (Ok found)) = to (pair_put c word)
+  after_put c word hash table probe (Exchanged (Err found)) = to (next_try c word hash table probe)
+  after_put c word hash table probe _ = to c
 
   -- puts the pair into an empty place
   abbrev pub puts : Copier → ℕ → ℕ → Table → Probe → Plan (Node K V) (Copier × Yielding (Node K V) Table)
-  puts c word hash table probe = Do (Exchange (at_place table probe.i) 0 (copied_word c word)) (put_told c word hash table probe)
+  puts c word hash table probe = Do (Exchange (at_place table probe.i) 0 (copied_word c word)) (after_put c word hash table probe)

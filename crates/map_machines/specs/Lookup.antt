@@ -46,15 +46,15 @@ passed c table (Some trial) = going c (at.Probes trial)
 passed c table None = beyond c table
 
 -- how it goes on by what the word of a try says
-abbrev pub told_of : Lookup → Trial → ℕ → Finding → Lookup × Advance (Option ℕ)
-told_of c trial word is.Free = answered c None
-told_of c trial word is.Passed = passed c trial.table (next_trial trial)
-told_of c trial word is.Moved = going c (at.Nexts trial.table)
-told_of c trial word is.Copying = answered c (Some word)
-told_of c trial word is.There = answered c (Some word)
+abbrev pub after_finding : Lookup → Trial → ℕ → Finding → Lookup × Advance (Option ℕ)
+after_finding c trial word is.Free = answered c None
+after_finding c trial word is.Passed = passed c trial.table (next_trial trial)
+after_finding c trial word is.Moved = going c (at.Nexts trial.table)
+after_finding c trial word is.Copying = answered c (Some word)
+after_finding c trial word is.There = answered c (Some word)
 
 abbrev pub told : Lookup → Trial → ℕ → Bool → Lookup × Advance (Option ℕ)
-told c trial word same = told_of c trial word (finding c.mode Looks word same)
+told c trial word same = after_finding c trial word (finding c.mode Looks word same)
 
 module _ {K V : Type 0} where
   -- a node is a pair with one of these keys

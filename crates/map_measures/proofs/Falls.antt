@@ -9,5 +9,4 @@ pub mod Within
 pub mod Copiers
 pub mod Calls
 pub mod Reserves
-pub mod Samples
 pub mod Laws

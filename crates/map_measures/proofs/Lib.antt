@@ -4,3 +4,4 @@ pub mod Passes
 pub mod Waits
 pub mod Waiters
 pub mod Given
+pub mod Samples

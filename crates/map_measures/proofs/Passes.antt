@@ -7,5 +7,4 @@ pub mod Points
 pub mod Telling
 pub mod Rows
 pub mod Promised
-mod Samples
 pub mod Laws

@@ -19,5 +19,4 @@ pub mod CallsEnd
 pub mod Awaited
 pub mod RoomsEnd
 pub mod RowsPromised
-mod Samples
 pub mod Laws

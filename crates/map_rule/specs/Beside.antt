@@ -7,7 +7,7 @@ use Rattle.map_machines.specs.Given.TablesDeclared.node.Node.{Node}
 use Rattle.map_machines.specs.Given.TablesDeclared.setting.Setting.{Setting}
 use Rattle.map_rule.specs.Chart.{Chart}
 use Rattle.map_rule.specs.Words.{Blocks}
-use Rattle.map_rule.specs.InWorld.{IsIts, Went}
+use Rattle.map_rule.specs.InWorld.{IsIts, StepSpec}
 
 module _ {K V : Type 0} (caller : ℕ) (w : World (Node K V)) (c : Chart K) (blocks : Blocks) where
   -- what is there is reached through no block of this caller or its map
@@ -29,5 +29,5 @@ module _ {K : Type 0} (V : Type 0) (same : K → K → Bool) (hash : K → ℕ) 
   -- The promise: a step of a caller leaves such a block as it was.
   abbrev pub StepsSpareOthers : Type 0
   StepsSpareOthers =
-      (setting : Setting) (caller : ℕ) (w : World (Node K V)) (c : Chart K) (blocks : Blocks) (m2 : Mem (Node K V)) (went : Went same hash setting caller w c blocks m2 (λ w2 c2 blocks2. Unit {0}))
+      (setting : Setting) (caller : ℕ) (w : World (Node K V)) (c : Chart K) (blocks : Blocks) (m2 : Mem (Node K V)) (went : StepSpec same hash setting caller w c blocks m2 (λ w2 c2 blocks2. Unit {0}))
       → (b : ℕ) (value : Node K V) → value_at w.memory b ≡ Some value → (IsIts caller w c blocks b → ⊥) → KeptBeside caller w c blocks b w went.w2

@@ -95,13 +95,13 @@ IsHeldBy j (LeftTo i) = ⊥
 
 module _ {K V : Type 0} where
   -- What a holder has it has still, and the blocks that it made are as they were; but for counters, in which all callers count.
-  pub record KeepsBlocks (j : ℕ) (m : Mem (Node K V)) (hand : ℕ → Hand) (m2 : Mem (Node K V)) (hand2 : ℕ → Hand) : Type 0 where
+  pub record PreservesBlocks (j : ℕ) (m : Mem (Node K V)) (hand : ℕ → Hand) (m2 : Mem (Node K V)) (hand2 : ℕ → Hand) : Type 0 where
     pub blocks : (b : ℕ) (value : Node K V) → value_at m b ≡ Some value → value ≢ node.Shards → IsHeldBy j (hand b) → (hand2 b ≡ hand b) × (value_at m2 b ≡ Some value)
     pub words : (b field : ℕ) (value : Node K V) → value_at m b ≡ Some value → value ≢ node.Shards → hand b ≡ Making j → word_at m2 (Word b field) ≡ word_at m (Word b field)
 
   -- a step of this caller spares what all others have
   abbrev pub SparesOthers : ℕ → World (Node K V) → World (Node K V) → Type 0
-  SparesOthers caller w w2 = (j : ℕ) → j ≢ caller → KeepsBlocks j w.memory w.hand w2.memory w2.hand
+  SparesOthers caller w w2 = (j : ℕ) → j ≢ caller → PreservesBlocks j w.memory w.hand w2.memory w2.hand
 
 -- a table or a pair of a map that can be looked at
 abbrev pub IsKnownBlock : {K : Type 0} → Chart K → Blocks → ℕ → Type 0
@@ -171,7 +171,7 @@ module _ {K V : Type 0} (setting : Setting) (caller : ℕ) (w : World (Node K V)
 
 module _ {K V : Type 0} (same : K → K → Bool) (hash : K → ℕ) (setting : Setting) where
   -- A step of this caller came to this memory. Users' events alone lead there, one move at most was made, and more is told of where it led.
-  pub record Went (caller : ℕ) (w : World (Node K V)) (c : Chart K) (blocks : Blocks) (m2 : Mem (Node K V)) (Told : World (Node K V) → Chart K → Blocks → Type 0) : Type 0 where
+  pub record StepSpec (caller : ℕ) (w : World (Node K V)) (c : Chart K) (blocks : Blocks) (m2 : Mem (Node K V)) (Told : World (Node K V) → Chart K → Blocks → Type 0) : Type 0 where
     pub w2 : World (Node K V)
     pub c2 : Chart K
     pub blocks2 : Blocks

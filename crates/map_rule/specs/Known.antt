@@ -12,13 +12,13 @@ use Rattle.map_machines.specs.Given.TablesDeclared.setting.Setting.{Setting}
 use Rattle.map_rule.specs.Maps.{spot_of, IsMap}
 use Rattle.map_rule.specs.Chart.{Chart, Phase, Place, Holds, is_marked}
 use Rattle.map_rule.specs.Rule.{Rule}
-use Rattle.map_rule.specs.Words.{Blocks, Shows, byte_of, word_of}
+use Rattle.map_rule.specs.Words.{Blocks, Represents, byte_of, word_of}
 
 -- a pair of the map was stored, and can be looked at
 abbrev pub CurrentIsKnown : (K V : Type 0) → (K → K → Bool) → (K → ℕ) → Type 0
 CurrentIsKnown K V same hash =
     (setting : Setting) (m : Mem (Node K V)) (c : Chart K) (blocks : Blocks) → Rule same (spot_of hash) (is_incremental setting.mode) c
-    → Shows hash m c blocks setting.root → (n : ℕ) → c.current n ≡ true → (n < c.stored) × (blocks.pair_known n ≡ true)
+    → Represents hash m c blocks setting.root → (n : ℕ) → c.current n ≡ true → (n < c.stored) × (blocks.pair_known n ≡ true)
 
 -- the word of a place with a pair names the pair's block
 abbrev pub WordsNamePairs : Type 0

@@ -42,8 +42,8 @@ module _ {K : Type 0} (same : K → K → Bool) (spot : ℕ → K → ℕ → �
       × ((i t j : ℕ) → (IsBy i move → ⊥) → is_of_caller i (c.share t j) ≡ true → (after spot incremental move c).share t j ≡ c.share t j)
 
   -- each move that is allowed does so
-  abbrev pub MovesKeepTheRule : Type 0
-  MovesKeepTheRule = IsLawful same spot → (move : Move K) (c : Chart K) → Rule same spot incremental c → Allowed same spot incremental move c → MoveKeeps move c
+  abbrev pub MovesPreserveTheRule : Type 0
+  MovesPreserveTheRule = IsLawful same spot → (move : Move K) (c : Chart K) → Rule same spot incremental c → Allowed same spot incremental move c → MoveKeeps move c
 
   -- and a map without a table meets it
   abbrev pub RuleBegins : Type 0

@@ -9,8 +9,8 @@ use Rattle.map_rule.specs.Moments.{Moments, Remembers}
 
 module _ {K : Type 0} (same : K → K → Bool) (spot : ℕ → K → ℕ → ℕ) (incremental : Bool) where
   -- behind the root, the pair stands where it stood, and so
-  abbrev pub StandsAlike : Chart K → Chart K → ℕ → Type 0
-  StandsAlike c c2 n =
+  abbrev pub LiesAlike : Chart K → Chart K → ℕ → Type 0
+  LiesAlike c c2 n =
       (t p : ℕ) → c.first < t
       → ((phase : Phase) (borrowed : Bool) → c2.place t p ≡ Holds n phase borrowed → c.place t p ≡ Holds n phase borrowed)
       × ((borrowed : Bool) → c.place t p ≡ Holds n Still borrowed → c2.place t p ≡ Holds n Still borrowed)
@@ -40,7 +40,7 @@ module _ {K : Type 0} (same : K → K → Bool) (spot : ℕ → K → ℕ → �
         → (c2.first ≡ c.first) ⊎ ((incremental ≡ false) × (c2.status t ≡ ABORTED))
     -- in incremental mode, the place that it is copying, and the pair of it behind the root, are as they were
     pub my_place : incremental ≡ true → (j n : ℕ) (borrowed : Bool) → suc c.first < c.past → j < c.len c.first → c.share (suc c.first) j ≡ Claimed i → c.place c.first j ≡ Holds n Copying borrowed
-        → (c2.place c.first j ≡ Holds n Copying borrowed) × StandsAlike c c2 n
+        → (c2.place c.first j ≡ Holds n Copying borrowed) × LiesAlike c c2 n
     -- in blocking mode, one for which a share was lost was aborted by then
     pub gave_up : incremental ≡ false → c.first < c2.first → (t j : ℕ) → c.first < t → t < c.past → j < c.len c.first → c.share t j ≡ Lost → c2.status t ≡ ABORTED
     pub counted : (t j : ℕ) → c.share t j ≡ Counted → c2.share t j ≡ Counted

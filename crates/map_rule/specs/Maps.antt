@@ -10,7 +10,7 @@ use Rattle.map_machines.specs.Given.TablesDeclared.trial.Trial.{Trial}
 use Rattle.map_rule.specs.Chart.{Chart}
 use Rattle.map_rule.specs.Rule.{Rule, Passed}
 use Rattle.map_rule.specs.Moves.{MayChange}
-use Rattle.map_rule.specs.Words.{Blocks, Shows}
+use Rattle.map_rule.specs.Words.{Blocks, Represents}
 
 -- the place of a hash at a try, in a table of a length
 abbrev pub spot_at : ℕ → ℕ → ℕ → ℕ
@@ -30,7 +30,7 @@ module _ {K V : Type 0} (same : K → K → Bool) (hash : K → ℕ) where
   -- a map stands in a memory, with the word of this root
   pub record IsMap (mode : ResizeMode) (root : ℕ) (m : Mem (Node K V)) (c : Chart K) (blocks : Blocks) : Type 0 where
     pub rule : Rule same (spot_of hash) (is_incremental mode) c
-    pub shows : Shows hash m c blocks root
+    pub shows : Represents hash m c blocks root
     -- with a table that can be looked at, so can all those behind it
     pub later : (t u : ℕ) → t < u → u < c.past → blocks.table_known t ≡ true → blocks.table_known u ≡ true
 

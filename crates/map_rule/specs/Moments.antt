@@ -43,7 +43,7 @@ HistoryBegins K incremental = Moments {K = K} incremental no_table
 
 module _ {K : Type 0} (same : K → K → Bool) (spot : ℕ → K → ℕ → ℕ) (incremental : Bool) where
   -- The promise: each move keeps the history, and adds to it.
-  abbrev pub MovesKeepTheHistory : Type 0
-  MovesKeepTheHistory =
+  abbrev pub MovesPreserveTheHistory : Type 0
+  MovesPreserveTheHistory =
       IsLawful same spot → (move : Move K) (c : Chart K) → Rule same spot incremental c → Moments incremental c → Allowed same spot incremental move c
       → Moments incremental (after spot incremental move c) × Remembers incremental c (after spot incremental move c)

@@ -48,7 +48,7 @@ module _ {K : Type 0} (hash : K → ℕ) where
 
   module _ {V : Type 0} (m : Mem (Node K V)) (c : Chart K) (blocks : Blocks) where
     -- the block of a table says what the table is, and its words say what stands in it
-    pub record ShowsTable (t : ℕ) : Type 0 where
+    pub record RepresentsTable (t : ℕ) : Type 0 where
       pub value : value_at m (blocks.table t) ≡ Some (node.Table (c.len t) (c.limit t) t)
       pub next : word_at m (Word (blocks.table t) NEXT) ≡ Some (next_word c blocks t)
       pub claim : word_at m (Word (blocks.table t) CLAIM) ≡ Some (c.claim t)
@@ -57,9 +57,9 @@ module _ {K : Type 0} (hash : K → ℕ) where
       pub places : (i : ℕ) → i < c.len t → word_at m (Word (blocks.table t) (i + PLACES)) ≡ Some (place_word c blocks (c.place t i))
 
     -- the memory shows a map with this root
-    pub record Shows (root : ℕ) : Type 0 where
+    pub record Represents (root : ℕ) : Type 0 where
       pub root_there : word_at m (Root root) ≡ Some (root_word c blocks)
-      pub tables : (t : ℕ) → t < c.past → blocks.table_known t ≡ true → ShowsTable t
+      pub tables : (t : ℕ) → t < c.past → blocks.table_known t ≡ true → RepresentsTable t
       pub pairs : (n : ℕ) → n < c.stored → blocks.pair_known n ≡ true → (k : K) × (v : V) × (value_at m (blocks.pair n) ≡ Some (node.Pair k v)) × (c.key n ≡ Some k)
       pub sized : (t : ℕ) → t < c.past → IsTableLen (c.len t)
       -- what is linked can be looked at, and so can what stands in such a table

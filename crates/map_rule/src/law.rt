@@ -3,9 +3,9 @@ ghost use Rattle.std.specs.Prelude.{ℕ, Bool};
 ghost use Rattle.map_rule.specs.Known.{BytesAreFew, CurrentIsKnown, PlacesHavePairs, WordsNamePairs, WordsTellMarks, WordsWithBlocks};
 ghost use Rattle.map_rule.specs.Beside.{StepsSpareOthers};
 ghost use Rattle.map_rule.specs.Links.{RootsLead, NextsLead, LinksHaveTables};
-ghost use Rattle.map_rule.specs.Lasts.{MovesKeepTheRule, MovesGiveNoShares, RuleBegins};
+ghost use Rattle.map_rule.specs.Lasts.{MovesPreserveTheRule, MovesGiveNoShares, RuleBegins};
 ghost use Rattle.map_rule.specs.Leaves.{MovesLeaveToOthers, LeavesOnAndOn};
-ghost use Rattle.map_rule.specs.Moments.{MovesKeepTheHistory, HistoryBegins};
+ghost use Rattle.map_rule.specs.Moments.{MovesPreserveTheHistory, HistoryBegins};
 
 /// Callers change the tables of a map, one single operation after another in any order, in either mode, for any keys that are lawful.
 /// A map without a table meets the rule. Each change keeps it, leaves what lasts, and neither takes a share of the copying from a
@@ -13,9 +13,9 @@ ghost use Rattle.map_rule.specs.Moments.{MovesKeepTheHistory, HistoryBegins};
 /// each table names that the root has left in blocking mode.
 pub fn moves_keep_the_rule<K>()
     ensures begins { (same : K → K → Bool) (spot : ℕ → K → ℕ → ℕ) (incremental : Bool) → RuleBegins same spot incremental }
-    ensures kept { (same : K → K → Bool) (spot : ℕ → K → ℕ → ℕ) (incremental : Bool) → MovesKeepTheRule same spot incremental }
+    ensures kept { (same : K → K → Bool) (spot : ℕ → K → ℕ → ℕ) (incremental : Bool) → MovesPreserveTheRule same spot incremental }
     ensures starts { (incremental : Bool) → HistoryBegins K incremental }
-    ensures remembers { (same : K → K → Bool) (spot : ℕ → K → ℕ → ℕ) (incremental : Bool) → MovesKeepTheHistory same spot incremental }
+    ensures remembers { (same : K → K → Bool) (spot : ℕ → K → ℕ → ℕ) (incremental : Bool) → MovesPreserveTheHistory same spot incremental }
     ensures leaves { (same : K → K → Bool) (spot : ℕ → K → ℕ → ℕ) (incremental : Bool) → MovesLeaveToOthers same spot incremental }
     ensures on { (same : K → K → Bool) (spot : ℕ → K → ℕ → ℕ) (incremental : Bool) → LeavesOnAndOn same spot incremental }
     ensures shares { (same : K → K → Bool) (spot : ℕ → K → ℕ → ℕ) (incremental : Bool) → MovesGiveNoShares same spot incremental }

@@ -1,3 +1,4 @@
 pub mod Straight
 pub mod Shown
 pub mod Given
+mod Samples

@@ -11,4 +11,3 @@ pub mod Permuted
 pub mod Below
 pub mod Chains
 pub mod Shapes
-mod Samples

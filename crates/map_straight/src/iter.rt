@@ -3,7 +3,7 @@ ghost use Rattle.std.specs.Prelude.{◌≡◌, ℕ, Bool, true};
 ghost use Rattle.std.specs.List.Sorted.{IsPermutation};
 ghost use Rattle.map_rule.specs.Chart.{Chart};
 ghost use Rattle.map_rule.specs.Words.{Blocks};
-ghost use Rattle.map_straight.specs.Shown.Shown.{Stands, NoneMoves, pairs_stored};
+ghost use Rattle.map_straight.specs.Shown.Shown.{HasMap, NoneMoves, pairs_stored};
 ghost use Rattle.std.specs.Iterator.{YieldsFirstBy, item_count};
 ghost use Rattle.map_tables.specs.Chunks.{is_incremental};
 ghost use Rattle.map_straight.specs.Shown.Chain.{CanBeRead, HasTables, CountsTables, pairs_from_root, pairs_on, root_link};
@@ -36,10 +36,10 @@ impl<'a, K, V> Pairs<'a, K, V> {
 
 /// Returns the pairs of a map on which no call is under way, each once. It makes no operation on the memory but loads, and completes no resize.
 pub fn pairs_of<K, V>(memory: &Plain<Node<K, V>>, setting: Setting) -> Pairs<'_, K, V>
-    requires { (eq : K → K → Bool) × (hash : K → ℕ) × (c : Chart K) × (blocks : Blocks) × Stands eq hash memory.now setting c blocks }
+    requires { (eq : K → K → Bool) × (hash : K → ℕ) × (c : Chart K) × (blocks : Blocks) × HasMap eq hash memory.now setting c blocks }
     ensures can { can_go_on result }
     ensures all { (tables : ℕ) → HasTables memory.now tables (root_link memory.now setting) → pairs_to_come result ≡ pairs_from_root memory.now setting tables }
-    ensures pairs { (eq : K → K → Bool) (hash : K → ℕ) (c : Chart K) (blocks : Blocks) → Stands eq hash memory.now setting c blocks → is_incremental setting.mode ≡ true → NoneMoves true c → IsPermutation (pairs_to_come result) (pairs_stored memory.now c blocks c.stored) }
+    ensures pairs { (eq : K → K → Bool) (hash : K → ℕ) (c : Chart K) (blocks : Blocks) → HasMap eq hash memory.now setting c blocks → is_incremental setting.mode ≡ true → NoneMoves true c → IsPermutation (pairs_to_come result) (pairs_stored memory.now c blocks c.stored) }
 {
     let link = memory.look().load(At::Root(setting.root));
     Pairs::from_link(memory, setting, link)

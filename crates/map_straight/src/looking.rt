@@ -1,11 +1,11 @@
 //! A lookup: from the root over the tries at the root's table, on a memory that can only be read, too.
 ghost use Rattle.std.specs.Prelude.{◌≡◌};
 ghost use Rattle.seize_words.specs.OneMemory.Plan.{MaySee, Ends};
-ghost use Rattle.map_machines.specs.Lookup.{looking, told, told_of, word_read};
+ghost use Rattle.map_machines.specs.Lookup.{looking, told, after_finding, word_read};
 ghost use Rattle.map_machines.specs.declared.lookup.Looking.TheVariants as at;
 ghost use Rattle.map_straight.specs.Straight.Going.{LookGoes, LookReaches, MayLook};
 ghost use Rattle.map_straight.specs.Straight.Looking.{HasGlanced, glance_at, looks, past_tries, sight_at};
-ghost use Rattle.seize_straight.specs.Reaches.{ComesTo};
+ghost use Rattle.seize_straight.specs.Reaches.{HasOutcome};
 
 use map_machines::asks_for;
 use map_tables::{Aim, Equivalent, Finding, Node, ResizeMode, Table, Trial, may_be, seen};
@@ -64,7 +64,7 @@ fn past(mode: ResizeMode, table: Table) -> Sight
 /// Judges a try by what its word says.
 #[inline(always)]
 fn tell(root: u64, mode: ResizeMode, hash: u64, trial: Trial, word: u64, finding: Finding) -> Glance
-    ensures { ComesTo LookGoes (told_of (looks root mode hash (at.Probes trial)) trial word finding) (glance_at root mode hash result) }
+    ensures { HasOutcome LookGoes (after_finding (looks root mode hash (at.Probes trial)) trial word finding) (glance_at root mode hash result) }
 {
     match finding {
         Finding::Free => Glance::Ends(Sight::Ends(None)),

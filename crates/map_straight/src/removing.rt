@@ -3,11 +3,11 @@ ghost use Rattle.std.specs.Prelude.{◌≡◌, ◌≢◌, Bool};
 ghost use Rattle.seize_words.specs.OneMemory.Plan.{MaySee, Ends};
 ghost use Rattle.map_tables.specs.declared.marks.TheConstants.{TOMBSTONE as BURIED};
 ghost use Rattle.papaya_raw.specs.Call.{word_read};
-ghost use Rattle.papaya_raw.specs.CallPoints.{told, told_of, untried};
+ghost use Rattle.papaya_raw.specs.CallPoints.{told, after_finding, untried};
 ghost use Rattle.papaya_raw.specs.declared.machines.call.Calling.{Calling as Point};
 ghost use Rattle.papaya_raw.specs.declared.machines.call.Calling.TheVariants as at;
 ghost use Rattle.map_straight.specs.Straight.Going.{CallGoes, CallReaches, MayCall};
-ghost use Rattle.seize_straight.specs.Reaches.{ComesTo};
+ghost use Rattle.seize_straight.specs.Reaches.{HasOutcome};
 ghost use Rattle.map_straight.specs.Straight.Removing.{HasSought, past_all, removed_at, removed_by, removing_at, seeking, sought_at};
 
 use crate::disposing::{Disposed, dispose, dispose_of};
@@ -98,7 +98,7 @@ fn weigh<K, V, Q>(
     finding: Finding,
 ) -> Sought
     ensures { (stands : Point) (loaded : Bool)
-        → ComesTo CallGoes (told_of loaded (seeking {K = K} {V = V} {Q = Q} setting hash asked.now trial stands) word finding) (sought_at setting hash asked.now result) }
+        → HasOutcome CallGoes (after_finding loaded (seeking {K = K} {V = V} {Q = Q} setting hash asked.now trial stands) word finding) (sought_at setting hash asked.now result) }
 {
     match finding {
         Finding::Free => Sought::Ends(RemovalAt::Answered(KeyAnswer::Absent)),

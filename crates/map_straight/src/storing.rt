@@ -3,7 +3,7 @@ ghost use Rattle.std.specs.Prelude.{◌≡◌, ◌≢◌, Bool, true};
 ghost use Rattle.seize_words.specs.OneMemory.Plan.{MaySee, Ends};
 ghost use Rattle.map_tables.specs.declared.marks.TheConstants.{TOMBSTONE as BURIED};
 ghost use Rattle.papaya_raw.specs.Call.{word_read};
-ghost use Rattle.papaya_raw.specs.CallPoints.{told, told_of, untried};
+ghost use Rattle.papaya_raw.specs.CallPoints.{told, after_finding, untried};
 ghost use Rattle.papaya_raw.specs.declared.machines.call.Calling.{Calling as Point};
 ghost use Rattle.papaya_raw.specs.declared.machines.call.Calling.TheVariants as at;
 ghost use Rattle.map_straight.specs.Straight.Going.{CallLeads, CallReaches, MayCall};
@@ -110,7 +110,7 @@ fn judge<K, V, Q>(
     requires plain { is_plain there ≡ true }
     requires own { own ≢ 0 }
     ensures { (stands : Point) (loaded : Bool)
-        → HasTried {K = K} {V = V} {Q = Q} setting hash there own (told_of loaded (storing setting hash there own trial stands) word finding) result }
+        → HasTried {K = K} {V = V} {Q = Q} setting hash there own (after_finding loaded (storing setting hash there own trial stands) word finding) result }
 {
     match finding {
         Finding::Free => Tried::Stands(trial, StoringPoint::Tries(0)),

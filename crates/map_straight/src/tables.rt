@@ -6,7 +6,7 @@ ghost use Rattle.map_rule.specs.Chart.{Chart};
 ghost use Rattle.map_rule.specs.Words.{Blocks};
 ghost use Rattle.seize_words.specs.OneMemory.Word.{block_in};
 ghost use Rattle.seize_words.specs.OneMemory.Mem.{value_at};
-ghost use Rattle.map_straight.specs.Shown.Shown.{Stands, table_at, table_of};
+ghost use Rattle.map_straight.specs.Shown.Shown.{HasMap, table_at, table_of};
 
 use map_tables::table_words::NEXT;
 use map_tables::{Node, Setting, Table};
@@ -26,8 +26,8 @@ fn table_at<K, V>(memory: &Plain<Node<K, V>>, link: u64) -> Option<Table>
 
 /// Returns the root of a map, if it has a table.
 pub fn root_of<K, V>(memory: &Plain<Node<K, V>>, setting: Setting) -> Option<Table>
-    requires { (eq : K → K → Bool) × (hash : K → ℕ) × (c : Chart K) × (blocks : Blocks) × Stands eq hash memory.now setting c blocks }
-    ensures { (eq : K → K → Bool) (hash : K → ℕ) (c : Chart K) (blocks : Blocks) → Stands eq hash memory.now setting c blocks → result ≡ table_at c blocks c.first }
+    requires { (eq : K → K → Bool) × (hash : K → ℕ) × (c : Chart K) × (blocks : Blocks) × HasMap eq hash memory.now setting c blocks }
+    ensures { (eq : K → K → Bool) (hash : K → ℕ) (c : Chart K) (blocks : Blocks) → HasMap eq hash memory.now setting c blocks → result ≡ table_at c blocks c.first }
 {
     let link = memory.look().load(At::Root(setting.root));
     table_at(memory, link)
@@ -39,8 +39,8 @@ pub fn table_behind<K, V>(
     setting: Setting,
     table: Table,
 ) -> Option<Table>
-    requires { (eq : K → K → Bool) × (hash : K → ℕ) × (c : Chart K) × (blocks : Blocks) × Stands eq hash memory.now setting c blocks × (c.first ≤ table.turn) × (table.turn < c.past) × (table ≡ table_of c blocks table.turn) }
-    ensures { (eq : K → K → Bool) (hash : K → ℕ) (c : Chart K) (blocks : Blocks) → Stands eq hash memory.now setting c blocks → c.first ≤ table.turn → table.turn < c.past → table ≡ table_of c blocks table.turn → result ≡ table_at c blocks (suc table.turn) }
+    requires { (eq : K → K → Bool) × (hash : K → ℕ) × (c : Chart K) × (blocks : Blocks) × HasMap eq hash memory.now setting c blocks × (c.first ≤ table.turn) × (table.turn < c.past) × (table ≡ table_of c blocks table.turn) }
+    ensures { (eq : K → K → Bool) (hash : K → ℕ) (c : Chart K) (blocks : Blocks) → HasMap eq hash memory.now setting c blocks → c.first ≤ table.turn → table.turn < c.past → table ≡ table_of c blocks table.turn → result ≡ table_at c blocks (suc table.turn) }
 {
     let link = memory
         .look()

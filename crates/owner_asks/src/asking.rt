@@ -6,8 +6,8 @@ ghost use Rattle.owner_calls.specs.Given.CallersTogether.{IsBegun};
 ghost use Rattle.papaya_raw.specs.CallAsks.{replied};
 ghost use Rattle.papaya_raw.specs.declared.machines.asking.MachineReply.TheVariants as replies;
 ghost use Rattle.papaya_raw.specs.declared.machines.asking.Told.TheVariants as tells;
-ghost use Rattle.owner_asks.specs.Asks.Asking.{IsTaken, EndsAs, Pauses, StartsAs, ToldThis, HasKeyBack, HasPairBack};
-ghost use Rattle.owner_calls.specs.Owned.Calling.{StopsTold, stop_by};
+ghost use Rattle.owner_asks.specs.Asks.Asking.{IsTaken, EndsAs, Pauses, StartsAs, RepliedThis, HasKeyBack, HasPairBack};
+ghost use Rattle.owner_calls.specs.Owned.Calling.{StopsReplied, stop_by};
 ghost use Rattle.owner_calls.specs.Given.StridesEnding.{RunsTo};
 ghost use Rattle.owner_calls.specs.Owned.Machines.{on_key_plan};
 ghost use Rattle.owner_calls.specs.Owned.Owned.{Holds};
@@ -46,12 +46,12 @@ pub(crate) fn finish<K: Eq + Hash + Drop, V: Drop, Q: Equivalent<K>, S: Hashes<K
     requires { (xs : List (K × V)) × (kind : Kind) × (its : Option K) × (keys : K → Bool) × (asked : Option ℕ)
         × Pauses Q.Equivalent.equivalent K.eq S.hash _setting kind its keys xs machine.old memory.old asked × IsTaken kind.takes asked reply }
     ensures ends { (xs : List (K × V)) (kind : Kind) (its : Option K) (keys : K → Bool) (asked : Option ℕ) → Pauses Q.Equivalent.equivalent K.eq S.hash _setting kind its keys xs machine.old memory.old asked
-        → IsTaken kind.takes asked reply → EndsAs K.eq (S.hash machine.old.hasher.now) _setting memory.new keys xs its (ToldThis keys xs reply) result }
+        → IsTaken kind.takes asked reply → EndsAs K.eq (S.hash machine.old.hasher.now) _setting memory.new keys xs its (RepliedThis keys xs reply) result }
     ensures key { (xs : List (K × V)) (kind : Kind) (key : K) (keys : K → Bool) (asked : Option ℕ) → Pauses Q.Equivalent.equivalent K.eq S.hash _setting kind (Some key) keys xs machine.old memory.old asked
         → IsTaken kind.takes asked reply → IfErr result (λ fault. HasKeyBack machine.new key) }
     ensures value { (xs : List (K × V)) (kind : Kind) (key : K) (value : V) (keys : K → Bool) → Pauses Q.Equivalent.equivalent K.eq S.hash _setting kind (Some key) keys xs machine.old memory.old None
         → IsTaken kind.takes None reply → reply ≡ replies.Insert value → IfErr result (λ fault. HasPairBack machine.new key value) }
-    ensures ran { StopsTold Q.Equivalent.equivalent K.eq S.hash machine.old memory.old reply memory.new (stop_by (λ fault. fault) result) }
+    ensures ran { StopsReplied Q.Equivalent.equivalent K.eq S.hash machine.old memory.old reply memory.new (stop_by (λ fault. fault) result) }
 {
     let _taken = machine.call.reply(reply);
     match run_skimming(machine, memory) {

@@ -4,9 +4,9 @@ ghost use Rattle.std.specs.Fn.{FnOnceReturns, FnOnceReturnsAt, FnOnceTakesAt};
 ghost use Rattle.std.specs.Option.{ForNone, ForSome};
 ghost use Rattle.owner_calls.specs.Given.CallersKind.{Kind, tries_to_insert_with, updates, updates_or_inserts};
 ghost use Rattle.owner_calls.specs.Given.CallersPairs.{IsTold};
-ghost use Rattle.owner_asks.specs.Asks.Asking.{IsTaken, Pauses, ToldThis};
-ghost use Rattle.owner_asks.specs.Asks.Closures.{ComesTo, ComesToWith, Updating, UpdatingOrStoring, Storing};
-ghost use Rattle.owner_calls.specs.Owned.Calling.{HasStopped, StopsTold, stop_by};
+ghost use Rattle.owner_asks.specs.Asks.Asking.{IsTaken, Pauses, RepliedThis};
+ghost use Rattle.owner_asks.specs.Asks.Closures.{HasOutcome, HasOutcomeWith, Updating, UpdatingOrStoring, Storing};
+ghost use Rattle.owner_calls.specs.Owned.Calling.{HasStopped, StopsReplied, stop_by};
 ghost use Rattle.owner_calls.specs.Owned.Owned.{Holds, found_by, hashed_by};
 ghost use Rattle.papaya_raw.specs.declared.machines.asking.MachineReply.TheVariants as replies;
 ghost use Rattle.papaya_raw.specs.declared.machines.asking.Takes.TheVariants as takes;
@@ -28,8 +28,8 @@ pub(crate) fn replied<K: Eq + Hash + Drop, V: Drop, S: Hashes<K>>(
     requires { (xs : List (K × V)) × (kind : Kind) × (key : K) × (asked : Option ℕ)
         × Pauses K.eq K.eq S.hash setting kind (Some key) (K.eq key) xs machine.old memory.old asked × IsTaken kind.takes asked reply }
     ensures comes { (xs : List (K × V)) (kind : Kind) (key : K) (asked : Option ℕ) → Pauses K.eq K.eq S.hash setting kind (Some key) (K.eq key) xs machine.old memory.old asked → IsTaken kind.takes asked reply
-        → ComesTo K.eq (S.hash machine.old.hasher.now) setting memory.new key xs (ToldThis (K.eq key) xs reply) result }
-    ensures ran { StopsTold K.eq K.eq S.hash machine.old memory.old reply memory.new (stop_by (λ r. r.fault) result) }
+        → HasOutcome K.eq (S.hash machine.old.hasher.now) setting memory.new key xs (RepliedThis (K.eq key) xs reply) result }
+    ensures ran { StopsReplied K.eq K.eq S.hash machine.old memory.old reply memory.new (stop_by (λ r. r.fault) result) }
 {
     match finish(memory, setting, machine, reply) {
         Ok(answer) => Ok(answer),
@@ -51,7 +51,7 @@ pub fn update<K: Eq + Hash + Drop, V: Drop, S: BuildHasher, F: FnOnce(&V) -> V>(
     requires holds { (xs : List (K × V)) × Holds K.eq (hashed_by S.Hasher.finish S.Hasher.write S.build_hasher K.hash_input hasher.now) setting memory.old xs
         × ForSome (found_by (K.eq key) xs) (λ x. FnOnceTakesAt F.FnOnce make x.1) }
     ensures comes { (xs : List (K × V)) → Holds K.eq (hashed_by S.Hasher.finish S.Hasher.write S.build_hasher K.hash_input hasher.now) setting memory.old xs
-        → ComesTo K.eq (hashed_by S.Hasher.finish S.Hasher.write S.build_hasher K.hash_input hasher.now) setting memory.new key xs (Updating (FnOnceReturnsAt F.FnOnce make)) result }
+        → HasOutcome K.eq (hashed_by S.Hasher.finish S.Hasher.write S.build_hasher K.hash_input hasher.now) setting memory.new key xs (Updating (FnOnceReturnsAt F.FnOnce make)) result }
     ensures ran { HasStopped K.eq K.eq (hashed_by S.Hasher.finish S.Hasher.write S.build_hasher K.hash_input) hasher.entry setting memory.old (K.eq key) (IsTold updates (Some key) []) memory.new (stop_by (λ r. r.fault) result) }
 {
     let hash = hasher.hash_of(&key);
@@ -93,7 +93,7 @@ pub fn update_or_insert_with<
     requires holds { (xs : List (K × V)) × Holds K.eq (hashed_by S.Hasher.finish S.Hasher.write S.build_hasher K.hash_input hasher.now) setting memory.old xs
         × ForNone (found_by (K.eq key) xs) (B.pre begin) × ForSome (found_by (K.eq key) xs) (λ x. FnOnceTakesAt F.FnOnce make x.1) }
     ensures comes { (xs : List (K × V)) → Holds K.eq (hashed_by S.Hasher.finish S.Hasher.write S.build_hasher K.hash_input hasher.now) setting memory.old xs
-        → ComesTo K.eq (hashed_by S.Hasher.finish S.Hasher.write S.build_hasher K.hash_input hasher.now) setting memory.new key xs
+        → HasOutcome K.eq (hashed_by S.Hasher.finish S.Hasher.write S.build_hasher K.hash_input hasher.now) setting memory.new key xs
         (UpdatingOrStoring (FnOnceReturnsAt F.FnOnce make) (λ value. FnOnceReturns B.FnOnce begin tt value)) result }
     ensures ran { HasStopped K.eq K.eq (hashed_by S.Hasher.finish S.Hasher.write S.build_hasher K.hash_input) hasher.entry setting memory.old (K.eq key) (IsTold updates_or_inserts (Some key) []) memory.new (stop_by (λ r. r.fault) result) }
 {
@@ -134,7 +134,7 @@ pub fn update_or_insert<K: Eq + Hash + Drop, V: Drop, S: BuildHasher, F: FnOnce(
     requires holds { (xs : List (K × V)) × Holds K.eq (hashed_by S.Hasher.finish S.Hasher.write S.build_hasher K.hash_input hasher.now) setting memory.old xs
         × ForSome (found_by (K.eq key) xs) (λ x. FnOnceTakesAt F.FnOnce make x.1) }
     ensures comes { (xs : List (K × V)) → Holds K.eq (hashed_by S.Hasher.finish S.Hasher.write S.build_hasher K.hash_input hasher.now) setting memory.old xs
-        → ComesToWith K.eq (hashed_by S.Hasher.finish S.Hasher.write S.build_hasher K.hash_input hasher.now) setting memory.new key xs value
+        → HasOutcomeWith K.eq (hashed_by S.Hasher.finish S.Hasher.write S.build_hasher K.hash_input hasher.now) setting memory.new key xs value
         (UpdatingOrStoring (FnOnceReturnsAt F.FnOnce make) (λ new. new ≡ value)) result }
     ensures ran { HasStopped K.eq K.eq (hashed_by S.Hasher.finish S.Hasher.write S.build_hasher K.hash_input) hasher.entry setting memory.old (K.eq key) (IsTold updates_or_inserts (Some key) []) memory.new (stop_by (λ r. r.fault) result) }
 {
@@ -175,8 +175,8 @@ fn stored<K: Eq + Hash + Drop, V: Drop, S: Hashes<K>>(
 ) -> Result<KeyAnswer, Refused<K, V>>
     requires { (xs : List (K × V)) × (kind : Kind) × (key : K) × Pauses K.eq K.eq S.hash setting kind (Some key) (K.eq key) xs machine.old memory.old None × (kind.takes ≡ takes.Values) }
     ensures comes { (xs : List (K × V)) (kind : Kind) (key : K) → Pauses K.eq K.eq S.hash setting kind (Some key) (K.eq key) xs machine.old memory.old None → kind.takes ≡ takes.Values
-        → ComesToWith K.eq (S.hash machine.old.hasher.now) setting memory.new key xs value (ToldThis (K.eq key) xs (replies.Insert value)) result }
-    ensures ran { StopsTold K.eq K.eq S.hash machine.old memory.old (replies.Insert value) memory.new (stop_by (λ r. r.fault) result) }
+        → HasOutcomeWith K.eq (S.hash machine.old.hasher.now) setting memory.new key xs value (RepliedThis (K.eq key) xs (replies.Insert value)) result }
+    ensures ran { StopsReplied K.eq K.eq S.hash machine.old memory.old (replies.Insert value) memory.new (stop_by (λ r. r.fault) result) }
 {
     match finish(memory, setting, machine, MachineReply::Insert(value)) {
         Ok(answer) => Ok(answer),
@@ -198,7 +198,7 @@ pub fn insert_with<K: Eq + Hash + Drop, V: Drop, S: BuildHasher, B: FnOnce() -> 
     requires holds { (xs : List (K × V)) × Holds K.eq (hashed_by S.Hasher.finish S.Hasher.write S.build_hasher K.hash_input hasher.now) setting memory.old xs
         × ForNone (found_by (K.eq key) xs) (B.pre begin) }
     ensures comes { (xs : List (K × V)) → Holds K.eq (hashed_by S.Hasher.finish S.Hasher.write S.build_hasher K.hash_input hasher.now) setting memory.old xs
-        → ComesTo K.eq (hashed_by S.Hasher.finish S.Hasher.write S.build_hasher K.hash_input hasher.now) setting memory.new key xs (Storing (λ value. FnOnceReturns B.FnOnce begin tt value)) result }
+        → HasOutcome K.eq (hashed_by S.Hasher.finish S.Hasher.write S.build_hasher K.hash_input hasher.now) setting memory.new key xs (Storing (λ value. FnOnceReturns B.FnOnce begin tt value)) result }
     ensures ran { HasStopped K.eq K.eq (hashed_by S.Hasher.finish S.Hasher.write S.build_hasher K.hash_input) hasher.entry setting memory.old (K.eq key) (IsTold tries_to_insert_with (Some key) []) memory.new (stop_by (λ r. r.fault) result) }
 {
     let hash = hasher.hash_of(&key);

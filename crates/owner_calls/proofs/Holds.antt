@@ -3,6 +3,5 @@ pub mod Calls
 pub mod Changes
 pub mod Lists
 pub mod Runs
-mod Samples
 mod Stood
 pub mod Sweeps

@@ -2,3 +2,4 @@ pub mod Owned
 pub mod Sifts
 pub mod Holds
 pub mod Given
+mod Samples

@@ -9,7 +9,7 @@ use seize_words::{Fault, Plain};
 use std::marker::PhantomData;
 use std::snapshot::Snapshot;
 
-/// How many steps there are still at most, where each run comes to an end.
+/// How many steps there are still at most, where each run terminates.
 fn most<T, A, M: StepMachine<T, Progress = Advance<A>>>(
     machine: &M,
     memory: &Plain<T>,

@@ -3,7 +3,7 @@ ghost use Rattle.std.specs.Prelude.{◌≡◌, ℕ, true, IfSome, IsSome, is_som
 ghost use Rattle.seize_words.specs.OneMemory.Mem.{Can, Took, value_at};
 ghost use Rattle.seize_words.specs.OneMemory.Plan.{May, Steps};
 ghost use Rattle.map_tables.specs.declared.node.Node.TheVariants as node;
-ghost use Rattle.map_straight.specs.Given.ResizeLookup.{lookup_plan, names_pair, told_of};
+ghost use Rattle.map_straight.specs.Given.ResizeLookup.{lookup_plan, names_pair, after_finding};
 ghost use Rattle.map_straight.specs.Given.RuleChart.{Chart};
 ghost use Rattle.map_straight.specs.Given.RuleWords.{Blocks};
 ghost use Rattle.owner_whole.specs.Strides.Looking.{LooksIn, at_try};
@@ -49,7 +49,7 @@ fn try_at<'a, K: Eq + Hash, V, Q: Equivalent<K>>(
     trial: Trial,
 ) -> (u64, Finding, Option<(&'a K, &'a V)>)
     requires { May Can Took value_at memory.now (lookup_plan (Q.Equivalent.equivalent asked.now) (at_try lookup.now trial)) }
-    ensures step { Steps Took value_at memory.now (lookup_plan (Q.Equivalent.equivalent asked.now) (at_try lookup.now trial)) memory.now (told_of (at_try lookup.now trial) trial result.0 result.1) }
+    ensures step { Steps Took value_at memory.now (lookup_plan (Q.Equivalent.equivalent asked.now) (at_try lookup.now trial)) memory.now (after_finding (at_try lookup.now trial) trial result.0 result.1) }
     ensures there { is_there result.1 ≡ true → IsSome result.2 }
     ensures pair { IfSome result.2 (λ x. IsPairAt memory.now result.0 (x.0.now, x.1.now)) }
 {

@@ -6,4 +6,3 @@ pub mod Shards
 pub mod Handed
 pub mod Values
 pub mod Calls
-mod Samples

@@ -30,3 +30,4 @@ pub use Rattle.many_maps.proofs.Given.SeizeRulePoints
 pub use Rattle.many_maps.proofs.Given.SeizeRuleRows
 pub use Rattle.many_maps.proofs.Given.SeizeRuleWorld
 pub use Rattle.many_maps.proofs.Given.SeizeWaitingCounts
+pub use Rattle.many_maps.proofs.Samples as ManyMapsSamples

@@ -2,3 +2,4 @@ pub mod Alone
 pub mod Maps
 pub mod Descends
 pub mod Given
+mod Samples

@@ -4,5 +4,4 @@ pub mod Reserves
 pub mod Rests
 pub mod Ends
 pub mod NextTables
-mod Samples
 pub mod Laws

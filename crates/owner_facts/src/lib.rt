@@ -1,4 +1,4 @@
-//! A map over a memory that has one owner: calls that never wait, how it begins, and how it comes to its end.
+//! A map over a memory that has one owner: calls that never wait, how it begins, and how it terminates.
 #![tactic(auto)]
 
 pub mod law;

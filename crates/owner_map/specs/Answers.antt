@@ -39,5 +39,5 @@ name_of_either (Err x) first second = second x
 
 module _ (K V S R H : RattleType) (key : HashMembers K.Denot) (build : builder.Ghosts S.Denot H.Denot) (hash : hasher.Ghosts H.Denot) where
   -- An answer has the map under this name, which then ends as that leaves it. Where the call was refused, the map ends as one of which this holds.
-  abbrev pub RestsUnless : {A E : Type 0} → MutBor (Map K.Denot V.Denot S.Denot) → Result A E → (A → GName) → (Map K.Denot V.Denot S.Denot → Type 0) → Fml
-  RestsUnless map r name Holds = RestsIfErr (map_row K V S R H key build hash) map name r Holds
+  abbrev pub QuiescentUnless : {A E : Type 0} → MutBor (Map K.Denot V.Denot S.Denot) → Result A E → (A → GName) → (Map K.Denot V.Denot S.Denot → Type 0) → Fml
+  QuiescentUnless map r name Holds = RestsIfErr (map_row K V S R H key build hash) map name r Holds

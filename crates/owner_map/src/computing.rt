@@ -6,7 +6,7 @@ ghost use Rattle.map_straight.specs.Shown.Chain.{CannotGrow};
 ghost use Rattle.seize_words.specs.declared.fault.Fault.TheVariants.{Capacity};
 ghost use Rattle.owner_rests.specs.Given.{found_by};
 ghost use Rattle.owner_rests.specs.Rests.Asking.{HasComputed, IsRefusedFor};
-ghost use Rattle.owner_map.specs.Answers.{IsRefused, RestsUnless};
+ghost use Rattle.owner_map.specs.Answers.{IsRefused, QuiescentUnless};
 ghost use Rattle.owner_map.specs.Computes as computes;
 ghost use Rattle.owner_rests.specs.Rests.Held.{stored_computing};
 ghost use Rattle.owner_rests.specs.ShowsPairs.Maps.{HasNow, Keeps};
@@ -58,7 +58,7 @@ impl<K: Eq + Hash + Drop, V: Drop, S: BuildHasher, R: Receiver<(K, V)>> HashMap<
         decide: F,
     ) -> Result<Compute<'_, K, V, S, T, R>, RefusedKey<K>>
         requires callable { ComputingTakes F.FnOnce decide (found_by (K.eq key) self.old.pairs) }
-        ensures* after { sem 𝓛 (RestsUnless K.row V.row S.row R.row S.Hasher.row K.Hash S.BuildHasher S.Hasher.Hasher self.entry result (λ done. computes.name_of done) (λ map. IfErr result (λ r. IsRefused self.old map r.fault))) }
+        ensures* after { sem 𝓛 (QuiescentUnless K.row V.row S.row R.row S.Hasher.row K.Hash S.BuildHasher S.Hasher.Hasher self.entry result (λ done. computes.name_of done) (λ map. IfErr result (λ r. IsRefused self.old map r.fault))) }
         ensures same { IfOk result (λ done. computes.name_of done ≡ self.entry.ghost_name) }
         ensures done { IfOk result (λ done. computes.HasComputed (K.eq key) key (ComputesAs F.FnOnce decide) self.old done) }
         ensures shown { IfOk result (λ done. computes.IsShown done) }

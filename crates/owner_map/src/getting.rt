@@ -5,7 +5,7 @@ ghost use Rattle.std.specs.Fn.{FnOnceReturns};
 ghost use Rattle.std.specs.Option.{ForNone};
 ghost use Rattle.owner_asks.specs.Given.LateFaults.{IsRoom};
 ghost use Rattle.owner_rests.specs.Given.{found_by};
-ghost use Rattle.owner_map.specs.Answers.{HasAdded, IsLeft, IsRefused, RestsUnless, name_of_either};
+ghost use Rattle.owner_map.specs.Answers.{HasAdded, IsLeft, IsRefused, QuiescentUnless, name_of_either};
 
 use crate::answers::Present;
 use crate::asking;
@@ -24,7 +24,7 @@ impl<K: Eq + Hash + Drop, V: Drop, S: BuildHasher, R: Receiver<(K, V)>> HashMap<
         key: K,
         value: V,
     ) -> Result<Present<'_, K, V, S, R>, Refused<K, V>>
-        ensures* after { sem 𝓛 (RestsUnless K.row V.row S.row R.row S.Hasher.row K.Hash S.BuildHasher S.Hasher.Hasher self.entry result (λ done. done.map.ghost_name) (λ map. IfErr result (λ r. IsRefused self.old map r.fault))) }
+        ensures* after { sem 𝓛 (QuiescentUnless K.row V.row S.row R.row S.Hasher.row K.Hash S.BuildHasher S.Hasher.Hasher self.entry result (λ done. done.map.ghost_name) (λ map. IfErr result (λ r. IsRefused self.old map r.fault))) }
         ensures same { IfOk result (λ done. done.map.ghost_name ≡ self.entry.ghost_name) }
         ensures got { IfOk result (λ done. MatchOption (found_by (K.eq key) self.old.pairs) (HasAdded self.old done.map.now (key, value)) (λ x. IsLeft self.old done.map.now (Some x))) }
         ensures met { IfOk result (λ done. IsTrue (is_some done.map.now.met)) }
@@ -46,7 +46,7 @@ impl<K: Eq + Hash + Drop, V: Drop, S: BuildHasher, R: Receiver<(K, V)>> HashMap<
         begin: B,
     ) -> Result<Present<'_, K, V, S, R>, RefusedKey<K>>
         requires callable { ForNone (found_by (K.eq key) self.old.pairs) (B.pre begin) }
-        ensures* after { sem 𝓛 (RestsUnless K.row V.row S.row R.row S.Hasher.row K.Hash S.BuildHasher S.Hasher.Hasher self.entry result (λ done. done.map.ghost_name) (λ map. IfErr result (λ r. IsRefused self.old map r.fault))) }
+        ensures* after { sem 𝓛 (QuiescentUnless K.row V.row S.row R.row S.Hasher.row K.Hash S.BuildHasher S.Hasher.Hasher self.entry result (λ done. done.map.ghost_name) (λ map. IfErr result (λ r. IsRefused self.old map r.fault))) }
         ensures same { IfOk result (λ done. done.map.ghost_name ≡ self.entry.ghost_name) }
         ensures got { IfOk result (λ done. MatchOption (found_by (K.eq key) self.old.pairs) ((new : V) × FnOnceReturns B.FnOnce begin tt new × HasAdded self.old done.map.now (key, new)) (λ x. IsLeft self.old done.map.now (Some x))) }
         ensures met { IfOk result (λ done. IsTrue (is_some done.map.now.met)) }
@@ -69,7 +69,7 @@ impl<K: Eq + Hash + Drop, V: Drop, S: BuildHasher, R: Receiver<(K, V)>> HashMap<
         begin: B,
     ) -> Result<Result<Present<'_, K, V, S, R>, Present<'_, K, V, S, R>>, RefusedKey<K>>
         requires callable { ForNone (found_by (K.eq key) self.old.pairs) (B.pre begin) }
-        ensures* after { sem 𝓛 (RestsUnless K.row V.row S.row R.row S.Hasher.row K.Hash S.BuildHasher S.Hasher.Hasher self.entry result (λ tried. name_of_either tried (λ done. done.map.ghost_name) (λ there. there.map.ghost_name)) (λ map. IfErr result (λ r. IsRefused self.old map r.fault))) }
+        ensures* after { sem 𝓛 (QuiescentUnless K.row V.row S.row R.row S.Hasher.row K.Hash S.BuildHasher S.Hasher.Hasher self.entry result (λ tried. name_of_either tried (λ done. done.map.ghost_name) (λ there. there.map.ghost_name)) (λ map. IfErr result (λ r. IsRefused self.old map r.fault))) }
         ensures same { IfOk result (λ tried. MatchResult tried (λ done. done.map.ghost_name ≡ self.entry.ghost_name) (λ there. there.map.ghost_name ≡ self.entry.ghost_name)) }
         ensures stored { IfOk result (λ tried. IfOk tried (λ done. (found_by (K.eq key) self.old.pairs ≡ None) × (new : V) × FnOnceReturns B.FnOnce begin tt new × HasAdded self.old done.map.now (key, new))) }
         ensures found { IfOk result (λ tried. IfErr tried (λ there. IsLeft self.old there.map.now (found_by (K.eq key) self.old.pairs))) }

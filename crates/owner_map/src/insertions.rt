@@ -7,7 +7,7 @@ ghost use Rattle.map_straight.specs.Shown.Chain.{CannotGrow};
 ghost use Rattle.seize_words.specs.declared.fault.Fault.TheVariants.{Capacity};
 ghost use Rattle.owner_rests.specs.Given.{found_by, left_by};
 ghost use Rattle.owner_rests.specs.Rests.Held.{if_stored, if_tried};
-ghost use Rattle.owner_map.specs.Answers.{HasAdded, IsLeft, IsRefused, RestsUnless, name_of_either};
+ghost use Rattle.owner_map.specs.Answers.{HasAdded, IsLeft, IsRefused, QuiescentUnless, name_of_either};
 ghost use Rattle.owner_rests.specs.ShowsPairs.Maps.{Keeps, LastTook};
 ghost use Rattle.owner_rests.specs.ShowsPairs.Stored.{HasPut};
 
@@ -94,7 +94,7 @@ impl<K: Eq + Hash + Drop, V: Drop, S: BuildHasher, R: Receiver<(K, V)>> HashMap<
     /// Stores a pair, also in the place of another one of its key, and lends the value that it replaced, if there was one. The faults are `Fault::Capacity`,
     /// where no table can follow the map's last one, and `Fault::Memory`; then no pair has changed, and key and value come back.
     pub fn insert(&mut self, key: K, value: V) -> Result<Replaced<'_, K, V, S, R>, Refused<K, V>>
-        ensures* after { sem 𝓛 (RestsUnless K.row V.row S.row R.row S.Hasher.row K.Hash S.BuildHasher S.Hasher.Hasher self.entry result (λ done. done.map.ghost_name) (λ map. IfErr result (λ r. IsRefused self.old map r.fault))) }
+        ensures* after { sem 𝓛 (QuiescentUnless K.row V.row S.row R.row S.Hasher.row K.Hash S.BuildHasher S.Hasher.Hasher self.entry result (λ done. done.map.ghost_name) (λ map. IfErr result (λ r. IsRefused self.old map r.fault))) }
         ensures same { IfOk result (λ done. done.map.ghost_name ≡ self.entry.ghost_name) }
         ensures stored { IfOk result (λ done. IsPermutation done.map.now.pairs (left_by (K.eq key) self.old.pairs ++ ((key, value) ∷ []))) }
         ensures last { IfOk result (λ done. LastTook done.map.now (found_by (K.eq key) self.old.pairs) (Some (key, value))) }
@@ -118,7 +118,7 @@ impl<K: Eq + Hash + Drop, V: Drop, S: BuildHasher, R: Receiver<(K, V)>> HashMap<
         key: K,
         value: V,
     ) -> Result<Result<Present<'_, K, V, S, R>, OccupiedError<'_, K, V, S, R>>, Refused<K, V>>
-        ensures* after { sem 𝓛 (RestsUnless K.row V.row S.row R.row S.Hasher.row K.Hash S.BuildHasher S.Hasher.Hasher self.entry result (λ tried. name_of_either tried (λ done. done.map.ghost_name) (λ there. there.map.ghost_name)) (λ map. IfErr result (λ r. IsRefused self.old map r.fault))) }
+        ensures* after { sem 𝓛 (QuiescentUnless K.row V.row S.row R.row S.Hasher.row K.Hash S.BuildHasher S.Hasher.Hasher self.entry result (λ tried. name_of_either tried (λ done. done.map.ghost_name) (λ there. there.map.ghost_name)) (λ map. IfErr result (λ r. IsRefused self.old map r.fault))) }
         ensures same { IfOk result (λ tried. MatchResult tried (λ done. done.map.ghost_name ≡ self.entry.ghost_name) (λ there. there.map.ghost_name ≡ self.entry.ghost_name)) }
         ensures stored { IfOk result (λ tried. IfOk tried (λ done. (found_by (K.eq key) self.old.pairs ≡ None) × HasAdded self.old done.map.now (key, value))) }
         ensures found { IfOk result (λ tried. IfErr tried (λ there. IsLeft self.old there.map.now (found_by (K.eq key) self.old.pairs))) }

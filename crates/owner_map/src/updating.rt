@@ -5,7 +5,7 @@ ghost use Rattle.std.specs.Fn.{FnOnceReturns, FnOnceReturnsAt, FnOnceTakesAt};
 ghost use Rattle.std.specs.Option.{ForNone, ForSome};
 ghost use Rattle.owner_asks.specs.Given.LateFaults.{IsRoom};
 ghost use Rattle.owner_rests.specs.Given.{found_by};
-ghost use Rattle.owner_map.specs.Answers.{HasAdded, HasReplaced, IsLeft, IsRefused, RestsUnless};
+ghost use Rattle.owner_map.specs.Answers.{HasAdded, HasReplaced, IsLeft, IsRefused, QuiescentUnless};
 
 use crate::answers::{Present, Updated};
 use crate::asking;
@@ -24,7 +24,7 @@ impl<K: Eq + Hash + Drop, V: Drop, S: BuildHasher, R: Receiver<(K, V)>> HashMap<
         make: F,
     ) -> Result<Updated<'_, K, V, S, R>, RefusedKey<K>>
         requires callable { ForSome (found_by (K.eq key) self.old.pairs) (λ x. FnOnceTakesAt F.FnOnce make x.1) }
-        ensures* after { sem 𝓛 (RestsUnless K.row V.row S.row R.row S.Hasher.row K.Hash S.BuildHasher S.Hasher.Hasher self.entry result (λ done. done.map.ghost_name) (λ map. IfErr result (λ r. IsRefused self.old map r.fault))) }
+        ensures* after { sem 𝓛 (QuiescentUnless K.row V.row S.row R.row S.Hasher.row K.Hash S.BuildHasher S.Hasher.Hasher self.entry result (λ done. done.map.ghost_name) (λ map. IfErr result (λ r. IsRefused self.old map r.fault))) }
         ensures same { IfOk result (λ done. done.map.ghost_name ≡ self.entry.ghost_name) }
         ensures done { IfOk result (λ done. MatchOption (found_by (K.eq key) self.old.pairs) (IsLeft self.old done.map.now None) (λ x. (new : V) × FnOnceReturnsAt F.FnOnce make x.1 new × HasReplaced self.old done.map.now (K.eq key) x (key, new))) }
         ensures back { IfErr result (λ r. r.key ≡ key) }
@@ -48,7 +48,7 @@ impl<K: Eq + Hash + Drop, V: Drop, S: BuildHasher, R: Receiver<(K, V)>> HashMap<
     ) -> Result<Present<'_, K, V, S, R>, RefusedKey<K>>
         requires begins { ForNone (found_by (K.eq key) self.old.pairs) (B.pre begin) }
         requires makes { ForSome (found_by (K.eq key) self.old.pairs) (λ x. FnOnceTakesAt F.FnOnce make x.1) }
-        ensures* after { sem 𝓛 (RestsUnless K.row V.row S.row R.row S.Hasher.row K.Hash S.BuildHasher S.Hasher.Hasher self.entry result (λ done. done.map.ghost_name) (λ map. IfErr result (λ r. IsRefused self.old map r.fault))) }
+        ensures* after { sem 𝓛 (QuiescentUnless K.row V.row S.row R.row S.Hasher.row K.Hash S.BuildHasher S.Hasher.Hasher self.entry result (λ done. done.map.ghost_name) (λ map. IfErr result (λ r. IsRefused self.old map r.fault))) }
         ensures same { IfOk result (λ done. done.map.ghost_name ≡ self.entry.ghost_name) }
         ensures done { IfOk result (λ done. MatchOption (found_by (K.eq key) self.old.pairs) ((new : V) × FnOnceReturns B.FnOnce begin tt new × HasAdded self.old done.map.now (key, new)) (λ x. (new : V) × FnOnceReturnsAt F.FnOnce make x.1 new × HasReplaced self.old done.map.now (K.eq key) x (key, new))) }
         ensures met { IfOk result (λ done. IsTrue (is_some done.map.now.met)) }
@@ -72,7 +72,7 @@ impl<K: Eq + Hash + Drop, V: Drop, S: BuildHasher, R: Receiver<(K, V)>> HashMap<
         value: V,
     ) -> Result<Present<'_, K, V, S, R>, Refused<K, V>>
         requires callable { ForSome (found_by (K.eq key) self.old.pairs) (λ x. FnOnceTakesAt F.FnOnce make x.1) }
-        ensures* after { sem 𝓛 (RestsUnless K.row V.row S.row R.row S.Hasher.row K.Hash S.BuildHasher S.Hasher.Hasher self.entry result (λ done. done.map.ghost_name) (λ map. IfErr result (λ r. IsRefused self.old map r.fault))) }
+        ensures* after { sem 𝓛 (QuiescentUnless K.row V.row S.row R.row S.Hasher.row K.Hash S.BuildHasher S.Hasher.Hasher self.entry result (λ done. done.map.ghost_name) (λ map. IfErr result (λ r. IsRefused self.old map r.fault))) }
         ensures same { IfOk result (λ done. done.map.ghost_name ≡ self.entry.ghost_name) }
         ensures done { IfOk result (λ done. MatchOption (found_by (K.eq key) self.old.pairs) (HasAdded self.old done.map.now (key, value)) (λ x. (new : V) × FnOnceReturnsAt F.FnOnce make x.1 new × HasReplaced self.old done.map.now (K.eq key) x (key, new))) }
         ensures met { IfOk result (λ done. IsTrue (is_some done.map.now.met)) }

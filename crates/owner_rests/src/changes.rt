@@ -7,7 +7,7 @@ ghost use Rattle.owner_calls.specs.Holds.Came.{NoneCame};
 ghost use Rattle.owner_calls.specs.Holds.Held.{HoldsOn, held_in};
 ghost use Rattle.owner_calls.specs.Owned.Owned.{Holds, found_by, hashed_by, left_by};
 ghost use Rattle.owner_rests.specs.Rests.Calls.{has_removed};
-ghost use Rattle.owner_rests.specs.Rests.Lasts.{RestsWith};
+ghost use Rattle.owner_rests.specs.Rests.Lasts.{QuiescentWith};
 ghost use Rattle.owner_rests.specs.Rests.Refreshed.{HasRefreshed, OnceRefreshed};
 ghost use Rattle.owner_calls.specs.Owned.Calling.{HasStopped};
 ghost use Rattle.owner_calls.specs.Given.CallersPairs.{Begun};
@@ -71,9 +71,9 @@ pub fn remove<K: Eq + Hash + Drop, V: Drop, Q: Equivalent<K>, S: BuildHasher>(
     requires { (xs : List (K × V)) × Holds K.eq (hashed_by S.Hasher.finish S.Hasher.write S.build_hasher K.hash_input hasher.now) setting memory.old xs }
     ensures some { (xs : List (K × V)) → Holds K.eq (hashed_by S.Hasher.finish S.Hasher.write S.build_hasher K.hash_input hasher.now) setting memory.old xs → IfOk result (λ was. was ≡ is_some (found_by (Q.Equivalent.equivalent asked.now) xs)) }
     ensures removed { (xs : List (K × V)) → Holds K.eq (hashed_by S.Hasher.finish S.Hasher.write S.build_hasher K.hash_input hasher.now) setting memory.old xs
-        → OnOk result (RestsWith K.eq (hashed_by S.Hasher.finish S.Hasher.write S.build_hasher K.hash_input hasher.now) setting memory.new last.new (left_by (Q.Equivalent.equivalent asked.now) xs) (found_by (Q.Equivalent.equivalent asked.now) xs) None) }
+        → OnOk result (QuiescentWith K.eq (hashed_by S.Hasher.finish S.Hasher.write S.build_hasher K.hash_input hasher.now) setting memory.new last.new (left_by (Q.Equivalent.equivalent asked.now) xs) (found_by (Q.Equivalent.equivalent asked.now) xs) None) }
     ensures refused { (xs : List (K × V)) → Holds K.eq (hashed_by S.Hasher.finish S.Hasher.write S.build_hasher K.hash_input hasher.now) setting memory.old xs
-        → OnErr result (RestsWith K.eq (hashed_by S.Hasher.finish S.Hasher.write S.build_hasher K.hash_input hasher.now) setting memory.new last.new xs None None) }
+        → OnErr result (QuiescentWith K.eq (hashed_by S.Hasher.finish S.Hasher.write S.build_hasher K.hash_input hasher.now) setting memory.new last.new xs None None) }
     ensures fault { IfErr result IsRoom }
     ensures capacity { (xs : List (K × V)) → Holds K.eq (hashed_by S.Hasher.finish S.Hasher.write S.build_hasher K.hash_input hasher.now) setting memory.old xs → IfErr result (λ fault. fault ≡ Capacity → CannotGrowIn memory.new setting) }
     ensures steady { (xs : List (K × V)) → Holds K.eq (hashed_by S.Hasher.finish S.Hasher.write S.build_hasher K.hash_input hasher.now) setting memory.old xs → HasOneTable setting memory.old → IsOk result }

@@ -6,7 +6,7 @@ ghost use Rattle.map_straight.specs.Shown.Chain.{CannotGrowIn};
 ghost use Rattle.owner_calls.specs.Owned.Owned.{Holds, found_by, hashed_by};
 ghost use Rattle.owner_rests.specs.Rests.Asking.{ComputesToIt};
 ghost use Rattle.owner_rests.specs.Rests.Held.{stored_computing};
-ghost use Rattle.owner_rests.specs.Rests.Lasts.{RestsWith, pair_in};
+ghost use Rattle.owner_rests.specs.Rests.Lasts.{QuiescentWith, pair_in};
 ghost use Rattle.seize_words.specs.declared.fault.Fault.TheVariants.{Capacity};
 ghost use Rattle.owner_rests.specs.Rests.Refreshed.{OnceRefreshed};
 ghost use Rattle.owner_calls.specs.Owned.Calling.{HasStopped};
@@ -39,7 +39,7 @@ pub fn compute<
     requires holds { (xs : List (K × V)) × Holds K.eq (hashed_by S.Hasher.finish S.Hasher.write S.build_hasher K.hash_input hasher.now) setting memory.old xs
         × ComputingTakes F.FnOnce decide (found_by (K.eq key) xs) }
     ensures comes { (xs : List (K × V)) → Holds K.eq (hashed_by S.Hasher.finish S.Hasher.write S.build_hasher K.hash_input hasher.now) setting memory.old xs
-        → ComputesToIt (K.eq key) (Some key) (ComputesAs F.FnOnce decide) xs (RestsWith K.eq (hashed_by S.Hasher.finish S.Hasher.write S.build_hasher K.hash_input hasher.now) setting memory.new last.new) (λ r. r.fault) result }
+        → ComputesToIt (K.eq key) (Some key) (ComputesAs F.FnOnce decide) xs (QuiescentWith K.eq (hashed_by S.Hasher.finish S.Hasher.write S.build_hasher K.hash_input hasher.now) setting memory.new last.new) (λ r. r.fault) result }
     ensures back { IfErr result (λ r. r.key ≡ key) }
     ensures capacity { (xs : List (K × V)) → Holds K.eq (hashed_by S.Hasher.finish S.Hasher.write S.build_hasher K.hash_input hasher.now) setting memory.old xs → IfErr result (λ r. r.fault ≡ Capacity → CannotGrowIn memory.new setting) }
     ensures because { IfErr result (λ r. OnceRefreshed setting memory.old (λ m. HasStopped K.eq K.eq (hashed_by S.Hasher.finish S.Hasher.write S.build_hasher K.hash_input) hasher.entry setting m (K.eq key) (IsTold computes (Some key) []) memory.new (Err r.fault))) }

@@ -8,11 +8,11 @@ ghost use Rattle.map_tables.specs.declared.node.Node.TheVariants as node;
 ghost use Rattle.owner_calls.specs.Holds.Held.{HoldsOn, held_in};
 ghost use Rattle.owner_calls.specs.Given.CallersPairs.{Begun};
 ghost use Rattle.owner_calls.specs.Owned.Calling.{HasStopped};
-ghost use Rattle.owner_calls.specs.Owned.Owned.{Holds, EndsBy, ComesBack, found_by, hashed_by, left_by};
+ghost use Rattle.owner_calls.specs.Owned.Owned.{Holds, EndsBy, IsReturned, found_by, hashed_by, left_by};
 ghost use Rattle.owner_rests.specs.Rests.Storing.{storing};
 ghost use Rattle.owner_rests.specs.Rests.Calls.{StoresPair, has_found, has_replaced};
 ghost use Rattle.owner_rests.specs.Rests.Held.{if_stored, if_tried};
-ghost use Rattle.owner_rests.specs.Rests.Lasts.{RestsWith};
+ghost use Rattle.owner_rests.specs.Rests.Lasts.{QuiescentWith};
 ghost use Rattle.owner_rests.specs.Rests.Refreshed.{OnceRefreshed};
 
 use crate::changes::refresh;
@@ -40,7 +40,7 @@ fn store<K: Eq + Hash + Drop, V: Drop, S: BuildHasher>(
         → StoresPair (hashed_by S.Hasher.finish S.Hasher.write S.build_hasher K.hash_input hasher.now) setting k v kind (storing setting hasher.entry hash there key value).call
         → EndsBy K.eq (hashed_by S.Hasher.finish S.Hasher.write S.build_hasher K.hash_input hasher.now) setting memory.new kind (Some (node.Pair k v)) (K.eq k) xs result.0 }
     ensures back { (xs : List (K × V)) (kind : Kind) (k : K) (v : V) → Holds K.eq (hashed_by S.Hasher.finish S.Hasher.write S.build_hasher K.hash_input hasher.now) setting memory.old xs
-        → StoresPair (hashed_by S.Hasher.finish S.Hasher.write S.build_hasher K.hash_input hasher.now) setting k v kind (storing setting hasher.entry hash there key value).call → ComesBack (Some (node.Pair k v)) result.0 result.1 }
+        → StoresPair (hashed_by S.Hasher.finish S.Hasher.write S.build_hasher K.hash_input hasher.now) setting k v kind (storing setting hasher.entry hash there key value).call → IsReturned (Some (node.Pair k v)) result.0 result.1 }
     ensures ran { (kind : Kind) (k : K) (v : V) → StoresPair (hashed_by S.Hasher.finish S.Hasher.write S.build_hasher K.hash_input hasher.now) setting k v kind (storing setting hasher.entry hash there key value).call
         → HasStopped K.eq K.eq (hashed_by S.Hasher.finish S.Hasher.write S.build_hasher K.hash_input) hasher.entry setting memory.old (K.eq k) (Begun kind (Some (node.Pair k v))) memory.new result.0 }
 {
@@ -100,9 +100,9 @@ pub fn insert<K: Eq + Hash + Drop, V: Drop, S: BuildHasher>(
     requires { (xs : List (K × V)) × Holds K.eq (hashed_by S.Hasher.finish S.Hasher.write S.build_hasher K.hash_input hasher.now) setting memory.old xs }
     ensures some { (xs : List (K × V)) → Holds K.eq (hashed_by S.Hasher.finish S.Hasher.write S.build_hasher K.hash_input hasher.now) setting memory.old xs → IfOk result (λ was. was ≡ is_some (found_by (K.eq key) xs)) }
     ensures stored { (xs : List (K × V)) → Holds K.eq (hashed_by S.Hasher.finish S.Hasher.write S.build_hasher K.hash_input hasher.now) setting memory.old xs
-        → OnOk result (RestsWith K.eq (hashed_by S.Hasher.finish S.Hasher.write S.build_hasher K.hash_input hasher.now) setting memory.new last.new (left_by (K.eq key) xs ++ ((key, value) ∷ [])) (found_by (K.eq key) xs) (Some (key, value))) }
+        → OnOk result (QuiescentWith K.eq (hashed_by S.Hasher.finish S.Hasher.write S.build_hasher K.hash_input hasher.now) setting memory.new last.new (left_by (K.eq key) xs ++ ((key, value) ∷ [])) (found_by (K.eq key) xs) (Some (key, value))) }
     ensures refused { (xs : List (K × V)) → Holds K.eq (hashed_by S.Hasher.finish S.Hasher.write S.build_hasher K.hash_input hasher.now) setting memory.old xs
-        → OnErr result (RestsWith K.eq (hashed_by S.Hasher.finish S.Hasher.write S.build_hasher K.hash_input hasher.now) setting memory.new last.new xs None None) }
+        → OnErr result (QuiescentWith K.eq (hashed_by S.Hasher.finish S.Hasher.write S.build_hasher K.hash_input hasher.now) setting memory.new last.new xs None None) }
     ensures back { IfErr result (λ r. (r.key ≡ key) × (r.value ≡ value)) }
     ensures fault { IfErr result (λ r. IsRoom r.fault) }
     ensures capacity { (xs : List (K × V)) → Holds K.eq (hashed_by S.Hasher.finish S.Hasher.write S.build_hasher K.hash_input hasher.now) setting memory.old xs → IfErr result (λ r. r.fault ≡ Capacity → CannotGrowIn memory.new setting) }
@@ -133,12 +133,12 @@ pub fn try_insert<K: Eq + Hash + Drop, V: Drop, S: BuildHasher>(
 ) -> Result<Result<(), V>, Refused<K, V>>
     requires { (xs : List (K × V)) × Holds K.eq (hashed_by S.Hasher.finish S.Hasher.write S.build_hasher K.hash_input hasher.now) setting memory.old xs }
     ensures stored { (xs : List (K × V)) → Holds K.eq (hashed_by S.Hasher.finish S.Hasher.write S.build_hasher K.hash_input hasher.now) setting memory.old xs
-        → IfOk result (λ tried. OnOk tried ((found_by (K.eq key) xs ≡ None) × RestsWith K.eq (hashed_by S.Hasher.finish S.Hasher.write S.build_hasher K.hash_input hasher.now) setting memory.new last.new (xs ++ ((key, value) ∷ [])) None (Some (key, value)))) }
+        → IfOk result (λ tried. OnOk tried ((found_by (K.eq key) xs ≡ None) × QuiescentWith K.eq (hashed_by S.Hasher.finish S.Hasher.write S.build_hasher K.hash_input hasher.now) setting memory.new last.new (xs ++ ((key, value) ∷ [])) None (Some (key, value)))) }
     ensures found { (xs : List (K × V)) → Holds K.eq (hashed_by S.Hasher.finish S.Hasher.write S.build_hasher K.hash_input hasher.now) setting memory.old xs
-        → IfOk result (λ tried. OnErr tried (IsTrue (is_some (found_by (K.eq key) xs)) × RestsWith K.eq (hashed_by S.Hasher.finish S.Hasher.write S.build_hasher K.hash_input hasher.now) setting memory.new last.new xs None (found_by (K.eq key) xs))) }
+        → IfOk result (λ tried. OnErr tried (IsTrue (is_some (found_by (K.eq key) xs)) × QuiescentWith K.eq (hashed_by S.Hasher.finish S.Hasher.write S.build_hasher K.hash_input hasher.now) setting memory.new last.new xs None (found_by (K.eq key) xs))) }
     ensures kept { IfOk result (λ tried. IfErr tried (λ back. back ≡ value)) }
     ensures refused { (xs : List (K × V)) → Holds K.eq (hashed_by S.Hasher.finish S.Hasher.write S.build_hasher K.hash_input hasher.now) setting memory.old xs
-        → OnErr result (RestsWith K.eq (hashed_by S.Hasher.finish S.Hasher.write S.build_hasher K.hash_input hasher.now) setting memory.new last.new xs None None) }
+        → OnErr result (QuiescentWith K.eq (hashed_by S.Hasher.finish S.Hasher.write S.build_hasher K.hash_input hasher.now) setting memory.new last.new xs None None) }
     ensures back { IfErr result (λ r. (r.key ≡ key) × (r.value ≡ value)) }
     ensures fault { IfErr result (λ r. IsRoom r.fault) }
     ensures capacity { (xs : List (K × V)) → Holds K.eq (hashed_by S.Hasher.finish S.Hasher.write S.build_hasher K.hash_input hasher.now) setting memory.old xs → IfErr result (λ r. r.fault ≡ Capacity → CannotGrowIn memory.new setting) }

@@ -10,7 +10,7 @@ ghost use Rattle.map_tables.specs.Lengths.{IsTableLen};
 ghost use Rattle.map_tables.specs.Nodes.{deferred_word};
 ghost use Rattle.owner_calls.specs.Holds.Held.{held_in};
 ghost use Rattle.owner_calls.specs.Owned.Owned.{Holds, hashed_by};
-ghost use Rattle.owner_calls.specs.Owned.Rooms.{AreTooMany, ShowTables, tables_for, tables_with};
+ghost use Rattle.owner_calls.specs.Owned.Rooms.{AreTooMany, RepresentTables, tables_for, tables_with};
 
 use map_tables::{Node, ResizeMode, Setting, entries_for};
 use owner_calls::run;
@@ -49,7 +49,7 @@ pub fn begin<K: Eq + Hash + Drop, V: Drop, S: BuildHasher>(
     requires initial { IsPowerOfTwo (max places 1) }
     requires table { IsTableLen (max places 8) }
     ensures held { IfOk result (λ setting. Holds K.eq (hashed_by S.Hasher.finish S.Hasher.write S.build_hasher K.hash_input _hasher.now) setting memory.new []) }
-    ensures tables { IfOk result (λ setting. ShowTables setting memory.new (tables_with places)) }
+    ensures tables { IfOk result (λ setting. RepresentTables setting memory.new (tables_with places)) }
     ensures fault { IfErr result (λ fault. fault ≡ Memory) }
     ensures bare { ((b : ℕ) → value_at memory.old b ≡ None) → held_in memory.new ≡ [] }
 {

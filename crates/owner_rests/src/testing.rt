@@ -5,8 +5,8 @@ ghost use Rattle.owner_asks.specs.Asks.Closures.{Removing, TestsAs, TestTakes};
 ghost use Rattle.owner_calls.specs.Holds.Held.{HoldsOn, held_in};
 ghost use Rattle.map_straight.specs.Shown.Chain.{CannotGrowIn};
 ghost use Rattle.owner_calls.specs.Owned.Owned.{Holds, found_by, hashed_by};
-ghost use Rattle.owner_rests.specs.Rests.Asking.{ComesToIt};
-ghost use Rattle.owner_rests.specs.Rests.Lasts.{RestsWith};
+ghost use Rattle.owner_rests.specs.Rests.Asking.{ChangeHasOutcome};
+ghost use Rattle.owner_rests.specs.Rests.Lasts.{QuiescentWith};
 ghost use Rattle.seize_words.specs.declared.fault.Fault.TheVariants.{Capacity};
 ghost use Rattle.owner_rests.specs.Rests.Refreshed.{OnceRefreshed};
 ghost use Rattle.owner_calls.specs.Owned.Calling.{HasStopped};
@@ -41,7 +41,7 @@ pub fn remove_if<
     requires holds { (xs : List (K × V)) × Holds K.eq (hashed_by S.Hasher.finish S.Hasher.write S.build_hasher K.hash_input hasher.now) setting memory.old xs
         × ForSome (found_by (Q.Equivalent.equivalent asked.now) xs) (TestTakes F.FnOnce test) }
     ensures comes { (xs : List (K × V)) → Holds K.eq (hashed_by S.Hasher.finish S.Hasher.write S.build_hasher K.hash_input hasher.now) setting memory.old xs
-        → ComesToIt (Q.Equivalent.equivalent asked.now) None (Removing (TestsAs F.FnOnce test)) xs (RestsWith K.eq (hashed_by S.Hasher.finish S.Hasher.write S.build_hasher K.hash_input hasher.now) setting memory.new last.new) (λ fault. fault) result }
+        → ChangeHasOutcome (Q.Equivalent.equivalent asked.now) None (Removing (TestsAs F.FnOnce test)) xs (QuiescentWith K.eq (hashed_by S.Hasher.finish S.Hasher.write S.build_hasher K.hash_input hasher.now) setting memory.new last.new) (λ fault. fault) result }
     ensures capacity { (xs : List (K × V)) → Holds K.eq (hashed_by S.Hasher.finish S.Hasher.write S.build_hasher K.hash_input hasher.now) setting memory.old xs → IfErr result (λ fault. fault ≡ Capacity → CannotGrowIn memory.new setting) }
     ensures steady { (xs : List (K × V)) → Holds K.eq (hashed_by S.Hasher.finish S.Hasher.write S.build_hasher K.hash_input hasher.now) setting memory.old xs → HasOneTable setting memory.old → IsOk result }
     ensures steady_then { (xs : List (K × V)) → Holds K.eq (hashed_by S.Hasher.finish S.Hasher.write S.build_hasher K.hash_input hasher.now) setting memory.old xs → HasOneTable setting memory.old → HasOneTable setting memory.new }

@@ -2,3 +2,4 @@ pub mod Whole
 pub mod Lowers
 pub mod Strides
 pub mod Given
+mod Samples

@@ -14,4 +14,3 @@ mod Unwritten
 pub mod ItsPair
 pub mod Waits
 pub mod Looks
-mod Samples

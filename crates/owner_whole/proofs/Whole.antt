@@ -7,4 +7,3 @@ pub mod Keys
 pub mod Rooms
 pub mod Sweeps
 pub mod Contents
-mod Samples

@@ -1,1 +1,3 @@
-mod OneMap
+pub mod Below
+mod Builders
+mod Homes

@@ -1,3 +1,2 @@
-pub mod OneMap
-pub mod Sessions
-pub mod Lent
+pub mod Builders
+pub mod Given

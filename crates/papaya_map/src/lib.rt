@@ -1,13 +1,14 @@
 //! A hash map that threads share. It owns its memory and its hasher; each of those who share it has a session.
 #![tactic(auto)]
 
+mod builder;
+mod making;
 mod map;
-mod session;
 mod shared;
 
+pub use builder::{Given, HashMapBuilder, Own};
 pub use map::HashMap;
-pub use seize::IdSource;
+pub use papaya_sessions::{Attempt, HashMapRef, Pass, Session};
+pub use seize::{Collector, IdSource};
 pub use seize_words::{Fault, Refused};
-pub use session::Session;
 pub use shared::SharedMap;
-pub use threads_calls::Attempt;

@@ -3,8 +3,12 @@ ghost use Rattle.std.specs.Prelude.{◌≡◌, ◌^◌, [], Some, true, IfOk, na
 ghost use Rattle.map_tables.specs.Chunks.{is_incremental};
 ghost use Rattle.threads_calls.specs.Given.CallersStanding.{known_by};
 
-use crate::session::Session;
+mod asking;
+mod looking;
+mod storing;
+
 use map_tables::{Hashes, Node, Setting};
+use papaya_sessions::{Pass, Session};
 use seize_blocks::{Blocks, Seat};
 use seize_words::Fault;
 use std::hash::{Hash, RandomState};
@@ -17,6 +21,8 @@ pub struct SharedMap<'m, K: Eq + Hash + Drop, V: Drop, S: Hashes<K> = RandomStat
     pub(crate) hasher: &'m S,
     pub(crate) setting: Setting,
     pub(crate) seat: &'m Seat<Node<K, V>, OfMaps<S>>,
+    /// The number of its collector.
+    pub(crate) number: u64,
     pub(crate) ghost own: { seat.now.base ≡ blocks.now.words.id.views_name },
     pub(crate) ghost knows: { known_by seat.now.view ≡ Some (setting, hasher.now) },
     pub(crate) ghost sized: { blocks.now.words.fixed.batch_size ≡ setting.batch_size },
@@ -25,14 +31,33 @@ pub struct SharedMap<'m, K: Eq + Hash + Drop, V: Drop, S: Hashes<K> = RandomStat
 }
 
 impl<'m, K: Eq + Hash + Drop, V: Drop, S: Hashes<K>> SharedMap<'m, K, V, S> {
+    /// Returns the number of its collector.
+    pub fn number(&self) -> u64
+        ensures { result ≡ self.now.number }
+    {
+        self.number
+    }
+
     /// Begins a session on the map. The faults are `Fault::SlotsUsedUp` and `Fault::Memory`.
     pub fn session(&self) -> Result<Session<'m, K, V, S>, Fault>
         ensures memory { IfOk result (λ session. session.base.caller.blocks.now ≡ self.now.blocks.now) }
         ensures map { IfOk result (λ session. session.base.caller.seat.view.map ≡ self.now.seat.now.view.map) }
         ensures none { IfOk result (λ session. session.base.caller.seat.view.calls ≡ []) }
+        ensures number { IfOk result (λ session. session.number ≡ self.now.number) }
     {
         let seat = newcomer(self.blocks, self.seat);
         let base = Base::of(self.blocks, self.hasher, self.setting, seat);
-        Session::begin(base)
+        Session::begin(base, self.number)
+    }
+
+    /// Makes a pass of the map, which may be sent to a thread: by it keys are looked up under any session of the map.
+    pub fn pass(&self) -> Pass<K, V, S>
+        ensures memory { result.base.seat.base ≡ self.now.blocks.now.words.id.views_name }
+        ensures number { result.number ≡ self.now.number }
+        ensures none { result.base.seat.view.calls ≡ [] }
+    {
+        let seat = newcomer(self.blocks, self.seat);
+        let base = Base::of(self.blocks, self.hasher, self.setting, seat);
+        Pass::of(&base, self.number)
     }
 }

@@ -20,7 +20,7 @@ use Rattle.map_sweeps.specs.Given.ResizeDispose.{dispose_plan}
 use Rattle.map_sweeps.specs.Given.ResizeCopier.{copier_plan}
 use Rattle.papaya_raw.specs.Answers.{ended}
 use Rattle.papaya_raw.specs.CallFills.{asks_at}
-use Rattle.papaya_raw.specs.CallPoints.{word_to, standing, going, over, told_answer, ending, tableless, at_last, told, entering, went_on, changed, counted}
+use Rattle.papaya_raw.specs.CallPoints.{word_to, standing, going, over, answered_with, ending, tableless, at_last, told, entering, continued_in, changed, counted}
 use Rattle.map_tables.specs.declared.table_words.TheConstants.{NEXT}
 use Rattle.map_tables.specs.declared.node.Node.{Node}
 use Rattle.map_tables.specs.declared.node.Node.TheVariants as nodes
@@ -80,7 +80,7 @@ module _ {K V Q : Type 0} where
   abbrev pub next_read : KeyCall K V Q → ℕ → Then (Node K V) (KeyCall K V Q × Called (Node K V))
   next_read c link =
       if link == 0 then Now (at_last c.missing c)
-      else Seeing (block_in link) (λ value. Now (went_on c (table_seen link value)))
+      else Seeing (block_in link) (λ value. Now (continued_in c (table_seen link value)))
 
   abbrev pub next_found : KeyCall K V Q → Out (Node K V) → Then (Node K V) (KeyCall K V Q × Called (Node K V))
   next_found c (Found link) = next_read c link
@@ -142,13 +142,13 @@ module _ {K V Q : Type 0} where
   abbrev pub looked : KeyCall K V Q → Lookup × Advance (Option ℕ) → KeyCall K V Q × Called (Node K V)
   looked c (lookup, progress.Goes) = going c (at.Looks lookup)
   looked c (lookup, progress.Waits) = (standing c (at.Looks lookup), Waits)
-  looked c (lookup, progress.Done (Some found)) = told_answer c (answers.Found found)
-  looked c (lookup, progress.Done None) = told_answer c answers.Absent
+  looked c (lookup, progress.Done (Some found)) = answered_with c (answers.Found found)
+  looked c (lookup, progress.Done None) = answered_with c answers.Absent
   looked c (lookup, progress.Refused fault) = over c (ends.Refused fault)
 
   abbrev pub looks_for : (Q → K → Bool) → KeyCall K V Q → Lookup → Option Q → Plan (Node K V) (KeyCall K V Q × Called (Node K V))
   looks_for asks c lookup (Some asked) = plan_as (looked c) (lookup_plan (asks asked) lookup)
-  looks_for asks c lookup None = Turn (Now (told_answer c answers.Absent))
+  looks_for asks c lookup None = Turn (Now (answered_with c answers.Absent))
 
   -- looks for the key
   abbrev pub looks : (Q → K → Bool) → KeyCall K V Q → Lookup → Plan (Node K V) (KeyCall K V Q × Called (Node K V))
@@ -168,7 +168,7 @@ module _ {K V Q : Type 0} where
   abbrev pub next_made : KeyCall K V Q → NewTable × Advance Table → KeyCall K V Q × Called (Node K V)
   next_made c (making, progress.Goes) = going c (at.Allocs making)
   next_made c (making, progress.Waits) = (standing c (at.Allocs making), Waits)
-  next_made c (making, progress.Done table) = went_on c table
+  next_made c (making, progress.Done table) = continued_in c table
   next_made c (making, progress.Refused fault) = ending c (ends.Refused fault)
 
   abbrev pub allocs : KeyCall K V Q → NewTable → Plan (Node K V) (KeyCall K V Q × Called (Node K V))
@@ -179,7 +179,7 @@ module _ {K V Q : Type 0} where
   disposed c answer (dispose, settling.Goes) = going c (at.Disposes dispose answer)
   disposed c answer (dispose, settling.Waits) = (standing c (at.Disposes dispose answer), Waits)
   disposed c answer (dispose, settling.Gave value) = (standing c (at.Disposes dispose answer), Gave value)
-  disposed c answer (dispose, settling.Done) = told_answer c answer
+  disposed c answer (dispose, settling.Done) = answered_with c answer
 
   abbrev pub disposes : KeyCall K V Q → Dispose → KeyAnswer → Plan (Node K V) (KeyCall K V Q × Called (Node K V))
   disposes c dispose answer = plan_as (disposed c answer) (dispose_plan dispose)

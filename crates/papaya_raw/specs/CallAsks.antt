@@ -50,28 +50,28 @@ module _ {K V Q : Type 0} where
   refusing c told = (c, Err told)
 
   -- what to do where the key is missing
-  abbrev pub absent_told : Takes → KeyCall K V Q → Gap → MachineReply V → KeyCall K V Q × Result Unit (MachineReply V)
-  absent_told takes.Values c gap (reply.Insert value) = ((at_gap gap (with_absent c value)).0, Ok tt)
-  absent_told takes.Changes c gap (reply.Insert value) = ((at_gap gap (with_absent c value)).0, Ok tt)
-  absent_told takes.Changes c gap reply.Remove = ((ending c (ends.Refused RemoveNothing)).0, Ok tt)
-  absent_told takes.Changes c gap reply.Abort = ((answering c answers.Absent).0, Ok tt)
-  absent_told _ c gap told = refusing c told
+  abbrev pub absent_replied : Takes → KeyCall K V Q → Gap → MachineReply V → KeyCall K V Q × Result Unit (MachineReply V)
+  absent_replied takes.Values c gap (reply.Insert value) = ((at_gap gap (with_absent c value)).0, Ok tt)
+  absent_replied takes.Changes c gap (reply.Insert value) = ((at_gap gap (with_absent c value)).0, Ok tt)
+  absent_replied takes.Changes c gap reply.Remove = ((ending c (ends.Refused RemoveNothing)).0, Ok tt)
+  absent_replied takes.Changes c gap reply.Abort = ((answering c answers.Absent).0, Ok tt)
+  absent_replied _ c gap told = refusing c told
 
   -- What to do with the pair of a word. Yes and no are not remembered: it asks again for a pair that it meets again.
-  abbrev pub present_told : Takes → KeyCall K V Q → ℕ → MachineReply V → KeyCall K V Q × Result Unit (MachineReply V)
-  present_told takes.Values c word (reply.Insert value) = (standing (with_present c word (tells.Value value)) (at.Asks (asking.Fills word)), Ok tt)
-  present_told takes.Changes c word (reply.Insert value) = (standing (with_present c word (tells.Value value)) (at.Asks (asking.Fills word)), Ok tt)
-  present_told takes.Changes c word reply.Remove = ((burying (with_present c word tells.Removes) word).0, Ok tt)
-  present_told takes.Changes c word reply.Abort = ((answering c (answers.Found word)).0, Ok tt)
-  present_told takes.Choices c word reply.Yes = ((burying c word).0, Ok tt)
-  present_told takes.Choices c word reply.No = ((answering c (answers.Found word)).0, Ok tt)
-  present_told _ c word told = refusing c told
+  abbrev pub present_replied : Takes → KeyCall K V Q → ℕ → MachineReply V → KeyCall K V Q × Result Unit (MachineReply V)
+  present_replied takes.Values c word (reply.Insert value) = (standing (with_present c word (tells.Value value)) (at.Asks (asking.Fills word)), Ok tt)
+  present_replied takes.Changes c word (reply.Insert value) = (standing (with_present c word (tells.Value value)) (at.Asks (asking.Fills word)), Ok tt)
+  present_replied takes.Changes c word reply.Remove = ((burying (with_present c word tells.Removes) word).0, Ok tt)
+  present_replied takes.Changes c word reply.Abort = ((answering c (answers.Found word)).0, Ok tt)
+  present_replied takes.Choices c word reply.Yes = ((burying c word).0, Ok tt)
+  present_replied takes.Choices c word reply.No = ((answering c (answers.Found word)).0, Ok tt)
+  present_replied _ c word told = refusing c told
 
-  abbrev pub told_at : Calling → KeyCall K V Q → MachineReply V → KeyCall K V Q × Result Unit (MachineReply V)
-  told_at (at.Asks (asking.Absent gap)) c told = absent_told c.replies.takes c gap told
-  told_at (at.Asks (asking.Present word)) c told = present_told c.replies.takes c word told
-  told_at _ c told = refusing c told
+  abbrev pub replied_at : Calling → KeyCall K V Q → MachineReply V → KeyCall K V Q × Result Unit (MachineReply V)
+  replied_at (at.Asks (asking.Absent gap)) c told = absent_replied c.replies.takes c gap told
+  replied_at (at.Asks (asking.Present word)) c told = present_replied c.replies.takes c word told
+  replied_at _ c told = refusing c told
 
   -- how it goes on by a reply, and whether it has taken it
   abbrev pub replied : KeyCall K V Q → MachineReply V → KeyCall K V Q × Result Unit (MachineReply V)
-  replied c told = told_at c.stands c told
+  replied c told = replied_at c.stands c told

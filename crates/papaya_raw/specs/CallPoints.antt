@@ -103,8 +103,8 @@ module _ {K V Q : Type 0} where
   abbrev pub over : KeyCall K V Q → End → KeyCall K V Q × Called (Node K V)
   over c end = (standing c (at.Over end), ended end)
 
-  abbrev pub told_answer : KeyCall K V Q → KeyAnswer → KeyCall K V Q × Called (Node K V)
-  told_answer c answer = over c (ends.Answered answer)
+  abbrev pub answered_with : KeyCall K V Q → KeyAnswer → KeyCall K V Q × Called (Node K V)
+  answered_with c answer = over c (ends.Answered answer)
 
   -- it ends, once it has given up its own block, if it has one
   abbrev pub ending : KeyCall K V Q → End → KeyCall K V Q × Called (Node K V)
@@ -201,15 +201,15 @@ module _ {K V Q : Type 0} where
   halted loaded c = if loaded then (standing c at.Probes, Waits) else going c at.Probes
 
   -- how it goes on by what the word of a try says
-  abbrev pub told_of : Bool → KeyCall K V Q → ℕ → Finding → KeyCall K V Q × Called (Node K V)
-  told_of loaded c word is.Free = at_free c.missing c
-  told_of loaded c word is.Passed = passed (having_met c word) (next_trial (with_met c.trial word))
-  told_of loaded c word is.Moved = going c at.Nexts
-  told_of loaded c word is.Copying = halted loaded c
-  told_of loaded c word is.There = at_pair c.there c word
+  abbrev pub after_finding : Bool → KeyCall K V Q → ℕ → Finding → KeyCall K V Q × Called (Node K V)
+  after_finding loaded c word is.Free = at_free c.missing c
+  after_finding loaded c word is.Passed = passed (having_met c word) (next_trial (with_met c.trial word))
+  after_finding loaded c word is.Moved = going c at.Nexts
+  after_finding loaded c word is.Copying = halted loaded c
+  after_finding loaded c word is.There = at_pair c.there c word
 
   abbrev pub told : Bool → KeyCall K V Q → ℕ → Bool → KeyCall K V Q × Called (Node K V)
-  told loaded c word same = told_of loaded c word (finding c.setting.mode (aim_of c.missing) word same)
+  told loaded c word same = after_finding loaded c word (finding c.setting.mode (aim_of c.missing) word same)
 
   -- a table is entered
   abbrev pub entering : KeyCall K V Q → Table → KeyCall K V Q × Called (Node K V)
@@ -217,8 +217,8 @@ module _ {K V Q : Type 0} where
 
   -- A table follows the one that was tried. Where pairs move in incremental mode, a call helps once before it goes on there; else the
   -- whole table is copied first.
-  abbrev pub went_on : KeyCall K V Q → Table → KeyCall K V Q × Called (Node K V)
-  went_on c table =
+  abbrev pub continued_in : KeyCall K V Q → Table → KeyCall K V Q × Called (Node K V)
+  continued_in c table =
       if is_incremental c.setting.mode
       then (if c.helped then entering c table else going (record c { helped = true }) (at.Helps (helping c.setting) table))
       else going c (at.Copies (copying_all c.setting c.trial.table table))

@@ -27,13 +27,13 @@ use Rattle.map_sweeps.specs.Reserves.Reserve.{reserve_plan}
 
 module _ {V : Type 0} where
   -- a sweep that asks for a pair keeps it by yes, and removes it by no; it takes no other reply
-  abbrev pub sweep_told : Sweeping → Sweep → MachineReply V → Sweep × Result Unit (MachineReply V)
-  sweep_told (at.Asks word) c reply.Yes = (after_reply c true, Ok tt)
-  sweep_told (at.Asks word) c reply.No = (after_reply c false, Ok tt)
-  sweep_told _ c told = (c, Err told)
+  abbrev pub sweep_with_reply : Sweeping → Sweep → MachineReply V → Sweep × Result Unit (MachineReply V)
+  sweep_with_reply (at.Asks word) c reply.Yes = (after_reply c true, Ok tt)
+  sweep_with_reply (at.Asks word) c reply.No = (after_reply c false, Ok tt)
+  sweep_with_reply _ c told = (c, Err told)
 
   abbrev pub sweep_replied : Sweep → MachineReply V → Sweep × Result Unit (MachineReply V)
-  sweep_replied c told = sweep_told c.stands c told
+  sweep_replied c told = sweep_with_reply c.stands c told
 
 -- a walk is asked for its next pair, if it is ready
 abbrev pub is_ready : Sweeping → Bool

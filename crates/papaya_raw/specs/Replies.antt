@@ -8,9 +8,9 @@ use Rattle.papaya_raw.specs.declared.machines.asking.Replies.{Replies}
 
 module _ {V : Type 0} where
   -- the value that it was told
-  abbrev pub value_told : Told V → Option V
-  value_told (tells.Value value) = Some value
-  value_told _ = None
+  abbrev pub value_replied : Told V → Option V
+  value_replied (tells.Value value) = Some value
+  value_replied _ = None
 
   -- its own block is to have that value
   abbrev pub owned : Told V → Told V
@@ -28,7 +28,7 @@ module _ {K V : Type 0} where
 
   -- the value that is to be stored in the place of a word: an empty one, or that of the pair which was asked for last
   abbrev pub value_for : Replies K V → ℕ → Option V
-  value_for r word = value_told (if word == 0 then r.absent else r.present)
+  value_for r word = value_replied (if word == 0 then r.absent else r.present)
 
   -- its own block is to have that value
   abbrev pub as_own : Replies K V → ℕ → Replies K V

@@ -1,6 +1,6 @@
 //! What a run tells at its end of the maps that live.
 ghost use Rattle.std.specs.Prelude.{◌≡◌, map, IfOk};
-ghost use Rattle.papaya_steps.specs.WholeRuns.Ending.{shown_of, told_map};
+ghost use Rattle.papaya_steps.specs.WholeRuns.Ending.{shown_of, map_reported};
 
 use crate::NamedMap;
 use run_effects::tally::Tally;
@@ -14,7 +14,7 @@ pub fn living(
     maps: Crowd<NamedMap>,
     tally: &Tally,
 ) -> Result<Vec<Living>, AllocError>
-    ensures { IfOk result (λ living. map shown_of living.items ≡ map (told_map tally.now) maps) }
+    ensures { IfOk result (λ living. map shown_of living.items ≡ map (map_reported tally.now) maps) }
 {
     let by_map = tally.by_map(alloc)?;
     let maps = maps.into_items()?;

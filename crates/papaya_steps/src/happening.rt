@@ -2,13 +2,13 @@
 ghost use Rattle.std.specs.Prelude.{◌≡◌, length, IfOk};
 ghost use Rattle.play_events.specs.Events.Asked.{HappensAt, HappensDue, HoldsThen, MayHappen, MayHappenDue, numbers_on};
 ghost use Rattle.papaya_steps.specs.WholeRuns.Back.{GivesAt, GivesDue};
-ghost use Rattle.papaya_steps.specs.WholeRuns.GoingOn.{GoesOnAt, GoesOnDue};
+ghost use Rattle.papaya_steps.specs.WholeRuns.GoingOn.{ContinuesAt, ContinuesInTurn};
 ghost use Rattle.papaya_steps.specs.WholeRuns.Kinds.{event_of_call, event_of_maps, event_of_slots};
-ghost use Rattle.play_events.specs.Events.OfAll.{KeepsAll};
-ghost use Rattle.play_events.specs.Events.OfCalls.{KeepsAt, KeepsDue};
-ghost use Rattle.play_events.specs.Events.OfRows.{KeepsRun, KeepsRunAt};
-ghost use Rattle.play_events.specs.Events.OfSetups.{KeepsSetup};
-ghost use Rattle.play_events.specs.Given.ExecutorIsThere.{KeepsGiven, StaysGiven};
+ghost use Rattle.play_events.specs.Events.OfAll.{PreservesAll};
+ghost use Rattle.play_events.specs.Events.OfCalls.{PreservesAt, PreservesInTurn};
+ghost use Rattle.play_events.specs.Events.OfRows.{PreservesRun, PreservesRunAt};
+ghost use Rattle.play_events.specs.Events.OfSetups.{PreservesSetup};
+ghost use Rattle.play_events.specs.Given.ExecutorIsThere.{PreservesSettings, StaysGiven};
 
 use crate::kinds::{CallEvent, Kind, MapEvent, SlotEvent, kind_of};
 use crate::{Played, Scheduler, close, end_map, go, make_map, next, one_call, reclaim_all, step};
@@ -29,10 +29,10 @@ fn of_maps<K: Eq + Hash + Drop, V: Drop, S: Hashes<K>>(
     ensures happens { IfOk result (λ played. HappensDue K.eq (S.hash scheduler.old.logged.executor.hasher) is_first (event_of_maps event) played scheduler.old scheduler.new) }
     ensures back { IfOk result (λ played. GivesDue K.eq (S.hash scheduler.old.logged.executor.hasher) (event_of_maps event) played scheduler.old back.old.items back.new.items) }
     ensures count { IfOk result (λ played. length scheduler.new.logged.executor.maps.items ≡ numbers_on (event_of_maps {K = K} {V = V} event) played.outcome (length scheduler.old.logged.executor.maps.items)) }
-    ensures rows { IfOk result (λ played. KeepsRun K.eq (S.hash scheduler.old.logged.executor.hasher) (event_of_maps event) played scheduler.old scheduler.new) }
-    ensures setups { IfOk result (λ played. KeepsSetup K.eq (S.hash scheduler.old.logged.executor.hasher) (event_of_maps event) played scheduler.old scheduler.new) }
-    ensures all { IfOk result (λ played. KeepsAll K.eq (S.hash scheduler.old.logged.executor.hasher) (event_of_maps event) played scheduler.old scheduler.new) }
-    ensures acts { IfOk result (λ played. GoesOnDue K.eq S.hash (event_of_maps event) played scheduler.old scheduler.new) }
+    ensures rows { IfOk result (λ played. PreservesRun K.eq (S.hash scheduler.old.logged.executor.hasher) (event_of_maps event) played scheduler.old scheduler.new) }
+    ensures setups { IfOk result (λ played. PreservesSetup K.eq (S.hash scheduler.old.logged.executor.hasher) (event_of_maps event) played scheduler.old scheduler.new) }
+    ensures all { IfOk result (λ played. PreservesAll K.eq (S.hash scheduler.old.logged.executor.hasher) (event_of_maps event) played scheduler.old scheduler.new) }
+    ensures acts { IfOk result (λ played. ContinuesInTurn K.eq S.hash (event_of_maps event) played scheduler.old scheduler.new) }
     ensures given { StaysGiven scheduler.old.logged.executor scheduler.new.logged.executor }
 {
     match event {
@@ -54,10 +54,10 @@ fn of_slots<K: Eq + Hash + Drop, V: Drop, S: Hashes<K>>(
     requires { MayHappenDue K.eq (S.hash scheduler.old.logged.executor.hasher) (event_of_slots event) scheduler.old }
     ensures happens { IfOk result (λ played. HappensDue K.eq (S.hash scheduler.old.logged.executor.hasher) is_first (event_of_slots event) played scheduler.old scheduler.new) }
     ensures back { IfOk result (λ played. GivesDue K.eq (S.hash scheduler.old.logged.executor.hasher) (event_of_slots event) played scheduler.old back.old.items back.new.items) }
-    ensures rows { IfOk result (λ played. KeepsRun K.eq (S.hash scheduler.old.logged.executor.hasher) (event_of_slots event) played scheduler.old scheduler.new) }
-    ensures setups { IfOk result (λ played. KeepsSetup K.eq (S.hash scheduler.old.logged.executor.hasher) (event_of_slots event) played scheduler.old scheduler.new) }
-    ensures acts { IfOk result (λ played. GoesOnDue K.eq S.hash (event_of_slots event) played scheduler.old scheduler.new) }
-    ensures given { KeepsGiven scheduler.old.logged.executor scheduler.new.logged.executor }
+    ensures rows { IfOk result (λ played. PreservesRun K.eq (S.hash scheduler.old.logged.executor.hasher) (event_of_slots event) played scheduler.old scheduler.new) }
+    ensures setups { IfOk result (λ played. PreservesSetup K.eq (S.hash scheduler.old.logged.executor.hasher) (event_of_slots event) played scheduler.old scheduler.new) }
+    ensures acts { IfOk result (λ played. ContinuesInTurn K.eq S.hash (event_of_slots event) played scheduler.old scheduler.new) }
+    ensures given { PreservesSettings scheduler.old.logged.executor scheduler.new.logged.executor }
 {
     match event {
         SlotEvent::Collector(setup) => Ok(scheduler.collector(setup, is_first)),
@@ -82,9 +82,9 @@ fn of_calls<K: Eq + Hash + Drop, V: Drop, S: Hashes<K>>(
 ) -> Result<Played<V>, AllocError>
     requires { MayHappenDue K.eq (S.hash scheduler.old.logged.executor.hasher) (event_of_call event) scheduler.old }
     ensures happens { IfOk result (λ played. HappensDue K.eq (S.hash scheduler.old.logged.executor.hasher) is_first (event_of_call event) played scheduler.old scheduler.new) }
-    ensures keeps { IfOk result (λ played. KeepsDue K.eq (S.hash scheduler.old.logged.executor.hasher) (event_of_call event) played scheduler.old scheduler.new) }
-    ensures acts { IfOk result (λ played. GoesOnDue K.eq S.hash (event_of_call event) played scheduler.old scheduler.new) }
-    ensures given { KeepsGiven scheduler.old.logged.executor scheduler.new.logged.executor }
+    ensures keeps { IfOk result (λ played. PreservesInTurn K.eq (S.hash scheduler.old.logged.executor.hasher) (event_of_call event) played scheduler.old scheduler.new) }
+    ensures acts { IfOk result (λ played. ContinuesInTurn K.eq S.hash (event_of_call event) played scheduler.old scheduler.new) }
+    ensures given { PreservesSettings scheduler.old.logged.executor scheduler.new.logged.executor }
 {
     match event {
         CallEvent::Begin(caller, guard, map, call) => scheduler.begin(caller, guard, &map, call),
@@ -109,11 +109,11 @@ pub fn happen<K: Eq + Hash + Drop, V: Drop, S: Hashes<K>>(
     ensures happens { IfOk result (λ played. HappensAt K.eq (S.hash scheduler.old.logged.executor.hasher) is_first event played scheduler.old scheduler.new) }
     ensures holds { IfOk result (λ played. HoldsThen K.eq (S.hash scheduler.old.logged.executor.hasher) is_first event played scheduler.old scheduler.new) }
     ensures back { IfOk result (λ played. GivesAt K.eq (S.hash scheduler.old.logged.executor.hasher) event played scheduler.old back.old.items back.new.items) }
-    ensures rows { IfOk result (λ played. KeepsRunAt K.eq (S.hash scheduler.old.logged.executor.hasher) event played scheduler.old scheduler.new) }
-    ensures setups { IfOk result (λ played. KeepsSetup K.eq (S.hash scheduler.old.logged.executor.hasher) event played scheduler.old scheduler.new) }
-    ensures all { IfOk result (λ played. KeepsAll K.eq (S.hash scheduler.old.logged.executor.hasher) event played scheduler.old scheduler.new) }
-    ensures keeps { IfOk result (λ played. KeepsAt K.eq (S.hash scheduler.old.logged.executor.hasher) event played scheduler.old scheduler.new) }
-    ensures acts { IfOk result (λ played. GoesOnAt K.eq S.hash event played scheduler.old scheduler.new) }
+    ensures rows { IfOk result (λ played. PreservesRunAt K.eq (S.hash scheduler.old.logged.executor.hasher) event played scheduler.old scheduler.new) }
+    ensures setups { IfOk result (λ played. PreservesSetup K.eq (S.hash scheduler.old.logged.executor.hasher) event played scheduler.old scheduler.new) }
+    ensures all { IfOk result (λ played. PreservesAll K.eq (S.hash scheduler.old.logged.executor.hasher) event played scheduler.old scheduler.new) }
+    ensures keeps { IfOk result (λ played. PreservesAt K.eq (S.hash scheduler.old.logged.executor.hasher) event played scheduler.old scheduler.new) }
+    ensures acts { IfOk result (λ played. ContinuesAt K.eq S.hash event played scheduler.old scheduler.new) }
     ensures given { StaysGiven scheduler.old.logged.executor scheduler.new.logged.executor }
 {
     if scheduler.is_closed {

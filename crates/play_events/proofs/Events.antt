@@ -8,3 +8,4 @@ pub mod OfMakings
 pub mod OfAll
 pub mod OfSetups
 pub mod Nobody
+pub mod Refusals

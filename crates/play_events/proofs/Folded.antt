@@ -3,4 +3,3 @@ pub mod Effects
 pub mod Seen
 pub mod Logs
 pub mod Steps
-pub mod Samples

@@ -3,11 +3,6 @@ pub use Rattle.play_lists.proofs.Agrees.FirstPlaces as AgreesFirstPlaces
 pub use Rattle.play_lists.proofs.Drives.Executors as DrivesExecutors
 pub use Rattle.play_lists.proofs.Given.ActsLists
 pub use Rattle.play_lists.proofs.Given.FindsOver
-pub use Rattle.play_lists.proofs.Given.LoggedChoosing
-pub use Rattle.play_lists.proofs.Given.LoggedGivenBack
-pub use Rattle.play_lists.proofs.Given.RowsLists
-pub use Rattle.play_lists.proofs.Given.RowsNeverWaits
-pub use Rattle.play_lists.proofs.Given.RowsRan
 pub use Rattle.play_lists.proofs.Grouped.AllGoes as GroupedAllGoes
 pub use Rattle.play_lists.proofs.Grouped.Aside as GroupedAside
 pub use Rattle.play_lists.proofs.Grouped.CallBegins as GroupedCallBegins
@@ -28,6 +23,7 @@ pub use Rattle.play_stepping.proofs.Given.MomentsNewMaps
 pub use Rattle.play_stepping.proofs.Given.MomentsNumbers
 pub use Rattle.play_stepping.proofs.Given.PointsLawful
 pub use Rattle.play_stepping.proofs.Given.PointsMaking
+pub use Rattle.play_stepping.proofs.Given.RowsLists
 pub use Rattle.play_stepping.proofs.Given.SchedulerBegins
 pub use Rattle.play_stepping.proofs.Given.SchedulerBusy
 pub use Rattle.play_stepping.proofs.Given.SchedulerChosen
@@ -58,6 +54,10 @@ pub use Rattle.run_kept.proofs.Sheds.Held as ShedsHeld
 pub use Rattle.run_kept.proofs.Sheds.KeptGiven as ShedsKeptGiven
 pub use Rattle.run_legal.proofs.Begin as LegalBegin
 pub use Rattle.run_legal.proofs.Come as LegalCome
+pub use Rattle.run_legal.proofs.Given.LoggedChoosing
+pub use Rattle.run_legal.proofs.Given.LoggedGivenBack
+pub use Rattle.run_legal.proofs.Given.RowsNeverWaits
+pub use Rattle.run_legal.proofs.Given.RowsRan
 pub use Rattle.run_legal.proofs.Legal as LegalLegal
 pub use Rattle.seize_acts.proofs.Acts.Answers as SeizeActsAnswers
 pub use Rattle.seize_acts.proofs.Given.SeizeEndsBatches

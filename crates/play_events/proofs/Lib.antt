@@ -1,3 +1,4 @@
 pub mod Folded
 pub mod Events
 pub mod Given
+pub mod Samples

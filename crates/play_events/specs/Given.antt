@@ -10,15 +10,6 @@ pub use Rattle.play_lists.specs.Given.FindsLittle
 pub use Rattle.play_lists.specs.Given.FindsTornDown
 pub use Rattle.play_lists.specs.Given.FindsWaiting
 pub use Rattle.play_lists.specs.Given.FollowsBlocks
-pub use Rattle.play_lists.specs.Given.LoggedBack
-pub use Rattle.play_lists.specs.Given.LoggedChoosing
-pub use Rattle.play_lists.specs.Given.LoggedContracts
-pub use Rattle.play_lists.specs.Given.LoggedDeclared
-pub use Rattle.play_lists.specs.Given.LoggedEnds
-pub use Rattle.play_lists.specs.Given.LoggedGoes
-pub use Rattle.play_lists.specs.Given.LoggedMakings
-pub use Rattle.play_lists.specs.Given.LoggedShown
-pub use Rattle.play_lists.specs.Given.RowsRows
 pub use Rattle.play_lists.specs.Grouped.ByActs as GroupedByActs
 pub use Rattle.play_lists.specs.Grouped.Called as GroupedCalled
 pub use Rattle.play_lists.specs.Grouped.Grouping as GroupedGrouping
@@ -34,6 +25,12 @@ pub use Rattle.play_stepping.specs.Given.ExecutorIsThere
 pub use Rattle.play_stepping.specs.Given.ExecutorOnSlots
 pub use Rattle.play_stepping.specs.Given.ExecutorReplying
 pub use Rattle.play_stepping.specs.Given.HandsAsked
+pub use Rattle.play_stepping.specs.Given.LoggedBack
+pub use Rattle.play_stepping.specs.Given.LoggedDeclared
+pub use Rattle.play_stepping.specs.Given.LoggedEnds
+pub use Rattle.play_stepping.specs.Given.LoggedGoes
+pub use Rattle.play_stepping.specs.Given.LoggedMakings
+pub use Rattle.play_stepping.specs.Given.LoggedShown
 pub use Rattle.play_stepping.specs.Given.MomentsNumbers
 pub use Rattle.play_stepping.specs.Given.NamedMachines
 pub use Rattle.play_stepping.specs.Given.NamedPlaces
@@ -66,4 +63,7 @@ pub use Rattle.run_kept.specs.Given.ScenesRows
 pub use Rattle.run_kept.specs.Given.ScenesScene
 pub use Rattle.run_kept.specs.Given.ScenesStepping
 pub use Rattle.run_kept.specs.Models.Turns as ModelsTurns
+pub use Rattle.run_legal.specs.Given.LoggedChoosing
+pub use Rattle.run_legal.specs.Given.LoggedContracts
+pub use Rattle.run_legal.specs.Given.RowsRows
 pub use Rattle.seize_acts.specs.Acts.Answers as SeizeActsAnswers

@@ -10,9 +10,10 @@ pub fn calls_hand_in_order<K, V>()
     ensures events { (same : K → K → Bool) (hash : ℕ → K → ℕ) → CallEventsHandInOrder K V same hash }
 {}
 
-/// By effects that hand over in order, what a call owed, and behind that what they take out of its map, is what they hand over, and behind that what it owes then. So by a log each of whose events hands over in
-/// order, what a call under way has taken out since it began, one thing after another, is what it has handed over, and behind that what it owes, whatever others did meanwhile; and one that has ended with an
-/// event that leaves nothing behind, or is ready, has handed over just what it took out, in that order. A pair that it put behind a table was put behind the one just before that in which it lies.
+/// By effects that hand over in order, what a call owed, and behind that what they take out of its map, is what they hand over, and behind that its obligations
+/// then. So by a log each of whose events hands over in order, what a call under way has taken out since it began, one thing after another, is what it has
+/// handed over, and behind that its obligations, whatever others did meanwhile; and one that has ended with an event that leaves nothing behind, or is ready,
+/// has handed over just what it took out, in that order. A pair that it put behind a table was put behind the one just before that in which it lies.
 pub fn what_goes_out_is_handed_over<K, V>()
     ensures effects { EffectsFold K V }
     ensures calls { CallsFold K V }

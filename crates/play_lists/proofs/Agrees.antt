@@ -21,4 +21,3 @@ pub mod Coming
 pub mod GivenBack
 pub mod Agree
 pub mod FirstPlaces
-mod Samples

@@ -32,6 +32,7 @@ pub use Rattle.run_finds.proofs.Given.PromisesLists
 pub use Rattle.run_finds.proofs.Given.RuleKeys
 pub use Rattle.run_finds.proofs.Given.RuleLaws
 pub use Rattle.run_finds.proofs.Given.SettlesBetween
+pub use Rattle.run_finds.proofs.Given.SettlesCalls
 pub use Rattle.run_finds.proofs.Given.ShardsAdds
 pub use Rattle.run_finds.proofs.Given.ShardsKeyAdds
 pub use Rattle.run_finds.proofs.Given.ShardsRestAdds
@@ -46,45 +47,26 @@ pub use Rattle.run_finds.proofs.Runs as FindsRuns
 pub use Rattle.run_finds.proofs.Somewhere as FindsSomewhere
 pub use Rattle.run_finds.proofs.Steps as FindsSteps
 pub use Rattle.run_finds.proofs.Tables as FindsTables
-pub use Rattle.run_finds.proofs.Waits as FindsWaits
-pub use Rattle.run_logged.proofs.Given.HistoriesAnyCall
-pub use Rattle.run_logged.proofs.Given.HistoriesDue
-pub use Rattle.run_logged.proofs.Given.HistoriesDueOn
-pub use Rattle.run_logged.proofs.Given.HistoriesOtherCalls
-pub use Rattle.run_logged.proofs.Given.HistoriesOtherMidsts
-pub use Rattle.run_logged.proofs.Given.HistoriesQuestions
-pub use Rattle.run_logged.proofs.Given.HistoriesRetaining
-pub use Rattle.run_logged.proofs.Given.KeptBetween
-pub use Rattle.run_logged.proofs.Given.KeptCalls
-pub use Rattle.run_logged.proofs.Given.KeptOthers
-pub use Rattle.run_logged.proofs.Given.KeptStays
-pub use Rattle.run_logged.proofs.Given.PromisesShelters
-pub use Rattle.run_logged.proofs.Given.RemainsNumbered
-pub use Rattle.run_logged.proofs.Given.SettlesCalls
-pub use Rattle.run_logged.proofs.Given.SettlesUncounted
-pub use Rattle.run_logged.proofs.Given.ShardsShardBetween
-pub use Rattle.run_logged.proofs.Given.ShardsShardKept
-pub use Rattle.run_logged.proofs.Given.ShardsShardMakes
-pub use Rattle.run_logged.proofs.Given.ShardsShardNumbers
-pub use Rattle.run_logged.proofs.Given.ShardsShardOthers
-pub use Rattle.run_logged.proofs.Given.ShedsEndLists
-pub use Rattle.run_logged.proofs.Given.ShedsEndOrder
-pub use Rattle.run_logged.proofs.Given.ShedsReclaiming
-pub use Rattle.run_logged.proofs.Given.ValuesValues
-pub use Rattle.run_logged.proofs.Log.Choosing as LoggedChoosing
-pub use Rattle.run_logged.proofs.Log.Counted as LoggedCounted
-pub use Rattle.run_logged.proofs.Log.EndAll as LoggedEndAll
-pub use Rattle.run_logged.proofs.Log.EndSteps as LoggedEndSteps
-pub use Rattle.run_logged.proofs.Log.EndTold as LoggedEndTold
-pub use Rattle.run_logged.proofs.Log.GivenBack as LoggedGivenBack
-pub use Rattle.run_logged.proofs.Log.MakingSteps as LoggedMakingSteps
-pub use Rattle.run_logged.proofs.Log.MakingsRun as LoggedMakingsRun
-pub use Rattle.run_logged.proofs.Log.Reclaiming as LoggedReclaiming
-pub use Rattle.run_logged.proofs.Log.ReclaimsRun as LoggedReclaimsRun
-pub use Rattle.run_logged.proofs.Rows.Facts as RowsFacts
-pub use Rattle.run_logged.proofs.Rows.InUse as RowsInUse
-pub use Rattle.run_logged.proofs.Rows.Lists as RowsLists
-pub use Rattle.run_logged.proofs.Rows.NeverWaits as RowsNeverWaits
-pub use Rattle.run_logged.proofs.Rows.Ran as RowsRan
-pub use Rattle.run_logged.proofs.Rows.Taking as RowsTaking
-pub use Rattle.run_logged.proofs.Rows.There as RowsThere
+pub use Rattle.run_kept.proofs.Given.HistoriesAnyCall
+pub use Rattle.run_kept.proofs.Given.HistoriesDue
+pub use Rattle.run_kept.proofs.Given.HistoriesDueOn
+pub use Rattle.run_kept.proofs.Given.HistoriesOtherCalls
+pub use Rattle.run_kept.proofs.Given.HistoriesOtherMidsts
+pub use Rattle.run_kept.proofs.Given.HistoriesQuestions
+pub use Rattle.run_kept.proofs.Given.HistoriesRetaining
+pub use Rattle.run_kept.proofs.Given.PromisesShelters
+pub use Rattle.run_kept.proofs.Given.RemainsNumbered
+pub use Rattle.run_kept.proofs.Given.SettlesUncounted
+pub use Rattle.run_kept.proofs.Given.ShardsShardBetween
+pub use Rattle.run_kept.proofs.Given.ShardsShardKept
+pub use Rattle.run_kept.proofs.Given.ShardsShardMakes
+pub use Rattle.run_kept.proofs.Given.ShardsShardNumbers
+pub use Rattle.run_kept.proofs.Given.ShardsShardOthers
+pub use Rattle.run_kept.proofs.Kept.Between as KeptBetween
+pub use Rattle.run_kept.proofs.Kept.Calls as KeptCalls
+pub use Rattle.run_kept.proofs.Kept.Others as KeptOthers
+pub use Rattle.run_kept.proofs.Kept.Stays as KeptStays
+pub use Rattle.run_kept.proofs.Sheds.EndLists as ShedsEndLists
+pub use Rattle.run_kept.proofs.Sheds.EndOrder as ShedsEndOrder
+pub use Rattle.run_kept.proofs.Sheds.Reclaiming as ShedsReclaiming
+pub use Rattle.run_kept.proofs.Values.Values as ValuesValues

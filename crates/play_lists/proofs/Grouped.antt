@@ -12,4 +12,3 @@ pub mod Chosen
 pub mod MakingGoes
 pub mod AllGoes
 pub mod Callers
-mod Samples

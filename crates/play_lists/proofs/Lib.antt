@@ -4,3 +4,4 @@ pub mod Agrees
 pub mod Grouped
 pub mod MapsEnd
 pub mod Given
+pub mod Samples

@@ -8,4 +8,3 @@ pub mod Along
 pub mod PlayedAs
 pub mod Tied
 pub mod Noted
-pub mod Samples

@@ -39,6 +39,9 @@ pub use Rattle.run_finds.specs.Bounded as FindsBounded
 pub use Rattle.run_finds.specs.Capacities as FindsCapacities
 pub use Rattle.run_finds.specs.Doing as FindsDoing
 pub use Rattle.run_finds.specs.Events as FindsEvents
+pub use Rattle.run_finds.specs.Given.EffectsDeclared
+pub use Rattle.run_finds.specs.Given.EffectsEffects
+pub use Rattle.run_finds.specs.Given.EffectsKnown
 pub use Rattle.run_finds.specs.Given.FollowsBlocks
 pub use Rattle.run_finds.specs.Given.FollowsCalling
 pub use Rattle.run_finds.specs.Given.FollowsCalls
@@ -49,7 +52,10 @@ pub use Rattle.run_finds.specs.Given.OthersAfter
 pub use Rattle.run_finds.specs.Given.OthersWalks
 pub use Rattle.run_finds.specs.Given.PromisesShelters
 pub use Rattle.run_finds.specs.Given.RuleInWorld
+pub use Rattle.run_finds.specs.Given.SettlesCounts
 pub use Rattle.run_finds.specs.Given.ShardsShardWords
+pub use Rattle.run_finds.specs.Given.TellerTells
+pub use Rattle.run_finds.specs.Given.TellsSeen
 pub use Rattle.run_finds.specs.Life as FindsLife
 pub use Rattle.run_finds.specs.Linking as FindsLinking
 pub use Rattle.run_finds.specs.Little as FindsLittle
@@ -58,31 +64,14 @@ pub use Rattle.run_finds.specs.Tables as FindsTables
 pub use Rattle.run_finds.specs.TornDown as FindsTornDown
 pub use Rattle.run_finds.specs.Waiting as FindsWaiting
 pub use Rattle.run_finds.specs.Within as FindsWithin
-pub use Rattle.run_logged.specs.Given.EffectsDeclared
-pub use Rattle.run_logged.specs.Given.EffectsEffects
-pub use Rattle.run_logged.specs.Given.EffectsKnown
-pub use Rattle.run_logged.specs.Given.HistoriesAsCalled
-pub use Rattle.run_logged.specs.Given.HistoriesAsking
-pub use Rattle.run_logged.specs.Given.HistoriesDue
-pub use Rattle.run_logged.specs.Given.HistoriesInEvent
-pub use Rattle.run_logged.specs.Given.HistoriesOtherCalls
-pub use Rattle.run_logged.specs.Given.HistoriesQuestions
-pub use Rattle.run_logged.specs.Given.KeptKept
-pub use Rattle.run_logged.specs.Given.PromisesSheltered
-pub use Rattle.run_logged.specs.Given.RemainsNumbered
-pub use Rattle.run_logged.specs.Given.SettlesCounts
-pub use Rattle.run_logged.specs.Given.ShardsAdds
-pub use Rattle.run_logged.specs.Given.TellerTells
-pub use Rattle.run_logged.specs.Given.TellsSeen
-pub use Rattle.run_logged.specs.Given.ValuesValues
-pub use Rattle.run_logged.specs.Log.Back as LoggedBack
-pub use Rattle.run_logged.specs.Log.Calling as LoggedCalling
-pub use Rattle.run_logged.specs.Log.Choosing as LoggedChoosing
-pub use Rattle.run_logged.specs.Log.Ends as LoggedEnds
-pub use Rattle.run_logged.specs.Log.Goes as LoggedGoes
-pub use Rattle.run_logged.specs.Log.Makings as LoggedMakings
-pub use Rattle.run_logged.specs.Log.OnSlots as LoggedOnSlots
-pub use Rattle.run_logged.specs.Log.Shown as LoggedShown
-pub use Rattle.run_logged.specs.Rows.Rows as RowsRows
-pub use Rattle.run_logged.specs.contracts as LoggedContracts
-pub use Rattle.run_logged.specs.declared as LoggedDeclared
+pub use Rattle.run_kept.specs.Given.HistoriesAsCalled
+pub use Rattle.run_kept.specs.Given.HistoriesAsking
+pub use Rattle.run_kept.specs.Given.HistoriesDue
+pub use Rattle.run_kept.specs.Given.HistoriesInEvent
+pub use Rattle.run_kept.specs.Given.HistoriesOtherCalls
+pub use Rattle.run_kept.specs.Given.HistoriesQuestions
+pub use Rattle.run_kept.specs.Given.PromisesSheltered
+pub use Rattle.run_kept.specs.Given.RemainsNumbered
+pub use Rattle.run_kept.specs.Given.ShardsAdds
+pub use Rattle.run_kept.specs.Kept.Kept as KeptKept
+pub use Rattle.run_kept.specs.Values.Values as ValuesValues

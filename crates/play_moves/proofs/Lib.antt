@@ -1,3 +1,4 @@
 pub mod Moves
 pub mod OneHistory
 pub mod EachMoves
+mod Samples

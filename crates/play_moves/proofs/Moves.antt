@@ -20,7 +20,6 @@ pub mod Steps
 pub mod Order
 pub mod StepsStay
 pub mod MoveOn
-mod Samples
 pub mod Moved
 pub mod Legal
 pub mod Logs

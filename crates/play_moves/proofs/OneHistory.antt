@@ -11,4 +11,4 @@ mod Acts
 mod Along
 pub mod Answered
 pub mod Calls
-mod Samples
+pub mod Whole

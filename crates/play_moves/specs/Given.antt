@@ -6,3 +6,4 @@ pub use Rattle.threads_rule.specs.Views.Begun as ViewsBegun
 pub use Rattle.threads_rule.specs.Views.Looks as ViewsLooks
 pub use Rattle.threads_rule.specs.Views.Rule as ViewsRule
 pub use Rattle.threads_rule.specs.declared as ViewsDeclared
+pub use Rattle.run_schedules.specs.Given.RawDeclared

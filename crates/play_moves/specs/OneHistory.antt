@@ -3,4 +3,5 @@ pub mod Legal
 pub mod Answered
 pub mod Lookups
 pub mod Calls
+pub mod Whole
 pub mod Order

@@ -15,7 +15,7 @@ use Rattle.run_logged.specs.Log.OnSlots.{OnSlotBegins}
 use Rattle.run_logged.specs.Log.Shown.{IsShown}
 use Rattle.run_logged.specs.declared.logged.Logged.{Logged}
 use Rattle.run_logged.proofs.Log.BroughtBack.{none_back}
-use Rattle.play_scheduler.specs.Played.{IsDue}
+use Rattle.play_scheduler.specs.Played.{IsInTurn}
 use Rattle.play_scheduler.specs.declared.scheduler.Scheduler.{Scheduler}
 use Rattle.run_executor.specs.Executing.OnSlots.{MayBegin}
 use Rattle.run_shows.specs.Scenes.Scene.{Scene, slot_of}
@@ -30,7 +30,7 @@ module _ {K V S : Type 0} where
       let may_there = subst (λ (x : ℕ). MayBegin old.executor x called) (sym in_slot) may in
       (it.0, it.1, λ same hash name m s shown. it.2 same hash name m _ (begins same hash name m s shown may_there).1)
 
-  module _ (same : K → K → Bool) (hash : K → ℕ) (terms : Terms) (log : List (Entry K V)) (event : Event K V) (p : Scheduler K V S) (due : IsDue same hash terms log event p) (b0 : List (Pair K V)) where
+  module _ (same : K → K → Bool) (hash : K → ℕ) (terms : Terms) (log : List (Entry K V)) (event : Event K V) (p : Scheduler K V S) (due : IsInTurn same hash terms log event p) (b0 : List (Pair K V)) where
     -- what the row of an event brings back,
     pub came : (before after : List Effect) → before ≡ [] → (b1 : List (Pair K V)) → BringsBack before after p.logged b0 b1 → ComesBack (moment log).stored after b0 b1
     came before after none b1 it =

@@ -25,14 +25,15 @@ use Rattle.run_logged.specs.Log.Calling.{CallBegins}
 use Rattle.run_logged.specs.Log.Shown.{IsShown}
 use Rattle.run_logged.specs.declared.logged.Logged.{Logged}
 use Rattle.run_executor.specs.Named.Machines.{IsAsFar, machine_for}
-use Rattle.play_scheduler.specs.Played.{BeginsSo, CallsAre, IsUnderWay, StandsFor}
+use Rattle.play_scheduler.specs.Played.{BeginsSo, CallsAre, IsUnderWay, RefinesFor}
 use Rattle.run_executor.specs.Named.Seen.{Seen, is_named, kind_of, seen, seen_of, setting_named}
 use Rattle.run_executor.specs.declared.caller.NamedCaller.{NamedCaller}
 use Rattle.run_executor.specs.declared.caller.Stands.TheVariants as far
 use Rattle.play_scheduler.specs.declared.scheduler.Scheduler.{Scheduler}
 use Rattle.run_executor.proofs.Named.Called.{begins_for_room, begun_call, begins_so, is_as_far, is_begun_for, is_called, its_machine}
 use Rattle.run_logged.proofs.Rows.Facts.{no_ending_of, no_making_of, no_work_at, row_rests, slot_fits, used_still}
-use Rattle.run_logged.proofs.Rows.Lists.{all_but, all_so, as_some, found_alike, is_found, none_kept, one_of}
+use Rattle.run_logged.proofs.Given.Lists.{all_but}
+use Rattle.run_logged.proofs.Rows.Lists.{all_so, as_some, found_alike, is_found, none_kept, one_of}
 use Rattle.play_scheduler.proofs.Maps.{setting_of_it, setting_some}
 use Rattle.run_logged.proofs.Rows.There.{is_inside, living_is, on_its_slot}
 use Rattle.run_executor.proofs.Executing.Fresh.{caller_in, no_calls_yet, slot_is}
@@ -42,7 +43,7 @@ use Rattle.run_shows.specs.Scenes.Replying.{scene_with}
 use Rattle.run_shows.specs.Scenes.Scene.{Scene, slot_of}
 use Rattle.seize_words.proofs.General.{both_true as and_parts}
 
-module _ {K V S : Type 0} (same : K → K → Bool) (hash : K → ℕ) (terms : Terms) (m : Moment K V) (p : Scheduler K V S) (stands : StandsFor same hash terms m p) where
+module _ {K V S : Type 0} (same : K → K → Bool) (hash : K → ℕ) (terms : Terms) (m : Moment K V) (p : Scheduler K V S) (stands : RefinesFor same hash terms m p) where
   abbrev calls : List (NamedCaller V)
   calls = p.calls
 
@@ -223,7 +224,7 @@ module _ {K V S : Type 0} (same : K → K → Bool) (hash : K → ℕ) (terms : 
                 no_work_at same hash new.executor then_at shown.is_at j none (no_making_of same hash p.logged.executor s at j before) (no_ending_of same hash p.logged.executor s at j before)
                 (row_rests same hash p.logged.executor s at j before)
 
-        stands_then : (calls2 : List (NamedCaller V)) → calls2 ≡ caller ∷ calls → StandsFor same hash terms (with_call own guard call (Some number) m) (record p { logged = new; calls = calls2 })
+        stands_then : (calls2 : List (NamedCaller V)) → calls2 ≡ caller ∷ calls → RefinesFor same hash terms (with_call own guard call (Some number) m) (record p { logged = new; calls = calls2 })
         stands_then calls2 items = record {
           name = names;
           scene = then_at;
@@ -250,7 +251,7 @@ module _ {K V S : Type 0} (same : K → K → Bool) (hash : K → ℕ) (terms : 
         begun calls2 items keeps_none kept begins = record {
           so = sym may_begin;
           none = λ e. absurd (cc e);
-          stands = λ e. subst (λ (o : Option ℕ). StandsFor same hash terms (with_call own guard call o m) (record p { logged = new; calls = calls2 })) (sym its.0) (stands_then calls2 items);
+          stands = λ e. subst (λ (o : Option ℕ). RefinesFor same hash terms (with_call own guard call o m) (record p { logged = new; calls = calls2 })) (sym its.0) (stands_then calls2 items);
           led = λ e. record {
             free = free;
             slot = slot;

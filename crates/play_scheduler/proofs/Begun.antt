@@ -13,14 +13,14 @@ use Rattle.run_schedules.specs.Schedules.InUse.{is_living}
 use Rattle.run_schedules.specs.Schedules.Moment.{Moment}
 use Rattle.run_schedules.specs.Schedules.Terms.{Terms}
 use Rattle.run_schedules.specs.Schedules.Views.{call_of, map_of, number_of}
-use Rattle.play_scheduler.specs.Played.{BeginsSo, IsDue, Plays, StandsFor}
+use Rattle.play_scheduler.specs.Played.{BeginsSo, IsInTurn, Plays, RefinesFor}
 use Rattle.play_scheduler.specs.declared.scheduler.Scheduler.{Scheduler}
 use Rattle.run_logged.proofs.Rows.Elsewhere.{elsewhere}
 use Rattle.play_scheduler.proofs.Quiet.{stands_on}
 use Rattle.play_scheduler.proofs.Rights.{in_turn, out_of_turn, plays, quiet}
 
 module _ {K V S : Type 0} (same : K → K → Bool) (hash : K → ℕ) (terms : Terms) (log : List (Entry K V)) (own guard map : List ℕ) (call : Call K V) (old new : Scheduler K V S)
-    (due : IsDue same hash terms log (Begin own guard map call) old) where
+    (due : IsInTurn same hash terms log (Begin own guard map call) old) where
   abbrev m : Moment K V
   m = moment log
 
@@ -33,8 +33,8 @@ module _ {K V S : Type 0} (same : K → K → Bool) (hash : K → ℕ) (terms : 
   abbrev e : Entry K V
   e = quiet (Begin own guard map call) Goes
 
-  then_on : (o : Option ℕ) → StandsFor same hash terms (with_call own guard call o m) new
-      → (let w = with_call own guard call o m in StandsFor same hash terms (elsewhere (m.events + 1) m.is_mapped m.is_closed (m.is_alone && is_alone_on e m) w.there m.slots w.sheltered m.remains w) new)
+  then_on : (o : Option ℕ) → RefinesFor same hash terms (with_call own guard call o m) new
+      → (let w = with_call own guard call o m in RefinesFor same hash terms (elsewhere (m.events + 1) m.is_mapped m.is_closed (m.is_alone && is_alone_on e m) w.there m.slots w.sheltered m.remains w) new)
   then_on None stands = stands_on same hash terms m new stands (m.events + 1) (m.is_alone && is_alone_on e m) m.slots m.sheltered
   then_on (Some number) stands = stands_on same hash terms (with_call own guard call (Some number) m) new stands (m.events + 1) (m.is_alone && is_alone_on e m) m.slots m.sheltered
 

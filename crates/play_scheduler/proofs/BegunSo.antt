@@ -15,7 +15,7 @@ use Rattle.run_logged.specs.Log.Calling.{CallBegins}
 use Rattle.run_logged.specs.Log.Shown.{IsShown}
 use Rattle.run_logged.specs.declared.logged.Logged.{Logged}
 use Rattle.run_executor.specs.Named.Machines.{machine_for}
-use Rattle.play_scheduler.specs.Played.{BeginsSo, StandsFor}
+use Rattle.play_scheduler.specs.Played.{BeginsSo, RefinesFor}
 use Rattle.run_executor.specs.Named.Seen.{Seen, is_named, kind_of, setting_named}
 use Rattle.run_executor.specs.declared.caller.NamedCaller.{NamedCaller}
 use Rattle.run_executor.specs.declared.caller.Stands.TheVariants as far
@@ -28,7 +28,7 @@ use Rattle.run_logged.proofs.Rows.Lists.{place_some}
 use Rattle.play_scheduler.proofs.Maps.{setting_some}
 use Rattle.run_shows.specs.Scenes.Scene.{Scene}
 
-module _ {K V S : Type 0} (same : K → K → Bool) (hash : K → ℕ) (terms : Terms) (m : Moment K V) (p : Scheduler K V S) (stands : StandsFor same hash terms m p) (own guard name : List ℕ)
+module _ {K V S : Type 0} (same : K → K → Bool) (hash : K → ℕ) (terms : Terms) (m : Moment K V) (p : Scheduler K V S) (stands : RefinesFor same hash terms m p) (own guard name : List ℕ)
     (call : Call K V) where
   abbrev calls : List (NamedCaller V)
   calls = p.calls

@@ -10,18 +10,18 @@ use Rattle.run_schedules.specs.Schedules.Terms.{Terms}
 use Rattle.run_logged.specs.Log.Choosing.{logged_chosen, scene_chosen}
 use Rattle.run_logged.specs.declared.logged.Logged.{Logged}
 use Rattle.run_logged.proofs.Log.Choosing.{choice_shown}
-use Rattle.play_scheduler.specs.Played.{IsDue, Plays, StandsFor}
+use Rattle.play_scheduler.specs.Played.{IsInTurn, Plays, RefinesFor}
 use Rattle.play_scheduler.specs.Works.{WorksOnSetup}
 use Rattle.play_scheduler.specs.declared.played.Played.{Played}
 use Rattle.play_scheduler.specs.declared.scheduler.Scheduler.{Scheduler}
 use Rattle.play_scheduler.proofs.Quiet.{stands_on}
 use Rattle.play_scheduler.proofs.Rights.{plays, quiet}
 
-module _ {K V S : Type 0} (same : K → K → Bool) (hash : K → ℕ) (terms : Terms) (m : Moment K V) (p : Scheduler K V S) (stands : StandsFor same hash terms m p) (choice : ℕ) where
+module _ {K V S : Type 0} (same : K → K → Bool) (hash : K → ℕ) (terms : Terms) (m : Moment K V) (p : Scheduler K V S) (stands : RefinesFor same hash terms m p) (choice : ℕ) where
   abbrev pub chosen : Scheduler K V S
   chosen = record p { logged = logged_chosen choice p.logged }
 
-  pub stands_chosen : StandsFor same hash terms m chosen
+  pub stands_chosen : RefinesFor same hash terms m chosen
   stands_chosen = record {
     name = stands.name;
     scene = scene_chosen choice stands.scene;
@@ -37,7 +37,7 @@ module _ {K V S : Type 0} (same : K → K → Bool) (hash : K → ℕ) (terms : 
     names = stands.names;
   }
 
-module _ {K V S : Type 0} (same : K → K → Bool) (hash : K → ℕ) (terms : Terms) (log : List (Entry K V)) (p : Scheduler K V S) (choice : ℕ) (due : IsDue same hash terms log (Choose choice) p) where
+module _ {K V S : Type 0} (same : K → K → Bool) (hash : K → ℕ) (terms : Terms) (log : List (Entry K V)) (p : Scheduler K V S) (choice : ℕ) (due : IsInTurn same hash terms log (Choose choice) p) where
   abbrev m : Moment K V
   m = moment log
 

@@ -12,11 +12,11 @@ use Rattle.run_schedules.specs.Schedules.Terms.{Terms}
 use Rattle.run_shows.specs.declared.row.SlotUse.TheVariants as used
 use Rattle.run_shows.specs.declared.callers.TheConstants.{SLOTS}
 use Rattle.run_logged.specs.Rows.Rows.{used_as}
-use Rattle.play_scheduler.specs.Played.{IsUnderWay, StandsFor}
+use Rattle.play_scheduler.specs.Played.{IsUnderWay, RefinesFor}
 use Rattle.run_executor.specs.Named.Seen.{free_slot}
 use Rattle.play_scheduler.specs.declared.scheduler.Scheduler.{Scheduler}
 use Rattle.run_logged.proofs.Rows.Facts.{slot_fits}
-use Rattle.run_logged.proofs.Rows.Lists.{all_but}
+use Rattle.run_logged.proofs.Given.Lists.{all_but}
 use Rattle.play_scheduler.proofs.RanOn.{nobody_by}
 use Rattle.play_scheduler.proofs.Seats.{none_uses}
 use Rattle.run_logged.proofs.Rows.There.{is_inside, on_its_slot, others_left, used_alike}
@@ -67,7 +67,7 @@ module _ (guard : List ℕ) (slot : ℕ) (there : Present) (names : HaveNames th
       by (inl e) = subst (λ (x : ℕ). used_as x less ≡ used_as x there) (sym e) (is_inside slot less some_left ∙ sym (is_inside slot there (on_its_slot guard there.guards slot lives)))
       by (inr ne) = others_used t ne
 
-module _ {K V S : Type 0} (same : K → K → Bool) (hash : K → ℕ) (terms : Terms) (m : Moment K V) (p : Scheduler K V S) (stands : StandsFor same hash terms m p) (guard : List ℕ) (slot : ℕ) where
+module _ {K V S : Type 0} (same : K → K → Bool) (hash : K → ℕ) (terms : Terms) (m : Moment K V) (p : Scheduler K V S) (stands : RefinesFor same hash terms m p) (guard : List ℕ) (slot : ℕ) where
   -- the slot of a guard that lives is entered,
   module _ (lives : living_slot (guard_of guard p.there.guards) ≡ Some slot) where
     pub inside : use_at p.logged.executor slot ≡ used.Inside

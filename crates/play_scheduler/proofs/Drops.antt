@@ -27,7 +27,7 @@ use Rattle.run_shows.specs.declared.row.SlotUse.TheVariants as used
 use Rattle.run_shows.specs.declared.callers.TheConstants.{SLOTS}
 use Rattle.run_logged.specs.Given.ShedsEnded.{has_ended, uses_ended}
 use Rattle.run_logged.specs.declared.logged.Logged.{Logged}
-use Rattle.play_scheduler.specs.Played.{IsDue, IsUnderWay, Plays, StandsFor}
+use Rattle.play_scheduler.specs.Played.{IsInTurn, IsUnderWay, Plays, RefinesFor}
 use Rattle.run_logged.specs.Rows.Rows.{RowRan, RowRanOn, left_as, used_as}
 use Rattle.run_executor.specs.Named.Seen.{free_slot}
 use Rattle.play_scheduler.specs.declared.scheduler.Scheduler.{Scheduler}
@@ -55,11 +55,11 @@ ended_as slot size said slots true = refl
 ended_as slot size said slots false = refl
 
 module _ {K V S : Type 0} (same : K → K → Bool) (hash : K → ℕ) (terms : Terms) (log : List (Entry K V)) (p : Scheduler K V S) (guard : List ℕ)
-    (due : IsDue same hash terms log (DropGuard guard) p) where
+    (due : IsInTurn same hash terms log (DropGuard guard) p) where
   abbrev m : Moment K V
   m = moment log
 
-  abbrev stands : StandsFor same hash terms m p
+  abbrev stands : RefinesFor same hash terms m p
   stands = due.played
 
   pub not_free : free_slot guard p.there p.calls ≡ None → Plays same hash terms log (quiet (DropGuard guard) (Refused Busy)) p
@@ -167,7 +167,7 @@ module _ {K V S : Type 0} (same : K → K → Bool) (hash : K → ℕ) (terms : 
 
 -- so it is, by what the code does
 module _ {K V S : Type 0} (same : K → K → Bool) (hash : K → ℕ) (terms : Terms) (log : List (Entry K V)) (p : Scheduler K V S) (guard : List ℕ)
-    (due : IsDue same hash terms log (DropGuard guard) p) (slot : ℕ) (free : free_slot guard p.there p.calls ≡ Some slot) (p2 : Scheduler K V S) (effects : List Effect)
+    (due : IsInTurn same hash terms log (DropGuard guard) p) (slot : ℕ) (free : free_slot guard p.there p.calls ≡ Some slot) (p2 : Scheduler K V S) (effects : List Effect)
     (there : Present) (is : there ≡ drops guard p2.there) where
   abbrev Comes : Scheduler K V S → List Effect → Type 0
   Comes q did = Plays same hash terms log (entry (DropGuard guard) Done 0 did) (record q { there = there })

@@ -30,7 +30,7 @@ use Rattle.run_shows.specs.declared.row.SlotUse.TheVariants as used
 use Rattle.run_shows.specs.declared.callers.TheConstants.{SLOTS}
 use Rattle.run_logged.specs.Given.ShedsEnded.{has_ended}
 use Rattle.run_logged.specs.declared.logged.Logged.{Logged}
-use Rattle.play_scheduler.specs.Played.{IsDue, IsUnderWay, Plays, StandsFor}
+use Rattle.play_scheduler.specs.Played.{IsInTurn, IsUnderWay, Plays, RefinesFor}
 use Rattle.run_logged.specs.Rows.Rows.{RowRan, RowRanOn, used_as}
 use Rattle.play_scheduler.specs.declared.scheduler.Scheduler.{Scheduler}
 use Rattle.run_logged.proofs.Rows.Facts.{slot_fits}
@@ -91,11 +91,11 @@ module _ (guard : List ℕ) (slot : ℕ) (there : Present) where
       by (inr ne) = inr (ne, used_alike t there more (on_others t ne) refl)
 
 module _ {K V S : Type 0} (same : K → K → Bool) (hash : K → ℕ) (terms : Terms) (log : List (Entry K V)) (p : Scheduler K V S) (guard registration : List ℕ)
-    (due : IsDue same hash terms log (Enter guard registration) p) where
+    (due : IsInTurn same hash terms log (Enter guard registration) p) where
   abbrev m : Moment K V
   m = moment log
 
-  abbrev stands : StandsFor same hash terms m p
+  abbrev stands : RefinesFor same hash terms m p
   stands = due.played
 
   abbrev turn : Bool
@@ -221,7 +221,7 @@ module _ {K V S : Type 0} (same : K → K → Bool) (hash : K → ℕ) (terms : 
 
 -- so it is, by what the code does
 module _ {K V S : Type 0} (same : K → K → Bool) (hash : K → ℕ) (terms : Terms) (log : List (Entry K V)) (p : Scheduler K V S) (guard registration : List ℕ)
-    (due : IsDue same hash terms log (Enter guard registration) p) (none : is_some (guard_of guard p.there.guards) ≡ false) (slot : ℕ)
+    (due : IsInTurn same hash terms log (Enter guard registration) p) (none : is_some (guard_of guard p.there.guards) ≡ false) (slot : ℕ)
     (found : option_map (λ r. r.slot) (registration_of registration p.there.registrations) ≡ Some slot) (few : nat_lt (guards_on slot p.there.guards) MOST_GUARDS ≡ true)
     (p2 : Scheduler K V S) (effects : List Effect) (there : Present) (is : there ≡ enters_slot guard slot p2.there) where
   abbrev Comes : Scheduler K V S → List Effect → Type 0

@@ -29,7 +29,7 @@ use Rattle.run_shows.specs.declared.row.SlotUse.TheVariants as used
 use Rattle.run_shows.specs.declared.callers.TheConstants.{SLOTS}
 use Rattle.run_logged.specs.Given.ShedsEnded.{has_ended}
 use Rattle.run_logged.specs.declared.logged.Logged.{Logged}
-use Rattle.play_scheduler.specs.Played.{IsDue, Plays, StandsFor}
+use Rattle.play_scheduler.specs.Played.{IsInTurn, Plays, RefinesFor}
 use Rattle.play_scheduler.specs.Works.{FlushesUnlessHeld}
 use Rattle.run_logged.specs.Rows.Rows.{RowRan, RowRanOn, used_as}
 use Rattle.play_scheduler.specs.declared.scheduler.Scheduler.{Scheduler}
@@ -51,11 +51,11 @@ read_there None some = absurd (cc some)
 read_there (Some word) some = (word, refl)
 
 module _ {K V S : Type 0} (same : K → K → Bool) (hash : K → ℕ) (terms : Terms) (log : List (Entry K V)) (p : Scheduler K V S) (guard : List ℕ)
-    (due : IsDue same hash terms log (Flush guard) p) where
+    (due : IsInTurn same hash terms log (Flush guard) p) where
   abbrev m : Moment K V
   m = moment log
 
-  abbrev stands : StandsFor same hash terms m p
+  abbrev stands : RefinesFor same hash terms m p
   stands = due.played
 
   abbrev wanted : Outcome V → Type 0

@@ -5,6 +5,7 @@ pub use Rattle.run_logged.proofs.Given.HistoriesAsking
 pub use Rattle.run_logged.proofs.Given.HistoriesNoKey
 pub use Rattle.run_logged.proofs.Given.HistoriesRefusals
 pub use Rattle.run_logged.proofs.Given.KeptStays
+pub use Rattle.run_logged.proofs.Given.Lists
 pub use Rattle.run_logged.proofs.Given.OwesGrown
 pub use Rattle.run_logged.proofs.Given.OwesTables
 pub use Rattle.run_logged.proofs.Given.PromisesWeights

@@ -22,7 +22,7 @@ use Rattle.run_shows.specs.Given.FinishesMachines.{machine_of}
 use Rattle.run_shows.specs.Follows.Calls.{IsCalled}
 use Rattle.run_executor.specs.declared.worker.Work.{Work}
 use Rattle.run_executor.specs.declared.worker.Work.TheVariants as work
-use Rattle.play_scheduler.specs.Played.{IsUnderWay, StandsFor}
+use Rattle.play_scheduler.specs.Played.{IsUnderWay, RefinesFor}
 use Rattle.run_executor.specs.Named.Seen.{Seen, is_named, seen, seen_of}
 use Rattle.run_executor.specs.declared.caller.NamedCaller.{NamedCaller}
 use Rattle.play_scheduler.specs.declared.scheduler.Scheduler.{Scheduler}
@@ -58,7 +58,7 @@ some_call : {K V : Type 0} (o : Option (UnderWay K V K)) (machine : Machine K V 
 some_call None machine e = absurd (cc e)
 some_call (Some u) machine e = (u, refl)
 
-module _ {K V S : Type 0} (same : K → K → Bool) (hash : K → ℕ) (terms : Terms) (m : Moment K V) (p : Scheduler K V S) (stands : StandsFor same hash terms m p) where
+module _ {K V S : Type 0} (same : K → K → Bool) (hash : K → ℕ) (terms : Terms) (m : Moment K V) (p : Scheduler K V S) (stands : RefinesFor same hash terms m p) where
   abbrev calls : List (NamedCaller V)
   calls = p.calls
 

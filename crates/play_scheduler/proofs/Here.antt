@@ -8,14 +8,14 @@ use Rattle.run_schedules.specs.Schedules.Moment.{UnderWay as CallThere, Moment}
 use Rattle.run_schedules.specs.Schedules.Terms.{Terms}
 use Rattle.run_schedules.specs.Schedules.Views.{call_of}
 use Rattle.run_shows.proofs.Follows.Calling.{is_same_is}
-use Rattle.play_scheduler.specs.Played.{AsFar, IsUnderWayAs, StandsAs, StandsFor}
+use Rattle.play_scheduler.specs.Played.{AsFar, IsUnderWayAs, RefinesAs, RefinesFor}
 use Rattle.run_executor.specs.Named.Seen.{Seen, is_named, seen, seen_of}
 use Rattle.run_executor.specs.declared.caller.NamedCaller.{NamedCaller}
 use Rattle.play_scheduler.specs.declared.scheduler.Scheduler.{Scheduler}
 use Rattle.run_logged.proofs.Rows.Lists.{got, as_some, both_some, found_alike, found_has, found_passes, is_found, place_found, place_is, place_some}
 
 module _ {K V S : Type 0} (Far : NamedCaller V → Machine K V K → Type 0) (same : K → K → Bool) (hash : K → ℕ) (terms : Terms) (m : Moment K V) (p : Scheduler K V S)
-    (stands : StandsAs Far same hash terms m p) (own : List ℕ) where
+    (stands : RefinesAs Far same hash terms m p) (own : List ℕ) where
   abbrev calls : List (NamedCaller V)
   calls = p.calls
 
@@ -70,7 +70,7 @@ module _ {K V S : Type 0} (Far : NamedCaller V → Machine K V K → Type 0) (sa
   read_as place here x e = e ∙ got calls place here.caller x here.at
 
 -- where each machine is as far as its caller says
-module _ {K V S : Type 0} (same : K → K → Bool) (hash : K → ℕ) (terms : Terms) (m : Moment K V) (p : Scheduler K V S) (stands : StandsFor same hash terms m p) (own : List ℕ) where
+module _ {K V S : Type 0} (same : K → K → Bool) (hash : K → ℕ) (terms : Terms) (m : Moment K V) (p : Scheduler K V S) (stands : RefinesFor same hash terms m p) (own : List ℕ) where
   abbrev pub Here : ℕ → Type 0
   Here = HereAs AsFar same hash terms m p stands own
 

@@ -10,9 +10,9 @@ use Rattle.run_schedules.specs.declared.event.Event.{Event}
 use Rattle.run_schedules.specs.declared.event.Event.TheVariants.{Collector, Hash, Choose, Register, Unregister, Enter, Own, Refresh, Flush, DropGuard, Forget, ReclaimAll, Close, MakeMap, EndMap, ShowShape, Begin, Step, Go, Replied, OneCall, Next, Stop}
 use Rattle.run_schedules.specs.declared.outcome.Outcome.{Outcome}
 use Rattle.run_schedules.specs.declared.outcome.Outcome.TheVariants.{Refused}
-use Rattle.run_schedules.specs.Schedules.After.{after, comes_to, is_alone_on, mapped_on, moment}
+use Rattle.run_schedules.specs.Schedules.After.{after, with_outcome, is_alone_on, mapped_on, moment}
 use Rattle.run_schedules.specs.Schedules.Entry.{Entry, nameless}
-use Rattle.run_schedules.specs.Schedules.InTurn.{ComesRight, ComesTo, IsKeptOut}
+use Rattle.run_schedules.specs.Schedules.InTurn.{HasRightOutcome, HasOutcome, IsKeptOut}
 use Rattle.run_schedules.specs.Schedules.Moment.{UnderWay as CallThere, Moment}
 use Rattle.run_schedules.specs.Schedules.Terms.{Terms}
 use Rattle.run_shows.specs.Given.CallersTogether.{UnderWay, OnKey, ForRoom, Counting, OverAll}
@@ -21,7 +21,7 @@ use Rattle.run_shows.specs.Follows.Calling.{come_to}
 use Rattle.run_executor.specs.Given.HandsCalling.{AsksJust}
 use Rattle.run_executor.proofs.Given.MomentsCalls.{calls_come_to_whole}
 use Rattle.run_logged.proofs.Given.KeptStays.{calls_come_to_kept}
-use Rattle.play_scheduler.specs.Played.{IsPlayed, Plays, StandsFor}
+use Rattle.play_scheduler.specs.Played.{IsPlayed, Plays, RefinesFor}
 use Rattle.run_executor.specs.Named.Seen.{seen}
 use Rattle.play_scheduler.specs.declared.scheduler.Scheduler.{Scheduler}
 use Rattle.run_logged.proofs.Log.Counted.{counted_calls}
@@ -30,7 +30,7 @@ use Rattle.run_logged.proofs.Rows.Lists.{unseen}
 use Rattle.play_scheduler.proofs.Quiet.{stands_on}
 use Rattle.play_scheduler.proofs.Rights.{quiet}
 
-module _ {K V S : Type 0} (same : K → K → Bool) (hash : K → ℕ) (terms : Terms) (m : Moment K V) (p : Scheduler K V S) (stands : StandsFor same hash terms m p) where
+module _ {K V S : Type 0} (same : K → K → Bool) (hash : K → ℕ) (terms : Terms) (m : Moment K V) (p : Scheduler K V S) (stands : RefinesFor same hash terms m p) where
   -- of a call nothing has changed that is out of turn
   asks_nothing : (known : Known) (u : UnderWay K V K) → AsksJust {K = K} {V = V} known u (Refused Busy)
   asks_nothing known (OnKey u) = tt
@@ -38,14 +38,14 @@ module _ {K V S : Type 0} (same : K → K → Bool) (hash : K → ℕ) (terms : 
   asks_nothing known (Counting sum) = tt
   asks_nothing known (OverAll o) = tt
 
-  same_seen : (own : List ℕ) (c : CallThere K V) → seen (if is_same c.caller own then comes_to (Refused Busy) (record c { steps = c.steps + 0 }) else c) ≡ seen c
+  same_seen : (own : List ℕ) (c : CallThere K V) → seen (if is_same c.caller own then with_outcome (Refused Busy) (record c { steps = c.steps + 0 }) else c) ≡ seen c
   same_seen own c = by (is_same c.caller own)
     where
-      by : (b : Bool) → seen (if b then comes_to (Refused Busy) (record c { steps = c.steps + 0 }) else c) ≡ seen c
+      by : (b : Bool) → seen (if b then with_outcome (Refused Busy) (record c { steps = c.steps + 0 }) else c) ≡ seen c
       by true = refl
       by false = refl
 
-  pub stands_busy : (own : List ℕ) → StandsFor same hash terms (come_to own (Refused Busy) 0 m) p
+  pub stands_busy : (own : List ℕ) → RefinesFor same hash terms (come_to own (Refused Busy) 0 m) p
   stands_busy own = record {
     name = stands.name;
     scene = stands.scene;
@@ -59,7 +59,7 @@ module _ {K V S : Type 0} (same : K → K → Bool) (hash : K → ℕ) (terms : 
     there = stands.there;
     mapped = stands.mapped;
     closed = stands.closed;
-    calls = let c = stands.calls in record { listed = unseen seen (λ x. if is_same x.caller own then comes_to (Refused Busy) (record x { steps = x.steps + 0 }) else x) (same_seen own) m.calls ∙ c.listed; once = c.once; each = c.each; only = c.only };
+    calls = let c = stands.calls in record { listed = unseen seen (λ x. if is_same x.caller own then with_outcome (Refused Busy) (record x { steps = x.steps + 0 }) else x) (same_seen own) m.calls ∙ c.listed; once = c.once; each = c.each; only = c.only };
     maps = let c = stands.maps in record { listed = c.listed; stand = c.stand };
     slots = stands.slots;
     rests = stands.rests;
@@ -70,7 +70,7 @@ module _ {K V S : Type 0} (same : K → K → Bool) (hash : K → ℕ) (terms : 
   mapped_m = elsewhere m.events true m.is_closed m.is_alone m.there m.slots m.sheltered m.remains m
 
   -- where an event was to make a map, this is noted
-  stands_mapped : (is_mapped : Bool) → StandsFor same hash terms (elsewhere m.events is_mapped m.is_closed m.is_alone m.there m.slots m.sheltered m.remains m) (record p { is_mapped = is_mapped })
+  stands_mapped : (is_mapped : Bool) → RefinesFor same hash terms (elsewhere m.events is_mapped m.is_closed m.is_alone m.there m.slots m.sheltered m.remains m) (record p { is_mapped = is_mapped })
   stands_mapped is_mapped = record {
     name = stands.name;
     scene = stands.scene;
@@ -94,17 +94,17 @@ module _ {K V S : Type 0} (same : K → K → Bool) (hash : K → ℕ) (terms : 
   abbrev alone : Entry K V → Bool
   alone e = m.is_alone && is_alone_on e m
 
-  on : (e : Entry K V) → StandsFor same hash terms (elsewhere (m.events + 1) m.is_mapped m.is_closed (alone e) m.there m.slots m.sheltered m.remains m) p
+  on : (e : Entry K V) → RefinesFor same hash terms (elsewhere (m.events + 1) m.is_mapped m.is_closed (alone e) m.there m.slots m.sheltered m.remains m) p
   on e = stands_on same hash terms m p stands (m.events + 1) (alone e) m.slots m.sheltered
 
-  on_call : (e : Entry K V) (own : List ℕ) → StandsFor same hash terms (elsewhere (m.events + 1) m.is_mapped m.is_closed (alone e) m.there m.slots m.sheltered m.remains (come_to own (Refused Busy) 0 m)) p
+  on_call : (e : Entry K V) (own : List ℕ) → RefinesFor same hash terms (elsewhere (m.events + 1) m.is_mapped m.is_closed (alone e) m.there m.slots m.sheltered m.remains (come_to own (Refused Busy) 0 m)) p
   on_call e own = stands_on same hash terms (come_to own (Refused Busy) 0 m) p (stands_busy own) (m.events + 1) (alone e) m.slots m.sheltered
 
   abbrev p_then : Event K V → Scheduler K V S
   p_then event = record p { is_mapped = mapped_on event p.is_mapped }
 
   abbrev Then : Event K V → Outcome V → Type 0
-  Then event outcome = StandsFor same hash terms (after (quiet event outcome) m) (p_then event)
+  Then event outcome = RefinesFor same hash terms (after (quiet event outcome) m) (p_then event)
 
   -- whichever event it is that is busy
   pub busy_stands : (event : Event K V) → Then event (Refused Busy)
@@ -143,23 +143,23 @@ module _ {K V S : Type 0} (same : K → K → Bool) (hash : K → ℕ) (terms : 
   abbrev m : Moment K V
   m = moment log
 
-  right : (outcome : Outcome V) → IsKeptOut event outcome → ComesRight terms log (quiet event outcome)
+  right : (outcome : Outcome V) → IsKeptOut event outcome → HasRightOutcome terms log (quiet event outcome)
   right outcome kept =
-      subst (λ (b : Bool). MatchBool b (IsKeptOut event outcome) (ComesTo terms log m (quiet event outcome) event outcome)) (sym (played.closed ∙ out)) kept
+      subst (λ (b : Bool). MatchBool b (IsKeptOut event outcome) (HasOutcome terms log m (quiet event outcome) event outcome)) (sym (played.closed ∙ out)) kept
 
   pub kept_out : (outcome : Outcome V) → IsKeptOut event outcome → Plays same hash terms log (quiet event outcome) (record p { is_mapped = mapped_on event p.is_mapped })
   kept_out outcome kept = record { right = right outcome kept; played = by event outcome kept }
     where
-      refused : (e : Event K V) (o : Outcome V) → o ≡ Refused Busy → StandsFor same hash terms (after (quiet e o) m) (record p { is_mapped = mapped_on e p.is_mapped })
-      refused e o is = subst (λ (x : Outcome V). StandsFor same hash terms (after (quiet e x) m) (record p { is_mapped = mapped_on e p.is_mapped })) (sym is) (busy_stands same hash terms m p played e)
+      refused : (e : Event K V) (o : Outcome V) → o ≡ Refused Busy → RefinesFor same hash terms (after (quiet e o) m) (record p { is_mapped = mapped_on e p.is_mapped })
+      refused e o is = subst (λ (x : Outcome V). RefinesFor same hash terms (after (quiet e x) m) (record p { is_mapped = mapped_on e p.is_mapped })) (sym is) (busy_stands same hash terms m p played e)
 
       making : (n : List ℕ) (mode : ResizeMode) (c : ℕ) (o : Outcome V) (found : Option Fault) → MatchOption found (o ≡ Refused Busy) (λ fault. o ≡ Refused fault)
-          → StandsFor same hash terms (after (quiet (MakeMap n mode c) o) m) (record p { is_mapped = true })
+          → RefinesFor same hash terms (after (quiet (MakeMap n mode c) o) m) (record p { is_mapped = true })
       making n mode c o None is = refused (MakeMap n mode c) o is
       making n mode c o (Some fault) is =
-          subst (λ (x : Outcome V). StandsFor same hash terms (after (quiet (MakeMap n mode c) x) m) (record p { is_mapped = true })) (sym is) (faulty_stands same hash terms m p played n mode c fault)
+          subst (λ (x : Outcome V). RefinesFor same hash terms (after (quiet (MakeMap n mode c) x) m) (record p { is_mapped = true })) (sym is) (faulty_stands same hash terms m p played n mode c fault)
 
-      by : (e : Event K V) (o : Outcome V) → IsKeptOut e o → StandsFor same hash terms (after (quiet e o) m) (record p { is_mapped = mapped_on e p.is_mapped })
+      by : (e : Event K V) (o : Outcome V) → IsKeptOut e o → RefinesFor same hash terms (after (quiet e o) m) (record p { is_mapped = mapped_on e p.is_mapped })
       by (MakeMap n mode c) o is = making n mode c o (map_fault mode c) is
       by (Collector setup) o is = refused (Collector setup) o is
       by (Hash h) o is = refused (Hash h) o is

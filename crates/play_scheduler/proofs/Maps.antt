@@ -7,7 +7,7 @@ use Rattle.run_schedules.specs.Schedules.Moment.{MapThere, Moment}
 use Rattle.run_schedules.specs.Schedules.Terms.{Terms}
 use Rattle.run_schedules.specs.Schedules.Views.{map_of, number_of}
 use Rattle.run_shows.specs.Given.FinishesMaps.{Standing}
-use Rattle.play_scheduler.specs.Played.{StandsFor}
+use Rattle.play_scheduler.specs.Played.{RefinesFor}
 use Rattle.run_executor.specs.Named.Seen.{named, named_of, number_named, setting_named, with_setting}
 use Rattle.run_executor.specs.declared.named_map.NamedMap.{NamedMap}
 use Rattle.play_scheduler.specs.declared.scheduler.Scheduler.{Scheduler}
@@ -26,7 +26,7 @@ some_number : {X : Type 0} (f : X → ℕ) (o : Option X) → is_some (option_ma
 some_number f None = refl
 some_number f (Some x) = refl
 
-module _ {K V S : Type 0} (same : K → K → Bool) (hash : K → ℕ) (terms : Terms) (m : Moment K V) (p : Scheduler K V S) (stands : StandsFor same hash terms m p) (own : List ℕ) where
+module _ {K V S : Type 0} (same : K → K → Bool) (hash : K → ℕ) (terms : Terms) (m : Moment K V) (p : Scheduler K V S) (stands : RefinesFor same hash terms m p) (own : List ℕ) where
   alike : option_map named (map_of own m) ≡ option_map named_of (find (λ t. is_same t.name own) p.maps)
   alike = found_alike named named_of m.maps p.maps stands.maps.listed (λ z. is_same z.0 own)
 

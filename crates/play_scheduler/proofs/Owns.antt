@@ -22,10 +22,10 @@ use Rattle.run_shows.specs.declared.row.RowTold.TheVariants as told
 use Rattle.run_shows.specs.declared.row.SlotCall.TheVariants as call
 use Rattle.run_shows.specs.declared.row.SlotUse.TheVariants as used
 use Rattle.run_logged.specs.declared.logged.Logged.{Logged}
-use Rattle.play_scheduler.specs.Played.{IsDue, IsUnderWay, Plays, StandsFor}
+use Rattle.play_scheduler.specs.Played.{IsInTurn, IsUnderWay, Plays, RefinesFor}
 use Rattle.run_logged.specs.Rows.Rows.{RowRan, used_as}
-use Rattle.run_logged.specs.Rows.Taking.{SlotTaken, told_as}
-use Rattle.play_scheduler.specs.Quiet.{IsQuiet}
+use Rattle.run_logged.specs.Rows.Taking.{SlotTaken, outcome_of_taking}
+use Rattle.play_scheduler.specs.Quiet.{BusyIsSilent}
 use Rattle.play_scheduler.specs.declared.scheduler.Scheduler.{Scheduler}
 use Rattle.play_scheduler.proofs.Busy.{slot_quiet}
 use Rattle.play_scheduler.proofs.Enters.{found_more, used_now}
@@ -40,11 +40,11 @@ use Rattle.run_shows.specs.Scenes.Scene.{slot_of}
 use Rattle.seize_words.proofs.General.{none_of as none_is}
 
 module _ {K V S : Type 0} (same : K → K → Bool) (hash : K → ℕ) (terms : Terms) (log : List (Entry K V)) (p : Scheduler K V S) (guard : List ℕ)
-    (due : IsDue same hash terms log (Own guard) p) where
+    (due : IsInTurn same hash terms log (Own guard) p) where
   abbrev m : Moment K V
   m = moment log
 
-  abbrev stands : StandsFor same hash terms m p
+  abbrev stands : RefinesFor same hash terms m p
   stands = due.played
 
   abbrev turn : Bool
@@ -123,7 +123,7 @@ module _ {K V S : Type 0} (same : K → K → Bool) (hash : K → ℕ) (terms : 
 
 -- so it is, by what the code does
 module _ {K V S : Type 0} (same : K → K → Bool) (hash : K → ℕ) (terms : Terms) (log : List (Entry K V)) (p : Scheduler K V S) (guard : List ℕ)
-    (due : IsDue same hash terms log (Own guard) p) (found : is_some (guard_of guard p.there.guards) ≡ false)
+    (due : IsInTurn same hash terms log (Own guard) p) (found : is_some (guard_of guard p.there.guards) ≡ false)
     (q : Scheduler K V S) (same_p : q ≡ record p { logged = q.logged }) (before after : List Effect) (nothing : before ≡ []) (slot : Result ℕ Fault)
     (ran : SlotTaken true slot before after p.logged q.logged) where
   did : after ≡ ran.did
@@ -133,17 +133,17 @@ module _ {K V S : Type 0} (same : K → K → Bool) (hash : K → ℕ) (terms : 
   joined_refused fault is =
       subst (λ (x : Scheduler K V S). Plays same hash terms log (entry (Own guard) (Refused fault) 0 after) x) (sym same_p)
       (subst (λ (xs : List Effect). Plays same hash terms log (entry (Own guard) (Refused fault) 0 xs) (record p { logged = q.logged })) (sym did)
-      (refused same hash terms log p guard due found (told_as slot) before after q.logged ran fault (ap (λ (x : Result ℕ Fault). told_as {T = Node K V} x) is) nothing))
+      (refused same hash terms log p guard due found (outcome_of_taking slot) before after q.logged ran fault (ap (λ (x : Result ℕ Fault). outcome_of_taking {T = Node K V} x) is) nothing))
 
   pub joined_slot : (n : ℕ) → slot ≡ Ok n → (there : Present) → there ≡ enters_slot guard n q.there
       → Plays same hash terms log (entry (Own guard) (Slot n) 0 after) (record q { there = there })
   joined_slot n is there there_is =
       subst (λ (x : Scheduler K V S). Plays same hash terms log (entry (Own guard) (Slot n) 0 after) (record x { there = there })) (sym same_p)
       (subst (λ (xs : List Effect). Plays same hash terms log (entry (Own guard) (Slot n) 0 xs) (record p { logged = q.logged; there = there })) (sym did)
-      (entered same hash terms log p guard due found (told_as slot) before after q.logged ran n (ap (λ (x : Result ℕ Fault). told_as {T = Node K V} x) is) there
+      (entered same hash terms log p guard due found (outcome_of_taking slot) before after q.logged ran n (ap (λ (x : Result ℕ Fault). outcome_of_taking {T = Node K V} x) is) there
       (there_is ∙ ap (λ (x : Scheduler K V S). enters_slot guard n x.there) same_p)))
 
   -- it was not refused as busy
-  pub refused_quiet : (fault : Fault) → slot ≡ Err fault → IsQuiet {V = V} (Refused fault) after
+  pub refused_quiet : (fault : Fault) → slot ≡ Err fault → BusyIsSilent {V = V} (Refused fault) after
   refused_quiet fault is = slot_quiet V (moment log).there ran.did after fault
-      (gets_none same hash terms (moment log) p due.played true (told_as slot) before after q.logged ran fault (ap (λ (x : Result ℕ Fault). told_as {T = Node K V} x) is) nothing)
+      (gets_none same hash terms (moment log) p due.played true (outcome_of_taking slot) before after q.logged ran fault (ap (λ (x : Result ℕ Fault). outcome_of_taking {T = Node K V} x) is) nothing)

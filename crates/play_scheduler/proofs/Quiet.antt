@@ -4,12 +4,12 @@ use Rattle.std.proofs.Common.{refl}
 use Rattle.run_schedules.specs.Schedules.Moment.{Sheltered, Moment}
 use Rattle.run_schedules.specs.Schedules.Terms.{Terms}
 use Rattle.run_logged.specs.Given.EffectsKnown.{known}
-use Rattle.play_scheduler.specs.Played.{StandsFor}
+use Rattle.play_scheduler.specs.Played.{RefinesFor}
 use Rattle.play_scheduler.specs.declared.scheduler.Scheduler.{Scheduler}
 use Rattle.run_logged.proofs.Rows.Elsewhere.{elsewhere, shown_elsewhere, kept_elsewhere, counted_elsewhere}
 
-module _ {K V S : Type 0} (same : K → K → Bool) (hash : K → ℕ) (terms : Terms) (m : Moment K V) (p : Scheduler K V S) (stands : StandsFor same hash terms m p) where
-  pub stands_on : (events : ℕ) (is_alone : Bool) (slots : ℕ) (sheltered : List Sheltered) → StandsFor same hash terms (elsewhere events m.is_mapped m.is_closed is_alone m.there slots sheltered m.remains m) p
+module _ {K V S : Type 0} (same : K → K → Bool) (hash : K → ℕ) (terms : Terms) (m : Moment K V) (p : Scheduler K V S) (stands : RefinesFor same hash terms m p) where
+  pub stands_on : (events : ℕ) (is_alone : Bool) (slots : ℕ) (sheltered : List Sheltered) → RefinesFor same hash terms (elsewhere events m.is_mapped m.is_closed is_alone m.there slots sheltered m.remains m) p
   stands_on events is_alone slots sheltered = record {
     name = stands.name;
     scene = stands.scene;

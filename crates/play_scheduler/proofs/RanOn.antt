@@ -21,7 +21,7 @@ use Rattle.run_logged.specs.Log.Shown.{IsShown}
 use Rattle.run_logged.specs.declared.logged.Logged.{Logged}
 use Rattle.run_shows.proofs.Others.Quiet.{calls_none}
 use Rattle.papaya_raw.specs.Given.TablesDeclared.node.Node.{Node}
-use Rattle.play_scheduler.specs.Played.{IsUnderWay, StandsFor}
+use Rattle.play_scheduler.specs.Played.{IsUnderWay, RefinesFor}
 use Rattle.run_logged.specs.Rows.Rows.{RowRan, used_as}
 use Rattle.run_executor.specs.Named.Seen.{named, seen}
 use Rattle.run_executor.specs.declared.named_map.NamedMap.{NamedMap}
@@ -62,7 +62,7 @@ pub some_setting : {K : Type 0} (o : Option (Standing K)) (x : Setting) → opti
 some_setting None x e = absurd (cc e)
 some_setting (Some st) x e = (st, refl)
 
-module _ {K V S : Type 0} (same : K → K → Bool) (hash : K → ℕ) (terms : Terms) (m : Moment K V) (p : Scheduler K V S) (stands : StandsFor same hash terms m p) where
+module _ {K V S : Type 0} (same : K → K → Bool) (hash : K → ℕ) (terms : Terms) (m : Moment K V) (p : Scheduler K V S) (stands : RefinesFor same hash terms m p) where
   -- while no guard of calls is on a slot, nobody has anything under way in it
   pub nobody_by : (there : Present) → AllByRecursion (IsUnderWay stands.name stands.scene there) p.calls → (slot : ℕ) → guards_on slot there.guards ≡ 0 → NobodyIn p.logged.executor slot
   nobody_by there each slot none i at = stands.rests i no_call
@@ -110,7 +110,7 @@ module _ {K V S : Type 0} (same : K → K → Bool) (hash : K → ℕ) (terms : 
 
     pub stands_ran : (there2 : Present) → AllByRecursion (IsUnderWay stands.name stands.scene there2) p.calls → ((t : ℕ) → use_at new.executor t ≡ used_as t there2) → HaveNames there2
         → (there : Present) → there ≡ there2 → (events : ℕ) (is_alone : Bool) (slots : ℕ) (sheltered : List Sheltered) (remains : List Remains) → remains ≡ m.remains
-        → StandsFor same hash terms (elsewhere events m.is_mapped m.is_closed is_alone there slots sheltered remains w) (record p { logged = new; there = there2 })
+        → RefinesFor same hash terms (elsewhere events m.is_mapped m.is_closed is_alone there slots sheltered remains w) (record p { logged = new; there = there2 })
     stands_ran there2 each used names there is events is_alone slots sheltered remains alike = record {
       name = stands.name;
       scene = then_at;

@@ -10,8 +10,8 @@ use Rattle.papaya_raw.specs.Given.ReservesDeclared.sweep.Sweeping.{Sweeping}
 use Rattle.papaya_raw.specs.Given.ReservesDeclared.sweep.Sweeping.TheVariants as sweeping
 use Rattle.papaya_raw.specs.declared.machines.machine.Machine.TheVariants as kinds
 use Rattle.papaya_raw.specs.declared.machines.asking.MachineReply.TheVariants as machine_reply
-use Rattle.papaya_raw.specs.Machine.{machine_replied, sweep_told}
-use Rattle.papaya_raw.specs.CallAsks.{told_at}
+use Rattle.papaya_raw.specs.Machine.{machine_replied, sweep_with_reply}
+use Rattle.papaya_raw.specs.CallAsks.{replied_at}
 use Rattle.papaya_raw.specs.declared.machines.asking.Asking.{Asking}
 use Rattle.papaya_raw.specs.declared.machines.asking.MachineReply.{MachineReply}
 use Rattle.papaya_raw.specs.declared.machines.call.Calling.{Calling}
@@ -30,18 +30,18 @@ use Rattle.run_schedules.specs.declared.outcome.Outcome.TheVariants.{Goes, Refus
 use Rattle.run_schedules.specs.Schedules.After.{is_alone_on, moment, replied}
 use Rattle.run_schedules.specs.Schedules.Coming.{fits_key, fits_reply, is_asking, is_fit}
 use Rattle.run_schedules.specs.Schedules.Entry.{Entry}
-use Rattle.run_schedules.specs.Schedules.Moment.{Stands, Going, Asking as Asks, Told, IsReady, UnderWay as CallThere, Moment}
+use Rattle.run_schedules.specs.Schedules.Moment.{CallState, Going, Asking as Asks, Told, IsReady, UnderWay as CallThere, Moment}
 use Rattle.run_schedules.specs.Schedules.Terms.{Terms}
 use Rattle.run_schedules.specs.Schedules.Views.{call_of}
 use Rattle.run_shows.specs.Given.CallersPairs.{Given, kind_of as kind_given}
 use Rattle.run_shows.specs.Given.CallersSights.{seen_by}
-use Rattle.run_shows.specs.Given.CallersTogether.{CallOnKey, UnderWay, OnKey, ForRoom, Counting, OverAll, Together, Stands as TogetherStands}
+use Rattle.run_shows.specs.Given.CallersTogether.{CallOnKey, UnderWay, OnKey, ForRoom, Counting, OverAll, Together, IsAtPoint as TogetherStands}
 use Rattle.run_shows.proofs.Given.CallersTogether.At.{at_other, at_same}
 use Rattle.run_shows.specs.Given.FinishesMachines.{machine_of}
 use Rattle.run_shows.specs.Given.FinishesMaps.{Standing}
 use Rattle.run_shows.specs.Follows.Calling.{told as told_so}
 use Rattle.run_shows.specs.Follows.Calls.{IsCalled}
-use Rattle.run_executor.specs.Given.HandsAsked.{IsAskedAs, as_told}
+use Rattle.run_executor.specs.Given.HandsAsked.{IsAskedAs, reply_to_machine}
 use Rattle.run_logged.specs.Given.EffectsKnown.{known}
 use Rattle.run_shows.proofs.Follows.Calling.{is_same_refl}
 use Rattle.run_shows.specs.Given.LateFaults.{RoomInSweeping}
@@ -52,7 +52,7 @@ use Rattle.run_logged.specs.Log.Calling.{CallTakes}
 use Rattle.run_logged.specs.Log.Shown.{IsShown}
 use Rattle.run_logged.specs.declared.logged.Logged.{Logged}
 use Rattle.run_executor.specs.Named.Machines.{IsAsFar, IsFor, RefusedForRoom}
-use Rattle.play_scheduler.specs.Played.{CallsAre, IsDue, IsUnderWay, Plays, StandsFor}
+use Rattle.play_scheduler.specs.Played.{CallsAre, IsInTurn, IsUnderWay, Plays, RefinesFor}
 use Rattle.run_executor.specs.Named.Seen.{Seen, asks, far_of, fits, is_named, kind_of, kind_on, seen, seen_of, takes}
 use Rattle.run_executor.specs.declared.caller.NamedCaller.{NamedCaller}
 use Rattle.run_executor.specs.declared.caller.Stands.{Stands as HowFar}
@@ -99,7 +99,7 @@ module _ {K V : Type 0} where
   fits_seen Len reply = refl
   fits_seen Walk reply = refl
 
-asks_seen : (stands : Stands) → is_asking stands ≡ asks (far_of stands)
+asks_seen : (stands : CallState) → is_asking stands ≡ asks (far_of stands)
 asks_seen Going = refl
 asks_seen (Asks question) = refl
 asks_seen Told = refl
@@ -111,7 +111,7 @@ asks_what (far.Asks question) e = (question, refl)
 asks_what far.Goes e = absurd (cc e)
 asks_what far.Ready e = absurd (cc e)
 
-pub far_asks : (stands : Stands) (question : Option ℕ) → far_of stands ≡ far.Asks question → stands ≡ Asks question
+pub far_asks : (stands : CallState) (question : Option ℕ) → far_of stands ≡ far.Asks question → stands ≡ Asks question
 far_asks Going question e = absurd (cc e)
 far_asks (Asks q) question e = ap Asks (the q question e)
   where
@@ -127,7 +127,7 @@ reply_purpose (sweeping.Asks word) c false = refl
 reply_purpose _ c keeps = refl
 
 module _ {V : Type 0} where
-  told_purpose : (stage : Sweeping) (c : Sweep) (told : MachineReply V) → (sweep_told stage c told).0.purpose ≡ c.purpose
+  told_purpose : (stage : Sweeping) (c : Sweep) (told : MachineReply V) → (sweep_with_reply stage c told).0.purpose ≡ c.purpose
   told_purpose (sweeping.Asks word) c machine_reply.Yes = reply_purpose c.stands c true
   told_purpose (sweeping.Asks word) c machine_reply.No = reply_purpose c.stands c false
   told_purpose (sweeping.Asks word) c (machine_reply.Insert v) = refl
@@ -142,7 +142,7 @@ told_for_room (kinds.Reserve c) told room = room
 told_for_room (kinds.Count c) told room = tt
 told_for_room {K} {V} (kinds.Sweep c) told room = by c.stands told
   where
-    by : (stage : Sweeping) (reply : MachineReply V) → RoomInSweeping (sweep_told stage c reply).0.stands
+    by : (stage : Sweeping) (reply : MachineReply V) → RoomInSweeping (sweep_with_reply stage c reply).0.stands
     by (sweeping.Asks word) machine_reply.Yes = (told_sweeps_refuse_room c room).1 true
     by (sweeping.Asks word) machine_reply.No = (told_sweeps_refuse_room c room).1 false
     by (sweeping.Asks word) (machine_reply.Insert v) = room
@@ -158,11 +158,11 @@ goes_far kind question (kinds.Sweep c) told is =
     (subst (IsFor kind) (sym (told_purpose c.stands c told)) is.0, λ walks. absurd (let a = is.1.2 in let b = sym (told_purpose c.stands c told) ∙ walks in cc (a, b)))
 
 module _ {K V S : Type 0} (same : K → K → Bool) (hash : K → ℕ) (terms : Terms) (log : List (Entry K V)) (p : Scheduler K V S) (own : List ℕ) (reply : Reply V)
-    (due : IsDue same hash terms log (Replied own reply) p) where
+    (due : IsInTurn same hash terms log (Replied own reply) p) where
   abbrev m : Moment K V
   m = moment log
 
-  abbrev stands : StandsFor same hash terms m p
+  abbrev stands : RefinesFor same hash terms m p
   stands = due.played
 
   abbrev s : Scene K V
@@ -248,7 +248,7 @@ module _ {K V S : Type 0} (same : K → K → Bool) (hash : K → ℕ) (terms : 
       st = standing_is same (λ map. hash) (held_by p.logged.executor) s stands.shown.is_at.held d.map i u under
 
       -- its machine takes it
-      key_taken : (x : CallOnKey K V K) → u ≡ OnKey x → (told_at x.call.stands x.call (as_told reply)).1 ≡ Ok tt
+      key_taken : (x : CallOnKey K V K) → u ≡ OnKey x → (replied_at x.call.stands x.call (reply_to_machine reply)).1 ≡ Ok tt
       key_taken x is = of_call c.call refl
         where
           here_x : s.calls d.map i ≡ Some (OnKey x)
@@ -269,12 +269,12 @@ module _ {K V S : Type 0} (same : K → K → Bool) (hash : K → ℕ) (terms : 
           asked_as : IsAskedAs (stands.shown.shows.all.shown.number d.map) st.0.chart.stored (known p.logged.notes) x c.call c
           asked_as = stands.shown.shows.all.asked.each d.map i (OnKey x) here_x st.0 st.1 c call_named
 
-          of_one : (one : OneKey K V) → c.call ≡ On one → (told_at x.call.stands x.call (as_told reply)).1 ≡ Ok tt
+          of_one : (one : OneKey K V) → c.call ≡ On one → (replied_at x.call.stands x.call (reply_to_machine reply)).1 ≡ Ok tt
           of_one one it =
               let on = subst (λ (y : Call K V). IsAskedAs (stands.shown.shows.all.shown.number d.map) st.0.chart.stored (known p.logged.notes) x y c) it asked_as in
               let there = on.asks question stands_asking in
               let fitted = fit_of (together.stand i (OnKey x) here_x) there.0 there.1 in
-              subst (λ (y : Calling). (told_at y x.call (as_told reply)).1 ≡ Ok tt) (sym there.1)
+              subst (λ (y : Calling). (replied_at y x.call (reply_to_machine reply)).1 ≡ Ok tt) (sym there.1)
               (key_takes (known p.logged.notes) x.call one on.asked there.0 question there.2 (fitted.0 ∙ ap (λ (g : Given K V). (kind_given g).takes) on.given)
               (subst (λ (g : Given K V). FitsAsking (kind_given g).present (kind_given g).absent (kind_given g).takes there.0) on.given fitted.1) reply
               (sym (ap (λ (y : Call K V). fits (kind_of y) reply) it) ∙ ap (λ (z : Seen). fits z.kind reply) here.as_seen ∙ parts.1))
@@ -288,11 +288,11 @@ module _ {K V S : Type 0} (same : K → K → Bool) (hash : K → ℕ) (terms : 
                   (fit.2.takes_is, subst (FitsAt (kind_given x.pair).present (kind_given x.pair).absent (kind_given x.pair).takes) at_it fit.4)
               fit_of (inr (row, is_row, knows)) it2 at_it = absurd (subst IsRowOfCall at_it is_row)
 
-          of_call : (y : Call K V) → c.call ≡ y → (told_at x.call.stands x.call (as_told reply)).1 ≡ Ok tt
+          of_call : (y : Call K V) → c.call ≡ y → (replied_at x.call.stands x.call (reply_to_machine reply)).1 ≡ Ok tt
           of_call (On one) it = of_one one it
           of_call y it = absurd (let h = subst (IsCalled same (OnKey x)) (ap (λ (z : CallThere K V). z.call) its_call ∙ it) called.3 in h)
 
-      taken : (v : UnderWay K V K) → u ≡ v → (machine_replied (machine_of v) (as_told reply)).1 ≡ Ok tt
+      taken : (v : UnderWay K V K) → u ≡ v → (machine_replied (machine_of v) (reply_to_machine reply)).1 ≡ Ok tt
       taken (OnKey x) is = key_taken x is
       taken (OverAll o) is =
           let far_is = subst (λ (v : UnderWay K V K). IsAsFar d.kind (far.Asks question) (machine_of v)) is as_far in
@@ -304,12 +304,12 @@ module _ {K V S : Type 0} (same : K → K → Bool) (hash : K → ℕ) (terms : 
       pub has_call : HasCall s i
       has_call = (d.map, u, under)
 
-      module _ (result : Result Unit (MachineReply V)) (new : Logged K V S) (leads : RepliesThere same hash i (as_told reply) result s p.logged.executor new.executor)
-          (takes_so : CallTakes same hash stands.name m s i (as_told reply) result p.logged new) where
+      module _ (result : Result Unit (MachineReply V)) (new : Logged K V S) (leads : RepliesThere same hash i (reply_to_machine reply) result s p.logged.executor new.executor)
+          (takes_so : CallTakes same hash stands.name m s i (reply_to_machine reply) result p.logged new) where
         pub result_is : result ≡ Ok tt
         result_is = (leads.1 d.map u under).4 ∙ taken u refl
 
-        to : (next : UnderWay K V K) × (machine_of next ≡ (machine_replied (machine_of u) (as_told reply)).0) × IsShown same hash stands.name (told_so (stands.name i) reply m) new (scene_with d.map i next s)
+        to : (next : UnderWay K V K) × (machine_of next ≡ (machine_replied (machine_of u) (reply_to_machine reply)).0) × IsShown same hash stands.name (told_so (stands.name i) reply m) new (scene_with d.map i next s)
         to = takes_so d.map u under c call_named question stands_asking reply refl result_is
 
         abbrev then_at : Scene K V
@@ -342,7 +342,7 @@ module _ {K V S : Type 0} (same : K → K → Bool) (hash : K → ℕ) (terms : 
           calls2 = slice_set calls place resumed
 
           way_then : IsUnderWay stands.name then_at p.there resumed
-          way_then = (to.0, here_then, here.way.2, here.way.3, (subst (IsAsFar d.kind far.Goes) (sym to.1) (goes_far d.kind question (machine_of u) (as_told reply) as_far), subst RefusedForRoom (sym to.1) (told_for_room (machine_of u) (as_told reply) here.way.4.1)))
+          way_then = (to.0, here_then, here.way.2, here.way.3, (subst (IsAsFar d.kind far.Goes) (sym to.1) (goes_far d.kind question (machine_of u) (reply_to_machine reply) as_far), subst RefusedForRoom (sym to.1) (told_for_room (machine_of u) (reply_to_machine reply) here.way.4.1)))
 
           -- others have other numbers
           still : (x : NamedCaller V) → is_named own x ≡ false → IsUnderWay stands.name s p.there x → IsUnderWay stands.name then_at p.there x
@@ -366,7 +366,7 @@ module _ {K V S : Type 0} (same : K → K → Bool) (hash : K → ℕ) (terms : 
                   let same_one : y ≡ d = (let h = sym found ∙ here.found in the y d h) in
                   let seen_x : seen x ≡ seen_of d = alike ∙ ap seen_of same_one in
                   let at_x : x.stands ≡ Asks question = far_asks x.stands question (ap (λ (z : Seen). z.far) seen_x ∙ asks_it) in
-                  ap (λ (stand : Stands). seen (replied reply x stand)) at_x ∙ ap (λ (z : Seen). record z { far = far.Goes }) seen_x
+                  ap (λ (stand : CallState). seen (replied reply x stand)) at_x ∙ ap (λ (z : Seen). record z { far = far.Goes }) seen_x
                 where
                   the : (a b : NamedCaller V) → Some a ≡ Some b → a ≡ b
                   the a b e = cc e
@@ -396,7 +396,7 @@ module _ {K V S : Type 0} (same : K → K → Bool) (hash : K → ℕ) (terms : 
                   no_work_at same hash new.executor then_at shown.is_at j none (no_making_of same hash p.logged.executor s at_s j before) (no_ending_of same hash p.logged.executor s at_s j before)
                   (row_rests same hash p.logged.executor s at_s j before)
 
-          stands_then : (callers : List (NamedCaller V)) → callers ≡ calls2 → StandsFor same hash terms then_m (record p { logged = new; calls = callers })
+          stands_then : (callers : List (NamedCaller V)) → callers ≡ calls2 → RefinesFor same hash terms then_m (record p { logged = new; calls = callers })
           stands_then callers items = record {
             name = stands.name;
             scene = then_at;

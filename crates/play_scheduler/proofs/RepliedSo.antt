@@ -10,10 +10,10 @@ use Rattle.run_schedules.specs.Schedules.Terms.{Terms}
 use Rattle.run_schedules.specs.declared.call.Reply.{Reply}
 use Rattle.run_schedules.specs.declared.event.Event.TheVariants.{Replied}
 use Rattle.run_schedules.specs.declared.outcome.Outcome.TheVariants.{Goes}
-use Rattle.run_executor.specs.Given.HandsAsked.{as_told}
+use Rattle.run_executor.specs.Given.HandsAsked.{reply_to_machine}
 use Rattle.run_logged.specs.Log.Calling.{CallTakes}
 use Rattle.run_logged.specs.declared.logged.Logged.{Logged}
-use Rattle.play_scheduler.specs.Played.{IsDue, Plays}
+use Rattle.play_scheduler.specs.Played.{IsInTurn, Plays}
 use Rattle.run_executor.specs.Named.Seen.{is_named, takes}
 use Rattle.run_executor.specs.declared.caller.NamedCaller.{NamedCaller}
 use Rattle.run_executor.specs.declared.caller.Stands.TheVariants as far
@@ -25,7 +25,7 @@ use Rattle.run_executor.specs.Executing.Replying.{RepliesThere}
 use Rattle.run_shows.specs.Scenes.Scene.{HasCall}
 
 module _ {K V S : Type 0} (same : K → K → Bool) (hash : K → ℕ) (terms : Terms) (log : List (Entry K V)) (p : Scheduler K V S) (own : List ℕ) (reply : Reply V)
-    (due : IsDue same hash terms log (Replied own reply) p) (place : ℕ) (placed : Some place ≡ position (is_named own) p.calls) (x : NamedCaller V)
+    (due : IsInTurn same hash terms log (Replied own reply) p) (place : ℕ) (placed : Some place ≡ position (is_named own) p.calls) (x : NamedCaller V)
     (reads : x ≡ slice_index_or p.calls place x) (taken : takes x reply ≡ true) (y : NamedCaller V) (reads_y : y ≡ slice_index_or p.calls place y) where
   abbrev m : Moment K V
   m = moment log
@@ -42,15 +42,15 @@ module _ {K V S : Type 0} (same : K → K → Bool) (hash : K → ℕ) (terms : 
   pub call_there : HasCall due.played.scene y.number
   call_there = subst (λ (n : ℕ). HasCall due.played.scene n) (sym number_is) (has_call same hash terms log p own reply due place placed takes_it)
 
-  module _ (as_it : MachineReply V) (is_told : as_it ≡ as_told reply) (result : Result Unit (MachineReply V)) (new : Logged K V S)
+  module _ (as_it : MachineReply V) (is_told : as_it ≡ reply_to_machine reply) (result : Result Unit (MachineReply V)) (new : Logged K V S)
       (leads : RepliesThere same hash y.number as_it result due.played.scene p.logged.executor new.executor)
       (takes_so : CallTakes same hash due.played.name m due.played.scene y.number as_it result p.logged new) where
-    leads_it : RepliesThere same hash here.caller.number (as_told reply) result due.played.scene p.logged.executor new.executor
+    leads_it : RepliesThere same hash here.caller.number (reply_to_machine reply) result due.played.scene p.logged.executor new.executor
     leads_it =
         subst (λ (t : MachineReply V). RepliesThere same hash here.caller.number t result due.played.scene p.logged.executor new.executor) is_told
         (subst (λ (n : ℕ). RepliesThere same hash n as_it result due.played.scene p.logged.executor new.executor) number_is leads)
 
-    takes_so_it : CallTakes same hash due.played.name m due.played.scene here.caller.number (as_told reply) result p.logged new
+    takes_so_it : CallTakes same hash due.played.name m due.played.scene here.caller.number (reply_to_machine reply) result p.logged new
     takes_so_it =
         subst (λ (t : MachineReply V). CallTakes same hash due.played.name m due.played.scene here.caller.number t result p.logged new) is_told
         (subst (λ (n : ℕ). CallTakes same hash due.played.name m due.played.scene n as_it result p.logged new) number_is takes_so)

@@ -8,9 +8,9 @@ use Rattle.run_schedules.specs.declared.outcome.Outcome.{Outcome}
 use Rattle.run_schedules.specs.declared.outcome.Outcome.TheVariants.{Refused}
 use Rattle.run_schedules.specs.Schedules.After.{moment}
 use Rattle.run_schedules.specs.Schedules.Entry.{Entry}
-use Rattle.run_schedules.specs.Schedules.InTurn.{ComesRight, ComesTo, InTurn, IsKeptOut}
+use Rattle.run_schedules.specs.Schedules.InTurn.{HasRightOutcome, HasOutcome, InTurn, IsKeptOut}
 use Rattle.run_schedules.specs.Schedules.Terms.{Terms}
-use Rattle.play_scheduler.specs.Played.{IsDue, IsPlayed, Plays, entry_of}
+use Rattle.play_scheduler.specs.Played.{IsInTurn, IsPlayed, Plays, entry_of}
 use Rattle.play_scheduler.specs.declared.played.Played.{Played}
 use Rattle.play_scheduler.specs.declared.scheduler.Scheduler.{Scheduler}
 
@@ -22,8 +22,8 @@ module _ {V : Type 0} (wanted : Outcome V → Type 0) where
   out_of_turn turn outcome is so = subst (λ (b : Bool). MatchBool b (wanted outcome) (outcome ≡ Refused Busy)) (sym is) so
 
 module _ {K V : Type 0} where
-  pub comes_right : (terms : Terms) (log : List (Entry K V)) (e : Entry K V) → (moment log).is_closed ≡ false → ComesTo terms log (moment log) e e.event e.outcome → ComesRight terms log e
-  comes_right terms log e is to = subst (λ (b : Bool). MatchBool b (IsKeptOut e.event e.outcome) (ComesTo terms log (moment log) e e.event e.outcome)) (sym is) to
+  pub comes_right : (terms : Terms) (log : List (Entry K V)) (e : Entry K V) → (moment log).is_closed ≡ false → HasOutcome terms log (moment log) e e.event e.outcome → HasRightOutcome terms log e
+  comes_right terms log e is to = subst (λ (b : Bool). MatchBool b (IsKeptOut e.event e.outcome) (HasOutcome terms log (moment log) e e.event e.outcome)) (sym is) to
 
   -- an event that came to this, by so many steps, which did this
   abbrev pub entry : Event K V → Outcome V → ℕ → List Effect → Entry K V
@@ -39,7 +39,7 @@ module _ {K V : Type 0} where
 
 module _ {K V S : Type 0} (same : K → K → Bool) (hash : K → ℕ) (terms : Terms) (log : List (Entry K V)) (event : Event K V) (p : Scheduler K V S) where
   -- what is promised of an event that came to what it must
-  pub plays : {q : Scheduler K V S} → IsDue same hash terms log event q → (e : Entry K V) → e.event ≡ event → ComesTo terms log (moment log) e e.event e.outcome → IsPlayed same hash terms (e ∷ log) p
+  pub plays : {q : Scheduler K V S} → IsInTurn same hash terms log event q → (e : Entry K V) → e.event ≡ event → HasOutcome terms log (moment log) e e.event e.outcome → IsPlayed same hash terms (e ∷ log) p
       → Plays same hash terms log e p
   plays due e is to played = record { right = comes_right terms log e (subst (λ (x : Event K V). (moment log).is_closed ≡ false) (sym is) due.in_turn) to; played = played }
 

@@ -15,21 +15,22 @@ use Rattle.run_schedules.specs.Schedules.Moment.{Sheltered, Moment}
 use Rattle.run_schedules.specs.Schedules.Terms.{Terms}
 use Rattle.run_logged.specs.Given.EffectsKnown.{known}
 use Rattle.run_logged.specs.Rows.Rows.{used_as}
-use Rattle.play_scheduler.specs.Played.{IsDue, IsUnderWay, Plays, StandsFor}
+use Rattle.play_scheduler.specs.Played.{IsInTurn, IsUnderWay, Plays, RefinesFor}
 use Rattle.run_executor.specs.Named.Seen.{Seen, free_slot, seen, seen_of}
 use Rattle.play_scheduler.specs.declared.scheduler.Scheduler.{Scheduler}
 use Rattle.run_logged.proofs.Rows.Elsewhere.{elsewhere, shown_elsewhere, kept_elsewhere, counted_elsewhere}
-use Rattle.run_logged.proofs.Rows.Lists.{all_but, any_alike}
+use Rattle.run_logged.proofs.Given.Lists.{all_but}
+use Rattle.run_logged.proofs.Rows.Lists.{any_alike}
 use Rattle.run_logged.proofs.Rows.Names.{forgets_named}
 use Rattle.play_scheduler.proofs.Quiet.{stands_on}
 use Rattle.run_logged.proofs.Rows.There.{forgets_used, living_is, others_found}
 use Rattle.play_scheduler.proofs.Rights.{in_turn, out_of_turn, plays, quiet}
 
-module _ {K V S : Type 0} (same : K → K → Bool) (hash : K → ℕ) (terms : Terms) (m : Moment K V) (p : Scheduler K V S) (stands : StandsFor same hash terms m p) where
+module _ {K V S : Type 0} (same : K → K → Bool) (hash : K → ℕ) (terms : Terms) (m : Moment K V) (p : Scheduler K V S) (stands : RefinesFor same hash terms m p) where
   -- others are there, each call has its guard still, and slots are used as before
   pub stands_there : (there2 : Present) → AllByRecursion (IsUnderWay stands.name stands.scene there2) p.calls → ((slot : ℕ) → used_as slot there2 ≡ used_as slot p.there) → HaveNames there2
       → (there : Present) → there ≡ there2 → (events : ℕ) (is_alone : Bool) (slots : ℕ) (sheltered : List Sheltered)
-      → StandsFor same hash terms (elsewhere events m.is_mapped m.is_closed is_alone there slots sheltered m.remains m) (record p { there = there2 })
+      → RefinesFor same hash terms (elsewhere events m.is_mapped m.is_closed is_alone there slots sheltered m.remains m) (record p { there = there2 })
   stands_there there2 each used names there is events is_alone slots sheltered = record {
     name = stands.name;
     scene = stands.scene;
@@ -75,11 +76,11 @@ module _ {K V S : Type 0} (same : K → K → Bool) (hash : K → ℕ) (terms : 
       by true e f = absurd (cc f)
       by false e f = e
 
-module _ {K V S : Type 0} (same : K → K → Bool) (hash : K → ℕ) (terms : Terms) (log : List (Entry K V)) (p : Scheduler K V S) (guard : List ℕ) (due : IsDue same hash terms log (Forget guard) p) where
+module _ {K V S : Type 0} (same : K → K → Bool) (hash : K → ℕ) (terms : Terms) (log : List (Entry K V)) (p : Scheduler K V S) (guard : List ℕ) (due : IsInTurn same hash terms log (Forget guard) p) where
   abbrev m : Moment K V
   m = moment log
 
-  abbrev stands : StandsFor same hash terms m p
+  abbrev stands : RefinesFor same hash terms m p
   stands = due.played
 
   pub not_forgotten : is_some (free_slot guard p.there p.calls) ≡ false → Plays same hash terms log (quiet (Forget guard) (Refused Busy)) p

@@ -13,7 +13,7 @@ use Rattle.map_straight.specs.Given.RuleChart.{Chart}
 use Rattle.map_straight.specs.Given.RuleMaps.{IsMap}
 use Rattle.map_straight.specs.Given.RuleWords.{Blocks}
 use Rattle.run_schedules.specs.declared.shapes.TableShape.{TableShape}
-use Rattle.map_straight.specs.Shown.Shown.{Stands, table_of, tables_on}
+use Rattle.map_straight.specs.Shown.Shown.{HasMap, table_of, tables_on}
 use Rattle.run_schedules.specs.declared.event.Event.TheVariants.{ShowShape}
 use Rattle.run_schedules.specs.declared.outcome.Outcome.{Outcome}
 use Rattle.run_schedules.specs.declared.outcome.Outcome.TheVariants.{Refused, Shape}
@@ -25,7 +25,7 @@ use Rattle.run_schedules.specs.Schedules.Terms.{Terms}
 use Rattle.run_schedules.specs.Schedules.Views.{first_of, first_or, map_of, number_of, tables_of}
 use Rattle.run_shows.specs.Given.FinishesMaps.{Standing}
 use Rattle.run_shows.specs.Follows.Maps.{tables_to}
-use Rattle.play_scheduler.specs.Played.{IsDue, Plays, StandsFor}
+use Rattle.play_scheduler.specs.Played.{IsInTurn, Plays, RefinesFor}
 use Rattle.run_executor.specs.Named.Seen.{setting_named}
 use Rattle.play_scheduler.specs.Shapes.{shape_of}
 use Rattle.play_scheduler.specs.declared.scheduler.Scheduler.{Scheduler}
@@ -81,7 +81,7 @@ module _ {K : Type 0} (c : Chart K) (blocks : Blocks) where
             ∙ ap (map shape_of) (sym (one_more f (q - f))) ∙ ap (λ (k : ℕ). map shape_of (tables_on c blocks f k)) (let e : suc (q - f) ≡ suc q - f = omega (arith, early) in e)
 
 -- the root is none of the tables that are not made yet
-root_before : {K V : Type 0} (same : K → K → Bool) (hash : K → ℕ) (m : Mem (Node K V)) (setting : Setting) (c : Chart K) (blocks : Blocks) → Stands same hash m setting c blocks → c.first ≤ c.past
+root_before : {K V : Type 0} (same : K → K → Bool) (hash : K → ℕ) (m : Mem (Node K V)) (setting : Setting) (c : Chart K) (blocks : Blocks) → HasMap same hash m setting c blocks → c.first ≤ c.past
 root_before same hash m setting c blocks stands = by (cases_lt 0 c.past)
   where
     by : (0 < c.past) ⊎ (c.past ≤ 0) → c.first ≤ c.past
@@ -95,7 +95,7 @@ module _ {K V S : Type 0} (same : K → K → Bool) (hash : K → ℕ) (terms : 
   abbrev found : Option (ℕ × Setting)
   found = setting_named own p.maps p.logged.executor.maps.items
 
-  module _ (stands : StandsFor same hash terms m p) (number : ℕ) (setting : Setting) (is : found ≡ Some (number, setting)) where
+  module _ (stands : RefinesFor same hash terms m p) (number : ℕ) (setting : Setting) (is : found ≡ Some (number, setting)) where
     abbrev its : (number_of own m ≡ Some number) × (standing : Standing K) × (stands.scene.maps number ≡ Some standing) × (standing.setting ≡ setting)
     its = setting_of_it same hash terms m p stands own number setting is
 
@@ -109,7 +109,7 @@ module _ {K V S : Type 0} (same : K → K → Bool) (hash : K → ℕ) (terms : 
     blocks_there = st.blocks
 
     -- the words of the map are those of its tables
-    pub stands_there : Stands same hash p.logged.executor.memory.memory setting chart_there blocks_there
+    pub stands_there : HasMap same hash p.logged.executor.memory.memory setting chart_there blocks_there
     stands_there =
         let at = stands.shown.is_at in
         let maps = at.held.together.makings.standing in
@@ -132,7 +132,7 @@ module _ {K V S : Type 0} (same : K → K → Bool) (hash : K → ℕ) (terms : 
         ∙ shapes_from st.chart st.blocks number shows.tables.stage st.chart.first st.chart.past
         (root_before same hash p.logged.executor.memory.memory setting st.chart st.blocks stands_there)
 
-  module _ (due : IsDue same hash terms log (ShowShape own) p) where
+  module _ (due : IsInTurn same hash terms log (ShowShape own) p) where
     pub shown : (number : ℕ) (setting : Setting) → found ≡ Some (number, setting) → (outcome : Outcome V) → IsShapeOf (chain_named (number_of own m) m) outcome
         → Plays same hash terms log (quiet (ShowShape own) outcome) p
     shown number setting is outcome shaped = by outcome shaped

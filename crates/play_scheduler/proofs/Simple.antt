@@ -12,7 +12,7 @@ use Rattle.run_schedules.specs.Schedules.Entry.{Entry}
 use Rattle.run_schedules.specs.Schedules.InTurn.{IsDone}
 use Rattle.run_schedules.specs.Schedules.Moment.{Moment}
 use Rattle.run_schedules.specs.Schedules.Terms.{Terms}
-use Rattle.play_scheduler.specs.Played.{IsDue, Plays}
+use Rattle.play_scheduler.specs.Played.{IsInTurn, Plays}
 use Rattle.play_scheduler.specs.declared.scheduler.Scheduler.{Scheduler}
 use Rattle.play_scheduler.proofs.Quiet.{stands_on}
 use Rattle.play_scheduler.proofs.Rights.{in_turn, out_of_turn, plays, quiet}
@@ -28,7 +28,7 @@ module _ {K V S : Type 0} (same : K → K → Bool) (hash : K → ℕ) (terms : 
   abbrev alone : Entry K V → Bool
   alone e = m.is_alone && is_alone_on e m
 
-  pub collector_plays : (setup : Setup) → IsDue same hash terms log (Collector setup) p → (is_first : Bool) → is_first ≡ (m.events == 0)
+  pub collector_plays : (setup : Setup) → IsInTurn same hash terms log (Collector setup) p → (is_first : Bool) → is_first ≡ (m.events == 0)
       → Plays same hash terms log (quiet (Collector setup) (if_so is_first)) p
   collector_plays setup due true first =
       let e = quiet (Collector setup) Done in
@@ -38,7 +38,7 @@ module _ {K V S : Type 0} (same : K → K → Bool) (hash : K → ℕ) (terms : 
       plays same hash terms log (Collector setup) p due e refl (out_of_turn IsDone (m.events == 0) (Refused Busy) (sym first) refl)
       (stands_on same hash terms m p due.played (m.events + 1) (alone e) m.slots m.sheltered)
 
-  pub hash_plays : (by : KeyHash) → IsDue same hash terms log (Hash by) p → (so : Bool) → so ≡ not p.is_mapped → Plays same hash terms log (quiet (Hash by) (if_so so)) p
+  pub hash_plays : (by : KeyHash) → IsInTurn same hash terms log (Hash by) p → (so : Bool) → so ≡ not p.is_mapped → Plays same hash terms log (quiet (Hash by) (if_so so)) p
   hash_plays by due true so =
       let e = quiet (Hash by) Done in
       plays same hash terms log (Hash by) p due e refl (in_turn IsDone (not m.is_mapped) Done (ap not due.played.mapped ∙ sym so) refl)

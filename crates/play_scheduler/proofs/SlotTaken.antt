@@ -35,7 +35,7 @@ use Rattle.run_shows.specs.declared.row.SlotUse.TheVariants as used
 use Rattle.run_shows.specs.declared.callers.TheConstants.{SLOTS}
 use Rattle.run_logged.specs.Given.ShedsEnded.{has_ended, uses_ended}
 use Rattle.run_logged.specs.declared.logged.Logged.{Logged}
-use Rattle.play_scheduler.specs.Played.{StandsFor}
+use Rattle.play_scheduler.specs.Played.{RefinesFor}
 use Rattle.run_logged.specs.Rows.Rows.{RowRan, used_as}
 use Rattle.play_scheduler.specs.declared.scheduler.Scheduler.{Scheduler}
 use Rattle.run_logged.proofs.Rows.Ran.{Led}
@@ -64,7 +64,7 @@ module _ {V : Type 0} (there : Present) (did : List Effect) (outcome : Outcome V
   gets_by : (b : Bool) → nat_lt least most_slots ≡ b → MatchBool b ((outcome ≡ Slot least) ⊎ IsShort did outcome) (outcome ≡ Refused SlotsUsedUp) → GetsSlot there did outcome
   gets_by b is so = subst (λ (q : Bool). MatchBool q ((outcome ≡ Slot least) ⊎ IsShort did outcome) (outcome ≡ Refused SlotsUsedUp)) (sym is) so
 
-module _ {K V S : Type 0} (same : K → K → Bool) (hash : K → ℕ) (terms : Terms) (m : Moment K V) (p : Scheduler K V S) (stands : StandsFor same hash terms m p)
+module _ {K V S : Type 0} (same : K → K → Bool) (hash : K → ℕ) (terms : Terms) (m : Moment K V) (p : Scheduler K V S) (stands : RefinesFor same hash terms m p)
     (enters : Bool) (said : RowTold (Node K V)) (before after : List Effect) (new : Logged K V S) (ran : RowRan 0 (call.Register enters) said before after p.logged new) where
   apart : NoneOnVacant ran.caller stands.scene.world
   apart = none_on_vacant same hash terms m p stands ran.caller

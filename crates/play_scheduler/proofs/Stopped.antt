@@ -16,11 +16,11 @@ use Rattle.run_schedules.specs.Schedules.After.{is_alone_on, moment}
 use Rattle.run_schedules.specs.Schedules.Coming.{is_ready, shows_now}
 use Rattle.run_schedules.specs.Schedules.Entry.{Entry}
 use Rattle.run_schedules.specs.Schedules.InTurn.{IsDone}
-use Rattle.run_schedules.specs.Schedules.Moment.{Stands, Going, Asking, Told, IsReady, UnderWay as CallThere, Moment}
+use Rattle.run_schedules.specs.Schedules.Moment.{CallState, Going, Asking, Told, IsReady, UnderWay as CallThere, Moment}
 use Rattle.run_schedules.specs.Schedules.Terms.{Terms}
 use Rattle.run_schedules.specs.Schedules.Views.{call_of}
 use Rattle.run_shows.specs.Given.CallersSights.{seen_by}
-use Rattle.run_shows.specs.Given.CallersTogether.{UnderWay, OnKey, ForRoom, Counting, OverAll, Together, Stands as TogetherStands}
+use Rattle.run_shows.specs.Given.CallersTogether.{UnderWay, OnKey, ForRoom, Counting, OverAll, Together, IsAtPoint as TogetherStands}
 use Rattle.run_shows.specs.Given.LateToldSweeps.{IsRowOfSweep}
 use Rattle.papaya_raw.specs.Given.ReservesDeclared.sweep.Sweeping.TheVariants as sweeping
 use Rattle.run_shows.proofs.Given.CallersTogether.At.{at_other, at_same}
@@ -33,7 +33,7 @@ use Rattle.run_logged.specs.Log.Shown.{IsShown}
 use Rattle.run_logged.specs.declared.logged.Logged.{Logged}
 use Rattle.run_shows.specs.Others.Walks.{given_up}
 use Rattle.run_executor.specs.Named.Machines.{IsAsFar}
-use Rattle.play_scheduler.specs.Played.{CallsAre, IsDue, IsUnderWay, Plays, StandsFor}
+use Rattle.play_scheduler.specs.Played.{CallsAre, IsInTurn, IsUnderWay, Plays, RefinesFor}
 use Rattle.run_executor.specs.Named.Seen.{Seen, far_of, if_ready, is_named, is_ready as is_ready_there, ready_place, seen, seen_of, shows}
 use Rattle.run_executor.specs.declared.caller.NamedCaller.{NamedCaller}
 use Rattle.run_executor.specs.declared.caller.Stands.{Stands as HowFar}
@@ -51,7 +51,7 @@ use Rattle.run_shows.specs.Scenes.Replying.{unless_stopped}
 use Rattle.run_shows.specs.Scenes.Scene.{HasCall, Scene, slot_of}
 use Rattle.seize_words.proofs.General.{none_is as nothing}
 
-shows_seen : (stands : Stands) → is_ready stands ≡ shows (far_of stands)
+shows_seen : (stands : CallState) → is_ready stands ≡ shows (far_of stands)
 shows_seen Going = refl
 shows_seen (Asking question) = refl
 shows_seen Told = refl
@@ -76,7 +76,7 @@ module _ {K V S : Type 0} (same : K → K → Bool) (hash : K → ℕ) (terms : 
   abbrev calls : List (NamedCaller V)
   calls = p.calls
 
-  module _ (stands : StandsFor same hash terms m p) where
+  module _ (stands : RefinesFor same hash terms m p) where
     -- a walk of this name shows pairs just where it has a place
     module _ (place : ℕ) (placed : Some place ≡ position (is_named own) calls) where
       abbrev here : Here same hash terms m p stands own place
@@ -116,8 +116,8 @@ module _ {K V S : Type 0} (same : K → K → Bool) (hash : K → ℕ) (terms : 
             one true h g = let n : place ≡ q = cc g in (g ∙ sym e, ap (λ (k : ℕ). is_ready_there (slice_get calls k)) n ∙ h)
             one false h g = absurd (cc g)
 
-  module _ (due : IsDue same hash terms log (Stop own) p) where
-    abbrev stands : StandsFor same hash terms m p
+  module _ (due : IsInTurn same hash terms log (Stop own) p) where
+    abbrev stands : RefinesFor same hash terms m p
     stands = due.played
 
     abbrev s : Scene K V
@@ -285,7 +285,7 @@ module _ {K V S : Type 0} (same : K → K → Bool) (hash : K → ℕ) (terms : 
                 no_work_at same hash new.executor then_at shown.is_at j none (no_making_of same hash p.logged.executor s at_s j before) (no_ending_of same hash p.logged.executor s at_s j before)
                 (row_rests same hash p.logged.executor s at_s j before)
 
-        stands_then : (callers : List (NamedCaller V)) → callers ≡ calls2 → StandsFor same hash terms then_m (record p { logged = new; calls = callers })
+        stands_then : (callers : List (NamedCaller V)) → callers ≡ calls2 → RefinesFor same hash terms then_m (record p { logged = new; calls = callers })
         stands_then callers items = record {
           name = stands.name;
           scene = then_at;

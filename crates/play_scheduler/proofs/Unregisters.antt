@@ -25,7 +25,7 @@ use Rattle.run_shows.specs.declared.row.SlotUse.TheVariants as used
 use Rattle.run_shows.specs.declared.callers.TheConstants.{SLOTS}
 use Rattle.run_logged.specs.Given.ShedsEnded.{has_ended}
 use Rattle.run_logged.specs.declared.logged.Logged.{Logged}
-use Rattle.play_scheduler.specs.Played.{IsDue, Plays, StandsFor}
+use Rattle.play_scheduler.specs.Played.{IsInTurn, Plays, RefinesFor}
 use Rattle.run_logged.specs.Rows.Rows.{RowRan, RowRanOn, used_as}
 use Rattle.play_scheduler.specs.declared.scheduler.Scheduler.{Scheduler}
 use Rattle.run_logged.proofs.Rows.Facts.{slot_fits}
@@ -40,11 +40,11 @@ use Rattle.run_executor.specs.Executing.IsThere.{use_at}
 use Rattle.run_executor.specs.Executing.OnSlots.{MayBegin}
 
 module _ {K V S : Type 0} (same : K → K → Bool) (hash : K → ℕ) (terms : Terms) (log : List (Entry K V)) (p : Scheduler K V S) (registration : List ℕ)
-    (due : IsDue same hash terms log (Unregister registration) p) where
+    (due : IsInTurn same hash terms log (Unregister registration) p) where
   abbrev m : Moment K V
   m = moment log
 
-  abbrev stands : StandsFor same hash terms m p
+  abbrev stands : RefinesFor same hash terms m p
   stands = due.played
 
   abbrev turn : Bool
@@ -151,7 +151,7 @@ module _ {K V S : Type 0} (same : K → K → Bool) (hash : K → ℕ) (terms : 
 
 -- so it is, by what the code does
 module _ {K V S : Type 0} (same : K → K → Bool) (hash : K → ℕ) (terms : Terms) (log : List (Entry K V)) (p : Scheduler K V S) (registration : List ℕ)
-    (due : IsDue same hash terms log (Unregister registration) p) (slot : ℕ) (found : option_map (λ r. r.slot) (registration_of registration p.there.registrations) ≡ Some slot)
+    (due : IsInTurn same hash terms log (Unregister registration) p) (slot : ℕ) (found : option_map (λ r. r.slot) (registration_of registration p.there.registrations) ≡ Some slot)
     (none_live : (living_on slot p.there.guards == 0) ≡ true) (p2 : Scheduler K V S) (effects : List Effect) (there : Present) (is : there ≡ unregisters registration p2.there) where
   abbrev Comes : Scheduler K V S → List Effect → Type 0
   Comes q did = Plays same hash terms log (entry (Unregister registration) Done 0 did) (record q { there = there })

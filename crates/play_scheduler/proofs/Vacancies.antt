@@ -21,7 +21,7 @@ use Rattle.run_executor.specs.declared.worker.Work.TheVariants as work
 use Rattle.run_logged.proofs.Rows.InUse.{among_used, unused_by, used_by}
 use Rattle.run_logged.proofs.Rows.Light.{has_call, light, within_call}
 use Rattle.run_logged.specs.Rows.Rows.{used_as}
-use Rattle.play_scheduler.specs.Played.{StandsFor}
+use Rattle.play_scheduler.specs.Played.{RefinesFor}
 use Rattle.play_scheduler.specs.declared.scheduler.Scheduler.{Scheduler}
 use Rattle.run_logged.proofs.Rows.Facts.{row_rests, used_once}
 use Rattle.run_logged.proofs.Rows.Least.{least_is, least_past}
@@ -29,7 +29,7 @@ use Rattle.run_executor.specs.Executing.IsThere.{IsUsedAs, call_in, use_at, work
 use Rattle.run_shows.specs.Scenes.Scene.{Scene}
 use Rattle.seize_words.proofs.General.{none_mapped as none_of}
 
-module _ {K V S : Type 0} (same : K → K → Bool) (hash : K → ℕ) (terms : Terms) (m : Moment K V) (p : Scheduler K V S) (stands : StandsFor same hash terms m p) where
+module _ {K V S : Type 0} (same : K → K → Bool) (hash : K → ℕ) (terms : Terms) (m : Moment K V) (p : Scheduler K V S) (stands : RefinesFor same hash terms m p) where
   abbrev e : Executor K V S
   e = p.logged.executor
 
@@ -55,7 +55,7 @@ module _ {K V S : Type 0} (same : K → K → Bool) (hash : K → ℕ) (terms : 
       by (Some (work.Ending ending)) is = quiet (Some (work.Ending ending)) is (λ n. refl)
       by (Some (work.OnSlot row)) is = quiet (Some (work.OnSlot row)) is (λ n. refl)
 
-module _ {K V S : Type 0} (same : K → K → Bool) (hash : K → ℕ) (terms : Terms) (m : Moment K V) (p : Scheduler K V S) (stands : StandsFor same hash terms m p) where
+module _ {K V S : Type 0} (same : K → K → Bool) (hash : K → ℕ) (terms : Terms) (m : Moment K V) (p : Scheduler K V S) (stands : RefinesFor same hash terms m p) where
   abbrev uses : ℕ → Use
   uses = stands.scene.world.uses
 

@@ -16,7 +16,7 @@ use Rattle.run_logged.specs.Log.Makings.{MakingRan}
 use Rattle.run_logged.specs.Log.Roots.{MakingFinds}
 use Rattle.run_logged.specs.declared.logged.Logged.{Logged}
 use Rattle.run_logged.specs.Rows.Rows.{RowRan, RowRanOn}
-use Rattle.play_scheduler.specs.Works.{ComesBy, HasNoRow, IsAbout, IsItsRow, WorksOnSlot}
+use Rattle.play_scheduler.specs.Works.{HasOutcomeBy, HasNoRow, IsAbout, IsItsRow, WorksOnSlot}
 use Rattle.play_scheduler.specs.declared.played.Played.{Played}
 use Rattle.play_scheduler.specs.declared.scheduler.Scheduler.{Scheduler}
 
@@ -32,7 +32,7 @@ module _ {K V S : Type 0} (event : Event K V) (old : Scheduler K V S) (played : 
 
     -- or its row has run there
     module _ (called : SlotCall) (its : IsItsRow event old slot called) (before after : List Effect) (nothing : before ≡ []) (effects : played.effects.items ≡ after) (q : Logged K V S) (is : new.logged ≡ q) where
-      pub did_told : (said : RowTold (Node K V)) → ComesBy event said played.outcome → RowRan slot called said before after old.logged q → WorksOnSlot played old new event
+      pub did_told : (said : RowTold (Node K V)) → HasOutcomeBy event said played.outcome → RowRan slot called said before after old.logged q → WorksOnSlot played old new event
       did_told said comes ran = (
         calls,
         inr (
@@ -50,7 +50,7 @@ module _ {K V S : Type 0} (event : Event K V) (old : Scheduler K V S) (played : 
         ),
       )
 
-      pub did_row : ((said : RowTold (Node K V)) → ComesBy event said played.outcome) → RowRanOn slot called before after old.logged q → WorksOnSlot played old new event
+      pub did_row : ((said : RowTold (Node K V)) → HasOutcomeBy event said played.outcome) → RowRanOn slot called before after old.logged q → WorksOnSlot played old new event
       did_row comes ran = did_told ran.0 (comes ran.0) ran.1
 
 -- What has run from an empty list is so, of the map by its number, and by what was told.

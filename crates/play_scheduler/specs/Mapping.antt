@@ -17,7 +17,7 @@ use Rattle.run_schedules.specs.Schedules.Moment.{Moment}
 use Rattle.run_schedules.specs.Schedules.Terms.{Terms}
 use Rattle.run_executor.specs.Given.MomentsNumbers.{NumbersMaps, PairsAreBelow}
 use Rattle.run_logged.specs.Log.Roots.{AreTaken}
-use Rattle.play_scheduler.specs.Played.{IsDue, Plays, entry_of}
+use Rattle.play_scheduler.specs.Played.{IsInTurn, Plays, entry_of}
 use Rattle.run_executor.specs.Named.Seen.{number_named}
 use Rattle.play_scheduler.specs.declared.played.Played.{Played}
 use Rattle.run_executor.specs.declared.named_map.NamedMap.{NamedMap}
@@ -54,7 +54,7 @@ pub record CountsMaps {K V S : Type 0} (m : Moment K V) (p : Scheduler K V S) : 
 module _ {K V S : Type 0} (same : K → K → Bool) (hash : K → ℕ) where
   -- the event may happen, where keys have lawful hashes, and roots and numbers are so
   pub record MayMap (terms : Terms) (log : List (Entry K V)) (event : Event K V) (p : Scheduler K V S) : Type 0 where
-    pub due : IsDue same hash terms log event p
+    pub due : IsInTurn same hash terms log event p
     pub lawful : AreLawful same hash
     pub counts : CountsMaps (moment log) p
 
@@ -63,4 +63,4 @@ module _ {K V S : Type 0} (same : K → K → Bool) (hash : K → ℕ) where
 
   abbrev pub PlaysEnding : Event K V → Played V → (old new : Scheduler K V S) → Type 0
   PlaysEnding event played old new =
-      (terms : Terms) (log : List (Entry K V)) → IsDue same hash terms log event old → AreApart (moment log) → Plays same hash terms log (entry_of event played) new
+      (terms : Terms) (log : List (Entry K V)) → IsInTurn same hash terms log event old → AreApart (moment log) → Plays same hash terms log (entry_of event played) new

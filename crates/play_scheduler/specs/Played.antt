@@ -7,7 +7,7 @@ use Rattle.papaya_raw.specs.Given.TablesDeclared.setting.Setting.{Setting}
 use Rattle.run_shows.specs.Given.CallersTogether.{UnderWay}
 use Rattle.run_shows.specs.Given.FinishesMachines.{machine_of}
 use Rattle.run_shows.specs.Given.FinishesMaps.{Standing}
-use Rattle.run_executor.specs.Given.HandsAsked.{as_told}
+use Rattle.run_executor.specs.Given.HandsAsked.{reply_to_machine}
 use Rattle.papaya_raw.specs.declared.machines.asking.MachineReply.{MachineReply}
 use Rattle.papaya_raw.specs.declared.machines.machine.Machine.{Machine}
 use Rattle.run_schedules.specs.Runs.Present.{Present, HaveNames, guard_of, living_slot}
@@ -19,7 +19,7 @@ use Rattle.run_schedules.specs.declared.outcome.Outcome.TheVariants.{Done, Goes,
 use Rattle.run_schedules.specs.Schedules.After.{moment}
 use Rattle.run_schedules.specs.Schedules.Beginning.{with_call}
 use Rattle.run_schedules.specs.Schedules.Entry.{Entry}
-use Rattle.run_schedules.specs.Schedules.InTurn.{ComesRight}
+use Rattle.run_schedules.specs.Schedules.InTurn.{HasRightOutcome}
 use Rattle.run_schedules.specs.Schedules.InUse.{is_living}
 use Rattle.run_schedules.specs.Schedules.Moment.{Moment}
 use Rattle.run_schedules.specs.Schedules.Terms.{Terms}
@@ -81,7 +81,7 @@ pub record MapsAre {K V : Type 0} (s : Scene K V) (m : Moment K V) (maps : List 
 
 -- The scheduler stands as the moment says: its executor is shown, and who is there, calls and maps have the names of the moment; slots are used as guards and
 -- registrations say, and nothing is under way but these calls.
-pub record StandsAs {K V S : Type 0} (Far : NamedCaller V → Machine K V K → Type 0) (same : K → K → Bool) (hash : K → ℕ) (terms : Terms) (m : Moment K V)
+pub record RefinesAs {K V S : Type 0} (Far : NamedCaller V → Machine K V K → Type 0) (same : K → K → Bool) (hash : K → ℕ) (terms : Terms) (m : Moment K V)
     (p : Scheduler K V S) : Type 0 where
   pub name : ℕ → List ℕ
   pub scene : Scene K V
@@ -96,34 +96,34 @@ pub record StandsAs {K V S : Type 0} (Far : NamedCaller V → Machine K V K → 
   pub rests : (i : ℕ) → ((map : ℕ) → scene.calls map i ≡ None) → work_of p.logged.executor i ≡ None
   pub names : HaveNames p.there
 
-abbrev pub StandsFor : {K V S : Type 0} → (K → K → Bool) → (K → ℕ) → Terms → Moment K V → Scheduler K V S → Type 0
-StandsFor same hash terms m p = StandsAs AsFar same hash terms m p
+abbrev pub RefinesFor : {K V S : Type 0} → (K → K → Bool) → (K → ℕ) → Terms → Moment K V → Scheduler K V S → Type 0
+RefinesFor same hash terms m p = RefinesAs AsFar same hash terms m p
 
 module _ {K V S : Type 0} (same : K → K → Bool) (hash : K → ℕ) where
   abbrev pub IsPlayed : Terms → List (Entry K V) → Scheduler K V S → Type 0
-  IsPlayed terms log p = StandsFor same hash terms (moment log) p
+  IsPlayed terms log p = RefinesFor same hash terms (moment log) p
 
   module _ (terms : Terms) (log : List (Entry K V)) where
     -- The event may happen: the scheduler has played the log, and the event is not kept out.
-    pub record IsDue (event : Event K V) (p : Scheduler K V S) : Type 0 where
+    pub record IsInTurn (event : Event K V) (p : Scheduler K V S) : Type 0 where
       pub played : IsPlayed terms log p
       pub in_turn : (moment log).is_closed ≡ false
 
     -- What is promised of it: it has come to what is right for it, and the scheduler has played the log with it.
     pub record Plays (e : Entry K V) (p : Scheduler K V S) : Type 0 where
-      pub right : ComesRight terms log e
+      pub right : HasRightOutcome terms log e
       pub played : IsPlayed terms (e ∷ log) p
 
   abbrev pub MayPlay : Event K V → Scheduler K V S → Type 0
-  MayPlay event p = (terms : Terms) × (log : List (Entry K V)) × IsDue terms log event p
+  MayPlay event p = (terms : Terms) × (log : List (Entry K V)) × IsInTurn terms log event p
 
   abbrev pub PlaysAt : Event K V → Played V → (old new : Scheduler K V S) → Type 0
-  PlaysAt event played old new = (terms : Terms) (log : List (Entry K V)) → IsDue terms log event old → Plays terms log (entry_of event played) new
+  PlaysAt event played old new = (terms : Terms) (log : List (Entry K V)) → IsInTurn terms log event old → Plays terms log (entry_of event played) new
 
   -- where it is known whether the event is the first one
   abbrev pub PlaysFirst : Bool → Event K V → Played V → (old new : Scheduler K V S) → Type 0
   PlaysFirst is_first event played old new =
-      (terms : Terms) (log : List (Entry K V)) → is_first ≡ ((moment log).events == 0) → IsDue terms log event old → Plays terms log (entry_of event played) new
+      (terms : Terms) (log : List (Entry K V)) → is_first ≡ ((moment log).events == 0) → IsInTurn terms log event old → Plays terms log (entry_of event played) new
 
   -- How a call has begun: its caller is the first of all, by a name that no call has, under a guard that lives, on a map that is there; and the executor has begun it in the slot of the guard.
   pub record HasBegun (own guard name : List ℕ) (call : Call K V) (old new : Scheduler K V S) : Type 0 where
@@ -149,13 +149,13 @@ module _ {K V S : Type 0} (same : K → K → Bool) (hash : K → ℕ) where
   pub record BeginsSo (terms : Terms) (m : Moment K V) (own guard map : List ℕ) (call : Call K V) (begun : Bool) (old new : Scheduler K V S) : Type 0 where
     pub so : begun ≡ (is_none (call_of own m) && is_living guard m.there && is_some (map_of map m))
     pub none : begun ≡ false → new ≡ old
-    pub stands : begun ≡ true → StandsFor same hash terms (with_call own guard call (number_of map m) m) new
+    pub stands : begun ≡ true → RefinesFor same hash terms (with_call own guard call (number_of map m) m) new
     pub led : begun ≡ true → HasBegun own guard map call old new
 
   -- So an event has begun one, or is out of turn.
   abbrev pub Began : (own guard map : List ℕ) → Call K V → Played V → (old new : Scheduler K V S) → Type 0
   Began own guard map call played old new =
-      (terms : Terms) (m : Moment K V) → StandsFor same hash terms m old
+      (terms : Terms) (m : Moment K V) → RefinesFor same hash terms m old
       → (begun : Bool) × BeginsSo terms m own guard map call begun old new × (played.effects.items ≡ []) × (played.outcome ≡ (if begun then Goes else Refused Busy))
 
   -- How a reply was told: to the call of this name, which takes it, at its place; the executor has gone on by it.
@@ -168,7 +168,7 @@ module _ {K V S : Type 0} (same : K → K → Bool) (hash : K → ℕ) where
     pub whose : NamedCaller V
     pub reads_whose : whose ≡ slice_index_or old.calls place whose
     pub as_it : MachineReply V
-    pub is_told : as_it ≡ as_told reply
+    pub is_told : as_it ≡ reply_to_machine reply
     pub result : Result Unit (MachineReply V)
     pub plain : is_err result ≡ false
     pub leads : (s : Scene K V) → IsThere same hash old.logged.executor s → RepliesThere same hash whose.number as_it result s old.logged.executor new.logged.executor

@@ -9,7 +9,7 @@ use Rattle.run_schedules.specs.Schedules.Entry.{Entry}
 use Rattle.run_schedules.specs.Schedules.Terms.{Terms}
 use Rattle.run_logged.specs.Given.EffectsKnown.{Known, known}
 use Rattle.run_shows.specs.Reclaims.Reclaims.{LeftBehind}
-use Rattle.play_scheduler.specs.Played.{IsDue, Plays, entry_of}
+use Rattle.play_scheduler.specs.Played.{IsInTurn, Plays, entry_of}
 use Rattle.run_executor.specs.declared.caller.NamedCaller.{NamedCaller}
 use Rattle.play_scheduler.specs.declared.played.Played.{Played}
 use Rattle.play_scheduler.specs.declared.scheduler.Scheduler.{Scheduler}
@@ -32,8 +32,8 @@ pub record MayGiveAll {K V S : Type 0} (p : Scheduler K V S) (s : Scene K V) : T
 
 module _ {K V S : Type 0} (same : K → K → Bool) (hash : K → ℕ) where
   abbrev pub MayReclaimAll : Event K V → Scheduler K V S → Type 0
-  MayReclaimAll event p = (terms : Terms) × (log : List (Entry K V)) × (due : IsDue same hash terms log event p) × MayGiveAll p due.played.scene
+  MayReclaimAll event p = (terms : Terms) × (log : List (Entry K V)) × (due : IsInTurn same hash terms log event p) × MayGiveAll p due.played.scene
 
   abbrev pub PlaysGiving : Event K V → Played V → (old new : Scheduler K V S) → Type 0
   PlaysGiving event played old new =
-      (terms : Terms) (log : List (Entry K V)) (due : IsDue same hash terms log event old) → MayGiveAll old due.played.scene → Plays same hash terms log (entry_of event played) new
+      (terms : Terms) (log : List (Entry K V)) (due : IsInTurn same hash terms log event old) → MayGiveAll old due.played.scene → Plays same hash terms log (entry_of event played) new

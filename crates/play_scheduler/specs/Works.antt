@@ -37,7 +37,7 @@ use Rattle.run_executor.specs.Named.Seen.{free_slot, number_named}
 use Rattle.play_scheduler.specs.declared.played.Played.{Played}
 use Rattle.play_scheduler.specs.declared.scheduler.Scheduler.{Scheduler}
 use Rattle.run_executor.specs.Executing.Ending.{EndingBegins}
-use Rattle.run_executor.specs.Executing.IsThere.{IsThere, KeepsGiven, StaysGiven}
+use Rattle.run_executor.specs.Executing.IsThere.{IsThere, PreservesSettings, StaysGiven}
 use Rattle.run_executor.specs.Executing.MakingBegins.{MakingBegins}
 use Rattle.run_shows.specs.Scenes.Scene.{Scene}
 
@@ -77,15 +77,15 @@ module _ {K V : Type 0} where
   HasNoRow _ there slot = ⊥
 
   -- a registering comes to what its row told, and the others are done
-  abbrev pub told_so : RowTold (Node K V) → Outcome V
-  told_so (told.Registered slot) = Slot slot
-  told_so (told.Refused fault) = Refused fault
-  told_so _ = Done
+  abbrev pub outcome_of_row : RowTold (Node K V) → Outcome V
+  outcome_of_row (told.Registered slot) = Slot slot
+  outcome_of_row (told.Refused fault) = Refused fault
+  outcome_of_row _ = Done
 
-  abbrev pub ComesBy : Event K V → RowTold (Node K V) → Outcome V → Type 0
-  ComesBy (Register registration) said outcome = outcome ≡ told_so said
-  ComesBy (Own guard) said outcome = outcome ≡ told_so said
-  ComesBy _ said outcome = outcome ≡ Done
+  abbrev pub HasOutcomeBy : Event K V → RowTold (Node K V) → Outcome V → Type 0
+  HasOutcomeBy (Register registration) said outcome = outcome ≡ outcome_of_row said
+  HasOutcomeBy (Own guard) said outcome = outcome ≡ outcome_of_row said
+  HasOutcomeBy _ said outcome = outcome ≡ Done
 
 module _ {K V S : Type 0} (played : Played V) (old new : Scheduler K V S) where
   -- nothing was done
@@ -104,7 +104,7 @@ module _ {K V S : Type 0} (played : Played V) (old new : Scheduler K V S) where
       × (((fault : Fault) × (played.outcome ≡ Refused fault) × DidNothing)
       ⊎ ((slot : ℕ) × IsAbout event old slot
       × (((played.outcome ≡ Done) × HasNoRow event old.there slot × DidNothing)
-      ⊎ ((called : SlotCall) × IsItsRow event old slot called × (said : RowTold (Node K V)) × ComesBy event said played.outcome
+      ⊎ ((called : SlotCall) × IsItsRow event old slot called × (said : RowTold (Node K V)) × HasOutcomeBy event said played.outcome
       × RowRan slot called said [] played.effects.items old.logged new.logged))))
 
   -- The making of a map has run by the next number, by such steps, from what it was to begin with; they told this at last.
@@ -150,7 +150,7 @@ module _ {K V S : Type 0} (played : Played V) (old new : Scheduler K V S) where
         → EndIsBegun same hash name m s number caller old.logged began
     pub begun : (same : K → K → Bool) (hash : K → ℕ) (s : Scene K V) → IsThere same hash old.logged.executor s → EndingBegins same hash number caller s old.logged.executor began.executor
     pub noted : began.notes ≡ old.logged.notes
-    pub stays : KeepsGiven old.logged.executor began.executor
+    pub stays : PreservesSettings old.logged.executor began.executor
     pub ran : EndRan caller number true [] played.effects.items began new.logged
     pub over : EndIsOver new.logged
     pub gone : EndGone caller number [] played.effects.items began new.logged

@@ -3,12 +3,12 @@ ghost use Rattle.std.specs.Prelude.{◌≡◌, ℕ, Bool, List, None, IfOk, Matc
 ghost use Rattle.run_schedules.specs.declared.event.Event.TheVariants as event;
 ghost use Rattle.run_schedules.specs.Schedules.Moment.{Moment};
 ghost use Rattle.run_schedules.specs.Schedules.Terms.{Terms};
-ghost use Rattle.run_executor.specs.Given.HandsAsked.{as_told};
+ghost use Rattle.run_executor.specs.Given.HandsAsked.{reply_to_machine};
 ghost use Rattle.run_executor.specs.Named.Machines.{aborted_by};
-ghost use Rattle.play_scheduler.specs.Played.{Began, BeginsSo, MayPlay, PlaysAt, Replies, StandsFor, Stops};
-ghost use Rattle.play_scheduler.specs.Quiet.{IsQuiet, StaysBusy};
+ghost use Rattle.play_scheduler.specs.Played.{Began, BeginsSo, MayPlay, PlaysAt, Replies, RefinesFor, Stops};
+ghost use Rattle.play_scheduler.specs.Quiet.{BusyIsSilent, StaysBusy};
 ghost use Rattle.run_executor.specs.Named.Seen.{IsReadyAt, ready_place};
-ghost use Rattle.run_executor.specs.Executing.IsThere.{KeepsGiven};
+ghost use Rattle.run_executor.specs.Executing.IsThere.{PreservesSettings};
 
 use crate::played::Played;
 use crate::scheduler::Scheduler;
@@ -25,7 +25,7 @@ use std::hash::Hash;
 
 /// A reply as it is told to a machine, and the value that its call aborts with.
 fn told_by<V>(reply: Reply<V>) -> (Told<V>, Option<V>)
-    ensures { result ≡ (as_told reply, aborted_by reply) }
+    ensures { result ≡ (reply_to_machine reply, aborted_by reply) }
 {
     match reply {
         Reply::Gives(value) => (Told::Insert(value), None),
@@ -45,10 +45,10 @@ impl<K: Eq + Hash + Drop, V: Drop, S: Hashes<K>> Scheduler<K, V, S> {
         map: &Token,
         call: Call<K, V>,
     ) -> Result<bool, AllocError>
-        requires { (terms : Terms) × (m : Moment K V) × StandsFor K.eq (S.hash self.old.logged.executor.hasher) terms m self.old }
-        ensures begins { IfOk result (λ begun. (terms : Terms) (m : Moment K V) → StandsFor K.eq (S.hash self.old.logged.executor.hasher) terms m self.old
+        requires { (terms : Terms) × (m : Moment K V) × RefinesFor K.eq (S.hash self.old.logged.executor.hasher) terms m self.old }
+        ensures begins { IfOk result (λ begun. (terms : Terms) (m : Moment K V) → RefinesFor K.eq (S.hash self.old.logged.executor.hasher) terms m self.old
             → BeginsSo K.eq (S.hash self.old.logged.executor.hasher) terms m name guard map.now call begun self.old self.new) }
-        ensures given { KeepsGiven self.old.logged.executor self.new.logged.executor }
+        ensures given { PreservesSettings self.old.logged.executor self.new.logged.executor }
     {
         if self.calls.has(&name) {
             return Ok(false);
@@ -85,10 +85,10 @@ impl<K: Eq + Hash + Drop, V: Drop, S: Hashes<K>> Scheduler<K, V, S> {
     ) -> Result<Played<V>, AllocError>
         requires { MayPlay K.eq (S.hash self.old.logged.executor.hasher) (event.Begin caller guard map.now call) self.old }
         ensures steps { IfOk result (λ played. played.steps ≡ 0) }
-        ensures quiet { IfOk result (λ played. IsQuiet played.outcome played.effects.items) }
+        ensures quiet { IfOk result (λ played. BusyIsSilent played.outcome played.effects.items) }
         ensures plays { IfOk result (λ played. PlaysAt K.eq (S.hash self.old.logged.executor.hasher) (event.Begin caller guard map.now call) played self.old self.new) }
         ensures began { IfOk result (λ played. Began K.eq (S.hash self.old.logged.executor.hasher) caller guard map.now call played self.old self.new) }
-        ensures given { KeepsGiven self.old.logged.executor self.new.logged.executor }
+        ensures given { PreservesSettings self.old.logged.executor self.new.logged.executor }
     {
         if self.begins(caller, guard, map, call)? {
             Ok(self.quietly(Outcome::Goes))
@@ -103,11 +103,11 @@ impl<K: Drop, V: Drop, S> Scheduler<K, V, S> {
     pub fn replied(&mut self, caller: &Token, reply: Reply<V>) -> Played<V>
         requires { (same : K → K → Bool) × (hash : K → ℕ) × MayPlay same hash (event.Replied caller.now reply) self.old }
         ensures steps { result.steps ≡ 0 }
-        ensures quiet { IsQuiet result.outcome result.effects.items }
+        ensures quiet { BusyIsSilent result.outcome result.effects.items }
         ensures plays { (same : K → K → Bool) (hash : K → ℕ) → PlaysAt same hash (event.Replied caller.now reply) result self.old self.new }
         ensures told { (same : K → K → Bool) (hash : K → ℕ) → Replies same hash caller.now reply result self.old self.new }
         ensures stays { (same : K → K → Bool) (hash : K → ℕ) → StaysBusy same hash (event.Replied caller.now reply) result self.old self.new }
-        ensures given { KeepsGiven self.old.logged.executor self.new.logged.executor }
+        ensures given { PreservesSettings self.old.logged.executor self.new.logged.executor }
     {
         let Some(called) = self.calls.get(caller) else {
             return self.busy();
@@ -138,11 +138,11 @@ impl<K: Drop, V: Drop, S> Scheduler<K, V, S> {
     pub fn stop(&mut self, caller: &Token) -> Played<V>
         requires { (same : K → K → Bool) × (hash : K → ℕ) × MayPlay same hash (event.Stop caller.now) self.old }
         ensures steps { result.steps ≡ 0 }
-        ensures quiet { IsQuiet result.outcome result.effects.items }
+        ensures quiet { BusyIsSilent result.outcome result.effects.items }
         ensures plays { (same : K → K → Bool) (hash : K → ℕ) → PlaysAt same hash (event.Stop caller.now) result self.old self.new }
         ensures stopped { (same : K → K → Bool) (hash : K → ℕ) → Stops same hash caller.now result self.old self.new }
         ensures stays { (same : K → K → Bool) (hash : K → ℕ) → StaysBusy same hash (event.Stop caller.now) result self.old self.new }
-        ensures given { KeepsGiven self.old.logged.executor self.new.logged.executor }
+        ensures given { PreservesSettings self.old.logged.executor self.new.logged.executor }
     {
         let Some(number) = self.ready_number(caller) else {
             return self.busy();

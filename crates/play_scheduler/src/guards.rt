@@ -6,10 +6,10 @@ ghost use Rattle.seize_words.specs.declared.at.At.TheVariants.{Slot};
 ghost use Rattle.run_schedules.specs.declared.event.Event.TheVariants as event;
 ghost use Rattle.play_scheduler.specs.Back.{GivesBack};
 ghost use Rattle.play_scheduler.specs.Played.{MayPlay, PlaysAt};
-ghost use Rattle.play_scheduler.specs.Quiet.{IsQuiet};
+ghost use Rattle.play_scheduler.specs.Quiet.{BusyIsSilent};
 ghost use Rattle.run_logged.specs.Rows.Rows.{left_as};
 ghost use Rattle.play_scheduler.specs.Works.{FlushesUnlessHeld, WorksOnSetup, WorksOnSlot};
-ghost use Rattle.run_executor.specs.Executing.IsThere.{KeepsGiven};
+ghost use Rattle.run_executor.specs.Executing.IsThere.{PreservesSettings};
 
 use crate::played::Played;
 use crate::scheduler::Scheduler;
@@ -34,11 +34,11 @@ impl<K: Drop, V: Drop, S> Scheduler<K, V, S> {
     ) -> Result<Played<V>, AllocError>
         requires { (same : K → K → Bool) × (hash : K → ℕ) × MayPlay same hash (event.Enter guard registration.now) self.old }
         ensures steps { IfOk result (λ played. played.steps ≡ 0) }
-        ensures quiet { IfOk result (λ played. IsQuiet played.outcome played.effects.items) }
+        ensures quiet { IfOk result (λ played. BusyIsSilent played.outcome played.effects.items) }
         ensures plays { IfOk result (λ played. (same : K → K → Bool) (hash : K → ℕ) → PlaysAt same hash (event.Enter guard registration.now) played self.old self.new) }
         ensures works { IfOk result (λ played. WorksOnSlot played self.old self.new (event.Enter guard registration.now)) }
         ensures back { IfOk result (λ played. (same : K → K → Bool) (hash : K → ℕ) → GivesBack same hash (event.Enter guard registration.now) played self.old back.old.items back.new.items) }
-        ensures given { KeepsGiven self.old.logged.executor self.new.logged.executor }
+        ensures given { PreservesSettings self.old.logged.executor self.new.logged.executor }
     {
         if self.there.has_guard(&guard) {
             return Ok(self.busy());
@@ -70,11 +70,11 @@ impl<K: Drop, V: Drop, S> Scheduler<K, V, S> {
     ) -> Result<Played<V>, AllocError>
         requires { (same : K → K → Bool) × (hash : K → ℕ) × MayPlay same hash (event.Refresh guard.now) self.old }
         ensures steps { IfOk result (λ played. played.steps ≡ 0) }
-        ensures quiet { IfOk result (λ played. IsQuiet played.outcome played.effects.items) }
+        ensures quiet { IfOk result (λ played. BusyIsSilent played.outcome played.effects.items) }
         ensures plays { IfOk result (λ played. (same : K → K → Bool) (hash : K → ℕ) → PlaysAt same hash (event.Refresh guard.now) played self.old self.new) }
         ensures works { IfOk result (λ played. WorksOnSlot played self.old self.new (event.Refresh guard.now)) }
         ensures back { IfOk result (λ played. (same : K → K → Bool) (hash : K → ℕ) → GivesBack same hash (event.Refresh guard.now) played self.old back.old.items back.new.items) }
-        ensures given { KeepsGiven self.old.logged.executor self.new.logged.executor }
+        ensures given { PreservesSettings self.old.logged.executor self.new.logged.executor }
     {
         let Some(slot) = self.slot_of_free(guard) else {
             return Ok(self.busy());
@@ -98,12 +98,12 @@ impl<K: Drop, V: Drop, S> Scheduler<K, V, S> {
     ) -> Result<Played<V>, AllocError>
         requires { (same : K → K → Bool) × (hash : K → ℕ) × MayPlay same hash (event.Flush guard.now) self.old }
         ensures steps { IfOk result (λ played. played.steps ≡ 0) }
-        ensures quiet { IfOk result (λ played. IsQuiet played.outcome played.effects.items) }
+        ensures quiet { IfOk result (λ played. BusyIsSilent played.outcome played.effects.items) }
         ensures plays { IfOk result (λ played. (same : K → K → Bool) (hash : K → ℕ) → PlaysAt same hash (event.Flush guard.now) played self.old self.new) }
         ensures works { IfOk result (λ played. WorksOnSlot played self.old self.new (event.Flush guard.now)) }
         ensures held { IfOk result (λ played. FlushesUnlessHeld guard.now played.outcome self.old) }
         ensures back { IfOk result (λ played. (same : K → K → Bool) (hash : K → ℕ) → GivesBack same hash (event.Flush guard.now) played self.old back.old.items back.new.items) }
-        ensures given { KeepsGiven self.old.logged.executor self.new.logged.executor }
+        ensures given { PreservesSettings self.old.logged.executor self.new.logged.executor }
     {
         let Some(slot) = self.there.slot_of_living(guard) else {
             return Ok(self.busy());
@@ -148,11 +148,11 @@ impl<K: Drop, V: Drop, S> Scheduler<K, V, S> {
     ) -> Result<Played<V>, AllocError>
         requires { (same : K → K → Bool) × (hash : K → ℕ) × MayPlay same hash (event.DropGuard guard.now) self.old }
         ensures steps { IfOk result (λ played. played.steps ≡ 0) }
-        ensures quiet { IfOk result (λ played. IsQuiet played.outcome played.effects.items) }
+        ensures quiet { IfOk result (λ played. BusyIsSilent played.outcome played.effects.items) }
         ensures plays { IfOk result (λ played. (same : K → K → Bool) (hash : K → ℕ) → PlaysAt same hash (event.DropGuard guard.now) played self.old self.new) }
         ensures works { IfOk result (λ played. WorksOnSlot played self.old self.new (event.DropGuard guard.now)) }
         ensures back { IfOk result (λ played. (same : K → K → Bool) (hash : K → ℕ) → GivesBack same hash (event.DropGuard guard.now) played self.old back.old.items back.new.items) }
-        ensures given { KeepsGiven self.old.logged.executor self.new.logged.executor }
+        ensures given { PreservesSettings self.old.logged.executor self.new.logged.executor }
     {
         let Some(slot) = self.slot_of_free(guard) else {
             return Ok(self.busy());
@@ -174,10 +174,10 @@ impl<K: Drop, V: Drop, S> Scheduler<K, V, S> {
     pub fn forget(&mut self, guard: &Token) -> Played<V>
         requires { (same : K → K → Bool) × (hash : K → ℕ) × MayPlay same hash (event.Forget guard.now) self.old }
         ensures steps { result.steps ≡ 0 }
-        ensures quiet { IsQuiet result.outcome result.effects.items }
+        ensures quiet { BusyIsSilent result.outcome result.effects.items }
         ensures plays { (same : K → K → Bool) (hash : K → ℕ) → PlaysAt same hash (event.Forget guard.now) result self.old self.new }
         ensures works { WorksOnSetup result self.old self.new (event.Forget guard.now) }
-        ensures given { KeepsGiven self.old.logged.executor self.new.logged.executor }
+        ensures given { PreservesSettings self.old.logged.executor self.new.logged.executor }
     {
         if self.slot_of_free(guard).is_none() {
             return self.busy();

@@ -5,11 +5,11 @@ ghost use Rattle.run_schedules.specs.Schedules.Terms.{Terms};
 ghost use Rattle.run_schedules.specs.declared.event.Event.TheVariants as event;
 ghost use Rattle.run_logged.specs.Log.Back.{BringsBack};
 ghost use Rattle.play_scheduler.specs.Back.{GivesBack};
-ghost use Rattle.play_scheduler.specs.Played.{MayPlay, PlaysAt, StandsFor};
-ghost use Rattle.play_scheduler.specs.Quiet.{IsQuiet};
+ghost use Rattle.play_scheduler.specs.Played.{MayPlay, PlaysAt, RefinesFor};
+ghost use Rattle.play_scheduler.specs.Quiet.{BusyIsSilent};
 ghost use Rattle.run_logged.specs.Rows.Taking.{SlotTaken};
 ghost use Rattle.play_scheduler.specs.Works.{WorksOnSlot};
-ghost use Rattle.run_executor.specs.Executing.IsThere.{KeepsGiven};
+ghost use Rattle.run_executor.specs.Executing.IsThere.{PreservesSettings};
 
 use crate::played::Played;
 use crate::scheduler::Scheduler;
@@ -29,11 +29,11 @@ impl<K: Drop, V: Drop, S> Scheduler<K, V, S> {
         effects: &mut Vec<Effect>,
         back: &mut Vec<Pair<K, V>>,
     ) -> Result<Result<u64, Fault>, AllocError>
-        requires { (same : K → K → Bool) × (hash : K → ℕ) × (terms : Terms) × (m : Moment K V) × StandsFor same hash terms m self.old }
+        requires { (same : K → K → Bool) × (hash : K → ℕ) × (terms : Terms) × (m : Moment K V) × RefinesFor same hash terms m self.old }
         ensures taken { IfOk result (λ slot. SlotTaken enters slot effects.old.items effects.new.items self.old.logged self.new.logged) }
         ensures back { IfOk result (λ slot. BringsBack effects.old.items effects.new.items self.old.logged back.old.items back.new.items) }
         ensures rest { self.new ≡ record self.old { logged = self.new.logged } }
-        ensures given { KeepsGiven self.old.logged.executor self.new.logged.executor }
+        ensures given { PreservesSettings self.old.logged.executor self.new.logged.executor }
     {
         let told = self.run_row(0, SlotCall::Register { enters }, effects, back)?;
         match told {
@@ -51,11 +51,11 @@ impl<K: Drop, V: Drop, S> Scheduler<K, V, S> {
     ) -> Result<Played<V>, AllocError>
         requires { (same : K → K → Bool) × (hash : K → ℕ) × MayPlay same hash (event.Register registration) self.old }
         ensures steps { IfOk result (λ played. played.steps ≡ 0) }
-        ensures quiet { IfOk result (λ played. IsQuiet played.outcome played.effects.items) }
+        ensures quiet { IfOk result (λ played. BusyIsSilent played.outcome played.effects.items) }
         ensures plays { IfOk result (λ played. (same : K → K → Bool) (hash : K → ℕ) → PlaysAt same hash (event.Register registration) played self.old self.new) }
         ensures works { IfOk result (λ played. WorksOnSlot played self.old self.new (event.Register registration)) }
         ensures back { IfOk result (λ played. (same : K → K → Bool) (hash : K → ℕ) → GivesBack same hash (event.Register registration) played self.old back.old.items back.new.items) }
-        ensures given { KeepsGiven self.old.logged.executor self.new.logged.executor }
+        ensures given { PreservesSettings self.old.logged.executor self.new.logged.executor }
     {
         if self.there.slot_of_registration(&registration).is_some() {
             return Ok(self.busy());
@@ -83,11 +83,11 @@ impl<K: Drop, V: Drop, S> Scheduler<K, V, S> {
     pub fn own(&mut self, guard: Token, back: &mut Vec<Pair<K, V>>) -> Result<Played<V>, AllocError>
         requires { (same : K → K → Bool) × (hash : K → ℕ) × MayPlay same hash (event.Own guard) self.old }
         ensures steps { IfOk result (λ played. played.steps ≡ 0) }
-        ensures quiet { IfOk result (λ played. IsQuiet played.outcome played.effects.items) }
+        ensures quiet { IfOk result (λ played. BusyIsSilent played.outcome played.effects.items) }
         ensures plays { IfOk result (λ played. (same : K → K → Bool) (hash : K → ℕ) → PlaysAt same hash (event.Own guard) played self.old self.new) }
         ensures works { IfOk result (λ played. WorksOnSlot played self.old self.new (event.Own guard)) }
         ensures back { IfOk result (λ played. (same : K → K → Bool) (hash : K → ℕ) → GivesBack same hash (event.Own guard) played self.old back.old.items back.new.items) }
-        ensures given { KeepsGiven self.old.logged.executor self.new.logged.executor }
+        ensures given { PreservesSettings self.old.logged.executor self.new.logged.executor }
     {
         if self.there.has_guard(&guard) {
             return Ok(self.busy());
@@ -119,11 +119,11 @@ impl<K: Drop, V: Drop, S> Scheduler<K, V, S> {
     ) -> Result<Played<V>, AllocError>
         requires { (same : K → K → Bool) × (hash : K → ℕ) × MayPlay same hash (event.Unregister registration.now) self.old }
         ensures steps { IfOk result (λ played. played.steps ≡ 0) }
-        ensures quiet { IfOk result (λ played. IsQuiet played.outcome played.effects.items) }
+        ensures quiet { IfOk result (λ played. BusyIsSilent played.outcome played.effects.items) }
         ensures plays { IfOk result (λ played. (same : K → K → Bool) (hash : K → ℕ) → PlaysAt same hash (event.Unregister registration.now) played self.old self.new) }
         ensures works { IfOk result (λ played. WorksOnSlot played self.old self.new (event.Unregister registration.now)) }
         ensures back { IfOk result (λ played. (same : K → K → Bool) (hash : K → ℕ) → GivesBack same hash (event.Unregister registration.now) played self.old back.old.items back.new.items) }
-        ensures given { KeepsGiven self.old.logged.executor self.new.logged.executor }
+        ensures given { PreservesSettings self.old.logged.executor self.new.logged.executor }
     {
         let slot = match self.there.slot_of_registration(registration) {
             Some(slot) if self.there.living_on(slot) == 0 => slot,

@@ -9,7 +9,7 @@ ghost use Rattle.play_scheduler.specs.First.{HasJustBegun};
 ghost use Rattle.play_scheduler.specs.Played.{IsPlayed, terms_given};
 ghost use Rattle.run_logged.specs.Rows.Rows.{RowRan, RowRanOn};
 ghost use Rattle.seize_words.specs.declared.fault.Fault.TheVariants.{Busy};
-ghost use Rattle.run_executor.specs.Executing.IsThere.{KeepsGiven};
+ghost use Rattle.run_executor.specs.Executing.IsThere.{PreservesSettings};
 ghost use Rattle.run_executor.specs.Executing.OnSlots.{MayBegin};
 ghost use Rattle.run_shows.specs.Scenes.Scene.{Scene, at_first};
 
@@ -140,7 +140,7 @@ impl<K: Drop, V: Drop, S> Scheduler<K, V, S> {
         ensures ran { IfOk result (λ told. RowRan slot called told effects.old.items effects.new.items self.old.logged self.new.logged) }
         ensures back { IfOk result (λ done. BringsBack effects.old.items effects.new.items self.old.logged back.old.items back.new.items) }
         ensures rest { self.new ≡ record self.old { logged = self.new.logged } }
-        ensures given { KeepsGiven self.old.logged.executor self.new.logged.executor }
+        ensures given { PreservesSettings self.old.logged.executor self.new.logged.executor }
     {
         let caller = self.logged.begin_on_slot(slot, called)?;
         let told = self.logged.run_on_slot(caller, effects, back)?;
@@ -161,7 +161,7 @@ impl<K: Drop, V: Drop, S> Scheduler<K, V, S> {
         ensures ran { OnOk result (RowRanOn slot called effects.old.items effects.new.items self.old.logged self.new.logged) }
         ensures back { IfOk result (λ done. BringsBack effects.old.items effects.new.items self.old.logged back.old.items back.new.items) }
         ensures rest { self.new ≡ record self.old { logged = self.new.logged } }
-        ensures given { KeepsGiven self.old.logged.executor self.new.logged.executor }
+        ensures given { PreservesSettings self.old.logged.executor self.new.logged.executor }
     {
         self.run_row(slot, called, effects, back)?;
         Ok(())

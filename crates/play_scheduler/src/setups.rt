@@ -3,9 +3,9 @@ ghost use Rattle.std.specs.Prelude.{[], ◌≡◌, ℕ, Bool, IfOk, if◌then◌
 ghost use Rattle.run_schedules.specs.declared.event.Event.TheVariants as event;
 ghost use Rattle.seize_words.specs.declared.fault.Fault.TheVariants.{Busy};
 ghost use Rattle.play_scheduler.specs.Played.{MayPlay, PlaysAt, PlaysFirst};
-ghost use Rattle.play_scheduler.specs.Quiet.{IsQuiet};
+ghost use Rattle.play_scheduler.specs.Quiet.{BusyIsSilent};
 ghost use Rattle.play_scheduler.specs.Works.{WorksOnSetup};
-ghost use Rattle.run_executor.specs.Executing.IsThere.{KeepsGiven};
+ghost use Rattle.run_executor.specs.Executing.IsThere.{PreservesSettings};
 
 use crate::played::Played;
 use crate::scheduler::Scheduler;
@@ -32,7 +32,7 @@ impl<K: Drop, V: Drop, S> Scheduler<K, V, S> {
     pub fn collector(&self, setup: Setup, is_first: bool) -> Played<V>
         requires { (same : K → K → Bool) × (hash : K → ℕ) × MayPlay same hash (event.Collector setup) self.now }
         ensures steps { result.steps ≡ 0 }
-        ensures quiet { IsQuiet result.outcome result.effects.items }
+        ensures quiet { BusyIsSilent result.outcome result.effects.items }
         ensures plays { (same : K → K → Bool) (hash : K → ℕ) → PlaysFirst same hash is_first (event.Collector setup) result self.now self.now }
         ensures works { WorksOnSetup result self.now self.now (event.Collector setup) }
     {
@@ -43,7 +43,7 @@ impl<K: Drop, V: Drop, S> Scheduler<K, V, S> {
     pub fn hash(&self, by: KeyHash) -> Played<V>
         requires { (same : K → K → Bool) × (hash : K → ℕ) × MayPlay same hash (event.Hash by) self.now }
         ensures steps { result.steps ≡ 0 }
-        ensures quiet { IsQuiet result.outcome result.effects.items }
+        ensures quiet { BusyIsSilent result.outcome result.effects.items }
         ensures plays { (same : K → K → Bool) (hash : K → ℕ) → PlaysAt same hash (event.Hash by) result self.now self.now }
         ensures works { WorksOnSetup result self.now self.now (event.Hash by) }
     {
@@ -54,10 +54,10 @@ impl<K: Drop, V: Drop, S> Scheduler<K, V, S> {
     pub fn choose(&mut self, choice: u64) -> Result<Played<V>, AllocError>
         requires { (same : K → K → Bool) × (hash : K → ℕ) × MayPlay same hash (event.Choose choice) self.old }
         ensures steps { IfOk result (λ played. played.steps ≡ 0) }
-        ensures quiet { IfOk result (λ played. IsQuiet played.outcome played.effects.items) }
+        ensures quiet { IfOk result (λ played. BusyIsSilent played.outcome played.effects.items) }
         ensures plays { IfOk result (λ played. (same : K → K → Bool) (hash : K → ℕ) → PlaysAt same hash (event.Choose choice) played self.old self.new) }
         ensures works { IfOk result (λ played. WorksOnSetup played self.old self.new (event.Choose choice)) }
-        ensures given { KeepsGiven self.old.logged.executor self.new.logged.executor }
+        ensures given { PreservesSettings self.old.logged.executor self.new.logged.executor }
     {
         self.logged.choose(choice)?;
         Ok(self.quietly(Outcome::Done))

@@ -3,10 +3,10 @@ ghost use Rattle.std.specs.Prelude.{◌≡◌, ◌-◌, ◌++◌, ℕ, Bool, map
 ghost use Rattle.run_schedules.specs.declared.event.Event.TheVariants as event;
 ghost use Rattle.map_straight.specs.Given.RuleChart.{Chart};
 ghost use Rattle.map_straight.specs.Given.RuleWords.{Blocks};
-ghost use Rattle.map_straight.specs.Shown.Shown.{Stands, tables_on};
+ghost use Rattle.map_straight.specs.Shown.Shown.{HasMap, tables_on};
 ghost use Rattle.play_scheduler.specs.Played.{MayPlay, PlaysAt};
 ghost use Rattle.play_scheduler.specs.Shapes.{shape_of};
-ghost use Rattle.play_scheduler.specs.Quiet.{IsQuiet};
+ghost use Rattle.play_scheduler.specs.Quiet.{BusyIsSilent};
 ghost use Rattle.play_scheduler.specs.Works.{WorksOnSetup};
 
 use crate::played::Played;
@@ -35,8 +35,8 @@ fn shapes<K, V>(
     memory: &Plain<Node<K, V>>,
     setting: Setting,
 ) -> Result<Vec<TableShape>, AllocError>
-    requires { (same : K → K → Bool) × (hash : K → ℕ) × (c : Chart K) × (blocks : Blocks) × Stands same hash memory.now setting c blocks }
-    ensures { IfOk result (λ shapes. (same : K → K → Bool) (hash : K → ℕ) (c : Chart K) (blocks : Blocks) → Stands same hash memory.now setting c blocks → shapes.items ≡ map shape_of (tables_on c blocks c.first (c.past - c.first))) }
+    requires { (same : K → K → Bool) × (hash : K → ℕ) × (c : Chart K) × (blocks : Blocks) × HasMap same hash memory.now setting c blocks }
+    ensures { IfOk result (λ shapes. (same : K → K → Bool) (hash : K → ℕ) (c : Chart K) (blocks : Blocks) → HasMap same hash memory.now setting c blocks → shapes.items ≡ map shape_of (tables_on c blocks c.first (c.past - c.first))) }
 {
     let mut shapes = Vec::new(alloc);
     let mut next = root_of(memory, setting);
@@ -52,7 +52,7 @@ impl<K: Drop, V: Drop, S> Scheduler<K, V, S> {
     pub fn show_shape(&self, map: &Token) -> Result<Played<V>, AllocError>
         requires { (same : K → K → Bool) × (hash : K → ℕ) × MayPlay same hash (event.ShowShape map.now) self.now }
         ensures steps { IfOk result (λ played. played.steps ≡ 0) }
-        ensures quiet { IfOk result (λ played. IsQuiet played.outcome played.effects.items) }
+        ensures quiet { IfOk result (λ played. BusyIsSilent played.outcome played.effects.items) }
         ensures plays { IfOk result (λ played. (same : K → K → Bool) (hash : K → ℕ) → PlaysAt same hash (event.ShowShape map.now) played self.now self.now) }
         ensures works { IfOk result (λ played. WorksOnSetup played self.now self.now (event.ShowShape map.now)) }
     {

@@ -24,3 +24,4 @@ pub mod SweepSteps
 pub mod TakenBy
 mod Waiting
 mod WaitsFor
+pub mod AfterEffects

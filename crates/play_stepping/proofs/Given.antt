@@ -9,6 +9,9 @@ pub use Rattle.play_scheduler.proofs.Dropped as SchedulerDropped
 pub use Rattle.play_scheduler.proofs.Drops as SchedulerDrops
 pub use Rattle.play_scheduler.proofs.Enters as SchedulerEnters
 pub use Rattle.play_scheduler.proofs.Flushes as SchedulerFlushes
+pub use Rattle.play_scheduler.proofs.Given.LoggedCounted
+pub use Rattle.play_scheduler.proofs.Given.RowsFacts
+pub use Rattle.play_scheduler.proofs.Given.RowsLists
 pub use Rattle.play_scheduler.proofs.HeldTold as SchedulerHeldTold
 pub use Rattle.play_scheduler.proofs.Here as SchedulerHere
 pub use Rattle.play_scheduler.proofs.Maps as SchedulerMaps
@@ -33,18 +36,13 @@ pub use Rattle.run_executor.proofs.Given.MomentsNewMaps
 pub use Rattle.run_executor.proofs.Given.MomentsNumbers
 pub use Rattle.run_executor.proofs.Given.SpotsUnreclaimed
 pub use Rattle.run_executor.proofs.Named.Called as NamedCalled
-pub use Rattle.run_grows.proofs.Given.PurposesNothing
-pub use Rattle.run_grows.proofs.Given.PurposesWalkWords
-pub use Rattle.run_grows.proofs.Grows.Finding as GrowsFinding
-pub use Rattle.run_grows.proofs.Grows.Limits as GrowsLimits
-pub use Rattle.run_grows.proofs.Grows.Tries as GrowsTries
-pub use Rattle.run_grows.proofs.Needs.Ends as NeedsEnds
-pub use Rattle.run_grows.proofs.Needs.Firsts as NeedsFirsts
-pub use Rattle.run_grows.proofs.Needs.Makings as NeedsMakings
-pub use Rattle.run_grows.proofs.Needs.Refusals as NeedsRefusals
-pub use Rattle.run_grows.proofs.Needs.TablesMade as NeedsTablesMade
-pub use Rattle.run_grows.proofs.Quiet.AfterEffects as QuietAfterEffects
-pub use Rattle.run_grows.proofs.Quiet.Saying as QuietSaying
-pub use Rattle.run_grows.proofs.Quiet.Sweeps as QuietSweeps
+pub use Rattle.run_sweeps.proofs.Needs.Ends as NeedsEnds
+pub use Rattle.run_sweeps.proofs.Needs.Firsts as NeedsFirsts
+pub use Rattle.run_sweeps.proofs.Needs.Makings as NeedsMakings
+pub use Rattle.run_sweeps.proofs.Needs.TablesMade as NeedsTablesMade
+pub use Rattle.run_sweeps.proofs.Purposes.Nothing as PurposesNothing
+pub use Rattle.run_sweeps.proofs.Purposes.WalkWords as PurposesWalkWords
+pub use Rattle.run_sweeps.proofs.Quiet.Saying as QuietSaying
+pub use Rattle.run_sweeps.proofs.Quiet.Sweeps as QuietSweeps
 pub use Rattle.seize_words.proofs.General
 pub use Rattle.seize_words.proofs.OneMemory.Places as SeizeWordsPlaces

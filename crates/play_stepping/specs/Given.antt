@@ -12,6 +12,13 @@ pub use Rattle.papaya_raw.specs.declared as RawDeclared
 pub use Rattle.play_scheduler.specs.AllWorks as SchedulerAllWorks
 pub use Rattle.play_scheduler.specs.Back as SchedulerBack
 pub use Rattle.play_scheduler.specs.First as SchedulerFirst
+pub use Rattle.play_scheduler.specs.Given.LoggedBack
+pub use Rattle.play_scheduler.specs.Given.LoggedCalling
+pub use Rattle.play_scheduler.specs.Given.LoggedDeclared
+pub use Rattle.play_scheduler.specs.Given.LoggedEnds
+pub use Rattle.play_scheduler.specs.Given.LoggedGoes
+pub use Rattle.play_scheduler.specs.Given.LoggedMakings
+pub use Rattle.play_scheduler.specs.Given.LoggedShown
 pub use Rattle.play_scheduler.specs.KeptOut as SchedulerKeptOut
 pub use Rattle.play_scheduler.specs.Mapping as SchedulerMapping
 pub use Rattle.play_scheduler.specs.Played as SchedulerPlayed
@@ -41,15 +48,13 @@ pub use Rattle.run_executor.specs.Named.Telling as NamedTelling
 pub use Rattle.run_executor.specs.ReclaimsAll.Reclaiming as ReclaimingReclaiming
 pub use Rattle.run_executor.specs.contracts as ExecutorContracts
 pub use Rattle.run_executor.specs.declared as ExecutorDeclared
-pub use Rattle.run_grows.specs.Given.PurposesKept
-pub use Rattle.run_grows.specs.Given.PurposesPurposes
-pub use Rattle.run_grows.specs.Given.PurposesSwept
-pub use Rattle.run_grows.specs.Grows.Copiers as GrowsCopiers
-pub use Rattle.run_grows.specs.Grows.Nexts as GrowsNexts
-pub use Rattle.run_grows.specs.Needs.Firsts as NeedsFirsts
-pub use Rattle.run_grows.specs.Needs.Makings as NeedsMakings
-pub use Rattle.run_grows.specs.Needs.Needs as NeedsNeeds
-pub use Rattle.run_grows.specs.Says
+pub use Rattle.run_sweeps.specs.Given.PurposesPurposes
+pub use Rattle.run_sweeps.specs.Needs.Firsts as NeedsFirsts
+pub use Rattle.run_sweeps.specs.Needs.Makings as NeedsMakings
+pub use Rattle.run_sweeps.specs.Needs.Needs as NeedsNeeds
+pub use Rattle.run_sweeps.specs.Purposes.Kept as PurposesKept
+pub use Rattle.run_sweeps.specs.Purposes.Swept as PurposesSwept
+pub use Rattle.run_sweeps.specs.Says
 pub use Rattle.seize.specs.ReclaimAll as SeizeReclaimAll
 pub use Rattle.seize.specs.Sequence as SeizeSequence
 pub use Rattle.seize.specs.WaitingSets as SeizeWaitingSets

@@ -4,9 +4,9 @@ ghost use Rattle.run_schedules.specs.declared.event.Event.TheVariants as event;
 ghost use Rattle.play_scheduler.specs.Back.{GivesBack};
 ghost use Rattle.play_scheduler.specs.Mapping.{PlaysEnding};
 ghost use Rattle.play_scheduler.specs.Played.{MayPlay};
-ghost use Rattle.play_scheduler.specs.Quiet.{IsQuiet};
+ghost use Rattle.play_scheduler.specs.Quiet.{BusyIsSilent};
 ghost use Rattle.play_scheduler.specs.Works.{WorksOnEnd};
-ghost use Rattle.run_executor.specs.Executing.IsThere.{KeepsGiven};
+ghost use Rattle.run_executor.specs.Executing.IsThere.{PreservesSettings};
 
 use play_scheduler::played::Played;
 use play_scheduler::scheduler::Scheduler;
@@ -24,11 +24,11 @@ pub fn end_map<K: Drop, V: Drop, S>(
 ) -> Result<Played<V>, AllocError>
     requires { (same : K → K → Bool) × (hash : K → ℕ) × MayPlay same hash (event.EndMap map.now) scheduler.old }
     ensures steps { IfOk result (λ played. played.steps ≡ 0) }
-    ensures quiet { IfOk result (λ played. IsQuiet played.outcome played.effects.items) }
+    ensures quiet { IfOk result (λ played. BusyIsSilent played.outcome played.effects.items) }
     ensures plays { IfOk result (λ played. (same : K → K → Bool) (hash : K → ℕ) → PlaysEnding same hash (event.EndMap map.now) played scheduler.old scheduler.new) }
     ensures works { IfOk result (λ played. WorksOnEnd played scheduler.old scheduler.new map.now) }
     ensures back { IfOk result (λ played. (same : K → K → Bool) (hash : K → ℕ) → GivesBack same hash (event.EndMap map.now) played scheduler.old back.old.items back.new.items) }
-    ensures given { KeepsGiven scheduler.old.logged.executor scheduler.new.logged.executor }
+    ensures given { PreservesSettings scheduler.old.logged.executor scheduler.new.logged.executor }
 {
     let Some(number) = scheduler.number_of(map) else {
         return Ok(scheduler.busy());

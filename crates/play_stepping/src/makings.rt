@@ -5,7 +5,7 @@ ghost use Rattle.run_schedules.specs.Schedules.Terms.{Terms};
 ghost use Rattle.run_schedules.specs.declared.event.Event.TheVariants as event;
 ghost use Rattle.play_scheduler.specs.Mapping.{MayMap, PlaysMaking, IsGivenFor, numbers_made};
 ghost use Rattle.run_executor.specs.Named.Seen.{number_named};
-ghost use Rattle.play_scheduler.specs.Quiet.{IsQuiet};
+ghost use Rattle.play_scheduler.specs.Quiet.{BusyIsSilent};
 ghost use Rattle.play_scheduler.specs.Works.{WorksOnMap};
 ghost use Rattle.run_executor.specs.Executing.IsThere.{StaysGiven};
 
@@ -56,7 +56,7 @@ pub fn make_map<K: Drop, V: Drop, S>(
 ) -> Result<Played<V>, AllocError>
     requires { (same : K → K → Bool) × (hash : K → ℕ) × (terms : Terms) × (log : List (Entry K V)) × MayMap same hash terms log (event.MakeMap map mode capacity) scheduler.old }
     ensures steps { IfOk result (λ played. played.steps ≡ 0) }
-    ensures quiet { IfOk result (λ played. IsQuiet played.outcome played.effects.items) }
+    ensures quiet { IfOk result (λ played. BusyIsSilent played.outcome played.effects.items) }
     ensures plays { IfOk result (λ played. (same : K → K → Bool) (hash : K → ℕ) → PlaysMaking same hash (event.MakeMap map mode capacity) played scheduler.old scheduler.new) }
     ensures numbers { IfOk result (λ played. length scheduler.new.logged.executor.maps.items ≡ numbers_made played.outcome (length scheduler.old.logged.executor.maps.items)) }
     ensures works { IfOk result (λ played. WorksOnMap played scheduler.old scheduler.new map mode capacity) }

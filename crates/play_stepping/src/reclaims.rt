@@ -12,8 +12,8 @@ ghost use Rattle.run_executor.specs.Given.EffectsKnown.{known};
 ghost use Rattle.play_scheduler.specs.AllWorks.{WorksOnAll};
 ghost use Rattle.play_scheduler.specs.Back.{GivesAllBack};
 ghost use Rattle.play_scheduler.specs.Reclaiming.{MayReclaimAll, PlaysGiving, are_gone};
-ghost use Rattle.play_scheduler.specs.Quiet.{IsQuiet};
-ghost use Rattle.run_executor.specs.Executing.IsThere.{KeepsGiven};
+ghost use Rattle.play_scheduler.specs.Quiet.{BusyIsSilent};
+ghost use Rattle.run_executor.specs.Executing.IsThere.{PreservesSettings};
 ghost use Rattle.play_scheduler.specs.Given.ScenesScene.{Scene};
 
 use play_scheduler::played::Played;
@@ -42,7 +42,7 @@ fn give_all_back<K: Drop, V: Drop, S>(
     ensures gone { OnOk result (ReclaimingGone (nat_lt 0 (known scheduler.old.logged.notes).buckets) effects.old.items effects.new.items scheduler.old.logged scheduler.new.logged) }
     ensures back { OnOk result (AllBringsBack (nat_lt 0 (known scheduler.old.logged.notes).buckets) effects.old.items effects.new.items scheduler.old.logged back.old.items back.new.items) }
     ensures rest { OnOk result (scheduler.new ≡ record scheduler.old { logged = scheduler.new.logged; there = nobody }) }
-    ensures given { KeepsGiven scheduler.old.logged.executor scheduler.new.logged.executor }
+    ensures given { PreservesSettings scheduler.old.logged.executor scheduler.new.logged.executor }
 {
     let taken = scheduler.logged.notes.buckets() > 0;
     scheduler.logged.run_reclaiming(taken, effects, back)?;
@@ -58,11 +58,11 @@ pub fn reclaim_all<K: Drop, V: Drop, S>(
 ) -> Result<Played<V>, AllocError>
     requires { (same : K → K → Bool) × (hash : K → ℕ) × MayReclaimAll same hash event.ReclaimAll scheduler.old }
     ensures steps { IfOk result (λ played. played.steps ≡ 0) }
-    ensures quiet { IfOk result (λ played. IsQuiet played.outcome played.effects.items) }
+    ensures quiet { IfOk result (λ played. BusyIsSilent played.outcome played.effects.items) }
     ensures plays { IfOk result (λ played. (same : K → K → Bool) (hash : K → ℕ) → PlaysGiving same hash event.ReclaimAll played scheduler.old scheduler.new) }
     ensures works { IfOk result (λ played. WorksOnAll played scheduler.old scheduler.new) }
     ensures back { IfOk result (λ played. (same : K → K → Bool) (hash : K → ℕ) → GivesAllBack same hash event.ReclaimAll played scheduler.old back.old.items back.new.items) }
-    ensures given { KeepsGiven scheduler.old.logged.executor scheduler.new.logged.executor }
+    ensures given { PreservesSettings scheduler.old.logged.executor scheduler.new.logged.executor }
 {
     if !are_gone(scheduler) {
         return Ok(scheduler.busy());
@@ -83,11 +83,11 @@ pub fn close<K: Drop, V: Drop, S>(
 ) -> Result<Played<V>, AllocError>
     requires { (same : K → K → Bool) × (hash : K → ℕ) × MayReclaimAll same hash event.Close scheduler.old }
     ensures steps { IfOk result (λ played. played.steps ≡ 0) }
-    ensures quiet { IfOk result (λ played. IsQuiet played.outcome played.effects.items) }
+    ensures quiet { IfOk result (λ played. BusyIsSilent played.outcome played.effects.items) }
     ensures plays { IfOk result (λ played. (same : K → K → Bool) (hash : K → ℕ) → PlaysGiving same hash event.Close played scheduler.old scheduler.new) }
     ensures works { IfOk result (λ played. WorksOnAll played scheduler.old scheduler.new) }
     ensures back { IfOk result (λ played. (same : K → K → Bool) (hash : K → ℕ) → GivesAllBack same hash event.Close played scheduler.old back.old.items back.new.items) }
-    ensures given { KeepsGiven scheduler.old.logged.executor scheduler.new.logged.executor }
+    ensures given { PreservesSettings scheduler.old.logged.executor scheduler.new.logged.executor }
 {
     if !are_gone(scheduler) {
         return Ok(scheduler.busy());

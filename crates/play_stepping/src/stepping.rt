@@ -6,10 +6,10 @@ ghost use Rattle.play_scheduler.specs.Given.LoggedCalling.{MakesNoMore};
 ghost use Rattle.play_scheduler.specs.Played.{MayPlay};
 ghost use Rattle.run_schedules.specs.Runs.Stopped.{most_steps};
 ghost use Rattle.play_stepping.specs.EventSteps.Stepping.{HasCaller, IsCaller, IsPlaced, IsStepped, MayGo, MayStep, MayTake, PlaysOnAt, StepsCome, TakenAs, TookSteps, TookWhole};
-ghost use Rattle.run_grows.specs.Says.{callers_then, outcome_of};
-ghost use Rattle.run_executor.specs.Named.Telling.{goes_on};
+ghost use Rattle.run_sweeps.specs.Says.{callers_then, outcome_of};
+ghost use Rattle.run_executor.specs.Named.Telling.{continues};
 ghost use Rattle.run_executor.specs.declared.caller.NamedCaller.{NamedCaller};
-ghost use Rattle.run_executor.specs.Executing.IsThere.{KeepsGiven};
+ghost use Rattle.run_executor.specs.Executing.IsThere.{PreservesSettings};
 
 use crate::{Played, Scheduler};
 use papaya_raw::machines::Progress;
@@ -29,7 +29,7 @@ const MOST_STEPS: u64 = 1_000_000;
 
 /// Whether a call goes on by itself.
 fn goes_on<V>(outcome: &Outcome<V>) -> bool
-    ensures { result ≡ goes_on outcome.now }
+    ensures { result ≡ continues outcome.now }
 {
     matches!(outcome, Outcome::Goes)
 }
@@ -119,7 +119,7 @@ fn take_step<K: Eq + Hash + Drop, V: Drop, S: Hashes<K>>(
     ensures stepped { IfOk result (λ outcome. (place : ℕ) → IsPlaced caller.now place scheduler.old.calls
         → IsStepped K.eq (S.hash scheduler.old.logged.executor.hasher) place outcome effects.old.items effects.new.items scheduler.old scheduler.new) }
     ensures refused { IfOk result (λ outcome. MakesNoMore refuse effects.old.items effects.new.items) }
-    ensures given { KeepsGiven scheduler.old.logged.executor scheduler.new.logged.executor }
+    ensures given { PreservesSettings scheduler.old.logged.executor scheduler.new.logged.executor }
 {
     let (number, map) = way_of(&scheduler.calls, caller);
     let progress = scheduler.logged.step(number, map, refuse, effects)?;
@@ -139,7 +139,7 @@ fn go_on<K: Eq + Hash + Drop, V: Drop, S: Hashes<K>>(
     ensures comes { IfOk result (λ come. (place : ℕ) → IsPlaced caller.now place scheduler.old.calls
         → StepsCome K.eq (S.hash scheduler.old.logged.executor.hasher) place most come.1 come.0 effects.old.items effects.new.items scheduler.old scheduler.new) }
     ensures refused { IfOk result (λ come. MakesNoMore refuse effects.old.items effects.new.items) }
-    ensures given { KeepsGiven scheduler.old.logged.executor scheduler.new.logged.executor }
+    ensures given { PreservesSettings scheduler.old.logged.executor scheduler.new.logged.executor }
 {
     for steps in 1..most {
         let outcome = take_step(scheduler, caller, refuse, effects)?;
@@ -163,7 +163,7 @@ fn take_steps<K: Eq + Hash + Drop, V: Drop, S: Hashes<K>>(
     ensures taken { IfOk result (λ played. (place : ℕ) → IsPlaced caller.now place scheduler.old.calls
         → TakenAs K.eq (S.hash scheduler.old.logged.executor.hasher) place most played scheduler.old scheduler.new) }
     ensures refused { IfOk result (λ played. MakesNoMore refuse [] played.effects.items) }
-    ensures given { KeepsGiven scheduler.old.logged.executor scheduler.new.logged.executor }
+    ensures given { PreservesSettings scheduler.old.logged.executor scheduler.new.logged.executor }
 {
     match far_of(&scheduler.calls, caller) {
         Stands::Asks(question) => return Ok(scheduler.quietly(Outcome::Asks(question))),
@@ -189,7 +189,7 @@ pub fn step<K: Eq + Hash + Drop, V: Drop, S: Hashes<K>>(
     ensures plays { IfOk result (λ played. PlaysOnAt K.eq (S.hash scheduler.old.logged.executor.hasher) (event.Step caller.now refuse) played scheduler.old scheduler.new) }
     ensures took { IfOk result (λ played. TookSteps K.eq (S.hash scheduler.old.logged.executor.hasher) 1 caller.now played scheduler.old scheduler.new) }
     ensures refused { IfOk result (λ played. MakesNoMore refuse [] played.effects.items) }
-    ensures given { KeepsGiven scheduler.old.logged.executor scheduler.new.logged.executor }
+    ensures given { PreservesSettings scheduler.old.logged.executor scheduler.new.logged.executor }
 {
     if scheduler.calls.has(caller) {
         take_steps(scheduler, caller, 1, refuse)
@@ -208,7 +208,7 @@ pub fn go<K: Eq + Hash + Drop, V: Drop, S: Hashes<K>>(
     ensures plays { IfOk result (λ played. PlaysOnAt K.eq (S.hash scheduler.old.logged.executor.hasher) (event.Go caller.now refuse) played scheduler.old scheduler.new) }
     ensures took { IfOk result (λ played. TookSteps K.eq (S.hash scheduler.old.logged.executor.hasher) most_steps caller.now played scheduler.old scheduler.new) }
     ensures refused { IfOk result (λ played. MakesNoMore refuse [] played.effects.items) }
-    ensures given { KeepsGiven scheduler.old.logged.executor scheduler.new.logged.executor }
+    ensures given { PreservesSettings scheduler.old.logged.executor scheduler.new.logged.executor }
 {
     if scheduler.calls.has(caller) {
         take_steps(scheduler, caller, MOST_STEPS, refuse)
@@ -227,7 +227,7 @@ pub fn one_call<K: Eq + Hash + Drop, V: Drop, S: Hashes<K>>(
     requires { MayPlay K.eq (S.hash scheduler.old.logged.executor.hasher) (event.OneCall guard map.now call) scheduler.old }
     ensures plays { IfOk result (λ played. PlaysOnAt K.eq (S.hash scheduler.old.logged.executor.hasher) (event.OneCall guard map.now call) played scheduler.old scheduler.new) }
     ensures took { IfOk result (λ played. TookWhole K.eq (S.hash scheduler.old.logged.executor.hasher) guard map.now call played scheduler.old scheduler.new) }
-    ensures given { KeepsGiven scheduler.old.logged.executor scheduler.new.logged.executor }
+    ensures given { PreservesSettings scheduler.old.logged.executor scheduler.new.logged.executor }
 {
     let own = Token::copy_of(scheduler.maps.alloc(), b"-")?;
     let nameless = Token::copy_of(scheduler.maps.alloc(), b"-")?;

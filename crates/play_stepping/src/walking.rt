@@ -3,7 +3,7 @@ ghost use Rattle.std.specs.Prelude.{◌≡◌, ◌↔◌, ℕ, true, IfOk};
 ghost use Rattle.run_schedules.specs.declared.event.Event.TheVariants as event;
 ghost use Rattle.play_scheduler.specs.Played.{MayPlay};
 ghost use Rattle.play_stepping.specs.EventSteps.Stepping.{IsPlaced, MayWalk, PlaysNextAt, TookNext, WalkComes};
-ghost use Rattle.run_executor.specs.Executing.IsThere.{KeepsGiven};
+ghost use Rattle.run_executor.specs.Executing.IsThere.{PreservesSettings};
 
 use crate::stepping::{come_to, way_of};
 use crate::{Played, Scheduler};
@@ -30,7 +30,7 @@ fn walk_on<K: Eq + Hash + Drop, V: Drop, S: Hashes<K>>(
     requires { MayWalk K.eq (S.hash scheduler.old.logged.executor.hasher) caller.now scheduler.old }
     ensures comes { IfOk result (λ come. (place : ℕ) → IsPlaced caller.now place scheduler.old.calls
         → WalkComes K.eq (S.hash scheduler.old.logged.executor.hasher) place come.1 come.0 effects.old.items effects.new.items scheduler.old scheduler.new) }
-    ensures given { KeepsGiven scheduler.old.logged.executor scheduler.new.logged.executor }
+    ensures given { PreservesSettings scheduler.old.logged.executor scheduler.new.logged.executor }
 {
     let (number, map) = way_of(&scheduler.calls, caller);
     for steps in 1..u64::MAX {
@@ -50,7 +50,7 @@ pub fn next<K: Eq + Hash + Drop, V: Drop, S: Hashes<K>>(
     requires { MayPlay K.eq (S.hash scheduler.old.logged.executor.hasher) (event.Next caller.now) scheduler.old }
     ensures plays { IfOk result (λ played. PlaysNextAt K.eq (S.hash scheduler.old.logged.executor.hasher) caller.now played scheduler.old scheduler.new) }
     ensures took { IfOk result (λ played. TookNext K.eq (S.hash scheduler.old.logged.executor.hasher) caller.now played scheduler.old scheduler.new) }
-    ensures given { KeepsGiven scheduler.old.logged.executor scheduler.new.logged.executor }
+    ensures given { PreservesSettings scheduler.old.logged.executor scheduler.new.logged.executor }
 {
     let Some(number) = scheduler.ready_number(caller) else {
         return Ok(scheduler.busy());

@@ -1,5 +1,4 @@
 -- What is printed for a run of a script, and how it is written.
 pub mod AscendingLemmas
 pub mod PairLemmas
-mod Samples
 pub mod Spelling

@@ -7,7 +7,7 @@ pub mod output;
 mod pieces;
 mod text;
 
-ghost use Rattle.reclaimed_engine.specs.Lines.Engine.{stop_line, EndsWith, IsTextFor, TellsFailure};
+ghost use Rattle.reclaimed_engine.specs.Lines.Engine.{stop_line, EndsWith, IsTextFor, ReportsFailure};
 ghost use Rattle.reclaimed_engine.specs.PrintedText.Output.{has_failed, writer_of, Writes};
 ghost use Rattle.std.specs.Io.KnownBytes.{Keeps, Appends};
 ghost use Rattle.std.specs.Prelude.{◌≡◌, false, IfOk, IfErr, OnErr, IfSome};
@@ -62,7 +62,7 @@ fn say<E: Write>(alloc: Global, errors: &mut Output<E>, stop: ScriptStop) -> Res
 /// Writes what is printed, and answers the status: 0 where all was written. A write that failed is told on the errors.
 fn print<W: Write, E: Write>(output: &mut Output<W>, errors: &mut Output<E>, text: &[u8]) -> u8
     ensures writes { Writes result text.now (has_failed output.new) (W.contents (writer_of output.old)) (W.contents (writer_of output.new)) }
-    ensures says { TellsFailure (has_failed output.new) (has_failed errors.new) (E.contents (writer_of errors.old)) (E.contents (writer_of errors.new)) }
+    ensures says { ReportsFailure (has_failed output.new) (has_failed errors.new) (E.contents (writer_of errors.old)) (E.contents (writer_of errors.new)) }
 {
     let status = write(output, text);
     if output.has_failed() {

@@ -267,7 +267,7 @@ unfoldable pub event_of : List ℕ → Result ScriptEvent LineFault
 event_of line = event_of_words (words_of line)
 
 -- What the reader of a line returned is what the line says. Memory runs out only at a line with no fault.
-abbrev pub Tells : Result ScriptEvent LineStop → Result ScriptEvent LineFault → Type 0
-Tells (Ok event) said = said ≡ Ok event
-Tells (Err (stops.Fault fault)) said = said ≡ Err fault
-Tells (Err stops.Memory) said = IsOk said
+abbrev pub ReturnsWhatItSays : Result ScriptEvent LineStop → Result ScriptEvent LineFault → Type 0
+ReturnsWhatItSays (Ok event) said = said ≡ Ok event
+ReturnsWhatItSays (Err (stops.Fault fault)) said = said ≡ Err fault
+ReturnsWhatItSays (Err stops.Memory) said = IsOk said

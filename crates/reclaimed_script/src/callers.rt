@@ -1,7 +1,7 @@
 //! Reading the event of a caller that a line says. Every word is tested before memory is asked for.
 ghost use Rattle.std.specs.Prelude.{◌≡◌, option_copied};
 ghost use Rattle.reclaimed_script.specs.Words.{words_left};
-ghost use Rattle.reclaimed_script.specs.Lines.{call_of, begin_of, step_of, go_of, reply_of, walk_next_of, stop_of, caller_event_from, Tells};
+ghost use Rattle.reclaimed_script.specs.Lines.{call_of, begin_of, step_of, go_of, reply_of, walk_next_of, stop_of, caller_event_from, ReturnsWhatItSays};
 
 use crate::calls::call_said;
 use crate::fault::{LineFault, LineStop};
@@ -14,7 +14,7 @@ use std::alloc::Global;
 
 #[tactic(auto, unfolding(crate::specs::Lines::call_of))]
 fn call_of(alloc: Global, rest: Option<&[u8]>) -> Result<Event<u64, Token>, LineStop>
-    ensures { Tells result (call_of (words_left (option_copied rest.entry))) }
+    ensures { ReturnsWhatItSays result (call_of (words_left (option_copied rest.entry))) }
 {
     let (guard, rest) = next_of(rest)?;
     let (map, rest) = next_of(rest)?;
@@ -30,7 +30,7 @@ fn call_of(alloc: Global, rest: Option<&[u8]>) -> Result<Event<u64, Token>, Line
 
 #[tactic(auto, unfolding(crate::specs::Lines::begin_of))]
 fn begin_of(alloc: Global, rest: Option<&[u8]>) -> Result<Event<u64, Token>, LineStop>
-    ensures { Tells result (begin_of (words_left (option_copied rest.entry))) }
+    ensures { ReturnsWhatItSays result (begin_of (words_left (option_copied rest.entry))) }
 {
     let (caller, rest) = next_of(rest)?;
     let (guard, rest) = next_of(rest)?;
@@ -49,7 +49,7 @@ fn begin_of(alloc: Global, rest: Option<&[u8]>) -> Result<Event<u64, Token>, Lin
 
 #[tactic(auto, unfolding(crate::specs::Lines::step_of))]
 fn step_of(alloc: Global, rest: Option<&[u8]>) -> Result<Event<u64, Token>, LineStop>
-    ensures { Tells result (step_of (words_left (option_copied rest.entry))) }
+    ensures { ReturnsWhatItSays result (step_of (words_left (option_copied rest.entry))) }
 {
     let (caller, rest) = next_of(rest)?;
     let refuse = nomem_of(rest)?;
@@ -62,7 +62,7 @@ fn step_of(alloc: Global, rest: Option<&[u8]>) -> Result<Event<u64, Token>, Line
 
 #[tactic(auto, unfolding(crate::specs::Lines::go_of))]
 fn go_of(alloc: Global, rest: Option<&[u8]>) -> Result<Event<u64, Token>, LineStop>
-    ensures { Tells result (go_of (words_left (option_copied rest.entry))) }
+    ensures { ReturnsWhatItSays result (go_of (words_left (option_copied rest.entry))) }
 {
     let (caller, rest) = next_of(rest)?;
     let refuse = nomem_of(rest)?;
@@ -75,7 +75,7 @@ fn go_of(alloc: Global, rest: Option<&[u8]>) -> Result<Event<u64, Token>, LineSt
 
 #[tactic(auto, unfolding(crate::specs::Lines::reply_of))]
 fn reply_of(alloc: Global, rest: Option<&[u8]>) -> Result<Event<u64, Token>, LineStop>
-    ensures { Tells result (reply_of (words_left (option_copied rest.entry))) }
+    ensures { ReturnsWhatItSays result (reply_of (words_left (option_copied rest.entry))) }
 {
     let (caller, rest) = next_of(rest)?;
     let reply = reply_said(rest)?;
@@ -88,7 +88,7 @@ fn reply_of(alloc: Global, rest: Option<&[u8]>) -> Result<Event<u64, Token>, Lin
 
 #[tactic(auto, unfolding(crate::specs::Lines::walk_next_of))]
 fn walk_next_of(alloc: Global, rest: Option<&[u8]>) -> Result<Event<u64, Token>, LineStop>
-    ensures { Tells result (walk_next_of (words_left (option_copied rest.entry))) }
+    ensures { ReturnsWhatItSays result (walk_next_of (words_left (option_copied rest.entry))) }
 {
     let caller = caller_of(one_of(rest)?)?;
     Ok(Event::Next {
@@ -98,7 +98,7 @@ fn walk_next_of(alloc: Global, rest: Option<&[u8]>) -> Result<Event<u64, Token>,
 
 #[tactic(auto, unfolding(crate::specs::Lines::stop_of))]
 fn stop_of(alloc: Global, rest: Option<&[u8]>) -> Result<Event<u64, Token>, LineStop>
-    ensures { Tells result (stop_of (words_left (option_copied rest.entry))) }
+    ensures { ReturnsWhatItSays result (stop_of (words_left (option_copied rest.entry))) }
 {
     let caller = caller_of(one_of(rest)?)?;
     Ok(Event::Stop {
@@ -113,7 +113,7 @@ pub fn caller_event_from(
     first: &[u8],
     rest: Option<&[u8]>,
 ) -> Result<Event<u64, Token>, LineStop>
-    ensures { Tells result (caller_event_from first.now (words_left (option_copied rest.entry))) }
+    ensures { ReturnsWhatItSays result (caller_event_from first.now (words_left (option_copied rest.entry))) }
 {
     if first == b"call".as_slice() {
         call_of(alloc, rest)

@@ -1,7 +1,7 @@
 //! Reading the event on a guard that a line says, or on a map.
 ghost use Rattle.std.specs.Prelude.{◌≡◌, option_copied};
 ghost use Rattle.reclaimed_script.specs.Words.{words_left};
-ghost use Rattle.reclaimed_script.specs.Lines.{enter_of, own_of, refresh_of, flush_of, drop_of, forget_of, guard_event_from, Tells};
+ghost use Rattle.reclaimed_script.specs.Lines.{enter_of, own_of, refresh_of, flush_of, drop_of, forget_of, guard_event_from, ReturnsWhatItSays};
 
 use crate::fault::LineStop;
 use crate::kinds::name_of;
@@ -13,7 +13,7 @@ use std::alloc::Global;
 
 #[tactic(auto, unfolding(crate::specs::Lines::enter_of))]
 fn enter_of(alloc: Global, rest: Option<&[u8]>) -> Result<Event<u64, Token>, LineStop>
-    ensures { Tells result (enter_of (words_left (option_copied rest.entry))) }
+    ensures { ReturnsWhatItSays result (enter_of (words_left (option_copied rest.entry))) }
 {
     let (guard, registration) = two_of(rest)?;
     let guard = name_of(guard)?;
@@ -26,7 +26,7 @@ fn enter_of(alloc: Global, rest: Option<&[u8]>) -> Result<Event<u64, Token>, Lin
 
 #[tactic(auto, unfolding(crate::specs::Lines::own_of))]
 fn own_of(alloc: Global, rest: Option<&[u8]>) -> Result<Event<u64, Token>, LineStop>
-    ensures { Tells result (own_of (words_left (option_copied rest.entry))) }
+    ensures { ReturnsWhatItSays result (own_of (words_left (option_copied rest.entry))) }
 {
     let guard = name_of(one_of(rest)?)?;
     Ok(Event::Own {
@@ -36,7 +36,7 @@ fn own_of(alloc: Global, rest: Option<&[u8]>) -> Result<Event<u64, Token>, LineS
 
 #[tactic(auto, unfolding(crate::specs::Lines::refresh_of))]
 fn refresh_of(alloc: Global, rest: Option<&[u8]>) -> Result<Event<u64, Token>, LineStop>
-    ensures { Tells result (refresh_of (words_left (option_copied rest.entry))) }
+    ensures { ReturnsWhatItSays result (refresh_of (words_left (option_copied rest.entry))) }
 {
     let guard = name_of(one_of(rest)?)?;
     Ok(Event::Refresh {
@@ -46,7 +46,7 @@ fn refresh_of(alloc: Global, rest: Option<&[u8]>) -> Result<Event<u64, Token>, L
 
 #[tactic(auto, unfolding(crate::specs::Lines::flush_of))]
 fn flush_of(alloc: Global, rest: Option<&[u8]>) -> Result<Event<u64, Token>, LineStop>
-    ensures { Tells result (flush_of (words_left (option_copied rest.entry))) }
+    ensures { ReturnsWhatItSays result (flush_of (words_left (option_copied rest.entry))) }
 {
     let guard = name_of(one_of(rest)?)?;
     Ok(Event::Flush {
@@ -56,7 +56,7 @@ fn flush_of(alloc: Global, rest: Option<&[u8]>) -> Result<Event<u64, Token>, Lin
 
 #[tactic(auto, unfolding(crate::specs::Lines::drop_of))]
 fn drop_of(alloc: Global, rest: Option<&[u8]>) -> Result<Event<u64, Token>, LineStop>
-    ensures { Tells result (drop_of (words_left (option_copied rest.entry))) }
+    ensures { ReturnsWhatItSays result (drop_of (words_left (option_copied rest.entry))) }
 {
     let guard = name_of(one_of(rest)?)?;
     Ok(Event::DropGuard {
@@ -66,7 +66,7 @@ fn drop_of(alloc: Global, rest: Option<&[u8]>) -> Result<Event<u64, Token>, Line
 
 #[tactic(auto, unfolding(crate::specs::Lines::forget_of))]
 fn forget_of(alloc: Global, rest: Option<&[u8]>) -> Result<Event<u64, Token>, LineStop>
-    ensures { Tells result (forget_of (words_left (option_copied rest.entry))) }
+    ensures { ReturnsWhatItSays result (forget_of (words_left (option_copied rest.entry))) }
 {
     let guard = name_of(one_of(rest)?)?;
     Ok(Event::Forget {
@@ -81,7 +81,7 @@ pub fn guard_event_from(
     first: &[u8],
     rest: Option<&[u8]>,
 ) -> Result<Event<u64, Token>, LineStop>
-    ensures { Tells result (guard_event_from first.now (words_left (option_copied rest.entry))) }
+    ensures { ReturnsWhatItSays result (guard_event_from first.now (words_left (option_copied rest.entry))) }
 {
     if first == b"enter".as_slice() {
         enter_of(alloc, rest)

@@ -1,7 +1,7 @@
 //! Reading the event that a line says. Every word is tested before memory is asked for.
 ghost use Rattle.std.specs.Prelude.{◌≡◌, option_copied};
 ghost use Rattle.reclaimed_script.specs.Words.{words_left, Gives};
-ghost use Rattle.reclaimed_script.specs.Lines.{collector_of, key_hash_of, hash_of, choose_of, register_of, unregister_of, reclaim_all_of, close_of, event_from, event_of, Tells};
+ghost use Rattle.reclaimed_script.specs.Lines.{collector_of, key_hash_of, hash_of, choose_of, register_of, unregister_of, reclaim_all_of, close_of, event_from, event_of, ReturnsWhatItSays};
 
 use crate::fault::{LineFault, LineStop};
 use crate::guards::guard_event_from;
@@ -54,7 +54,7 @@ fn choose_of(rest: Option<&[u8]>) -> Result<Event<u64, Token>, LineFault>
 
 #[tactic(auto, unfolding(crate::specs::Lines::register_of))]
 fn register_of(alloc: Global, rest: Option<&[u8]>) -> Result<Event<u64, Token>, LineStop>
-    ensures { Tells result (register_of (words_left (option_copied rest.entry))) }
+    ensures { ReturnsWhatItSays result (register_of (words_left (option_copied rest.entry))) }
 {
     let registration = name_of(one_of(rest)?)?;
     Ok(Event::Register {
@@ -64,7 +64,7 @@ fn register_of(alloc: Global, rest: Option<&[u8]>) -> Result<Event<u64, Token>, 
 
 #[tactic(auto, unfolding(crate::specs::Lines::unregister_of))]
 fn unregister_of(alloc: Global, rest: Option<&[u8]>) -> Result<Event<u64, Token>, LineStop>
-    ensures { Tells result (unregister_of (words_left (option_copied rest.entry))) }
+    ensures { ReturnsWhatItSays result (unregister_of (words_left (option_copied rest.entry))) }
 {
     let registration = name_of(one_of(rest)?)?;
     Ok(Event::Unregister {
@@ -95,7 +95,7 @@ fn event_from(
     first: &[u8],
     rest: Option<&[u8]>,
 ) -> Result<Event<u64, Token>, LineStop>
-    ensures { Tells result (event_from first.now (words_left (option_copied rest.entry))) }
+    ensures { ReturnsWhatItSays result (event_from first.now (words_left (option_copied rest.entry))) }
 {
     if first == b"collector".as_slice() {
         Ok(collector_of(rest)?)
@@ -119,7 +119,7 @@ fn event_from(
 /// Returns the event that a line says, apart from the line's length and number. Memory is asked for only once the line is known to have no fault.
 #[tactic(auto, unfolding(crate::specs::Lines::event_of, crate::specs::Lines::event_of_words))]
 pub fn event_of(alloc: Global, line: &[u8]) -> Result<Event<u64, Token>, LineStop>
-    ensures { Tells result (event_of line.now) }
+    ensures { ReturnsWhatItSays result (event_of line.now) }
 {
     let (first, rest) = cut(line);
     event_from(alloc, first, rest)

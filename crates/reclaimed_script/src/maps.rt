@@ -1,7 +1,7 @@
 //! Reading the event on a map that a line says, or of a caller.
 ghost use Rattle.std.specs.Prelude.{◌≡◌, Ok, option_copied};
 ghost use Rattle.reclaimed_script.specs.Words.{words_left};
-ghost use Rattle.reclaimed_script.specs.Lines.{incremental_of, blocking_of, map_of, end_of, shape_of, map_event_from, Tells};
+ghost use Rattle.reclaimed_script.specs.Lines.{incremental_of, blocking_of, map_of, end_of, shape_of, map_event_from, ReturnsWhatItSays};
 
 use crate::callers::caller_event_from;
 use crate::fault::{LineFault, LineStop};
@@ -19,7 +19,7 @@ fn make_map(
     mode: ResizeMode,
     capacity: u64,
 ) -> Result<Event<u64, Token>, LineStop>
-    ensures { Tells result (Ok (Event.MakeMap map.now mode capacity)) }
+    ensures { ReturnsWhatItSays result (Ok (Event.MakeMap map.now mode capacity)) }
 {
     Ok(Event::MakeMap {
         map: Token::copy_of(alloc, map)?,
@@ -34,7 +34,7 @@ fn incremental_of(
     map: &[u8],
     rest: Option<&[u8]>,
 ) -> Result<Event<u64, Token>, LineStop>
-    ensures { Tells result (incremental_of map.now (words_left (option_copied rest.entry))) }
+    ensures { ReturnsWhatItSays result (incremental_of map.now (words_left (option_copied rest.entry))) }
 {
     let (places, capacity) = two_of(rest)?;
     let map = name_of(map)?;
@@ -49,7 +49,7 @@ fn blocking_of(
     map: &[u8],
     rest: Option<&[u8]>,
 ) -> Result<Event<u64, Token>, LineStop>
-    ensures { Tells result (blocking_of map.now (words_left (option_copied rest.entry))) }
+    ensures { ReturnsWhatItSays result (blocking_of map.now (words_left (option_copied rest.entry))) }
 {
     let capacity = one_of(rest)?;
     let map = name_of(map)?;
@@ -59,7 +59,7 @@ fn blocking_of(
 
 #[tactic(auto, unfolding(crate::specs::Lines::map_of))]
 fn map_of(alloc: Global, rest: Option<&[u8]>) -> Result<Event<u64, Token>, LineStop>
-    ensures { Tells result (map_of (words_left (option_copied rest.entry))) }
+    ensures { ReturnsWhatItSays result (map_of (words_left (option_copied rest.entry))) }
 {
     let (map, rest) = next_of(rest)?;
     let (mode, rest) = next_of(rest)?;
@@ -74,7 +74,7 @@ fn map_of(alloc: Global, rest: Option<&[u8]>) -> Result<Event<u64, Token>, LineS
 
 #[tactic(auto, unfolding(crate::specs::Lines::end_of))]
 fn end_of(alloc: Global, rest: Option<&[u8]>) -> Result<Event<u64, Token>, LineStop>
-    ensures { Tells result (end_of (words_left (option_copied rest.entry))) }
+    ensures { ReturnsWhatItSays result (end_of (words_left (option_copied rest.entry))) }
 {
     let map = name_of(one_of(rest)?)?;
     Ok(Event::EndMap {
@@ -84,7 +84,7 @@ fn end_of(alloc: Global, rest: Option<&[u8]>) -> Result<Event<u64, Token>, LineS
 
 #[tactic(auto, unfolding(crate::specs::Lines::shape_of))]
 fn shape_of(alloc: Global, rest: Option<&[u8]>) -> Result<Event<u64, Token>, LineStop>
-    ensures { Tells result (shape_of (words_left (option_copied rest.entry))) }
+    ensures { ReturnsWhatItSays result (shape_of (words_left (option_copied rest.entry))) }
 {
     let map = name_of(one_of(rest)?)?;
     Ok(Event::ShowShape {
@@ -99,7 +99,7 @@ pub fn map_event_from(
     first: &[u8],
     rest: Option<&[u8]>,
 ) -> Result<Event<u64, Token>, LineStop>
-    ensures { Tells result (map_event_from first.now (words_left (option_copied rest.entry))) }
+    ensures { ReturnsWhatItSays result (map_event_from first.now (words_left (option_copied rest.entry))) }
 {
     if first == b"map".as_slice() {
         map_of(alloc, rest)

@@ -38,9 +38,9 @@ use Rattle.owner_facts.specs.Given.PointsFactsDisposes.{DisposingFacts, DisposeF
 use Rattle.owner_facts.specs.Given.PointsFactsTables.{IsOwnTable, IsLinkOf, MakingFacts, NewTableFacts}
 use Rattle.owner_facts.specs.Given.LateFactsReserves.{CopiesWhole, IsEnding, ReservingFacts}
 use Rattle.owner_facts.specs.Given.LateFactsSweeps.{CopiesTable, SweepingFacts}
-use Rattle.owner_facts.specs.Given.LateLateCalls.{LateFirst, LateFirstFacts, LateCalling}
-use Rattle.owner_facts.specs.Given.LateLateCopies.{LateCopying, LateCopierFacts}
-use Rattle.owner_facts.specs.Given.LateLateReserves.{LateReserving}
+use Rattle.owner_facts.specs.Given.LateLateCalls.{SupersededFirst, SupersededFirstFacts, SupersededCalling}
+use Rattle.owner_facts.specs.Given.LateLateCopies.{SupersededCopying, SupersededCopierFacts}
+use Rattle.owner_facts.specs.Given.LateLateReserves.{SupersededReserving}
 use Rattle.run_debts.proofs.Aims.{AimsAt, DeferAims, DisposeAims, MakingAims, NewAims, CopyingAims, CopierAims, ReservingAims, SweepingAims, CallingAims}
 
 -- a sweep, and a call on one key, are elsewhere than about to count
@@ -78,10 +78,10 @@ module _ {K V : Type 0} (same : K → K → Bool) (hash : K → ℕ) (w : World 
       by (making.Links table) point = subst (AimsAt P) (sym facts.link_is) (link_aims link turn facts.link_of)
       by _ point = tt
 
-  late_first_aims : (began : ℕ) (n : NewTable) → LateFirstFacts w caller setting c blocks began n → NewAims P n
+  late_first_aims : (began : ℕ) (n : NewTable) → SupersededFirstFacts w caller setting c blocks began n → NewAims P n
   late_first_aims began n facts = by n.stands facts.point
     where
-      by : (p : Making) → LateFirst w caller setting c blocks began p → MakingAims P n p
+      by : (p : Making) → SupersededFirst w caller setting c blocks began p → MakingAims P n p
       by (making.Promotes table) point = absurd point
       by (making.Links table) point = absurd point
       by _ point = tt
@@ -122,7 +122,7 @@ module _ {K V : Type 0} (same : K → K → Bool) (hash : K → ℕ) (w : World 
   copier_blocking_aims : (x : Copier) → CopierFactsBlocking same hash w caller setting c blocks x → CopierAims P x
   copier_blocking_aims x facts = blocking_aims x x.stands facts.point
 
-  late_aims : (began : ℕ) (x : Copier) (p : Copying) → LateCopying same hash w caller setting c blocks began x p → CopyingAims P x p
+  late_aims : (began : ℕ) (x : Copier) (p : Copying) → SupersededCopying same hash w caller setting c blocks began x p → CopyingAims P x p
   late_aims began x copying.Claims facts = table_so x.target _ facts.2.target
   late_aims began x copying.Marks facts = table_so x.source _ facts.2.0.source
   late_aims began x (copying.Puts word code table probe) facts = table_so table _ facts.8.table
@@ -137,7 +137,7 @@ module _ {K V : Type 0} (same : K → K → Bool) (hash : K → ℕ) (w : World 
   late_aims began x copying.Announces facts = table_so x.target _ facts.3.1
   late_aims began x _ facts = tt
 
-  late_copier_aims : (began : ℕ) (x : Copier) → LateCopierFacts same hash w caller setting c blocks began x → CopierAims P x
+  late_copier_aims : (began : ℕ) (x : Copier) → SupersededCopierFacts same hash w caller setting c blocks began x → CopierAims P x
   late_copier_aims began x facts = late_aims began x x.stands facts.point
 
   -- a copier of a whole table, in the mode of the map
@@ -172,7 +172,7 @@ module _ {K V : Type 0} (same : K → K → Bool) (hash : K → ℕ) (w : World 
   room_aims (reserving.Copies copier) facts = whole_aims copier facts
   room_aims _ facts = tt
 
-  pub late_room_aims : (began : ℕ) (p : Reserving) → LateReserving same hash w caller setting c blocks began p → ReservingAims P p
+  pub late_room_aims : (began : ℕ) (p : Reserving) → SupersededReserving same hash w caller setting c blocks began p → ReservingAims P p
   late_room_aims began (reserving.Makes n) facts = late_first_aims began n facts
   late_room_aims began (reserving.Grows table n) facts = new_aims _ _ n facts.3
   late_room_aims began (reserving.Copies copier) facts = late_copier_aims began copier facts
@@ -196,7 +196,7 @@ module _ {K V : Type 0} (same : K → K → Bool) (hash : K → ℕ) (w : World 
     key_aims change x (calling.Disposes dispose answer) elsewhere facts = dispose_aims dispose facts.0
     key_aims change x _ elsewhere facts = tt
 
-    pub late_key_aims : (began : ℕ) (x : KeyCall K V K) (p : Calling) → LateCalling same hash same w caller setting c blocks keys began x p → CallingAims P x p
+    pub late_key_aims : (began : ℕ) (x : KeyCall K V K) (p : Calling) → SupersededCalling same hash same w caller setting c blocks keys began x p → CallingAims P x p
     late_key_aims began x (calling.Tries word new) facts = table_so x.trial.table _ facts.1.2.table
     late_key_aims began x (calling.Counts removed) facts = absurd facts
     late_key_aims began x (calling.Firsts n) facts = late_first_aims began n facts.2

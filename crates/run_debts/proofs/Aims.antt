@@ -66,7 +66,7 @@ use Rattle.run_places.specs.Given.RawDeclared.machines.call.Calling.{Calling}
 use Rattle.run_places.specs.Given.RawDeclared.machines.call.Calling.TheVariants as calling
 use Rattle.run_places.specs.Given.RawDeclared.machines.call.KeyCall.{KeyCall}
 use Rattle.run_places.specs.Given.TellsSeen.{seen_of}
-use Rattle.run_places.specs.Given.TellerTells.{told_of, StepsTold}
+use Rattle.run_places.specs.Given.TellerTells.{observed_of, StepsObserved}
 use Rattle.run_places.specs.Given.EffectsDeclared.changed.Changed.{Changed}
 use Rattle.run_places.specs.Given.EffectsDeclared.changed.Changed.TheVariants as changed
 
@@ -152,7 +152,7 @@ module _ (P : ℕ → Type 0) where
     aims_as f (Turn rest) so = so
     aims_as f (Do op rest) so = so
 
-    op_aimed : (m : Mem (Node K V)) (op : Op (Node K V)) (out : Out (Node K V)) (b field old new : ℕ) → told_of op out (seen_of m op out) ≡ changed.Wrote (Word b field) old new → AimsSo op → P b
+    op_aimed : (m : Mem (Node K V)) (op : Op (Node K V)) (out : Out (Node K V)) (b field old new : ℕ) → observed_of op out (seen_of m op out) ≡ changed.Wrote (Word b field) old new → AimsSo op → P b
     op_aimed m (Load at) out b field old new e so = absurd (cc e)
     op_aimed m (Store at word) out b field old new e so = at_word at b field _ _ old new e so
     op_aimed m (Swap at word) (Found before) b field old new e so = at_word at b field _ _ old new e so
@@ -172,7 +172,7 @@ module _ (P : ℕ → Type 0) where
     op_aimed m (Room bucket) (Roomed roomed) b field old new e so = absurd (cc e)
     op_aimed m (Room bucket) _ b field old new e so = absurd (cc e)
 
-    pub plan_aimed : {R : Type 0} (m m2 : Mem (Node K V)) (told : Changed) (plan : Plan (Node K V) R) (end : R) → StepsTold K V R m changed.Nothing plan m2 told end → PlanAims plan
+    pub plan_aimed : {R : Type 0} (m m2 : Mem (Node K V)) (told : Changed) (plan : Plan (Node K V) R) (end : R) → StepsObserved K V R m changed.Nothing plan m2 told end → PlanAims plan
         → (b field old new : ℕ) → told ≡ changed.Wrote (Word b field) old new → P b
     plan_aimed m m2 told (Turn rest) end steps so b field old new is = absurd (let nothing = steps.2 in cc (nothing, is))
     plan_aimed m m2 told (Do op rest) end steps so b field old new is = op_aimed m op steps.0 b field old new (sym steps.1.1 ∙ is) so

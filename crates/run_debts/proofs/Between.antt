@@ -6,9 +6,9 @@ use Rattle.run_places.specs.Given.ReservesDeclared.sweep.Sweep.{Sweep}
 use Rattle.run_places.specs.Given.ReservesDeclared.sweep.Sweeping.{Sweeping}
 use Rattle.run_places.specs.Given.ReservesDeclared.sweep.Sweeping.TheVariants as sweeping
 use Rattle.run_places.specs.Given.RunsSame.{is_same}
-use Rattle.run_places.specs.Given.RawCallAsks.{with_absent, with_present, absent_told, present_told, told_at}
+use Rattle.run_places.specs.Given.RawCallAsks.{with_absent, with_present, absent_replied, present_replied, replied_at}
 use Rattle.run_places.specs.Given.RawCallPoints.{going, over, ending, storing, burying, at_gap}
-use Rattle.run_places.specs.Given.RawMachine.{sweep_told, machine_replied, machine_asked}
+use Rattle.run_places.specs.Given.RawMachine.{sweep_with_reply, machine_replied, machine_asked}
 use Rattle.run_places.specs.Given.RawDeclared.machines.answer.Called.{Called}
 use Rattle.run_places.specs.Given.RawDeclared.machines.answer.End.{End}
 use Rattle.run_places.specs.Given.RawDeclared.machines.answer.End.TheVariants as ends
@@ -32,23 +32,23 @@ use Rattle.run_places.specs.Given.TablesDeclared.node.Node.{Node}
 use Rattle.run_places.specs.Given.RunsDeclared.call.Reply.{Reply}
 use Rattle.run_places.specs.Given.RunsDeclared.outcome.Outcome.{Outcome}
 use Rattle.run_places.specs.Given.RunsDeclared.outcome.Outcome.TheVariants as outcome
-use Rattle.run_places.specs.Given.SchedulesAfter.{asks_on, comes_to, replied, without_call}
+use Rattle.run_places.specs.Given.SchedulesAfter.{asks_on, with_outcome, replied, without_call}
 use Rattle.run_places.specs.Given.SchedulesBeginning.{fresh_call, with_call}
 use Rattle.run_places.specs.Given.SchedulesEntry.{ends_call}
-use Rattle.run_places.specs.Given.SchedulesMoment.{Stands, Going, Asking, Told as WasTold, IsReady, UnderWay as CallThere, Moment}
+use Rattle.run_places.specs.Given.SchedulesMoment.{CallState, Going, Asking, Told as WasTold, IsReady, UnderWay as CallThere, Moment}
 use Rattle.run_places.specs.Given.SchedulesViews.{call_of}
 use Rattle.owner_facts.specs.Given.CallersTogether.{UnderWay, Gets, Removes, Inserts, TriesToInsert, Computes, Updates, UpdatesOrInserts, TriesToInsertWith, RemovesIf}
 use Rattle.owner_facts.specs.Given.FinishesMachines.{machine_of}
 use Rattle.owner_facts.specs.Given.FinishesMaps.{with_call as with_in}
 use Rattle.run_places.specs.Given.FollowsCalling.{NoneNamed}
-use Rattle.run_places.specs.Given.FollowsCalls.{ShowsCalls}
+use Rattle.run_places.specs.Given.FollowsCalls.{RefinesCalls}
 use Rattle.run_places.proofs.Given.FollowsCalling.{is_same_refl, apart_back, found_kept, come, come_of_same, replied_same}
 use Rattle.run_places.proofs.Given.FollowsCalls.{IsOfSame, changed, found}
 use Rattle.run_places.proofs.Hands.Asking.{which}
 use Rattle.run_places.proofs.Hands.Calling.{caller_is}
 use Rattle.run_places.specs.Given.OthersWalks.{given_up}
-use Rattle.run_debts.specs.Beside.{StaysCounts, EffectsLeaveCounts, WalksGoOnCounts, WalksStopCounts}
-use Rattle.run_debts.specs.Counts.{counts_in_calling, counts_in_sweeping, is_to_count, HasToCount, ShowsCounts}
+use Rattle.run_debts.specs.Beside.{StaysCounts, EffectsLeaveCounts, WalksPreserveCounts, WalksStopCounts}
+use Rattle.run_debts.specs.Counts.{counts_in_calling, counts_in_sweeping, is_to_count, HasToCount, RefinesCounts}
 use Rattle.run_debts.specs.Keeping.{CountsBegin, CallsBeginCounts, CallsBeginUncounted, CallsTakeCounts, CallsComeToCounts}
 use Rattle.run_debts.proofs.Gains.{to_count, none_changed}
 use Rattle.run_debts.proofs.Points.{points_apart, further_idle}
@@ -85,7 +85,7 @@ next_so : (p : Sweep) (stands : Sweeping) → p.stands ≡ stands → counts_in_
 next_so p sweeping.Ready is = points_apart _ sweeping.Words sweeping.Over refl refl ∙ sym (ap counts_in_sweeping is)
 next_so p _ is = refl
 
-sweep_told_so : {V : Type 0} (p : Sweep) (stands : Sweeping) (told : MachineReply V) → p.stands ≡ stands → counts_in_sweeping (sweep_told stands p told).0.stands ≡ counts_in_sweeping p.stands
+sweep_told_so : {V : Type 0} (p : Sweep) (stands : Sweeping) (told : MachineReply V) → p.stands ≡ stands → counts_in_sweeping (sweep_with_reply stands p told).0.stands ≡ counts_in_sweeping p.stands
 sweep_told_so p (sweeping.Asks word) reply.Yes is = replied_so p true word is ∙ sym (ap counts_in_sweeping is)
 sweep_told_so p (sweeping.Asks word) reply.No is = replied_so p false word is ∙ sym (ap counts_in_sweeping is)
 sweep_told_so p _ told is = refl
@@ -116,14 +116,14 @@ module _ {K V : Type 0} where
   gap_none p gaps.Past = refl
   gap_none p gaps.Last = refl
 
-  absent_none : (t : Takes) (p : KeyCall K V K) (gap : Gap) (told : MachineReply V) → NoneToCount p → NoneToCount (absent_told t p gap told).0
+  absent_none : (t : Takes) (p : KeyCall K V K) (gap : Gap) (told : MachineReply V) → NoneToCount p → NoneToCount (absent_replied t p gap told).0
   absent_none takes.Values p gap (reply.Insert value) none = gap_none (with_absent p value) gap
   absent_none takes.Changes p gap (reply.Insert value) none = gap_none (with_absent p value) gap
   absent_none takes.Changes p gap reply.Remove none = ending_none p _
   absent_none takes.Changes p gap reply.Abort none = ending_none p (ends.Answered answers.Absent)
   absent_none _ p gap told none = none
 
-  present_none : (t : Takes) (p : KeyCall K V K) (word : ℕ) (told : MachineReply V) → NoneToCount p → NoneToCount (present_told t p word told).0
+  present_none : (t : Takes) (p : KeyCall K V K) (word : ℕ) (told : MachineReply V) → NoneToCount p → NoneToCount (present_replied t p word told).0
   present_none takes.Values p word (reply.Insert value) none = refl
   present_none takes.Changes p word (reply.Insert value) none = refl
   present_none takes.Changes p word reply.Remove none = burying_none (with_present p word tells.Removes) word
@@ -132,7 +132,7 @@ module _ {K V : Type 0} where
   present_none takes.Choices p word reply.No none = ending_none p (ends.Answered (answers.Found word))
   present_none _ p word told none = none
 
-  key_told : (p : KeyCall K V K) (stands : Calling) (told : MachineReply V) → p.stands ≡ stands → counts_in_calling (told_at stands p told).0.stands ≡ counts_in_calling p.stands
+  key_told : (p : KeyCall K V K) (stands : Calling) (told : MachineReply V) → p.stands ≡ stands → counts_in_calling (replied_at stands p told).0.stands ≡ counts_in_calling p.stands
   key_told p (at.Asks (asking.Absent gap)) told is = let none = ap counts_in_calling is in absent_none p.replies.takes p gap told none ∙ sym none
   key_told p (at.Asks (asking.Present word)) told is = let none = ap counts_in_calling is in present_none p.replies.takes p word told none ∙ sym none
   key_told p _ told is = refl
@@ -151,19 +151,19 @@ module _ {K V : Type 0} where
 
 module _ {K V : Type 0} where
   -- what a call is told, and what it comes to, leaves it as much to count
-  replied_keeps : (reply : Reply V) (c : CallThere K V) (stands : Stands) → to_count (replied reply c stands) ≡ to_count c
+  replied_keeps : (reply : Reply V) (c : CallThere K V) (stands : CallState) → to_count (replied reply c stands) ≡ to_count c
   replied_keeps reply c Going = refl
   replied_keeps reply c (Asking q) = refl
   replied_keeps reply c WasTold = refl
   replied_keeps reply c IsReady = refl
 
-  asks_keeps : (question : Option ℕ) (c : CallThere K V) (stands : Stands) → to_count (asks_on question c stands) ≡ to_count c
+  asks_keeps : (question : Option ℕ) (c : CallThere K V) (stands : CallState) → to_count (asks_on question c stands) ≡ to_count c
   asks_keeps question c Going = refl
   asks_keeps question c (Asking q) = refl
   asks_keeps question c WasTold = refl
   asks_keeps question c IsReady = refl
 
-  comes_keeps : (o : Outcome V) (c : CallThere K V) → to_count (comes_to o c) ≡ to_count c
+  comes_keeps : (o : Outcome V) (c : CallThere K V) → to_count (with_outcome o c) ≡ to_count c
   comes_keeps outcome.Done c = refl
   comes_keeps (outcome.Slot n) c = refl
   comes_keeps outcome.Goes c = refl
@@ -252,9 +252,9 @@ calls_take_counts K V same name m known s whole shows of i u here reply next is 
     ]
 
 -- where one comes to an outcome
-module _ {K V : Type 0} (same : K → K → Bool) (name : ℕ → List ℕ) (m v : Moment K V) (s : Scene K V) (shown : ShowsCalls same name m s.calls) (shows : ShowsCounts name m s) where
+module _ {K V : Type 0} (same : K → K → Bool) (name : ℕ → List ℕ) (m v : Moment K V) (s : Scene K V) (shown : RefinesCalls same name m s.calls) (shows : RefinesCounts name m s) where
   -- the calls that are under way are there, but for that of this name
-  fewer_have : (own : List ℕ) → NoneNamed name own s → v.calls ≡ without_call own m.calls → ShowsCounts name v s
+  fewer_have : (own : List ℕ) → NoneNamed name own s → v.calls ≡ without_call own m.calls → RefinesCounts name v s
   fewer_have own apart calls_are = record { counts = λ n j x is c c_is. still_there n j x is c c_is }
     where
       still_there : (n j : ℕ) (x : UnderWay K V K) → s.calls n j ≡ Some x → (d : CallThere K V) → call_of (name j) v ≡ Some d → HasToCount (is_to_count (machine_of x)) (to_count d)
@@ -266,7 +266,7 @@ module _ {K V : Type 0} (same : K → K → Bool) (name : ℕ → List ℕ) (m v
           subst (λ (z : CallThere K V). HasToCount (is_to_count (machine_of x)) (to_count z)) (one_of there.0 d (sym found_now ∙ d_is)) (shows.counts n j x is there.0 there.1)
 
   changed_have : (change : CallThere K V → CallThere K V) (is_of : (c : CallThere K V) → IsOfSame c (change c)) → ((c : CallThere K V) → to_count (change c) ≡ to_count c) → (own : List ℕ)
-      → v.calls ≡ map (changed change is_of own) m.calls → ShowsCounts name v s
+      → v.calls ≡ map (changed change is_of own) m.calls → RefinesCounts name v s
   changed_have change is_of keeps own calls_are = record {
     counts = λ n j x is d d_is. (let there = shown n j x is in
         still (machine_of x) (machine_of x) (to_count there.0) (to_count d) refl (has_changed change is_of keeps own name m v calls_are j there.0 d there.1 d_is) (shows.counts n j x is there.0 there.1));
@@ -275,7 +275,7 @@ module _ {K V : Type 0} (same : K → K → Bool) (name : ℕ → List ℕ) (m v
 pub calls_come_to_counts : (K V : Type 0) → CallsComeToCounts K V
 calls_come_to_counts K V same name m known s whole shows own o steps ended = by (ends_call o) refl
   where
-    by : (q : Bool) → ends_call o ≡ q → ShowsCounts name (record m { calls = if q then without_call own m.calls else map (λ c. if is_same c.caller own then come o steps c else c) m.calls }) s
+    by : (q : Bool) → ends_call o ≡ q → RefinesCounts name (record m { calls = if q then without_call own m.calls else map (λ c. if is_same c.caller own then come o steps c else c) m.calls }) s
     by true e = fewer_have same name m _ s whole.all.shown.calls shows own (ended e) refl
     by false e = changed_have same name m _ s whole.all.shown.calls shows (come o steps) (come_of_same o steps) (come_keeps o steps) own refl
 
@@ -290,7 +290,7 @@ pub effects_leave_counts : (K V : Type 0) → EffectsLeaveCounts K V
 effects_leave_counts K V name m s t shows under_way acted effects = stays_counts K V name m _ s t shows (none_changed acted effects m) under_way
 
 -- a walk goes on to its next pair
-pub walks_go_on_counts : (K V : Type 0) (same : K → K → Bool) (hash : ℕ → K → ℕ) → WalksGoOnCounts K V same hash
+pub walks_go_on_counts : (K V : Type 0) (same : K → K → Bool) (hash : ℕ → K → ℕ) → WalksPreserveCounts K V same hash
 walks_go_on_counts K V same hash name m s old new shows i leads of u here = record { counts = then_has }
   where
     next : UnderWay K V K

@@ -16,18 +16,18 @@ use Rattle.owner_facts.specs.Given.CallersTogether.{UnderWay, OnKey, ForRoom, Co
 use Rattle.run_places.specs.Given.EffectsEffects.{effects_of}
 use Rattle.run_places.specs.Given.EffectsKnown.{Known}
 use Rattle.run_places.specs.Given.EffectsDeclared.acting.Acting.TheVariants as acts
-use Rattle.owner_facts.specs.Given.FinishesMachines.{machine_of, GoesOnAs}
+use Rattle.owner_facts.specs.Given.FinishesMachines.{machine_of, ContinuesAs}
 use Rattle.run_places.specs.Given.FollowsCalls.{IsCalled}
-use Rattle.run_places.specs.Given.FollowsShows.{Shows}
+use Rattle.run_places.specs.Given.FollowsShows.{Refines}
 use Rattle.run_places.specs.Given.FollowsSteps.{TakesNone}
 use Rattle.run_places.proofs.Given.FollowsSteps.{WentTo, went_to, DidSo, OfNoRow}
 use Rattle.run_places.specs.Hands.Asked.{IsAskedAs}
 use Rattle.run_places.proofs.Hands.Asking.{which}
 use Rattle.run_places.proofs.Hands.Calling.{caller_is}
 use Rattle.run_places.proofs.Hands.RowSteps.{rows_hand_theirs}
-use Rattle.run_places.specs.Moments.Whole.{ShowsWhole}
-use Rattle.run_debts.specs.Counts.{is_to_count, HasToCount, ShowsCounts, shard_for, FindCounts}
-use Rattle.run_debts.specs.Keeping.{CallsKeepCounts}
+use Rattle.run_places.specs.Moments.Whole.{RefinesWhole}
+use Rattle.run_debts.specs.Counts.{is_to_count, HasToCount, RefinesCounts, shard_for, FindCounts}
+use Rattle.run_debts.specs.Keeping.{CallsPreserveCounts}
 use Rattle.run_debts.proofs.Gains.{CountGoes, Left, counts_left, others_stay}
 use Rattle.run_debts.proofs.Keys.{key_counts}
 use Rattle.run_debts.proofs.Rest.{room_counts, sum_counts, sweep_counts}
@@ -38,7 +38,7 @@ use Rattle.run_places.specs.Given.ScenesStepping.{StepLeads, going_on, has_ended
 use Rattle.run_places.proofs.Given.General.{same_some as one_of}
 
 -- a call that goes on is the machine that it has come to
-pub goes_as_one : {K V : Type 0} (machine : Machine K V K) (said : Progress (Node K V)) (next : Option (UnderWay K V K)) → GoesOnAs machine said next → (x : UnderWay K V K) → next ≡ Some x → machine_of x ≡ machine
+pub goes_as_one : {K V : Type 0} (machine : Machine K V K) (said : Progress (Node K V)) (next : Option (UnderWay K V K)) → ContinuesAs machine said next → (x : UnderWay K V K) → next ≡ Some x → machine_of x ≡ machine
 goes_as_one machine said next goes x is = by (has_ended said) refl
   where
     whole : Some (machine_of x) ≡ going_on machine said
@@ -49,9 +49,9 @@ goes_as_one machine said next goes x is = by (has_ended said) refl
     by false e = (let some : Some (machine_of x) ≡ Some machine = whole ∙ ap (λ (q : Bool). if q then None else Some machine) e in cc some)
 
 module _ {K V : Type 0} (same : K → K → Bool) (hash : ℕ → K → ℕ) (name : ℕ → List ℕ) (m : Moment K V) (known : Known) (s : Scene K V) (old new : Held K V) (at : IsAt same hash old s)
-    (whole : ShowsWhole same name m known s) (shows : ShowsCounts name m s) (map i : ℕ) (u : UnderWay K V K) (here : s.calls map i ≡ Some u) (said : Progress (Node K V))
+    (whole : RefinesWhole same name m known s) (shows : RefinesCounts name m s) (map i : ℕ) (u : UnderWay K V K) (here : s.calls map i ≡ Some u) (said : Progress (Node K V))
     (leads : StepLeads same hash i said s old new) where
-  abbrev shown : Shows same name m known s
+  abbrev shown : Refines same name m known s
   shown = whole.all.shown
 
   abbrev to : WentTo same hash name m known s old new at shown map i u here said leads
@@ -137,13 +137,13 @@ module _ {K V : Type 0} (same : K → K → Bool) (hash : ℕ → K → ℕ) (na
 
     abbrev Kept : Type 0
     Kept =
-        FindCounts shard (name i) map effects m × ShowsCounts name v (scene_after same s old new map i to.0 u to.1 said to.4)
+        FindCounts shard (name i) map effects m × RefinesCounts name v (scene_after same s old new map i to.0 u to.1 said to.4)
         × (to.4.next ≡ None → (d : CallThere K V) → call_of (name i) v ≡ Some d → d.gained + d.lost ≡ 0)
 
     pub kept : Kept
     kept = (own_left.0, record { counts = has_then }, none_then)
 
-pub calls_keep_counts : (K V : Type 0) (same : K → K → Bool) (hash : ℕ → K → ℕ) → CallsKeepCounts K V same hash
+pub calls_keep_counts : (K V : Type 0) (same : K → K → Bool) (hash : ℕ → K → ℕ) → CallsPreserveCounts K V same hash
 calls_keep_counts K V same hash name m known s old new at whole shows map i (OnKey x) here said leads =
     kept same hash name m known s old new at whole shows map i (OnKey x) here said leads
     (key_counts same hash name m known s old new at whole.all.shown map i x here said leads (leads map (OnKey x) here).4.did (takes same hash name m known s old new at whole shows map i (OnKey x) here said leads))

@@ -15,7 +15,7 @@ use Rattle.run_places.specs.Given.RuleWords.{Blocks}
 use Rattle.owner_facts.specs.Given.PointsFactsCopies.{CopyingFacts, CopierFacts}
 use Rattle.owner_facts.specs.Given.PointsFactsCopiesBlocking.{CopyingFactsBlocking, CopierFactsBlocking}
 use Rattle.owner_facts.specs.Given.LateFactsReserves.{CopiesWhole, IsEnding}
-use Rattle.owner_facts.specs.Given.LateLateCopies.{LateCopying, LateCopierFacts}
+use Rattle.owner_facts.specs.Given.LateLateCopies.{SupersededCopying, SupersededCopierFacts}
 
 module _ {K V : Type 0} (same : K → K → Bool) (hash : K → ℕ) (w : World (Node K V)) (caller : ℕ) (setting : Setting) (c : Chart K) (blocks : Blocks) where
   -- its source is a table, and its target one behind that
@@ -51,7 +51,7 @@ module _ {K V : Type 0} (same : K → K → Bool) (hash : K → ℕ) (w : World 
   blocking_tables p (copies.Succeeds table) (s, unlinked, is) = (s, c.first, unlinked.0, is, unlinked.1, unlinked.3)
   blocking_tables p _ facts = tt
 
-  late_tables : (began : ℕ) (p : Copier) (stands : Copying) → LateCopying same hash w caller setting c blocks began p stands → SeesTables p stands
+  late_tables : (began : ℕ) (p : Copier) (stands : Copying) → SupersededCopying same hash w caller setting c blocks began p stands → SeesTables p stands
   late_tables began p copies.Promotes (s, t, copies_late) = (s, t, copies_late.order, copies_late.source, copies_late.target)
   late_tables began p (copies.Succeeds table) (s, t, unlinked, is) = (s, t, unlinked.0, is, unlinked.1, unlinked.4)
   late_tables began p _ facts = tt
@@ -66,7 +66,7 @@ module _ {K V : Type 0} (same : K → K → Bool) (hash : K → ℕ) (w : World 
   pub blocking_knows : (p : Copier) → CopierFactsBlocking same hash w caller setting c blocks p → KnowsTables p
   blocking_knows p facts = (facts.setting_is, blocking_tables p p.stands facts.point)
 
-  pub late_knows : (began : ℕ) (p : Copier) → LateCopierFacts same hash w caller setting c blocks began p → KnowsTables p
+  pub late_knows : (began : ℕ) (p : Copier) → SupersededCopierFacts same hash w caller setting c blocks began p → KnowsTables p
   late_knows began p facts = (facts.setting_is, late_tables began p p.stands facts.point)
 
   abbrev Whole : Bool → Copier → Type 0

@@ -51,7 +51,7 @@ use Rattle.run_places.specs.Given.RawDeclared.machines.progress.Progress.{Progre
 use Rattle.run_places.specs.Given.RunsDeclared.shapes.TableShape.{TableShape}
 use Rattle.run_places.specs.Given.RunsDeclared.effect.TableId.{TableId as Numbered}
 use Rattle.run_places.specs.Given.SchedulesMoment.{Moment}
-use Rattle.run_places.specs.Given.TellerTells.{StepsTold}
+use Rattle.run_places.specs.Given.TellerTells.{StepsObserved}
 use Rattle.run_places.specs.Given.EffectsDeclared.changed.Changed.{Changed}
 use Rattle.run_places.specs.Given.EffectsDeclared.changed.Changed.TheVariants as changed
 use Rattle.run_places.specs.Given.RuleChart.{Chart}
@@ -61,9 +61,9 @@ use Rattle.owner_facts.specs.Given.PointsFactsCopies.{CopierFacts, CopyingFacts}
 use Rattle.owner_facts.specs.Given.PointsFactsCopiesBlocking.{CopierFactsBlocking, CopyingFactsBlocking}
 use Rattle.owner_facts.specs.Given.PointsFactsDisposes.{DisposeFacts, DisposingFacts}
 use Rattle.owner_facts.specs.Given.PointsTold.{IsRowOf, IsRowOfCopier, IsRowOfCall}
-use Rattle.owner_facts.specs.Given.LateLateCalls.{LateCalling}
-use Rattle.owner_facts.specs.Given.LateLateCopies.{LateCopierFacts, LateCopying}
-use Rattle.owner_facts.specs.Given.LateLateReserves.{LateReserving}
+use Rattle.owner_facts.specs.Given.LateLateCalls.{SupersededCalling}
+use Rattle.owner_facts.specs.Given.LateLateCopies.{SupersededCopierFacts, SupersededCopying}
+use Rattle.owner_facts.specs.Given.LateLateReserves.{SupersededReserving}
 use Rattle.owner_facts.specs.Given.LateFactsReserves.{CopiesWhole, IsEnding, ReservingFacts}
 use Rattle.owner_facts.specs.Given.LateFactsSweeps.{CopiesTable, SweepingFacts}
 use Rattle.owner_facts.specs.Given.LateToldReserves.{IsRowOfReserve}
@@ -82,13 +82,13 @@ use Rattle.run_places.specs.Given.EffectsDeclared.role.Role.TheVariants as role
 use Rattle.owner_facts.specs.Given.FinishesMachines.{machine_of}
 use Rattle.owner_facts.specs.Given.FinishesMaps.{Standing}
 use Rattle.run_places.specs.Given.FollowsBlocks.{HasRole}
-use Rattle.run_places.specs.Given.FollowsShows.{Shows}
+use Rattle.run_places.specs.Given.FollowsShows.{Refines}
 use Rattle.run_places.proofs.Given.FollowsSteps.{WentTo, went_to, DidSo, OfNoRow}
-use Rattle.run_places.specs.Hands.Rows.{ReclaimsNone, ShowsRows}
+use Rattle.run_places.specs.Hands.Rows.{ReclaimsNone, RowsReclaimNone}
 use Rattle.run_places.proofs.Given.OthersOutcomes.{told_in}
-use Rattle.run_debts.specs.Due.{Due, due_in_disposing, due_in_copying, due_in_calling, due_in_reserving, due_in_sweeping, due_in_row, RowTells, OwnAreMade, RowsTellDue}
+use Rattle.run_debts.specs.Due.{RowObligation, due_in_disposing, due_in_copying, due_in_calling, due_in_reserving, due_in_sweeping, due_in_row, RowTells, OwnAreMade, RowsTellDue}
 use Rattle.run_debts.proofs.DueDefers.{AreTables}
-use Rattle.run_debts.specs.Entries.{IsSomebodys, IsBlank, RetiresOne, ShowsEntries}
+use Rattle.run_debts.specs.Entries.{IsSomebodys, IsBlank, RetiresOne, EntriesAreBlank}
 use Rattle.run_debts.proofs.DueRows.{GoesOn, IsSettling, IsToSettle, IsPutting, IsToPut, DisposingIs, CopyingIs, dispose_row, copier_row}
 use Rattle.run_debts.proofs.DueSettles.{effects_by}
 use Rattle.run_places.specs.Given.ScenesHeld.{Held, IsAt}
@@ -165,10 +165,10 @@ module _ {K V : Type 0} (same : K → K → Bool) (hash : K → ℕ) (w : World 
       by (copying.Retires settle rest) f row = IsToSettle setting.slot setting.batch_size (blocks.table f.0) f.2.0 f.2.1
       by _ f row = absurd row
 
-  late_new : (began : ℕ) (x : Copier) → LateCopierFacts same hash w i setting c blocks began x → IsRowOfCopier x.stands → CopyingIs w i x.stands
+  late_new : (began : ℕ) (x : Copier) → SupersededCopierFacts same hash w i setting c blocks began x → IsRowOfCopier x.stands → CopyingIs w i x.stands
   late_new began x facts row = by x.stands facts.point row
     where
-      by : (p : Copying) → LateCopying same hash w i setting c blocks began x p → IsRowOfCopier p → CopyingIs w i p
+      by : (p : Copying) → SupersededCopying same hash w i setting c blocks began x p → IsRowOfCopier p → CopyingIs w i p
       by (copying.Retires settle rest) f row = IsToSettle setting.slot setting.batch_size (blocks.table f.0) f.3.0 f.3.1
       by _ f row = absurd row
 
@@ -191,7 +191,7 @@ module _ {K V : Type 0} (same : K → K → Bool) (hash : K → ℕ) (w : World 
   reserving_new (reserving.Copies copier) facts row = whole_new copier facts row
   reserving_new _ facts row = absurd row
 
-  pub late_reserving_new : (began : ℕ) (p : Reserving) → LateReserving same hash w i setting c blocks began p → IsRowOfReserve p → ReservingIs w i p
+  pub late_reserving_new : (began : ℕ) (p : Reserving) → SupersededReserving same hash w i setting c blocks began p → IsRowOfReserve p → ReservingIs w i p
   late_reserving_new began (reserving.Copies copier) facts row = late_new began copier facts row
   late_reserving_new began _ facts row = absurd row
 
@@ -206,7 +206,7 @@ module _ {K V : Type 0} (same : K → K → Bool) (hash : K → ℕ) (w : World 
   calling_new keys change x (calling.Copies copier) facts row = blocking_new copier facts.2 row
   calling_new keys change x _ facts row = absurd row
 
-  pub late_calling_new : (keys : K → Bool) (began : ℕ) (x : KeyCall K V K) (p : Calling) → LateCalling same hash same w i setting c blocks keys began x p → IsRowOfCall p → CallingIs w i p
+  pub late_calling_new : (keys : K → Bool) (began : ℕ) (x : KeyCall K V K) (p : Calling) → SupersededCalling same hash same w i setting c blocks keys began x p → IsRowOfCall p → CallingIs w i p
   late_calling_new keys began x (calling.Disposes dispose answer) facts row = absurd facts
   late_calling_new keys began x (calling.Helps copier goal) facts row = absurd facts
   late_calling_new keys began x (calling.Copies copier) facts row = late_new began copier facts.1 row
@@ -216,35 +216,35 @@ module _ {K V : Type 0} (same : K → K → Bool) (hash : K → ℕ) (w : World 
 module _ {K V : Type 0} {size : ℕ} (w : World (Node K V)) (r : Reached deferred_word size w) (i map : ℕ) (known : Known) (m2 : Mem (Node K V)) (told : Changed)
     (blanks : (b : ℕ) → IsSomebodys (w.hand b) → IsBlank w.memory b) (none : ReclaimsNone (w.row i)) (own : RetiresOne (IsBlank w.memory) (w.row i))
     (tables : AreTables w.memory r.good.state.life known) where
-  abbrev TellsDue : Option Due → Option Due → Type 0
+  abbrev TellsDue : Option RowObligation → Option RowObligation → Type 0
   TellsDue before after = RowTells i map known (effects_by i map known told) before after
 
-  spent : (before after after2 : Option Due) → after2 ≡ after → TellsDue before after → TellsDue before after2
+  spent : (before after after2 : Option RowObligation) → after2 ≡ after → TellsDue before after → TellsDue before after2
   spent before after after2 e tells = subst (TellsDue before) (sym e) tells
 
   module _ (asks eq : K → K → Bool) (hash : K → ℕ) (x : KeyCall K V K) (end : KeyCall K V K × Called (Node K V))
-      (steps : StepsTold K V (KeyCall K V K × Called (Node K V)) w.memory changed.Nothing (call_plan asks eq hash x) m2 told end) where
+      (steps : StepsObserved K V (KeyCall K V K × Called (Node K V)) w.memory changed.Nothing (call_plan asks eq hash x) m2 told end) where
     abbrev CallAt : Calling → Type 0
-    CallAt p = StepsTold K V (KeyCall K V K × Called (Node K V)) w.memory changed.Nothing (calls.plan_at asks eq hash x p) m2 told end
+    CallAt p = StepsObserved K V (KeyCall K V K × Called (Node K V)) w.memory changed.Nothing (calls.plan_at asks eq hash x p) m2 told end
 
-    abbrev CallTo : Option Due → KeyCall K V K × Called (Node K V) → Type 0
+    abbrev CallTo : Option RowObligation → KeyCall K V K × Called (Node K V) → Type 0
     CallTo before e = TellsDue before (due_in_calling e.0.stands)
 
-    disposed_to : (before : Option Due) (answer : KeyAnswer) (q : Dispose × Settled (Node K V)) → TellsDue before (due_in_disposing q.0.stands) → (q.1 ≡ settled.Done → due_in_disposing q.0.stands ≡ None)
+    disposed_to : (before : Option RowObligation) (answer : KeyAnswer) (q : Dispose × Settled (Node K V)) → TellsDue before (due_in_disposing q.0.stands) → (q.1 ≡ settled.Done → due_in_disposing q.0.stands ≡ None)
         → CallTo before (disposed x answer q)
     disposed_to before answer (d, settled.Goes) tells done = tells
     disposed_to before answer (d, settled.Waits) tells done = tells
     disposed_to before answer (d, settled.Gave value) tells done = tells
     disposed_to before answer (d, settled.Done) tells done = spent before (due_in_disposing d.stands) None (sym (done refl)) tells
 
-    helped_to : (before : Option Due) (goal : Table) (q : Copier × Yielding (Node K V) Table) → TellsDue before (due_in_copying q.0.stands) → GoesOn q.1 → CallTo before (helped x goal q)
+    helped_to : (before : Option RowObligation) (goal : Table) (q : Copier × Yielding (Node K V) Table) → TellsDue before (due_in_copying q.0.stands) → GoesOn q.1 → CallTo before (helped x goal q)
     helped_to before goal (c, outcome.Goes) tells goes = tells
     helped_to before goal (c, outcome.Waits) tells goes = tells
     helped_to before goal (c, outcome.Gave value) tells goes = tells
     helped_to before goal (c, outcome.Done table) tells goes = absurd goes
     helped_to before goal (c, outcome.Refused fault) tells goes = absurd goes
 
-    copied_to : (before : Option Due) (q : Copier × Yielding (Node K V) Table) → TellsDue before (due_in_copying q.0.stands) → GoesOn q.1 → CallTo before (copied x q)
+    copied_to : (before : Option RowObligation) (q : Copier × Yielding (Node K V) Table) → TellsDue before (due_in_copying q.0.stands) → GoesOn q.1 → CallTo before (copied x q)
     copied_to before (c, outcome.Goes) tells goes = tells
     copied_to before (c, outcome.Waits) tells goes = tells
     copied_to before (c, outcome.Gave value) tells goes = tells
@@ -269,14 +269,14 @@ module _ {K V : Type 0} {size : ℕ} (w : World (Node K V)) (r : Reached deferre
             subst (CallTo (due_in_copying copier.stands)) (sym inner.1) (copied_to (due_in_copying copier.stands) inner.0 row.0 row.1)
         by _ its st = absurd its
 
-  module _ (hash : K → ℕ) (x : Reserve) (end : Reserve × Yielding (Node K V) Unit) (steps : StepsTold K V (Reserve × Yielding (Node K V) Unit) w.memory changed.Nothing (reserve_plan hash x) m2 told end) where
+  module _ (hash : K → ℕ) (x : Reserve) (end : Reserve × Yielding (Node K V) Unit) (steps : StepsObserved K V (Reserve × Yielding (Node K V) Unit) w.memory changed.Nothing (reserve_plan hash x) m2 told end) where
     abbrev RoomAt : Reserving → Type 0
-    RoomAt p = StepsTold K V (Reserve × Yielding (Node K V) Unit) w.memory changed.Nothing (reserves.plan_at {V = V} hash x p) m2 told end
+    RoomAt p = StepsObserved K V (Reserve × Yielding (Node K V) Unit) w.memory changed.Nothing (reserves.plan_at {V = V} hash x p) m2 told end
 
-    abbrev RoomTo : Option Due → Reserve × Yielding (Node K V) Unit → Type 0
+    abbrev RoomTo : Option RowObligation → Reserve × Yielding (Node K V) Unit → Type 0
     RoomTo before e = TellsDue before (due_in_reserving e.0.stands)
 
-    copied_room : (before : Option Due) (q : Copier × Yielding (Node K V) Table) → TellsDue before (due_in_copying q.0.stands) → GoesOn q.1 → RoomTo before (reserves.copied x q)
+    copied_room : (before : Option RowObligation) (q : Copier × Yielding (Node K V) Table) → TellsDue before (due_in_copying q.0.stands) → GoesOn q.1 → RoomTo before (reserves.copied x q)
     copied_room before (c, outcome.Goes) tells goes = tells
     copied_room before (c, outcome.Waits) tells goes = tells
     copied_room before (c, outcome.Gave value) tells goes = tells
@@ -293,11 +293,11 @@ module _ {K V : Type 0} {size : ℕ} (w : World (Node K V)) (r : Reached deferre
             subst (RoomTo (due_in_copying copier.stands)) (sym inner.1) (copied_room (due_in_copying copier.stands) inner.0 row.0 row.1)
         by _ its st = absurd its
 
-  module _ (hash : K → ℕ) (x : Sweep) (end : Sweep × Swept (Node K V)) (steps : StepsTold K V (Sweep × Swept (Node K V)) w.memory changed.Nothing (sweep_plan hash x) m2 told end) where
+  module _ (hash : K → ℕ) (x : Sweep) (end : Sweep × Swept (Node K V)) (steps : StepsObserved K V (Sweep × Swept (Node K V)) w.memory changed.Nothing (sweep_plan hash x) m2 told end) where
     abbrev SweepAt : Sweeping → Type 0
-    SweepAt p = StepsTold K V (Sweep × Swept (Node K V)) w.memory changed.Nothing (sweeps.plan_at {V = V} hash x p) m2 told end
+    SweepAt p = StepsObserved K V (Sweep × Swept (Node K V)) w.memory changed.Nothing (sweeps.plan_at {V = V} hash x p) m2 told end
 
-    abbrev SweepTo : Option Due → Sweep × Swept (Node K V) → Type 0
+    abbrev SweepTo : Option RowObligation → Sweep × Swept (Node K V) → Type 0
     SweepTo before e = TellsDue before (due_in_sweeping e.0.stands)
 
     further_none : due_in_sweeping (points.further x).stands ≡ None
@@ -307,14 +307,14 @@ module _ {K V : Type 0} {size : ℕ} (w : World (Node K V)) (r : Reached deferre
         points_none true a b e f = e
         points_none false a b e f = f
 
-    disposed_sweep : (before : Option Due) (q : Dispose × Settled (Node K V)) → TellsDue before (due_in_disposing q.0.stands) → (q.1 ≡ settled.Done → due_in_disposing q.0.stands ≡ None)
+    disposed_sweep : (before : Option RowObligation) (q : Dispose × Settled (Node K V)) → TellsDue before (due_in_disposing q.0.stands) → (q.1 ≡ settled.Done → due_in_disposing q.0.stands ≡ None)
         → SweepTo before (sweeps.disposed x q)
     disposed_sweep before (d, settled.Goes) tells done = tells
     disposed_sweep before (d, settled.Waits) tells done = tells
     disposed_sweep before (d, settled.Gave value) tells done = tells
     disposed_sweep before (d, settled.Done) tells done = spent before (due_in_disposing d.stands) (due_in_sweeping (points.further x).stands) (further_none ∙ sym (done refl)) tells
 
-    copied_sweep : (before : Option Due) (q : Copier × Yielding (Node K V) Table) → TellsDue before (due_in_copying q.0.stands) → GoesOn q.1 → SweepTo before (sweeps.copied x q)
+    copied_sweep : (before : Option RowObligation) (q : Copier × Yielding (Node K V) Table) → TellsDue before (due_in_copying q.0.stands) → GoesOn q.1 → SweepTo before (sweeps.copied x q)
     copied_sweep before (c, outcome.Goes) tells goes = tells
     copied_sweep before (c, outcome.Waits) tells goes = tells
     copied_sweep before (c, outcome.Gave value) tells goes = tells
@@ -336,7 +336,7 @@ module _ {K V : Type 0} {size : ℕ} (w : World (Node K V)) (r : Reached deferre
         by _ its st = absurd its
 
 module _ {K V : Type 0} (same : K → K → Bool) (hash : ℕ → K → ℕ) (name : ℕ → List ℕ) (m : Moment K V) (known : Known) (s : Scene K V) (old new : Held K V) (at_old : IsAt same hash old s)
-    (shown : Shows same name m known s) (rows : ShowsRows s) (entries : ShowsEntries s) (owning : OwnAreMade known s.world) (map i : ℕ) (u : UnderWay K V K) (under_way : s.calls map i ≡ Some u) (said : Progress (Node K V))
+    (shown : Refines same name m known s) (rows : RowsReclaimNone s) (entries : EntriesAreBlank s) (owning : OwnAreMade known s.world) (map i : ℕ) (u : UnderWay K V K) (under_way : s.calls map i ≡ Some u) (said : Progress (Node K V))
     (leads : StepLeads same hash i said s old new) where
   abbrev to : WentTo same hash name m known s old new at_old shown map i u under_way said leads
   to = went_to same hash name m known s old new at_old shown map i u under_way said leads
@@ -387,7 +387,7 @@ module _ {K V : Type 0} (same : K → K → Bool) (hash : ℕ → K → ℕ) (na
   key_tells x is row =
       let inner = told_in old.memory new.memory told of_key (call_plan same same to.0.hash x.call) (to.1, said) (stepped (OnKey x) is) in
       of_machine (OnKey x) (kinds.Key inner.0.0) (ap (λ (z : Machine K V K × Progress (Node K V)). z.0) inner.1)
-      (call_row s.world r i map known new.memory told entries.blank (rows.none map i u under_way) (entries.one map i u under_way) tables_are same same to.0.hash x.call inner.0 (subst (λ (k : Mem (Node K V)). StepsTold K V (KeyCall K V K × Called (Node K V)) k changed.Nothing (call_plan same same to.0.hash x.call) new.memory told inner.0) (sym at_old.memory) inner.2) its)
+      (call_row s.world r i map known new.memory told entries.blank (rows.none map i u under_way) (entries.one map i u under_way) tables_are same same to.0.hash x.call inner.0 (subst (λ (k : Mem (Node K V)). StepsObserved K V (KeyCall K V K × Called (Node K V)) k changed.Nothing (call_plan same same to.0.hash x.call) new.memory told inner.0) (sym at_old.memory) inner.2) its)
     where
       its : CallingIs s.world i x.call.stands
       its = elim (each.stand i (OnKey x) (under_way ∙ ap Some is)) as (λ _. CallingIs s.world i x.call.stands) [
@@ -402,7 +402,7 @@ module _ {K V : Type 0} (same : K → K → Bool) (hash : ℕ → K → ℕ) (na
   room_tells x is row =
       let inner = told_in old.memory new.memory told of_room (reserve_plan to.0.hash x.reserve) (to.1, said) (stepped (ForRoom x) is) in
       of_machine (ForRoom x) (kinds.Reserve inner.0.0) (ap (λ (z : Machine K V K × Progress (Node K V)). z.0) inner.1)
-      (room_row s.world r i map known new.memory told entries.blank (rows.none map i u under_way) (entries.one map i u under_way) tables_are to.0.hash x.reserve inner.0 (subst (λ (k : Mem (Node K V)). StepsTold K V (Reserve × Yielding (Node K V) Unit) k changed.Nothing (reserve_plan to.0.hash x.reserve) new.memory told inner.0) (sym at_old.memory) inner.2) its)
+      (room_row s.world r i map known new.memory told entries.blank (rows.none map i u under_way) (entries.one map i u under_way) tables_are to.0.hash x.reserve inner.0 (subst (λ (k : Mem (Node K V)). StepsObserved K V (Reserve × Yielding (Node K V) Unit) k changed.Nothing (reserve_plan to.0.hash x.reserve) new.memory told inner.0) (sym at_old.memory) inner.2) its)
     where
       its : ReservingIs s.world i x.reserve.stands
       its = elim (each.stand i (ForRoom x) (under_way ∙ ap Some is)) as (λ _. ReservingIs s.world i x.reserve.stands) [
@@ -417,7 +417,7 @@ module _ {K V : Type 0} (same : K → K → Bool) (hash : ℕ → K → ℕ) (na
   over_all_tells x is row =
       let inner = told_in old.memory new.memory told of_sweep (sweep_plan to.0.hash x.sweep) (to.1, said) (stepped (OverAll x) is) in
       of_machine (OverAll x) (kinds.Sweep inner.0.0) (ap (λ (z : Machine K V K × Progress (Node K V)). z.0) inner.1)
-      (sweep_row s.world r i map known new.memory told entries.blank (rows.none map i u under_way) (entries.one map i u under_way) tables_are to.0.hash x.sweep inner.0 (subst (λ (k : Mem (Node K V)). StepsTold K V (Sweep × Swept (Node K V)) k changed.Nothing (sweep_plan to.0.hash x.sweep) new.memory told inner.0) (sym at_old.memory) inner.2) its)
+      (sweep_row s.world r i map known new.memory told entries.blank (rows.none map i u under_way) (entries.one map i u under_way) tables_are to.0.hash x.sweep inner.0 (subst (λ (k : Mem (Node K V)). StepsObserved K V (Sweep × Swept (Node K V)) k changed.Nothing (sweep_plan to.0.hash x.sweep) new.memory told inner.0) (sym at_old.memory) inner.2) its)
     where
       its : SweepingIs s.world i x.sweep.stands
       its = elim (each.stand i (OverAll x) (under_way ∙ ap Some is)) as (λ _. SweepingIs s.world i x.sweep.stands) [

@@ -30,7 +30,7 @@ use Rattle.run_places.specs.Given.TablesDeclared.node.Node.{Node}
 use Rattle.run_places.specs.Given.TablesDeclared.node.Node.TheVariants as node
 use Rattle.run_places.specs.Given.TablesDeclared.table_words.TheConstants.{DEFERRED}
 use Rattle.run_places.specs.Given.RunsDeclared.effect.TableId.{TableId}
-use Rattle.run_places.specs.Given.TellerTells.{StepsTold}
+use Rattle.run_places.specs.Given.TellerTells.{StepsObserved}
 use Rattle.run_places.specs.Given.EffectsDeclared.changed.Changed.{Changed}
 use Rattle.run_places.specs.Given.EffectsDeclared.changed.Changed.TheVariants as changed
 use Rattle.run_places.specs.Given.EffectsEffects.{carried, in_block, named, names_same}
@@ -69,13 +69,13 @@ word_of_list (Some _) d is = absurd (cc is)
 
 module _ {K V : Type 0} {size : ℕ} (w : World (Node K V)) (r : Reached deferred_word size w) (i caller map : ℕ) (known : Known) (m2 : Mem (Node K V)) (told : Changed) (s : ℕ) (c : Defer)
     (fits : FitsDefer (LAST_SLOT + 1) i (view deferred_word w.memory) r.good.state r.good.extra s c.block c.table_word c.stands) (end : Defer × Advance Unit)
-    (steps : StepsTold K V (Defer × Advance Unit) w.memory changed.Nothing (plans.defer_plan c) m2 told end)
+    (steps : StepsObserved K V (Defer × Advance Unit) w.memory changed.Nothing (plans.defer_plan c) m2 told end)
     (tables : AreTables w.memory r.good.state.life known) where
   abbrev m : State
   m = r.good.state
 
   abbrev SteppedAt : Deferring → Type 0
-  SteppedAt p = StepsTold K V (Defer × Advance Unit) w.memory changed.Nothing (plans.plan_at {T = Node K V} c p) m2 told end
+  SteppedAt p = StepsObserved K V (Defer × Advance Unit) w.memory changed.Nothing (plans.plan_at {T = Node K V} c p) m2 told end
 
   abbrev FitsHere : Deferring → Type 0
   FitsHere p = FitsDefer (LAST_SLOT + 1) i (view deferred_word w.memory) m r.good.extra s c.block c.table_word p

@@ -54,13 +54,13 @@ use Rattle.run_places.specs.Given.ResizeDeclared.dispose.Disposing.TheVariants a
 use Rattle.run_places.specs.Given.ResizeDeclared.yielding.Yielding.{Yielding}
 use Rattle.run_places.specs.Given.ResizeDeclared.yielding.Yielding.TheVariants as outcome
 use Rattle.run_places.specs.Given.RunsDeclared.effect.Effect.{Effect}
-use Rattle.run_places.specs.Given.TellerTells.{StepsTold}
+use Rattle.run_places.specs.Given.TellerTells.{StepsObserved}
 use Rattle.run_places.specs.Given.EffectsDeclared.changed.Changed.{Changed}
 use Rattle.run_places.specs.Given.EffectsDeclared.changed.Changed.TheVariants as changed
 use Rattle.run_places.specs.Given.EffectsKnown.{Known}
 use Rattle.run_places.specs.Hands.Rows.{SettlesAside, ReclaimsNone}
 use Rattle.run_places.proofs.Given.OthersOutcomes.{told_in}
-use Rattle.run_debts.specs.Due.{Due, ToPut, due_in_settle, due_in_defer, due_in_disposing, due_in_copying, RowTells, TellsNone}
+use Rattle.run_debts.specs.Due.{RowObligation, ToPut, due_in_settle, due_in_defer, due_in_disposing, due_in_copying, RowTells, TellsNone}
 use Rattle.run_debts.specs.Entries.{IsSomebodys, IsBlank, OneAt, RetiresOne}
 use Rattle.run_debts.proofs.DueDefers.{AreTables, defer_tells}
 use Rattle.run_debts.proofs.DueSettles.{effects_by, settle_tells}
@@ -111,12 +111,12 @@ module _ {K V : Type 0} {size : ℕ} (w : World (Node K V)) (r : Reached deferre
   abbrev effects : List Effect
   effects = effects_by i map known told
 
-  abbrev pub Tells : Option Due → Option Due → Type 0
+  abbrev pub Tells : Option RowObligation → Option RowObligation → Type 0
   Tells before after = RowTells i map known effects before after
 
   -- retiring
 
-  module _ (c : Settle) (end : Settle × Settled (Node K V)) (steps : StepsTold K V (Settle × Settled (Node K V)) w.memory changed.Nothing (settle_plan deferred_word c) m2 told end) where
+  module _ (c : Settle) (end : Settle × Settled (Node K V)) (steps : StepsObserved K V (Settle × Settled (Node K V)) w.memory changed.Nothing (settle_plan deferred_word c) m2 told end) where
     abbrev SettleGoes : Type 0
     SettleGoes = Tells (due_in_settle c c.stands) (due_in_settle end.0 end.0.stands) × (end.1 ≡ settled.Done → due_in_settle end.0 end.0.stands ≡ None)
 
@@ -147,7 +147,7 @@ module _ {K V : Type 0} {size : ℕ} (w : World (Node K V)) (r : Reached deferre
         by : (q : Bool) → is_over c.stands ≡ q → due_in_settle end.0 end.0.stands ≡ None
         by true e =
             let stands = over_is c.stands e in
-            let st = subst (λ (p : Settling). StepsTold K V (Settle × Settled (Node K V)) w.memory changed.Nothing (plan_at deferred_word c p) m2 told end) stands steps in
+            let st = subst (λ (p : Settling). StepsObserved K V (Settle × Settled (Node K V)) w.memory changed.Nothing (plan_at deferred_word c p) m2 told end) stands steps in
             ap (λ (q : Settle × Settled (Node K V)). due_in_settle q.0 q.0.stands) st.1 ∙ ap (due_in_settle c) stands
         by false e =
             let went = settle_steps deferred_word n i w.memory m2 m r.good.extra c end refl (words_good deferred_word n w r.good) r.good.inv r.good.shows c.stands refl e (fits is)
@@ -156,13 +156,13 @@ module _ {K V : Type 0} {size : ℕ} (w : World (Node K V)) (r : Reached deferre
 
     -- as it begins it only looks
     sees_on : c.stands ≡ at.Sees → IsGoing end.1
-    sees_on stands = by (subst (λ (p : Settling). StepsTold K V (Settle × Settled (Node K V)) w.memory changed.Nothing (plan_at deferred_word c p) m2 told end) stands steps)
+    sees_on stands = by (subst (λ (p : Settling). StepsObserved K V (Settle × Settled (Node K V)) w.memory changed.Nothing (plan_at deferred_word c p) m2 told end) stands steps)
       where
         found : (word : ℕ) (q : Bool) → Ends (value_at m2) (if q then Now (c, settled.Waits) else plans.to (record c { last = word; stands = at.Holds })) end → IsGoing end.1
         found word true e = subst (λ (x : Settle × Settled (Node K V)). IsGoing x.1) (sym e) tt
         found word false e = subst (λ (x : Settle × Settled (Node K V)). IsGoing x.1) (sym e) tt
 
-        by : StepsTold K V (Settle × Settled (Node K V)) w.memory changed.Nothing (plan_at deferred_word c at.Sees) m2 told end → IsGoing end.1
+        by : StepsObserved K V (Settle × Settled (Node K V)) w.memory changed.Nothing (plan_at deferred_word c at.Sees) m2 told end → IsGoing end.1
         by (Found word, (took, told_so), ends) = found word (word == HELD) ends
         by (Stored, (took, told_so), ends) = absurd took.0
         by (Exchanged x, (took, told_so), ends) = absurd took.0
@@ -191,12 +191,12 @@ module _ {K V : Type 0} {size : ℕ} (w : World (Node K V)) (r : Reached deferre
 
   -- putting behind
 
-  module _ (c : Defer) (end : Defer × Advance Unit) (steps : StepsTold K V (Defer × Advance Unit) w.memory changed.Nothing (defer_plan c) m2 told end) where
+  module _ (c : Defer) (end : Defer × Advance Unit) (steps : StepsObserved K V (Defer × Advance Unit) w.memory changed.Nothing (defer_plan c) m2 told end) where
     abbrev DeferGoes : Type 0
     DeferGoes = Tells (due_in_defer c c.stands) (due_in_defer end.0 end.0.stands)
 
     abbrev DeferAt : Deferring → Type 0
-    DeferAt p = StepsTold K V (Defer × Advance Unit) w.memory changed.Nothing (defers.plan_at {T = Node K V} c p) m2 told end
+    DeferAt p = StepsObserved K V (Defer × Advance Unit) w.memory changed.Nothing (defers.plan_at {T = Node K V} c p) m2 told end
 
     begun_on : c.stands ≡ deferring.Reads → DeferGoes
     begun_on stands = by (subst DeferAt stands steps)
@@ -242,27 +242,27 @@ module _ {K V : Type 0} {size : ℕ} (w : World (Node K V)) (r : Reached deferre
         by (deferring.Pushes head) stands (Roomed x, (took, told_so), ends) = absurd took.0
 
   -- where what it has in hand after it is the same
-  as_after : (before after after2 : Option Due) → after2 ≡ after → Tells before after → Tells before after2
+  as_after : (before after after2 : Option RowObligation) → after2 ≡ after → Tells before after → Tells before after2
   as_after before after after2 e tells = subst (Tells before) (sym e) tells
 
   -- within a disposal
-  module _ (d : Dispose) (end : Dispose × Settled (Node K V)) (steps : StepsTold K V (Dispose × Settled (Node K V)) w.memory changed.Nothing (dispose_plan d) m2 told end) where
+  module _ (d : Dispose) (end : Dispose × Settled (Node K V)) (steps : StepsObserved K V (Dispose × Settled (Node K V)) w.memory changed.Nothing (dispose_plan d) m2 told end) where
     abbrev DisposeAt : Disposing → Type 0
-    DisposeAt p = StepsTold K V (Dispose × Settled (Node K V)) w.memory changed.Nothing (disposes.plan_at {K = K} {V = V} d p) m2 told end
+    DisposeAt p = StepsObserved K V (Dispose × Settled (Node K V)) w.memory changed.Nothing (disposes.plan_at {K = K} {V = V} d p) m2 told end
 
     abbrev DisposeGoes : Disposing → Type 0
     DisposeGoes p = Tells (due_in_disposing p) (due_in_disposing end.0.stands) × (end.1 ≡ settled.Done → due_in_disposing end.0.stands ≡ None)
 
-    abbrev GoesTo : Option Due → Dispose × Settled (Node K V) → Type 0
+    abbrev GoesTo : Option RowObligation → Dispose × Settled (Node K V) → Type 0
     GoesTo before e = Tells before (due_in_disposing e.0.stands) × (e.1 ≡ settled.Done → due_in_disposing e.0.stands ≡ None)
 
-    settles_to : (before : Option Due) (q : Settle × Settled (Node K V)) → Tells before (due_in_settle q.0 q.0.stands) → (q.1 ≡ settled.Done → due_in_settle q.0 q.0.stands ≡ None) → GoesTo before (disposes.settled d q)
+    settles_to : (before : Option RowObligation) (q : Settle × Settled (Node K V)) → Tells before (due_in_settle q.0 q.0.stands) → (q.1 ≡ settled.Done → due_in_settle q.0 q.0.stands ≡ None) → GoesTo before (disposes.settled d q)
     settles_to before (c, settled.Goes) tells done = (tells, λ e. absurd (cc e))
     settles_to before (c, settled.Waits) tells done = (tells, λ e. absurd (cc e))
     settles_to before (c, settled.Gave value) tells done = (tells, λ e. absurd (cc e))
     settles_to before (c, settled.Done) tells done = (as_after before (due_in_settle c c.stands) None (sym (done refl)) tells, λ e. refl)
 
-    defers_to : (before : Option Due) (c : Defer) (o : Advance Unit) → Tells before (due_in_defer c c.stands) → EndsNone c o → GoesTo before (disposes.deferred d (c, o))
+    defers_to : (before : Option RowObligation) (c : Defer) (o : Advance Unit) → Tells before (due_in_defer c c.stands) → EndsNone c o → GoesTo before (disposes.deferred d (c, o))
     defers_to before c progress.Goes tells done = (tells, λ e. absurd (cc e))
     defers_to before c progress.Waits tells done = (tells, λ e. absurd (cc e))
     defers_to before c (progress.Done x) tells done = (as_after before (due_in_defer c c.stands) None (sym done) tells, λ e. refl)
@@ -285,14 +285,14 @@ module _ {K V : Type 0} {size : ℕ} (w : World (Node K V)) (r : Reached deferre
         by disposing.Over is st = absurd is
 
   -- within a copier
-  module _ (hash : K → ℕ) (c : Copier) (end : Copier × Yielding (Node K V) Table) (steps : StepsTold K V (Copier × Yielding (Node K V) Table) w.memory changed.Nothing (copier_plan hash c) m2 told end) where
+  module _ (hash : K → ℕ) (c : Copier) (end : Copier × Yielding (Node K V) Table) (steps : StepsObserved K V (Copier × Yielding (Node K V) Table) w.memory changed.Nothing (copier_plan hash c) m2 told end) where
     abbrev CopierAt : Copying → Type 0
-    CopierAt p = StepsTold K V (Copier × Yielding (Node K V) Table) w.memory changed.Nothing (copiers.plan_at {V = V} hash c p) m2 told end
+    CopierAt p = StepsObserved K V (Copier × Yielding (Node K V) Table) w.memory changed.Nothing (copiers.plan_at {V = V} hash c p) m2 told end
 
-    abbrev CopiesTo : Option Due → Copier × Yielding (Node K V) Table → Type 0
+    abbrev CopiesTo : Option RowObligation → Copier × Yielding (Node K V) Table → Type 0
     CopiesTo before e = Tells before (due_in_copying e.0.stands) × GoesOn e.1
 
-    abbrev RetiredTo : Option Due → ℕ → Settle × Settled (Node K V) → Type 0
+    abbrev RetiredTo : Option RowObligation → ℕ → Settle × Settled (Node K V) → Type 0
     RetiredTo before rest q = CopiesTo before (retired c rest q)
 
     table_none : (rest : ℕ) → due_in_copying (table_retired c rest).stands ≡ None
@@ -302,7 +302,7 @@ module _ {K V : Type 0} {size : ℕ} (w : World (Node K V)) (r : Reached deferre
         by true = refl
         by false = refl
 
-    retires_to : (before : Option Due) (rest : ℕ) (q : Settle × Settled (Node K V)) → Tells before (due_in_settle q.0 q.0.stands) → (q.1 ≡ settled.Done → due_in_settle q.0 q.0.stands ≡ None) → RetiredTo before rest q
+    retires_to : (before : Option RowObligation) (rest : ℕ) (q : Settle × Settled (Node K V)) → Tells before (due_in_settle q.0 q.0.stands) → (q.1 ≡ settled.Done → due_in_settle q.0 q.0.stands ≡ None) → RetiredTo before rest q
     retires_to before rest (s, settled.Goes) tells done = (tells, tt)
     retires_to before rest (s, settled.Waits) tells done = (tells, tt)
     retires_to before rest (s, settled.Gave value) tells done = (tells, tt)

@@ -20,7 +20,7 @@ use Rattle.run_places.specs.Given.TablesDeclared.node.Node.{Node}
 use Rattle.run_places.specs.Given.RunsDeclared.effect.Effect.{Effect}
 use Rattle.run_places.specs.Given.RunsDeclared.effect.Effect.TheVariants as effect
 use Rattle.run_places.specs.Given.RunsDeclared.effect.Thing.TheVariants.{APair, ATable}
-use Rattle.run_places.specs.Given.TellerTells.{told_of, StepsTold}
+use Rattle.run_places.specs.Given.TellerTells.{observed_of, StepsObserved}
 use Rattle.run_places.specs.Given.EffectsDeclared.changed.Changed.{Changed}
 use Rattle.run_places.specs.Given.EffectsDeclared.changed.Changed.TheVariants as changed
 use Rattle.run_places.specs.Given.TellsSeen.{word_or, seen_of}
@@ -30,7 +30,7 @@ use Rattle.run_places.specs.Given.EffectsDeclared.acting.Acting.TheVariants as a
 use Rattle.run_places.specs.Given.EffectsDeclared.role.Role.{Role}
 use Rattle.run_places.specs.Given.EffectsDeclared.role.Role.TheVariants as role
 use Rattle.run_places.specs.Hands.Rows.{IsAside, SettlesAside}
-use Rattle.run_debts.specs.Due.{ToRetire, due_in_settle, told_retired, RowTells, TellsNone, TellsRetired}
+use Rattle.run_debts.specs.Due.{ToRetire, due_in_settle, retired_effects, RowTells, TellsNone, TellsRetired}
 use Rattle.run_debts.specs.Entries.{IsBlank, OneAt}
 use Rattle.run_debts.proofs.EntrySettles.{goes_one}
 use Rattle.run_places.proofs.Given.ScenesTold.{as_step}
@@ -77,7 +77,7 @@ module _ (caller map : ℕ) (known : Known) where
   wrote_none (name.Word b field) old new quiet = absurd quiet
 
   module _ {K V : Type 0} where
-    op_none : (m : Mem (Node K V)) (op : Op (Node K V)) (out : Out (Node K V)) → IsQuietOp op → effects_by (told_of op out (seen_of m op out)) ≡ []
+    op_none : (m : Mem (Node K V)) (op : Op (Node K V)) (out : Out (Node K V)) → IsQuietOp op → effects_by (observed_of op out (seen_of m op out)) ≡ []
     op_none m (Load at) out quiet = refl
     op_none m (Store at word) out quiet = wrote_none at _ _ quiet
     op_none m (Swap at word) (Found before) quiet = wrote_none at _ _ quiet
@@ -95,7 +95,7 @@ module _ (caller map : ℕ) (known : Known) where
     op_none m (Room bucket) out quiet = absurd quiet
 
     -- a plan that writes such words alone tells nothing
-    pub plan_none : {R : Type 0} (m m2 : Mem (Node K V)) (told : Changed) (plan : Plan (Node K V) R) (end : R) → StepsTold K V R m changed.Nothing plan m2 told end → IsQuietPlan plan → effects_by told ≡ []
+    pub plan_none : {R : Type 0} (m m2 : Mem (Node K V)) (told : Changed) (plan : Plan (Node K V) R) (end : R) → StepsObserved K V R m changed.Nothing plan m2 told end → IsQuietPlan plan → effects_by told ≡ []
     plan_none m m2 told (Turn rest) end steps quiet = ap effects_by steps.2
     plan_none m m2 told (Do op rest) end steps quiet = ap effects_by steps.1.1 ∙ op_none m op steps.0 quiet
 
@@ -162,9 +162,9 @@ module _ (word : ℕ) where
 
 module _ {K V : Type 0} (caller map : ℕ) (known : Known) (m m2 : Mem (Node K V)) (told : Changed) (c : Settle) (end : Settle × Settled (Node K V)) (aside : SettlesAside c) (one : OneAt (IsBlank m) c c.stands)
     (named : (block : ℕ) → c.stands ≡ at.Batches block → block_in c.first ≢ 0)
-    (steps : StepsTold K V (Settle × Settled (Node K V)) m changed.Nothing (plans.settle_plan deferred_word c) m2 told end) where
+    (steps : StepsObserved K V (Settle × Settled (Node K V)) m changed.Nothing (plans.settle_plan deferred_word c) m2 told end) where
   abbrev SteppedAt : Settling → Type 0
-  SteppedAt p = StepsTold K V (Settle × Settled (Node K V)) m changed.Nothing (plans.plan_at deferred_word c p) m2 told end
+  SteppedAt p = StepsObserved K V (Settle × Settled (Node K V)) m changed.Nothing (plans.plan_at deferred_word c p) m2 told end
 
   -- so it goes on
   abbrev Goes : Settling → Type 0
@@ -210,10 +210,10 @@ module _ {K V : Type 0} (caller map : ℕ) (known : Known) (m m2 : Mem (Node K V
       differ : names_same 0 c.first ≡ false
       differ = ne_eqb (block_in 0) (block_in c.first) (λ e. some (sym e))
 
-      by : (r : Role) → (if names_same 0 c.first then [] else batched (acts.Call caller map) FIRST r) ≡ told_retired r
+      by : (r : Role) → (if names_same 0 c.first then [] else batched (acts.Call caller map) FIRST r) ≡ retired_effects r
       by r = ap (λ (q : Bool). if q then [] else batched (acts.Call caller map) FIRST r) differ ∙ role_told r
         where
-          role_told : (x : Role) → batched (acts.Call caller map) FIRST x ≡ told_retired x
+          role_told : (x : Role) → batched (acts.Call caller map) FIRST x ≡ retired_effects x
           role_told (role.Pair n) = refl
           role_told (role.Table t len) = refl
           role_told _ = refl

@@ -32,7 +32,7 @@ use Rattle.run_places.specs.Given.ResizeDeclared.yielding.Yielding.TheVariants a
 use Rattle.run_places.specs.Given.RawAnswers.{ended}
 use Rattle.run_places.specs.Given.RawCall.{made, makes_of, root_found, next_found, dropped, key_read, pair_read, word_read, word_found, tried, looked, looks_for, first_made, next_made, helped, copied, disposed, plan_at, call_plan}
 use Rattle.run_places.specs.Given.RawCallFills.{filled, putting_by, fill_by, emptied, fills_with, given_up}
-use Rattle.run_places.specs.Given.RawCallPoints.{going, over, ending, storing, burying, at_gap, gap_by, asking_at, pair_by, tableless, at_free, at_last, at_pair, told_of, entering, went_on, changed, having_met}
+use Rattle.run_places.specs.Given.RawCallPoints.{going, over, ending, storing, burying, at_gap, gap_by, asking_at, pair_by, tableless, at_free, at_last, at_pair, after_finding, entering, continued_in, changed, having_met}
 use Rattle.run_places.specs.Given.RawReplies.{value_for, as_own}
 use Rattle.run_places.specs.Given.RawDeclared.machines.answer.Called.{Called}
 use Rattle.run_places.specs.Given.RawDeclared.machines.answer.Called.TheVariants as called
@@ -131,7 +131,7 @@ module _ {K V Q : Type 0} where
     there_ends there.Asks word =
         either (block_in word == p.replies.pair) (pair_by p.replies.present p word) (pair_by tells.Nothing p word) (pair_ends p.replies.present word) (pair_ends tells.Nothing word)
 
-    told_ends : (loaded : Bool) (word : ℕ) (found : Finding) → IsEnded (told_of loaded p word found)
+    told_ends : (loaded : Bool) (word : ℕ) (found : Finding) → IsEnded (after_finding loaded p word found)
     told_ends loaded word finds.Free = free_ends p.missing
     told_ends loaded word finds.Passed =
         passed_so IsEnded (having_met p word) (λ next. tt) tt
@@ -142,7 +142,7 @@ module _ {K V Q : Type 0} where
     told_ends false word finds.Copying = tt
     told_ends loaded word finds.There = there_ends p.there word
 
-    on_ends : (table : Table) → IsEnded (went_on p table)
+    on_ends : (table : Table) → IsEnded (continued_in p table)
     on_ends table =
         either (is_incremental p.setting.mode) _ (going p (at.Copies (copying_all p.setting p.trial.table table))) (either p.helped (entering p table) _ tt tt) tt
 

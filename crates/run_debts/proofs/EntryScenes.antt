@@ -22,11 +22,11 @@ use Rattle.owner_facts.proofs.Given.CallersTogether.Came.{came_reached}
 use Rattle.run_places.specs.Given.EffectsKnown.{Known}
 use Rattle.owner_facts.specs.Given.FinishesFactsEnds.{events_of}
 use Rattle.owner_facts.specs.Given.FinishesMaps.{with_call}
-use Rattle.run_places.specs.Given.FollowsShows.{Shows}
+use Rattle.run_places.specs.Given.FollowsShows.{Refines}
 use Rattle.run_places.proofs.Given.FollowsSteps.{WentTo, went_to, DidSo}
-use Rattle.run_places.specs.Hands.Rows.{ReclaimsNone, ShowsRows}
+use Rattle.run_places.specs.Hands.Rows.{ReclaimsNone, RowsReclaimNone}
 use Rattle.run_places.proofs.Hands.Asking.{which}
-use Rattle.run_debts.specs.Entries.{IsBlank, OneAt, RetiresOne, ShowsEntries, EntriesBegin, CallsKeepEntries, CallsGoOnEntries, RowsBeginEntries, RowsKeepEntries, MakingsKeepEntries, EndingsBeginEntries, EndingsKeepEntries}
+use Rattle.run_debts.specs.Entries.{IsBlank, OneAt, RetiresOne, EntriesAreBlank, EntriesBegin, CallsPreserveEntries, CallsContinueEntries, RowsBeginEntries, RowsPreserveEntries, MakingsPreserveEntries, EndingsBeginEntries, EndingsPreserveEntries}
 use Rattle.run_debts.proofs.EntryUsers.{IsZero, AllZero, event_zeros}
 use Rattle.run_debts.proofs.EntryWorlds.{event_one, step_zeros, step_one, begin_zeros, begin_one, HandsOne, begin_own, own_one}
 use Rattle.run_places.specs.Given.ScenesHeld.{Held, IsAt}
@@ -125,13 +125,13 @@ module _ {K V : Type 0} where
   abbrev HoldsIn : Scene K V → ℕ → World (Node K V) → Type 0
   HoldsIn s size w = Holds deferred_word size (HasCall s) w
 
-  holds_of : (size : ℕ) (s : Scene K V) → ShowsEntries s → HoldsIn s size s.world
+  holds_of : (size : ℕ) (s : Scene K V) → EntriesAreBlank s → HoldsIn s size s.world
   holds_of size s shows = (
     λ b its. as_zero s.world.memory b (shows.blank b its),
     λ j (n, x, is). one_as (IsBlank s.world.memory) (IsZero s.world.memory) (as_zero s.world.memory) (s.world.row j) (shows.one n j x is),
   )
 
-  shows_of : (size : ℕ) (s t : Scene K V) → ((j : ℕ) → HasCall t j → HasCall s j) → HoldsIn s size t.world → ShowsEntries t
+  shows_of : (size : ℕ) (s t : Scene K V) → ((j : ℕ) → HasCall t j → HasCall s j) → HoldsIn s size t.world → EntriesAreBlank t
   shows_of size s t fewer holds = record {
     blank = λ b its. as_blank t.world.memory b (holds.0 b its);
     one = λ n j x is. one_as (IsZero t.world.memory) (IsBlank t.world.memory) (as_blank t.world.memory) (t.world.row j) (holds.1 j (fewer j (n, x, is)));
@@ -141,7 +141,7 @@ pub entries_begin : (K V : Type 0) → EntriesBegin K V
 entries_begin K V roots = record { blank = λ b its. absurd its; one = λ n i u is. absurd (cc is) }
 
 module _ {K V : Type 0} (same : K → K → Bool) (hash : ℕ → K → ℕ) (name : ℕ → List ℕ) (m : Moment K V) (known : Known) (s : Scene K V) (old new : Held K V) (at_old : IsAt same hash old s)
-    (shown : Shows same name m known s) (rows : ShowsRows s) (shows : ShowsEntries s) (map i : ℕ) (u : UnderWay K V K) (here : s.calls map i ≡ Some u) (said : Progress (Node K V)) (leads : StepLeads same hash i said s old new) where
+    (shown : Refines same name m known s) (rows : RowsReclaimNone s) (shows : EntriesAreBlank s) (map i : ℕ) (u : UnderWay K V K) (here : s.calls map i ≡ Some u) (said : Progress (Node K V)) (leads : StepLeads same hash i said s old new) where
   abbrev to : WentTo same hash name m known s old new at_old shown map i u here said leads
   to = went_to same hash name m known s old new at_old shown map i u here said leads
 
@@ -178,15 +178,15 @@ module _ {K V : Type 0} (same : K → K → Bool) (hash : ℕ → K → ℕ) (na
     | inr was ↦ (n, x, was.1)
   ]
 
-  pub call_shows : ShowsEntries (scene_after same s old new map i to.0 u to.1 said to.4)
+  pub call_shows : EntriesAreBlank (scene_after same s old new map i to.0 u to.1 said to.4)
   call_shows = shows_of size s (scene_after same s old new map i to.0 u to.1 said to.4) fewer_after call_holds
 
-pub calls_keep_entries : (K V : Type 0) (same : K → K → Bool) (hash : ℕ → K → ℕ) → CallsKeepEntries K V same hash
+pub calls_keep_entries : (K V : Type 0) (same : K → K → Bool) (hash : ℕ → K → ℕ) → CallsPreserveEntries K V same hash
 calls_keep_entries K V same hash name m known s old new at_old shown rows shows map i u here said leads =
     call_shows same hash name m known s old new at_old shown rows shows map i u here said leads
 
 -- where a call begins, whose row rests, or goes on
-pub calls_go_on_entries : (K V : Type 0) → CallsGoOnEntries K V
+pub calls_go_on_entries : (K V : Type 0) → CallsContinueEntries K V
 calls_go_on_entries K V s shows map i next own = record { blank = shows.blank; one = λ n j x is. one_so n j x is }
   where
     one_so : (n j : ℕ) (x : UnderWay K V K) → with_call s.calls map i next n j ≡ Some x → RetiresOne (IsBlank s.world.memory) (s.world.row j)
@@ -211,20 +211,20 @@ module _ (K V : Type 0) (same : K → K → Bool) (hash : ℕ → K → ℕ) whe
       (begin_holds deferred_word old.batch_size (HasCall s) s.world to.0 (reached s old at_old) i (request_of (slot_of i) called)
       (λ its. absurd (no_call s i leads.1 its)) to.1 (holds_of old.batch_size s shows))
 
-  pub rows_keep_entries : RowsKeepEntries K V same hash
+  pub rows_keep_entries : RowsPreserveEntries K V same hash
   rows_keep_entries s old new at_old shows i told leads row here =
       let to = (leads row here).2 in
       shows_of old.batch_size s (record s { world = to.0; maps = to.2 }) (λ j its. its)
       (step_holds deferred_word old.batch_size (HasCall s) s.world to.0 (reached s old at_old) i (λ its. absurd (no_call s i here.0 its)) to.1 (holds_of old.batch_size s shows))
 
-  pub makings_keep_entries : MakingsKeepEntries K V same hash
+  pub makings_keep_entries : MakingsPreserveEntries K V same hash
   makings_keep_entries s old new at_old shows i told leads b here =
       let step = (leads b here).2.step in
       shows_of old.batch_size s (record s { world = step.w2 }) (λ j its. its)
       (runs_hold deferred_word old.batch_size (HasCall s) step.events s.world step.w2 (reached s old at_old) (all_between step.events step.users) step.runs
       (holds_of old.batch_size s shows))
 
-  pub endings_keep_entries : EndingsKeepEntries K V same hash
+  pub endings_keep_entries : EndingsPreserveEntries K V same hash
   endings_keep_entries s old new at_old shows i told leads f here =
       let ended = (leads f here).2 in
       shows_of old.batch_size s (record s { world = ended.w2 }) (λ j its. its)

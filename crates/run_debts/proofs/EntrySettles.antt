@@ -174,7 +174,7 @@ module _ (Blank : ℕ → Type 0) where
         read_one block left pushed (Found w) = none
         read_one block left pushed _ = stays
 
-        push_one : (block left pushed slot : ℕ) (out : Out T) → AllOf (plans.push_told c block left pushed slot out)
+        push_one : (block left pushed slot : ℕ) (out : Out T) → AllOf (plans.after_push c block left pushed slot out)
         push_one block left pushed slot (Exchanged (Ok w)) = goes_to (plans.pushed_of block left ((pushed + 1) % 2 ^ 64)) (pushed_past block left ((pushed + 1) % 2 ^ 64))
         push_one block left pushed slot (Exchanged (Err w)) =
             either (plans.needs_none c w) (plans.goes c (plans.pushed_of block left pushed)) (plans.to (record c { lost = c.lost + 1; stands = at.Links block left pushed slot w }))

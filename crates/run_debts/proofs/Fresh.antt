@@ -30,7 +30,7 @@ use Rattle.run_places.specs.Given.ResizeDeclared.yielding.Yielding.{Yielding}
 use Rattle.run_places.specs.Given.ResizeDeclared.yielding.Yielding.TheVariants as outcome
 use Rattle.run_places.specs.Given.RawCall.{made, makes_of, root_found, next_found, dropped, key_read, pair_read, word_read, word_found, tried, looked, looks_for, first_made, next_made, helped, copied, plan_at, call_plan}
 use Rattle.run_places.specs.Given.RawCallFills.{filled, putting_by, fill_by, emptied, fills_with, given_up}
-use Rattle.run_places.specs.Given.RawCallPoints.{going, over, ending, storing, burying, at_gap, gap_by, asking_at, pair_by, tableless, at_free, at_last, at_pair, told_of, entering, went_on, changed, having_met}
+use Rattle.run_places.specs.Given.RawCallPoints.{going, over, ending, storing, burying, at_gap, gap_by, asking_at, pair_by, tableless, at_free, at_last, at_pair, after_finding, entering, continued_in, changed, having_met}
 use Rattle.run_places.specs.Given.RawReplies.{value_for, as_own}
 use Rattle.run_places.specs.Given.RawDeclared.machines.answer.Called.{Called}
 use Rattle.run_places.specs.Given.RawDeclared.machines.answer.Called.TheVariants as called
@@ -171,7 +171,7 @@ module _ {K V Q : Type 0} where
     there_fresh there.Asks word =
         either (block_in word == p.replies.pair) (pair_by p.replies.present p word) (pair_by tells.Nothing p word) (pair_fresh p.replies.present word) (pair_fresh tells.Nothing word)
 
-    told_fresh : (loaded : Bool) (word : ℕ) (found : Finding) → IsFresh (told_of loaded p word found)
+    told_fresh : (loaded : Bool) (word : ℕ) (found : Finding) → IsFresh (after_finding loaded p word found)
     told_fresh loaded word finds.Free = free_fresh p.missing
     told_fresh loaded word finds.Passed =
         passed_so IsFresh (having_met p word) (λ next. tt) tt
@@ -182,7 +182,7 @@ module _ {K V Q : Type 0} where
     told_fresh false word finds.Copying = tt
     told_fresh loaded word finds.There = there_fresh p.there word
 
-    on_fresh : (table : Table) → IsFresh (went_on p table)
+    on_fresh : (table : Table) → IsFresh (continued_in p table)
     on_fresh table =
         either (is_incremental p.setting.mode) _ (going p (at.Copies (copying_all p.setting p.trial.table table))) (either p.helped (entering p table) _ tt tt) tt
 

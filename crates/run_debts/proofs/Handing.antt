@@ -12,13 +12,13 @@ use Rattle.run_places.specs.Given.RunsDeclared.effect.Effect.TheVariants as effe
 use Rattle.run_places.specs.Given.RunsDeclared.effect.Thing.{Thing}
 use Rattle.run_places.specs.Given.RunsDeclared.outcome.Outcome.{Outcome}
 use Rattle.run_places.specs.Given.RunsDeclared.outcome.Outcome.TheVariants as outcome
-use Rattle.run_places.specs.Given.SchedulesAfter.{asks_on, comes_to, replied, without_call}
+use Rattle.run_places.specs.Given.SchedulesAfter.{asks_on, with_outcome, replied, without_call}
 use Rattle.run_places.specs.Given.SchedulesBeginning.{fresh_call}
 use Rattle.run_places.specs.Given.SchedulesEffects.{call_by, due_for, out_by, with_effect, with_effects}
 use Rattle.run_places.specs.Given.SchedulesEntry.{ends_call}
 use Rattle.run_places.specs.Given.SchedulesInUse.{is_handing}
 use Rattle.run_places.specs.Given.SchedulesLists.{is_empty}
-use Rattle.run_places.specs.Given.SchedulesMoment.{Stands, Going, Asking, Told as WasTold, IsReady, UnderWay as CallThere, Moment}
+use Rattle.run_places.specs.Given.SchedulesMoment.{CallState, Going, Asking, Told as WasTold, IsReady, UnderWay as CallThere, Moment}
 use Rattle.run_places.specs.Given.SchedulesViews.{call_of}
 use Rattle.run_places.specs.Given.RuleInWorld.{AllUsers}
 use Rattle.owner_facts.specs.Given.CallersTogether.{UnderWay, OnKey, ForRoom, Counting, OverAll}
@@ -26,18 +26,18 @@ use Rattle.owner_facts.proofs.Given.CallersTogether.Users.{events_rows}
 use Rattle.run_places.specs.Given.EffectsEffects.{effects_of}
 use Rattle.run_places.specs.Given.EffectsKnown.{Known}
 use Rattle.run_places.specs.Given.EffectsDeclared.acting.Acting.TheVariants as acts
-use Rattle.run_places.specs.Given.FollowsCalls.{IsCalled, ShowsCalls}
-use Rattle.run_places.specs.Given.FollowsShows.{Shows}
+use Rattle.run_places.specs.Given.FollowsCalls.{IsCalled, RefinesCalls}
+use Rattle.run_places.specs.Given.FollowsShows.{Refines}
 use Rattle.run_places.proofs.Given.FollowsCalling.{apart_back, found_kept, come, come_of_same, replied_same}
 use Rattle.run_places.proofs.Given.FollowsCalls.{IsOfSame, changed, found}
 use Rattle.run_places.proofs.Given.FollowsSteps.{DidSo, WentTo, went_to}
 use Rattle.run_places.proofs.Hands.Asking.{which}
 use Rattle.run_places.proofs.Hands.Calling.{caller_is}
 use Rattle.run_places.proofs.Changes.Changes.{acted_on}
-use Rattle.run_places.specs.Moments.Whole.{ShowsWhole}
+use Rattle.run_places.specs.Moments.Whole.{RefinesWhole}
 use Rattle.run_places.specs.Given.OthersWalks.{given_up}
-use Rattle.run_debts.specs.Hand.{ShowsOwed}
-use Rattle.run_debts.specs.Handing.{HandsTold, CallsBeginHanding, CallsComeToHanding, CallsKeepHanding, CallsTakeHanding, HandingBegins, OthersLeaveHanding, WalksGoOnHanding, WalksStopHanding}
+use Rattle.run_debts.specs.Hand.{RefinesObligations}
+use Rattle.run_debts.specs.Handing.{RowsAreHandingOver, CallsBeginHanding, CallsComeToHanding, CallsPreserveHanding, CallsTakeHanding, HandingBegins, OthersLeaveHanding, WalksPreserveHanding, WalksStopHanding}
 use Rattle.run_debts.proofs.Gains.{others_stay}
 use Rattle.run_debts.proofs.HandingRows.{IsInRow, is_in_row, row_hands}
 use Rattle.run_debts.proofs.Owing.{due_owes}
@@ -90,19 +90,19 @@ module _ {K V : Type 0} where
   all_hand own map (f ∷ fs) m c is e = all_hand own map fs (with_effect (Some own) (Some map) f m) (call_by m f c) (acted_on own map f m c is) (one_hands m f c e)
 
   -- what a call is told, and what it comes to, leaves that as it was
-  replied_hands : (reply : Reply V) (c : CallThere K V) (stands : Stands) → is_handing (replied reply c stands) ≡ is_handing c
+  replied_hands : (reply : Reply V) (c : CallThere K V) (stands : CallState) → is_handing (replied reply c stands) ≡ is_handing c
   replied_hands reply c Going = refl
   replied_hands reply c (Asking q) = refl
   replied_hands reply c WasTold = refl
   replied_hands reply c IsReady = refl
 
-  asks_hands : (question : Option ℕ) (c : CallThere K V) (stands : Stands) → is_handing (asks_on question c stands) ≡ is_handing c
+  asks_hands : (question : Option ℕ) (c : CallThere K V) (stands : CallState) → is_handing (asks_on question c stands) ≡ is_handing c
   asks_hands question c Going = refl
   asks_hands question c (Asking q) = refl
   asks_hands question c WasTold = refl
   asks_hands question c IsReady = refl
 
-  comes_hands : (o : Outcome V) (c : CallThere K V) → is_handing (comes_to o c) ≡ is_handing c
+  comes_hands : (o : Outcome V) (c : CallThere K V) → is_handing (with_outcome o c) ≡ is_handing c
   comes_hands outcome.Done c = refl
   comes_hands (outcome.Slot n) c = refl
   comes_hands outcome.Goes c = refl
@@ -120,9 +120,9 @@ handing_begins K V roots name map i u is moves c c_is = absurd (cc is)
 
 -- A step of a call.
 module _ {K V : Type 0} (same : K → K → Bool) (hash : ℕ → K → ℕ) (name : ℕ → List ℕ) (m : Moment K V) (known : Known) (s : Scene K V) (old new : Held K V) (at : IsAt same hash old s)
-    (whole : ShowsWhole same name m known s) (owed : ShowsOwed name m known s) (told : HandsTold name m s) (map i : ℕ) (u : UnderWay K V K) (here : s.calls map i ≡ Some u) (said : Progress (Node K V))
+    (whole : RefinesWhole same name m known s) (owed : RefinesObligations name m known s) (told : RowsAreHandingOver name m s) (map i : ℕ) (u : UnderWay K V K) (here : s.calls map i ≡ Some u) (said : Progress (Node K V))
     (leads : StepLeads same hash i said s old new) where
-  abbrev shown : Shows same name m known s
+  abbrev shown : Refines same name m known s
   shown = whole.all.shown
 
   abbrev to : WentTo same hash name m known s old new at shown map i u here said leads
@@ -185,13 +185,13 @@ module _ {K V : Type 0} (same : K → K → Bool) (hash : ℕ → K → ℕ) (na
           let both = whole.all.asked.apart n j map i x u was here names in apart both.0 both.1)
       by c c_is false e = e
 
-  pub kept : HandsTold name v led
+  pub kept : RowsAreHandingOver name v led
   kept n j x is moves d d_is = elim (which s.calls map i to.4.next n j x is) as (λ _. is_handing d ≡ true) [
     | inl it ↦ own_then (λ rests. moves (ap to.4.w2.row it.1 ∙ rests)) d (ap (λ (k : ℕ). call_of (name k) v) (sym it.1) ∙ d_is)
     | inr was ↦ other_then n j x was.0 was.1 moves d d_is
   ]
 
-pub calls_keep_handing : (K V : Type 0) (same : K → K → Bool) (hash : ℕ → K → ℕ) → CallsKeepHanding K V same hash
+pub calls_keep_handing : (K V : Type 0) (same : K → K → Bool) (hash : ℕ → K → ℕ) → CallsPreserveHanding K V same hash
 calls_keep_handing K V same hash name m known s old new at whole owed told map i u here said leads = kept same hash name m known s old new at whole owed told map i u here said leads
 
 -- What is no call leaves it as it was: whose row is under way then is within a row, and was.
@@ -204,14 +204,14 @@ others_leave_handing K V same hash name m v known s t old new at at_then owed to
     was = ap (λ (f : ℕ → ℕ → Option (UnderWay K V K)). f map i) (sym under_way) ∙ is
 
 -- A walk goes on to its next pair,
-pub walks_go_on_handing : (K V : Type 0) (same : K → K → Bool) (hash : ℕ → K → ℕ) → WalksGoOnHanding K V same hash
+pub walks_go_on_handing : (K V : Type 0) (same : K → K → Bool) (hash : ℕ → K → ℕ) → WalksPreserveHanding K V same hash
 walks_go_on_handing K V same hash name m s old new told i leads of u here n j x is moves c c_is = elim (which s.calls of i (Some (leads of u here).0) n j x is) as (λ _. is_handing c ≡ true) [
   | inl it ↦ told of i u here (λ rests. moves (ap s.world.row it.1 ∙ rests)) c (ap (λ (k : ℕ). call_of (name k) m) (sym it.1) ∙ c_is)
   | inr was ↦ told n j x was.1 moves c c_is
 ]
 
 -- The calls that are under way are there, but for that of a name.
-module _ {K V : Type 0} (same : K → K → Bool) (name : ℕ → List ℕ) (m v : Moment K V) (calls : ℕ → ℕ → Option (UnderWay K V K)) (shown : ShowsCalls same name m calls) where
+module _ {K V : Type 0} (same : K → K → Bool) (name : ℕ → List ℕ) (m v : Moment K V) (calls : ℕ → ℕ → Option (UnderWay K V K)) (shown : RefinesCalls same name m calls) where
   fewer : (own : List ℕ) → v.calls ≡ without_call own m.calls → (n j : ℕ) (x : UnderWay K V K) → calls n j ≡ Some x → is_same own (name j) ≡ false
       → (d : CallThere K V) → call_of (name j) v ≡ Some d → call_of (name j) m ≡ Some d
   fewer own calls_are n j x is apart d d_is =
@@ -283,7 +283,7 @@ calls_take_handing K V same name m s shown told of i u here next is_told n j x i
 pub calls_come_to_handing : (K V : Type 0) → CallsComeToHanding K V
 calls_come_to_handing K V same name m s shown told own o steps ended = by (ends_call o) refl
   where
-    by : (q : Bool) → ends_call o ≡ q → HandsTold name (record m { calls = if q then without_call own m.calls else map (λ c. if is_same c.caller own then come o steps c else c) m.calls }) s
+    by : (q : Bool) → ends_call o ≡ q → RowsAreHandingOver name (record m { calls = if q then without_call own m.calls else map (λ c. if is_same c.caller own then come o steps c else c) m.calls }) s
     by true e n j x is moves d d_is = told n j x is moves d (fewer same name m (record m { calls = without_call own m.calls }) s.calls shown own refl n j x is (ended e n j x is) d d_is)
     by false e n j x is moves d d_is =
         let before = one_changed same name m (record m { calls = map (changed (come o steps) (come_of_same o steps) own) m.calls }) s.calls shown (come o steps) (come_of_same o steps) (λ c. comes_hands o (record c { steps = c.steps + steps })) own refl n j x is d d_is in

@@ -30,15 +30,15 @@ use Rattle.owner_facts.specs.Given.CallersOverAll.{row_of_sweep}
 use Rattle.owner_facts.specs.Given.CallersRooms.{row_of_room}
 use Rattle.owner_facts.specs.Given.CallersRows.{row_of_disposal, row_of_copier, row_of}
 use Rattle.owner_facts.specs.Given.CallersSights.{seen_by}
-use Rattle.owner_facts.specs.Given.CallersTogether.{Stands, UnderWay, OnKey, ForRoom, Counting, OverAll, in_slot}
+use Rattle.owner_facts.specs.Given.CallersTogether.{IsAtPoint, UnderWay, OnKey, ForRoom, Counting, OverAll, in_slot}
 use Rattle.run_places.specs.Given.EffectsKnown.{Known}
 use Rattle.run_places.specs.Given.EffectsDeclared.role.Role.{Role}
 use Rattle.run_places.specs.Given.EffectsDeclared.role.Role.TheVariants as role
 use Rattle.owner_facts.specs.Given.FinishesMachines.{machine_of}
 use Rattle.owner_facts.specs.Given.FinishesMaps.{Standing}
 use Rattle.run_debts.specs.Due.{ToRetire, ToPut, due_in_defer, due_in_settle, word_due}
-use Rattle.run_debts.specs.Hand.{in_hand, in_hand_of_call, in_hand_of_room, in_hand_of_sweep, tables_in_hand, thing_as, things_at, IsPairRole, IsTableRole, NotesDue, NotesInHand, NotesOfCall, NotesOfRoom, NotesOfSweep, NotesPair, NotesTables, ShowsOwed}
-use Rattle.run_debts.specs.Handing.{HandsTold}
+use Rattle.run_debts.specs.Hand.{in_hand, in_hand_of_call, in_hand_of_room, in_hand_of_sweep, tables_in_hand, thing_as, things_at, IsPairRole, IsTableRole, NotesDue, NotesPending, NotesOfCall, NotesOfRoom, NotesOfSweep, NotesPair, NotesTables, RefinesObligations}
+use Rattle.run_debts.specs.Handing.{RowsAreHandingOver}
 use Rattle.run_debts.specs.InHand.{pair_in_disposing}
 use Rattle.run_debts.proofs.DueCalls.{CallingIs, ReservingIs, SweepingIs, calling_new, late_calling_new, late_reserving_new, reserving_new, sweeping_new}
 use Rattle.run_debts.proofs.DueRows.{IsPutting, IsSettling, IsToPut, IsToSettle, CopyingIs, DeferIs, DisposingIs, SettleIs}
@@ -162,7 +162,7 @@ module _ {K V : Type 0} (same : K → K → Bool) (hash : ℕ → K → ℕ) (na
   st = its_map.0
 
   abbrev StandsSo : UnderWay K V K → Type 0
-  StandsSo x = Stands V same st.hash same st.setting slot_of s.world st.chart (seen_by st.blocks (st.sights (slot_of i))) i x
+  StandsSo x = IsAtPoint V same st.hash same st.setting slot_of s.world st.chart (seen_by st.blocks (st.sights (slot_of i))) i x
 
   stands : StandsSo u
   stands = (at.together.makings.standing.each map st its_map.1).stand i u here
@@ -180,13 +180,13 @@ module _ {K V : Type 0} (same : K → K → Bool) (hash : ℕ → K → ℕ) (na
       by (OverAll x) (inl there) = absurd (moves there.0)
       by (OverAll x) (inr there) = there.1
 
-  module _ (owed : ShowsOwed name m known s) (hands : HandsTold name m s) (c : CallThere K V) (c_is : call_of (name i) m ≡ Some c) where
+  module _ (owed : RefinesObligations name m known s) (hands : RowsAreHandingOver name m s) (c : CallThere K V) (c_is : call_of (name i) m ≡ Some c) where
     -- about to begin its row
     begins : (x : UnderWay K V K) → u ≡ x → is_empty (in_hand known (machine_of x)) ≡ false → is_handing c ≡ true
     begins x is some = owing_hands c (in_hand known (machine_of x)) (owed.owed map i u here c c_is ∙ ap (λ (y : UnderWay K V K). in_hand known (machine_of y)) is) some
 
-    notes : (x : UnderWay K V K) → u ≡ x → NotesInHand known (machine_of x)
-    notes x is = subst (λ (y : UnderWay K V K). NotesInHand known (machine_of y)) is (owed.noted map i u here)
+    notes : (x : UnderWay K V K) → u ≡ x → NotesPending known (machine_of x)
+    notes x is = subst (λ (y : UnderWay K V K). NotesPending known (machine_of y)) is (owed.noted map i u here)
 
     -- within it
     under_way : (row : Row) → s.world.row i ≡ row → (row ≡ Rests → ⊥) → is_handing c ≡ true

@@ -38,7 +38,7 @@ use Rattle.owner_facts.specs.Given.PointsTold.{IsRowOf, IsRowOfCall}
 use Rattle.owner_facts.specs.Given.LateToldSweeps.{IsRowOfSweep}
 use Rattle.owner_facts.specs.Given.CallersTogether.{OnKey, OverAll}
 use Rattle.run_places.proofs.Given.FollowsSteps.{went_to, DidSo, OfNoRow}
-use Rattle.run_debts.specs.InHand.{pair_in_disposing, pair_in_calling, pair_in_sweeping, CallsHoldTheirs, SweepsTakeInHand, SweepsHoldTheirs}
+use Rattle.run_debts.specs.InHand.{pair_in_disposing, pair_in_calling, pair_in_sweeping, CallsHoldTheirs, SweepsTakePending, SweepsHoldTheirs}
 use Rattle.run_debts.proofs.Keys.{steps}
 use Rattle.run_debts.proofs.Rest.{sweep_takes, steps as sweep_steps}
 use Rattle.run_debts.proofs.Taken.{disposal_word}
@@ -162,7 +162,7 @@ calls_hold_theirs K V same hash name m known s old new at_old shown map i x unde
         (p2, machine_is, it.0, it.1, it.2)
     by (p2, end, machine_is, told_is, inr row) none = absurd none
 
-pub sweeps_take_in_hand : (K V : Type 0) (same : K → K → Bool) (hash : ℕ → K → ℕ) → SweepsTakeInHand K V same hash
+pub sweeps_take_in_hand : (K V : Type 0) (same : K → K → Bool) (hash : ℕ → K → ℕ) → SweepsTakePending K V same hash
 sweeps_take_in_hand K V same hash name m known s old new at_old shown map i x under_way said leads none p are =
     sweep_takes same hash name m known s old new at_old shown map i (OverAll x) under_way said leads x refl
     (went_to same hash name m known s old new at_old shown map i (OverAll x) under_way said leads).4.did none p are

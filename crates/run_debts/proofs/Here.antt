@@ -32,14 +32,14 @@ use Rattle.owner_facts.specs.Given.LateToldSweeps.{IsRowOfSweep}
 use Rattle.owner_facts.specs.Given.CallersOverAll.{CallOverAll, row_of_sweep}
 use Rattle.owner_facts.specs.Given.CallersRooms.{CallForRoom}
 use Rattle.owner_facts.specs.Given.CallersRows.{row_of_disposal, row_of}
-use Rattle.owner_facts.specs.Given.CallersSights.{Sight, seen_by, IsSight}
+use Rattle.owner_facts.specs.Given.CallersSights.{Visible, seen_by, IsVisibility}
 use Rattle.owner_facts.specs.Given.CallersTogether.{CallOnKey, UnderWay, OnKey, ForRoom, OverAll, Together}
 use Rattle.owner_facts.proofs.Given.CallersTogether.Came.{came_reached}
 use Rattle.run_places.specs.Given.EffectsKnown.{Known}
 use Rattle.run_places.specs.Given.EffectsDeclared.role.Role.TheVariants as role
 use Rattle.owner_facts.specs.Given.FinishesMaps.{Standing}
 use Rattle.run_places.specs.Given.FollowsBlocks.{HasRole}
-use Rattle.run_places.specs.Given.FollowsShows.{Shows}
+use Rattle.run_places.specs.Given.FollowsShows.{Refines}
 use Rattle.run_debts.proofs.Aimed.{IsElsewhere, CallsElsewhere, room_aims, late_room_aims, over_all_aims, key_aims, late_key_aims}
 use Rattle.run_debts.proofs.Aims.{AimsAt, DeferringAims, DisposeAims, CopyingAims, ReservingAims, SweepingAims, CallingAims}
 use Rattle.run_places.specs.Given.ScenesHeld.{Held, IsAt}
@@ -50,11 +50,11 @@ abbrev pub IsNoCount : Known → ℕ → Type 0
 IsNoCount known b = (of : ℕ) → known.roles b ≡ role.Counter of → ⊥
 
 module _ {K V : Type 0} (same : K → K → Bool) (hash : ℕ → K → ℕ) (name : ℕ → List ℕ) (m : Moment K V) (known : Known) (s : Scene K V) (old : Held K V) (at : IsAt same hash old s)
-    (shown : Shows same name m known s) (map i : ℕ) (st : Standing K) (there : s.maps map ≡ Some st) (u : UnderWay K V K) (here : s.calls map i ≡ Some u) where
+    (shown : Refines same name m known s) (map i : ℕ) (st : Standing K) (there : s.maps map ≡ Some st) (u : UnderWay K V K) (here : s.calls map i ≡ Some u) where
   abbrev w : World (Node K V)
   w = s.world
 
-  abbrev sight : Sight
+  abbrev sight : Visible
   sight = st.sights (slot_of i)
 
   abbrev seen : Blocks
@@ -63,7 +63,7 @@ module _ {K V : Type 0} (same : K → K → Bool) (hash : ℕ → K → ℕ) (na
   pub each : Together V same st.hash same st.setting slot_of w st.chart st.blocks st.sights (s.calls map)
   each = at.together.makings.standing.each map st there
 
-  pub is_sight : IsInside (w.uses (slot_of i)) → IsSight st.chart st.blocks sight
+  pub is_sight : IsInside (w.uses (slot_of i)) → IsVisibility st.chart st.blocks sight
   is_sight inside = (each.ground.sight (slot_of i) inside).0
 
   -- tables of the map are none

@@ -27,25 +27,25 @@ use Rattle.run_places.specs.Given.RunsDeclared.effect.Effect.{Effect}
 use Rattle.run_places.specs.Given.RunsDeclared.effect.Effect.TheVariants as effect
 use Rattle.run_places.specs.Given.SchedulesLinearizable.{shift_of}
 use Rattle.run_places.specs.Given.SchedulesMoment.{Moment}
-use Rattle.run_places.specs.Given.TellerTells.{StepsTold}
+use Rattle.run_places.specs.Given.TellerTells.{StepsObserved}
 use Rattle.run_places.specs.Given.EffectsDeclared.changed.Changed.{Changed}
 use Rattle.run_places.specs.Given.EffectsDeclared.changed.Changed.TheVariants as changed
 use Rattle.run_places.specs.Given.RuleChart.{Chart}
 use Rattle.run_places.specs.Given.RuleWords.{Blocks}
 use Rattle.run_places.proofs.Given.RuleLaws.{current_is_known}
-use Rattle.owner_facts.specs.Given.PointsFactsCalls.{Change, Unchanged, Seeks, Tells, CallingFacts, Changes}
+use Rattle.owner_facts.specs.Given.PointsFactsCalls.{Change, Unchanged, Seeks, AnswersChange, CallingFacts, Changes}
 use Rattle.owner_facts.specs.Given.PointsTold.{IsRowOfCall}
-use Rattle.owner_facts.specs.Given.LateLateCalls.{LateCalling}
+use Rattle.owner_facts.specs.Given.LateLateCalls.{SupersededCalling}
 use Rattle.owner_facts.specs.Given.CallersSights.{seen_by}
-use Rattle.owner_facts.specs.Given.CallersTogether.{CallOnKey, OnKey, Knows, Stands, IsOneStep, StepTold, Fresh, Late, StepsTogether, change_told, next_of, in_slot}
+use Rattle.owner_facts.specs.Given.CallersTogether.{CallOnKey, OnKey, Knows, IsAtPoint, IsOneStep, StepOutcome, Fresh, Late, StepsTogether, change_observed, next_of, in_slot}
 use Rattle.run_places.specs.Given.EffectsEffects.{names_same, in_block, named, effects_of}
 use Rattle.run_places.specs.Given.EffectsKnown.{Known}
 use Rattle.run_places.specs.Given.EffectsDeclared.acting.Acting.{Acting}
 use Rattle.run_places.specs.Given.EffectsDeclared.acting.Acting.TheVariants as acts
 use Rattle.run_places.specs.Given.EffectsDeclared.role.Role.{Role}
-use Rattle.owner_facts.specs.Given.FinishesEndings.{StepsAmong}
+use Rattle.owner_facts.specs.Given.FinishesEndings.{StepsWithEndings}
 use Rattle.owner_facts.specs.Given.FinishesMaps.{Standing}
-use Rattle.run_places.specs.Given.FollowsShows.{Shows}
+use Rattle.run_places.specs.Given.FollowsShows.{Refines}
 use Rattle.run_places.specs.Given.FollowsSteps.{TakesNone}
 use Rattle.run_places.proofs.Given.FollowsOperations.{LeavesBy, operated_leaves}
 use Rattle.run_places.proofs.Given.FollowsRowSteps.{row_done}
@@ -72,7 +72,7 @@ use Rattle.run_places.specs.Given.ScenesScene.{Scene, slot_of}
 use Rattle.run_places.specs.Given.ScenesStepping.{StepLeads}
 
 module _ {K V : Type 0} (same : K → K → Bool) (hash : ℕ → K → ℕ) (name : ℕ → List ℕ) (m : Moment K V) (known : Known) (s : Scene K V) (old new : Held K V) (at_old : IsAt same hash old s)
-    (shown : Shows same name m known s) (map i : ℕ) (x : CallOnKey K V K) (under_way : s.calls map i ≡ Some (OnKey x)) (said : Progress (Node K V)) (leads : StepLeads same hash i said s old new) where
+    (shown : Refines same name m known s) (map i : ℕ) (x : CallOnKey K V K) (under_way : s.calls map i ≡ Some (OnKey x)) (said : Progress (Node K V)) (leads : StepLeads same hash i said s old new) where
   abbrev to : WentTo same hash name m known s old new at_old shown map i (OnKey x) under_way said leads
   to = went_to same hash name m known s old new at_old shown map i (OnKey x) under_way said leads
 
@@ -97,7 +97,7 @@ module _ {K V : Type 0} (same : K → K → Bool) (hash : ℕ → K → ℕ) (na
   -- of a step that has come to this
   module _ (p2 : KeyCall K V K) (end : Called (Node K V)) (machine_is : to.1 ≡ kinds.Key p2) (told_is : said ≡ of_called end) where
     abbrev Stepped : KeyCall K V K × Called (Node K V) → Type 0
-    Stepped e = StepsTold K V (KeyCall K V K × Called (Node K V)) old.memory changed.Nothing (call_plan same same to.0.hash x.call) new.memory told e
+    Stepped e = StepsObserved K V (KeyCall K V K × Called (Node K V)) old.memory changed.Nothing (call_plan same same to.0.hash x.call) new.memory told e
 
     pub steps : Stepped (p2, end)
     steps = by inner.0 inner.1 inner.2
@@ -137,7 +137,7 @@ module _ {K V : Type 0} (same : K → K → Bool) (hash : ℕ → K → ℕ) (na
         keeps (counts_in_calling x.call.stands) (counts_in_calling p2.stands) beyond.1 none (past beyond.0 ∙ sym (elsewhere_not x.call.stands beyond.1))
 
     -- one that is none of a row
-    module _ (step : StepsAmong V same same old.batch_size old.roots slot_of s.world s.maps s.calls s.makers s.enders map st i x new.memory p2 end) where
+    module _ (step : StepsWithEndings V same same old.batch_size old.roots slot_of s.world s.maps s.calls s.makers s.enders map st i x new.memory p2 end) where
       abbrev pub together : StepsTogether V same st.hash same st.setting slot_of s.world ch st.blocks st.sights (s.calls map) i x new.memory p2 end
       together = step.step
 
@@ -145,7 +145,7 @@ module _ {K V : Type 0} (same : K → K → Bool) (hash : ℕ → K → ℕ) (na
       c2 = together.went.c2
 
       abbrev pub change2 : Change
-      change2 = change_told V same st.hash same st.setting slot_of together.went.told
+      change2 = change_observed V same st.hash same st.setting slot_of together.went.told
 
       its_shifts : Shifts ch c2 (shown.number map) known.stored effects
       its_shifts =
@@ -164,8 +164,8 @@ module _ {K V : Type 0} (same : K → K → Bool) (hash : ℕ → K → ℕ) (na
       abbrev pub ToldOnce : Chart K → Change → Type 0
       ToldOnce after change = ((change ≡ x.change) × (after.current ≡ ch.current)) ⊎ ((x.change ≡ Unchanged) × Changes same st.hash (is_incremental st.setting.mode) x.keys ch after change)
 
-      told_once : {w2 : World (Node K V)} {after : Chart K} {blocks2 : Blocks} → (it : StepTold V same st.hash same st.setting slot_of ch i x p2 end w2 after blocks2)
-          → ToldOnce after (change_told V same st.hash same st.setting slot_of it)
+      told_once : {w2 : World (Node K V)} {after : Chart K} {blocks2 : Blocks} → (it : StepOutcome V same st.hash same st.setting slot_of ch i x p2 end w2 after blocks2)
+          → ToldOnce after (change_observed V same st.hash same st.setting slot_of it)
       told_once (Fresh its) = its.changes
       told_once (Late blocking none its) = inl (sym none, its.same_pairs)
 
@@ -218,10 +218,10 @@ module _ {K V : Type 0} (same : K → K → Bool) (hash : ℕ → K → ℕ) (na
       Together2 e = StepsTogether V same st.hash same st.setting slot_of s.world ch st.blocks st.sights (s.calls map) i x new.memory p2 e
 
       abbrev StatusOf : (e : Called (Node K V)) → Together2 e → Type 0
-      StatusOf e tog = Status (change_told V same st.hash same st.setting slot_of tog.went.told) (counts_in_calling p2.stands)
+      StatusOf e tog = Status (change_observed V same st.hash same st.setting slot_of tog.went.told) (counts_in_calling p2.stands)
 
       on_status : (e : Called (Node K V)) (tog : Together2 e) → IsFreshAt p2.stands
-          → Stands V same st.hash same st.setting slot_of tog.went.w2 tog.went.c2 (seen_by tog.blocks2 (tog.sights2 (slot_of i))) i
+          → IsAtPoint V same st.hash same st.setting slot_of tog.went.w2 tog.went.c2 (seen_by tog.blocks2 (tog.sights2 (slot_of i))) i
           (OnKey (stepped same st.hash same st.setting slot_of s.world ch st.blocks st.sights (s.calls map) i x new.memory p2 e tog)) → StatusOf e tog
       on_status e tog its stands =
           stands_status same st.hash st.setting slot_of tog.went.w2 tog.went.c2 (seen_by tog.blocks2 (tog.sights2 (slot_of i))) i
@@ -292,7 +292,7 @@ module _ {K V : Type 0} (same : K → K → Bool) (hash : ℕ → K → ℕ) (na
 
       -- it counts
       abbrev pub SteppedAt : Calling → Type 0
-      SteppedAt p = StepsTold K V (KeyCall K V K × Called (Node K V)) old.memory changed.Nothing (plan_at same same to.0.hash x.call p) new.memory told (p2, end)
+      SteppedAt p = StepsObserved K V (KeyCall K V K × Called (Node K V)) old.memory changed.Nothing (plan_at same same to.0.hash x.call p) new.memory told (p2, end)
 
       wrote_count : (removed : ℕ) → SteppedAt (at.Counts removed)
           → (o : ℕ) × (told ≡ changed.Wrote (Word x.call.setting.counter (bit_and x.call.setting.slot x.call.setting.mask)) o ((o + count_change removed) % 2 ^ 64))
@@ -324,13 +324,13 @@ module _ {K V : Type 0} (same : K → K → Bool) (hash : ℕ → K → ℕ) (na
 
       -- it is past that
       pub disposing_tells : (dispose : Dispose) (answer : KeyAnswer) → x.call.stands ≡ at.Disposes dispose answer
-          → Tells same st.hash same s.world i (in_slot st.setting (slot_of i)) ch (seen_by st.blocks (st.sights (slot_of i))) x.keys x.change x.change answer
+          → AnswersChange same st.hash same s.world i (in_slot st.setting (slot_of i)) ch (seen_by st.blocks (st.sights (slot_of i))) x.keys x.change x.change answer
       disposing_tells dispose answer is = elim (knew.facts) as
-          (λ _. Tells same st.hash same s.world i (in_slot st.setting (slot_of i)) ch (seen_by st.blocks (st.sights (slot_of i))) x.keys x.change x.change answer) [
+          (λ _. AnswersChange same st.hash same s.world i (in_slot st.setting (slot_of i)) ch (seen_by st.blocks (st.sights (slot_of i))) x.keys x.change x.change answer) [
             | inl facts ↦
                 (subst (λ (p : Calling). CallingFacts same st.hash same s.world i (in_slot st.setting (slot_of i)) ch (seen_by st.blocks (st.sights (slot_of i))) x.keys x.change x.call p) is facts.point).1
             | inr late ↦
-                absurd (subst (λ (p : Calling). LateCalling same st.hash same s.world i (in_slot st.setting (slot_of i)) ch (seen_by st.blocks (st.sights (slot_of i))) x.keys x.began x.call p) is late.1.point)
+                absurd (subst (λ (p : Calling). SupersededCalling same st.hash same s.world i (in_slot st.setting (slot_of i)) ch (seen_by st.blocks (st.sights (slot_of i))) x.keys x.began x.call p) is late.1.point)
           ]
 
       disposing_goes : (dispose : Dispose) (answer : KeyAnswer) → x.call.stands ≡ at.Disposes dispose answer → Goes before_counts after_counts

@@ -13,7 +13,7 @@ use Rattle.run_places.specs.Given.RunsDeclared.effect.TableId.{TableId}
 use Rattle.run_places.specs.Given.RunsDeclared.effect.Thing.{Thing}
 use Rattle.run_places.specs.Given.SchedulesLinearizable.{shift_of}
 use Rattle.run_places.specs.Given.SchedulesMoment.{Moment}
-use Rattle.run_places.specs.Given.TellerTells.{StepsTold}
+use Rattle.run_places.specs.Given.TellerTells.{StepsObserved}
 use Rattle.run_places.specs.Given.EffectsDeclared.changed.Changed.TheVariants as changed
 use Rattle.run_places.proofs.Given.RuleWorld.RootSpared.{PlanSparesRoot}
 use Rattle.owner_facts.specs.Given.CallersTogether.{UnderWay}
@@ -21,11 +21,11 @@ use Rattle.run_places.specs.Given.EffectsEffects.{effects_of}
 use Rattle.run_places.specs.Given.EffectsKnown.{Known}
 use Rattle.run_places.specs.Given.EffectsDeclared.acting.Acting.TheVariants as acts
 use Rattle.owner_facts.specs.Given.FinishesMachines.{machine_of}
-use Rattle.run_places.specs.Given.FollowsShows.{Shows}
+use Rattle.run_places.specs.Given.FollowsShows.{Refines}
 use Rattle.run_places.proofs.Given.FollowsSteps.{WentTo, went_to, OfNoRow}
 use Rattle.run_places.proofs.Given.FollowsWrites.{nothing_free}
 use Rattle.run_debts.specs.InHand.{TakesPair}
-use Rattle.run_debts.specs.Owing.{hands_over, HandsOver, AllLeave, OwesGo, KeepsOwed, TakesOut, PutsOver, Passes, HandsFirst}
+use Rattle.run_debts.specs.Owing.{hands_over, HandsOver, AllLeave, ObligationsGo, KeepsOwed, TakesOut, PutsOver, Passes, HandsFirst}
 use Rattle.run_debts.proofs.Takings.{steps_take_out}
 use Rattle.run_debts.proofs.Unpromoted.{NonePromotes, none_promotes, spared_tells}
 use Rattle.run_places.proofs.Given.ScenesGoes.{goes_as}
@@ -50,7 +50,7 @@ shifts_take effects none p (inl are) = (let gone = ap (λ (l : List Effect). fla
 shifts_take effects none p (inr (n, s, are)) = (let gone = ap (λ (l : List Effect). flat_map shift_of l) are in cc (gone, none))
 
 module _ {K V : Type 0} (same : K → K → Bool) (hash : ℕ → K → ℕ) (name : ℕ → List ℕ) (m : Moment K V) (known : Known) (s : Scene K V) (old new : Held K V) (at_old : IsAt same hash old s)
-    (shown : Shows same name m known s) (map i : ℕ) (u : UnderWay K V K) (under_way : s.calls map i ≡ Some u) (said : Progress (Node K V)) (leads : StepLeads same hash i said s old new) where
+    (shown : Refines same name m known s) (map i : ℕ) (u : UnderWay K V K) (under_way : s.calls map i ≡ Some u) (said : Progress (Node K V)) (leads : StepLeads same hash i said s old new) where
   abbrev to : WentTo same hash name m known s old new at_old shown map i u under_way said leads
   to = went_to same hash name m known s old new at_old shown map i u under_way said leads
 
@@ -69,7 +69,7 @@ module _ {K V : Type 0} (same : K → K → Bool) (hash : ℕ → K → ℕ) (na
       by false e = absurd (let some : ◌≡◌ {A = Option (Machine K V K)} None (Some to.1) = whole ∙ ap (λ (q : Bool). if q then None else Some to.1) e in cc some)
 
   -- a step that spares the roots makes no table the root
-  pub no_promotion : {R : Type 0} (plan : Plan (Node K V) R) (end : R) → PlanSparesRoot plan → StepsTold K V R old.memory changed.Nothing plan new.memory new.changed end
+  pub no_promotion : {R : Type 0} (plan : Plan (Node K V) R) (end : R) → PlanSparesRoot plan → StepsObserved K V R old.memory changed.Nothing plan new.memory new.changed end
       → (t : TableId) → effects ≡ effect.Promoted t ∷ [] → ⊥
   no_promotion plan end spares steps t are =
       (let none = none_promotes i map known (nothing_free s.world m.stored known shown.blocks.roles) new.changed
@@ -81,10 +81,10 @@ module _ {K V : Type 0} (same : K → K → Bool) (hash : ℕ → K → ℕ) (na
       → AllLeave effects
   leaves own no_pair no_table = by taking.0 taking.1
     where
-      taking : (taken : List Thing) × OwesGo m effects [] ([] ++ taken) × (list_any hands_over effects ≡ false)
+      taking : (taken : List Thing) × ObligationsGo m effects [] ([] ++ taken) × (list_any hands_over effects ≡ false)
       taking = steps_take_out K V same hash name m known s old new at_old shown map i u under_way said leads own []
 
-      by : (taken : List Thing) → OwesGo m effects [] ([] ++ taken) → AllLeave effects
+      by : (taken : List Thing) → ObligationsGo m effects [] ([] ++ taken) → AllLeave effects
       by taken (KeepsOwed all same_owed) = all
       by taken (TakesOut p are more) = absurd (no_pair p (inl are))
       by taken (PutsOver p n sp are more) = absurd (no_pair p (inr (n, sp, are)))

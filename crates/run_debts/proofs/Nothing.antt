@@ -12,11 +12,11 @@ use Rattle.run_places.specs.Given.RawDeclared.machines.call.KeyCall.{KeyCall}
 use Rattle.run_places.specs.Given.EffectsKnown.{Known}
 use Rattle.run_places.specs.Given.RuleChart.{Chart}
 use Rattle.run_places.specs.Given.RuleWords.{Blocks}
-use Rattle.owner_facts.specs.Given.PointsFactsCalls.{Change, Unchanged, Stored, Replaced, Removed, Tells, CallingFacts}
-use Rattle.owner_facts.specs.Given.LateLateCalls.{LateCalling}
+use Rattle.owner_facts.specs.Given.PointsFactsCalls.{Change, Unchanged, Stored, Replaced, Removed, AnswersChange, CallingFacts}
+use Rattle.owner_facts.specs.Given.LateLateCalls.{SupersededCalling}
 use Rattle.owner_facts.specs.Alone.Handed.{call_has_unlinked}
 use Rattle.owner_facts.specs.Given.CallersRows.{past_row, once_over}
-use Rattle.owner_facts.specs.Given.CallersTogether.{CallOnKey, OnKey, Stands, in_slot}
+use Rattle.owner_facts.specs.Given.CallersTogether.{CallOnKey, OnKey, IsAtPoint, in_slot}
 use Rattle.run_debts.specs.Hand.{things_at, NotesPair}
 use Rattle.run_debts.proofs.Fresh.{IsFreshAt}
 use Rattle.run_debts.proofs.Hand.Asked.{NoneOfCall}
@@ -38,7 +38,7 @@ zero_none known removed zero =
 
 module _ {K V : Type 0} (known : Known) (same : K → K → Bool) (hash : K → ℕ) (w : World (Node K V)) (i : ℕ) (setting : Setting) (c : Chart K) (seen : Blocks) (keys : K → Bool) where
   -- an answer that tells that a pair was replaced
-  replaced_not : (change : Change) (old new : ℕ) → Tells same hash same w i setting c seen keys change change (answers.Replaced old new) → TakesNone change → ⊥
+  replaced_not : (change : Change) (old new : ℕ) → AnswersChange same hash same w i setting c seen keys change change (answers.Replaced old new) → TakesNone change → ⊥
   replaced_not (Replaced a n) old new tells takes = takes
   replaced_not Unchanged old new tells takes = tells
   replaced_not (Stored n) old new tells takes = tells
@@ -72,14 +72,14 @@ module _ {K V : Type 0} (known : Known) (same : K → K → Bool) (hash : K → 
   none_past change x p fresh linked takes facts = none_at change x p fresh linked takes facts
 
   -- one that comes late has taken none out
-  late_none : (began : ℕ) (x : KeyCall K V K) (p : Calling) → call_has_unlinked p ≡ false → LateCalling same hash same w i setting c seen keys began x p → NoneOfCall known p
+  late_none : (began : ℕ) (x : KeyCall K V K) (p : Calling) → call_has_unlinked p ≡ false → SupersededCalling same hash same w i setting c seen keys began x p → NoneOfCall known p
   late_none began x (at.Counts removed) linked facts = absurd facts
   late_none began x (at.Disposes dispose answer) linked facts = absurd facts
   late_none began x (at.Helps copier goal) linked facts = copier_none known copier copier.stands linked
   late_none began x (at.Copies copier) linked facts = copier_none known copier copier.stands linked
   late_none began x _ linked facts = (refl, tt)
 
-  late_past : (began : ℕ) (x : KeyCall K V K) (p : Calling) → call_has_unlinked p ≡ false → LateCalling same hash same w i setting c seen keys began x (past_row p) → NoneOfCall known p
+  late_past : (began : ℕ) (x : KeyCall K V K) (p : Calling) → call_has_unlinked p ≡ false → SupersededCalling same hash same w i setting c seen keys began x (past_row p) → NoneOfCall known p
   late_past began x (at.Disposes dispose answer) linked facts = absurd facts
   late_past began x (at.Helps copier goal) linked facts = copier_none known copier copier.stands linked
   late_past began x (at.Copies copier) linked facts = copier_none known copier copier.stands linked
@@ -89,7 +89,7 @@ module _ {K V : Type 0} (known : Known) (same : K → K → Bool) (hash : K → 
   abbrev None2 : Type 0
   None2 = NoneOfCall known x.call.stands
 
-  pub stands_none : IsFreshAt x.call.stands → call_has_unlinked x.call.stands ≡ false → TakesNone x.change → Stands V same hash same setting slot w c seen i (OnKey x) → None2
+  pub stands_none : IsFreshAt x.call.stands → call_has_unlinked x.call.stands ≡ false → TakesNone x.change → IsAtPoint V same hash same setting slot w c seen i (OnKey x) → None2
   stands_none fresh linked takes stands = elim stands as (λ _. None2) [
     | inl k ↦ elim (k.1.facts) as (λ _. None2) [
       | inl facts ↦ none_at known same hash w i (in_slot setting (slot i)) c seen x.keys x.change x.call x.call.stands fresh linked takes facts.point

@@ -16,7 +16,7 @@ use Rattle.run_places.specs.Given.SchedulesMoment.{UnderWay as CallThere, Moment
 use Rattle.run_places.specs.Given.SchedulesThings.{same_thing}
 use Rattle.run_places.specs.Given.SchedulesViews.{call_of}
 use Rattle.run_places.proofs.Changes.Changes.{acted_on}
-use Rattle.run_debts.specs.Owing.{HandsOver, leaves_owed, AllLeave, OwesGo, KeepsOwed, TakesOut, PutsOver, Passes, HandsFirst, FindsOwed, OwesFollow}
+use Rattle.run_debts.specs.Owing.{HandsOver, leaves_owed, AllLeave, ObligationsGo, KeepsOwed, TakesOut, PutsOver, Passes, HandsFirst, FindsObligation, ObligationsFollow}
 use Rattle.run_places.proofs.Spots.Unreclaimed.{same_itself as table_itself}
 
 pub thing_itself : (x : Thing) → same_thing x x ≡ true
@@ -62,20 +62,20 @@ module _ {K V : Type 0} where
   leaves m (effect.Ended n) c e = refl
   leaves m (effect.Taken t) c e = refl
 
-  none_found : (m : Moment K V) (f : Effect) (c : CallThere K V) → leaves_owed f ≡ true → FindsOwed m f c
+  none_found : (m : Moment K V) (f : Effect) (c : CallThere K V) → leaves_owed f ≡ true → FindsObligation m f c
   none_found m (effect.Deferred n t) c e = absurd (cc e)
   none_found m (effect.Retired x) c e = absurd (cc e)
   none_found m _ c e = tt
 
   module _ (own : List ℕ) (map : ℕ) where
     abbrev Finds : List Effect → Moment K V → Type 0
-    Finds effects m = AtEachEffect (λ v f. ByCall (FindsOwed v f) (acting (Some own) v)) (Some own) (Some map) effects m
+    Finds effects m = AtEachEffect (λ v f. ByCall (FindsObligation v f) (acting (Some own) v)) (Some own) (Some map) effects m
 
     abbrev Follows : List Effect → Moment K V → List Thing → Type 0
     Follows effects m after = Finds effects m × (d : CallThere K V) × (call_of own (with_effects (Some own) (Some map) effects m) ≡ Some d) × (d.owes ≡ after)
 
-    found : (f : Effect) (m : Moment K V) (c : CallThere K V) → call_of own m ≡ Some c → FindsOwed m f c → ByCall (FindsOwed m f) (acting (Some own) m)
-    found f m c is finds = subst (ByCall (FindsOwed m f)) (sym is) finds
+    found : (f : Effect) (m : Moment K V) (c : CallThere K V) → call_of own m ≡ Some c → FindsObligation m f c → ByCall (FindsObligation m f) (acting (Some own) m)
+    found f m c is finds = subst (ByCall (FindsObligation m f)) (sym is) finds
 
     all_leave : (effects : List Effect) (m : Moment K V) (c : CallThere K V) → call_of own m ≡ Some c → AllLeave effects → Follows effects m c.owes
     all_leave [] m c is all = (tt, c, is, refl)
@@ -83,11 +83,11 @@ module _ {K V : Type 0} where
         let rest = all_leave fs (with_effect (Some own) (Some map) f m) (call_by m f c) (acted_on own map f m c is) all.1 in
         ((found f m c is (none_found m f c all.0), rest.0), rest.1, rest.2, rest.3 ∙ leaves m f c all.0)
 
-    one_follows : (f : Effect) (m : Moment K V) (c : CallThere K V) → call_of own m ≡ Some c → (after : List Thing) → FindsOwed m f c → (call_by m f c).owes ≡ after → Follows (f ∷ []) m after
+    one_follows : (f : Effect) (m : Moment K V) (c : CallThere K V) → call_of own m ≡ Some c → (after : List Thing) → FindsObligation m f c → (call_by m f c).owes ≡ after → Follows (f ∷ []) m after
     one_follows f m c is after finds owes = ((found f m c is finds, tt), call_by m f c, acted_on own map f m c is, owes)
 
     -- what is handed over is the first that it owes
-    hands_found : (f : Effect) (x : Thing) (m : Moment K V) (c : CallThere K V) (after : List Thing) → HandsOver f x → c.owes ≡ x ∷ after → FindsOwed m f c × ((call_by m f c).owes ≡ after)
+    hands_found : (f : Effect) (x : Thing) (m : Moment K V) (c : CallThere K V) (after : List Thing) → HandsOver f x → c.owes ≡ x ∷ after → FindsObligation m f c × ((call_by m f c).owes ≡ after)
     hands_found (effect.Deferred n t) x m c after is owes =
         let all : c.owes ≡ APair n ∷ after = owes ∙ ap (λ (y : Thing). y ∷ after) is in
         (ap (is_in same_thing (APair n)) all ∙ first_in (APair n) after, ap (without_one same_thing (APair n)) all ∙ without_first (APair n) after)
@@ -101,7 +101,7 @@ module _ {K V : Type 0} where
         )
     hands_found _ x m c after is owes = absurd is
 
-    follows : (effects : List Effect) (m : Moment K V) (c : CallThere K V) → call_of own m ≡ Some c → (after : List Thing) → OwesGo m effects c.owes after → Follows effects m after
+    follows : (effects : List Effect) (m : Moment K V) (c : CallThere K V) → call_of own m ≡ Some c → (after : List Thing) → ObligationsGo m effects c.owes after → Follows effects m after
     follows effects m c is after (KeepsOwed all e) = subst (Follows effects m) (sym e) (all_leave effects m c is all)
     follows effects m c is after (TakesOut p are e) =
         subst (λ (l : List Effect). Follows l m after) (sym are) (one_follows (effect.Removed p) m c is after tt (sym e))
@@ -119,5 +119,5 @@ module _ {K V : Type 0} where
     follows effects m c is after (HandsFirst f x are hands owes) =
         let it = hands_found f x m c after hands owes in subst (λ (l : List Effect). Follows l m after) (sym are) (one_follows f m c is after it.0 it.1)
 
-pub owes_follow : (K V : Type 0) → OwesFollow K V
+pub owes_follow : (K V : Type 0) → ObligationsFollow K V
 owes_follow K V own map effects m c is after go = follows own map effects m c is after go

@@ -34,7 +34,7 @@ use Rattle.run_places.specs.Given.RunsDeclared.effect.Effect.{Effect}
 use Rattle.run_places.specs.Given.RunsDeclared.effect.Effect.TheVariants as effect
 use Rattle.run_places.specs.Given.SchedulesLinearizable.{shift_of}
 use Rattle.run_places.specs.Given.SchedulesMoment.{Moment}
-use Rattle.run_places.specs.Given.TellerTells.{StepsTold}
+use Rattle.run_places.specs.Given.TellerTells.{StepsObserved}
 use Rattle.run_places.specs.Given.EffectsDeclared.changed.Changed.{Changed}
 use Rattle.run_places.specs.Given.EffectsDeclared.changed.Changed.TheVariants as changed
 use Rattle.run_places.specs.Given.RuleChart.{Still, Chart}
@@ -46,7 +46,7 @@ use Rattle.owner_facts.specs.Given.LateFactsSweeps.{SweepingFacts}
 use Rattle.owner_facts.specs.Given.LateToldSweeps.{IsRowOfSweep}
 use Rattle.owner_facts.specs.Given.CallersOverAll.{CallOverAll}
 use Rattle.owner_facts.specs.Given.CallersRooms.{CallForRoom}
-use Rattle.owner_facts.specs.Given.CallersSights.{seen_by, IsSight}
+use Rattle.owner_facts.specs.Given.CallersSights.{seen_by, IsVisibility}
 use Rattle.owner_facts.specs.Given.CallersTogether.{UnderWay, ForRoom, Counting, OverAll, IsOneStep, Together, next_over_all, in_slot}
 use Rattle.run_places.specs.Given.EffectsEffects.{names_same, in_block, named, effects_of}
 use Rattle.run_places.specs.Given.EffectsKnown.{Known}
@@ -56,9 +56,9 @@ use Rattle.run_places.specs.Given.EffectsDeclared.role.Role.{Role}
 use Rattle.run_places.specs.Given.EffectsDeclared.role.Role.TheVariants as role
 use Rattle.owner_facts.specs.Given.FinishesMachines.{machine_of}
 use Rattle.owner_facts.specs.Given.FinishesMaps.{Standing}
-use Rattle.owner_facts.specs.Given.FinishesSweeps.{SweepStepsAmong}
+use Rattle.owner_facts.specs.Given.FinishesSweeps.{SweepStepsWithEndings}
 use Rattle.run_places.specs.Given.FollowsMaps.{table_of}
-use Rattle.run_places.specs.Given.FollowsShows.{Shows}
+use Rattle.run_places.specs.Given.FollowsShows.{Refines}
 use Rattle.run_places.specs.Given.FollowsSteps.{TakesNone}
 use Rattle.run_places.proofs.Given.FollowsOperations.{LeavesBy, operated_leaves}
 use Rattle.run_places.proofs.Given.FollowsRowSteps.{row_done}
@@ -115,7 +115,7 @@ row_apart (sweeping.Disposes dispose) row = (tt, tt)
 row_apart _ row = absurd row
 
 module _ {K V : Type 0} (same : K → K → Bool) (hash : ℕ → K → ℕ) (name : ℕ → List ℕ) (m : Moment K V) (known : Known) (s : Scene K V) (old new : Held K V) (at_old : IsAt same hash old s)
-    (shown : Shows same name m known s) (map i : ℕ) (u : UnderWay K V K) (under_way : s.calls map i ≡ Some u) (said : Progress (Node K V)) (leads : StepLeads same hash i said s old new) where
+    (shown : Refines same name m known s) (map i : ℕ) (u : UnderWay K V K) (under_way : s.calls map i ≡ Some u) (said : Progress (Node K V)) (leads : StepLeads same hash i said s old new) where
   abbrev to : WentTo same hash name m known s old new at_old shown map i u under_way said leads
   to = went_to same hash name m known s old new at_old shown map i u under_way said leads
 
@@ -143,7 +143,7 @@ module _ {K V : Type 0} (same : K → K → Bool) (hash : ℕ → K → ℕ) (na
   here_each : Together V same st.hash same st.setting slot_of s.world ch st.blocks st.sights (s.calls map)
   here_each = each same hash name m known s old at_old shown map i st to.2 u under_way
 
-  here_sight : IsInside (s.world.uses (slot_of i)) → IsSight ch st.blocks (st.sights (slot_of i))
+  here_sight : IsInside (s.world.uses (slot_of i)) → IsVisibility ch st.blocks (st.sights (slot_of i))
   here_sight = is_sight same hash name m known s old at_old shown map i st to.2 u under_way
 
   pairs_there : (n : ℕ) → ch.current n ≡ true → n < ch.stored
@@ -224,7 +224,7 @@ module _ {K V : Type 0} (same : K → K → Bool) (hash : ℕ → K → ℕ) (na
 
     module _ (p2 : Sweep) (end : Swept (Node K V)) (machine_is : to.1 ≡ kinds.Sweep p2) (told_is : said ≡ of_swept end) where
       abbrev pub Stepped : Sweep × Swept (Node K V) → Type 0
-      Stepped e = StepsTold K V (Sweep × Swept (Node K V)) old.memory changed.Nothing (sweep_plan to.0.hash x.sweep) new.memory told e
+      Stepped e = StepsObserved K V (Sweep × Swept (Node K V)) old.memory changed.Nothing (sweep_plan to.0.hash x.sweep) new.memory told e
 
       pub steps : Stepped (p2, end)
       steps = by inner.0 inner.1 inner.2
@@ -264,7 +264,7 @@ module _ {K V : Type 0} (same : K → K → Bool) (hash : ℕ → K → ℕ) (na
       apart_goes elsewhere none shifts = KeepsCount (all_apart effects shifts (uncounted elsewhere)) (idle none ∙ sym (elsewhere_not x.sweep.stands elsewhere))
 
       -- one that is none of a row
-      module _ (step : SweepStepsAmong V same same old.batch_size old.roots slot_of s.world s.maps s.calls s.makers s.enders map st i x new.memory p2 end) where
+      module _ (step : SweepStepsWithEndings V same same old.batch_size old.roots slot_of s.world s.maps s.calls s.makers s.enders map st i x new.memory p2 end) where
         abbrev c2 : Chart K
         c2 = step.step.went.c2
 
@@ -287,7 +287,7 @@ module _ {K V : Type 0} (same : K → K → Bool) (hash : ℕ → K → ℕ) (na
         ]
 
         abbrev SteppedAt : Sweeping → Type 0
-        SteppedAt p = StepsTold K V (Sweep × Swept (Node K V)) old.memory changed.Nothing (sweeps.plan_at to.0.hash x.sweep p) new.memory told (p2, end)
+        SteppedAt p = StepsObserved K V (Sweep × Swept (Node K V)) old.memory changed.Nothing (sweeps.plan_at to.0.hash x.sweep p) new.memory told (p2, end)
 
         -- it counts
         wrote_count : (removed : ℕ) → SteppedAt (sweeping.Counts removed)

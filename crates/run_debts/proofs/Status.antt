@@ -16,11 +16,11 @@ use Rattle.run_places.specs.Given.RawDeclared.machines.call.Calling.TheVariants 
 use Rattle.run_places.specs.Given.RawDeclared.machines.call.KeyCall.{KeyCall}
 use Rattle.run_places.specs.Given.RuleChart.{Chart}
 use Rattle.run_places.specs.Given.RuleWords.{Blocks}
-use Rattle.owner_facts.specs.Given.PointsFactsCalls.{Change, Unchanged, Stored, Replaced, Removed, Seeks, Tells, CallingFacts}
+use Rattle.owner_facts.specs.Given.PointsFactsCalls.{Change, Unchanged, Stored, Replaced, Removed, Seeks, AnswersChange, CallingFacts}
 use Rattle.owner_facts.specs.Given.PointsTold.{IsRowOfCall}
-use Rattle.owner_facts.specs.Given.LateLateCalls.{LateCalling}
+use Rattle.owner_facts.specs.Given.LateLateCalls.{SupersededCalling}
 use Rattle.owner_facts.specs.Given.CallersRows.{past_row, once_over}
-use Rattle.owner_facts.specs.Given.CallersTogether.{CallOnKey, OnKey, Knows, Stands, in_slot}
+use Rattle.owner_facts.specs.Given.CallersTogether.{CallOnKey, OnKey, Knows, IsAtPoint, in_slot}
 use Rattle.run_debts.specs.Counts.{counts_in_calling}
 use Rattle.run_debts.proofs.Aimed.{CallsElsewhere}
 use Rattle.run_debts.proofs.Fresh.{IsBefore, IsPlain, IsFreshAt, IsFreshLike, fresh_like}
@@ -92,7 +92,7 @@ pub data Status (change : Change) (counts : Bool) : Type 0 where
 
 module _ {K V : Type 0} (same : K → K → Bool) (hash : K → ℕ) (w : World (Node K V)) (i : ℕ) (setting : Setting) (c : Chart K) (seen : Blocks) (keys : K → Bool) where
   abbrev TellsAt : Change → KeyAnswer → Type 0
-  TellsAt change answer = Tells same hash same w i setting c seen keys change change answer
+  TellsAt change answer = AnswersChange same hash same w i setting c seen keys change change answer
 
   -- a plain answer tells no change
   pub plain_tells : (change : Change) (answer : KeyAnswer) → IsPlain answer → TellsAt change answer → ⊥
@@ -139,7 +139,7 @@ module _ {K V : Type 0} (same : K → K → Bool) (hash : K → ℕ) (w : World 
   status_at change x (at.Over end) fresh seeks facts = IsNone facts refl
   status_at change x _ fresh seeks facts = IsNone (seeks tt) refl
 
-  late_status : (change : Change) (began : ℕ) (x : KeyCall K V K) (p : Calling) → change ≡ Unchanged → LateCalling same hash same w i setting c seen keys began x p → Status change (counts_in_calling p)
+  late_status : (change : Change) (began : ℕ) (x : KeyCall K V K) (p : Calling) → change ≡ Unchanged → SupersededCalling same hash same w i setting c seen keys began x p → Status change (counts_in_calling p)
   late_status change began x (at.Counts removed) none facts = absurd facts
   late_status change began x _ none facts = IsNone none refl
 
@@ -150,7 +150,7 @@ module _ {K V : Type 0} (same : K → K → Bool) (hash : K → ℕ) (setting : 
     | inr late ↦ late_status same hash w i (in_slot setting (slot i)) c seen x.keys x.change x.began p p.stands late.0 late.1.point
   ]
 
-  pub stands_status : IsFreshAt x.call.stands → Stands V same hash same setting slot w c seen i (OnKey x) → Status x.change (counts_in_calling x.call.stands)
+  pub stands_status : IsFreshAt x.call.stands → IsAtPoint V same hash same setting slot w c seen i (OnKey x) → Status x.change (counts_in_calling x.call.stands)
   stands_status is_fresh stands = elim stands as (λ _. Status x.change (counts_in_calling x.call.stands)) [
     | inl k ↦ knows_status x.call (fresh_like x.call.stands is_fresh) k.1
     | inr k ↦ subst (Status x.change) (past_counts x.call.stands) (knows_status (once_over x.call) (past_fresh x.call.stands (fresh_like x.call.stands is_fresh)) k.2)

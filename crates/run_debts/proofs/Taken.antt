@@ -30,22 +30,22 @@ use Rattle.run_places.specs.Given.EffectsDeclared.changed.Changed.{Changed}
 use Rattle.run_places.specs.Given.RuleChart.{Phase, Still, Holds, Chart}
 use Rattle.run_places.specs.Given.RuleWords.{Blocks, byte_of, place_word}
 use Rattle.run_places.proofs.Given.RuleLaws.{current_is_known, words_name_pairs, bytes_are_few}
-use Rattle.owner_facts.specs.Given.PointsFactsCalls.{Change, Unchanged, Stored, Replaced, Removed, Seeks, Tells, CallingFacts}
+use Rattle.owner_facts.specs.Given.PointsFactsCalls.{Change, Unchanged, Stored, Replaced, Removed, Seeks, AnswersChange, CallingFacts}
 use Rattle.owner_facts.specs.Given.CallersRows.{past_row, once_over}
 use Rattle.owner_facts.specs.Given.CallersSights.{seen_by}
-use Rattle.owner_facts.specs.Given.CallersTogether.{CallOnKey, OnKey, Stands, change_told, in_slot}
+use Rattle.owner_facts.specs.Given.CallersTogether.{CallOnKey, OnKey, IsAtPoint, change_observed, in_slot}
 use Rattle.run_places.specs.Given.EffectsEffects.{effects_of}
 use Rattle.run_places.specs.Given.EffectsKnown.{Known}
 use Rattle.run_places.specs.Given.EffectsDeclared.acting.Acting.TheVariants as acts
 use Rattle.run_places.specs.Given.EffectsDeclared.role.Role.TheVariants as role
-use Rattle.owner_facts.specs.Given.FinishesEndings.{StepsAmong}
+use Rattle.owner_facts.specs.Given.FinishesEndings.{StepsWithEndings}
 use Rattle.owner_facts.specs.Given.FinishesMaps.{Standing}
-use Rattle.run_places.specs.Given.FollowsShows.{Shows}
+use Rattle.run_places.specs.Given.FollowsShows.{Refines}
 use Rattle.run_places.proofs.Given.FollowsSteps.{WentTo, went_to, DidSo, OfNoRow}
 use Rattle.run_places.proofs.Given.FollowsWrites.{nothing_free}
 use Rattle.run_places.proofs.Hands.Done.{stepped, here}
 use Rattle.run_places.proofs.Changes.Which.{DidOnce, DidNone, DidStore, DidReplace, DidRemove}
-use Rattle.run_debts.specs.InHand.{pair_in_disposing, pair_in_calling, TakesPair, CallsTakeInHand}
+use Rattle.run_debts.specs.InHand.{pair_in_disposing, pair_in_calling, TakesPair, CallsTakePending}
 use Rattle.run_debts.proofs.Fresh.{IsBefore, IsNewDisposal, IsFreshAt, IsFresh}
 use Rattle.run_debts.proofs.Here.{each}
 use Rattle.run_debts.proofs.Keys.{Together2, change2, once, did, none_moved, fresh, counts_now, disposing_tells, steps, SteppedAt}
@@ -91,13 +91,13 @@ module _ {K V : Type 0} (same : K → K → Bool) (hash : K → ℕ) (w : World 
   abbrev pub HasTaken : ℕ → Calling → Type 0
   HasTaken o p = (word : ℕ) × Names p word × (block_in word ≡ seen.pair o)
 
-  out_of : (change : Change) (old new o : ℕ) → Tells same hash same w i setting c seen keys change change (answers.Replaced old new) → IsOut o change → block_in old ≡ seen.pair o
+  out_of : (change : Change) (old new o : ℕ) → AnswersChange same hash same w i setting c seen keys change change (answers.Replaced old new) → IsOut o change → block_in old ≡ seen.pair o
   out_of (Replaced a n) old new o tells out = ap block_in tells.3 ∙ few a Still tells.2 ∙ ap seen.pair out
   out_of Unchanged old new o tells out = absurd out
   out_of (Stored n) old new o tells out = absurd out
   out_of (Removed n) old new o tells out = absurd tells
 
-  disposes_taken : (change : Change) (d : Dispose) (old new o : ℕ) → IsNewDisposal d old → Tells same hash same w i setting c seen keys change change (answers.Replaced old new) → IsOut o change
+  disposes_taken : (change : Change) (d : Dispose) (old new o : ℕ) → IsNewDisposal d old → AnswersChange same hash same w i setting c seen keys change change (answers.Replaced old new) → IsOut o change
       → HasTaken o (at.Disposes d (answers.Replaced old new))
   disposes_taken change d old new o fresh tells out = (link_in old, disposal_word d old fresh, link-block (block_in old) ∙ out_of change old new o tells out)
 
@@ -132,7 +132,7 @@ module _ {K V : Type 0} (same : K → K → Bool) (hash : K → ℕ) (setting : 
   abbrev Has : ℕ → Type 0
   Has o = HasTaken same hash w i (in_slot setting (slot i)) c seen x.keys few o x.call.stands
 
-  pub stands_taken : IsFreshAt x.call.stands → Stands V same hash same setting slot w c seen i (OnKey x) → (o : ℕ) → IsOut o x.change → Has o
+  pub stands_taken : IsFreshAt x.call.stands → IsAtPoint V same hash same setting slot w c seen i (OnKey x) → (o : ℕ) → IsOut o x.change → Has o
   stands_taken is_fresh stands o out = elim stands as (λ _. Has o) [
     | inl k ↦ elim (k.1.facts) as (λ _. Has o) [
       | inl facts ↦ taken_at same hash w i (in_slot setting (slot i)) c seen x.keys few x.change x.call x.call.stands is_fresh facts.unchanged facts.point o out
@@ -145,7 +145,7 @@ module _ {K V : Type 0} (same : K → K → Bool) (hash : K → ℕ) (setting : 
   ]
 
 module _ {K V : Type 0} (same : K → K → Bool) (hash : ℕ → K → ℕ) (name : ℕ → List ℕ) (m : Moment K V) (known : Known) (s : Scene K V) (old new : Held K V) (at_old : IsAt same hash old s)
-    (shown : Shows same name m known s) (map i : ℕ) (x : CallOnKey K V K) (under_way : s.calls map i ≡ Some (OnKey x)) (said : Progress (Node K V)) (leads : StepLeads same hash i said s old new)
+    (shown : Refines same name m known s) (map i : ℕ) (x : CallOnKey K V K) (under_way : s.calls map i ≡ Some (OnKey x)) (said : Progress (Node K V)) (leads : StepLeads same hash i said s old new)
     (p2 : KeyCall K V K) (end : Called (Node K V)) where
   abbrev to : WentTo same hash name m known s old new at_old shown map i (OnKey x) under_way said leads
   to = went_to same hash name m known s old new at_old shown map i (OnKey x) under_way said leads
@@ -157,7 +157,7 @@ module _ {K V : Type 0} (same : K → K → Bool) (hash : ℕ → K → ℕ) (na
   effects = effects_of (acts.Call i map) known new.changed
 
   module _ (machine_is : to.1 ≡ kinds.Key p2) (told_is : said ≡ of_called end)
-      (step : StepsAmong V same same old.batch_size old.roots slot_of s.world s.maps s.calls s.makers s.enders map st i x new.memory p2 end) where
+      (step : StepsWithEndings V same same old.batch_size old.roots slot_of s.world s.maps s.calls s.makers s.enders map st i x new.memory p2 end) where
     abbrev Tog : Called (Node K V) → Type 0
     Tog = Together2 same hash name m known s old new at_old shown map i x under_way said leads p2 end machine_is told_is step
 
@@ -168,10 +168,10 @@ module _ {K V : Type 0} (same : K → K → Bool) (hash : ℕ → K → ℕ) (na
 
     module _ (e : Called (Node K V)) (tog : Tog e) where
       abbrev Standing2 : Type 0
-      Standing2 = Stands V same st.hash same st.setting slot_of tog.went.w2 tog.went.c2 (seen_by tog.blocks2 (tog.sights2 (slot_of i))) i
+      Standing2 = IsAtPoint V same st.hash same st.setting slot_of tog.went.w2 tog.went.c2 (seen_by tog.blocks2 (tog.sights2 (slot_of i))) i
           (OnKey (stepped same st.hash same st.setting slot_of s.world st.chart st.blocks st.sights (s.calls map) i x new.memory p2 e tog))
 
-      on_taken : IsFreshAt p2.stands → Standing2 → (o : ℕ) → IsOut o (change_told V same st.hash same st.setting slot_of tog.went.told) → (word : ℕ) × Names p2.stands word × (block_in word ≡ tog.blocks2.pair o)
+      on_taken : IsFreshAt p2.stands → Standing2 → (o : ℕ) → IsOut o (change_observed V same st.hash same st.setting slot_of tog.went.told) → (word : ℕ) × Names p2.stands word × (block_in word ≡ tog.blocks2.pair o)
       on_taken its stands o out =
           stands_taken same st.hash st.setting slot_of tog.went.w2 tog.went.c2 (seen_by tog.blocks2 (tog.sights2 (slot_of i))) i
           (stepped same st.hash same st.setting slot_of s.world st.chart st.blocks st.sights (s.calls map) i x new.memory p2 e tog)
@@ -181,7 +181,7 @@ module _ {K V : Type 0} (same : K → K → Bool) (hash : ℕ → K → ℕ) (na
     HasIt e tog o = (word : ℕ) × Names p2.stands word × (block_in word ≡ tog.blocks2.pair o)
 
     abbrev Out : (e : Called (Node K V)) → Tog e → ℕ → Type 0
-    Out e tog o = IsOut o (change_told V same st.hash same st.setting slot_of tog.went.told)
+    Out e tog o = IsOut o (change_observed V same st.hash same st.setting slot_of tog.went.told)
 
     taken : (e : Called (Node K V)) (tog : Tog e) → IsFresh (p2, e) → (o : ℕ) → Out e tog o → HasIt e tog o
     taken called.Goes tog its o out =
@@ -281,7 +281,7 @@ module _ {K V : Type 0} (same : K → K → Bool) (hash : ℕ → K → ℕ) (na
           | inr changes ↦ by_once before p takes (did same hash name m known s old new at_old shown map i x under_way said leads p2 end machine_is told_is step OutNow changes.1)
         ]
 
-pub calls_take_in_hand : (K V : Type 0) (same : K → K → Bool) (hash : ℕ → K → ℕ) → CallsTakeInHand K V same hash
+pub calls_take_in_hand : (K V : Type 0) (same : K → K → Bool) (hash : ℕ → K → ℕ) → CallsTakePending K V same hash
 calls_take_in_hand K V same hash name m known s old new at_old shown map i x under_way said leads none p takes = by (went_to same hash name m known s old new at_old shown map i (OnKey x) under_way said leads).4.did none
   where
     by : (did_so : DidSo same hash name m known s old new at_old shown map i (OnKey x) under_way said leads (OnKey x)) → OfNoRow same hash name m known s old new at_old shown map i (OnKey x) under_way said leads (OnKey x) did_so

@@ -17,15 +17,15 @@ use Rattle.run_places.specs.Given.SchedulesMoment.{Moment}
 use Rattle.run_places.specs.Given.EffectsDeclared.changed.Changed.{Changed}
 use Rattle.run_places.specs.Given.EffectsDeclared.changed.Changed.TheVariants as changed
 use Rattle.run_places.specs.Given.TellsSeen.{Seen, Unseen, Wrote, seen_of}
-use Rattle.run_places.specs.Given.TellsTells.{IsTold}
+use Rattle.run_places.specs.Given.TellsTells.{IsObserved}
 use Rattle.run_places.proofs.Given.TellsPromised.{operations_tell, still_steps_tell}
 use Rattle.run_places.specs.Given.RuleChart.{Chart}
-use Rattle.run_places.specs.Given.RuleInWorld.{IsMapIn, Moved, Went}
+use Rattle.run_places.specs.Given.RuleInWorld.{IsMapIn, Moved, StepSpec}
 use Rattle.run_places.specs.Given.RuleMoves.{Move, Links, Stores, Replaces, Removes, Marks, MarksBlocking, Skips, Unmarks, Puts, Covers, PutsLate, Claims, Reclaims, Counts, GivesUp, Aborts, Promotes, Announces}
 use Rattle.run_places.specs.Given.RuleWords.{Blocks}
 use Rattle.run_places.proofs.Given.RuleWorld.WentTold.{went_as}
 use Rattle.owner_facts.specs.Given.PointsSteps.{AreLawful}
-use Rattle.owner_facts.specs.Given.CallersSights.{Sight, seen_by, IsGrown, IsSight}
+use Rattle.owner_facts.specs.Given.CallersSights.{Visible, seen_by, IsGrown, IsVisibility}
 use Rattle.owner_facts.specs.Given.CallersTogether.{UnderWay, OnKey, ForRoom, Counting, OverAll, in_slot, Together}
 use Rattle.owner_facts.proofs.Given.CallersSights.Seen.{map_seen}
 use Rattle.owner_facts.proofs.Given.CallersTogether.Fits.{map_in_slot}
@@ -33,13 +33,13 @@ use Rattle.run_places.specs.Given.EffectsEffects.{effects_of}
 use Rattle.run_places.specs.Given.EffectsKnown.{Known}
 use Rattle.run_places.specs.Given.EffectsDeclared.acting.Acting.TheVariants.{Call}
 use Rattle.owner_facts.specs.Given.FinishesMaps.{Standing}
-use Rattle.run_places.specs.Given.FollowsShows.{Shows}
+use Rattle.run_places.specs.Given.FollowsShows.{Refines}
 use Rattle.run_places.proofs.Given.FollowsAlike.{is_calm, AllCalm}
 use Rattle.run_places.proofs.Given.FollowsOperations.{LeavesBy, Operated, operated_leaves, seen_write, told_write}
 use Rattle.run_places.proofs.Given.FollowsSteps.{WentTo, went_to, made_so, DidSo, OfNoRow}
 use Rattle.run_places.proofs.Spots.Done.{DidBy, DidMoved, did_moved}
 use Rattle.run_places.proofs.Spots.Steps.{stayed_calm}
-use Rattle.run_debts.specs.Owing.{hands_over, leaves_owed, AllLeave, OwesGo, KeepsOwed, TakesOut, PutsOver, Passes, StepsTakeOut}
+use Rattle.run_debts.specs.Owing.{hands_over, leaves_owed, AllLeave, ObligationsGo, KeepsOwed, TakesOut, PutsOver, Passes, StepsTakeOut}
 use Rattle.run_places.specs.Given.ScenesHeld.{Held, IsAt}
 use Rattle.run_places.specs.Given.ScenesScene.{Scene, slot_of}
 use Rattle.run_places.specs.Given.ScenesStepping.{StepLeads}
@@ -58,7 +58,7 @@ all_calm [] all = (tt, refl)
 all_calm (f ∷ fs) all = let one = calm_leaves f all.0 in let rest = all_calm fs all.1 in ((one.0, rest.0), ap (λ (q : Bool). q || list_any hands_over fs) one.1 ∙ rest.1)
 
 module _ {K V : Type 0} (same : K → K → Bool) (hash : ℕ → K → ℕ) (m : Moment K V) (known : Known) (s : Scene K V) (old new : Held K V) (at : IsAt same hash old s)
-    (name : ℕ → List ℕ) (shown : Shows same name m known s) (map i : ℕ) (standing : Standing K) (there : s.maps map ≡ Some standing) (made : Operated s.world.memory new.memory new.changed) (owes : List Thing) where
+    (name : ℕ → List ℕ) (shown : Refines same name m known s) (map i : ℕ) (standing : Standing K) (there : s.maps map ≡ Some standing) (made : Operated s.world.memory new.memory new.changed) (owes : List Thing) where
   abbrev m2 : Mem (Node K V)
   m2 = new.memory
 
@@ -74,12 +74,12 @@ module _ {K V : Type 0} (same : K → K → Bool) (hash : ℕ → K → ℕ) (m 
   abbrev setting : Setting
   setting = in_slot standing.setting (slot_of i)
 
-  abbrev sight : Sight
+  abbrev sight : Visible
   sight = standing.sights (slot_of i)
 
   -- what it takes out comes behind what the call owed, and it hands nothing over
   abbrev pub TakesMore : Type 0
-  TakesMore = (taken : List Thing) × OwesGo m effects owes (owes ++ taken) × (list_any hands_over effects ≡ false)
+  TakesMore = (taken : List Thing) × ObligationsGo m effects owes (owes ++ taken) × (list_any hands_over effects ≡ false)
 
   one_leaves : (f : Effect) → leaves_owed f ≡ true → hands_over f ≡ false → effects ≡ f ∷ [] → TakesMore
   one_leaves f leaves none are = ([], KeepsOwed (subst AllLeave (sym are) (leaves, tt)) (append-nil owes), ap (list_any hands_over) are ∙ ap (λ (q : Bool). q || false) none)
@@ -97,15 +97,15 @@ module _ {K V : Type 0} (same : K → K → Bool) (hash : ℕ → K → ℕ) (m 
   left = operated_leaves w.memory m2 told made
 
   module _ (inside : IsInside (w.uses (slot_of i))) (Told : World (Node K V) → Chart K → Blocks → Type 0)
-      (had : Went same standing.hash setting i w standing.chart (seen_by standing.blocks sight) m2 Told)
-      (blocks2 : Blocks) (grown : IsGrown standing.chart standing.blocks had.blocks2 blocks2) (sights2 : ℕ → Sight) where
-    is_sight : IsSight standing.chart standing.blocks sight
+      (had : StepSpec same standing.hash setting i w standing.chart (seen_by standing.blocks sight) m2 Told)
+      (blocks2 : Blocks) (grown : IsGrown standing.chart standing.blocks had.blocks2 blocks2) (sights2 : ℕ → Visible) where
+    is_sight : IsVisibility standing.chart standing.blocks sight
     is_sight = (here.ground.sight (slot_of i) inside).0
 
     is_map : IsMapIn same standing.hash setting w standing.chart (seen_by standing.blocks sight)
     is_map = map_seen same standing.hash setting w standing.chart standing.blocks sight (map_in_slot same standing.hash standing.setting w standing.chart standing.blocks (slot_of i) here.ground.map) is_sight
 
-    abbrev went : Went same standing.hash setting i w standing.chart (seen_by standing.blocks sight) m2 (λ w2 c2 blocks2. Unit {0})
+    abbrev went : StepSpec same standing.hash setting i w standing.chart (seen_by standing.blocks sight) m2 (λ w2 c2 blocks2. Unit {0})
     went = went_as same standing.hash setting i w standing.chart (seen_by standing.blocks sight) m2 Told (λ w2 c2 blocks2. Unit {0}) (λ w2 c2 blocks2 map moved alike told. tt) had
 
     abbrev DidIt : Moved same standing.hash setting.mode i standing.chart went.c2 → Type 0
@@ -115,7 +115,7 @@ module _ {K V : Type 0} (same : K → K → Bool) (hash : ℕ → K → ℕ) (m 
     did = by made
       where
         did_by : (seen : Seen (Node K V)) → ((at : At) (x y : ℕ) → seen ≡ Wrote at x y → told ≡ changed.Wrote at x y) → ((at : At) (x y : ℕ) → told ≡ changed.Wrote at x y → seen ≡ Wrote at x y)
-            → IsTold standing.hash setting standing.chart (seen_by standing.blocks sight) went.c2 went.blocks2 same i went.moved seen → DidIt went.moved
+            → IsObserved standing.hash setting standing.chart (seen_by standing.blocks sight) went.c2 went.blocks2 same i went.moved seen → DidIt went.moved
         did_by = did_moved same (slot_of i) i map (Some (name i)) (shown.number map) standing lawful w sight is_sight is_map m2 (λ w2 c2 blocks2. Unit {0}) went blocks2 grown sights2 m known (shown.maps map standing there)
             shown.blocks told left
 
@@ -160,7 +160,7 @@ module _ {K V : Type 0} (same : K → K → Bool) (hash : ℕ → K → ℕ) (m 
         by (inr made) done = by_move made.0 done
 
 module _ {K V : Type 0} (same : K → K → Bool) (hash : ℕ → K → ℕ) (name : ℕ → List ℕ) (m : Moment K V) (known : Known) (s : Scene K V) (old new : Held K V) (at : IsAt same hash old s)
-    (shown : Shows same name m known s) (map i : ℕ) (u : UnderWay K V K) (under_way : s.calls map i ≡ Some u) (said : Progress (Node K V)) (leads : StepLeads same hash i said s old new) (owes : List Thing) where
+    (shown : Refines same name m known s) (map i : ℕ) (u : UnderWay K V K) (under_way : s.calls map i ≡ Some u) (said : Progress (Node K V)) (leads : StepLeads same hash i said s old new) (owes : List Thing) where
   abbrev to : WentTo same hash name m known s old new at shown map i u under_way said leads
   to = went_to same hash name m known s old new at shown map i u under_way said leads
 

@@ -10,7 +10,7 @@ use Rattle.run_places.specs.Given.SeizeWordsDeclared.at.At.TheVariants.{Root}
 use Rattle.run_places.specs.Given.TablesDeclared.node.Node.{Node}
 use Rattle.run_places.specs.Given.RunsDeclared.effect.Effect.{Effect}
 use Rattle.run_places.specs.Given.RunsDeclared.effect.Effect.TheVariants as effect
-use Rattle.run_places.specs.Given.TellerTells.{StepsTold, told_of}
+use Rattle.run_places.specs.Given.TellerTells.{StepsObserved, observed_of}
 use Rattle.run_places.specs.Given.EffectsDeclared.changed.Changed.{Changed}
 use Rattle.run_places.specs.Given.EffectsDeclared.changed.Changed.TheVariants as changed
 use Rattle.run_places.specs.Given.TellsSeen.{seen_of}
@@ -41,7 +41,7 @@ module _ {K V : Type 0} (m m2 : Mem (Node K V)) where
   wrote_other : (at : At) (x y r old new : ℕ) → IsNoRoot at → changed.Wrote at x y ≡ changed.Wrote (Root r) old new → old ≡ 0
   wrote_other at x y r old new other e = absurd (let same : at ≡ Root r = cc e in subst IsNoRoot same other)
 
-  spared_op : (op : Op (Node K V)) (out : Out (Node K V)) → SparesRoot op → Took m op out m2 → WritesNoRoot (told_of op out (seen_of m op out))
+  spared_op : (op : Op (Node K V)) (out : Out (Node K V)) → SparesRoot op → Took m op out m2 → WritesNoRoot (observed_of op out (seen_of m op out))
   spared_op (Load at) out spares took r old new e = absurd (cc e)
   spared_op (Store at word) out spares took r old new e = wrote_other at _ _ r old new spares e
   spared_op (Swap at word) (Found before) spares took r old new e = wrote_other at _ _ r old new spares e
@@ -64,7 +64,7 @@ module _ {K V : Type 0} (m m2 : Mem (Node K V)) where
   spared_op (Room bucket) (Roomed result) spares took r old new e = absurd (cc e)
   spared_op (Room bucket) _ spares took r old new e = absurd (cc e)
 
-  pub spared_tells : {R : Type 0} (told : Changed) (plan : Plan (Node K V) R) (end : R) → PlanSparesRoot plan → StepsTold K V R m changed.Nothing plan m2 told end → WritesNoRoot told
+  pub spared_tells : {R : Type 0} (told : Changed) (plan : Plan (Node K V) R) (end : R) → PlanSparesRoot plan → StepsObserved K V R m changed.Nothing plan m2 told end → WritesNoRoot told
   spared_tells told (Turn rest) end spares steps r old new e = absurd (let nothing = steps.2 in cc (nothing, e))
   spared_tells told (Do op rest) end spares steps r old new e = spared_op op steps.0 spares steps.1.0 r old new (sym steps.1.1 ∙ e)
 

@@ -40,7 +40,7 @@ HasToCount true n = 0 < n
 HasToCount false n = n ≡ 0
 
 -- each call under way has gained or lost a pair that it has not counted, just if its machine is about to count
-pub record ShowsCounts {K V : Type 0} (name : ℕ → List ℕ) (m : Moment K V) (s : Scene K V) : Type 0 where
+pub record RefinesCounts {K V : Type 0} (name : ℕ → List ℕ) (m : Moment K V) (s : Scene K V) : Type 0 where
   pub counts : (map i : ℕ) (u : UnderWay K V K) → s.calls map i ≡ Some u → (c : CallThere K V) → call_of (name i) m ≡ Some c → HasToCount (is_to_count (machine_of u)) (c.gained + c.lost)
 
 -- the shard of a map's count in which a caller counts

@@ -22,8 +22,8 @@ use Rattle.run_places.specs.Given.ScenesDeclared.row.SlotRow.{SlotRow}
 use Rattle.owner_facts.specs.Given.FinishesEndings.{Finishing}
 use Rattle.owner_facts.specs.Given.FinishesMakings.{Beginning}
 use Rattle.owner_facts.specs.Given.FinishesMaps.{Standing, with_call}
-use Rattle.run_places.specs.Given.FollowsShows.{Shows}
-use Rattle.run_places.specs.Hands.Rows.{ShowsRows}
+use Rattle.run_places.specs.Given.FollowsShows.{Refines}
+use Rattle.run_places.specs.Hands.Rows.{RowsReclaimNone}
 use Rattle.run_places.specs.Given.ScenesEnding.{EndingLeads, ending_begun}
 use Rattle.run_places.specs.Given.ScenesHeld.{Held, IsAt}
 use Rattle.run_places.specs.Given.ScenesMaking.{MakingLeads}
@@ -58,54 +58,54 @@ RetiresOne Blank (Settles c) = OneAt Blank c c.stands
 RetiresOne Blank _ = Unit {0}
 
 -- what somebody has is blank, and the row within a call retires one block, which is blank until its batch is told of
-pub record ShowsEntries {K V : Type 0} (s : Scene K V) : Type 0 where
+pub record EntriesAreBlank {K V : Type 0} (s : Scene K V) : Type 0 where
   pub blank : (b : ℕ) → IsSomebodys (s.world.hand b) → IsBlank s.world.memory b
   pub one : (map i : ℕ) (u : UnderWay K V K) → s.calls map i ≡ Some u → RetiresOne (IsBlank s.world.memory) (s.world.row i)
 
 -- The promises: so it is before all events,
 abbrev pub EntriesBegin : Type 0 → Type 0 → Type 0
-EntriesBegin K V = (roots : ℕ) → ShowsEntries {K = K} {V = V} (at_first roots)
+EntriesBegin K V = (roots : ℕ) → EntriesAreBlank {K = K} {V = V} (at_first roots)
 
 -- where a call begins, whose row rests, or goes on otherwise, or is given up,
-abbrev pub CallsGoOnEntries : Type 0 → Type 0 → Type 0
-CallsGoOnEntries K V =
-    (s : Scene K V) → ShowsEntries s → (map i : ℕ) (next : Option (UnderWay K V K)) → ((u : UnderWay K V K) × (s.calls map i ≡ Some u)) ⊎ (s.world.row i ≡ Rests)
-    → ShowsEntries (record s { calls = with_call s.calls map i next })
+abbrev pub CallsContinueEntries : Type 0 → Type 0 → Type 0
+CallsContinueEntries K V =
+    (s : Scene K V) → EntriesAreBlank s → (map i : ℕ) (next : Option (UnderWay K V K)) → ((u : UnderWay K V K) × (s.calls map i ≡ Some u)) ⊎ (s.world.row i ≡ Rests)
+    → EntriesAreBlank (record s { calls = with_call s.calls map i next })
 
 -- where the end of a map begins,
 abbrev pub EndingsBeginEntries : Type 0 → Type 0 → Type 0
-EndingsBeginEntries K V = (s : Scene K V) → ShowsEntries s → (map i : ℕ) (standing : Standing K) → ShowsEntries (ending_begun map i standing s)
+EndingsBeginEntries K V = (s : Scene K V) → EntriesAreBlank s → (map i : ℕ) (standing : Standing K) → EntriesAreBlank (ending_begun map i standing s)
 
 module _ (K V : Type 0) (same : K → K → Bool) (hash : ℕ → K → ℕ) where
   -- after each step of a call,
-  abbrev pub CallsKeepEntries : Type 0
-  CallsKeepEntries =
-      (name : ℕ → List ℕ) (m : Moment K V) (known : Known) (s : Scene K V) (old new : Held K V) → IsAt same hash old s → Shows same name m known s → ShowsRows s → ShowsEntries s
+  abbrev pub CallsPreserveEntries : Type 0
+  CallsPreserveEntries =
+      (name : ℕ → List ℕ) (m : Moment K V) (known : Known) (s : Scene K V) (old new : Held K V) → IsAt same hash old s → Refines same name m known s → RowsReclaimNone s → EntriesAreBlank s
       → (map i : ℕ) (u : UnderWay K V K) (here : s.calls map i ≡ Some u) (said : Progress (Node K V)) (leads : StepLeads same hash i said s old new)
-      → (let to = leads map u here in ShowsEntries (scene_after same s old new map i to.0 u to.1 said to.4))
+      → (let to = leads map u here in EntriesAreBlank (scene_after same s old new map i to.0 u to.1 said to.4))
 
   -- where a row begins on a slot, and after a step of it,
   abbrev pub RowsBeginEntries : Type 0
   RowsBeginEntries =
-      (s : Scene K V) (old new : Held K V) → IsAt same hash old s → ShowsEntries s
+      (s : Scene K V) (old new : Held K V) → IsAt same hash old s → EntriesAreBlank s
       → (called : SlotCall) (i : ℕ) (leads : RowBegins same hash called i s old new)
-      → (let to = leads.2 in ShowsEntries (record s { world = to.0; maps = to.2 }))
+      → (let to = leads.2 in EntriesAreBlank (record s { world = to.0; maps = to.2 }))
 
-  abbrev pub RowsKeepEntries : Type 0
-  RowsKeepEntries =
-      (s : Scene K V) (old new : Held K V) → IsAt same hash old s → ShowsEntries s
+  abbrev pub RowsPreserveEntries : Type 0
+  RowsPreserveEntries =
+      (s : Scene K V) (old new : Held K V) → IsAt same hash old s → EntriesAreBlank s
       → (i : ℕ) (told : RowTold (Node K V)) (leads : RowLeads same hash i told s old new) (row : SlotRow) (here : IsOnSlot s i row)
-      → (let to = (leads row here).2 in ShowsEntries (record s { world = to.0; maps = to.2 }))
+      → (let to = (leads row here).2 in EntriesAreBlank (record s { world = to.0; maps = to.2 }))
 
   -- after a step of the making of a map, and of the end of one.
-  abbrev pub MakingsKeepEntries : Type 0
-  MakingsKeepEntries =
-      (s : Scene K V) (old new : Held K V) → IsAt same hash old s → ShowsEntries s
+  abbrev pub MakingsPreserveEntries : Type 0
+  MakingsPreserveEntries =
+      (s : Scene K V) (old new : Held K V) → IsAt same hash old s → EntriesAreBlank s
       → (i : ℕ) (told : Making Setting) (leads : MakingLeads same hash i told s old new) (b : Beginning K) (here : s.makers i ≡ Some b)
-      → (let to = leads b here in ShowsEntries (record s { world = to.2.step.w2 }))
+      → (let to = leads b here in EntriesAreBlank (record s { world = to.2.step.w2 }))
 
-  abbrev pub EndingsKeepEntries : Type 0
-  EndingsKeepEntries =
-      (s : Scene K V) (old new : Held K V) → IsAt same hash old s → ShowsEntries s
+  abbrev pub EndingsPreserveEntries : Type 0
+  EndingsPreserveEntries =
+      (s : Scene K V) (old new : Held K V) → IsAt same hash old s → EntriesAreBlank s
       → (i : ℕ) (told : Settled (Node K V)) (leads : EndingLeads same hash i told s old new) (f : Finishing K V) (here : s.enders i ≡ Some f)
-      → (let to = leads f here in ShowsEntries (record s { world = to.2.w2 }))
+      → (let to = leads f here in EntriesAreBlank (record s { world = to.2.w2 }))

@@ -109,11 +109,11 @@ module _ (OfPair OfTable : ℕ → Type 0) where
   HoldsOfSweep (sweeping.Copies copier) = HoldsTables OfTable copier copier.stands
   HoldsOfSweep p = HoldsAt OfPair (pair_in_sweeping p)
 
-  abbrev pub HoldsInHand : {K V Q : Type 0} → Machine K V Q → Type 0
-  HoldsInHand (kinds.Key p) = HoldsOfCall p.stands
-  HoldsInHand (kinds.Reserve r) = HoldsOfRoom r.stands
-  HoldsInHand (kinds.Sweep c) = HoldsOfSweep c.stands
-  HoldsInHand (kinds.Count sum) = Unit {0}
+  abbrev pub HoldsOfPending : {K V Q : Type 0} → Machine K V Q → Type 0
+  HoldsOfPending (kinds.Key p) = HoldsOfCall p.stands
+  HoldsOfPending (kinds.Reserve r) = HoldsOfRoom r.stands
+  HoldsOfPending (kinds.Sweep c) = HoldsOfSweep c.stands
+  HoldsOfPending (kinds.Count sum) = Unit {0}
 
 -- what it has in hand is noted: that of each pair's word as a pair, and that of each table's as a table
 module _ (known : Known) where
@@ -144,18 +144,18 @@ module _ (known : Known) where
   abbrev pub NotesOfSweep : Sweeping → Type 0
   NotesOfSweep p = HoldsOfSweep IsPairAt IsTableAt p
 
-  abbrev pub NotesInHand : {K V Q : Type 0} → Machine K V Q → Type 0
-  NotesInHand machine = HoldsInHand IsPairAt IsTableAt machine
+  abbrev pub NotesPending : {K V Q : Type 0} → Machine K V Q → Type 0
+  NotesPending machine = HoldsOfPending IsPairAt IsTableAt machine
 
 -- each block of it is what it was
 module _ (known known2 : Known) where
   abbrev pub IsSameRole : ℕ → Type 0
   IsSameRole b = known2.roles b ≡ known.roles b
 
-  abbrev pub SameInHand : {K V Q : Type 0} → Machine K V Q → Type 0
-  SameInHand machine = HoldsInHand IsSameRole IsSameRole machine
+  abbrev pub SamePending : {K V Q : Type 0} → Machine K V Q → Type 0
+  SamePending machine = HoldsOfPending IsSameRole IsSameRole machine
 
 -- each call under way owes just what it has in hand, in the order in which it hands that over, and all of it is noted
-pub record ShowsOwed {K V : Type 0} (name : ℕ → List ℕ) (m : Moment K V) (known : Known) (s : Scene K V) : Type 0 where
+pub record RefinesObligations {K V : Type 0} (name : ℕ → List ℕ) (m : Moment K V) (known : Known) (s : Scene K V) : Type 0 where
   pub owed : (map i : ℕ) (u : UnderWay K V K) → s.calls map i ≡ Some u → (c : CallThere K V) → call_of (name i) m ≡ Some c → c.owes ≡ in_hand known (machine_of u)
-  pub noted : (map i : ℕ) (u : UnderWay K V K) → s.calls map i ≡ Some u → NotesInHand known (machine_of u)
+  pub noted : (map i : ℕ) (u : UnderWay K V K) → s.calls map i ≡ Some u → NotesPending known (machine_of u)

@@ -18,69 +18,69 @@ use Rattle.run_places.specs.Given.EffectsKnown.{Known}
 use Rattle.run_places.specs.Given.EffectsDeclared.acting.Acting.TheVariants.{Call as OfCall}
 use Rattle.owner_facts.specs.Given.FinishesMaps.{with_call as with_in}
 use Rattle.run_places.specs.Given.FollowsCalling.{NoneNamed, told, come_to}
-use Rattle.run_places.specs.Given.FollowsCalls.{ShowsCalls}
-use Rattle.run_places.specs.Moments.Whole.{ShowsWhole}
+use Rattle.run_places.specs.Given.FollowsCalls.{RefinesCalls}
+use Rattle.run_places.specs.Moments.Whole.{RefinesWhole}
 use Rattle.run_places.specs.Given.OthersWalks.{given_up}
-use Rattle.run_debts.specs.Hand.{ShowsOwed}
+use Rattle.run_debts.specs.Hand.{RefinesObligations}
 use Rattle.run_places.specs.Given.ScenesHeld.{Held, IsAt}
 use Rattle.run_places.specs.Given.ScenesReplying.{AskLeads, StopLeads, scene_with, unless_stopped}
 use Rattle.run_places.specs.Given.ScenesScene.{Scene, at_first}
 use Rattle.run_places.specs.Given.ScenesStepping.{StepLeads, scene_after}
 
 -- each call whose row is under way hands something over
-abbrev pub HandsTold : {K V : Type 0} → (ℕ → List ℕ) → Moment K V → Scene K V → Type 0
-HandsTold {K} {V} name m s =
+abbrev pub RowsAreHandingOver : {K V : Type 0} → (ℕ → List ℕ) → Moment K V → Scene K V → Type 0
+RowsAreHandingOver {K} {V} name m s =
     (map i : ℕ) (u : UnderWay K V K) → s.calls map i ≡ Some u → (s.world.row i ≡ Rests → ⊥) → (c : CallThere K V) → call_of (name i) m ≡ Some c → is_handing c ≡ true
 
 module _ (K V : Type 0) (same : K → K → Bool) (hash : ℕ → K → ℕ) where
   -- The promise: so it is after each step of a call, whoever's, where calls owed what they had in hand.
-  abbrev pub CallsKeepHanding : Type 0
-  CallsKeepHanding =
-      (name : ℕ → List ℕ) (m : Moment K V) (known : Known) (s : Scene K V) (old new : Held K V) → IsAt same hash old s → ShowsWhole same name m known s → ShowsOwed name m known s → HandsTold name m s
+  abbrev pub CallsPreserveHanding : Type 0
+  CallsPreserveHanding =
+      (name : ℕ → List ℕ) (m : Moment K V) (known : Known) (s : Scene K V) (old new : Held K V) → IsAt same hash old s → RefinesWhole same name m known s → RefinesObligations name m known s → RowsAreHandingOver name m s
       → (map i : ℕ) (u : UnderWay K V K) (here : s.calls map i ≡ Some u) (said : Progress (Node K V)) (leads : StepLeads same hash i said s old new)
       → (let to = leads map u here in
-      HandsTold name (with_effects (Some (name i)) (Some map) (effects_of (OfCall i map) known new.changed) m) (scene_after same s old new map i to.0 u to.1 said to.4))
+      RowsAreHandingOver name (with_effects (Some (name i)) (Some map) (effects_of (OfCall i map) known new.changed) m) (scene_after same s old new map i to.0 u to.1 said to.4))
 
   -- What is no call leaves it as it was, where calls owe what they have in hand: a row on a slot, the making of a map, and the end of one.
   abbrev pub OthersLeaveHanding : Type 0
   OthersLeaveHanding =
-      (name : ℕ → List ℕ) (m v : Moment K V) (known : Known) (s t : Scene K V) (old new : Held K V) → IsAt same hash old s → IsAt same hash new t → ShowsOwed name m known s → HandsTold name m s
-      → v.calls ≡ m.calls → t.calls ≡ s.calls → HandsTold name v t
+      (name : ℕ → List ℕ) (m v : Moment K V) (known : Known) (s t : Scene K V) (old new : Held K V) → IsAt same hash old s → IsAt same hash new t → RefinesObligations name m known s → RowsAreHandingOver name m s
+      → v.calls ≡ m.calls → t.calls ≡ s.calls → RowsAreHandingOver name v t
 
   -- So does a walk that goes on to its next pair,
-  abbrev pub WalksGoOnHanding : Type 0
-  WalksGoOnHanding =
-      (name : ℕ → List ℕ) (m : Moment K V) (s : Scene K V) (old new : Held K V) → HandsTold name m s
-      → (i : ℕ) (leads : AskLeads same hash i true s old new) (map : ℕ) (u : UnderWay K V K) (here : s.calls map i ≡ Some u) → HandsTold name m (scene_with map i (leads map u here).0 s)
+  abbrev pub WalksPreserveHanding : Type 0
+  WalksPreserveHanding =
+      (name : ℕ → List ℕ) (m : Moment K V) (s : Scene K V) (old new : Held K V) → RowsAreHandingOver name m s
+      → (i : ℕ) (leads : AskLeads same hash i true s old new) (map : ℕ) (u : UnderWay K V K) (here : s.calls map i ≡ Some u) → RowsAreHandingOver name m (scene_with map i (leads map u here).0 s)
 
   -- or is given up: no call that is under way then has its name.
   abbrev pub WalksStopHanding : Type 0
   WalksStopHanding =
-      (name : ℕ → List ℕ) (m : Moment K V) (s : Scene K V) (old new : Held K V) → ShowsCalls same name m s.calls → HandsTold name m s
+      (name : ℕ → List ℕ) (m : Moment K V) (s : Scene K V) (old new : Held K V) → RefinesCalls same name m s.calls → RowsAreHandingOver name m s
       → (i : ℕ) (stopped : Bool) → StopLeads same hash i stopped s old new → (map : ℕ) (u : UnderWay K V K) → s.calls map i ≡ Some u
       → (let after = record s { calls = with_in s.calls map i (unless_stopped stopped u) } in
-      (stopped ≡ true → NoneNamed name (name i) after) → HandsTold name (given_up (name i) stopped m) after)
+      (stopped ≡ true → NoneNamed name (name i) after) → RowsAreHandingOver name (given_up (name i) stopped m) after)
 
 module _ (K V : Type 0) where
   -- The promises: so it is before all events,
   abbrev pub HandingBegins : Type 0
-  HandingBegins = (roots : ℕ) (name : ℕ → List ℕ) → HandsTold {K = K} {V = V} name start (at_first roots)
+  HandingBegins = (roots : ℕ) (name : ℕ → List ℕ) → RowsAreHandingOver {K = K} {V = V} name start (at_first roots)
 
   -- where a call begins by a name that no call under way has, and its row rests,
   abbrev pub CallsBeginHanding : Type 0
   CallsBeginHanding =
-      (name : ℕ → List ℕ) (m : Moment K V) (s : Scene K V) → HandsTold name m s
+      (name : ℕ → List ℕ) (m : Moment K V) (s : Scene K V) → RowsAreHandingOver name m s
       → (map i : ℕ) (u : UnderWay K V K) (call : Call K V) (guard : List ℕ) → NoneNamed name (name i) s → s.world.row i ≡ Rests
-      → HandsTold name (with_call (name i) guard call (Some map) m) (scene_with map i u s)
+      → RowsAreHandingOver name (with_call (name i) guard call (Some map) m) (scene_with map i u s)
 
   -- where one that asks goes on by what it is told,
   abbrev pub CallsTakeHanding : Type 0
   CallsTakeHanding =
-      (same : K → K → Bool) (name : ℕ → List ℕ) (m : Moment K V) (s : Scene K V) → ShowsCalls same name m s.calls → HandsTold name m s
-      → (map i : ℕ) (u : UnderWay K V K) → s.calls map i ≡ Some u → (next : UnderWay K V K) (is_told : Reply V) → HandsTold name (told (name i) is_told m) (scene_with map i next s)
+      (same : K → K → Bool) (name : ℕ → List ℕ) (m : Moment K V) (s : Scene K V) → RefinesCalls same name m s.calls → RowsAreHandingOver name m s
+      → (map i : ℕ) (u : UnderWay K V K) → s.calls map i ≡ Some u → (next : UnderWay K V K) (is_told : Reply V) → RowsAreHandingOver name (told (name i) is_told m) (scene_with map i next s)
 
   -- and where one comes to an outcome: where that is its end, no call under way has its name any more.
   abbrev pub CallsComeToHanding : Type 0
   CallsComeToHanding =
-      (same : K → K → Bool) (name : ℕ → List ℕ) (m : Moment K V) (s : Scene K V) → ShowsCalls same name m s.calls → HandsTold name m s
-      → (own : List ℕ) (outcome : Outcome V) (steps : ℕ) → (ends_call outcome ≡ true → NoneNamed name own s) → HandsTold name (come_to own outcome steps m) s
+      (same : K → K → Bool) (name : ℕ → List ℕ) (m : Moment K V) (s : Scene K V) → RefinesCalls same name m s.calls → RowsAreHandingOver name m s
+      → (own : List ℕ) (outcome : Outcome V) (steps : ℕ) → (ends_call outcome ≡ true → NoneNamed name own s) → RowsAreHandingOver name (come_to own outcome steps m) s

@@ -23,7 +23,7 @@ use Rattle.run_places.specs.Given.EffectsEffects.{effects_of}
 use Rattle.run_places.specs.Given.EffectsKnown.{Known}
 use Rattle.run_places.specs.Given.EffectsDeclared.acting.Acting.TheVariants.{Call}
 use Rattle.run_places.specs.Given.EffectsDeclared.role.Role.TheVariants as role
-use Rattle.run_places.specs.Given.FollowsShows.{Shows}
+use Rattle.run_places.specs.Given.FollowsShows.{Refines}
 use Rattle.run_places.specs.Given.FollowsSteps.{IsOfNoRow}
 use Rattle.run_debts.specs.Due.{due_in_disposing, word_due}
 use Rattle.run_places.specs.Given.ScenesHeld.{Held, IsAt}
@@ -53,9 +53,9 @@ abbrev pub TakesPair : List Effect → ℕ → Type 0
 TakesPair effects p = (effects ≡ Removed p ∷ []) ⊎ ((n : ℕ) × (s : Spot) × (effects ≡ Replaced p ∷ Stored n s ∷ []))
 
 -- The promise, of a step of a call on one key that is none of a row: if it takes a pair out of its map, then the call had none in hand, and has that one after it.
-abbrev pub CallsTakeInHand : (K V : Type 0) (same : K → K → Bool) (hash : ℕ → K → ℕ) → Type 0
-CallsTakeInHand K V same hash =
-    (name : ℕ → List ℕ) (m : Moment K V) (known : Known) (s : Scene K V) (old new : Held K V) → IsAt same hash old s → Shows same name m known s
+abbrev pub CallsTakePending : (K V : Type 0) (same : K → K → Bool) (hash : ℕ → K → ℕ) → Type 0
+CallsTakePending K V same hash =
+    (name : ℕ → List ℕ) (m : Moment K V) (known : Known) (s : Scene K V) (old new : Held K V) → IsAt same hash old s → Refines same name m known s
     → (map i : ℕ) (x : CallOnKey K V K) (here : s.calls map i ≡ Some (OnKey x)) (said : Progress (Node K V)) (leads : StepLeads same hash i said s old new)
     → (let to = leads map (OnKey x) here in
     IsOfNoRow same old.batch_size old.roots s.world s.maps s.calls s.makers s.enders map to.0 i new.memory to.4.w2 to.4.maps2 to.4.next (OnKey x) to.1 said to.4.did
@@ -66,7 +66,7 @@ CallsTakeInHand K V same hash =
 -- The promise, of a step that is none of a row, of a call that has a pair in hand: it has that one in hand still.
 abbrev pub CallsHoldTheirs : (K V : Type 0) (same : K → K → Bool) (hash : ℕ → K → ℕ) → Type 0
 CallsHoldTheirs K V same hash =
-    (name : ℕ → List ℕ) (m : Moment K V) (known : Known) (s : Scene K V) (old new : Held K V) → IsAt same hash old s → Shows same name m known s
+    (name : ℕ → List ℕ) (m : Moment K V) (known : Known) (s : Scene K V) (old new : Held K V) → IsAt same hash old s → Refines same name m known s
     → (map i : ℕ) (x : CallOnKey K V K) (here : s.calls map i ≡ Some (OnKey x)) (said : Progress (Node K V)) (leads : StepLeads same hash i said s old new)
     → (let to = leads map (OnKey x) here in
     IsOfNoRow same old.batch_size old.roots s.world s.maps s.calls s.makers s.enders map to.0 i new.memory to.4.w2 to.4.maps2 to.4.next (OnKey x) to.1 said to.4.did
@@ -74,9 +74,9 @@ CallsHoldTheirs K V same hash =
     → (p2 : KeyCall K V K) × (to.1 ≡ kinds.Key p2) × (word2 : ℕ) × (pair_in_calling p2.stands ≡ Some word2) × (block_in word2 ≡ block_in word))
 
 -- The promise, of a step of a sweep that is none of a row: if it removes a pair, then it is about to count that.
-abbrev pub SweepsTakeInHand : (K V : Type 0) (same : K → K → Bool) (hash : ℕ → K → ℕ) → Type 0
-SweepsTakeInHand K V same hash =
-    (name : ℕ → List ℕ) (m : Moment K V) (known : Known) (s : Scene K V) (old new : Held K V) → IsAt same hash old s → Shows same name m known s
+abbrev pub SweepsTakePending : (K V : Type 0) (same : K → K → Bool) (hash : ℕ → K → ℕ) → Type 0
+SweepsTakePending K V same hash =
+    (name : ℕ → List ℕ) (m : Moment K V) (known : Known) (s : Scene K V) (old new : Held K V) → IsAt same hash old s → Refines same name m known s
     → (map i : ℕ) (x : CallOverAll) (here : s.calls map i ≡ Some (OverAll x)) (said : Progress (Node K V)) (leads : StepLeads same hash i said s old new)
     → (let to = leads map (OverAll x) here in
     IsOfNoRow same old.batch_size old.roots s.world s.maps s.calls s.makers s.enders map to.0 i new.memory to.4.w2 to.4.maps2 to.4.next (OverAll x) to.1 said to.4.did
@@ -86,7 +86,7 @@ SweepsTakeInHand K V same hash =
 -- And one that has a pair in hand has that one in hand still.
 abbrev pub SweepsHoldTheirs : (K V : Type 0) (same : K → K → Bool) (hash : ℕ → K → ℕ) → Type 0
 SweepsHoldTheirs K V same hash =
-    (name : ℕ → List ℕ) (m : Moment K V) (known : Known) (s : Scene K V) (old new : Held K V) → IsAt same hash old s → Shows same name m known s
+    (name : ℕ → List ℕ) (m : Moment K V) (known : Known) (s : Scene K V) (old new : Held K V) → IsAt same hash old s → Refines same name m known s
     → (map i : ℕ) (x : CallOverAll) (here : s.calls map i ≡ Some (OverAll x)) (said : Progress (Node K V)) (leads : StepLeads same hash i said s old new)
     → (let to = leads map (OverAll x) here in
     IsOfNoRow same old.batch_size old.roots s.world s.maps s.calls s.makers s.enders map to.0 i new.memory to.4.w2 to.4.maps2 to.4.next (OverAll x) to.1 said to.4.did

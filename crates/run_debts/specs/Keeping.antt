@@ -21,8 +21,8 @@ use Rattle.run_places.specs.Given.EffectsKnown.{Known}
 use Rattle.run_places.specs.Given.EffectsDeclared.acting.Acting.TheVariants as acts
 use Rattle.owner_facts.specs.Given.FinishesMachines.{machine_of}
 use Rattle.run_places.specs.Given.FollowsCalling.{NoneNamed, told, come_to}
-use Rattle.run_places.specs.Moments.Whole.{ShowsWhole}
-use Rattle.run_debts.specs.Counts.{counts_in_calling, is_to_count, ShowsCounts, shard_for, FindCounts}
+use Rattle.run_places.specs.Moments.Whole.{RefinesWhole}
+use Rattle.run_debts.specs.Counts.{counts_in_calling, is_to_count, RefinesCounts, shard_for, FindCounts}
 use Rattle.run_places.specs.Given.ScenesHeld.{Held, IsAt}
 use Rattle.run_places.specs.Given.ScenesReplying.{scene_with}
 use Rattle.run_places.specs.Given.ScenesScene.{Scene, at_first}
@@ -30,29 +30,29 @@ use Rattle.run_places.specs.Given.ScenesStepping.{StepLeads, scene_after}
 
 -- The promises: nobody has anything to count as a run begins,
 abbrev pub CountsBegin : Type 0 → Type 0 → Type 0
-CountsBegin K V = (roots : ℕ) (name : ℕ → List ℕ) → ShowsCounts {K = K} {V = V} name start (at_first roots)
+CountsBegin K V = (roots : ℕ) (name : ℕ → List ℕ) → RefinesCounts {K = K} {V = V} name start (at_first roots)
 
 module _ (K V : Type 0) (same : K → K → Bool) (hash : ℕ → K → ℕ) where
   -- A step of a call that counts finds that it has something to count, and counts in its shard; it is so after the step, whoever takes it, and a call that has
   -- ended by it has nothing left to count.
-  abbrev pub CallsKeepCounts : Type 0
-  CallsKeepCounts =
-      (name : ℕ → List ℕ) (m : Moment K V) (known : Known) (s : Scene K V) (old new : Held K V) → IsAt same hash old s → ShowsWhole same name m known s → ShowsCounts name m s
+  abbrev pub CallsPreserveCounts : Type 0
+  CallsPreserveCounts =
+      (name : ℕ → List ℕ) (m : Moment K V) (known : Known) (s : Scene K V) (old new : Held K V) → IsAt same hash old s → RefinesWhole same name m known s → RefinesCounts name m s
       → (map i : ℕ) (u : UnderWay K V K) (here : s.calls map i ≡ Some u) (said : Progress (Node K V)) (leads : StepLeads same hash i said s old new)
       → (let to = leads map u here in
       let effects = effects_of (acts.Call i map) known new.changed in
       let v = with_effects (Some (name i)) (Some map) effects m in
       FindCounts (shard_for i to.0.setting) (name i) map effects m
-      × ShowsCounts name v (scene_after same s old new map i to.0 u to.1 said to.4)
+      × RefinesCounts name v (scene_after same s old new map i to.0 u to.1 said to.4)
       × (to.4.next ≡ None → (c : CallThere K V) → call_of (name i) v ≡ Some c → c.gained + c.lost ≡ 0))
 
 module _ (K V : Type 0) where
   -- So it is where a call begins that has nothing to count, by a name that no call under way has,
   abbrev pub CallsBeginCounts : Type 0
   CallsBeginCounts =
-      (name : ℕ → List ℕ) (m : Moment K V) (s : Scene K V) → ShowsCounts name m s
+      (name : ℕ → List ℕ) (m : Moment K V) (s : Scene K V) → RefinesCounts name m s
       → (map i : ℕ) (u : UnderWay K V K) (call : Call K V) (guard : List ℕ) → NoneNamed name (name i) s → is_to_count (machine_of u) ≡ false
-      → ShowsCounts name (with_call (name i) guard call (Some map) m) (scene_with map i u s)
+      → RefinesCounts name (with_call (name i) guard call (Some map) m) (scene_with map i u s)
 
   -- as each call on one key begins,
   abbrev pub CallsBeginUncounted : Type 0
@@ -63,12 +63,12 @@ module _ (K V : Type 0) where
   -- where one that asks goes on by what it is told,
   abbrev pub CallsTakeCounts : Type 0
   CallsTakeCounts =
-      (same : K → K → Bool) (name : ℕ → List ℕ) (m : Moment K V) (known : Known) (s : Scene K V) → ShowsWhole same name m known s → ShowsCounts name m s
+      (same : K → K → Bool) (name : ℕ → List ℕ) (m : Moment K V) (known : Known) (s : Scene K V) → RefinesWhole same name m known s → RefinesCounts name m s
       → (map i : ℕ) (u : UnderWay K V K) → s.calls map i ≡ Some u → (reply : MachineReply V) (next : UnderWay K V K) → machine_of next ≡ (machine_replied (machine_of u) reply).0
-      → (is_told : Reply V) → ShowsCounts name (told (name i) is_told m) (scene_with map i next s)
+      → (is_told : Reply V) → RefinesCounts name (told (name i) is_told m) (scene_with map i next s)
 
   -- and where one comes to an outcome: where that is its end, no call under way has its name any more.
   abbrev pub CallsComeToCounts : Type 0
   CallsComeToCounts =
-      (same : K → K → Bool) (name : ℕ → List ℕ) (m : Moment K V) (known : Known) (s : Scene K V) → ShowsWhole same name m known s → ShowsCounts name m s
-      → (own : List ℕ) (outcome : Outcome V) (steps : ℕ) → (ends_call outcome ≡ true → NoneNamed name own s) → ShowsCounts name (come_to own outcome steps m) s
+      (same : K → K → Bool) (name : ℕ → List ℕ) (m : Moment K V) (known : Known) (s : Scene K V) → RefinesWhole same name m known s → RefinesCounts name m s
+      → (own : List ℕ) (outcome : Outcome V) (steps : ℕ) → (ends_call outcome ≡ true → NoneNamed name own s) → RefinesCounts name (come_to own outcome steps m) s

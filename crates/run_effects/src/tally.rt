@@ -5,7 +5,7 @@ ghost use Rattle.run_schedules.specs.declared.effect.Effect.TheVariants as effec
 ghost use Rattle.run_schedules.specs.Schedules.Things.{same_table};
 ghost use Rattle.run_effects.specs.Tallies.ByMap.{numbers_in};
 ghost use Rattle.run_effects.specs.Tallies.Places.{Comes, Leads};
-ghost use Rattle.run_effects.specs.Tallies.Tally.{TellsAll, TellsNext, counted, flagged, numbers_at, numbers_behind, passes, stored_in, waits};
+ghost use Rattle.run_effects.specs.Tallies.Tally.{RecordsAll, RecordsNext, counted, flagged, numbers_at, numbers_behind, passes, stored_in, waits};
 ghost use Rattle.run_effects.specs.declared.tally.Whereabouts.TheVariants.{Unborn, Waits};
 
 use crate::by_map::ByMap;
@@ -210,7 +210,7 @@ impl Tally {
 
     /// A pair or a table is retired.
     fn retire(&mut self, thing: Thing) -> Result<(), AllocError>
-        ensures { (map : Option ℕ) → OnOk result (TellsNext map (effect.Retired thing) self.old self.new) }
+        ensures { (map : Option ℕ) → OnOk result (RecordsNext map (effect.Retired thing) self.old self.new) }
     {
         match thing {
             Thing::APair(pair) => self.put(pair, Whereabouts::Waits),
@@ -223,7 +223,7 @@ impl Tally {
 
     /// A pair or a table is reclaimed.
     fn reclaim(&mut self, thing: Thing) -> Result<(), AllocError>
-        ensures { (map : Option ℕ) → OnOk result (TellsNext map (effect.Reclaimed thing) self.old self.new) }
+        ensures { (map : Option ℕ) → OnOk result (RecordsNext map (effect.Reclaimed thing) self.old self.new) }
     {
         match thing {
             Thing::APair(pair) => self.put(pair, Whereabouts::Back),
@@ -245,7 +245,7 @@ impl Tally {
 
     /// Notes an effect of an event on this map, if on any.
     pub fn note(&mut self, map: Option<u64>, effect: Effect) -> Result<(), AllocError>
-        ensures { OnOk result (TellsNext map effect self.old self.new) }
+        ensures { OnOk result (RecordsNext map effect self.old self.new) }
     {
         match effect {
             Effect::Stored { pair, .. } => self.put(pair, stored_in(map)),
@@ -263,7 +263,7 @@ impl Tally {
 
     /// Notes the effects of an event on this map, if on any, in their order.
     pub fn note_all(&mut self, map: Option<u64>, effects: &[Effect]) -> Result<(), AllocError>
-        ensures { OnOk result (TellsAll map effects.now self.old self.new) }
+        ensures { OnOk result (RecordsAll map effects.now self.old self.new) }
     {
         for effect in effects {
             self.note(map, *effect)?;

@@ -2,7 +2,7 @@
 ghost use Rattle.std.specs.Prelude.{◌≡◌, ◌<◌, ◌+◌, ◌*◌, ℕ, Bool, length, IfOk, IfErr, OnErr};
 ghost use Rattle.run_shows.specs.declared.callers.TheConstants.{SLOTS};
 ghost use Rattle.run_executor.specs.Executing.Beginning.{BeginsThere, HasNoNumber, HasNoPlace, IsRefused};
-ghost use Rattle.run_executor.specs.Executing.IsThere.{IsThere, KeepsGiven, StaysGiven};
+ghost use Rattle.run_executor.specs.Executing.IsThere.{IsThere, PreservesSettings, StaysGiven};
 ghost use Rattle.run_executor.specs.Executing.MakingBegins.{MakingBegins};
 ghost use Rattle.run_shows.specs.Scenes.Scene.{Scene};
 
@@ -23,7 +23,7 @@ impl<K: Drop, V: Drop, S> Executor<K, V, S> {
         requires { slot < SLOTS }
         ensures number { IfOk result (λ caller. caller ≡ length self.old.workers.items * SLOTS + slot) }
         ensures leads { IfOk result (λ caller. (same : K → K → Bool) (hash : K → ℕ) (s : Scene K V) → IsThere same hash self.old s → BeginsThere same hash map machine caller s self.old self.new) }
-        ensures given { KeepsGiven self.old self.new }
+        ensures given { PreservesSettings self.old self.new }
         ensures refused { IfErr result (λ error. IsRefused self.old self.new) }
         ensures only { OnErr result (HasNoPlace self.old) }
     {

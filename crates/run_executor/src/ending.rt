@@ -4,7 +4,7 @@ ghost use Rattle.papaya_raw.specs.Given.TablesDeclared.setting.Setting.{Setting}
 ghost use Rattle.run_shows.specs.declared.callers.TheConstants.{SLOTS};
 ghost use Rattle.run_executor.specs.Executing.Beginning.{HasNoPlace, IsRefused};
 ghost use Rattle.run_executor.specs.Executing.Ending.{EndingBegins, EndsThere, ending_on};
-ghost use Rattle.run_executor.specs.Executing.IsThere.{IsThere, KeepsGiven, worker_of};
+ghost use Rattle.run_executor.specs.Executing.IsThere.{IsThere, PreservesSettings, worker_of};
 ghost use Rattle.run_shows.specs.Scenes.Scene.{IsEnding, Scene};
 
 use crate::beginning::MOST_CALLERS;
@@ -58,7 +58,7 @@ impl<K: Drop, V: Drop, S> Executor<K, V, S> {
         requires stands { (setting : Setting) × (slice_index_or self.old.maps.items map None ≡ Some setting) }
         ensures number { IfOk result (λ caller. caller ≡ length self.old.workers.items * SLOTS + slot) }
         ensures leads { IfOk result (λ caller. (same : K → K → Bool) (hash : K → ℕ) (s : Scene K V) → IsThere same hash self.old s → EndingBegins same hash map caller s self.old self.new) }
-        ensures given { KeepsGiven self.old self.new }
+        ensures given { PreservesSettings self.old self.new }
         ensures refused { IfErr result (λ error. IsRefused self.old self.new) }
         ensures only { OnErr result (HasNoPlace self.old) }
     {
@@ -78,7 +78,7 @@ impl<K: Drop, V: Drop, S> Executor<K, V, S> {
     pub fn step_ending(&mut self, caller: u64) -> Settled<Node<K, V>>
         requires { (same : K → K → Bool) × (hash : K → ℕ) × (s : Scene K V) × IsThere same hash self.old s × IsEnding s caller }
         ensures leads { (same : K → K → Bool) (hash : K → ℕ) (s : Scene K V) → IsThere same hash self.old s → EndsThere same hash caller result s self.old self.new }
-        ensures given { KeepsGiven self.old self.new }
+        ensures given { PreservesSettings self.old self.new }
     {
         let place = (caller / SLOTS) as usize;
         let TakenEnding { slot, mut ending } = take_ending(&mut self.workers, place);

@@ -1,6 +1,6 @@
 //! A step of the making of a map.
 ghost use Rattle.std.specs.Prelude.{◌≡◌, ◌<◌, ℕ, Bool, length};
-ghost use Rattle.run_executor.specs.Executing.IsThere.{IsThere, KeepsGiven, worker_of};
+ghost use Rattle.run_executor.specs.Executing.IsThere.{IsThere, PreservesSettings, worker_of};
 ghost use Rattle.run_executor.specs.Executing.Making.{MakesThere, making_on, maps_on};
 ghost use Rattle.run_shows.specs.Scenes.Scene.{IsMaking, Scene};
 
@@ -48,7 +48,7 @@ impl<K: Drop, V: Drop, S> Executor<K, V, S> {
         requires { (same : K → K → Bool) × (hash : K → ℕ) × (s : Scene K V) × IsThere same hash self.old s × IsMaking s caller }
         ensures leads { (same : K → K → Bool) (hash : K → ℕ) (s : Scene K V) → IsThere same hash self.old s → MakesThere same hash caller result s self.old self.new }
         ensures numbers { length self.new.maps.items ≡ length self.old.maps.items }
-        ensures given { KeepsGiven self.old self.new }
+        ensures given { PreservesSettings self.old self.new }
     {
         let place = (caller / SLOTS) as usize;
         let TakenMaking {

@@ -7,7 +7,7 @@ ghost use Rattle.run_shows.specs.declared.row.SlotRow.TheVariants as rows;
 ghost use Rattle.run_executor.specs.declared.worker.Work.TheVariants.{OnSlot};
 ghost use Rattle.run_shows.specs.declared.callers.TheConstants.{SLOTS};
 ghost use Rattle.run_executor.specs.Executing.Beginning.{HasNoPlace, IsRefused};
-ghost use Rattle.run_executor.specs.Executing.IsThere.{IsThere, KeepsGiven, work_of, worker_of};
+ghost use Rattle.run_executor.specs.Executing.IsThere.{IsThere, PreservesSettings, work_of, worker_of};
 ghost use Rattle.run_executor.specs.Executing.OnSlots.{RowBeginsThere, RowStepsThere, row_on};
 ghost use Rattle.run_shows.specs.Scenes.OnSlots.{RowSteps};
 ghost use Rattle.run_shows.specs.Scenes.Rows.{uses_after, uses_begun};
@@ -162,7 +162,7 @@ impl<K: Drop, V: Drop, S> Executor<K, V, S> {
         requires { slot < SLOTS }
         ensures number { IfOk result (λ caller. caller ≡ length self.old.workers.items * SLOTS + slot) }
         ensures leads { IfOk result (λ caller. (same : K → K → Bool) (hash : K → ℕ) (s : Scene K V) → IsThere same hash self.old s → RowBeginsThere same hash called caller s self.old self.new) }
-        ensures given { KeepsGiven self.old self.new }
+        ensures given { PreservesSettings self.old self.new }
         ensures refused { IfErr result (λ error. IsRefused self.old self.new) }
         ensures only { OnErr result (HasNoPlace self.old) }
     {
@@ -181,7 +181,7 @@ impl<K: Drop, V: Drop, S> Executor<K, V, S> {
     pub fn step_on_slot(&mut self, caller: u64) -> RowTold<Node<K, V>>
         requires { (same : K → K → Bool) × (hash : K → ℕ) × (s : Scene K V) × IsThere same hash self.old s × (row : SlotRow) × (work_of self.old caller ≡ Some (OnSlot row)) }
         ensures leads { (same : K → K → Bool) (hash : K → ℕ) (s : Scene K V) → IsThere same hash self.old s → RowStepsThere same hash caller result s self.old self.new }
-        ensures given { KeepsGiven self.old self.new }
+        ensures given { PreservesSettings self.old self.new }
     {
         let place = (caller / SLOTS) as usize;
         let TakenRow { slot, row } = take_row(&mut self.workers, place);

@@ -2,7 +2,7 @@
 ghost use Rattle.std.specs.Prelude.{◌≡◌, ℕ, Bool, List, if◌then◌else◌};
 ghost use Rattle.seize.specs.ReclaimAll.{reclaiming_all, clearing};
 ghost use Rattle.run_executor.specs.ReclaimsAll.Reclaiming.{NobodyHas, MayReclaim, IsReclaimingThere, Leaves, ReclaimsThere};
-ghost use Rattle.run_executor.specs.Executing.IsThere.{IsThere, KeepsGiven};
+ghost use Rattle.run_executor.specs.Executing.IsThere.{IsThere, PreservesSettings};
 ghost use Rattle.run_shows.specs.Scenes.Scene.{Scene};
 
 use crate::executor::Executor;
@@ -45,7 +45,7 @@ impl FullReclamation {
         requires { (same : K → K → Bool) × (hash : K → ℕ) × (s : Scene K V) × (i : ℕ) × (lists : ℕ → List ℕ) × IsReclaimingThere same hash executor.old s i lists self.old.all }
         ensures leads { (same : K → K → Bool) (hash : K → ℕ) (s : Scene K V) (i : ℕ) (lists : ℕ → List ℕ) → IsReclaimingThere same hash executor.old s i lists self.old.all
             → ReclaimsThere same hash s i lists executor.old executor.new self.old.all self.new.all result }
-        ensures given { KeepsGiven executor.old executor.new }
+        ensures given { PreservesSettings executor.old executor.new }
     {
         let told = executor.step_nobodys(&mut self.all);
         leave(executor, &told);

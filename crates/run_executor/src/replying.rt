@@ -1,6 +1,6 @@
 //! What a call is told, and what it is asked for.
 ghost use Rattle.std.specs.Prelude.{◌<◌, ℕ, Bool, length, Some};
-ghost use Rattle.run_executor.specs.Executing.IsThere.{IsThere, KeepsGiven, worker_with};
+ghost use Rattle.run_executor.specs.Executing.IsThere.{IsThere, PreservesSettings, worker_with};
 ghost use Rattle.run_executor.specs.Executing.Replying.{AsksThere, PutBack, RepliesThere};
 ghost use Rattle.run_shows.specs.Scenes.Scene.{HasCall, Scene};
 
@@ -24,7 +24,7 @@ impl<K: Drop, V: Drop, S> Executor<K, V, S> {
     pub fn reply(&mut self, caller: u64, reply: MachineReply<V>) -> Result<(), MachineReply<V>>
         requires { (same : K → K → Bool) × (hash : K → ℕ) × (s : Scene K V) × IsThere same hash self.old s × HasCall s caller }
         ensures leads { (same : K → K → Bool) (hash : K → ℕ) (s : Scene K V) → IsThere same hash self.old s → RepliesThere same hash caller reply result s self.old self.new }
-        ensures given { KeepsGiven self.old self.new }
+        ensures given { PreservesSettings self.old self.new }
     {
         let place = (caller / SLOTS) as usize;
         let TakenCall {
@@ -41,7 +41,7 @@ impl<K: Drop, V: Drop, S> Executor<K, V, S> {
     pub fn next(&mut self, caller: u64) -> bool
         requires { (same : K → K → Bool) × (hash : K → ℕ) × (s : Scene K V) × IsThere same hash self.old s × HasCall s caller }
         ensures leads { (same : K → K → Bool) (hash : K → ℕ) (s : Scene K V) → IsThere same hash self.old s → AsksThere same hash caller result s self.old self.new }
-        ensures given { KeepsGiven self.old self.new }
+        ensures given { PreservesSettings self.old self.new }
     {
         let place = (caller / SLOTS) as usize;
         let TakenCall {

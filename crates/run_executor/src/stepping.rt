@@ -4,9 +4,9 @@ ghost use Rattle.seize_words.specs.OneMemory.Mem.{Can, Took, value_at};
 ghost use Rattle.seize_words.specs.OneMemory.Plan.{May};
 ghost use Rattle.papaya_raw.specs.Machine.{machine_plan};
 ghost use Rattle.run_effects.specs.ReportingMemory.Changed.{is_made};
-ghost use Rattle.run_effects.specs.ReportingMemory.Tells.{StepsTold};
+ghost use Rattle.run_effects.specs.ReportingMemory.Tells.{StepsObserved};
 ghost use Rattle.run_effects.specs.declared.changed.Changed.TheVariants.{Nothing};
-ghost use Rattle.run_executor.specs.Executing.IsThere.{IsThere, KeepsGiven, worker_with};
+ghost use Rattle.run_executor.specs.Executing.IsThere.{IsThere, PreservesSettings, worker_with};
 ghost use Rattle.run_executor.specs.Executing.Stepping.{SteppedAs, StepsThere};
 ghost use Rattle.run_shows.specs.Scenes.Scene.{HasCall, Scene};
 ghost use Rattle.run_shows.specs.Scenes.Stepping.{going_on};
@@ -29,7 +29,7 @@ fn step_telling<K: Eq + Hash + Drop, V: Drop, S: Hashes<K>>(
     refuse: bool,
 ) -> Progress<Node<K, V>>
     requires { May Can Took value_at memory.old.memory (machine_plan K.eq K.eq (S.hash hasher.now) machine.old) }
-    ensures told { StepsTold K V (Machine K V K × Progress (Node K V)) memory.old.memory Nothing (machine_plan K.eq K.eq (S.hash hasher.now) machine.old) memory.new.memory memory.new.changed (machine.new, result) }
+    ensures told { StepsObserved K V (Machine K V K × Progress (Node K V)) memory.old.memory Nothing (machine_plan K.eq K.eq (S.hash hasher.now) machine.old) memory.new.memory memory.new.changed (machine.new, result) }
     ensures refused { refuse ≡ true → is_made memory.new.changed ≡ false }
 {
     memory.refuses = refuse;
@@ -83,7 +83,7 @@ impl<K: Eq + Hash + Drop, V: Drop, S: Hashes<K>> Executor<K, V, S> {
         requires { (s : Scene K V) × IsThere K.eq (S.hash self.old.hasher) self.old s × HasCall s caller }
         ensures leads { (s : Scene K V) → IsThere K.eq (S.hash self.old.hasher) self.old s → StepsThere K.eq (S.hash self.old.hasher) caller result s self.old self.new }
         ensures refused { refuse ≡ true → is_made self.new.memory.changed ≡ false }
-        ensures given { KeepsGiven self.old self.new }
+        ensures given { PreservesSettings self.old self.new }
     {
         let place = (caller / SLOTS) as usize;
         let TakenCall { slot, map, machine } = take_call(&mut self.workers, place);

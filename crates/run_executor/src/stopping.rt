@@ -1,7 +1,7 @@
 //! A walk is given up.
 ghost use Rattle.std.specs.Prelude.{◌≡◌, ℕ, Bool};
 ghost use Rattle.papaya_raw.specs.Machine.{machine_asked};
-ghost use Rattle.run_executor.specs.Executing.IsThere.{IsThere, KeepsGiven, worker_with};
+ghost use Rattle.run_executor.specs.Executing.IsThere.{IsThere, PreservesSettings, worker_with};
 ghost use Rattle.run_executor.specs.Executing.Replying.{StopsThere};
 ghost use Rattle.run_shows.specs.Scenes.Replying.{unless_stopped};
 ghost use Rattle.run_shows.specs.Scenes.Scene.{HasCall, Scene};
@@ -43,7 +43,7 @@ impl<K: Drop, V: Drop, S> Executor<K, V, S> {
     pub fn stop(&mut self, caller: u64) -> bool
         requires { (same : K → K → Bool) × (hash : K → ℕ) × (s : Scene K V) × IsThere same hash self.old s × HasCall s caller }
         ensures leads { (same : K → K → Bool) (hash : K → ℕ) (s : Scene K V) → IsThere same hash self.old s → StopsThere same hash caller result s self.old self.new }
-        ensures given { KeepsGiven self.old self.new }
+        ensures given { PreservesSettings self.old self.new }
     {
         let place = (caller / SLOTS) as usize;
         let TakenCall { slot, map, machine } = take_call(&mut self.workers, place);

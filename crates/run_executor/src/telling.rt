@@ -2,7 +2,7 @@
 ghost use Rattle.std.specs.Prelude.{◌≡◌};
 ghost use Rattle.seize_words.specs.OneMemory.Mem.{Can, Took, value_at};
 ghost use Rattle.seize_words.specs.OneMemory.Plan.{May};
-ghost use Rattle.run_effects.specs.ReportingMemory.Tells.{StepsTold};
+ghost use Rattle.run_effects.specs.ReportingMemory.Tells.{StepsObserved};
 ghost use Rattle.run_effects.specs.declared.changed.Changed.TheVariants.{Nothing};
 
 use crate::executor::Executor;
@@ -17,7 +17,7 @@ pub(crate) fn step_telling<K, V, R: StepMachine<Node<K, V>>>(
     row: &mut R,
 ) -> R::Progress
     requires { May Can Took value_at memory.old.memory (R.plan row.old) }
-    ensures { StepsTold K V (R × R.Progress) memory.old.memory Nothing (R.plan row.old) memory.new.memory memory.new.changed (row.new, result) }
+    ensures { StepsObserved K V (R × R.Progress) memory.old.memory Nothing (R.plan row.old) memory.new.memory memory.new.changed (row.new, result) }
 {
     memory.forget();
     row.step(memory)
@@ -27,7 +27,7 @@ impl<K, V, S> Executor<K, V, S> {
     /// Takes a step of what is no caller's, and tells what it has changed.
     pub fn step_nobodys<R: StepMachine<Node<K, V>>>(&mut self, row: &mut R) -> R::Progress
         requires { May Can Took value_at self.old.memory.memory (R.plan row.old) }
-        ensures told { StepsTold K V (R × R.Progress) self.old.memory.memory Nothing (R.plan row.old) self.new.memory.memory self.new.memory.changed (row.new, result) }
+        ensures told { StepsObserved K V (R × R.Progress) self.old.memory.memory Nothing (R.plan row.old) self.new.memory.memory self.new.memory.changed (row.new, result) }
         ensures rest { self.new ≡ record self.old { memory = self.new.memory } }
     {
         step_telling(&mut self.memory, row)

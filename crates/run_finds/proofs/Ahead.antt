@@ -14,8 +14,8 @@ use Rattle.run_executor.proofs.Given.FollowsLinked.{own_found}
 use Rattle.run_executor.proofs.Given.FollowsStored.{in_map_true}
 use Rattle.run_executor.specs.Given.EffectsKnown.{Known}
 use Rattle.run_executor.specs.Given.FinishesMaps.{Standing}
-use Rattle.run_executor.specs.Given.FollowsShows.{Shows}
-use Rattle.run_executor.specs.Given.SpotsSpots.{ShowsPlaces}
+use Rattle.run_executor.specs.Given.FollowsShows.{Refines}
+use Rattle.run_executor.specs.Given.SpotsSpots.{RefinesPlaces}
 use Rattle.run_finds.proofs.FromRoot.{root_is, from_root}
 use Rattle.run_executor.specs.Given.ScenesHeld.{Held, IsAt}
 use Rattle.run_executor.specs.Given.ScenesScene.{Scene}
@@ -49,7 +49,7 @@ module _ {K V : Type 0} (same : K → K → Bool) (hash : ℕ → K → ℕ) (na
   abbrev v : Moment K V
   v = with_effects (Some own) (Some map) (effect.Promoted t ∷ []) m
 
-  module _ (shown2 : Shows same name v known2 s2) (lying2 : ShowsPlaces v known2 s2.maps) (standing2 : Standing K) (there2 : s2.maps map ≡ Some standing2) where
+  module _ (shown2 : Refines same name v known2 s2) (lying2 : RefinesPlaces v known2 s2.maps) (standing2 : Standing K) (there2 : s2.maps map ≡ Some standing2) where
     -- the map's root is that table then
     came : first_of map v ≡ t.turn
     came = ap first_or (subst (λ (x : ℕ). map_at x v ≡ Some (record was { first = t.turn })) on (own_found t m.maps was (subst (λ (x : ℕ). map_at x m ≡ Some was) (sym on) was_there)))

@@ -17,7 +17,7 @@ use Rattle.run_executor.specs.Given.RunsDeclared.outcome.Outcome.TheVariants.{Do
 use Rattle.run_executor.specs.Given.SchedulesAfter.{moment}
 use Rattle.run_executor.specs.Given.SchedulesBeginning.{with_call, with_map, begun}
 use Rattle.run_executor.specs.Given.SchedulesEntry.{Entry, is_busy, nameless}
-use Rattle.run_executor.specs.Given.SchedulesInTurn.{IsKeptOut, is_called, ComesTo}
+use Rattle.run_executor.specs.Given.SchedulesInTurn.{IsKeptOut, is_called, HasOutcome}
 use Rattle.run_executor.specs.Given.SchedulesMoment.{UnderWay, MapThere, Moment}
 use Rattle.run_executor.specs.Given.SchedulesTerms.{Terms}
 use Rattle.run_executor.specs.Given.SchedulesViews.{call_of, map_of, number_of, map_at}
@@ -127,7 +127,7 @@ module _ {K V : Type 0} (terms : Terms) (log : List (Entry K V)) (e : Entry K V)
   m = moment log
 
   abbrev Right : Event K V → Outcome V → Type 0
-  Right event outcome = MatchBool m.is_closed (IsKeptOut event outcome) (ComesTo terms log m e event outcome)
+  Right event outcome = MatchBool m.is_closed (IsKeptOut event outcome) (HasOutcome terms log m e event outcome)
 
   -- an event in turn has what it needs
   pub in_turn : (turn : Bool) (Wanted : Type 0) (outcome : Outcome V) → MatchBool turn Wanted (outcome ≡ Refused Busy) → is_busy outcome ≡ false → turn ≡ true
@@ -142,7 +142,7 @@ module _ {K V : Type 0} (terms : Terms) (log : List (Entry K V)) (e : Entry K V)
   pub makes_new : (event : Event K V) (outcome : Outcome V) → Right event outcome → MakesNew event outcome m
   makes_new (MakeMap name mode capacity) Done right = by m.is_closed right
     where
-      by : (q : Bool) → MatchBool q (IsKeptOut {K = K} (MakeMap name mode capacity) (was_done V)) (ComesTo terms log m e (MakeMap name mode capacity) (was_done V)) → map_of name m ≡ None
+      by : (q : Bool) → MatchBool q (IsKeptOut {K = K} (MakeMap name mode capacity) (was_done V)) (HasOutcome terms log m e (MakeMap name mode capacity) (was_done V)) → map_of name m ≡ None
       by true out = absurd (let busy = of_fault V (map_fault mode capacity) (was_done V ≡ Refused Busy) out in cc busy)
       by false its = none_is (map_of name m) (in_turn (is_none (map_of name m)) _ Done (of_fault V (map_fault mode capacity) _ its) refl)
   makes_new _ _ right = tt

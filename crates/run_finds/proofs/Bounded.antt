@@ -17,7 +17,7 @@ use Rattle.run_executor.proofs.Given.SpotsUnreclaimed.{same_itself}
 use Rattle.run_executor.specs.Given.EffectsKnown.{Known}
 use Rattle.run_executor.specs.Given.EffectsDeclared.role.Role.TheVariants as role
 use Rattle.run_finds.specs.Waiting.{once_if}
-use Rattle.run_finds.specs.Bounded.{TablesApart, HasRetiredTable, ShowsRetired, LittleWaits}
+use Rattle.run_finds.specs.Bounded.{TablesApart, HasRetiredTable, RefinesRetired, LittleWaits}
 
 -- so many blocks, none of them twice, of each of which this is so
 record Blocks (Q : ℕ → Type 0) (many : ℕ) : Type 0 where
@@ -57,7 +57,7 @@ module _ (Q R : ℕ → Type 0) (so : (b : ℕ) → Q b → R b) (many : ℕ) (b
           by zero is = is
           by (suc t) is = absurd (new (subst Q same (before.each x (omega (arith, is)))))
 
-module _ {K V : Type 0} (m : Moment K V) (known : Known) (w : World (Node K V)) (h : ShowsRetired m known w) where
+module _ {K V : Type 0} (m : Moment K V) (known : Known) (w : World (Node K V)) (h : RefinesRetired m known w) where
   -- the block is that of a pair with a number up to this one
   abbrev IsPairUpTo : ℕ → ℕ → Type 0
   IsPairUpTo k b = (n : ℕ) × (n ≤ k) × (known.roles b ≡ role.Pair n) × (is_retired_in b w.log ≡ true)

@@ -28,13 +28,13 @@ use Rattle.run_executor.specs.Named.Places.{first_places}
 use Rattle.run_executor.specs.Given.EffectsEffects.{effects_of}
 use Rattle.run_executor.specs.Given.EffectsDeclared.acting.Acting.TheVariants as acts
 use Rattle.run_executor.specs.Given.FinishesMakings.{Beginning}
-use Rattle.run_executor.specs.Given.FinishesMachines.{StandsOn}
+use Rattle.run_executor.specs.Given.FinishesMachines.{MapContinues}
 use Rattle.run_executor.specs.Given.FinishesMaps.{Standing, IsSameMap}
 use Rattle.run_executor.specs.Given.OthersMakings.{making_after}
-use Rattle.run_finds.specs.Capacities.{ShowsCapacities, StoodSo, GivenAreFor, CapacitiesStay, EffectsKeepCapacities, SameMapsStood, CallsKeepCapacities, MakingsKeepCapacities}
+use Rattle.run_finds.specs.Capacities.{RefinesCapacities, StoodSo, GivenAreFor, CapacitiesStay, EffectsPreserveCapacities, SameMapsStood, CallsPreserveCapacities, MakingsPreserveCapacities}
 use Rattle.run_finds.specs.Linking.{IsMadeFor}
 use Rattle.run_executor.specs.Given.ScenesHeld.{Held}
-use Rattle.run_executor.specs.Given.ScenesMaking.{MakingComesTo}
+use Rattle.run_executor.specs.Given.ScenesMaking.{MakingHasOutcome}
 use Rattle.run_executor.specs.Given.ScenesScene.{Scene}
 use Rattle.run_executor.specs.Given.ScenesStepping.{scene_after}
 use Rattle.run_executor.proofs.Given.General.{same_some as one_of}
@@ -113,7 +113,7 @@ module _ {X : Type 0} (look : Option MapThere → X) (but_root : (f : MapThere) 
   effect_leaves caller acted (effect.Promoted t) m of = promoted_same t of m.maps
   effect_leaves caller acted _ m of = refl
 
-pub effects_keep_capacities : (K V : Type 0) → EffectsKeepCapacities K V
+pub effects_keep_capacities : (K V : Type 0) → EffectsPreserveCapacities K V
 effects_keep_capacities K V caller acted [] m of = refl
 effects_keep_capacities K V caller acted (f ∷ effects) m of = effects_keep_capacities K V caller acted effects (with_effect caller acted f m) of ∙ effect_leaves capacity_or (λ g n. refl) caller acted f m of
 
@@ -130,12 +130,12 @@ pub same_maps_stood : (K V : Type 0) → SameMapsStood K V
 same_maps_stood K V s t same map standing is = stood_same (s.maps map) (t.maps map) (same map) standing is
 
 -- The map of a call stands on, and the others as they were.
-stood_on : {K : Type 0} (before : Standing K) (after : Option (Standing K)) → StandsOn before after → (standing : Standing K) → after ≡ Some standing → standing.setting.initial ≡ before.setting.initial
+stood_on : {K : Type 0} (before : Standing K) (after : Option (Standing K)) → MapContinues before after → (standing : Standing K) → after ≡ Some standing → standing.setting.initial ≡ before.setting.initial
 stood_on before after (chart, blocks, sights, remembers, here) standing is =
     let one : record before { chart = chart; blocks = blocks; sights = sights } ≡ standing = one_of (record before { chart = chart; blocks = blocks; sights = sights }) standing (sym here ∙ is) in
     ap (λ (x : Standing _). x.setting.initial) (sym one)
 
-pub calls_keep_capacities : (K V : Type 0) (same : K → K → Bool) (hash : ℕ → K → ℕ) → CallsKeepCapacities K V same hash
+pub calls_keep_capacities : (K V : Type 0) (same : K → K → Bool) (hash : ℕ → K → ℕ) → CallsPreserveCapacities K V same hash
 calls_keep_capacities K V same hash name m known s old new shows map i u here said leads =
     capacities_stay K V m (with_effects (Some (name i)) (Some map) (effects_of (acts.Call i map) known new.changed) m) s
     (scene_after same s old new map i (leads map u here).0 u (leads map u here).1 said (leads map u here).4) shows
@@ -152,9 +152,9 @@ calls_keep_capacities K V same hash name m known s old new shows map i u here sa
     ]
 
 -- A making leaves the maps that stand, and at its end brings one, with the setting with which it began, but for the root and the counter.
-module _ {K V : Type 0} (same : K → K → Bool) (hash : ℕ → K → ℕ) (m v : Moment K V) (s : Scene K V) (old new : Held K V) (shows : ShowsCapacities m s)
+module _ {K V : Type 0} (same : K → K → Bool) (hash : ℕ → K → ℕ) (m v : Moment K V) (s : Scene K V) (old new : Held K V) (shows : RefinesCapacities m s)
     (kept : (n : ℕ) → capacity_or (map_at n v) ≡ capacity_or (map_at n m)) (i : ℕ) (b : Beginning K) (made : IsMadeFor b.map m b.given) (opening : NewMap) (w2 : World (Node K V)) where
-  stays : (t : Scene K V) → t.maps ≡ s.maps → ShowsCapacities v t
+  stays : (t : Scene K V) → t.maps ≡ s.maps → RefinesCapacities v t
   stays t maps = capacities_stay K V m v s t shows (λ n standing is. kept n) (λ n standing is. (standing, ap (λ (f : ℕ → Option (Standing K)). f n) (sym maps) ∙ is, refl))
 
   comes_so : (standing : Standing K) → standing.setting.initial ≡ b.given.initial → (n : ℕ) (other : Standing K) → with_at s.maps b.map (Some standing) n ≡ Some other → IsMadeFor n v other.setting
@@ -168,13 +168,13 @@ module _ {K V : Type 0} (same : K → K → Bool) (hash : ℕ → K → ℕ) (m 
         made_as (capacity_or (map_at n m)) (capacity_or (map_at n v)) other.setting.initial other.setting.initial (kept n) refl (shows n other was)
   ]
 
-  making_keeps : (told : Making Setting) (comes : MakingComesTo same hash s old new i b opening w2 told) → ShowsCapacities v (making_after same hash s old new i b opening w2 told comes)
+  making_keeps : (told : Making Setting) (comes : MakingHasOutcome same hash s old new i b opening w2 told) → RefinesCapacities v (making_after same hash s old new i b opening w2 told comes)
   making_keeps progress.Goes comes = stays (making_after same hash s old new i b opening w2 progress.Goes comes) refl
   making_keeps progress.Waits comes = absurd comes
   making_keeps (progress.Done setting) comes = λ n other is. comes_so comes.0 (ap (λ (x : Setting). x.initial) (comes.1.setting_is ∙ comes.1.answer_is)) n other is
   making_keeps (progress.Refused fault) comes = stays (making_after same hash s old new i b opening w2 (progress.Refused fault) comes) refl
 
-pub makings_keep_capacities : (K V : Type 0) (same : K → K → Bool) (hash : ℕ → K → ℕ) → MakingsKeepCapacities K V same hash
+pub makings_keep_capacities : (K V : Type 0) (same : K → K → Bool) (hash : ℕ → K → ℕ) → MakingsPreserveCapacities K V same hash
 makings_keep_capacities K V same hash m known s old new shows i told leads b here of made =
     making_keeps same hash m (with_effects None of (effects_of (acts.Making b.map) known new.changed) m) s old new shows
     (λ n. effects_keep_capacities K V None of (effects_of (acts.Making b.map) known new.changed) m n) i b made (leads b here).0 (leads b here).2.step.w2 told (leads b here).3

@@ -17,7 +17,7 @@ use Rattle.run_executor.specs.Given.SchedulesAfter.{calls_on, closed_on, after, 
 use Rattle.run_executor.specs.Given.SchedulesEffects.{maps_by, with_effect, with_effects, worked}
 use Rattle.run_executor.specs.Given.SchedulesEntry.{Entry}
 use Rattle.run_executor.specs.Given.SchedulesHanding.{IsWhole}
-use Rattle.run_executor.specs.Given.SchedulesInTurn.{is_growth, IsKeptOut, ComesTo}
+use Rattle.run_executor.specs.Given.SchedulesInTurn.{is_growth, IsKeptOut, HasOutcome}
 use Rattle.run_executor.specs.Given.SchedulesInUse.{is_left}
 use Rattle.run_executor.specs.Given.SchedulesLists.{is_empty}
 use Rattle.run_executor.specs.Given.SchedulesMoment.{Place, TableThere, Moment}
@@ -131,7 +131,7 @@ module _ {K V : Type 0} where
     abbrev m : Moment K V
     m = moment log
 
-    closes : (steps : ℕ) (effects : List Effect) → MatchBool m.is_closed (was_done V ≡ Refused Busy) (ComesTo terms log m (entry event.Close (was_done V) steps effects) event.Close (was_done V)) → m.maps ≡ []
+    closes : (steps : ℕ) (effects : List Effect) → MatchBool m.is_closed (was_done V ≡ Refused Busy) (HasOutcome terms log m (entry event.Close (was_done V) steps effects) event.Close (was_done V)) → m.maps ≡ []
     closes steps effects right =
         none_there m.maps (and_parts (is_left m) (is_empty m.maps) (in_turn terms log (entry event.Close (was_done V) steps effects) (is_left m && is_empty m.maps) (was_done V ≡ Done) (was_done V)
         (not_kept_out terms log (entry event.Close (was_done V) steps effects) m.is_closed (was_done V ≡ Refused Busy) _ (was_done V) (λ out. out) right refl) refl)).1
@@ -140,7 +140,7 @@ module _ {K V : Type 0} where
         → (q : Bool) → m.is_closed ≡ q → (q ≡ true → Back m) → closed_on its came q ≡ true → Back (after (entry its came steps effects) m)
     over_back its came steps effects goes reclaims true is before closed =
         stays its came steps effects m
-        (subst (λ (q : Bool). MatchBool q (IsKeptOut its came) (ComesTo terms log m (entry its came steps effects) its came)) is goes.right)
+        (subst (λ (q : Bool). MatchBool q (IsKeptOut its came) (HasOutcome terms log m (entry its came steps effects) its came)) is goes.right)
         goes.life.whole (before refl)
     over_back event.Close Done steps effects goes reclaims false is before closed = (reclaims.0, none_stay None effects m (closes steps effects goes.right))
     over_back _ _ steps effects goes reclaims false is before closed = absurd (cc closed)

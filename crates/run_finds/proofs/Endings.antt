@@ -28,7 +28,7 @@ use Rattle.run_executor.proofs.Given.FollowsCalling.{is_same_refl, is_same_is}
 use Rattle.run_executor.proofs.Given.OthersEndBegins.{found_still}
 use Rattle.run_executor.proofs.Given.OthersLeads.{same_parts}
 use Rattle.run_executor.proofs.Given.SpotsUnreclaimed.{same_itself}
-use Rattle.run_finds.specs.Endings.{AreNamed, MakesNew, EventsKeepNamed, EventsKeepRoots, EventsKeepSomewhere}
+use Rattle.run_finds.specs.Endings.{AreNamed, MakesNew, EventsPreserveNamed, EventsPreserveRoots, EventsPreserveSomewhere}
 use Rattle.run_finds.specs.TornDown.{StoredAreSomewhere}
 use Rattle.run_finds.specs.Waiting.{is_unborn, once_if, PairsArePlaced}
 use Rattle.run_finds.proofs.Lists.{any_kept, any_kept_among, all_so, all_both, each_is, each_among}
@@ -129,7 +129,7 @@ module _ {K V : Type 0} where
   maps_named (EndMap own) Done fs named = fewer_found name_of is_same (λ f. not (is_same f.name own)) fs named
   maps_named _ _ fs named = named
 
-pub events_keep_named : (K V : Type 0) → EventsKeepNamed K V
+pub events_keep_named : (K V : Type 0) → EventsPreserveNamed K V
 events_keep_named K V e m named new =
     let b = begun e.event e.outcome m in
     maps_named e.event e.outcome (worked e m).maps (all_named (caller_of e.event) (acted_on e.event b) e.effects b (begun_named e.event e.outcome m named new))
@@ -311,8 +311,8 @@ module _ {K V : Type 0} where
   pairs_go event outcome steps effects m named found may whole placed h =
       others_keep_somewhere K V (worked (entry event outcome steps effects) m) (after (entry event outcome steps effects) m) h (λ n. refl) refl (λ n number l is e. e)
 
-pub events_keep_roots : (K V : Type 0) → EventsKeepRoots K V
+pub events_keep_roots : (K V : Type 0) → EventsPreserveRoots K V
 events_keep_roots K V e m ends = roots_go e.event e.outcome e.steps e.effects m ends.named ends.found ends.may ends.whole
 
-pub events_keep_somewhere : (K V : Type 0) → EventsKeepSomewhere K V
+pub events_keep_somewhere : (K V : Type 0) → EventsPreserveSomewhere K V
 events_keep_somewhere K V e m ends placed h = pairs_go e.event e.outcome e.steps e.effects m ends.named ends.found ends.may ends.whole placed h

@@ -12,24 +12,24 @@ use Rattle.run_executor.specs.Given.RunsDeclared.outcome.Outcome.{Outcome}
 use Rattle.run_executor.specs.Given.RunsDeclared.outcome.Outcome.TheVariants.{Done, Goes, Asks, Waits, Ready, Shows}
 use Rattle.run_executor.specs.Given.RunsDeclared.effect.TableId.{TableId}
 use Rattle.run_executor.specs.Given.RunsDeclared.effect.Thing.TheVariants.{ATable}
-use Rattle.run_executor.specs.Given.SchedulesAfter.{asks_on, comes_to, replied, without_call, stepped, calls_on, after}
+use Rattle.run_executor.specs.Given.SchedulesAfter.{asks_on, with_outcome, replied, without_call, stepped, calls_on, after}
 use Rattle.run_executor.specs.Given.SchedulesBeginning.{with_call, with_map}
 use Rattle.run_executor.specs.Given.SchedulesEffects.{worked}
 use Rattle.run_executor.specs.Given.SchedulesEntry.{ends_call, caller_of}
 use Rattle.run_executor.specs.Given.SchedulesLists.{is_in}
-use Rattle.run_executor.specs.Given.SchedulesMoment.{Stands, Going, Asking, Told, IsReady, UnderWay, MapThere, TableThere}
+use Rattle.run_executor.specs.Given.SchedulesMoment.{CallState, Going, Asking, Told, IsReady, UnderWay, MapThere, TableThere}
 use Rattle.run_executor.specs.Given.SchedulesReclaims.{is_kept}
 use Rattle.run_executor.specs.Given.SchedulesThings.{same_thing}
 use Rattle.run_executor.specs.Given.SchedulesViews.{is_linked}
 use Rattle.run_executor.proofs.Given.FollowsCalls.{IsOfSame}
-use Rattle.run_finds.specs.Events.{ended_by, EndedOwesNone, BeginningsKeepPlaced, EventsKeepPlaced, BeginningsKeepTables, EventsKeepTables}
+use Rattle.run_finds.specs.Events.{ended_by, EndedHasNoObligation, BeginningsPreservePlaced, EventsPreservePlaced, BeginningsPreserveTables, EventsPreserveTables}
 use Rattle.run_finds.specs.Waiting.{owed_in, owed_by, AreApart}
 use Rattle.run_finds.proofs.Owed.{apart_still, all_owe, ended_owe_nothing}
 use Rattle.run_finds.proofs.Owed.Tables.{owed_still}
 use Rattle.run_finds.proofs.Placed.{others_keep_placed}
 use Rattle.run_finds.proofs.Tables.{each_same, others_keep_tables}
 
-pub beginnings_keep_placed : (K V : Type 0) → BeginningsKeepPlaced K V
+pub beginnings_keep_placed : (K V : Type 0) → BeginningsPreservePlaced K V
 beginnings_keep_placed K V m h = (
   (λ own guard call map none. record { owed = λ n. (let same = h.owed n in omega (arith, same)); put = h.put; back = h.back; stored = h.stored; apart = (none, h.apart) }),
   (λ f. record { owed = h.owed; put = h.put; back = h.back; stored = h.stored; apart = h.apart }),
@@ -40,13 +40,13 @@ module _ {K V : Type 0} where
   abbrev pub OwesSame : UnderWay K V → UnderWay K V → Type 0
   OwesSame c d = IsOfSame c d × (d.owes ≡ c.owes) × (d.table ≡ c.table)
 
-  asks_same : (question : Option ℕ) (c : UnderWay K V) (stands : Stands) → OwesSame c (asks_on question c stands)
+  asks_same : (question : Option ℕ) (c : UnderWay K V) (stands : CallState) → OwesSame c (asks_on question c stands)
   asks_same question c (Asking q) = ((refl, refl, refl), refl, refl)
   asks_same question c Going = ((refl, refl, refl), refl, refl)
   asks_same question c Told = ((refl, refl, refl), refl, refl)
   asks_same question c IsReady = ((refl, refl, refl), refl, refl)
 
-  pub comes_same : (outcome : Outcome V) (c : UnderWay K V) → OwesSame c (comes_to outcome c)
+  pub comes_same : (outcome : Outcome V) (c : UnderWay K V) → OwesSame c (with_outcome outcome c)
   comes_same (Asks question) c = asks_same question c c.stands
   comes_same Goes c = ((refl, refl, refl), refl, refl)
   comes_same Waits c = ((refl, refl, refl), refl, refl)
@@ -54,7 +54,7 @@ module _ {K V : Type 0} where
   comes_same (Shows k) c = ((refl, refl, refl), refl, refl)
   comes_same _ c = ((refl, refl, refl), refl, refl)
 
-  pub told_same : (reply : Reply V) (c : UnderWay K V) (stands : Stands) → OwesSame c (replied reply c stands)
+  pub told_same : (reply : Reply V) (c : UnderWay K V) (stands : CallState) → OwesSame c (replied reply c stands)
   told_same reply c (Asking q) = ((refl, refl, refl), refl, refl)
   told_same reply c Going = ((refl, refl, refl), refl, refl)
   told_same reply c Told = ((refl, refl, refl), refl, refl)
@@ -71,18 +71,18 @@ module _ {K V : Type 0} where
       apart_still own change (λ c. (same c).0) calls apart,
     )
 
-    stepped_so : (caller : Option (List ℕ)) (outcome : Outcome V) (steps : ℕ) → EndedOwesNone (if ends_call outcome then caller else None) calls → IsSame calls (stepped caller outcome steps calls)
+    stepped_so : (caller : Option (List ℕ)) (outcome : Outcome V) (steps : ℕ) → EndedHasNoObligation (if ends_call outcome then caller else None) calls → IsSame calls (stepped caller outcome steps calls)
     stepped_so None outcome steps owes = ((λ n. refl), apart)
     stepped_so (Some own) outcome steps owes = by (ends_call outcome) owes
       where
         change : UnderWay K V → UnderWay K V
-        change c = comes_to outcome (record c { steps = c.steps + steps })
+        change c = with_outcome outcome (record c { steps = c.steps + steps })
 
-        by : (q : Bool) → EndedOwesNone (if q then Some own else None) calls → IsSame calls (if q then without_call own calls else map (λ c. if is_same c.caller own then change c else c) calls)
+        by : (q : Bool) → EndedHasNoObligation (if q then Some own else None) calls → IsSame calls (if q then without_call own calls else map (λ c. if is_same c.caller own then change c else c) calls)
         by true none = ended_owe_nothing K V own calls apart none
         by false none = changed_so own change (λ c. comes_same outcome (record c { steps = c.steps + steps }))
 
-    over_so : (event : Event K V) (outcome : Outcome V) (steps : ℕ) → EndedOwesNone (ended_by event outcome) calls → IsSame calls (calls_on event outcome steps calls)
+    over_so : (event : Event K V) (outcome : Outcome V) (steps : ℕ) → EndedHasNoObligation (ended_by event outcome) calls → IsSame calls (calls_on event outcome steps calls)
     over_so (Replied caller reply) Goes steps owes = changed_so caller (λ c. replied reply c c.stands) (λ c. told_same reply c c.stands)
     over_so (Stop caller) Done steps owes = ended_owe_nothing K V caller calls apart owes
     over_so event outcome steps owes = stepped_so (caller_of event) outcome steps owes
@@ -110,23 +110,23 @@ module _ {K V : Type 0} where
       changed_owe : (own : List ℕ) (change : UnderWay K V → UnderWay K V) (same : (c : UnderWay K V) → OwesSame c (change c)) → list_any owes_it (map (λ c. if is_same c.caller own then change c else c) calls) ≡ true
       changed_owe own change same = owed_still own change (λ c. (same c).0) t (λ c e. ap (is_in same_thing (ATable t)) (same c).1 ∙ e) calls any
 
-      stepped_owe : (caller : Option (List ℕ)) (outcome : Outcome V) (steps : ℕ) → EndedOwesNone (if ends_call outcome then caller else None) calls → list_any owes_it (stepped caller outcome steps calls) ≡ true
+      stepped_owe : (caller : Option (List ℕ)) (outcome : Outcome V) (steps : ℕ) → EndedHasNoObligation (if ends_call outcome then caller else None) calls → list_any owes_it (stepped caller outcome steps calls) ≡ true
       stepped_owe None outcome steps owes = any
       stepped_owe (Some own) outcome steps owes = by (ends_call outcome) owes
         where
           change : UnderWay K V → UnderWay K V
-          change c = comes_to outcome (record c { steps = c.steps + steps })
+          change c = with_outcome outcome (record c { steps = c.steps + steps })
 
-          by : (q : Bool) → EndedOwesNone (if q then Some own else None) calls → list_any owes_it (if q then without_call own calls else map (λ c. if is_same c.caller own then change c else c) calls) ≡ true
+          by : (q : Bool) → EndedHasNoObligation (if q then Some own else None) calls → list_any owes_it (if q then without_call own calls else map (λ c. if is_same c.caller own then change c else c) calls) ≡ true
           by true none = others_owe_it own calls none any
           by false none = changed_owe own change (λ c. comes_same outcome (record c { steps = c.steps + steps }))
 
-      over_owe : (event : Event K V) (outcome : Outcome V) (steps : ℕ) → EndedOwesNone (ended_by event outcome) calls → list_any owes_it (calls_on event outcome steps calls) ≡ true
+      over_owe : (event : Event K V) (outcome : Outcome V) (steps : ℕ) → EndedHasNoObligation (ended_by event outcome) calls → list_any owes_it (calls_on event outcome steps calls) ≡ true
       over_owe (Replied caller reply) Goes steps owes = changed_owe caller (λ c. replied reply c c.stands) (λ c. told_same reply c c.stands)
       over_owe (Stop caller) Done steps owes = others_owe_it caller calls owes any
       over_owe event outcome steps owes = stepped_owe (caller_of event) outcome steps owes
 
-pub beginnings_keep_tables : (K V : Type 0) → BeginningsKeepTables K V
+pub beginnings_keep_tables : (K V : Type 0) → BeginningsPreserveTables K V
 beginnings_keep_tables K V m h = (
   (λ own guard call map. others_keep_tables K V m (with_call own guard call (Some map) m) h refl refl (each_same (λ u. is_kept m u ≡ true → is_kept m u ≡ true) (λ u e. e) m.tables) (λ t e. e)),
   (λ f. others_keep_tables K V m (with_map f m) h refl refl (each_same (λ u. is_kept m u ≡ true → is_kept (with_map f m) u ≡ true) (more f) m.tables) (λ t e. e)),
@@ -142,11 +142,11 @@ beginnings_keep_tables K V m h = (
         by true e = refl
         by false e = list_any-append (rooted u) m.maps (f ∷ []) ∙ or_left (list_any (rooted u) m.maps) (list_any (rooted u) (f ∷ [])) e
 
-pub events_keep_tables : (K V : Type 0) → EventsKeepTables K V
+pub events_keep_tables : (K V : Type 0) → EventsPreserveTables K V
 events_keep_tables K V e m h kept owes =
     others_keep_tables K V (worked e m) (after e m) h refl refl kept (λ t any. over_owe t (worked e m).calls any e.event e.outcome e.steps owes)
 
-pub events_keep_placed : (K V : Type 0) → EventsKeepPlaced K V
+pub events_keep_placed : (K V : Type 0) → EventsPreservePlaced K V
 events_keep_placed K V e m h owes =
     let same = over_so (worked e m).calls h.apart e.event e.outcome e.steps owes in
     others_keep_placed K V (worked e m) (after e m) h (λ n. refl) refl refl refl same.0 same.1

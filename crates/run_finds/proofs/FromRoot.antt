@@ -10,17 +10,17 @@ use Rattle.run_executor.specs.Given.CallersTogether.{Together}
 use Rattle.run_executor.specs.Given.EffectsKnown.{Known}
 use Rattle.run_executor.specs.Given.EffectsDeclared.role.Role.TheVariants as role
 use Rattle.run_executor.specs.Given.FinishesMaps.{Standing}
-use Rattle.run_executor.specs.Given.FollowsMaps.{ShowsMap}
-use Rattle.run_executor.specs.Given.FollowsShows.{Shows}
+use Rattle.run_executor.specs.Given.FollowsMaps.{RefinesMap}
+use Rattle.run_executor.specs.Given.FollowsShows.{Refines}
 use Rattle.run_executor.proofs.Given.FollowsFinds.{first_is}
-use Rattle.run_executor.specs.Given.SpotsSpots.{ShowsPlaces}
+use Rattle.run_executor.specs.Given.SpotsSpots.{RefinesPlaces}
 use Rattle.run_executor.proofs.Given.SpotsPlaced.{lies_named}
 use Rattle.run_executor.specs.Given.ScenesHeld.{Held, IsAt}
 use Rattle.run_executor.specs.Given.ScenesScene.{Scene, slot_of}
 
 module _ {K V : Type 0} (same : K → K → Bool) (hash : ℕ → K → ℕ) (name : ℕ → List ℕ) (m : Moment K V) (known : Known) (s : Scene K V) (e : Held K V) (at : IsAt same hash e s)
-    (shown : Shows same name m known s) (lying : ShowsPlaces m known s.maps) (map : ℕ) (standing : Standing K) (there : s.maps map ≡ Some standing) where
-  shown_map : ShowsMap map (shown.number map) standing m known
+    (shown : Refines same name m known s) (lying : RefinesPlaces m known s.maps) (map : ℕ) (standing : Standing K) (there : s.maps map ≡ Some standing) where
+  shown_map : RefinesMap map (shown.number map) standing m known
   shown_map = shown.maps map standing there
 
   together : Together V same standing.hash same standing.setting slot_of s.world standing.chart standing.blocks standing.sights (s.calls map)

@@ -6,10 +6,13 @@ pub use Rattle.run_blocks.proofs.Given.HistoriesNoKey
 pub use Rattle.run_blocks.proofs.Given.HistoriesRoles
 pub use Rattle.run_blocks.proofs.Given.PromisesLists
 pub use Rattle.run_blocks.proofs.Given.SettlesBetween
+pub use Rattle.run_blocks.proofs.Given.SettlesCalls
 pub use Rattle.run_blocks.proofs.Given.SettlesDueCalls
 pub use Rattle.run_blocks.proofs.Given.SettlesHand
+pub use Rattle.run_blocks.proofs.Given.SettlesTaken
 pub use Rattle.run_blocks.proofs.Given.SettlesTakings
 pub use Rattle.run_blocks.proofs.Owes.Fields as OwesFields
+pub use Rattle.run_blocks.proofs.Owes.Known as OwesKnown
 pub use Rattle.run_blocks.proofs.Shards.Adds as ShardsAdds
 pub use Rattle.run_blocks.proofs.Shards.KeyAdds as ShardsKeyAdds
 pub use Rattle.run_blocks.proofs.Shards.RestAdds as ShardsRestAdds

@@ -11,7 +11,7 @@ use Rattle.run_executor.specs.Given.RunsDeclared.effect.Spot.{Spot}
 use Rattle.run_executor.specs.Given.RunsDeclared.effect.TableId.{TableId}
 use Rattle.run_executor.specs.Given.RunsDeclared.effect.Thing.TheVariants.{APair, ATable}
 use Rattle.run_executor.specs.Given.SchedulesEffects.{born_by, spot_by, with_effect}
-use Rattle.run_executor.specs.Given.SchedulesGrowing.{ComesNext}
+use Rattle.run_executor.specs.Given.SchedulesGrowing.{IsNextRoot}
 use Rattle.run_executor.specs.Given.SchedulesMoment.{Place, UnderWay, IsLinked, IsRetired, IsReclaimed, IsTaken, TableThere, Moment}
 use Rattle.run_executor.specs.Given.SchedulesViews.{tables_of}
 use Rattle.run_executor.proofs.Given.FollowsCalling.{is_same_is}
@@ -95,7 +95,7 @@ abbrev pub linked_as : TableId → TableShape → TableThere
 linked_as t shape = record { table = t; shape = shape; stage = IsLinked }
 
 -- the root comes to no earlier table
-pub comes_on : (q : Bool) (first turn : ℕ) (tables : List TableThere) → ComesNext q first turn tables → first ≤ turn
+pub comes_on : (q : Bool) (first turn : ℕ) (tables : List TableThere) → IsNextRoot q first turn tables → first ≤ turn
 comes_on true first turn tables next = let is : turn ≡ first + 1 = next in omega (arith, is)
 comes_on false first turn tables next = let l = next.0 in omega (arith, l)
 

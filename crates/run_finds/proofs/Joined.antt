@@ -22,18 +22,18 @@ use Rattle.run_executor.proofs.Given.FollowsCalls.{changed_same}
 use Rattle.run_blocks.specs.Owes.Events.{FindsMade}
 use Rattle.run_blocks.proofs.Owes.Events.{several_find}
 use Rattle.run_blocks.proofs.Owes.Fields.{its_effect}
-use Rattle.run_blocks.specs.Given.SettlesOwing.{FindsOwed}
+use Rattle.run_blocks.specs.Given.SettlesOwing.{FindsObligation}
 use Rattle.run_blocks.specs.Given.SettlesShards.{is_counting}
 use Rattle.run_finds.proofs.Life.{each_so}
 use Rattle.run_finds.proofs.Over.{acts}
 use Rattle.run_finds.specs.Joined.{FindParts, PartsAreAll, SeveralFindAll, EventsFindAll}
-use Rattle.run_finds.specs.Parts.{FindsPlace, FindsAhead, FindsRest, FindsAll, FindOwed, FindRest, FindAll}
+use Rattle.run_finds.specs.Parts.{FindsPlace, FindsAhead, FindsRest, FindsAll, FindObligations, FindRest, FindAll}
 use Rattle.run_executor.proofs.Given.General.{both_true as and_both}
 
 module _ {K V : Type 0} (terms : Terms) (moments : List (Moment K V)) where
   -- by the kind of effect
   joins : (m : Moment K V) (f : Effect) (c : CallThere K V) → is_call_effect f ≡ true → FindsMade terms moments m f c → FindsMap c.map m f → FindsPlace c.map m f c → FindsAhead c.map m f
-      → (is_counting f ≡ true → CallFinds terms moments m f c) → FindsOwed m f c → FindsRest terms moments m f c → CallFinds terms moments m f c
+      → (is_counting f ≡ true → CallFinds terms moments m f c) → FindsObligation m f c → FindsRest terms moments m f c → CallFinds terms moments m f c
   joins m (effect.Asked ABlock) c kind made on_map place ahead shard owed rest = (made, rest)
   joins m (effect.Asked ABucket) c kind made on_map place ahead shard owed rest = absurd (cc kind)
   joins m effect.PairMade c kind made on_map place ahead shard owed rest = made
@@ -62,16 +62,16 @@ module _ {K V : Type 0} (terms : Terms) (moments : List (Moment K V)) where
     one_joined : (m : Moment K V) (f : Effect) (c : CallThere K V) → call_of own m ≡ Some c → c.map ≡ map → is_call_effect f ≡ true
         → ByCall (λ (d : CallThere K V). only_looks d.call ≡ false) (acting (Some own) m) → ByCall (FindsMade terms moments m f) (acting (Some own) m) → FindsMap map m f
         → ByCall (FindsPlace map m f) (acting (Some own) m) → FindsAhead map m f → (is_counting f ≡ true → ByCall (CallFinds terms moments m f) (acting (Some own) m))
-        → ByCall (FindsOwed m f) (acting (Some own) m) → ByCall (FindsRest terms moments m f) (acting (Some own) m) → FindsAll terms moments own m f
+        → ByCall (FindsObligation m f) (acting (Some own) m) → ByCall (FindsRest terms moments m f) (acting (Some own) m) → FindsAll terms moments own m f
     one_joined m f c c_is on kind work made on_map place ahead shard owed rest =
         subst (ByCall (λ (d : CallThere K V). (only_looks d.call ≡ false) × CallFinds terms moments m f d)) (sym c_is) (
           of_call (λ (d : CallThere K V). only_looks d.call ≡ false) m c c_is work,
           joins m f c kind (of_call (FindsMade terms moments m f) m c c_is made) (subst (λ (x : ℕ). FindsMap x m f) (sym on) on_map)
               (subst (λ (x : ℕ). FindsPlace x m f c) (sym on) (of_call (FindsPlace map m f) m c c_is place)) (subst (λ (x : ℕ). FindsAhead x m f) (sym on) ahead)
-              (λ counts. of_call (CallFinds terms moments m f) m c c_is (shard counts)) (of_call (FindsOwed m f) m c c_is owed) (of_call (FindsRest terms moments m f) m c c_is rest),
+              (λ counts. of_call (CallFinds terms moments m f) m c c_is (shard counts)) (of_call (FindsObligation m f) m c c_is owed) (of_call (FindsRest terms moments m f) m c c_is rest),
         )
 
-    all_joined : (effects : List Effect) (m : Moment K V) (c : CallThere K V) → call_of own m ≡ Some c → c.map ≡ map → FindParts terms moments own map effects m → FindOwed own map effects m
+    all_joined : (effects : List Effect) (m : Moment K V) (c : CallThere K V) → call_of own m ≡ Some c → c.map ≡ map → FindParts terms moments own map effects m → FindObligations own map effects m
         → FindRest terms moments own map effects m → FindAll terms moments own map effects m
     all_joined [] m c c_is on parts owed rest = tt
     all_joined (f ∷ fs) m c c_is on parts owed rest = (

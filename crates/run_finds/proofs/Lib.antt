@@ -39,4 +39,5 @@ pub mod Rest
 pub mod Capacities
 pub mod Waits
 pub mod Reserving
+pub mod Purposes
 pub mod Given

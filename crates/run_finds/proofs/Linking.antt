@@ -34,7 +34,7 @@ use Rattle.run_executor.specs.Given.RuleWords.{Blocks}
 use Rattle.run_executor.specs.Given.RuleMaps.{IsTable}
 use Rattle.run_executor.specs.Given.PointsFactsCalls.{Change, CallingFacts, IsCopying}
 use Rattle.run_executor.specs.Given.PointsFactsTables.{MakingFacts, NewTableFacts}
-use Rattle.run_executor.specs.Given.LateLateCalls.{LateFirst, LateCalling}
+use Rattle.run_executor.specs.Given.LateLateCalls.{SupersededFirst, SupersededCalling}
 use Rattle.run_executor.specs.Given.CallersSights.{seen_by}
 use Rattle.run_executor.specs.Given.CallersTogether.{CallOnKey, OnKey, in_slot, Together}
 use Rattle.run_executor.specs.Given.EffectsEffects.{effects_of}
@@ -47,16 +47,16 @@ use Rattle.run_executor.specs.Given.FollowsMaps.{table_of, shape_at, tables_to}
 use Rattle.run_executor.proofs.Given.FollowsFinds.{tables_many}
 use Rattle.run_executor.specs.Given.HandsAsked.{IsAskedAs}
 use Rattle.run_executor.proofs.Given.HandsSteps.{numbers_apart}
-use Rattle.run_executor.specs.Given.MomentsWhole.{ShowsWhole}
+use Rattle.run_executor.specs.Given.MomentsWhole.{RefinesWhole}
 use Rattle.run_blocks.specs.Owes.Making.{making_in_calling}
-use Rattle.run_blocks.specs.Owes.Tables.{table_in, table_made, of_map, ShowsTables}
+use Rattle.run_blocks.specs.Owes.Tables.{table_in, table_made, of_map, RefinesOwnTables}
 use Rattle.run_blocks.proofs.Owes.Fields.{its_effect}
 use Rattle.run_blocks.proofs.Owes.Machines.{call_none}
 use Rattle.run_blocks.proofs.Owes.Tables.Held.{shape_of, some_making}
 use Rattle.run_blocks.proofs.Owes.Tables.Leaves.{Stays, IsMade, IsGivenUp, IsLinked}
 use Rattle.run_blocks.proofs.Owes.Tables.Roles.{of_table, NoneOfTable}
 use Rattle.run_blocks.proofs.Owes.Tables.Step.{left_tables}
-use Rattle.run_finds.specs.Growing.{GrowsAt, ShowsGrowing}
+use Rattle.run_finds.specs.Growing.{GrowsAt, RefinesGrowing}
 use Rattle.run_finds.specs.Linking.{FindsShape, FindShapes, there_of, HasFoundFull, IsMadeFor, KeyCallsLink}
 use Rattle.run_finds.specs.Shaping.{ShapedAt, IsFirstTable, IsNextTable}
 use Rattle.run_finds.specs.Within.{many_of}
@@ -114,7 +114,7 @@ module _ {K V : Type 0} (w : World (Node K V)) (i : ℕ) (setting : Setting) (c 
   pub turn_new : (link : At) (turn : ℕ) (n : NewTable) → NewTableFacts w i setting c seen link turn n → table_in n.stands ≡ Some p → p.turn ≡ turn
   turn_new link turn n facts has = turn_made link turn n.stands facts.point has
 
-  turn_late : (began : ℕ) (stands : Making) → LateFirst w i setting c seen began stands → table_in stands ≡ Some p → p.turn ≡ 0
+  turn_late : (began : ℕ) (stands : Making) → SupersededFirst w i setting c seen began stands → table_in stands ≡ Some p → p.turn ≡ 0
   turn_late began (makes.Drops t found) facts has = turn_same t p 0 has facts.1.turn_is
   turn_late began (makes.Promotes t) facts has = absurd facts
   turn_late began (makes.Links t) facts has = absurd facts
@@ -145,7 +145,7 @@ module _ {K V : Type 0} (w : World (Node K V)) (i : ℕ) (setting : Setting) (c 
     which_now change x (at_point.Copies copier) n facts is has = tt
     which_now change x _ n facts is has = absurd (cc is)
 
-    which_late : (began : ℕ) (x : KeyCall K V K) (q : Calling) (n : NewTable) → LateCalling same hash same w i setting c seen keys began x q → making_in_calling q ≡ Some n → table_in n.stands ≡ Some p → IsWhich x q
+    which_late : (began : ℕ) (x : KeyCall K V K) (q : Calling) (n : NewTable) → SupersededCalling same hash same w i setting c seen keys began x q → making_in_calling q ≡ Some n → table_in n.stands ≡ Some p → IsWhich x q
     which_late began x (at_point.Firsts k) n late is has =
         let one : n ≡ k = (let back : k ≡ n = cc is in sym back) in turn_late began k.stands late.2.point (subst (λ (y : NewTable). table_in y.stands ≡ Some p) one has)
     which_late began x (at_point.Allocs k) n late is has =
@@ -223,7 +223,7 @@ module _ {K V : Type 0} (terms : Terms) (moments : List (Moment K V)) (own : Lis
   )
 
 module _ {K V : Type 0} (same : K → K → Bool) (hash : ℕ → K → ℕ) (name : ℕ → List ℕ) (m : Moment K V) (known : Known) (s : Scene K V) (old new : Held K V) (at : IsAt same hash old s)
-    (whole : ShowsWhole same name m known s) (tables : ShowsTables name m known s) (growing : ShowsGrowing m s) (map i : ℕ) (u : CallOnKey K V K) (here : s.calls map i ≡ Some (OnKey u))
+    (whole : RefinesWhole same name m known s) (tables : RefinesOwnTables name m known s) (growing : RefinesGrowing m s) (map i : ℕ) (u : CallOnKey K V K) (here : s.calls map i ≡ Some (OnKey u))
     (said : Progress (Node K V)) (leads : StepLeads same hash i said s old new) (copies_none : IsCopying u.call.stands → ⊥) (made_for : IsMadeFor map m (leads map (OnKey u) here).0.setting)
     (terms : Terms) (moments : List (Moment K V)) (found_full : HasFoundFull map (many_of map m) (m ∷ moments) u.call u.call.stands) where
   abbrev st : Standing K

@@ -1,9 +1,14 @@
 -- Lists: one that passes a test among those of which all is known, numbers that all pass, and those that stay.
-use Rattle.std.specs.Prelude.{◌≡◌, ℕ, zero, suc, ◌+◌, ◌≤◌, ◌<◌, Bool, true, false, cond, ◌||◌, ◌⊎◌, List, [], ◌∷◌, filter}
+use Rattle.std.specs.Prelude.{◌≡◌, ℕ, zero, suc, ◌+◌, ◌≤◌, ◌<◌, Bool, true, false, cond, ◌||◌, ◌⊎◌, List, [], ◌∷◌, filter, ◌++◌}
 use Rattle.std.specs.List.{AllByRecursion, list_any, list_all}
 use Rattle.std.proofs.Common.{refl, ap, sym, subst, ◌∙◌, arith, inl, inr}
 use Rattle.std.proofs.lemmas.Bool.{and_from, and_parts, or_left, or_right, or_parts, cases_eq}
 use Rattle.run_executor.specs.Given.SchedulesLists.{numbers_from}
+use Rattle.run_finds.specs.Given.RunsLifeCycle.{times}
+
+pub times_both : (n : ℕ) (xs ys : List ℕ) → times n (xs ++ ys) ≡ times n xs + times n ys
+times_both n [] ys = omega arith
+times_both n (x ∷ xs) ys = let rest = times_both n xs ys in omega (arith, rest)
 
 module _ {X : Type 0} where
   -- one passes, of which that is known

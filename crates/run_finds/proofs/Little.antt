@@ -16,7 +16,7 @@ use Rattle.run_executor.specs.Given.SchedulesMoment.{Moment}
 use Rattle.run_executor.specs.Given.SchedulesReclaims.{is_quiescent, ComesLast, IsBounded, IsOrderly, IsEmptied, IsTornDown, IfAll, LeavesLittle}
 use Rattle.run_executor.specs.Given.SchedulesTerms.{Terms}
 use Rattle.run_executor.specs.Given.EffectsKnown.{Known}
-use Rattle.run_finds.specs.Little.{WhereAll, AllIsBack, ReclaimsAll, OverIsBack, ShowsNobody, EventsLeaveLittle}
+use Rattle.run_finds.specs.Little.{WhereAll, AllIsBack, ReclaimsAll, OverIsBack, RefinesQuiescence, EventsLeaveLittle}
 use Rattle.run_finds.specs.Within.{AllIsInOrder}
 use Rattle.run_finds.proofs.Closed.{none_there}
 use Rattle.run_finds.specs.Orderly.{WaitsInOrder}
@@ -40,7 +40,7 @@ module _ {K V : Type 0} where
   all_emptied _ _ before m things order all = tt
 
   module _ (terms : Terms) (log : List (Entry K V)) (e : Entry K V) (known : Known) (w : World (Node K V)) (word : terms.batch_size < 2 ^ 64) (h : AllIsInOrder (after e (moment log)))
-      (reclaims : ReclaimsAll log e) (over : OverIsBack (after e (moment log))) (shows : ShowsNobody terms (after e (moment log)) known w) where
+      (reclaims : ReclaimsAll log e) (over : OverIsBack (after e (moment log))) (shows : RefinesQuiescence terms (after e (moment log)) known w) where
     abbrev v : Moment K V
     v = after e (moment log)
 

@@ -13,8 +13,8 @@ use Rattle.run_executor.specs.Given.SchedulesThings.{same_table, same_thing}
 use Rattle.run_executor.specs.Given.SchedulesViews.{map_at, first_or, is_there, is_linked, is_retired, first_of, tables_of, chain_of, is_stage}
 use Rattle.run_executor.proofs.Given.OthersLeads.{same_parts}
 use Rattle.run_finds.specs.Waiting.{is_out, is_behind_one, once_if, put_in, owed_by}
-use Rattle.run_finds.specs.Orderly.{is_left_over, WaitsInOrder, NothingIsRetired, OrderAtFirst, OrderlyAtRest, EmptiedOnceReclaimed}
-use Rattle.run_finds.specs.Tables.{is_owed_table, PassedIsOwed, WaitsBehindOne}
+use Rattle.run_finds.specs.Orderly.{is_left_over, WaitsInOrder, NothingIsRetired, OrderAtFirst, OrderlyAtQuiescence, EmptiedOnceReclaimed}
+use Rattle.run_finds.specs.Tables.{is_owed_table, SupersededIsObligation, IsDeferredOnOne}
 use Rattle.run_finds.proofs.Placed.{placed_at_first}
 use Rattle.run_finds.proofs.Lists.{one_of_them, none_of_them, any_so, any_kept, all_so, all_both, each_passes, passes_each, numbers_pass}
 use Rattle.run_executor.proofs.Given.General.{equal_so as number_is}
@@ -43,9 +43,9 @@ behind_one test n q (d ∷ deferred) all there = by (n == d.pair) refl (behind_o
 module _ {K V : Type 0} (m : Moment K V) (h : WaitsInOrder m) (none : m.calls ≡ []) where
   -- nobody owes a table, so each is there for a reason
   kept : AllByRecursion (λ u. is_kept m u ≡ true) m.tables
-  kept = all_so (PassedIsOwed m) (λ u. is_kept m u ≡ true) (λ u owed. by u owed (is_kept m u) refl) m.tables h.tables.passed
+  kept = all_so (SupersededIsObligation m) (λ u. is_kept m u ≡ true) (λ u owed. by u owed (is_kept m u) refl) m.tables h.tables.passed
     where
-      by : (u : TableThere) → PassedIsOwed m u → (q : Bool) → is_kept m u ≡ q → is_kept m u ≡ true
+      by : (u : TableThere) → SupersededIsObligation m u → (q : Bool) → is_kept m u ≡ q → is_kept m u ≡ true
       by u owed true e = e
       by u owed false e = absurd (
           let some = owed e in
@@ -131,7 +131,7 @@ module _ {K V : Type 0} (m : Moment K V) (h : WaitsInOrder m) (none : m.calls �
   is_reason t = is_stage is_retired t m || has_next m t
 
   reasons : AllByRecursion (λ d. is_reason d.behind ≡ true) m.deferred
-  reasons = all_so (WaitsBehindOne m) (λ d. is_reason d.behind ≡ true) (λ d there. has_one d.behind there.1 there.0)
+  reasons = all_so (IsDeferredOnOne m) (λ d. is_reason d.behind ≡ true) (λ d there. has_one d.behind there.1 there.0)
       m.deferred h.tables.behind
 
   -- no pair is out
@@ -197,7 +197,7 @@ module _ {K V : Type 0} (m : Moment K V) (h : WaitsInOrder m) (none : m.calls �
       tables = nothing.tables;
     }
 
-pub orderly_at_rest : (K V : Type 0) → OrderlyAtRest K V
+pub orderly_at_rest : (K V : Type 0) → OrderlyAtQuiescence K V
 orderly_at_rest K V m h none = orderly m h none
 
 pub emptied_once_reclaimed : (K V : Type 0) → EmptiedOnceReclaimed K V

@@ -8,14 +8,14 @@ use Rattle.run_executor.specs.Given.RunsDeclared.event.Event.{Event}
 use Rattle.run_executor.specs.Given.RunsDeclared.event.Event.TheVariants as event
 use Rattle.run_executor.specs.Given.RunsDeclared.outcome.Outcome.{Outcome}
 use Rattle.run_executor.specs.Given.RunsDeclared.outcome.Outcome.TheVariants as outcome
-use Rattle.run_executor.specs.Given.SchedulesAfter.{without_call, stepped, calls_on, comes_to, replied}
+use Rattle.run_executor.specs.Given.SchedulesAfter.{without_call, stepped, calls_on, with_outcome, replied}
 use Rattle.run_executor.specs.Given.SchedulesEffects.{with_effects, with_effect, AtEachEffect}
 use Rattle.run_executor.specs.Given.SchedulesEntry.{IfCall, ends_call, caller_of, acting, acted_on}
-use Rattle.run_executor.specs.Given.SchedulesHanding.{LeavesOf, comes_clear}
+use Rattle.run_executor.specs.Given.SchedulesHanding.{LeavesOf, is_clear_outcome}
 use Rattle.run_executor.specs.Given.SchedulesMoment.{UnderWay, MapThere, Moment}
-use Rattle.run_finds.specs.Events.{ended_by, EndedOwesNone}
+use Rattle.run_finds.specs.Events.{ended_by, EndedHasNoObligation}
 use Rattle.run_finds.specs.Waiting.{owed_in, AreApart}
-use Rattle.run_finds.specs.Within.{HasItsMap, ActsOn, StoppedOwesNone}
+use Rattle.run_finds.specs.Within.{HasItsMap, ActsOn, StoppedHasNoObligation}
 use Rattle.run_finds.proofs.Events.{OwesSame, comes_same, told_same}
 use Rattle.run_finds.proofs.Lists.{none_of_them, all_so}
 use Rattle.run_finds.proofs.Tables.{all_under, all_kept}
@@ -23,7 +23,7 @@ use Rattle.run_finds.proofs.Grown.{any_found, only_one}
 
 -- calls once an event is over
 
-is_clear : {V : Type 0} (came : Outcome V) → ends_call came ≡ true → comes_clear came ≡ true
+is_clear : {V : Type 0} (came : Outcome V) → ends_call came ≡ true → is_clear_outcome came ≡ true
 is_clear outcome.Ready ends = refl
 is_clear came ends = ends
 
@@ -66,11 +66,11 @@ module _ {K V : Type 0} where
     stepped_have (Some own) came steps calls all = by (ends_call came)
       where
         change : UnderWay K V → UnderWay K V
-        change c = comes_to came (record c { steps = c.steps + steps })
+        change c = with_outcome came (record c { steps = c.steps + steps })
 
-        by : (q : Bool) → AllByRecursion (HasItsMap w) (if q then without_call own calls else map (λ c. if is_same c.caller own then comes_to came (record c { steps = c.steps + steps }) else c) calls)
+        by : (q : Bool) → AllByRecursion (HasItsMap w) (if q then without_call own calls else map (λ c. if is_same c.caller own then with_outcome came (record c { steps = c.steps + steps }) else c) calls)
         by true = fewer_have own calls all
-        by false = changed_has own (λ c. comes_to came (record c { steps = c.steps + steps })) (λ c. comes_same came (record c { steps = c.steps + steps })) calls all
+        by false = changed_has own (λ c. with_outcome came (record c { steps = c.steps + steps })) (λ c. comes_same came (record c { steps = c.steps + steps })) calls all
 
     pub over_have : (its : Event K V) (came : Outcome V) (steps : ℕ) (calls : List (UnderWay K V)) → AllByRecursion (HasItsMap w) calls → AllByRecursion (HasItsMap w) (calls_on its came steps calls)
     over_have (event.Replied caller reply) outcome.Goes steps calls all = changed_has caller (λ c. replied reply c c.stands) (λ c. told_same reply c c.stands) calls all
@@ -89,7 +89,7 @@ module _ {K V : Type 0} where
       by None is nothing = none (list_any (λ c. is_same c.caller own) calls) refl is
       by (Some c) is owes = all_so (λ d. is_same d.caller own ≡ true → d ≡ c) (λ d. is_same d.caller own ≡ true → d.owes ≡ []) (λ d one same. ap (λ (x : UnderWay K V). x.owes) (one same) ∙ owes) calls (only_one own calls c apart is)
 
-  pub if_clear : (came : Outcome V) (o : Option (UnderWay K V)) → comes_clear came ≡ true → IfCall (LeavesOf (comes_clear came) came) o → IfCall (λ (c : UnderWay K V). c.owes ≡ []) o
+  pub if_clear : (came : Outcome V) (o : Option (UnderWay K V)) → is_clear_outcome came ≡ true → IfCall (LeavesOf (is_clear_outcome came) came) o → IfCall (λ (c : UnderWay K V). c.owes ≡ []) o
   if_clear came None clear its_leaves = tt
   if_clear came (Some c) clear its_leaves = (subst (λ (q : Bool). LeavesOf q came c) clear its_leaves).0.owes
 
@@ -98,15 +98,15 @@ module _ {K V : Type 0} where
   calls_stay acted [] m = refl
   calls_stay acted (f ∷ effects) m = calls_stay acted effects (with_effect None acted f m)
 
-  pub ended_owes_none : (its : Event K V) (came : Outcome V) (w : Moment K V) → AreApart w.calls → IfCall (LeavesOf (comes_clear came) came) (acting (caller_of its) w) → StoppedOwesNone its came w.calls
-      → EndedOwesNone (ended_by its came) w.calls
+  pub ended_owes_none : (its : Event K V) (came : Outcome V) (w : Moment K V) → AreApart w.calls → IfCall (LeavesOf (is_clear_outcome came) came) (acting (caller_of its) w) → StoppedHasNoObligation its came w.calls
+      → EndedHasNoObligation (ended_by its came) w.calls
   ended_owes_none (event.Stop caller) outcome.Done w apart leaves stops = stops
   ended_owes_none its came w apart leaves stops = by (ends_call came) refl
     where
-      of : (o : Option (List ℕ)) → (IfCall (λ (c : UnderWay K V). c.owes ≡ []) (acting o w)) → EndedOwesNone o w.calls
+      of : (o : Option (List ℕ)) → (IfCall (λ (c : UnderWay K V). c.owes ≡ []) (acting o w)) → EndedHasNoObligation o w.calls
       of None clear = tt
       of (Some own) clear = none_of_name own w.calls apart clear
 
-      by : (q : Bool) → ends_call came ≡ q → EndedOwesNone (if q then caller_of its else None) w.calls
+      by : (q : Bool) → ends_call came ≡ q → EndedHasNoObligation (if q then caller_of its else None) w.calls
       by true ends = of (caller_of its) (if_clear came (acting (caller_of its) w) (is_clear came ends) leaves)
       by false goes = tt

@@ -17,7 +17,7 @@ use Rattle.run_executor.specs.Given.SchedulesViews.{call_of, first_of, is_in_a_m
 use Rattle.run_executor.proofs.Given.FollowsAlike.{put_elsewhere}
 use Rattle.run_executor.proofs.Given.FollowsCalls.{changed_same}
 use Rattle.run_executor.proofs.Given.SpotsElsewhere.{stored_grows}
-use Rattle.run_finds.specs.Waiting.{is_unborn, is_out, is_behind_one, is_back, is_let_go, once_if, owed_in, put_in, owed_by, AreApart, PairsArePlaced, OwesPair, TakesOut, FindsPlaced, PlacedAtFirst, EffectsKeepPlaced, OthersKeepPlaced}
+use Rattle.run_finds.specs.Waiting.{is_unborn, is_out, is_behind_one, is_back, is_let_go, once_if, owed_in, put_in, owed_by, AreApart, PairsArePlaced, HasPairPending, TakesOut, FindsPlaced, PlacedAtFirst, EffectsPreservePlaced, OthersPreservePlaced}
 use Rattle.run_finds.proofs.Counted.{Counts, gains, loses, stays, lets_go, others_stay, born_stay}
 use Rattle.run_finds.proofs.Owed.{due_keeps, owed_append, owed_without, table_without, passed_none, owed_there, apart_still, all_owe, its_owe, owed_at_least}
 use Rattle.run_executor.proofs.Given.General.{and_nothing as plus_none}
@@ -25,7 +25,7 @@ use Rattle.run_executor.proofs.Given.General.{and_nothing as plus_none}
 pub placed_at_first : (K V : Type 0) → PlacedAtFirst K V
 placed_at_first K V = record { owed = λ n. refl; put = λ n. refl; back = λ n. refl; stored = λ n e. absurd (cc e); apart = tt }
 
-pub others_keep_placed : (K V : Type 0) → OthersKeepPlaced K V
+pub others_keep_placed : (K V : Type 0) → OthersPreservePlaced K V
 others_keep_placed K V m v h place deferred given stored owed apart = record {
   owed = λ n. owed n ∙ (h.owed n ∙ sym (ap (λ (p : Place). once_if (is_out p)) (place n)));
   put = λ n. ap (put_in n) deferred ∙ (h.put n ∙ sym (ap (λ (p : Place). once_if (is_behind_one p)) (place n)));
@@ -263,7 +263,7 @@ module _ {K V : Type 0} where
             record { owed = all.0; put = all.1; back = all.2; stored = λ k e. more_stored (Some own) f k (all.3 k e); apart = apart_after (Some own) f }
 
     -- a call puts a pair behind a table
-    defers : (caller : Option (List ℕ)) (n : ℕ) (t : TableId) → OwesPair caller m n → PairsArePlaced (with_effect caller acted (effect.Deferred n t) m)
+    defers : (caller : Option (List ℕ)) (n : ℕ) (t : TableId) → HasPairPending caller m n → PairsArePlaced (with_effect caller acted (effect.Deferred n t) m)
     defers None n t finds = absurd finds
     defers (Some own) n t finds = by (call_of own m) refl finds
       where
@@ -282,7 +282,7 @@ module _ {K V : Type 0} where
             }
 
     -- or retires it
-    retires : (caller : Option (List ℕ)) (n : ℕ) → OwesPair caller m n → PairsArePlaced (with_effect caller acted (effect.Retired (APair n)) m)
+    retires : (caller : Option (List ℕ)) (n : ℕ) → HasPairPending caller m n → PairsArePlaced (with_effect caller acted (effect.Retired (APair n)) m)
     retires None n finds = absurd finds
     retires (Some own) n finds = by (call_of own m) refl finds
       where
@@ -364,6 +364,6 @@ module _ {K V : Type 0} where
     one_keeps caller (effect.Ended n) finds = gives_back caller n (effect.Ended n) refl (in_map_is_none (m.place n) finds) refl refl refl
     one_keeps caller (effect.Taken t) finds = ends caller t
 
-pub effects_keep_placed : (K V : Type 0) → EffectsKeepPlaced K V
+pub effects_keep_placed : (K V : Type 0) → EffectsPreservePlaced K V
 effects_keep_placed K V caller acted [] m finds h = h
 effects_keep_placed K V caller acted (f ∷ effects) m finds h = effects_keep_placed K V caller acted effects (with_effect caller acted f m) finds.1 (one_keeps acted m h caller f finds.0)

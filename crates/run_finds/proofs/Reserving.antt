@@ -29,7 +29,7 @@ use Rattle.run_executor.specs.Given.SchedulesCounts.{AddsUp, Counts}
 use Rattle.run_executor.specs.Given.SchedulesGrowing.{is_too_many, MayGrow}
 use Rattle.run_executor.specs.Given.SchedulesLists.{OneOf}
 use Rattle.run_executor.specs.Given.SchedulesMoment.{UnderWay as CallThere, Moment}
-use Rattle.run_executor.specs.Given.TellerTells.{StepsTold}
+use Rattle.run_executor.specs.Given.TellerTells.{StepsObserved}
 use Rattle.run_executor.specs.Given.EffectsDeclared.changed.Changed.{Changed}
 use Rattle.run_executor.specs.Given.EffectsDeclared.changed.Changed.TheVariants as changed
 use Rattle.run_executor.proofs.Given.RuleKeys.Always.{Always, AlwaysOf, always_if, always_plan_as, always_steps}
@@ -37,7 +37,7 @@ use Rattle.run_executor.specs.Given.CallersTogether.{ForRoom}
 use Rattle.run_executor.proofs.Given.OthersOutcomes.{told_in}
 use Rattle.run_blocks.specs.Owes.Making.{making_in_reserving}
 use Rattle.run_blocks.proofs.Owes.Walks.{reserve_makes}
-use Rattle.run_finds.specs.Reserving.{FitsAt, ReservesAt, SumTells, MakesFirst, RoomsKeepCount, RoomsMayAsk}
+use Rattle.run_finds.specs.Reserving.{FitsAt, ReservesAt, SumTells, MakesFirst, RoomsPreserveCount, RoomsMayAsk}
 use Rattle.run_finds.proofs.Grows.Asked.{Asks, made_of, may_ask}
 use Rattle.run_executor.proofs.Given.ScenesTold.{as_step}
 use Rattle.run_executor.proofs.Given.General.{less_false as not_less, same_some as one_of}
@@ -118,12 +118,12 @@ module _ {K V : Type 0} (of : ℕ) (moments : List (Moment K V)) (p : Reserve) w
 
     module _ (hash : K → ℕ) (m m2 : Mem (Node K V)) (told : Changed) (end : Reserve × Yielding (Node K V) Unit) (sums : SumTells of moments p m m2 told) where
       abbrev StepAt : Reserving → Type 0
-      StepAt q = StepsTold K V (Reserve × Yielding (Node K V) Unit) m changed.Nothing (reserves.plan_at hash p q) m2 told end
+      StepAt q = StepsObserved K V (Reserve × Yielding (Node K V) Unit) m changed.Nothing (reserves.plan_at hash p q) m2 told end
 
       always : (q : Reserving) → AlwaysOf So (reserves.plan_at hash p q) → StepAt q → So end
       always q all s = always_steps So m m2 (reserves.plan_at hash p q) end all (as_step m changed.Nothing (reserves.plan_at hash p q) m2 told end s)
 
-      summed_so : (table : Table) (sum : Sum) → p.stands ≡ at.Sums table sum → (e : Sum × Advance ℕ) → StepsTold K V (Sum × Advance ℕ) m changed.Nothing (sum_plan sum) m2 told e → So (reserves.summed p table e)
+      summed_so : (table : Table) (sum : Sum) → p.stands ≡ at.Sums table sum → (e : Sum × Advance ℕ) → StepsObserved K V (Sum × Advance ℕ) m changed.Nothing (sum_plan sum) m2 told e → So (reserves.summed p table e)
       summed_so table sum is (sum2, progress.Goes) s = tt
       summed_so table sum is (sum2, progress.Waits) s = tt
       summed_so table sum is (sum2, progress.Done count) s = enough_so table count (sums table sum sum2 count is s)
@@ -141,7 +141,7 @@ module _ {K V : Type 0} (of : ℕ) (moments : List (Moment K V)) (p : Reserve) w
       by_point at.Over is so s = always at.Over stays s
       by_point (at.Refused fault) is so s = always (at.Refused fault) stays s
 
-pub rooms_keep_count : (K V : Type 0) → RoomsKeepCount K V
+pub rooms_keep_count : (K V : Type 0) → RoomsPreserveCount K V
 rooms_keep_count K V hash of moments p m m2 told end so sums s = by_point of moments p so hash m m2 told end sums p.stands refl so s
 
 -- where it has a table to make that is not the first

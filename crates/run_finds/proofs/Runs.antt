@@ -23,9 +23,9 @@ use Rattle.run_executor.specs.Given.SchedulesViews.{map_of, number_of, map_at}
 use Rattle.run_executor.proofs.Given.FollowsCalling.{is_same_is}
 use Rattle.run_executor.proofs.Given.FollowsCalls.{changed_same, changed, of_same, found}
 use Rattle.run_finds.specs.Endings.{EndsWhole}
-use Rattle.run_finds.specs.Events.{ended_by, EndedOwesNone}
+use Rattle.run_finds.specs.Events.{ended_by, EndedHasNoObligation}
 use Rattle.run_finds.specs.Life.{StoresOne}
-use Rattle.run_finds.specs.Within.{ReadyOweNone, many_of, HasItsMap, AllIsInOrder, ActsOn, GoesInOrder, AllInOrderAtFirst, LifeKeepsOrder, EventsKeepOrder}
+use Rattle.run_finds.specs.Within.{ReadyOweNone, many_of, HasItsMap, AllIsInOrder, ActsOn, GoesInOrder, AllInOrderAtFirst, LifePreservesOrder, EventsPreserveOrder}
 use Rattle.run_finds.proofs.Begun.{makes_new, ends_uncalled, all_begun}
 use Rattle.run_finds.proofs.Endings.{entry, number_at, same_number, fewer_found, ends_leave_maps, events_keep_named, events_keep_roots, events_keep_somewhere}
 use Rattle.run_finds.proofs.Events.{events_keep_placed, events_keep_tables}
@@ -63,7 +63,7 @@ module _ {K V : Type 0} where
       let is : changed (call_by m f) (changed_same m f) who some.0 ≡ c = (let two : Some (changed (call_by m f) (changed_same m f) who some.0) ≡ Some c = sym now ∙ here in cc two) in
       on who some.0 refl some.1 ∙ ap Some (sym (of_same (call_by m f) (changed_same m f) who some.0).1 ∙ ap (λ (x : UnderWay K V). x.map) is)
 
-pub life_keeps_order : (K V : Type 0) → LifeKeepsOrder K V
+pub life_keeps_order : (K V : Type 0) → LifePreservesOrder K V
 life_keeps_order K V terms caller acted everything moments [] m finds on h = h
 life_keeps_order K V terms caller acted everything moments (f ∷ effects) m finds on h =
     life_keeps_order K V terms caller acted everything moments effects (with_effect caller acted f m) finds.1 (acts_still caller acted m f on)
@@ -173,7 +173,7 @@ module _ {K V : Type 0} (terms : Terms) (log : List (Entry K V)) where
     ends : EndsWhole e m
     ends = record { named = h.named; found = h.waits.found; may = goes.life.may; whole = goes.life.whole }
 
-    owes : EndedOwesNone (ended_by e.event e.outcome) w.calls
+    owes : EndedHasNoObligation (ended_by e.event e.outcome) w.calls
     owes = ended_owes_none e.event e.outcome w then_worked.waits.placed.apart goes.life.leaves (stopped_owes_none terms log e.event e.outcome e.steps e.effects goes ready h.waits.placed.apart)
 
     left : Leaves w v.maps
@@ -208,6 +208,6 @@ module _ {K V : Type 0} (terms : Terms) (log : List (Entry K V)) where
       };
     }
 
-pub events_keep_order : (K V : Type 0) → EventsKeepOrder K V
+pub events_keep_order : (K V : Type 0) → EventsPreserveOrder K V
 events_keep_order K V terms log e goes h =
     (then_after terms log e goes h.0 h.1, after_ready terms log e.event e.outcome e.steps e.effects goes h.1 (then_worked terms log e goes h.0 h.1).waits.placed.apart)

@@ -15,7 +15,7 @@ use Rattle.run_executor.specs.Given.SchedulesMoment.{Place, InMap, Out, Handed, 
 use Rattle.run_executor.specs.Given.SchedulesViews.{behind}
 use Rattle.run_executor.proofs.Given.FollowsAlike.{put_here, put_elsewhere}
 use Rattle.run_finds.specs.Waiting.{is_unborn, FindsPlaced}
-use Rattle.run_finds.specs.TornDown.{StoredAreSomewhere, FindsItsMap, EffectsKeepSomewhere, OthersKeepSomewhere}
+use Rattle.run_finds.specs.TornDown.{StoredAreSomewhere, FindsItsMap, EffectsPreserveSomewhere, OthersPreserveSomewhere}
 
 -- a place in no map, and of a pair that was stored
 record IsElsewhere (to : Place) : Type 0 where
@@ -166,12 +166,12 @@ module _ {K V : Type 0} where
   one_keeps caller acted m (effect.Ended n) finds its h = others caller acted m h (effect.Ended n) refl
   one_keeps caller acted m (effect.Taken t) finds its h = others caller acted m h (effect.Taken t) refl
 
-pub effects_keep_somewhere : (K V : Type 0) → EffectsKeepSomewhere K V
+pub effects_keep_somewhere : (K V : Type 0) → EffectsPreserveSomewhere K V
 effects_keep_somewhere K V caller acted [] m finds h = h
 effects_keep_somewhere K V caller acted (f ∷ effects) m finds h =
     effects_keep_somewhere K V caller acted effects (with_effect caller acted f m) finds.1 (one_keeps caller acted m f finds.0.0 finds.0.1 h)
 
-pub others_keep_somewhere : (K V : Type 0) → OthersKeepSomewhere K V
+pub others_keep_somewhere : (K V : Type 0) → OthersPreserveSomewhere K V
 others_keep_somewhere K V m v h place stored more = record {
   born = λ n l u. ap is_unborn (place n) ∙ h.born n l (subst (λ (xs : List (K × V)). n ≤ length xs) stored u);
   there = λ n map l is. let was : m.place n ≡ InMap map = sym (place n) ∙ is in more n map l was (h.there n map l was);

@@ -27,7 +27,7 @@ use Rattle.run_executor.specs.Given.FinishesMachines.{machine_of}
 use Rattle.run_executor.specs.Given.FinishesMaps.{Standing}
 use Rattle.run_executor.specs.Given.FollowsCalls.{IsCalled}
 use Rattle.run_executor.specs.Given.FollowsFinds.{FindsMap}
-use Rattle.run_executor.specs.Given.FollowsShows.{Shows}
+use Rattle.run_executor.specs.Given.FollowsShows.{Refines}
 use Rattle.run_executor.specs.Given.FollowsSteps.{HasPair, HasToStore, StoreTheirs, TakesNone, named_now}
 use Rattle.run_executor.proofs.Given.FollowsAlike.{is_calm, AllCalm, calm_still, put_here}
 use Rattle.run_executor.proofs.Given.FollowsFinds.{still_find}
@@ -38,11 +38,11 @@ use Rattle.run_executor.proofs.Given.FollowsRowSteps.{row_done}
 use Rattle.run_executor.proofs.Given.FollowsSteps.{WentTo, went_to, made_so, step_shown, DidSo, OfNoRow}
 use Rattle.run_executor.proofs.Given.HandsRowSteps.{rows_hand_theirs}
 use Rattle.run_executor.proofs.Given.HandsSteps.{calls_store_theirs}
-use Rattle.run_executor.specs.Given.MomentsWhole.{ShowsWhole}
+use Rattle.run_executor.specs.Given.MomentsWhole.{RefinesWhole}
 use Rattle.run_executor.proofs.Given.MomentsCalls.{of_row, calls_keep_whole}
 use Rattle.run_blocks.proofs.Owes.Tables.Held.{call_unmade}
 use Rattle.run_blocks.proofs.Owes.Tables.Kinds.{no_room}
-use Rattle.run_executor.specs.Given.SpotsSpots.{ShowsPlaces}
+use Rattle.run_executor.specs.Given.SpotsSpots.{RefinesPlaces}
 use Rattle.run_executor.proofs.Given.SpotsSteps.{calls_find_places}
 use Rattle.run_finds.specs.Parts.{FindPlacesOf, FindAhead}
 use Rattle.run_finds.specs.Steps.{StepsDoTheirs, StepsFindPlaces, StepsStoreOne}
@@ -87,7 +87,7 @@ rows_find_map own map _ m (Puts n t) = (tt, tt)
 rows_find_map own map _ m (Retires x) = (tt, tt)
 
 module _ {K V : Type 0} (same : K → K → Bool) (hash : ℕ → K → ℕ) (name : ℕ → List ℕ) (m : Moment K V) (known : Known) (s : Scene K V) (old new : Held K V) (at : IsAt same hash old s)
-    (whole : ShowsWhole same name m known s) (map i : ℕ) (u : UnderWay K V K) (here : s.calls map i ≡ Some u) (said : Progress (Node K V)) (leads : StepLeads same hash i said s old new) where
+    (whole : RefinesWhole same name m known s) (map i : ℕ) (u : UnderWay K V K) (here : s.calls map i ≡ Some u) (said : Progress (Node K V)) (leads : StepLeads same hash i said s old new) where
   abbrev to : WentTo same hash name m known s old new at whole.all.shown map i u here said leads
   to = went_to same hash name m known s old new at whole.all.shown map i u here said leads
 
@@ -103,7 +103,7 @@ module _ {K V : Type 0} (same : K → K → Bool) (hash : ℕ → K → ℕ) (na
   abbrev then_at : Scene K V
   then_at = scene_after same s old new map i to.0 u to.1 said to.4
 
-  after : ShowsWhole same name (with_effects (Some (name i)) (Some map) effects m) known2 then_at
+  after : RefinesWhole same name (with_effects (Some (name i)) (Some map) effects m) known2 then_at
   after = calls_keep_whole K V same hash name m known s old new at whole map i u here said leads
 
   -- the call, by the moment
@@ -145,8 +145,8 @@ module _ {K V : Type 0} (same : K → K → Bool) (hash : ℕ → K → ℕ) (na
     own_promotes : (t : TableId) → effects ≡ effect.Promoted t ∷ [] → none_before map t.turn m ≡ true
     own_promotes t is =
         let on = (subst (λ (l : List Effect). AtEachEffect (FindsMap map) (Some (name i)) (Some map) l m) is finds_map).0.0 in
-        let shown_then = subst (λ (l : List Effect). Shows same name (with_effects (Some (name i)) (Some map) l m) known2 then_at) is after.all.shown in
-        let lying_then = subst (λ (l : List Effect). ShowsPlaces (with_effects (Some (name i)) (Some map) l m) known2 then_at.maps) is after.places in
+        let shown_then = subst (λ (l : List Effect). Refines same name (with_effects (Some (name i)) (Some map) l m) known2 then_at) is after.all.shown in
+        let lying_then = subst (λ (l : List Effect). RefinesPlaces (with_effects (Some (name i)) (Some map) l m) known2 then_at.maps) is after.places in
         let before = (whole.all.shown.maps map to.0 to.2).there in
         none_behind same hash name (name i) map t on m before.there before.is known2 then_at new to.5 shown_then lying_then stood.0 stood.1
 

@@ -10,7 +10,7 @@ use Rattle.run_executor.specs.Given.RunsDeclared.call.Reply.{Reply}
 use Rattle.run_executor.specs.Given.RunsDeclared.call.Reply.TheVariants.{Gives}
 use Rattle.run_executor.specs.Given.SchedulesSequential.{means, puts_any}
 use Rattle.run_executor.specs.Given.SchedulesViews.{reply_to}
-use Rattle.run_executor.specs.Given.CallersAsked.{Asked, last_told}
+use Rattle.run_executor.specs.Given.CallersAsked.{Asked, last_reply}
 use Rattle.run_executor.specs.Given.CallersKind.{Kind}
 use Rattle.run_executor.specs.Given.CallersPairs.{Given, Begun, IsTold}
 use Rattle.run_executor.specs.Given.HandsAsked.{given_by, AreReplies}
@@ -49,17 +49,17 @@ module _ {K V : Type 0} where
     abbrev Never : Type 0
     Never = kind.absent ≡ missing.Puts → ⊥
 
-    last_value : Never → (value : V) × (last_told None asked ≡ Some (reply.Insert value))
+    last_value : Never → (value : V) × (last_reply None asked ≡ Some (reply.Insert value))
     last_value never = by stores
       where
-        by : StoresForNone kind asked → (value : V) × (last_told None asked ≡ Some (reply.Insert value))
+        by : StoresForNone kind asked → (value : V) × (last_reply None asked ≡ Some (reply.Insert value))
         by (inl puts) = absurd (never puts)
         by (inr (asks, value, was)) = (value, was)
 
     replied : (of : List (Asked V)) → AreReplies number stored of replies → asked ≡ of → Never → (value : V) × (reply_to None replies ≡ Some (Gives value))
     replied of are e never =
         let it = last_value never in
-        (it.0, gave (reply_to None replies) it.0 (sym (told_as number stored apart None None tt of replies are) ∙ ap (last_told None) (sym e) ∙ it.1))
+        (it.0, gave (reply_to None replies) it.0 (sym (told_as number stored apart None None tt of replies are) ∙ ap (last_reply None) (sym e) ∙ it.1))
 
     told_stores : (one : OneKey K V) (of : List (Asked V)) → AreReplies number stored of replies → Its ≡ given_by one of → StoresSo one replies
     told_stores (Insert k v) of are e = refl

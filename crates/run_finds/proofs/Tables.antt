@@ -19,7 +19,7 @@ use Rattle.run_executor.specs.Given.SchedulesThings.{same_table, same_thing}
 use Rattle.run_executor.specs.Given.SchedulesViews.{call_of, map_at, first_or, first_of, is_there, is_linked, is_stage, tables_of}
 use Rattle.run_executor.proofs.Given.FollowsCalls.{changed_same}
 use Rattle.run_executor.proofs.Given.SpotsUnreclaimed.{table_is, same_itself}
-use Rattle.run_finds.specs.Tables.{is_owed_table, PassedIsOwed, WaitsBehindOne, TablesAreInOrder, FindsTables, EffectsKeepTables, OthersKeepTables}
+use Rattle.run_finds.specs.Tables.{is_owed_table, SupersededIsObligation, IsDeferredOnOne, TablesAreInOrder, FindsTables, EffectsPreserveTables, OthersPreserveTables}
 use Rattle.run_finds.proofs.Lists.{one_of_them, none_of_them, all_so, all_both}
 use Rattle.run_finds.proofs.Owed.{due_keeps}
 use Rattle.run_finds.proofs.Owed.Tables.{still_in, then_in, in_without, passed_in, owed_still, owed_now}
@@ -141,16 +141,16 @@ module _ {K V : Type 0} where
   others_order : (m v : Moment K V) → TablesAreInOrder m → v.tables ≡ m.tables → v.deferred ≡ m.deferred → AllByRecursion (λ u. is_kept m u ≡ true → is_kept v u ≡ true) m.tables
       → ((t : TableId) → is_owed_table m t ≡ true → is_owed_table v t ≡ true) → TablesAreInOrder v
   others_order m v h tables deferred kept owed = record {
-    passed = subst (λ (ts : List TableThere). AllByRecursion (PassedIsOwed v) ts) (sym tables)
-        (all_so (λ u. PassedIsOwed m u × (is_kept m u ≡ true → is_kept v u ≡ true)) (PassedIsOwed v)
+    passed = subst (λ (ts : List TableThere). AllByRecursion (SupersededIsObligation v) ts) (sym tables)
+        (all_so (λ u. SupersededIsObligation m u × (is_kept m u ≡ true → is_kept v u ≡ true)) (SupersededIsObligation v)
         (λ u its e. by u its.0 its.1 e (is_kept m u) refl) m.tables
-        (all_both (PassedIsOwed m) (λ u. is_kept m u ≡ true → is_kept v u ≡ true) m.tables h.passed kept));
-    behind = subst (λ (ds : List Deferral). AllByRecursion (WaitsBehindOne v) ds) (sym deferred)
+        (all_both (SupersededIsObligation m) (λ u. is_kept m u ≡ true → is_kept v u ≡ true) m.tables h.passed kept));
+    behind = subst (λ (ds : List Deferral). AllByRecursion (IsDeferredOnOne v) ds) (sym deferred)
         (subst (λ (ts : List TableThere). AllByRecursion (λ d. (list_any (λ u. same_table u.table d.behind && is_there u.stage) ts ≡ true) × (d.behind.turn + 1 < length (filter (λ u. u.table.map == d.behind.map) ts))) m.deferred)
         (sym tables) h.behind);
   }
     where
-      by : (u : TableThere) → PassedIsOwed m u → (is_kept m u ≡ true → is_kept v u ≡ true) → is_kept v u ≡ false → (q : Bool) → is_kept m u ≡ q
+      by : (u : TableThere) → SupersededIsObligation m u → (is_kept m u ≡ true → is_kept v u ≡ true) → is_kept v u ≡ false → (q : Bool) → is_kept m u ≡ q
           → is_owed_table v u.table ≡ true
       by u was still e true is = absurd (let now = still is in cc (now, e))
       by u was still e false is = owed u.table (was is)
@@ -169,7 +169,7 @@ module _ {K V : Type 0} where
 
     defers : (n : ℕ) (t : TableId) → FindsTables caller m (effect.Deferred n t) → TablesAreInOrder (with_effect caller acted (effect.Deferred n t) m)
     defers n t finds = record {
-      passed = all_so (PassedIsOwed m) (λ u. is_kept m u ≡ false → is_owed_table (with_effect caller acted (effect.Deferred n t) m) u.table ≡ true)
+      passed = all_so (SupersededIsObligation m) (λ u. is_kept m u ≡ false → is_owed_table (with_effect caller acted (effect.Deferred n t) m) u.table ≡ true)
           (λ u was e. owed_on caller acted m (effect.Deferred n t) u.table (λ is. cc is) (was e)) m.tables h.passed;
       behind = (finds, h.behind);
     }
@@ -177,12 +177,12 @@ module _ {K V : Type 0} where
     -- a table comes to another stage, at which none is linked
     module _ (f : Effect) (t : TableId) (to : Stage) (not_linked : is_linked to ≡ false) (apart : (u : TableId) → same_table u t ≡ false → f ≡ effect.Retired (ATable u) → ⊥) where
       staged_passed : AllByRecursion (λ u. is_kept m u ≡ false → is_owed_table (with_effect caller acted f m) u.table ≡ true) (map (at_stage t to) m.tables)
-      staged_passed = all_under (at_stage t to) (PassedIsOwed m) Q each m.tables h.passed
+      staged_passed = all_under (at_stage t to) (SupersededIsObligation m) Q each m.tables h.passed
         where
           Q : TableThere → Type 0
           Q u = is_kept m u ≡ false → is_owed_table (with_effect caller acted f m) u.table ≡ true
 
-          each : (u : TableThere) → PassedIsOwed m u → Q (at_stage t to u)
+          each : (u : TableThere) → SupersededIsObligation m u → Q (at_stage t to u)
           each u was = by (same_table u.table t) refl
             where
               by : (q : Bool) → same_table u.table t ≡ q → Q (if same_table u.table t then record u { stage = to } else u)
@@ -192,7 +192,7 @@ module _ {K V : Type 0} where
                   ))
               by false is = subst (λ (q : Bool). Q (if q then record u { stage = to } else u)) (sym is) (λ e. owed_on caller acted m f u.table (apart u.table is) (was e))
 
-      staged_behind : (ds : List Deferral) → AllByRecursion (λ d. WaitsBehindOne m d × ((is_there to ≡ true) ⊎ (same_table d.behind t ≡ false))) ds
+      staged_behind : (ds : List Deferral) → AllByRecursion (λ d. IsDeferredOnOne m d × ((is_there to ≡ true) ⊎ (same_table d.behind t ≡ false))) ds
           → AllByRecursion (λ d. (list_any (λ u. same_table u.table d.behind && is_there u.stage) (map (at_stage t to) m.tables) ≡ true) × (d.behind.turn + 1 < length (filter (λ u. u.table.map == d.behind.map) (map (at_stage t to) m.tables)))) ds
       staged_behind [] all = tt
       staged_behind (d ∷ ds) all = (
@@ -205,16 +205,16 @@ module _ {K V : Type 0} where
     retires t = record {
       passed = staged_passed (effect.Retired (ATable t)) t IsRetired refl (λ u other is. absurd (let one : t ≡ u = cc is in let same : same_table u t ≡ true = subst (λ (x : TableId). same_table x t ≡ true) one (same_itself t) in cc (same, other)));
       behind = staged_behind (effect.Retired (ATable t)) t IsRetired refl (λ u other is. absurd (let one : t ≡ u = cc is in let same : same_table u t ≡ true = subst (λ (x : TableId). same_table x t ≡ true) one (same_itself t) in cc (same, other))) m.deferred
-          (all_so (WaitsBehindOne m)
-          (λ d. WaitsBehindOne m d × ((is_there IsRetired ≡ true) ⊎ (same_table d.behind t ≡ false))) (λ d its. (its, inl refl)) m.deferred h.behind);
+          (all_so (IsDeferredOnOne m)
+          (λ d. IsDeferredOnOne m d × ((is_there IsRetired ≡ true) ⊎ (same_table d.behind t ≡ false))) (λ d its. (its, inl refl)) m.deferred h.behind);
     }
 
     -- or goes, and what is behind it with it
-    others_behind : (t : TableId) (to : Stage) → AllByRecursion (λ d. WaitsBehindOne m d × ((is_there to ≡ true) ⊎ (same_table d.behind t ≡ false))) (filter (λ d. not (same_table d.behind t)) m.deferred)
-    others_behind t to = all_so (λ d. WaitsBehindOne m d × (not (same_table d.behind t) ≡ true))
-        (λ d. WaitsBehindOne m d × ((is_there to ≡ true) ⊎ (same_table d.behind t ≡ false)))
+    others_behind : (t : TableId) (to : Stage) → AllByRecursion (λ d. IsDeferredOnOne m d × ((is_there to ≡ true) ⊎ (same_table d.behind t ≡ false))) (filter (λ d. not (same_table d.behind t)) m.deferred)
+    others_behind t to = all_so (λ d. IsDeferredOnOne m d × (not (same_table d.behind t) ≡ true))
+        (λ d. IsDeferredOnOne m d × ((is_there to ≡ true) ⊎ (same_table d.behind t ≡ false)))
         (λ d its. (its.0, inr (is_not (same_table d.behind t) its.1))) (filter (λ d. not (same_table d.behind t)) m.deferred)
-        (all_kept (WaitsBehindOne m) (λ d. not (same_table d.behind t)) m.deferred h.behind)
+        (all_kept (IsDeferredOnOne m) (λ d. not (same_table d.behind t)) m.deferred h.behind)
       where
         is_not : (q : Bool) → not q ≡ true → q ≡ false
         is_not true e = absurd (cc e)
@@ -236,9 +236,9 @@ module _ {K V : Type 0} where
     links : (t : TableId) (shape : TableShape) → FindsTables caller m (effect.Linked t shape) → TablesAreInOrder (with_effect caller acted (effect.Linked t shape) m)
     links t shape rooted = record {
       passed = all_append (λ u. is_kept m u ≡ false → is_owed_table v u.table ≡ true) m.tables new
-          (all_so (PassedIsOwed m) (λ u. is_kept m u ≡ false → is_owed_table v u.table ≡ true) (λ u was e. owed_on caller acted m f u.table (λ is. cc is) (was e)) m.tables h.passed)
+          (all_so (SupersededIsObligation m) (λ u. is_kept m u ≡ false → is_owed_table v u.table ≡ true) (λ u was e. owed_on caller acted m f u.table (λ is. cc is) (was e)) m.tables h.passed)
           (λ e. absurd (let kept : is_kept m new ≡ true = rooted in cc (kept, e)));
-      behind = all_so (WaitsBehindOne m) (WaitsBehindOne v)
+      behind = all_so (IsDeferredOnOne m) (IsDeferredOnOne v)
           (λ d its. (there d.behind its.0, more d.behind its.1)) m.deferred h.behind;
     }
       where
@@ -298,7 +298,7 @@ module _ {K V : Type 0} where
             subst (λ (q : ℕ). is_in same_thing (ATable (record { map = q; turn = u.table.turn })) (passed t.map (first_of t.map m) t.turn) ≡ true) (sym map_is) there in
             owed_now own (call_by m f) (changed_same m f) u.table m.calls c c_is (then_in u.table c.owes (passed t.map (first_of t.map m) t.turn) it)
 
-    each : (u : TableThere) → PassedIsOwed m u → PassedIsOwed v u
+    each : (u : TableThere) → SupersededIsObligation m u → SupersededIsObligation v u
     each u was now = by (is_kept m u) refl
       where
         two : (not (is_linked u.stage) ≡ false) × (list_any (at_root u) (map (promoted t) m.maps) ≡ false)
@@ -316,7 +316,7 @@ module _ {K V : Type 0} where
 
     promotes : TablesAreInOrder v
     promotes = record {
-      passed = all_so (PassedIsOwed m) (PassedIsOwed v) each m.tables h.passed;
+      passed = all_so (SupersededIsObligation m) (SupersededIsObligation v) each m.tables h.passed;
       behind = h.behind;
     }
 
@@ -349,10 +349,10 @@ module _ {K V : Type 0} where
   one_keeps caller acted m h (effect.Counted s) finds = quiet caller acted m h (effect.Counted s) refl refl refl (λ t is. cc is)
   one_keeps caller acted m h (effect.Ended n) finds = quiet caller acted m h (effect.Ended n) refl refl refl (λ t is. cc is)
 
-pub effects_keep_tables : (K V : Type 0) → EffectsKeepTables K V
+pub effects_keep_tables : (K V : Type 0) → EffectsPreserveTables K V
 effects_keep_tables K V caller acted [] m finds h = h
 effects_keep_tables K V caller acted (f ∷ effects) m finds h =
     effects_keep_tables K V caller acted effects (with_effect caller acted f m) finds.1 (one_keeps caller acted m h f finds.0)
 
-pub others_keep_tables : (K V : Type 0) → OthersKeepTables K V
+pub others_keep_tables : (K V : Type 0) → OthersPreserveTables K V
 others_keep_tables K V m v h tables deferred kept owed = others_order m v h tables deferred kept owed

@@ -26,7 +26,7 @@ module _ {K V : Type 0} (m : Moment K V) (known : Known) (w : World (Node K V)) 
   HasRetiredTable u = (b : ℕ) × (len : ℕ) × (known.roles b ≡ role.Table u.table len) × (is_retired_in b w.log ≡ true)
 
   -- What the moment calls retired is so in the memory, and as many slots were taken there as it says.
-  pub record ShowsRetired : Type 0 where
+  pub record RefinesRetired : Type 0 where
     pub pairs : (n : ℕ) → is_handed (m.place n) ≡ true → HasRetiredPair n
     pub tables : AllByRecursion (λ u. is_retired u.stage ≡ true → HasRetiredTable u) m.tables
     pub apart : TablesApart m.tables
@@ -40,5 +40,5 @@ pub record NobodyIsThere {T : Type 0} (w : World T) : Type 0 where
 -- The promise.
 abbrev pub LittleWaits : Type 0 → Type 0 → Type 0
 LittleWaits K V =
-    (batch_size : ℕ) (m : Moment K V) (known : Known) (w : World (Node K V)) → batch_size < 2 ^ 64 → CameAbout batch_size w → NobodyIsThere w → ShowsRetired m known w
+    (batch_size : ℕ) (m : Moment K V) (known : Known) (w : World (Node K V)) → batch_size < 2 ^ 64 → CameAbout batch_size w → NobodyIsThere w → RefinesRetired m known w
     → IsBounded batch_size m

@@ -35,15 +35,15 @@ module _ {K V : Type 0} where
     pub whole : IsWhole e.event e.outcome e.effects m (worked e m)
 
 -- The promises: so it is after each event;
-abbrev pub EventsKeepNamed : Type 0 → Type 0 → Type 0
-EventsKeepNamed K V = (e : Entry K V) (m : Moment K V) → AreNamed m → MakesNew e.event e.outcome m → AreNamed (after e m)
+abbrev pub EventsPreserveNamed : Type 0 → Type 0 → Type 0
+EventsPreserveNamed K V = (e : Entry K V) (m : Moment K V) → AreNamed m → MakesNew e.event e.outcome m → AreNamed (after e m)
 
 -- each table that has a root before it has one after an event, if it has not gone;
-abbrev pub EventsKeepRoots : Type 0 → Type 0 → Type 0
-EventsKeepRoots K V =
+abbrev pub EventsPreserveRoots : Type 0 → Type 0 → Type 0
+EventsPreserveRoots K V =
     (e : Entry K V) (m : Moment K V) → EndsWhole e m → AllByRecursion (λ u. is_kept (worked e m) u ≡ true → is_kept (after e m) u ≡ true) (worked e m).tables
 
 -- and each pair that is in a map has that map.
-abbrev pub EventsKeepSomewhere : Type 0 → Type 0 → Type 0
-EventsKeepSomewhere K V =
+abbrev pub EventsPreserveSomewhere : Type 0 → Type 0 → Type 0
+EventsPreserveSomewhere K V =
     (e : Entry K V) (m : Moment K V) → EndsWhole e m → PairsArePlaced (worked e m) → StoredAreSomewhere (worked e m) → StoredAreSomewhere (after e m)

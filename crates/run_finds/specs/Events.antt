@@ -22,30 +22,30 @@ module _ {K V : Type 0} where
   ended_by (Stop caller) Done = Some caller
   ended_by event outcome = if ends_call outcome then caller_of event else None
 
-  -- a call that the event ends owes nothing
-  abbrev pub EndedOwesNone : Option (List ℕ) → List (UnderWay K V) → Type 0
-  EndedOwesNone None calls = Unit {0}
-  EndedOwesNone (Some own) calls = AllByRecursion (λ c. is_same c.caller own ≡ true → c.owes ≡ []) calls
+  -- a call that the event ends has no obligation
+  abbrev pub EndedHasNoObligation : Option (List ℕ) → List (UnderWay K V) → Type 0
+  EndedHasNoObligation None calls = Unit {0}
+  EndedHasNoObligation (Some own) calls = AllByRecursion (λ c. is_same c.caller own ≡ true → c.owes ≡ []) calls
 
 -- The promises: where a call begins by a name that none has, or a map comes,
-abbrev pub BeginningsKeepPlaced : Type 0 → Type 0 → Type 0
-BeginningsKeepPlaced K V =
+abbrev pub BeginningsPreservePlaced : Type 0 → Type 0 → Type 0
+BeginningsPreservePlaced K V =
     (m : Moment K V) → PairsArePlaced m
     → ((own guard : List ℕ) (call : Call K V) (map : ℕ) → list_any (λ d. is_same d.caller own) m.calls ≡ false → PairsArePlaced (with_call own guard call (Some map) m))
     × ((f : MapThere) → PairsArePlaced (with_map f m))
 
--- and once an event is over, if a call that it ends owes nothing.
-abbrev pub EventsKeepPlaced : Type 0 → Type 0 → Type 0
-EventsKeepPlaced K V =
-    (e : Entry K V) (m : Moment K V) → PairsArePlaced (worked e m) → EndedOwesNone (ended_by e.event e.outcome) (worked e m).calls → PairsArePlaced (after e m)
+-- and once an event is over, if a call that it ends has no obligation.
+abbrev pub EventsPreservePlaced : Type 0 → Type 0 → Type 0
+EventsPreservePlaced K V =
+    (e : Entry K V) (m : Moment K V) → PairsArePlaced (worked e m) → EndedHasNoObligation (ended_by e.event e.outcome) (worked e m).calls → PairsArePlaced (after e m)
 
 -- So are tables in order: where a call begins, or a map comes,
-abbrev pub BeginningsKeepTables : Type 0 → Type 0 → Type 0
-BeginningsKeepTables K V =
+abbrev pub BeginningsPreserveTables : Type 0 → Type 0 → Type 0
+BeginningsPreserveTables K V =
     (m : Moment K V) → TablesAreInOrder m → ((own guard : List ℕ) (call : Call K V) (map : ℕ) → TablesAreInOrder (with_call own guard call (Some map) m)) × ((f : MapThere) → TablesAreInOrder (with_map f m))
 
 -- and once an event is over, if each table that had a root before it has one still: where a map goes, its tables were taken.
-abbrev pub EventsKeepTables : Type 0 → Type 0 → Type 0
-EventsKeepTables K V =
+abbrev pub EventsPreserveTables : Type 0 → Type 0 → Type 0
+EventsPreserveTables K V =
     (e : Entry K V) (m : Moment K V) → TablesAreInOrder (worked e m) → AllByRecursion (λ u. is_kept (worked e m) u ≡ true → is_kept (after e m) u ≡ true) (worked e m).tables
-    → EndedOwesNone (ended_by e.event e.outcome) (worked e m).calls → TablesAreInOrder (after e m)
+    → EndedHasNoObligation (ended_by e.event e.outcome) (worked e m).calls → TablesAreInOrder (after e m)

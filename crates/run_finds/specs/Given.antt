@@ -13,9 +13,12 @@ pub use Rattle.run_blocks.specs.Given.ResizeCopierStates
 pub use Rattle.run_blocks.specs.Given.ResizeDeclared
 pub use Rattle.run_blocks.specs.Given.ResizeNewTable
 pub use Rattle.run_blocks.specs.Given.ResizeSum
+pub use Rattle.run_blocks.specs.Given.SettlesCounts
 pub use Rattle.run_blocks.specs.Given.SettlesDue
 pub use Rattle.run_blocks.specs.Given.SettlesEntries
 pub use Rattle.run_blocks.specs.Given.SettlesHand
+pub use Rattle.run_blocks.specs.Given.SettlesInHand
+pub use Rattle.run_blocks.specs.Given.SettlesOwed
 pub use Rattle.run_blocks.specs.Given.SettlesOwing
 pub use Rattle.run_blocks.specs.Given.TablesChunks
 pub use Rattle.run_blocks.specs.Given.TablesCounts

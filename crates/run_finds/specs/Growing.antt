@@ -26,7 +26,7 @@ use Rattle.run_executor.specs.Given.EffectsKnown.{Known}
 use Rattle.run_executor.specs.Given.EffectsDeclared.acting.Acting.TheVariants as acts
 use Rattle.run_executor.specs.Given.FinishesMachines.{machine_of}
 use Rattle.run_executor.specs.Given.FinishesMaps.{Standing}
-use Rattle.run_executor.specs.Given.MomentsWhole.{ShowsWhole}
+use Rattle.run_executor.specs.Given.MomentsWhole.{RefinesWhole}
 use Rattle.run_finds.specs.Shaping.{IsFirstMaking, IsNextMaking}
 use Rattle.run_finds.specs.Within.{many_of}
 use Rattle.run_executor.specs.Given.ScenesBeginning.{Begins}
@@ -49,12 +49,12 @@ GrowsAt many p (at.Asks (asking.Absent gap)) = p.missing ≡ missing.Asks
 GrowsAt many p _ = Unit {0}
 
 -- so it is of each call on one key that is under way, and of the tables that its map has had
-abbrev pub ShowsGrowing : {K V : Type 0} → Moment K V → Scene K V → Type 0
-ShowsGrowing {K} {V} m s = (map i : ℕ) (u : CallOnKey K V K) → s.calls map i ≡ Some (OnKey u) → GrowsAt (many_of map m) u.call u.call.stands
+abbrev pub RefinesGrowing : {K V : Type 0} → Moment K V → Scene K V → Type 0
+RefinesGrowing {K} {V} m s = (map i : ℕ) (u : CallOnKey K V K) → s.calls map i ≡ Some (OnKey u) → GrowsAt (many_of map m) u.call u.call.stands
 
 -- each call on one key that is under way then was so before, as the same machine
-abbrev pub KeepsKeyCalls : {K V : Type 0} → Scene K V → Scene K V → Type 0
-KeepsKeyCalls {K} {V} s t = (map i : ℕ) (u : CallOnKey K V K) → t.calls map i ≡ Some (OnKey u) → (x : CallOnKey K V K) × (s.calls map i ≡ Some (OnKey x)) × (x.call ≡ u.call)
+abbrev pub PreservesKeyCalls : {K V : Type 0} → Scene K V → Scene K V → Type 0
+PreservesKeyCalls {K} {V} s t = (map i : ℕ) (u : CallOnKey K V K) → t.calls map i ≡ Some (OnKey u) → (x : CallOnKey K V K) × (s.calls map i ≡ Some (OnKey x)) × (x.call ≡ u.call)
 
 module _ {K V : Type 0} (terms : Terms) where
   -- what is left of an effect that asks for a block: it may ask
@@ -68,7 +68,7 @@ module _ {K V : Type 0} (terms : Terms) where
 module _ (K V : Type 0) where
   -- The promises: so it stays as long as calls on one key are as they were, and no map has had fewer tables, as where others take steps, a call comes to an outcome, or an event is over;
   abbrev pub GrowingStays : Type 0
-  GrowingStays = (m v : Moment K V) (s t : Scene K V) → ShowsGrowing m s → ((map : ℕ) → many_of map m ≤ many_of map v) → KeepsKeyCalls s t → ShowsGrowing v t
+  GrowingStays = (m v : Moment K V) (s t : Scene K V) → RefinesGrowing m s → ((map : ℕ) → many_of map m ≤ many_of map v) → PreservesKeyCalls s t → RefinesGrowing v t
 
   -- and whatever effects there are, a map has had no fewer tables after them;
   abbrev pub TablesHaveBeen : Type 0
@@ -77,34 +77,34 @@ module _ (K V : Type 0) where
   -- where a call begins,
   abbrev pub CallsBeginGrowing : Type 0
   CallsBeginGrowing =
-      (same : K → K → Bool) (m : Moment K V) (s : Scene K V) → ShowsGrowing m s → (standing : Standing K) (map i : ℕ) (u : UnderWay K V K) → Begins same standing i u → ShowsGrowing m (scene_with map i u s)
+      (same : K → K → Bool) (m : Moment K V) (s : Scene K V) → RefinesGrowing m s → (standing : Standing K) (map i : ℕ) (u : UnderWay K V K) → Begins same standing i u → RefinesGrowing m (scene_with map i u s)
 
   -- where one that asks goes on by a reply,
   abbrev pub CallsTakeGrowing : Type 0
   CallsTakeGrowing =
-      (m : Moment K V) (s : Scene K V) → ShowsGrowing m s
+      (m : Moment K V) (s : Scene K V) → RefinesGrowing m s
       → (map i : ℕ) (u : UnderWay K V K) → s.calls map i ≡ Some u → (reply : MachineReply V) (next : UnderWay K V K) → machine_of next ≡ (machine_replied (machine_of u) reply).0
-      → ShowsGrowing m (scene_with map i next s)
+      → RefinesGrowing m (scene_with map i next s)
 
   -- and where a walk goes on to its next pair.
-  abbrev pub WalksGoOnGrowing : Type 0
-  WalksGoOnGrowing =
-      (m : Moment K V) (s : Scene K V) → ShowsGrowing m s
-      → (map i : ℕ) (u : UnderWay K V K) → s.calls map i ≡ Some u → (next : UnderWay K V K) → machine_of next ≡ (machine_asked (machine_of u)).0 → ShowsGrowing m (scene_with map i next s)
+  abbrev pub WalksPreserveGrowing : Type 0
+  WalksPreserveGrowing =
+      (m : Moment K V) (s : Scene K V) → RefinesGrowing m s
+      → (map i : ℕ) (u : UnderWay K V K) → s.calls map i ≡ Some u → (next : UnderWay K V K) → machine_of next ≡ (machine_asked (machine_of u)).0 → RefinesGrowing m (scene_with map i next s)
 
 module _ (K V : Type 0) (same : K → K → Bool) (hash : ℕ → K → ℕ) where
   -- The promise, of a step of a call, whichever it is, and whether of a row or none: so it is of each call after it.
-  abbrev pub CallsKeepGrowing : Type 0
-  CallsKeepGrowing =
-      (name : ℕ → List ℕ) (m : Moment K V) (known : Known) (s : Scene K V) (old new : Held K V) → IsAt same hash old s → ShowsWhole same name m known s → ShowsGrowing m s
+  abbrev pub CallsPreserveGrowing : Type 0
+  CallsPreserveGrowing =
+      (name : ℕ → List ℕ) (m : Moment K V) (known : Known) (s : Scene K V) (old new : Held K V) → IsAt same hash old s → RefinesWhole same name m known s → RefinesGrowing m s
       → (map i : ℕ) (u : UnderWay K V K) (here : s.calls map i ≡ Some u) (said : Progress (Node K V)) (leads : StepLeads same hash i said s old new)
       → (let to = leads map u here in
-      ShowsGrowing (with_effects (Some (name i)) (Some map) (effects_of (acts.Call i map) known new.changed) m) (scene_after same s old new map i to.0 u to.1 said to.4))
+      RefinesGrowing (with_effects (Some (name i)) (Some map) (effects_of (acts.Call i map) known new.changed) m) (scene_after same s old new map i to.0 u to.1 said to.4))
 
   -- And of a call on one key: for each block for which it asks it may ask, at whatever moments, while it copies no pairs.
   abbrev pub KeyCallsMayAsk : Type 0
   KeyCallsMayAsk =
-      (name : ℕ → List ℕ) (m : Moment K V) (known : Known) (s : Scene K V) (old new : Held K V) → IsAt same hash old s → ShowsWhole same name m known s → ShowsGrowing m s
+      (name : ℕ → List ℕ) (m : Moment K V) (known : Known) (s : Scene K V) (old new : Held K V) → IsAt same hash old s → RefinesWhole same name m known s → RefinesGrowing m s
       → (map i : ℕ) (u : CallOnKey K V K) (here : s.calls map i ≡ Some (OnKey u)) (said : Progress (Node K V)) (leads : StepLeads same hash i said s old new)
       → (IsCopying u.call.stands → ⊥) → (terms : Terms) (moments : List (Moment K V))
       → FindAsked terms moments (name i) map (effects_of (acts.Call i map) known new.changed) m

@@ -12,7 +12,7 @@ use Rattle.run_executor.specs.Given.SchedulesViews.{call_of}
 use Rattle.run_executor.specs.Given.FollowsFinds.{FindsMap}
 use Rattle.run_blocks.specs.Owes.Events.{FindMade}
 use Rattle.run_blocks.specs.Owes.Looking.{FindAtWork}
-use Rattle.run_finds.specs.Parts.{FindPlacesOf, FindAhead, FindOwed, FindRest, FindShards, FindAll}
+use Rattle.run_finds.specs.Parts.{FindPlacesOf, FindAhead, FindObligations, FindRest, FindShards, FindAll}
 
 module _ {K V : Type 0} (terms : Terms) (moments : List (Moment K V)) (own : List ℕ) (map : ℕ) (effects : List Effect) (m : Moment K V) where
   -- each part that is promised elsewhere, or here
@@ -29,7 +29,7 @@ module _ {K V : Type 0} (terms : Terms) (moments : List (Moment K V)) (own : Lis
 abbrev pub PartsAreAll : Type 0 → Type 0 → Type 0
 PartsAreAll K V =
     (terms : Terms) (moments : List (Moment K V)) (own : List ℕ) (map : ℕ) (effects : List Effect) (m : Moment K V) (c : CallThere K V) → call_of own m ≡ Some c → c.map ≡ map
-    → FindParts terms moments own map effects m → FindOwed own map effects m → FindRest terms moments own map effects m → FindAll terms moments own map effects m
+    → FindParts terms moments own map effects m → FindObligations own map effects m → FindRest terms moments own map effects m → FindAll terms moments own map effects m
 
 -- the effects of an event of several steps find it, if those before do and those of the last step,
 abbrev pub SeveralFindAll : Type 0 → Type 0 → Type 0

@@ -22,4 +22,5 @@ pub mod Capacities
 pub mod Waits
 pub mod Puts
 pub mod Reserving
+pub mod Purposes
 pub mod Given

@@ -22,10 +22,10 @@ use Rattle.run_executor.specs.Given.CallersTogether.{CallOnKey, UnderWay, OnKey}
 use Rattle.run_executor.specs.Given.EffectsEffects.{effects_of}
 use Rattle.run_executor.specs.Given.EffectsKnown.{Known}
 use Rattle.run_executor.specs.Given.EffectsDeclared.acting.Acting.TheVariants as acts
-use Rattle.run_executor.specs.Given.MomentsWhole.{ShowsWhole}
-use Rattle.run_blocks.specs.Owes.Tables.{ShowsTables}
+use Rattle.run_executor.specs.Given.MomentsWhole.{RefinesWhole}
+use Rattle.run_blocks.specs.Owes.Tables.{RefinesOwnTables}
 use Rattle.run_executor.specs.Given.FollowsMaps.{table_of}
-use Rattle.run_finds.specs.Growing.{ShowsGrowing}
+use Rattle.run_finds.specs.Growing.{RefinesGrowing}
 use Rattle.run_finds.specs.Within.{many_of}
 use Rattle.run_executor.specs.Given.ScenesHeld.{Held, IsAt}
 use Rattle.run_executor.specs.Given.ScenesScene.{Scene}
@@ -60,7 +60,7 @@ IsMadeFor map m setting = Has (entries_of (capacity_or (map_at map m))) setting.
 -- The promise.
 abbrev pub KeyCallsLink : (K V : Type 0) (same : K → K → Bool) (hash : ℕ → K → ℕ) → Type 0
 KeyCallsLink K V same hash =
-    (name : ℕ → List ℕ) (m : Moment K V) (known : Known) (s : Scene K V) (old new : Held K V) → IsAt same hash old s → ShowsWhole same name m known s → ShowsTables name m known s → ShowsGrowing m s
+    (name : ℕ → List ℕ) (m : Moment K V) (known : Known) (s : Scene K V) (old new : Held K V) → IsAt same hash old s → RefinesWhole same name m known s → RefinesOwnTables name m known s → RefinesGrowing m s
     → (map i : ℕ) (u : CallOnKey K V K) (here : s.calls map i ≡ Some (OnKey u)) (said : Progress (Node K V)) (leads : StepLeads same hash i said s old new)
     → (IsCopying u.call.stands → ⊥) → IsMadeFor map m (leads map (OnKey u) here).0.setting → (terms : Terms) (moments : List (Moment K V))
     → HasFoundFull map (many_of map m) (m ∷ moments) u.call u.call.stands

@@ -14,7 +14,7 @@ use Rattle.run_executor.specs.Given.SchedulesReclaims.{is_quiescent, ComesLast, 
 use Rattle.run_executor.specs.Given.SchedulesTerms.{Terms}
 use Rattle.run_executor.specs.Given.CallersTogether.{CameAbout}
 use Rattle.run_executor.specs.Given.EffectsKnown.{Known}
-use Rattle.run_finds.specs.Bounded.{ShowsRetired, NobodyIsThere}
+use Rattle.run_finds.specs.Bounded.{RefinesRetired, NobodyIsThere}
 use Rattle.run_finds.specs.Orderly.{NothingIsRetired}
 use Rattle.run_finds.specs.Within.{AllIsInOrder, GoesInOrder}
 
@@ -39,15 +39,15 @@ module _ {K V : Type 0} where
   OverIsBack m = m.is_closed ≡ true → AllIsBack m × (m.maps ≡ [])
 
   -- The bound is of moments at which nobody is there: then nobody is in the world, and what is retired is so in its log.
-  pub record ShowsNobody (terms : Terms) (m : Moment K V) (known : Known) (w : World (Node K V)) : Type 0 where
+  pub record RefinesQuiescence (terms : Terms) (m : Moment K V) (known : Known) (w : World (Node K V)) : Type 0 where
     pub came : CameAbout terms.batch_size w
-    pub nobody : is_quiescent m ≡ true → NobodyIsThere w × ShowsRetired m known w
+    pub nobody : is_quiescent m ≡ true → NobodyIsThere w × RefinesRetired m known w
 
 -- The promises: an event leaves little where all is in order after it, by what it reclaims and shows;
 abbrev pub EventsLeaveLittle : Type 0 → Type 0 → Type 0
 EventsLeaveLittle K V =
     (terms : Terms) (log : List (Entry K V)) (e : Entry K V) (known : Known) (w : World (Node K V)) → terms.batch_size < 2 ^ 64 → AllIsInOrder (after e (moment log))
-    → ReclaimsAll log e → OverIsBack (after e (moment log)) → ShowsNobody terms (after e (moment log)) known w → LeavesLittle terms log e
+    → ReclaimsAll log e → OverIsBack (after e (moment log)) → RefinesQuiescence terms (after e (moment log)) known w → LeavesLittle terms log e
 
 -- and after the collector has ended nothing comes any more.
 abbrev pub OverStaysBack : Type 0 → Type 0 → Type 0

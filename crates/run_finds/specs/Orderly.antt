@@ -30,8 +30,8 @@ abbrev pub OrderAtFirst : Type 0 → Type 0 → Type 0
 OrderAtFirst K V = WaitsInOrder (start {K = K} {V = V})
 
 -- where it is so, and no call is under way, all is orderly;
-abbrev pub OrderlyAtRest : Type 0 → Type 0 → Type 0
-OrderlyAtRest K V = (m : Moment K V) → WaitsInOrder m → m.calls ≡ [] → IsOrderly m
+abbrev pub OrderlyAtQuiescence : Type 0 → Type 0 → Type 0
+OrderlyAtQuiescence K V = (m : Moment K V) → WaitsInOrder m → m.calls ≡ [] → IsOrderly m
 
 -- and where nothing is retired then, nothing waits but what is behind tables of resizes that go on.
 abbrev pub EmptiedOnceReclaimed : Type 0 → Type 0 → Type 0

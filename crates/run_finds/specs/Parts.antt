@@ -11,7 +11,7 @@ use Rattle.run_executor.specs.Given.SchedulesLives.{CallFinds, IsFreeFor, IsPast
 use Rattle.run_executor.specs.Given.SchedulesMoment.{UnderWay as CallThere, Moment}
 use Rattle.run_executor.specs.Given.SchedulesTerms.{Terms}
 use Rattle.run_executor.specs.Given.SchedulesViews.{map_at, capacity_or, grows_in_chunks, first_of, tables_of}
-use Rattle.run_blocks.specs.Given.SettlesOwing.{FindsOwed}
+use Rattle.run_blocks.specs.Given.SettlesOwing.{FindsObligation}
 use Rattle.run_blocks.specs.Given.SettlesShards.{is_counting}
 
 -- Of each kind of effect these parts make up what it finds:
@@ -51,8 +51,8 @@ module _ {K V : Type 0} where
   FindAhead own map effects m = AtEachEffect (FindsAhead map) (Some own) (Some map) effects m
 
   -- and for each it finds what it hands over
-  abbrev pub FindOwed : List ℕ → ℕ → List Effect → Moment K V → Type 0
-  FindOwed own map effects m = AtEachEffect (λ v f. ByCall (FindsOwed v f) (acting (Some own) v)) (Some own) (Some map) effects m
+  abbrev pub FindObligations : List ℕ → ℕ → List Effect → Moment K V → Type 0
+  FindObligations own map effects m = AtEachEffect (λ v f. ByCall (FindsObligation v f) (acting (Some own) v)) (Some own) (Some map) effects m
 
 module _ {K V : Type 0} (terms : Terms) where
   -- What is left: why a block is asked for, which shape a table has that is linked, behind which table a pair may wait, and that a pair that is retired lies no further

@@ -20,16 +20,16 @@ module _ {K V : Type 0} where
   is_owed_table m t = list_any (λ c. is_in same_thing (ATable t) c.owes) m.calls
 
   -- a table that is linked, though the root of its map has left it, is owed by a call under way
-  abbrev pub PassedIsOwed : Moment K V → TableThere → Type 0
-  PassedIsOwed m u = is_kept m u ≡ false → is_owed_table m u.table ≡ true
+  abbrev pub SupersededIsObligation : Moment K V → TableThere → Type 0
+  SupersededIsObligation m u = is_kept m u ≡ false → is_owed_table m u.table ≡ true
 
   -- what waits behind a table waits behind one that is there, and has a next one
-  abbrev pub WaitsBehindOne : Moment K V → Deferral → Type 0
-  WaitsBehindOne m d = (is_stage is_there d.behind m ≡ true) × (d.behind.turn + 1 < length (tables_of d.behind.map m))
+  abbrev pub IsDeferredOnOne : Moment K V → Deferral → Type 0
+  IsDeferredOnOne m d = (is_stage is_there d.behind m ≡ true) × (d.behind.turn + 1 < length (tables_of d.behind.map m))
 
   pub record TablesAreInOrder (m : Moment K V) : Type 0 where
-    pub passed : AllByRecursion (PassedIsOwed m) m.tables
-    pub behind : AllByRecursion (WaitsBehindOne m) m.deferred
+    pub passed : AllByRecursion (SupersededIsObligation m) m.tables
+    pub behind : AllByRecursion (IsDeferredOnOne m) m.deferred
 
   -- a map is there whose root is this table, or an earlier one
   abbrev pub is_rooted : Moment K V → TableId → Bool
@@ -44,14 +44,14 @@ module _ {K V : Type 0} where
   FindsTables caller m _ = Unit {0}
 
 -- The promises: any effects that find that leave tables in order;
-abbrev pub EffectsKeepTables : Type 0 → Type 0 → Type 0
-EffectsKeepTables K V =
+abbrev pub EffectsPreserveTables : Type 0 → Type 0 → Type 0
+EffectsPreserveTables K V =
     (caller : Option (List ℕ)) (acted : Option ℕ) (effects : List Effect) (m : Moment K V) → AtEachEffect (FindsTables caller) caller acted effects m → TablesAreInOrder m
     → TablesAreInOrder (with_effects caller acted effects m)
 
 -- and so does whatever leaves tables as they are, with a root before each that had one, and what is owed: as where calls come to something, or a map goes all of whose
 -- tables were taken.
-abbrev pub OthersKeepTables : Type 0 → Type 0 → Type 0
-OthersKeepTables K V =
+abbrev pub OthersPreserveTables : Type 0 → Type 0 → Type 0
+OthersPreserveTables K V =
     (m v : Moment K V) → TablesAreInOrder m → v.tables ≡ m.tables → v.deferred ≡ m.deferred → AllByRecursion (λ u. is_kept m u ≡ true → is_kept v u ≡ true) m.tables
     → ((t : TableId) → is_owed_table m t ≡ true → is_owed_table v t ≡ true) → TablesAreInOrder v

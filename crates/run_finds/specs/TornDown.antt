@@ -26,14 +26,14 @@ module _ {K V : Type 0} where
   FindsItsMap None m (Stored n s) = ⊥
   FindsItsMap acted m _ = Unit {0}
 
-abbrev pub EffectsKeepSomewhere : Type 0 → Type 0 → Type 0
-EffectsKeepSomewhere K V =
+abbrev pub EffectsPreserveSomewhere : Type 0 → Type 0 → Type 0
+EffectsPreserveSomewhere K V =
     (caller : Option (List ℕ)) (acted : Option ℕ) (effects : List Effect) (m : Moment K V) → AtEachEffect (λ v f. FindsPlaced caller v f × FindsItsMap acted v f) caller acted effects m
     → StoredAreSomewhere m → StoredAreSomewhere (with_effects caller acted effects m)
 
 -- where all else happens that leaves pairs where they are, and maps that have some;
-abbrev pub OthersKeepSomewhere : Type 0 → Type 0 → Type 0
-OthersKeepSomewhere K V =
+abbrev pub OthersPreserveSomewhere : Type 0 → Type 0 → Type 0
+OthersPreserveSomewhere K V =
     (m v : Moment K V) → StoredAreSomewhere m → ((n : ℕ) → v.place n ≡ m.place n) → v.stored ≡ m.stored
     → ((n map : ℕ) → 1 ≤ n → m.place n ≡ InMap map → list_any (λ (f : MapThere). f.number == map) m.maps ≡ true → list_any (λ (f : MapThere). f.number == map) v.maps ≡ true)
     → StoredAreSomewhere v

@@ -42,7 +42,7 @@ is_let_go _ = false
 abbrev pub once_if : Bool → ℕ
 once_if so = if so then 1 else 0
 
--- how often a pair stands among things, and among what calls owe
+-- how often a pair stands among things, and among the obligations of calls
 abbrev pub owed_in : ℕ → List Thing → ℕ
 owed_in n [] = 0
 owed_in n (x ∷ things) = once_if (same_thing (APair n) x) + owed_in n things
@@ -74,8 +74,8 @@ module _ {K V : Type 0} where
     pub apart : AreApart m.calls
 
   -- the effect is of a call that owes this pair
-  abbrev pub OwesPair : Option (List ℕ) → Moment K V → ℕ → Type 0
-  OwesPair caller m n = ByCall (λ c. is_in same_thing (APair n) c.owes ≡ true) (acting caller m)
+  abbrev pub HasPairPending : Option (List ℕ) → Moment K V → ℕ → Type 0
+  HasPairPending caller m n = ByCall (λ c. is_in same_thing (APair n) c.owes ≡ true) (acting caller m)
 
   -- it is of a call, which takes this pair out of a map
   abbrev pub TakesOut : Option (List ℕ) → Moment K V → ℕ → Type 0
@@ -87,8 +87,8 @@ module _ {K V : Type 0} where
   FindsPlaced caller m (Stored n s) = (n ≡ length m.stored + 1) × (length (stored_by (acting caller m) (Stored n s) m.stored) ≡ n)
   FindsPlaced caller m (Replaced n) = TakesOut caller m n
   FindsPlaced caller m (Removed n) = TakesOut caller m n
-  FindsPlaced caller m (Deferred n t) = OwesPair caller m n
-  FindsPlaced caller m (Retired (APair n)) = OwesPair caller m n
+  FindsPlaced caller m (Deferred n t) = HasPairPending caller m n
+  FindsPlaced caller m (Retired (APair n)) = HasPairPending caller m n
   FindsPlaced caller m (Reclaimed (APair n)) = is_let_go (m.place n) ≡ true
   FindsPlaced caller m (Ended n) = is_in_a_map (m.place n) ≡ true
   FindsPlaced caller m _ = Unit {0}
@@ -98,18 +98,18 @@ abbrev pub PlacedAtFirst : Type 0 → Type 0 → Type 0
 PlacedAtFirst K V = PairsArePlaced (start {K = K} {V = V})
 
 -- and after any effects that find what they must;
-abbrev pub EffectsKeepPlaced : Type 0 → Type 0 → Type 0
-EffectsKeepPlaced K V =
+abbrev pub EffectsPreservePlaced : Type 0 → Type 0 → Type 0
+EffectsPreservePlaced K V =
     (caller : Option (List ℕ)) (acted : Option ℕ) (effects : List Effect) (m : Moment K V) → AtEachEffect (FindsPlaced caller) caller acted effects m → PairsArePlaced m
     → PairsArePlaced (with_effects caller acted effects m)
 
 -- where calls come to something, begin or end, and owe what they owed, of the same pairs,
-abbrev pub OthersKeepPlaced : Type 0 → Type 0 → Type 0
-OthersKeepPlaced K V =
+abbrev pub OthersPreservePlaced : Type 0 → Type 0 → Type 0
+OthersPreservePlaced K V =
     (m v : Moment K V) → PairsArePlaced m → ((n : ℕ) → v.place n ≡ m.place n) → v.deferred ≡ m.deferred → v.given_back ≡ m.given_back → v.stored ≡ m.stored
     → ((n : ℕ) → owed_by n v.calls ≡ owed_by n m.calls) → AreApart v.calls → PairsArePlaced v
 
--- as they do where a call goes that owes nothing: one that has ended.
+-- as they do where a call goes that has no obligation: one that has ended.
 abbrev pub EndedOweNothing : Type 0 → Type 0 → Type 0
 EndedOweNothing K V =
     (own : List ℕ) (calls : List (UnderWay K V)) → AreApart calls → AllByRecursion (λ c. is_same c.caller own ≡ true → c.owes ≡ []) calls

@@ -31,11 +31,11 @@ use Rattle.run_executor.specs.Given.EffectsKnown.{Known}
 use Rattle.run_executor.specs.Given.EffectsDeclared.acting.Acting.TheVariants as acts
 use Rattle.run_executor.specs.Given.FinishesMachines.{machine_of}
 use Rattle.run_executor.specs.Given.FollowsCalling.{NoneNamed}
-use Rattle.run_executor.specs.Given.FollowsCalls.{ShowsCalls}
-use Rattle.run_executor.specs.Given.MomentsWhole.{ShowsWhole}
+use Rattle.run_executor.specs.Given.FollowsCalls.{RefinesCalls}
+use Rattle.run_executor.specs.Given.MomentsWhole.{RefinesWhole}
 use Rattle.run_blocks.specs.Given.SettlesDue.{OwnAreMade}
-use Rattle.run_blocks.specs.Given.SettlesEntries.{ShowsEntries}
-use Rattle.run_blocks.specs.Given.SettlesHand.{SameInHand, ShowsOwed}
+use Rattle.run_blocks.specs.Given.SettlesEntries.{EntriesAreBlank}
+use Rattle.run_blocks.specs.Given.SettlesHand.{SamePending, RefinesObligations}
 use Rattle.run_blocks.specs.Given.SettlesInHand.{pair_in_calling, pair_in_sweeping}
 use Rattle.run_finds.specs.Past.{HasLeftMaps, IsPastRoot}
 use Rattle.run_finds.specs.Rest.{FindHanded}
@@ -86,8 +86,8 @@ module _ {K V : Type 0} where
   IsHeldPast map m k waits = HasLeftMaps m k × LiesFor map m k waits
 
   -- so it is of each pair that a call has in hand, and owes
-  abbrev pub ShowsWaits : (ℕ → List ℕ) → Moment K V → Scene K V → Type 0
-  ShowsWaits name m s =
+  abbrev pub RefinesWaits : (ℕ → List ℕ) → Moment K V → Scene K V → Type 0
+  RefinesWaits name m s =
       (map i : ℕ) (u : UnderWay K V K) → s.calls map i ≡ Some u → (word : ℕ) → pair_in (machine_of u) ≡ Some word
       → (c : CallThere K V) → call_of (name i) m ≡ Some c → (k : ℕ) → c.owes ≡ APair k ∷ [] → IsHeldPast map m k (waits_in (machine_of u))
 
@@ -99,12 +99,12 @@ module _ {K V : Type 0} where
   LeavesHeld m v = (map : ℕ) → LeavesHeldOf map m v
 
   -- so it is of each map on which a call is under way
-  abbrev pub LeavesInHand : Scene K V → Moment K V → Moment K V → Type 0
-  LeavesInHand t m v = (map i : ℕ) (u : UnderWay K V K) → t.calls map i ≡ Some u → LeavesHeldOf map m v
+  abbrev pub LeavesPending : Scene K V → Moment K V → Moment K V → Type 0
+  LeavesPending t m v = (map i : ℕ) (u : UnderWay K V K) → t.calls map i ≡ Some u → LeavesHeldOf map m v
 
   -- each call that has a pair in hand then had it before, as the same machine
-  abbrev pub KeepsHands : (ℕ → List ℕ) → Moment K V → Scene K V → Moment K V → Scene K V → Type 0
-  KeepsHands name m s v t =
+  abbrev pub PreservesPending : (ℕ → List ℕ) → Moment K V → Scene K V → Moment K V → Scene K V → Type 0
+  PreservesPending name m s v t =
       (map i : ℕ) (u : UnderWay K V K) → t.calls map i ≡ Some u → (word : ℕ) → pair_in (machine_of u) ≡ Some word → (d : CallThere K V) → call_of (name i) v ≡ Some d
       → (x : UnderWay K V K) × (s.calls map i ≡ Some x) × (machine_of x ≡ machine_of u) × (c : CallThere K V) × (call_of (name i) m ≡ Some c) × (c.owes ≡ d.owes)
 
@@ -118,13 +118,13 @@ module _ {K V : Type 0} where
   FindPast own map effects m = AtEachEffect (λ v f. ByCall (FindsPast v f) (acting (Some own) v)) (Some own) (Some map) effects m
 
   -- The table behind which a pair is put is that of the map just before the one in which the pair lies.
-  abbrev pub FindsBehind : Moment K V → Effect → CallThere K V → Type 0
-  FindsBehind m (Deferred n t) c =
+  abbrev pub FindsDeferral : Moment K V → Effect → CallThere K V → Type 0
+  FindsDeferral m (Deferred n t) c =
       (t.map ≡ c.map) × ((m.spot n).turn ≡ t.turn + 1)
-  FindsBehind m _ c = Unit {0}
+  FindsDeferral m _ c = Unit {0}
 
-  abbrev pub FindBehind : List ℕ → ℕ → List Effect → Moment K V → Type 0
-  FindBehind own map effects m = AtEachEffect (λ v f. ByCall (FindsBehind v f) (acting (Some own) v)) (Some own) (Some map) effects m
+  abbrev pub FindDeferrals : List ℕ → ℕ → List Effect → Moment K V → Type 0
+  FindDeferrals own map effects m = AtEachEffect (λ v f. ByCall (FindsDeferral v f) (acting (Some own) v)) (Some own) (Some map) effects m
 
   -- What is left of it: it has room.
   abbrev pub FindsSpace : Moment K V → Effect → CallThere K V → Type 0
@@ -138,45 +138,45 @@ module _ (K V : Type 0) where
   -- The promises: where calls have in hand what they had, and such pairs lie where they lay, it is so still, as where others take steps, or an event is over;
   abbrev pub WaitsStay : Type 0
   WaitsStay =
-      (name : ℕ → List ℕ) (m v : Moment K V) (s t : Scene K V) → ShowsWaits name m s → LeavesInHand t m v → KeepsHands name m s v t → ShowsWaits name v t
+      (name : ℕ → List ℕ) (m v : Moment K V) (s t : Scene K V) → RefinesWaits name m s → LeavesPending t m v → PreservesPending name m s v t → RefinesWaits name v t
 
   -- so where each call owes what it has in hand, before and after, which is noted as it was, each that has a pair in hand then was there before, as the same machine:
   -- where one is told a reply, comes to an outcome, or is given up, and where others than calls take steps;
-  abbrev pub WaitsFollowOwed : Type 0
-  WaitsFollowOwed =
-      (same : K → K → Bool) (name : ℕ → List ℕ) (m v : Moment K V) (known known2 : Known) (s t : Scene K V) → ShowsCalls same name m s.calls → ShowsOwed name m known s → ShowsOwed name v known2 t
-      → ShowsWaits name m s → LeavesInHand t m v
+  abbrev pub WaitsFollowObligations : Type 0
+  WaitsFollowObligations =
+      (same : K → K → Bool) (name : ℕ → List ℕ) (m v : Moment K V) (known known2 : Known) (s t : Scene K V) → RefinesCalls same name m s.calls → RefinesObligations name m known s → RefinesObligations name v known2 t
+      → RefinesWaits name m s → LeavesPending t m v
       → ((map i : ℕ) (u : UnderWay K V K) → t.calls map i ≡ Some u → (word : ℕ) → pair_in (machine_of u) ≡ Some word
-      → (x : UnderWay K V K) × (s.calls map i ≡ Some x) × (machine_of x ≡ machine_of u) × SameInHand known known2 (machine_of x))
-      → ShowsWaits name v t
+      → (x : UnderWay K V K) × (s.calls map i ≡ Some x) × (machine_of x ≡ machine_of u) × SamePending known known2 (machine_of x))
+      → RefinesWaits name v t
 
   -- So it is where a call begins that has no pair in hand, by a name that no call under way has,
   abbrev pub CallsBeginWaits : Type 0
   CallsBeginWaits =
-      (name : ℕ → List ℕ) (m : Moment K V) (s : Scene K V) → ShowsWaits name m s
+      (name : ℕ → List ℕ) (m : Moment K V) (s : Scene K V) → RefinesWaits name m s
       → (map i : ℕ) (u : UnderWay K V K) (call : Call K V) (guard : List ℕ) → NoneNamed name (name i) s → pair_in (machine_of u) ≡ None
-      → ShowsWaits name (with_call (name i) guard call (Some map) m) (scene_with map i u s)
+      → RefinesWaits name (with_call (name i) guard call (Some map) m) (scene_with map i u s)
 
   -- These parts make up all that effects must find that hand a pair over.
   abbrev pub PastIsHanded : Type 0
   PastIsHanded =
-      (own : List ℕ) (map : ℕ) (effects : List Effect) (m : Moment K V) → FindPast own map effects m → FindBehind own map effects m → FindSpace own map effects m
+      (own : List ℕ) (map : ℕ) (effects : List Effect) (m : Moment K V) → FindPast own map effects m → FindDeferrals own map effects m → FindSpace own map effects m
       → FindHanded own map effects m
 
 module _ (K V : Type 0) (same : K → K → Bool) (hash : ℕ → K → ℕ) where
   -- The promises, of a step of a call, whichever it is, and whether of a row or none: it is so after it,
-  abbrev pub CallsKeepWaits : Type 0
-  CallsKeepWaits =
+  abbrev pub CallsPreserveWaits : Type 0
+  CallsPreserveWaits =
       (name : ℕ → List ℕ) (m : Moment K V) (known : Known) (s : Scene K V) (old new : Held K V)
-      → IsAt same hash old s → ShowsWhole same name m known s → ShowsEntries s → OwnAreMade known s.world → ShowsOwed name m known s → ShowsWaits name m s
+      → IsAt same hash old s → RefinesWhole same name m known s → EntriesAreBlank s → OwnAreMade known s.world → RefinesObligations name m known s → RefinesWaits name m s
       → (map i : ℕ) (u : UnderWay K V K) (here : s.calls map i ≡ Some u) (said : Progress (Node K V)) (leads : StepLeads same hash i said s old new)
       → (let to = leads map u here in
-      ShowsWaits name (with_effects (Some (name i)) (Some map) (effects_of (acts.Call i map) known new.changed) m) (scene_after same s old new map i to.0 u to.1 said to.4))
+      RefinesWaits name (with_effects (Some (name i)) (Some map) (effects_of (acts.Call i map) known new.changed) m) (scene_after same s old new map i to.0 u to.1 said to.4))
 
   -- and what it hands over is past the root, or was copied past an older table.
   abbrev pub CallsHandPast : Type 0
   CallsHandPast =
       (name : ℕ → List ℕ) (m : Moment K V) (known : Known) (s : Scene K V) (old new : Held K V)
-      → IsAt same hash old s → ShowsWhole same name m known s → ShowsEntries s → OwnAreMade known s.world → ShowsOwed name m known s → ShowsWaits name m s
+      → IsAt same hash old s → RefinesWhole same name m known s → EntriesAreBlank s → OwnAreMade known s.world → RefinesObligations name m known s → RefinesWaits name m s
       → (map i : ℕ) (u : UnderWay K V K) (here : s.calls map i ≡ Some u) (said : Progress (Node K V)) (leads : StepLeads same hash i said s old new)
       → FindPast (name i) map (effects_of (acts.Call i map) known new.changed) m

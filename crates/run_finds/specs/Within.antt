@@ -14,14 +14,14 @@ use Rattle.run_executor.specs.Given.SchedulesComing.{is_ready}
 use Rattle.run_executor.specs.Given.SchedulesEffects.{with_effects, AtEachEffect}
 use Rattle.run_executor.specs.Given.SchedulesEntry.{Entry, caller_of, acted_on}
 use Rattle.run_executor.specs.Given.SchedulesHanding.{MovesOn}
-use Rattle.run_executor.specs.Given.SchedulesInTurn.{ComesRight}
+use Rattle.run_executor.specs.Given.SchedulesInTurn.{HasRightOutcome}
 use Rattle.run_executor.specs.Given.SchedulesLives.{Finds}
 use Rattle.run_executor.specs.Given.SchedulesMoment.{InMap, Deferral, UnderWay, MapThere, Moment, start}
 use Rattle.run_executor.specs.Given.SchedulesTerms.{Terms}
 use Rattle.run_executor.specs.Given.SchedulesViews.{call_of, tables_of}
 use Rattle.run_finds.specs.Bounded.{TablesApart}
 use Rattle.run_finds.specs.Endings.{AreNamed}
-use Rattle.run_finds.specs.Events.{EndedOwesNone}
+use Rattle.run_finds.specs.Events.{EndedHasNoObligation}
 use Rattle.run_finds.specs.Life.{StoresOne}
 use Rattle.run_finds.specs.Orderly.{WaitsInOrder}
 use Rattle.run_finds.specs.TornDown.{StoredAreSomewhere}
@@ -65,21 +65,21 @@ module _ {K V : Type 0} where
   abbrev pub ActsOn : Option (List ℕ) → Option ℕ → Moment K V → Type 0
   ActsOn caller acted m = (own : List ℕ) (c : UnderWay K V) → caller ≡ Some own → call_of own m ≡ Some c → acted ≡ Some c.map
 
-  -- a walk that is stopped owes nothing
-  abbrev pub StoppedOwesNone : Event K V → Outcome V → List (UnderWay K V) → Type 0
-  StoppedOwesNone (Stop caller) Done calls = EndedOwesNone (Some caller) calls
-  StoppedOwesNone event outcome calls = Unit {0}
+  -- a walk that is stopped has no obligation
+  abbrev pub StoppedHasNoObligation : Event K V → Outcome V → List (UnderWay K V) → Type 0
+  StoppedHasNoObligation (Stop caller) Done calls = EndedHasNoObligation (Some caller) calls
+  StoppedHasNoObligation event outcome calls = Unit {0}
 
-  -- a walk that is ready owes nothing
-  abbrev pub ReadyOwesNone : UnderWay K V → Type 0
-  ReadyOwesNone c = is_ready c.stands ≡ true → c.owes ≡ []
+  -- a walk that is ready has no obligation
+  abbrev pub ReadyHasNoObligation : UnderWay K V → Type 0
+  ReadyHasNoObligation c = is_ready c.stands ≡ true → c.owes ≡ []
 
   abbrev pub ReadyOweNone : Moment K V → Type 0
-  ReadyOweNone m = AllByRecursion ReadyOwesNone m.calls
+  ReadyOweNone m = AllByRecursion ReadyHasNoObligation m.calls
 
   -- An event comes to what is right for it, keeps the promise `life`, and stores one pair by each effect that stores.
   pub record GoesInOrder (terms : Terms) (log : List (Entry K V)) (e : Entry K V) : Type 0 where
-    pub right : ComesRight terms log e
+    pub right : HasRightOutcome terms log e
     pub life : MovesOn terms log e
     pub stores : (let b = at_work e (moment log) in AtEachEffect (StoresOne (caller_of e.event)) (caller_of e.event) (acted_on e.event b) e.effects b)
 
@@ -88,12 +88,12 @@ abbrev pub AllInOrderAtFirst : Type 0 → Type 0 → Type 0
 AllInOrderAtFirst K V = AllIsInOrder (start {K = K} {V = V})
 
 -- after any effects that find what `life` asks,
-abbrev pub LifeKeepsOrder : Type 0 → Type 0 → Type 0
-LifeKeepsOrder K V =
+abbrev pub LifePreservesOrder : Type 0 → Type 0 → Type 0
+LifePreservesOrder K V =
     (terms : Terms) (caller : Option (List ℕ)) (acted : Option ℕ) (everything : Bool) (moments : List (Moment K V)) (effects : List Effect) (m : Moment K V)
     → AtEachEffect (λ v f. Finds terms caller acted everything moments v f × StoresOne caller v f) caller acted effects m → ActsOn caller acted m → AllIsInOrder m
     → AllIsInOrder (with_effects caller acted effects m)
 
 -- and after each event that goes in order.
-abbrev pub EventsKeepOrder : Type 0 → Type 0 → Type 0
-EventsKeepOrder K V = (terms : Terms) (log : List (Entry K V)) (e : Entry K V) → GoesInOrder terms log e → AllIsInOrder (moment log) × ReadyOweNone (moment log) → AllIsInOrder (after e (moment log)) × ReadyOweNone (after e (moment log))
+abbrev pub EventsPreserveOrder : Type 0 → Type 0 → Type 0
+EventsPreserveOrder K V = (terms : Terms) (log : List (Entry K V)) (e : Entry K V) → GoesInOrder terms log e → AllIsInOrder (moment log) × ReadyOweNone (moment log) → AllIsInOrder (after e (moment log)) × ReadyOweNone (after e (moment log))

@@ -2,10 +2,7 @@
 pub use Rattle.run_executor.proofs.Executing.OnSlotBegun as ExecutingOnSlotBegun
 pub use Rattle.run_executor.proofs.Executing.RowLeads as ExecutorRowLeads
 pub use Rattle.run_executor.proofs.Given.CallersTogether
-pub use Rattle.run_executor.proofs.Given.ChangesFound
-pub use Rattle.run_executor.proofs.Given.ChangesHad
 pub use Rattle.run_executor.proofs.Given.ChangesLogs
-pub use Rattle.run_executor.proofs.Given.ChangesNow
 pub use Rattle.run_executor.proofs.Given.FinishesEnds
 pub use Rattle.run_executor.proofs.Given.FollowsAlike
 pub use Rattle.run_executor.proofs.Given.FollowsCalling
@@ -13,12 +10,10 @@ pub use Rattle.run_executor.proofs.Given.FollowsContents
 pub use Rattle.run_executor.proofs.Given.FollowsOfEach
 pub use Rattle.run_executor.proofs.Given.FollowsOperations
 pub use Rattle.run_executor.proofs.Given.FollowsSteps
-pub use Rattle.run_executor.proofs.Given.FollowsStored
 pub use Rattle.run_executor.proofs.Given.FollowsTold
 pub use Rattle.run_executor.proofs.Given.General
 pub use Rattle.run_executor.proofs.Given.HandsAsking
 pub use Rattle.run_executor.proofs.Given.HandsCalling
-pub use Rattle.run_executor.proofs.Given.HandsReplacing
 pub use Rattle.run_executor.proofs.Given.LateKindsKept
 pub use Rattle.run_executor.proofs.Given.MomentsAfter
 pub use Rattle.run_executor.proofs.Given.MomentsCalls
@@ -33,7 +28,6 @@ pub use Rattle.run_executor.proofs.Given.MomentsWalks
 pub use Rattle.run_executor.proofs.Given.OthersLeads
 pub use Rattle.run_executor.proofs.Given.OthersOutcomes
 pub use Rattle.run_executor.proofs.Given.OthersRowPlans
-pub use Rattle.run_executor.proofs.Given.PointsCalls
 pub use Rattle.run_executor.proofs.Given.ScenesGoes
 pub use Rattle.run_executor.proofs.Given.ScenesMay
 pub use Rattle.run_executor.proofs.Given.ScenesNoCall
@@ -58,105 +52,84 @@ pub use Rattle.run_executor.proofs.Given.SeizeWordsPlaces
 pub use Rattle.run_executor.proofs.Given.SpotsEffects
 pub use Rattle.run_executor.proofs.Given.SpotsUnreclaimed
 pub use Rattle.run_executor.proofs.Named.Called as NamedCalled
-pub use Rattle.run_logged.proofs.Given.HistoriesAnyCall
-pub use Rattle.run_logged.proofs.Given.HistoriesAside
-pub use Rattle.run_logged.proofs.Given.HistoriesCalling
-pub use Rattle.run_logged.proofs.Given.HistoriesDue
-pub use Rattle.run_logged.proofs.Given.HistoriesDueOn
-pub use Rattle.run_logged.proofs.Given.HistoriesNoKey
-pub use Rattle.run_logged.proofs.Given.HistoriesOtherCalls
-pub use Rattle.run_logged.proofs.Given.HistoriesOtherMidsts
-pub use Rattle.run_logged.proofs.Given.HistoriesQuestions
-pub use Rattle.run_logged.proofs.Given.HistoriesRetaining
-pub use Rattle.run_logged.proofs.Given.HistoriesSeveral
-pub use Rattle.run_logged.proofs.Given.KeptBetween
-pub use Rattle.run_logged.proofs.Given.KeptCalls
-pub use Rattle.run_logged.proofs.Given.KeptOthers
-pub use Rattle.run_logged.proofs.Given.KeptRenamed
-pub use Rattle.run_logged.proofs.Given.KeptStays
-pub use Rattle.run_logged.proofs.Given.LivesEach
-pub use Rattle.run_logged.proofs.Given.LivesHandedMeant
-pub use Rattle.run_logged.proofs.Given.LivesHandedRows
-pub use Rattle.run_logged.proofs.Given.LivesLeftTables
-pub use Rattle.run_logged.proofs.Given.LivesOrder
-pub use Rattle.run_logged.proofs.Given.LivesReclaimed
-pub use Rattle.run_logged.proofs.Given.LivesRetiredCalls
-pub use Rattle.run_logged.proofs.Given.LivesRetires
-pub use Rattle.run_logged.proofs.Given.LivesRows
-pub use Rattle.run_logged.proofs.Given.LivesWorlds
-pub use Rattle.run_logged.proofs.Given.ModelsAlike
-pub use Rattle.run_logged.proofs.Given.ModelsCallEvents
-pub use Rattle.run_logged.proofs.Given.ModelsCalls
-pub use Rattle.run_logged.proofs.Given.ModelsEnds
-pub use Rattle.run_logged.proofs.Given.ModelsFollows
-pub use Rattle.run_logged.proofs.Given.ModelsMapEvents
-pub use Rattle.run_logged.proofs.Given.ModelsNumbers
-pub use Rattle.run_logged.proofs.Given.ModelsOnSlots
-pub use Rattle.run_logged.proofs.Given.ModelsReclaims
-pub use Rattle.run_logged.proofs.Given.ModelsRowSteps
-pub use Rattle.run_logged.proofs.Given.ModelsTurns
-pub use Rattle.run_logged.proofs.Given.OwesCalls
-pub use Rattle.run_logged.proofs.Given.OwesClear
-pub use Rattle.run_logged.proofs.Given.OwesEvents
-pub use Rattle.run_logged.proofs.Given.OwesKept
-pub use Rattle.run_logged.proofs.Given.OwesLooking
-pub use Rattle.run_logged.proofs.Given.OwesReady
-pub use Rattle.run_logged.proofs.Given.OwesShort
-pub use Rattle.run_logged.proofs.Given.OwesTables
-pub use Rattle.run_logged.proofs.Given.PromisesBrief
-pub use Rattle.run_logged.proofs.Given.PromisesGuards
-pub use Rattle.run_logged.proofs.Given.PromisesProtected
-pub use Rattle.run_logged.proofs.Given.PromisesShelters
-pub use Rattle.run_logged.proofs.Given.PromisesWeights
-pub use Rattle.run_logged.proofs.Given.RemainsLists
-pub use Rattle.run_logged.proofs.Given.RemainsSlots
-pub use Rattle.run_logged.proofs.Given.ScenesRows
-pub use Rattle.run_logged.proofs.Given.SettlesCalls
-pub use Rattle.run_logged.proofs.Given.SettlesHand
-pub use Rattle.run_logged.proofs.Given.SettlesUncounted
-pub use Rattle.run_logged.proofs.Given.ShardsShardBetween
-pub use Rattle.run_logged.proofs.Given.ShardsShardCalls
-pub use Rattle.run_logged.proofs.Given.ShardsShardKept
-pub use Rattle.run_logged.proofs.Given.ShardsShardMakes
-pub use Rattle.run_logged.proofs.Given.ShardsShardNumbers
-pub use Rattle.run_logged.proofs.Given.ShardsShardOthers
-pub use Rattle.run_logged.proofs.Given.ShedsReclaimGives
-pub use Rattle.run_logged.proofs.Given.ShedsReclaiming
-pub use Rattle.run_logged.proofs.Log.Kinds as LogKinds
-pub use Rattle.run_logged.proofs.Log.Reclaiming as LoggedReclaiming
-pub use Rattle.run_logged.proofs.Rows.Taking as RowsTaking
-pub use Rattle.run_sweeps.proofs.Given.FindsBegun
-pub use Rattle.run_sweeps.proofs.Given.FindsCapacities
-pub use Rattle.run_sweeps.proofs.Given.FindsClosed
-pub use Rattle.run_sweeps.proofs.Given.FindsDoing
-pub use Rattle.run_sweeps.proofs.Given.FindsEndings
-pub use Rattle.run_sweeps.proofs.Given.FindsFound
-pub use Rattle.run_sweeps.proofs.Given.FindsGrows
-pub use Rattle.run_sweeps.proofs.Given.FindsJoined
-pub use Rattle.run_sweeps.proofs.Given.FindsLife
-pub use Rattle.run_sweeps.proofs.Given.FindsLists
-pub use Rattle.run_sweeps.proofs.Given.FindsLittle
-pub use Rattle.run_sweeps.proofs.Given.FindsOver
-pub use Rattle.run_sweeps.proofs.Given.FindsPlaced
-pub use Rattle.run_sweeps.proofs.Given.FindsQuiet
-pub use Rattle.run_sweeps.proofs.Given.FindsRuns
-pub use Rattle.run_sweeps.proofs.Given.FindsSomewhere
-pub use Rattle.run_sweeps.proofs.Given.FindsSteps
-pub use Rattle.run_sweeps.proofs.Given.FindsWaits
-pub use Rattle.run_sweeps.proofs.Purposes.Between as PurposesBetween
-pub use Rattle.run_sweeps.proofs.Purposes.Elsewhere as PurposesElsewhere
-pub use Rattle.run_sweeps.proofs.Purposes.FindsRoom as PurposesFindsRoom
-pub use Rattle.run_sweeps.proofs.Purposes.Kept as PurposesKept
-pub use Rattle.run_sweeps.proofs.Purposes.Nothing as PurposesNothing
-pub use Rattle.run_sweeps.proofs.Purposes.ShardsRead as PurposesShardsRead
-pub use Rattle.run_sweeps.proofs.Purposes.Shows as PurposesShows
-pub use Rattle.run_sweeps.proofs.Purposes.ShowsAll as PurposesShowsAll
-pub use Rattle.run_sweeps.proofs.Purposes.Stored as PurposesStored
-pub use Rattle.run_sweeps.proofs.Purposes.Swept as PurposesSwept
-pub use Rattle.run_sweeps.proofs.Purposes.Tableless as PurposesTableless
-pub use Rattle.run_sweeps.proofs.Purposes.Told as PurposesTold
-pub use Rattle.run_sweeps.proofs.Purposes.WalkWords as PurposesWalkWords
-pub use Rattle.run_sweeps.proofs.Purposes.Walks as PurposesWalks
-pub use Rattle.run_sweeps.proofs.Sources.New as SourcesNew
-pub use Rattle.run_sweeps.proofs.Sources.Stays as SourcesStays
-pub use Rattle.run_sweeps.proofs.Sources.Steps as SourcesSteps
+pub use Rattle.run_finds.proofs.Begun as FindsBegun
+pub use Rattle.run_finds.proofs.Capacities as FindsCapacities
+pub use Rattle.run_finds.proofs.Closed as FindsClosed
+pub use Rattle.run_finds.proofs.Doing as FindsDoing
+pub use Rattle.run_finds.proofs.Endings as FindsEndings
+pub use Rattle.run_finds.proofs.Found as FindsFound
+pub use Rattle.run_finds.proofs.Given.HistoriesAside
+pub use Rattle.run_finds.proofs.Given.HistoriesCalling
+pub use Rattle.run_finds.proofs.Given.HistoriesNoKey
+pub use Rattle.run_finds.proofs.Given.SettlesCalls
+pub use Rattle.run_finds.proofs.Given.SettlesHand
+pub use Rattle.run_finds.proofs.Given.ShardsShardCalls
+pub use Rattle.run_finds.proofs.Grows as FindsGrows
+pub use Rattle.run_finds.proofs.Joined as FindsJoined
+pub use Rattle.run_finds.proofs.Life as FindsLife
+pub use Rattle.run_finds.proofs.Lists as FindsLists
+pub use Rattle.run_finds.proofs.Little as FindsLittle
+pub use Rattle.run_finds.proofs.Over as FindsOver
+pub use Rattle.run_finds.proofs.Placed as FindsPlaced
+pub use Rattle.run_finds.proofs.Quiet as FindsQuiet
+pub use Rattle.run_finds.proofs.Runs as FindsRuns
+pub use Rattle.run_finds.proofs.Somewhere as FindsSomewhere
+pub use Rattle.run_finds.proofs.Steps as FindsSteps
+pub use Rattle.run_kept.proofs.Given.HistoriesAnyCall
+pub use Rattle.run_kept.proofs.Given.HistoriesDue
+pub use Rattle.run_kept.proofs.Given.HistoriesDueOn
+pub use Rattle.run_kept.proofs.Given.HistoriesOtherCalls
+pub use Rattle.run_kept.proofs.Given.HistoriesOtherMidsts
+pub use Rattle.run_kept.proofs.Given.HistoriesQuestions
+pub use Rattle.run_kept.proofs.Given.HistoriesRetaining
+pub use Rattle.run_kept.proofs.Given.HistoriesSeveral
+pub use Rattle.run_kept.proofs.Given.LivesEach
+pub use Rattle.run_kept.proofs.Given.LivesHandedMeant
+pub use Rattle.run_kept.proofs.Given.LivesHandedRows
+pub use Rattle.run_kept.proofs.Given.LivesLeftTables
+pub use Rattle.run_kept.proofs.Given.LivesOrder
+pub use Rattle.run_kept.proofs.Given.LivesReclaimed
+pub use Rattle.run_kept.proofs.Given.LivesRetiredCalls
+pub use Rattle.run_kept.proofs.Given.LivesRetires
+pub use Rattle.run_kept.proofs.Given.LivesRows
+pub use Rattle.run_kept.proofs.Given.LivesWorlds
+pub use Rattle.run_kept.proofs.Given.OwesCalls
+pub use Rattle.run_kept.proofs.Given.OwesClear
+pub use Rattle.run_kept.proofs.Given.OwesEvents
+pub use Rattle.run_kept.proofs.Given.OwesKept
+pub use Rattle.run_kept.proofs.Given.OwesLooking
+pub use Rattle.run_kept.proofs.Given.OwesReady
+pub use Rattle.run_kept.proofs.Given.OwesShort
+pub use Rattle.run_kept.proofs.Given.OwesTables
+pub use Rattle.run_kept.proofs.Given.PromisesBrief
+pub use Rattle.run_kept.proofs.Given.PromisesGuards
+pub use Rattle.run_kept.proofs.Given.PromisesProtected
+pub use Rattle.run_kept.proofs.Given.PromisesShelters
+pub use Rattle.run_kept.proofs.Given.PromisesWeights
+pub use Rattle.run_kept.proofs.Given.RemainsLists
+pub use Rattle.run_kept.proofs.Given.RemainsSlots
+pub use Rattle.run_kept.proofs.Given.ScenesRows
+pub use Rattle.run_kept.proofs.Given.SettlesUncounted
+pub use Rattle.run_kept.proofs.Given.ShardsShardBetween
+pub use Rattle.run_kept.proofs.Given.ShardsShardKept
+pub use Rattle.run_kept.proofs.Given.ShardsShardMakes
+pub use Rattle.run_kept.proofs.Given.ShardsShardNumbers
+pub use Rattle.run_kept.proofs.Given.ShardsShardOthers
+pub use Rattle.run_kept.proofs.Kept.Between as KeptBetween
+pub use Rattle.run_kept.proofs.Kept.Calls as KeptCalls
+pub use Rattle.run_kept.proofs.Kept.Others as KeptOthers
+pub use Rattle.run_kept.proofs.Kept.Renamed as KeptRenamed
+pub use Rattle.run_kept.proofs.Kept.Stays as KeptStays
+pub use Rattle.run_kept.proofs.Models.Alike as ModelsAlike
+pub use Rattle.run_kept.proofs.Models.CallEvents as ModelsCallEvents
+pub use Rattle.run_kept.proofs.Models.Calls as ModelsCalls
+pub use Rattle.run_kept.proofs.Models.Ends as ModelsEnds
+pub use Rattle.run_kept.proofs.Models.Follows as ModelsFollows
+pub use Rattle.run_kept.proofs.Models.MapEvents as ModelsMapEvents
+pub use Rattle.run_kept.proofs.Models.Numbers as ModelsNumbers
+pub use Rattle.run_kept.proofs.Models.OnSlots as ModelsOnSlots
+pub use Rattle.run_kept.proofs.Models.Reclaims as ModelsReclaims
+pub use Rattle.run_kept.proofs.Models.RowSteps as ModelsRowSteps
+pub use Rattle.run_kept.proofs.Models.Turns as ModelsTurns
+pub use Rattle.run_kept.proofs.Sheds.ReclaimGives as ShedsReclaimGives
+pub use Rattle.run_kept.proofs.Sheds.Reclaiming as ShedsReclaiming

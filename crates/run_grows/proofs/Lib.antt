@@ -1,5 +1,4 @@
-pub mod Quiet
 pub mod Grows
-pub mod Needs
-pub mod OwnPairs
+pub mod Sources
+pub mod Waits
 pub mod Given

@@ -1,15 +1,6 @@
 -- The words of the crates below, given on to the crates above: these list this crate in place of those.
-pub use Rattle.papaya_raw.specs.Answers as RawAnswers
-pub use Rattle.papaya_raw.specs.Call as RawCall
 pub use Rattle.papaya_raw.specs.CallAsks as RawCallAsks
-pub use Rattle.papaya_raw.specs.CallFills as RawCallFills
-pub use Rattle.papaya_raw.specs.CallPoints as RawCallPoints
 pub use Rattle.papaya_raw.specs.Given.ReservesDeclared
-pub use Rattle.papaya_raw.specs.Given.ReservesReserve
-pub use Rattle.papaya_raw.specs.Given.ResizeCopier
-pub use Rattle.papaya_raw.specs.Given.ResizeCopierStates
-pub use Rattle.papaya_raw.specs.Given.ResizeDispose
-pub use Rattle.papaya_raw.specs.Given.ResizeLookup
 pub use Rattle.papaya_raw.specs.Given.SeizeDeclared
 pub use Rattle.papaya_raw.specs.Given.SeizeDefer
 pub use Rattle.papaya_raw.specs.Given.SeizeEnter
@@ -21,18 +12,14 @@ pub use Rattle.papaya_raw.specs.Given.SeizeSequence
 pub use Rattle.papaya_raw.specs.Given.SeizeSettle
 pub use Rattle.papaya_raw.specs.Given.SeizeWaitingSets
 pub use Rattle.papaya_raw.specs.Given.SeizeWorld
-pub use Rattle.papaya_raw.specs.Given.SweepsSweep
 pub use Rattle.papaya_raw.specs.Given.SweepsSweepPoints
 pub use Rattle.papaya_raw.specs.Given.TablesChunks
 pub use Rattle.papaya_raw.specs.Given.TablesDeclared
 pub use Rattle.papaya_raw.specs.Given.TablesNodes
 pub use Rattle.papaya_raw.specs.Machine as RawMachine
-pub use Rattle.papaya_raw.specs.Progress as RawProgress
-pub use Rattle.papaya_raw.specs.Replies as RawReplies
 pub use Rattle.papaya_raw.specs.declared as RawDeclared
 pub use Rattle.run_executor.specs.Executing.IsThere as ExecutorIsThere
 pub use Rattle.run_executor.specs.Executing.OnSlots as ExecutorOnSlots
-pub use Rattle.run_executor.specs.Given.CallersAsked
 pub use Rattle.run_executor.specs.Given.CallersOverAll
 pub use Rattle.run_executor.specs.Given.CallersPairs
 pub use Rattle.run_executor.specs.Given.CallersRooms
@@ -60,7 +47,6 @@ pub use Rattle.run_executor.specs.Given.HandsCalling
 pub use Rattle.run_executor.specs.Given.HandsHands
 pub use Rattle.run_executor.specs.Given.LateFaults
 pub use Rattle.run_executor.specs.Given.LateKinds
-pub use Rattle.run_executor.specs.Given.LateToldSweeps
 pub use Rattle.run_executor.specs.Given.MomentsEndings
 pub use Rattle.run_executor.specs.Given.MomentsNumbers
 pub use Rattle.run_executor.specs.Given.MomentsOnSlots
@@ -72,7 +58,6 @@ pub use Rattle.run_executor.specs.Given.OthersRows
 pub use Rattle.run_executor.specs.Given.OthersWalks
 pub use Rattle.run_executor.specs.Given.PointsFactsCalls
 pub use Rattle.run_executor.specs.Given.PointsSteps
-pub use Rattle.run_executor.specs.Given.PointsTold
 pub use Rattle.run_executor.specs.Given.ReclaimsReclaims
 pub use Rattle.run_executor.specs.Given.ReclaimsSlots
 pub use Rattle.run_executor.specs.Given.RuleChart
@@ -106,55 +91,63 @@ pub use Rattle.run_executor.specs.Given.TellsSeen
 pub use Rattle.run_executor.specs.Named.Machines as NamedMachines
 pub use Rattle.run_executor.specs.Named.Places as NamedPlaces
 pub use Rattle.run_executor.specs.Named.Seen as NamedSeen
-pub use Rattle.run_executor.specs.Named.Telling as NamedTelling
 pub use Rattle.run_executor.specs.declared as ExecutorDeclared
-pub use Rattle.run_logged.specs.Given.HistoriesAnswers
-pub use Rattle.run_logged.specs.Given.HistoriesAsCalled
-pub use Rattle.run_logged.specs.Given.HistoriesAsking
-pub use Rattle.run_logged.specs.Given.HistoriesDue
-pub use Rattle.run_logged.specs.Given.HistoriesInEvent
-pub use Rattle.run_logged.specs.Given.HistoriesOtherCalls
-pub use Rattle.run_logged.specs.Given.HistoriesQuestions
-pub use Rattle.run_logged.specs.Given.HistoriesSeveral
-pub use Rattle.run_logged.specs.Given.KeptKept
-pub use Rattle.run_logged.specs.Given.LivesBehind
-pub use Rattle.run_logged.specs.Given.LivesHanded
-pub use Rattle.run_logged.specs.Given.LivesRetired
-pub use Rattle.run_logged.specs.Given.LivesWaiting
-pub use Rattle.run_logged.specs.Given.ModelsAlike
-pub use Rattle.run_logged.specs.Given.ModelsCallEvents
-pub use Rattle.run_logged.specs.Given.ModelsEnds
-pub use Rattle.run_logged.specs.Given.ModelsFollows
-pub use Rattle.run_logged.specs.Given.ModelsMapEvents
-pub use Rattle.run_logged.specs.Given.ModelsNumbers
-pub use Rattle.run_logged.specs.Given.ModelsOnSlots
-pub use Rattle.run_logged.specs.Given.ModelsReclaims
-pub use Rattle.run_logged.specs.Given.ModelsTurns
-pub use Rattle.run_logged.specs.Given.OwesEvents
-pub use Rattle.run_logged.specs.Given.OwesLooking
-pub use Rattle.run_logged.specs.Given.OwesMaking
-pub use Rattle.run_logged.specs.Given.OwesTables
-pub use Rattle.run_logged.specs.Given.PromisesGuards
-pub use Rattle.run_logged.specs.Given.PromisesMeanwhile
-pub use Rattle.run_logged.specs.Given.PromisesOthers
-pub use Rattle.run_logged.specs.Given.PromisesProtected
-pub use Rattle.run_logged.specs.Given.PromisesReading
-pub use Rattle.run_logged.specs.Given.PromisesSheltered
-pub use Rattle.run_logged.specs.Given.PromisesWeights
-pub use Rattle.run_logged.specs.Given.RemainsSlots
-pub use Rattle.run_logged.specs.Given.ResizeDeclared
-pub use Rattle.run_logged.specs.Given.ResizeNewMap
-pub use Rattle.run_logged.specs.Given.ResizeNewTable
-pub use Rattle.run_logged.specs.Given.ResizeSum
-pub use Rattle.run_logged.specs.Given.SettlesCounts
-pub use Rattle.run_logged.specs.Given.SettlesDue
-pub use Rattle.run_logged.specs.Given.SettlesHand
-pub use Rattle.run_logged.specs.Given.SettlesInHand
-pub use Rattle.run_logged.specs.Given.ShardsAdds
-pub use Rattle.run_logged.specs.Given.ShardsShardSteps
-pub use Rattle.run_logged.specs.Given.ShardsShardWords
-pub use Rattle.run_logged.specs.Log.Choosing as LoggedChoosing
-pub use Rattle.run_logged.specs.Log.OnSlots as LoggedOnSlots
+pub use Rattle.run_finds.specs.Bounded as FindsBounded
+pub use Rattle.run_finds.specs.Capacities as FindsCapacities
+pub use Rattle.run_finds.specs.Doing as FindsDoing
+pub use Rattle.run_finds.specs.Given.HistoriesAnswers
+pub use Rattle.run_finds.specs.Given.ResizeDeclared
+pub use Rattle.run_finds.specs.Given.ResizeNewTable
+pub use Rattle.run_finds.specs.Given.SettlesCounts
+pub use Rattle.run_finds.specs.Given.SettlesDue
+pub use Rattle.run_finds.specs.Given.SettlesHand
+pub use Rattle.run_finds.specs.Given.SettlesInHand
+pub use Rattle.run_finds.specs.Given.ShardsShardSteps
+pub use Rattle.run_finds.specs.Given.ShardsShardWords
+pub use Rattle.run_finds.specs.Life as FindsLife
+pub use Rattle.run_finds.specs.Linking as FindsLinking
+pub use Rattle.run_finds.specs.Little as FindsLittle
+pub use Rattle.run_finds.specs.Orderly as FindsOrderly
+pub use Rattle.run_finds.specs.Parts as FindsParts
+pub use Rattle.run_finds.specs.Purposes.Purposes as PurposesPurposes
+pub use Rattle.run_finds.specs.Purposes.Shards as PurposesShards
+pub use Rattle.run_finds.specs.Purposes.Tableless as PurposesTableless
+pub use Rattle.run_finds.specs.Waiting as FindsWaiting
+pub use Rattle.run_finds.specs.Within as FindsWithin
+pub use Rattle.run_kept.specs.Given.HistoriesAsCalled
+pub use Rattle.run_kept.specs.Given.HistoriesAsking
+pub use Rattle.run_kept.specs.Given.HistoriesDue
+pub use Rattle.run_kept.specs.Given.HistoriesInEvent
+pub use Rattle.run_kept.specs.Given.HistoriesOtherCalls
+pub use Rattle.run_kept.specs.Given.HistoriesQuestions
+pub use Rattle.run_kept.specs.Given.HistoriesSeveral
+pub use Rattle.run_kept.specs.Given.LivesBehind
+pub use Rattle.run_kept.specs.Given.LivesHanded
+pub use Rattle.run_kept.specs.Given.LivesRetired
+pub use Rattle.run_kept.specs.Given.LivesWaiting
+pub use Rattle.run_kept.specs.Given.OwesEvents
+pub use Rattle.run_kept.specs.Given.OwesLooking
+pub use Rattle.run_kept.specs.Given.OwesMaking
+pub use Rattle.run_kept.specs.Given.OwesTables
+pub use Rattle.run_kept.specs.Given.PromisesGuards
+pub use Rattle.run_kept.specs.Given.PromisesMeanwhile
+pub use Rattle.run_kept.specs.Given.PromisesOthers
+pub use Rattle.run_kept.specs.Given.PromisesProtected
+pub use Rattle.run_kept.specs.Given.PromisesReading
+pub use Rattle.run_kept.specs.Given.PromisesSheltered
+pub use Rattle.run_kept.specs.Given.PromisesWeights
+pub use Rattle.run_kept.specs.Given.RemainsSlots
+pub use Rattle.run_kept.specs.Given.ShardsAdds
+pub use Rattle.run_kept.specs.Kept.Kept as KeptKept
+pub use Rattle.run_kept.specs.Models.Alike as ModelsAlike
+pub use Rattle.run_kept.specs.Models.CallEvents as ModelsCallEvents
+pub use Rattle.run_kept.specs.Models.Ends as ModelsEnds
+pub use Rattle.run_kept.specs.Models.Follows as ModelsFollows
+pub use Rattle.run_kept.specs.Models.MapEvents as ModelsMapEvents
+pub use Rattle.run_kept.specs.Models.Numbers as ModelsNumbers
+pub use Rattle.run_kept.specs.Models.OnSlots as ModelsOnSlots
+pub use Rattle.run_kept.specs.Models.Reclaims as ModelsReclaims
+pub use Rattle.run_kept.specs.Models.Turns as ModelsTurns
 pub use Rattle.run_schedules.specs.Given.SeizeWordsPlace
 pub use Rattle.run_schedules.specs.Given.SeizeWordsSlotWords
 pub use Rattle.run_schedules.specs.Runs.Log as RunsLog
@@ -184,20 +177,3 @@ pub use Rattle.run_schedules.specs.Schedules.Transition as SchedulesTransition
 pub use Rattle.run_schedules.specs.Schedules.Views as SchedulesViews
 pub use Rattle.run_schedules.specs.Schedules.Waiting as SchedulesWaiting
 pub use Rattle.run_schedules.specs.declared as RunsDeclared
-pub use Rattle.run_sweeps.specs.Given.FindsBounded
-pub use Rattle.run_sweeps.specs.Given.FindsCapacities
-pub use Rattle.run_sweeps.specs.Given.FindsDoing
-pub use Rattle.run_sweeps.specs.Given.FindsLife
-pub use Rattle.run_sweeps.specs.Given.FindsLinking
-pub use Rattle.run_sweeps.specs.Given.FindsLittle
-pub use Rattle.run_sweeps.specs.Given.FindsOrderly
-pub use Rattle.run_sweeps.specs.Given.FindsParts
-pub use Rattle.run_sweeps.specs.Given.FindsWaiting
-pub use Rattle.run_sweeps.specs.Given.FindsWithin
-pub use Rattle.run_sweeps.specs.Purposes.Kept as PurposesKept
-pub use Rattle.run_sweeps.specs.Purposes.Purposes as PurposesPurposes
-pub use Rattle.run_sweeps.specs.Purposes.Shards as PurposesShards
-pub use Rattle.run_sweeps.specs.Purposes.Swept as PurposesSwept
-pub use Rattle.run_sweeps.specs.Purposes.Tableless as PurposesTableless
-pub use Rattle.run_sweeps.specs.Sources.Sources as SourcesSources
-pub use Rattle.run_sweeps.specs.Sources.Stays as SourcesStays

@@ -1,5 +1,3 @@
 pub mod Grows
-pub mod Needs
-pub mod Says
-pub mod OwnPairs
+pub mod Sources
 pub mod Given

@@ -1,2 +1,2 @@
-//! What effects of calls find: why they ask for blocks, which tables they link; and what makings, ends and rows need, and waiting calls say.
+//! What effects of calls find: why they ask for blocks, which tables they link, where pairs were copied from; and that what waits is listed.
 #![tactic(auto)]

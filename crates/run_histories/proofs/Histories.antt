@@ -22,4 +22,3 @@ pub mod Events
 pub mod NoKey
 pub mod Aside
 pub mod AnyCall
-mod Samples

@@ -1,3 +1,4 @@
 pub mod Histories
 pub mod Promises
 pub mod Given
+mod Samples

@@ -5,4 +5,3 @@ pub mod Guards
 pub mod Protected
 pub mod Weights
 pub mod Brief
-mod Samples

@@ -1,6 +1,5 @@
 -- What is so by the crates below, given on to the crates above: these list this crate in place of those.
 pub use Rattle.run_blocks.proofs.Given.HistoriesAnyCall
-pub use Rattle.run_blocks.proofs.Given.HistoriesAside
 pub use Rattle.run_blocks.proofs.Given.HistoriesAsking
 pub use Rattle.run_blocks.proofs.Given.HistoriesCalling
 pub use Rattle.run_blocks.proofs.Given.HistoriesDue
@@ -37,7 +36,6 @@ pub use Rattle.run_blocks.proofs.Owes.Short as OwesShort
 pub use Rattle.run_blocks.proofs.Owes.Tables as OwesTables
 pub use Rattle.run_blocks.proofs.Owes.Walks as OwesWalks
 pub use Rattle.run_blocks.proofs.Shards.ShardBetween as ShardsShardBetween
-pub use Rattle.run_blocks.proofs.Shards.ShardCalls as ShardsShardCalls
 pub use Rattle.run_blocks.proofs.Shards.ShardKept as ShardsShardKept
 pub use Rattle.run_blocks.proofs.Shards.ShardMakes as ShardsShardMakes
 pub use Rattle.run_blocks.proofs.Shards.ShardNumbers as ShardsShardNumbers
@@ -58,7 +56,16 @@ pub use Rattle.run_shows.proofs.Scenes.May as ScenesMay
 pub use Rattle.run_shows.proofs.Scenes.NoCall as ScenesNoCall
 pub use Rattle.run_shows.proofs.Scenes.Rows as ScenesRows
 pub use Rattle.run_shows.proofs.Scenes.Told as ScenesTold
+pub use Rattle.run_waiting.proofs.Given.SettlesUncounted
+pub use Rattle.run_waiting.proofs.Lives.Each as LivesEach
+pub use Rattle.run_waiting.proofs.Lives.HandedMeant as LivesHandedMeant
+pub use Rattle.run_waiting.proofs.Lives.HandedRows as LivesHandedRows
 pub use Rattle.run_waiting.proofs.Lives.LeftTables as LivesLeftTables
+pub use Rattle.run_waiting.proofs.Lives.Order as LivesOrder
+pub use Rattle.run_waiting.proofs.Lives.Reclaimed as LivesReclaimed
+pub use Rattle.run_waiting.proofs.Lives.RetiredCalls as LivesRetiredCalls
+pub use Rattle.run_waiting.proofs.Lives.Retires as LivesRetires
+pub use Rattle.run_waiting.proofs.Lives.Rows as LivesRows
 pub use Rattle.run_waiting.proofs.Lives.Worlds as LivesWorlds
 pub use Rattle.run_waiting.proofs.Remains.InOrder as RemainsInOrder
 pub use Rattle.run_waiting.proofs.Remains.Leads as RemainsLeads

@@ -1,4 +1,6 @@
 -- The words of the crates below, given on to the crates above: these list this crate in place of those.
+pub use Rattle.papaya_raw.specs.CallAsks as RawCallAsks
+pub use Rattle.papaya_raw.specs.CallPoints as RawCallPoints
 pub use Rattle.run_blocks.specs.Given.HistoriesAnswers
 pub use Rattle.run_blocks.specs.Given.HistoriesAsCalled
 pub use Rattle.run_blocks.specs.Given.HistoriesAsking
@@ -26,10 +28,9 @@ pub use Rattle.run_blocks.specs.Owes.Making as OwesMaking
 pub use Rattle.run_blocks.specs.Owes.Tables as OwesTables
 pub use Rattle.run_blocks.specs.Owes.TablesBeside as OwesTablesBeside
 pub use Rattle.run_blocks.specs.Shards.Adds as ShardsAdds
-pub use Rattle.run_blocks.specs.Shards.ShardSteps as ShardsShardSteps
-pub use Rattle.run_blocks.specs.Shards.ShardWords as ShardsShardWords
 pub use Rattle.run_effects.specs.Effects.Effects as EffectsEffects
 pub use Rattle.run_effects.specs.Effects.Known as EffectsKnown
+pub use Rattle.run_effects.specs.Given.ResizeNewMap
 pub use Rattle.run_effects.specs.Given.RuleChart
 pub use Rattle.run_effects.specs.Given.RuleInWorld
 pub use Rattle.run_effects.specs.declared as EffectsDeclared
@@ -61,6 +62,9 @@ pub use Rattle.run_shows.specs.Scenes.Stepping as ScenesStepping
 pub use Rattle.run_shows.specs.contracts as ScenesContracts
 pub use Rattle.run_shows.specs.declared as ScenesDeclared
 pub use Rattle.run_waiting.specs.Lives.Behind as LivesBehind
+pub use Rattle.run_waiting.specs.Lives.Handed as LivesHanded
+pub use Rattle.run_waiting.specs.Lives.Retired as LivesRetired
 pub use Rattle.run_waiting.specs.Lives.Waiting as LivesWaiting
+pub use Rattle.run_waiting.specs.Remains.Numbered as RemainsNumbered
 pub use Rattle.run_waiting.specs.Remains.Remains as RemainsRemains
 pub use Rattle.run_waiting.specs.Remains.Slots as RemainsSlots

@@ -10,15 +10,15 @@ use Rattle.run_grows.specs.Given.RunsDeclared.event.Event.{Event}
 use Rattle.run_grows.specs.Given.RunsDeclared.event.Event.TheVariants as event
 use Rattle.run_grows.specs.Given.RunsDeclared.outcome.Outcome.{Outcome}
 use Rattle.run_grows.specs.Given.RunsDeclared.outcome.Outcome.TheVariants as outcome
-use Rattle.run_grows.specs.Given.SchedulesAfter.{after, comes_to, moment, moments_from}
+use Rattle.run_grows.specs.Given.SchedulesAfter.{after, with_outcome, moment, moments_from}
 use Rattle.run_grows.specs.Given.SchedulesBeginning.{at_work}
 use Rattle.run_grows.specs.Given.SchedulesEffects.{worked}
 use Rattle.run_grows.specs.Given.SchedulesEntry.{Entry, IfCall, acting, caller_of}
-use Rattle.run_grows.specs.Given.SchedulesHanding.{IsWhole, LeavesOf, comes_clear}
-use Rattle.run_grows.specs.Given.SchedulesInTurn.{ComesRight}
+use Rattle.run_grows.specs.Given.SchedulesHanding.{IsWhole, LeavesOf, is_clear_outcome}
+use Rattle.run_grows.specs.Given.SchedulesInTurn.{HasRightOutcome}
 use Rattle.run_grows.specs.Given.SchedulesLinearizable.{ActsOf, ActsRight, AsksRight, Changes, Ends, IsLinearizable}
 use Rattle.run_grows.specs.Given.SchedulesModel.{changes_of, left_last}
-use Rattle.run_grows.specs.Given.SchedulesMoment.{UnderWay as CallThere, Stands, Asking, IsReady, Moment}
+use Rattle.run_grows.specs.Given.SchedulesMoment.{UnderWay as CallThere, CallState, Asking, IsReady, Moment}
 use Rattle.run_grows.specs.Given.SchedulesSteps.{ReadsBriefly}
 use Rattle.run_grows.specs.Given.SchedulesTerms.{Terms}
 use Rattle.run_grows.specs.Given.SchedulesViews.{call_of}
@@ -30,8 +30,8 @@ use Rattle.run_grows.proofs.Given.OwesClear.{walks_are_clear}
 use Rattle.run_grows.specs.Given.PromisesGuards.{EntersInside}
 use Rattle.run_grows.specs.Given.PromisesSheltered.{SectionsHold}
 use Rattle.run_grows.proofs.Given.PromisesBrief.Ends.{events_read_briefly}
-use Rattle.run_grows.specs.Given.PurposesSwept.{SaysNothing}
-use Rattle.run_grows.proofs.Given.PurposesNothing.{other_outcomes_are_swept}
+use Rattle.run_sweeps.specs.Purposes.Swept.{SaysNothing}
+use Rattle.run_sweeps.proofs.Purposes.Nothing.{other_outcomes_are_swept}
 use Rattle.run_grows.specs.Given.ModelsCallEvents.{IsOfNoSlot}
 use Rattle.run_grows.proofs.Given.ModelsCallEvents.{others_hand_over}
 use Rattle.run_grows.specs.Given.SettlesCounts.{HasToCount}
@@ -39,8 +39,8 @@ use Rattle.run_grows.proofs.Given.SettlesHand.Asked.{walks_have_nothing}
 use Rattle.run_grows.specs.Given.FindsLittle.{ReclaimsAll}
 use Rattle.run_legal.specs.Between.{IsLike}
 use Rattle.run_legal.specs.CallEvents.{IsLegalBut}
-use Rattle.run_legal.specs.Carried.{ShowsRun}
-use Rattle.run_legal.specs.Over.{AgainEventsEnd, GoesOnBy, IsSaidSo}
+use Rattle.run_legal.specs.Carried.{RefinesRun}
+use Rattle.run_legal.specs.Over.{AgainEventsEnd, ContinuesBy, IsSaidSo}
 use Rattle.run_legal.proofs.CallLeaves.{none_asked}
 use Rattle.run_legal.proofs.Idle.{still_events_are_legal}
 use Rattle.run_legal.proofs.Over.{quiet_events_end}
@@ -50,28 +50,28 @@ use Rattle.run_grows.specs.Given.SchedulesTransition.{past, transition}
 
 module _ {K V : Type 0} where
   -- a call that says again how far it is has changed nothing, and is as it was
-  is_still : (said : Outcome V) (c : CallThere K V) → IsSaidSo said c.stands → comes_to said (record c { steps = c.steps + 0 }) ≡ c
+  is_still : (said : Outcome V) (c : CallThere K V) → IsSaidSo said c.stands → with_outcome said (record c { steps = c.steps + 0 }) ≡ c
   is_still (outcome.Asks question) c so = by c.stands so
     where
       none : c.steps + 0 ≡ c.steps
       none = omega arith
 
-      by : (stands : Stands) → stands ≡ Asking question → comes_to {V = V} (outcome.Asks question) (record c { steps = c.steps + 0; stands = stands }) ≡ record c { stands = stands }
+      by : (stands : CallState) → stands ≡ Asking question → with_outcome {V = V} (outcome.Asks question) (record c { steps = c.steps + 0; stands = stands }) ≡ record c { stands = stands }
       by (Asking q) is = ap (λ (n : ℕ). record c { steps = n; stands = Asking q }) none
       by _ is = absurd (cc is)
   is_still outcome.Ready c so =
       let none : c.steps + 0 ≡ c.steps = omega arith in
-      ap (λ (n : ℕ). record c { steps = n; stands = IsReady }) none ∙ ap (λ (stands : Stands). record c { stands = stands }) (sym so)
+      ap (λ (n : ℕ). record c { steps = n; stands = IsReady }) none ∙ ap (λ (stands : CallState). record c { stands = stands }) (sym so)
   is_still _ c so = absurd so
 
   module _ (said : Outcome V) (own : List ℕ) where
     abbrev again : CallThere K V → CallThere K V
-    again c = if is_same c.caller own then comes_to said (record c { steps = c.steps + 0 }) else c
+    again c = if is_same c.caller own then with_outcome said (record c { steps = c.steps + 0 }) else c
 
     one_still : (c : CallThere K V) → (is_same c.caller own ≡ true → IsSaidSo said c.stands) → again c ≡ c
     one_still c so = by (is_same c.caller own) refl
       where
-        by : (q : Bool) → is_same c.caller own ≡ q → (if q then comes_to said (record c { steps = c.steps + 0 }) else c) ≡ c
+        by : (q : Bool) → is_same c.caller own ≡ q → (if q then with_outcome said (record c { steps = c.steps + 0 }) else c) ≡ c
         by true is = is_still said c (so is)
         by false is = refl
 
@@ -93,12 +93,12 @@ module _ {K V : Type 0} (same : K → K → Bool) where
   ends_none call.Walk c moments said so = tt
 
   asks_none : (c : CallThere K V) (moments : List (Moment K V)) (said : Outcome V) → IsSaidSo said c.stands → AsksRight same c.stands c moments said
-  asks_none c moments (outcome.Asks question) so = subst (λ (stands : Stands). AsksRight same stands c moments (outcome.Asks question)) (sym so) tt
-  asks_none c moments outcome.Ready so = subst (λ (stands : Stands). AsksRight same stands c moments outcome.Ready) (sym so) tt
+  asks_none c moments (outcome.Asks question) so = subst (λ (stands : CallState). AsksRight same stands c moments (outcome.Asks question)) (sym so) tt
+  asks_none c moments outcome.Ready so = subst (λ (stands : CallState). AsksRight same stands c moments outcome.Ready) (sym so) tt
   asks_none c moments _ so = absurd so
 
 module _ (K V : Type 0) (same : K → K → Bool) (hash : ℕ → K → ℕ) (name : ℕ → List ℕ) (terms : Terms) (log : List (Entry K V)) (known : Known) (s : Scene K V) (x : Held K V) (at : IsAt same hash x s)
-    (run : ShowsRun same name terms log known s) (map i : ℕ) (u : UnderWay K V K) (here : s.calls map i ≡ Some u) (c : CallThere K V) (c_is : call_of (name i) (moment log) ≡ Some c) where
+    (run : RefinesRun same name terms log known s) (map i : ℕ) (u : UnderWay K V K) (here : s.calls map i ≡ Some u) (c : CallThere K V) (c_is : call_of (name i) (moment log) ≡ Some c) where
   abbrev m : Moment K V
   m = moment log
 
@@ -115,7 +115,7 @@ module _ (K V : Type 0) (same : K → K → Bool) (hash : ℕ → K → ℕ) (na
         clear.2,
       )
 
-  leaves_so : (said : Outcome V) → IsSaidSo said c.stands → (said ≡ outcome.Ready → (machine_asked (machine_of u)).1 ≡ true) → LeavesOf (comes_clear said) said c
+  leaves_so : (said : Outcome V) → IsSaidSo said c.stands → (said ≡ outcome.Ready → (machine_asked (machine_of u)).1 ≡ true) → LeavesOf (is_clear_outcome said) said c
   leaves_so (outcome.Asks question) so ready = tt
   leaves_so outcome.Ready so ready = ready_leaves (ready refl)
   leaves_so _ so ready = absurd so
@@ -130,7 +130,7 @@ module _ (K V : Type 0) (same : K → K → Bool) (hash : ℕ → K → ℕ) (na
     -- an event that begins nothing
     module _ (of_call : caller_of its ≡ Some (name i)) (begins : (told : Outcome V) → at_work (e_so told) m ≡ m) (stays : (told : Outcome V) → worked (e_so told) m ≡ m) (no_slot : IsOfNoSlot its)
         (enters : EntersInside s.world its said m.there) (whole : IsWhole its said [] m (worked e m)) (reclaims : ReclaimsAll log e) (says : SaysNothing said)
-        (like : IsLike m (moment (e ∷ log))) (right : ComesRight terms log e) where
+        (like : IsLike m (moment (e ∷ log))) (right : HasRightOutcome terms log e) where
       its_call : (v : Moment K V) → v ≡ m → acting (caller_of its) v ≡ Some c
       its_call v is = ap (λ (who : Option (List ℕ)). acting who v) of_call ∙ ap (λ (y : Moment K V). call_of (name i) y) is ∙ c_is
 
@@ -159,8 +159,8 @@ module _ (K V : Type 0) (same : K → K → Bool) (hash : ℕ → K → ℕ) (na
       brief = subst (λ (v : Moment K V). ReadsBriefly log e v) (sym (stays said))
           (events_read_briefly K V same hash name (past log) (λ j. 0) m known s x at run.calls.whole run.reading map i u here (caller_of e.event) of_call e.steps (omega arith))
 
-      leaves : IfCall (LeavesOf (comes_clear said) said) (acting (caller_of its) (worked e m))
-      leaves = subst (λ (o : Option (CallThere K V)). IfCall (LeavesOf (comes_clear said) said) o) (sym (its_call (worked e m) (stays said))) (leaves_so said so ready)
+      leaves : IfCall (LeavesOf (is_clear_outcome said) said) (acting (caller_of its) (worked e m))
+      leaves = subst (λ (o : Option (CallThere K V)). IfCall (LeavesOf (is_clear_outcome said) said) o) (sym (its_call (worked e m) (stays said))) (leaves_so said so ready)
 
       unchanged : (changes_of log e ≡ []) × (left_last its said m ≡ [])
       unchanged = others_hand_over K V log e no_slot
@@ -169,7 +169,7 @@ module _ (K V : Type 0) (same : K → K → Bool) (hash : ℕ → K → ℕ) (na
       legal =
           still_events_are_legal K V same terms log known s.world e refl linear run.sections enters unchanged.0 unchanged.1 brief (other_outcomes_are_swept K V same terms (past log) (transition log e) says) whole leaves
 
-      said_on : IsLegalBut same terms log e × ShowsRun same name terms (e ∷ log) known s
+      said_on : IsLegalBut same terms log e × RefinesRun same name terms (e ∷ log) known s
       said_on = (
         legal.0,
         quiet_events_end K V same name terms log known s s run e right legal.0.life refl unchanged.0 unchanged.1 reclaims m run.calls run.reading like refl legal.1,
@@ -183,7 +183,7 @@ module _ (K V : Type 0) (same : K → K → Bool) (hash : ℕ → K → ℕ) whe
       Goal its told =
           IsSaidSo told c.stands → (told ≡ outcome.Ready → (machine_asked (machine_of u)).1 ≡ true) → AllByRecursion (λ d. is_same d.caller (name i) ≡ true → IsSaidSo told d.stands) (moment log).calls
           → (let e : Entry K V = record { event = its; outcome = told; steps = 0; effects = [] } in
-          ComesRight terms log e → IsLegalBut same terms log e × ShowsRun same name terms (e ∷ log) known s)
+          HasRightOutcome terms log e → IsLegalBut same terms log e × RefinesRun same name terms (e ∷ log) known s)
 
       with_calls : Moment K V → List (CallThere K V) → Moment K V
       with_calls m calls = record m { calls = calls }
@@ -206,7 +206,7 @@ module _ (K V : Type 0) (same : K → K → Bool) (hash : ℕ → K → ℕ) whe
           (ap (with_calls (after (record { event = event.Go (name i) refuse; outcome = outcome.Ready; steps = 0; effects = [] }) (moment log))) (calls_still outcome.Ready (name i) (moment log).calls all)) right
       go_on refuse _ so ready all right = absurd so
 
-      by : (its : Event K V) → GoesOnBy its (name i) → (told : Outcome V) → Goal its told
+      by : (its : Event K V) → ContinuesBy its (name i) → (told : Outcome V) → Goal its told
       by (event.Step own refuse) on told = subst (λ (o : List ℕ). Goal (event.Step o refuse) told) (sym on) (step_on refuse told)
       by (event.Go own refuse) on told = subst (λ (o : List ℕ). Goal (event.Go o refuse) told) (sym on) (go_on refuse told)
       by _ on told = absurd on

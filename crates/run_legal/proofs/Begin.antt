@@ -9,9 +9,9 @@ use Rattle.run_grows.proofs.Given.PromisesGuards.{no_guard}
 use Rattle.run_grows.specs.Given.ModelsNumbers.{HasNumber}
 use Rattle.run_grows.proofs.Given.ModelsAlike.Changed.{start_alike}
 use Rattle.run_grows.proofs.Given.FindsRuns.{all_in_order_at_first}
-use Rattle.run_grows.proofs.Given.PurposesTableless.{tableless_at_first}
+use Rattle.run_sweeps.proofs.Purposes.Tableless.{tableless_at_first}
 use Rattle.run_legal.specs.Carried.{RunsBeginIn}
-use Rattle.run_grows.proofs.Given.PurposesStored.{first_lasts}
+use Rattle.run_sweeps.proofs.Purposes.Stored.{first_lasts}
 
 pub runs_begin_in : (K V : Type 0) → RunsBeginIn K V
 runs_begin_in K V same terms name known w whole kept came = record {

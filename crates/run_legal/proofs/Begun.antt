@@ -1,7 +1,7 @@
 -- An event that begins a call, tells it a reply, or gives a walk up, is legal, and a run goes on with it.
 use Rattle.std.specs.Prelude.{◌≡◌, ℕ, ◌+◌, Bool, true, false, not, ◌&&◌, List, [], ◌∷◌, Option, Some, None, Ok}
 use Rattle.std.proofs.Common.{refl, ap, sym, subst, ◌∙◌, inl, inr}
-use Rattle.run_grows.specs.Given.RawCallAsks.{told_at}
+use Rattle.run_grows.specs.Given.RawCallAsks.{replied_at}
 use Rattle.run_grows.specs.Given.RawMachine.{machine_replied}
 use Rattle.run_grows.specs.Given.RawDeclared.machines.asking.MachineReply.{MachineReply}
 use Rattle.run_grows.specs.Given.RawDeclared.machines.call.Calling.{Calling}
@@ -19,22 +19,22 @@ use Rattle.run_grows.specs.Given.CallersTogether.{UnderWay, OnKey, ForRoom, Coun
 use Rattle.run_grows.specs.Given.FinishesMachines.{machine_of}
 use Rattle.run_grows.specs.Given.FinishesMaps.{with_call as with_call_of}
 use Rattle.run_grows.specs.Given.FollowsCalling.{told}
-use Rattle.run_grows.specs.Given.HandsAsked.{as_told}
+use Rattle.run_grows.specs.Given.HandsAsked.{reply_to_machine}
 use Rattle.run_grows.specs.Given.OthersWalks.{given_up}
 use Rattle.run_grows.proofs.Given.FollowsCalling.{apart_back, found_kept}
 use Rattle.run_grows.proofs.Given.HandsAsking.{which}
 use Rattle.run_grows.proofs.Given.HandsCalling.{caller_is}
 use Rattle.run_grows.proofs.Given.ChangesLogs.{events_are}
-use Rattle.run_grows.proofs.Given.PurposesNothing.{no_calls_are_swept}
-use Rattle.run_grows.specs.Given.PromisesReading.{HasLooked, LookupsStay, ShowsReading, looks}
+use Rattle.run_sweeps.proofs.Purposes.Nothing.{no_calls_are_swept}
+use Rattle.run_grows.specs.Given.PromisesReading.{HasLooked, LookupsStay, RefinesReadings, looks}
 use Rattle.run_grows.specs.Given.PromisesSheltered.{SectionsHold}
 use Rattle.run_grows.proofs.Given.PromisesBrief.Meanwhile.{calls_begin_readings, calls_take_readings, stands_so}
 use Rattle.run_grows.proofs.Given.PromisesBrief.Stays.{readings_stay}
 use Rattle.run_grows.proofs.Given.PromisesShelters.Begins.{sections_go_on}
 use Rattle.run_legal.specs.Between.{IsLike}
 use Rattle.run_legal.specs.CallEvents.{IsLegalBut}
-use Rattle.run_legal.specs.Carried.{ShowsCalls}
-use Rattle.run_legal.specs.Over.{BegunEventsEnd, StoppedEventsEnd, ToldEventsEnd}
+use Rattle.run_legal.specs.Carried.{RefinesAllCalls}
+use Rattle.run_legal.specs.Over.{BegunEventsEnd, StoppedEventsEnd, RepliedEventsEnd}
 use Rattle.run_legal.proofs.Between.{calls_begin, calls_take, walks_stop}
 use Rattle.run_legal.proofs.Idle.{idle_events_are_legal}
 use Rattle.run_legal.proofs.Over.{quiet_events_end}
@@ -56,10 +56,10 @@ module _ (K V : Type 0) (same : K → K → Bool) (hash : ℕ → K → ℕ) whe
       legal : IsLegalBut same terms log e
       legal = (idle_events_are_legal K V same terms log known s.world e refl tt run.sections tt refl refl tt (no_calls_are_swept K V same terms (past log) (transition log e) refl) tt tt).0
 
-      shown : ShowsCalls same name (past log) (with_call (name i) guard call (Some map) (moment log)) known (scene_with map i u s)
+      shown : RefinesAllCalls same name (past log) (with_call (name i) guard call (Some map) (moment log)) known (scene_with map i u s)
       shown = calls_begin K V same hash name (past log) known s old new at run.calls map i standing there u call guard begins right none rests at2
 
-      reading : ShowsReading name (past log) (λ j. 0) (with_call (name i) guard call (Some map) (moment log)) (scene_with map i u s)
+      reading : RefinesReadings name (past log) (λ j. 0) (with_call (name i) guard call (Some map) (moment log)) (scene_with map i u s)
       reading = calls_begin_readings K V same name (past log) (moment log) known s run.calls.whole run.reading map i u call guard none right.looks (events_are log)
 
       -- the moment after it, by which map has that name
@@ -86,13 +86,13 @@ module _ (K V : Type 0) (same : K → K → Bool) (hash : ℕ → K → ℕ) whe
 -- a lookup takes no reply
 module _ {K V : Type 0} (incremental : Bool) (map : ℕ) (c : Chart K) (moments : List (Moment K V)) (steps : ℕ) (reply : MachineReply V) where
   takes_none : (u : UnderWay K V K) → HasLooked incremental map c moments steps u → (machine_replied (machine_of u) reply).1 ≡ Ok tt → ⊥
-  takes_none (OnKey k) looked takes = let refused = ap (λ (x : Calling). (told_at x k.call reply).1) looked.1 in cc (refused, takes)
+  takes_none (OnKey k) looked takes = let refused = ap (λ (x : Calling). (replied_at x k.call reply).1) looked.1 in cc (refused, takes)
   takes_none (ForRoom r) looked takes = looked
   takes_none (Counting sum) looked takes = looked
   takes_none (OverAll o) looked takes = looked
 
 module _ (K V : Type 0) (same : K → K → Bool) (hash : ℕ → K → ℕ) where
-  pub told_events_end : ToldEventsEnd K V same hash
+  pub told_events_end : RepliedEventsEnd K V same hash
   told_events_end name terms log known s old new at run map i u here c c_is question asks standing there is_told next next_is takes told_kind taken at2 steps comes =
       (legal, quiet_events_end K V same name terms log known s (scene_with map i next s) run e comes legal.life refl refl refl tt (told (name i) is_told (moment log)) shown reading refl refl run.sections)
     where
@@ -102,7 +102,7 @@ module _ (K V : Type 0) (same : K → K → Bool) (hash : ℕ → K → ℕ) whe
       legal : IsLegalBut same terms log e
       legal = (idle_events_are_legal K V same terms log known s.world e refl tt run.sections tt refl refl tt (no_calls_are_swept K V same terms (past log) (transition log e) refl) tt tt).0
 
-      shown : ShowsCalls same name (past log) (told (name i) is_told (moment log)) known (scene_with map i next s)
+      shown : RefinesAllCalls same name (past log) (told (name i) is_told (moment log)) known (scene_with map i next s)
       shown = calls_take K V same hash name (past log) (moment log) known s old new at run.calls map i u here c c_is question asks standing there is_told next next_is takes told_kind taken at2
 
       no_look : looks c.call ≡ false
@@ -110,10 +110,10 @@ module _ (K V : Type 0) (same : K → K → Bool) (hash : ℕ → K → ℕ) whe
         where
           by : (q : Bool) → looks c.call ≡ q → looks c.call ≡ false
           by false is = is
-          by true is = absurd (takes_none (is_incremental standing.setting.mode) map standing.chart (moments_from c.begun log) (c.steps + 0) (as_told is_told) u
+          by true is = absurd (takes_none (is_incremental standing.setting.mode) map standing.chart (moments_from c.begun log) (c.steps + 0) (reply_to_machine is_told) u
               (run.reading.reads map i u here c c_is is standing there) takes)
 
-      reading : ShowsReading name (past log) (λ j. 0) (told (name i) is_told (moment log)) (scene_with map i next s)
+      reading : RefinesReadings name (past log) (λ j. 0) (told (name i) is_told (moment log)) (scene_with map i next s)
       reading = calls_take_readings K V name (past log) (λ j. 0) (moment log) s run.reading (λ n j x is. (let d = run.calls.whole.all.shown.calls n j x is in (d.0, d.1))) map i c c_is no_look is_told next
 
   pub stopped_events_end : StoppedEventsEnd K V same hash
@@ -132,7 +132,7 @@ module _ (K V : Type 0) (same : K → K → Bool) (hash : ℕ → K → ℕ) whe
       at_end : Scene K V
       at_end = record s { calls = with_call_of s.calls map i (unless_stopped true u) }
 
-      shown : ShowsCalls same name (past log) (given_up (name i) true (moment log)) known at_end
+      shown : RefinesAllCalls same name (past log) (given_up (name i) true (moment log)) known at_end
       shown = walks_stop K V same hash name (past log) (moment log) known s old new at run.calls i true leads map u here (λ e. none)
 
       -- the calls that are left were there, as they were
@@ -157,5 +157,5 @@ module _ (K V : Type 0) (same : K → K → Bool) (hash : ℕ → K → ℕ) whe
         maps = λ n j x is st stands. stands_so s.maps n st stands;
       }
 
-      reading : ShowsReading name (past log) (λ j. 0) (given_up (name i) true (moment log)) at_end
+      reading : RefinesReadings name (past log) (λ j. 0) (given_up (name i) true (moment log)) at_end
       reading = readings_stay K V name (past log) (λ j. 0) (λ j. 0) (moment log) (given_up (name i) true (moment log)) s at_end stay run.reading

@@ -13,7 +13,7 @@ use Rattle.run_grows.proofs.Given.FinishesEnds.CountedBlocks.{some_here, some_la
 use Rattle.run_grows.specs.Given.SeizeReclaimsRoots.{all_lists}
 use Rattle.run_grows.specs.Given.ModelsNumbers.{things_of}
 use Rattle.run_grows.specs.Given.FindsOrderly.{is_left_over}
-use Rattle.run_legal.specs.AllEvents.{BehindIsTold}
+use Rattle.run_legal.specs.AllEvents.{BehindRootsIsNoted}
 use Rattle.run_grows.proofs.Given.General.{map_append as each_two}
 
 -- blocks that are noted as these pairs
@@ -70,7 +70,7 @@ left_place : (p : Place) → is_left_over p ≡ true → p ≡ Left
 left_place Left e = refl
 left_place _ e = absurd (cc e)
 
-pub behind_is_told : (K V : Type 0) → BehindIsTold K V
+pub behind_is_told : (K V : Type 0) → BehindRootsIsNoted K V
 behind_is_told K V roots m known lists noted told = (
   λ n left. found_noted known.roles n (all_lists lists roots) (flat_map (λ r. r.pairs) m.remains) noted (sym (told n) ∙ left),
   things_noted known.roles (all_lists lists roots) (flat_map (λ r. r.pairs) m.remains) noted ∙ all_things m.remains,

@@ -9,7 +9,7 @@ use Rattle.run_grows.specs.Given.PointsFactsCalls.{Unchanged}
 use Rattle.run_grows.specs.Given.RunsDeclared.effect.Thing.TheVariants.{APair}
 use Rattle.run_grows.specs.Given.SchedulesBeginning.{with_call}
 use Rattle.run_grows.specs.Given.RunsDeclared.outcome.Outcome.TheVariants.{Refused}
-use Rattle.run_grows.specs.Given.SchedulesMoment.{UnderWay as CallThere, Stands, Asking, Moment}
+use Rattle.run_grows.specs.Given.SchedulesMoment.{UnderWay as CallThere, CallState, Asking, Moment}
 use Rattle.run_grows.specs.Given.SchedulesViews.{call_of}
 use Rattle.run_grows.specs.Given.CallersOverAll.{CallOverAll, gone_on}
 use Rattle.run_grows.specs.Given.CallersRooms.{CallForRoom}
@@ -18,9 +18,9 @@ use Rattle.run_grows.specs.Given.EffectsKnown.{Known}
 use Rattle.run_grows.specs.Given.FinishesMachines.{machine_of}
 use Rattle.run_grows.specs.Given.FinishesMaps.{Standing, with_call as with_call_of}
 use Rattle.run_grows.specs.Given.FollowsCalling.{NoneNamed, told}
-use Rattle.run_grows.specs.Given.FollowsShows.{Shows}
-use Rattle.run_grows.specs.Given.FollowsCalls.{IsCalled, ShowsCalls as IsThere}
-use Rattle.run_grows.specs.Given.HandsAsked.{as_told}
+use Rattle.run_grows.specs.Given.FollowsShows.{Refines}
+use Rattle.run_grows.specs.Given.FollowsCalls.{IsCalled, RefinesCalls as IsThere}
+use Rattle.run_grows.specs.Given.HandsAsked.{reply_to_machine}
 use Rattle.run_grows.specs.Given.OthersElsewhere.{HasSame}
 use Rattle.run_grows.specs.Given.OthersWalks.{given_up}
 use Rattle.run_grows.proofs.Given.HandsAsking.{which}
@@ -28,33 +28,33 @@ use Rattle.run_grows.specs.Given.MomentsNumbers.{NumbersMaps, PairsAreBelow}
 use Rattle.run_grows.proofs.Given.MomentsCalls.{calls_begin_whole, calls_take_whole}
 use Rattle.run_grows.proofs.Given.MomentsWalks.{walks_go_on_whole, walks_stop_whole}
 use Rattle.run_grows.specs.Given.HistoriesAsCalled.{IsAsCalled, IsSweptAs, SweepAsks}
-use Rattle.run_grows.specs.Given.HistoriesAsking.{IsToldQuestion}
-use Rattle.run_grows.specs.Given.ChangesHistories.{ShowsHistory, began_of}
+use Rattle.run_grows.specs.Given.HistoriesAsking.{IsQuestionAsked}
+use Rattle.run_grows.specs.Given.ChangesHistories.{RefinesHistory, began_of}
 use Rattle.run_grows.proofs.Given.HistoriesAnyCall.Whole.{all_stays_shown}
 use Rattle.run_grows.proofs.Given.HistoriesAside.Stays.{as_called_stays, dues_stay}
 use Rattle.run_grows.proofs.Given.HistoriesDueOn.{calls_begin_due, calls_take_due, events_keep_due}
 use Rattle.run_grows.proofs.Given.HistoriesNoKey.AsCalledOn.{calls_begin_as_called, calls_take_as_called}
 use Rattle.run_grows.proofs.Given.HistoriesQuestions.{calls_begin_questions, calls_come_to_questions, calls_take_questions}
-use Rattle.run_grows.specs.Given.HistoriesQuestions.{AsksStill, ShowsQuestions}
-use Rattle.run_grows.specs.Given.SettlesHand.{ShowsOwed, in_hand}
+use Rattle.run_grows.specs.Given.HistoriesQuestions.{AsksStill, AllHaveAskedJust}
+use Rattle.run_grows.specs.Given.SettlesHand.{RefinesObligations, in_hand}
 use Rattle.run_grows.proofs.Given.SettlesHand.Asked.{asked_stays, told_stays}
 use Rattle.run_grows.proofs.Given.FindsGrows.Between.{calls_begin_growing, calls_take_growing, walks_go_on_growing}
-use Rattle.run_grows.proofs.Given.FindsWaits.Between.{calls_begin_waits}
-use Rattle.run_grows.specs.Given.KeptKept.{ShowsKept}
+use Rattle.run_grows.proofs.Waits.Between.{calls_begin_waits}
+use Rattle.run_grows.specs.Given.KeptKept.{RefinesKept}
 use Rattle.run_grows.proofs.Given.KeptBetween.{calls_begin_kept, calls_take_kept, uncounted_at_first, walks_go_on_kept, walks_stop_kept}
 use Rattle.run_grows.proofs.Given.KeptRenamed.{asked, renamed, shows}
 use Rattle.run_grows.proofs.Given.KeptStays.{renamed_kept, stays_kept}
-use Rattle.run_grows.specs.Given.PurposesKept.{AsksAboutIt}
-use Rattle.run_grows.proofs.Given.PurposesBetween.{calls_begin_purposes, events_keep_purposes}
-use Rattle.run_grows.proofs.Given.PurposesElsewhere.{purposes_stay}
-use Rattle.run_grows.proofs.Given.PurposesTold.{calls_take_purposes}
+use Rattle.run_sweeps.specs.Purposes.Kept.{AsksAboutIt}
+use Rattle.run_sweeps.proofs.Purposes.Between.{calls_begin_purposes, events_keep_purposes}
+use Rattle.run_sweeps.proofs.Purposes.Elsewhere.{purposes_stay}
+use Rattle.run_sweeps.proofs.Purposes.Told.{calls_take_purposes}
 use Rattle.run_grows.specs.Given.ShardsAdds.{adds_of}
-use Rattle.run_grows.specs.Given.ShardsShardWords.{ShowsCounters}
+use Rattle.run_grows.specs.Given.ShardsShardWords.{RefinesCounters}
 use Rattle.run_grows.proofs.Given.ShardsShardBetween.{calls_begin_counters, calls_take_counters, counters_stay, fewer_add}
-use Rattle.run_legal.specs.Between.{CallsBegin, CallsTake, LikesShow, LogsGrow, NamesChange, WalksGoOn, WalksStop}
-use Rattle.run_legal.specs.Carried.{NoneCounted, ShowsCalls}
-use Rattle.run_grows.specs.Grows.Finding.{ShowsFinding}
-use Rattle.run_grows.specs.Given.SourcesSources.{ShowsSources}
+use Rattle.run_legal.specs.Between.{CallsBegin, CallsTake, LikesShow, LogsGrow, NamesChange, WalksContinue, WalksStop}
+use Rattle.run_legal.specs.Carried.{NoneCounted, RefinesAllCalls}
+use Rattle.run_grows.specs.Grows.Finding.{RefinesFinding}
+use Rattle.run_grows.specs.Sources.Sources.{RefinesSources}
 use Rattle.run_legal.proofs.Sourced.{sources_so}
 use Rattle.run_grows.proofs.Grows.Finding.Alike.{finding_fewer, stood_as}
 use Rattle.run_grows.proofs.Grows.Limits.Shows.{calls_begin_limits, calls_take_limits, limits_grow, walks_go_on_limits, walks_stop_limits}
@@ -66,11 +66,11 @@ use Rattle.run_grows.specs.Given.ScenesBeginning.{Begins}
 use Rattle.run_grows.specs.Given.ScenesReplying.{scene_with, unless_stopped}
 use Rattle.run_grows.specs.Given.ScenesScene.{HasCall, Scene}
 use Rattle.run_grows.proofs.Given.General.{same_some as one_of}
-use Rattle.run_grows.proofs.Quiet.Saying.{about_pair}
-use Rattle.run_grows.proofs.Quiet.Sweeps.{adds_next}
+use Rattle.run_sweeps.proofs.Quiet.Saying.{about_pair}
+use Rattle.run_sweeps.proofs.Quiet.Sweeps.{adds_next}
 
 pub likes_show : (K V : Type 0) (same : K → K → Bool) → LikesShow K V same
-likes_show K V same name log m v known s all like = subst (λ (x : Moment K V). ShowsCalls same name log x known s) (sym like) (record {
+likes_show K V same name log m v known s all like = subst (λ (x : Moment K V). RefinesAllCalls same name log x known s) (sym like) (record {
   whole = all_stays_shown K V same name m known s all.whole v.events v.is_mapped v.is_closed v.is_alone v.there v.slots v.sheltered v.remains;
   numbers = (record { found = all.numbers.0.found; below = all.numbers.0.below; tables = all.numbers.0.tables }, all.numbers.1);
   kept = stays_kept K V name m other known s s all.kept refl refl refl refl refl refl refl refl refl;
@@ -171,7 +171,7 @@ names_change K V same name name2 log m known s agree all = record {
     as_named : (map i : ℕ) (u : UnderWay K V K) → s.calls map i ≡ Some u → (c : CallThere K V) → call_of (name2 i) m ≡ Some c → call_of (name i) m ≡ Some c
     as_named map i u is c c_is = named_as name name2 m s agree map i u is c c_is
 
-    history : ShowsHistory same name2 log m known s
+    history : RefinesHistory same name2 log m known s
     history = record {
       past = all.dues.history.past;
       shown = shows same name name2 m known s agree all.dues.history.shown;
@@ -199,7 +199,7 @@ asks_about : {K V : Type 0} (known : Known) (u : UnderWay K V K) (question : Opt
 asks_about known u question asks o is word stands =
     let it = asks o is in
     let same_word : it.0 ≡ word = (let both : sweeping.Asks it.0 ≡ sweeping.Asks word = sym it.1 ∙ stands in cc both) in
-    about_pair known word question (subst (λ (x : ℕ). IsToldQuestion known (Some x) question) same_word it.2)
+    about_pair known word question (subst (λ (x : ℕ). IsQuestionAsked known (Some x) question) same_word it.2)
 
 module _ {K V : Type 0} (name : ℕ → List ℕ) (m : Moment K V) (s : Scene K V) (map i : ℕ) (next : Option (UnderWay K V K)) where
   abbrev then_at : Scene K V
@@ -208,7 +208,7 @@ module _ {K V : Type 0} (name : ℕ → List ℕ) (m : Moment K V) (s : Scene K 
   abbrev Had : ℕ → ℕ → ℕ → Type 0
   Had of j removed = (y : UnderWay K V K) × (s.calls of j ≡ Some y) × (adds_of (machine_of y) ≡ Some removed)
 
-  on_counters : ((x : UnderWay K V K) → next ≡ Some x → (removed : ℕ) → adds_of (machine_of x) ≡ Some removed → Had map i removed) → ShowsCounters name m s → ShowsCounters name m then_at
+  on_counters : ((x : UnderWay K V K) → next ≡ Some x → (removed : ℕ) → adds_of (machine_of x) ≡ Some removed → Had map i removed) → RefinesCounters name m s → RefinesCounters name m then_at
   on_counters its counters = counters_stay K V name m m s then_at counters refl refl refl refl refl before
     where
       before : (of j : ℕ) (x : UnderWay K V K) → then_at.calls of j ≡ Some x → (removed : ℕ) → adds_of (machine_of x) ≡ Some removed → Had of j removed
@@ -227,11 +227,11 @@ module _ {K V : Type 0} (own : List ℕ) (m : Moment K V) where
   given_uncounted true none = none
   given_uncounted false none = none
 
-  asks_still : (st : Stands) → AsksStill {V = V} st (Refused Memory)
+  asks_still : (st : CallState) → AsksStill {V = V} st (Refused Memory)
   asks_still (Asking question) = λ goes. goes
   asks_still _ = tt
 
-  given_questions : (q : Bool) → ShowsQuestions m → ShowsQuestions (given_up own q m)
+  given_questions : (q : Bool) → AllHaveAskedJust m → AllHaveAskedJust (given_up own q m)
   given_questions true questions = calls_come_to_questions K V own (Refused Memory) 0 m questions (λ c c_is. asks_still c.stands)
   given_questions false questions = questions
 
@@ -269,23 +269,23 @@ module _ (K V : Type 0) (same : K → K → Bool) (hash : ℕ → K → ℕ) whe
   pub calls_take : CallsTake K V same hash
   calls_take name log m known s old new at all map i u here c c_is question asks standing there is_told next next_is takes told_kind taken at2 =
       let whole = calls_take_whole K V same hash name m known s old at all.whole map i u here c c_is question asks standing there is_told next next_is takes told_kind in
-      let kept = calls_take_kept K V same hash name m known s old new at all.whole all.kept map i u here (as_told is_told) next next_is is_told at2 whole.all.shown in
+      let kept = calls_take_kept K V same hash name m known s old new at all.whole all.kept map i u here (reply_to_machine is_told) next next_is is_told at2 whole.all.shown in
       record {
         whole = whole;
         numbers = (record { found = all.numbers.0.found; below = all.numbers.0.below; tables = all.numbers.0.tables }, all.numbers.1);
         kept = kept;
         finding = record {
-          growing = calls_take_growing K V m s all.finding.growing map i u here (as_told is_told) next next_is;
-          further = calls_take_further m s all.finding.further map i u here next (as_told is_told) next_is;
+          growing = calls_take_growing K V m s all.finding.growing map i u here (reply_to_machine is_told) next next_is;
+          further = calls_take_further m s all.finding.further map i u here next (reply_to_machine is_told) next_is;
           capacities = all.finding.capacities;
           waits = waits_on K V same name m (told (name i) is_told m) known s map i u here next all.whole.all.shown.calls all.kept.owed kept.owed stays goes (λ n j x is k waits held. held) all.finding.waits;
           puts = puts_on K V same name m (told (name i) is_told m) known s map i u here next all.whole.all.shown.calls all.kept.owed kept.owed stays goes all.finding.puts;
         };
         sources = sources_so K V same name m (told (name i) is_told m) known known s (scene_with map i next s) all.sources whole.all.shown refl refl refl (λ n st is. is);
-        nexts = calls_take_nexts same name log m s all.nexts map i u here all.whole.all.shown.calls next is_told (as_told is_told) next_is;
-        limits = calls_take_limits same name log m s all.limits map i u here all.whole.all.shown.calls next is_told (as_told is_told) next_is;
-        tries = calls_take_tries same name log m s all.tries map i u here all.whole.all.shown.calls next is_told (as_told is_told) next_is;
-        counters = calls_take_counters K V same name m known s all.whole all.counters map i u here (as_told is_told) next next_is is_told;
+        nexts = calls_take_nexts same name log m s all.nexts map i u here all.whole.all.shown.calls next is_told (reply_to_machine is_told) next_is;
+        limits = calls_take_limits same name log m s all.limits map i u here all.whole.all.shown.calls next is_told (reply_to_machine is_told) next_is;
+        tries = calls_take_tries same name log m s all.tries map i u here all.whole.all.shown.calls next is_told (reply_to_machine is_told) next_is;
+        counters = calls_take_counters K V same name m known s all.whole all.counters map i u here (reply_to_machine is_told) next next_is is_told;
         uncounted = all.uncounted;
         dues = calls_take_due K V same hash name log m known s old at all.dues map i u here c c_is question asks standing there is_told next next_is takes told_kind taken;
         as_called = calls_take_as_called K V same hash name m known s old at all.whole all.as_called map i u here c c_is question asks standing there is_told next next_is takes told_kind;
@@ -294,10 +294,10 @@ module _ (K V : Type 0) (same : K → K → Bool) (hash : ℕ → K → ℕ) whe
       }
     where
       stays : in_hand known (machine_of next) ≡ in_hand known (machine_of u)
-      stays = ap (λ (z : Machine K V K). in_hand known z) next_is ∙ (told_stays known (machine_of u) (as_told is_told)).0
+      stays = ap (λ (z : Machine K V K). in_hand known z) next_is ∙ (told_stays known (machine_of u) (reply_to_machine is_told)).0
 
       goes : (n : ℕ) → in_hand known (machine_of u) ≡ APair n ∷ [] → machine_of next ≡ machine_of u
-      goes n e = next_is ∙ replied_same known n (machine_of u) (as_told is_told) e
+      goes n e = next_is ∙ replied_same known n (machine_of u) (reply_to_machine is_told) e
 
       about : (o : CallOverAll) → u ≡ OverAll o → SweepAsks known o.sweep.stands question
       about o is = (its o is).asks question asks
@@ -305,7 +305,7 @@ module _ (K V : Type 0) (same : K → K → Bool) (hash : ℕ → K → ℕ) whe
           its : (o : CallOverAll) → u ≡ OverAll o → IsSweptAs (all.as_called.shown.number map) standing.chart.stored known o c
           its o is = subst (λ (x : UnderWay K V K). IsAsCalled (all.as_called.shown.number map) standing.chart.stored known x c) is (all.as_called.each map i u here standing there c c_is)
 
-  pub walks_go_on : WalksGoOn K V same hash
+  pub walks_go_on : WalksContinue K V same hash
   walks_go_on name log m known s old new at all i leads map o here is = record {
     whole = walks_go_on_whole K V same hash name m known s old new all.whole i leads map (OverAll o) here;
     numbers = all.numbers;
@@ -333,7 +333,7 @@ module _ (K V : Type 0) (same : K → K → Bool) (hash : ℕ → K → ℕ) whe
       next : UnderWay K V K
       next = (leads map (OverAll o) here).0
 
-      kept : ShowsKept name m known (scene_with map i next s)
+      kept : RefinesKept name m known (scene_with map i next s)
       kept = walks_go_on_kept K V same hash name m known s old new all.whole all.kept i leads map (OverAll o) here
 
       stays : in_hand known (machine_of next) ≡ in_hand {K = K} {V = V} {Q = K} known (machine_of {K = K} {V = V} {Q = K} (OverAll o))
@@ -368,10 +368,10 @@ module _ (K V : Type 0) (same : K → K → Bool) (hash : ℕ → K → ℕ) whe
       at_end : Bool → Scene K V
       at_end q = record s { calls = with_call_of s.calls map i (unless_stopped q u) }
 
-      kept : ShowsKept name (given_up (name i) stopped m) known (at_end stopped)
+      kept : RefinesKept name (given_up (name i) stopped m) known (at_end stopped)
       kept = walks_stop_kept K V same hash name m known s old new at all.whole all.kept i stopped leads map u here none
 
-      fewer_find : (q : Bool) → ShowsOwed name (given_up (name i) q m) known (at_end q) → ShowsFinding name (given_up (name i) q m) known (at_end q)
+      fewer_find : (q : Bool) → RefinesObligations name (given_up (name i) q m) known (at_end q) → RefinesFinding name (given_up (name i) q m) known (at_end q)
       fewer_find true owed =
           finding_fewer K V same name m (given_up (name i) true m) known s (at_end true) all.whole.all.shown.calls all.kept.owed owed (fewer_calls s map i u here true) (stood_as s (at_end true) refl)
           refl refl refl refl refl refl all.finding
@@ -379,7 +379,7 @@ module _ (K V : Type 0) (same : K → K → Bool) (hash : ℕ → K → ℕ) whe
           finding_fewer K V same name m (given_up (name i) false m) known s (at_end false) all.whole.all.shown.calls all.kept.owed owed (fewer_calls s map i u here false) (stood_as s (at_end false) refl)
           refl refl refl refl refl refl all.finding
 
-      given_sources : (q : Bool) → Shows same name (given_up (name i) q m) known (at_end q) → ShowsSources same name (given_up (name i) q m) known (at_end q)
+      given_sources : (q : Bool) → Refines same name (given_up (name i) q m) known (at_end q) → RefinesSources same name (given_up (name i) q m) known (at_end q)
       given_sources true shown2 = sources_so K V same name m (given_up (name i) true m) known known s (at_end true) all.sources shown2 refl refl refl (λ n st is. is)
       given_sources false shown2 = sources_so K V same name m (given_up (name i) false m) known known s (at_end false) all.sources shown2 refl refl refl (λ n st is. is)
 
@@ -389,7 +389,7 @@ module _ (K V : Type 0) (same : K → K → Bool) (hash : ℕ → K → ℕ) whe
         | inr was ↦ all.whole.all.shown.calls n j x was.1
       ]
 
-      by : (q : Bool) → (q ≡ true → NoneNamed name (name i) (at_end q)) → ShowsCounters name (given_up (name i) q m) (at_end q)
+      by : (q : Bool) → (q ≡ true → NoneNamed name (name i) (at_end q)) → RefinesCounters name (given_up (name i) q m) (at_end q)
       by true apart =
           let went = on_counters name m s map i None (λ x e removed adds. absurd (cc e)) all.counters in
           record { shards = went.shards; makes = went.makes; adds = fewer_add same name m (given_up (name i) true m) (at_end true) fewer went.adds (name i) (apart refl) refl }

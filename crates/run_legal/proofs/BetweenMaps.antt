@@ -14,10 +14,10 @@ use Rattle.run_grows.proofs.Given.MomentsNumbers.{maps_come_by_number, maps_go, 
 use Rattle.run_grows.proofs.Given.MomentsOver.{endings_are_over_whole}
 use Rattle.run_grows.proofs.Given.HistoriesAside.Stays.{as_called_stays, dues_stay}
 use Rattle.run_grows.specs.Given.FindsCapacities.{StoodSo}
-use Rattle.run_grows.specs.Given.KeptKept.{ShowsKept}
+use Rattle.run_grows.specs.Given.KeptKept.{RefinesKept}
 use Rattle.run_grows.proofs.Given.KeptOthers.{endings_begin_kept}
 use Rattle.run_grows.proofs.Given.KeptStays.{makings_begin_kept, stays_kept}
-use Rattle.run_grows.proofs.Given.PurposesElsewhere.{purposes_stay}
+use Rattle.run_sweeps.proofs.Purposes.Elsewhere.{purposes_stay}
 use Rattle.run_grows.proofs.Given.ShardsShardBetween.{counters_stay}
 use Rattle.run_grows.proofs.Given.ShardsShardOthers.{endings_begin_counters, makings_begin_counters}
 use Rattle.run_legal.specs.Between.{EndsBegin, MakingsBegin, MapsCome, MapsGo}
@@ -95,7 +95,7 @@ module _ (K V : Type 0) (same : K → K → Bool) (hash : ℕ → K → ℕ) whe
     purposes = (purposes_stay K V same hash name log).endings_begin m known s old new at all.whole all.purposes map i standing there at2;
   }
     where
-      kept : ShowsKept name m known (ending_begun map i standing s)
+      kept : RefinesKept name m known (ending_begun map i standing s)
       kept = endings_begin_kept K V same hash name m known s old new at all.kept map i standing idle at2
 
       stood : StoodSo s (ending_begun map i standing s)

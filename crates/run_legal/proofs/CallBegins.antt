@@ -18,11 +18,11 @@ use Rattle.run_grows.specs.Given.FollowsCalls.{IsCalled}
 use Rattle.run_grows.proofs.Given.FollowsCalling.{is_same_refl}
 use Rattle.run_grows.proofs.Given.HandsAsking.{which}
 use Rattle.run_grows.proofs.Given.ChangesLogs.{events_are}
-use Rattle.run_grows.specs.Given.PromisesReading.{LookupsStay, ShowsReading, looks}
+use Rattle.run_grows.specs.Given.PromisesReading.{LookupsStay, RefinesReadings, looks}
 use Rattle.run_grows.proofs.Given.PromisesBrief.Meanwhile.{calls_begin_readings, stands_so}
 use Rattle.run_grows.proofs.Given.PromisesBrief.Stays.{readings_stay}
 use Rattle.run_legal.specs.CallEvents.{NextsBegin, WholeCallsBegin}
-use Rattle.run_legal.specs.Carried.{ShowsCalls}
+use Rattle.run_legal.specs.Carried.{RefinesAllCalls}
 use Rattle.run_legal.proofs.Between.{calls_begin, walks_go_on}
 use Rattle.run_legal.proofs.Calls.{call_events_begin_so}
 use Rattle.run_grows.specs.Given.ScenesReplying.{scene_with}
@@ -62,7 +62,7 @@ nexts_begin K V same hash name terms log known s old new at run i leads map o he
     next : UnderWay K V K
     next = (leads map (OverAll o) here).0
 
-    shown : ShowsCalls same name (past log) (moment log) known (scene_with map i next s)
+    shown : RefinesAllCalls same name (past log) (moment log) known (scene_with map i next s)
     shown = walks_go_on K V same hash name (past log) (moment log) known s old new at run.calls i leads map o here is
 
     -- it is none, and all others are as they were
@@ -85,5 +85,5 @@ nexts_begin K V same hash name terms log known s old new at run i leads map o he
       maps = λ n j x x_is st there. stands_so s.maps n st there;
     }
 
-    reading : ShowsReading name (past log) (λ j. 0) (moment log) (scene_with map i next s)
+    reading : RefinesReadings name (past log) (λ j. 0) (moment log) (scene_with map i next s)
     reading = readings_stay K V name (past log) (λ j. 0) (λ j. 0) (moment log) (moment log) s (scene_with map i next s) stay run.reading

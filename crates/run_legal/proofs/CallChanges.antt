@@ -15,15 +15,15 @@ use Rattle.run_grows.specs.Given.EffectsEffects.{effects_of}
 use Rattle.run_grows.specs.Given.EffectsKnown.{Known}
 use Rattle.run_grows.specs.Given.EffectsDeclared.acting.Acting.TheVariants as acts
 use Rattle.run_grows.specs.Given.FinishesMachines.{machine_of}
-use Rattle.run_grows.specs.Given.MomentsWhole.{ShowsWhole}
+use Rattle.run_grows.specs.Given.MomentsWhole.{RefinesWhole}
 use Rattle.run_grows.specs.Given.HistoriesInEvent.{InEvent}
 use Rattle.run_grows.specs.Given.ChangesKept.{ChangesFirst}
 use Rattle.run_grows.proofs.Given.HistoriesOtherMidsts.{first_change as other_changes_first}
 use Rattle.run_grows.proofs.Given.HistoriesSeveral.{first_change as key_changes_first}
 use Rattle.run_grows.specs.Given.PurposesShards.{NoneCounted, ReadsShards}
-use Rattle.run_grows.proofs.Given.PurposesShardsRead.{steps_read_shards}
+use Rattle.run_sweeps.proofs.Purposes.ShardsRead.{steps_read_shards}
 use Rattle.run_grows.specs.Given.ShardsShardSteps.{AddsUp}
-use Rattle.run_grows.specs.Given.ShardsShardWords.{ShowsCounters}
+use Rattle.run_grows.specs.Given.ShardsShardWords.{RefinesCounters}
 use Rattle.run_grows.specs.Given.ScenesHeld.{Held, IsAt}
 use Rattle.run_grows.specs.Given.ScenesScene.{Scene}
 use Rattle.run_grows.specs.Given.ScenesStepping.{StepLeads}
@@ -64,7 +64,7 @@ module _ {K V : Type 0} (same : K → K → Bool) (hash : ℕ → K → ℕ) (s 
       let to = leads map (OverAll o) here in absurd (of_sweep x to.4.did.0 (goes_as_one to.1 said to.4.next to.4.goes_on x goes ∙ to.4.did.2) adds)
 
 module _ (K V : Type 0) (same : K → K → Bool) (hash : ℕ → K → ℕ) (name : ℕ → List ℕ) (log : List (Entry K V)) (m : Moment K V) (known : Known) (s : Scene K V) (old new : Held K V)
-    (at : IsAt same hash old s) (whole : ShowsWhole same name m known s) (counters : ShowsCounters name m s) (map i : ℕ) (u : UnderWay K V K) (here : s.calls map i ≡ Some u) (said : Progress (Node K V))
+    (at : IsAt same hash old s) (whole : RefinesWhole same name m known s) (counters : RefinesCounters name m s) (map i : ℕ) (u : UnderWay K V K) (here : s.calls map i ≡ Some u) (said : Progress (Node K V))
     (leads : StepLeads same hash i said s old new) (unadded : AddsUp u → NoneCounted (past log) m map) where
   -- it reads them as they are, if none was counted on before,
   pub reads_shards : ReadsShards (past log) m s map u

@@ -22,7 +22,7 @@ use Rattle.run_grows.specs.Given.ModelsFollows.{FollowsModel}
 use Rattle.run_grows.proofs.Given.ModelsCallEvents.{call_events_go_on, call_events_pause, others_hand_over}
 use Rattle.run_grows.proofs.Given.ModelsMapEvents.{moments_note_once}
 use Rattle.run_legal.specs.CallEvents.{CallEventsFollow}
-use Rattle.run_legal.specs.Carried.{ComesAlone, FollowsOrRows}
+use Rattle.run_legal.specs.Carried.{IsSequential, FollowsOrRows}
 use Rattle.run_legal.proofs.Calls.{out_of_slots}
 use Rattle.run_grows.specs.Given.ScenesScene.{slot_of}
 use Rattle.run_grows.specs.Given.SchedulesTransition.{past}
@@ -40,10 +40,10 @@ of_no_slot _ out = tt
 
 -- what is so of an event that comes alone, and was not kept out, is so where calls come one after another still
 module _ {K V : Type 0} (terms : Terms) (log : List (Entry K V)) (e : Entry K V) (busy : is_busy e.outcome ≡ false) where
-  pub was_alone : (after e (moment log)).is_alone ≡ true → ComesAlone e.event log
+  pub was_alone : (after e (moment log)).is_alone ≡ true → IsSequential e.event log
   was_alone alone = subst (λ (q : Bool). ((moment log).is_alone && (q || list_all (is_by (speaker e.event)) (moment log).calls)) ≡ true) busy alone
 
-  pub by_model_so : (ComesAlone e.event log → IsByModel terms log e) → IsByModel terms log e
+  pub by_model_so : (IsSequential e.event log → IsByModel terms log e) → IsByModel terms log e
   by_model_so so = by (after e (moment log)).is_alone refl
     where
       by : (q : Bool) → (after e (moment log)).is_alone ≡ q → IsByModel terms log e
@@ -68,7 +68,7 @@ call_events_follow K V same hash name terms log beginning map i c steps done m k
     then_world = (leads map u here).4.w2
 
     -- in its midst still, by all that it does
-    in_event : ComesAlone e.event log → FollowsInEvent terms.batch_size terms.roots (things_in log) (sets_in terms.batch_size log) (slot_of i) i e.effects then_known then_world
+    in_event : IsSequential e.event log → FollowsInEvent terms.batch_size terms.roots (things_in log) (sets_in terms.batch_size log) (slot_of i) i e.effects then_known then_world
     in_event alone =
         subst (λ (fs : List Effect). FollowsInEvent terms.batch_size terms.roots (things_in log) (sets_in terms.batch_size log) (slot_of i) i fs then_known then_world) (sym effects_are)
         (subst (λ (n : ℕ). FollowsInEvent n terms.roots (things_in log) (sets_in terms.batch_size log) (slot_of i) i (done ++ effects) then_known then_world) size
@@ -83,7 +83,7 @@ call_events_follow K V same hash name terms log beginning map i c steps done m k
     changes_are : changes_of log e ≡ flat_map (handing (things_in (e ∷ log)) (slot_of i)) e.effects
     changes_are = subst (λ (n : ℕ). changes_of log e ≡ flat_map (handing (things_in (e ∷ log)) n) e.effects) slot (others_hand_over K V log e (of_no_slot e.event out)).0
 
-    over : ComesAlone e.event log → IsByModel terms log e × (FollowsModel terms.batch_size terms.roots (e ∷ log) then_known then_world
+    over : IsSequential e.event log → IsByModel terms log e × (FollowsModel terms.batch_size terms.roots (e ∷ log) then_known then_world
         ⊎ IsInItsRow terms.batch_size terms.roots (things_in (e ∷ log)) (sets_in terms.batch_size (e ∷ log)) (slot_of i) i then_known then_world)
     over alone = call_events_pause K V terms log e (slot_of i) i then_known then_world (in_event alone) changes_are (others_hand_over K V log e (of_no_slot e.event out)).1 (active alone)
 

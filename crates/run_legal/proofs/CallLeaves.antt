@@ -14,7 +14,7 @@ use Rattle.run_grows.specs.Given.RunsDeclared.outcome.Outcome.TheVariants as out
 use Rattle.run_grows.specs.Given.SchedulesAfter.{moment}
 use Rattle.run_grows.specs.Given.SchedulesEffects.{with_effects, worked}
 use Rattle.run_grows.specs.Given.SchedulesEntry.{IfCall, acting, caller_of}
-use Rattle.run_grows.specs.Given.SchedulesHanding.{LeavesOf, comes_clear}
+use Rattle.run_grows.specs.Given.SchedulesHanding.{LeavesOf, is_clear_outcome}
 use Rattle.run_grows.specs.Given.SchedulesMoment.{UnderWay as CallThere, Moment}
 use Rattle.run_grows.specs.Given.SchedulesViews.{call_of}
 use Rattle.run_grows.specs.Given.CallersTogether.{UnderWay}
@@ -22,7 +22,7 @@ use Rattle.run_grows.specs.Given.EffectsEffects.{effects_of, known_after}
 use Rattle.run_grows.specs.Given.EffectsKnown.{Known}
 use Rattle.run_grows.specs.Given.EffectsDeclared.acting.Acting.TheVariants as acts
 use Rattle.run_grows.specs.Given.FinishesMachines.{machine_of}
-use Rattle.run_grows.specs.Given.KeptKept.{ShowsKept}
+use Rattle.run_grows.specs.Given.KeptKept.{RefinesKept}
 use Rattle.run_grows.proofs.Given.KeptCalls.{calls_keep_kept, own_made}
 use Rattle.run_grows.specs.Given.OwesEvents.{LeavesNothingMade}
 use Rattle.run_grows.proofs.Given.OwesEvents.{events_leave_nothing_made}
@@ -32,7 +32,7 @@ use Rattle.run_grows.specs.Given.SettlesCounts.{HasToCount, counts_in_sweeping, 
 use Rattle.run_grows.proofs.Given.SettlesCalls.{calls_keep_counts, goes_as_one}
 use Rattle.run_grows.proofs.Given.SettlesHand.Asked.{walks_have_nothing}
 use Rattle.run_grows.proofs.Given.SettlesHand.Calls.{calls_keep_owed}
-use Rattle.run_legal.specs.CallRuns.{CallsLeaveNothing, TellsEnd}
+use Rattle.run_legal.specs.CallRuns.{CallsLeaveNothing, OutcomeEndsAsStep}
 use Rattle.run_grows.proofs.Given.ScenesGoes.{goes_as}
 use Rattle.run_grows.specs.Given.ScenesScene.{Scene}
 use Rattle.run_grows.specs.Given.ScenesStepping.{has_ended, scene_after}
@@ -51,14 +51,14 @@ none_asked (kinds.Count sum) is = absurd (cc is)
 
 -- it is clear where its call has ended, or is ready
 module _ {K V : Type 0} (said : Progress (Node K V)) where
-  over_so : (told : Outcome V) → TellsEnd said told → comes_clear told ≡ true → (has_ended said ≡ true) ⊎ (said ≡ progress.Ready)
+  over_so : (told : Outcome V) → OutcomeEndsAsStep said told → is_clear_outcome told ≡ true → (has_ended said ≡ true) ⊎ (said ≡ progress.Ready)
   over_so outcome.Ready tells clear = inr (tells.ready refl)
   over_so told tells clear = inl (sym tells.ends ∙ clear)
 
 module _ (K V : Type 0) (same : K → K → Bool) (hash : ℕ → K → ℕ) where
   pub calls_leave_nothing : CallsLeaveNothing K V same hash
   calls_leave_nothing name log m known s old new at whole kept map i u here said leads e caller worked_is tells =
-      subst (λ (o : Option (CallThere K V)). IfCall (LeavesOf (comes_clear e.outcome) e.outcome) o) (sym acts_by) (by (call_of (name i) v) refl)
+      subst (λ (o : Option (CallThere K V)). IfCall (LeavesOf (is_clear_outcome e.outcome) e.outcome) o) (sym acts_by) (by (call_of (name i) v) refl)
     where
       v : Moment K V
       v = with_effects (Some (name i)) (Some map) (effects_of (acts.Call i map) known new.changed) m
@@ -72,7 +72,7 @@ module _ (K V : Type 0) (same : K → K → Bool) (hash : ℕ → K → ℕ) whe
       acts_by : acting (caller_of e.event) (worked e (moment log)) ≡ call_of (name i) v
       acts_by = ap (λ (who : Option (List ℕ)). acting who (worked e (moment log))) caller ∙ ap (λ (x : Moment K V). call_of (name i) x) worked_is
 
-      after : ShowsKept name v then_known s2
+      after : RefinesKept name v then_known s2
       after = calls_keep_kept K V same hash name m known s old new at whole kept map i u here said leads
 
       -- its call is under way no more, or it is ready
@@ -115,7 +115,7 @@ module _ (K V : Type 0) (same : K → K → Bool) (hash : ℕ → K → ℕ) whe
       made_none so d d_is = subst (λ (o : Option (CallThere K V)). IfCall (LeavesNothingMade e.outcome) o) (acts_by ∙ d_is)
           (events_leave_nothing_made K V same hash name m known s old new at whole kept.made kept.tables kept.short map i u here said leads (over so) log e caller tells.memory worked_is)
 
-      leaves : (q : Bool) → comes_clear e.outcome ≡ q → (d : CallThere K V) → call_of (name i) v ≡ Some d → LeavesOf q e.outcome d
+      leaves : (q : Bool) → is_clear_outcome e.outcome ≡ q → (d : CallThere K V) → call_of (name i) v ≡ Some d → LeavesOf q e.outcome d
       leaves false none d d_is = tt
       leaves true clear d d_is =
           let so = over_so said e.outcome tells clear in
@@ -123,6 +123,6 @@ module _ (K V : Type 0) (same : K → K → Bool) (hash : ℕ → K → ℕ) whe
           let its = clear_then so d d_is in
           (record { owes = its.0; block = none.0; table = none.1; counted = its.1 }, none.2)
 
-      by : (found : Option (CallThere K V)) → call_of (name i) v ≡ found → IfCall (LeavesOf (comes_clear e.outcome) e.outcome) found
+      by : (found : Option (CallThere K V)) → call_of (name i) v ≡ found → IfCall (LeavesOf (is_clear_outcome e.outcome) e.outcome) found
       by None none = tt
-      by (Some d) d_is = leaves (comes_clear e.outcome) refl d d_is
+      by (Some d) d_is = leaves (is_clear_outcome e.outcome) refl d d_is

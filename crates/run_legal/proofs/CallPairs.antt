@@ -17,20 +17,20 @@ use Rattle.run_grows.specs.Given.EffectsKnown.{Known}
 use Rattle.run_grows.specs.Given.EffectsDeclared.acting.Acting.TheVariants as acts
 use Rattle.run_grows.specs.Given.FinishesMaps.{Standing}
 use Rattle.run_grows.proofs.Given.FollowsContents.{lasts_more}
-use Rattle.run_grows.specs.Given.MomentsWhole.{ShowsWhole}
+use Rattle.run_grows.specs.Given.MomentsWhole.{RefinesWhole}
 use Rattle.run_grows.specs.Given.HistoriesInEvent.{InEvent, here_of}
 use Rattle.run_grows.specs.Given.ChangesKept.{HasJustBegun}
 use Rattle.run_grows.proofs.Given.HistoriesAnyCall.InEvent.{events_keep_all}
 use Rattle.run_grows.proofs.Given.HistoriesRetaining.{found_there}
-use Rattle.run_grows.specs.Given.PurposesKept.{NoneCame, PairsChangeFirst}
-use Rattle.run_grows.specs.OwnPairs.{EachIsItsOwn}
+use Rattle.run_sweeps.specs.Purposes.Kept.{NoneCame, PairsChangeFirst}
+use Rattle.run_sweeps.specs.OwnPairs.{EachIsItsOwn}
 use Rattle.run_legal.proofs.CallChanges.{changes_first}
 use Rattle.run_grows.specs.Given.ScenesHeld.{Held, IsAt}
 use Rattle.run_grows.specs.Given.ScenesScene.{Scene}
 use Rattle.run_grows.specs.Given.ScenesStepping.{StepLeads, scene_after}
 use Rattle.run_grows.specs.Given.SchedulesTransition.{past}
 use Rattle.run_grows.proofs.Given.General.{same_some as one_of}
-use Rattle.run_grows.proofs.OwnPairs.{each_is_its_own}
+use Rattle.run_sweeps.proofs.OwnPairs.{each_is_its_own}
 
 -- what was stored has its number still
 module _ {K V : Type 0} (caller : Option (List ℕ)) (acted : Option ℕ) where
@@ -44,7 +44,7 @@ module _ {K V : Type 0} (caller : Option (List ℕ)) (acted : Option ℕ) where
   stored_lasts (f ∷ effects) m n p is = stored_lasts effects (with_effect caller acted f m) n p (one_lasts (acting caller m) f m.stored n p is)
 
 module _ {K V : Type 0} (same : K → K → Bool) (hash : ℕ → K → ℕ) (name : ℕ → List ℕ) (log : List (Entry K V)) (beginning : Moment K V) (map i : ℕ) (c : CallThere K V) (done : List Effect) (m : Moment K V)
-    (known : Known) (s : Scene K V) (whole : ShowsWhole same name m known s) (old new : Held K V) (at : IsAt same hash old s) (said : Progress (Node K V)) (leads : StepLeads same hash i said s old new)
+    (known : Known) (s : Scene K V) (whole : RefinesWhole same name m known s) (old new : Held K V) (at : IsAt same hash old s) (said : Progress (Node K V)) (leads : StepLeads same hash i said s old new)
     (u : UnderWay K V K) (midst : InEvent same name (past log) beginning map i c done m known s u) (begun : HasJustBegun (past log) beginning) (its_worked : m ≡ with_effects (Some (name i)) (Some map) done beginning)
     (own_first : EachIsItsOwn same map (moment log)) where
   abbrev here : s.calls map i ≡ Some u

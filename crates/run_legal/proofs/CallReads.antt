@@ -25,7 +25,7 @@ use Rattle.run_grows.specs.Given.EffectsDeclared.acting.Acting.TheVariants as ac
 use Rattle.run_grows.proofs.Given.MomentsAfter.{effects_after}
 use Rattle.run_grows.specs.Given.HistoriesInEvent.{InEvent, here_of}
 use Rattle.run_grows.specs.Given.HistoriesSeveral.{IsSameCall}
-use Rattle.run_grows.specs.Given.PromisesReading.{HasLooked, ShowsReading, looks}
+use Rattle.run_grows.specs.Given.PromisesReading.{HasLooked, RefinesReadings, looks}
 use Rattle.run_grows.proofs.Given.PromisesBrief.Ends.{events_read_briefly}
 use Rattle.run_grows.proofs.Given.PromisesBrief.Meanwhile.{effects_steps, others_keep_readings}
 use Rattle.run_grows.proofs.Given.PromisesBrief.Own.{lookups_do_nothing}
@@ -105,14 +105,14 @@ module _ (K V : Type 0) (same : K → K → Bool) (hash : ℕ → K → ℕ) (na
       let kept = effects_steps (name i) map (name i) effects m its.0 its.1 in
       let one : d ≡ kept.0 = one_of d kept.0 (sym d_is ∙ kept.1) in ap (λ (x : CallThere K V). looks x.call) one ∙ ap looks kept.3 ∙ looks_same ∙ no_look
 
-  pub readings_go_on : ShowsReading name (past log) (λ j. if j == i then steps + 1 else 0) v s2
+  pub readings_go_on : RefinesReadings name (past log) (λ j. if j == i then steps + 1 else 0) v s2
   readings_go_on = by (looks c.call) refl
     where
-      by : (q : Bool) → looks c.call ≡ q → ShowsReading name (past log) (λ j. if j == i then steps + 1 else 0) v s2
+      by : (q : Bool) → looks c.call ≡ q → RefinesReadings name (past log) (λ j. if j == i then steps + 1 else 0) v s2
       by true looks_for =
           let r = lookups_keep_readings K V same hash name (past log) made m known s old new at_old midst.calls.whole midst.reading (midst.quiet looks_for).0 (midst.quiet looks_for).1 map i u here said leads
           its.0 its.1 (looks_same ∙ looks_for) in
-          subst (λ (x : Moment K V). ShowsReading name (past log) (λ j. if j == i then steps + 1 else 0) x s2) (sym (does_nothing looks_for)) (record {
+          subst (λ (x : Moment K V). RefinesReadings name (past log) (λ j. if j == i then steps + 1 else 0) x s2) (sym (does_nothing looks_for)) (record {
             past = r.past;
             begun = r.begun;
             reads = λ n j x is d d_is d_looks standing there.

@@ -25,29 +25,29 @@ use Rattle.run_grows.specs.Given.FollowsCalling.{NoneNamed, come_to}
 use Rattle.run_grows.proofs.Given.FollowsCalling.{is_same_refl}
 use Rattle.run_grows.proofs.Given.HandsAsking.{which}
 use Rattle.run_grows.specs.Given.HistoriesInEvent.{here_of}
-use Rattle.run_grows.specs.Given.HistoriesQuestions.{EventAsksStill, ShowsQuestions}
-use Rattle.run_grows.specs.Given.MomentsWhole.{ShowsWhole}
+use Rattle.run_grows.specs.Given.HistoriesQuestions.{EventAsksStill, AllHaveAskedJust}
+use Rattle.run_grows.specs.Given.MomentsWhole.{RefinesWhole}
 use Rattle.run_grows.proofs.Given.HistoriesAnyCall.InEvent.{events_end, events_keep_all}
 use Rattle.run_grows.proofs.Given.HistoriesAnyCall.Over.{none_named}
 use Rattle.run_grows.proofs.Given.HistoriesQuestions.{calls_begin_questions}
-use Rattle.run_grows.specs.Given.PurposesPurposes.{ShowsPurposes}
-use Rattle.run_grows.proofs.Given.PurposesBetween.{calls_come_to_purposes}
-use Rattle.run_grows.proofs.Given.PurposesKept.{calls_keep_purposes}
-use Rattle.run_grows.proofs.Given.PurposesWalks.{walks_show_purposes}
-use Rattle.run_grows.specs.Given.PromisesReading.{ShowsReading, looks}
+use Rattle.run_grows.specs.Given.PurposesPurposes.{RefinesPurposes}
+use Rattle.run_sweeps.proofs.Purposes.Between.{calls_come_to_purposes}
+use Rattle.run_sweeps.proofs.Purposes.Kept.{calls_keep_purposes}
+use Rattle.run_sweeps.proofs.Purposes.Walks.{walks_show_purposes}
+use Rattle.run_grows.specs.Given.PromisesReading.{RefinesReadings, looks}
 use Rattle.run_grows.specs.Given.PromisesSheltered.{SectionsHold}
 use Rattle.run_grows.proofs.Given.PromisesBrief.Meanwhile.{calls_come_to_readings}
 use Rattle.run_grows.specs.Given.FindsLittle.{AllIsBack, ReclaimsAll, WhereAll}
 use Rattle.run_grows.specs.Given.SchedulesReclaims.{ComesLast}
 use Rattle.run_grows.specs.Given.SchedulesModel.{all_left, thing_back, IsByModel}
 use Rattle.run_legal.specs.CallEvents.{IsLegalBut}
-use Rattle.run_legal.specs.CallRuns.{CallEventsRun, ShowsAsTold}
+use Rattle.run_legal.specs.CallRuns.{CallEventsRun, OutcomeNamesShown}
 use Rattle.run_legal.specs.Carried.{FollowsOrRows}
 use Rattle.run_legal.proofs.CallChanges.{changes_first, reads_shards}
 use Rattle.run_legal.proofs.CallFollows.{call_events_follow}
 use Rattle.run_grows.proofs.Given.MomentsAfter.{effects_after}
 use Rattle.run_legal.proofs.CallLeaves.{calls_leave_nothing}
-use Rattle.run_grows.specs.Given.PurposesKept.{PairsChangeFirst}
+use Rattle.run_sweeps.specs.Purposes.Kept.{PairsChangeFirst}
 use Rattle.run_legal.proofs.CallPairs.{begun_so, pairs_first}
 use Rattle.run_legal.proofs.CallReads.{readings_go_on}
 use Rattle.run_legal.proofs.CallsAfter.{call_events_end_so}
@@ -58,10 +58,10 @@ use Rattle.run_grows.specs.Given.SchedulesTransition.{past, transition}
 
 module _ {K V : Type 0} (own : List ℕ) where
   -- what calls have asked is so where such an event has begun what it begins
-  questions_begun : (event : Event K V) (came : Outcome V) (m : Moment K V) → caller_of event ≡ Some own → ShowsQuestions m → ShowsQuestions (begun event came m)
+  questions_begun : (event : Event K V) (came : Outcome V) (m : Moment K V) → caller_of event ≡ Some own → AllHaveAskedJust m → AllHaveAskedJust (begun event came m)
   questions_begun (OneCall guard on call) came m is questions = by (is_busy came)
     where
-      by : (q : Bool) → ShowsQuestions (if q then m else with_call nameless guard call (number_of on m) m)
+      by : (q : Bool) → AllHaveAskedJust (if q then m else with_call nameless guard call (number_of on m) m)
       by true = questions
       by false = calls_begin_questions K V nameless guard call (number_of on m) m questions
   questions_begun (Step caller refuse) came m is questions = questions
@@ -87,7 +87,7 @@ call_events_run K V same hash name terms log beginning map i c c_is first before
       (reclaims_none (name i) log e midst.of_call) (purposes shows) reading legal.1 by_model.1,
 )
   where
-    whole : ShowsWhole same name m known s
+    whole : RefinesWhole same name m known s
     whole = midst.calls.whole
 
     here : s.calls map i ≡ Some u
@@ -105,8 +105,8 @@ call_events_run K V same hash name terms log beginning map i c c_is first before
     come : Moment K V
     come = come_to (name i) e.outcome e.steps v
 
-    questions : ShowsQuestions beginning
-    questions = subst (λ (b : Moment K V). ShowsQuestions b) begins (questions_begun (name i) e.event e.outcome (moment log) midst.of_call run.calls.questions)
+    questions : AllHaveAskedJust beginning
+    questions = subst (λ (b : Moment K V). AllHaveAskedJust b) begins (questions_begun (name i) e.event e.outcome (moment log) midst.of_call run.calls.questions)
 
     asked : EventAsksStill log e
     asked = (events_end K V same hash name (past log) beginning map i c c_is questions done m known s u midst.event_so old new at said leads (transition log e) midst.of_call begins (ap (acted_on e.event) begins ∙ acted) effects_are comes).1
@@ -128,7 +128,7 @@ call_events_run K V same hash name terms log beginning map i c c_is first before
         (let one : e.steps ≡ steps + 1 = steps_are in omega (arith, one)) swept refuses
         (calls_leave_nothing K V same hash name log m known s old new at whole midst.calls.kept map i u here said leads e midst.of_call worked_is tells_end) by_model.0
 
-    all : ShowsWhole same name v then_known s2
+    all : RefinesWhole same name v then_known s2
     all = (events_keep_all K V same hash name (past log) beginning map i c done m known s u midst.event_so old new at said leads).0
 
     none : ends_call e.outcome ≡ true → NoneNamed name (name i) s2
@@ -139,23 +139,23 @@ call_events_run K V same hash name terms log beginning map i c c_is first before
         (begun_so same name log beginning map i c done m known s u midst.event_so) midst.worked midst.its_own
 
     -- what calls are for, once its call has come to that
-    purposes : ShowsAsTold then_known said e.outcome → ShowsPurposes same name (past log) come then_known s2
+    purposes : OutcomeNamesShown then_known said e.outcome → RefinesPurposes same name (past log) come then_known s2
     purposes (inl (silent, tells)) = calls_come_to_purposes K V same name (past log) v then_known s2
         (calls_keep_purposes K V same hash name (past log) m known s old new at whole midst.calls.purposes map i u here said leads pairs
         (changes_first same hash name log beginning map i c done m known s old new at said leads u midst.event_so)
         (reads_shards K V same hash name log m known s old new at whole midst.calls.counters map i u here said leads midst.unadded) silent) (name i) e.outcome e.steps tells none
-    purposes (inr (word, q, said_is, outcome_is, names)) = subst (λ (o : Outcome V). ShowsPurposes same name (past log) (come_to (name i) o e.steps v) then_known s2) (sym outcome_is)
+    purposes (inr (word, q, said_is, outcome_is, names)) = subst (λ (o : Outcome V). RefinesPurposes same name (past log) (come_to (name i) o e.steps v) then_known s2) (sym outcome_is)
         (shown_by said said_is leads)
       where
         shown_by : (told : Progress (Node K V)) → told ≡ progress.Pair word → (led : StepLeads same hash i told s old new)
-            → ShowsPurposes same name (past log) (come_to (name i) (outcome.Shows q) e.steps v) then_known (scene_after same s old new map i (led map u here).0 u (led map u here).1 told (led map u here).4)
+            → RefinesPurposes same name (past log) (come_to (name i) (outcome.Shows q) e.steps v) then_known (scene_after same s old new map i (led map u here).0 u (led map u here).1 told (led map u here).4)
         shown_by told is = subst (λ (x : Progress (Node K V)). (led : StepLeads same hash i x s old new)
-            → ShowsPurposes same name (past log) (come_to (name i) (outcome.Shows q) e.steps v) then_known (scene_after same s old new map i (led map u here).0 u (led map u here).1 x (led map u here).4)) (sym is)
+            → RefinesPurposes same name (past log) (come_to (name i) (outcome.Shows q) e.steps v) then_known (scene_after same s old new map i (led map u here).0 u (led map u here).1 x (led map u here).4)) (sym is)
             (λ led. walks_show_purposes K V same hash name (past log) m known s old new at whole midst.calls.purposes map i u here word led pairs
             (changes_first same hash name log beginning map i c done m known s old new at (progress.Pair word) led u midst.event_so) q e.steps names)
 
     -- lookups have made the steps of the event
-    reading : ShowsReading name (past log) (λ j. 0) come s2
+    reading : RefinesReadings name (past log) (λ j. 0) come s2
     reading = calls_come_to_readings K V same name (past log) (λ j. if j == i then steps + 1 else 0) v then_known s2 all
         (readings_go_on K V same hash name terms log e.event beginning map i c steps done m known s u midst old new at said leads) (name i) e.outcome e.steps none made
       where

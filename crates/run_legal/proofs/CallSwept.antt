@@ -17,21 +17,21 @@ use Rattle.run_grows.specs.Given.CallersTogether.{UnderWay, OnKey, ForRoom, Coun
 use Rattle.run_grows.specs.Given.EffectsEffects.{effects_of, known_after}
 use Rattle.run_grows.specs.Given.EffectsKnown.{Known}
 use Rattle.run_grows.specs.Given.EffectsDeclared.acting.Acting.TheVariants as acts
-use Rattle.run_grows.specs.Given.MomentsWhole.{ShowsWhole}
+use Rattle.run_grows.specs.Given.MomentsWhole.{RefinesWhole}
 use Rattle.run_grows.proofs.Given.MomentsAfter.{effects_after}
 use Rattle.run_grows.specs.Given.HistoriesInEvent.{InEvent, here_of}
 use Rattle.run_grows.specs.Given.HistoriesSeveral.{IsSameCall}
 use Rattle.run_grows.proofs.Given.HistoriesOtherMidsts.{fewer_so}
 use Rattle.run_grows.proofs.Given.PromisesBrief.Meanwhile.{effects_steps}
-use Rattle.run_grows.specs.Given.PurposesKept.{PairsChangeFirst}
+use Rattle.run_sweeps.specs.Purposes.Kept.{PairsChangeFirst}
 use Rattle.run_grows.specs.Given.PurposesShards.{ReadsShards}
-use Rattle.run_grows.specs.Given.PurposesSwept.{ComesSo as IsToldSo}
-use Rattle.run_grows.proofs.Given.PurposesFindsRoom.{reservations_are_swept}
-use Rattle.run_grows.proofs.Given.PurposesNothing.{calls_on_keys_are_swept, other_outcomes_are_swept}
-use Rattle.run_grows.proofs.Given.PurposesShows.{walks_show}
-use Rattle.run_grows.proofs.Given.PurposesShowsAll.{walks_show_all}
-use Rattle.run_grows.proofs.Given.PurposesSwept.{clearings_are_swept, countings_are_swept, retainings_are_swept}
-use Rattle.run_legal.specs.CallSwept.{CallsAreSwept, TellsOf}
+use Rattle.run_sweeps.specs.Purposes.Swept.{EndsWithOutcome as IsToldSo}
+use Rattle.run_sweeps.proofs.Purposes.FindsRoom.{reservations_are_swept}
+use Rattle.run_sweeps.proofs.Purposes.Nothing.{calls_on_keys_are_swept, other_outcomes_are_swept}
+use Rattle.run_sweeps.proofs.Purposes.Shows.{walks_show}
+use Rattle.run_sweeps.proofs.Purposes.ShowsAll.{walks_show_all}
+use Rattle.run_sweeps.proofs.Purposes.Swept.{clearings_are_swept, countings_are_swept, retainings_are_swept}
+use Rattle.run_legal.specs.CallSwept.{CallsAreSwept, OutcomeOf}
 use Rattle.run_legal.proofs.CallChanges.{reads_shards}
 use Rattle.run_legal.proofs.CallPairs.{begun_so, none_comes, pairs_first}
 use Rattle.run_legal.proofs.CallReads.{there_still}
@@ -41,7 +41,7 @@ use Rattle.run_grows.specs.Given.SchedulesTransition.{past, transition}
 pub calls_are_swept : (K V : Type 0) (same : K → K → Bool) (hash : ℕ → K → ℕ) → CallsAreSwept K V same hash
 calls_are_swept K V same hash name terms log beginning map i c steps done m known s u e midst old new at said leads begins acted effects_are mask tells = by c.call refl tells
   where
-    whole : ShowsWhole same name m known s
+    whole : RefinesWhole same name m known s
     whole = midst.calls.whole
 
     here : s.calls map i ≡ Some u
@@ -83,7 +83,7 @@ calls_are_swept K V same hash name terms log beginning map i c steps done m know
     Told : Outcome V → Type 0
     Told o = IsToldSo then_known said o
 
-    by : (call : Call K V) → c.call ≡ call → TellsOf same log m map then_known said e.outcome call → IsSwept same terms log e
+    by : (call : Call K V) → c.call ≡ call → OutcomeOf same log m map then_known said e.outcome call → IsSwept same terms log e
     by (On one) is told =
         let kept = effects_steps (name i) map (name i) (effects_of (acts.Call i map) known new.changed) m its.0 its.1 in
         calls_on_keys_are_swept K V same terms (past log) (transition log e) kept.0 one

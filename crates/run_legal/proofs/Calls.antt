@@ -19,11 +19,11 @@ use Rattle.run_grows.specs.Given.SchedulesMoment.{Moment}
 use Rattle.run_grows.specs.Given.EffectsEffects.{effects_of, known_after}
 use Rattle.run_grows.specs.Given.EffectsKnown.{Known}
 use Rattle.run_grows.specs.Given.EffectsDeclared.acting.Acting.TheVariants as acts
-use Rattle.run_grows.specs.Given.MomentsWhole.{ShowsWhole}
+use Rattle.run_grows.specs.Given.MomentsWhole.{RefinesWhole}
 use Rattle.run_grows.proofs.Given.MomentsAfter.{effects_after}
 use Rattle.run_grows.proofs.Given.MomentsNumbers.{numbers_are_below}
-use Rattle.run_grows.specs.Given.HistoriesAsCalled.{ShowsAsCalled}
-use Rattle.run_grows.specs.Given.HistoriesDue.{ShowsDue}
+use Rattle.run_grows.specs.Given.HistoriesAsCalled.{RefinesAsCalled}
+use Rattle.run_grows.specs.Given.HistoriesDue.{RefinesPendingAnswers}
 use Rattle.run_grows.specs.Given.HistoriesInEvent.{here_of}
 use Rattle.run_grows.proofs.Given.HistoriesAnyCall.InEvent.{events_begin, events_go_on, events_keep_all}
 use Rattle.run_grows.specs.Given.ModelsCallEvents.{FollowsInEvent, IsInItsRow}
@@ -38,12 +38,12 @@ use Rattle.run_grows.specs.Given.PromisesReading.{HasLooked, looks}
 use Rattle.run_grows.specs.Given.PromisesSheltered.{SectionsHold}
 use Rattle.run_grows.proofs.Given.PromisesProtected.{calls_protect}
 use Rattle.run_grows.proofs.Given.PromisesWeights.{grants_add_up, operations_are_single, parts_add_up}
-use Rattle.run_legal.specs.CallEvents.{CallEventsBegin, CallEventsGoOn}
-use Rattle.run_grows.proofs.Given.PurposesShardsRead.{events_begin_uncounted}
+use Rattle.run_legal.specs.CallEvents.{CallEventsBegin, CallEventsContinue}
+use Rattle.run_sweeps.proofs.Purposes.ShardsRead.{events_begin_uncounted}
 use Rattle.run_legal.proofs.CallChanges.{changes_first, reads_shards, unadded_still}
 use Rattle.run_grows.proofs.Given.HistoriesSeveral.{stands}
 use Rattle.run_legal.proofs.CallPairs.{begun_so, pairs_first}
-use Rattle.run_grows.proofs.OwnPairs.{each_is_its_own, own_alike}
+use Rattle.run_sweeps.proofs.OwnPairs.{each_is_its_own, own_alike}
 use Rattle.run_legal.proofs.CallReads.{does_nothing, readings_go_on}
 use Rattle.run_grows.proofs.Grows.Limits.Shows.{limits_at_first}
 use Rattle.run_grows.proofs.Grows.Limits.Steps.{limits_others}
@@ -127,7 +127,7 @@ out_of_slots own (Go caller refuse) is = refl
 out_of_slots own (Next caller) is = refl
 out_of_slots own _ is = absurd (cc is)
 
-pub call_events_go_on_so : (K V : Type 0) (same : K → K → Bool) (hash : ℕ → K → ℕ) → CallEventsGoOn K V same hash
+pub call_events_go_on_so : (K V : Type 0) (same : K → K → Bool) (hash : ℕ → K → ℕ) → CallEventsContinue K V same hash
 call_events_go_on_so K V same hash name terms log event beginning map i c steps done m known s u midst old new at size said leads none noted next next_is = record {
   of_call = midst.of_call;
   event_so = events_go_on K V same hash name (past log) beginning map i c done m known s u midst.event_so old new at said leads next next_is;
@@ -159,7 +159,7 @@ call_events_go_on_so K V same hash name terms log event beginning map i c steps 
       (subst (λ (n : ℕ). FollowsInEvent n terms.roots (things_in log) (sets_in terms.batch_size log) (slot_of i) i done known s.world) (sym size) (midst.follows alone)) noted);
 }
   where
-    whole : ShowsWhole same name m known s
+    whole : RefinesWhole same name m known s
     whole = midst.calls.whole
 
     here : s.calls map i ≡ Some u
@@ -182,7 +182,7 @@ call_events_go_on_so K V same hash name terms log event beginning map i c steps 
     below =
         let there = (whole.all.shown.maps map (leads map u here).0 (leads map u here).2).there in numbers_are_below K V m midst.calls.numbers.0 map there.there there.is
 
-    all : ShowsWhole same name v then_known s2 × ShowsDue same name (past log) v then_known s2 × ShowsAsCalled same name v then_known s2
+    all : RefinesWhole same name v then_known s2 × RefinesPendingAnswers same name (past log) v then_known s2 × RefinesAsCalled same name v then_known s2
     all = events_keep_all K V same hash name (past log) beginning map i c done m known s u midst.event_so old new at said leads
 
     -- a lookup does nothing by its steps

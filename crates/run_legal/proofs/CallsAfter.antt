@@ -10,15 +10,15 @@ use Rattle.run_grows.specs.Given.SchedulesEntry.{caller_of, Entry, acted_on, end
 use Rattle.run_grows.specs.Given.SchedulesMoment.{Moment, UnderWay as CallThere}
 use Rattle.run_grows.specs.Given.EffectsEffects.{effects_of, known_after}
 use Rattle.run_grows.specs.Given.EffectsKnown.{Known}
-use Rattle.run_grows.specs.Given.MomentsWhole.{ShowsWhole}
+use Rattle.run_grows.specs.Given.MomentsWhole.{RefinesWhole}
 use Rattle.run_grows.proofs.Given.MomentsAfter.{effects_after}
 use Rattle.run_grows.proofs.Given.MomentsNewMaps.{effects_keep_pairs}
 use Rattle.run_grows.proofs.Given.MomentsNumbers.{numbers_are_below, steps_keep_numbers}
-use Rattle.run_grows.specs.Given.KeptKept.{ShowsKept}
+use Rattle.run_grows.specs.Given.KeptKept.{RefinesKept}
 use Rattle.run_grows.proofs.Given.KeptCalls.{calls_keep_kept}
 use Rattle.run_grows.proofs.Given.ShardsShardCalls.{calls_keep_counters}
-use Rattle.run_grows.specs.Given.HistoriesAsCalled.{ShowsAsCalled}
-use Rattle.run_grows.specs.Given.HistoriesDue.{ShowsDue}
+use Rattle.run_grows.specs.Given.HistoriesAsCalled.{RefinesAsCalled}
+use Rattle.run_grows.specs.Given.HistoriesDue.{RefinesPendingAnswers}
 use Rattle.run_grows.specs.Given.HistoriesInEvent.{here_of}
 use Rattle.run_grows.proofs.Given.HistoriesQuestions.{events_keep_questions}
 use Rattle.run_grows.proofs.Given.HistoriesAnyCall.InEvent.{events_keep_all}
@@ -26,15 +26,15 @@ use Rattle.run_grows.specs.Given.FindsLife.{StoresOne}
 use Rattle.run_grows.proofs.Given.FindsQuiet.{several_store_one}
 use Rattle.run_grows.proofs.Given.FindsSteps.{steps_store_one}
 use Rattle.run_grows.specs.Given.PromisesReading.{LookupsStay}
-use Rattle.run_grows.proofs.Given.PurposesTableless.{events_keep_tableless}
+use Rattle.run_sweeps.proofs.Purposes.Tableless.{events_keep_tableless}
 use Rattle.run_legal.specs.CallEvents.{CallEventsEnd}
 use Rattle.run_grows.specs.Given.RunsDeclared.outcome.Outcome.{Outcome}
 use Rattle.run_grows.specs.Given.MomentsNumbers.{NumbersMaps, PairsAreBelow}
 use Rattle.run_grows.specs.Given.FollowsCalling.{come_to, NoneNamed}
 use Rattle.run_grows.specs.Given.OthersElsewhere.{HasSame}
 use Rattle.run_grows.proofs.Given.HistoriesAnyCall.Over.{events_are_over, like_over, none_named}
-use Rattle.run_grows.proofs.Given.PurposesBetween.{events_keep_purposes}
-use Rattle.run_grows.proofs.Given.PurposesElsewhere.{purposes_stay}
+use Rattle.run_sweeps.proofs.Purposes.Between.{events_keep_purposes}
+use Rattle.run_sweeps.proofs.Purposes.Elsewhere.{purposes_stay}
 use Rattle.run_grows.proofs.Given.KeptStays.{stays_kept, calls_come_to_kept}
 use Rattle.run_grows.proofs.Given.ShardsShardBetween.{counters_stay, calls_come_to_counters}
 use Rattle.run_grows.proofs.Given.PromisesBrief.Stays.{events_keep_readings, readings_stay}
@@ -45,17 +45,17 @@ use Rattle.run_grows.specs.Given.RunsSame.{is_same}
 use Rattle.run_legal.proofs.LeftTold.{events_tell_left}
 use Rattle.run_grows.specs.Given.EffectsDeclared.acting.Acting.TheVariants as acts
 use Rattle.run_legal.specs.Carried.{NoneCounted}
-use Rattle.run_grows.proofs.Given.SourcesSteps.{calls_keep_sources}
+use Rattle.run_grows.proofs.Sources.Steps.{calls_keep_sources}
 use Rattle.run_legal.proofs.Sourced.{sources_so}
 use Rattle.run_grows.proofs.Grows.Finding.Alike.{finding_fewer, stood_as}
 use Rattle.run_grows.proofs.Grows.Finding.Calls.{calls_keep_finding}
 use Rattle.run_grows.proofs.Grows.Finding.Nexts.{calls_come_to_nexts, next_same, nexts_alike, nexts_go_on, nexts_grow}
-use Rattle.run_grows.specs.Grows.Limits.{ShowsLimits}
-use Rattle.run_grows.specs.Grows.Nexts.{ShowsNexts}
+use Rattle.run_grows.specs.Grows.Limits.{RefinesLimits}
+use Rattle.run_grows.specs.Grows.Nexts.{RefinesNexts}
 use Rattle.run_grows.proofs.Grows.Limits.Chain.{limit_same}
 use Rattle.run_grows.proofs.Grows.Limits.Shows.{calls_come_to_limits, limits_alike, limits_grow}
 use Rattle.run_grows.proofs.Grows.Limits.Steps.{limits_go_on}
-use Rattle.run_grows.specs.Grows.Tries.{ShowsTries}
+use Rattle.run_grows.specs.Grows.Tries.{RefinesTries}
 use Rattle.run_grows.proofs.Grows.Tries.Shows.{calls_come_to_tries, tries_alike, tries_grow}
 use Rattle.run_grows.proofs.Grows.Tries.Steps.{tries_go_on}
 use Rattle.run_legal.proofs.Uncounted.{calls_leave_uncounted}
@@ -121,7 +121,7 @@ call_events_end_so K V same hash name terms log beginning map i c first before r
   left = events_tell_left K V terms log e goes reclaims run.order.0 run.left;
 }
   where
-    whole : ShowsWhole same name m known s
+    whole : RefinesWhole same name m known s
     whole = midst.calls.whole
 
     here : s.calls map i ≡ Some u
@@ -145,10 +145,10 @@ call_events_end_so K V same hash name terms log beginning map i c first before r
     last : Moment K V
     last = after e (moment log)
 
-    all : ShowsWhole same name v then_known s2 × ShowsDue same name (past log) v then_known s2 × ShowsAsCalled same name v then_known s2
+    all : RefinesWhole same name v then_known s2 × RefinesPendingAnswers same name (past log) v then_known s2 × RefinesAsCalled same name v then_known s2
     all = events_keep_all K V same hash name (past log) beginning map i c done m known s u midst.event_so old new at said leads
 
-    over : ShowsWhole same name last then_known s2 × ShowsDue same name (past (e ∷ log)) last then_known s2 × ShowsAsCalled same name last then_known s2
+    over : RefinesWhole same name last then_known s2 × RefinesPendingAnswers same name (past (e ∷ log)) last then_known s2 × RefinesAsCalled same name last then_known s2
     over = events_are_over K V same hash name log beginning map i c done m known s u midst.event_so old new at said leads e midst.of_call begins acted effects_are comes ends
 
     none : ends_call e.outcome ≡ true → NoneNamed name (name i) s2
@@ -166,28 +166,28 @@ call_events_end_so K V same hash name terms log beginning map i c first before r
     alike : HasSame come last
     alike = like_over log e (name i) v midst.of_call worked_is
 
-    come_nexts : ShowsNexts name (past log) come s2
+    come_nexts : RefinesNexts name (past log) come s2
     come_nexts =
         calls_come_to_nexts same name (past log) v s2
         (nexts_go_on same hash name (past log) m known s old new at whole map i u here said leads midst.others midst.calls.nexts (whole.all.shown.calls map i u here).0 (whole.all.shown.calls map i u here).1)
         all.0.all.shown.calls (name i) e.outcome e.steps none
 
-    come_limits : ShowsLimits name (past log) come s2
+    come_limits : RefinesLimits name (past log) come s2
     come_limits =
         calls_come_to_limits same name (past log) v s2
         (limits_go_on same hash name (past log) m known s old new at whole map i u here said leads midst.calls.limits midst.calls.finding.capacities (whole.all.shown.calls map i u here).0 (whole.all.shown.calls map i u here).1 midst.other_limits)
         all.0.all.shown.calls (name i) e.outcome e.steps none
 
-    come_tries : ShowsTries name (past log) come s2
+    come_tries : RefinesTries name (past log) come s2
     come_tries =
         calls_come_to_tries same name (past log) v s2
         (tries_go_on same hash name (past log) m known s old new at whole map i u here said leads midst.calls.sources midst.calls.tries (whole.all.shown.calls map i u here).0 (whole.all.shown.calls map i u here).1 midst.other_tries)
         all.0.all.shown.calls (name i) e.outcome e.steps none
 
-    kept_then : ShowsKept name v then_known s2
+    kept_then : RefinesKept name v then_known s2
     kept_then = calls_keep_kept K V same hash name m known s old new at whole midst.calls.kept map i u here said leads
 
-    kept_last : ShowsKept name last then_known s2
+    kept_last : RefinesKept name last then_known s2
     kept_last =
         stays_kept K V name come last then_known s2 s2 (calls_come_to_kept K V same name v then_known s2 all.0 kept_then (name i) e.outcome e.steps none) alike.calls alike.tables
         (ap (λ (x : Moment K V). x.deferred) worked_is) alike.place refl refl refl refl refl

@@ -19,7 +19,7 @@ use Rattle.run_grows.specs.Given.SchedulesReclaims.{IsProtected}
 use Rattle.run_grows.specs.Given.EffectsEffects.{effects_of, known_after}
 use Rattle.run_grows.specs.Given.EffectsKnown.{Known}
 use Rattle.run_grows.specs.Given.EffectsDeclared.acting.Acting.TheVariants as acts
-use Rattle.run_grows.specs.Given.MomentsWhole.{ShowsWhole}
+use Rattle.run_grows.specs.Given.MomentsWhole.{RefinesWhole}
 use Rattle.run_grows.proofs.Given.MomentsAfter.{effects_after}
 use Rattle.run_grows.specs.Given.HistoriesInEvent.{here_of}
 use Rattle.run_grows.specs.Given.HistoriesQuestions.{EventAsksStill}
@@ -73,7 +73,7 @@ call_events_are_legal K V same hash name terms log beginning map i c c_is steps 
   safe.1,
 )
   where
-    whole : ShowsWhole same name m known s
+    whole : RefinesWhole same name m known s
     whole = midst.calls.whole
 
     here : s.calls map i ≡ Some u

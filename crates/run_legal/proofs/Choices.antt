@@ -13,18 +13,18 @@ use Rattle.run_grows.specs.Given.SchedulesEntry.{Entry}
 use Rattle.run_grows.specs.Given.SchedulesMoment.{Moment}
 use Rattle.run_grows.specs.Given.SchedulesTerms.{Terms}
 use Rattle.run_grows.specs.Given.EffectsKnown.{Known}
-use Rattle.run_grows.specs.Given.FollowsShows.{Shows}
-use Rattle.run_grows.specs.Given.MomentsWhole.{ShowsWhole}
-use Rattle.run_grows.specs.Given.KeptKept.{ShowsKept}
-use Rattle.run_grows.specs.Given.LoggedChoosing.{scene_chosen}
+use Rattle.run_grows.specs.Given.FollowsShows.{Refines}
+use Rattle.run_grows.specs.Given.MomentsWhole.{RefinesWhole}
+use Rattle.run_grows.specs.Given.KeptKept.{RefinesKept}
+use Rattle.run_logged.specs.Log.Choosing.{scene_chosen}
 use Rattle.run_grows.specs.Given.ModelsFollows.{FollowsModel}
 use Rattle.run_grows.specs.Given.ModelsTurns.{CameByTurns}
 use Rattle.run_grows.proofs.Given.ModelsFollows.{idle_events_follow}
 use Rattle.run_grows.proofs.Given.ModelsTurns.{events_follow}
-use Rattle.run_grows.specs.Given.PromisesReading.{ShowsReading}
+use Rattle.run_grows.specs.Given.PromisesReading.{RefinesReadings}
 use Rattle.run_grows.specs.Given.PromisesSheltered.{SectionsHold}
 use Rattle.run_legal.specs.CallEvents.{IsLegalBut}
-use Rattle.run_legal.specs.Carried.{FollowsOrRows, ShowsCalls, ShowsRun}
+use Rattle.run_legal.specs.Carried.{FollowsOrRows, RefinesAllCalls, RefinesRun}
 use Rattle.run_legal.specs.Over.{ChoicesEnd}
 use Rattle.run_legal.proofs.Between.{likes_show}
 use Rattle.run_legal.proofs.Idle.{idle_events_are_legal}
@@ -33,12 +33,12 @@ use Rattle.run_grows.specs.Given.ScenesScene.{Scene}
 use Rattle.run_grows.specs.Given.SchedulesTransition.{past}
 
 -- Calls, maps and words are there as they were.
-module _ {K V : Type 0} (choice : ℕ) (same : K → K → Bool) (name : ℕ → List ℕ) (log : List (Entry K V)) (m : Moment K V) (known : Known) (s : Scene K V) (whole : ShowsWhole same name m known (scene_chosen choice s))
-    (kept : ShowsKept name m known (scene_chosen choice s)) where
-  abbrev shown_then : Shows same name m known s → Shows same name m known (scene_chosen choice s)
+module _ {K V : Type 0} (choice : ℕ) (same : K → K → Bool) (name : ℕ → List ℕ) (log : List (Entry K V)) (m : Moment K V) (known : Known) (s : Scene K V) (whole : RefinesWhole same name m known (scene_chosen choice s))
+    (kept : RefinesKept name m known (scene_chosen choice s)) where
+  abbrev shown_then : Refines same name m known s → Refines same name m known (scene_chosen choice s)
   shown_then shown = record { blocks = whole.all.shown.blocks; number = shown.number; maps = shown.maps; calls = shown.calls }
 
-  calls_then : ShowsCalls same name (past log) m known s → ShowsCalls same name (past log) m known (scene_chosen choice s)
+  calls_then : RefinesAllCalls same name (past log) m known s → RefinesAllCalls same name (past log) m known (scene_chosen choice s)
   calls_then all = record {
     whole = whole;
     numbers = all.numbers;
@@ -66,7 +66,7 @@ module _ {K V : Type 0} (choice : ℕ) (same : K → K → Bool) (name : ℕ →
     tries = all.tries;
   }
 
-  reading_then : ShowsReading name (past log) (λ i. 0) m s → ShowsReading name (past log) (λ i. 0) m (scene_chosen choice s)
+  reading_then : RefinesReadings name (past log) (λ i. 0) m s → RefinesReadings name (past log) (λ i. 0) m (scene_chosen choice s)
   reading_then reading = record { past = reading.past; begun = reading.begun; reads = reading.reads }
 
 module _ {K V : Type 0} (terms : Terms) (log : List (Entry K V)) (known : Known) (s : Scene K V) (choice steps : ℕ) where
@@ -96,7 +96,7 @@ choices_end K V same name terms log known s run choice alone whole kept steps ri
     legal : IsLegalBut same terms log its × SectionsHold (after its (moment log)) known (scene_chosen choice s).world
     legal = idle_events_are_legal K V same terms log known (scene_chosen choice s).world its refl tt run.sections tt refl refl tt tt tt tt
 
-    runs : ShowsRun same name terms (its ∷ log) known (scene_chosen choice s)
+    runs : RefinesRun same name terms (its ∷ log) known (scene_chosen choice s)
     runs =
         runs_go_on K V same name name terms log known known s (scene_chosen choice s) run its right legal.0.life tt tt
         (likes_show K V same name (past log) (moment log) (moment (its ∷ log)) known (scene_chosen choice s) (calls_then choice same name log (moment log) known s whole kept run.calls) refl)

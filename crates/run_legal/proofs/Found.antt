@@ -27,7 +27,7 @@ use Rattle.run_grows.proofs.Given.MomentsAfter.{each_parts}
 use Rattle.run_grows.proofs.Given.SpotsUnreclaimed.{same_itself}
 use Rattle.run_grows.specs.Given.FindsBounded.{HasRetiredTable}
 use Rattle.run_grows.specs.Given.FindsOrderly.{NothingIsRetired, is_left_over}
-use Rattle.run_grows.specs.Given.KeptKept.{ShowsKept}
+use Rattle.run_grows.specs.Given.KeptKept.{RefinesKept}
 use Rattle.run_grows.specs.Given.LivesHanded.{HadHanded}
 use Rattle.run_grows.proofs.Given.LivesHandedRows.{handed_at_rest, rows_find_handed}
 use Rattle.run_grows.proofs.Given.LivesReclaimed.{rows_find_retired}
@@ -135,7 +135,7 @@ module _ (K V : Type 0) (same : K → K → Bool) (hash : ℕ → K → ℕ) whe
       }
 
   -- So where nothing is retired in the memory, and nothing is left over, nothing is so at the moment.
-  pub none_at_rest : (name : ℕ → List ℕ) (m : Moment K V) (known : Known) (s : Scene K V) (e : Held K V) → IsAt same hash e s → ShowsKept name m known s → ((i : ℕ) → s.world.row i ≡ Rests)
+  pub none_at_rest : (name : ℕ → List ℕ) (m : Moment K V) (known : Known) (s : Scene K V) (e : Held K V) → IsAt same hash e s → RefinesKept name m known s → ((i : ℕ) → s.world.row i ≡ Rests)
       → ((b : ℕ) → was_retired b s.world.log ≡ false) → ((n : ℕ) → is_left_over (m.place n) ≡ false) → NothingIsRetired m
   none_at_rest name m known s e at kept rests none left =
       let all = handed_at_rest K V e.batch_size m known s at.together.makings.standing.came kept.handed rests in

@@ -18,12 +18,26 @@ pub use Rattle.run_grows.proofs.Given.OwesTables
 pub use Rattle.run_grows.proofs.Given.RemainsSlots
 pub use Rattle.run_grows.proofs.Given.SeizeWordsPlaces
 pub use Rattle.run_grows.proofs.Given.SettlesHand
-pub use Rattle.run_grows.proofs.Given.SourcesSteps
 pub use Rattle.run_grows.proofs.Grows.Finding as GrowsFinding
+pub use Rattle.run_grows.proofs.Grows.Limits.Cases as LimitsCases
 pub use Rattle.run_grows.proofs.Grows.Tries as GrowsTries
-pub use Rattle.run_grows.proofs.Needs.Firsts as NeedsFirsts
-pub use Rattle.run_grows.proofs.Needs.Makings as NeedsMakings
-pub use Rattle.run_grows.proofs.Needs.Registering as NeedsRegistering
-pub use Rattle.run_grows.proofs.Needs.Steps as NeedsSteps
-pub use Rattle.run_grows.proofs.Needs.TablesMade as NeedsTablesMade
-pub use Rattle.run_grows.proofs.Quiet.RoomSays as QuietRoomSays
+pub use Rattle.run_grows.proofs.Sources.Steps as SourcesSteps
+pub use Rattle.run_grows.proofs.Waits.Between as WaitsBetween
+pub use Rattle.run_logged.proofs.Log.Choosing as LoggedChoosing
+pub use Rattle.run_logged.proofs.Log.EndSteps as LogEndSteps
+pub use Rattle.run_logged.proofs.Log.EndTold as LogEndTold
+pub use Rattle.run_logged.proofs.Log.GivenBack as LoggedGivenBack
+pub use Rattle.run_logged.proofs.Log.MakingSteps as LogMakingSteps
+pub use Rattle.run_logged.proofs.Log.MakingTables as LogMakingTables
+pub use Rattle.run_logged.proofs.Log.MakingsRun as LogMakingsRun
+pub use Rattle.run_logged.proofs.Log.Reclaiming.Rest as ReclaimingRest
+pub use Rattle.run_logged.proofs.Log.ReclaimsRun as LogReclaimsRun
+pub use Rattle.run_logged.proofs.Rows.InUse as RowsInUse
+pub use Rattle.run_logged.proofs.Rows.NeverWaits as RowsNeverWaits
+pub use Rattle.run_logged.proofs.Rows.Ran as RowsRan
+pub use Rattle.run_logged.proofs.Rows.There as RowsThere
+pub use Rattle.run_sweeps.proofs.Needs.Firsts as NeedsFirsts
+pub use Rattle.run_sweeps.proofs.Needs.Makings as NeedsMakings
+pub use Rattle.run_sweeps.proofs.Needs.Steps as NeedsSteps
+pub use Rattle.run_sweeps.proofs.Needs.TablesMade as NeedsTablesMade
+pub use Rattle.run_sweeps.proofs.Quiet.RoomSays as QuietRoomSays

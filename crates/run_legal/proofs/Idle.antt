@@ -9,7 +9,7 @@ use Rattle.run_grows.specs.Given.SchedulesAfter.{after, moment}
 use Rattle.run_grows.specs.Given.SchedulesBeginning.{at_work}
 use Rattle.run_grows.specs.Given.SchedulesEffects.{AtEachEffect, worked}
 use Rattle.run_grows.specs.Given.SchedulesEntry.{Entry, IfCall, acted_on, acting, caller_of}
-use Rattle.run_grows.specs.Given.SchedulesHanding.{IsWhole, LeavesOf, comes_clear, gives_all, is_granted, is_made, may_do, moments_of, refuses as refuses_growth}
+use Rattle.run_grows.specs.Given.SchedulesHanding.{IsWhole, LeavesOf, is_clear_outcome, gives_all, is_granted, is_made, may_do, moments_of, refuses as refuses_growth}
 use Rattle.run_grows.specs.Given.SchedulesLinearizable.{IsLinearizable}
 use Rattle.run_grows.specs.Given.SchedulesLives.{Finds}
 use Rattle.run_grows.specs.Given.SchedulesModel.{changes_of, left_last}
@@ -36,7 +36,7 @@ module _ (K V : Type 0) (same : K → K → Bool) (terms : Terms) (log : List (E
   -- so it is of any event that does nothing, if it changes maps, answers and asks as it may
   pub still_events_are_legal : e.effects ≡ [] → IsLinearizable same log e → SectionsHold (moment log) known w → EntersInside w e.event e.outcome (moment log).there → changes_of log e ≡ []
       → left_last e.event e.outcome (moment log) ≡ [] → ReadsBriefly log e (worked e (moment log)) → IsSwept same terms log e
-      → IsWhole e.event e.outcome e.effects (moment log) (worked e (moment log)) → IfCall (LeavesOf (comes_clear e.outcome) e.outcome) (acting (caller_of e.event) (worked e (moment log)))
+      → IsWhole e.event e.outcome e.effects (moment log) (worked e (moment log)) → IfCall (LeavesOf (is_clear_outcome e.outcome) e.outcome) (acting (caller_of e.event) (worked e (moment log)))
       → IsLegalBut same terms log e × SectionsHold (after e (moment log)) known w
   still_events_are_legal nothing linear hold enters unchanged none_left brief swept whole leaves = (
     record {

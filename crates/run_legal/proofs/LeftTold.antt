@@ -32,14 +32,14 @@ use Rattle.run_grows.proofs.Given.LivesOrder.{behind_apart}
 use Rattle.run_grows.specs.Given.FindsLife.{StoresOne}
 use Rattle.run_grows.specs.Given.FindsLittle.{ReclaimsAll}
 use Rattle.run_grows.specs.Given.FindsOrderly.{is_left_over}
-use Rattle.run_grows.specs.Given.FindsWaiting.{FindsPlaced, OwesPair, PairsArePlaced, is_behind_one, is_out, is_unborn, once_if, owed_by, owed_in, put_in}
+use Rattle.run_grows.specs.Given.FindsWaiting.{FindsPlaced, HasPairPending, PairsArePlaced, is_behind_one, is_out, is_unborn, once_if, owed_by, owed_in, put_in}
 use Rattle.run_grows.specs.Given.FindsWithin.{AllIsInOrder, GoesInOrder}
 use Rattle.run_grows.proofs.Given.FindsBegun.{all_begun}
 use Rattle.run_grows.proofs.Given.FindsEndings.{entry}
 use Rattle.run_grows.proofs.Given.FindsLife.{life_finds_placed}
 use Rattle.run_grows.proofs.Given.FindsOver.{both_at}
 use Rattle.run_grows.proofs.Given.FindsPlaced.{effects_keep_placed}
-use Rattle.run_legal.specs.Carried.{EventsTellLeft, LeftIsTold}
+use Rattle.run_legal.specs.Carried.{EventsTellLeft, LeftIsNoted}
 use Rattle.run_grows.proofs.Given.RemainsLists.{among_append as among_two}
 
 -- where a pair is that is elsewhere
@@ -148,7 +148,7 @@ module _ {K V : Type 0} (terms : Terms) (caller : Option (List ℕ)) (acted : Op
   taken_not k None none = absurd none
   taken_not k (Some c) is = in_map_not (m.place k) is
 
-  owed_not : (k : ℕ) (who : Option (List ℕ)) → OwesPair who m k → is_left_over (m.place k) ≡ false
+  owed_not : (k : ℕ) (who : Option (List ℕ)) → HasPairPending who m k → is_left_over (m.place k) ≡ false
   owed_not k None none = absurd none
   owed_not k (Some own) owes = by (call_of own m) refl owes
     where
@@ -328,14 +328,14 @@ module _ {K V : Type 0} (terms : Terms) (log : List (Entry K V)) where
   begun_place _ _ = refl
 
   abbrev Tells : Event K V → Outcome V → ℕ → List Effect → Type 0
-  Tells its came steps effects = LeftIsTold (after (entry its came steps effects) m)
+  Tells its came steps effects = LeftIsNoted (after (entry its came steps effects) m)
 
   abbrev Goes_so : Event K V → Outcome V → ℕ → List Effect → Type 0
   Goes_so its came steps effects = GoesInOrder terms log (entry its came steps effects)
 
   -- where nothing of that is told anew
   as_before : (its : Event K V) (came : Outcome V) (steps : ℕ) (effects : List Effect) → remains_on its came effects m ≡ m.remains
-      → ((n : ℕ) → is_left_over ((worked (entry its came steps effects) m).place n) ≡ is_left_over (m.place n)) → LeftIsTold m → Tells its came steps effects
+      → ((n : ℕ) → is_left_over ((worked (entry its came steps effects) m).place n) ≡ is_left_over (m.place n)) → LeftIsNoted m → Tells its came steps effects
   as_before its came steps effects same stays before n = stays n ∙ before n ∙ sym (ap (λ (rs : List Remains). told n rs) same)
 
   nothing_does : (its : Event K V) (came : Outcome V) (steps : ℕ) (effects : List Effect) → effects ≡ [] → (n : ℕ) → is_left_over ((worked (entry its came steps effects) m).place n) ≡ is_left_over (m.place n)
@@ -352,7 +352,7 @@ module _ {K V : Type 0} (terms : Terms) (log : List (Entry K V)) where
 
   -- of an event by which no map ends, and nothing that is left over is reclaimed
   others_tell : (its : Event K V) (came : Outcome V) (steps : ℕ) (effects : List Effect) → Goes_so its came steps effects → AllIsInOrder m → gives_all its ≡ false
-      → ((t : TableId) → may_do its m (effect.Taken t) ≡ true → ⊥) → remains_on its came effects m ≡ m.remains → LeftIsTold m → Tells its came steps effects
+      → ((t : TableId) → may_do its m (effect.Taken t) ≡ true → ⊥) → remains_on its came effects m ≡ m.remains → LeftIsNoted m → Tells its came steps effects
   others_tell its came steps effects goes order gives none same before = as_before its came steps effects same stays before
     where
       e : Entry K V
@@ -378,7 +378,7 @@ module _ {K V : Type 0} (terms : Terms) (log : List (Entry K V)) where
   done_or_busy false false came is = inr is
 
   -- one that is busy
-  busy_tells : (its : Event K V) (steps : ℕ) (effects : List Effect) → remains_on its (Refused Busy) effects m ≡ m.remains → Goes_so its (Refused Busy) steps effects → LeftIsTold m
+  busy_tells : (its : Event K V) (steps : ℕ) (effects : List Effect) → remains_on its (Refused Busy) effects m ≡ m.remains → Goes_so its (Refused Busy) steps effects → LeftIsNoted m
       → Tells its (Refused Busy) steps effects
   busy_tells its steps effects same goes before = as_before its (Refused Busy) steps effects same (nothing_does its (Refused Busy) steps effects (none its goes.life.whole)) before
     where
@@ -387,14 +387,14 @@ module _ {K V : Type 0} (terms : Terms) (log : List (Entry K V)) where
       none _ whole = whole
 
   -- the end of a map
-  end_tells : (own : List ℕ) (steps : ℕ) (effects : List Effect) → Goes_so (event.EndMap own) Done steps effects → LeftIsTold m → Tells (event.EndMap own) Done steps effects
+  end_tells : (own : List ℕ) (steps : ℕ) (effects : List Effect) → Goes_so (event.EndMap own) Done steps effects → LeftIsNoted m → Tells (event.EndMap own) Done steps effects
   end_tells own steps effects goes before n =
       ends_leave terms (number_of own m) false (moments_of terms log None) effects m goes.life.may goes.life.finds n
       ∙ ap (λ (q : Bool). q || is_among n (pairs_behind m.deferred effects)) (before n)
       ∙ exchanged (told n m.remains) (is_among n (pairs_behind m.deferred effects))
       ∙ sym (any_told n (root_or (map_of own m)) (pairs_behind m.deferred effects) m.remains)
 
-  tells_left : (its : Event K V) (came : Outcome V) (steps : ℕ) (effects : List Effect) → Goes_so its came steps effects → ReclaimsAll log (entry its came steps effects) → AllIsInOrder m → LeftIsTold m
+  tells_left : (its : Event K V) (came : Outcome V) (steps : ℕ) (effects : List Effect) → Goes_so its came steps effects → ReclaimsAll log (entry its came steps effects) → AllIsInOrder m → LeftIsNoted m
       → Tells its came steps effects
   tells_left (event.EndMap own) came steps effects goes reclaims order before =
       elim (done_or_busy m.is_closed _ came goes.right) as (λ _. Tells (event.EndMap own) came steps effects) [

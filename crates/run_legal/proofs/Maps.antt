@@ -25,7 +25,7 @@ use Rattle.run_grows.specs.Given.FinishesMakings.{Beginning}
 use Rattle.run_grows.specs.Given.FinishesMaps.{Standing}
 use Rattle.run_grows.specs.Given.OthersEndings.{ending_after}
 use Rattle.run_grows.specs.Given.OthersMakings.{making_after}
-use Rattle.run_grows.specs.Given.MomentsWhole.{ShowsWhole}
+use Rattle.run_grows.specs.Given.MomentsWhole.{RefinesWhole}
 use Rattle.run_grows.specs.Given.MomentsNumbers.{NumbersMaps, PairsAreBelow}
 use Rattle.run_grows.proofs.Given.MomentsAfter.{effects_after}
 use Rattle.run_grows.proofs.Given.MomentsNewMaps.{effects_keep_pairs}
@@ -37,7 +37,7 @@ use Rattle.run_grows.proofs.Given.ShardsShardMakes.{makings_keep_counters}
 use Rattle.run_grows.proofs.Given.ShardsShardOthers.{endings_keep_counters}
 use Rattle.run_grows.proofs.Given.HistoriesAside.Stays.{as_called_stays, dues_stay}
 use Rattle.run_grows.proofs.Given.HistoriesQuestions.{effects_keep_questions}
-use Rattle.run_grows.proofs.Given.PurposesElsewhere.{purposes_stay}
+use Rattle.run_sweeps.proofs.Purposes.Elsewhere.{purposes_stay}
 use Rattle.run_grows.specs.Given.PromisesProtected.{InMidst}
 use Rattle.run_grows.specs.Given.PromisesReading.{HasStood}
 use Rattle.run_grows.proofs.Given.PromisesBrief.Meanwhile.{other_work_keeps_readings, stands_so}
@@ -47,13 +47,13 @@ use Rattle.run_grows.specs.Given.ModelsEnds.{FollowsInEnd}
 use Rattle.run_grows.specs.Given.ModelsMapEvents.{FollowsInMaking}
 use Rattle.run_grows.proofs.Given.ModelsEnds.{ends_go_on}
 use Rattle.run_grows.proofs.Given.ModelsMapEvents.{making_events_go_on}
-use Rattle.run_legal.specs.MapEvents.{EndEventsGoOn, FindsItsMap, HasNotMade, MakingEventsGoOn}
+use Rattle.run_legal.specs.MapEvents.{EndEventsContinue, FindsItsMap, HasNotMade, MakingEventsContinue}
 use Rattle.run_grows.proofs.Given.ShardsShardKept.{none_shards}
 use Rattle.run_grows.proofs.Grows.Limits.Shows.{endings_keep_limits, makings_keep_limits}
 use Rattle.run_grows.proofs.Grows.Tries.Others.{endings_keep_tries, makings_keep_tries}
 use Rattle.run_grows.proofs.Given.SpotsEffects.{AllAside}
 use Rattle.run_legal.proofs.Sourced.{making_none, making_sources, so_aside}
-use Rattle.run_grows.specs.Grows.Finding.{ShowsFinding}
+use Rattle.run_grows.specs.Grows.Finding.{RefinesFinding}
 use Rattle.run_grows.proofs.Grows.Finding.Alike.{stood_as}
 use Rattle.run_grows.proofs.Grows.Finding.Aside.{endings_aside, makings_aside, makings_leave_spots}
 use Rattle.run_grows.proofs.Grows.Finding.Beside.{finding_beside}
@@ -143,7 +143,7 @@ makings_step K V same hash name log m known s old new at calls i said leads b he
   purposes = (purposes_stay K V same hash name log).makings m known s old new at whole calls.purposes i said leads b here (Some b.map) was_new;
 }
   where
-    whole : ShowsWhole same name m known s
+    whole : RefinesWhole same name m known s
     whole = calls.whole
 
     effects : List Effect
@@ -158,7 +158,7 @@ makings_step K V same hash name log m known s old new at calls i said leads b he
     aside : AllAside effects
     aside = makings_aside same hash name m known s old new at whole.all.shown i said leads b here (Some b.map)
 
-    then_whole : ShowsWhole same name v then_known (led same hash s old new at i b here said leads)
+    then_whole : RefinesWhole same name v then_known (led same hash s old new at i b here said leads)
     then_whole = makings_keep_whole K V same hash name m known s old new at whole i said leads b here (Some b.map) was_new
 
     -- the map is there by its number, or the moment is as it was
@@ -167,7 +167,7 @@ makings_step K V same hash name log m known s old new at calls i said leads b he
     numbers_by (inr asks) = subst (λ (x : Moment K V). NumbersMaps x × PairsAreBelow x) (sym (growths_leave (Some b.map) effects m asks.1)) calls.numbers
 
     -- it was made for its capacity, or maps stand as they stood
-    finding_by : FindsItsMap b said effects m → ShowsFinding name v then_known (led same hash s old new at i b here said leads)
+    finding_by : FindsItsMap b said effects m → RefinesFinding name v then_known (led same hash s old new at i b here said leads)
     finding_by (inl there) =
         makings_keep_finding K V same hash name m known s old new at whole calls.finding i said leads b here was_new there.1 (made_at same hash s old new at i b here said leads) then_whole
     finding_by (inr asks) =
@@ -178,7 +178,7 @@ makings_step K V same hash name log m known s old new at calls i said leads b he
         (capacities_stay K V m v s (led same hash s old new at i b here said leads) calls.finding.capacities (λ n st is. effects_keep_capacities K V None (Some b.map) effects m n)
         (stood_as s (led same hash s old new at i b here said leads) (unmade_maps same hash s old new at i b here said leads asks.0)))
 
-pub making_events_go_on_so : (K V : Type 0) (same : K → K → Bool) (hash : ℕ → K → ℕ) → MakingEventsGoOn K V same hash
+pub making_events_go_on_so : (K V : Type 0) (same : K → K → Bool) (hash : ℕ → K → ℕ) → MakingEventsContinue K V same hash
 making_events_go_on_so K V same hash name terms log event beginning done m known s i b here midst old new at size said leads was_new finds = (
   record {
     of_maps = midst.0.of_maps;
@@ -198,7 +198,7 @@ making_events_go_on_so K V same hash name terms log event beginning done m known
   making_none K V same hash name m known then_known s old new i b here (Some b.map) effects aside midst.0.calls.sources midst.2,
 )
   where
-    whole : ShowsWhole same name m known s
+    whole : RefinesWhole same name m known s
     whole = midst.0.calls.whole
 
     effects : List Effect
@@ -273,7 +273,7 @@ ends_step K V same hash name log m known s old new at calls i said leads f here 
   purposes = (purposes_stay K V same hash name log).endings m known s old new at whole calls.purposes i said leads f here map not_there its;
 }
   where
-    whole : ShowsWhole same name m known s
+    whole : RefinesWhole same name m known s
     whole = calls.whole
 
     effects : List Effect
@@ -285,11 +285,11 @@ ends_step K V same hash name log m known s old new at calls i said leads f here 
     then_known : Known
     then_known = known_after (acts.Ending map) new.changed known
 
-    then_whole : ShowsWhole same name v then_known (ended same hash s old new i f here said leads)
+    then_whole : RefinesWhole same name v then_known (ended same hash s old new i f here said leads)
     then_whole = endings_keep_whole K V same hash name m known s old new at whole i said leads f here map not_there its
         (endings_find_kept K V same hash name m known s old new at whole calls.kept i said leads f here map not_there)
 
-pub end_events_go_on_so : (K V : Type 0) (same : K → K → Bool) (hash : ℕ → K → ℕ) → EndEventsGoOn K V same hash
+pub end_events_go_on_so : (K V : Type 0) (same : K → K → Bool) (hash : ℕ → K → ℕ) → EndEventsContinue K V same hash
 end_events_go_on_so K V same hash name terms log event map beginning first done m known s i f here not_there midst old new at size below said leads its = (
   record {
     of_maps = midst.0.of_maps;
@@ -308,7 +308,7 @@ end_events_go_on_so K V same hash name terms log event map beginning first done 
       (subst (λ (n : ℕ). FollowsInEnd n terms.roots (things_in log) (sets_in terms.batch_size log) first i done known s.world) (sym size) (midst.1 alone)))),
 )
   where
-    whole : ShowsWhole same name m known s
+    whole : RefinesWhole same name m known s
     whole = midst.0.calls.whole
 
     effects : List Effect

@@ -10,7 +10,7 @@ use Rattle.run_grows.specs.Given.SchedulesAfter.{after, moment, moments_from}
 use Rattle.run_grows.specs.Given.SchedulesBeginning.{at_work}
 use Rattle.run_grows.specs.Given.SchedulesEffects.{AtEachEffect, worked}
 use Rattle.run_grows.specs.Given.SchedulesEntry.{IfCall, acted_on, acting, caller_of}
-use Rattle.run_grows.specs.Given.SchedulesHanding.{AllFind, LeavesOf, comes_clear, gives_all, is_ending, is_made, may_do, moments_of, refuses}
+use Rattle.run_grows.specs.Given.SchedulesHanding.{AllFind, LeavesOf, is_clear_outcome, gives_all, is_ending, is_made, may_do, moments_of, refuses}
 use Rattle.run_grows.specs.Given.SchedulesLinearizable.{shift_of}
 use Rattle.run_grows.specs.Given.SchedulesLives.{Finds}
 use Rattle.run_grows.specs.Given.SchedulesMoment.{UnderWay as CallThere, Moment}
@@ -21,11 +21,11 @@ use Rattle.run_grows.proofs.Given.HistoriesOtherCalls.{no_calls_are_linearizable
 use Rattle.run_grows.specs.Given.PromisesProtected.{is_of_slots}
 use Rattle.run_grows.specs.Given.PromisesSheltered.{SectionsHold}
 use Rattle.run_grows.proofs.Given.PromisesProtected.{other_events_end_protected}
-use Rattle.run_grows.proofs.Given.PurposesNothing.{no_calls_are_swept}
+use Rattle.run_sweeps.proofs.Purposes.Nothing.{no_calls_are_swept}
 use Rattle.run_legal.specs.MapEvents.{MapEventsAreLegal}
 use Rattle.run_grows.specs.Given.SchedulesTransition.{past, transition}
 use Rattle.run_grows.proofs.Given.General.{both_true as and_both}
-use Rattle.run_grows.proofs.Needs.Shifts.{making_none}
+use Rattle.run_sweeps.proofs.Needs.Shifts.{making_none}
 
 -- Its effects bring no pair and take none out that is not ended.
 
@@ -69,7 +69,7 @@ map_events_are_legal K V same name terms log map beginning m known s e midst may
       granted = midst.granted;
       refuses = ap (λ (q : Bool). not q || not (list_any is_made e.effects)) (never_refuses e.event none);
       whole = whole;
-      leaves = subst (λ (o : Option (List ℕ)). IfCall (LeavesOf (comes_clear e.outcome) e.outcome) (acting o (worked e (moment log)))) (sym none) tt;
+      leaves = subst (λ (o : Option (List ℕ)). IfCall (LeavesOf (is_clear_outcome e.outcome) e.outcome) (acting o (worked e (moment log)))) (sym none) tt;
     };
     protected = safe.0;
     by_model = by_model;

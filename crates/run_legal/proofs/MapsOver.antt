@@ -18,7 +18,7 @@ use Rattle.run_grows.specs.Given.SchedulesMoment.{Moment}
 use Rattle.run_grows.proofs.Given.CallersTogether.At.{at_other, at_same}
 use Rattle.run_grows.specs.Given.FinishesMaps.{Standing}
 use Rattle.run_grows.specs.Given.OthersEndings.{without_map}
-use Rattle.run_grows.specs.Given.PromisesReading.{HasStood, ShowsReading}
+use Rattle.run_grows.specs.Given.PromisesReading.{HasStood, RefinesReadings}
 use Rattle.run_grows.specs.Given.PromisesSheltered.{SectionsHold}
 use Rattle.run_grows.proofs.Given.PromisesBrief.Meanwhile.{other_work_keeps_readings, stands_so}
 use Rattle.run_grows.proofs.Given.PromisesShelters.Begins.{sections_go_on}
@@ -31,12 +31,12 @@ use Rattle.run_grows.proofs.Given.ModelsMapEvents.{end_events_end as sets_end, m
 use Rattle.run_grows.specs.Given.ShardsShardWords.{IsUncounted}
 use Rattle.run_grows.specs.Given.FindsLife.{StoresOne}
 use Rattle.run_legal.specs.Between.{IsLike}
-use Rattle.run_legal.specs.Carried.{ComesAlone, ShowsCalls}
+use Rattle.run_legal.specs.Carried.{IsSequential, RefinesAllCalls}
 use Rattle.run_legal.specs.Over.{EndEventsBegin, EndEventsEnd, EndEventsFollow, MakingEventsBegin, MakingEventsEnd, MakingEventsFollow}
 use Rattle.run_legal.proofs.Between.{likes_show}
 use Rattle.run_legal.proofs.BetweenMaps.{ends_begin, makings_begin, maps_come, maps_gone}
 use Rattle.run_legal.proofs.CallFollows.{by_model_so, of_no_slot, was_alone}
-use Rattle.run_grows.specs.Given.SourcesStays.{NoneBorn}
+use Rattle.run_grows.specs.Sources.Stays.{NoneBorn}
 use Rattle.run_legal.proofs.Sourced.{none_born}
 use Rattle.run_legal.proofs.Over.{reading_like, runs_go_on}
 use Rattle.run_grows.specs.Given.ScenesEnding.{ending_begun}
@@ -61,7 +61,7 @@ module _ (K V : Type 0) (same : K → K → Bool) (hash : ℕ → K → ℕ) whe
     subst (λ (n : ℕ). NoneBorn n (with_map there (moment log))) (sym map_is) (none_born K V (moment log) run.order.0 run.calls.numbers.0 there number),
   )
     where
-      come : ShowsCalls same name (past log) (with_map there (moment log)) known s × IsUncounted there.number (with_map there (moment log))
+      come : RefinesAllCalls same name (past log) (with_map there (moment log)) known s × IsUncounted there.number (with_map there (moment log))
       come = maps_come K V same hash name (past log) (moment log) known s old at run.calls there number
 
       hold : SectionsHold (with_map there (moment log)) known s.world
@@ -99,7 +99,7 @@ module _ (K V : Type 0) (same : K → K → Bool) where
       hands : (changes_of log e ≡ flat_map (handing (things_in (e ∷ log)) (slot_of_call e.event (at_work e (moment log)))) e.effects) × (left_last e.event e.outcome (moment log) ≡ [])
       hands = others_hand_over K V log e (of_no_slot e.event midst.0.of_maps)
 
-      over : ComesAlone e.event log → IsFollowed terms log e known s.world
+      over : IsSequential e.event log → IsFollowed terms log e known s.world
       over alone = making_sets_end K V terms log e (slot_of_call e.event (at_work e (moment log))) known s.world (midst.1 alone) hands.0 hands.1
 
   pub end_events_follow : EndEventsFollow K V same
@@ -109,7 +109,7 @@ module _ (K V : Type 0) (same : K → K → Bool) where
       hands : (changes_of log e ≡ flat_map (handing (things_in (e ∷ log)) (slot_of_call e.event (at_work e (moment log)))) e.effects) × (left_last e.event e.outcome (moment log) ≡ [])
       hands = others_hand_over K V log e (of_no_slot e.event midst.0.of_maps)
 
-      over : ComesAlone e.event log → IsFollowed terms log e known s.world
+      over : IsSequential e.event log → IsFollowed terms log e known s.world
       over alone = sets_end K V terms log e (slot_of_call e.event (at_work e (moment log))) i first known s.world small once (midst.1 alone) m midst.0.calls.whole.all.shown.blocks
           (none_is_left_to K V known s midst.0.calls.kept.left i ended) hands.0 hands.1
 
@@ -162,10 +162,10 @@ module _ (K V : Type 0) (same : K → K → Bool) (hash : ℕ → K → ℕ) whe
       gone : Moment K V
       gone = without_map own (remains_on e.event Done effects (moment log)) m
 
-      shown : ShowsCalls same name (past log) gone known s
+      shown : RefinesAllCalls same name (past log) gone known s
       shown = maps_gone K V same hash name (past log) m known s x at midst.calls own (remains_on e.event Done effects (moment log)) apart
 
-      reading : ShowsReading name (past log) (λ j. 0) gone s
+      reading : RefinesReadings name (past log) (λ j. 0) gone s
       reading = record { past = midst.reading.past; begun = midst.reading.begun; reads = midst.reading.reads }
 
       worked_is : worked e (moment log) ≡ m

@@ -55,9 +55,9 @@ use Rattle.run_grows.specs.Given.FinishesMaps.{Standing}
 use Rattle.run_grows.specs.Given.FollowsBlocks.{HasRole}
 use Rattle.run_grows.proofs.Given.FollowsContents.{pair_within}
 use Rattle.run_grows.proofs.Given.SpotsUnreclaimed.{table_is}
-use Rattle.run_grows.specs.Given.MomentsWhole.{ShowsWhole}
-use Rattle.run_grows.specs.Given.SettlesDue.{Due, ToRetire, ToPut, OwnAreMade, due_in_calling, due_in_copying, due_in_disposing, due_in_reserving, due_in_row, due_in_settle, due_in_sweeping, word_due}
-use Rattle.run_grows.specs.Given.SettlesHand.{HoldsAt, IsPairAt, IsPairRole, IsTableAt, IsTableRole, NotesInHand, NotesOfCall, NotesOfRoom, NotesOfSweep, NotesTables}
+use Rattle.run_grows.specs.Given.MomentsWhole.{RefinesWhole}
+use Rattle.run_grows.specs.Given.SettlesDue.{RowObligation, ToRetire, ToPut, OwnAreMade, due_in_calling, due_in_copying, due_in_disposing, due_in_reserving, due_in_row, due_in_settle, due_in_sweeping, word_due}
+use Rattle.run_grows.specs.Given.SettlesHand.{HoldsAt, IsPairAt, IsPairRole, IsTableAt, IsTableRole, NotesPending, NotesOfCall, NotesOfRoom, NotesOfSweep, NotesTables}
 use Rattle.run_grows.specs.Given.SettlesInHand.{pair_in_disposing}
 use Rattle.run_grows.proofs.Given.SettlesHand.All.{calls_go_in_hand}
 use Rattle.run_grows.specs.Given.LivesHanded.{IsMeant, IsToHand}
@@ -66,7 +66,7 @@ use Rattle.run_grows.proofs.Given.LivesHandedMeant.{begun_put, meant_of, retire_
 use Rattle.run_grows.proofs.Given.LivesRetiredCalls.{goes_on, its_call}
 use Rattle.run_grows.proofs.Given.LivesRetires.{begun_due}
 use Rattle.run_grows.proofs.Given.LivesRows.{new_way}
-use Rattle.run_grows.specs.Given.KeptKept.{ShowsKept}
+use Rattle.run_grows.specs.Given.KeptKept.{RefinesKept}
 use Rattle.run_grows.proofs.Given.KeptCalls.{own_made}
 use Rattle.run_grows.specs.Given.ModelsCallEvents.{IsNoted}
 use Rattle.run_grows.specs.Given.ModelsNumbers.{HasNumber}
@@ -83,7 +83,7 @@ module _ (known : Known) (b : ℕ) where
   abbrev IsOfMap : Type 0
   IsOfMap = IsPairRole (known.roles b) ⊎ IsTableRole (known.roles b)
 
-  holds_it : (P : ℕ → Type 0) (due : Option Due) → IsMeant b due → HoldsAt P (word_due due) → P b
+  holds_it : (P : ℕ → Type 0) (due : Option RowObligation) → IsMeant b due → HoldsAt P (word_due due) → P b
   holds_it P (Some (ToRetire word)) meant holds = subst P meant holds
   holds_it P (Some (ToPut word place)) meant holds = subst P meant holds
   holds_it P None meant holds = absurd meant
@@ -112,7 +112,7 @@ module _ (known : Known) (b : ℕ) where
   of_sweep (sweeping.Disposes dispose) meant notes = of_disposal dispose dispose.stands meant notes
   of_sweep _ meant notes = absurd meant
 
-  of_machine : {K V : Type 0} (machine : Machine K V K) → IsMeant b (due_in_row machine) → NotesInHand known machine → IsOfMap
+  of_machine : {K V : Type 0} (machine : Machine K V K) → IsMeant b (due_in_row machine) → NotesPending known machine → IsOfMap
   of_machine (kinds.Key p) meant notes = of_call p.stands meant notes
   of_machine (kinds.Reserve r) meant notes = of_room r.stands meant notes
   of_machine (kinds.Sweep c) meant notes = of_sweep c.stands meant notes
@@ -129,7 +129,7 @@ one_slot b s t (Defers u c) due on there = absurd due
 one_slot b s t (Frees c) due on there = absurd due
 
 module _ {K V : Type 0} (same : K → K → Bool) (hash : ℕ → K → ℕ) (name : ℕ → List ℕ) (m : Moment K V) (known : Known) (s : Scene K V) (old new : Held K V) (at : IsAt same hash old s)
-    (whole : ShowsWhole same name m known s) (kept : ShowsKept name m known s) (map i : ℕ) (u : UnderWay K V K) (here : s.calls map i ≡ Some u) (said : Progress (Node K V))
+    (whole : RefinesWhole same name m known s) (kept : RefinesKept name m known s) (map i : ℕ) (u : UnderWay K V K) (here : s.calls map i ≡ Some u) (said : Progress (Node K V))
     (leads : StepLeads same hash i said s old new) (things : List Thing) (come : HaveCome things m) where
   abbrev w : World (Node K V)
   w = s.world

@@ -9,7 +9,7 @@ use Rattle.run_grows.specs.Given.EffectsEffects.{effects_of, known_after}
 use Rattle.run_grows.specs.Given.EffectsKnown.{Known}
 use Rattle.run_grows.specs.Given.EffectsDeclared.acting.Acting.TheVariants as acts
 use Rattle.run_grows.specs.Given.FollowsCalls.{IsCalled}
-use Rattle.run_grows.specs.Given.MomentsWhole.{ShowsWhole}
+use Rattle.run_grows.specs.Given.MomentsWhole.{RefinesWhole}
 use Rattle.run_grows.specs.Given.ScenesScene.{Scene, slot_of}
 use Rattle.run_grows.specs.Given.ScenesStepping.{StepLeads, scene_after}
 use Rattle.run_grows.proofs.Given.HistoriesDue.{calls_keep_due}
@@ -19,9 +19,9 @@ use Rattle.run_grows.proofs.Given.KeptCalls.{calls_keep_kept}
 use Rattle.run_grows.proofs.Given.MomentsCalls.{calls_keep_whole}
 use Rattle.run_grows.proofs.Given.MomentsNewMaps.{effects_keep_pairs}
 use Rattle.run_grows.proofs.Given.MomentsNumbers.{numbers_are_below, rows_keep_numbers, steps_keep_numbers}
-use Rattle.run_grows.proofs.Given.PurposesKept.{calls_keep_purposes}
+use Rattle.run_sweeps.proofs.Purposes.Kept.{calls_keep_purposes}
 use Rattle.run_grows.proofs.Given.ShardsShardCalls.{calls_keep_counters}
-use Rattle.run_grows.proofs.Given.SourcesSteps.{calls_keep_sources}
+use Rattle.run_grows.proofs.Sources.Steps.{calls_keep_sources}
 use Rattle.run_grows.proofs.Grows.Finding.Calls.{calls_keep_finding}
 use Rattle.run_grows.proofs.Grows.Finding.Nexts.{nexts_go_on}
 use Rattle.run_grows.proofs.Grows.Limits.Shows.{rows_begin_limits, rows_keep_limits}
@@ -37,7 +37,7 @@ use Rattle.run_grows.specs.Given.CallersTogether.{UnderWay}
 use Rattle.run_grows.specs.Given.ChangesKept.{ChangesFirst}
 use Rattle.run_grows.specs.Given.MomentsOnSlots.{HadRetired}
 use Rattle.run_grows.specs.Given.OthersRows.{scene_then}
-use Rattle.run_grows.specs.Given.PurposesKept.{PairsChangeFirst, ShowsNone}
+use Rattle.run_sweeps.specs.Purposes.Kept.{PairsChangeFirst, ShowsNone}
 use Rattle.run_grows.specs.Given.PurposesShards.{ReadsShards}
 use Rattle.run_grows.specs.Given.ScenesHeld.{Held, IsAt}
 use Rattle.run_grows.specs.Given.ScenesRows.{request_of}
@@ -49,18 +49,18 @@ use Rattle.run_grows.specs.Grows.Tries.{OthersHadTried}
 use Rattle.run_grows.proofs.Given.HistoriesAside.Stays.{as_called_stays, dues_stay}
 use Rattle.run_grows.proofs.Given.KeptOthers.{rows_begin_kept, rows_find_kept, rows_keep_kept}
 use Rattle.run_grows.proofs.Given.MomentsOnSlots.{rows_begin_whole, rows_keep_whole}
-use Rattle.run_grows.proofs.Given.PurposesElsewhere.{purposes_stay}
+use Rattle.run_sweeps.proofs.Purposes.Elsewhere.{purposes_stay}
 use Rattle.run_grows.proofs.Given.ShardsShardKept.{none_shards}
 use Rattle.run_grows.proofs.Given.ShardsShardOthers.{rows_begin_counters, rows_keep_counters}
 use Rattle.run_grows.proofs.Grows.Finding.Aside.{rows_aside}
 use Rattle.run_grows.proofs.Grows.Finding.NextsOthers.{rows_begin_nexts, rows_keep_nexts}
 use Rattle.run_grows.proofs.Grows.Finding.Others.{rows_begin_finding, rows_keep_finding}
 use Rattle.run_grows.proofs.Grows.Tries.Others.{rows_begin_tries, rows_keep_tries}
-use Rattle.run_legal.specs.Carried.{ShowsCalls}
+use Rattle.run_legal.specs.Carried.{RefinesAllCalls}
 
 -- A step of a call, in whose midst others are as the log says, if no pair comes and goes, and no class changes twice, since the last entry; one that counts reads shards as they are.
 module _ {K V : Type 0} (same : K → K → Bool) (hash : ℕ → K → ℕ) (name : ℕ → List ℕ) (log : Past K V) (m : Moment K V) (known : Known) (s : Scene K V) (old new : Held K V) (at : IsAt same hash old s)
-    (calls : ShowsCalls same name log m known s) (map i : ℕ) (u : UnderWay K V K) (here : s.calls map i ≡ Some u) (said : Progress (Node K V)) (leads : StepLeads same hash i said s old new) where
+    (calls : RefinesAllCalls same name log m known s) (map i : ℕ) (u : UnderWay K V K) (here : s.calls map i ≡ Some u) (said : Progress (Node K V)) (leads : StepLeads same hash i said s old new) where
   abbrev effects : List Effect
   effects = effects_of (acts.Call i map) known new.changed
 
@@ -76,7 +76,7 @@ module _ {K V : Type 0} (same : K → K → Bool) (hash : ℕ → K → ℕ) (na
       let there = (calls.whole.all.shown.maps map (leads map u here).0 (leads map u here).2).there in numbers_are_below K V m calls.numbers.0 map there.there there.is
 
   pub calls_show_on : OthersHadNext name log i m s → OthersHadTried name log i m s → OthersHadLimit name log i m s → PairsChangeFirst log m map v → ChangesFirst log m same map v
-      → ReadsShards log m s map u → ShowsNone said → ShowsCalls same name log v then_known (scene_after same s old new map i (leads map u here).0 u (leads map u here).1 said (leads map u here).4)
+      → ReadsShards log m s map u → ShowsNone said → RefinesAllCalls same name log v then_known (scene_after same s old new map i (leads map u here).0 u (leads map u here).1 said (leads map u here).4)
   calls_show_on others tried limit pairs classes shards none = record {
     whole = calls_keep_whole K V same hash name m known s old new at calls.whole map i u here said leads;
     numbers = (
@@ -145,5 +145,5 @@ rows_step K V same hash name log m known s old new at calls i said leads row her
     found : AtEachEffect HadRetired None None effects m × AtEachEffect WaitUnreclaimed None None effects m
     found = rows_find_kept K V same hash name m known s old new at calls.whole calls.kept i said leads row here
 
-    whole2 : ShowsWhole same name (with_effects None None effects m) (known_after acts.Row new.changed known) (scene_then same hash (Step i) s old new (leads row here).2)
+    whole2 : RefinesWhole same name (with_effects None None effects m) (known_after acts.Row new.changed known) (scene_then same hash (Step i) s old new (leads row here).2)
     whole2 = rows_keep_whole K V same hash name m known s old new at calls.whole i said leads row here found.0 found.1

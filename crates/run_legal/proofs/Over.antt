@@ -12,7 +12,7 @@ use Rattle.run_grows.specs.Given.RunsDeclared.event.Event.{Event}
 use Rattle.run_grows.specs.Given.RunsDeclared.event.Event.TheVariants as event
 use Rattle.run_grows.specs.Given.RunsDeclared.outcome.Outcome.{Outcome}
 use Rattle.run_grows.specs.Given.RunsDeclared.outcome.Outcome.TheVariants.{Done, Goes, Refused}
-use Rattle.run_grows.specs.Given.SchedulesAfter.{after, comes_to, is_alone_on, moment}
+use Rattle.run_grows.specs.Given.SchedulesAfter.{after, with_outcome, is_alone_on, moment}
 use Rattle.run_grows.specs.Given.SchedulesBeginning.{at_work}
 use Rattle.run_grows.specs.Given.SchedulesEffects.{AtEachEffect}
 use Rattle.run_grows.specs.Given.SchedulesEntry.{Entry, acted_on, caller_of, nameless}
@@ -22,7 +22,7 @@ use Rattle.run_grows.specs.Given.SchedulesTerms.{Terms}
 use Rattle.run_grows.specs.Given.SchedulesViews.{call_of}
 use Rattle.run_grows.specs.Given.CallersTogether.{UnderWay}
 use Rattle.run_grows.specs.Given.EffectsKnown.{Known}
-use Rattle.run_grows.specs.Given.PromisesReading.{ShowsReading}
+use Rattle.run_grows.specs.Given.PromisesReading.{RefinesReadings}
 use Rattle.run_grows.proofs.Given.PromisesBrief.Stays.{events_keep_readings}
 use Rattle.run_grows.specs.Given.ModelsCallEvents.{IsInItsRow}
 use Rattle.run_grows.specs.Given.ModelsFollows.{FollowsSets}
@@ -31,10 +31,10 @@ use Rattle.run_grows.specs.Given.FindsLife.{StoresOne}
 use Rattle.run_grows.specs.Given.FindsWithin.{GoesInOrder}
 use Rattle.run_grows.proofs.Given.FindsClosed.{over_stays_back}
 use Rattle.run_grows.proofs.Given.FindsRuns.{events_keep_order}
-use Rattle.run_grows.proofs.Given.PurposesTableless.{events_keep_tableless}
+use Rattle.run_sweeps.proofs.Purposes.Tableless.{events_keep_tableless}
 use Rattle.run_legal.specs.Between.{IsLike}
 use Rattle.run_legal.specs.Carried.{FollowsOrRows}
-use Rattle.run_legal.specs.Over.{IdleEventsEnd, LeavesAll, QuietEventsEnd, RunsByOtherNames, RunsGoOn}
+use Rattle.run_legal.specs.Over.{IdleEventsEnd, LeavesAll, SilentEventsEnd, RunsByOtherNames, RunsContinue}
 use Rattle.run_legal.proofs.LeftTold.{events_tell_left}
 use Rattle.run_legal.proofs.Between.{likes_show, logs_grow, named_as, names_change}
 use Rattle.run_grows.specs.Given.ScenesScene.{Scene, slot_of}
@@ -42,7 +42,7 @@ use Rattle.run_grows.specs.Given.SchedulesTransition.{past}
 use Rattle.run_grows.proofs.Given.ChangesLogs.{events_are}
 use Rattle.run_grows.proofs.Given.General.{both_true as and_both}
 
-pub runs_go_on : (K V : Type 0) (same : K → K → Bool) → RunsGoOn K V same
+pub runs_go_on : (K V : Type 0) (same : K → K → Bool) → RunsContinue K V same
 runs_go_on K V same name name2 terms log first known before s run e right life stores reclaims all reading sections follows = record {
   calls = logs_grow K V same name2 (past log) (moment (e ∷ log)) known s all (events_are (e ∷ log));
   reading = events_keep_readings K V name2 (past log) (moment (e ∷ log)) (λ j. 0) (moment (e ∷ log)) s reading (events_are (e ∷ log));
@@ -77,10 +77,10 @@ runs_by_other_names K V same name name2 terms log known s agree run = record {
     as_named map i u is c c_is = named_as name name2 (moment log) s agree map i u is c c_is
 
 -- lookups have read as much at a moment that is like this one
-pub reading_like : {K V : Type 0} (name : ℕ → List ℕ) (log : List (Entry K V)) (made : ℕ → ℕ) (m v : Moment K V) (s : Scene K V) → ShowsReading name (past log) made m s → IsLike m v
-    → ShowsReading name (past log) made v s
+pub reading_like : {K V : Type 0} (name : ℕ → List ℕ) (log : List (Entry K V)) (made : ℕ → ℕ) (m v : Moment K V) (s : Scene K V) → RefinesReadings name (past log) made m s → IsLike m v
+    → RefinesReadings name (past log) made v s
 reading_like {K} {V} name log made m v s reading like =
-    subst (λ (x : Moment K V). ShowsReading name (past log) made x s) (sym like) (record { past = reading.past; begun = reading.begun; reads = reading.reads })
+    subst (λ (x : Moment K V). RefinesReadings name (past log) made x s) (sym like) (record { past = reading.past; begun = reading.begun; reads = reading.reads })
 
 -- An event that leaves the waiting sets.
 
@@ -93,7 +93,7 @@ module _ {K V : Type 0} (terms : Terms) (known : Known) (w : World (Node K V)) w
   still_follows log e things sets follows =
       subst (λ (xs : List Thing). Following xs (sets_in terms.batch_size (e ∷ log))) (sym things) (subst (λ (x : Sets). Following (things_in log) x) (sym sets) follows)
 
-pub quiet_events_end : (K V : Type 0) (same : K → K → Bool) → QuietEventsEnd K V same
+pub quiet_events_end : (K V : Type 0) (same : K → K → Bool) → SilentEventsEnd K V same
 quiet_events_end K V same name terms log known before s run e right life nothing unchanged none_left reclaims v all reading like world sections =
     runs_go_on K V same name name terms log known known before s run e right life stores reclaims (likes_show K V same name (past log) v (moment (e ∷ log)) known s all like)
     (reading_like name log (λ j. 0) v (moment (e ∷ log)) s reading like) sections follows
@@ -112,9 +112,9 @@ quiet_events_end K V same name terms log known before s run e right life nothing
 
 module _ {K V : Type 0} (test : CallThere K V → Bool) where
   abbrev kept_as : CallThere K V → CallThere K V
-  kept_as c = if test c then comes_to {V = V} (Refused Busy) (record c { steps = c.steps + 0 }) else c
+  kept_as c = if test c then with_outcome {V = V} (Refused Busy) (record c { steps = c.steps + 0 }) else c
 
-  one_still : (c : CallThere K V) (q : Bool) → (if q then comes_to {V = V} (Refused Busy) (record c { steps = c.steps + 0 }) else c) ≡ c
+  one_still : (c : CallThere K V) (q : Bool) → (if q then with_outcome {V = V} (Refused Busy) (record c { steps = c.steps + 0 }) else c) ≡ c
   one_still c true = let none : c.steps + 0 ≡ c.steps = omega arith in ap (λ (n : ℕ). record c { steps = n }) none
   one_still c false = refl
 

@@ -15,7 +15,7 @@ use Rattle.run_grows.specs.Given.SchedulesAfter.{after, moment}
 use Rattle.run_grows.specs.Given.SchedulesEffects.{AtEachEffect, with_effect, worked}
 use Rattle.run_grows.specs.Given.SchedulesEntry.{Entry, acted_on, is_busy}
 use Rattle.run_grows.specs.Given.SchedulesHanding.{IsWhole, is_first_making}
-use Rattle.run_grows.specs.Given.SchedulesInTurn.{ComesRight, is_growth}
+use Rattle.run_grows.specs.Given.SchedulesInTurn.{HasRightOutcome, is_growth}
 use Rattle.run_grows.specs.Given.SchedulesLinearizable.{shift_of}
 use Rattle.run_grows.specs.Given.SchedulesLives.{Finds}
 use Rattle.run_grows.specs.Given.SchedulesModel.{IsByModel, sets_in, things_in}
@@ -27,14 +27,14 @@ use Rattle.run_grows.specs.Given.FinishesMakings.{Beginning, HasMade}
 use Rattle.run_grows.proofs.Given.HistoriesOtherCalls.{no_calls_are_linearizable}
 use Rattle.run_grows.specs.Given.PromisesSheltered.{SectionsHold}
 use Rattle.run_grows.proofs.Given.PromisesProtected.{other_events_end_protected}
-use Rattle.run_grows.proofs.Given.PurposesNothing.{no_calls_are_swept}
+use Rattle.run_sweeps.proofs.Purposes.Nothing.{no_calls_are_swept}
 use Rattle.run_grows.specs.Given.ModelsFollows.{FollowsModel}
 use Rattle.run_grows.proofs.Given.ModelsMapEvents.{making_events_begin as making_sets_begin}
 use Rattle.run_grows.specs.Given.FindsLife.{StoresOne}
-use Rattle.run_grows.specs.Given.SourcesStays.{NoneBorn}
+use Rattle.run_grows.specs.Sources.Stays.{NoneBorn}
 use Rattle.run_legal.specs.Between.{IsLike}
 use Rattle.run_legal.specs.CallEvents.{IsLegalBut}
-use Rattle.run_legal.specs.Carried.{ComesAlone, ShowsRun}
+use Rattle.run_legal.specs.Carried.{IsSequential, RefinesRun}
 use Rattle.run_legal.specs.MapEvents.{InMakingEvent}
 use Rattle.run_legal.proofs.Between.{likes_show}
 use Rattle.run_legal.proofs.BetweenMaps.{makings_begin}
@@ -48,9 +48,9 @@ use Rattle.run_grows.specs.Given.SchedulesTransition.{past, transition}
 
 -- As it begins the event is in its midst.
 module _ (K V : Type 0) (same : K → K → Bool) (hash : ℕ → K → ℕ) (name : ℕ → List ℕ) (terms : Terms) (log : List (Entry K V)) (known : Known) (s : Scene K V) (old new : Held K V) (at : IsAt same hash old s)
-    (run : ShowsRun same name terms log known s) (own : List ℕ) (mode : ResizeMode) (capacity : ℕ) (there : MapThere) (number : there.number ≡ (moment log).made) (i : ℕ) (b : Beginning K) where
+    (run : RefinesRun same name terms log known s) (own : List ℕ) (mode : ResizeMode) (capacity : ℕ) (there : MapThere) (number : there.number ≡ (moment log).made) (i : ℕ) (b : Beginning K) where
   pub refused_begins : s.makers i ≡ None → b.map ≡ there.number → (HasMade b.machine.stands → ⊥)
-      → (ComesAlone (MakeMap own mode capacity) log → FollowsModel terms.batch_size terms.roots log known s.world) → IsAt same hash new (record s { makers = with_at s.makers i (Some b) })
+      → (IsSequential (MakeMap own mode capacity) log → FollowsModel terms.batch_size terms.roots log known s.world) → IsAt same hash new (record s { makers = with_at s.makers i (Some b) })
       → InMakingEvent same name terms log (MakeMap own mode capacity) b.map (moment log) [] (moment log) known (record s { makers = with_at s.makers i (Some b) })
   refused_begins idle map_is not_made before at2 = (
     record {
@@ -86,7 +86,7 @@ asks_shift (_ ∷ fs) asks = absurd (cc asks)
 module _ (K V : Type 0) (same : K → K → Bool) (name : ℕ → List ℕ) (terms : Terms) (log : List (Entry K V)) (known known2 : Known) (before s : Scene K V) (own : List ℕ) (mode : ResizeMode) (capacity : ℕ) (fault : Fault)
     (steps map : ℕ) (effects : List Effect) (midst : InMakingEvent same name terms log (MakeMap own mode capacity) map (moment log) effects (moment log) known2 s)
     (asks : list_all is_growth effects ≡ true) (or_nothing : (fault ≡ Memory) ⊎ (effects ≡ [])) (firsts : list_all is_first_making effects ≡ true) (never : is_busy {V = V} (Refused fault) ≡ false)
-    (run : ShowsRun same name terms log known before) where
+    (run : RefinesRun same name terms log known before) where
   abbrev e : Entry K V
   e = record { event = MakeMap own mode capacity; outcome = Refused fault; steps = steps; effects = effects }
 
@@ -132,7 +132,7 @@ module _ (K V : Type 0) (same : K → K → Bool) (name : ℕ → List ℕ) (ter
   like = subst (λ (x : Moment K V). IsLike x (moment (e ∷ log))) worked_is refl
 
   -- Once it is over the event is legal, and the run goes on.
-  pub refused_ends : ComesRight terms log e → IsLegalBut same terms log e × ShowsRun same name terms (e ∷ log) known2 s
+  pub refused_ends : HasRightOutcome terms log e → IsLegalBut same terms log e × RefinesRun same name terms (e ∷ log) known2 s
   refused_ends right = (
     legal,
     runs_go_on K V same name name terms log known known2 before s run e right legal.life (asks_store terms (acted_on e.event m) effects m asks) tt

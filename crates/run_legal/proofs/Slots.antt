@@ -14,7 +14,7 @@ use Rattle.run_grows.specs.Given.SchedulesMoment.{Moment}
 use Rattle.run_grows.specs.Given.EffectsEffects.{effects_of, known_after}
 use Rattle.run_grows.specs.Given.EffectsKnown.{Known}
 use Rattle.run_grows.specs.Given.EffectsDeclared.acting.Acting.TheVariants as acts
-use Rattle.run_grows.specs.Given.MomentsWhole.{ShowsWhole}
+use Rattle.run_grows.specs.Given.MomentsWhole.{RefinesWhole}
 use Rattle.run_grows.proofs.Given.MomentsAfter.{effects_after}
 use Rattle.run_grows.specs.Given.PromisesProtected.{InMidst, is_of_slots}
 use Rattle.run_grows.specs.Given.PromisesSheltered.{SectionsHold}
@@ -25,7 +25,7 @@ use Rattle.run_grows.specs.Given.ModelsFollows.{FollowsSets}
 use Rattle.run_grows.specs.Given.ModelsOnSlots.{FollowsInRow}
 use Rattle.run_grows.proofs.Given.ModelsMapEvents.{moments_note_once}
 use Rattle.run_grows.proofs.Given.ModelsOnSlots.{slot_events_begin, slot_events_go_on}
-use Rattle.run_legal.specs.SlotEvents.{SlotEventsBegin, SlotEventsGoOn}
+use Rattle.run_legal.specs.SlotEvents.{SlotEventsBegin, SlotEventsContinue}
 use Rattle.run_grows.specs.Given.ScenesRows.{request_of}
 use Rattle.run_grows.specs.Given.ScenesScene.{slot_of}
 use Rattle.run_grows.specs.Given.SchedulesTransition.{past}
@@ -71,7 +71,7 @@ slot_events_begin_so K V same hash name terms log known s old new at size run ev
           (subst (λ (n : ℕ). FollowsSets n terms.roots (things_in log) (sets_in terms.batch_size log) known s.world) (sym size) (before alone)) i request (of_slots (slot_of i) called) to.1.0 to.1.1);
     }
 
-pub slot_events_go_on_so : (K V : Type 0) (same : K → K → Bool) (hash : ℕ → K → ℕ) → SlotEventsGoOn K V same hash
+pub slot_events_go_on_so : (K V : Type 0) (same : K → K → Bool) (hash : ℕ → K → ℕ) → SlotEventsContinue K V same hash
 slot_events_go_on_so K V same hash name terms log event i called first began done m known s midst old new at size said leads row here = record {
   of_slots = midst.of_slots;
   once = midst.once;
@@ -86,7 +86,7 @@ slot_events_go_on_so K V same hash name terms log event i called first began don
       (subst (λ (n : ℕ). FollowsInRow n terms.roots (things_in log) (sets_in terms.batch_size log) first i request began done known s.world) (sym size) (midst.follows alone)));
 }
   where
-    whole : ShowsWhole same name m known s
+    whole : RefinesWhole same name m known s
     whole = midst.calls.whole
 
     request : Request

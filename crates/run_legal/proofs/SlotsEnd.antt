@@ -14,7 +14,7 @@ use Rattle.run_grows.specs.Given.SchedulesAfter.{after, is_by, moment, moments_f
 use Rattle.run_grows.specs.Given.SchedulesBeginning.{begun}
 use Rattle.run_grows.specs.Given.SchedulesEffects.{AtEachEffect, worked}
 use Rattle.run_grows.specs.Given.SchedulesEntry.{Entry, IfCall, acting, caller_of, is_busy, speaker}
-use Rattle.run_grows.specs.Given.SchedulesHanding.{AllFind, IsWhole, LeavesOf, asks_for_bucket, comes_clear, gives_all, is_granted, is_made, is_only, is_reclaiming, may_do, refuses}
+use Rattle.run_grows.specs.Given.SchedulesHanding.{AllFind, IsWhole, LeavesOf, asks_for_bucket, is_clear_outcome, gives_all, is_granted, is_made, is_only, is_reclaiming, may_do, refuses}
 use Rattle.run_grows.specs.Given.SchedulesLinearizable.{shift_of}
 use Rattle.run_grows.specs.Given.SchedulesLives.{Finds}
 use Rattle.run_grows.specs.Given.SchedulesModel.{IsByModel, back_by_model, number_in, thing_back, things_in}
@@ -29,9 +29,9 @@ use Rattle.run_grows.proofs.Given.ModelsOnSlots.{slot_events_end}
 use Rattle.run_grows.specs.Given.PromisesProtected.{is_of_slots}
 use Rattle.run_grows.specs.Given.PromisesSheltered.{SectionsHold}
 use Rattle.run_grows.proofs.Given.PromisesProtected.{slot_events_end_protected}
-use Rattle.run_grows.proofs.Given.PurposesNothing.{no_calls_are_swept}
+use Rattle.run_sweeps.proofs.Purposes.Nothing.{no_calls_are_swept}
 use Rattle.run_legal.specs.CallEvents.{IsLegalBut}
-use Rattle.run_legal.specs.Carried.{ComesAlone}
+use Rattle.run_legal.specs.Carried.{IsSequential}
 use Rattle.run_legal.specs.SlotEvents.{SlotEventsAreLegal}
 use Rattle.run_grows.specs.Given.ScenesRows.{request_of}
 use Rattle.run_grows.specs.Given.ScenesScene.{slot_of}
@@ -142,7 +142,7 @@ slots_are_legal_but K V same terms log e on may finds granted busy protected by_
     granted = granted;
     refuses = ap (λ (q : Bool). not q || not (list_any is_made e.effects)) (never_refuses e.event on);
     whole = whole_so e.effects (moment log) (worked e (moment log)) e.event e.outcome on busy;
-    leaves = subst (λ (o : Option (List ℕ)). IfCall (LeavesOf (comes_clear e.outcome) e.outcome) (acting o (worked e (moment log)))) (sym none) tt;
+    leaves = subst (λ (o : Option (List ℕ)). IfCall (LeavesOf (is_clear_outcome e.outcome) e.outcome) (acting o (worked e (moment log)))) (sym none) tt;
   };
   protected = protected;
   by_model = by_model;
@@ -161,11 +161,11 @@ slot_events_are_legal K V same name terms log i called first began m known s e m
     safe : IsProtected log e × SectionsHold (after e (moment log)) known s.world
     safe = slot_events_end_protected K V log e m known s.world midst.of_slots midst.worked midst.protects ends
 
-    followed : ComesAlone e.event log → IsFollowed terms log e known s.world
+    followed : IsSequential e.event log → IsFollowed terms log e known s.world
     followed alone =
         slot_events_end K V terms log e first i (request_of (slot_of i) called) known began s.world small midst.once (midst.follows alone) rests m midst.calls.whole.all.shown.blocks (is_row alone)
 
-    before : (after e (moment log)).is_alone ≡ true → ComesAlone e.event log
+    before : (after e (moment log)).is_alone ≡ true → IsSequential e.event log
     before alone = subst (λ (q : Bool). ((moment log).is_alone && (q || list_all (is_by (speaker e.event)) (moment log).calls)) ≡ true) busy alone
 
     by : (q : Bool) → (after e (moment log)).is_alone ≡ q → IsByModel terms log e

@@ -18,17 +18,17 @@ use Rattle.run_grows.proofs.Given.CallersTogether.At.{at_same, at_other}
 use Rattle.run_grows.specs.Given.EffectsKnown.{Known}
 use Rattle.run_grows.specs.Given.FinishesMakings.{Beginning, IsNewChart}
 use Rattle.run_grows.specs.Given.FinishesMaps.{Standing, IsSameMap}
-use Rattle.run_grows.specs.Given.FollowsShows.{Shows}
+use Rattle.run_grows.specs.Given.FollowsShows.{Refines}
 use Rattle.run_grows.specs.Given.OthersMakings.{making_after}
 use Rattle.run_grows.specs.Given.MomentsNumbers.{NumbersMaps}
 use Rattle.run_grows.proofs.Given.MomentsNumbers.{maps_come_by_number}
 use Rattle.run_grows.proofs.Given.SpotsEffects.{AllAside, aside_all}
 use Rattle.run_grows.specs.Given.FindsWithin.{many_of, AllIsInOrder}
-use Rattle.run_grows.specs.Given.SourcesSources.{ShowsSources}
-use Rattle.run_grows.specs.Given.SourcesStays.{StandsAsBefore, NoneBorn}
-use Rattle.run_grows.proofs.Given.SourcesNew.{aside_stores_none}
-use Rattle.run_grows.proofs.Given.SourcesStays.{sources_stay}
-use Rattle.run_grows.proofs.Given.SourcesSteps.{same_standing}
+use Rattle.run_grows.specs.Sources.Sources.{RefinesSources}
+use Rattle.run_grows.specs.Sources.Stays.{MapIsAsBefore, NoneBorn}
+use Rattle.run_grows.proofs.Sources.New.{aside_stores_none}
+use Rattle.run_grows.proofs.Sources.Stays.{sources_stay}
+use Rattle.run_grows.proofs.Sources.Steps.{same_standing}
 use Rattle.run_grows.specs.Given.ScenesEnding.{ending_begun}
 use Rattle.run_grows.specs.Given.ScenesHeld.{Held}
 use Rattle.run_grows.specs.Given.ScenesMaking.{MakingLeads}
@@ -47,13 +47,13 @@ pub reclaimed_aside : (xs : List Thing) → AllAside (map Reclaimed xs)
 reclaimed_aside [] = tt
 reclaimed_aside (x ∷ xs) = (refl, reclaimed_aside xs)
 
-module _ (K V : Type 0) (same : K → K → Bool) (name : ℕ → List ℕ) (m v : Moment K V) (known known2 : Known) (s t : Scene K V) (sources : ShowsSources same name m known s) (shown2 : Shows same name v known2 t)
+module _ (K V : Type 0) (same : K → K → Bool) (name : ℕ → List ℕ) (m v : Moment K V) (known known2 : Known) (s t : Scene K V) (sources : RefinesSources same name m known s) (shown2 : Refines same name v known2 t)
     (stored : v.stored ≡ m.stored) (born : v.born ≡ m.born) (spot : v.spot ≡ m.spot) where
   abbrev Goal : Type 0
-  Goal = ShowsSources same name v known2 t
+  Goal = RefinesSources same name v known2 t
 
   -- where each map stands as before, or as a new one
-  pub sources_where : ((n : ℕ) (st2 : Standing K) → t.maps n ≡ Some st2 → StandsAsBefore m v s n st2) → Goal
+  pub sources_where : ((n : ℕ) (st2 : Standing K) → t.maps n ≡ Some st2 → MapIsAsBefore m v s n st2) → Goal
   sources_where stands = sources_stay K V same name m v known known2 s t sources shown2 (record {
     stored = ap length stored;
     born = λ k l. ap (λ (f : ℕ → TableId). f k) born;
@@ -70,21 +70,21 @@ module _ (K V : Type 0) (same : K → K → Bool) (name : ℕ → List ℕ) (m v
 
 -- as effects come that move no pair
 module _ (K V : Type 0) (same : K → K → Bool) (name : ℕ → List ℕ) (m : Moment K V) (known known2 : Known) (s t : Scene K V) (who : Option (List ℕ)) (acted : Option ℕ) (effects : List Effect) (all : AllAside effects)
-    (sources : ShowsSources same name m known s) (shown2 : Shows same name (with_effects who acted effects m) known2 t) where
+    (sources : RefinesSources same name m known s) (shown2 : Refines same name (with_effects who acted effects m) known2 t) where
   abbrev v : Moment K V
   v = with_effects who acted effects m
 
-  pub sources_aside : ((n : ℕ) (st2 : Standing K) → t.maps n ≡ Some st2 → StandsAsBefore m (with_effects who acted effects m) s n st2) → ShowsSources same name (with_effects who acted effects m) known2 t
+  pub sources_aside : ((n : ℕ) (st2 : Standing K) → t.maps n ≡ Some st2 → MapIsAsBefore m (with_effects who acted effects m) s n st2) → RefinesSources same name (with_effects who acted effects m) known2 t
   sources_aside stands =
       let aside = aside_all who acted effects m all in
       sources_where K V same name m v known known2 s t sources shown2 (aside_stores_none who acted effects m all) aside.born aside.spot stands
 
-  pub same_maps_aside : ((n : ℕ) → IsSameMap (s.maps n) (t.maps n)) → ShowsSources same name (with_effects who acted effects m) known2 t
+  pub same_maps_aside : ((n : ℕ) → IsSameMap (s.maps n) (t.maps n)) → RefinesSources same name (with_effects who acted effects m) known2 t
   same_maps_aside maps =
       let aside = aside_all who acted effects m all in
       sources_same K V same name m v known known2 s t sources shown2 (aside_stores_none who acted effects m all) aside.born aside.spot maps
 
-  pub so_aside : ((n : ℕ) (st2 : Standing K) → t.maps n ≡ Some st2 → s.maps n ≡ Some st2) → ShowsSources same name (with_effects who acted effects m) known2 t
+  pub so_aside : ((n : ℕ) (st2 : Standing K) → t.maps n ≡ Some st2 → s.maps n ≡ Some st2) → RefinesSources same name (with_effects who acted effects m) known2 t
   so_aside was = sources_aside (λ n st2 is. inl (st2, was n st2 is, refl, refl))
 
 -- no pair was stored in a map of a number that none has had
@@ -113,7 +113,7 @@ new_bare {K} hash setting places c (inr new) t i mark is = let none = ap (λ (x 
 
 -- as a map is made
 module _ (K V : Type 0) (same : K → K → Bool) (hash : ℕ → K → ℕ) (name : ℕ → List ℕ) (m : Moment K V) (known known2 : Known) (s : Scene K V) (old new : Held K V) (i : ℕ) (b : Beginning K) (here : s.makers i ≡ Some b)
-    (acted : Option ℕ) (effects : List Effect) (all : AllAside effects) (sources : ShowsSources same name m known s) (none : NoneBorn b.map m) where
+    (acted : Option ℕ) (effects : List Effect) (all : AllAside effects) (sources : RefinesSources same name m known s) (none : NoneBorn b.map m) where
   abbrev then_at : Moment K V
   then_at = with_effects None acted effects m
 
@@ -125,7 +125,7 @@ module _ (K V : Type 0) (same : K → K → Bool) (hash : ℕ → K → ℕ) (na
 
   pub making_sources : (said : Making Setting) (leads : MakingLeads same hash i said s old new)
       → (let t = making_after same hash s old new i b (leads b here).0 (leads b here).2.step.w2 said (leads b here).3 in
-      Shows same name (with_effects None acted effects m) known2 t → ShowsSources same name (with_effects None acted effects m) known2 t)
+      Refines same name (with_effects None acted effects m) known2 t → RefinesSources same name (with_effects None acted effects m) known2 t)
   making_sources progress.Goes leads shown2 = so_aside K V same name m known known2 s (led progress.Goes leads) None acted effects all sources shown2 (λ n st2 is. is)
   making_sources progress.Waits leads shown2 = absurd (leads b here).3
   making_sources (progress.Refused fault) leads shown2 = so_aside K V same name m known known2 s (led (progress.Refused fault) leads) None acted effects all sources shown2 (λ n st2 is. is)
@@ -135,8 +135,8 @@ module _ (K V : Type 0) (same : K → K → Bool) (hash : ℕ → K → ℕ) (na
       made : Standing K
       made = (leads b here).3.0
 
-      stands : (n : ℕ) (st2 : Standing K) → (led (progress.Done setting) leads).maps n ≡ Some st2 → StandsAsBefore m then_at s n st2
-      stands n st2 is = elim (cases_eq n b.map) as (λ _. StandsAsBefore m then_at s n st2) [
+      stands : (n : ℕ) (st2 : Standing K) → (led (progress.Done setting) leads).maps n ≡ Some st2 → MapIsAsBefore m then_at s n st2
+      stands n st2 is = elim (cases_eq n b.map) as (λ _. MapIsAsBefore m then_at s n st2) [
         | inl e ↦
             let one = one_of st2 made (sym is ∙ at_same s.maps b.map (Some made) n e) in
             inr (

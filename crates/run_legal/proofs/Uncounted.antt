@@ -10,9 +10,9 @@ use Rattle.run_grows.specs.Given.CallersTogether.{UnderWay}
 use Rattle.run_grows.specs.Given.EffectsEffects.{effects_of}
 use Rattle.run_grows.specs.Given.EffectsKnown.{Known}
 use Rattle.run_grows.specs.Given.EffectsDeclared.acting.Acting.TheVariants as acts
-use Rattle.run_grows.specs.Given.MomentsWhole.{ShowsWhole}
-use Rattle.run_grows.specs.Given.KeptKept.{ShowsKept}
-use Rattle.run_grows.specs.Given.ShardsShardWords.{ShowsCounters}
+use Rattle.run_grows.specs.Given.MomentsWhole.{RefinesWhole}
+use Rattle.run_grows.specs.Given.KeptKept.{RefinesKept}
+use Rattle.run_grows.specs.Given.ShardsShardWords.{RefinesCounters}
 use Rattle.run_grows.proofs.Given.ShardsShardNumbers.{calls_spare_others}
 use Rattle.run_legal.specs.Carried.{NoneCounted}
 use Rattle.run_grows.specs.Given.ScenesHeld.{Held, IsAt}
@@ -32,7 +32,7 @@ module _ {K V : Type 0} (caller : Option (List ℕ)) (acted : Option ℕ) where
 
 -- a step of a call counts on its map alone, which was made
 pub calls_leave_uncounted : {K V : Type 0} (same : K → K → Bool) (hash : ℕ → K → ℕ) (name : ℕ → List ℕ) (m : Moment K V) (known : Known) (s : Scene K V) (old new : Held K V) → IsAt same hash old s
-    → ShowsWhole same name m known s → ShowsKept name m known s → ShowsCounters name m s → NoneCounted m
+    → RefinesWhole same name m known s → RefinesKept name m known s → RefinesCounters name m s → NoneCounted m
     → (map i : ℕ) (u : UnderWay K V K) (here : s.calls map i ≡ Some u) (said : Progress (Node K V)) (leads : StepLeads same hash i said s old new) → map < m.made
     → NoneCounted (with_effects (Some (name i)) (Some map) (effects_of (acts.Call i map) known new.changed) m)
 calls_leave_uncounted same hash name m known s old new at whole kept counters none map i u here said leads below of low shard =

@@ -2,3 +2,4 @@
 pub mod Mays
 pub mod Reached
 pub mod Needs
+pub mod Registering

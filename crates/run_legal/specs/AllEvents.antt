@@ -20,7 +20,7 @@ use Rattle.run_grows.specs.Given.SchedulesAfter.{moment}
 use Rattle.run_grows.specs.Given.SchedulesEffects.{with_effects, AtEachEffect}
 use Rattle.run_grows.specs.Given.SchedulesEntry.{Entry}
 use Rattle.run_grows.specs.Given.SchedulesHanding.{gives_all, is_granted, is_reclaiming}
-use Rattle.run_grows.specs.Given.SchedulesInTurn.{ComesRight}
+use Rattle.run_grows.specs.Given.SchedulesInTurn.{HasRightOutcome}
 use Rattle.run_grows.specs.Given.SchedulesLives.{MayReclaim}
 use Rattle.run_grows.specs.Given.SchedulesModel.{all_left, thing_back}
 use Rattle.run_grows.specs.Given.SchedulesMoment.{Left, Moment}
@@ -33,7 +33,7 @@ use Rattle.run_grows.specs.Given.FinishesMaps.{Standing}
 use Rattle.run_grows.specs.Given.MomentsOnSlots.{HadRetired}
 use Rattle.run_grows.specs.Given.SeizeReclaimsRoots.{all_lists}
 use Rattle.run_grows.specs.Given.ScenesReclaiming.{IsReclaiming, ReclaimingLeads}
-use Rattle.run_grows.specs.Given.PromisesReading.{ShowsReading}
+use Rattle.run_grows.specs.Given.PromisesReading.{RefinesReadings}
 use Rattle.run_grows.specs.Given.ModelsFollows.{FollowsModel}
 use Rattle.run_grows.specs.Given.ModelsNumbers.{EachIsOnce, things_of}
 use Rattle.run_grows.specs.Given.ModelsReclaims.{HasReclaimed}
@@ -41,7 +41,7 @@ use Rattle.run_grows.specs.Given.ModelsTurns.{CameByTurns}
 use Rattle.run_grows.specs.Given.FindsLittle.{ReclaimsAll}
 use Rattle.run_grows.specs.Given.FindsOrderly.{is_left_over}
 use Rattle.run_legal.specs.CallEvents.{IsLegalBut}
-use Rattle.run_legal.specs.Carried.{ComesAlone, LeftIsTold, ShowsCalls, ShowsRun}
+use Rattle.run_legal.specs.Carried.{IsSequential, LeftIsNoted, RefinesAllCalls, RefinesRun}
 use Rattle.run_legal.specs.Chains.{Chain, Come}
 use Rattle.run_grows.specs.Given.ScenesHeld.{Held}
 use Rattle.run_grows.specs.Given.ScenesScene.{Scene}
@@ -63,22 +63,22 @@ FindsPair m (Reclaimed (APair n)) = MayReclaim true (m.place n)
 FindsPair m _ = Unit {0}
 
 -- each pair that is left over is in a block behind a root
-abbrev pub LeftIsBehind : {K V : Type 0} → ℕ → Moment K V → Known → (ℕ → List ℕ) → Type 0
-LeftIsBehind roots m known lists = (n : ℕ) → is_left_over (m.place n) ≡ true → (b : ℕ) × (known.roles b ≡ role.Pair n) × (0 < times b (all_lists lists roots))
+abbrev pub LeftIsBehindRoots : {K V : Type 0} → ℕ → Moment K V → Known → (ℕ → List ℕ) → Type 0
+LeftIsBehindRoots roots m known lists = (n : ℕ) → is_left_over (m.place n) ≡ true → (b : ℕ) × (known.roles b ≡ role.Pair n) × (0 < times b (all_lists lists roots))
 
 -- what is behind the roots is what the moment says that ended maps have left over, in that order
-abbrev pub BehindIsLeft : {K V : Type 0} → ℕ → Moment K V → Known → (ℕ → List ℕ) → Type 0
-BehindIsLeft roots m known lists = flat_map (λ (b : ℕ). things_of (known.roles b)) (all_lists lists roots) ≡ all_left m
+abbrev pub BehindRootsIsLeft : {K V : Type 0} → ℕ → Moment K V → Known → (ℕ → List ℕ) → Type 0
+BehindRootsIsLeft roots m known lists = flat_map (λ (b : ℕ). things_of (known.roles b)) (all_lists lists roots) ≡ all_left m
 
 -- each pair in a block behind a root is left over
-abbrev pub BehindAreLeft : {K V : Type 0} → ℕ → Moment K V → Known → (ℕ → List ℕ) → Type 0
-BehindAreLeft roots m known lists = (b n : ℕ) → 0 < times b (all_lists lists roots) → known.roles b ≡ role.Pair n → m.place n ≡ Left
+abbrev pub BehindRootsAreLeft : {K V : Type 0} → ℕ → Moment K V → Known → (ℕ → List ℕ) → Type 0
+BehindRootsAreLeft roots m known lists = (b n : ℕ) → 0 < times b (all_lists lists roots) → known.roles b ≡ role.Pair n → m.place n ≡ Left
 
 -- The promise: so it is where what is behind the roots is noted as the pairs that the moment tells, and those are the ones that are left over.
-abbrev pub BehindIsTold : Type 0 → Type 0 → Type 0
-BehindIsTold K V =
-    (roots : ℕ) (m : Moment K V) (known : Known) (lists : ℕ → List ℕ) → map known.roles (all_lists lists roots) ≡ map role.Pair (flat_map (λ r. r.pairs) m.remains) → LeftIsTold m
-    → LeftIsBehind roots m known lists × BehindIsLeft roots m known lists × BehindAreLeft roots m known lists
+abbrev pub BehindRootsIsNoted : Type 0 → Type 0 → Type 0
+BehindRootsIsNoted K V =
+    (roots : ℕ) (m : Moment K V) (known : Known) (lists : ℕ → List ℕ) → map known.roles (all_lists lists roots) ≡ map role.Pair (flat_map (λ r. r.pairs) m.remains) → LeftIsNoted m
+    → LeftIsBehindRoots roots m known lists × BehindRootsIsLeft roots m known lists × BehindRootsAreLeft roots m known lists
 
 module _ {K V : Type 0} (roots : ℕ) (first : Known) (began : World (Node K V)) (behind : ℕ → List ℕ) where
   -- What it has reclaimed so far, as it was noted at first, since it began in that world with these lists behind the roots: blocks that were retired, and after all of these those that are behind
@@ -96,14 +96,14 @@ module _ {K V : Type 0} (same : K → K → Bool) (name : ℕ → List ℕ) (ter
   -- In the midst of an event that reclaims all, which began so, and has done this: it reclaims alone, each table as one that was retired; and each pair that is left over is behind a root still.
   pub record InAllEvent (done : List Effect) (m : Moment K V) (known : Known) (s : Scene K V) (all : ReclaimAll) (lists : ℕ → List ℕ) : Type 0 where
     pub once : EachIsOnce first
-    pub calls : ShowsCalls same name (past log) m known s
-    pub reading : ShowsReading name (past log) (λ j. 0) m s
+    pub calls : RefinesAllCalls same name (past log) m known s
+    pub reading : RefinesReadings name (past log) (λ j. 0) m s
     pub worked : m ≡ with_effects None None done (moment log)
     pub granted : is_granted false done ≡ true
     pub may : list_all is_reclaiming done ≡ true
     pub had : AtEachEffect HadRetired None None done (moment log)
     pub turn : TakesInTurn terms.roots first began behind done known s.world all lists
-    pub left : LeftIsBehind terms.roots m known lists
+    pub left : LeftIsBehindRoots terms.roots m known lists
 
 module _ {K V : Type 0} (same : K → K → Bool) (hash : ℕ → K → ℕ) (terms : Terms) (i : ℕ) where
   -- It begins, as if by caller i: with the slots, if one was taken, else with the roots.
@@ -146,8 +146,8 @@ module _ (K V : Type 0) (same : K → K → Bool) (hash : ℕ → K → ℕ) whe
   -- An event is in its midst where all begins to be reclaimed, if what is left over is behind the roots;
   abbrev pub AllEventsBegin : Type 0
   AllEventsBegin =
-      (name : ℕ → List ℕ) (terms : Terms) (log : List (Entry K V)) (known : Known) (s : Scene K V) → ShowsRun same name terms log known s
-      → (all : ReclaimAll) (lists : ℕ → List ℕ) → LeftIsBehind terms.roots (moment log) known lists
+      (name : ℕ → List ℕ) (terms : Terms) (log : List (Entry K V)) (known : Known) (s : Scene K V) → RefinesRun same name terms log known s
+      → (all : ReclaimAll) (lists : ℕ → List ℕ) → LeftIsBehindRoots terms.roots (moment log) known lists
       → InAllEvent same name terms log known s.world lists [] (moment log) known s all lists
 
   -- wherever a chain of its steps has led;
@@ -160,8 +160,8 @@ module _ (K V : Type 0) (same : K → K → Bool) (hash : ℕ → K → ℕ) whe
   -- there each pair that it has reclaimed was handed over, or left over, if no call was under way as it began, and what was behind the roots was left over;
   abbrev pub AllFindPairs : Type 0
   AllFindPairs =
-      (name : ℕ → List ℕ) (terms : Terms) (log : List (Entry K V)) (known : Known) (s : Scene K V) (old : Held K V) → ShowsRun same name terms log known s → (moment log).calls ≡ []
-      → (i : ℕ) (all : ReclaimAll) (lists : ℕ → List ℕ) → LeftIsBehind terms.roots (moment log) known lists → BehindAreLeft terms.roots (moment log) known lists
+      (name : ℕ → List ℕ) (terms : Terms) (log : List (Entry K V)) (known : Known) (s : Scene K V) (old : Held K V) → RefinesRun same name terms log known s → (moment log).calls ≡ []
+      → (i : ℕ) (all : ReclaimAll) (lists : ℕ → List ℕ) → LeftIsBehindRoots terms.roots (moment log) known lists → BehindRootsAreLeft terms.roots (moment log) known lists
       → (n : ℕ) (to : AllCome K V) → Chain (AllSteps same hash terms i) n (all_begun log known s old all lists) to → AtEachEffect FindsPair None None to.come.did (moment log)
 
   -- and where its last step has said that all is reclaimed, its work on slots has reclaimed what the waiting sets of blocks say, in the world of the scene, and left the sets so,
@@ -177,12 +177,12 @@ module _ (K V : Type 0) (same : K → K → Bool) (hash : ℕ → K → ℕ) whe
   -- each pair that is reclaimed was handed over or left over.
   abbrev pub AllRunsToItsEnd : Type 0
   AllRunsToItsEnd =
-      (name : ℕ → List ℕ) (terms : Terms) (log : List (Entry K V)) (known : Known) (s : Scene K V) (old : Held K V) → terms.batch_size < 2 ^ 64 → ShowsRun same name terms log known s
-      → (event : Event K V) → gives_all event ≡ true → (ComesAlone event log → FollowsModel terms.batch_size terms.roots log known s.world)
-      → (i : ℕ) (all : ReclaimAll) (lists : ℕ → List ℕ) → LeftIsBehind terms.roots (moment log) known lists → BehindIsLeft terms.roots (moment log) known lists
+      (name : ℕ → List ℕ) (terms : Terms) (log : List (Entry K V)) (known : Known) (s : Scene K V) (old : Held K V) → terms.batch_size < 2 ^ 64 → RefinesRun same name terms log known s
+      → (event : Event K V) → gives_all event ≡ true → (IsSequential event log → FollowsModel terms.batch_size terms.roots log known s.world)
+      → (i : ℕ) (all : ReclaimAll) (lists : ℕ → List ℕ) → LeftIsBehindRoots terms.roots (moment log) known lists → BehindRootsIsLeft terms.roots (moment log) known lists
       → BeginsAll same hash terms i (all_begun log known s old all lists)
       → (n : ℕ) (to over : AllCome K V) → Chain (AllSteps same hash terms i) n (all_begun log known s old all lists) to
       → (last : AllSteps same hash terms i to over) → last.said ≡ settled.Done
       → (steps : ℕ) (effects : List Effect) → over.come.did ≡ effects → AtEachEffect FindsPair None None effects (moment log)
       → (let e : Entry K V = record { event = event; outcome = Done; steps = steps; effects = effects } in
-      ComesRight terms log e → IsLegalBut same terms log e × ReclaimsAll log e × ShowsRun same name terms (e ∷ log) over.come.notes over.come.scene)
+      HasRightOutcome terms log e → IsLegalBut same terms log e × ReclaimsAll log e × RefinesRun same name terms (e ∷ log) over.come.notes over.come.scene)

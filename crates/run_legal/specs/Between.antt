@@ -15,12 +15,12 @@ use Rattle.run_grows.specs.Given.RawMachine.{machine_replied}
 use Rattle.run_grows.specs.Given.CallersOverAll.{CallOverAll, gone_on}
 use Rattle.run_grows.specs.Given.CallersTogether.{UnderWay, OverAll}
 use Rattle.run_grows.specs.Given.EffectsKnown.{Known}
-use Rattle.run_grows.specs.Given.FinishesMachines.{machine_of, ToldOfKind}
+use Rattle.run_grows.specs.Given.FinishesMachines.{machine_of, RepliedOfKind}
 use Rattle.run_grows.specs.Given.FinishesMakings.{Beginning, HasMade}
 use Rattle.run_grows.specs.Given.FinishesMaps.{Standing, with_call as with_call_of}
 use Rattle.run_grows.specs.Given.FollowsCalling.{NoneNamed, told}
 use Rattle.run_grows.specs.Given.FollowsCalls.{IsCalled}
-use Rattle.run_grows.specs.Given.HandsAsked.{as_told}
+use Rattle.run_grows.specs.Given.HandsAsked.{reply_to_machine}
 use Rattle.run_grows.specs.Given.HandsCalling.{IsBegunFor}
 use Rattle.run_grows.specs.Given.OthersEndings.{without_map}
 use Rattle.run_grows.specs.Given.OthersWalks.{given_up}
@@ -29,7 +29,7 @@ use Rattle.run_grows.specs.Given.ChangesChanges.{IsTaken}
 use Rattle.run_grows.specs.Given.PromisesMeanwhile.{BeginsToLook}
 use Rattle.run_grows.specs.Given.PurposesPurposes.{IsFor}
 use Rattle.run_grows.specs.Given.ShardsShardWords.{IsUncounted}
-use Rattle.run_legal.specs.Carried.{ShowsCalls}
+use Rattle.run_legal.specs.Carried.{RefinesAllCalls}
 use Rattle.run_grows.specs.Given.ScenesBeginning.{Begins}
 use Rattle.run_grows.specs.Given.ScenesEnding.{ending_begun}
 use Rattle.run_grows.specs.Given.ScenesHeld.{Held, IsAt}
@@ -62,77 +62,77 @@ module _ (K V : Type 0) (same : K → K → Bool) where
   -- The promises: so it is at another moment that is like this one,
   abbrev pub LikesShow : Type 0
   LikesShow =
-      (name : ℕ → List ℕ) (log : Past K V) (m v : Moment K V) (known : Known) (s : Scene K V) → ShowsCalls same name log m known s → IsLike m v → ShowsCalls same name log v known s
+      (name : ℕ → List ℕ) (log : Past K V) (m v : Moment K V) (known : Known) (s : Scene K V) → RefinesAllCalls same name log m known s → IsLike m v → RefinesAllCalls same name log v known s
 
   -- where the moment is one of the log,
   abbrev pub LogsGrow : Type 0
   LogsGrow =
-      (name : ℕ → List ℕ) (log : Past K V) (m : Moment K V) (known : Known) (s : Scene K V) → ShowsCalls same name log m known s → m.events ≡ suc log.entries
-      → ShowsCalls same name (further m log) m known s
+      (name : ℕ → List ℕ) (log : Past K V) (m : Moment K V) (known : Known) (s : Scene K V) → RefinesAllCalls same name log m known s → m.events ≡ suc log.entries
+      → RefinesAllCalls same name (further m log) m known s
 
   -- and by other names of callers that have no call.
   abbrev pub NamesChange : Type 0
   NamesChange =
-      (name name2 : ℕ → List ℕ) (log : Past K V) (m : Moment K V) (known : Known) (s : Scene K V) → ((i : ℕ) → HasCall s i → name2 i ≡ name i) → ShowsCalls same name log m known s
-      → ShowsCalls same name2 log m known s
+      (name name2 : ℕ → List ℕ) (log : Past K V) (m : Moment K V) (known : Known) (s : Scene K V) → ((i : ℕ) → HasCall s i → name2 i ≡ name i) → RefinesAllCalls same name log m known s
+      → RefinesAllCalls same name2 log m known s
 
 module _ (K V : Type 0) (same : K → K → Bool) (hash : ℕ → K → ℕ) where
   -- So it is where a call begins as the next event begins, on a map that stands, by a name that no call under way has, and whose caller has no row under way;
   abbrev pub CallsBegin : Type 0
   CallsBegin =
-      (name : ℕ → List ℕ) (log : Past K V) (known : Known) (s : Scene K V) (old new : Held K V) → IsAt same hash old s → ShowsCalls same name log log.now known s
+      (name : ℕ → List ℕ) (log : Past K V) (known : Known) (s : Scene K V) (old new : Held K V) → IsAt same hash old s → RefinesAllCalls same name log log.now known s
       → (map i : ℕ) (standing : Standing K) → s.maps map ≡ Some standing → (u : UnderWay K V K) (call : Call K V) (guard : List ℕ) → Begins same standing i u → IsBegunRight same u call
       → NoneNamed name (name i) s → s.world.row i ≡ Rests → IsAt same hash new (scene_with map i u s)
-      → ShowsCalls same name log (with_call (name i) guard call (Some map) log.now) known (scene_with map i u s)
+      → RefinesAllCalls same name log (with_call (name i) guard call (Some map) log.now) known (scene_with map i u s)
 
   -- where one that asks takes a reply that such a call takes;
   abbrev pub CallsTake : Type 0
   CallsTake =
-      (name : ℕ → List ℕ) (log : Past K V) (m : Moment K V) (known : Known) (s : Scene K V) (old new : Held K V) → IsAt same hash old s → ShowsCalls same name log m known s
+      (name : ℕ → List ℕ) (log : Past K V) (m : Moment K V) (known : Known) (s : Scene K V) (old new : Held K V) → IsAt same hash old s → RefinesAllCalls same name log m known s
       → (map i : ℕ) (u : UnderWay K V K) → s.calls map i ≡ Some u → (c : CallThere K V) → call_of (name i) m ≡ Some c → (question : Option ℕ) → c.stands ≡ Asking question
       → (standing : Standing K) → s.maps map ≡ Some standing → (is_told : Reply V) (next : UnderWay K V K)
-      → machine_of next ≡ (machine_replied (machine_of u) (as_told is_told)).0 → (machine_replied (machine_of u) (as_told is_told)).1 ≡ Ok tt
-      → ToldOfKind V same same old.batch_size old.roots slot_of standing i u (as_told is_told) next → ((one : OneKey K V) → c.call ≡ On one → IsTaken one is_told)
-      → IsAt same hash new (scene_with map i next s) → ShowsCalls same name log (told (name i) is_told m) known (scene_with map i next s)
+      → machine_of next ≡ (machine_replied (machine_of u) (reply_to_machine is_told)).0 → (machine_replied (machine_of u) (reply_to_machine is_told)).1 ≡ Ok tt
+      → RepliedOfKind V same same old.batch_size old.roots slot_of standing i u (reply_to_machine is_told) next → ((one : OneKey K V) → c.call ≡ On one → IsTaken one is_told)
+      → IsAt same hash new (scene_with map i next s) → RefinesAllCalls same name log (told (name i) is_told m) known (scene_with map i next s)
 
   -- where a walk that is ready is asked for its next pair,
-  abbrev pub WalksGoOn : Type 0
-  WalksGoOn =
-      (name : ℕ → List ℕ) (log : Past K V) (m : Moment K V) (known : Known) (s : Scene K V) (old new : Held K V) → IsAt same hash old s → ShowsCalls same name log m known s
+  abbrev pub WalksContinue : Type 0
+  WalksContinue =
+      (name : ℕ → List ℕ) (log : Past K V) (m : Moment K V) (known : Known) (s : Scene K V) (old new : Held K V) → IsAt same hash old s → RefinesAllCalls same name log m known s
       → (i : ℕ) (leads : AskLeads same hash i true s old new) (map : ℕ) (o : CallOverAll) (here : s.calls map i ≡ Some (OverAll o))
-      → (leads map (OverAll o) here).0 ≡ OverAll (gone_on o (after_next o.sweep)) → ShowsCalls same name log m known (scene_with map i (leads map (OverAll o) here).0 s)
+      → (leads map (OverAll o) here).0 ≡ OverAll (gone_on o (after_next o.sweep)) → RefinesAllCalls same name log m known (scene_with map i (leads map (OverAll o) here).0 s)
 
   -- or is given up, and no call that is under way then has its name;
   abbrev pub WalksStop : Type 0
   WalksStop =
-      (name : ℕ → List ℕ) (log : Past K V) (m : Moment K V) (known : Known) (s : Scene K V) (old new : Held K V) → IsAt same hash old s → ShowsCalls same name log m known s
+      (name : ℕ → List ℕ) (log : Past K V) (m : Moment K V) (known : Known) (s : Scene K V) (old new : Held K V) → IsAt same hash old s → RefinesAllCalls same name log m known s
       → (i : ℕ) (stopped : Bool) → StopLeads same hash i stopped s old new → (map : ℕ) (u : UnderWay K V K) → s.calls map i ≡ Some u
       → (let after = record s { calls = with_call_of s.calls map i (unless_stopped stopped u) } in
-      (stopped ≡ true → NoneNamed name (name i) after) → ShowsCalls same name log (given_up (name i) stopped m) known after)
+      (stopped ≡ true → NoneNamed name (name i) after) → RefinesAllCalls same name log (given_up (name i) stopped m) known after)
 
   -- where a map comes by the next number, on which nothing was counted,
   abbrev pub MapsCome : Type 0
   MapsCome =
-      (name : ℕ → List ℕ) (log : Past K V) (m : Moment K V) (known : Known) (s : Scene K V) (e : Held K V) → IsAt same hash e s → ShowsCalls same name log m known s
-      → (there : MapThere) → there.number ≡ m.made → ShowsCalls same name log (with_map there m) known s × IsUncounted there.number (with_map there m)
+      (name : ℕ → List ℕ) (log : Past K V) (m : Moment K V) (known : Known) (s : Scene K V) (e : Held K V) → IsAt same hash e s → RefinesAllCalls same name log m known s
+      → (there : MapThere) → there.number ≡ m.made → RefinesAllCalls same name log (with_map there m) known s × IsUncounted there.number (with_map there m)
 
   -- and its making begins, by one that makes none;
   abbrev pub MakingsBegin : Type 0
   MakingsBegin =
-      (name : ℕ → List ℕ) (log : Past K V) (m : Moment K V) (known : Known) (s : Scene K V) (old new : Held K V) → IsAt same hash old s → ShowsCalls same name log m known s
+      (name : ℕ → List ℕ) (log : Past K V) (m : Moment K V) (known : Known) (s : Scene K V) (old new : Held K V) → IsAt same hash old s → RefinesAllCalls same name log m known s
       → (i : ℕ) (b : Beginning K) → s.makers i ≡ None → (HasMade b.machine.stands → ⊥) → IsUncounted b.map m
-      → (let led = record s { makers = with_at s.makers i (Some b) } in IsAt same hash new led → ShowsCalls same name log m known led)
+      → (let led = record s { makers = with_at s.makers i (Some b) } in IsAt same hash new led → RefinesAllCalls same name log m known led)
 
   -- where the end of one begins, by one that ends none,
   abbrev pub EndsBegin : Type 0
   EndsBegin =
-      (name : ℕ → List ℕ) (log : Past K V) (m : Moment K V) (known : Known) (s : Scene K V) (old new : Held K V) → IsAt same hash old s → ShowsCalls same name log m known s
-      → (map i : ℕ) (standing : Standing K) → s.maps map ≡ Some standing → s.enders i ≡ None → IsAt same hash new (ending_begun map i standing s) → ShowsCalls same name log m known (ending_begun map i standing s)
+      (name : ℕ → List ℕ) (log : Past K V) (m : Moment K V) (known : Known) (s : Scene K V) (old new : Held K V) → IsAt same hash old s → RefinesAllCalls same name log m known s
+      → (map i : ℕ) (standing : Standing K) → s.maps map ≡ Some standing → s.enders i ≡ None → IsAt same hash new (ending_begun map i standing s) → RefinesAllCalls same name log m known (ending_begun map i standing s)
 
   -- and where it is there no more: no map that stands has its name.
   abbrev pub MapsGo : Type 0
   MapsGo =
-      (name : ℕ → List ℕ) (log : Past K V) (m : Moment K V) (known : Known) (s : Scene K V) (e : Held K V) → IsAt same hash e s → ShowsCalls same name log m known s
+      (name : ℕ → List ℕ) (log : Past K V) (m : Moment K V) (known : Known) (s : Scene K V) (e : Held K V) → IsAt same hash e s → RefinesAllCalls same name log m known s
       → (own : List ℕ) (remains : List Remains)
       → ((map : ℕ) (standing : Standing K) (there : MapThere) → s.maps map ≡ Some standing → map_at map m ≡ Some there → is_same there.name own ≡ false)
-      → ShowsCalls same name log (without_map own remains m) known s
+      → RefinesAllCalls same name log (without_map own remains m) known s

@@ -21,7 +21,7 @@ use Rattle.run_grows.specs.Given.EffectsEffects.{effects_of, known_after}
 use Rattle.run_grows.specs.Given.EffectsKnown.{Known}
 use Rattle.run_grows.specs.Given.EffectsDeclared.acting.Acting.TheVariants as acts
 use Rattle.run_grows.specs.Given.FinishesMaps.{Standing}
-use Rattle.run_grows.specs.Given.PurposesSwept.{ComesSo as IsToldSo, LosesNone, SaysNothing}
+use Rattle.run_sweeps.specs.Purposes.Swept.{EndsWithOutcome as IsToldSo, LosesNone, SaysNothing}
 use Rattle.run_legal.specs.CallEvents.{InCallEvent}
 use Rattle.run_grows.specs.Given.ScenesHeld.{Held, IsAt}
 use Rattle.run_grows.specs.Given.ScenesScene.{Scene}
@@ -30,12 +30,12 @@ use Rattle.run_grows.specs.Given.SchedulesTransition.{past}
 
 module _ {K V : Type 0} (same : K → K → Bool) (log : List (Entry K V)) (m : Moment K V) (map : ℕ) (known : Known) (said : Progress (Node K V)) (told : Outcome V) where
   -- what is told of a call on a whole map: nothing, or the answer of its kind, as the last step says; of a walk a pair, or that all were shown, and then no key has lost its pair within the event
-  abbrev pub TellsOf : Call K V → Type 0
-  TellsOf (On one) = Unit {0}
-  TellsOf Len = SaysNothing told ⊎ ((n : ℕ) × (told ≡ Answered (Counted n)) × IsToldSo known said told)
-  TellsOf Walk =
+  abbrev pub OutcomeOf : Call K V → Type 0
+  OutcomeOf (On one) = Unit {0}
+  OutcomeOf Len = SaysNothing told ⊎ ((n : ℕ) × (told ≡ Answered (Counted n)) × IsToldSo known said told)
+  OutcomeOf Walk =
       SaysNothing told ⊎ ((n : ℕ) × (told ≡ Shows n) × IsToldSo known said told) ⊎ ((told ≡ Answered Absent) × (said ≡ progress.Done answers.Swept) × LosesNone same (past log) m map)
-  TellsOf _ = SaysNothing told ⊎ ((told ≡ Answered Completed) × IsToldSo known said told)
+  OutcomeOf _ = SaysNothing told ⊎ ((told ≡ Answered Completed) × IsToldSo known said told)
 
 module _ (K V : Type 0) (same : K → K → Bool) (hash : ℕ → K → ℕ) where
   -- The promise: so it is of one that has come to its last step, if that is told so, and the map has as many shards as the terms say.
@@ -46,4 +46,4 @@ module _ (K V : Type 0) (same : K → K → Bool) (hash : ℕ → K → ℕ) whe
       → (old new : Held K V) → IsAt same hash old s → (said : Progress (Node K V)) → StepLeads same hash i said s old new
       → at_work e (moment log) ≡ beginning → acted_on e.event beginning ≡ Some map → e.effects ≡ done ++ effects_of (acts.Call i map) known new.changed
       → ((standing : Standing K) → s.maps map ≡ Some standing → suc standing.setting.mask ≡ shards_of terms)
-      → TellsOf same log m map (known_after (acts.Call i map) new.changed known) said e.outcome c.call → IsSwept same terms log e
+      → OutcomeOf same log m map (known_after (acts.Call i map) new.changed known) said e.outcome c.call → IsSwept same terms log e

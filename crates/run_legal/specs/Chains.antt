@@ -28,21 +28,21 @@ use Rattle.run_grows.specs.Given.TablesNodes.{deferred_word}
 use Rattle.run_grows.specs.Given.RawDeclared.machines.progress.Progress.{Progress as CallTold}
 use Rattle.run_grows.specs.Given.SchedulesModel.{things_in}
 use Rattle.run_grows.specs.Given.CallersTogether.{UnderWay, HandsOver}
-use Rattle.run_grows.specs.Given.PurposesKept.{ShowsNone}
+use Rattle.run_sweeps.specs.Purposes.Kept.{ShowsNone}
 use Rattle.run_grows.specs.Given.ModelsCallEvents.{IsNoted, things_then}
 use Rattle.run_legal.specs.CallEvents.{IsLegalBut}
 use Rattle.run_legal.specs.MapEvents.{FindsItsMap, InEndEvent, InMakingEvent}
 use Rattle.run_grows.specs.Given.SchedulesAfter.{moment}
 use Rattle.run_grows.specs.Given.SchedulesBeginning.{at_work, with_map}
 use Rattle.run_grows.specs.Given.SchedulesHanding.{gives_all, may_do, IsWhole}
-use Rattle.run_grows.specs.Given.SchedulesInTurn.{ComesRight}
+use Rattle.run_grows.specs.Given.SchedulesInTurn.{HasRightOutcome}
 use Rattle.run_grows.specs.Given.SchedulesLives.{Finds}
 use Rattle.run_grows.specs.Given.PromisesOthers.{SparesGuards}
 use Rattle.run_grows.specs.Given.PromisesProtected.{EndsInside, is_of_slots, there_in}
 use Rattle.run_grows.specs.Given.ModelsFollows.{FollowsModel}
 use Rattle.run_grows.specs.Given.ModelsOnSlots.{IsRowFor}
 use Rattle.run_grows.specs.Given.FindsLittle.{ReclaimsAll}
-use Rattle.run_legal.specs.Carried.{ComesAlone, ShowsRun}
+use Rattle.run_legal.specs.Carried.{IsSequential, RefinesRun}
 use Rattle.run_grows.specs.Given.RunsSame.{is_same}
 use Rattle.run_grows.specs.Given.TablesDeclared.resize_mode.ResizeMode.{ResizeMode}
 use Rattle.run_grows.specs.Given.RunsDeclared.event.Event.TheVariants.{EndMap, MakeMap}
@@ -186,9 +186,9 @@ module _ (K V : Type 0) (same : K → K → Bool) (hash : ℕ → K → ℕ) whe
   abbrev pub RowsRunToTheirEnds : Type 0
   RowsRunToTheirEnds =
       (name : ℕ → List ℕ) (terms : Terms) (log : List (Entry K V)) (known : Known) (s : Scene K V) (old new : Held K V) → IsAt same hash old s → old.batch_size ≡ terms.batch_size
-      → terms.batch_size < 2 ^ 64 → ShowsRun same name terms log known s
+      → terms.batch_size < 2 ^ 64 → RefinesRun same name terms log known s
       → (e : Entry K V) → is_of_slots e.event ≡ true → (i : ℕ) (called : SlotCall) (leads : RowBegins same hash called i s old new)
-      → SparesGuards called (slot_of i) (there_in e.event (moment log).there) → (ComesAlone e.event log → FollowsModel terms.batch_size terms.roots log known s.world)
+      → SparesGuards called (slot_of i) (there_in e.event (moment log).there) → (IsSequential e.event log → FollowsModel terms.batch_size terms.roots log known s.world)
       → (n : ℕ) (to : Come K V)
       → Chain (RowSteps same hash terms i) n (record {
         held = new;
@@ -199,15 +199,15 @@ module _ (K V : Type 0) (same : K → K → Bool) (hash : ℕ → K → ℕ) whe
       }) to
       → to.did ≡ e.effects → to.scene.world.row i ≡ Rests → EndsInside to.scene.world e.event e.outcome (moment log).there → is_busy e.outcome ≡ false
       → list_all (may_do e.event (moment log)) e.effects ≡ true → AtEachEffect (Finds terms None None (gives_all e.event) []) None None e.effects (moment log)
-      → (ComesAlone e.event log → IsRowFor (request_of (slot_of i) called) s.world.uses to.scene.world.uses e.event e.outcome (at_work e (moment log)))
-      → ComesRight terms log e → ReclaimsAll log e → IsLegalBut same terms log e × ShowsRun same name terms (e ∷ log) to.notes to.scene
+      → (IsSequential e.event log → IsRowFor (request_of (slot_of i) called) s.world.uses to.scene.world.uses e.event e.outcome (at_work e (moment log)))
+      → HasRightOutcome terms log e → ReclaimsAll log e → IsLegalBut same terms log e × RefinesRun same name terms (e ∷ log) to.notes to.scene
 
   -- So it is of an event that makes a map, whose making has come to its end, if what it did it may do, and finds what it must, and if it is whole;
   abbrev pub MakingsRunToTheirEnds : Type 0
   MakingsRunToTheirEnds =
-      (name : ℕ → List ℕ) (terms : Terms) (log : List (Entry K V)) (known : Known) (s : Scene K V) (old new : Held K V) → IsAt same hash old s → ShowsRun same name terms log known s
+      (name : ℕ → List ℕ) (terms : Terms) (log : List (Entry K V)) (known : Known) (s : Scene K V) (old new : Held K V) → IsAt same hash old s → RefinesRun same name terms log known s
       → (own : List ℕ) (mode : ResizeMode) (capacity : ℕ) (there : MapThere) → there.number ≡ (moment log).made → (i : ℕ) (b : Beginning K) → s.makers i ≡ None → b.map ≡ there.number
-      → (HasMade b.machine.stands → ⊥) → (ComesAlone (MakeMap own mode capacity) log → FollowsModel terms.batch_size terms.roots log known s.world)
+      → (HasMade b.machine.stands → ⊥) → (IsSequential (MakeMap own mode capacity) log → FollowsModel terms.batch_size terms.roots log known s.world)
       → IsAt same hash new (record s { makers = with_at s.makers i (Some b) }) → (n : ℕ) (to : Come K V)
       → Chain (MakingSteps same hash terms i b.map) n (record {
         held = new;
@@ -220,17 +220,17 @@ module _ (K V : Type 0) (same : K → K → Bool) (hash : ℕ → K → ℕ) whe
       → (let e : Entry K V = record { event = MakeMap own mode capacity; outcome = Done; steps = steps; effects = effects } in
       at_work e (moment log) ≡ with_map there (moment log) → number_of own (with_map there (moment log)) ≡ Some b.map → list_all (may_do e.event (moment log)) effects ≡ true
       → AtEachEffect (Finds terms None (Some b.map) false []) None (Some b.map) effects (with_map there (moment log))
-      → IsWhole e.event e.outcome effects (moment log) (worked e (moment log)) → ComesRight terms log e → IsLegalBut same terms log e × ShowsRun same name terms (e ∷ log) to.notes to.scene)
+      → IsWhole e.event e.outcome effects (moment log) (worked e (moment log)) → HasRightOutcome terms log e → IsLegalBut same terms log e × RefinesRun same name terms (e ∷ log) to.notes to.scene)
 
   -- and of one that ends a map, whose end is over, if no map that stands then has its name.
   abbrev pub EndsRunToTheirEnds : Type 0
   EndsRunToTheirEnds =
-      (name : ℕ → List ℕ) (terms : Terms) (log : List (Entry K V)) (known : Known) (s : Scene K V) (old new : Held K V) → IsAt same hash old s → ShowsRun same name terms log known s
+      (name : ℕ → List ℕ) (terms : Terms) (log : List (Entry K V)) (known : Known) (s : Scene K V) (old new : Held K V) → IsAt same hash old s → RefinesRun same name terms log known s
       → terms.batch_size < 2 ^ 64 → (own : List ℕ) (map i : ℕ) (standing : Standing K) → s.maps map ≡ Some standing → s.enders i ≡ None → IsAt same hash new (ending_begun map i standing s)
-      → (ComesAlone (EndMap own) log → FollowsModel terms.batch_size terms.roots log known s.world) → (n : ℕ) (to : Come K V)
+      → (IsSequential (EndMap own) log → FollowsModel terms.batch_size terms.roots log known s.world) → (n : ℕ) (to : Come K V)
       → Chain (EndSteps same hash terms i map) n (record { held = new; did = []; now = moment log; notes = known; scene = ending_begun map i standing s }) to → IsAt same hash to.held to.scene
       → (steps : ℕ) (effects : List Effect) → to.did ≡ effects → number_of own (moment log) ≡ Some map → to.scene.enders i ≡ None
       → ((k : ℕ) (st : Standing K) (there : MapThere) → to.scene.maps k ≡ Some st → map_at k to.now ≡ Some there → is_same there.name own ≡ false)
       → (let e : Entry K V = record { event = EndMap own; outcome = Done; steps = steps; effects = effects } in
       list_all (may_do e.event (moment log)) effects ≡ true → AtEachEffect (Finds terms None (Some map) false []) None (Some map) effects (moment log)
-      → IsWhole e.event e.outcome effects (moment log) (worked e (moment log)) → ComesRight terms log e → IsLegalBut same terms log e × ShowsRun same name terms (e ∷ log) to.notes to.scene)
+      → IsWhole e.event e.outcome effects (moment log) (worked e (moment log)) → HasRightOutcome terms log e → IsLegalBut same terms log e × RefinesRun same name terms (e ∷ log) to.notes to.scene)

@@ -23,9 +23,9 @@ use Rattle.run_grows.specs.Given.EffectsDeclared.acting.Acting.TheVariants as ac
 use Rattle.run_grows.specs.Given.ScenesDeclared.row.RowTold.{RowTold}
 use Rattle.run_grows.specs.Given.ScenesDeclared.row.SlotCall.{SlotCall}
 use Rattle.run_grows.specs.Given.ScenesDeclared.row.SlotRow.{SlotRow}
-use Rattle.run_grows.specs.Given.MomentsWhole.{ShowsWhole}
-use Rattle.run_grows.specs.Given.FindsBounded.{ShowsRetired, TablesApart}
-use Rattle.run_grows.specs.Given.KeptKept.{ShowsKept}
+use Rattle.run_grows.specs.Given.MomentsWhole.{RefinesWhole}
+use Rattle.run_grows.specs.Given.FindsBounded.{RefinesRetired, TablesApart}
+use Rattle.run_grows.specs.Given.KeptKept.{RefinesKept}
 use Rattle.run_legal.specs.Chains.{Chain, Come, RowSteps}
 use Rattle.run_legal.specs.SlotEvents.{InSlotEvent}
 use Rattle.run_grows.specs.Given.ScenesHeld.{Held, IsAt}
@@ -41,7 +41,7 @@ module _ (K V : Type 0) (same : K → K → Bool) (hash : ℕ → K → ℕ) whe
   -- The promise: the effects of a step of a row on a slot find what they must, if they reclaim, or ask for a bucket of slots in need, and do nothing else.
   abbrev pub RowsFindTheirs : Type 0
   RowsFindTheirs =
-      (name : ℕ → List ℕ) (m : Moment K V) (known : Known) (s : Scene K V) (old new : Held K V) → IsAt same hash old s → ShowsWhole same name m known s → ShowsKept name m known s
+      (name : ℕ → List ℕ) (m : Moment K V) (known : Known) (s : Scene K V) (old new : Held K V) → IsAt same hash old s → RefinesWhole same name m known s → RefinesKept name m known s
       → (i : ℕ) (told : RowTold (Node K V)) → RowLeads same hash i told s old new → (row : SlotRow) → IsOnSlot s i row → (terms : Terms)
       → (let effects = effects_of acts.Row known new.changed in
       list_all (λ f. is_reclaiming f || asks_for_bucket f) effects ≡ true → AtEachEffect AsksInNeed None None effects m → AtEachEffect (Finds terms None None false []) None None effects m)
@@ -49,8 +49,8 @@ module _ (K V : Type 0) (same : K → K → Bool) (hash : ℕ → K → ℕ) whe
   -- The promise: while no row is under way the moment shows what is retired, if no table is there twice, and as many slots were taken as it says.
   abbrev pub RestShowsRetired : Type 0
   RestShowsRetired =
-      (name : ℕ → List ℕ) (m : Moment K V) (known : Known) (s : Scene K V) (e : Held K V) → IsAt same hash e s → ShowsKept name m known s → ((i : ℕ) → s.world.row i ≡ Rests)
-      → TablesApart m.tables → SlotsTaken s.world.memory m.slots → ShowsRetired m known s.world
+      (name : ℕ → List ℕ) (m : Moment K V) (known : Known) (s : Scene K V) (e : Held K V) → IsAt same hash e s → RefinesKept name m known s → ((i : ℕ) → s.world.row i ≡ Rests)
+      → TablesApart m.tables → SlotsTaken s.world.memory m.slots → RefinesRetired m known s.world
 
   -- So it is of all that an event has done whose work is a row on a slot, wherever its steps have led.
   abbrev pub RowChainsFind : Type 0

@@ -26,12 +26,16 @@ pub use Rattle.run_grows.specs.Given.SeizeLeave
 pub use Rattle.run_grows.specs.Given.SeizeRegister
 pub use Rattle.run_grows.specs.Given.SeizeSettle
 pub use Rattle.run_grows.specs.Given.SettlesHand
-pub use Rattle.run_grows.specs.Given.SourcesSources
-pub use Rattle.run_grows.specs.Given.SourcesStays
 pub use Rattle.run_grows.specs.Given.SpotsUnreclaimed
 pub use Rattle.run_grows.specs.Grows.Copiers as GrowsCopiers
 pub use Rattle.run_grows.specs.Grows.Finding as GrowsFinding
 pub use Rattle.run_grows.specs.Grows.Nexts as GrowsNexts
 pub use Rattle.run_grows.specs.Grows.Tries as GrowsTries
-pub use Rattle.run_grows.specs.Needs.Firsts as NeedsFirsts
-pub use Rattle.run_grows.specs.Needs.Makings as NeedsMakings
+pub use Rattle.run_grows.specs.Sources.Sources as SourcesSources
+pub use Rattle.run_grows.specs.Sources.Stays as SourcesStays
+pub use Rattle.run_logged.specs.Log.Choosing as LoggedChoosing
+pub use Rattle.run_logged.specs.Log.OnSlots as LogOnSlots
+pub use Rattle.run_logged.specs.Rows.Rows as RowsRows
+pub use Rattle.run_logged.specs.contracts as LoggedContracts
+pub use Rattle.run_sweeps.specs.Needs.Firsts as NeedsFirsts
+pub use Rattle.run_sweeps.specs.Needs.Makings as NeedsMakings

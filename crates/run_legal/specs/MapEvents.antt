@@ -11,7 +11,7 @@ use Rattle.run_grows.specs.Given.RunsDeclared.event.Event.{Event}
 use Rattle.run_grows.specs.Given.SchedulesAfter.{moment, after}
 use Rattle.run_grows.specs.Given.SchedulesEffects.{with_effects, AtEachEffect, worked}
 use Rattle.run_grows.specs.Given.SchedulesEntry.{Entry, IfCall, acting, caller_of, acted_on}
-use Rattle.run_grows.specs.Given.SchedulesHanding.{is_granted, may_do, IsWhole, LeavesOf, comes_clear}
+use Rattle.run_grows.specs.Given.SchedulesHanding.{is_granted, may_do, IsWhole, LeavesOf, is_clear_outcome}
 use Rattle.run_grows.specs.Given.SchedulesInTurn.{is_growth}
 use Rattle.run_grows.specs.Given.SchedulesLives.{Finds}
 use Rattle.run_grows.specs.Given.SchedulesModel.{sets_in, things_in, changes_of, left_last, IsByModel}
@@ -27,7 +27,7 @@ use Rattle.run_grows.specs.Given.OthersEndings.{ending_after}
 use Rattle.run_grows.specs.Given.OthersMakings.{WasNew, making_after}
 use Rattle.run_grows.specs.Given.FindsLinking.{IsMadeFor}
 use Rattle.run_grows.specs.Given.PromisesProtected.{InMidst, is_of_slots}
-use Rattle.run_grows.specs.Given.PromisesReading.{ShowsReading}
+use Rattle.run_grows.specs.Given.PromisesReading.{RefinesReadings}
 use Rattle.run_grows.specs.Given.ModelsEnds.{FollowsInEnd}
 use Rattle.run_grows.specs.Given.ModelsMapEvents.{FollowsInMaking}
 use Rattle.run_legal.specs.CallEvents.{IsLegalBut}
@@ -38,8 +38,8 @@ use Rattle.run_grows.specs.Given.HistoriesOtherCalls.{IsIdle}
 use Rattle.run_grows.specs.Given.PromisesGuards.{EntersInside}
 use Rattle.run_grows.specs.Given.PromisesSheltered.{SectionsHold}
 use Rattle.run_grows.specs.Given.SchedulesBeginning.{at_work}
-use Rattle.run_grows.specs.Given.SourcesStays.{NoneBorn}
-use Rattle.run_legal.specs.Carried.{ComesAlone, ShowsCalls}
+use Rattle.run_grows.specs.Sources.Stays.{NoneBorn}
+use Rattle.run_legal.specs.Carried.{IsSequential, RefinesAllCalls}
 use Rattle.run_grows.specs.Given.ScenesEnding.{EndingLeads}
 use Rattle.run_grows.specs.Given.ScenesHeld.{Held, IsAt}
 use Rattle.run_grows.specs.Given.ScenesMaking.{MakingLeads}
@@ -50,8 +50,8 @@ module _ {K V : Type 0} (same : K → K → Bool) (name : ℕ → List ℕ) (ter
   -- In the midst of an event whose work is that of a map which is made, or ends: what it has done finds what it must.
   pub record InMapEvent (done : List Effect) (m : Moment K V) (known : Known) (s : Scene K V) : Type 0 where
     pub of_maps : is_of_slots event ≡ false
-    pub calls : ShowsCalls same name (past log) m known s
-    pub reading : ShowsReading name (past log) (λ j. 0) m s
+    pub calls : RefinesAllCalls same name (past log) m known s
+    pub reading : RefinesReadings name (past log) (λ j. 0) m s
     pub worked : m ≡ with_effects None (Some map) done beginning
     pub granted : is_granted false done ≡ true
     pub protects : InMidst event done m known s.world
@@ -59,12 +59,12 @@ module _ {K V : Type 0} (same : K → K → Bool) (name : ℕ → List ℕ) (ter
   -- where calls came one after another, the sets are those of the model as it began, in the midst of a making, whose map has had no pair,
   abbrev pub InMakingEvent : List Effect → Moment K V → Known → Scene K V → Type 0
   InMakingEvent done m known s =
-      InMapEvent done m known s × (ComesAlone event log → FollowsInMaking terms.batch_size terms.roots (things_in log) (sets_in terms.batch_size log) done known s.world) × NoneBorn map m
+      InMapEvent done m known s × (IsSequential event log → FollowsInMaking terms.batch_size terms.roots (things_in log) (sets_in terms.batch_size log) done known s.world) × NoneBorn map m
 
   -- and in that of an end
   abbrev pub InEndEvent : Known → ℕ → List Effect → Moment K V → Known → Scene K V → Type 0
   InEndEvent first i done m known s =
-      InMapEvent done m known s × (ComesAlone event log → FollowsInEnd terms.batch_size terms.roots (things_in log) (sets_in terms.batch_size log) first i done known s.world)
+      InMapEvent done m known s × (IsSequential event log → FollowsInEnd terms.batch_size terms.roots (things_in log) (sets_in terms.batch_size log) first i done known s.world)
 
 -- it has not made its map
 abbrev pub HasNotMade : Making Setting → Type 0
@@ -77,8 +77,8 @@ FindsItsMap b said effects m = ((b.map < m.made) × IsMadeFor b.map m b.given) �
 
 module _ (K V : Type 0) (same : K → K → Bool) (hash : ℕ → K → ℕ) where
   -- The promises: a making goes on so, whose map is there, made for its capacity, or which just asks for blocks,
-  abbrev pub MakingEventsGoOn : Type 0
-  MakingEventsGoOn =
+  abbrev pub MakingEventsContinue : Type 0
+  MakingEventsContinue =
       (name : ℕ → List ℕ) (terms : Terms) (log : List (Entry K V)) (event : Event K V) (beginning : Moment K V) (done : List Effect) (m : Moment K V) (known : Known) (s : Scene K V) (i : ℕ) (b : Beginning K)
       (here : s.makers i ≡ Some b) → InMakingEvent same name terms log event b.map beginning done m known s → (old new : Held K V) → IsAt same hash old s
       → old.batch_size ≡ terms.batch_size → (said : Making Setting) (leads : MakingLeads same hash i said s old new) → WasNew b.map said m
@@ -89,8 +89,8 @@ module _ (K V : Type 0) (same : K → K → Bool) (hash : ℕ → K → ℕ) whe
       (making_after same hash s old new i b to.0 to.2.step.w2 said to.3))
 
   -- and so does an end, which takes tables of its map alone;
-  abbrev pub EndEventsGoOn : Type 0
-  EndEventsGoOn =
+  abbrev pub EndEventsContinue : Type 0
+  EndEventsContinue =
       (name : ℕ → List ℕ) (terms : Terms) (log : List (Entry K V)) (event : Event K V) (map : ℕ) (beginning : Moment K V) (first : Known) (done : List Effect) (m : Moment K V) (known : Known) (s : Scene K V) (i : ℕ)
       (f : Finishing K V) (here : s.enders i ≡ Some f) → s.maps map ≡ None → InEndEvent same name terms log event map beginning first i done m known s → (old new : Held K V) → IsAt same hash old s
       → old.batch_size ≡ terms.batch_size → map < m.made → (said : Settled (Node K V)) (leads : EndingLeads same hash i said s old new)
@@ -108,11 +108,11 @@ MapEventsAreLegal K V same =
     → AtEachEffect (Finds terms None (Some map) false []) None (Some map) e.effects beginning → caller_of e.event ≡ None → at_work e (moment log) ≡ beginning → acted_on e.event beginning ≡ Some map
     → IsWhole e.event e.outcome e.effects (moment log) (worked e (moment log)) → IsByModel terms log e → IsLegalBut same terms log e × SectionsHold (after e (moment log)) known s.world
 
--- And an event that does nothing to pairs, tables and blocks, and by which no call has come to an end or asks, keeps its promises, if it changes no waiting sets, reads briefly, does what it is for,
--- needs no effects, and leaves nothing behind; the sections of guards hold what they shelter.
+-- And an event that does nothing to pairs, tables and blocks, and by which no call has terminated or asks, keeps its promises, if it changes no waiting sets,
+-- reads briefly, does what it is for, needs no effects, and leaves nothing behind; the sections of guards hold what they shelter.
 abbrev pub IdleEventsAreLegal : (K V : Type 0) → (K → K → Bool) → Type 0
 IdleEventsAreLegal K V same =
     (terms : Terms) (log : List (Entry K V)) (known : Known) (w : World (Node K V)) (e : Entry K V) → e.effects ≡ [] → IsIdle e.outcome → SectionsHold (moment log) known w
     → EntersInside w e.event e.outcome (moment log).there → changes_of log e ≡ [] → left_last e.event e.outcome (moment log) ≡ [] → ReadsBriefly log e (worked e (moment log))
     → IsSwept same terms log e → IsWhole e.event e.outcome e.effects (moment log) (worked e (moment log))
-    → IfCall (LeavesOf (comes_clear e.outcome) e.outcome) (acting (caller_of e.event) (worked e (moment log))) → IsLegalBut same terms log e × SectionsHold (after e (moment log)) known w
+    → IfCall (LeavesOf (is_clear_outcome e.outcome) e.outcome) (acting (caller_of e.event) (worked e (moment log))) → IsLegalBut same terms log e × SectionsHold (after e (moment log)) known w

@@ -22,8 +22,8 @@ use Rattle.run_grows.specs.Given.CallersTogether.{UnderWay, HandsOver}
 use Rattle.run_grows.specs.Given.EffectsEffects.{effects_of}
 use Rattle.run_grows.specs.Given.EffectsKnown.{Known}
 use Rattle.run_grows.specs.Given.EffectsDeclared.acting.Acting.TheVariants.{Call}
-use Rattle.run_grows.specs.Given.MomentsWhole.{ShowsWhole}
-use Rattle.run_grows.specs.Given.KeptKept.{ShowsKept}
+use Rattle.run_grows.specs.Given.MomentsWhole.{RefinesWhole}
+use Rattle.run_grows.specs.Given.KeptKept.{RefinesKept}
 use Rattle.run_grows.specs.Given.ModelsCallEvents.{IsNoted}
 use Rattle.run_grows.specs.Given.ScenesHeld.{Held, IsAt}
 use Rattle.run_grows.specs.Given.ScenesScene.{Scene, slot_of}
@@ -54,7 +54,7 @@ module _ (K V : Type 0) where
 -- And where all that was stored and linked is among these things, what a row hands over that begins with a step of a call is noted as one of them, and it does so under the slot of its caller.
 abbrev pub CallsHandNoted : (K V : Type 0) (same : K → K → Bool) (hash : ℕ → K → ℕ) → Type 0
 CallsHandNoted K V same hash =
-    (name : ℕ → List ℕ) (m : Moment K V) (known : Known) (s : Scene K V) (old new : Held K V) → IsAt same hash old s → ShowsWhole same name m known s → ShowsKept name m known s
+    (name : ℕ → List ℕ) (m : Moment K V) (known : Known) (s : Scene K V) (old new : Held K V) → IsAt same hash old s → RefinesWhole same name m known s → RefinesKept name m known s
     → (map i : ℕ) (u : UnderWay K V K) (here : s.calls map i ≡ Some u) (said : Progress (Node K V)) (leads : StepLeads same hash i said s old new)
     → (things : List Thing) → HaveCome things m
     → (let to = leads map u here in

@@ -17,11 +17,11 @@ use Rattle.run_grows.specs.Given.ScenesDeclared.row.SlotRow.{SlotRow}
 use Rattle.run_grows.specs.Given.ScenesOnSlots.{RowBegins, RowLeads}
 use Rattle.run_grows.specs.Given.ScenesRows.{request_of}
 use Rattle.run_grows.specs.Given.ScenesScene.{IsOnSlot, Scene, slot_of}
-use Rattle.run_legal.specs.Carried.{ShowsCalls}
+use Rattle.run_legal.specs.Carried.{RefinesAllCalls}
 use Rattle.run_legal.specs.MapEvents.{FindsItsMap}
 use Rattle.run_grows.specs.Given.ScenesMaking.{MakingLeads}
 use Rattle.run_grows.specs.Given.ScenesEnding.{EndingLeads}
-use Rattle.run_grows.specs.Given.SourcesStays.{NoneBorn}
+use Rattle.run_grows.specs.Sources.Stays.{NoneBorn}
 use Rattle.run_grows.specs.Given.OthersMakings.{making_after, WasNew}
 use Rattle.run_grows.specs.Given.OthersEndings.{ending_after}
 use Rattle.run_grows.specs.Given.FinishesMakings.{Beginning}
@@ -35,33 +35,33 @@ module _ (K V : Type 0) (same : K → K → Bool) (hash : ℕ → K → ℕ) whe
   -- where a row begins on a slot,
   abbrev pub RowsBegin : Type 0
   RowsBegin =
-      (name : ℕ → List ℕ) (log : Past K V) (m : Moment K V) (known : Known) (s : Scene K V) (old new : Held K V) → IsAt same hash old s → ShowsCalls same name log m known s
+      (name : ℕ → List ℕ) (log : Past K V) (m : Moment K V) (known : Known) (s : Scene K V) (old new : Held K V) → IsAt same hash old s → RefinesAllCalls same name log m known s
       → (called : SlotCall) (i : ℕ) (leads : RowBegins same hash called i s old new)
-      → ShowsCalls same name log m known (scene_then same hash (Begin i (request_of (slot_of i) called)) s old new leads.2)
+      → RefinesAllCalls same name log m known (scene_then same hash (Begin i (request_of (slot_of i) called)) s old new leads.2)
 
   -- after each step of it,
   abbrev pub RowsStep : Type 0
   RowsStep =
-      (name : ℕ → List ℕ) (log : Past K V) (m : Moment K V) (known : Known) (s : Scene K V) (old new : Held K V) → IsAt same hash old s → ShowsCalls same name log m known s
+      (name : ℕ → List ℕ) (log : Past K V) (m : Moment K V) (known : Known) (s : Scene K V) (old new : Held K V) → IsAt same hash old s → RefinesAllCalls same name log m known s
       → (i : ℕ) (said : RowTold (Node K V)) (leads : RowLeads same hash i said s old new) (row : SlotRow) (here : IsOnSlot s i row)
-      → ShowsCalls same name log (with_effects None None (effects_of acts.Row known new.changed) m) (known_after acts.Row new.changed known) (scene_then same hash (Step i) s old new (leads row here).2)
+      → RefinesAllCalls same name log (with_effects None None (effects_of acts.Row known new.changed) m) (known_after acts.Row new.changed known) (scene_then same hash (Step i) s old new (leads row here).2)
 
   -- after one of a making, whose map is there, made for its capacity, or which just asks for blocks,
   abbrev pub MakingsStep : Type 0
   MakingsStep =
-      (name : ℕ → List ℕ) (log : Past K V) (m : Moment K V) (known : Known) (s : Scene K V) (old new : Held K V) → IsAt same hash old s → ShowsCalls same name log m known s
+      (name : ℕ → List ℕ) (log : Past K V) (m : Moment K V) (known : Known) (s : Scene K V) (old new : Held K V) → IsAt same hash old s → RefinesAllCalls same name log m known s
       → (i : ℕ) (said : Making Setting) (leads : MakingLeads same hash i said s old new) (b : Beginning K) (here : s.makers i ≡ Some b) → WasNew b.map said m → NoneBorn b.map m
       → FindsItsMap b said (effects_of (acts.Making b.map) known new.changed) m
       → (let to = leads b here in
-      ShowsCalls same name log (with_effects None (Some b.map) (effects_of (acts.Making b.map) known new.changed) m) (known_after (acts.Making b.map) new.changed known)
+      RefinesAllCalls same name log (with_effects None (Some b.map) (effects_of (acts.Making b.map) known new.changed) m) (known_after (acts.Making b.map) new.changed known)
       (making_after same hash s old new i b to.0 to.2.step.w2 said to.3))
 
   -- and after one of an end, which takes tables of its map alone;
   abbrev pub EndsStep : Type 0
   EndsStep =
-      (name : ℕ → List ℕ) (log : Past K V) (m : Moment K V) (known : Known) (s : Scene K V) (old new : Held K V) → IsAt same hash old s → ShowsCalls same name log m known s
+      (name : ℕ → List ℕ) (log : Past K V) (m : Moment K V) (known : Known) (s : Scene K V) (old new : Held K V) → IsAt same hash old s → RefinesAllCalls same name log m known s
       → (i : ℕ) (said : Settled (Node K V)) (leads : EndingLeads same hash i said s old new) (f : Finishing K V) (here : s.enders i ≡ Some f) (map : ℕ) → s.maps map ≡ None → map < m.made
       → (let to = leads f here in
       let effects = effects_of (acts.Ending map) known new.changed in
       AtEachEffect (IsOfIts map) None (Some map) effects m
-      → ShowsCalls same name log (with_effects None (Some map) effects m) (known_after (acts.Ending map) new.changed known) (ending_after same hash s new i f to.0 to.2.w2 to.2.deed said to.3))
+      → RefinesAllCalls same name log (with_effects None (Some map) effects m) (known_after (acts.Ending map) new.changed known) (ending_after same hash s new i f to.0 to.2.w2 to.2.deed said to.3))

@@ -2,10 +2,10 @@
 ghost use Rattle.std.specs.Prelude.{◌≡◌, ◌<◌, ◌+◌, ◌*◌, ℕ, Bool, List, length, IfOk, IfErr};
 ghost use Rattle.run_schedules.specs.Schedules.Moment.{Moment};
 ghost use Rattle.run_shows.specs.declared.callers.TheConstants.{SLOTS};
-ghost use Rattle.run_logged.specs.Log.Calling.{CallBegins, CallGoesOn, CallSteps, CallTakes, MakesNoMore, WalkGoesOn, WalkStops};
+ghost use Rattle.run_logged.specs.Log.Calling.{CallBegins, CallContinues, CallSteps, CallTakes, MakesNoMore, WalkContinues, WalkStops};
 ghost use Rattle.run_logged.specs.Log.Shown.{IsShown};
 ghost use Rattle.run_executor.specs.Executing.Beginning.{BeginsThere, IsRefused};
-ghost use Rattle.run_executor.specs.Executing.IsThere.{IsThere, KeepsGiven};
+ghost use Rattle.run_executor.specs.Executing.IsThere.{IsThere, PreservesSettings};
 ghost use Rattle.run_executor.specs.Executing.Replying.{AsksThere, RepliesThere, StopsThere};
 ghost use Rattle.run_shows.specs.Scenes.Scene.{HasCall, Scene};
 
@@ -28,7 +28,7 @@ impl<K: Drop, V: Drop, S> Logged<K, V, S> {
             → CallBegins same hash name m s caller map machine self.old self.new) }
         ensures begun { IfOk result (λ caller. (same : K → K → Bool) (hash : K → ℕ) (s : Scene K V) → IsThere same hash self.old.executor s
             → BeginsThere same hash map machine caller s self.old.executor self.new.executor) }
-        ensures given { KeepsGiven self.old.executor self.new.executor }
+        ensures given { PreservesSettings self.old.executor self.new.executor }
         ensures notes { self.new.notes ≡ self.old.notes }
         ensures refused { IfErr result (λ error. IsRefused self.old.executor self.new.executor × (self.new.notes ≡ self.old.notes)) }
     {
@@ -43,7 +43,7 @@ impl<K: Drop, V: Drop, S> Logged<K, V, S> {
             → CallTakes same hash name m s caller reply result self.old self.new }
         ensures taken { (same : K → K → Bool) (hash : K → ℕ) (s : Scene K V) → IsThere same hash self.old.executor s
             → RepliesThere same hash caller reply result s self.old.executor self.new.executor }
-        ensures given { KeepsGiven self.old.executor self.new.executor }
+        ensures given { PreservesSettings self.old.executor self.new.executor }
         ensures notes { self.new.notes ≡ self.old.notes }
     {
         self.executor.reply(caller, reply)
@@ -53,10 +53,10 @@ impl<K: Drop, V: Drop, S> Logged<K, V, S> {
     pub fn next(&mut self, caller: u64) -> bool
         requires { (same : K → K → Bool) × (hash : K → ℕ) × (s : Scene K V) × IsThere same hash self.old.executor s × HasCall s caller }
         ensures leads { (same : K → K → Bool) (hash : K → ℕ) (name : ℕ → List ℕ) (m : Moment K V) (s : Scene K V) → IsShown same hash name m self.old s
-            → WalkGoesOn same hash name m s caller result self.old self.new }
+            → WalkContinues same hash name m s caller result self.old self.new }
         ensures asked { (same : K → K → Bool) (hash : K → ℕ) (s : Scene K V) → IsThere same hash self.old.executor s
             → AsksThere same hash caller result s self.old.executor self.new.executor }
-        ensures given { KeepsGiven self.old.executor self.new.executor }
+        ensures given { PreservesSettings self.old.executor self.new.executor }
         ensures notes { self.new.notes ≡ self.old.notes }
     {
         self.executor.next(caller)
@@ -69,7 +69,7 @@ impl<K: Drop, V: Drop, S> Logged<K, V, S> {
             → WalkStops same hash name m s caller result self.old self.new }
         ensures stopped { (same : K → K → Bool) (hash : K → ℕ) (s : Scene K V) → IsThere same hash self.old.executor s
             → StopsThere same hash caller result s self.old.executor self.new.executor }
-        ensures given { KeepsGiven self.old.executor self.new.executor }
+        ensures given { PreservesSettings self.old.executor self.new.executor }
         ensures notes { self.new.notes ≡ self.old.notes }
     {
         self.executor.stop(caller)
@@ -88,10 +88,10 @@ impl<K: Eq + Hash + Drop, V: Drop, S: Hashes<K>> Logged<K, V, S> {
     ) -> Result<Progress<Node<K, V>>, AllocError>
         requires { (s : Scene K V) × IsThere K.eq (S.hash self.old.executor.hasher) self.old.executor s × HasCall s caller }
         ensures leads { IfOk result (λ progress. (name : ℕ → List ℕ) (m : Moment K V) (s : Scene K V) → IsShown K.eq (S.hash self.old.executor.hasher) name m self.old s
-            → CallGoesOn K.eq (S.hash self.old.executor.hasher) name m s caller map progress effects.old.items effects.new.items self.old self.new) }
+            → CallContinues K.eq (S.hash self.old.executor.hasher) name m s caller map progress effects.old.items effects.new.items self.old self.new) }
         ensures steps { IfOk result (λ progress. CallSteps K.eq (S.hash self.old.executor.hasher) caller map progress effects.old.items effects.new.items self.old self.new) }
         ensures refused { IfOk result (λ progress. MakesNoMore refuse effects.old.items effects.new.items) }
-        ensures given { KeepsGiven self.old.executor self.new.executor }
+        ensures given { PreservesSettings self.old.executor self.new.executor }
     {
         let progress = self.executor.step(caller, refuse);
         self.note(Acting::Call { caller, map }, effects)?;

@@ -12,7 +12,7 @@ ghost use Rattle.run_logged.specs.Log.Goes.{EndGone};
 ghost use Rattle.run_logged.specs.Log.Shown.{IsShown};
 ghost use Rattle.run_executor.specs.Executing.Beginning.{IsRefused};
 ghost use Rattle.run_executor.specs.Executing.Ending.{EndingBegins, EndsThere};
-ghost use Rattle.run_executor.specs.Executing.IsThere.{IsThere, KeepsGiven};
+ghost use Rattle.run_executor.specs.Executing.IsThere.{IsThere, PreservesSettings};
 ghost use Rattle.run_shows.specs.Scenes.Scene.{IsEnding, Scene};
 
 use crate::back::keep_settled;
@@ -47,7 +47,7 @@ impl<K: Drop, V: Drop, S> Logged<K, V, S> {
         ensures begun { IfOk result (λ caller. (same : K → K → Bool) (hash : K → ℕ) (s : Scene K V) → IsThere same hash self.old.executor s
             → EndingBegins same hash map caller s self.old.executor self.new.executor) }
         ensures notes { IfOk result (λ caller. self.new.notes ≡ self.old.notes) }
-        ensures given { KeepsGiven self.old.executor self.new.executor }
+        ensures given { PreservesSettings self.old.executor self.new.executor }
         ensures refused { IfErr result (λ error. IsRefused self.old.executor self.new.executor × (self.new.notes ≡ self.old.notes)) }
     {
         let caller = self.executor.begin_ending(slot, map)?;
@@ -68,7 +68,7 @@ impl<K: Drop, V: Drop, S> Logged<K, V, S> {
             → EndsThere same hash caller told s self.old.executor self.new.executor) }
         ensures did { IfOk result (λ told. effects.new.items ≡ effects.old.items ++ effects_of (Ending map) (known self.old.notes) self.new.executor.memory.changed) }
         ensures noted { IfOk result (λ told. known self.new.notes ≡ known_after (Ending map) self.new.executor.memory.changed (known self.old.notes)) }
-        ensures given { KeepsGiven self.old.executor self.new.executor }
+        ensures given { PreservesSettings self.old.executor self.new.executor }
     {
         let told = self.executor.step_ending(caller);
         self.note(Acting::Ending { map }, effects)?;
@@ -89,7 +89,7 @@ impl<K: Drop, V: Drop, S> Logged<K, V, S> {
         ensures over { IfOk result (λ done. EndIsOver self.new) }
         ensures gone { IfOk result (λ done. EndGone caller map effects.old.items effects.new.items self.old self.new) }
         ensures back { IfOk result (λ done. EndBringsBack caller map effects.old.items effects.new.items self.old back.old.items back.new.items) }
-        ensures given { KeepsGiven self.old.executor self.new.executor }
+        ensures given { PreservesSettings self.old.executor self.new.executor }
     {
         loop {
             back.reserve(1)?;

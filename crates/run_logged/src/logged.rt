@@ -5,7 +5,7 @@ ghost use Rattle.run_effects.specs.Effects.Effects.{effects_of, known_after, Has
 ghost use Rattle.run_effects.specs.Effects.Known.{known, nothing_known};
 ghost use Rattle.run_logged.specs.Log.Choosing.{ChoiceIsShown, logged_chosen};
 ghost use Rattle.run_logged.specs.Log.Shown.{IsShown};
-ghost use Rattle.run_executor.specs.Executing.IsThere.{KeepsGiven};
+ghost use Rattle.run_executor.specs.Executing.IsThere.{PreservesSettings};
 ghost use Rattle.run_shows.specs.Scenes.Scene.{at_first};
 
 use run_effects::acting::Acting;
@@ -57,7 +57,7 @@ impl<K, V, S> Logged<K, V, S> {
     pub fn choose(&mut self, choice: u64) -> Result<(), AllocError>
         ensures chosen { OnOk result (self.new ≡ logged_chosen choice self.old) }
         ensures shown { OnOk result (ChoiceIsShown choice self.old self.new) }
-        ensures given { KeepsGiven self.old.executor self.new.executor }
+        ensures given { PreservesSettings self.old.executor self.new.executor }
     {
         self.executor.memory.memory.choose(choice)?;
         Ok(())

@@ -11,7 +11,7 @@ ghost use Rattle.run_logged.specs.Log.Makings.{MakingIsBegun, MakingSteps, Makin
 ghost use Rattle.run_logged.specs.Log.Roots.{MakingFinds};
 ghost use Rattle.run_logged.specs.Log.Shown.{IsShown};
 ghost use Rattle.run_executor.specs.Executing.Beginning.{IsRefused};
-ghost use Rattle.run_executor.specs.Executing.IsThere.{IsThere, KeepsGiven, StaysGiven};
+ghost use Rattle.run_executor.specs.Executing.IsThere.{IsThere, PreservesSettings, StaysGiven};
 ghost use Rattle.run_executor.specs.Executing.Making.{MakesThere};
 ghost use Rattle.run_executor.specs.Executing.MakingBegins.{MakingBegins};
 ghost use Rattle.run_shows.specs.Scenes.Scene.{IsMaking, Scene};
@@ -86,7 +86,7 @@ impl<K: Drop, V: Drop, S> Logged<K, V, S> {
         ensures numbers { IfOk result (λ told. length self.new.executor.maps.items ≡ length self.old.executor.maps.items) }
         ensures did { IfOk result (λ told. effects.new.items ≡ effects.old.items ++ effects_of (Making map) (known self.old.notes) self.new.executor.memory.changed) }
         ensures noted { IfOk result (λ told. known self.new.notes ≡ known_after (Making map) self.new.executor.memory.changed (known self.old.notes)) }
-        ensures given { KeepsGiven self.old.executor self.new.executor }
+        ensures given { PreservesSettings self.old.executor self.new.executor }
     {
         let told = self.executor.step_making(caller);
         self.note(Acting::Making { map }, effects)?;

@@ -13,7 +13,7 @@ ghost use Rattle.run_logged.specs.Log.Goes.{RowGone};
 ghost use Rattle.run_logged.specs.Log.OnSlots.{EndsTelling, OnSlotBegins, OnSlotSteps, OnSlotRan, OnSlotComes, OnSlotLast, has_come};
 ghost use Rattle.run_logged.specs.Log.Shown.{IsShown};
 ghost use Rattle.run_executor.specs.Executing.Beginning.{IsRefused};
-ghost use Rattle.run_executor.specs.Executing.IsThere.{IsThere, KeepsGiven, work_of};
+ghost use Rattle.run_executor.specs.Executing.IsThere.{IsThere, PreservesSettings, work_of};
 ghost use Rattle.run_executor.specs.Executing.OnSlots.{RowBeginsThere, RowStepsThere};
 ghost use Rattle.run_shows.specs.Scenes.Scene.{Scene};
 
@@ -48,7 +48,7 @@ impl<K: Drop, V: Drop, S> Logged<K, V, S> {
         ensures begun { IfOk result (λ caller. (same : K → K → Bool) (hash : K → ℕ) (s : Scene K V) → IsThere same hash self.old.executor s
             → RowBeginsThere same hash called caller s self.old.executor self.new.executor) }
         ensures notes { IfOk result (λ caller. self.new.notes ≡ self.old.notes) }
-        ensures given { KeepsGiven self.old.executor self.new.executor }
+        ensures given { PreservesSettings self.old.executor self.new.executor }
         ensures refused { IfErr result (λ error. IsRefused self.old.executor self.new.executor × (self.new.notes ≡ self.old.notes)) }
     {
         let caller = self.executor.begin_on_slot(slot, called)?;
@@ -68,7 +68,7 @@ impl<K: Drop, V: Drop, S> Logged<K, V, S> {
             → RowStepsThere same hash caller told s self.old.executor self.new.executor) }
         ensures did { IfOk result (λ told. effects.new.items ≡ effects.old.items ++ effects_of Row (known self.old.notes) self.new.executor.memory.changed) }
         ensures noted { IfOk result (λ told. known self.new.notes ≡ known_after Row self.new.executor.memory.changed (known self.old.notes)) }
-        ensures given { KeepsGiven self.old.executor self.new.executor }
+        ensures given { PreservesSettings self.old.executor self.new.executor }
     {
         let told = self.executor.step_on_slot(caller);
         self.note(Acting::Row, effects)?;
@@ -93,7 +93,7 @@ impl<K: Drop, V: Drop, S> Logged<K, V, S> {
         ensures ran { IfOk result (λ told. OnSlotRan effects.old.items effects.new.items self.old self.new) }
         ensures tells { IfOk result (λ told. EndsTelling effects.new.items self.new.executor) }
         ensures back { IfOk result (λ told. BringsBack effects.old.items effects.new.items self.old back.old.items back.new.items) }
-        ensures given { KeepsGiven self.old.executor self.new.executor }
+        ensures given { PreservesSettings self.old.executor self.new.executor }
     {
         loop {
             back.reserve(1)?;

@@ -10,7 +10,7 @@ ghost use Rattle.run_logged.specs.Log.Back.{AllBringsBack};
 ghost use Rattle.run_logged.specs.Log.Goes.{ReclaimingGone};
 ghost use Rattle.run_logged.specs.Log.Reclaims.{ReclaimingIsShown, ReclaimingRan, ReclaimingSteps};
 ghost use Rattle.run_logged.specs.Log.Shown.{IsShown};
-ghost use Rattle.run_executor.specs.Executing.IsThere.{KeepsGiven};
+ghost use Rattle.run_executor.specs.Executing.IsThere.{PreservesSettings};
 ghost use Rattle.run_shows.specs.Scenes.Scene.{Scene};
 
 use crate::back::keep_settled;
@@ -47,7 +47,7 @@ impl<K: Drop, V: Drop, S> Logged<K, V, S> {
             → ReclaimsThere same hash s i lists self.old.executor self.new.executor reclaiming.old.all reclaiming.new.all told) }
         ensures did { IfOk result (λ told. effects.new.items ≡ effects.old.items ++ effects_of Row (known self.old.notes) self.new.executor.memory.changed) }
         ensures noted { IfOk result (λ told. known self.new.notes ≡ known_after Row self.new.executor.memory.changed (known self.old.notes)) }
-        ensures given { KeepsGiven self.old.executor self.new.executor }
+        ensures given { PreservesSettings self.old.executor self.new.executor }
     {
         let told = reclaiming.step(&mut self.executor);
         self.note(Acting::Row, effects)?;
@@ -67,7 +67,7 @@ impl<K: Drop, V: Drop, S> Logged<K, V, S> {
         ensures ran { OnOk result (ReclaimingRan taken effects.old.items effects.new.items self.old self.new) }
         ensures gone { OnOk result (ReclaimingGone taken effects.old.items effects.new.items self.old self.new) }
         ensures back { OnOk result (AllBringsBack taken effects.old.items effects.new.items self.old back.old.items back.new.items) }
-        ensures given { KeepsGiven self.old.executor self.new.executor }
+        ensures given { PreservesSettings self.old.executor self.new.executor }
     {
         let mut reclaiming = self.begin_reclaiming(taken);
         let mut left = u64::MAX;

@@ -95,7 +95,7 @@ where
     ))
 }
 
-/// The run of a kept schedule: what is running comes to its end, or, if it is broken, the schedule runs anew, by the same hasher.
+/// The run of a kept schedule: what is running terminates, or, if it is broken, the schedule runs anew, by the same hasher.
 fn run_of<E: Drop, R: Runner<E>>(
     alloc: Global,
     setup: Setup,

@@ -1,4 +1,4 @@
--- What the calls of a run were told, and what they store and hand over, at a moment that shows the scene.
+-- What the calls of a run were told, and what they store and hand over, at a moment that the scene refines.
 pub mod Asked
 pub mod Hands
 pub mod Rows

@@ -46,3 +46,4 @@ pub use Rattle.seize_words.proofs.General
 pub use Rattle.seize_words.proofs.OneMemory.OneOwner as SeizeWordsOneOwner
 pub use Rattle.seize_words.proofs.OneMemory.Places as SeizeWordsPlaces
 pub use Rattle.seize_words.proofs.OneMemory.Plans as SeizeWordsPlans
+pub use Rattle.many_maps.proofs.Samples as ManyMapsSamples

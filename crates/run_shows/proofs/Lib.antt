@@ -3,3 +3,4 @@ pub mod Scenes
 pub mod Follows
 pub mod Others
 pub mod Given
+mod Samples

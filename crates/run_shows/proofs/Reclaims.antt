@@ -3,4 +3,3 @@ pub mod Behind
 pub mod Left
 pub mod Promised
 pub mod Ends
-mod Samples

@@ -1,24 +1,6 @@
 -- What is so by the crates below, given on to the crates above: these list this crate in place of those.
-pub use Rattle.run_finds.proofs.Begun as FindsBegun
 pub use Rattle.run_finds.proofs.Capacities as FindsCapacities
-pub use Rattle.run_finds.proofs.Closed as FindsClosed
-pub use Rattle.run_finds.proofs.Doing as FindsDoing
-pub use Rattle.run_finds.proofs.Endings as FindsEndings
-pub use Rattle.run_finds.proofs.Found as FindsFound
 pub use Rattle.run_finds.proofs.Grown as FindsGrown
-pub use Rattle.run_finds.proofs.Grows as FindsGrows
-pub use Rattle.run_finds.proofs.Joined as FindsJoined
-pub use Rattle.run_finds.proofs.Life as FindsLife
 pub use Rattle.run_finds.proofs.Linking as FindsLinking
 pub use Rattle.run_finds.proofs.Lists as FindsLists
-pub use Rattle.run_finds.proofs.Little as FindsLittle
-pub use Rattle.run_finds.proofs.Over as FindsOver
-pub use Rattle.run_finds.proofs.Placed as FindsPlaced
-pub use Rattle.run_finds.proofs.Quiet as FindsQuiet
-pub use Rattle.run_finds.proofs.Reserving as FindsReserving
-pub use Rattle.run_finds.proofs.Rest as FindsRest
-pub use Rattle.run_finds.proofs.Runs as FindsRuns
 pub use Rattle.run_finds.proofs.Shaping as FindsShaping
-pub use Rattle.run_finds.proofs.Somewhere as FindsSomewhere
-pub use Rattle.run_finds.proofs.Steps as FindsSteps
-pub use Rattle.run_finds.proofs.Waits as FindsWaits

@@ -1,4 +1,7 @@
 pub mod Purposes
-pub mod Sources
 pub mod Sizes
+pub mod Needs
+pub mod Quiet
+pub mod OwnPairs
 pub mod Given
+mod Samples

@@ -2,7 +2,6 @@
 mod Lists
 mod Within
 mod Present
-pub mod Sums
 pub mod Shown
 mod Alike
 mod KeysOn
@@ -15,12 +14,7 @@ mod Done
 mod Still
 mod Over
 mod Rooms
-mod Copiers
-mod RoomPoints
-pub mod RoomFacts
-pub mod Needs
 pub mod Tableless
-pub mod RoomSteps
 mod For
 mod Counts
 pub mod Steps

@@ -13,4 +13,3 @@ pub mod Sizes
 pub mod Lens
 pub mod WholeLens
 pub mod Once
-mod Samples

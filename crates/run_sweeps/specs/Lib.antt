@@ -1,4 +1,6 @@
 pub mod Purposes
-pub mod Sources
 pub mod Sizes
+pub mod Needs
+pub mod Says
+pub mod OwnPairs
 pub mod Given

@@ -31,16 +31,16 @@ module _ {T : Type 0} where
   head_read c _ = Now (c, Goes)
 
   -- where the list has changed, the block is linked anew
-  abbrev pub push_told : Defer → Out T → Then T (Defer × Advance Unit)
-  push_told c (Exchanged (Ok _)) = goes c at.Over
-  push_told c (Exchanged (Err head)) = goes c (at.Links head)
-  push_told c _ = Now (c, Goes)
+  abbrev pub after_push : Defer → Out T → Then T (Defer × Advance Unit)
+  after_push c (Exchanged (Ok _)) = goes c at.Over
+  after_push c (Exchanged (Err head)) = goes c (at.Links head)
+  after_push c _ = Now (c, Goes)
 
   -- each point: the head is read, the block is linked to it, and it takes the place of the head
   abbrev pub plan_at : Defer → Deferring → Plan T (Defer × Advance Unit)
   plan_at c at.Reads = Do (Load c.table_word) (head_read c)
   plan_at c (at.Links head) = Do (Store (Entry (block_in c.block) NEXT) head) (λ out. goes c (at.Pushes head))
-  plan_at c (at.Pushes head) = Do (Exchange c.table_word head c.block) (push_told c)
+  plan_at c (at.Pushes head) = Do (Exchange c.table_word head c.block) (after_push c)
   plan_at c at.Over = Turn (Now (c, Done tt))
 
   -- what its next step does

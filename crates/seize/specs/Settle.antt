@@ -209,15 +209,15 @@ module _ {T : Type 0} where
   links c block left pushed slot head = Do (Store (Entry (block_in block) LINK) head) (λ out. goes c (at.Pushes block left pushed slot head))
 
   -- Where only the slot's list has changed, the block is linked anew.
-  abbrev pub push_told : Settle → ℕ → ℕ → ℕ → ℕ → Out T → Then T (Settle × Settled T)
-  push_told c block left pushed slot (Exchanged (Ok _)) = goes c (pushed_of block left ((pushed + 1) % 2 ^ 64))
-  push_told c block left pushed slot (Exchanged (Err head)) =
+  abbrev pub after_push : Settle → ℕ → ℕ → ℕ → ℕ → Out T → Then T (Settle × Settled T)
+  after_push c block left pushed slot (Exchanged (Ok _)) = goes c (pushed_of block left ((pushed + 1) % 2 ^ 64))
+  after_push c block left pushed slot (Exchanged (Err head)) =
       if needs_none c head then goes c (pushed_of block left pushed) else to (record c { lost = c.lost + 1; stands = at.Links block left pushed slot head })
-  push_told c block left pushed slot _ = to c
+  after_push c block left pushed slot _ = to c
 
   -- pushes the block on the slot's list
   abbrev pub pushes : Settle → ℕ → ℕ → ℕ → ℕ → ℕ → Plan T (Settle × Settled T)
-  pushes c block left pushed slot head = Do (Exchange (Slot slot HEAD) head block) (push_told c block left pushed slot)
+  pushes c block left pushed slot head = Do (Exchange (Slot slot HEAD) head block) (after_push c block left pushed slot)
 
   -- the next block is to be pushed
   abbrev pub next_pushed : Settle → ℕ → ℕ → Out T → Then T (Settle × Settled T)

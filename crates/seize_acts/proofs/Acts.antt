@@ -7,7 +7,6 @@ pub mod Fine
 pub mod Lost
 pub mod Reclaimed
 pub mod Refused
-pub mod Samples
 pub mod Slots
 pub mod Stays
 pub mod Steps

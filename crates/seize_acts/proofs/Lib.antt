@@ -3,3 +3,4 @@ pub mod Bounds
 pub mod Reclaims
 pub mod Quiet
 pub mod Given
+pub mod Samples

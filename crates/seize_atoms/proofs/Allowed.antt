@@ -6,9 +6,9 @@ use Rattle.seize_words.specs.OneMemory.Mem.{Mem, value_at, word_at}
 use Rattle.seize_words.specs.declared.at.At.{At}
 use Rattle.seize_words.specs.declared.at.At.TheVariants.{Root, Used, Slot, Entry, Word}
 use Rattle.seize_words.specs.OneMemory.Op.{Op, Out, Make, Take, Rewrite}
-use Rattle.seize_seats.specs.Seats.State.{State, view_of, Goes, Allows, Owns, Turns, Learns, ShowsKept, AreThere, Starts, Comes, Meets, Testifies}
+use Rattle.seize_seats.specs.Seats.State.{State, view_of, Goes, Allows, Owns, Turns, Learns, KeptByTwo, AreThere, Starts, Comes, Meets, Testifies}
 use Rattle.seize_seats.specs.Seats.State as State
-use Rattle.seize_seats.specs.Seats.Lendings.{Shown, ShownToBoth, ShownToAll, ShownBy, IsValueOf, IsValueOfBoth, IsValueSo, IsValueBy}
+use Rattle.seize_seats.specs.Seats.Lendings.{VisibleTo, VisibleToBoth, VisibleToThree, VisibleByWitness, IsValueOf, IsValueOfBoth, IsValueSo, IsValueBy}
 use Rattle.seize_seats.specs.Seats.Start.{bare, WasIdle, WasKnown}
 use Rattle.seize_seats.specs.Seats.Visits.{Spot, Visit, Claim, fresh, onward, onward_at, witness, plain, plain_memory, plain_op, plain_out, HoldsKept, keeps_kept, then_kept}
 use Rattle.seize_seats.specs.Seats.Errands.{Away, inward, RenewsIdle, RenewsTo, RenewsFrom, AreAllBack, AreIdle, then_away, Lends, AreUnlent, TurnsUnlent, MayGo, MayGoAll, MayLean, MayLeanAll, MayMeet, MayLeanBoth}
@@ -171,7 +171,7 @@ module _ {T V W : Type 0} (rests : V → Type 0) (leans : V → ℕ → Type 0) 
       (λ w told n leans_on. leaning w.0 told.0 n leans_on)
       (Visits.learn_kept value_of lies holds keeps i v y j u x so law) s h.0 at_i at_j ne)
 
-  pub visit_allowed : (id : ℕ) (v : V) (y : Visit) (e : Away) (b : ℕ) → Shown holds id v b
+  pub visit_allowed : (id : ℕ) (v : V) (y : Visit) (e : Away) (b : ℕ) → VisibleTo holds id v b
       → Turns Hold Keep id ((v, y), e) (λ u. ((u.0.0 ≡ v) × ((p : Spot) × (u.0.1 ≡ onward_at y b p))) × (u.1 ≡ e))
   visit_allowed id v y e b shown =
       turns_since id ((v, y), e) (λ u. ((u.0.0 ≡ v) × ((p : Spot) × (u.0.1 ≡ onward_at y b p))) × (u.1 ≡ e))
@@ -280,8 +280,8 @@ module _ {T V W : Type 0} (rests : V → Type 0) (leans : V → ℕ → Type 0) 
       let known = Visits.view_plain value_of lies holds keeps (inward s) id (v, y) (Errands.inward_view rest lean up Visited Keeps s id ((v, y), e) at) in
       (plain value_of (inward s), h.0.0.0, known, plain_idle (inward s) (Errands.idle rest lean up Visited Keeps s h.0 home), refl)
 
-  pub shown_here : (i : ℕ) (v : V) (y : Visit) (e : Away) (j : ℕ) (u : V) (x : Visit) (f : Away) (b : ℕ) → ShownToBoth holds i v j u b
-      → ShownToBoth Hold i ((v, y), e) j ((u, x), f) b
+  pub shown_here : (i : ℕ) (v : V) (y : Visit) (e : Away) (j : ℕ) (u : V) (x : Visit) (f : Away) (b : ℕ) → VisibleToBoth holds i v j u b
+      → VisibleToBoth Hold i ((v, y), e) j ((u, x), f) b
   shown_here i v y e j u x f b shown s h at_i at_j =
       Errands.shown_both_away rest lean up Visited Keeps i (v, y) e j (u, x) f b (Visits.shown_to_both value_of lies holds keeps i v y j u x b shown) s h.0 at_i at_j
 
@@ -296,7 +296,7 @@ module _ {T V W : Type 0} (rests : V → Type 0) (leans : V → ℕ → Type 0) 
     abbrev pub bears_witness : Seen V
     bears_witness = ((new, witness claim), None)
 
-    pub testifies_here : rests new → Comes holds keeps new → ShowsKept holds keeps i v j u k o b
+    pub testifies_here : rests new → Comes holds keeps new → KeptByTwo holds keeps i v j u k o b
         → Testifies Hold i ((v, y), e) j ((u, x), f) k ((o, r), d) bears_witness
     testifies_here rested law shows s h at_i at_j at_k =
         let c = Errands.comes_away rest lean up Visited Keeps (new, witness claim) rested (Visits.comes_kept value_of lies holds keeps new (witness claim) refl law) s h.0 in
@@ -318,7 +318,7 @@ module _ {T V W : Type 0} (rests : V → Type 0) (leans : V → ℕ → Type 0) 
         )
 
     -- as long as the two are at the steps of the claim the block is there
-    pub shown_by_here : AreThere holds keeps → (id : ℕ) → ShownBy Hold j ((u, x), f) k ((o, r), d) (Some (id, bears_witness)) b
+    pub shown_by_here : AreThere holds keeps → (id : ℕ) → VisibleByWitness Hold j ((u, x), f) k ((o, r), d) (Some (id, bears_witness)) b
     shown_by_here there id t h at_j at_k bears =
         let is = h.2 id bears_witness claim bears refl in let same_j : Some is.0 ≡ Some ((u, x), f) = sym is.2 ∙ at_j in let same_k : Some is.1 ≡ Some ((o, r), d) = sym is.3 ∙ at_k in
         let guard : is.0 ≡ ((u, x), f) = cc same_j in let owner : is.1 ≡ ((o, r), d) = cc same_k in
@@ -337,7 +337,7 @@ module _ {T V W : Type 0} (rests : V → Type 0) (leans : V → ℕ → Type 0) 
     )
 
   pub shown_all_here : (i : ℕ) (v : V) (y : Visit) (e : Away) (j : ℕ) (u : V) (x : Visit) (f : Away) (k : ℕ) (o : V) (r : Visit) (d : Away) (b : ℕ)
-      → ShownToAll holds i v j u k o b → ShownToAll Hold i ((v, y), e) j ((u, x), f) k ((o, r), d) b
+      → VisibleToThree holds i v j u k o b → VisibleToThree Hold i ((v, y), e) j ((u, x), f) k ((o, r), d) b
   shown_all_here i v y e j u x f k o r d b shown t h at_i at_j at_k =
       value_of_block value_of t.memory b (shown (plain value_of (inward t)) h.0.0.0 (known t i v y e at_i) (known t j u x f at_j) (known t k o r d at_k))
 
@@ -350,7 +350,7 @@ module _ {T V W : Type 0} (rests : V → Type 0) (leans : V → ℕ → Type 0) 
   value_both i c j d b x is = (is.0, is.1.0, is.2, is.3, is.5)
 
   -- what both show they show with no witness
-  pub shown_alone : (i : ℕ) (c : Seen V) (j : ℕ) (d : Seen V) (b : ℕ) → ShownToBoth Hold i c j d b → ShownBy Hold i c j d None b
+  pub shown_alone : (i : ℕ) (c : Seen V) (j : ℕ) (d : Seen V) (b : ℕ) → VisibleToBoth Hold i c j d b → VisibleByWitness Hold i c j d None b
   shown_alone i c j d b shown t h at_i at_j bears = shown t h at_i at_j
 
   pub value_one : (id : ℕ) (c : Seen V) (b : ℕ) (x : Kept T) → IsValueOf Hold id c b x → IsValueOf Here id c b x

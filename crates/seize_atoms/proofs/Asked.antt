@@ -11,13 +11,13 @@ use denote.RawPtr.{Ptr, null_ptr, block_ptr, InBlock, Testable, count_of}
 use denote.Steps.{nothing}
 use Rattle.seize_words.specs.OneMemory.Op.{Out, Room, Roomed}
 use Rattle.seize_words.specs.declared.fault.Fault.TheVariants.{Memory}
-use Rattle.seize_seats.specs.Seats.Errands.{Sight, StayAllSo}
+use Rattle.seize_seats.specs.Seats.Errands.{ViewCode, StayAllSo}
 use Rattle.seize_seats.specs.Seats.State.{State, Allows}
 use Rattle.seize_seats.specs.Seats.Owned.{Pieces, BaseId}
 use Rattle.seize_seats.proofs.Seats.Stepping.Moves.{gone_on, next}
 use Rattle.seize_seats.proofs.Seats.Growing.RoomSteps.{answered}
 
-module _ {M : Type 1} {𝓤 : Ura M} (𝓛 : Logic 𝓤) (R : RattleType) (own : Pieces R.Denot) {V W : Type 0} (cv : Sight V) (holds : State R.Denot V W → Type 0) (keeps : V → V → W → ℕ
+module _ {M : Type 1} {𝓤 : Ura M} (𝓛 : Logic 𝓤) (R : RattleType) (own : Pieces R.Denot) {V W : Type 0} (cv : ViewCode V) (holds : State R.Denot V W → Type 0) (keeps : V → V → W → ℕ
     → Type 0) (p : Ptr) (z : BaseId) (id : ℕ) (v : V) (j e : ℕ) (few : j < 32) (at : e ≡ j * 8 + (256 + count_of z.doors)) (so : Out R.Denot → V → Type 0)
     (same : StayAllSo cv.away v so) (law : Allows holds keeps id v (Room (suc j)) so) (q : Share) where
   abbrev pub Answered : Bool → Ptr → V → Type 0

@@ -62,7 +62,7 @@ module _ {T V W : Type 0} (holds : State (Kept T) (Seen V) W → Type 0) (keeps 
             )
         by (inr ne) = (a, other_view s.views id j w ne ∙ at_j, le, λ e. (ne, refl))
 
-    claim_after : State.KeepsOthers holds Keep s id world → (c : Claim) → IsKept keeps c s → IsKept keeps c now
+    claim_after : State.PreservesKept holds Keep s id world → (c : Claim) → IsKept keeps c s → IsKept keeps c now
     claim_after others c k = let g = seat_after c.guard k.0 c.guards k.2 k.4 in let o = seat_after c.owner k.1 c.owners k.3 k.5 in (
       g.0,
       o.0,
@@ -76,7 +76,7 @@ module _ {T V W : Type 0} (holds : State (Kept T) (Seen V) W → Type 0) (keeps 
           (k.6 (eg ∙ ap (λ (x : Seen V). x.0.1.steps) a.1) (eo ∙ ap (λ (x : Seen V). x.0.1.steps) b.1)))),
     )
 
-    pub claims_after : State.KeepsOthers holds Keep s id world → AreClaimed keeps s → AreClaimed keeps now
+    pub claims_after : State.PreservesKept holds Keep s id world → AreClaimed keeps s → AreClaimed keeps now
     claims_after others claimed j x c at_j claims = by (cases_eq j id)
       where
         by : (j ≡ id) ⊎ (j ≢ id) → IsKept keeps c now

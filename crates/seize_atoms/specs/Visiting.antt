@@ -5,7 +5,7 @@ use denote.RawPtr.{coded_ptr}
 use Rattle.seize_words.specs.OneMemory.Mem.{Mem}
 use Rattle.seize_seats.specs.Seats.State.{State, view_of}
 use Rattle.seize_seats.specs.Seats.Visits.{Spot, Visit, Claim, HoldsKept, plain_memory}
-use Rattle.seize_seats.specs.Seats.Errands.{Away, Sight, with_away, HoldsAway}
+use Rattle.seize_seats.specs.Seats.Errands.{Away, ViewCode, with_away, HoldsAway}
 use Rattle.seize_seats.specs.Plots.Pieces.{value_of, lies}
 use Rattle.seize_seats.specs.declared.kept.Kept.{Kept}
 
@@ -40,7 +40,7 @@ visit_coded = coded_via (coded× (coded_list (coded× coded_ℕ (coded× coded_p
 abbrev pub Seen : Type 0 → Type 0
 Seen V = (V × Visit) × Away
 
-abbrev pub seat_coded : {V : Type 0} → Coded V → Sight (Seen V)
+abbrev pub seat_coded : {V : Type 0} → Coded V → ViewCode (Seen V)
 seat_coded c = with_away (coded× c visit_coded)
 
 -- what holds between any two steps of a memory whose seats visit blocks and go on errands

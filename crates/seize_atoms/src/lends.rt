@@ -1,8 +1,8 @@
 //! What is kept of a block is lent for as long as two seats are borrowed: by what they know themselves, or by what a third one knows.
 ghost use Rattle.std.specs.Prelude.{◌≡◌, Some};
 ghost use denote.RawPtr.{InBlock};
-ghost use Rattle.seize_seats.specs.Seats.State.{ShowsKept, AreThere, Comes};
-ghost use Rattle.seize_seats.specs.Seats.Lendings.{ShownToBoth, IsValueOfBoth, IsValueBy};
+ghost use Rattle.seize_seats.specs.Seats.State.{KeptByTwo, AreThere, Comes};
+ghost use Rattle.seize_seats.specs.Seats.Lendings.{VisibleToBoth, IsValueOfBoth, IsValueBy};
 ghost use Rattle.seize_seats.specs.Seats.Owned.{core_of};
 ghost use Rattle.seize_seats.specs.declared.kept.Kept.{Kept};
 ghost use Rattle.seize_atoms.specs.Visiting.{HoldsHere};
@@ -29,7 +29,7 @@ impl<T, R: Rule<T>> StripWords<T, R> {
         requires { (core_of strip.now.id ≡ core_of self.now.id) × InBlock strip.now.words
             × (guard.now.base ≡ self.now.id.views_name) × (owner.now.base ≡ self.now.id.views_name)
             × IsItsIndex strip.now.id _block index × (values ≡ strip.now.id.values)
-            × ShownToBoth (R.holds self.now.fixed) guard.now.id guard.now.view owner.now.id owner.now.view _block }
+            × VisibleToBoth (R.holds self.now.fixed) guard.now.id guard.now.view owner.now.id owner.now.view _block }
         ensures { (x : Kept T) × (result.now ≡ Some x) × IsValueOfBoth (HoldsHere R.rests R.leans (R.holds self.now.fixed)) guard.now.id
             ((guard.now.view, guard.now.visit), guard.now.away) owner.now.id ((owner.now.view, owner.now.visit), owner.now.away) _block x }
     {
@@ -51,7 +51,7 @@ impl<T, R: Rule<T>> StripWords<T, R> {
         requires { (core_of strip.now.id ≡ core_of self.now.id) × InBlock strip.now.words
             × (pass.now.base ≡ self.now.id.views_name) × (guard.now.base ≡ self.now.id.views_name) × (owner.now.base ≡ self.now.id.views_name)
             × IsItsIndex strip.now.id _block index × (values ≡ strip.now.id.values)
-            × ShowsKept (R.holds self.now.fixed) R.keeps pass.now.id pass.now.view guard.now.id guard.now.view owner.now.id owner.now.view _block
+            × KeptByTwo (R.holds self.now.fixed) R.keeps pass.now.id pass.now.view guard.now.id guard.now.view owner.now.id owner.now.view _block
             × AreThere (R.holds self.now.fixed) R.keeps × Comes (R.holds self.now.fixed) R.keeps (R.newcomer self.now.fixed) }
         ensures { (x : Kept T) × (result.now ≡ Some x) × IsValueBy (R.holds self.now.fixed) pass.now.id pass.now.view guard.now.id guard.now.view
             owner.now.id owner.now.view _block x.value }

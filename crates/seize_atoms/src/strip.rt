@@ -1,5 +1,5 @@
 //! What a strip of the numbers of a memory is known by.
-ghost use Rattle.seize_seats.specs.Seats.Owned.{BaseId, base_id_coded, strip_told, strip_owns};
+ghost use Rattle.seize_seats.specs.Seats.Owned.{BaseId, base_id_coded, strip_known, strip_owns};
 ghost use Rattle.seize_seats.specs.contracts.kept.Kept.{the_row as KeptOf};
 
 use std::marker::{Model, PhantomData};
@@ -15,5 +15,5 @@ pub struct Strip<T> {
 impl<T> Model for Strip<T> {
     ghost also_owns = { λ s. strip_owns (KeptOf T.row) s.words s.id };
 
-    ghost also_shares = { λ s _ κ. strip_told (KeptOf T.row) s.words s.id };
+    ghost also_shares = { λ s _ κ. strip_known (KeptOf T.row) s.words s.id };
 }

@@ -7,7 +7,7 @@ ghost use Rattle.seize_words.specs.OneMemory.Op.{Load, Store, Swap, Add, Or, Exc
 ghost use Rattle.seize_seats.specs.Seats.State.{Allows, Owns, Turns, Learns, Comes, Meets, Starts};
 ghost use Rattle.seize_seats.specs.Seats.Lines.{whole};
 ghost use Rattle.seize_seats.specs.Seats.Doors.{before, block_bytes, words_from, IsFurther, AreBehind};
-ghost use Rattle.seize_seats.specs.Seats.Lendings.{Shown, ShownToAll, IsValueOf};
+ghost use Rattle.seize_seats.specs.Seats.Lendings.{VisibleTo, VisibleToThree, IsValueOf};
 ghost use Rattle.seize_words.specs.OneMemory.Mem.{Mem};
 ghost use Rattle.seize_seats.specs.Seats.Start.{memory_coded, bare};
 ghost use Rattle.seize_seats.specs.Seats.Owned.{BaseId, base_id_coded, core_of, stride, IsFirst, words_own, words_share};
@@ -248,7 +248,7 @@ impl<T, R: Rule<T>> StripWords<T, R> {
         requires { (pass.now.base ≡ self.now.id.views_name) × (guard.now.base ≡ self.now.id.views_name) × (owner.now.base ≡ self.now.id.views_name)
             × (doors ≡ self.now.id.doors) × (index < 32) × (self.now.id.place ≡ 0) × (self.now.id.size ≡ self.now.id.least)
             × (self.now.id.least * 2 ^ index ≤ _block - 1)
-            × ShownToAll (R.holds self.now.fixed) pass.now.id pass.now.view guard.now.id guard.now.view owner.now.id owner.now.view _block }
+            × VisibleToThree (R.holds self.now.fixed) pass.now.id pass.now.view guard.now.id guard.now.view owner.now.id owner.now.view _block }
         ensures { (core_of result.id ≡ core_of self.now.id) × (result.id.skip ≡ before (KeptOf T.row) result.id.size)
             × (result.id.values ≡ result.words)
             × (result.id.first ≡ self.now.id.least * 2 ^ index) × (result.id.size ≡ result.id.first) × InBlock result.words
@@ -369,7 +369,7 @@ impl<T, R: Rule<T>> StripWords<T, R> {
 
     /// Begins a visit of a seat to a block that its view shows: it knows where its own words lie, and how many they are, until its next step.
     pub fn visit(&self, seat: &mut Seat<T, R>, _block: u64)
-        requires { (seat.old.base ≡ self.now.id.views_name) × Shown (R.holds self.now.fixed) seat.old.id seat.old.view _block }
+        requires { (seat.old.base ≡ self.now.id.views_name) × VisibleTo (R.holds self.now.fixed) seat.old.id seat.old.view _block }
         ensures { (seat.new.base ≡ seat.old.base) × (seat.new.id ≡ seat.old.id) × (seat.new.away ≡ seat.old.away)
             × (seat.new.view ≡ seat.old.view) × ((spot : Spot) × (seat.new.visit.spot ≡ Some (_block, spot))) }
     {}

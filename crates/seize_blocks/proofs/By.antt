@@ -9,7 +9,7 @@ use Rattle.seize_words.specs.declared.block.Block.{Block}
 use Rattle.seize_seats.specs.Seats.State.{State, Allows, Owns}
 use Rattle.seize_seats.specs.Seats.Visits.{AreSeenAt, Spot, Visit}
 use Rattle.seize_seats.specs.Seats.Reached.{IsAt}
-use Rattle.seize_seats.specs.Seats.Lendings.{ShownToAll, IsValueOf, IsValueOfBoth}
+use Rattle.seize_seats.specs.Seats.Lendings.{VisibleToThree, IsValueOf, IsValueOfBoth}
 use Rattle.seize_seats.specs.Seats.Errands.{Away}
 use Rattle.seize_atoms.specs.Visiting.{Seen, HoldsHere}
 use Rattle.seize_atoms.proofs.Allowed.{visits_found, value_found}
@@ -106,7 +106,7 @@ entry_some None i some = absurd (cc some)
 entry_some (Some x) i some = refl
 
 -- where there is such a word, the view shows its block
-pub shows_block : {T V W : Type 0} (holds : State T V W → Type 0) (id : ℕ) (v : V) (b i : ℕ) → HasWord holds id v (Entry b i) → ShownToAll holds id v id v id v b
+pub shows_block : {T V W : Type 0} (holds : State T V W → Type 0) (id : ℕ) (v : V) (b i : ℕ) → HasWord holds id v (Entry b i) → VisibleToThree holds id v id v id v b
 shows_block holds id v b i has = λ t h at at' at''. entry_some (block_of t.memory b) i (has t h at)
 
 -- of a block that the seat visits, its own words lie where it has seen them

@@ -1,11 +1,11 @@
 //! The memory as a whole, as those use it who share it.
 ghost use Rattle.std.specs.Prelude.{◌≡◌, None, ◌≤◌, ◌<◌, ◌^◌};
 ghost use Rattle.seize_words.specs.OneMemory.Op.{Load, Store, Swap, Add, Or, Exchange, Make, Take, Rewrite, Found, Stored, Exchanged, Made, Taken};
-ghost use Rattle.seize_seats.specs.Seats.State.{Allows, Owns, Turns, Learns, ShowsKept, AreThere, Comes, Meets};
+ghost use Rattle.seize_seats.specs.Seats.State.{Allows, Owns, Turns, Learns, KeptByTwo, AreThere, Comes, Meets};
 ghost use Rattle.seize_seats.specs.Seats.Errands.{MayGo, MayLean, MayMeet, MayLeanBoth, TurnsUnlent, RenewsIdle};
 ghost use Rattle.seize_seats.specs.Seats.Start.{WasIdle};
 ghost use Rattle.seize_seats.specs.Seats.Owned.{IsFirst};
-ghost use Rattle.seize_seats.specs.Seats.Lendings.{Shown, ShownToBoth, IsValueOf, IsValueOfBoth, IsValueBy};
+ghost use Rattle.seize_seats.specs.Seats.Lendings.{VisibleTo, VisibleToBoth, IsValueOf, IsValueOfBoth, IsValueBy};
 
 use crate::access::{Adds, Exchanges, Loads, Sets, Stores, Swaps};
 use crate::errand::{Charged, Errand, ErrandWith, Sent};
@@ -341,7 +341,7 @@ impl<T, R: Rule<T>> Blocks<T, R> {
     #[inline(always)]
     pub fn value<'g>(&'g self, seat: &'g Seat<T, R>, block: u64) -> &'g T
         requires own { seat.now.base ≡ self.now.words.id.views_name }
-        requires shown { Shown (R.holds self.now.words.fixed) seat.now.id seat.now.view block }
+        requires shown { VisibleTo (R.holds self.now.words.fixed) seat.now.id seat.now.view block }
         ensures { IsValueOf (R.holds self.now.words.fixed) seat.now.id seat.now.view block result.now }
     {
         self.value_for(seat, seat, block)
@@ -357,7 +357,7 @@ impl<T, R: Rule<T>> Blocks<T, R> {
         block: u64,
     ) -> &'g T
         requires own { (guard.now.base ≡ self.now.words.id.views_name) × (owner.now.base ≡ self.now.words.id.views_name) }
-        requires shown { ShownToBoth (R.holds self.now.words.fixed) guard.now.id guard.now.view owner.now.id owner.now.view block }
+        requires shown { VisibleToBoth (R.holds self.now.words.fixed) guard.now.id guard.now.view owner.now.id owner.now.view block }
         ensures { IsValueOfBoth (R.holds self.now.words.fixed) guard.now.id guard.now.view owner.now.id owner.now.view block result.now }
     {
         let spot = self.spot_of(guard, guard, owner, block);
@@ -382,7 +382,7 @@ impl<T, R: Rule<T>> Blocks<T, R> {
     ) -> &'g T
         requires own { (pass.now.base ≡ self.now.words.id.views_name) × (guard.now.base ≡ self.now.words.id.views_name)
             × (owner.now.base ≡ self.now.words.id.views_name) }
-        requires kept { ShowsKept (R.holds self.now.words.fixed) R.keeps pass.now.id pass.now.view guard.now.id guard.now.view
+        requires kept { KeptByTwo (R.holds self.now.words.fixed) R.keeps pass.now.id pass.now.view guard.now.id guard.now.view
             owner.now.id owner.now.view block }
         requires there { AreThere (R.holds self.now.words.fixed) R.keeps }
         requires comes { Comes (R.holds self.now.words.fixed) R.keeps (R.newcomer self.now.words.fixed) }

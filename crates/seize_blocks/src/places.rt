@@ -4,7 +4,7 @@ ghost use denote.RawPtr.{Ptr, InBlock};
 ghost use Rattle.seize_seats.specs.Seats.Lines.{long};
 ghost use Rattle.seize_seats.specs.Seats.Owned.{core_of};
 ghost use Rattle.seize_seats.specs.Seats.State.{Allows};
-ghost use Rattle.seize_seats.specs.Seats.Lendings.{Shown, ShownToAll};
+ghost use Rattle.seize_seats.specs.Seats.Lendings.{VisibleTo, VisibleToThree};
 ghost use Rattle.seize_atoms.specs.Visiting.{HoldsHere};
 ghost use Rattle.seize_words.specs.declared.at.At.TheVariants.{Slot, Word};
 ghost use Rattle.seize_seats.specs.Plots.Pieces.{lies};
@@ -163,7 +163,7 @@ impl<T, R: Rule<T>> Blocks<T, R> {
     /// Where the own words of a block that the seat visits lie, and how many they are.
     pub(crate) fn beside(&self, seat: &Seat<T, R>, spot: &Spot<T>, block: u64) -> Beside
         requires own { seat.now.base ≡ self.now.words.id.views_name }
-        requires shown { Shown (R.holds self.now.words.fixed) seat.now.id seat.now.view block }
+        requires shown { VisibleTo (R.holds self.now.words.fixed) seat.now.id seat.now.view block }
         requires visits { (s : Ptr × ℕ) × (seat.now.visit.spot ≡ Some (block, s)) }
         requires strip { (core_of spot.now.strip.id ≡ core_of self.now.words.id) × InBlock spot.now.strip.words
             × (spot.now.values ≡ spot.now.strip.id.values) × IsItsIndex spot.now.strip.id block spot.now.index }
@@ -238,7 +238,7 @@ impl<T, R: Rule<T>> Blocks<T, R> {
     ) -> Spot<T>
         requires own { (pass.now.base ≡ self.now.words.id.views_name) × (guard.now.base ≡ self.now.words.id.views_name)
             × (owner.now.base ≡ self.now.words.id.views_name) }
-        requires shown { ShownToAll (R.holds self.now.words.fixed) pass.now.id pass.now.view guard.now.id guard.now.view owner.now.id owner.now.view block }
+        requires shown { VisibleToThree (R.holds self.now.words.fixed) pass.now.id pass.now.view guard.now.id guard.now.view owner.now.id owner.now.view block }
         ensures strip { (core_of result.strip.id ≡ core_of self.now.words.id) × InBlock result.strip.words × (result.values ≡ result.strip.id.values) }
         ensures index { IsItsIndex result.strip.id block result.index × (result.index < 2 ^ 32) }
         ensures words { (result.first ≡ result.index * 5 + result.strip.id.skip) × (result.first + 4 < 2 ^ 60) }
@@ -265,7 +265,7 @@ impl<T, R: Rule<T>> Blocks<T, R> {
         requires far { (self.now.words.id.least < block) × (block ≤ 2 ^ 32) }
         requires own { (pass.now.base ≡ self.now.words.id.views_name) × (guard.now.base ≡ self.now.words.id.views_name)
             × (owner.now.base ≡ self.now.words.id.views_name) }
-        requires shown { ShownToAll (R.holds self.now.words.fixed) pass.now.id pass.now.view guard.now.id guard.now.view owner.now.id owner.now.view block }
+        requires shown { VisibleToThree (R.holds self.now.words.fixed) pass.now.id pass.now.view guard.now.id guard.now.view owner.now.id owner.now.view block }
         ensures strip { (core_of result.strip.id ≡ core_of self.now.words.id) × InBlock result.strip.words × (result.values ≡ result.strip.id.values) }
         ensures index { IsItsIndex result.strip.id block result.index × (result.index < 2 ^ 32) }
         ensures words { (result.first ≡ result.index * 5 + result.strip.id.skip) × (result.first + 4 < 2 ^ 60) }

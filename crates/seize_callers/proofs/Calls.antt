@@ -5,11 +5,11 @@ use Rattle.seize_words.specs.OneMemory.Op.{Op, Load, Swap, Or, Exchange, Make, T
 use Rattle.seize_words.specs.OneMemory.Word.{block_in, link_to}
 use Rattle.seize_words.specs.declared.at.At.TheVariants.{Root}
 use Rattle.seize.specs.World.{HasListWord}
-use Rattle.seize_seats.specs.Seats.Lendings.{Shown}
+use Rattle.seize_seats.specs.Seats.Lendings.{VisibleTo}
 use Rattle.seize_seats.specs.Seats.State.{Allows}
 use Rattle.seize_views.specs.Views.Rows.{Permits, Holds}
 use Rattle.seize_views.specs.Views.Watched.{IsOwn}
-use Rattle.seize_views.specs.Views.Notes.{NotedHolds, NotedKeeps, noted_told}
+use Rattle.seize_views.specs.Views.Notes.{NotedHolds, NotedKeeps, noted_observed}
 use Rattle.seize_views.specs.Views.Promises.{Names, HasMade, IsLooking}
 use Rattle.seize_views.specs.Views.Told.{seen_in, seen_as, made_beside, told}
 use Rattle.seize_views.specs.declared.view.Noted.{Noted}
@@ -34,13 +34,13 @@ link_names b word lt link = ap block_in (link ∙ whole_link b lt) ∙ block_of_
 module _ {T : Type 0} (defers : T → Option ℕ) (fixed : Fixed) (id : ℕ) (v : Noted T) where
   -- what may be done by what the seat knows, it may do, and notes it
   pub by_view : (w : SlotView T) (op : Op T) → v.knows ≡ w → IsOwn w → Permits defers fixed id w op (told defers w op)
-      → Allows (NotedHolds defers fixed) NotedKeeps id v op (noted_told defers v op)
+      → Allows (NotedHolds defers fixed) NotedKeeps id v op (noted_observed defers v op)
   by_view w op is own may =
       allows defers fixed id v op (subst IsOwn (sym is) own) (subst (λ (x : SlotView T). Permits defers fixed id x op (told defers x op)) (sym is) may)
 
 module _ {T : Type 0} (defers : T → Option ℕ) (fixed : Fixed) (id : ℕ) (v : Noted T) (slot : ℕ) where
   abbrev MayMake : Op T → Type 0
-  MayMake op = Allows (NotedHolds defers fixed) NotedKeeps id v op (noted_told defers v op)
+  MayMake op = Allows (NotedHolds defers fixed) NotedKeeps id v op (noted_observed defers v op)
 
   -- beside a block that was seen, or none
 
@@ -85,10 +85,10 @@ module _ {T : Type 0} (defers : T → Option ℕ) (fixed : Fixed) (id : ℕ) (v 
   may_mark has r bits looks is small lt =
       by_view defers fixed id v (Inside slot has) (Or (Root r) bits) is tt (roots_are_marked T defers has r bits fixed id slot looks small lt)
 
-  pub is_shown : (has : Has T) (b : ℕ) → v.knows ≡ Inside slot has → Names has b → Shown (NotedHolds defers fixed) id v b
+  pub is_shown : (has : Has T) (b : ℕ) → v.knows ≡ Inside slot has → Names has b → VisibleTo (NotedHolds defers fixed) id v b
   is_shown has b is names =
       (looks_are_noted T defers fixed id v b).0
-      (subst (λ (x : SlotView T). Shown (Holds defers fixed) id x b) (sym is) (known_are_shown T defers has b fixed id slot names))
+      (subst (λ (x : SlotView T). VisibleTo (Holds defers fixed) id x b) (sym is) (known_are_shown T defers has b fixed id slot names))
 
 module _ {T : Type 0} (defers : T → Option ℕ) (v w : SlotView T) (slot : ℕ) where
   pub seen_told : (has : Has T) (r word : ℕ) → IsLooking has → v ≡ Inside slot has → told defers v (Load (Root r)) (Found word) w → w ≡ Inside slot (seen_in word)

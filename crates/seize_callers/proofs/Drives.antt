@@ -13,8 +13,8 @@ use Rattle.seize.specs.declared.rows.settle.Settled.{Settled}
 use Rattle.seize.specs.Register as register
 use Rattle.seize.specs.Settle.{settle_plan, plan_at}
 use Rattle.seize_straight.specs.Going.{DropGoes}
-use Rattle.seize_seats.specs.Seats.Lendings.{Shown, IsValueOf}
-use Rattle.seize_views.specs.Views.Told.{shown_by, FollowsBy, GoesOn, told}
+use Rattle.seize_seats.specs.Seats.Lendings.{VisibleTo, IsValueOf}
+use Rattle.seize_views.specs.Views.Told.{shown_by, FollowsBy, Continues, told}
 use Rattle.seize_views.specs.Views.Promises.{op_in, op_of}
 use Rattle.seize_callers.specs.Made.{shown_in, shown_of, left_of, left_in, CanMake, HasMade, IsSettling, Task}
 use Rattle.seize_seats.specs.Seats.State.{State}
@@ -76,7 +76,7 @@ module _ {T M X Y : Type 0} (defers : T → Option ℕ) (notes : M → Noted T) 
 
   module _ (m : M) (c : Settle) (task : Task T) (is : IsSettling task c (notes m)) (ne : c.stands ≡ at.Over → ⊥) where
     -- what is told of a settling's operation
-    goes_on : (op : Op T) (out : Out T) (n : M) → Has m op out n → GoesOn defers c task.why is.1 out (notes n).knows
+    goes_on : (op : Op T) (out : Out T) (n : M) → Has m op out n → Continues defers c task.why is.1 out (notes n).knows
     goes_on op out n made = subst (λ (v : SlotView T). told defers v op out (notes n).knows) (ap known_by is.2) made.2.0
 
     -- and what was noted stays
@@ -126,13 +126,13 @@ module _ {T V W B : Type 0} (holds : Fixed → State T V W → Type 0) (keeps : 
   some_same false o is = absurd (cc is)
 
   abbrev IsShownIn : SlotView T → ℕ → Type 0
-  IsShownIn w b = Shown (holds fixed) id v b × ((y : T) → IsValueOf (holds fixed) id v b y → shown_in w b ≡ Some y)
+  IsShownIn w b = VisibleTo (holds fixed) id v b × ((y : T) → IsValueOf (holds fixed) id v b y → shown_in w b ≡ Some y)
 
   known_looked : (w : SlotView T) (b : ℕ) → (notes v).knows ≡ w → IsSome (shown_in w b) → IsShownIn w b
   known_looked (Settles c why (Some (a, x)) left) b at is =
       let e : a ≡ b = sym (eqb-true b a (some_same (b == a) (Some x) is)) in
       let k = law fixed id v c why a left x at in (
-        subst (λ (n : ℕ). Shown (holds fixed) id v n) e k.0,
+        subst (λ (n : ℕ). VisibleTo (holds fixed) id v n) e k.0,
         λ y of. ap (λ (z : Bool). if z then Some x else None) (some_same (b == a) (Some x) is)
             ∙ ap Some (sym (k.1 y (subst (λ (n : ℕ). IsValueOf (holds fixed) id v n y) (sym e) of))),
       )

@@ -3,8 +3,8 @@ use Rattle.std.specs.Prelude.{Option, Some}
 use Rattle.std.proofs.Common.{◌≡◌, ◌⊎◌, ℕ, inl, inr}
 use Rattle.seize_words.specs.OneMemory.Op.{Op, Out, Rewrite}
 use Rattle.seize_seats.specs.Seats.State.{State, Allows, Owns}
-use Rattle.seize_views.specs.Views.Content.{RowsAreTold, RowsGoOnIn}
-use Rattle.seize_views.specs.Views.Notes.{noted_told}
+use Rattle.seize_views.specs.Views.Content.{RowsAreObserved, RowsContinueIn}
+use Rattle.seize_views.specs.Views.Notes.{noted_observed}
 use Rattle.seize_views.specs.Views.Promises.{op_of}
 use Rattle.seize_views.specs.declared.view.Fixed.{Fixed}
 use Rattle.seize_views.specs.declared.view.Noted.{Noted}
@@ -16,12 +16,12 @@ module _ {T V W B : Type 0} (holds : Fixed → State T V W → Type 0) (keeps : 
   abbrev Can : Op T → Type 0
   Can op = (op_of defers (notes v).knows ≡ Some op) ⊎ IsAllowed holds keeps notes beside defers then fixed id v op
 
-  pub may_make : RowsGoOnIn holds keeps notes beside defers then → (op : Op T) → Can op → Allows (holds fixed) keeps id v op (then v op)
+  pub may_make : RowsContinueIn holds keeps notes beside defers then → (op : Op T) → Can op → Allows (holds fixed) keeps id v op (then v op)
   may_make rows op (inl next) = rows fixed id v op next
   may_make rows op (inr allowed) = allowed.may
 
-  pub has_told : RowsAreTold notes beside defers then → (op : Op T) → Can op → (out : Out T) (w : V) → then v op out w
-      → noted_told defers (notes v) op out (notes w) × (beside w ≡ beside v)
+  pub has_told : RowsAreObserved notes beside defers then → (op : Op T) → Can op → (out : Out T) (w : V) → then v op out w
+      → noted_observed defers (notes v) op out (notes w) × (beside w ≡ beside v)
   has_told told op (inl next) out w so = told v w op out next so
   has_told told op (inr allowed) out w so = allowed.told out w so
 

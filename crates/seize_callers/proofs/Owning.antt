@@ -5,12 +5,12 @@ use Rattle.seize_words.specs.OneMemory.Op.{Op, Swap, Exchange, Make, Take, Rewri
 use Rattle.seize_words.specs.OneMemory.Word.{block_in}
 use Rattle.seize_words.specs.declared.at.At.TheVariants.{Root}
 use Rattle.seize.specs.World.{HasListWord}
-use Rattle.seize_seats.specs.Seats.Lendings.{Shown, IsValueOf}
+use Rattle.seize_seats.specs.Seats.Lendings.{VisibleTo, IsValueOf}
 use Rattle.seize_seats.specs.Seats.State.{Allows, Owns, Meets}
 use Rattle.seize_views.specs.Views.Begun.{Hands}
 use Rattle.seize_views.specs.Views.Promises.{IsLooking, IsTaker}
 use Rattle.seize_views.specs.Views.Rows.{Holds}
-use Rattle.seize_views.specs.Views.Notes.{deed, NotedHolds, NotedKeeps, NotedHands, noted_told}
+use Rattle.seize_views.specs.Views.Notes.{deed, NotedHolds, NotedKeeps, NotedHands, noted_observed}
 use Rattle.seize_callers.specs.Owning.{brought_by, borne_by}
 use Rattle.seize_views.specs.Views.Told.{alone_with, cut_in, told}
 use Rattle.seize_views.specs.declared.view.Noted.{Noted}
@@ -65,7 +65,7 @@ module _ {T : Type 0} where
 
 module _ {T : Type 0} (defers : T → Option ℕ) (fixed : Fixed) (id : ℕ) (v : Noted T) where
   abbrev MayMake : Op T → Type 0
-  MayMake op = Allows (NotedHolds defers fixed) NotedKeeps id v op (noted_told defers v op)
+  MayMake op = Allows (NotedHolds defers fixed) NotedKeeps id v op (noted_observed defers v op)
 
   pub may_make_own : v.knows ≡ Rests → (value : T) (words : ℕ) → HasListWord defers (defers value) words → MayMake (Make value words)
   may_make_own is value words list = by_view defers fixed id v Rests (Make value words) is tt (own_are_made T defers value words list fixed id)
@@ -92,21 +92,21 @@ module _ {T : Type 0} (defers : T → Option ℕ) (fixed : Fixed) (id : ℕ) (v 
       let k = brings b v.knows e in
       by_view defers fixed id v (Brings b k.0) (Exchange (Root r) old word) k.1 tt (own_are_exchanged T defers b k.0 r old word fixed id names lt)
 
-  pub is_brought : (b : ℕ) → brought_by v.knows ≡ Some b → Shown (NotedHolds defers fixed) id v b
+  pub is_brought : (b : ℕ) → brought_by v.knows ≡ Some b → VisibleTo (NotedHolds defers fixed) id v b
   is_brought b e =
       let k = brings b v.knows e in
       (looks_are_noted T defers fixed id v b).0
-      (subst (λ (x : SlotView T). Shown (Holds defers fixed) id x b) (sym k.1) (own_are_shown T defers fixed id b k.0).0)
+      (subst (λ (x : SlotView T). VisibleTo (Holds defers fixed) id x b) (sym k.1) (own_are_shown T defers fixed id b k.0).0)
 
   pub brought_value : (b : ℕ) (x y : T) → v.knows ≡ Brings b x → IsValueOf (NotedHolds defers fixed) id v b y → y ≡ x
   brought_value b x y is of =
       (own_are_shown T defers fixed id b x).1 y
       (subst (λ (u : SlotView T). IsValueOf (Holds defers fixed) id u b y) is ((looks_are_noted T defers fixed id v b).1 y of))
 
-  pub is_borne : (b : ℕ) → borne_by v.knows ≡ Some b → Shown (NotedHolds defers fixed) id v b
+  pub is_borne : (b : ℕ) → borne_by v.knows ≡ Some b → VisibleTo (NotedHolds defers fixed) id v b
   is_borne b e =
       (looks_are_noted T defers fixed id v b).0
-      (subst (λ (x : SlotView T). Shown (Holds defers fixed) id x b) (sym (bears b v.knows e)) (borne_are_shown T defers fixed id b))
+      (subst (λ (x : SlotView T). VisibleTo (Holds defers fixed) id x b) (sym (bears b v.knows e)) (borne_are_shown T defers fixed id b))
 
   pub may_hand_on : (j b : ℕ) (u : Noted T) → v.knows ≡ Bears b → IsTaker u.knows → Meets (NotedHolds defers fixed) id v j u (NotedHands fixed v u)
   may_hand_on j b u is takes =

@@ -12,7 +12,7 @@ use Rattle.seize.specs.declared.rows.settle.Settling.TheVariants as at
 use Rattle.seize_rule.proofs.Points.Settle.{is_over}
 use Rattle.seize_straight.specs.Going.{DropGoes, DropLeads, MayDrop, MaySettle, SettleGoes, SettleReaches}
 use Rattle.seize_straight.specs.Retiring.{retired, settle_at}
-use Rattle.seize_straight.specs.Runs.{none_taken, one_more, Tells}
+use Rattle.seize_straight.specs.Runs.{none_taken, one_more, EndsTelling}
 use Rattle.seize_straight.specs.declared.retiring.Retired.{Retired}
 use Rattle.seize_straight.specs.declared.retiring.Retired.TheVariants as to
 use Rattle.seize_straight.proofs.Reclaimings.{leads_once, may_once}
@@ -79,7 +79,7 @@ module _ {T M X Y : Type 0} (defers : T → Option ℕ) (notes : M → Noted T) 
       (b.0, b.1 ∙ a.1, b.2 ∙ a.2, (let before = a.3 in let after = b.3 in omega (arith, before, after)), b.4 ∙ a.4)
 
   -- what has told that it has ended is over
-  pub has_ended : (c : Settle) (m n : M) → Tells (SettleGoes {T = T}) has shows (settle_plan defers) c m n Done → IsSettling task c (notes m)
+  pub has_ended : (c : Settle) (m n : M) → EndsTelling (SettleGoes {T = T}) has shows (settle_plan defers) c m n Done → IsSettling task c (notes m)
       → (d : Settle) × (d.stands ≡ at.Over) × Comes c m d n
   has_ended c m n (x, k, z, l, st, not) is =
       let a = led c x m k (leads_once defers can has shows c x m k l) is in over a (is_over x.stands) refl

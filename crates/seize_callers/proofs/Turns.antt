@@ -10,7 +10,7 @@ use Rattle.seize.specs.Settle.{retiring, flushing, counting_down}
 use Rattle.seize_seats.specs.Seats.State.{State}
 use Rattle.seize_seats.specs.Seats.Errands.{Away, MayLean, TurnsUnlent}
 use Rattle.seize_views.specs.Views.Begun.{leaving, refreshes, forgetting, left_with, IsBegun, Retires, Flushes, Makes}
-use Rattle.seize_views.specs.Views.Content.{RowsTurnIn, SettlingsBeginIn, LeansBeside, Turned}
+use Rattle.seize_views.specs.Views.Content.{RowsTurnIn, SettlingsBeginIn, LeansByTheRest, Turned}
 use Rattle.seize_views.specs.Views.Notes.{noted}
 use Rattle.seize_views.specs.Views.Promises.{IsLooking, IsNext, IsFree, IsToSettle}
 use Rattle.seize_views.specs.Views.Told.{list_taken, told}
@@ -125,7 +125,7 @@ module _ {T V W B : Type 0} (holds : Fixed → State T V W → Type 0) (keeps : 
       )
 
   -- and whom it leans on then it did before
-  pub leans_turn : LeansBeside leans notes beside → (fixed : Fixed) (e : Away) (v : V) (w : SlotView T) → (notes v).knows ≡ w
+  pub leans_turn : LeansByTheRest leans notes beside → (fixed : Fixed) (e : Away) (v : V) (w : SlotView T) → (notes v).knows ≡ w
       → (f : Fixed → SlotView T → SlotView T) (began : Began → Began) → IsNext fixed w (f fixed w) → MayEnd (notes v).guards w (f fixed w)
       → MayLean leans e v (Turned notes beside (Makes f) began fixed v)
   leans_turn law fixed e v w is f began next ends x so n leaning =
@@ -160,7 +160,7 @@ module _ {T V W B : Type 0} (holds : Fixed → State T V W → Type 0) (keeps : 
       may_flush_idle is = may_settle (Outside slot) is Flushes Idle (flushing slot batch) refl (λ u e. e)
 
   -- as a settling begins, too
-  module _ (law : LeansBeside leans notes beside) (fixed : Fixed) (e : Away) (v : V) (began : Began) where
+  module _ (law : LeansByTheRest leans notes beside) (fixed : Fixed) (e : Away) (v : V) (began : Began) where
     leans_settle : (w : SlotView T) → (notes v).knows ≡ w → (so : Fixed → SlotView T → SlotView T → Type 0) (way : Becomes) (c : Settle)
         → ((u : SlotView T) → so fixed w u → IsBegun way c u) → MayLean leans e v (Turned notes beside so (λ _. began) fixed v)
     leans_settle w is so way c tells x told n leaning =

@@ -3,7 +3,7 @@ use Rattle.std.specs.Prelude.{◌≡◌, ◌⊎◌, ℕ, Option, Some, None}
 use Rattle.seize_words.specs.OneMemory.Op.{Op, Out, Rewrite}
 use Rattle.seize.specs.declared.rows.settle.Settle.{Settle}
 use Rattle.seize_seats.specs.Seats.State.{State, Allows, Owns}
-use Rattle.seize_views.specs.Views.Notes.{noted, noted_told}
+use Rattle.seize_views.specs.Views.Notes.{noted, noted_observed}
 use Rattle.seize_views.specs.Views.Promises.{op_of}
 use Rattle.seize_views.specs.Views.Told.{shown_by}
 use Rattle.seize_views.specs.declared.view.Fixed.{Fixed}
@@ -54,7 +54,7 @@ module _ {T V W B : Type 0} (holds : Fixed → State T V W → Type 0) (keeps : 
   pub record IsAllowed (op : Op T) : Type 0 where
     pub alone : HasAlone op
     pub may : Allows (holds fixed) keeps id v op (then v op)
-    pub told : (out : Out T) (w : V) → then v op out w → noted_told defers (notes v) op out (notes w) × (beside w ≡ beside v)
+    pub told : (out : Out T) (w : V) → then v op out w → noted_observed defers (notes v) op out (notes w) × (beside w ≡ beside v)
 
 module _ {T M : Type 0} (notes : M → Noted T) where
   abbrev pub shown_of : M → ℕ → Option T
@@ -66,4 +66,4 @@ module _ {T M : Type 0} (notes : M → Noted T) where
 
   -- it has made it, and notes what it told; and nothing else has changed
   abbrev pub HasMade : {X Y : Type 0} → (T → Option ℕ) → (M → X) → (M → Y) → M → Op T → Out T → M → Type 0
-  HasMade defers beside blocks m op out n = (blocks n ≡ blocks m) × (beside n ≡ beside m) × noted_told defers (notes m) op out (notes n)
+  HasMade defers beside blocks m op out n = (blocks n ≡ blocks m) × (beside n ≡ beside m) × noted_observed defers (notes m) op out (notes n)

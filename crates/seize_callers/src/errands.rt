@@ -68,7 +68,8 @@ impl<T: Defers, C: Content<T>> Errand<T, C> for Frees {
 
     ghost asks = { λ s fixed v. (fixed.batch_size ≡ s.batch_size) × ((C.notes v).knows ≡ Outside s.slot) };
 
-    ghost did = { λ s fixed v answer w. IsDone C.notes C.beside v w (λ n. (n.knows ≡ Rests)) };
+    ghost did = { λ s fixed v answer w. IsDone C.notes C.beside v w
+        (λ n. (n.knows ≡ Rests) × (n.began ≡ (C.notes v).began) × (n.did ≡ (C.notes v).did)) };
 
     fn run(self, blocks: &Blocks<T, C>, seat: &mut Seat<T, C>) {
         let mut within = Within::new(blocks, self.batch_size, seat);

@@ -135,6 +135,8 @@ impl<'a, T: Defers, C: Content<T>> Within<'a, T, C> {
     pub(crate) fn unregister(&mut self, slot: u64)
         requires outside { (C.notes self.old.seat.now.view).knows ≡ Outside slot }
         ensures rests { (C.notes self.new.seat.now.view).knows ≡ Rests }
+        ensures began { (C.notes self.new.seat.now.view).began ≡ (C.notes self.old.seat.now.view).began }
+        ensures did { (C.notes self.new.seat.now.view).did ≡ (C.notes self.old.seat.now.view).did }
         ensures same { kept self.new.blocks self.new.seat.ghost_name self.new.seat.now.id self.new.seat.now.away
             ≡ kept self.old.blocks self.old.seat.ghost_name self.old.seat.now.id self.old.seat.now.away }
         ensures beside { C.beside self.new.seat.now.view ≡ C.beside self.old.seat.now.view }

@@ -12,7 +12,7 @@ impl<T: Defers> Rule<T> for OfOne {
     ghost use Rattle.seize.specs.ReclaimAll.{none_left};
     ghost use Rattle.seize.specs.World.{World};
     ghost use Rattle.seize_collector.specs.Renews.Rule.{KeepsNone};
-    ghost use Rattle.seize_collector.specs.Renews.One.{HoldsOne, one_told, one_first};
+    ghost use Rattle.seize_collector.specs.Renews.One.{HoldsOne, one_observed, one_first};
 
     type View = Alone<T>;
 
@@ -24,7 +24,7 @@ impl<T: Defers> Rule<T> for OfOne {
 
     ghost keeps = { KeepsNone };
 
-    ghost then = { one_told T.defers none_left };
+    ghost then = { one_observed T.defers none_left };
 
     ghost newcomer = { one_first };
 

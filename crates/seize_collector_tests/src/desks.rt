@@ -1,10 +1,11 @@
 //! Several guards of one slot: its section begins with the first of them, and ends with the last, whichever that is.
-ghost use Rattle.std.specs.Prelude.{◌≡◌};
+ghost use Rattle.std.specs.Prelude.{◌≡◌, IfSome};
 
 use crate::ground::CHOSEN;
 use seize::Fault;
 use seize_blocks::{Blocks, Home};
-use seize_shared::{Desk, DeskGuard, MOST_GUARDS, OfRows, Place, Registration, RootGuard};
+use seize_desks::{Desk, DeskGuard, MOST_GUARDS, Place};
+use seize_shared::{OfRows, Owned, Registration, RootGuard, Unlinked};
 use seize_shared_tests::{Counted, DropCounts, dropped, table};
 use std::alloc::{AllocError, Global};
 use std::marker::Brand;
@@ -185,5 +186,79 @@ fn what_a_forgotten_guard_of_a_desk_has_seen_is_there_until_the_memory_ends(
     let drops = table(rt.alloc(), 1)?;
     assert_eq!(rt; forgets_one(rt.alloc(), &drops)?, Some(0));
     assert_eq!(rt; dropped(&drops, 0), 1);
+    Ok(())
+}
+
+/// What was there is retired under a guard that lends its value still, and another guard is there: how often it was dropped while it was lent, once the first
+/// guard had ended, and once both had.
+fn retires<B: Place>(
+    blocks: &Blocks<Counted, OfRows>,
+    drops: &DropCounts,
+) -> Option<(u64, u64, u64)>
+    requires fixed { blocks.now.words.fixed ≡ record { batch_size = 5; roots = 1 } }
+    requires home { blocks.now.words.id.views_name ≡ B.base }
+{
+    let mut near = 0;
+    keeps(puts(Owned::new(blocks, &CHOSEN, &mut near, Counted::of(drops, 0)?).ok()?));
+    let desk = Desk::<Counted, B>::new(blocks, &CHOSEN).ok()?;
+    let Ok(mut outer) = desk.enter() else {
+        return None;
+    };
+    let Ok(inner) = desk.enter() else {
+        return None;
+    };
+    outer.see(0);
+    let lent = outer.value()?;
+    if let Some(old) = puts(Owned::new(blocks, &CHOSEN, &mut near, Counted::of(drops, 1)?).ok()?) {
+        keeps(outer.retire(old).err());
+    }
+    outer.flush();
+    let before = dropped(&lent.drops, lent.place);
+    drop(outer);
+    let one = dropped(drops, 0);
+    drop(inner);
+    Some((before, one, dropped(drops, 0)))
+}
+
+/// Puts a block at the root, and answers which one was there.
+fn puts<'a>(owned: Owned<'a, Counted>) -> Option<Unlinked<'a, Counted>>
+    ensures home { IfSome result (λ old. old.caller.blocks.now ≡ owned.entry.caller.blocks.now) }
+{
+    match owned.publish(0) {
+        Ok(old) => old,
+        Err(owned) => {
+            drop(owned.into_value());
+            None
+        }
+    }
+}
+
+/// Keeps what was not retired.
+fn keeps(old: Option<Unlinked<'_, Counted>>) {
+    if let Some(old) = old {
+        old.kept();
+    }
+}
+
+/// The same over one memory, which ends then.
+fn retires_alone(alloc: Global, drops: &DropCounts) -> Result<Option<(u64, u64, u64)>, AllocError> {
+    let home = Home::<Counted, OfRows>::open(alloc, 1, 8, &CHOSEN)?;
+    Ok(retires_here(&home.blocks, drops))
+}
+
+/// In this memory.
+fn retires_here(blocks: &Blocks<Counted, OfRows>, drops: &DropCounts) -> Option<(u64, u64, u64)>
+    requires { blocks.now.words.fixed ≡ record { batch_size = 5; roots = 1 } }
+{
+    retires::<Brand>(blocks, drops)
+}
+
+#[test]
+fn what_is_retired_under_guards_that_are_lent_is_there_until_the_last_one_ends(
+    rt: HostRuntime,
+) -> Result<(), Fail> {
+    let drops = table(rt.alloc(), 2)?;
+    assert_eq!(rt; retires_alone(rt.alloc(), &drops)?, Some((0, 0, 1)));
+    assert_eq!(rt; dropped(&drops, 1), 1);
     Ok(())
 }

@@ -2,3 +2,4 @@ pub mod Sets
 pub mod Ends
 pub mod Alone
 pub mod Given
+mod Samples

@@ -3,7 +3,7 @@ ghost use Rattle.std.specs.Prelude.{◌≡◌, ℕ, ◌<◌, ◌^◌, List, [], 
 ghost use Rattle.seize_words.specs.OneMemory.Mem.{Mem, word_at};
 ghost use Rattle.seize_words.specs.declared.at.At.TheVariants.{Slot};
 ghost use Rattle.seize.specs.World.{Outside, Inside, Cutting, IsTaken, MayStep, Request, Retire, Flush, Leave', LeaveOwned, Refresh};
-ghost use Rattle.seize_model.specs.Alone.Alone.{History, IsHistory, IsMidway, GoesOn, TellsSlot, registered, entered, given_up, row_of, CallSteps, Spares, SameLinks, SameLeft, blocks_in};
+ghost use Rattle.seize_model.specs.Alone.Alone.{History, IsHistory, IsMidway, Continues, RegisteringAnswers, registered, entered, given_up, row_of, CallSteps, Spares, SameLinks, SameLeft, blocks_in};
 
 use seize::rows::{Defers, Enter, Leave, Register, Settle, Settled, Unregister};
 use seize::states::{FREE, HEAD, IDLE, LAST_SLOT};
@@ -23,7 +23,7 @@ pub enum WholeCall {
 /// `Fault::Memory`, where that slot was never taken, and the words that it needs are not there and were refused; then nothing has happened.
 pub fn register<T: Defers>(memory: &mut Plain<T>, enters: bool) -> Result<u64, Fault>
     requires { (batch_size : ℕ) × (roots : ℕ) × (h : History) × IsHistory T.defers batch_size roots memory.old h }
-    ensures told { (batch_size roots : ℕ) (h : History) → IsHistory T.defers batch_size roots memory.old h → TellsSlot T.defers batch_size roots memory.new enters h result }
+    ensures told { (batch_size roots : ℕ) (h : History) → IsHistory T.defers batch_size roots memory.old h → RegisteringAnswers T.defers batch_size roots memory.new enters h result }
     ensures spares { Spares memory.old memory.new [] }
     ensures links { SameLinks memory.old memory.new }
 {
@@ -115,7 +115,7 @@ impl WholeCall {
     pub fn next<T: Defers>(&mut self, memory: &mut Plain<T>) -> Option<T>
         requires { (batch_size : ℕ) × (roots : ℕ) × (m : Mem T) × (h : History) × (request : Request) × (given : List T) × IsMidway T.defers batch_size roots m h request (row_of self.old) memory.old given }
         ensures fewer { IsSome result → blocks_in memory.new < blocks_in memory.old }
-        ensures goes { (batch_size roots : ℕ) (m : Mem T) (h : History) (request : Request) (given : List T) → IsMidway T.defers batch_size roots m h request (row_of self.old) memory.old given → GoesOn T.defers batch_size roots m h request given (row_of self.new) memory.new result }
+        ensures goes { (batch_size roots : ℕ) (m : Mem T) (h : History) (request : Request) (given : List T) → IsMidway T.defers batch_size roots m h request (row_of self.old) memory.old given → Continues T.defers batch_size roots m h request given (row_of self.new) memory.new result }
         ensures left { (batch_size roots : ℕ) (m : Mem T) (h : History) (request : Request) (given : List T) → IsMidway T.defers batch_size roots m h request (row_of self.old) memory.old given → SameLeft h m memory.new }
     {
         loop {

@@ -1,3 +1,4 @@
 pub mod Waiting
 pub mod Moves
 pub mod Memory
+mod Samples

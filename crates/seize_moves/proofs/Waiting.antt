@@ -11,6 +11,5 @@ pub mod Kept
 pub mod Laws
 pub mod Quiet
 pub mod Retired
-mod Samples
 pub mod Tidy
 pub mod Work

@@ -14,7 +14,7 @@ ghost use Rattle.seize_moves.specs.Waiting.Laws.{
   NothingIsLeft,
   EndsLeave,
 };
-ghost use Rattle.seize_moves.specs.Waiting.Lists.{ListsAddUp, UncountedIsNotThere, AgreeOnLists, SlotsCome, SlotsGo, KeptAreBehindOthers, EachIsListed};
+ghost use Rattle.seize_moves.specs.Waiting.Lists.{ListsAddUp, UncountedIsNotThere, AgreeOnLists, SlotsCome, SlotsGo, KeptAreDeferredOnOthers, EachIsListed};
 
 /// No number is lost and none is doubled, in tidy sets where no number stands twice. Each change but those that put a value behind another,
 /// or take it from there, and by which no slot enters that is active, leaves tidy sets, and the slots active that it says. What stood in
@@ -42,9 +42,9 @@ pub fn what_is_handed_over_waits()
     ensures waits { (batch_size : ℕ) → HandedWaits batch_size }
 {}
 
-/// Everything is reclaimed: all slots leave, and then all flush until no open batch has anything in it. With no slot active, one flush of
-/// each slot takes away at least as many numbers as stood in open batches, so these rounds come to an end, before their bound is met.
-/// After them no number stands in a batch: what still waits then is behind a number that was not reclaimed.
+/// Everything is reclaimed: all slots leave, and then all flush until no open batch has anything in it. With no slot active, one flush of each slot takes away
+/// at least as many numbers as stood in open batches, so these rounds terminate, before their bound is met. After them no number stands in a batch: what still
+/// waits then is behind a number that was not reclaimed.
 pub fn reclaiming_all_leaves_nothing()
     ensures rounds { (batch_size : ℕ) → RoundsTakeAway batch_size }
     ensures empty { (batch_size : ℕ) → NothingIsLeft batch_size }
@@ -64,6 +64,6 @@ pub fn lists_are_counted()
     ensures agree { AgreeOnLists }
     ensures comes { SlotsCome }
     ensures goes { SlotsGo }
-    ensures kept { KeptAreBehindOthers }
+    ensures kept { KeptAreDeferredOnOthers }
     ensures listed { EachIsListed }
 {}

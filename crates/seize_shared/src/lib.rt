@@ -1,8 +1,7 @@
-//! The collector's rows over a memory that threads share: registrations, guards that end a section as they are dropped, the words that they find at
-//! roots, and desks.
+//! The collector's rows over a memory that threads share: registrations, guards that end a section as they are dropped, and the words that they find at
+//! roots.
 #![tactic(auto)]
 
-mod desk;
 mod guard;
 mod guarding;
 mod owned;
@@ -12,7 +11,6 @@ mod stay;
 mod tagged;
 mod unlinked;
 
-pub use desk::{Desk, DeskGuard, MOST_GUARDS, Place};
 pub use guard::{LocalGuard, OwnedGuard, Registration};
 pub use guarding::{Guard, RootGuard};
 pub use owned::Owned;
@@ -21,5 +19,6 @@ pub use seize_callers::Caller;
 pub use seize_views::{Becomes, Began, Content, Deed, Fixed, Has, Noted, OfRows, SlotView, Why};
 pub use seize_words::{Drops, Receiver};
 pub use shared::Shared;
+pub use stay::Stay;
 pub use tagged::{Protected, Tagged};
 pub use unlinked::Unlinked;

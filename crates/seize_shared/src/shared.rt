@@ -50,6 +50,14 @@ impl<'c, T: Defers + Drop, C: Content<T>, R: Receiver<T>> Shared<'c, T, C, R> {
         self.chosen.roots
     }
 
+    /// Returns its memory, and what was chosen for it, for those who take slots of it in a way of their own.
+    pub fn memory(&self) -> (&'c Blocks<T, C>, Fixed)
+        ensures blocks { result.0.now ≡ self.now.blocks.now }
+        ensures chosen { result.0.now.words.fixed ≡ result.1 }
+    {
+        (self.blocks, self.chosen)
+    }
+
     /// Takes the first slot that can be taken. Where none can be nothing changes.
     pub fn register(&self) -> Result<Registration<'c, T, C, R>, Fault>
         ensures home { IfOk result (λ registration. registration.stay.caller.blocks.now ≡ self.now.blocks.now) }

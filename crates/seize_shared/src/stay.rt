@@ -14,7 +14,7 @@ use seize_views::{Content, Fixed, OfRows};
 use seize_words::{Fault, Receiver};
 
 /// Why no slot is taken, as it is told: where it is not that each is in use it is memory.
-fn refusal(fault: Fault) -> Fault
+pub(crate) fn refusal(fault: Fault) -> Fault
     ensures { HasNoSlot result }
 {
     match fault {
@@ -25,13 +25,16 @@ fn refusal(fault: Fault) -> Fault
 
 /// A caller who holds a slot: whether its section is open, which block was seen there, 0 for none, and how many seats watch that section. The slot is given up
 /// as this ends, but for one whose section somebody has forgotten to watch no longer.
-pub(crate) struct Stay<'a, T: Defers + Drop, C: Content<T> = OfRows> {
+pub struct Stay<'a, T: Defers + Drop, C: Content<T> = OfRows> {
     caller: Caller<'a, T, C>,
-    pub(crate) slot: u64,
+    /// The slot.
+    pub slot: u64,
     roots: u64,
-    pub(crate) inside: bool,
+    /// Whether its section is open.
+    pub inside: bool,
     seen: u64,
-    pub(crate) guards: u64,
+    /// How many seats watch that section.
+    pub guards: u64,
     ghost counted: { (C.notes caller.seat.view).guards ≡ guards },
     ghost stands: { standing (C.notes caller.seat.view).knows ≡ Some (slot, inside, seen) },
     ghost rooted: { caller.blocks.now.words.fixed.roots ≡ roots },
@@ -41,7 +44,7 @@ pub(crate) struct Stay<'a, T: Defers + Drop, C: Content<T> = OfRows> {
 
 impl<'a, T: Defers + Drop, C: Content<T>> Stay<'a, T, C> {
     /// Takes the first slot that can be taken. What was chosen as the memory was opened is handed in.
-    pub(crate) fn new(blocks: &'a Blocks<T, C>, fixed: &Fixed) -> Result<Self, Fault>
+    pub fn new(blocks: &'a Blocks<T, C>, fixed: &Fixed) -> Result<Self, Fault>
         requires fixed { blocks.now.words.fixed ≡ fixed.now }
         ensures home { IfOk result (λ stay. stay.caller.blocks.now ≡ blocks.now) }
         ensures alone { IfOk result (λ stay. stay.guards ≡ 0) }
@@ -76,7 +79,7 @@ impl<'a, T: Defers + Drop, C: Content<T>> Stay<'a, T, C> {
     }
 
     /// Begins a section anew, or opens one.
-    pub(crate) fn refreshes(&mut self)
+    pub fn refreshes(&mut self)
         requires alone { self.old.guards ≡ 0 }
         ensures home { self.new.caller.blocks ≡ self.old.caller.blocks }
         ensures beside { C.beside self.new.caller.seat.view ≡ C.beside self.old.caller.seat.view }
@@ -114,7 +117,7 @@ impl<'a, T: Defers + Drop, C: Content<T>> Stay<'a, T, C> {
     }
 
     /// Ends the section that is open, if one is.
-    pub(crate) fn closes(&mut self)
+    pub fn closes(&mut self)
         requires alone { self.old.guards ≡ 0 }
         ensures home { self.new.caller.blocks ≡ self.old.caller.blocks }
         ensures beside { C.beside self.new.caller.seat.view ≡ C.beside self.old.caller.seat.view }
@@ -145,7 +148,7 @@ impl<'a, T: Defers + Drop, C: Content<T>> Stay<'a, T, C> {
     }
 
     /// Tries the slot's batch, whatever its length, where its section is open.
-    pub(crate) fn flushes(&mut self)
+    pub fn flushes(&mut self)
         ensures home { self.new.caller.blocks ≡ self.old.caller.blocks }
         ensures beside { C.beside self.new.caller.seat.view ≡ C.beside self.old.caller.seat.view }
         ensures slot { self.new.slot ≡ self.old.slot }

@@ -5,10 +5,12 @@ ghost use Rattle.seize_words.specs.declared.fault.Fault.TheVariants.{ForeignGuar
 ghost use Rattle.seize_callers.specs.Owning.{borne_by};
 ghost use Rattle.seize_shared.specs.Guards.Homes.{OneSource};
 ghost use Rattle.seize_shared.specs.Guards.Lent.{IsLent};
+ghost use Rattle.seize_shared.specs.OnThreads.Refused.{HasNoSlot};
 ghost use Rattle.seize_views.specs.Views.Told.{alone_with, cut_in};
 ghost use Rattle.seize_views.specs.declared.view.Began.TheVariants.{Retirement};
 
 use crate::guarding::RootGuard;
+use crate::pass::Pass;
 use crate::tagged::Tagged;
 use seize::rows::Defers;
 use seize_callers::{Caller, named};
@@ -111,5 +113,47 @@ impl<'a, T: Defers> Unlinked<'a, T> {
         let mut bearer = bearer;
         guard.takes_over(&mut bearer, block);
         Ok(())
+    }
+}
+
+impl<'a, T: Defers + Drop> Unlinked<'a, T> {
+    /// Retires it by a pass of the same collector, also where each guard is only lent: to the batch of the first slot that can be taken, which is given up then.
+    /// By a pass of another collector it is `Fault::ForeignGuard`: the pass is as it was. Where no slot can be taken the fault says why. It comes back then.
+    pub fn retire_by(self, pass: &mut Pass<T>) -> Result<(), (Fault, Self)>
+        requires source { OneSource pass.old.number pass.old.pass.seat.base record {
+          number = self.number;
+          memory = self.caller.blocks.now.words.id.views_name;
+          roots = self.caller.blocks.now.words.fixed.roots;
+        } }
+        ensures memory { pass.new.pass.seat.base ≡ pass.old.pass.seat.base }
+        ensures number { pass.new.number ≡ pass.old.number }
+        ensures foreign { pass.old.number ≢ self.entry.number → IfErr result (λ refused. (refused.0 ≡ ForeignGuard) × (refused.1 ≡ self.entry) × (pass.new ≡ pass.old)) }
+        ensures refused { pass.old.number ≡ self.entry.number → IfErr result (λ refused. HasNoSlot refused.0 × (refused.1.caller ≡ self.entry.caller)) }
+        ensures back { IfErr result (λ refused. (refused.1.number ≡ self.entry.number) × (refused.1.word ≡ self.entry.word) × (refused.1.block ≡ self.entry.block)) }
+        ensures own { IfOk result (λ _. pass.old.number ≡ self.entry.number) }
+        ensures began { IfOk result (λ _. pass.new.pass.seat.view.began ≡ Retirement) }
+    {
+        if pass.number() != self.number {
+            return Err((Fault::ForeignGuard, self));
+        }
+        let Unlinked {
+            caller,
+            number,
+            word,
+            block,
+        } = self;
+        let mut caller = caller;
+        match pass.retires(&mut caller, block) {
+            Ok(()) => Ok(()),
+            Err(fault) => Err((
+                fault,
+                Unlinked {
+                    caller,
+                    number,
+                    word,
+                    block,
+                },
+            )),
+        }
     }
 }

@@ -10,7 +10,7 @@ use Rattle.seize.specs.declared.rows.settle.Settled.TheVariants as settled
 use Rattle.seize.specs.declared.states.TheConstants.{ACTIVE, FREE, HEAD}
 use Rattle.seize_straight.specs.Going.{SettleGoes}
 use Rattle.seize_straight.specs.Leaving.{leave_at}
-use Rattle.seize_straight.specs.Runs.{Leads, Tells}
+use Rattle.seize_straight.specs.Runs.{Leads, EndsTelling}
 use Rattle.seize_straight.proofs.Running.{Led, steps_to, tells_at}
 
 module _ {T M : Type 0} (defers : T → Option ℕ) {can : M → Op T → Type 0} {took : M → Op T → Out T → M → Type 0} {shown : M → ℕ → Option T}
@@ -22,7 +22,7 @@ module _ {T M : Type 0} (defers : T → Option ℕ) {can : M → Op T → Type 0
     has_list more = (steps_to begun settled.Goes tt (leave_at slot size becomes frees head) m1 (Found head, swaps, rw (lt-ltb ACTIVE head more) refl)).leads
 
     -- there is none, and the slot keeps its number
-    pub has_left : head ≤ ACTIVE → frees ≡ false → Tells (SettleGoes {T = T}) took shown (leave_plan defers) (leaving slot size becomes frees) m0 m1 settled.Done
+    pub has_left : head ≤ ACTIVE → frees ≡ false → EndsTelling (SettleGoes {T = T}) took shown (leave_plan defers) (leaving slot size becomes frees) m0 m1 settled.Done
     has_left none keeps =
         let over = standing (leaving slot size becomes frees) at.Over in
         tells_at (steps_to begun settled.Goes tt over m1 (Found head, swaps, rw (le-ltb ACTIVE head none) (rw keeps refl))) settled.Done (λ x. x) over m1 (refl, refl)
@@ -34,6 +34,6 @@ module _ {T M : Type 0} (defers : T → Option ℕ) {can : M → Op T → Type 0
         steps_to begun settled.Goes tt (standing (leaving slot size becomes frees) at.Frees) m1 (Found head, swaps, rw (le-ltb ACTIVE head none) (rw gives refl))
 
   pub has_freed : {m2 : M} → Led (SettleGoes {T = T}) took shown (leave_plan defers) can (leaving slot size becomes frees) m0 (standing (leaving slot size becomes frees) at.Frees) m1
-      → took m1 (Store (Slot slot HEAD) FREE) Stored m2 → Tells (SettleGoes {T = T}) took shown (leave_plan defers) (leaving slot size becomes frees) m0 m2 settled.Done
+      → took m1 (Store (Slot slot HEAD) FREE) Stored m2 → EndsTelling (SettleGoes {T = T}) took shown (leave_plan defers) (leaving slot size becomes frees) m0 m2 settled.Done
   has_freed {m2} l stores =
       let over = standing (leaving slot size becomes frees) at.Over in tells_at (steps_to l settled.Goes tt over m2 (Stored, stores, refl)) settled.Done (λ x. x) over m2 (refl, refl)

@@ -14,7 +14,7 @@ use Rattle.seize.specs.declared.rows.settle.Settling.TheVariants as at
 use Rattle.seize.specs.declared.states.TheConstants.{BATCH, COUNT, FIRST, HELD, NEXT}
 use Rattle.seize_straight.specs.Going.{SettleGoes}
 use Rattle.seize_straight.specs.Retiring.{grown, holding}
-use Rattle.seize_straight.specs.Runs.{Tells}
+use Rattle.seize_straight.specs.Runs.{EndsTelling}
 use Rattle.seize_straight.proofs.Running.{Led, steps_to, tells_at}
 
 module _ {T M : Type 0} (defers : T → Option ℕ) (can : M → Op T → Type 0) (took : M → Op T → Out T → M → Type 0) (shown : M → ℕ → Option T) where
@@ -114,7 +114,7 @@ module _ {T M : Type 0} (defers : T → Option ℕ) {can : M → Op T → Type 0
 -- the batch is given up
 pub gave : {T M : Type 0} (defers : T → Option ℕ) {can : M → Op T → Type 0} {took : M → Op T → Out T → M → Type 0} {shown : M → ℕ → Option T} {slot size pending block first : ℕ}
     {x : Settle} {m n k : M} → Led (SettleGoes {T = T}) took shown (settle_plan defers) can x m (holding slot size pending block first at.Gives) n
-    → took n (Store (Slot slot BATCH) block) Stored k → Tells (SettleGoes {T = T}) took shown (settle_plan defers) x m k settled.Done
+    → took n (Store (Slot slot BATCH) block) Stored k → EndsTelling (SettleGoes {T = T}) took shown (settle_plan defers) x m k settled.Done
 gave defers {slot = slot} {size = size} {pending = pending} {block = block} {first = first} {k = k} l o =
     let over = record (holding slot size pending block first at.Over) { held = false } in
     tells_at (steps_to l settled.Goes tt over k (Stored, o, refl)) settled.Done (λ x. x) over k (refl, refl)

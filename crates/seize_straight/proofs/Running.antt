@@ -3,8 +3,8 @@ use Rattle.std.specs.Prelude.{ℕ, zero, suc, Option}
 use Rattle.seize_words.specs.OneMemory.Op.{Op, Out}
 use Rattle.std.proofs.Common.{subst}
 use Rattle.seize_words.specs.OneMemory.Plan.{Plan, Then, May, Steps, Ends}
-use Rattle.seize_straight.specs.Reaches.{ComesTo, Reached, At, Told, Reaches}
-use Rattle.seize_straight.specs.Runs.{Lasts, MayRun, lasts, Leads, none_taken, one_more, Tells}
+use Rattle.seize_straight.specs.Reaches.{HasOutcome, Reached, At, Told, Reaches}
+use Rattle.seize_straight.specs.Runs.{Lasts, MayRun, lasts, Leads, none_taken, one_more, EndsTelling}
 
 module _ {T X P M : Type 0} (on : P → Type 0) (took : M → Op T → Out T → M → Type 0) (shown : M → ℕ → Option T) (plan : X → Plan T (X × P)) where
   -- what may be run from the one point on has come to the other
@@ -46,7 +46,7 @@ module _ {T X P M : Type 0} (on : P → Type 0) (took : M → Op T → Out T →
   reaches_on x y m n k (Told told) l (w, j, z, l2, s, not) = (w, j, z, leads_on x y w m n j l l2, s, not)
 
   -- a step that comes to a point, or to what is told, reaches it
-  pub comes_to : (x : X) (m n : M) (rest : Then T (X × P)) (to : Reached X P) (end : X × P) → Ends (shown n) rest end → ComesTo on end to
+  pub comes_to : (x : X) (m n : M) (rest : Then T (X × P)) (to : Reached X P) (end : X × P) → Ends (shown n) rest end → HasOutcome on end to
       → ((e : X × P) → Ends (shown n) rest e → Steps took shown m (plan x) n e) → Reaches on took shown plan x m n to
   comes_to x m n rest (At y) end ends w step =
       one_more x m x m (none_taken x m) end.1 w.1 y n (subst (λ (z : X). Steps took shown m (plan x) n (z, end.1)) w.0 (step end ends))
@@ -75,5 +75,5 @@ module _ {T X P M : Type 0} {on : P → Type 0} {took : M → Op T → Out T →
     pub reaches_to : (k : M) (end : Reached X P) → Reaches on took shown plan y n k end → Reaches on took shown plan x m k end
     reaches_to k end r = reaches_on on took shown plan x y m n k end l.leads r
 
-    pub tells_at : (told : P) → (on told → ⊥) → (z : X) (k : M) → Steps took shown n (plan y) k (z, told) → Tells on took shown plan x m k told
+    pub tells_at : (told : P) → (on told → ⊥) → (z : X) (k : M) → Steps took shown n (plan y) k (z, told) → EndsTelling on took shown plan x m k told
     tells_at told not z k s = (y, n, z, l.leads, s, not)

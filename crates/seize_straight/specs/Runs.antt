@@ -21,5 +21,5 @@ module _ {T X P M : Type 0} (on : P → Type 0) (took : M → Op T → Out T →
     one_more : (x : X) (m : M) (y : X) (n : M) → Leads x m y n → (told : P) → on told → (z : X) (k : M) → Steps took shown n (plan y) k (z, told) → Leads x m z k
 
   -- some steps that go on lead to one that tells this, and does not go on
-  abbrev pub Tells : X → M → M → P → Type 0
-  Tells x m k told = (y : X) × (n : M) × (z : X) × Leads x m y n × Steps took shown n (plan y) k (z, told) × (on told → ⊥)
+  abbrev pub EndsTelling : X → M → M → P → Type 0
+  EndsTelling x m k told = (y : X) × (n : M) × (z : X) × Leads x m y n × Steps took shown n (plan y) k (z, told) × (on told → ⊥)

@@ -1,3 +1,4 @@
 pub mod Reaches
 pub mod Views
 pub mod Given
+pub mod Samples

@@ -4,4 +4,3 @@ mod Rows
 mod Waiting
 mod Batches
 pub mod Reached
-pub mod Samples

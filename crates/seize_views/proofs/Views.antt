@@ -31,4 +31,3 @@ pub mod Guarding
 pub mod Passing
 pub mod Contents
 pub mod Values
-mod Samples

@@ -6,7 +6,7 @@ use seize_blocks::Rule;
 
 /// A rule by which seats have rows of the collector under way, whatever else they know and do.
 pub trait Content<T: Defers>: Rule<T, Fixed = Fixed> {
-    ghost use Rattle.seize_views.specs.Views.Content.{SeatsComeIn, RowsGoOnIn, RowsAreTold, RowsTurnIn, SettlingsBeginIn, LookedAreShownIn, LeansBeside, RestWithNothing};
+    ghost use Rattle.seize_views.specs.Views.Content.{SeatsComeIn, RowsContinueIn, RowsAreObserved, RowsTurnIn, SettlingsBeginIn, LookedAreShownIn, LeansByTheRest, RestWithNothing};
     ghost use Rattle.seize_views.specs.declared.view.Noted.{Noted};
 
     /// What a view has that no row changes.
@@ -22,12 +22,12 @@ pub trait Content<T: Defers>: Rule<T, Fixed = Fixed> {
     /// and ends by a step of its seat, so where nobody leans on it.
     fn goes_on()
         ensures come { SeatsComeIn Self.holds Self.keeps notes beside Self.newcomer }
-        ensures rows { RowsGoOnIn Self.holds Self.keeps notes beside T.defers Self.then }
-        ensures told { RowsAreTold notes beside T.defers Self.then }
+        ensures rows { RowsContinueIn Self.holds Self.keeps notes beside T.defers Self.then }
+        ensures told { RowsAreObserved notes beside T.defers Self.then }
         ensures turn { RowsTurnIn Self.holds Self.keeps notes beside Self.leans }
         ensures settle { SettlingsBeginIn Self.holds Self.keeps notes beside Self.leans }
         ensures looked { LookedAreShownIn Self.holds Self.keeps notes beside }
-        ensures leans { LeansBeside Self.leans notes beside }
+        ensures leans { LeansByTheRest Self.leans notes beside }
         ensures rest { RestWithNothing Self.rests notes };
 }
 

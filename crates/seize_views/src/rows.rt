@@ -8,8 +8,8 @@ pub struct OfRows;
 
 impl<T: Defers> Rule<T> for OfRows {
     ghost use Rattle.seize.specs.World.{World};
-    ghost use Rattle.seize_views.specs.Views.Notes.{NotedHolds, NotedKeeps, noted_told, newcomer};
-    ghost use Rattle.seize_views.specs.Views.Rows.{IsAtRest};
+    ghost use Rattle.seize_views.specs.Views.Notes.{NotedHolds, NotedKeeps, noted_observed, newcomer};
+    ghost use Rattle.seize_views.specs.Views.Rows.{IsQuiescent};
     ghost use Rattle.seize_views.specs.Views.Resting.{resting_stay, upright, leaning_stay};
     ghost use Rattle.seize_views.specs.Views.Watched.{Leans};
 
@@ -23,11 +23,11 @@ impl<T: Defers> Rule<T> for OfRows {
 
     ghost keeps = { NotedKeeps };
 
-    ghost then = { noted_told T.defers };
+    ghost then = { noted_observed T.defers };
 
     ghost newcomer = { λ _. newcomer };
 
-    ghost rests = { λ v. IsAtRest v.knows };
+    ghost rests = { λ v. IsQuiescent v.knows };
 
     ghost newcomers_rest = { λ _. tt };
 

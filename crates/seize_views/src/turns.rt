@@ -144,7 +144,7 @@ impl<T> Lesson<Fixed, Noted<T>> for Leaning {
 }
 
 impl<T> Turn<Fixed, Noted<T>> for Returning {
-    ghost use Rattle.seize_views.specs.Views.Notes.{ComesBack};
+    ghost use Rattle.seize_views.specs.Views.Notes.{ReturnsToRest};
 
-    ghost to = { λ _. ComesBack };
+    ghost to = { λ _. ReturnsToRest };
 }

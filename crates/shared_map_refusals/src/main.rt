@@ -116,6 +116,78 @@ fn all<R: Wait>(rt: &R, alloc: Global) -> Result<bool, Fault> {
     Ok(are_there)
 }
 
+/// A map that was built, with room for some pairs.
+fn built(alloc: Global) -> Result<Map, Fault> {
+    let mut ids = IdSource::new();
+    let first = HashMap::builder(Hashing::default())
+        .capacity(100)
+        .chunk(8)
+        .build(alloc, &mut ids);
+    match first {
+        Err(Fault::Memory) => HashMap::with_capacity_and_hasher(
+            alloc,
+            &mut ids,
+            100,
+            Hashing::default(),
+        ),
+        answer => answer,
+    }
+}
+
+/// Stores a value that is made at a key that is missing; tells whether it is there then. Where that was refused, none was there.
+fn makes<R: Wait>(
+    rt: &R,
+    session: &mut Session<'_, u64, u64, Hashing>,
+    key: u64,
+    value: u64,
+) -> bool {
+    let stored = match session.try_insert_with(rt, key, || value) {
+        Ok(stored) => stored,
+        Err(fault) => {
+            let none = matches!(fault, Fault::Memory) && !session.contains_key(rt, &key);
+            none && matches!(session.try_insert_with(rt, key, || value), Ok(true))
+        }
+    };
+    stored && session.get(rt, &key).copied() == Some(value)
+}
+
+/// Removes the pair of a key, which has this value, by a test; tells whether it is gone then. Where that was refused, it was there still.
+fn tests<R: Wait>(
+    rt: &R,
+    session: &mut Session<'_, u64, u64, Hashing>,
+    key: u64,
+    value: u64,
+) -> bool {
+    let removed = match session.remove_if(rt, key, |_, there| *there == value) {
+        Ok(removed) => removed,
+        Err(fault) => {
+            let still = matches!(fault, Fault::Memory) && session.contains_key(rt, &key);
+            still
+                && matches!(
+                    session.remove_if(rt, key, |_, there| *there == value),
+                    Ok(true)
+                )
+        }
+    };
+    removed && !session.contains_key(rt, &key)
+}
+
+/// Makes the values of all keys in a map that was built, and removes each; tells whether each time all was as it should be.
+fn asks<R: Wait>(rt: &R, alloc: Global) -> Result<bool, Fault> {
+    let map = built(alloc)?;
+    let mut session = begun(&map)?;
+    let mut are_there = true;
+    for key in 0..KEYS {
+        are_there = makes(rt, &mut session, key, key) && are_there;
+        session.refresh();
+    }
+    for key in 0..KEYS {
+        are_there = tests(rt, &mut session, key, key) && are_there;
+        session.refresh();
+    }
+    Ok(are_there)
+}
+
 /// So many sessions more, each of which is there as long as the later ones are; tells whether each finds what the first one has stored.
 fn follow<R: Wait>(
     rt: &R,
@@ -140,5 +212,6 @@ fn sessions<R: Wait>(rt: &R, alloc: Global) -> Result<bool, Fault> {
 
 fn main(rt: HostRuntime) -> io::Result<()> {
     println!(rt; "all keys: {}", all(&rt, rt.alloc())?)?;
+    println!(rt; "all that is asked for: {}", asks(&rt, rt.alloc())?)?;
     println!(rt; "all sessions: {}", sessions(&rt, rt.alloc())?)
 }

@@ -10,14 +10,14 @@ use Rattle.seize_views.specs.declared.view.Fixed.{Fixed}
 use Rattle.seize_views.specs.declared.view.SlotView.{SlotView}
 use Rattle.seize_views.specs.declared.view.SlotView.TheVariants.{Rests}
 use Rattle.map_tables.specs.declared.node.Node.{Node}
-use Rattle.threads_rule.specs.Views.Notes.{IsResting}
+use Rattle.threads_rule.specs.Views.Notes.{SeatIsQuiescent}
 use Rattle.threads_rule.specs.Views.Promises.{LeaningsBegin}
 use Rattle.threads_rule.specs.Views.Rule.{Holds, KeepsFor, section_of, stand_of}
 use Rattle.threads_rule.specs.declared.view.Map.{Map}
 use Rattle.threads_rule.specs.declared.view.BegunCall.{BegunCall}
 use Rattle.threads_rule.specs.declared.view.View.{View}
-use Rattle.threads_rule.specs.Errands.Looking.{HasFound, HasRun, MayLook, Shows, StaysThere, found_of}
-use Rattle.threads_callers.specs.Passing.{BeginsUnder, ComesBack, HasFoundUnder, HasRunUnder, IsBack, IsLentBy}
+use Rattle.threads_rule.specs.Errands.Looking.{HasFound, HasRun, MayLook, HasLookedAt, StaysThere, found_of}
+use Rattle.threads_callers.specs.Passing.{BeginsUnder, LeansNoMore, HasFoundUnder, HasRunUnder, IsBack, IsLentBy}
 use Rattle.threads_callers.proofs.Rows.{own_inside, rests_so}
 use Rattle.seize_words.proofs.General.{some_there as what}
 
@@ -50,7 +50,7 @@ module _ {K V S : Type 0} (hash : S → K → ℕ) (key : K) (lookup : Lookup) (
     begins = may.begins;
   }
 
-  module _ (same : K → K → Bool) (maps : u.map ≡ v.map) (f w : View K V S) (comes : ComesBack f w) where
+  module _ (same : K → K → Bool) (maps : u.map ≡ v.map) (f w : View K V S) (comes : LeansNoMore f w) where
     -- the call that it has run meanwhile was one under that one
     ran_under : (wanted : Wanted K V) (told : Progress (Node K V)) → StaysThere m f → HasRun same hash wanted told m f → HasRunUnder same hash wanted told u v w
     ran_under wanted told stays ran = record {
@@ -79,14 +79,14 @@ module _ {K V S : Type 0} (hash : S → K → ℕ) (key : K) (lookup : Lookup) (
         word = lent.0;
         ran = ran_under (Get key) (found_of (Some lent.0)) has.stays (subst (λ (o : Option ℕ). HasRun same hash (Get key) (found_of o) m f) lent.1 has.ran);
         id = i;
-        shows = subst (λ (o : Option ℕ). IfSome o (Shows same key f)) lent.1 has.looked.shows;
+        shows = subst (λ (o : Option ℕ). IfSome o (HasLookedAt same key f)) lent.1 has.looked.shows;
         lent = lent.2;
       },
       tt,
     )
 
   -- it comes back with nothing under way
-  pub comes_back : (same : K → K → Bool) (found : Option ℕ) (f w : View K V S) → IsBack v → HasFound same hash key found m f → ComesBack f w → IsBack w
+  pub comes_back : (same : K → K → Bool) (found : Option ℕ) (f w : View K V S) → IsBack v → HasFound same hash key found m f → LeansNoMore f w → IsBack w
   comes_back same found f w back has comes = record {
     rests = ap (λ (x : View K V S). x.slot) comes ∙ ap (λ (p : SlotView (Node K V) × Option (ℕ × ℕ)). p.0) has.stays.slot ∙ ap (λ (x : View K V S). x.slot) begins.2 ∙ back.rests;
     free = ap (λ (x : View K V S). x.work) comes ∙ has.looked.free;
@@ -134,7 +134,7 @@ module _ {K V S : Type 0} (same : K → K → Bool) (hash : S → K → ℕ) (fi
 
 module _ {K V S : Type 0} where
   -- who has nothing under way, and leans on nobody, rests, and still does so once it has learnt a map
-  pub back_rests : (w : View K V S) → IsBack w → IsResting w
+  pub back_rests : (w : View K V S) → IsBack w → SeatIsQuiescent w
   back_rests w back = rests_so w Rests back.lone back.rests back.free tt
 
   pub still_back : (v w : View K V S) (map : Map S) → w ≡ shown_map v map → IsBack v → IsBack w

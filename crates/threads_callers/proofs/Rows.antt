@@ -2,7 +2,7 @@
 use Rattle.std.specs.Prelude.{◌<◌, List, Option, Some, None, Result, Ok, Err, IfOk, IfErr}
 use Rattle.std.proofs.Common.{◌≡◌, ℕ, Bool, sym, subst, ap, ◌∙◌}
 use Rattle.seize_words.specs.declared.fault.Fault.{Fault}
-use Rattle.seize_views.specs.Views.Rows.{IsAtRest}
+use Rattle.seize_views.specs.Views.Rows.{IsQuiescent}
 use Rattle.seize_views.specs.declared.view.Has.TheVariants.{Nothing as NoBlock}
 use Rattle.seize_views.specs.declared.view.SlotView.{SlotView}
 use Rattle.seize_views.specs.declared.view.SlotView.TheVariants.{Rests, Outside, Inside}
@@ -11,7 +11,7 @@ use Rattle.map_tables.specs.declared.setting.Setting.{Setting}
 use Rattle.map_machines.specs.declared.new_map.NewMap.{NewMap}
 use Rattle.papaya_raw.specs.declared.machines.progress.Answer.{Answer}
 use Rattle.threads_rule.specs.Given.ActsActs.{Wanted}
-use Rattle.threads_rule.specs.Views.Notes.{beside_of, row_known, notes_of, IsResting}
+use Rattle.threads_rule.specs.Views.Notes.{beside_of, row_known, notes_of, SeatIsQuiescent}
 use Rattle.threads_rule.specs.declared.view.Map.{Map}
 use Rattle.threads_rule.specs.declared.view.BegunCall.{BegunCall}
 use Rattle.threads_rule.specs.declared.view.View.{View}
@@ -23,16 +23,17 @@ use Rattle.papaya_raw.specs.declared.machines.asking.MachineReply.{MachineReply}
 use Rattle.threads_errands.specs.Asking.{HasAnswered}
 use Rattle.threads_rule.proofs.Views.Leaves.{own_section}
 use Rattle.threads_rule.specs.Errands.Calling.{HasCalled}
-use Rattle.threads_rule.specs.Errands.Looking.{HasFound}
-use Rattle.threads_rule.specs.Errands.Making.{CameTo}
+use Rattle.threads_rule.specs.Errands.Counting.{HasCounted}
+use Rattle.threads_rule.specs.Errands.Looking.{HasFound, StaysThere}
+use Rattle.threads_rule.specs.Errands.Making.{HasOutcome}
 
 module _ {K V S : Type 0} where
   -- who has nothing else under way knows its row
   pub known_free : (v : View K V S) (x : SlotView (Node K V)) → v.under ≡ None → v.slot ≡ x → v.work ≡ Nothing → (notes_of v).knows ≡ x
   known_free v x lone slot free = ap (λ (o : Option (ℕ × ℕ)). row_known o v.slot v.work) lone ∙ ap (λ (k : SeatWork K V S). row_known None v.slot k) free ∙ slot
 
-  pub rests_so : (v : View K V S) (x : SlotView (Node K V)) → v.under ≡ None → v.slot ≡ x → v.work ≡ Nothing → IsAtRest x → IsResting v
-  rests_so v x lone slot free rests = subst (λ (y : SlotView (Node K V)). IsAtRest y) (sym (known_free v x lone slot free)) rests
+  pub rests_so : (v : View K V S) (x : SlotView (Node K V)) → v.under ≡ None → v.slot ≡ x → v.work ≡ Nothing → IsQuiescent x → SeatIsQuiescent v
+  rests_so v x lone slot free rests = subst (λ (y : SlotView (Node K V)). IsQuiescent y) (sym (known_free v x lone slot free)) rests
 
   -- who stands where one stood that held this slot, and leant on nobody, does so, too
   stood : (v w : View K V S) (x : SlotView (Node K V)) → v.under ≡ None → v.slot ≡ x → stand_of w ≡ stand_of v → (w.under ≡ None) × (w.slot ≡ x)
@@ -56,7 +57,7 @@ module _ {K V S : Type 0} where
   took w answer slot e is = knows_free w (Outside slot) tt (subst (λ (r : Result ℕ Fault). Noted w r) e is).0.0
 
   -- who has made a map, or was refused, rests
-  pub rests_after : (hasher : S) (opening : NewMap) (answer : Result Setting Fault) (v w : View K V S) → v.under ≡ None → v.slot ≡ Rests → CameTo hasher opening answer v w → IsResting w
+  pub rests_after : (hasher : S) (opening : NewMap) (answer : Result Setting Fault) (v w : View K V S) → v.under ≡ None → v.slot ≡ Rests → HasOutcome hasher opening answer v w → SeatIsQuiescent w
   rests_after hasher opening (Ok setting) v w lone rests came = let s = stood v w Rests lone rests came.slot in rests_so w Rests s.0 s.1 came.made.0.free tt
   rests_after hasher opening (Err fault) v w lone rests came = let s = stood v w Rests lone rests came.slot in rests_so w Rests s.0 s.1 came.refused.0 tt
 
@@ -68,18 +69,28 @@ module _ {K V S : Type 0} where
   calls_stay v w e = ap (λ (b : Option (Map S) × List (BegunCall K V)). b.1) e
 
   -- and so does who has looked a key up
-  pub rests_inside : (same : K → K → Bool) (hash : S → K → ℕ) (key : K) (answer : Option ℕ) (v w : View K V S) (t : ℕ) → v.under ≡ None → section_of v.under v.slot ≡ Some t → HasFound same hash key answer v w → IsResting w
+  pub rests_inside : (same : K → K → Bool) (hash : S → K → ℕ) (key : K) (answer : Option ℕ) (v w : View K V S) (t : ℕ) → v.under ≡ None → section_of v.under v.slot ≡ Some t → HasFound same hash key answer v w → SeatIsQuiescent w
   rests_inside same hash key answer v w t lone section found =
       let s = stood v w (Inside t NoBlock) lone (own_inside v t lone section) found.stays.slot in rests_so w (Inside t NoBlock) s.0 s.1 found.looked.free tt
 
   -- and so does who has run a call
   pub rests_called : (same : K → K → Bool) (hash : S → K → ℕ) (wanted : Wanted K V) (answer : Result Answer Fault) (unstored : Option (Node K V)) (v w : View K V S) (t : ℕ)
-      → v.under ≡ None → section_of v.under v.slot ≡ Some t → HasCalled same hash wanted answer unstored v w → IsResting w
+      → v.under ≡ None → section_of v.under v.slot ≡ Some t → HasCalled same hash wanted answer unstored v w → SeatIsQuiescent w
   rests_called same hash wanted answer unstored v w t lone section called =
       let s = stood v w (Inside t NoBlock) lone (own_inside v t lone section) called.stays.slot in rests_so w (Inside t NoBlock) s.0 s.1 called.free tt
 
+  -- or has counted
+  pub rests_counted : (same : K → K → Bool) (hash : S → K → ℕ) (count : ℕ) (v w : View K V S) (t : ℕ) → v.under ≡ None → section_of v.under v.slot ≡ Some t → HasCounted same hash count v w
+      → SeatIsQuiescent w
+  rests_counted same hash count v w t lone section counted =
+      let s = stood v w (Inside t NoBlock) lone (own_inside v t lone section) counted.stays.slot in rests_so w (Inside t NoBlock) s.0 s.1 counted.free tt
+
+  -- or has come back, whatever it was sent for
+  pub rests_there : (v w : View K V S) (t : ℕ) → v.under ≡ None → v.slot ≡ Inside t NoBlock → w.work ≡ Nothing → StaysThere v w → SeatIsQuiescent w
+  rests_there v w t lone inside free stays = let s = stood v w (Inside t NoBlock) lone inside stays.slot in rests_so w (Inside t NoBlock) s.0 s.1 free tt
+
   -- or one that has asked
   pub rests_answered : (same : K → K → Bool) (hash : S → K → ℕ) (says : Option (K × V) → MachineReply V → Type 0) (wanted : Wanted K V) (answer : Result Answer Fault) (v w : View K V S) (t : ℕ)
-      → v.under ≡ None → section_of v.under v.slot ≡ Some t → HasAnswered same hash says wanted answer v w → IsResting w
+      → v.under ≡ None → section_of v.under v.slot ≡ Some t → HasAnswered same hash says wanted answer v w → SeatIsQuiescent w
   rests_answered same hash says wanted answer v w t lone section answered =
       let s = stood v w (Inside t NoBlock) lone (own_inside v t lone section) answered.stays.slot in rests_so w (Inside t NoBlock) s.0 s.1 answered.free tt

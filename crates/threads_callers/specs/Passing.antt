@@ -15,7 +15,7 @@ use Rattle.threads_rule.specs.Views.Rule.{Holds, section_of}
 use Rattle.threads_rule.specs.declared.view.Map.{Map}
 use Rattle.threads_rule.specs.declared.view.View.{View}
 use Rattle.threads_rule.specs.declared.view.SeatWork.TheVariants.{Nothing}
-use Rattle.threads_rule.specs.Errands.Looking.{Shows, found_of}
+use Rattle.threads_rule.specs.Errands.Looking.{HasLookedAt, found_of}
 
 module _ {K V S : Type 0} where
   -- it has nothing under way, holds no slot, and leans on nobody
@@ -29,8 +29,8 @@ module _ {K V S : Type 0} where
   BeginsUnder v n u w = (t : ℕ) × (u.slot ≡ Inside t NoBlock) × (w ≡ leaning v (Some (n, t)))
 
   -- and on nobody any more
-  abbrev pub ComesBack : View K V S → View K V S → Type 0
-  ComesBack v w = w ≡ leaning v None
+  abbrev pub LeansNoMore : View K V S → View K V S → Type 0
+  LeansNoMore v w = w ≡ leaning v None
 
   -- A seat has begun one call more, within the section of that one: to do this with the map that that one knows. The call has told this last; and so the seat knew it
   -- when the call had ended, before it came back.
@@ -56,5 +56,5 @@ module _ {K V S : Type 0} (same : K → K → Bool) (hash : S → K → ℕ) (fi
     pub word : ℕ
     pub ran : HasRunUnder same hash (Get key) (found_of (Some word)) u v w
     pub id : ℕ
-    pub shows : Shows same key ran.knew word
+    pub shows : HasLookedAt same key ran.knew word
     pub lent : IsLentBy id ran.knew n u word value

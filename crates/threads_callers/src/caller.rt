@@ -10,6 +10,7 @@ mod calls;
 mod pass;
 mod rows;
 mod seats;
+mod sends;
 
 use crate::showing::newcomer;
 use map_tables::{Hashes, Node};

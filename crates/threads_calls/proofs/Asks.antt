@@ -15,8 +15,8 @@ use Rattle.seize_views.specs.declared.view.SlotView.TheVariants.{Inside}
 use Rattle.threads_rule.specs.declared.view.View.{View}
 use Rattle.threads_rule.specs.declared.view.SeatWork.TheVariants.{Nothing}
 use Rattle.threads_errands.specs.Asking.{HasAnswered, HasAsked, makes_pair, removes_if}
-use Rattle.threads_rule.specs.Errands.Calling.{MayDo, outcome_of, wanted_of}
-use Rattle.threads_rule.specs.CallKinds.Kinds.{Stage}
+use Rattle.threads_rule.specs.Errands.Calling.{MayDoAs, outcome_of, wanted_of}
+use Rattle.threads_rule.specs.CallKinds.Kinds.{Continues, Stage}
 use Rattle.threads_rule.specs.Errands.Looking.{HasRun}
 use Rattle.threads_callers.specs.Standing.{known_by}
 use Rattle.threads_calls.proofs.Sessions.{may_do}
@@ -30,16 +30,19 @@ abbrev pub testing : Stage
 testing = record { told = true; gap = false }
 
 module _ {K V S : Type 0} (same : K → K → Bool) (hash : S → K → ℕ) (v : View K V S) (setting its : Setting) (hasher : S) (key : K) (hashed t : ℕ) (call : KeyCall K V K) (lone : v.under ≡ None) (inside : v.slot ≡ Inside t NoBlock) (free : v.work ≡ Nothing) (knows : known_by v ≡ Some (setting, hasher)) (incremental : is_incremental setting.mode ≡ true) (is : its ≡ record setting { slot = t }) (word : hashed ≡ hash hasher key) where
-  pub may_make : call ≡ trying_to_insert_with its hashed key → MayDo same hash makes_pair first hasher (Key call) v
+  pub may_make : call ≡ trying_to_insert_with its hashed key → MayDoAs same hash makes_pair first hasher (Key call) v
   may_make made =
-      may_do same hash makes_pair first (TryToInsertWith key) key (λ x h. trying_to_insert_with x h key) (λ map s. refl) (λ x h. refl)
-      (λ x h. record { so = record { kind = refl; holds = ((key, refl, refl), tt, tt); gap = tt }; here = tt }) v setting its hasher hashed t call lone inside free knows incremental is
-      word made
+      record {
+        may = may_do same hash (TryToInsertWith key) key (λ x h. trying_to_insert_with x h key) (λ map s. refl) (λ x h. refl) v setting its hasher hashed t call lone inside free knows incremental is word made;
+        goes = subst (λ (c : KeyCall K V K). Continues makes_pair first c) (sym made) record { so = record { kind = refl; holds = ((key, refl, refl), tt, tt); gap = tt }; here = tt };
+      }
 
-  pub may_test : call ≡ removing_if its hashed key → MayDo same hash removes_if testing hasher (Key call) v
+  pub may_test : call ≡ removing_if its hashed key → MayDoAs same hash removes_if testing hasher (Key call) v
   may_test made =
-      may_do same hash removes_if testing (RemoveIf key) key (λ x h. removing_if x h key) (λ map s. refl) (λ x h. refl)
-      (λ x h. record { so = record { kind = refl; holds = (tt, inr (tt, tt)); gap = tt }; here = tt }) v setting its hasher hashed t call lone inside free knows incremental is word made
+      record {
+        may = may_do same hash (RemoveIf key) key (λ x h. removing_if x h key) (λ map s. refl) (λ x h. refl) v setting its hasher hashed t call lone inside free knows incremental is word made;
+        goes = subst (λ (c : KeyCall K V K). Continues removes_if testing c) (sym made) record { so = record { kind = refl; holds = (tt, inr (tt, tt)); gap = tt }; here = tt };
+      }
 
 module _ {K V S : Type 0} (same : K → K → Bool) (hash : S → K → ℕ) (says : Option (K × V) → MachineReply V → Type 0) {call made : KeyCall K V K} (v w : View K V S) (is : call ≡ made) where
   -- what a call has come to is said of who wanted it,

@@ -18,9 +18,9 @@ use Rattle.seize_views.specs.declared.view.Has.TheVariants.{Nothing as NoBlock}
 use Rattle.seize_views.specs.declared.view.SlotView.TheVariants.{Inside}
 use Rattle.threads_rule.specs.declared.view.View.{View}
 use Rattle.threads_rule.specs.declared.view.SeatWork.TheVariants.{Nothing}
-use Rattle.threads_rule.specs.Errands.Calling.{HasCalled, IsBack, IsToStore, MachineStores, MayCall, is_put, outcome_of, pair_wanted, wanted_of}
+use Rattle.threads_rule.specs.Errands.Calling.{AsksNone, AsksNothing, HasCalled, IsBack, IsToStore, MachineStores, MayCall, is_put, outcome_of, pair_wanted, wanted_of}
 use Rattle.threads_rule.specs.Errands.Looking.{HasRun}
-use Rattle.threads_rule.specs.CallKinds.Kinds.{Kind}
+use Rattle.threads_rule.specs.CallKinds.Kinds.{Kind, Continues}
 use Rattle.threads_calls.specs.Answers.{CameBack, IsOutOf, has_stored}
 use Rattle.threads_calls.specs.declared.session.keys.Attempt.{Attempt}
 use Rattle.threads_calls.specs.declared.session.keys.Attempt.TheVariants.{Stored, Present}
@@ -45,15 +45,18 @@ module _ {K V S : Type 0} (same : K → K → Bool) (hash : S → K → ℕ) (v 
   stores_so made made_so is other e =
       subst (IsToStore other) (sym made_so) (is other (subst (λ (c : KeyCall K V K). pair_wanted (wanted_of (Key c)) ≡ Some other) made_so e))
 
+  -- it asks nothing, and goes on as a call of its kind
+  none_so : (k : Kind) → AsksNothing k → (made : KeyCall K V K) → call ≡ made → Continues k quiet made → AsksNone (Key call)
+  none_so k none made made_so goes = (k, quiet, none, subst (Continues k quiet) (sym made_so) goes)
+
   pub may_insert : (value : V) → call ≡ inserting its hashed key value → MayCall same hash hasher (Key call) v
   may_insert value made = record {
-    kind = stores;
-    stage = quiet;
-    none = record { present = tt; absent = tt };
     may =
-        may_do same hash stores quiet (Insert key value) key (λ x h. inserting x h key value) (λ map s. refl) (λ x h. refl)
-        (λ x h. record { so = record { kind = refl; holds = (tt, inr (tt, tt)); gap = tt }; here = (refl, tt, tt) }) v setting its hasher hashed t call lone inside free knows
-        incremental is word made;
+        may_do same hash (Insert key value) key (λ x h. inserting x h key value) (λ map s. refl) (λ x h. refl) v setting its hasher hashed t call lone inside free knows incremental is word
+        made;
+    none =
+        none_so stores (record { present = tt; absent = tt }) (inserting its hashed key value) made
+        record { so = record { kind = refl; holds = (tt, inr (tt, tt)); gap = tt }; here = (refl, tt, tt) };
     stores =
         stores_so (inserting its hashed key value) made
         (λ pair e. record { here = refl; unmade = e; absent = refl; present = tt; none = refl; word = fits });
@@ -61,13 +64,12 @@ module _ {K V S : Type 0} (same : K → K → Bool) (hash : S → K → ℕ) (v 
 
   pub may_try : (value : V) → call ≡ trying_to_insert its hashed key value → MayCall same hash hasher (Key call) v
   may_try value made = record {
-    kind = tries;
-    stage = quiet;
-    none = record { present = tt; absent = tt };
     may =
-        may_do same hash tries quiet (TryToInsert key value) key (λ x h. trying_to_insert x h key value) (λ map s. refl) (λ x h. refl)
-        (λ x h. record { so = record { kind = refl; holds = (tt, inr (tt, tt)); gap = tt }; here = (refl, tt, tt) }) v setting its hasher hashed t call lone inside free knows
-        incremental is word made;
+        may_do same hash (TryToInsert key value) key (λ x h. trying_to_insert x h key value) (λ map s. refl) (λ x h. refl) v setting its hasher hashed t call lone inside free knows incremental
+        is word made;
+    none =
+        none_so tries (record { present = tt; absent = tt }) (trying_to_insert its hashed key value) made
+        record { so = record { kind = refl; holds = (tt, inr (tt, tt)); gap = tt }; here = (refl, tt, tt) };
     stores =
         stores_so (trying_to_insert its hashed key value) made
         (λ pair e. record { here = refl; unmade = e; absent = refl; present = tt; none = refl; word = fits });
@@ -75,13 +77,9 @@ module _ {K V S : Type 0} (same : K → K → Bool) (hash : S → K → ℕ) (v 
 
   pub may_remove : call ≡ removing its hashed key → MayCall same hash hasher (Key call) v
   may_remove made = record {
-    kind = removes;
-    stage = quiet;
-    none = record { present = tt; absent = tt };
-    may =
-        may_do same hash removes quiet (Remove key) key (λ x h. removing x h key) (λ map s. refl) (λ x h. refl)
-        (λ x h. record { so = record { kind = refl; holds = (tt, inr (tt, tt)); gap = tt }; here = tt }) v setting its hasher hashed t call lone inside free knows incremental is
-        word made;
+    may = may_do same hash (Remove key) key (λ x h. removing x h key) (λ map s. refl) (λ x h. refl) v setting its hasher hashed t call lone inside free knows incremental is word made;
+    none =
+        none_so removes (record { present = tt; absent = tt }) (removing its hashed key) made record { so = record { kind = refl; holds = (tt, inr (tt, tt)); gap = tt }; here = tt };
     stores = stores_so (removing its hashed key) made (λ pair e. absurd (cc e));
   }
 

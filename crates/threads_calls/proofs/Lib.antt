@@ -1,3 +1,4 @@
-mod Sessions
+pub mod Sessions
 mod Keys
+mod Whole
 mod Asks

@@ -1,11 +1,12 @@
 -- What the answers of a session's calls say.
-use Rattle.std.specs.Prelude.{◌≡◌, ℕ, Bool, true, false, Option, Some, Ok}
-use Rattle.threads_rule.specs.Given.ActsActs.{Insert, Remove, TryToInsert}
+use Rattle.std.specs.Prelude.{◌≡◌, ◌==◌, ℕ, Bool, true, false, Option, Some, Ok}
+use Rattle.threads_rule.specs.Given.ActsActs.{Count, GoOver, Insert, MakeRoom, Remove, TryToInsert, Wanted}
 use Rattle.map_tables.specs.declared.node.Node.{Node}
 use Rattle.map_tables.specs.declared.node.Node.TheVariants.{Pair}
 use Rattle.papaya_raw.specs.declared.machines.answer.KeyAnswer.TheVariants as answers
 use Rattle.papaya_raw.specs.declared.machines.progress.Answer.{Answer}
-use Rattle.papaya_raw.specs.declared.machines.progress.Answer.TheVariants.{Key as OfKey}
+use Rattle.papaya_raw.specs.Given.ReservesDeclared.sweep.Purpose.TheVariants.{Clears}
+use Rattle.papaya_raw.specs.declared.machines.progress.Answer.TheVariants.{Count as Counted, Key as OfKey, Reserved, Swept}
 use Rattle.threads_rule.specs.declared.view.View.{View}
 use Rattle.threads_rule.specs.Errands.Calling.{is_put, outcome_of}
 use Rattle.threads_rule.specs.Errands.Looking.{HasRun}
@@ -36,6 +37,10 @@ abbrev pub IsOutOf : {K V : Type 0} → Option (Node K V) → Attempt K V → Ty
 IsOutOf unstored Stored = Unit {0}
 IsOutOf unstored (Present key value) = unstored ≡ Some (Pair key value)
 
+-- what is wanted of a map whose pairs are all to be removed
+abbrev pub clears : {K V : Type 0} → Wanted K V
+clears = GoOver Clears
+
 module _ {K V S : Type 0} where
   -- it has run a call that stores this pair, and whose answer says whether a pair was replaced
   abbrev pub HasStored : (K → K → Bool) → (S → K → ℕ) → K → V → Bool → View K V S → View K V S → Type 0
@@ -48,3 +53,19 @@ module _ {K V S : Type 0} where
   -- one that removes the pair of this key, and whose answer says whether there was one
   abbrev pub HasRemoved : (K → K → Bool) → (S → K → ℕ) → K → Bool → View K V S → View K V S → Type 0
   HasRemoved same hash key removed v w = (answer : Answer) × HasRun same hash (Remove key) (outcome_of (Ok answer)) v w × (removed ≡ is_removed answer)
+
+  -- one that counts the pairs, and has counted so many,
+  abbrev pub HasMeasured : (K → K → Bool) → (S → K → ℕ) → ℕ → View K V S → View K V S → Type 0
+  HasMeasured same hash count v w = HasRun same hash Count (outcome_of (Ok (Counted count))) v w
+
+  -- or whether there are any,
+  abbrev pub HasFoundEmpty : (K → K → Bool) → (S → K → ℕ) → Bool → View K V S → View K V S → Type 0
+  HasFoundEmpty same hash empty v w = (count : ℕ) × HasMeasured same hash count v w × (empty ≡ (count == 0))
+
+  -- one that makes room for so many further pairs, and has made it,
+  abbrev pub HasReserved : (K → K → Bool) → (S → K → ℕ) → ℕ → View K V S → View K V S → Type 0
+  HasReserved same hash additional v w = HasRun same hash (MakeRoom additional) (outcome_of (Ok Reserved)) v w
+
+  -- and one that removes all pairs, and has gone over all
+  abbrev pub HasSweptAll : (K → K → Bool) → (S → K → ℕ) → View K V S → View K V S → Type 0
+  HasSweptAll same hash v w = HasRun same hash clears (outcome_of (Ok Swept)) v w

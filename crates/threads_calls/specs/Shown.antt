@@ -6,13 +6,13 @@ use Rattle.map_tables.specs.declared.node.Node.TheVariants.{Pair}
 use Rattle.threads_rule.specs.Views.Looks.{shown_in}
 use Rattle.threads_rule.specs.Views.Rule.{Holds}
 use Rattle.threads_rule.specs.declared.view.View.{View}
-use Rattle.threads_rule.specs.Errands.Looking.{Shows}
+use Rattle.threads_rule.specs.Errands.Looking.{HasLookedAt}
 use Rattle.threads_callers.specs.declared.caller.MapCaller.{MapCaller}
 
 module _ {K V S : Type 0} (same : K → K → Bool) where
   -- the caller shows the pair of this word, of an equal key
   abbrev pub IsShown : K → MapCaller K V S → ℕ → Type 0
-  IsShown key c word = Shows same key c.seat.view word
+  IsShown key c word = HasLookedAt same key c.seat.view word
 
 module _ {K V S : Type 0} (same : K → K → Bool) (hash : S → K → ℕ) where
   -- it is the value that was looked at of the pair of this word, as it is in the memory while the seat knows what it knows

@@ -17,6 +17,8 @@ mod asks;
 mod keys;
 mod pass;
 mod seats;
+mod sends;
+mod whole;
 
 pub use keys::Attempt;
 use map_machines::{Lookup, NewMap};
@@ -49,21 +51,21 @@ pub struct Found {
     word: u64,
 }
 
-/// What a call works with in this slot.
+/// Returns what a call works with in this slot.
 fn setting_in(setting: Setting, slot: u64) -> Setting
     ensures { result ≡ record setting { slot = slot } }
 {
     Setting { slot, ..setting }
 }
 
-/// Whether a pair was replaced by another one.
+/// Tells whether a pair was replaced by another one.
 fn is_replaced(answer: &Answer) -> bool
     ensures { result ≡ replaces answer.now }
 {
     matches!(answer, Answer::Key(KeyAnswer::Replaced { .. }))
 }
 
-/// A call was refused so, and its pair has come back.
+/// Returns that a call was refused so, with its pair, which has come back.
 fn refused<K: Drop, V: Drop>(fault: Fault, unstored: Option<Node<K, V>>) -> Refused<K, V>
     requires back { (key : K) × (value : V) × (unstored ≡ Some (Pair key value)) }
     ensures fault { result.fault ≡ fault }

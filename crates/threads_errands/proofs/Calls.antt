@@ -10,8 +10,9 @@ use Rattle.papaya_raw.specs.declared.machines.machine.Machine.{Machine}
 use Rattle.papaya_raw.specs.declared.machines.progress.Progress.{Progress}
 use Rattle.seize_views.specs.Views.Promises.{op_in}
 use Rattle.seize_views.specs.Views.Told.{FollowsBy}
+use Rattle.threads_rule.specs.CallKinds.Shows.{ReadPairIsVisible}
 use Rattle.threads_rule.specs.Views.Looks.{shown_in, MayFollow}
-use Rattle.threads_rule.specs.Views.Told.{HandsBack, MayCome, told_by, called}
+use Rattle.threads_rule.specs.Views.Told.{HandsBack, MayCome, observed_by, called}
 use Rattle.threads_rule.specs.declared.view.Map.{Map}
 use Rattle.threads_rule.specs.declared.view.View.{View}
 use Rattle.threads_rule.specs.declared.view.SeatWork.{SeatWork}
@@ -49,15 +50,15 @@ module _ {K V S : Type 0} (same : K → K → Bool) (hash : S → K → ℕ) (c 
     told_so : (op : Op (Node K V)) (out : Out (Node K V)) (n : Within K V S) → HasMade same hash c op out n
         → (end : Machine K V K × Progress (Node K V)) × FollowsBy (shown_in n.seat.now.view.looks) plan out end
         × (n.seat.now.view ≡ called c.seat.now.view map machine end n.seat.now.view.looks) × MayFollow (shown_in n.seat.now.view.looks) plan out
-        × MayCome plan end × HandsBack c.seat.now.view.calls end.1
+        × MayCome plan end × HandsBack c.seat.now.view.calls end.1 × ReadPairIsVisible machine end.1 (shown_in n.seat.now.view.looks)
     told_so op out n made =
-        subst (λ (o : Option (Map S)). told_by same hash c.seat.now.view o (Calls machine) op out n.seat.now.view) knows
-        (subst (λ (k : SeatWork K V S). told_by same hash c.seat.now.view c.seat.now.view.map k op out n.seat.now.view) works made.told)
+        subst (λ (o : Option (Map S)). observed_by same hash c.seat.now.view o (Calls machine) op out n.seat.now.view) knows
+        (subst (λ (k : SeatWork K V S). observed_by same hash c.seat.now.view c.seat.now.view.map k op out n.seat.now.view) works made.told)
 
     -- in incremental mode it shows what the step looks at
     pub told_shown : is_incremental map.setting.mode ≡ true → (op : Op (Node K V)) (out : Out (Node K V)) (n : Within K V S) → HasMade same hash c op out n
         → (end : Machine K V K × Progress (Node K V)) × FollowsBy (shown_of n) plan out end × (n.seat.now.view ≡ called c.seat.now.view map machine end n.seat.now.view.looks)
-        × MayFollow (shown_of n) plan out × MayCome plan end × HandsBack c.seat.now.view.calls end.1
+        × MayFollow (shown_of n) plan out × MayCome plan end × HandsBack c.seat.now.view.calls end.1 × ReadPairIsVisible machine end.1 (shown_of n)
     told_shown incremental op out n made =
         let t = told_so op out n made in
         let shows : n.seat.now.view.held ≡ n.seat.now.view.looks = ap (λ (v : View K V S). v.held) t.2 ∙ ap (λ (k : Bool). if k then n.seat.now.view.looks else []) incremental in (
@@ -67,4 +68,5 @@ module _ {K V S : Type 0} (same : K → K → Bool) (hash : S → K → ℕ) (c 
           subst (λ (l : List (ℕ × Node K V)). MayFollow (shown_in l) plan out) (sym shows) t.3,
           t.4,
           t.5,
+          subst (λ (l : List (ℕ × Node K V)). ReadPairIsVisible machine t.0.1 (shown_in l)) (sym shows) t.6,
         )

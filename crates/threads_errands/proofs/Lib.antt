@@ -2,7 +2,7 @@ mod Calls
 mod Calling
 mod Lookups
 mod Makings
-mod Told
+pub mod Told
 pub mod Shown
-mod Pausing
+pub mod Pausing
 mod Straight

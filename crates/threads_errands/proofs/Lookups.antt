@@ -23,7 +23,7 @@ use Rattle.threads_rule.specs.Views.Told.{called}
 use Rattle.threads_rule.specs.Views.Rule.{stand_of}
 use Rattle.threads_rule.specs.declared.view.View.{View}
 use Rattle.threads_errands.specs.Made.{CanMake, HasMade, IsSameSeat, shown_of}
-use Rattle.threads_rule.specs.Errands.Looking.{HasTold, LooksFor, LookedSo, StaysThere, looking_told}
+use Rattle.threads_rule.specs.Errands.Looking.{HasProgressed, LooksFor, LookedSo, StaysThere, progress_of_lookup}
 use Rattle.threads_errands.specs.declared.within.Within.{Within}
 use Rattle.threads_errands.proofs.Calls.{can_make, told_shown}
 use Rattle.threads_rule.proofs.Errands.Looking.{TellsSo, tells, is_do, only_reads, is_plain}
@@ -97,7 +97,7 @@ module _ {K V S : Type 0} (same : K → K → Bool) (hash : S → K → ℕ) (c 
 
   -- and what its call has told
   told_so : (n : Within K V S) (end : Lookup × Advance (Option ℕ)) → n.seat.now.view ≡ called c.seat.now.view is.map machine (as_machine (looked standing_here end)) n.seat.now.view.looks
-      → HasTold (looking_told end.1) c.seat.now.view n.seat.now.view
+      → HasProgressed (progress_of_lookup end.1) c.seat.now.view n.seat.now.view
   told_so n (d, progress.Goes) view = ap (λ (v : View K V S). v.calls) view
   told_so n (d, progress.Waits) view = ap (λ (v : View K V S). v.calls) view
   told_so n (d, progress.Done None) view = ap (λ (v : View K V S). v.calls) view
@@ -105,7 +105,7 @@ module _ {K V S : Type 0} (same : K → K → Bool) (hash : S → K → ℕ) (c 
   told_so n (d, progress.Refused fault) view = ap (λ (v : View K V S). v.calls) view
 
   pub has_looked : (n : Within K V S) (end : Lookup × Advance (Option ℕ)) → Steps (HasMade same hash) shown_of c own n end
-      → LookedSo same key end.0 end.1 n.seat.now.view × StaysThere c.seat.now.view n.seat.now.view × IsSameSeat c n × HasTold (looking_told end.1) c.seat.now.view n.seat.now.view
+      → LookedSo same key end.0 end.1 n.seat.now.view × StaysThere c.seat.now.view n.seat.now.view × IsSameSeat c n × HasProgressed (progress_of_lookup end.1) c.seat.now.view n.seat.now.view
   has_looked n end st =
       let k = was_made (CanMake same hash) (HasMade same hash) shown_of c own n end (is_do V (same key) lookup lookup.stands is.on) st in
       let t = came k.0 k.1 n k.3 in

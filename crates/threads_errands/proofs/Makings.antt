@@ -13,7 +13,7 @@ use Rattle.seize_views.specs.Views.Promises.{op_in}
 use Rattle.seize_views.specs.Views.Told.{FollowsBy}
 use Rattle.seize_views.proofs.Views.Looks.{rest_of}
 use Rattle.threads_rule.specs.Views.Looks.{shown_in}
-use Rattle.threads_rule.specs.Views.Told.{told_by, made_after}
+use Rattle.threads_rule.specs.Views.Told.{observed_by, made_after}
 use Rattle.threads_rule.specs.Views.Rule.{stand_of}
 use Rattle.threads_rule.specs.declared.view.View.{View}
 use Rattle.threads_rule.specs.declared.view.SeatWork.{SeatWork}
@@ -43,7 +43,7 @@ module _ {K V S : Type 0} (same : K → K → Bool) (hash : S → K → ℕ) (c 
 
   came : (op : Op (Node K V)) (out : Out (Node K V)) (n : Within K V S) → HasMade same hash c op out n → Came n out
   came op out n made =
-      let t = subst (λ (k : SeatWork K V S). told_by same hash c.seat.now.view c.seat.now.view.map k op out n.seat.now.view) is.works made.told in record {
+      let t = subst (λ (k : SeatWork K V S). observed_by same hash c.seat.now.view c.seat.now.view.map k op out n.seat.now.view) is.works made.told in record {
         end = t.0;
         follows = now_follows (shown_in n.seat.now.view.looks) (shown_of n) plan out t.0 (is_now K V opening opening.stands is.early out) t.1;
         view = t.2;

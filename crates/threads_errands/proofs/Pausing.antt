@@ -1,5 +1,5 @@
 -- A call that is run on until it asks or has ended, and the steps that its seat has taken by then.
-use Rattle.std.specs.Prelude.{zero, suc, Option, Some, None, IsSome, Result, Ok, Err}
+use Rattle.std.specs.Prelude.{zero, suc, Option, Some, None, Result, Ok, Err}
 use Rattle.std.specs.Fn.{Shared, FnReturns}
 use denote.Ref.{Bor}
 use Rattle.std.proofs.Common.{◌≡◌, ◌⊎◌, ℕ, Bool, true, false, List, inl, inr, refl, sym, subst, ap, ◌∙◌}
@@ -21,23 +21,23 @@ use Rattle.papaya_raw.specs.declared.machines.progress.Progress.TheVariants as p
 use Rattle.threads_rule.specs.Views.Begun.{replied}
 use Rattle.threads_rule.specs.Views.Looks.{shown_in}
 use Rattle.threads_rule.specs.Views.Rule.{stand_of}
-use Rattle.threads_rule.specs.Views.Told.{newest_told}
+use Rattle.threads_rule.specs.Views.Told.{newest_progress}
 use Rattle.threads_rule.specs.declared.view.View.{View}
 use Rattle.threads_rule.specs.declared.view.SeatWork.TheVariants.{Nothing}
-use Rattle.threads_errands.specs.Asking.{HasAnswered, HasGone, IsOfCall, MakingSays, MayTest, NoneSaid, PausedSo, TestSays, WasTold, makes_pair, removes_if, reply_of, told_at}
-use Rattle.threads_rule.specs.Errands.Calling.{HasEnded, IsAsking, IsGoing, IsNoQuestion, IsUnderWay, TellsSo, outcome_of}
-use Rattle.threads_rule.specs.CallKinds.Kinds.{Kind, Stage, IsFit, IsTold, IsUntold, ShowsPair, stage_after}
-use Rattle.threads_rule.specs.Errands.Looking.{Begins, HasTold, IsOfThem, StaysThere}
+use Rattle.threads_errands.specs.Asking.{HasAnswered, HasGone, IsOfCall, MakingSays, MayTest, NoneSaid, PausedSo, TestSays, WasReplied, makes_pair, removes_if, reply_of, progress_at}
+use Rattle.threads_rule.specs.Errands.Calling.{HasEnded, IsAsking, IsGoing, IsNoQuestion, IsUnderWay, StepOutcome, outcome_of}
+use Rattle.threads_rule.specs.CallKinds.Kinds.{Kind, Stage, IsFit, IsReplied, IsUntold, PairIsVisible, stage_after}
+use Rattle.threads_rule.specs.Errands.Looking.{Begins, HasProgressed, IsOfThem, StaysThere}
 use Rattle.threads_errands.specs.Steps.{HasStepped}
-use Rattle.threads_errands.specs.declared.within.asking.Pause.{Pause}
-use Rattle.threads_errands.specs.declared.within.asking.Pause.TheVariants as pause
+use Rattle.threads_errands.specs.declared.within.asking.Halt.{Halt}
+use Rattle.threads_errands.specs.declared.within.asking.Halt.TheVariants as pause
 use Rattle.threads_rule.proofs.Errands.Beginnings.{stays_begun, stays_on}
 use Rattle.threads_rule.proofs.Errands.Runs.{has_run, told_last}
 use Rattle.seize_words.proofs.General.{same_some}
 
 module _ {K V S : Type 0} (k : Kind) (s : Stage) (hasher : S) (machine : Machine K V K) where
   -- a step of a call on one key tells what such a call may tell,
-  pub of_call : (told : Progress (Node K V)) (w : View K V S) → TellsSo k s hasher machine told w → IsOfCall told
+  pub of_call : (told : Progress (Node K V)) (w : View K V S) → StepOutcome k s hasher machine told w → IsOfCall told
   of_call progress.Goes w is = tt
   of_call progress.Waits w is = tt
   of_call (progress.Gave value) w is = tt
@@ -49,7 +49,7 @@ module _ {K V S : Type 0} (k : Kind) (s : Stage) (hasher : S) (machine : Machine
   of_call (progress.Refused fault) w is = tt
 
   -- and goes on where it does not pause
-  pub goes_still : (told : Progress (Node K V)) (w : View K V S) → TellsSo k s hasher machine told w → IsGoing told → IsNoQuestion told → IsUnderWay k s hasher machine w
+  pub goes_still : (told : Progress (Node K V)) (w : View K V S) → StepOutcome k s hasher machine told w → IsGoing told → IsNoQuestion told → IsUnderWay k s hasher machine w
   goes_still progress.Goes w is on none = is
   goes_still progress.Waits w is on none = is
   goes_still (progress.Gave value) w is on none = is
@@ -61,21 +61,21 @@ module _ {K V S : Type 0} (k : Kind) (s : Stage) (hasher : S) (machine : Machine
   goes_still (progress.Refused fault) w is on none = absurd on
 
   -- what is known where it pauses
-  free_at : (answer : Result Answer Fault) (w : View K V S) → TellsSo k s hasher machine (outcome_of answer) w → w.work ≡ Nothing
+  free_at : (answer : Result Answer Fault) (w : View K V S) → StepOutcome k s hasher machine (outcome_of answer) w → w.work ≡ Nothing
   free_at (Ok answer) w is = is
   free_at (Err fault) w is = is
 
-  pub paused_so : (told : Progress (Node K V)) (at : Pause) (u v w : View K V S) → told ≡ told_at at → TellsSo k s hasher machine told w → IsOfThem u v → HasTold told v w
+  pub paused_so : (told : Progress (Node K V)) (at : Halt) (u v w : View K V S) → told ≡ progress_at at → StepOutcome k s hasher machine told w → IsOfThem u v → HasProgressed told v w
       → PausedSo k s hasher machine at u w
-  paused_so told (pause.Asks pair) u v w e is them has = subst (λ (t : Progress (Node K V)). TellsSo k s hasher machine t w) e is
+  paused_so told (pause.Asks pair) u v w e is them has = subst (λ (t : Progress (Node K V)). StepOutcome k s hasher machine t w) e is
   paused_so told (pause.Ended answer) u v w e is them has = record {
-    free = free_at answer w (subst (λ (t : Progress (Node K V)). TellsSo k s hasher machine t w) e is);
-    told = told_last u v w (outcome_of answer) them (subst (λ (t : Progress (Node K V)). HasTold t v w) e has);
+    free = free_at answer w (subst (λ (t : Progress (Node K V)). StepOutcome k s hasher machine t w) e is);
+    told = told_last u v w (outcome_of answer) them (subst (λ (t : Progress (Node K V)). HasProgressed t v w) e has);
   }
 
 module _ {K V S : Type 0} (same : K → K → Bool) (hash : S → K → ℕ) (says : Option (K × V) → MachineReply V → Type 0) where
   -- one step,
-  pub gone_once : (v w : View K V S) → (HasStepped same hash v w ⊎ WasTold says v w) → HasGone same hash says 1 v w
+  pub gone_once : (v w : View K V S) → (HasStepped same hash v w ⊎ WasReplied says v w) → HasGone same hash says 1 v w
   gone_once v w step = (v, refl, step)
 
   -- so many more,
@@ -89,7 +89,7 @@ module _ {K V S : Type 0} (same : K → K → Bool) (hash : S → K → ℕ) (sa
   none_said (suc n) v w gone = (
     gone.0,
     none_said n v gone.0 gone.1,
-    elim gone.2 as (λ _. HasStepped same hash gone.0 w ⊎ WasTold says gone.0 w) [
+    elim gone.2 as (λ _. HasStepped same hash gone.0 w ⊎ WasReplied says gone.0 w) [
       | inl step ↦ inl step
       | inr told ↦ absurd told.5
     ],
@@ -102,7 +102,7 @@ gone_as same hash says more is zero v w gone = gone
 gone_as same hash says more is (suc n) v w gone = (
   gone.0,
   gone_as same hash says more is n v gone.0 gone.1,
-  elim gone.2 as (λ _. HasStepped same hash gone.0 w ⊎ WasTold more gone.0 w) [
+  elim gone.2 as (λ _. HasStepped same hash gone.0 w ⊎ WasReplied more gone.0 w) [
     | inl step ↦ inl step
     | inr told ↦ inr (told.0, told.1, told.2, told.3, told.4, is told.1 told.2 told.5, told.6)
   ],
@@ -118,7 +118,7 @@ module _ {K V S : Type 0} (s : Stage) (hasher : S) (v : View K V S) where
   asks_missing (Some word) (kinds.Count r) is = absurd is.asks
 
   -- and one that tests asks with a pair, which is shown
-  pub asks_there : (pair : Option ℕ) (machine : Machine K V K) → IsAsking removes_if s hasher pair machine v → (word : ℕ) × (pair ≡ Some word) × ShowsPair (shown_in v.held) word
+  pub asks_there : (pair : Option ℕ) (machine : Machine K V K) → IsAsking removes_if s hasher pair machine v → (word : ℕ) × (pair ≡ Some word) × PairIsVisible (shown_in v.held) word
   asks_there (Some word) (kinds.Key c) is = (word, refl, is.asks.1.shows)
   asks_there (Some word) (kinds.Reserve r) is = absurd is.asks
   asks_there (Some word) (kinds.Sweep r) is = absurd is.asks
@@ -129,13 +129,13 @@ module _ {K V S : Type 0} (s : Stage) (hasher : S) (v : View K V S) where
   asks_there None (kinds.Count r) is = absurd is.asks
 
 -- a call that was told its value asks no more
-told_gap : {V : Type 0} (told : Told V) → IsTold told → IsUntold told → ⊥
+told_gap : {V : Type 0} (told : Told V) → IsReplied told → IsUntold told → ⊥
 told_gap tells.Nothing is none = is
 told_gap (tells.Value value) is none = none
 told_gap tells.Own is none = none
 told_gap tells.Removes is none = none
 
-pub asks_no_more : {K V S : Type 0} (s : Stage) (hasher : S) (machine : Machine K V K) (value : V) (v u w : View K V S) (at : Pause) → PausedSo makes_pair (stage_after s None (reply.Insert value)) hasher machine at u w
+pub asks_no_more : {K V S : Type 0} (s : Stage) (hasher : S) (machine : Machine K V K) (value : V) (v u w : View K V S) (at : Halt) → PausedSo makes_pair (stage_after s None (reply.Insert value)) hasher machine at u w
     → (answer : Result Answer Fault) × (at ≡ pause.Ended answer)
 asks_no_more s hasher machine value v u w (pause.Ended answer) is = (answer, refl)
 asks_no_more s hasher (kinds.Key c) value v u w (pause.Asks None) is = absurd (told_gap c.replies.absent is.asks.0.gap is.asks.1.untold)
@@ -160,7 +160,7 @@ pub stays_told : {K V S : Type 0} (machine : Machine K V K) (said : MachineReply
 stays_told {K} {V} {S} machine said v w e = record { slot = ap (λ (u : View K V S). stand_of u) e; map = ap (λ (u : View K V S). u.map) e }
 
 pub calls_told : {K V S : Type 0} (machine : Machine K V K) (said : MachineReply V) (v w : View K V S) → w ≡ replied v machine said → IsOfThem v w
-calls_told {K} {V} {S} machine said v w e = λ told. ap (λ (u : View K V S). newest_told told u.calls) e
+calls_told {K} {V} {S} machine said v w e = λ told. ap (λ (u : View K V S). newest_progress told u.calls) e
 
 -- what is made is what the closure has given
 pub made_so : {K V : Type 0} (makes : V → Type 0) (value : V) → makes value → (pair : Option (K × V)) (said : MachineReply V) → MakingSays (λ (made : V). made ≡ value) pair said → MakingSays makes pair said
@@ -185,7 +185,7 @@ answered same hash says wanted answer u v w n begins ended stays gone = record {
   asked = (v, n, begins, gone);
 }
 
-module _ {K V S : Type 0} (says : Option (K × V) → MachineReply V → Type 0) (v w : View K V S) (told : WasTold says v w) where
+module _ {K V S : Type 0} (says : Option (K × V) → MachineReply V → Type 0) (v w : View K V S) (told : WasReplied says v w) where
   pub stays_there_told : StaysThere v w
   stays_there_told = stays_told told.0 told.2 v w told.6
 
@@ -196,9 +196,6 @@ pub them_on : {K V S : Type 0} (u v w : View K V S) → IsOfThem u v → IsOfThe
 them_on u v w one other = λ told. other told ∙ one told
 
 -- a test is called with the pair that is shown, and says yes or no of that
-pub some_of : {T : Type 0} {o : Option T} {x : T} → o ≡ Some x → IsSome o
-some_of {T} e = subst (λ (o : Option T). IsSome o) (sym e) refl
-
 pub shown_pair : {K V : Type 0} (node : Node K V) (key : K) (value : V) → Some node ≡ Some (Pair key value) → node ≡ Pair key value
 shown_pair node key value e = same_some node (Pair key value) e
 

@@ -1,7 +1,7 @@
 -- What a caller shows is there, with its value.
 use Rattle.std.specs.Prelude.{Option, Some, None, IsSome}
 use Rattle.std.proofs.Common.{◌≡◌, ℕ, Bool, refl, sym, ap, ◌∙◌}
-use Rattle.seize_blocks.specs.Given.SeizeSeatsLendings.{Shown, IsValueOf}
+use Rattle.seize_blocks.specs.Given.SeizeSeatsLendings.{VisibleTo, IsValueOf}
 use Rattle.map_tables.specs.declared.node.Node.{Node}
 use Rattle.seize_views.specs.declared.view.Fixed.{Fixed}
 use Rattle.threads_rule.specs.Views.Looks.{shown_in}
@@ -11,7 +11,7 @@ use Rattle.threads_rule.proofs.Views.Laws.{held_are_shown}
 
 module _ {K V S : Type 0} (same : K → K → Bool) (hash : S → K → ℕ) (fixed : Fixed) (id : ℕ) (v : View K V S) (b : ℕ) where
   abbrev Is : Type 0
-  Is = Shown (Holds same hash fixed) id v b × ((y : Node K V) → IsValueOf (Holds same hash fixed) id v b y → shown_in v.held b ≡ Some y)
+  Is = VisibleTo (Holds same hash fixed) id v b × ((y : Node K V) → IsValueOf (Holds same hash fixed) id v b y → shown_in v.held b ≡ Some y)
 
   by : (o : Option (Node K V)) → shown_in v.held b ≡ o → IsSome o → Is
   by None e some = absurd (cc some)

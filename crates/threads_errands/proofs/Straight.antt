@@ -15,7 +15,7 @@ use Rattle.map_straight.specs.declared.looking.Sight.{Sight}
 use Rattle.map_straight.specs.declared.looking.Sight.TheVariants as sight
 use Rattle.seize_straight.specs.Runs.{none_taken, one_more}
 use Rattle.seize_straight.proofs.Running.{by_law}
-use Rattle.threads_rule.specs.Errands.Looking.{Begins, HasCome, HasFound, HasLooked, HasSeen, HasTold, IsOfThem, LookedSo, LooksFor, StaysThere, found_of, looking_told}
+use Rattle.threads_rule.specs.Errands.Looking.{Begins, HasCome, HasFound, HasLooked, HasSeen, HasProgressed, IsOfThem, LookedSo, LooksFor, StaysThere, found_of, progress_of_lookup}
 use Rattle.threads_errands.specs.Made.{CanMake, HasMade, IsSameSeat, shown_of}
 use Rattle.threads_errands.specs.declared.within.Within.{Within}
 use Rattle.threads_rule.proofs.Errands.Beginnings.{stays_begun, stays_on}
@@ -53,7 +53,7 @@ module _ {K V S : Type 0} (same : K → K → Bool) (hash : S → K → ℕ) (ke
         record {
           stays = stays_on m.seat.now.view k.seat.now.view n.seat.now.view a.1.stays b.1;
           seat = b.2 ∙ a.1.seat;
-          calls = of_them m.seat.now.view k.seat.now.view n.seat.now.view (looking_told told) a.1.calls b.3;
+          calls = of_them m.seat.now.view k.seat.now.view n.seat.now.view (progress_of_lookup told) a.1.calls b.3;
         },
       )
 
@@ -83,7 +83,7 @@ module _ {K V S : Type 0} (same : K → K → Bool) (hash : S → K → ℕ) (ke
 
   -- or by the steps that are taken then
   pub found_then : (root : ℕ) (mode : ResizeMode) (hashed : ℕ) (stands : Looking) (found : Option ℕ) (u v w : View K V S) → HasSeen same hash key root mode hashed (sight.Stands stands) u v
-      → HasLooked same key found w → HasTold (found_of found) v w → StaysThere v w → HasFound same hash key found u w
+      → HasLooked same key found w → HasProgressed (found_of found) v w → StaysThere v w → HasFound same hash key found u w
   found_then root mode hashed stands found u v w seen looked told stays = record {
     looked = looked;
     stays = stays_on u v w seen.1 stays;

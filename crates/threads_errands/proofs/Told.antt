@@ -12,14 +12,14 @@ use Rattle.threads_rule.specs.Views.Begun.{replied}
 use Rattle.threads_rule.specs.Views.Looks.{shown_in}
 use Rattle.threads_rule.specs.declared.view.View.{View}
 use Rattle.threads_errands.specs.Asking.{AsksWith}
-use Rattle.threads_rule.specs.Errands.Calling.{IsAsking, IsUnderWay, MachineAsks, MachineGoesOn}
+use Rattle.threads_rule.specs.Errands.Calling.{IsAsking, IsUnderWay, MachineAsks, MachineContinues}
 use Rattle.threads_rule.specs.CallKinds.Kinds.{Kind, Stage, IsFit, stage_after}
 use Rattle.threads_rule.proofs.CallKinds.Telling.{taken}
 
 module _ {K V : Type 0} (k : Kind) (s : Stage) (shown : ℕ → Option (Node K V)) (pair : Option ℕ) (reply : MachineReply V) where
   -- the machine takes what fits
   machine_takes : (machine : Machine K V K) → MachineAsks k s shown pair machine → IsFit k.takes s.told pair reply
-      → MachineGoesOn k (stage_after s pair reply) (machine_replied machine reply).0 × ((machine_replied machine reply).1 ≡ Ok tt)
+      → MachineContinues k (stage_after s pair reply) (machine_replied machine reply).0 × ((machine_replied machine reply).1 ≡ Ok tt)
   machine_takes (kinds.Key c) asks fit = taken k s shown c reply pair asks fit
   machine_takes (kinds.Reserve r) asks fit = absurd asks
   machine_takes (kinds.Sweep r) asks fit = absurd asks

@@ -31,8 +31,8 @@ use Rattle.threads_rule.specs.Errands.Calling.{HasEnded, IsAsking, outcome_of}
 use Rattle.threads_rule.specs.CallKinds.Kinds.{Kind, Stage, IsFit}
 use Rattle.threads_rule.specs.Errands.Looking.{Begins, HasRun, StaysThere}
 use Rattle.threads_errands.specs.Steps.{HasStepped}
-use Rattle.threads_errands.specs.declared.within.asking.Pause.{Pause}
-use Rattle.threads_errands.specs.declared.within.asking.Pause.TheVariants as pause
+use Rattle.threads_errands.specs.declared.within.asking.Halt.{Halt}
+use Rattle.threads_errands.specs.declared.within.asking.Halt.TheVariants as pause
 
 -- it asks with this pair, which is shown, or where the key is missing
 abbrev pub AsksWith : {K V Q : Type 0} → (ℕ → Option (Node K V)) → Option (K × V) → Machine K V Q → Type 0
@@ -59,19 +59,19 @@ IsOfCall (progress.Pair pair) = ⊥
 IsOfCall told = Unit {0}
 
 -- what it tells where it pauses
-abbrev pub told_at : {T : Type 0} → Pause → Progress T
-told_at (pause.Asks pair) = progress.Asks pair
-told_at (pause.Ended answer) = outcome_of answer
+abbrev pub progress_at : {T : Type 0} → Halt → Progress T
+progress_at (pause.Asks pair) = progress.Asks pair
+progress_at (pause.Ended answer) = outcome_of answer
 
 module _ {K V S : Type 0} where
   -- its call has asked, and was told something that is said of the pair with which it has asked
-  abbrev pub WasTold : (Option (K × V) → MachineReply V → Type 0) → View K V S → View K V S → Type 0
-  WasTold says v w =
+  abbrev pub WasReplied : (Option (K × V) → MachineReply V → Type 0) → View K V S → View K V S → Type 0
+  WasReplied says v w =
       (machine : Machine K V K) × (pair : Option (K × V)) × (told : MachineReply V) × (v.work ≡ Calls machine) × AsksWith (shown_in v.held) pair machine × says pair told
       × (w ≡ replied v machine told)
 
   -- it has asked, or has ended
-  abbrev pub PausedSo : Kind → Stage → S → Machine K V K → Pause → View K V S → View K V S → Type 0
+  abbrev pub PausedSo : Kind → Stage → S → Machine K V K → Halt → View K V S → View K V S → Type 0
   PausedSo k s hasher machine (pause.Asks pair) v w = IsAsking k s hasher pair machine w
   PausedSo k s hasher machine (pause.Ended answer) v w = HasEnded answer v w
 
@@ -79,7 +79,7 @@ module _ {K V S : Type 0} where
     -- so many steps of its call, or answers to what that has asked
     abbrev pub HasGone : (Option (K × V) → MachineReply V → Type 0) → ℕ → View K V S → View K V S → Type 0
     HasGone says zero v w = w ≡ v
-    HasGone says (suc n) v w = (u : View K V S) × HasGone says n v u × (HasStepped same hash u w ⊎ WasTold says u w)
+    HasGone says (suc n) v w = (u : View K V S) × HasGone says n v u × (HasStepped same hash u w ⊎ WasReplied says u w)
 
     -- It has begun to do this, and its call was told what is said of the pairs with which it has asked.
     abbrev pub HasAsked : (Option (K × V) → MachineReply V → Type 0) → Wanted K V → View K V S → View K V S → Type 0

@@ -1,11 +1,12 @@
-//! What a seat of maps is sent for: to make a map, to look a key up, and to run a call on one key.
-ghost use Rattle.std.specs.Prelude.{◌≡◌, false};
+//! What a seat of maps is sent for: to make a map, to look a key up, to run a call, and to count the pairs of a map.
+ghost use Rattle.std.specs.Prelude.{◌≡◌, IfOk, false};
 ghost use Rattle.std.specs.Fn.{FnOnceReturns};
 ghost use Rattle.threads_errands.specs.Asking.{HasAnswered, MakingSays, MayTest, TestSays, makes_pair, removes_if};
-ghost use Rattle.threads_rule.specs.Errands.Calling.{HasCalled, MayCall, MayDo, wanted_of};
+ghost use Rattle.threads_rule.specs.Errands.Calling.{HasCalled, IsAnswerBy, MayCall, MayDoAs, wanted_of};
+ghost use Rattle.threads_rule.specs.Errands.Counting.{HasCounted, MayCount};
 ghost use Rattle.threads_rule.specs.CallKinds.Kinds.{Stage};
 ghost use Rattle.threads_rule.specs.Errands.Looking.{HasFound, MayLook};
-ghost use Rattle.threads_rule.specs.Errands.Making.{CameTo, MayBegin};
+ghost use Rattle.threads_rule.specs.Errands.Making.{HasOutcome, MayBegin};
 ghost use Rattle.threads_rule.specs.declared.view.SeatWork.TheVariants.{Nothing as NoWork};
 ghost use Rattle.seize_views.specs.declared.view.SlotView.TheVariants.{Rests};
 
@@ -33,7 +34,7 @@ impl<'h, K: Eq + Drop, V: Drop, S: Hashes<K>> Errand<Node<K, V>, OfMaps<S>> for 
 
     ghost asks = { λ m fixed v. MayBegin fixed m.opening × (v.slot ≡ Rests) × (v.work ≡ NoWork) };
 
-    ghost did = { λ m fixed v answer w. CameTo m.hasher.now m.opening answer v w };
+    ghost did = { λ m fixed v answer w. HasOutcome m.hasher.now m.opening answer v w };
 
     fn run(
         self,
@@ -77,7 +78,7 @@ impl<'f, R: Wait, K: Eq + Hash, V, S: Hashes<K>> Errand<Node<K, V>, OfMaps<S>> f
     }
 }
 
-/// Runs a call on one key that asks nothing.
+/// Runs a call that asks nothing.
 #[derive(Drop)]
 pub struct Does<'d, R, K, V, S> {
     pub rt: &'d R,
@@ -92,7 +93,7 @@ impl<'d, R: Wait, K: Eq + Hash + Drop, V: Drop, S: Hashes<K>> Errand<Node<K, V>,
 
     ghost asks = { λ d fixed v. MayCall K.eq S.hash d.hasher.now d.machine.now v };
 
-    ghost did = { λ d fixed v answer w. HasCalled K.eq S.hash (wanted_of d.machine.now) answer.told answer.unstored v w };
+    ghost did = { λ d fixed v answer w. HasCalled K.eq S.hash (wanted_of d.machine.now) answer.told answer.unstored v w × IfOk answer.told (IsAnswerBy d.machine.now) };
 
     fn run(
         self,
@@ -125,7 +126,7 @@ impl<'m, R: Wait, K: Eq + Hash + Drop, V: Drop, S: Hashes<K>, F: FnOnce() -> V> 
 > for MakesPair<'m, R, K, V, S, F> {
     type Answer = Ran<K, V>;
 
-    ghost asks = { λ m fixed v. (s : Stage) × (s.told ≡ false) × MayDo K.eq S.hash makes_pair s m.hasher.now m.machine.now v × F.pre m.make };
+    ghost asks = { λ m fixed v. (s : Stage) × (s.told ≡ false) × MayDoAs K.eq S.hash makes_pair s m.hasher.now m.machine.now v × F.pre m.make };
 
     ghost did = { λ m fixed v answer w. HasAnswered K.eq S.hash (MakingSays (FnOnceReturns F.FnOnce m.make tt)) (wanted_of m.machine.now) answer.told v w };
 
@@ -161,7 +162,7 @@ impl<'r, R: Wait, K: Eq + Hash + Drop, V: Drop, S: Hashes<K>, F: Fn(&K, &V) -> b
 > for RemovesIf<'r, R, K, V, S, F> {
     type Answer = Ran<K, V>;
 
-    ghost asks = { λ r fixed v. (s : Stage) × MayDo K.eq S.hash removes_if s r.hasher.now r.machine.now v × F.IsAlwaysCallable r.test.now };
+    ghost asks = { λ r fixed v. (s : Stage) × MayDoAs K.eq S.hash removes_if s r.hasher.now r.machine.now v × F.IsAlwaysCallable r.test.now };
 
     ghost did = { λ r fixed v answer w. HasAnswered K.eq S.hash (TestSays (MayTest F.Fn r.test.now)) (wanted_of r.machine.now) answer.told v w };
 
@@ -179,5 +180,31 @@ impl<'r, R: Wait, K: Eq + Hash + Drop, V: Drop, S: Hashes<K>, F: Fn(&K, &V) -> b
         } = self;
         let mut within = Within::new(blocks, seat, near);
         within.removes_if(rt, hasher, machine, test)
+    }
+}
+
+/// Counts the pairs of a map.
+#[derive(Drop)]
+pub struct Counts<'c, K, V, S> {
+    pub hasher: &'c S,
+    pub machine: &'c mut Machine<K, V>,
+}
+
+impl<'c, K: Eq + Hash + Drop, V: Drop, S: Hashes<K>> Errand<Node<K, V>, OfMaps<S>>
+    for Counts<'c, K, V, S> {
+    type Answer = u64;
+
+    ghost asks = { λ c fixed v. MayCount K.eq S.hash c.hasher.now c.machine.now v };
+
+    ghost did = { λ c fixed v answer w. HasCounted K.eq S.hash answer v w };
+
+    fn run(
+        self,
+        blocks: &Blocks<Node<K, V>, OfMaps<S>>,
+        seat: &mut Seat<Node<K, V>, OfMaps<S>>,
+    ) -> u64 {
+        let Counts { hasher, machine } = self;
+        let mut within = Within::new(blocks, seat, 0);
+        within.counts(hasher, machine)
     }
 }

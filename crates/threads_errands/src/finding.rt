@@ -1,6 +1,6 @@
 //! A lookup of a seat on an errand: by straight code as far as that goes, and by steps from there on.
 ghost use Rattle.std.specs.Prelude.{◌≡◌, ◌≢◌, None};
-ghost use Rattle.threads_rule.specs.Errands.Looking.{HasLooked, HasSeen, HasTold, LooksFor, MayLook, StaysThere, found_of};
+ghost use Rattle.threads_rule.specs.Errands.Looking.{HasLooked, HasSeen, HasProgressed, LooksFor, MayLook, StaysThere, found_of};
 ghost use Rattle.map_straight.specs.Straight.Looking.{looks};
 ghost use Rattle.map_machines.specs.Lookup.{looking};
 
@@ -52,7 +52,7 @@ pub(crate) fn goes_on<R: Wait, K: Eq + Hash, V, S: Hashes<K>>(
     requires looks { LooksFor key.now (looks root mode hash stands) seat.old.view }
     ensures same { (seat.new.base ≡ seat.old.base) × (seat.new.id ≡ seat.old.id) × (seat.new.away ≡ seat.old.away) }
     ensures looked { HasLooked K.eq key.now result seat.new.view }
-    ensures told { HasTold (found_of result) seat.old.view seat.new.view }
+    ensures told { HasProgressed (found_of result) seat.old.view seat.new.view }
     ensures stays { StaysThere seat.old.view seat.new.view }
 {
     let lookup = Lookup {

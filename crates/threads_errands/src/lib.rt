@@ -1,4 +1,4 @@
-//! Seats of a memory of maps, under the rule of maps: one is sent to make a map, to look a key up there, and to run a call on one key, by the steps of the machines.
+//! Seats of a memory of maps, under the rule of maps: one is sent to make a map, to look a key up there, and to run a call there, by the steps of the machines.
 #![tactic(auto)]
 
 mod errands;
@@ -7,6 +7,6 @@ mod memory;
 mod turns;
 mod within;
 
-pub use errands::{Does, Finds, Makes, MakesPair, RemovesIf};
+pub use errands::{Counts, Does, Finds, Makes, MakesPair, RemovesIf};
 pub use memory::memory_for;
-pub use within::Ran;
+pub use within::{Halt, Ran, Within};

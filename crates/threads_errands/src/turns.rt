@@ -86,3 +86,27 @@ impl<K, V, S, B: Says<K, V>> Turn<Fixed, View<K, V, S>> for Telling<B> {
 
     ghost to = { λ _ v w. (v.work ≡ Calls B.machine) × (w ≡ replied v B.machine B.reply) };
 }
+
+/// Which call is asked for its next pair.
+pub trait Asks<K, V> {
+    ghost use Rattle.papaya_raw.specs.declared.machines.machine.Machine.{Machine};
+
+    ghost machine: { Machine K V K };
+}
+
+impl<K, V> Asks<K, V> for Brand {
+    ghost use Rattle.threads_errands.specs.Asking.{counts_none};
+
+    ghost machine = { counts_none };
+}
+
+/// A call is asked for its next pair.
+pub struct Asking<B>(PhantomData<B>);
+
+impl<K, V, S, B: Asks<K, V>> Turn<Fixed, View<K, V, S>> for Asking<B> {
+    ghost use Rattle.std.specs.Prelude.{◌≡◌};
+    ghost use Rattle.threads_rule.specs.Views.Begun.{asked};
+    ghost use Rattle.threads_rule.specs.declared.view.SeatWork.TheVariants.{Calls};
+
+    ghost to = { λ _ v w. (v.work ≡ Calls B.machine) × (w ≡ asked v B.machine) };
+}

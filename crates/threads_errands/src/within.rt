@@ -3,10 +3,13 @@ ghost use Rattle.std.specs.Prelude.{◌≡◌, ◌≢◌, None};
 
 mod asking;
 mod calling;
+mod counting;
 mod looking;
 mod making;
 mod memory;
+mod sweeping;
 
+pub use asking::Halt;
 pub use calling::Ran;
 use map_tables::{Hashes, Node};
 use seize_blocks::{Blocks, Seat};
@@ -24,8 +27,8 @@ pub struct Within<'a, K: Eq, V, S: Hashes<K>> {
 }
 
 impl<'a, K: Eq, V, S: Hashes<K>> Within<'a, K, V, S> {
-    /// The errand begins. Numbers for blocks are looked for from `near` on.
-    pub(crate) fn new(
+    /// Begins the errand. Numbers for blocks are looked for from `near` on.
+    pub fn new(
         blocks: &'a Blocks<Node<K, V>, OfMaps<S>>,
         seat: &'a mut Seat<Node<K, V>, OfMaps<S>>,
         near: u64,
@@ -42,5 +45,10 @@ impl<'a, K: Eq, V, S: Hashes<K>> Within<'a, K, V, S> {
             near,
             made: false,
         }
+    }
+
+    /// Tells from where on it looks for the numbers of blocks next.
+    pub fn near(&self) -> u64 {
+        self.near
     }
 }

@@ -4,3 +4,7 @@ pub mod Handing
 pub mod Looking
 pub mod Making
 pub mod Runs
+pub mod Stepping
+pub mod Telling
+pub mod Counting
+pub mod Sweeping

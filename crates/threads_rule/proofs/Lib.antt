@@ -1,3 +1,4 @@
 pub mod CallKinds
 pub mod Views
 pub mod Errands
+mod Samples

@@ -11,6 +11,7 @@ mod Whose
 mod Alone
 mod Sections
 mod Looked
+mod Shown
 pub mod Pairs
 mod Settled
 mod RowLooks
@@ -36,4 +37,3 @@ pub mod Rows
 pub mod Contents
 pub mod Exact
 pub mod Laws
-mod Samples

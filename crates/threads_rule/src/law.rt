@@ -1,7 +1,7 @@
 //! What is promised of the rule of maps.
 ghost use Rattle.std.specs.Prelude.{ℕ, Bool};
-ghost use Rattle.threads_rule.specs.Views.Promises.{RulesStart, SeatsCome, CallsGoOn, CallsTurn, HeldAreShown, CallsBegin, CallsAreTold, MapsAreHandedOn, MakingsBegin, MakingsGoOn};
-ghost use Rattle.threads_rule.specs.Views.Promises.{RowsGoOn, RowsTurn, SettlingsBegin, LookedAreShown, LeaningsBegin, LeaningsEnd, HeldAreKept, KeptAreThere};
+ghost use Rattle.threads_rule.specs.Views.Promises.{RulesStart, SeatsCome, CallsContinue, CallsTurn, HeldAreShown, CallsBegin, CallsAreReplied, CallsAreAsked, MapsAreHandedOn, MakingsBegin, MakingsContinue};
+ghost use Rattle.threads_rule.specs.Views.Promises.{RowsContinue, RowsTurn, SettlingsBegin, LookedAreShown, LeaningsBegin, LeaningsEnd, HeldAreKept, KeptAreThere};
 
 /// Keys may be compared, and hashed by a hasher, in any way. The rule may start where each hasher is lawful, and seats may come; and the next step of a call that a
 /// seat has under way, with an operation or without, may be taken at any moment, whatever the other seats do. What a step
@@ -9,23 +9,24 @@ ghost use Rattle.threads_rule.specs.Views.Promises.{RowsGoOn, RowsTurn, Settling
 pub fn calls_go_on<K, V, S>()
     ensures starts { (same : K → K → Bool) (hash : S → K → ℕ) → RulesStart V same hash }
     ensures come { (same : K → K → Bool) (hash : S → K → ℕ) → SeatsCome V same hash }
-    ensures on { (same : K → K → Bool) (hash : S → K → ℕ) → CallsGoOn V same hash }
+    ensures on { (same : K → K → Bool) (hash : S → K → ℕ) → CallsContinue V same hash }
     ensures turn { (same : K → K → Bool) (hash : S → K → ℕ) → CallsTurn V same hash }
     ensures held { (same : K → K → Bool) (hash : S → K → ℕ) → HeldAreShown V same hash }
 {}
 
-/// Within its section, or that of a seat that it leans on, a seat that knows a map in incremental mode, and has nothing under way, may begin any call on it; what it has under way may be told anything; and a
+/// Within its section, or that of a seat that it leans on, a seat that knows a map in incremental mode, and has nothing under way, may begin any call on it; what it has under way may be told anything, or asked for its next pair; and a
 /// map that one seat knows may be handed on to another one that has nothing under way.
 pub fn calls_begin<K, V, S>()
     ensures begin { (same : K → K → Bool) (hash : S → K → ℕ) → CallsBegin V same hash }
-    ensures told { (same : K → K → Bool) (hash : S → K → ℕ) → CallsAreTold V same hash }
+    ensures told { (same : K → K → Bool) (hash : S → K → ℕ) → CallsAreReplied V same hash }
+    ensures asked { (same : K → K → Bool) (hash : S → K → ℕ) → CallsAreAsked V same hash }
     ensures handed { (same : K → K → Bool) (hash : S → K → ℕ) → MapsAreHandedOn V same hash }
 {}
 
 /// A seat that holds no slot, and has nothing under way, may begin to make a map; and the next operation of a making may be made at any moment, whatever the other seats do.
 pub fn makings_go_on<K, V, S>()
     ensures begin { (same : K → K → Bool) (hash : S → K → ℕ) → MakingsBegin V same hash }
-    ensures on { (same : K → K → Bool) (hash : S → K → ℕ) → MakingsGoOn V same hash }
+    ensures on { (same : K → K → Bool) (hash : S → K → ℕ) → MakingsContinue V same hash }
 {}
 
 /// A seat that has nothing under way, and holds no slot, may come to lean on one that is within its section, and back: calls of it are within that one's section then, and
@@ -40,7 +41,7 @@ pub fn leanings_begin<K, V, S>()
 /// A seat that has no call and no making under way, and on which nobody leans, may take a slot, enter, leave, refresh, try its batch and give its slot up: each row may begin, go on and end at any
 /// moment, whatever the other seats do; and what a settling is to look at is there.
 pub fn rows_go_on<K, V, S>()
-    ensures on { (same : K → K → Bool) (hash : S → K → ℕ) → RowsGoOn V same hash }
+    ensures on { (same : K → K → Bool) (hash : S → K → ℕ) → RowsContinue V same hash }
     ensures turn { (same : K → K → Bool) (hash : S → K → ℕ) → RowsTurn V same hash }
     ensures settle { (same : K → K → Bool) (hash : S → K → ℕ) → SettlingsBegin V same hash }
     ensures looked { (same : K → K → Bool) (hash : S → K → ℕ) → LookedAreShown V same hash }

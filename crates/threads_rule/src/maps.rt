@@ -12,7 +12,7 @@ pub struct OfMaps<S>(PhantomData<S>);
 impl<K: Eq, V, S: Hashes<K>> Rule<Node<K, V>> for OfMaps<S> {
     ghost use Rattle.threads_rule.specs.Views.Rule.{MapsWorld, Holds, KeepsFor, Leans, at_rest};
     ghost use Rattle.threads_rule.specs.Views.Told.{told};
-    ghost use Rattle.threads_rule.specs.Views.Notes.{IsResting};
+    ghost use Rattle.threads_rule.specs.Views.Notes.{SeatIsQuiescent};
     ghost use Rattle.threads_rule.specs.Views.Resting.{resting_stay, upright, leaning_stay};
 
     type View = View<K, V, S>;
@@ -29,7 +29,7 @@ impl<K: Eq, V, S: Hashes<K>> Rule<Node<K, V>> for OfMaps<S> {
 
     ghost newcomer = { λ _. at_rest };
 
-    ghost rests = { IsResting };
+    ghost rests = { SeatIsQuiescent };
 
     ghost newcomers_rest = { λ _. tt };
 

@@ -14,9 +14,9 @@ use Rattle.run_shows.specs.Given.TablesDeclared.node.Node.TheVariants as node
 use Rattle.run_shows.specs.Given.ReservesDeclared.sweep.Sweep.{Sweep}
 use Rattle.run_shows.specs.Given.ReservesDeclared.sweep.Sweeping.{Sweeping}
 use Rattle.run_shows.specs.Given.ReservesDeclared.sweep.Sweeping.TheVariants as sweeping
-use Rattle.run_shows.specs.Given.RawCallAsks.{absent_told, present_told, told_at, computing, updating, updating_or_inserting, trying_to_insert_with, removing_if}
+use Rattle.run_shows.specs.Given.RawCallAsks.{absent_replied, present_replied, replied_at, computing, updating, updating_or_inserting, trying_to_insert_with, removing_if}
 use Rattle.run_shows.specs.Given.RawCallPoints.{getting, removing, inserting, trying_to_insert}
-use Rattle.run_shows.specs.Given.RawMachine.{machine_plan, machine_replied, machine_asked, is_ready, sweep_told}
+use Rattle.run_shows.specs.Given.RawMachine.{machine_plan, machine_replied, machine_asked, is_ready, sweep_with_reply}
 use Rattle.run_shows.specs.Given.RawDeclared.machines.asking.Asking.TheVariants as asking
 use Rattle.run_shows.specs.Given.RawDeclared.machines.asking.Gap.{Gap}
 use Rattle.run_shows.specs.Given.RawDeclared.machines.asking.MachineReply.{MachineReply}
@@ -29,14 +29,14 @@ use Rattle.run_shows.specs.Given.RawDeclared.machines.call.KeyCall.{KeyCall}
 use Rattle.run_shows.specs.Given.RawDeclared.machines.machine.Machine.{Machine}
 use Rattle.run_shows.specs.Given.RawDeclared.machines.machine.Machine.TheVariants as kinds
 use Rattle.run_shows.specs.Given.RawDeclared.machines.progress.Progress.{Progress}
-use Rattle.owner_facts.specs.Given.PointsSteps.{AreLawful, told_first}
-use Rattle.owner_facts.specs.Given.CallersAsked.{told_before}
+use Rattle.owner_facts.specs.Given.PointsSteps.{AreLawful, first_reply}
+use Rattle.owner_facts.specs.Given.CallersAsked.{replies_before}
 use Rattle.owner_facts.specs.Given.CallersKind.{gets, removes, inserts, tries_to_insert, computes, updates, updates_or_inserts, tries_to_insert_with, removes_if}
 use Rattle.owner_facts.specs.Given.CallersPairs.{Given, Begun, IsTold}
 use Rattle.owner_facts.specs.Given.CallersTogether.{UnderWay, OnKey, ForRoom, Counting, OverAll, IsBegun}
 use Rattle.owner_facts.specs.Given.CallersTogether as begins
 use Rattle.owner_facts.specs.Given.FinishesEndings.{EndingsTogether}
-use Rattle.owner_facts.specs.Given.FinishesMachines.{machine_of, MachineStepsAmong, ToldOfKind}
+use Rattle.owner_facts.specs.Given.FinishesMachines.{machine_of, MachineStepsWithEndings, RepliedOfKind}
 use Rattle.owner_facts.specs.Given.FinishesMaps.{Standing, with_call}
 use Rattle.owner_facts.proofs.Given.FinishesAmong.Calls.{calls_begin_among}
 use Rattle.owner_facts.proofs.Given.FinishesAmong.Countings.{countings_begin_among}
@@ -67,7 +67,7 @@ asked_machine (OverAll o) = refl
 
 -- a machine that does not take a reply is as it was
 module _ {K V Q : Type 0} (c : KeyCall K V Q) where
-  absent_refused : (takes : Takes) (gap : Gap) (said : MachineReply V) → is_err (absent_told takes c gap said).1 ≡ true → (absent_told takes c gap said).0 ≡ c
+  absent_refused : (takes : Takes) (gap : Gap) (said : MachineReply V) → is_err (absent_replied takes c gap said).1 ≡ true → (absent_replied takes c gap said).0 ≡ c
   absent_refused takes.Values gap (reply.Insert value) e = absurd (cc e)
   absent_refused takes.Changes gap (reply.Insert value) e = absurd (cc e)
   absent_refused takes.Changes gap reply.Remove e = absurd (cc e)
@@ -77,7 +77,7 @@ module _ {K V Q : Type 0} (c : KeyCall K V Q) where
   absent_refused takes.Choices gap reply e = refl
   absent_refused takes.Nothing gap reply e = refl
 
-  present_refused : (takes : Takes) (word : ℕ) (reply : MachineReply V) → is_err (present_told takes c word reply).1 ≡ true → (present_told takes c word reply).0 ≡ c
+  present_refused : (takes : Takes) (word : ℕ) (reply : MachineReply V) → is_err (present_replied takes c word reply).1 ≡ true → (present_replied takes c word reply).0 ≡ c
   present_refused takes.Values word (reply.Insert value) e = absurd (cc e)
   present_refused takes.Changes word (reply.Insert value) e = absurd (cc e)
   present_refused takes.Changes word reply.Remove e = absurd (cc e)
@@ -89,12 +89,12 @@ module _ {K V Q : Type 0} (c : KeyCall K V Q) where
   present_refused takes.Choices word _ e = refl
   present_refused takes.Nothing word reply e = refl
 
-  key_refused : (stands : Calling) (reply : MachineReply V) → is_err (told_at stands c reply).1 ≡ true → (told_at stands c reply).0 ≡ c
+  key_refused : (stands : Calling) (reply : MachineReply V) → is_err (replied_at stands c reply).1 ≡ true → (replied_at stands c reply).0 ≡ c
   key_refused (at.Asks (asking.Absent gap)) reply e = absent_refused c.replies.takes gap reply e
   key_refused (at.Asks (asking.Present word)) reply e = present_refused c.replies.takes word reply e
   key_refused _ reply e = refl
 
-sweep_refused : {V : Type 0} (stands : Sweeping) (c : Sweep) (reply : MachineReply V) → is_err (sweep_told stands c reply).1 ≡ true → (sweep_told stands c reply).0 ≡ c
+sweep_refused : {V : Type 0} (stands : Sweeping) (c : Sweep) (reply : MachineReply V) → is_err (sweep_with_reply stands c reply).1 ≡ true → (sweep_with_reply stands c reply).0 ≡ c
 sweep_refused (sweeping.Asks word) c reply.Yes e = absurd (cc e)
 sweep_refused (sweeping.Asks word) c reply.No e = absurd (cc e)
 sweep_refused (sweeping.Asks word) c _ e = refl
@@ -108,7 +108,7 @@ refused_same (kinds.Count c) reply e = refl
 
 -- what goes on as it was may have been told anything
 pub told_nothing : {K V : Type 0} (same : K → K → Bool) (batch_size roots : ℕ) (slot : ℕ → ℕ) (standing : Standing K) (i : ℕ) (reply : MachineReply V) (u : UnderWay K V K)
-    → ToldOfKind V same same batch_size roots slot standing i u reply u
+    → RepliedOfKind V same same batch_size roots slot standing i u reply u
 told_nothing same batch_size roots slot standing i reply (OnKey k) = inr refl
 told_nothing same batch_size roots slot standing i reply (OverAll o) = inr refl
 told_nothing same batch_size roots slot standing i reply (ForRoom r) = refl
@@ -160,7 +160,7 @@ module _ {K V S : Type 0} (same : K → K → Bool) (hash : S → K → ℕ) (ba
       by (Compute key) within = on within (same key) (IsTold computes (Some key) []) (computing (its slot standing i) (standing.hash key) key) (begins.Computes key)
       by (Update key) within = on within (same key) (IsTold updates (Some key) []) (updating (its slot standing i) (standing.hash key) key) (begins.Updates key)
       by (UpdateOrInsert key absent) within =
-          on within (same key) (IsTold updates_or_inserts (Some key) (told_before absent)) (updating_or_inserting (its slot standing i) (standing.hash key) key (told_first absent))
+          on within (same key) (IsTold updates_or_inserts (Some key) (replies_before absent)) (updating_or_inserting (its slot standing i) (standing.hash key) key (first_reply absent))
           (begins.UpdatesOrInserts key absent)
       by (TryToInsertWith key) within =
           on within (same key) (IsTold tries_to_insert_with (Some key) []) (trying_to_insert_with (its slot standing i) (standing.hash key) key) (begins.TriesToInsertWith key)
@@ -192,7 +192,7 @@ module _ {K V S : Type 0} (same : K → K → Bool) (hash : S → K → ℕ) (ba
   came : (g : Grant) (standing : Standing K) (u : UnderWay K V K) → s.maps m ≡ Some standing → s.calls m i ≡ Some u
       → (m2 : Mem (Node K V)) (machine : Machine K V K) (progress : Progress (Node K V)) → call_steps same hash batch_size roots slot s g (standing, u) ≡ Some (m2, (machine, progress)) → Came g
   came g standing u stands here m2 machine progress computed =
-      let did : MachineStepsAmong V same same batch_size roots slot s.world s.maps s.calls s.makers s.enders m standing i m2 u machine progress =
+      let did : MachineStepsWithEndings V same same batch_size roots slot s.world s.maps s.calls s.makers s.enders m standing i m2 u machine progress =
       (machines_stand_among V same same batch_size roots slot s.world s.maps s.calls s.makers s.enders all m standing stands i u here).1 m2 machine progress
       (was_stepped s.world.memory g (machine_plan same same standing.hash (machine_of u)) (m2, (machine, progress)) computed) in (
         OfCall progress,

@@ -32,8 +32,8 @@ use Rattle.run_shows.specs.Given.RawDeclared.machines.progress.Progress.TheVaria
 use Rattle.owner_facts.specs.Given.PointsFactsTables.{CountsShards, SumFacts}
 use Rattle.owner_facts.specs.Given.CallersTogether.{UnderWay, OnKey, ForRoom, Counting, OverAll, in_slot}
 use Rattle.owner_facts.proofs.Given.CallersTogether.At.{at_same, at_other}
-use Rattle.owner_facts.specs.Given.FinishesEndings.{StepsOfEnding, MakingStepsAmong}
-use Rattle.owner_facts.specs.Given.FinishesMachines.{machine_of, GoesOnAs}
+use Rattle.owner_facts.specs.Given.FinishesEndings.{StepsOfEnding, MakingStepsWithEndings}
+use Rattle.owner_facts.specs.Given.FinishesMachines.{machine_of, ContinuesAs}
 use Rattle.owner_facts.specs.Given.FinishesMaps.{Standing, with_call}
 use Rattle.many_acts.specs.Acts.Acts.{Act, Answer, OfCall, Wanted, Count, its, begun, BeginsCall, StepsCall, TellsCall, AsksCall, StopsCall, BeginsMaking, StepsMaking, BeginsEnding, StepsEnding, BeginsRow, StepsRow}
 use Rattle.many_acts.specs.Acts.Counts.{HasRead, is_its, next_shard, read_on, shard_of_call, read_by, words_on, words_read, CountingsAddUp, CountingsAnswerTheSum}
@@ -68,7 +68,7 @@ another i m j n e a b = absurd (grind (arith, e, a, b))
 
 module _ {K V : Type 0} where
   -- a call that goes on as a counting is that machine
-  as_counting : (machine : Machine K V K) (told : Progress (Node K V)) (next : Option (UnderWay K V K)) (c : Sum) → GoesOnAs machine told next → next ≡ Some (Counting c) → machine ≡ kinds.Count c
+  as_counting : (machine : Machine K V K) (told : Progress (Node K V)) (next : Option (UnderWay K V K)) (c : Sum) → ContinuesAs machine told next → next ≡ Some (Counting c) → machine ≡ kinds.Count c
   as_counting machine told next c goes is = by told goes
     where
       under : (x : UnderWay K V K) → next ≡ Some x → machine_of x ≡ machine → machine ≡ kinds.Count c
@@ -77,7 +77,7 @@ module _ {K V : Type 0} where
           some_is : (a b : UnderWay K V K) → Some a ≡ Some b → a ≡ b
           some_is a b e = cc e
 
-      by : (told : Progress (Node K V)) → GoesOnAs machine told next → machine ≡ kinds.Count c
+      by : (told : Progress (Node K V)) → ContinuesAs machine told next → machine ≡ kinds.Count c
       by progress.Goes g = under g.0 g.1 g.2
       by (progress.Asks about) g = under g.0 g.1 g.2
       by progress.Waits g = under g.0 g.1 g.2
@@ -138,7 +138,7 @@ module _ {K V S : Type 0} (same : K → K → Bool) (hash : S → K → ℕ) (ba
             let same_one : c3 ≡ c2 = cc (is, machine_is) in subst (λ (x : Sum). HasRead x (next_shard s.world.memory c c.stands ++ words)) same_one added.0
         counts c here ((c3, counted_as.Waits), is, told_is, added) = absurd added
         counts c here ((c3, counted_as.Done count), is, told_is, added) =
-            absurd (cc (next, subst (λ (p : Progress (Node K V)). GoesOnAs came.machine p came.did.next) told_is came.did.goes_on))
+            absurd (cc (next, subst (λ (p : Progress (Node K V)). ContinuesAs came.machine p came.did.next) told_is came.did.goes_on))
         counts c here ((c3, counted_as.Refused fault), is, told_is, added) = absurd added
 
         by : (u : UnderWay K V K) → came.call ≡ u → HasRead c2 (shard_of_call s.world.memory (s.calls m i) ++ words)
@@ -207,7 +207,7 @@ module _ {K V S : Type 0} (same : K → K → Bool) (hash : S → K → ℕ) (ba
     by_act (BeginsMaking j map hasher given places) told (none, is) = as_it_was (ap (λ (x : Scene K V). x.calls) is)
     by_act (StepsMaking j g) told (b, makes, m2, machine, end, computed, told_is, did, came) = by end did came
       where
-        by : (end : Counted Setting) (did : MakingStepsAmong V same same batch_size roots slot s.world s.maps s.calls s.makers s.enders j b m2 (machine, end))
+        by : (end : Counted Setting) (did : MakingStepsWithEndings V same same batch_size roots slot s.world s.maps s.calls s.makers s.enders j b m2 (machine, end))
             → MakingCame same hash batch_size roots slot s j b did.step.w2 machine n end → HasRead c words
         by counted_as.Goes did is = as_it_was (ap (λ (x : Scene K V). x.calls) is)
         by counted_as.Waits did never = absurd never

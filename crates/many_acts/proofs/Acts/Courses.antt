@@ -29,7 +29,7 @@ use Rattle.run_shows.specs.Given.RawDeclared.machines.end_map.EndMap.{EndMap}
 use Rattle.run_shows.specs.Given.RawDeclared.machines.machine.Machine.{Machine}
 use Rattle.run_shows.specs.Given.RawDeclared.machines.machine.Machine.TheVariants as kinds
 use Rattle.run_shows.specs.Given.RawDeclared.machines.progress.Progress.{Progress as CallProgress}
-use Rattle.owner_facts.specs.Given.PointsSteps.{told_first}
+use Rattle.owner_facts.specs.Given.PointsSteps.{first_reply}
 use Rattle.owner_facts.specs.Given.CallersTogether.{UnderWay, OnKey, ForRoom, Counting, OverAll, in_slot}
 use Rattle.owner_facts.proofs.Given.CallersTogether.At.{at_same, at_other}
 use Rattle.owner_facts.proofs.Given.CallersTogether.Users.{events_rows}
@@ -79,7 +79,7 @@ begins_as {K} same slot i s t e (Insert key value) = ap (λ (x : Setting × (K �
 begins_as {K} same slot i s t e (TryToInsert key value) = ap (λ (x : Setting × (K → ℕ)). kinds.Key (trying_to_insert (in_slot x.0 (slot i)) (x.1 key) key value)) e
 begins_as {K} same slot i s t e (Compute key) = ap (λ (x : Setting × (K → ℕ)). kinds.Key (computing (in_slot x.0 (slot i)) (x.1 key) key)) e
 begins_as {K} same slot i s t e (Update key) = ap (λ (x : Setting × (K → ℕ)). kinds.Key (updating (in_slot x.0 (slot i)) (x.1 key) key)) e
-begins_as {K} same slot i s t e (UpdateOrInsert key absent) = ap (λ (x : Setting × (K → ℕ)). kinds.Key (updating_or_inserting (in_slot x.0 (slot i)) (x.1 key) key (told_first absent))) e
+begins_as {K} same slot i s t e (UpdateOrInsert key absent) = ap (λ (x : Setting × (K → ℕ)). kinds.Key (updating_or_inserting (in_slot x.0 (slot i)) (x.1 key) key (first_reply absent))) e
 begins_as {K} same slot i s t e (TryToInsertWith key) = ap (λ (x : Setting × (K → ℕ)). kinds.Key (trying_to_insert_with (in_slot x.0 (slot i)) (x.1 key) key)) e
 begins_as {K} same slot i s t e (RemoveIf key) = ap (λ (x : Setting × (K → ℕ)). kinds.Key (removing_if (in_slot x.0 (slot i)) (x.1 key) key)) e
 begins_as {K} same slot i s t e (GetKeyValue key) = ap (λ (x : Setting × (K → ℕ)). kinds.Key (getting (in_slot x.0 (slot i)) (x.1 key) key)) e

@@ -16,11 +16,11 @@ use Rattle.run_shows.specs.Given.ResizeDeclared.new_map.NewMap.{NewMap}
 use Rattle.run_shows.specs.Given.RawDeclared.machines.end_map.EndMap.{EndMap}
 use Rattle.owner_facts.proofs.Given.CallersTogether.At.{at_other, at_same}
 use Rattle.owner_facts.specs.Given.CallersTogether.{UnderWay}
-use Rattle.owner_facts.specs.Given.FinishesEndings.{Finishing, MakingStepsAmong, StepsOfEnding, waiting_by}
+use Rattle.owner_facts.specs.Given.FinishesEndings.{Finishing, MakingStepsWithEndings, StepsOfEnding, waiting_by}
 use Rattle.owner_facts.specs.Given.FinishesFactsEnds.{Deed, taken_by}
 use Rattle.owner_facts.specs.Given.FinishesMakings.{Beginning}
 use Rattle.owner_facts.specs.Given.FinishesMaps.{Standing}
-use Rattle.run_shows.specs.Reclaims.Left.{GoesOnBy, IsSomebodys, LeftAmong}
+use Rattle.run_shows.specs.Reclaims.Left.{ContinuesBy, IsSomebodys, LeftWithEndings}
 use Rattle.run_shows.specs.Reclaims.Reclaims.{IsRootOf, RootLeads}
 use Rattle.run_shows.proofs.Reclaims.Left.Calls.{machines_leave_it, guards_leave_it}
 use Rattle.run_shows.proofs.Reclaims.Left.Endings.{endings_begin_and_leave_it, endings_leave_it}
@@ -36,7 +36,7 @@ use Rattle.run_shows.proofs.Given.General.{same_some}
 -- an end goes on, with what it has reclaimed by now, and what waits
 pub goes_on_by : {K V Q : Type 0} (same : K → K → Bool) (asks : Q → K → Bool) (batch_size roots : ℕ) (slot : ℕ → ℕ) (w : World (Node K V)) (maps : ℕ → Option (Standing K))
     (calls : ℕ → ℕ → Option (UnderWay K V Q)) (makers : ℕ → Option (Beginning K)) (enders : ℕ → Option (Finishing K V)) (f : Finishing K V) (machine : EndMap) (deed : Deed) (back : List ℕ)
-    → taken_by deed ≡ back → GoesOnBy V same asks batch_size roots slot w maps calls makers enders f deed (record f { machine = machine; back = f.back ++ back; waits = f.waits ++ waiting_by deed })
+    → taken_by deed ≡ back → ContinuesBy V same asks batch_size roots slot w maps calls makers enders f deed (record f { machine = machine; back = f.back ++ back; waits = f.waits ++ waiting_by deed })
 goes_on_by same asks batch_size roots slot w maps calls makers enders f machine deed back taken =
     record { setting_is = refl; chart_is = refl; blocks_are = refl; back_is = ap (λ (l : List ℕ). f.back ++ l) (sym taken); waits_are = refl }
 
@@ -63,7 +63,7 @@ module _ {K V : Type 0} (roots : ℕ) (w : World (Node K V)) (maps : ℕ → Opt
   somebodys_as s r e root (inl is) = inl (root_as s r e root is)
   somebodys_as s r e root (inr other) = inr other
 
-  left_as : (s r : Standing K) → s.setting ≡ r.setting → (lists : ℕ → List ℕ) → LeftAmong roots w (with_at maps k (Some s)) makers enders lists → LeftAmong roots w (with_at maps k (Some r)) makers enders lists
+  left_as : (s r : Standing K) → s.setting ≡ r.setting → (lists : ℕ → List ℕ) → LeftWithEndings roots w (with_at maps k (Some s)) makers enders lists → LeftWithEndings roots w (with_at maps k (Some r)) makers enders lists
   left_as s r e lists left = record {
     root = λ root below. (elim (left.root root below) as (λ _. IsSomebodys (with_at maps k (Some r)) makers enders root ⊎ RootLeads w root (lists root)) [
       | inl is ↦ inl (somebodys_as s r e root is)
@@ -87,7 +87,7 @@ module _ {K V S : Type 0} (same : K → K → Bool) (hash : S → K → ℕ) (ba
   to x is so = (lists, subst (λ (y : Scene K V). Is y lists) (sym is) so)
 
   made : (i : ℕ) (b : Beginning K) → s.makers i ≡ Some b → (m2 : Mem (Node K V)) (machine : NewMap) (end : Advance Setting)
-      (did : MakingStepsAmong V same same batch_size roots slot s.world s.maps s.calls s.makers s.enders i b m2 (machine, end)) → MakingCame same hash batch_size roots slot s i b did.step.w2 machine n end → Then
+      (did : MakingStepsWithEndings V same same batch_size roots slot s.world s.maps s.calls s.makers s.enders i b m2 (machine, end)) → MakingCame same hash batch_size roots slot s i b did.step.w2 machine n end → Then
   made i b makes m2 machine progress.Goes did is =
       to _ is (makings_leave_it V same same batch_size roots slot s.world s.maps s.calls s.makers s.enders lists all left i b makes m2 (machine, progress.Goes) did)
   made i b makes m2 machine progress.Waits did never = absurd never
@@ -102,7 +102,7 @@ module _ {K V S : Type 0} (same : K → K → Bool) (hash : S → K → ℕ) (ba
   ended i f ends m2 machine end did came = by end did came
     where
       goes : (e : Settled (Node K V)) (d : StepsOfEnding V same same batch_size roots slot s.world s.maps s.calls s.makers s.enders i f m2 (machine, e)) (back : List ℕ) → taken_by d.deed ≡ back
-          → LeftAmong roots d.w2 s.maps s.makers (with_at s.enders i (Some (record f { machine = machine; back = f.back ++ back; waits = f.waits ++ waiting_by d.deed }))) lists
+          → LeftWithEndings roots d.w2 s.maps s.makers (with_at s.enders i (Some (record f { machine = machine; back = f.back ++ back; waits = f.waits ++ waiting_by d.deed }))) lists
       goes e d back taken =
           (endings_leave_it V same same batch_size roots slot s.world s.maps s.calls s.makers s.enders lists all left i f ends m2 (machine, e) d).0
           (record f { machine = machine; back = f.back ++ back; waits = f.waits ++ waiting_by d.deed })
@@ -110,7 +110,7 @@ module _ {K V S : Type 0} (same : K → K → Bool) (hash : S → K → ℕ) (ba
 
       by : (e : Settled (Node K V)) (d : StepsOfEnding V same same batch_size roots slot s.world s.maps s.calls s.makers s.enders i f m2 (machine, e)) → EndingCame same hash batch_size roots slot s i f d.w2 d.deed machine n e → Then
       by settled.Goes d (none, is) =
-          to _ is (subst (λ (x : Finishing K V). LeftAmong roots d.w2 s.maps s.makers (with_at s.enders i (Some x)) lists) (goes_on_same f machine (f.waits ++ waiting_by d.deed)) (goes settled.Goes d [] none))
+          to _ is (subst (λ (x : Finishing K V). LeftWithEndings roots d.w2 s.maps s.makers (with_at s.enders i (Some x)) lists) (goes_on_same f machine (f.waits ++ waiting_by d.deed)) (goes settled.Goes d [] none))
       by settled.Waits d never = absurd never
       by (settled.Gave value) d (b, was, taken, is) = to _ is (goes (settled.Gave value) d (b ∷ []) taken)
       by settled.Done d (none, finished, is) = (

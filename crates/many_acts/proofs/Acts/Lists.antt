@@ -29,11 +29,11 @@ use Rattle.owner_facts.proofs.Given.FinishesAmong.Makings.{makings_stand_among}
 use Rattle.owner_facts.proofs.Given.FinishesAmong.Own.Steps.{endings_stand}
 use Rattle.owner_facts.proofs.Given.FinishesAmong.Rows.{guards_stand_among}
 use Rattle.owner_facts.proofs.Given.FinishesBeside.Makings.Promised.{no_makings_begin}
-use Rattle.owner_facts.proofs.Given.FinishesBeside.Makings.Samples.{start_roots}
+use Rattle.owner_facts.proofs.Given.ManyMapsSamples.Beside.Makings.{start_roots}
 use Rattle.owner_facts.proofs.Given.FinishesBeside.Maps.Comes.{no_maps_begin}
 use Rattle.owner_facts.proofs.Given.PointsMaking.OwnTables.{zero_at}
 use Rattle.run_shows.specs.Reclaims.Left.{IsSomebodys}
-use Rattle.run_shows.specs.Reclaims.Slots.{IsQuiet}
+use Rattle.run_shows.specs.Reclaims.Slots.{IsQuiescent}
 use Rattle.run_shows.proofs.Reclaims.Left.Stays.{left_is_left_behind, nothing_is_left}
 use Rattle.run_shows.proofs.Reclaims.Promised.{reclaiming_begins}
 use Rattle.many_acts.specs.Acts.Acts.{Act, Answer, Nothing, OfReclaiming, BeginsCall, StepsCall, TellsCall, AsksCall, StopsCall, BeginsMaking, StepsMaking, BeginsEnding, StepsEnding, BeginsRow, StepsRow}
@@ -120,14 +120,14 @@ module _ {K V S : Type 0} (same : K → K → Bool) (hash : S → K → ℕ) (ba
     Begins c i = IsReclaimingAll V same batch_size roots slot s i lists c
 
     begins : (i : ℕ) → (IsSome (word_at s.world.memory (Slot 0 HEAD)) → Begins (reclaiming_all batch_size roots) i)
-        × (IsQuiet s.world → Begins (clearing roots) i) × (word_at s.world.memory (Slot 0 HEAD) ≡ None → IsQuiet s.world)
+        × (IsQuiescent s.world → Begins (clearing roots) i) × (word_at s.world.memory (Slot 0 HEAD) ≡ None → IsQuiescent s.world)
     begins i =
         reclaiming_begins V same same batch_size roots slot s.maps s.calls s.makers s.enders s.world i lists word
         (record { together = all; no_calls = λ m j. none_is (s.calls m j) (free.no_call m j); no_makers = λ j. none_is (s.makers j) (free.no_making j); no_enders = λ j. none_is (s.enders j) (free.no_ending j) })
         (λ j. rests_is (s.world.row j) (free.rest j))
         ((left_is_left_behind K V roots s.world s.maps s.makers s.enders lists (λ j. none_is (s.makers j) (free.no_making j)) (λ j. none_is (s.enders j) (free.no_ending j))).0 left)
 
-    quiet : SlotsAreFree s → IsQuiet s.world
+    quiet : SlotsAreFree s → IsQuiescent s.world
     quiet slots = record { rests = λ j. rests_is (s.world.row j) (free.rest j); vacant = λ t. vacant_is (s.world.uses t) (slots.vacant t); none = slots.none }
 
   -- it goes on by a step, or has come to its end, where nothing is left behind roots

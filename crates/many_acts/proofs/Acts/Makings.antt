@@ -17,7 +17,7 @@ use Rattle.run_shows.specs.Given.ResizeDeclared.new_map.NewMap.{NewMap}
 use Rattle.run_shows.specs.Given.RawEndMap.{end_map_plan}
 use Rattle.run_shows.specs.Given.RawDeclared.machines.end_map.EndMap.{EndMap}
 use Rattle.owner_facts.specs.Given.PointsSteps.{AreLawful}
-use Rattle.owner_facts.specs.Given.FinishesEndings.{Finishing, MakingStepsAmong, MakingToldAmong, StepsOfEnding, FinishingTold, waiting_by}
+use Rattle.owner_facts.specs.Given.FinishesEndings.{Finishing, MakingStepsWithEndings, MakingOutcomeWithEndings, StepsOfEnding, FinishingOutcome, waiting_by}
 use Rattle.owner_facts.specs.Given.FinishesMakings.{Beginning}
 use Rattle.owner_facts.proofs.Given.FinishesAmong.Begins.{endings_begin}
 use Rattle.owner_facts.proofs.Given.FinishesAmong.Makings.{makings_stand_among, makings_begin_among}
@@ -50,8 +50,8 @@ module _ {K V S : Type 0} (same : K → K → Bool) (hash : S → K → ℕ) (ba
 
   -- by what a making tells
   module _ (b : Beginning K) (m2 : Mem (Node K V)) (machine : NewMap) where
-    made : (told : Advance Setting) (did : MakingStepsAmong V same same batch_size roots slot s.world s.maps s.calls s.makers s.enders i b m2 (machine, told))
-        → MakingToldAmong V same same batch_size roots slot s.world s.maps s.calls s.makers s.enders i b did.step.w2 (machine, told)
+    made : (told : Advance Setting) (did : MakingStepsWithEndings V same same batch_size roots slot s.world s.maps s.calls s.makers s.enders i b m2 (machine, told))
+        → MakingOutcomeWithEndings V same same batch_size roots slot s.world s.maps s.calls s.makers s.enders i b did.step.w2 (machine, told)
         → (n : Scene K V) × MakingCame same hash batch_size roots slot s i b did.step.w2 machine n told × Stands n
     made progress.Goes did together = (record s { world = did.step.w2; makers = with_at s.makers i (Some (record b { machine = machine })) }, refl, together)
     made progress.Waits did never = absurd never
@@ -63,7 +63,7 @@ module _ {K V S : Type 0} (same : K → K → Bool) (hash : S → K → ℕ) (ba
       → making_steps same hash batch_size roots slot s g b ≡ Some (m2, (machine, told))
       → (answer : Answer K V) × (n : Scene K V) × Led same hash batch_size roots slot (StepsMaking i g) s answer n × Stands n
   making_came g b makes m2 machine told computed =
-      let did : MakingStepsAmong V same same batch_size roots slot s.world s.maps s.calls s.makers s.enders i b m2 (machine, told) =
+      let did : MakingStepsWithEndings V same same batch_size roots slot s.world s.maps s.calls s.makers s.enders i b m2 (machine, told) =
       (makings_stand_among {Q = K} V same same batch_size roots slot s.world s.maps s.calls s.makers s.enders all i b makes).1 m2 (machine, told)
       (was_stepped s.world.memory g (new_map_plan {K = K} {V = V} b.machine) (m2, (machine, told)) computed) in
       let to = made b m2 machine told did did.told in
@@ -89,7 +89,7 @@ module _ {K V S : Type 0} (same : K → K → Bool) (hash : S → K → ℕ) (ba
   -- by what an end tells
   module _ (f : Finishing K V) (m2 : Mem (Node K V)) (machine : EndMap) where
     ended : (told : Settled (Node K V)) (did : StepsOfEnding V same same batch_size roots slot s.world s.maps s.calls s.makers s.enders i f m2 (machine, told))
-        → FinishingTold V same same batch_size roots slot s.world s.maps s.calls s.makers s.enders i f did.w2 did.deed (machine, told)
+        → FinishingOutcome V same same batch_size roots slot s.world s.maps s.calls s.makers s.enders i f did.w2 did.deed (machine, told)
         → (n : Scene K V) × EndingCame same hash batch_size roots slot s i f did.w2 did.deed machine n told × Stands n
     ended settled.Goes did (none, together) =
         (record s { world = did.w2; enders = with_at s.enders i (Some (record f { machine = machine; waits = f.waits ++ waiting_by did.deed })) }, (none, refl), together)

@@ -16,7 +16,7 @@ use Rattle.run_shows.specs.Given.ResizeDeclared.copier.Copier.{Copier}
 use Rattle.run_shows.specs.Given.RawMachine.{machine_plan, machine_asked}
 use Rattle.run_shows.specs.Given.RawDeclared.machines.end_map.EndMap.{EndMap}
 use Rattle.owner_facts.specs.Given.CallersTogether.{UnderWay}
-use Rattle.owner_facts.specs.Given.FinishesEndings.{Finishing, MakingStepsAmong, StepsOfEnding, waiting_by}
+use Rattle.owner_facts.specs.Given.FinishesEndings.{Finishing, MakingStepsWithEndings, StepsOfEnding, waiting_by}
 use Rattle.owner_facts.specs.Given.FinishesFactsEnds.{taken_by}
 use Rattle.owner_facts.specs.Given.FinishesMachines.{machine_of}
 use Rattle.owner_facts.specs.Given.FinishesMakings.{Beginning}
@@ -26,7 +26,7 @@ use Rattle.many_acts.specs.Acts.Leads.{MayBe, AllStand, Led, MakingCame, EndingC
 use Rattle.many_acts.proofs.Acts.Calls.{asked_machine}
 use Rattle.many_acts.proofs.Acts.Left.{goes_on_by, goes_on_same}
 use Rattle.run_shows.proofs.Scenes.NoCall.{none_is}
-use Rattle.many_acts.specs.Carries.Lists.{AreTheirs, ActsKeepTheirs}
+use Rattle.many_acts.specs.Carries.Lists.{AreTheirs, ActsPreserveTheirs}
 use Rattle.many_acts.specs.Carries.Theirs.{copier_of, AllAreTheirs}
 use Rattle.many_acts.proofs.Carries.Endings.{endings_begin_and_keep_theirs, endings_keep_theirs}
 use Rattle.many_acts.proofs.Carries.Guards.{changes_keep_theirs, guards_keep_theirs}
@@ -55,7 +55,7 @@ module _ {K V S : Type 0} (same : K → K → Bool) (hash : S → K → ℕ) (ba
 
   -- by what a making tells
   made : (i : ℕ) (b : Beginning K) → s.makers i ≡ Some b → (m2 : Mem (Node K V)) (machine : NewMap) (end : Advance Setting)
-      (did : MakingStepsAmong V same same batch_size roots slot s.world s.maps s.calls s.makers s.enders i b m2 (machine, end)) → MakingCame same hash batch_size roots slot s i b did.step.w2 machine n end → AreTheirs n
+      (did : MakingStepsWithEndings V same same batch_size roots slot s.world s.maps s.calls s.makers s.enders i b m2 (machine, end)) → MakingCame same hash batch_size roots slot s i b did.step.w2 machine n end → AreTheirs n
   made i b makes m2 machine progress.Goes did is = to _ is (makings_keep_theirs V same same batch_size roots slot s.world s.maps s.calls s.makers s.enders all theirs i b makes m2 (machine, progress.Goes) did.step)
   made i b makes m2 machine progress.Waits did never = absurd never
   made i b makes m2 machine (progress.Done setting) did (standing, is_made, is) =
@@ -109,5 +109,5 @@ module _ {K V S : Type 0} (same : K → K → Bool) (hash : S → K → ℕ) (ba
   by_act (StepsRow i g) may told (w2, computed, happens, maps2, same_maps, told_is, is) =
       to _ is ((guards_keep_theirs V same same batch_size roots slot s.world s.maps s.calls s.makers s.enders all theirs i (λ m. none_is (s.calls m i) (may.0 m)) w2 maps2 same_maps).1 happens)
 
-pub acts_keep_theirs : {K S : Type 0} (V : Type 0) (same : K → K → Bool) (hash : S → K → ℕ) (batch_size roots : ℕ) (slot : ℕ → ℕ) → ActsKeepTheirs V same hash batch_size roots slot
+pub acts_keep_theirs : {K S : Type 0} (V : Type 0) (same : K → K → Bool) (hash : S → K → ℕ) (batch_size roots : ℕ) (slot : ℕ → ℕ) → ActsPreserveTheirs V same hash batch_size roots slot
 acts_keep_theirs V same hash batch_size roots slot s n all stand act may told led theirs = by_act same hash batch_size roots slot s n all stand theirs act may told led

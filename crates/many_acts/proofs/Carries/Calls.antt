@@ -15,9 +15,9 @@ use Rattle.run_shows.specs.Given.TablesDeclared.node.Node.TheVariants as node
 use Rattle.run_shows.specs.Given.ResizeDeclared.copier.Copier.{Copier}
 use Rattle.run_shows.specs.Given.RuleChart.{Chart}
 use Rattle.run_shows.specs.Given.RuleWords.{Blocks}
-use Rattle.run_shows.specs.Given.RuleInWorld.{IsOut, IsKnownBlock, IsOwnBlock, Went}
+use Rattle.run_shows.specs.Given.RuleInWorld.{IsOut, IsKnownBlock, IsOwnBlock, StepSpec}
 use Rattle.owner_facts.proofs.Alone.Handed.RootTurns.{IsPromoted, first_moves}
-use Rattle.owner_facts.specs.Given.CallersSights.{Sight, IsGrown, seen_by}
+use Rattle.owner_facts.specs.Given.CallersSights.{Visible, IsGrown, seen_by}
 use Rattle.owner_facts.specs.Given.CallersTogether.{UnderWay, in_slot, Together}
 use Rattle.owner_facts.proofs.Given.CallersClaims.Charts.{past_moved}
 use Rattle.owner_facts.proofs.Given.CallersTogether.At.{at_other, at_same}
@@ -28,7 +28,7 @@ use Rattle.owner_facts.specs.Given.FinishesMaps.{Standing, MapsTogether, with_ca
 use Rattle.owner_facts.proofs.Given.FinishesBeside.Maps.OtherSteps.{known_out}
 use Rattle.owner_facts.proofs.Given.FinishesBeside.Maps.Steps.{seen_known}
 use Rattle.run_shows.specs.Reclaims.Deferred.{IsLinkedTable}
-use Rattle.many_acts.specs.Carries.Theirs.{copier_of, IsToHandOver, Owes, CanCarry, IsTheirs, AllAreTheirs}
+use Rattle.many_acts.specs.Carries.Theirs.{copier_of, IsToHandOver, HasObligation, CanCarry, IsTheirs, AllAreTheirs}
 use Rattle.many_acts.proofs.Carries.Hands.{step_origin}
 use Rattle.many_acts.proofs.Carries.Owed.{one_some, StandsOn, StandsOnAt, stays_so, hands_on, OwesThen, owed_then, owed_with}
 
@@ -54,8 +54,8 @@ module _ {K Q : Type 0} (V : Type 0) (same : K → K → Bool) (asks : Q → K �
     (w : World (Node K V)) (maps : ℕ → Option (Standing K)) (calls : ℕ → ℕ → Option (UnderWay K V Q)) (enders : ℕ → Option (Finishing K V)) (all : MapsTogether V same asks size slot w maps calls)
     (m : ℕ) (s : Standing K) (here : maps m ≡ Some s) (i : ℕ) (u : UnderWay K V Q) (has : calls m i ≡ Some u)
     (m2 : Mem (Node K V)) (Told : World (Node K V) → Chart K → Blocks → Type 0)
-    (went : Went same s.hash (in_slot s.setting (slot i)) i w s.chart (seen_by s.blocks (s.sights (slot i))) m2 Told)
-    (blocks2 : Blocks) (grown : IsGrown s.chart s.blocks went.blocks2 blocks2) (sights2 : ℕ → Sight) (next : Option (UnderWay K V Q)) where
+    (went : StepSpec same s.hash (in_slot s.setting (slot i)) i w s.chart (seen_by s.blocks (s.sights (slot i))) m2 Told)
+    (blocks2 : Blocks) (grown : IsGrown s.chart s.blocks went.blocks2 blocks2) (sights2 : ℕ → Visible) (next : Option (UnderWay K V Q)) where
   -- the map after the step, and all maps, and all calls
   abbrev pub its : Standing K
   its = record s { chart = went.c2; blocks = blocks2; sights = sights2 }
@@ -103,11 +103,11 @@ module _ {K Q : Type 0} (V : Type 0) (same : K → K → Bool) (asks : Q → K �
 
   module _ (in_it : IsInside (w.uses (slot i))) (b : ℕ) where
     -- whose it was, it is
-    theirs_on : ((t : ℕ) → s.chart.first ≤ t → t < went.c2.first → b ≡ s.blocks.table t → Due b) → (Owes w maps m i u b → Due b)
+    theirs_on : ((t : ℕ) → s.chart.first ≤ t → t < went.c2.first → b ≡ s.blocks.table t → Due b) → (HasObligation w maps m i u b → Due b)
         → IsTheirs w maps calls enders b → IsTheirs went.w2 maps2 calls2 enders b
     theirs_on passes keeps (inr (inl owed)) =
         inr (inl (owed_with w went.w2 maps maps2 calls enders enders m i next b (λ n j v under ne. ((λ rests. rows_are j ∙ rests), stand_on n))
-        (λ v under owes. keeps (subst (λ (x : UnderWay K V Q). Owes w maps m i x b) (one_some (calls m i) v u under has) owes)) owed))
+        (λ v under owes. keeps (subst (λ (x : UnderWay K V Q). HasObligation w maps m i x b) (one_some (calls m i) v u under has) owes)) owed))
     theirs_on passes keeps (inr (inr ending)) = inr (inr ending)
     theirs_on passes keeps (inl (n, r, is, t, from, made, at)) = by (cases_eq n m)
       where
@@ -186,7 +186,7 @@ module _ {K Q : Type 0} (V : Type 0) (same : K → K → Bool) (asks : Q → K �
 
   -- so each is somebody's
   pub went_theirs : IsInside (w.uses (slot i)) → AllAreTheirs w maps calls enders
-      → ((b t : ℕ) → s.chart.first ≤ t → t < went.c2.first → b ≡ s.blocks.table t → Due b) → ((b : ℕ) → Owes w maps m i u b → Due b)
+      → ((b t : ℕ) → s.chart.first ≤ t → t < went.c2.first → b ≡ s.blocks.table t → Due b) → ((b : ℕ) → HasObligation w maps m i u b → Due b)
       → AllAreTheirs went.w2 maps2 calls2 enders
   went_theirs in_it theirs passes keeps b can = by (carried in_it b can)
     where

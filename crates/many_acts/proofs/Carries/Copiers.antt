@@ -37,14 +37,14 @@ use Rattle.owner_facts.proofs.Given.PointsBlocking.Successors.{next_read, rest_b
 use Rattle.owner_facts.proofs.Given.PointsSteps.RootSteps.{is_promoting, root_stays}
 use Rattle.owner_facts.proofs.Given.LateSamples.Plans.{written}
 use Rattle.owner_facts.proofs.Alone.Handed.RootTurns.{IsPromoted, first_moves, first_kept}
-use Rattle.many_acts.specs.Carries.Theirs.{IsDueAt, IsNext, IsAhead, next_of_them}
+use Rattle.many_acts.specs.Carries.Theirs.{IsObligedAt, IsNext, IsAhead, next_of_them}
 use Rattle.many_acts.proofs.Carries.Known.{HasCut, KnowsTables, CopierKnows}
 use Rattle.run_shows.proofs.Given.General.{some_is as is_some_of}
 
 module _ {K V : Type 0} (hash : K → ℕ) (p : Copier) (m m2 : Mem (Node K V)) (end : Copier × Yielding (Node K V) Table) where
   -- what is due next is due next still
-  due_stays : (b : ℕ) (stands : Copying) → (IsRowOfCopier stands → ⊥) → Steps Took value_at m (copier_plan_at hash p stands) m2 end → IsDueAt p stands b
-      → (q : Copier) × (end ≡ (q, outcome.Goes)) × IsDueAt q q.stands b
+  due_stays : (b : ℕ) (stands : Copying) → (IsRowOfCopier stands → ⊥) → Steps Took value_at m (copier_plan_at hash p stands) m2 end → IsObligedAt p stands b
+      → (q : Copier) × (end ≡ (q, outcome.Goes)) × IsObligedAt q q.stands b
   due_stays b copies.Announces row s due = (copying.standing p (copies.Succeeds p.source.link), s.2, due)
   due_stays b (copies.Succeeds table) row s due =
       let d = loaded m (successor_read p table) (Word (table / 2048) NEXT) m2 end s in
@@ -74,7 +74,7 @@ module _ {K V : Type 0} (same : K → K → Bool) (hash : K → ℕ) (setting : 
     (caller : ℕ) (p : Copier) (knows : CopierKnows same hash w caller setting c blocks p) (m2 : Mem (Node K V)) (end : Copier × Yielding (Node K V) Table) where
   -- it is due next, or ahead of it
   abbrev pub IsItsNext : Copier → ℕ → Type 0
-  IsItsNext q b = IsDueAt q q.stands b ⊎ ((is_incremental setting.mode ≡ false) × IsAhead c.past blocks.table (next_of_them q q.stands) q.target.turn b)
+  IsItsNext q b = IsObligedAt q q.stands b ⊎ ((is_incremental setting.mode ≡ false) × IsAhead c.past blocks.table (next_of_them q q.stands) q.target.turn b)
 
   -- it goes on, and is to hand this block over
   abbrev pub GoesOwing : ℕ → Type 0

@@ -16,8 +16,8 @@ use Rattle.owner_facts.specs.Given.FinishesMakings.{Beginning}
 use Rattle.owner_facts.specs.Given.FinishesMaps.{Standing}
 use Rattle.owner_facts.proofs.Given.FinishesEnds.CountedBlocks.{some_last, times-append}
 use Rattle.owner_facts.proofs.Given.FinishesEnds.OrdersOn.{table_later}
-use Rattle.run_shows.specs.Reclaims.Left.{GoesOnBy}
-use Rattle.many_acts.specs.Carries.Promises.{EndingsBeginAndKeepTheirs, EndingsKeepTheirs}
+use Rattle.run_shows.specs.Reclaims.Left.{ContinuesBy}
+use Rattle.many_acts.specs.Carries.Promises.{EndingsBeginAndPreserveTheirs, EndingsPreserveTheirs}
 use Rattle.many_acts.specs.Carries.Theirs.{CanCarry, IsTheirs, AllAreTheirs}
 use Rattle.many_acts.proofs.Carries.Owed.{one_some, stays_so, owed_on}
 
@@ -27,7 +27,7 @@ table_back f t from made = some_last (f.blocks.table t) _ (from_table f.setting 
 
 module _ {K Q : Type 0} (V : Type 0) (same : K → K → Bool) (asks : Q → K → Bool) (batch_size roots : ℕ) (slot : ℕ → ℕ)
     (w : World (Node K V)) (maps : ℕ → Option (Standing K)) (calls : ℕ → ℕ → Option (UnderWay K V Q)) (makers : ℕ → Option (Beginning K)) (enders : ℕ → Option (Finishing K V)) where
-  pub endings_begin_and_keep_theirs : EndingsBeginAndKeepTheirs V same asks batch_size roots slot w maps calls makers enders
+  pub endings_begin_and_keep_theirs : EndingsBeginAndPreserveTheirs V same asks batch_size roots slot w maps calls makers enders
   endings_begin_and_keep_theirs theirs i none m s here no_calls w2 h b can =
       by (theirs b (subst (λ (v : World (Node K V)). IsStillHad (v.hand b)) h can.0, can.1, can.2, ap (λ (v : World (Node K V)). value_at v.memory b) (sym h) ∙ can.3, can.4))
     where
@@ -63,7 +63,7 @@ module _ {K Q : Type 0} (V : Type 0) (same : K → K → Bool) (asks : Q → K �
       by (inr (inr (j, f, ends, t, from, made, at, none_so))) =
           inr (inr (j, f, at_other enders i (Some (finishing_of s w)) j (λ e. let no = none in let has : enders i ≡ Some f = ap enders (sym e) ∙ ends in cc (no, has)) ∙ ends, t, from, made, at, none_so))
 
-  pub endings_keep_theirs : EndingsKeepTheirs V same asks batch_size roots slot w maps calls makers enders
+  pub endings_keep_theirs : EndingsPreserveTheirs V same asks batch_size roots slot w maps calls makers enders
   endings_keep_theirs theirs i f ends m2 end st = (goes_on, over)
     where
       w2 : World (Node K V)
@@ -107,7 +107,7 @@ module _ {K Q : Type 0} (V : Type 0) (same : K → K → Bool) (asks : Q → K �
               its t (subst (λ (x : Finishing K V). x.chart.first ≤ t) it from) (subst (λ (x : Finishing K V). t < x.chart.past) it made)
               (subst (λ (x : Finishing K V). b ≡ x.blocks.table t) it at) (subst (λ (x : Finishing K V). times b x.back ≡ 0) it none)
 
-      goes_on : (f2 : Finishing K V) → GoesOnBy V same asks batch_size roots slot w maps calls makers enders f st.deed f2 → AllAreTheirs w2 maps calls (with_at enders i (Some f2))
+      goes_on : (f2 : Finishing K V) → ContinuesBy V same asks batch_size roots slot w maps calls makers enders f st.deed f2 → AllAreTheirs w2 maps calls (with_at enders i (Some f2))
       goes_on f2 on b can = with_end (Some f2) b its (theirs b (could b can))
         where
           none_then : times b f.back ≡ 0 → times b f2.back ≡ 0

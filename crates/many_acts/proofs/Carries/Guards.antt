@@ -18,8 +18,8 @@ use Rattle.owner_facts.specs.Given.FinishesEndings.{Finishing}
 use Rattle.owner_facts.specs.Given.FinishesMakings.{Beginning}
 use Rattle.owner_facts.specs.Given.FinishesMaps.{Standing, IsSameMap, with_call}
 use Rattle.run_shows.specs.Reclaims.Deferred.{IsLinkedTable}
-use Rattle.many_acts.specs.Carries.Promises.{ChangesKeepTheirs, GuardsKeepTheirs, NoneBegins, OnlyTablesCarry}
-use Rattle.many_acts.specs.Carries.Theirs.{CanCarry, IsOwed, IsTheirs, AllAreTheirs}
+use Rattle.many_acts.specs.Carries.Promises.{ChangesPreserveTheirs, GuardsPreserveTheirs, NoneBegins, OnlyTablesCarry}
+use Rattle.many_acts.specs.Carries.Theirs.{CanCarry, IsObligation, IsTheirs, AllAreTheirs}
 use Rattle.many_acts.proofs.Carries.Hands.{begun_same, still_row}
 use Rattle.many_acts.proofs.Carries.Owed.{StandsOnAt, stays_so, owed_on, owed_with}
 
@@ -41,7 +41,7 @@ module _ {K V Q : Type 0} (w w2 : World (Node K V)) (maps maps2 : ℕ → Option
       (record s { blocks = k.0; sights = k.1 }, k.2, refl, k.3.tables)
 
   -- whose it was, it is, if whoever was to hand it over is to
-  pub theirs_by : (calls2 : ℕ → ℕ → Option (UnderWay K V Q)) → ((n : ℕ) → IsSameMap (maps n) (maps2 n)) → (b : ℕ) → (IsOwed w maps calls enders b → IsOwed w2 maps2 calls2 enders b)
+  pub theirs_by : (calls2 : ℕ → ℕ → Option (UnderWay K V Q)) → ((n : ℕ) → IsSameMap (maps n) (maps2 n)) → (b : ℕ) → (IsObligation w maps calls enders b → IsObligation w2 maps2 calls2 enders b)
       → IsTheirs w maps calls enders b → IsTheirs w2 maps2 calls2 enders b
   theirs_by calls2 same b owes (inr (inl owed)) = inr (inl (owes owed))
   theirs_by calls2 same b owes (inr (inr ending)) = inr (inr ending)
@@ -68,7 +68,7 @@ module _ {K Q : Type 0} (V : Type 0) (same : K → K → Bool) (asks : Q → K �
   not_its : (i : ℕ) → ((m : ℕ) → calls m i ≡ None) → (n j : ℕ) (u : UnderWay K V Q) → calls n j ≡ Some u → j ≢ i
   not_its i none n j u under e = let no = none n in let has : calls n i ≡ Some u = ap (calls n) (sym e) ∙ under in cc (no, has)
 
-  pub guards_keep_theirs : GuardsKeepTheirs V same asks batch_size roots slot w maps calls makers enders
+  pub guards_keep_theirs : GuardsPreserveTheirs V same asks batch_size roots slot w maps calls makers enders
   guards_keep_theirs all theirs i none w2 maps2 maps_same = (begins, goes)
     where
       reached : Reached deferred_word batch_size w
@@ -101,7 +101,7 @@ module _ {K Q : Type 0} (V : Type 0) (same : K → K → Bool) (asks : Q → K �
       by (inr (inl (m, i, u, under, owes))) = absurd (let none = no_calls m i in cc (none, under))
       by (inr (inr (i, f, ends, t, from, made, at, none_so))) = absurd (let none = no_enders i in cc (none, ends))
 
-  pub changes_keep_theirs : ChangesKeepTheirs V same asks batch_size roots slot w maps calls makers enders
+  pub changes_keep_theirs : ChangesPreserveTheirs V same asks batch_size roots slot w maps calls makers enders
   changes_keep_theirs m i next still theirs b can = by (theirs b can)
     where
       by : IsTheirs w maps calls enders b → IsTheirs w maps (with_call calls m i next) enders b

@@ -14,7 +14,7 @@ use Rattle.run_shows.specs.Given.RuleWords.{Blocks}
 use Rattle.owner_facts.specs.Given.PointsFactsCopies.{CopierFacts}
 use Rattle.owner_facts.specs.Given.PointsFactsCopiesBlocking.{CopyingFactsBlocking, CopierFactsBlocking}
 use Rattle.owner_facts.specs.Given.LateFactsReserves.{CopiesWhole, IsEnding}
-use Rattle.owner_facts.specs.Given.LateLateCopies.{LateCopying, LateCopierFacts}
+use Rattle.owner_facts.specs.Given.LateLateCopies.{SupersededCopying, SupersededCopierFacts}
 
 module _ {K V : Type 0} (same : K → K → Bool) (hash : K → ℕ) (w : World (Node K V)) (caller : ℕ) (setting : Setting) (c : Chart K) (blocks : Blocks) where
   -- the tables from this one on, up to its target, are its own: it has unlinked them
@@ -33,7 +33,7 @@ module _ {K V : Type 0} (same : K → K → Bool) (hash : K → ℕ) (w : World 
   fresh_knows p (copies.Succeeds table) (s, unlinked, is) = (s, c.first, is, (unlinked.0, unlinked.1, unlinked.3))
   fresh_knows p _ facts = tt
 
-  late_knows : (began : ℕ) (p : Copier) (stands : Copying) → LateCopying same hash w caller setting c blocks began p stands → KnowsTables p stands
+  late_knows : (began : ℕ) (p : Copier) (stands : Copying) → SupersededCopying same hash w caller setting c blocks began p stands → KnowsTables p stands
   late_knows began p copies.Promotes (s, t, copies_late) = (s, t, copies_late.source, copies_late.target)
   late_knows began p (copies.Succeeds table) (s, t, unlinked, is) = (s, t, is, (unlinked.0, unlinked.1, unlinked.4))
   late_knows began p _ facts = tt
@@ -48,7 +48,7 @@ module _ {K V : Type 0} (same : K → K → Bool) (hash : K → ℕ) (w : World 
   pub blocking_knows : (p : Copier) → CopierFactsBlocking same hash w caller setting c blocks p → CopierKnows p
   blocking_knows p facts = (facts.setting_is, λ blocking. fresh_knows p p.stands facts.point)
 
-  pub left_knows : (began : ℕ) (p : Copier) → LateCopierFacts same hash w caller setting c blocks began p → CopierKnows p
+  pub left_knows : (began : ℕ) (p : Copier) → SupersededCopierFacts same hash w caller setting c blocks began p → CopierKnows p
   left_knows began p facts = (facts.setting_is, λ blocking. late_knows began p p.stands facts.point)
 
   abbrev Whole : Bool → Copier → Type 0

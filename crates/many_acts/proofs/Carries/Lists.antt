@@ -13,14 +13,14 @@ use Rattle.run_shows.specs.Given.SeizeDeclared.states.TheConstants.{HEAD}
 use Rattle.seize_acts.specs.Acts.Answers.{Grant}
 use Rattle.run_shows.specs.Given.TablesNodes.{deferred_word}
 use Rattle.run_shows.specs.Given.TablesDeclared.node.Node.{Node}
-use Rattle.run_shows.specs.Reclaims.Slots.{IsQuiet}
+use Rattle.run_shows.specs.Reclaims.Slots.{IsQuiescent}
 use Rattle.run_shows.proofs.Reclaims.Left.Stays.{left_is_left_behind}
 use Rattle.run_shows.proofs.Reclaims.Promised.{reclaiming_begins}
 use Rattle.many_acts.specs.Acts.Acts.{Answer}
 use Rattle.many_acts.specs.Acts.Doings.{Doing, Does, BeginsReclaiming, BeginsClearing, StepsReclaiming, Chooses, scene_chosen, IsLeft, Stage, reclaiming, behind, MayDo, HasDone}
 use Rattle.many_acts.specs.Acts.Lists.{Course, Reached, LedOn, nothing_done, on_by}
 use Rattle.many_acts.specs.Acts.Reclaiming.{IsReclaimingAll, ReclaimedOn}
-use Rattle.many_acts.specs.Carries.Lists.{AreTheirs, ReclaimsTo, OnlyPairsAreLeft, ListsKeepTheirs, ReclaimingBeginsThere, OnlyPairsWaitThere, AllCanBeReclaimedThere}
+use Rattle.many_acts.specs.Carries.Lists.{AreTheirs, ReclaimsTo, OnlyPairsAreLeft, ListsPreserveTheirs, ReclaimingBeginsThere, OnlyPairsWaitThere, AllCanBeReclaimedThere}
 use Rattle.many_acts.proofs.Carries.Acts.{by_act}
 use Rattle.many_acts.proofs.Carries.Guards.{none_begins}
 use Rattle.many_acts.proofs.Carries.Reclaimed.{reclaiming_comes_to_end}
@@ -95,7 +95,7 @@ module _ {K S : Type 0} (V : Type 0) (same : K → K → Bool) (hash : S → K �
     all_theirs [] x y led theirs = subst (λ (z : Reached V same hash batch_size roots slot). AreTheirs z.0.0) (sym led) theirs
     all_theirs (doing ∷ doings) x y (may, led) theirs = all_theirs doings (on_by V same hash batch_size roots slot course x doing may) y led (theirs_on x doing may theirs)
 
-    pub lists_keep_theirs : ListsKeepTheirs V same hash batch_size roots slot course
+    pub lists_keep_theirs : ListsPreserveTheirs V same hash batch_size roots slot course
     lists_keep_theirs doings x led = all_theirs doings (nothing_done V same hash batch_size roots slot course) x led none_at_first
 
     -- while nobody reclaims all, what ended maps have left is behind roots that are nobody's
@@ -120,8 +120,8 @@ module _ {K S : Type 0} (V : Type 0) (same : K → K → Bool) (hash : S → K �
       where
         begins : (lists : ℕ → List ℕ) × ((i : ℕ)
             → (IsSome (word_at x.0.0.world.memory (Slot 0 HEAD)) → IsReclaimingAll V same batch_size roots slot x.0.0 i lists (reclaiming_all batch_size roots))
-            × (IsQuiet x.0.0.world → IsReclaimingAll V same batch_size roots slot x.0.0 i lists (clearing roots))
-            × (word_at x.0.0.world.memory (Slot 0 HEAD) ≡ None → IsQuiet x.0.0.world))
+            × (IsQuiescent x.0.0.world → IsReclaimingAll V same batch_size roots slot x.0.0 i lists (clearing roots))
+            × (word_at x.0.0.world.memory (Slot 0 HEAD) ≡ None → IsQuiescent x.0.0.world))
         begins = reclaiming_begins_there word doings x led rest
 
         from : (c : ReclaimAll) → IsReclaimingAll V same batch_size roots slot x.0.0 i begins.0 c → (lists : ℕ → List ℕ) × (c : ReclaimAll) × (grants : List Grant) × (n : Scene K V)

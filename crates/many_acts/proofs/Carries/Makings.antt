@@ -30,7 +30,7 @@ use Rattle.owner_facts.specs.Given.FinishesEndings.{Finishing, EndingsTogether}
 use Rattle.owner_facts.specs.Given.FinishesMakings.{Beginning, IsFirstTable, StepsOfMaking}
 use Rattle.owner_facts.specs.Given.FinishesMaps.{Standing, MapsTogether}
 use Rattle.run_shows.specs.Reclaims.Deferred.{IsLinkedTable}
-use Rattle.many_acts.specs.Carries.Promises.{MakingsKeepTheirs}
+use Rattle.many_acts.specs.Carries.Promises.{MakingsPreserveTheirs}
 use Rattle.many_acts.specs.Carries.Theirs.{CanCarry, IsTheirs, AllAreTheirs}
 use Rattle.many_acts.proofs.Carries.Calls.{users_of, out_of}
 use Rattle.many_acts.proofs.Carries.Owed.{stays_so, owed_on}
@@ -124,7 +124,7 @@ module _ {K Q : Type 0} (V : Type 0) (same : K → K → Bool) (asks : Q → K �
       (root_leads same s.hash s.setting.mode s.setting.root w2.memory s.chart s.blocks together.ground.map.map (x * 2048) leads) (λ e. omega (arith, some, e)) in
       let is = k.0 in (m, s, here, s.chart.first, omega arith, k.1, omega (arith, is))
 
-  pub makings_keep_theirs : MakingsKeepTheirs V same asks batch_size roots slot w maps calls makers enders
+  pub makings_keep_theirs : MakingsPreserveTheirs V same asks batch_size roots slot w maps calls makers enders
   makings_keep_theirs all theirs i b makes m2 (n, progress.Goes) st = made_theirs all theirs i b m2 (n, progress.Goes) st maps (λ n s is. is) (λ x some first. absurd first)
   makings_keep_theirs all theirs i b makes m2 (n, progress.Waits) st = made_theirs all theirs i b m2 (n, progress.Waits) st maps (λ n s is. is) (λ x some first. absurd first)
   makings_keep_theirs all theirs i b makes m2 (n, progress.Refused fault) st = made_theirs all theirs i b m2 (n, progress.Refused fault) st maps (λ n s is. is) (λ x some first. absurd first)

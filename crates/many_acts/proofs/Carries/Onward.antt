@@ -15,15 +15,15 @@ use Rattle.seize_acts.specs.Acts.Answers.{Grant, then_on}
 use Rattle.seize_acts.proofs.Acts.Answers.{was_stepped}
 use Rattle.run_shows.specs.Given.TablesNodes.{deferred_word, was_left}
 use Rattle.run_shows.specs.Given.TablesDeclared.node.Node.{Node}
-use Rattle.run_shows.specs.Reclaims.Ends.{ComesToEnd, Comes}
-use Rattle.run_shows.specs.Reclaims.Slots.{IsQuiet}
+use Rattle.run_shows.specs.Reclaims.Ends.{Terminates, Comes}
+use Rattle.run_shows.specs.Reclaims.Slots.{IsQuiescent}
 use Rattle.run_shows.proofs.Reclaims.Ends.All.{reclaiming_ends}
 use Rattle.many_acts.specs.Acts.Doings.{Doing, BeginsReclaiming, BeginsClearing, StepsReclaiming, AllAreFree, SlotsAreFree, is_vacant, still, reclaiming, behind, MayDo, HasStepped}
 use Rattle.many_acts.specs.Acts.Lists.{Course, Reached, LedOn, nothing_done, on_by}
 use Rattle.many_acts.specs.Acts.Reclaiming.{IsReclaimingAll, reclaiming_steps}
 use Rattle.many_acts.proofs.Acts.Further.{led_further}
 use Rattle.many_acts.proofs.Acts.Reclaiming.{reclaiming_is_by_acts}
-use Rattle.many_acts.specs.Carries.Lists.{AreTheirs, IsAtRest, AllRestThere, OnlyPairsAreLeft, ListsReclaimAll, OnlyPairsWaitBehind}
+use Rattle.many_acts.specs.Carries.Lists.{AreTheirs, SceneIsQuiescent, AllRestThere, OnlyPairsAreLeft, ListsReclaimAll, OnlyPairsAreDeferred}
 use Rattle.many_acts.proofs.Carries.Lists.{idle_there, is_over, lists_keep_theirs, reclaiming_begins_there, theirs_on}
 use Rattle.many_acts.proofs.Carries.Reclaimed.{may_be_stepped, some_is_there}
 use Rattle.run_shows.specs.Scenes.Scene.{Scene}
@@ -84,7 +84,7 @@ module _ {K S : Type 0} (V : Type 0) (same : K → K → Bool) (hash : S → K �
         pairs =
             is_over V same hash batch_size roots slot st.caller x.0.0 (behind V same hash batch_size roots slot x.0) st.machine idle theirs g st.end (course.next x.0 (StepsReclaiming g) may).0 st.lists st.next st.did done
 
-  pub only_pairs_wait_behind : OnlyPairsWaitBehind V same hash batch_size roots slot course
+  pub only_pairs_wait_behind : OnlyPairsAreDeferred V same hash batch_size roots slot course
   only_pairs_wait_behind g doings x led may none =
       let theirs = lists_keep_theirs V same hash batch_size roots slot course doings x led in
       let step = st x theirs g may in
@@ -116,7 +116,7 @@ module _ {K S : Type 0} (V : Type 0) (same : K → K → Bool) (hash : S → K �
               (some_is_there (reclaiming_steps x.0.0 step.0 c) step.1 step.2),
         )
 
-    to_end : (m : Mem (Node K V)) (c : ReclaimAll) → ComesToEnd m c → (x : At) → AreTheirs x.0.0 → (i : ℕ) → Now x ≡ Some (i, c) → x.0.0.world.memory ≡ m → Onward x
+    to_end : (m : Mem (Node K V)) (c : ReclaimAll) → Terminates m c → (x : At) → AreTheirs x.0.0 → (i : ℕ) → Now x ≡ Some (i, c) → x.0.0.world.memory ≡ m → Onward x
     to_end m c (Comes _ _ more) x theirs i here at =
         let k = next_may x i c here in
         let may : May (StepsReclaiming k.0) x = (word, k.1) in
@@ -139,7 +139,7 @@ module _ {K S : Type 0} (V : Type 0) (same : K → K → Bool) (hash : S → K �
         (reclaiming_ends V same same batch_size roots slot y.0.0.maps y.0.0.calls y.0.0.makers y.0.0.enders y.0.0.world i (behind V same hash batch_size roots slot y.0) c word
         (idle_there V same hash batch_size roots slot y.0 i c here)) y (theirs_on V same hash batch_size roots slot course x doing may theirs) i here refl)
 
-    all_free : (s : Scene K V) → IsAtRest s → AllAreFree s
+    all_free : (s : Scene K V) → SceneIsQuiescent s → AllAreFree s
     all_free s rest = record {
       no_call = λ m i. ap is_none (rest.no_calls m i);
       no_making = λ i. ap is_none (rest.no_makers i);
@@ -147,7 +147,7 @@ module _ {K S : Type 0} (V : Type 0) (same : K → K → Bool) (hash : S → K �
       rest = λ i. ap rests (rest.rows i);
     }
 
-    slots_free : (s : Scene K V) → IsQuiet s.world → SlotsAreFree s
+    slots_free : (s : Scene K V) → IsQuiescent s.world → SlotsAreFree s
     slots_free s quiet = record { vacant = λ t. ap is_vacant (quiet.vacant t); none = quiet.none }
 
   pub lists_reclaim_all : ListsReclaimAll V same hash batch_size roots slot course

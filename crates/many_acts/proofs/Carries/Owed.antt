@@ -10,7 +10,7 @@ use Rattle.owner_facts.specs.Given.CallersTogether.{UnderWay}
 use Rattle.owner_facts.proofs.Given.CallersTogether.At.{at_other, at_same}
 use Rattle.owner_facts.specs.Given.FinishesEndings.{Finishing}
 use Rattle.owner_facts.specs.Given.FinishesMaps.{Standing, with_call}
-use Rattle.many_acts.specs.Carries.Theirs.{IsAhead, IsToCome, IsToHandOver, Owes, IsOwed, next_of_them}
+use Rattle.many_acts.specs.Carries.Theirs.{IsAhead, IsToCome, IsToHandOver, HasObligation, IsObligation, next_of_them}
 
 pub one_some : {X : Type 0} (o : Option X) (a b : X) → o ≡ Some a → o ≡ Some b → a ≡ b
 one_some o a b e f = cc (e, f)
@@ -65,7 +65,7 @@ module _ {K V : Type 0} (w w2 : World (Node K V)) (maps maps2 : ℕ → Option (
 
   module _ {Q : Type 0} (calls : ℕ → ℕ → Option (UnderWay K V Q)) (enders enders2 : ℕ → Option (Finishing K V)) where
     -- so do all calls, if they go on as they were
-    pub owed_on : (b : ℕ) → ((n j : ℕ) (u : UnderWay K V Q) → calls n j ≡ Some u → (w.row j ≡ Rests → w2.row j ≡ Rests) × StandsOnAt maps maps2 n) → IsOwed w maps calls enders b → IsOwed w2 maps2 calls enders2 b
+    pub owed_on : (b : ℕ) → ((n j : ℕ) (u : UnderWay K V Q) → calls n j ≡ Some u → (w.row j ≡ Rests → w2.row j ≡ Rests) × StandsOnAt maps maps2 n) → IsObligation w maps calls enders b → IsObligation w2 maps2 calls enders2 b
     owed_on b on (n, j, u, under, (p, is, owes)) = let k = on n j u under in (n, j, u, under, (p, is, hands_on n j p b k.0 k.1 owes))
 
     module _ (m i : ℕ) (next : Option (UnderWay K V Q)) where
@@ -77,20 +77,20 @@ module _ {K V : Type 0} (w w2 : World (Node K V)) (maps maps2 : ℕ → Option (
 
       -- one of them goes on, and is to hand the block over
       abbrev pub OwesThen : ℕ → Type 0
-      OwesThen b = (u2 : UnderWay K V Q) × (next ≡ Some u2) × Owes w2 maps2 m i u2 b
+      OwesThen b = (u2 : UnderWay K V Q) × (next ≡ Some u2) × HasObligation w2 maps2 m i u2 b
 
-      pub owed_then : (b : ℕ) → OwesThen b → IsOwed w2 maps2 calls2 enders2 b
+      pub owed_then : (b : ℕ) → OwesThen b → IsObligation w2 maps2 calls2 enders2 b
       owed_then b (u2, is, owes) = (m, i, u2, call_now ∙ is, owes)
 
       pub owed_with : (b : ℕ) → ((n j : ℕ) (u : UnderWay K V Q) → calls n j ≡ Some u → (n ≡ m → j ≡ i → ⊥) → (w.row j ≡ Rests → w2.row j ≡ Rests) × StandsOnAt maps maps2 n)
-          → ((u : UnderWay K V Q) → calls m i ≡ Some u → Owes w maps m i u b → OwesThen b)
-          → IsOwed w maps calls enders b → IsOwed w2 maps2 calls2 enders2 b
+          → ((u : UnderWay K V Q) → calls m i ≡ Some u → HasObligation w maps m i u b → OwesThen b)
+          → IsObligation w maps calls enders b → IsObligation w2 maps2 calls2 enders2 b
       owed_with b others its (n, j, u, under, (p, is, owes)) = by (cases_eq n m) (cases_eq j i)
         where
-          still : (n ≡ m → j ≡ i → ⊥) → calls2 n j ≡ calls n j → IsOwed w2 maps2 calls2 enders2 b
+          still : (n ≡ m → j ≡ i → ⊥) → calls2 n j ≡ calls n j → IsObligation w2 maps2 calls2 enders2 b
           still ne e = let k = others n j u under ne in (n, j, u, e ∙ under, (p, is, hands_on n j p b k.0 k.1 owes))
 
-          by : (n ≡ m) ⊎ (n ≢ m) → (j ≡ i) ⊎ (j ≢ i) → IsOwed w2 maps2 calls2 enders2 b
+          by : (n ≡ m) ⊎ (n ≢ m) → (j ≡ i) ⊎ (j ≢ i) → IsObligation w2 maps2 calls2 enders2 b
           by (inr ne) e = still (λ same _. ne same) (ap (λ (f : ℕ → Option (UnderWay K V Q)). f j) (at_other calls m (with_at (calls m) i next) n ne))
           by (inl same) (inr ne) =
               still (λ _ k. ne k)

@@ -9,15 +9,15 @@ use Rattle.run_shows.specs.Given.RawDeclared.machines.call.Calling.{Calling}
 use Rattle.run_shows.specs.Given.RawDeclared.machines.call.Calling.TheVariants as at
 use Rattle.owner_facts.specs.Given.PointsFactsCalls.{Unchanged, CallFacts, CallingFacts}
 use Rattle.owner_facts.proofs.Given.PointsSteps.RootSteps.{root_stays}
-use Rattle.owner_facts.specs.Given.LateLateCalls.{LateCallFacts, LateCalling}
+use Rattle.owner_facts.specs.Given.LateLateCalls.{SupersededCallFacts, SupersededCalling}
 use Rattle.run_shows.proofs.Given.RuleWorld.RootSpared.{RootStays}
 use Rattle.owner_facts.proofs.Alone.Handed.RootTurns.{first_kept}
 use Rattle.owner_facts.specs.Given.CallersSights.{seen_by}
-use Rattle.owner_facts.specs.Given.CallersTogether.{UnderWay, OnKey, CallOnKey, Knows, Stands, in_slot, next_of, change_told}
+use Rattle.owner_facts.specs.Given.CallersTogether.{UnderWay, OnKey, CallOnKey, Knows, IsAtPoint, in_slot, next_of, change_observed}
 use Rattle.owner_facts.specs.Given.FinishesEndings.{Finishing}
 use Rattle.owner_facts.specs.Given.FinishesMakings.{Beginning}
 use Rattle.owner_facts.specs.Given.FinishesMaps.{Standing}
-use Rattle.many_acts.specs.Carries.Promises.{CallsKeepTheirs}
+use Rattle.many_acts.specs.Carries.Promises.{CallsPreserveTheirs}
 use Rattle.many_acts.specs.Carries.Theirs.{copier_of_call}
 use Rattle.many_acts.proofs.Carries.Inside.{it_is, call_copies, call_row, none_promotes}
 use Rattle.many_acts.proofs.Carries.Known.{CopierKnows, incremental_knows, blocking_knows, left_knows}
@@ -25,19 +25,19 @@ use Rattle.many_acts.proofs.Carries.Steps.{StepsBy, map_here, step_theirs}
 
 module _ {K Q : Type 0} (V : Type 0) (same : K → K → Bool) (asks : Q → K → Bool) (batch_size roots : ℕ) (slot : ℕ → ℕ)
     (w : World (Node K V)) (maps : ℕ → Option (Standing K)) (calls : ℕ → ℕ → Option (UnderWay K V Q)) (makers : ℕ → Option (Beginning K)) (enders : ℕ → Option (Finishing K V)) where
-  pub calls_keep_theirs : CallsKeepTheirs V same asks batch_size roots slot w maps calls makers enders
+  pub calls_keep_theirs : CallsPreserveTheirs V same asks batch_size roots slot w maps calls makers enders
   calls_keep_theirs all theirs m s here i u has row m2 p2 progress steps st =
       step_theirs V same asks batch_size slot w maps calls enders all.makings.standing m s here i (OnKey u) has ((all.makings.standing.each m s here).inside i (OnKey u) has) m2 _ st.step.went st.step.blocks2 st.step.grown st.step.sights2 next
       knows.0 without within theirs
     where
       then : CallOnKey K V Q
-      then = record { keys = u.keys; pair = u.pair; began = u.began; change = change_told V same s.hash asks s.setting slot st.step.went.told; call = p2 }
+      then = record { keys = u.keys; pair = u.pair; began = u.began; change = change_observed V same s.hash asks s.setting slot st.step.went.told; call = p2 }
 
       next : Option (UnderWay K V Q)
       next = next_of then progress
 
       -- it stands at none of a row
-      at_none : Stands V same s.hash asks s.setting slot w s.chart (seen_by s.blocks (s.sights (slot i))) i (OnKey u) → (w.row i ≡ Rests) × Knows V same s.hash asks s.setting slot w s.chart (seen_by s.blocks (s.sights (slot i))) i u u.call
+      at_none : IsAtPoint V same s.hash asks s.setting slot w s.chart (seen_by s.blocks (s.sights (slot i))) i (OnKey u) → (w.row i ≡ Rests) × Knows V same s.hash asks s.setting slot w s.chart (seen_by s.blocks (s.sights (slot i))) i u u.call
       at_none (inl k) = k
       at_none (inr k) = absurd (row k.1)
 
@@ -57,7 +57,7 @@ module _ {K Q : Type 0} (V : Type 0) (same : K → K → Bool) (asks : Q → K �
       fresh _ x is point = absurd (cc is)
 
       left : (stands : Calling) (x : Copier) → copier_of_call stands ≡ Some x
-          → LateCalling same s.hash asks w i (in_slot s.setting (slot i)) s.chart (seen_by s.blocks (s.sights (slot i))) u.keys u.began u.call stands
+          → SupersededCalling same s.hash asks w i (in_slot s.setting (slot i)) s.chart (seen_by s.blocks (s.sights (slot i))) u.keys u.began u.call stands
           → CopierKnows same s.hash w i (in_slot s.setting (slot i)) s.chart (seen_by s.blocks (s.sights (slot i))) x
       left (at.Helps copier goal) x is point = absurd point
       left (at.Copies copier) x is point =
@@ -67,7 +67,7 @@ module _ {K Q : Type 0} (V : Type 0) (same : K → K → Bool) (asks : Q → K �
 
       either : (x : Copier) → copier_of_call u.call.stands ≡ Some x
           → CallFacts same s.hash asks w i (in_slot s.setting (slot i)) s.chart (seen_by s.blocks (s.sights (slot i))) u.keys u.change u.call
-          ⊎ ((u.change ≡ Unchanged) × LateCallFacts same s.hash asks w i (in_slot s.setting (slot i)) s.chart (seen_by s.blocks (s.sights (slot i))) u.keys u.began u.call)
+          ⊎ ((u.change ≡ Unchanged) × SupersededCallFacts same s.hash asks w i (in_slot s.setting (slot i)) s.chart (seen_by s.blocks (s.sights (slot i))) u.keys u.began u.call)
           → CopierKnows same s.hash w i (in_slot s.setting (slot i)) s.chart (seen_by s.blocks (s.sights (slot i))) x
       either x is (inl facts) = fresh u.call.stands x is facts.point
       either x is (inr late) = left u.call.stands x is late.1.point

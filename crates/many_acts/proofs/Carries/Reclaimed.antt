@@ -14,11 +14,11 @@ use Rattle.seize_acts.proofs.Acts.Answers.{was_stepped}
 use Rattle.seize_acts.proofs.Acts.Steps.{sees_end}
 use Rattle.run_shows.specs.Given.TablesNodes.{deferred_word, was_left}
 use Rattle.run_shows.specs.Given.TablesDeclared.node.Node.{Node}
-use Rattle.run_shows.specs.Reclaims.Ends.{ComesToEnd, Comes}
+use Rattle.run_shows.specs.Reclaims.Ends.{Terminates, Comes}
 use Rattle.run_shows.proofs.Reclaims.Ends.All.{reclaiming_ends}
 use Rattle.many_acts.specs.Acts.Reclaiming.{IsReclaimingAll, ReclaimedOn, reclaiming_steps}
 use Rattle.many_acts.proofs.Acts.Reclaiming.{reclaiming_is_by_acts}
-use Rattle.many_acts.specs.Carries.Lists.{ReclaimsTo, ReclaimingComesToEnd}
+use Rattle.many_acts.specs.Carries.Lists.{ReclaimsTo, ReclaimingTerminates}
 use Rattle.run_shows.specs.Scenes.Scene.{Scene}
 use Rattle.run_shows.proofs.Given.General.{some_there}
 
@@ -83,7 +83,7 @@ module _ {K S : Type 0} (V : Type 0) (same : K → K → Bool) (hash : S → K �
       let step = may_be_stepped s.world.memory (reclaim_all_plan deferred_word was_left c) acts.0 in
       let led = acts.2 step.0 (some_is_there (reclaiming_steps s step.0 c) step.1 step.2) in (step.0, led.0, led.1, led.2, led.3, led.4, led.5)
 
-  to_end : batch_size < 2 ^ 64 → (m : Mem (Node K V)) (c : ReclaimAll) → ComesToEnd m c → (s : Scene K V) → s.world.memory ≡ m → (lists : ℕ → List ℕ)
+  to_end : batch_size < 2 ^ 64 → (m : Mem (Node K V)) (c : ReclaimAll) → Terminates m c → (s : Scene K V) → s.world.memory ≡ m → (lists : ℕ → List ℕ)
       → IsReclaimingAll V same batch_size roots slot s i lists c → Ends s lists c
   to_end word m c (Comes _ _ more) s at lists idle =
       let k = next_step word s lists c idle in
@@ -93,6 +93,6 @@ module _ {K S : Type 0} (V : Type 0) (same : K → K → Bool) (hash : S → K �
       (was_stepped s.world.memory k.0 (reclaim_all_plan deferred_word was_left c) (k.5.memory, (k.4, k.1)) k.5.computed)) not_done)
       k.2 (ap (λ (x : Scene K V). x.world.memory) k.5.comes ∙ k.5.did.memory) k.3 k.6)
 
-  pub reclaiming_comes_to_end : ReclaimingComesToEnd V same hash batch_size roots slot i
+  pub reclaiming_comes_to_end : ReclaimingTerminates V same hash batch_size roots slot i
   reclaiming_comes_to_end word s lists c idle =
       to_end word s.world.memory c (reclaiming_ends V same same batch_size roots slot s.maps s.calls s.makers s.enders s.world i lists c word idle) s refl lists idle

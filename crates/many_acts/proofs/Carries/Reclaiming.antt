@@ -22,7 +22,7 @@ use Rattle.owner_facts.specs.Given.FinishesMakings.{Beginning}
 use Rattle.owner_facts.specs.Given.FinishesMaps.{Standing}
 use Rattle.run_shows.specs.Reclaims.Slots.{IsForSlots, AreItsRows}
 use Rattle.run_shows.proofs.Reclaims.Behind.Deferred.{waits_on_tables}
-use Rattle.many_acts.specs.Carries.Promises.{ReclaimingKeepsTheirs, NothingElseWaits}
+use Rattle.many_acts.specs.Carries.Promises.{ReclaimingPreservesTheirs, NothingElseWaits}
 use Rattle.many_acts.proofs.Carries.Guards.{users_own, theirs_same, can_back, only_tables_carry}
 use Rattle.many_acts.proofs.Carries.Hands.{begun_same, still_row}
 use Rattle.run_shows.proofs.Reclaims.Behind.Kept.{of_slots}
@@ -75,7 +75,7 @@ module _ {K V : Type 0} (size i b : ℕ) where
 
 module _ {K Q : Type 0} (V : Type 0) (same : K → K → Bool) (asks : Q → K → Bool) (batch_size roots : ℕ) (slot : ℕ → ℕ)
     (w : World (Node K V)) (maps : ℕ → Option (Standing K)) (calls : ℕ → ℕ → Option (UnderWay K V Q)) (makers : ℕ → Option (Beginning K)) (enders : ℕ → Option (Finishing K V)) where
-  pub reclaiming_keeps_theirs : ReclaimingKeepsTheirs V same asks batch_size roots slot w maps calls makers enders
+  pub reclaiming_keeps_theirs : ReclaimingPreservesTheirs V same asks batch_size roots slot w maps calls makers enders
   reclaiming_keeps_theirs idle i lists point m2 c2 progress st theirs b can =
       theirs_same w st.w2 maps st.maps2 calls enders st.as_they_were (λ n j u under. absurd (let none = idle.no_calls n j in cc (none, under))) b
       (theirs b (can_back w st.w2 maps st.maps2 calls enders b (had st.its) can))

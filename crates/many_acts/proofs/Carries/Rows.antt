@@ -22,7 +22,7 @@ use Rattle.run_shows.specs.Given.ResizeDeclared.copier.Copying.TheVariants as co
 use Rattle.run_shows.specs.Given.ResizeDeclared.yielding.Yielding.{Yielding}
 use Rattle.owner_facts.specs.Given.PointsTold.{IsRowOfCopier}
 use Rattle.owner_facts.specs.Given.CallersRows.{row_of_copier}
-use Rattle.many_acts.specs.Carries.Theirs.{IsDueAt, IsAhead, next_of_them}
+use Rattle.many_acts.specs.Carries.Theirs.{IsObligedAt, IsAhead, next_of_them}
 use Rattle.many_acts.proofs.Carries.FirstSteps.{IsRetiring, retires_first}
 use Rattle.owner_facts.specs.Maps.EndingsReserves.{HasMore as IsOn}
 
@@ -64,7 +64,7 @@ module _ {K V : Type 0} (copier : Copier) (rest : ℕ) where
 
 module _ {K V : Type 0} (hash : K → ℕ) (p : Copier) (m m2 : Mem (Node K V)) (end : Copier × Yielding (Node K V) Table) where
   -- by the first step of a retirement that is due
-  pub row_within : (b : ℕ) (stands : Copying) → IsRowOfCopier stands → IsDueAt p stands b → Steps Took value_at m (copier_plan_at hash p stands) m2 end → IsItsRow b (row_of_copier end.0.stands)
+  pub row_within : (b : ℕ) (stands : Copying) → IsRowOfCopier stands → IsObligedAt p stands b → Steps Took value_at m (copier_plan_at hash p stands) m2 end → IsItsRow b (row_of_copier end.0.stands)
   row_within b (copies.Retires settle rest) row due s =
       let k = steps_back (retired p rest) m m2 (settle_plan deferred_word settle) end s in
       subst (λ (e : Copier × Yielding (Node K V) Table). IsItsRow b (row_of_copier e.0.stands)) (sym k.2)

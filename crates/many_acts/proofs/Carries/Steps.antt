@@ -12,10 +12,10 @@ use Rattle.run_shows.specs.Given.ResizeCopier.{copier_plan}
 use Rattle.run_shows.specs.Given.ResizeDeclared.copier.Copier.{Copier}
 use Rattle.run_shows.specs.Given.ResizeDeclared.yielding.Yielding.{Yielding}
 use Rattle.run_shows.specs.Given.RuleChart.{Chart}
-use Rattle.run_shows.specs.Given.RuleInWorld.{IsMapIn, Went}
+use Rattle.run_shows.specs.Given.RuleInWorld.{IsMapIn, StepSpec}
 use Rattle.run_shows.specs.Given.RuleWords.{Blocks}
 use Rattle.owner_facts.specs.Given.PointsTold.{IsRowOfCopier}
-use Rattle.owner_facts.specs.Given.CallersSights.{Sight, IsGrown, seen_by}
+use Rattle.owner_facts.specs.Given.CallersSights.{Visible, IsGrown, seen_by}
 use Rattle.owner_facts.specs.Given.CallersTogether.{UnderWay, in_slot}
 use Rattle.owner_facts.proofs.Given.CallersSights.Seen.{map_seen}
 use Rattle.owner_facts.proofs.Given.CallersTogether.Fits.{map_in_slot}
@@ -39,8 +39,8 @@ module _ {K Q : Type 0} (V : Type 0) (same : K → K → Bool) (asks : Q → K �
       ((all.each m s here).ground.sight (slot i) in_it).0
 
   module _ (m2 : Mem (Node K V)) (Told : World (Node K V) → Chart K → Blocks → Type 0)
-      (went : Went same s.hash (in_slot s.setting (slot i)) i w s.chart (seen_by s.blocks (s.sights (slot i))) m2 Told)
-      (blocks2 : Blocks) (grown : IsGrown s.chart s.blocks went.blocks2 blocks2) (sights2 : ℕ → Sight) (next : Option (UnderWay K V Q)) where
+      (went : StepSpec same s.hash (in_slot s.setting (slot i)) i w s.chart (seen_by s.blocks (s.sights (slot i))) m2 Told)
+      (blocks2 : Blocks) (grown : IsGrown s.chart s.blocks went.blocks2 blocks2) (sights2 : ℕ → Visible) (next : Option (UnderWay K V Q)) where
     -- it is a step of this copier, which knows of its tables, and stands at none of a row; what is under way goes on with it
     pub record StepsBy (x : Copier) : Type 0 where
       pub no_row : IsRowOfCopier x.stands → ⊥

@@ -12,11 +12,11 @@ use Rattle.owner_facts.specs.Given.LateFactsSweeps.{CopiesTable, SweepingFacts}
 use Rattle.owner_facts.specs.Given.LateToldSweeps.{OnlyRemoves}
 use Rattle.owner_facts.specs.Given.CallersOverAll.{CallOverAll, come_to}
 use Rattle.owner_facts.specs.Given.CallersSights.{seen_by}
-use Rattle.owner_facts.specs.Given.CallersTogether.{UnderWay, OverAll, KnowsSweep, Stands, in_slot, next_over_all}
+use Rattle.owner_facts.specs.Given.CallersTogether.{UnderWay, OverAll, KnowsSweep, IsAtPoint, in_slot, next_over_all}
 use Rattle.owner_facts.specs.Given.FinishesEndings.{Finishing}
 use Rattle.owner_facts.specs.Given.FinishesMakings.{Beginning}
 use Rattle.owner_facts.specs.Given.FinishesMaps.{Standing}
-use Rattle.many_acts.specs.Carries.Promises.{SweepsKeepTheirs}
+use Rattle.many_acts.specs.Carries.Promises.{SweepsPreserveTheirs}
 use Rattle.many_acts.specs.Carries.Theirs.{copier_of_sweep}
 use Rattle.many_acts.proofs.Carries.Inside.{it_is, sweep_copies, sweep_row, sweep_without}
 use Rattle.many_acts.proofs.Carries.Known.{CopierKnows, whole_knows, left_knows}
@@ -28,7 +28,7 @@ same_first {K} hash mode c c2 (inr (t, i, e)) = ap (λ (x : Chart K). x.first) e
 
 module _ {K Q : Type 0} (V : Type 0) (same : K → K → Bool) (asks : Q → K → Bool) (batch_size roots : ℕ) (slot : ℕ → ℕ)
     (w : World (Node K V)) (maps : ℕ → Option (Standing K)) (calls : ℕ → ℕ → Option (UnderWay K V Q)) (makers : ℕ → Option (Beginning K)) (enders : ℕ → Option (Finishing K V)) where
-  pub sweeps_keep_theirs : SweepsKeepTheirs V same asks batch_size roots slot w maps calls makers enders
+  pub sweeps_keep_theirs : SweepsPreserveTheirs V same asks batch_size roots slot w maps calls makers enders
   sweeps_keep_theirs all theirs m s here i o has row m2 p2 end steps st =
       step_theirs V same asks batch_size slot w maps calls enders all.makings.standing m s here i (OverAll o) has ((all.makings.standing.each m s here).inside i (OverAll o) has) m2 _ st.step.went st.step.blocks2 st.step.grown st.step.sights2 next
       knows.0 (λ none. same_first s.hash s.setting.mode s.chart st.step.went.c2 (st.step.went.told.beside (sweep_without o.sweep.stands none))) within theirs
@@ -39,7 +39,7 @@ module _ {K Q : Type 0} (V : Type 0) (same : K → K → Bool) (asks : Q → K �
       next : Option (UnderWay K V Q)
       next = next_over_all then end
 
-      at_none : Stands V same s.hash asks s.setting slot w s.chart (seen_by s.blocks (s.sights (slot i))) i (OverAll o)
+      at_none : IsAtPoint V same s.hash asks s.setting slot w s.chart (seen_by s.blocks (s.sights (slot i))) i (OverAll o)
           → (w.row i ≡ Rests) × KnowsSweep V same s.hash asks s.setting slot w s.chart (seen_by s.blocks (s.sights (slot i))) i o o.sweep
       at_none (inl k) = k
       at_none (inr k) = absurd (row k.1)

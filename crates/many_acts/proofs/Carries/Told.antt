@@ -6,8 +6,8 @@ use Rattle.run_shows.specs.Given.ReservesDeclared.sweep.Sweeping.{Sweeping}
 use Rattle.run_shows.specs.Given.ReservesDeclared.sweep.Sweeping.TheVariants as sweeping
 use Rattle.run_shows.specs.Given.SweepsSweepPoints.{next_at}
 use Rattle.run_shows.specs.Given.ResizeDeclared.copier.Copier.{Copier}
-use Rattle.run_shows.specs.Given.RawCallAsks.{told_at}
-use Rattle.run_shows.specs.Given.RawMachine.{is_ready, machine_asked, machine_replied, sweep_told}
+use Rattle.run_shows.specs.Given.RawCallAsks.{replied_at}
+use Rattle.run_shows.specs.Given.RawMachine.{is_ready, machine_asked, machine_replied, sweep_with_reply}
 use Rattle.run_shows.specs.Given.RawDeclared.machines.asking.MachineReply.{MachineReply}
 use Rattle.run_shows.specs.Given.RawDeclared.machines.call.Calling.{Calling}
 use Rattle.run_shows.specs.Given.RawDeclared.machines.call.Calling.TheVariants as calling
@@ -21,7 +21,7 @@ use Rattle.run_shows.specs.Scenes.Replying.{unless_stopped}
 
 -- a sweep that copies asks nothing, and is not ready
 module _ (p : Copier) where
-  of_sweep_told : {V : Type 0} (stands : Sweeping) (c : Sweep) (reply : MachineReply V) → c.stands ≡ stands → copier_of_sweep stands ≡ Some p → copier_of_sweep (sweep_told stands c reply).0.stands ≡ Some p
+  of_sweep_told : {V : Type 0} (stands : Sweeping) (c : Sweep) (reply : MachineReply V) → c.stands ≡ stands → copier_of_sweep stands ≡ Some p → copier_of_sweep (sweep_with_reply stands c reply).0.stands ≡ Some p
   of_sweep_told (sweeping.Copies copier) c reply is has = ap (λ (x : Sweeping). copier_of_sweep x) is ∙ has
   of_sweep_told _ c reply is has = absurd (cc has)
 
@@ -49,7 +49,7 @@ module _ {K V Q : Type 0} where
 
   module _ (p : Copier) where
     -- nor does a call
-    call_told : (stands : Calling) (c : KeyCall K V Q) (reply : MachineReply V) → c.stands ≡ stands → copier_of_call stands ≡ Some p → copier_of_call (told_at stands c reply).0.stands ≡ Some p
+    call_told : (stands : Calling) (c : KeyCall K V Q) (reply : MachineReply V) → c.stands ≡ stands → copier_of_call stands ≡ Some p → copier_of_call (replied_at stands c reply).0.stands ≡ Some p
     call_told (calling.Helps copier goal) c reply is has = ap (λ (x : Calling). copier_of_call x) is ∙ has
     call_told (calling.Copies copier) c reply is has = ap (λ (x : Calling). copier_of_call x) is ∙ has
     call_told _ c reply is has = absurd (cc has)

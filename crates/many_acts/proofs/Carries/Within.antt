@@ -27,7 +27,7 @@ use Rattle.owner_facts.specs.Given.CallersOverAll.{gone_on, row_of_sweep}
 use Rattle.owner_facts.specs.Given.CallersRooms.{CallForRoom, row_of_room}
 use Rattle.owner_facts.specs.Given.CallersRows.{row_of, row_of_copier}
 use Rattle.owner_facts.specs.Given.CallersSights.{seen_by}
-use Rattle.owner_facts.specs.Given.CallersTogether.{UnderWay, OnKey, ForRoom, OverAll, CallOnKey, HandsOver, IsOneStep, Stands, next_of, next_for_room, next_over_all}
+use Rattle.owner_facts.specs.Given.CallersTogether.{UnderWay, OnKey, ForRoom, OverAll, CallOnKey, HandsOver, IsOneStep, IsAtPoint, next_of, next_for_room, next_over_all}
 use Rattle.owner_facts.proofs.Given.CallersRows.Beside.{users_value}
 use Rattle.owner_facts.proofs.Given.CallersTogether.At.{at_same}
 use Rattle.owner_facts.proofs.Given.CallersTogether.Came.{came_reached}
@@ -35,8 +35,8 @@ use Rattle.owner_facts.specs.Given.FinishesEndings.{Finishing, EndingsTogether}
 use Rattle.owner_facts.specs.Given.FinishesMakings.{Beginning}
 use Rattle.owner_facts.specs.Given.FinishesMaps.{Standing, IsSameMap, with_call}
 use Rattle.owner_facts.proofs.Given.FinishesBeside.Maps.Steps.{no_other}
-use Rattle.many_acts.specs.Carries.Promises.{RowsKeepTheirs, RoomRowsKeepTheirs, SweepRowsKeepTheirs}
-use Rattle.many_acts.specs.Carries.Theirs.{IsDueAt, copier_of_call, copier_of_room, copier_of_sweep, copier_of, IsToHandOver, AllAreTheirs}
+use Rattle.many_acts.specs.Carries.Promises.{RowsPreserveTheirs, RoomRowsPreserveTheirs, SweepRowsPreserveTheirs}
+use Rattle.many_acts.specs.Carries.Theirs.{IsObligedAt, copier_of_call, copier_of_room, copier_of_sweep, copier_of, IsToHandOver, AllAreTheirs}
 use Rattle.many_acts.proofs.Carries.FirstSteps.{row_retires, row_defers}
 use Rattle.many_acts.proofs.Carries.Guards.{users_own, theirs_by, can_back, same_on}
 use Rattle.many_acts.proofs.Carries.Hands.{still_row}
@@ -160,7 +160,7 @@ module _ {K Q : Type 0} (V : Type 0) (same : K → K → Bool) (asks : Q → K �
 
     module _ (b : ℕ) (still : IsStillHad (w2.hand b)) (x : Copier) (st : RowsBy x) where
       -- what it was to hand over next it has begun to retire: so users have it not
-      due_gone : w.row i ≡ Rests → IsDueAt x x.stands b → ⊥
+      due_gone : w.row i ≡ Rests → IsObligedAt x x.stands b → ⊥
       due_gone rests due =
           let it = row_within s.hash x w.memory st.m2 st.end b x.stands st.row due st.steps in
           let on = st.goes (row_goes s.hash x w.memory st.m2 st.end x.stands st.row st.steps).0 in
@@ -199,7 +199,7 @@ module _ {K Q : Type 0} (V : Type 0) (same : K → K → Bool) (asks : Q → K �
   on_row i w2 at copiers is (inl rests) = inl rests
   on_row i w2 at copiers is (inr here) = inr (here ∙ is)
 
-  pub rows_keep_theirs : RowsKeepTheirs V same asks batch_size roots slot w maps calls makers enders
+  pub rows_keep_theirs : RowsPreserveTheirs V same asks batch_size roots slot w maps calls makers enders
   rows_keep_theirs all theirs m s here i u has row m2 p2 progress steps st =
       row_theirs all theirs m s here i (OnKey u) has st.step.w2 st.step.happened st.together.0 st.together.1 (next_of then progress)
       (λ x is. let k = call_copies same s.hash asks u.call w.memory m2 (p2, progress) u.call.stands x is steps in record {
@@ -213,7 +213,7 @@ module _ {K Q : Type 0} (V : Type 0) (same : K → K → Bool) (asks : Q → K �
       then : CallOnKey K V Q
       then = record { keys = u.keys; pair = u.pair; began = u.began; change = u.change; call = p2 }
 
-      by : Stands V same s.hash asks s.setting slot st.step.w2 s.chart (seen_by s.blocks (s.sights (slot i))) i (OnKey then) → (st.step.w2.row i ≡ Rests) ⊎ (st.step.w2.row i ≡ row_of (slot i) p2.stands)
+      by : IsAtPoint V same s.hash asks s.setting slot st.step.w2 s.chart (seen_by s.blocks (s.sights (slot i))) i (OnKey then) → (st.step.w2.row i ≡ Rests) ⊎ (st.step.w2.row i ≡ row_of (slot i) p2.stands)
       by (inl k) = inl k.0
       by (inr k) = inr k.0
 
@@ -222,7 +222,7 @@ module _ {K Q : Type 0} (V : Type 0) (same : K → K → Bool) (asks : Q → K �
           on_row i st.step.w2 (row_of (slot i) p2.stands) (row_of_copier q.stands) (call_row_is (slot i) p2.stands q is)
           (by (st.step.together.stand i (OnKey then) (at_same (calls m) i (next_of then progress) i refl ∙ on)))
 
-  pub room_rows_keep_theirs : RoomRowsKeepTheirs V same asks batch_size roots slot w maps calls makers enders
+  pub room_rows_keep_theirs : RoomRowsPreserveTheirs V same asks batch_size roots slot w maps calls makers enders
   room_rows_keep_theirs all theirs m s here i r has row m2 p2 end steps st =
       row_theirs all theirs m s here i (ForRoom r) has st.step.w2 st.step.happened st.together.0 st.together.1 (next_for_room then end)
       (λ x is. let k = room_copies Q s.hash r.reserve w.memory m2 (p2, end) r.reserve.stands x is steps in record {
@@ -236,7 +236,7 @@ module _ {K Q : Type 0} (V : Type 0) (same : K → K → Bool) (asks : Q → K �
       then : CallForRoom
       then = record { began = r.began; reserve = p2 }
 
-      by : Stands V same s.hash asks s.setting slot st.step.w2 s.chart (seen_by s.blocks (s.sights (slot i))) i (ForRoom then) → (st.step.w2.row i ≡ Rests) ⊎ (st.step.w2.row i ≡ row_of_room p2.stands)
+      by : IsAtPoint V same s.hash asks s.setting slot st.step.w2 s.chart (seen_by s.blocks (s.sights (slot i))) i (ForRoom then) → (st.step.w2.row i ≡ Rests) ⊎ (st.step.w2.row i ≡ row_of_room p2.stands)
       by (inl k) = inl k.0
       by (inr k) = inr k.0
 
@@ -246,7 +246,7 @@ module _ {K Q : Type 0} (V : Type 0) (same : K → K → Bool) (asks : Q → K �
           on_row i st.step.w2 (row_of_room p2.stands) (row_of_copier q.stands) (room_row_is p2.stands q is)
           (by (st.step.together.stand i (ForRoom then) (at_same (calls m) i (next_for_room then end) i refl ∙ on)))
 
-  pub sweep_rows_keep_theirs : SweepRowsKeepTheirs V same asks batch_size roots slot w maps calls makers enders
+  pub sweep_rows_keep_theirs : SweepRowsPreserveTheirs V same asks batch_size roots slot w maps calls makers enders
   sweep_rows_keep_theirs all theirs m s here i o has row m2 p2 end steps st =
       row_theirs all theirs m s here i (OverAll o) has st.step.w2 st.step.happened st.together.0 st.together.1 (next_over_all (gone_on o p2) end)
       (λ x is. let k = sweep_copies Q s.hash o.sweep w.memory m2 (p2, end) o.sweep.stands x is steps in record {
@@ -257,7 +257,7 @@ module _ {K Q : Type 0} (V : Type 0) (same : K → K → Bool) (asks : Q → K �
         goes = λ on. let g = k.2 on in (OverAll (gone_on o p2), g.1 (gone_on o p2), g.0, stands k.0.0 g.0 (g.1 (gone_on o p2)));
       })
     where
-      by : Stands V same s.hash asks s.setting slot st.step.w2 s.chart (seen_by s.blocks (s.sights (slot i))) i (OverAll (gone_on o p2))
+      by : IsAtPoint V same s.hash asks s.setting slot st.step.w2 s.chart (seen_by s.blocks (s.sights (slot i))) i (OverAll (gone_on o p2))
           → (st.step.w2.row i ≡ Rests) ⊎ (st.step.w2.row i ≡ row_of_sweep (slot i) p2.stands)
       by (inl k) = inl k.0
       by (inr k) = inr k.0

@@ -10,7 +10,7 @@ use Rattle.run_shows.specs.Given.TablesNodes.{deferred_word}
 use Rattle.run_shows.specs.Given.TablesDeclared.node.Node.{Node}
 use Rattle.run_shows.specs.Given.TablesDeclared.setting.Setting.{Setting}
 use Rattle.run_shows.specs.Given.RuleChart.{Chart}
-use Rattle.run_shows.specs.Given.RuleInWorld.{AllUsers, IsOut, IsItsEvent, AllIts, IsIts, IsKnownBlock, IsMapIn, Went}
+use Rattle.run_shows.specs.Given.RuleInWorld.{AllUsers, IsOut, IsItsEvent, AllIts, IsIts, IsKnownBlock, IsMapIn, StepSpec}
 use Rattle.run_shows.specs.Given.RuleWords.{Blocks}
 use Rattle.owner_facts.proofs.Given.CallersRows.Known.{known_since}
 use Rattle.many_acts.specs.Links.Tied.{unlinkings}
@@ -40,7 +40,7 @@ module _ {K V : Type 0} (setting : Setting) (caller b : ℕ) (w : World (Node K 
 
 module _ {K V : Type 0} (same : K → K → Bool) (hash : K → ℕ) (setting : Setting) (caller b : ℕ) (w : World (Node K V)) (c : Chart K) (blocks : Blocks) (m2 : Mem (Node K V))
     (Told : World (Node K V) → Chart K → Blocks → Type 0) (r : Reached deferred_word setting.batch_size w) (map : IsMapIn same hash setting w c blocks)
-    (went : Went same hash setting caller w c blocks m2 Told) where
+    (went : StepSpec same hash setting caller w c blocks m2 Told) where
   -- what the caller has made, and has linked by the step, is in use then
   own_not_cut : w.hand b ≡ Making caller → (i : ℕ) → went.w2.hand b ≡ Cutting i → ⊥
   own_not_cut making i cut = by (went.links.known b making (subst IsOut (sym cut) tt))

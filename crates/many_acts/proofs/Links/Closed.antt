@@ -8,7 +8,7 @@ use Rattle.run_shows.specs.Given.SeizeWorld.{World, IsInside}
 use Rattle.run_shows.specs.Given.TablesDeclared.node.Node.{Node}
 use Rattle.run_shows.specs.Given.RuleInWorld.{IsMapIn, IsKnownBlock}
 use Rattle.owner_facts.specs.Given.CallersKept.{IsWithin}
-use Rattle.owner_facts.specs.Given.CallersSights.{IsSight, seen_by}
+use Rattle.owner_facts.specs.Given.CallersSights.{IsVisibility, seen_by}
 use Rattle.owner_facts.specs.Given.FinishesMaps.{Standing, MapsTogether}
 use Rattle.owner_facts.specs.Given.CallersTogether.{UnderWay}
 use Rattle.many_acts.specs.Links.Lists.{ScenesAreClosed}
@@ -24,7 +24,7 @@ module _ {K Q : Type 0} (V : Type 0) (same : K → K → Bool) (asks : Q → K �
     fits : (k : K) → s.hash k < 2 ^ 64
     fits = (all.fit m s here).0.fits
 
-    sight : IsSight s.chart s.blocks (s.sights x)
+    sight : IsVisibility s.chart s.blocks (s.sights x)
     sight = ((all.each m s here).ground.sight x inside).0
 
     within : IsWithin w x s.chart (seen_by s.blocks (s.sights x)) s.setting

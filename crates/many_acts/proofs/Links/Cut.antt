@@ -18,9 +18,9 @@ use Rattle.owner_facts.specs.Given.PointsFactsCopies.{CopyingFacts, CopierFacts}
 use Rattle.owner_facts.specs.Given.PointsFactsCopiesBlocking.{CopyingFactsBlocking, CopierFactsBlocking}
 use Rattle.owner_facts.specs.Given.PointsTold.{IsRowOfCopier}
 use Rattle.owner_facts.specs.Given.LateFactsReserves.{CopiesWhole, IsEnding}
-use Rattle.owner_facts.specs.Given.LateLateCopies.{LateCopying, LateCopierFacts}
+use Rattle.owner_facts.specs.Given.LateLateCopies.{SupersededCopying, SupersededCopierFacts}
 use Rattle.owner_facts.specs.Given.CallersRows.{past_copying}
-use Rattle.many_acts.specs.Carries.Theirs.{IsDueAt, IsAhead, next_of_them}
+use Rattle.many_acts.specs.Carries.Theirs.{IsObligedAt, IsAhead, next_of_them}
 
 module _ {K V : Type 0} (same : K → K → Bool) (hash : K → ℕ) (w : World (Node K V)) (caller : ℕ) (setting : Setting) (c : Chart K) (blocks : Blocks) where
   abbrev IsCut : ℕ → Type 0
@@ -28,7 +28,7 @@ module _ {K V : Type 0} (same : K → K → Bool) (hash : K → ℕ) (w : World 
 
   -- what it is to hand over next it has unlinked, and what it is to come to
   pub record OwesWhatItCut (p : Copier) : Type 0 where
-    pub due : (b : ℕ) → IsDueAt p p.stands b → w.hand b ≡ Cutting caller
+    pub due : (b : ℕ) → IsObligedAt p p.stands b → w.hand b ≡ Cutting caller
     pub ahead : is_incremental setting.mode ≡ false → (b : ℕ) → IsAhead c.past blocks.table (next_of_them p p.stands) p.target.turn b → w.hand b ≡ Cutting caller
 
   -- the block that a link names
@@ -39,7 +39,7 @@ module _ {K V : Type 0} (same : K → K → Bool) (hash : K → ℕ) (w : World 
   abbrev CutFrom : ℕ → ℕ → Type 0
   CutFrom s t = (u : ℕ) → s ≤ u → u < t → (blocks.table_known u ≡ true) × IsCut (blocks.table u)
 
-  due_incremental : (p : Copier) (stands : Copying) → CopyingFacts same hash w caller setting c blocks p stands → (b : ℕ) → IsDueAt p stands b → IsCut b
+  due_incremental : (p : Copier) (stands : Copying) → CopyingFacts same hash w caller setting c blocks p stands → (b : ℕ) → IsObligedAt p stands b → IsCut b
   due_incremental p copies.Announces (unlinked, done, none) b due = at_link unlinked.0 b p.source.link (ap (λ (x : Table). x.link) unlinked.2.is) due unlinked.4
   due_incremental p (copies.Succeeds table) (unlinked, done, none, is) b due =
       at_link unlinked.0 b p.source.link (ap (λ (x : Table). x.link) unlinked.2.is) (sym is ∙ due) unlinked.4
@@ -47,7 +47,7 @@ module _ {K V : Type 0} (same : K → K → Bool) (hash : K → ℕ) (w : World 
       at_link s b settle.pending (ap (λ (x : Settle). x.pending) to_retire.0) (ap (λ (x : Settle). x.pending) due) to_retire.1
   due_incremental p _ facts b due = absurd due
 
-  due_blocking : (p : Copier) (stands : Copying) → CopyingFactsBlocking same hash w caller setting c blocks p stands → (b : ℕ) → IsDueAt p stands b → IsCut b
+  due_blocking : (p : Copier) (stands : Copying) → CopyingFactsBlocking same hash w caller setting c blocks p stands → (b : ℕ) → IsObligedAt p stands b → IsCut b
   due_blocking p copies.Announces (s, source, unlinked) b due =
       at_link s b p.source.link (ap (λ (x : Table). x.link) source.is) due (unlinked.3 s (omega arith) unlinked.0).1
   due_blocking p (copies.Succeeds table) (s, unlinked, is) b due = at_link s b table is due (unlinked.3 s (omega arith) unlinked.0).1
@@ -55,7 +55,7 @@ module _ {K V : Type 0} (same : K → K → Bool) (hash : K → ℕ) (w : World 
       at_link s b settle.pending (ap (λ (x : Settle). x.pending) to_retire.0) (ap (λ (x : Settle). x.pending) due) to_retire.1
   due_blocking p _ facts b due = absurd due
 
-  due_late : (began : ℕ) (p : Copier) (stands : Copying) → LateCopying same hash w caller setting c blocks began p stands → (b : ℕ) → IsDueAt p stands b → IsCut b
+  due_late : (began : ℕ) (p : Copier) (stands : Copying) → SupersededCopying same hash w caller setting c blocks began p stands → (b : ℕ) → IsObligedAt p stands b → IsCut b
   due_late began p copies.Announces (s, t, source, unlinked) b due =
       at_link s b p.source.link (ap (λ (x : Table). x.link) source.is) due (unlinked.4 s (omega arith) unlinked.0).1
   due_late began p (copies.Succeeds table) (s, t, unlinked, is) b due = at_link s b table is due (unlinked.4 s (omega arith) unlinked.0).1
@@ -97,7 +97,7 @@ module _ {K V : Type 0} (same : K → K → Bool) (hash : K → ℕ) (w : World 
       rest_cut s c.first rest p.target.turn unlinked.0 unlinked.3 more.0 more.1 (ap (λ (x : Table). x.turn) unlinked.1.is) b ahead
   ahead_blocking p _ facts b ahead = none_ahead 0 p.target.turn b refl ahead
 
-  ahead_late : (began : ℕ) (p : Copier) (stands : Copying) → LateCopying same hash w caller setting c blocks began p stands
+  ahead_late : (began : ℕ) (p : Copier) (stands : Copying) → SupersededCopying same hash w caller setting c blocks began p stands
       → (b : ℕ) → IsAhead c.past blocks.table (next_of_them p stands) p.target.turn b → IsCut b
   ahead_late began p copies.Announces (s, t, source, unlinked) b ahead =
       ahead_cut s t p.source.link p.target.turn unlinked.0 unlinked.4 (ap (λ (x : Table). x.link) source.is) (ap (λ (x : Table). x.turn) unlinked.1.is) b ahead
@@ -113,7 +113,7 @@ module _ {K V : Type 0} (same : K → K → Bool) (hash : K → ℕ) (w : World 
   pub blocking_owes : (p : Copier) → CopierFactsBlocking same hash w caller setting c blocks p → OwesWhatItCut p
   blocking_owes p facts = record { due = due_blocking p p.stands facts.point; ahead = λ blocking. ahead_blocking p p.stands facts.point }
 
-  pub late_owes : (began : ℕ) (p : Copier) → LateCopierFacts same hash w caller setting c blocks began p → OwesWhatItCut p
+  pub late_owes : (began : ℕ) (p : Copier) → SupersededCopierFacts same hash w caller setting c blocks began p → OwesWhatItCut p
   late_owes began p facts = record { due = due_late began p p.stands facts.point; ahead = λ blocking. ahead_late began p p.stands facts.point }
 
   abbrev Whole : Bool → Copier → Type 0

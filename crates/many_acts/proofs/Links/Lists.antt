@@ -17,7 +17,7 @@ use Rattle.run_shows.specs.Given.ResizeDeclared.new_map.NewMap.{NewMap}
 use Rattle.run_shows.specs.Given.RawDeclared.machines.end_map.EndMap.{EndMap}
 use Rattle.owner_facts.proofs.Given.CallersTogether.At.{at_same}
 use Rattle.owner_facts.proofs.Given.CallersTogether.Came.{came_reached}
-use Rattle.owner_facts.specs.Given.FinishesEndings.{Finishing, MakingStepsAmong, StepsOfEnding}
+use Rattle.owner_facts.specs.Given.FinishesEndings.{Finishing, MakingStepsWithEndings, StepsOfEnding}
 use Rattle.owner_facts.specs.Given.FinishesFactsEnds.{TakesLeft, WritesRoot, events_of}
 use Rattle.owner_facts.specs.Given.FinishesMakings.{Beginning, IsFirstTable, StepsOfMaking}
 use Rattle.run_shows.specs.Reclaims.Slots.{AreItsRows}
@@ -50,7 +50,7 @@ module _ {K V S : Type 0} (same : K → K → Bool) (hash : S → K → ℕ) (ba
   to x is so = subst (λ (y : Scene K V). IsCutOff b s.world y.world) (sym is) so
 
   made : (i : ℕ) (d : Beginning K) (m2 : Mem (Node K V)) (machine : NewMap) (end : Advance Setting)
-      (did : MakingStepsAmong V same same batch_size roots slot s.world s.maps s.calls s.makers s.enders i d m2 (machine, end))
+      (did : MakingStepsWithEndings V same same batch_size roots slot s.world s.maps s.calls s.makers s.enders i d m2 (machine, end))
       → MakingCame same hash batch_size roots slot s i d did.step.w2 machine n end → IsCutOff b s.world n.world
   made i d m2 machine progress.Goes did is = to _ is (cut_off i d m2 (machine, progress.Goes) did.step (λ some first. absurd first))
   made i d m2 machine progress.Waits did never = absurd never

@@ -13,7 +13,7 @@ use Rattle.run_shows.specs.Given.TablesDeclared.setting.Setting.{Setting}
 use Rattle.run_shows.specs.Given.TablesDeclared.table_words.TheConstants.{NEXT, PLACES}
 use Rattle.run_shows.specs.Given.RuleChart.{Phase, Place, Holds, Chart}
 use Rattle.run_shows.specs.Given.RuleInWorld.{IsMapIn}
-use Rattle.run_shows.specs.Given.RuleWords.{Blocks, ShowsTable, byte_of, next_word, root_word, place_word}
+use Rattle.run_shows.specs.Given.RuleWords.{Blocks, RepresentsTable, byte_of, next_word, root_word, place_word}
 use Rattle.run_shows.proofs.Given.RuleLaws.{bytes_are_few, words_name_pairs, words_with_blocks}
 use Rattle.run_shows.proofs.Given.RuleWords.PlacesShown.{are_stored}
 use Rattle.run_shows.specs.Given.RuleMaps.{spot_of}
@@ -44,7 +44,7 @@ module _ {K V : Type 0} (same : K → K → Bool) (hash : K → ℕ) (fits : (k 
       by false e is = (map.map.rule.common.rooted (let ne = eqb-false c.past 0 e in omega (arith, ne)), omega (arith, is, block))
 
   module _ (t : ℕ) (made : t < c.past) (known : blocks.table_known t ≡ true) where
-    shown : ShowsTable hash w.memory c blocks t
+    shown : RepresentsTable hash w.memory c blocks t
     shown = map.map.shows.tables t made known
 
     next_named : (b word : ℕ) → word ≡ next_word hash c blocks t → block_in word ≡ b → 0 < b → (suc t < c.past) × (b ≡ blocks.table (suc t))

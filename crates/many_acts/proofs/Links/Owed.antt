@@ -20,16 +20,16 @@ use Rattle.owner_facts.specs.Given.PointsFactsCalls.{Change, Unchanged, CallFact
 use Rattle.owner_facts.specs.Given.PointsTold.{IsRowOfCopier}
 use Rattle.owner_facts.specs.Given.LateFactsReserves.{ReserveFacts, ReservingFacts}
 use Rattle.owner_facts.specs.Given.LateFactsSweeps.{CopiesTable, SweepFacts, SweepingFacts}
-use Rattle.owner_facts.specs.Given.LateLateCalls.{LateCallFacts, LateCalling}
-use Rattle.owner_facts.specs.Given.LateLateReserves.{LateReserveFacts, LateReserving}
+use Rattle.owner_facts.specs.Given.LateLateCalls.{SupersededCallFacts, SupersededCalling}
+use Rattle.owner_facts.specs.Given.LateLateReserves.{SupersededReserveFacts, SupersededReserving}
 use Rattle.owner_facts.specs.Given.CallersOverAll.{past_sweeping, sweep_once_over}
 use Rattle.owner_facts.specs.Given.CallersRooms.{past_room, room_once_over}
 use Rattle.owner_facts.specs.Given.CallersRows.{past_copying, past_row, once_over, row_of_copier}
 use Rattle.owner_facts.specs.Given.CallersSights.{seen_by}
-use Rattle.owner_facts.specs.Given.CallersTogether.{UnderWay, OnKey, ForRoom, Counting, OverAll, Stands, in_slot}
+use Rattle.owner_facts.specs.Given.CallersTogether.{UnderWay, OnKey, ForRoom, Counting, OverAll, IsAtPoint, in_slot}
 use Rattle.owner_facts.specs.Given.FinishesEndings.{Finishing}
 use Rattle.owner_facts.specs.Given.FinishesMaps.{Standing, MapsTogether}
-use Rattle.many_acts.specs.Carries.Theirs.{IsAhead, next_of_them, copier_of_call, copier_of_room, copier_of_sweep, copier_of, IsToHandOver, IsOwed}
+use Rattle.many_acts.specs.Carries.Theirs.{IsAhead, next_of_them, copier_of_call, copier_of_room, copier_of_sweep, copier_of, IsToHandOver, IsObligation}
 use Rattle.many_acts.proofs.Carries.Inside.{it_is, call_row, call_row_is, room_row, room_row_is, sweep_row, sweep_row_is}
 use Rattle.many_acts.proofs.Carries.Owed.{one_some}
 use Rattle.many_acts.proofs.Links.Cut.{OwesWhatItCut, incremental_owes, blocking_owes, late_owes, whole_owes, row_ahead}
@@ -86,7 +86,7 @@ module _ {K Q : Type 0} (V : Type 0) (same : K → K → Bool) (asks : Q → K �
       fresh _ x is point = absurd (cc is)
 
       left : (stands : Calling) (x : Copier) → copier_of_call stands ≡ Some x
-          → LateCalling same s.hash asks w i (in_slot s.setting (slot i)) s.chart (seen_by s.blocks (s.sights (slot i))) keys began p stands → Cut x
+          → SupersededCalling same s.hash asks w i (in_slot s.setting (slot i)) s.chart (seen_by s.blocks (s.sights (slot i))) keys began p stands → Cut x
       left (at.Helps copier goal) x is point = absurd point
       left (at.Copies copier) x is point =
           subst Cut (it_is copier x is) (late_owes same s.hash w i (in_slot s.setting (slot i)) s.chart (seen_by s.blocks (s.sights (slot i))) began copier point.1)
@@ -94,7 +94,7 @@ module _ {K Q : Type 0} (V : Type 0) (same : K → K → Bool) (asks : Q → K �
 
       of_call : (x : Copier) → copier_of_call p.stands ≡ Some x
           → CallFacts same s.hash asks w i (in_slot s.setting (slot i)) s.chart (seen_by s.blocks (s.sights (slot i))) keys change p
-          ⊎ ((change ≡ Unchanged) × LateCallFacts same s.hash asks w i (in_slot s.setting (slot i)) s.chart (seen_by s.blocks (s.sights (slot i))) keys began p)
+          ⊎ ((change ≡ Unchanged) × SupersededCallFacts same s.hash asks w i (in_slot s.setting (slot i)) s.chart (seen_by s.blocks (s.sights (slot i))) keys began p)
           → Cut x
       of_call x is (inl facts) = fresh p.stands x is facts.point
       of_call x is (inr late) = left p.stands x is late.1.point
@@ -108,14 +108,14 @@ module _ {K Q : Type 0} (V : Type 0) (same : K → K → Bool) (asks : Q → K �
       fresh_room _ x is point = absurd (cc is)
 
       left_room : (stands : Reserving) (x : Copier) → copier_of_room stands ≡ Some x
-          → LateReserving same s.hash w i (in_slot s.setting (slot i)) s.chart (seen_by s.blocks (s.sights (slot i))) began stands → Cut x
+          → SupersededReserving same s.hash w i (in_slot s.setting (slot i)) s.chart (seen_by s.blocks (s.sights (slot i))) began stands → Cut x
       left_room (reserving.Copies copier) x is point =
           subst Cut (it_is copier x is) (late_owes same s.hash w i (in_slot s.setting (slot i)) s.chart (seen_by s.blocks (s.sights (slot i))) began copier point)
       left_room _ x is point = absurd (cc is)
 
       of_room : (x : Copier) → copier_of_room p.stands ≡ Some x
           → ReserveFacts same s.hash w i (in_slot s.setting (slot i)) s.chart (seen_by s.blocks (s.sights (slot i))) p
-          ⊎ LateReserveFacts same s.hash w i (in_slot s.setting (slot i)) s.chart (seen_by s.blocks (s.sights (slot i))) began p
+          ⊎ SupersededReserveFacts same s.hash w i (in_slot s.setting (slot i)) s.chart (seen_by s.blocks (s.sights (slot i))) began p
           → Cut x
       of_room x is (inl facts) = fresh_room p.stands x is facts.point
       of_room x is (inr late) = left_room p.stands x is late.point
@@ -137,7 +137,7 @@ module _ {K Q : Type 0} (V : Type 0) (same : K → K → Bool) (asks : Q → K �
 
     -- whatever is under way
     owes_so : (u : UnderWay K V Q) (x : Copier) → copier_of u ≡ Some x
-        → Stands V same s.hash asks s.setting slot w s.chart (seen_by s.blocks (s.sights (slot i))) i u → OwesSo x
+        → IsAtPoint V same s.hash asks s.setting slot w s.chart (seen_by s.blocks (s.sights (slot i))) i u → OwesSo x
     owes_so (OnKey u) x is (inl (rests, k)) = inl (rests, of_call u.keys u.change u.began u.call x is k.facts)
     owes_so (OnKey u) x is (inr (row, is_row, k)) =
         inr (
@@ -167,7 +167,7 @@ module _ {K Q : Type 0} (V : Type 0) (same : K → K → Bool) (asks : Q → K �
   stands_there m i u has (Some s) is = (s, is)
 
   -- So what a call is to hand over some caller has unlinked, and has still.
-  pub owed_cut : (enders : ℕ → Option (Finishing K V)) (b : ℕ) → IsOwed w maps calls enders b → (i : ℕ) × (w.hand b ≡ Cutting i)
+  pub owed_cut : (enders : ℕ → Option (Finishing K V)) (b : ℕ) → IsObligation w maps calls enders b → (i : ℕ) × (w.hand b ≡ Cutting i)
   owed_cut enders b (m, i, u, has, (x, within, hands)) =
       let there = stands_there m i u has (maps m) refl in
       (i, hands_cut m there.0 there.1 i x (owes_so m there.0 there.1 i u x within ((all.each m there.0 there.1).stand i u has)) b hands)

@@ -29,8 +29,8 @@ use Rattle.owner_facts.specs.Given.PointsTold.{IsRowOfCall}
 use Rattle.owner_facts.proofs.Given.PointsCalls.StepsTold.{calls_keep_the_map}
 use Rattle.owner_facts.proofs.Given.PointsMaking.Sum.{may_sum}
 use Rattle.owner_facts.specs.Given.LateFactsReserves.{ReserveFacts}
-use Rattle.owner_facts.specs.Given.LateLateCalls.{LateCallFacts}
-use Rattle.owner_facts.specs.Given.LateLateReserves.{LateReserveFacts}
+use Rattle.owner_facts.specs.Given.LateLateCalls.{SupersededCallFacts}
+use Rattle.owner_facts.specs.Given.LateLateReserves.{SupersededReserveFacts}
 use Rattle.owner_facts.specs.Given.LateLeft.{ClaimsAreFew}
 use Rattle.owner_facts.specs.Given.LateToldReserves.{IsRowOfReserve}
 use Rattle.owner_facts.specs.Given.LateToldSweeps.{IsRowOfSweep}
@@ -42,8 +42,8 @@ use Rattle.owner_facts.proofs.Given.LateSwept.Laws.{sweeps_keep_the_map, sweeps_
 use Rattle.owner_facts.specs.Given.CallersKept.{IsWithin}
 use Rattle.owner_facts.specs.Given.CallersOverAll.{CallOverAll}
 use Rattle.owner_facts.specs.Given.CallersRooms.{CallForRoom}
-use Rattle.owner_facts.specs.Given.CallersSights.{Sight, seen_by}
-use Rattle.owner_facts.specs.Given.CallersTogether.{UnderWay, CallOnKey, OnKey, ForRoom, Counting, OverAll, Together, Stands, in_slot}
+use Rattle.owner_facts.specs.Given.CallersSights.{Visible, seen_by}
+use Rattle.owner_facts.specs.Given.CallersTogether.{UnderWay, CallOnKey, OnKey, ForRoom, Counting, OverAll, Together, IsAtPoint, in_slot}
 use Rattle.owner_facts.proofs.Given.CallersSights.Seen.{map_seen}
 use Rattle.owner_facts.proofs.Given.CallersTogether.Few.{claim_few}
 use Rattle.owner_facts.proofs.Given.CallersTogether.Fits.{map_in_slot}
@@ -87,7 +87,7 @@ first_of : (x y : Bool) → x ≡ true → cond x true y ≡ true
 first_of x y e = ap (λ (b : Bool). cond b true y) e
 
 module _ {K V Q : Type 0} (same : K → K → Bool) (hash : K → ℕ) (asks : Q → K → Bool) (setting : Setting) (slot : ℕ → ℕ) (lawful : AreLawful same hash) (initial : IsPowerOfTwo setting.initial)
-    (w : World (Node K V)) (c : Chart K) (blocks : Blocks) (sights : ℕ → Sight) (calls : ℕ → Option (UnderWay K V Q)) (s : Together V same hash asks setting slot w c blocks sights calls)
+    (w : World (Node K V)) (c : Chart K) (blocks : Blocks) (sights : ℕ → Visible) (calls : ℕ → Option (UnderWay K V Q)) (s : Together V same hash asks setting slot w c blocks sights calls)
     (i : ℕ) (inside : IsInside (w.uses (slot i))) where
   -- what is kept: the section holds it, its caller has it, or it is the counter
   abbrev pub keep : ℕ → Bool
@@ -174,11 +174,11 @@ module _ {K V Q : Type 0} (same : K → K → Bool) (hash : K → ℕ) (asks : Q
   pub may_key : (u : CallOnKey K V Q) → calls i ≡ Some (OnKey u) → (IsRowOfCall u.call.stands → ⊥) → May Can Took value_at less (call_plan asks same hash u.call)
   may_key u is none = by (s.stand i (OnKey u) is)
     where
-      late_may : LateCallFacts same hash asks w2 i here c seen u.keys u.began u.call → May Can Took value_at less (call_plan asks same hash u.call)
+      late_may : SupersededCallFacts same hash asks w2 i here c seen u.keys u.began u.call → May Can Took value_at less (call_plan asks same hash u.call)
       late_may late = (late_calls_keep_the_map V same hash asks (late_copiers_keep_the_map same hash) lawful here initial w2 i c seen u.keys u.began u.call map2 s.ground.moments (few late.blocking) late none).0
 
       by_facts : u.began ≤ c.now
-          → CallFacts same hash asks w i here c seen u.keys u.change u.call ⊎ ((u.change ≡ Unchanged) × LateCallFacts same hash asks w i here c seen u.keys u.began u.call)
+          → CallFacts same hash asks w i here c seen u.keys u.change u.call ⊎ ((u.change ≡ Unchanged) × SupersededCallFacts same hash asks w i here c seen u.keys u.began u.call)
           → May Can Took value_at less (call_plan asks same hash u.call)
       by_facts began (inl first) =
           elim (((calls_know_on V same hash asks lawful here i w w2 c c seen seen map map2 s.ground.moments others few).1 u.keys u.began began u.change u.call).0 first)
@@ -188,17 +188,17 @@ module _ {K V Q : Type 0} (same : K → K → Bool) (hash : K → ℕ) (asks : Q
           ]
       by_facts began (inr late) = late_may (((calls_know_on V same hash asks lawful here i w w2 c c seen seen map map2 s.ground.moments others few).1 u.keys u.began began u.change u.call).1 late.1)
 
-      by : Stands V same hash asks setting slot w c seen i (OnKey u) → May Can Took value_at less (call_plan asks same hash u.call)
+      by : IsAtPoint V same hash asks setting slot w c seen i (OnKey u) → May Can Took value_at less (call_plan asks same hash u.call)
       by (inl (rests, knows)) = by_facts knows.since.began_before knows.facts
       by (inr (row, is_row, knows)) = absurd (none is_row)
 
   pub may_room : (r : CallForRoom) → calls i ≡ Some (ForRoom r) → (IsRowOfReserve r.reserve.stands → ⊥) → May Can Took value_at less (reserve_plan hash r.reserve)
   may_room r is none = by (s.stand i (ForRoom r) is)
     where
-      late_may : LateReserveFacts same hash w2 i here c seen r.began r.reserve → May Can Took value_at less (reserve_plan hash r.reserve)
+      late_may : SupersededReserveFacts same hash w2 i here c seen r.began r.reserve → May Can Took value_at less (reserve_plan hash r.reserve)
       late_may late = (late_reserves_keep_the_map V same hash lawful here initial w2 i c seen r.began r.reserve map2 s.ground.moments (few late.blocking) late none).0
 
-      by_facts : r.began ≤ c.now → ReserveFacts same hash w i here c seen r.reserve ⊎ LateReserveFacts same hash w i here c seen r.began r.reserve
+      by_facts : r.began ≤ c.now → ReserveFacts same hash w i here c seen r.reserve ⊎ SupersededReserveFacts same hash w i here c seen r.began r.reserve
           → May Can Took value_at less (reserve_plan hash r.reserve)
       by_facts began (inl first) =
           elim ((reserves_know_on V same hash lawful here i w w2 c c seen seen map map2 s.ground.moments others few r.began began r.reserve).0 first)
@@ -208,14 +208,14 @@ module _ {K V Q : Type 0} (same : K → K → Bool) (hash : K → ℕ) (asks : Q
           ]
       by_facts began (inr late) = late_may ((reserves_know_on V same hash lawful here i w w2 c c seen seen map map2 s.ground.moments others few r.began began r.reserve).1 late)
 
-      by : Stands V same hash asks setting slot w c seen i (ForRoom r) → May Can Took value_at less (reserve_plan hash r.reserve)
+      by : IsAtPoint V same hash asks setting slot w c seen i (ForRoom r) → May Can Took value_at less (reserve_plan hash r.reserve)
       by (inl (rests, knows)) = by_facts knows.began_before knows.facts
       by (inr (row, is_row, knows)) = absurd (none is_row)
 
   pub may_sweep : (o : CallOverAll) → calls i ≡ Some (OverAll o) → (IsRowOfSweep o.sweep.stands → ⊥) → May Can Took value_at less (sweep_plan hash o.sweep)
   may_sweep o is none = by (s.stand i (OverAll o) is)
     where
-      by : Stands V same hash asks setting slot w c seen i (OverAll o) → May Can Took value_at less (sweep_plan hash o.sweep)
+      by : IsAtPoint V same hash asks setting slot w c seen i (OverAll o) → May Can Took value_at less (sweep_plan hash o.sweep)
       by (inl (rests, knows)) =
           (sweeps_keep_the_map V same hash lawful here initial w2 i c seen o.began o.sweep map2 s.ground.moments few
           (sweeps_know_on V same hash lawful here i w w2 c c seen seen map map2 s.ground.moments others few o.began knows.began_before o.sweep knows.facts) none).0
@@ -223,7 +223,7 @@ module _ {K V Q : Type 0} (same : K → K → Bool) (hash : K → ℕ) (asks : Q
 
 -- a counting looks at the counter alone
 module _ {K V Q : Type 0} (same : K → K → Bool) (hash : K → ℕ) (asks : Q → K → Bool) (setting : Setting) (slot : ℕ → ℕ)
-    (w : World (Node K V)) (c : Chart K) (blocks : Blocks) (sights : ℕ → Sight) (calls : ℕ → Option (UnderWay K V Q)) (s : Together V same hash asks setting slot w c blocks sights calls)
+    (w : World (Node K V)) (c : Chart K) (blocks : Blocks) (sights : ℕ → Visible) (calls : ℕ → Option (UnderWay K V Q)) (s : Together V same hash asks setting slot w c blocks sights calls)
     (i : ℕ) where
   abbrev pub keep_counter : ℕ → Bool
   keep_counter b = b == setting.counter

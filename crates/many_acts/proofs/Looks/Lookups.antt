@@ -32,8 +32,8 @@ use Rattle.owner_facts.proofs.Given.PointsCalls.May.{may_looks}
 use Rattle.owner_facts.proofs.Given.PointsCalls.StepsTold.{lookups_tell}
 use Rattle.owner_facts.proofs.Given.PointsLookups.LooksAsked.{class_asked, lookup_asked}
 use Rattle.owner_facts.specs.Given.CallersKept.{IsWithin}
-use Rattle.owner_facts.specs.Given.CallersSights.{Sight, seen_by}
-use Rattle.owner_facts.specs.Given.CallersTogether.{UnderWay, CallOnKey, OnKey, Together, Stands, in_slot}
+use Rattle.owner_facts.specs.Given.CallersSights.{Visible, seen_by}
+use Rattle.owner_facts.specs.Given.CallersTogether.{UnderWay, CallOnKey, OnKey, Together, IsAtPoint, in_slot}
 use Rattle.owner_facts.proofs.Given.CallersSights.Seen.{map_seen}
 use Rattle.owner_facts.proofs.Given.CallersTogether.Fits.{map_in_slot}
 use Rattle.many_acts.specs.Looks.Blocks.{MayMake}
@@ -41,7 +41,7 @@ use Rattle.many_acts.specs.Looks.Looks.{LookupsLookAtWhatIsHeld}
 use Rattle.many_acts.proofs.Looks.Restricted.{restricted, value_kept, word_kept, looks_kept}
 
 module _ {K V Q : Type 0} (same : K → K → Bool) (hash : K → ℕ) (asks : Q → K → Bool) (setting : Setting) (slot : ℕ → ℕ) (lawful : AreLawful same hash)
-    (w : World (Node K V)) (c : Chart K) (blocks : Blocks) (sights : ℕ → Sight) (calls : ℕ → Option (UnderWay K V Q)) (s : Together V same hash asks setting slot w c blocks sights calls)
+    (w : World (Node K V)) (c : Chart K) (blocks : Blocks) (sights : ℕ → Visible) (calls : ℕ → Option (UnderWay K V Q)) (s : Together V same hash asks setting slot w c blocks sights calls)
     (i : ℕ) (inside : IsInside (w.uses (slot i))) where
   -- what is kept: the section holds it
   abbrev pub keep : ℕ → Bool
@@ -89,7 +89,7 @@ module _ {K V Q : Type 0} (same : K → K → Bool) (hash : K → ℕ) (asks : Q
           (class_asked same hash setting.mode setting.root u.keys (asks point.3) point.5 u.call.hash facts.class) map2
           (lookup_asked same hash setting.mode setting.root u.keys (asks point.3) point.5 u.call.hash c seen l point.6)).0)
 
-      by : Stands V same hash asks setting slot w c seen i (OnKey u) → May Can Took value_at less (call_plan asks same hash u.call)
+      by : IsAtPoint V same hash asks setting slot w c seen i (OnKey u) → May Can Took value_at less (call_plan asks same hash u.call)
       by (inl (rests, knows)) = elim knows.facts as (λ _. May Can Took value_at less (call_plan asks same hash u.call)) [
         | inl facts ↦ by_point facts (subst (λ (x : Calling). CallingFacts same hash asks w i here c seen u.keys u.change u.call x) stands facts.point)
         | inr late ↦ (let blocking = late.1.blocking in absurd (cc (blocking, incremental)))

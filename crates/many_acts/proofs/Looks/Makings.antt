@@ -15,7 +15,7 @@ use Rattle.run_shows.specs.Given.ResizeNewMap.{opened, taken, made, goes, refuse
 use Rattle.run_shows.specs.Given.ResizeNewTable.{new_table_plan}
 use Rattle.run_shows.specs.Given.ResizeDeclared.new_map.Opening.{Opening}
 use Rattle.run_shows.specs.Given.ResizeDeclared.new_map.Opening.TheVariants as at
-use Rattle.run_shows.specs.Given.RuleInWorld.{IsHeldBy, IsMapIn, KeepsBlocks}
+use Rattle.run_shows.specs.Given.RuleInWorld.{IsHeldBy, IsMapIn, PreservesBlocks}
 use Rattle.run_shows.specs.Given.RuleRule.{no_table}
 use Rattle.owner_facts.proofs.Given.PointsMaking.NewTable.{may_new_table}
 use Rattle.owner_facts.specs.Given.CallersTogether.{no_blocks}
@@ -43,7 +43,7 @@ module _ {K V : Type 0} (same : K → K → Bool) (batch_size roots : ℕ) (w : 
   abbrev its : Setting
   its = b.machine.setting
 
-  own : KeepsBlocks i w.memory w.hand w2.memory w2.hand
+  own : PreservesBlocks i w.memory w.hand w2.memory w2.hand
   own = record {
     blocks = λ x value is other held. (refl, value_kept keep w.memory x (has i (w.hand x) held) ∙ is);
     words = λ x field value is other making. word_kept keep w.memory x field (has i (w.hand x) (subst (IsHeldBy i) (sym making) refl));

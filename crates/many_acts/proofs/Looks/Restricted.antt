@@ -9,7 +9,7 @@ use Rattle.run_shows.specs.Given.SeizeWordsMem.{Mem, Can, Took, Gives, IsFreeNum
 use Rattle.run_shows.specs.Given.SeizeWordsOp.{Op, Out, Load, Store, Swap, Add, Or, Exchange, Make, Take, Rewrite, Room, Found, Stored, Exchanged, Made, Taken, Roomed}
 use Rattle.run_shows.specs.Given.SeizeWordsPlan.{Plan, Then, Turn, Do, Now, Seeing, Sure, May, MaySee}
 use Rattle.run_shows.proofs.Given.SeizeWordsOneOwner.AfterWrites.{block_of-with_block, block_of-made, value_at-with_word, value_at-with_value}
-use Rattle.many_acts.specs.Looks.Blocks.{IsWordOf, IsDoneTo, Sees, LooksAt, MayMake}
+use Rattle.many_acts.specs.Looks.Blocks.{IsWordOf, IsDoneTo, MayLookAt, LooksAt, MayMake}
 use Rattle.run_shows.proofs.Given.General.{same_some as same, some_is as is_there}
 
 -- what is there is some
@@ -198,7 +198,7 @@ module _ {T : Type 0} (keep : ℕ → Bool) where
     left _ _ can g b v is = absurd g
 
     -- What is left of a step that may look there looks at no other block, in the whole memory either.
-    sees_kept : {R : Type 0} (part whole : ℕ → Option T) → ((b : ℕ) (v : T) → part b ≡ Some v → whole b ≡ Some v) → (rest : Then T R) → MaySee part rest → (b : ℕ) → Sees b whole rest
+    sees_kept : {R : Type 0} (part whole : ℕ → Option T) → ((b : ℕ) (v : T) → part b ≡ Some v → whole b ≡ Some v) → (rest : Then T R) → MaySee part rest → (b : ℕ) → MayLookAt b whole rest
         → (v : T) × (part b ≡ Some v)
     sees_kept part whole below (Now end) may b sees = absurd sees
     sees_kept part whole below (Seeing block rest) may b (inl is) = let t = there (part block) may.0 in (t.0, ap part is ∙ t.1)

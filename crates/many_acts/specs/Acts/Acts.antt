@@ -15,8 +15,8 @@ use Rattle.run_shows.specs.Given.RawDeclared.machines.asking.MachineReply.{Machi
 use Rattle.run_shows.specs.Given.RawDeclared.machines.call.KeyCall.{KeyCall}
 use Rattle.run_shows.specs.Given.RawDeclared.machines.progress.Progress.{Progress}
 use Rattle.run_shows.specs.Given.TablesDeclared.node.Node.TheVariants as node
-use Rattle.owner_facts.specs.Given.PointsSteps.{told_first}
-use Rattle.owner_facts.specs.Given.CallersAsked.{told_before}
+use Rattle.owner_facts.specs.Given.PointsSteps.{first_reply}
+use Rattle.owner_facts.specs.Given.CallersAsked.{replies_before}
 use Rattle.owner_facts.specs.Given.CallersKind.{gets, removes, inserts, tries_to_insert, computes, updates, updates_or_inserts, tries_to_insert_with, removes_if}
 use Rattle.owner_facts.specs.Given.CallersOverAll.{begun_over_all}
 use Rattle.owner_facts.specs.Given.CallersPairs.{Given, Begun, IsTold}
@@ -91,7 +91,7 @@ module _ {K V : Type 0} (same : K → K → Bool) (slot : ℕ → ℕ) (s : Stan
   begun (Compute key) = on_key (same key) (IsTold computes (Some key) []) (computing (its slot s i) (s.hash key) key)
   begun (Update key) = on_key (same key) (IsTold updates (Some key) []) (updating (its slot s i) (s.hash key) key)
   begun (UpdateOrInsert key absent) =
-      on_key (same key) (IsTold updates_or_inserts (Some key) (told_before absent)) (updating_or_inserting (its slot s i) (s.hash key) key (told_first absent))
+      on_key (same key) (IsTold updates_or_inserts (Some key) (replies_before absent)) (updating_or_inserting (its slot s i) (s.hash key) key (first_reply absent))
   begun (TryToInsertWith key) = on_key (same key) (IsTold tries_to_insert_with (Some key) []) (trying_to_insert_with (its slot s i) (s.hash key) key)
   begun (RemoveIf key) = on_key (same key) (IsTold removes_if None []) (removing_if (its slot s i) (s.hash key) key)
   begun (GetKeyValue key) = on_key (same key) (Begun gets None) (getting (its slot s i) (s.hash key) key)

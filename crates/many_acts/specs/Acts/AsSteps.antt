@@ -28,7 +28,7 @@ use Rattle.run_shows.specs.Given.RawDeclared.machines.asking.MachineReply.{Machi
 use Rattle.run_shows.specs.Given.RawDeclared.machines.end_map.EndMap.{EndMap}
 use Rattle.run_shows.specs.Given.RawDeclared.machines.progress.Progress.{Progress as CallProgress}
 use Rattle.run_shows.specs.Given.TellsSeen.{seen_of}
-use Rattle.run_shows.specs.Given.TellerTells.{told_of}
+use Rattle.run_shows.specs.Given.TellerTells.{observed_of}
 use Rattle.run_shows.specs.Given.EffectsDeclared.changed.Changed.{Changed}
 use Rattle.run_shows.specs.Given.EffectsDeclared.changed.Changed.TheVariants.{Nothing as NoChange}
 use Rattle.owner_facts.specs.Given.CallersTogether.{UnderWay}
@@ -40,9 +40,9 @@ use Rattle.owner_facts.specs.Given.FinishesMaps.{Standing, with_call}
 use Rattle.many_acts.specs.Acts.Acts.{Act, Answer, OfCall, OfReply, OfAsking, OfMaking, OfEnding, begun, BeginsCall, StepsCall, TellsCall, AsksCall, StopsCall, BeginsMaking, StepsMaking, BeginsEnding, StepsEnding, BeginsRow, StepsRow}
 use Rattle.many_acts.specs.Acts.Leads.{MayBe, AllStand, Led, asked_on, call_at}
 use Rattle.run_shows.specs.Scenes.Beginning.{Begins}
-use Rattle.run_shows.specs.Scenes.Ending.{EndingBeginsTo, EndingComesTo, EndingLeads, ending_begun, ending_goes}
+use Rattle.run_shows.specs.Scenes.Ending.{EndingBeginsTo, EndingHasOutcome, EndingLeads, ending_begun, ending_goes}
 use Rattle.run_shows.specs.Scenes.Held.{Held, IsAt}
-use Rattle.run_shows.specs.Scenes.Making.{MakingComesTo, MakingLeads, making_begun, scene_making}
+use Rattle.run_shows.specs.Scenes.Making.{MakingHasOutcome, MakingLeads, making_begun, scene_making}
 use Rattle.run_shows.specs.Scenes.OnSlots.{RowBegins, RowLeads}
 use Rattle.many_acts.specs.Acts.Reclaiming.{ReclaimedOn}
 use Rattle.run_shows.specs.Scenes.Reclaiming.{IsReclaiming, ReclaimingLeads}
@@ -59,7 +59,7 @@ module _ {K V : Type 0} where
   -- what an operation has changed, by its answer, if it has one
   abbrev pub changed_as : Mem (Node K V) → Op (Node K V) → Option (Out (Node K V)) → Changed
   changed_as m op None = NoChange
-  changed_as m op (Some out) = told_of op out (seen_of m op out)
+  changed_as m op (Some out) = observed_of op out (seen_of m op out)
 
   -- what the one operation of a step has changed, where the memory chooses so
   abbrev pub changed_of : {R : Type 0} → Mem (Node K V) → Grant → Plan (Node K V) R → Changed
@@ -77,13 +77,13 @@ module _ {K V : Type 0} where
   row_changed (Frees c) g m = changed_of m g (unregister_plan c)
 
   -- and what that tells by its step
-  abbrev pub row_told : Row → Grant → Mem (Node K V) → RowTold (Node K V)
-  row_told (Registers c) g m = option_map_or (λ p. of_registering p.1.1) (stepped m g (register_plan c)) told.Goes
-  row_told (Enters c) g m = option_map_or (λ p. of_storing p.1.1) (stepped m g (enter_plan c)) told.Goes
-  row_told (Settles c) g m = option_map_or (λ p. of_settling p.1.1) (stepped m g (settle_plan deferred_word c)) told.Goes
-  row_told (Leaves c) g m = option_map_or (λ p. of_settling p.1.1) (stepped m g (leave_plan deferred_word c)) told.Goes
-  row_told (Frees c) g m = option_map_or (λ p. of_storing p.1.1) (stepped m g (unregister_plan c)) told.Goes
-  row_told _ g m = told.Goes
+  abbrev pub outcome_of_row_step : Row → Grant → Mem (Node K V) → RowTold (Node K V)
+  outcome_of_row_step (Registers c) g m = option_map_or (λ p. of_registering p.1.1) (stepped m g (register_plan c)) told.Goes
+  outcome_of_row_step (Enters c) g m = option_map_or (λ p. of_storing p.1.1) (stepped m g (enter_plan c)) told.Goes
+  outcome_of_row_step (Settles c) g m = option_map_or (λ p. of_settling p.1.1) (stepped m g (settle_plan deferred_word c)) told.Goes
+  outcome_of_row_step (Leaves c) g m = option_map_or (λ p. of_settling p.1.1) (stepped m g (leave_plan deferred_word c)) told.Goes
+  outcome_of_row_step (Frees c) g m = option_map_or (λ p. of_storing p.1.1) (stepped m g (unregister_plan c)) told.Goes
+  outcome_of_row_step _ g m = told.Goes
 
   module _ {S : Type 0} (same : K → K → Bool) where
     -- what the one operation of an act has changed
@@ -109,14 +109,14 @@ module _ {K V S : Type 0} (by_hasher : S → K → ℕ) (hash : ℕ → K → �
 module _ {K V : Type 0} (same : K → K → Bool) (hash : ℕ → K → ℕ) where
   -- The scene to which a step of the making of a map, or of the end of one, has come, by what it says.
   abbrev pub MadeTo : (s : Scene K V) (old new : Held K V) (i : ℕ) (b : Beginning K) (opening : NewMap) (w2 : World (Node K V)) (told : Advance Setting)
-      → MakingComesTo same hash s old new i b opening w2 told → Scene K V → Type 0
+      → MakingHasOutcome same hash s old new i b opening w2 told → Scene K V → Type 0
   MadeTo s old new i b opening w2 progress.Goes comes n = n ≡ record s { world = w2; makers = with_at s.makers i (Some (record b { machine = opening })) }
   MadeTo s old new i b opening w2 progress.Waits comes n = ⊥
   MadeTo s old new i b opening w2 (progress.Done setting) comes n = n ≡ record s { world = w2; maps = with_at s.maps b.map (Some comes.0); makers = with_at s.makers i None }
   MadeTo s old new i b opening w2 (progress.Refused fault) comes n = n ≡ record s { world = w2; makers = with_at s.makers i None }
 
   abbrev pub EndedTo : (s : Scene K V) (new : Held K V) (i : ℕ) (f : Finishing K V) (ending : EndMap) (w2 : World (Node K V)) (deed : Deed) (told : Settled (Node K V))
-      → EndingComesTo same hash s new i f ending w2 deed told → Scene K V → Type 0
+      → EndingHasOutcome same hash s new i f ending w2 deed told → Scene K V → Type 0
   EndedTo s new i f ending w2 deed settled.Goes comes n = n ≡ ending_goes s i f ending w2 deed f.back
   EndedTo s new i f ending w2 deed settled.Waits comes n = ⊥
   EndedTo s new i f ending w2 deed (settled.Gave value) comes n = n ≡ ending_goes s i f ending w2 deed (f.back ++ comes.0 ∷ [])
@@ -153,7 +153,7 @@ module _ {K V S : Type 0} (same : K → K → Bool) (by_hasher : S → K → ℕ
   LeadsAs (BeginsRow i request) s answer n old new =
       (called : SlotCall) × (request ≡ request_of (slot_of i) called) × (leads : RowBegins same hash called i s old new) × (n ≡ record s { world = leads.2.0; maps = leads.2.2 })
   LeadsAs (StepsRow i g) s answer n old new =
-      (leads : RowLeads same hash i (row_told (s.world.row i) g s.world.memory) s old new)
+      (leads : RowLeads same hash i (outcome_of_row_step (s.world.row i) g s.world.memory) s old new)
       × ((row : SlotRow) (here : IsOnSlot s i row) → n ≡ record s { world = (leads row here).2.0; maps = (leads row here).2.2 })
 
 -- The promise: an act of its own leads so, from a scene of what is held to one of what is held then.

@@ -14,7 +14,7 @@ use Rattle.run_shows.specs.Given.SeizeDeclared.states.TheConstants.{HEAD, LAST_S
 use Rattle.seize_acts.specs.Acts.Acts.{rests}
 use Rattle.seize_acts.specs.Acts.Answers.{Grant, then_on}
 use Rattle.run_shows.specs.Given.TablesDeclared.node.Node.{Node}
-use Rattle.run_shows.specs.Reclaims.Left.{LeftAmong}
+use Rattle.run_shows.specs.Reclaims.Left.{LeftWithEndings}
 use Rattle.run_shows.specs.Reclaims.Slots.{HasNoBatch}
 use Rattle.many_acts.specs.Acts.Acts.{Act, Answer, Nothing, OfReclaiming}
 use Rattle.many_acts.specs.Acts.Leads.{MayBe, AllStand, Led}
@@ -35,7 +35,7 @@ is_vacant _ = false
 module _ {K V : Type 0} where
   -- these lists are behind the roots that are nobody's, and each other one of these is free
   abbrev pub IsLeft : ℕ → Scene K V → (ℕ → List ℕ) → Type 0
-  IsLeft roots s lists = LeftAmong roots s.world s.maps s.makers s.enders lists
+  IsLeft roots s lists = LeftWithEndings roots s.world s.maps s.makers s.enders lists
 
   -- nobody has a call, makes a map or ends one, and no row is under way
   pub record AllAreFree (s : Scene K V) : Type 0 where
@@ -72,7 +72,7 @@ module _ {K S : Type 0} (V : Type 0) (same : K → K → Bool) (hash : S → K �
   abbrev pub IsReclaimed : Scene K V → Type 0
   IsReclaimed s = (i : ℕ) × (lists : ℕ → List ℕ) × (c : ReclaimAll) × IsReclaimingAll V same batch_size roots slot s i lists c
 
-  -- A scene in which all stand together. What ended maps have left is behind roots that are nobody's, or a caller reclaims all.
+  -- A scene in which the invariant of all holds. What ended maps have left is behind roots that are nobody's, or a caller reclaims all.
   abbrev pub Stage : Type 0
   Stage = (s : Scene K V) × AllStand same hash batch_size roots slot s × (((lists : ℕ → List ℕ) × IsLeft roots s lists) ⊎ IsReclaimed s)
 

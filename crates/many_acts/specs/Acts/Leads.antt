@@ -27,9 +27,9 @@ use Rattle.run_shows.specs.Given.SweepsSweepPoints.{after_next}
 use Rattle.owner_facts.specs.Given.CallersClaims.{AreFew}
 use Rattle.owner_facts.specs.Given.CallersOverAll.{gone_on}
 use Rattle.owner_facts.specs.Given.CallersTogether.{UnderWay, OverAll, UnlessCounts, HasCall, IsOfSlots, Closes}
-use Rattle.owner_facts.specs.Given.FinishesEndings.{Finishing, EndingsTogether, StepsOfEnding, MakingStepsAmong, HasFinished, waiting_by}
+use Rattle.owner_facts.specs.Given.FinishesEndings.{Finishing, EndingsTogether, StepsOfEnding, MakingStepsWithEndings, HasFinished, waiting_by}
 use Rattle.owner_facts.specs.Given.FinishesFactsEnds.{Deed, taken_by}
-use Rattle.owner_facts.specs.Given.FinishesMachines.{machine_of, ToldOfKind, MachineStepsAmong}
+use Rattle.owner_facts.specs.Given.FinishesMachines.{machine_of, RepliedOfKind, MachineStepsWithEndings}
 use Rattle.owner_facts.specs.Given.FinishesMakings.{Beginning, IsMade}
 use Rattle.owner_facts.specs.Given.FinishesMaps.{Standing, IsSameMap, with_call}
 use Rattle.many_acts.specs.Acts.Acts.{Act, Answer, Nothing, OfCall, OfReply, OfAsking, OfMaking, OfEnding, UnlessToCount, begun, BeginsCall, StepsCall, TellsCall, AsksCall, StopsCall, BeginsMaking, StepsMaking, BeginsEnding, StepsEnding, BeginsRow, StepsRow}
@@ -91,7 +91,7 @@ module _ {K V S : Type 0} (same : K → K → Bool) (hash : S → K → ℕ) (ba
       × (is_none (row_begun deferred_word batch_size i request s.world) ≡ false)
   MayBe (StepsRow i g) s = HasNoCall s i × (is_none (row_steps deferred_word i (s.world.row i) g s.world) ≡ false)
 
-  -- all stand together there: maps, calls, makings and ends
+  -- the invariant of all holds there: maps, calls, makings and ends
   abbrev pub AllStand : Scene K V → Type 0
   AllStand s = EndingsTogether V same same batch_size roots slot s.world s.maps s.calls s.makers s.enders
 
@@ -125,7 +125,7 @@ module _ {K V S : Type 0} (same : K → K → Bool) (hash : S → K → ℕ) (ba
     pub progress : CallProgress (Node K V)
     pub computed : call_steps s g (standing, call) ≡ Some (memory, (machine, progress))
     pub tells : told ≡ OfCall progress
-    pub did : MachineStepsAmong V same same batch_size roots slot s.world s.maps s.calls s.makers s.enders m standing i memory call machine progress
+    pub did : MachineStepsWithEndings V same same batch_size roots slot s.world s.maps s.calls s.makers s.enders m standing i memory call machine progress
     pub comes : n ≡ record { world = did.w2; maps = did.maps2; calls = with_call s.calls m i did.next; makers = s.makers; enders = s.enders }
 
   -- From this scene the act has led to that one, and has told this. A step is computed from the memory and from what that was free to choose.
@@ -136,7 +136,7 @@ module _ {K V S : Type 0} (same : K → K → Bool) (hash : S → K → ℕ) (ba
   Led (TellsCall i m reply) s told n =
       (standing : Standing K) × (s.maps m ≡ Some standing) × (u next : UnderWay K V K) × (s.calls m i ≡ Some u)
       × (machine_of next ≡ (machine_replied (machine_of u) reply).0) × (told ≡ OfReply (machine_replied (machine_of u) reply).1)
-      × (ToldOfKind V same same batch_size roots slot standing i u reply next × (is_err (machine_replied (machine_of u) reply).1 ≡ true → next ≡ u)) × (n ≡ scene_with m i next s)
+      × (RepliedOfKind V same same batch_size roots slot standing i u reply next × (is_err (machine_replied (machine_of u) reply).1 ≡ true → next ≡ u)) × (n ≡ scene_with m i next s)
   Led (AsksCall i m) s told n =
       (u : UnderWay K V K) × (s.calls m i ≡ Some u) × (told ≡ OfAsking (machine_asked (machine_of u)).1) × (n ≡ scene_with m i (asked_on u) s)
   Led (StopsCall i m) s told n =
@@ -146,7 +146,7 @@ module _ {K V S : Type 0} (same : K → K → Bool) (hash : S → K → ℕ) (ba
   Led (StepsMaking i g) s told n =
       (b : Beginning K) × (s.makers i ≡ Some b) × (m2 : Mem (Node K V)) × (machine : NewMap) × (progress : Advance Setting)
       × (making_steps s g b ≡ Some (m2, (machine, progress))) × (told ≡ OfMaking progress)
-      × (did : MakingStepsAmong V same same batch_size roots slot s.world s.maps s.calls s.makers s.enders i b m2 (machine, progress))
+      × (did : MakingStepsWithEndings V same same batch_size roots slot s.world s.maps s.calls s.makers s.enders i b m2 (machine, progress))
       × MakingCame s i b did.step.w2 machine n progress
   Led (BeginsEnding i m) s told n = (standing : Standing K) × (s.maps m ≡ Some standing) × (told ≡ Nothing) × (n ≡ ending_begun m i standing s)
   Led (StepsEnding i g) s told n =

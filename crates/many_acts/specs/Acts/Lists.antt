@@ -53,12 +53,12 @@ module _ {K S : Type 0} (V : Type 0) (same : K → K → Bool) (hash : S → K �
     pub rows : (i : ℕ) → HasNoCall s i → (w2 : World (Node K V)) → Steps' deferred_word i (s.world.row i) s.world w2
         → (g : Grant) × (row_steps deferred_word i (s.world.row i) g s.world ≡ Some w2)
 
-  -- The promise of steps: where all stand together, each next step may be taken, and is that of an act.
+  -- The promise of steps: where the invariant of all holds, each next step may be taken, and is that of an act.
   abbrev pub StepsAreActs : Type 0
   StepsAreActs = (s : Scene K V) → AllStand same hash batch_size roots slot s → AllMayStep s × AllAreActs s
 
-  -- A course says where each of what may be done leads, and what it tells: all stand together again. At first nobody has anything under way, no map stands,
-  -- and nothing is left behind roots.
+  -- A course says where each of what may be done leads, and what it tells: the invariant of all holds again. At first nobody has anything under way, no map
+  -- stands, and nothing is left behind roots.
   pub record Course : Type 0 where
     pub first : AllStand {V = V} same hash batch_size roots slot (at_first roots)
     pub left : IsLeft {K = K} {V = V} roots (at_first roots) (λ r. [])

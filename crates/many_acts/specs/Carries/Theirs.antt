@@ -23,11 +23,11 @@ use Rattle.owner_facts.specs.Given.FinishesMaps.{Standing}
 use Rattle.run_shows.specs.Reclaims.Deferred.{IsLinkedTable}
 
 -- a copier is to hand this block over next: it has unlinked that table
-abbrev pub IsDueAt : Copier → Copying → ℕ → Type 0
-IsDueAt p copies.Announces b = p.source.link ≡ b * 2048
-IsDueAt p (copies.Succeeds table) b = table ≡ b * 2048
-IsDueAt p (copies.Retires settle rest) b = settle ≡ retiring p.setting.slot p.setting.batch_size (b * 2048)
-IsDueAt p _ b = ⊥
+abbrev pub IsObligedAt : Copier → Copying → ℕ → Type 0
+IsObligedAt p copies.Announces b = p.source.link ≡ b * 2048
+IsObligedAt p (copies.Succeeds table) b = table ≡ b * 2048
+IsObligedAt p (copies.Retires settle rest) b = settle ≡ retiring p.setting.slot p.setting.batch_size (b * 2048)
+IsObligedAt p _ b = ⊥
 
 -- the word of the table that it comes to next, of those that it has unlinked: while it retires one, that of the one behind, or 0 if none is left
 abbrev pub next_of_them : Copier → Copying → ℕ
@@ -78,17 +78,17 @@ IsToCome {K} maps m p b =
 module _ {K V : Type 0} (w : World (Node K V)) (maps : ℕ → Option (Standing K)) where
   -- the copier of caller i, on map m, is to hand the block over next, and has not begun to, or is to come to it
   abbrev pub IsToHandOver : (m i : ℕ) → Copier → ℕ → Type 0
-  IsToHandOver m i p b = ((w.row i ≡ Rests) × IsDueAt p p.stands b) ⊎ IsToCome maps m p b
+  IsToHandOver m i p b = ((w.row i ≡ Rests) × IsObligedAt p p.stands b) ⊎ IsToCome maps m p b
 
   module _ {Q : Type 0} where
     -- so is the copier within what caller i has under way
-    abbrev pub Owes : (m i : ℕ) → UnderWay K V Q → ℕ → Type 0
-    Owes m i u b = (p : Copier) × (copier_of u ≡ Some p) × IsToHandOver m i p b
+    abbrev pub HasObligation : (m i : ℕ) → UnderWay K V Q → ℕ → Type 0
+    HasObligation m i u b = (p : Copier) × (copier_of u ≡ Some p) × IsToHandOver m i p b
 
 module _ {K V Q : Type 0} (w : World (Node K V)) (maps : ℕ → Option (Standing K)) (calls : ℕ → ℕ → Option (UnderWay K V Q)) (enders : ℕ → Option (Finishing K V)) where
   -- a call that is under way is to hand it over
-  abbrev pub IsOwed : ℕ → Type 0
-  IsOwed b = (m : ℕ) × (i : ℕ) × (u : UnderWay K V Q) × (calls m i ≡ Some u) × Owes w maps m i u b
+  abbrev pub IsObligation : ℕ → Type 0
+  IsObligation b = (m : ℕ) × (i : ℕ) × (u : UnderWay K V Q) × (calls m i ≡ Some u) × HasObligation w maps m i u b
 
   -- it is a table of a map that ends, and was not reclaimed so far
   abbrev pub IsEnding : ℕ → Type 0
@@ -97,7 +97,7 @@ module _ {K V Q : Type 0} (w : World (Node K V)) (maps : ℕ → Option (Standin
 
   -- whose it is
   abbrev pub IsTheirs : ℕ → Type 0
-  IsTheirs b = IsLinkedTable w maps b ⊎ (IsOwed b ⊎ IsEnding b)
+  IsTheirs b = IsLinkedTable w maps b ⊎ (IsObligation b ⊎ IsEnding b)
 
   -- users have the block, and something may be put behind it
   abbrev pub CanCarry : ℕ → Type 0

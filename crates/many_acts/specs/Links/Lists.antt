@@ -9,11 +9,11 @@ use Rattle.many_acts.specs.Links.Tied.{IsTied, IsHeldInside, AllAreClosed, Unlin
 use Rattle.run_shows.specs.Scenes.Scene.{Scene}
 
 module _ {K S : Type 0} (V : Type 0) (same : K → K → Bool) (hash : S → K → ℕ) (batch_size roots : ℕ) (slot : ℕ → ℕ) where
-  -- The promise of a scene: where all stand together, and each block behind which something may be put is somebody's, the world is tied.
+  -- The promise of a scene: where the invariant of all holds, and each block behind which something may be put is somebody's, the world is tied.
   abbrev pub ScenesAreTied : Type 0
   ScenesAreTied = (s : Scene K V) → AllStand same hash batch_size roots slot s → AreTheirs s → IsTied s.world s.maps
 
-  -- What a caller sees of a map is closed, where all stand together.
+  -- What a caller sees of a map is closed, where the invariant of all holds.
   abbrev pub ScenesAreClosed : Type 0
   ScenesAreClosed = (s : Scene K V) → AllStand same hash batch_size roots slot s → AllAreClosed s.world s.maps
 

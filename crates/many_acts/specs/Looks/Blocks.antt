@@ -41,15 +41,15 @@ module _ {T : Type 0} where
 
 module _ {T R : Type 0} where
   -- what is left of a step looks at the value of this block
-  abbrev pub Sees : ℕ → (ℕ → Option T) → Then T R → Type 0
-  Sees b shown (Now end) = ⊥
-  Sees b shown (Seeing block rest) = (b ≡ block) ⊎ ((value : T) × (shown block ≡ Some value) × Sees b shown (rest value))
-  Sees b shown (Sure fact rest) = Sees b shown rest
+  abbrev pub MayLookAt : ℕ → (ℕ → Option T) → Then T R → Type 0
+  MayLookAt b shown (Now end) = ⊥
+  MayLookAt b shown (Seeing block rest) = (b ≡ block) ⊎ ((value : T) × (shown block ≡ Some value) × MayLookAt b shown (rest value))
+  MayLookAt b shown (Sure fact rest) = MayLookAt b shown rest
 
   -- In this memory the step of this plan looks at this block.
   abbrev pub LooksAt : ℕ → Mem T → Plan T R → Type 0
-  LooksAt b m (Turn rest) = Sees b (value_at m) rest
-  LooksAt b m (Do op rest) = IsDoneTo b op ⊎ ((out : Out T) × (n : Mem T) × Took m op out n × Sees b (value_at n) (rest out))
+  LooksAt b m (Turn rest) = MayLookAt b (value_at m) rest
+  LooksAt b m (Do op rest) = IsDoneTo b op ⊎ ((out : Out T) × (n : Mem T) × Took m op out n × MayLookAt b (value_at n) (rest out))
 
   -- the step may make this block: its number is free
   abbrev pub MayMake : ℕ → Mem T → Plan T R → Type 0

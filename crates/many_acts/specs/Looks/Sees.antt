@@ -21,19 +21,19 @@ use Rattle.owner_facts.specs.Given.FinishesEndings.{Finishing, EndingsTogether}
 use Rattle.owner_facts.specs.Given.FinishesMachines.{machine_of}
 use Rattle.owner_facts.specs.Given.FinishesMakings.{Beginning}
 use Rattle.owner_facts.specs.Given.FinishesMaps.{Standing}
-use Rattle.many_acts.specs.Looks.Blocks.{Sees}
+use Rattle.many_acts.specs.Looks.Blocks.{MayLookAt}
 use Rattle.many_acts.specs.Looks.Looks.{IsAtRow}
 
 -- The step of this plan that came to this memory and this end has seen the block: it has looked at its value once its operation was answered.
 abbrev pub HasSeen : {T R : Type 0} → ℕ → Mem T → Plan T R → Mem T → R → Type 0
-HasSeen b m (Turn rest) n end = (n ≡ m) × Ends (value_at n) rest end × Sees b (value_at n) rest
-HasSeen {T} b m (Do op rest) n end = (out : Out T) × Took m op out n × Ends (value_at n) (rest out) end × Sees b (value_at n) (rest out)
+HasSeen b m (Turn rest) n end = (n ≡ m) × Ends (value_at n) rest end × MayLookAt b (value_at n) rest
+HasSeen {T} b m (Do op rest) n end = (out : Out T) × Took m op out n × Ends (value_at n) (rest out) end × MayLookAt b (value_at n) (rest out)
 
 -- the call goes on
-abbrev pub GoesOn : {T : Type 0} → Progress T → Type 0
-GoesOn (progress.Done answer) = ⊥
-GoesOn (progress.Refused fault) = ⊥
-GoesOn _ = Unit {0}
+abbrev pub Continues : {T : Type 0} → Progress T → Type 0
+Continues (progress.Done answer) = ⊥
+Continues (progress.Refused fault) = ⊥
+Continues _ = Unit {0}
 
 -- where a call on a key has yet to put its own pair into the map, or to give it back
 abbrev pub IsToStore : Calling → Type 0
@@ -60,7 +60,7 @@ module _ {K Q : Type 0} (V : Type 0) (same : K → K → Bool) (asks : Q → K �
       → EndingsTogether V same asks batch_size roots slot w maps calls makers enders
       → (m : ℕ) (s : Standing K) → maps m ≡ Some s → is_incremental s.setting.mode ≡ true → (i : ℕ) (u : UnderWay K V Q) → calls m i ≡ Some u → (IsAtRow u → ⊥)
       → (m2 : Mem (Node K V)) (machine : Machine K V Q) (told : Progress (Node K V)) (b : ℕ) → HasSeen b w.memory (machine_plan asks same s.hash (machine_of u)) m2 (machine, told)
-      → (holds (slot i) b w.log ≡ true) ⊎ (IsOwnOf machine b × GoesOn told)
+      → (holds (slot i) b w.log ≡ true) ⊎ (IsOwnOf machine b × Continues told)
 
   -- And the own pair of a call, in either mode, is in the hands of its caller, who has made its block, and not as the counter of a map.
   abbrev pub OwnPairsAreMade : Type 0

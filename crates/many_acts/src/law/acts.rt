@@ -7,12 +7,12 @@ ghost use Rattle.many_acts.specs.Acts.Reclaiming.{ReclaimingIsByActs};
 ghost use Rattle.many_acts.specs.Acts.Lists.{Course, StepsAreActs, ListsDetermine};
 
 /// Any number of callers begin calls on any maps of one collector, in either mode, and take steps of them, tell them what they ask for, make and end maps, and
-/// work on their slots, in any order. What one does at once is an act, as plain data: who does it, on which map, what the memory was free to choose, what a call
-/// was told, and the hasher with which a map is made. Each act is one operation on the memory at most, and a list of acts determines the world, the maps with
-/// all their tables and pairs, what callers have under way, and what they were told. After each act all stand together, and whoever takes the next step of what
-/// it has under way may take it: what it looks at is there. No step that a memory can take is left out. By any course a list leads to the same memory, machines
-/// and answers. Where nobody has anything under way, a caller may reclaim all in the midst of a list, by steps as plain data too, as often as one likes; other
-/// acts come behind it.
+/// work on their slots, in any order. What one does at once is an act, as plain data: who does it, on which map, what the memory was free to choose, what a
+/// call was told, and the hasher with which a map is made. Each act is one operation on the memory at most, and a list of acts determines the world, the maps
+/// with all their tables and pairs, what callers have under way, and what they were told. After each act the invariant of all holds, and whoever takes the next
+/// step of what it has under way may take it: what it looks at is there. No step that a memory can take is left out. By any course a list leads to the same
+/// memory, machines and answers. Where nobody has anything under way, a caller may reclaim all in the midst of a list, by steps as plain data too, as often as
+/// one likes; other acts come behind it.
 pub fn lists_of_acts_determine<K, V, S>()
     ensures steps { (same : K → K → Bool) (hash : S → K → ℕ) (batch_size roots : ℕ) (slot : ℕ → ℕ) → StepsAreActs V same hash batch_size roots slot }
     ensures determined { (same : K → K → Bool) (hash : S → K → ℕ) (batch_size roots : ℕ) (slot : ℕ → ℕ) → ListsDetermine V same hash batch_size roots slot }

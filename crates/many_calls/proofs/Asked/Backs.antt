@@ -6,21 +6,21 @@ use Rattle.seize_model.specs.Given.SeizeWordsWord.{block_in}
 use Rattle.seize_model.specs.Given.SeizeWordsMem.{Mem, value_at}
 use Rattle.map_facts_late.specs.Given.TablesDeclared.node.Node.{Node}
 use Rattle.map_facts_late.specs.Given.TablesDeclared.node.Node.TheVariants as node
-use Rattle.map_facts_late.specs.Given.RawReplies.{value_told, owned, value_for, as_own, back, back_present, with_back}
+use Rattle.map_facts_late.specs.Given.RawReplies.{value_replied, owned, value_for, as_own, back, back_present, with_back}
 use Rattle.map_facts_late.specs.Given.RawDeclared.machines.asking.Replies.{Replies}
 use Rattle.map_facts_late.specs.Given.RawDeclared.machines.asking.MachineReply.TheVariants as reply
 use Rattle.map_facts_late.specs.Given.RawDeclared.machines.asking.Told.{Told}
 use Rattle.map_facts_late.specs.Given.RawDeclared.machines.asking.Told.TheVariants as tells
 use Rattle.map_facts_late.specs.Given.RawDeclared.machines.call.Calling.TheVariants as at
 use Rattle.map_facts_late.specs.Given.RuleChart.{Chart}
-use Rattle.map_facts_late.specs.Given.RuleWords.{Blocks, Shows}
+use Rattle.map_facts_late.specs.Given.RuleWords.{Blocks, Represents}
 use Rattle.map_facts_late.specs.Given.PointsFactsCalls.{RepliesFit}
-use Rattle.many_calls.specs.Asked.{Asked, last_told, OwnHasTold, Recalls, IsAsTold, DoesTold}
+use Rattle.many_calls.specs.Asked.{Asked, last_reply, OwnHasValueReplied, Recalls, IsAsReplied, DoesAsReplied}
 use Rattle.many_calls.proofs.Asked.Stays.{Stays, word_on, recalls_on}
 use Rattle.many_calls.proofs.Asked.By.{IsNamed, recalls_word}
 
 -- the value that was told
-told_is : {V : Type 0} (told : Told V) (v : V) → value_told told ≡ Some v → told ≡ tells.Value v
+told_is : {V : Type 0} (told : Told V) (v : V) → value_replied told ≡ Some v → told ≡ tells.Value v
 told_is tells.Nothing v e = absurd (cc e)
 told_is (tells.Value x) v e = cc e
 told_is tells.Own v e = absurd (cc e)
@@ -38,9 +38,9 @@ abbrev pub RecallsSame : {K V : Type 0} → Replies K V → Replies K V → Type
 RecallsSame r r2 = (r2.takes ≡ r.takes) × (r2.pair ≡ r.pair) × (r.present ≢ tells.Nothing → r2.present ≢ tells.Nothing)
 
 module _ {K V : Type 0} (hash : K → ℕ) (m m2 : Mem (Node K V)) (c c2 : Chart K) (blocks blocks2 : Blocks) (its : Option K) (asked : List (Asked V))
-    (stays : Stays m m2 c c2 blocks blocks2) (r : Replies K V) (own : ℕ) (h : IsAsTold hash m c blocks its asked r own) (fit : RepliesFit r) where
+    (stays : Stays m m2 c c2 blocks blocks2) (r : Replies K V) (own : ℕ) (h : IsAsReplied hash m c blocks its asked r own) (fit : RepliesFit r) where
   abbrev As2 : Replies K V → ℕ → Type 0
-  As2 = IsAsTold hash m2 c2 blocks2 its asked
+  As2 = IsAsReplied hash m2 c2 blocks2 its asked
 
   abbrev on : (x : Replies K V) (Told Told2 : ℕ → Type 0) → ((n : ℕ) → Told n → Told2 n) → Recalls hash m c blocks its asked x Told → Recalls hash m2 c2 blocks2 its asked x Told2
   on = recalls_on hash m m2 c c2 blocks blocks2 its asked stays
@@ -51,10 +51,10 @@ module _ {K V : Type 0} (hash : K → ℕ) (m m2 : Mem (Node K V)) (c c2 : Chart
     abbrev Backed : Replies K V → Type 0
     Backed x = As2 x own2 × RecallsSame r x
 
-    it_told : (about : Option ℕ) → OwnHasTold hash m c blocks its asked own about → last_told about asked ≡ Some (reply.Insert value)
+    it_told : (about : Option ℕ) → OwnHasValueReplied hash m c blocks its asked own about → last_reply about asked ≡ Some (reply.Insert value)
     it_told about (some, (k, v, is, own_key, told)) = told ∙ ap (λ (x : V). Some (reply.Insert x)) (same_value (value_at m (own / 2048)) k key v value is there)
 
-    value_same : (v : V) (about : Option ℕ) → last_told about asked ≡ Some (reply.Insert value) → tells.Value value ≡ tells.Value v → last_told about asked ≡ Some (reply.Insert v)
+    value_same : (v : V) (about : Option ℕ) → last_reply about asked ≡ Some (reply.Insert value) → tells.Value value ≡ tells.Value v → last_reply about asked ≡ Some (reply.Insert v)
     value_same v about told e = told ∙ ap (λ (x : V). Some (reply.Insert x)) (one e)
       where
         one : tells.Value value ≡ tells.Value v → value ≡ v
@@ -147,19 +147,19 @@ module _ {K V : Type 0} (hash : K → ℕ) (m m2 : Mem (Node K V)) (c c2 : Chart
     backed = of_absent r.absent refl
 
   -- its own block has its key and the value that it was told for the word
-  module _ (fits : (k : K) → hash k < 2 ^ 64) (root : ℕ) (shows : Shows hash m c blocks root) (key : K) (key_is : r.key ≡ Some key) (word : ℕ) (value : V) (told : value_for r word ≡ Some value)
+  module _ (fits : (k : K) → hash k < 2 ^ 64) (root : ℕ) (shows : Represents hash m c blocks root) (key : K) (key_is : r.key ≡ Some key) (word : ℕ) (value : V) (told : value_for r word ≡ Some value)
       (names : (word ≡ 0) ⊎ IsNamed hash fits m c blocks its asked root shows word) (does : word ≢ 0 → block_in word ≡ r.pair)
       (own2 : ℕ) (some : 0 < own2 / 2048) (there : value_at m2 (own2 / 2048) ≡ Some (node.Pair key value)) where
     abbrev Filled : Replies K V → Type 0
-    Filled x = (As2 x own2 × DoesTold hash m2 c2 blocks2 its asked x own2 (at.Tries word own2)) × RecallsSame r x
+    Filled x = (As2 x own2 × DoesAsReplied hash m2 c2 blocks2 its asked x own2 (at.Tries word own2)) × RecallsSame r x
 
-    has : (about : Option ℕ) → last_told about asked ≡ Some (reply.Insert value) → OwnHasTold hash m2 c2 blocks2 its asked own2 about
+    has : (about : Option ℕ) → last_reply about asked ≡ Some (reply.Insert value) → OwnHasValueReplied hash m2 c2 blocks2 its asked own2 about
     has about is = (some, (key, value, there, h.key key key_is, is))
 
     key_of : (k : K) (v : V) → value_at m2 (own2 / 2048) ≡ Some (node.Pair k v) → its ≡ Some k
     key_of k v is = h.key key key_is ∙ same_key (value_at m2 (own2 / 2048)) key k value v there is
 
-    by : (b : Bool) → (b ≡ true → word ≡ 0) → (b ≡ false → word ≢ 0) → value_told (if b then r.absent else r.present) ≡ Some value
+    by : (b : Bool) → (b ≡ true → word ≡ 0) → (b ≡ false → word ≢ 0) → value_replied (if b then r.absent else r.present) ≡ Some value
         → Filled (record (if b then record r { absent = owned r.absent } else record r { present = owned r.present }) { key = None })
     by true zero other e =
         let is = told_is r.absent value e in

@@ -10,14 +10,14 @@ use Rattle.map_facts_late.specs.Given.RawDeclared.machines.asking.Takes.TheVaria
 use Rattle.map_facts_late.specs.Given.RawDeclared.machines.asking.Told.TheVariants as tells
 use Rattle.map_facts_late.specs.Given.RuleChart.{Chart}
 use Rattle.map_facts_late.specs.Given.RuleWords.{Blocks}
-use Rattle.map_facts_late.specs.Given.PointsSteps.{told_first}
-use Rattle.many_calls.specs.Asked.{told_before, IsAsTold}
+use Rattle.map_facts_late.specs.Given.PointsSteps.{first_reply}
+use Rattle.many_calls.specs.Asked.{replies_before, IsAsReplied}
 
 pub one_value : {V : Type 0} (v v2 : V) → tells.Value v ≡ tells.Value v2 → v ≡ v2
 one_value v v2 e = cc e
 
 module _ {K V : Type 0} (hash : K → ℕ) (m : Mem (Node K V)) (c : Chart K) (blocks : Blocks) (its : Option K) (kind : Takes) (asks : kind ≢ takes.Nothing) where
-  pub begun_told : (absent : Option V) → IsAsTold hash m c blocks its (told_before absent) (untold kind its (told_first absent)) 0
+  pub begun_told : (absent : Option V) → IsAsReplied hash m c blocks its (replies_before absent) (untold kind its (first_reply absent)) 0
   begun_told None = record {
     asks = asks;
     key = λ k e. e;

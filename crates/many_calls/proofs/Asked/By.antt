@@ -12,16 +12,16 @@ use Rattle.map_facts_late.specs.Given.RawDeclared.machines.call.KeyCall.{KeyCall
 use Rattle.map_facts_late.specs.Given.RawDeclared.machines.call.Calling.{Calling}
 use Rattle.map_facts_late.specs.Given.RawDeclared.machines.call.Calling.TheVariants as at
 use Rattle.map_facts_late.specs.Given.RuleChart.{Phase, Still, Holds, Chart}
-use Rattle.map_facts_late.specs.Given.RuleWords.{Blocks, Shows, byte_of, place_word}
+use Rattle.map_facts_late.specs.Given.RuleWords.{Blocks, Represents, byte_of, place_word}
 use Rattle.map_facts_late.proofs.Given.RuleWords.PlaceWords.{pair_block}
 use Rattle.map_facts_late.proofs.Given.RuleWords.PlacesShown.{byte_of-few}
 use Rattle.map_facts_late.specs.Given.PointsFactsCalls.{Change, Unchanged, NamesPair, MayReplace, MayTry, CallingFacts}
-use Rattle.map_facts_late.specs.LateCalls.{LateCalling}
-use Rattle.many_calls.specs.Asked.{Asked, IsThere, IsWordOf, Recalls, IsAsTold, DoesTold}
+use Rattle.map_facts_late.specs.LateCalls.{SupersededCalling}
+use Rattle.many_calls.specs.Asked.{Asked, IsThere, IsWordOf, Recalls, IsAsReplied, DoesAsReplied}
 use Rattle.many_calls.proofs.Asked.Goes.{DoesBy}
 
 module _ {K V : Type 0} (hash : K → ℕ) (fits : (k : K) → hash k < 2 ^ 64) (m : Mem (Node K V)) (c : Chart K) (blocks : Blocks) (its : Option K) (asked : List (Asked V))
-    (root : ℕ) (shows : Shows hash m c blocks root) where
+    (root : ℕ) (shows : Represents hash m c blocks root) where
   -- the word names a pair
   abbrev pub IsNamed : ℕ → Type 0
   IsNamed word = (n : ℕ) × IsWordOf hash m c blocks its asked word (Some n)
@@ -50,8 +50,8 @@ module _ {K V : Type 0} (hash : K → ℕ) (fits : (k : K) → hash k < 2 ^ 64) 
       let e = one_pair word n o there names.0 (block ∙ sym is) (block_of_word word o Still names.1 names.2) in
       (n, rw e names, told)
 
-  module _ (r : Replies K V) (own : ℕ) (h : IsAsTold hash m c blocks its asked r own) where
-    pub does_by : (Read : ℕ → Type 0) (stands : Calling) → NamedAt stands → DoesBy Read r own stands → DoesTold hash m c blocks its asked r own stands
+  module _ (r : Replies K V) (own : ℕ) (h : IsAsReplied hash m c blocks its asked r own) where
+    pub does_by : (Read : ℕ → Type 0) (stands : Calling) → NamedAt stands → DoesBy Read r own stands → DoesAsReplied hash m c blocks its asked r own stands
     does_by Read (at.Tries word new) named (inl (is, inl (zero, e))) = inl (is, None, zero, h.absent_own e)
     does_by Read (at.Tries word new) named (inl (is, inr (block, e))) =
         let d = recalls_word r _ word block (h.present_own e) named in inl (is, Some d.0, d.1, d.2)
@@ -110,7 +110,7 @@ module _ {K V : Type 0} (hash : K → ℕ) (fits : (k : K) → hash k < 2 ^ 64) 
     named_at (at.Over end) f = tt
 
   module _ {Q : Type 0} (same : K → K → Bool) (asks : Q → K → Bool) (keys : K → Bool) (w : World (Node K V)) (caller : ℕ) (setting : Setting) (began : ℕ) (p : KeyCall K V Q) where
-    pub late_named_at : (stands : Calling) → LateCalling same hash asks w caller setting c blocks keys began p stands → NamedAt stands
+    pub late_named_at : (stands : Calling) → SupersededCalling same hash asks w caller setting c blocks keys began p stands → NamedAt stands
     late_named_at (at.Tries word new) f = named_try same asks keys w caller setting Unchanged p word new f.2
     late_named_at (at.Asks (asking.GivesUp word)) f = named same asks keys w caller setting Unchanged p word f.3
     late_named_at (at.Asks (asking.Absent gap)) f = tt

@@ -14,25 +14,25 @@ use Rattle.map_facts_late.specs.Given.RawDeclared.machines.answer.KeyAnswer.TheV
 use Rattle.map_facts_late.specs.Given.RawDeclared.machines.call.KeyCall.{KeyCall}
 use Rattle.map_facts_late.specs.Given.RawDeclared.machines.call.Calling.TheVariants as at
 use Rattle.map_facts_late.specs.Given.RuleChart.{Still, Holds, Chart}
-use Rattle.map_facts_late.specs.Given.RuleWords.{Blocks, Shows, place_word}
-use Rattle.map_facts_late.specs.Given.PointsFactsCalls.{Change, Unchanged, Stored, Replaced, Removed, Tells, CallingFacts}
+use Rattle.map_facts_late.specs.Given.RuleWords.{Blocks, Represents, place_word}
+use Rattle.map_facts_late.specs.Given.PointsFactsCalls.{Change, Unchanged, Stored, Replaced, Removed, AnswersChange, CallingFacts}
 use Rattle.map_facts_late.specs.Given.PointsTold.{CallFactsAfter}
-use Rattle.many_calls.specs.Asked.{Asked, IsThere, HasTold, ChangesTold, IsWordOf, OwnHasTold, IsToRemove, DoesTold}
+use Rattle.many_calls.specs.Asked.{Asked, IsThere, HasValueReplied, ChangesAsReplied, IsWordOf, OwnHasValueReplied, IsToRemove, DoesAsReplied}
 use Rattle.many_calls.proofs.Asked.Stays.{ToldTo, has_on}
 use Rattle.many_calls.proofs.Asked.By.{block_of_word, some_word, one_pair}
 
 module _ {K V Q : Type 0} (same : K → K → Bool) (hash : K → ℕ) (fits : (k : K) → hash k < 2 ^ 64) (asks : Q → K → Bool) (w : World (Node K V)) (caller : ℕ) (setting : Setting) (c : Chart K) (blocks : Blocks)
-    (keys : K → Bool) (its : Option K) (asked : List (Asked V)) (root : ℕ) (shows : Shows hash w.memory c blocks root) (change : Change) (p : KeyCall K V Q) (word new : ℕ)
-    (does : DoesTold hash w.memory c blocks its asked p.replies p.own (at.Tries word new)) where
+    (keys : K → Bool) (its : Option K) (asked : List (Asked V)) (root : ℕ) (shows : Represents hash w.memory c blocks root) (change : Change) (p : KeyCall K V Q) (word new : ℕ)
+    (does : DoesAsReplied hash w.memory c blocks its asked p.replies p.own (at.Tries word new)) where
   abbrev Told : Change → Type 0
-  Told = ChangesTold hash w.memory c blocks its asked
+  Told = ChangesAsReplied hash w.memory c blocks its asked
 
   abbrev There : ℕ → Type 0
   There = IsThere hash w.memory c blocks its asked
 
   -- its own block is that of a pair now
-  in_pair : (about : Option ℕ) (n : ℕ) → p.own ≡ place_word hash c blocks (Holds n Still false) → OwnHasTold hash w.memory c blocks its asked p.own about
-      → HasTold hash w.memory c blocks its asked about (blocks.pair n)
+  in_pair : (about : Option ℕ) (n : ℕ) → p.own ≡ place_word hash c blocks (Holds n Still false) → OwnHasValueReplied hash w.memory c blocks its asked p.own about
+      → HasValueReplied hash w.memory c blocks its asked about (blocks.pair n)
   in_pair about n is has =
       has_on hash w.memory w.memory c c blocks blocks its asked about (p.own / 2048) (blocks.pair n)
       (ap (value_at w.memory) (sym (block_of_word hash fits w.memory c blocks its asked root shows p.own n Still false is))) has.1
@@ -50,7 +50,7 @@ module _ {K V Q : Type 0} (same : K → K → Bool) (hash : K → ℕ) (fits : (
   stored_so : word ≡ 0 → (n : ℕ) → There n → p.own ≡ place_word hash c blocks (Holds n Still false) → Told (Stored n)
   stored_so zero n there is = by does
     where
-      by : DoesTold hash w.memory c blocks its asked p.replies p.own (at.Tries word new) → Told (Stored n)
+      by : DoesAsReplied hash w.memory c blocks its asked p.replies p.own (at.Tries word new) → Told (Stored n)
       by (inl (mine, None, names, has)) = (there, in_pair None n is has)
       by (inl (mine, Some o, names, has)) = absurd (none_empty o names zero)
       by (inr (bare, o, names, removes)) = absurd (none_empty o names zero)
@@ -59,7 +59,7 @@ module _ {K V Q : Type 0} (same : K → K → Bool) (hash : K → ℕ) (fits : (
   removed_so : new ≡ TOMBSTONE → (n : ℕ) (borrowed : Bool) → There n → word ≡ place_word hash c blocks (Holds n Still borrowed) → Told (Removed n)
   removed_so bare n borrowed there is = by does
     where
-      by : DoesTold hash w.memory c blocks its asked p.replies p.own (at.Tries word new) → Told (Removed n)
+      by : DoesAsReplied hash w.memory c blocks its asked p.replies p.own (at.Tries word new) → Told (Removed n)
       by (inl (mine, about, names, has)) = absurd (let some = has.0 in omega (arith, some, mine, bare))
       by (inr (bare, o, names, removes)) = subst (IsToRemove hash w.memory c blocks its asked) (pair_of o n borrowed there is names) removes
 
@@ -68,9 +68,9 @@ module _ {K V Q : Type 0} (same : K → K → Bool) (hash : K → ℕ) (fits : (
       → p.own ≡ place_word hash c blocks (Holds n Still false) → Told (Replaced o n)
   replaced_so full some o n borrowed there there_n is is_n = by does
     where
-      by : DoesTold hash w.memory c blocks its asked p.replies p.own (at.Tries word new) → Told (Replaced o n)
+      by : DoesAsReplied hash w.memory c blocks its asked p.replies p.own (at.Tries word new) → Told (Replaced o n)
       by (inl (mine, None, names, has)) = absurd (some names)
-      by (inl (mine, Some x, names, has)) = (there_n, in_pair (Some o) n is_n (subst (λ (y : ℕ). OwnHasTold hash w.memory c blocks its asked p.own (Some y)) (pair_of x o borrowed there is names) has))
+      by (inl (mine, Some x, names, has)) = (there_n, in_pair (Some o) n is_n (subst (λ (y : ℕ). OwnHasValueReplied hash w.memory c blocks its asked p.own (Some y)) (pair_of x o borrowed there is names) has))
       by (inr (bare, x, names, removes)) = absurd (full bare)
 
   counts_so : new ≡ TOMBSTONE → CallingFacts same hash asks w caller setting c blocks keys change (record p { stands = at.Counts word }) (at.Counts word) → Told change
@@ -82,7 +82,7 @@ module _ {K V Q : Type 0} (same : K → K → Bool) (hash : K → ℕ) (fits : (
   counts_none zero (inr (n, t, borrowed, is, left, word_is, table, rest)) =
       absurd (some_word hash fits w.memory c blocks its asked root shows 0 n (left.0, left.1) (block_of_word hash fits w.memory c blocks its asked root shows 0 n Still borrowed word_is) refl)
 
-  tells_so : new ≢ TOMBSTONE → word ≢ 0 → (x : Change) → Tells same hash asks w caller setting c blocks keys change x (answers.Replaced word p.own) → Told x
+  tells_so : new ≢ TOMBSTONE → word ≢ 0 → (x : Change) → AnswersChange same hash asks w caller setting c blocks keys change x (answers.Replaced word p.own) → Told x
   tells_so full some Unchanged h = absurd h
   tells_so full some (Stored n) h = absurd h
   tells_so full some (Replaced o n) (first, known, borrowed, old_is, new_is) = replaced_so full some o n borrowed first known old_is new_is

@@ -29,11 +29,11 @@ use Rattle.map_facts_late.specs.Given.RawDeclared.machines.call.KeyCall.{KeyCall
 use Rattle.map_facts_late.specs.Given.RawDeclared.machines.call.Calling.{Calling}
 use Rattle.map_facts_late.specs.Given.RawDeclared.machines.call.Calling.TheVariants as at
 use Rattle.map_facts_late.specs.Given.RuleChart.{Chart}
-use Rattle.map_facts_late.specs.Given.RuleWords.{Blocks, Shows}
+use Rattle.map_facts_late.specs.Given.RuleWords.{Blocks, Represents}
 use Rattle.map_facts_late.specs.Given.PointsFactsCalls.{Change, Unchanged, RepliesFit, Holding, ByReply, holding, IsOwnPair, IsVacant, HasKey, HasOwn, HasIts, IsToFill}
 use Rattle.map_facts_late.proofs.Given.PointsCalls.Probes.{own_block, own_value}
 use Rattle.map_facts_late.proofs.Given.PointsValues.Left.{made_here}
-use Rattle.many_calls.specs.Asked.{Asked, ChangesTold, IsWordOf, IsToRemove, IsAsTold}
+use Rattle.many_calls.specs.Asked.{Asked, ChangesAsReplied, IsWordOf, IsToRemove, IsAsReplied}
 use Rattle.many_calls.proofs.Asked.Stays.{Stays, ToldTo, word_on}
 use Rattle.many_calls.proofs.Asked.By.{IsNamed}
 use Rattle.many_calls.proofs.Asked.Backs.{RecallsSame, backed, filled_told}
@@ -45,9 +45,9 @@ AsksNone (at.Asks (asking.Present word)) = ⊥
 AsksNone _ = Unit {0}
 
 module _ {K V Q : Type 0} (same : K → K → Bool) (hash : K → ℕ) (fits : (k : K) → hash k < 2 ^ 64) (asks : Q → K → Bool) (caller : ℕ) (setting : Setting) (keys : K → Bool) (its : Option K) (asked : List (Asked V))
-    (w : World (Node K V)) (m2 : Mem (Node K V)) (c c2 : Chart K) (blocks blocks2 : Blocks) (stays : Stays w.memory m2 c c2 blocks blocks2) (root : ℕ) (shows : Shows hash w.memory c blocks root)
+    (w : World (Node K V)) (m2 : Mem (Node K V)) (c c2 : Chart K) (blocks blocks2 : Blocks) (stays : Stays w.memory m2 c c2 blocks blocks2) (root : ℕ) (shows : Represents hash w.memory c blocks root)
     (change change2 : Change) (p : KeyCall K V Q) (few : p.hash < 2 ^ 64) (fit : RepliesFit p.replies) (word : ℕ) (by_reply : holding p.replies.takes p.missing ≡ ByReply)
-    (h : IsAsTold hash w.memory c blocks its asked p.replies p.own) (e : KeyCall K V Q × Called (Node K V))
+    (h : IsAsReplied hash w.memory c blocks its asked p.replies p.own) (e : KeyCall K V Q × Called (Node K V))
     (refused : (q : KeyCall K V Q) (end : End) (back : Node K V) → e ≡ (standing q (at.Over end), Unstored back) → change2 ≡ Unchanged) where
   abbrev Then : KeyCall K V Q × Called (Node K V) → Type 0
   Then x = ToldTo hash m2 c2 blocks2 its asked change2 x.0 x.1 × RecallsSame p.replies x.0.replies × AsksNone x.0.stands
@@ -65,7 +65,7 @@ module _ {K V Q : Type 0} (same : K → K → Bool) (hash : K → ℕ) (fits : (
   over_so : (q : KeyCall K V Q) (back : Node K V) → RecallsSame p.replies q.replies → e ≡ (standing q (at.Over (ends.Refused Memory)), Unstored back) → Then e
   over_so q back recalls is =
       then_as (standing q (at.Over (ends.Refused Memory)), Unstored back) is
-      ((subst (ChangesTold hash m2 c2 blocks2 its asked) (sym (refused q (ends.Refused Memory) back is)) tt, λ none removes. cc removes), recalls, tt)
+      ((subst (ChangesAsReplied hash m2 c2 blocks2 its asked) (sym (refused q (ends.Refused Memory) back is)) tt, λ none removes. cc removes), recalls, tt)
 
   pair_there : (own : Own) → value_at w.memory (p.own / 2048) ≡ Some (node.Pair own.key own.value)
   pair_there own = own_value same hash asks caller setting keys w c blocks change p.own p.hash few own
@@ -78,7 +78,7 @@ module _ {K V Q : Type 0} (same : K → K → Bool) (hash : K → ℕ) (fits : (
   is_full own = let b = own_block same hash asks caller setting keys w c blocks change p.own p.hash few own in let some = own.number.0 in omega (arith, b, some)
 
   back_told : (own : Own) (own2 : ℕ) → ((k : K) (v : V) → 0 < own2 / 2048 → value_at m2 (own2 / 2048) ≡ Some (node.Pair k v) → ⊥)
-      → IsAsTold hash m2 c2 blocks2 its asked (with_back p.replies own.key own.value) own2 × RecallsSame p.replies (with_back p.replies own.key own.value)
+      → IsAsReplied hash m2 c2 blocks2 its asked (with_back p.replies own.key own.value) own2 × RecallsSame p.replies (with_back p.replies own.key own.value)
   back_told own own2 out = backed hash w.memory m2 c c2 blocks blocks2 its asked stays p.replies p.own h fit own.key own.value (is_full own) (pair_there own) own2 out
 
   module _ (does : word ≢ 0 → block_in word ≡ p.replies.pair) (names : (word ≡ 0) ⊎ IsNamed hash fits w.memory c blocks its asked root shows word)

@@ -4,7 +4,7 @@ use Rattle.std.proofs.Common.{refl, eqb-true, inl, inr}
 use Rattle.std.proofs.lemmas.Bool.{eqb-false}
 use Rattle.seize_model.specs.Given.SeizeWordsWord.{block_in}
 use Rattle.map_facts_late.specs.Given.RawCall.{first_made, next_made, helped, copied, key_read, pair_read, word_read, have_one_key}
-use Rattle.map_facts_late.specs.Given.RawCallPoints.{aim_of, going, over, ending, tableless, at_free, following_made, storing, burying, at_gap, gap_by, asking_at, pair_by, asking_of, at_last, at_pair, halted, told_of, told, entering, went_on, having_met}
+use Rattle.map_facts_late.specs.Given.RawCallPoints.{aim_of, going, over, ending, tableless, at_free, following_made, storing, burying, at_gap, gap_by, asking_at, pair_by, asking_of, at_last, at_pair, halted, after_finding, told, entering, continued_in, having_met}
 use Rattle.map_facts_late.specs.Given.TablesChunks.{is_incremental}
 use Rattle.map_facts_late.specs.Given.ResizeCopierStates.{helping, copying_all}
 use Rattle.map_facts_late.specs.Given.TablesFinding.{finding, may_name}
@@ -193,7 +193,7 @@ module _ {K V Q : Type 0} where
       halted_by true = (refl, tt, tt)
       halted_by false = (refl, tt, tt)
 
-      told_of_by : (q : Bool) (word : ℕ) → Read word → (f : Finding) → GoesBy Read p (told_of q p word f)
+      told_of_by : (q : Bool) (word : ℕ) → Read word → (f : Finding) → GoesBy Read p (after_finding q p word f)
       told_of_by q word read is.Free = free_by p.missing refl missing_asks
       told_of_by q word read is.Passed =
           passed_so (GoesBy Read p) (having_met p word) (λ next. (refl, tt, tt)) (refl, tt, tt)
@@ -219,7 +219,7 @@ module _ {K V Q : Type 0} where
         pub read_by : AllThen (GoesBy Read p) (word_read asks eq loaded p word)
         read_by = all_if (GoesBy Read p) (may_name p.hash word) _ _ (asked_by p.asked) (told_by loaded word read false)
 
-    pub went_on_by : (table : Table) → GoesBy Read p (went_on p table)
+    pub went_on_by : (table : Table) → GoesBy Read p (continued_in p table)
     went_on_by table =
         by_if (is_incremental p.setting.mode)
         (if p.helped then entering p table else going (record p { helped = true }) (at.Helps (helping p.setting) table)) (going p (at.Copies (copying_all p.setting p.trial.table table)))

@@ -26,10 +26,10 @@ use Rattle.map_facts_late.specs.Given.PointsFactsCalls.{Unchanged, CallFacts}
 use Rattle.map_facts_late.specs.Given.PointsTold.{IsRowOfCall}
 use Rattle.map_facts_late.proofs.Given.PointsValues.Own.{IsDropping, NoneMoved, SeeksOn}
 use Rattle.map_facts_late.proofs.Given.PointsValues.Sought.{IsSought, IsAhead, GoesSeeking}
-use Rattle.map_facts_late.specs.LateCalls.{LateCalling, LateCallFacts}
-use Rattle.map_facts_late.specs.LateTold.{LateAfter}
+use Rattle.map_facts_late.specs.LateCalls.{SupersededCalling, SupersededCallFacts}
+use Rattle.map_facts_late.specs.LateTold.{SupersededCallAfter}
 use Rattle.map_facts_late.proofs.Values.Own.{late_seeks_on}
-use Rattle.many_calls.specs.Asked.{Asked, IsAsTold, DoesTold, EndsTold, KeepsTold}
+use Rattle.many_calls.specs.Asked.{Asked, IsAsReplied, DoesAsReplied, EndsAsReplied, RemembersReplies}
 use Rattle.many_calls.proofs.Asked.Stays.{Stays, HasYet, ToldTo, as_told_on, does_on}
 use Rattle.many_calls.proofs.Asked.Own.{IsMine, mine_at, late_mine_at}
 use Rattle.many_calls.proofs.Asked.Goes.{EndsUntold, DropsUntold, ComesUntold, GoesBy}
@@ -42,21 +42,21 @@ use Rattle.many_calls.proofs.Asked.Steps.{looks_alone, changes_no_more}
 module _ {K V Q : Type 0} (same : K → K → Bool) (hash : K → ℕ) (setting : Setting) (caller : ℕ) (asks : Q → K → Bool) (w w2 : World (Node K V)) (c c2 : Chart K) (blocks blocks2 : Blocks)
     (map : IsMapIn same hash setting w c blocks) (map2 : IsMapIn same hash setting w2 c2 blocks2) (stays : Stays w.memory w2.memory c c2 blocks blocks2)
     (fits : (k : K) → hash k < 2 ^ 64) (keys : K → Bool) (began : ℕ) (its : Option K) (asked : List (Asked V)) (p p2 : KeyCall K V Q) (progress : Called (Node K V))
-    (facts : LateCallFacts same hash asks w caller setting c blocks keys began p) (after : LateAfter same hash asks caller setting keys began w2 c2 blocks2 p2 progress) (row : IsRowOfCall p.stands → ⊥)
+    (facts : SupersededCallFacts same hash asks w caller setting c blocks keys began p) (after : SupersededCallAfter same hash asks caller setting keys began w2 c2 blocks2 p2 progress) (row : IsRowOfCall p.stands → ⊥)
     (may : May Can Took value_at w.memory (call_plan asks same hash p)) (steps : Steps Took value_at w.memory (call_plan asks same hash p) w2.memory (p2, progress)) (rooms : RoomsAt p.stands) where
   abbrev To : KeyCall K V Q → Called (Node K V) → Type 0
   To = ToldTo hash w2.memory c2 blocks2 its asked Unchanged
 
   abbrev After : KeyCall K V Q → Called (Node K V) → Type 0
-  After = LateAfter same hash asks caller setting keys began w2 c2 blocks2
+  After = SupersededCallAfter same hash asks caller setting keys began w2 c2 blocks2
 
   abbrev Both : Calling → Type 0
-  Both stands = IsAsTold hash w.memory c blocks its asked p.replies p.own × DoesTold hash w.memory c blocks its asked p.replies p.own stands
+  Both stands = IsAsReplied hash w.memory c blocks its asked p.replies p.own × DoesAsReplied hash w.memory c blocks its asked p.replies p.own stands
 
   abbrev Facts2 : KeyCall K V Q → Type 0
-  Facts2 q = CallFacts same hash asks w2 caller setting c2 blocks2 keys Unchanged q ⊎ LateCallFacts same hash asks w2 caller setting c2 blocks2 keys began q
+  Facts2 q = CallFacts same hash asks w2 caller setting c2 blocks2 keys Unchanged q ⊎ SupersededCallFacts same hash asks w2 caller setting c2 blocks2 keys began q
 
-  untold : (q : KeyCall K V Q) (end : End) → EndsUntold q.there q.missing end → EndsTold hash w2.memory c2 blocks2 its asked q.there q.missing q.replies.takes end
+  untold : (q : KeyCall K V Q) (end : End) → EndsUntold q.there q.missing end → EndsAsReplied hash w2.memory c2 blocks2 its asked q.there q.missing q.replies.takes end
   untold q = untold_ends hash w2.memory c2 blocks2 its asked q.there q.missing q.replies.takes
 
   -- in the root's table, or there
@@ -69,11 +69,11 @@ module _ {K V Q : Type 0} (same : K → K → Bool) (hash : K → ℕ) (setting 
   mine_in q yet (inr f) = late_mine_at same hash asks w2 caller setting c2 blocks2 keys began q f.code q.stands f.point
 
   -- it goes on seeking
-  module _ (h : IsAsTold hash w.memory c blocks its asked p.replies p.own) (mine : IsMine w caller p.own) (unmoved : NoneMoved same hash asks w caller setting c blocks keys Unchanged p w2.memory (p2, progress)) where
+  module _ (h : IsAsReplied hash w.memory c blocks its asked p.replies p.own) (mine : IsMine w caller p.own) (unmoved : NoneMoved same hash asks w caller setting c blocks keys Unchanged p w2.memory (p2, progress)) where
     seeks_so : (Read : ℕ → Type 0) (q : KeyCall K V Q) (x : Called (Node K V)) → GoesSeeking p (q, x) → GoesBy Read p (q, x) → After q x → To q x
     seeks_so Read q x g does f = by x g does.2 f
       where
-        on : IsAhead q.stands → DropsUntold q.there q.missing q.stands → Facts2 q → KeepsTold hash w2.memory c2 blocks2 its asked Unchanged q q.stands
+        on : IsAhead q.stands → DropsUntold q.there q.missing q.stands → Facts2 q → RemembersReplies hash w2.memory c2 blocks2 its asked Unchanged q q.stands
         on ahead drops f =
             kept_at hash fits w w2 caller c c2 blocks blocks2 its asked stays setting.root map2.map.shows Unchanged q q.stands ahead (λ yet.
             goes_told hash fits w w2 caller c c2 blocks blocks2 its asked stays setting.root map2.map.shows p h mine unmoved Read q does.0 does.1 (named_in q f) (mine_in q yet f))
@@ -89,7 +89,7 @@ module _ {K V Q : Type 0} (same : K → K → Bool) (hash : K → ℕ) (setting 
         by (called.Refused fault) g ends_so f = untold q (ends.Refused fault) ends_so
 
     -- or asks again
-    again_so : IsSeeking p.stands → DoesTold hash w.memory c blocks its asked p.replies p.own p.stands → (asked_of : Option ℕ) → IsAhead p.stands → ◌≡◌ {A = KeyCall K V Q × Called (Node K V)} (p2, progress) (p, called.Asks asked_of) → To p2 progress
+    again_so : IsSeeking p.stands → DoesAsReplied hash w.memory c blocks its asked p.replies p.own p.stands → (asked_of : Option ℕ) → IsAhead p.stands → ◌≡◌ {A = KeyCall K V Q × Called (Node K V)} (p2, progress) (p, called.Asks asked_of) → To p2 progress
     again_so seeking does asked_of ahead end =
         subst (λ (x : KeyCall K V Q × Called (Node K V)). After x.0 x.1 → To x.0 x.1) (sym end) (λ f.
         kept_at hash fits w w2 caller c c2 blocks blocks2 its asked stays setting.root map2.map.shows Unchanged p p.stands ahead (λ yet.
@@ -117,7 +117,7 @@ module _ {K V Q : Type 0} (same : K → K → Bool) (hash : K → ℕ) (setting 
       by false false (inl f) = absurd f.point.1
       by false false (inr f) = absurd f.point
 
-  seeking_so : (stands : Calling) → p.stands ≡ stands → IsSought stands → (IsDropping stands → ⊥) → HasYet stands → IsSeeking stands → Both stands → LateCalling same hash asks w caller setting c blocks keys began p stands
+  seeking_so : (stands : Calling) → p.stands ≡ stands → IsSought stands → (IsDropping stands → ⊥) → HasYet stands → IsSeeking stands → Both stands → SupersededCalling same hash asks w caller setting c blocks keys began p stands
       → (IsRowOfCall stands → ⊥) → May Can Took value_at w.memory (plan_at asks same hash p stands) → Steps Took value_at w.memory (plan_at asks same hash p stands) w2.memory (p2, progress) → To p2 progress
   seeking_so stands here sought drops yet seeking both k no_row m s =
       by (late_seeks_on same hash asks w caller setting c blocks keys began p w2.memory (p2, progress) stands here sought drops k no_row m s)
@@ -129,14 +129,14 @@ module _ {K V Q : Type 0} (same : K → K → Bool) (hash : K → ℕ) (setting 
           (Read same hash asks p facts.may.0 both.0.asks w.memory w2.memory (p2, progress) stands) p2 progress g does after
       by (inl (g, unmoved)) (inr (inl (pair, end))) =
           again_so both.0 (late_mine_at same hash asks w caller setting c blocks keys began p facts.code stands k) unmoved (subst IsSeeking (sym here) seeking)
-          (subst (DoesTold hash w.memory c blocks its asked p.replies p.own) (sym here) both.1) pair (subst (λ (x : KeyCall K V Q × Called (Node K V)). GoesSeeking p x) end g).1 end
+          (subst (DoesAsReplied hash w.memory c blocks its asked p.replies p.own) (sym here) both.1) pair (subst (λ (x : KeyCall K V Q × Called (Node K V)). GoesSeeking p x) end g).1 end
       by (inl (g, unmoved)) (inr (inr (word, new, is, end))) = absurd (changes_no_more p word new (subst (GoesSeeking p) end g))
       by (inr (word, new, is, kept, end)) walked = subst Ending (sym end) (not_changed word new) after
 
   refused_so : (q : KeyCall K V Q) (end : End) (back : Node K V) → ◌≡◌ {A = KeyCall K V Q × Called (Node K V)} (p2, progress) (standing q (at.Over end), called.Unstored back) → Unchanged ≡ Unchanged
   refused_so q end back is = refl
 
-  by_point : (stands : Calling) → p.stands ≡ stands → KeepsTold hash w.memory c blocks its asked Unchanged p stands → LateCalling same hash asks w caller setting c blocks keys began p stands
+  by_point : (stands : Calling) → p.stands ≡ stands → RemembersReplies hash w.memory c blocks its asked Unchanged p stands → SupersededCalling same hash asks w caller setting c blocks keys began p stands
       → (IsRowOfCall stands → ⊥) → May Can Took value_at w.memory (plan_at asks same hash p stands) → Steps Took value_at w.memory (plan_at asks same hash p stands) w2.memory (p2, progress) → To p2 progress
   by_point (at.Looks l) here both k no_row m s = absurd (both.0.asks (looks_alone p.replies.takes p.there p.missing k.2 k.1 facts.may.0))
   by_point at.Probes here both k no_row m s = seeking_so at.Probes here tt (λ z. z) tt tt both k no_row m s
@@ -161,5 +161,5 @@ module _ {K V Q : Type 0} (same : K → K → Bool) (hash : K → ℕ) (setting 
   by_point (at.Drops end) here h k no_row m s = absurd k
   by_point (at.Over end) here h k no_row m s = absurd k
 
-  pub late_told_after : KeepsTold hash w.memory c blocks its asked Unchanged p p.stands → To p2 progress
+  pub late_told_after : RemembersReplies hash w.memory c blocks its asked Unchanged p p.stands → To p2 progress
   late_told_after keeps = by_point p.stands refl keeps facts.point row may steps

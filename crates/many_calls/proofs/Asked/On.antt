@@ -18,12 +18,12 @@ use Rattle.map_facts_late.specs.Given.RawDeclared.machines.call.KeyCall.{KeyCall
 use Rattle.map_facts_late.specs.Given.RawDeclared.machines.call.Calling.{Calling}
 use Rattle.map_facts_late.specs.Given.RawDeclared.machines.call.Calling.TheVariants as at
 use Rattle.map_facts_late.specs.Given.RuleChart.{Chart}
-use Rattle.map_facts_late.specs.Given.RuleWords.{Blocks, Shows}
+use Rattle.map_facts_late.specs.Given.RuleWords.{Blocks, Represents}
 use Rattle.map_facts_late.specs.Given.RuleInWorld.{IsOut, IsMapIn, IsFramed, SameBlocks}
 use Rattle.map_facts_late.specs.Given.PointsFactsCalls.{Change}
 use Rattle.map_facts_late.proofs.Given.PointsValues.Sought.{IsAhead, kept_of}
 use Rattle.map_facts_late.specs.Faults.{IsRoom}
-use Rattle.many_calls.specs.Asked.{Asked, IsAsTold, DoesTold, EndsTold, KeepsTold}
+use Rattle.many_calls.specs.Asked.{Asked, IsAsReplied, DoesAsReplied, EndsAsReplied, RemembersReplies}
 use Rattle.many_calls.proofs.Asked.Stays.{Stays, HasYet, as_told_on}
 use Rattle.many_calls.proofs.Asked.Own.{IsMine}
 use Rattle.many_calls.proofs.Asked.Goes.{EndsUntold, DoesBy}
@@ -36,7 +36,7 @@ none_to_remove fault (inr is) e = cc (is, e)
 
 -- of an end that it comes to untold, there is nothing that it was to be told
 pub untold_ends : {K V : Type 0} (hash : K → ℕ) (m : Mem (Node K V)) (c : Chart K) (blocks : Blocks) (its : Option K) (asked : List (Asked V)) (present : There) (absent : Missing) (kind : Takes) (end : End)
-    → EndsUntold present absent end → EndsTold hash m c blocks its asked present absent kind end
+    → EndsUntold present absent end → EndsAsReplied hash m c blocks its asked present absent kind end
 untold_ends hash m c blocks its asked present absent kind (ends.Answered (answers.Found word)) untold = λ asks. absurd (cc (untold, asks))
 untold_ends hash m c blocks its asked present absent kind (ends.Answered answers.Absent) untold = λ asks. absurd (cc (untold, asks))
 untold_ends hash m c blocks its asked present absent kind (ends.Answered (answers.Stored word)) untold = tt
@@ -56,14 +56,14 @@ step_stays same hash setting caller w w2 c c2 blocks blocks2 map blocks_same sto
 }
 
 module _ {K V : Type 0} (hash : K → ℕ) (fits : (k : K) → hash k < 2 ^ 64) (w w2 : World (Node K V)) (caller : ℕ) (c c2 : Chart K) (blocks blocks2 : Blocks) (its : Option K) (asked : List (Asked V))
-    (stays : Stays w.memory w2.memory c c2 blocks blocks2) (root : ℕ) (shows2 : Shows hash w2.memory c2 blocks2 root) where
+    (stays : Stays w.memory w2.memory c c2 blocks blocks2) (root : ℕ) (shows2 : Represents hash w2.memory c2 blocks2 root) where
   abbrev As2 : Replies K V → ℕ → Type 0
-  As2 = IsAsTold hash w2.memory c2 blocks2 its asked
+  As2 = IsAsReplied hash w2.memory c2 blocks2 its asked
 
   abbrev Does2 : Replies K V → ℕ → Calling → Type 0
-  Does2 = DoesTold hash w2.memory c2 blocks2 its asked
+  Does2 = DoesAsReplied hash w2.memory c2 blocks2 its asked
 
-  module _ {Q : Type 0} (p : KeyCall K V Q) (h : IsAsTold hash w.memory c blocks its asked p.replies p.own)
+  module _ {Q : Type 0} (p : KeyCall K V Q) (h : IsAsReplied hash w.memory c blocks its asked p.replies p.own)
       (mine : IsMine w caller p.own) (unmoved : (b : ℕ) (x y : Node K V) → value_at w.memory b ≡ Some x → value_at w2.memory b ≡ Some y → x ≡ y) where
     -- what is in its own block
     pub own_stays : IsMine w2 caller p.own → 0 < p.own / 2048 → value_at w2.memory (p.own / 2048) ≡ value_at w.memory (p.own / 2048)
@@ -83,8 +83,8 @@ module _ {K V : Type 0} (hash : K → ℕ) (fits : (k : K) → hash k < 2 ^ 64) 
 
   -- where it is ahead, or is to end
   pub kept_at : {Q : Type 0} (change : Change) (q : KeyCall K V Q) (stands : Calling) → IsAhead stands → (HasYet stands → As2 q.replies q.own × Does2 q.replies q.own stands)
-      → ((end : End) → stands ≡ at.Drops end → EndsTold hash w2.memory c2 blocks2 its asked q.there q.missing q.replies.takes end)
-      → KeepsTold hash w2.memory c2 blocks2 its asked change q stands
+      → ((end : End) → stands ≡ at.Drops end → EndsAsReplied hash w2.memory c2 blocks2 its asked q.there q.missing q.replies.takes end)
+      → RemembersReplies hash w2.memory c2 blocks2 its asked change q stands
   kept_at change q (at.Counts removed) ahead both drops = absurd ahead
   kept_at change q (at.Disposes d answer) ahead both drops = absurd ahead
   kept_at change q (at.Over end) ahead both drops = absurd ahead

@@ -11,8 +11,8 @@ use Rattle.map_facts_late.specs.Given.RuleWords.{Blocks}
 use Rattle.map_facts_late.specs.Given.RuleInWorld.{IsHeldBy}
 use Rattle.map_facts_late.specs.Given.PointsFactsCalls.{Change, CallFacts}
 use Rattle.map_facts_late.specs.Given.PointsOthers.{OthersStep}
-use Rattle.map_facts_late.specs.LateCalls.{LateCallFacts}
-use Rattle.many_calls.specs.Asked.{Asked, KeepsTold}
+use Rattle.map_facts_late.specs.LateCalls.{SupersededCallFacts}
+use Rattle.many_calls.specs.Asked.{Asked, RemembersReplies}
 use Rattle.many_calls.proofs.Asked.Stays.{Stays, keeps_told_on}
 use Rattle.many_calls.proofs.Asked.Own.{IsMine, mine_at, late_mine_at}
 
@@ -27,14 +27,14 @@ module _ {K V Q : Type 0} (same : K → K → Bool) (hash : K → ℕ) (asks : Q
   own_stays (inr (x, there, other, hand)) some = (step.own.blocks (p.own / 2048) x there other (subst (IsHeldBy caller) (sym hand) refl)).1 ∙ sym there
 
   abbrev Stay : Type 0
-  Stay = KeepsTold hash w.memory c blocks its asked change p p.stands → KeepsTold hash w2.memory c2 blocks2 its asked change p p.stands
+  Stay = RemembersReplies hash w.memory c blocks its asked change p p.stands → RemembersReplies hash w2.memory c2 blocks2 its asked change p p.stands
 
   pub told_on : CallFacts same hash asks w caller setting c blocks keys change p → Stay
   told_on facts =
       keeps_told_on hash w.memory w2.memory c c2 blocks blocks2 its asked others_stay change p p.stands
       (λ yet. own_stays (mine_at same hash asks w caller setting c blocks keys change p facts.code p.stands yet facts.point))
 
-  pub late_told_on : (began : ℕ) → LateCallFacts same hash asks w caller setting c blocks keys began p → Stay
+  pub late_told_on : (began : ℕ) → SupersededCallFacts same hash asks w caller setting c blocks keys began p → Stay
   late_told_on began facts =
       keeps_told_on hash w.memory w2.memory c c2 blocks blocks2 its asked others_stay change p p.stands
       (λ yet. own_stays (late_mine_at same hash asks w caller setting c blocks keys began p facts.code p.stands facts.point))

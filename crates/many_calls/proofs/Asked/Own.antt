@@ -14,8 +14,8 @@ use Rattle.map_facts_late.specs.Given.RuleChart.{Chart}
 use Rattle.map_facts_late.specs.Given.RuleWords.{Blocks}
 use Rattle.map_facts_late.specs.Given.PointsFactsCalls.{Change, Unchanged, IsOwnPair, IsVacant, HasIts, IsToFill, CallingFacts}
 use Rattle.map_facts_late.proofs.Given.PointsCalls.Probes.{own_block}
-use Rattle.map_facts_late.proofs.Given.PointsValues.Seeks.{HasNoneOr, its_or}
-use Rattle.map_facts_late.specs.LateCalls.{LateCalling}
+use Rattle.map_facts_late.proofs.Values.Seeks.{HasNoneOr, its_or}
+use Rattle.map_facts_late.specs.LateCalls.{SupersededCalling}
 use Rattle.many_calls.proofs.Asked.Stays.{HasYet}
 
 -- this block is the caller's own, if it is one
@@ -74,7 +74,7 @@ module _ {K V Q : Type 0} (same : K → K → Bool) (hash : K → ℕ) (asks : Q
   late_mine : HasIts same hash asks w caller setting c blocks keys Unchanged p → IsMine w caller p.own
   late_mine = mine same hash asks w caller setting c blocks keys Unchanged p few
 
-  pub late_mine_at : (stands : Calling) → LateCalling same hash asks w caller setting c blocks keys began p stands → IsMine w caller p.own
+  pub late_mine_at : (stands : Calling) → SupersededCalling same hash asks w caller setting c blocks keys began p stands → IsMine w caller p.own
   late_mine_at (at.Looks l) f = inl f.0
   late_mine_at at.Probes f = late_mine f.0
   late_mine_at (at.Tries word new) f = late_mine f.0

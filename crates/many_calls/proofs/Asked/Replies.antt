@@ -7,7 +7,7 @@ use Rattle.seize_model.specs.Given.SeizeWordsDeclared.fault.Fault.TheVariants.{R
 use Rattle.seize_model.specs.Given.SeizeWordsMem.{Mem}
 use Rattle.map_facts_late.specs.Given.TablesDeclared.marks.TheConstants.{TOMBSTONE}
 use Rattle.map_facts_late.specs.Given.TablesDeclared.node.Node.{Node}
-use Rattle.map_facts_late.specs.Given.RawCallAsks.{with_absent, with_present, absent_told, present_told, told_at, replied}
+use Rattle.map_facts_late.specs.Given.RawCallAsks.{with_absent, with_present, absent_replied, present_replied, replied_at, replied}
 use Rattle.map_facts_late.specs.Given.RawCallPoints.{going, over, ending, burying, at_gap}
 use Rattle.map_facts_late.specs.Given.RawDeclared.machines.answer.End.{End}
 use Rattle.map_facts_late.specs.Given.RawDeclared.machines.answer.End.TheVariants as ends
@@ -25,15 +25,15 @@ use Rattle.map_facts_late.specs.Given.RawDeclared.machines.call.KeyCall.{KeyCall
 use Rattle.map_facts_late.specs.Given.RawDeclared.machines.call.Calling.{Calling}
 use Rattle.map_facts_late.specs.Given.RawDeclared.machines.call.Calling.TheVariants as at
 use Rattle.map_facts_late.specs.Given.RuleChart.{Still, Chart}
-use Rattle.map_facts_late.specs.Given.RuleWords.{Blocks, Shows}
+use Rattle.map_facts_late.specs.Given.RuleWords.{Blocks, Represents}
 use Rattle.map_facts_late.specs.Given.PointsFactsCalls.{Change, Unchanged, RepliesFit}
-use Rattle.many_calls.specs.Asked.{Asked, last_told, IsToLeave, ChangesTold, IsWordOf, IsAsTold, EndsTold, KeepsTold}
+use Rattle.many_calls.specs.Asked.{Asked, last_reply, IsToLeave, ChangesAsReplied, IsWordOf, IsAsReplied, EndsAsReplied, RemembersReplies}
 use Rattle.many_calls.proofs.Asked.By.{block_of_word}
 use Rattle.many_calls.proofs.Asked.Begins.{one_value}
 
 -- the last reply to the last question
-last_is : {V : Type 0} (n : ℕ) (told : MachineReply V) (asked : List (Asked V)) → last_told (Some n) (record { about = Some n; told = told } ∷ asked) ≡ Some told
-last_is n told asked = ap (λ (b : Bool). if b then Some told else last_told (Some n) asked) (eq-eqb n n refl)
+last_is : {V : Type 0} (n : ℕ) (told : MachineReply V) (asked : List (Asked V)) → last_reply (Some n) (record { about = Some n; told = told } ∷ asked) ≡ Some told
+last_is n told asked = ap (λ (b : Bool). if b then Some told else last_reply (Some n) asked) (eq-eqb n n refl)
 
 -- the questions and replies, with this one, if it was taken
 abbrev pub and_asked : {V : Type 0} → List (Asked V) → Option ℕ → MachineReply V → Result Unit (MachineReply V) → List (Asked V)
@@ -47,26 +47,26 @@ module _ {K V : Type 0} (hash : K → ℕ) (m : Mem (Node K V)) (c : Chart K) (b
   About (asking.Present word) None = ⊥
   About _ about = about ≡ None
 
-module _ {K V Q : Type 0} (hash : K → ℕ) (fits : (k : K) → hash k < 2 ^ 64) (m : Mem (Node K V)) (c : Chart K) (blocks : Blocks) (its : Option K) (root : ℕ) (shows : Shows hash m c blocks root)
-    (asked : List (Asked V)) (change : Change) (none : change ≡ Unchanged) (p : KeyCall K V Q) (fit : RepliesFit p.replies) (keeps : KeepsTold hash m c blocks its asked change p p.stands)
-    (h : IsAsTold hash m c blocks its asked p.replies p.own) where
+module _ {K V Q : Type 0} (hash : K → ℕ) (fits : (k : K) → hash k < 2 ^ 64) (m : Mem (Node K V)) (c : Chart K) (blocks : Blocks) (its : Option K) (root : ℕ) (shows : Represents hash m c blocks root)
+    (asked : List (Asked V)) (change : Change) (none : change ≡ Unchanged) (p : KeyCall K V Q) (fit : RepliesFit p.replies) (keeps : RemembersReplies hash m c blocks its asked change p p.stands)
+    (h : IsAsReplied hash m c blocks its asked p.replies p.own) where
   -- what it keeps then, with the question and the reply, if that was taken
   abbrev Then : Option ℕ → MachineReply V → KeyCall K V Q × Result Unit (MachineReply V) → Type 0
-  Then about r x = KeepsTold hash m c blocks its (and_asked asked about r x.1) change x.0 x.0.stands
+  Then about r x = RemembersReplies hash m c blocks its (and_asked asked about r x.1) change x.0 x.0.stands
 
   abbrev After : Option ℕ → MachineReply V → KeyCall K V Q → Type 0
-  After about r q = KeepsTold hash m c blocks its (record { about = about; told = r } ∷ asked) change q q.stands
+  After about r q = RemembersReplies hash m c blocks its (record { about = about; told = r } ∷ asked) change q q.stands
 
   -- what it was told where it is to end
   abbrev Ends : Option ℕ → MachineReply V → End → Type 0
-  Ends about r = EndsTold hash m c blocks its (record { about = about; told = r } ∷ asked) p.there p.missing p.replies.takes
+  Ends about r = EndsAsReplied hash m c blocks its (record { about = about; told = r } ∷ asked) p.there p.missing p.replies.takes
 
   -- it ends, and has changed nothing
   ends_so : (about : Option ℕ) (r : MachineReply V) (end : End) → Ends about r end → After about r (ending p end).0
   ends_so about r end as_told = by (p.own == 0)
     where
       by : (b : Bool) → After about r (if b then over p end else going p (at.Drops end)).0
-      by true = (subst (ChangesTold hash m c blocks its (record { about = about; told = r } ∷ asked)) (sym none) tt, λ is. as_told)
+      by true = (subst (ChangesAsReplied hash m c blocks its (record { about = about; told = r } ∷ asked)) (sym none) tt, λ is. as_told)
       by false = as_told
 
   -- it was told to leave it so, as it takes replies
@@ -76,7 +76,7 @@ module _ {K V Q : Type 0} (hash : K → ℕ) (fits : (k : K) → hash k < 2 ^ 64
 
   -- where its key is missing, it is told what to store
   module _ (v : V) where
-    as_absent : IsAsTold hash m c blocks its (record { about = None; told = reply.Insert v } ∷ asked) (with_absent p v).replies p.own
+    as_absent : IsAsReplied hash m c blocks its (record { about = None; told = reply.Insert v } ∷ asked) (with_absent p v).replies p.own
     as_absent = record {
       asks = h.asks;
       key = h.key;
@@ -95,7 +95,7 @@ module _ {K V Q : Type 0} (hash : K → ℕ) (fits : (k : K) → hash k < 2 ^ 64
     stores_so gaps.Past = (as_absent, tt)
     stores_so gaps.Last = (as_absent, tt)
 
-  absent_so : (x : Takes) → p.replies.takes ≡ x → (gap : Gap) (r : MachineReply V) → Then None r (absent_told x p gap r)
+  absent_so : (x : Takes) → p.replies.takes ≡ x → (gap : Gap) (r : MachineReply V) → Then None r (absent_replied x p gap r)
   absent_so takes.Values e gap (reply.Insert v) = stores_so v gap
   absent_so takes.Values e gap reply.Remove = keeps
   absent_so takes.Values e gap reply.Abort = keeps
@@ -114,7 +114,7 @@ module _ {K V Q : Type 0} (hash : K → ℕ) (fits : (k : K) → hash k < 2 ^ 64
     block : blocks.pair n ≡ block_in word
     block = sym (block_of_word hash fits m c blocks its asked root shows word n Still names.1 names.2)
 
-    as_value : (v : V) → IsAsTold hash m c blocks its (record { about = Some n; told = reply.Insert v } ∷ asked) (with_present p word (tells.Value v)).replies p.own
+    as_value : (v : V) → IsAsReplied hash m c blocks its (record { about = Some n; told = reply.Insert v } ∷ asked) (with_present p word (tells.Value v)).replies p.own
     as_value v = record {
       asks = h.asks;
       key = h.key;
@@ -122,12 +122,12 @@ module _ {K V Q : Type 0} (hash : K → ℕ) (fits : (k : K) → hash k < 2 ^ 64
       absent_first = h.absent_first;
       absent = h.absent;
       absent_own = h.absent_own;
-      present = λ value e. (n, names.0, block, subst (λ (x : V). last_told (Some n) (record { about = Some n; told = reply.Insert v } ∷ asked) ≡ Some (reply.Insert x)) (one_value v value e) (last_is n (reply.Insert v) asked));
+      present = λ value e. (n, names.0, block, subst (λ (x : V). last_reply (Some n) (record { about = Some n; told = reply.Insert v } ∷ asked) ≡ Some (reply.Insert x)) (one_value v value e) (last_is n (reply.Insert v) asked));
       present_own = λ e. absurd (cc e);
       present_removes = λ e. absurd (cc e);
     }
 
-    as_removes : IsAsTold hash m c blocks its (record { about = Some n; told = reply.Remove } ∷ asked) (with_present p word tells.Removes).replies p.own
+    as_removes : IsAsReplied hash m c blocks its (record { about = Some n; told = reply.Remove } ∷ asked) (with_present p word tells.Removes).replies p.own
     as_removes = record {
       asks = h.asks;
       key = h.key;
@@ -141,7 +141,7 @@ module _ {K V Q : Type 0} (hash : K → ℕ) (fits : (k : K) → hash k < 2 ^ 64
     }
 
     -- a choice is not remembered
-    as_choice : p.replies.takes ≡ takes.Choices → (r : MachineReply V) → IsAsTold hash m c blocks its (record { about = Some n; told = r } ∷ asked) p.replies p.own
+    as_choice : p.replies.takes ≡ takes.Choices → (r : MachineReply V) → IsAsReplied hash m c blocks its (record { about = Some n; told = r } ∷ asked) p.replies p.own
     as_choice choices r =
         let nothing = fit.choices_stay choices in
         record {
@@ -157,8 +157,8 @@ module _ {K V Q : Type 0} (hash : K → ℕ) (fits : (k : K) → hash k < 2 ^ 64
         }
 
     abbrev Buries : MachineReply V → KeyCall K V Q → Type 0
-    Buries r q = IsAsTold hash m c blocks its (record { about = Some n; told = r } ∷ asked) q.replies q.own
-        → (last_told (Some n) (record { about = Some n; told = r } ∷ asked) ≡ Some reply.Remove) ⊎ (last_told (Some n) (record { about = Some n; told = r } ∷ asked) ≡ Some reply.Yes)
+    Buries r q = IsAsReplied hash m c blocks its (record { about = Some n; told = r } ∷ asked) q.replies q.own
+        → (last_reply (Some n) (record { about = Some n; told = r } ∷ asked) ≡ Some reply.Remove) ⊎ (last_reply (Some n) (record { about = Some n; told = r } ∷ asked) ≡ Some reply.Yes)
         → After (Some n) r (burying q word).0
 
     buries_so : (r : MachineReply V) (q : KeyCall K V Q) → Buries r q
@@ -168,7 +168,7 @@ module _ {K V Q : Type 0} (hash : K → ℕ) (fits : (k : K) → hash k < 2 ^ 64
         by true = (recalls, inr (refl, n, names, removes))
         by false = (recalls, (n, names, removes))
 
-    present_so : (x : Takes) → p.replies.takes ≡ x → (r : MachineReply V) → Then (Some n) r (present_told x p word r)
+    present_so : (x : Takes) → p.replies.takes ≡ x → (r : MachineReply V) → Then (Some n) r (present_replied x p word r)
     present_so takes.Values e (reply.Insert v) = (as_value v, λ some. refl)
     present_so takes.Values e reply.Remove = keeps
     present_so takes.Values e reply.Abort = keeps
@@ -189,10 +189,10 @@ module _ {K V Q : Type 0} (hash : K → ℕ) (fits : (k : K) → hash k < 2 ^ 64
     present_so takes.Nothing e r = keeps
 
   pub replied_told : (x : Asking) → p.stands ≡ at.Asks x → (about : Option ℕ) → About hash m c blocks its asked x about → (r : MachineReply V) → Then about r (replied p r)
-  replied_told x here about is r = subst (λ (y : Calling). Then about r (told_at y p r)) (sym here) (by x about is)
+  replied_told x here about is r = subst (λ (y : Calling). Then about r (replied_at y p r)) (sym here) (by x about is)
     where
-      by : (x : Asking) (about : Option ℕ) → About hash m c blocks its asked x about → Then about r (told_at (at.Asks x) p r)
-      by (asking.Absent gap) about is = subst (λ (a : Option ℕ). Then a r (absent_told p.replies.takes p gap r)) (sym is) (absent_so p.replies.takes refl gap r)
+      by : (x : Asking) (about : Option ℕ) → About hash m c blocks its asked x about → Then about r (replied_at (at.Asks x) p r)
+      by (asking.Absent gap) about is = subst (λ (a : Option ℕ). Then a r (absent_replied p.replies.takes p gap r)) (sym is) (absent_so p.replies.takes refl gap r)
       by (asking.Present word) (Some n) is = present_so word n is p.replies.takes refl r
       by (asking.Present word) None is = absurd is
       by (asking.Fills word) about is = keeps

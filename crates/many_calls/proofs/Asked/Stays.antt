@@ -19,7 +19,7 @@ use Rattle.map_facts_late.specs.Given.RawDeclared.machines.call.Calling.TheVaria
 use Rattle.map_facts_late.specs.Given.RuleChart.{Phase, Still, Holds, Chart}
 use Rattle.map_facts_late.specs.Given.RuleWords.{Blocks, byte_of, word_of, place_word}
 use Rattle.map_facts_late.specs.Given.PointsFactsCalls.{Change, Unchanged, Stored, Replaced, Removed}
-use Rattle.many_calls.specs.Asked.{Asked, IsThere, HasTold, ChangesTold, IsWordOf, OwnHasTold, Recalls, IsAsTold, DoesTold, EndsTold, OverTold, KeepsTold}
+use Rattle.many_calls.specs.Asked.{Asked, IsThere, HasValueReplied, ChangesAsReplied, IsWordOf, OwnHasValueReplied, Recalls, IsAsReplied, DoesAsReplied, EndsAsReplied, OverAsReplied, RemembersReplies}
 
 -- the pairs that could be looked at can be looked at still, with their values
 pub record Stays {K V : Type 0} (m m2 : Mem (Node K V)) (c c2 : Chart K) (blocks blocks2 : Blocks) : Type 0 where
@@ -39,28 +39,28 @@ HasYet _ = Unit {0}
 module _ {K V : Type 0} (hash : K → ℕ) (m : Mem (Node K V)) (c : Chart K) (blocks : Blocks) (its : Option K) (asked : List (Asked V)) where
   -- where a step leads
   abbrev pub ToldTo : {Q : Type 0} → Change → KeyCall K V Q → Called (Node K V) → Type 0
-  ToldTo change p (called.Done answer) = OverTold hash m c blocks its asked change p.there p.missing p.replies.takes (ends.Answered answer)
-  ToldTo change p (called.Refused fault) = EndsTold hash m c blocks its asked p.there p.missing p.replies.takes (ends.Refused fault)
+  ToldTo change p (called.Done answer) = OverAsReplied hash m c blocks its asked change p.there p.missing p.replies.takes (ends.Answered answer)
+  ToldTo change p (called.Refused fault) = EndsAsReplied hash m c blocks its asked p.there p.missing p.replies.takes (ends.Refused fault)
   ToldTo change p (called.Gave value) = Unit {0}
-  ToldTo change p _ = KeepsTold hash m c blocks its asked change p p.stands
+  ToldTo change p _ = RemembersReplies hash m c blocks its asked change p p.stands
 
 module _ {K V : Type 0} (hash : K → ℕ) (m m2 : Mem (Node K V)) (c c2 : Chart K) (blocks blocks2 : Blocks) (its : Option K) (asked : List (Asked V)) where
   -- what is in this block is in that one
   abbrev pub PairStays : ℕ → ℕ → Type 0
   PairStays b b2 = value_at m2 b2 ≡ value_at m b
 
-  pub has_on : (about : Option ℕ) (b b2 : ℕ) → PairStays b b2 → HasTold hash m c blocks its asked about b → HasTold hash m2 c2 blocks2 its asked about b2
+  pub has_on : (about : Option ℕ) (b b2 : ℕ) → PairStays b b2 → HasValueReplied hash m c blocks its asked about b → HasValueReplied hash m2 c2 blocks2 its asked about b2
   has_on about b b2 on (k, v, is, own_key, told) = (k, v, on ∙ is, own_key, told)
 
   module _ (stays : Stays m m2 c c2 blocks blocks2) where
     pub there_on : (n : ℕ) → IsThere hash m c blocks its asked n → IsThere hash m2 c2 blocks2 its asked n
     there_on n h = ((let s = stays.stored in let l = h.0 in omega (arith, l, s)), (stays.pairs n h.0 h.1).1)
 
-    pair_on : (about : Option ℕ) (n : ℕ) → IsThere hash m c blocks its asked n → HasTold hash m c blocks its asked about (blocks.pair n) → HasTold hash m2 c2 blocks2 its asked about (blocks2.pair n)
+    pair_on : (about : Option ℕ) (n : ℕ) → IsThere hash m c blocks its asked n → HasValueReplied hash m c blocks its asked about (blocks.pair n) → HasValueReplied hash m2 c2 blocks2 its asked about (blocks2.pair n)
     pair_on about n h = has_on about (blocks.pair n) (blocks2.pair n) (ap (value_at m2) (stays.pairs n h.0 h.1).0 ∙ stays.values n h.0 h.1)
 
     -- what it has changed
-    pub changes_on : (change : Change) → ChangesTold hash m c blocks its asked change → ChangesTold hash m2 c2 blocks2 its asked change
+    pub changes_on : (change : Change) → ChangesAsReplied hash m c blocks its asked change → ChangesAsReplied hash m2 c2 blocks2 its asked change
     changes_on Unchanged h = h
     changes_on (Stored n) h = (there_on n h.0, pair_on None n h.0 h.1)
     changes_on (Replaced o n) h = (there_on n h.0, pair_on (Some o) n h.0 h.1)
@@ -77,8 +77,8 @@ module _ {K V : Type 0} (hash : K → ℕ) (m m2 : Mem (Node K V)) (c c2 : Chart
     word_on word (Some n) (there, borrowed, is) = (there_on n there, borrowed, is ∙ word_still n there.0 there.1 Still borrowed)
 
     -- what it is to end with
-    pub ends_on : (present : There) (absent : Missing) (kind : Takes) (end : End) → EndsTold hash m c blocks its asked present absent kind end
-        → EndsTold hash m2 c2 blocks2 its asked present absent kind end
+    pub ends_on : (present : There) (absent : Missing) (kind : Takes) (end : End) → EndsAsReplied hash m c blocks its asked present absent kind end
+        → EndsAsReplied hash m2 c2 blocks2 its asked present absent kind end
     ends_on present absent kind (ends.Answered (answers.Found word)) h = λ asks. let d = h asks in (d.0, word_on word (Some d.0) d.1, d.2)
     ends_on present absent kind (ends.Answered answers.Absent) h = h
     ends_on present absent kind (ends.Answered (answers.Stored word)) h = tt
@@ -86,8 +86,8 @@ module _ {K V : Type 0} (hash : K → ℕ) (m m2 : Mem (Node K V)) (c c2 : Chart
     ends_on present absent kind (ends.Answered (answers.Removed word)) h = tt
     ends_on present absent kind (ends.Refused fault) h = h
 
-    pub over_on : (change : Change) (present : There) (absent : Missing) (kind : Takes) (end : End) → OverTold hash m c blocks its asked change present absent kind end
-        → OverTold hash m2 c2 blocks2 its asked change present absent kind end
+    pub over_on : (change : Change) (present : There) (absent : Missing) (kind : Takes) (end : End) → OverAsReplied hash m c blocks its asked change present absent kind end
+        → OverAsReplied hash m2 c2 blocks2 its asked change present absent kind end
     over_on change present absent kind end h = (changes_on change h.0, λ none. ends_on present absent kind end (h.1 none))
 
     pub recalls_on : (r : Replies K V) (Told Told2 : ℕ → Type 0) → ((n : ℕ) → Told n → Told2 n) → Recalls hash m c blocks its asked r Told → Recalls hash m2 c2 blocks2 its asked r Told2
@@ -95,10 +95,10 @@ module _ {K V : Type 0} (hash : K → ℕ) (m m2 : Mem (Node K V)) (c c2 : Chart
 
     -- with the pair of its own block
     module _ (own : ℕ) (own_stays : 0 < own / 2048 → PairStays (own / 2048) (own / 2048)) where
-      pub own_on : (about : Option ℕ) → OwnHasTold hash m c blocks its asked own about → OwnHasTold hash m2 c2 blocks2 its asked own about
+      pub own_on : (about : Option ℕ) → OwnHasValueReplied hash m c blocks its asked own about → OwnHasValueReplied hash m2 c2 blocks2 its asked own about
       own_on about (some, has) = (some, has_on about (own / 2048) (own / 2048) (own_stays some) has)
 
-      pub as_told_on : (r : Replies K V) → IsAsTold hash m c blocks its asked r own → IsAsTold hash m2 c2 blocks2 its asked r own
+      pub as_told_on : (r : Replies K V) → IsAsReplied hash m c blocks its asked r own → IsAsReplied hash m2 c2 blocks2 its asked r own
       as_told_on r h = record {
         asks = h.asks;
         key = h.key;
@@ -111,7 +111,7 @@ module _ {K V : Type 0} (hash : K → ℕ) (m m2 : Mem (Node K V)) (c c2 : Chart
         present_removes = λ e. recalls_on r _ _ (λ n told. told) (h.present_removes e);
       }
 
-      pub does_on : (r : Replies K V) (stands : Calling) → DoesTold hash m c blocks its asked r own stands → DoesTold hash m2 c2 blocks2 its asked r own stands
+      pub does_on : (r : Replies K V) (stands : Calling) → DoesAsReplied hash m c blocks its asked r own stands → DoesAsReplied hash m2 c2 blocks2 its asked r own stands
       does_on r (at.Tries word new) (inl (is, about, names, has)) = inl (is, about, word_on word about names, own_on about has)
       does_on r (at.Tries word new) (inr (is, n, names, removes)) = inr (is, n, word_on word (Some n) names, removes)
       does_on r (at.Asks (asking.Absent gap)) h = h
@@ -135,11 +135,11 @@ module _ {K V : Type 0} (hash : K → ℕ) (m m2 : Mem (Node K V)) (c c2 : Chart
     module _ {Q : Type 0} (change : Change) (p : KeyCall K V Q) where
       abbrev StaysSo : Calling → Type 0
       StaysSo stands =
-          (HasYet stands → 0 < p.own / 2048 → PairStays (p.own / 2048) (p.own / 2048)) → KeepsTold hash m c blocks its asked change p stands → KeepsTold hash m2 c2 blocks2 its asked change p stands
+          (HasYet stands → 0 < p.own / 2048 → PairStays (p.own / 2048) (p.own / 2048)) → RemembersReplies hash m c blocks its asked change p stands → RemembersReplies hash m2 c2 blocks2 its asked change p stands
 
       both : (stands : Calling) → (0 < p.own / 2048 → PairStays (p.own / 2048) (p.own / 2048))
-          → IsAsTold hash m c blocks its asked p.replies p.own × DoesTold hash m c blocks its asked p.replies p.own stands
-          → IsAsTold hash m2 c2 blocks2 its asked p.replies p.own × DoesTold hash m2 c2 blocks2 its asked p.replies p.own stands
+          → IsAsReplied hash m c blocks its asked p.replies p.own × DoesAsReplied hash m c blocks its asked p.replies p.own stands
+          → IsAsReplied hash m2 c2 blocks2 its asked p.replies p.own × DoesAsReplied hash m2 c2 blocks2 its asked p.replies p.own stands
       both stands own h = (as_told_on p.own own p.replies h.0, does_on p.own own p.replies stands h.1)
 
       pub keeps_told_on : (stands : Calling) → StaysSo stands

@@ -31,13 +31,13 @@ use Rattle.map_facts_late.specs.Given.RawDeclared.machines.call.Calling.TheVaria
 use Rattle.map_facts_late.specs.Given.RuleChart.{Chart}
 use Rattle.map_facts_late.specs.Given.RuleWords.{Blocks}
 use Rattle.map_facts_late.specs.Given.RuleInWorld.{IsMapIn}
-use Rattle.map_facts_late.specs.Given.PointsFactsCalls.{Change, Unchanged, Stored, Replaced, Removed, MayStore, Seeks, Tells, CallingFacts, CallFacts}
-use Rattle.map_facts_late.specs.Given.PointsTold.{HasAnswered, IsRowOfCall, CallFactsAfter, CallTold}
+use Rattle.map_facts_late.specs.Given.PointsFactsCalls.{Change, Unchanged, Stored, Replaced, Removed, MayStore, Seeks, AnswersChange, CallingFacts, CallFacts}
+use Rattle.map_facts_late.specs.Given.PointsTold.{HasAnswered, IsRowOfCall, CallFactsAfter, CallOutcome}
 use Rattle.map_facts_late.proofs.Given.PointsValues.Kept.{SameValues}
 use Rattle.map_facts_late.proofs.Given.PointsValues.Own.{IsDropping, NoneMoved, SeeksOn, seeks_on}
-use Rattle.map_facts_late.proofs.Given.PointsValues.Seeks.{look_unchanged}
+use Rattle.map_facts_late.proofs.Values.Seeks.{look_unchanged}
 use Rattle.map_facts_late.proofs.Given.PointsValues.Sought.{IsSought, IsAhead, IsLook, GoesSeeking}
-use Rattle.many_calls.specs.Asked.{Asked, ChangesTold, IsAsTold, DoesTold, EndsTold, OverTold, KeepsTold}
+use Rattle.many_calls.specs.Asked.{Asked, ChangesAsReplied, IsAsReplied, DoesAsReplied, EndsAsReplied, OverAsReplied, RemembersReplies}
 use Rattle.many_calls.proofs.Asked.Stays.{Stays, HasYet, ToldTo, as_told_on, changes_on, ends_on, does_on}
 use Rattle.many_calls.proofs.Asked.Own.{IsMine, mine_at}
 use Rattle.many_calls.proofs.Asked.Goes.{EndsUntold, DropsUntold, ComesUntold, GoesBy}
@@ -71,7 +71,7 @@ module _ {K V Q : Type 0} (p : KeyCall K V Q) (word new : ℕ) where
 module _ {K V Q : Type 0} (same : K → K → Bool) (hash : K → ℕ) (setting : Setting) (caller : ℕ) (asks : Q → K → Bool) (w w2 : World (Node K V)) (c c2 : Chart K) (blocks blocks2 : Blocks)
     (map : IsMapIn same hash setting w c blocks) (map2 : IsMapIn same hash setting w2 c2 blocks2) (stays : Stays w.memory w2.memory c c2 blocks blocks2)
     (fits : (k : K) → hash k < 2 ^ 64) (keys : K → Bool) (its : Option K) (asked : List (Asked V)) (change : Change) (p p2 : KeyCall K V Q) (progress : Called (Node K V))
-    (told : CallTold same hash asks caller setting keys c change p w2 c2 blocks2 p2 progress) (facts : CallFacts same hash asks w caller setting c blocks keys change p) (row : IsRowOfCall p.stands → ⊥)
+    (told : CallOutcome same hash asks caller setting keys c change p w2 c2 blocks2 p2 progress) (facts : CallFacts same hash asks w caller setting c blocks keys change p) (row : IsRowOfCall p.stands → ⊥)
     (may : May Can Took value_at w.memory (call_plan asks same hash p)) (steps : Steps Took value_at w.memory (call_plan asks same hash p) w2.memory (p2, progress)) (rooms : RoomsAt p.stands) where
   abbrev To : KeyCall K V Q → Called (Node K V) → Type 0
   To = ToldTo hash w2.memory c2 blocks2 its asked told.change2
@@ -80,16 +80,16 @@ module _ {K V Q : Type 0} (same : K → K → Bool) (hash : K → ℕ) (setting 
   After = CallFactsAfter same hash asks caller setting keys w2 c2 blocks2 told.change2
 
   abbrev Told : Change → Type 0
-  Told = ChangesTold hash w2.memory c2 blocks2 its asked
+  Told = ChangesAsReplied hash w2.memory c2 blocks2 its asked
 
   abbrev Keeps : Calling → Type 0
-  Keeps = KeepsTold hash w.memory c blocks its asked change p
+  Keeps = RemembersReplies hash w.memory c blocks its asked change p
 
   abbrev Ends : KeyCall K V Q → End → Type 0
-  Ends q = EndsTold hash w2.memory c2 blocks2 its asked q.there q.missing q.replies.takes
+  Ends q = EndsAsReplied hash w2.memory c2 blocks2 its asked q.there q.missing q.replies.takes
 
   abbrev Over : KeyCall K V Q → End → Type 0
-  Over q = OverTold hash w2.memory c2 blocks2 its asked told.change2 q.there q.missing q.replies.takes
+  Over q = OverAsReplied hash w2.memory c2 blocks2 its asked told.change2 q.there q.missing q.replies.takes
 
   -- it had changed the map before
   module _ (other : change ≢ Unchanged) where
@@ -102,14 +102,14 @@ module _ {K V Q : Type 0} (same : K → K → Bool) (hash : K → ℕ) (setting 
     changed2 : told.change2 ≢ Unchanged
     changed2 e = other (sym same_change ∙ e)
 
-    has_changed : (stands : Calling) → (Seeks same hash asks w caller setting c blocks keys change stands → ⊥) → Keeps stands → ChangesTold hash w.memory c blocks its asked change
+    has_changed : (stands : Calling) → (Seeks same hash asks w caller setting c blocks keys change stands → ⊥) → Keeps stands → ChangesAsReplied hash w.memory c blocks its asked change
     has_changed (at.Counts removed) none h = h
     has_changed (at.Disposes d answer) none h = h
     has_changed (at.Over end) none h = h.0
     has_changed _ none h = absurd (none tt)
 
     past : (q : KeyCall K V Q) (stands : Calling) → (Seeks same hash asks w2 caller setting c2 blocks2 keys told.change2 stands → ⊥) → Told told.change2
-        → KeepsTold hash w2.memory c2 blocks2 its asked told.change2 q stands
+        → RemembersReplies hash w2.memory c2 blocks2 its asked told.change2 q stands
     past q (at.Counts removed) none h = h
     past q (at.Disposes d answer) none h = h
     past q (at.Over end) none h = (h, λ e. absurd (changed2 e))
@@ -121,7 +121,7 @@ module _ {K V Q : Type 0} (same : K → K → Bool) (hash : K → ℕ) (setting 
         then_told : Told told.change2
         then_told = subst Told (sym same_change) (changes_on hash w.memory w2.memory c c2 blocks blocks2 its asked stays change (has_changed p.stands (λ seeks. other (facts.unchanged seeks)) keeps))
 
-        on : (q : KeyCall K V Q) → CallFacts same hash asks w2 caller setting c2 blocks2 keys told.change2 q → KeepsTold hash w2.memory c2 blocks2 its asked told.change2 q q.stands
+        on : (q : KeyCall K V Q) → CallFacts same hash asks w2 caller setting c2 blocks2 keys told.change2 q → RemembersReplies hash w2.memory c2 blocks2 its asked told.change2 q q.stands
         on q f = past q q.stands (λ seeks. changed2 (f.unchanged seeks)) then_told
 
         by : (q : KeyCall K V Q) (x : Called (Node K V)) → After q x → To q x
@@ -144,12 +144,12 @@ module _ {K V Q : Type 0} (same : K → K → Bool) (hash : K → ℕ) (setting 
   untold q = untold_ends hash w2.memory c2 blocks2 its asked q.there q.missing q.replies.takes
 
   -- it goes on seeking
-  module _ (h : IsAsTold hash w.memory c blocks its asked p.replies p.own) (mine : IsMine w caller p.own) (unmoved : NoneMoved same hash asks w caller setting c blocks keys change p w2.memory (p2, progress)) where
+  module _ (h : IsAsReplied hash w.memory c blocks its asked p.replies p.own) (mine : IsMine w caller p.own) (unmoved : NoneMoved same hash asks w caller setting c blocks keys change p w2.memory (p2, progress)) where
     seeks_so : (Read : ℕ → Type 0) (q : KeyCall K V Q) (x : Called (Node K V)) → GoesSeeking p (q, x) → GoesBy Read p (q, x) → After q x → To q x
     seeks_so Read q x g does f = by x g does.2 f
       where
         on : IsAhead q.stands → DropsUntold q.there q.missing q.stands → CallFacts same hash asks w2 caller setting c2 blocks2 keys told.change2 q
-            → KeepsTold hash w2.memory c2 blocks2 its asked told.change2 q q.stands
+            → RemembersReplies hash w2.memory c2 blocks2 its asked told.change2 q q.stands
         on ahead drops f =
             kept_at hash fits w w2 caller c c2 blocks blocks2 its asked stays setting.root map2.map.shows told.change2 q q.stands ahead (λ yet.
             goes_told hash fits w w2 caller c c2 blocks blocks2 its asked stays setting.root map2.map.shows p h mine unmoved Read q does.0 does.1
@@ -167,7 +167,7 @@ module _ {K V Q : Type 0} (same : K → K → Bool) (hash : K → ℕ) (setting 
         by (called.Refused fault) g ends_so f = untold q (ends.Refused fault) ends_so
 
     -- or asks again
-    again_so : IsSeeking p.stands → DoesTold hash w.memory c blocks its asked p.replies p.own p.stands → (asked_of : Option ℕ) → IsAhead p.stands → ◌≡◌ {A = KeyCall K V Q × Called (Node K V)} (p2, progress) (p, called.Asks asked_of) → To p2 progress
+    again_so : IsSeeking p.stands → DoesAsReplied hash w.memory c blocks its asked p.replies p.own p.stands → (asked_of : Option ℕ) → IsAhead p.stands → ◌≡◌ {A = KeyCall K V Q × Called (Node K V)} (p2, progress) (p, called.Asks asked_of) → To p2 progress
     again_so seeking does asked_of ahead end =
         subst (λ (x : KeyCall K V Q × Called (Node K V)). After x.0 x.1 → To x.0 x.1) (sym end) (λ f.
         kept_at hash fits w w2 caller c c2 blocks blocks2 its asked stays setting.root map2.map.shows told.change2 p p.stands ahead (λ yet.
@@ -176,14 +176,14 @@ module _ {K V Q : Type 0} (same : K → K → Bool) (hash : K → ℕ) (setting 
         (λ drops is. absurd (subst IsSeeking is seeking))) told.facts
 
   -- or changes the map
-  changes_so : (word new : ℕ) → DoesTold hash w.memory c blocks its asked p.replies p.own (at.Tries word new) → SameValues w.memory w2.memory → (p2, progress) ≡ changed p word new → To p2 progress
+  changes_so : (word new : ℕ) → DoesAsReplied hash w.memory c blocks its asked p.replies p.own (at.Tries word new) → SameValues w.memory w2.memory → (p2, progress) ≡ changed p word new → To p2 progress
   changes_so word new does kept end =
       subst (λ (x : KeyCall K V Q × Called (Node K V)). After x.0 x.1 → To x.0 x.1) (sym end)
       (changed_told same hash fits asks w2 caller setting c2 blocks2 keys its asked setting.root map2.map.shows told.change2 p word new
       (does_on hash w.memory w2.memory c c2 blocks blocks2 its asked stays p.own (λ some. kept (p.own / 2048)) p.replies (at.Tries word new) does)) told.facts
 
   seeking_so : (stands : Calling) → p.stands ≡ stands → IsSought stands → (IsDropping stands → ⊥) → HasYet stands → IsSeeking stands
-      → IsAsTold hash w.memory c blocks its asked p.replies p.own × DoesTold hash w.memory c blocks its asked p.replies p.own stands
+      → IsAsReplied hash w.memory c blocks its asked p.replies p.own × DoesAsReplied hash w.memory c blocks its asked p.replies p.own stands
       → CallingFacts same hash asks w caller setting c blocks keys change p stands → (IsRowOfCall stands → ⊥)
       → May Can Took value_at w.memory (plan_at asks same hash p stands) → Steps Took value_at w.memory (plan_at asks same hash p stands) w2.memory (p2, progress) → To p2 progress
   seeking_so stands here sought drops yet seeking both k no_row m s =
@@ -196,22 +196,22 @@ module _ {K V Q : Type 0} (same : K → K → Bool) (hash : K → ℕ) (setting 
           (Read same hash asks p facts.may.0 both.0.asks w.memory w2.memory (p2, progress) stands) p2 progress g does told.facts
       by (inl (g, unmoved)) (inr (inl (pair, end))) =
           again_so both.0 (mine_at same hash asks w caller setting c blocks keys change p facts.code stands yet k) unmoved (subst IsSeeking (sym here) seeking)
-          (subst (DoesTold hash w.memory c blocks its asked p.replies p.own) (sym here) both.1) pair (subst (λ (x : KeyCall K V Q × Called (Node K V)). GoesSeeking p x) end g).1 end
+          (subst (DoesAsReplied hash w.memory c blocks its asked p.replies p.own) (sym here) both.1) pair (subst (λ (x : KeyCall K V Q × Called (Node K V)). GoesSeeking p x) end g).1 end
       by (inl (g, unmoved)) (inr (inr (word, new, is, end))) = absurd (changes_no_more p word new (subst (GoesSeeking p) end g))
-      by (inr (word, new, is, kept, end)) walked = changes_so word new (subst (DoesTold hash w.memory c blocks its asked p.replies p.own) is both.1) kept end
+      by (inr (word, new, is, kept, end)) walked = changes_so word new (subst (DoesAsReplied hash w.memory c blocks its asked p.replies p.own) is both.1) kept end
 
   -- it fills its own block, or gives it up
   refused_so : (q : KeyCall K V Q) (end : End) (back : Node K V) → ◌≡◌ {A = KeyCall K V Q × Called (Node K V)} (p2, progress) (standing q (at.Over end), called.Unstored back) → told.change2 ≡ Unchanged
   refused_so q end back is = (subst (λ (x : KeyCall K V Q × Called (Node K V)). After x.0 x.1) is told.facts).point
 
-  fills_so : (word : ℕ) → IsAsTold hash w.memory c blocks its asked p.replies p.own × DoesTold hash w.memory c blocks its asked p.replies p.own (at.Asks (asking.Fills word))
+  fills_so : (word : ℕ) → IsAsReplied hash w.memory c blocks its asked p.replies p.own × DoesAsReplied hash w.memory c blocks its asked p.replies p.own (at.Asks (asking.Fills word))
       → CallingFacts same hash asks w caller setting c blocks keys change p (at.Asks (asking.Fills word))
       → Steps Took value_at w.memory (plan_at asks same hash p (at.Asks (asking.Fills word))) w2.memory (p2, progress) → To p2 progress
   fills_so word both k s =
       (fills_told same hash fits asks caller setting keys its asked w w2.memory c c2 blocks blocks2 stays setting.root map.map.shows change told.change2 p facts.code facts.may.1 word k.1 both.0 (p2, progress) refused_so
       both.1 (named_or hash fits w.memory c blocks its asked setting.root map.map.shows same asks keys w caller setting change p word k.3) k.2.0 k.2.1 s k.0).0
 
-  gives_up_so : (word : ℕ) → IsAsTold hash w.memory c blocks its asked p.replies p.own × DoesTold hash w.memory c blocks its asked p.replies p.own (at.Asks (asking.GivesUp word))
+  gives_up_so : (word : ℕ) → IsAsReplied hash w.memory c blocks its asked p.replies p.own × DoesAsReplied hash w.memory c blocks its asked p.replies p.own (at.Asks (asking.GivesUp word))
       → CallingFacts same hash asks w caller setting c blocks keys change p (at.Asks (asking.GivesUp word))
       → Steps Took value_at w.memory (plan_at asks same hash p (at.Asks (asking.GivesUp word))) w2.memory (p2, progress) → To p2 progress
   gives_up_so word both k s =
@@ -223,7 +223,7 @@ module _ {K V Q : Type 0} (same : K → K → Bool) (hash : K → ℕ) (setting 
     over_so (ends.Answered answer) here as_told f = answered p answer (looks answer (subst (HasAnswered answer) (sym here) refl)) as_told f
     over_so (ends.Refused fault) here as_told f = as_told
 
-    still : (end : End) → EndsTold hash w.memory c blocks its asked p.there p.missing p.replies.takes end → Ends p end
+    still : (end : End) → EndsAsReplied hash w.memory c blocks its asked p.there p.missing p.replies.takes end → Ends p end
     still = ends_on hash w.memory w2.memory c c2 blocks blocks2 its asked stays p.there p.missing p.replies.takes
 
     abbrev Ending : KeyCall K V Q × Called (Node K V) → Type 0
@@ -243,7 +243,7 @@ module _ {K V Q : Type 0} (same : K → K → Bool) (hash : K → ℕ) (setting 
     by_point none (at.Allocs making) here both k no_row m s = seeking_so (at.Allocs making) here tt (λ z. z) tt tt both k no_row m s
     by_point none (at.Helps copier goal) here both k no_row m s = seeking_so (at.Helps copier goal) here tt (λ z. z) tt tt both k no_row m s
     by_point none (at.Copies copier) here both k no_row m s = seeking_so (at.Copies copier) here tt (λ z. z) tt tt both k no_row m s
-    by_point none (at.Disposes d answer) here h k no_row m s = absurd (subst (λ (x : Change). Tells same hash asks w caller setting c blocks keys change x answer) none k.1)
+    by_point none (at.Disposes d answer) here h k no_row m s = absurd (subst (λ (x : Change). AnswersChange same hash asks w caller setting c blocks keys change x answer) none k.1)
     by_point none (at.Asks (asking.Absent gap)) here both k no_row m s = seeking_so (at.Asks (asking.Absent gap)) here tt (λ z. z) tt tt both k no_row m s
     by_point none (at.Asks (asking.Present word)) here both k no_row m s = seeking_so (at.Asks (asking.Present word)) here tt (λ z. z) tt tt both k no_row m s
     by_point none (at.Asks (asking.Fills word)) here both k no_row m s = fills_so word both k s

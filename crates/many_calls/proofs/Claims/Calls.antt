@@ -16,7 +16,7 @@ use Rattle.map_facts_late.specs.Given.ResizeLookup.{lookup_plan}
 use Rattle.map_facts_late.specs.Given.ResizeNewTable.{new_table_plan}
 use Rattle.map_facts_late.specs.Given.RawCall.{made, makes_of, root_found, next_found, dropped, key_read, pair_read, word_read, word_found, tried, looked, looks_for, first_made, next_made, disposed, copied, plan_at, call_plan}
 use Rattle.map_facts_late.specs.Given.RawCallFills.{filled, putting_by, fill_by, emptied, fills_with, fills, given_up, asks_at}
-use Rattle.map_facts_late.specs.Given.RawCallPoints.{ending, asking_at, tableless, at_free, at_last, at_pair, told_of, went_on, changed, counted, having_met}
+use Rattle.map_facts_late.specs.Given.RawCallPoints.{ending, asking_at, tableless, at_free, at_last, at_pair, after_finding, continued_in, changed, counted, having_met}
 use Rattle.map_facts_late.specs.Given.TablesDeclared.finding.Finding.{Finding}
 use Rattle.map_facts_late.specs.Given.TablesDeclared.finding.Finding.TheVariants as finds
 use Rattle.map_facts_late.specs.Given.TablesDeclared.marks.TheConstants.{TOMBSTONE}
@@ -105,7 +105,7 @@ module _ {K V Q : Type 0} where
     pair_other there.Removes word = tt
     pair_other there.Asks word = asking_of_so OtherStep p (λ word new. tt) (λ asking. tt) (λ asking asked. tt) word
 
-    told_other : (loaded : Bool) (word : ℕ) (found : Finding) → OtherStep (told_of loaded p word found)
+    told_other : (loaded : Bool) (word : ℕ) (found : Finding) → OtherStep (after_finding loaded p word found)
     told_other loaded word finds.Free = free_other p.missing
     told_other loaded word finds.Passed =
         passed_so OtherStep (having_met p word) (λ next. tt) tt (λ e. either (p.own == 0) _ _ tt tt) (λ e untold. tt) (next_trial (with_met p.trial word))
@@ -113,7 +113,7 @@ module _ {K V Q : Type 0} where
     told_other loaded word finds.Copying = either loaded _ _ tt tt
     told_other loaded word finds.There = pair_other p.there word
 
-    on_other : (table : Table) → OtherStep (went_on p table)
+    on_other : (table : Table) → OtherStep (continued_in p table)
     on_other table = either (is_incremental p.setting.mode) _ _ (either p.helped _ _ tt tt) (begun_other p.setting p.trial.table table)
 
     changed_other : (word new : ℕ) → OtherStep (changed p word new)

@@ -9,14 +9,14 @@ use Rattle.map_facts_late.specs.Given.RuleRule.{Rule}
 use Rattle.map_facts_late.specs.Given.RuleMoves.{Move, Links, Stores, Replaces, Removes, Claims, Reclaims, Allowed, after}
 use Rattle.map_facts_late.specs.Given.RuleMaps.{spot_of}
 use Rattle.map_facts_late.specs.Given.RuleInWorld.{Moved}
-use Rattle.map_facts_late.specs.Given.PointsTold.{IsBeside, MovedBeside}
+use Rattle.map_facts_late.specs.Given.PointsTold.{IsBesideCopying, MovedBesideCopying}
 
 module _ {K : Type 0} (spot : ℕ → K → ℕ → ℕ) (incremental : Bool) (c : Chart K) where
   past_after : (move : Move K) → c.past ≤ (after spot incremental move c).past
   past_after (Links len limit) = omega arith
   past_after _ = omega arith
 
-  claim_after : (move : Move K) → IsBeside move → (after spot incremental move c).claim ≡ c.claim
+  claim_after : (move : Move K) → IsBesideCopying move → (after spot incremental move c).claim ≡ c.claim
   claim_after (Links len limit) beside = refl
   claim_after (Stores t k try) beside = refl
   claim_after (Replaces t place k) beside = refl
@@ -30,7 +30,7 @@ module _ {K : Type 0} (hash : K → ℕ) (mode : ResizeMode) (c c2 : Chart K) wh
   past_moved same caller (inr (move, allowed, e, mine)) = subst (λ (x : Chart K). c.past ≤ x.past) (sym e) (past_after (spot_of hash) (is_incremental mode) c move)
 
   -- the claims are what they were
-  pub claim_beside : MovedBeside hash mode c c2 → c2.claim ≡ c.claim
+  pub claim_beside : MovedBesideCopying hash mode c c2 → c2.claim ≡ c.claim
   claim_beside (inl e) = ap (λ (x : Chart K). x.claim) e
   claim_beside (inr (move, beside, e)) = ap (λ (x : Chart K). x.claim) e ∙ claim_after (spot_of hash) (is_incremental mode) c move beside
 

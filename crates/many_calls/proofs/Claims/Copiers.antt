@@ -13,7 +13,7 @@ use Rattle.map_facts_late.specs.Given.ResizeCopierClaims.{chunk, claimed, status
 use Rattle.map_facts_late.specs.Given.ResizeCopierCounts.{counted}
 use Rattle.map_facts_late.specs.Given.ResizeCopierFurther.{replacement_read, remade}
 use Rattle.map_facts_late.specs.Given.ResizeCopierMarks.{is_mine, is_awaited, marked}
-use Rattle.map_facts_late.specs.Given.ResizeCopierPlaces.{next_try, pair_put, place_read, put_told}
+use Rattle.map_facts_late.specs.Given.ResizeCopierPlaces.{next_try, pair_put, place_read, after_put}
 use Rattle.map_facts_late.specs.Given.ResizeCopierPromotes.{promoted, successor_read}
 use Rattle.map_facts_late.specs.Given.ResizeCopierStates.{behind, none_left, next_place, place_done}
 use Rattle.map_facts_late.specs.Given.ResizeNewTable.{new_table_plan}
@@ -97,7 +97,7 @@ module _ (K V : Type 0) (hash : K → ℕ) (p : Copier) where
     place_other word code table probe (Found found) = always_if OtherEnd (found == 0) _ _ tt (next_try_other p word code table probe)
     place_other word code table probe _ = here
 
-    put_other : (word code : ℕ) (table : Table) (probe : Probe) (out : Out (Node K V)) → Always OtherEnd (put_told p word code table probe out)
+    put_other : (word code : ℕ) (table : Table) (probe : Probe) (out : Out (Node K V)) → Always OtherEnd (after_put p word code table probe out)
     put_other word code table probe (Exchanged (Ok found)) = pair_put_other p word
     put_other word code table probe (Exchanged (Err found)) = next_try_other p word code table probe
     put_other word code table probe _ = here

@@ -18,7 +18,7 @@ use Rattle.map_facts_late.proofs.Given.RuleKeys.TriesSeen.{spot_inside}
 use Rattle.map_facts_late.specs.Given.PointsFactsTables.{NewTableFacts}
 use Rattle.map_facts_late.specs.Given.PointsFactsCopiesBlocking.{CopyingFactsBlocking}
 use Rattle.map_facts_late.specs.Given.PointsTold.{IsRowOfCopier}
-use Rattle.map_facts_late.specs.LateCopies.{LateCopying}
+use Rattle.map_facts_late.specs.LateCopies.{SupersededCopying}
 
 module _ {K V : Type 0} (w : World (Node K V)) (caller : ℕ) (setting : Setting) (c : Chart K) (blocks : Blocks) where
   -- its points in blocking mode, but for the rows of the collector
@@ -69,7 +69,7 @@ module _ {K V : Type 0} (same : K → K → Bool) (hash : K → ℕ) (w : World 
   fresh_knows _ facts row = tt
 
   -- the root has left what it copies
-  pub late_knows : (began : ℕ) (stands : Point) → LateCopying same hash w caller setting c blocks began p stands → (IsRowOfCopier stands → ⊥) → CopierKnows w caller setting c blocks p stands
+  pub late_knows : (began : ℕ) (stands : Point) → SupersededCopying same hash w caller setting c blocks began p stands → (IsRowOfCopier stands → ⊥) → CopierKnows w caller setting c blocks p stands
   late_knows began at.Sees (u, t, copies) row = (u, t, copies.source, copies.target)
   late_knows began at.Claims (u, t, copies) row = (t, copies.target)
   late_knows began at.Marks (u, t, aborted, inside) row = place_few p.source u p.place aborted.0.source (omega (arith, inside.0, inside.1))

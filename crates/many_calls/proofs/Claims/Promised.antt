@@ -18,11 +18,11 @@ use Rattle.map_facts_late.specs.Given.RawDeclared.machines.call.KeyCall.{KeyCall
 use Rattle.map_facts_late.specs.Given.RawDeclared.machines.call.Calling.{Calling}
 use Rattle.map_facts_late.specs.Given.RawDeclared.machines.call.Calling.TheVariants as at
 use Rattle.map_facts_late.specs.Given.RuleChart.{Chart}
-use Rattle.map_facts_late.specs.Given.RuleInWorld.{IsMapIn, Went}
+use Rattle.map_facts_late.specs.Given.RuleInWorld.{IsMapIn, StepSpec}
 use Rattle.map_facts_late.specs.Given.RuleWords.{Blocks}
 use Rattle.map_facts_late.specs.Given.PointsFactsCalls.{IsCopying, Change, Unchanged, CallingFacts, CallFacts}
-use Rattle.map_facts_late.specs.Given.PointsTold.{IsRowOfCall, MovedBeside}
-use Rattle.map_facts_late.specs.LateCalls.{LateCallFacts, LateCalling}
+use Rattle.map_facts_late.specs.Given.PointsTold.{IsRowOfCall, MovedBesideCopying}
+use Rattle.map_facts_late.specs.LateCalls.{SupersededCallFacts, SupersededCalling}
 use Rattle.many_calls.specs.Claims.{IsToClaim, ClaimsBy}
 use Rattle.many_calls.proofs.Claims.Within as within
 use Rattle.many_calls.proofs.Claims.Charts.{claim_beside}
@@ -45,31 +45,31 @@ inner_to p t (copier, outcome.Refused fault) to = absurd (not_to _ t (ending_oth
 
 module _ {K V Q : Type 0} (same : K → K → Bool) (hash : K → ℕ) (asks : Q → K → Bool) (w : World (Node K V)) (caller : ℕ) (setting : Setting) (c : Chart K) (blocks : Blocks)
     (blocking : is_incremental setting.mode ≡ false) (map : IsMapIn same hash setting w c blocks) (keys : K → Bool) (began : ℕ) (change : Change) (p : KeyCall K V Q)
-    (facts : CallFacts same hash asks w caller setting c blocks keys change p ⊎ ((change ≡ Unchanged) × LateCallFacts same hash asks w caller setting c blocks keys began p))
+    (facts : CallFacts same hash asks w caller setting c blocks keys change p ⊎ ((change ≡ Unchanged) × SupersededCallFacts same hash asks w caller setting c blocks keys began p))
     (none : IsRowOfCall p.stands → ⊥) where
   -- what its copier knows
   copier_knows : (copier : Copier) → p.stands ≡ at.Copies copier → CopierKnows w caller setting c blocks copier copier.stands × (copier.setting ≡ setting)
   copier_knows copier is = by facts
     where
-      by : CallFacts same hash asks w caller setting c blocks keys change p ⊎ ((change ≡ Unchanged) × LateCallFacts same hash asks w caller setting c blocks keys began p)
+      by : CallFacts same hash asks w caller setting c blocks keys change p ⊎ ((change ≡ Unchanged) × SupersededCallFacts same hash asks w caller setting c blocks keys began p)
           → CopierKnows w caller setting c blocks copier copier.stands × (copier.setting ≡ setting)
       by (inl fresh) =
           let f = subst (CallingFacts same hash asks w caller setting c blocks keys change p) is fresh.point in
           (fresh_knows same hash w caller setting c blocks map copier copier.stands f.2.point (λ row. none (subst IsRowOfCall (sym is) row)), f.2.setting_is)
       by (inr (nothing, late)) =
-          let f = subst (LateCalling same hash asks w caller setting c blocks keys began p) is late.point in
+          let f = subst (SupersededCalling same hash asks w caller setting c blocks keys began p) is late.point in
           (late_knows same hash w caller setting c blocks map copier began copier.stands f.1.point (λ row. none (subst IsRowOfCall (sym is) row)), f.1.setting_is)
 
   -- it helps with no copying
   no_help : (copier : Copier) (goal : Table) → p.stands ≡ at.Helps copier goal → ⊥
   no_help copier goal is = by facts
     where
-      by : CallFacts same hash asks w caller setting c blocks keys change p ⊎ ((change ≡ Unchanged) × LateCallFacts same hash asks w caller setting c blocks keys began p) → ⊥
+      by : CallFacts same hash asks w caller setting c blocks keys change p ⊎ ((change ≡ Unchanged) × SupersededCallFacts same hash asks w caller setting c blocks keys began p) → ⊥
       by (inl fresh) = let f = subst (CallingFacts same hash asks w caller setting c blocks keys change p) is fresh.point in let mode = f.1 in cc (mode, blocking)
-      by (inr (nothing, late)) = subst (LateCalling same hash asks w caller setting c blocks keys began p) is late.point
+      by (inr (nothing, late)) = subst (SupersededCalling same hash asks w caller setting c blocks keys began p) is late.point
 
-  module _ (m2 : Mem (Node K V)) (Told : World (Node K V) → Chart K → Blocks → Type 0) (went : Went same hash setting caller w c blocks m2 Told)
-      (beside : (IsCopying p.stands → ⊥) → MovedBeside hash setting.mode c went.c2) (p2 : KeyCall K V Q) (progress : Called (Node K V))
+  module _ (m2 : Mem (Node K V)) (Told : World (Node K V) → Chart K → Blocks → Type 0) (went : StepSpec same hash setting caller w c blocks m2 Told)
+      (beside : (IsCopying p.stands → ⊥) → MovedBesideCopying hash setting.mode c went.c2) (p2 : KeyCall K V Q) (progress : Called (Node K V))
       (may : May Can Took value_at w.memory (call_plan asks same hash p)) (steps : Steps Took value_at w.memory (call_plan asks same hash p) m2 (p2, progress)) where
     -- while it copies nothing
     aside : (IsCopying p.stands → ⊥) → ClaimsBy c went.c2 (λ t. IsToClaim t p.stands) (λ t. IsToClaim t p2.stands)

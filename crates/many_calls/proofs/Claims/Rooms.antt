@@ -27,14 +27,14 @@ use Rattle.map_facts_late.specs.Given.ReservesDeclared.reserve.Reserving.{Reserv
 use Rattle.map_facts_late.specs.Given.ReservesDeclared.reserve.Reserving.TheVariants as at
 use Rattle.map_facts_late.specs.Given.RuleChart.{Chart}
 use Rattle.map_facts_late.specs.Given.RuleMoves.{Links}
-use Rattle.map_facts_late.specs.Given.RuleInWorld.{IsMapIn, Went}
+use Rattle.map_facts_late.specs.Given.RuleInWorld.{IsMapIn, StepSpec}
 use Rattle.map_facts_late.specs.Given.RuleWords.{Blocks}
 use Rattle.map_facts_late.proofs.Given.RuleKeys.Always.{Always, AlwaysOf, always_if, always_plan_as, always_steps}
 use Rattle.map_facts_late.specs.Given.PointsFactsCopies.{CopierFacts}
 use Rattle.map_facts_late.specs.Given.PointsFactsCopiesBlocking.{CopierFactsBlocking}
-use Rattle.map_facts_late.specs.Given.PointsTold.{OnlyLinks, MovedBeside}
+use Rattle.map_facts_late.specs.Given.PointsTold.{OnlyLinks, MovedBesideCopying}
 use Rattle.map_facts_late.specs.FactsReserves.{CopiesPairs, IsEnding, CopiesWhole, ReservingFacts, ReserveFacts}
-use Rattle.map_facts_late.specs.LateReserves.{LateReserving, LateReserveFacts}
+use Rattle.map_facts_late.specs.LateReserves.{SupersededReserving, SupersededReserveFacts}
 use Rattle.map_facts_late.specs.ToldReserves.{IsRowOfReserve}
 use Rattle.many_calls.specs.Claims.{ClaimsBy}
 use Rattle.many_calls.specs.Rooms.{RoomClaims}
@@ -127,13 +127,13 @@ module _ {K V : Type 0} where
       beside _ none = tt
 
 -- a table that is linked is beside a copying
-links_beside : {K : Type 0} (hash : K → ℕ) (setting : Setting) (c c2 : Chart K) → OnlyLinks hash setting.mode c c2 → MovedBeside hash setting.mode c c2
+links_beside : {K : Type 0} (hash : K → ℕ) (setting : Setting) (c c2 : Chart K) → OnlyLinks hash setting.mode c c2 → MovedBesideCopying hash setting.mode c c2
 links_beside hash setting c c2 (inl e) = inl e
 links_beside hash setting c c2 (inr (len, limit, e)) = inr (Links len limit, tt, e)
 
 module _ {K V : Type 0} (same : K → K → Bool) (hash : K → ℕ) (w : World (Node K V)) (caller : ℕ) (setting : Setting) (c : Chart K) (blocks : Blocks)
     (blocking : is_incremental setting.mode ≡ false) (map : IsMapIn same hash setting w c blocks) (began : ℕ) (p : Reserve)
-    (facts : ReserveFacts same hash w caller setting c blocks p ⊎ LateReserveFacts same hash w caller setting c blocks began p) (none : IsRowOfReserve p.stands → ⊥) where
+    (facts : ReserveFacts same hash w caller setting c blocks p ⊎ SupersededReserveFacts same hash w caller setting c blocks began p) (none : IsRowOfReserve p.stands → ⊥) where
   whole : (copier : Copier) → CopiesWhole same hash w caller setting c blocks copier → CopierFactsBlocking same hash w caller setting c blocks copier
   whole copier = subst
       (λ (b : Bool). cond b ((copier.whole ≡ true) × CopierFacts same hash w caller setting c blocks copier × IsEnding same hash w caller setting c blocks copier copier.stands)
@@ -143,15 +143,15 @@ module _ {K V : Type 0} (same : K → K → Bool) (hash : K → ℕ) (w : World 
   copier_knows : (copier : Copier) → p.stands ≡ at.Copies copier → CopierKnows w caller setting c blocks copier copier.stands × (copier.setting ≡ setting)
   copier_knows copier is = by facts
     where
-      by : ReserveFacts same hash w caller setting c blocks p ⊎ LateReserveFacts same hash w caller setting c blocks began p → CopierKnows w caller setting c blocks copier copier.stands × (copier.setting ≡ setting)
+      by : ReserveFacts same hash w caller setting c blocks p ⊎ SupersededReserveFacts same hash w caller setting c blocks began p → CopierKnows w caller setting c blocks copier copier.stands × (copier.setting ≡ setting)
       by (inl fresh) =
           let f = whole copier (subst (ReservingFacts same hash w caller setting c blocks) is fresh.point) in
           (fresh_knows same hash w caller setting c blocks map copier copier.stands f.point (λ row. none (subst IsRowOfReserve (sym is) row)), f.setting_is)
       by (inr late) =
-          let f = subst (LateReserving same hash w caller setting c blocks began) is late.point in
+          let f = subst (SupersededReserving same hash w caller setting c blocks began) is late.point in
           (late_knows same hash w caller setting c blocks map copier began copier.stands f.point (λ row. none (subst IsRowOfReserve (sym is) row)), f.setting_is)
 
-  module _ (m2 : Mem (Node K V)) (Told : World (Node K V) → Chart K → Blocks → Type 0) (went : Went same hash setting caller w c blocks m2 Told)
+  module _ (m2 : Mem (Node K V)) (Told : World (Node K V) → Chart K → Blocks → Type 0) (went : StepSpec same hash setting caller w c blocks m2 Told)
       (beside : (CopiesPairs p.stands → ⊥) → OnlyLinks hash setting.mode c went.c2) (p2 : Reserve) (end : Yielding (Node K V) Unit)
       (may : May Can Took value_at w.memory (reserve_plan hash p)) (steps : Steps Took value_at w.memory (reserve_plan hash p) m2 (p2, end)) where
     abbrev Claims : Type 0

@@ -20,13 +20,13 @@ use Rattle.map_facts_late.specs.Given.ReservesDeclared.sweep.Sweeping.{Sweeping}
 use Rattle.map_facts_late.specs.Given.ReservesDeclared.sweep.Sweeping.TheVariants as at
 use Rattle.map_facts_late.specs.Given.ReservesDeclared.sweep.Swept.{Swept}
 use Rattle.map_facts_late.specs.Given.RuleChart.{Chart}
-use Rattle.map_facts_late.specs.Given.RuleInWorld.{IsMapIn, Went}
+use Rattle.map_facts_late.specs.Given.RuleInWorld.{IsMapIn, StepSpec}
 use Rattle.map_facts_late.specs.Given.RuleWords.{Blocks}
 use Rattle.map_facts_late.specs.Given.PointsFactsCopies.{CopierFacts}
 use Rattle.map_facts_late.specs.Given.PointsFactsCopiesBlocking.{CopierFactsBlocking}
 use Rattle.map_facts_late.specs.FactsReserves.{IsEnding}
 use Rattle.map_facts_late.specs.FactsSweeps.{CopiesPairs, CopiesTable, SweepingFacts, SweepFacts}
-use Rattle.map_facts_late.specs.ToldSweeps.{OnlyRemoves, IsRowOfSweep, StandsThen}
+use Rattle.map_facts_late.specs.ToldSweeps.{OnlyRemoves, IsRowOfSweep, IsAtPointThen}
 use Rattle.map_facts_late.proofs.Swept.Sweeps.Stands.{quiet_entering}
 use Rattle.many_calls.specs.Claims.{ClaimsBy}
 use Rattle.many_calls.specs.OverAll.{SweepClaims}
@@ -72,8 +72,8 @@ module _ {K V : Type 0} (same : K → K → Bool) (hash : K → ℕ) (w : World 
           (fresh_knows same hash w caller setting c blocks map copier copier.stands f.point (λ row. none (subst IsRowOfSweep (sym is) row)), f.setting_is)
       by (inr (late_mode, late)) = (late_knows same hash w caller setting c blocks map copier began copier.stands late.point (λ row. none (subst IsRowOfSweep (sym is) row)), late.setting_is)
 
-  module _ (m2 : Mem (Node K V)) (Told : World (Node K V) → Chart K → Blocks → Type 0) (went : Went same hash setting caller w c blocks m2 Told)
-      (beside : (CopiesPairs p.stands → ⊥) → OnlyRemoves hash setting.mode c went.c2) (p2 : Sweep) (end : Swept (Node K V)) (then : StandsThen p p2 end)
+  module _ (m2 : Mem (Node K V)) (Told : World (Node K V) → Chart K → Blocks → Type 0) (went : StepSpec same hash setting caller w c blocks m2 Told)
+      (beside : (CopiesPairs p.stands → ⊥) → OnlyRemoves hash setting.mode c went.c2) (p2 : Sweep) (end : Swept (Node K V)) (then : IsAtPointThen p p2 end)
       (may : May Can Took value_at w.memory (sweep_plan hash p)) (steps : Steps Took value_at w.memory (sweep_plan hash p) m2 (p2, end)) where
     abbrev Claims : Type 0
     Claims = ClaimsBy c went.c2 (λ t. SweepClaims t p.stands) (λ t. SweepClaims t p2.stands)

@@ -16,7 +16,7 @@ use Rattle.map_facts_late.specs.Given.ResizeDeclared.copier.Copier.{Copier}
 use Rattle.map_facts_late.specs.Given.ResizeDeclared.copier.Copying.TheVariants as copies
 use Rattle.map_facts_late.specs.Given.ResizeDeclared.yielding.Yielding.{Yielding}
 use Rattle.map_facts_late.specs.Given.RuleChart.{Chart}
-use Rattle.map_facts_late.specs.Given.RuleInWorld.{IsMapIn, Went}
+use Rattle.map_facts_late.specs.Given.RuleInWorld.{IsMapIn, StepSpec}
 use Rattle.map_facts_late.specs.Given.RuleWords.{Blocks}
 use Rattle.map_facts_late.proofs.Given.RuleSpared.{PlanSpares, spares_as, step_spares}
 use Rattle.many_calls.proofs.Claims.Charts.{past_moved}
@@ -27,7 +27,7 @@ use Rattle.many_calls.proofs.Claims.Sees.{HasSeen, sees_few}
 
 module _ {K V : Type 0} (same : K → K → Bool) (hash : K → ℕ) (w : World (Node K V)) (caller : ℕ) (setting : Setting) (c : Chart K) (blocks : Blocks)
     (blocking : is_incremental setting.mode ≡ false) (map : IsMapIn same hash setting w c blocks)
-    (m2 : Mem (Node K V)) (Told : World (Node K V) → Chart K → Blocks → Type 0) (went : Went same hash setting caller w c blocks m2 Told) where
+    (m2 : Mem (Node K V)) (Told : World (Node K V) → Chart K → Blocks → Type 0) (went : StepSpec same hash setting caller w c blocks m2 Told) where
   -- the claim of a table that can be looked at, as it is shown afterwards
   shown : (t : ℕ) → t < c.past → blocks.table_known t ≡ true → word_at m2 (Word (blocks.table t) CLAIM) ≡ Some (went.c2.claim t)
   shown t made known =

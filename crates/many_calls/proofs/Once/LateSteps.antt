@@ -21,9 +21,9 @@ use Rattle.map_facts_late.specs.Given.RuleChart.{Chart}
 use Rattle.map_facts_late.specs.Given.RuleWords.{Blocks}
 use Rattle.map_facts_late.specs.Given.RuleInWorld.{IsMapIn}
 use Rattle.map_facts_late.specs.Given.PointsFactsCalls.{Unchanged, NamesPair, CallingFacts, CallFacts}
-use Rattle.map_facts_late.specs.LateCalls.{LateCalling, LateCallFacts}
-use Rattle.map_facts_late.specs.LateTold.{LateAfter}
-use Rattle.many_calls.specs.Asked.{Asked, IsAsTold, DoesTold, KeepsTold}
+use Rattle.map_facts_late.specs.LateCalls.{SupersededCalling, SupersededCallFacts}
+use Rattle.map_facts_late.specs.LateTold.{SupersededCallAfter}
+use Rattle.many_calls.specs.Asked.{Asked, IsAsReplied, DoesAsReplied, RemembersReplies}
 use Rattle.many_calls.specs.AskedOnce.{AskedAt}
 use Rattle.many_calls.proofs.Asked.Stays.{Stays}
 use Rattle.many_calls.proofs.Asked.Goes.{GoesBy, DoesBy}
@@ -39,28 +39,28 @@ module _ {K V Q : Type 0} (same : K → K → Bool) (hash : K → ℕ) (setting 
     (map : IsMapIn same hash setting w c blocks) (stays : Stays w.memory w2.memory c c2 blocks blocks2)
     (gone : (n : ℕ) → n < c.stored → c.current n ≡ false → c2.current n ≡ false)
     (fits : (k : K) → hash k < 2 ^ 64) (keys : K → Bool) (began : ℕ) (its : Option K) (asked : List (Asked V)) (key : K) (p p2 : KeyCall K V Q) (progress : Called (Node K V))
-    (facts : LateCallFacts same hash asks w caller setting c blocks keys began p) (after : LateAfter same hash asks caller setting keys began w2 c2 blocks2 p2 progress)
+    (facts : SupersededCallFacts same hash asks w caller setting c blocks keys began p) (after : SupersededCallAfter same hash asks caller setting keys began w2 c2 blocks2 p2 progress)
     (steps : Steps Took value_at w.memory (call_plan asks same hash p) w2.memory (p2, progress)) (rooms : RoomsAt p.stands) where
   abbrev To : KeyCall K V Q → Called (Node K V) → Type 0
   To = OnceTo hash c2 blocks2 keys asked (Some key)
 
   abbrev After : KeyCall K V Q → Called (Node K V) → Type 0
-  After = LateAfter same hash asks caller setting keys began w2 c2 blocks2
+  After = SupersededCallAfter same hash asks caller setting keys began w2 c2 blocks2
 
   abbrev Keeps : Calling → Type 0
-  Keeps = KeepsTold hash w.memory c blocks its asked Unchanged p
+  Keeps = RemembersReplies hash w.memory c blocks its asked Unchanged p
 
   abbrev At : Calling → Type 0
   At = AskedAt hash c blocks keys asked p.replies
 
   abbrev Facts2 : Type 0
-  Facts2 = CallFacts same hash asks w2 caller setting c2 blocks2 keys Unchanged p2 ⊎ LateCallFacts same hash asks w2 caller setting c2 blocks2 keys began p2
+  Facts2 = CallFacts same hash asks w2 caller setting c2 blocks2 keys Unchanged p2 ⊎ SupersededCallFacts same hash asks w2 caller setting c2 blocks2 keys began p2
 
   abbrev Ending : KeyCall K V Q × Called (Node K V) → Type 0
   Ending e = To e.0 e.1
 
   abbrev AsTold : Calling → Type 0
-  AsTold stands = IsAsTold hash w.memory c blocks its asked p.replies p.own × DoesTold hash w.memory c blocks its asked p.replies p.own stands
+  AsTold stands = IsAsReplied hash w.memory c blocks its asked p.replies p.own × DoesAsReplied hash w.memory c blocks its asked p.replies p.own stands
 
   by_progress : (q : KeyCall K V Q) (x : Called (Node K V)) → AskedAt hash c2 blocks2 keys asked q.replies q.stands → To q x
   by_progress q called.Goes h = h
@@ -81,7 +81,7 @@ module _ {K V Q : Type 0} (same : K → K → Bool) (hash : K → ℕ) (setting 
   -- the word names a pair that is not marked
   names_in : (word : ℕ) → p2.stands ≡ at.Asks (asking.Present word) → Facts2 → NamesPair same hash asks w2 caller setting c2 blocks2 keys Unchanged word
   names_in word here (inl f) = (subst (CallingFacts same hash asks w2 caller setting c2 blocks2 keys Unchanged p2) here f.point).2
-  names_in word here (inr f) = (subst (LateCalling same hash asks w2 caller setting c2 blocks2 keys began p2) here f.point).2
+  names_in word here (inr f) = (subst (SupersededCalling same hash asks w2 caller setting c2 blocks2 keys began p2) here f.point).2
 
   -- it goes on seeking, and has not read such a word
   module _ (all : AllGoneOr hash w.memory w2.memory c c2 blocks blocks2 keys asked stays gone p.replies) (Words : ℕ → Type 0)
@@ -105,14 +105,14 @@ module _ {K V Q : Type 0} (same : K → K → Bool) (hash : K → ℕ) (setting 
         by (called.Done answer) f = tt
         by (called.Refused fault) f = tt
 
-  none_read : (more : p.replies.takes ≢ takes.Nothing) (stands : Calling) → LateCalling same hash asks w caller setting c blocks keys began p stands → (word : ℕ)
+  none_read : (more : p.replies.takes ≢ takes.Nothing) (stands : Calling) → SupersededCalling same hash asks w caller setting c blocks keys began p stands → (word : ℕ)
       → Read same hash asks p facts.may.0 more w.memory w2.memory (p2, progress) stands word → NamesPair same hash asks w2 caller setting c2 blocks2 keys Unchanged word → ⊥
   none_read more at.Probes k word read names = late_names_none same hash setting facts.blocking w c c2 blocks blocks2 map keys p.hash began p.trial k.1 word names.0 names.2 read names.7
   none_read more (at.Tries old new) k word read names = late_names_none same hash setting facts.blocking w c c2 blocks blocks2 map keys p.hash began p.trial k.1 word names.0 names.2 read names.7
   none_read more _ k word read names = absurd read
 
   seeking_so : (stands : Calling) → p.stands ≡ stands → IsSeeking stands → AsTold stands → AllGoneOr hash w.memory w2.memory c c2 blocks blocks2 keys asked stays gone p.replies
-      → LateCalling same hash asks w caller setting c blocks keys began p stands → At p.stands → Steps Took value_at w.memory (plan_at asks same hash p stands) w2.memory (p2, progress) → To p2 progress
+      → SupersededCalling same hash asks w caller setting c blocks keys began p stands → At p.stands → Steps Took value_at w.memory (plan_at asks same hash p stands) w2.memory (p2, progress) → To p2 progress
   seeking_so stands here seeking both all k before s = by (walked same hash asks p facts.may.0 both.0.asks w.memory w2.memory (p2, progress) stands seeking (subst RoomsAt here rooms) s)
     where
       by : Walked same hash asks p facts.may.0 both.0.asks w.memory w2.memory (p2, progress) stands → To p2 progress
@@ -120,7 +120,7 @@ module _ {K V Q : Type 0} (same : K → K → Bool) (hash : K → ℕ) (setting 
       by (inr (inl (pair, end))) = again_so before pair end
       by (inr (inr (word, new, is, end))) = subst Ending (sym end) (changed_once hash c2 blocks2 keys asked key p word new)
 
-  by_point : (stands : Calling) → p.stands ≡ stands → Keeps stands → At stands → LateCalling same hash asks w caller setting c blocks keys began p stands
+  by_point : (stands : Calling) → p.stands ≡ stands → Keeps stands → At stands → SupersededCalling same hash asks w caller setting c blocks keys began p stands
       → Steps Took value_at w.memory (plan_at asks same hash p stands) w2.memory (p2, progress) → To p2 progress
   by_point (at.Looks l) here both all k s = absurd (both.0.asks (looks_alone p.replies.takes p.there p.missing k.2 k.1 facts.may.0))
   by_point at.Probes here both all k s = seeking_so at.Probes here tt both all k (subst At (sym here) all) s

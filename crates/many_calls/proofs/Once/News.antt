@@ -29,8 +29,8 @@ use Rattle.map_facts_late.proofs.Given.RuleLaws.{current_is_known, words_tell_ma
 use Rattle.map_facts_late.proofs.Given.RuleKeys.TriesSeen.{spot_inside}
 use Rattle.map_facts_late.proofs.Given.RuleWords.TablesSeen.{place_there}
 use Rattle.map_facts_late.specs.Given.PointsFactsCalls.{Change, AnswersOf, NamesPair}
-use Rattle.map_facts_late.specs.LateLooks.{IsLateTrial}
-use Rattle.many_calls.specs.Asked.{Asked, last_told}
+use Rattle.map_facts_late.specs.LateLooks.{IsSupersededTrial}
+use Rattle.many_calls.specs.Asked.{Asked, last_reply}
 use Rattle.many_calls.specs.AskedOnce.{WasAsked, HasGone, IsOfKeys, IsRecalled, AskedAt}
 use Rattle.many_calls.proofs.Asked.By.{block_of_word}
 use Rattle.many_calls.proofs.Asked.OneCurrent.{one_current}
@@ -60,7 +60,7 @@ module _ {K V Q : Type 0} (same : K → K → Bool) (hash : K → ℕ) (lawful :
 
     pub asks_new : (r : Replies K V) → r.takes ≢ takes.Choices → (block_in word ≡ r.pair → r.present ≡ tells.Nothing)
         → ((o : ℕ) → WasAsked hash c blocks keys asked o → HasGone hash c blocks keys asked o ⊎ IsRecalled hash c blocks keys asked r o) → AskedAt hash c blocks keys asked r (at.Asks (asking.Present word))
-    asks_new r more unlike all = (more, (n, of_keys, names.2, names.7, never (last_told (Some n) asked) refl), gone)
+    asks_new r more unlike all = (more, (n, of_keys, names.2, names.7, never (last_reply (Some n) asked) refl), gone)
       where
         -- the one that it remembers is another one
         gone_by : (o : ℕ) → HasGone hash c blocks keys asked o ⊎ IsRecalled hash c blocks keys asked r o → HasGone hash c blocks keys asked o
@@ -76,13 +76,13 @@ module _ {K V Q : Type 0} (same : K → K → Bool) (hash : K → ℕ) (lawful :
         gone : (o : ℕ) → WasAsked hash c blocks keys asked o → HasGone hash c blocks keys asked o
         gone o was = gone_by o (all o was)
 
-        never : (x : Option (MachineReply V)) → last_told (Some n) asked ≡ x → x ≡ None
+        never : (x : Option (MachineReply V)) → last_reply (Some n) asked ≡ x → x ≡ None
         never None is = refl
         never (Some told) is = absurd (let left = (gone n (λ none. (let e = sym is ∙ none in cc e))).1 in cc (left, current))
 
 -- a word that is read in a table that the root has left is marked
 module _ {K V : Type 0} (same : K → K → Bool) (hash : K → ℕ) (setting : Setting) (alone : is_incremental setting.mode ≡ false) (w : World (Node K V)) (c c2 : Chart K) (blocks blocks2 : Blocks)
-    (map : IsMapIn same hash setting w c blocks) (keys : K → Bool) (code began : ℕ) (trial : Trial) (late : IsLateTrial same hash keys code c blocks began trial) where
+    (map : IsMapIn same hash setting w c blocks) (keys : K → Bool) (code began : ℕ) (trial : Trial) (late : IsSupersededTrial same hash keys code c blocks began trial) where
   pub late_names_none : (word n : ℕ) (borrowed : Bool) → word_at w.memory (place_tried trial) ≡ Some word → word ≡ place_word hash c2 blocks2 (Holds n Still borrowed) → ⊥
   late_names_none word n borrowed read names =
       let t = late.0 in

@@ -5,7 +5,7 @@ use Rattle.seize_model.specs.Given.SeizeWordsDeclared.fault.Fault.TheVariants.{R
 use Rattle.seize_model.specs.Given.SeizeWordsMem.{Mem}
 use Rattle.map_facts_late.specs.Given.TablesDeclared.marks.TheConstants.{TOMBSTONE}
 use Rattle.map_facts_late.specs.Given.TablesDeclared.node.Node.{Node}
-use Rattle.map_facts_late.specs.Given.RawCallAsks.{with_absent, with_present, absent_told, present_told, told_at, replied}
+use Rattle.map_facts_late.specs.Given.RawCallAsks.{with_absent, with_present, absent_replied, present_replied, replied_at, replied}
 use Rattle.map_facts_late.specs.Given.RawCallPoints.{going, over, ending, burying, at_gap}
 use Rattle.map_facts_late.specs.Given.RawDeclared.machines.answer.End.{End}
 use Rattle.map_facts_late.specs.Given.RawDeclared.machines.answer.End.TheVariants as ends
@@ -25,13 +25,13 @@ use Rattle.map_facts_late.specs.Given.RawDeclared.machines.call.KeyCall.{KeyCall
 use Rattle.map_facts_late.specs.Given.RawDeclared.machines.call.Calling.{Calling}
 use Rattle.map_facts_late.specs.Given.RawDeclared.machines.call.Calling.TheVariants as at
 use Rattle.map_facts_late.specs.Given.RuleChart.{Still, Chart}
-use Rattle.map_facts_late.specs.Given.RuleWords.{Blocks, Shows}
-use Rattle.many_calls.specs.Asked.{Asked, last_told, IsWordOf}
+use Rattle.map_facts_late.specs.Given.RuleWords.{Blocks, Represents}
+use Rattle.many_calls.specs.Asked.{Asked, last_reply, IsWordOf}
 use Rattle.many_calls.specs.AskedOnce.{WasAsked, HasGone, IsOfKeys, IsRecalled, AskedAt}
 use Rattle.many_calls.proofs.Asked.By.{block_of_word, one_pair}
 use Rattle.many_calls.proofs.Asked.Replies.{and_asked, About}
 
-module _ {K V Q : Type 0} (hash : K → ℕ) (fits : (k : K) → hash k < 2 ^ 64) (m : Mem (Node K V)) (c : Chart K) (blocks : Blocks) (keys : K → Bool) (root : ℕ) (shows : Shows hash m c blocks root)
+module _ {K V Q : Type 0} (hash : K → ℕ) (fits : (k : K) → hash k < 2 ^ 64) (m : Mem (Node K V)) (c : Chart K) (blocks : Blocks) (keys : K → Bool) (root : ℕ) (shows : Represents hash m c blocks root)
     (asked : List (Asked V)) (p : KeyCall K V Q) (before : AskedAt hash c blocks keys asked p.replies p.stands) where
   -- what it knows of the pairs that it was asked about, with the question and the reply, if that was taken
   abbrev Then : Option ℕ → MachineReply V → KeyCall K V Q × Result Unit (MachineReply V) → Type 0
@@ -59,7 +59,7 @@ module _ {K V Q : Type 0} (hash : K → ℕ) (fits : (k : K) → hash k < 2 ^ 64
     stores_so v gaps.Past = h
     stores_so v gaps.Last = h
 
-    absent_so : (x : Takes) (r : MachineReply V) → Then None r (absent_told x p gap r)
+    absent_so : (x : Takes) (r : MachineReply V) → Then None r (absent_replied x p gap r)
     absent_so takes.Values (reply.Insert v) = stores_so v gap
     absent_so takes.Values reply.Remove = before
     absent_so takes.Values reply.Abort = before
@@ -93,7 +93,7 @@ module _ {K V Q : Type 0} (hash : K → ℕ) (fits : (k : K) → hash k < 2 ^ 64
     recalls_so : (r : MachineReply V) (told : Told V) → told ≢ tells.Nothing → AllOr r (with_present p word told).replies
     recalls_so r told some o = by (n == o) (eqb-true n o)
       where
-        by : (b : Bool) → (b ≡ true → n ≡ o) → ((if b then Some r else last_told (Some o) asked) ≢ None) → HasGone hash c blocks keys asked o ⊎ IsRecalled hash c blocks keys asked (with_present p word told).replies o
+        by : (b : Bool) → (b ≡ true → n ≡ o) → ((if b then Some r else last_reply (Some o) asked) ≢ None) → HasGone hash c blocks keys asked o ⊎ IsRecalled hash c blocks keys asked (with_present p word told).replies o
         by true one was = inr (subst (IsOfKeys hash c blocks keys asked) (one refl) of_keys, sym (block ∙ ap blocks.pair (one refl)), some)
         by false one was = inl (h.2 o was)
 
@@ -104,7 +104,7 @@ module _ {K V Q : Type 0} (hash : K → ℕ) (fits : (k : K) → hash k < 2 ^ 64
         by true = (more, all)
         by false = (more, all)
 
-    present_so : (x : Takes) → p.replies.takes ≡ x → (r : MachineReply V) → Then (Some n) r (present_told x p word r)
+    present_so : (x : Takes) → p.replies.takes ≡ x → (r : MachineReply V) → Then (Some n) r (present_replied x p word r)
     present_so takes.Values e (reply.Insert v) = (h.0, recalls_so (reply.Insert v) (tells.Value v) (λ z. cc z))
     present_so takes.Values e reply.Remove = before
     present_so takes.Values e reply.Abort = before
@@ -119,10 +119,10 @@ module _ {K V Q : Type 0} (hash : K → ℕ) (fits : (k : K) → hash k < 2 ^ 64
     present_so takes.Nothing e r = before
 
   pub replied_once : (x : Asking) → p.stands ≡ at.Asks x → (about : Option ℕ) → About hash m c blocks None asked x about → (r : MachineReply V) → Then about r (replied p r)
-  replied_once x here about is r = subst (λ (y : Calling). Then about r (told_at y p r)) (sym here) (by x about is (subst At here before))
+  replied_once x here about is r = subst (λ (y : Calling). Then about r (replied_at y p r)) (sym here) (by x about is (subst At here before))
     where
-      by : (x : Asking) (about : Option ℕ) → About hash m c blocks None asked x about → At (at.Asks x) → Then about r (told_at (at.Asks x) p r)
-      by (asking.Absent gap) about is h = subst (λ (a : Option ℕ). Then a r (absent_told p.replies.takes p gap r)) (sym is) (absent_so gap h p.replies.takes r)
+      by : (x : Asking) (about : Option ℕ) → About hash m c blocks None asked x about → At (at.Asks x) → Then about r (replied_at (at.Asks x) p r)
+      by (asking.Absent gap) about is h = subst (λ (a : Option ℕ). Then a r (absent_replied p.replies.takes p gap r)) (sym is) (absent_so gap h p.replies.takes r)
       by (asking.Present word) (Some n) is h = present_so word n is h p.replies.takes refl r
       by (asking.Present word) None is h = absurd is
       by (asking.Fills word) about is h = before

@@ -13,7 +13,7 @@ use Rattle.map_facts_late.specs.Given.RawDeclared.machines.answer.Called.{Called
 use Rattle.map_facts_late.specs.Given.RawDeclared.machines.answer.Called.TheVariants as called
 use Rattle.map_facts_late.specs.Given.RuleChart.{Chart}
 use Rattle.map_facts_late.specs.Given.RuleWords.{Blocks}
-use Rattle.many_calls.specs.Asked.{Asked, last_told, told_before}
+use Rattle.many_calls.specs.Asked.{Asked, last_reply, replies_before}
 use Rattle.many_calls.specs.AskedOnce.{WasAsked, HasGone, IsOfKeys, IsRecalled, IsNew, AskedAt, AsksOnce}
 use Rattle.many_calls.proofs.Asked.Backs.{RecallsSame}
 use Rattle.many_calls.proofs.Asked.Fills.{AsksNone}
@@ -30,7 +30,7 @@ OnceTo hash c blocks keys asked its p (called.Gave value) = Unit {0}
 OnceTo hash c blocks keys asked its p _ = AsksOnce hash c blocks keys asked its p.replies p.stands
 
 -- it was asked about no pair yet
-pub begun_once : {V : Type 0} (absent : Option V) (X : ℕ → Type 0) (n : ℕ) → last_told (Some n) (told_before absent) ≢ None → X n
+pub begun_once : {V : Type 0} (absent : Option V) (X : ℕ → Type 0) (n : ℕ) → last_reply (Some n) (replies_before absent) ≢ None → X n
 begun_once None X n was = absurd (was refl)
 begun_once (Some value) X n was = absurd (was refl)
 

@@ -28,9 +28,9 @@ use Rattle.map_facts_late.specs.Given.RuleRule.{IsLawful}
 use Rattle.map_facts_late.specs.Given.RuleWords.{Blocks}
 use Rattle.map_facts_late.specs.Given.RuleMaps.{spot_of}
 use Rattle.map_facts_late.specs.Given.RuleInWorld.{IsMapIn}
-use Rattle.map_facts_late.specs.Given.PointsFactsCalls.{Change, Unchanged, Stored, Replaced, Removed, Seeks, Tells, CallingFacts, CallFacts}
-use Rattle.map_facts_late.specs.Given.PointsTold.{HasAnswered, IsRowOfCall, CallFactsAfter, CallTold}
-use Rattle.many_calls.specs.Asked.{Asked, IsAsTold, DoesTold, KeepsTold}
+use Rattle.map_facts_late.specs.Given.PointsFactsCalls.{Change, Unchanged, Stored, Replaced, Removed, Seeks, AnswersChange, CallingFacts, CallFacts}
+use Rattle.map_facts_late.specs.Given.PointsTold.{HasAnswered, IsRowOfCall, CallFactsAfter, CallOutcome}
+use Rattle.many_calls.specs.Asked.{Asked, IsAsReplied, DoesAsReplied, RemembersReplies}
 use Rattle.many_calls.specs.AskedOnce.{AskedAt}
 use Rattle.many_calls.proofs.Asked.Stays.{Stays}
 use Rattle.many_calls.proofs.Asked.Goes.{GoesBy, DoesBy}
@@ -58,7 +58,7 @@ module _ {K V Q : Type 0} (same : K → K → Bool) (hash : K → ℕ) (setting 
     (map : IsMapIn same hash setting w c blocks) (map2 : IsMapIn same hash setting w2 c2 blocks2) (stays : Stays w.memory w2.memory c c2 blocks blocks2)
     (gone : (n : ℕ) → n < c.stored → c.current n ≡ false → c2.current n ≡ false) (lawful : IsLawful same (spot_of hash))
     (fits : (k : K) → hash k < 2 ^ 64) (keys : K → Bool) (its : Option K) (asked : List (Asked V)) (key : K) (change : Change) (p p2 : KeyCall K V Q) (progress : Called (Node K V))
-    (told : CallTold same hash asks caller setting keys c change p w2 c2 blocks2 p2 progress) (facts : CallFacts same hash asks w caller setting c blocks keys change p) (row : IsRowOfCall p.stands → ⊥)
+    (told : CallOutcome same hash asks caller setting keys c change p w2 c2 blocks2 p2 progress) (facts : CallFacts same hash asks w caller setting c blocks keys change p) (row : IsRowOfCall p.stands → ⊥)
     (may : May Can Took value_at w.memory (call_plan asks same hash p)) (steps : Steps Took value_at w.memory (call_plan asks same hash p) w2.memory (p2, progress)) (rooms : RoomsAt p.stands) where
   abbrev To : KeyCall K V Q → Called (Node K V) → Type 0
   To = OnceTo hash c2 blocks2 keys asked (Some key)
@@ -67,7 +67,7 @@ module _ {K V Q : Type 0} (same : K → K → Bool) (hash : K → ℕ) (setting 
   After = CallFactsAfter same hash asks caller setting keys w2 c2 blocks2 told.change2
 
   abbrev Keeps : Calling → Type 0
-  Keeps = KeepsTold hash w.memory c blocks its asked change p
+  Keeps = RemembersReplies hash w.memory c blocks its asked change p
 
   abbrev At : Calling → Type 0
   At = AskedAt hash c blocks keys asked p.replies
@@ -100,7 +100,7 @@ module _ {K V Q : Type 0} (same : K → K → Bool) (hash : K → ℕ) (setting 
   Ending e = To e.0 e.1
 
   abbrev AsTold : Calling → Type 0
-  AsTold stands = IsAsTold hash w.memory c blocks its asked p.replies p.own × DoesTold hash w.memory c blocks its asked p.replies p.own stands
+  AsTold stands = IsAsReplied hash w.memory c blocks its asked p.replies p.own × DoesAsReplied hash w.memory c blocks its asked p.replies p.own stands
 
   by_progress : (q : KeyCall K V Q) (x : Called (Node K V)) → AskedAt hash c2 blocks2 keys asked q.replies q.stands → To q x
   by_progress q called.Goes h = h
@@ -194,7 +194,7 @@ module _ {K V Q : Type 0} (same : K → K → Bool) (hash : K → ℕ) (setting 
   by_point none (at.Allocs making) here both all k s = seeking_so (at.Allocs making) here tt both all (subst At (sym here) all) s
   by_point none (at.Helps copier goal) here both all k s = seeking_so (at.Helps copier goal) here tt both all (subst At (sym here) all) s
   by_point none (at.Copies copier) here both all k s = seeking_so (at.Copies copier) here tt both all (subst At (sym here) all) s
-  by_point none (at.Disposes d answer) here h all k s = absurd (subst (λ (x : Change). Tells same hash asks w caller setting c blocks keys change x answer) none k.1)
+  by_point none (at.Disposes d answer) here h all k s = absurd (subst (λ (x : Change). AnswersChange same hash asks w caller setting c blocks keys change x answer) none k.1)
   by_point none (at.Asks (asking.Absent gap)) here both all k s = again_so (subst At (sym here) all) None s.1
   by_point none (at.Asks (asking.Present word)) here both all k s = again_so (subst At (sym here) all) (Some word) s.1
   by_point none (at.Asks (asking.Fills word)) here both all k s = fills_so word both all k s

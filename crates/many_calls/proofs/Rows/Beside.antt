@@ -7,7 +7,7 @@ use Rattle.seize_model.proofs.Alone.Histories.NotTaken.{did, not_taken, kept_val
 use Rattle.seize_model.proofs.Alone.Histories.Reached.{Reached}
 use Rattle.map_facts_late.specs.Given.TablesNodes.{deferred_word}
 use Rattle.map_facts_late.specs.Given.TablesDeclared.node.Node.{Node}
-use Rattle.map_facts_late.specs.Given.RuleInWorld.{IsHeldBy, KeepsBlocks}
+use Rattle.map_facts_late.specs.Given.RuleInWorld.{IsHeldBy, PreservesBlocks}
 use Rattle.many_calls.specs.Kept.{IsUsersOwn, IsMaking}
 use Rattle.many_calls.proofs.Rows.Keep.{kept_block}
 
@@ -42,7 +42,7 @@ module _ {K V : Type 0} (size : ℕ) (w : World (Node K V)) (r : Reached deferre
   pub users_word : (b caller f : ℕ) → w.hand b ≡ Making caller → word_at w2.memory (Word b f) ≡ word_at w.memory (Word b f)
   users_word b caller f making = (did deferred_word size w r i w2 step).made b caller f making (not_taken deferred_word size w r i w2 step b (kept_block w b (inl (subst IsUsersOwn (sym making) tt))))
 
-  pub row_keeps_blocks : (j : ℕ) → KeepsBlocks j w.memory w.hand w2.memory w2.hand
+  pub row_keeps_blocks : (j : ℕ) → PreservesBlocks j w.memory w.hand w2.memory w2.hand
   row_keeps_blocks j = record {
     blocks = λ b value is other held. (users_hand b (held_own j (w.hand b) held), users_value b (held_own j (w.hand b) held) ∙ is);
     words = λ b field value is other making. users_word b j field making;

@@ -13,7 +13,7 @@ use Rattle.map_facts_late.specs.Given.TablesDeclared.setting.Setting.{Setting}
 use Rattle.map_facts_late.specs.Given.RuleChart.{Phase, Holds, Chart}
 use Rattle.map_facts_late.specs.Given.RuleWords.{Blocks}
 use Rattle.map_facts_late.specs.Given.RuleInWorld.{IsOut, StandsIn, IsReached, IsMapIn}
-use Rattle.map_facts_late.specs.Given.PointsFactsDisposes.{StandsBefore, StandsNowhere}
+use Rattle.map_facts_late.specs.Given.PointsFactsDisposes.{LiesBefore, LiesNowhere}
 use Rattle.map_facts_late.proofs.Given.RuleWorld.Hands.{Hands, at_cases, hand_kept, standing_kept, current_known, named_known}
 use Rattle.map_facts_late.proofs.Given.RuleWords.TablesSeen.{pair_apart}
 use Rattle.map_facts_late.proofs.Given.RuleWorld.WentWrote.{map_in, counter_of}
@@ -99,7 +99,7 @@ module _ {K V : Type 0} (same : K → K → Bool) (hash : K → ℕ) (setting : 
       ap (λ (e : Bool). cond e (cond (is_standing (where_is t w.log)) (With t) Nowhere) (where_is b w.log)) (eq-eqb b b refl)
       ∙ ap (λ (p : Place). cond (is_standing p) (With t) Nowhere) (used_stands deferred_word setting.batch_size w r t (map.tables u l made))
 
-  module _ (i s : ℕ) (w2 : World (Node K V)) (before : StandsBefore w i setting c blocks n (suc u))
+  module _ (i s : ℕ) (w2 : World (Node K V)) (before : LiesBefore w i setting c blocks n (suc u))
       (begins : Begins deferred_word setting.batch_size i (Defer' s (blocks.pair n) (blocks.table u)) w w2) where
     below : (v : ℕ) → v < suc u → v ≤ u
     below v h = omega (arith, h)
@@ -115,7 +115,7 @@ module _ {K V : Type 0} (same : K → K → Bool) (hash : K → ℕ) (setting : 
 module _ {K V : Type 0} (same : K → K → Bool) (hash : K → ℕ) (setting : Setting) (w : World (Node K V)) (c : Chart K) (blocks : Blocks)
     (map : IsMapIn same hash setting w c blocks) (n t : ℕ) (was : n < c.stored) (known : blocks.pair_known n ≡ true) (left : c.current n ≡ false) (i s : ℕ) (w2 : World (Node K V))
     (begins : Begins deferred_word setting.batch_size i (Defer' s (blocks.pair n) t) w w2) where
-  pub defer_old_in : StandsNowhere w i setting c blocks n → IsMapIn same hash setting w2 c blocks
+  pub defer_old_in : LiesNowhere w i setting c blocks n → IsMapIn same hash setting w2 c blocks
   defer_old_in nowhere =
       subst (λ (v : World (Node K V)). IsMapIn same hash setting v c blocks) (sym begins.7)
       (deferred_in same hash setting w c blocks map n t was known left _ _ (λ v j phase borrowed later there e. absurd (nowhere v j phase borrowed later there e)))

@@ -13,7 +13,7 @@ use Rattle.map_facts_late.specs.Given.RuleMoments.{Moments, Remembers}
 use Rattle.map_facts_late.specs.Given.RuleMaps.{spot_of}
 use Rattle.map_facts_late.specs.Given.RuleInWorld.{Moved}
 use Rattle.map_facts_late.proofs.Given.RuleMoves.Writes.{put_cases}
-use Rattle.many_calls.specs.Sights.{SeesSources}
+use Rattle.many_calls.specs.Sights.{SourcesAreVisible}
 
 -- one of two, by a bound
 pub below : {X : Type 0} (n bound : ℕ) (x y : X) → n < bound → cond (ltb n bound) x y ≡ x
@@ -89,7 +89,7 @@ module _ {K : Type 0} (same : K → K → Bool) (spot : ℕ → K → ℕ → �
 
     -- where the linked tables are seen, and sources
     module _ (rule : Rule same spot incremental c) (moments : Moments incremental c) (tables : ℕ → Bool)
-        (linked : (t : ℕ) → c.first ≤ t → t < c.past → tables t ≡ true) (sources : SeesSources c tables) where
+        (linked : (t : ℕ) → c.first ≤ t → t < c.past → tables t ≡ true) (sources : SourcesAreVisible c tables) where
       -- the source of a table is there and is seen that was aborted then
       pub source_seen : (t : ℕ) → tables t ≡ true → WasAborted incremental c t → (c.from t < c.past) × (tables (c.from t) ≡ true)
       source_seen t known (made, inl aborted) = (source_made incremental c rule moments t made aborted, sources t made known aborted)
@@ -111,8 +111,8 @@ module _ {K : Type 0} (same : K → K → Bool) (hash : K → ℕ) (mode : Resiz
           (ap (λ (x : Chart K). x.status t) (sym is) ∙ aborted)
 
   -- sources are seen after a step, whatever is seen of the tables that are new
-  pub sources_then : (tables new : ℕ → Bool) → ((t : ℕ) → c.first ≤ t → t < c.past → tables t ≡ true) → SeesSources c tables
-      → SeesSources c2 (λ t. cond (ltb t c.past) (tables t) (new t))
+  pub sources_then : (tables new : ℕ → Bool) → ((t : ℕ) → c.first ≤ t → t < c.past → tables t ≡ true) → SourcesAreVisible c tables
+      → SourcesAreVisible c2 (λ t. cond (ltb t c.past) (tables t) (new t))
   sources_then tables new linked sources t made known aborted =
       let so = was_aborted t made aborted in
       let seen = source_seen same (spot_of hash) (is_incremental mode) c rule moments tables linked sources t (sym (below t c.past (tables t) (new t) so.0) ∙ known) so in

@@ -14,16 +14,16 @@ use Rattle.map_facts_late.specs.Given.TablesDeclared.setting.Setting.{Setting}
 use Rattle.map_facts_late.specs.Given.TablesDeclared.table_words.TheConstants.{NEXT, CLAIM, COPIED, STATUS, PLACES}
 use Rattle.map_facts_late.specs.Given.RuleChart.{Phase, Copying, Place, Empty, Tombstone, Holds, Chart}
 use Rattle.map_facts_late.specs.Given.RuleMoves.{Move, Links, Stores, Replaces, Removes, Marks, MarksBlocking, Skips, Unmarks, Puts, Covers, PutsLate, Claims, Reclaims, Counts, GivesUp, Aborts, Promotes, Announces, after, Allowed}
-use Rattle.map_facts_late.specs.Given.RuleWords.{Blocks, byte_of, word_of, next_word, root_word, place_word, ShowsTable, Shows}
+use Rattle.map_facts_late.specs.Given.RuleWords.{Blocks, byte_of, word_of, next_word, root_word, place_word, RepresentsTable, Represents}
 use Rattle.map_facts_late.specs.Given.RuleMaps.{spot_of}
-use Rattle.map_facts_late.specs.Given.RuleInWorld.{IsOut, StandsIn, IsReached, IsMapIn, InFootprint, Moved, Went}
+use Rattle.map_facts_late.specs.Given.RuleInWorld.{IsOut, StandsIn, IsReached, IsMapIn, InFootprint, Moved, StepSpec}
 use Rattle.map_facts_late.specs.Given.RuleLasts.{Lasts}
 use Rattle.map_facts_late.specs.Given.RuleMoments.{Moments, Remembers}
 use Rattle.map_facts_late.proofs.Given.RuleWords.BlocksApart.{values_apart}
 use Rattle.map_facts_late.proofs.Given.RuleWorld.Hands.{current_known}
 use Rattle.many_calls.proofs.Sights.Closed.{Named, names_before}
 use Rattle.many_calls.proofs.Sights.Sources.{below, above, sources_then}
-use Rattle.many_calls.specs.Sights.{SeesSources, Sight, IsGrown, IsSight}
+use Rattle.many_calls.specs.Sights.{SourcesAreVisible, Visible, IsGrown, IsVisibility}
 
 -- the root after a move is a table that was there, or the one that it was
 root_moved : {K : Type 0} (same : K → K → Bool) (spot : ℕ → K → ℕ → ℕ) (incremental : Bool) (c : Chart K) (move : Move K) → Allowed same spot incremental move c
@@ -47,13 +47,13 @@ root_moved same spot incremental c (Aborts t) a = inl refl
 root_moved same spot incremental c (Promotes t) a = inr a.1
 root_moved same spot incremental c (Announces t) a = inl refl
 
-module _ {K V : Type 0} (same : K → K → Bool) (hash : K → ℕ) (setting : Setting) (caller : ℕ) (w : World (Node K V)) (c : Chart K) (blocks : Blocks) (sight : Sight)
-    (map : IsMapIn same hash setting w c blocks) (is_sight : IsSight c blocks sight) where
+module _ {K V : Type 0} (same : K → K → Bool) (hash : K → ℕ) (setting : Setting) (caller : ℕ) (w : World (Node K V)) (c : Chart K) (blocks : Blocks) (sight : Visible)
+    (map : IsMapIn same hash setting w c blocks) (is_sight : IsVisibility c blocks sight) where
   -- what the caller looks at
   abbrev pub seen : Blocks
   seen = record blocks { table_known = sight.tables; pair_known = sight.pairs }
 
-  module _ (m2 : Mem (Node K V)) (Told : World (Node K V) → Chart K → Blocks → Type 0) (went : Went same hash setting caller w c seen m2 Told)
+  module _ (m2 : Mem (Node K V)) (Told : World (Node K V) → Chart K → Blocks → Type 0) (went : StepSpec same hash setting caller w c seen m2 Told)
       (lasts : Lasts same (spot_of hash) (is_incremental setting.mode) c went.c2) where
     abbrev c2 : Chart K
     c2 = went.c2
@@ -130,7 +130,7 @@ module _ {K V : Type 0} (same : K → K → Bool) (hash : K → ℕ) (setting : 
         ∙ ap (λ (k : Option K). word_of (λ (y : ℕ). b.pair n) (λ (y : ℕ). byte_of hash k) (Holds n phase borrowed)) e.1
 
     -- a table that the caller looks at shows what it shows to the caller
-    seen_shows : (t : ℕ) → t < c2.past → after_it.table_known t ≡ true → ShowsTable hash went.w2.memory c2 wider t
+    seen_shows : (t : ℕ) → t < c2.past → after_it.table_known t ≡ true → RepresentsTable hash went.w2.memory c2 wider t
     seen_shows t made known = record {
       value = at (λ b. value_at went.w2.memory b) ∙ h.value;
       next = at (λ b. word_at went.w2.memory (Word b NEXT)) ∙ h.next ∙ ap Some next_same;
@@ -141,7 +141,7 @@ module _ {K V : Type 0} (same : K → K → Bool) (hash : K → ℕ) (setting : 
           (λ n phase borrowed e. (sym (pair_agrees n (went.map.map.shows.named t i n phase borrowed made known e)).0, refl)));
     }
       where
-        h : ShowsTable hash went.w2.memory c2 after_it t
+        h : RepresentsTable hash went.w2.memory c2 after_it t
         h = went.map.map.shows.tables t made known
 
         at : {X : Type 0} (f : ℕ → X) → f (wider.table t) ≡ f (after_it.table t)
@@ -156,7 +156,7 @@ module _ {K V : Type 0} (same : K → K → Bool) (hash : K → ℕ) (setting : 
 
     -- one that it doesn't look at is one before the root, as it was
     module _ (t : ℕ) (l : t < c.past) (known : blocks.table_known t ≡ true) (unseen : sight.tables t ≡ true → ⊥) where
-      h : ShowsTable hash w.memory c blocks t
+      h : RepresentsTable hash w.memory c blocks t
       h = map.map.shows.tables t l known
 
       before_root : t < c.first
@@ -178,7 +178,7 @@ module _ {K V : Type 0} (same : K → K → Bool) (hash : K → ℕ) (setting : 
           ap (λ b. word_at went.w2.memory (Word b d)) (old_table t l) ∙ ap (λ m. word_at m (Word (blocks.table t) d)) went.memory
           ∙ went.frame.words (Word (blocks.table t) d) word is (not_written d)
 
-      unseen_shows : ShowsTable hash went.w2.memory c2 wider t
+      unseen_shows : RepresentsTable hash went.w2.memory c2 wider t
       unseen_shows =
           let kept = went.tables t l unseen in
           record {
@@ -206,13 +206,13 @@ module _ {K V : Type 0} (same : K → K → Bool) (hash : K → ℕ) (setting : 
               below (suc t) c.past (blocks.table (suc t) * 2048) 0 next ∙ ap (λ b. b * 2048) (sym (old_table (suc t) next))
               ∙ sym (below (suc t) c2.past (wider.table (suc t) * 2048) 0 (let p = lasts.past in omega (arith, next, p)))
 
-    table_shows : (t : ℕ) → t < c2.past → wider.table_known t ≡ true → ShowsTable hash went.w2.memory c2 wider t
+    table_shows : (t : ℕ) → t < c2.past → wider.table_known t ≡ true → RepresentsTable hash went.w2.memory c2 wider t
     table_shows t made known = elim (cases_lt t c.past) [
       | inl l ↦ by l (sight.tables t) refl
       | inr l ↦ seen_shows t made (sym (new_known t l) ∙ known)
     ]
       where
-        by : t < c.past → (q : Bool) → sight.tables t ≡ q → ShowsTable hash went.w2.memory c2 wider t
+        by : t < c.past → (q : Bool) → sight.tables t ≡ q → RepresentsTable hash went.w2.memory c2 wider t
         by l true e = seen_shows t made (went.blocks_same.tables t l e).1
         by l false e = unseen_shows t l (sym (old_known t l) ∙ known) (λ f. cc (e, f))
 
@@ -315,7 +315,7 @@ module _ {K V : Type 0} (same : K → K → Bool) (hash : K → ℕ) (setting : 
         by m (inl b) = new_known u m ∙ linked_then u (root_first u (omega (arith, b)) m) made
         by m (inr b) = new_known u m ∙ went.map.map.later t u l made (sym (new_known t b) ∙ known)
 
-    shows_then : Shows hash went.w2.memory c2 wider setting.root
+    shows_then : Represents hash went.w2.memory c2 wider setting.root
     shows_then = record {
       root_there = root_shows;
       tables = table_shows;
@@ -366,20 +366,20 @@ module _ {K V : Type 0} (same : K → K → Bool) (hash : K → ℕ) (setting : 
     }
 
     -- sources can be looked at then
-    pub sources_wider : Moments (is_incremental setting.mode) c → Remembers (is_incremental setting.mode) c went.c2 → SeesSources c blocks.table_known
-        → SeesSources went.c2 wider.table_known
+    pub sources_wider : Moments (is_incremental setting.mode) c → Remembers (is_incremental setting.mode) c went.c2 → SourcesAreVisible c blocks.table_known
+        → SourcesAreVisible went.c2 wider.table_known
     sources_wider moments remembers sources =
         sources_then same hash setting.mode caller c c2 map.map.rule moments remembers went.moved blocks.table_known after_it.table_known map.map.shows.linked sources
 
     -- what another caller looks at then: what it did, and what is new
-    module _ (moments : Moments (is_incremental setting.mode) c) (remembers : Remembers (is_incremental setting.mode) c went.c2) (its : Sight) (closed : IsSight c blocks its) where
+    module _ (moments : Moments (is_incremental setting.mode) c) (remembers : Remembers (is_incremental setting.mode) c went.c2) (its : Visible) (closed : IsVisibility c blocks its) where
       abbrev tables_then : ℕ → Bool
       tables_then t = cond (ltb t c.past) (its.tables t) (went.blocks2.table_known t)
 
       abbrev pairs_then : ℕ → Bool
       pairs_then n = cond (ltb n c.stored) (its.pairs n) (went.blocks2.pair_known n)
 
-      abbrev pub sight_then : Sight
+      abbrev pub sight_then : Visible
       sight_then = record { tables = λ t. cond (ltb t c.past) (its.tables t) (went.blocks2.table_known t); pairs = λ n. cond (ltb n c.stored) (its.pairs n) (went.blocks2.pair_known n) }
 
       -- what a place names that stood in this table, or in another one that is seen with it
@@ -428,7 +428,7 @@ module _ {K V : Type 0} (same : K → K → Bool) (hash : K → ℕ) (setting : 
           at (inr (move, allowed, is, its)) =
               by (names_before same (spot_of hash) (is_incremental setting.mode) c move allowed t p n phase borrowed (ap (λ (x : Chart K). x.place t p) (sym is) ∙ e))
 
-      pub closed_then : IsSight went.c2 wider sight_then
+      pub closed_then : IsVisibility went.c2 wider sight_then
       closed_then = record {
         tables = λ t made known. elim (cases_lt t c.past) [
           | inl b ↦ old_known t b ∙ closed.tables t b (sym (below t c.past (its.tables t) (after_it.table_known t) b) ∙ known)

@@ -23,13 +23,13 @@ use Rattle.map_facts_late.specs.Given.PointsFactsCalls.{Unchanged, MayStore, Cal
 use Rattle.map_facts_late.specs.Given.PointsTold.{IsRowOfCall}
 use Rattle.map_facts_late.proofs.Given.PointsCalls.Probes.{own_value}
 use Rattle.map_facts_late.proofs.Given.PointsValues.Own.{IsDropping, NoneMoved, SeeksOn}
-use Rattle.map_facts_late.proofs.Given.PointsValues.Seeks.{HasNoneOr, its_or, sought_own}
+use Rattle.map_facts_late.proofs.Values.Seeks.{HasNoneOr, its_or, sought_own}
 use Rattle.map_facts_late.proofs.Given.PointsValues.Sought.{IsSought, IsAhead, kept_of, GoesSeeking}
-use Rattle.map_facts_late.proofs.Given.PointsValues.Never.{never_fills, sought_kept}
+use Rattle.map_facts_late.proofs.Values.Never.{never_fills, sought_kept}
 use Rattle.map_facts_late.specs.Given.RawDeclared.machines.asking.Replies.{Replies}
 use Rattle.map_facts_late.specs.Given.RawDeclared.machines.asking.Takes.TheVariants as takes
-use Rattle.map_facts_late.specs.LateCalls.{LateCalling, LateCallFacts}
-use Rattle.map_facts_late.specs.LateTold.{LateAfter}
+use Rattle.map_facts_late.specs.LateCalls.{SupersededCalling, SupersededCallFacts}
+use Rattle.map_facts_late.specs.LateTold.{SupersededCallAfter}
 use Rattle.map_facts_late.proofs.Values.Own.{late_never_asks, late_seeks_on}
 use Rattle.many_calls.specs.Pairs.{HasIt, KeepsIt}
 use Rattle.many_calls.proofs.Since.Pairs.{KeepsTo}
@@ -37,7 +37,7 @@ use Rattle.many_calls.proofs.Since.Pairs.{KeepsTo}
 -- where it stands there it seeks
 late_sought : {K V Q : Type 0} (same : K → K → Bool) (hash : K → ℕ) (asks : Q → K → Bool) (w : World (Node K V)) (caller : ℕ) (setting : Setting) (c : Chart K) (blocks : Blocks)
     (keys : K → Bool) (began : ℕ) (p : KeyCall K V Q) → MayStore p.replies.takes p.there p.missing → p.replies.takes ≡ takes.Nothing → (stands : Calling)
-    → LateCalling same hash asks w caller setting c blocks keys began p stands → IsSought stands
+    → SupersededCalling same hash asks w caller setting c blocks keys began p stands → IsSought stands
 late_sought same hash asks w caller setting c blocks keys began p may never at.Makes h = absurd h
 late_sought same hash asks w caller setting c blocks keys began p may never (at.Counts removed) h = absurd h
 late_sought same hash asks w caller setting c blocks keys began p may never (at.Disposes d answer) h = absurd h
@@ -57,7 +57,7 @@ late_sought same hash asks w caller setting c blocks keys began p may never (at.
 -- and gives no block up
 late_drops : {K V Q : Type 0} (same : K → K → Bool) (hash : K → ℕ) (asks : Q → K → Bool) (w : World (Node K V)) (caller : ℕ) (setting : Setting) (c : Chart K) (blocks : Blocks)
     (keys : K → Bool) (began : ℕ) (p : KeyCall K V Q) → MayStore p.replies.takes p.there p.missing → p.replies.takes ≡ takes.Nothing → (stands : Calling)
-    → LateCalling same hash asks w caller setting c blocks keys began p stands → IsDropping stands → ⊥
+    → SupersededCalling same hash asks w caller setting c blocks keys began p stands → IsDropping stands → ⊥
 late_drops same hash asks w caller setting c blocks keys began p may never (at.Drops end) h d = h
 late_drops same hash asks w caller setting c blocks keys began p may never (at.Asks asks_at) h d = late_never_asks same hash asks w caller setting c blocks keys began p may never asks_at h
 late_drops same hash asks w caller setting c blocks keys began p may never at.Makes h d = d
@@ -77,7 +77,7 @@ late_drops same hash asks w caller setting c blocks keys began p may never (at.O
 -- the pair that it is to store is in its own block
 module _ {K V Q : Type 0} (same : K → K → Bool) (hash : K → ℕ) (asks : Q → K → Bool) (w : World (Node K V)) (caller : ℕ) (setting : Setting) (c : Chart K) (blocks : Blocks) (keys : K → Bool) (began : ℕ)
     (p : KeyCall K V Q) (may : MayStore p.replies.takes p.there p.missing) (never : p.replies.takes ≡ takes.Nothing) where
-  pub late_own : (stands : Calling) → LateCalling same hash asks w caller setting c blocks keys began p stands → HasNoneOr same hash asks w caller setting c blocks keys Unchanged p.own p.hash
+  pub late_own : (stands : Calling) → SupersededCalling same hash asks w caller setting c blocks keys began p stands → HasNoneOr same hash asks w caller setting c blocks keys Unchanged p.own p.hash
   late_own (at.Looks l) h = inl h.0
   late_own at.Probes h = its_or same hash asks w caller setting c blocks keys Unchanged p h.0
   late_own (at.Tries word new) h = its_or same hash asks w caller setting c blocks keys Unchanged p h.0
@@ -111,14 +111,14 @@ module _ {K V : Type 0} (m : Mem (Node K V)) (c : Chart K) (blocks : Blocks) (pa
 
 module _ {K V Q : Type 0} (same : K → K → Bool) (hash : K → ℕ) (setting : Setting) (caller : ℕ) (asks : Q → K → Bool) (w w2 : World (Node K V)) (c c2 : Chart K) (blocks blocks2 : Blocks)
     (keys : K → Bool) (began : ℕ) (pair : Option (Node K V)) (p p2 : KeyCall K V Q) (progress : Called (Node K V))
-    (facts : LateCallFacts same hash asks w caller setting c blocks keys began p) (after : LateAfter same hash asks caller setting keys began w2 c2 blocks2 p2 progress) (row : IsRowOfCall p.stands → ⊥)
+    (facts : SupersededCallFacts same hash asks w caller setting c blocks keys began p) (after : SupersededCallAfter same hash asks caller setting keys began w2 c2 blocks2 p2 progress) (row : IsRowOfCall p.stands → ⊥)
     (may : May Can Took value_at w.memory (call_plan asks same hash p)) (steps : Steps Took value_at w.memory (call_plan asks same hash p) w2.memory (p2, progress))
     (never : p.replies.takes ≡ takes.Nothing) (keeps : KeepsIt w.memory c blocks pair Unchanged p p.stands) where
   abbrev To : KeyCall K V Q → Called (Node K V) → Type 0
   To = KeepsTo w2.memory c2 blocks2 pair Unchanged
 
   abbrev After : KeyCall K V Q → Called (Node K V) → Type 0
-  After = LateAfter same hash asks caller setting keys began w2 c2 blocks2
+  After = SupersededCallAfter same hash asks caller setting keys began w2 c2 blocks2
 
   so : IsSought p.stands
   so = late_sought same hash asks w caller setting c blocks keys began p facts.may.0 never p.stands facts.point
@@ -150,7 +150,7 @@ module _ {K V Q : Type 0} (same : K → K → Bool) (hash : K → ℕ) (setting 
 
   -- in the root's table, or there
   goes_on : Moved → (q : KeyCall K V Q) → kept_of q ≡ kept_of p → IsAhead q.stands
-      → CallFacts same hash asks w2 caller setting c2 blocks2 keys Unchanged q ⊎ LateCallFacts same hash asks w2 caller setting c2 blocks2 keys began q → KeepsIt w2.memory c2 blocks2 pair Unchanged q q.stands
+      → CallFacts same hash asks w2 caller setting c2 blocks2 keys Unchanged q ⊎ SupersededCallFacts same hash asks w2 caller setting c2 blocks2 keys began q → KeepsIt w2.memory c2 blocks2 pair Unchanged q q.stands
   goes_on unmoved q kept ahead (inl f) =
       let seeks = never_fills same hash asks w2 caller setting c2 blocks2 keys Unchanged q f (still q kept) q.stands f.point ahead in
       it_seeks w2.memory c2 blocks2 pair q q.stands seeks
@@ -200,7 +200,7 @@ module _ {K V Q : Type 0} (same : K → K → Bool) (hash : K → ℕ) (setting 
 
 -- a call that never asks does not ask after its step
 pub late_never_asks_on : {K V Q : Type 0} (same : K → K → Bool) (hash : K → ℕ) (asks : Q → K → Bool) (w : World (Node K V)) (caller : ℕ) (setting : Setting) (c : Chart K) (blocks : Blocks)
-    (keys : K → Bool) (began : ℕ) (p : KeyCall K V Q) (facts : LateCallFacts same hash asks w caller setting c blocks keys began p) → p.replies.takes ≡ takes.Nothing → (IsRowOfCall p.stands → ⊥)
+    (keys : K → Bool) (began : ℕ) (p : KeyCall K V Q) (facts : SupersededCallFacts same hash asks w caller setting c blocks keys began p) → p.replies.takes ≡ takes.Nothing → (IsRowOfCall p.stands → ⊥)
     → (m2 : Mem (Node K V)) (e : KeyCall K V Q × Called (Node K V)) → May Can Took value_at w.memory (call_plan asks same hash p) → Steps Took value_at w.memory (call_plan asks same hash p) m2 e
     → e.0.replies.takes ≡ takes.Nothing
 late_never_asks_on same hash asks w caller setting c blocks keys began p facts never row m2 e may steps =

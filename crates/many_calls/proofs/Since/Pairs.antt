@@ -30,18 +30,18 @@ use Rattle.map_facts_late.specs.Given.RuleWords.{Blocks, place_word, byte_of}
 use Rattle.map_facts_late.specs.Given.RuleInWorld.{IsOut, IsMapIn, IsFramed, SameBlocks}
 use Rattle.map_facts_late.proofs.Given.RuleWords.PlaceWords.{pair_block}
 use Rattle.map_facts_late.proofs.Given.RuleWords.PlacesShown.{byte_of-few}
-use Rattle.map_facts_late.specs.Given.PointsFactsCalls.{Change, Unchanged, Stored, Replaced, Removed, IsOwnPair, Seeks, Tells, CallingFacts, CallFacts}
-use Rattle.map_facts_late.specs.Given.PointsTold.{HasAnswered, IsRowOfCall, CallFactsAfter, CallTold}
+use Rattle.map_facts_late.specs.Given.PointsFactsCalls.{Change, Unchanged, Stored, Replaced, Removed, IsOwnPair, Seeks, AnswersChange, CallingFacts, CallFacts}
+use Rattle.map_facts_late.specs.Given.PointsTold.{HasAnswered, IsRowOfCall, CallFactsAfter, CallOutcome}
 use Rattle.map_facts_late.proofs.Given.RuleKeys.Always.{always_plan_as, always_steps}
 use Rattle.map_facts_late.proofs.Given.PointsCalls.Probes.{own_block, own_value}
 use Rattle.map_facts_late.proofs.Given.PointsValues.Kept.{SameValues}
 use Rattle.map_facts_late.proofs.Given.PointsValues.Left.{made_here}
 use Rattle.map_facts_late.proofs.Given.PointsCalls.Holdings.{never_asks}
-use Rattle.map_facts_late.proofs.Given.PointsValues.Never.{never_fills}
+use Rattle.map_facts_late.proofs.Values.Never.{never_fills}
 use Rattle.map_facts_late.proofs.Given.PointsValues.Sought.{IsSought, IsAhead, kept_of, GoesSeeking, IsLook}
 use Rattle.map_facts_late.specs.Given.RawDeclared.machines.asking.Replies.{Replies}
 use Rattle.map_facts_late.specs.Given.RawDeclared.machines.asking.Takes.TheVariants as takes
-use Rattle.map_facts_late.proofs.Given.PointsValues.Seeks.{HasNoneOr, sought_own, look_unchanged}
+use Rattle.map_facts_late.proofs.Values.Seeks.{HasNoneOr, sought_own, look_unchanged}
 use Rattle.map_facts_late.proofs.Given.PointsValues.Own.{IsDropping, NoneMoved, SeeksOn, seeks_on}
 use Rattle.many_calls.specs.Pairs.{IsItsPair, StoresIt, HasIt, KeepsIt}
 
@@ -152,7 +152,7 @@ module _ {K V Q : Type 0} (same : K → K → Bool) (hash : K → ℕ) (setting 
   its_own (at.Drops end) so h = h
   its_own (at.Over end) so h = absurd so
 
-  module _ (p2 : KeyCall K V Q) (progress : Called (Node K V)) (told : CallTold same hash asks caller setting keys c change p w2 c2 blocks2 p2 progress)
+  module _ (p2 : KeyCall K V Q) (progress : Called (Node K V)) (told : CallOutcome same hash asks caller setting keys c change p w2 c2 blocks2 p2 progress)
       (facts : CallFacts same hash asks w caller setting c blocks keys change p) (row : IsRowOfCall p.stands → ⊥)
       (may : May Can Took value_at w.memory (call_plan asks same hash p)) (steps : Steps Took value_at w.memory (call_plan asks same hash p) w2.memory (p2, progress))
       (never : p.replies.takes ≡ takes.Nothing) (keeps : KeepsIt w.memory c blocks pair change p p.stands) (looks : change ≡ Unchanged → (answer : KeyAnswer) → HasAnswered answer p.stands → IsLook answer) where
@@ -288,7 +288,7 @@ module _ {K V Q : Type 0} (same : K → K → Bool) (hash : K → ℕ) (setting 
           count_stores q removed own (inl (zero_is, n, is, known, word)) = subst (StoresIt w2.memory c2 blocks2 pair) (sym is) (here_it n q.own known.0 known.1 word own)
           count_stores q removed own (inr h) = subst (StoresIt w2.memory c2 blocks2 pair) (sym h.3) tt
 
-          replaced : (x : Change) (old new : ℕ) → new ≡ p.own → Tells same hash asks w2 caller setting c2 blocks2 keys told.change2 x (answers.Replaced old new) → StoresIt w2.memory c2 blocks2 pair x
+          replaced : (x : Change) (old new : ℕ) → new ≡ p.own → AnswersChange same hash asks w2 caller setting c2 blocks2 keys told.change2 x (answers.Replaced old new) → StoresIt w2.memory c2 blocks2 pair x
           replaced Unchanged old new own h = absurd h
           replaced (Stored n) old new own h = absurd h
           replaced (Replaced o n) old new own (first, known, borrowed, old_is, new_is) = here_it n new known.0 known.1 new_is own
@@ -353,7 +353,7 @@ module _ {K V Q : Type 0} (same : K → K → Bool) (hash : K → ℕ) (setting 
       by_point (at.Allocs making) here k no_row m s = sought_to (at.Allocs making) here tt (λ z. z) k no_row m s
       by_point (at.Helps copier goal) here k no_row m s = sought_to (at.Helps copier goal) here tt (λ z. z) k no_row m s
       by_point (at.Copies copier) here k no_row m s = sought_to (at.Copies copier) here tt (λ z. z) k no_row m s
-      by_point (at.Disposes d answer) here k no_row m s = absurd (subst (λ (x : Change). Tells same hash asks w caller setting c blocks keys change x answer) none k.1)
+      by_point (at.Disposes d answer) here k no_row m s = absurd (subst (λ (x : Change). AnswersChange same hash asks w caller setting c blocks keys change x answer) none k.1)
       by_point (at.Asks asks_at) here k no_row m s = absurd (never_asks same hash asks caller setting keys w c blocks p facts.may.0 never asks_at change k)
       by_point (at.Drops end) here k no_row m s =
           let d = taken w.memory (dropped p end) (p.own / 2048) w2.memory (p2, progress) s in

@@ -17,10 +17,10 @@ use Rattle.map_facts_late.specs.Given.PointsFactsCalls.{Change, Unchanged, Store
 use Rattle.map_facts_late.proofs.Given.PointsCalls.Probes.{own_block}
 use Rattle.map_facts_late.specs.Given.PointsOthers.{OthersStep}
 use Rattle.map_facts_late.proofs.Given.PointsValues.Sought.{IsAhead, IsLook}
-use Rattle.map_facts_late.proofs.Given.PointsValues.Never.{never_fills}
+use Rattle.map_facts_late.proofs.Values.Never.{never_fills}
 use Rattle.map_facts_late.specs.Given.RawDeclared.machines.asking.Takes.TheVariants as takes
-use Rattle.map_facts_late.proofs.Given.PointsValues.Seeks.{HasNoneOr, sought_own}
-use Rattle.map_facts_late.specs.LateCalls.{LateCallFacts}
+use Rattle.map_facts_late.proofs.Values.Seeks.{HasNoneOr, sought_own}
+use Rattle.map_facts_late.specs.LateCalls.{SupersededCallFacts}
 use Rattle.many_calls.proofs.Since.LatePairs.{late_own}
 use Rattle.many_calls.specs.Pairs.{IsItsPair, StoresIt, HasIt, KeepsIt}
 use Rattle.many_calls.specs.Since.{SoSince}
@@ -81,7 +81,7 @@ module _ {K V Q : Type 0} (same : K → K → Bool) (hash : K → ℕ) (asks : Q
       (λ ahead. own_on facts.code change
       (sought_own same hash asks w caller setting c blocks keys change p p.stands (never_fills same hash asks w caller setting c blocks keys change p facts never p.stands facts.point ahead) facts.point))
 
-  pub late_keeps_on : (began : ℕ) → LateCallFacts same hash asks w caller setting c blocks keys began p → p.replies.takes ≡ takes.Nothing → KeepsIt w.memory c blocks pair change p p.stands → KeepsIt w2.memory c2 blocks2 pair change p p.stands
+  pub late_keeps_on : (began : ℕ) → SupersededCallFacts same hash asks w caller setting c blocks keys began p → p.replies.takes ≡ takes.Nothing → KeepsIt w.memory c blocks pair change p p.stands → KeepsIt w2.memory c2 blocks2 pair change p p.stands
   late_keeps_on began facts never =
       kept_so w.memory w2.memory c c2 blocks blocks2 pair change p p.stands (stored change)
       (λ so. own_on facts.code Unchanged (late_own same hash asks w caller setting c blocks keys began p facts.may.0 never p.stands facts.point))

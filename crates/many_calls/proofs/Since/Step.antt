@@ -17,8 +17,8 @@ use Rattle.map_facts_late.specs.Given.RuleMaps.{spot_of, IsAbsent, IsPair}
 use Rattle.map_facts_late.specs.Given.RuleInWorld.{IsMapIn, Moved, SameBlocks}
 use Rattle.map_facts_late.specs.Given.RuleLasts.{Lasts}
 use Rattle.map_facts_late.specs.Given.RuleMoments.{Moments, Remembers}
-use Rattle.map_facts_late.specs.Given.PointsFactsCalls.{Change, Unchanged, Stored, Replaced, Removed, AnswersOf, Tells, Changes}
-use Rattle.map_facts_late.specs.Given.PointsTold.{CallFactsAfter, CallTold}
+use Rattle.map_facts_late.specs.Given.PointsFactsCalls.{Change, Unchanged, Stored, Replaced, Removed, AnswersOf, AnswersChange, Changes}
+use Rattle.map_facts_late.specs.Given.PointsTold.{CallFactsAfter, CallOutcome}
 use Rattle.many_calls.specs.Since.{HadPair, HadNone, WasSo, WasChanged, ChangedSince, SoSince, Since}
 use Rattle.map_facts_late.proofs.Given.RuleWorld.Hands.{current_known}
 use Rattle.many_calls.proofs.Since.Began.{has_answered, changed_since_on, so_since_on, moment_moved}
@@ -113,7 +113,7 @@ module _ {K V : Type 0} (same : K → K → Bool) (hash : K → ℕ) (setting : 
     answer_so (answers.Removed word) h = absurd h
 
   module _ {Q : Type 0} (asks : Q → K → Bool) (caller : ℕ) (keys : K → Bool) (change : Change) (p p2 : KeyCall K V Q) (progress : Called (Node K V))
-      (moved : Moved same hash setting.mode caller c c2) (told : CallTold same hash asks caller setting keys c change p w2 c2 blocks2 p2 progress)
+      (moved : Moved same hash setting.mode caller c c2) (told : CallOutcome same hash asks caller setting keys c change p w2 c2 blocks2 p2 progress)
       (began : ℕ) (since : Since hash c blocks keys began change p.stands) where
     began_on : began ≤ c2.now
     began_on = let b = since.began_before in let n = remembers.now in omega (arith, b, n)
@@ -145,13 +145,13 @@ module _ {K V : Type 0} (same : K → K → Bool) (hash : K → ℕ) (setting : 
     pub answers_step : (answer : KeyAnswer) → progress ≡ called.Done answer
         → ((told.change2 ≡ Unchanged) × SoSince hash c2 blocks2 keys began answer)
         ⊎ (((m : ℕ) × (began ≤ m) × (m < c2.now) × WasChanged hash c2 blocks2 keys m told.change2)
-        × Tells same hash asks w2 caller setting c2 blocks2 keys told.change2 told.change2 answer)
+        × AnswersChange same hash asks w2 caller setting c2 blocks2 keys told.change2 told.change2 answer)
     answers_step answer done = by (subst (λ (x : Called (Node K V)). CallFactsAfter same hash asks caller setting keys w2 c2 blocks2 told.change2 p2 x) done told.facts)
       where
         by : CallFactsAfter same hash asks caller setting keys w2 c2 blocks2 told.change2 p2 (called.Done answer)
             → ((told.change2 ≡ Unchanged) × SoSince hash c2 blocks2 keys began answer)
             ⊎ (((m : ℕ) × (began ≤ m) × (m < c2.now) × WasChanged hash c2 blocks2 keys m told.change2)
-            × Tells same hash asks w2 caller setting c2 blocks2 keys told.change2 told.change2 answer)
+            × AnswersChange same hash asks w2 caller setting c2 blocks2 keys told.change2 told.change2 answer)
         by (has, idle, inl none) = inl (none, since_step.answered none answer has)
         by (has, idle, inr tells) = elim changed [
           | inl none ↦ inl (none, since_step.answered none answer has)

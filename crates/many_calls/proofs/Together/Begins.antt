@@ -1,5 +1,5 @@
 -- A caller that has no call begins one: all calls stand together, and it knows its first point.
-use Rattle.many_calls.specs.Asked.{last_told, told_before}
+use Rattle.many_calls.specs.Asked.{last_reply, replies_before}
 use Rattle.many_calls.specs.Kind.{gets, removes, inserts, tries_to_insert, computes, updates, updates_or_inserts, tries_to_insert_with, removes_if}
 use Rattle.many_calls.specs.Pairs.{Given, Begun, IsTold, RemovesNone, KeepsGiven}
 use Rattle.map_facts_late.specs.Given.RawDeclared.machines.asking.MachineReply.TheVariants as reply
@@ -23,23 +23,23 @@ use Rattle.map_facts_late.specs.Given.RuleChart.{Chart}
 use Rattle.map_facts_late.specs.Given.RuleWords.{Blocks}
 use Rattle.map_facts_late.specs.Given.PointsFactsCalls.{Unchanged, CallFacts}
 use Rattle.map_facts_late.specs.Given.PointsTold.{HasAnswered}
-use Rattle.map_facts_late.specs.Given.PointsSteps.{told_first}
-use Rattle.many_calls.specs.Sights.{Sight, seen_by}
+use Rattle.map_facts_late.specs.Given.PointsSteps.{first_reply}
+use Rattle.many_calls.specs.Sights.{Visible, seen_by}
 use Rattle.many_calls.proofs.Together.Few.{few_begun}
 use Rattle.many_calls.proofs.Together.Fits.{fits_some, fits_of, stands_by}
 use Rattle.map_facts_late.proofs.Given.PointsCalls.StepsTold.{calls_begin, asking_calls_begin}
 use Rattle.map_facts_late.proofs.KindsKept.Calls.Kept.{untold_fits}
 
-within_before : {V : Type 0} (absent : Option V) (n : ℕ) → last_told (Some n) (told_before absent) ≡ None
+within_before : {V : Type 0} (absent : Option V) (n : ℕ) → last_reply (Some n) (replies_before absent) ≡ None
 within_before None n = refl
 within_before (Some value) n = refl
 
-stores_before : {V : Type 0} (absent : Option V) → last_told None (told_before absent) ≡ Some reply.Remove → ⊥
+stores_before : {V : Type 0} (absent : Option V) → last_reply None (replies_before absent) ≡ Some reply.Remove → ⊥
 stores_before None e = cc e
 stores_before (Some value) e = cc e
 
 module _ {K V Q : Type 0} (same : K → K → Bool) (hash : K → ℕ) (asks : Q → K → Bool) (setting : Setting) (slot : ℕ → ℕ) where
-  abbrev Stand : World (Node K V) → Chart K → Blocks → (ℕ → Sight) → (ℕ → Option (UnderWay K V Q)) → Type 0
+  abbrev Stand : World (Node K V) → Chart K → Blocks → (ℕ → Visible) → (ℕ → Option (UnderWay K V Q)) → Type 0
   Stand = Together V same hash asks setting slot
 
   pub begins_together : BeginsTogether V same hash asks setting slot
@@ -118,13 +118,13 @@ module _ {K V Q : Type 0} (same : K → K → Bool) (hash : K → ℕ) (asks : Q
             ((λ other n. refl), (λ other. refl)),
           ) (stores_before {V = V} None) (λ t h. h)
       by _ _ _ (UpdatesOrInserts key absent) =
-          with_call (same key) (IsTold updates_or_inserts (Some key) (told_before absent))
-          (updating_or_inserting (in_slot setting (slot i)) (hash key) key (told_first absent))
+          with_call (same key) (IsTold updates_or_inserts (Some key) (replies_before absent))
+          (updating_or_inserting (in_slot setting (slot i)) (hash key) key (first_reply absent))
           ((asking_calls_begin V same hash asks lawful (in_slot setting (slot i)) w i c (seen_by blocks (sights (slot i))) (s.idle i none)).1 key absent).2
           (λ answer has. has) (
             (begun_told hash w.memory c (seen_by blocks (sights (slot i))) (Some key) takes.Values (λ e. cc e) absent, tt),
             ((λ e. cc e), begun_once absent _),
-            (refl, refl, untold_fits takes.Values (Some key) (told_first absent), (λ e. absurd (cc e)), (λ present absent. cc present)),
+            (refl, refl, untold_fits takes.Values (Some key) (first_reply absent), (λ e. absurd (cc e)), (λ present absent. cc present)),
             ((λ other. within_before absent), (λ other. absurd (other refl))),
           ) (stores_before absent) (λ t h. h)
       by _ _ _ (TriesToInsertWith key) =

@@ -1,6 +1,6 @@
 -- A call that stands at a row of the collector begins it: all calls stand together, and the caller is within the row.
 use Rattle.seize_model.specs.Given.SeizeWordsMem.{Mem}
-use Rattle.many_calls.specs.Asked.{Asked, KeepsTold}
+use Rattle.many_calls.specs.Asked.{Asked, RemembersReplies}
 use Rattle.many_calls.specs.AskedOnce.{AskedAt}
 use Rattle.many_calls.proofs.Once.Stays.{once_as}
 use Rattle.many_calls.specs.Pairs.{KeepsIt, KeepsGiven}
@@ -35,7 +35,7 @@ use Rattle.map_facts_late.specs.Given.PointsFactsDisposes.{IsToRetire}
 use Rattle.map_facts_late.specs.Given.PointsTold.{IsRowOf, IsRowOfCopier, IsRowOfCall}
 use Rattle.map_facts_late.specs.Given.PointsSteps.{AreLawful}
 use Rattle.many_calls.specs.Rows.{row_of, past_row}
-use Rattle.many_calls.specs.Sights.{Sight, seen_by}
+use Rattle.many_calls.specs.Sights.{Visible, seen_by}
 use Rattle.many_calls.specs.Together.{OnKey, CallOnKey, UnderWay, in_slot, Knows, Together}
 use Rattle.many_calls.proofs.Together.Begun as rows
 use Rattle.many_calls.proofs.Together.Begun.{RowBegun}
@@ -56,14 +56,14 @@ retired_room p rest = by (rest == 0)
     by false = tt
 
 module _ {K V Q : Type 0} (same : K → K → Bool) (hash : K → ℕ) (asks : Q → K → Bool) (setting : Setting) (slot : ℕ → ℕ) (lawful : AreLawful same hash)
-    (w : World (Node K V)) (c : Chart K) (blocks : Blocks) (sights : ℕ → Sight) (calls : ℕ → Option (UnderWay K V Q)) (s : Together V same hash asks setting slot w c blocks sights calls)
+    (w : World (Node K V)) (c : Chart K) (blocks : Blocks) (sights : ℕ → Visible) (calls : ℕ → Option (UnderWay K V Q)) (s : Together V same hash asks setting slot w c blocks sights calls)
     (i : ℕ) (u : CallOnKey K V Q) (inside : IsInside (w.uses (slot i))) (rests : w.row i ≡ Rests) where
   -- the pair that it was begun with, where it goes on from a row
   row_pair : (x x2 : Calling)
       → ((pair : Option (Node K V)) → KeepsIt w.memory c (seen_by blocks (sights (slot i))) pair u.change (points.standing u.call x) x
       → KeepsIt w.memory c (seen_by blocks (sights (slot i))) pair u.change (points.standing u.call x2) x2)
-      → ((its : Option K) (asked : List (Asked V)) → KeepsTold hash w.memory c (seen_by blocks (sights (slot i))) its asked u.change (points.standing u.call x) x
-      → KeepsTold hash w.memory c (seen_by blocks (sights (slot i))) its asked u.change (points.standing u.call x2) x2)
+      → ((its : Option K) (asked : List (Asked V)) → RemembersReplies hash w.memory c (seen_by blocks (sights (slot i))) its asked u.change (points.standing u.call x) x
+      → RemembersReplies hash w.memory c (seen_by blocks (sights (slot i))) its asked u.change (points.standing u.call x2) x2)
       → ((asked : List (Asked V)) → AskedAt hash c (seen_by blocks (sights (slot i))) u.keys asked u.call.replies x → AskedAt hash c (seen_by blocks (sights (slot i))) u.keys asked u.call.replies x2)
       → ((kind : Kind) → FitsAt kind.present kind.absent kind.takes x → FitsAt kind.present kind.absent kind.takes x2)
       → KeepsGiven hash w.memory c (seen_by blocks (sights (slot i))) u.keys u.pair u.change (points.standing u.call x) x

@@ -18,8 +18,8 @@ use Rattle.map_facts_late.specs.Given.RuleInWorld.{IsHeldBy}
 use Rattle.map_facts_late.specs.Given.PointsFactsDisposes.{IsToRetire}
 use Rattle.map_facts_late.specs.Given.PointsSteps.{AreLawful}
 use Rattle.many_calls.specs.Rows.{IsRowOn, IsUsedAlike}
-use Rattle.many_calls.specs.Sights.{Sight, seen_by}
-use Rattle.many_calls.specs.Together.{ClaimsInto, Ground, UnderWay, HasCall, PutsWithin, in_slot, HandsOver, Together, Stands, IsReclaimed}
+use Rattle.many_calls.specs.Sights.{Visible, seen_by}
+use Rattle.many_calls.specs.Together.{ClaimsInto, Ground, UnderWay, HasCall, PutsWithin, in_slot, HandsOver, Together, IsAtPoint, IsReclaimed}
 use Rattle.many_calls.proofs.Rows.Retired.{retire_in}
 use Rattle.many_calls.proofs.Rows.Retires.{counter_no_table}
 use Rattle.many_calls.proofs.Together.Came.{came_next}
@@ -31,7 +31,7 @@ use Rattle.many_calls.proofs.Together.Slots.{alike_more, alike_at}
 use Rattle.seize_model.proofs.Given.SeizeRuleWorld.Begins.{inside_taken}
 
 module _ {K V Q : Type 0} (same : K → K → Bool) (hash : K → ℕ) (asks : Q → K → Bool) (setting : Setting) (slot : ℕ → ℕ) (lawful : AreLawful same hash)
-    (w : World (Node K V)) (c : Chart K) (blocks : Blocks) (sights : ℕ → Sight) (calls : ℕ → Option (UnderWay K V Q)) (s : Together V same hash asks setting slot w c blocks sights calls)
+    (w : World (Node K V)) (c : Chart K) (blocks : Blocks) (sights : ℕ → Visible) (calls : ℕ → Option (UnderWay K V Q)) (s : Together V same hash asks setting slot w c blocks sights calls)
     (i : ℕ) (inside : IsInside (w.uses (slot i))) (rests : w.row i ≡ Rests) where
   -- the caller has begun this row
   pub record RowBegun (row : Row) : Type 0 where
@@ -102,7 +102,7 @@ module _ {K V Q : Type 0} (same : K → K → Bool) (hash : K → ℕ) (asks : Q
     ]
 
     -- and so all calls stand together, if it does
-    pub begun_stands : Stands V same hash asks setting slot b.v c (seen_by blocks (sights (slot i))) i x → ((t : ℕ) → ClaimsInto t x → ⊥) → Together V same hash asks setting slot b.v c blocks sights calls
+    pub begun_stands : IsAtPoint V same hash asks setting slot b.v c (seen_by blocks (sights (slot i))) i x → ((t : ℕ) → ClaimsInto t x → ⊥) → Together V same hash asks setting slot b.v c blocks sights calls
     begun_stands stands claims =
         subst (Together V same hash asks setting slot b.v c blocks sights) (ap (with_at calls i) (sym has) ∙ with_same calls i)
         (stands_by same hash asks setting slot b.v c blocks sights calls i (Some x) b.ground

@@ -14,10 +14,10 @@ use Rattle.map_facts_late.specs.Given.RuleWords.{Blocks}
 use Rattle.map_facts_late.proofs.Given.RuleWorld.WentWrote.{counter_of}
 use Rattle.map_facts_late.specs.Given.PointsFactsIdle.{IsIdle}
 use Rattle.map_facts_late.specs.Given.PointsFactsTables.{SumFacts}
-use Rattle.map_facts_late.specs.Given.PointsTold.{SumTold}
+use Rattle.map_facts_late.specs.Given.PointsTold.{SumOutcome}
 use Rattle.map_facts_late.proofs.Given.PointsMaking.Sum.{may_sum, told_sum}
-use Rattle.many_calls.specs.Sights.{Sight, seen_by}
-use Rattle.many_calls.specs.Together.{UnderWay, Counting, ClaimsInto, HasCall, next_of_counting, in_slot, Together, CountingsBeginTogether, CountingsStandTogether}
+use Rattle.many_calls.specs.Sights.{Visible, seen_by}
+use Rattle.many_calls.specs.Together.{UnderWay, Counting, ClaimsInto, HasCall, next_of_counting, in_slot, Together, CountingsBeginTogether, CountingsPreserveTheInvariant}
 use Rattle.many_calls.proofs.Together.Few.{few_begun, few_with, few_without}
 use Rattle.many_calls.proofs.Together.Fits.{map_in_slot, fits_some, fits_none, fits_of, stands_by}
 
@@ -35,7 +35,7 @@ module _ {K V Q : Type 0} (same : K → K → Bool) (hash : K → ℕ) (asks : Q
       it : Sum
       it = summing (in_slot setting (slot i))
 
-  module _ (w : World (Node K V)) (c : Chart K) (blocks : Blocks) (sights : ℕ → Sight) (calls : ℕ → Option (UnderWay K V Q)) (s : Together V same hash asks setting slot w c blocks sights calls)
+  module _ (w : World (Node K V)) (c : Chart K) (blocks : Blocks) (sights : ℕ → Visible) (calls : ℕ → Option (UnderWay K V Q)) (s : Together V same hash asks setting slot w c blocks sights calls)
       (i : ℕ) (sum : Sum) (has : calls i ≡ Some (Counting sum)) where
     abbrev its : Setting
     its = in_slot setting (slot i)
@@ -65,13 +65,13 @@ module _ {K V Q : Type 0} (same : K → K → Bool) (hash : K → ℕ) (asks : Q
     abbrev Then : Sum × Advance ℕ → Type 0
     Then end = (end.1 ≢ progress.Waits) × ((fault : Fault) → end.1 ≢ progress.Refused fault) × Together V same hash asks setting slot w c blocks sights (with_at calls i (next_of_counting end.0 end.1))
 
-    told_then : (end : Sum × Advance ℕ) → SumTold its end → Then end
+    told_then : (end : Sum × Advance ℕ) → SumOutcome its end → Then end
     told_then (sum2, progress.Goes) facts = (λ e. cc e, λ fault e. cc e, goes_on sum2 facts)
     told_then (sum2, progress.Waits) never = absurd never
     told_then (sum2, progress.Done count) over = (λ e. cc e, λ fault e. cc e, ends)
     told_then (sum2, progress.Refused fault) never = absurd never
 
-  pub countings_stand_together : CountingsStandTogether V same hash asks setting slot
+  pub countings_stand_together : CountingsPreserveTheInvariant V same hash asks setting slot
   countings_stand_together w c blocks sights calls s i sum has =
       let counter = counter_of same hash (in_slot setting (slot i)) w c blocks (map_in_slot same hash setting w c blocks (slot i) s.ground.map) in
       let facts = (s.stand i (Counting sum) has).1 in (

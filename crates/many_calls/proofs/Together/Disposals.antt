@@ -27,7 +27,7 @@ use Rattle.map_facts_late.specs.Given.PointsTold.{IsRowOf}
 use Rattle.map_facts_late.specs.Given.PointsSteps.{AreLawful}
 use Rattle.many_calls.specs.Kept.{IsPairOf}
 use Rattle.many_calls.specs.Rows.{row_of_disposal, IsRowOn}
-use Rattle.many_calls.specs.Sights.{Sight, seen_by}
+use Rattle.many_calls.specs.Sights.{Visible, seen_by}
 use Rattle.many_calls.specs.Together.{UnderWay, in_slot, CameAbout, Together}
 use Rattle.many_calls.proofs.Rows.Behind.{deferred_behind}
 use Rattle.many_calls.proofs.Rows.Defers.{defer_linked_in, defer_old_in}
@@ -43,7 +43,7 @@ out_not_left : (h : Hand) → IsOut h → IsNotLeft h
 out_not_left h o = grind (arith, o)
 
 module _ {K V Q : Type 0} (same : K → K → Bool) (hash : K → ℕ) (asks : Q → K → Bool) (setting : Setting) (slot : ℕ → ℕ) (lawful : AreLawful same hash)
-    (w : World (Node K V)) (c : Chart K) (blocks : Blocks) (sights : ℕ → Sight) (calls : ℕ → Option (UnderWay K V Q)) (s : Together V same hash asks setting slot w c blocks sights calls)
+    (w : World (Node K V)) (c : Chart K) (blocks : Blocks) (sights : ℕ → Visible) (calls : ℕ → Option (UnderWay K V Q)) (s : Together V same hash asks setting slot w c blocks sights calls)
     (i : ℕ) (inside : IsInside (w.uses (slot i))) (rests : w.row i ≡ Rests) where
   abbrev known_pair : (n : ℕ) → n < c.stored → (sights (slot i)).pairs n ≡ true → blocks.pair_known n ≡ true
   known_pair n was seen = (s.ground.sight (slot i) inside).0.pairs n was seen

@@ -19,7 +19,7 @@ use Rattle.map_facts_late.specs.Given.PointsFactsCalls.{Change, Unchanged, CallF
 use Rattle.map_facts_late.specs.Given.PointsFactsIdle.{IsIdle}
 use Rattle.map_facts_late.specs.Given.PointsOthers.{OthersStep}
 use Rattle.map_facts_late.specs.Given.PointsSteps.{AreLawful}
-use Rattle.map_facts_late.specs.LateCalls.{LateCallFacts}
+use Rattle.map_facts_late.specs.LateCalls.{SupersededCallFacts}
 use Rattle.map_facts_late.proofs.Lasts.Copiers.{ClaimsStayFew}
 use Rattle.map_facts_late.proofs.Lasts.Promised.{knows_on}
 
@@ -27,7 +27,7 @@ module _ {K V Q : Type 0} (same : K → K → Bool) (hash : K → ℕ) (asks : Q
   -- it knows what its program point says; or it has changed nothing, and knows what is to be known in a table that the root has left since it began
   abbrev pub KnowsOfCall : World (Node K V) → Chart K → Blocks → (K → Bool) → ℕ → Change → KeyCall K V Q → Type 0
   KnowsOfCall w c blocks keys began change p =
-      CallFacts same hash asks w caller setting c blocks keys change p ⊎ ((change ≡ Unchanged) × LateCallFacts same hash asks w caller setting c blocks keys began p)
+      CallFacts same hash asks w caller setting c blocks keys change p ⊎ ((change ≡ Unchanged) × SupersededCallFacts same hash asks w caller setting c blocks keys began p)
 
   -- while it disposes of a pair, or helps with a copying, it knows what its program point says
   module _ (w : World (Node K V)) (c : Chart K) (blocks : Blocks) (keys : K → Bool) (began : ℕ) (change : Change) (call : KeyCall K V Q) where

@@ -14,7 +14,7 @@ use Rattle.map_facts_late.specs.Given.RuleInWorld.{IsMapIn, Moved}
 use Rattle.many_calls.specs.Rows.{once_over}
 use Rattle.map_facts_late.specs.Given.ReservesDeclared.reserve.Reserve.{Reserve}
 use Rattle.map_facts_late.specs.FactsReserves.{ReserveFacts}
-use Rattle.map_facts_late.specs.LateReserves.{LateReserveFacts}
+use Rattle.map_facts_late.specs.LateReserves.{SupersededReserveFacts}
 use Rattle.map_facts_late.proofs.Rooms.Lasts.Reserves.{reserves_on}
 use Rattle.many_calls.specs.Rooms.{room_once_over}
 use Rattle.map_facts_late.specs.Given.ReservesDeclared.sweep.Purpose.{Purpose}
@@ -23,8 +23,8 @@ use Rattle.map_facts_late.specs.Given.ReservesDeclared.sweep.Sweeping.{Sweeping}
 use Rattle.map_facts_late.specs.Given.ReservesDeclared.sweep.Sweeping.TheVariants as at
 use Rattle.map_facts_late.proofs.Swept.Covers.Kept.{names_on, kept_moved}
 use Rattle.map_facts_late.proofs.Swept.Lasts.Sweeps.{knows_then}
-use Rattle.many_calls.specs.OverAll.{Verdict, CallOverAll, sweep_once_over, TriesTold}
-use Rattle.many_calls.specs.Together.{OverAll, KnowsSweep, Counting, ForRoom, KnowsRoom, OnKey, CallOnKey, UnderWay, UnlessCounts, HasCall, PutsWithin, in_slot, StayFew, Knows, Stands, Ground, Together}
+use Rattle.many_calls.specs.OverAll.{Verdict, CallOverAll, sweep_once_over, TriesAsReplied}
+use Rattle.many_calls.specs.Together.{OverAll, KnowsSweep, Counting, ForRoom, KnowsRoom, OnKey, CallOnKey, UnderWay, UnlessCounts, HasCall, PutsWithin, in_slot, StayFew, Knows, IsAtPoint, Ground, Together}
 use Rattle.map_facts_late.specs.Given.TablesChunks.{is_incremental}
 use Rattle.map_facts_late.specs.Given.TablesDeclared.node.Node.{Node}
 use Rattle.map_facts_late.specs.Given.TablesDeclared.setting.Setting.{Setting}
@@ -35,7 +35,7 @@ use Rattle.map_facts_late.specs.Given.RuleMoments.{Moments}
 use Rattle.map_facts_late.specs.Given.PointsFactsIdle.{IsIdle}
 use Rattle.map_facts_late.specs.Given.PointsSteps.{AreLawful}
 use Rattle.map_facts_late.proofs.Lasts.Copiers.{ClaimsStayFew}
-use Rattle.many_calls.specs.Sights.{Sight, seen_by}
+use Rattle.many_calls.specs.Sights.{Visible, seen_by}
 use Rattle.map_facts_late.specs.Given.PointsOthers.{OthersStep}
 use Rattle.map_facts_late.specs.Given.RawDeclared.machines.answer.KeyAnswer.TheVariants as answers
 use Rattle.many_calls.proofs.Since.Began.{since_on, so_since_on}
@@ -81,35 +81,35 @@ pub map_of_slot : {K V : Type 0} (same : K → K → Bool) (hash : K → ℕ) (s
 map_of_slot same hash setting w c blocks slot m = map_in_slot same hash (in_slot setting slot) w c blocks setting.slot m
 
 module _ {K V Q : Type 0} (same : K → K → Bool) (hash : K → ℕ) (asks : Q → K → Bool) (setting : Setting) (slot : ℕ → ℕ) where
-  abbrev Stand : World (Node K V) → Chart K → Blocks → (ℕ → Sight) → (ℕ → Option (UnderWay K V Q)) → Type 0
+  abbrev Stand : World (Node K V) → Chart K → Blocks → (ℕ → Visible) → (ℕ → Option (UnderWay K V Q)) → Type 0
   Stand = Together V same hash asks setting slot
 
   -- what holds of a caller, by whether it has a call
-  pub record Fits (w : World (Node K V)) (c : Chart K) (blocks : Blocks) (sight : Sight) (i : ℕ) (it : Option (UnderWay K V Q)) : Type 0 where
+  pub record Fits (w : World (Node K V)) (c : Chart K) (blocks : Blocks) (sight : Visible) (i : ℕ) (it : Option (UnderWay K V Q)) : Type 0 where
     pub inside : (u : UnderWay K V Q) → it ≡ Some u → UnlessCounts u (IsInside (w.uses (slot i)))
-    pub stand : (u : UnderWay K V Q) → it ≡ Some u → Stands V same hash asks setting slot w c (seen_by blocks sight) i u
+    pub stand : (u : UnderWay K V Q) → it ≡ Some u → IsAtPoint V same hash asks setting slot w c (seen_by blocks sight) i u
     pub idle : it ≡ None → IsIdle same hash w i (in_slot setting (slot i)) c blocks
 
-  pub fits_some : (w : World (Node K V)) (c : Chart K) (blocks : Blocks) (sight : Sight) (i : ℕ) (u : UnderWay K V Q) → UnlessCounts u (IsInside (w.uses (slot i)))
-      → Stands V same hash asks setting slot w c (seen_by blocks sight) i u → Fits w c blocks sight i (Some u)
+  pub fits_some : (w : World (Node K V)) (c : Chart K) (blocks : Blocks) (sight : Visible) (i : ℕ) (u : UnderWay K V Q) → UnlessCounts u (IsInside (w.uses (slot i)))
+      → IsAtPoint V same hash asks setting slot w c (seen_by blocks sight) i u → Fits w c blocks sight i (Some u)
   fits_some w c blocks sight i u inside stands = record {
     inside = λ v e. subst (λ (x : UnderWay K V Q). UnlessCounts x (IsInside (w.uses (slot i)))) (one u v e) inside;
-    stand = λ v e. subst (Stands V same hash asks setting slot w c (seen_by blocks sight) i) (one u v e) stands;
+    stand = λ v e. subst (IsAtPoint V same hash asks setting slot w c (seen_by blocks sight) i) (one u v e) stands;
     idle = λ e. absurd (cc e);
   }
     where
       one : (u v : UnderWay K V Q) → Some u ≡ Some v → u ≡ v
       one u v e = cc e
 
-  pub fits_none : (w : World (Node K V)) (c : Chart K) (blocks : Blocks) (sight : Sight) (i : ℕ) → IsIdle same hash w i (in_slot setting (slot i)) c blocks → Fits w c blocks sight i None
+  pub fits_none : (w : World (Node K V)) (c : Chart K) (blocks : Blocks) (sight : Visible) (i : ℕ) → IsIdle same hash w i (in_slot setting (slot i)) c blocks → Fits w c blocks sight i None
   fits_none w c blocks sight i idle = record { inside = λ v e. absurd (cc e); stand = λ v e. absurd (cc e); idle = λ e. idle }
 
-  pub fits_of : (w : World (Node K V)) (c : Chart K) (blocks : Blocks) (sights : ℕ → Sight) (calls : ℕ → Option (UnderWay K V Q)) → Stand w c blocks sights calls
+  pub fits_of : (w : World (Node K V)) (c : Chart K) (blocks : Blocks) (sights : ℕ → Visible) (calls : ℕ → Option (UnderWay K V Q)) → Stand w c blocks sights calls
       → (j : ℕ) → Fits w c blocks (sights (slot j)) j (calls j)
   fits_of w c blocks sights calls s j = record { inside = s.inside j; stand = s.stand j; idle = s.idle j }
 
   -- the caller's own is told, and what holds of all others
-  pub stands_by : (w : World (Node K V)) (c : Chart K) (blocks : Blocks) (sights : ℕ → Sight) (calls : ℕ → Option (UnderWay K V Q)) (i : ℕ) (it : Option (UnderWay K V Q))
+  pub stands_by : (w : World (Node K V)) (c : Chart K) (blocks : Blocks) (sights : ℕ → Visible) (calls : ℕ → Option (UnderWay K V Q)) (i : ℕ) (it : Option (UnderWay K V Q))
       → Ground V same hash asks setting slot w c blocks sights → Fits w c blocks (sights (slot i)) i it → ((j : ℕ) → j ≢ i → Fits w c blocks (sights (slot j)) j (calls j))
       → (is_incremental setting.mode ≡ false → StayFew (with_at calls i it) c) → PutsWithin calls w c blocks → (it ≡ None → w.row i ≡ Rests) → Stand w c blocks sights (with_at calls i it)
   stands_by w c blocks sights calls i it ground mine others few puts rests = record {
@@ -131,10 +131,10 @@ module _ {K V Q : Type 0} (same : K → K → Bool) (hash : K → ℕ) (asks : Q
       fits j (inr ne) = subst (Fits w c blocks (sights (slot j)) j) (sym (at_other calls i it j ne)) (others j ne)
 
   -- It knows of its call what it knew, if it does so by what its section sees: a counting only needs its row, and to have no part in a copying.
-  pub stands_of : (how : Use) (j : ℕ) (w w2 : World (Node K V)) (c c2 : Chart K) (blocks blocks2 : Blocks) (sight sight2 : Sight) → w2.row j ≡ w.row j
+  pub stands_of : (how : Use) (j : ℕ) (w w2 : World (Node K V)) (c c2 : Chart K) (blocks blocks2 : Blocks) (sight sight2 : Visible) → w2.row j ≡ w.row j
       → (IsIdle same hash w j (in_slot setting (slot j)) c blocks → IsIdle same hash w2 j (in_slot setting (slot j)) c2 blocks2) → (u : UnderWay K V Q) → UnlessCounts u (IsInside how)
-      → (IsInside how → Stands V same hash asks setting slot w c (seen_by blocks sight) j u → Stands V same hash asks setting slot w2 c2 (seen_by blocks2 sight2) j u)
-      → Stands V same hash asks setting slot w c (seen_by blocks sight) j u → Stands V same hash asks setting slot w2 c2 (seen_by blocks2 sight2) j u
+      → (IsInside how → IsAtPoint V same hash asks setting slot w c (seen_by blocks sight) j u → IsAtPoint V same hash asks setting slot w2 c2 (seen_by blocks2 sight2) j u)
+      → IsAtPoint V same hash asks setting slot w c (seen_by blocks sight) j u → IsAtPoint V same hash asks setting slot w2 c2 (seen_by blocks2 sight2) j u
   stands_of how j w w2 c c2 blocks blocks2 sight sight2 row idle (OnKey u) is by stands = by is stands
   stands_of how j w w2 c c2 blocks blocks2 sight sight2 row idle (ForRoom r) is by stands = by is stands
   stands_of how j w w2 c c2 blocks blocks2 sight sight2 row idle (Counting sum) is by (rests, facts, had) = (row ∙ rests, facts, idle had)
@@ -179,16 +179,16 @@ module _ {K V Q : Type 0} (same : K → K → Bool) (hash : K → ℕ) (asks : Q
             began_before = (let l = k.began_before in let n = step.leaves.remembers.now in omega (arith, l, n));
           }
         where
-          by : (ReserveFacts same hash w j its c seen p → ReserveFacts same hash w2 j its c2 seen2 p ⊎ LateReserveFacts same hash w2 j its c2 seen2 began p)
-              × (LateReserveFacts same hash w j its c seen began p → LateReserveFacts same hash w2 j its c2 seen2 began p)
-              → ReserveFacts same hash w j its c seen p ⊎ LateReserveFacts same hash w j its c seen began p
-              → ReserveFacts same hash w2 j its c2 seen2 p ⊎ LateReserveFacts same hash w2 j its c2 seen2 began p
+          by : (ReserveFacts same hash w j its c seen p → ReserveFacts same hash w2 j its c2 seen2 p ⊎ SupersededReserveFacts same hash w2 j its c2 seen2 began p)
+              × (SupersededReserveFacts same hash w j its c seen began p → SupersededReserveFacts same hash w2 j its c2 seen2 began p)
+              → ReserveFacts same hash w j its c seen p ⊎ SupersededReserveFacts same hash w j its c seen began p
+              → ReserveFacts same hash w2 j its c2 seen2 p ⊎ SupersededReserveFacts same hash w2 j its c2 seen2 began p
           by on (inl fresh) = on.0 fresh
           by on (inr late) = inr (on.1 late)
 
       -- where a move was made at most, whoever made it
       module _ (who : ℕ) (moved : Moved same hash setting.mode who c c2) where
-        tries_on : (told : Option Verdict) (purpose : Purpose) (stage : Sweeping) → TriesTold hash c seen told purpose stage → TriesTold hash c2 seen2 told purpose stage
+        tries_on : (told : Option Verdict) (purpose : Purpose) (stage : Sweeping) → TriesAsReplied hash c seen told purpose stage → TriesAsReplied hash c2 seen2 told purpose stage
         tries_on told purpose (at.Tries word) h = λ retains.
             let n = h retains in (n.0, names_on hash c c2 seen seen2 step.leaves.lasts.stored step.leaves.lasts.keys step.pairs word n.0 n.1, n.2)
         tries_on told purpose _ h = h
@@ -203,7 +203,7 @@ module _ {K V Q : Type 0} (same : K → K → Bool) (hash : K → ℕ) (asks : Q
           tries = tries_on o.told p.purpose p.stands k.tries;
         }
 
-        pub stands_on : w2.row j ≡ w.row j → (u : UnderWay K V Q) → Stands V same hash asks setting slot w c seen j u → Stands V same hash asks setting slot w2 c2 seen2 j u
+        pub stands_on : w2.row j ≡ w.row j → (u : UnderWay K V Q) → IsAtPoint V same hash asks setting slot w c seen j u → IsAtPoint V same hash asks setting slot w2 c2 seen2 j u
         stands_on row (OnKey u) (inl (rests, k)) = inl (row ∙ rests, knows_on u u.call k)
         stands_on row (OnKey u) (inr (here, is_row, k)) = inr (row ∙ here, is_row, knows_on u (once_over u.call) k)
         stands_on row (ForRoom r) (inl (rests, k)) = inl (row ∙ rests, knows_room_on r.began r.reserve k)

@@ -12,8 +12,8 @@ use Rattle.map_facts_late.specs.Given.RuleChart.{Chart}
 use Rattle.map_facts_late.specs.Given.RuleWords.{Blocks}
 use Rattle.map_facts_late.specs.Given.PointsSteps.{AreLawful}
 use Rattle.map_facts_late.proofs.Given.RuleWorld.Hands.{at_cases}
-use Rattle.many_calls.specs.Sights.{Sight}
-use Rattle.many_calls.specs.Together.{UnderWay, UnlessCounts, CameAbout, IsOfSlots, Closes, Together, AllStand, GuardsStandTogether}
+use Rattle.many_calls.specs.Sights.{Visible}
+use Rattle.many_calls.specs.Together.{UnderWay, UnlessCounts, CameAbout, IsOfSlots, Closes, Together, AllStand, GuardsPreserveTheInvariant}
 use Rattle.many_calls.proofs.Together.Came.{came_reached, came_next}
 use Rattle.many_calls.proofs.Together.Fits.{unless_on, unless_both}
 use Rattle.many_calls.proofs.Together.Handed.{inside_on, inside_back}
@@ -34,7 +34,7 @@ not_outside uses s r out h e = subst (λ (u : Use). IsInside u) (ap uses e ∙ o
 
 module _ {K V Q : Type 0} (same : K → K → Bool) (hash : K → ℕ) (asks : Q → K → Bool) (setting : Setting) (slot : ℕ → ℕ) where
   module _ (lawful : AreLawful same hash)
-      (w : World (Node K V)) (c : Chart K) (blocks : Blocks) (sights : ℕ → Sight) (calls : ℕ → Option (UnderWay K V Q)) (s : Together V same hash asks setting slot w c blocks sights calls)
+      (w : World (Node K V)) (c : Chart K) (blocks : Blocks) (sights : ℕ → Visible) (calls : ℕ → Option (UnderWay K V Q)) (s : Together V same hash asks setting slot w c blocks sights calls)
       (i : ℕ) (none : calls i ≡ None) where
     other : (j : ℕ) (u : UnderWay K V Q) → calls j ≡ Some u → j ≢ i
     other j u has e = let at : calls j ≡ None = ap calls e ∙ none in cc (at, has)
@@ -67,7 +67,7 @@ module _ {K V Q : Type 0} (same : K → K → Bool) (hash : K → ℕ) (asks : Q
       begins (Retire t b) of apart h = absurd of
       begins (Defer' t b d) of apart h = absurd of
 
-  pub guards_stand_together : GuardsStandTogether V same hash asks setting slot
+  pub guards_stand_together : GuardsPreserveTheInvariant V same hash asks setting slot
   guards_stand_together lawful w c blocks sights calls s i none = (
     λ request of apart w2 h. begins lawful w c blocks sights calls s i none w2 (came_next setting.batch_size w w2 (Begin i request) s.ground.came h) request of apart h,
     row_may deferred_word (LAST_SLOT + 1) setting.batch_size refl w (came_reached setting.batch_size w s.ground.came).good i (w.row i) refl,

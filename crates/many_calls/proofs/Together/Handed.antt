@@ -18,8 +18,8 @@ use Rattle.map_facts_late.proofs.Given.RuleWorld.Hands.{at_cases, hand_kept}
 use Rattle.map_facts_late.proofs.Given.RuleHistory.LeavingOn.{leaves_same}
 use Rattle.map_facts_late.proofs.Given.RuleWorld.OthersSpared.{held_once, keeps_handed}
 use Rattle.map_facts_late.specs.Given.PointsOthers.{OthersStep}
-use Rattle.many_calls.specs.Kept.{IsUsersOwn, IsMaking, IsKeptBy, IsWithin, IsPairOf, BehindIsOwned}
-use Rattle.many_calls.specs.Sights.{Sight, seen_by}
+use Rattle.many_calls.specs.Kept.{IsUsersOwn, IsMaking, IsKeptBy, IsWithin, IsPairOf, DeferredIsOwned}
+use Rattle.many_calls.specs.Sights.{Visible, seen_by}
 use Rattle.many_calls.specs.Together.{Ground, UnderWay, in_slot, CameAbout, Together}
 use Rattle.many_calls.proofs.Rows.Behind.{pair_on}
 use Rattle.many_calls.proofs.Sights.Seen.{map_seen}
@@ -45,7 +45,7 @@ pub inside_back : (uses : ℕ → Use) (s t : ℕ) → IsInside (with_at uses s 
 inside_back uses s t = at_cases (λ (u : Use). IsInside u → IsInside (uses t)) uses s (one_more (uses s)) t (λ e h. subst (λ (x : ℕ). IsInside (uses x)) (sym e) (more_back (uses s) h)) (λ ne h. h)
 
 module _ {K V Q : Type 0} (same : K → K → Bool) (hash : K → ℕ) (asks : Q → K → Bool) (setting : Setting) (slot : ℕ → ℕ) (lawful : AreLawful same hash)
-    (w : World (Node K V)) (c : Chart K) (blocks : Blocks) (sights : ℕ → Sight) (calls : ℕ → Option (UnderWay K V Q)) (s : Together V same hash asks setting slot w c blocks sights calls)
+    (w : World (Node K V)) (c : Chart K) (blocks : Blocks) (sights : ℕ → Visible) (calls : ℕ → Option (UnderWay K V Q)) (s : Together V same hash asks setting slot w c blocks sights calls)
     (i : ℕ) (inside : IsInside (w.uses (slot i))) (b : ℕ) (row : Row) (log : List Effect) where
   -- a row has begun that has this block
   abbrev pub begun : World (Node K V)
@@ -84,7 +84,7 @@ module _ {K V Q : Type 0} (same : K → K → Bool) (hash : K → ℕ) (asks : Q
     }
 
     -- what lies behind a table is as it was, and so is this block
-    behind : BehindIsOwned begun c blocks setting.counter
+    behind : DeferredIsOwned begun c blocks setting.counter
     behind t x l made at = elim (cases_eq x b) as (λ _. IsPairOf begun setting.counter x × (suc t < c.past)) [
       | inl e ↦ on_begun x (subst (λ (y : ℕ). IsPairOf w setting.counter y × (suc t < c.past)) (sym e) (carried t l made (subst (λ (y : ℕ). where_is y log ≡ With (blocks.table t)) e at)))
       | inr ne ↦ on_begun x (s.ground.behind t x l made (sym (placed x ne) ∙ at))

@@ -10,15 +10,15 @@ use Rattle.map_facts_late.specs.Given.TablesDeclared.node.Node.{Node}
 use Rattle.map_facts_late.specs.Given.TablesDeclared.setting.Setting.{Setting}
 use Rattle.map_facts_late.specs.Given.RuleChart.{Chart}
 use Rattle.map_facts_late.specs.Given.RuleWords.{Blocks}
-use Rattle.map_facts_late.specs.Given.RuleInWorld.{Went}
-use Rattle.many_calls.specs.Kept.{IsPairOf, BehindIsOwned}
+use Rattle.map_facts_late.specs.Given.RuleInWorld.{StepSpec}
+use Rattle.many_calls.specs.Kept.{IsPairOf, DeferredIsOwned}
 use Rattle.many_calls.specs.Together.{UnderWay, HasCall, PutsWithin, CameAbout}
 use Rattle.many_calls.proofs.Rows.Behind.{carrier_not_made, events_back, pair_on}
 use Rattle.many_calls.proofs.Together.Came.{came_reached, none_onto_made}
 use Rattle.many_calls.proofs.Together.Users.{events_rows}
 
 module _ {K V : Type 0} (same : K → K → Bool) (hash : K → ℕ) (setting : Setting) (i : ℕ) (w : World (Node K V)) (c : Chart K) (seen : Blocks)
-    (m2 : Mem (Node K V)) (Told : World (Node K V) → Chart K → Blocks → Type 0) (went : Went same hash setting i w c seen m2 Told) (came : CameAbout setting.batch_size w) (first : c.first ≤ went.c2.first) (past : c.past ≤ went.c2.past)
+    (m2 : Mem (Node K V)) (Told : World (Node K V) → Chart K → Blocks → Type 0) (went : StepSpec same hash setting i w c seen m2 Told) (came : CameAbout setting.batch_size w) (first : c.first ≤ went.c2.first) (past : c.past ≤ went.c2.past)
     (blocks blocks2 : Blocks) (old : (t : ℕ) → t < c.past → blocks2.table t ≡ blocks.table t) (new : (t : ℕ) → c.past ≤ t → blocks2.table t ≡ went.blocks2.table t) where
   linked_before : (t : ℕ) → went.c2.first ≤ t → c.first ≤ t
   linked_before t l = omega (arith, first, l)
@@ -27,7 +27,7 @@ module _ {K V : Type 0} (same : K → K → Bool) (hash : K → ℕ) (setting : 
   new_made : (t : ℕ) → c.past ≤ t → t < went.c2.past → w.hand (blocks2.table t) ≡ Making i
   new_made t l made = ap w.hand (new t l) ∙ went.links.tables t l made
 
-  pub behind_went : (owner : ℕ) → BehindIsOwned w c blocks owner → BehindIsOwned went.w2 went.c2 blocks2 owner
+  pub behind_went : (owner : ℕ) → DeferredIsOwned w c blocks owner → DeferredIsOwned went.w2 went.c2 blocks2 owner
   behind_went owner behind t x l made at = by (cases_lt t c.past)
     where
       lay : (where_is x w.log ≡ With (blocks2.table t)) × (owner_of x went.w2.log ≡ owner_of x w.log) × (value_at went.w2.memory x ≡ value_at w.memory x)

@@ -7,7 +7,7 @@ use Rattle.seize_model.specs.Given.SeizeLaw.{owner_of}
 use Rattle.seize_model.specs.Given.SeizeWorld.{World, Row, Rests, IsInside, with_at}
 use Rattle.seize_model.proofs.Alone.Histories.Reached.{Reached}
 use Rattle.map_facts_late.specs.Given.TablesNodes.{deferred_word}
-use Rattle.map_facts_late.specs.Given.RuleInWorld.{IsMapIn, KnownSince, Went, IsOut}
+use Rattle.map_facts_late.specs.Given.RuleInWorld.{IsMapIn, KnownSince, StepSpec, IsOut}
 use Rattle.many_calls.specs.Kept.{IsWithin, IsKeptBy, AllKeptBy, AllOwned}
 use Rattle.many_calls.specs.Together.{UnderWay, in_slot, StayFew, Ground, Together}
 use Rattle.many_calls.proofs.Rows.Keep.{used_kept}
@@ -29,7 +29,7 @@ use Rattle.map_facts_late.specs.Given.RuleLasts.{Lasts}
 use Rattle.map_facts_late.proofs.Given.RuleWorld.CounterSpared.{spares_counter}
 use Rattle.map_facts_late.proofs.Lasts.Copiers.{ClaimsStayFew}
 use Rattle.map_facts_late.specs.Given.RuleMaps.{spot_of}
-use Rattle.many_calls.specs.Sights.{Sight, seen_by, IsGrown, IsSight}
+use Rattle.many_calls.specs.Sights.{Visible, seen_by, IsGrown, IsVisibility}
 use Rattle.map_facts_late.specs.Given.PointsOthers.{OthersStep}
 use Rattle.map_facts_late.proofs.Known.Steps.{moments_on, remembers_went, lasts_went, others_step}
 use Rattle.map_facts_late.proofs.Given.RuleHistory.LeavingOn.{leaves_same}
@@ -42,10 +42,10 @@ use Rattle.many_calls.proofs.Together.FactsOn.{idle_on}
 use Rattle.many_calls.proofs.Together.Fits.{unless_on, map_in_slot, map_of_slot, Fits, stands_by, stands_of, stands_on}
 
 module _ {K V Q : Type 0} (same : K → K → Bool) (hash : K → ℕ) (asks : Q → K → Bool) (setting : Setting) (slot : ℕ → ℕ) where
-  abbrev Stand : World (Node K V) → Chart K → Blocks → (ℕ → Sight) → (ℕ → Option (UnderWay K V Q)) → Type 0
+  abbrev Stand : World (Node K V) → Chart K → Blocks → (ℕ → Visible) → (ℕ → Option (UnderWay K V Q)) → Type 0
   Stand = Together V same hash asks setting slot
 
-  module _ (lawful : AreLawful same hash) (w : World (Node K V)) (c : Chart K) (blocks : Blocks) (sights : ℕ → Sight) (calls : ℕ → Option (UnderWay K V Q))
+  module _ (lawful : AreLawful same hash) (w : World (Node K V)) (c : Chart K) (blocks : Blocks) (sights : ℕ → Visible) (calls : ℕ → Option (UnderWay K V Q))
       (s : Stand w c blocks sights calls) (i : ℕ) (inside : IsInside (w.uses (slot i))) (m2 : Mem (Node K V)) (Tells : World (Node K V) → Chart K → Blocks → Type 0) where
     abbrev pub here : Setting
     here = in_slot setting (slot i)
@@ -60,10 +60,10 @@ module _ {K V Q : Type 0} (same : K → K → Bool) (hash : K → ℕ) (asks : Q
     pub part : (a j : ℕ) → IsInside (w.uses (slot j)) → IsMapIn same hash (in_slot setting a) w c (seen_by blocks (sights (slot j)))
     part a j inside = map_seen same hash (in_slot setting a) w c blocks (sights (slot j)) (whole a) (s.ground.sight (slot j) inside).0
 
-    pub mine_closed : IsSight c blocks (sights (slot i))
+    pub mine_closed : IsVisibility c blocks (sights (slot i))
     mine_closed = (s.ground.sight (slot i) inside).0
 
-    module _ (rests : w.row i ≡ Rests) (went : Went same hash (in_slot setting (slot i)) i w c (seen_by blocks (sights (slot i))) m2 Tells) (it : Option (UnderWay K V Q))
+    module _ (rests : w.row i ≡ Rests) (went : StepSpec same hash (in_slot setting (slot i)) i w c (seen_by blocks (sights (slot i))) m2 Tells) (it : Option (UnderWay K V Q))
         (few : is_incremental setting.mode ≡ false → StayFew (with_at calls i it) went.c2) where
       pub moments2 : Moments (is_incremental setting.mode) went.c2
       moments2 = moments_on same hash here lawful i w c (seen_by blocks (sights (slot i))) (part (slot i) i inside) s.ground.moments m2 Tells went
@@ -84,7 +84,7 @@ module _ {K V Q : Type 0} (same : K → K → Bool) (hash : K → ℕ) (asks : Q
       abbrev pub blocks_then : Blocks
       blocks_then = wider same hash here i w c blocks (sights (slot i)) (whole (slot i)) mine_closed m2 Tells went lasts
 
-      abbrev pub sights_then : ℕ → Sight
+      abbrev pub sights_then : ℕ → Visible
       sights_then r = record {
         tables = λ t. cond (ltb t c.past) ((sights r).tables t) (went.blocks2.table_known t);
         pairs = λ n. cond (ltb n c.stored) ((sights r).pairs n) (went.blocks2.pair_known n);
@@ -108,7 +108,7 @@ module _ {K V Q : Type 0} (same : K → K → Bool) (hash : K → ℕ) (asks : Q
       pub row_same : (j : ℕ) → went.w2.row j ≡ w.row j
       row_same j = ap (λ (f : ℕ → Row). f j) (events_rows setting.batch_size went.events w went.w2 went.users went.runs)
 
-      closed2 : (r : ℕ) → IsInside (w.uses r) → IsSight went.c2 blocks_then (sights_then r)
+      closed2 : (r : ℕ) → IsInside (w.uses r) → IsVisibility went.c2 blocks_then (sights_then r)
       closed2 r inside = closed_then same hash here i w c blocks (sights (slot i)) (whole (slot i)) mine_closed m2 Tells went lasts s.ground.moments remembers (sights r) (s.ground.sight r inside).0
 
       map2 : IsMapIn same hash setting went.w2 went.c2 blocks_then
@@ -120,7 +120,7 @@ module _ {K V Q : Type 0} (same : K → K → Bool) (hash : K → ℕ) (asks : Q
       pub part2 : (a j : ℕ) → IsInside (w.uses (slot j)) → IsMapIn same hash (in_slot setting a) went.w2 went.c2 (seen_by blocks_then (sights_then (slot j)))
       part2 a j inside = map_seen same hash (in_slot setting a) went.w2 went.c2 blocks_then (sights_then (slot j)) (whole2 a) (closed2 (slot j) inside)
 
-      since_known : (sight : Sight) → KnownSince c (seen_by blocks sight) went.c2 (seen_by blocks_then (record {
+      since_known : (sight : Visible) → KnownSince c (seen_by blocks sight) went.c2 (seen_by blocks_then (record {
         tables = λ t. cond (ltb t c.past) (sight.tables t) (went.blocks2.table_known t);
         pairs = λ n. cond (ltb n c.stored) (sight.pairs n) (went.blocks2.pair_known n);
       }))

@@ -19,8 +19,8 @@ use Rattle.map_facts_late.proofs.Given.RuleHistory.LeavingOn.{leaves_same}
 use Rattle.map_facts_late.proofs.Given.RuleWorld.OthersSpared.{keeps_same}
 use Rattle.map_facts_late.specs.Given.PointsOthers.{OthersStep}
 use Rattle.many_calls.specs.Kept.{IsKeptBy, IsWithin}
-use Rattle.many_calls.specs.Sights.{SeesSources, Sight, seen_by, IsSight}
-use Rattle.many_calls.specs.Together.{UnderWay, UnlessCounts, in_slot, CameAbout, Stands, Together, AllStand}
+use Rattle.many_calls.specs.Sights.{SourcesAreVisible, Visible, seen_by, IsVisibility}
+use Rattle.many_calls.specs.Together.{UnderWay, UnlessCounts, in_slot, CameAbout, IsAtPoint, Together, AllStand}
 use Rattle.many_calls.proofs.Rows.Begins.{beside_in}
 use Rattle.many_calls.proofs.Rows.Behind.{pair_on}
 use Rattle.many_calls.proofs.Rows.Forgets.{forgotten_in}
@@ -35,7 +35,7 @@ use Rattle.many_calls.proofs.Together.Opened.{named_reached, known_reached}
 use Rattle.many_calls.proofs.Together.Fits.{map_in_slot, stands_of, stands_on}
 
 module _ {K V Q : Type 0} (same : K → K → Bool) (hash : K → ℕ) (asks : Q → K → Bool) (setting : Setting) (slot : ℕ → ℕ) (lawful : AreLawful same hash)
-    (w : World (Node K V)) (c : Chart K) (blocks : Blocks) (sights : ℕ → Sight) (calls : ℕ → Option (UnderWay K V Q)) (s : Together V same hash asks setting slot w c blocks sights calls)
+    (w : World (Node K V)) (c : Chart K) (blocks : Blocks) (sights : ℕ → Visible) (calls : ℕ → Option (UnderWay K V Q)) (s : Together V same hash asks setting slot w c blocks sights calls)
     (row2 : ℕ → Row) (uses2 : ℕ → Use) where
   -- a row has begun that has no block
   abbrev pub begun : World (Node K V)
@@ -120,7 +120,7 @@ module _ {K V Q : Type 0} (same : K → K → Bool) (hash : K → ℕ) (asks : Q
         ap (λ (z : Bool). cond z true (cond (reachable (blocks.pair n) w.log) (blocks.pair_known n) false))
         (any_in (LAST_SLOT + 1) (sees_pair n) r (inside_below deferred_word setting.batch_size w reached r (back r inside)) (seen_so (uses2 r) ((sights r).pairs n) inside h))
 
-    closed : (r : ℕ) → IsInside (uses2 r) → IsSight c blocks (sights r)
+    closed : (r : ℕ) → IsInside (uses2 r) → IsVisibility c blocks (sights r)
     closed r inside = (s.ground.sight r (back r inside)).0
 
     forgets : Forgets c blocks tables2 pairs2
@@ -148,7 +148,7 @@ module _ {K V Q : Type 0} (same : K → K → Bool) (hash : K → ℕ) (asks : Q
       | inr a ↦ table_seen u a.0 a.1 ((closed a.0 a.1).later t u l made a.2)
     ]
 
-    sources2 : SeesSources c tables2
+    sources2 : SourcesAreVisible c tables2
     sources2 t made h aborted = elim (table_cases t h) as (λ _. tables2 (c.from t) ≡ true) [
       | inl first ↦ (let e = aborted_from same (spot_of hash) (is_incremental setting.mode) c s.ground.map.map.rule s.ground.moments t first made aborted in linked_seen (c.from t) (omega (arith, e)))
       | inr a ↦ table_seen (c.from t) a.0 a.1 ((closed a.0 a.1).sources t made a.2 aborted)
@@ -169,7 +169,7 @@ module _ {K V Q : Type 0} (same : K → K → Bool) (hash : K → ℕ) (asks : Q
       | inr a ↦ inl (inr a.0)
     ]
 
-    closed2 : (r : ℕ) → IsInside (uses2 r) → IsSight c fewer (sights r)
+    closed2 : (r : ℕ) → IsInside (uses2 r) → IsVisibility c fewer (sights r)
     closed2 r inside =
         let h = closed r inside in
         record { tables = λ t made seen. table_seen t r inside seen; pairs = λ n was seen. pair_seen n r inside seen; linked = h.linked; named = h.named; later = h.later; sources = h.sources }
@@ -189,7 +189,7 @@ module _ {K V Q : Type 0} (same : K → K → Bool) (hash : K → ℕ) (asks : Q
         own = keeps_same j w.memory w.hand;
       }
 
-      stand : (j : ℕ) (u : UnderWay K V Q) → calls j ≡ Some u → Stands V same hash asks setting slot begun c (seen_by fewer (sights (slot j))) j u
+      stand : (j : ℕ) (u : UnderWay K V Q) → calls j ≡ Some u → IsAtPoint V same hash asks setting slot begun c (seen_by fewer (sights (slot j))) j u
       stand j u has =
           stands_of same hash asks setting slot (uses2 (slot j)) j w begun c c blocks fewer (sights (slot j)) (sights (slot j)) (rows_same j u has) (λ idle. idle) u (calls_in j u has)
           (λ inside. stands_on same hash asks setting slot lawful j w begun c c (seen_by blocks (sights (slot j))) (seen_by blocks (sights (slot j)))

@@ -19,8 +19,8 @@ use Rattle.map_facts_late.specs.Given.RuleMoments.{Moments}
 use Rattle.map_facts_late.specs.Given.PointsSteps.{AreLawful}
 use Rattle.many_calls.proofs.Sights.Parts.{part_same}
 use Rattle.many_calls.specs.Kept.{IsWithin}
-use Rattle.many_calls.specs.Sights.{Sight, seen_by, IsSight}
-use Rattle.many_calls.specs.Together.{UnderWay, CameAbout, Stands, Together, AllStand}
+use Rattle.many_calls.specs.Sights.{Visible, seen_by, IsVisibility}
+use Rattle.many_calls.specs.Together.{UnderWay, CameAbout, IsAtPoint, Together, AllStand}
 use Rattle.many_calls.proofs.Rows.Defers.{used_stands, standing_stands}
 use Rattle.many_calls.proofs.Sights.Sources.{aborted_from}
 use Rattle.many_calls.proofs.Together.Came.{came_reached, came_next}
@@ -29,7 +29,7 @@ use Rattle.many_calls.proofs.Together.Fits.{stands_of}
 use Rattle.many_calls.proofs.Together.Rows.{owned2, behind2, puts2, kept_on, map2, counter2, within2, others_row}
 
 -- one of two sights
-abbrev pub choose : Bool → Sight → Sight → Sight
+abbrev pub choose : Bool → Visible → Visible → Visible
 choose z a b = record { tables = λ t. cond z (a.tables t) (b.tables t); pairs = λ n. cond z (a.pairs n) (b.pairs n) }
 
 -- what can be reached of a map can be reached from its root
@@ -45,7 +45,7 @@ module _ {K V : Type 0} (same : K → K → Bool) (hash : K → ℕ) (setting : 
       by (inr at) = ap is_somewhere at.4
 
   -- the sight of a section that begins
-  abbrev pub fresh : Sight
+  abbrev pub fresh : Visible
   fresh = record { tables = λ t. cond (ltb t c.first) false true; pairs = λ n. cond (reachable (blocks.pair n) w.log) (blocks.pair_known n) false }
 
   fresh_linked : (t : ℕ) → fresh.tables t ≡ true → c.first ≤ t
@@ -61,7 +61,7 @@ module _ {K V : Type 0} (same : K → K → Bool) (hash : K → ℕ) (setting : 
   pub known_reached : (b k : Bool) → b ≡ true → k ≡ true → cond b k false ≡ true
   known_reached b k e f = ap (λ (x : Bool). cond x k false) e ∙ f
 
-  pub fresh_closed : Moments (is_incremental setting.mode) c → IsSight c blocks fresh
+  pub fresh_closed : Moments (is_incremental setting.mode) c → IsVisibility c blocks fresh
   fresh_closed moments = record {
     tables = λ t made h. map.map.shows.linked t (fresh_linked t h) made;
     pairs = λ n was h. (reached_known (reachable (blocks.pair n) w.log) (blocks.pair_known n) h).1;
@@ -80,7 +80,7 @@ module _ {K V : Type 0} (same : K → K → Bool) (hash : K → ℕ) (setting : 
   held s b inside h = reached_held s b w.log h (inside_open deferred_word setting.batch_size w r s inside)
 
 module _ {K V Q : Type 0} (same : K → K → Bool) (hash : K → ℕ) (asks : Q → K → Bool) (setting : Setting) (slot : ℕ → ℕ) (lawful : AreLawful same hash)
-    (w : World (Node K V)) (c : Chart K) (blocks : Blocks) (sights : ℕ → Sight) (calls : ℕ → Option (UnderWay K V Q)) (s : Together V same hash asks setting slot w c blocks sights calls)
+    (w : World (Node K V)) (c : Chart K) (blocks : Blocks) (sights : ℕ → Visible) (calls : ℕ → Option (UnderWay K V Q)) (s : Together V same hash asks setting slot w c blocks sights calls)
     (i : ℕ) (none : calls i ≡ None) (w2 : World (Node K V)) (step : Steps' deferred_word i (w.row i) w w2) where
   came : CameAbout setting.batch_size w2
   came = came_next setting.batch_size w w2 (Step i) s.ground.came step
@@ -91,15 +91,15 @@ module _ {K V Q : Type 0} (same : K → K → Bool) (hash : K → ℕ) (asks : Q
   map : IsMapIn same hash setting w2 c blocks
   map = map2 same hash asks setting slot lawful w c blocks sights calls s i w2 step
 
-  abbrev new : Sight
+  abbrev new : Visible
   new = fresh same hash setting w2 c blocks r2 map
 
   -- who was inside sees what it saw, and who is inside anew what can be reached
-  abbrev sights2 : ℕ → Sight
+  abbrev sights2 : ℕ → Visible
   sights2 t = choose (is_inside (w.uses t)) (sights t) new
 
-  abbrev Seen : ℕ → Sight → Type 0
-  Seen t sight = IsSight c blocks sight × IsWithin w2 t c (seen_by blocks sight) setting
+  abbrev Seen : ℕ → Visible → Type 0
+  Seen t sight = IsVisibility c blocks sight × IsWithin w2 t c (seen_by blocks sight) setting
 
   new_seen : (t : ℕ) → IsInside (w2.uses t) → Seen t (fresh same hash setting w2 c blocks r2 map)
   new_seen t inside = (
@@ -119,11 +119,11 @@ module _ {K V Q : Type 0} (same : K → K → Bool) (hash : K → ℕ) (asks : Q
   other : (j : ℕ) (u : UnderWay K V Q) → calls j ≡ Some u → j ≢ i
   other j u has e = let at : calls j ≡ None = ap calls e ∙ none in cc (at, has)
 
-  stand : (j : ℕ) (u : UnderWay K V Q) → calls j ≡ Some u → Stands V same hash asks setting slot w2 c (seen_by blocks (sights2 (slot j))) j u
+  stand : (j : ℕ) (u : UnderWay K V Q) → calls j ≡ Some u → IsAtPoint V same hash asks setting slot w2 c (seen_by blocks (sights2 (slot j))) j u
   stand j u has =
       let fits = others_row same hash asks setting slot lawful w c blocks sights calls s i w2 step j (other j u has) in
       stands_of same hash asks setting slot (w.uses (slot j)) j w2 w2 c c blocks blocks (sights (slot j)) (sights2 (slot j)) refl (λ idle. idle) u (s.inside j u has)
-      (λ in_it. subst (λ (z : Bool). Stands V same hash asks setting slot w2 c (seen_by blocks (choose z (sights (slot j)) (fresh same hash setting w2 c blocks r2 map))) j u)
+      (λ in_it. subst (λ (z : Bool). IsAtPoint V same hash asks setting slot w2 c (seen_by blocks (choose z (sights (slot j)) (fresh same hash setting w2 c blocks r2 map))) j u)
       (sym (inside_is (w.uses (slot j)) in_it))) (fits.stand u has)
 
   pub opened : AllStand V same hash asks setting slot w2 c blocks calls

@@ -6,7 +6,7 @@ use Rattle.seize_model.specs.Given.SeizeWorld.{World, Rests, with_at}
 use Rattle.map_facts_late.specs.Given.TablesDeclared.marks.TheConstants.{TOMBSTONE}
 use Rattle.map_facts_late.specs.Given.TablesDeclared.node.Node.{Node}
 use Rattle.map_facts_late.specs.Given.TablesDeclared.setting.Setting.{Setting}
-use Rattle.map_facts_late.specs.Given.RawCallAsks.{with_absent, with_present, told_at, replied}
+use Rattle.map_facts_late.specs.Given.RawCallAsks.{with_absent, with_present, replied_at, replied}
 use Rattle.map_facts_late.specs.Given.RawCallPoints.{going, over, ending, burying, storing, at_gap}
 use Rattle.map_facts_late.specs.Given.RawDeclared.machines.answer.End.{End}
 use Rattle.map_facts_late.specs.Given.RawDeclared.machines.answer.KeyAnswer.{KeyAnswer}
@@ -27,7 +27,7 @@ use Rattle.map_facts_late.specs.Given.RuleChart.{Still, Chart}
 use Rattle.map_facts_late.specs.Given.RuleInWorld.{IsMapIn}
 use Rattle.map_facts_late.specs.Given.RuleWords.{Blocks}
 use Rattle.map_facts_late.specs.Given.PointsFactsCalls.{Change, Unchanged, RepliesFit, NamesPair, Seeks, CallingFacts, CallFacts}
-use Rattle.map_facts_late.specs.LateCalls.{LateCalling, LateCallFacts}
+use Rattle.map_facts_late.specs.LateCalls.{SupersededCalling, SupersededCallFacts}
 use Rattle.map_facts_late.specs.Given.PointsTold.{HasAnswered, IsRowOfCall}
 use Rattle.map_facts_late.proofs.Given.PointsCalls.Holdings.{never_asks}
 use Rattle.map_facts_late.proofs.Given.PointsCalls.RepliesKnow.{replies_are_taken}
@@ -35,16 +35,16 @@ use Rattle.map_facts_late.proofs.Given.PointsCalls.RepliesTaken.{replied_so}
 use Rattle.map_facts_late.proofs.Calls.Replies.{late_replies_are_taken}
 use Rattle.map_facts_late.proofs.Values.Own.{late_never_asks}
 use Rattle.many_calls.specs.Claims.{IsToClaim}
-use Rattle.many_calls.specs.Asked.{Asked, last_told, ToldWithin, IsAsTold, DoesTold, KeepsTold}
+use Rattle.many_calls.specs.Asked.{Asked, last_reply, RepliesWithin, IsAsReplied, DoesAsReplied, RemembersReplies}
 use Rattle.many_calls.specs.AskedOnce.{AskedAt, AsksOnce}
 use Rattle.map_facts_late.specs.Kinds.{FitsAt}
 use Rattle.map_facts_late.proofs.KindsKept.Laws.{replies_keep_the_kind}
 use Rattle.many_calls.specs.Kind.{Kind}
-use Rattle.many_calls.specs.Pairs.{Given, Begun, IsTold, and_told, AsksFirst, RemovesNone, IsOfKind, KeepsGiven}
+use Rattle.many_calls.specs.Pairs.{Given, Begun, IsTold, with_reply, AsksFirst, RemovesNone, IsOfKind, KeepsGiven}
 use Rattle.many_calls.specs.Since.{SoSince}
 use Rattle.many_calls.proofs.Asked.Leaves.{within_then, removes_then}
 use Rattle.many_calls.specs.Sights.{seen_by}
-use Rattle.many_calls.specs.Together.{OnKey, CallOnKey, told_about, in_slot, Knows, Stands, Together, AsksAbout, RepliesStandTogether}
+use Rattle.many_calls.specs.Together.{OnKey, CallOnKey, replied_about, in_slot, Knows, IsAtPoint, Together, AsksAbout, RepliesPreserveTheInvariant}
 use Rattle.many_calls.proofs.Asked.By.{block_of_word, one_pair}
 use Rattle.many_calls.proofs.Asked.Replies.{and_asked, About as AboutIn, replied_told}
 use Rattle.many_calls.proofs.Once.Replies.{replied_once}
@@ -98,15 +98,15 @@ module _ {K V Q : Type 0} (p : KeyCall K V Q) (x : Asking) (here : p.stands ≡ 
 
 -- what it keeps with the reply, if that was taken
 kept_with : {K V Q : Type 0} (hash : K → ℕ) (m : Mem (Node K V)) (c : Chart K) (blocks : Blocks) (keys : K → Bool) (kind : Kind) (its : Option K) (asked : List (Asked V)) (change : Change) (about : Option ℕ) (r : MachineReply V)
-    (x : KeyCall K V Q × Result Unit (MachineReply V)) → KeepsTold hash m c blocks its (and_asked asked about r x.1) change x.0 x.0.stands
-    → AsksOnce hash c blocks keys (and_asked asked about r x.1) its x.0.replies x.0.stands → IsOfKind kind x.0 x.0.stands → ToldWithin (and_asked asked about r x.1) kind
-    → KeepsGiven hash m c blocks keys (and_told (IsTold kind its asked) about r x.1) change x.0 x.0.stands
+    (x : KeyCall K V Q × Result Unit (MachineReply V)) → RemembersReplies hash m c blocks its (and_asked asked about r x.1) change x.0 x.0.stands
+    → AsksOnce hash c blocks keys (and_asked asked about r x.1) its x.0.replies x.0.stands → IsOfKind kind x.0 x.0.stands → RepliesWithin (and_asked asked about r x.1) kind
+    → KeepsGiven hash m c blocks keys (with_reply (IsTold kind its asked) about r x.1) change x.0 x.0.stands
 kept_with hash m c blocks keys kind its asked change about r (q, Ok taken) told once fit within = (told, once, fit, within)
 kept_with hash m c blocks keys kind its asked change about r (q, Err back) told once fit within = (told, once, fit, within)
 
 -- what it was told of none is what it recalls
-removes_as : {K V : Type 0} (kind : Kind) (its : Option K) (asked : List (Asked V)) (about : Option ℕ) (r : MachineReply V) (taken : Result Unit (MachineReply V)) → RemovesNone (and_told (IsTold kind its asked) about r taken)
-    → last_told None (and_asked asked about r taken) ≡ Some reply.Remove
+removes_as : {K V : Type 0} (kind : Kind) (its : Option K) (asked : List (Asked V)) (about : Option ℕ) (r : MachineReply V) (taken : Result Unit (MachineReply V)) → RemovesNone (with_reply (IsTold kind its asked) about r taken)
+    → last_reply None (and_asked asked about r taken) ≡ Some reply.Remove
 removes_as kind its asked about r (Ok u) told = told
 removes_as kind its asked about r (Err back) told = told
 
@@ -125,7 +125,7 @@ module _ {K V Q : Type 0} (same : K → K → Bool) (hash : K → ℕ) (asks : Q
     about_by change p (asking.Fills word) k = (None, refl)
     about_by change p (asking.GivesUp word) k = (None, refl)
 
-    late_about : (began : ℕ) (p : KeyCall K V Q) (x : Asking) → LateCalling same hash asks w i (in_slot setting (slot i)) c seen keys began p (at.Asks x) → About x
+    late_about : (began : ℕ) (p : KeyCall K V Q) (x : Asking) → SupersededCalling same hash asks w i (in_slot setting (slot i)) c seen keys began p (at.Asks x) → About x
     late_about began p (asking.Absent gap) k = (None, refl)
     late_about began p (asking.Present word) k = about_pair Unchanged word k.2
     late_about began p (asking.Fills word) k = (None, refl)
@@ -135,7 +135,7 @@ module _ {K V Q : Type 0} (same : K → K → Bool) (hash : K → ℕ) (asks : Q
     abbrev IsAsking : CallOnKey K V Q → Asking → Type 0
     IsAsking u x = About x × (u.change ≡ Unchanged) × RepliesFit u.call.replies × (u.call.replies.takes ≢ takes.Nothing)
 
-  pub replies_stand_together : RepliesStandTogether V same hash asks setting slot
+  pub replies_stand_together : RepliesPreserveTheInvariant V same hash asks setting slot
   replies_stand_together are power w c blocks sights calls s i u has x here = (it_knows.0, (λ gap is. asks_first gap is u.pair known.pair), (λ word n is about. asks_new word n is about u.pair known.pair), stand_so)
     where
       seen : Blocks
@@ -144,7 +144,7 @@ module _ {K V Q : Type 0} (same : K → K → Bool) (hash : K → ℕ) (asks : Q
       map : IsMapIn same hash (in_slot setting (slot i)) w c seen
       map = map_seen same hash (in_slot setting (slot i)) w c blocks (sights (slot i)) (map_in_slot same hash setting w c blocks (slot i) s.ground.map) (s.ground.sight (slot i) (s.inside i (OnKey u) has)).0
 
-      by_stand : Stands V same hash asks setting slot w c seen i (OnKey u) → (w.row i ≡ Rests) × Knows V same hash asks setting slot w c seen i u u.call
+      by_stand : IsAtPoint V same hash asks setting slot w c seen i (OnKey u) → (w.row i ≡ Rests) × Knows V same hash asks setting slot w c seen i u u.call
       by_stand (inl h) = h
       by_stand (inr (row, is_row, k)) = absurd (subst IsRowOfCall here is_row)
 
@@ -160,21 +160,21 @@ module _ {K V Q : Type 0} (same : K → K → Bool) (hash : K → ℕ) (asks : Q
             λ never. never_asks same hash asks i (in_slot setting (slot i)) u.keys w c seen u.call fresh.may.0 never x u.change k,
           )
       by_facts (inr (none, late)) =
-          let k = subst (LateCalling same hash asks w i (in_slot setting (slot i)) c seen u.keys u.began u.call) here late.point in
+          let k = subst (SupersededCalling same hash asks w i (in_slot setting (slot i)) c seen u.keys u.began u.call) here late.point in
           (late_about w i c seen u.keys u.began u.call x k, none, late.may.1, λ never. late_never_asks same hash asks w i (in_slot setting (slot i)) c seen u.keys u.began u.call late.may.0 never x k)
 
       it_knows : IsAsking w i c seen u.keys u x
       it_knows = by_facts known.facts
 
       -- what it was told before
-      recalls : (its : Option K) (asked : List (Asked V)) → KeepsTold hash w.memory c seen its asked u.change u.call u.call.stands
-          → IsAsTold hash w.memory c seen its asked u.call.replies u.call.own × DoesTold hash w.memory c seen its asked u.call.replies u.call.own (at.Asks x)
-      recalls its asked keeps = subst (KeepsTold hash w.memory c seen its asked u.change u.call) here keeps
+      recalls : (its : Option K) (asked : List (Asked V)) → RemembersReplies hash w.memory c seen its asked u.change u.call u.call.stands
+          → IsAsReplied hash w.memory c seen its asked u.call.replies u.call.own × DoesAsReplied hash w.memory c seen its asked u.call.replies u.call.own (at.Asks x)
+      recalls its asked keeps = subst (RemembersReplies hash w.memory c seen its asked u.change u.call) here keeps
 
-      first_of : (gap : Gap) → x ≡ asking.Absent gap → (its : Option K) (asked : List (Asked V)) → KeepsTold hash w.memory c seen its asked u.change u.call u.call.stands → last_told None asked ≡ None
+      first_of : (gap : Gap) → x ≡ asking.Absent gap → (its : Option K) (asked : List (Asked V)) → RemembersReplies hash w.memory c seen its asked u.change u.call u.call.stands → last_reply None asked ≡ None
       first_of gap is its asked keeps =
           let h = recalls its asked keeps in
-          h.0.absent_first (subst (λ (y : Asking). DoesTold hash w.memory c seen its asked u.call.replies u.call.own (at.Asks y)) is h.1)
+          h.0.absent_first (subst (λ (y : Asking). DoesAsReplied hash w.memory c seen its asked u.call.replies u.call.own (at.Asks y)) is h.1)
 
       asks_first : (gap : Gap) → x ≡ asking.Absent gap → (pair : Given K V) → KeepsGiven hash w.memory c seen u.keys pair u.change u.call u.call.stands → AsksFirst pair None
       asks_first gap is (Begun kind pair) keeps = it_knows.3 keeps.0
@@ -192,7 +192,7 @@ module _ {K V Q : Type 0} (same : K → K → Bool) (hash : K → ℕ) (asks : Q
           let one = one_pair hash are.fits w.memory c seen None asked setting.root map.map.shows word new.0 n (new.1.0, new.1.1) (named.0, named.1)
           (block_of_word hash are.fits w.memory c seen None asked setting.root map.map.shows word new.0 Still new.2 new.3)
           (block_of_word hash are.fits w.memory c seen None asked setting.root map.map.shows word n Still named.2 named.3) in
-          subst (λ (y : ℕ). last_told (Some y) asked ≡ None) one new.4
+          subst (λ (y : ℕ). last_reply (Some y) asked ≡ None) one new.4
 
       about_as : (its : Option K) (asked : List (Asked V)) (y : Asking) (about : Option ℕ) → AsksAbout V same hash asks setting slot c seen y about → AboutIn hash w.memory c seen its asked y about
       about_as its asked (asking.Present word) (Some n) (was, there, borrowed, is) = ((was, there), borrowed, is)
@@ -201,7 +201,7 @@ module _ {K V Q : Type 0} (same : K → K → Bool) (hash : K → ℕ) (asks : Q
       about_as its asked (asking.Fills word) about is = is
       about_as its asked (asking.GivesUp word) about is = is
 
-      stand_so : (about : Option ℕ) → AsksAbout V same hash asks setting slot c seen x about → (r : MachineReply V) → Together V same hash asks setting slot w c blocks sights (with_at calls i (Some (OnKey (told_about u about r))))
+      stand_so : (about : Option ℕ) → AsksAbout V same hash asks setting slot c seen x about → (r : MachineReply V) → Together V same hash asks setting slot w c blocks sights (with_at calls i (Some (OnKey (replied_about u about r))))
       stand_so about asked_about r =
           stands_by same hash asks setting slot w c blocks sights calls i (Some (OnKey told)) s.ground
           (fits_some same hash asks setting slot w c blocks (sights (slot i)) i (OnKey told) (s.inside i (OnKey u) has) (inl ((by_stand (s.stand i (OnKey u) has)).0, knows_then)))
@@ -209,7 +209,7 @@ module _ {K V Q : Type 0} (same : K → K → Bool) (hash : K → ℕ) (asks : Q
           (λ blocking. few_with calls i c (s.few blocking) (λ none. (let e = sym has ∙ none in cc e)) (OnKey told) (λ t. claims_none u.call x here t r)) s.onto (λ none. absurd (cc none))
         where
           told : CallOnKey K V Q
-          told = told_about u about r
+          told = replied_about u about r
 
           taken : KnowsOfCall same hash asks (in_slot setting (slot i)) i w c seen u.keys u.began u.change u.call
               → KnowsOfCall same hash asks (in_slot setting (slot i)) i w c seen u.keys u.began u.change (replied u.call r).0
@@ -219,23 +219,23 @@ module _ {K V Q : Type 0} (same : K → K → Bool) (hash : K → ℕ) (asks : Q
           taken (inr (none, late)) =
               let t = late_replies_are_taken V same hash asks are (in_slot setting (slot i)) w i c seen u.keys u.began u.call map late r in (either t.0, t.1)
             where
-              either : CallFacts same hash asks w i (in_slot setting (slot i)) c seen u.keys Unchanged (replied u.call r).0 ⊎ LateCallFacts same hash asks w i (in_slot setting (slot i)) c seen u.keys u.began (replied u.call r).0
+              either : CallFacts same hash asks w i (in_slot setting (slot i)) c seen u.keys Unchanged (replied u.call r).0 ⊎ SupersededCallFacts same hash asks w i (in_slot setting (slot i)) c seen u.keys u.began (replied u.call r).0
                   → KnowsOfCall same hash asks (in_slot setting (slot i)) i w c seen u.keys u.began u.change (replied u.call r).0
               either (inl fresh) = inl (subst (λ (y : Change). CallFacts same hash asks w i (in_slot setting (slot i)) c seen u.keys y (replied u.call r).0) (sym none) fresh)
               either (inr late) = inr (none, late)
 
           -- it asks, so it was begun with no pair
           given : (pair : Given K V) → KeepsGiven hash w.memory c seen u.keys pair u.change u.call u.call.stands
-              → KeepsGiven hash w.memory c seen u.keys (and_told pair about r (replied u.call r).1) u.change (replied u.call r).0 (replied u.call r).0.stands
+              → KeepsGiven hash w.memory c seen u.keys (with_reply pair about r (replied u.call r).1) u.change (replied u.call r).0 (replied u.call r).0.stands
           given (Begun kind pair) keeps = absurd (it_knows.3 keeps.0)
           given (IsTold kind its asked) keeps =
               kept_with hash w.memory c seen u.keys kind its asked u.change about r (replied u.call r)
               (replied_told hash are.fits w.memory c seen its setting.root map.map.shows asked u.change it_knows.1 u.call it_knows.2 keeps.0 (recalls its asked keeps.0).0 x here about (about_as its asked x about asked_about) r)
               (once_by its asked keeps.1) (replies_keep_the_kind kind.present kind.absent kind.takes u.call keeps.2 r) (within_by kind keeps.2 asked keeps.3)
             where
-              within_by : (k : Kind) → IsOfKind k u.call u.call.stands → (list : List (Asked V)) → ToldWithin list k → ToldWithin (and_asked list about r (replied u.call r).1) k
+              within_by : (k : Kind) → IsOfKind k u.call u.call.stands → (list : List (Asked V)) → RepliesWithin list k → RepliesWithin (and_asked list about r (replied u.call r).1) k
               within_by k fit list h =
-                  subst (λ (y : Calling). ToldWithin (and_asked list about r (told_at y u.call r).1) k) (sym here)
+                  subst (λ (y : Calling). RepliesWithin (and_asked list about r (replied_at y u.call r).1) k) (sym here)
                   (within_then list r hash w.memory c seen u.call k h x (subst (FitsAt k.present k.absent k.takes) here fit.4) about (about_as None list x about asked_about))
 
               once_by : (key : Option K) (list : List (Asked V)) → AsksOnce hash c seen u.keys list key u.call.replies u.call.stands
@@ -245,13 +245,13 @@ module _ {K V Q : Type 0} (same : K → K → Bool) (hash : K → ℕ) (asks : Q
 
           -- where it was told to remove what is not there, that was so as it asked
           removes_none : (pair : Given K V) → KeepsGiven hash w.memory c seen u.keys pair u.change u.call u.call.stands → (RemovesNone pair → SoSince hash c seen u.keys u.began answers.Absent)
-              → RemovesNone (and_told pair about r (replied u.call r).1) → SoSince hash c seen u.keys u.began answers.Absent
+              → RemovesNone (with_reply pair about r (replied u.call r).1) → SoSince hash c seen u.keys u.began answers.Absent
           removes_none (Begun kind pair) keeps before told = absurd (it_knows.3 keeps.0)
           removes_none (IsTold kind its asked) keeps before told =
               removes_then asked r hash w.memory c seen u.call (SoSince hash c seen u.keys u.began answers.Absent) before x
               (λ gap is. known.since.answered it_knows.1 answers.Absent (subst (HasAnswered answers.Absent) (sym here) (subst (λ (y : Asking). HasAnswered answers.Absent (at.Asks y)) (sym is) refl)))
               about (about_as None asked x about asked_about)
-              (subst (λ (y : Calling). last_told None (and_asked asked about r (told_at y u.call r).1) ≡ Some reply.Remove) here (removes_as kind its asked about r (replied u.call r).1 told))
+              (subst (λ (y : Calling). last_reply None (and_asked asked about r (replied_at y u.call r).1) ≡ Some reply.Remove) here (removes_as kind its asked about r (replied u.call r).1 told))
 
           knows_then : Knows V same hash asks setting slot w c seen i told (replied u.call r).0
           knows_then =

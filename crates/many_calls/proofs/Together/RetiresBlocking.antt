@@ -20,8 +20,8 @@ use Rattle.map_facts_late.proofs.Given.RuleWorld.Hands.{hand_kept}
 use Rattle.map_facts_late.specs.Given.PointsFactsCalls.{Change, Unchanged, Holding, Apart, InBlock, ByReply, holding, IsOwnPair, HasOwn, HasIts, CallFacts}
 use Rattle.map_facts_late.specs.Given.PointsFactsCopiesBlocking.{CopyingFactsBlocking, CopierFactsBlocking}
 use Rattle.map_facts_late.specs.Given.PointsFactsDisposes.{IsToRetire}
-use Rattle.map_facts_late.specs.LateCalls.{LateCallFacts}
-use Rattle.map_facts_late.specs.LateCopies.{LateCopying, LateCopierFacts}
+use Rattle.map_facts_late.specs.LateCalls.{SupersededCallFacts}
+use Rattle.map_facts_late.specs.LateCopies.{SupersededCopying, SupersededCopierFacts}
 use Rattle.many_calls.proofs.Together.FactsOn.{KnowsOfCall}
 
 -- a block is handed over
@@ -92,13 +92,13 @@ module _ {K V : Type 0} (same : K → K → Bool) (hash : K → ℕ) (setting : 
         ]
 
     -- the root has left its target
-    pub late_copier_past : (began : ℕ) (p : Copier) (settle : Settle) (rest : ℕ) → p.setting ≡ setting → (f : LateCopying same hash w caller setting c blocks began p (copies.Retires settle rest))
-        → LateCopierFacts same hash (handed_over w (blocks.table f.0) row uses) caller setting c blocks began (table_retired p rest)
+    pub late_copier_past : (began : ℕ) (p : Copier) (settle : Settle) (rest : ℕ) → p.setting ≡ setting → (f : SupersededCopying same hash w caller setting c blocks began p (copies.Retires settle rest))
+        → SupersededCopierFacts same hash (handed_over w (blocks.table f.0) row uses) caller setting c blocks began (table_retired p rest)
     late_copier_past began p settle rest setting_is (s, t, (l, target, left, idle, cut), retire, next) =
-        elim (cases_lt (suc s) t) as (λ _. LateCopierFacts same hash (handed_over w (blocks.table s) row uses) caller setting c blocks began (table_retired p rest)) [
-          | inl more ↦ subst (LateCopierFacts same hash (handed_over w (blocks.table s) row uses) caller setting c blocks began) (next_after p rest (link_some s t l target.made cut rest more (next.0 more)))
+        elim (cases_lt (suc s) t) as (λ _. SupersededCopierFacts same hash (handed_over w (blocks.table s) row uses) caller setting c blocks began (table_retired p rest)) [
+          | inl more ↦ subst (SupersededCopierFacts same hash (handed_over w (blocks.table s) row uses) caller setting c blocks began) (next_after p rest (link_some s t l target.made cut rest more (next.0 more)))
               (record { setting_is = setting_is; point = (suc s, t, (more, target, left, idle, cut_behind s t l target.made cut), next.0 more) })
-          | inr last ↦ subst (LateCopierFacts same hash (handed_over w (blocks.table s) row uses) caller setting c blocks began) (over_after p rest (next.1 (omega (arith, l, last))))
+          | inr last ↦ subst (SupersededCopierFacts same hash (handed_over w (blocks.table s) row uses) caller setting c blocks began) (over_after p rest (next.1 (omega (arith, l, last))))
               (record { setting_is = setting_is; point = (t, target, left, idle) })
         ]
 
@@ -128,8 +128,8 @@ module _ {K V : Type 0} (same : K → K → Bool) (hash : K → ℕ) (setting : 
             );
           }
 
-      pub late_call_past : (began : ℕ) → (k : LateCallFacts same hash asks w caller setting c blocks keys began retiring)
-          → LateCallFacts same hash asks (handed_over w (blocks.table k.point.1.point.0) row uses) caller setting c blocks keys began past
+      pub late_call_past : (began : ℕ) → (k : SupersededCallFacts same hash asks w caller setting c blocks keys began retiring)
+          → SupersededCallFacts same hash asks (handed_over w (blocks.table k.point.1.point.0) row uses) caller setting c blocks keys began past
       late_call_past began k =
           let f = k.point.1.point in
           record {

@@ -17,7 +17,7 @@ use Rattle.map_facts_late.specs.Given.RuleInWorld.{IsMapIn}
 use Rattle.map_facts_late.specs.Given.PointsFactsCopies.{CopierFacts}
 use Rattle.map_facts_late.specs.Given.PointsFactsCopiesBlocking.{CopierFactsBlocking}
 use Rattle.map_facts_late.specs.Given.PointsFactsDisposes.{IsToRetire}
-use Rattle.map_facts_late.specs.LateCopies.{LateCopierFacts}
+use Rattle.map_facts_late.specs.LateCopies.{SupersededCopierFacts}
 use Rattle.map_facts_late.specs.FactsReserves.{IsEnding, CopiesWhole}
 use Rattle.many_calls.proofs.Together.RetiresBlocking.{handed_over, copier_past, late_copier_past}
 
@@ -80,7 +80,7 @@ module _ {K V : Type 0} (same : K → K → Bool) (hash : K → ℕ) (setting : 
       by false blocking facts = in_blocking facts blocking
 
   -- in one that the root has left
-  pub retires_late : LateCopierFacts same hash w caller setting c blocks began now → RetiresTable (λ v. LateCopierFacts same hash v caller setting c blocks began then)
+  pub retires_late : SupersededCopierFacts same hash w caller setting c blocks began now → RetiresTable (λ v. SupersededCopierFacts same hash v caller setting c blocks began then)
   retires_late facts =
       let f = facts.point in record {
         t = f.0;

@@ -28,9 +28,9 @@ use Rattle.map_facts_late.specs.Given.RuleWords.{Blocks}
 use Rattle.map_facts_late.specs.Given.PointsTold.{IsRowOfCopier}
 use Rattle.map_facts_late.specs.Given.PointsSteps.{AreLawful}
 use Rattle.many_calls.specs.Rows.{row_of_copier, past_copying}
-use Rattle.many_calls.specs.Sights.{Sight, seen_by}
+use Rattle.many_calls.specs.Sights.{Visible, seen_by}
 use Rattle.many_calls.proofs.Together.Few.{room_row_claims_none, few_with, retired_claims_none}
-use Rattle.many_calls.specs.Together.{UnderWay, ForRoom, HasCall, next_for_room, in_slot, IsReclaimed, KnowsRoom, Stands, Together, RoomRowsTogether, RoomRowsStandTogether}
+use Rattle.many_calls.specs.Together.{UnderWay, ForRoom, HasCall, next_for_room, in_slot, IsReclaimed, KnowsRoom, IsAtPoint, Together, RoomRowsTogether, RoomRowsPreserveTheInvariant}
 use Rattle.many_calls.proofs.Together.RowsOfCopiers.{at_retirement}
 use Rattle.many_calls.proofs.Together.RowSteps.{RowCame, settle_may, settle_came, settle_gives}
 use Rattle.many_calls.proofs.Together.Fits.{map_in_slot, knows_room_on, fits_some, stands_by}
@@ -40,7 +40,7 @@ use Rattle.map_facts_late.specs.Given.ReservesDeclared.reserve.Reserve.{Reserve}
 use Rattle.map_facts_late.specs.Given.ReservesDeclared.reserve.Reserving.{Reserving}
 use Rattle.map_facts_late.specs.Given.ReservesDeclared.reserve.Reserving.TheVariants as at
 use Rattle.map_facts_late.specs.FactsReserves.{ReserveFacts}
-use Rattle.map_facts_late.specs.LateReserves.{LateReserveFacts}
+use Rattle.map_facts_late.specs.LateReserves.{SupersededReserveFacts}
 use Rattle.map_facts_late.specs.ToldReserves.{IsRowOfReserve}
 use Rattle.map_facts_late.specs.Given.RuleInWorld.{IsMapIn}
 use Rattle.many_calls.specs.Rooms.{CallForRoom, row_of_room, past_room, room_once_over, RoomClaims}
@@ -56,7 +56,7 @@ module _ {K V : Type 0} (same : K → K → Bool) (hash : K → ℕ) (setting : 
     (caller began : ℕ) (reserve : Reserve) (p : Copier) (settle : Settle) (rest : ℕ) where
   abbrev KnowsIn : Copier → World (Node K V) → Type 0
   KnowsIn q v =
-      ReserveFacts same hash v caller setting c blocks (reserves.standing reserve (at.Copies q)) ⊎ LateReserveFacts same hash v caller setting c blocks began (reserves.standing reserve (at.Copies q))
+      ReserveFacts same hash v caller setting c blocks (reserves.standing reserve (at.Copies q)) ⊎ SupersededReserveFacts same hash v caller setting c blocks began (reserves.standing reserve (at.Copies q))
 
   abbrev RetiresTable : Type 0
   RetiresTable = whole.RetiresTable same hash setting w c blocks map caller began p settle rest (KnowsIn (retiring.table_retired p rest))
@@ -83,7 +83,7 @@ at_copying P by at.Over row = absurd row
 at_copying P by (at.Refused fault) row = absurd row
 
 module _ {K V Q : Type 0} (same : K → K → Bool) (hash : K → ℕ) (asks : Q → K → Bool) (setting : Setting) (slot : ℕ → ℕ) (lawful : AreLawful same hash)
-    (w : World (Node K V)) (c : Chart K) (blocks : Blocks) (sights : ℕ → Sight) (calls : ℕ → Option (UnderWay K V Q)) (s : Together V same hash asks setting slot w c blocks sights calls)
+    (w : World (Node K V)) (c : Chart K) (blocks : Blocks) (sights : ℕ → Visible) (calls : ℕ → Option (UnderWay K V Q)) (s : Together V same hash asks setting slot w c blocks sights calls)
     (i : ℕ) (r : CallForRoom) (inside : IsInside (w.uses (slot i))) where
   abbrev KnowsOf : World (Node K V) → Reserve → Type 0
   KnowsOf v p = KnowsRoom V same hash asks setting slot v c (seen_by blocks (sights (slot i))) i r.began p
@@ -215,13 +215,13 @@ module _ {K V Q : Type 0} (same : K → K → Bool) (hash : K → ℕ) (asks : Q
     begins_at = at_copying (λ x. KnowsOf w (reserves.standing r.reserve x) → Begun x) (λ p row k. by_retirement p p.stands row k)
 
 module _ {K V Q : Type 0} (same : K → K → Bool) (hash : K → ℕ) (asks : Q → K → Bool) (setting : Setting) (slot : ℕ → ℕ) where
-  pub room_rows_stand_together : RoomRowsStandTogether V same hash asks setting slot
+  pub room_rows_stand_together : RoomRowsPreserveTheInvariant V same hash asks setting slot
   room_rows_stand_together lawful w c blocks sights calls s i r has is_row = by (s.stand i (ForRoom r) has)
     where
       its : HasCall calls i
       its none = cc (has, none)
 
-      by : Stands V same hash asks setting slot w c (seen_by blocks (sights (slot i))) i (ForRoom r)
+      by : IsAtPoint V same hash asks setting slot w c (seen_by blocks (sights (slot i))) i (ForRoom r)
           → May Can Took value_at w.memory (reserve_plan hash r.reserve)
           × ((m2 : Mem (Node K V)) (p2 : Reserve) (end : Yielding (Node K V) Unit) → Steps Took value_at w.memory (reserve_plan hash r.reserve) m2 (p2, end)
           → RoomRowsTogether V same hash asks setting slot w c blocks sights calls i r m2 p2 end)

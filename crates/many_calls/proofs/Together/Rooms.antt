@@ -13,20 +13,20 @@ use Rattle.map_facts_late.specs.Given.ReservesReserve.{reserving, reserve_plan}
 use Rattle.map_facts_late.specs.Given.ReservesDeclared.reserve.Reserve.{Reserve}
 use Rattle.map_facts_late.specs.Given.RuleChart.{Chart}
 use Rattle.map_facts_late.specs.Given.RuleWords.{Blocks}
-use Rattle.map_facts_late.specs.Given.RuleInWorld.{IsMapIn, Went}
+use Rattle.map_facts_late.specs.Given.RuleInWorld.{IsMapIn, StepSpec}
 use Rattle.map_facts_late.specs.Given.RuleMoments.{Remembers}
 use Rattle.map_facts_late.proofs.Given.RuleWorld.WentTold.{went_as}
 use Rattle.map_facts_late.specs.Given.PointsFactsIdle.{IsIdle}
 use Rattle.map_facts_late.specs.Given.PointsSteps.{AreLawful}
 use Rattle.map_facts_late.specs.Given.PointsTold.{OnlyLinks}
 use Rattle.map_facts_late.specs.FactsReserves.{CopiesPairs, ReserveFacts}
-use Rattle.map_facts_late.specs.LateReserves.{LateReserveFacts}
-use Rattle.map_facts_late.specs.LateToldReserves.{LateReserveAfter}
+use Rattle.map_facts_late.specs.LateReserves.{SupersededReserveFacts}
+use Rattle.map_facts_late.specs.LateToldReserves.{SupersededReserveAfter}
 use Rattle.map_facts_late.specs.ToldReserves.{ReserveAfter, IsRowOfReserve}
 use Rattle.map_facts_late.proofs.Rooms.Laws.{reserves_begin, reserves_keep_the_map, late_reserves_keep_the_map}
 use Rattle.many_calls.specs.Rooms.{CallForRoom, RoomClaims}
-use Rattle.many_calls.specs.Sights.{Sight, seen_by}
-use Rattle.many_calls.specs.Together.{UnderWay, ForRoom, ClaimsInto, next_for_room, in_slot, StayFew, KnowsRoom, Stands, Together, RoomsBeginTogether, RoomTold, FreshRoom, LateRoom, RoomStepsTogether, RoomsStandTogether}
+use Rattle.many_calls.specs.Sights.{Visible, seen_by}
+use Rattle.many_calls.specs.Together.{UnderWay, ForRoom, ClaimsInto, next_for_room, in_slot, StayFew, KnowsRoom, IsAtPoint, Together, RoomsBeginTogether, RoomOutcome, FreshRoom, LateRoom, RoomStepsTogether, RoomsPreserveTheInvariant}
 use Rattle.many_calls.proofs.Claims.Rooms.{room_claims_by}
 use Rattle.many_calls.proofs.Sights.Seen.{map_seen}
 use Rattle.many_calls.proofs.Together.Few.{few_begun, few_step, claim_few, room_next_is}
@@ -35,7 +35,7 @@ use Rattle.many_calls.proofs.Together.Moves as moves
 use Rattle.many_calls.proofs.Together.Told.{idle_blocking}
 
 module _ {K V Q : Type 0} (same : K → K → Bool) (hash : K → ℕ) (asks : Q → K → Bool) (setting : Setting) (slot : ℕ → ℕ) where
-  abbrev Stand : World (Node K V) → Chart K → Blocks → (ℕ → Sight) → (ℕ → Option (UnderWay K V Q)) → Type 0
+  abbrev Stand : World (Node K V) → Chart K → Blocks → (ℕ → Visible) → (ℕ → Option (UnderWay K V Q)) → Type 0
   Stand = Together V same hash asks setting slot
 
   same_call : (x y : UnderWay K V Q) → ◌≡◌ {A = Option (UnderWay K V Q)} (Some x) (Some y) → y ≡ x
@@ -58,7 +58,7 @@ module _ {K V Q : Type 0} (same : K → K → Bool) (hash : K → ℕ) (asks : Q
       it : CallForRoom
       it = record { began = c.now; reserve = reserving (in_slot setting (slot i)) additional }
 
-  module _ (lawful : AreLawful same hash) (w : World (Node K V)) (c : Chart K) (blocks : Blocks) (sights : ℕ → Sight) (calls : ℕ → Option (UnderWay K V Q))
+  module _ (lawful : AreLawful same hash) (w : World (Node K V)) (c : Chart K) (blocks : Blocks) (sights : ℕ → Visible) (calls : ℕ → Option (UnderWay K V Q))
       (s : Stand w c blocks sights calls) (i : ℕ) (r : CallForRoom) (has : calls i ≡ Some (ForRoom r)) (none : IsRowOfReserve r.reserve.stands → ⊥) (rests : w.row i ≡ Rests)
       (knows : KnowsRoom V same hash asks setting slot w c (seen_by blocks (sights (slot i))) i r.began r.reserve)
       (m2 : Mem (Node K V)) (p2 : Reserve) (end : Yielding (Node K V) Unit) (may : May Can Took value_at w.memory (reserve_plan hash r.reserve))
@@ -70,7 +70,7 @@ module _ {K V Q : Type 0} (same : K → K → Bool) (hash : K → ℕ) (asks : Q
     its = in_slot setting (slot i)
 
     abbrev Tells : World (Node K V) → Chart K → Blocks → Type 0
-    Tells = RoomTold V same hash asks setting slot c i r p2 end
+    Tells = RoomOutcome V same hash asks setting slot c i r p2 end
 
     pub inside : IsInside (w.uses (slot i))
     inside = s.inside i (ForRoom r) has
@@ -80,8 +80,8 @@ module _ {K V Q : Type 0} (same : K → K → Bool) (hash : K → ℕ) (asks : Q
 
     -- where it goes on, or has no part in a copying
     abbrev Knows2 : World (Node K V) → Chart K → Blocks → Yielding (Node K V) Unit → Type 0
-    Knows2 w2 c2 blocks2 outcome.Goes = ReserveFacts same hash w2 i its c2 blocks2 p2 ⊎ LateReserveFacts same hash w2 i its c2 blocks2 r.began p2
-    Knows2 w2 c2 blocks2 outcome.Waits = ReserveFacts same hash w2 i its c2 blocks2 p2 ⊎ LateReserveFacts same hash w2 i its c2 blocks2 r.began p2
+    Knows2 w2 c2 blocks2 outcome.Goes = ReserveFacts same hash w2 i its c2 blocks2 p2 ⊎ SupersededReserveFacts same hash w2 i its c2 blocks2 r.began p2
+    Knows2 w2 c2 blocks2 outcome.Waits = ReserveFacts same hash w2 i its c2 blocks2 p2 ⊎ SupersededReserveFacts same hash w2 i its c2 blocks2 r.began p2
     Knows2 w2 c2 blocks2 (outcome.Gave value) = ⊥
     Knows2 w2 c2 blocks2 (outcome.Done x) = IsIdle same hash w2 i its c2 blocks2
     Knows2 w2 c2 blocks2 (outcome.Refused fault) = IsIdle same hash w2 i its c2 blocks2
@@ -93,14 +93,14 @@ module _ {K V Q : Type 0} (same : K → K → Bool) (hash : K → ℕ) (asks : Q
     fresh_then w2 c2 blocks2 (outcome.Done x) h = h
     fresh_then w2 c2 blocks2 (outcome.Refused fault) h = h
 
-    late_then : is_incremental setting.mode ≡ false → (w2 : World (Node K V)) (c2 : Chart K) (blocks2 : Blocks) (x : Yielding (Node K V) Unit) → LateReserveAfter same hash i its r.began w2 c2 blocks2 (p2, x) → Knows2 w2 c2 blocks2 x
+    late_then : is_incremental setting.mode ≡ false → (w2 : World (Node K V)) (c2 : Chart K) (blocks2 : Blocks) (x : Yielding (Node K V) Unit) → SupersededReserveAfter same hash i its r.began w2 c2 blocks2 (p2, x) → Knows2 w2 c2 blocks2 x
     late_then blocking w2 c2 blocks2 outcome.Goes h = h
     late_then blocking w2 c2 blocks2 outcome.Waits h = inr h
     late_then blocking w2 c2 blocks2 (outcome.Gave value) h = h
     late_then blocking w2 c2 blocks2 (outcome.Done x) h = idle_blocking same hash asks setting slot w2 i c2 blocks2 (slot i) blocking h
     late_then blocking w2 c2 blocks2 (outcome.Refused fault) h = idle_blocking same hash asks setting slot w2 i c2 blocks2 (slot i) blocking h
 
-    module _ (went : Went same hash its i w c seen m2 Tells) where
+    module _ (went : StepSpec same hash its i w c seen m2 Tells) where
       pub knows_then : Knows2 went.w2 went.c2 went.blocks2 end
       knows_then = by went.told
         where
@@ -135,13 +135,13 @@ module _ {K V Q : Type 0} (same : K → K → Bool) (hash : K → ℕ) (asks : Q
       abbrev pub blocks_then : Blocks
       blocks_then = moves.blocks_then same hash asks setting slot lawful w c blocks sights calls s i inside m2 Tells rests went (next_for_room after end) few
 
-      abbrev pub sights_then : ℕ → Sight
+      abbrev pub sights_then : ℕ → Visible
       sights_then = moves.sights_then same hash asks setting slot lawful w c blocks sights calls s i inside m2 Tells rests went (next_for_room after end) few
 
       pub remembers : Remembers (is_incremental setting.mode) c went.c2
       remembers = moves.remembers same hash asks setting slot lawful w c blocks sights calls s i inside m2 Tells rests went (next_for_room after end) few
 
-      goes_on : ReserveFacts same hash went.w2 i its went.c2 went.blocks2 p2 ⊎ LateReserveFacts same hash went.w2 i its went.c2 went.blocks2 r.began p2
+      goes_on : ReserveFacts same hash went.w2 i its went.c2 went.blocks2 p2 ⊎ SupersededReserveFacts same hash went.w2 i its went.c2 went.blocks2 r.began p2
           → Fits same hash asks setting slot went.w2 went.c2 blocks_then (sights_then (slot i)) i (Some (ForRoom after))
       goes_on facts =
           fits_some same hash asks setting slot went.w2 went.c2 blocks_then (sights_then (slot i)) i (ForRoom after)
@@ -175,7 +175,7 @@ module _ {K V Q : Type 0} (same : K → K → Bool) (hash : K → ℕ) (asks : Q
         together = moves.moves_together same hash asks setting slot lawful w c blocks sights calls s i inside m2 Tells rests went (next_for_room after end) few (mine end knows_then);
       }
 
-  pub rooms_stand_together : RoomsStandTogether V same hash asks setting slot
+  pub rooms_stand_together : RoomsPreserveTheInvariant V same hash asks setting slot
   rooms_stand_together lawful initial w c blocks sights calls s i r has none = by (s.stand i (ForRoom r) has)
     where
       Comes : Type 0
@@ -188,12 +188,12 @@ module _ {K V Q : Type 0} (same : K → K → Bool) (hash : K → ℕ) (asks : Q
       its_map = map_seen same hash (in_slot setting (slot i)) w c blocks (sights (slot i)) (map_in_slot same hash setting w c blocks (slot i) s.ground.map) (s.ground.sight (slot i) (s.inside i (ForRoom r) has)).0
 
       by_facts : w.row i ≡ Rests → (k : KnowsRoom V same hash asks setting slot w c (seen_by blocks (sights (slot i))) i r.began r.reserve)
-          → ReserveFacts same hash w i (in_slot setting (slot i)) c (seen_by blocks (sights (slot i))) r.reserve ⊎ LateReserveFacts same hash w i (in_slot setting (slot i)) c (seen_by blocks (sights (slot i))) r.began r.reserve → Comes
+          → ReserveFacts same hash w i (in_slot setting (slot i)) c (seen_by blocks (sights (slot i))) r.reserve ⊎ SupersededReserveFacts same hash w i (in_slot setting (slot i)) c (seen_by blocks (sights (slot i))) r.began r.reserve → Comes
       by_facts rests k (inl fresh) =
           let keeps = reserves_keep_the_map V same hash lawful (in_slot setting (slot i)) initial w i c (seen_by blocks (sights (slot i))) r.reserve its_map fresh none in (
             keeps.0,
             λ m2 p2 end steps. room_leads lawful w c blocks sights calls s i r has none rests k m2 p2 end keeps.0 steps
-                (went_as same hash (in_slot setting (slot i)) i w c (seen_by blocks (sights (slot i))) m2 _ (RoomTold V same hash asks setting slot c i r p2 end)
+                (went_as same hash (in_slot setting (slot i)) i w c (seen_by blocks (sights (slot i))) m2 _ (RoomOutcome V same hash asks setting slot c i r p2 end)
                 (λ w2 c2 blocks2 map moved blocks_same told. FreshRoom told.1) (keeps.1 m2 p2 end steps)),
           )
       by_facts rests k (inr late) =
@@ -201,10 +201,10 @@ module _ {K V Q : Type 0} (same : K → K → Bool) (hash : K → ℕ) (asks : Q
           (λ t made. claim_few calls c (s.few late.blocking) t made) late none in (
             keeps.0,
             λ m2 p2 end steps. room_leads lawful w c blocks sights calls s i r has none rests k m2 p2 end keeps.0 steps
-                (went_as same hash (in_slot setting (slot i)) i w c (seen_by blocks (sights (slot i))) m2 _ (RoomTold V same hash asks setting slot c i r p2 end)
+                (went_as same hash (in_slot setting (slot i)) i w c (seen_by blocks (sights (slot i))) m2 _ (RoomOutcome V same hash asks setting slot c i r p2 end)
                 (λ w2 c2 blocks2 map moved blocks_same told. LateRoom late.blocking told.1) (keeps.1 m2 p2 end steps)),
           )
 
-      by : Stands V same hash asks setting slot w c (seen_by blocks (sights (slot i))) i (ForRoom r) → Comes
+      by : IsAtPoint V same hash asks setting slot w c (seen_by blocks (sights (slot i))) i (ForRoom r) → Comes
       by (inl (rests, k)) = by_facts rests k k.facts
       by (inr (row, is_row, k)) = absurd (none is_row)

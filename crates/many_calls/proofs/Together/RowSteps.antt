@@ -29,7 +29,7 @@ use Rattle.map_facts_late.specs.Given.RuleChart.{Chart}
 use Rattle.map_facts_late.specs.Given.RuleWords.{Blocks}
 use Rattle.map_facts_late.specs.Given.PointsSteps.{AreLawful}
 use Rattle.map_facts_late.proofs.Given.RuleWorld.Hands.{at_cases}
-use Rattle.many_calls.specs.Sights.{Sight, seen_by}
+use Rattle.many_calls.specs.Sights.{Visible, seen_by}
 use Rattle.many_calls.specs.Together.{in_slot, CallOnKey, Ground, UnderWay, PutsWithin, IsReclaimed, Knows, Together}
 use Rattle.many_calls.proofs.Rows.Gives.{gives}
 use Rattle.many_calls.proofs.Together.Came.{came_reached}
@@ -55,7 +55,7 @@ module _ {T : Type 0} (m m2 : Mem T) (c d : Defer) (fault : Fault) where
   refused_at : (p : Deferring) → Steps Took value_at m (defer.plan_at {T = T} c p) m2 (d, progress.Refused fault) → ⊥
   refused_at deferring.Reads s = not_refused _ (loaded m (defer.head_read c) c.table_word m2 (d, progress.Refused fault) s).3
   refused_at (deferring.Links head) s = not_refused _ (stored m (λ out. defer.goes c (deferring.Pushes head)) (Entry (c.block / 2048) NEXT) head m2 (d, progress.Refused fault) s).1
-  refused_at (deferring.Pushes head) s = elim (exchanged m (defer.push_told c) c.table_word head c.block m2 (d, progress.Refused fault) s) as (λ _. ⊥) [
+  refused_at (deferring.Pushes head) s = elim (exchanged m (defer.after_push c) c.table_word head c.block m2 (d, progress.Refused fault) s) as (λ _. ⊥) [
     | inl e ↦ not_refused _ e.3
     | inr e ↦ not_refused _ e.3
   ]
@@ -75,7 +75,7 @@ less_back uses s t = at_cases (λ (u : Use). IsInside u → IsInside (uses t)) u
     (λ e h. subst (λ (x : ℕ). IsInside (uses x)) (sym e) (less_inside (uses s) h)) (λ ne h. h)
 
 module _ {K V Q : Type 0} (same : K → K → Bool) (hash : K → ℕ) (asks : Q → K → Bool) (setting : Setting) (slot : ℕ → ℕ) (lawful : AreLawful same hash)
-    (w : World (Node K V)) (c : Chart K) (blocks : Blocks) (sights : ℕ → Sight) (calls : ℕ → Option (UnderWay K V Q)) (s : Together V same hash asks setting slot w c blocks sights calls)
+    (w : World (Node K V)) (c : Chart K) (blocks : Blocks) (sights : ℕ → Visible) (calls : ℕ → Option (UnderWay K V Q)) (s : Together V same hash asks setting slot w c blocks sights calls)
     (i : ℕ) (inside : IsInside (w.uses (slot i))) where
   -- where a step of a row leads: all others stand, and what this caller knows of its call it knows on
   pub record RowCame (m2 : Mem (Node K V)) (row : Row) : Type 0 where

@@ -21,8 +21,8 @@ use Rattle.map_facts_late.specs.Given.PointsFactsIdle.{IsIdle}
 use Rattle.map_facts_late.specs.Given.PointsSteps.{AreLawful}
 use Rattle.map_facts_late.proofs.Given.RuleHistory.LeavingOn.{leaves_same}
 use Rattle.map_facts_late.specs.Given.PointsOthers.{OthersStep}
-use Rattle.many_calls.specs.Kept.{IsMaking, IsKeptBy, IsWithin, AllOwned, BehindIsOwned}
-use Rattle.many_calls.specs.Sights.{Sight, seen_by}
+use Rattle.many_calls.specs.Kept.{IsMaking, IsKeptBy, IsWithin, AllOwned, DeferredIsOwned}
+use Rattle.many_calls.specs.Sights.{Visible, seen_by}
 use Rattle.many_calls.specs.Together.{CallOnKey, Ground, UnderWay, PutsWithin, in_slot, Knows, Together}
 use Rattle.many_calls.proofs.Rows.Behind.{row_back, pair_on}
 use Rattle.many_calls.proofs.Rows.Beside.{making_own, users_hand, row_keeps_blocks}
@@ -34,7 +34,7 @@ use Rattle.many_calls.proofs.Together.FactsOn.{idle_on}
 use Rattle.many_calls.proofs.Together.Fits.{unless_on, map_in_slot, Fits, stands_of, knows_on, stands_on}
 
 module _ {K V Q : Type 0} (same : K → K → Bool) (hash : K → ℕ) (asks : Q → K → Bool) (setting : Setting) (slot : ℕ → ℕ) (lawful : AreLawful same hash)
-    (w : World (Node K V)) (c : Chart K) (blocks : Blocks) (sights : ℕ → Sight) (calls : ℕ → Option (UnderWay K V Q)) (s : Together V same hash asks setting slot w c blocks sights calls)
+    (w : World (Node K V)) (c : Chart K) (blocks : Blocks) (sights : ℕ → Visible) (calls : ℕ → Option (UnderWay K V Q)) (s : Together V same hash asks setting slot w c blocks sights calls)
     (i : ℕ) (w2 : World (Node K V)) (step : Steps' deferred_word i (w.row i) w w2) where
   r : Reached deferred_word setting.batch_size w
   r = came_reached setting.batch_size w s.ground.came
@@ -67,7 +67,7 @@ module _ {K V Q : Type 0} (same : K → K → Bool) (hash : K → ℕ) (asks : Q
   owned2 = record { tables = λ t made known. owners (blocks.table t) ∙ s.ground.owned.tables t made known; pairs = λ n was known. owners (blocks.pair n) ∙ s.ground.owned.pairs n was known }
 
   -- and behind what it lies
-  pub behind2 : BehindIsOwned w2 c blocks setting.counter
+  pub behind2 : DeferredIsOwned w2 c blocks setting.counter
   behind2 t x l made at =
       let lay = row_back deferred_word setting.batch_size x (blocks.table t) w w2 r i step at in
       let k = s.ground.behind t x l made lay.0 in
@@ -98,7 +98,7 @@ module _ {K V Q : Type 0} (same : K → K → Bool) (hash : K → ℕ) (asks : Q
   }
 
   -- no caller loses what it has by it
-  pub others_step : (j : ℕ) (sight : Sight) → ((n : ℕ) → n < c.stored → sight.pairs n ≡ true → blocks.pair_known n ≡ true)
+  pub others_step : (j : ℕ) (sight : Visible) → ((n : ℕ) → n < c.stored → sight.pairs n ≡ true → blocks.pair_known n ≡ true)
       → OthersStep same hash (in_slot setting (slot j)) j w c (seen_by blocks sight) w2 c (seen_by blocks sight)
   others_step j sight sees = record {
     leaves = leaves_same same (spot_of hash) (is_incremental setting.mode) j c;

@@ -3,7 +3,7 @@ use Rattle.many_calls.specs.Claims.{IsToClaim}
 use Rattle.many_calls.proofs.Since.PairsOn.{looks_so}
 use Rattle.many_calls.proofs.Since.LatePairs.{late_keeps_after, late_never_asks_on}
 use Rattle.many_calls.proofs.Since.Pairs.{keeps_after}
-use Rattle.many_calls.specs.Asked.{KeepsTold}
+use Rattle.many_calls.specs.Asked.{RemembersReplies}
 use Rattle.many_calls.specs.Pairs.{kind_of, RemovesNone, IsOfKind, KeepsIt, KeepsGiven}
 use Rattle.many_calls.proofs.Asked.On.{step_stays}
 use Rattle.many_calls.proofs.Asked.Steps.{told_after}
@@ -17,19 +17,19 @@ use Rattle.many_calls.proofs.Asked.Walks.{RoomsAt, rooms_at}
 use Rattle.many_calls.proofs.Since.Began.{so_since_on}
 use Rattle.many_calls.proofs.Since.Given.{GivenTo, fit_of, given_to}
 use Rattle.map_facts_late.proofs.KindsKept.Laws.{calls_keep_their_kind}
-use Rattle.map_facts_late.specs.Kinds.{ComesFit}
+use Rattle.map_facts_late.specs.Kinds.{StepFits}
 use Rattle.many_calls.specs.Kind.{Kind}
 use Rattle.map_facts_late.specs.Given.RawDeclared.machines.answer.KeyAnswer.TheVariants as answers
 use Rattle.seize_model.specs.Given.SeizeWordsDeclared.fault.Fault.{Fault}
-use Rattle.map_facts_late.proofs.Given.PointsValues.Never.{never_asks_on}
+use Rattle.map_facts_late.proofs.Values.Never.{never_asks_on}
 use Rattle.std.specs.Prelude.{suc, ◌≡◌, ℕ, Bool, false, Option, Some}
 use Rattle.std.proofs.Common.{◌∙◌, arith, sym, subst, inl, inr}
 use Rattle.seize_model.specs.Given.SeizeWordsMem.{Mem, Can, Took, value_at}
 use Rattle.seize_model.specs.Given.SeizeWordsPlan.{May, Steps}
 use Rattle.seize_model.specs.Given.SeizeWorld.{World, Rests, IsInside, with_at}
 use Rattle.map_facts_late.specs.Given.RawCall.{call_plan}
-use Rattle.map_facts_late.specs.Given.RuleInWorld.{IsMapIn, Went, IsFramed}
-use Rattle.many_calls.specs.Together.{UnderWay, CallOnKey, OnKey, ClaimsInto, next_of, in_slot, StayFew, Knows, Stands, Together, StepTold, Fresh, Late, change_told, StepsTogether, CallsStandTogether, AnswersOnce, RefusesOnce}
+use Rattle.map_facts_late.specs.Given.RuleInWorld.{IsMapIn, StepSpec, IsFramed}
+use Rattle.many_calls.specs.Together.{UnderWay, CallOnKey, OnKey, ClaimsInto, next_of, in_slot, StayFew, Knows, IsAtPoint, Together, StepOutcome, Fresh, Late, change_observed, StepsTogether, CallsPreserveTheInvariant, AnswersOnce, RefusesOnce}
 use Rattle.map_facts_late.specs.Given.TablesChunks.{is_incremental}
 use Rattle.map_facts_late.specs.Given.TablesDeclared.node.Node.{Node}
 use Rattle.map_facts_late.specs.Given.TablesDeclared.setting.Setting.{Setting}
@@ -41,17 +41,17 @@ use Rattle.map_facts_late.specs.Given.RuleChart.{Chart}
 use Rattle.map_facts_late.specs.Given.RuleWords.{Blocks}
 use Rattle.map_facts_late.specs.Given.RuleMoments.{Moments, Remembers}
 use Rattle.map_facts_late.specs.Given.PointsFactsCalls.{Change, Unchanged, CallFacts}
-use Rattle.map_facts_late.specs.Given.PointsTold.{HasAnswered, CallTold, IsRowOfCall}
+use Rattle.map_facts_late.specs.Given.PointsTold.{HasAnswered, CallOutcome, IsRowOfCall}
 use Rattle.map_facts_late.specs.Given.PointsSteps.{AreLawful}
 use Rattle.map_facts_late.specs.Given.RuleLasts.{Lasts}
 use Rattle.map_facts_late.proofs.Given.RuleWorld.WentTold.{went_as}
-use Rattle.map_facts_late.specs.LateCalls.{LateCallFacts}
-use Rattle.map_facts_late.specs.LateTold.{LateTold}
+use Rattle.map_facts_late.specs.LateCalls.{SupersededCallFacts}
+use Rattle.map_facts_late.specs.LateTold.{SupersededCallOutcome}
 use Rattle.map_facts_late.proofs.Calls.Points.{late_calls_keep_the_map}
 use Rattle.map_facts_late.proofs.Copiers.Points.{late_copiers_keep_the_map}
 use Rattle.map_facts_late.specs.Given.RuleMaps.{spot_of}
 use Rattle.many_calls.specs.Since.{SoSince, Since}
-use Rattle.many_calls.specs.Sights.{Sight, seen_by}
+use Rattle.many_calls.specs.Sights.{Visible, seen_by}
 use Rattle.map_facts_late.proofs.Known.Steps.{lasts_went, others_step}
 use Rattle.many_calls.proofs.Together.Moves as moves
 use Rattle.many_calls.proofs.Together.Few.{few_step, claim_few, next_is}
@@ -62,13 +62,13 @@ use Rattle.many_calls.proofs.Together.Told.{KnowsAfter, since_told, answers_told
 use Rattle.map_facts_late.proofs.Given.PointsCalls.StepsTold.{calls_keep_the_map}
 
 module _ {K V Q : Type 0} (same : K → K → Bool) (hash : K → ℕ) (asks : Q → K → Bool) (setting : Setting) (slot : ℕ → ℕ) where
-  abbrev Stand : World (Node K V) → Chart K → Blocks → (ℕ → Sight) → (ℕ → Option (UnderWay K V Q)) → Type 0
+  abbrev Stand : World (Node K V) → Chart K → Blocks → (ℕ → Visible) → (ℕ → Option (UnderWay K V Q)) → Type 0
   Stand = Together V same hash asks setting slot
 
-  module _ (lawful : AreLawful same hash) (w : World (Node K V)) (c : Chart K) (blocks : Blocks) (sights : ℕ → Sight) (calls : ℕ → Option (UnderWay K V Q))
+  module _ (lawful : AreLawful same hash) (w : World (Node K V)) (c : Chart K) (blocks : Blocks) (sights : ℕ → Visible) (calls : ℕ → Option (UnderWay K V Q))
       (s : Stand w c blocks sights calls) (i : ℕ) (u : CallOnKey K V Q) (has : calls i ≡ Some (OnKey u)) (m2 : Mem (Node K V)) (p2 : KeyCall K V Q) (progress : Called (Node K V)) where
     abbrev Tells : World (Node K V) → Chart K → Blocks → Type 0
-    Tells = StepTold V same hash asks setting slot c i u p2 progress
+    Tells = StepOutcome V same hash asks setting slot c i u p2 progress
 
     pub inside : IsInside (w.uses (slot i))
     inside = s.inside i (OnKey u) has
@@ -77,11 +77,11 @@ module _ {K V Q : Type 0} (same : K → K → Bool) (hash : K → ℕ) (asks : Q
     seen_map = moves.part same hash asks setting slot lawful w c blocks sights calls s i inside m2 Tells (slot i) i inside
 
     module _ (rests : w.row i ≡ Rests) (knows : Knows V same hash asks setting slot w c (seen_by blocks (sights (slot i))) i u u.call)
-        (went : Went same hash (in_slot setting (slot i)) i w c (seen_by blocks (sights (slot i))) m2 Tells)
-        (its_pair : GivenTo hash u.keys went.w2.memory went.c2 went.blocks2 u.pair (change_told V same hash asks setting slot went.told) p2 progress)
-        (few : is_incremental setting.mode ≡ false → StayFew (with_at calls i (next_of (record { keys = u.keys; pair = u.pair; began = u.began; change = change_told V same hash asks setting slot went.told; call = p2 }) progress)) went.c2) where
+        (went : StepSpec same hash (in_slot setting (slot i)) i w c (seen_by blocks (sights (slot i))) m2 Tells)
+        (its_pair : GivenTo hash u.keys went.w2.memory went.c2 went.blocks2 u.pair (change_observed V same hash asks setting slot went.told) p2 progress)
+        (few : is_incremental setting.mode ≡ false → StayFew (with_at calls i (next_of (record { keys = u.keys; pair = u.pair; began = u.began; change = change_observed V same hash asks setting slot went.told; call = p2 }) progress)) went.c2) where
       abbrev pub change2 : Change
-      change2 = change_told V same hash asks setting slot went.told
+      change2 = change_observed V same hash asks setting slot went.told
 
       abbrev pub after : CallOnKey K V Q
       after = record { keys = u.keys; pair = u.pair; began = u.began; change = change2; call = p2 }
@@ -89,7 +89,7 @@ module _ {K V Q : Type 0} (same : K → K → Bool) (hash : K → ℕ) (asks : Q
       abbrev pub blocks_then : Blocks
       blocks_then = moves.blocks_then same hash asks setting slot lawful w c blocks sights calls s i inside m2 Tells rests went (next_of after progress) few
 
-      abbrev pub sights_then : ℕ → Sight
+      abbrev pub sights_then : ℕ → Visible
       sights_then = moves.sights_then same hash asks setting slot lawful w c blocks sights calls s i inside m2 Tells rests went (next_of after progress) few
 
       moments2 : Moments (is_incremental setting.mode) went.c2
@@ -164,22 +164,22 @@ module _ {K V Q : Type 0} (same : K → K → Bool) (hash : K → ℕ) (asks : Q
         hands = λ value handed. (subst (GivenTo hash u.keys went.w2.memory went.c2 went.blocks2 u.pair change2 p2) handed its_pair).1;
       }
 
-  module _ (lawful : AreLawful same hash) (w : World (Node K V)) (c : Chart K) (blocks : Blocks) (sights : ℕ → Sight) (calls : ℕ → Option (UnderWay K V Q))
+  module _ (lawful : AreLawful same hash) (w : World (Node K V)) (c : Chart K) (blocks : Blocks) (sights : ℕ → Visible) (calls : ℕ → Option (UnderWay K V Q))
       (s : Stand w c blocks sights calls) (i : ℕ) (u : CallOnKey K V Q) (has : calls i ≡ Some (OnKey u)) (none : IsRowOfCall u.call.stands → ⊥)
       (rests : w.row i ≡ Rests) (knows : Knows V same hash asks setting slot w c (seen_by blocks (sights (slot i))) i u u.call)
       (m2 : Mem (Node K V)) (p2 : KeyCall K V Q) (progress : Called (Node K V)) (may : May Can Took value_at w.memory (call_plan asks same hash u.call))
       (steps : Steps Took value_at w.memory (call_plan asks same hash u.call) m2 (p2, progress)) where
     abbrev ToldSo : World (Node K V) → Chart K → Blocks → Type 0
-    ToldSo = StepTold V same hash asks setting slot c i u p2 progress
+    ToldSo = StepOutcome V same hash asks setting slot c i u p2 progress
 
     abbrev pub ComesTo : Type 0
-    ComesTo = Went same hash (in_slot setting (slot i)) i w c (seen_by blocks (sights (slot i))) m2 (StepTold V same hash asks setting slot c i u p2 progress)
+    ComesTo = StepSpec same hash (in_slot setting (slot i)) i w c (seen_by blocks (sights (slot i))) m2 (StepOutcome V same hash asks setting slot c i u p2 progress)
 
     its_map : IsMapIn same hash (in_slot setting (slot i)) w c (seen_by blocks (sights (slot i)))
     its_map = seen_map lawful w c blocks sights calls s i u has m2 p2 progress
 
     abbrev after_by : ComesTo → CallOnKey K V Q
-    after_by went = record { keys = u.keys; pair = u.pair; began = u.began; change = change_told V same hash asks setting slot went.told; call = p2 }
+    after_by went = record { keys = u.keys; pair = u.pair; began = u.began; change = change_observed V same hash asks setting slot went.told; call = p2 }
 
     -- what it does by its kind
     rooms : RoomsAt u.call.stands
@@ -188,12 +188,12 @@ module _ {K V Q : Type 0} (same : K → K → Bool) (hash : K → ℕ) (asks : Q
         rooms_at (kind_of u.pair).present (kind_of u.pair).absent (kind_of u.pair).takes u.call.stands fit.4
 
     fits_on : (m : Mem (Node K V)) → Steps Took value_at w.memory (call_plan asks same hash u.call) m (p2, progress) → (kind : Kind) → IsOfKind kind u.call u.call.stands
-        → ComesFit kind.present kind.absent kind.takes (p2, progress)
+        → StepFits kind.present kind.absent kind.takes (p2, progress)
     fits_on m then kind fit = calls_keep_their_kind asks same hash kind.present kind.absent kind.takes u.call fit w.memory m (p2, progress) then
 
     -- after it calls are few as before
     pub stay_few : (went : ComesTo) → is_incremental setting.mode ≡ false
-        → StayFew (with_at calls i (next_of (record { keys = u.keys; pair = u.pair; began = u.began; change = change_told V same hash asks setting slot went.told; call = p2 }) progress)) went.c2
+        → StayFew (with_at calls i (next_of (record { keys = u.keys; pair = u.pair; began = u.began; change = change_observed V same hash asks setting slot went.told; call = p2 }) progress)) went.c2
     stay_few went blocking =
         few_step calls i (OnKey u) has (next_of (after_by went) progress) c went.c2 (s.few blocking) same hash setting.mode i s.ground.map.map.rule went.moved
         (λ t. IsToClaim t p2.stands) (λ v is t claims. subst (ClaimsInto t) (next_is (after_by went) progress v is) claims)
@@ -202,7 +202,7 @@ module _ {K V Q : Type 0} (same : K → K → Bool) (hash : K → ℕ) (asks : Q
 
     -- in its table
     module _ (facts : CallFacts same hash asks w i (in_slot setting (slot i)) c (seen_by blocks (sights (slot i))) u.keys u.change u.call)
-        (fresh : Went same hash (in_slot setting (slot i)) i w c (seen_by blocks (sights (slot i))) m2 (λ w2 c2 blocks2. CallTold same hash asks i (in_slot setting (slot i)) u.keys c u.change u.call w2 c2 blocks2 p2 progress)) where
+        (fresh : StepSpec same hash (in_slot setting (slot i)) i w c (seen_by blocks (sights (slot i))) m2 (λ w2 c2 blocks2. CallOutcome same hash asks i (in_slot setting (slot i)) u.keys c u.change u.call w2 c2 blocks2 p2 progress)) where
       abbrev pub fresh_went : ComesTo
       fresh_went = went_as same hash (in_slot setting (slot i)) i w c (seen_by blocks (sights (slot i))) m2 _ ToldSo (λ w2 c2 blocks2 map moved blocks_same told. Fresh told) fresh
 
@@ -240,8 +240,8 @@ module _ {K V Q : Type 0} (same : K → K → Bool) (hash : K → ℕ) (asks : Q
       fresh_leads = leads lawful w c blocks sights calls s i u has m2 p2 progress rests knows fresh_went fresh_pair (stay_few fresh_went)
 
     -- in one that the root has left
-    late_leads : is_incremental setting.mode ≡ false → u.change ≡ Unchanged → LateCallFacts same hash asks w i (in_slot setting (slot i)) c (seen_by blocks (sights (slot i))) u.keys u.began u.call
-        → Went same hash (in_slot setting (slot i)) i w c (seen_by blocks (sights (slot i))) m2 (λ w2 c2 blocks2. LateTold same hash asks i (in_slot setting (slot i)) u.keys u.began c u.call w2 c2 blocks2 p2 progress)
+    late_leads : is_incremental setting.mode ≡ false → u.change ≡ Unchanged → SupersededCallFacts same hash asks w i (in_slot setting (slot i)) c (seen_by blocks (sights (slot i))) u.keys u.began u.call
+        → StepSpec same hash (in_slot setting (slot i)) i w c (seen_by blocks (sights (slot i))) m2 (λ w2 c2 blocks2. SupersededCallOutcome same hash asks i (in_slot setting (slot i)) u.keys u.began c u.call w2 c2 blocks2 p2 progress)
         → StepsTogether V same hash asks setting slot w c blocks sights calls i u m2 p2 progress
     late_leads blocking unchanged facts late = leads lawful w c blocks sights calls s i u has m2 p2 progress rests knows went its_pair (stay_few went)
       where
@@ -263,7 +263,7 @@ module _ {K V Q : Type 0} (same : K → K → Bool) (hash : K → ℕ) (asks : Q
             (λ never. late_never_asks_on same hash asks w i (in_slot setting (slot i)) c (seen_by blocks (sights (slot i))) u.keys u.began u.call facts never none late.w2.memory (p2, progress) may then)
             (λ pair never keeps. late_keeps_after same hash (in_slot setting (slot i)) i asks w late.w2 c late.c2 (seen_by blocks (sights (slot i))) late.blocks2 u.keys u.began pair u.call p2 progress facts late.told.facts none may
             then never (subst (λ (x : Change). KeepsIt w.memory c (seen_by blocks (sights (slot i))) pair x u.call u.call.stands) unchanged keeps))
-            (λ its asked keeps. let was = subst (λ (x : Change). KeepsTold hash w.memory c (seen_by blocks (sights (slot i))) its asked x u.call u.call.stands) unchanged keeps.0 in (
+            (λ its asked keeps. let was = subst (λ (x : Change). RemembersReplies hash w.memory c (seen_by blocks (sights (slot i))) its asked x u.call u.call.stands) unchanged keeps.0 in (
               late_told_after same hash (in_slot setting (slot i)) i asks w late.w2 c late.c2 (seen_by blocks (sights (slot i))) late.blocks2 its_map late.map stays
                   lawful.fits u.keys u.began its asked u.call p2 progress facts late.told.facts none may then rooms was,
               once_to hash c late.c2 (seen_by blocks (sights (slot i))) late.blocks2 u.keys asked its u.call.replies u.call.stands p2 progress
@@ -272,7 +272,7 @@ module _ {K V Q : Type 0} (same : K → K → Bool) (hash : K → ℕ) (asks : Q
                   lawful.fits u.keys u.began its asked key u.call p2 progress facts late.told.facts then rooms was) keeps.1,
             )) (fits_on late.w2.memory then) knows.pair
 
-  pub stand_together : CallsStandTogether V same hash asks setting slot
+  pub stand_together : CallsPreserveTheInvariant V same hash asks setting slot
   stand_together lawful initial w c blocks sights calls s i u has none = by (s.stand i (OnKey u) has)
     where
       Comes : Type 0
@@ -294,6 +294,6 @@ module _ {K V Q : Type 0} (same : K → K → Bool) (hash : K → ℕ) (asks : Q
           (λ t made. claim_few calls c (s.few late.blocking) t made) late none in
           (keeps.0, λ m2 p2 progress steps. late_leads lawful w c blocks sights calls s i u has none rests knows m2 p2 progress keeps.0 steps late.blocking unchanged late (keeps.1 m2 p2 progress steps))
 
-      by : Stands V same hash asks setting slot w c (seen_by blocks (sights (slot i))) i (OnKey u) → Comes
+      by : IsAtPoint V same hash asks setting slot w c (seen_by blocks (sights (slot i))) i (OnKey u) → Comes
       by (inl (rests, knows)) = by_facts rests knows knows.facts
       by (inr (row, is_row, k)) = absurd (none is_row)

@@ -11,7 +11,7 @@ use Rattle.map_facts_late.specs.Given.RawCall.{call_plan}
 use Rattle.map_facts_late.specs.Given.RawDeclared.machines.answer.Called.{Called}
 use Rattle.map_facts_late.specs.Given.RawDeclared.machines.call.KeyCall.{KeyCall}
 use Rattle.many_calls.specs.Sights.{seen_by}
-use Rattle.many_calls.specs.Together.{OnKey, HasCall, Stands, RowStepsTogether, RowsStandTogether}
+use Rattle.many_calls.specs.Together.{OnKey, HasCall, IsAtPoint, RowStepsTogether, RowsPreserveTheInvariant}
 use Rattle.many_calls.specs.Rows.{row_of}
 use Rattle.many_calls.proofs.Together.Begun as begun
 use Rattle.many_calls.proofs.Together.BeginsRows.{begun_row, begun_together}
@@ -20,13 +20,13 @@ use Rattle.many_calls.proofs.Together.Slots.{step_leaves, begun_leaves, call_sha
 use Rattle.many_calls.proofs.Together.WithinRows.{within_row}
 
 module _ {K V Q : Type 0} (same : K → K → Bool) (hash : K → ℕ) (asks : Q → K → Bool) (setting : Setting) (slot : ℕ → ℕ) where
-  pub rows_stand_together : RowsStandTogether V same hash asks setting slot
+  pub rows_stand_together : RowsPreserveTheInvariant V same hash asks setting slot
   rows_stand_together lawful w c blocks sights calls s i u has is_row = by (s.stand i (OnKey u) has)
     where
       its : HasCall calls i
       its none = cc (has, none)
 
-      by : Stands V same hash asks setting slot w c (seen_by blocks (sights (slot i))) i (OnKey u)
+      by : IsAtPoint V same hash asks setting slot w c (seen_by blocks (sights (slot i))) i (OnKey u)
           → May Can Took value_at w.memory (call_plan asks same hash u.call)
           × ((m2 : Mem (Node K V)) (p2 : KeyCall K V Q) (progress : Called (Node K V)) → Steps Took value_at w.memory (call_plan asks same hash u.call) m2 (p2, progress)
           → RowStepsTogether V same hash asks setting slot w c blocks sights calls i u m2 p2 progress)

@@ -43,12 +43,12 @@ use Rattle.map_facts_late.specs.Given.PointsTold.{IsRowOf, IsRowOfCopier}
 use Rattle.map_facts_late.specs.Given.PointsSteps.{AreLawful}
 use Rattle.map_facts_late.specs.Covers.{Came}
 use Rattle.map_facts_late.specs.FactsSweeps.{CopiesPairs}
-use Rattle.map_facts_late.specs.ToldSweeps.{word_told, IsRowOfSweep}
+use Rattle.map_facts_late.specs.ToldSweeps.{word_shown, IsRowOfSweep}
 use Rattle.map_facts_late.proofs.Swept.Laws.{sweeps_go_on}
 use Rattle.map_facts_late.proofs.Swept.Sweeps.Stands.{quiet_further}
 use Rattle.many_calls.specs.OverAll.{CallOverAll, gone_on, row_of_sweep, past_sweeping, sweep_once_over, SweepClaims}
 use Rattle.many_calls.specs.Rows.{row_of_disposal, row_of_copier, past_copying}
-use Rattle.many_calls.specs.Sights.{Sight, seen_by}
+use Rattle.many_calls.specs.Sights.{Visible, seen_by}
 use Rattle.many_calls.specs.Together.{UnderWay, OverAll, HasCall, next_over_all, in_slot, IsReclaimed, KnowsSweep, Together}
 use Rattle.many_calls.proofs.Sights.Seen.{map_seen}
 use Rattle.many_calls.proofs.Together.Few.{few_with, few_without, sweep_row_claims_none, retired_claims_none}
@@ -72,7 +72,7 @@ at_row P copying disposing at.Over row = absurd row
 at_row P copying disposing (at.Refused fault) row = absurd row
 
 module _ {K V Q : Type 0} (same : K → K → Bool) (hash : K → ℕ) (asks : Q → K → Bool) (setting : Setting) (slot : ℕ → ℕ) (lawful : AreLawful same hash)
-    (w : World (Node K V)) (c : Chart K) (blocks : Blocks) (sights : ℕ → Sight) (calls : ℕ → Option (UnderWay K V Q)) (s : Together V same hash asks setting slot w c blocks sights calls)
+    (w : World (Node K V)) (c : Chart K) (blocks : Blocks) (sights : ℕ → Visible) (calls : ℕ → Option (UnderWay K V Q)) (s : Together V same hash asks setting slot w c blocks sights calls)
     (i : ℕ) (o : CallOverAll) (inside : IsInside (w.uses (slot i))) where
   abbrev pub KnowsOf : World (Node K V) → Sweep → Type 0
   KnowsOf v p = KnowsSweep V same hash asks setting slot v c (seen_by blocks (sights (slot i))) i o p
@@ -85,7 +85,7 @@ module _ {K V Q : Type 0} (same : K → K → Bool) (hash : K → ℕ) (asks : Q
     pub together : Together V same hash asks setting slot w2 c blocks sights (with_at calls i (next_over_all (gone_on o end.0) end.1))
     pub over : (IsRowOfSweep end.0.stands → ⊥) → w2.row i ≡ Rests
     pub rests : next_over_all {K = K} {V = V} {Q = Q} (gone_on o end.0) end.1 ≡ None → w2.row i ≡ Rests
-    pub silent : word_told end.1 ≡ None
+    pub silent : word_shown end.1 ≡ None
     pub comes : end.1 ≡ swept.Done → Came c o.entered o.sweep.purpose o.done
     pub gives : (value : Node K V) → end.1 ≡ swept.Gave value → IsReclaimed w w2 value
 

@@ -31,9 +31,9 @@ use Rattle.map_facts_late.specs.Given.PointsSteps.{AreLawful}
 use Rattle.map_facts_late.specs.FactsSweeps.{CopiesTable}
 use Rattle.map_facts_late.specs.ToldSweeps.{IsRowOfSweep}
 use Rattle.many_calls.specs.OverAll.{CallOverAll, row_of_sweep, past_sweeping}
-use Rattle.many_calls.specs.Sights.{Sight, seen_by}
-use Rattle.many_calls.specs.Sweeps.{SweepRowsTogether, SweepRowsStandTogether}
-use Rattle.many_calls.specs.Together.{UnderWay, OverAll, HasCall, in_slot, Stands, Together}
+use Rattle.many_calls.specs.Sights.{Visible, seen_by}
+use Rattle.many_calls.specs.Sweeps.{SweepRowsTogether, SweepRowsPreserveTheInvariant}
+use Rattle.many_calls.specs.Together.{UnderWay, OverAll, HasCall, in_slot, IsAtPoint, Together}
 use Rattle.many_calls.proofs.Together.Begun as begun
 use Rattle.many_calls.proofs.Together.Begun.{RowBegun}
 use Rattle.many_calls.proofs.Together.Disposals.{disposal_begins}
@@ -45,7 +45,7 @@ use Rattle.many_calls.proofs.Together.Slots.{step_leaves, begun_leaves, sweep_sh
 use Rattle.many_calls.proofs.Together.SweepRows.{KnowsOf, seen_map, at_row, within_row}
 
 module _ {K V Q : Type 0} (same : K → K → Bool) (hash : K → ℕ) (asks : Q → K → Bool) (setting : Setting) (slot : ℕ → ℕ) (lawful : AreLawful same hash)
-    (w : World (Node K V)) (c : Chart K) (blocks : Blocks) (sights : ℕ → Sight) (calls : ℕ → Option (UnderWay K V Q)) (s : Together V same hash asks setting slot w c blocks sights calls)
+    (w : World (Node K V)) (c : Chart K) (blocks : Blocks) (sights : ℕ → Visible) (calls : ℕ → Option (UnderWay K V Q)) (s : Together V same hash asks setting slot w c blocks sights calls)
     (i : ℕ) (o : CallOverAll) (inside : IsInside (w.uses (slot i))) (rests : w.row i ≡ Rests) where
   abbrev Knows : World (Node K V) → Sweeping → Type 0
   Knows v x = KnowsOf same hash asks setting slot lawful w c blocks sights calls s i o inside v (standing o.sweep x)
@@ -123,13 +123,13 @@ module _ {K V Q : Type 0} (same : K → K → Bool) (hash : K → ℕ) (asks : Q
       (λ d row. by_disposal d d.stands row)
 
 module _ {K V Q : Type 0} (same : K → K → Bool) (hash : K → ℕ) (asks : Q → K → Bool) (setting : Setting) (slot : ℕ → ℕ) where
-  pub sweep_rows_stand_together : SweepRowsStandTogether V same hash asks setting slot
+  pub sweep_rows_stand_together : SweepRowsPreserveTheInvariant V same hash asks setting slot
   sweep_rows_stand_together lawful w c blocks sights calls s i o has is_row = by (s.stand i (OverAll o) has)
     where
       its : HasCall calls i
       its none = cc (has, none)
 
-      by : Stands V same hash asks setting slot w c (seen_by blocks (sights (slot i))) i (OverAll o)
+      by : IsAtPoint V same hash asks setting slot w c (seen_by blocks (sights (slot i))) i (OverAll o)
           → May Can Took value_at w.memory (sweep_plan hash o.sweep)
           × ((m2 : Mem (Node K V)) (p2 : Sweep) (end : Swept (Node K V)) → Steps Took value_at w.memory (sweep_plan hash o.sweep) m2 (p2, end)
           → SweepRowsTogether V same hash asks setting slot w c blocks sights calls i o m2 p2 end)

@@ -18,20 +18,20 @@ use Rattle.map_facts_late.specs.Given.ReservesDeclared.sweep.Swept.{Swept}
 use Rattle.map_facts_late.specs.Given.ReservesDeclared.sweep.Swept.TheVariants as swept
 use Rattle.map_facts_late.specs.Given.RuleChart.{Still, Chart}
 use Rattle.map_facts_late.specs.Given.RuleWords.{Blocks}
-use Rattle.map_facts_late.specs.Given.RuleInWorld.{IsMapIn, Went}
+use Rattle.map_facts_late.specs.Given.RuleInWorld.{IsMapIn, StepSpec}
 use Rattle.map_facts_late.specs.Given.RuleMoments.{Remembers}
 use Rattle.map_facts_late.proofs.Given.RuleWorld.WentTold.{went_as}
 use Rattle.map_facts_late.specs.Given.PointsSteps.{AreLawful}
 use Rattle.map_facts_late.specs.Covers.{Came, NamesPair, CoversAt}
 use Rattle.map_facts_late.specs.CoversSweeps.{DoneAt, CoversOn}
 use Rattle.map_facts_late.specs.FactsSweeps.{CopiesPairs, SweepingFacts, SweepFacts}
-use Rattle.map_facts_late.specs.ToldSweeps.{IsRowOfSweep, TellsSo, RemovesPair, SweepAfter, SweepTold}
+use Rattle.map_facts_late.specs.ToldSweeps.{IsRowOfSweep, OutcomeAgrees, RemovesPair, SweepAfter, SweepOutcome}
 use Rattle.map_facts_late.proofs.Swept.Covers.Shows.{names_one, shows_since, came_at_end}
 use Rattle.map_facts_late.proofs.Swept.Laws.{sweeps_begin, sweeps_keep_the_map, sweeps_cover}
-use Rattle.many_calls.specs.OverAll.{CallOverAll, verdict, begun_over_all, come_to, SweepClaims, TriesTold, RemovesTold}
-use Rattle.many_calls.specs.Sights.{Sight, seen_by}
-use Rattle.many_calls.specs.Sweeps.{SweepsBeginTogether, SweepStepsTogether, SweepsStandTogether}
-use Rattle.many_calls.specs.Together.{UnderWay, OverAll, ClaimsInto, next_over_all, in_slot, StayFew, KnowsSweep, Stands, Together}
+use Rattle.many_calls.specs.OverAll.{CallOverAll, verdict, begun_over_all, come_to, SweepClaims, TriesAsReplied, RemovesAsReplied}
+use Rattle.many_calls.specs.Sights.{Visible, seen_by}
+use Rattle.many_calls.specs.Sweeps.{SweepsBeginTogether, SweepStepsTogether, SweepsPreserveTheInvariant}
+use Rattle.many_calls.specs.Together.{UnderWay, OverAll, ClaimsInto, next_over_all, in_slot, StayFew, KnowsSweep, IsAtPoint, Together}
 use Rattle.many_calls.proofs.Claims.Sweeps.{sweep_claims_by}
 use Rattle.many_calls.proofs.Sights.Seen.{map_seen}
 use Rattle.many_calls.proofs.Together.Few.{few_begun, few_step, claim_few, over_all_next_is}
@@ -39,7 +39,7 @@ use Rattle.many_calls.proofs.Together.Fits.{map_in_slot, Fits, fits_some, fits_n
 use Rattle.many_calls.proofs.Together.Moves as moves
 
 module _ {K V Q : Type 0} (same : K → K → Bool) (hash : K → ℕ) (asks : Q → K → Bool) (setting : Setting) (slot : ℕ → ℕ) where
-  abbrev Stand : World (Node K V) → Chart K → Blocks → (ℕ → Sight) → (ℕ → Option (UnderWay K V Q)) → Type 0
+  abbrev Stand : World (Node K V) → Chart K → Blocks → (ℕ → Visible) → (ℕ → Option (UnderWay K V Q)) → Type 0
   Stand = Together V same hash asks setting slot
 
   same_call : (x y : UnderWay K V Q) → ◌≡◌ {A = Option (UnderWay K V Q)} (Some x) (Some y) → y ≡ x
@@ -65,7 +65,7 @@ module _ {K V Q : Type 0} (same : K → K → Bool) (hash : K → ℕ) (asks : Q
       it : CallOverAll
       it = begun_over_all c.now (in_slot setting (slot i)) purpose
 
-  module _ (lawful : AreLawful same hash) (w : World (Node K V)) (c : Chart K) (blocks : Blocks) (sights : ℕ → Sight) (calls : ℕ → Option (UnderWay K V Q))
+  module _ (lawful : AreLawful same hash) (w : World (Node K V)) (c : Chart K) (blocks : Blocks) (sights : ℕ → Visible) (calls : ℕ → Option (UnderWay K V Q))
       (s : Stand w c blocks sights calls) (i : ℕ) (o : CallOverAll) (has : calls i ≡ Some (OverAll o)) (none : IsRowOfSweep o.sweep.stands → ⊥) (rests : w.row i ≡ Rests)
       (knows : KnowsSweep V same hash asks setting slot w c (seen_by blocks (sights (slot i))) i o o.sweep)
       (m2 : Mem (Node K V)) (p2 : Sweep) (end : Swept (Node K V)) (may : May Can Took value_at w.memory (sweep_plan hash o.sweep))
@@ -77,7 +77,7 @@ module _ {K V Q : Type 0} (same : K → K → Bool) (hash : K → ℕ) (asks : Q
     its = in_slot setting (slot i)
 
     abbrev Tells : World (Node K V) → Chart K → Blocks → Type 0
-    Tells w2 c2 blocks2 = SweepTold same hash i its o.began c seen o.sweep w2 c2 blocks2 p2 end
+    Tells w2 c2 blocks2 = SweepOutcome same hash i its o.began c seen o.sweep w2 c2 blocks2 p2 end
 
     pub inside : IsInside (w.uses (slot i))
     inside = s.inside i (OverAll o) has
@@ -86,7 +86,7 @@ module _ {K V Q : Type 0} (same : K → K → Bool) (hash : K → ℕ) (asks : Q
     map = moves.part same hash asks setting slot lawful w c blocks sights calls s i inside m2 Tells (slot i) i inside
 
     -- a pair that it removes
-    removes_told : (c2 : Chart K) → RemovesPair hash c seen o.sweep c2 → RemovesTold o c c2
+    removes_told : (c2 : Chart K) → RemovesPair hash c seen o.sweep c2 → RemovesAsReplied o c c2
     removes_told c2 (word, n, tries, (t, borrowed, table, stands, is), current, gone) = inr (n, current, gone, by o.sweep.purpose refl)
       where
         named : NamesPair hash c seen word n
@@ -94,7 +94,7 @@ module _ {K V Q : Type 0} (same : K → K → Bool) (hash : K → ℕ) (asks : Q
 
         told : o.sweep.purpose ≡ Retains → o.told ≡ verdict n false
         told retains =
-            let h = subst (TriesTold hash c seen o.told o.sweep.purpose) tries knows.tries retains in
+            let h = subst (TriesAsReplied hash c seen o.told o.sweep.purpose) tries knows.tries retains in
             h.2 ∙ ap (λ (x : ℕ). verdict x false) (names_one hash lawful.fits w.memory c seen setting.root map.map.shows word h.0 n h.1 named)
 
         by : (purpose : Purpose) → o.sweep.purpose ≡ purpose
@@ -103,7 +103,7 @@ module _ {K V Q : Type 0} (same : K → K → Bool) (hash : K → ℕ) (asks : Q
         by Clears clears = inl clears
         by Retains retains = inr (retains, told retains)
 
-    module _ (went : Went same hash its i w c seen m2 Tells) (covers : CoversOn hash o.began c seen o.sweep went.c2 went.blocks2 p2 end) where
+    module _ (went : StepSpec same hash its i w c seen m2 Tells) (covers : CoversOn hash o.began c seen o.sweep went.c2 went.blocks2 p2 end) where
       -- what it has come to
       abbrev more : (entered2 : ℕ) × (done2 : List ℕ) × (o.began ≤ entered2) × DoneAt hash went.c2 went.blocks2 o.done done2 o.entered entered2 end o.sweep.stands × CoversAt hash went.c2 went.blocks2 p2 entered2 done2 p2.stands
       more = covers o.entered o.done knows.from knows.covers
@@ -121,14 +121,14 @@ module _ {K V Q : Type 0} (same : K → K → Bool) (hash : K → ℕ) (asks : Q
       abbrev blocks_then : Blocks
       blocks_then = moves.blocks_then same hash asks setting slot lawful w c blocks sights calls s i inside m2 Tells rests went (next_over_all after end) few
 
-      abbrev sights_then : ℕ → Sight
+      abbrev sights_then : ℕ → Visible
       sights_then = moves.sights_then same hash asks setting slot lawful w c blocks sights calls s i inside m2 Tells rests went (next_over_all after end) few
 
       pub remembers : Remembers (is_incremental setting.mode) c went.c2
       remembers = moves.remembers same hash asks setting slot lawful w c blocks sights calls s i inside m2 Tells rests went (next_over_all after end) few
 
       -- a retaining is not about to remove a pair
-      tries_none : (stage : Sweeping) → p2.stands ≡ stage → TriesTold hash went.c2 went.blocks2 o.told p2.purpose stage
+      tries_none : (stage : Sweeping) → p2.stands ≡ stage → TriesAsReplied hash went.c2 went.blocks2 o.told p2.purpose stage
       tries_none (at.Tries word) is = λ retains. absurd (went.told.stands.tries (sym went.told.stands.purpose ∙ retains) word is)
       tries_none _ is = tt
 
@@ -157,7 +157,7 @@ module _ {K V Q : Type 0} (same : K → K → Bool) (hash : K → ℕ) (asks : Q
           → Fits same hash asks setting slot went.w2 went.c2 blocks_then (sights_then (slot i)) i None
       ends stage is idle facts = fits_none same hash asks setting slot went.w2 went.c2 blocks_then (sights_then (slot i)) i (facts.idle (λ copies. idle (subst CopiesPairs is copies)))
 
-      pub mine : (x : Swept (Node K V)) → SweepAfter same hash i its o.began went.w2 went.c2 went.blocks2 (p2, x) → TellsSo o.sweep.stands p2.stands x
+      pub mine : (x : Swept (Node K V)) → SweepAfter same hash i its o.began went.w2 went.c2 went.blocks2 (p2, x) → OutcomeAgrees o.sweep.stands p2.stands x
           → Fits same hash asks setting slot went.w2 went.c2 blocks_then (sights_then (slot i)) i (next_over_all after x)
       mine swept.Goes h tells = goes_on h
       mine swept.Waits h tells = goes_on h
@@ -168,7 +168,7 @@ module _ {K V Q : Type 0} (same : K → K → Bool) (hash : K → ℕ) (asks : Q
       mine swept.Done h tells = ends at.Over tells (λ copies. copies) h
       mine (swept.Refused fault) h tells = ends (at.Refused fault) tells (λ copies. copies) h
 
-      pub changes : (went.c2.current ≡ c.current) ⊎ RemovesPair hash c seen o.sweep went.c2 → RemovesTold o c went.c2
+      pub changes : (went.c2.current ≡ c.current) ⊎ RemovesPair hash c seen o.sweep went.c2 → RemovesAsReplied o c went.c2
       changes (inl same_pairs) = inl same_pairs
       changes (inr removed) = removes_told went.c2 removed
 
@@ -192,7 +192,7 @@ module _ {K V Q : Type 0} (same : K → K → Bool) (hash : K → ℕ) (asks : Q
             (mine end went.told.facts went.told.stands.tells);
       }
 
-  pub sweeps_stand_together : SweepsStandTogether V same hash asks setting slot
+  pub sweeps_stand_together : SweepsPreserveTheInvariant V same hash asks setting slot
   sweeps_stand_together lawful initial w c blocks sights calls s i o has none = by (s.stand i (OverAll o) has)
     where
       Comes : Type 0
@@ -204,7 +204,7 @@ module _ {K V Q : Type 0} (same : K → K → Bool) (hash : K → ℕ) (asks : Q
       its_map : IsMapIn same hash (in_slot setting (slot i)) w c (seen_by blocks (sights (slot i)))
       its_map = map_seen same hash (in_slot setting (slot i)) w c blocks (sights (slot i)) (map_in_slot same hash setting w c blocks (slot i) s.ground.map) (s.ground.sight (slot i) (s.inside i (OverAll o) has)).0
 
-      by : Stands V same hash asks setting slot w c (seen_by blocks (sights (slot i))) i (OverAll o) → Comes
+      by : IsAtPoint V same hash asks setting slot w c (seen_by blocks (sights (slot i))) i (OverAll o) → Comes
       by (inr (row, is_row, k)) = absurd (none is_row)
       by (inl (rests, k)) =
           let may = (sweeps_keep_the_map V same hash lawful (in_slot setting (slot i)) initial w i c (seen_by blocks (sights (slot i))) o.began o.sweep its_map s.ground.moments
@@ -215,6 +215,6 @@ module _ {K V Q : Type 0} (same : K → K → Bool) (hash : K → ℕ) (asks : Q
                 (λ blocking t made. claim_few calls c (s.few blocking) t made) k.began_before k.facts none m2 p2 end steps in
                 sweep_leads lawful w c blocks sights calls s i o has none rests k m2 p2 end may steps
                 (went_as same hash (in_slot setting (slot i)) i w c (seen_by blocks (sights (slot i))) m2 _
-                (λ w2 c2 blocks2. SweepTold same hash i (in_slot setting (slot i)) o.began c (seen_by blocks (sights (slot i))) o.sweep w2 c2 blocks2 p2 end)
+                (λ w2 c2 blocks2. SweepOutcome same hash i (in_slot setting (slot i)) o.began c (seen_by blocks (sights (slot i))) o.sweep w2 c2 blocks2 p2 end)
                 (λ w2 c2 blocks2 map moved blocks_same told. told.0) covered) covered.told.1,
           )

@@ -21,16 +21,16 @@ use Rattle.map_facts_late.specs.ToldSweeps.{IsRowOfSweep}
 use Rattle.map_facts_late.proofs.Swept.Covers.Shows.{since_began, names_one}
 use Rattle.map_facts_late.proofs.Swept.Laws.{sweeps_are_told, sweeps_are_told_on}
 use Rattle.map_facts_late.proofs.Swept.Sweeps.Stands.{IsQuiet, quiet_further}
-use Rattle.many_calls.specs.OverAll.{Verdict, verdict, CallOverAll, gone_on, told_of, SweepClaims, TriesTold}
-use Rattle.many_calls.specs.Sights.{Sight, seen_by}
-use Rattle.many_calls.specs.Sweeps.{ShowsPair, TakesTold, SweepsToldTogether, WalksStopTogether}
-use Rattle.many_calls.specs.Together.{UnderWay, OverAll, HasCall, in_slot, KnowsSweep, Stands, Together}
+use Rattle.many_calls.specs.OverAll.{Verdict, verdict, CallOverAll, gone_on, with_verdict, SweepClaims, TriesAsReplied}
+use Rattle.many_calls.specs.Sights.{Visible, seen_by}
+use Rattle.many_calls.specs.Sweeps.{NamesPairSince, TakesReply, SweepRepliesPreserveTheInvariant, WalksStopTogether}
+use Rattle.many_calls.specs.Together.{UnderWay, OverAll, HasCall, in_slot, KnowsSweep, IsAtPoint, Together}
 use Rattle.many_calls.proofs.Sights.Seen.{map_seen}
 use Rattle.many_calls.proofs.Together.Few.{few_with, few_without, quiet_claims_none}
 use Rattle.many_calls.proofs.Together.Fits.{map_in_slot, fits_some, fits_none, fits_of, stands_by}
 
 -- where it is quiet it is about to remove nothing
-pub quiet_tries : {K : Type 0} (hash : K → ℕ) (c : Chart K) (blocks : Blocks) (told : Option Verdict) (purpose : Purpose) (stage : Sweeping) → IsQuiet stage → TriesTold hash c blocks told purpose stage
+pub quiet_tries : {K : Type 0} (hash : K → ℕ) (c : Chart K) (blocks : Blocks) (told : Option Verdict) (purpose : Purpose) (stage : Sweeping) → IsQuiet stage → TriesAsReplied hash c blocks told purpose stage
 quiet_tries hash c blocks told purpose (at.Tries word) quiet = absurd quiet
 quiet_tries hash c blocks told purpose _ quiet = tt
 
@@ -47,7 +47,7 @@ ready_quiet p = by (nat_lt p.place p.table.len)
     by false = tt
 
 module _ {K V Q : Type 0} (same : K → K → Bool) (hash : K → ℕ) (asks : Q → K → Bool) (setting : Setting) (slot : ℕ → ℕ) where
-  module _ (lawful : AreLawful same hash) (w : World (Node K V)) (c : Chart K) (blocks : Blocks) (sights : ℕ → Sight) (calls : ℕ → Option (UnderWay K V Q))
+  module _ (lawful : AreLawful same hash) (w : World (Node K V)) (c : Chart K) (blocks : Blocks) (sights : ℕ → Visible) (calls : ℕ → Option (UnderWay K V Q))
       (s : Together V same hash asks setting slot w c blocks sights calls) (i : ℕ) (o : CallOverAll) (has : calls i ≡ Some (OverAll o)) where
     abbrev seen : Blocks
     seen = seen_by blocks (sights (slot i))
@@ -93,7 +93,7 @@ module _ {K V Q : Type 0} (same : K → K → Bool) (hash : K → ℕ) (asks : Q
         asked : CoversAt hash c seen o.sweep o.entered o.done (at.Asks word)
         asked = subst (CoversAt hash c seen o.sweep o.entered o.done) is k.covers
 
-        about : ShowsPair hash c seen o word
+        about : NamesPairSince hash c seen o word
         about = (asked.1, asked.2, since_began hash c seen o.began o.entered k.from o.done o.sweep asked.1 asked.3.was)
 
         module _ (n : ℕ) (named : NamesPair hash c seen word n) where
@@ -112,7 +112,7 @@ module _ {K V Q : Type 0} (same : K → K → Bool) (hash : K → ℕ) (asks : Q
               (done_is keeps h.0 (subst (DoneReplied hash c seen o.done h.0 keeps) is h.1))
               (subst (λ (x : Sweeping). CoversAt hash c seen (reply_at x o.sweep keeps) o.entered h.0 (reply_at x o.sweep keeps).stands) is h.2)
 
-          tries : (keeps : Bool) → TriesTold hash c seen (verdict n keeps) (after keeps).purpose (after keeps).stands
+          tries : (keeps : Bool) → TriesAsReplied hash c seen (verdict n keeps) (after keeps).purpose (after keeps).stands
           tries true = quiet_tries hash c seen (verdict n true) (further o.sweep).purpose (further o.sweep).stands (quiet_further o.sweep)
           tries false = λ retains. (n, named, refl)
 
@@ -123,7 +123,7 @@ module _ {K V Q : Type 0} (same : K → K → Bool) (hash : K → ℕ) (asks : Q
           abbrev told_with : Bool → Sweep → CallOverAll
           told_with keeps p = record { began = o.began; entered = o.entered; done = cond keeps (n ∷ o.done) o.done; told = verdict n keeps; sweep = p }
 
-          replied : (keeps : Bool) → With (told_of o n keeps)
+          replied : (keeps : Bool) → With (with_verdict o n keeps)
           replied keeps =
               subst (λ (x : Sweeping). With (told_with keeps (reply_at x o.sweep keeps))) (sym is)
               (goes_on (told_with keeps (after keeps)) (record {
@@ -134,7 +134,7 @@ module _ {K V Q : Type 0} (same : K → K → Bool) (hash : K → ℕ) (asks : Q
                 tries = tries keeps;
               }) (claims keeps))
 
-    by : Stands V same hash asks setting slot w c seen i (OverAll o) → TakesTold hash c seen o With
+    by : IsAtPoint V same hash asks setting slot w c seen i (OverAll o) → TakesReply hash c seen o With
     by (inl (rests, k)) = record {
       next = next_on rests k o.sweep.stands refl;
       asks_about = about rests k;
@@ -146,7 +146,7 @@ module _ {K V Q : Type 0} (same : K → K → Bool) (hash : K → ℕ) (asks : Q
       replied = λ word n is. absurd (subst IsRowOfSweep is row);
     }
 
-  pub sweeps_told_together : SweepsToldTogether V same hash asks setting slot
+  pub sweeps_told_together : SweepRepliesPreserveTheInvariant V same hash asks setting slot
   sweeps_told_together lawful w c blocks sights calls s i o has = by lawful w c blocks sights calls s i o has (s.stand i (OverAll o) has)
 
   -- a walk that is ready copies nothing, and is within no row
@@ -156,7 +156,7 @@ module _ {K V Q : Type 0} (same : K → K → Bool) (hash : K → ℕ) (asks : Q
       its_call : HasCall calls i
       its_call none = cc (has, none)
 
-      by : Stands V same hash asks setting slot w c (seen_by blocks (sights (slot i))) i (OverAll o) → Together V same hash asks setting slot w c blocks sights (with_at calls i None) × (w.row i ≡ Rests)
+      by : IsAtPoint V same hash asks setting slot w c (seen_by blocks (sights (slot i))) i (OverAll o) → Together V same hash asks setting slot w c blocks sights (with_at calls i None) × (w.row i ≡ Rests)
       by (inl (rests, k)) = (
         stands_by same hash asks setting slot w c blocks sights calls i None s.ground
             (fits_none same hash asks setting slot w c blocks (sights (slot i)) i (k.facts.idle (λ copies. subst CopiesPairs ready copies)))

@@ -17,16 +17,16 @@ use Rattle.map_facts_late.specs.Given.RuleMaps.{spot_of}
 use Rattle.map_facts_late.specs.Given.RuleInWorld.{IsMapIn, Moved, SameBlocks}
 use Rattle.map_facts_late.specs.Given.RuleLasts.{Lasts}
 use Rattle.map_facts_late.specs.Given.RuleMoments.{Moments, Remembers}
-use Rattle.map_facts_late.specs.Given.PointsFactsCalls.{IsCopying, Change, Unchanged, Tells, CallFacts}
+use Rattle.map_facts_late.specs.Given.PointsFactsCalls.{IsCopying, Change, Unchanged, AnswersChange, CallFacts}
 use Rattle.map_facts_late.specs.Given.PointsFactsCopies.{HasDone, ClaimsNone}
 use Rattle.map_facts_late.specs.Given.PointsFactsCopiesBlocking.{HasNoShares}
 use Rattle.map_facts_late.specs.Given.PointsFactsIdle.{IsIdle}
-use Rattle.map_facts_late.specs.Given.PointsTold.{HasAnswered, CallFactsAfter, MovedBeside}
-use Rattle.map_facts_late.specs.LateCalls.{LateCallFacts}
-use Rattle.map_facts_late.specs.LateTold.{LateAfter, LateTold}
+use Rattle.map_facts_late.specs.Given.PointsTold.{HasAnswered, CallFactsAfter, MovedBesideCopying}
+use Rattle.map_facts_late.specs.LateCalls.{SupersededCallFacts}
+use Rattle.map_facts_late.specs.LateTold.{SupersededCallAfter, SupersededCallOutcome}
 use Rattle.many_calls.specs.Pairs.{RemovesNone}
 use Rattle.many_calls.specs.Since.{WasChanged, SoSince, Since}
-use Rattle.many_calls.specs.Together.{CallOnKey, in_slot, StepTold, Fresh, Late, change_told, AnswersOnce, RefusesOnce}
+use Rattle.many_calls.specs.Together.{CallOnKey, in_slot, StepOutcome, Fresh, Late, change_observed, AnswersOnce, RefusesOnce}
 use Rattle.many_calls.proofs.Since.Given.{GivenTo, answers_stored, answers_left}
 use Rattle.many_calls.proofs.Since.PairsOn.{looks_so}
 use Rattle.many_calls.proofs.Since.Began.{has_answered, so_since_on}
@@ -49,10 +49,10 @@ module _ {K V Q : Type 0} (same : K → K → Bool) (hash : K → ℕ) (asks : Q
 
   module _ (i : ℕ) (u : CallOnKey K V Q) (w w2 : World (Node K V)) (c c2 : Chart K) (blocks blocks2 : Blocks) (p2 : KeyCall K V Q) (progress : Called (Node K V)) where
     abbrev Told : Type 0
-    Told = StepTold V same hash asks setting slot c i u p2 progress w2 c2 blocks2
+    Told = StepOutcome V same hash asks setting slot c i u p2 progress w2 c2 blocks2
 
     abbrev changed_to : Told → Change
-    changed_to told = change_told V same hash asks setting slot told
+    changed_to told = change_observed V same hash asks setting slot told
 
     fresh_after : (change : Change) (it : Called (Node K V)) → CallFactsAfter same hash asks i (in_slot setting (slot i)) u.keys w2 c2 blocks2 change p2 it → KnowsAfter w2 c2 blocks2 i u change p2 it
     fresh_after change called.Goes facts = inl facts
@@ -63,12 +63,12 @@ module _ {K V Q : Type 0} (same : K → K → Bool) (hash : K → ℕ) (asks : Q
     fresh_after change (called.Done answer) facts = facts.1
     fresh_after change (called.Refused fault) facts = facts.0
 
-    known : CallFacts same hash asks w2 i (in_slot setting (slot i)) c2 blocks2 u.keys Unchanged p2 ⊎ LateCallFacts same hash asks w2 i (in_slot setting (slot i)) c2 blocks2 u.keys u.began p2
+    known : CallFacts same hash asks w2 i (in_slot setting (slot i)) c2 blocks2 u.keys Unchanged p2 ⊎ SupersededCallFacts same hash asks w2 i (in_slot setting (slot i)) c2 blocks2 u.keys u.began p2
         → KnowsOfCall same hash asks (in_slot setting (slot i)) i w2 c2 blocks2 u.keys u.began Unchanged p2
     known (inl fresh) = inl fresh
     known (inr late) = inr (refl, late)
 
-    late_after : is_incremental setting.mode ≡ false → (it : Called (Node K V)) → LateAfter same hash asks i (in_slot setting (slot i)) u.keys u.began w2 c2 blocks2 p2 it → KnowsAfter w2 c2 blocks2 i u Unchanged p2 it
+    late_after : is_incremental setting.mode ≡ false → (it : Called (Node K V)) → SupersededCallAfter same hash asks i (in_slot setting (slot i)) u.keys u.began w2 c2 blocks2 p2 it → KnowsAfter w2 c2 blocks2 i u Unchanged p2 it
     late_after blocking called.Goes facts = known facts
     late_after blocking called.Waits facts = known facts
     late_after blocking (called.Gave value) facts = facts
@@ -81,7 +81,7 @@ module _ {K V Q : Type 0} (same : K → K → Bool) (hash : K → ℕ) (asks : Q
         (moments2 : Moments (is_incremental setting.mode) c2) (lasts : Lasts same (spot_of hash) (is_incremental setting.mode) c c2) (remembers : Remembers (is_incremental setting.mode) c c2)
         (blocks_same : SameBlocks c blocks blocks2) (moved : Moved same hash setting.mode i c c2) (since : Since hash c blocks u.keys u.began u.change u.call.stands) where
       -- in a table that the root has left
-      late_so : u.change ≡ Unchanged → LateTold same hash asks i (in_slot setting (slot i)) u.keys u.began c u.call w2 c2 blocks2 p2 progress → (answer : KeyAnswer) → HasAnswered answer p2.stands
+      late_so : u.change ≡ Unchanged → SupersededCallOutcome same hash asks i (in_slot setting (slot i)) u.keys u.began c u.call w2 c2 blocks2 p2 progress → (answer : KeyAnswer) → HasAnswered answer p2.stands
           → SoSince hash c2 blocks2 u.keys u.began answer
       late_so none told answer has = elim (has_answered answer u.call.stands) [
         | inl before ↦ so_since_on hash (is_incremental setting.mode) c c2 blocks blocks2 remembers lasts.stored lasts.keys blocks_same.pairs u.keys u.began answer (since.answered none answer before)
@@ -102,7 +102,7 @@ module _ {K V Q : Type 0} (same : K → K → Bool) (hash : K → ℕ) (asks : Q
       module _ (fits : (k : K) → hash k < 2 ^ 64) (change : Change) (answer : KeyAnswer) (pair : GivenTo hash u.keys w2.memory c2 blocks2 u.pair change p2 (called.Done answer)) where
         by_answer : ((change ≡ Unchanged) × SoSince hash c2 blocks2 u.keys u.began answer)
             ⊎ (((m : ℕ) × (u.began ≤ m) × (m < c2.now) × WasChanged hash c2 blocks2 u.keys m change)
-            × Tells same hash asks w2 i (in_slot setting (slot i)) c2 blocks2 u.keys change change answer)
+            × AnswersChange same hash asks w2 i (in_slot setting (slot i)) c2 blocks2 u.keys change change answer)
             → AnswersOnce V same hash asks setting slot w2 c2 blocks2 i u change answer
         by_answer (inl (none, so)) =
             (pair.0, inl (none, so, answers_left hash fits w2.memory c2 blocks2 setting.root map2.map.shows u.pair change none answer (looks_so hash c2 blocks2 u.keys u.began answer so) pair.1))
@@ -115,7 +115,7 @@ module _ {K V Q : Type 0} (same : K → K → Bool) (hash : K → ℕ) (asks : Q
           (answers_step same hash (in_slot setting (slot i)) w w2 c c2 blocks blocks2 map map2 moments moments2 lasts remembers blocks_same asks i u.keys u.change u.call p2 progress moved told u.began since answer done)
       answers_told fits (Late blocking none told) answer done pair =
           by_answer fits Unchanged answer (subst (GivenTo hash u.keys w2.memory c2 blocks2 u.pair Unchanged p2) done pair)
-          (inl (refl, late_so none told answer (subst (λ (x : Called (Node K V)). LateAfter same hash asks i (in_slot setting (slot i)) u.keys u.began w2 c2 blocks2 p2 x) done told.facts).0))
+          (inl (refl, late_so none told answer (subst (λ (x : Called (Node K V)). SupersededCallAfter same hash asks i (in_slot setting (slot i)) u.keys u.began w2 c2 blocks2 p2 x) done told.facts).0))
 
     -- where it is refused it has changed nothing
     refused_unchanged : (told : Told) (fault : Fault) → progress ≡ called.Refused fault → changed_to told ≡ Unchanged
@@ -135,6 +135,6 @@ module _ {K V Q : Type 0} (same : K → K → Bool) (hash : K → ℕ) (asks : Q
     after_told (Late blocking none told) = late_after blocking progress told.facts
 
     -- beside its copying it links a table, or changes the map
-    pub beside_told : Told → (IsCopying u.call.stands → ⊥) → MovedBeside hash setting.mode c c2
+    pub beside_told : Told → (IsCopying u.call.stands → ⊥) → MovedBesideCopying hash setting.mode c c2
     beside_told (Fresh told) = told.beside
     beside_told (Late blocking none told) = told.beside

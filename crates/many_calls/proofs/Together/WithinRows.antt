@@ -43,12 +43,12 @@ use Rattle.map_facts_late.specs.Given.RawDeclared.machines.call.Calling.{Calling
 use Rattle.map_facts_late.specs.Given.RawDeclared.machines.call.Calling.TheVariants as at
 use Rattle.map_facts_late.specs.Given.RuleChart.{Chart}
 use Rattle.map_facts_late.specs.Given.RuleWords.{Blocks}
-use Rattle.map_facts_late.specs.Given.PointsFactsCalls.{Change, Tells}
+use Rattle.map_facts_late.specs.Given.PointsFactsCalls.{Change, AnswersChange}
 use Rattle.map_facts_late.specs.Given.PointsTold.{IsRowOf, IsRowOfCopier, IsRowOfCall}
 use Rattle.map_facts_late.specs.Given.PointsSteps.{AreLawful}
 use Rattle.many_calls.specs.Rows.{row_of_disposal, row_of_copier, row_of, past_copying, past_row, once_over}
 use Rattle.many_calls.specs.Since.{ChangedSince}
-use Rattle.many_calls.specs.Sights.{Sight, seen_by}
+use Rattle.many_calls.specs.Sights.{Visible, seen_by}
 use Rattle.many_calls.specs.Claims.{IsToClaim}
 use Rattle.many_calls.proofs.Together.Few.{few_with, few_without, row_claims_none, retired_claims_none}
 use Rattle.many_calls.specs.Together.{OnKey, CallOnKey, UnderWay, HasCall, next_of, in_slot, Knows, Together, AnswersOnce, RefusesOnce, IsReclaimed}
@@ -58,7 +58,7 @@ use Rattle.many_calls.proofs.Together.RowSteps.{never_refused, RowCame, settle_m
 use Rattle.many_calls.proofs.Together.Fits.{fits_some, fits_none, stands_by}
 
 module _ {K V Q : Type 0} (same : K → K → Bool) (hash : K → ℕ) (asks : Q → K → Bool) (setting : Setting) (slot : ℕ → ℕ) (lawful : AreLawful same hash)
-    (w : World (Node K V)) (c : Chart K) (blocks : Blocks) (sights : ℕ → Sight) (calls : ℕ → Option (UnderWay K V Q)) (s : Together V same hash asks setting slot w c blocks sights calls)
+    (w : World (Node K V)) (c : Chart K) (blocks : Blocks) (sights : ℕ → Visible) (calls : ℕ → Option (UnderWay K V Q)) (s : Together V same hash asks setting slot w c blocks sights calls)
     (i : ℕ) (u : CallOnKey K V Q) (inside : IsInside (w.uses (slot i))) (its : HasCall calls i) where
   -- the call after the step
   abbrev then_at : KeyCall K V Q → CallOnKey K V Q
@@ -143,7 +143,7 @@ module _ {K V Q : Type 0} (same : K → K → Bool) (hash : K → ℕ) (asks : Q
     within x = points.standing u.call (at.Disposes (dispose.standing d x) answer)
 
     -- the pair is disposed of: the call answers the change that it has made
-    answers_so : (m2 : Mem (Node K V)) → RowCame same hash asks setting slot lawful w c blocks sights calls s i inside m2 Rests → Led m2 (points.told_answer u.call answer)
+    answers_so : (m2 : Mem (Node K V)) → RowCame same hash asks setting slot lawful w c blocks sights calls s i inside m2 Rests → Led m2 (points.answered_with u.call answer)
     answers_so m2 came =
         let k2 = came.knows u (within disposes.Over) k in
         let all = disposes_fresh same hash asks (in_slot setting (slot i)) i came.w2 c (seen_by blocks (sights (slot i))) u.keys u.began u.change u.call (dispose.standing d disposes.Over) answer k2.facts in
@@ -169,10 +169,10 @@ module _ {K V Q : Type 0} (same : K → K → Bool) (hash : K → ℕ) (asks : Q
 
         once : (v : World (Node K V)) → Fits (kind_of u.pair).present (kind_of u.pair).absent (kind_of u.pair).takes answer
             → ChangedSince hash c (seen_by blocks (sights (slot i))) u.keys u.began u.change
-            → Tells same hash asks v i (in_slot setting (slot i)) c (seen_by blocks (sights (slot i))) u.keys u.change u.change answer
+            → AnswersChange same hash asks v i (in_slot setting (slot i)) c (seen_by blocks (sights (slot i))) u.keys u.change u.change answer
             → StoresGiven hash v.memory c (seen_by blocks (sights (slot i))) u.pair u.change
             → AnswersOnce V same hash asks setting slot v c (seen_by blocks (sights (slot i))) i u u.change answer
-        once v fits (inl none) tells stores = absurd (subst (λ (x : Change). Tells same hash asks v i (in_slot setting (slot i)) c (seen_by blocks (sights (slot i))) u.keys x x answer) none tells)
+        once v fits (inl none) tells stores = absurd (subst (λ (x : Change). AnswersChange same hash asks v i (in_slot setting (slot i)) c (seen_by blocks (sights (slot i))) u.keys x x answer) none tells)
         once v fits (inr made) tells stores = (fits, inr (made, tells, stores))
 
     settles : (x : Settle) → w.row i ≡ Settles x → (m2 : Mem (Node K V)) (e : Settle × Settled (Node K V)) → Steps Took value_at w.memory (settle_plan deferred_word x) m2 e

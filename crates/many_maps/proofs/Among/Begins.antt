@@ -24,7 +24,7 @@ use Rattle.many_maps.proofs.Beside.Makings.Steps.{one_made, two_made}
 use Rattle.many_calls.proofs.Rows.Defers.{used_stands}
 use Rattle.many_calls.proofs.Together.Came.{came_reached, came_next, none_onto_pair}
 use Rattle.many_maps.specs.Endings.{Finishing, HasCounter, AllPairsOnce, FinishingFacts, finishing_of, EndingsTogether, NoEndingsBegin, EndingsBegin}
-use Rattle.many_maps.specs.FactsEnds.{HasBehind, StandsFree, MayEnd}
+use Rattle.many_maps.specs.FactsEnds.{HasDeferred, StandsFree, MayEnd}
 use Rattle.many_calls.specs.Given.PointsSteps.{AreLawful}
 use Rattle.many_maps.proofs.Among.LeftAlone.{table_counter, pair_counter, facts_alone}
 use Rattle.many_maps.proofs.Ends.Lasts.{IsLeftAlone}
@@ -45,7 +45,7 @@ module _ {K V Q : Type 0} (same : K → K → Bool) (asks : Q → K → Bool) (s
 
   -- what each table carries now
   abbrev Carries : ℕ → Type 0
-  Carries t = (l : List ℕ) × (s.chart.first ≤ t → t < s.chart.past → HasBehind w (s.blocks.table t) l)
+  Carries t = (l : List ℕ) × (s.chart.first ≤ t → t < s.chart.past → HasDeferred w (s.blocks.table t) l)
 
   carried_at : (t : ℕ) → (t < s.chart.past) ⊎ (s.chart.past ≤ t) → (t < s.chart.first) ⊎ (s.chart.first ≤ t) → Carries t
   carried_at t (inr over) from = ([], λ f made. absurd (omega (arith, made, over)))

@@ -5,7 +5,7 @@ use Rattle.many_calls.specs.Given.SeizeWordsMem.{Mem}
 use Rattle.many_calls.specs.Given.SeizeWorld.{World, IsInside}
 use Rattle.many_calls.specs.Given.TablesDeclared.node.Node.{Node}
 use Rattle.many_calls.specs.Given.RuleChart.{Chart}
-use Rattle.many_calls.specs.Given.RuleInWorld.{Went}
+use Rattle.many_calls.specs.Given.RuleInWorld.{StepSpec}
 use Rattle.many_calls.specs.Given.RuleWords.{Blocks}
 use Rattle.many_maps.specs.Makings.{Beginning, MakingsTogether}
 use Rattle.many_maps.specs.Maps.{Standing, with_call}
@@ -16,7 +16,7 @@ use Rattle.many_maps.proofs.Beside.Endings.Spares.{SparesEnd}
 use Rattle.many_maps.proofs.Beside.Makings.CallSteps.{call_elsewhere, calls_stand_beside, replies_stand_beside, calls_begin_beside, settings}
 use Rattle.many_maps.proofs.Beside.Maps.OtherSteps.{known_out, known_owner}
 use Rattle.many_maps.proofs.Beside.Maps.Steps.{seen_known}
-use Rattle.many_maps.specs.Endings.{Finishing, EndingsTogether, CallsStandAmong, RepliesStandAmong, CallsBeginAmong}
+use Rattle.many_maps.specs.Endings.{Finishing, EndingsTogether, CallsPreserveWithEndings, RepliesPreserveWithEndings, CallsBeginWithEndings}
 use Rattle.many_maps.proofs.Among.Beside.{IsSparedEnd, other_owner, endings_same}
 
 module _ {K Q : Type 0} (V : Type 0) (same : K → K → Bool) (asks : Q → K → Bool) (batch_size roots : ℕ) (slot : ℕ → ℕ)
@@ -47,7 +47,7 @@ module _ {K Q : Type 0} (V : Type 0) (same : K → K → Bool) (asks : Q → K �
 
   module _ (m : ℕ) (s : Standing K) (here : maps m ≡ Some s) (i : ℕ) (u : UnderWay K V Q) (has : calls m i ≡ Some u) (in_it : IsInside (w.uses (slot i))) (m2 : Mem (Node K V))
       (Told : World (Node K V) → Chart K → Blocks → Type 0)
-      (went : Went same s.hash (in_slot s.setting (slot i)) i w s.chart (seen_by s.blocks (s.sights (slot i))) m2 Told) where
+      (went : StepSpec same s.hash (in_slot s.setting (slot i)) i w s.chart (seen_by s.blocks (s.sights (slot i))) m2 Told) where
     pub call_spares : (j : ℕ) (f : Finishing K V) → enders j ≡ Some f → IsSparedEnd batch_size w went.w2 j f
     call_spares j f ends =
         let stands = all.makings.standing.each m s here in
@@ -62,7 +62,7 @@ module _ {K Q : Type 0} (V : Type 0) (same : K → K → Bool) (asks : Q → K �
         )
 
 module _ {K Q : Type 0} (V : Type 0) (same : K → K → Bool) (asks : Q → K → Bool) (batch_size roots : ℕ) (slot : ℕ → ℕ) where
-  pub calls_stand_among : CallsStandAmong V same asks batch_size roots slot
+  pub calls_stand_among : CallsPreserveWithEndings V same asks batch_size roots slot
   calls_stand_among w maps calls makers enders all m s here i u has none =
       let leads = calls_stand_beside V same asks batch_size roots slot w maps calls makers all.makings m s here i u has none in (
         leads.0,
@@ -78,7 +78,7 @@ module _ {K Q : Type 0} (V : Type 0) (same : K → K → Bool) (asks : Q → K �
             },
       )
 
-  pub replies_stand_among : RepliesStandAmong V same asks batch_size roots slot
+  pub replies_stand_among : RepliesPreserveWithEndings V same asks batch_size roots slot
   replies_stand_among w maps calls makers enders all m s here i u has asks_at asks_it =
       let taken = replies_stand_beside V same asks batch_size roots slot w maps calls makers all.makings m s here i u has asks_at asks_it in (
         taken.0,
@@ -89,7 +89,7 @@ module _ {K Q : Type 0} (V : Type 0) (same : K → K → Bool) (asks : Q → K �
             (taken.3 about is reply),
       )
 
-  pub calls_begin_among : CallsBeginAmong V same asks batch_size roots slot
+  pub calls_begin_among : CallsBeginWithEndings V same asks batch_size roots slot
   calls_begin_among w maps calls makers enders all i free unending alone rests inside m s here few keys pair call begun =
       endings_with_call V same asks batch_size roots slot w maps calls makers enders all m i _ (λ j f ends e. (let none = ap enders (sym e) ∙ ends in cc (none, unending)))
       (calls_begin_beside V same asks batch_size roots slot w maps calls makers all.makings i free alone rests inside m s here few keys pair call begun)

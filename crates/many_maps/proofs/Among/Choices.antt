@@ -5,11 +5,11 @@ use Rattle.many_calls.specs.Given.SeizeWorld.{World, Chooses}
 use Rattle.many_calls.specs.Given.TablesDeclared.node.Node.{Node}
 use Rattle.many_calls.specs.Given.TablesDeclared.setting.Setting.{Setting}
 use Rattle.many_calls.specs.Given.RuleChart.{Chart}
-use Rattle.many_calls.specs.Given.RuleInWorld.{KeepsBlocks}
+use Rattle.many_calls.specs.Given.RuleInWorld.{PreservesBlocks}
 use Rattle.many_calls.specs.Given.RuleWords.{Blocks}
 use Rattle.many_calls.specs.Together.{UnderWay, CameAbout, Together}
 use Rattle.many_calls.proofs.Together.Came.{came_next}
-use Rattle.many_maps.specs.Choices.{ChoicesStandAmong}
+use Rattle.many_maps.specs.Choices.{ChoicesPreserveTheInvariant}
 use Rattle.many_maps.specs.Endings.{Finishing, EndingsTogether}
 use Rattle.many_maps.specs.Makings.{Beginning, MakingsTogether}
 use Rattle.many_maps.specs.Maps.{Standing, MapsTogether}
@@ -27,7 +27,7 @@ module _ {K V : Type 0} (w : World (Node K V)) (choice : ℕ) where
   came_chosen : (size : ℕ) → CameAbout size w → CameAbout size chosen
   came_chosen size came = came_next size w chosen (Chooses choice) came refl
 
-  own_same : (j : ℕ) → KeepsBlocks j w.memory w.hand chosen.memory chosen.hand
+  own_same : (j : ℕ) → PreservesBlocks j w.memory w.hand chosen.memory chosen.hand
   own_same j = record { blocks = λ b value is other held. (refl, is); words = λ b field value is other made. refl }
 
   block_same : (b : ℕ) → IsSpared w chosen b
@@ -115,6 +115,6 @@ module _ {K Q : Type 0} (V : Type 0) (same : K → K → Bool) (asks : Q → K �
       maps calls makings_then (λ j f is. (all.alone j f is).0) (λ m s here. (s, here, refl))
 
 module _ {K Q : Type 0} (V : Type 0) (same : K → K → Bool) (asks : Q → K → Bool) (batch_size roots : ℕ) (slot : ℕ → ℕ) where
-  pub choices_stand_among : ChoicesStandAmong V same asks batch_size roots slot
+  pub choices_stand_among : ChoicesPreserveTheInvariant V same asks batch_size roots slot
   choices_stand_among w maps calls makers enders all choice w2 h =
       subst (λ (x : World (Node K V)). EndingsTogether V same asks batch_size roots slot x maps calls makers enders) (sym h) (endings_then V same asks batch_size roots slot w maps calls makers enders all choice)

@@ -5,11 +5,11 @@ use Rattle.many_maps.proofs.Beside.Maps.All.{maps_with_call}
 use Rattle.many_maps.proofs.Beside.Maps.Steps.{no_other}
 use Rattle.many_calls.specs.Together.{Counting}
 use Rattle.many_calls.proofs.Together.Countings.{countings_begin_together, countings_stand_together}
-use Rattle.many_maps.specs.Countings.{CountingsBeginAmong, CountingsStandAmong}
+use Rattle.many_maps.specs.Countings.{CountingsBeginWithEndings, CountingsPreserveWithEndings}
 use Rattle.many_maps.proofs.Among.Calls.{no_ender, endings_with_call}
 
 module _ {K Q : Type 0} (V : Type 0) (same : K → K → Bool) (asks : Q → K → Bool) (batch_size roots : ℕ) (slot : ℕ → ℕ) where
-  pub countings_begin_among : CountingsBeginAmong V same asks batch_size roots slot
+  pub countings_begin_among : CountingsBeginWithEndings V same asks batch_size roots slot
   countings_begin_among w maps calls makers enders all i free unending alone rests m s here few =
       let standing = all.makings.standing in
       endings_with_call V same asks batch_size roots slot w maps calls makers enders all m i _ (λ j f ends e. (let none = ap enders (sym e) ∙ ends in cc (none, unending)))
@@ -17,7 +17,7 @@ module _ {K Q : Type 0} (V : Type 0) (same : K → K → Bool) (asks : Q → K �
       (maps_with_call V same asks batch_size slot w maps calls standing m s here i _ (λ n ne. alone n)
       (countings_begin_together same s.hash asks s.setting slot w s.chart s.blocks s.sights (calls m) i (standing.each m s here) (alone m) rests few)))
 
-  pub countings_stand_among : CountingsStandAmong V same asks batch_size roots slot
+  pub countings_stand_among : CountingsPreserveWithEndings V same asks batch_size roots slot
   countings_stand_among w maps calls makers enders all m s here i sum has =
       let standing = all.makings.standing in
       let leads = countings_stand_together same s.hash asks s.setting slot w s.chart s.blocks s.sights (calls m) (standing.each m s here) i sum has in (

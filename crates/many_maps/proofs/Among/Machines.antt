@@ -55,15 +55,15 @@ use Rattle.many_calls.specs.OverAll.{CallOverAll, gone_on}
 use Rattle.many_calls.specs.Rooms.{CallForRoom}
 use Rattle.many_calls.specs.Rows.{LeavesSlots}
 use Rattle.many_calls.specs.Sights.{seen_by}
-use Rattle.many_calls.specs.Together.{UnderWay, OnKey, ForRoom, Counting, OverAll, CallOnKey, Stands, IsOneStep, next_of, next_for_room, next_of_counting, next_over_all}
+use Rattle.many_calls.specs.Together.{UnderWay, OnKey, ForRoom, Counting, OverAll, CallOnKey, IsAtPoint, IsOneStep, next_of, next_for_room, next_of_counting, next_over_all}
 use Rattle.many_maps.specs.Makings.{Beginning}
 use Rattle.many_maps.specs.Maps.{Standing, IsSameMap, with_call}
 use Rattle.many_calls.proofs.Together.At.{at_other, at_same}
 use Rattle.many_calls.proofs.Together.Slots.{alike_same, all_between, between_rows, between_slots}
-use Rattle.many_maps.specs.Endings.{Finishing, EndingsTogether, StepsAmong, RowStepsAmong}
-use Rattle.many_maps.specs.Rooms.{RoomStepsAmong, RoomRowsAmong}
-use Rattle.many_maps.specs.Sweeps.{SweepStepsAmong, SweepRowsAmong}
-use Rattle.many_maps.specs.Machines.{machine_of, GoesOnAs, StandsOn, DidOfKind, MachineStepsAmong, MachinesStandAmong}
+use Rattle.many_maps.specs.Endings.{Finishing, EndingsTogether, StepsWithEndings, RowStepsWithEndings}
+use Rattle.many_maps.specs.Rooms.{RoomStepsWithEndings, RoomRowsWithEndings}
+use Rattle.many_maps.specs.Sweeps.{SweepStepsWithEndings, SweepRowsWithEndings}
+use Rattle.many_maps.specs.Machines.{machine_of, ContinuesAs, MapContinues, DidOfKind, MachineStepsWithEndings, MachinesPreserveWithEndings}
 use Rattle.many_maps.proofs.Among.Calls.{calls_stand_among}
 use Rattle.many_maps.proofs.Among.Countings.{countings_stand_among}
 use Rattle.many_maps.proofs.Among.Rooms.{rooms_stand_among, room_rows_stand_among}
@@ -100,7 +100,7 @@ of_sweep _ = inr (λ row. row)
 
 -- what goes on is the machine after the step
 module _ (K V Q : Type 0) where
-  key_on : (u : CallOnKey K V Q) (told : Called (Node K V)) → GoesOnAs (kinds.Key u.call) (of_called told) (next_of u told)
+  key_on : (u : CallOnKey K V Q) (told : Called (Node K V)) → ContinuesAs (kinds.Key u.call) (of_called told) (next_of u told)
   key_on u called.Goes = (OnKey u, refl, refl)
   key_on u called.Waits = (OnKey u, refl, refl)
   key_on u (called.Gave value) = (OnKey u, refl, refl)
@@ -109,14 +109,14 @@ module _ (K V Q : Type 0) where
   key_on u (called.Done answer) = refl
   key_on u (called.Refused fault) = refl
 
-  room_on : (r : CallForRoom) (end : Yielding (Node K V) Unit) → GoesOnAs {K = K} {V = V} {Q = Q} (kinds.Reserve r.reserve) (of_outcome end) (next_for_room r end)
+  room_on : (r : CallForRoom) (end : Yielding (Node K V) Unit) → ContinuesAs {K = K} {V = V} {Q = Q} (kinds.Reserve r.reserve) (of_outcome end) (next_for_room r end)
   room_on r outcome.Goes = (ForRoom r, refl, refl)
   room_on r outcome.Waits = (ForRoom r, refl, refl)
   room_on r (outcome.Gave value) = (ForRoom r, refl, refl)
   room_on r (outcome.Done end) = refl
   room_on r (outcome.Refused fault) = refl
 
-  sweep_on : (o : CallOverAll) (told : Swept (Node K V)) → GoesOnAs {K = K} {V = V} {Q = Q} (kinds.Sweep o.sweep) (of_swept told) (next_over_all o told)
+  sweep_on : (o : CallOverAll) (told : Swept (Node K V)) → ContinuesAs {K = K} {V = V} {Q = Q} (kinds.Sweep o.sweep) (of_swept told) (next_over_all o told)
   sweep_on o swept.Goes = (OverAll o, refl, refl)
   sweep_on o swept.Waits = (OverAll o, refl, refl)
   sweep_on o (swept.Gave value) = (OverAll o, refl, refl)
@@ -126,7 +126,7 @@ module _ (K V Q : Type 0) where
   sweep_on o swept.Done = refl
   sweep_on o (swept.Refused fault) = refl
 
-  count_on : (sum : Sum) (end : Counted ℕ) → GoesOnAs {K = K} {V = V} {Q = Q} (kinds.Count sum) (of_counting end) (next_of_counting sum end)
+  count_on : (sum : Sum) (end : Counted ℕ) → ContinuesAs {K = K} {V = V} {Q = Q} (kinds.Count sum) (of_counting end) (next_of_counting sum end)
   count_on sum counted.Goes = (Counting sum, refl, refl)
   count_on sum counted.Waits = (Counting sum, refl, refl)
   count_on sum (counted.Done count) = refl
@@ -157,26 +157,26 @@ module _ {K Q : Type 0} (V : Type 0) (same : K → K → Bool) (asks : Q → K �
   module _ (w : World (Node K V)) (maps : ℕ → Option (Standing K)) (calls : ℕ → ℕ → Option (UnderWay K V Q)) (makers : ℕ → Option (Beginning K)) (enders : ℕ → Option (Finishing K V))
       (all : EndingsTogether V same asks batch_size roots slot w maps calls makers enders) (m : ℕ) (s : Standing K) (here : maps m ≡ Some s) (i : ℕ) where
     abbrev Leads : Mem (Node K V) → UnderWay K V Q → Machine K V Q × Progress (Node K V) → Type 0
-    Leads m2 u end = MachineStepsAmong V same asks batch_size roots slot w maps calls makers enders m s i m2 u end.0 end.1
+    Leads m2 u end = MachineStepsWithEndings V same asks batch_size roots slot w maps calls makers enders m s i m2 u end.0 end.1
 
     abbrev All : World (Node K V) → (ℕ → Option (Standing K)) → Option (UnderWay K V Q) → Type 0
     All w2 maps2 next = EndingsTogether V same asks batch_size roots slot w2 maps2 (with_call calls m i next) makers enders
 
     module _ (m2 : Mem (Node K V)) (w2 : World (Node K V)) (memory : w2.memory ≡ m2) (rows : (j : ℕ) → j ≢ i → w2.row j ≡ w.row j) (slots : LeavesSlots (slot i) i w w2)
-        (u : UnderWay K V Q) (machine : Machine K V Q) (told : Progress (Node K V)) (next : Option (UnderWay K V Q)) (goes_on : GoesOnAs machine told next)
+        (u : UnderWay K V Q) (machine : Machine K V Q) (told : Progress (Node K V)) (next : Option (UnderWay K V Q)) (goes_on : ContinuesAs machine told next)
         (rests : next ≡ None → w2.row i ≡ Rests) where
       abbrev Did : (ℕ → Option (Standing K)) → Type 0
       Did maps2 = DidOfKind V same asks batch_size roots slot w maps calls makers enders m s i m2 w2 maps2 next u machine told
 
       -- the tables of its map have moved on
-      moved : (s2 : Standing K) → Did (with_at maps m (Some s2)) → StandsOn s (Some s2) → All w2 (with_at maps m (Some s2)) next → Leads m2 u (machine, told)
+      moved : (s2 : Standing K) → Did (with_at maps m (Some s2)) → MapContinues s (Some s2) → All w2 (with_at maps m (Some s2)) next → Leads m2 u (machine, told)
       moved s2 did stands_on together = record {
         w2 = w2;
         memory = memory;
         rows = rows;
         slots = slots;
         maps2 = with_at maps m (Some s2);
-        its_map = subst (StandsOn s) (sym (at_same maps m (Some s2) m refl)) stands_on;
+        its_map = subst (MapContinues s) (sym (at_same maps m (Some s2) m refl)) stands_on;
         others = λ n ne. subst (IsSameMap (maps n)) (sym (at_other maps m (Some s2) n ne)) (same_map (maps n));
         next = next;
         goes_on = goes_on;
@@ -206,7 +206,7 @@ module _ {K Q : Type 0} (V : Type 0) (same : K → K → Bool) (asks : Q → K �
     Comes u =
         May Can Took value_at w.memory (machine_plan asks same s.hash (machine_of u))
         × ((m2 : Mem (Node K V)) (machine : Machine K V Q) (told : Progress (Node K V)) → Steps Took value_at w.memory (machine_plan asks same s.hash (machine_of u)) m2 (machine, told)
-        → MachineStepsAmong V same asks batch_size roots slot w maps calls makers enders m s i m2 u machine told)
+        → MachineStepsWithEndings V same asks batch_size roots slot w maps calls makers enders m s i m2 u machine told)
 
     -- a step of the machine of its kind, as one of the call
     module _ (u : UnderWay K V Q) {R : Type 0} (as_call : R → Machine K V Q × Progress (Node K V)) (plan : Plan (Node K V) R) where
@@ -219,7 +219,7 @@ module _ {K Q : Type 0} (V : Type 0) (same : K → K → Bool) (asks : Q → K �
       )
 
     -- a call that is at no row's step has none under way
-    stands_now : (u : UnderWay K V Q) → calls m i ≡ Some u → Stands V same s.hash asks s.setting slot w s.chart (seen_by s.blocks (s.sights (slot i))) i u
+    stands_now : (u : UnderWay K V Q) → calls m i ≡ Some u → IsAtPoint V same s.hash asks s.setting slot w s.chart (seen_by s.blocks (s.sights (slot i))) i u
     stands_now u has = (all.makings.standing.each m s here).stand i u has
 
     key_rests : (u : CallOnKey K V Q) → calls m i ≡ Some (OnKey u) → (IsRowOfCall u.call.stands → ⊥) → w.row i ≡ Rests
@@ -245,7 +245,7 @@ module _ {K Q : Type 0} (V : Type 0) (same : K → K → Bool) (asks : Q → K �
       where
         leads : May Can Took value_at w.memory (call_plan asks same s.hash u.call)
             × ((m2 : Mem (Node K V)) (p2 : KeyCall K V Q) (told : Called (Node K V)) → Steps Took value_at w.memory (call_plan asks same s.hash u.call) m2 (p2, told)
-            → StepsAmong V same asks batch_size roots slot w maps calls makers enders m s i u m2 p2 told)
+            → StepsWithEndings V same asks batch_size roots slot w maps calls makers enders m s i u m2 p2 told)
         leads = calls_stand_among V same asks batch_size roots slot w maps calls makers enders all m s here i u has none
 
         by : (m2 : Mem (Node K V)) (end : KeyCall K V Q × Called (Node K V)) → Steps Took value_at w.memory (call_plan asks same s.hash u.call) m2 end → Leads m2 (OnKey u) (machines.called end)
@@ -260,7 +260,7 @@ module _ {K Q : Type 0} (V : Type 0) (same : K → K → Bool) (asks : Q → K �
       where
         leads : May Can Took value_at w.memory (call_plan asks same s.hash u.call)
             × ((m2 : Mem (Node K V)) (p2 : KeyCall K V Q) (told : Called (Node K V)) → Steps Took value_at w.memory (call_plan asks same s.hash u.call) m2 (p2, told)
-            → RowStepsAmong V same asks batch_size roots slot w maps calls makers enders m s i u m2 p2 told)
+            → RowStepsWithEndings V same asks batch_size roots slot w maps calls makers enders m s i u m2 p2 told)
         leads = rows_stand_among V same asks batch_size roots slot w maps calls makers enders all m s here i u has row
 
         by : (m2 : Mem (Node K V)) (end : KeyCall K V Q × Called (Node K V)) → Steps Took value_at w.memory (call_plan asks same s.hash u.call) m2 end → Leads m2 (OnKey u) (machines.called end)
@@ -275,7 +275,7 @@ module _ {K Q : Type 0} (V : Type 0) (same : K → K → Bool) (asks : Q → K �
       where
         leads : May Can Took value_at w.memory (reserve_plan s.hash r.reserve)
             × ((m2 : Mem (Node K V)) (p2 : Reserve) (end : Yielding (Node K V) Unit) → Steps Took value_at w.memory (reserve_plan s.hash r.reserve) m2 (p2, end)
-            → RoomStepsAmong V same asks batch_size roots slot w maps calls makers enders m s i r m2 p2 end)
+            → RoomStepsWithEndings V same asks batch_size roots slot w maps calls makers enders m s i r m2 p2 end)
         leads = rooms_stand_among V same asks batch_size roots slot w maps calls makers enders all m s here i r has none
 
         by : (m2 : Mem (Node K V)) (end : Reserve × Yielding (Node K V) Unit) → Steps Took value_at w.memory (reserve_plan s.hash r.reserve) m2 end → Leads m2 (ForRoom r) (machines.reserved end)
@@ -290,7 +290,7 @@ module _ {K Q : Type 0} (V : Type 0) (same : K → K → Bool) (asks : Q → K �
       where
         leads : May Can Took value_at w.memory (reserve_plan s.hash r.reserve)
             × ((m2 : Mem (Node K V)) (p2 : Reserve) (end : Yielding (Node K V) Unit) → Steps Took value_at w.memory (reserve_plan s.hash r.reserve) m2 (p2, end)
-            → RoomRowsAmong V same asks batch_size roots slot w maps calls makers enders m s i r m2 p2 end)
+            → RoomRowsWithEndings V same asks batch_size roots slot w maps calls makers enders m s i r m2 p2 end)
         leads = room_rows_stand_among V same asks batch_size roots slot w maps calls makers enders all m s here i r has row
 
         by : (m2 : Mem (Node K V)) (end : Reserve × Yielding (Node K V) Unit) → Steps Took value_at w.memory (reserve_plan s.hash r.reserve) m2 end → Leads m2 (ForRoom r) (machines.reserved end)
@@ -305,7 +305,7 @@ module _ {K Q : Type 0} (V : Type 0) (same : K → K → Bool) (asks : Q → K �
       where
         leads : May Can Took value_at w.memory (sweep_plan s.hash o.sweep)
             × ((m2 : Mem (Node K V)) (p2 : Sweep) (end : Swept (Node K V)) → Steps Took value_at w.memory (sweep_plan s.hash o.sweep) m2 (p2, end)
-            → SweepStepsAmong V same asks batch_size roots slot w maps calls makers enders m s i o m2 p2 end)
+            → SweepStepsWithEndings V same asks batch_size roots slot w maps calls makers enders m s i o m2 p2 end)
         leads = sweeps_stand_among V same asks batch_size roots slot w maps calls makers enders all m s here i o has none
 
         by : (m2 : Mem (Node K V)) (end : Sweep × Swept (Node K V)) → Steps Took value_at w.memory (sweep_plan s.hash o.sweep) m2 end → Leads m2 (OverAll o) (machines.swept end)
@@ -320,7 +320,7 @@ module _ {K Q : Type 0} (V : Type 0) (same : K → K → Bool) (asks : Q → K �
       where
         leads : May Can Took value_at w.memory (sweep_plan s.hash o.sweep)
             × ((m2 : Mem (Node K V)) (p2 : Sweep) (end : Swept (Node K V)) → Steps Took value_at w.memory (sweep_plan s.hash o.sweep) m2 (p2, end)
-            → SweepRowsAmong V same asks batch_size roots slot w maps calls makers enders m s i o m2 p2 end)
+            → SweepRowsWithEndings V same asks batch_size roots slot w maps calls makers enders m s i o m2 p2 end)
         leads = sweep_rows_stand_among V same asks batch_size roots slot w maps calls makers enders all m s here i o has row
 
         by : (m2 : Mem (Node K V)) (end : Sweep × Swept (Node K V)) → Steps Took value_at w.memory (sweep_plan s.hash o.sweep) m2 end → Leads m2 (OverAll o) (machines.swept end)
@@ -350,5 +350,5 @@ module _ {K Q : Type 0} (V : Type 0) (same : K → K → Bool) (asks : Q → K �
     each (Counting sum) has = by_counting sum has
     each (OverAll o) has = by_sweep o has (of_sweep o.sweep.stands)
 
-  pub machines_stand_among : MachinesStandAmong V same asks batch_size roots slot
+  pub machines_stand_among : MachinesPreserveWithEndings V same asks batch_size roots slot
   machines_stand_among w maps calls makers enders all m s here i = each w maps calls makers enders all m s here i

@@ -7,8 +7,8 @@ use Rattle.many_calls.specs.Given.TablesDeclared.node.Node.{Node}
 use Rattle.many_calls.specs.Given.SweepsSweepPoints.{after_next}
 use Rattle.many_calls.specs.Given.ReservesDeclared.sweep.Sweeping.{Sweeping}
 use Rattle.many_calls.specs.Given.ReservesDeclared.sweep.Sweeping.TheVariants as sweeping
-use Rattle.many_calls.specs.Given.RawCallAsks.{told_at}
-use Rattle.many_calls.specs.Given.RawMachine.{sweep_told, machine_replied}
+use Rattle.many_calls.specs.Given.RawCallAsks.{replied_at}
+use Rattle.many_calls.specs.Given.RawMachine.{sweep_with_reply, machine_replied}
 use Rattle.many_calls.specs.Given.RawDeclared.machines.asking.Asking.{Asking}
 use Rattle.many_calls.specs.Given.RawDeclared.machines.asking.MachineReply.{MachineReply}
 use Rattle.many_calls.specs.Given.RawDeclared.machines.asking.MachineReply.TheVariants as reply
@@ -16,14 +16,14 @@ use Rattle.many_calls.specs.Given.RawDeclared.machines.call.Calling.{Calling}
 use Rattle.many_calls.specs.Given.RawDeclared.machines.call.Calling.TheVariants as at
 use Rattle.many_calls.specs.Given.RawDeclared.machines.machine.Machine.{Machine}
 use Rattle.many_calls.specs.Given.RawDeclared.machines.machine.Machine.TheVariants as kinds
-use Rattle.many_calls.specs.OverAll.{CallOverAll, gone_on, told_of}
+use Rattle.many_calls.specs.OverAll.{CallOverAll, gone_on, with_verdict}
 use Rattle.many_calls.specs.Sights.{seen_by}
-use Rattle.many_calls.specs.Sweeps.{TakesTold}
-use Rattle.many_calls.specs.Together.{UnderWay, OnKey, ForRoom, Counting, OverAll, CallOnKey, told_about}
+use Rattle.many_calls.specs.Sweeps.{TakesReply}
+use Rattle.many_calls.specs.Together.{UnderWay, OnKey, ForRoom, Counting, OverAll, CallOnKey, replied_about}
 use Rattle.many_maps.specs.Makings.{Beginning}
 use Rattle.many_maps.specs.Maps.{Standing, with_call}
 use Rattle.many_maps.specs.Endings.{Finishing, EndingsTogether}
-use Rattle.many_maps.specs.Machines.{machine_of, ToldOfKind, MachinesToldAmong}
+use Rattle.many_maps.specs.Machines.{machine_of, RepliedOfKind, MachinesRepliedWithEndings}
 use Rattle.many_maps.proofs.Among.Calls.{replies_stand_among}
 use Rattle.many_maps.proofs.Among.Sweeps.{sweeps_told_among}
 
@@ -41,61 +41,61 @@ module _ {K Q : Type 0} (V : Type 0) (same : K → K → Bool) (asks : Q → K �
 
     abbrev Told : UnderWay K V Q → MachineReply V → Type 0
     Told u told =
-        (next : UnderWay K V Q) × (machine_of next ≡ (machine_replied (machine_of u) told).0) × ToldOfKind V same asks batch_size roots slot s i u told next × With next
+        (next : UnderWay K V Q) × (machine_of next ≡ (machine_replied (machine_of u) told).0) × RepliedOfKind V same asks batch_size roots slot s i u told next × With next
 
     -- a call on one key
     module _ (u : CallOnKey K V Q) (has : calls m i ≡ Some (OnKey u)) (told : MachineReply V) where
       asking : (asks_at : Asking) → u.call.stands ≡ at.Asks asks_at → Told (OnKey u) told
       asking asks_at is =
           let taken = replies_stand_among V same asks batch_size roots slot w maps calls makers enders all m s here i u has asks_at is in
-          (OnKey (told_about u taken.0.0 told), refl, inl (asks_at, taken.0.0, is, taken.0.1, refl), taken.3 taken.0.0 taken.0.1 told)
+          (OnKey (replied_about u taken.0.0 told), refl, inl (asks_at, taken.0.0, is, taken.0.1, refl), taken.3 taken.0.0 taken.0.1 told)
 
       -- it takes no reply
-      taking_none : (told_at u.call.stands u.call told).0 ≡ u.call → Told (OnKey u) told
+      taking_none : (replied_at u.call.stands u.call told).0 ≡ u.call → Told (OnKey u) told
       taking_none e = (OnKey u, ap kinds.Key (sym e), inr refl, unchanged (OnKey u) has)
 
       key_told : (stage : Calling) → u.call.stands ≡ stage → Told (OnKey u) told
       key_told (at.Asks asks_at) is = asking asks_at is
-      key_told at.Makes is = taking_none (ap (λ (x : Calling). (told_at x u.call told).0) is)
-      key_told (at.Looks a) is = taking_none (ap (λ (x : Calling). (told_at x u.call told).0) is)
-      key_told at.Roots is = taking_none (ap (λ (x : Calling). (told_at x u.call told).0) is)
-      key_told at.Probes is = taking_none (ap (λ (x : Calling). (told_at x u.call told).0) is)
-      key_told (at.Tries a b) is = taking_none (ap (λ (x : Calling). (told_at x u.call told).0) is)
-      key_told (at.Counts a) is = taking_none (ap (λ (x : Calling). (told_at x u.call told).0) is)
-      key_told (at.Disposes a b) is = taking_none (ap (λ (x : Calling). (told_at x u.call told).0) is)
-      key_told at.Nexts is = taking_none (ap (λ (x : Calling). (told_at x u.call told).0) is)
-      key_told (at.Firsts a) is = taking_none (ap (λ (x : Calling). (told_at x u.call told).0) is)
-      key_told (at.Allocs a) is = taking_none (ap (λ (x : Calling). (told_at x u.call told).0) is)
-      key_told (at.Helps a b) is = taking_none (ap (λ (x : Calling). (told_at x u.call told).0) is)
-      key_told (at.Copies a) is = taking_none (ap (λ (x : Calling). (told_at x u.call told).0) is)
-      key_told (at.Drops a) is = taking_none (ap (λ (x : Calling). (told_at x u.call told).0) is)
-      key_told (at.Over a) is = taking_none (ap (λ (x : Calling). (told_at x u.call told).0) is)
+      key_told at.Makes is = taking_none (ap (λ (x : Calling). (replied_at x u.call told).0) is)
+      key_told (at.Looks a) is = taking_none (ap (λ (x : Calling). (replied_at x u.call told).0) is)
+      key_told at.Roots is = taking_none (ap (λ (x : Calling). (replied_at x u.call told).0) is)
+      key_told at.Probes is = taking_none (ap (λ (x : Calling). (replied_at x u.call told).0) is)
+      key_told (at.Tries a b) is = taking_none (ap (λ (x : Calling). (replied_at x u.call told).0) is)
+      key_told (at.Counts a) is = taking_none (ap (λ (x : Calling). (replied_at x u.call told).0) is)
+      key_told (at.Disposes a b) is = taking_none (ap (λ (x : Calling). (replied_at x u.call told).0) is)
+      key_told at.Nexts is = taking_none (ap (λ (x : Calling). (replied_at x u.call told).0) is)
+      key_told (at.Firsts a) is = taking_none (ap (λ (x : Calling). (replied_at x u.call told).0) is)
+      key_told (at.Allocs a) is = taking_none (ap (λ (x : Calling). (replied_at x u.call told).0) is)
+      key_told (at.Helps a b) is = taking_none (ap (λ (x : Calling). (replied_at x u.call told).0) is)
+      key_told (at.Copies a) is = taking_none (ap (λ (x : Calling). (replied_at x u.call told).0) is)
+      key_told (at.Drops a) is = taking_none (ap (λ (x : Calling). (replied_at x u.call told).0) is)
+      key_told (at.Over a) is = taking_none (ap (λ (x : Calling). (replied_at x u.call told).0) is)
 
     -- a sweep
     module _ (o : CallOverAll) (has : calls m i ≡ Some (OverAll o)) where
-      taken : TakesTold s.hash s.chart (seen_by s.blocks (s.sights (slot i))) o (λ told. With (OverAll told))
+      taken : TakesReply s.hash s.chart (seen_by s.blocks (s.sights (slot i))) o (λ told. With (OverAll told))
       taken = sweeps_told_among V same asks batch_size roots slot w maps calls makers enders all m s here i o has
 
       abbrev TellsAt : Sweeping → MachineReply V → Type 0
-      TellsAt stage told = (sweep_told stage o.sweep told).0 ≡ o.sweep
+      TellsAt stage told = (sweep_with_reply stage o.sweep told).0 ≡ o.sweep
 
       as_it_was : (stage : Sweeping) (told : MachineReply V) → o.sweep.stands ≡ stage → TellsAt stage told → Told (OverAll o) told
-      as_it_was stage told is e = (OverAll o, ap kinds.Sweep (sym (ap (λ (x : Sweeping). (sweep_told x o.sweep told).0) is ∙ e)), inr refl, unchanged (OverAll o) has)
+      as_it_was stage told is e = (OverAll o, ap kinds.Sweep (sym (ap (λ (x : Sweeping). (sweep_with_reply x o.sweep told).0) is ∙ e)), inr refl, unchanged (OverAll o) has)
 
       abbrev told_there : MachineReply V → Sweeping → Machine K V Q
-      told_there told x = kinds.Sweep (sweep_told x o.sweep told).0
+      told_there told x = kinds.Sweep (sweep_with_reply x o.sweep told).0
 
       word_told : (word : ℕ) → o.sweep.stands ≡ sweeping.Asks word → (told : MachineReply V) → Told (OverAll o) told
       word_told word is reply.Yes =
           let pair = taken.asks_about word is in (
-            OverAll (told_of o pair.0 true),
+            OverAll (with_verdict o pair.0 true),
             ap (told_there reply.Yes) (sym is),
             inl (word, pair.0, is, pair.1, inl (refl, refl)),
             taken.replied word pair.0 is pair.1 true,
           )
       word_told word is reply.No =
           let pair = taken.asks_about word is in (
-            OverAll (told_of o pair.0 false),
+            OverAll (with_verdict o pair.0 false),
             ap (told_there reply.No) (sym is),
             inl (word, pair.0, is, pair.1, inr (refl, refl)),
             taken.replied word pair.0 is pair.1 false,
@@ -115,7 +115,7 @@ module _ {K Q : Type 0} (V : Type 0) (same : K → K → Bool) (asks : Q → K �
       sweep_is_told told sweeping.Over is = as_it_was sweeping.Over told is refl
       sweep_is_told told (sweeping.Refused fault) is = as_it_was (sweeping.Refused fault) told is refl
 
-  pub machines_told_among : MachinesToldAmong V same asks batch_size roots slot
+  pub machines_told_among : MachinesRepliedWithEndings V same asks batch_size roots slot
   machines_told_among w maps calls makers enders all m s here i (OnKey u) has = (
     λ told. key_told w maps calls makers enders all m s here i u has told u.call.stands refl,
     (OnKey u, refl, unchanged w maps calls makers enders all m s here i (OnKey u) has),

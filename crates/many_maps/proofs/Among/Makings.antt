@@ -9,7 +9,7 @@ use Rattle.many_calls.specs.Given.SeizeDeclared.advance.Advance.TheVariants as p
 use Rattle.many_calls.specs.Given.TablesDeclared.node.Node.{Node}
 use Rattle.many_calls.specs.Given.TablesDeclared.setting.Setting.{Setting}
 use Rattle.many_calls.specs.Given.ResizeDeclared.new_map.NewMap.{NewMap}
-use Rattle.many_maps.specs.Makings.{Beginning, HasTaken, HasMade, MakingsTogether, MakingTold}
+use Rattle.many_maps.specs.Makings.{Beginning, HasTaken, HasMade, MakingsTogether, MakingOutcome}
 use Rattle.many_maps.specs.Maps.{Standing}
 use Rattle.many_calls.specs.Together.{UnderWay}
 use Rattle.many_maps.proofs.Beside.Endings.Makings.{making_spares_end}
@@ -18,7 +18,7 @@ use Rattle.many_maps.proofs.Beside.Makings.Steps.{one_made, making_leads}
 use Rattle.many_maps.proofs.Beside.Makings.Went.{IsOwnRoot, IsOwnCounter, GoesTo, MakingWent}
 use Rattle.many_maps.proofs.Beside.Maps.Comes.{each_at}
 use Rattle.many_calls.proofs.Together.At.{at_other}
-use Rattle.many_maps.specs.Endings.{Finishing, HasCounter, EndingsTogether, MakingsBeginAmong, MakingToldAmong, MakingStepsAmong, MakingsStandAmong}
+use Rattle.many_maps.specs.Endings.{Finishing, HasCounter, EndingsTogether, MakingsBeginWithEndings, MakingOutcomeWithEndings, MakingStepsWithEndings, MakingsPreserveWithEndings}
 use Rattle.many_maps.proofs.Among.Beside.{IsSparedEnd, endings_on}
 use Rattle.many_maps.proofs.Among.LeftAlone.{root_taken}
 use Rattle.many_calls.proofs.Given.General.{same_some as one_of}
@@ -87,8 +87,8 @@ module _ {K Q : Type 0} (V : Type 0) (same : K → K → Bool) (asks : Q → K �
           (λ m r ne is. (all.roots_apart j m f r ends is, all.counters_apart j m f r ends is)) m s2 here)
           (makings_apart None (λ j f ends d is. absurd (cc is)))
 
-      told : (end : NewMap × Advance Setting) → GoesTo V same asks batch_size roots slot w i b went.w2 end → MakingTold V same asks batch_size roots slot w maps calls makers i b went.w2 end
-          → MakingToldAmong V same asks batch_size roots slot w maps calls makers enders i b went.w2 end
+      told : (end : NewMap × Advance Setting) → GoesTo V same asks batch_size roots slot w i b went.w2 end → MakingOutcome V same asks batch_size roots slot w maps calls makers i b went.w2 end
+          → MakingOutcomeWithEndings V same asks batch_size roots slot w maps calls makers enders i b went.w2 end
       told (n, progress.Goes) goes makings2 =
           goes_on (Some (record b { machine = n }))
           (λ j f ends d is. subst (λ (x : Beginning K). (HasTaken x.machine.stands → f.setting.root ≢ x.machine.setting.root) × (HasMade x.machine.stands → HasCounter f → f.setting.counter ≢ x.machine.setting.counter))
@@ -104,19 +104,19 @@ module _ {K Q : Type 0} (V : Type 0) (same : K → K → Bool) (asks : Q → K �
           )
       told (n, progress.Refused fault) goes makings2 = over None refl makings2
 
-      leads : MakingStepsAmong V same asks batch_size roots slot w maps calls makers enders i b m2 end
+      leads : MakingStepsWithEndings V same asks batch_size roots slot w maps calls makers enders i b m2 end
       leads =
           let step = making_leads V same asks batch_size roots slot w maps calls makers all.makings i b makes m2 end went in
           record { step = step; told = told end went.told step.told }
 
 module _ {K Q : Type 0} (V : Type 0) (same : K → K → Bool) (asks : Q → K → Bool) (batch_size roots : ℕ) (slot : ℕ → ℕ) where
-  pub makings_stand_among : MakingsStandAmong V same asks batch_size roots slot
+  pub makings_stand_among : MakingsPreserveWithEndings V same asks batch_size roots slot
   makings_stand_among w maps calls makers enders all i b makes =
       let m = makings_went V same asks batch_size roots slot w maps calls makers all.makings i b makes in
       (m.0, λ m2 end s. leads V same asks batch_size roots slot w maps calls makers enders all i b makes m2 end (m.1 m2 end s))
 
   -- it has neither a root nor a counter yet
-  pub makings_begin_among : MakingsBeginAmong V same asks batch_size roots slot
+  pub makings_begin_among : MakingsBeginWithEndings V same asks batch_size roots slot
   makings_begin_among w maps calls makers enders all i unending b makings2 begins = record {
     makings = makings2;
     facts = all.facts;

@@ -15,10 +15,10 @@ use Rattle.many_calls.specs.Together.{UnderWay, CameAbout, Together}
 use Rattle.many_calls.proofs.Together.At.{at_other, at_same}
 use Rattle.many_calls.proofs.Together.Came.{came_on, came_reached}
 use Rattle.many_maps.specs.Endings.{Finishing, EndingsTogether}
-use Rattle.many_maps.specs.FactsEnds.{events_of, RootIs, MayEnd, EndingFacts, EndFacts, HasEnded, EndTold, EndWent}
+use Rattle.many_maps.specs.FactsEnds.{events_of, RootIs, MayEnd, EndingFacts, EndFacts, HasEnded, EndOutcome, EndStepSpec}
 use Rattle.many_maps.specs.Makings.{Beginning, HasRoots}
 use Rattle.many_maps.specs.Maps.{Standing}
-use Rattle.many_maps.specs.Owners.{owning_end_of, OwnEndFacts, OwnEnding, OwnEndingsBegin, OwnEndingTold, OwnEndingsStand}
+use Rattle.many_maps.specs.Owners.{owning_end_of, OwnEndFacts, OwnEnding, OwnEndingsBegin, OwnEndingOutcome, OwnEndingsStand}
 use Rattle.many_maps.proofs.Among.Begins.{lists_then, may_end_now, each_pair}
 use Rattle.many_maps.proofs.Among.LeftAlone.{used_until_over}
 use Rattle.many_maps.proofs.Among.Own.Makings.{IsRoot}
@@ -87,7 +87,7 @@ module _ {K Q : Type 0} (V : Type 0) (same : K → K → Bool) (asks : Q → K �
 
   -- it takes a step
   module _ (f : Finishing K V) (own : OwnEnding V same asks batch_size roots slot maps calls makers enders w i f) (m2 : Mem (Node K V)) (end : EndMap × Settled (Node K V))
-      (went : EndWent f.setting f.chart f.blocks own.facts.lists true i f.hash f.began w own.facts.past f.back m2 end) where
+      (went : EndStepSpec f.setting f.chart f.blocks own.facts.lists true i f.hash f.began w own.facts.past f.back m2 end) where
     abbrev facts : OwnEndFacts same batch_size w i f
     facts = own.facts
 
@@ -170,8 +170,8 @@ module _ {K Q : Type 0} (V : Type 0) (same : K → K → Bool) (asks : Q → K �
     root_free : HasEnded f.setting f.chart f.blocks facts.lists true i f.hash f.began went.w2 went.past2 f.back → RootIs f.setting went.w2.memory []
     root_free h = subst (λ (l : List ℕ). RootIs f.setting went.w2.memory l) (before_owned f.setting f.chart f.blocks facts.lists true went.past2 refl) h.root
 
-    told_at : (end : EndMap × Settled (Node K V)) → EndTold f.setting f.chart f.blocks facts.lists true i f.hash f.began w went.w2 went.deed went.past2 f.back end
-        → OwnEndingTold V same asks batch_size roots slot maps calls makers enders w i f went.w2 went.deed end
+    told_at : (end : EndMap × Settled (Node K V)) → EndOutcome f.setting f.chart f.blocks facts.lists true i f.hash f.began w went.w2 went.deed went.past2 f.back end
+        → OwnEndingOutcome V same asks batch_size roots slot maps calls makers enders w i f went.w2 went.deed end
     told_at (e, settled.Goes) (none, h) = (none, goes_on e f.back h)
     told_at (e, settled.Waits) h = h
     told_at (e, settled.Gave value) (b, taken, there, h) = (b, there, taken, goes_on e (f.back ++ b ∷ []) h)

@@ -9,13 +9,13 @@ use Rattle.many_maps.proofs.Beside.Maps.Rows.{row_all_together}
 use Rattle.many_maps.proofs.Beside.Maps.Steps.{all_together, others_stand}
 use Rattle.many_calls.proofs.Together.RoomRows.{room_rows_stand_together}
 use Rattle.many_calls.proofs.Together.Rooms.{rooms_begin_together, rooms_stand_together}
-use Rattle.many_maps.specs.Rooms.{RoomsBeginAmong, RoomsStandAmong, RoomRowsStandAmong}
+use Rattle.many_maps.specs.Rooms.{RoomsBeginWithEndings, RoomsPreserveWithEndings, RoomRowsPreserveWithEndings}
 use Rattle.many_maps.proofs.Among.Beside.{endings_same}
 use Rattle.many_maps.proofs.Among.Calls.{no_ender, ender_alone, endings_with_call, call_spares}
 use Rattle.many_maps.proofs.Among.Rows as rows
 
 module _ {K Q : Type 0} (V : Type 0) (same : K → K → Bool) (asks : Q → K → Bool) (batch_size roots : ℕ) (slot : ℕ → ℕ) where
-  pub rooms_begin_among : RoomsBeginAmong V same asks batch_size roots slot
+  pub rooms_begin_among : RoomsBeginWithEndings V same asks batch_size roots slot
   rooms_begin_among w maps calls makers enders all i free unending alone rests inside m s here few additional =
       let standing = all.makings.standing in
       endings_with_call V same asks batch_size roots slot w maps calls makers enders all m i _ (λ j f ends e. (let none = ap enders (sym e) ∙ ends in cc (none, unending)))
@@ -23,7 +23,7 @@ module _ {K Q : Type 0} (V : Type 0) (same : K → K → Bool) (asks : Q → K �
       (maps_with_call V same asks batch_size slot w maps calls standing m s here i _ (λ n ne. alone n)
       (rooms_begin_together same s.hash asks s.setting slot w s.chart s.blocks s.sights (calls m) i (standing.each m s here) (alone m) rests inside few additional)))
 
-  pub rooms_stand_among : RoomsStandAmong V same asks batch_size roots slot
+  pub rooms_stand_among : RoomsPreserveWithEndings V same asks batch_size roots slot
   rooms_stand_among w maps calls makers enders all m s here i r has none =
       let standing = all.makings.standing in
       let fit = standing.fit m s here in
@@ -49,7 +49,7 @@ module _ {K Q : Type 0} (V : Type 0) (same : K → K → Bool) (asks : Q → K �
             },
       )
 
-  pub room_rows_stand_among : RoomRowsStandAmong V same asks batch_size roots slot
+  pub room_rows_stand_among : RoomRowsPreserveWithEndings V same asks batch_size roots slot
   room_rows_stand_among w maps calls makers enders all m s here i r has is_row =
       let standing = all.makings.standing in
       let leads = room_rows_stand_together same s.hash asks s.setting slot (standing.fit m s here).0 w s.chart s.blocks s.sights (calls m) (standing.each m s here) i r has is_row in (

@@ -10,7 +10,7 @@ use Rattle.many_calls.specs.Together.{OnKey, UnderWay, IsOfSlots, IsOneStep}
 use Rattle.many_maps.proofs.Beside.Endings.Rows.{step_spares_end, slots_spare_end, one_step_spares_end}
 use Rattle.many_maps.proofs.Beside.Endings.Spares.{SparesEnd}
 use Rattle.many_maps.proofs.Beside.Makings.RowSteps.{same_setting, rows_stand_beside, guards_stand_beside}
-use Rattle.many_maps.specs.Endings.{Finishing, EndingsTogether, AllEndingsStand, RowsStandAmong, GuardsStandAmong}
+use Rattle.many_maps.specs.Endings.{Finishing, EndingsTogether, AllEndingsStand, RowsPreserveWithEndings, GuardsPreserveWithEndings}
 use Rattle.many_maps.proofs.Among.Beside.{IsSparedEnd, other_owner, endings_same}
 use Rattle.many_maps.proofs.Among.Calls.{no_ender, ender_alone}
 
@@ -46,7 +46,7 @@ module _ {K Q : Type 0} (V : Type 0) (same : K → K → Bool) (asks : Q → K �
       )
 
 module _ {K Q : Type 0} (V : Type 0) (same : K → K → Bool) (asks : Q → K → Bool) (batch_size roots : ℕ) (slot : ℕ → ℕ) where
-  pub rows_stand_among : RowsStandAmong V same asks batch_size roots slot
+  pub rows_stand_among : RowsPreserveWithEndings V same asks batch_size roots slot
   rows_stand_among w maps calls makers enders all m s here i u has is_row =
       let leads = rows_stand_beside V same asks batch_size roots slot w maps calls makers all.makings m s here i u has is_row in (
         leads.0,
@@ -61,7 +61,7 @@ module _ {K Q : Type 0} (V : Type 0) (same : K → K → Bool) (asks : Q → K �
             },
       )
 
-  pub guards_stand_among : GuardsStandAmong V same asks batch_size roots slot
+  pub guards_stand_among : GuardsPreserveWithEndings V same asks batch_size roots slot
   guards_stand_among w maps calls makers enders all i alone =
       let guards = guards_stand_beside V same asks batch_size roots slot w maps calls makers all.makings i alone in
       let none : (j : ℕ) (f : Finishing K V) → enders j ≡ Some f → (m : ℕ) → calls m j ≡ None = λ j f ends. (all.alone j f ends).0 in (

@@ -4,7 +4,7 @@ use Rattle.std.proofs.Common.{◌≡◌, ℕ, Bool, ap, sym, ◌∙◌}
 use Rattle.many_calls.specs.Given.SeizeWorld.{World, with_at}
 use Rattle.many_calls.specs.Given.TablesDeclared.node.Node.{Node}
 use Rattle.many_calls.specs.Given.SweepsSweepPoints.{after_next}
-use Rattle.many_calls.specs.OverAll.{CallOverAll, come_to, gone_on, told_of}
+use Rattle.many_calls.specs.OverAll.{CallOverAll, come_to, gone_on, with_verdict}
 use Rattle.many_calls.specs.Together.{UnderWay, OverAll, next_over_all, Together}
 use Rattle.many_maps.specs.Makings.{Beginning}
 use Rattle.many_maps.specs.Maps.{Standing, with_call}
@@ -18,13 +18,13 @@ use Rattle.many_calls.proofs.Together.SweepStepped.{sweep_rows_stand_together}
 use Rattle.many_calls.proofs.Together.Sweeps.{sweeps_begin_together, sweeps_stand_together}
 use Rattle.many_calls.proofs.Together.SweepsTold.{sweeps_told_together, walks_stop_together}
 use Rattle.many_maps.specs.Endings.{Finishing, EndingsTogether}
-use Rattle.many_maps.specs.Sweeps.{SweepsBeginAmong, SweepsStandAmong, SweepsToldAmong, SweepRowsStandAmong, WalksStopAmong}
+use Rattle.many_maps.specs.Sweeps.{SweepsBeginWithEndings, SweepsPreserveWithEndings, SweepsRepliedWithEndings, SweepRowsPreserveWithEndings, WalksStopWithEndings}
 use Rattle.many_maps.proofs.Among.Beside.{endings_same}
 use Rattle.many_maps.proofs.Among.Calls.{no_ender, ender_alone, endings_with_call, call_spares}
 use Rattle.many_maps.proofs.Among.Rows as rows
 
 module _ {K Q : Type 0} (V : Type 0) (same : K → K → Bool) (asks : Q → K → Bool) (batch_size roots : ℕ) (slot : ℕ → ℕ) where
-  pub sweeps_begin_among : SweepsBeginAmong V same asks batch_size roots slot
+  pub sweeps_begin_among : SweepsBeginWithEndings V same asks batch_size roots slot
   sweeps_begin_among w maps calls makers enders all i free unending alone rests inside m s here few purpose =
       let standing = all.makings.standing in
       endings_with_call V same asks batch_size roots slot w maps calls makers enders all m i _ (λ j f ends e. (let none = ap enders (sym e) ∙ ends in cc (none, unending)))
@@ -32,7 +32,7 @@ module _ {K Q : Type 0} (V : Type 0) (same : K → K → Bool) (asks : Q → K �
       (maps_with_call V same asks batch_size slot w maps calls standing m s here i _ (λ n ne. alone n)
       (sweeps_begin_together same s.hash asks s.setting slot w s.chart s.blocks s.sights (calls m) i (standing.each m s here) (alone m) rests inside few purpose)))
 
-  pub sweeps_stand_among : SweepsStandAmong V same asks batch_size roots slot
+  pub sweeps_stand_among : SweepsPreserveWithEndings V same asks batch_size roots slot
   sweeps_stand_among w maps calls makers enders all m s here i o has none =
       let standing = all.makings.standing in
       let fit = standing.fit m s here in
@@ -68,22 +68,22 @@ module _ {K Q : Type 0} (V : Type 0) (same : K → K → Bool) (asks : Q → K �
       (makings_with_call V same asks batch_size roots slot w maps calls makers all.makings m i next (no_maker V same asks batch_size roots slot w maps calls makers all.makings m i (OverAll o) has)
       (maps_with_call V same asks batch_size slot w maps calls all.makings.standing m s here i next (no_other V same asks batch_size slot w maps calls all.makings.standing m s here i (OverAll o) has) stand))
 
-  pub sweeps_told_among : SweepsToldAmong V same asks batch_size roots slot
+  pub sweeps_told_among : SweepsRepliedWithEndings V same asks batch_size roots slot
   sweeps_told_among w maps calls makers enders all m s here i o has =
       let standing = all.makings.standing in
       let taken = sweeps_told_together same s.hash asks s.setting slot (standing.fit m s here).0 w s.chart s.blocks s.sights (calls m) (standing.each m s here) i o has in
       record {
         next = with_it w maps calls makers enders all m s here i o has (Some (OverAll (gone_on o (after_next o.sweep)))) taken.next;
         asks_about = taken.asks_about;
-        replied = λ word n is named keeps. with_it w maps calls makers enders all m s here i o has (Some (OverAll (told_of o n keeps))) (taken.replied word n is named keeps);
+        replied = λ word n is named keeps. with_it w maps calls makers enders all m s here i o has (Some (OverAll (with_verdict o n keeps))) (taken.replied word n is named keeps);
       }
 
-  pub walks_stop_among : WalksStopAmong V same asks batch_size roots slot
+  pub walks_stop_among : WalksStopWithEndings V same asks batch_size roots slot
   walks_stop_among w maps calls makers enders all m s here i o has ready =
       let stops = walks_stop_together same s.hash asks s.setting slot w s.chart s.blocks s.sights (calls m) (all.makings.standing.each m s here) i o has ready in
       (with_it w maps calls makers enders all m s here i o has None stops.0, stops.1)
 
-  pub sweep_rows_stand_among : SweepRowsStandAmong V same asks batch_size roots slot
+  pub sweep_rows_stand_among : SweepRowsPreserveWithEndings V same asks batch_size roots slot
   sweep_rows_stand_among w maps calls makers enders all m s here i o has is_row =
       let standing = all.makings.standing in
       let leads = sweep_rows_stand_together same s.hash asks s.setting slot (standing.fit m s here).0 w s.chart s.blocks s.sights (calls m) (standing.each m s here) i o has is_row in (

@@ -15,4 +15,3 @@ pub mod Tables
 pub mod Steps
 pub mod RowSteps
 pub mod Promised
-pub mod Samples

@@ -7,4 +7,3 @@ pub mod All
 pub mod Comes
 pub mod Steps
 pub mod Rows
-mod Samples

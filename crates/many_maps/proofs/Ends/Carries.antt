@@ -26,7 +26,7 @@ use Rattle.many_calls.specs.Given.RuleWords.{Blocks}
 use Rattle.many_calls.specs.Given.PointsSteps.{AreLawful}
 use Rattle.many_calls.proofs.Given.RuleWords.TablesSeen.{block_of_link}
 use Rattle.many_maps.specs.Orders.{given_of, waits_of}
-use Rattle.many_maps.specs.FactsEnds.{LeavesTable, IsJoined, RootAt, HasBehind, IsTableYet, Since, BeganIn, IsAt, EndFacts, EndTold, EndWent, back_of, from_table, wait_before}
+use Rattle.many_maps.specs.FactsEnds.{LeavesTable, IsJoined, RootAt, HasDeferred, IsTableYet, Since, BeganIn, IsAt, EndFacts, EndOutcome, EndStepSpec, back_of, from_table, wait_before}
 use Rattle.many_maps.proofs.Ends.CountedBlocks.{later_apart}
 use Rattle.many_maps.proofs.Ends.Known.{back_once, table_value}
 use Rattle.many_maps.proofs.Ends.Worlds.{cut, over, over_left}
@@ -78,7 +78,7 @@ module _ {K V : Type 0} (same : K → K → Bool) (hash : K → ℕ) (are : AreL
   yet : IsTableYet setting c blocks lists owns caller w0 w t t
   yet = since.tables t here.from here.made fresh
 
-  carried : HasBehind w (blocks.table t) (lists t)
+  carried : HasDeferred w (blocks.table t) (lists t)
   carried = yet.carries (omega arith)
 
   list : (word : ℕ) × (word_at w.memory (Word (blocks.table t) DEFERRED) ≡ Some word) × ListFrom w.memory word (lists t)
@@ -287,7 +287,7 @@ module _ {K V : Type 0} (same : K → K → Bool) (hash : K → ℕ) (are : AreL
       by false o q rest l link = at_first (e.first == 0) refl (sym o) q rest l link
 
   pub went_carries : (m2 : Mem (Node K V)) (end : EndMap × Settled (Node K V)) → Steps Took value_at w.memory (carries e) m2 end
-      → EndWent setting c blocks lists owns caller hash w0 w t back m2 end
+      → EndStepSpec setting c blocks lists owns caller hash w0 w t back m2 end
   went_carries m2 end s =
       let d = loaded w.memory (list_read e) (Word (e.table.link / 2048) DEFERRED) m2 end s in
       let b = blocks.table t in
@@ -304,6 +304,6 @@ module _ {K V : Type 0} (same : K → K → Bool) (hash : K → ℕ) (are : AreL
         fresh = (fresh, counter_fresh);
         spares = leaves_spare setting caller w b (lists t);
         its = (refl, (yet.used (omega arith)).0, carried, here.from, here.made, refl, refl);
-        told = subst (λ (x : EndMap × Settled (Node K V)). EndTold setting c blocks lists owns caller hash w0 w left (LeavesTable b (lists t)) (suc t) back x) (sym (ends_list d.0 end d.3))
+        told = subst (λ (x : EndMap × Settled (Node K V)). EndOutcome setting c blocks lists owns caller hash w0 w left (LeavesTable b (lists t)) (suc t) back x) (sym (ends_list d.0 end d.3))
             (refl, goes_told d.0 (same_some d.0 list.0 (sym d.1 ∙ word_there)));
       }

@@ -21,7 +21,7 @@ use Rattle.many_calls.specs.Given.RuleChart.{Chart}
 use Rattle.many_calls.specs.Given.RuleWords.{Blocks}
 use Rattle.many_calls.specs.Given.PointsSteps.{AreLawful}
 use Rattle.many_calls.proofs.Given.RuleWords.TablesSeen.{block_of_link}
-use Rattle.many_maps.specs.FactsEnds.{Looks, JoinsPair, TakesLeft, RootAt, Since, BeganIn, IsAt, Gives, Joins, IsToJoin, EndFacts, EndTold, EndWent, back_of, from_table, wait_before}
+use Rattle.many_maps.specs.FactsEnds.{Looks, JoinsPair, TakesLeft, RootAt, Since, BeganIn, IsAt, Gives, Joins, IsToJoin, EndFacts, EndOutcome, EndStepSpec, back_of, from_table, wait_before}
 use Rattle.many_maps.proofs.Ends.CountedBlocks.{times-append, times_here, some_first, some_last, some_here, next_apart, one_more}
 use Rattle.many_maps.proofs.Ends.Known.{back_once, went_still, went_away}
 use Rattle.many_maps.proofs.Ends.Memory.{list_link, list_after, list_joined, list_kept, taken_value, taken_link}
@@ -38,10 +38,10 @@ module _ {K V : Type 0} (same : K → K → Bool) (hash : K → ℕ) (are : AreL
     (w : World (Node K V)) (back : List ℕ) (since : Since setting c blocks lists owns caller w0 w (suc t) back) (roots : RootAt hash setting c blocks w.memory at.Reads)
     (here : IsAt setting c blocks lists owns e t) where
   abbrev Went : Mem (Node K V) → EndMap × Settled (Node K V) → Type 0
-  Went m2 end = EndWent setting c blocks lists owns caller hash w0 w (suc t) back m2 end
+  Went m2 end = EndStepSpec setting c blocks lists owns caller hash w0 w (suc t) back m2 end
 
   abbrev Told : EndMap × Settled (Node K V) → Type 0
-  Told end = EndTold setting c blocks lists owns caller hash w0 w w Looks (suc t) back end
+  Told end = EndOutcome setting c blocks lists owns caller hash w0 w w Looks (suc t) back end
 
   -- a list is joined to those before
   module _ (pair : ℕ) (j : IsToJoin setting c blocks lists owns w.memory e t back pair) where
@@ -117,7 +117,7 @@ module _ {K V : Type 0} (same : K → K → Bool) (hash : K → ℕ) (are : AreL
           fresh = tt;
           spares = joins_spare setting caller w j.here pair some;
           its = (refl, its, waiting);
-          told = subst (λ (x : EndMap × Settled (Node K V)). EndTold setting c blocks lists owns caller hash w0 w linked (JoinsPair j.here pair) (suc t) back x) (sym d.1) (refl, joined_told);
+          told = subst (λ (x : EndMap × Settled (Node K V)). EndOutcome setting c blocks lists owns caller hash w0 w linked (JoinsPair j.here pair) (suc t) back x) (sym d.1) (refl, joined_told);
         }
 
   -- the next one is read
@@ -341,5 +341,5 @@ module _ {K V : Type 0} (same : K → K → Bool) (hash : K → ℕ) (are : AreL
         let value_is : value_at w.memory q ≡ Some d.0 = ap (value_at w.memory) (sym q_at) ∙ d.1 in
         went_away same hash are setting c blocks lists owns caller w0 may w (suc t) back m2 end q d.0 q_apart.0 (inl g.owned)
         its_q.0 (inr (λ s. since.free g.owned s q)) value_is (d.2 ∙ ap (λ (x : ℕ). with_block w.memory x None) q_at)
-        (subst (λ (x : EndMap × Settled (Node K V)). EndTold setting c blocks lists owns caller hash w0 w (away w caller q) (TakesLeft q) (suc t) back x) (sym d.3)
+        (subst (λ (x : EndMap × Settled (Node K V)). EndOutcome setting c blocks lists owns caller hash w0 w (away w caller q) (TakesLeft q) (suc t) back x) (sym d.3)
         (q, refl, value_is, gone_on))

@@ -14,10 +14,10 @@ use Rattle.many_calls.specs.Given.TablesDeclared.setting.Setting.{Setting}
 use Rattle.many_calls.specs.Given.TablesDeclared.table_words.TheConstants.{NEXT}
 use Rattle.many_calls.specs.Given.RawDeclared.machines.end_map.EndMap.{EndMap}
 use Rattle.many_calls.specs.Given.RuleChart.{Chart}
-use Rattle.many_calls.specs.Given.RuleWords.{Blocks, ShowsTable, next_word}
+use Rattle.many_calls.specs.Given.RuleWords.{Blocks, RepresentsTable, next_word}
 use Rattle.many_calls.specs.Given.RuleMaps.{IsTable}
 use Rattle.many_calls.specs.Given.PointsSteps.{AreLawful}
-use Rattle.many_maps.specs.FactsEnds.{IsFresh, Looks, TakesPair, TakesLeft, IsOverStill, IsUsedYet, Since, BeganIn, IsAt, EndTold, EndWent, back_of}
+use Rattle.many_maps.specs.FactsEnds.{IsFresh, Looks, TakesPair, TakesLeft, IsOverStill, IsUsedYet, Since, BeganIn, IsAt, EndOutcome, EndStepSpec, back_of}
 use Rattle.many_maps.proofs.Ends.CountedBlocks.{some_here}
 use Rattle.many_maps.proofs.Ends.Worlds.{cut, over, away, over_left}
 use Rattle.many_maps.proofs.Ends.Frames.{looks_spare, pair_spares, left_spare}
@@ -44,7 +44,7 @@ module _ {K V : Type 0} (same : K → K → Bool) (hash : K → ℕ) (are : AreL
   module _ (w : World (Node K V)) (past : ℕ) (back : List ℕ) (since : Since setting c blocks lists owns caller w0 w past back) where
     -- a table that is linked, and still there
     module _ (t : ℕ) (from : c.first ≤ t) (made : t < c.past) (fresh : times (blocks.table t) back ≡ 0) where
-      shown : ShowsTable hash w0.memory c blocks t
+      shown : RepresentsTable hash w0.memory c blocks t
       shown = may.map.map.shows.tables t made (may.map.map.shows.linked t from made)
 
       pub table_value : value_at w.memory (blocks.table t) ≡ Some (node.Table (c.len t) (c.limit t) t)
@@ -60,14 +60,14 @@ module _ {K V : Type 0} (same : K → K → Bool) (hash : K → ℕ) (are : AreL
   -- what was made of it
   module _ (w : World (Node K V)) (past : ℕ) (back : List ℕ) (m2 : Mem (Node K V)) (end : EndMap × Settled (Node K V)) where
     -- a step that changed nothing at all
-    pub went_still : m2 ≡ w.memory → EndTold setting c blocks lists owns caller hash w0 w w Looks past back end → EndWent setting c blocks lists owns caller hash w0 w past back m2 end
+    pub went_still : m2 ≡ w.memory → EndOutcome setting c blocks lists owns caller hash w0 w w Looks past back end → EndStepSpec setting c blocks lists owns caller hash w0 w past back m2 end
     went_still is told =
         record { w2 = w; deed = Looks; past2 = past; runs = refl; memory = sym is; fresh = tt; spares = looks_spare setting caller w; its = refl; told = told }
 
     -- a block in use is reclaimed, behind which nothing can wait
     pub went_given : (b n : ℕ) (value : Node K V) → c.current n ≡ true → b ≡ blocks.pair n → IsFresh setting c blocks lists owns back (TakesPair b)
         → IsUsedYet setting.counter w b → value_at w.memory b ≡ Some value → deferred_word value ≡ None → IsOverStill setting.counter w0 w b → m2 ≡ with_block w.memory b None
-        → EndTold setting c blocks lists owns caller hash w0 w (away (over w caller b []) caller b) (TakesPair b) past back end → EndWent setting c blocks lists owns caller hash w0 w past back m2 end
+        → EndOutcome setting c blocks lists owns caller hash w0 w (away (over w caller b []) caller b) (TakesPair b) past back end → EndStepSpec setting c blocks lists owns caller hash w0 w past back m2 end
     went_given b n value current named fresh used is none ends memory told = record {
       w2 = away (over w caller b []) caller b;
       deed = TakesPair b;
@@ -93,7 +93,7 @@ module _ {K V : Type 0} (same : K → K → Bool) (hash : K → ℕ) (are : AreL
 
     -- one that was left over is taken away
     pub went_away : (b : ℕ) (value : Node K V) → times b back ≡ 0 → (owns ≡ true) ⊎ ((t : ℕ) × (c.first ≤ t) × (t < c.past) × (b ≡ blocks.table t)) → w.hand b ≡ LeftTo caller → MayClear b w.log → value_at w.memory b ≡ Some value → m2 ≡ with_block w.memory b None
-        → EndTold setting c blocks lists owns caller hash w0 w (away w caller b) (TakesLeft b) past back end → EndWent setting c blocks lists owns caller hash w0 w past back m2 end
+        → EndOutcome setting c blocks lists owns caller hash w0 w (away w caller b) (TakesLeft b) past back end → EndStepSpec setting c blocks lists owns caller hash w0 w past back m2 end
     went_away b value new which left clear is memory told = record {
       w2 = away w caller b;
       deed = TakesLeft b;

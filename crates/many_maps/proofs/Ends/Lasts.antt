@@ -24,7 +24,7 @@ use Rattle.many_calls.specs.Given.PointsSteps.{AreLawful}
 use Rattle.many_calls.specs.Together.{CameAbout}
 use Rattle.many_calls.proofs.Together.Came.{came_reached}
 use Rattle.many_maps.specs.Orders.{pairs_from, pairs_behind}
-use Rattle.many_maps.specs.FactsEnds.{RootAt, IsJoined, HasBehind, IsAt, AtPairs, Joins, IsToJoin, Since, BeganIn, EndingFacts, EndFacts, back_of, from_table, wait_before}
+use Rattle.many_maps.specs.FactsEnds.{RootAt, IsJoined, HasDeferred, IsAt, AtPairs, Joins, IsToJoin, Since, BeganIn, EndingFacts, EndFacts, back_of, from_table, wait_before}
 use Rattle.many_maps.proofs.Ends.CountedBlocks.{some_first, some_last}
 use Rattle.many_maps.proofs.Ends.Memory.{list_led}
 use Rattle.many_maps.proofs.Ends.Known.{table_value}
@@ -163,12 +163,12 @@ module _ {K V : Type 0} (same : K → K → Bool) (hash : K → ℕ) (are : AreL
   module _ (since : Since setting c blocks lists owns caller w0 w past back) where
     -- what a table carries now, if it isn't left over
     abbrev Carries : ℕ → List ℕ → Type 0
-    Carries t l = c.first ≤ t → past ≤ t → t < c.past → times (blocks.table t) back ≡ 0 → HasBehind w2 (blocks.table t) l
+    Carries t l = c.first ≤ t → past ≤ t → t < c.past → times (blocks.table t) back ≡ 0 → HasDeferred w2 (blocks.table t) l
 
     abbrev Now : ℕ → Type 0
     Now t = (l : List ℕ) × (t < past → l ≡ lists t) × Carries t l
 
-    behind_now : (t : ℕ) → c.first ≤ t → past ≤ t → t < c.past → times (blocks.table t) back ≡ 0 → (l : List ℕ) × HasBehind w2 (blocks.table t) l
+    behind_now : (t : ℕ) → c.first ≤ t → past ≤ t → t < c.past → times (blocks.table t) back ≡ 0 → (l : List ℕ) × HasDeferred w2 (blocks.table t) l
     behind_now t from later made fresh =
         let s = (alone.tables t from made fresh).0 in
         let used : w2.hand (blocks.table t) ≡ InUse setting.counter = s.hand ∙ ((since.tables t from made fresh).used later).0 in

@@ -16,7 +16,7 @@ use Rattle.many_calls.specs.Given.PointsSteps.{AreLawful}
 use Rattle.many_calls.specs.Kept.{IsUsersOwn, IsMaking}
 use Rattle.many_maps.specs.Orders.{given_of, waits_of, pairs_of, tables_in, waits_in}
 use Rattle.many_calls.specs.Given.RuleInWorld.{IsMapIn}
-use Rattle.many_maps.specs.FactsEnds.{HasBehind, back_of, wait_from}
+use Rattle.many_maps.specs.FactsEnds.{HasDeferred, back_of, wait_from}
 use Rattle.many_maps.proofs.Ends.CountedBlocks.{times-append, times_here, some_of_two, some_of_first, some_here}
 use Rattle.std.proofs.lemmas.Bool.{cases_lt}
 use Rattle.many_calls.proofs.Rows.Beside.{making_own}
@@ -172,7 +172,7 @@ pub record AreWith {T : Type 0} (w : World T) (b : ℕ) (list : List ℕ) : Type
   pub once : (x : ℕ) → times x list ≤ 1
   pub theirs : (x : ℕ) → 0 < times x list → (w.hand x ≡ Handed) × (where_is x w.log ≡ With b)
 
-pub are_with : {K V : Type 0} (w : World (Node K V)) (b : ℕ) (list : List ℕ) → HasBehind w b list → AreWith w b list
+pub are_with : {K V : Type 0} (w : World (Node K V)) (b : ℕ) (list : List ℕ) → HasDeferred w b list → AreWith w b list
 are_with w b list h = record { once = h.once; theirs = λ x on. ((h.theirs x on).0, (h.theirs x on).1) }
 
 -- a map stands in the world, and these are with its tables

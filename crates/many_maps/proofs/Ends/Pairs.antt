@@ -32,7 +32,7 @@ use Rattle.many_calls.proofs.Given.RuleWords.LinksSeen.{root_leads}
 use Rattle.many_calls.proofs.Given.RuleWords.TablesSeen.{place_stands, block_of_link}
 use Rattle.many_calls.proofs.Given.RuleWords.PlacesShown.{byte_of-few}
 use Rattle.many_maps.specs.Orders.{pair_at, pairs_behind, pairs_from}
-use Rattle.many_maps.specs.FactsEnds.{Looks, TakesPair, RootAt, IsOverStill, IsUsedYet, Since, BeganIn, AtPairs, EndingFacts, EndFacts, EndTold, EndWent, back_of, from_table, from_place, table_of, wait_before}
+use Rattle.many_maps.specs.FactsEnds.{Looks, TakesPair, RootAt, IsOverStill, IsUsedYet, Since, BeganIn, AtPairs, EndingFacts, EndFacts, EndOutcome, EndStepSpec, back_of, from_table, from_place, table_of, wait_before}
 use Rattle.many_maps.proofs.Ends.CountedBlocks.{next_apart, later_apart, one_more, some_here, some_last}
 use Rattle.many_maps.proofs.Ends.Known.{back_once, table_value, table_next, table_entered, went_still, went_given}
 use Rattle.many_maps.proofs.Ends.Worlds.{over, away}
@@ -88,11 +88,11 @@ module _ {K V : Type 0} (same : K → K → Bool) (hash : K → ℕ) (are : AreL
 
   module _ (w : World (Node K V)) (back : List ℕ) (since : Since setting c blocks lists owns caller w0 w past back) (roots : RootAt hash setting c blocks w.memory at.Reads) where
     abbrev Went : Mem (Node K V) → EndMap × Settled (Node K V) → Type 0
-    Went m2 end = EndWent setting c blocks lists owns caller hash w0 w past back m2 end
+    Went m2 end = EndStepSpec setting c blocks lists owns caller hash w0 w past back m2 end
 
     -- where a step led that only looked
     abbrev Told : EndMap × Settled (Node K V) → Type 0
-    Told end = EndTold setting c blocks lists owns caller hash w0 w w Looks past back end
+    Told end = EndOutcome setting c blocks lists owns caller hash w0 w w Looks past back end
 
     -- the place is read
     module _ (t : ℕ) (here : AtPairs setting c blocks lists owns e past t) (inside : e.place < c.len t) (all : back_of setting c blocks lists owns ≡ back ++ from_place setting c blocks lists owns t e.place) where
@@ -222,7 +222,7 @@ module _ {K V : Type 0} (same : K → K → Bool) (hash : K → ℕ) (are : AreL
           let v = away (over w caller b []) caller b in
           went_given same hash are setting c blocks lists owns caller w0 may w past back m2 end b n (node.Pair its.0 its.1) current refl (pair_fresh, counter_fresh) pair_yet.1 (pair_value ∙ its.2) refl pair_yet.0
           (d.2 ∙ ap (λ (x : ℕ). with_block w.memory x None) link)
-          (subst (λ (x : EndMap × Settled (Node K V)). EndTold setting c blocks lists owns caller hash w0 w v (TakesPair b) past back x) (sym d.3) (
+          (subst (λ (x : EndMap × Settled (Node K V)). EndOutcome setting c blocks lists owns caller hash w0 w v (TakesPair b) past back x) (sym d.3) (
             b,
             refl,
             value_is,

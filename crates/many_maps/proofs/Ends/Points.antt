@@ -15,7 +15,7 @@ use Rattle.many_calls.specs.Given.RawDeclared.machines.end_map.Ending.TheVariant
 use Rattle.many_calls.specs.Given.RuleChart.{Chart}
 use Rattle.many_calls.specs.Given.RuleWords.{Blocks}
 use Rattle.many_calls.specs.Given.PointsSteps.{AreLawful}
-use Rattle.many_maps.specs.FactsEnds.{RootAt, HasBehind, IsOverStill, Since, BeganIn, MayEnd, EndingFacts, EndFacts, EndWent, wait_before}
+use Rattle.many_maps.specs.FactsEnds.{RootAt, HasDeferred, IsOverStill, Since, BeganIn, MayEnd, EndingFacts, EndFacts, EndStepSpec, wait_before}
 use Rattle.many_maps.proofs.Ends.OrdersOn.{before_none}
 use Rattle.many_maps.proofs.Ends.Pairs.{may_reads, went_reads, may_words, went_words, may_takes, went_takes, may_nexts, went_nexts}
 use Rattle.many_maps.proofs.Ends.Carries.{may_carries, went_carries}
@@ -45,7 +45,7 @@ module _ {K V : Type 0} (same : K → K → Bool) (hash : K → ℕ) (setting : 
   none_waits : wait_before setting c blocks lists owns c.first ≡ []
   none_waits = before_none setting c blocks lists owns c.first (omega arith)
 
-  behind_ended : (t : ℕ) → c.first ≤ t → t < c.past → HasBehind ended (blocks.table t) (lists t)
+  behind_ended : (t : ℕ) → c.first ≤ t → t < c.past → HasDeferred ended (blocks.table t) (lists t)
   behind_ended t from made = let h = may.carries t from made in record { are = h.are; once = h.once; theirs = h.theirs; all = h.all }
 
   -- it knows what its first point is to know
@@ -79,7 +79,7 @@ module _ {K V : Type 0} (same : K → K → Bool) (hash : K → ℕ) (are : AreL
     (w0 : World (Node K V)) (may : BeganIn setting c blocks lists owns same hash w0) (w : World (Node K V)) (e : EndMap) where
   abbrev Step : ℕ → List ℕ → Ending → Type 0
   Step past back stage = May Can Took value_at w.memory (plan_at e stage)
-      × ((m2 : Mem (Node K V)) (end : EndMap × Settled (Node K V)) → Steps Took value_at w.memory (plan_at e stage) m2 end → EndWent setting c blocks lists owns caller hash w0 w past back m2 end)
+      × ((m2 : Mem (Node K V)) (end : EndMap × Settled (Node K V)) → Steps Took value_at w.memory (plan_at e stage) m2 end → EndStepSpec setting c blocks lists owns caller hash w0 w past back m2 end)
 
   module _ (setting_is : e.setting ≡ setting) (owns_is : e.owns ≡ owns) (past : ℕ) (back : List ℕ) (since : Since setting c blocks lists owns caller w0 w past back) where
     behind : (t : ℕ) → past ≡ suc t → Since setting c blocks lists owns caller w0 w (suc t) back
@@ -150,5 +150,5 @@ module _ {K V : Type 0} (same : K → K → Bool) (hash : K → ℕ) (are : AreL
   -- the promise: it may take its next step, and goes on or has ended
   pub end_steps : (past : ℕ) (back : List ℕ) → EndFacts setting c blocks lists owns caller hash w0 w e past back
       → May Can Took value_at w.memory (end_map_plan e)
-      × ((m2 : Mem (Node K V)) (end : EndMap × Settled (Node K V)) → Steps Took value_at w.memory (end_map_plan e) m2 end → EndWent setting c blocks lists owns caller hash w0 w past back m2 end)
+      × ((m2 : Mem (Node K V)) (end : EndMap × Settled (Node K V)) → Steps Took value_at w.memory (end_map_plan e) m2 end → EndStepSpec setting c blocks lists owns caller hash w0 w past back m2 end)
   end_steps past back f = step_at f.setting_is f.owns_is past back f.since e.stands f.root f.point

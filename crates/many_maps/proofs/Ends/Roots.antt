@@ -20,7 +20,7 @@ use Rattle.many_calls.specs.Given.RawDeclared.machines.end_map.Ending.TheVariant
 use Rattle.many_calls.specs.Given.RuleChart.{Chart}
 use Rattle.many_calls.specs.Given.RuleWords.{Blocks, root_word}
 use Rattle.many_calls.specs.Given.PointsSteps.{AreLawful}
-use Rattle.many_maps.specs.FactsEnds.{WritesRoot, Spares, RootAt, IsJoined, RootIs, Since, BeganIn, EndFacts, HasEnded, EndTold, EndWent, back_of, wait_before}
+use Rattle.many_maps.specs.FactsEnds.{WritesRoot, Spares, RootAt, IsJoined, RootIs, Since, BeganIn, EndFacts, HasEnded, EndOutcome, EndStepSpec, back_of, wait_before}
 use Rattle.many_maps.proofs.Ends.Frames.{root_spares, free_spares}
 use Rattle.many_maps.proofs.Ends.Since.{since_by}
 use Rattle.many_maps.proofs.Ends.Memory.{list_kept}
@@ -31,7 +31,7 @@ module _ {K V : Type 0} (same : K → K → Bool) (hash : K → ℕ) (are : AreL
     (w0 : World (Node K V)) (may : BeganIn setting c blocks lists owns same hash w0) (e : EndMap) (setting_is : e.setting ≡ setting) (owns_is : e.owns ≡ owns) (past : ℕ) (is_past : past ≡ c.past)
     (w : World (Node K V)) (back : List ℕ) (since : Since setting c blocks lists owns caller w0 w past back) (all : back_of setting c blocks lists owns ≡ back) where
   abbrev Went : Mem (Node K V) → EndMap × Settled (Node K V) → Type 0
-  Went m2 end = EndWent setting c blocks lists owns caller hash w0 w past back m2 end
+  Went m2 end = EndStepSpec setting c blocks lists owns caller hash w0 w past back m2 end
 
   root_at : e.setting.root ≡ setting.root
   root_at = ap (λ (s : Setting). s.root) setting_is
@@ -104,7 +104,7 @@ module _ {K V : Type 0} (same : K → K → Bool) (hash : K → ℕ) (are : AreL
         }
 
     abbrev Told : EndMap × Settled (Node K V) → Type 0
-    Told end = EndTold setting c blocks lists owns caller hash w0 w written (WritesRoot (Root setting.root) e.first) past back end
+    Told end = EndOutcome setting c blocks lists owns caller hash w0 w written (WritesRoot (Root setting.root) e.first) past back end
 
     sets_told : (end : EndMap × Settled (Node K V)) → Ends {R = EndMap × Settled (Node K V)} (value_at (with_word w.memory (Root e.setting.root) e.first))
         (if e.first == 0 then Now (standing e at.Frees, settled.Goes) else Now (standing e at.Over, settled.Done)) end → Told end
@@ -170,5 +170,5 @@ module _ {K V : Type 0} (same : K → K → Bool) (hash : K → ℕ) (are : AreL
           fresh = tt;
           spares = free_spare;
           its = (refl, inr refl);
-          told = subst (λ (x : EndMap × Settled (Node K V)). EndTold setting c blocks lists owns caller hash w0 w free (WritesRoot (Used setting.root) 0) past back x) (sym d.1) (refl, freed);
+          told = subst (λ (x : EndMap × Settled (Node K V)). EndOutcome setting c blocks lists owns caller hash w0 w free (WritesRoot (Used setting.root) 0) past back x) (sym d.1) (refl, freed);
         }

@@ -13,7 +13,7 @@ use Rattle.many_calls.specs.Given.RuleWords.{Blocks}
 use Rattle.many_calls.specs.Given.PointsSteps.{AreLawful}
 use Rattle.many_calls.specs.Kept.{IsMaking}
 use Rattle.many_maps.specs.Orders.{waits_of}
-use Rattle.many_maps.specs.FactsEnds.{Deed, LeavesTable, taken_by, left_by, cut_by, joined_by, Spares, HasBehind, IsTableYet, Since, BeganIn, wait_before}
+use Rattle.many_maps.specs.FactsEnds.{Deed, LeavesTable, taken_by, left_by, cut_by, joined_by, Spares, HasDeferred, IsTableYet, Since, BeganIn, wait_before}
 use Rattle.many_maps.proofs.Ends.CountedBlocks.{times-append, some_here}
 use Rattle.many_maps.proofs.Ends.OrdersOn.{wait_more}
 use Rattle.many_maps.proofs.Ends.OrdersOnce.{plain_order, pair_there, table_there}
@@ -113,7 +113,7 @@ module _ {K V : Type 0} (same : K → K → Bool) (hash : K → ℕ) (are : AreL
   used : w.hand (blocks.table t) ≡ InUse setting.counter
   used = (it.used (omega arith)).0
 
-  carried : HasBehind w (blocks.table t) (lists t)
+  carried : HasDeferred w (blocks.table t) (lists t)
   carried = it.carries (omega arith)
 
   not_on : (x : ℕ) → (w.hand x ≡ Handed → ⊥) → 0 < times x (lists t) → ⊥

@@ -15,7 +15,7 @@ use Rattle.many_calls.specs.Given.RuleChart.{Chart}
 use Rattle.many_calls.specs.Given.RuleWords.{Blocks}
 use Rattle.many_calls.specs.Kept.{IsMaking}
 use Rattle.many_calls.proofs.Rows.Behind.{behind_handed, pair_on}
-use Rattle.many_maps.specs.FactsEnds.{Deed, Looks, TakesPair, LeavesTable, JoinsPair, TakesLeft, TakesCounter, WritesRoot, CarryTheirs, IsItsDeed, taken_by, left_by, cut_by, joined_by, Spares, HasBehind, IsOverStill, IsTableYet, Since, wait_before}
+use Rattle.many_maps.specs.FactsEnds.{Deed, Looks, TakesPair, LeavesTable, JoinsPair, TakesLeft, TakesCounter, WritesRoot, CarryTheirs, IsItsDeed, taken_by, left_by, cut_by, joined_by, Spares, HasDeferred, IsOverStill, IsTableYet, Since, wait_before}
 use Rattle.many_maps.proofs.Ends.CountedBlocks.{times_other}
 use Rattle.many_maps.proofs.Ends.Memory.{list_kept}
 
@@ -29,8 +29,8 @@ pub record IsSame {T : Type 0} (w w2 : World T) (x : ℕ) : Type 0 where
 
 -- what a block carries it carries still, if it was not unlinked, and nothing was done to what it carries
 module _ {K V : Type 0} (setting : Setting) (caller : ℕ) (w w2 : World (Node K V)) (deed : Deed) (s : Spares setting caller w w2 deed) where
-  pub behind_kept : (b : ℕ) (list : List ℕ) → HasBehind w b list → times b (taken_by deed) ≡ 0 → times b (cut_by deed) ≡ 0
-      → ((x : ℕ) → 0 < times x list → (times x (taken_by deed) ≡ 0) × (times x (left_by deed) ≡ 0) × (times x (joined_by deed) ≡ 0) × (times x (cut_by deed) ≡ 0)) → HasBehind w2 b list
+  pub behind_kept : (b : ℕ) (list : List ℕ) → HasDeferred w b list → times b (taken_by deed) ≡ 0 → times b (cut_by deed) ≡ 0
+      → ((x : ℕ) → 0 < times x list → (times x (taken_by deed) ≡ 0) × (times x (left_by deed) ≡ 0) × (times x (joined_by deed) ≡ 0) × (times x (cut_by deed) ≡ 0)) → HasDeferred w2 b list
   behind_kept b list h there uncut apart = record {
     are = (h.are.0, s.values b there ∙ h.are.1, from (deferred_word h.are.0) h.are.2);
     once = h.once;
@@ -60,7 +60,7 @@ module _ {K V : Type 0} (setting : Setting) (c : Chart K) (blocks : Blocks) (own
     pub counter : times setting.counter back2 ≡ 0 → (value_at w2.memory setting.counter ≡ value_at w.memory setting.counter) × (w2.hand setting.counter ≡ w.hand setting.counter)
     pub tables_onto : (t j : ℕ) → c.first ≤ t → past ≤ t → t < c.past → times (blocks.table t) back2 ≡ 0 → IsOnto (blocks.table t) (w2.row j) → ⊥
     pub pairs_onto : (n j : ℕ) → c.current n ≡ true → times (blocks.pair n) back2 ≡ 0 → IsOnto (blocks.pair n) (w2.row j) → ⊥
-    pub carries : (t : ℕ) → c.first ≤ t → past ≤ t → t < c.past → times (blocks.table t) back2 ≡ 0 → HasBehind w2 (blocks.table t) (lists2 t)
+    pub carries : (t : ℕ) → c.first ≤ t → past ≤ t → t < c.past → times (blocks.table t) back2 ≡ 0 → HasDeferred w2 (blocks.table t) (lists2 t)
     pub waits : (x : ℕ) → 0 < times x (wait_before setting c blocks lists owns past) → w2.hand x ≡ w.hand x
     pub free : owns ≡ true → (s x : ℕ) → holds s x w2.log ≡ false
 

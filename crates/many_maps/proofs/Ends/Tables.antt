@@ -25,7 +25,7 @@ use Rattle.many_calls.specs.Given.RuleWords.{Blocks, next_word}
 use Rattle.many_calls.specs.Given.PointsSteps.{AreLawful}
 use Rattle.many_calls.proofs.Given.RuleWords.TablesSeen.{block_of_link}
 use Rattle.many_calls.specs.Kept.{IsMaking}
-use Rattle.many_maps.specs.FactsEnds.{Looks, TakesLeft, TakesCounter, RootAt, IsJoined, IsTableYet, Since, BeganIn, IsAt, EndFacts, EndTold, EndWent, back_of, from_table, wait_before}
+use Rattle.many_maps.specs.FactsEnds.{Looks, TakesLeft, TakesCounter, RootAt, IsJoined, IsTableYet, Since, BeganIn, IsAt, EndFacts, EndOutcome, EndStepSpec, back_of, from_table, wait_before}
 use Rattle.many_maps.proofs.Ends.CountedBlocks.{next_apart, later_apart, one_more}
 use Rattle.many_maps.proofs.Ends.Known.{back_once, table_value, table_next, went_still, went_away}
 use Rattle.many_maps.proofs.Ends.Memory.{list_kept, taken_link}
@@ -40,7 +40,7 @@ module _ {K V : Type 0} (same : K → K → Bool) (hash : K → ℕ) (are : AreL
     (w0 : World (Node K V)) (may : BeganIn setting c blocks lists owns same hash w0) (e : EndMap) (setting_is : e.setting ≡ setting) (owns_is : e.owns ≡ owns) (past : ℕ)
     (w : World (Node K V)) (back : List ℕ) (since : Since setting c blocks lists owns caller w0 w past back) (roots : RootAt hash setting c blocks w.memory at.Reads) where
   abbrev Went : Mem (Node K V) → EndMap × Settled (Node K V) → Type 0
-  Went m2 end = EndWent setting c blocks lists owns caller hash w0 w past back m2 end
+  Went m2 end = EndStepSpec setting c blocks lists owns caller hash w0 w past back m2 end
 
   -- what was joined stays, as another block is taken away
   pub joined_kept : (b : ℕ) → IsSome (value_at w.memory b) → times b (wait_before setting c blocks lists owns past) ≡ 0 → IsJoined w.memory e.first e.last (wait_before setting c blocks lists owns past)
@@ -84,7 +84,7 @@ module _ {K V : Type 0} (same : K → K → Bool) (hash : K → ℕ) (are : AreL
     went_afters m2 end s =
         let d = loaded w.memory (after_read e) (Word (e.table.link / 2048) NEXT) m2 end s in
         went_still same hash are setting c blocks lists owns caller w0 may w past back m2 end d.2
-        (subst (λ (x : EndMap × Settled (Node K V)). EndTold setting c blocks lists owns caller hash w0 w w Looks past back x) (sym d.3) (
+        (subst (λ (x : EndMap × Settled (Node K V)). EndOutcome setting c blocks lists owns caller hash w0 w w Looks past back x) (sym d.3) (
           refl,
           record {
             setting_is = setting_is;
@@ -201,13 +201,13 @@ module _ {K V : Type 0} (same : K → K → Bool) (hash : K → ℕ) (are : AreL
           (λ value is. subst (λ (b : ℕ). MaySee (value_at (with_block w.memory b None)) (dropped e next (Taken value))) (sym link_at) (see_dropped value))
 
       drops_told : (value : Node K V) → value_at w.memory (blocks.table t) ≡ Some value → (end : EndMap × Settled (Node K V))
-          → Ends (value_at (with_block w.memory (blocks.table t) None)) (dropped e next (Taken value)) end → EndTold setting c blocks lists owns caller hash w0 w gone (TakesLeft (blocks.table t)) past back end
+          → Ends (value_at (with_block w.memory (blocks.table t) None)) (dropped e next (Taken value)) end → EndOutcome setting c blocks lists owns caller hash w0 w gone (TakesLeft (blocks.table t)) past back end
       drops_told value is end ends =
           elim (ends_if (value_at (with_block w.memory (blocks.table t) None)) (next == 0) (Now (standing e at.Shards, settled.Gave value))
           (Seeing (next / 2048) (λ other. Now (record e { table = table_seen next other; stands = at.Carries }, settled.Gave value))) end ends)
-          as (λ _. EndTold setting c blocks lists owns caller hash w0 w gone (TakesLeft (blocks.table t)) past back end) [
-            | inl h ↦ subst (λ (x : EndMap × Settled (Node K V)). EndTold setting c blocks lists owns caller hash w0 w gone (TakesLeft (blocks.table t)) past back x) (sym h.1) (blocks.table t, refl, is, none next_cases h.0)
-            | inr h ↦ subst (λ (x : EndMap × Settled (Node K V)). EndTold setting c blocks lists owns caller hash w0 w gone (TakesLeft (blocks.table t)) past back x) (sym h.1.2) (blocks.table t, refl, is, some next_cases h.0 h.1.0 h.1.1)
+          as (λ _. EndOutcome setting c blocks lists owns caller hash w0 w gone (TakesLeft (blocks.table t)) past back end) [
+            | inl h ↦ subst (λ (x : EndMap × Settled (Node K V)). EndOutcome setting c blocks lists owns caller hash w0 w gone (TakesLeft (blocks.table t)) past back x) (sym h.1) (blocks.table t, refl, is, none next_cases h.0)
+            | inr h ↦ subst (λ (x : EndMap × Settled (Node K V)). EndOutcome setting c blocks lists owns caller hash w0 w gone (TakesLeft (blocks.table t)) past back x) (sym h.1.2) (blocks.table t, refl, is, some next_cases h.0 h.1.0 h.1.1)
           ]
         where
           none : NextIs → (next == 0) ≡ true → over_then
@@ -252,7 +252,7 @@ module _ {K V : Type 0} (same : K → K → Bool) (hash : K → ℕ) (are : AreL
     gone_counter = away w caller setting.counter
 
     counter_told : (value : Node K V) → value_at w.memory setting.counter ≡ Some value
-        → EndTold setting c blocks lists owns caller hash w0 w gone_counter (TakesCounter setting.counter) past back (standing e at.Sets, settled.Gave value)
+        → EndOutcome setting c blocks lists owns caller hash w0 w gone_counter (TakesCounter setting.counter) past back (standing e at.Sets, settled.Gave value)
     counter_told value is = (
       setting.counter,
       refl,
@@ -295,5 +295,5 @@ module _ {K V : Type 0} (same : K → K → Bool) (hash : K → ℕ) (are : AreL
           fresh = counter_apart;
           spares = counter_spares setting caller w setting.counter counter_there;
           its = (refl, refl, its.1);
-          told = subst (λ (x : EndMap × Settled (Node K V)). EndTold setting c blocks lists owns caller hash w0 w gone_counter (TakesCounter setting.counter) past back x) (sym d.3) (counter_told d.0 value_is);
+          told = subst (λ (x : EndMap × Settled (Node K V)). EndOutcome setting c blocks lists owns caller hash w0 w gone_counter (TakesCounter setting.counter) past back x) (sym d.3) (counter_told d.0 value_is);
         }

@@ -24,7 +24,7 @@ use Rattle.map_rule.specs.Given.ResizeCopierClaims.{chunk, range_claimed, claims
 use Rattle.map_rule.specs.Chart.{Chart, put}
 use Rattle.map_rule.specs.Rule.{IsLawful}
 use Rattle.map_rule.specs.Moves.{Claims, is_of_caller, is_done_by, after}
-use Rattle.map_rule.specs.Words.{Blocks, Shows}
+use Rattle.map_rule.specs.Words.{Blocks, Represents}
 use Rattle.map_rule.specs.Maps.{spot_of}
 use Rattle.map_rule.specs.InWorld.{IsMapIn}
 use Rattle.map_facts.specs.FactsCopiesBlocking.{HasNoShares, CopiesInto, HasDoneIn, ClaimsRange, RestsIn, CopyingFactsBlocking}
@@ -62,7 +62,7 @@ module _ {K V : Type 0} (same : K → K → Bool) (hash : K → ℕ) (caller : �
   abbrev claimed_memory : Mem (Node K V)
   claimed_memory = with_word w.memory (at_word p.target CLAIM) ((c.claim t + chunk p) % 2 ^ 64)
 
-  claimed_shows : Shows hash claimed_memory claimed_chart blocks setting.root
+  claimed_shows : Represents hash claimed_memory claimed_chart blocks setting.root
   claimed_shows = claim_shows same hash setting w c blocks map p t rests.0.2 ((c.claim t + chunk p) % 2 ^ 64) (c.claim t + chunk p) (sym fits) claimed_chart.share
 
   hands : Hands same hash setting w claimed_chart blocks

@@ -26,7 +26,7 @@ use Rattle.map_rule.specs.Chart.{Share, Claimed, Counted, Chart}
 use Rattle.map_rule.specs.Rule.{IsLawful}
 use Rattle.map_rule.proofs.Moves.Counts.{counted_behind}
 use Rattle.map_rule.specs.Moves.{counted_to, Counts, Aborts, is_of_caller, with_counted, after}
-use Rattle.map_rule.specs.Words.{Blocks, Shows}
+use Rattle.map_rule.specs.Words.{Blocks, Represents}
 use Rattle.map_rule.specs.Maps.{spot_of}
 use Rattle.map_rule.specs.InWorld.{IsMapIn}
 use Rattle.map_facts.specs.FactsCopiesBlocking.{HasNoShares, CopiesInto, HasDoneIn, ClaimsNoneIn, RestsIn, GaveUp, CopyingFactsBlocking}
@@ -73,7 +73,7 @@ module _ {K V : Type 0} (same : K → K → Bool) (hash : K → ℕ) (caller : �
     abbrev counted_memory : Mem (Node K V)
     counted_memory = with_word w.memory (at_word p.target COPIED) ((c.copied t + p.done) % 2 ^ 64)
 
-    counted_shows : Shows hash counted_memory counted_chart blocks setting.root
+    counted_shows : Represents hash counted_memory counted_chart blocks setting.root
     counted_shows =
         copied_shows same hash setting w c blocks map p t copies.2 ((c.copied t + p.done) % 2 ^ 64) (counted_to c t p.done) (counted_behind c t p.done copies.1 ∙ sym fits) counted_chart.share
 

@@ -24,7 +24,7 @@ use Rattle.map_rule.specs.Given.ResizeCopierMarks.{without_copying, probing, mar
 use Rattle.map_rule.specs.Chart.{Phase, Still, Copying, Copied, Place, Holds, Share, Done, Chart, put_in}
 use Rattle.map_rule.specs.Rule.{Rule, IsLawful}
 use Rattle.map_rule.specs.Moves.{Move, MarksBlocking, Skips, marked, after, Allowed}
-use Rattle.map_rule.specs.Words.{Blocks, byte_of, place_word, Shows}
+use Rattle.map_rule.specs.Words.{Blocks, byte_of, place_word, Represents}
 use Rattle.map_rule.specs.Maps.{spot_of, IsTable}
 use Rattle.map_rule.specs.InWorld.{IsMapIn}
 use Rattle.map_facts.specs.FactsCopiesBlocking.{CopiesInto, HasDoneIn, ClaimsRange, WorksIn, CopyingFactsBlocking}
@@ -76,11 +76,11 @@ module _ {K V : Type 0} (same : K → K → Bool) (hash : K → ℕ) (fits : (k 
   named_before u i n phase borrowed e =
       let before = (same_pairs c.place c.first p.place (marked place) (marked_keeps place) u i).earlier n phase borrowed e in (before.0, before.1)
 
-  marked_shows : Shows hash marked_memory (record c { place = marked_places }) blocks setting.root
+  marked_shows : Represents hash marked_memory (record c { place = marked_places }) blocks setting.root
   marked_shows =
-      subst (λ (x : At). Shows hash (with_word w.memory x (bit_or word COPYING)) (record c { place = marked_places }) blocks setting.root)
+      subst (λ (x : At). Represents hash (with_word w.memory x (bit_or word COPYING)) (record c { place = marked_places }) blocks setting.root)
       (sym (place_stands hash w.memory c blocks setting.root map.map.shows p.source c.first copies.0 p.place low))
-      (subst (λ (y : ℕ). Shows hash (with_word w.memory (Word (blocks.table c.first) (p.place + PLACES)) y) (record c { place = marked_places }) blocks setting.root)
+      (subst (λ (y : ℕ). Represents hash (with_word w.memory (Word (blocks.table c.first) (p.place + PLACES)) y) (record c { place = marked_places }) blocks setting.root)
       (sym (word-marked blocks.pair _ place))
       (place_written hash w.memory c blocks setting.root map.map.shows c.first p.place (marked place) copies.0.made copies.0.known low
       (λ n phase borrowed e. let before = (marked_keeps place).earlier n phase borrowed e in
@@ -100,7 +100,7 @@ module _ {K V : Type 0} (same : K → K → Bool) (hash : K → ℕ) (fits : (k 
 
   module _ (m2 : Mem (Node K V)) (m2_is : m2 ≡ marked_memory) (end : Copier × Yielding (Node K V) Table) where
     wrote : (move : Move K) → Allowed same (spot_of hash) false move c → (after (spot_of hash) false move c).past ≡ c.past
-        → Shows hash marked_memory (after (spot_of hash) false move c) blocks setting.root → Hands same hash setting w (after (spot_of hash) false move c) blocks
+        → Represents hash marked_memory (after (spot_of hash) false move c) blocks setting.root → Hands same hash setting w (after (spot_of hash) false move c) blocks
         → (after (spot_of hash) false move c).current ≡ c.current → (q : Copier) → end ≡ (q, Goes) → q.setting ≡ setting
         → CopyingFactsBlocking same hash (record w { memory = marked_memory }) caller setting (after (spot_of hash) false move c) blocks q q.stands
         → (AloneBlocking c p at.Marks → AloneBlocking (after (spot_of hash) false move c) q q.stands) → ((i : ℕ) → (i ≡ caller → ⊥) → IsBy i move → ⊥) → IsOfKnown blocks move

@@ -16,12 +16,12 @@ use Rattle.papaya_raw.specs.Given.TablesDeclared.probe.Probe.{Probe}
 use Rattle.papaya_raw.specs.Given.TablesDeclared.setting.Setting.{Setting}
 use Rattle.papaya_raw.specs.Given.TablesDeclared.table.Table.{Table}
 use Rattle.papaya_raw.specs.Given.TablesDeclared.table_words.TheConstants.{PLACES}
-use Rattle.map_rule.specs.Given.ResizeCopierPlaces.{copied_word, place_read, probes, put_told, puts}
+use Rattle.map_rule.specs.Given.ResizeCopierPlaces.{copied_word, place_read, probes, after_put, puts}
 use Rattle.map_rule.specs.Given.ResizeDeclared.copier.Copier.{Copier}
 use Rattle.map_rule.specs.Chart.{Phase, Place, Empty, Holds, Chart, put_in}
 use Rattle.map_rule.specs.InWorld.{IsMapIn}
 use Rattle.map_rule.specs.Maps.{spot_at, spot_of, IsTrial}
-use Rattle.map_rule.specs.Words.{Blocks, byte_of, place_word, Shows}
+use Rattle.map_rule.specs.Words.{Blocks, byte_of, place_word, Represents}
 use Rattle.map_rule.proofs.Keys.TriesSeen.{spot_inside}
 use Rattle.map_rule.proofs.Words.OwnWords.{own_at_place}
 use Rattle.map_rule.proofs.Words.PlacesShown.{are_stored, shown_block}
@@ -72,10 +72,10 @@ module _ {K V : Type 0} (same : K → K → Bool) (hash : K → ℕ) (setting : 
   -- a pair is put there
   pub put_shows : (word : ℕ) (new : Place) → word ≡ place_word hash c blocks new
       → ((n : ℕ) (phase : Phase) (borrowed : Bool) → new ≡ Holds n phase borrowed → blocks.pair_known n ≡ true)
-      → Shows hash (with_word w.memory at_try word) (record c { place = put_in c.place t spot new }) blocks setting.root
+      → Represents hash (with_word w.memory at_try word) (record c { place = put_in c.place t spot new }) blocks setting.root
   put_shows word new is known =
-      subst (λ (x : At). Shows hash (with_word w.memory x word) (record c { place = put_in c.place t spot new }) blocks setting.root) (sym at_is)
-      (subst (λ (y : ℕ). Shows hash (with_word w.memory (Word (blocks.table t) (spot + PLACES)) y) (record c { place = put_in c.place t spot new }) blocks setting.root) (sym is)
+      subst (λ (x : At). Represents hash (with_word w.memory x word) (record c { place = put_in c.place t spot new }) blocks setting.root) (sym at_is)
+      (subst (λ (y : ℕ). Represents hash (with_word w.memory (Word (blocks.table t) (spot + PLACES)) y) (record c { place = put_in c.place t spot new }) blocks setting.root) (sym is)
       (place_written hash w.memory c blocks setting.root map.map.shows t spot new trial.table.made trial.table.known try_inside known))
 
   module _ (p : Copier) (pair : ℕ) where
@@ -85,4 +85,4 @@ module _ {K V : Type 0} (same : K → K → Bool) (hash : K → ℕ) (setting : 
         (λ found e. see_if (value_at w.memory) (found == 0) _ _ (λ _. tt) (λ _. tt))
 
     pub may_put : May Can Took value_at w.memory (puts p pair code table probe)
-    may_put = may_exchange w.memory (put_told p pair code table probe) at_try 0 (copied_word p pair) (is_some_of _ _ try_word) (λ found e. tt) (λ found e. tt)
+    may_put = may_exchange w.memory (after_put p pair code table probe) at_try 0 (copied_word p pair) (is_some_of _ _ try_word) (λ found e. tt) (λ found e. tt)

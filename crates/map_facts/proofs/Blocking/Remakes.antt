@@ -29,7 +29,7 @@ use Rattle.map_rule.specs.Maps.{spot_of}
 use Rattle.map_rule.specs.InWorld.{IsMapIn, SameBlocks}
 use Rattle.map_facts.specs.FactsTables.{NewTableFacts}
 use Rattle.map_facts.specs.FactsCopiesBlocking.{RestsIn}
-use Rattle.map_facts.specs.Told.{NewTableTold, CopierToldBlocking, LinksLast}
+use Rattle.map_facts.specs.Told.{NewTableOutcome, CopierOutcomeBlocking, LinksLast}
 use Rattle.map_facts.specs.FactsAloneBlocking.{AloneBlocking, LeadsAlone}
 use Rattle.map_facts.proofs.Steps.AloneCharts.{aborted_linked, uncounted_linked}
 use Rattle.map_facts.specs.Measures.{OthersIdle}
@@ -59,8 +59,8 @@ module _ {K V : Type 0} (same : K → K → Bool) (hash : K → ℕ) (caller : �
         rests.2,
       )
 
-      remade_told : (end : NewTable × Advance Table) → NewTableTold w2 caller setting chart blocks2 (Word (blocks2.table t) NEXT) (suc t) end
-          → CopierToldBlocking w2 caller setting chart blocks2 same hash (remade p end)
+      remade_told : (end : NewTable × Advance Table) → NewTableOutcome w2 caller setting chart blocks2 (Word (blocks2.table t) NEXT) (suc t) end
+          → CopierOutcomeBlocking w2 caller setting chart blocks2 same hash (remade p end)
       remade_told (n, progress.Goes) told =
           record { setting_is = setting_is; point = (t, rests_longer, status_same t rests.0.2.made ∙ aborted, told) }
       remade_told (n, progress.Waits) told = absurd told
@@ -71,13 +71,13 @@ module _ {K V : Type 0} (same : K → K → Bool) (hash : K → ℕ) (caller : �
           }
       remade_told (n, progress.Refused fault) told = record { setting_is = setting_is; point = rests.2 }
 
-      longer_told : (end : NewTable × Advance Table) → NewTableTold w2 caller setting chart blocks2 (Word (blocks.table t) NEXT) (suc t) end
-          → CopierToldBlocking w2 caller setting chart blocks2 same hash (remade p end)
+      longer_told : (end : NewTable × Advance Table) → NewTableOutcome w2 caller setting chart blocks2 (Word (blocks.table t) NEXT) (suc t) end
+          → CopierOutcomeBlocking w2 caller setting chart blocks2 same hash (remade p end)
       longer_told end told =
-          remade_told end (subst (λ (b : ℕ). NewTableTold w2 caller setting chart blocks2 (Word b NEXT) (suc t) end) (sym (blocks_same.tables t rests.0.2.made rests.0.2.known).0) told)
+          remade_told end (subst (λ (b : ℕ). NewTableOutcome w2 caller setting chart blocks2 (Word b NEXT) (suc t) end) (sym (blocks_same.tables t rests.0.2.made rests.0.2.known).0) told)
 
     -- where it is alone
-    found_alone : (end : NewTable × Advance Table) → NewTableTold w2 caller setting c blocks2 (Word (blocks.table t) NEXT) (suc t) end
+    found_alone : (end : NewTable × Advance Table) → NewTableOutcome w2 caller setting c blocks2 (Word (blocks.table t) NEXT) (suc t) end
         → OthersIdle caller c × AloneBlocking c p (at.Remakes making) → LeadsAlone c caller (remade {K = K} {V = V} p end)
     found_alone (n, progress.Goes) told a = a
     found_alone (n, progress.Waits) told a = absurd told
@@ -103,12 +103,12 @@ module _ {K V : Type 0} (same : K → K → Bool) (hash : K → ℕ) (caller : �
     linked_alone blocking into (n, progress.Refused fault) done a = absurd (cc done)
 
     linked_told : (blocking : is_incremental setting.mode ≡ false) (end : NewTable × Advance Table) (c2 : Chart K) → LinksLast hash setting.mode (suc t) c c2 end
-        → NewTableTold w2 caller setting c2 blocks2 (Word (blocks.table t) NEXT) (suc t) end
-        → (c2.current ≡ c.current) × CopierToldBlocking w2 caller setting c2 blocks2 same hash (remade p end)
+        → NewTableOutcome w2 caller setting c2 blocks2 (Word (blocks.table t) NEXT) (suc t) end
+        → (c2.current ≡ c.current) × CopierOutcomeBlocking w2 caller setting c2 blocks2 same hash (remade p end)
         × (OthersIdle caller c × AloneBlocking c p (at.Remakes making) → LeadsAlone c2 caller (remade {K = K} {V = V} p end))
     linked_told blocking end c2 (inl is) = subst
-        (λ (x : Chart K). NewTableTold w2 caller setting x blocks2 (Word (blocks.table t) NEXT) (suc t) end
-        → (x.current ≡ c.current) × CopierToldBlocking w2 caller setting x blocks2 same hash (remade p end)
+        (λ (x : Chart K). NewTableOutcome w2 caller setting x blocks2 (Word (blocks.table t) NEXT) (suc t) end
+        → (x.current ≡ c.current) × CopierOutcomeBlocking w2 caller setting x blocks2 same hash (remade p end)
         × (OthersIdle caller c × AloneBlocking c p (at.Remakes making) → LeadsAlone x caller (remade {K = K} {V = V} p end)))
         (sym is)
         (λ told. (
@@ -117,8 +117,8 @@ module _ {K V : Type 0} (same : K → K → Bool) (hash : K → ℕ) (caller : �
           found_alone end told,
         ))
     linked_told blocking end c2 (inr (last, into, done, is)) = subst
-        (λ (x : Chart K). NewTableTold w2 caller setting x blocks2 (Word (blocks.table t) NEXT) (suc t) end
-        → (x.current ≡ c.current) × CopierToldBlocking w2 caller setting x blocks2 same hash (remade p end)
+        (λ (x : Chart K). NewTableOutcome w2 caller setting x blocks2 (Word (blocks.table t) NEXT) (suc t) end
+        → (x.current ≡ c.current) × CopierOutcomeBlocking w2 caller setting x blocks2 same hash (remade p end)
         × (OthersIdle caller c × AloneBlocking c p (at.Remakes making) → LeadsAlone x caller (remade {K = K} {V = V} p end)))
         (sym is)
         (λ told. (

@@ -29,7 +29,7 @@ use Rattle.map_rule.specs.Chart.{Share, Chart, put}
 use Rattle.map_rule.specs.InWorld.{IsMapIn}
 use Rattle.map_rule.specs.Links.{IsLinkTo, LeadsTo}
 use Rattle.map_rule.specs.Maps.{IsTable}
-use Rattle.map_rule.specs.Words.{Blocks, Shows, next_word}
+use Rattle.map_rule.specs.Words.{Blocks, Represents, next_word}
 use Rattle.map_rule.proofs.Words.LinksSeen.{link_some, next_leads}
 use Rattle.map_rule.proofs.Words.TablesSeen.{word_stands, link_seen, table_is, next_there, claim_there, copied_there, status_there}
 use Rattle.map_rule.proofs.Words.WritesTables.{claim_written, copied_written, status_written}
@@ -112,26 +112,26 @@ module _ {K V : Type 0} (same : K → K → Bool) (hash : K → ℕ) (setting : 
 
   -- a word of it is another one
   pub claim_shows : (word claim : ℕ) → claim ≡ word → (share : ℕ → ℕ → Share)
-      → Shows hash (with_word w.memory (at_word p.target CLAIM) word) (record c { claim = put c.claim t claim; share = share }) blocks setting.root
+      → Represents hash (with_word w.memory (at_word p.target CLAIM) word) (record c { claim = put c.claim t claim; share = share }) blocks setting.root
   claim_shows word claim is share =
-      subst (λ (x : At). Shows hash (with_word w.memory x word) (record c { claim = put c.claim t claim; share = share }) blocks setting.root)
+      subst (λ (x : At). Represents hash (with_word w.memory x word) (record c { claim = put c.claim t claim; share = share }) blocks setting.root)
       (sym (word_stands hash w.memory c blocks setting.root map.map.shows p.target t target CLAIM))
-      (subst (λ (y : ℕ). Shows hash (with_word w.memory (Word (blocks.table t) CLAIM) y) (record c { claim = put c.claim t claim; share = share }) blocks setting.root) is
+      (subst (λ (y : ℕ). Represents hash (with_word w.memory (Word (blocks.table t) CLAIM) y) (record c { claim = put c.claim t claim; share = share }) blocks setting.root) is
       (shows_beside hash (with_word w.memory (Word (blocks.table t) CLAIM) claim) (record c { claim = put c.claim t claim }) blocks setting.root share c.current
       (claim_written hash w.memory c blocks setting.root map.map.shows t claim target.made target.known)))
 
   pub copied_shows : (word copied : ℕ) → copied ≡ word → (share : ℕ → ℕ → Share)
-      → Shows hash (with_word w.memory (at_word p.target COPIED) word) (record c { copied = put c.copied t copied; share = share }) blocks setting.root
+      → Represents hash (with_word w.memory (at_word p.target COPIED) word) (record c { copied = put c.copied t copied; share = share }) blocks setting.root
   copied_shows word copied is share =
-      subst (λ (x : At). Shows hash (with_word w.memory x word) (record c { copied = put c.copied t copied; share = share }) blocks setting.root)
+      subst (λ (x : At). Represents hash (with_word w.memory x word) (record c { copied = put c.copied t copied; share = share }) blocks setting.root)
       (sym (word_stands hash w.memory c blocks setting.root map.map.shows p.target t target COPIED))
-      (subst (λ (y : ℕ). Shows hash (with_word w.memory (Word (blocks.table t) COPIED) y) (record c { copied = put c.copied t copied; share = share }) blocks setting.root) is
+      (subst (λ (y : ℕ). Represents hash (with_word w.memory (Word (blocks.table t) COPIED) y) (record c { copied = put c.copied t copied; share = share }) blocks setting.root) is
       (shows_beside hash (with_word w.memory (Word (blocks.table t) COPIED) copied) (record c { copied = put c.copied t copied }) blocks setting.root share c.current
       (copied_written hash w.memory c blocks setting.root map.map.shows t copied target.made target.known)))
 
   pub status_shows : (status : ℕ)
-      → Shows hash (with_word w.memory (at_word p.target STATUS) status) (record c { status = put c.status t status }) blocks setting.root
+      → Represents hash (with_word w.memory (at_word p.target STATUS) status) (record c { status = put c.status t status }) blocks setting.root
   status_shows status =
-      subst (λ (x : At). Shows hash (with_word w.memory x status) (record c { status = put c.status t status }) blocks setting.root)
+      subst (λ (x : At). Represents hash (with_word w.memory x status) (record c { status = put c.status t status }) blocks setting.root)
       (sym (word_stands hash w.memory c blocks setting.root map.map.shows p.target t target STATUS))
       (status_written hash w.memory c blocks setting.root map.map.shows t status target.made target.known)

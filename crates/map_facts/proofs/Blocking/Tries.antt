@@ -24,11 +24,11 @@ use Rattle.map_rule.specs.Given.ResizeDeclared.copier.Copying.{Copying as Point}
 use Rattle.map_rule.specs.Given.ResizeDeclared.copier.Copying.TheVariants as at
 use Rattle.papaya_raw.specs.Given.TablesTablePlaces.{at_place}
 use Rattle.map_rule.specs.Given.ResizeCopierStates.{standing}
-use Rattle.map_rule.specs.Given.ResizeCopierPlaces.{copied_word, next_try, pair_put, place_read, probes, put_told, puts}
+use Rattle.map_rule.specs.Given.ResizeCopierPlaces.{copied_word, next_try, pair_put, place_read, probes, after_put, puts}
 use Rattle.map_rule.specs.Chart.{Phase, Still, Copying, Place, Empty, Tombstone, Holds, Done, Chart, put_in, is_marked, is_taken}
 use Rattle.map_rule.specs.Rule.{Rule, IsLawful}
 use Rattle.map_rule.specs.Moves.{Puts, Taken, lent_place}
-use Rattle.map_rule.specs.Words.{Blocks, byte_of, word_of, place_word, Shows}
+use Rattle.map_rule.specs.Words.{Blocks, byte_of, word_of, place_word, Represents}
 use Rattle.map_rule.specs.Maps.{spot_of, IsTrial}
 use Rattle.map_rule.specs.InWorld.{IsReached, IsMapIn}
 use Rattle.map_facts.specs.FactsCopiesBlocking.{WorksIn}
@@ -158,7 +158,7 @@ module _ {K V : Type 0} (same : K → K → Bool) (hash : K → ℕ) (caller : �
   pair_is =
       rw p_blocking refl ∙ ap unmarked_in works.word_is ∙ word-unmarked blocks.pair (λ o. byte_of hash (c.key o)) n Still false ∙ ap (place_word hash c blocks) (sym put_is)
 
-  shows_put : Shows hash put_memory (record c { place = put_places }) blocks setting.root
+  shows_put : Represents hash put_memory (record c { place = put_places }) blocks setting.root
   shows_put = put_shows same hash setting w c blocks map code table probe t k j code_is trial (copied_word p pair) put_place pair_is known
     where
       known : (o : ℕ) (phase : Phase) (borrowed : Bool) → put_place ≡ Holds o phase borrowed → blocks.pair_known o ≡ true
@@ -208,7 +208,7 @@ module _ {K V : Type 0} (same : K → K → Bool) (hash : K → ℕ) (caller : �
   pub went_put : (m2 : Mem (Node K V)) (end : Copier × Yielding (Node K V) Table) → Steps Took value_at w.memory (puts p pair code table probe) m2 end
       → CopierCame same hash caller setting w c blocks alone_here m2 end
   went_put m2 end s =
-      elim (exchanged w.memory (put_told p pair code table probe) at_try 0 (copied_word p pair) m2 end s) as (λ _. CopierCame same hash caller setting w c blocks alone_here m2 end) [
+      elim (exchanged w.memory (after_put p pair code table probe) at_try 0 (copied_word p pair) m2 end s) as (λ _. CopierCame same hash caller setting w c blocks alone_here m2 end) [
         | inl done ↦ went_in m2 done.2 (let e : done.0 ≡ place_word hash c blocks place = cc (done.1.0, word_is) in sym e ∙ done.1.1) end done.3
         | inr lost ↦ went_further m2 lost.2 end (λ none. let e : lost.0 ≡ place_word hash c blocks place = cc (lost.1.0, word_is) in lost.1.1 (e ∙ none)) lost.3
       ]

@@ -5,7 +5,7 @@ use Rattle.std.proofs.lemmas.Bool.{eqb-true, eqb-false, ne_eqb}
 use Rattle.map_rule.specs.Given.SeizeWordsWord.{block_in}
 use Rattle.papaya_raw.specs.Given.SeizeWorld.{World}
 use Rattle.papaya_raw.specs.CallPoints.{going, standing, following_made, storing, burying, at_gap, gap_by, asking_at, pair_by, asking_of}
-use Rattle.papaya_raw.specs.Replies.{value_told, value_for}
+use Rattle.papaya_raw.specs.Replies.{value_replied, value_for}
 use Rattle.map_rule.specs.Given.ResizeNewTable.{first_table}
 use Rattle.papaya_raw.specs.Given.TablesLengths.{IsTableLen}
 use Rattle.papaya_raw.specs.Given.TablesDeclared.lengths.TheConstants.{FIRST_LEN}
@@ -60,7 +60,7 @@ module _ {K V Q : Type 0} (same : K → K → Bool) (hash : K → ℕ) (asks : Q
 
     -- It puts its own pair in the place of a word, once that has the value that it was told.
     pub stores_told : holding p.replies.takes p.missing ≡ ByReply → (told : Told V) → (told ≡ tells.Own → p.replies.key ≡ None) → told ≢ tells.Nothing → told ≢ tells.Removes → (word : ℕ)
-        → value_told told ≡ value_for p.replies word → (IsOwnPair same hash asks w caller setting c blocks keys Unchanged p.own p.hash → To (going p (at.Tries word p.own)))
+        → value_replied told ≡ value_for p.replies word → (IsOwnPair same hash asks w caller setting c blocks keys Unchanged p.own p.hash → To (going p (at.Tries word p.own)))
         → (IsTold word → To (going p (at.Asks (asking.Fills word)))) → To (storing told p word)
     stores_told by_reply tells.Nothing own some other word value tries fills = absurd (some refl)
     stores_told by_reply tells.Removes own some other word value tries fills = absurd (other refl)
@@ -100,8 +100,8 @@ module _ {K V Q : Type 0} (same : K → K → Bool) (hash : K → ℕ) (asks : Q
       by_told : (told : Told V) → p.replies.present ≡ told → told ≢ tells.Nothing → holding p.replies.takes p.missing ≡ ByReply
       by_told told e other = asks_there p.replies.takes p.there p.missing s.may.0 there_is (λ choices. other (sym e ∙ s.may.1.choices_stay choices))
 
-      value_is : (told : Told V) → p.replies.present ≡ told → value_told told ≡ value_for p.replies word
-      value_is told e = ap value_told (sym e) ∙ ap (λ (b : Bool). value_told (if b then p.replies.absent else p.replies.present)) (sym some)
+      value_is : (told : Told V) → p.replies.present ≡ told → value_replied told ≡ value_for p.replies word
+      value_is told e = ap value_replied (sym e) ∙ ap (λ (b : Bool). value_replied (if b then p.replies.absent else p.replies.present)) (sym some)
 
       pub there_goes : To (standing p (at.Asks (asking.Present word)), Asks (Some word))
           → (IsOwnPair same hash asks w caller setting c blocks keys Unchanged p.own p.hash → To (going p (at.Tries word p.own)))

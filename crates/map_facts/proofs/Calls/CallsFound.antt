@@ -3,7 +3,7 @@ use Rattle.std.specs.Prelude.{◌≡◌, ◌≢◌, ℕ, suc, ◌^◌, ◌<◌, 
 use Rattle.std.proofs.Common.{refl, ap, sym, subst, ◌∙◌, inl, inr}
 use Rattle.papaya_raw.specs.Given.SeizeWorld.{World}
 use Rattle.papaya_raw.specs.Given.TablesChunks.{is_incremental}
-use Rattle.papaya_raw.specs.CallPoints.{aim_of, going, told, told_of, at_free, at_end, at_pair, beyond, passed, halted}
+use Rattle.papaya_raw.specs.CallPoints.{aim_of, going, told, after_finding, at_free, at_end, at_pair, beyond, passed, halted}
 use Rattle.papaya_raw.specs.Given.TablesFinding.{finding}
 use Rattle.papaya_raw.specs.Given.TablesTrials.{next_trial, with_met}
 use Rattle.papaya_raw.specs.Given.TablesDeclared.marks.TheConstants.{TOMBSTONE}
@@ -213,7 +213,7 @@ module _ {K V Q : Type 0} (same : K → K → Bool) (hash : K → ℕ) (asks : Q
               (s.own, inr (refl, none_removes same hash asks caller setting keys w c blocks p s e, names), (t, j, trial, none, root))
 
       by_finding : (loaded : Bool) (x : Finding) → finding setting.mode (aim_of p.missing) (place_word hash c blocks here) flag ≡ x
-          → Says keys c.key here (is_incremental setting.mode) (aim_of p.missing) x → Comes same hash asks caller setting keys w c blocks (told_of loaded p word x)
+          → Says keys c.key here (is_incremental setting.mode) (aim_of p.missing) x → Comes same hash asks caller setting keys w c blocks (after_finding loaded p word x)
       by_finding loaded is.Free e free = frees p.missing refl free
       by_finding loaded is.Passed e so = passes (with_met p.trial word).met so
       by_finding loaded is.Moved e so = moves p.missing refl e so
@@ -223,7 +223,7 @@ module _ {K V Q : Type 0} (same : K → K → Bool) (hash : K → ℕ) (asks : Q
       -- how the call goes on by this word
       pub told_comes : (loaded : Bool) → Comes same hash asks caller setting keys w c blocks (told loaded p word flag)
       told_comes loaded =
-          subst (λ (x : Finding). Comes same hash asks caller setting keys w c blocks (told_of loaded p word x)) (sym found_is)
+          subst (λ (x : Finding). Comes same hash asks caller setting keys w c blocks (after_finding loaded p word x)) (sym found_is)
           (by_finding loaded (finding setting.mode (aim_of p.missing) (place_word hash c blocks here) flag) refl
           (says keys c.key blocks.pair (λ n. byte_of hash (c.key n)) setting.mode (aim_of p.missing) here flag has_block has_byte keyed tells))
         where

@@ -22,7 +22,7 @@ use Rattle.map_rule.specs.Chart.{Chart}
 use Rattle.map_rule.specs.Words.{Blocks}
 use Rattle.map_rule.specs.Maps.{IsClass}
 use Rattle.map_facts.specs.FactsCalls.{Change, Unchanged, Holding, Apart, InBlock, ByReply, holding, MayAsk, IsOwnPair, HasOwn, HasIts, AnswersOf, IsCopying, CallingFacts, CallFacts}
-use Rattle.map_facts.specs.Told.{HasAnswered, CallFactsAfter, MovedBeside, CallTold}
+use Rattle.map_facts.specs.Told.{HasAnswered, CallFactsAfter, MovedBesideCopying, CallOutcome}
 use Rattle.map_facts.specs.FactsIdle.{IsIdle}
 
 -- an end has one answer
@@ -48,8 +48,8 @@ module _ {K V Q : Type 0} (same : K → K → Bool) (hash : K → ℕ) (asks : Q
 
     -- it tells that
     pub told_unchanged : (c0 : Chart K) (change : Change) (p : KeyCall K V Q) (end : KeyCall K V Q × Called (Node K V)) → change ≡ Unchanged → c.current ≡ c0.current
-        → ((IsCopying p.stands → ⊥) → MovedBeside hash setting.mode c0 c) → Comes end
-        → CallTold same hash asks caller setting keys c0 change p w c blocks end.0 end.1
+        → ((IsCopying p.stands → ⊥) → MovedBesideCopying hash setting.mode c0 c) → Comes end
+        → CallOutcome same hash asks caller setting keys c0 change p w c blocks end.0 end.1
     told_unchanged c0 change p end none current beside comes = record {
       change2 = Unchanged;
       facts = comes.0;

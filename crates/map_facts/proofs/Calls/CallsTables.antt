@@ -4,7 +4,7 @@ use Rattle.std.specs.Int.{IsPowerOfTwo}
 use Rattle.std.proofs.Common.{refl, ap, sym, subst, ◌∙◌, arith}
 use Rattle.papaya_raw.specs.Given.SeizeWorld.{World}
 use Rattle.papaya_raw.specs.Given.TablesChunks.{is_incremental}
-use Rattle.papaya_raw.specs.CallPoints.{going, tableless, full_for, following_made, asking_at, at_last, answering, entering, went_on}
+use Rattle.papaya_raw.specs.CallPoints.{going, tableless, full_for, following_made, asking_at, at_last, answering, entering, continued_in}
 use Rattle.map_rule.specs.Given.ResizeCopierStates.{resting, helping, copying_all}
 use Rattle.map_rule.specs.Given.ResizeNewTable.{first_table, table_after}
 use Rattle.papaya_raw.specs.Given.TablesTrials.{trial_on, found_full}
@@ -105,7 +105,7 @@ module _ {K V Q : Type 0} (same : K → K → Bool) (hash : K → ℕ) (asks : Q
         by missing.Asks e = asks_by (is_incremental p.setting.mode) refl e
 
     -- the next one is there
-    pub goes_on : (table : Table) → IsTable c blocks table (suc t) → Comes same hash asks caller setting keys w c blocks (went_on p table)
+    pub goes_on : (table : Table) → IsTable c blocks table (suc t) → Comes same hash asks caller setting keys w c blocks (continued_in p table)
     goes_on table next = by_mode (is_incremental p.setting.mode) refl
       where
         idle_in : (b : Bool) → is_incremental setting.mode ≡ b

@@ -8,7 +8,7 @@ use Rattle.papaya_raw.specs.Given.SeizeWorld.{World}
 use Rattle.papaya_raw.specs.Given.SeizeDeclared.advance.Advance.{Advance}
 use Rattle.papaya_raw.specs.Given.SeizeDeclared.advance.Advance.TheVariants as progress
 use Rattle.papaya_raw.specs.Call.{looks_for, looked, looks}
-use Rattle.papaya_raw.specs.CallPoints.{told_answer}
+use Rattle.papaya_raw.specs.CallPoints.{answered_with}
 use Rattle.map_rule.specs.Given.ResizeLookup.{lookup_plan}
 use Rattle.papaya_raw.specs.Given.TablesDeclared.node.Node.{Node}
 use Rattle.papaya_raw.specs.Given.TablesDeclared.setting.Setting.{Setting}
@@ -22,7 +22,7 @@ use Rattle.map_rule.specs.Chart.{Chart}
 use Rattle.map_rule.specs.Words.{Blocks}
 use Rattle.map_rule.specs.InWorld.{IsMapIn, SparesPairs}
 use Rattle.map_facts.specs.FactsCalls.{Change, Unchanged, Holding, Apart, InBlock, ByReply, holding, IsOwnPair, HasOwn, HasIts, AnswersOf, CallingFacts, CallFacts}
-use Rattle.map_facts.specs.Told.{LookupTold}
+use Rattle.map_facts.specs.Told.{LookupOutcome}
 use Rattle.map_facts.specs.FactsIdle.{IsIdle}
 use Rattle.map_facts.proofs.Calls.CallsOn.{Seeking, Comes, goes}
 use Rattle.map_facts.proofs.Calls.Makes.{CallWent, by_end, still}
@@ -72,11 +72,11 @@ module _ {K V Q : Type 0} (same : K → K → Bool) (hash : K → ℕ) (asks : Q
   module _ (w : World (Node K V)) (c : Chart K) (blocks : Blocks) (map : IsMapIn same hash setting w c blocks) (p : KeyCall K V Q)
       (s : Seeking same hash asks caller setting keys w c blocks p) (l : Lookup)
       (point : CallingFacts same hash asks w caller setting c blocks keys Unchanged p (at.Looks l)) where
-    answered : (answer : KeyAnswer) → AnswersOf same hash asks w caller setting c blocks keys Unchanged answer → Comes same hash asks caller setting keys w c blocks (told_answer p answer)
+    answered : (answer : KeyAnswer) → AnswersOf same hash asks w caller setting c blocks keys Unchanged answer → Comes same hash asks caller setting keys w c blocks (answered_with p answer)
     answered answer is = ((refl, s.idle, inl refl), λ other e. subst (λ (a : KeyAnswer). AnswersOf same hash asks w caller setting c blocks keys Unchanged a) (cc) is)
 
     -- a step of its lookup
-    pub looked_comes : (end : Lookup × Advance (Option ℕ)) → LookupTold same hash setting.mode setting.root keys p.hash c blocks end
+    pub looked_comes : (end : Lookup × Advance (Option ℕ)) → LookupOutcome same hash setting.mode setting.root keys p.hash c blocks end
         → Comes same hash asks caller setting keys w c blocks (looked p end)
     looked_comes (next, progress.Goes) told =
         goes same hash asks caller setting keys w c blocks p s p.trial p.helped (at.Looks next) (λ answer h. h)
@@ -88,7 +88,7 @@ module _ {K V Q : Type 0} (same : K → K → Bool) (hash : K → ℕ) (asks : Q
 
     pub went_looks : (change : Change) (f : CallFacts same hash asks w caller setting c blocks keys change p) → change ≡ Unchanged
         → ((m2 : Mem (Node K V)) (end : Lookup × Advance (Option ℕ)) → Steps Took value_at w.memory (lookup_plan (asks point.3) l) m2 end
-        → (m2 ≡ w.memory) × LookupTold same hash setting.mode setting.root keys p.hash c blocks end)
+        → (m2 ≡ w.memory) × LookupOutcome same hash setting.mode setting.root keys p.hash c blocks end)
         → (m2 : Mem (Node K V)) (end : KeyCall K V Q × Called (Node K V)) → Steps Took value_at w.memory (looks asks p l) m2 end
         → CallWent same hash asks caller setting keys w c blocks map change p f m2 end
     went_looks change f unchanged inner m2 end steps =

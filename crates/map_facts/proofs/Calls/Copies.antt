@@ -21,9 +21,9 @@ use Rattle.map_rule.specs.Rule.{IsLawful, ShutBefore}
 use Rattle.map_rule.specs.Lasts.{Lasts}
 use Rattle.map_rule.specs.Words.{Blocks}
 use Rattle.map_rule.specs.Maps.{spot_of, IsTable, NoneBefore}
-use Rattle.map_rule.specs.InWorld.{IsMapIn, Moved, SameBlocks, Went, SparesPairs}
+use Rattle.map_rule.specs.InWorld.{IsMapIn, Moved, SameBlocks, StepSpec, SparesPairs}
 use Rattle.map_facts.specs.FactsCalls.{IsCopying, Change, Unchanged, HasIts, ShutUpTo, CallFacts}
-use Rattle.map_facts.specs.Told.{CopierTold, CopierToldBlocking, CallTold}
+use Rattle.map_facts.specs.Told.{CopierOutcome, CopierOutcomeBlocking, CallOutcome}
 use Rattle.map_facts.specs.FactsIdle.{IsIdle}
 use Rattle.map_facts.proofs.MovedLasts.{moved_lasts, idle_in}
 use Rattle.map_rule.proofs.Keys.TriesLast.{table_lasts, shut_before_lasts}
@@ -53,7 +53,7 @@ module _ {K V Q : Type 0} (same : K → K → Bool) (hash : K → ℕ) (asks : Q
     own2 = its_last same hash asks caller setting keys w w2 c c2 blocks blocks2 spares p own
 
     helped_comes : (bits : is_incremental setting.mode ≡ true) (goal : Table) (t : ℕ) → IsTable c2 blocks2 goal (suc t) → ShutUpTo same hash asks w2 caller setting c2 blocks2 keys Unchanged t
-        → (end : Copier × Yielding (Node K V) Table) → end.0.whole ≡ false → CopierTold w2 caller setting c2 blocks2 same hash end
+        → (end : Copier × Yielding (Node K V) Table) → end.0.whole ≡ false → CopierOutcome w2 caller setting c2 blocks2 same hash end
         → Comes same hash asks caller setting keys w2 c2 blocks2 (helped p goal end)
     helped_comes bits goal t entered shut (next, outcome.Goes) part told = (
       record {
@@ -76,7 +76,7 @@ module _ {K V Q : Type 0} (same : K → K → Bool) (hash : K → ℕ) (asks : Q
         (subst (λ (x : Bool). cond x ((k : K) → keys k ≡ true → ShutBefore same (spot_of hash) true c2 (suc t) k) (t ≡ c2.first)) bits shut))) (λ e. absurd (cc (bits, e)))
     helped_comes bits goal t entered shut (next, outcome.Refused fault) part told = refuses same hash asks caller setting keys w2 c2 blocks2 p (seeks (idle_in same hash w2 caller setting c2 blocks2 true bits told)) fault
 
-    copied_comes : is_incremental setting.mode ≡ false → (end : Copier × Yielding (Node K V) Table) → CopierToldBlocking w2 caller setting c2 blocks2 same hash end
+    copied_comes : is_incremental setting.mode ≡ false → (end : Copier × Yielding (Node K V) Table) → CopierOutcomeBlocking w2 caller setting c2 blocks2 same hash end
         → Comes same hash asks caller setting keys w2 c2 blocks2 (copied p end)
     copied_comes alone (next, outcome.Goes) told = (
       record { setting_is = f.setting_is; may = f.may; code = f.code; class = f.class; unchanged = λ h. refl; idle = λ h. absurd (h tt); point = (own2, alone, told) },
@@ -101,8 +101,8 @@ module _ {K V Q : Type 0} (same : K → K → Bool) (hash : K → ℕ) (asks : Q
     -- what a step of its help tells of the call
     pub helped_told : (w2 : World (Node K V)) (c2 : Chart K) (blocks2 : Blocks) → IsMapIn same hash setting w2 c2 blocks2 → Moved same hash setting.mode caller c c2 → SameBlocks c blocks blocks2
         → (end : Copier × Yielding (Node K V) Table)
-        → SparesPairs w w2 × (c2.current ≡ c.current) × (end.0.whole ≡ false) × CopierTold w2 caller setting c2 blocks2 same hash end
-        → CallTold same hash asks caller setting keys c change p w2 c2 blocks2 (helped p goal end).0 (helped p goal end).1
+        → SparesPairs w w2 × (c2.current ≡ c.current) × (end.0.whole ≡ false) × CopierOutcome w2 caller setting c2 blocks2 same hash end
+        → CallOutcome same hash asks caller setting keys c change p w2 c2 blocks2 (helped p goal end).0 (helped p goal end).1
     helped_told w2 c2 blocks2 map2 moved same_blocks end told =
         told_unchanged same hash asks caller setting keys w2 c2 blocks2 c change p (helped p goal end) unchanged told.1 (λ other. absurd (other copying))
         (helped_comes w2 c2 blocks2 map2 told.0 bits goal t
@@ -112,8 +112,8 @@ module _ {K V Q : Type 0} (same : K → K → Bool) (hash : K → ℕ) (asks : Q
 
   -- and of its copying
   pub copied_told : is_incremental setting.mode ≡ false → (w2 : World (Node K V)) (c2 : Chart K) (blocks2 : Blocks) → IsMapIn same hash setting w2 c2 blocks2
-      → (end : Copier × Yielding (Node K V) Table) → SparesPairs w w2 × (c2.current ≡ c.current) × CopierToldBlocking w2 caller setting c2 blocks2 same hash end
-      → CallTold same hash asks caller setting keys c change p w2 c2 blocks2 (copied p end).0 (copied p end).1
+      → (end : Copier × Yielding (Node K V) Table) → SparesPairs w w2 × (c2.current ≡ c.current) × CopierOutcomeBlocking w2 caller setting c2 blocks2 same hash end
+      → CallOutcome same hash asks caller setting keys c change p w2 c2 blocks2 (copied p end).0 (copied p end).1
   copied_told alone w2 c2 blocks2 map2 end told =
       told_unchanged same hash asks caller setting keys w2 c2 blocks2 c change p (copied p end) unchanged told.1 (λ other. absurd (other copying)) (copied_comes w2 c2 blocks2 map2 told.0 alone end told.2)
 
@@ -121,26 +121,26 @@ module _ {K V Q : Type 0} (same : K → K → Bool) (hash : K → ℕ) (asks : Q
     -- a copier is told whether it copies a whole table, and stays so
     pub went_helps : (bits : is_incremental setting.mode ≡ true) (goal : Table) (t : ℕ) → t < c.past → IsTable c blocks goal (suc t) → ShutUpTo same hash asks w caller setting c blocks keys Unchanged t
         → ((m2 : Mem (Node K V)) (end : Copier × Yielding (Node K V) Table) → Steps Took value_at w.memory (copier_plan hash copier) m2 end
-        → Went same hash setting caller w c blocks m2 (λ w2 c2 blocks2. SparesPairs w w2 × (c2.current ≡ c.current) × (end.0.whole ≡ false) × CopierTold w2 caller setting c2 blocks2 same hash end))
+        → StepSpec same hash setting caller w c blocks m2 (λ w2 c2 blocks2. SparesPairs w w2 × (c2.current ≡ c.current) × (end.0.whole ≡ false) × CopierOutcome w2 caller setting c2 blocks2 same hash end))
         → Steps Took value_at w.memory (helps hash p copier goal) m2 end → CallWent same hash asks caller setting keys w c blocks map change p f m2 end
     went_helps bits goal t made entered shut inner steps =
         let d = steps_back (helped p goal) w.memory m2 (copier_plan hash copier) end steps in
         by_end same hash asks caller setting keys w c blocks map change p f m2 end (helped p goal d.0) d.2
         (went_as same hash setting caller w c blocks m2
-        (λ w2 c2 blocks2. SparesPairs w w2 × (c2.current ≡ c.current) × (d.0.0.whole ≡ false) × CopierTold w2 caller setting c2 blocks2 same hash d.0)
-        (λ w2 c2 blocks2. CallTold same hash asks caller setting keys c change p w2 c2 blocks2 (helped p goal d.0).0 (helped p goal d.0).1)
+        (λ w2 c2 blocks2. SparesPairs w w2 × (c2.current ≡ c.current) × (d.0.0.whole ≡ false) × CopierOutcome w2 caller setting c2 blocks2 same hash d.0)
+        (λ w2 c2 blocks2. CallOutcome same hash asks caller setting keys c change p w2 c2 blocks2 (helped p goal d.0).0 (helped p goal d.0).1)
         (λ w2 c2 blocks2 map2 moved same_blocks told. helped_told bits goal t made entered shut w2 c2 blocks2 map2 moved same_blocks d.0 told)
         (inner m2 d.0 d.1))
 
     pub went_copies : is_incremental setting.mode ≡ false
         → ((m2 : Mem (Node K V)) (end : Copier × Yielding (Node K V) Table) → Steps Took value_at w.memory (copier_plan hash copier) m2 end
-        → Went same hash setting caller w c blocks m2 (λ w2 c2 blocks2. SparesPairs w w2 × (c2.current ≡ c.current) × CopierToldBlocking w2 caller setting c2 blocks2 same hash end))
+        → StepSpec same hash setting caller w c blocks m2 (λ w2 c2 blocks2. SparesPairs w w2 × (c2.current ≡ c.current) × CopierOutcomeBlocking w2 caller setting c2 blocks2 same hash end))
         → Steps Took value_at w.memory (copies hash p copier) m2 end → CallWent same hash asks caller setting keys w c blocks map change p f m2 end
     went_copies alone inner steps =
         let d = steps_back (copied p) w.memory m2 (copier_plan hash copier) end steps in
         by_end same hash asks caller setting keys w c blocks map change p f m2 end (copied p d.0) d.2
         (went_as same hash setting caller w c blocks m2
-        (λ w2 c2 blocks2. SparesPairs w w2 × (c2.current ≡ c.current) × CopierToldBlocking w2 caller setting c2 blocks2 same hash d.0)
-        (λ w2 c2 blocks2. CallTold same hash asks caller setting keys c change p w2 c2 blocks2 (copied p d.0).0 (copied p d.0).1)
+        (λ w2 c2 blocks2. SparesPairs w w2 × (c2.current ≡ c.current) × CopierOutcomeBlocking w2 caller setting c2 blocks2 same hash d.0)
+        (λ w2 c2 blocks2. CallOutcome same hash asks caller setting keys c change p w2 c2 blocks2 (copied p d.0).0 (copied p d.0).1)
         (λ w2 c2 blocks2 map2 moved same_blocks told. copied_told alone w2 c2 blocks2 map2 d.0 told)
         (inner m2 d.0 d.1))

@@ -22,9 +22,9 @@ use Rattle.papaya_raw.specs.declared.machines.call.Calling.TheVariants as at
 use Rattle.map_rule.specs.Chart.{Still, Chart, Holds}
 use Rattle.map_rule.specs.Words.{Blocks, byte_of, place_word}
 use Rattle.map_rule.specs.InWorld.{IsMapIn}
-use Rattle.map_facts.specs.FactsCalls.{Change, Stored, IsKnown, Tells, CallingFacts, CallFacts}
+use Rattle.map_facts.specs.FactsCalls.{Change, Stored, IsKnown, AnswersChange, CallingFacts, CallFacts}
 use Rattle.map_facts.proofs.Calls.CallsOn.{answered_same}
-use Rattle.map_facts.specs.Told.{CallTold}
+use Rattle.map_facts.specs.Told.{CallOutcome}
 use Rattle.map_facts.specs.FactsIdle.{IsIdle}
 use Rattle.map_rule.proofs.Words.PlaceWordsRead.{pair_word-large}
 use Rattle.map_facts.proofs.Disposals.DisposesBegin.{dispose_begins}
@@ -40,40 +40,40 @@ module _ {K V Q : Type 0} (same : K → K → Bool) (hash : K → ℕ) (asks : Q
       (shard_some same hash caller setting p.setting f.setting_is w c blocks map) (λ found is. tt)
 
   module _ (point : CallingFacts same hash asks w caller setting c blocks keys change p (at.Counts removed)) where
-    told : (m : Mem (Node K V)) → CallTold same hash asks caller setting keys c change p (record w { memory = m }) c blocks (counted p removed).0 (counted p removed).1
+    told : (m : Mem (Node K V)) → CallOutcome same hash asks caller setting keys c change p (record w { memory = m }) c blocks (counted p removed).0 (counted p removed).1
     told m = by point
       where
-        stored : CallTold same hash asks caller setting keys c change p (record w { memory = m }) c blocks (over p (ends.Answered (answers.Stored p.own))).0 (over p (ends.Answered (answers.Stored p.own))).1
-            → removed ≡ 0 → CallTold same hash asks caller setting keys c change p (record w { memory = m }) c blocks (counted p removed).0 (counted p removed).1
+        stored : CallOutcome same hash asks caller setting keys c change p (record w { memory = m }) c blocks (over p (ends.Answered (answers.Stored p.own))).0 (over p (ends.Answered (answers.Stored p.own))).1
+            → removed ≡ 0 → CallOutcome same hash asks caller setting keys c change p (record w { memory = m }) c blocks (counted p removed).0 (counted p removed).1
         stored told none =
-            subst (λ (end : KeyCall K V Q × Called (Node K V)). CallTold same hash asks caller setting keys c change p (record w { memory = m }) c blocks end.0 end.1)
+            subst (λ (end : KeyCall K V Q × Called (Node K V)). CallOutcome same hash asks caller setting keys c change p (record w { memory = m }) c blocks end.0 end.1)
             (ap (λ (q : Bool). if q then over p (ends.Answered (answers.Stored p.own)) else going p (at.Disposes (disposing p.setting removed p.trial.table) (answers.Removed removed)))
             (sym (eq-eqb removed 0 none))) told
 
-        disposes : CallTold same hash asks caller setting keys c change p (record w { memory = m }) c blocks
+        disposes : CallOutcome same hash asks caller setting keys c change p (record w { memory = m }) c blocks
             (going p (at.Disposes (disposing setting removed p.trial.table) (answers.Removed removed))).0 (going p (at.Disposes (disposing setting removed p.trial.table) (answers.Removed removed))).1
-            → removed ≢ 0 → CallTold same hash asks caller setting keys c change p (record w { memory = m }) c blocks (counted p removed).0 (counted p removed).1
+            → removed ≢ 0 → CallOutcome same hash asks caller setting keys c change p (record w { memory = m }) c blocks (counted p removed).0 (counted p removed).1
         disposes told some =
-            subst (λ (end : KeyCall K V Q × Called (Node K V)). CallTold same hash asks caller setting keys c change p (record w { memory = m }) c blocks end.0 end.1)
+            subst (λ (end : KeyCall K V Q × Called (Node K V)). CallOutcome same hash asks caller setting keys c change p (record w { memory = m }) c blocks end.0 end.1)
             (ap (λ (x : Setting). going p (at.Disposes (disposing x removed p.trial.table) (answers.Removed removed))) (sym f.setting_is)
             ∙ ap (λ (q : Bool). if q then over p (ends.Answered (answers.Stored p.own)) else going p (at.Disposes (disposing p.setting removed p.trial.table) (answers.Removed removed)))
             (sym (ne_eqb removed 0 some))) told
 
         stored_tells : (n : ℕ) → change ≡ Stored n → IsKnown same hash asks w caller setting c blocks keys change n → p.own ≡ place_word hash c blocks (Holds n Still false) → (answer : KeyAnswer) → answers.Stored p.own ≡ answer
-            → Tells same hash asks (record w { memory = m }) caller setting c blocks keys change change answer
+            → AnswersChange same hash asks (record w { memory = m }) caller setting c blocks keys change change answer
         stored_tells n stored_is known own_is answer is =
-            subst (λ (a : KeyAnswer). Tells same hash asks (record w { memory = m }) caller setting c blocks keys change change a) is
-            (subst (λ (x : Change). Tells same hash asks (record w { memory = m }) caller setting c blocks keys change x (answers.Stored p.own)) (sym stored_is) (known, own_is))
+            subst (λ (a : KeyAnswer). AnswersChange same hash asks (record w { memory = m }) caller setting c blocks keys change change a) is
+            (subst (λ (x : Change). AnswersChange same hash asks (record w { memory = m }) caller setting c blocks keys change x (answers.Stored p.own)) (sym stored_is) (known, own_is))
 
         by : CallingFacts same hash asks w caller setting c blocks keys change p (at.Counts removed)
-            → CallTold same hash asks caller setting keys c change p (record w { memory = m }) c blocks (counted p removed).0 (counted p removed).1
+            → CallOutcome same hash asks caller setting keys c change p (record w { memory = m }) c blocks (counted p removed).0 (counted p removed).1
         by (inl (none, n, stored_is, known, own_is)) =
             stored (record {
               change2 = change;
               facts = (
                 refl,
                 idle,
-                inr (subst (λ (x : Change). Tells same hash asks (record w { memory = m }) caller setting c blocks keys change x (answers.Stored p.own)) (sym stored_is) (known, own_is)),
+                inr (subst (λ (x : Change). AnswersChange same hash asks (record w { memory = m }) caller setting c blocks keys change x (answers.Stored p.own)) (sym stored_is) (known, own_is)),
               );
               changes = inl (refl, refl);
               beside = λ other. inl refl;
@@ -92,7 +92,7 @@ module _ {K V Q : Type 0} (same : K → K → Bool) (hash : K → ℕ) (asks : Q
                 idle = λ h. idle;
                 point = (
                   dispose_begins hash fits (record w { memory = m }) caller setting c blocks n t removed borrowed word_is p.trial.table entered left out,
-                  subst (λ (x : Change). Tells same hash asks (record w { memory = m }) caller setting c blocks keys change x (answers.Removed removed)) (sym removed_is)
+                  subst (λ (x : Change). AnswersChange same hash asks (record w { memory = m }) caller setting c blocks keys change x (answers.Removed removed)) (sym removed_is)
                       ((left.0, left.1), borrowed, word_is),
                 );
               };
@@ -109,4 +109,4 @@ module _ {K V Q : Type 0} (same : K → K → Bool) (hash : K → ℕ) (asks : Q
         let d = added w.memory (λ out. Now (counted p removed)) (Word p.setting.counter (bit_and p.setting.slot p.setting.mask)) (count_change removed) m2 end steps in
         by_end same hash asks caller setting keys w c blocks map change p f m2 end (counted p removed) d.3
         (went_counted same hash caller setting p.setting f.setting_is w c blocks map (count_change removed) d.0 d.1 m2 d.2
-        (λ w2 c2 blocks2. CallTold same hash asks caller setting keys c change p w2 c2 blocks2 (counted p removed).0 (counted p removed).1) told)
+        (λ w2 c2 blocks2. CallOutcome same hash asks caller setting keys c change p w2 c2 blocks2 (counted p removed).0 (counted p removed).1) told)

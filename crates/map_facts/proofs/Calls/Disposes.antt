@@ -19,9 +19,9 @@ use Rattle.papaya_raw.specs.declared.machines.call.KeyCall.{KeyCall}
 use Rattle.map_rule.specs.Given.ResizeDeclared.dispose.Dispose.{Dispose}
 use Rattle.map_rule.specs.Chart.{Phase, Still, Holds, Chart}
 use Rattle.map_rule.specs.Words.{Blocks, mark_bits, byte_of, place_word}
-use Rattle.map_rule.specs.InWorld.{IsMapIn, SameBlocks, Went, SparesPairs}
-use Rattle.map_facts.specs.FactsCalls.{Change, Unchanged, Stored, Replaced, Removed, Tells, CallFacts}
-use Rattle.map_facts.specs.Told.{DisposeTold, CallTold}
+use Rattle.map_rule.specs.InWorld.{IsMapIn, SameBlocks, StepSpec, SparesPairs}
+use Rattle.map_facts.specs.FactsCalls.{Change, Unchanged, Stored, Replaced, Removed, AnswersChange, CallFacts}
+use Rattle.map_facts.specs.Told.{DisposeOutcome, CallOutcome}
 use Rattle.map_facts.specs.FactsIdle.{IsIdle}
 use Rattle.map_facts.proofs.Calls.CallsOn.{answered_same}
 use Rattle.map_facts.proofs.Calls.Makes.{CallWent, by_end}
@@ -37,8 +37,8 @@ module _ {K V Q : Type 0} (same : K → K → Bool) (hash : K → ℕ) (asks : Q
   word_lasts n phase borrowed h = ap (λ (x : ℕ). link_word x (byte_of hash (c.key n)) (mark_bits phase borrowed)) (sym (same_blocks.pairs n h.0 h.1).0)
 
   -- the pairs that an answer tells of keep their words
-  tells_lasts : (change change2 : Change) (change3 : Change) (answer : KeyAnswer) → Tells same hash asks w caller setting c blocks keys change2 change answer
-      → Tells same hash asks w2 caller setting c blocks2 keys change3 change answer
+  tells_lasts : (change change2 : Change) (change3 : Change) (answer : KeyAnswer) → AnswersChange same hash asks w caller setting c blocks keys change2 change answer
+      → AnswersChange same hash asks w2 caller setting c blocks2 keys change3 change answer
   tells_lasts (Stored n) x y (answers.Stored word) h = (known_lasts n h.0, h.1 ∙ word_lasts n Still false h.0)
   tells_lasts (Replaced o n) x y (answers.Replaced old new) h = (
     known_lasts o h.0,
@@ -65,9 +65,9 @@ module _ {K V Q : Type 0} (same : K → K → Bool) (hash : K → ℕ) (asks : Q
 module _ {K V Q : Type 0} (same : K → K → Bool) (hash : K → ℕ) (asks : Q → K → Bool) (caller : ℕ) (setting : Setting) (keys : K → Bool)
     (w : World (Node K V)) (c : Chart K) (blocks : Blocks) (map : IsMapIn same hash setting w c blocks)
     (change : Change) (p : KeyCall K V Q) (f : CallFacts same hash asks w caller setting c blocks keys change p) (idle : IsIdle same hash w caller setting c blocks)
-    (dispose : Dispose) (answer : KeyAnswer) (tells : Tells same hash asks w caller setting c blocks keys change change answer) where
-  disposed_told : (w2 : World (Node K V)) (blocks2 : Blocks) → SameBlocks c blocks blocks2 → (end : Dispose × Settled (Node K V)) → DisposeTold w2 caller setting c blocks2 end
-      → CallTold same hash asks caller setting keys c change p w2 c blocks2 (disposed p answer end).0 (disposed p answer end).1
+    (dispose : Dispose) (answer : KeyAnswer) (tells : AnswersChange same hash asks w caller setting c blocks keys change change answer) where
+  disposed_told : (w2 : World (Node K V)) (blocks2 : Blocks) → SameBlocks c blocks blocks2 → (end : Dispose × Settled (Node K V)) → DisposeOutcome w2 caller setting c blocks2 end
+      → CallOutcome same hash asks caller setting keys c change p w2 c blocks2 (disposed p answer end).0 (disposed p answer end).1
   disposed_told w2 blocks2 same_blocks (next, settled.Goes) told = record {
     change2 = change;
     facts = record {
@@ -91,29 +91,29 @@ module _ {K V Q : Type 0} (same : K → K → Bool) (hash : K → ℕ) (asks : Q
     facts = (refl, idle, inr (tells_lasts same hash asks caller setting keys w w2 c blocks blocks2 same_blocks change change change answer tells));
     changes = inl (refl, refl);
     beside = λ other. inl refl;
-    answers = λ other answered fresh stays. absurd (subst (λ (x : Change). Tells same hash asks w caller setting c blocks keys change x answer) stays tells);
+    answers = λ other answered fresh stays. absurd (subst (λ (x : Change). AnswersChange same hash asks w caller setting c blocks keys change x answer) stays tells);
     tells = λ other answered fresh changed.
-        subst (λ (a : KeyAnswer). Tells same hash asks w2 caller setting c blocks2 keys change change a) (answered_same answer other answered)
+        subst (λ (a : KeyAnswer). AnswersChange same hash asks w2 caller setting c blocks2 keys change change a) (answered_same answer other answered)
         (tells_lasts same hash asks caller setting keys w w2 c blocks blocks2 same_blocks change change change answer tells);
   }
 
   -- what a step of its disposal, which makes no move, tells of the call
   pub dispose_told : (w2 : World (Node K V)) (c2 : Chart K) (blocks2 : Blocks) → SameBlocks c blocks blocks2 → (end : Dispose × Settled (Node K V))
-      → SparesPairs w w2 × (c2 ≡ c) × DisposeTold w2 caller setting c2 blocks2 end
-      → CallTold same hash asks caller setting keys c change p w2 c2 blocks2 (disposed p answer end).0 (disposed p answer end).1
+      → SparesPairs w w2 × (c2 ≡ c) × DisposeOutcome w2 caller setting c2 blocks2 end
+      → CallOutcome same hash asks caller setting keys c change p w2 c2 blocks2 (disposed p answer end).0 (disposed p answer end).1
   dispose_told w2 c2 blocks2 same_blocks end told =
-      subst (λ (x : Chart K). CallTold same hash asks caller setting keys c change p w2 x blocks2 (disposed p answer end).0 (disposed p answer end).1) (sym told.1)
-      (disposed_told w2 blocks2 same_blocks end (subst (λ (x : Chart K). DisposeTold w2 caller setting x blocks2 end) told.1 told.2))
+      subst (λ (x : Chart K). CallOutcome same hash asks caller setting keys c change p w2 x blocks2 (disposed p answer end).0 (disposed p answer end).1) (sym told.1)
+      (disposed_told w2 blocks2 same_blocks end (subst (λ (x : Chart K). DisposeOutcome w2 caller setting x blocks2 end) told.1 told.2))
 
   pub went_disposes : ((m2 : Mem (Node K V)) (end : Dispose × Settled (Node K V)) → Steps Took value_at w.memory (dispose_plan dispose) m2 end
-      → Went same hash setting caller w c blocks m2 (λ w2 c2 blocks2. SparesPairs w w2 × (c2 ≡ c) × DisposeTold w2 caller setting c2 blocks2 end))
+      → StepSpec same hash setting caller w c blocks m2 (λ w2 c2 blocks2. SparesPairs w w2 × (c2 ≡ c) × DisposeOutcome w2 caller setting c2 blocks2 end))
       → (m2 : Mem (Node K V)) (end : KeyCall K V Q × Called (Node K V)) → Steps Took value_at w.memory (disposes p dispose answer) m2 end
       → CallWent same hash asks caller setting keys w c blocks map change p f m2 end
   went_disposes inner m2 end steps =
       let d = steps_back (disposed p answer) w.memory m2 (dispose_plan dispose) end steps in
       by_end same hash asks caller setting keys w c blocks map change p f m2 end (disposed p answer d.0) d.2
       (went_as same hash setting caller w c blocks m2
-      (λ w2 c2 blocks2. SparesPairs w w2 × (c2 ≡ c) × DisposeTold w2 caller setting c2 blocks2 d.0)
-      (λ w2 c2 blocks2. CallTold same hash asks caller setting keys c change p w2 c2 blocks2 (disposed p answer d.0).0 (disposed p answer d.0).1)
+      (λ w2 c2 blocks2. SparesPairs w w2 × (c2 ≡ c) × DisposeOutcome w2 caller setting c2 blocks2 d.0)
+      (λ w2 c2 blocks2. CallOutcome same hash asks caller setting keys c change p w2 c2 blocks2 (disposed p answer d.0).0 (disposed p answer d.0).1)
       (λ w2 c2 blocks2 map2 moved same_blocks told. dispose_told w2 c2 blocks2 same_blocks d.0 told)
       (inner m2 d.0 d.1))

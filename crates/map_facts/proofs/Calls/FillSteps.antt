@@ -30,7 +30,7 @@ use Rattle.papaya_raw.specs.declared.machines.call.Calling.TheVariants as at
 use Rattle.map_rule.specs.Given.SeizeWordsDeclared.fault.Fault.TheVariants.{Memory}
 use Rattle.map_rule.specs.Chart.{Chart}
 use Rattle.map_rule.specs.Words.{Blocks}
-use Rattle.map_rule.specs.InWorld.{IsMapIn, Went}
+use Rattle.map_rule.specs.InWorld.{IsMapIn, StepSpec}
 use Rattle.map_facts.specs.FactsCalls.{Unchanged, RepliesFit, MayAsk, Holding, ByReply, holding, IsOwnPair, IsVacant, HasKey, HasOwn, HasIts, IsToFill}
 use Rattle.map_rule.proofs.World.WentStill.{went_still}
 use Rattle.map_rule.proofs.World.WentMade.{world_made, world_dropped, went_made, went_dropped}
@@ -201,7 +201,7 @@ module _ {K V Q : Type 0} (same : K → K → Bool) (hash : K → ℕ) (asks : Q
       (m2 : Mem (Node K V)) (end : KeyCall K V Q × Called (Node K V)) (value : V) (told : value_for p.replies word ≡ Some value)
       (s : Steps Took value_at w.memory (fills p word) m2 end) where
     abbrev GoesTo : KeyCall K V Q × Called (Node K V) → Type 0
-    GoesTo e = Went same hash setting caller w c blocks m2 (λ w2 c2 blocks2. Told w2 c2 blocks2 e)
+    GoesTo e = StepSpec same hash setting caller w c blocks m2 (λ w2 c2 blocks2. Told w2 c2 blocks2 e)
 
     by_end : (other : KeyCall K V Q × Called (Node K V)) → end ≡ other → GoesTo other → GoesTo end
     by_end other is went = subst GoesTo (sym is) went
@@ -280,12 +280,12 @@ module _ {K V Q : Type 0} (same : K → K → Bool) (hash : K → ℕ) (asks : Q
       (removes : (v : World (Node K V)) (replies : Replies K V) → replies.takes ≡ p.replies.takes → RepliesFit replies → Its v (record p { replies = replies; own = 0 })
       → Told v c blocks (going (record p { replies = replies; own = 0 }) (at.Tries word TOMBSTONE))) where
     pub went_gives_up : p.asked ≡ None → Own w p.own → (m2 : Mem (Node K V)) (end : KeyCall K V Q × Called (Node K V)) → Steps Took value_at w.memory (gives_up p word) m2 end
-        → Went same hash setting caller w c blocks m2 (λ w2 c2 blocks2. Told w2 c2 blocks2 end)
+        → StepSpec same hash setting caller w c blocks m2 (λ w2 c2 blocks2. Told w2 c2 blocks2 end)
     went_gives_up asked own m2 end s =
         let d = taken w.memory (given_up p word) (block_in p.own) m2 end s in
         let was : d.0 ≡ node.Pair own.key own.value = (let there = pair_there own in cc (there, d.1)) in
         let back = is_out own in
-        subst (λ (e : KeyCall K V Q × Called (Node K V)). Went same hash setting caller w c blocks m2 (λ w2 c2 blocks2. Told w2 c2 blocks2 e)) (sym (subst (λ (x : Node K V). Ends' x end) was d.3))
+        subst (λ (e : KeyCall K V Q × Called (Node K V)). StepSpec same hash setting caller w c blocks m2 (λ w2 c2 blocks2. Told w2 c2 blocks2 e)) (sym (subst (λ (x : Node K V). Ends' x end) was d.3))
         (went_dropped same hash setting w c blocks map (block_in p.own) caller (node.Pair own.key own.value) (ap w.hand (pair_block own) ∙ own.hand) (pair_there own) (λ e. cc e) m2 d.2
         (λ w2 c2 blocks2. Told w2 c2 blocks2 (going (record p { replies = backed own; own = 0 }) (at.Tries word TOMBSTONE)))
         (removes after (backed own) back.takes_is back.fits its))

@@ -24,7 +24,7 @@ use Rattle.map_rule.specs.Chart.{Chart}
 use Rattle.map_rule.specs.Words.{Blocks}
 use Rattle.map_rule.specs.InWorld.{IsMapIn}
 use Rattle.map_facts.specs.FactsCalls.{Change, Unchanged, MayStore, RepliesFit, ByReply, holding, IsOwnPair, HasIts, AtTry, NamesPair, MayReplace, MayTry, IsToFill, CallFacts}
-use Rattle.map_facts.specs.Told.{CallTold}
+use Rattle.map_facts.specs.Told.{CallOutcome}
 use Rattle.map_facts.specs.FactsIdle.{IsIdle}
 use Rattle.map_rule.proofs.World.WentStill.{went_still}
 use Rattle.map_facts.proofs.Calls.CallsOn.{Seeking, told_unchanged, goes}
@@ -39,7 +39,7 @@ module _ {K V Q : Type 0} (same : K → K → Bool) (hash : K → ℕ) (asks : Q
       → Steps Took value_at w.memory (Turn (Now (p, Asks asked))) m2 end → CallWent same hash asks caller setting keys w c blocks map change p f m2 end
   went_asks asking asked here m2 end s =
       by_end same hash asks caller setting keys w c blocks map change p f m2 end (p, Asks asked) s.1
-      (went_still same hash setting caller w c blocks map m2 s.0 (λ w2 c2 blocks2. CallTold same hash asks caller setting keys c change p w2 c2 blocks2 p (Asks asked)) (record {
+      (went_still same hash setting caller w c blocks map m2 s.0 (λ w2 c2 blocks2. CallOutcome same hash asks caller setting keys c change p w2 c2 blocks2 p (Asks asked)) (record {
         change2 = change;
         facts = f;
         changes = inl (refl, refl);
@@ -50,7 +50,7 @@ module _ {K V Q : Type 0} (same : K → K → Bool) (hash : K → ℕ) (asks : Q
 
   module _ (word : ℕ) (by_reply : holding p.replies.takes p.missing ≡ ByReply) (try : AtTry same hash asks w caller setting c blocks keys change p) where
     abbrev Told : World (Node K V) → Chart K → Blocks → KeyCall K V Q × Called (Node K V) → Type 0
-    Told w2 c2 blocks2 end = CallTold same hash asks caller setting keys c change p w2 c2 blocks2 end.0 end.1
+    Told w2 c2 blocks2 end = CallOutcome same hash asks caller setting keys c change p w2 c2 blocks2 end.0 end.1
 
     may_with : (replies : Replies K V) → replies.takes ≡ p.replies.takes → MayStore replies.takes p.there p.missing
     may_with replies takes_is = subst (λ (x : Takes). MayStore x p.there p.missing) (sym takes_is) f.may.0

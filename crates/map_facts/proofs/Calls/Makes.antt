@@ -26,9 +26,9 @@ use Rattle.papaya_raw.specs.declared.machines.call.Calling.TheVariants as at
 use Rattle.map_rule.specs.Given.SeizeWordsDeclared.fault.Fault.TheVariants.{Memory}
 use Rattle.map_rule.specs.Chart.{Chart}
 use Rattle.map_rule.specs.Words.{Blocks}
-use Rattle.map_rule.specs.InWorld.{IsMapIn, Went}
+use Rattle.map_rule.specs.InWorld.{IsMapIn, StepSpec}
 use Rattle.map_facts.specs.FactsCalls.{Change, Unchanged, Holding, holding, IsCopying, IsOwnPair, HasOwn, CallingFacts, CallFacts}
-use Rattle.map_facts.specs.Told.{HasAnswered, CallFactsAfter, CallTold}
+use Rattle.map_facts.specs.Told.{HasAnswered, CallFactsAfter, CallOutcome}
 use Rattle.map_facts.specs.FactsIdle.{IsIdle}
 use Rattle.map_rule.proofs.World.WentStill.{went_still}
 use Rattle.map_rule.proofs.World.WentMade.{world_made, went_made, went_dropped}
@@ -40,7 +40,7 @@ module _ {K V Q : Type 0} (same : K → K → Bool) (hash : K → ℕ) (asks : Q
     (f : CallFacts same hash asks w caller setting c blocks keys change p) where
   -- a step of the call came to this memory and this outcome
   abbrev pub CallWent : Mem (Node K V) → KeyCall K V Q × Called (Node K V) → Type 0
-  CallWent m2 end = Went same hash setting caller w c blocks m2 (λ w2 c2 blocks2. CallTold same hash asks caller setting keys c change p w2 c2 blocks2 end.0 end.1)
+  CallWent m2 end = StepSpec same hash setting caller w c blocks m2 (λ w2 c2 blocks2. CallOutcome same hash asks caller setting keys c change p w2 c2 blocks2 end.0 end.1)
 
   pub by_end : (m2 : Mem (Node K V)) (end other : KeyCall K V Q × Called (Node K V)) → end ≡ other → CallWent m2 other → CallWent m2 end
   by_end m2 end other is went = subst (λ (e : KeyCall K V Q × Called (Node K V)). CallWent m2 e) (sym is) went
@@ -49,7 +49,7 @@ module _ {K V Q : Type 0} (same : K → K → Bool) (hash : K → ℕ) (asks : Q
   pub still : (m2 : Mem (Node K V)) → m2 ≡ w.memory → (end : KeyCall K V Q × Called (Node K V)) → change ≡ Unchanged
       → Comes same hash asks caller setting keys w c blocks end → CallWent m2 end
   still m2 is end none comes =
-      went_still same hash setting caller w c blocks map m2 is (λ w2 c2 blocks2. CallTold same hash asks caller setting keys c change p w2 c2 blocks2 end.0 end.1)
+      went_still same hash setting caller w c blocks map m2 is (λ w2 c2 blocks2. CallOutcome same hash asks caller setting keys c change p w2 c2 blocks2 end.0 end.1)
       (told_unchanged same hash asks caller setting keys w c blocks c change p end none refl (λ other. inl refl) comes)
 
   module _ (point : CallingFacts same hash asks w caller setting c blocks keys change p at.Makes) (none : change ≡ Unchanged)
@@ -94,7 +94,7 @@ module _ {K V Q : Type 0} (same : K → K → Bool) (hash : K → ℕ) (asks : Q
         elim (made_by_step w.memory (made p) (node.Pair point.3 point.4) 0 m2 end (subst (λ plan. Steps Took value_at w.memory plan m2 end) makes_this s)) as (λ _. CallWent m2 end) [
           | inl (b, is, after, e) ↦ by_end m2 end (going (begun b) at.Roots) e
               (went_made same hash setting w c blocks map caller (node.Pair point.3 point.4) 0 b tt is m2 after
-              (λ w2 c2 blocks2. CallTold same hash asks caller setting keys c change p w2 c2 blocks2 (going (begun b) at.Roots).0 (going (begun b) at.Roots).1)
+              (λ w2 c2 blocks2. CallOutcome same hash asks caller setting keys c change p w2 c2 blocks2 (going (begun b) at.Roots).0 (going (begun b) at.Roots).1)
               (told_unchanged same hash asks caller setting keys (world_made same hash setting w c blocks map caller (node.Pair point.3 point.4) 0 b) c blocks c change p (going (begun b) at.Roots) none refl (λ other. inl refl)
               (goes same hash asks caller setting keys (world_made same hash setting w c blocks map caller (node.Pair point.3 point.4) 0 b) c blocks (begun b) (seeks b is) p.trial p.helped at.Roots (λ answer h. h) (seeks b is).own)))
           | inr (back, is, after, e) ↦ by_end m2 end (standing (record p { unmade = None }) (at.Over (ends.Refused Memory)), Unstored back) e
@@ -109,7 +109,7 @@ module _ {K V Q : Type 0} (same : K → K → Bool) (hash : K → ℕ) (asks : Q
       → Steps Took value_at w.memory (Turn (Now (p, ended over))) m2 end → CallWent m2 end
   went_over over stands m2 end s =
       by_end m2 end (p, ended over) s.1
-      (went_still same hash setting caller w c blocks map m2 s.0 (λ w2 c2 blocks2. CallTold same hash asks caller setting keys c change p w2 c2 blocks2 p (ended over)) (record {
+      (went_still same hash setting caller w c blocks map m2 s.0 (λ w2 c2 blocks2. CallOutcome same hash asks caller setting keys c change p w2 c2 blocks2 p (ended over)) (record {
         change2 = change;
         facts = told over stands;
         changes = inl (refl, refl);
@@ -147,7 +147,7 @@ module _ {K V Q : Type 0} (same : K → K → Bool) (hash : K → ℕ) (asks : Q
         let d = taken w.memory (dropped p end) (p.own / 2048) m2 over s in
         by_end m2 over (standing (record p { own = 0 }) (at.Over end), Unstored d.0) d.3
         (went_dropped same hash setting w c blocks map (p.own / 2048) caller d.0 (ap w.hand block_is ∙ own.hand) d.1 (λ shards. cc (there, d.1)) m2 d.2
-        (λ w2 c2 blocks2. CallTold same hash asks caller setting keys c change p w2 c2 blocks2 (standing (record p { own = 0 }) (at.Over end)) (Unstored d.0))
+        (λ w2 c2 blocks2. CallOutcome same hash asks caller setting keys c change p w2 c2 blocks2 (standing (record p { own = 0 }) (at.Over end)) (Unstored d.0))
         (record {
           change2 = change;
           facts = record { setting_is = f.setting_is; may = f.may; code = f.code; class = f.class; unchanged = λ h. absurd h; idle = λ h. idle; point = point.0 };

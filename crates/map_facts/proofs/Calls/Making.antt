@@ -26,10 +26,10 @@ use Rattle.map_rule.specs.Rule.{IsLawful, ShutBefore, Rule}
 use Rattle.map_rule.specs.Lasts.{Lasts}
 use Rattle.map_rule.specs.Words.{Blocks}
 use Rattle.map_rule.specs.Maps.{spot_of, IsTable, NoneBefore}
-use Rattle.map_rule.specs.InWorld.{IsMapIn, Moved, SameBlocks, Went, SparesPairs}
+use Rattle.map_rule.specs.InWorld.{IsMapIn, Moved, SameBlocks, StepSpec, SparesPairs}
 use Rattle.map_facts.specs.FactsCalls.{Change, Unchanged, ShutUpTo, CallFacts}
 use Rattle.map_rule.specs.Moves.{Links}
-use Rattle.map_facts.specs.Told.{NewTableTold, OnlyLinks, MovedBeside, CallTold}
+use Rattle.map_facts.specs.Told.{NewTableOutcome, OnlyLinks, MovedBesideCopying, CallOutcome}
 use Rattle.map_facts.proofs.MovedLasts.{moved_lasts, links_same, idle_linked}
 use Rattle.map_rule.proofs.Moves.Shuts.{past_shut}
 use Rattle.map_rule.proofs.Keys.TriesLast.{table_lasts, shut_before_lasts}
@@ -40,7 +40,7 @@ use Rattle.map_facts.proofs.Calls.Makes.{CallWent, by_end}
 use Rattle.map_rule.proofs.World.WentTold.{went_as}
 
 -- a table may be linked beside a copying
-pub links_beside : {K : Type 0} (hash : K → ℕ) (mode : ResizeMode) (c c2 : Chart K) → OnlyLinks hash mode c c2 → MovedBeside hash mode c c2
+pub links_beside : {K : Type 0} (hash : K → ℕ) (mode : ResizeMode) (c c2 : Chart K) → OnlyLinks hash mode c c2 → MovedBesideCopying hash mode c c2
 links_beside hash mode c c2 (inl same) = inl same
 links_beside hash mode c c2 (inr (len, limit, is)) = inr (Links len limit, tt, is)
 
@@ -51,7 +51,7 @@ module _ {K V Q : Type 0} (same : K → K → Bool) (hash : K → ℕ) (asks : Q
       seeks : Seeking same hash asks caller setting keys w2 c2 blocks2 p
       seeks = seeking_lasts same hash asks caller setting keys w w2 c c2 blocks blocks2 spares p (idle_linked same hash caller setting lawful w c blocks map w2 c2 blocks2 links s.idle) s
 
-      first_comes : p.missing ≢ missing.Answers → (end : NewTable × Advance Table) → NewTableTold w2 caller setting c2 blocks2 (Root setting.root) 0 end
+      first_comes : p.missing ≢ missing.Answers → (end : NewTable × Advance Table) → NewTableOutcome w2 caller setting c2 blocks2 (Root setting.root) 0 end
           → Comes same hash asks caller setting keys w2 c2 blocks2 (first_made p end)
       first_comes puts (next, progress.Goes) told =
           goes same hash asks caller setting keys w2 c2 blocks2 p seeks p.trial p.helped (at.Firsts next) (λ answer h. h) (seeks.own, puts, told)
@@ -71,7 +71,7 @@ module _ {K V Q : Type 0} (same : K → K → Bool) (hash : K → ℕ) (asks : Q
       first_comes puts (next, progress.Refused fault) told = refuses same hash asks caller setting keys w2 c2 blocks2 p seeks fault
 
       next_comes : (t : ℕ) → IsTable c2 blocks2 p.trial.table t → ShutUpTo same hash asks w2 caller setting c2 blocks2 keys Unchanged t → (end : NewTable × Advance Table)
-          → NewTableTold w2 caller setting c2 blocks2 (Word (blocks2.table t) NEXT) (suc t) end → Comes same hash asks caller setting keys w2 c2 blocks2 (next_made p end)
+          → NewTableOutcome w2 caller setting c2 blocks2 (Word (blocks2.table t) NEXT) (suc t) end → Comes same hash asks caller setting keys w2 c2 blocks2 (next_made p end)
       next_comes t entered shut (next, progress.Goes) told =
           goes same hash asks caller setting keys w2 c2 blocks2 p seeks p.trial p.helped (at.Allocs next) (λ answer h. h) (seeks.own, t, (entered, shut), told)
       next_comes t entered shut (next, progress.Waits) told = absurd told
@@ -88,26 +88,26 @@ module _ {K V Q : Type 0} (same : K → K → Bool) (hash : K → ℕ) (asks : Q
       -- what a step of the making of the next table tells of the call
       pub next_told : (w2 : World (Node K V)) (c2 : Chart K) (blocks2 : Blocks) → IsMapIn same hash setting w2 c2 blocks2 → Moved same hash setting.mode caller c c2 → SameBlocks c blocks blocks2
           → (change : Change) → change ≡ Unchanged → (end : NewTable × Advance Table)
-          → SparesPairs w w2 × OnlyLinks hash setting.mode c c2 × NewTableTold w2 caller setting c2 blocks2 (Word (blocks.table t) NEXT) (suc t) end
-          → CallTold same hash asks caller setting keys c change p w2 c2 blocks2 (next_made p end).0 (next_made p end).1
+          → SparesPairs w w2 × OnlyLinks hash setting.mode c c2 × NewTableOutcome w2 caller setting c2 blocks2 (Word (blocks.table t) NEXT) (suc t) end
+          → CallOutcome same hash asks caller setting keys c change p w2 c2 blocks2 (next_made p end).0 (next_made p end).1
       next_told w2 c2 blocks2 map2 moved same_blocks change unchanged end told =
           told_unchanged same hash asks caller setting keys w2 c2 blocks2 c change p (next_made p end) unchanged (links_same same hash caller setting lawful w c blocks map c2 told.1).0 (λ other. links_beside hash setting.mode c c2 told.1)
           (next_comes w2 c2 blocks2 map2 told.0 told.1 t
           (table_lasts same hash (is_incremental setting.mode) c c2 (moved_lasts same hash setting lawful w c c2 blocks map moved) blocks blocks2 same_blocks p.trial.table t entered)
           (shut_lasts (is_incremental setting.mode) c2 (moved_lasts same hash setting lawful w c c2 blocks map moved) (links_same same hash caller setting lawful w c blocks map c2 told.1).1 shut)
-          end (subst (λ (x : ℕ). NewTableTold w2 caller setting c2 blocks2 (Word x NEXT) (suc t) end) (sym (same_blocks.tables t entered.made entered.known).0) told.2))
+          end (subst (λ (x : ℕ). NewTableOutcome w2 caller setting c2 blocks2 (Word x NEXT) (suc t) end) (sym (same_blocks.tables t entered.made entered.known).0) told.2))
 
     module _ (change : Change) (f : CallFacts same hash asks w caller setting c blocks keys change p) (unchanged : change ≡ Unchanged) (m2 : Mem (Node K V)) (end : KeyCall K V Q × Called (Node K V)) where
       pub went_firsts : p.missing ≢ missing.Answers
           → ((m2 : Mem (Node K V)) (end : NewTable × Advance Table) → Steps Took value_at w.memory (new_table_plan making) m2 end
-          → Went same hash setting caller w c blocks m2 (λ w2 c2 blocks2. SparesPairs w w2 × OnlyLinks hash setting.mode c c2 × NewTableTold w2 caller setting c2 blocks2 (Root setting.root) 0 end))
+          → StepSpec same hash setting caller w c blocks m2 (λ w2 c2 blocks2. SparesPairs w w2 × OnlyLinks hash setting.mode c c2 × NewTableOutcome w2 caller setting c2 blocks2 (Root setting.root) 0 end))
           → Steps Took value_at w.memory (firsts p making) m2 end → CallWent same hash asks caller setting keys w c blocks map change p f m2 end
       went_firsts puts inner steps =
           let d = steps_back (first_made p) w.memory m2 (new_table_plan making) end steps in
           by_end same hash asks caller setting keys w c blocks map change p f m2 end (first_made p d.0) d.2
           (went_as same hash setting caller w c blocks m2
-          (λ w2 c2 blocks2. SparesPairs w w2 × OnlyLinks hash setting.mode c c2 × NewTableTold w2 caller setting c2 blocks2 (Root setting.root) 0 d.0)
-          (λ w2 c2 blocks2. CallTold same hash asks caller setting keys c change p w2 c2 blocks2 (first_made p d.0).0 (first_made p d.0).1)
+          (λ w2 c2 blocks2. SparesPairs w w2 × OnlyLinks hash setting.mode c c2 × NewTableOutcome w2 caller setting c2 blocks2 (Root setting.root) 0 d.0)
+          (λ w2 c2 blocks2. CallOutcome same hash asks caller setting keys c change p w2 c2 blocks2 (first_made p d.0).0 (first_made p d.0).1)
           (λ w2 c2 blocks2 map2 moved same_blocks told.
           told_unchanged same hash asks caller setting keys w2 c2 blocks2 c change p (first_made p d.0) unchanged (links_same same hash caller setting lawful w c blocks map c2 told.1).0 (λ other. links_beside hash setting.mode c c2 told.1)
           (first_comes w2 c2 blocks2 map2 told.0 told.1 puts d.0 told.2))
@@ -115,14 +115,14 @@ module _ {K V Q : Type 0} (same : K → K → Bool) (hash : K → ℕ) (asks : Q
 
       pub went_allocs : (t : ℕ) → IsTable c blocks p.trial.table t → ShutUpTo same hash asks w caller setting c blocks keys Unchanged t
           → ((m2 : Mem (Node K V)) (end : NewTable × Advance Table) → Steps Took value_at w.memory (new_table_plan making) m2 end
-          → Went same hash setting caller w c blocks m2 (λ w2 c2 blocks2. SparesPairs w w2 × OnlyLinks hash setting.mode c c2
-          × NewTableTold w2 caller setting c2 blocks2 (Word (blocks.table t) NEXT) (suc t) end))
+          → StepSpec same hash setting caller w c blocks m2 (λ w2 c2 blocks2. SparesPairs w w2 × OnlyLinks hash setting.mode c c2
+          × NewTableOutcome w2 caller setting c2 blocks2 (Word (blocks.table t) NEXT) (suc t) end))
           → Steps Took value_at w.memory (allocs p making) m2 end → CallWent same hash asks caller setting keys w c blocks map change p f m2 end
       went_allocs t entered shut inner steps =
           let d = steps_back (next_made p) w.memory m2 (new_table_plan making) end steps in
           by_end same hash asks caller setting keys w c blocks map change p f m2 end (next_made p d.0) d.2
           (went_as same hash setting caller w c blocks m2
-          (λ w2 c2 blocks2. SparesPairs w w2 × OnlyLinks hash setting.mode c c2 × NewTableTold w2 caller setting c2 blocks2 (Word (blocks.table t) NEXT) (suc t) d.0)
-          (λ w2 c2 blocks2. CallTold same hash asks caller setting keys c change p w2 c2 blocks2 (next_made p d.0).0 (next_made p d.0).1)
+          (λ w2 c2 blocks2. SparesPairs w w2 × OnlyLinks hash setting.mode c c2 × NewTableOutcome w2 caller setting c2 blocks2 (Word (blocks.table t) NEXT) (suc t) d.0)
+          (λ w2 c2 blocks2. CallOutcome same hash asks caller setting keys c change p w2 c2 blocks2 (next_made p d.0).0 (next_made p d.0).1)
           (λ w2 c2 blocks2 map2 moved same_blocks told. next_told t entered shut w2 c2 blocks2 map2 moved same_blocks change unchanged d.0 told)
           (inner m2 d.0 d.1))

@@ -26,10 +26,10 @@ use Rattle.map_rule.specs.Chart.{Chart}
 use Rattle.map_rule.specs.Rule.{IsLawful}
 use Rattle.map_rule.specs.Words.{Blocks}
 use Rattle.map_rule.specs.Maps.{spot_of}
-use Rattle.map_rule.specs.InWorld.{IsMapIn, Went, SparesPairs}
+use Rattle.map_rule.specs.InWorld.{IsMapIn, StepSpec, SparesPairs}
 use Rattle.map_facts.specs.FactsCopies.{CopierFacts}
 use Rattle.map_facts.specs.FactsCalls.{Change, Unchanged, IsCopying, Seeks, HasIts, CallingFacts, CallFacts}
-use Rattle.map_facts.specs.Told.{IsRowOfCopier, IsRowOfCall, CopierTold, CallTold}
+use Rattle.map_facts.specs.Told.{IsRowOfCopier, IsRowOfCall, CopierOutcome, CallOutcome}
 use Rattle.map_facts.specs.FactsIdle.{IsIdle}
 use Rattle.map_facts.proofs.Calls.CallsOn.{Seeking}
 use Rattle.map_facts.proofs.Calls.CallsWithin.{went_looks}
@@ -65,7 +65,7 @@ module _ {K V Q : Type 0} (same : K → K → Bool) (hash : K → ℕ) (asks : Q
   StepsAt p stands m2 end = Steps Took value_at w.memory (plan_at asks same hash p stands) m2 end
 
   abbrev WentTo : Change → KeyCall K V Q → Mem (Node K V) → KeyCall K V Q × Called (Node K V) → Type 0
-  WentTo change p m2 end = Went same hash setting caller w c blocks m2 (λ w2 c2 blocks2. CallTold same hash asks caller setting keys c change p w2 c2 blocks2 end.0 end.1)
+  WentTo change p m2 end = StepSpec same hash setting caller w c blocks m2 (λ w2 c2 blocks2. CallOutcome same hash asks caller setting keys c change p w2 c2 blocks2 end.0 end.1)
 
   abbrev IsSeeking : Calling → Type 0
   IsSeeking stands = Seeks same hash asks w caller setting c blocks keys Unchanged stands
@@ -73,11 +73,11 @@ module _ {K V Q : Type 0} (same : K → K → Bool) (hash : K → ℕ) (asks : Q
   -- in incremental mode, a copier that copies no whole table goes on so
   went_part : (bits : is_incremental setting.mode ≡ true) (copier : Copier) → copier.whole ≡ false → CopierFacts same hash w caller setting c blocks copier
       → (IsRowOfCopier copier.stands → ⊥) → (m2 : Mem (Node K V)) (end : Copier × Yielding (Node K V) Table) → Steps Took value_at w.memory (copier_plan hash copier) m2 end
-      → Went same hash setting caller w c blocks m2 (λ w2 c2 blocks2. SparesPairs w w2 × (c2.current ≡ c.current) × (end.0.whole ≡ false) × CopierTold w2 caller setting c2 blocks2 same hash end)
+      → StepSpec same hash setting caller w c blocks m2 (λ w2 c2 blocks2. SparesPairs w w2 × (c2.current ≡ c.current) × (end.0.whole ≡ false) × CopierOutcome w2 caller setting c2 blocks2 same hash end)
   went_part bits copier part facts none m2 end s =
       went_as same hash setting caller w c blocks m2
-      (λ w2 c2 blocks2. SparesPairs w w2 × (c2.current ≡ c.current) × CopierTold w2 caller setting c2 blocks2 same hash end)
-      (λ w2 c2 blocks2. SparesPairs w w2 × (c2.current ≡ c.current) × (end.0.whole ≡ false) × CopierTold w2 caller setting c2 blocks2 same hash end)
+      (λ w2 c2 blocks2. SparesPairs w w2 × (c2.current ≡ c.current) × CopierOutcome w2 caller setting c2 blocks2 same hash end)
+      (λ w2 c2 blocks2. SparesPairs w w2 × (c2.current ≡ c.current) × (end.0.whole ≡ false) × CopierOutcome w2 caller setting c2 blocks2 same hash end)
       (λ w2 c2 blocks2 map2 moved same_blocks told. (told.0, told.1, whole_stays hash copier w.memory m2 end s ∙ part, told.2))
       (went_copier same hash setting bits initial_is lawful fits w caller c blocks map copier facts none m2 end s)
 
@@ -237,5 +237,5 @@ module _ {K V Q : Type 0} (same : K → K → Bool) (hash : K → ℕ) (asks : Q
       went_at (at.Over over) here point idle none s = went_over same hash asks caller setting keys w c blocks map change p f over here m2 end s
 
       pub went_call : (IsRowOfCall p.stands → ⊥) → Steps Took value_at w.memory (call_plan asks same hash p) m2 end
-          → Went same hash setting caller w c blocks m2 (λ w2 c2 blocks2. CallTold same hash asks caller setting keys c change p w2 c2 blocks2 end.0 end.1)
+          → StepSpec same hash setting caller w c blocks m2 (λ w2 c2 blocks2. CallOutcome same hash asks caller setting keys c change p w2 c2 blocks2 end.0 end.1)
       went_call none s = went_at p.stands refl f.point f.idle none s

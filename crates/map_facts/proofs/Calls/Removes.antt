@@ -18,7 +18,7 @@ use Rattle.map_rule.specs.Words.{Blocks, place_word}
 use Rattle.map_rule.specs.Maps.{spot_at, spot_of, IsTrial, NoneBefore, IsPair}
 use Rattle.map_rule.specs.InWorld.{IsMapIn}
 use Rattle.map_facts.specs.FactsCalls.{Change, Unchanged, Removed, CallFacts}
-use Rattle.map_facts.specs.Told.{CallTold}
+use Rattle.map_facts.specs.Told.{CallOutcome}
 use Rattle.map_rule.proofs.Keys.ClassesSeen.{is_of_keys}
 use Rattle.map_rule.proofs.Keys.ClassesFound.{pair_there}
 use Rattle.map_facts.proofs.Disposals.DisposesBegin.{IsTakenOut}
@@ -58,7 +58,7 @@ module _ {K V Q : Type 0} (same : K → K → Bool) (hash : K → ℕ) (asks : Q
   module _ (change : Change) (f : CallFacts same hash asks w caller setting c blocks keys change p) (unchanged : change ≡ Unchanged)
       (m2 : Mem (Node K V)) (after_is : m2 ≡ with_word w.memory (place_tried p.trial) TOMBSTONE) where
     told : (w2 : World (Node K V)) → IsTakenOut w2 caller setting (after (spot_of hash) (is_incremental setting.mode) (Removes t (spot_at (c.len t) p.hash j)) c) blocks n t borrowed
-        → CallTold same hash asks caller setting keys c change p w2 (after (spot_of hash) (is_incremental setting.mode) (Removes t (spot_at (c.len t) p.hash j)) c) blocks
+        → CallOutcome same hash asks caller setting keys c change p w2 (after (spot_of hash) (is_incremental setting.mode) (Removes t (spot_at (c.len t) p.hash j)) c) blocks
         (going p (at.Counts word)).0 (going p (at.Counts word)).1
     told w2 out = record {
       change2 = Removed n;
@@ -98,4 +98,4 @@ module _ {K V Q : Type 0} (same : K → K → Bool) (hash : K → ℕ) (asks : Q
     went_removes =
         pairs.went_removed same hash caller setting w c blocks map t (spot_at (c.len t) p.hash j) trial.table.made trial.table.known within (place_tried p.trial)
         (try_is same hash asks caller setting keys lawful fits w c blocks map p s t j trial) lawful n k borrowed known stands_still of_key (none k asked).1 is_pair.0 word found is m2 after_is
-        (λ w2 c2 blocks2. CallTold same hash asks caller setting keys c change p w2 c2 blocks2 (going p (at.Counts word)).0 (going p (at.Counts word)).1) told
+        (λ w2 c2 blocks2. CallOutcome same hash asks caller setting keys c change p w2 c2 blocks2 (going p (at.Counts word)).0 (going p (at.Counts word)).1) told

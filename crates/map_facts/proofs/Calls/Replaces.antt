@@ -19,12 +19,12 @@ use Rattle.map_rule.proofs.Given.SeizeRuleRows.Others.{with_here}
 use Rattle.map_rule.specs.Chart.{Phase, Still, Place, Holds, Chart, put}
 use Rattle.map_rule.specs.Rule.{IsLawful, is_of}
 use Rattle.map_rule.specs.Moves.{after, Allowed, without, Replaces, MayChange}
-use Rattle.map_rule.specs.Words.{Blocks, byte_of, place_word, Shows}
+use Rattle.map_rule.specs.Words.{Blocks, byte_of, place_word, Represents}
 use Rattle.map_rule.specs.Maps.{spot_at, spot_of, IsTrial, NoneBefore, IsPair}
 use Rattle.map_rule.specs.InWorld.{IsMapIn}
 use Rattle.map_facts.specs.FactsDisposes.{HasLeft}
 use Rattle.map_facts.specs.FactsCalls.{Change, Unchanged, CallFacts, Replaced, IsOwnPair}
-use Rattle.map_facts.specs.Told.{CallTold}
+use Rattle.map_facts.specs.Told.{CallOutcome}
 use Rattle.map_rule.proofs.World.Hands.{Hands, hand_kept, in_use_apart}
 use Rattle.map_rule.proofs.World.HandsStored.{hands_left, hands_parting}
 use Rattle.map_rule.proofs.Keys.ClassesSeen.{is_of_keys}
@@ -106,7 +106,7 @@ module _ {K V Q : Type 0} (same : K → K → Bool) (hash : K → ℕ) (asks : Q
       older : (o : ℕ) (phase : Phase) (lent : Bool) → Holds n Still borrowed ≡ Holds o phase lent → o < c.stored
       older o phase lent e = let same_pair : n ≡ o = cc e in omega arith
 
-  shown : Shows hash (with_word w.memory (Word (blocks.table t) (spot + PLACES)) p.own) c2 blocks2 setting.root
+  shown : Represents hash (with_word w.memory (Word (blocks.table t) (spot + PLACES)) p.own) c2 blocks2 setting.root
   shown =
       own_shown same hash asks caller setting keys lawful fits w c blocks map p s t j trial none root own spot
       (inside same hash asks caller setting keys lawful fits w c blocks map p s t j trial none root)
@@ -145,7 +145,7 @@ module _ {K V Q : Type 0} (same : K → K → Bool) (hash : K → ℕ) (asks : Q
         ∙ ap (λ (x : Setting). going p (at.Disposes (disposing x word p.trial.table) (answers.Replaced word p.own))) s.setting_is
 
     told : (w2 : World (Node K V)) → IsTakenOut w2 caller setting c2 blocks2 n t borrowed
-        → CallTold same hash asks caller setting keys c change p w2 c2 blocks2 end.0 end.1
+        → CallOutcome same hash asks caller setting keys c change p w2 c2 blocks2 end.0 end.1
     told w2 out = record {
       change2 = Replaced n c.stored;
       facts = record {
@@ -198,7 +198,7 @@ module _ {K V Q : Type 0} (same : K → K → Bool) (hash : K → ℕ) (asks : Q
         (moves_keep same (spot_of hash) bit lawful (Replaces t spot own.key) c map.map.rule allowed).0 shown caller n left.0 known_still left.2 used hands in
         record { tables = h.tables; pairs = h.pairs; named = h.named; tables_out = h.tables_out; pairs_out = h.pairs_out })
         (same_blocks same hash asks caller setting keys lawful fits w c blocks map p s t j trial none root own spot)
-        (λ w2 c2 blocks2. CallTold same hash asks caller setting keys c change p w2 c2 blocks2 end.0 end.1)
+        (λ w2 c2 blocks2. CallOutcome same hash asks caller setting keys c change p w2 c2 blocks2 end.0 end.1)
         (told (record w { memory = with_word w.memory (place_tried p.trial) p.own; hand = with_at (with_at w.hand own.block (InUse setting.counter)) (blocks2.pair n) (Parting caller); log = Linked own.block setting.counter ∷ w.log })
         (subst (λ (x : Bool). cond x ((with_at (with_at w.hand own.block (InUse setting.counter)) (blocks2.pair n) (Parting caller) (blocks2.pair n) ≡ Parting caller) × Older)
         ((with_at (with_at w.hand own.block (InUse setting.counter)) (blocks2.pair n) (Parting caller) (blocks2.pair n) ≡ Cutting caller) × Nowhere)) (sym e)
@@ -216,7 +216,7 @@ module _ {K V Q : Type 0} (same : K → K → Bool) (hash : K → ℕ) (asks : Q
         (moves_keep same (spot_of hash) bit lawful (Replaces t spot own.key) c map.map.rule allowed).0 shown caller n left.0 known_still left.2 nowhere hands in
         record { tables = h.tables; pairs = h.pairs; named = h.named; tables_out = h.tables_out; pairs_out = h.pairs_out })
         (same_blocks same hash asks caller setting keys lawful fits w c blocks map p s t j trial none root own spot)
-        (λ w2 c2 blocks2. CallTold same hash asks caller setting keys c change p w2 c2 blocks2 end.0 end.1)
+        (λ w2 c2 blocks2. CallOutcome same hash asks caller setting keys c change p w2 c2 blocks2 end.0 end.1)
         (told (record w { memory = with_word w.memory (place_tried p.trial) p.own; hand = with_at (with_at w.hand own.block (InUse setting.counter)) (blocks2.pair n) (Cutting caller); log = Unlinked (blocks2.pair n) ∷ Linked own.block setting.counter ∷ w.log })
         (subst (λ (x : Bool). cond x ((with_at (with_at w.hand own.block (InUse setting.counter)) (blocks2.pair n) (Cutting caller) (blocks2.pair n) ≡ Parting caller) × Older)
         ((with_at (with_at w.hand own.block (InUse setting.counter)) (blocks2.pair n) (Cutting caller) (blocks2.pair n) ≡ Cutting caller) × Nowhere)) (sym e)

@@ -1,7 +1,7 @@
 -- What a call keeps of what it was told, as a value goes into its own block, and comes out of it.
 use Rattle.std.specs.Prelude.{◌≡◌, ◌≢◌, ℕ, ◌==◌, Bool, true, false, Some, None, if◌then◌else◌}
 use Rattle.std.proofs.Common.{refl}
-use Rattle.papaya_raw.specs.Replies.{value_told, owned, value_for, as_own, back, back_present, with_back}
+use Rattle.papaya_raw.specs.Replies.{value_replied, owned, value_for, as_own, back, back_present, with_back}
 use Rattle.papaya_raw.specs.declared.machines.asking.Replies.{Replies}
 use Rattle.papaya_raw.specs.declared.machines.asking.Takes.TheVariants as takes
 use Rattle.papaya_raw.specs.declared.machines.asking.Told.{Told}
@@ -10,13 +10,13 @@ use Rattle.map_facts.specs.FactsCalls.{RepliesFit}
 
 module _ {V : Type 0} where
   -- a value that was told stands apart from any block
-  told_value : (told : Told V) (v : V) → value_told told ≡ Some v → told ≢ tells.Own
+  told_value : (told : Told V) (v : V) → value_replied told ≡ Some v → told ≢ tells.Own
   told_value tells.Nothing v e own = cc own
   told_value (tells.Value x) v e own = cc own
   told_value tells.Own v e own = cc e
   told_value tells.Removes v e own = cc e
 
-  owned_value : (told : Told V) (v : V) → value_told told ≡ Some v → owned told ≡ tells.Own
+  owned_value : (told : Told V) (v : V) → value_replied told ≡ Some v → owned told ≡ tells.Own
   owned_value tells.Nothing v e = absurd (cc e)
   owned_value (tells.Value x) v e = refl
   owned_value tells.Own v e = absurd (cc e)
@@ -31,12 +31,12 @@ module _ {K V : Type 0} (r : Replies K V) (fit : RepliesFit r) where
       pub takes_is : x.takes ≡ r.takes
       pub told : (word : ℕ) (v : V) → value_for r word ≡ Some v → value_for x word ≡ Some v
 
-    value_by : (b : Bool) (absent present absent2 present2 : Told V) (v : V) → (value_told absent ≡ Some v → value_told absent2 ≡ Some v) → (value_told present ≡ Some v → value_told present2 ≡ Some v)
-        → value_told (if b then absent else present) ≡ Some v → value_told (if b then absent2 else present2) ≡ Some v
+    value_by : (b : Bool) (absent present absent2 present2 : Told V) (v : V) → (value_replied absent ≡ Some v → value_replied absent2 ≡ Some v) → (value_replied present ≡ Some v → value_replied present2 ≡ Some v)
+        → value_replied (if b then absent else present) ≡ Some v → value_replied (if b then absent2 else present2) ≡ Some v
     value_by true absent present absent2 present2 v f g = f
     value_by false absent present absent2 present2 v f g = g
 
-    none_own : (told : Told V) (v : V) → told ≡ tells.Own → value_told told ≡ Some v → ⊥
+    none_own : (told : Told V) (v : V) → told ≡ tells.Own → value_replied told ≡ Some v → ⊥
     none_own told v own e = told_value told v e own
 
     of_present : r.absent ≢ tells.Own → (present : Told V) → r.present ≡ present → IsBack (back_present present (record r { key = Some key }) value)
@@ -110,7 +110,7 @@ module _ {K V : Type 0} (r : Replies K V) (fit : RepliesFit r) where
   pub owns : (key : K) → r.key ≡ Some key → r.takes ≢ takes.Choices → (word : ℕ) (v : V) → value_for r word ≡ Some v → RepliesFit (record (as_own r word) { key = None }) × ((as_own r word).takes ≡ r.takes)
   owns key out other word v told = by (word == 0) told
     where
-      by : (b : Bool) → value_told (if b then r.absent else r.present) ≡ Some v
+      by : (b : Bool) → value_replied (if b then r.absent else r.present) ≡ Some v
           → RepliesFit (record (if b then record r { absent = owned r.absent } else record r { present = owned r.present }) { key = None })
           × ((if b then record r { absent = owned r.absent } else record r { present = owned r.present }).takes ≡ r.takes)
       by true e = (

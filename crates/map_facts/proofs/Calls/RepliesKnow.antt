@@ -6,7 +6,7 @@ use Rattle.map_rule.specs.Given.SeizeWordsDeclared.fault.Fault.TheVariants.{Remo
 use Rattle.papaya_raw.specs.Given.SeizeWorld.{World}
 use Rattle.papaya_raw.specs.CallAsks.{with_absent, with_present}
 use Rattle.papaya_raw.specs.CallPoints.{going, over, ending, burying, storing, following_made, at_gap}
-use Rattle.papaya_raw.specs.Replies.{value_told}
+use Rattle.papaya_raw.specs.Replies.{value_replied}
 use Rattle.papaya_raw.specs.Given.TablesDeclared.marks.TheConstants.{TOMBSTONE}
 use Rattle.papaya_raw.specs.Given.TablesDeclared.node.Node.{Node}
 use Rattle.papaya_raw.specs.Given.TablesDeclared.setting.Setting.{Setting}
@@ -158,7 +158,7 @@ module _ {K V Q : Type 0} (same : K → K → Bool) (hash : K → ℕ) (asks : Q
             class = f.class;
             unchanged = λ h. refl;
             idle = λ h. idle_at here;
-            point = (inl k.0, held, (value, ap (λ (b : Bool). value_told (if b then p.replies.absent else tells.Value value)) (names_some same hash asks caller setting keys w c blocks are.fits map.map word k.2)), inr k.2, k.3);
+            point = (inl k.0, held, (value, ap (λ (b : Bool). value_replied (if b then p.replies.absent else tells.Value value)) (names_some same hash asks caller setting keys w c blocks are.fits map.map word k.2)), inr k.2, k.3);
           },
       λ answer answered. absurd answered,
     );

@@ -2,7 +2,7 @@
 use Rattle.std.specs.Prelude.{◌≡◌, ◌≢◌, ℕ}
 use Rattle.std.proofs.Common.{refl, sym, subst}
 use Rattle.map_rule.specs.Given.SeizeWordsDeclared.fault.Fault.TheVariants.{RemoveNothing}
-use Rattle.papaya_raw.specs.CallAsks.{with_absent, with_present, absent_told, present_told, told_at, replied}
+use Rattle.papaya_raw.specs.CallAsks.{with_absent, with_present, absent_replied, present_replied, replied_at, replied}
 use Rattle.papaya_raw.specs.CallPoints.{standing, ending, answering, burying, at_gap}
 use Rattle.papaya_raw.specs.declared.machines.answer.End.TheVariants as ends
 use Rattle.papaya_raw.specs.declared.machines.answer.KeyAnswer.TheVariants as answers
@@ -42,7 +42,7 @@ module _ {K V Q : Type 0} (p : KeyCall K V Q) (So : KeyCall K V Q → Type 0) wh
     pub answers : (word : ℕ) → p.stands ≡ at.Asks (asking.Present word) → So (answering p (answers.Found word)).0
 
   module _ (so : IsSoOfAll) where
-    absent_so : (x : Takes) → p.replies.takes ≡ x → (gap : Gap) → p.stands ≡ at.Asks (asking.Absent gap) → (r : MachineReply V) → So (absent_told x p gap r).0
+    absent_so : (x : Takes) → p.replies.takes ≡ x → (gap : Gap) → p.stands ≡ at.Asks (asking.Absent gap) → (r : MachineReply V) → So (absent_replied x p gap r).0
     absent_so takes.Values e gap here (reply.Insert value) = so.stores gap value here (subst TakesValues (sym e) tt)
     absent_so takes.Values e gap here reply.Remove = so.asks_on
     absent_so takes.Values e gap here reply.Abort = so.asks_on
@@ -56,7 +56,7 @@ module _ {K V Q : Type 0} (p : KeyCall K V Q) (So : KeyCall K V Q → Type 0) wh
     absent_so takes.Nothing e gap here r = so.asks_on
     absent_so takes.Choices e gap here r = so.asks_on
 
-    present_so : (x : Takes) → p.replies.takes ≡ x → (word : ℕ) → p.stands ≡ at.Asks (asking.Present word) → (r : MachineReply V) → So (present_told x p word r).0
+    present_so : (x : Takes) → p.replies.takes ≡ x → (word : ℕ) → p.stands ≡ at.Asks (asking.Present word) → (r : MachineReply V) → So (present_replied x p word r).0
     present_so takes.Values e word here (reply.Insert value) = so.replaces word value here (subst TakesValues (sym e) tt)
     present_so takes.Values e word here reply.Remove = so.asks_on
     present_so takes.Values e word here reply.Abort = so.asks_on
@@ -74,7 +74,7 @@ module _ {K V Q : Type 0} (p : KeyCall K V Q) (So : KeyCall K V Q → Type 0) wh
     present_so takes.Choices e word here reply.Abort = so.asks_on
     present_so takes.Nothing e word here r = so.asks_on
 
-    told_so : (stands : Calling) → p.stands ≡ stands → (r : MachineReply V) → So (told_at stands p r).0
+    told_so : (stands : Calling) → p.stands ≡ stands → (r : MachineReply V) → So (replied_at stands p r).0
     told_so (at.Asks (asking.Absent gap)) here r = absent_so p.replies.takes refl gap here r
     told_so (at.Asks (asking.Present word)) here r = present_so p.replies.takes refl word here r
     told_so (at.Asks (asking.Fills word)) here r = so.asks_on

@@ -13,7 +13,7 @@ use Rattle.papaya_raw.specs.declared.machines.call.KeyCall.{KeyCall}
 use Rattle.papaya_raw.specs.declared.machines.call.Calling.{Calling}
 use Rattle.papaya_raw.specs.declared.machines.call.Calling.TheVariants as at
 use Rattle.map_facts.specs.FactsCalls.{Unchanged, MayAsk, RepliesFit, HasKey, HasIts, CallingFacts}
-use Rattle.map_facts.specs.Steps.{AreLawful, LookupsBegin, LookupsTell, CallsKeepTheMap, Begins, CallsBegin, AskingCallsBegin, told_first}
+use Rattle.map_facts.specs.Steps.{AreLawful, LookupsBegin, LookupsTell, CallsPreserveTheMap, Begins, CallsBegin, AskingCallsBegin, first_reply}
 use Rattle.map_facts.proofs.Calls.Points.{may_call, went_call}
 use Rattle.map_facts.proofs.Lookups.Points.{may_lookup, went_lookup}
 
@@ -50,11 +50,11 @@ silent_fits = record { absent_own = λ own. absurd (cc own); present_own = λ ow
 untold_fits : {K V : Type 0} (absent : Told V) (kind : Takes) (key : Option K) → absent ≢ tells.Own → absent ≢ tells.Removes → RepliesFit (untold kind key absent)
 untold_fits absent kind key own removes = record { absent_own = λ e. absurd (own e); present_own = λ e. absurd (cc e); one_own = λ e. absurd (own e); absent_stays = removes; choices_stay = λ choices. refl }
 
-first_own : {V : Type 0} (absent : Option V) → told_first absent ≢ tells.Own
+first_own : {V : Type 0} (absent : Option V) → first_reply absent ≢ tells.Own
 first_own None e = cc e
 first_own (Some value) e = cc e
 
-first_removes : {V : Type 0} (absent : Option V) → told_first absent ≢ tells.Removes
+first_removes : {V : Type 0} (absent : Option V) → first_reply absent ≢ tells.Removes
 first_removes None e = cc e
 first_removes (Some value) e = cc e
 
@@ -115,7 +115,7 @@ module _ {K Q : Type 0} (V : Type 0) (same : K → K → Bool) (hash : K → ℕ
     (λ key absent. (
       begins key (computing setting (hash key) key) refl refl (are.fits key) (class_of same hash are key) (tt, untold_fits tells.Nothing takes.Changes (Some key) (λ e. cc e) (λ e. cc e)) (refl, inl (refl, its_key key)),
       begins key (updating setting (hash key) key) refl refl (are.fits key) (class_of same hash are key) (tt, untold_fits tells.Nothing takes.Values (Some key) (λ e. cc e) (λ e. cc e)) (refl, inl (refl, its_key key)),
-      begins key (updating_or_inserting setting (hash key) key (told_first absent)) refl refl (are.fits key) (class_of same hash are key) (tt, untold_fits (told_first absent) takes.Values (Some key) (first_own absent) (first_removes absent)) (refl, inl (refl, its_key key)),
+      begins key (updating_or_inserting setting (hash key) key (first_reply absent)) refl refl (are.fits key) (class_of same hash are key) (tt, untold_fits (first_reply absent) takes.Values (Some key) (first_own absent) (first_removes absent)) (refl, inl (refl, its_key key)),
       begins key (trying_to_insert_with setting (hash key) key) refl refl (are.fits key) (class_of same hash are key) (tt, untold_fits tells.Nothing takes.Values (Some key) (λ e. cc e) (λ e. cc e)) (refl, inl (refl, its_key key)),
     )),
   )
@@ -135,7 +135,7 @@ module _ {K Q : Type 0} (V : Type 0) (same : K → K → Bool) (hash : K → ℕ
         point = subst (λ (s : Calling). CallingFacts same hash asks w caller setting c blocks (same key) Unchanged p s) (sym here) its;
       }
 
-  pub calls_keep_the_map : CallsKeepTheMap V same hash asks
+  pub calls_keep_the_map : CallsPreserveTheMap V same hash asks
   calls_keep_the_map are setting initial_is w caller c blocks keys change p map facts none = (
     may_call same hash asks are.lawful are.fits setting initial_is w caller c blocks keys map change p facts none,
     λ m2 p2 progress s. went_call same hash asks are.lawful are.fits setting initial_is w caller c blocks keys map change p facts m2 (p2, progress) none s,

@@ -20,11 +20,11 @@ use Rattle.papaya_raw.specs.declared.machines.call.Calling.TheVariants as at
 use Rattle.map_rule.specs.Chart.{Still, Place, Empty, Holds, Chart, put, is_settled}
 use Rattle.map_rule.specs.Rule.{IsLawful, Rule}
 use Rattle.map_rule.specs.Moves.{Stores, MayChange, Allowed, with_pair, without}
-use Rattle.map_rule.specs.Words.{Blocks, place_word, Shows}
+use Rattle.map_rule.specs.Words.{Blocks, place_word, Represents}
 use Rattle.map_rule.specs.Maps.{spot_at, spot_of, IsTrial, NoneBefore}
 use Rattle.map_rule.specs.InWorld.{IsKnownBlock, IsMapIn, SameBlocks}
 use Rattle.map_facts.specs.FactsCalls.{Change, Unchanged, Stored, IsOwnPair, CallFacts}
-use Rattle.map_facts.specs.Told.{CallTold}
+use Rattle.map_facts.specs.Told.{CallOutcome}
 use Rattle.map_rule.proofs.World.Hands.{Hands, hands_of, hands_linked, own_outside}
 use Rattle.map_rule.proofs.World.HandsStored.{hands_stored}
 use Rattle.map_rule.proofs.Words.WritesStored.{with_pair_block, IsNewPair, new_pair_word, pair_stored}
@@ -80,10 +80,10 @@ module _ {K V Q : Type 0} (same : K → K → Bool) (hash : K → ℕ) (asks : Q
 
     -- the memory with its word shows the new pair
     pub own_shown : i < c.len t
-        → Shows hash (with_word w.memory (Word (blocks.table t) (i + PLACES)) p.own) (with_pair (spot_of hash) (is_incremental setting.mode) c t i own.key)
+        → Represents hash (with_word w.memory (Word (blocks.table t) (i + PLACES)) p.own) (with_pair (spot_of hash) (is_incremental setting.mode) c t i own.key)
         (with_pair_block blocks c.stored own.block) setting.root
     own_shown inside =
-        subst (λ (x : ℕ). Shows hash (with_word w.memory (Word (blocks.table t) (i + PLACES)) x) (with_pair (spot_of hash) (is_incremental setting.mode) c t i own.key)
+        subst (λ (x : ℕ). Represents hash (with_word w.memory (Word (blocks.table t) (i + PLACES)) x) (with_pair (spot_of hash) (is_incremental setting.mode) c t i own.key)
         (with_pair_block blocks c.stored own.block) setting.root) (sym own_word_is)
         (pair_stored hash (spot_of hash) (is_incremental setting.mode) w.memory c blocks setting.root t i own.block own.key own.value same map.map.shows map.map.rule.common
         trial.table.made trial.table.known inside new_pair)
@@ -156,11 +156,11 @@ module _ {K V Q : Type 0} (same : K → K → Bool) (hash : K → ℕ) (asks : Q
         (Stores t own.key j) ((λ i by. absurd by), trial.table.known) allowed refl (with_pair_block blocks c.stored own.block)
         (λ x l m. ap w.hand (ap (λ (q : ℕ). cond (eqb q c.stored) own.block (blocks.pair q)) (let e : x ≡ c.stored = omega (arith, l, m) in e) ∙ ap (λ q. cond q own.block (blocks.pair c.stored)) (eq-eqb c.stored c.stored refl)) ∙ own.hand)
         (own_comes_out (spot_of hash (c.len t) own.key j))
-        (subst (λ (x : ℕ). Shows hash (with_word w.memory (Word (blocks.table t) (spot_at (c.len t) p.hash j + PLACES)) p.own)
+        (subst (λ (x : ℕ). Represents hash (with_word w.memory (Word (blocks.table t) (spot_at (c.len t) p.hash j + PLACES)) p.own)
         (with_pair (spot_of hash) (is_incremental setting.mode) c t x own.key) (with_pair_block blocks c.stored own.block) setting.root) (sym spot_is)
         (own_shown (spot_at (c.len t) p.hash j) (inside same hash asks caller setting keys lawful fits w c blocks map p s t j trial none root)))
         map.map.later (own_hands (spot_of hash (c.len t) own.key j)) (same_blocks (spot_of hash (c.len t) own.key j))
-        (λ w2 c2 blocks2. CallTold same hash asks caller setting keys c change p w2 c2 blocks2 (going p (at.Counts 0)).0 (going p (at.Counts 0)).1)
+        (λ w2 c2 blocks2. CallOutcome same hash asks caller setting keys c change p w2 c2 blocks2 (going p (at.Counts 0)).0 (going p (at.Counts 0)).1)
         (record {
           change2 = Stored c.stored;
           facts = record {

@@ -8,7 +8,7 @@ use Rattle.map_rule.specs.Given.SeizeWordsPlan.{May, Steps}
 use Rattle.map_rule.proofs.Given.SeizeWordsOneOwner.Operations.{may_load, loaded}
 use Rattle.papaya_raw.specs.Given.SeizeWorld.{World}
 use Rattle.papaya_raw.specs.Call.{root_found, roots, next_found, nexts}
-use Rattle.papaya_raw.specs.CallPoints.{tableless, at_last, entering, went_on}
+use Rattle.papaya_raw.specs.CallPoints.{tableless, at_last, entering, continued_in}
 use Rattle.papaya_raw.specs.Given.TablesTablePlaces.{at_word}
 use Rattle.papaya_raw.specs.Given.TablesDeclared.node.Node.{Node}
 use Rattle.papaya_raw.specs.Given.TablesDeclared.setting.Setting.{Setting}
@@ -59,7 +59,7 @@ module _ {K V Q : Type 0} (same : K → K → Bool) (hash : K → ℕ) (asks : Q
     may_nexts =
         may_load w.memory (next_found p) (at_word p.trial.table NEXT) (is_some_of _ _ (next_there hash w.memory c blocks setting.root map.map.shows p.trial.table t entered))
         (λ link read. see_link hash w.memory c blocks setting.root map.map.shows link (suc t)
-        (next_leads same hash setting.mode setting.root w.memory c blocks map.map p.trial.table t link entered read) (at_last p.missing p) (went_on p))
+        (next_leads same hash setting.mode setting.root w.memory c blocks map.map p.trial.table t link entered read) (at_last p.missing p) (continued_in p))
 
     pub went_nexts : (change : Change) (f : CallFacts same hash asks w caller setting c blocks keys change p) → change ≡ Unchanged
         → (m2 : Mem (Node K V)) (end : KeyCall K V Q × Called (Node K V)) → Steps Took value_at w.memory (nexts p) m2 end
@@ -68,7 +68,7 @@ module _ {K V Q : Type 0} (same : K → K → Bool) (hash : K → ℕ) (asks : Q
         let d = loaded w.memory (next_found p) (at_word p.trial.table NEXT) m2 end steps in
         still same hash asks caller setting keys w c blocks map change p f m2 d.2 end unchanged
         (link_ends hash w.memory c blocks setting.root map.map.shows d.0 (suc t)
-        (next_leads same hash setting.mode setting.root w.memory c blocks map.map p.trial.table t d.0 entered d.1) (at_last p.missing p) (went_on p)
+        (next_leads same hash setting.mode setting.root w.memory c blocks map.map p.trial.table t d.0 entered d.1) (at_last p.missing p) (continued_in p)
         (Comes same hash asks caller setting keys w c blocks)
         (no_next same hash asks caller setting keys lawful w c blocks map.map p s t entered shut power)
         (λ table next. goes_on same hash asks caller setting keys lawful w c blocks map.map p s t entered shut table next) end d.3)

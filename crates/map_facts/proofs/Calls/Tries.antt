@@ -19,9 +19,9 @@ use Rattle.papaya_raw.specs.declared.machines.call.KeyCall.{KeyCall}
 use Rattle.map_rule.specs.Chart.{Chart}
 use Rattle.map_rule.specs.Rule.{IsLawful}
 use Rattle.map_rule.specs.Moves.{Move, after, Allowed}
-use Rattle.map_rule.specs.Words.{Blocks, place_word, Shows}
+use Rattle.map_rule.specs.Words.{Blocks, place_word, Represents}
 use Rattle.map_rule.specs.Maps.{spot_at, spot_of, IsTrial}
-use Rattle.map_rule.specs.InWorld.{IsMapIn, AllUsers, AllIts, SameBlocks, Went, KeepsBlocks}
+use Rattle.map_rule.specs.InWorld.{IsMapIn, AllUsers, AllIts, SameBlocks, StepSpec, PreservesBlocks}
 use Rattle.map_rule.proofs.Words.TablesSeen.{place_stands}
 use Rattle.map_rule.proofs.World.Hands.{Hands}
 use Rattle.map_rule.proofs.Words.LinksOwn.{OutsStay, OutsAreKnown}
@@ -62,16 +62,16 @@ module _ {K V Q : Type 0} (same : K → K → Bool) (hash : K → ℕ) (asks : Q
   -- The word was written, by an allowed move, and blocks were linked or unlinked after it.
   pub went_changed : (word new found : ℕ) → (word_at w.memory (place_tried p.trial) ≡ Some found) × (found ≡ word) → (m2 : Mem (Node K V)) → m2 ≡ with_word w.memory (place_tried p.trial) new
       → (hand : ℕ → Hand) (log : List Effect)
-      → ((m : Mem (Node K V)) (i : ℕ) → i ≢ caller → KeepsBlocks i m w.hand m hand) → OutsStay w.memory w.hand hand → (events : List (Event (Node K V))) → AllUsers events → AllIts setting caller w c blocks events
+      → ((m : Mem (Node K V)) (i : ℕ) → i ≢ caller → PreservesBlocks i m w.hand m hand) → OutsStay w.memory w.hand hand → (events : List (Event (Node K V))) → AllUsers events → AllIts setting caller w c blocks events
       → Runs deferred_word setting.batch_size events (record w { memory = with_word w.memory (place_tried p.trial) new })
       (record w { memory = with_word w.memory (place_tried p.trial) new; hand = hand; log = log })
       → (move : Move K) → IsItsMove caller blocks move → Allowed same (spot_of hash) (is_incremental setting.mode) move c → (after (spot_of hash) (is_incremental setting.mode) move c).past ≡ c.past → (blocks2 : Blocks)
       → ((n : ℕ) → c.stored ≤ n → n < (after (spot_of hash) (is_incremental setting.mode) move c).stored → w.hand (blocks2.pair n) ≡ Making caller)
       → OutsAreKnown caller w.hand hand (after (spot_of hash) (is_incremental setting.mode) move c) blocks2
-      → Shows hash (with_word w.memory (Word (blocks.table t) (spot_at (c.len t) p.hash j + PLACES)) new) (after (spot_of hash) (is_incremental setting.mode) move c) blocks2 setting.root
+      → Represents hash (with_word w.memory (Word (blocks.table t) (spot_at (c.len t) p.hash j + PLACES)) new) (after (spot_of hash) (is_incremental setting.mode) move c) blocks2 setting.root
       → IsLater (after (spot_of hash) (is_incremental setting.mode) move c) blocks2
       → Hands same hash setting (record w { hand = hand; log = log }) (after (spot_of hash) (is_incremental setting.mode) move c) blocks2
       → SameBlocks c blocks blocks2 → (Told : World (Node K V) → Chart K → Blocks → Type 0)
       → Told (record w { memory = with_word w.memory (place_tried p.trial) new; hand = hand; log = log }) (after (spot_of hash) (is_incremental setting.mode) move c) blocks2
-      → Went same hash setting caller w c blocks m2 Told
+      → StepSpec same hash setting caller w c blocks m2 Told
   went_changed = places.went_changed same hash caller setting w c blocks map t (spot_at (c.len t) p.hash j) trial.table.made trial.table.known spot_in (place_tried p.trial) try_is lawful

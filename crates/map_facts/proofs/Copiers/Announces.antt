@@ -32,7 +32,7 @@ use Rattle.map_rule.specs.Words.{Blocks}
 use Rattle.map_rule.specs.Maps.{spot_of}
 use Rattle.map_rule.specs.InWorld.{IsMapIn}
 use Rattle.map_facts.specs.FactsCopies.{HasDone, ClaimsNone, CopyingFacts, CopierFacts}
-use Rattle.map_facts.specs.Told.{CopierTold}
+use Rattle.map_facts.specs.Told.{CopierOutcome}
 use Rattle.map_facts.specs.ToldMoves.{MovedAnnounces}
 use Rattle.map_facts.proofs.Copiers.CopiersWrote.{CopierPlain, CopierMoved, copier_moves, copier_stays}
 use Rattle.map_rule.proofs.World.Hands.{Hands, hands_of, hands_kept}
@@ -102,7 +102,7 @@ module _ {K V : Type 0} (same : K → K → Bool) (hash : K → ℕ) (setting : 
         (facts.0.1, facts.0.3.made, (rule_incremental same hash setting w c blocks map bits).in_mode.never_aborted turn)
         (status_written hash w.memory c blocks setting.root map.map.shows turn PROMOTED facts.0.3.made facts.0.3.known)
         refl hands refl end
-        (subst (λ (x : Copier × Yielding (Node K V) Table). CopierTold written caller setting chart blocks same hash x) (sym l.1) (told setting_is))
+        (subst (λ (x : Copier × Yielding (Node K V) Table). CopierOutcome written caller setting chart blocks same hash x) (sym l.1) (told setting_is))
 
   module _ (table : ℕ) (facts : CopyingFacts same hash w caller setting c blocks p (at.Succeeds table)) where
     -- the table that it has unlinked
@@ -159,10 +159,10 @@ module _ {K V : Type 0} (same : K → K → Bool) (hash : K → ℕ) (setting : 
       → Steps Took value_at w.memory (Turn (Now (p, outcome.Done p.target))) m2 end → CopierMoved same hash caller setting w c blocks (λ c2. c2 ≡ c) m2 end
   went_over facts m2 end s =
       copier_stays same hash caller setting w c blocks map (λ c2. c2 ≡ c) refl m2 s.0 end
-      (subst (λ (x : Copier × Yielding (Node K V) Table). CopierTold w caller setting c blocks same hash x) (sym s.1) facts)
+      (subst (λ (x : Copier × Yielding (Node K V) Table). CopierOutcome w caller setting c blocks same hash x) (sym s.1) facts)
 
   pub went_refused : (fault : Fault) → HasDone same hash w caller setting c blocks 0 × ClaimsNone same hash w caller setting c blocks → (m2 : Mem (Node K V)) (end : Copier × Yielding (Node K V) Table)
       → Steps Took value_at w.memory (Turn (Now (p, outcome.Refused fault))) m2 end → CopierMoved same hash caller setting w c blocks (λ c2. c2 ≡ c) m2 end
   went_refused fault facts m2 end s =
       copier_stays same hash caller setting w c blocks map (λ c2. c2 ≡ c) refl m2 s.0 end
-      (subst (λ (x : Copier × Yielding (Node K V) Table). CopierTold w caller setting c blocks same hash x) (sym s.1) facts)
+      (subst (λ (x : Copier × Yielding (Node K V) Table). CopierOutcome w caller setting c blocks same hash x) (sym s.1) facts)

@@ -25,11 +25,11 @@ use Rattle.map_rule.specs.Given.ResizeDeclared.copier.Copying.TheVariants as at
 use Rattle.map_rule.specs.Chart.{Chart, put}
 use Rattle.map_rule.specs.Rule.{IsLawful}
 use Rattle.map_rule.specs.Moves.{Reclaims}
-use Rattle.map_rule.specs.Words.{Blocks, Shows}
+use Rattle.map_rule.specs.Words.{Blocks, Represents}
 use Rattle.map_rule.specs.Maps.{spot_of, IsTable}
 use Rattle.map_rule.specs.InWorld.{IsMapIn}
 use Rattle.map_facts.specs.FactsCopies.{CopyingFacts, InRange}
-use Rattle.map_facts.specs.Told.{CopierTold}
+use Rattle.map_facts.specs.Told.{CopierOutcome}
 use Rattle.map_rule.proofs.Shares.CopiersMoves.{table_beside}
 use Rattle.map_facts.proofs.Copiers.CopiersWrote.{CopierPlain, copier_still, hands_words, copier_wrote}
 use Rattle.map_rule.proofs.Words.TablesSeen.{claim_there, status_there, len_is, word_stands}
@@ -68,9 +68,9 @@ module _ {K V : Type 0} (same : K → K → Bool) (hash : K → ℕ) (caller : �
         pick false false true live all e = inr e
         pick false false false live all e = absurd (cc all)
 
-        told : (end ≡ (standing p at.Over, Goes)) ⊎ (end ≡ (p, Waits)) → CopierTold w caller setting c blocks same hash end
-        told (inl e) = subst (CopierTold w caller setting c blocks same hash) (sym e) (record { setting_is = is; point = (f.3, f.4) })
-        told (inr e) = subst (CopierTold w caller setting c blocks same hash) (sym e) (f.6, record { setting_is = is; point = subst (CopyingFacts same hash w caller setting c blocks p) (sym stands) f })
+        told : (end ≡ (standing p at.Over, Goes)) ⊎ (end ≡ (p, Waits)) → CopierOutcome w caller setting c blocks same hash end
+        told (inl e) = subst (CopierOutcome w caller setting c blocks same hash) (sym e) (record { setting_is = is; point = (f.3, f.4) })
+        told (inr e) = subst (CopierOutcome w caller setting c blocks same hash) (sym e) (f.6, record { setting_is = is; point = subst (CopyingFacts same hash w caller setting c blocks p) (sym stands) f })
 
   module _ (f : CopyingFacts same hash w caller setting c blocks p at.Sees) where
     pub may_sees : May Can Took value_at w.memory (sees p)
@@ -90,9 +90,9 @@ module _ {K V : Type 0} (same : K → K → Bool) (hash : K → ℕ) (caller : �
         pick false true part e = absurd (cc part)
         pick false false part e = inr e
 
-        told : (end ≡ (standing p at.Claims, Goes)) ⊎ (end ≡ (standing p at.Over, Goes)) → CopierTold w caller setting c blocks same hash end
-        told (inl e) = subst (CopierTold w caller setting c blocks same hash) (sym e) (record { setting_is = is; point = f })
-        told (inr e) = subst (CopierTold w caller setting c blocks same hash) (sym e) (record { setting_is = is; point = (f.3, f.4) })
+        told : (end ≡ (standing p at.Claims, Goes)) ⊎ (end ≡ (standing p at.Over, Goes)) → CopierOutcome w caller setting c blocks same hash end
+        told (inl e) = subst (CopierOutcome w caller setting c blocks same hash) (sym e) (record { setting_is = is; point = f })
+        told (inr e) = subst (CopierOutcome w caller setting c blocks same hash) (sym e) (record { setting_is = is; point = (f.3, f.4) })
 
   module _ (f : CopyingFacts same hash w caller setting c blocks p at.Claims) where
     claim_word : word_at w.memory (at_word p.target CLAIM) ≡ Some (c.claim (suc f.0))
@@ -125,15 +125,15 @@ module _ {K V : Type 0} (same : K → K → Bool) (hash : K → ℕ) (caller : �
             (omega (arith, l, len), omega (arith, l, len), λ all. absurd (let part = f.5 in cc))
 
         told : (word claim : ℕ) → ((nat_lt claim p.source.len ≡ true) × (end ≡ (range_claimed p claim, Goes))) ⊎ (end ≡ (standing p at.Over, Goes))
-            → CopierTold (record w { memory = with_word w.memory (at_word p.target CLAIM) word }) caller setting (record c { claim = put c.claim (suc f.0) word }) blocks same hash end
+            → CopierOutcome (record w { memory = with_word w.memory (at_word p.target CLAIM) word }) caller setting (record c { claim = put c.claim (suc f.0) word }) blocks same hash end
         told word claim (inl e) =
-            subst (CopierTold (record w { memory = with_word w.memory (at_word p.target CLAIM) word }) caller setting (record c { claim = put c.claim (suc f.0) word }) blocks same hash) (sym e.1)
+            subst (CopierOutcome (record w { memory = with_word w.memory (at_word p.target CLAIM) word }) caller setting (record c { claim = put c.claim (suc f.0) word }) blocks same hash) (sym e.1)
             (record {
               setting_is = is;
               point = (f.0, (entered word p.source f.0 f.1.0, entered word p.target (suc f.0) f.1.1, f.1.2, f.1.3), f.2 ∙ f.3, f.4, in_range claim e.0, λ all. absurd (let part = f.5 in cc));
             })
         told word claim (inr e) =
-            subst (CopierTold (record w { memory = with_word w.memory (at_word p.target CLAIM) word }) caller setting (record c { claim = put c.claim (suc f.0) word }) blocks same hash) (sym e)
+            subst (CopierOutcome (record w { memory = with_word w.memory (at_word p.target CLAIM) word }) caller setting (record c { claim = put c.claim (suc f.0) word }) blocks same hash) (sym e)
             (record { setting_is = is; point = (f.3, f.4) })
 
         wrote : (word claim : ℕ) → word_at w.memory (at_word p.target CLAIM) ≡ Some claim → m2 ≡ with_word w.memory (at_word p.target CLAIM) word → word ≡ (claim + chunk p) % 2 ^ 64
@@ -143,7 +143,7 @@ module _ {K V : Type 0} (same : K → K → Bool) (hash : K → ℕ) (caller : �
             (own_at_word same hash setting w c blocks map caller p.target (suc f.0) CLAIM f.1.1 (omega arith)) (is_some_of _ _ claim_word) m2 read e
             (ap (with_word w.memory (at_word p.target CLAIM)) sum) (Reclaims (suc f.0) word) tt f.1.1.known
             (refl, f.1.1.made)
-            (subst (λ (a : At). Shows hash (with_word w.memory a word) (record c { claim = put c.claim (suc f.0) word }) blocks setting.root)
+            (subst (λ (a : At). Represents hash (with_word w.memory a word) (record c { claim = put c.claim (suc f.0) word }) blocks setting.root)
             (sym (word_stands hash w.memory c blocks setting.root map.map.shows p.target (suc f.0) f.1.1 CLAIM))
             (claim_written hash w.memory c blocks setting.root map.map.shows (suc f.0) word f.1.1.made f.1.1.known))
             refl

@@ -15,7 +15,7 @@ use Rattle.map_rule.specs.Given.ResizeDeclared.copier.Copier.{Copier}
 use Rattle.map_rule.specs.Chart.{Chart}
 use Rattle.map_rule.specs.Rule.{IsLawful}
 use Rattle.map_rule.specs.Moves.{Move, after, Allowed}
-use Rattle.map_rule.specs.Words.{Blocks, Shows}
+use Rattle.map_rule.specs.Words.{Blocks, Represents}
 use Rattle.map_rule.specs.Maps.{spot_of, IsTable}
 use Rattle.map_rule.specs.InWorld.{IsMapIn, IsFramed}
 use Rattle.map_facts.specs.FactsCopiesBlocking.{CopiesInto, CopyingFactsBlocking}
@@ -55,7 +55,7 @@ module _ {K V : Type 0} (same : K → K → Bool) (hash : K → ℕ) (caller : �
 
     pub copier_wrote : (op : Op (Node K V)) (out : Out (Node K V)) (at : At) (word : ℕ) → MayWriteBy setting caller w c blocks op at → IsSome (word_at w.memory at)
         → (m2 : Mem (Node K V)) → Gives w.memory op out → m2 ≡ with_word w.memory at word → with_word w.memory at word ≡ mem_after w.memory op out
-        → moved_chart.past ≡ c.past → Shows hash (with_word w.memory at word) moved_chart blocks setting.root → Hands same hash setting w moved_chart blocks → moved_chart.current ≡ c.current
+        → moved_chart.past ≡ c.past → Represents hash (with_word w.memory at word) moved_chart blocks setting.root → Hands same hash setting w moved_chart blocks → moved_chart.current ≡ c.current
         → (end : Copier × Yielding (Node K V) Table) (p : Copier) → end ≡ (p, Goes) → p.setting ≡ setting
         → CopyingFactsBlocking same hash (record w { memory = with_word w.memory at word }) caller setting moved_chart blocks p p.stands
         → (Alone → AloneBlocking moved_chart p p.stands)
@@ -64,7 +64,7 @@ module _ {K V : Type 0} (same : K → K → Bool) (hash : K → ℕ) (caller : �
         subst (CopierCame same hash caller setting w c blocks Alone m2) (sym ends)
         (went_moved same hash setting caller w c blocks map lawful op out at word own some m2 gives is wrote move (made_by, known) is_allowed
         (subst (λ (b : Bool). (chart_of b).past ≡ c.past) (sym blocking) past) (subst (λ (b : Bool). (chart_of b).current ≡ c.current) (sym blocking) current)
-        (subst (λ (b : Bool). Shows hash (with_word w.memory at word) (chart_of b) blocks setting.root) (sym blocking) shows)
+        (subst (λ (b : Bool). Represents hash (with_word w.memory at word) (chart_of b) blocks setting.root) (sym blocking) shows)
         (subst (λ (b : Bool). Hands same hash setting w (chart_of b) blocks) (sym blocking) hands)
         (CopierTells same hash caller setting w c blocks Alone (p, Goes))
         (subst (λ (b : Bool). CopierTells same hash caller setting w c blocks Alone (p, Goes) (record w { memory = with_word w.memory at word }) (chart_of b) blocks) (sym blocking)
@@ -72,7 +72,7 @@ module _ {K V : Type 0} (same : K → K → Bool) (hash : K → ℕ) (caller : �
 
     -- no word was written
     pub copier_moved : (m2 : Mem (Node K V)) → m2 ≡ w.memory
-        → moved_chart.past ≡ c.past → Shows hash w.memory moved_chart blocks setting.root → Hands same hash setting w moved_chart blocks → moved_chart.current ≡ c.current
+        → moved_chart.past ≡ c.past → Represents hash w.memory moved_chart blocks setting.root → Hands same hash setting w moved_chart blocks → moved_chart.current ≡ c.current
         → (end : Copier × Yielding (Node K V) Table) (p : Copier) → end ≡ (p, Goes) → p.setting ≡ setting
         → CopyingFactsBlocking same hash w caller setting moved_chart blocks p p.stands
         → (Alone → AloneBlocking moved_chart p p.stands)
@@ -96,7 +96,7 @@ module _ {K V : Type 0} (same : K → K → Bool) (hash : K → ℕ) (caller : �
           moved = inr (move, is_allowed, refl, made_by);
           map = map_in same hash setting w (chart_of (is_incremental setting.mode)) blocks
               (map_moved same hash setting lawful w.memory w.memory c blocks blocks move map.map is_allowed
-              (subst (λ (b : Bool). Shows hash w.memory (chart_of b) blocks setting.root) (sym blocking) shows)
+              (subst (λ (b : Bool). Represents hash w.memory (chart_of b) blocks setting.root) (sym blocking) shows)
               (later_kept c (chart_of (is_incremental setting.mode)) blocks blocks (subst (λ (b : Bool). (chart_of b).past ≡ c.past) (sym blocking) past) (λ t. refl) map.map.later))
               (counter_of same hash setting w c blocks map)
               (subst (λ (b : Bool). Hands same hash setting w (chart_of b) blocks) (sym blocking) hands);

@@ -11,9 +11,9 @@ use Rattle.papaya_raw.specs.Given.TablesDeclared.table.Table.{Table}
 use Rattle.map_rule.specs.Given.ResizeDeclared.copier.Copier.{Copier}
 use Rattle.map_rule.specs.Chart.{Chart}
 use Rattle.map_rule.specs.Words.{Blocks}
-use Rattle.map_rule.specs.InWorld.{IsMapIn, Went, SparesPairs}
+use Rattle.map_rule.specs.InWorld.{IsMapIn, StepSpec, SparesPairs}
 use Rattle.map_facts.specs.FactsCopiesBlocking.{CopyingFactsBlocking}
-use Rattle.map_facts.specs.Told.{CopierToldBlocking}
+use Rattle.map_facts.specs.Told.{CopierOutcomeBlocking}
 use Rattle.map_facts.specs.FactsAloneBlocking.{AloneBlocking, LeadsAlone}
 use Rattle.map_facts.specs.Measures.{OthersIdle}
 use Rattle.map_rule.proofs.World.WentStill.{went_still, spares_same}
@@ -21,10 +21,10 @@ use Rattle.map_rule.proofs.World.WentStill.{went_still, spares_same}
 module _ {K V : Type 0} (same : K → K → Bool) (hash : K → ℕ) (caller : ℕ) (setting : Setting) (w : World (Node K V)) (c : Chart K) (blocks : Blocks) where
   -- own pairs are spared, the map has the same pairs, and the copier's facts or its end are told
   abbrev pub CopierSays : Copier × Yielding (Node K V) Table → World (Node K V) → Chart K → Blocks → Type 0
-  CopierSays end w2 c2 blocks2 = SparesPairs w w2 × (c2.current ≡ c.current) × CopierToldBlocking w2 caller setting c2 blocks2 same hash end
+  CopierSays end w2 c2 blocks2 = SparesPairs w w2 × (c2.current ≡ c.current) × CopierOutcomeBlocking w2 caller setting c2 blocks2 same hash end
 
   abbrev pub CopierWent : Mem (Node K V) → Copier × Yielding (Node K V) Table → Type 0
-  CopierWent m2 end = Went same hash setting caller w c blocks m2 (CopierSays end)
+  CopierWent m2 end = StepSpec same hash setting caller w c blocks m2 (CopierSays end)
 
   -- and where it is alone, and knows this, it does not wait
   module _ (Alone : Type 0) where
@@ -32,11 +32,11 @@ module _ {K V : Type 0} (same : K → K → Bool) (hash : K → ℕ) (caller : �
     CopierTells end w2 c2 blocks2 = CopierSays end w2 c2 blocks2 × (OthersIdle caller c × Alone → LeadsAlone c2 caller end)
 
     abbrev pub CopierCame : Mem (Node K V) → Copier × Yielding (Node K V) Table → Type 0
-    CopierCame m2 end = Went same hash setting caller w c blocks m2 (CopierTells end)
+    CopierCame m2 end = StepSpec same hash setting caller w c blocks m2 (CopierTells end)
 
     module _ (map : IsMapIn same hash setting w c blocks) where
       pub copier_still : (m2 : Mem (Node K V)) (end r : Copier × Yielding (Node K V) Table) → m2 ≡ w.memory → end ≡ r
-          → CopierToldBlocking w caller setting c blocks same hash r → (OthersIdle caller c × Alone → LeadsAlone c caller r) → CopierCame m2 end
+          → CopierOutcomeBlocking w caller setting c blocks same hash r → (OthersIdle caller c × Alone → LeadsAlone c caller r) → CopierCame m2 end
       copier_still m2 end r still is told alone =
           subst (CopierCame m2) (sym is) (went_still same hash setting caller w c blocks map m2 still (CopierTells r) ((spares_same w, refl, told), alone))
 

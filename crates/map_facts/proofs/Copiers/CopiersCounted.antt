@@ -19,11 +19,11 @@ use Rattle.map_rule.specs.Chart.{Share, Claimed, Chart, put}
 use Rattle.map_rule.specs.Rule.{IsLawful, total}
 use Rattle.map_rule.proofs.Moves.Counts.{counted_behind}
 use Rattle.map_rule.specs.Moves.{counted_to, Counts, is_done_by, with_counted}
-use Rattle.map_rule.specs.Words.{Blocks, Shows}
+use Rattle.map_rule.specs.Words.{Blocks, Represents}
 use Rattle.map_rule.specs.Maps.{spot_of, IsTable}
 use Rattle.map_rule.specs.InWorld.{IsMapIn}
 use Rattle.map_facts.specs.FactsCopies.{CopiesRoot, HasDone}
-use Rattle.map_facts.specs.Told.{CopierTold}
+use Rattle.map_facts.specs.Told.{CopierOutcome}
 use Rattle.map_facts.specs.ToldMoves.{MovedCounts}
 use Rattle.map_rule.proofs.Shares.CopiersMoves.{table_beside}
 use Rattle.map_rule.proofs.Shares.CopiersShares.{done_fits, none_done, claimed_counted}
@@ -82,14 +82,14 @@ module _ {K V : Type 0} (same : K → K → Bool) (hash : K → ℕ) (caller : �
   pub count_wrote : IsLawful same (spot_of hash) → is_incremental setting.mode ≡ true → (m2 : Mem (Node K V)) (end : Copier × Yielding (Node K V) Table) (found : ℕ)
       → word_at w.memory (at_word p.target COPIED) ≡ Some found → m2 ≡ with_word w.memory (at_word p.target COPIED) ((found + p.done) % 2 ^ 64)
       → (found ≡ c.copied (suc c.first)
-      → CopierTold (counted_world w c p) caller setting (counted_chart caller c p) blocks same hash end)
+      → CopierOutcome (counted_world w c p) caller setting (counted_chart caller c p) blocks same hash end)
       → CopierMoved same hash caller setting w c blocks (MovedCounts hash caller c p) m2 end
   count_wrote lawful bits m2 end found read e told =
       copier_moves same hash caller setting w c blocks map (MovedCounts hash caller c p) bits lawful (Add (at_word p.target COPIED) p.done) (Found found) (at_word p.target COPIED) (c.copied (suc c.first) + p.done)
       (own_at_word same hash setting w c blocks map caller p.target (suc c.first) COPIED copies.1 (omega arith)) (is_some_of _ _ copied_word) m2 read
       (e ∙ ap (with_word w.memory (at_word p.target COPIED)) sum) (ap (with_word w.memory (at_word p.target COPIED)) (sym sum))
       (Counts caller (suc c.first) p.done) ((λ i by. sym by), copies.1.known) refl (copies.1.made, λ l. has_done)
-      (subst (λ (a : At). Shows hash (with_word w.memory a (c.copied (suc c.first) + p.done)) (counted_chart caller c p) blocks setting.root)
+      (subst (λ (a : At). Represents hash (with_word w.memory a (c.copied (suc c.first) + p.done)) (counted_chart caller c p) blocks setting.root)
       (sym (word_stands hash w.memory c blocks setting.root map.map.shows p.target (suc c.first) copies.1 COPIED)) shown)
       refl
       (hands_words same hash caller setting w c blocks map (counted_in caller (suc c.first) c.share) c.claim (put c.copied (suc c.first) (counted_to c (suc c.first) p.done)))
@@ -101,9 +101,9 @@ module _ {K V : Type 0} (same : K → K → Bool) (hash : K → ℕ) (caller : �
       sum : (found + p.done) % 2 ^ 64 ≡ c.copied (suc c.first) + p.done
       sum = ap (λ n. (n + p.done) % 2 ^ 64) is_found ∙ no_wrap
 
-      shown : Shows hash (with_word w.memory (Word (blocks.table (suc c.first)) COPIED) (c.copied (suc c.first) + p.done)) (counted_chart caller c p) blocks setting.root
+      shown : Represents hash (with_word w.memory (Word (blocks.table (suc c.first)) COPIED) (c.copied (suc c.first) + p.done)) (counted_chart caller c p) blocks setting.root
       shown =
-          subst (λ (n : ℕ). Shows hash (with_word w.memory (Word (blocks.table (suc c.first)) COPIED) n) (counted_chart caller c p) blocks setting.root) (counted_behind c (suc c.first) p.done (omega arith))
+          subst (λ (n : ℕ). Represents hash (with_word w.memory (Word (blocks.table (suc c.first)) COPIED) n) (counted_chart caller c p) blocks setting.root) (counted_behind c (suc c.first) p.done (omega arith))
           (shows_beside hash (with_word w.memory (Word (blocks.table (suc c.first)) COPIED) (counted_to c (suc c.first) p.done))
           (record c { copied = put c.copied (suc c.first) (counted_to c (suc c.first) p.done) }) blocks setting.root (counted_in caller (suc c.first) c.share) c.current
           (copied_written hash w.memory c blocks setting.root map.map.shows (suc c.first) (counted_to c (suc c.first) p.done) copies.1.made copies.1.known))

@@ -26,7 +26,7 @@ use Rattle.map_rule.specs.Words.{Blocks, place_word, byte_of}
 use Rattle.map_rule.specs.Maps.{spot_of}
 use Rattle.map_rule.specs.InWorld.{IsMapIn}
 use Rattle.map_facts.specs.FactsCopies.{CopiesRoot, HasDone, ClaimsNone, HasSettled, InRange}
-use Rattle.map_facts.specs.Told.{CopierTold}
+use Rattle.map_facts.specs.Told.{CopierOutcome}
 use Rattle.map_facts.proofs.Copiers.CopiersDone.{done_facts}
 use Rattle.map_facts.proofs.Copiers.CopiersMarked.{probing_marked}
 use Rattle.map_rule.proofs.Shares.CopiersPlaces.{placed_hands, placed_shows}
@@ -95,18 +95,18 @@ module _ {K V : Type 0} (same : K → K → Bool) (hash : K → ℕ) (caller : �
 
     -- where nothing is left to be copied, the place is done
     told_done : (place : Place) → (end : Copier × Yielding (Node K V) Table) → end ≡ (place_done p, Goes) → is_settled place ≡ true
-        → CopierTold world_marked caller setting (record c { place = put_in c.place c.first p.place place; share = put_in c.share (suc c.first) p.place (Done caller) }) blocks same hash end
+        → CopierOutcome world_marked caller setting (record c { place = put_in c.place c.first p.place place; share = put_in c.share (suc c.first) p.place (Done caller) }) blocks same hash end
     told_done place end e over =
-        subst (CopierTold world_marked caller setting (record c { place = put_in c.place c.first p.place place; share = put_in c.share (suc c.first) p.place (Done caller) }) blocks same hash) (sym e)
+        subst (CopierOutcome world_marked caller setting (record c { place = put_in c.place c.first p.place place; share = put_in c.share (suc c.first) p.place (Done caller) }) blocks same hash) (sym e)
         (done_facts same hash w caller setting c blocks bits p is place over (rw free refl) (λ j claimed. absurd (none j claimed)) copies done range settled
         (map.map.shows.sized c.first copies.0.made).most world_marked)
 
     -- a pair is to be put into the table behind
     probing_told : (n : ℕ) (borrowed : Bool) → c.place c.first p.place ≡ Holds n Still borrowed → (k : K) → c.key n ≡ Some k → (end : Copier × Yielding (Node K V) Table) (word : ℕ)
         → word ≡ place_word hash c blocks (Holds n Still borrowed) → end ≡ (probing p (without_copying word) (hash k) p.target, Goes)
-        → CopierTold world_marked caller setting (chart_marked (Holds n Still borrowed)) blocks same hash end
+        → CopierOutcome world_marked caller setting (chart_marked (Holds n Still borrowed)) blocks same hash end
     probing_told n borrowed e k key end word is_word ends =
-        subst (CopierTold world_marked caller setting (chart_marked (Holds n Still borrowed)) blocks same hash) (sym ends)
+        subst (CopierOutcome world_marked caller setting (chart_marked (Holds n Still borrowed)) blocks same hash) (sym ends)
         (probing_marked same hash w caller setting c blocks p is n borrowed k (without_copying word) copies done none range settled key free
         (ap without_copying is_word ∙ without_copying-still blocks.pair (λ o. byte_of hash (c.key o)) n borrowed) world_marked lawful
         (rule_incremental same hash setting w c blocks map bits) (map.map.shows.sized (suc c.first) copies.1.made) e)
@@ -114,14 +114,14 @@ module _ {K V : Type 0} (same : K → K → Bool) (hash : K → ℕ) (caller : �
     pair_told : (n : ℕ) (borrowed : Bool) → c.place c.first p.place ≡ Holds n Still borrowed → (m : Mem (Node K V)) → ((b : ℕ) → value_at m b ≡ value_at w.memory b)
         → (end : Copier × Yielding (Node K V) Table) (word : ℕ) → word ≡ place_word hash c blocks (Holds n Still borrowed) → 0 < blocks.pair n → word / 2048 ≡ blocks.pair n
         → (k : K) (v : V) → value_at w.memory (word / 2048) ≡ Some (node.Pair k v) → c.key n ≡ Some k
-        → Ends (value_at m) (mine_marked hash p word) end → CopierTold world_marked caller setting (chart_marked (Holds n Still borrowed)) blocks same hash end
+        → Ends (value_at m) (mine_marked hash p word) end → CopierOutcome world_marked caller setting (chart_marked (Holds n Still borrowed)) blocks same hash end
     pair_told n borrowed e m values end word is_word some block k v shown key ends =
         let seen = holding word (λ zero_is. absurd (omega (arith, zero_is, block, some))) m end ends in
         let value : seen.0 ≡ node.Pair k v = (let same_value = values (word / 2048) in cc (same_value, seen.1, shown)) in
         probing_told n borrowed e k key end word is_word (seen.2 ∙ ap (λ (x : ℕ). (probing p (without_copying word) x p.target, Goes)) (ap (key_hash hash) value))
 
     told : (place : Place) → c.place c.first p.place ≡ place → (m : Mem (Node K V)) → ((b : ℕ) → value_at m b ≡ value_at w.memory b) → (end : Copier × Yielding (Node K V) Table)
-        → Ends (value_at m) (mine_marked hash p (place_word hash c blocks place)) end → CopierTold world_marked caller setting (chart_marked place) blocks same hash end
+        → Ends (value_at m) (mine_marked hash p (place_word hash c blocks place)) end → CopierOutcome world_marked caller setting (chart_marked place) blocks same hash end
     told (Empty mark) e m values end ends =
         told_done (Empty true) end (vacant (place_word hash c blocks (Empty mark)) (empty_block blocks.pair (λ o. byte_of hash (c.key o)) mark) m end ends) refl
     told (Tombstone mark) e m values end ends =

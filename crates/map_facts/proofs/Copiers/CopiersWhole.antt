@@ -17,7 +17,7 @@ use Rattle.papaya_raw.specs.Given.TablesNodes.{deferred_word}
 use Rattle.map_rule.specs.Given.ResizeNewTable.{new_table_plan}
 use Rattle.map_rule.specs.Given.ResizeCopier.{plan_at, copier_plan}
 use Rattle.map_rule.specs.Given.ResizeCopierStates.{standing, behind, none_left, next_place, place_done}
-use Rattle.map_rule.specs.Given.ResizeCopierPlaces.{next_try, place_read, put_told}
+use Rattle.map_rule.specs.Given.ResizeCopierPlaces.{next_try, place_read, after_put}
 use Rattle.map_rule.specs.Given.ResizeCopierMarks.{is_mine, is_awaited, mine_marked, marked}
 use Rattle.map_rule.specs.Given.ResizeCopierClaims.{root_read, next_read, status_read, claim_read, claimed}
 use Rattle.map_rule.specs.Given.ResizeCopierCounts.{refusing, counted}
@@ -148,7 +148,7 @@ module _ (whole may : Bool) where
         on_place probe (Taken value) = here
         on_place probe (Roomed r) = here
 
-        on_put : (probe : Probe) (out : Out (Node K V)) → So (put_told p word code table probe out)
+        on_put : (probe : Probe) (out : Out (Node K V)) → So (after_put p word code table probe out)
         on_put probe (Exchanged (Ok found)) = either (is_incremental p.setting.mode) (standing p (at.Covers word)) (place_done p) on (so_place_done p here.0)
         on_put probe (Exchanged (Err found)) = so_next_try probe
         on_put probe (Found found) = here

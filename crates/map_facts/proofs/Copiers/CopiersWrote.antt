@@ -15,10 +15,10 @@ use Rattle.map_rule.specs.Chart.{Share, Chart}
 use Rattle.map_rule.specs.Rule.{IsLawful}
 use Rattle.map_rule.specs.Moves.{Move, Links, Stores, Replaces, Removes, Marks, MarksBlocking, Skips, Unmarks, Puts, Covers, PutsLate, Claims, Reclaims, Counts, GivesUp, Aborts, Promotes, Announces, after, Allowed}
 use Rattle.map_rule.specs.Lasts.{IsBy}
-use Rattle.map_rule.specs.Words.{Blocks, Shows}
+use Rattle.map_rule.specs.Words.{Blocks, Represents}
 use Rattle.map_rule.specs.Maps.{spot_of}
-use Rattle.map_rule.specs.InWorld.{IsMapIn, Went, SparesPairs}
-use Rattle.map_facts.specs.Told.{CopierTold}
+use Rattle.map_rule.specs.InWorld.{IsMapIn, StepSpec, SparesPairs}
+use Rattle.map_facts.specs.Told.{CopierOutcome}
 use Rattle.map_facts.specs.ToldMoves.{IsPlain, MovedPlain}
 use Rattle.map_rule.proofs.World.WentTold.{went_as}
 use Rattle.map_rule.proofs.World.Footprints.{MayWriteBy}
@@ -32,20 +32,20 @@ module _ {K V : Type 0} (same : K → K → Bool) (hash : K → ℕ) (caller : �
   -- What a step of a copier, in incremental mode, comes to: pairs of callers' own are spared, and the map has the pairs that it had.
   abbrev pub CopierWent : Mem (Node K V) → Copier × Yielding (Node K V) Table → Type 0
   CopierWent m2 end =
-      Went same hash setting caller w c blocks m2 (λ w2 c2 blocks2. SparesPairs w w2 × (c2.current ≡ c.current) × CopierTold w2 caller setting c2 blocks2 same hash end)
+      StepSpec same hash setting caller w c blocks m2 (λ w2 c2 blocks2. SparesPairs w w2 × (c2.current ≡ c.current) × CopierOutcome w2 caller setting c2 blocks2 same hash end)
 
   -- and which change of the tables it made
   abbrev pub CopierMoved : (Chart K → Type 0) → Mem (Node K V) → Copier × Yielding (Node K V) Table → Type 0
   CopierMoved Moves m2 end =
-      Went same hash setting caller w c blocks m2 (λ w2 c2 blocks2. SparesPairs w w2 × (c2.current ≡ c.current) × CopierTold w2 caller setting c2 blocks2 same hash end × Moves c2)
+      StepSpec same hash setting caller w c blocks m2 (λ w2 c2 blocks2. SparesPairs w w2 × (c2.current ≡ c.current) × CopierOutcome w2 caller setting c2 blocks2 same hash end × Moves c2)
 
   abbrev pub CopierPlain : Mem (Node K V) → Copier × Yielding (Node K V) Table → Type 0
   CopierPlain = CopierMoved (MovedPlain hash caller c)
 
   pub copier_went : (Moves : Chart K → Type 0) (m2 : Mem (Node K V)) (end : Copier × Yielding (Node K V) Table) → CopierMoved Moves m2 end → CopierWent m2 end
   copier_went Moves m2 end = went_as same hash setting caller w c blocks m2
-      (λ w2 c2 blocks2. SparesPairs w w2 × (c2.current ≡ c.current) × CopierTold w2 caller setting c2 blocks2 same hash end × Moves c2)
-      (λ w2 c2 blocks2. SparesPairs w w2 × (c2.current ≡ c.current) × CopierTold w2 caller setting c2 blocks2 same hash end)
+      (λ w2 c2 blocks2. SparesPairs w w2 × (c2.current ≡ c.current) × CopierOutcome w2 caller setting c2 blocks2 same hash end × Moves c2)
+      (λ w2 c2 blocks2. SparesPairs w w2 × (c2.current ≡ c.current) × CopierOutcome w2 caller setting c2 blocks2 same hash end)
       (λ w2 c2 blocks2 map2 moved blocks_same told. (told.0, told.1, told.2))
 
   -- such a move is its own, if it is some caller's
@@ -72,14 +72,14 @@ module _ {K V : Type 0} (same : K → K → Bool) (hash : K → ℕ) (caller : �
   module _ (map : IsMapIn same hash setting w c blocks) where
     -- a step that only read
     pub copier_stays : (Moves : Chart K → Type 0) → Moves c → (m2 : Mem (Node K V)) → m2 ≡ w.memory → (end : Copier × Yielding (Node K V) Table)
-        → CopierTold w caller setting c blocks same hash end → CopierMoved Moves m2 end
+        → CopierOutcome w caller setting c blocks same hash end → CopierMoved Moves m2 end
     copier_stays Moves still m2 e end told =
         went_still same hash setting caller w c blocks map m2 e
-        (λ w2 c2 blocks2. SparesPairs w w2 × (c2.current ≡ c.current) × CopierTold w2 caller setting c2 blocks2 same hash end × Moves c2)
+        (λ w2 c2 blocks2. SparesPairs w w2 × (c2.current ≡ c.current) × CopierOutcome w2 caller setting c2 blocks2 same hash end × Moves c2)
         (spares_same w, refl, told, still)
 
     pub copier_still : (m2 : Mem (Node K V)) → m2 ≡ w.memory → (end : Copier × Yielding (Node K V) Table)
-        → CopierTold w caller setting c blocks same hash end → CopierPlain m2 end
+        → CopierOutcome w caller setting c blocks same hash end → CopierPlain m2 end
     copier_still = copier_stays (MovedPlain hash caller c) (inl refl)
 
     -- words beside the places say nothing of hands
@@ -92,25 +92,25 @@ module _ {K V : Type 0} (same : K → K → Bool) (hash : K → ℕ) (caller : �
     pub copier_moves : (Moves : Chart K → Type 0) → is_incremental setting.mode ≡ true → IsLawful same (spot_of hash) → (op : Op (Node K V)) (out : Out (Node K V)) (at : At) (word : ℕ)
         → MayWriteBy setting caller w c blocks op at → IsSome (word_at w.memory at) → (m2 : Mem (Node K V)) → Gives w.memory op out → m2 ≡ with_word w.memory at word
         → with_word w.memory at word ≡ mem_after w.memory op out
-        → (move : Move K) → IsItsMove caller blocks move → Moves (after (spot_of hash) true move c) → Allowed same (spot_of hash) true move c → Shows hash (with_word w.memory at word) (after (spot_of hash) true move c) blocks setting.root
+        → (move : Move K) → IsItsMove caller blocks move → Moves (after (spot_of hash) true move c) → Allowed same (spot_of hash) true move c → Represents hash (with_word w.memory at word) (after (spot_of hash) true move c) blocks setting.root
         → (after (spot_of hash) true move c).past ≡ c.past → Hands same hash setting w (after (spot_of hash) true move c) blocks
         → (after (spot_of hash) true move c).current ≡ c.current
         → (end : Copier × Yielding (Node K V) Table)
-        → CopierTold (record w { memory = with_word w.memory at word }) caller setting (after (spot_of hash) true move c) blocks same hash end
+        → CopierOutcome (record w { memory = with_word w.memory at word }) caller setting (after (spot_of hash) true move c) blocks same hash end
         → CopierMoved Moves m2 end
     copier_moves Moves bits lawful op out at word own some m2 gives is wrote move by moves allowed shows past hands current end told =
         went_move same hash setting w c blocks map bits caller lawful op out at word own some m2 gives is wrote
-        (λ w2 c2 blocks2. SparesPairs w w2 × (c2.current ≡ c.current) × CopierTold w2 caller setting c2 blocks2 same hash end × Moves c2)
+        (λ w2 c2 blocks2. SparesPairs w w2 × (c2.current ≡ c.current) × CopierOutcome w2 caller setting c2 blocks2 same hash end × Moves c2)
         move by allowed shows past current hands (spares_written w at word some, current, told, moves)
 
     pub copier_wrote : is_incremental setting.mode ≡ true → IsLawful same (spot_of hash) → (op : Op (Node K V)) (out : Out (Node K V)) (at : At) (word : ℕ)
         → MayWriteBy setting caller w c blocks op at → IsSome (word_at w.memory at) → (m2 : Mem (Node K V)) → Gives w.memory op out → m2 ≡ with_word w.memory at word
         → with_word w.memory at word ≡ mem_after w.memory op out
-        → (move : Move K) → IsPlain hash caller c move → IsOfKnown blocks move → Allowed same (spot_of hash) true move c → Shows hash (with_word w.memory at word) (after (spot_of hash) true move c) blocks setting.root
+        → (move : Move K) → IsPlain hash caller c move → IsOfKnown blocks move → Allowed same (spot_of hash) true move c → Represents hash (with_word w.memory at word) (after (spot_of hash) true move c) blocks setting.root
         → (after (spot_of hash) true move c).past ≡ c.past → Hands same hash setting w (after (spot_of hash) true move c) blocks
         → (after (spot_of hash) true move c).current ≡ c.current
         → (end : Copier × Yielding (Node K V) Table)
-        → CopierTold (record w { memory = with_word w.memory at word }) caller setting (after (spot_of hash) true move c) blocks same hash end
+        → CopierOutcome (record w { memory = with_word w.memory at word }) caller setting (after (spot_of hash) true move c) blocks same hash end
         → CopierPlain m2 end
     copier_wrote bits lawful op out at word own some m2 gives is wrote move plain known =
         copier_moves (MovedPlain hash caller c) bits lawful op out at word own some m2 gives is wrote move (plain_by move plain, known) (inr (move, plain, refl))

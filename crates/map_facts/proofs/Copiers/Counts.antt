@@ -26,7 +26,7 @@ use Rattle.map_rule.specs.Words.{Blocks}
 use Rattle.map_rule.specs.Maps.{spot_of}
 use Rattle.map_rule.specs.InWorld.{IsMapIn}
 use Rattle.map_facts.specs.FactsCopies.{CopyingFacts, ClaimsNone, Copies, Works}
-use Rattle.map_facts.specs.Told.{CopierTold}
+use Rattle.map_facts.specs.Told.{CopierOutcome}
 use Rattle.map_facts.specs.ToldMoves.{MovedCounts}
 use Rattle.map_facts.proofs.Copiers.CopiersCounted.{counted_in, counted_here, counted_chart, counted_world, copied_word, no_wrap, entered_counted, none_left, claims_kept, count_wrote}
 use Rattle.map_facts.proofs.Copiers.CopiersGoOn.{behind_facts}
@@ -80,13 +80,13 @@ module _ {K V : Type 0} (same : K → K → Bool) (hash : K → ℕ) (caller : �
 
         told : (found : ℕ) → found ≡ c.copied (suc c.first)
             → ((((found + p.done) % 2 ^ 64 == p.source.len) ≡ true) × (end ≡ (record p { place = 0; end = 0; done = 0; stands = at.Promotes }, Goes)))
-            ⊎ (end ≡ (behind (record p { done = 0 }), Goes)) → CopierTold (counted_world w c p) caller setting (counted_chart caller c p) blocks same hash end
-        told found e (inl h) = subst (CopierTold (counted_world w c p) caller setting (counted_chart caller c p) blocks same hash) (sym h.1)
+            ⊎ (end ≡ (behind (record p { done = 0 }), Goes)) → CopierOutcome (counted_world w c p) caller setting (counted_chart caller c p) blocks same hash end
+        told found e (inl h) = subst (CopierOutcome (counted_world w c p) caller setting (counted_chart caller c p) blocks same hash) (sym h.1)
             (record {
               setting_is = is;
               point = (c.first, copies, refl, none_left same hash caller setting w c blocks map p f.0 f.2 (counted_world w c p), none, λ root. all_counted (is_full found e h.0));
             })
-        told found e (inr h) = subst (CopierTold (counted_world w c p) caller setting (counted_chart caller c p) blocks same hash) (sym h)
+        told found e (inr h) = subst (CopierOutcome (counted_world w c p) caller setting (counted_chart caller c p) blocks same hash) (sym h)
             (behind_facts same hash (counted_world w c p) caller setting (counted_chart caller c p) blocks bits none (record p { done = 0 }) is c.first copies refl
             (none_left same hash caller setting w c blocks map p f.0 f.2 (counted_world w c p)) f.4)
 
@@ -123,5 +123,5 @@ module _ {K V : Type 0} (same : K → K → Bool) (hash : K → ℕ) (caller : �
           word_is = works.word_is;
         }
 
-        told : end ≡ (record p { done = 0; stands = at.Unmarks word fault }, Goes) → CopierTold (counted_world w c p) caller setting (counted_chart caller c p) blocks same hash end
-        told e = subst (CopierTold (counted_world w c p) caller setting (counted_chart caller c p) blocks same hash) (sym e) (record { setting_is = is; point = ((f.0, f.1, works_counted, f.3), refl) })
+        told : end ≡ (record p { done = 0; stands = at.Unmarks word fault }, Goes) → CopierOutcome (counted_world w c p) caller setting (counted_chart caller c p) blocks same hash end
+        told e = subst (CopierOutcome (counted_world w c p) caller setting (counted_chart caller c p) blocks same hash) (sym e) (record { setting_is = is; point = ((f.0, f.1, works_counted, f.3), refl) })

@@ -24,7 +24,7 @@ use Rattle.map_rule.specs.Words.{Blocks, place_word, byte_of}
 use Rattle.map_rule.specs.Maps.{spot_of}
 use Rattle.map_rule.specs.InWorld.{IsMapIn}
 use Rattle.map_facts.specs.FactsCopies.{CopyingFacts, Works}
-use Rattle.map_facts.specs.Told.{CopierTold}
+use Rattle.map_facts.specs.Told.{CopierOutcome}
 use Rattle.map_facts.proofs.Copiers.CopiersDone.{done_facts}
 use Rattle.map_rule.proofs.Shares.CopiersPlaces.{placed_hands, placed_shows}
 use Rattle.map_facts.proofs.Copiers.CopiersWrote.{CopierPlain, copier_wrote}
@@ -74,7 +74,7 @@ module _ {K V : Type 0} (same : K → K → Bool) (hash : K → ℕ) (caller : �
       refl
       (placed_hands same hash setting w c blocks map p.source works.copies.0 p.place after_place keeps (put_in c.share (suc c.first) p.place (Done caller)))
       refl end
-      (subst (CopierTold (record w { memory = with_word w.memory (at_place p.source p.place) (place_word hash c blocks after_place) }) caller setting
+      (subst (CopierOutcome (record w { memory = with_word w.memory (at_place p.source p.place) (place_word hash c blocks after_place) }) caller setting
       (record c { place = put_in c.place c.first p.place after_place; share = put_in c.share (suc c.first) p.place (Done caller) }) blocks same hash) (sym s.1)
       (done_facts same hash w caller setting c blocks bits p is after_place (rw copied_is refl) (rw works.claims.0 refl) works.claims.1 works.copies works.has_done works.in_range works.settled
       (map.map.shows.sized c.first works.copies.0.made).most

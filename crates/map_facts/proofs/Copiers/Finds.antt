@@ -26,7 +26,7 @@ use Rattle.map_rule.specs.Words.{Blocks}
 use Rattle.map_rule.specs.Maps.{IsTable}
 use Rattle.map_rule.specs.InWorld.{IsMapIn}
 use Rattle.map_facts.specs.FactsCopies.{CopyingFacts}
-use Rattle.map_facts.specs.Told.{CopierTold}
+use Rattle.map_facts.specs.Told.{CopierOutcome}
 use Rattle.map_facts.proofs.Copiers.CopiersWrote.{CopierPlain, copier_still}
 use Rattle.map_rule.proofs.Words.TablesSeen.{link_seen, table_is, next_there}
 use Rattle.map_rule.specs.Links.{IsLinkTo, LeadsTo}
@@ -62,7 +62,7 @@ module _ {K V : Type 0} (same : K → K → Bool) (hash : K → ℕ) (caller : �
         let seen = table_is hash w.memory c blocks setting.root map.map.shows c.first (first_made f.0) there.1 s.3.0 shown in
         let source : IsTable c blocks (table_seen s.0 s.3.0) c.first = subst (λ (l : ℕ). IsTable c blocks (table_seen l s.3.0) c.first) (sym there.0) seen in
         copier_still same hash caller setting w c blocks map m2 s.2 end
-        (subst (CopierTold w caller setting c blocks same hash) (sym s.3.2)
+        (subst (CopierOutcome w caller setting c blocks same hash) (sym s.3.2)
         (record { setting_is = is; point = (f.1, f.2, f.3, f.4, c.first, omega arith, source) }))
 
     module _ (f : CopyingFacts same hash w caller setting c blocks p at.Follows) where
@@ -91,8 +91,8 @@ module _ {K V : Type 0} (same : K → K → Bool) (hash : K → ℕ) (caller : �
           let s = loaded w.memory (next_read p) (at_word p.source NEXT) m2 end steps in
           either s.0 s.1 s.2 s.3
         where
-          over : (end ≡ (standing p at.Over, Goes)) → CopierTold w caller setting c blocks same hash end
-          over e = subst (CopierTold w caller setting c blocks same hash) (sym e) (record { setting_is = is; point = (f.1, f.2) })
+          over : (end ≡ (standing p at.Over, Goes)) → CopierOutcome w caller setting c blocks same hash end
+          over e = subst (CopierOutcome w caller setting c blocks same hash) (sym e) (record { setting_is = is; point = (f.1, f.2) })
 
           by_link : (link : ℕ) → word_at w.memory (at_word p.source NEXT) ≡ Some link → m2 ≡ w.memory
               → (((link == 0) ≡ true) × (end ≡ (standing p at.Over, Goes)))
@@ -106,7 +106,7 @@ module _ {K V : Type 0} (same : K → K → Bool) (hash : K → ℕ) (caller : �
               let seen = table_is hash w.memory c blocks setting.root map.map.shows (suc t) there.1 there.2 some.1.0 shown in
               let target : IsTable c blocks (table_seen link some.1.0) (suc t) = subst (λ (l : ℕ). IsTable c blocks (table_seen l some.1.0) (suc t)) (sym there.0) seen in
               copier_still same hash caller setting w c blocks map m2 e end
-              (subst (CopierTold w caller setting c blocks same hash) (sym some.1.2)
+              (subst (CopierOutcome w caller setting c blocks same hash) (sym some.1.2)
               (record { setting_is = is; point = (t, (f.6, target, f.5, λ l. f.0), f.0, f.1, f.2, f.3) }))
 
           either : (link : ℕ) → word_at w.memory (at_word p.source NEXT) ≡ Some link → m2 ≡ w.memory → Ends (value_at w.memory) (next_read p (Found link)) end → CopierPlain same hash caller setting w c blocks m2 end

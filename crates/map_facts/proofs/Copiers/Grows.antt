@@ -30,9 +30,9 @@ use Rattle.map_rule.specs.Moves.{Links, NamedInRootAlone, after}
 use Rattle.map_rule.specs.Rule.{IsLawful}
 use Rattle.map_rule.specs.Words.{Blocks}
 use Rattle.map_rule.specs.Maps.{spot_of, IsTable}
-use Rattle.map_rule.specs.InWorld.{IsMapIn, SameBlocks, Went, SparesPairs}
+use Rattle.map_rule.specs.InWorld.{IsMapIn, SameBlocks, StepSpec, SparesPairs}
 use Rattle.map_facts.specs.FactsCopies.{Works, LooksFor, CopyingFacts, CopierFacts}
-use Rattle.map_facts.specs.Told.{NewTableTold, CopierTold, OnlyLinks, LinksLast}
+use Rattle.map_facts.specs.Told.{NewTableOutcome, CopierOutcome, OnlyLinks, LinksLast}
 use Rattle.map_facts.specs.ToldMoves.{MovedPlain}
 use Rattle.map_facts.proofs.Copiers.CopiersWrote.{CopierPlain}
 use Rattle.map_facts.proofs.Copiers.CopierLinked.{IsLonger, longer_chart, works_longer, looks_longer}
@@ -63,8 +63,8 @@ module _ {K V : Type 0} (same : K → K → Bool) (hash : K → ℕ) (setting : 
       (p : Copier) (word code n t : ℕ) (k : K) (setting_is : p.setting ≡ setting) (works : Works same hash w2 caller setting c2 blocks2 p n k word) (code_is : code ≡ hash k)
       (later : c2.first < t) (looks : LooksFor same hash w2 caller setting c2 blocks2 k (suc t)) (made : t < c2.past) (known : blocks2.table_known t ≡ true) where
     -- where the making of the table has come to
-    pub grown_told : (end : NewTable × Advance Table) → NewTableTold w2 caller setting c2 blocks2 (Word (blocks2.table t) NEXT) (suc t) end
-        → CopierTold w2 caller setting c2 blocks2 same hash (grown p word code end)
+    pub grown_told : (end : NewTable × Advance Table) → NewTableOutcome w2 caller setting c2 blocks2 (Word (blocks2.table t) NEXT) (suc t) end
+        → CopierOutcome w2 caller setting c2 blocks2 same hash (grown p word code end)
     grown_told (making, progress.Goes) told = record {
       setting_is = setting_is;
       point = (
@@ -95,14 +95,14 @@ module _ {K V : Type 0} (same : K → K → Bool) (hash : K → ℕ) (setting : 
       -- the tables that were there are as they were
       longer_told : (past : ℕ) (len limit status from : ℕ → ℕ) (longer : IsLonger c past len limit)
           → IsMapIn same hash setting w2 (longer_chart c past len limit status from longer) blocks2
-          → NewTableTold w2 caller setting (longer_chart c past len limit status from longer) blocks2 (Word (blocks.table t) NEXT) (suc t) end
-          → CopierTold w2 caller setting (longer_chart c past len limit status from longer) blocks2 same hash (grown p word code end)
+          → NewTableOutcome w2 caller setting (longer_chart c past len limit status from longer) blocks2 (Word (blocks.table t) NEXT) (suc t) end
+          → CopierOutcome w2 caller setting (longer_chart c past len limit status from longer) blocks2 same hash (grown p word code end)
       longer_told past len limit status from longer map2 told =
           grown_told w2 caller (longer_chart c past len limit status from longer) blocks2 map2 p word code facts.0 t facts.1 setting_is
           (works_longer same hash w w2 caller setting c past len limit status from longer rooted blocks blocks2 blocks_same p facts.0 facts.1 word was seen facts.3)
           facts.4 facts.5 (looks_longer same hash w w2 caller setting c past len limit status from longer rooted blocks blocks2 blocks_same facts.1 (suc t) (let made = facts.7 in omega arith) facts.6)
           (let made = facts.7 in let more = longer.more in omega arith) (blocks_same.tables t facts.7 facts.8).1 end
-          (subst (λ (b : ℕ). NewTableTold w2 caller setting (longer_chart c past len limit status from longer) blocks2 (Word b NEXT) (suc t) end) (sym (blocks_same.tables t facts.7 facts.8).0) told)
+          (subst (λ (b : ℕ). NewTableOutcome w2 caller setting (longer_chart c past len limit status from longer) blocks2 (Word b NEXT) (suc t) end) (sym (blocks_same.tables t facts.7 facts.8).0) told)
         where
           rooted : c.first < c.past
           rooted = facts.3.copies.0.made
@@ -114,16 +114,16 @@ module _ {K V : Type 0} (same : K → K → Bool) (hash : K → ℕ) (setting : 
           seen = map.map.shows.named c.first p.place facts.0 _ facts.3.borrowed facts.3.copies.0.made facts.3.copies.0.known facts.3.place
 
       linked_told : (c2 : Chart K) → OnlyLinks hash setting.mode c c2 → IsMapIn same hash setting w2 c2 blocks2
-          → NewTableTold w2 caller setting c2 blocks2 (Word (blocks.table t) NEXT) (suc t) end
-          → (c2.current ≡ c.current) × CopierTold w2 caller setting c2 blocks2 same hash (grown p word code end)
+          → NewTableOutcome w2 caller setting c2 blocks2 (Word (blocks.table t) NEXT) (suc t) end
+          → (c2.current ≡ c.current) × CopierOutcome w2 caller setting c2 blocks2 same hash (grown p word code end)
       linked_told c2 (inl is) = subst
-          (λ (x : Chart K). IsMapIn same hash setting w2 x blocks2 → NewTableTold w2 caller setting x blocks2 (Word (blocks.table t) NEXT) (suc t) end
-          → (x.current ≡ c.current) × CopierTold w2 caller setting x blocks2 same hash (grown p word code end))
+          (λ (x : Chart K). IsMapIn same hash setting w2 x blocks2 → NewTableOutcome w2 caller setting x blocks2 (Word (blocks.table t) NEXT) (suc t) end
+          → (x.current ≡ c.current) × CopierOutcome w2 caller setting x blocks2 same hash (grown p word code end))
           (sym is)
           (λ map2 told. (refl, longer_told c.past c.len c.limit c.status c.from (record { more = omega arith; lens = λ u l. (refl, refl) }) map2 told))
       linked_told c2 (inr (len, limit, is)) = subst
-          (λ (x : Chart K). IsMapIn same hash setting w2 x blocks2 → NewTableTold w2 caller setting x blocks2 (Word (blocks.table t) NEXT) (suc t) end
-          → (x.current ≡ c.current) × CopierTold w2 caller setting x blocks2 same hash (grown p word code end))
+          (λ (x : Chart K). IsMapIn same hash setting w2 x blocks2 → NewTableOutcome w2 caller setting x blocks2 (Word (blocks.table t) NEXT) (suc t) end
+          → (x.current ≡ c.current) × CopierOutcome w2 caller setting x blocks2 same hash (grown p word code end))
           (sym is)
           (λ map2 told. (
             refl,
@@ -140,12 +140,12 @@ module _ {K V : Type 0} (same : K → K → Bool) (hash : K → ℕ) (setting : 
       -- What the step of the making came to, too: a table that it linked is the last one.
       abbrev pub GrownTells : Copier × Yielding (Node K V) Table → World (Node K V) → Chart K → Blocks → Type 0
       GrownTells end w2 c2 blocks2 =
-          SparesPairs w w2 × (c2.current ≡ c.current) × CopierTold w2 caller setting c2 blocks2 same hash end
+          SparesPairs w w2 × (c2.current ≡ c.current) × CopierOutcome w2 caller setting c2 blocks2 same hash end
           × (b : NewTable × Advance Table) × (end ≡ grown p word code b) × Steps Took value_at w.memory (new_table_plan making) w2.memory b
-          × LinksLast hash setting.mode (suc t) c c2 b × NewTableTold w2 caller setting c2 blocks2 (Word (blocks.table t) NEXT) (suc t) b × Lowers making b
+          × LinksLast hash setting.mode (suc t) c c2 b × NewTableOutcome w2 caller setting c2 blocks2 (Word (blocks.table t) NEXT) (suc t) b × Lowers making b
 
       pub went_grown : IsLawful same (spot_of hash) → p.setting ≡ setting → (m2 : Mem (Node K V)) (end : Copier × Yielding (Node K V) Table)
-          → Steps Took value_at w.memory (grows p word code making) m2 end → Went same hash setting caller w c blocks m2 (GrownTells end)
+          → Steps Took value_at w.memory (grows p word code making) m2 end → StepSpec same hash setting caller w c blocks m2 (GrownTells end)
       went_grown lawful setting_is m2 end s =
           let b = steps_back (grown p word code) w.memory m2 (new_table_plan making) end s in
           let g = went_new_table_lowers same hash w setting c blocks map caller (Word (blocks.table t) NEXT) (suc t) initial_is lawful making facts.9 m2 b.0 b.1 in
@@ -169,7 +169,7 @@ module _ {K V : Type 0} (same : K → K → Bool) (hash : K → ℕ) (setting : 
             told = (
               g.told.0,
               l.0,
-              subst (λ (x : Copier × Yielding (Node K V) Table). CopierTold g.w2 caller setting g.c2 g.blocks2 same hash x) (sym b.2) l.1,
+              subst (λ (x : Copier × Yielding (Node K V) Table). CopierOutcome g.w2 caller setting g.c2 g.blocks2 same hash x) (sym b.2) l.1,
               b.0,
               b.2,
               subst (λ (m : Mem (Node K V)). Steps Took value_at w.memory (new_table_plan making) m b.0) (sym g.memory) b.1,
@@ -188,5 +188,5 @@ module _ {K V : Type 0} (same : K → K → Bool) (hash : K → ℕ) (setting : 
           → Steps Took value_at w.memory (grows p word code making) m2 end → CopierPlain same hash caller setting w c blocks m2 end
       went_grows lawful setting_is m2 end s =
           went_as same hash setting caller w c blocks m2 (GrownTells end)
-          (λ w2 c2 blocks2. SparesPairs w w2 × (c2.current ≡ c.current) × CopierTold w2 caller setting c2 blocks2 same hash end × MovedPlain hash caller c c2)
+          (λ w2 c2 blocks2. SparesPairs w w2 × (c2.current ≡ c.current) × CopierOutcome w2 caller setting c2 blocks2 same hash end × MovedPlain hash caller c c2)
           (λ w2 c2 blocks2 map2 moved blocks_same told. (told.0, told.1, told.2, grown_plain c2 told.3 told.6)) (went_grown lawful setting_is m2 end s)

@@ -32,7 +32,7 @@ use Rattle.map_rule.specs.Words.{Blocks, place_word, byte_of, word_of}
 use Rattle.map_rule.specs.Maps.{spot_of, IsTable}
 use Rattle.map_rule.specs.InWorld.{IsMapIn}
 use Rattle.map_facts.specs.FactsCopies.{CopyingFacts, HasSettled, InRange}
-use Rattle.map_facts.specs.Told.{CopierTold}
+use Rattle.map_facts.specs.Told.{CopierOutcome}
 use Rattle.map_facts.proofs.Copiers.CopiersFirst.{pair_here, went_first}
 use Rattle.map_facts.proofs.Copiers.CopiersGoOn.{next_facts}
 use Rattle.map_rule.proofs.Shares.CopiersMoves.{settled_next}
@@ -136,12 +136,12 @@ module _ {K V : Type 0} (same : K → K → Bool) (hash : K → ℕ) (caller : �
 
     -- it goes on, or waits
     others_told : is_marked here ≡ true → p.stands ≡ at.Marks → (end : Copier × Yielding (Node K V) Table)
-        → ((is_awaited p word ≡ true) × (end ≡ (p, Waits))) ⊎ ((is_awaited p word ≡ false) × (end ≡ (next_place p, Goes))) → CopierTold w caller setting c blocks same hash end
-    others_told is_so stands end (inl h) = subst (CopierTold w caller setting c blocks same hash) (sym h.1) (
+        → ((is_awaited p word ≡ true) × (end ≡ (p, Waits))) ⊎ ((is_awaited p word ≡ false) × (end ≡ (next_place p, Goes))) → CopierOutcome w caller setting c blocks same hash end
+    others_told is_so stands end (inl h) = subst (CopierOutcome w caller setting c blocks same hash) (sym h.1) (
       awaited_whole p.whole word h.0,
       record { setting_is = is; point = subst (CopyingFacts same hash w caller setting c blocks p) (sym stands) f },
     )
-    others_told is_so stands end (inr h) = subst (CopierTold w caller setting c blocks same hash) (sym h.1)
+    others_told is_so stands end (inr h) = subst (CopierOutcome w caller setting c blocks same hash) (sym h.1)
         (next_facts same hash w caller setting c blocks bits f.3 p is f.0 f.1 f.2 f.4 (λ whole. settled_next (c.place f.0) p.place (f.5 whole) (settled whole)))
       where
         settled : p.whole ≡ true → is_settled here ≡ true

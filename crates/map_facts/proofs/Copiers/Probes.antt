@@ -25,7 +25,7 @@ use Rattle.map_rule.specs.Words.{Blocks, place_word}
 use Rattle.map_rule.specs.Maps.{spot_of}
 use Rattle.map_rule.specs.InWorld.{IsMapIn}
 use Rattle.map_facts.specs.FactsCopies.{Tries, CopierFacts}
-use Rattle.map_facts.specs.Told.{CopierTold}
+use Rattle.map_facts.specs.Told.{CopierOutcome}
 use Rattle.map_rule.proofs.Keys.LaterTables.{found_taken}
 use Rattle.map_facts.proofs.Copiers.CopiersWrote.{CopierPlain, copier_still}
 use Rattle.map_facts.proofs.Copiers.CopierTries.{IsTableLens, tries_standing, facts_next_try}
@@ -50,7 +50,7 @@ module _ {K V : Type 0} (same : K → K → Bool) (hash : K → ℕ) (setting : 
         → CopierFacts same hash w caller setting c blocks p → CopierPlain same hash caller setting w c blocks m2 end
     told_still m2 is p end ends facts =
         copier_still same hash caller setting w c blocks map m2 is end
-        (subst (λ (x : Copier × Yielding (Node K V) Table). CopierTold w caller setting c blocks same hash x) (sym ends) facts)
+        (subst (λ (x : Copier × Yielding (Node K V) Table). CopierOutcome w caller setting c blocks same hash x) (sym ends) facts)
 
     module _ (p : Copier) (word code : ℕ) (table : Table) (probe : Probe) (tries : Tries same hash w caller setting c blocks p word code table probe) where
       -- the place of this try

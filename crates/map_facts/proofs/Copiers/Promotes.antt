@@ -22,11 +22,11 @@ use Rattle.map_rule.specs.Given.ResizeDeclared.copier.Copying.TheVariants as at
 use Rattle.map_rule.specs.Chart.{Chart, Free, Counted}
 use Rattle.map_rule.specs.Rule.{Rule, IsLawful}
 use Rattle.map_rule.specs.Moves.{passing, Promotes, Allowed, is_done_by}
-use Rattle.map_rule.specs.Words.{Blocks, Shows}
+use Rattle.map_rule.specs.Words.{Blocks, Represents}
 use Rattle.map_rule.specs.Maps.{spot_of, IsTable}
 use Rattle.map_rule.specs.InWorld.{IsMapIn, SparesPairs}
 use Rattle.map_facts.specs.FactsCopies.{CopyingFacts, CopierFacts}
-use Rattle.map_facts.specs.Told.{CopierTold}
+use Rattle.map_facts.specs.Told.{CopierOutcome}
 use Rattle.map_facts.specs.ToldMoves.{MovedPromotes}
 use Rattle.map_facts.proofs.Copiers.CopiersWrote.{CopierMoved, copier_stays}
 use Rattle.map_rule.proofs.World.Hands.{Hands, hands_of, hands_kept, hands_unlinked, current_known, named_known}
@@ -77,7 +77,7 @@ module _ {K V : Type 0} (same : K → K → Bool) (hash : K → ℕ) (setting : 
       some : IsSome (word_at w.memory (Root setting.root))
       some = let made = source.made in rw (root_there (omega arith)) refl
 
-      shows : Shows hash written.memory chart blocks setting.root
+      shows : Represents hash written.memory chart blocks setting.root
       shows = root_written hash w.memory c blocks setting.root map.map.shows (suc c.first) (omega arith) target.made
 
       allowed : Allowed same (spot_of hash) (is_incremental setting.mode) (Promotes (suc c.first)) c
@@ -144,8 +144,8 @@ module _ {K V : Type 0} (same : K → K → Bool) (hash : K → ℕ) (setting : 
           (inr (Promotes (suc c.first), allowed, refl, λ i by. absurd by))
           (map_then lawful)
           (record { tables = λ t made known. (refl, known); pairs = λ n was known. (refl, known); tables_back = λ t made known. known; pairs_back = λ n was known. known })
-          (λ w2 c2 blocks2. SparesPairs w w2 × (c2.current ≡ c.current) × CopierTold w2 caller setting c2 blocks2 same hash end × MovedPromotes hash caller c p end c2)
-          (spares, refl, subst (λ (x : Copier × Yielding (Node K V) Table). CopierTold unlinked caller setting chart blocks same hash x) (sym ends) told, inl (ends, refl)))
+          (λ w2 c2 blocks2. SparesPairs w w2 × (c2.current ≡ c.current) × CopierOutcome w2 caller setting c2 blocks2 same hash end × MovedPromotes hash caller c p end c2)
+          (spares, refl, subst (λ (x : Copier × Yielding (Node K V) Table). CopierOutcome unlinked caller setting chart blocks same hash x) (sym ends) told, inl (ends, refl)))
         where
           link_is : p.target.link ≡ blocks.table (suc c.first) * 2048
           link_is = ap (λ (x : Table). x.link) target.is
@@ -214,4 +214,4 @@ module _ {K V : Type 0} (same : K → K → Bool) (hash : K → ℕ) (setting : 
             let older = before found gives.0 gives.1 (eq-or-lt_of_le facts.1.2) in
             let turn_is = ap (λ (x : Table). x.turn) facts.1.0.is in
             copier_stays same hash caller setting w c blocks map (MovedPromotes hash caller c p end) (inr (refl, λ e. absurd (omega (arith, e, older, turn_is)))) m2 is end
-            (subst (λ (x : Copier × Yielding (Node K V) Table). CopierTold w caller setting c blocks same hash x) (sym ends) (went_err bits facts older))
+            (subst (λ (x : Copier × Yielding (Node K V) Table). CopierOutcome w caller setting c blocks same hash x) (sym ends) (went_err bits facts older))

@@ -12,7 +12,7 @@ use Rattle.papaya_raw.specs.Given.TablesChunks.{is_incremental}
 use Rattle.papaya_raw.specs.Given.TablesMarks.{unmarked_in}
 use Rattle.papaya_raw.specs.Given.TablesNodes.{deferred_word}
 use Rattle.map_rule.specs.Given.ResizeCopierStates.{standing, place_done}
-use Rattle.map_rule.specs.Given.ResizeCopierPlaces.{copied_word, next_try, pair_put, put_told, puts}
+use Rattle.map_rule.specs.Given.ResizeCopierPlaces.{copied_word, next_try, pair_put, after_put, puts}
 use Rattle.papaya_raw.specs.Given.TablesTablePlaces.{at_place}
 use Rattle.papaya_raw.specs.Given.TablesDeclared.marks.TheConstants.{BORROWED}
 use Rattle.papaya_raw.specs.Given.TablesDeclared.node.Node.{Node}
@@ -27,11 +27,11 @@ use Rattle.map_rule.specs.Given.ResizeDeclared.copier.Copying.TheVariants as at
 use Rattle.map_rule.specs.Chart.{Phase, Still, Copying, Chart, Place, Empty, Holds, put_in, is_settled}
 use Rattle.map_rule.specs.Rule.{Rule, IsLawful}
 use Rattle.map_rule.specs.Moves.{Puts, Allowed, after, lent_place}
-use Rattle.map_rule.specs.Words.{Blocks, Shows, byte_of, place_word}
+use Rattle.map_rule.specs.Words.{Blocks, Represents, byte_of, place_word}
 use Rattle.map_rule.specs.Maps.{spot_of}
 use Rattle.map_rule.specs.InWorld.{IsMapIn, IsReached}
 use Rattle.map_facts.specs.FactsCopies.{Works, Tries, CopierFacts}
-use Rattle.map_facts.specs.Told.{CopierTold}
+use Rattle.map_facts.specs.Told.{CopierOutcome}
 use Rattle.map_facts.proofs.Copiers.CopiersWrote.{CopierPlain, copier_wrote}
 use Rattle.map_rule.proofs.World.Hands.{Hands, hands_of, hands_kept}
 use Rattle.map_rule.proofs.Words.PlaceWordsRead.{word-empty}
@@ -48,7 +48,7 @@ module _ {K V : Type 0} (same : K → K → Bool) (hash : K → ℕ) (setting : 
     (map : IsMapIn same hash setting w c blocks) where
   module _ (p : Copier) (word code : ℕ) (table : Table) (probe : Probe) (tries : Tries same hash w caller setting c blocks p word code table probe) where
     pub may_puts : May Can Took value_at w.memory (puts p word code table probe)
-    may_puts = may_exchange w.memory (put_told p word code table probe) (at_place table probe.i) 0 (copied_word p word)
+    may_puts = may_exchange w.memory (after_put p word code table probe) (at_place table probe.i) 0 (copied_word p word)
         (probe_seen same hash setting w caller c blocks map p word code table probe tries) (λ found is. tt) (λ found is. tt)
 
     module _ (setting_is : p.setting ≡ setting) (bits : is_incremental setting.mode ≡ true) where
@@ -121,9 +121,9 @@ module _ {K V : Type 0} (same : K → K → Bool) (hash : K → ℕ) (setting : 
       root_kept : (j : ℕ) → put_chart.place c.first j ≡ c.place c.first j
       root_kept j = let later = tries.6 in put_in_elsewhere c.place t i (lent_place (spot_of hash) true (c.place c.first p.place)) c.first j (omega arith)
 
-      shows : Shows hash (with_word w.memory (Word (blocks.table t) (i + PLACES)) (place_word hash c blocks (Holds n Still true))) put_chart blocks setting.root
+      shows : Represents hash (with_word w.memory (Word (blocks.table t) (i + PLACES)) (place_word hash c blocks (Holds n Still true))) put_chart blocks setting.root
       shows = subst
-          (λ (x : Place). Shows hash (with_word w.memory (Word (blocks.table t) (i + PLACES)) (place_word hash c blocks (Holds n Still true))) (record c { place = put_in c.place t i x }) blocks setting.root)
+          (λ (x : Place). Represents hash (with_word w.memory (Word (blocks.table t) (i + PLACES)) (place_word hash c blocks (Holds n Still true))) (record c { place = put_in c.place t i x }) blocks setting.root)
           (sym lent)
           (place_written hash w.memory c blocks setting.root map.map.shows t i (Holds n Still true) made known inside (λ m phase borrowed e. subst (λ (x : ℕ). blocks.pair_known x ≡ true) (cc) pair_known))
         where
@@ -173,7 +173,7 @@ module _ {K V : Type 0} (same : K → K → Bool) (hash : K → ℕ) (setting : 
 
       pub went_puts : IsLawful same (spot_of hash) → (m2 : Mem (Node K V)) (end : Copier × Yielding (Node K V) Table)
           → Steps Took value_at w.memory (puts p word code table probe) m2 end → CopierPlain same hash caller setting w c blocks m2 end
-      went_puts lawful m2 end s = either (exchanged w.memory (put_told p word code table probe) (at_place table probe.i) 0 (copied_word p word) m2 end s)
+      went_puts lawful m2 end s = either (exchanged w.memory (after_put p word code table probe) (at_place table probe.i) 0 (copied_word p word) m2 end s)
         where
           place_word_there : word_at w.memory (Word (blocks.table t) (i + PLACES)) ≡ Some (place_word hash c blocks (c.place t i))
           place_word_there = (map.map.shows.tables t made known).places i inside
@@ -193,7 +193,7 @@ module _ {K V : Type 0} (same : K → K → Bool) (hash : K → ℕ) (setting : 
               (rw place_word_there refl)
               m2 gives (is ∙ written) (sym written)
               (Puts caller p.place t k tries.3) refl known (allowed found gives.0 gives.1) shows refl hands refl end
-              (subst (λ (x : Copier × Yielding (Node K V) Table). CopierTold (record w { memory = with_word w.memory (Word (blocks.table t) (i + PLACES)) (place_word hash c blocks (Holds n Still true)) }) caller setting put_chart blocks same hash x)
+              (subst (λ (x : Copier × Yielding (Node K V) Table). CopierOutcome (record w { memory = with_word w.memory (Word (blocks.table t) (i + PLACES)) (place_word hash c blocks (Holds n Still true)) }) caller setting put_chart blocks same hash x)
               (sym ends) (told (record w { memory = with_word w.memory (Word (blocks.table t) (i + PLACES)) (place_word hash c blocks (Holds n Still true)) })))
           either (inr (found, gives, is, ends)) = told_still same hash setting w caller c blocks map m2 is (next_try p word code table probe) end ends
               (told_next_try same hash setting w caller c blocks map p word code table probe tries setting_is bits found gives.0 gives.1)

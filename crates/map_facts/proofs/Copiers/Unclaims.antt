@@ -21,11 +21,11 @@ use Rattle.map_rule.specs.Given.ResizeDeclared.copier.Copying.TheVariants as at
 use Rattle.map_rule.specs.Chart.{Chart, put}
 use Rattle.map_rule.specs.Rule.{IsLawful}
 use Rattle.map_rule.specs.Moves.{Reclaims}
-use Rattle.map_rule.specs.Words.{Blocks, Shows}
+use Rattle.map_rule.specs.Words.{Blocks, Represents}
 use Rattle.map_rule.specs.Maps.{spot_of}
 use Rattle.map_rule.specs.InWorld.{IsMapIn}
 use Rattle.map_facts.specs.FactsCopies.{CopyingFacts}
-use Rattle.map_facts.specs.Told.{CopierTold}
+use Rattle.map_facts.specs.Told.{CopierOutcome}
 use Rattle.map_facts.proofs.Copiers.CopiersWrote.{CopierPlain, hands_words, copier_wrote}
 use Rattle.map_rule.proofs.Words.TablesSeen.{claim_there, word_stands}
 use Rattle.map_rule.proofs.Words.WritesTables.{claim_written}
@@ -48,11 +48,11 @@ module _ {K V : Type 0} (same : K → K → Bool) (hash : K → ℕ) (caller : �
       copier_wrote same hash caller setting w c blocks map bits lawful (Store (at_word p.target CLAIM) 0) Stored (at_word p.target CLAIM) 0
       (own_at_word same hash setting w c blocks map caller p.target (suc f.0) CLAIM f.1.1 (omega arith)) (is_some_of _ _ claim_word) m2 tt s.0 refl (Reclaims (suc f.0) 0) tt f.1.1.known
       (refl, f.1.1.made)
-      (subst (λ (a : At). Shows hash (with_word w.memory a 0) (record c { claim = put c.claim (suc f.0) 0 }) blocks setting.root)
+      (subst (λ (a : At). Represents hash (with_word w.memory a 0) (record c { claim = put c.claim (suc f.0) 0 }) blocks setting.root)
       (sym (word_stands hash w.memory c blocks setting.root map.map.shows p.target (suc f.0) f.1.1 CLAIM))
       (claim_written hash w.memory c blocks setting.root map.map.shows (suc f.0) 0 f.1.1.made f.1.1.known))
       refl
       (hands_words same hash caller setting w c blocks map c.share (put c.claim (suc f.0) 0) c.copied)
       refl end
-      (subst (CopierTold (record w { memory = with_word w.memory (at_word p.target CLAIM) 0 }) caller setting (record c { claim = put c.claim (suc f.0) 0 }) blocks same hash) (sym s.1)
+      (subst (CopierOutcome (record w { memory = with_word w.memory (at_word p.target CLAIM) 0 }) caller setting (record c { claim = put c.claim (suc f.0) 0 }) blocks same hash) (sym s.1)
       (record { setting_is = is; point = (f.3, f.4) }))

@@ -24,7 +24,7 @@ use Rattle.map_rule.specs.Words.{Blocks, place_word}
 use Rattle.map_rule.specs.Maps.{spot_of, IsTable}
 use Rattle.map_rule.specs.InWorld.{IsMapIn}
 use Rattle.map_facts.specs.FactsCopies.{CopyingFacts, Copies, Works}
-use Rattle.map_facts.specs.Told.{CopierTold}
+use Rattle.map_facts.specs.Told.{CopierOutcome}
 use Rattle.map_rule.proofs.Shares.CopiersMoves.{table_beside, none_claimed}
 use Rattle.map_rule.proofs.Shares.CopiersPlaces.{placed_hands, placed_shows}
 use Rattle.map_facts.proofs.Copiers.CopiersWrote.{CopierPlain, copier_wrote}
@@ -69,7 +69,7 @@ module _ {K V : Type 0} (same : K → K → Bool) (hash : K → ℕ) (caller : �
       refl
       (placed_hands same hash setting w c blocks map p.source works.copies.0 p.place after_place keeps (put_in c.share (suc c.first) p.place Free))
       refl end
-      (subst (CopierTold (record w { memory = with_word w.memory (at_place p.source p.place) (place_word hash c blocks after_place) }) caller setting
+      (subst (CopierOutcome (record w { memory = with_word w.memory (at_place p.source p.place) (place_word hash c blocks after_place) }) caller setting
       (record c { place = put_in c.place c.first p.place after_place; share = put_in c.share (suc c.first) p.place Free }) blocks same hash) (sym s.1)
       (record { setting_is = is; point = (c.first, copies, f.1, none_done, none) }))
     where

@@ -16,7 +16,7 @@ use Rattle.map_rule.specs.Given.ResizeDeclared.dispose.Disposing.TheVariants as 
 use Rattle.map_rule.specs.Chart.{Still, Holds, Chart}
 use Rattle.map_rule.specs.Words.{Blocks, byte_of, place_word}
 use Rattle.map_rule.specs.Maps.{IsTable}
-use Rattle.map_facts.specs.FactsDisposes.{StandsBefore, StandsNowhere, HasLeft, DisposingFacts, DisposeFacts}
+use Rattle.map_facts.specs.FactsDisposes.{LiesBefore, LiesNowhere, HasLeft, DisposingFacts, DisposeFacts}
 use Rattle.map_rule.proofs.Words.PlaceWords.{pair_link}
 use Rattle.map_rule.proofs.Words.PlaceWordsMarks.{pair_borrowed}
 use Rattle.map_rule.proofs.Words.PlacesShown.{byte_of-few}
@@ -26,8 +26,8 @@ module _ {K V : Type 0} (w : World (Node K V)) (caller : ℕ) (setting : Setting
   -- been unlinked.
   abbrev pub IsTakenOut : ℕ → ℕ → Bool → Type 0
   IsTakenOut n t borrowed =
-      cond (cond (is_incremental setting.mode) borrowed false) ((w.hand (blocks.pair n) ≡ Parting caller) × StandsBefore w caller setting c blocks n t)
-      ((w.hand (blocks.pair n) ≡ Cutting caller) × StandsNowhere w caller setting c blocks n)
+      cond (cond (is_incremental setting.mode) borrowed false) ((w.hand (blocks.pair n) ≡ Parting caller) × LiesBefore w caller setting c blocks n t)
+      ((w.hand (blocks.pair n) ≡ Cutting caller) × LiesNowhere w caller setting c blocks n)
 
 module _ {K V : Type 0} (hash : K → ℕ) (fits : (k : K) → hash k < 2 ^ 64) (w : World (Node K V)) (caller : ℕ) (setting : Setting) (c : Chart K) (blocks : Blocks) where
   module _ (n t word : ℕ) (borrowed : Bool) (is : word ≡ place_word hash c blocks (Holds n Still borrowed)) where
@@ -38,18 +38,18 @@ module _ {K V : Type 0} (hash : K → ℕ) (fits : (k : K) → hash k < 2 ^ 64) 
     mark_is = ap (λ (x : ℕ). has_mark x BORROWED) is ∙ pair_borrowed blocks.pair (λ o. byte_of hash (c.key o)) n Still borrowed
 
     -- it is retired
-    fresh : (w.hand (blocks.pair n) ≡ Cutting caller) × StandsNowhere w caller setting c blocks n → DisposingFacts w caller setting c blocks n t (retires setting (link_in word))
+    fresh : (w.hand (blocks.pair n) ≡ Cutting caller) × LiesNowhere w caller setting c blocks n → DisposingFacts w caller setting c blocks n t (retires setting (link_in word))
     fresh out = ((ap (λ (x : ℕ). retiring setting.slot setting.batch_size x) link_is, out.0), out.1)
 
     starts : (mode : ResizeMode) → setting.mode ≡ mode
-        → cond (cond (is_incremental mode) borrowed false) ((w.hand (blocks.pair n) ≡ Parting caller) × StandsBefore w caller setting c blocks n t)
-        ((w.hand (blocks.pair n) ≡ Cutting caller) × StandsNowhere w caller setting c blocks n)
+        → cond (cond (is_incremental mode) borrowed false) ((w.hand (blocks.pair n) ≡ Parting caller) × LiesBefore w caller setting c blocks n t)
+        ((w.hand (blocks.pair n) ≡ Cutting caller) × LiesNowhere w caller setting c blocks n)
         → DisposingFacts w caller setting c blocks n t (start_of setting mode word)
     starts (Incremental chunk) mode_is out = by (has_mark word BORROWED) borrowed mark_is out
       where
         by : (mark b : Bool) → mark ≡ b
-            → cond b ((w.hand (blocks.pair n) ≡ Parting caller) × StandsBefore w caller setting c blocks n t)
-            ((w.hand (blocks.pair n) ≡ Cutting caller) × StandsNowhere w caller setting c blocks n)
+            → cond b ((w.hand (blocks.pair n) ≡ Parting caller) × LiesBefore w caller setting c blocks n t)
+            ((w.hand (blocks.pair n) ≡ Cutting caller) × LiesNowhere w caller setting c blocks n)
             → DisposingFacts w caller setting c blocks n t (if mark then at.Reads else retires setting (link_in word))
         by true true e out = (ap is_incremental mode_is, out.0, out.1)
         by true false e out = absurd (cc e)

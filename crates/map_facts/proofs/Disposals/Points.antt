@@ -14,9 +14,9 @@ use Rattle.map_rule.specs.Given.ResizeDeclared.dispose.Disposing.{Disposing}
 use Rattle.map_rule.specs.Given.ResizeDeclared.dispose.Disposing.TheVariants as at
 use Rattle.map_rule.specs.Chart.{Chart}
 use Rattle.map_rule.specs.Words.{Blocks}
-use Rattle.map_rule.specs.InWorld.{IsMapIn, Went, SparesPairs}
+use Rattle.map_rule.specs.InWorld.{IsMapIn, StepSpec, SparesPairs}
 use Rattle.map_facts.specs.FactsDisposes.{DisposingFacts, DisposeFacts}
-use Rattle.map_facts.specs.Told.{DisposeTold, IsRowOf}
+use Rattle.map_facts.specs.Told.{DisposeOutcome, IsRowOf}
 use Rattle.map_facts.specs.Measures.{IsBelow}
 use Rattle.map_facts.specs.MeasuresDisposes.{number_of_dispose}
 use Rattle.map_facts.proofs.Disposals.Reads.{Lowers, DisposeWent, may_reads, went_reads}
@@ -27,7 +27,7 @@ use Rattle.map_rule.proofs.World.WentStill.{went_still, spares_same}
 module _ {K V : Type 0} (same : K → K → Bool) (hash : K → ℕ) (setting : Setting) where
   -- what a step of a disposal tells: it makes no move
   abbrev pub DisposeTells : ℕ → World (Node K V) → Chart K → Dispose × Settled (Node K V) → World (Node K V) → Chart K → Blocks → Type 0
-  DisposeTells caller w c end w2 c2 blocks2 = SparesPairs w w2 × (c2 ≡ c) × DisposeTold w2 caller setting c2 blocks2 end
+  DisposeTells caller w c end w2 c2 blocks2 = SparesPairs w w2 × (c2 ≡ c) × DisposeOutcome w2 caller setting c2 blocks2 end
 
   module _ (w : World (Node K V)) (caller : ℕ) (c : Chart K) (blocks : Blocks) (map : IsMapIn same hash setting w c blocks) where
     module _ (d : Dispose) (f : DisposeFacts w caller setting c blocks d) where
@@ -50,23 +50,23 @@ module _ {K V : Type 0} (same : K → K → Bool) (hash : K → ℕ) (setting : 
       went_at (at.Defers defer) point none m2 end s = absurd (none tt)
       went_at at.Over point none m2 end s =
           went_still same hash setting caller w c blocks map m2 s.0
-          (λ w2 c2 blocks2. SparesPairs w w2 × (c2 ≡ c) × DisposeTold w2 caller setting c2 blocks2 end × Lowers same hash setting w caller c blocks map d f at.Over end c2 blocks2) (
+          (λ w2 c2 blocks2. SparesPairs w w2 × (c2 ≡ c) × DisposeOutcome w2 caller setting c2 blocks2 end × Lowers same hash setting w caller c blocks map d f at.Over end c2 blocks2) (
             spares_same w,
             refl,
-            subst (λ (x : Dispose × Settled (Node K V)). DisposeTold w caller setting c blocks x) (sym s.1) tt,
+            subst (λ (x : Dispose × Settled (Node K V)). DisposeOutcome w caller setting c blocks x) (sym s.1) tt,
             subst (λ (x : Dispose × Settled (Node K V)). Lowers same hash setting w caller c blocks map d f at.Over x c blocks) (sym s.1) (λ goes. absurd (cc goes)),
           )
 
       -- A step of it that is none of a row of the collector: if it goes on, its number is lower.
       pub went_dispose_lowers : (IsRowOf d.stands → ⊥) → (m2 : Mem (Node K V)) (end : Dispose × Settled (Node K V)) → Steps Took value_at w.memory (dispose_plan d) m2 end
-          → Went same hash setting caller w c blocks m2
-          (λ w2 c2 blocks2. SparesPairs w w2 × (c2 ≡ c) × DisposeTold w2 caller setting c2 blocks2 end
+          → StepSpec same hash setting caller w c blocks m2
+          (λ w2 c2 blocks2. SparesPairs w w2 × (c2 ≡ c) × DisposeOutcome w2 caller setting c2 blocks2 end
           × (end.1 ≡ Goes → IsBelow (number_of_dispose c2 blocks2 end.0) (number_of_dispose c blocks d)))
       went_dispose_lowers none m2 end s = went_at d.stands f.point none m2 end s
 
       pub went_dispose : (IsRowOf d.stands → ⊥) → (m2 : Mem (Node K V)) (end : Dispose × Settled (Node K V)) → Steps Took value_at w.memory (dispose_plan d) m2 end
-          → Went same hash setting caller w c blocks m2 (DisposeTells caller w c end)
+          → StepSpec same hash setting caller w c blocks m2 (DisposeTells caller w c end)
       went_dispose none m2 end s =
           went_as same hash setting caller w c blocks m2
-          (λ w2 c2 blocks2. SparesPairs w w2 × (c2 ≡ c) × DisposeTold w2 caller setting c2 blocks2 end × Lowers same hash setting w caller c blocks map d f d.stands end c2 blocks2) (DisposeTells caller w c end)
+          (λ w2 c2 blocks2. SparesPairs w w2 × (c2 ≡ c) × DisposeOutcome w2 caller setting c2 blocks2 end × Lowers same hash setting w caller c blocks map d f d.stands end c2 blocks2) (DisposeTells caller w c end)
           (λ w2 c2 blocks2 map2 moved same_blocks told. (told.0, told.1, told.2)) (went_dispose_lowers none m2 end s)

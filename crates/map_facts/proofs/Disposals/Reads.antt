@@ -22,11 +22,11 @@ use Rattle.papaya_raw.specs.Given.TablesDeclared.node.Node.{Node}
 use Rattle.papaya_raw.specs.Given.TablesDeclared.setting.Setting.{Setting}
 use Rattle.papaya_raw.specs.Given.TablesDeclared.table.Table.{Table}
 use Rattle.map_rule.specs.Chart.{Chart}
-use Rattle.map_facts.specs.FactsDisposes.{StandsBefore, StandsNowhere, DisposingFacts, DisposeFacts}
-use Rattle.map_rule.specs.InWorld.{IsMapIn, Went, SparesPairs}
+use Rattle.map_facts.specs.FactsDisposes.{LiesBefore, LiesNowhere, DisposingFacts, DisposeFacts}
+use Rattle.map_rule.specs.InWorld.{IsMapIn, StepSpec, SparesPairs}
 use Rattle.map_facts.specs.Measures.{IsBelow}
 use Rattle.map_facts.specs.MeasuresDisposes.{number_at_disposing, number_of_dispose}
-use Rattle.map_facts.specs.Told.{DisposeTold}
+use Rattle.map_facts.specs.Told.{DisposeOutcome}
 use Rattle.map_rule.specs.Words.{Blocks, root_word}
 use Rattle.map_rule.proofs.Words.LinksRead.{link_shown, link_table}
 use Rattle.map_rule.specs.Links.{IsLinkTo}
@@ -47,7 +47,7 @@ module _ {K V : Type 0} (same : K → K → Bool) (hash : K → ℕ) (setting : 
 
   abbrev pub DisposeWent : Disposing → Mem (Node K V) → Dispose × Settled (Node K V) → Type 0
   DisposeWent here m2 end =
-      Went same hash setting caller w c blocks m2 (λ w2 c2 blocks2. SparesPairs w w2 × (c2 ≡ c) × DisposeTold w2 caller setting c2 blocks2 end × Lowers here end c2 blocks2)
+      StepSpec same hash setting caller w c blocks m2 (λ w2 c2 blocks2. SparesPairs w w2 × (c2 ≡ c) × DisposeOutcome w2 caller setting c2 blocks2 end × Lowers here end c2 blocks2)
 
   -- a step that changed nothing, where it goes on from there
   pub told_still : (here : Disposing) (m2 : Mem (Node K V)) → m2 ≡ w.memory → (stands : Disposing) (end : Dispose × Settled (Node K V)) → end ≡ (standing d stands, Goes)
@@ -55,10 +55,10 @@ module _ {K V : Type 0} (same : K → K → Bool) (hash : K → ℕ) (setting : 
       → IsBelow (number_at_disposing c blocks d.table.turn stands) (number_at_disposing c blocks d.table.turn here) → DisposeWent here m2 end
   told_still here m2 is stands end ends point below =
       went_still same hash setting caller w c blocks map m2 is
-      (λ w2 c2 blocks2. SparesPairs w w2 × (c2 ≡ c) × DisposeTold w2 caller setting c2 blocks2 end × Lowers here end c2 blocks2) (
+      (λ w2 c2 blocks2. SparesPairs w w2 × (c2 ≡ c) × DisposeOutcome w2 caller setting c2 blocks2 end × Lowers here end c2 blocks2) (
         spares_same w,
         refl,
-        subst (λ (x : Dispose × Settled (Node K V)). DisposeTold w caller setting c blocks x) (sym ends) (facts_at stands point),
+        subst (λ (x : Dispose × Settled (Node K V)). DisposeOutcome w caller setting c blocks x) (sym ends) (facts_at stands point),
         subst (λ (x : Dispose × Settled (Node K V)). Lowers here x c blocks) (sym ends) (λ goes. below),
       )
 
@@ -85,7 +85,7 @@ module _ {K V : Type 0} (same : K → K → Bool) (hash : K → ℕ) (setting : 
       ))
 
   -- where no table of the map is before the pair's own, it stands nowhere
-  nowhere : StandsBefore w caller setting c blocks f.n f.t → f.t ≤ c.first → StandsNowhere w caller setting c blocks f.n
+  nowhere : LiesBefore w caller setting c blocks f.n f.t → f.t ≤ c.first → LiesNowhere w caller setting c blocks f.n
   nowhere before l u j phase borrowed far made stood = let low = before u j phase borrowed stood in absurd (omega (arith, low, l, far))
 
   pub went_reads : DisposingFacts w caller setting c blocks f.n f.t at.Reads → (m2 : Mem (Node K V)) (end : Dispose × Settled (Node K V))
@@ -111,11 +111,11 @@ module _ {K V : Type 0} (same : K → K → Bool) (hash : K → ℕ) (setting : 
           let own = turn_is in
           let none = nowhere point.2 (omega (arith, l, own, first)) in
           went_unlinked same hash setting w caller c blocks map f.n f.left.0 f.left.1 f.left.2 point.1 none m2 is
-          (λ w2 c2 blocks2. SparesPairs w w2 × (c2 ≡ c) × DisposeTold w2 caller setting c2 blocks2 end × Lowers at.Reads end c2 blocks2)
+          (λ w2 c2 blocks2. SparesPairs w w2 × (c2 ≡ c) × DisposeOutcome w2 caller setting c2 blocks2 end × Lowers at.Reads end c2 blocks2)
           (λ spares. (
             spares,
             refl,
-            subst (λ (x : Dispose × Settled (Node K V)). DisposeTold (with_effect (with_hand w (blocks.pair f.n) (Cutting caller)) (Unlinked (blocks.pair f.n))) caller setting c blocks x)
+            subst (λ (x : Dispose × Settled (Node K V)). DisposeOutcome (with_effect (with_hand w (blocks.pair f.n) (Cutting caller)) (Unlinked (blocks.pair f.n))) caller setting c blocks x)
                 (sym e.1)
                 (record {
                   setting_is = f.setting_is;

@@ -26,7 +26,7 @@ use Rattle.map_rule.specs.Rule.{IsLawful, ShutBefore}
 use Rattle.map_rule.specs.Words.{Blocks, root_word, next_word}
 use Rattle.map_rule.specs.Maps.{spot_of, IsClass, IsMap, IsTable, IsTrial, NoneBefore, IsAbsent}
 use Rattle.map_facts.specs.FactsLooks.{LookupFacts}
-use Rattle.map_facts.specs.Told.{LookupTold}
+use Rattle.map_facts.specs.Told.{LookupOutcome}
 use Rattle.map_facts.specs.MeasuresLooks.{LoadLeads, LookupLeads}
 use Rattle.map_rule.proofs.Words.TablesSeen.{link_seen, link_not_zero, table_is, next_there}
 use Rattle.map_rule.specs.Links.{LeadsTo}
@@ -43,7 +43,7 @@ module _ {K V : Type 0} (same : K → K → Bool) (hash : K → ℕ) (lawful : I
 
   -- what is told of a step from here
   abbrev Told : Looking → Lookup × Advance (Option ℕ) → Type 0
-  Told stands end = LookupTold same hash mode root keys code c blocks end × LookupLeads stands end
+  Told stands end = LookupOutcome same hash mode root keys code c blocks end × LookupLeads stands end
 
   -- a first try at the table with this turn may follow
   abbrev LeadsInto : Looking → ℕ → Type 0

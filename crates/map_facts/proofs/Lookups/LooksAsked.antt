@@ -11,7 +11,7 @@ use Rattle.map_rule.specs.Chart.{Chart}
 use Rattle.map_rule.specs.Words.{Blocks}
 use Rattle.map_rule.specs.Maps.{IsClass}
 use Rattle.map_facts.specs.FactsLooks.{Answers, LookingFacts, LookupFacts}
-use Rattle.map_facts.specs.Told.{LookupTold}
+use Rattle.map_facts.specs.Told.{LookupOutcome}
 
 module _ {K : Type 0} (same : K → K → Bool) (hash : K → ℕ) (mode : ResizeMode) (root : ℕ) (keys asked : K → Bool) (agree : (k : K) → asked k ≡ keys k) (code : ℕ) where
   pub class_asked : IsClass same hash keys code → IsClass same hash asked code
@@ -34,7 +34,7 @@ module _ {K : Type 0} (same : K → K → Bool) (hash : K → ℕ) (mode : Resiz
     pub lookup_asked : (l : Lookup) → LookupFacts same hash mode root keys code c blocks l → LookupFacts same hash mode root asked code c blocks l
     lookup_asked l f = record { root_is = f.root_is; mode_is = f.mode_is; hash_is = f.hash_is; point = looking_asked l.stands f.point }
 
-    pub told_asked : (end : Lookup × Advance (Option ℕ)) → LookupTold same hash mode root keys code c blocks end → LookupTold same hash mode root asked code c blocks end
+    pub told_asked : (end : Lookup × Advance (Option ℕ)) → LookupOutcome same hash mode root keys code c blocks end → LookupOutcome same hash mode root asked code c blocks end
     told_asked (l, progress.Goes) told = lookup_asked l told
     told_asked (l, progress.Waits) told = told
     told_asked (l, progress.Done found) told = answers_asked found told

@@ -14,7 +14,7 @@ use Rattle.map_rule.specs.Rule.{IsLawful}
 use Rattle.map_rule.specs.Words.{Blocks}
 use Rattle.map_rule.specs.Maps.{spot_at, spot_of, IsClass, IsMap}
 use Rattle.map_facts.specs.FactsLooks.{LookupFacts, LookingFacts}
-use Rattle.map_facts.specs.Told.{LookupTold}
+use Rattle.map_facts.specs.Told.{LookupOutcome}
 use Rattle.map_facts.specs.MeasuresLooks.{LookupLeads}
 use Rattle.map_facts.proofs.Lookups.Reads.{may_probes, sees_place}
 use Rattle.map_facts.proofs.Lookups.Probes.{went_probes}
@@ -26,7 +26,7 @@ module _ {K V : Type 0} (same : K → K → Bool) (hash : K → ℕ) (lawful : I
   Facts l = LookupFacts same hash mode root keys code c blocks l
 
   abbrev Told : Lookup × Advance (Option ℕ) → Type 0
-  Told end = LookupTold same hash mode root keys code c blocks end
+  Told end = LookupOutcome same hash mode root keys code c blocks end
 
   -- Each step of a lookup may be taken,
   may_at : (l : Lookup) → Facts l → (stands : Looking) → LookingFacts same hash mode root keys code c blocks stands → May Can Took value_at m (plan_at {K = K} {V = V} keys l stands)
@@ -52,9 +52,9 @@ module _ {K V : Type 0} (same : K → K → Bool) (hash : K → ℕ) (lawful : I
 
   -- with where it goes on
   pub went_lookup_leads : (l : Lookup) → LookupFacts same hash mode root keys code c blocks l → (m2 : Mem (Node K V)) (end : Lookup × Advance (Option ℕ))
-      → Steps Took value_at m (lookup_plan {K = K} {V = V} keys l) m2 end → (m2 ≡ m) × LookupTold same hash mode root keys code c blocks end × LookupLeads l.stands end
+      → Steps Took value_at m (lookup_plan {K = K} {V = V} keys l) m2 end → (m2 ≡ m) × LookupOutcome same hash mode root keys code c blocks end × LookupLeads l.stands end
   went_lookup_leads l facts m2 end s = went_at l facts l.stands facts.point refl m2 end s
 
   pub went_lookup : (l : Lookup) → LookupFacts same hash mode root keys code c blocks l → (m2 : Mem (Node K V)) (end : Lookup × Advance (Option ℕ))
-      → Steps Took value_at m (lookup_plan {K = K} {V = V} keys l) m2 end → (m2 ≡ m) × LookupTold same hash mode root keys code c blocks end
+      → Steps Took value_at m (lookup_plan {K = K} {V = V} keys l) m2 end → (m2 ≡ m) × LookupOutcome same hash mode root keys code c blocks end
   went_lookup l facts m2 end s = let r = went_lookup_leads l facts m2 end s in (r.0, r.1)

@@ -6,7 +6,7 @@ use Rattle.map_rule.specs.Given.SeizeWordsPlan.{Steps}
 use Rattle.papaya_raw.specs.Given.SeizeDeclared.advance.Advance.{Advance}
 use Rattle.papaya_raw.specs.Given.TablesChunks.{is_incremental}
 use Rattle.papaya_raw.specs.Given.TablesFinding.{finding}
-use Rattle.map_rule.specs.Given.ResizeLookup.{answered, going, beyond, passed, told_of, told, probes}
+use Rattle.map_rule.specs.Given.ResizeLookup.{answered, going, beyond, passed, after_finding, told, probes}
 use Rattle.papaya_raw.specs.Given.TablesTrials.{next_trial}
 use Rattle.papaya_raw.specs.Given.TablesDeclared.node.Node.{Node}
 use Rattle.papaya_raw.specs.Given.TablesDeclared.resize_mode.ResizeMode.{ResizeMode}
@@ -23,7 +23,7 @@ use Rattle.map_rule.specs.Rule.{IsLawful, Rule}
 use Rattle.map_rule.specs.Words.{Blocks, place_word}
 use Rattle.map_rule.specs.Maps.{spot_at, spot_of, IsClass, IsTrial, NoneBefore}
 use Rattle.map_facts.specs.FactsLooks.{LookupFacts, LookingFacts}
-use Rattle.map_facts.specs.Told.{LookupTold}
+use Rattle.map_facts.specs.Told.{LookupOutcome}
 use Rattle.map_facts.specs.MeasuresLooks.{LookupLeads}
 use Rattle.map_rule.proofs.Words.PlacesShown.{shown_byte}
 use Rattle.map_facts.proofs.Lookups.Reads.{SeesPlace, probes_tell}
@@ -39,7 +39,7 @@ module _ {K V : Type 0} (same : K → K → Bool) (hash : K → ℕ) (lawful : I
   Facts l = LookupFacts same hash mode root keys code c blocks l
 
   abbrev Told : Lookup × Advance (Option ℕ) → Type 0
-  Told end = LookupTold same hash mode root keys code c blocks end
+  Told end = LookupOutcome same hash mode root keys code c blocks end
 
   -- it goes on elsewhere
   went_on : (l : Lookup) → Facts l → (stands : Looking) → LookingFacts same hash mode root keys code c blocks stands → Told (going l stands)
@@ -88,7 +88,7 @@ module _ {K V : Type 0} (same : K → K → Bool) (hash : K → ℕ) (lawful : I
     went_passed further None is = went_beyond (subst (λ x. NoneBefore same hash (is_incremental mode) c keys t (suc x)) is further)
 
     -- by what was found
-    went_told : (f : Finding) → Says keys c.key (c.place t i) (is_incremental mode) Looks f → ToldHere (told_of l trial (place_word hash c blocks (c.place t i)) f)
+    went_told : (f : Finding) → Says keys c.key (c.place t i) (is_incremental mode) Looks f → ToldHere (after_finding l trial (place_word hash c blocks (c.place t i)) f)
     went_told is.Free says = (absent_free same hash lawful keys code class c (is_incremental mode) rule t j Looks tries.most inside none says, tt)
     went_told is.Passed says =
         went_passed (none_further same hash lawful keys code class c t j (is_incremental mode) none sees.has_key says) (next_trial trial)
@@ -114,7 +114,7 @@ module _ {K V : Type 0} (same : K → K → Bool) (hash : K → ℕ) (lawful : I
     -- by whether its pair is one of the keys
     went_same : (same_key : Bool) → Tells keys c.key (c.place t i) same_key → ToldHere (told l trial (place_word hash c blocks (c.place t i)) same_key)
     went_same same_key tells =
-        subst (λ x. ToldHere (told_of l trial (place_word hash c blocks (c.place t i)) (finding x Looks (place_word hash c blocks (c.place t i)) same_key))) (sym facts.mode_is)
+        subst (λ x. ToldHere (after_finding l trial (place_word hash c blocks (c.place t i)) (finding x Looks (place_word hash c blocks (c.place t i)) same_key))) (sym facts.mode_is)
         (went_told (finding mode Looks (place_word hash c blocks (c.place t i)) same_key)
         (says keys c.key blocks.pair _ mode Looks (c.place t i) same_key sees.has_block
         (shown_byte hash fits c.key (c.place t i)) sees.has_key tells))

@@ -20,9 +20,9 @@ use Rattle.map_rule.specs.Chart.{Chart}
 use Rattle.map_rule.specs.Rule.{IsLawful}
 use Rattle.map_rule.specs.Words.{Blocks}
 use Rattle.map_rule.specs.Maps.{spot_of}
-use Rattle.map_rule.specs.InWorld.{IsMapIn, Went, SparesPairs}
+use Rattle.map_rule.specs.InWorld.{IsMapIn, StepSpec, SparesPairs}
 use Rattle.map_facts.specs.FactsTables.{IsLinkOf, MakingFacts, NewTableFacts}
-use Rattle.map_facts.specs.Told.{NewTableTold, OnlyLinks, LinksLast}
+use Rattle.map_facts.specs.Told.{NewTableOutcome, OnlyLinks, LinksLast}
 use Rattle.map_facts.specs.Measures.{IsBelow}
 use Rattle.map_facts.specs.MeasuresTables.{number_of_new_table}
 use Rattle.map_rule.proofs.World.WentTold.{went_as}
@@ -69,10 +69,10 @@ module _ {K V : Type 0} (same : K → K → Bool) (hash : K → ℕ) (w : World 
           went_drops same hash w caller setting c blocks map n table _ own found u made known found_is link turn at_turn m2 end s
       went_at lawful (at.Over table) facts m2 end s =
           told_still same hash w caller setting c blocks link turn map m2 s.0 end
-          (subst (λ (e : NewTable × Advance Table). NewTableTold w caller setting c blocks link turn e) (sym s.1) facts)
+          (subst (λ (e : NewTable × Advance Table). NewTableOutcome w caller setting c blocks link turn e) (sym s.1) facts)
       went_at lawful (at.Refused fault) facts m2 end s =
           told_still same hash w caller setting c blocks link turn map m2 s.0 end
-          (subst (λ (e : NewTable × Advance Table). NewTableTold w caller setting c blocks link turn e) (sym s.1) tt)
+          (subst (λ (e : NewTable × Advance Table). NewTableOutcome w caller setting c blocks link turn e) (sym s.1) tt)
 
     pub may_new_table : (n : NewTable) → NewTableFacts w caller setting c blocks link turn n → May Can Took value_at w.memory (new_table_plan n)
     may_new_table n facts = may_at n facts.setting_is facts.link_is facts.link_of n.stands facts.point
@@ -80,20 +80,20 @@ module _ {K V : Type 0} (same : K → K → Bool) (hash : K → ℕ) (w : World 
     -- each step that goes on is one of those left, and a table is linked by a last step
     pub went_new_table_lowers : IsLawful same (spot_of hash) → (n : NewTable) → NewTableFacts w caller setting c blocks link turn n → (m2 : Mem (Node K V)) (end : NewTable × Advance Table)
         → Steps Took value_at w.memory (new_table_plan n) m2 end
-        → Went same hash setting caller w c blocks m2
-        (λ w2 c2 blocks2. SparesPairs w w2 × LinksLast hash setting.mode turn c c2 end × NewTableTold w2 caller setting c2 blocks2 link turn end × Lowers n end)
+        → StepSpec same hash setting caller w c blocks m2
+        (λ w2 c2 blocks2. SparesPairs w w2 × LinksLast hash setting.mode turn c c2 end × NewTableOutcome w2 caller setting c2 blocks2 link turn end × Lowers n end)
     went_new_table_lowers lawful n facts m2 end s =
         went_as same hash setting caller w c blocks m2 (NewTableTells same hash w caller setting c blocks link turn end)
-        (λ w2 c2 blocks2. SparesPairs w w2 × LinksLast hash setting.mode turn c c2 end × NewTableTold w2 caller setting c2 blocks2 link turn end × Lowers n end)
+        (λ w2 c2 blocks2. SparesPairs w w2 × LinksLast hash setting.mode turn c c2 end × NewTableOutcome w2 caller setting c2 blocks2 link turn end × Lowers n end)
         (λ w2 c2 blocks2 map2 moved same_blocks told. (told.0, told.1, told.2, new_table_lowers w.memory n m2 end s))
         (went_at n facts.setting_is facts.link_is facts.link_of lawful n.stands facts.point m2 end s)
 
     pub went_new_table : IsLawful same (spot_of hash) → (n : NewTable) → NewTableFacts w caller setting c blocks link turn n → (m2 : Mem (Node K V)) (end : NewTable × Advance Table)
         → Steps Took value_at w.memory (new_table_plan n) m2 end
-        → Went same hash setting caller w c blocks m2 (λ w2 c2 blocks2. SparesPairs w w2 × OnlyLinks hash setting.mode c c2 × NewTableTold w2 caller setting c2 blocks2 link turn end)
+        → StepSpec same hash setting caller w c blocks m2 (λ w2 c2 blocks2. SparesPairs w w2 × OnlyLinks hash setting.mode c c2 × NewTableOutcome w2 caller setting c2 blocks2 link turn end)
     went_new_table lawful n facts m2 end s =
         went_as same hash setting caller w c blocks m2
-        (λ w2 c2 blocks2. SparesPairs w w2 × LinksLast hash setting.mode turn c c2 end × NewTableTold w2 caller setting c2 blocks2 link turn end × Lowers n end)
-        (λ w2 c2 blocks2. SparesPairs w w2 × OnlyLinks hash setting.mode c c2 × NewTableTold w2 caller setting c2 blocks2 link turn end)
+        (λ w2 c2 blocks2. SparesPairs w w2 × LinksLast hash setting.mode turn c c2 end × NewTableOutcome w2 caller setting c2 blocks2 link turn end × Lowers n end)
+        (λ w2 c2 blocks2. SparesPairs w w2 × OnlyLinks hash setting.mode c c2 × NewTableOutcome w2 caller setting c2 blocks2 link turn end)
         (λ w2 c2 blocks2 map2 moved same_blocks told. (told.0, only_links hash setting.mode turn c c2 end told.1, told.2))
         (went_new_table_lowers lawful n facts m2 end s)

@@ -18,7 +18,7 @@ use Rattle.map_rule.specs.Given.ResizeDeclared.new_table.NewTable.{NewTable}
 use Rattle.map_rule.specs.Chart.{Chart}
 use Rattle.map_rule.specs.Words.{Blocks}
 use Rattle.map_rule.specs.Maps.{IsTable}
-use Rattle.map_rule.specs.InWorld.{IsMapIn, Went, SparesPairs}
+use Rattle.map_rule.specs.InWorld.{IsMapIn, StepSpec, SparesPairs}
 use Rattle.map_facts.specs.FactsTables.{IsOwnTable, StandsAs}
 use Rattle.map_rule.proofs.Words.TablesSeen.{link_seen, table_is}
 use Rattle.map_rule.proofs.World.WentMade.{world_dropped, dropped_in, went_dropped}
@@ -57,7 +57,7 @@ module _ {K V : Type 0} (same : K → K → Bool) (hash : K → ℕ) (w : World 
   pub drops_tell : (Told : World (Node K V) → Chart K → Blocks → NewTable × Advance Table → Type 0)
       → ((w2 : World (Node K V)) → IsMapIn same hash setting w2 c blocks → SparesPairs w w2 → (found_one : Table) → IsTable c blocks found_one u → Told w2 c blocks (done n found_one))
       → (m2 : Mem (Node K V)) (end : NewTable × Advance Table) → Steps Took value_at w.memory (drops n table found) m2 end
-      → Went same hash setting caller w c blocks m2 (λ w2 c2 blocks2. Told w2 c2 blocks2 end)
+      → StepSpec same hash setting caller w c blocks m2 (λ w2 c2 blocks2. Told w2 c2 blocks2 end)
   drops_tell Told tells m2 end s =
       let d = taken w.memory (λ out. other n found) (table.link / 2048) m2 end s in
       let ends : Ends (value_at left.memory) (other n found) end = subst (λ (b : ℕ). Ends (value_at (with_block w.memory b None)) (other n found) end) block_is d.3 in

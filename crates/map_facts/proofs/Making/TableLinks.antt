@@ -26,11 +26,11 @@ use Rattle.map_rule.specs.Given.ResizeDeclared.new_table.Making.TheVariants as a
 use Rattle.map_rule.specs.Chart.{put, Chart}
 use Rattle.map_rule.specs.Rule.{IsLawful, Rule}
 use Rattle.map_rule.specs.Moves.{Links, after, Allowed}
-use Rattle.map_rule.specs.Words.{Blocks, Shows}
+use Rattle.map_rule.specs.Words.{Blocks, Represents}
 use Rattle.map_rule.specs.Maps.{spot_of, IsTable}
 use Rattle.map_rule.specs.InWorld.{InFootprint, IsMapIn, SparesPairs}
 use Rattle.map_facts.specs.FactsTables.{IsPlanned, IsOwnTable, IsLinkOf, StandsAs, IsMadeFor, first_status}
-use Rattle.map_facts.specs.Told.{NewTableTold}
+use Rattle.map_facts.specs.Told.{NewTableOutcome}
 use Rattle.map_rule.proofs.World.Hands.{Hands, hands_of, hands_linked, own_outside, at_cases}
 use Rattle.map_rule.proofs.World.HandsTables.{same_blocks_linked, later_linked, table_linked_is, hands_table}
 use Rattle.map_rule.proofs.World.Linked.{IsNewTable, with_table_block}
@@ -117,7 +117,7 @@ module _ {K V : Type 0} (same : K → K → Bool) (hash : K → ℕ) (w : World 
   may_links = may_exchange w.memory (linked n table) n.link 0 table.link (subst (λ (l : At). IsSome (word_at w.memory l)) (sym link_is) there) (λ x is. tt) (λ x is. tt)
 
   -- another table was there
-  found_told : (found : ℕ) → word_at w.memory link ≡ Some found → found ≢ 0 → NewTableTold w caller setting c blocks link turn (goes n (at.Drops table found))
+  found_told : (found : ℕ) → word_at w.memory link ≡ Some found → found ≢ 0 → NewTableOutcome w caller setting c blocks link turn (goes n (at.Drops table found))
   found_told found read some = goes_on same hash w caller setting c blocks link turn map n setting_is link_is of w (at.Drops table found) (at_turn (stands.leads found read))
     where
       at_turn : (u : ℕ) × StandsAs setting c link turn u × LeadsTo c blocks found u
@@ -166,11 +166,11 @@ module _ {K V : Type 0} (same : K → K → Bool) (hash : K → ℕ) (w : World 
       apart = (own_outside same hash setting w c blocks own.block caller own.hand hands).tables;
     }
 
-    shown : Shows hash written c2 blocks2 setting.root
-    shown = elim of as (λ _. Shows hash written c2 blocks2 setting.root) [
-      | inl root ↦ subst (λ (l : At). Shows hash (with_word w.memory l (own.block * 2048)) c2 blocks2 setting.root) (sym root.0)
+    shown : Represents hash written c2 blocks2 setting.root
+    shown = elim of as (λ _. Represents hash written c2 blocks2 setting.root) [
+      | inl root ↦ subst (λ (l : At). Represents hash (with_word w.memory l (own.block * 2048)) c2 blocks2 setting.root) (sym root.0)
           (first_table_linked hash same (spot_of hash) (is_incremental setting.mode) w.memory c blocks setting.root own.block table.len table.limit map.map.shows map.map.rule.common new (sym last ∙ root.1))
-      | inr word ↦ subst (λ (l : At). Shows hash (with_word w.memory l (own.block * 2048)) c2 blocks2 setting.root) (sym word.1)
+      | inr word ↦ subst (λ (l : At). Represents hash (with_word w.memory l (own.block * 2048)) c2 blocks2 setting.root) (sym word.1)
           (table_linked hash same (spot_of hash) (is_incremental setting.mode) w.memory c blocks setting.root own.block table.len table.limit map.map.shows map.map.rule.common new word.0 (sym last ∙ word.2))
     ]
 
@@ -247,7 +247,7 @@ module _ {K V : Type 0} (same : K → K → Bool) (hash : K → ℕ) (w : World 
         (NewTableTells same hash w caller setting c blocks link turn end) (
           spared,
           inr (last, table, ap (λ (e : NewTable × Advance Table). e.1) is, refl),
-          subst (λ (e : NewTable × Advance Table). NewTableTold w2 caller setting c2 blocks2 link turn e) (sym is) stands_new,
+          subst (λ (e : NewTable × Advance Table). NewTableOutcome w2 caller setting c2 blocks2 link turn e) (sym is) stands_new,
         )
 
   pub went_links : IsLawful same (spot_of hash) → (m2 : Mem (Node K V)) (end : NewTable × Advance Table) → Steps Took value_at w.memory (links n table) m2 end
@@ -258,6 +258,6 @@ module _ {K V : Type 0} (same : K → K → Bool) (hash : K → ℕ) (w : World 
             let wrote : m2 ≡ with_word w.memory link (own.block * 2048) = d.2 ∙ ap (λ l. with_word w.memory l table.link) link_is ∙ ap (λ x. with_word w.memory link x) own.link in
             subst (λ (m : Mem (Node K V)). NewTableWent same hash w caller setting c blocks link turn m end) (sym wrote) (went_linked lawful read end d.3))
         | inr d ↦ told_still same hash w caller setting c blocks link turn map m2 d.2 end
-            (subst (λ (e : NewTable × Advance Table). NewTableTold w caller setting c blocks link turn e) (sym d.3)
+            (subst (λ (e : NewTable × Advance Table). NewTableOutcome w caller setting c blocks link turn e) (sym d.3)
             (found_told d.0 (ap (word_at w.memory) (sym link_is) ∙ d.1.0) d.1.1))
       ]

@@ -32,9 +32,9 @@ use Rattle.map_rule.specs.Given.ResizeDeclared.new_table.Making.TheVariants as a
 use Rattle.map_rule.specs.Chart.{Chart}
 use Rattle.map_rule.specs.Words.{Blocks}
 use Rattle.map_rule.specs.Maps.{IsTable}
-use Rattle.map_rule.specs.InWorld.{IsMapIn, Went, SparesPairs}
+use Rattle.map_rule.specs.InWorld.{IsMapIn, StepSpec, SparesPairs}
 use Rattle.map_facts.specs.FactsTables.{SumFacts, IsPlanned, IsOwnTable, IsLinkOf, MakingFacts, NewTableFacts, first_status}
-use Rattle.map_facts.specs.Told.{SumTold, NewTableTold, LinksLast}
+use Rattle.map_facts.specs.Told.{SumOutcome, NewTableOutcome, LinksLast}
 use Rattle.map_rule.proofs.World.Framed.{shows_framed}
 use Rattle.map_rule.proofs.World.FramedSteps.{frames_written}
 use Rattle.map_rule.proofs.World.Hands.{Hands, hands_of, own_outside}
@@ -53,14 +53,14 @@ use Rattle.map_rule.proofs.Given.General.{some_is as is_some_of}
 module _ {K V : Type 0} (same : K → K → Bool) (hash : K → ℕ) (w : World (Node K V)) (caller : ℕ) (setting : Setting) (c : Chart K) (blocks : Blocks) (link : At) (turn : ℕ) where
   -- what each step of a making tells
   abbrev pub NewTableTells : NewTable × Advance Table → World (Node K V) → Chart K → Blocks → Type 0
-  NewTableTells end w2 c2 blocks2 = SparesPairs w w2 × LinksLast hash setting.mode turn c c2 end × NewTableTold w2 caller setting c2 blocks2 link turn end
+  NewTableTells end w2 c2 blocks2 = SparesPairs w w2 × LinksLast hash setting.mode turn c c2 end × NewTableOutcome w2 caller setting c2 blocks2 link turn end
 
   abbrev pub NewTableWent : Mem (Node K V) → NewTable × Advance Table → Type 0
-  NewTableWent m2 end = Went same hash setting caller w c blocks m2 (NewTableTells end)
+  NewTableWent m2 end = StepSpec same hash setting caller w c blocks m2 (NewTableTells end)
 
   module _ (map : IsMapIn same hash setting w c blocks) where
     -- nothing changed
-    pub told_still : (m2 : Mem (Node K V)) → m2 ≡ w.memory → (end : NewTable × Advance Table) → NewTableTold w caller setting c blocks link turn end → NewTableWent m2 end
+    pub told_still : (m2 : Mem (Node K V)) → m2 ≡ w.memory → (end : NewTable × Advance Table) → NewTableOutcome w caller setting c blocks link turn end → NewTableWent m2 end
     told_still m2 is end told = went_still same hash setting caller w c blocks map m2 is (NewTableTells end) (spares_same w, inl refl, told)
 
     module _ (n : NewTable) (setting_is : n.setting ≡ setting) (link_is : n.link ≡ link) (of : IsLinkOf setting c blocks link turn) where
@@ -76,7 +76,7 @@ module _ {K V : Type 0} (same : K → K → Bool) (hash : K → ℕ) (w : World 
         len_is : IsTableLen before.len
         len_is = subst IsTableLen (sym (ap (λ (x : Table). x.len) entered.1.is)) (map.map.shows.sized entered.0 entered.1.made)
 
-        counted_told : (end : Sum × Advance ℕ) → SumTold setting end → NewTableTold w caller setting c blocks link turn (counted n before reason end)
+        counted_told : (end : Sum × Advance ℕ) → SumOutcome setting end → NewTableOutcome w caller setting c blocks link turn (counted n before reason end)
         counted_told (sum2, progress.Goes) told = goes_on w (at.Sums before reason sum2) (entered, told)
         counted_told (sum2, progress.Waits) told = absurd told
         counted_told (sum2, progress.Done count) told = goes_on w (making_of reason before (next_len reason before.len count n.setting.initial))
@@ -90,7 +90,7 @@ module _ {K V : Type 0} (same : K → K → Bool) (hash : K → ℕ) (w : World 
         went_sums m2 end s =
             let b = steps_back (counted n before reason) w.memory m2 (sum_plan sum) end s in
             let t = told_sum setting w.memory (counter_of same hash setting w c blocks map) sum facts m2 b.0 b.1 in
-            told_still m2 t.0 end (subst (λ (e : NewTable × Advance Table). NewTableTold w caller setting c blocks link turn e) (sym b.2) (counted_told b.0 t.1))
+            told_still m2 t.0 end (subst (λ (e : NewTable × Advance Table). NewTableOutcome w caller setting c blocks link turn e) (sym b.2) (counted_told b.0 t.1))
 
       -- the table is made, or memory was refused
       module _ (table : Table) (none : table.link ≡ 0) (planned : IsPlanned table turn) where
@@ -120,12 +120,12 @@ module _ {K V : Type 0} (same : K → K → Bool) (hash : K → ℕ) (w : World 
                   (NewTableTells end) (
                     spares_made w caller (node.Table table.len table.limit table.turn) ((table.len + PLACES) % 2 ^ 64) d.0 d.1.0,
                     inl refl,
-                    subst (λ (e : NewTable × Advance Table). NewTableTold v caller setting c blocks link turn e) (sym d.3)
+                    subst (λ (e : NewTable × Advance Table). NewTableOutcome v caller setting c blocks link turn e) (sym d.3)
                         (goes_on v (after_making n.link (with_block table d.0))
                         (subst (λ (x : At). MakingFacts v caller setting c blocks link turn (after_making x (with_block table d.0))) (sym link_is)
                         (made_facts v d.0 (own_made w caller table most d.0 d.1.0 d.1.1) of))),
                   ))
-              | inr d ↦ told_still m2 d.2 end (subst (λ (e : NewTable × Advance Table). NewTableTold w caller setting c blocks link turn e) (sym d.3) tt)
+              | inr d ↦ told_still m2 d.2 end (subst (λ (e : NewTable × Advance Table). NewTableOutcome w caller setting c blocks link turn e) (sym d.3) tt)
             ]
 
       -- a first table is marked as promoted
@@ -171,7 +171,7 @@ module _ {K V : Type 0} (same : K → K → Bool) (hash : K → ℕ) (w : World 
             (NewTableTells end) (
               spares_written w (Word own.block STATUS) PROMOTED (is_some_of _ _ own.status_is),
               inl refl,
-              subst (λ (e : NewTable × Advance Table). NewTableTold promoted caller setting c blocks link turn e) (sym d.1)
+              subst (λ (e : NewTable × Advance Table). NewTableOutcome promoted caller setting c blocks link turn e) (sym d.1)
                   (goes_on promoted (at.Links table)
                   (subst (λ (l : At). IsOwnTable promoted caller table (first_status l)) (sym root) (own_marked w caller table PENDING PROMOTED own), planned)),
             ))

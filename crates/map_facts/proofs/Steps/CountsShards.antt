@@ -13,7 +13,7 @@ use Rattle.papaya_raw.specs.Given.TablesDeclared.node.Node.TheVariants as node
 use Rattle.papaya_raw.specs.Given.TablesDeclared.setting.Setting.{Setting}
 use Rattle.map_rule.specs.Chart.{Chart}
 use Rattle.map_rule.specs.Words.{Blocks}
-use Rattle.map_rule.specs.InWorld.{InFootprint, IsMapIn, Went}
+use Rattle.map_rule.specs.InWorld.{InFootprint, IsMapIn, StepSpec}
 use Rattle.map_rule.proofs.World.Framed.{shows_framed}
 use Rattle.map_rule.proofs.World.FramedSteps.{IsBeside, frames_written}
 use Rattle.map_rule.proofs.World.Hands.{hands_of}
@@ -59,9 +59,9 @@ module _ {K V : Type 0} (same : K → K → Bool) (hash : K → ℕ) (caller : �
 
   pub went_counted : (change found : ℕ) → word_at w.memory (Word own.counter (bit_and own.slot own.mask)) ≡ Some found → (m2 : Mem (Node K V))
       → m2 ≡ with_word w.memory (Word own.counter (bit_and own.slot own.mask)) ((found + change) % 2 ^ 64)
-      → (Told : World (Node K V) → Chart K → Blocks → Type 0) → ((m : Mem (Node K V)) → Told (record w { memory = m }) c blocks) → Went same hash setting caller w c blocks m2 Told
+      → (Told : World (Node K V) → Chart K → Blocks → Type 0) → ((m : Mem (Node K V)) → Told (record w { memory = m }) c blocks) → StepSpec same hash setting caller w c blocks m2 Told
   went_counted change found is m2 after_is Told told =
-      subst (λ (n : Mem (Node K V)). Went same hash setting caller w c blocks n Told) (sym after_is)
+      subst (λ (n : Mem (Node K V)). StepSpec same hash setting caller w c blocks n Told) (sym after_is)
       (went_after same hash setting caller w c blocks map (Add (Word own.counter (bit_and own.slot own.mask)) change) (Found found) shard_own
       (with_word w.memory (Word own.counter (bit_and own.slot own.mask)) ((found + change) % 2 ^ 64)) (is, refl) [] tt tt
       (record w { memory = with_word w.memory (Word own.counter (bit_and own.slot own.mask)) ((found + change) % 2 ^ 64) }) refl refl

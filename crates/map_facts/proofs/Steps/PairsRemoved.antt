@@ -15,9 +15,9 @@ use Rattle.map_rule.proofs.Given.SeizeRuleRows.Others.{with_here}
 use Rattle.map_rule.specs.Chart.{Phase, Still, Place, Tombstone, Holds, Chart, put, put_in}
 use Rattle.map_rule.specs.Rule.{IsLawful, is_of}
 use Rattle.map_rule.specs.Moves.{Removes, after, Allowed, MayChange, without}
-use Rattle.map_rule.specs.Words.{Blocks, byte_of, place_word, Shows}
+use Rattle.map_rule.specs.Words.{Blocks, byte_of, place_word, Represents}
 use Rattle.map_rule.specs.Maps.{spot_of}
-use Rattle.map_rule.specs.InWorld.{IsMapIn, Went}
+use Rattle.map_rule.specs.InWorld.{IsMapIn, StepSpec}
 use Rattle.map_rule.proofs.Words.PlaceWordsRead.{word-same_pair}
 use Rattle.map_rule.proofs.Words.PlacesShown.{byte_of-few, shown_byte, shown_apart, are_stored}
 use Rattle.map_rule.proofs.Words.WritesPlaces.{place_written}
@@ -62,7 +62,7 @@ module _ {K V : Type 0} (same : K → K → Bool) (hash : K → ℕ) (caller : �
     was : n < c.stored
     was = (map.map.rule.common.keyed t i n Still borrowed stands).0
 
-    shown : Shows hash (with_word w.memory (Word (blocks.table t) (i + PLACES)) TOMBSTONE) (after (spot_of hash) (is_incremental setting.mode) (Removes t i) c) blocks setting.root
+    shown : Represents hash (with_word w.memory (Word (blocks.table t) (i + PLACES)) TOMBSTONE) (after (spot_of hash) (is_incremental setting.mode) (Removes t i) c) blocks setting.root
     shown =
         shows_beside hash (with_word w.memory (Word (blocks.table t) (i + PLACES)) TOMBSTONE) (record c { place = put_in c.place t i (Tombstone false) }) blocks setting.root c.share
         (without (spot_of hash) bit (c.place t i) c.current)
@@ -96,7 +96,7 @@ module _ {K V : Type 0} (same : K → K → Bool) (hash : K → ℕ) (caller : �
         (Told : World (Node K V) → Chart K → Blocks → Type 0)
         (told : (w2 : World (Node K V)) → IsTakenOut w2 caller setting (after (spot_of hash) (is_incremental setting.mode) (Removes t i) c) blocks n t borrowed
         → Told w2 (after (spot_of hash) (is_incremental setting.mode) (Removes t i) c) blocks) where
-      by_older : (q : Bool) → cond bit borrowed false ≡ q → Went same hash setting caller w c blocks m2 Told
+      by_older : (q : Bool) → cond bit borrowed false ≡ q → StepSpec same hash setting caller w c blocks m2 Told
       by_older true e =
           places.went_changed same hash caller setting w c blocks map t i made seen inside at at_is lawful word TOMBSTONE found is m2 after_is
           (with_at w.hand (blocks.pair n) (Parting caller)) w.log
@@ -129,5 +129,5 @@ module _ {K V : Type 0} (same : K → K → Bool) (hash : K → ℕ) (caller : �
           nowhere : (u j : ℕ) (phase : Phase) (lent : Bool) → c2.first ≤ u → u < c2.past → c2.place u j ≢ Holds n phase lent
           nowhere = subst (λ (x : Bool). cond x Older Nowhere) e stands_out
 
-      pub went_removed : Went same hash setting caller w c blocks m2 Told
+      pub went_removed : StepSpec same hash setting caller w c blocks m2 Told
       went_removed = by_older (cond (is_incremental setting.mode) borrowed false) refl

@@ -15,9 +15,9 @@ use Rattle.papaya_raw.specs.Given.TablesDeclared.table_words.TheConstants.{PLACE
 use Rattle.map_rule.specs.Chart.{Chart}
 use Rattle.map_rule.specs.Rule.{IsLawful}
 use Rattle.map_rule.specs.Moves.{Move, after, Allowed}
-use Rattle.map_rule.specs.Words.{Blocks, place_word, Shows}
+use Rattle.map_rule.specs.Words.{Blocks, place_word, Represents}
 use Rattle.map_rule.specs.Maps.{spot_of}
-use Rattle.map_rule.specs.InWorld.{InFootprint, IsMapIn, AllUsers, AllIts, SameBlocks, Went, KeepsBlocks}
+use Rattle.map_rule.specs.InWorld.{InFootprint, IsMapIn, AllUsers, AllIts, SameBlocks, StepSpec, PreservesBlocks}
 use Rattle.map_rule.proofs.World.Hands.{Hands}
 use Rattle.map_rule.proofs.World.Footprints.{framed_written, aside_of}
 use Rattle.map_rule.proofs.Words.LinksOwn.{OutsStay, OutsAreKnown}
@@ -49,20 +49,20 @@ module _ {K V : Type 0} (same : K → K → Bool) (hash : K → ℕ) (caller : �
   pub went_changed : IsLawful same (spot_of hash)
       → (word new found : ℕ) → (word_at w.memory at ≡ Some found) × (found ≡ word) → (m2 : Mem (Node K V)) → m2 ≡ with_word w.memory at new
       → (hand : ℕ → Hand) (log : List Effect)
-      → ((m : Mem (Node K V)) (i : ℕ) → i ≢ caller → KeepsBlocks i m w.hand m hand) → OutsStay w.memory w.hand hand → (events : List (Event (Node K V))) → AllUsers events → AllIts setting caller w c blocks events
+      → ((m : Mem (Node K V)) (i : ℕ) → i ≢ caller → PreservesBlocks i m w.hand m hand) → OutsStay w.memory w.hand hand → (events : List (Event (Node K V))) → AllUsers events → AllIts setting caller w c blocks events
       → Runs deferred_word setting.batch_size events (record w { memory = with_word w.memory at new })
       (record w { memory = with_word w.memory at new; hand = hand; log = log })
       → (move : Move K) → IsItsMove caller blocks move → Allowed same (spot_of hash) (is_incremental setting.mode) move c → (after (spot_of hash) (is_incremental setting.mode) move c).past ≡ c.past → (blocks2 : Blocks)
       → ((n : ℕ) → c.stored ≤ n → n < (after (spot_of hash) (is_incremental setting.mode) move c).stored → w.hand (blocks2.pair n) ≡ Making caller)
       → OutsAreKnown caller w.hand hand (after (spot_of hash) (is_incremental setting.mode) move c) blocks2
-      → Shows hash (with_word w.memory (Word (blocks.table t) (i + PLACES)) new) (after (spot_of hash) (is_incremental setting.mode) move c) blocks2 setting.root
+      → Represents hash (with_word w.memory (Word (blocks.table t) (i + PLACES)) new) (after (spot_of hash) (is_incremental setting.mode) move c) blocks2 setting.root
       → IsLater (after (spot_of hash) (is_incremental setting.mode) move c) blocks2
       → Hands same hash setting (record w { hand = hand; log = log }) (after (spot_of hash) (is_incremental setting.mode) move c) blocks2
       → SameBlocks c blocks blocks2 → (Told : World (Node K V) → Chart K → Blocks → Type 0)
       → Told (record w { memory = with_word w.memory at new; hand = hand; log = log }) (after (spot_of hash) (is_incremental setting.mode) move c) blocks2
-      → Went same hash setting caller w c blocks m2 Told
+      → StepSpec same hash setting caller w c blocks m2 Told
   went_changed lawful word new found is m2 after_is hand log others outs events users its runs move by allowed past blocks2 fresh come_out shows later hands same_blocks Told told =
-      subst (λ (n : Mem (Node K V)). Went same hash setting caller w c blocks n Told) (sym after_is)
+      subst (λ (n : Mem (Node K V)). StepSpec same hash setting caller w c blocks n Told) (sym after_is)
       (went_after same hash setting caller w c blocks map (Exchange at word new) (Exchanged (Ok found)) word_own
       (with_word w.memory at new) (is, refl) events users its
       (record w { memory = with_word w.memory at new; hand = hand; log = log }) runs refl (framed_written setting caller w c blocks at new word_some word_mine)
@@ -75,6 +75,6 @@ module _ {K V : Type 0} (same : K → K → Bool) (hash : K → ℕ) (caller : �
       map2 =
           map_in same hash setting (record w { memory = with_word w.memory at new; hand = hand; log = log }) (after (spot_of hash) (is_incremental setting.mode) move c) blocks2
           (map_moved same hash setting lawful w.memory (with_word w.memory at new) c blocks blocks2 move map.map allowed
-          (subst (λ (a : At). Shows hash (with_word w.memory a new) (after (spot_of hash) (is_incremental setting.mode) move c) blocks2 setting.root) (sym at_is) shows) later)
+          (subst (λ (a : At). Represents hash (with_word w.memory a new) (after (spot_of hash) (is_incremental setting.mode) move c) blocks2 setting.root) (sym at_is) shows) later)
           (counter_written setting w.memory at new word_some (counter_of same hash setting w c blocks map))
           (record { tables = hands.tables; pairs = hands.pairs; named = hands.named; tables_out = hands.tables_out; pairs_out = hands.pairs_out })

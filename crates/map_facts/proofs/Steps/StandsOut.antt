@@ -8,7 +8,7 @@ use Rattle.map_rule.specs.Chart.{Phase, Still, Copying, Place, Tombstone, Holds,
 use Rattle.map_rule.specs.Rule.{IsLawful, is_of, Rule}
 use Rattle.map_rule.specs.Moves.{Replaces, Removes, after, MayChange}
 use Rattle.map_rule.specs.Words.{Blocks}
-use Rattle.map_facts.specs.FactsDisposes.{HasLeft, StandsBefore, StandsNowhere}
+use Rattle.map_facts.specs.FactsDisposes.{HasLeft, LiesBefore, LiesNowhere}
 use Rattle.map_rule.proofs.Stores.Exchanges.{without_pair}
 use Rattle.map_rule.proofs.Moves.StoodAlone.{alone_there}
 use Rattle.map_rule.proofs.World.TakenOut.{replaced_left_older, replaced_left_nowhere, replaced_left_aborted, tombstone_left_older, tombstone_left_nowhere, tombstone_left_aborted}
@@ -17,7 +17,7 @@ use Rattle.map_rule.proofs.Moves.Writes.{stands_new}
 module _ {K V : Type 0} (same : K → K → Bool) (spot : ℕ → K → ℕ → ℕ) (w : World (Node K V)) (caller : ℕ) (setting : Setting) (blocks : Blocks) where
   -- where a pair stands that was taken out of a table
   abbrev pub StandsOut : Bool → Bool → Chart K → ℕ → ℕ → Type 0
-  StandsOut incremental borrowed c n t = cond (cond incremental borrowed false) (StandsBefore w caller setting c blocks n t) (StandsNowhere w caller setting c blocks n)
+  StandsOut incremental borrowed c n t = cond (cond incremental borrowed false) (LiesBefore w caller setting c blocks n t) (LiesNowhere w caller setting c blocks n)
 
   module _ (lawful : IsLawful same spot) (c : Chart K) (t i n : ℕ) (k : K) where
     -- at once, where it stands no more in the root

@@ -5,10 +5,10 @@ use Rattle.std.proofs.lemmas.Bool.{eq-eqb}
 use Rattle.map_rule.specs.Given.SeizeWordsMem.{Mem}
 use Rattle.papaya_raw.specs.Given.TablesDeclared.node.Node.{Node}
 use Rattle.map_rule.specs.Chart.{Chart}
-use Rattle.map_rule.specs.Words.{Blocks, Shows}
+use Rattle.map_rule.specs.Words.{Blocks, Represents}
 use Rattle.map_facts.specs.MeasuresDisposes.{turn_of}
 
-module _ {K V : Type 0} (hash : K → ℕ) (m : Mem (Node K V)) (c : Chart K) (blocks : Blocks) (root : ℕ) (shows : Shows hash m c blocks root)
+module _ {K V : Type 0} (hash : K → ℕ) (m : Mem (Node K V)) (c : Chart K) (blocks : Blocks) (root : ℕ) (shows : Represents hash m c blocks root)
     (link u : ℕ) (made : u < c.past) (known : blocks.table_known u ≡ true) (is : link ≡ blocks.table u * 2048) where
   -- a known table with its link is this one
   only : (t : ℕ) → t < c.past → blocks.table_known t ≡ true → (blocks.table t * 2048 == link) ≡ true → t ≡ u

@@ -8,8 +8,8 @@ use Rattle.papaya_raw.specs.Given.TablesDeclared.node.Node.{Node}
 use Rattle.papaya_raw.specs.Given.TablesDeclared.setting.Setting.{Setting}
 use Rattle.map_rule.specs.Chart.{Phase, Holds, Chart}
 use Rattle.map_rule.specs.Words.{Blocks}
-use Rattle.map_rule.specs.InWorld.{IsMapIn, IsHeldBy, IsFramed, Went, SparesPairs}
-use Rattle.map_facts.specs.FactsDisposes.{StandsNowhere}
+use Rattle.map_rule.specs.InWorld.{IsMapIn, IsHeldBy, IsFramed, StepSpec, SparesPairs}
+use Rattle.map_facts.specs.FactsDisposes.{LiesNowhere}
 use Rattle.map_rule.proofs.World.Hands.{hands_of, hands_unlinked, named_known, current_known}
 use Rattle.map_rule.proofs.Words.TablesSeen.{pair_apart}
 use Rattle.map_rule.proofs.World.WentStill.{spares_hand}
@@ -23,10 +23,10 @@ module _ {K V : Type 0} (same : K → K → Bool) (hash : K → ℕ) (setting : 
     (map : IsMapIn same hash setting w c blocks) where
   -- A pair that was taken out of the map and that no linked table names is unlinked, by a step that changed no word.
   pub went_unlinked : (n : ℕ) → n < c.stored → blocks.pair_known n ≡ true → c.current n ≡ false → w.hand (blocks.pair n) ≡ Parting caller
-      → StandsNowhere w caller setting c blocks n → (m2 : Mem (Node K V)) → m2 ≡ w.memory → (Told : World (Node K V) → Chart K → Blocks → Type 0)
+      → LiesNowhere w caller setting c blocks n → (m2 : Mem (Node K V)) → m2 ≡ w.memory → (Told : World (Node K V) → Chart K → Blocks → Type 0)
       → (SparesPairs w (with_effect (with_hand w (blocks.pair n) (Cutting caller)) (Unlinked (blocks.pair n)))
       → Told (with_effect (with_hand w (blocks.pair n) (Cutting caller)) (Unlinked (blocks.pair n))) c blocks)
-      → Went same hash setting caller w c blocks m2 Told
+      → StepSpec same hash setting caller w c blocks m2 Told
   went_unlinked n was seen left parting nowhere m2 is Told told = record {
     w2 = w2;
     c2 = c;

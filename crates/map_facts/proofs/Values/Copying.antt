@@ -13,7 +13,7 @@ use Rattle.map_rule.specs.Given.ResizeCopierClaims.{chunk, root_read, next_read,
 use Rattle.map_rule.specs.Given.ResizeCopierCounts.{to, refusing, given_up, counted}
 use Rattle.map_rule.specs.Given.ResizeCopierFurther.{further_read, replacement_read}
 use Rattle.map_rule.specs.Given.ResizeCopierMarks.{is_mine, is_awaited, marked}
-use Rattle.map_rule.specs.Given.ResizeCopierPlaces.{copied_word, next_try, pair_put, place_read, put_told}
+use Rattle.map_rule.specs.Given.ResizeCopierPlaces.{copied_word, next_try, pair_put, place_read, after_put}
 use Rattle.map_rule.specs.Given.ResizeCopierPromotes.{promoted, successor_read}
 use Rattle.map_rule.specs.Given.ResizeCopierStates.{standing, behind, none_left, next_place, place_done}
 use Rattle.papaya_raw.specs.Given.TablesProbes.{probe_after}
@@ -144,9 +144,9 @@ module _ {K V : Type 0} (hash : K → ℕ) (m m2 : Mem (Node K V)) (p : Copier) 
   none_at (at.Probes word code table probe) plain s =
       let d = loaded m (place_read p word code table probe) (at_place table probe.i) m2 end s in
       by_all m (place_read p word code table probe (Found d.0)) (all_if P (d.0 == 0) _ _ tt (none_try p word code table probe)) d.3
-  none_at (at.Puts word code table probe) plain s = elim (exchanged m (put_told p word code table probe) (at_place table probe.i) 0 (copied_word p word) m2 end s) as (λ _. P end) [
-    | inl d ↦ by_all m (put_told p word code table probe (Exchanged (Ok d.0))) (none_put p word) d.3
-    | inr d ↦ by_all m (put_told p word code table probe (Exchanged (Err d.0))) (none_try p word code table probe) d.3
+  none_at (at.Puts word code table probe) plain s = elim (exchanged m (after_put p word code table probe) (at_place table probe.i) 0 (copied_word p word) m2 end s) as (λ _. P end) [
+    | inl d ↦ by_all m (after_put p word code table probe (Exchanged (Ok d.0))) (none_put p word) d.3
+    | inr d ↦ by_all m (after_put p word code table probe (Exchanged (Err d.0))) (none_try p word code table probe) d.3
   ]
   none_at (at.Covers word) plain s =
       let d = stored m (λ out. to (place_done p)) (at_place p.source p.place) (bit_or (bit_or word COPYING) COPIED) m2 end s in by_all m (to (place_done p)) (none_done p) d.1

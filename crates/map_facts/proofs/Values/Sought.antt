@@ -2,7 +2,7 @@
 use Rattle.std.specs.Prelude.{◌≡◌, ℕ, ◌==◌, Bool, true, false, Option, Some, None, max, if◌then◌else◌}
 use Rattle.std.proofs.Common.{refl, ap, eqb-true}
 use Rattle.papaya_raw.specs.Call.{key_read, pair_read, word_read, have_one_key}
-use Rattle.papaya_raw.specs.CallPoints.{aim_of, going, over, ending, tableless, at_free, following_made, asking_at, at_last, at_pair, halted, told_of, told, entering, went_on, having_met}
+use Rattle.papaya_raw.specs.CallPoints.{aim_of, going, over, ending, tableless, at_free, following_made, asking_at, at_last, at_pair, halted, after_finding, told, entering, continued_in, having_met}
 use Rattle.papaya_raw.specs.Given.TablesChunks.{is_incremental}
 use Rattle.map_rule.specs.Given.ResizeCopierStates.{helping, copying_all}
 use Rattle.papaya_raw.specs.Given.TablesFinding.{finding, may_name}
@@ -157,7 +157,7 @@ module _ {K V Q : Type 0} where
     halted_so true = ((refl, tt), tt)
     halted_so false = ((refl, tt), tt)
 
-    told_of_so : (q : Bool) (word : ℕ) (f : Finding) → GoesPlainly p (told_of q p word f)
+    told_of_so : (q : Bool) (word : ℕ) (f : Finding) → GoesPlainly p (after_finding q p word f)
     told_of_so q word is.Free = free_so p.missing
     told_of_so q word is.Passed =
         passed_so (GoesPlainly p) (having_met p word) (λ next. ((refl, tt), tt)) ((refl, tt), tt) (λ e. answered (p.own == 0) (eqb-true p.own 0)) (λ e untold. ((refl, tt), tt))
@@ -174,7 +174,7 @@ module _ {K V Q : Type 0} where
     told_so : (q : Bool) (word : ℕ) (same : Bool) → GoesPlainly p (told q p word same)
     told_so q word same = told_of_so q word (finding p.setting.mode (aim_of p.missing) word same)
 
-    pub went_on_so : (table : Table) → GoesPlainly p (went_on p table)
+    pub went_on_so : (table : Table) → GoesPlainly p (continued_in p table)
     went_on_so table =
         plainly_if (is_incremental p.setting.mode)
         (if p.helped then entering p table else going (record p { helped = true }) (at.Helps (helping p.setting) table)) (going p (at.Copies (copying_all p.setting p.trial.table table)))

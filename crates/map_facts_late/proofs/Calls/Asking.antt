@@ -26,8 +26,8 @@ use Rattle.map_facts.specs.FactsCalls.{Unchanged, ByReply, holding, NamesPair}
 use Rattle.map_facts.proofs.Calls.Asking.{names_some, buries, free_goes, missing_goes, there_goes}
 use Rattle.map_facts.proofs.Calls.CallsOn.{Seeking}
 use Rattle.map_facts_late.specs.Was.{SoSince}
-use Rattle.map_facts_late.specs.LateLooks.{IsLateTrial}
-use Rattle.map_facts_late.specs.LateCalls.{LateGap, LateCalling}
+use Rattle.map_facts_late.specs.LateLooks.{IsSupersededTrial}
+use Rattle.map_facts_late.specs.LateCalls.{SupersededGap, SupersededCalling}
 use Rattle.map_facts_late.proofs.Calls.LatesOn.{LateComes, goes_late, asks_late}
 
 module _ {K V Q : Type 0} (same : K → K → Bool) (hash : K → ℕ) (asks : Q → K → Bool) (caller : ℕ) (setting : Setting) (alone : is_incremental setting.mode ≡ false) (keys : K → Bool) (began : ℕ)
@@ -36,7 +36,7 @@ module _ {K V Q : Type 0} (same : K → K → Bool) (hash : K → ℕ) (asks : Q
   Late end = LateComes same hash asks caller setting alone keys began w c blocks end
 
   abbrev Goes : Calling → Type 0
-  Goes stands = LateCalling same hash asks w caller setting c blocks keys began (record p { stands = stands }) stands → Late (going p stands)
+  Goes stands = SupersededCalling same hash asks w caller setting c blocks keys began (record p { stands = stands }) stands → Late (going p stands)
 
   tries_late : (word new : ℕ) → Goes (at.Tries word new)
   tries_late word new = goes_late same hash asks caller setting alone keys began w c blocks p s p.trial (at.Tries word new) (λ answer h. h)
@@ -49,7 +49,7 @@ module _ {K V Q : Type 0} (same : K → K → Bool) (hash : K → ℕ) (asks : Q
 
   module _ (missing_is : p.missing ≡ missing.Asks) where
     -- once it was told what to do where its key is missing
-    pub gap_goes_late : (gap : Gap) → LateGap same hash asks w caller setting c blocks keys began p gap → p.replies.absent ≢ tells.Nothing → Late (at_gap gap p)
+    pub gap_goes_late : (gap : Gap) → SupersededGap same hash asks w caller setting c blocks keys began p gap → p.replies.absent ≢ tells.Nothing → Late (at_gap gap p)
     gap_goes_late gaps.NoTable facts some = absurd facts
     gap_goes_late gaps.Free facts some =
         free_goes same hash asks caller setting keys w c blocks p s Late missing_is (λ own. tries_late 0 p.own (s.own, facts, inl (refl, own, inl refl)))
@@ -57,12 +57,12 @@ module _ {K V Q : Type 0} (same : K → K → Bool) (hash : K → ℕ) (asks : Q
     gap_goes_late gaps.Past facts some = to_next facts.0 (s.own, facts.0, facts.1, facts.2)
     gap_goes_late gaps.Last facts some = absurd facts
 
-    pub missing_asks_late : (gap : Gap) → LateGap same hash asks w caller setting c blocks keys began p gap → SoSince hash c blocks keys began answers.Absent → Late (asking_at gap p)
+    pub missing_asks_late : (gap : Gap) → SupersededGap same hash asks w caller setting c blocks keys began p gap → SoSince hash c blocks keys began answers.Absent → Late (asking_at gap p)
     missing_asks_late gap facts absent =
         missing_goes same hash asks caller setting keys w c blocks p s Late missing_is gap
         (asks_late same hash asks caller setting alone keys began w c blocks p s (asking.Absent gap) None answers.Absent (λ answer e. e) (s.own, missing_is, facts) absent) (gap_goes_late gap facts)
 
-  module _ (word : ℕ) (names : NamesPair same hash asks w caller setting c blocks keys Unchanged word) (try : IsLateTrial same hash keys p.hash c blocks began p.trial) where
+  module _ (word : ℕ) (names : NamesPair same hash asks w caller setting c blocks keys Unchanged word) (try : IsSupersededTrial same hash keys p.hash c blocks began p.trial) where
     bare_late : p.own ≡ 0 → Late (going p (at.Tries word TOMBSTONE))
     bare_late bare = tries_late word TOMBSTONE (s.own, try, inr (refl, bare, names))
 

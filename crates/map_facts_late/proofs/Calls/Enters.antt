@@ -8,7 +8,7 @@ use Rattle.map_facts.specs.Given.TablesDeclared.node.Node.{Node}
 use Rattle.map_facts.specs.Given.TablesDeclared.setting.Setting.{Setting}
 use Rattle.map_facts.specs.Given.TablesDeclared.table.Table.{Table}
 use Rattle.map_facts.specs.Given.ResizeCopierStates.{helping, copying_all}
-use Rattle.map_facts.specs.Given.RawCallPoints.{going, entering, went_on}
+use Rattle.map_facts.specs.Given.RawCallPoints.{going, entering, continued_in}
 use Rattle.map_facts.specs.Given.RawDeclared.machines.call.KeyCall.{KeyCall}
 use Rattle.map_facts.specs.Given.RawDeclared.machines.call.Calling.TheVariants as at
 use Rattle.map_facts.specs.Given.RuleChart.{Chart}
@@ -36,7 +36,7 @@ module _ {K V Q : Type 0} (same : K → K → Bool) (hash : K → ℕ) (asks : Q
 
   -- the one behind its own, which it is to copy first
   pub goes_on_late : (t : ℕ) → IsTable c blocks p.trial.table t → Left c began t → c.from (suc t) ≡ t → (table : Table) → IsTable c blocks table (suc t)
-      → LateComes same hash asks caller setting alone keys began w c blocks (went_on p table)
+      → LateComes same hash asks caller setting alone keys began w c blocks (continued_in p table)
   goes_on_late t entered left from table next = by_mode (is_incremental p.setting.mode) (ap (λ (x : Setting). is_incremental x.mode) s.setting_is ∙ alone)
     where
       copies : LateComes same hash asks caller setting alone keys began w c blocks (going p (at.Copies (copying_all p.setting p.trial.table table)))

@@ -29,16 +29,16 @@ use Rattle.map_facts.proofs.Given.RuleWorld.WentStill.{went_still}
 use Rattle.map_facts.proofs.Calls.CallsOn.{Seeking}
 use Rattle.map_facts.proofs.Calls.FillSteps as steps
 use Rattle.map_facts.proofs.MovedLasts.{idle_in}
-use Rattle.map_facts_late.specs.LateLooks.{IsLateTrial}
-use Rattle.map_facts_late.specs.LateCalls.{LateCallFacts}
-use Rattle.map_facts_late.specs.LateTold.{LateTold}
+use Rattle.map_facts_late.specs.LateLooks.{IsSupersededTrial}
+use Rattle.map_facts_late.specs.LateCalls.{SupersededCallFacts}
+use Rattle.map_facts_late.specs.LateTold.{SupersededCallOutcome}
 use Rattle.map_facts_late.proofs.Calls.LatesOn.{LateComes, LateWent, told_late, goes_late}
 
 module _ {K V Q : Type 0} (same : K → K → Bool) (hash : K → ℕ) (asks : Q → K → Bool) (caller : ℕ) (setting : Setting) (alone : is_incremental setting.mode ≡ false) (keys : K → Bool) (began : ℕ)
     (w : World (Node K V)) (c : Chart K) (blocks : Blocks) (map : IsMapIn same hash setting w c blocks) (p : KeyCall K V Q)
-    (f : LateCallFacts same hash asks w caller setting c blocks keys began p) where
+    (f : SupersededCallFacts same hash asks w caller setting c blocks keys began p) where
   abbrev Told : World (Node K V) → Chart K → Blocks → KeyCall K V Q × Called (Node K V) → Type 0
-  Told w2 c2 blocks2 end = LateTold same hash asks caller setting keys began c p w2 c2 blocks2 end.0 end.1
+  Told w2 c2 blocks2 end = SupersededCallOutcome same hash asks caller setting keys began c p w2 c2 blocks2 end.0 end.1
 
   -- it asks again
   pub went_asks : (asks_at : Asking) (asked : Option ℕ) → p.stands ≡ at.Asks asks_at → (m2 : Mem (Node K V)) (end : KeyCall K V Q × Called (Node K V))
@@ -52,7 +52,7 @@ module _ {K V Q : Type 0} (same : K → K → Bool) (hash : K → ℕ) (asks : Q
         answers = λ answer answered fresh. absurd (fresh answered);
       }))
 
-  module _ (word : ℕ) (by_reply : holding p.replies.takes p.missing ≡ ByReply) (try : IsLateTrial same hash keys p.hash c blocks began p.trial) where
+  module _ (word : ℕ) (by_reply : holding p.replies.takes p.missing ≡ ByReply) (try : IsSupersededTrial same hash keys p.hash c blocks began p.trial) where
     may_with : (replies : Replies K V) → replies.takes ≡ p.replies.takes → MayStore replies.takes p.there p.missing
     may_with replies takes_is = subst (λ (x : Takes). MayStore x p.there p.missing) (sym takes_is) f.may.0
 

@@ -11,7 +11,7 @@ use Rattle.map_facts.specs.Given.TablesDeclared.setting.Setting.{Setting}
 use Rattle.map_facts.specs.Given.TablesDeclared.trial.Trial.{Trial}
 use Rattle.map_facts.specs.Given.TablesDeclared.finding.Finding.{Finding}
 use Rattle.map_facts.specs.Given.TablesDeclared.finding.Finding.TheVariants as is
-use Rattle.map_facts.specs.Given.RawCallPoints.{aim_of, going, told, told_of, at_free, at_end, at_pair, beyond, passed}
+use Rattle.map_facts.specs.Given.RawCallPoints.{aim_of, going, told, after_finding, at_free, at_end, at_pair, beyond, passed}
 use Rattle.map_facts.specs.Given.RawDeclared.machines.answer.There.{There}
 use Rattle.map_facts.specs.Given.RawDeclared.machines.answer.There.TheVariants as there
 use Rattle.map_facts.specs.Given.RawDeclared.machines.answer.Missing.{Missing}
@@ -154,7 +154,7 @@ module _ {K V Q : Type 0} (same : K → K → Bool) (hash : K → ℕ) (asks : Q
           goes_late same hash asks caller setting alone keys began w c blocks p s p.trial (at.Tries word TOMBSTONE) (λ answer h. h)
           (s.own, (t, j, trial, before, left), inr (refl, none_removes same hash asks caller setting keys w c blocks p s e, names))
 
-  by_finding : (loaded : Bool) (x : Finding) → Says keys c.key here false (aim_of p.missing) x → Late (told_of loaded p word x)
+  by_finding : (loaded : Bool) (x : Finding) → Says keys c.key here false (aim_of p.missing) x → Late (after_finding loaded p word x)
   by_finding loaded is.Free so = frees p.missing refl so
   by_finding loaded is.Passed so = passes (with_met p.trial word).met so
   by_finding loaded is.Moved so = to_next p.trial.met
@@ -165,7 +165,7 @@ module _ {K V Q : Type 0} (same : K → K → Bool) (hash : K → ℕ) (asks : Q
   pub told_comes_late : (loaded flag : Bool) → Tells keys c.key (c.place t (spot_at (c.len t) p.hash j)) flag
       → LateComes same hash asks caller setting alone keys began w c blocks (told loaded p (place_word hash c blocks (c.place t (spot_at (c.len t) p.hash j))) flag)
   told_comes_late loaded flag tells =
-      subst (λ (x : Setting). Late (told_of loaded p word (finding x.mode (aim_of p.missing) word flag))) (sym s.setting_is)
+      subst (λ (x : Setting). Late (after_finding loaded p word (finding x.mode (aim_of p.missing) word flag))) (sym s.setting_is)
       (by_finding loaded (finding setting.mode (aim_of p.missing) word flag)
       (subst (λ (b : Bool). Says keys c.key here b (aim_of p.missing) (finding setting.mode (aim_of p.missing) word flag)) alone
       (says keys c.key blocks.pair (λ n. byte_of hash (c.key n)) setting.mode (aim_of p.missing) here flag has_block (shown_byte hash fits c.key here) keyed tells)))

@@ -32,8 +32,8 @@ use Rattle.map_facts.proofs.Calls.Tries.{may_tries}
 use Rattle.map_facts.proofs.Lookups.LooksAsked.{class_asked}
 use Rattle.map_facts.proofs.Making.NewTable.{may_new_table, went_new_table}
 use Rattle.map_facts_late.specs.Left.{ClaimsAreFew}
-use Rattle.map_facts_late.specs.LateCalls.{Its, LateCalling, LateCallFacts}
-use Rattle.map_facts_late.specs.LateSteps.{LateCopiersKeepTheMap, LateCallsKeepTheMap}
+use Rattle.map_facts_late.specs.LateCalls.{Its, SupersededCalling, SupersededCallFacts}
+use Rattle.map_facts_late.specs.LateSteps.{SupersededCopiersPreserveTheMap, SupersededCallsPreserveTheMap}
 use Rattle.map_facts_late.proofs.Looks.Asked.{lookup_asked, told_asked}
 use Rattle.map_facts_late.proofs.Looks.Points.{may_lookup, went_lookup}
 use Rattle.map_facts_late.proofs.Calls.Fills.{went_asks, went_fills, went_gives_up}
@@ -44,12 +44,12 @@ use Rattle.map_facts_late.proofs.Calls.Tables.{may_nexts, next_made, went_nexts}
 use Rattle.map_facts_late.proofs.Calls.Tries.{went_probes, went_tries}
 use Rattle.map_facts_late.proofs.Calls.Within.{went_looks, went_copies}
 
-module _ {K V Q : Type 0} (same : K → K → Bool) (hash : K → ℕ) (asks : Q → K → Bool) (copiers : LateCopiersKeepTheMap V same hash) (are : AreLawful same hash)
+module _ {K V Q : Type 0} (same : K → K → Bool) (hash : K → ℕ) (asks : Q → K → Bool) (copiers : SupersededCopiersPreserveTheMap V same hash) (are : AreLawful same hash)
     (setting : Setting) (initial_is : IsPowerOfTwo setting.initial) (alone : is_incremental setting.mode ≡ false) (w : World (Node K V)) (caller : ℕ) (c : Chart K) (blocks : Blocks)
     (keys : K → Bool) (began : ℕ) (p : KeyCall K V Q) (map : IsMapIn same hash setting w c blocks) (moments : Moments false c) (few : ClaimsAreFew c)
-    (f : LateCallFacts same hash asks w caller setting c blocks keys began p) where
+    (f : SupersededCallFacts same hash asks w caller setting c blocks keys began p) where
   abbrev Point : Calling → Type 0
-  Point stands = LateCalling same hash asks w caller setting c blocks keys began p stands
+  Point stands = SupersededCalling same hash asks w caller setting c blocks keys began p stands
 
   seeks : Its same hash asks w caller setting c blocks keys began p → Seeking same hash asks caller setting keys w c blocks p
   seeks own = seeking_late same hash asks caller setting alone keys began w c blocks p f own
@@ -135,7 +135,7 @@ module _ {K V Q : Type 0} (same : K → K → Bool) (hash : K → ℕ) (asks : Q
 
 module _ {K Q : Type 0} (V : Type 0) (same : K → K → Bool) (hash : K → ℕ) (asks : Q → K → Bool) where
   -- if copiers do
-  pub late_calls_keep_the_map : LateCopiersKeepTheMap V same hash → LateCallsKeepTheMap V same hash asks
+  pub late_calls_keep_the_map : SupersededCopiersPreserveTheMap V same hash → SupersededCallsPreserveTheMap V same hash asks
   late_calls_keep_the_map copiers are setting initial_is w caller c blocks keys began p map moments few f none =
       let m : Moments false c = subst (λ (b : Bool). Moments b c) f.blocking moments in (
         may_call same hash asks copiers are setting initial_is f.blocking w caller c blocks keys began p map m few f none,

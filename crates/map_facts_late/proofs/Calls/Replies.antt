@@ -5,7 +5,7 @@ use Rattle.map_facts.specs.Given.SeizeWordsDeclared.fault.Fault.TheVariants.{Rem
 use Rattle.map_facts.specs.Given.SeizeWorld.{World}
 use Rattle.map_facts.specs.Given.RawCallAsks.{with_absent, with_present}
 use Rattle.map_facts.specs.Given.RawCallPoints.{going, over, ending, burying, at_gap}
-use Rattle.map_facts.specs.Given.RawReplies.{value_told}
+use Rattle.map_facts.specs.Given.RawReplies.{value_replied}
 use Rattle.map_facts.specs.Given.TablesDeclared.node.Node.{Node}
 use Rattle.map_facts.specs.Given.TablesDeclared.setting.Setting.{Setting}
 use Rattle.map_facts.specs.Given.RawDeclared.machines.answer.Called.{Called}
@@ -34,24 +34,24 @@ use Rattle.map_facts.proofs.Calls.Holdings.{held_as, asks_there}
 use Rattle.map_facts.proofs.Calls.RepliesKnow.{fits_absent, fits_present, gap_on, buries_on}
 use Rattle.map_facts.proofs.Calls.RepliesTaken.{takes_more, IsSoOfAll, replied_so}
 use Rattle.map_facts.proofs.MovedLasts.{idle_in}
-use Rattle.map_facts_late.specs.LateCalls.{Its, LateCalling, LateCallFacts}
-use Rattle.map_facts_late.specs.LateSteps.{LateRepliesAreTaken}
-use Rattle.map_facts_late.specs.LateTold.{LateAfter}
+use Rattle.map_facts_late.specs.LateCalls.{Its, SupersededCalling, SupersededCallFacts}
+use Rattle.map_facts_late.specs.LateSteps.{SupersededRepliesAreTaken}
+use Rattle.map_facts_late.specs.LateTold.{SupersededCallAfter}
 use Rattle.map_facts_late.proofs.Calls.Asking.{gap_goes_late, buries_late}
 use Rattle.map_facts_late.proofs.Calls.LatesOn.{LateComes}
 
 module _ {K V Q : Type 0} (same : K → K → Bool) (hash : K → ℕ) (asks : Q → K → Bool) (are : AreLawful same hash) (setting : Setting)
     (w : World (Node K V)) (caller : ℕ) (c : Chart K) (blocks : Blocks) (keys : K → Bool) (began : ℕ) (p : KeyCall K V Q) (map : IsMapIn same hash setting w c blocks)
-    (f : LateCallFacts same hash asks w caller setting c blocks keys began p) where
+    (f : SupersededCallFacts same hash asks w caller setting c blocks keys began p) where
   abbrev Knows : KeyCall K V Q → Type 0
-  Knows q = CallFacts same hash asks w caller setting c blocks keys Unchanged q ⊎ LateCallFacts same hash asks w caller setting c blocks keys began q
+  Knows q = CallFacts same hash asks w caller setting c blocks keys Unchanged q ⊎ SupersededCallFacts same hash asks w caller setting c blocks keys began q
 
   -- it knows that, and would have answered so
   abbrev So : KeyCall K V Q → Type 0
   So q = Knows q × ((answer : KeyAnswer) → HasAnswered answer q.stands → HasAnswered answer p.stands)
 
   abbrev Point : Calling → Type 0
-  Point stands = LateCalling same hash asks w caller setting c blocks keys began p stands
+  Point stands = SupersededCalling same hash asks w caller setting c blocks keys began p stands
 
   at_point : (stands : Calling) → p.stands ≡ stands → Point stands
   at_point stands here = subst Point here f.point
@@ -70,7 +70,7 @@ module _ {K V Q : Type 0} (same : K → K → Bool) (hash : K → ℕ) (asks : Q
 
   goes_so : (end : KeyCall K V Q × Called (Node K V)) → end.1 ≡ Goes → ((answer : KeyAnswer) → HasAnswered answer end.0.stands → ⊥) → LateComes same hash asks caller setting f.blocking keys began w c blocks end → So end.0
   goes_so (q, progress) is none comes = (
-    subst (λ (y : Called (Node K V)). LateAfter same hash asks caller setting keys began w c blocks q y) is comes.0,
+    subst (λ (y : Called (Node K V)). SupersededCallAfter same hash asks caller setting keys began w c blocks q y) is comes.0,
     λ answer answered. absurd (none answer answered),
   )
 
@@ -112,7 +112,7 @@ module _ {K V Q : Type 0} (same : K → K → Bool) (hash : K → ℕ) (asks : Q
             code = f.code;
             class = f.class;
             idle = f.idle;
-            point = (inl k.0, held, (value, ap (λ (b : Bool). value_told (if b then p.replies.absent else tells.Value value)) (names_some same hash asks caller setting keys w c blocks are.fits map.map word k.2)), inr k.2, k.3);
+            point = (inl k.0, held, (value, ap (λ (b : Bool). value_replied (if b then p.replies.absent else tells.Value value)) (names_some same hash asks caller setting keys w c blocks are.fits map.map word k.2)), inr k.2, k.3);
           }),
       λ answer answered. absurd answered,
     );
@@ -136,6 +136,6 @@ module _ {K V Q : Type 0} (same : K → K → Bool) (hash : K → ℕ) (asks : Q
   }
 
 module _ {K Q : Type 0} (V : Type 0) (same : K → K → Bool) (hash : K → ℕ) (asks : Q → K → Bool) where
-  pub late_replies_are_taken : LateRepliesAreTaken V same hash asks
+  pub late_replies_are_taken : SupersededRepliesAreTaken V same hash asks
   late_replies_are_taken are setting w caller c blocks keys began p map f r =
       replied_so p (So same hash asks are setting w caller c blocks keys began p map f) (taken same hash asks are setting w caller c blocks keys began p map f) r

@@ -11,7 +11,7 @@ use Rattle.map_facts.specs.Given.TablesDeclared.node.Node.{Node}
 use Rattle.map_facts.specs.Given.TablesDeclared.setting.Setting.{Setting}
 use Rattle.map_facts.specs.Given.TablesDeclared.table_words.TheConstants.{NEXT}
 use Rattle.map_facts.specs.Given.RawCall.{next_found, nexts}
-use Rattle.map_facts.specs.Given.RawCallPoints.{at_last, went_on}
+use Rattle.map_facts.specs.Given.RawCallPoints.{at_last, continued_in}
 use Rattle.map_facts.specs.Given.RawDeclared.machines.answer.Called.{Called}
 use Rattle.map_facts.specs.Given.RawDeclared.machines.call.KeyCall.{KeyCall}
 use Rattle.map_facts.specs.Given.RuleChart.{Chart}
@@ -37,7 +37,7 @@ module _ {K V Q : Type 0} (same : K → K → Bool) (hash : K → ℕ) (asks : Q
   may_nexts =
       may_load w.memory (next_found p) (at_word p.trial.table NEXT) (is_some_of _ _ (next_there hash w.memory c blocks setting.root map.map.shows p.trial.table t entered))
       (λ link read. see_link hash w.memory c blocks setting.root map.map.shows link (suc t)
-      (next_leads same hash setting.mode setting.root w.memory c blocks map.map p.trial.table t link entered read) (at_last p.missing p) (went_on p))
+      (next_leads same hash setting.mode setting.root w.memory c blocks map.map p.trial.table t link entered read) (at_last p.missing p) (continued_in p))
 
   module _ (moments : Moments false c) (s : Seeking same hash asks caller setting keys w c blocks p) (left : Left c began t) where
     -- there is a table behind it
@@ -50,7 +50,7 @@ module _ {K V Q : Type 0} (same : K → K → Bool) (hash : K → ℕ) (asks : Q
         let d = loaded w.memory (next_found p) (at_word p.trial.table NEXT) m2 end steps in (
           d.2,
           link_ends hash w.memory c blocks setting.root map.map.shows d.0 (suc t)
-              (next_leads same hash setting.mode setting.root w.memory c blocks map.map p.trial.table t d.0 entered d.1) (at_last p.missing p) (went_on p)
+              (next_leads same hash setting.mode setting.root w.memory c blocks map.map p.trial.table t d.0 entered d.1) (at_last p.missing p) (continued_in p)
               (LateComes same hash asks caller setting alone keys began w c blocks)
               (λ none. absurd (let made = next_made in omega (arith, none, made)))
               (λ table next. goes_on_late same hash asks caller setting alone keys began lawful w c blocks map.map p s t entered left (moments.next_from refl t next_made left.was_root) table next) end d.3,

@@ -28,24 +28,24 @@ use Rattle.map_facts.specs.Given.RuleChart.{Chart}
 use Rattle.map_facts.specs.Given.RuleRule.{IsLawful}
 use Rattle.map_facts.specs.Given.RuleWords.{Blocks}
 use Rattle.map_facts.specs.Given.RuleMaps.{spot_of}
-use Rattle.map_facts.specs.Given.RuleInWorld.{IsMapIn, Went, SparesPairs}
+use Rattle.map_facts.specs.Given.RuleInWorld.{IsMapIn, StepSpec, SparesPairs}
 use Rattle.map_facts.proofs.Given.RuleWorld.WentTold.{went_as}
 use Rattle.map_facts.specs.FactsCalls.{IsCopying, Unchanged, CallFacts}
 use Rattle.map_facts.specs.FactsCopiesBlocking.{HasNoShares, CopierFactsBlocking}
 use Rattle.map_facts.proofs.Calls.CallsOn.{Seeking}
 use Rattle.map_facts.proofs.Calls.CallsWithin.{seeking_lasts, its_last}
 use Rattle.map_facts.proofs.MovedLasts.{idle_in}
-use Rattle.map_facts_late.specs.LateCalls.{Its, LateCalling, LateCallFacts}
-use Rattle.map_facts_late.specs.LateCopies.{LateCopying, LateCopierFacts}
-use Rattle.map_facts_late.specs.LateTold.{LateLookupTold, LateCopierAfter, LateCopierTold, LateTold}
+use Rattle.map_facts_late.specs.LateCalls.{Its, SupersededCalling, SupersededCallFacts}
+use Rattle.map_facts_late.specs.LateCopies.{SupersededCopying, SupersededCopierFacts}
+use Rattle.map_facts_late.specs.LateTold.{SupersededLookupOutcome, SupersededCopierAfter, SupersededCopierOutcome, SupersededCallOutcome}
 use Rattle.map_facts_late.proofs.Calls.LatesOn.{LateComes, LateWent, told_late, goes_late, answers_at_once, refuses_late}
 use Rattle.map_facts_late.proofs.Calls.Enters.{enters_told}
 
 module _ {K V Q : Type 0} (same : K → K → Bool) (hash : K → ℕ) (asks : Q → K → Bool) (caller : ℕ) (setting : Setting) (alone : is_incremental setting.mode ≡ false) (keys : K → Bool) (began : ℕ)
     (w : World (Node K V)) (c : Chart K) (blocks : Blocks) (p : KeyCall K V Q) (s : Seeking same hash asks caller setting keys w c blocks p) where
   -- its lookup
-  module _ (l : Lookup) (point : LateCalling same hash asks w caller setting c blocks keys began p (at.Looks l)) where
-    looked_comes : (end : Lookup × Advance (Option ℕ)) → LateLookupTold same hash setting.mode setting.root keys p.hash c blocks began end
+  module _ (l : Lookup) (point : SupersededCalling same hash asks w caller setting c blocks keys began p (at.Looks l)) where
+    looked_comes : (end : Lookup × Advance (Option ℕ)) → SupersededLookupOutcome same hash setting.mode setting.root keys p.hash c blocks began end
         → LateComes same hash asks caller setting alone keys began w c blocks (looked p end)
     looked_comes (next, progress.Goes) told =
         goes_late same hash asks caller setting alone keys began w c blocks p s p.trial (at.Looks next) (λ answer h. h) (point.0, point.1, point.2, point.3, point.4, point.5, told)
@@ -55,7 +55,7 @@ module _ {K V Q : Type 0} (same : K → K → Bool) (hash : K → ℕ) (asks : Q
     looked_comes (next, progress.Refused fault) told = absurd told
 
     pub went_looks : ((m2 : Mem (Node K V)) (end : Lookup × Advance (Option ℕ)) → Steps Took value_at w.memory (lookup_plan (asks point.3) l) m2 end
-        → (m2 ≡ w.memory) × LateLookupTold same hash setting.mode setting.root keys p.hash c blocks began end)
+        → (m2 ≡ w.memory) × SupersededLookupOutcome same hash setting.mode setting.root keys p.hash c blocks began end)
         → (m2 : Mem (Node K V)) (end : KeyCall K V Q × Called (Node K V)) → Steps Took value_at w.memory (looks asks p l) m2 end
         → (m2 ≡ w.memory) × LateComes same hash asks caller setting alone keys began w c blocks end
     went_looks inner m2 end steps =
@@ -66,7 +66,7 @@ module _ {K V Q : Type 0} (same : K → K → Bool) (hash : K → ℕ) (asks : Q
 
   -- its copier
   module _ (w2 : World (Node K V)) (c2 : Chart K) (blocks2 : Blocks) where
-    none_at : (copier : Copier) (stands : Point) → LateCopying same hash w2 caller setting c2 blocks2 began copier stands → HasNoShares same hash w2 caller setting c2 blocks2
+    none_at : (copier : Copier) (stands : Point) → SupersededCopying same hash w2 caller setting c2 blocks2 began copier stands → HasNoShares same hash w2 caller setting c2 blocks2
     none_at copier copies_at.Asks point = point.2.idle
     none_at copier copies_at.Sees point = point.2.idle
     none_at copier copies_at.Claims point = point.2.idle
@@ -100,9 +100,9 @@ module _ {K V Q : Type 0} (same : K → K → Bool) (hash : K → ℕ) (asks : Q
       seeks none = seeking_lasts same hash asks caller setting keys w w2 c c2 blocks blocks2 spares p (idle_in same hash w2 caller setting c2 blocks2 false alone none) s
 
       -- it goes on
-      goes_there : (next : Copier) → CopierFactsBlocking same hash w2 caller setting c2 blocks2 next ⊎ LateCopierFacts same hash w2 caller setting c2 blocks2 began next
+      goes_there : (next : Copier) → CopierFactsBlocking same hash w2 caller setting c2 blocks2 next ⊎ SupersededCopierFacts same hash w2 caller setting c2 blocks2 began next
           → CallFacts same hash asks w2 caller setting c2 blocks2 keys Unchanged (record p { stands = at.Copies next })
-          ⊎ LateCallFacts same hash asks w2 caller setting c2 blocks2 keys began (record p { stands = at.Copies next })
+          ⊎ SupersededCallFacts same hash asks w2 caller setting c2 blocks2 keys began (record p { stands = at.Copies next })
       goes_there next (inl fresh) = inl record {
         setting_is = s.setting_is;
         may = s.may;
@@ -122,7 +122,7 @@ module _ {K V Q : Type 0} (same : K → K → Bool) (hash : K → ℕ) (asks : Q
         point = (own2, late);
       }
 
-      copied_comes : (end : Copier × Yielding (Node K V) Table) → LateCopierAfter same hash caller setting began w2 c2 blocks2 end
+      copied_comes : (end : Copier × Yielding (Node K V) Table) → SupersededCopierAfter same hash caller setting began w2 c2 blocks2 end
           → LateComes same hash asks caller setting alone keys began w2 c2 blocks2 (copied p end)
       copied_comes (next, outcome.Goes) told = (goes_there next told, λ answer h. absurd h)
       copied_comes (next, outcome.Waits) told = (goes_there next (inr told), λ answer h. absurd h)
@@ -133,14 +133,14 @@ module _ {K V Q : Type 0} (same : K → K → Bool) (hash : K → ℕ) (asks : Q
 
   pub went_copies : IsLawful same (spot_of hash) → (copier : Copier) → IsCopying p.stands → (m2 : Mem (Node K V)) (end : KeyCall K V Q × Called (Node K V))
       → ((m2 : Mem (Node K V)) (end : Copier × Yielding (Node K V) Table) → Steps Took value_at w.memory (copier_plan hash copier) m2 end
-      → Went same hash setting caller w c blocks m2 (λ w2 c2 blocks2. SparesPairs w w2 × LateCopierTold same hash caller setting began w2 c2 blocks2 c end))
+      → StepSpec same hash setting caller w c blocks m2 (λ w2 c2 blocks2. SparesPairs w w2 × SupersededCopierOutcome same hash caller setting began w2 c2 blocks2 c end))
       → Steps Took value_at w.memory (copies hash p copier) m2 end → LateWent same hash asks caller setting alone keys began w c blocks p m2 end
   went_copies lawful copier copying m2 end inner steps =
       let d = steps_back (copied p) w.memory m2 (copier_plan hash copier) end steps in
       subst (λ (x : KeyCall K V Q × Called (Node K V)). LateWent same hash asks caller setting alone keys began w c blocks p m2 x) (sym d.2)
       (went_as same hash setting caller w c blocks m2
-      (λ w2 c2 blocks2. SparesPairs w w2 × LateCopierTold same hash caller setting began w2 c2 blocks2 c d.0)
-      (λ w2 c2 blocks2. LateTold same hash asks caller setting keys began c p w2 c2 blocks2 (copied p d.0).0 (copied p d.0).1)
+      (λ w2 c2 blocks2. SparesPairs w w2 × SupersededCopierOutcome same hash caller setting began w2 c2 blocks2 c d.0)
+      (λ w2 c2 blocks2. SupersededCallOutcome same hash asks caller setting keys began c p w2 c2 blocks2 (copied p d.0).0 (copied p d.0).1)
       (λ w2 c2 blocks2 map2 moved same_blocks told.
       told_late same hash asks caller setting alone keys began w2 c2 blocks2 c p (copied p d.0) told.1.1 (λ other. absurd (other copying))
       (copied_comes w2 c2 blocks2 lawful map2 told.0 d.0 told.1.0))

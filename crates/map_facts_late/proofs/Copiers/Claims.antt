@@ -27,21 +27,21 @@ use Rattle.map_facts.specs.Given.RuleMaps.{spot_of}
 use Rattle.map_facts.specs.Given.RuleMoments.{Moments}
 use Rattle.map_facts.specs.Given.RuleMoves.{Claims, is_of_caller, after}
 use Rattle.map_facts.specs.Given.RuleRule.{IsLawful}
-use Rattle.map_facts.specs.Given.RuleWords.{Blocks, Shows}
+use Rattle.map_facts.specs.Given.RuleWords.{Blocks, Represents}
 use Rattle.map_facts.proofs.Given.RuleWords.OwnWords.{own_at_word}
 use Rattle.map_facts.proofs.Given.RuleWords.TablesSeen.{len_is}
 use Rattle.map_facts.proofs.Given.RuleWorld.Hands.{Hands}
 use Rattle.map_facts.specs.FactsCopiesBlocking.{HasNoShares}
 use Rattle.map_facts.proofs.Blocking.Targets.{chunk_few, chunk_some, claim_is, claim_shows}
 use Rattle.map_facts_late.specs.Left.{ClaimsAreFew}
-use Rattle.map_facts_late.specs.LateCopies.{CopiesLate, LateCopying}
+use Rattle.map_facts_late.specs.LateCopies.{CopiesSuperseded, SupersededCopying}
 use Rattle.map_facts_late.proofs.Copiers.LateWent.{LateCame, late_wrote, late_again}
 use Rattle.map_facts.proofs.Given.General.{some_is as is_some_of}
 
 module _ {K V : Type 0} (same : K → K → Bool) (hash : K → ℕ) (caller : ℕ) (setting : Setting) (began : ℕ) (w : World (Node K V)) (c : Chart K) (blocks : Blocks)
     (map : IsMapIn same hash setting w c blocks) (lawful : IsLawful same (spot_of hash)) (blocking : is_incremental setting.mode ≡ false)
     (moments : Moments false c) (few : ClaimsAreFew c)
-    (p : Copier) (setting_is : p.setting ≡ setting) (u t : ℕ) (late : CopiesLate same hash w caller setting c blocks began p u t) where
+    (p : Copier) (setting_is : p.setting ≡ setting) (u t : ℕ) (late : CopiesSuperseded same hash w caller setting c blocks began p u t) where
   claim_here : word_at w.memory (at_word p.target CLAIM) ≡ Some (c.claim t)
   claim_here = claim_is same hash setting w c blocks map p t late.target
 
@@ -61,7 +61,7 @@ module _ {K V : Type 0} (same : K → K → Bool) (hash : K → ℕ) (caller : �
   abbrev claimed_memory : Mem (Node K V)
   claimed_memory = with_word w.memory (at_word p.target CLAIM) ((c.claim t + chunk p) % 2 ^ 64)
 
-  claimed_shows : Shows hash claimed_memory claimed_chart blocks setting.root
+  claimed_shows : Represents hash claimed_memory claimed_chart blocks setting.root
   claimed_shows =
       claim_shows same hash setting w c blocks map p t late.target ((c.claim t + chunk p) % 2 ^ 64) (c.claim t + chunk p) (sym fits) claimed_chart.share
 
@@ -75,7 +75,7 @@ module _ {K V : Type 0} (same : K → K → Bool) (hash : K → ℕ) (caller : �
       ap (is_of_caller caller) (rw (ne_eqb v t other) refl) ∙ late.idle v j behind
 
   on : (q : Copier) → q.source ≡ p.source → q.target ≡ p.target → q.whole ≡ p.whole
-      → CopiesLate same hash (record w { memory = claimed_memory }) caller setting claimed_chart blocks began q u t
+      → CopiesSuperseded same hash (record w { memory = claimed_memory }) caller setting claimed_chart blocks began q u t
   on q source target whole =
       late_again same hash caller setting began w (record w { memory = claimed_memory }) c claimed_chart blocks refl refl refl refl refl refl refl p q source
       target whole u t no_shares late
@@ -114,7 +114,7 @@ module _ {K V : Type 0} (same : K → K → Bool) (hash : K → ℕ) (caller : �
           ]
         where
           wrote : (q : Copier) → end ≡ (q, Goes) → q.setting ≡ setting
-              → LateCopying same hash (record w { memory = claimed_memory }) caller setting claimed_chart blocks began q q.stands
+              → SupersededCopying same hash (record w { memory = claimed_memory }) caller setting claimed_chart blocks began q q.stands
               → LateCame same hash caller setting began w c blocks m2 end
           wrote q ends q_setting point =
               late_wrote same hash caller setting began w c blocks map lawful blocking (Claims caller t (chunk p)) (refl, late.target.made) (λ i is. sym is)

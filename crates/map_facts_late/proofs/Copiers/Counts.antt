@@ -28,21 +28,21 @@ use Rattle.map_facts.specs.Given.RuleInWorld.{IsMapIn}
 use Rattle.map_facts.specs.Given.RuleMaps.{spot_of}
 use Rattle.map_facts.specs.Given.RuleMoves.{counted_to, Counts, is_of_caller, after}
 use Rattle.map_facts.specs.Given.RuleRule.{IsLawful}
-use Rattle.map_facts.specs.Given.RuleWords.{Blocks, Shows}
+use Rattle.map_facts.specs.Given.RuleWords.{Blocks, Represents}
 use Rattle.map_facts.proofs.Given.RuleWords.OwnWords.{own_at_word}
 use Rattle.map_facts.proofs.Given.RuleWords.TablesSeen.{word_stands}
 use Rattle.map_facts.proofs.Given.RuleWords.WrittenAgain.{written_again}
 use Rattle.map_facts.proofs.Given.RuleWorld.Hands.{Hands}
 use Rattle.map_facts.specs.FactsCopiesBlocking.{HasNoShares}
 use Rattle.map_facts.proofs.Blocking.Targets.{copied_is, copied_shows}
-use Rattle.map_facts_late.specs.LateCopies.{CopiesLate, CopiesAborted, LateCopying}
+use Rattle.map_facts_late.specs.LateCopies.{CopiesSuperseded, CopiesAborted, SupersededCopying}
 use Rattle.map_facts_late.proofs.Copiers.LateWent.{LateCame, late_goes, late_wrote, late_again, late_on}
 use Rattle.map_facts.proofs.Given.General.{some_is as is_some_of}
 
 module _ {K V : Type 0} (same : K → K → Bool) (hash : K → ℕ) (caller : ℕ) (setting : Setting) (began : ℕ) (w : World (Node K V)) (c : Chart K) (blocks : Blocks)
     (map : IsMapIn same hash setting w c blocks) (p : Copier) (setting_is : p.setting ≡ setting) (u t : ℕ)
     (aborted : CopiesAborted same hash w caller setting c blocks began p u t) where
-  abbrev late : CopiesLate same hash w caller setting c blocks began p u t
+  abbrev late : CopiesSuperseded same hash w caller setting c blocks began p u t
   late = aborted.0
 
   copied_here : word_at w.memory (at_word p.target COPIED) ≡ Some (c.copied t)
@@ -62,7 +62,7 @@ module _ {K V : Type 0} (same : K → K → Bool) (hash : K → ℕ) (caller : �
   counted_is : counted_to c t count_then ≡ count_then
   counted_is = ap (λ (b : Bool). cond b (c.copied t + count_then) count_then) (le-ltb c.first t late.over)
 
-  counted_shows : Shows hash counted_memory counted_chart blocks setting.root
+  counted_shows : Represents hash counted_memory counted_chart blocks setting.root
   counted_shows = copied_shows same hash setting w c blocks map p t late.target count_then (counted_to c t count_then) counted_is counted_chart.share
 
   hands : Hands same hash setting w counted_chart blocks
@@ -74,7 +74,7 @@ module _ {K V : Type 0} (same : K → K → Bool) (hash : K → ℕ) (caller : �
       ap (is_of_caller caller) (rw (ne_eqb v t other) refl) ∙ late.idle v j behind
 
   on : (q : Copier) → q.source ≡ p.source → q.target ≡ p.target → q.whole ≡ p.whole
-      → CopiesLate same hash (record w { memory = counted_memory }) caller setting counted_chart blocks began q u t
+      → CopiesSuperseded same hash (record w { memory = counted_memory }) caller setting counted_chart blocks began q u t
   on q source target whole =
       late_again same hash caller setting began w (record w { memory = counted_memory }) c counted_chart blocks refl refl refl refl refl refl refl p q source
       target whole u t no_shares late
@@ -103,7 +103,7 @@ module _ {K V : Type 0} (same : K → K → Bool) (hash : K → ℕ) (caller : �
           ]
         where
           wrote : (q : Copier) → end ≡ (q, Goes) → q.setting ≡ setting
-              → LateCopying same hash (record w { memory = counted_memory }) caller setting counted_chart blocks began q q.stands
+              → SupersededCopying same hash (record w { memory = counted_memory }) caller setting counted_chart blocks began q q.stands
               → LateCame same hash caller setting began w c blocks m2 end
           wrote q ends q_setting point =
               late_wrote same hash caller setting began w c blocks map lawful blocking (Counts caller t count_then)

@@ -32,13 +32,13 @@ use Rattle.map_facts.proofs.Copiers.CopierMoves.{table_again}
 use Rattle.map_facts.proofs.Blocking.Successors.{next_read, is_to_retire, rest_between, rest_last}
 use Rattle.map_facts.proofs.Blocking.Targets.{status_is, status_shows}
 use Rattle.map_facts_late.specs.Left.{Left}
-use Rattle.map_facts_late.specs.LateCopies.{CopiesLate, HasUnlinkedLate}
+use Rattle.map_facts_late.specs.LateCopies.{CopiesSuperseded, HasUnlinkedSuperseded}
 use Rattle.map_facts_late.proofs.Copiers.LateWent.{LateCame, late_goes, late_wrote, late_on}
 use Rattle.map_facts.proofs.Given.General.{some_is as is_some_of}
 
 module _ {K V : Type 0} (same : K → K → Bool) (hash : K → ℕ) (caller : ℕ) (setting : Setting) (began : ℕ) (w : World (Node K V)) (c : Chart K) (blocks : Blocks)
     (map : IsMapIn same hash setting w c blocks) (p : Copier) (setting_is : p.setting ≡ setting) where
-  module _ (u t : ℕ) (late : CopiesLate same hash w caller setting c blocks began p u t) where
+  module _ (u t : ℕ) (late : CopiesSuperseded same hash w caller setting c blocks began p u t) where
     rooted : c.first < c.past
     rooted = let made = late.source.made in map.map.rule.common.rooted (omega (arith, made))
 
@@ -76,7 +76,7 @@ module _ {K V : Type 0} (same : K → K → Bool) (hash : K → ℕ) (caller : �
         behind_is : behind p ≡ record p { place = 0; end = 0; spent = is_incremental p.setting.mode; stands = at.Asks }
         behind_is = rw late.whole refl
 
-  module _ (s t : ℕ) (unlinked : HasUnlinkedLate same hash w caller setting c blocks began p s t) where
+  module _ (s t : ℕ) (unlinked : HasUnlinkedSuperseded same hash w caller setting c blocks began p s t) where
     abbrev told_chart : Chart K
     told_chart = after (spot_of hash) false (Announces t) c
 

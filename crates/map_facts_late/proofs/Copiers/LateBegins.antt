@@ -14,7 +14,7 @@ use Rattle.map_facts.specs.Given.RuleWords.{Blocks}
 use Rattle.map_facts.specs.Given.RuleMaps.{spot_of, IsTable}
 use Rattle.map_facts.specs.FactsCopiesBlocking.{HasNoShares}
 use Rattle.map_facts_late.specs.Left.{Left}
-use Rattle.map_facts_late.specs.LateCopies.{LateCopierFacts}
+use Rattle.map_facts_late.specs.LateCopies.{SupersededCopierFacts}
 
 -- there is a table behind it
 pub behind_left : {K : Type 0} (same : K → K → Bool) (hash : K → ℕ) (bit : Bool) (c : Chart K) → Rule same (spot_of hash) bit c → (began t : ℕ) → t < c.past → Left c began t → suc t < c.past
@@ -24,10 +24,10 @@ module _ {K V : Type 0} (same : K → K → Bool) (hash : K → ℕ) (caller : �
     (blocks : Blocks) where
   -- copying begins
   pub late_begins : (source target : Table) (t : ℕ) → IsTable c blocks source t → Left c began t → c.from (suc t) ≡ t → IsTable c blocks target (suc t)
-      → HasNoShares same hash w caller setting c blocks → LateCopierFacts same hash w caller setting c blocks began (copying_all setting source target)
+      → HasNoShares same hash w caller setting c blocks → SupersededCopierFacts same hash w caller setting c blocks began (copying_all setting source target)
   late_begins source target t entered left from next idle = begun (is_incremental setting.mode) blocking
     where
-      begun : (b : Bool) → b ≡ false → LateCopierFacts same hash w caller setting c blocks began
+      begun : (b : Bool) → b ≡ false → SupersededCopierFacts same hash w caller setting c blocks began
           (if b then record (resting setting true source target copying.Marks) { end = source.len } else resting setting true source target copying.Asks)
       begun true e = absurd (cc)
       begun false e = record {

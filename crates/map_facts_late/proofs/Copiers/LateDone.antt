@@ -11,7 +11,7 @@ use Rattle.map_facts.specs.Given.ResizeDeclared.copier.Copier.{Copier}
 use Rattle.map_facts.specs.Given.ResizeDeclared.copier.Copying.TheVariants as at
 use Rattle.map_facts.specs.Given.RuleChart.{Chart}
 use Rattle.map_facts.specs.Given.RuleWords.{Blocks}
-use Rattle.map_facts_late.specs.LateCopies.{CopiesLate, CopiesAborted, HasRange, LateCopying}
+use Rattle.map_facts_late.specs.LateCopies.{CopiesSuperseded, CopiesAborted, HasRange, SupersededCopying}
 use Rattle.map_facts_late.proofs.Copiers.LateWent.{late_on}
 
 module _ {K V : Type 0} (same : K → K → Bool) (hash : K → ℕ) (caller : ℕ) (setting : Setting) (began : ℕ) (w : World (Node K V)) (c : Chart K) (blocks : Blocks)
@@ -21,9 +21,9 @@ module _ {K V : Type 0} (same : K → K → Bool) (hash : K → ℕ) (caller : �
     pub next : Copier
     pub next_is : place_done p ≡ next
     pub setting_stays : next.setting ≡ setting
-    pub point : LateCopying same hash w caller setting c blocks began next next.stands
+    pub point : SupersededCopying same hash w caller setting c blocks began next next.stands
 
-  on : (q : Copier) → q.source ≡ p.source → q.target ≡ p.target → q.whole ≡ p.whole → CopiesLate same hash w caller setting c blocks began q u t
+  on : (q : Copier) → q.source ≡ p.source → q.target ≡ p.target → q.whole ≡ p.whole → CopiesSuperseded same hash w caller setting c blocks began q u t
   on q source target whole = late_on same hash caller setting began w c blocks p q source target whole u t aborted.0
 
   pub late_goes_on : LateGoesOn

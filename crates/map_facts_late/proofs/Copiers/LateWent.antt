@@ -18,9 +18,9 @@ use Rattle.map_facts.specs.Given.RuleChart.{Chart}
 use Rattle.map_facts.specs.Given.RuleRule.{IsLawful}
 use Rattle.map_facts.specs.Given.RuleLasts.{IsBy}
 use Rattle.map_facts.specs.Given.RuleMoves.{Move, after, Allowed}
-use Rattle.map_facts.specs.Given.RuleWords.{Blocks, Shows}
+use Rattle.map_facts.specs.Given.RuleWords.{Blocks, Represents}
 use Rattle.map_facts.specs.Given.RuleMaps.{spot_of, IsTable}
-use Rattle.map_facts.specs.Given.RuleInWorld.{IsMapIn, SparesPairs, Went}
+use Rattle.map_facts.specs.Given.RuleInWorld.{IsMapIn, SparesPairs, StepSpec}
 use Rattle.map_facts.proofs.Given.RuleWorld.Footprints.{MayWriteBy}
 use Rattle.map_facts.proofs.Given.RuleWorld.Hands.{Hands}
 use Rattle.map_facts.proofs.Given.RuleWorld.MovesKnown.{IsOfKnown}
@@ -29,27 +29,27 @@ use Rattle.map_facts.proofs.Given.RuleWorld.WentWrote.{went_moved}
 use Rattle.map_facts.proofs.Copiers.CopierMoves.{table_again}
 use Rattle.map_facts.specs.FactsCopiesBlocking.{HasNoShares}
 use Rattle.map_facts_late.specs.Left.{Left}
-use Rattle.map_facts_late.specs.LateCopies.{CopiesLate, LateCopying}
-use Rattle.map_facts_late.specs.LateTold.{LateCopierAfter, LateCopierTold}
+use Rattle.map_facts_late.specs.LateCopies.{CopiesSuperseded, SupersededCopying}
+use Rattle.map_facts_late.specs.LateTold.{SupersededCopierAfter, SupersededCopierOutcome}
 
 module _ {K V : Type 0} (same : K → K → Bool) (hash : K → ℕ) (caller : ℕ) (setting : Setting) (began : ℕ) (w : World (Node K V)) (c : Chart K)
     (blocks : Blocks) where
   -- own pairs are spared, the map has the same pairs, and the copier's facts or its end are told
   abbrev pub LateSays : Copier × Yielding (Node K V) Table → World (Node K V) → Chart K → Blocks → Type 0
-  LateSays end w2 c2 blocks2 = SparesPairs w w2 × LateCopierTold same hash caller setting began w2 c2 blocks2 c end
+  LateSays end w2 c2 blocks2 = SparesPairs w w2 × SupersededCopierOutcome same hash caller setting began w2 c2 blocks2 c end
 
   abbrev pub LateCame : Mem (Node K V) → Copier × Yielding (Node K V) Table → Type 0
-  LateCame m2 end = Went same hash setting caller w c blocks m2 (LateSays end)
+  LateCame m2 end = StepSpec same hash setting caller w c blocks m2 (LateSays end)
 
   module _ (map : IsMapIn same hash setting w c blocks) where
     pub late_still : (m2 : Mem (Node K V)) (end r : Copier × Yielding (Node K V) Table) → m2 ≡ w.memory → end ≡ r
-        → LateCopierAfter same hash caller setting began w c blocks r → LateCame m2 end
+        → SupersededCopierAfter same hash caller setting began w c blocks r → LateCame m2 end
     late_still m2 end r still is told =
         subst (LateCame m2) (sym is) (went_still same hash setting caller w c blocks map m2 still (LateSays r) (spares_same w, (told, refl)))
 
     -- it goes on as late as it was
     pub late_goes : (m2 : Mem (Node K V)) (end : Copier × Yielding (Node K V) Table) (q : Copier) → m2 ≡ w.memory → end ≡ (q, Goes) → q.setting ≡ setting
-        → LateCopying same hash w caller setting c blocks began q q.stands → LateCame m2 end
+        → SupersededCopying same hash w caller setting c blocks began q q.stands → LateCame m2 end
     late_goes m2 end q still is setting_is point = late_still m2 end (q, Goes) still is (inr (record { setting_is = setting_is; point = point }))
 
     module _ (lawful : IsLawful same (spot_of hash)) (blocking : is_incremental setting.mode ≡ false) (move : Move K)
@@ -65,15 +65,15 @@ module _ {K V : Type 0} (same : K → K → Bool) (hash : K → ℕ) (caller : �
       pub late_wrote : (op : Op (Node K V)) (out : Out (Node K V)) (at : At) (word : ℕ) → MayWriteBy setting caller w c blocks op at
           → IsSome (word_at w.memory at)
           → (m2 : Mem (Node K V)) → Gives w.memory op out → m2 ≡ with_word w.memory at word → with_word w.memory at word ≡ mem_after w.memory op out
-          → late_chart.past ≡ c.past → Shows hash (with_word w.memory at word) late_chart blocks setting.root → Hands same hash setting w late_chart blocks
+          → late_chart.past ≡ c.past → Represents hash (with_word w.memory at word) late_chart blocks setting.root → Hands same hash setting w late_chart blocks
           → late_chart.current ≡ c.current → (end : Copier × Yielding (Node K V) Table) (q : Copier) → end ≡ (q, Goes) → q.setting ≡ setting
-          → LateCopying same hash (record w { memory = with_word w.memory at word }) caller setting late_chart blocks began q q.stands → LateCame m2 end
+          → SupersededCopying same hash (record w { memory = with_word w.memory at word }) caller setting late_chart blocks began q q.stands → LateCame m2 end
       late_wrote op out at word own some m2 gives is wrote past shows hands current end q ends setting_is point =
           subst (LateCame m2) (sym ends)
           (went_moved same hash setting caller w c blocks map lawful op out at word own some m2 gives is wrote move (by, known)
           (subst (λ (b : Bool). Allowed same (spot_of hash) b move c) (sym blocking) allowed)
           (subst (λ (b : Bool). (chart_of b).past ≡ c.past) (sym blocking) past) (subst (λ (b : Bool). (chart_of b).current ≡ c.current) (sym blocking) current)
-          (subst (λ (b : Bool). Shows hash (with_word w.memory at word) (chart_of b) blocks setting.root) (sym blocking) shows)
+          (subst (λ (b : Bool). Represents hash (with_word w.memory at word) (chart_of b) blocks setting.root) (sym blocking) shows)
           (subst (λ (b : Bool). Hands same hash setting w (chart_of b) blocks) (sym blocking) hands)
           (LateSays (q, Goes))
           (subst (λ (b : Bool). LateSays (q, Goes) (record w { memory = with_word w.memory at word }) (chart_of b) blocks) (sym blocking)
@@ -101,7 +101,7 @@ module _ {K V : Type 0} (same : K → K → Bool) (hash : K → ℕ) (caller : �
 
   pub late_again : (p q : Copier) → q.source ≡ p.source → q.target ≡ p.target → q.whole ≡ p.whole → (u t : ℕ)
       → HasNoShares same hash w2 caller setting c2 blocks
-      → CopiesLate same hash w caller setting c blocks began p u t → CopiesLate same hash w2 caller setting c2 blocks began q u t
+      → CopiesSuperseded same hash w caller setting c blocks began p u t → CopiesSuperseded same hash w2 caller setting c2 blocks began q u t
   late_again p q source target whole u t idle late = record {
     source = subst (λ (x : Table). IsTable c2 blocks x u) (sym source) (table_again same hash caller setting w w2 c c2 blocks past first len limit p.source u late.source);
     target = subst (λ (x : Table). IsTable c2 blocks x t) (sym target) (table_again same hash caller setting w w2 c c2 blocks past first len limit p.target t late.target);
@@ -117,6 +117,6 @@ module _ {K V : Type 0} (same : K → K → Bool) (hash : K → ℕ) (caller : �
 module _ {K V : Type 0} (same : K → K → Bool) (hash : K → ℕ) (caller : ℕ) (setting : Setting) (began : ℕ) (w : World (Node K V)) (c : Chart K)
     (blocks : Blocks) where
   pub late_on : (p q : Copier) → q.source ≡ p.source → q.target ≡ p.target → q.whole ≡ p.whole → (u t : ℕ)
-      → CopiesLate same hash w caller setting c blocks began p u t → CopiesLate same hash w caller setting c blocks began q u t
+      → CopiesSuperseded same hash w caller setting c blocks began p u t → CopiesSuperseded same hash w caller setting c blocks began q u t
   late_on p q source target whole u t late =
       late_again same hash caller setting began w w c c blocks refl refl refl refl refl refl refl p q source target whole u t late.idle late

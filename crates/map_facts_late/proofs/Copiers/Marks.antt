@@ -28,7 +28,7 @@ use Rattle.map_facts.proofs.Given.RuleWords.PlaceWordsWritten.{word-marked, with
 use Rattle.map_facts.proofs.Given.RuleWords.TablesSeen.{place_stands}
 use Rattle.map_facts.proofs.Given.RuleWords.WrittenAgain.{written_again}
 use Rattle.map_facts.proofs.Blocking.Sources.{may_mark as may_mark_source, mark_tells}
-use Rattle.map_facts_late.specs.LateCopies.{CopiesLate, CopiesAborted, HasRange, WorksLate}
+use Rattle.map_facts_late.specs.LateCopies.{CopiesSuperseded, CopiesAborted, HasRange, WorksOnSuperseded}
 use Rattle.map_facts_late.proofs.Copiers.LateDone.{late_goes_on}
 use Rattle.map_facts_late.proofs.Copiers.LateWent.{LateCame, late_goes, late_on}
 
@@ -59,7 +59,7 @@ module _ {K V : Type 0} (same : K → K → Bool) (hash : K → ℕ) (fits : (k 
   abbrev word : ℕ
   word = place_word hash c blocks place
 
-  abbrev late : CopiesLate same hash w caller setting c blocks began p u t
+  abbrev late : CopiesSuperseded same hash w caller setting c blocks began p u t
   late = aborted.0
 
   low : p.place < c.len u
@@ -102,7 +102,7 @@ module _ {K V : Type 0} (same : K → K → Bool) (hash : K → ℕ) (fits : (k 
         place_is : place ≡ Holds n Copying false
         place_is = e ∙ is_copying n phase borrowed (ap is_marked (sym e) ∙ is_left) plain.0 plain.1
 
-        works : WorksLate same hash w caller setting c blocks began (probing p (without_copying word) code p.target) u t n k (without_copying word)
+        works : WorksOnSuperseded same hash w caller setting c blocks began (probing p (without_copying word) code p.target) u t n k (without_copying word)
         works = record {
           copies = (
             late_on same hash caller setting began w c blocks p (probing p (without_copying word) code p.target) refl refl refl u t late,

@@ -24,8 +24,8 @@ use Rattle.map_facts.proofs.Blocking.Placing.{may_probe, may_put}
 use Rattle.map_facts.proofs.Blocking.Successors.{may_succeed}
 use Rattle.map_facts.proofs.Blocking.Targets.{may_ask, may_see, may_claim, may_count, may_abort, may_announce, may_replace}
 use Rattle.map_facts_late.specs.Left.{ClaimsAreFew}
-use Rattle.map_facts_late.specs.LateCopies.{LateCopying, LateCopierFacts}
-use Rattle.map_facts_late.specs.LateSteps.{LateCopiersKeepTheMap}
+use Rattle.map_facts_late.specs.LateCopies.{SupersededCopying, SupersededCopierFacts}
+use Rattle.map_facts_late.specs.LateSteps.{SupersededCopiersPreserveTheMap}
 use Rattle.map_facts_late.proofs.Copiers.LateWent.{LateCame}
 use Rattle.map_facts_late.proofs.Copiers.Reads.{went_ask, went_see, went_over}
 use Rattle.map_facts_late.proofs.Copiers.Claims.{went_claim}
@@ -40,8 +40,8 @@ module _ {K V : Type 0} (same : K → K → Bool) (hash : K → ℕ) (fits : (k 
     (setting : Setting)
     (blocking : is_incremental setting.mode ≡ false) (initial : IsPowerOfTwo setting.initial) (began : ℕ) (w : World (Node K V)) (c : Chart K) (blocks : Blocks)
     (map : IsMapIn same hash setting w c blocks) (moments : Moments false c) (few : ClaimsAreFew c) (p : Copier)
-    (facts : LateCopierFacts same hash w caller setting c blocks began p) where
-  may_at : (stands : Point) → LateCopying same hash w caller setting c blocks began p stands → (IsRowOfCopier stands → ⊥)
+    (facts : SupersededCopierFacts same hash w caller setting c blocks began p) where
+  may_at : (stands : Point) → SupersededCopying same hash w caller setting c blocks began p stands → (IsRowOfCopier stands → ⊥)
       → May Can Took value_at w.memory (plan_at hash p stands)
   may_at at.Begins point none = absurd point
   may_at at.Follows point none = absurd point
@@ -72,7 +72,7 @@ module _ {K V : Type 0} (same : K → K → Bool) (hash : K → ℕ) (fits : (k 
   may_at at.Over point none = tt
   may_at (at.Refused fault) point none = absurd point
 
-  went_at : (stands : Point) → LateCopying same hash w caller setting c blocks began p stands → (IsRowOfCopier stands → ⊥) → (m2 : Mem (Node K V))
+  went_at : (stands : Point) → SupersededCopying same hash w caller setting c blocks began p stands → (IsRowOfCopier stands → ⊥) → (m2 : Mem (Node K V))
       (end : Copier × Yielding (Node K V) Table) → Steps Took value_at w.memory (plan_at hash p stands) m2 end
       → LateCame same hash caller setting began w c blocks m2 end
   went_at at.Begins point none m2 end s = absurd point
@@ -121,7 +121,7 @@ module _ {K V : Type 0} (same : K → K → Bool) (hash : K → ℕ) (fits : (k 
   went_late_copier none m2 end s = went_at p.stands facts.point none m2 end s
 
 -- the promise
-pub late_copiers_keep_the_map : {K V : Type 0} (same : K → K → Bool) (hash : K → ℕ) → LateCopiersKeepTheMap V same hash
+pub late_copiers_keep_the_map : {K V : Type 0} (same : K → K → Bool) (hash : K → ℕ) → SupersededCopiersPreserveTheMap V same hash
 late_copiers_keep_the_map same hash lawful setting initial blocking w caller c blocks began p map moments few facts none = (
   may_late_copier same hash lawful.fits lawful.lawful caller setting blocking initial began w c blocks map moments few p facts none,
   went_late_copier same hash lawful.fits lawful.lawful caller setting blocking initial began w c blocks map moments few p facts none,

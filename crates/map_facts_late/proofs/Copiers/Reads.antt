@@ -27,22 +27,22 @@ use Rattle.map_facts.specs.Given.RuleWords.{Blocks}
 use Rattle.map_facts.proofs.Blocking.Targets.{status_is}
 use Rattle.map_facts.specs.FactsCopiesBlocking.{HasNoShares}
 use Rattle.map_facts_late.specs.Left.{Left}
-use Rattle.map_facts_late.specs.LateCopies.{CopiesLate, LateCopierFacts}
-use Rattle.map_facts_late.specs.LateTold.{LateCopierAfter}
+use Rattle.map_facts_late.specs.LateCopies.{CopiesSuperseded, SupersededCopierFacts}
+use Rattle.map_facts_late.specs.LateTold.{SupersededCopierAfter}
 use Rattle.map_facts_late.proofs.Copiers.LateWent.{LateCame, late_still, late_goes, late_on}
 
 module _ {K V : Type 0} (same : K → K → Bool) (hash : K → ℕ) (caller : ℕ) (setting : Setting) (began : ℕ) (w : World (Node K V)) (c : Chart K) (blocks : Blocks)
     (map : IsMapIn same hash setting w c blocks) (moments : Moments false c) (p : Copier)
-    (facts : LateCopierFacts same hash w caller setting c blocks began p) where
-  module _ (u t : ℕ) (late : CopiesLate same hash w caller setting c blocks began p u t) where
+    (facts : SupersededCopierFacts same hash w caller setting c blocks began p) where
+  module _ (u t : ℕ) (late : CopiesSuperseded same hash w caller setting c blocks began p u t) where
     -- the same copier at another point
-    on : (q : Copier) → q.source ≡ p.source → q.target ≡ p.target → q.whole ≡ p.whole → CopiesLate same hash w caller setting c blocks began q u t
+    on : (q : Copier) → q.source ≡ p.source → q.target ≡ p.target → q.whole ≡ p.whole → CopiesSuperseded same hash w caller setting c blocks began q u t
     on q source target whole = late_on same hash caller setting began w c blocks p q source target whole u t late
 
     -- the target is the root's, or was
-    over_at : c.status t ≡ PROMOTED → LateCopierAfter same hash caller setting began w c blocks (standing p at.Over, Goes)
+    over_at : c.status t ≡ PROMOTED → SupersededCopierAfter same hash caller setting began w c blocks (standing p at.Over, Goes)
     over_at promoted =
-        elim (cases_lt t c.first) as (λ _. LateCopierAfter same hash caller setting began w c blocks (standing p at.Over, Goes)) [
+        elim (cases_lt t c.first) as (λ _. SupersededCopierAfter same hash caller setting began w c blocks (standing p at.Over, Goes)) [
           | inl l ↦ inr (record { setting_is = facts.setting_is; point = (t, late.target, left l, late.idle) })
           | inr h ↦ inl (record {
             setting_is = facts.setting_is;

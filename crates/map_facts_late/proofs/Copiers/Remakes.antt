@@ -31,18 +31,18 @@ use Rattle.map_facts.specs.Given.RuleWords.{Blocks}
 use Rattle.map_facts.proofs.Given.RuleMoves.Writes.{put_elsewhere}
 use Rattle.map_facts.proofs.Given.RuleWorld.WentTold.{went_as}
 use Rattle.map_facts.specs.FactsTables.{NewTableFacts}
-use Rattle.map_facts.specs.Told.{NewTableTold, OnlyLinks}
+use Rattle.map_facts.specs.Told.{NewTableOutcome, OnlyLinks}
 use Rattle.map_facts.proofs.Copiers.CopierLinked.{IsLonger, longer_chart, table_longer}
 use Rattle.map_facts.proofs.Making.NewTable.{may_new_table, went_new_table}
-use Rattle.map_facts_late.specs.LateCopies.{CopiesLate, CopiesAborted}
-use Rattle.map_facts_late.specs.LateTold.{LateCopierAfter}
+use Rattle.map_facts_late.specs.LateCopies.{CopiesSuperseded, CopiesAborted}
+use Rattle.map_facts_late.specs.LateTold.{SupersededCopierAfter}
 use Rattle.map_facts_late.proofs.Copiers.LateWent.{LateSays, LateCame, aborted_behind}
 
 module _ {K V : Type 0} (same : K → K → Bool) (hash : K → ℕ) (caller : ℕ) (setting : Setting) (began : ℕ) (w : World (Node K V)) (c : Chart K) (blocks : Blocks)
     (map : IsMapIn same hash setting w c blocks) (moments : Moments false c) (p : Copier) (setting_is : p.setting ≡ setting) (u t : ℕ)
     (aborted : CopiesAborted same hash w caller setting c blocks began p u t) (making : NewTable)
     (facts : NewTableFacts w caller setting c blocks (Word (blocks.table t) NEXT) (suc t) making) where
-  abbrev late : CopiesLate same hash w caller setting c blocks began p u t
+  abbrev late : CopiesSuperseded same hash w caller setting c blocks began p u t
   late = aborted.0
 
   -- the root has left it, so one stands behind it
@@ -64,7 +64,7 @@ module _ {K V : Type 0} (same : K → K → Bool) (hash : K → ℕ) (caller : �
 
       -- the copier, with a target that was linked while the root was the same
       on : (q : Copier) → q.source ≡ p.source → q.whole ≡ p.whole → (v : ℕ) → IsTable chart blocks2 q.target v → v < c.past → u < v → v ≤ c.first → c.from v ≡ u
-          → CopiesLate same hash w2 caller setting chart blocks2 began q u v
+          → CopiesSuperseded same hash w2 caller setting chart blocks2 began q u v
       on q source whole v target before order over linked = record {
         source = subst (λ (x : Table). IsTable chart blocks2 x u) (sym source) (table_longer c past len limit status from longer blocks blocks2 blocks_same p.source u late.source);
         target = target;
@@ -76,8 +76,8 @@ module _ {K V : Type 0} (same : K → K → Bool) (hash : K → ℕ) (caller : �
         idle = late.idle;
       }
 
-      remade_told : (end : NewTable × Advance Table) → NewTableTold w2 caller setting chart blocks2 (Word (blocks2.table t) NEXT) (suc t) end
-          → LateCopierAfter same hash caller setting began w2 chart blocks2 (remade p end)
+      remade_told : (end : NewTable × Advance Table) → NewTableOutcome w2 caller setting chart blocks2 (Word (blocks2.table t) NEXT) (suc t) end
+          → SupersededCopierAfter same hash caller setting began w2 chart blocks2 (remade p end)
       remade_told (n, progress.Goes) told = inr (record {
         setting_is = setting_is;
         point = (
@@ -104,22 +104,22 @@ module _ {K V : Type 0} (same : K → K → Bool) (hash : K → ℕ) (caller : �
           linked = moments.follows refl t made aborted.1 ∙ late.from
       remade_told (n, progress.Refused fault) told = inl (record { setting_is = setting_is; point = late.idle })
 
-      longer_told : (end : NewTable × Advance Table) → NewTableTold w2 caller setting chart blocks2 (Word (blocks.table t) NEXT) (suc t) end
-          → LateCopierAfter same hash caller setting began w2 chart blocks2 (remade p end)
+      longer_told : (end : NewTable × Advance Table) → NewTableOutcome w2 caller setting chart blocks2 (Word (blocks.table t) NEXT) (suc t) end
+          → SupersededCopierAfter same hash caller setting began w2 chart blocks2 (remade p end)
       longer_told end told =
-          remade_told end (subst (λ (b : ℕ). NewTableTold w2 caller setting chart blocks2 (Word b NEXT) (suc t) end) (sym (blocks_same.tables t late.target.made late.target.known).0) told)
+          remade_told end (subst (λ (b : ℕ). NewTableOutcome w2 caller setting chart blocks2 (Word b NEXT) (suc t) end) (sym (blocks_same.tables t late.target.made late.target.known).0) told)
 
     linked_told : (end : NewTable × Advance Table) (c2 : Chart K) → OnlyLinks hash setting.mode c c2
-        → NewTableTold w2 caller setting c2 blocks2 (Word (blocks.table t) NEXT) (suc t) end
-        → LateCopierAfter same hash caller setting began w2 c2 blocks2 (remade p end) × (c2.current ≡ c.current)
+        → NewTableOutcome w2 caller setting c2 blocks2 (Word (blocks.table t) NEXT) (suc t) end
+        → SupersededCopierAfter same hash caller setting began w2 c2 blocks2 (remade p end) × (c2.current ≡ c.current)
     linked_told end c2 (inl is) = subst
-        (λ (x : Chart K). NewTableTold w2 caller setting x blocks2 (Word (blocks.table t) NEXT) (suc t) end
-        → LateCopierAfter same hash caller setting began w2 x blocks2 (remade p end) × (x.current ≡ c.current))
+        (λ (x : Chart K). NewTableOutcome w2 caller setting x blocks2 (Word (blocks.table t) NEXT) (suc t) end
+        → SupersededCopierAfter same hash caller setting began w2 x blocks2 (remade p end) × (x.current ≡ c.current))
         (sym is)
         (λ told. (longer_told c.past c.len c.limit c.status c.from (record { more = omega arith; lens = λ x l. (refl, refl) }) (λ x l. (refl, refl)) end told, refl))
     linked_told end c2 (inr (len, limit, is)) = subst
-        (λ (x : Chart K). NewTableTold w2 caller setting x blocks2 (Word (blocks.table t) NEXT) (suc t) end
-        → LateCopierAfter same hash caller setting began w2 x blocks2 (remade p end) × (x.current ≡ c.current))
+        (λ (x : Chart K). NewTableOutcome w2 caller setting x blocks2 (Word (blocks.table t) NEXT) (suc t) end
+        → SupersededCopierAfter same hash caller setting began w2 x blocks2 (remade p end) × (x.current ≡ c.current))
         (sym is)
         (λ told. (
           longer_told (suc c.past) (put c.len c.past len) (put c.limit c.past limit) (after (spot_of hash) (is_incremental setting.mode) (Links len limit) c).status (put c.from c.past c.first)
@@ -141,7 +141,7 @@ module _ {K V : Type 0} (same : K → K → Bool) (hash : K → ℕ) (caller : �
         let b = steps_back (remade p) w.memory m2 (new_table_plan making) end s in
         subst (LateCame same hash caller setting began w c blocks m2) (sym b.2)
         (went_as same hash setting caller w c blocks m2
-        (λ w2 c2 blocks2. SparesPairs w w2 × OnlyLinks hash setting.mode c c2 × NewTableTold w2 caller setting c2 blocks2 (Word (blocks.table t) NEXT) (suc t) b.0)
+        (λ w2 c2 blocks2. SparesPairs w w2 × OnlyLinks hash setting.mode c c2 × NewTableOutcome w2 caller setting c2 blocks2 (Word (blocks.table t) NEXT) (suc t) b.0)
         (LateSays same hash caller setting began w c blocks (remade p b.0))
         (λ w2 c2 blocks2 map2 moved blocks_same told. (told.0, linked_told w2 blocks2 blocks_same b.0 c2 told.1 told.2))
         (went_new_table same hash w setting c blocks map caller (Word (blocks.table t) NEXT) (suc t) initial lawful making facts m2 b.0 b.1))

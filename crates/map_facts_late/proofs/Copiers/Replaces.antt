@@ -29,7 +29,7 @@ use Rattle.map_facts.specs.Given.RuleWords.{Blocks}
 use Rattle.map_facts.proofs.Given.RuleWords.LinksSeen.{link_made}
 use Rattle.map_facts.proofs.Given.RuleWords.TablesSeen.{link_not_zero}
 use Rattle.map_facts.proofs.Blocking.Targets.{leads_on, table_behind}
-use Rattle.map_facts_late.specs.LateCopies.{CopiesLate, CopiesAborted}
+use Rattle.map_facts_late.specs.LateCopies.{CopiesSuperseded, CopiesAborted}
 use Rattle.map_facts_late.proofs.Copiers.LateWent.{LateCame, late_goes, aborted_behind}
 
 module _ {K V : Type 0} (same : K → K → Bool) (hash : K → ℕ) (caller : ℕ) (setting : Setting) (began : ℕ) (w : World (Node K V)) (c : Chart K) (blocks : Blocks)
@@ -61,7 +61,7 @@ module _ {K V : Type 0} (same : K → K → Bool) (hash : K → ℕ) (caller : �
       by_link link there still (inr some) =
           late_goes same hash caller setting began w c blocks map m2 end (anew p (table_seen link some.1.0)) still some.1.2 setting_is (u, suc t, on)
         where
-          on : CopiesLate same hash w caller setting c blocks began (anew p (table_seen link some.1.0)) u (suc t)
+          on : CopiesSuperseded same hash w caller setting c blocks began (anew p (table_seen link some.1.0)) u (suc t)
           on = record {
             source = aborted.0.source;
             target = table_behind same hash setting w c blocks map p t aborted.0.target link some.1.0 there some.1.1;

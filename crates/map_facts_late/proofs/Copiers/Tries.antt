@@ -17,7 +17,7 @@ use Rattle.map_facts.specs.Given.TablesDeclared.node.Node.{Node}
 use Rattle.map_facts.specs.Given.TablesDeclared.probe.Probe.{Probe}
 use Rattle.map_facts.specs.Given.TablesDeclared.setting.Setting.{Setting}
 use Rattle.map_facts.specs.Given.TablesDeclared.table.Table.{Table}
-use Rattle.map_facts.specs.Given.ResizeCopierPlaces.{copied_word, next_try, pair_put, place_read, probes, put_told, puts}
+use Rattle.map_facts.specs.Given.ResizeCopierPlaces.{copied_word, next_try, pair_put, place_read, probes, after_put, puts}
 use Rattle.map_facts.specs.Given.ResizeCopierStates.{standing}
 use Rattle.map_facts.specs.Given.ResizeDeclared.copier.Copier.{Copier}
 use Rattle.map_facts.specs.Given.ResizeDeclared.copier.Copying.{Copying as Point}
@@ -29,13 +29,13 @@ use Rattle.map_facts.specs.Given.RuleInWorld.{IsMapIn}
 use Rattle.map_facts.specs.Given.RuleMaps.{spot_of, IsTrial}
 use Rattle.map_facts.specs.Given.RuleMoves.{PutsLate, after, Allowed}
 use Rattle.map_facts.specs.Given.RuleRule.{IsLawful}
-use Rattle.map_facts.specs.Given.RuleWords.{Blocks, byte_of, place_word, Shows}
+use Rattle.map_facts.specs.Given.RuleWords.{Blocks, byte_of, place_word, Represents}
 use Rattle.map_facts.proofs.Given.RuleKeys.TriesSeen.{IsNext, next_is}
 use Rattle.map_facts.proofs.Given.RuleMoves.Writes.{put_in_elsewhere}
 use Rattle.map_facts.proofs.Given.RuleWords.PlaceWordsWritten.{word-unmarked}
 use Rattle.map_facts.proofs.Given.RuleWorld.Hands.{Hands}
 use Rattle.map_facts.proofs.Blocking.Placing.{try_inside, try_word, try_empty, may_write_try, put_shows}
-use Rattle.map_facts_late.specs.LateCopies.{CopiesLate, CopiesAborted, WorksLate}
+use Rattle.map_facts_late.specs.LateCopies.{CopiesSuperseded, CopiesAborted, WorksOnSuperseded}
 use Rattle.map_facts_late.proofs.Copiers.LateDone.{late_goes_on}
 use Rattle.map_facts_late.proofs.Copiers.LateWent.{LateCame, late_goes, late_wrote, aborted_behind, late_again, late_on}
 use Rattle.map_facts.proofs.Given.General.{some_is as is_some_of}
@@ -43,9 +43,9 @@ use Rattle.map_facts.proofs.Given.General.{some_is as is_some_of}
 module _ {K V : Type 0} (same : K → K → Bool) (hash : K → ℕ) (caller : ℕ) (setting : Setting) (began : ℕ) (w : World (Node K V)) (c : Chart K) (blocks : Blocks)
     (map : IsMapIn same hash setting w c blocks) (lawful : IsLawful same (spot_of hash)) (blocking : is_incremental setting.mode ≡ false) (p : Copier)
     (setting_is : p.setting ≡ setting)
-    (pair code : ℕ) (table : Table) (probe : Probe) (u t n : ℕ) (k : K) (j : ℕ) (works : WorksLate same hash w caller setting c blocks began p u t n k pair) (code_is : code ≡ hash k)
+    (pair code : ℕ) (table : Table) (probe : Probe) (u t n : ℕ) (k : K) (j : ℕ) (works : WorksOnSuperseded same hash w caller setting c blocks began p u t n k pair) (code_is : code ≡ hash k)
     (table_is : table ≡ p.target) (trial : IsTrial c blocks (trial_at table probe) code t j) where
-  abbrev late : CopiesLate same hash w caller setting c blocks began p u t
+  abbrev late : CopiesSuperseded same hash w caller setting c blocks began p u t
   late = works.copies.0
 
   abbrev spot : ℕ
@@ -67,7 +67,7 @@ module _ {K V : Type 0} (same : K → K → Bool) (hash : K → ℕ) (caller : �
   on q source target whole =
       (late_on same hash caller setting began w c blocks p q source target whole u t late, works.copies.1)
 
-  works_at : (stands : Point) → WorksLate same hash w caller setting c blocks began (standing p stands) u t n k pair
+  works_at : (stands : Point) → WorksOnSuperseded same hash w caller setting c blocks began (standing p stands) u t n k pair
   works_at stands = record {
     copies = on (standing p stands) refl refl refl;
     inside = works.inside;
@@ -127,7 +127,7 @@ module _ {K V : Type 0} (same : K → K → Bool) (hash : K → ℕ) (caller : �
   pair_is : copied_word p pair ≡ place_word hash c blocks (Holds n Still false)
   pair_is = rw p_blocking refl ∙ ap unmarked_in works.word_is ∙ word-unmarked blocks.pair (λ o. byte_of hash (c.key o)) n Still false
 
-  shows_put : Shows hash put_memory put_chart blocks setting.root
+  shows_put : Represents hash put_memory put_chart blocks setting.root
   shows_put = put_shows same hash setting w c blocks map code table probe t k j code_is trial (copied_word p pair) (Holds n Still false) pair_is known
     where
       -- it is named in the source
@@ -150,7 +150,7 @@ module _ {K V : Type 0} (same : K → K → Bool) (hash : K → ℕ) (caller : �
   }
 
   -- it knows the same of its tables then
-  late_then : CopiesLate same hash (record w { memory = put_memory }) caller setting put_chart blocks began p u t
+  late_then : CopiesSuperseded same hash (record w { memory = put_memory }) caller setting put_chart blocks began p u t
   late_then =
       late_again same hash caller setting began w (record w { memory = put_memory }) c put_chart blocks refl refl refl refl refl refl refl p p refl refl refl u
       t late.idle late
@@ -181,7 +181,7 @@ module _ {K V : Type 0} (same : K → K → Bool) (hash : K → ℕ) (caller : �
   pub went_put : (m2 : Mem (Node K V)) (end : Copier × Yielding (Node K V) Table) → Steps Took value_at w.memory (puts p pair code table probe) m2 end
       → LateCame same hash caller setting began w c blocks m2 end
   went_put m2 end s =
-      elim (exchanged w.memory (put_told p pair code table probe) at_try 0 (copied_word p pair) m2 end s) as (λ _. LateCame same hash caller setting began w c blocks m2 end) [
+      elim (exchanged w.memory (after_put p pair code table probe) at_try 0 (copied_word p pair) m2 end s) as (λ _. LateCame same hash caller setting began w c blocks m2 end) [
         | inl done ↦ went_in m2 done.2 (let e : done.0 ≡ place_word hash c blocks place = cc (done.1.0, word_is) in sym e ∙ done.1.1) end done.3
         | inr lost ↦ went_further m2 lost.2 end lost.3
       ]

@@ -2,4 +2,3 @@
 pub mod Asked
 pub mod Kept
 pub mod Lookups
-mod Samples

@@ -21,7 +21,7 @@ use Rattle.map_facts.specs.Given.RuleMoves.{is_of_caller, Taken, NamedInRootAlon
 use Rattle.map_facts.specs.Given.RuleWords.{Blocks}
 use Rattle.map_facts.specs.Given.RuleMaps.{spot_of, IsTable}
 use Rattle.map_facts.specs.Given.RuleInWorld.{IsHeldBy}
-use Rattle.map_facts.specs.Given.RuleLeaves.{Leaves, StandsAlike}
+use Rattle.map_facts.specs.Given.RuleLeaves.{Leaves, LiesAlike}
 use Rattle.map_facts.specs.FactsDisposes.{IsToRetire}
 use Rattle.map_facts.specs.FactsCopies.{Copies, HasDone, ClaimsNone, HasSettled, InRange, Works, LooksFor, Tries, Refuses, HasUnlinked, CopyingFacts, CopierFacts}
 use Rattle.map_facts.specs.Others.{OthersStep}
@@ -111,7 +111,7 @@ module _ {K V : Type 0} (same : K → K → Bool) (hash : K → ℕ) (lawful : I
     root : c2.first ≡ c.first
     root = root_on same (spot_of hash) caller c c2 rule leaves p.place next works.in_range.0 mine
 
-    kept : (c2.place c.first p.place ≡ Holds n Copying works.borrowed) × StandsAlike same (spot_of hash) true c c2 n
+    kept : (c2.place c.first p.place ≡ Holds n Copying works.borrowed) × LiesAlike same (spot_of hash) true c c2 n
     kept = leaves.my_place refl p.place n works.borrowed next works.in_range.0 works.claims.0 works.place
 
     was : n < c.stored

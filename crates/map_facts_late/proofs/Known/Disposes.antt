@@ -18,7 +18,7 @@ use Rattle.map_facts.specs.Given.RuleRule.{Rule}
 use Rattle.map_facts.specs.Given.RuleWords.{Blocks}
 use Rattle.map_facts.specs.Given.RuleMaps.{spot_of}
 use Rattle.map_facts.specs.Given.RuleInWorld.{IsMapIn}
-use Rattle.map_facts.specs.FactsDisposes.{HasLeft, StandsBefore, StandsNowhere, DisposingFacts, DisposeFacts}
+use Rattle.map_facts.specs.FactsDisposes.{HasLeft, LiesBefore, LiesNowhere, DisposingFacts, DisposeFacts}
 use Rattle.map_facts.specs.Others.{OthersStep}
 use Rattle.map_facts_late.proofs.Known.Pairs.{pair_block, left_here, parts_here, cuts_here}
 use Rattle.map_facts_late.proofs.Known.Tables.{table_on, table_known_on, table_block_on}
@@ -29,11 +29,11 @@ module _ {K V : Type 0} (same : K → K → Bool) (hash : K → ℕ) (setting : 
   rule = subst (λ (x : Bool). Rule same (spot_of hash) x c) bits map.map.rule
 
   module _ (n : ℕ) (left : HasLeft w caller setting c blocks n) where
-    before_here : (t : ℕ) → StandsBefore w caller setting c blocks n t → StandsBefore w2 caller setting c2 blocks2 n t
+    before_here : (t : ℕ) → LiesBefore w caller setting c blocks n t → LiesBefore w2 caller setting c2 blocks2 n t
     before_here t h u j phase borrowed e = let o = others.leaves.unnamed bits n left.0 left.2 u j phase borrowed e in h u j o.0 borrowed o.1
 
     -- a table that was not there names no pair
-    nowhere_here : StandsNowhere w caller setting c blocks n → StandsNowhere w2 caller setting c2 blocks2 n
+    nowhere_here : LiesNowhere w caller setting c blocks n → LiesNowhere w2 caller setting c2 blocks2 n
     nowhere_here h u j phase borrowed l made e =
         let o = others.leaves.unnamed bits n left.0 left.2 u j phase borrowed e in
         elim (cases_lt u c.past) [
@@ -41,8 +41,8 @@ module _ {K V : Type 0} (same : K → K → Bool) (hash : K → ℕ) (setting : 
           | inr none ↦ (let empty = rule.common.unmade u j none in let at = o.1 in cc (empty, at))
         ]
 
-    pub out_on : (b : Bool) (t : ℕ) → cond b ((w.hand (blocks.pair n) ≡ Parting caller) × StandsBefore w caller setting c blocks n t) ((w.hand (blocks.pair n) ≡ Cutting caller) × StandsNowhere w caller setting c blocks n)
-        → cond b ((w2.hand (blocks2.pair n) ≡ Parting caller) × StandsBefore w2 caller setting c2 blocks2 n t) ((w2.hand (blocks2.pair n) ≡ Cutting caller) × StandsNowhere w2 caller setting c2 blocks2 n)
+    pub out_on : (b : Bool) (t : ℕ) → cond b ((w.hand (blocks.pair n) ≡ Parting caller) × LiesBefore w caller setting c blocks n t) ((w.hand (blocks.pair n) ≡ Cutting caller) × LiesNowhere w caller setting c blocks n)
+        → cond b ((w2.hand (blocks2.pair n) ≡ Parting caller) × LiesBefore w2 caller setting c2 blocks2 n t) ((w2.hand (blocks2.pair n) ≡ Cutting caller) × LiesNowhere w2 caller setting c2 blocks2 n)
     out_on true t h = (parts_here same hash setting caller w w2 c c2 blocks blocks2 map others n left h.0, before_here t h.1)
     out_on false t h = (cuts_here same hash setting caller w w2 c c2 blocks blocks2 map others n left h.0, nowhere_here h.1)
 

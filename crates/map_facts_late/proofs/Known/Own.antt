@@ -12,7 +12,7 @@ use Rattle.map_facts.specs.Given.RuleChart.{Chart}
 use Rattle.map_facts.specs.Given.RuleWords.{Blocks}
 use Rattle.map_facts.specs.Given.RuleMaps.{IsTable}
 use Rattle.map_facts.specs.Given.RuleInWorld.{IsHeldBy, IsMapIn}
-use Rattle.map_facts.specs.FactsCalls.{Change, Unchanged, Stored, Replaced, Removed, Holding, Apart, InBlock, ByReply, holding, IsOwnPair, IsVacant, HasKey, HasOwn, HasIts, IsToFill, NamesPair, MayReplace, MayTry, IsKnown, Tells}
+use Rattle.map_facts.specs.FactsCalls.{Change, Unchanged, Stored, Replaced, Removed, Holding, Apart, InBlock, ByReply, holding, IsOwnPair, IsVacant, HasKey, HasOwn, HasIts, IsToFill, NamesPair, MayReplace, MayTry, IsKnown, AnswersChange}
 use Rattle.map_facts.specs.Others.{OthersStep}
 use Rattle.map_facts_late.proofs.Known.Pairs.{word_here}
 use Rattle.map_facts_late.proofs.Known.Tables.{stored_on, key_on, table_on}
@@ -86,7 +86,7 @@ module _ {K V Q : Type 0} (same : K → K → Bool) (hash : K → ℕ) (asks : Q
   pub known_here : (n : ℕ) → IsKnown same hash asks w caller setting c blocks keys change n → IsKnown same hash asks w2 caller setting c2 blocks2 keys change n
   known_here n h = (stored_on same hash setting caller w w2 c c2 blocks blocks2 others n h.0, (others.pairs n h.0 h.1).1)
 
-  pub tells_here : (it : Change) (answer : KeyAnswer) → Tells same hash asks w caller setting c blocks keys change it answer → Tells same hash asks w2 caller setting c2 blocks2 keys change it answer
+  pub tells_here : (it : Change) (answer : KeyAnswer) → AnswersChange same hash asks w caller setting c blocks keys change it answer → AnswersChange same hash asks w2 caller setting c2 blocks2 keys change it answer
   tells_here (Stored n) (answers.Stored word) h = (known_here n h.0, word_here same hash setting caller w w2 c c2 blocks blocks2 map others n h.0.0 h.0.1 false word h.1)
   tells_here (Replaced o n) (answers.Replaced old new) h =
       (known_here o h.0, known_here n h.1, h.2, word_here same hash setting caller w w2 c c2 blocks blocks2 map others o h.0.0 h.0.1 h.2 old h.3, word_here same hash setting caller w w2 c c2 blocks blocks2 map others n h.1.0 h.1.1 false new h.4)

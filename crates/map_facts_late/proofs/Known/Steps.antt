@@ -9,7 +9,7 @@ use Rattle.map_facts.specs.Given.TablesDeclared.setting.Setting.{Setting}
 use Rattle.map_facts.specs.Given.RuleChart.{Chart}
 use Rattle.map_facts.specs.Given.RuleWords.{Blocks}
 use Rattle.map_facts.specs.Given.RuleMaps.{spot_of}
-use Rattle.map_facts.specs.Given.RuleInWorld.{IsMapIn, Moved, Went, IsOut}
+use Rattle.map_facts.specs.Given.RuleInWorld.{IsMapIn, Moved, StepSpec, IsOut}
 use Rattle.map_facts.specs.Given.RuleLasts.{Lasts}
 use Rattle.map_facts.specs.Given.RuleMoments.{Moments, Remembers}
 use Rattle.map_facts.specs.Given.RuleLeaves.{Leaves}
@@ -38,7 +38,7 @@ module _ {K V : Type 0} (same : K → K → Bool) (hash : K → ℕ) (setting : 
     leaves_moved c2 (inr (move, allowed, e, by)) i other =
         subst (Leaves same (spot_of hash) bit i c) (sym e) (moves_leave same (spot_of hash) bit lawful.lawful i move c (λ its. other (by i its)) map.map.rule moments allowed)
 
-    module _ (m2 : Mem (Node K V)) (Told : World (Node K V) → Chart K → Blocks → Type 0) (went : Went same hash setting caller w c blocks m2 Told) where
+    module _ (m2 : Mem (Node K V)) (Told : World (Node K V) → Chart K → Blocks → Type 0) (went : StepSpec same hash setting caller w c blocks m2 Told) where
       pub moments_on : Moments (is_incremental setting.mode) went.c2
       moments_on = moments_moved went.c2 went.moved
 

@@ -34,8 +34,8 @@ use Rattle.map_facts_late.proofs.Known.Pairs.{word_here, left_here}
 use Rattle.map_facts_late.proofs.Known.Tables.{passed_on, trial_on}
 use Rattle.map_facts.specs.Others.{OthersStep}
 use Rattle.map_facts_late.specs.Left.{Left}
-use Rattle.map_facts_late.specs.LateLooks.{IsLateTrial, LateLooking}
-use Rattle.map_facts_late.specs.LateCalls.{LateGap, LateAsking, LateCalling, LateCallFacts}
+use Rattle.map_facts_late.specs.LateLooks.{IsSupersededTrial, SupersededLooking}
+use Rattle.map_facts_late.specs.LateCalls.{SupersededGap, SupersededAsking, SupersededCalling, SupersededCallFacts}
 use Rattle.map_facts_late.proofs.Lasts.Tables.{left_on, left_now, next_table_on, first_table_on, late_first_on}
 use Rattle.map_facts_late.proofs.Lasts.Copiers.{ClaimsStayFew, copier_on, late_copier_idle, late_copier_on}
 use Rattle.map_facts_late.proofs.Lasts.Copiers as copiers
@@ -74,7 +74,7 @@ module _ {K V Q : Type 0} (same : K → K → Bool) (hash : K → ℕ) (asks : Q
     FreshTry = (t : ℕ) × (j : ℕ) × IsTrial c2 blocks2 trial code t j × NoneBefore same hash (is_incremental setting.mode) c2 keys t j × (t ≡ c2.first)
 
     abbrev LateTry : Type 0
-    LateTry = IsLateTrial same hash keys code c2 blocks2 began trial
+    LateTry = IsSupersededTrial same hash keys code c2 blocks2 began trial
 
     try_on : (t j : ℕ) → IsTrial c blocks trial code t j → NoneBefore same hash (is_incremental setting.mode) c keys t j → t ≡ c.first → FreshTry ⊎ LateTry
     try_on t j there none root =
@@ -85,13 +85,13 @@ module _ {K V Q : Type 0} (same : K → K → Bool) (hash : K → ℕ) (asks : Q
           | inr still ↦ inl (t, j, there2, (λ k asked. (as_mode t j k (passed k asked), change_then t k (stays t root still))), stays t root still)
         ]
 
-    late_try_on : IsLateTrial same hash keys code c blocks began trial → LateTry
+    late_try_on : IsSupersededTrial same hash keys code c blocks began trial → LateTry
     late_try_on (t, j, there, passed, left) =
         (t, j, trial_on same hash setting caller w w2 c c2 blocks blocks2 others trial code t j there, passed_here t j there.table.made passed, left_on same (spot_of hash) false caller c c2 leaves began t left)
 
   -- a lookup
   looking_on : (code : ℕ) (stands : Looking) → LookingFacts same hash setting.mode setting.root keys code c blocks stands
-      → LookingFacts same hash setting.mode setting.root keys code c2 blocks2 stands ⊎ LateLooking same hash keys code c2 blocks2 began stands
+      → LookingFacts same hash setting.mode setting.root keys code c2 blocks2 stands ⊎ SupersededLooking same hash keys code c2 blocks2 began stands
   looking_on code looks.Roots h = inl h
   looking_on code (looks.Probes trial) h = elim (try_on trial code h.0 h.1 h.2 h.3 (h.4 blocking)) [
     | inl fresh ↦ inl (fresh.0, fresh.1, fresh.2, fresh.3, λ e. fresh.4)
@@ -100,7 +100,7 @@ module _ {K V Q : Type 0} (same : K → K → Bool) (hash : K → ℕ) (asks : Q
   looking_on code (looks.Nexts table) h = absurd (let e = h.0 in cc (blocking, e))
   looking_on code (looks.Over found) h = absurd h
 
-  late_looking_on : (code : ℕ) (stands : Looking) → LateLooking same hash keys code c blocks began stands → LateLooking same hash keys code c2 blocks2 began stands
+  late_looking_on : (code : ℕ) (stands : Looking) → SupersededLooking same hash keys code c blocks began stands → SupersededLooking same hash keys code c2 blocks2 began stands
   late_looking_on code (looks.Probes trial) h = late_try_on trial code h
   late_looking_on code looks.Roots h = absurd h
   late_looking_on code (looks.Nexts table) h = absurd h
@@ -123,7 +123,7 @@ module _ {K V Q : Type 0} (same : K → K → Bool) (hash : K → ℕ) (asks : Q
     FreshAt p stands = CallingFacts same hash asks w2 caller setting c2 blocks2 keys change p stands
 
     abbrev LateAt : KeyCall K V Q → Calling → Type 0
-    LateAt p stands = LateCalling same hash asks w2 caller setting c2 blocks2 keys began p stands
+    LateAt p stands = SupersededCalling same hash asks w2 caller setting c2 blocks2 keys began p stands
 
     -- of a call that has changed nothing
     as_its : change ≡ Unchanged → (p : KeyCall K V Q) → HasIts same hash asks w2 caller setting c2 blocks2 keys change p → HasIts same hash asks w2 caller setting c2 blocks2 keys Unchanged p
@@ -137,14 +137,14 @@ module _ {K V Q : Type 0} (same : K → K → Bool) (hash : K → ℕ) (asks : Q
 
     -- its try, in its table or in one that the root has left
     try_then : (p : KeyCall K V Q) → AtTry same hash asks w caller setting c blocks keys change p
-        → AtTry same hash asks w2 caller setting c2 blocks2 keys change p ⊎ IsLateTrial same hash keys p.hash c2 blocks2 began p.trial
+        → AtTry same hash asks w2 caller setting c2 blocks2 keys change p ⊎ IsSupersededTrial same hash keys p.hash c2 blocks2 began p.trial
     try_then p (t, j, there, none, root) = elim (try_on p.trial p.hash t j there none (root blocking)) [
       | inl fresh ↦ inl (fresh.0, fresh.1, fresh.2, fresh.3, λ e. fresh.4)
       | inr late ↦ inr late
     ]
 
     gap_then : (p : KeyCall K V Q) (gap : Gap) → GapFacts same hash asks w caller setting c blocks keys change p gap
-        → GapFacts same hash asks w2 caller setting c2 blocks2 keys change p gap ⊎ LateGap same hash asks w2 caller setting c2 blocks2 keys began p gap
+        → GapFacts same hash asks w2 caller setting c2 blocks2 keys change p gap ⊎ SupersededGap same hash asks w2 caller setting c2 blocks2 keys began p gap
     gap_then p gaps.NoTable h = inl h
     gap_then p gaps.Free h = try_then p h
     gap_then p gaps.Past (t, (there, shut)) = elim (cases_lt c.first c2.first) [
@@ -276,7 +276,7 @@ module _ {K V Q : Type 0} (same : K → K → Bool) (hash : K → ℕ) (asks : Q
 
   -- what it knows, or what it is to know once the root has left its table
   pub call_on : (change : Change) → ClaimsStayFew c c2 → (p : KeyCall K V Q) → CallFacts same hash asks w caller setting c blocks keys change p
-      → CallFacts same hash asks w2 caller setting c2 blocks2 keys change p ⊎ ((change ≡ Unchanged) × LateCallFacts same hash asks w2 caller setting c2 blocks2 keys began p)
+      → CallFacts same hash asks w2 caller setting c2 blocks2 keys change p ⊎ ((change ≡ Unchanged) × SupersededCallFacts same hash asks w2 caller setting c2 blocks2 keys began p)
   call_on change few p h = elim (calling_on change few p p.stands h.unchanged h.point) [
     | inl fresh ↦ inl (record { setting_is = h.setting_is; may = h.may; code = h.code; class = h.class; unchanged = h.unchanged; idle = λ none. idle_on change (h.idle none); point = fresh })
     | inr late ↦ inr (
@@ -293,13 +293,13 @@ module _ {K V Q : Type 0} (same : K → K → Bool) (hash : K → ℕ) (asks : Q
     there_on : (t : ℕ) → IsTable c blocks p.trial.table t → IsTable c2 blocks2 p.trial.table t
     there_on = table_then Unchanged p.trial.table
 
-    late_gap : (gap : Gap) → LateGap same hash asks w caller setting c blocks keys began p gap → LateGap same hash asks w2 caller setting c2 blocks2 keys began p gap
+    late_gap : (gap : Gap) → SupersededGap same hash asks w caller setting c blocks keys began p gap → SupersededGap same hash asks w2 caller setting c2 blocks2 keys began p gap
     late_gap gaps.NoTable h = h
     late_gap gaps.Free h = late_try_on p.trial p.hash h
     late_gap gaps.Past (t, there, left) = (t, there_on t there, left_on same (spot_of hash) false caller c c2 leaves began t left)
     late_gap gaps.Last h = h
 
-    late_asking : (asks_at : Asking) → LateAsking same hash asks w caller setting c blocks keys began p asks_at → LateAsking same hash asks w2 caller setting c2 blocks2 keys began p asks_at
+    late_asking : (asks_at : Asking) → SupersededAsking same hash asks w caller setting c blocks keys began p asks_at → SupersededAsking same hash asks w2 caller setting c2 blocks2 keys began p asks_at
     late_asking (asking.Absent gap) (own, is, h) = (its own, is, late_gap gap h)
     late_asking (asking.Present word) (own, is, names, h) = (its own, is, names_here same hash asks setting caller w w2 c c2 blocks blocks2 map others keys Unchanged word names, late_try_on p.trial p.hash h)
     late_asking (asking.Fills word) (held, by_reply, told, may, h) = (
@@ -311,7 +311,7 @@ module _ {K V Q : Type 0} (same : K → K → Bool) (hash : K → ℕ) (asks : Q
     )
     late_asking (asking.GivesUp word) (own, by_reply, some, names, h) = (its own, by_reply, some, names_here same hash asks setting caller w w2 c c2 blocks blocks2 map others keys Unchanged word names, late_try_on p.trial p.hash h)
 
-    late_calling : (stands : Calling) → LateCalling same hash asks w caller setting c blocks keys began p stands → LateCalling same hash asks w2 caller setting c2 blocks2 keys began p stands
+    late_calling : (stands : Calling) → SupersededCalling same hash asks w caller setting c blocks keys began p stands → SupersededCalling same hash asks w2 caller setting c2 blocks2 keys began p stands
     late_calling (at.Looks lookup) (own, missing_is, there_is, q, asked, alike, h) =
         (own, missing_is, there_is, q, asked, alike, record { root_is = h.root_is; mode_is = h.mode_is; hash_is = h.hash_is; point = late_looking_on p.hash lookup.stands h.point })
     late_calling at.Probes (own, h) = (its own, late_try_on p.trial p.hash h)
@@ -336,7 +336,7 @@ module _ {K V Q : Type 0} (same : K → K → Bool) (hash : K → ℕ) (asks : Q
     late_calling (at.Drops end) h = absurd h
     late_calling (at.Over end) h = absurd h
 
-  pub late_call_on : (p : KeyCall K V Q) → LateCallFacts same hash asks w caller setting c blocks keys began p → LateCallFacts same hash asks w2 caller setting c2 blocks2 keys began p
+  pub late_call_on : (p : KeyCall K V Q) → SupersededCallFacts same hash asks w caller setting c blocks keys began p → SupersededCallFacts same hash asks w2 caller setting c2 blocks2 keys began p
   late_call_on p h = record {
     blocking = blocking;
     setting_is = h.setting_is;

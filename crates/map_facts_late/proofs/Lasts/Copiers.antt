@@ -26,7 +26,7 @@ use Rattle.map_facts.specs.FactsCopiesBlocking.{HasNoShares, CopiesInto, HasDone
 use Rattle.map_facts_late.proofs.Known.Tables.{key_on, len_on, table_known_on, table_block_on, table_on, trial_on, word_on}
 use Rattle.map_facts.specs.Others.{OthersStep}
 use Rattle.map_facts_late.specs.Left.{Left}
-use Rattle.map_facts_late.specs.LateCopies.{CopiesLate, CopiesAborted, HasRange, WorksLate, TriesLate, HasUnlinkedLate, LateCopying, LateCopierFacts}
+use Rattle.map_facts_late.specs.LateCopies.{CopiesSuperseded, CopiesAborted, HasRange, WorksOnSuperseded, TriesAtSuperseded, HasUnlinkedSuperseded, SupersededCopying, SupersededCopierFacts}
 use Rattle.map_facts_late.proofs.Lasts.Shares.{some_done, none_on, done_on}
 use Rattle.map_facts_late.proofs.Lasts.Tables.{left_on, left_now, next_table_on}
 
@@ -36,7 +36,7 @@ ClaimsStayFew c c2 = (t : ℕ) → t < c.past → c.claim t < 2 ^ 63 → c2.clai
 
 -- it has no part in a copying then
 pub late_copier_idle : {K V : Type 0} (same : K → K → Bool) (hash : K → ℕ) (w : World (Node K V)) (caller : ℕ) (setting : Setting) (c : Chart K) (blocks : Blocks) (began : ℕ) (p : Copier) (stands : Point)
-    → LateCopying same hash w caller setting c blocks began p stands → HasNoShares same hash w caller setting c blocks
+    → SupersededCopying same hash w caller setting c blocks began p stands → HasNoShares same hash w caller setting c blocks
 late_copier_idle same hash w caller setting c blocks began p at.Asks h = h.2.idle
 late_copier_idle same hash w caller setting c blocks began p at.Sees h = h.2.idle
 late_copier_idle same hash w caller setting c blocks began p at.Claims h = h.2.idle
@@ -236,7 +236,7 @@ module _ {K V : Type 0} (same : K → K → Bool) (hash : K → ℕ) (setting : 
     passes t l made = (others.leaves.goes_on blocking on t l made).0
 
     copies_late : (p : Copier) (t : ℕ) → CopiesInto same hash w caller setting c blocks p t → ((u j : ℕ) → c2.first < u → is_of_caller caller (c.share u j) ≡ false)
-        → CopiesLate same hash w2 caller setting c2 blocks2 began p c.first t
+        → CopiesSuperseded same hash w2 caller setting c2 blocks2 began p c.first t
     copies_late p t h idle = record {
       source = table_here p.source c.first h.0;
       target = table_here p.target t h.2;
@@ -248,11 +248,11 @@ module _ {K V : Type 0} (same : K → K → Bool) (hash : K → ℕ) (setting : 
       idle = λ u j l. not_mine u j (idle u j l);
     }
 
-    rests_late : (p : Copier) (t : ℕ) → RestsIn same hash w caller setting c blocks p t → CopiesLate same hash w2 caller setting c2 blocks2 began p c.first t
+    rests_late : (p : Copier) (t : ℕ) → RestsIn same hash w caller setting c blocks p t → CopiesSuperseded same hash w2 caller setting c2 blocks2 began p c.first t
     rests_late p t h = copies_late p t h.0 (λ u j l. h.2 u j (omega (arith, l, on)))
 
     works_late_copies : (p : Copier) (t : ℕ) → CopiesInto same hash w caller setting c blocks p t → HasDoneIn same hash w caller setting c blocks t p.done
-        → CopiesLate same hash w2 caller setting c2 blocks2 began p c.first t
+        → CopiesSuperseded same hash w2 caller setting c2 blocks2 began p c.first t
     works_late_copies p t h done =
         copies_late p t h (λ u j l. let over = passes t h.1 h.2.made in done.1 u j (omega (arith, l, on)) (λ e. omega (arith, e, l, over)))
 
@@ -269,7 +269,7 @@ module _ {K V : Type 0} (same : K → K → Bool) (hash : K → ℕ) (setting : 
     within_late : (p : Copier) (t : ℕ) → CopiesInto same hash w caller setting c blocks p t → (p.place < p.end) → p.end ≤ c.len c.first → HasRange same hash w2 caller setting c2 blocks2 began p c.first
     within_late p t h place end = (place, (let e = len_here c.first h.0.made in omega (arith, end, e)))
 
-    works_late : (p : Copier) (t n : ℕ) (k : K) (word : ℕ) → WorksIn same hash w caller setting c blocks p t n k word → WorksLate same hash w2 caller setting c2 blocks2 began p c.first t n k word
+    works_late : (p : Copier) (t n : ℕ) (k : K) (word : ℕ) → WorksIn same hash w caller setting c blocks p t n k word → WorksOnSuperseded same hash w2 caller setting c2 blocks2 began p c.first t n k word
     works_late p t n k word h =
         let source = h.copies.0 in
         record {
@@ -284,7 +284,7 @@ module _ {K V : Type 0} (same : K → K → Bool) (hash : K → ℕ) (setting : 
         }
 
     tries_late : (p : Copier) (word code : ℕ) (table : Table) (probe : Probe) → TriesIn same hash w caller setting c blocks p word code table probe
-        → TriesLate same hash w2 caller setting c2 blocks2 began p word code table probe
+        → TriesAtSuperseded same hash w2 caller setting c2 blocks2 began p word code table probe
     tries_late p word code table probe (t, n, k, j, works, code_is, table_is, trial, taken) = (
       c.first,
       t,
@@ -297,7 +297,7 @@ module _ {K V : Type 0} (same : K → K → Bool) (hash : K → ℕ) (setting : 
       trial_on same hash setting caller w w2 c c2 blocks blocks2 others (trial_at table probe) code t j trial,
     )
 
-    unlinked_late : (p : Copier) (s : ℕ) → HasUnlinkedFrom same hash w caller setting c blocks p s → HasUnlinkedLate same hash w2 caller setting c2 blocks2 began p s c.first
+    unlinked_late : (p : Copier) (s : ℕ) → HasUnlinkedFrom same hash w caller setting c blocks p s → HasUnlinkedSuperseded same hash w2 caller setting c2 blocks2 began p s c.first
     unlinked_late p s (l, target, idle, cut) = (
       l,
       table_here p.target c.first target,
@@ -310,7 +310,7 @@ module _ {K V : Type 0} (same : K → K → Bool) (hash : K → ℕ) (setting : 
     )
 
     abbrev To : Copier → Point → Type 0
-    To p stands = CopyingFactsBlocking same hash w2 caller setting c2 blocks2 p stands ⊎ LateCopying same hash w2 caller setting c2 blocks2 began p stands
+    To p stands = CopyingFactsBlocking same hash w2 caller setting c2 blocks2 p stands ⊎ SupersededCopying same hash w2 caller setting c2 blocks2 began p stands
 
     point_moved : (p : Copier) (stands : Point) → CopyingFactsBlocking same hash w caller setting c blocks p stands → To p stands
     point_moved p at.Asks (t, h) = inr (c.first, t, rests_late p t h)
@@ -361,9 +361,9 @@ module _ {K V : Type 0} (same : K → K → Bool) (hash : K → ℕ) (setting : 
 
   -- what it knows, or what it is to know once the root has left its table
   pub copier_on : ClaimsStayFew c c2 → (p : Copier) → CopierFactsBlocking same hash w caller setting c blocks p
-      → CopierFactsBlocking same hash w2 caller setting c2 blocks2 p ⊎ LateCopierFacts same hash w2 caller setting c2 blocks2 began p
+      → CopierFactsBlocking same hash w2 caller setting c2 blocks2 p ⊎ SupersededCopierFacts same hash w2 caller setting c2 blocks2 began p
   copier_on few p h = elim (cases_lt c.first c2.first) [
-    | inl on ↦ elim (point_moved on p p.stands h.point) as (λ _. CopierFactsBlocking same hash w2 caller setting c2 blocks2 p ⊎ LateCopierFacts same hash w2 caller setting c2 blocks2 began p) [
+    | inl on ↦ elim (point_moved on p p.stands h.point) as (λ _. CopierFactsBlocking same hash w2 caller setting c2 blocks2 p ⊎ SupersededCopierFacts same hash w2 caller setting c2 blocks2 began p) [
       | inl fresh ↦ inl (record { setting_is = h.setting_is; point = fresh })
       | inr late ↦ inr (record { setting_is = h.setting_is; point = late })
     ]
@@ -374,7 +374,7 @@ module _ {K V : Type 0} (same : K → K → Bool) (hash : K → ℕ) (setting : 
   left_here : (t : ℕ) → Left c began t → Left c2 began t
   left_here = left_on same (spot_of hash) (is_incremental setting.mode) caller c c2 others.leaves began
 
-  late_copies : (p : Copier) (u t : ℕ) → CopiesLate same hash w caller setting c blocks began p u t → CopiesLate same hash w2 caller setting c2 blocks2 began p u t
+  late_copies : (p : Copier) (u t : ℕ) → CopiesSuperseded same hash w caller setting c blocks began p u t → CopiesSuperseded same hash w2 caller setting c2 blocks2 began p u t
   late_copies p u t h = record {
     source = table_here p.source u h.source;
     target = table_here p.target t h.target;
@@ -392,7 +392,7 @@ module _ {K V : Type 0} (same : K → K → Bool) (hash : K → ℕ) (setting : 
   late_range : (p : Copier) (u : ℕ) → u < c.past → HasRange same hash w caller setting c blocks began p u → HasRange same hash w2 caller setting c2 blocks2 began p u
   late_range p u made h = (h.0, (let e = len_here u made in let l = h.1 in omega (arith, e, l)))
 
-  late_works : (p : Copier) (u t n : ℕ) (k : K) (word : ℕ) → WorksLate same hash w caller setting c blocks began p u t n k word → WorksLate same hash w2 caller setting c2 blocks2 began p u t n k word
+  late_works : (p : Copier) (u t n : ℕ) (k : K) (word : ℕ) → WorksOnSuperseded same hash w caller setting c blocks began p u t n k word → WorksOnSuperseded same hash w2 caller setting c2 blocks2 began p u t n k word
   late_works p u t n k word h =
       let source = h.copies.0.source in
       record {
@@ -403,12 +403,12 @@ module _ {K V : Type 0} (same : K → K → Bool) (hash : K → ℕ) (setting : 
         word_is = h.word_is ∙ sym (word_here u p.place n source.made source.known h.place);
       }
 
-  late_tries : (p : Copier) (word code : ℕ) (table : Table) (probe : Probe) → TriesLate same hash w caller setting c blocks began p word code table probe
-      → TriesLate same hash w2 caller setting c2 blocks2 began p word code table probe
+  late_tries : (p : Copier) (word code : ℕ) (table : Table) (probe : Probe) → TriesAtSuperseded same hash w caller setting c blocks began p word code table probe
+      → TriesAtSuperseded same hash w2 caller setting c2 blocks2 began p word code table probe
   late_tries p word code table probe (u, t, n, k, j, works, code_is, table_is, trial) =
       (u, t, n, k, j, late_works p u t n k word works, code_is, table_is, trial_on same hash setting caller w w2 c c2 blocks blocks2 others (trial_at table probe) code t j trial)
 
-  late_unlinked : (p : Copier) (s t : ℕ) → HasUnlinkedLate same hash w caller setting c blocks began p s t → HasUnlinkedLate same hash w2 caller setting c2 blocks2 began p s t
+  late_unlinked : (p : Copier) (s t : ℕ) → HasUnlinkedSuperseded same hash w caller setting c blocks began p s t → HasUnlinkedSuperseded same hash w2 caller setting c2 blocks2 began p s t
   late_unlinked p s t (l, target, left, idle, cut) = (
     l,
     table_here p.target t target,
@@ -420,7 +420,7 @@ module _ {K V : Type 0} (same : K → K → Bool) (hash : K → ℕ) (setting : 
         (table_known_on same hash setting caller w w2 c c2 blocks blocks2 others u made it.0, cut_here u made it.0 it.1),
   )
 
-  late_point : (p : Copier) (stands : Point) → LateCopying same hash w caller setting c blocks began p stands → LateCopying same hash w2 caller setting c2 blocks2 began p stands
+  late_point : (p : Copier) (stands : Point) → SupersededCopying same hash w caller setting c blocks began p stands → SupersededCopying same hash w2 caller setting c2 blocks2 began p stands
   late_point p at.Asks (u, t, h) = (u, t, late_copies p u t h)
   late_point p at.Sees (u, t, h) = (u, t, late_copies p u t h)
   late_point p at.Claims (u, t, h) = (u, t, late_copies p u t h)
@@ -454,5 +454,5 @@ module _ {K V : Type 0} (same : K → K → Bool) (hash : K → ℕ) (setting : 
   late_point p (at.Unmarks word fault) h = absurd h
   late_point p (at.Unclaims fault) h = absurd h
 
-  pub late_copier_on : (p : Copier) → LateCopierFacts same hash w caller setting c blocks began p → LateCopierFacts same hash w2 caller setting c2 blocks2 began p
+  pub late_copier_on : (p : Copier) → SupersededCopierFacts same hash w caller setting c blocks began p → SupersededCopierFacts same hash w2 caller setting c2 blocks2 began p
   late_copier_on p h = record { setting_is = h.setting_is; point = late_point p p.stands h.point }

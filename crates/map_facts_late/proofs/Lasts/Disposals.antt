@@ -14,7 +14,7 @@ use Rattle.map_facts.specs.Given.RuleRule.{Rule}
 use Rattle.map_facts.specs.Given.RuleWords.{Blocks}
 use Rattle.map_facts.specs.Given.RuleMaps.{spot_of}
 use Rattle.map_facts.specs.Given.RuleInWorld.{IsMapIn}
-use Rattle.map_facts.specs.FactsDisposes.{StandsBefore, StandsNowhere, HasLeft, DisposingFacts, DisposeFacts}
+use Rattle.map_facts.specs.FactsDisposes.{LiesBefore, LiesNowhere, HasLeft, DisposingFacts, DisposeFacts}
 use Rattle.map_facts.specs.Others.{OthersStep}
 use Rattle.map_facts_late.proofs.Known.Pairs.{pair_block, left_here, cuts_here}
 use Rattle.map_facts_late.proofs.Known.Tables.{table_on}
@@ -33,7 +33,7 @@ module _ {K V : Type 0} (same : K → K → Bool) (hash : K → ℕ) (setting : 
     not_in_root : (j : ℕ) (phase : Phase) (borrowed : Bool) → c2.place c2.first j ≡ Holds n phase borrowed → ⊥
     not_in_root j phase borrowed e = not_current (rule2.common.is_current c2.first j n phase borrowed e (rule2.in_mode.plain c2.first j n phase borrowed e).0 refl)
 
-    nowhere_on : StandsNowhere w2 caller setting c2 blocks2 n
+    nowhere_on : LiesNowhere w2 caller setting c2 blocks2 n
     nowhere_on u j phase borrowed l made e = elim (cases_lt c2.first u) [
       | inl behind ↦ (let s = rule2.in_mode.sources u j n phase borrowed behind e in not_in_root s.0 _ _ s.1)
       | inr root ↦ (let is : u ≡ c2.first = omega (arith, l, root) in not_in_root j phase borrowed (ap (λ (x : ℕ). c2.place x j) (sym is) ∙ e))
@@ -64,11 +64,11 @@ module _ {K V : Type 0} (same : K → K → Bool) (hash : K → ℕ) (setting : 
   }
 
   pub out_on : (n : ℕ) → HasLeft w caller setting c blocks n → (t : ℕ) (borrowed : Bool)
-      → cond (cond (is_incremental setting.mode) borrowed false) ((w.hand (blocks.pair n) ≡ Parting caller) × StandsBefore w caller setting c blocks n t) ((w.hand (blocks.pair n) ≡ Cutting caller) × StandsNowhere w caller setting c blocks n)
-      → cond (cond (is_incremental setting.mode) borrowed false) ((w2.hand (blocks2.pair n) ≡ Parting caller) × StandsBefore w2 caller setting c2 blocks2 n t) ((w2.hand (blocks2.pair n) ≡ Cutting caller) × StandsNowhere w2 caller setting c2 blocks2 n)
+      → cond (cond (is_incremental setting.mode) borrowed false) ((w.hand (blocks.pair n) ≡ Parting caller) × LiesBefore w caller setting c blocks n t) ((w.hand (blocks.pair n) ≡ Cutting caller) × LiesNowhere w caller setting c blocks n)
+      → cond (cond (is_incremental setting.mode) borrowed false) ((w2.hand (blocks2.pair n) ≡ Parting caller) × LiesBefore w2 caller setting c2 blocks2 n t) ((w2.hand (blocks2.pair n) ≡ Cutting caller) × LiesNowhere w2 caller setting c2 blocks2 n)
   out_on n left t borrowed h =
-      subst (λ (x : Bool). cond (cond x borrowed false) ((w2.hand (blocks2.pair n) ≡ Parting caller) × StandsBefore w2 caller setting c2 blocks2 n t) ((w2.hand (blocks2.pair n) ≡ Cutting caller) × StandsNowhere w2 caller setting c2 blocks2 n)) (sym blocking) (
+      subst (λ (x : Bool). cond (cond x borrowed false) ((w2.hand (blocks2.pair n) ≡ Parting caller) × LiesBefore w2 caller setting c2 blocks2 n t) ((w2.hand (blocks2.pair n) ≡ Cutting caller) × LiesNowhere w2 caller setting c2 blocks2 n)) (sym blocking) (
         cuts_here same hash setting caller w w2 c c2 blocks blocks2 map others n left
-            (subst (λ (x : Bool). cond (cond x borrowed false) ((w.hand (blocks.pair n) ≡ Parting caller) × StandsBefore w caller setting c blocks n t) ((w.hand (blocks.pair n) ≡ Cutting caller) × StandsNowhere w caller setting c blocks n)) blocking h).0,
+            (subst (λ (x : Bool). cond (cond x borrowed false) ((w.hand (blocks.pair n) ≡ Parting caller) × LiesBefore w caller setting c blocks n t) ((w.hand (blocks.pair n) ≡ Cutting caller) × LiesNowhere w caller setting c blocks n)) blocking h).0,
         nowhere_on n left,
       )

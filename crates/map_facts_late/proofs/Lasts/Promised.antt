@@ -15,7 +15,7 @@ use Rattle.map_facts.specs.Others.{OthersStep, StepsAreOfOthers}
 use Rattle.map_facts.specs.Steps.{AreLawful}
 use Rattle.map_facts_late.proofs.Known.Calls as incremental
 use Rattle.map_facts_late.proofs.Known.Steps.{others_step}
-use Rattle.map_facts_late.specs.LateCalls.{LateCallFacts}
+use Rattle.map_facts_late.specs.LateCalls.{SupersededCallFacts}
 use Rattle.map_facts_late.specs.LateLasts.{CallsKnowOn}
 use Rattle.map_facts_late.proofs.Known.Tables.{made_on}
 use Rattle.map_facts_late.proofs.Lasts.Copiers.{ClaimsStayFew}
@@ -32,8 +32,8 @@ module _ {K Q : Type 0} (V : Type 0) (same : K → K → Bool) (hash : K → ℕ
       (IsIdle same hash w caller setting c blocks → IsIdle same hash w2 caller setting c2 blocks2)
       × ((keys : K → Bool) (began : ℕ) → began ≤ c.now → (change : Change) (p : KeyCall K V Q)
       → (CallFacts same hash asks w caller setting c blocks keys change p
-      → CallFacts same hash asks w2 caller setting c2 blocks2 keys change p ⊎ ((change ≡ Unchanged) × LateCallFacts same hash asks w2 caller setting c2 blocks2 keys began p))
-      × (LateCallFacts same hash asks w caller setting c blocks keys began p → LateCallFacts same hash asks w2 caller setting c2 blocks2 keys began p))
+      → CallFacts same hash asks w2 caller setting c2 blocks2 keys change p ⊎ ((change ≡ Unchanged) × SupersededCallFacts same hash asks w2 caller setting c2 blocks2 keys began p))
+      × (SupersededCallFacts same hash asks w caller setting c blocks keys began p → SupersededCallFacts same hash asks w2 caller setting c2 blocks2 keys began p))
 
   by : (b : Bool) → is_incremental setting.mode ≡ b → KnowsOn
   by true bits = (

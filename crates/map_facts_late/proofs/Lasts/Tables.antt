@@ -20,7 +20,7 @@ use Rattle.map_facts.specs.FactsTables.{IsLinkOf, StandsAs, MakingFacts, NewTabl
 use Rattle.map_facts_late.proofs.Known.Tables.{made_on, table_known_on, table_block_on, table_on, own_table_on}
 use Rattle.map_facts.specs.Others.{OthersStep}
 use Rattle.map_facts_late.specs.Left.{Left}
-use Rattle.map_facts_late.specs.LateCalls.{LateFirst, LateFirstFacts}
+use Rattle.map_facts_late.specs.LateCalls.{SupersededFirst, SupersededFirstFacts}
 
 module _ {K : Type 0} (same : K → K → Bool) (spot : ℕ → K → ℕ → ℕ) (bit : Bool) (caller : ℕ) (c c2 : Chart K) (leaves : Leaves same spot bit caller c c2) (began : ℕ) where
   -- a table that the root has left it has left
@@ -91,7 +91,7 @@ module _ {K V : Type 0} (same : K → K → Bool) (hash : K → ℕ) (setting : 
     Fresh stands = MakingFacts w2 caller setting c2 blocks2 (Root setting.root) 0 stands
 
     abbrev Late : Point → Type 0
-    Late stands = LateFirst w2 caller setting c2 blocks2 began stands
+    Late stands = SupersededFirst w2 caller setting c2 blocks2 began stands
 
     is_root : (u : ℕ) → StandsAs setting c (Root setting.root) 0 u → u ≡ c.first
     is_root u h = subst (λ (x : Bool). cond x (u ≤ c.first) (u ≡ c.first)) blocking h
@@ -122,7 +122,7 @@ module _ {K V : Type 0} (same : K → K → Bool) (hash : K → ℕ) (setting : 
     first_making (at.Refused fault) h = inl h
 
     pub first_table_on : (n : NewTable) → NewTableFacts w caller setting c blocks (Root setting.root) 0 n
-        → NewTableFacts w2 caller setting c2 blocks2 (Root setting.root) 0 n ⊎ LateFirstFacts w2 caller setting c2 blocks2 began n
+        → NewTableFacts w2 caller setting c2 blocks2 (Root setting.root) 0 n ⊎ SupersededFirstFacts w2 caller setting c2 blocks2 began n
     first_table_on n h = elim (first_making n.stands h.point) [
       | inl fresh ↦ inl (record { setting_is = h.setting_is; link_is = h.link_is; link_of = link_of_on (Root setting.root) 0 h.link_of; point = fresh })
       | inr late ↦ inr (record { setting_is = h.setting_is; link_is = h.link_is; point = late })
@@ -130,7 +130,7 @@ module _ {K V : Type 0} (same : K → K → Bool) (hash : K → ℕ) (setting : 
 
   -- and one that it had left before
   module _ (began : ℕ) where
-    late_making : (stands : Point) → LateFirst w caller setting c blocks began stands → LateFirst w2 caller setting c2 blocks2 began stands
+    late_making : (stands : Point) → SupersededFirst w caller setting c blocks began stands → SupersededFirst w2 caller setting c2 blocks2 began stands
     late_making (at.Drops table found) (own, planned, u, left, made, known, is) = (
       own_table_on same hash setting caller w w2 c c2 blocks blocks2 others table _ own,
       planned,
@@ -148,5 +148,5 @@ module _ {K V : Type 0} (same : K → K → Bool) (hash : K → ℕ) (setting : 
     late_making (at.Links table) h = absurd h
     late_making (at.Refused fault) h = absurd h
 
-    pub late_first_on : (n : NewTable) → LateFirstFacts w caller setting c blocks began n → LateFirstFacts w2 caller setting c2 blocks2 began n
+    pub late_first_on : (n : NewTable) → SupersededFirstFacts w caller setting c blocks began n → SupersededFirstFacts w2 caller setting c2 blocks2 began n
     late_first_on n h = record { setting_is = h.setting_is; link_is = h.link_is; point = late_making n.stands h.point }

@@ -13,7 +13,7 @@ use Rattle.map_facts.specs.Given.TablesDeclared.finding.Aim.TheVariants.{Looks}
 use Rattle.map_facts.specs.Given.TablesDeclared.finding.Finding.{Finding}
 use Rattle.map_facts.specs.Given.TablesDeclared.finding.Finding.TheVariants as is
 use Rattle.map_facts.specs.Given.TablesDeclared.trial.Trial.{Trial}
-use Rattle.map_facts.specs.Given.ResizeLookup.{answered, going, beyond, passed, told_of, told, probes}
+use Rattle.map_facts.specs.Given.ResizeLookup.{answered, going, beyond, passed, after_finding, told, probes}
 use Rattle.map_facts.specs.Given.ResizeDeclared.lookup.Lookup.{Lookup}
 use Rattle.map_facts.specs.Given.ResizeDeclared.lookup.Looking.TheVariants as at
 use Rattle.map_facts.specs.Given.RuleChart.{Place, Chart, is_taken}
@@ -27,16 +27,16 @@ use Rattle.map_facts.proofs.Given.RuleKeys.TriesSeen.{IsNext, next_is}
 use Rattle.map_facts.proofs.Given.RuleKeys.ClassesSeen.{passed_further}
 use Rattle.map_facts.proofs.Lookups.Reads.{SeesPlace, sees_place, probes_tell}
 use Rattle.map_facts_late.specs.Left.{Left}
-use Rattle.map_facts_late.specs.LateLooks.{LateLookupFacts}
-use Rattle.map_facts_late.specs.LateTold.{LateLookupTold}
+use Rattle.map_facts_late.specs.LateLooks.{SupersededLookupFacts}
+use Rattle.map_facts_late.specs.LateTold.{SupersededLookupOutcome}
 use Rattle.map_facts_late.proofs.Looks.Frozen.{was_free, was_past, was_there}
 
 module _ {K V : Type 0} (same : K → K → Bool) (hash : K → ℕ) (lawful : IsLawful same (spot_of hash)) (fits : (k : K) → hash k < 2 ^ 64) (mode : ResizeMode) (alone : is_incremental mode ≡ false)
     (root : ℕ) (keys : K → Bool) (code : ℕ) (class : IsClass same hash keys code) (m : Mem (Node K V)) (c : Chart K) (blocks : Blocks) (map : IsMap same hash mode root m c blocks)
-    (moments : Moments false c) (began : ℕ) (l : Lookup) (facts : LateLookupFacts same hash keys code c blocks began mode root l) (trial : Trial) (t j : ℕ) (tries : IsTrial c blocks trial code t j)
+    (moments : Moments false c) (began : ℕ) (l : Lookup) (facts : SupersededLookupFacts same hash keys code c blocks began mode root l) (trial : Trial) (t j : ℕ) (tries : IsTrial c blocks trial code t j)
     (before : (k : K) → keys k ≡ true → Passed same (spot_of hash) false c t k j) (left : Left c began t) where
   abbrev Told : Lookup × Advance (Option ℕ) → Type 0
-  Told end = LateLookupTold same hash mode root keys code c blocks began end
+  Told end = SupersededLookupOutcome same hash mode root keys code c blocks began end
 
   rule : Rule same (spot_of hash) false c
   rule = subst (λ (b : Bool). Rule same (spot_of hash) b c) alone map.rule
@@ -62,7 +62,7 @@ module _ {K V : Type 0} (same : K → K → Bool) (hash : K → ℕ) (lawful : I
   went_passed further None is = went_beyond (subst (λ x. (k : K) → keys k ≡ true → Passed same (spot_of hash) false c t k (suc x)) is further)
 
   -- by what was found
-  went_told : (f : Finding) → Says keys c.key here false Looks f → Told (told_of l trial (place_word hash c blocks (c.place t (spot_at (c.len t) code j))) f)
+  went_told : (f : Finding) → Says keys c.key here false Looks f → Told (after_finding l trial (place_word hash c blocks (c.place t (spot_at (c.len t) code j))) f)
   went_told is.Free (inl empty) = was_free same hash lawful keys code class c rule moments blocks began t left j before (ap (is_taken false) empty)
   went_told is.Free (inr shut) = was_free same hash lawful keys code class c rule moments blocks began t left j before (ap (is_taken false) shut.0)
   went_told is.Passed says =
@@ -79,11 +79,11 @@ module _ {K V : Type 0} (same : K → K → Bool) (hash : K → ℕ) (lawful : I
   -- by whether its pair is one of the keys
   went_same : (same_key : Bool) → Tells keys c.key here same_key → Told (told l trial (place_word hash c blocks (c.place t (spot_at (c.len t) code j))) same_key)
   went_same same_key tells =
-      subst (λ x. Told (told_of l trial (place_word hash c blocks here) (finding x Looks (place_word hash c blocks here) same_key))) (sym facts.mode_is)
+      subst (λ x. Told (after_finding l trial (place_word hash c blocks here) (finding x Looks (place_word hash c blocks here) same_key))) (sym facts.mode_is)
       (went_told (finding mode Looks (place_word hash c blocks here) same_key)
       (subst (λ (b : Bool). Says keys c.key here b Looks (finding mode Looks (place_word hash c blocks here) same_key)) alone
       (says keys c.key blocks.pair _ mode Looks here same_key sees.has_block (shown_byte hash fits c.key here) sees.has_key tells)))
 
   pub went_probes : (m2 : Mem (Node K V)) (end : Lookup × Advance (Option ℕ)) → Steps Took value_at m (probes {K = K} {V = V} keys l trial) m2 end
-      → (m2 ≡ m) × LateLookupTold same hash mode root keys code c blocks began end
+      → (m2 ≡ m) × SupersededLookupOutcome same hash mode root keys code c blocks began end
   went_probes = probes_tell hash keys code m c blocks l facts.hash_is trial t here sees Told went_same

@@ -1,7 +1,7 @@
 -- What the laws promise, clause by clause, for the crates above.
 use Rattle.std.proofs.Common.{ℕ, Bool}
-use Rattle.map_facts_late.specs.StepsReserves.{ReservesBegin, ReservesKeepTheMap}
-use Rattle.map_facts_late.specs.LastsReserves.{LateReservesKeepTheMap, ReservesKnowOn}
+use Rattle.map_facts_late.specs.StepsReserves.{ReservesBegin, ReservesPreserveTheMap}
+use Rattle.map_facts_late.specs.LastsReserves.{SupersededReservesPreserveTheMap, ReservesKnowOn}
 use Rattle.map_facts_late.proofs.Rooms.Lasts.Reserves as lasts
 use Rattle.map_facts_late.proofs.Rooms.Late.Points as late
 use Rattle.map_facts_late.proofs.Rooms.Reserves.Promised as promised
@@ -10,10 +10,10 @@ module _ {K : Type 0} (V : Type 0) (same : K → K → Bool) (hash : K → ℕ) 
   pub reserves_begin : ReservesBegin V same hash
   reserves_begin = promised.reserves_begin V same hash
 
-  pub reserves_keep_the_map : ReservesKeepTheMap V same hash
+  pub reserves_keep_the_map : ReservesPreserveTheMap V same hash
   reserves_keep_the_map = promised.reserves_keep_the_map V same hash
 
-  pub late_reserves_keep_the_map : LateReservesKeepTheMap V same hash
+  pub late_reserves_keep_the_map : SupersededReservesPreserveTheMap V same hash
   late_reserves_keep_the_map = late.late_reserves_keep_the_map V same hash
 
   pub reserves_know_on : ReservesKnowOn V same hash

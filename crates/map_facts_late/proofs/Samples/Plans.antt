@@ -23,7 +23,7 @@ use Rattle.map_facts.specs.Given.TablesDeclared.table_words.TheConstants.{STATUS
 use Rattle.map_facts.specs.Given.ResizeCopierStates.{standing}
 use Rattle.map_facts.specs.Given.ResizeDeclared.copier.Copier.{Copier}
 use Rattle.map_facts.specs.Given.ResizeDeclared.copier.Copying.TheVariants as copies
-use Rattle.map_facts.specs.Given.RawCallPoints.{told_answer}
+use Rattle.map_facts.specs.Given.RawCallPoints.{answered_with}
 use Rattle.map_facts.specs.Given.RawDeclared.machines.answer.Called.{Called}
 use Rattle.map_facts.specs.Given.RawDeclared.machines.answer.KeyAnswer.TheVariants as answers
 use Rattle.map_facts.specs.Given.RawDeclared.machines.answer.Missing.TheVariants as missing
@@ -31,35 +31,35 @@ use Rattle.map_facts.specs.Given.RawDeclared.machines.answer.There.{There}
 use Rattle.map_facts.specs.Given.RawDeclared.machines.asking.Takes.{Takes}
 use Rattle.map_facts.specs.Given.RawDeclared.machines.call.KeyCall.{KeyCall}
 use Rattle.map_facts.specs.Given.RuleChart.{Chart}
-use Rattle.map_facts_late.specs.Kinds.{ComesFit}
+use Rattle.map_facts_late.specs.Kinds.{StepFits}
 use Rattle.map_facts.specs.Given.RuleMoments.{Moments}
 use Rattle.map_facts.specs.Given.RuleWords.{Blocks, root_word}
 use Rattle.map_facts.specs.Given.RuleMaps.{IsTable}
-use Rattle.map_facts.specs.Given.RuleInWorld.{IsMapIn, Went}
+use Rattle.map_facts.specs.Given.RuleInWorld.{IsMapIn, StepSpec}
 use Rattle.map_facts.specs.Steps.{AreLawful}
 use Rattle.map_facts_late.proofs.Known.Steps.{lasts_went, others_step}
 use Rattle.map_facts.proofs.Given.RuleWords.TablesSeen.{block_of_link}
 
 -- An insertion that answers that the key was missing, and that nothing changed, is refused by what an insertion may answer.
 module _ {K V Q : Type 0} where
-  none_is_absent : (present : There) (takes : Takes) (p : KeyCall K V Q) → ComesFit present missing.Puts takes (told_answer p answers.Absent) → ⊥
+  none_is_absent : (present : There) (takes : Takes) (p : KeyCall K V Q) → StepFits present missing.Puts takes (answered_with p answers.Absent) → ⊥
   none_is_absent present takes p f = ⊎_elim (λ e. cc e) (λ asks. cc asks.0) f.1
 
   -- One answers so at once, and has not tried to store its pair.
   abbrev pub answers_at_once : KeyCall K V Q → Plan (Node K V) (KeyCall K V Q × Called (Node K V))
-  answers_at_once p = Turn (Now (told_answer p answers.Absent))
+  answers_at_once p = Turn (Now (answered_with p answers.Absent))
 
-  pub tries_nothing : (present : There) (takes : Takes) (p : KeyCall K V Q) (m m2 : Mem (Node K V)) (end : KeyCall K V Q × Called (Node K V)) → Steps Took value_at m (answers_at_once p) m2 end → ComesFit present missing.Puts takes end → ⊥
-  tries_nothing present takes p m m2 end s fits = none_is_absent present takes p (subst (ComesFit present missing.Puts takes) s.1 fits)
+  pub tries_nothing : (present : There) (takes : Takes) (p : KeyCall K V Q) (m m2 : Mem (Node K V)) (end : KeyCall K V Q × Called (Node K V)) → Steps Took value_at m (answers_at_once p) m2 end → StepFits present missing.Puts takes end → ⊥
+  tries_nothing present takes p m m2 end s fits = none_is_absent present takes p (subst (StepFits present missing.Puts takes) s.1 fits)
 
   -- Another makes its exchange, and answers so whether that was lost or not.
   abbrev pub forgets_its_pair : KeyCall K V Q → Plan (Node K V) (KeyCall K V Q × Called (Node K V))
-  forgets_its_pair p = Do (Exchange (at_place p.trial.table p.trial.probe.i) 0 p.own) (λ out. Now (told_answer p answers.Absent))
+  forgets_its_pair p = Do (Exchange (at_place p.trial.table p.trial.probe.i) 0 p.own) (λ out. Now (answered_with p answers.Absent))
 
-  pub stores_nothing : (present : There) (takes : Takes) (p : KeyCall K V Q) (m m2 : Mem (Node K V)) (end : KeyCall K V Q × Called (Node K V)) → Steps Took value_at m (forgets_its_pair p) m2 end → ComesFit present missing.Puts takes end → ⊥
-  stores_nothing present takes p m m2 end s fits = elim (exchanged m (λ out. Now (told_answer p answers.Absent)) (at_place p.trial.table p.trial.probe.i) 0 p.own m2 end s) as (λ _. ⊥) [
-    | inl d ↦ none_is_absent present takes p (subst (ComesFit present missing.Puts takes) d.3 fits)
-    | inr d ↦ none_is_absent present takes p (subst (ComesFit present missing.Puts takes) d.3 fits)
+  pub stores_nothing : (present : There) (takes : Takes) (p : KeyCall K V Q) (m m2 : Mem (Node K V)) (end : KeyCall K V Q × Called (Node K V)) → Steps Took value_at m (forgets_its_pair p) m2 end → StepFits present missing.Puts takes end → ⊥
+  stores_nothing present takes p m m2 end s fits = elim (exchanged m (λ out. Now (answered_with p answers.Absent)) (at_place p.trial.table p.trial.probe.i) 0 p.own m2 end s) as (λ _. ⊥) [
+    | inl d ↦ none_is_absent present takes p (subst (StepFits present missing.Puts takes) d.3 fits)
+    | inr d ↦ none_is_absent present takes p (subst (StepFits present missing.Puts takes) d.3 fits)
   ]
 
 module _ {K V : Type 0} (p : Copier) where
@@ -81,7 +81,7 @@ module _ {T : Type 0} (m : Mem T) where
 
 module _ {K V : Type 0} (same : K → K → Bool) (hash : K → ℕ) (setting : Setting) (lawful : AreLawful same hash) (caller : ℕ) (w : World (Node K V)) (c : Chart K) (blocks : Blocks)
     (map : IsMapIn same hash setting w c blocks) (moments : Moments (is_incremental setting.mode) c) (p : Copier) (is : p.setting ≡ setting) (m2 : Mem (Node K V)) (end : Copier × ℕ)
-    (Told : World (Node K V) → Chart K → Blocks → Type 0) (went : Went same hash setting caller w c blocks m2 Told) where
+    (Told : World (Node K V) → Chart K → Blocks → Type 0) (went : StepSpec same hash setting caller w c blocks m2 Told) where
   pub lowers_the_root : (t : ℕ) → IsTable c blocks p.source t → t < c.first → Steps Took value_at w.memory (lowers p) m2 end → ⊥
   lowers_the_root t table before s = omega (arith, before, lasts, same_turn)
     where

@@ -38,13 +38,13 @@ use Rattle.map_facts.proofs.Values.Left.{leaves_taken}
 use Rattle.map_facts.proofs.Values.Own.{IsDropping, NoneMoved, SeeksOn, asks_again}
 use Rattle.map_facts.proofs.Values.Sought.{IsSought, GoesSeeking}
 use Rattle.map_facts.proofs.Values.Steps.{SoughtOn, first_so, looks_on, probes_on, tries_on, nexts_on, allocs_on, copies_on}
-use Rattle.map_facts_late.specs.LateCalls.{LateFirst, LateAsking, LateCalling}
-use Rattle.map_facts_late.specs.LateCopies.{LateCopying}
+use Rattle.map_facts_late.specs.LateCalls.{SupersededFirst, SupersededAsking, SupersededCalling}
+use Rattle.map_facts_late.specs.LateCopies.{SupersededCopying}
 
 -- a call that never asks stands at no question there
 module _ {K V Q : Type 0} (same : K → K → Bool) (hash : K → ℕ) (asks : Q → K → Bool) (w : World (Node K V)) (caller : ℕ) (setting : Setting) (c : Chart K) (blocks : Blocks)
     (keys : K → Bool) (began : ℕ) (p : KeyCall K V Q) where
-  pub late_never_asks : MayStore p.replies.takes p.there p.missing → p.replies.takes ≡ takes.Nothing → (asks_at : Asking) → LateAsking same hash asks w caller setting c blocks keys began p asks_at → ⊥
+  pub late_never_asks : MayStore p.replies.takes p.there p.missing → p.replies.takes ≡ takes.Nothing → (asks_at : Asking) → SupersededAsking same hash asks w caller setting c blocks keys began p asks_at → ⊥
   late_never_asks may never (asking.Absent gap) f = never_missing p.there p.missing (subst (λ (x : Takes). MayStore x p.there p.missing) never may) f.1
   late_never_asks may never (asking.Present word) f = never_there p.there p.missing (subst (λ (x : Takes). MayStore x p.there p.missing) never may) f.1
   late_never_asks may never (asking.Fills word) f = never_told p.missing (sym (ap (λ (x : Takes). holding x p.missing) never) ∙ f.1)
@@ -62,7 +62,7 @@ module _ {K V Q : Type 0} (same : K → K → Bool) (hash : K → ℕ) (asks : Q
   on stands h = inl (h.0, h.1.unmoved)
 
   -- its table came too late: it is taken away again
-  first_moved : (making : NewTable) (stands : Making) → LateFirst w caller setting c blocks began stands → (end : NewTable × Advance Table) → Steps Took value_at w.memory (new.plan_at making stands) m2 end → Moved
+  first_moved : (making : NewTable) (stands : Making) → SupersededFirst w caller setting c blocks began stands → (end : NewTable × Advance Table) → Steps Took value_at w.memory (new.plan_at making stands) m2 end → Moved
   first_moved making (makes.Drops table found) f end s =
       let d = taken w.memory (λ out. other making found) (table.link / 2048) m2 end s in
       (leaves_taken w.memory m2 (λ b. b ≡ table.link / 2048) (λ b. ⊥) (λ b. ⊥) (table.link / 2048) d.0 d.1 d.2 refl (λ b h. h) (λ b h. h)).unmoved
@@ -73,18 +73,18 @@ module _ {K V Q : Type 0} (same : K → K → Bool) (hash : K → ℕ) (asks : Q
   first_moved making (makes.Links table) f end s = absurd f
   first_moved making (makes.Refused fault) f end s = absurd f
 
-  first_on : (making : NewTable) → LateFirst w caller setting c blocks began making.stands → Steps Took value_at w.memory (plan_at asks same hash p (at.Firsts making)) m2 e → On (at.Firsts making)
+  first_on : (making : NewTable) → SupersededFirst w caller setting c blocks began making.stands → Steps Took value_at w.memory (plan_at asks same hash p (at.Firsts making)) m2 e → On (at.Firsts making)
   first_on making f s =
       let d = steps_back (first_made p) w.memory m2 (new_table_plan making) e s in
       inl (subst (GoesSeeking p) (sym d.2) (first_so p d.0), first_moved making making.stands f d.0 d.1)
 
   -- the table that a late copier makes
-  late_makes : (copier : Copier) (stands : Point) → LateCopying same hash w caller setting c blocks began copier stands → MakesTable w caller setting c blocks stands
+  late_makes : (copier : Copier) (stands : Point) → SupersededCopying same hash w caller setting c blocks began copier stands → MakesTable w caller setting c blocks stands
   late_makes copier (copies.Grows word code making) f = absurd f
   late_makes copier (copies.Remakes making) f = (_, _, f.3)
   late_makes copier _ f = tt
 
-  pub late_seeks_on : (stands : Calling) → p.stands ≡ stands → IsSought stands → (IsDropping stands → ⊥) → LateCalling same hash asks w caller setting c blocks keys began p stands → (IsRowOfCall stands → ⊥)
+  pub late_seeks_on : (stands : Calling) → p.stands ≡ stands → IsSought stands → (IsDropping stands → ⊥) → SupersededCalling same hash asks w caller setting c blocks keys began p stands → (IsRowOfCall stands → ⊥)
       → May Can Took value_at w.memory (plan_at asks same hash p stands) → Steps Took value_at w.memory (plan_at asks same hash p stands) m2 e → On stands
   late_seeks_on (at.Looks l) here so none k row may s = on (at.Looks l) (looks_on same hash asks w caller setting c blocks p m2 e l k.0 may s)
   late_seeks_on at.Probes here so none k row may s = on at.Probes (probes_on same hash asks w caller setting c blocks p m2 e may s)

@@ -34,7 +34,7 @@ use Rattle.map_sweeps.specs.Reserves.Reserve.{reserve_plan}
 use Rattle.map_sweeps.specs.Sweeps.Sweep.{sweep_plan}
 use Rattle.many_calls.specs.Given.RawCall.{have_one_key, made, makes_of, root_found, next_found, dropped, key_read, pair_read, word_read, word_found, tried, looked, looks_for, first_made, next_made, disposed, helped, copied, plan_at, call_plan}
 use Rattle.many_calls.specs.Given.RawCallFills.{filled, putting_by, fill_by, emptied, fills_with, given_up, asks_at}
-use Rattle.many_calls.specs.Given.RawCallPoints.{entering, tableless, at_last, told, went_on}
+use Rattle.many_calls.specs.Given.RawCallPoints.{entering, tableless, at_last, told, continued_in}
 use Rattle.many_calls.specs.Given.RawMachine.{machine_plan, called, reserved, swept, counted as sum_counted}
 use Rattle.many_calls.specs.Given.RawReplies.{value_for, as_own}
 use Rattle.many_calls.specs.Given.RawDeclared.machines.answer.Called.{Called}
@@ -100,8 +100,8 @@ module _ {K V Q : Type 0} (eq : K → K → Bool) (stands_for : Q → K) where
   next_on : (c : KeyCall K V Q) (out : Out (Node K V)) → next_found (It c) out ≡ ThenOn (next_found c out)
   next_on c (Found link) = of (link == 0)
     where
-      of : (b : Bool) → (if b then Now (at_last c.missing (It c)) else Seeing (block_in link) (λ value. Now (went_on (It c) (table_seen link value))))
-          ≡ ThenOn (if b then Now (at_last c.missing c) else Seeing (block_in link) (λ value. Now (went_on c (table_seen link value))))
+      of : (b : Bool) → (if b then Now (at_last c.missing (It c)) else Seeing (block_in link) (λ value. Now (continued_in (It c) (table_seen link value))))
+          ≡ ThenOn (if b then Now (at_last c.missing c) else Seeing (block_in link) (λ value. Now (continued_in c (table_seen link value))))
       of true = ap Now (at_last_on stands_for c.missing c)
       of false = ap (Seeing (block_in link)) (fun_ext (λ value. ap Now (went_further stands_for c (table_seen link value))))
   next_on c _ = refl

@@ -14,8 +14,8 @@ use Rattle.map_tables.specs.declared.table.Table.{Table}
 use Rattle.map_tables.specs.declared.trial.Trial.{Trial}
 use Rattle.map_machines.specs.CopierStates.{helping, copying_all}
 use Rattle.map_machines.specs.Dispose.{disposing}
-use Rattle.many_calls.specs.Given.RawCallAsks.{absent_told, present_told, told_at, with_absent, with_present}
-use Rattle.many_calls.specs.Given.RawCallPoints.{going, over, standing, storing, ending, burying, at_gap, gap_by, pair_by, asking_of, tableless, at_free, at_end, beyond, at_last, at_pair, having_met, passed, told_of, aim_of, told, entering, went_on, changed, counted, following_made}
+use Rattle.many_calls.specs.Given.RawCallAsks.{absent_replied, present_replied, replied_at, with_absent, with_present}
+use Rattle.many_calls.specs.Given.RawCallPoints.{going, over, standing, storing, ending, burying, at_gap, gap_by, pair_by, asking_of, tableless, at_free, at_end, beyond, at_last, at_pair, having_met, passed, after_finding, aim_of, told, entering, continued_in, changed, counted, following_made}
 use Rattle.many_calls.specs.Given.RawDeclared.machines.answer.Called.{Called}
 use Rattle.many_calls.specs.Given.RawDeclared.machines.answer.Called.TheVariants.{Waits}
 use Rattle.many_calls.specs.Given.RawDeclared.machines.answer.End.{End}
@@ -130,7 +130,7 @@ module _ {K V Q : Type 0} (stands_for : Q → K) where
   passed_on c (Some trial) = refl
   passed_on c None = beyond_on c
 
-  told_of_on : (loaded : Bool) (c : KeyCall K V Q) (word : ℕ) (f : Finding) → told_of loaded (by c) word f ≡ on (told_of loaded c word f)
+  told_of_on : (loaded : Bool) (c : KeyCall K V Q) (word : ℕ) (f : Finding) → after_finding loaded (by c) word f ≡ on (after_finding loaded c word f)
   told_of_on loaded c word is.Free = at_free_on c.missing c
   told_of_on loaded c word is.Passed = passed_on (having_met c word) (next_trial (with_met c.trial word))
   told_of_on loaded c word is.Moved = refl
@@ -140,7 +140,7 @@ module _ {K V Q : Type 0} (stands_for : Q → K) where
   pub told_on : (loaded : Bool) (c : KeyCall K V Q) (word : ℕ) (same : Bool) → told loaded (by c) word same ≡ on (told loaded c word same)
   told_on loaded c word same = told_of_on loaded c word (finding c.setting.mode (aim_of c.missing) word same)
 
-  pub went_further : (c : KeyCall K V Q) (table : Table) → went_on (by c) table ≡ on (went_on c table)
+  pub went_further : (c : KeyCall K V Q) (table : Table) → continued_in (by c) table ≡ on (continued_in c table)
   went_further c table = of (is_incremental c.setting.mode) c.helped
     where
       of : (b h : Bool) → (if b then (if h then entering (by c) table else going (record (by c) { helped = true }) (at.Helps (helping c.setting) table)) else going (by c) (at.Copies (copying_all c.setting c.trial.table table)))
@@ -169,14 +169,14 @@ module _ {K V Q : Type 0} (stands_for : Q → K) where
   taken : {x : KeyCall K V K × Called (Node K V)} (y : KeyCall K V Q × Called (Node K V)) → x ≡ on y → ◌≡◌ {A = KeyCall K V K × Result Unit (MachineReply V)} (x.0, Ok tt) (by y.0, Ok tt)
   taken y is = ap (λ (z : KeyCall K V K × Called (Node K V)). (z.0, Ok tt)) is
 
-  absent_on : (t : Takes) (c : KeyCall K V Q) (gap : Gap) (told : MachineReply V) → absent_told t (by c) gap told ≡ Replied (absent_told t c gap told)
+  absent_on : (t : Takes) (c : KeyCall K V Q) (gap : Gap) (told : MachineReply V) → absent_replied t (by c) gap told ≡ Replied (absent_replied t c gap told)
   absent_on takes.Values c gap (reply.Insert value) = taken (at_gap gap (with_absent c value)) (at_gap_on gap (with_absent c value))
   absent_on takes.Changes c gap (reply.Insert value) = taken (at_gap gap (with_absent c value)) (at_gap_on gap (with_absent c value))
   absent_on takes.Changes c gap reply.Remove = taken (ending c (ends.Refused RemoveNothing)) (ending_on c (ends.Refused RemoveNothing))
   absent_on takes.Changes c gap reply.Abort = taken (ending c (ends.Answered answers.Absent)) (ending_on c (ends.Answered answers.Absent))
   absent_on _ c gap told = refl
 
-  present_on : (t : Takes) (c : KeyCall K V Q) (word : ℕ) (told : MachineReply V) → present_told t (by c) word told ≡ Replied (present_told t c word told)
+  present_on : (t : Takes) (c : KeyCall K V Q) (word : ℕ) (told : MachineReply V) → present_replied t (by c) word told ≡ Replied (present_replied t c word told)
   present_on takes.Values c word (reply.Insert value) = refl
   present_on takes.Changes c word (reply.Insert value) = refl
   present_on takes.Changes c word reply.Remove = taken (burying (with_present c word tells.Removes) word) (burying_on (with_present c word tells.Removes) word)
@@ -185,7 +185,7 @@ module _ {K V Q : Type 0} (stands_for : Q → K) where
   present_on takes.Choices c word reply.No = taken (ending c (ends.Answered (answers.Found word))) (ending_on c (ends.Answered (answers.Found word)))
   present_on _ c word told = refl
 
-  pub replied_on : (p : Calling) (c : KeyCall K V Q) (told : MachineReply V) → told_at p (by c) told ≡ Replied (told_at p c told)
+  pub replied_on : (p : Calling) (c : KeyCall K V Q) (told : MachineReply V) → replied_at p (by c) told ≡ Replied (replied_at p c told)
   replied_on (at.Asks (asking.Absent gap)) c told = absent_on c.replies.takes c gap told
   replied_on (at.Asks (asking.Present word)) c told = present_on c.replies.takes c word told
   replied_on _ c told = refl

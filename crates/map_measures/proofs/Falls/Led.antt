@@ -5,7 +5,7 @@ use Rattle.seize_words.specs.OneMemory.Mem.{Mem}
 use Rattle.map_tables.specs.declared.node.Node.{Node}
 use Rattle.map_tables.specs.declared.setting.Setting.{Setting}
 use Rattle.many_calls.specs.Given.RuleChart.{Chart}
-use Rattle.many_calls.specs.Given.RuleInWorld.{IsMapIn, Went}
+use Rattle.many_calls.specs.Given.RuleInWorld.{IsMapIn, StepSpec}
 use Rattle.many_calls.specs.Given.RuleMaps.{spot_of, IsMap}
 use Rattle.many_calls.specs.Given.RuleRule.{IsLawful}
 use Rattle.many_calls.specs.Given.RuleWords.{Blocks}
@@ -14,7 +14,7 @@ use Rattle.map_measures.proofs.Falls.Onward.{Onward}
 
 -- where a step led, both memories show their tables
 pub onward : {K V : Type 0} (same : K → K → Bool) (hash : K → ℕ) → IsLawful same (spot_of hash) → (setting : Setting) (w : World (Node K V)) (caller : ℕ) (c : Chart K) (blocks : Blocks)
-    → IsMapIn same hash setting w c blocks → (m2 : Mem (Node K V)) (went : Went same hash setting caller w c blocks m2 (λ w2 c2 blocks2. Unit {0}))
+    → IsMapIn same hash setting w c blocks → (m2 : Mem (Node K V)) (went : StepSpec same hash setting caller w c blocks m2 (λ w2 c2 blocks2. Unit {0}))
     → Onward same hash setting w.memory c blocks m2 went.c2 went.blocks2
 onward same hash lawful setting w caller c blocks map m2 went = record {
   map = map.map;

@@ -14,7 +14,7 @@ use Rattle.many_calls.specs.Given.RuleInWorld.{SameBlocks}
 use Rattle.many_calls.specs.Given.RuleLasts.{Lasts}
 use Rattle.many_calls.specs.Given.RuleLinks.{LeadsTo}
 use Rattle.many_calls.specs.Given.RuleMaps.{spot_of, IsMap, IsTable}
-use Rattle.many_calls.specs.Given.RuleWords.{Blocks, Shows, next_word}
+use Rattle.many_calls.specs.Given.RuleWords.{Blocks, Represents, next_word}
 use Rattle.many_calls.proofs.Given.RuleWords.LinksSeen.{link_made, next_leads, root_leads}
 use Rattle.many_calls.proofs.Given.RuleKeys.TriesLast.{table_lasts}
 
@@ -40,7 +40,7 @@ pub links_kept : {K V : Type 0} (root : ℕ) (c : Chart K) (blocks : Blocks) (m 
 links_kept root c blocks m m2 keeps = record { root_kept = λ none. keeps.root_kept; next_kept = λ t last. keeps.words_kept t NEXT (omega (arith, last)) }
 
 -- no link leads on from a table that is the last
-pub behind_none : {K V : Type 0} (hash : K → ℕ) (c : Chart K) (blocks : Blocks) (root : ℕ) (m : Mem (Node K V)) → Shows hash m c blocks root
+pub behind_none : {K V : Type 0} (hash : K → ℕ) (c : Chart K) (blocks : Blocks) (root : ℕ) (m : Mem (Node K V)) → Represents hash m c blocks root
     → ((t u : ℕ) → t < u → u < c.past → blocks.table_known t ≡ true → blocks.table_known u ≡ true)
     → (t : ℕ) → t < c.past → blocks.table_known t ≡ true → word_at m (Word (blocks.table t) NEXT) ≡ Some 0 → c.past ≤ suc t
 behind_none hash c blocks root m shows later t made known read = by (cases_lt (suc t) c.past)

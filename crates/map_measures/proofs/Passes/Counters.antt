@@ -9,10 +9,10 @@ use Rattle.map_tables.specs.declared.node.Node.{Node}
 use Rattle.map_tables.specs.declared.node.Node.TheVariants as node
 use Rattle.map_tables.specs.declared.table_words.TheConstants.{NEXT}
 use Rattle.many_calls.specs.Given.RuleChart.{Chart}
-use Rattle.many_calls.specs.Given.RuleWords.{Blocks, Shows}
+use Rattle.many_calls.specs.Given.RuleWords.{Blocks, Represents}
 use Rattle.map_measures.proofs.Falls.Onward.{KeepsLinks}
 
-module _ {K V : Type 0} {hash : K → ℕ} (root : ℕ) (c : Chart K) (blocks : Blocks) (m : Mem (Node K V)) (shows : Shows hash m c blocks root) (counter : ℕ)
+module _ {K V : Type 0} {hash : K → ℕ} (root : ℕ) (c : Chart K) (blocks : Blocks) (m : Mem (Node K V)) (shows : Represents hash m c blocks root) (counter : ℕ)
     (is_counter : value_at m counter ≡ Some node.Shards) where
   pub keeps_counted : (shard word : ℕ) (m2 : Mem (Node K V)) → m2 ≡ with_word m (Word counter shard) word → IsSome (word_at m (Word counter shard))
       → KeepsLinks root c blocks m m2

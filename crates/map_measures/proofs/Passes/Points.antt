@@ -59,7 +59,7 @@ use Rattle.map_measures.proofs.Falls.Within.Disposals.{disposed_on, disposed_sti
 use Rattle.many_calls.specs.Given.LateFactsSweeps.{GoesOver, CopiesTable, SweepingFacts, SweepFacts}
 use Rattle.many_calls.specs.Given.LateToldSweeps.{IsRowOfSweep}
 use Rattle.many_calls.proofs.Given.LateSwept.Sweeps.Tables.{upto, has_next}
-use Rattle.map_measures.specs.Passes.FallsSweeps.{ComesOn}
+use Rattle.map_measures.specs.Passes.FallsSweeps.{AdvancesFrom}
 use Rattle.map_measures.specs.Passes.Sweeps.{stale, numbers_at, number_of_sweep}
 use Rattle.map_measures.proofs.Passes.Counters.{keeps_counted}
 use Rattle.map_measures.proofs.Passes.Over.{turn_is, made, within, few, has_marks, further_on}
@@ -80,7 +80,7 @@ module _ {K V : Type 0} (same : K → K → Bool) (hash : K → ℕ) (setting : 
     (on : Onward same hash setting w.memory c blocks m2 c2 blocks2) where
   -- what is to be shown of a step from there
   abbrev Goal : Sweeping → Sweep × Swept (Node K V) → Type 0
-  Goal stands end = ComesOn stands end.1 → IsBelow (number_of_sweep hash c2 blocks2 end.0) (numbers_at hash c blocks p stands)
+  Goal stands end = AdvancesFrom stands end.1 → IsBelow (number_of_sweep hash c2 blocks2 end.0) (numbers_at hash c blocks p stands)
 
   still : m2 ≡ w.memory → c2.past ≡ c.past
   still is = past_still same hash setting w.memory c blocks m2 c2 blocks2 on is
@@ -274,5 +274,5 @@ module _ {K V : Type 0} (same : K → K → Bool) (hash : K → ℕ) (setting : 
 
   pub swept_on : SweepFacts same hash w caller setting c blocks began p → (IsRowOfSweep p.stands → ⊥) → (end : Sweep × Swept (Node K V))
       → Steps Took value_at w.memory (sweep_plan hash p) m2 end
-      → ComesOn p.stands end.1 → IsBelow (number_of_sweep hash c2 blocks2 end.0) (number_of_sweep hash c blocks p)
+      → AdvancesFrom p.stands end.1 → IsBelow (number_of_sweep hash c2 blocks2 end.0) (number_of_sweep hash c blocks p)
   swept_on f none end s = on_at end p.stands f.point none s

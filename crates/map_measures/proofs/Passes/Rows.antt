@@ -31,9 +31,9 @@ use Rattle.many_calls.specs.Given.PointsTold.{IsRowOf}
 use Rattle.map_measures.specs.Falls.Room.{tables_to_come}
 use Rattle.map_measures.proofs.Falls.Within.DisposalRows.{StaysInRow, stays_in_row, none_in_row}
 use Rattle.many_calls.specs.Given.LateFactsSweeps.{CopiesPairs}
-use Rattle.many_calls.specs.Given.LateRowsSweeps.{Rests}
+use Rattle.many_calls.specs.Given.LateRowsSweeps.{KnowsInRow}
 use Rattle.many_calls.specs.Given.LateToldSweeps.{IsRowOfSweep}
-use Rattle.map_measures.specs.Passes.FallsSweeps.{ComesOn, SweepRowsFall}
+use Rattle.map_measures.specs.Passes.FallsSweeps.{AdvancesFrom, SweepRowsFall}
 use Rattle.map_measures.specs.Passes.Sweeps.{at_place, numbers_at, number_of_sweep}
 use Rattle.map_measures.proofs.Passes.Over.{further_on}
 use Rattle.map_measures.proofs.Passes.Within.{none_done, row_copied}
@@ -53,12 +53,12 @@ module _ {K V : Type 0} (same : K → K → Bool) (hash : K → ℕ) (setting : 
   -- it is in the row still, and its number is what it was, or the row is over, and it is lower
   abbrev Goal : Sweeping → Sweep × Swept (Node K V) → Type 0
   Goal stands end =
-      ComesOn stands end.1
+      AdvancesFrom stands end.1
       → ((IsRowOfSweep end.0.stands) × (number_of_sweep hash c blocks end.0 ≡ numbers_at hash c blocks p stands))
       ⊎ ((IsRowOfSweep end.0.stands → ⊥) × IsBelow (number_of_sweep hash c blocks end.0) (numbers_at hash c blocks p stands))
 
   -- the pair that it has removed is disposed of
-  disposed_on : (dispose : Dispose) → IsRowOf dispose.stands → Rests same hash w caller setting c blocks began p → (to : Dispose × Settled (Node K V))
+  disposed_on : (dispose : Dispose) → IsRowOf dispose.stands → KnowsInRow same hash w caller setting c blocks began p → (to : Dispose × Settled (Node K V))
       → StaysInRow w.memory m2 dispose to
       → Goal (at.Disposes dispose) (disposed p to)
   disposed_on dispose row rests (next, settled.Goes) stays goes =
@@ -89,7 +89,7 @@ module _ {K V : Type 0} (same : K → K → Bool) (hash : K → ℕ) (setting : 
   copied_on copier row (next, outcome.Done root) s goes = absurd (none_done hash w.memory m2 c blocks p.setting copier next row root s)
   copied_on copier row (next, outcome.Refused fault) s goes = absurd goes
 
-  on_at : (stands : Sweeping) → IsRowOfSweep stands → ((CopiesPairs stands → ⊥) → Rests same hash w caller setting c blocks began p)
+  on_at : (stands : Sweeping) → IsRowOfSweep stands → ((CopiesPairs stands → ⊥) → KnowsInRow same hash w caller setting c blocks began p)
       → (end : Sweep × Swept (Node K V))
       → Steps Took value_at w.memory (plan_at hash p stands) m2 end → Goal stands end
   on_at (at.Disposes dispose) row rests end s =

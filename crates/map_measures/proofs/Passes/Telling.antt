@@ -11,7 +11,7 @@ use Rattle.many_calls.specs.Given.RuleWords.{Blocks}
 use Rattle.many_calls.specs.Given.PointsMeasures.{IsBelow}
 use Rattle.map_measures.specs.Falls.Room.{tables_to_come}
 use Rattle.many_calls.specs.Given.LateFactsSweeps.{SweepingFacts}
-use Rattle.map_measures.specs.Passes.FallsSweeps.{TellingFalls}
+use Rattle.map_measures.specs.Passes.FallsSweeps.{RepliesLowerTheVariant}
 use Rattle.map_measures.specs.Passes.Sweeps.{stale, numbers_at, number_of_sweep}
 use Rattle.map_measures.proofs.Passes.Over.{further_on}
 use Rattle.map_measures.proofs.Passes.Places.{none_within}
@@ -37,7 +37,7 @@ module _ {K : Type 0} (hash : K → ℕ) (c : Chart K) (blocks : Blocks) (p : Sw
       by false = over_below (tables_to_come c.past 0) (c.past - p.table.turn) 2 (omega arith)
 
 module _ {K : Type 0} (V : Type 0) (same : K → K → Bool) (hash : K → ℕ) where
-  pub telling_falls : TellingFalls V same hash
+  pub telling_falls : RepliesLowerTheVariant V same hash
   telling_falls setting w caller c blocks began p map f = (
     λ is. subst (λ (stands : Sweeping). Below hash c blocks p (next_at stands p) stands) (sym is) (next_below hash c blocks p),
     λ word is keeps. (subst (λ (stands : Sweeping). Below hash c blocks p (reply_at stands p keeps) stands) (sym is)

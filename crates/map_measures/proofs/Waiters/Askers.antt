@@ -17,7 +17,7 @@ use Rattle.many_calls.specs.Given.RuleRule.{Rule, is_free}
 use Rattle.many_calls.specs.Given.RuleWords.{Blocks}
 use Rattle.many_calls.specs.Given.PointsFactsCopies.{ClaimsNone, HasDone}
 use Rattle.many_calls.specs.Given.PointsFactsCopiesBlocking.{HasNoShares}
-use Rattle.many_calls.specs.Sights.{Sight}
+use Rattle.many_calls.specs.Sights.{Visible}
 use Rattle.many_calls.specs.Together.{UnderWay, Together, in_slot}
 use Rattle.map_measures.specs.Waits.Others.{EndsAt, copier_of}
 use Rattle.map_measures.specs.Waits.Waits.{IsUnfinished}
@@ -36,7 +36,7 @@ done_own : (k : ℕ) (share : Share) → share ≡ Done k → is_of_caller k sha
 done_own k share is = ap (is_of_caller k) is ∙ eq-eqb k k refl
 
 module _ {K Q : Type 0} (V : Type 0) (same : K → K → Bool) (hash : K → ℕ) (asks : Q → K → Bool) (setting : Setting) (slot : ℕ → ℕ)
-    (w : World (Node K V)) (c : Chart K) (blocks : Blocks) (sights : ℕ → Sight) (calls : ℕ → Option (UnderWay K V Q))
+    (w : World (Node K V)) (c : Chart K) (blocks : Blocks) (sights : ℕ → Visible) (calls : ℕ → Option (UnderWay K V Q))
     (s : Together V same hash asks setting slot w c blocks sights calls) (mode : is_incremental setting.mode ≡ false) (ends : HaveEndsBlocking c calls) where
   -- who has a share has a call
   pub has_call : (t k j : ℕ) → c.first < t → is_of_caller k (c.share t j) ≡ true → (u : UnderWay K V Q) × (calls k ≡ Some u)

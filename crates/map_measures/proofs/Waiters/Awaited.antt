@@ -18,8 +18,8 @@ use Rattle.many_calls.specs.Given.RuleWords.{Blocks}
 use Rattle.many_calls.specs.Given.PointsFactsCopiesBlocking.{CopierFactsBlocking, CopyingFactsBlocking, HasNoShares}
 use Rattle.many_calls.specs.Given.PointsTold.{IsRowOfCopier}
 use Rattle.many_calls.specs.Given.LateKinds.{LooksAt}
-use Rattle.many_calls.specs.Given.LateLateCopies.{LateCopierFacts, LateCopying}
-use Rattle.many_calls.specs.Sights.{Sight, seen_by}
+use Rattle.many_calls.specs.Given.LateLateCopies.{SupersededCopierFacts, SupersededCopying}
+use Rattle.many_calls.specs.Sights.{Visible, seen_by}
 use Rattle.many_calls.specs.Together.{UnderWay, OnKey, ForRoom, Counting, OverAll, Together, in_slot}
 use Rattle.map_measures.specs.Waits.Others.{EndsAt, copier_in, copier_of}
 use Rattle.map_measures.specs.Waits.Waits.{IsUnfinished}
@@ -47,7 +47,7 @@ only_no_row (ForRoom r) looks = absurd looks
 only_no_row (OverAll o) looks = absurd looks
 
 module _ {K Q : Type 0} (V : Type 0) (same : K → K → Bool) (hash : K → ℕ) (asks : Q → K → Bool) (setting : Setting) (slot : ℕ → ℕ)
-    (w : World (Node K V)) (c : Chart K) (blocks : Blocks) (sights : ℕ → Sight) (calls : ℕ → Option (UnderWay K V Q))
+    (w : World (Node K V)) (c : Chart K) (blocks : Blocks) (sights : ℕ → Visible) (calls : ℕ → Option (UnderWay K V Q))
     (s : Together V same hash asks setting slot w c blocks sights calls) (mode : is_incremental setting.mode ≡ false) where
   -- of one caller
   module _ (k : ℕ) where
@@ -72,10 +72,10 @@ module _ {K Q : Type 0} (V : Type 0) (same : K → K → Bool) (hash : K → ℕ
         by : CopyingFactsBlocking same hash w k its_setting c seen p copies.Asks → Asked p
         by (t, rests) = (c.first, t, rests.0.1, rests.0.2, rests.2)
 
-    late_asks : (began : ℕ) (p : Copier) → p.stands ≡ copies.Asks → LateCopierFacts same hash w k its_setting c seen began p → Asked p
-    late_asks began p here facts = by (subst (λ (q : Point). LateCopying same hash w k its_setting c seen began p q) here facts.point)
+    late_asks : (began : ℕ) (p : Copier) → p.stands ≡ copies.Asks → SupersededCopierFacts same hash w k its_setting c seen began p → Asked p
+    late_asks began p here facts = by (subst (λ (q : Point). SupersededCopying same hash w k its_setting c seen began p q) here facts.point)
       where
-        by : LateCopying same hash w k its_setting c seen began p copies.Asks → Asked p
+        by : SupersededCopying same hash w k its_setting c seen began p copies.Asks → Asked p
         by (u, t, late) = (u, t, late.order, late.target, late.idle)
 
     pub asks_so : (p : Copier) → p.stands ≡ copies.Asks → (x : UnderWay K V Q) → calls k ≡ Some x → copier_of x ≡ Some p → Asked p

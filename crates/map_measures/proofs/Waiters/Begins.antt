@@ -17,7 +17,7 @@ use Rattle.map_machines.specs.Lookup.{lookup_plan}
 use Rattle.map_machines.specs.NewTable.{new_table_plan}
 use Rattle.many_calls.specs.Given.RawCall.{made, makes_of, root_found, next_found, dropped, key_read, pair_read, word_read, word_found, tried, looked, looks_for, first_made, next_made, disposed, plan_at, call_plan}
 use Rattle.many_calls.specs.Given.RawCallFills.{filled, putting_by, fill_by, emptied, fills_with, fills, given_up, asks_at}
-use Rattle.many_calls.specs.Given.RawCallPoints.{ending, asking_at, tableless, at_free, at_last, at_pair, told_of, went_on, changed, counted, having_met}
+use Rattle.many_calls.specs.Given.RawCallPoints.{ending, asking_at, tableless, at_free, at_last, at_pair, after_finding, continued_in, changed, counted, having_met}
 use Rattle.map_tables.specs.declared.finding.Finding.{Finding}
 use Rattle.map_tables.specs.declared.finding.Finding.TheVariants as finds
 use Rattle.map_tables.specs.declared.marks.TheConstants.{TOMBSTONE}
@@ -109,7 +109,7 @@ module _ {K V Q : Type 0} where
     pair_new there.Removes word = tt
     pair_new there.Asks word = asking_of_so NewStep p (λ word new. tt) (λ asking. tt) (λ asking asked. tt) word
 
-    told_new : (loaded : Bool) (word : ℕ) (found : Finding) → NewStep (told_of loaded p word found)
+    told_new : (loaded : Bool) (word : ℕ) (found : Finding) → NewStep (after_finding loaded p word found)
     told_new loaded word finds.Free = free_new p.missing
     told_new loaded word finds.Passed =
         passed_so NewStep (having_met p word) (λ next. tt) tt (λ e. either (p.own == 0) _ _ tt tt) (λ e untold. tt) (next_trial (with_met p.trial word))
@@ -117,7 +117,7 @@ module _ {K V Q : Type 0} where
     told_new loaded word finds.Copying = either loaded _ _ tt tt
     told_new loaded word finds.There = pair_new p.there word
 
-    on_new : (table : Table) → NewStep (went_on p table)
+    on_new : (table : Table) → NewStep (continued_in p table)
     on_new table = either (is_incremental p.setting.mode) _ _ (either p.helped _ _ tt refl) (begun_new p.setting p.trial.table table)
 
     changed_new : (word new : ℕ) → NewStep (changed p word new)

@@ -21,7 +21,7 @@ use Rattle.many_calls.specs.Given.RuleChart.{Chart}
 use Rattle.many_calls.specs.Given.RuleWords.{Blocks}
 use Rattle.many_calls.specs.Given.PointsFactsCalls.{CallingFacts, IsCopying}
 use Rattle.many_calls.specs.Given.PointsSteps.{AreLawful}
-use Rattle.many_calls.specs.Given.PointsTold.{IsRowOfCall, IsRowOfCopier, MovedBeside, IsBeside, OnlyLinks}
+use Rattle.many_calls.specs.Given.PointsTold.{IsRowOfCall, IsRowOfCopier, MovedBesideCopying, IsBesideCopying, OnlyLinks}
 use Rattle.map_tables.specs.declared.resize_mode.ResizeMode.{ResizeMode}
 use Rattle.map_sweeps.specs.declared.reserve.Reserve.{Reserve}
 use Rattle.map_sweeps.specs.declared.reserve.Reserving.{Reserving}
@@ -46,10 +46,10 @@ use Rattle.map_sweeps.specs.Reserves.Reserve as room_plans
 use Rattle.map_sweeps.specs.Sweeps.Sweep as sweep_plans
 use Rattle.map_sweeps.specs.Sweeps.SweepPoints.{entering}
 use Rattle.map_sweeps.specs.declared.sweep.Swept.TheVariants as swept
-use Rattle.many_calls.specs.Given.LateLateCalls.{LateCalling}
-use Rattle.many_calls.specs.Given.LateLateCopies.{LateCopierFacts}
-use Rattle.many_calls.specs.Sights.{Sight, seen_by}
-use Rattle.many_calls.specs.Together.{CallOnKey, UnderWay, OnKey, Together, StepsTogether, StepTold, Fresh, Late, change_told, next_of, in_slot, ForRoom, OverAll, RoomStepsTogether, RoomTold, FreshRoom, LateRoom, next_for_room, next_over_all}
+use Rattle.many_calls.specs.Given.LateLateCalls.{SupersededCalling}
+use Rattle.many_calls.specs.Given.LateLateCopies.{SupersededCopierFacts}
+use Rattle.many_calls.specs.Sights.{Visible, seen_by}
+use Rattle.many_calls.specs.Together.{CallOnKey, UnderWay, OnKey, Together, StepsTogether, StepOutcome, Fresh, Late, change_observed, next_of, in_slot, ForRoom, OverAll, RoomStepsTogether, RoomOutcome, FreshRoom, LateRoom, next_for_room, next_over_all}
 use Rattle.many_calls.specs.OverAll.{CallOverAll, come_to}
 use Rattle.many_calls.specs.Rooms.{CallForRoom}
 use Rattle.many_calls.specs.Sweeps.{SweepStepsTogether}
@@ -58,7 +58,7 @@ use Rattle.many_calls.proofs.Together.At.{at_same}
 use Rattle.many_calls.proofs.Given.LateSwept.Sweeps.Stands.{quiet_entering}
 use Rattle.map_measures.specs.Waits.Others.{copier_in, copier_in_room, copier_in_sweep}
 use Rattle.map_measures.proofs.Waits.EndingCalls.{copier_then}
-use Rattle.map_measures.specs.Waiters.Blocking.{CallsKeepEndsBlocking, HaveEndsBlocking, RoomsKeepEndsBlocking, SweepsKeepEndsBlocking}
+use Rattle.map_measures.specs.Waiters.Blocking.{CallsPreserveEndsBlocking, HaveEndsBlocking, RoomsPreserveEndsBlocking, SweepsPreserveEndsBlocking}
 use Rattle.map_measures.proofs.Waiters.Stands.{copier_knows}
 use Rattle.map_measures.proofs.Waiters.Reached.{Reached}
 use Rattle.map_measures.proofs.Waiters.Spent.{anywhere, unspent_at}
@@ -74,7 +74,7 @@ new_spent c None new = tt
 new_spent c (Some p) new = unspent_at c p p.stands (anywhere p p.stands new)
 
 -- a change beside a copying makes no table the root
-first_beside : {K : Type 0} (hash : K → ℕ) (b : Bool) (c d : Chart K) → (d ≡ c) ⊎ ((move : Move K) × IsBeside move × (d ≡ after (spot_of hash) b move c)) → d.first ≡ c.first
+first_beside : {K : Type 0} (hash : K → ℕ) (b : Bool) (c d : Chart K) → (d ≡ c) ⊎ ((move : Move K) × IsBesideCopying move × (d ≡ after (spot_of hash) b move c)) → d.first ≡ c.first
 first_beside hash b c d (inl is) = ap (λ (x : Chart _). x.first) is
 first_beside hash b c d (inr (Links len limit, its, is)) = ap (λ (x : Chart _). x.first) is
 first_beside hash b c d (inr (Stores t k j, its, is)) = ap (λ (x : Chart _). x.first) is
@@ -168,7 +168,7 @@ module _ {K V : Type 0} (Q : Type 0) where
 
 module _ {K Q : Type 0} (V : Type 0) (same : K → K → Bool) (hash : K → ℕ) (asks : Q → K → Bool) (setting : Setting) (slot : ℕ → ℕ) where
   module _ (are : AreLawful same hash) (power : IsPowerOfTwo setting.initial) (mode : is_incremental setting.mode ≡ false)
-      (w : World (Node K V)) (c : Chart K) (blocks : Blocks) (sights : ℕ → Sight) (calls : ℕ → Option (UnderWay K V Q))
+      (w : World (Node K V)) (c : Chart K) (blocks : Blocks) (sights : ℕ → Visible) (calls : ℕ → Option (UnderWay K V Q))
       (s : Together V same hash asks setting slot w c blocks sights calls) (all : HaveEndsBlocking c calls) (i : ℕ) (m2 : Mem (Node K V)) where
     abbrev seen : Blocks
     seen = seen_by blocks (sights (slot i))
@@ -177,10 +177,10 @@ module _ {K Q : Type 0} (V : Type 0) (same : K → K → Bool) (hash : K → ℕ
     its_setting = in_slot setting (slot i)
 
     -- what the copier within which a call stands then knows
-    knows_then : (w2 : World (Node K V)) (d : Chart K) (blocks2 : Blocks) (sights2 : ℕ → Sight) (next : Option (UnderWay K V Q))
+    knows_then : (w2 : World (Node K V)) (d : Chart K) (blocks2 : Blocks) (sights2 : ℕ → Visible) (next : Option (UnderWay K V Q))
         → Together V same hash asks setting slot w2 d blocks2 sights2 (with_at calls i next) → (q : Copier) → copier_then next ≡ Some q → (IsRowOfCopier q.stands → ⊥)
         → CopierFactsBlocking same hash w2 i its_setting d (seen_by blocks2 (sights2 (slot i))) q
-        ⊎ ((began : ℕ) × LateCopierFacts same hash w2 i its_setting d (seen_by blocks2 (sights2 (slot i))) began q)
+        ⊎ ((began : ℕ) × SupersededCopierFacts same hash w2 i its_setting d (seen_by blocks2 (sights2 (slot i))) began q)
     knows_then w2 d blocks2 sights2 (Some y) s2 q within row =
         copier_knows V same hash asks setting slot w2 d blocks2 sights2 (with_at calls i (Some y)) s2 mode i q y (at_same calls i (Some y) i refl) within row
     knows_then w2 d blocks2 sights2 None s2 q within row = absurd (cc within)
@@ -189,7 +189,7 @@ module _ {K Q : Type 0} (V : Type 0) (same : K → K → Bool) (hash : K → ℕ
         (steps : Steps Took value_at w.memory (call_plan asks same hash u.call) m2 (p2, progress))
         (leads : StepsTogether V same hash asks setting slot w c blocks sights calls i u m2 p2 progress) where
       abbrev like : CallOnKey K V Q
-      like = record { keys = u.keys; pair = u.pair; began = u.began; change = change_told V same hash asks setting slot leads.went.told; call = p2 }
+      like = record { keys = u.keys; pair = u.pair; began = u.began; change = change_observed V same hash asks setting slot leads.went.told; call = p2 }
 
       abbrev next : Option (UnderWay K V Q)
       next = next_of like progress
@@ -205,7 +205,7 @@ module _ {K Q : Type 0} (V : Type 0) (same : K → K → Bool) (hash : K → ℕ
           beside_keeps V same hash asks setting slot are power mode w c blocks sights calls s all i (OnKey u) has leads.inside m2 leads.went.c2 leads.went.blocks2 reached next within none
           (first_beside hash (is_incremental setting.mode) c leads.went.c2 (told leads.went.told)) (key_spent like leads.went.c2 p2 progress (call_new asks same hash u.call w.memory m2 (p2, progress) within steps))
         where
-          told : StepTold V same hash asks setting slot c i u p2 progress leads.went.w2 leads.went.c2 leads.went.blocks2 → MovedBeside hash its_setting.mode c leads.went.c2
+          told : StepOutcome V same hash asks setting slot c i u p2 progress leads.went.w2 leads.went.c2 leads.went.blocks2 → MovedBesideCopying hash its_setting.mode c leads.went.c2
           told (Fresh fresh) = fresh.beside apart
           told (Late blocking same_change late) = late.beside apart
 
@@ -221,7 +221,7 @@ module _ {K Q : Type 0} (V : Type 0) (same : K → K → Bool) (hash : K → ℕ
       no_help copier goal here = elim (s.stand i (OnKey u) has) as (λ _. ⊥) [
         | inl rests ↦ elim rests.1.facts as (λ _. ⊥) [
           | inl fresh ↦ (let f = subst (λ (q : Calling). CallingFacts same hash asks w i its_setting c seen u.keys u.change u.call q) here fresh.point in let yes = f.1 in cc (yes, mode))
-          | inr late ↦ subst (λ (q : Calling). LateCalling same hash asks w i its_setting c seen u.keys u.began u.call q) here late.1.point
+          | inr late ↦ subst (λ (q : Calling). SupersededCalling same hash asks w i its_setting c seen u.keys u.began u.call q) here late.1.point
         ]
         | inr row ↦ none row.1
       ]
@@ -251,7 +251,7 @@ module _ {K Q : Type 0} (V : Type 0) (same : K → K → Bool) (hash : K → ℕ
           beside_keeps V same hash asks setting slot are power mode w c blocks sights calls s all i (ForRoom r) has leads.inside m2 leads.went.c2 leads.went.blocks2 rooms_reached rooms_next within none
           (first_links hash its_setting.mode c leads.went.c2 (told leads.went.told)) (room_spent Q leads.went.c2 r.began p2 end (room_new hash w.memory m2 r.reserve (p2, end) within steps))
         where
-          told : RoomTold V same hash asks setting slot c i r p2 end leads.went.w2 leads.went.c2 leads.went.blocks2 → OnlyLinks hash its_setting.mode c leads.went.c2
+          told : RoomOutcome V same hash asks setting slot c i r p2 end leads.went.w2 leads.went.c2 leads.went.blocks2 → OnlyLinks hash its_setting.mode c leads.went.c2
           told (FreshRoom fresh) = fresh.beside apart
           told (LateRoom blocking late) = late.beside apart
 
@@ -304,14 +304,14 @@ module _ {K Q : Type 0} (V : Type 0) (same : K → K → Bool) (hash : K → ℕ
       sweep_keeps : SweepsAfter
       sweep_keeps = sweep_at o.sweep.stands refl
 
-  pub calls_keep_ends_blocking : CallsKeepEndsBlocking V same hash asks setting slot
+  pub calls_keep_ends_blocking : CallsPreserveEndsBlocking V same hash asks setting slot
   calls_keep_ends_blocking are power mode w c blocks sights calls s all i u has none m2 p2 progress steps leads =
       call_keeps are power mode w c blocks sights calls s all i m2 u has none p2 progress steps leads
 
-  pub rooms_keep_ends_blocking : RoomsKeepEndsBlocking V same hash asks setting slot
+  pub rooms_keep_ends_blocking : RoomsPreserveEndsBlocking V same hash asks setting slot
   rooms_keep_ends_blocking are power mode w c blocks sights calls s all i r has none m2 p2 end steps leads =
       room_keeps are power mode w c blocks sights calls s all i m2 r has none p2 end steps leads
 
-  pub sweeps_keep_ends_blocking : SweepsKeepEndsBlocking V same hash asks setting slot
+  pub sweeps_keep_ends_blocking : SweepsPreserveEndsBlocking V same hash asks setting slot
   sweeps_keep_ends_blocking are power mode w c blocks sights calls s all i o has none m2 p2 end steps leads =
       sweep_keeps are power mode w c blocks sights calls s all i m2 o has none p2 end steps leads

@@ -26,7 +26,7 @@ use Rattle.many_calls.specs.Given.RuleLasts.{IsBy}
 use Rattle.many_calls.specs.Given.RuleMaps.{spot_of}
 use Rattle.many_calls.specs.Given.RuleMoves.{Move, Counts, after, counted_to, with_counted}
 use Rattle.many_calls.specs.Given.RuleRule.{total}
-use Rattle.many_calls.specs.Given.RuleWords.{Blocks, ShowsTable}
+use Rattle.many_calls.specs.Given.RuleWords.{Blocks, RepresentsTable}
 use Rattle.many_calls.specs.Given.PointsFactsCopiesBlocking.{CopiesInto, HasDoneIn}
 use Rattle.many_calls.proofs.Given.RuleMoves.Totals.{total_with_counted}
 use Rattle.many_calls.proofs.Given.RuleShares.CopiersShares.{done_fits}
@@ -106,7 +106,7 @@ module _ {K V : Type 0} (same : K → K → Bool) (hash : K → ℕ) (caller : �
       same_table : (blocks2.table t ≡ blocks.table t) × (blocks2.table_known t ≡ true)
       same_table = r.3.tables t into.2.made into.2.known
 
-      there : ShowsTable hash m2 d blocks2 t
+      there : RepresentsTable hash m2 d blocks2 t
       there = (shows same hash setting mode w caller c blocks map m2 d blocks2 r).tables t (past_on same hash setting mode w caller c blocks map m2 d blocks2 r t into.2.made) same_table.1
 
       read : word_at m2 at_table ≡ Some (d.copied t)

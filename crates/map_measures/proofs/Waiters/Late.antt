@@ -4,7 +4,7 @@ use Rattle.std.proofs.Common.{◌≡◌, ℕ, ◌<◌, Bool, false, inl, inr, ap
 use Rattle.seize_words.specs.declared.at.At.TheVariants.{Root}
 use Rattle.seize_words.specs.OneMemory.Mem.{Can, Mem, Took, value_at, word_at}
 use Rattle.seize_words.specs.OneMemory.Plan.{May, Steps}
-use Rattle.many_calls.specs.Given.LateLateCopies.{CopiesLate, LateCopierFacts, LateCopying}
+use Rattle.many_calls.specs.Given.LateLateCopies.{CopiesSuperseded, SupersededCopierFacts, SupersededCopying}
 use Rattle.map_machines.specs.Copier.{copier_plan, plan_at}
 use Rattle.map_machines.specs.CopierPromotes.{promoted}
 use Rattle.seize.specs.World.{World}
@@ -35,11 +35,11 @@ use Rattle.map_measures.proofs.Waiters.Copiers.{written}
 
 module _ {K V : Type 0} (same : K → K → Bool) (hash : K → ℕ) (caller : ℕ) (setting : Setting) (mode : is_incremental setting.mode ≡ false)
     (w : World (Node K V)) (c : Chart K) (blocks : Blocks) (map : IsMapIn same hash setting w c blocks) (began : ℕ)
-    (p : Copier) (facts : LateCopierFacts same hash w caller setting c blocks began p) (row : IsRowOfCopier p.stands → ⊥) (may : May Can Took value_at w.memory (copier_plan {V = V} hash p))
+    (p : Copier) (facts : SupersededCopierFacts same hash w caller setting c blocks began p) (row : IsRowOfCopier p.stands → ⊥) (may : May Can Took value_at w.memory (copier_plan {V = V} hash p))
     (m2 : Mem (Node K V)) (end : Copier × Yielding (Node K V) Table) (steps : Steps Took value_at w.memory (copier_plan hash p) m2 end) (d : Chart K) (blocks2 : Blocks)
     (r : Reached same hash setting mode w caller c blocks map m2 d blocks2) (P A G : ℕ → Type 0) where
   -- it has no part in a copying that goes on
-  late_idle : (stands : Point) → LateCopying same hash w caller setting c blocks began p stands → HasNoShares same hash w caller setting c blocks
+  late_idle : (stands : Point) → SupersededCopying same hash w caller setting c blocks began p stands → HasNoShares same hash w caller setting c blocks
   late_idle at.Asks (u, t, late) = late.idle
   late_idle at.Sees (u, t, late) = late.idle
   late_idle at.Claims (u, t, late) = late.idle
@@ -58,7 +58,7 @@ module _ {K V : Type 0} (same : K → K → Bool) (hash : K → ℕ) (caller : �
   late_idle _ facts = absurd facts
 
   -- what it copies is the root no more: it makes no table the root
-  module _ (u t : ℕ) (late : CopiesLate same hash w caller setting c blocks began p u t) where
+  module _ (u t : ℕ) (late : CopiesSuperseded same hash w caller setting c blocks began p u t) where
     root_other : word_at w.memory (Root setting.root) ≡ Some p.source.link → ⊥
     root_other is =
         let made : 0 < c.past = let some = late.target.made in omega (arith, some) in
@@ -85,7 +85,7 @@ module _ {K V : Type 0} (same : K → K → Bool) (hash : K → ℕ) (caller : �
     where
       by : (p.stands ≡ at.Promotes) ⊎ (p.stands ≡ at.Promotes → ⊥) → word_at m2 (Root setting.root) ≡ word_at w.memory (Root setting.root)
       by (inl here) =
-          let point = subst (λ (q : Point). LateCopying same hash w caller setting c blocks began p q) here facts.point in
+          let point = subst (λ (q : Point). SupersededCopying same hash w caller setting c blocks began p q) here facts.point in
           ap (λ (m : Mem (Node K V)). word_at m (Root setting.root)) (same_memory point.0 point.1 point.2 (subst (λ (q : Point). Steps Took value_at w.memory (plan_at hash p q) m2 end) here steps))
       by (inr other) =
           step_spares (root_word same hash w caller setting c blocks map) tt w.memory _ map.map.shows.root_there (copier_plan hash p) m2 end
@@ -103,19 +103,19 @@ module _ {K V : Type 0} (same : K → K → Bool) (hash : K → ℕ) (caller : �
   target_turn t target = ap (λ (x : Table). x.turn) target.is
 
   -- it is to end a copying only where it has yet to say so; and it is to give none up
-  no_promote : (u t v : ℕ) → CopiesLate same hash w caller setting c blocks began p u t → (p.target.turn ≡ v) × (c.first < v) → ⊥
+  no_promote : (u t v : ℕ) → CopiesSuperseded same hash w caller setting c blocks began p u t → (p.target.turn ≡ v) × (c.first < v) → ⊥
   no_promote u t v late (turn, ahead) = let its = target_turn t late.target in let over = late.over in omega (arith, turn, ahead, its, over)
 
   abbrev IsAnnounced : Point → Type 0
   IsAnnounced at.Announces = Unit {0}
   IsAnnounced _ = ⊥
 
-  no_end : (stands : Point) → (IsAnnounced stands → ⊥) → LateCopying same hash w caller setting c blocks began p stands → (v : ℕ) → EndsAt c p stands v → ⊥
+  no_end : (stands : Point) → (IsAnnounced stands → ⊥) → SupersededCopying same hash w caller setting c blocks began p stands → (v : ℕ) → EndsAt c p stands v → ⊥
   no_end at.Promotes other (u, t, late) v own = no_promote u t v late own
   no_end at.Announces other point v own = other tt
   no_end _ other point v own = own
 
-  no_lose : (stands : Point) → LateCopying same hash w caller setting c blocks began p stands → (v : ℕ) → AbortsAt c p stands v → ⊥
+  no_lose : (stands : Point) → SupersededCopying same hash w caller setting c blocks began p stands → (v : ℕ) → AbortsAt c p stands v → ⊥
   no_lose at.Aborts (u, t, late) v own = no_promote u t v late.0 own
   no_lose _ point v own = own
 
@@ -123,7 +123,7 @@ module _ {K V : Type 0} (same : K → K → Bool) (hash : K → ℕ) (caller : �
   pub late_keeps : AllKept P A G c (λ v. EndsAt c p p.stands v) (λ v. AbortsAt c p p.stands v) → AllKept P A G d (λ v. ⊥) (λ v. ⊥)
   late_keeps all = by p.stands refl facts.point steps all
     where
-      by : (stands : Point) → p.stands ≡ stands → LateCopying same hash w caller setting c blocks began p stands → Steps Took value_at w.memory (plan_at hash p stands) m2 end
+      by : (stands : Point) → p.stands ≡ stands → SupersededCopying same hash w caller setting c blocks began p stands → Steps Took value_at w.memory (plan_at hash p stands) m2 end
           → AllKept P A G c (λ v. EndsAt c p stands v) (λ v. AbortsAt c p stands v) → AllKept P A G d (λ v. ⊥) (λ v. ⊥)
       by at.Announces here (s, t, source, unlinked) taken all =
           announces_keep same hash setting mode w caller c blocks map m2 d blocks2 r P A G late_first (late_idle at.Announces (s, t, source, unlinked)) p

@@ -18,7 +18,7 @@ use Rattle.map_machines.specs.declared.yielding.Yielding.{Yielding}
 use Rattle.map_machines.specs.declared.yielding.Yielding.TheVariants.{Goes}
 use Rattle.many_calls.specs.Given.RuleChart.{Chart}
 use Rattle.many_calls.specs.Given.RuleInWorld.{IsMapIn}
-use Rattle.many_calls.specs.Given.RuleWords.{Blocks, Shows}
+use Rattle.many_calls.specs.Given.RuleWords.{Blocks, Represents}
 use Rattle.many_calls.specs.Given.PointsFactsCopiesBlocking.{RestsIn}
 use Rattle.seize_words.proofs.OneMemory.OneOwner.AfterWrites.{word_at-with_word}
 use Rattle.seize_words.proofs.OneMemory.OneOwner.Operations.{exchanged}
@@ -60,7 +60,7 @@ module _ {K V : Type 0} (same : K → K → Bool) (hash : K → ℕ) (caller : �
         ∙ word_at-with_word w.memory (Root setting.root) (blocks.table t * 2048) (Root setting.root) (is_some_of _ _ root_here)
         ∙ ap (λ (b : Bool). cond b (Some (blocks.table t * 2048)) (word_at w.memory (Root setting.root))) (same_at-refl (Root setting.root))
 
-    here : Shows hash m2 d blocks2 setting.root
+    here : Represents hash m2 d blocks2 setting.root
     here = shows same hash setting mode w caller c blocks map m2 d blocks2 r
 
     made_then : t < d.past

@@ -19,7 +19,7 @@ use Rattle.many_calls.specs.Given.RuleLasts.{IsBy}
 use Rattle.many_calls.specs.Given.RuleMaps.{spot_of}
 use Rattle.many_calls.specs.Given.RuleMoves.{Move, Links, Promotes, Allowed, after, is_of_caller}
 use Rattle.many_calls.specs.Given.RuleRule.{Rule}
-use Rattle.many_calls.specs.Given.RuleWords.{Blocks, Shows, ShowsTable}
+use Rattle.many_calls.specs.Given.RuleWords.{Blocks, Represents, RepresentsTable}
 use Rattle.map_measures.specs.Waits.Others.{EndsAt}
 use Rattle.map_measures.specs.Waiters.Blocking.{AbortsAt}
 use Rattle.map_measures.proofs.Waiters.Moves.{AllKept, aside, discharged, promoted}
@@ -39,8 +39,8 @@ module _ {K V : Type 0} (same : K → K → Bool) (hash : K → ℕ) (setting : 
   rule = subst (λ (b : Bool). Rule same (spot_of hash) b c) mode map.map.rule
 
   module _ (r : Reached) where
-    pub shows : Shows hash m2 d blocks2 setting.root
-    shows = subst (λ (m : Mem (Node K V)). Shows hash m d blocks2 setting.root) r.1 r.2.map.shows
+    pub shows : Represents hash m2 d blocks2 setting.root
+    shows = subst (λ (m : Mem (Node K V)). Represents hash m d blocks2 setting.root) r.1 r.2.map.shows
 
     pub moved : MovedSo false
     moved = subst MovedSo mode r.5
@@ -92,7 +92,7 @@ module _ {K V : Type 0} (same : K → K → Bool) (hash : K → ℕ) (setting : 
     -- the status of a table is what its word says
     pub status_now : (t : ℕ) → t < c.past → t < d.past → blocks.table_known t ≡ true → (said : ℕ) → word_at m2 (Word (blocks.table t) STATUS) ≡ Some said → d.status t ≡ said
     status_now t before made known said written =
-        let there : ShowsTable hash m2 d blocks2 t = shows.tables t made (r.3.tables t before known).1 in
+        let there : RepresentsTable hash m2 d blocks2 t = shows.tables t made (r.3.tables t before known).1 in
         let read : word_at m2 (Word (blocks.table t) STATUS) ≡ Some (d.status t) = subst (λ (b : ℕ). word_at m2 (Word b STATUS) ≡ Some (d.status t)) (r.3.tables t before known).0 there.status in
         (let both = sym read ∙ written in cc both)
 

@@ -33,7 +33,7 @@ use Rattle.many_calls.specs.Given.RawDeclared.machines.answer.Called.TheVariants
 use Rattle.map_sweeps.specs.Reserves.Reserve as room_plans
 use Rattle.map_sweeps.specs.Sweeps.Sweep as sweep_plans
 use Rattle.map_sweeps.specs.declared.sweep.Swept.TheVariants as swept
-use Rattle.many_calls.specs.Given.LateLateCalls.{LateCalling}
+use Rattle.many_calls.specs.Given.LateLateCalls.{SupersededCalling}
 use Rattle.map_machines.specs.declared.copier.Copying.{Copying as Point}
 use Rattle.map_machines.specs.declared.copier.Copying.TheVariants as copies
 use Rattle.map_machines.specs.CopierPromotes.{retired, table_retired}
@@ -42,7 +42,7 @@ use Rattle.seize.specs.declared.rows.settle.Settle.{Settle}
 use Rattle.seize.specs.declared.rows.settle.Settled.{Settled}
 use Rattle.seize.specs.declared.rows.settle.Settled.TheVariants as settled
 use Rattle.map_tables.specs.Nodes.{deferred_word}
-use Rattle.many_calls.specs.Sights.{Sight, seen_by}
+use Rattle.many_calls.specs.Sights.{Visible, seen_by}
 use Rattle.many_calls.specs.Together.{CallOnKey, UnderWay, OnKey, Together, in_slot, ForRoom, OverAll}
 use Rattle.many_calls.specs.OverAll.{CallOverAll}
 use Rattle.many_calls.specs.Rooms.{CallForRoom}
@@ -109,7 +109,7 @@ new_sweep Q o entered done p (swept.Refused fault) new = tt
 new_sweep Q o entered done p _ new = new_fresh (copier_in_sweep p.stands) new
 
 module _ {K Q : Type 0} (V : Type 0) (same : K → K → Bool) (hash : K → ℕ) (asks : Q → K → Bool) (setting : Setting) (slot : ℕ → ℕ) (mode : is_incremental setting.mode ≡ false)
-    (w : World (Node K V)) (c : Chart K) (blocks : Blocks) (sights : ℕ → Sight) (calls : ℕ → Option (UnderWay K V Q))
+    (w : World (Node K V)) (c : Chart K) (blocks : Blocks) (sights : ℕ → Visible) (calls : ℕ → Option (UnderWay K V Q))
     (s : Together V same hash asks setting slot w c blocks sights calls) (all : HaveEndsBlocking c calls) (i : ℕ) (m2 : Mem (Node K V)) where
   -- the copier within which a call stands at a row
   its_unspent : (x : UnderWay K V Q) → calls i ≡ Some x → (p : Copier) → copier_of x ≡ Some p → IsRowOfCopier p.stands → p.spent ≡ false
@@ -121,11 +121,11 @@ module _ {K Q : Type 0} (V : Type 0) (same : K → K → Bool) (hash : K → ℕ
     helps_none copier goal here = elim (s.stand i (OnKey u) has) as (λ _. ⊥) [
       | inl rests ↦ elim rests.1.facts as (λ _. ⊥) [
         | inl fresh ↦ (let f = subst (λ (q : Calling). CallingFacts same hash asks w i (in_slot setting (slot i)) c (seen_by blocks (sights (slot i))) u.keys u.change u.call q) here fresh.point in let yes = f.1 in cc (yes, mode))
-        | inr late ↦ subst (λ (q : Calling). LateCalling same hash asks w i (in_slot setting (slot i)) c (seen_by blocks (sights (slot i))) u.keys u.began u.call q) here late.1.point
+        | inr late ↦ subst (λ (q : Calling). SupersededCalling same hash asks w i (in_slot setting (slot i)) c (seen_by blocks (sights (slot i))) u.keys u.began u.call q) here late.1.point
       ]
       | inr within ↦ elim within.2.facts as (λ _. ⊥) [
         | inl fresh ↦ (let f = subst (λ (q : Calling). CallingFacts same hash asks w i (in_slot setting (slot i)) c (seen_by blocks (sights (slot i))) u.keys u.change (once_over u.call) (past_row q)) here fresh.point in let yes = f.1 in cc (yes, mode))
-        | inr late ↦ subst (λ (q : Calling). LateCalling same hash asks w i (in_slot setting (slot i)) c (seen_by blocks (sights (slot i))) u.keys u.began (once_over u.call) (past_row q)) here late.1.point
+        | inr late ↦ subst (λ (q : Calling). SupersededCalling same hash asks w i (in_slot setting (slot i)) c (seen_by blocks (sights (slot i))) u.keys u.began (once_over u.call) (past_row q)) here late.1.point
       ]
     ]
 

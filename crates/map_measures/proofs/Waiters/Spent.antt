@@ -12,7 +12,7 @@ use Rattle.map_machines.specs.CopierClaims.{chunk, claim_read, claimed, status_r
 use Rattle.map_machines.specs.CopierCounts.{counted}
 use Rattle.map_machines.specs.CopierFurther.{replacement_read, remade}
 use Rattle.map_machines.specs.CopierMarks.{is_mine, is_awaited, marked}
-use Rattle.map_machines.specs.CopierPlaces.{next_try, pair_put, place_read, put_told}
+use Rattle.map_machines.specs.CopierPlaces.{next_try, pair_put, place_read, after_put}
 use Rattle.map_machines.specs.CopierPromotes.{promoted, successor_read}
 use Rattle.map_machines.specs.CopierStates.{behind, none_left, next_place, place_done, standing}
 use Rattle.map_machines.specs.NewTable.{new_table_plan}
@@ -117,7 +117,7 @@ module _ (K V : Type 0) (hash : K → ℕ) (p : Copier) where
     pair_unspent : (word : ℕ) → IsUnspent (pair_put p word)
     pair_unspent word = either (is_incremental p.setting.mode) _ _ none (done_unspent p mode none)
 
-    put_unspent : (word code : ℕ) (table : Table) (probe : Probe) (out : Out (Node K V)) → Always Unspent (put_told p word code table probe out)
+    put_unspent : (word code : ℕ) (table : Table) (probe : Probe) (out : Out (Node K V)) → Always Unspent (after_put p word code table probe out)
     put_unspent word code table probe (Exchanged (Ok found)) = pair_unspent word
     put_unspent word code table probe (Exchanged (Err found)) = try_unspent p mode none word code table probe
     put_unspent word code table probe _ = here

@@ -22,12 +22,12 @@ use Rattle.many_calls.specs.Given.PointsFactsCopies.{ClaimsNone, CopierFacts, Ha
 use Rattle.many_calls.specs.Given.PointsFactsCopiesBlocking.{CopierFactsBlocking, HasNoShares}
 use Rattle.many_calls.specs.Given.PointsFactsIdle.{IsIdle}
 use Rattle.many_calls.specs.Given.PointsTold.{IsRowOfCall, IsRowOfCopier}
-use Rattle.many_calls.specs.Given.LateLateCalls.{LateCalling}
-use Rattle.many_calls.specs.Given.LateLateCopies.{LateCopierFacts}
-use Rattle.many_calls.specs.Given.LateLateReserves.{LateReserving}
+use Rattle.many_calls.specs.Given.LateLateCalls.{SupersededCalling}
+use Rattle.many_calls.specs.Given.LateLateCopies.{SupersededCopierFacts}
+use Rattle.many_calls.specs.Given.LateLateReserves.{SupersededReserving}
 use Rattle.many_calls.specs.Given.LateToldReserves.{IsRowOfReserve}
 use Rattle.many_calls.specs.Given.LateToldSweeps.{IsRowOfSweep}
-use Rattle.many_calls.specs.Sights.{Sight, seen_by}
+use Rattle.many_calls.specs.Sights.{Visible, seen_by}
 use Rattle.many_calls.specs.Together.{CallOnKey, UnderWay, OnKey, ForRoom, Counting, OverAll, Together, in_slot}
 use Rattle.map_measures.specs.Waits.Others.{copier_in, copier_in_room, copier_in_sweep, copier_of}
 use Rattle.map_measures.proofs.Waiters.Askers.{chosen}
@@ -57,7 +57,7 @@ none_sweep (sweeps.Copies copier) none copying = cc none
 none_sweep _ none copying = copying
 
 module _ {K Q : Type 0} (V : Type 0) (same : K → K → Bool) (hash : K → ℕ) (asks : Q → K → Bool) (setting : Setting) (slot : ℕ → ℕ)
-    (w : World (Node K V)) (c : Chart K) (blocks : Blocks) (sights : ℕ → Sight) (calls : ℕ → Option (UnderWay K V Q))
+    (w : World (Node K V)) (c : Chart K) (blocks : Blocks) (sights : ℕ → Visible) (calls : ℕ → Option (UnderWay K V Q))
     (s : Together V same hash asks setting slot w c blocks sights calls) (mode : is_incremental setting.mode ≡ false) (k : ℕ) where
   abbrev pub seen : Blocks
   seen = seen_by blocks (sights (slot k))
@@ -71,7 +71,7 @@ module _ {K Q : Type 0} (V : Type 0) (same : K → K → Bool) (hash : K → ℕ
 
   -- what a copier knows, of the root or of a table that the root has left
   abbrev pub Knows : Copier → Type 0
-  Knows p = CopierFactsBlocking same hash w k its_setting c seen p ⊎ ((began : ℕ) × LateCopierFacts same hash w k its_setting c seen began p)
+  Knows p = CopierFactsBlocking same hash w k its_setting c seen p ⊎ ((began : ℕ) × SupersededCopierFacts same hash w k its_setting c seen began p)
 
   whole_fresh : (p : Copier) → CopiesWhole same hash w k its_setting c seen p → CopierFactsBlocking same hash w k its_setting c seen p
   whole_fresh p whole =
@@ -87,7 +87,7 @@ module _ {K Q : Type 0} (V : Type 0) (same : K → K → Bool) (hash : K → ℕ
     key_fresh u (at.Helps copier goal) e f = absurd (let yes = f.1 in cc (yes, mode))
     key_fresh u _ e f = absurd (cc e)
 
-    key_late : (u : CallOnKey K V Q) (q : Calling) → copier_in q ≡ Some p → LateCalling same hash asks w k its_setting c seen u.keys u.began u.call q → Knows p
+    key_late : (u : CallOnKey K V Q) (q : Calling) → copier_in q ≡ Some p → SupersededCalling same hash asks w k its_setting c seen u.keys u.began u.call q → Knows p
     key_late u (at.Copies copier) e f = it copier e (inr (u.began, f.1))
     key_late u (at.Helps copier goal) e f = absurd f
     key_late u _ e f = absurd (cc e)
@@ -96,7 +96,7 @@ module _ {K Q : Type 0} (V : Type 0) (same : K → K → Bool) (hash : K → ℕ
     room_fresh (reserves.Copies copier) e f = it copier e (inl (whole_fresh copier f))
     room_fresh _ e f = absurd (cc e)
 
-    room_late : (began : ℕ) (q : Reserving) → copier_in_room q ≡ Some p → LateReserving same hash w k its_setting c seen began q → Knows p
+    room_late : (began : ℕ) (q : Reserving) → copier_in_room q ≡ Some p → SupersededReserving same hash w k its_setting c seen began q → Knows p
     room_late began (reserves.Copies copier) e f = it copier e (inr (began, f))
     room_late began _ e f = absurd (cc e)
 

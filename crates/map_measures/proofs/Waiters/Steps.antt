@@ -14,7 +14,7 @@ use Rattle.map_tables.specs.TablePlaces.{at_word}
 use Rattle.map_tables.specs.declared.table_words.TheConstants.{CLAIM, COPIED}
 use Rattle.many_calls.specs.Given.RuleMoments.{Moments}
 use Rattle.many_calls.specs.Given.PointsSteps.{AreLawful}
-use Rattle.many_calls.specs.Given.LateLateCopies.{CopiesLate, LateCopierFacts, LateCopying}
+use Rattle.many_calls.specs.Given.LateLateCopies.{CopiesSuperseded, SupersededCopierFacts, SupersededCopying}
 use Rattle.many_calls.specs.Given.PointsFactsCopiesBlocking.{CopiesInto, CopierFactsBlocking, CopyingFactsBlocking, HasDoneIn, RestsIn}
 use Rattle.map_tables.specs.Chunks.{is_incremental}
 use Rattle.map_tables.specs.declared.node.Node.{Node}
@@ -30,7 +30,7 @@ use Rattle.map_tables.specs.declared.table.Table.{Table}
 use Rattle.map_machines.specs.declared.copier.Copying.{Copying as Point}
 use Rattle.many_calls.specs.Given.RuleInWorld.{IsMapIn}
 use Rattle.map_machines.specs.NewTable.{counted}
-use Rattle.many_calls.specs.Sights.{Sight, seen_by}
+use Rattle.many_calls.specs.Sights.{Visible, seen_by}
 use Rattle.many_calls.specs.Together.{UnderWay, Together, in_slot}
 use Rattle.many_calls.proofs.Given.PointsBlocking.Points.{may_copier_blocking}
 use Rattle.many_calls.proofs.Given.LateCopiers.Points.{may_late_copier}
@@ -57,7 +57,7 @@ use Rattle.map_measures.proofs.Waiters.Own.{OwnLoses, OwnSpent, as_own, with_own
 
 module _ {K Q : Type 0} (V : Type 0) (same : K → K → Bool) (hash : K → ℕ) (asks : Q → K → Bool) (setting : Setting) (slot : ℕ → ℕ)
     (are : AreLawful same hash) (power : IsPowerOfTwo setting.initial) (mode : is_incremental setting.mode ≡ false)
-    (w : World (Node K V)) (c : Chart K) (blocks : Blocks) (sights : ℕ → Sight) (calls : ℕ → Option (UnderWay K V Q))
+    (w : World (Node K V)) (c : Chart K) (blocks : Blocks) (sights : ℕ → Visible) (calls : ℕ → Option (UnderWay K V Q))
     (s : Together V same hash asks setting slot w c blocks sights calls) (all : HaveEndsBlocking c calls) (i : ℕ) (x : UnderWay K V Q) (has : calls i ≡ Some x)
     (in_it : IsInside (w.uses (slot i))) where
   abbrev pub seen : Blocks
@@ -120,8 +120,8 @@ module _ {K Q : Type 0} (V : Type 0) (same : K → K → Bool) (hash : K → ℕ
         (steps : Steps Took value_at w.memory (copier_plan hash p) m2 b) (comes : ((b.1 ≡ Goes → ⊥) × (copier_then next ≡ None)) ⊎ (copier_then next ≡ Some b.0))
         (w2 : World (Node K V)) (seen2 : Blocks)
         (knows2 : copier_then next ≡ Some b.0 → (IsRowOfCopier b.0.stands → ⊥)
-        → CopierFactsBlocking same hash w2 i its_setting d seen2 b.0 ⊎ ((began : ℕ) × LateCopierFacts same hash w2 i its_setting d seen2 began b.0)) where
-      knows : CopierFactsBlocking same hash w i its_setting c seen p ⊎ ((began : ℕ) × LateCopierFacts same hash w i its_setting c seen began p)
+        → CopierFactsBlocking same hash w2 i its_setting d seen2 b.0 ⊎ ((began : ℕ) × SupersededCopierFacts same hash w2 i its_setting d seen2 began b.0)) where
+      knows : CopierFactsBlocking same hash w i its_setting c seen p ⊎ ((began : ℕ) × SupersededCopierFacts same hash w i its_setting c seen began p)
       knows = copier_knows V same hash asks setting slot w c blocks sights calls s mode i p x has within row
 
       abbrev Then : Type 0
@@ -251,7 +251,7 @@ module _ {K Q : Type 0} (V : Type 0) (same : K → K → Bool) (hash : K → ℕ
             by (at.Unclaims fault) here point taken kept = absurd point
 
       -- in a table that the root has left
-      module _ (began : ℕ) (facts : LateCopierFacts same hash w i its_setting c seen began p) where
+      module _ (began : ℕ) (facts : SupersededCopierFacts same hash w i its_setting c seen began p) where
         late_may : May Can Took value_at w.memory (copier_plan hash p)
         late_may =
             may_late_copier same hash are.fits are.lawful i its_setting mode power began w c seen its_map (subst (λ (n : Bool). Moments n c) mode s.ground.moments) (claim_few calls c (s.few mode)) p facts row
@@ -309,12 +309,12 @@ module _ {K Q : Type 0} (V : Type 0) (same : K → K → Bool) (hash : K → ℕ
           of_fresh (inl e) facts = let f = subst (λ (q : Point). CopyingFactsBlocking same hash w i its_setting c seen p q) e facts.point in of_rests f.0 f.1
           of_fresh (inr e) facts = let f = subst (λ (q : Point). CopyingFactsBlocking same hash w i its_setting c seen p q) e facts.point in of_rests f.0 f.1
 
-          of_copies : (began u t : ℕ) → CopiesLate same hash w i its_setting c seen began p u t → Full
+          of_copies : (began u t : ℕ) → CopiesSuperseded same hash w i its_setting c seen began p u t → Full
           of_copies began u t late = looks_full t u late.target late.source (λ ahead. absurd (let over = late.over in omega (arith, over, ahead)))
 
-          of_late : (p.stands ≡ at.Sees) ⊎ (p.stands ≡ at.Claims) → (began : ℕ) → LateCopierFacts same hash w i its_setting c seen began p → Full
-          of_late (inl e) began facts = let f = subst (λ (q : Point). LateCopying same hash w i its_setting c seen began p q) e facts.point in of_copies began f.0 f.1 f.2
-          of_late (inr e) began facts = let f = subst (λ (q : Point). LateCopying same hash w i its_setting c seen began p q) e facts.point in of_copies began f.0 f.1 f.2
+          of_late : (p.stands ≡ at.Sees) ⊎ (p.stands ≡ at.Claims) → (began : ℕ) → SupersededCopierFacts same hash w i its_setting c seen began p → Full
+          of_late (inl e) began facts = let f = subst (λ (q : Point). SupersededCopying same hash w i its_setting c seen began p q) e facts.point in of_copies began f.0 f.1 f.2
+          of_late (inr e) began facts = let f = subst (λ (q : Point). SupersededCopying same hash w i its_setting c seen began p q) e facts.point in of_copies began f.0 f.1 f.2
 
       its_mode : is_incremental p.setting.mode ≡ false
       its_mode = elim knows as (λ _. is_incremental p.setting.mode ≡ false) [

@@ -7,7 +7,7 @@ use Rattle.seize_words.specs.OneMemory.Mem.{Mem, Took, value_at}
 use Rattle.seize_words.specs.OneMemory.Plan.{Steps, Now}
 use Rattle.map_machines.specs.Copier.{plan_at, copier_plan}
 use Rattle.map_machines.specs.CopierMarks.{is_mine, is_awaited, marked, mine_marked, to}
-use Rattle.map_machines.specs.CopierPlaces.{next_try, pair_put, place_read, put_told}
+use Rattle.map_machines.specs.CopierPlaces.{next_try, pair_put, place_read, after_put}
 use Rattle.map_machines.specs.CopierStates.{next_place, place_done, behind}
 use Rattle.map_machines.specs.declared.yielding.Yielding.{Yielding}
 use Rattle.map_machines.specs.declared.yielding.Yielding.TheVariants.{Goes, Waits}
@@ -16,7 +16,7 @@ use Rattle.many_calls.specs.Given.RuleChart.{Chart, Share, Free, Claimed, Done, 
 use Rattle.many_calls.specs.Given.RuleMoves.{Counts, GivesUp, Allowed, after, counted_to, is_done_by, is_of_caller, with_counted, with_lost}
 use Rattle.many_calls.specs.Given.RuleRule.{total, Rule}
 use Rattle.many_calls.specs.Given.PointsFactsCopiesBlocking.{ClaimsRange, CopierFactsBlocking, CopiesInto, CopyingFactsBlocking, HasDoneIn}
-use Rattle.many_calls.specs.Given.LateLateCopies.{LateCopierFacts, LateCopying}
+use Rattle.many_calls.specs.Given.LateLateCopies.{SupersededCopierFacts, SupersededCopying}
 use Rattle.seize.specs.World.{World}
 use Rattle.map_tables.specs.Chunks.{is_incremental}
 use Rattle.map_tables.specs.declared.node.Node.{Node}
@@ -109,7 +109,7 @@ module _ (K V : Type 0) (hash : K → ℕ) (p : Copier) (mode : is_incremental p
   place_works word code table probe (Found found) = always_if Works (found == 0) _ _ (refl, (refl, tt)) (refl, try_works p mode word code table probe)
   place_works word code table probe _ = (refl, (refl, here))
 
-  put_works : (word code : ℕ) (table : Table) (probe : Probe) (out : Out (Node K V)) → Always Works (put_told p word code table probe out)
+  put_works : (word code : ℕ) (table : Table) (probe : Probe) (out : Out (Node K V)) → Always Works (after_put p word code table probe out)
   put_works word code table probe (Exchanged (Ok found)) = (refl, put_works_on p word mode few)
   put_works word code table probe (Exchanged (Err found)) = (refl, try_works p mode word code table probe)
   put_works word code table probe _ = (refl, (refl, here))
@@ -212,7 +212,7 @@ module _ {K V : Type 0} (same : K → K → Bool) (hash : K → ℕ) (caller : �
 
   -- what it is after its step
   module _ (q : Copier) (works : WorksFor p q) (w2 : World (Node K V)) (seen2 : Blocks)
-      (knows : CopierFactsBlocking same hash w2 caller setting d seen2 q ⊎ ((began : ℕ) × LateCopierFacts same hash w2 caller setting d seen2 began q)) where
+      (knows : CopierFactsBlocking same hash w2 caller setting d seen2 q ⊎ ((began : ℕ) × SupersededCopierFacts same hash w2 caller setting d seen2 began q)) where
     abbrev Then : Type 0
     Then = AllKept P A G d (λ u. EndsAt d q q.stands u) (λ u. AbortsAt d q q.stands u)
 
@@ -276,7 +276,7 @@ module _ {K V : Type 0} (same : K → K → Bool) (hash : K → ℕ) (caller : �
           fresh at.Aborts its other facts = other refl
           fresh _ its other facts = its
 
-          late : (began : ℕ) (stands : Point) → IsWork stands → LateCopying same hash w2 caller setting d seen2 began q stands → ⊥
+          late : (began : ℕ) (stands : Point) → IsWork stands → SupersededCopying same hash w2 caller setting d seen2 began q stands → ⊥
           late began at.Marks its (u, v, copies, range) = too_late v copies.0.target copies.0.over
           late began (at.Probes word code table probe) its (u, v, n, k, j, its_work, code_is, table_is, trial) = too_late v its_work.copies.0.target its_work.copies.0.over
           late began (at.Puts word code table probe) its (u, v, n, k, j, its_work, code_is, table_is, trial) = too_late v its_work.copies.0.target its_work.copies.0.over
@@ -289,8 +289,8 @@ module _ {K V : Type 0} (same : K → K → Bool) (hash : K → ℕ) (caller : �
           is_aborts _ = inr (λ e. cc e)
 
           by : (stands : Point) → q.stands ≡ stands → IsWork stands
-              → CopierFactsBlocking same hash w2 caller setting d seen2 q ⊎ ((began : ℕ) × LateCopierFacts same hash w2 caller setting d seen2 began q) → Then
-          by stands here its (inr (began, lates)) = absurd (late began stands its (subst (λ (s : Point). LateCopying same hash w2 caller setting d seen2 began q s) here lates.point))
+              → CopierFactsBlocking same hash w2 caller setting d seen2 q ⊎ ((began : ℕ) × SupersededCopierFacts same hash w2 caller setting d seen2 began q) → Then
+          by stands here its (inr (began, lates)) = absurd (late began stands its (subst (λ (s : Point). SupersededCopying same hash w2 caller setting d seen2 began q s) here lates.point))
           by stands here its (inl facts) = elim (is_aborts stands) as (λ _. Then) [
             | inl e ↦ given_so (here ∙ e)
             | inr other ↦ absurd (fresh stands its other (subst (λ (s : Point). Facts s) here facts.point))

@@ -18,7 +18,7 @@ use Rattle.many_calls.specs.Given.RuleWords.{Blocks}
 use Rattle.many_calls.proofs.Given.RuleShares.LastsShares.{total_zero}
 use Rattle.many_calls.specs.Given.PointsFactsCopies.{CopyingFacts, ClaimsNone, HasDone}
 use Rattle.many_calls.specs.Given.PointsFactsCopiesBlocking.{HasNoShares}
-use Rattle.many_calls.specs.Sights.{Sight}
+use Rattle.many_calls.specs.Sights.{Visible}
 use Rattle.many_calls.specs.Together.{UnderWay, Together, in_slot}
 use Rattle.map_measures.specs.Waits.Others.{IsToCount, IsOpen, EndsAt, HaveEnds, AskersHaveOthers, copier_of}
 use Rattle.map_measures.specs.Waits.Waits.{IsUnfinished}
@@ -42,7 +42,7 @@ is_done same hash c rule j l settled uncounted = by (c.share (suc c.first) j) re
     by Lost is agrees = absurd agrees
 
 module _ {K Q : Type 0} (V : Type 0) (same : K → K → Bool) (hash : K → ℕ) (asks : Q → K → Bool) (setting : Setting) (slot : ℕ → ℕ) where
-  module _ (w : World (Node K V)) (c : Chart K) (blocks : Blocks) (sights : ℕ → Sight) (calls : ℕ → Option (UnderWay K V Q))
+  module _ (w : World (Node K V)) (c : Chart K) (blocks : Blocks) (sights : ℕ → Visible) (calls : ℕ → Option (UnderWay K V Q))
       (s : Together V same hash asks setting slot w c blocks sights calls) (mode : is_incremental setting.mode ≡ true) where
     -- who has done a place that is not counted has a call
     has_call : (k j : ℕ) → j < c.len c.first → c.share (suc c.first) j ≡ Done k → (u : UnderWay K V Q) × (calls k ≡ Some u)

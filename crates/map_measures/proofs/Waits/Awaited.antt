@@ -12,7 +12,7 @@ use Rattle.map_machines.specs.declared.copier.Copying.TheVariants as copies
 use Rattle.many_calls.specs.Given.RuleChart.{Claimed, Done, Chart}
 use Rattle.many_calls.specs.Given.RuleWords.{Blocks}
 use Rattle.many_calls.specs.Given.PointsFactsCopies.{CopyingFacts, CopierFacts}
-use Rattle.many_calls.specs.Sights.{Sight}
+use Rattle.many_calls.specs.Sights.{Visible}
 use Rattle.many_calls.specs.Together.{UnderWay, Together, in_slot}
 use Rattle.map_measures.specs.Waits.Others.{EndsAt, HaveEnds, copier_of}
 use Rattle.map_measures.specs.Waits.Waits.{IsBeingCopied, CopierAwaits}
@@ -27,7 +27,7 @@ HasOther {K} {V} {Q} c calls i =
     × (((suc c.first < c.past) × (OnlyLooks u → ⊥)) ⊎ ((t : ℕ) × (t < c.past) × (q : Copier) × (copier_of u ≡ Some q) × EndsAt c q q.stands t))
 
 module _ {K Q : Type 0} (V : Type 0) (same : K → K → Bool) (hash : K → ℕ) (asks : Q → K → Bool) (setting : Setting) (slot : ℕ → ℕ)
-    (w : World (Node K V)) (c : Chart K) (blocks : Blocks) (sights : ℕ → Sight) (calls : ℕ → Option (UnderWay K V Q))
+    (w : World (Node K V)) (c : Chart K) (blocks : Blocks) (sights : ℕ → Visible) (calls : ℕ → Option (UnderWay K V Q))
     (s : Together V same hash asks setting slot w c blocks sights calls) (mode : is_incremental setting.mode ≡ true) where
   -- who waits for a pair has claimed no place itself
   pub by_pair : (i t place : ℕ) → IsBeingCopied c t place → ((j : ℕ) → c.share (suc c.first) j ≢ Claimed i) → HasOther c calls i

@@ -21,7 +21,7 @@ use Rattle.map_tables.specs.declared.trial.Trial.{Trial}
 use Rattle.many_calls.specs.Given.RawAnswers.{ended}
 use Rattle.many_calls.specs.Given.RawCall.{have_one_key, made, makes_of, root_found, next_found, dropped, key_read, pair_read, tried, looked, looks_for, first_made, next_made, disposed, plan_at}
 use Rattle.many_calls.specs.Given.RawCallFills.{filled, putting_by, fill_by, emptied, fills_with, given_up, asks_at}
-use Rattle.many_calls.specs.Given.RawCallPoints.{aim_of, standing, going, over, ending, storing, at_gap, gap_by, pair_by, tableless, at_free, at_end, at_last, at_pair, passed, told_of, told, went_on, changed, counted, having_met, asking_at, burying, entering, following_made, answering}
+use Rattle.many_calls.specs.Given.RawCallPoints.{aim_of, standing, going, over, ending, storing, at_gap, gap_by, pair_by, tableless, at_free, at_end, at_last, at_pair, passed, after_finding, told, continued_in, changed, counted, having_met, asking_at, burying, entering, following_made, answering}
 use Rattle.many_calls.specs.Given.RawDeclared.machines.answer.KeyAnswer.{KeyAnswer}
 use Rattle.many_calls.specs.Given.RawDeclared.machines.answer.Called.{Called}
 use Rattle.many_calls.specs.Given.RawDeclared.machines.answer.Called.TheVariants as called
@@ -131,7 +131,7 @@ module _ {K V Q : Type 0} where
   passed_goes q None = either (is_incremental q.setting.mode) (going q at.Nexts) (at_end q.missing q) tt (end_goes q.missing q)
 
   -- it halts only where it has just read the word of a pair that is being copied
-  pub told_goes : (loaded : Bool) (q : KeyCall K V Q) (word : ℕ) (x : Finding) → (loaded ≡ true → x ≢ is.Copying) → On (told_of {V = V} loaded q word x)
+  pub told_goes : (loaded : Bool) (q : KeyCall K V Q) (word : ℕ) (x : Finding) → (loaded ≡ true → x ≢ is.Copying) → On (after_finding {V = V} loaded q word x)
   told_goes loaded q word is.Free other = free_goes q.missing q
   told_goes loaded q word is.Passed other = passed_goes (having_met q word) (next_trial (with_met q.trial word))
   told_goes loaded q word is.Moved other = tt
@@ -139,7 +139,7 @@ module _ {K V Q : Type 0} where
   told_goes false q word is.Copying other = tt
   told_goes loaded q word is.There other = pair_goes q.there q word
 
-  went_goes : (q : KeyCall K V Q) (table : Table) → On (went_on {V = V} q table)
+  went_goes : (q : KeyCall K V Q) (table : Table) → On (continued_in {V = V} q table)
   went_goes q table = by (is_incremental q.setting.mode) q.helped
     where
       by : (b h : Bool)

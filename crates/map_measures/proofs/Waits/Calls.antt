@@ -21,7 +21,7 @@ use Rattle.map_tables.specs.declared.node.Node.{Node}
 use Rattle.map_tables.specs.declared.resize_mode.ResizeMode.{ResizeMode}
 use Rattle.map_tables.specs.declared.table.Table.{Table}
 use Rattle.many_calls.specs.Given.RawCall.{have_one_key, key_read, pair_read, word_found, helped, copied, plan_at, call_plan}
-use Rattle.many_calls.specs.Given.RawCallPoints.{aim_of, standing, told_of, told}
+use Rattle.many_calls.specs.Given.RawCallPoints.{aim_of, standing, after_finding, told}
 use Rattle.many_calls.specs.Given.RawDeclared.machines.answer.Called.{Called}
 use Rattle.many_calls.specs.Given.RawDeclared.machines.answer.Called.TheVariants as called
 use Rattle.many_calls.specs.Given.RawDeclared.machines.answer.End.TheVariants as ends
@@ -95,7 +95,7 @@ module _ {K V Q : Type 0} (p : KeyCall K V Q) (m : Mem (Node K V)) where
     goes_not x on e = subst (λ (y : KeyCall K V Q × Called (Node K V)). Continues y) (sym e) on
 
     -- where it has come to a word
-    halts : (word : ℕ) (x : Finding) → waiting ≡ told_of {V = V} true p word x → (x ≡ is.Copying) × (q ≡ standing p at.Probes)
+    halts : (word : ℕ) (x : Finding) → waiting ≡ after_finding {V = V} true p word x → (x ≡ is.Copying) × (q ≡ standing p at.Probes)
     halts word is.Copying e = (refl, ap (λ (y : KeyCall K V Q × Called (Node K V)). y.0) e)
     halts word is.Free e = absurd (goes_not _ (told_goes true p word is.Free (λ l f. cc f)) e)
     halts word is.Passed e = absurd (goes_not _ (told_goes true p word is.Passed (λ l f. cc f)) e)

@@ -25,12 +25,12 @@ use Rattle.many_calls.specs.Given.RuleWords.{Blocks}
 use Rattle.many_calls.specs.Given.PointsFactsCalls.{CallFacts, CallingFacts, IsCopying, Unchanged}
 use Rattle.many_calls.specs.Given.PointsFactsCopies.{CopierFacts}
 use Rattle.many_calls.specs.Given.PointsSteps.{AreLawful}
-use Rattle.many_calls.specs.Given.PointsTold.{IsRowOfCall, MovedBeside}
-use Rattle.many_calls.specs.Given.LateLateCalls.{LateCallFacts}
+use Rattle.many_calls.specs.Given.PointsTold.{IsRowOfCall, MovedBesideCopying}
+use Rattle.many_calls.specs.Given.LateLateCalls.{SupersededCallFacts}
 use Rattle.many_calls.specs.Rows.{row_of, once_over}
-use Rattle.many_calls.specs.Sights.{Sight, seen_by}
-use Rattle.many_calls.specs.Together.{CallOnKey, UnderWay, OnKey, Knows, Together, StepsTogether, StepTold, Fresh, Late, change_told, next_of, in_slot}
-use Rattle.map_measures.specs.Waits.Others.{HaveEnds, copier_in, CallsKeepEnds}
+use Rattle.many_calls.specs.Sights.{Visible, seen_by}
+use Rattle.many_calls.specs.Together.{CallOnKey, UnderWay, OnKey, Knows, Together, StepsTogether, StepOutcome, Fresh, Late, change_observed, next_of, in_slot}
+use Rattle.map_measures.specs.Waits.Others.{HaveEnds, copier_in, CallsPreserveEnds}
 use Rattle.map_measures.proofs.Waits.CopiersKeep.{beside_keeps, copier_keeps}
 use Rattle.map_measures.proofs.Waits.EndingCalls.{copier_then}
 use Rattle.map_measures.proofs.Waits.Promised.{map_of}
@@ -50,7 +50,7 @@ helps_on p goal like its (q, outcome.Refused fault) p2 progress e goes = absurd 
 
 module _ {K Q : Type 0} (V : Type 0) (same : K → K → Bool) (hash : K → ℕ) (asks : Q → K → Bool) (setting : Setting) (slot : ℕ → ℕ) where
   module _ (are : AreLawful same hash) (power : IsPowerOfTwo setting.initial) (mode : is_incremental setting.mode ≡ true)
-      (w : World (Node K V)) (c : Chart K) (blocks : Blocks) (sights : ℕ → Sight) (calls : ℕ → Option (UnderWay K V Q))
+      (w : World (Node K V)) (c : Chart K) (blocks : Blocks) (sights : ℕ → Visible) (calls : ℕ → Option (UnderWay K V Q))
       (s : Together V same hash asks setting slot w c blocks sights calls) (ends : HaveEnds c calls)
       (i : ℕ) (u : CallOnKey K V Q) (has : calls i ≡ Some (OnKey u)) (none : IsRowOfCall u.call.stands → ⊥)
       (m2 : Mem (Node K V)) (p2 : KeyCall K V Q) (progress : Called (Node K V)) (steps : Steps Took value_at w.memory (call_plan asks same hash u.call) m2 (p2, progress))
@@ -65,7 +65,7 @@ module _ {K Q : Type 0} (V : Type 0) (same : K → K → Bool) (hash : K → ℕ
     map = map_of V same hash asks setting slot w c blocks sights calls s i (s.inside i (OnKey u) has)
 
     abbrev like : KeyCall K V Q → CallOnKey K V Q
-    like p = record { keys = u.keys; pair = u.pair; began = u.began; change = change_told V same hash asks setting slot leads.went.told; call = p }
+    like p = record { keys = u.keys; pair = u.pair; began = u.began; change = change_observed V same hash asks setting slot leads.went.told; call = p }
 
     abbrev next : Option (UnderWay K V Q)
     next = next_of (like p2) progress
@@ -81,7 +81,7 @@ module _ {K Q : Type 0} (V : Type 0) (same : K → K → Bool) (hash : K → ℕ
     by_beside within apart =
         beside_keeps same hash are its_setting power mode w i c seen map calls ends m2 leads.went.c2 leads.went.blocks2 reached next (ap copier_then has ∙ within) (told leads.went.told)
       where
-        told : StepTold V same hash asks setting slot c i u p2 progress leads.went.w2 leads.went.c2 leads.went.blocks2 → MovedBeside hash its_setting.mode c leads.went.c2
+        told : StepOutcome V same hash asks setting slot c i u p2 progress leads.went.w2 leads.went.c2 leads.went.blocks2 → MovedBesideCopying hash its_setting.mode c leads.went.c2
         told (Fresh fresh) = fresh.beside apart
         told (Late blocking same_change late) = absurd (cc (mode, blocking))
 
@@ -103,7 +103,7 @@ module _ {K Q : Type 0} (V : Type 0) (same : K → K → Bool) (hash : K → ℕ
     call_keeps = by (s.stand i (OnKey u) has)
       where
         knows : CallFacts same hash asks w i its_setting c seen u.keys u.change u.call
-            ⊎ ((u.change ≡ Unchanged) × LateCallFacts same hash asks w i its_setting c seen u.keys u.began u.call) → After
+            ⊎ ((u.change ≡ Unchanged) × SupersededCallFacts same hash asks w i its_setting c seen u.keys u.began u.call) → After
         knows (inl fresh) = by_fresh u.call.stands refl fresh.point
         knows (inr (same_change, late)) = absurd (let blocking = late.blocking in cc (mode, blocking))
 
@@ -112,6 +112,6 @@ module _ {K Q : Type 0} (V : Type 0) (same : K → K → Bool) (hash : K → ℕ
         by (inl rests) = knows rests.1.facts
         by (inr within) = absurd (none within.1)
 
-  pub calls_keep_ends : CallsKeepEnds V same hash asks setting slot
+  pub calls_keep_ends : CallsPreserveEnds V same hash asks setting slot
   calls_keep_ends are power mode w c blocks sights calls s ends i u has none m2 p2 progress steps leads =
       call_keeps are power mode w c blocks sights calls s ends i u has none m2 p2 progress steps leads

@@ -23,7 +23,7 @@ use Rattle.map_machines.specs.CopierClaims.{root_read, next_read, status_read, c
 use Rattle.map_machines.specs.CopierCounts.{counted}
 use Rattle.map_machines.specs.CopierFurther.{further_read, grown, replacement_read, remade}
 use Rattle.map_machines.specs.CopierMarks.{is_mine, is_awaited, without_copying, probing, key_hash, marked, mine_marked, to}
-use Rattle.map_machines.specs.CopierPlaces.{place_read, put_told}
+use Rattle.map_machines.specs.CopierPlaces.{place_read, after_put}
 use Rattle.map_machines.specs.CopierPromotes.{promoted, successor_read}
 use Rattle.map_machines.specs.CopierStates.{standing, next_place, place_done}
 use Rattle.map_machines.specs.NewTable.{new_table_plan}
@@ -73,7 +73,7 @@ module _ {K : Type 0} (V : Type 0) (hash : K → ℕ) (p : Copier) where
   on_place word code table probe (Found found) = always_if On (found == 0) _ _ tt tt
   on_place word code table probe _ = tt
 
-  on_put : (word code : ℕ) (table : Table) (probe : Probe) (out : Out (Node K V)) → Always On (put_told p word code table probe out)
+  on_put : (word code : ℕ) (table : Table) (probe : Probe) (out : Out (Node K V)) → Always On (after_put p word code table probe out)
   on_put word code table probe (Exchanged (Ok found)) = tt
   on_put word code table probe (Exchanged (Err found)) = tt
   on_put word code table probe _ = tt

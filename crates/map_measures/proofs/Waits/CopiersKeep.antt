@@ -22,7 +22,7 @@ use Rattle.many_calls.specs.Given.RuleWords.{Blocks}
 use Rattle.many_calls.proofs.Given.RuleWorld.WentIncremental.{rule_incremental}
 use Rattle.many_calls.specs.Given.PointsFactsCopies.{CopierFacts}
 use Rattle.many_calls.specs.Given.PointsSteps.{AreLawful}
-use Rattle.many_calls.specs.Given.PointsTold.{IsBeside, IsRowOfCopier}
+use Rattle.many_calls.specs.Given.PointsTold.{IsBesideCopying, IsRowOfCopier}
 use Rattle.many_calls.specs.Given.PointsToldMoves.{MovedAt}
 use Rattle.many_calls.proofs.Given.PointsCopiers.CopiersWrote.{CopierMoved}
 use Rattle.many_calls.proofs.Given.PointsCopiers.Points.{went_copier_moved}
@@ -37,11 +37,11 @@ module _ {K V Q : Type 0} (same : K → K → Bool) (hash : K → ℕ) (are : Ar
     (w : World (Node K V)) (i : ℕ) (c : Chart K) (seen : Blocks) (map : IsMapIn same hash setting w c seen) (calls : ℕ → Option (UnderWay K V Q)) (ends : HaveEnds c calls)
     (m2 : Mem (Node K V)) (d : Chart K) (blocks2 : Blocks) (reached : Reached same hash setting are.lawful mode w i c seen map m2 d blocks2) (next : Option (UnderWay K V Q)) where
   pub beside_keeps : copier_then (calls i) ≡ None
-      → (d ≡ c) ⊎ ((move : Move K) × IsBeside move × (d ≡ after (spot_of hash) (is_incremental setting.mode) move c)) → HaveEnds d (with_at calls i next)
+      → (d ≡ c) ⊎ ((move : Move K) × IsBesideCopying move × (d ≡ after (spot_of hash) (is_incremental setting.mode) move c)) → HaveEnds d (with_at calls i next)
   beside_keeps within moved =
       keeps_beside calls i c d next ends within
       (beside (AnotherAt calls i copies.Promotes) (AnotherAt calls i copies.Announces) same hash c (rule_incremental same hash setting w c seen map mode) d
-      (subst (λ (b : Bool). (d ≡ c) ⊎ ((move : Move K) × IsBeside move × (d ≡ after (spot_of hash) b move c))) mode moved))
+      (subst (λ (b : Bool). (d ≡ c) ⊎ ((move : Move K) × IsBesideCopying move × (d ≡ after (spot_of hash) b move c))) mode moved))
 
   pub copier_keeps : (copier : Copier) → copier_then (calls i) ≡ Some copier → CopierFacts same hash w i setting c seen copier → (IsRowOfCopier copier.stands → ⊥)
       → (b : Copier × Yielding (Node K V) Table) → Steps Took value_at w.memory (copier_plan hash copier) m2 b → (b.1 ≡ outcome.Goes → copier_then next ≡ Some b.0)

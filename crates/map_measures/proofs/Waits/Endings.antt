@@ -11,7 +11,7 @@ use Rattle.many_calls.specs.Given.RuleChart.{Place, Empty, Tombstone, Holds, Sha
 use Rattle.many_calls.specs.Given.RuleMaps.{spot_of}
 use Rattle.many_calls.specs.Given.RuleMoves.{Move, Links, Stores, Replaces, Removes, Marks, Unmarks, Puts, Covers, Reclaims, Counts, Promotes, Announces, after, share_of, with_counted}
 use Rattle.many_calls.specs.Given.RuleRule.{Agrees, Rule, total}
-use Rattle.many_calls.specs.Given.PointsTold.{IsBeside}
+use Rattle.many_calls.specs.Given.PointsTold.{IsBesideCopying}
 use Rattle.many_calls.specs.Given.PointsToldMoves.{IsPlain, MovedPlain}
 use Rattle.map_measures.specs.Waits.Others.{IsToCount, IsOpen, EndsAt}
 use Rattle.map_measures.specs.Waits.Waits.{IsUnfinished}
@@ -155,11 +155,11 @@ module _ {K : Type 0} (P A : ℕ → Type 0) where
         by _ fits = absurd fits
 
     -- what a call does beside its copying
-    pub beside : (d : Chart K) → (d ≡ c) ⊎ ((move : Move K) × IsBeside move × (d ≡ after (spot_of hash) true move c)) → AllOr c (λ t. ⊥) → AllOr d (λ t. ⊥)
+    pub beside : (d : Chart K) → (d ≡ c) ⊎ ((move : Move K) × IsBesideCopying move × (d ≡ after (spot_of hash) true move c)) → AllOr c (λ t. ⊥) → AllOr d (λ t. ⊥)
     beside d (inl is) all = plain 0 d (inl is) all
     beside d (inr (move, fits, is)) all = subst (λ (x : Chart K). AllOr x (λ t. ⊥)) (sym is) (by move fits)
       where
-        by : (move : Move K) → IsBeside move → AllOr (after (spot_of hash) true move c) (λ t. ⊥)
+        by : (move : Move K) → IsBesideCopying move → AllOr (after (spot_of hash) true move c) (λ t. ⊥)
         by (Links len limit) fits = linked len limit all
         by (Stores t key try) fits = still (after (spot_of hash) true (Stores t key try) c) refl refl refl refl (λ u n uncounted. uncounted) all
         by (Replaces t place key) fits = still (after (spot_of hash) true (Replaces t place key) c) refl refl refl refl (λ u n uncounted. uncounted) all

@@ -66,7 +66,7 @@ module _ (l : Lookup) where
   passed_goes table (Some trial) = tt
   passed_goes table None = beyond_goes table (is_incremental l.mode)
 
-  told_goes : (trial : Trial) (word : ℕ) (x : Finding) → Advances (lookups.told_of l trial word x)
+  told_goes : (trial : Trial) (word : ℕ) (x : Finding) → Advances (lookups.after_finding l trial word x)
   told_goes trial word is.Free = tt
   told_goes trial word is.Passed = passed_goes trial.table (next_trial trial)
   told_goes trial word is.Moved = tt

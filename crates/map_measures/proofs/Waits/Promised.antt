@@ -31,15 +31,15 @@ use Rattle.many_calls.specs.Given.PointsFactsCalls.{Change, Unchanged, CallingFa
 use Rattle.many_calls.specs.Given.PointsFactsCopies.{CopyingFacts, CopierFacts}
 use Rattle.many_calls.specs.Given.PointsFactsCopiesBlocking.{CopierFactsBlocking}
 use Rattle.many_calls.specs.Given.PointsTold.{IsRowOfCall}
-use Rattle.many_calls.specs.Given.LateLateCalls.{LateCalling, LateCallFacts}
-use Rattle.many_calls.specs.Given.LateLateCopies.{LateCopierFacts}
+use Rattle.many_calls.specs.Given.LateLateCalls.{SupersededCalling, SupersededCallFacts}
+use Rattle.many_calls.specs.Given.LateLateCopies.{SupersededCopierFacts}
 use Rattle.many_calls.specs.Given.LateFactsReserves.{IsEnding, CopiesWhole, ReservingFacts, ReserveFacts}
-use Rattle.many_calls.specs.Given.LateLateReserves.{LateReserving, LateReserveFacts}
+use Rattle.many_calls.specs.Given.LateLateReserves.{SupersededReserving, SupersededReserveFacts}
 use Rattle.many_calls.specs.Given.LateToldReserves.{IsRowOfReserve}
 use Rattle.many_calls.specs.Given.LateFactsSweeps.{SweepingFacts}
 use Rattle.many_calls.specs.Rooms.{row_of_room, room_once_over}
 use Rattle.many_calls.specs.Rows.{row_of, once_over}
-use Rattle.many_calls.specs.Sights.{Sight, seen_by}
+use Rattle.many_calls.specs.Sights.{Visible, seen_by}
 use Rattle.many_calls.specs.Together.{CallOnKey, UnderWay, OnKey, ForRoom, Knows, KnowsRoom, Together, in_slot}
 use Rattle.many_calls.proofs.Sights.Seen.{map_seen}
 use Rattle.many_calls.proofs.Together.Fits.{map_in_slot}
@@ -73,7 +73,7 @@ module _ {K V : Type 0} (same : K → K → Bool) (hash : K → ℕ) (w : World 
       by false mode f = copier_shown_blocking same hash w caller setting c blocks map copier (mode_of copier.setting setting false f.setting_is mode) f sees
 
   -- and of one that the root has left
-  late_awaits : (began : ℕ) (copier : Copier) → incremental ≡ false → LateCopierFacts same hash w caller setting c blocks began copier
+  late_awaits : (began : ℕ) (copier : Copier) → incremental ≡ false → SupersededCopierFacts same hash w caller setting c blocks began copier
       → Sees copier w.memory copier.stands
       → CopierAwaits c incremental copier copier.stands
   late_awaits began copier blocking late sees =
@@ -85,7 +85,7 @@ module _ {K V : Type 0} (same : K → K → Bool) (hash : K → ℕ) (w : World 
   room_at (reserves.Copies copier) f sees = whole_awaits copier f sees
   room_at _ f sees = absurd sees
 
-  late_room_at : (began : ℕ) → incremental ≡ false → (stands : Reserving) → LateReserving same hash w caller setting c blocks began stands
+  late_room_at : (began : ℕ) → incremental ≡ false → (stands : Reserving) → SupersededReserving same hash w caller setting c blocks began stands
       → RoomSees w.memory stands → RoomAwaits c incremental stands
   late_room_at began blocking (reserves.Copies copier) f sees = late_awaits began copier blocking f sees
   late_room_at began blocking _ f sees = absurd sees
@@ -132,7 +132,7 @@ module _ {K V : Type 0} (same : K → K → Bool) (hash : K → ℕ) (w : World 
         )
     call_at change _ f sees = absurd sees
 
-    late_call_at : (began : ℕ) → incremental ≡ false → (stands : Calling) → LateCalling same hash asks w caller setting c blocks keys began p stands
+    late_call_at : (began : ℕ) → incremental ≡ false → (stands : Calling) → SupersededCalling same hash asks w caller setting c blocks keys began p stands
         → CallSees p w.memory stands
         → CallAwaits c incremental p stands
     late_call_at began blocking at.Probes f sees = absurd (let bits = mode_of setting p.setting true (sym setting_is) sees.2 in cc (bits, blocking))
@@ -148,7 +148,7 @@ module _ {K Q : Type 0} (V : Type 0) (same : K → K → Bool) (hash : K → ℕ
   call_awaits w c seen i u map knows sees = by knows.facts
     where
       by : CallFacts same hash asks w i (in_slot setting (slot i)) c seen u.keys u.change u.call
-          ⊎ ((u.change ≡ Unchanged) × LateCallFacts same hash asks w i (in_slot setting (slot i)) c seen u.keys u.began u.call)
+          ⊎ ((u.change ≡ Unchanged) × SupersededCallFacts same hash asks w i (in_slot setting (slot i)) c seen u.keys u.began u.call)
           → CallAwaits c (is_incremental setting.mode) u.call u.call.stands
       by (inl fresh) = call_at same hash w i (in_slot setting (slot i)) c seen map asks u.keys u.call fresh.setting_is u.change u.call.stands fresh.point sees
       by (inr (none, late)) =
@@ -156,7 +156,7 @@ module _ {K Q : Type 0} (V : Type 0) (same : K → K → Bool) (hash : K → ℕ
           (in_slot setting (slot i)) c seen map asks u.keys u.call late.setting_is u.began late.blocking u.call.stands late.point sees
 
   -- what a caller sees of the map within its section
-  pub map_of : (w : World (Node K V)) (c : Chart K) (blocks : Blocks) (sights : ℕ → Sight) (calls : ℕ → Option (UnderWay K V Q))
+  pub map_of : (w : World (Node K V)) (c : Chart K) (blocks : Blocks) (sights : ℕ → Visible) (calls : ℕ → Option (UnderWay K V Q))
       → Together V same hash asks setting slot w c blocks sights calls
       → (i : ℕ) → IsInside (w.uses (slot i)) → IsMapIn same hash (in_slot setting (slot i)) w c (seen_by blocks (sights (slot i)))
   map_of w c blocks sights calls s i inside =
@@ -181,7 +181,7 @@ module _ {K Q : Type 0} (V : Type 0) (same : K → K → Bool) (hash : K → ℕ
       map = map_of w c blocks sights calls s i (s.inside i (ForRoom r) has)
 
       knows : ReserveFacts same hash w i (in_slot setting (slot i)) c (seen_by blocks (sights (slot i))) r.reserve
-          ⊎ LateReserveFacts same hash w i (in_slot setting (slot i)) c (seen_by blocks (sights (slot i))) r.began r.reserve
+          ⊎ SupersededReserveFacts same hash w i (in_slot setting (slot i)) c (seen_by blocks (sights (slot i))) r.began r.reserve
           → RoomSees w.memory r.reserve.stands → RoomAwaits c (is_incremental setting.mode) r.reserve.stands
       knows (inl fresh) sees = room_at same hash w i (in_slot setting (slot i)) c (seen_by blocks (sights (slot i))) map r.reserve.stands fresh.point sees
       knows (inr late) sees =

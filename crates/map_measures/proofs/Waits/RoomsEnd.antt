@@ -32,18 +32,18 @@ use Rattle.many_calls.specs.Given.RuleWords.{Blocks}
 use Rattle.many_calls.specs.Given.PointsFactsCopies.{CopierFacts}
 use Rattle.many_calls.specs.Given.PointsFactsCopiesBlocking.{CopierFactsBlocking}
 use Rattle.many_calls.specs.Given.PointsSteps.{AreLawful}
-use Rattle.many_calls.specs.Given.PointsTold.{IsBeside, OnlyLinks}
+use Rattle.many_calls.specs.Given.PointsTold.{IsBesideCopying, OnlyLinks}
 use Rattle.many_calls.specs.Given.LateFactsReserves.{CopiesPairs, CopiesWhole, IsEnding, ReservingFacts, ReserveFacts}
 use Rattle.many_calls.specs.Given.LateFactsSweeps.{CopiesPairs as SweepCopies, SweepingFacts}
-use Rattle.many_calls.specs.Given.LateLateReserves.{LateReserveFacts}
+use Rattle.many_calls.specs.Given.LateLateReserves.{SupersededReserveFacts}
 use Rattle.many_calls.specs.Given.LateToldReserves.{IsRowOfReserve}
 use Rattle.many_calls.specs.Given.LateToldSweeps.{IsRowOfSweep, OnlyRemoves}
 use Rattle.many_calls.specs.OverAll.{CallOverAll, come_to}
 use Rattle.many_calls.specs.Rooms.{CallForRoom}
-use Rattle.many_calls.specs.Sights.{Sight, seen_by}
+use Rattle.many_calls.specs.Sights.{Visible, seen_by}
 use Rattle.many_calls.specs.Sweeps.{SweepStepsTogether}
-use Rattle.many_calls.specs.Together.{UnderWay, ForRoom, OverAll, Together, RoomStepsTogether, RoomTold, FreshRoom, LateRoom, next_for_room, next_over_all, in_slot}
-use Rattle.map_measures.specs.Waits.Others.{HaveEnds, copier_in_room, copier_in_sweep, RoomsKeepEnds, SweepsKeepEnds}
+use Rattle.many_calls.specs.Together.{UnderWay, ForRoom, OverAll, Together, RoomStepsTogether, RoomOutcome, FreshRoom, LateRoom, next_for_room, next_over_all, in_slot}
+use Rattle.map_measures.specs.Waits.Others.{HaveEnds, copier_in_room, copier_in_sweep, RoomsPreserveEnds, SweepsPreserveEnds}
 use Rattle.map_measures.proofs.Waits.Claimed.{chosen}
 use Rattle.map_measures.proofs.Waits.CopiersKeep.{beside_keeps, copier_keeps}
 use Rattle.map_measures.proofs.Waits.EndingCalls.{copier_then}
@@ -71,7 +71,7 @@ sweep_on Q p o entered done (q, outcome.Refused fault) p2 end e goes = absurd (c
 
 module _ {K : Type 0} (hash : K → ℕ) (mode : ResizeMode) (c d : Chart K) where
   abbrev MovesBeside : Type 0
-  MovesBeside = (d ≡ c) ⊎ ((move : Move K) × IsBeside move × (d ≡ after (spot_of hash) (is_incremental mode) move c))
+  MovesBeside = (d ≡ c) ⊎ ((move : Move K) × IsBesideCopying move × (d ≡ after (spot_of hash) (is_incremental mode) move c))
 
   links : OnlyLinks hash mode c d → MovesBeside
   links (inl is) = inl is
@@ -83,7 +83,7 @@ module _ {K : Type 0} (hash : K → ℕ) (mode : ResizeMode) (c d : Chart K) whe
 
 module _ {K Q : Type 0} (V : Type 0) (same : K → K → Bool) (hash : K → ℕ) (asks : Q → K → Bool) (setting : Setting) (slot : ℕ → ℕ) where
   module _ (are : AreLawful same hash) (power : IsPowerOfTwo setting.initial) (mode : is_incremental setting.mode ≡ true)
-      (w : World (Node K V)) (c : Chart K) (blocks : Blocks) (sights : ℕ → Sight) (calls : ℕ → Option (UnderWay K V Q))
+      (w : World (Node K V)) (c : Chart K) (blocks : Blocks) (sights : ℕ → Visible) (calls : ℕ → Option (UnderWay K V Q))
       (s : Together V same hash asks setting slot w c blocks sights calls) (ends : HaveEnds c calls) (i : ℕ) (m2 : Mem (Node K V)) where
     abbrev seen : Blocks
     seen = seen_by blocks (sights (slot i))
@@ -117,7 +117,7 @@ module _ {K Q : Type 0} (V : Type 0) (same : K → K → Bool) (hash : K → ℕ
           beside_keeps same hash are its_setting power mode w i c seen map calls ends m2 leads.went.c2 leads.went.blocks2 reached next (ap copier_then has ∙ within)
           (links hash its_setting.mode c leads.went.c2 (told leads.went.told))
         where
-          told : RoomTold V same hash asks setting slot c i r p2 end leads.went.w2 leads.went.c2 leads.went.blocks2 → OnlyLinks hash its_setting.mode c leads.went.c2
+          told : RoomOutcome V same hash asks setting slot c i r p2 end leads.went.w2 leads.went.c2 leads.went.blocks2 → OnlyLinks hash its_setting.mode c leads.went.c2
           told (FreshRoom fresh) = fresh.beside apart
           told (LateRoom blocking late) = absurd (cc (mode, blocking))
 
@@ -130,7 +130,7 @@ module _ {K Q : Type 0} (V : Type 0) (same : K → K → Bool) (hash : K → ℕ
           (λ row. none (subst (λ (stands : Reserving). IsRowOfReserve stands) (sym here) row)) d.0 d.1 (room_on Q r.reserve r.began d.0 p2 end d.2)
       by_fresh _ here f = by_beside (ap copier_in_room here) (λ copying. subst (λ (stands : Reserving). CopiesPairs stands) here copying)
 
-      room_knows : ReserveFacts same hash w i its_setting c seen r.reserve ⊎ LateReserveFacts same hash w i its_setting c seen r.began r.reserve → After
+      room_knows : ReserveFacts same hash w i its_setting c seen r.reserve ⊎ SupersededReserveFacts same hash w i its_setting c seen r.began r.reserve → After
       room_knows (inl fresh) = by_fresh r.reserve.stands refl fresh.point
       room_knows (inr late) = absurd (let blocking = late.blocking in cc (mode, blocking))
 
@@ -174,10 +174,10 @@ module _ {K Q : Type 0} (V : Type 0) (same : K → K → Bool) (hash : K → ℕ
         | inr within ↦ absurd (none within.1)
       ]
 
-  pub rooms_keep_ends : RoomsKeepEnds V same hash asks setting slot
+  pub rooms_keep_ends : RoomsPreserveEnds V same hash asks setting slot
   rooms_keep_ends are power mode w c blocks sights calls s ends i r has none m2 p2 end steps leads =
       room_keeps are power mode w c blocks sights calls s ends i m2 r has none p2 end steps leads
 
-  pub sweeps_keep_ends : SweepsKeepEnds V same hash asks setting slot
+  pub sweeps_keep_ends : SweepsPreserveEnds V same hash asks setting slot
   sweeps_keep_ends are power mode w c blocks sights calls s ends i o has none m2 p2 end steps leads =
       sweep_keeps are power mode w c blocks sights calls s ends i m2 o has none p2 end steps leads

@@ -42,7 +42,7 @@ use Rattle.many_calls.specs.Given.LateToldSweeps.{IsRowOfSweep}
 use Rattle.many_calls.specs.Rooms.{row_of_room}
 use Rattle.many_calls.specs.Rows.{row_of}
 use Rattle.many_calls.specs.Sights.{seen_by}
-use Rattle.many_calls.specs.Together.{OnKey, ForRoom, CameAbout, Stands}
+use Rattle.many_calls.specs.Together.{OnKey, ForRoom, CameAbout, IsAtPoint}
 use Rattle.map_measures.specs.Waits.Promises.{CallRowsWaitForAHolder, RoomRowsWaitForAHolder, SweepRowsWaitForAHolder}
 use Rattle.map_measures.specs.Waits.Waits.{row_of_sweep, AnotherHolds}
 use Rattle.map_measures.proofs.Waits.CallPlans.{Continues, ending_goes}
@@ -156,7 +156,7 @@ module _ {K Q : Type 0} (V : Type 0) (same : K → K → Bool) (hash : K → ℕ
       call_row_waits hash setting.batch_size w s.ground.came i (slot i) m2 same asks u.call u.call.stands row (or_rests (s.stand i (OnKey u) has))
       (p2, called.Waits) st refl
     where
-      or_rests : Stands V same hash asks setting slot w c (seen_by blocks (sights (slot i))) i (OnKey u) → (w.row i ≡ Rests)
+      or_rests : IsAtPoint V same hash asks setting slot w c (seen_by blocks (sights (slot i))) i (OnKey u) → (w.row i ≡ Rests)
           ⊎ (w.row i ≡ row_of (slot i) u.call.stands)
       or_rests (inl h) = inl h.0
       or_rests (inr h) = inr h.0
@@ -166,7 +166,7 @@ module _ {K Q : Type 0} (V : Type 0) (same : K → K → Bool) (hash : K → ℕ
       room_row_waits hash setting.batch_size w s.ground.came i (slot i) m2 r.reserve r.reserve.stands row (or_rests (s.stand i (ForRoom r) has))
       (p2, outcome.Waits) st refl
     where
-      or_rests : Stands V same hash asks setting slot w c (seen_by blocks (sights (slot i))) i (ForRoom r) → (w.row i ≡ Rests)
+      or_rests : IsAtPoint V same hash asks setting slot w c (seen_by blocks (sights (slot i))) i (ForRoom r) → (w.row i ≡ Rests)
           ⊎ (w.row i ≡ row_of_room r.reserve.stands)
       or_rests (inl h) = inl h.0
       or_rests (inr h) = inr h.0

@@ -18,7 +18,7 @@ use Rattle.many_calls.specs.Given.RuleLasts.{Lasts}
 use Rattle.many_calls.specs.Given.RuleMaps.{spot_of}
 use Rattle.many_calls.specs.Given.RuleMoves.{Move, Links, Promotes, after, Allowed}
 use Rattle.many_calls.specs.Given.RuleRule.{Agrees, IsLawful, Rule, total}
-use Rattle.many_calls.specs.Given.RuleWords.{Blocks, Shows, ShowsTable}
+use Rattle.many_calls.specs.Given.RuleWords.{Blocks, Represents, RepresentsTable}
 use Rattle.many_calls.proofs.Given.RuleMoves.Totals.{total_full}
 use Rattle.many_calls.proofs.Given.PointsMovedLasts.{moved_lasts}
 use Rattle.many_calls.specs.Together.{UnderWay}
@@ -58,8 +58,8 @@ module _ {K V : Type 0} (same : K → K → Bool) (hash : K → ℕ) (setting : 
       × Moved same hash setting.mode caller c c2
 
   module _ (c2 : Chart K) (blocks2 : Blocks) (r : Reached c2 blocks2) where
-    shows : Shows hash m2 c2 blocks2 setting.root
-    shows = subst (λ (m : Mem (Node K V)). Shows hash m c2 blocks2 setting.root) r.1 r.2.map.shows
+    shows : Represents hash m2 c2 blocks2 setting.root
+    shows = subst (λ (m : Mem (Node K V)). Represents hash m c2 blocks2 setting.root) r.1 r.2.map.shows
 
     rule : Rule same (spot_of hash) true c2
     rule = subst (λ (b : Bool). Rule same (spot_of hash) b c2) bits r.2.map.rule
@@ -70,7 +70,7 @@ module _ {K V : Type 0} (same : K → K → Bool) (hash : K → ℕ) (setting : 
     past_on : (t : ℕ) → t < c.past → t < c2.past
     past_on t l = let on = lasts.past in omega (arith, l, on)
 
-    table_at : (t : ℕ) → t < c.past → blocks.table_known t ≡ true → ShowsTable hash m2 c2 blocks2 t
+    table_at : (t : ℕ) → t < c.past → blocks.table_known t ≡ true → RepresentsTable hash m2 c2 blocks2 t
     table_at t l known = shows.tables t (past_on t l) (r.3.tables t l known).1
 
     status_there : (t : ℕ) → t < c.past → blocks.table_known t ≡ true → word_at m2 (Word (blocks.table t) STATUS) ≡ Some (c2.status t)

@@ -22,7 +22,7 @@ use Rattle.many_calls.proofs.Given.RuleWords.PlaceWordsRead.{word-pair}
 use Rattle.many_calls.proofs.Given.RuleWords.TablesSeen.{place_there, status_there}
 use Rattle.many_calls.specs.Given.PointsFactsCopies.{CopyingFacts, CopierFacts}
 use Rattle.many_calls.specs.Given.PointsFactsCopiesBlocking.{CopyingFactsBlocking, CopierFactsBlocking}
-use Rattle.many_calls.specs.Given.LateLateCopies.{LateCopying, LateCopierFacts}
+use Rattle.many_calls.specs.Given.LateLateCopies.{SupersededCopying, SupersededCopierFacts}
 use Rattle.map_measures.specs.Waits.Waits.{IsUnfinished, IsBeingCopied, CopierAwaits}
 use Rattle.map_measures.proofs.Waits.Copiers.{SeesCopying, SeesPending, Sees}
 
@@ -104,12 +104,12 @@ module _ {K V : Type 0} (same : K → K → Bool) (hash : K → ℕ) (w : World 
     pub copier_shown_blocking : CopierFactsBlocking same hash w caller setting c blocks p → Sees p w.memory p.stands → CopierAwaits c false p p.stands
     copier_shown_blocking f sees = blocking_at p.stands f.point sees
 
-    late_at : (began : ℕ) (stands : Point) → LateCopying same hash w caller setting c blocks began p stands → Sees p w.memory stands
+    late_at : (began : ℕ) (stands : Point) → SupersededCopying same hash w caller setting c blocks began p stands → Sees p w.memory stands
         → CopierAwaits c false p stands
     late_at began at.Marks f (whole, sees) = absurd (no_place sees)
     late_at began at.Asks f (spent, sees) = (spent, pending_shown f.1 f.2.target sees)
     late_at began _ f sees = absurd sees
 
-    pub copier_shown_late : (began : ℕ) → LateCopierFacts same hash w caller setting c blocks began p → Sees p w.memory p.stands
+    pub copier_shown_late : (began : ℕ) → SupersededCopierFacts same hash w caller setting c blocks began p → Sees p w.memory p.stands
         → CopierAwaits c false p p.stands
     copier_shown_late began f sees = late_at began p.stands f.point sees

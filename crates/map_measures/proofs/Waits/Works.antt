@@ -17,8 +17,8 @@ use Rattle.many_calls.specs.Given.PointsFactsCopiesBlocking.{HasNoShares}
 use Rattle.many_calls.specs.Given.PointsFactsIdle.{IsIdle}
 use Rattle.many_calls.specs.Given.PointsTold.{IsRowOfCall}
 use Rattle.many_calls.specs.Given.LateKinds.{LooksAt}
-use Rattle.many_calls.specs.Given.LateLateCalls.{LateCallFacts}
-use Rattle.many_calls.specs.Sights.{Sight, seen_by}
+use Rattle.many_calls.specs.Given.LateLateCalls.{SupersededCallFacts}
+use Rattle.many_calls.specs.Sights.{Visible, seen_by}
 use Rattle.many_calls.specs.Together.{UnderWay, OnKey, ForRoom, Counting, OverAll, Together, in_slot}
 use Rattle.map_measures.proofs.Waits.Askers.{done_one}
 use Rattle.map_measures.proofs.Waits.Claimed.{chosen}
@@ -42,7 +42,7 @@ no_row (at.Over end) looks row = row
 no_row _ looks row = absurd looks
 
 module _ {K V Q : Type 0} (same : K → K → Bool) (hash : K → ℕ) (asks : Q → K → Bool) (setting : Setting) (slot : ℕ → ℕ)
-    (w : World (Node K V)) (c : Chart K) (blocks : Blocks) (sights : ℕ → Sight) (calls : ℕ → Option (UnderWay K V Q))
+    (w : World (Node K V)) (c : Chart K) (blocks : Blocks) (sights : ℕ → Visible) (calls : ℕ → Option (UnderWay K V Q))
     (s : Together V same hash asks setting slot w c blocks sights calls) (mode : is_incremental setting.mode ≡ true) (k j : ℕ) where
   -- it has a place to copy, or to count
   abbrev pub HasShare : Type 0
@@ -67,7 +67,7 @@ module _ {K V Q : Type 0} (same : K → K → Bool) (hash : K → ℕ) (asks : Q
   ]
     where
       knows : CallFacts same hash asks w k (in_slot setting (slot k)) c (seen_by blocks (sights (slot k))) u.keys u.change u.call
-          ⊎ ((u.change ≡ Unchanged) × LateCallFacts same hash asks w k (in_slot setting (slot k)) c (seen_by blocks (sights (slot k))) u.keys u.began u.call) → ⊥
+          ⊎ ((u.change ≡ Unchanged) × SupersededCallFacts same hash asks w k (in_slot setting (slot k)) c (seen_by blocks (sights (slot k))) u.keys u.began u.call) → ⊥
       knows (inl fresh) = not_idle (seen_by blocks (sights (slot k))) (fresh.idle (no_copying u.call.stands looks)) share
       knows (inr (same_change, late)) = absurd (let blocking = late.blocking in cc (mode, blocking))
   works (Counting sum) has share looks = not_idle (seen_by blocks (sights (slot k))) (s.stand k (Counting sum) has).2 share

@@ -11,12 +11,12 @@ use Rattle.map_tables.specs.declared.node.Node.{Node}
 use Rattle.map_tables.specs.declared.setting.Setting.{Setting}
 use Rattle.many_calls.specs.Given.RuleChart.{Chart}
 use Rattle.many_calls.specs.Given.RuleWords.{Blocks}
-use Rattle.many_calls.specs.Given.RuleInWorld.{IsMapIn, Went}
+use Rattle.many_calls.specs.Given.RuleInWorld.{IsMapIn, StepSpec}
 use Rattle.many_calls.specs.Given.PointsFactsCalls.{Change, CallFacts}
 use Rattle.many_calls.specs.Given.PointsMeasures.{IsBelow}
 use Rattle.many_calls.specs.Given.PointsSteps.{AreLawful}
 use Rattle.many_calls.specs.Given.PointsTold.{IsRowOfCall}
-use Rattle.many_calls.specs.Given.LateLateCalls.{LateCallFacts}
+use Rattle.many_calls.specs.Given.LateLateCalls.{SupersededCallFacts}
 use Rattle.map_measures.specs.Falls.Calls.{number_of_call}
 
 -- A call that tells this has taken a step, and needs further ones. It may have handed out a value that was reclaimed, or its own pair, which was not stored.
@@ -31,7 +31,7 @@ module _ {K Q : Type 0} (V : Type 0) (same : K → K → Bool) (hash : K → ℕ
   abbrev pub Lowers : (setting : Setting) (w : World (Node K V)) (caller : ℕ) (c : Chart K) (blocks : Blocks) (p : KeyCall K V Q) → Type 0
   Lowers setting w caller c blocks p =
       (m2 : Mem (Node K V)) (end : KeyCall K V Q × Called (Node K V)) → Steps Took value_at w.memory (call_plan asks same hash p) m2 end → GoesFurther end.1
-      → (went : Went same hash setting caller w c blocks m2 (λ w2 c2 blocks2. Unit {0}))
+      → (went : StepSpec same hash setting caller w c blocks m2 (λ w2 c2 blocks2. Unit {0}))
       → IsBelow (number_of_call hash went.c2 went.blocks2 end.0) (number_of_call hash c blocks p)
 
   -- so does each step, none of a row of the collector, of a call that knows what its point knows
@@ -42,10 +42,10 @@ module _ {K Q : Type 0} (V : Type 0) (same : K → K → Bool) (hash : K → ℕ
       → Lowers setting w caller c blocks p
 
   -- and, in blocking mode, in a table that the root has left
-  abbrev pub LateCallsFall : Type 0
-  LateCallsFall =
+  abbrev pub SupersededCallsFall : Type 0
+  SupersededCallsFall =
       AreLawful same hash → (setting : Setting) (w : World (Node K V)) (caller : ℕ) (c : Chart K) (blocks : Blocks) (keys : K → Bool) (began : ℕ) (p : KeyCall K V Q)
-      → IsMapIn same hash setting w c blocks → LateCallFacts same hash asks w caller setting c blocks keys began p → (IsRowOfCall p.stands → ⊥)
+      → IsMapIn same hash setting w c blocks → SupersededCallFacts same hash asks w caller setting c blocks keys began p → (IsRowOfCall p.stands → ⊥)
       → Lowers setting w caller c blocks p
 
   -- The steps of a row of the collector within a call leave its number as it is, but for the last, which lowers it: the tables stay as they are.
@@ -56,6 +56,6 @@ module _ {K Q : Type 0} (V : Type 0) (same : K → K → Bool) (hash : K → ℕ
       → ((IsRowOfCall end.0.stands) × (number_of_call hash c blocks end.0 ≡ number_of_call hash c blocks p))
       ⊎ ((IsRowOfCall end.0.stands → ⊥) × IsBelow (number_of_call hash c blocks end.0) (number_of_call hash c blocks p))
 
--- a call always has as many numbers, so that its descents come to an end
+-- a call always has as many numbers, so that its descents terminate
 abbrev pub NumbersAreAsMany : (K V Q : Type 0) → Type 0
 NumbersAreAsMany K V Q = (hash : K → ℕ) (c : Chart K) (blocks : Blocks) (p : KeyCall K V Q) → length (number_of_call hash c blocks p) ≡ 14

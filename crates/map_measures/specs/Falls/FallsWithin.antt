@@ -13,13 +13,13 @@ use Rattle.map_machines.specs.declared.yielding.Yielding.TheVariants.{Goes, Gave
 use Rattle.map_machines.specs.declared.copier.Copier.{Copier}
 use Rattle.many_calls.specs.Given.RuleChart.{Chart}
 use Rattle.many_calls.specs.Given.RuleWords.{Blocks}
-use Rattle.many_calls.specs.Given.RuleInWorld.{IsMapIn, Went}
+use Rattle.many_calls.specs.Given.RuleInWorld.{IsMapIn, StepSpec}
 use Rattle.many_calls.specs.Given.PointsFactsCopies.{CopierFacts}
 use Rattle.many_calls.specs.Given.PointsFactsCopiesBlocking.{CopierFactsBlocking}
 use Rattle.many_calls.specs.Given.PointsMeasures.{IsBelow}
 use Rattle.many_calls.specs.Given.PointsSteps.{AreLawful}
 use Rattle.many_calls.specs.Given.PointsTold.{IsRowOfCopier}
-use Rattle.many_calls.specs.Given.LateLateCopies.{LateCopierFacts}
+use Rattle.many_calls.specs.Given.LateLateCopies.{SupersededCopierFacts}
 use Rattle.map_measures.specs.Falls.Room.{planned_in_copying, tables_to_come}
 use Rattle.map_measures.specs.Falls.Copies.{number_of_copier}
 use Rattle.map_measures.specs.Falls.CopiesBlocking.{number_of_copier_blocking}
@@ -39,7 +39,7 @@ module _ {K : Type 0} (V : Type 0) (same : K → K → Bool) (hash : K → ℕ) 
   abbrev pub CopierLowers : (Chart K → Blocks → Copier → List ℕ) → (setting : Setting) (w : World (Node K V)) (caller : ℕ) (c : Chart K) (blocks : Blocks) (p : Copier) → Type 0
   CopierLowers number setting w caller c blocks p =
       (m2 : Mem (Node K V)) (end : Copier × Yielding (Node K V) Table) → Steps Took value_at w.memory (copier_plan hash p) m2 end → GoesFurther end.1
-      → (went : Went same hash setting caller w c blocks m2 (λ w2 c2 blocks2. Unit {0}))
+      → (went : StepSpec same hash setting caller w c blocks m2 (λ w2 c2 blocks2. Unit {0}))
       → IsBelow (with_room number went.c2 went.blocks2 end.0) (with_room number c blocks p)
 
   -- so does each step, none of a row, of a copier that knows what its point knows: in incremental mode,
@@ -59,9 +59,9 @@ module _ {K : Type 0} (V : Type 0) (same : K → K → Bool) (hash : K → ℕ) 
       → CopierLowers number_of_copier_blocking setting w caller c blocks p
 
   -- and there once the root has left the table that it copies
-  abbrev pub LateCopiersFall : Type 0
-  LateCopiersFall =
+  abbrev pub SupersededCopiersFall : Type 0
+  SupersededCopiersFall =
       AreLawful same hash → (setting : Setting) → is_incremental setting.mode ≡ false
       → (w : World (Node K V)) (caller : ℕ) (c : Chart K) (blocks : Blocks) (began : ℕ) (p : Copier)
-      → IsMapIn same hash setting w c blocks → LateCopierFacts same hash w caller setting c blocks began p → (IsRowOfCopier p.stands → ⊥)
+      → IsMapIn same hash setting w c blocks → SupersededCopierFacts same hash w caller setting c blocks began p → (IsRowOfCopier p.stands → ⊥)
       → CopierLowers number_of_copier_blocking setting w caller c blocks p

@@ -28,8 +28,8 @@ use Rattle.many_calls.specs.Given.PointsSteps.{AreLawful}
 use Rattle.many_calls.specs.Given.PointsTold.{IsRowOfCall}
 use Rattle.many_calls.specs.Given.LateToldReserves.{IsRowOfReserve}
 use Rattle.many_calls.specs.Given.LateToldSweeps.{IsRowOfSweep}
-use Rattle.many_calls.specs.Sights.{Sight}
-use Rattle.many_calls.specs.Together.{UnderWay, Together, in_slot, CallOnKey, OnKey, ForRoom, OverAll, StepsTogether, RoomStepsTogether, change_told, next_of, next_for_room, next_over_all}
+use Rattle.many_calls.specs.Sights.{Visible}
+use Rattle.many_calls.specs.Together.{UnderWay, Together, in_slot, CallOnKey, OnKey, ForRoom, OverAll, StepsTogether, RoomStepsTogether, change_observed, next_of, next_for_room, next_over_all}
 use Rattle.many_calls.specs.OverAll.{CallOverAll, come_to}
 use Rattle.many_calls.specs.Rooms.{CallForRoom}
 use Rattle.many_calls.specs.Sweeps.{SweepStepsTogether}
@@ -68,7 +68,7 @@ module _ {K : Type 0} (c : Chart K) where
 -- copy a place for that table, or has and has not counted it; or it is to end the copying, or to give it up.
 abbrev pub AskersHaveOthersBlocking : {K Q : Type 0} → (V : Type 0) → (K → K → Bool) → (K → ℕ) → (Q → K → Bool) → Setting → (ℕ → ℕ) → Type 0
 AskersHaveOthersBlocking {K} {Q} V same hash asks setting slot =
-    (w : World (Node K V)) (c : Chart K) (blocks : Blocks) (sights : ℕ → Sight) (calls : ℕ → Option (UnderWay K V Q))
+    (w : World (Node K V)) (c : Chart K) (blocks : Blocks) (sights : ℕ → Visible) (calls : ℕ → Option (UnderWay K V Q))
     → Together V same hash asks setting slot w c blocks sights calls → is_incremental setting.mode ≡ false → HaveEndsBlocking c calls
     → (i : ℕ) (x : UnderWay K V Q) → calls i ≡ Some x → (p : Copier) → copier_of x ≡ Some p → p.stands ≡ copies.Asks → p.spent ≡ true
     → (seen : Blocks) (s t : ℕ) → s < t → IsTable c seen p.target t → HasNoShares same hash w i (in_slot setting (slot i)) c seen → IsUnfinished c t
@@ -78,22 +78,22 @@ AskersHaveOthersBlocking {K} {Q} V same hash asks setting slot =
 
 module _ {K Q : Type 0} (V : Type 0) (same : K → K → Bool) (hash : K → ℕ) (asks : Q → K → Bool) (setting : Setting) (slot : ℕ → ℕ) where
   -- In blocking mode: where each copying that is not over has who goes on with it, who ends it, or who gives it up, it has after each step of a call on one key that is none of a row.
-  abbrev pub CallsKeepEndsBlocking : Type 0
-  CallsKeepEndsBlocking =
+  abbrev pub CallsPreserveEndsBlocking : Type 0
+  CallsPreserveEndsBlocking =
       AreLawful same hash → IsPowerOfTwo setting.initial → is_incremental setting.mode ≡ false
-      → (w : World (Node K V)) (c : Chart K) (blocks : Blocks) (sights : ℕ → Sight) (calls : ℕ → Option (UnderWay K V Q))
+      → (w : World (Node K V)) (c : Chart K) (blocks : Blocks) (sights : ℕ → Visible) (calls : ℕ → Option (UnderWay K V Q))
       → Together V same hash asks setting slot w c blocks sights calls → HaveEndsBlocking c calls
       → (i : ℕ) (u : CallOnKey K V Q) → calls i ≡ Some (OnKey u) → (IsRowOfCall u.call.stands → ⊥)
       → (m2 : Mem (Node K V)) (p2 : KeyCall K V Q) (progress : Called (Node K V)) → Steps Took value_at w.memory (call_plan asks same hash u.call) m2 (p2, progress)
       → (leads : StepsTogether V same hash asks setting slot w c blocks sights calls i u m2 p2 progress)
       → HaveEndsBlocking leads.went.c2
-      (with_at calls i (next_of (record { keys = u.keys; pair = u.pair; began = u.began; change = change_told V same hash asks setting slot leads.went.told; call = p2 }) progress))
+      (with_at calls i (next_of (record { keys = u.keys; pair = u.pair; began = u.began; change = change_observed V same hash asks setting slot leads.went.told; call = p2 }) progress))
 
   -- so it has after one of a reservation
-  abbrev pub RoomsKeepEndsBlocking : Type 0
-  RoomsKeepEndsBlocking =
+  abbrev pub RoomsPreserveEndsBlocking : Type 0
+  RoomsPreserveEndsBlocking =
       AreLawful same hash → IsPowerOfTwo setting.initial → is_incremental setting.mode ≡ false
-      → (w : World (Node K V)) (c : Chart K) (blocks : Blocks) (sights : ℕ → Sight) (calls : ℕ → Option (UnderWay K V Q))
+      → (w : World (Node K V)) (c : Chart K) (blocks : Blocks) (sights : ℕ → Visible) (calls : ℕ → Option (UnderWay K V Q))
       → Together V same hash asks setting slot w c blocks sights calls → HaveEndsBlocking c calls
       → (i : ℕ) (r : CallForRoom) → calls i ≡ Some (ForRoom r) → (IsRowOfReserve r.reserve.stands → ⊥)
       → (m2 : Mem (Node K V)) (p2 : Reserve) (end : Yielding (Node K V) Unit) → Steps Took value_at w.memory (reserve_plan hash r.reserve) m2 (p2, end)
@@ -101,10 +101,10 @@ module _ {K Q : Type 0} (V : Type 0) (same : K → K → Bool) (hash : K → ℕ
       → HaveEndsBlocking leads.went.c2 (with_at calls i (next_for_room (record { began = r.began; reserve = p2 }) end))
 
   -- and after one of a sweep
-  abbrev pub SweepsKeepEndsBlocking : Type 0
-  SweepsKeepEndsBlocking =
+  abbrev pub SweepsPreserveEndsBlocking : Type 0
+  SweepsPreserveEndsBlocking =
       AreLawful same hash → IsPowerOfTwo setting.initial → is_incremental setting.mode ≡ false
-      → (w : World (Node K V)) (c : Chart K) (blocks : Blocks) (sights : ℕ → Sight) (calls : ℕ → Option (UnderWay K V Q))
+      → (w : World (Node K V)) (c : Chart K) (blocks : Blocks) (sights : ℕ → Visible) (calls : ℕ → Option (UnderWay K V Q))
       → Together V same hash asks setting slot w c blocks sights calls → HaveEndsBlocking c calls
       → (i : ℕ) (o : CallOverAll) → calls i ≡ Some (OverAll o) → (IsRowOfSweep o.sweep.stands → ⊥)
       → (m2 : Mem (Node K V)) (p2 : Sweep) (end : Swept (Node K V)) → Steps Took value_at w.memory (sweep_plan hash o.sweep) m2 (p2, end)

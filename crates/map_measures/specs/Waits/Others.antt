@@ -34,9 +34,9 @@ use Rattle.many_calls.specs.Given.LateToldReserves.{IsRowOfReserve}
 use Rattle.many_calls.specs.Given.LateToldSweeps.{IsRowOfSweep}
 use Rattle.many_calls.specs.OverAll.{CallOverAll, come_to}
 use Rattle.many_calls.specs.Rooms.{CallForRoom}
-use Rattle.many_calls.specs.Sights.{Sight}
+use Rattle.many_calls.specs.Sights.{Visible}
 use Rattle.many_calls.specs.Sweeps.{SweepStepsTogether}
-use Rattle.many_calls.specs.Together.{CallOnKey, UnderWay, OnKey, ForRoom, Counting, OverAll, Together, StepsTogether, RoomStepsTogether, change_told, next_of, next_for_room, next_over_all, in_slot}
+use Rattle.many_calls.specs.Together.{CallOnKey, UnderWay, OnKey, ForRoom, Counting, OverAll, Together, StepsTogether, RoomStepsTogether, change_observed, next_of, next_for_room, next_over_all, in_slot}
 use Rattle.map_measures.specs.Waits.Waits.{IsUnfinished, IsBeingCopied}
 
 -- it is not yet counted
@@ -86,7 +86,7 @@ module _ {K Q : Type 0} (V : Type 0) (same : K → K → Bool) (hash : K → ℕ
   -- A pair that is being copied stands in the root, behind which another table is linked, and a caller that has a call on the map has claimed its place.
   abbrev pub PairsAreCopiedByCalls : Type 0
   PairsAreCopiedByCalls =
-      (w : World (Node K V)) (c : Chart K) (blocks : Blocks) (sights : ℕ → Sight) (calls : ℕ → Option (UnderWay K V Q))
+      (w : World (Node K V)) (c : Chart K) (blocks : Blocks) (sights : ℕ → Visible) (calls : ℕ → Option (UnderWay K V Q))
       → Together V same hash asks setting slot w c blocks sights calls → is_incremental setting.mode ≡ true → (t place : ℕ) → IsBeingCopied c t place
       → (t ≡ c.first) × (suc c.first < c.past) × (k : ℕ) × (u : UnderWay K V Q) × (calls k ≡ Some u) × (c.share (suc c.first) place ≡ Claimed k)
 
@@ -95,7 +95,7 @@ module _ {K Q : Type 0} (V : Type 0) (same : K → K → Bool) (hash : K → ℕ
   -- other has copied a place into it that it has not counted; or the other is to end the copying.
   abbrev pub AskersHaveOthers : Type 0
   AskersHaveOthers =
-      (w : World (Node K V)) (c : Chart K) (blocks : Blocks) (sights : ℕ → Sight) (calls : ℕ → Option (UnderWay K V Q))
+      (w : World (Node K V)) (c : Chart K) (blocks : Blocks) (sights : ℕ → Visible) (calls : ℕ → Option (UnderWay K V Q))
       → Together V same hash asks setting slot w c blocks sights calls → is_incremental setting.mode ≡ true → HaveEnds c calls
       → (i : ℕ) (x : UnderWay K V Q) → calls i ≡ Some x → (p : Copier) → copier_of x ≡ Some p → p.stands ≡ copies.Asks
       → (seen : Blocks) → CopyingFacts same hash w i (in_slot setting (slot i)) c seen p copies.Asks → IsUnfinished c p.target.turn
@@ -105,22 +105,22 @@ module _ {K Q : Type 0} (V : Type 0) (same : K → K → Bool) (hash : K → ℕ
 
   -- In incremental mode: where each copying that is not over has a place that is not counted, or a call that is to end it, it has after each step of a call on
   -- one key that is none of a row.
-  abbrev pub CallsKeepEnds : Type 0
-  CallsKeepEnds =
+  abbrev pub CallsPreserveEnds : Type 0
+  CallsPreserveEnds =
       AreLawful same hash → IsPowerOfTwo setting.initial → is_incremental setting.mode ≡ true
-      → (w : World (Node K V)) (c : Chart K) (blocks : Blocks) (sights : ℕ → Sight) (calls : ℕ → Option (UnderWay K V Q))
+      → (w : World (Node K V)) (c : Chart K) (blocks : Blocks) (sights : ℕ → Visible) (calls : ℕ → Option (UnderWay K V Q))
       → Together V same hash asks setting slot w c blocks sights calls → HaveEnds c calls
       → (i : ℕ) (u : CallOnKey K V Q) → calls i ≡ Some (OnKey u) → (IsRowOfCall u.call.stands → ⊥)
       → (m2 : Mem (Node K V)) (p2 : KeyCall K V Q) (progress : Called (Node K V)) → Steps Took value_at w.memory (call_plan asks same hash u.call) m2 (p2, progress)
       → (leads : StepsTogether V same hash asks setting slot w c blocks sights calls i u m2 p2 progress)
       → HaveEnds leads.went.c2
-      (with_at calls i (next_of (record { keys = u.keys; pair = u.pair; began = u.began; change = change_told V same hash asks setting slot leads.went.told; call = p2 }) progress))
+      (with_at calls i (next_of (record { keys = u.keys; pair = u.pair; began = u.began; change = change_observed V same hash asks setting slot leads.went.told; call = p2 }) progress))
 
   -- so it has after one of a reservation
-  abbrev pub RoomsKeepEnds : Type 0
-  RoomsKeepEnds =
+  abbrev pub RoomsPreserveEnds : Type 0
+  RoomsPreserveEnds =
       AreLawful same hash → IsPowerOfTwo setting.initial → is_incremental setting.mode ≡ true
-      → (w : World (Node K V)) (c : Chart K) (blocks : Blocks) (sights : ℕ → Sight) (calls : ℕ → Option (UnderWay K V Q))
+      → (w : World (Node K V)) (c : Chart K) (blocks : Blocks) (sights : ℕ → Visible) (calls : ℕ → Option (UnderWay K V Q))
       → Together V same hash asks setting slot w c blocks sights calls → HaveEnds c calls
       → (i : ℕ) (r : CallForRoom) → calls i ≡ Some (ForRoom r) → (IsRowOfReserve r.reserve.stands → ⊥)
       → (m2 : Mem (Node K V)) (p2 : Reserve) (end : Yielding (Node K V) Unit) → Steps Took value_at w.memory (reserve_plan hash r.reserve) m2 (p2, end)
@@ -128,10 +128,10 @@ module _ {K Q : Type 0} (V : Type 0) (same : K → K → Bool) (hash : K → ℕ
       → HaveEnds leads.went.c2 (with_at calls i (next_for_room (record { began = r.began; reserve = p2 }) end))
 
   -- and after one of a sweep
-  abbrev pub SweepsKeepEnds : Type 0
-  SweepsKeepEnds =
+  abbrev pub SweepsPreserveEnds : Type 0
+  SweepsPreserveEnds =
       AreLawful same hash → IsPowerOfTwo setting.initial → is_incremental setting.mode ≡ true
-      → (w : World (Node K V)) (c : Chart K) (blocks : Blocks) (sights : ℕ → Sight) (calls : ℕ → Option (UnderWay K V Q))
+      → (w : World (Node K V)) (c : Chart K) (blocks : Blocks) (sights : ℕ → Visible) (calls : ℕ → Option (UnderWay K V Q))
       → Together V same hash asks setting slot w c blocks sights calls → HaveEnds c calls
       → (i : ℕ) (o : CallOverAll) → calls i ≡ Some (OverAll o) → (IsRowOfSweep o.sweep.stands → ⊥)
       → (m2 : Mem (Node K V)) (p2 : Sweep) (end : Swept (Node K V)) → Steps Took value_at w.memory (sweep_plan hash o.sweep) m2 (p2, end)

@@ -28,7 +28,7 @@ use Rattle.many_calls.specs.Given.LateFactsSweeps.{SweepFacts}
 use Rattle.many_calls.specs.Given.LateToldSweeps.{IsRowOfSweep}
 use Rattle.many_calls.specs.Rooms.{CallForRoom, row_of_room}
 use Rattle.many_calls.specs.Rows.{row_of}
-use Rattle.many_calls.specs.Sights.{Sight}
+use Rattle.many_calls.specs.Sights.{Visible}
 use Rattle.many_calls.specs.Together.{CallOnKey, UnderWay, OnKey, ForRoom, CameAbout, Together}
 use Rattle.map_measures.specs.Waits.Waits.{CallAwaits, RoomAwaits, SweepAwaits, row_of_sweep, AnotherHolds}
 
@@ -36,7 +36,7 @@ module _ {K Q : Type 0} (V : Type 0) (same : K → K → Bool) (hash : K → ℕ
   -- A step of a call on one key, none of a row, waits only while this is so, and leaves the call where it stands.
   abbrev pub CallsWaitForACopying : Type 0
   CallsWaitForACopying =
-      AreLawful same hash → (w : World (Node K V)) (c : Chart K) (blocks : Blocks) (sights : ℕ → Sight) (calls : ℕ → Option (UnderWay K V Q))
+      AreLawful same hash → (w : World (Node K V)) (c : Chart K) (blocks : Blocks) (sights : ℕ → Visible) (calls : ℕ → Option (UnderWay K V Q))
       → Together V same hash asks setting slot w c blocks sights calls → (i : ℕ) (u : CallOnKey K V Q) → calls i ≡ Some (OnKey u)
       → (IsRowOfCall u.call.stands → ⊥)
       → (m2 : Mem (Node K V)) (p2 : KeyCall K V Q) → Steps Took value_at w.memory (call_plan asks same hash u.call) m2 (p2, called.Waits)
@@ -45,7 +45,7 @@ module _ {K Q : Type 0} (V : Type 0) (same : K → K → Bool) (hash : K → ℕ
   -- nor does one of a reservation
   abbrev pub RoomsWaitForACopying : Type 0
   RoomsWaitForACopying =
-      AreLawful same hash → (w : World (Node K V)) (c : Chart K) (blocks : Blocks) (sights : ℕ → Sight) (calls : ℕ → Option (UnderWay K V Q))
+      AreLawful same hash → (w : World (Node K V)) (c : Chart K) (blocks : Blocks) (sights : ℕ → Visible) (calls : ℕ → Option (UnderWay K V Q))
       → Together V same hash asks setting slot w c blocks sights calls → (i : ℕ) (r : CallForRoom) → calls i ≡ Some (ForRoom r)
       → (IsRowOfReserve r.reserve.stands → ⊥)
       → (m2 : Mem (Node K V)) (p2 : Reserve) → Steps Took value_at w.memory (reserve_plan hash r.reserve) m2 (p2, outcome.Waits)
@@ -54,7 +54,7 @@ module _ {K Q : Type 0} (V : Type 0) (same : K → K → Bool) (hash : K → ℕ
   -- A step of a row within a call on one key, which may be its first, waits only while another row has the batch of its slot in hand.
   abbrev pub CallRowsWaitForAHolder : Type 0
   CallRowsWaitForAHolder =
-      (w : World (Node K V)) (c : Chart K) (blocks : Blocks) (sights : ℕ → Sight) (calls : ℕ → Option (UnderWay K V Q))
+      (w : World (Node K V)) (c : Chart K) (blocks : Blocks) (sights : ℕ → Visible) (calls : ℕ → Option (UnderWay K V Q))
       → Together V same hash asks setting slot w c blocks sights calls → (i : ℕ) (u : CallOnKey K V Q) → calls i ≡ Some (OnKey u) → IsRowOfCall u.call.stands
       → (m2 : Mem (Node K V)) (p2 : KeyCall K V Q) → Steps Took value_at w.memory (call_plan asks same hash u.call) m2 (p2, called.Waits)
       → AnotherHolds w i (row_of (slot i) u.call.stands)
@@ -62,7 +62,7 @@ module _ {K Q : Type 0} (V : Type 0) (same : K → K → Bool) (hash : K → ℕ
   -- so it is within a reservation
   abbrev pub RoomRowsWaitForAHolder : Type 0
   RoomRowsWaitForAHolder =
-      (w : World (Node K V)) (c : Chart K) (blocks : Blocks) (sights : ℕ → Sight) (calls : ℕ → Option (UnderWay K V Q))
+      (w : World (Node K V)) (c : Chart K) (blocks : Blocks) (sights : ℕ → Visible) (calls : ℕ → Option (UnderWay K V Q))
       → Together V same hash asks setting slot w c blocks sights calls → (i : ℕ) (r : CallForRoom) → calls i ≡ Some (ForRoom r)
       → IsRowOfReserve r.reserve.stands
       → (m2 : Mem (Node K V)) (p2 : Reserve) → Steps Took value_at w.memory (reserve_plan hash r.reserve) m2 (p2, outcome.Waits)

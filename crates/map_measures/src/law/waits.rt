@@ -1,7 +1,7 @@
 //! What is promised of each step of a call that answers that it waits.
 ghost use Rattle.std.specs.Prelude.{ℕ, Bool};
 ghost use Rattle.map_tables.specs.declared.setting.Setting.{Setting};
-ghost use Rattle.map_measures.specs.Waits.Others.{PairsAreCopiedByCalls, AskersHaveOthers, CallsKeepEnds, RoomsKeepEnds, SweepsKeepEnds};
+ghost use Rattle.map_measures.specs.Waits.Others.{PairsAreCopiedByCalls, AskersHaveOthers, CallsPreserveEnds, RoomsPreserveEnds, SweepsPreserveEnds};
 ghost use Rattle.map_measures.specs.Waits.Promises.{CallsWaitForACopying, RoomsWaitForACopying, SweepsWaitForACopying, LookupsNeverWait, CallRowsWaitForAHolder, RoomRowsWaitForAHolder, SweepRowsWaitForAHolder};
 
 /// Where calls of many callers stand together on one map, a call waits only for a copying. One on one key waits in incremental mode while the pair that
@@ -34,7 +34,7 @@ pub fn pairs_are_copied_by_calls<K, V, Q>()
 /// over has such a place or call again.
 pub fn who_asks_how_a_copying_stands_has_others<K, V, Q>()
     ensures asked { (same : K → K → Bool) (hash : K → ℕ) (asks : Q → K → Bool) (setting : Setting) (slot : ℕ → ℕ) → AskersHaveOthers V same hash asks setting slot }
-    ensures calls { (same : K → K → Bool) (hash : K → ℕ) (asks : Q → K → Bool) (setting : Setting) (slot : ℕ → ℕ) → CallsKeepEnds V same hash asks setting slot }
-    ensures rooms { (same : K → K → Bool) (hash : K → ℕ) (asks : Q → K → Bool) (setting : Setting) (slot : ℕ → ℕ) → RoomsKeepEnds V same hash asks setting slot }
-    ensures sweeps { (same : K → K → Bool) (hash : K → ℕ) (asks : Q → K → Bool) (setting : Setting) (slot : ℕ → ℕ) → SweepsKeepEnds V same hash asks setting slot }
+    ensures calls { (same : K → K → Bool) (hash : K → ℕ) (asks : Q → K → Bool) (setting : Setting) (slot : ℕ → ℕ) → CallsPreserveEnds V same hash asks setting slot }
+    ensures rooms { (same : K → K → Bool) (hash : K → ℕ) (asks : Q → K → Bool) (setting : Setting) (slot : ℕ → ℕ) → RoomsPreserveEnds V same hash asks setting slot }
+    ensures sweeps { (same : K → K → Bool) (hash : K → ℕ) (asks : Q → K → Bool) (setting : Setting) (slot : ℕ → ℕ) → SweepsPreserveEnds V same hash asks setting slot }
 {}

@@ -7,7 +7,7 @@ use Rattle.map_rule.specs.Chart.{Holds, Chart, put}
 use Rattle.map_rule.specs.Rule.{Rule}
 use Rattle.map_rule.specs.Moves.{Move, Links, Stores, Replaces, Removes, Marks, MarksBlocking, Skips, Unmarks, Puts, Covers, PutsLate, Claims, Reclaims, Counts, GivesUp, Aborts, Promotes, Announces, passing, after, Allowed}
 use Rattle.map_rule.specs.Lasts.{Lasts}
-use Rattle.map_rule.specs.Moments.{Names, Moments, Remembers, MovesKeepTheHistory, HistoryBegins}
+use Rattle.map_rule.specs.Moments.{Names, Moments, Remembers, MovesPreserveTheHistory, HistoryBegins}
 use Rattle.map_rule.proofs.Moves.Writes.{put_here, put_elsewhere}
 use Rattle.map_rule.proofs.History.Claimed.{aborted_on, claimed_on, earlier_on, follows_on, next_from_on, none_behind}
 use Rattle.map_rule.proofs.Moves.Promised.{moves_keep}
@@ -248,7 +248,7 @@ module _ {K : Type 0} (same : K → K → Bool) (spot : ℕ → K → ℕ → �
       by (inl lt) = frozen_on c c2 rule rule2 lasts m (remembers same spot false c c2 sh) t n lt (before lt)
       by (inr ge) = at_root sh ge
 
-  kept_blocking : MovesKeepTheHistory same spot false
+  kept_blocking : MovesPreserveTheHistory same spot false
   kept_blocking lawful move c rule m a =
       let kept = moves_keep same spot false lawful move c rule a in
       let c2 = after spot false move c in
@@ -267,7 +267,7 @@ module _ {K : Type 0} (same : K → K → Bool) (spot : ℕ → K → ℕ → �
         remembers same spot false c c2 sh,
       )
 
-  kept_incremental : MovesKeepTheHistory same spot true
+  kept_incremental : MovesPreserveTheHistory same spot true
   kept_incremental lawful move c rule m a =
       let c2 = after spot true move c in
       let sh = shape same spot true move c a in (
@@ -285,7 +285,7 @@ module _ {K : Type 0} (same : K → K → Bool) (spot : ℕ → K → ℕ → �
         remembers same spot true c c2 sh,
       )
 
-  pub history_kept : (incremental : Bool) → MovesKeepTheHistory same spot incremental
+  pub history_kept : (incremental : Bool) → MovesPreserveTheHistory same spot incremental
   history_kept true = kept_incremental
   history_kept false = kept_blocking
 

@@ -6,7 +6,7 @@ use Rattle.map_rule.specs.Chart.{Copying, Holds, Claimed, Chart, is_marked, Lost
 use Rattle.map_rule.specs.Moves.{is_of_caller}
 use Rattle.map_rule.specs.Lasts.{Lasts}
 use Rattle.map_rule.specs.Moments.{Remembers}
-use Rattle.map_rule.specs.Leaves.{Leaves, LeavesOnAndOn, StandsAlike}
+use Rattle.map_rule.specs.Leaves.{Leaves, LeavesOnAndOn, LiesAlike}
 
 module _ {K : Type 0} (same : K → K → Bool) (spot : ℕ → K → ℕ → ℕ) (incremental : Bool) where
   lasts_on : (c c2 c3 : Chart K) → Lasts same spot incremental c c2 → Lasts same spot incremental c2 c3 → Lasts same spot incremental c c3
@@ -101,7 +101,7 @@ module _ {K : Type 0} (same : K → K → Bool) (spot : ℕ → K → ℕ → �
       ]
 
       my_place : incremental ≡ true → (j n : ℕ) (borrowed : Bool) → suc c.first < c.past → j < c.len c.first → c.share (suc c.first) j ≡ Claimed i → c.place c.first j ≡ Holds n Copying borrowed
-          → (c2.place c.first j ≡ Holds n Copying borrowed) × StandsAlike same spot incremental c c2 n → (c3.place c.first j ≡ Holds n Copying borrowed) × StandsAlike same spot incremental c c3 n
+          → (c2.place c.first j ≡ Holds n Copying borrowed) × LiesAlike same spot incremental c c2 n → (c3.place c.first j ≡ Holds n Copying borrowed) × LiesAlike same spot incremental c c3 n
       my_place e j n borrowed next k own here first =
           let mine : is_of_caller i (c.share (suc c.first) j) ≡ true = ap (is_of_caller i) own ∙ eq-eqb i i refl in
           let root = root_is e (a.root_stays (suc c.first) j (omega arith) next k mine) in

@@ -4,13 +4,13 @@ use Rattle.map_rule.specs.Chart.{Phase, Still, Copying, Copied, Place, Empty, To
 use Rattle.map_rule.specs.Rule.{Rule, IsLawful, is_of}
 use Rattle.map_rule.specs.Moves.{Move, Links, Stores, Replaces, Removes, Marks, MarksBlocking, Skips, Unmarks, Puts, Covers, PutsLate, Claims, Reclaims, Counts, GivesUp, Aborts, Promotes, Announces, marked, lent_place, copied_place, still_place, IsStill, after, Allowed}
 use Rattle.map_rule.specs.Lasts.{IsBy}
-use Rattle.map_rule.specs.Leaves.{StandsAlike}
+use Rattle.map_rule.specs.Leaves.{LiesAlike}
 use Rattle.map_rule.proofs.Moves.Writes.{put_in_cases}
 
 module _ {K : Type 0} (same : K → K → Bool) (spot : ℕ → K → ℕ → ℕ) (lawful : IsLawful same spot) (i : ℕ) (c : Chart K) (rule : Rule same spot true c)
     (j n : ℕ) (borrowed : Bool) (next : suc c.first < c.past) (within : j < c.len c.first) (mine : c.share (suc c.first) j ≡ Claimed i) (here : c.place c.first j ≡ Holds n Copying borrowed) where
   abbrev Stays : Chart K → Type 0
-  Stays c2 = (c2.place c.first j ≡ Holds n Copying borrowed) × StandsAlike same spot true c c2 n
+  Stays c2 = (c2.place c.first j ≡ Holds n Copying borrowed) × LiesAlike same spot true c c2 n
 
   n_below : n < c.stored
   n_below = (rule.common.keyed c.first j n Copying borrowed here).0
@@ -118,5 +118,5 @@ module _ {K : Type 0} (same : K → K → Bool) (spot : ℕ → K → ℕ → �
 
 pub place_stays : {K : Type 0} (same : K → K → Bool) (spot : ℕ → K → ℕ → ℕ) → IsLawful same spot → (i : ℕ) (c : Chart K) → Rule same spot true c → (j n : ℕ) (borrowed : Bool) → suc c.first < c.past → j < c.len c.first
     → c.share (suc c.first) j ≡ Claimed i → c.place c.first j ≡ Holds n Copying borrowed → (move : Move K) → (IsBy i move → ⊥) → Allowed same spot true move c
-    → ((after spot true move c).place c.first j ≡ Holds n Copying borrowed) × StandsAlike same spot true c (after spot true move c) n
+    → ((after spot true move c).place c.first j ≡ Holds n Copying borrowed) × LiesAlike same spot true c (after spot true move c) n
 place_stays same spot lawful i c rule j n borrowed next within mine here move ne a = stays same spot lawful i c rule j n borrowed next within mine here move ne a

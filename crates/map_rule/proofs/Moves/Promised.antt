@@ -1,7 +1,7 @@
 -- The moves keep the rule, each in the modes in which it is made.
 use Rattle.std.proofs.Common.{ℕ, Bool, true, false}
 use Rattle.map_rule.specs.Moves.{Links, Stores, Replaces, Removes, Marks, MarksBlocking, Skips, Unmarks, Puts, Covers, PutsLate, Claims, Reclaims, Counts, GivesUp, Aborts, Promotes, Announces}
-use Rattle.map_rule.specs.Lasts.{MovesKeepTheRule}
+use Rattle.map_rule.specs.Lasts.{MovesPreserveTheRule}
 use Rattle.map_rule.proofs.Moves.Links.{kept_links_incremental, kept_links_blocking}
 use Rattle.map_rule.proofs.Stores.StoresIncremental.{kept_stores_incremental}
 use Rattle.map_rule.proofs.Stores.StoresBlocking.{kept_stores_blocking}
@@ -25,7 +25,7 @@ use Rattle.map_rule.proofs.Moves.PromotesBlocking.{kept_promotes_blocking}
 use Rattle.map_rule.proofs.Moves.Announces.{kept_announces_incremental, kept_announces_blocking}
 
 module _ {K : Type 0} (same : K → K → Bool) (spot : ℕ → K → ℕ → ℕ) where
-  pub kept_incremental : MovesKeepTheRule same spot true
+  pub kept_incremental : MovesPreserveTheRule same spot true
   kept_incremental lawful (Links len limit) c rule a = kept_links_incremental same spot len limit c lawful rule a
   kept_incremental lawful (Stores t k try) c rule a = kept_stores_incremental same spot t k try c lawful rule a
   kept_incremental lawful (Replaces t i k) c rule a = kept_replaces_incremental same spot t i k c lawful rule a
@@ -45,7 +45,7 @@ module _ {K : Type 0} (same : K → K → Bool) (spot : ℕ → K → ℕ → �
   kept_incremental lawful (Promotes t) c rule a = kept_promotes_incremental same spot t c lawful rule a
   kept_incremental lawful (Announces t) c rule a = kept_announces_incremental same spot t c lawful rule a
 
-  pub kept_blocking : MovesKeepTheRule same spot false
+  pub kept_blocking : MovesPreserveTheRule same spot false
   kept_blocking lawful (Links len limit) c rule a = kept_links_blocking same spot len limit c lawful rule a
   kept_blocking lawful (Stores t k try) c rule a = kept_stores_blocking same spot t k try c lawful rule a
   kept_blocking lawful (Replaces t i k) c rule a = kept_replaces_blocking same spot t i k c lawful rule a
@@ -65,6 +65,6 @@ module _ {K : Type 0} (same : K → K → Bool) (spot : ℕ → K → ℕ → �
   kept_blocking lawful (Promotes t) c rule a = kept_promotes_blocking same spot t c lawful rule a
   kept_blocking lawful (Announces t) c rule a = kept_announces_blocking same spot t c lawful rule a
 
-  pub moves_keep : (incremental : Bool) → MovesKeepTheRule same spot incremental
+  pub moves_keep : (incremental : Bool) → MovesPreserveTheRule same spot incremental
   moves_keep true = kept_incremental
   moves_keep false = kept_blocking

@@ -10,7 +10,7 @@ use Rattle.map_machines.specs.Given.TablesDeclared.setting.Setting.{Setting}
 use Rattle.map_machines.specs.Given.TablesDeclared.table.Table.{Table}
 use Rattle.map_machines.specs.Given.TablesDeclared.table_words.TheConstants.{PLACES}
 use Rattle.map_rule.specs.Chart.{Phase, Place, Holds, Share, Chart, put_in}
-use Rattle.map_rule.specs.Words.{Blocks, Shows, place_word}
+use Rattle.map_rule.specs.Words.{Blocks, Represents, place_word}
 use Rattle.map_rule.specs.Maps.{IsTable}
 use Rattle.map_rule.specs.InWorld.{IsMapIn}
 use Rattle.map_rule.proofs.World.Framed.{shows_beside}
@@ -32,9 +32,9 @@ module _ {K V : Type 0} (same : K → K → Bool) (hash : K → ℕ) (setting : 
       hands_kept same hash setting w c blocks placed (omega arith) refl refl (λ n is. is)
       (λ t j n phase borrowed l made e. let was = (same_pairs c.place c.first i place keeps t j).earlier n phase borrowed e in h.named t j n was.0 borrowed l made was.1) h
 
-  pub placed_shows : i < c.len c.first → Shows hash (with_word w.memory (at_place table i) (place_word hash c blocks place)) placed blocks setting.root
+  pub placed_shows : i < c.len c.first → Represents hash (with_word w.memory (at_place table i) (place_word hash c blocks place)) placed blocks setting.root
   placed_shows inside =
-      subst (λ (a : At). Shows hash (with_word w.memory a (place_word hash c blocks place)) placed blocks setting.root)
+      subst (λ (a : At). Represents hash (with_word w.memory a (place_word hash c blocks place)) placed blocks setting.root)
       (sym (place_stands hash w.memory c blocks setting.root map.map.shows table c.first entered i inside))
       (shows_beside hash (with_word w.memory (Word (blocks.table c.first) (i + PLACES)) (place_word hash c blocks place))
       (record c { place = put_in c.place c.first i place }) blocks setting.root share c.current

@@ -9,13 +9,13 @@ use Rattle.map_machines.specs.Given.TablesNodes.{table_seen}
 use Rattle.map_machines.specs.Given.TablesDeclared.node.Node.{Node}
 use Rattle.map_machines.specs.Given.TablesDeclared.table.Table.{Table}
 use Rattle.map_rule.specs.Chart.{Chart}
-use Rattle.map_rule.specs.Words.{Blocks, Shows}
+use Rattle.map_rule.specs.Words.{Blocks, Represents}
 use Rattle.map_rule.specs.Maps.{IsTable}
 use Rattle.map_rule.specs.Links.{IsLinkTo, LeadsTo}
 use Rattle.map_rule.proofs.Words.LinksSeen.{link_some}
 use Rattle.map_rule.proofs.Words.TablesSeen.{link_seen, link_not_zero, table_is}
 
-module _ {K V : Type 0} (hash : K → ℕ) (m : Mem (Node K V)) (c : Chart K) (blocks : Blocks) (root : ℕ) (shows : Shows hash m c blocks root)
+module _ {K V : Type 0} (hash : K → ℕ) (m : Mem (Node K V)) (c : Chart K) (blocks : Blocks) (root : ℕ) (shows : Represents hash m c blocks root)
     (link t : ℕ) (there : IsLinkTo c blocks link t) where
   -- what it leads to is there, and is that table
   pub link_shown : IsSome (value_at m (link / 2048))
@@ -25,7 +25,7 @@ module _ {K V : Type 0} (hash : K → ℕ) (m : Mem (Node K V)) (c : Chart K) (b
   link_table value =
       subst (λ (x : ℕ). value_at m (x / 2048) ≡ Some value → IsTable c blocks (table_seen x value) t) (sym there.0) (table_is hash m c blocks root shows t there.1 there.2 value)
 
-module _ {K V R : Type 0} (hash : K → ℕ) (m : Mem (Node K V)) (c : Chart K) (blocks : Blocks) (root : ℕ) (shows : Shows hash m c blocks root)
+module _ {K V R : Type 0} (hash : K → ℕ) (m : Mem (Node K V)) (c : Chart K) (blocks : Blocks) (root : ℕ) (shows : Represents hash m c blocks root)
     (link t : ℕ) (leads : LeadsTo c blocks link t) (empty : R) (on : Table → R) where
   some_link : (link == 0) ≡ false → IsLinkTo c blocks link t
   some_link e = link_some c blocks link t leads (eqb-false link 0 e)

@@ -8,7 +8,7 @@ use Rattle.map_machines.specs.Lookup.{names_pair}
 use Rattle.map_machines.specs.Given.TablesDeclared.node.Node.{Node}
 use Rattle.map_machines.specs.Given.TablesDeclared.node.Node.TheVariants as node
 use Rattle.map_rule.specs.Chart.{Phase, Place, Empty, Tombstone, Holds, Chart}
-use Rattle.map_rule.specs.Words.{Blocks, byte_of, place_word, Shows}
+use Rattle.map_rule.specs.Words.{Blocks, byte_of, place_word, Represents}
 use Rattle.map_rule.specs.Maps.{IsClass}
 use Rattle.map_rule.proofs.Words.PlaceWords.{pair_block}
 use Rattle.map_rule.proofs.Words.PlaceWordsFinding.{may_name-empty, may_name-tombstone, may_name-pair}
@@ -17,7 +17,7 @@ use Rattle.map_rule.proofs.Words.WordsSeen.{HasKey, Tells}
 use Rattle.map_machines.proofs.Given.General.{some_is as is_some_of}
 
 module _ {K V : Type 0} (same : K → K → Bool) (hash : K → ℕ) (fits : (k : K) → hash k < 2 ^ 64) (m : Mem (Node K V)) (c : Chart K) (blocks : Blocks) (root : ℕ)
-    (shows : Shows hash m c blocks root) (stored : AreStored c) (t i : ℕ) (made : t < c.past) (known : blocks.table_known t ≡ true) where
+    (shows : Represents hash m c blocks root) (stored : AreStored c) (t i : ℕ) (made : t < c.past) (known : blocks.table_known t ≡ true) where
   -- the word of the place
   abbrev word : ℕ
   word = place_word hash c blocks (c.place t i)

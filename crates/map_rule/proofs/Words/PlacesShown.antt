@@ -4,7 +4,7 @@ use Rattle.std.proofs.Common.{arith}
 use Rattle.map_machines.specs.Given.SeizeWordsMem.{Mem}
 use Rattle.map_machines.specs.Given.TablesDeclared.node.Node.{Node}
 use Rattle.map_rule.specs.Chart.{Phase, Place, Holds, Chart}
-use Rattle.map_rule.specs.Words.{Blocks, byte_of, Shows}
+use Rattle.map_rule.specs.Words.{Blocks, byte_of, Represents}
 use Rattle.map_rule.specs.Rule.{Common}
 use Rattle.map_rule.proofs.Words.PlaceWords.{HasBlock, HasByte, IsApart}
 
@@ -24,7 +24,7 @@ module _ {K : Type 0} (hash : K → ℕ) where
   pub shown_byte : ((k : K) → hash k < 2 ^ 64) → (keys : ℕ → Option K) (place : Place) → HasByte (λ n. byte_of hash (keys n)) place
   shown_byte fits keys place n phase borrowed is = byte_of-few fits (keys n)
 
-  module _ {V : Type 0} (m : Mem (Node K V)) (c : Chart K) (blocks : Blocks) (root : ℕ) (shows : Shows hash m c blocks root) where
+  module _ {V : Type 0} (m : Mem (Node K V)) (c : Chart K) (blocks : Blocks) (root : ℕ) (shows : Represents hash m c blocks root) where
     module _ (stored : AreStored c) (t i : ℕ) (made : t < c.past) (known : blocks.table_known t ≡ true) where
       -- the pair of a place of a known table can be looked at
       pub shown_known : (n : ℕ) (phase : Phase) (borrowed : Bool) → c.place t i ≡ Holds n phase borrowed → blocks.pair_known n ≡ true

@@ -11,7 +11,7 @@ use Rattle.map_machines.specs.Given.TablesDeclared.node.Node.TheVariants as node
 use Rattle.map_machines.specs.Given.TablesDeclared.table.Table.{Table}
 use Rattle.map_machines.specs.Given.TablesDeclared.table_words.TheConstants.{NEXT, CLAIM, COPIED, STATUS, PLACES}
 use Rattle.map_rule.specs.Chart.{Chart}
-use Rattle.map_rule.specs.Words.{Blocks, next_word, place_word, ShowsTable, Shows}
+use Rattle.map_rule.specs.Words.{Blocks, next_word, place_word, RepresentsTable, Represents}
 use Rattle.map_rule.specs.Maps.{IsTable}
 use Rattle.map_rule.proofs.Words.WritesWords.{at_word_block, at_place_block}
 use Rattle.map_rule.proofs.Words.BlocksApart.{values_apart}
@@ -21,7 +21,7 @@ use Rattle.map_machines.proofs.Given.General.{some_is as is_some_of}
 pub block_of_link : (block : ℕ) → block * 2048 / 2048 ≡ block
 block_of_link block = omega arith
 
-module _ {K V : Type 0} (hash : K → ℕ) (m : Mem (Node K V)) (c : Chart K) (blocks : Blocks) (root : ℕ) (shows : Shows hash m c blocks root) where
+module _ {K V : Type 0} (hash : K → ℕ) (m : Mem (Node K V)) (c : Chart K) (blocks : Blocks) (root : ℕ) (shows : Represents hash m c blocks root) where
   module _ (t : ℕ) (made : t < c.past) (known : blocks.table_known t ≡ true) where
     -- the value of the block of its link
     pub link_value : value_at m (blocks.table t * 2048 / 2048) ≡ Some (node.Table (c.len t) (c.limit t) t)
@@ -41,7 +41,7 @@ module _ {K V : Type 0} (hash : K → ℕ) (m : Mem (Node K V)) (c : Chart K) (b
         is_table = cc (link_value)
 
   module _ (table : Table) (t : ℕ) (entered : IsTable c blocks table t) where
-    there : ShowsTable hash m c blocks t
+    there : RepresentsTable hash m c blocks t
     there = shows.tables t entered.made entered.known
 
     link_is : table.link ≡ blocks.table t * 2048

@@ -10,7 +10,7 @@ use Rattle.map_machines.specs.Given.TablesDeclared.table_words.TheConstants.{NEX
 use Rattle.map_rule.specs.Chart.{Chart, put}
 use Rattle.map_rule.specs.Rule.{Common}
 use Rattle.map_rule.specs.Moves.{Links, after}
-use Rattle.map_rule.specs.Words.{Blocks, Shows, next_word, root_word}
+use Rattle.map_rule.specs.Words.{Blocks, Represents, next_word, root_word}
 use Rattle.map_rule.proofs.Words.WritesWords.{values_same, table_words, word_kept}
 use Rattle.map_rule.proofs.World.Linked.{IsNewTable, IsUnmade, linked_shown, with_table_block}
 use Rattle.map_machines.proofs.Given.General.{some_is as is_some_of}
@@ -22,12 +22,12 @@ next_links : (table : ℕ → ℕ) (past p t b : ℕ) → past ≡ suc p → t <
 next_links table past p t b is made = grind arith
 
 module _ {K V : Type 0} (hash : K → ℕ) (same : K → K → Bool) (spot : ℕ → K → ℕ → ℕ) (incremental : Bool) (m : Mem (Node K V)) (c : Chart K) (blocks : Blocks) (root b len limit : ℕ)
-    (s : Shows hash m c blocks root) (rule : Common same spot incremental c) (new : IsNewTable m c blocks b len limit) where
+    (s : Represents hash m c blocks root) (rule : Common same spot incremental c) (new : IsNewTable m c blocks b len limit) where
   unmade : IsUnmade c
   unmade = record { place = λ i. rule.unmade c.past i (omega arith); claim = (rule.uncounted c.past (omega arith)).0; copied = (rule.uncounted c.past (omega arith)).1 }
 
   -- the first table
-  pub first_table_linked : c.past ≡ 0 → Shows hash (with_word m (Root root) (b * 2048)) (after spot incremental (Links len limit) c) (with_table_block blocks c.past b) root
+  pub first_table_linked : c.past ≡ 0 → Represents hash (with_word m (Root root) (b * 2048)) (after spot incremental (Links len limit) c) (with_table_block blocks c.past b) root
   first_table_linked none = linked_shown hash spot incremental m (with_word m (Root root) (b * 2048)) c blocks root b len limit s unmade new
       (record {
         values = λ a. refl;
@@ -44,7 +44,7 @@ module _ {K V : Type 0} (hash : K → ℕ) (same : K → K → Bool) (spot : ℕ
       root_new = rw (ne_eqb (suc c.past) 0 (omega arith), eq-eqb c.first c.past (rule.rootless none ∙ sym none)) refl
 
   -- a table behind the last one
-  pub table_linked : (p : ℕ) → c.past ≡ suc p → Shows hash (with_word m (Word (blocks.table p) NEXT) (b * 2048)) (after spot incremental (Links len limit) c) (with_table_block blocks c.past b) root
+  pub table_linked : (p : ℕ) → c.past ≡ suc p → Represents hash (with_word m (Word (blocks.table p) NEXT) (b * 2048)) (after spot incremental (Links len limit) c) (with_table_block blocks c.past b) root
   table_linked p is = linked_shown hash spot incremental m (with_word m (Word (blocks.table p) NEXT) (b * 2048)) c blocks root b len limit s unmade new
       (record {
         values = values_same m (blocks.table p) NEXT (b * 2048) _ there;

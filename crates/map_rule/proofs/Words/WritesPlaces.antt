@@ -6,13 +6,13 @@ use Rattle.map_machines.specs.Given.SeizeWordsMem.{Mem, value_at, word_at, with_
 use Rattle.map_machines.specs.Given.TablesDeclared.node.Node.{Node}
 use Rattle.map_machines.specs.Given.TablesDeclared.table_words.TheConstants.{NEXT, CLAIM, COPIED, STATUS, PLACES}
 use Rattle.map_rule.specs.Chart.{Chart, Phase, Place, Holds, put_in}
-use Rattle.map_rule.specs.Words.{Blocks, ShowsTable, Shows, place_word}
+use Rattle.map_rule.specs.Words.{Blocks, RepresentsTable, Represents, place_word}
 use Rattle.map_rule.proofs.Words.WritesWords.{values_same, word_kept, place_put}
 
 module _ {K V : Type 0} (hash : K → ℕ) (m : Mem (Node K V)) (c : Chart K) (blocks : Blocks) (root : ℕ) where
-  pub place_written : Shows hash m c blocks root → (t i : ℕ) (place : Place) → t < c.past → blocks.table_known t ≡ true → i < c.len t
+  pub place_written : Represents hash m c blocks root → (t i : ℕ) (place : Place) → t < c.past → blocks.table_known t ≡ true → i < c.len t
       → ((p : ℕ) (phase : Phase) (borrowed : Bool) → place ≡ Holds p phase borrowed → blocks.pair_known p ≡ true)
-      → Shows hash (with_word m (Word (blocks.table t) (i + PLACES)) (place_word hash c blocks place)) (record c { place = put_in c.place t i place }) blocks root
+      → Represents hash (with_word m (Word (blocks.table t) (i + PLACES)) (place_word hash c blocks place)) (record c { place = put_in c.place t i place }) blocks root
   place_written s t i place made known inside can = record {
     root_there = s.root_there;
     tables = λ u made2 known2. table u made2 known2 (s.tables u made2 known2);
@@ -38,8 +38,8 @@ module _ {K V : Type 0} (hash : K → ℕ) (m : Mem (Node K V)) (c : Chart K) (b
       named u j p phase borrowed old true false = old
       named u j p phase borrowed old false b = old
 
-      table : (u : ℕ) → u < c.past → blocks.table_known u ≡ true → ShowsTable hash m c blocks u
-          → ShowsTable hash (with_word m (Word (blocks.table t) (i + PLACES)) (place_word hash c blocks place)) (record c { place = put_in c.place t i place }) blocks u
+      table : (u : ℕ) → u < c.past → blocks.table_known u ≡ true → RepresentsTable hash m c blocks u
+          → RepresentsTable hash (with_word m (Word (blocks.table t) (i + PLACES)) (place_word hash c blocks place)) (record c { place = put_in c.place t i place }) blocks u
       table u made2 known2 h = record {
         value = value (blocks.table u) ∙ h.value;
         next = kept NEXT (omega arith) _ h.next;

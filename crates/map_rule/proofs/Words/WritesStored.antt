@@ -11,7 +11,7 @@ use Rattle.map_machines.specs.Given.TablesDeclared.table_words.TheConstants.{NEX
 use Rattle.map_rule.specs.Chart.{Chart, Phase, Still, Place, Holds, put}
 use Rattle.map_rule.specs.Rule.{Common}
 use Rattle.map_rule.specs.Moves.{with_pair}
-use Rattle.map_rule.specs.Words.{Blocks, ShowsTable, Shows, place_word, byte_of}
+use Rattle.map_rule.specs.Words.{Blocks, RepresentsTable, Represents, place_word, byte_of}
 use Rattle.map_rule.proofs.World.NewBlocks.{numbers_fit, blocks_apart}
 use Rattle.map_rule.proofs.Words.PlaceWords.{word-agree}
 use Rattle.map_rule.proofs.Moves.Writes.{put_elsewhere}
@@ -52,7 +52,7 @@ module _ {K V : Type 0} (hash : K → ℕ) (spot : ℕ → K → ℕ → ℕ) (i
       (put blocks.pair c.stored b) (λ p. byte_of hash (put c.key c.stored (Some k) p)) blocks.pair (λ p. byte_of hash (c.key p)) place (λ p phase borrowed holds.
       let l = older p phase borrowed holds in (put_elsewhere blocks.pair c.stored b p (omega arith), ap (λ (o : Option K). byte_of hash o) (put_elsewhere c.key c.stored (Some k) p (omega arith))))
 
-  module _ (s : Shows hash m c blocks root) (older : (u j p : ℕ) (phase : Phase) (borrowed : Bool) → c.place u j ≡ Holds p phase borrowed → p < c.stored)
+  module _ (s : Represents hash m c blocks root) (older : (u j p : ℕ) (phase : Phase) (borrowed : Bool) → c.place u j ≡ Holds p phase borrowed → p < c.stored)
       (made : t < c.past) (known : blocks.table_known t ≡ true) (inside : i < c.len t) where
     there : word_at m (Word (blocks.table t) (i + PLACES)) ≡ Some (place_word hash c blocks (c.place t i))
     there = (s.tables t made known).places i inside
@@ -70,7 +70,7 @@ module _ {K V : Type 0} (hash : K → ℕ) (spot : ℕ → K → ℕ → ℕ) (i
     named u j p phase borrowed old true false is = known_still p (eqb p c.stored) (old is)
     named u j p phase borrowed old false e is = known_still p (eqb p c.stored) (old is)
 
-    table : (u : ℕ) → u < c.past → blocks.table_known u ≡ true → ShowsTable hash m c blocks u → ShowsTable hash written after blocks_after u
+    table : (u : ℕ) → u < c.past → blocks.table_known u ≡ true → RepresentsTable hash m c blocks u → RepresentsTable hash written after blocks_after u
     table u made2 known2 h = record {
       value = value (blocks.table u) ∙ h.value;
       next = kept NEXT (omega arith) _ h.next;
@@ -97,7 +97,7 @@ module _ {K V : Type 0} (hash : K → ℕ) (spot : ℕ → K → ℕ → ℕ) (i
               let q = s.pairs p (omega arith) known2 in
               (q.0, q.1, value (blocks.pair p) ∙ q.2, q.3)
 
-      shown : Shows hash written after blocks_after root
+      shown : Represents hash written after blocks_after root
       shown = record {
         root_there = s.root_there;
         tables = λ u made2 known2. table u made2 known2 (s.tables u made2 known2);
@@ -111,9 +111,9 @@ module _ {K V : Type 0} (hash : K → ℕ) (spot : ℕ → K → ℕ → ℕ) (i
         pairs_apart = blocks_apart blocks.pair blocks.pair_known c.stored b new.apart s.pairs_apart;
       }
 
-  pub pair_stored : (same : K → K → Bool) → Shows hash m c blocks root → Common same spot incremental c → t < c.past → blocks.table_known t ≡ true → i < c.len t
+  pub pair_stored : (same : K → K → Bool) → Represents hash m c blocks root → Common same spot incremental c → t < c.past → blocks.table_known t ≡ true → i < c.len t
       → IsNewPair m c blocks b k v
-      → Shows hash
+      → Represents hash
       (with_word m (Word (blocks.table t) (i + PLACES)) (place_word hash (with_pair spot incremental c t i k) (with_pair_block blocks c.stored b) (Holds c.stored Still false)))
       (with_pair spot incremental c t i k) (with_pair_block blocks c.stored b) root
   pair_stored same s rule made known inside new = shown s (λ u j p phase borrowed e. (rule.keyed u j p phase borrowed e).0) made known inside new

@@ -8,14 +8,14 @@ use Rattle.map_machines.proofs.Given.SeizeWordsOneOwner.AfterWrites.{word_at-wit
 use Rattle.map_machines.specs.Given.TablesDeclared.node.Node.{Node}
 use Rattle.map_machines.specs.Given.TablesDeclared.table_words.TheConstants.{NEXT, CLAIM, COPIED, STATUS, PLACES}
 use Rattle.map_rule.specs.Chart.{Chart, put}
-use Rattle.map_rule.specs.Words.{Blocks, ShowsTable, Shows}
+use Rattle.map_rule.specs.Words.{Blocks, RepresentsTable, Represents}
 use Rattle.map_rule.proofs.Words.WritesWords.{values_same, word_kept, word_put}
 use Rattle.map_machines.proofs.Given.General.{some_is as is_some_of}
 
-module _ {K V : Type 0} (hash : K → ℕ) (m : Mem (Node K V)) (c : Chart K) (blocks : Blocks) (root : ℕ) (s : Shows hash m c blocks root) where
+module _ {K V : Type 0} (hash : K → ℕ) (m : Mem (Node K V)) (c : Chart K) (blocks : Blocks) (root : ℕ) (s : Represents hash m c blocks root) where
   -- another claim
   pub claim_written : (t w : ℕ) → t < c.past → blocks.table_known t ≡ true
-      → Shows hash (with_word m (Word (blocks.table t) CLAIM) w) (record c { claim = put c.claim t w }) blocks root
+      → Represents hash (with_word m (Word (blocks.table t) CLAIM) w) (record c { claim = put c.claim t w }) blocks root
   claim_written t w made known = record {
     root_there = s.root_there;
     tables = λ u made2 known2. table u made2 known2 (s.tables u made2 known2);
@@ -35,8 +35,8 @@ module _ {K V : Type 0} (hash : K → ℕ) (m : Mem (Node K V)) (c : Chart K) (b
       value : (b : ℕ) → value_at (with_word m (Word (blocks.table t) CLAIM) w) b ≡ value_at m b
       value = values_same m (blocks.table t) CLAIM w _ there
 
-      table : (u : ℕ) → u < c.past → blocks.table_known u ≡ true → ShowsTable hash m c blocks u
-          → ShowsTable hash (with_word m (Word (blocks.table t) CLAIM) w) (record c { claim = put c.claim t w }) blocks u
+      table : (u : ℕ) → u < c.past → blocks.table_known u ≡ true → RepresentsTable hash m c blocks u
+          → RepresentsTable hash (with_word m (Word (blocks.table t) CLAIM) w) (record c { claim = put c.claim t w }) blocks u
       table u made2 known2 h = record {
         value = value (blocks.table u) ∙ h.value;
         next = kept NEXT (omega arith) _ h.next;
@@ -52,7 +52,7 @@ module _ {K V : Type 0} (hash : K → ℕ) (m : Mem (Node K V)) (c : Chart K) (b
 
   -- another number of places copied
   pub copied_written : (t w : ℕ) → t < c.past → blocks.table_known t ≡ true
-      → Shows hash (with_word m (Word (blocks.table t) COPIED) w) (record c { copied = put c.copied t w }) blocks root
+      → Represents hash (with_word m (Word (blocks.table t) COPIED) w) (record c { copied = put c.copied t w }) blocks root
   copied_written t w made known = record {
     root_there = s.root_there;
     tables = λ u made2 known2. table u made2 known2 (s.tables u made2 known2);
@@ -72,8 +72,8 @@ module _ {K V : Type 0} (hash : K → ℕ) (m : Mem (Node K V)) (c : Chart K) (b
       value : (b : ℕ) → value_at (with_word m (Word (blocks.table t) COPIED) w) b ≡ value_at m b
       value = values_same m (blocks.table t) COPIED w _ there
 
-      table : (u : ℕ) → u < c.past → blocks.table_known u ≡ true → ShowsTable hash m c blocks u
-          → ShowsTable hash (with_word m (Word (blocks.table t) COPIED) w) (record c { copied = put c.copied t w }) blocks u
+      table : (u : ℕ) → u < c.past → blocks.table_known u ≡ true → RepresentsTable hash m c blocks u
+          → RepresentsTable hash (with_word m (Word (blocks.table t) COPIED) w) (record c { copied = put c.copied t w }) blocks u
       table u made2 known2 h = record {
         value = value (blocks.table u) ∙ h.value;
         next = kept NEXT (omega arith) _ h.next;
@@ -89,7 +89,7 @@ module _ {K V : Type 0} (hash : K → ℕ) (m : Mem (Node K V)) (c : Chart K) (b
 
   -- another status
   pub status_written : (t w : ℕ) → t < c.past → blocks.table_known t ≡ true
-      → Shows hash (with_word m (Word (blocks.table t) STATUS) w) (record c { status = put c.status t w }) blocks root
+      → Represents hash (with_word m (Word (blocks.table t) STATUS) w) (record c { status = put c.status t w }) blocks root
   status_written t w made known = record {
     root_there = s.root_there;
     tables = λ u made2 known2. table u made2 known2 (s.tables u made2 known2);
@@ -109,8 +109,8 @@ module _ {K V : Type 0} (hash : K → ℕ) (m : Mem (Node K V)) (c : Chart K) (b
       value : (b : ℕ) → value_at (with_word m (Word (blocks.table t) STATUS) w) b ≡ value_at m b
       value = values_same m (blocks.table t) STATUS w _ there
 
-      table : (u : ℕ) → u < c.past → blocks.table_known u ≡ true → ShowsTable hash m c blocks u
-          → ShowsTable hash (with_word m (Word (blocks.table t) STATUS) w) (record c { status = put c.status t w }) blocks u
+      table : (u : ℕ) → u < c.past → blocks.table_known u ≡ true → RepresentsTable hash m c blocks u
+          → RepresentsTable hash (with_word m (Word (blocks.table t) STATUS) w) (record c { status = put c.status t w }) blocks u
       table u made2 known2 h = record {
         value = value (blocks.table u) ∙ h.value;
         next = kept NEXT (omega arith) _ h.next;
@@ -125,7 +125,7 @@ module _ {K V : Type 0} (hash : K → ℕ) (m : Mem (Node K V)) (c : Chart K) (b
           kept = word_kept hash m c blocks root s t STATUS w _ made known there u made2 known2
 
   -- another table is the root
-  pub root_written : (t : ℕ) {passed : ℕ → ℕ} → c.first ≤ t → t < c.past → Shows hash (with_word m (Root root) (blocks.table t * 2048)) (record c { first = t; passed = passed }) blocks root
+  pub root_written : (t : ℕ) {passed : ℕ → ℕ} → c.first ≤ t → t < c.past → Represents hash (with_word m (Root root) (blocks.table t * 2048)) (record c { first = t; passed = passed }) blocks root
   root_written t {passed} later made = record {
     root_there = word_at-with_word m (Root root) (blocks.table t * 2048) (Root root) there ∙ ap (λ q. cond q (Some (blocks.table t * 2048)) (word_at m (Root root))) (eq-eqb root root refl)
         ∙ ap (λ q. Some (cond q 0 (blocks.table t * 2048))) (sym (ne_eqb c.past 0 (omega arith)));
@@ -146,5 +146,5 @@ module _ {K V : Type 0} (hash : K → ℕ) (m : Mem (Node K V)) (c : Chart K) (b
       value : (b : ℕ) → value_at (with_word m (Root root) (blocks.table t * 2048)) b ≡ value_at m b
       value b = refl
 
-      table : (u : ℕ) → ShowsTable hash m c blocks u → ShowsTable hash (with_word m (Root root) (blocks.table t * 2048)) (record c { first = t; passed = passed }) blocks u
+      table : (u : ℕ) → RepresentsTable hash m c blocks u → RepresentsTable hash (with_word m (Root root) (blocks.table t * 2048)) (record c { first = t; passed = passed }) blocks u
       table u h = record { value = h.value; next = h.next; claim = h.claim; copied = h.copied; status = h.status; places = h.places }

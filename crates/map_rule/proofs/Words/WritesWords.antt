@@ -10,7 +10,7 @@ use Rattle.map_machines.specs.Given.TablesDeclared.table.Table.{Table}
 use Rattle.map_machines.specs.Given.TablesDeclared.table_words.TheConstants.{PLACES}
 use Rattle.map_machines.specs.Given.TablesTablePlaces.{at_word, at_place}
 use Rattle.map_rule.specs.Chart.{Chart, Place, put, put_in}
-use Rattle.map_rule.specs.Words.{Blocks, Shows}
+use Rattle.map_rule.specs.Words.{Blocks, Represents}
 use Rattle.map_machines.proofs.Given.General.{some_is as is_some_of}
 
 -- the words of a table whose link is to this block
@@ -30,7 +30,7 @@ values_same m b d w old there a = value_at-with_word m (Word b d) w a (is_some_o
 
 module _ {K V : Type 0} (hash : K → ℕ) (m : Mem (Node K V)) (c : Chart K) (blocks : Blocks) (root : ℕ) where
   -- the words of all tables that can be looked at, after a word of one of them was written
-  module _ (s : Shows hash m c blocks root) (t d w old : ℕ) (made : t < c.past) (known : blocks.table_known t ≡ true)
+  module _ (s : Represents hash m c blocks root) (t d w old : ℕ) (made : t < c.past) (known : blocks.table_known t ≡ true)
       (there : word_at m (Word (blocks.table t) d) ≡ Some old) (u : ℕ) (made2 : u < c.past) (known2 : blocks.table_known u ≡ true) where
     pub table_words : (e : ℕ) → word_at (with_word m (Word (blocks.table t) d) w) (Word (blocks.table u) e)
         ≡ cond (eqb u t && eqb e d) (Some w) (word_at m (Word (blocks.table u) e))
@@ -63,7 +63,7 @@ module _ {K V : Type 0} (hash : K → ℕ) (m : Mem (Node K V)) (c : Chart K) (b
         at false q is = h
 
   -- those of the places, after that of one was written
-  module _ (s : Shows hash m c blocks root) (t i : ℕ) (f : Place → ℕ) (place : Place) (old : ℕ) (made : t < c.past) (known : blocks.table_known t ≡ true)
+  module _ (s : Represents hash m c blocks root) (t i : ℕ) (f : Place → ℕ) (place : Place) (old : ℕ) (made : t < c.past) (known : blocks.table_known t ≡ true)
       (there : word_at m (Word (blocks.table t) (i + PLACES)) ≡ Some old) (u : ℕ) (made2 : u < c.past) (known2 : blocks.table_known u ≡ true) where
     pub place_put : (j : ℕ) → word_at m (Word (blocks.table u) (j + PLACES)) ≡ Some (f (c.place u j))
         → word_at (with_word m (Word (blocks.table t) (i + PLACES)) (f place)) (Word (blocks.table u) (j + PLACES)) ≡ Some (f (put_in c.place t i place u j))

@@ -9,7 +9,7 @@ use Rattle.map_machines.specs.Given.TablesDeclared.setting.Setting.{Setting}
 use Rattle.map_rule.specs.Chart.{Chart}
 use Rattle.map_rule.specs.Words.{Blocks}
 use Rattle.map_rule.specs.Counters.{SparesCounter}
-use Rattle.map_rule.specs.InWorld.{IsOut, IsIts, IsMapIn, Went}
+use Rattle.map_rule.specs.InWorld.{IsOut, IsIts, IsMapIn, StepSpec}
 use Rattle.map_rule.proofs.World.BesideKept.{events_kept}
 use Rattle.map_rule.proofs.Words.BlocksApart.{values_apart, new_apart}
 
@@ -26,6 +26,6 @@ module _ {K V : Type 0} (same : K → K → Bool) (hash : K → ℕ) (setting : 
   not_its caller making (inr (inl (t, made, known, is))) = subst IsOut making (subst (λ (b : ℕ). IsOut (w.hand b)) (sym is) (map.tables_out t made known))
   not_its caller making (inr (inr (n, was, known, is))) = subst IsOut making (subst (λ (b : ℕ). IsOut (w.hand b)) (sym is) (map.pairs_out n was known))
 
-  pub spares_counter : (caller : ℕ) (m2 : Mem (Node K V)) (Told : World (Node K V) → Chart K → Blocks → Type 0) (went : Went same hash setting caller w c blocks m2 Told) → SparesCounter setting w went.w2
+  pub spares_counter : (caller : ℕ) (m2 : Mem (Node K V)) (Told : World (Node K V) → Chart K → Blocks → Type 0) (went : StepSpec same hash setting caller w c blocks m2 Told) → SparesCounter setting w went.w2
   spares_counter caller m2 Told went j making =
       (events_kept caller w c blocks setting setting.counter (not_its caller making) node.Shards setting.batch_size went.events w went.w2 map.counter went.its went.runs).hand ∙ making

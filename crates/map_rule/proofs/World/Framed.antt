@@ -6,7 +6,7 @@ use Rattle.map_machines.specs.Given.SeizeWordsMem.{Mem, value_at, word_at}
 use Rattle.map_machines.specs.Given.TablesDeclared.node.Node.{Node}
 use Rattle.map_machines.specs.Given.TablesDeclared.table_words.TheConstants.{NEXT, CLAIM, COPIED, STATUS, DEFERRED, PLACES}
 use Rattle.map_rule.specs.Chart.{Chart, Share}
-use Rattle.map_rule.specs.Words.{Blocks, ShowsTable, Shows}
+use Rattle.map_rule.specs.Words.{Blocks, RepresentsTable, Represents}
 
 module _ {K V : Type 0} where
   -- what a map shows is the same in both memories
@@ -24,7 +24,7 @@ module _ {K V : Type 0} where
     pub words : (t d word : ℕ) → t < c.past → blocks.table_known t ≡ true → d ≢ DEFERRED → word_at m (Word (blocks.table t) d) ≡ Some word → word_at n (Word (blocks.table t) d) ≡ Some word
 
   module _ (hash : K → ℕ) (m n : Mem (Node K V)) (c : Chart K) (blocks : Blocks) (root : ℕ) where
-    pub shows_kept : Shows hash m c blocks root → Keeps m n c blocks root → Shows hash n c blocks root
+    pub shows_kept : Represents hash m c blocks root → Keeps m n c blocks root → Represents hash n c blocks root
     shows_kept s f = record {
       root_there = f.root_word _ s.root_there;
       tables = λ t made known. table t made known (s.tables t made known);
@@ -38,7 +38,7 @@ module _ {K V : Type 0} where
       pairs_apart = s.pairs_apart;
     }
       where
-        table : (t : ℕ) → t < c.past → blocks.table_known t ≡ true → ShowsTable hash m c blocks t → ShowsTable hash n c blocks t
+        table : (t : ℕ) → t < c.past → blocks.table_known t ≡ true → RepresentsTable hash m c blocks t → RepresentsTable hash n c blocks t
         table t made known h = record {
           value = f.table_values t made known ∙ h.value;
           next = f.words t NEXT _ made known (omega arith) h.next;
@@ -48,7 +48,7 @@ module _ {K V : Type 0} where
           places = λ i inside. f.words t (i + PLACES) _ made known (omega arith) (h.places i inside);
         }
 
-    pub shows_framed : Shows hash m c blocks root → Frames m n c blocks root → Shows hash n c blocks root
+    pub shows_framed : Represents hash m c blocks root → Frames m n c blocks root → Represents hash n c blocks root
     shows_framed s f = shows_kept s (record {
       root_word = λ word is. f.root_word ∙ is;
       table_values = f.table_values;
@@ -58,8 +58,8 @@ module _ {K V : Type 0} where
 
   -- no word says who copies what, nor which pairs are in the map
   module _ (hash : K → ℕ) (m : Mem (Node K V)) (c : Chart K) (blocks : Blocks) (root : ℕ) where
-    pub shows_beside : (share : ℕ → ℕ → Share) (current : ℕ → Bool) {now : ℕ} {was : ℕ → ℕ → Bool} {passed from : ℕ → ℕ} → Shows hash m c blocks root
-        → Shows hash m (record c { share = share; current = current; now = now; was = was; passed = passed; from = from }) blocks root
+    pub shows_beside : (share : ℕ → ℕ → Share) (current : ℕ → Bool) {now : ℕ} {was : ℕ → ℕ → Bool} {passed from : ℕ → ℕ} → Represents hash m c blocks root
+        → Represents hash m (record c { share = share; current = current; now = now; was = was; passed = passed; from = from }) blocks root
     shows_beside share current {now} {was} {passed} {from} s = record {
       root_there = s.root_there;
       tables = λ t made known. table t (s.tables t made known);
@@ -73,5 +73,5 @@ module _ {K V : Type 0} where
       pairs_apart = s.pairs_apart;
     }
       where
-        table : (t : ℕ) → ShowsTable hash m c blocks t → ShowsTable hash m (record c { share = share; current = current; now = now; was = was; passed = passed; from = from }) blocks t
+        table : (t : ℕ) → RepresentsTable hash m c blocks t → RepresentsTable hash m (record c { share = share; current = current; now = now; was = was; passed = passed; from = from }) blocks t
         table t h = record { value = h.value; next = h.next; claim = h.claim; copied = h.copied; status = h.status; places = h.places }

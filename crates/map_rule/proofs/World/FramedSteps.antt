@@ -11,7 +11,7 @@ use Rattle.seize_rule.proofs.Given.SeizeMemoryWords.Named.{block_there}
 use Rattle.map_machines.specs.Given.TablesDeclared.node.Node.{Node}
 use Rattle.map_machines.specs.Given.TablesDeclared.table_words.TheConstants.{DEFERRED}
 use Rattle.map_rule.specs.Chart.{Chart}
-use Rattle.map_rule.specs.Words.{Blocks, Shows}
+use Rattle.map_rule.specs.Words.{Blocks, Represents}
 use Rattle.map_rule.proofs.World.Framed.{Frames}
 use Rattle.map_rule.proofs.Words.BlocksApart.{new_apart}
 
@@ -68,13 +68,13 @@ module _ {K V : Type 0} (hash : K → ℕ) (m : Mem (Node K V)) (c : Chart K) (b
   }
 
   -- a free number is no known block's
-  pub new_outside : Shows hash m c blocks root → (b : ℕ) → IsFreeNumber m b → IsOutside c blocks b
+  pub new_outside : Represents hash m c blocks root → (b : ℕ) → IsFreeNumber m b → IsOutside c blocks b
   new_outside s b free = record {
     tables = λ t made known. new_apart m (blocks.table t) b _ (s.tables t made known).value free;
     pairs = λ p made known. let q = s.pairs p made known in new_apart m (blocks.pair p) b _ q.2 free;
   }
 
-  pub frames_made : Shows hash m c blocks root → (value : Node K V) (words b : ℕ) → IsFreeNumber m b
+  pub frames_made : Represents hash m c blocks root → (value : Node K V) (words b : ℕ) → IsFreeNumber m b
       → Frames m (after m (Make value words) (Made (Ok b))) c blocks root
   frames_made s value words b is =
       frames_but (after m (Make value words) (Made (Ok b))) b refl (λ a ne. block_of-made m value words b a is ∙ ap (λ q. cond q (Some (fresh value words)) (block_of m a)) (ne_eqb a b ne))

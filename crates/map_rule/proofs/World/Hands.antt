@@ -10,7 +10,7 @@ use Rattle.map_machines.specs.Given.TablesDeclared.node.Node.{Node}
 use Rattle.map_machines.specs.Given.TablesDeclared.setting.Setting.{Setting}
 use Rattle.map_rule.specs.Chart.{Phase, Holds, Chart}
 use Rattle.map_rule.specs.Rule.{Rule}
-use Rattle.map_rule.specs.Words.{Blocks, Shows}
+use Rattle.map_rule.specs.Words.{Blocks, Represents}
 use Rattle.map_rule.specs.Maps.{spot_of}
 use Rattle.map_rule.specs.InWorld.{IsOut, StandsIn, IsReached, IsMapIn}
 use Rattle.map_rule.proofs.World.FramedSteps.{IsOutside}
@@ -80,7 +80,7 @@ module _ {K V : Type 0} (same : K → K → Bool) (hash : K → ℕ) (setting : 
     }
 
     -- a pair of a linked table can be looked at, and so can one of the map
-    module _ (rule : Rule same (spot_of hash) (is_incremental setting.mode) c) {m : Mem (Node K V)} (shows : Shows hash m c blocks setting.root) where
+    module _ (rule : Rule same (spot_of hash) (is_incremental setting.mode) c) {m : Mem (Node K V)} (shows : Represents hash m c blocks setting.root) where
       pub named_known : (t i n : ℕ) (phase : Phase) (borrowed : Bool) → c.first ≤ t → c.place t i ≡ Holds n phase borrowed → (n < c.stored) × (blocks.pair_known n ≡ true)
       named_known t i n phase borrowed l e =
           let made : t < c.past = linked_there same (spot_of hash) (is_incremental setting.mode) c rule.common t i n phase borrowed e in

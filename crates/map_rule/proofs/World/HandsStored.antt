@@ -11,7 +11,7 @@ use Rattle.map_machines.specs.Given.TablesDeclared.setting.Setting.{Setting}
 use Rattle.map_rule.specs.Chart.{Phase, Still, Place, Empty, Tombstone, Holds, Chart, put_in}
 use Rattle.map_rule.specs.Rule.{Rule}
 use Rattle.map_rule.specs.Moves.{Removes, after, with_pair, without}
-use Rattle.map_rule.specs.Words.{Blocks, Shows}
+use Rattle.map_rule.specs.Words.{Blocks, Represents}
 use Rattle.map_rule.specs.Maps.{spot_of}
 use Rattle.map_rule.specs.InWorld.{IsOut, StandsIn, IsReached}
 use Rattle.map_rule.proofs.Moves.Writes.{stands_new}
@@ -79,20 +79,20 @@ module _ {K V : Type 0} (same : K → K → Bool) (hash : K → ℕ) (setting : 
 module _ {K V : Type 0} (same : K → K → Bool) (hash : K → ℕ) (setting : Setting) (w : World (Node K V)) (c : Chart K) (blocks : Blocks)
     (rule : Rule same (spot_of hash) (is_incremental setting.mode) c) where
   module _ (n : ℕ) (was : n < c.stored) (known : blocks.pair_known n ≡ true) where
-    no_table : {m : Mem (Node K V)} → Shows hash m c blocks setting.root → (t : ℕ) → c.first ≤ t → t < c.past → blocks.table t ≢ blocks.pair n
+    no_table : {m : Mem (Node K V)} → Represents hash m c blocks setting.root → (t : ℕ) → c.first ≤ t → t < c.past → blocks.table t ≢ blocks.pair n
     no_table {m} shows t l made e =
         let table = (shows.tables t made (shows.linked t l made)).value in
         let pair = shows.pairs n was known in
         let value = pair.2 in
         absurd (cc (ap (value_at m) e))
 
-    no_pair : {m : Mem (Node K V)} → Shows hash m c blocks setting.root → c.current n ≡ false → (o : ℕ) → c.current o ≡ true → blocks.pair o ≢ blocks.pair n
+    no_pair : {m : Mem (Node K V)} → Represents hash m c blocks setting.root → c.current n ≡ false → (o : ℕ) → c.current o ≡ true → blocks.pair o ≢ blocks.pair n
     no_pair {m} shows left o is e =
         let k = current_known same hash setting w c blocks rule shows o is in
         let same_pair = shows.pairs_apart o n k.0 was k.1 known e in
         absurd (cc)
 
-  pub hands_left : {m : Mem (Node K V)} → Shows hash m c blocks setting.root → (caller n : ℕ) → n < c.stored → blocks.pair_known n ≡ true → c.current n ≡ false
+  pub hands_left : {m : Mem (Node K V)} → Represents hash m c blocks setting.root → (caller n : ℕ) → n < c.stored → blocks.pair_known n ≡ true → c.current n ≡ false
       → ((u j : ℕ) (phase : Phase) (borrowed : Bool) → c.first ≤ u → u < c.past → c.place u j ≢ Holds n phase borrowed)
       → Hands same hash setting w c blocks
       → Hands same hash setting (with_effect (with_hand w (blocks.pair n) (Cutting caller)) (Unlinked (blocks.pair n))) c blocks
@@ -105,7 +105,7 @@ module _ {K V : Type 0} (same : K → K → Bool) (hash : K → ℕ) (setting : 
       h
 
   -- a pair was taken out that older tables name
-  pub hands_parting : {m : Mem (Node K V)} → Shows hash m c blocks setting.root → (caller n : ℕ) → n < c.stored → blocks.pair_known n ≡ true → c.current n ≡ false
+  pub hands_parting : {m : Mem (Node K V)} → Represents hash m c blocks setting.root → (caller n : ℕ) → n < c.stored → blocks.pair_known n ≡ true → c.current n ≡ false
       → w.hand (blocks.pair n) ≡ InUse setting.counter → Hands same hash setting w c blocks → Hands same hash setting (with_hand w (blocks.pair n) (Parting caller)) c blocks
   hands_parting {m} shows caller n was known left used h =
       hands_parted same hash setting w c blocks (blocks.pair n) caller (no_table n was known shows) (no_pair n was known shows left) (λ e. absurd (cc (used, e))) h

@@ -11,7 +11,7 @@ use Rattle.map_machines.specs.Given.TablesDeclared.status.TheConstants.Status.{P
 use Rattle.map_machines.specs.Given.TablesDeclared.table_words.TheConstants.{NEXT, CLAIM, COPIED, STATUS, PLACES}
 use Rattle.map_rule.specs.Chart.{Chart, Phase, Empty, Holds, put}
 use Rattle.map_rule.specs.Moves.{Links, after}
-use Rattle.map_rule.specs.Words.{Blocks, ShowsTable, Shows, next_word, root_word, place_word}
+use Rattle.map_rule.specs.Words.{Blocks, RepresentsTable, Represents, next_word, root_word, place_word}
 use Rattle.map_rule.proofs.World.NewBlocks.{numbers_fit, blocks_apart}
 
 -- the next table has this block
@@ -55,8 +55,8 @@ module _ {K V : Type 0} (hash : K → ℕ) (spot : ℕ → K → ℕ → ℕ) (i
     pub words : (t d x : ℕ) → t < c.past → blocks.table_known t ≡ true → d ≢ NEXT → word_at m (Word (blocks.table t) d) ≡ Some x → word_at n (Word (blocks.table t) d) ≡ Some x
     pub own_words : (d x : ℕ) → word_at m (Word b d) ≡ Some x → word_at n (Word b d) ≡ Some x
 
-  module _ (s : Shows hash m c blocks root) (unmade : IsUnmade c) (new : IsNewTable m c blocks b len limit) (l : LinksTo) where
-    old_table : (t : ℕ) → t < c.past → blocks.table_known t ≡ true → ShowsTable hash m c blocks t → ShowsTable hash n chart blocks_after t
+  module _ (s : Represents hash m c blocks root) (unmade : IsUnmade c) (new : IsNewTable m c blocks b len limit) (l : LinksTo) where
+    old_table : (t : ℕ) → t < c.past → blocks.table_known t ≡ true → RepresentsTable hash m c blocks t → RepresentsTable hash n chart blocks_after t
     old_table t made known h = record {
       value = rw other (l.values (blocks.table t) ∙ h.value);
       next = rw other (l.nexts t made known);
@@ -69,7 +69,7 @@ module _ {K V : Type 0} (hash : K → ℕ) (spot : ℕ → K → ℕ → ℕ) (i
         other : eqb t c.past ≡ false
         other = ne_eqb t c.past (omega arith)
 
-    new_table : ShowsTable hash n chart blocks_after c.past
+    new_table : RepresentsTable hash n chart blocks_after c.past
     new_table = record {
       value = rw is (l.values b ∙ new.value);
       next = rw (is, last_next) (l.own_words NEXT _ new.next);
@@ -82,10 +82,10 @@ module _ {K V : Type 0} (hash : K → ℕ) (spot : ℕ → K → ℕ → ℕ) (i
         is : eqb c.past c.past ≡ true
         is = eq-eqb c.past c.past refl
 
-    table : (t : ℕ) → t < suc c.past → cond (eqb t c.past) true (blocks.table_known t) ≡ true → ShowsTable hash n chart blocks_after t
+    table : (t : ℕ) → t < suc c.past → cond (eqb t c.past) true (blocks.table_known t) ≡ true → RepresentsTable hash n chart blocks_after t
     table t made known =
-        elim (cases_eq t c.past) as (λ _. ShowsTable hash n chart blocks_after t) [
-          | inl e ↦ subst (λ (u : ℕ). ShowsTable hash n chart blocks_after u) (sym e) new_table
+        elim (cases_eq t c.past) as (λ _. RepresentsTable hash n chart blocks_after t) [
+          | inl e ↦ subst (λ (u : ℕ). RepresentsTable hash n chart blocks_after u) (sym e) new_table
           | inr ne ↦ (let before : t < c.past = omega arith in let known2 = rw (ne_eqb t c.past ne) at known in old_table t before known2 (s.tables t before known2))
         ]
 
@@ -111,7 +111,7 @@ module _ {K V : Type 0} (hash : K → ℕ) (spot : ℕ → K → ℕ → ℕ) (i
         at true is other known e = let t_is = is refl in let none = unmade.place i in absurd (cc)
         at false is other known e = let ne = other refl in s.named t i p phase borrowed (omega arith) known e
 
-    pub linked_shown : Shows hash n (after spot incremental (Links len limit) c) (with_table_block blocks c.past b) root
+    pub linked_shown : Represents hash n (after spot incremental (Links len limit) c) (with_table_block blocks c.past b) root
     linked_shown = record {
       root_there = l.root_there;
       tables = table;

@@ -11,7 +11,7 @@ use Rattle.seize_rule.proofs.Given.SeizeMemoryWords.Named.{block_there}
 use Rattle.seize_rule.specs.Given.SeizeWorld.{World, Hand, NoBlock, Making, InUse, Parting, Cutting, Handed, LeftTo, with_at}
 use Rattle.map_machines.specs.Given.TablesDeclared.node.Node.{Node}
 use Rattle.map_machines.specs.Given.TablesDeclared.node.Node.TheVariants as node
-use Rattle.map_rule.specs.InWorld.{IsHeldBy, IsOut, KeepsBlocks}
+use Rattle.map_rule.specs.InWorld.{IsHeldBy, IsOut, PreservesBlocks}
 use Rattle.map_rule.proofs.Words.BlocksApart.{new_apart}
 use Rattle.map_rule.proofs.World.Hands.{at_cases}
 
@@ -29,10 +29,10 @@ abbrev Hands : Type 0
 Hands = ℕ → Hand
 
 module _ {K V : Type 0} where
-  pub keeps_same : (j : ℕ) (m : Mem (Node K V)) (hand : Hands) → KeepsBlocks j m hand m hand
+  pub keeps_same : (j : ℕ) (m : Mem (Node K V)) (hand : Hands) → PreservesBlocks j m hand m hand
   keeps_same j m hand = record { blocks = λ b value is other held. (refl, is); words = λ b field value is other made. refl }
 
-  pub keeps_then : (j : ℕ) (m m2 m3 : Mem (Node K V)) (hand hand2 hand3 : Hands) → KeepsBlocks j m hand m2 hand2 → KeepsBlocks j m2 hand2 m3 hand3 → KeepsBlocks j m hand m3 hand3
+  pub keeps_then : (j : ℕ) (m m2 m3 : Mem (Node K V)) (hand hand2 hand3 : Hands) → PreservesBlocks j m hand m2 hand2 → PreservesBlocks j m2 hand2 m3 hand3 → PreservesBlocks j m hand m3 hand3
   keeps_then j m m2 m3 hand hand2 hand3 first then = record {
     blocks = λ b value is other held.
         let a = first.blocks b value is other held in
@@ -43,7 +43,7 @@ module _ {K V : Type 0} where
   }
 
   -- a block that another one has changes hands
-  pub keeps_handed : (j : ℕ) (m : Mem (Node K V)) (hand : Hands) (b : ℕ) (new : Hand) → (IsHeldBy j (hand b) → ⊥) → KeepsBlocks j m hand m (with_at hand b new)
+  pub keeps_handed : (j : ℕ) (m : Mem (Node K V)) (hand : Hands) (b : ℕ) (new : Hand) → (IsHeldBy j (hand b) → ⊥) → PreservesBlocks j m hand m (with_at hand b new)
   keeps_handed j m hand b new not_its = record {
     blocks = λ x value is other held.
         (at_cases (λ (h : Hand). h ≡ hand x) hand b new x (λ e. absurd (not_its (subst (λ (y : ℕ). IsHeldBy j (hand y)) e held))) (λ _. refl), is);
@@ -66,7 +66,7 @@ module _ {K V : Type 0} where
 
   -- it is written
   module _ (caller : ℕ) (w : World (Node K V)) (j : ℕ) (other : j ≢ caller) where
-    pub keeps_written : (at : At) (word : ℕ) → IsSome (word_at w.memory at) → IsAside caller w at → KeepsBlocks j w.memory w.hand (with_word w.memory at word) w.hand
+    pub keeps_written : (at : At) (word : ℕ) → IsSome (word_at w.memory at) → IsAside caller w at → PreservesBlocks j w.memory w.hand (with_word w.memory at word) w.hand
     keeps_written at word some aside = record {
       blocks = λ b value is unlike held. (refl, value_at-with_word w.memory at word b some ∙ is);
       words = λ b field value is unlike made. stays at some aside b field value is unlike made;
@@ -84,7 +84,7 @@ module _ {K V : Type 0} where
         ]
 
     -- a block is made
-    pub keeps_made : (value : Node K V) (words b : ℕ) → IsFreeNumber w.memory b → KeepsBlocks j w.memory w.hand (mem_after w.memory (Make value words) (Made (Ok b))) (with_at w.hand b (Making caller))
+    pub keeps_made : (value : Node K V) (words b : ℕ) → IsFreeNumber w.memory b → PreservesBlocks j w.memory w.hand (mem_after w.memory (Make value words) (Made (Ok b))) (with_at w.hand b (Making caller))
     keeps_made value words b free = record {
       blocks = λ x it is unlike held.
           let ne = new_apart w.memory x b it is free in
@@ -96,7 +96,7 @@ module _ {K V : Type 0} where
         same_block x ne = block_of-made w.memory value words b x free ∙ ap (λ q. cond q (Some (fresh value words)) (block_of w.memory x)) (ne_eqb x b ne)
 
     -- one of the caller's own is taken away
-    pub keeps_dropped : (b : ℕ) → w.hand b ≡ Making caller → IsSome (value_at w.memory b) → KeepsBlocks j w.memory w.hand (with_block w.memory b None) (with_at w.hand b NoBlock)
+    pub keeps_dropped : (b : ℕ) → w.hand b ≡ Making caller → IsSome (value_at w.memory b) → PreservesBlocks j w.memory w.hand (with_block w.memory b None) (with_at w.hand b NoBlock)
     keeps_dropped b own there = record {
       blocks = λ x it is unlike held.
           let ne = apart x held in
@@ -114,7 +114,7 @@ module _ {K V : Type 0} where
 
     -- a word is written, and then a block changes hands that no other caller has
     pub keeps_changed : (at : At) (word : ℕ) → IsSome (word_at w.memory at) → IsAside caller w at → (b : ℕ) (new : Hand) → (IsHeldBy j (w.hand b) → ⊥)
-        → KeepsBlocks j w.memory w.hand (with_word w.memory at word) (with_at w.hand b new)
+        → PreservesBlocks j w.memory w.hand (with_word w.memory at word) (with_at w.hand b new)
     keeps_changed at word some aside b new not_its =
         keeps_then j w.memory (with_word w.memory at word) (with_word w.memory at word) w.hand w.hand (with_at w.hand b new)
         (keeps_written at word some aside) (keeps_handed j (with_word w.memory at word) w.hand b new not_its)

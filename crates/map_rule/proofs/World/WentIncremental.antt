@@ -11,9 +11,9 @@ use Rattle.map_machines.specs.Given.TablesDeclared.setting.Setting.{Setting}
 use Rattle.map_rule.specs.Chart.{Chart}
 use Rattle.map_rule.specs.Rule.{Rule, IsLawful}
 use Rattle.map_rule.specs.Moves.{Move, after, Allowed}
-use Rattle.map_rule.specs.Words.{Blocks, Shows}
+use Rattle.map_rule.specs.Words.{Blocks, Represents}
 use Rattle.map_rule.specs.Maps.{spot_of}
-use Rattle.map_rule.specs.InWorld.{IsMapIn, Went}
+use Rattle.map_rule.specs.InWorld.{IsMapIn, StepSpec}
 use Rattle.map_rule.proofs.World.MovesKnown.{IsItsMove}
 use Rattle.map_rule.proofs.World.Hands.{Hands}
 use Rattle.map_rule.proofs.World.Footprints.{MayWriteBy}
@@ -29,20 +29,20 @@ module _ {K V : Type 0} (same : K → K → Bool) (hash : K → ℕ) (setting : 
       → (m2 : Mem (Node K V)) → Gives w.memory op out → m2 ≡ with_word w.memory at word → with_word w.memory at word ≡ mem_after w.memory op out
       → (Told : World (Node K V) → Chart K → Blocks → Type 0)
       → (move : Move K) → IsItsMove caller blocks move → Allowed same (spot_of hash) true move c
-      → Shows hash (with_word w.memory at word) (after (spot_of hash) true move c) blocks setting.root
+      → Represents hash (with_word w.memory at word) (after (spot_of hash) true move c) blocks setting.root
       → (after (spot_of hash) true move c).past ≡ c.past → (after (spot_of hash) true move c).current ≡ c.current
       → Hands same hash setting w (after (spot_of hash) true move c) blocks
       → Told (record w { memory = with_word w.memory at word }) (after (spot_of hash) true move c) blocks
-      → Went same hash setting caller w c blocks m2 Told
+      → StepSpec same hash setting caller w c blocks m2 Told
   went_move caller lawful op out at word own some m2 gives is wrote Told move by = subst Goal bits first
     where
       Goal : Bool → Type 0
       Goal b =
-          Allowed same (spot_of hash) b move c → Shows hash (with_word w.memory at word) (after (spot_of hash) b move c) blocks setting.root
+          Allowed same (spot_of hash) b move c → Represents hash (with_word w.memory at word) (after (spot_of hash) b move c) blocks setting.root
           → (after (spot_of hash) b move c).past ≡ c.past → (after (spot_of hash) b move c).current ≡ c.current
           → Hands same hash setting w (after (spot_of hash) b move c) blocks
           → Told (record w { memory = with_word w.memory at word }) (after (spot_of hash) b move c) blocks
-          → Went same hash setting caller w c blocks m2 Told
+          → StepSpec same hash setting caller w c blocks m2 Told
 
       first : Goal (is_incremental setting.mode)
       first allowed shows past current hands told =

@@ -15,7 +15,7 @@ use Rattle.map_machines.specs.Given.TablesDeclared.node.Node.TheVariants as node
 use Rattle.map_machines.specs.Given.TablesDeclared.setting.Setting.{Setting}
 use Rattle.map_rule.specs.Chart.{Chart}
 use Rattle.map_rule.specs.Words.{Blocks}
-use Rattle.map_rule.specs.InWorld.{IsFramed, IsMapIn, Went}
+use Rattle.map_rule.specs.InWorld.{IsFramed, IsMapIn, StepSpec}
 use Rattle.map_rule.proofs.World.Framed.{shows_framed}
 use Rattle.map_rule.proofs.World.FramedSteps.{IsOutside, frames_made, frames_taken, new_outside}
 use Rattle.map_rule.proofs.World.Hands.{hands_of, hands_beside, own_outside}
@@ -55,7 +55,7 @@ module _ {K V : Type 0} (same : K → K → Bool) (hash : K → ℕ) (setting : 
 
   pub went_made : (i : ℕ) (value : Node K V) (words b : ℕ) → HasListWord (deferred_word {K = K} {V = V}) (deferred_word value) words → IsFreeNumber w.memory b × (b < 2 ^ 53) → (m2 : Mem (Node K V))
       → m2 ≡ mem_after w.memory (Make value words) (Made (Ok b)) → (Told : World (Node K V) → Chart K → Blocks → Type 0) → Told (world_made i value words b) c blocks
-      → Went same hash setting i w c blocks m2 Told
+      → StepSpec same hash setting i w c blocks m2 Told
   went_made i value words b list is m2 after Told told = record {
     w2 = world_made i value words b;
     c2 = c;
@@ -103,7 +103,7 @@ module _ {K V : Type 0} (same : K → K → Bool) (hash : K → ℕ) (setting : 
 
   pub went_dropped : (b i : ℕ) (value : Node K V) → w.hand b ≡ Making i → value_at w.memory b ≡ Some value → value ≢ node.Shards → (m2 : Mem (Node K V))
       → m2 ≡ with_block w.memory b None → (Told : World (Node K V) → Chart K → Blocks → Type 0) → Told (world_dropped b) c blocks
-      → Went same hash setting i w c blocks m2 Told
+      → StepSpec same hash setting i w c blocks m2 Told
   went_dropped b i value making is other m2 after Told told = record {
     w2 = world_dropped b;
     c2 = c;

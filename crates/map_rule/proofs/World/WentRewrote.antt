@@ -14,7 +14,7 @@ use Rattle.map_machines.specs.Given.TablesDeclared.setting.Setting.{Setting}
 use Rattle.map_machines.specs.Given.TablesDeclared.table_words.TheConstants.{DEFERRED}
 use Rattle.map_rule.specs.Chart.{Chart}
 use Rattle.map_rule.specs.Words.{Blocks}
-use Rattle.map_rule.specs.InWorld.{IsHeldBy, KeepsBlocks, StaysTable, IsFramed, IsMapIn, Went}
+use Rattle.map_rule.specs.InWorld.{IsHeldBy, PreservesBlocks, StaysTable, IsFramed, IsMapIn, StepSpec}
 use Rattle.map_rule.proofs.World.Footprints.{stays_so}
 use Rattle.map_rule.proofs.World.Framed.{shows_framed}
 use Rattle.map_rule.proofs.World.FramedSteps.{IsOutside}
@@ -87,14 +87,14 @@ module _ {K V : Type 0} (same : K → K → Bool) (hash : K → ℕ) (setting : 
       its : (x : ℕ) → x ≡ b → (w.hand x ≡ Making i) × (value_at w.memory x ≢ Some node.Shards)
       its x e = (ap w.hand e ∙ making, λ shards. other (let here = ap (value_at w.memory) e ∙ is in cc (here, shards)))
 
-  spared : (j : ℕ) → j ≢ i → KeepsBlocks j w.memory w.hand (with_value w.memory b new) w.hand
+  spared : (j : ℕ) → j ≢ i → PreservesBlocks j w.memory w.hand (with_value w.memory b new) w.hand
   spared j apart = record {
     blocks = λ x value here unlike held. (refl, value_beside x (λ e. apart (held_once j i (w.hand b) (subst (λ (y : ℕ). IsHeldBy j (w.hand y)) e held) (subst (IsHeldBy i) (sym making) refl))) ∙ here);
     words = λ x field value here unlike made. word_at-with_value w.memory b new (Word x field) there;
   }
 
   pub went_rewritten : deferred_word new ≡ deferred_word before → deferred_word new ≡ None → (m2 : Mem (Node K V)) → m2 ≡ with_value w.memory b new → (Told : World (Node K V) → Chart K → Blocks → Type 0)
-      → Told world_rewritten c blocks → Went same hash setting i w c blocks m2 Told
+      → Told world_rewritten c blocks → StepSpec same hash setting i w c blocks m2 Told
   went_rewritten lists none m2 after Told told = record {
     w2 = world_rewritten;
     c2 = c;

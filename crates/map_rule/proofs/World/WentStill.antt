@@ -15,7 +15,7 @@ use Rattle.map_machines.specs.Given.TablesDeclared.node.Node.TheVariants as node
 use Rattle.map_machines.specs.Given.TablesDeclared.setting.Setting.{Setting}
 use Rattle.map_rule.specs.Chart.{Chart}
 use Rattle.map_rule.specs.Words.{Blocks}
-use Rattle.map_rule.specs.InWorld.{IsMapIn, IsFramed, Went, SparesPairs}
+use Rattle.map_rule.specs.InWorld.{IsMapIn, IsFramed, StepSpec, SparesPairs}
 use Rattle.map_rule.proofs.World.Hands.{hand_kept}
 use Rattle.map_rule.proofs.World.Footprints.{framed_same}
 use Rattle.map_rule.proofs.Words.LinksOwn.{outs_same, known_same, links_none}
@@ -25,7 +25,7 @@ use Rattle.map_rule.proofs.Words.BlocksApart.{new_apart}
 
 module _ {K V : Type 0} (same : K → K → Bool) (hash : K → ℕ) (setting : Setting) where
   pub went_still : (caller : ℕ) (w : World (Node K V)) (c : Chart K) (blocks : Blocks) → IsMapIn same hash setting w c blocks → (m2 : Mem (Node K V)) → m2 ≡ w.memory
-      → (Told : World (Node K V) → Chart K → Blocks → Type 0) → Told w c blocks → Went same hash setting caller w c blocks m2 Told
+      → (Told : World (Node K V) → Chart K → Blocks → Type 0) → Told w c blocks → StepSpec same hash setting caller w c blocks m2 Told
   went_still caller w c blocks map m2 is Told told = record {
     w2 = w;
     c2 = c;

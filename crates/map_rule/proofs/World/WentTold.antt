@@ -6,13 +6,13 @@ use Rattle.map_machines.specs.Given.TablesDeclared.node.Node.{Node}
 use Rattle.map_machines.specs.Given.TablesDeclared.setting.Setting.{Setting}
 use Rattle.map_rule.specs.Chart.{Chart}
 use Rattle.map_rule.specs.Words.{Blocks}
-use Rattle.map_rule.specs.InWorld.{IsMapIn, Moved, SameBlocks, Went}
+use Rattle.map_rule.specs.InWorld.{IsMapIn, Moved, SameBlocks, StepSpec}
 
 abbrev pub went_as : {K V : Type 0} (same : K → K → Bool) (hash : K → ℕ) (setting : Setting) (caller : ℕ) (w : World (Node K V)) (c : Chart K) (blocks : Blocks) (m2 : Mem (Node K V))
     (Told Other : World (Node K V) → Chart K → Blocks → Type 0)
     → ((w2 : World (Node K V)) (c2 : Chart K) (blocks2 : Blocks) → IsMapIn same hash setting w2 c2 blocks2 → Moved same hash setting.mode caller c c2 → SameBlocks c blocks blocks2
     → Told w2 c2 blocks2 → Other w2 c2 blocks2)
-    → Went same hash setting caller w c blocks m2 Told → Went same hash setting caller w c blocks m2 Other
+    → StepSpec same hash setting caller w c blocks m2 Told → StepSpec same hash setting caller w c blocks m2 Other
 went_as same hash setting caller w c blocks m2 Told Other turns went = record {
   w2 = went.w2;
   c2 = went.c2;

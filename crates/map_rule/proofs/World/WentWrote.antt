@@ -17,9 +17,9 @@ use Rattle.map_machines.proofs.Given.TablesLists.{its_list}
 use Rattle.map_rule.specs.Chart.{Chart}
 use Rattle.map_rule.specs.Rule.{IsLawful}
 use Rattle.map_rule.specs.Moves.{Move, after, Allowed}
-use Rattle.map_rule.specs.Words.{Blocks, Shows}
+use Rattle.map_rule.specs.Words.{Blocks, Represents}
 use Rattle.map_rule.specs.Maps.{spot_of, IsMap}
-use Rattle.map_rule.specs.InWorld.{IsMapIn, AllUsers, AllIts, Moved, SameBlocks, SparesOthers, IsFramed, SparesTables, LinksItsOwn, Went}
+use Rattle.map_rule.specs.InWorld.{IsMapIn, AllUsers, AllIts, Moved, SameBlocks, SparesOthers, IsFramed, SparesTables, LinksItsOwn, StepSpec}
 use Rattle.map_rule.proofs.World.Hands.{Hands}
 use Rattle.map_rule.proofs.Words.LinksOwn.{outs_same, known_same, links_none, none_stored}
 use Rattle.map_rule.proofs.World.MovesKnown.{IsItsMove, spares_moved}
@@ -85,7 +85,7 @@ module _ {K V : Type 0} (same : K → K → Bool) (hash : K → ℕ) (setting : 
   -- the map after a move that is shown
   pub map_moved : IsLawful same (spot_of hash) → (m n : Mem (Node K V)) (c : Chart K) (blocks blocks2 : Blocks) (move : Move K) → IsMap same hash setting.mode setting.root m c blocks
       → Allowed same (spot_of hash) (is_incremental setting.mode) move c
-      → Shows hash n (after (spot_of hash) (is_incremental setting.mode) move c) blocks2 setting.root
+      → Represents hash n (after (spot_of hash) (is_incremental setting.mode) move c) blocks2 setting.root
       → IsLater (after (spot_of hash) (is_incremental setting.mode) move c) blocks2
       → IsMap same hash setting.mode setting.root n (after (spot_of hash) (is_incremental setting.mode) move c) blocks2
   map_moved lawful m n c blocks blocks2 move map allowed shows later = record {
@@ -100,7 +100,7 @@ module _ {K V : Type 0} (same : K → K → Bool) (hash : K → ℕ) (setting : 
         → (events : List (Event (Node K V))) → AllUsers events → AllIts setting caller w c blocks events → (w2 : World (Node K V)) → Runs deferred_word setting.batch_size events (record w { memory = m2 }) w2
         → w2.memory ≡ m2 → IsFramed setting caller w c blocks m2 → SparesOthers caller w w2 → (c2 : Chart K) (blocks2 : Blocks) → SparesTables c blocks c2 → LinksItsOwn caller w w2 c c2 blocks2 → Moved same hash setting.mode caller c c2 → IsMapIn same hash setting w2 c2 blocks2
         → SameBlocks c blocks blocks2 → (Told : World (Node K V) → Chart K → Blocks → Type 0) → Told w2 c2 blocks2
-        → Went same hash setting caller w c blocks m2 Told
+        → StepSpec same hash setting caller w c blocks m2 Told
     went_after op out own m2 took events users its w2 runs memory frame spares c2 blocks2 tables links moved map2 blocks_same Told told = record {
       w2 = w2;
       c2 = c2;
@@ -133,14 +133,14 @@ module _ {K V : Type 0} (same : K → K → Bool) (hash : K → ℕ) (setting : 
         → (m2 : Mem (Node K V)) → Gives w.memory op out → m2 ≡ with_word w.memory at word → with_word w.memory at word ≡ mem_after w.memory op out
         → (move : Move K) → IsItsMove caller blocks move → (after (spot_of hash) (is_incremental setting.mode) move c).past ≡ c.past
         → (after (spot_of hash) (is_incremental setting.mode) move c).current ≡ c.current → (blocks2 : Blocks) → Allowed same (spot_of hash) (is_incremental setting.mode) move c
-        → Shows hash (with_word w.memory at word) (after (spot_of hash) (is_incremental setting.mode) move c) blocks2 setting.root
+        → Represents hash (with_word w.memory at word) (after (spot_of hash) (is_incremental setting.mode) move c) blocks2 setting.root
         → IsLater (after (spot_of hash) (is_incremental setting.mode) move c) blocks2
         → Hands same hash setting w (after (spot_of hash) (is_incremental setting.mode) move c) blocks2
         → SameBlocks c blocks blocks2 → (Told : World (Node K V) → Chart K → Blocks → Type 0)
         → Told (record w { memory = with_word w.memory at word }) (after (spot_of hash) (is_incremental setting.mode) move c) blocks2
-        → Went same hash setting caller w c blocks m2 Told
+        → StepSpec same hash setting caller w c blocks m2 Told
     went_wrote lawful op out at word own some m2 gives is wrote move by past current blocks2 allowed shows later hands blocks_same Told told =
-        subst (λ (n : Mem (Node K V)). Went same hash setting caller w c blocks n Told) (sym is)
+        subst (λ (n : Mem (Node K V)). StepSpec same hash setting caller w c blocks n Told) (sym is)
         (went_after op out own.0 (with_word w.memory at word) (gives, wrote) [] tt tt (record w { memory = with_word w.memory at word }) refl refl
         (framed_written setting caller w c blocks at word some own.1) (λ j other. keeps_written caller w j other at word some (aside_of same hash setting caller w c blocks map at own.1))
         (after (spot_of hash) (is_incremental setting.mode) move c) blocks2 (spares_moved (spot_of hash) (is_incremental setting.mode) c blocks map.map.shows.linked move by.1)
@@ -157,17 +157,17 @@ module _ {K V : Type 0} (same : K → K → Bool) (hash : K → ℕ) (setting : 
         → (m2 : Mem (Node K V)) → Gives w.memory op out → m2 ≡ with_word w.memory at word → with_word w.memory at word ≡ mem_after w.memory op out
         → (move : Move K) → IsItsMove caller blocks move → Allowed same (spot_of hash) (is_incremental setting.mode) move c
         → (after (spot_of hash) (is_incremental setting.mode) move c).past ≡ c.past → (after (spot_of hash) (is_incremental setting.mode) move c).current ≡ c.current
-        → Shows hash (with_word w.memory at word) (after (spot_of hash) (is_incremental setting.mode) move c) blocks setting.root
+        → Represents hash (with_word w.memory at word) (after (spot_of hash) (is_incremental setting.mode) move c) blocks setting.root
         → Hands same hash setting w (after (spot_of hash) (is_incremental setting.mode) move c) blocks
         → (Told : World (Node K V) → Chart K → Blocks → Type 0)
         → Told (record w { memory = with_word w.memory at word }) (after (spot_of hash) (is_incremental setting.mode) move c) blocks
-        → Went same hash setting caller w c blocks m2 Told
+        → StepSpec same hash setting caller w c blocks m2 Told
     went_moved lawful op out at word own some m2 gives is wrote move by allowed past current shows hands Told told =
         went_wrote lawful op out at word own some m2 gives is wrote move by past current blocks allowed shows
         (later_kept c (after (spot_of hash) (is_incremental setting.mode) move c) blocks blocks past (λ t. refl) map.map.later)
         hands (record { tables = λ t made known. (refl, known); pairs = λ n was known. (refl, known); tables_back = λ t made known. known; pairs_back = λ n was known. known }) Told told
 
-module _ {K V : Type 0} (hash : K → ℕ) (m : Mem (Node K V)) (c : Chart K) (blocks : Blocks) (root : ℕ) (shows : Shows hash m c blocks root) where
+module _ {K V : Type 0} (hash : K → ℕ) (m : Mem (Node K V)) (c : Chart K) (blocks : Blocks) (root : ℕ) (shows : Represents hash m c blocks root) where
   -- the words of a known table are the users' own, but for the head of the list that it carries
   pub own_word : (t d : ℕ) → t < c.past → blocks.table_known t ≡ true → d ≢ DEFERRED → IsOwn deferred_word m (Word (blocks.table t) d)
   own_word t d made known other = (node.Table (c.len t) (c.limit t) t, (shows.tables t made known).value, λ e. other (its_list {K = K} {V = V} (node.Table (c.len t) (c.limit t) t) d e))

@@ -19,7 +19,7 @@ use Rattle.map_rule.specs.Maps.{spot_of}
 use Rattle.map_rule.specs.Links.{LeadsTo}
 use Rattle.map_rule.proofs.Laws.{links_have_tables, nexts_lead}
 use Rattle.map_straight.specs.Shown.Chain.{word_or_none, pair_of, places_of, behind, HasTables, CountsTables, IsTableAt, CanBeRead, pair_by, pairs_at, pairs_on, one_count}
-use Rattle.map_straight.specs.Shown.Shown.{Stands, pairs_stored, NoneMoves, table_of, pair_there, number_there, numbers_there, numbers_from}
+use Rattle.map_straight.specs.Shown.Shown.{HasMap, pairs_stored, NoneMoves, table_of, pair_there, number_there, numbers_there, numbers_from}
 use Rattle.map_straight.proofs.Shown.Current.{lists_all}
 use Rattle.map_straight.proofs.Shown.Links as links
 use Rattle.map_straight.proofs.Shown.Counting as pairs
@@ -80,7 +80,7 @@ module _ {K V : Type 0} (m : Mem (Node K V)) (blocks : Blocks) where
   none_or_one None zs none some = none refl
   none_or_one (Some n) zs none some = some n refl ∙ sym (append-nil (pair_of (value_at m (blocks.pair n))))
 
-module _ {K V : Type 0} (eq : K → K → Bool) (hash : K → ℕ) (m : Mem (Node K V)) (setting : Setting) (c : Chart K) (blocks : Blocks) (stands : Stands eq hash m setting c blocks) where
+module _ {K V : Type 0} (eq : K → K → Bool) (hash : K → ℕ) (m : Mem (Node K V)) (setting : Setting) (c : Chart K) (blocks : Blocks) (stands : HasMap eq hash m setting c blocks) where
   abbrev incremental : Bool
   incremental = is_incremental setting.mode
 

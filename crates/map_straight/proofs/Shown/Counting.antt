@@ -11,7 +11,7 @@ use Rattle.map_tables.specs.declared.setting.Setting.{Setting}
 use Rattle.map_rule.specs.Chart.{Phase, Still, Copying, Copied, Place, Empty, Tombstone, Holds, Chart, is_marked}
 use Rattle.map_rule.specs.Words.{Blocks, byte_of, place_word, word_of}
 use Rattle.map_rule.proofs.Laws.{bytes_are_few, places_have_pairs, words_name_pairs, words_tell_marks, words_with_blocks}
-use Rattle.map_straight.specs.Shown.Shown.{Stands, pair_there}
+use Rattle.map_straight.specs.Shown.Shown.{HasMap, pair_there}
 
 -- a pair that is marked is passed in incremental mode
 there_marked : (place : Place) → is_marked place ≡ true → pair_there true place ≡ None
@@ -29,7 +29,7 @@ there_still true n Copying borrowed e = let k = e refl in absurd (cc)
 there_still false n Copied borrowed e = refl
 there_still true n Copied borrowed e = let k = e refl in absurd (cc)
 
-module _ {K V : Type 0} (eq : K → K → Bool) (hash : K → ℕ) (m : Mem (Node K V)) (setting : Setting) (c : Chart K) (blocks : Blocks) (stands : Stands eq hash m setting c blocks)
+module _ {K V : Type 0} (eq : K → K → Bool) (hash : K → ℕ) (m : Mem (Node K V)) (setting : Setting) (c : Chart K) (blocks : Blocks) (stands : HasMap eq hash m setting c blocks)
     (t i : ℕ) (linked : c.first ≤ t) (made : t < c.past) (word : ℕ) (is : word ≡ place_word hash c blocks (c.place t i)) where
   abbrev byte : ℕ → ℕ
   byte n = byte_of hash (c.key n)

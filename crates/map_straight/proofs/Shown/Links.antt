@@ -17,7 +17,7 @@ use Rattle.map_rule.specs.Words.{Blocks, next_word, root_word, place_word}
 use Rattle.map_rule.specs.Maps.{IsTable}
 use Rattle.map_rule.specs.Links.{LeadsTo}
 use Rattle.map_rule.proofs.Laws.{roots_lead, nexts_lead, links_have_tables}
-use Rattle.map_straight.specs.Shown.Shown.{Stands, table_at, table_of}
+use Rattle.map_straight.specs.Shown.Shown.{HasMap, table_at, table_of}
 use Rattle.seize_words.proofs.General.{some_is as is_some_of}
 
 -- the same word of the same memory
@@ -45,7 +45,7 @@ module _ {K : Type 0} (c : Chart K) (blocks : Blocks) (t : ℕ) where
       by (inl l) = let at = ap (λ q. if q then Some (table_of c blocks t) else None) (lt-ltb t c.past l) in absurd (cc)
       by (inr l) = l
 
-module _ {K V : Type 0} (eq : K → K → Bool) (hash : K → ℕ) (m : Mem (Node K V)) (setting : Setting) (c : Chart K) (blocks : Blocks) (stands : Stands eq hash m setting c blocks) where
+module _ {K V : Type 0} (eq : K → K → Bool) (hash : K → ℕ) (m : Mem (Node K V)) (setting : Setting) (c : Chart K) (blocks : Blocks) (stands : HasMap eq hash m setting c blocks) where
   -- the table of a link that was read
   module _ (link t : ℕ) (leads : LeadsTo c blocks link t) where
     pub led_shown : link ≢ 0 → IsSome (value_at m (link / 2048))

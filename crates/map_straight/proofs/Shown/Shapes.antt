@@ -11,11 +11,11 @@ use Rattle.map_rule.specs.Words.{Blocks}
 use Rattle.map_rule.specs.Links.{LeadsTo}
 use Rattle.map_rule.proofs.Laws.{links_have_tables}
 use Rattle.map_straight.specs.Shown.Chain.{word_or_none, shape_of, behind, CannotGrow, CountsTables, shapes_on, CannotGrowIn}
-use Rattle.map_straight.specs.Shown.Shown.{Stands}
+use Rattle.map_straight.specs.Shown.Shown.{HasMap}
 use Rattle.map_straight.proofs.Shown.Chains.{behind_leads, chain_shown}
 use Rattle.map_straight.proofs.Shown.Links as links
 
-module _ {K V : Type 0} (eq : K → K → Bool) (hash : K → ℕ) (m : Mem (Node K V)) (setting : Setting) (c : Chart K) (blocks : Blocks) (stands : Stands eq hash m setting c blocks)
+module _ {K V : Type 0} (eq : K → K → Bool) (hash : K → ℕ) (m : Mem (Node K V)) (setting : Setting) (c : Chart K) (blocks : Blocks) (stands : HasMap eq hash m setting c blocks)
     (last : ℕ) (is_last : suc last ≡ c.past) (ends : CannotBeFollowed (c.len last) last) where
   -- a linked table as its block shows it
   shape_is : (t link : ℕ) → LeadsTo c blocks link t → t < c.past → shape_of (value_at m (link / 2048)) ≡ (c.len t, t)

@@ -28,7 +28,7 @@ use Rattle.map_straight.specs.Straight.Disposing.{dispose_at, disposed as dispos
 use Rattle.seize_straight.specs.Going.{MaySettle, SettleGoes, SettleReaches}
 use Rattle.map_straight.specs.Straight.Going.{CallGoes, CallLeads, DisposeLeads, DisposeReaches, MayCall, MayDispose}
 use Rattle.seize_straight.specs.Retiring.{retired}
-use Rattle.seize_straight.specs.Runs.{Tells}
+use Rattle.seize_straight.specs.Runs.{EndsTelling}
 use Rattle.map_straight.specs.declared.disposing.Disposed.{Disposed}
 use Rattle.map_straight.specs.declared.disposing.Disposed.TheVariants as to
 use Rattle.seize_straight.specs.declared.retiring.Retired.{Retired}
@@ -96,8 +96,8 @@ module _ {K V M : Type 0} (can : M → Op (Node K V) → Type 0) (took : M → O
     disposes_on d e m n l =
         leads_in SettleGoes CallGoes can took shown dispose_plan (call_plan asks eq hashes) put_dispose (λ x. disposed (put_dispose x) answer) (λ x. refl) dispose_goes d e m n l
 
-    pub disposes_over : (d : Dispose) (m n : M) → Tells (SettleGoes {T = Node K V}) took shown (dispose_plan {K = K} {V = V}) d m n settling.Done
-        → Tells (CallGoes {T = Node K V}) took shown (call_plan asks eq hashes) (put_dispose d) m n (called.Done answer)
+    pub disposes_over : (d : Dispose) (m n : M) → EndsTelling (SettleGoes {T = Node K V}) took shown (dispose_plan {K = K} {V = V}) d m n settling.Done
+        → EndsTelling (CallGoes {T = Node K V}) took shown (call_plan asks eq hashes) (put_dispose d) m n (called.Done answer)
     disposes_over d m n t =
         tells_in SettleGoes CallGoes can took shown dispose_plan (call_plan asks eq hashes) put_dispose (λ x. disposed (put_dispose x) answer) (λ x. refl) dispose_goes d m n settling.Done
         (called.Done answer) (λ y z. refl) (λ x. x) t

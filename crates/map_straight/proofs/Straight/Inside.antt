@@ -4,7 +4,7 @@ use Rattle.std.proofs.Common.{sym, subst}
 use Rattle.seize_words.specs.OneMemory.Op.{Op, Out}
 use Rattle.seize_words.specs.OneMemory.Plan.{Plan, May, Steps, plan_as}
 use Rattle.seize_words.proofs.OneMemory.Plans.{may_as, steps_as}
-use Rattle.seize_straight.specs.Runs.{MayRun, Leads, none_taken, one_more, Tells}
+use Rattle.seize_straight.specs.Runs.{MayRun, Leads, none_taken, one_more, EndsTelling}
 use Rattle.seize_straight.proofs.Running.{by_law, may_step, runs_on}
 
 -- `put` is the outer machine with the inner one at a point, and `into` what it makes of a step of that one
@@ -33,7 +33,7 @@ module _ {T X P Y Q M : Type 0} (on : P → Type 0) (goes : Q → Type 0) (can :
 
     -- where the inner one has told something, the outer one tells this
     pub tells_in : (x : X) (m n : M) (told : P) (end : Q) → ((y z : X) → (into y (z, told)).1 ≡ end) → (goes end → ⊥)
-        → Tells on took shown inner x m n told → Tells goes took shown outer (put x) m n end
+        → EndsTelling on took shown inner x m n told → EndsTelling goes took shown outer (put x) m n end
     tells_in x m n told end tells not (y, k, z, l, s, _) = (
       put y,
       k,

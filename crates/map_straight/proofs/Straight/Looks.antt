@@ -15,14 +15,14 @@ use Rattle.map_machines.specs.Lookup.{looking, lookup_plan}
 use Rattle.map_machines.specs.declared.lookup.Looking.TheVariants as at
 use Rattle.map_straight.specs.Straight.Going.{LookGoes, MayLook}
 use Rattle.map_straight.specs.Straight.Looking.{looks}
-use Rattle.seize_straight.specs.Runs.{Tells}
+use Rattle.seize_straight.specs.Runs.{EndsTelling}
 use Rattle.seize_straight.proofs.Running.{Led, begins, next, steps_to, tells_at}
 
 module _ {K V M : Type 0} (keys : K → Bool) {can : M → Op (Node K V) → Type 0} {took : M → Op (Node K V) → Out (Node K V) → M → Type 0} {shown : M → ℕ → Option (Node K V)}
     (root : ℕ) (mode : ResizeMode) (hash : ℕ) {m n : M} {link : ℕ} (h : MayLook keys took shown can (looking root mode hash) m)
     (loads : took m (Load (Root root)) (Found link) n) where
   -- the root names no table
-  pub has_none : link ≡ 0 → Tells (LookGoes {A = Option ℕ}) took shown (lookup_plan keys) (looking root mode hash) m n (progress.Done None)
+  pub has_none : link ≡ 0 → EndsTelling (LookGoes {A = Option ℕ}) took shown (lookup_plan keys) (looking root mode hash) m n (progress.Done None)
   has_none empty = tells_at (begins h) (progress.Done None) (λ x. x) (looks root mode hash (at.Over None)) n (Found link, loads, rw (eq-eqb link 0 empty) refl)
 
   -- or one, whose tries begin

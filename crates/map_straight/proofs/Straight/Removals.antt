@@ -26,7 +26,7 @@ use Rattle.papaya_raw.specs.declared.machines.call.KeyCall.{KeyCall}
 use Rattle.map_straight.specs.Straight.Disposing.{disposed, dispose_at}
 use Rattle.map_straight.specs.Straight.Going.{CallGoes, CallReaches, DisposeReaches, MayCall, MayDispose}
 use Rattle.map_straight.specs.Straight.Removing.{HasSought, removed_at, removed_by, seeking, sought_at}
-use Rattle.seize_straight.specs.Runs.{Tells}
+use Rattle.seize_straight.specs.Runs.{EndsTelling}
 use Rattle.map_straight.specs.declared.disposing.Disposed.{Disposed}
 use Rattle.map_straight.specs.declared.disposing.Disposed.TheVariants as to
 use Rattle.map_straight.specs.declared.removing.RemovalAt.{RemovalAt}
@@ -81,7 +81,7 @@ module _ {K V Q M : Type 0} (asks : Q → K → Bool) (eq : K → K → Bool) (h
   -- the root names no table
   pub has_none : {m n : M} {link : ℕ} → MayCall asks eq hashes took shown can (seeking setting hash asked untried at.Roots) m
       → took m (Load (Root setting.root)) (Found link) n → link ≡ 0
-      → Tells CallGoes took shown (call_plan asks eq hashes) (seeking setting hash asked untried at.Roots) m n (called.Done answers.Absent)
+      → EndsTelling CallGoes took shown (call_plan asks eq hashes) (seeking setting hash asked untried at.Roots) m n (called.Done answers.Absent)
   has_none {n = n} {link = link} h loads empty =
       tells_at (begins h) (called.Done answers.Absent) (λ x. x) (seeking setting hash asked untried (at.Over (ends.Answered answers.Absent))) n (Found link, loads, rw (eq-eqb link 0 empty) refl)
 

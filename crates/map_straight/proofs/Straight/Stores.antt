@@ -26,7 +26,7 @@ use Rattle.papaya_raw.specs.declared.machines.call.Calling.TheVariants as at
 use Rattle.papaya_raw.specs.declared.machines.call.KeyCall.{KeyCall}
 use Rattle.map_straight.specs.Straight.Disposing.{disposed, dispose_at}
 use Rattle.map_straight.specs.Straight.Going.{CallGoes, CallLeads, CallReaches, DisposeReaches, MayCall, MayDispose}
-use Rattle.seize_straight.specs.Runs.{Tells}
+use Rattle.seize_straight.specs.Runs.{EndsTelling}
 use Rattle.map_straight.specs.Straight.Storing.{HasRead, call_at, replaced_by, stored_at, storing, try_at}
 use Rattle.map_straight.specs.declared.disposing.Disposed.{Disposed}
 use Rattle.map_straight.specs.declared.disposing.Disposed.TheVariants as to
@@ -98,7 +98,7 @@ module _ {K V Q M : Type 0} {asks : Q → K → Bool} {eq : K → K → Bool} {h
         (Exchanged (Ok h.was), h.puts, rw (ne_eqb own TOMBSTONE h.buried) (rw (eq-eqb word 0 empty) refl))
 
     pub was_stored : word ≡ 0 → (k : M) (found : ℕ) → took n (Add (shard_of setting) (count_change 0)) (Found found) k
-        → Tells CallGoes took shown (call_plan asks eq hashes) (storing setting hash there own trial (at.Tries word own)) m k (called.Done (answers.Stored own))
+        → EndsTelling CallGoes took shown (call_plan asks eq hashes) (storing setting hash there own trial (at.Tries word own)) m k (called.Done (answers.Stored own))
     was_stored empty k found adds =
         tells_at (counts empty) (called.Done (answers.Stored own)) (λ x. x) (storing setting hash there own trial (at.Over (ends.Answered (answers.Stored own)))) k (Found found, adds, refl)
 

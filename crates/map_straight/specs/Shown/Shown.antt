@@ -58,7 +58,7 @@ AreOfCurrent c numbers = (times 0 numbers ≡ 0) × ((n : ℕ) → times (suc n)
 
 module _ {K V : Type 0} (eq : K → K → Bool) (hash : K → ℕ) where
   -- The map of this setting stands in the memory. Keys have classes, and their hashes 64 bits.
-  pub record Stands (memory : Mem (Node K V)) (setting : Setting) (c : Chart K) (blocks : Blocks) : Type 0 where
+  pub record HasMap (memory : Mem (Node K V)) (setting : Setting) (c : Chart K) (blocks : Blocks) : Type 0 where
     pub map : IsMap eq hash setting.mode setting.root memory c blocks
     pub classes : IsEquivalence eq
     pub fits : (k : K) → hash k < 2 ^ 64

@@ -12,7 +12,7 @@ use Rattle.map_machines.specs.declared.lookup.Lookup.{Lookup}
 use Rattle.map_machines.specs.declared.lookup.Looking.{Looking}
 use Rattle.map_machines.specs.declared.lookup.Looking.TheVariants as at
 use Rattle.map_straight.specs.Straight.Going.{LookGoes}
-use Rattle.seize_straight.specs.Reaches.{ComesTo, Reached, At, Told}
+use Rattle.seize_straight.specs.Reaches.{HasOutcome, Reached, At, Told}
 use Rattle.map_straight.specs.declared.looking.Glance.{Glance}
 use Rattle.map_straight.specs.declared.looking.Glance.TheVariants as glance
 use Rattle.map_straight.specs.declared.looking.Sight.{Sight}
@@ -39,4 +39,4 @@ module _ (root : ℕ) (mode : ResizeMode) (hash : ℕ) where
 
   -- what is left of its step, once the word of its try is read, comes to that
   abbrev pub HasGlanced : {K V : Type 0} → (ℕ → Option (Node K V)) → Then (Node K V) (Lookup × Advance (Option ℕ)) → Glance → Type 0
-  HasGlanced shown rest result = (end : Lookup × Advance (Option ℕ)) × Ends shown rest end × ComesTo LookGoes end (glance_at result)
+  HasGlanced shown rest result = (end : Lookup × Advance (Option ℕ)) × Ends shown rest end × HasOutcome LookGoes end (glance_at result)

@@ -16,7 +16,7 @@ use Rattle.papaya_raw.specs.declared.machines.call.Calling.TheVariants as at
 use Rattle.papaya_raw.specs.declared.machines.call.KeyCall.{KeyCall}
 use Rattle.map_straight.specs.Straight.Disposing.{dispose_at}
 use Rattle.map_straight.specs.Straight.Going.{CallGoes}
-use Rattle.seize_straight.specs.Reaches.{ComesTo, Reached, At, Told}
+use Rattle.seize_straight.specs.Reaches.{HasOutcome, Reached, At, Told}
 use Rattle.map_straight.specs.declared.disposing.Disposed.{Disposed}
 use Rattle.map_straight.specs.declared.disposing.Disposed.TheVariants as to
 use Rattle.seize_straight.specs.declared.retiring.Retired.TheVariants as retire
@@ -62,4 +62,4 @@ module _ {K V Q : Type 0} (setting : Setting) (hash : ℕ) (asked : Q) where
 
   -- what is left of its step, once the word of its try is read, comes to that
   abbrev pub HasSought : (ℕ → Option (Node K V)) → Then (Node K V) (KeyCall K V Q × Called (Node K V)) → Sought → Type 0
-  HasSought shown rest result = (end : KeyCall K V Q × Called (Node K V)) × Ends shown rest end × ComesTo CallGoes end (sought_at result)
+  HasSought shown rest result = (end : KeyCall K V Q × Called (Node K V)) × Ends shown rest end × HasOutcome CallGoes end (sought_at result)

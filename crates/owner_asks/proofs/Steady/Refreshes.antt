@@ -16,7 +16,7 @@ use Rattle.map_tables.specs.Nodes.{deferred_word}
 use Rattle.map_tables.specs.declared.node.Node.{Node}
 use Rattle.map_tables.specs.declared.setting.Setting.{Setting}
 use Rattle.owner_calls.specs.Given.RuleWords.{Blocks, root_word}
-use Rattle.owner_calls.specs.Given.CallersSights.{Sight}
+use Rattle.owner_calls.specs.Given.CallersSights.{Visible}
 use Rattle.owner_calls.specs.Given.CallersTogether.{Together, AllStand}
 use Rattle.owner_calls.proofs.Given.CallersTogether.Guards.{guards_stand_together}
 use Rattle.owner_calls.proofs.Given.CallersTogether.Rows.{map2}
@@ -27,7 +27,7 @@ use Rattle.owner_calls.specs.declared.machines.OwnerRefresh.{OwnerRefresh}
 use Rattle.owner_calls.proofs.Owned.Owned.Refreshes.{begins_refreshing}
 use Rattle.owner_calls.proofs.Given.StridesRuns.Comes.{NextOf, next_turned, run_comes}
 use Rattle.owner_asks.proofs.Steady.Ends.{EndsAt, ends_at, ends_on, shows_one}
-use Rattle.owner_asks.specs.Steady.Steady.{HasOneTable, RefreshesKeepOneTable}
+use Rattle.owner_asks.specs.Steady.Steady.{HasOneTable, RefreshesPreserveOneTable}
 
 module _ {K V : Type 0} (same : K → K → Bool) (hash : K → ℕ) (setting : Setting) (m0 : Mem (Node K V)) (xs : List (K × V)) (h : Holds same hash setting m0 xs) where
   abbrev slot_of : ℕ → ℕ
@@ -37,7 +37,7 @@ module _ {K V : Type 0} (same : K → K → Bool) (hash : K → ℕ) (setting : 
   record Under (link : ℕ) (r : OwnerRefresh) (m : Mem (Node K V)) : Type 0 where
     pub w : World (Node K V)
     pub blocks : Blocks
-    pub sights : ℕ → Sight
+    pub sights : ℕ → Visible
     pub together : Together {K = K} {Q = K} V same hash same setting slot_of w h.chart blocks sights (λ i. None)
     pub memory : w.memory ≡ m
     pub row : w.row 0 ≡ Leaves r.leave
@@ -105,5 +105,5 @@ module _ {K V : Type 0} (same : K → K → Bool) (hash : K → ℕ) (setting : 
         linked = ends_at same hash setting h.chart b.blocks b.w b.together.ground.map (subst (HasOneTable setting) (sym b.memory) one);
       }) x m result runs)
 
-pub refreshes_keep_one_table : (K V : Type 0) → RefreshesKeepOneTable K V
+pub refreshes_keep_one_table : (K V : Type 0) → RefreshesPreserveOneTable K V
 refreshes_keep_one_table K V same hash setting m0 xs h one y m result runs = keeps_one same hash setting m0 xs h one y m result runs

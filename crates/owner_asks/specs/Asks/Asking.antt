@@ -101,8 +101,8 @@ Unasked kind None reply.Abort = kind.absent ≢ missing.Asks
 Unasked kind about told = ⊥
 
 -- it was told this, of what the map had of these keys
-abbrev pub ToldThis : {K V : Type 0} → (K → Bool) → List (K × V) → MachineReply V → Option (K × V) → MachineReply V → Type 0
-ToldThis keys xs told about meaning = (about ≡ found_by keys xs) × (meaning ≡ meant told)
+abbrev pub RepliedThis : {K V : Type 0} → (K → Bool) → List (K × V) → MachineReply V → Option (K × V) → MachineReply V → Type 0
+RepliedThis keys xs told about meaning = (about ≡ found_by keys xs) × (meaning ≡ meant told)
 
 module _ {K V Q S : Type 0} where
   -- its key is in hand, or was handed out with a value
@@ -126,8 +126,8 @@ abbrev pub by_lent : {K Q : Type 0} → (Q → K → Bool) → Lent K Q → K �
 by_lent asks x key = asks x.asked.now key
 
 -- Where a call has come to a question, and is told what it takes, it is refused for this alone.
-abbrev pub ToldCallsRefuse : (K V Q S : Type 0) → Type 0
-ToldCallsRefuse K V Q S =
+abbrev pub RepliedCallsRefuse : (K V Q S : Type 0) → Type 0
+RepliedCallsRefuse K V Q S =
     (asks : Q → K → Bool) (same : K → K → Bool) (hashes : S → K → ℕ) (setting : Setting) (kind : Kind) (its : Option K) (keys : K → Bool) (xs : List (K × V)) (x : OnKey K V Q S) (m : Mem (Node K V))
     (asked : Option ℕ) → Pauses asks same hashes setting kind its keys xs x m asked → (told : MachineReply V) → IsTaken kind.takes asked told
     → (z : OnKey K V Q S) (m2 : Mem (Node K V)) (fault : Fault) → RunsTo (on_key_plan asks same hashes) (record x { call = (replied x.call told).0 }) m z m2 (Err fault) → MayRefuse asked told fault

@@ -70,14 +70,14 @@ module _ {K V : Type 0} where
 
 -- What a call comes to that was given a key, by what it was told: where it is refused, the key comes back.
 module _ {K V : Type 0} (same : K → K → Bool) (hash : K → ℕ) (setting : Setting) (m : Mem (Node K V)) (key : K) (xs : List (K × V)) where
-  abbrev pub ComesTo : (Option (K × V) → MachineReply V → Type 0) → Result KeyAnswer (RefusedKey K) → Type 0
-  ComesTo Told (Ok answer) = AnswersAs same hash setting m (same key) xs (Some key) Told answer
-  ComesTo Told (Err r) = RefusedAs same hash setting m (same key) xs (Some key) Told r.fault × (r.key ≡ key)
+  abbrev pub HasOutcome : (Option (K × V) → MachineReply V → Type 0) → Result KeyAnswer (RefusedKey K) → Type 0
+  HasOutcome Told (Ok answer) = AnswersAs same hash setting m (same key) xs (Some key) Told answer
+  HasOutcome Told (Err r) = RefusedAs same hash setting m (same key) xs (Some key) Told r.fault × (r.key ≡ key)
 
   -- and the value, where it was given one, too
-  abbrev pub ComesToWith : V → (Option (K × V) → MachineReply V → Type 0) → Result KeyAnswer (Refused K V) → Type 0
-  ComesToWith value Told (Ok answer) = AnswersAs same hash setting m (same key) xs (Some key) Told answer
-  ComesToWith value Told (Err r) = RefusedAs same hash setting m (same key) xs (Some key) Told r.fault × (r.key ≡ key) × (r.value ≡ value)
+  abbrev pub HasOutcomeWith : V → (Option (K × V) → MachineReply V → Type 0) → Result KeyAnswer (Refused K V) → Type 0
+  HasOutcomeWith value Told (Ok answer) = AnswersAs same hash setting m (same key) xs (Some key) Told answer
+  HasOutcomeWith value Told (Err r) = RefusedAs same hash setting m (same key) xs (Some key) Told r.fault × (r.key ≡ key) × (r.value ≡ value)
 
   -- a computing that was told to change nothing says with what, and what it found
   abbrev pub ComputesTo : {T : Type 0} → (Option (K × V) → Operation V T → Type 0) → Result (Computed T) (RefusedKey K) → Type 0

@@ -44,8 +44,8 @@ SweepsAreSteady K V S =
     → (purpose : Purpose) → removes purpose ≡ true → (m : Mem (Node K V)) (result : Result Unit Fault) → HasSwept hashes b setting purpose m0 m result → IsOk result × HasOneTable setting m
 
 -- and a refresh leaves the map with one table at most.
-abbrev pub RefreshesKeepOneTable : (K V : Type 0) → Type 0
-RefreshesKeepOneTable K V =
+abbrev pub RefreshesPreserveOneTable : (K V : Type 0) → Type 0
+RefreshesPreserveOneTable K V =
     (same : K → K → Bool) (hash : K → ℕ) (setting : Setting) (m0 : Mem (Node K V)) (xs : List (K × V)) → Holds same hash setting m0 xs → HasOneTable setting m0
     → (y : OwnerRefresh) (m : Mem (Node K V)) (result : Result Unit Fault)
     → RunsTo (refreshes_plan deferred_word) (record { leave = leaving setting.slot setting.batch_size ACTIVE false }) m0 y m result → HasOneTable setting m

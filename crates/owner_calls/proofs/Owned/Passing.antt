@@ -20,7 +20,7 @@ use Rattle.map_tables.specs.declared.node.Node.{Node}
 use Rattle.map_tables.specs.declared.resize_mode.ResizeMode.{ResizeMode}
 use Rattle.map_tables.specs.declared.trial.Trial.{Trial}
 use Rattle.papaya_raw.specs.Call.{pair_read, plan_at}
-use Rattle.papaya_raw.specs.CallPoints.{aim_of, told, told_of, passed, having_met}
+use Rattle.papaya_raw.specs.CallPoints.{aim_of, told, after_finding, passed, having_met}
 use Rattle.papaya_raw.specs.declared.machines.call.Calling.{Calling}
 use Rattle.papaya_raw.specs.declared.machines.call.Calling.TheVariants as at
 use Rattle.owner_calls.specs.Owned.Machines.{at_trial, on_key_after, on_key_plan}
@@ -60,7 +60,7 @@ module _ {K V Q S : Type 0} (asks : Q → K → Bool) (same : K → K → Bool) 
     where
       ends : (at_trial u n, progress.Goes) ≡ on_key_after u (told true u.call w false)
       ends =
-          sym (ap (λ (f : Finding). on_key_after u (told_of true u.call w f)) (passed_by u.call.setting.mode (aim_of u.call.missing) w so)
+          sym (ap (λ (f : Finding). on_key_after u (after_finding true u.call w f)) (passed_by u.call.setting.mode (aim_of u.call.missing) w so)
           ∙ ap (λ x. on_key_after u (passed (having_met u.call w) x)) next
           ∙ ap (λ (s : Calling). (record u { call = record u.call { trial = n; stands = s } }, progress.Goes)) (sym stands))
 

@@ -76,7 +76,7 @@ module _ {K V Q S : Type 0} (asks : Q → K → Bool) (same : K → K → Bool) 
   leads_to c d m n (Straight.one_more _ _ x k l told so _ _ s) = one_more (on c) m (on x) k (leads_to c x m k l) progress.Goes tt (on d) n (goes_on x d k n told so s)
 
   -- where it has told an answer, a run has ended with that
-  pub runs_out : (c : KeyCall K V Q) (m n : Mem (Node K V)) (answer : KeyAnswer) → Straight.Tells (CallGoes {T = Node K V}) Took value_at call_steps c m n (called.Done answer)
+  pub runs_out : (c : KeyCall K V Q) (m n : Mem (Node K V)) (answer : KeyAnswer) → Straight.EndsTelling (CallGoes {T = Node K V}) Took value_at call_steps c m n (called.Done answer)
       → (d : KeyCall K V Q) × RunsTo plan_of (on c) m (on d) n (Ok (stop.Answered answer))
   runs_out c m n answer (x, k, d, l, s, _) = (
     d,

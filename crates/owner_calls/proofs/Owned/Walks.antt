@@ -13,7 +13,7 @@ use Rattle.map_straight.specs.Given.RuleMaps.{spot_of, IsMap}
 use Rattle.owner_whole.proofs.Given.MapsRests.NoneMoves.{none_copying, claims_none}
 use Rattle.owner_whole.specs.Whole.Contents.{ContentsBelow}
 use Rattle.map_straight.specs.Shown.Chain.{pair_of}
-use Rattle.map_straight.specs.Shown.Shown.{Stands, NoneMoves, pairs_stored}
+use Rattle.map_straight.specs.Shown.Shown.{HasMap, NoneMoves, pairs_stored}
 use Rattle.owner_calls.specs.Owned.Owned.{Holds}
 
 module _ {K V : Type 0} (m : Mem (Node K V)) (c : Chart K) (blocks : Blocks) where
@@ -31,7 +31,7 @@ module _ {K V : Type 0} (m : Mem (Node K V)) (c : Chart K) (blocks : Blocks) whe
 
 module _ {K V : Type 0} (same : K → K → Bool) (hash : K → ℕ) (setting : Setting) (m : Mem (Node K V)) (xs : List (K × V)) (h : Holds same hash setting m xs) where
   -- its words show its tables
-  pub holds_stands : Stands same hash m setting h.chart h.blocks
+  pub holds_stands : HasMap same hash m setting h.chart h.blocks
   holds_stands = record {
     map = subst (λ w. IsMap same hash setting.mode setting.root w h.chart h.blocks) h.memory h.rests.together.ground.map.map;
     classes = h.lawful.lawful.classes;

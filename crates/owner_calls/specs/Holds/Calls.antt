@@ -12,7 +12,7 @@ use Rattle.owner_calls.specs.Owned.Machines.{on_key_plan}
 use Rattle.owner_calls.specs.Owned.Owned.{Holds}
 use Rattle.owner_calls.specs.declared.machines.OnKey.{OnKey}
 use Rattle.owner_calls.specs.declared.machines.Stop.{Stop}
-use Rattle.owner_calls.specs.Holds.Came.{ComesWith, StayBeside}
+use Rattle.owner_calls.specs.Holds.Came.{HasOutcome, StayBeside}
 
 -- Wherever it stops next, no pair has come but what it tells as stored, and each pair that the map had as it began stands still in the block in which it stood
 -- then, also where it was replaced or removed. What was stored is in none of these blocks.
@@ -21,4 +21,4 @@ CallsTakeNoneAway K V Q S =
     (asks : Q → K → Bool) (same : K → K → Bool) (hashes : S → K → ℕ) (b : Bor S) (setting : Setting) (m0 : Mem (Node K V)) (keys : K → Bool) (given : Given K V) (xs : List (K × V)) → Holds same (hashes b.now) setting m0 xs
     → (x : OnKey K V Q S) (m : Mem (Node K V)) → IsCalling asks same hashes b setting m0 keys given x m
     → (x2 : OnKey K V Q S) (m2 : Mem (Node K V)) (result : Result Stop Fault) → RunsTo (on_key_plan asks same hashes) x m x2 m2 result
-    → ComesWith m0 m2 x2 result × StayBeside m0 m2 xs result
+    → HasOutcome m0 m2 x2 result × StayBeside m0 m2 xs result

@@ -66,13 +66,13 @@ module _ {K V : Type 0} where
     CameBy _ = NoneCame
 
 -- What an answer tells of the word of the call's own block: it is that of the pair stored, or there is no such block.
-abbrev pub TellsOwn : ℕ → KeyAnswer → Type 0
-TellsOwn own (answers.Stored word) = word ≡ own
-TellsOwn own (answers.Replaced old new) = new ≡ own
-TellsOwn own _ = own ≡ 0
+abbrev pub AnswerNamesOwn : ℕ → KeyAnswer → Type 0
+AnswerNamesOwn own (answers.Stored word) = word ≡ own
+AnswerNamesOwn own (answers.Replaced old new) = new ≡ own
+AnswerNamesOwn own _ = own ≡ 0
 
 abbrev pub EndsOwn : ℕ → End → Type 0
-EndsOwn own (ends.Answered answer) = TellsOwn own answer
+EndsOwn own (ends.Answered answer) = AnswerNamesOwn own answer
 EndsOwn own (ends.Refused fault) = own ≡ 0
 
 module _ {K V Q : Type 0} where
@@ -83,7 +83,7 @@ module _ {K V Q : Type 0} where
   OwnsAt p (at.Tries word new) = (new ≡ p.own) ⊎ (p.own ≡ 0)
   OwnsAt p (at.Counts removed) = (removed ≡ 0) ⊎ (p.own ≡ 0)
   OwnsAt p (at.Asks asking) = p.there ≢ there.Removes
-  OwnsAt p (at.Disposes dispose answer) = TellsOwn p.own answer
+  OwnsAt p (at.Disposes dispose answer) = AnswerNamesOwn p.own answer
   OwnsAt p (at.Drops end) = EndsOwn 0 end
   OwnsAt p (at.Over end) = EndsOwn p.own end
   OwnsAt p _ = Unit {0}
@@ -105,7 +105,7 @@ module _ {K V Q : Type 0} where
     pub only : HasOnly m0 m p
 
   -- What a run of it has come to: its answer, a question, or a refusal.
-  abbrev pub ComesWith : {S : Type 0} → Mem (Node K V) → Mem (Node K V) → OnKey K V Q S → Result Stop Fault → Type 0
-  ComesWith m0 m x (Ok (stop.Answered answer)) = CameBy m0 m answer
-  ComesWith m0 m x (Ok (stop.Asks asked)) = HasCome m0 m x.call
-  ComesWith m0 m x (Err fault) = NoneCame m0 m
+  abbrev pub HasOutcome : {S : Type 0} → Mem (Node K V) → Mem (Node K V) → OnKey K V Q S → Result Stop Fault → Type 0
+  HasOutcome m0 m x (Ok (stop.Answered answer)) = CameBy m0 m answer
+  HasOutcome m0 m x (Ok (stop.Asks asked)) = HasCome m0 m x.call
+  HasOutcome m0 m x (Err fault) = NoneCame m0 m

@@ -31,7 +31,7 @@ use Rattle.owner_calls.specs.Sifts.Sweeping.{over_pairs_plan}
 use Rattle.owner_calls.specs.declared.sweeping.OverPairs.{OverPairs}
 use Rattle.owner_calls.specs.declared.sweeping.Pause.{Pause}
 use Rattle.owner_calls.specs.Holds.Balances.{HasJust, Balances, HasStored}
-use Rattle.owner_calls.specs.Holds.Came.{StandsAt, NoneCame, HandsOut, CameBy, HasCome, ComesWith}
+use Rattle.owner_calls.specs.Holds.Came.{StandsAt, NoneCame, HandsOut, CameBy, HasCome, HasOutcome}
 
 module _ (K V Q : Type 0) where
   -- A call on one key begins, and no pair has come.
@@ -44,7 +44,7 @@ module _ (K V Q : Type 0) where
   abbrev pub CallsStoreAlone : Type 0 → Type 0
   CallsStoreAlone S =
       (asks : Q → K → Bool) (same : K → K → Bool) (hashes : S → K → ℕ) (m0 : Mem (Node K V)) (x : OnKey K V Q S) (m : Mem (Node K V)) → HasCome m0 m x.call → Ends (on_key_plan asks same hashes) x m
-      → (x2 : OnKey K V Q S) (m2 : Mem (Node K V)) (result : Result Stop Fault) → RunsTo (on_key_plan asks same hashes) x m x2 m2 result → ComesWith m0 m2 x2 result
+      → (x2 : OnKey K V Q S) (m2 : Mem (Node K V)) (result : Result Stop Fault) → RunsTo (on_key_plan asks same hashes) x m x2 m2 result → HasOutcome m0 m2 x2 result
 
   -- Told anything, it goes on so.
   abbrev pub RepliesPutNone : Type 0

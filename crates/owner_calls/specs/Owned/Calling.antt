@@ -19,8 +19,8 @@ use Rattle.owner_calls.specs.declared.machines.Stop.TheVariants as stop
 
 module _ {K V Q S : Type 0} (asks : Q → K → Bool) (same : K → K → Bool) (hashes : S → K → ℕ) where
   -- Told this where it asks, a call has stopped so.
-  abbrev pub StopsTold : OnKey K V Q S → Mem (Node K V) → MachineReply V → Mem (Node K V) → Result Stop Fault → Type 0
-  StopsTold x n told m result = (y : OnKey K V Q S) × RunsTo (on_key_plan asks same hashes) (record x { call = (replied x.call told).0 }) n y m result
+  abbrev pub StopsReplied : OnKey K V Q S → Mem (Node K V) → MachineReply V → Mem (Node K V) → Result Stop Fault → Type 0
+  StopsReplied x n told m result = (y : OnKey K V Q S) × RunsTo (on_key_plan asks same hashes) (record x { call = (replied x.call told).0 }) n y m result
 
   module _ (b : Bor S) (setting : Setting) (m0 : Mem (Node K V)) (keys : K → Bool) (given : Given K V) where
     -- A call on one key of this class, begun so on this memory, has come here: it was run from question to question, and told something each time.

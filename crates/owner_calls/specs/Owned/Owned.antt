@@ -16,10 +16,10 @@ use Rattle.map_straight.specs.Given.RuleWords.{Blocks}
 use Rattle.owner_whole.specs.Given.PointsSteps.{AreLawful}
 use Rattle.owner_whole.specs.Given.AloneCounting.{IsCounted}
 use Rattle.owner_whole.specs.Given.CallersKind.{Kind}
-use Rattle.owner_whole.specs.Given.CallersSights.{Sight}
-use Rattle.owner_whole.specs.Given.LateKinds.{Fits, FaultFits, TellsFit}
+use Rattle.owner_whole.specs.Given.CallersSights.{Visible}
+use Rattle.owner_whole.specs.Given.LateKinds.{Fits, FaultFits, OutcomeFits}
 use Rattle.owner_whole.specs.Whole.Contents.{AreContents}
-use Rattle.owner_whole.specs.Whole.Owner.{AtRest}
+use Rattle.owner_whole.specs.Whole.Owner.{IsQuiescent}
 use Rattle.owner_whole.specs.Strides.Standing.{Standing, Waits}
 use Rattle.owner_calls.specs.declared.machines.Stop.{Stop}
 use Rattle.owner_calls.specs.declared.machines.Stop.TheVariants as stop
@@ -54,9 +54,9 @@ module _ {K V : Type 0} (same : K → K → Bool) (hash : K → ℕ) (setting : 
     pub world : World (Node K V)
     pub chart : Chart K
     pub blocks : Blocks
-    pub sights : ℕ → Sight
+    pub sights : ℕ → Visible
     pub memory : world.memory ≡ m
-    pub rests : AtRest {K = K} {V = V} {Q = K} same hash same setting (λ i. setting.slot) world chart blocks sights
+    pub rests : IsQuiescent {K = K} {V = V} {Q = K} same hash same setting (λ i. setting.slot) world chart blocks sights
     pub counted : IsCounted setting world.memory chart
     pub are : AreContents world.memory chart blocks xs
 
@@ -96,7 +96,7 @@ module _ {K V : Type 0} (same : K → K → Bool) (hash : K → ℕ) (setting : 
   -- Where it is refused, no pair has changed, and where that is for the length of a table, none can follow the last one.
   abbrev pub EndsBy : Result Stop Fault → Type 0
   EndsBy (Ok (stop.Answered answer)) = Fits kind.present kind.absent kind.takes answer × AnswersBy answer
-  EndsBy (Ok (stop.Asks asked)) = TellsFit kind.present kind.absent kind.takes {T = Node K V} (called.Asks asked)
+  EndsBy (Ok (stop.Asks asked)) = OutcomeFits kind.present kind.absent kind.takes {T = Node K V} (called.Asks asked)
   EndsBy (Err fault) = FaultFits kind.present kind.absent kind.takes fault × Holds same hash setting m xs × (fault ≡ Capacity → CannotGrowIn m setting)
 
 -- an answer with which the call's own pair is in the map
@@ -106,9 +106,9 @@ PutsIt (answers.Replaced old new) = Unit {0}
 PutsIt _ = ⊥
 
 -- The pair that a call was begun with comes back, unless it is in the map.
-abbrev pub ComesBack : {N : Type 0} → Option N → Result Stop Fault → Option N → Type 0
-ComesBack pair (Ok (stop.Answered answer)) back = PutsIt answer ⊎ (back ≡ pair)
-ComesBack pair _ back = back ≡ pair
+abbrev pub IsReturned : {N : Type 0} → Option N → Result Stop Fault → Option N → Type 0
+IsReturned pair (Ok (stop.Answered answer)) back = PutsIt answer ⊎ (back ≡ pair)
+IsReturned pair _ back = back ≡ pair
 
 -- Between two changes each pair of the map stands in a block of its own.
 abbrev pub PairsStand : Type 0 → Type 0 → Type 0

@@ -39,8 +39,8 @@ abbrev pub tables_for : ℕ → List (ℕ × ℕ)
 tables_for pairs = if pairs == 0 then [] else (needed pairs 0, 0) ∷ []
 
 -- the words of a map show these tables, from the first one on
-abbrev pub ShowTables : {K V : Type 0} → Setting → Mem (Node K V) → List (ℕ × ℕ) → Type 0
-ShowTables setting m shapes = (tables : CountsTables m (root_link m setting)) × (shapes_on m tables.0 (root_link m setting) ≡ shapes)
+abbrev pub RepresentTables : {K V : Type 0} → Setting → Mem (Node K V) → List (ℕ × ℕ) → Type 0
+RepresentTables setting m shapes = (tables : CountsTables m (root_link m setting)) × (shapes_on m tables.0 (root_link m setting) ≡ shapes)
 
 -- The table of the root has as many places as so many further pairs need, beside so many that are there.
 pub record HasRoomFor {K V : Type 0} (setting : Setting) (m : Mem (Node K V)) (additional count : ℕ) : Type 0 where

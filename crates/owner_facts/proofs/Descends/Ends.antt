@@ -18,12 +18,12 @@ use Rattle.many_maps.specs.Given.PointsMeasures.{IsBelow}
 use Rattle.many_maps.specs.Given.PointsMeasuresTables.{number_of_sum}
 use Rattle.many_maps.proofs.Given.CallersTogether.At.{at_same}
 use Rattle.many_maps.specs.Given.ResizeDeclared.sum.Sum.{Sum}
-use Rattle.many_maps.specs.Endings.{Finishing, FinishingFacts, FinishingTold, EndingsTogether, StepsOfEnding, waiting_by}
+use Rattle.many_maps.specs.Endings.{Finishing, FinishingFacts, FinishingOutcome, EndingsTogether, StepsOfEnding, waiting_by}
 use Rattle.many_maps.specs.FactsEnds.{EndingFacts, Joins, back_of, wait_before}
 use Rattle.many_maps.proofs.Ends.OrdersOn.{back_same}
 use Rattle.owner_facts.specs.Maps.MeasuresEnds.{stage, most_blocks, list_len, steps_left}
 use Rattle.owner_facts.proofs.Maps.Begins.MachinesEnd.{lowered_ends}
-use Rattle.owner_facts.specs.Descends.ComeToAnEnd.{CountingGoes, CountingsEnd, goes_on_as, HasEnd, EndGoes, EndingsEnd}
+use Rattle.owner_facts.specs.Descends.ComeToAnEnd.{CountingGoes, CountingsEnd, continues_as, HasEnd, EndGoes, EndingsEnd}
 use Rattle.owner_facts.specs.Descends.Numbers.{tables_ahead, blocks_ahead, number_of_ending, EndingNumbersAreAsMany}
 use Rattle.owner_facts.specs.Descends.Falls.{CountingsFall, Lowers, EndingsFall, OthersLeaveEndings}
 use Rattle.owner_facts.proofs.Descends.Lists.{length_read, rest_is}
@@ -147,8 +147,8 @@ module _ {K Q : Type 0} (V : Type 0) (same : K → K → Bool) (asks : Q → K �
 
       by : (end : EndMap × Settled (Node K V)) → Steps Took value_at x.w.memory (end_map_plan x.f.machine) m2 end
           → (did : StepsOfEnding V same asks batch_size roots slot x.w x.maps x.calls x.makers x.enders i x.f m2 end)
-          → Lowers V same asks batch_size roots slot x.f x.w.memory m2 end → FinishingTold V same asks batch_size roots slot x.w x.maps x.calls x.makers x.enders i x.f did.w2 did.deed end
-          → goes_on_as x.f did.deed end y.f → IsBelow (number y) (number x)
+          → Lowers V same asks batch_size roots slot x.f x.w.memory m2 end → FinishingOutcome V same asks batch_size roots slot x.w x.maps x.calls x.makers x.enders i x.f did.w2 did.deed end
+          → continues_as x.f did.deed end y.f → IsBelow (number y) (number x)
       by (e, settled.Goes) s did less told so = meanwhile (e, settled.Goes) did (record x.f { machine = e; waits = x.f.waits ++ waiting_by did.deed }) told.1 so less
       by (e, settled.Waits) s did less told so = absurd so
       by (e, settled.Gave value) s did less told so =

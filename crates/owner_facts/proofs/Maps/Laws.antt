@@ -1,9 +1,9 @@
 -- What the laws promise, clause by clause, as far as crates above cite it in proofs.
 use Rattle.std.proofs.Common.{ℕ, Bool}
 use Rattle.owner_facts.specs.Maps.EndingsBegins.{BeginningsLeaveLess}
-use Rattle.owner_facts.specs.Maps.Listed.{ListsAddUp, InOneOfTwo, FirstOrBehind, WaitsBehindTables, MarkedIsSettledOrOwn}
+use Rattle.owner_facts.specs.Maps.Listed.{ListsAddUp, InOneOfTwo, FirstOrBehind, DeferredOnTables, MarkedIsSettledOrOwn}
 use Rattle.owner_facts.specs.Maps.FaultsBegins.{FreeRootsSuffice, MemoryAloneIsRefused}
-use Rattle.owner_facts.specs.Maps.WholeBegins.{MapsBeginAlone, MapsGoOnAlone}
+use Rattle.owner_facts.specs.Maps.WholeBegins.{MapsBeginAlone, MapsContinueAlone}
 use Rattle.owner_facts.proofs.Alone.Lone.Copies.{settled_or_own}
 use Rattle.owner_facts.proofs.Maps.Begins.Faults.{free_roots_suffice, memory_alone_is_refused}
 use Rattle.owner_facts.proofs.Maps.Begins.Whole.{maps_begin_alone, maps_go_on_alone}
@@ -15,7 +15,7 @@ module _ {K : Type 0} (V : Type 0) (same : K → K → Bool) (hash : K → ℕ) 
   pub maps_may_begin : MapsBeginAlone V same hash
   maps_may_begin = maps_begin_alone V same hash
 
-  pub maps_go_on : MapsGoOnAlone V same hash
+  pub maps_go_on : MapsContinueAlone V same hash
   maps_go_on = maps_go_on_alone V same hash
 
 pub lists_add_up : ListsAddUp
@@ -27,7 +27,7 @@ in_one_of_two x a b = (some_first x a b, some_last x a b, some_of_two x a b)
 pub first_or_behind : FirstOrBehind
 first_or_behind x y l = (some_here x l, some_of_first x y l)
 
-pub waits_behind_tables : {K : Type 0} → WaitsBehindTables K
+pub waits_behind_tables : {K : Type 0} → DeferredOnTables K
 waits_behind_tables setting c blocks lists owns = in_waits setting c blocks lists owns
 
 pub marked_is_settled_or_own : MarkedIsSettledOrOwn

@@ -32,7 +32,7 @@ use Rattle.many_maps.specs.Given.RuleMaps.{spot_of}
 use Rattle.many_maps.specs.Given.RuleInWorld.{IsMapIn}
 use Rattle.many_maps.proofs.Given.RuleWorld.WentWrote.{counter_of}
 use Rattle.many_maps.specs.Given.PointsFactsTables.{SumFacts}
-use Rattle.many_maps.specs.Given.PointsTold.{SumTold}
+use Rattle.many_maps.specs.Given.PointsTold.{SumOutcome}
 use Rattle.many_maps.proofs.Given.PointsMaking.Sum.{told_sum}
 use Rattle.owner_facts.specs.Alone.Counting.{pairs_in, count_ahead}
 use Rattle.owner_facts.specs.Alone.Met.{MetMaking}
@@ -56,7 +56,7 @@ module _ {K V Q : Type 0} (same : K → K → Bool) (hash : K → ℕ) (asks : Q
     abbrev So : Type 0
     So = CountsOrMakes setting m2 c n before reason end.0.stands
 
-    by_count : m2 ≡ w.memory → (b : Sum × Advance ℕ) → end ≡ next_made p (counted n before reason b) → SumTold setting b → Ahead setting w.memory sum facts.0 sum.stands b → So
+    by_count : m2 ≡ w.memory → (b : Sum × Advance ℕ) → end ≡ next_made p (counted n before reason b) → SumOutcome setting b → Ahead setting w.memory sum facts.0 sum.stands b → So
     by_count kept (next, progress.Goes) e told comes =
         inl (next, ap (λ (x : KeyCall K V Q × Called (Node K V)). x.0.stands) e, told, subst (λ (m : Mem (Node K V)). count_ahead setting m next.stands ≡ pairs_in c) (sym kept) (comes ∙ ahead))
     by_count kept (next, progress.Waits) e told comes = absurd told

@@ -1,8 +1,8 @@
--- Steps that come to an end.
+-- Steps that terminate.
 use Rattle.std.specs.Prelude.{◌≡◌, ℕ, List, length}
 use Rattle.many_maps.specs.Given.PointsMeasures.{IsBelow}
 
--- each run of steps from here on comes to an end
+-- each run of steps from here on terminates
 pub data RunsEnd (X : Type 0) (step : X → X → Type 0) : X → Type 0 where
   runs_end : (x : X) → ((y : X) → step x y → RunsEnd X step y) → RunsEnd X step x
 

@@ -19,18 +19,18 @@ module _ {K : Type 0} where
   TablesAlone false c = AllAborted c × AllUncounted c
 
   -- So it is at each point, but where the call itself copies.
-  abbrev pub StandsAlone : Bool → Chart K → Calling → Type 0
-  StandsAlone incremental c (at.Helps copier goal) = AloneAt c copier copier.stands
-  StandsAlone incremental c (at.Copies copier) = AloneBlocking c copier copier.stands
-  StandsAlone incremental c _ = TablesAlone incremental c
+  abbrev pub AloneAtPoint : Bool → Chart K → Calling → Type 0
+  AloneAtPoint incremental c (at.Helps copier goal) = AloneAt c copier copier.stands
+  AloneAtPoint incremental c (at.Copies copier) = AloneBlocking c copier copier.stands
+  AloneAtPoint incremental c _ = TablesAlone incremental c
 
   -- a call of this caller stands there, and no other caller has a part in a copying
   pub record IsLone (incremental : Bool) (caller : ℕ) (c : Chart K) (stands : Calling) : Type 0 where
     pub idle : OthersIdle caller c
-    pub point : StandsAlone incremental c stands
+    pub point : AloneAtPoint incremental c stands
 
   -- no call of it is under way
-  pub record RestsAlone (incremental : Bool) (caller : ℕ) (c : Chart K) : Type 0 where
+  pub record AloneBetweenCalls (incremental : Bool) (caller : ℕ) (c : Chart K) : Type 0 where
     pub idle : OthersIdle caller c
     pub tables : TablesAlone incremental c
 
@@ -41,5 +41,5 @@ LeadsLone incremental caller c (p, called.Waits) = ⊥
 LeadsLone incremental caller c (p, called.Gave value) = IsLone incremental caller c p.stands
 LeadsLone incremental caller c (p, called.Unstored value) = IsLone incremental caller c p.stands × (end : End) × (p.stands ≡ at.Over end)
 LeadsLone incremental caller c (p, called.Asks asked) = IsLone incremental caller c p.stands × (asks_at : Asking) × (p.stands ≡ at.Asks asks_at)
-LeadsLone incremental caller c (p, called.Done answer) = RestsAlone incremental caller c
-LeadsLone incremental caller c (p, called.Refused fault) = RestsAlone incremental caller c
+LeadsLone incremental caller c (p, called.Done answer) = AloneBetweenCalls incremental caller c
+LeadsLone incremental caller c (p, called.Refused fault) = AloneBetweenCalls incremental caller c

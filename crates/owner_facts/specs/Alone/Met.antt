@@ -109,8 +109,8 @@ MeetsNoMore {K} V Q same hash =
 
 -- Nor has it met more at any table that it found full, if it had not before: a step of a call that does not ask leaves the most that it has met where it was,
 -- or takes what it has met at the table which it finds to be the last.
-abbrev pub CallsKeepMost : {K Q : Type 0} → Type 0 → (K → K → Bool) → (K → ℕ) → (Q → K → Bool) → Type 0
-CallsKeepMost {K} {Q} V same hash asks =
+abbrev pub CallsPreserveMost : {K Q : Type 0} → Type 0 → (K → K → Bool) → (K → ℕ) → (Q → K → Bool) → Type 0
+CallsPreserveMost {K} {Q} V same hash asks =
     (m m2 : Mem (Node K V)) (p : KeyCall K V Q) (end : KeyCall K V Q × Called (Node K V)) (n : ℕ) → p.trial.most ≤ n → (p.stands ≡ at.Nexts → p.trial.met ≤ n)
     → ((asking : Asking) → p.stands ≢ at.Asks asking) → Steps Took value_at m (call_plan asks same hash p) m2 end → end.0.trial.most ≤ n
 

@@ -23,18 +23,18 @@ module _ (K V : Type 0) where
   abbrev pub CountingGoes : Sum → Sum → Type 0
   CountingGoes c c2 = (m m2 : Mem (Node K V)) × Steps Took value_at m (sum_plan c) m2 (c2, progress.Goes)
 
-  -- each run of such steps comes to an end
+  -- each run of such steps terminates
   abbrev pub CountingsEnd : Type 0
   CountingsEnd = (c : Sum) → RunsEnd Sum CountingGoes c
 
 -- where the end of a map stands after a step that is not its last, by what that did
-abbrev pub goes_on_as : {K V : Type 0} → Finishing K V → Deed → EndMap × Settled (Node K V) → Finishing K V → Type 0
-goes_on_as f deed (e, settled.Goes) g = g ≡ record f { machine = e; waits = f.waits ++ waiting_by deed }
-goes_on_as f deed (e, settled.Gave value) g = (b : ℕ) × (taken_by deed ≡ b ∷ []) × (g ≡ record f { machine = e; back = f.back ++ b ∷ []; waits = f.waits ++ waiting_by deed })
-goes_on_as f deed (e, _) g = ⊥
+abbrev pub continues_as : {K V : Type 0} → Finishing K V → Deed → EndMap × Settled (Node K V) → Finishing K V → Type 0
+continues_as f deed (e, settled.Goes) g = g ≡ record f { machine = e; waits = f.waits ++ waiting_by deed }
+continues_as f deed (e, settled.Gave value) g = (b : ℕ) × (taken_by deed ≡ b ∷ []) × (g ≡ record f { machine = e; back = f.back ++ b ∷ []; waits = f.waits ++ waiting_by deed })
+continues_as f deed (e, _) g = ⊥
 
 module _ {K Q : Type 0} (V : Type 0) (same : K → K → Bool) (asks : Q → K → Bool) (batch_size roots : ℕ) (slot : ℕ → ℕ) (i : ℕ) where
-  -- all stand together, and this caller has the end of a map under way
+  -- the invariant of all holds, and this caller has the end of a map under way
   pub record HasEnd : Type 0 where
     pub w : World (Node K V)
     pub maps : ℕ → Option (Standing K)
@@ -49,8 +49,8 @@ module _ {K Q : Type 0} (V : Type 0) (same : K → K → Bool) (asks : Q → K �
   abbrev pub EndGoes : HasEnd → HasEnd → Type 0
   EndGoes x y =
       (m2 : Mem (Node K V)) × (end : EndMap × Settled (Node K V)) × Steps Took value_at x.w.memory (end_map_plan x.f.machine) m2 end
-      × (did : StepsOfEnding V same asks batch_size roots slot x.w x.maps x.calls x.makers x.enders i x.f m2 end) × goes_on_as x.f did.deed end y.f
+      × (did : StepsOfEnding V same asks batch_size roots slot x.w x.maps x.calls x.makers x.enders i x.f m2 end) × continues_as x.f did.deed end y.f
 
-  -- so each end of a map comes to its end
+  -- so each end of a map terminates
   abbrev pub EndingsEnd : Type 0
   EndingsEnd = (x : HasEnd) → RunsEnd HasEnd EndGoes x

@@ -27,6 +27,6 @@ blocks_ahead f back = length (back_of f.setting f.chart f.blocks (λ t. []) fals
 abbrev pub number_of_ending : {K V : Type 0} → Finishing K V → Mem (Node K V) → List ℕ
 number_of_ending f m = blocks_ahead f f.back ∷ ahead f.chart.past m f.machine f.machine.stands
 
--- an end always has as many numbers, so that its descents come to an end
+-- an end always has as many numbers, so that its descents terminate
 abbrev pub EndingNumbersAreAsMany : (K V : Type 0) → Type 0
 EndingNumbersAreAsMany K V = (f : Finishing K V) (m : Mem (Node K V)) → length (number_of_ending f m) ≡ 4

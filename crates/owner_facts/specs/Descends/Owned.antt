@@ -1,4 +1,4 @@
--- The end of a map that owns its collector: each step by which it goes on lowers a number, and so it comes to its end.
+-- The end of a map that owns its collector: each step by which it goes on lowers a number, and so it terminates.
 use Rattle.std.specs.Prelude.{◌≡◌, ℕ, ◌-◌, Bool, true, List, [], ◌∷◌, ◌++◌, length, Option}
 use Rattle.many_maps.specs.Given.SeizeWordsMem.{Mem, Took, value_at}
 use Rattle.many_maps.specs.Given.SeizeWordsPlan.{Steps}
@@ -51,6 +51,6 @@ module _ {K Q : Type 0} (V : Type 0) (same : K → K → Bool) (asks : Q → K �
   abbrev pub OwnEndingsFall : Type 0
   OwnEndingsFall = (x y : HasOwn) → OwnGoes x y → IsBelow (own_number y) (own_number x)
 
-  -- and it comes to its end.
+  -- and it terminates.
   abbrev pub OwnEndingsEnd : Type 0
   OwnEndingsEnd = (x : HasOwn) → RunsEnd HasOwn OwnGoes x

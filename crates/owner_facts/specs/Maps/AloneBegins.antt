@@ -18,7 +18,7 @@ use Rattle.many_maps.specs.Given.RuleChart.{Chart}
 use Rattle.many_maps.specs.Given.RuleRule.{no_table}
 use Rattle.many_maps.specs.Given.RuleWords.{Blocks}
 use Rattle.owner_facts.specs.Alone.Counting.{IsCounted}
-use Rattle.owner_facts.specs.Alone.FactsAloneCalls.{RestsAlone}
+use Rattle.owner_facts.specs.Alone.FactsAloneCalls.{AloneBetweenCalls}
 use Rattle.owner_facts.specs.Maps.FactsBegins.{IsNew, BeginFacts, LeavesRoots}
 use Rattle.owner_facts.specs.Alone.Alone.{MapRests}
 use Rattle.owner_facts.specs.Alone.Values.{HasCome, IsComing, IsMadeByOpening, IsLinkedSince}
@@ -89,7 +89,7 @@ module _ {K V : Type 0} (same : K → K → Bool) (hash : K → ℕ) (setting : 
     pub rests : MapRests same hash begun roots m h chart blocks
     pub new : IsNew hash begun len chart
     pub empty : (n : ℕ) → chart.current n ≡ false
-    pub alone : RestsAlone (is_incremental begun.mode) 0 chart
+    pub alone : AloneBetweenCalls (is_incremental begun.mode) 0 chart
     pub used : word_at m (Used begun.root) ≡ Some 1
     pub taken : HasTaken m0 same hash m begun.root
     pub counter : h.hand begun.counter ≡ Making 0

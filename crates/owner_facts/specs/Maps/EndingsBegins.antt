@@ -1,4 +1,4 @@
--- Beginnings of maps come to an end.
+-- Beginnings of maps terminate.
 use Rattle.std.specs.Prelude.{◌<◌}
 use Rattle.many_maps.specs.Given.SeizeWordsMem.{Mem, Took, value_at}
 use Rattle.many_maps.specs.Given.SeizeWordsPlan.{Steps}
@@ -14,7 +14,7 @@ module _ (K V : Type 0) where
   abbrev pub NewMapGoes : NewMap → NewMap → Type 0
   NewMapGoes n n2 = (m : Mem (Node K V)) × (m2 : Mem (Node K V)) × Steps Took value_at m (new_map_plan n) m2 (n2, progress.Goes)
 
-  -- each run of such steps comes to an end
+  -- each run of such steps terminates
   abbrev pub BeginningsEnd : Type 0
   BeginningsEnd = (n : NewMap) → RunsEnd NewMap NewMapGoes n
 

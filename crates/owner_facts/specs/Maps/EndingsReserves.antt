@@ -1,4 +1,4 @@
--- What it is that a reservation comes to an end, with the rows of the collector that it begins.
+-- What it is that a reservation terminates, with the rows of the collector that it begins.
 use Rattle.std.specs.Prelude.{ℕ}
 use Rattle.many_maps.specs.Given.SeizeWordsMem.{Mem, Took, value_at}
 use Rattle.many_maps.specs.Given.SeizeWordsPlan.{Steps}
@@ -20,6 +20,6 @@ module _ {K V : Type 0} (hash : K → ℕ) where
   abbrev pub StepsOn : Reserve × Mem (Node K V) → Reserve × Mem (Node K V) → Type 0
   StepsOn x y = (end : Yielding (Node K V) Unit) × HasMore end × Steps Took value_at x.1 (reserve_plan hash x.0) y.1 (y.0, end)
 
-  -- each run of its steps comes to an end
-  abbrev pub ComesToAnEnd : Reserve → Mem (Node K V) → Type 0
-  ComesToAnEnd p m = RunsEnd (Reserve × Mem (Node K V)) StepsOn (p, m)
+  -- each run of its steps terminates
+  abbrev pub Terminates : Reserve → Mem (Node K V) → Type 0
+  Terminates p m = RunsEnd (Reserve × Mem (Node K V)) StepsOn (p, m)

@@ -10,7 +10,7 @@ use Rattle.many_maps.specs.Given.RuleChart.{Chart}
 use Rattle.many_maps.specs.Given.PointsMeasures.{OthersIdle}
 use Rattle.many_maps.specs.Given.PointsFactsAloneBlocking.{AloneBlocking}
 use Rattle.owner_facts.specs.Alone.FactsAlone.{AloneAt}
-use Rattle.owner_facts.specs.Alone.FactsAloneCalls.{TablesAlone, RestsAlone}
+use Rattle.owner_facts.specs.Alone.FactsAloneCalls.{TablesAlone, AloneBetweenCalls}
 
 module _ {K : Type 0} where
   -- what its copier knows, in the mode of the map
@@ -33,5 +33,5 @@ abbrev pub LeadsReserve : {K T : Type 0} → Bool → ℕ → Chart K → Reserv
 LeadsReserve incremental caller c (p, outcome.Goes) = IsLoneReserve incremental caller c p.stands
 LeadsReserve incremental caller c (p, outcome.Waits) = ⊥
 LeadsReserve incremental caller c (p, outcome.Gave value) = ⊥
-LeadsReserve incremental caller c (p, outcome.Done end) = RestsAlone incremental caller c
-LeadsReserve incremental caller c (p, outcome.Refused fault) = RestsAlone incremental caller c
+LeadsReserve incremental caller c (p, outcome.Done end) = AloneBetweenCalls incremental caller c
+LeadsReserve incremental caller c (p, outcome.Refused fault) = AloneBetweenCalls incremental caller c

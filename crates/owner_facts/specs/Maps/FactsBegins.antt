@@ -23,7 +23,7 @@ use Rattle.many_maps.specs.Given.RuleMaps.{spot_of}
 use Rattle.many_maps.specs.Given.RuleInWorld.{IsMapIn, AllUsers, SparesPairs}
 use Rattle.many_maps.specs.Given.PointsFactsTables.{NewTableFacts}
 use Rattle.many_maps.specs.Makings.{HasLen, HasRoots, IsTakenRoot, IsFreeRoot}
-use Rattle.owner_facts.specs.Alone.FactsAloneCalls.{RestsAlone}
+use Rattle.owner_facts.specs.Alone.FactsAloneCalls.{AloneBetweenCalls}
 
 -- a map that begins has no table, or a first one of this length, with eight places at least
 abbrev pub IsNew : {K : Type 0} → (K → ℕ) → Setting → ℕ → Chart K → Type 0
@@ -39,7 +39,7 @@ module _ {K V : Type 0} (same : K → K → Bool) (hash : K → ℕ) (caller : �
       pub map : IsMapIn same hash setting w chart blocks
       pub new : IsNew hash setting len chart
       pub empty : (n : ℕ) → chart.current n ≡ false
-      pub alone : RestsAlone (is_incremental setting.mode) caller chart
+      pub alone : AloneBetweenCalls (is_incremental setting.mode) caller chart
       pub used : word_at w.memory (Used setting.root) ≡ Some 1
       pub counter : w.hand setting.counter ≡ MadeBy caller
 
@@ -75,15 +75,15 @@ module _ {K V : Type 0} (same : K → K → Bool) (hash : K → ℕ) (caller : �
   GivesUp w w2 root _ = w2.memory ≡ w.memory
 
   -- where a step of it led, from this point
-  abbrev pub BeginTold : Setting → Opening → World (Node K V) → World (Node K V) → NewMap × Advance Setting → Type 0
-  BeginTold setting stage w w2 (n, progress.Goes) = BeginFacts w2 setting n
-  BeginTold setting stage w w2 (n, progress.Waits) = ⊥
-  BeginTold setting stage w w2 (n, progress.Done end) =
+  abbrev pub BeginOutcome : Setting → Opening → World (Node K V) → World (Node K V) → NewMap × Advance Setting → Type 0
+  BeginOutcome setting stage w w2 (n, progress.Goes) = BeginFacts w2 setting n
+  BeginOutcome setting stage w w2 (n, progress.Waits) = ⊥
+  BeginOutcome setting stage w w2 (n, progress.Done end) =
       (end ≡ n.setting) × (n.setting ≡ with_counter (at_root setting n.setting.root) n.setting.counter) × HasBegun w2 n.setting n.len
-  BeginTold setting stage w w2 (n, progress.Refused fault) = GivesUp w w2 n.setting.root stage
+  BeginOutcome setting stage w w2 (n, progress.Refused fault) = GivesUp w w2 n.setting.root stage
 
   -- A step of the beginning of a map came to this memory.
-  pub record BeginWent (setting : Setting) (stage : Opening) (w : World (Node K V)) (root : ℕ) (m2 : Mem (Node K V)) (end : NewMap × Advance Setting) : Type 0 where
+  pub record BeginStepSpec (setting : Setting) (stage : Opening) (w : World (Node K V)) (root : ℕ) (m2 : Mem (Node K V)) (end : NewMap × Advance Setting) : Type 0 where
     pub w2 : World (Node K V)
     pub events : List (Event (Node K V))
     pub users : AllUsers events
@@ -91,4 +91,4 @@ module _ {K V : Type 0} (same : K → K → Bool) (hash : K → ℕ) (caller : �
     pub memory : w2.memory ≡ m2
     pub others : LeavesRoots w.memory w2.memory root
     pub spares : SparesPairs w w2
-    pub told : BeginTold setting stage w w2 end
+    pub told : BeginOutcome setting stage w w2 end

@@ -23,8 +23,8 @@ abbrev pub FirstOrBehind : Type 0
 FirstOrBehind = (x y : ℕ) (l : List ℕ) → (0 < times x (x ∷ l)) × (0 < times x (y ∷ l) → (x ≡ y) ⊎ (0 < times x l))
 
 -- what waits where a map ends waits behind one of its tables
-abbrev pub WaitsBehindTables : Type 0 → Type 0
-WaitsBehindTables K =
+abbrev pub DeferredOnTables : Type 0 → Type 0
+DeferredOnTables K =
     (setting : Setting) (c : Chart K) (blocks : Blocks) (lists : ℕ → List ℕ) (owns : Bool) (x t tables : ℕ)
     → 0 < times x (waits_in blocks.table lists owns t tables) → (u : ℕ) × (t ≤ u) × (u < t + tables) × (0 < times x (lists u))
 

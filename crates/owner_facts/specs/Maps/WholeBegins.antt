@@ -24,8 +24,8 @@ module _ {K : Type 0} (V : Type 0) (same : K → K → Bool) (hash : K → ℕ) 
       → IsOpening same hash setting roots len m h (opening setting roots len) m h
 
   -- One that is to begin may take its next step, and then is to begin still, or has begun, or is refused.
-  abbrev pub MapsGoOnAlone : Type 0
-  MapsGoOnAlone =
+  abbrev pub MapsContinueAlone : Type 0
+  MapsContinueAlone =
       AreLawful same hash → (setting : Setting) → IsPowerOfTwo setting.initial → setting.mask + 1 < 2 ^ 64 → (roots len : ℕ) (m0 : Mem (Node K V)) (h0 : History)
       → (n : NewMap) (m : Mem (Node K V)) (h : History) → IsOpening same hash setting roots len m0 h0 n m h
       → May Can Took value_at m (new_map_plan n)

@@ -1,6 +1,6 @@
 //! How many pairs the tries of a call meet that nobody interrupts, and what length of a table that comes to.
 ghost use Rattle.std.specs.Prelude.{ℕ, Bool};
-ghost use Rattle.owner_facts.specs.Alone.Met.{MetPairsAreFew, TriesMeetPairs, CallsMeetPairs, WordsSayWhatStands, MeetsNoMore, CallsKeepMost, GoesByTheCounterAlone};
+ghost use Rattle.owner_facts.specs.Alone.Met.{MetPairsAreFew, TriesMeetPairs, CallsMeetPairs, WordsSayWhatStands, MeetsNoMore, CallsPreserveMost, GoesByTheCounterAlone};
 
 /// The tries of a hash at a table are at different places, and a pair stands at one place of it. So at the last table they meet no more pairs than the
 /// map has. What a call has met is no more than that either, while nobody else changes the memory: it begins with none in each table, each word that
@@ -13,6 +13,6 @@ pub fn met_pairs_are_few<K, V, Q>()
     ensures steps { (same : K → K → Bool) (hash : K → ℕ) (asks : Q → K → Bool) → CallsMeetPairs V same hash asks }
     ensures words { (same : K → K → Bool) (hash : K → ℕ) → WordsSayWhatStands V same hash }
     ensures full { (same : K → K → Bool) (hash : K → ℕ) → MeetsNoMore V Q same hash }
-    ensures most { (same : K → K → Bool) (hash : K → ℕ) (asks : Q → K → Bool) → CallsKeepMost V same hash asks }
+    ensures most { (same : K → K → Bool) (hash : K → ℕ) (asks : Q → K → Bool) → CallsPreserveMost V same hash asks }
     ensures lengths { GoesByTheCounterAlone K }
 {}

@@ -7,9 +7,9 @@ ghost use Rattle.owner_facts.specs.Descends.Falls.{CountingsFall, EndingsFall, O
 ghost use Rattle.owner_facts.specs.Descends.Owned.{OwnEndingsEnd, OwnEndingsFall};
 
 /// Whatever other callers have under way, each step of a counting, of the making of a map, or of the end of one, that goes on, lowers its number, in either
-/// mode. The numbers of a counting and of a making are read off the machine alone, that of an end off what its caller has under way, and off the list of
-/// what waits, which is its own. So nothing that others do between two such steps changes them. And as a descent of numbers comes to an end, so
-/// does each of them by its own steps, whatever others do between these. So it is of the end of a map that owns its collector, where what its tables carry counts, too.
+/// mode. The numbers of a counting and of a making are read off the machine alone, that of an end off what its caller has under way, and off the list of what
+/// waits, which is its own. So nothing that others do between two such steps changes them. And as a descent of numbers terminates, so does each of them by its
+/// own steps, whatever others do between these. So it is of the end of a map that owns its collector, where what its tables carry counts, too.
 pub fn own_steps_lower_the_number<K, V, Q>()
     ensures countings { CountingsFall K V }
     ensures makings { BeginningsLeaveLess K V }

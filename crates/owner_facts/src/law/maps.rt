@@ -1,19 +1,19 @@
 //! What is promised of maps that begin alone, and of the table after the last one.
 ghost use Rattle.std.specs.Prelude.{ℕ, Bool};
-ghost use Rattle.owner_facts.specs.Maps.Listed.{ListsAddUp, InOneOfTwo, FirstOrBehind, WaitsBehindTables, MarkedIsSettledOrOwn};
+ghost use Rattle.owner_facts.specs.Maps.Listed.{ListsAddUp, InOneOfTwo, FirstOrBehind, DeferredOnTables, MarkedIsSettledOrOwn};
 ghost use Rattle.owner_facts.specs.Maps.EndingsBegins.{BeginningsEnd, BeginningsLeaveLess};
 ghost use Rattle.owner_facts.specs.Maps.NextTables.{NextTablesGoByTheCounter};
-ghost use Rattle.owner_facts.specs.Maps.WholeBegins.{MapsBeginAlone, MapsGoOnAlone};
+ghost use Rattle.owner_facts.specs.Maps.WholeBegins.{MapsBeginAlone, MapsContinueAlone};
 ghost use Rattle.owner_facts.specs.Maps.FaultsBegins.{FreeRootsSuffice, MemoryAloneIsRefused};
 
-/// Over the memory of one owner, where there are roots and those that are free lead nowhere, a map may begin. It may take each of its steps,
-/// and hands nothing to the collector. At its end it rests, with no pair, with no table or one of the length that it was to have and at least 8
-/// places, under a root that was free, and its caller has the block of its counter, whose shards say that there is no pair. All blocks that were there are
-/// there with their values, and no others but those of the counter and of the first table. Where it is refused, all roots are as they were, and so are
-/// all blocks, with their values. It comes to its end: no run of its steps goes on for ever.
+/// Over the memory of one owner, where there are roots and those that are free lead nowhere, a map may begin. It may take each of its steps, and hands nothing
+/// to the collector. At its end it rests, with no pair, with no table or one of the length that it was to have and at least 8 places, under a root that was
+/// free, and its caller has the block of its counter, whose shards say that there is no pair. All blocks that were there are there with their values, and no
+/// others but those of the counter and of the first table. Where it is refused, all roots are as they were, and so are all blocks, with their values. It
+/// terminates: no run of its steps goes on for ever.
 pub fn maps_begin_alone<K, V>()
     ensures begins { (same : K → K → Bool) (hash : K → ℕ) → MapsBeginAlone V same hash }
-    ensures steps { (same : K → K → Bool) (hash : K → ℕ) → MapsGoOnAlone V same hash }
+    ensures steps { (same : K → K → Bool) (hash : K → ℕ) → MapsContinueAlone V same hash }
     ensures ends { BeginningsEnd K V }
     ensures less { BeginningsLeaveLess K V }
 {}
@@ -31,7 +31,7 @@ pub fn blocks_are_listed<K>()
     ensures adds_up { ListsAddUp }
     ensures in_two { InOneOfTwo }
     ensures first { FirstOrBehind }
-    ensures waits { WaitsBehindTables K }
+    ensures waits { DeferredOnTables K }
     ensures marked { MarkedIsSettledOrOwn }
 {}
 

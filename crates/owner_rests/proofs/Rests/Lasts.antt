@@ -7,7 +7,7 @@ use Rattle.map_tables.specs.declared.node.Node.{Node}
 use Rattle.map_tables.specs.declared.node.Node.TheVariants as node
 use Rattle.map_tables.specs.declared.setting.Setting.{Setting}
 use Rattle.owner_calls.specs.Owned.Owned.{IsShownAt, NamesAPair}
-use Rattle.owner_rests.specs.Rests.Lasts.{IsPairOf, RestsWith, is_named, pair_in, pair_of}
+use Rattle.owner_rests.specs.Rests.Lasts.{IsPairOf, QuiescentWith, is_named, pair_in, pair_of}
 use Rattle.owner_rests.specs.declared.last.Last.{Last}
 
 module _ {K V : Type 0} (m : Mem (Node K V)) where
@@ -60,7 +60,7 @@ module _ {K V : Type 0} (m : Mem (Node K V)) where
   shows_in (Some word) shown (x, is, at) = is ∙ sym (pair_there word x.0 x.1 at)
 
 -- both pairs can be looked at
-module _ {K V : Type 0} (same : K → K → Bool) (hash : K → ℕ) (setting : Setting) (m : Mem (Node K V)) (last : Last) (xs : List (K × V)) (taken met : Option (K × V)) (r : RestsWith same hash setting m last xs taken met) where
+module _ {K V : Type 0} (same : K → K → Bool) (hash : K → ℕ) (setting : Setting) (m : Mem (Node K V)) (last : Last) (xs : List (K × V)) (taken met : Option (K × V)) (r : QuiescentWith same hash setting m last xs taken met) where
   pub taken_named : is_named m last.taken ≡ true
   taken_named = named m last.taken taken r.taken_is
 

@@ -24,7 +24,7 @@ use Rattle.owner_calls.specs.Given.PointsSteps.{AreLawful}
 use Rattle.owner_calls.specs.Given.StridesEnding.{Ends, RunsTo}
 use Rattle.papaya_raw.specs.Given.ReservesReserve.{needed, or_too_long}
 use Rattle.owner_calls.specs.Owned.Owned.{Holds}
-use Rattle.owner_calls.specs.Owned.Rooms.{ShowTables, tables_for, tables_with}
+use Rattle.owner_calls.specs.Owned.Rooms.{RepresentTables, tables_for, tables_with}
 use Rattle.owner_calls.proofs.Owned.Owned.Making.{Opens, Made, opens_first, opens_end, runs_made, first_refused}
 
 module _ {K V : Type 0} (same : K → K → Bool) (hash : K → ℕ) (lawful : AreLawful same hash) (slot places initial : ℕ) (is : initial ≡ max places 1) (power : IsPowerOfTwo (max places 1))
@@ -52,7 +52,7 @@ module _ {K V : Type 0} (same : K → K → Bool) (hash : K → ℕ) (lawful : A
   made_ok m2 (Ok s) made = made.0
   made_ok m2 (Err fault) made = tt
 
-  made_shown : (m2 : Mem (Node K V)) (result : Result Setting Fault) → HasMade m2 result → IfOk result (λ s. ShowTables s m2 (tables_with places))
+  made_shown : (m2 : Mem (Node K V)) (result : Result Setting Fault) → HasMade m2 result → IfOk result (λ s. RepresentTables s m2 (tables_with places))
   made_shown m2 (Ok s) made = made.1
   made_shown m2 (Err fault) made = tt
 
@@ -66,7 +66,7 @@ module _ {K V : Type 0} (same : K → K → Bool) (hash : K → ℕ) (lawful : A
   begins_holds n e n2 m2 result runs = made_ok m2 result (begins_made n e n2 m2 result runs)
 
   pub begins_shown : (n : NewMap) → n ≡ opening setting 1 places → (n2 : NewMap) (m2 : Mem (Node K V)) (result : Result Setting Fault) → RunsTo (new_map_plan {K = K} {V = V}) n m n2 m2 result
-      → IfOk result (λ s. ShowTables s m2 (tables_with places))
+      → IfOk result (λ s. RepresentTables s m2 (tables_with places))
   begins_shown n e n2 m2 result runs = made_shown m2 result (begins_made n e n2 m2 result runs)
 
   pub begins_refused : (n : NewMap) → n ≡ opening setting 1 places → (n2 : NewMap) (m2 : Mem (Node K V)) (result : Result Setting Fault) → RunsTo (new_map_plan {K = K} {V = V}) n m n2 m2 result

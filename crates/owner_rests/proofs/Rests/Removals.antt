@@ -31,7 +31,7 @@ use Rattle.owner_calls.specs.declared.machines.Stop.{Stop}
 use Rattle.owner_calls.specs.declared.machines.Stop.TheVariants as stop
 use Rattle.papaya_raw.specs.declared.machines.answer.KeyAnswer.TheVariants as answers
 use Rattle.owner_rests.specs.Rests.Calls.{has_removed}
-use Rattle.owner_rests.specs.Rests.Lasts.{IsPairOf, RestsWith, words_of_stop}
+use Rattle.owner_rests.specs.Rests.Lasts.{IsPairOf, QuiescentWith, words_of_stop}
 use Rattle.owner_rests.specs.Rests.Refreshed.{HasRefreshed}
 use Rattle.owner_rests.specs.declared.last.Last.{Last}
 use Rattle.owner_calls.proofs.Owned.Owned.Refreshes.{refreshing_ends, refreshed, begins_refreshing}
@@ -130,7 +130,7 @@ module _ {K V : Type 0} (keys : K → Bool) where
 module _ {K V : Type 0} (same : K → K → Bool) (hash : K → ℕ) (setting : Setting) (m : Mem (Node K V)) (keys : K → Bool) (xs : List (K × V)) where
   -- what a removal comes to, with the words that its end tells
   removes_by : (s : Stop) → EndsBy same hash setting m removes None keys xs (Ok s)
-      → (has_removed s ≡ is_some (found_by keys xs)) × RestsWith same hash setting m (words_of_stop s) (left_by keys xs) (found_by keys xs) None
+      → (has_removed s ≡ is_some (found_by keys xs)) × QuiescentWith same hash setting m (words_of_stop s) (left_by keys xs) (found_by keys xs) None
   removes_by (stop.Answered (answers.Removed word)) e =
       (sym (ap is_some e.1.1), record { holds = e.1.3; taken_is = subst (IsPairOf m (Some word)) (sym e.1.1) e.1.2; met_is = tt })
   removes_by (stop.Answered answers.Absent) e = (
@@ -144,10 +144,10 @@ module _ {K V : Type 0} (same : K → K → Bool) (hash : K → ℕ) (setting : 
   removes_by (stop.Asks (Some word)) e = absurd (cc e)
 
   pub removed_so : (s : Stop) → EndsBy same hash setting m removes None keys xs (Ok s) → (last : Last) → last ≡ words_of_stop s
-      → (has_removed s ≡ is_some (found_by keys xs)) × RestsWith same hash setting m last (left_by keys xs) (found_by keys xs) None
+      → (has_removed s ≡ is_some (found_by keys xs)) × QuiescentWith same hash setting m last (left_by keys xs) (found_by keys xs) None
   removed_so s e last is =
       let by = removes_by s e in
-      (by.0, subst (λ (words : Last). RestsWith same hash setting m words (left_by keys xs) (found_by keys xs) None) (sym is) by.1)
+      (by.0, subst (λ (words : Last). QuiescentWith same hash setting m words (left_by keys xs) (found_by keys xs) None) (sym is) by.1)
 
 -- a call that is told nothing is refused for room
 pub room_of : (kind : Kind) (fault : Fault) → kind.takes ≡ replies.Nothing → FaultFits kind.present kind.absent kind.takes fault → IsRoom fault

@@ -20,7 +20,7 @@ use Rattle.owner_calls.specs.Given.LateKinds.{FaultFits}
 use Rattle.owner_calls.specs.Owned.Calling.{IsCalling, HasStopped, begun}
 use Rattle.owner_calls.specs.Given.StridesEnding.{Ends, RunsTo}
 use Rattle.owner_calls.specs.Owned.Machines.{on_key_plan}
-use Rattle.owner_calls.specs.Owned.Owned.{Holds, EndsBy, ComesBack, IsPairAt, found_by, left_by}
+use Rattle.owner_calls.specs.Owned.Owned.{Holds, EndsBy, IsReturned, IsPairAt, found_by, left_by}
 use Rattle.owner_calls.specs.declared.machines.OnKey.{OnKey}
 use Rattle.owner_calls.specs.declared.machines.Stop.{Stop}
 use Rattle.owner_calls.specs.declared.machines.Stop.TheVariants as stop
@@ -29,7 +29,7 @@ use Rattle.owner_calls.proofs.Owned.Owned.ComesBack.{comes_back}
 use Rattle.owner_calls.proofs.Owned.Owned.HandsBack.{HasPair}
 use Rattle.owner_calls.proofs.Owned.Owned.Keys.{under_ends, comes_to}
 use Rattle.owner_rests.specs.Rests.Calls.{StoresPair, has_found, has_replaced}
-use Rattle.owner_rests.specs.Rests.Lasts.{IsPairOf, RestsWith, words_of_stop}
+use Rattle.owner_rests.specs.Rests.Lasts.{IsPairOf, QuiescentWith, words_of_stop}
 use Rattle.owner_rests.specs.declared.last.Last.{Last}
 use Rattle.owner_rests.proofs.Rests.Removals.{left_none}
 
@@ -69,7 +69,7 @@ module _ {K V S : Type 0} (same : K → K → Bool) (hashes : S → K → ℕ) (
             ends_by same hashes b setting m xs h key kind pair m2 result
             (comes_to same same hashes b setting h.lawful h.initial h.world.memory h.chart h.blocks h.rests.together.ground.map.map.rule (same key) (Begun kind pair) _ m x m2 result runs (begins stores).0)
 
-        pub insertion_back : ComesBack pair result x.unstored
+        pub insertion_back : IsReturned pair result x.unstored
         insertion_back =
             comes_back same same hashes b setting h.lawful h.initial h.world.memory h.chart h.blocks h.rests.together.ground.map.map.rule (same key) kind pair _ m x m2 result runs (begins stores).0 (inr (begins stores).1)
 
@@ -108,7 +108,7 @@ module _ {K V : Type 0} (same : K → K → Bool) (hash : K → ℕ) (setting : 
   -- what an insertion comes to, with the words that its end tells
   Inserted : Last → Stop → Type 0
   Inserted last s =
-      (has_replaced s ≡ is_some (found_by keys xs)) × RestsWith same hash setting m last (left_by keys xs ++ ((key, value) ∷ [])) (found_by keys xs) (Some (key, value))
+      (has_replaced s ≡ is_some (found_by keys xs)) × QuiescentWith same hash setting m last (left_by keys xs ++ ((key, value) ∷ [])) (found_by keys xs) (Some (key, value))
 
   inserts_by : (s : Stop) → EndsBy same hash setting m inserts given keys xs (Ok s) → Inserted (words_of_stop s) s
   unfolding Inserted
@@ -138,8 +138,8 @@ module _ {K V : Type 0} (same : K → K → Bool) (hash : K → ℕ) (setting : 
 
   -- what an insertion comes to that replaces none, likewise
   Tried : Last → Stop → Type 0
-  Tried last s = (has_found s ≡ false → (found_by keys xs ≡ None) × RestsWith same hash setting m last (xs ++ ((key, value) ∷ [])) None (Some (key, value)))
-      × (has_found s ≡ true → IsTrue (is_some (found_by keys xs)) × RestsWith same hash setting m last xs None (found_by keys xs))
+  Tried last s = (has_found s ≡ false → (found_by keys xs ≡ None) × QuiescentWith same hash setting m last (xs ++ ((key, value) ∷ [])) None (Some (key, value)))
+      × (has_found s ≡ true → IsTrue (is_some (found_by keys xs)) × QuiescentWith same hash setting m last xs None (found_by keys xs))
 
   tries_by : (s : Stop) → EndsBy same hash setting m tries_to_insert given keys xs (Ok s) → Tried (words_of_stop s) s
   unfolding Tried
@@ -161,13 +161,13 @@ module _ {K V : Type 0} (same : K → K → Bool) (hash : K → ℕ) (setting : 
 
   -- by the result of its run
   pub tried_so : (result : Result Stop Fault) → EndsBy same hash setting m tries_to_insert given keys xs result → (s : Stop) → result ≡ Ok s → (last : Last) → last ≡ words_of_stop s
-      → (has_found s ≡ false → (found_by keys xs ≡ None) × RestsWith same hash setting m last (xs ++ ((key, value) ∷ [])) None (Some (key, value)))
-      × (has_found s ≡ true → IsTrue (is_some (found_by keys xs)) × RestsWith same hash setting m last xs None (found_by keys xs))
+      → (has_found s ≡ false → (found_by keys xs ≡ None) × QuiescentWith same hash setting m last (xs ++ ((key, value) ∷ [])) None (Some (key, value)))
+      × (has_found s ≡ true → IsTrue (is_some (found_by keys xs)) × QuiescentWith same hash setting m last xs None (found_by keys xs))
   unfolding Tried
   tried_so result e s is last words = subst (λ (l : Last). Tried l s) (sym words) (tries_by s (subst (EndsBy same hash setting m tries_to_insert given keys xs) is e))
 
   pub stored_so : (result : Result Stop Fault) → EndsBy same hash setting m inserts given keys xs result → (s : Stop) → result ≡ Ok s → (last : Last) → last ≡ words_of_stop s
-      → (has_replaced s ≡ is_some (found_by keys xs)) × RestsWith same hash setting m last (left_by keys xs ++ ((key, value) ∷ [])) (found_by keys xs) (Some (key, value))
+      → (has_replaced s ≡ is_some (found_by keys xs)) × QuiescentWith same hash setting m last (left_by keys xs ++ ((key, value) ∷ [])) (found_by keys xs) (Some (key, value))
   unfolding Inserted
   stored_so result e s is last words = subst (λ (l : Last). Inserted l s) (sym words) (inserts_by s (subst (EndsBy same hash setting m inserts given keys xs) is e))
 
@@ -176,14 +176,14 @@ module _ {K V : Type 0} (same : K → K → Bool) (hash : K → ℕ) (setting : 
   refused_so kind result e fault is = subst (EndsBy same hash setting m kind given keys xs) is e
 
 -- the pair comes back with a fault
-pub back_so : {N : Type 0} (pair : Option N) (result : Result Stop Fault) (back : Option N) → ComesBack pair result back → (fault : Fault) → result ≡ Err fault → back ≡ pair
-back_so pair result back e fault is = subst (λ r. ComesBack pair r back) is e
+pub back_so : {N : Type 0} (pair : Option N) (result : Result Stop Fault) (back : Option N) → IsReturned pair result back → (fault : Fault) → result ≡ Err fault → back ≡ pair
+back_so pair result back e fault is = subst (λ r. IsReturned pair r back) is e
 
 -- and where it has found another one
-pub back_found : {N : Type 0} (pair : Option N) (result : Result Stop Fault) (back : Option N) → ComesBack pair result back → (s : Stop) → result ≡ Ok s → has_found s ≡ true → back ≡ pair
-back_found {N} pair result back e s is found = by s (subst (λ r. ComesBack pair r back) is e) found
+pub back_found : {N : Type 0} (pair : Option N) (result : Result Stop Fault) (back : Option N) → IsReturned pair result back → (s : Stop) → result ≡ Ok s → has_found s ≡ true → back ≡ pair
+back_found {N} pair result back e s is found = by s (subst (λ r. IsReturned pair r back) is e) found
   where
-    by : (s : Stop) → ComesBack pair (Ok s) back → has_found s ≡ true → back ≡ pair
+    by : (s : Stop) → IsReturned pair (Ok s) back → has_found s ≡ true → back ≡ pair
     by (stop.Answered (answers.Found word)) (inl puts) found = absurd puts
     by (stop.Answered (answers.Found word)) (inr so) found = so
     by (stop.Answered answers.Absent) so found = absurd (cc found)

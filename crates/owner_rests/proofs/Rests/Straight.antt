@@ -26,7 +26,7 @@ use Rattle.papaya_raw.specs.declared.machines.call.Calling.{Calling}
 use Rattle.papaya_raw.specs.declared.machines.call.Calling.TheVariants as at
 use Rattle.papaya_raw.specs.declared.machines.call.KeyCall.{KeyCall}
 use Rattle.map_straight.specs.Straight.Going.{CallGoes}
-use Rattle.seize_straight.specs.Runs.{Leads, Tells}
+use Rattle.seize_straight.specs.Runs.{Leads, EndsTelling}
 use Rattle.owner_calls.specs.Given.StridesEnding.{Ends, stops, goes}
 use Rattle.owner_calls.specs.Owned.Machines.{on_call, on_key_plan}
 use Rattle.owner_rests.specs.Rests.Storing.{StoresTo, storing, with_own}
@@ -70,7 +70,7 @@ module _ {K V S : Type 0} (same : K → K → Bool) (hashes : S → K → ℕ) (
   call_steps = call_plan same same (hashes hasher.now)
 
   -- what it has answered
-  pub answered : (c : KeyCall K V K) (m n : Mem (Node K V)) (answer : KeyAnswer) → Tells (CallGoes {T = Node K V}) Took value_at call_steps c m n (called.Done answer)
+  pub answered : (c : KeyCall K V K) (m n : Mem (Node K V)) (answer : KeyAnswer) → EndsTelling (CallGoes {T = Node K V}) Took value_at call_steps c m n (called.Done answer)
       → StoresTo same hashes (on_call hasher c) m n (Ok (stop.Answered answer), None)
   answered c m n answer t = let r = runs_out same same hashes hasher c m n answer t in (on_call hasher r.0, r.1, refl)
 

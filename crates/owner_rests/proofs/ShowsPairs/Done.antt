@@ -15,8 +15,8 @@ use Rattle.seize_words.specs.declared.operation.Operation.{Operation}
 use Rattle.seize_words.specs.declared.operation.Operation.TheVariants as operation
 use Rattle.owner_rests.specs.Given.{found_by, left_by}
 use Rattle.map_straight.specs.Shown.Chain.{CountsTables, root_link}
-use Rattle.owner_rests.specs.Rests.Asking.{HasDone, HasComputed, IsRefusedFor, ComesToIt, ComputesToIt}
-use Rattle.owner_rests.specs.Rests.Lasts.{RestsWith}
+use Rattle.owner_rests.specs.Rests.Asking.{HasDone, HasComputed, IsRefusedFor, ChangeHasOutcome, ComputesToIt}
+use Rattle.owner_rests.specs.Rests.Lasts.{QuiescentWith}
 use Rattle.owner_rests.specs.declared.last.Last.{Last}
 use Rattle.owner_rests.proofs.Rests.Lasts.{met_shown, taken_shown}
 use Rattle.owner_rests.specs.ShowsPairs.Maps.{pairs_shown}
@@ -31,7 +31,7 @@ use Rattle.owner_rests.proofs.ShowsPairs.Shows.{shown_as}
 -- the map rests with some pairs, whatever was done, and what its words name can be looked at
 module _ {K V : Type 0} (same : K → K → Bool) (hash : K → ℕ) (setting : Setting) (m : Mem (Node K V)) (last : Last) (keys : K → Bool) (its : Option K) (xs : List (K × V)) where
   abbrev With : List (K × V) → Option (K × V) → Option (K × V) → Type 0
-  With = RestsWith same hash setting m last
+  With = QuiescentWith same hash setting m last
 
   module _ (Told : Option (K × V) → MachineReply V → Type 0) where
     done_rests : (done : Change) → HasDone keys its Told xs With done → Rested same hash setting m last
@@ -41,7 +41,7 @@ module _ {K V : Type 0} (same : K → K → Bool) (hash : K → ℕ) (setting : 
     done_rests change.Replaced d = rested same hash setting m last (left_by keys xs ++ ((d.1, d.2) ∷ [])) (Some d.0) (Some (d.1, d.2)) d.6
     done_rests change.Removed d = rested same hash setting m last (left_by keys xs) (Some d.0) None d.3
 
-    pub comes_rests : {E : Type 0} (fault_of : E → Fault) (r : Result Change E) → ComesToIt keys its Told xs With fault_of r → Rested same hash setting m last
+    pub comes_rests : {E : Type 0} (fault_of : E → Fault) (r : Result Change E) → ChangeHasOutcome keys its Told xs With fault_of r → Rested same hash setting m last
     comes_rests fault_of (Ok done) d = done_rests done d
     comes_rests fault_of (Err e) d = rested same hash setting m last xs None None d.1
 
@@ -85,11 +85,11 @@ module _ {K V : Type 0} (same : K → K → Bool) (hash : K → ℕ) (setting : 
       )
       shows_change change.Removed d = (d.0, is ∙ d.1, d.2, shows_with (left_by keys xs) (left_by keys zs) (Some d.0) None d.3 (left_same keys xs zs order))
 
-      pub shows_changed : {E : Type 0} (fault_of : E → Fault) (r : Result Change E) → ComesToIt keys its Told xs With fault_of r → IfOk r (λ done. HasDone keys its Told zs shows done)
+      pub shows_changed : {E : Type 0} (fault_of : E → Fault) (r : Result Change E) → ChangeHasOutcome keys its Told xs With fault_of r → IfOk r (λ done. HasDone keys its Told zs shows done)
       shows_changed fault_of (Ok done) d = shows_change done d
       shows_changed fault_of (Err e) d = tt
 
-      pub shows_unchanged : {E : Type 0} (fault_of : E → Fault) (r : Result Change E) → ComesToIt keys its Told xs With fault_of r → OnErr r (shows zs None None)
+      pub shows_unchanged : {E : Type 0} (fault_of : E → Fault) (r : Result Change E) → ChangeHasOutcome keys its Told xs With fault_of r → OnErr r (shows zs None None)
       shows_unchanged fault_of (Ok done) d = tt
       shows_unchanged fault_of (Err e) d = shows_with xs zs None None d.1 order
 
@@ -111,7 +111,7 @@ module _ {K V T : Type 0} (same : K → K → Bool) (hash : K → ℕ) (setting 
   why_so fault (inl room) = inl room
   why_so fault (inr so) = inr (so.0, is ∙ so.1, so.2)
 
-  pub shows_why : {E : Type 0} (fault_of : E → Fault) (r : Result (ComputedChange T) E) → ComputesToIt keys its Gives xs (RestsWith same hash setting m last) fault_of r → IfErr r (λ e. IsRefusedFor keys (Computing Gives) zs (fault_of e))
+  pub shows_why : {E : Type 0} (fault_of : E → Fault) (r : Result (ComputedChange T) E) → ComputesToIt keys its Gives xs (QuiescentWith same hash setting m last) fault_of r → IfErr r (λ e. IsRefusedFor keys (Computing Gives) zs (fault_of e))
   shows_why fault_of (Ok (compute.Changed done)) d = tt
   shows_why fault_of (Ok (compute.Aborted end)) d = tt
   shows_why fault_of (Err e) d = why_so (fault_of e) d.0
@@ -122,6 +122,6 @@ module _ {K V : Type 0} (same : K → K → Bool) (hash : K → ℕ) (setting : 
   why_room fault (inl room) never = room
   why_room fault (inr so) never = absurd (never so.2)
 
-  pub room_alone : {E : Type 0} (fault_of : E → Fault) (r : Result Change E) → ComesToIt keys its Told xs (RestsWith same hash setting m last) fault_of r → (Told None reply.Remove → ⊥) → IfErr r (λ e. IsRoom (fault_of e))
+  pub room_alone : {E : Type 0} (fault_of : E → Fault) (r : Result Change E) → ChangeHasOutcome keys its Told xs (QuiescentWith same hash setting m last) fault_of r → (Told None reply.Remove → ⊥) → IfErr r (λ e. IsRoom (fault_of e))
   room_alone fault_of (Ok done) d never = tt
   room_alone fault_of (Err e) d never = why_room (fault_of e) d.0 never

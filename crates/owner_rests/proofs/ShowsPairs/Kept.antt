@@ -5,13 +5,13 @@ use Rattle.seize_words.specs.OneMemory.Mem.{Mem}
 use Rattle.map_tables.specs.declared.node.Node.{Node}
 use Rattle.map_tables.specs.declared.setting.Setting.{Setting}
 use Rattle.owner_rests.specs.Given.{Holds}
-use Rattle.owner_rests.specs.Rests.Lasts.{RestsWith, is_named, pair_in}
+use Rattle.owner_rests.specs.Rests.Lasts.{QuiescentWith, is_named, pair_in}
 use Rattle.owner_rests.specs.declared.last.Last.{Last}
 use Rattle.owner_rests.proofs.Rests.Lasts.{met_named, met_shown, taken_named, taken_shown}
 
 module _ {K V : Type 0} (same : K → K → Bool) (hash : K → ℕ) (setting : Setting) (m : Mem (Node K V)) (last : Last) where
   abbrev pub With : List (K × V) → Option (K × V) → Option (K × V) → Type 0
-  With = RestsWith same hash setting m last
+  With = QuiescentWith same hash setting m last
 
   -- these pairs are shown
   abbrev pub Shown : Option (K × V) → Option (K × V) → Type 0

@@ -14,11 +14,11 @@ use Rattle.map_tables.specs.declared.node.Node.{Node}
 use Rattle.map_tables.specs.declared.setting.Setting.{Setting}
 use Rattle.map_tables.specs.Chunks.{is_incremental}
 use Rattle.map_straight.specs.Given.RuleWords.{root_word}
-use Rattle.owner_calls.specs.Owned.Rooms.{CannotMakeRoom, HasRoomFor, NeedTooMany, ShowTables}
+use Rattle.owner_calls.specs.Owned.Rooms.{CannotMakeRoom, HasRoomFor, NeedTooMany, RepresentTables}
 use Rattle.papaya_raw.specs.Given.ReservesReserve.{needed}
 use Rattle.owner_rests.proofs.Given.{one_each_below, keeps_by_test, holds_stands, holds_moves_none, holds_pairs}
 use Rattle.map_straight.specs.Shown.Chain.{CannotGrow, CannotGrowIn, CountsTables, FirstHas, HasTables, behind, one_count, pairs_from_root, pairs_on, root_link, shape_of, shapes_on, word_or_none}
-use Rattle.map_straight.specs.Shown.Shown.{NoneMoves, Stands, pairs_stored}
+use Rattle.map_straight.specs.Shown.Shown.{NoneMoves, HasMap, pairs_stored}
 use Rattle.map_straight.proofs.Shown.Chains.{root_counts, all_shown}
 use denote.Ref.{Bor}
 use Rattle.std.specs.Fn.{Mut}
@@ -29,7 +29,7 @@ use Rattle.owner_asks.proofs.Pairs.Orders.{apart_same, found_same, kept_in_any_o
 use Rattle.owner_rests.proofs.ShowsPairs.Ordered.{apart_each, keeps_same}
 
 module _ {K V : Type 0} (same : K → K → Bool) (hash : K → ℕ) (setting : Setting) (m : Mem (Node K V)) (xs : List (K × V)) (h : Holds same hash setting m xs) where
-  stands : Stands same hash m setting h.chart h.blocks
+  stands : HasMap same hash m setting h.chart h.blocks
   stands = holds_stands same hash setting m xs h
 
   first_there : word_at m (Root setting.root) ≡ Some (root_word hash h.chart h.blocks)
@@ -125,7 +125,7 @@ first_has m setting (suc n, has) additional count count2 same room =
     (subst (λ (len : ℕ). needed additional count ≤ len) (sym (ap (λ (shape : ℕ × ℕ). shape.0) (ap shape_of at_root))) room.places)
 
 -- of a map that was just made they show the tables that it was made with
-pub made_shown : {K V : Type 0} (m : Mem (Node K V)) (setting : Setting) (tables : CountsTables m (root_link m setting)) (shapes shapes2 : List (ℕ × ℕ)) → ShowTables setting m shapes → shapes ≡ shapes2
+pub made_shown : {K V : Type 0} (m : Mem (Node K V)) (setting : Setting) (tables : CountsTables m (root_link m setting)) (shapes shapes2 : List (ℕ × ℕ)) → RepresentTables setting m shapes → shapes ≡ shapes2
     → tables_shown m setting tables ≡ shapes2
 unfolding tables_shown
 made_shown m setting tables shapes shapes2 (counted, are) same =

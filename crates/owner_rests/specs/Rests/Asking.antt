@@ -56,9 +56,9 @@ module _ {K V : Type 0} (keys : K → Bool) (its : Option K) (Told : Option (K �
   HasDone change.Removed = (x : K × V) × (found_by keys xs ≡ Some x) × Told (Some x) reply.Remove × After (left_by keys xs) (Some x) None
 
   -- what it has come to
-  abbrev pub ComesToIt : {E : Type 0} → (E → Fault) → Result Change E → Type 0
-  ComesToIt fault_of (Ok done) = HasDone done
-  ComesToIt fault_of (Err e) = IsRefusedFor keys Told xs (fault_of e) × After xs None None
+  abbrev pub ChangeHasOutcome : {E : Type 0} → (E → Fault) → Result Change E → Type 0
+  ChangeHasOutcome fault_of (Ok done) = HasDone done
+  ChangeHasOutcome fault_of (Err e) = IsRefusedFor keys Told xs (fault_of e) × After xs None None
 
 -- so of a computing, which gives these operations
 module _ {K V T : Type 0} (keys : K → Bool) (its : Option K) (Gives : Option (K × V) → Operation V T → Type 0) (xs : List (K × V)) (After : List (K × V) → Option (K × V) → Option (K × V) → Type 0) where

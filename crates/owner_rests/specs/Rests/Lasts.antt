@@ -64,7 +64,7 @@ module _ {K V : Type 0} where
 
 -- The map rests in this memory with these pairs, and the words name the pair that the last change took out of it, if it took one, and the one that it met at its
 -- key or put there, if there is one. Both can be looked at.
-pub record RestsWith {K V : Type 0} (same : K → K → Bool) (hash : K → ℕ) (setting : Setting) (m : Mem (Node K V)) (last : Last) (xs : List (K × V)) (taken met : Option (K × V)) : Type 0 where
+pub record QuiescentWith {K V : Type 0} (same : K → K → Bool) (hash : K → ℕ) (setting : Setting) (m : Mem (Node K V)) (last : Last) (xs : List (K × V)) (taken met : Option (K × V)) : Type 0 where
   pub holds : Holds same hash setting m xs
   pub taken_is : IsPairOf m last.taken taken
   pub met_is : IsPairOf m last.met met

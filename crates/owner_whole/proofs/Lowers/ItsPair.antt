@@ -12,7 +12,7 @@ use Rattle.map_tables.specs.declared.finding.Finding.TheVariants as is
 use Rattle.map_tables.specs.declared.node.Node.{Node}
 use Rattle.map_tables.specs.declared.setting.Setting.{Setting}
 use Rattle.papaya_raw.specs.Call.{call_plan, plan_at, probes}
-use Rattle.papaya_raw.specs.CallPoints.{aim_of, told_of, told}
+use Rattle.papaya_raw.specs.CallPoints.{aim_of, after_finding, told}
 use Rattle.papaya_raw.specs.declared.machines.answer.Called.{Called}
 use Rattle.papaya_raw.specs.declared.machines.answer.Called.TheVariants as called
 use Rattle.papaya_raw.specs.declared.machines.call.KeyCall.{KeyCall}
@@ -45,12 +45,12 @@ module _ {K V Q : Type 0} where
   waits_not (q, called.Refused fault) on e = cc e
 
   -- it waits by a word alone that is being copied
-  told_waits : (p : KeyCall K V Q) (loaded : Bool) (word : ℕ) (x : Finding) → (told_of {V = V} loaded p word x).1 ≡ called.Waits → x ≡ is.Copying
+  told_waits : (p : KeyCall K V Q) (loaded : Bool) (word : ℕ) (x : Finding) → (after_finding {V = V} loaded p word x).1 ≡ called.Waits → x ≡ is.Copying
   told_waits p loaded word is.Copying e = refl
-  told_waits p loaded word is.Free e = absurd (waits_not (told_of {V = V} loaded p word is.Free) (told_goes loaded p word is.Free (λ l f. cc f)) e)
-  told_waits p loaded word is.Passed e = absurd (waits_not (told_of {V = V} loaded p word is.Passed) (told_goes loaded p word is.Passed (λ l f. cc f)) e)
-  told_waits p loaded word is.Moved e = absurd (waits_not (told_of {V = V} loaded p word is.Moved) (told_goes loaded p word is.Moved (λ l f. cc f)) e)
-  told_waits p loaded word is.There e = absurd (waits_not (told_of {V = V} loaded p word is.There) (told_goes loaded p word is.There (λ l f. cc f)) e)
+  told_waits p loaded word is.Free e = absurd (waits_not (after_finding {V = V} loaded p word is.Free) (told_goes loaded p word is.Free (λ l f. cc f)) e)
+  told_waits p loaded word is.Passed e = absurd (waits_not (after_finding {V = V} loaded p word is.Passed) (told_goes loaded p word is.Passed (λ l f. cc f)) e)
+  told_waits p loaded word is.Moved e = absurd (waits_not (after_finding {V = V} loaded p word is.Moved) (told_goes loaded p word is.Moved (λ l f. cc f)) e)
+  told_waits p loaded word is.There e = absurd (waits_not (after_finding {V = V} loaded p word is.There) (told_goes loaded p word is.There (λ l f. cc f)) e)
 
 module _ {K V Q : Type 0} (same : K → K → Bool) (hash : K → ℕ) (asks : Q → K → Bool) (caller : ℕ) (setting : Setting) (keys : K → Bool) (lawful : AreLawful same hash)
     (w : World (Node K V)) (c : Chart K) (blocks : Blocks) (map : IsMapIn same hash setting w c blocks) (p : KeyCall K V Q) (change : Change)

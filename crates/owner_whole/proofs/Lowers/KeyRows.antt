@@ -19,7 +19,7 @@ use Rattle.map_measures.specs.Given.PointsMeasures.{IsBelow}
 use Rattle.owner_facts.specs.Given.PointsSteps.{AreLawful}
 use Rattle.owner_facts.specs.Given.PointsTold.{IsRowOfCall}
 use Rattle.map_measures.specs.Given.CallersRows.{row_of, once_over}
-use Rattle.owner_facts.specs.Given.CallersSights.{Sight, IsPartOf}
+use Rattle.owner_facts.specs.Given.CallersSights.{Visible, IsPartOf}
 use Rattle.owner_facts.specs.Given.CallersTogether.{UnderWay, CallOnKey, OnKey, Together}
 use Rattle.map_measures.specs.Falls.Calls.{number_of_call}
 use Rattle.map_measures.specs.Falls.Falls.{GoesFurther}
@@ -38,9 +38,9 @@ settles_on (settled.Gave value) going goes = refl
 settles_on settled.Done going goes = absurd (cc going)
 
 module _ {K V Q : Type 0} (same : K → K → Bool) (hash : K → ℕ) (asks : Q → K → Bool) (setting : Setting) (slot : ℕ → ℕ) (lawful : AreLawful same hash)
-    (w : World (Node K V)) (c : Chart K) (blocks : Blocks) (sights : ℕ → Sight) (calls : ℕ → Option (UnderWay K V Q)) (s : Together V same hash asks setting slot w c blocks sights calls)
+    (w : World (Node K V)) (c : Chart K) (blocks : Blocks) (sights : ℕ → Visible) (calls : ℕ → Option (UnderWay K V Q)) (s : Together V same hash asks setting slot w c blocks sights calls)
     (i : ℕ) (inside : IsInside (w.uses (slot i))) (u : CallOnKey K V Q) (has : calls i ≡ Some (OnKey u)) (is_row : IsRowOfCall u.call.stands)
-    (w2 : World (Node K V)) (blocks2 : Blocks) (part : IsPartOf c blocks2 blocks) (sights2 : ℕ → Sight) (calls2 : ℕ → Option (UnderWay K V Q))
+    (w2 : World (Node K V)) (blocks2 : Blocks) (part : IsPartOf c blocks2 blocks) (sights2 : ℕ → Visible) (calls2 : ℕ → Option (UnderWay K V Q))
     (then : Together V same hash asks setting slot w2 c blocks2 sights2 calls2) (inside2 : IsInside (w2.uses (slot i))) (u2 : CallOnKey K V Q) (has2 : calls2 i ≡ Some (OnKey u2))
     (m2 : Mem (Node K V)) (end : Called (Node K V)) (st : Steps Took value_at w.memory (call_plan asks same hash u.call) m2 (u2.call, end)) (goes : GoesFurther end) where
   in_row : KeyWithin same hash asks setting slot lawful w c blocks sights calls s i inside u

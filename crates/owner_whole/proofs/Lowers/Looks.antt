@@ -18,7 +18,7 @@ use Rattle.map_tables.specs.declared.resize_mode.ResizeMode.{ResizeMode}
 use Rattle.map_tables.specs.declared.setting.Setting.{Setting}
 use Rattle.map_tables.specs.declared.table.Table.{Table}
 use Rattle.map_tables.specs.declared.trial.Trial.{Trial}
-use Rattle.map_measures.specs.Given.ResizeLookup.{answered, going, passed, told_of, plan_at, lookup_plan}
+use Rattle.map_measures.specs.Given.ResizeLookup.{answered, going, passed, after_finding, plan_at, lookup_plan}
 use Rattle.map_measures.specs.Given.ResizeDeclared.lookup.Lookup.{Lookup}
 use Rattle.map_measures.specs.Given.ResizeDeclared.lookup.Looking.{Looking}
 use Rattle.map_measures.specs.Given.ResizeDeclared.lookup.Looking.TheVariants as looks
@@ -43,15 +43,15 @@ use Rattle.owner_facts.specs.Given.PointsFactsCalls.{CallingFacts, CallFacts}
 use Rattle.map_measures.specs.Given.PointsFactsLooks.{LookupFacts}
 use Rattle.map_measures.specs.Given.PointsMeasuresLooks.{IsLoad, HasEnded, LoadLeads, LookupLeads, HasLooked, begun, further}
 use Rattle.owner_facts.specs.Given.PointsSteps.{AreLawful}
-use Rattle.owner_facts.specs.Given.PointsTold.{IsRowOfCall, LookupTold}
+use Rattle.owner_facts.specs.Given.PointsTold.{IsRowOfCall, LookupOutcome}
 use Rattle.owner_facts.proofs.Given.PointsLookups.LooksAsked.{class_asked, lookup_asked}
 use Rattle.owner_facts.proofs.Given.PointsLookups.LookupsShort.{lookups_are_short}
 use Rattle.owner_facts.proofs.Given.PointsLookups.Points.{went_lookup_leads}
 use Rattle.owner_facts.proofs.Given.PointsLookups.Reads.{SeesPlace, sees_place, probes_tell}
-use Rattle.owner_facts.specs.Given.LateLateCalls.{LateCalling, LateCallFacts}
-use Rattle.map_measures.specs.Given.LateLateLooks.{LateLooking}
+use Rattle.owner_facts.specs.Given.LateLateCalls.{SupersededCalling, SupersededCallFacts}
+use Rattle.map_measures.specs.Given.LateLateLooks.{SupersededLooking}
 use Rattle.owner_facts.specs.Given.CallersSights.{seen_by}
-use Rattle.owner_facts.specs.Given.CallersTogether.{UnderWay, CallOnKey, OnKey, ForRoom, Counting, OverAll, in_slot, Stands, Together}
+use Rattle.owner_facts.specs.Given.CallersTogether.{UnderWay, CallOnKey, OnKey, ForRoom, Counting, OverAll, in_slot, IsAtPoint, Together}
 use Rattle.owner_facts.specs.Given.FinishesEndings.{Finishing, EndingsTogether}
 use Rattle.owner_facts.specs.Given.FinishesMakings.{Beginning}
 use Rattle.owner_facts.specs.Given.FinishesMaps.{Standing}
@@ -92,7 +92,7 @@ module _ {K V : Type 0} (same : K → K → Bool) (hash : K → ℕ) (lawful : A
   fresh_on facts =
       let went = went_lookup_leads same hash lawful.lawful lawful.fits mode root keys code class m c blocks map l facts m2 end st in told end went.1 went.2
     where
-      told : (x : Lookup × Stepped (Option ℕ)) → LookupTold same hash mode root keys code c blocks x → LookupLeads l.stands x → WentOn l.stands x
+      told : (x : Lookup × Stepped (Option ℕ)) → LookupOutcome same hash mode root keys code c blocks x → LookupLeads l.stands x → WentOn l.stands x
       told (next, stepped.Goes) known leads = leads
       told (next, stepped.Waits) known leads = known
       told (next, stepped.Done found) known leads = tt
@@ -121,7 +121,7 @@ module _ {K V : Type 0} (same : K → K → Bool) (hash : K → ℕ) (lawful : A
     sees : SeesPlace hash keys code m c blocks trial t (c.place t (spot_at (c.len t) code j))
     sees = sees_place same hash lawful.fits mode root keys code class m c blocks map trial t j tries
 
-    told_on : (word : ℕ) (f : Finding) → WentOn From (told_of l trial word f)
+    told_on : (word : ℕ) (f : Finding) → WentOn From (after_finding l trial word f)
     told_on word is.Free = tt
     told_on word is.Passed = passed_on (next_trial trial) (next_is c blocks code t trial j tries sees.sized (map.rule.common.lens t tries.table.made).1)
     told_on word is.Moved = beyond_on true
@@ -175,9 +175,9 @@ module _ {K Q : Type 0} (V : Type 0) (same : K → K → Bool) (asks : Q → K �
               (lookup_asked same s.hash its.mode its.root u.keys (asks f.3) f.5 u.call.hash s.chart seen lookup f.6);
         }
 
-    late : LateCallFacts same s.hash asks w i its s.chart seen u.keys u.began u.call → Asked
+    late : SupersededCallFacts same s.hash asks w i its s.chart seen u.keys u.began u.call → Asked
     late facts =
-        let f = subst (λ (x : Calling). LateCalling same s.hash asks w i its s.chart seen u.keys u.began u.call x) at_look facts.point in
+        let f = subst (λ (x : Calling). SupersededCalling same s.hash asks w i its s.chart seen u.keys u.began u.call x) at_look facts.point in
         let class = class_asked same s.hash its.mode its.root u.keys (asks f.3) f.5 u.call.hash facts.class in
         record {
           asked = f.3;
@@ -188,7 +188,7 @@ module _ {K Q : Type 0} (V : Type 0) (same : K → K → Bool) (asks : Q → K �
       where
         by : (keys : K → Bool) → IsClass same s.hash keys u.call.hash → lookup.hash ≡ u.call.hash → (m2 : Mem (Node K V)) (end : Lookup × Stepped (Option ℕ))
             → Steps Took value_at w.memory (lookup_plan keys lookup) m2 end → (x : Looking) → lookup.stands ≡ x
-            → LateLooking same s.hash u.keys u.call.hash s.chart seen u.began x → WentOn lookup.stands end
+            → SupersededLooking same s.hash u.keys u.call.hash s.chart seen u.began x → WentOn lookup.stands end
         by keys class hash_is m2 end st (looks.Probes trial) is point =
             late_on same s.hash lawful its.mode its.root keys u.call.hash class w.memory s.chart seen map.map lookup m2 end st trial point.0 point.1 point.2 hash_is is
         by keys class hash_is m2 end st looks.Roots is point = absurd point
@@ -198,7 +198,7 @@ module _ {K Q : Type 0} (V : Type 0) (same : K → K → Bool) (asks : Q → K �
     knows : Asked
     knows = by (stands.stand i (OnKey u) has)
       where
-        by : Stands V same s.hash asks s.setting slot w s.chart seen i (OnKey u) → Asked
+        by : IsAtPoint V same s.hash asks s.setting slot w s.chart seen i (OnKey u) → Asked
         by (inl (rests, known)) = elim known.facts as (λ _. Asked) [
           | inl facts ↦ fresh facts
           | inr facts ↦ late facts.1

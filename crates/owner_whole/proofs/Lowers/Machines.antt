@@ -38,7 +38,7 @@ use Rattle.owner_facts.specs.Given.CallersRooms.{CallForRoom}
 use Rattle.owner_facts.specs.Given.CallersTogether.{UnderWay, UnlessCounts, CallOnKey, OnKey, ForRoom, Counting, OverAll, Together, next_of, next_for_room, next_over_all}
 use Rattle.owner_facts.proofs.Given.CallersTogether.At.{at_same}
 use Rattle.owner_facts.specs.Given.FinishesEndings.{Finishing, EndingsTogether}
-use Rattle.owner_facts.specs.Given.FinishesMachines.{machine_of, DidOfKind, MachineStepsAmong}
+use Rattle.owner_facts.specs.Given.FinishesMachines.{machine_of, DidOfKind, MachineStepsWithEndings}
 use Rattle.owner_facts.specs.Given.FinishesMakings.{Beginning}
 use Rattle.owner_facts.specs.Given.FinishesMaps.{Standing, IsSameMap, with_call}
 use Rattle.map_measures.specs.Falls.Calls.{number_of_call}
@@ -46,9 +46,9 @@ use Rattle.map_measures.specs.Falls.Falls.{GoesFurther}
 use Rattle.map_measures.specs.Falls.FallsWithin.{GoesFurther as RoomGoesFurther}
 use Rattle.map_measures.specs.Falls.Reserves.{number_of_reserve}
 use Rattle.map_measures.proofs.Falls.Below.{below_followed}
-use Rattle.map_measures.specs.Passes.FallsSweeps.{ComesOn}
+use Rattle.map_measures.specs.Passes.FallsSweeps.{AdvancesFrom}
 use Rattle.map_measures.specs.Passes.Sweeps.{number_of_sweep}
-use Rattle.owner_whole.specs.Lowers.Lowers.{GoesOn, StepsLower}
+use Rattle.owner_whole.specs.Lowers.Lowers.{Continues, StepsLower}
 use Rattle.owner_whole.specs.Lowers.Numbers.{row_within, numbers_of}
 use Rattle.owner_whole.proofs.Lowers.KeyRows.{key_row_falls}
 use Rattle.owner_whole.proofs.Lowers.Own.{key_falls, room_falls}
@@ -62,7 +62,7 @@ use Rattle.map_measures.proofs.Passes.Promised.{sweep_numbers_are_as_many}
 
 -- What goes on as a machine goes on as that of its kind, and is under way on.
 
-goes_called : {T : Type 0} (x : Called T) → GoesOn (of_called x) → GoesFurther x
+goes_called : {T : Type 0} (x : Called T) → Continues (of_called x) → GoesFurther x
 goes_called called.Goes goes = tt
 goes_called called.Waits goes = absurd goes
 goes_called (called.Gave value) goes = tt
@@ -71,14 +71,14 @@ goes_called (called.Asks asked) goes = absurd goes
 goes_called (called.Done answer) goes = absurd goes
 goes_called (called.Refused fault) goes = absurd goes
 
-goes_room : {T : Type 0} (x : Yielding T Unit) → GoesOn (of_outcome x) → RoomGoesFurther x
+goes_room : {T : Type 0} (x : Yielding T Unit) → Continues (of_outcome x) → RoomGoesFurther x
 goes_room outcome.Goes goes = tt
 goes_room outcome.Waits goes = absurd goes
 goes_room (outcome.Gave value) goes = tt
 goes_room (outcome.Done end) goes = absurd goes
 goes_room (outcome.Refused fault) goes = absurd goes
 
-goes_swept : {T : Type 0} (stands : Sweeping) (x : Swept T) → GoesOn (of_swept x) → ComesOn stands x
+goes_swept : {T : Type 0} (stands : Sweeping) (x : Swept T) → Continues (of_swept x) → AdvancesFrom stands x
 goes_swept stands swept.Goes goes = tt
 goes_swept stands swept.Waits goes = absurd goes
 goes_swept stands (swept.Gave value) goes = tt
@@ -88,7 +88,7 @@ goes_swept stands (swept.Asks word) goes = absurd goes
 goes_swept stands swept.Done goes = absurd goes
 goes_swept stands (swept.Refused fault) goes = absurd goes
 
-goes_counted : (T : Type 0) (x : Counted ℕ) → GoesOn {T = T} (of_counting x) → x ≡ counted.Goes
+goes_counted : (T : Type 0) (x : Counted ℕ) → Continues {T = T} (of_counting x) → x ≡ counted.Goes
 goes_counted T counted.Goes goes = refl
 goes_counted T counted.Waits goes = absurd goes
 goes_counted T (counted.Done sum) goes = absurd goes
@@ -111,7 +111,7 @@ module _ {K V Q : Type 0} where
   room_next r (outcome.Done end) goes = absurd goes
   room_next r (outcome.Refused fault) goes = absurd goes
 
-  sweep_next : (o : CallOverAll) (x : Swept (Node K V)) → GoesOn (of_swept x) → next_over_all {K = K} {V = V} {Q = Q} o x ≡ Some (OverAll o)
+  sweep_next : (o : CallOverAll) (x : Swept (Node K V)) → Continues (of_swept x) → next_over_all {K = K} {V = V} {Q = Q} o x ≡ Some (OverAll o)
   sweep_next o swept.Goes goes = refl
   sweep_next o swept.Waits goes = absurd goes
   sweep_next o (swept.Gave value) goes = refl
@@ -141,7 +141,7 @@ one_more xs n x is = length-append xs (x ∷ []) ∙ ap (λ (k : ℕ). k + 1) is
 module _ {K Q : Type 0} (V : Type 0) (same : K → K → Bool) (asks : Q → K → Bool) (batch_size roots : ℕ) (slot : ℕ → ℕ) where
   module _ (w : World (Node K V)) (maps : ℕ → Option (Standing K)) (calls : ℕ → ℕ → Option (UnderWay K V Q)) (makers : ℕ → Option (Beginning K)) (enders : ℕ → Option (Finishing K V))
       (all : EndingsTogether V same asks batch_size roots slot w maps calls makers enders) (m : ℕ) (s : Standing K) (here : maps m ≡ Some s) (i : ℕ)
-      (m2 : Mem (Node K V)) (machine : Machine K V Q) (told : Progress (Node K V)) (goes : GoesOn told) where
+      (m2 : Mem (Node K V)) (machine : Machine K V Q) (told : Progress (Node K V)) (goes : Continues told) where
     stands : Together V same s.hash asks s.setting slot w s.chart s.blocks s.sights (calls m)
     stands = all.makings.standing.each m s here
 
@@ -149,7 +149,7 @@ module _ {K Q : Type 0} (V : Type 0) (same : K → K → Bool) (asks : Q → K �
     lawful = (all.makings.standing.fit m s here).0
 
     abbrev Leads : UnderWay K V Q → Type 0
-    Leads u = MachineStepsAmong V same asks batch_size roots slot w maps calls makers enders m s i m2 u machine told
+    Leads u = MachineStepsWithEndings V same asks batch_size roots slot w maps calls makers enders m s i m2 u machine told
 
     abbrev Before : UnderWay K V Q → List ℕ
     Before u = numbers_of left (slot i) s w.memory (machine_of u)
@@ -196,7 +196,7 @@ module _ {K Q : Type 0} (V : Type 0) (same : K → K → Bool) (asks : Q → K �
         e = steps_back machines.called w.memory m2 (call_plan asks same s.hash u.call) (machine, told) st
 
         goes_so : GoesFurther e.0.1
-        goes_so = goes_called e.0.1 (subst GoesOn (ap (λ (x : Machine K V Q × Progress (Node K V)). x.1) e.2) goes)
+        goes_so = goes_called e.0.1 (subst Continues (ap (λ (x : Machine K V Q × Progress (Node K V)). x.1) e.2) goes)
 
         is_so : (p2 : KeyCall K V Q) → machine ≡ kinds.Key p2 → e.0.0 ≡ p2
         is_so p2 mach = key_of e.0.0 p2 (sym (ap (λ (x : Machine K V Q × Progress (Node K V)). x.0) e.2) ∙ mach)
@@ -219,7 +219,7 @@ module _ {K Q : Type 0} (V : Type 0) (same : K → K → Bool) (asks : Q → K �
             )
         by (p2, end, mach, tells, inr (among, (world, same_maps, next_is))) =
             let u2 : CallOnKey K V Q = record { keys = u.keys; pair = u.pair; began = u.began; change = u.change; call = p2 } in
-            let is_next = next_is ∙ key_next u2 end (goes_called end (subst GoesOn tells goes)) in
+            let is_next = next_is ∙ key_next u2 end (goes_called end (subst Continues tells goes)) in
             let s3 : Standing K = s3 (OnKey u) to same_maps (OnKey u2) is_next in
             as_is (OnKey u) s2 s3 (kinds.Key p2) (standing_of s2 s3 (sym is ∙ (same_map (OnKey u) to same_maps (OnKey u2) is_next).2)) mach (
               key_row_falls same s.hash asks s.setting slot lawful w s.chart s.blocks s.sights (calls m) stands i (stands.inside i (OnKey u) has) u has among.is_row to.w2 s3.blocks
@@ -236,7 +236,7 @@ module _ {K Q : Type 0} (V : Type 0) (same : K → K → Bool) (asks : Q → K �
         e = steps_back machines.reserved w.memory m2 (reserve_plan s.hash r.reserve) (machine, told) st
 
         goes_so : RoomGoesFurther e.0.1
-        goes_so = goes_room e.0.1 (subst GoesOn (ap (λ (x : Machine K V Q × Progress (Node K V)). x.1) e.2) goes)
+        goes_so = goes_room e.0.1 (subst Continues (ap (λ (x : Machine K V Q × Progress (Node K V)). x.1) e.2) goes)
 
         st_so : (p2 : Reserve) → machine ≡ kinds.Reserve p2 → Steps Took value_at w.memory (reserve_plan s.hash r.reserve) m2 (p2, e.0.1)
         st_so p2 mach =
@@ -258,7 +258,7 @@ module _ {K Q : Type 0} (V : Type 0) (same : K → K → Bool) (asks : Q → K �
             )
         by (p2, end, mach, tells, inr (among, (world, same_maps, next_is))) =
             let r2 : CallForRoom = record { began = r.began; reserve = p2 } in
-            let is_next = next_is ∙ room_next {Q = Q} r2 end (goes_room end (subst GoesOn tells goes)) in
+            let is_next = next_is ∙ room_next {Q = Q} r2 end (goes_room end (subst Continues tells goes)) in
             let s3 : Standing K = s3 (ForRoom r) to same_maps (ForRoom r2) is_next in
             as_is (ForRoom r) s2 s3 (kinds.Reserve p2) (standing_of s2 s3 (sym is ∙ (same_map (ForRoom r) to same_maps (ForRoom r2) is_next).2)) mach (
               room_row_falls same s.hash asks s.setting slot lawful w s.chart s.blocks s.sights (calls m) stands i (stands.inside i (ForRoom r) has) r has among.is_row to.w2 s3.blocks
@@ -274,8 +274,8 @@ module _ {K Q : Type 0} (V : Type 0) (same : K → K → Bool) (asks : Q → K �
         e : (e : Sweep × Swept (Node K V)) × Steps Took value_at w.memory (sweep_plan s.hash o.sweep) m2 e × ((machine, told) ≡ machines.swept e)
         e = steps_back machines.swept w.memory m2 (sweep_plan s.hash o.sweep) (machine, told) st
 
-        goes_so : ComesOn o.sweep.stands e.0.1
-        goes_so = goes_swept o.sweep.stands e.0.1 (subst GoesOn (ap (λ (x : Machine K V Q × Progress (Node K V)). x.1) e.2) goes)
+        goes_so : AdvancesFrom o.sweep.stands e.0.1
+        goes_so = goes_swept o.sweep.stands e.0.1 (subst Continues (ap (λ (x : Machine K V Q × Progress (Node K V)). x.1) e.2) goes)
 
         st_so : (p2 : Sweep) → machine ≡ kinds.Sweep p2 → Steps Took value_at w.memory (sweep_plan s.hash o.sweep) m2 (p2, e.0.1)
         st_so p2 mach =
@@ -297,7 +297,7 @@ module _ {K Q : Type 0} (V : Type 0) (same : K → K → Bool) (asks : Q → K �
             )
         by (p2, end, mach, tells, inr (among, (world, same_maps, next_is))) =
             let o2 : CallOverAll = gone_on o p2 in
-            let is_next = next_is ∙ sweep_next {Q = Q} o2 end (subst GoesOn tells goes) in
+            let is_next = next_is ∙ sweep_next {Q = Q} o2 end (subst Continues tells goes) in
             let s3 : Standing K = s3 (OverAll o) to same_maps (OverAll o2) is_next in
             as_is (OverAll o) s2 s3 (kinds.Sweep p2) (standing_of s2 s3 (sym is ∙ (same_map (OverAll o) to same_maps (OverAll o2) is_next).2)) mach (
               sweep_row_falls same s.hash asks s.setting slot lawful w s.chart s.blocks s.sights (calls m) stands i (stands.inside i (OverAll o) has) o has among.is_row to.w2 s3.blocks
@@ -310,7 +310,7 @@ module _ {K Q : Type 0} (V : Type 0) (same : K → K → Bool) (asks : Q → K �
     at_sum : (sum : Sum) → Steps' (Counting sum) → (s2 : Standing K) → Lower (Counting sum) s2 machine
     at_sum sum st s2 =
         let e = steps_back machines.counted w.memory m2 (sum_plan sum) (machine, told) st in
-        let goes_so = goes_counted (Node K V) e.0.1 (subst GoesOn (ap (λ (x : Machine K V Q × Progress (Node K V)). x.1) e.2) goes) in
+        let goes_so = goes_counted (Node K V) e.0.1 (subst Continues (ap (λ (x : Machine K V Q × Progress (Node K V)). x.1) e.2) goes) in
         subst (λ (x : Machine K V Q). Lower (Counting sum) s2 x) (sym (ap (λ (x : Machine K V Q × Progress (Node K V)). x.0) e.2)) (
           below_followed (number_of_sum e.0.0) (number_of_sum sum) (left {K = K} {V = V} m2 (row_within {K = K} {V = V} {Q = Q} (slot i) (kinds.Count e.0.0)) ∷ [])
               (left {K = K} {V = V} w.memory (row_within {K = K} {V = V} {Q = Q} (slot i) (kinds.Count sum)) ∷ []) (sum_lowers w.memory sum m2 e.0 e.1 goes_so),

@@ -13,7 +13,7 @@ use Rattle.papaya_raw.specs.declared.machines.call.KeyCall.{KeyCall}
 use Rattle.papaya_raw.specs.Given.ReservesReserve.{reserve_plan}
 use Rattle.papaya_raw.specs.Given.ReservesDeclared.reserve.Reserve.{Reserve}
 use Rattle.map_measures.specs.Given.RuleChart.{Chart}
-use Rattle.map_measures.specs.Given.RuleInWorld.{IsMapIn, Went}
+use Rattle.map_measures.specs.Given.RuleInWorld.{IsMapIn, StepSpec}
 use Rattle.map_measures.specs.Given.RuleMaps.{IsMap}
 use Rattle.map_measures.specs.Given.RuleWords.{Blocks}
 use Rattle.map_measures.specs.Given.PointsMeasures.{IsBelow}
@@ -22,8 +22,8 @@ use Rattle.owner_facts.specs.Given.PointsSteps.{AreLawful}
 use Rattle.owner_facts.specs.Given.PointsTold.{IsRowOfCall}
 use Rattle.owner_facts.specs.Given.LateToldReserves.{IsRowOfReserve}
 use Rattle.owner_facts.specs.Given.CallersRooms.{CallForRoom}
-use Rattle.owner_facts.specs.Given.CallersSights.{Sight, seen_by, IsGrown, IsSight}
-use Rattle.owner_facts.specs.Given.CallersTogether.{UnderWay, CallOnKey, OnKey, ForRoom, in_slot, Stands, Together, StepsTogether, RoomStepsTogether}
+use Rattle.owner_facts.specs.Given.CallersSights.{Visible, seen_by, IsGrown, IsVisibility}
+use Rattle.owner_facts.specs.Given.CallersTogether.{UnderWay, CallOnKey, OnKey, ForRoom, in_slot, IsAtPoint, Together, StepsTogether, RoomStepsTogether}
 use Rattle.owner_facts.proofs.Given.CallersTogether.Fits.{map_in_slot}
 use Rattle.map_measures.specs.Falls.Calls.{number_of_call}
 use Rattle.map_measures.specs.Falls.Falls.{GoesFurther}
@@ -39,7 +39,7 @@ use Rattle.map_measures.proofs.Falls.Stands.{CallStands}
 use Rattle.owner_whole.proofs.Lowers.Widened as wide
 
 module _ {K V Q : Type 0} (same : K → K → Bool) (hash : K → ℕ) (asks : Q → K → Bool) (setting : Setting) (slot : ℕ → ℕ) (lawful : AreLawful same hash)
-    (w : World (Node K V)) (c : Chart K) (blocks : Blocks) (sights : ℕ → Sight) (calls : ℕ → Option (UnderWay K V Q)) (s : Together V same hash asks setting slot w c blocks sights calls)
+    (w : World (Node K V)) (c : Chart K) (blocks : Blocks) (sights : ℕ → Visible) (calls : ℕ → Option (UnderWay K V Q)) (s : Together V same hash asks setting slot w c blocks sights calls)
     (i : ℕ) (inside : IsInside (w.uses (slot i))) where
   abbrev pub here : Setting
   here = in_slot setting (slot i)
@@ -50,12 +50,12 @@ module _ {K V Q : Type 0} (same : K → K → Bool) (hash : K → ℕ) (asks : Q
   pub map : IsMapIn same hash here w c blocks
   map = map_in_slot same hash setting w c blocks (slot i) s.ground.map
 
-  pub sight : IsSight c blocks (sights (slot i))
+  pub sight : IsVisibility c blocks (sights (slot i))
   sight = (s.ground.sight (slot i) inside).0
 
   -- the memory shows what can be looked at before a step and after it
-  pub on : (m2 : Mem (Node K V)) (Told : World (Node K V) → Chart K → Blocks → Type 0) (went : Went same hash here i w c seen m2 Told) (blocks2 : Blocks) → IsGrown c blocks went.blocks2 blocks2
-      → (sights2 : ℕ → Sight) (calls2 : ℕ → Option (UnderWay K V Q)) → Together V same hash asks setting slot went.w2 went.c2 blocks2 sights2 calls2
+  pub on : (m2 : Mem (Node K V)) (Told : World (Node K V) → Chart K → Blocks → Type 0) (went : StepSpec same hash here i w c seen m2 Told) (blocks2 : Blocks) → IsGrown c blocks went.blocks2 blocks2
+      → (sights2 : ℕ → Visible) (calls2 : ℕ → Option (UnderWay K V Q)) → Together V same hash asks setting slot went.w2 went.c2 blocks2 sights2 calls2
       → Onward same hash here w.memory c blocks m2 went.c2 blocks2
   on m2 Told went blocks2 grown sights2 calls2 then = record {
     map = map.map;
@@ -73,7 +73,7 @@ module _ {K V Q : Type 0} (same : K → K → Bool) (hash : K → ℕ) (asks : Q
   pub key_stands : (u : CallOnKey K V Q) → calls i ≡ Some (OnKey u) → (IsRowOfCall u.call.stands → ⊥) → CallStands here w.memory c blocks u.call
   key_stands u has none = wide.call here w.memory c blocks (sights (slot i)) sight u.call (by (s.stand i (OnKey u) has))
     where
-      by : Stands V same hash asks setting slot w c seen i (OnKey u) → CallStands here w.memory c seen u.call
+      by : IsAtPoint V same hash asks setting slot w c seen i (OnKey u) → CallStands here w.memory c seen u.call
       by (inl (rests, knows)) = elim knows.facts as (λ _. CallStands here w.memory c seen u.call) [
         | inl fresh ↦ call_stands same hash asks w i here c seen u.keys u.change u.call fresh
         | inr late ↦ late_call_stands same hash asks w i here c seen u.keys u.began u.call late.1
@@ -92,7 +92,7 @@ module _ {K V Q : Type 0} (same : K → K → Bool) (hash : K → ℕ) (asks : Q
   pub room_stands : (r : CallForRoom) → calls i ≡ Some (ForRoom r) → (IsRowOfReserve r.reserve.stands → ⊥) → ReserveStands here w.memory c blocks r.reserve
   room_stands r has none = wide.reserve here w.memory c blocks (sights (slot i)) sight r.reserve (by (s.stand i (ForRoom r) has))
     where
-      by : Stands V same hash asks setting slot w c seen i (ForRoom r) → ReserveStands here w.memory c seen r.reserve
+      by : IsAtPoint V same hash asks setting slot w c seen i (ForRoom r) → ReserveStands here w.memory c seen r.reserve
       by (inl (rests, knows)) = elim knows.facts as (λ _. ReserveStands here w.memory c seen r.reserve) [
         | inl fresh ↦ reserve_stands same hash w i here c seen r.reserve fresh
         | inr late ↦ late_reserve_stands same hash w i here c seen r.began r.reserve late

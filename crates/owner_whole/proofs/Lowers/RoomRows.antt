@@ -19,7 +19,7 @@ use Rattle.map_measures.specs.Given.PointsMeasures.{IsBelow}
 use Rattle.owner_facts.specs.Given.PointsSteps.{AreLawful}
 use Rattle.owner_facts.specs.Given.LateToldReserves.{IsRowOfReserve}
 use Rattle.owner_facts.specs.Given.CallersRooms.{CallForRoom, row_of_room, room_once_over}
-use Rattle.owner_facts.specs.Given.CallersSights.{Sight, IsPartOf}
+use Rattle.owner_facts.specs.Given.CallersSights.{Visible, IsPartOf}
 use Rattle.owner_facts.specs.Given.CallersTogether.{UnderWay, ForRoom, Together}
 use Rattle.map_measures.specs.Falls.FallsWithin.{GoesFurther}
 use Rattle.map_measures.specs.Falls.Reserves.{number_of_reserve}
@@ -38,9 +38,9 @@ settles_on (settled.Gave value) going goes = refl
 settles_on settled.Done going goes = absurd (cc going)
 
 module _ {K V Q : Type 0} (same : K → K → Bool) (hash : K → ℕ) (asks : Q → K → Bool) (setting : Setting) (slot : ℕ → ℕ) (lawful : AreLawful same hash)
-    (w : World (Node K V)) (c : Chart K) (blocks : Blocks) (sights : ℕ → Sight) (calls : ℕ → Option (UnderWay K V Q)) (s : Together V same hash asks setting slot w c blocks sights calls)
+    (w : World (Node K V)) (c : Chart K) (blocks : Blocks) (sights : ℕ → Visible) (calls : ℕ → Option (UnderWay K V Q)) (s : Together V same hash asks setting slot w c blocks sights calls)
     (i : ℕ) (inside : IsInside (w.uses (slot i))) (r : CallForRoom) (has : calls i ≡ Some (ForRoom r)) (is_row : IsRowOfReserve r.reserve.stands)
-    (w2 : World (Node K V)) (blocks2 : Blocks) (part : IsPartOf c blocks2 blocks) (sights2 : ℕ → Sight) (calls2 : ℕ → Option (UnderWay K V Q))
+    (w2 : World (Node K V)) (blocks2 : Blocks) (part : IsPartOf c blocks2 blocks) (sights2 : ℕ → Visible) (calls2 : ℕ → Option (UnderWay K V Q))
     (then : Together V same hash asks setting slot w2 c blocks2 sights2 calls2) (inside2 : IsInside (w2.uses (slot i))) (r2 : CallForRoom) (has2 : calls2 i ≡ Some (ForRoom r2))
     (m2 : Mem (Node K V)) (end : Yielding (Node K V) Unit) (st : Steps Took value_at w.memory (reserve_plan hash r.reserve) m2 (r2.reserve, end)) (goes : GoesFurther end) where
   in_row : RoomWithin same hash asks setting slot lawful w c blocks sights calls s i inside r

@@ -22,14 +22,14 @@ use Rattle.map_measures.specs.Given.RuleWords.{Blocks}
 use Rattle.map_measures.specs.Given.PointsMeasures.{IsBelow}
 use Rattle.owner_facts.specs.Given.PointsSteps.{AreLawful}
 use Rattle.owner_facts.specs.Given.LateFactsSweeps.{CopiesPairs, GoesOver, SweepingFacts}
-use Rattle.map_measures.specs.Given.LateRowsSweeps.{Rests}
+use Rattle.map_measures.specs.Given.LateRowsSweeps.{KnowsInRow}
 use Rattle.owner_facts.specs.Given.LateToldSweeps.{IsRowOfSweep}
 use Rattle.owner_facts.specs.Given.CallersOverAll.{CallOverAll, row_of_sweep, past_sweeping, sweep_once_over}
-use Rattle.owner_facts.specs.Given.CallersSights.{Sight, seen_by, IsPartOf}
+use Rattle.owner_facts.specs.Given.CallersSights.{Visible, seen_by, IsPartOf}
 use Rattle.owner_facts.specs.Given.CallersTogether.{UnderWay, OverAll, in_slot, Together}
 use Rattle.owner_facts.proofs.Given.CallersTogether.Fits.{map_in_slot}
 use Rattle.map_measures.proofs.Falls.Below.{below_followed}
-use Rattle.map_measures.specs.Passes.FallsSweeps.{ComesOn}
+use Rattle.map_measures.specs.Passes.FallsSweeps.{AdvancesFrom}
 use Rattle.map_measures.specs.Passes.Sweeps.{number_of_sweep}
 use Rattle.map_measures.proofs.Passes.Laws.{sweep_rows_fall}
 use Rattle.owner_whole.proofs.Whole.Sweeps.Account.{sweep_told_by, TableRetired, SweepAccount, SweepSettling, SweepDeferring, TableOver, PairOver, sweep_account}
@@ -40,18 +40,18 @@ use Rattle.owner_whole.proofs.Lowers.Swept as swept_own
 use Rattle.owner_whole.proofs.Lowers.Within.{SweepWithin, sweep_within, sweep_at_row, sweep_behind}
 
 -- a retirement that goes on does not wait
-settles_on : {T : Type 0} (x : Sweeping) (o : Settled T) → is_going o ≡ true → ComesOn x (sweep_told_by o) → goes_further o ≡ true
+settles_on : {T : Type 0} (x : Sweeping) (o : Settled T) → is_going o ≡ true → AdvancesFrom x (sweep_told_by o) → goes_further o ≡ true
 settles_on x settled.Goes going goes = refl
 settles_on x settled.Waits going goes = absurd goes
 settles_on x (settled.Gave value) going goes = refl
 settles_on x settled.Done going goes = absurd (cc going)
 
 module _ {K V Q : Type 0} (same : K → K → Bool) (hash : K → ℕ) (asks : Q → K → Bool) (setting : Setting) (slot : ℕ → ℕ) (lawful : AreLawful same hash)
-    (w : World (Node K V)) (c : Chart K) (blocks : Blocks) (sights : ℕ → Sight) (calls : ℕ → Option (UnderWay K V Q)) (s : Together V same hash asks setting slot w c blocks sights calls)
+    (w : World (Node K V)) (c : Chart K) (blocks : Blocks) (sights : ℕ → Visible) (calls : ℕ → Option (UnderWay K V Q)) (s : Together V same hash asks setting slot w c blocks sights calls)
     (i : ℕ) (inside : IsInside (w.uses (slot i))) (o : CallOverAll) (has : calls i ≡ Some (OverAll o)) (is_row : IsRowOfSweep o.sweep.stands)
-    (w2 : World (Node K V)) (blocks2 : Blocks) (part : IsPartOf c blocks2 blocks) (sights2 : ℕ → Sight) (calls2 : ℕ → Option (UnderWay K V Q))
+    (w2 : World (Node K V)) (blocks2 : Blocks) (part : IsPartOf c blocks2 blocks) (sights2 : ℕ → Visible) (calls2 : ℕ → Option (UnderWay K V Q))
     (then : Together V same hash asks setting slot w2 c blocks2 sights2 calls2) (inside2 : IsInside (w2.uses (slot i))) (o2 : CallOverAll) (has2 : calls2 i ≡ Some (OverAll o2))
-    (m2 : Mem (Node K V)) (end : Swept (Node K V)) (st : Steps Took value_at w.memory (sweep_plan hash o.sweep) m2 (o2.sweep, end)) (goes : ComesOn o.sweep.stands end) where
+    (m2 : Mem (Node K V)) (end : Swept (Node K V)) (st : Steps Took value_at w.memory (sweep_plan hash o.sweep) m2 (o2.sweep, end)) (goes : AdvancesFrom o.sweep.stands end) where
   abbrev here : Setting
   here = in_slot setting (slot i)
 
@@ -83,7 +83,7 @@ module _ {K V Q : Type 0} (same : K → K → Bool) (hash : K → ℕ) (asks : Q
   st_now = subst (λ (m : Mem (Node K V)). Steps Took value_at m (sweep_plan hash o.sweep) m2 (o2.sweep, end)) (sym in_row.memory) st
 
   -- once the row is over
-  over : (IsRowOfSweep o2.sweep.stands → ⊥) → ((CopiesPairs o.sweep.stands → ⊥) → Rests same hash in_row.v i here c blocks o.began o.sweep)
+  over : (IsRowOfSweep o2.sweep.stands → ⊥) → ((CopiesPairs o.sweep.stands → ⊥) → KnowsInRow same hash in_row.v i here c blocks o.began o.sweep)
       → SweepLinks c blocks2 o2.sweep.stands → Lower o2.sweep
   over none knows links =
       elim (sweep_rows_fall V same hash here in_row.v i c blocks o.began o.sweep map_now is_row knows m2 (o2.sweep, end) st_now goes) as (λ _. Lower o2.sweep) [
@@ -120,7 +120,7 @@ module _ {K V Q : Type 0} (same : K → K → Bool) (hash : K → ℕ) (asks : Q
   by_account e is (SweepSettling x y t _ row settles going tells row2 on) =
       subst Lower (ap (λ (z : Sweep × Swept (Node K V)). z.0) is) (still e.0 (ap (λ (z : Sweep × Swept (Node K V)). z.0) is) on.is_row (on.number c blocks) (Settles x) (Settles y) row row2
       (settling_less setting.batch_size in_row.v in_row.ground.came i m2 x y t (in_row.row_is ∙ row) settles
-      (settles_on o.sweep.stands t going (subst (ComesOn o.sweep.stands) (sym (ap (λ (z : Sweep × Swept (Node K V)). z.1) is) ∙ tells) goes))))
+      (settles_on o.sweep.stands t going (subst (AdvancesFrom o.sweep.stands) (sym (ap (λ (z : Sweep × Swept (Node K V)). z.1) is) ∙ tells) goes))))
   by_account e is (SweepDeferring x y t _ row defers not_done tells row2 on) =
       elim (deferring_less setting.batch_size in_row.v in_row.ground.came i m2 (slot i) x y t (in_row.row_is ∙ row) defers) as (λ _. Lower o2.sweep) [
         | inl less ↦ subst Lower (ap (λ (z : Sweep × Swept (Node K V)). z.0) is)

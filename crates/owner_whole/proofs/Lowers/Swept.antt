@@ -30,13 +30,13 @@ use Rattle.owner_facts.specs.Given.PointsSteps.{AreLawful}
 use Rattle.owner_facts.specs.Given.LateFactsSweeps.{CopiesPairs, CopiesTable, GoesOver, SweepingFacts, SweepFacts}
 use Rattle.owner_facts.specs.Given.LateToldSweeps.{IsRowOfSweep}
 use Rattle.owner_facts.specs.Given.CallersOverAll.{CallOverAll}
-use Rattle.owner_facts.specs.Given.CallersSights.{Sight, seen_by}
+use Rattle.owner_facts.specs.Given.CallersSights.{Visible, seen_by}
 use Rattle.map_measures.specs.Given.CallersSweeps.{SweepStepsTogether}
-use Rattle.owner_facts.specs.Given.CallersTogether.{UnderWay, OverAll, in_slot, Stands, Together}
+use Rattle.owner_facts.specs.Given.CallersTogether.{UnderWay, OverAll, in_slot, IsAtPoint, Together}
 use Rattle.map_measures.specs.Falls.Room.{planned_in_copying, tables_to_come}
 use Rattle.map_measures.proofs.Falls.Onward.{Onward}
 use Rattle.map_measures.proofs.Falls.Reserves.CopiesLower.{CopyFalls, copies_fall}
-use Rattle.map_measures.specs.Passes.FallsSweeps.{ComesOn}
+use Rattle.map_measures.specs.Passes.FallsSweeps.{AdvancesFrom}
 use Rattle.map_measures.specs.Passes.Sweeps.{numbers_at, number_of_sweep}
 use Rattle.map_measures.proofs.Passes.Places.{entering_is}
 use Rattle.map_measures.proofs.Passes.Points.{swept_on, before_stage as enters}
@@ -45,7 +45,7 @@ use Rattle.owner_whole.proofs.Lowers.Own as own
 use Rattle.owner_whole.proofs.Lowers.Widened as wide
 
 module _ {K V Q : Type 0} (same : K → K → Bool) (hash : K → ℕ) (asks : Q → K → Bool) (setting : Setting) (slot : ℕ → ℕ) (lawful : AreLawful same hash)
-    (w : World (Node K V)) (c : Chart K) (blocks : Blocks) (sights : ℕ → Sight) (calls : ℕ → Option (UnderWay K V Q)) (s : Together V same hash asks setting slot w c blocks sights calls)
+    (w : World (Node K V)) (c : Chart K) (blocks : Blocks) (sights : ℕ → Visible) (calls : ℕ → Option (UnderWay K V Q)) (s : Together V same hash asks setting slot w c blocks sights calls)
     (i : ℕ) (inside : IsInside (w.uses (slot i))) where
   abbrev here : Setting
   here = in_slot setting (slot i)
@@ -108,7 +108,7 @@ module _ {K V Q : Type 0} (same : K → K → Bool) (hash : K → ℕ) (asks : Q
       -- where it copies a table
       module _ (copier : Copier) (none : IsRowOfSweep (at.Copies copier) → ⊥) where
         abbrev Goal : Sweep × Swept (Node K V) → Type 0
-        Goal to = ComesOn (at.Copies copier) to.1 → IsBelow (number_of_sweep hash c2 blocks2 to.0) (numbers_at hash c blocks p (at.Copies copier))
+        Goal to = AdvancesFrom (at.Copies copier) to.1 → IsBelow (number_of_sweep hash c2 blocks2 to.0) (numbers_at hash c blocks p (at.Copies copier))
 
         copied_falls : (to : Copier × Yielding (Node K V) Table) → CopyFalls same hash here w.memory c blocks m2 c2 blocks2 onward copier none (is_incremental p.setting.mode) to → Goal (copied p to)
         copied_falls (next, outcome.Goes) falls goes = falls
@@ -131,7 +131,7 @@ module _ {K V Q : Type 0} (same : K → K → Bool) (hash : K → ℕ) (asks : Q
       wider : (CopiesPairs p.stands → ⊥) → SweepFacts same hash w i here c blocks began p
       wider none = record { setting_is = facts.setting_is; idle = facts.idle; point = at_point p.stands none facts.point }
 
-      pub sweep_on : (IsRowOfSweep p.stands → ⊥) → Steps Took value_at w.memory (sweep_plan hash p) m2 end → ComesOn p.stands end.1
+      pub sweep_on : (IsRowOfSweep p.stands → ⊥) → Steps Took value_at w.memory (sweep_plan hash p) m2 end → AdvancesFrom p.stands end.1
           → IsBelow (number_of_sweep hash c2 blocks2 end.0) (number_of_sweep hash c blocks p)
       sweep_on none st goes = by p.stands refl
         where
@@ -144,7 +144,7 @@ module _ {K V Q : Type 0} (same : K → K → Bool) (hash : K → ℕ) (asks : Q
           by (at.Copies copier) is =
               subst (λ (x : Sweeping). IsBelow (number_of_sweep hash c2 blocks2 end.0) (numbers_at hash c blocks p x)) (sym is)
               (copies copier (subst (λ (x : Sweeping). IsRowOfSweep x → ⊥) is none) (subst (λ (x : Sweeping). SweepingFacts same hash w i here c seen began p x) is facts.point)
-              (subst (λ (x : Sweeping). Steps Took value_at w.memory (plan_at hash p x) m2 end) is st) (subst (λ (x : Sweeping). ComesOn x end.1) is goes))
+              (subst (λ (x : Sweeping). Steps Took value_at w.memory (plan_at hash p x) m2 end) is st) (subst (λ (x : Sweeping). AdvancesFrom x end.1) is goes))
           by at.Reads is = other (λ h. subst CopiesPairs is h)
           by at.Follows is = other (λ h. subst CopiesPairs is h)
           by at.Ready is = other (λ h. subst CopiesPairs is h)
@@ -157,12 +157,12 @@ module _ {K V Q : Type 0} (same : K → K → Bool) (hash : K → ℕ) (asks : Q
           by (at.Refused fault) is = other (λ h. subst CopiesPairs is h)
 
   pub sweep_falls : (o : CallOverAll) → calls i ≡ Some (OverAll o) → (IsRowOfSweep o.sweep.stands → ⊥) → (m2 : Mem (Node K V)) (p2 : Sweep) (end : Swept (Node K V))
-      → Steps Took value_at w.memory (sweep_plan hash o.sweep) m2 (p2, end) → ComesOn o.sweep.stands end
+      → Steps Took value_at w.memory (sweep_plan hash o.sweep) m2 (p2, end) → AdvancesFrom o.sweep.stands end
       → (told : Swept (Node K V)) (step : SweepStepsTogether V same hash asks setting slot w c blocks sights calls i o m2 p2 told)
       → IsBelow (number_of_sweep hash step.went.c2 step.blocks2 p2) (number_of_sweep hash c blocks o.sweep)
   sweep_falls o has none m2 p2 end st goes told step = by (s.stand i (OverAll o) has)
     where
-      by : Stands V same hash asks setting slot w c seen i (OverAll o) → IsBelow (number_of_sweep hash step.went.c2 step.blocks2 p2) (number_of_sweep hash c blocks o.sweep)
+      by : IsAtPoint V same hash asks setting slot w c seen i (OverAll o) → IsBelow (number_of_sweep hash step.went.c2 step.blocks2 p2) (number_of_sweep hash c blocks o.sweep)
       by (inl (rests, knows)) =
           sweep_on o.began o.sweep m2 step.went.c2 step.blocks2
           (own.on same hash asks setting slot lawful w c blocks sights calls s i inside m2 _ step.went step.blocks2 step.grown step.sights2 _ step.together) knows.facts (p2, end) none st goes

@@ -43,7 +43,7 @@ use Rattle.owner_facts.specs.Given.LateToldSweeps.{IsRowOfSweep}
 use Rattle.owner_facts.specs.Given.CallersOverAll.{CallOverAll, row_of_sweep}
 use Rattle.owner_facts.specs.Given.CallersRooms.{CallForRoom}
 use Rattle.owner_facts.specs.Given.CallersSights.{seen_by}
-use Rattle.owner_facts.specs.Given.CallersTogether.{UnderWay, CallOnKey, OnKey, ForRoom, Counting, OverAll, in_slot, Stands, Together}
+use Rattle.owner_facts.specs.Given.CallersTogether.{UnderWay, CallOnKey, OnKey, ForRoom, Counting, OverAll, in_slot, IsAtPoint, Together}
 use Rattle.owner_facts.proofs.Given.CallersTogether.Countings.{countings_stand_together}
 use Rattle.owner_facts.specs.Given.FinishesEndings.{Finishing, EndingsTogether}
 use Rattle.owner_facts.specs.Given.FinishesMachines.{machine_of}
@@ -142,7 +142,7 @@ module _ {K Q : Type 0} (V : Type 0) (same : K → K → Bool) (asks : Q → K �
         → CallAwaits s.chart (is_incremental s.setting.mode) u.call u.call.stands → AwaitsItsPair s u u.call.stands
     its u has none m3 q st = by u.call.stands refl
       where
-        known : Stands V same s.hash asks s.setting slot w s.chart (seen_by s.blocks (s.sights (slot i))) i (OnKey u) → u.call.stands ≡ at.Probes
+        known : IsAtPoint V same s.hash asks s.setting slot w s.chart (seen_by s.blocks (s.sights (slot i))) i (OnKey u) → u.call.stands ≡ at.Probes
             → CallAwaits s.chart (is_incremental s.setting.mode) u.call at.Probes → AwaitsItsPair s u at.Probes
         known (inr (row, is_row, knows)) here awaits = absurd (none is_row)
         known (inl (rests, knows)) here awaits = elim knows.facts as (λ _. AwaitsItsPair s u at.Probes) [
@@ -222,7 +222,7 @@ module _ {K Q : Type 0} (V : Type 0) (same : K → K → Bool) (asks : Q → K �
             (swept_waits e.0.1 (sym (ap (λ (x : Machine K V Q × Progress (Node K V)). x.1) e.2))) e.1
 
         StandsSo : Type 0
-        StandsSo = Stands V same s.hash asks s.setting slot w s.chart (seen_by s.blocks (s.sights (slot i))) i (OverAll o)
+        StandsSo = IsAtPoint V same s.hash asks s.setting slot w s.chart (seen_by s.blocks (s.sights (slot i))) i (OverAll o)
 
         its_row : StandsSo → (w.row i ≡ Rests) ⊎ (w.row i ≡ waits.row_of_sweep (slot i) o.sweep.stands)
         its_row (inl h) = inl h.0

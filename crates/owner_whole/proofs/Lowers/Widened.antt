@@ -34,11 +34,11 @@ use Rattle.map_tables.specs.Chunks.{is_incremental}
 use Rattle.map_measures.specs.Given.RuleChart.{Chart}
 use Rattle.map_measures.specs.Given.RuleMaps.{IsTable, IsTrial}
 use Rattle.map_measures.specs.Given.RuleWords.{Blocks}
-use Rattle.owner_facts.specs.Given.CallersSights.{Sight, seen_by, IsSight}
+use Rattle.owner_facts.specs.Given.CallersSights.{Visible, seen_by, IsVisibility}
 use Rattle.map_measures.proofs.Falls.Reserves.Stands.{WholeStands, ReservingStands, ReserveStands}
 use Rattle.map_measures.proofs.Falls.Stands.{IsPlaceOf, MakingStands, NewTableStands, LookingStands, DisposingStands, DisposeStands, AtPlace, HasTarget, AtTry, AtOld, CopyingStands, CopyingStandsBlocking, IsTrying, AskingStands, CallingStands, CallStands}
 
-module _ {K V : Type 0} (setting : Setting) (m : Mem (Node K V)) (c : Chart K) (blocks : Blocks) (sight : Sight) (is_sight : IsSight c blocks sight) where
+module _ {K V : Type 0} (setting : Setting) (m : Mem (Node K V)) (c : Chart K) (blocks : Blocks) (sight : Visible) (is_sight : IsVisibility c blocks sight) where
   abbrev pub seen : Blocks
   seen = seen_by blocks sight
 

@@ -28,8 +28,8 @@ use Rattle.owner_facts.specs.Given.LateToldSweeps.{IsRowOfSweep}
 use Rattle.owner_facts.specs.Given.CallersOverAll.{CallOverAll, row_of_sweep, past_sweeping, sweep_once_over}
 use Rattle.owner_facts.specs.Given.CallersRooms.{CallForRoom, row_of_room, past_room, room_once_over}
 use Rattle.map_measures.specs.Given.CallersRows.{row_of, past_copying, past_row, once_over}
-use Rattle.owner_facts.specs.Given.CallersSights.{Sight, seen_by, IsSight}
-use Rattle.owner_facts.specs.Given.CallersTogether.{UnderWay, CallOnKey, OnKey, ForRoom, OverAll, CameAbout, in_slot, Ground, Knows, KnowsRoom, KnowsSweep, Stands, Together}
+use Rattle.owner_facts.specs.Given.CallersSights.{Visible, seen_by, IsVisibility}
+use Rattle.owner_facts.specs.Given.CallersTogether.{UnderWay, CallOnKey, OnKey, ForRoom, OverAll, CameAbout, in_slot, Ground, Knows, KnowsRoom, KnowsSweep, IsAtPoint, Together}
 use Rattle.owner_facts.proofs.Given.CallersTogether.BeginsRows.{begun_row}
 use Rattle.owner_facts.proofs.Given.CallersTogether.RoomRows as rooms
 use Rattle.owner_facts.proofs.Given.CallersTogether.RowsOfCopiers.{at_retirement}
@@ -91,7 +91,7 @@ module _ {K V : Type 0} (setting : Setting) (m : Mem (Node K V)) (c : Chart K) (
       (λ copier row f. either_links b copier row f)
 
 module _ {K V Q : Type 0} (same : K → K → Bool) (hash : K → ℕ) (asks : Q → K → Bool) (setting : Setting) (slot : ℕ → ℕ) (lawful : AreLawful same hash)
-    (w : World (Node K V)) (c : Chart K) (blocks : Blocks) (sights : ℕ → Sight) (calls : ℕ → Option (UnderWay K V Q)) (s : Together V same hash asks setting slot w c blocks sights calls)
+    (w : World (Node K V)) (c : Chart K) (blocks : Blocks) (sights : ℕ → Visible) (calls : ℕ → Option (UnderWay K V Q)) (s : Together V same hash asks setting slot w c blocks sights calls)
     (i : ℕ) (inside : IsInside (w.uses (slot i))) where
   abbrev here : Setting
   here = in_slot setting (slot i)
@@ -99,7 +99,7 @@ module _ {K V Q : Type 0} (same : K → K → Bool) (hash : K → ℕ) (asks : Q
   abbrev seen : Blocks
   seen = seen_by blocks (sights (slot i))
 
-  sight : IsSight c blocks (sights (slot i))
+  sight : IsVisibility c blocks (sights (slot i))
   sight = own.sight same hash asks setting slot lawful w c blocks sights calls s i inside
 
   -- a call on one key
@@ -113,7 +113,7 @@ module _ {K V Q : Type 0} (same : K → K → Bool) (hash : K → ℕ) (asks : Q
   pub key_within : (u : CallOnKey K V Q) → calls i ≡ Some (OnKey u) → IsRowOfCall u.call.stands → KeyWithin u
   key_within u has is_row = by (s.stand i (OnKey u) has)
     where
-      by : Stands V same hash asks setting slot w c seen i (OnKey u) → KeyWithin u
+      by : IsAtPoint V same hash asks setting slot w c seen i (OnKey u) → KeyWithin u
       by (inr (row, at_row_now, knows)) = record { v = w; memory = refl; row_is = row; came = s.ground.came; knows = knows }
       by (inl (rests, knows)) =
           let b = begun_row same hash asks setting slot lawful w c blocks sights calls s i u inside rests has is_row knows in
@@ -148,7 +148,7 @@ module _ {K V Q : Type 0} (same : K → K → Bool) (hash : K → ℕ) (asks : Q
   pub room_within : (r : CallForRoom) → calls i ≡ Some (ForRoom r) → IsRowOfReserve r.reserve.stands → RoomWithin r
   room_within r has is_row = by (s.stand i (ForRoom r) has)
     where
-      by : Stands V same hash asks setting slot w c seen i (ForRoom r) → RoomWithin r
+      by : IsAtPoint V same hash asks setting slot w c seen i (ForRoom r) → RoomWithin r
       by (inr (row, at_row_now, knows)) = record { v = w; memory = refl; row_is = row; came = s.ground.came; knows = knows }
       by (inl (rests, knows)) =
           let b = rooms.begins_at same hash asks setting slot lawful w c blocks sights calls s i r inside rests r.reserve.stands is_row knows in
@@ -185,7 +185,7 @@ module _ {K V Q : Type 0} (same : K → K → Bool) (hash : K → ℕ) (asks : Q
   pub sweep_within : (o : CallOverAll) → calls i ≡ Some (OverAll o) → IsRowOfSweep o.sweep.stands → SweepWithin o
   sweep_within o has is_row = by (s.stand i (OverAll o) has)
     where
-      by : Stands V same hash asks setting slot w c seen i (OverAll o) → SweepWithin o
+      by : IsAtPoint V same hash asks setting slot w c seen i (OverAll o) → SweepWithin o
       by (inr (row, at_row_now, knows)) = record { v = w; memory = refl; row_is = row; ground = s.ground; inside_then = inside; knows = knows }
       by (inl (rests, knows)) =
           let b = swept.begins_at same hash asks setting slot lawful w c blocks sights calls s i o inside rests o.sweep.stands is_row knows in
@@ -213,7 +213,7 @@ module _ {K V Q : Type 0} (same : K → K → Bool) (hash : K → ℕ) (asks : Q
       → o.sweep.stands ≡ sweeps.Copies (past_copying p p.stands) → SweepLinks c blocks o.sweep.stands
   sweep_behind o has none p row is = by (s.stand i (OverAll o) has)
     where
-      by : Stands V same hash asks setting slot w c seen i (OverAll o) → SweepLinks c blocks o.sweep.stands
+      by : IsAtPoint V same hash asks setting slot w c seen i (OverAll o) → SweepLinks c blocks o.sweep.stands
       by (inr (at_row_now, is_row, knows)) = absurd (none is_row)
       by (inl (rests, knows)) =
           subst (SweepLinks c blocks) (sym is)

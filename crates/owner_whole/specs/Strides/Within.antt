@@ -42,7 +42,7 @@ module _ {T : Type 0} where
   of_answers m (Room bucket) ok = ok (Roomed (Ok tt)) && cond (length m.slots + 32 == capacity bucket) (ok (Roomed (Err Memory))) true
 
   module _ {R : Type 0} where
-    -- so it is with what is left of a step, where it comes to an end
+    -- so it is with what is left of a step, where it terminates
     abbrev pub of_ends : (ℕ → Option T) → Then T R → (R → Bool) → Bool
     of_ends shown (Now r) ok = ok r
     of_ends shown (Seeing block rest) ok = of_some (shown block) (λ value. of_ends shown (rest value) ok)

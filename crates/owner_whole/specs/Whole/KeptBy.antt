@@ -26,8 +26,8 @@ module _ {K V : Type 0} (test : K → V → Bool) (m0 : Mem (Node K V)) (blocks0
   KeptBegins = (done : List ℕ) → KeptBy [] done
 
   -- and so it stays where it is told of one more pair, and by the test.
-  abbrev pub KeptTold : Type 0
-  KeptTold =
+  abbrev pub KeptReplied : Type 0
+  KeptReplied =
       (asked done : List ℕ) → KeptBy asked done → (n : ℕ) → times n asked ≡ 0 → times n done ≡ 0 → (k : K) (v : V) → value_at m0 (blocks0.pair n) ≡ Some (node.Pair k v)
       → KeptBy (n ∷ asked) (cond (test k v) (n ∷ done) done)
 

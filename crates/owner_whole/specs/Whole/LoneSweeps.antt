@@ -43,16 +43,16 @@ module _ {K : Type 0} (hash : K → ℕ) (incremental : Bool) (c : Chart K) (see
     pub last : incremental ≡ true → c.past ≤ suc c.first
 
   -- the pair of this word stands unmarked at its place
-  abbrev pub StandsThere : Sweep → ℕ → Type 0
-  StandsThere p word = (n : ℕ) × (borrowed : Bool) × (c.place p.table.turn p.place ≡ Holds n Still borrowed) × (word ≡ place_word hash c seen (Holds n Still borrowed))
+  abbrev pub LiesThere : Sweep → ℕ → Type 0
+  LiesThere p word = (n : ℕ) × (borrowed : Bool) × (c.place p.table.turn p.place ≡ Holds n Still borrowed) × (word ≡ place_word hash c seen (Holds n Still borrowed))
 
   -- What is so of its table. What a retaining asks about, or is about to remove, stands at its place.
   abbrev pub OverRoot : Sweep → Sweeping → Type 0
   OverRoot p at.Follows = incremental ≡ false → p.table.turn ≡ c.first
   OverRoot p at.Ready = 0 < p.table.len → GoesOverRoot p
   OverRoot p at.Words = GoesOverRoot p
-  OverRoot p (at.Asks word) = GoesOverRoot p × StandsThere p word
-  OverRoot p (at.Tries word) = GoesOverRoot p × (p.purpose ≡ Retains → StandsThere p word)
+  OverRoot p (at.Asks word) = GoesOverRoot p × LiesThere p word
+  OverRoot p (at.Tries word) = GoesOverRoot p × (p.purpose ≡ Retains → LiesThere p word)
   OverRoot p (at.Counts removed) = GoesOverRoot p
   OverRoot p (at.Disposes dispose) = GoesOverRoot p
   OverRoot p _ = Unit {0}

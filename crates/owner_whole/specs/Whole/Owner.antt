@@ -7,15 +7,15 @@ use Rattle.map_tables.specs.declared.node.Node.{Node}
 use Rattle.map_tables.specs.declared.setting.Setting.{Setting}
 use Rattle.map_measures.specs.Given.RuleChart.{Chart}
 use Rattle.map_measures.specs.Given.RuleWords.{Blocks}
-use Rattle.owner_facts.specs.Alone.FactsAloneCalls.{IsLone, RestsAlone}
+use Rattle.owner_facts.specs.Alone.FactsAloneCalls.{IsLone, AloneBetweenCalls}
 use Rattle.owner_facts.specs.Maps.FactsAloneReserves.{IsLoneReserve}
 use Rattle.papaya_raw.specs.Given.ReservesDeclared.sweep.Sweep.{Sweep}
 use Rattle.papaya_raw.specs.Given.ReservesDeclared.sweep.Sweeping.{Sweeping}
 use Rattle.papaya_raw.specs.Given.ReservesDeclared.sweep.Sweeping.TheVariants as sweeps
 use Rattle.owner_facts.specs.Given.LateFactsSweeps.{SweepingFacts}
-use Rattle.owner_facts.specs.Given.CallersSights.{Sight, seen_by}
+use Rattle.owner_facts.specs.Given.CallersSights.{Visible, seen_by}
 use Rattle.owner_facts.specs.Given.CallersOverAll.{sweep_once_over}
-use Rattle.owner_facts.specs.Given.CallersTogether.{UnderWay, OnKey, ForRoom, Counting, OverAll, in_slot, Stands, Together}
+use Rattle.owner_facts.specs.Given.CallersTogether.{UnderWay, OnKey, ForRoom, Counting, OverAll, in_slot, IsAtPoint, Together}
 use Rattle.owner_whole.specs.Whole.LoneSweeps.{IsLoneSweep, IsOverRoot}
 
 -- it is the first of the two
@@ -27,7 +27,7 @@ IsFirst (inr b) = ⊥
 abbrev pub LoneAt : {K V Q : Type 0} → Bool → Chart K → UnderWay K V Q → Type 0
 LoneAt incremental c (OnKey u) = IsLone incremental 0 c u.call.stands
 LoneAt incremental c (ForRoom r) = IsLoneReserve incremental 0 c r.reserve.stands
-LoneAt incremental c (Counting sum) = RestsAlone incremental 0 c
+LoneAt incremental c (Counting sum) = AloneBetweenCalls incremental 0 c
 LoneAt incremental c (OverAll o) = IsLoneSweep incremental 0 c o.sweep.stands
 
 module _ {K V Q : Type 0} (same : K → K → Bool) (hash : K → ℕ) (asks : Q → K → Bool) (setting : Setting) (slot : ℕ → ℕ) where
@@ -38,7 +38,7 @@ module _ {K V Q : Type 0} (same : K → K → Bool) (hash : K → ℕ) (asks : Q
   CopiesOfRoot w c seen began p _ point = Unit {0}
 
   -- A call knows what its point says, in the root's table: the root has left none that it works in.
-  abbrev pub IsOfRoot : (w : World (Node K V)) (c : Chart K) (seen : Blocks) (u : UnderWay K V Q) → Stands V same hash asks setting slot w c seen 0 u → Type 0
+  abbrev pub IsOfRoot : (w : World (Node K V)) (c : Chart K) (seen : Blocks) (u : UnderWay K V Q) → IsAtPoint V same hash asks setting slot w c seen 0 u → Type 0
   IsOfRoot w c seen (OnKey u) (inl (rests, knows)) = IsFirst knows.facts
   IsOfRoot w c seen (OnKey u) (inr (row, is_row, knows)) = IsFirst knows.facts
   IsOfRoot w c seen (ForRoom r) (inl (rests, knows)) = IsFirst knows.facts
@@ -51,16 +51,16 @@ module _ {K V Q : Type 0} (same : K → K → Bool) (hash : K → ℕ) (asks : Q
       × IsOverRoot hash (is_incremental setting.mode) c seen o.sweep o.done
 
   -- It rests: no caller has a call or a row of the collector under way, nobody has a part in a copying, and its slot is within a section.
-  pub record AtRest (w : World (Node K V)) (c : Chart K) (blocks : Blocks) (sights : ℕ → Sight) : Type 0 where
+  pub record IsQuiescent (w : World (Node K V)) (c : Chart K) (blocks : Blocks) (sights : ℕ → Visible) : Type 0 where
     pub calls : ℕ → Option (UnderWay K V Q)
     pub none : (i : ℕ) → calls i ≡ None
     pub together : Together V same hash asks setting slot w c blocks sights calls
     pub rows : (i : ℕ) → w.row i ≡ Rests
     pub inside : IsInside (w.uses (slot 0))
-    pub alone : RestsAlone (is_incremental setting.mode) 0 c
+    pub alone : AloneBetweenCalls (is_incremental setting.mode) 0 c
 
   -- This call of it is under way within its section, at a point of its own or within a row of the collector, and no other call or row is.
-  pub record IsAlone (w : World (Node K V)) (c : Chart K) (blocks : Blocks) (sights : ℕ → Sight) (u : UnderWay K V Q) : Type 0 where
+  pub record IsAlone (w : World (Node K V)) (c : Chart K) (blocks : Blocks) (sights : ℕ → Visible) (u : UnderWay K V Q) : Type 0 where
     pub calls : ℕ → Option (UnderWay K V Q)
     pub has : calls 0 ≡ Some u
     pub others : (i : ℕ) → i ≢ 0 → calls i ≡ None

@@ -114,8 +114,8 @@ module _ (K V : Type 0) where
         → (word : ℕ) → o.sweep.stands ≡ at.Asks word → (n : ℕ) → c.current n ≡ true → times n o.done ≡ 0 → times n asked ≡ 0
 
     -- One that is refused leaves the list as it was, if it goes over one table alone.
-    abbrev pub RefusedKeepsAll : Type 0
-    RefusedKeepsAll =
+    abbrev pub RefusedPreservesAll : Type 0
+    RefusedPreservesAll =
         HasSwept incremental m0 c0 blocks0 asked o m c blocks → goes_once incremental o.sweep.purpose ≡ true → (fault : Fault) → o.sweep.stands ≡ at.Refused fault
         → (ns : List (ℕ × (K × V))) → AreNumbered m0 c0 blocks0 ns → AreNumbered m c blocks ns
 

@@ -1,4 +1,4 @@
--- What is promised of whole calls for one owner: where each begins, where each of its steps leads, and that its steps come to an end.
+-- What is promised of whole calls for one owner: where each begins, where each of its steps leads, and that its steps terminate.
 use Rattle.std.specs.Prelude.{◌≡◌, ℕ, ◌^◌, ◌<◌, ◌≤◌, Bool, Some, true}
 use Rattle.std.specs.Int.{IsPowerOfTwo}
 use Rattle.seize_words.specs.OneMemory.Mem.{Mem, Can, Took, value_at, word_at}
@@ -34,52 +34,52 @@ use Rattle.owner_facts.specs.Alone.Counting.{IsCounted}
 use Rattle.owner_facts.specs.Alone.Endings.{RunsEnd}
 use Rattle.owner_facts.specs.Given.CallersKept.{IsMaking}
 use Rattle.map_measures.specs.Given.CallersPairs.{Given, HandsBack, RemovesNone}
-use Rattle.owner_facts.specs.Given.CallersSights.{Sight, seen_by}
+use Rattle.owner_facts.specs.Given.CallersSights.{Visible, seen_by}
 use Rattle.owner_facts.specs.Given.CallersTogether.{CallOnKey, OnKey, CameAbout, no_blocks, no_sight, in_slot, IsBegun, begun_at, AnswersOnce, IsReclaimed, RepliesTaken}
-use Rattle.map_measures.specs.Given.LateFaults.{CallRefusesSo, StandsInCalling}
+use Rattle.map_measures.specs.Given.LateFaults.{CallRefusesSo, HoldsInCalling}
 use Rattle.owner_whole.specs.Whole.Limits.{IsForTheLast, IsTheLast}
-use Rattle.owner_whole.specs.Whole.Owner.{AtRest, IsAlone}
+use Rattle.owner_whole.specs.Whole.Owner.{IsQuiescent, IsAlone}
 
 -- this call on one key, where it goes on, and what it has changed
 abbrev pub then_so : {K V Q : Type 0} → CallOnKey K V Q → Change → KeyCall K V Q → CallOnKey K V Q
 then_so u change p = record { keys = u.keys; pair = u.pair; began = u.began; change = change; call = p }
 
 -- a call that tells this takes a further step, and no reply
-abbrev pub GoesOn : {T : Type 0} → Called T → Type 0
-GoesOn (called.Done answer) = ⊥
-GoesOn (called.Refused fault) = ⊥
-GoesOn (called.Asks asked) = ⊥
-GoesOn _ = Unit {0}
+abbrev pub Continues : {T : Type 0} → Called T → Type 0
+Continues (called.Done answer) = ⊥
+Continues (called.Refused fault) = ⊥
+Continues (called.Asks asked) = ⊥
+Continues _ = Unit {0}
 
 module _ {K V Q : Type 0} (same : K → K → Bool) (hash : K → ℕ) (asks : Q → K → Bool) where
   -- a call takes a step, and goes on
   abbrev pub StepsOn : KeyCall K V Q × Mem (Node K V) → KeyCall K V Q × Mem (Node K V) → Type 0
-  StepsOn x y = (progress : Called (Node K V)) × GoesOn progress × Steps Took value_at x.1 (call_plan asks same hash x.0) y.1 (y.0, progress)
+  StepsOn x y = (progress : Called (Node K V)) × Continues progress × Steps Took value_at x.1 (call_plan asks same hash x.0) y.1 (y.0, progress)
 
   -- each run of its steps comes to an end, or to a question
-  abbrev pub ComesToAnEnd : KeyCall K V Q → Mem (Node K V) → Type 0
-  ComesToAnEnd p m = RunsEnd (KeyCall K V Q × Mem (Node K V)) StepsOn (p, m)
+  abbrev pub Terminates : KeyCall K V Q → Mem (Node K V) → Type 0
+  Terminates p m = RunsEnd (KeyCall K V Q × Mem (Node K V)) StepsOn (p, m)
 
 module _ {K V Q : Type 0} (same : K → K → Bool) (hash : K → ℕ) (asks : Q → K → Bool) (setting : Setting) (slot : ℕ → ℕ) where
   -- After a step, by what it tells: it never waits. It is alone still, or asks something, or has ended, and the owner rests. What a row gives back was in
   -- a block that no section held.
-  abbrev pub Leads : World (Node K V) → World (Node K V) → Chart K → Blocks → (ℕ → Sight) → CallOnKey K V Q → Called (Node K V) → Type 0
+  abbrev pub Leads : World (Node K V) → World (Node K V) → Chart K → Blocks → (ℕ → Visible) → CallOnKey K V Q → Called (Node K V) → Type 0
   Leads w w2 c2 blocks2 sights2 u called.Goes = IsAlone same hash asks setting slot w2 c2 blocks2 sights2 (OnKey u)
   Leads w w2 c2 blocks2 sights2 u called.Waits = ⊥
   Leads w w2 c2 blocks2 sights2 u (called.Gave value) = IsAlone same hash asks setting slot w2 c2 blocks2 sights2 (OnKey u) × IsReclaimed w w2 value
   Leads w w2 c2 blocks2 sights2 u (called.Unstored value) = IsAlone same hash asks setting slot w2 c2 blocks2 sights2 (OnKey u)
   Leads w w2 c2 blocks2 sights2 u (called.Asks asked) = IsAlone same hash asks setting slot w2 c2 blocks2 sights2 (OnKey u) × (asks_at : Asking) × (u.call.stands ≡ at.Asks asks_at)
   Leads w w2 c2 blocks2 sights2 u (called.Done answer) =
-      AtRest {K = K} {V = V} {Q = Q} same hash asks setting slot w2 c2 blocks2 sights2 × (seen : Blocks) × IsMapIn same hash (in_slot setting (slot 0)) w2 c2 seen
+      IsQuiescent {K = K} {V = V} {Q = Q} same hash asks setting slot w2 c2 blocks2 sights2 × (seen : Blocks) × IsMapIn same hash (in_slot setting (slot 0)) w2 c2 seen
       × ((o : ℕ) → o < c2.stored → seen.pair_known o ≡ true → seen.pair o ≡ blocks2.pair o) × AnswersOnce V same hash asks setting slot w2 c2 seen 0 u u.change answer
-  Leads w w2 c2 blocks2 sights2 u (called.Refused fault) = AtRest {K = K} {V = V} {Q = Q} same hash asks setting slot w2 c2 blocks2 sights2 × (u.change ≡ Unchanged)
+  Leads w w2 c2 blocks2 sights2 u (called.Refused fault) = IsQuiescent {K = K} {V = V} {Q = Q} same hash asks setting slot w2 c2 blocks2 sights2 × (u.change ≡ Unchanged)
 
   -- where a step leads, be it one of a row of the collector
   pub record StepLeads (w : World (Node K V)) (c : Chart K) (blocks : Blocks) (u : CallOnKey K V Q) (m2 : Mem (Node K V)) (p2 : KeyCall K V Q) (progress : Called (Node K V)) : Type 0 where
     pub w2 : World (Node K V)
     pub c2 : Chart K
     pub blocks2 : Blocks
-    pub sights2 : ℕ → Sight
+    pub sights2 : ℕ → Visible
     pub change2 : Change
     pub memory : w2.memory ≡ m2
     pub leads : Leads w w2 c2 blocks2 sights2 (then_so u change2 p2) progress
@@ -95,32 +95,32 @@ module _ {K V Q : Type 0} (same : K → K → Bool) (hash : K → ℕ) (asks : Q
     -- it is refused the removal of what is not there where it was told to remove that
     pub removes : (fault : Fault) → progress ≡ called.Refused fault → fault ≡ RemoveNothing → RemovesNone u.pair
     -- in incremental mode it is refused for the length of a table only where the last table of the map cannot be followed, as it is then
-    pub ends : is_incremental setting.mode ≡ true → setting.initial ≤ 2 ^ 48 → StandsInCalling (IsForTheLast c) (IsTheLast c) u.call.trial.table u.call.stands
-        → StandsInCalling (IsForTheLast c2) (IsTheLast c2) p2.trial.table p2.stands × CallRefusesSo (IsForTheLast c2) progress
+    pub ends : is_incremental setting.mode ≡ true → setting.initial ≤ 2 ^ 48 → HoldsInCalling (IsForTheLast c) (IsTheLast c) u.call.trial.table u.call.stands
+        → HoldsInCalling (IsForTheLast c2) (IsTheLast c2) p2.trial.table p2.stands × CallRefusesSo (IsForTheLast c2) progress
     -- the pairs that could be looked at can be still, in the same blocks, with the same values
     pub looks : (o : ℕ) → o < c.stored → blocks.pair_known o ≡ true
         → (blocks2.pair_known o ≡ true) × (blocks2.pair o ≡ blocks.pair o) × (value_at w2.memory (blocks.pair o) ≡ value_at w.memory (blocks.pair o))
 
 module _ {K Q : Type 0} (V : Type 0) (same : K → K → Bool) (hash : K → ℕ) (asks : Q → K → Bool) (setting : Setting) (slot : ℕ → ℕ) where
   -- A map that has no table yet rests, where no row is under way, and the slot is within a section.
-  abbrev pub MapBeginsAtRest : Type 0
-  MapBeginsAtRest =
+  abbrev pub MapBeginsQuiescent : Type 0
+  MapBeginsQuiescent =
       (w : World (Node K V)) → CameAbout setting.batch_size w → word_at w.memory (Root setting.root) ≡ Some 0 → value_at w.memory setting.counter ≡ Some node.Shards
       → ((shard : ℕ) → shard ≤ setting.mask → (count : ℕ) × (word_at w.memory (Word setting.counter shard) ≡ Some count)) → IsMaking (w.hand setting.counter)
-      → ((i : ℕ) → w.row i ≡ Rests) → IsInside (w.uses (slot 0)) → AtRest {Q = Q} same hash asks setting slot w no_table no_blocks (λ s. no_sight)
+      → ((i : ℕ) → w.row i ≡ Rests) → IsInside (w.uses (slot 0)) → IsQuiescent {Q = Q} same hash asks setting slot w no_table no_blocks (λ s. no_sight)
 
   -- Where the owner rests, each call on one key begins alone.
   abbrev pub CallsBeginAlone : Type 0
   CallsBeginAlone =
-      AreLawful same hash → (w : World (Node K V)) (c : Chart K) (blocks : Blocks) (sights : ℕ → Sight) → AtRest {Q = Q} same hash asks setting slot w c blocks sights
+      AreLawful same hash → (w : World (Node K V)) (c : Chart K) (blocks : Blocks) (sights : ℕ → Visible) → IsQuiescent {Q = Q} same hash asks setting slot w c blocks sights
       → (keys : K → Bool) (pair : Given K V) (call : KeyCall K V Q) → IsBegun V same hash asks setting slot 0 keys pair call
       → IsAlone same hash asks setting slot w c blocks sights (OnKey (begun_at V same hash asks setting slot c keys pair call))
 
   -- A call that is alone may take its next step, whether that is its own or one of a row of the collector.
-  abbrev pub CallsGoOnAlone : Type 0
-  CallsGoOnAlone =
+  abbrev pub CallsContinueAlone : Type 0
+  CallsContinueAlone =
       AreLawful same hash → IsPowerOfTwo setting.initial
-      → (w : World (Node K V)) (c : Chart K) (blocks : Blocks) (sights : ℕ → Sight) (u : CallOnKey K V Q) → IsAlone same hash asks setting slot w c blocks sights (OnKey u)
+      → (w : World (Node K V)) (c : Chart K) (blocks : Blocks) (sights : ℕ → Visible) (u : CallOnKey K V Q) → IsAlone same hash asks setting slot w c blocks sights (OnKey u)
       → May Can Took value_at w.memory (call_plan asks same hash u.call)
       × ((m2 : Mem (Node K V)) (p2 : KeyCall K V Q) (progress : Called (Node K V)) → Steps Took value_at w.memory (call_plan asks same hash u.call) m2 (p2, progress)
       → StepLeads same hash asks setting slot w c blocks u m2 p2 progress)
@@ -129,7 +129,7 @@ module _ {K Q : Type 0} (V : Type 0) (same : K → K → Bool) (hash : K → ℕ
   abbrev pub RepliesLeadOn : Type 0
   RepliesLeadOn =
       AreLawful same hash → IsPowerOfTwo setting.initial
-      → (w : World (Node K V)) (c : Chart K) (blocks : Blocks) (sights : ℕ → Sight) (u : CallOnKey K V Q) → IsAlone same hash asks setting slot w c blocks sights (OnKey u)
+      → (w : World (Node K V)) (c : Chart K) (blocks : Blocks) (sights : ℕ → Visible) (u : CallOnKey K V Q) → IsAlone same hash asks setting slot w c blocks sights (OnKey u)
       → (asks_at : Asking) → u.call.stands ≡ at.Asks asks_at
       → RepliesTaken V same hash asks setting slot c (seen_by blocks (sights (slot 0))) u asks_at (λ told. IsAlone same hash asks setting slot w c blocks sights (OnKey told))
 
@@ -137,8 +137,8 @@ module _ {K Q : Type 0} (V : Type 0) (same : K → K → Bool) (hash : K → ℕ
   abbrev pub CallsComeToAnEnd : Type 0
   CallsComeToAnEnd =
       AreLawful same hash → IsPowerOfTwo setting.initial
-      → (w : World (Node K V)) (c : Chart K) (blocks : Blocks) (sights : ℕ → Sight) (u : CallOnKey K V Q) → IsAlone same hash asks setting slot w c blocks sights (OnKey u)
-      → ComesToAnEnd same hash asks u.call w.memory
+      → (w : World (Node K V)) (c : Chart K) (blocks : Blocks) (sights : ℕ → Visible) (u : CallOnKey K V Q) → IsAlone same hash asks setting slot w c blocks sights (OnKey u)
+      → Terminates same hash asks u.call w.memory
 
   -- A reply counts nothing.
   abbrev pub RepliesCountNothing : Type 0

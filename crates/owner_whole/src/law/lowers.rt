@@ -5,9 +5,9 @@ ghost use Rattle.owner_whole.specs.Lowers.Looks.{LookupsStepByLoads};
 ghost use Rattle.owner_whole.specs.Lowers.Lowers.{StepsLower};
 ghost use Rattle.owner_whole.specs.Lowers.Waits.{StepsWait};
 
-/// Any callers have calls under way on any maps of one collector, in either mode, and make and end others. Each step of one by which it goes on lowers
-/// its numbers, as its machine, the tables of its map and the memory tell them: also one of a row of the collector, one that hands out what was reclaimed, and one
-/// that shows a pair of a walk. They are always as many, and each descent of as many numbers comes to an end: so no call turns on a word that others hold.
+/// Any callers have calls under way on any maps of one collector, in either mode, and make and end others. Each step of one by which it goes on lowers its
+/// numbers, as its machine, the tables of its map and the memory tell them: also one of a row of the collector, one that hands out what was reclaimed, and one
+/// that shows a pair of a walk. They are always as many, and each descent of as many numbers terminates: so no call turns on a word that others hold.
 pub fn steps_lower_the_numbers<K, V, Q>()
     ensures lower { (same : K → K → Bool) (asks : Q → K → Bool) (batch_size roots : ℕ) (slot : ℕ → ℕ) → StepsLower V same asks batch_size roots slot }
     ensures ends { DescentsEnd }

@@ -6,13 +6,13 @@ ghost use Rattle.map_measures.specs.Given.RuleChart.{Chart};
 ghost use Rattle.map_measures.specs.Given.RuleWords.{Blocks};
 ghost use Rattle.owner_facts.specs.Given.CallersOverAll.{CallOverAll};
 ghost use Rattle.map_tables.specs.declared.setting.Setting.{Setting};
-ghost use Rattle.owner_whole.specs.Whole.Whole.{MapBeginsAtRest, RepliesCountNothing, CountsAtEnd, CountsWhereUnchanged, CallsBeginAlone, CallsGoOnAlone, RepliesLeadOn, CallsComeToAnEnd};
+ghost use Rattle.owner_whole.specs.Whole.Whole.{MapBeginsQuiescent, RepliesCountNothing, CountsAtEnd, CountsWhereUnchanged, CallsBeginAlone, CallsContinueAlone, RepliesLeadOn, CallsComeToAnEnd};
 ghost use Rattle.owner_whole.specs.Whole.Contents.{ContentsAre, RunsBegin, ContentsFollow, AnswersOfPairs};
 ghost use Rattle.owner_whole.specs.Whole.AtEnd.{AnswersTellThePairs};
-ghost use Rattle.owner_whole.specs.Whole.SweptPairs.{NumbersAre, NumbersGo, PairsAreInIt, SweptBegins, ContentsBetween, ShownIsInIt, AsksOnce, RefusedKeepsAll, SweepsLeave};
-ghost use Rattle.owner_whole.specs.Whole.KeptBy.{KeptBegins, KeptTold, KeptAtEnd, WalksShowAll};
-ghost use Rattle.owner_whole.specs.Whole.WholeSweeps.{SweepsBeginAlone, SweepsGoOnAlone, SweepsToldAlone, SweepsComeToAnEnd, TellingCountsNothing, TellingKeepsThePurpose, SweptPairsCounted};
-ghost use Rattle.owner_whole.specs.Whole.WholeRooms.{RoomsBeginAlone, RoomsGoOnAlone, RoomsComeToAnEnd, CountingsBeginAlone, CountingsGoOnAlone, CountingsComeTo};
+ghost use Rattle.owner_whole.specs.Whole.SweptPairs.{NumbersAre, NumbersGo, PairsAreInIt, SweptBegins, ContentsBetween, ShownIsInIt, AsksOnce, RefusedPreservesAll, SweepsLeave};
+ghost use Rattle.owner_whole.specs.Whole.KeptBy.{KeptBegins, KeptReplied, KeptAtEnd, WalksShowAll};
+ghost use Rattle.owner_whole.specs.Whole.WholeSweeps.{SweepsBeginAlone, SweepsContinueAlone, SweepsRepliedAlone, SweepsComeToAnEnd, TellingCountsNothing, RepliesPreserveThePurpose, SweptPairsCounted};
+ghost use Rattle.owner_whole.specs.Whole.WholeRooms.{RoomsBeginAlone, RoomsContinueAlone, RoomsComeToAnEnd, CountingsBeginAlone, CountingsContinueAlone, CountingsComeTo};
 
 /// A map that has no table yet rests. Where the owner of a map's memory rests, each call on one key may begin, of one that asks, too, and is alone. It may take each of its steps, those of the
 /// collector's rows among them, in either mode, and none of them answers that it has to wait. It is alone after each, or it asks, and is alone again whatever
@@ -20,9 +20,9 @@ ghost use Rattle.owner_whole.specs.Whole.WholeRooms.{RoomsBeginAlone, RoomsGoOnA
 /// not there is refused where that was told. Each run of its steps comes to an end, or to a question. Where the shards of the counter said how many pairs
 /// the map had as the call began, they say so at its end.
 pub fn calls_run_whole<K, V, Q>()
-    ensures starts { (same : K → K → Bool) (hash : K → ℕ) (asks : Q → K → Bool) (setting : Setting) (slot : ℕ → ℕ) → MapBeginsAtRest V same hash asks setting slot }
+    ensures starts { (same : K → K → Bool) (hash : K → ℕ) (asks : Q → K → Bool) (setting : Setting) (slot : ℕ → ℕ) → MapBeginsQuiescent V same hash asks setting slot }
     ensures begins { (same : K → K → Bool) (hash : K → ℕ) (asks : Q → K → Bool) (setting : Setting) (slot : ℕ → ℕ) → CallsBeginAlone V same hash asks setting slot }
-    ensures steps { (same : K → K → Bool) (hash : K → ℕ) (asks : Q → K → Bool) (setting : Setting) (slot : ℕ → ℕ) → CallsGoOnAlone V same hash asks setting slot }
+    ensures steps { (same : K → K → Bool) (hash : K → ℕ) (asks : Q → K → Bool) (setting : Setting) (slot : ℕ → ℕ) → CallsContinueAlone V same hash asks setting slot }
     ensures replies { (same : K → K → Bool) (hash : K → ℕ) (asks : Q → K → Bool) (setting : Setting) (slot : ℕ → ℕ) → RepliesLeadOn V same hash asks setting slot }
     ensures ends { (same : K → K → Bool) (hash : K → ℕ) (asks : Q → K → Bool) (setting : Setting) (slot : ℕ → ℕ) → CallsComeToAnEnd V same hash asks setting slot }
     ensures replies_count { (same : K → K → Bool) (hash : K → ℕ) (asks : Q → K → Bool) (setting : Setting) (slot : ℕ → ℕ) → RepliesCountNothing V same hash asks setting slot }
@@ -30,13 +30,13 @@ pub fn calls_run_whole<K, V, Q>()
     ensures unchanged { (same : K → K → Bool) (hash : K → ℕ) (setting : Setting) → CountsWhereUnchanged V same hash setting }
 {}
 
-/// So it is with a reservation: it begins where the owner rests, may take each of its steps, those of the collector's rows among them, and none of them has
-/// to wait. No pair of the map changes by it, nor what the shards of the counter say. Each run of its steps comes to an end, and then the owner rests. In
-/// incremental mode it looks at the root alone, and copies into the root or a table behind it; at its end the root has the places for as many pairs as the
-/// shards say and the further ones (`places` of each step).
+/// So it is with a reservation: it begins where the owner rests, may take each of its steps, those of the collector's rows among them, and none of them has to
+/// wait. No pair of the map changes by it, nor what the shards of the counter say. Each run of its steps terminates, and then the owner rests. In incremental
+/// mode it looks at the root alone, and copies into the root or a table behind it; at its end the root has the places for as many pairs as the shards say and
+/// the further ones (`places` of each step).
 pub fn reservations_run_whole<K, V, Q>()
     ensures begins { (same : K → K → Bool) (hash : K → ℕ) (asks : Q → K → Bool) (setting : Setting) (slot : ℕ → ℕ) → RoomsBeginAlone V same hash asks setting slot }
-    ensures steps { (same : K → K → Bool) (hash : K → ℕ) (asks : Q → K → Bool) (setting : Setting) (slot : ℕ → ℕ) → RoomsGoOnAlone V same hash asks setting slot }
+    ensures steps { (same : K → K → Bool) (hash : K → ℕ) (asks : Q → K → Bool) (setting : Setting) (slot : ℕ → ℕ) → RoomsContinueAlone V same hash asks setting slot }
     ensures ends { (same : K → K → Bool) (hash : K → ℕ) (asks : Q → K → Bool) (setting : Setting) (slot : ℕ → ℕ) → RoomsComeToAnEnd V same hash asks setting slot }
 {}
 
@@ -44,21 +44,21 @@ pub fn reservations_run_whole<K, V, Q>()
 /// shards of the counter say how many pairs the map has, it comes to the length of their list.
 pub fn countings_run_whole<K, V, Q>()
     ensures begins { (same : K → K → Bool) (hash : K → ℕ) (asks : Q → K → Bool) (setting : Setting) (slot : ℕ → ℕ) → CountingsBeginAlone V same hash asks setting slot }
-    ensures steps { (same : K → K → Bool) (hash : K → ℕ) (asks : Q → K → Bool) (setting : Setting) (slot : ℕ → ℕ) → CountingsGoOnAlone V same hash asks setting slot }
+    ensures steps { (same : K → K → Bool) (hash : K → ℕ) (asks : Q → K → Bool) (setting : Setting) (slot : ℕ → ℕ) → CountingsContinueAlone V same hash asks setting slot }
     ensures counts { (same : K → K → Bool) (hash : K → ℕ) → CountingsComeTo V same hash }
 {}
 
 /// And with a sweep, a walk, a `clear` or a `retain`: it begins where the owner rests, may take each of its steps, those of the collector's rows among them,
-/// and none of them has to wait. It is alone after each, and shows a pair that the map has, or asks about one, or is ready for the next one; or it has ended, and
-/// the owner rests. Asked for the next pair, or told whether to keep one, it is alone again. The whole sweep comes to an end, whatever it is told. Where the
+/// and none of them has to wait. It is alone after each, and shows a pair that the map has, or asks about one, or is ready for the next one; or it has ended,
+/// and the owner rests. Asked for the next pair, or told whether to keep one, it is alone again. The whole sweep terminates, whatever it is told. Where the
 /// shards of the counter said how many pairs the map had as it began, they say so at its end.
 pub fn sweeps_run_whole<K, V, Q>()
     ensures begins { (same : K → K → Bool) (hash : K → ℕ) (asks : Q → K → Bool) (setting : Setting) (slot : ℕ → ℕ) → SweepsBeginAlone V same hash asks setting slot }
-    ensures steps { (same : K → K → Bool) (hash : K → ℕ) (asks : Q → K → Bool) (setting : Setting) (slot : ℕ → ℕ) → SweepsGoOnAlone V same hash asks setting slot }
-    ensures told { (same : K → K → Bool) (hash : K → ℕ) (asks : Q → K → Bool) (setting : Setting) (slot : ℕ → ℕ) → SweepsToldAlone V same hash asks setting slot }
+    ensures steps { (same : K → K → Bool) (hash : K → ℕ) (asks : Q → K → Bool) (setting : Setting) (slot : ℕ → ℕ) → SweepsContinueAlone V same hash asks setting slot }
+    ensures told { (same : K → K → Bool) (hash : K → ℕ) (asks : Q → K → Bool) (setting : Setting) (slot : ℕ → ℕ) → SweepsRepliedAlone V same hash asks setting slot }
     ensures ends { (same : K → K → Bool) (hash : K → ℕ) (asks : Q → K → Bool) (setting : Setting) (slot : ℕ → ℕ) → SweepsComeToAnEnd V same hash asks setting slot }
     ensures telling_counts { TellingCountsNothing }
-    ensures telling_keeps { TellingKeepsThePurpose }
+    ensures telling_keeps { RepliesPreserveThePurpose }
     ensures counted { SweptPairsCounted K V }
 {}
 
@@ -76,10 +76,10 @@ pub fn sweeps_leave_pairs<K, V>()
     ensures between { (incremental : Bool) (m0 m : Mem (Node K V)) (c0 c : Chart K) (blocks0 blocks : Blocks) (asked : List ℕ) (o : CallOverAll) → ContentsBetween K V incremental m0 m c0 c blocks0 blocks asked o }
     ensures shown { (incremental : Bool) (m0 m : Mem (Node K V)) (c0 c : Chart K) (blocks0 blocks : Blocks) (asked : List ℕ) (o : CallOverAll) → ShownIsInIt K V incremental m0 m c0 c blocks0 blocks asked o }
     ensures asks_once { (incremental : Bool) (m0 m : Mem (Node K V)) (c0 c : Chart K) (blocks0 blocks : Blocks) (asked : List ℕ) (o : CallOverAll) → AsksOnce K V incremental m0 m c0 c blocks0 blocks asked o }
-    ensures refused { (incremental : Bool) (m0 m : Mem (Node K V)) (c0 c : Chart K) (blocks0 blocks : Blocks) (asked : List ℕ) (o : CallOverAll) → RefusedKeepsAll K V incremental m0 m c0 c blocks0 blocks asked o }
+    ensures refused { (incremental : Bool) (m0 m : Mem (Node K V)) (c0 c : Chart K) (blocks0 blocks : Blocks) (asked : List ℕ) (o : CallOverAll) → RefusedPreservesAll K V incremental m0 m c0 c blocks0 blocks asked o }
     ensures leaves { (incremental : Bool) (m0 m : Mem (Node K V)) (c0 c : Chart K) (blocks0 blocks : Blocks) (asked : List ℕ) (o : CallOverAll) → SweepsLeave K V incremental m0 m c0 c blocks0 blocks asked o }
     ensures kept_begins { (test : K → V → Bool) (m0 : Mem (Node K V)) (blocks0 : Blocks) → KeptBegins test m0 blocks0 }
-    ensures kept_told { (test : K → V → Bool) (m0 : Mem (Node K V)) (blocks0 : Blocks) → KeptTold test m0 blocks0 }
+    ensures kept_told { (test : K → V → Bool) (m0 : Mem (Node K V)) (blocks0 : Blocks) → KeptReplied test m0 blocks0 }
     ensures kept { (test : K → V → Bool) (m0 : Mem (Node K V)) (blocks0 : Blocks) → KeptAtEnd test m0 blocks0 }
     ensures shown_all { (same : K → K → Bool) (hash : K → ℕ) → WalksShowAll V same hash }
 {}

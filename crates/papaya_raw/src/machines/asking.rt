@@ -1,6 +1,6 @@
 //! What a call on one key may be told, what it keeps of that, and where it stands meanwhile.
 ghost use Rattle.std.specs.Prelude.{◌≡◌};
-ghost use Rattle.papaya_raw.specs.Replies.{value_told, owned, untold, silent, as_own, value_for, with_back};
+ghost use Rattle.papaya_raw.specs.Replies.{value_replied, owned, untold, silent, as_own, value_for, with_back};
 
 use std::mem;
 
@@ -103,7 +103,7 @@ impl<V: Drop> Told<V> {
     /// Hands out the value, if it is one. Its own block is to have it from now on.
     fn take(&mut self) -> Option<V>
         ensures left { self.new ≡ owned self.old }
-        ensures taken { result ≡ value_told self.old }
+        ensures taken { result ≡ value_replied self.old }
     {
         match mem::replace(self, Told::Own) {
             Told::Value(value) => Some(value),

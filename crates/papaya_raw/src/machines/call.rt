@@ -1,7 +1,7 @@
 //! A call on one key: its points, and its steps.
 ghost use Rattle.std.specs.Prelude.{◌≡◌};
 ghost use Rattle.seize.specs.Given.SeizeWordsPlan.{May, Steps};
-ghost use Rattle.papaya_raw.specs.CallPoints.{going, over, told_answer, ending, answering};
+ghost use Rattle.papaya_raw.specs.CallPoints.{going, over, answered_with, ending, answering};
 ghost use Rattle.papaya_raw.specs.Call.{call_plan};
 
 use crate::machines::answer::{Called, End, KeyAnswer, Missing, There};
@@ -123,7 +123,7 @@ impl<K, V, Q> KeyCall<K, V, Q> {
 
     /// Ends with an answer, after a change of the map.
     fn tell(&mut self, answer: KeyAnswer) -> Called<Node<K, V>>
-        ensures { (self.new, result) ≡ told_answer self.old answer }
+        ensures { (self.new, result) ≡ answered_with self.old answer }
     {
         self.finish(End::Answered(answer))
     }

@@ -18,7 +18,7 @@ use Rattle.run_schedules.specs.Schedules.Entry.{Entry}
 use Rattle.run_schedules.specs.Schedules.Terms.{shards_of}
 use Rattle.seize_words.specs.declared.fault.Fault.TheVariants as fault
 use Rattle.run_effects.specs.Effects.Known.{Known, known}
-use Rattle.play_events.specs.Given.ExecutorIsThere.{KeepsGiven}
+use Rattle.play_events.specs.Given.ExecutorIsThere.{PreservesSettings}
 use Rattle.play_events.specs.Given.ExecutorDeclared.executor.Executor.{Executor}
 use Rattle.play_events.specs.Given.LoggedEnds.{is_done}
 use Rattle.play_events.specs.Given.LoggedGoes.{Far, ReclaimingGoes, ReclaimingGone, ReclaimingOn, far}
@@ -41,7 +41,7 @@ use Rattle.play_events.specs.Given.GroupedReach.{LeadsTo, Reach}
 use Rattle.play_events.proofs.Given.GroupedAllGoes.{IsAll, all_ends, all_steps, nobody_then, roots_begin, slots_begin}
 use Rattle.play_events.proofs.Given.GroupedMidst.{InEvent, event_begins, event_ends, maps_of, at_rest}
 use Rattle.play_events.proofs.Given.GroupedReached.{reach_so}
-use Rattle.papaya_steps.specs.Pieced.SoFar.{ActsSoFar, GoesOnByActs}
+use Rattle.papaya_steps.specs.Pieced.SoFar.{ActsSoFar, ContinuesByActs}
 use Rattle.papaya_steps.proofs.Pieced.Chains.{goes_to}
 use Rattle.papaya_steps.proofs.Pieced.Ended.{done_outcome, over_is}
 use Rattle.papaya_steps.proofs.Pieced.Quiet.{did_nothing, later_by}
@@ -123,8 +123,8 @@ module _ {K V S : Type 0} (same : K → K → Bool) (by_hasher : S → K → ℕ
 -- The event by which it is, or is out of turn.
 module _ {K V S : Type 0} (same : K → K → Bool) (by_hasher : S → K → ℕ) (any : (batch_size roots : ℕ) → Course V same by_hasher batch_size roots slot_of) (event : Event K V) (makes_none : maps_of event ≡ 0)
     (may : (names : Names) (log : List (Entry K V)) (last : Bool) → MayHave names (moment log) event (ReclaimsAll last)) (played : Played V) (old new : Scheduler K V S) (idle : played.steps ≡ 0)
-    (works : WorksOnAll played old new) (notes : NotesSlots (known old.logged.notes) old.logged.executor.memory.memory) (given : KeepsGiven old.logged.executor new.logged.executor) where
-  pub all_goes_on : GoesOnByActs same by_hasher event played old new
+    (works : WorksOnAll played old new) (notes : NotesSlots (known old.logged.notes) old.logged.executor.memory.memory) (given : PreservesSettings old.logged.executor new.logged.executor) where
+  pub all_goes_on : ContinuesByActs same by_hasher event played old new
   all_goes_on terms log stands in_turn next next2 at = by works.1
     where
       After : Type 0
@@ -182,9 +182,9 @@ module _ {K V S : Type 0} (same : K → K → Bool) (by_hasher : S → K → ℕ
       by (inr (done, gone, g)) = gone_so done gone g
 
 module _ {K V S : Type 0} (same : K → K → Bool) (by_hasher : S → K → ℕ) (any : (batch_size roots : ℕ) → Course V same by_hasher batch_size roots slot_of) (played : Played V) (old new : Scheduler K V S) (idle : played.steps ≡ 0)
-    (works : WorksOnAll played old new) (notes : NotesSlots (known old.logged.notes) old.logged.executor.memory.memory) (given : KeepsGiven old.logged.executor new.logged.executor) where
-  pub reclaim_goes_on : GoesOnByActs same by_hasher events.ReclaimAll played old new
+    (works : WorksOnAll played old new) (notes : NotesSlots (known old.logged.notes) old.logged.executor.memory.memory) (given : PreservesSettings old.logged.executor new.logged.executor) where
+  pub reclaim_goes_on : ContinuesByActs same by_hasher events.ReclaimAll played old new
   reclaim_goes_on = all_goes_on same by_hasher any events.ReclaimAll refl (λ names log last. tt) played old new idle works notes given
 
-  pub close_goes_on : GoesOnByActs same by_hasher events.Close played old new
+  pub close_goes_on : ContinuesByActs same by_hasher events.Close played old new
   close_goes_on = all_goes_on same by_hasher any events.Close refl (λ names log last. tt) played old new idle works notes given

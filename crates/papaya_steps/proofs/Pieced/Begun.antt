@@ -20,11 +20,11 @@ use Rattle.run_schedules.specs.Schedules.Views.{number_of}
 use Rattle.run_schedules.specs.Runs.Stopped.{most_steps}
 use Rattle.seize_words.specs.declared.fault.Fault.TheVariants as fault
 use Rattle.run_effects.specs.Effects.Known.{Known, known}
-use Rattle.play_events.specs.Given.ExecutorIsThere.{KeepsGiven, StaysGiven}
+use Rattle.play_events.specs.Given.ExecutorIsThere.{PreservesSettings, StaysGiven}
 use Rattle.play_events.specs.Given.ExecutorDeclared.executor.Executor.{Executor}
 use Rattle.play_events.proofs.Given.ShedsKeptGiven.{given_on}
 use Rattle.play_events.proofs.Given.ExecutorFresh.{caller_in, no_calls_yet, no_work}
-use Rattle.play_events.specs.Given.SchedulerPlayed.{Began, BeginsSo, HasBegun, IsPlayed, IsUnderWayAs, AsFar, StandsFor, entry_of}
+use Rattle.play_events.specs.Given.SchedulerPlayed.{Began, BeginsSo, HasBegun, IsPlayed, IsUnderWayAs, AsFar, RefinesFor, entry_of}
 use Rattle.play_events.specs.Given.SchedulerDeclared.played.Played.{Played}
 use Rattle.play_events.specs.Given.SchedulerDeclared.scheduler.Scheduler.{Scheduler}
 use Rattle.play_events.proofs.Given.SchedulerBegins.{at_slot, entered, fits}
@@ -43,7 +43,7 @@ use Rattle.play_events.specs.Given.GroupedReach.{Reach}
 use Rattle.play_events.proofs.Given.GroupedCallBegins.{call_begins}
 use Rattle.play_events.proofs.Given.GroupedMidst.{InEvent, event_ends}
 use Rattle.play_events.proofs.Given.GroupedReached.{goes_at, reach_so}
-use Rattle.papaya_steps.specs.Pieced.SoFar.{ActsSoFar, GoesOnByActs}
+use Rattle.papaya_steps.specs.Pieced.SoFar.{ActsSoFar, ContinuesByActs}
 use Rattle.papaya_steps.proofs.Pieced.Quiet.{did_nothing, later_by}
 use Rattle.papaya_steps.proofs.Pieced.StepsCall.{gone_by}
 use Rattle.papaya_steps.proofs.Pieced.Taken.{works_at}
@@ -101,20 +101,20 @@ module _ {K V S : Type 0} (same : K → K → Bool) (by_hasher : S → K → ℕ
 
 -- steps of a call leave what an executor was given
 module _ {K V S : Type 0} (same : K → K → Bool) (hash : K → ℕ) (place : ℕ) where
-  given_for : (n : ℕ) (before after : List Effect) (p q : Scheduler K V S) → GoneFor same hash place n before after p q → KeepsGiven p.logged.executor q.logged.executor
-  given_for zero before after p q (same_list, same_one) = subst (λ (x : Scheduler K V S). KeepsGiven p.logged.executor x.logged.executor) same_one (refl, refl, refl, refl)
+  given_for : (n : ℕ) (before after : List Effect) (p q : Scheduler K V S) → GoneFor same hash place n before after p q → PreservesSettings p.logged.executor q.logged.executor
+  given_for zero before after p q (same_list, same_one) = subst (λ (x : Scheduler K V S). PreservesSettings p.logged.executor x.logged.executor) same_one (refl, refl, refl, refl)
   given_for (suc n) before after p q (mid, t, outcome, before_it, on, st) = given_on p.logged.executor t.logged.executor q.logged.executor (given_for n before mid p t before_it) st.given
 
-  given_gone : (count : ℕ) (outcome : Outcome V) (before after : List Effect) (p q : Scheduler K V S) → GoneBy same hash place count outcome before after p q → KeepsGiven p.logged.executor q.logged.executor
+  given_gone : (count : ℕ) (outcome : Outcome V) (before after : List Effect) (p q : Scheduler K V S) → GoneBy same hash place count outcome before after p q → PreservesSettings p.logged.executor q.logged.executor
   given_gone count outcome before after p q (n, count_is, mid, t, before_it, st) = given_on p.logged.executor t.logged.executor q.logged.executor (given_for n before mid p t before_it) st.given
 
 module _ {K V S : Type 0} (same : K → K → Bool) (by_hasher : S → K → ℕ) (any : (batch_size roots : ℕ) → Course V same by_hasher batch_size roots slot_of) (played : Played V) (old new : Scheduler K V S)
-    (given : KeepsGiven old.logged.executor new.logged.executor) where
+    (given : PreservesSettings old.logged.executor new.logged.executor) where
   abbrev hash : K → ℕ
   hash = by_hasher old.logged.executor.hasher
 
   -- A call begins, or is out of turn.
-  pub begin_goes_on : (own guard name : List ℕ) (call : Call K V) → played.steps ≡ 0 → Began same hash own guard name call played old new → GoesOnByActs same by_hasher (event.Begin own guard name call) played old new
+  pub begin_goes_on : (own guard name : List ℕ) (call : Call K V) → played.steps ≡ 0 → Began same hash own guard name call played old new → ContinuesByActs same by_hasher (event.Begin own guard name call) played old new
   begin_goes_on own guard name call idle began terms log stands in_turn next next2 at =
       let it = began terms (moment log) stands in by it.0 refl it
     where
@@ -139,7 +139,7 @@ module _ {K V S : Type 0} (same : K → K → Bool) (by_hasher : S → K → ℕ
           terms.batch_size terms.roots (any terms.batch_size terms.roots) at
 
   -- One begins without a name, and takes its steps.
-  pub whole_goes_on : (guard name : List ℕ) (call : Call K V) → TookWhole same hash guard name call played old new → GoesOnByActs same by_hasher (event.OneCall guard name call) played old new
+  pub whole_goes_on : (guard name : List ℕ) (call : Call K V) → TookWhole same hash guard name call played old new → ContinuesByActs same by_hasher (event.OneCall guard name call) played old new
   whole_goes_on guard name call took terms log stands in_turn next next2 at = by (took terms (moment log) stands)
     where
       ev : Event K V
@@ -148,7 +148,7 @@ module _ {K V S : Type 0} (same : K → K → Bool) (by_hasher : S → K → ℕ
       After : Type 0
       After = ActsSoFar same by_hasher terms (entry_of ev played ∷ log) new.logged new.calls
 
-      gone_so : (mid : Scheduler K V S) → HasBegun same hash nameless guard name call old mid → StandsFor same hash terms (with_call nameless guard call (number_of name (moment log)) (moment log)) mid
+      gone_so : (mid : Scheduler K V S) → HasBegun same hash nameless guard name call old mid → RefinesFor same hash terms (with_call nameless guard call (number_of name (moment log)) (moment log)) mid
           → GoneBy same hash 0 played.steps played.outcome [] played.effects.items mid new → After
       gone_so mid led stands_mid gone =
           let here : slice_get mid.calls 0 ≡ Some led.caller = ap (λ (l : List (NamedCaller V)). slice_get l 0) led.items in
@@ -166,7 +166,7 @@ module _ {K V S : Type 0} (same : K → K → Bool) (by_hasher : S → K → ℕ
           (λ x in_it. event_ends log ev played.effects.items played.steps played.outcome new.calls x (later_by ev played old new log refl given next next2) in_it) new.logged.executor (known new.logged.notes) done))
           terms.batch_size terms.roots (any terms.batch_size terms.roots) at
 
-      steps_so : (mid : Scheduler K V S) → HasBegun same hash nameless guard name call old mid → StandsFor same hash terms (with_call nameless guard call (number_of name (moment log)) (moment log)) mid
+      steps_so : (mid : Scheduler K V S) → HasBegun same hash nameless guard name call old mid → RefinesFor same hash terms (with_call nameless guard call (number_of name (moment log)) (moment log)) mid
           → TakenBy same hash 0 most_steps far.Goes played mid new → After
       steps_so mid led stands_mid (takes, comes, gone) = gone_so mid led stands_mid gone
 

@@ -18,7 +18,7 @@ use Rattle.play_events.specs.Given.PlayedPlay.{State, choice_come}
 use Rattle.play_events.specs.Given.GroupedCalled.{PlaysSo}
 use Rattle.play_events.proofs.Given.GroupedAside.{callers_same}
 use Rattle.play_events.proofs.Given.GroupedChosen.{choice_goes}
-use Rattle.papaya_steps.specs.Pieced.SoFar.{ActsSoFar, GoesOnByActs}
+use Rattle.papaya_steps.specs.Pieced.SoFar.{ActsSoFar, ContinuesByActs}
 use Rattle.play_events.specs.Given.GroupedGrouping.{MayRest}
 
 module _ {K V S : Type 0} where
@@ -43,7 +43,7 @@ module _ {K V S : Type 0} where
 
 module _ {K V S : Type 0} (same : K → K → Bool) (by_hasher : S → K → ℕ) (any : (batch_size roots : ℕ) → Course V same by_hasher batch_size roots slot_of) (choice : ℕ) (played : Played V) (old new : Scheduler K V S)
     (idle : played.steps ≡ 0) (works : WorksOnSetup played old new (event.Choose choice)) where
-  pub choice_goes_on : GoesOnByActs same by_hasher (event.Choose choice) played old new
+  pub choice_goes_on : ContinuesByActs same by_hasher (event.Choose choice) played old new
   choice_goes_on terms log stands in_turn next next2 at =
       let count : length new.logged.executor.maps.items ≡ length old.logged.executor.maps.items = ap (λ (p : Scheduler K V S). length p.logged.executor.maps.items) works.2 in
       let e = entry_of (event.Choose choice) played in

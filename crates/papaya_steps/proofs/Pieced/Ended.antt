@@ -16,7 +16,7 @@ use Rattle.run_schedules.specs.Schedules.Terms.{shards_of}
 use Rattle.run_schedules.specs.Schedules.Views.{number_of}
 use Rattle.seize_words.specs.declared.fault.Fault.{Fault}
 use Rattle.run_effects.specs.Effects.Known.{Known, known}
-use Rattle.play_events.specs.Given.ExecutorIsThere.{KeepsGiven, work_of}
+use Rattle.play_events.specs.Given.ExecutorIsThere.{PreservesSettings, work_of}
 use Rattle.play_events.specs.Given.LoggedEnds.{is_done}
 use Rattle.play_events.specs.Given.LoggedGoes.{EndGoes, EndGone, EndOn, Far, far}
 use Rattle.play_events.specs.Given.LoggedDeclared.logged.Logged.{Logged}
@@ -37,7 +37,7 @@ use Rattle.play_events.specs.Given.GroupedReach.{Reach}
 use Rattle.play_events.proofs.Given.GroupedEndGoes.{EndsMap, end_begins, end_steps}
 use Rattle.play_events.proofs.Given.GroupedMidst.{InEvent, event_begins, event_ends, at_rest}
 use Rattle.play_events.proofs.Given.GroupedReached.{goes_at, reach_so}
-use Rattle.papaya_steps.specs.Pieced.SoFar.{ActsSoFar, GoesOnByActs}
+use Rattle.papaya_steps.specs.Pieced.SoFar.{ActsSoFar, ContinuesByActs}
 use Rattle.papaya_steps.proofs.Pieced.Chains.{goes_to}
 use Rattle.papaya_steps.proofs.Pieced.Quiet.{did_nothing, later_by}
 
@@ -98,8 +98,8 @@ may_end log own map is names true = is
 may_end log own map is names false = is
 
 module _ {K V S : Type 0} (same : K → K → Bool) (by_hasher : S → K → ℕ) (any : (batch_size roots : ℕ) → Course V same by_hasher batch_size roots slot_of) (own : List ℕ) (played : Played V) (old new : Scheduler K V S)
-    (idle : played.steps ≡ 0) (works : WorksOnEnd played old new own) (given : KeepsGiven old.logged.executor new.logged.executor) where
-  pub end_goes_on : GoesOnByActs same by_hasher (event.EndMap own) played old new
+    (idle : played.steps ≡ 0) (works : WorksOnEnd played old new own) (given : PreservesSettings old.logged.executor new.logged.executor) where
+  pub end_goes_on : ContinuesByActs same by_hasher (event.EndMap own) played old new
   end_goes_on terms log stands in_turn next next2 at = by works.1
     where
       ev : Event K V

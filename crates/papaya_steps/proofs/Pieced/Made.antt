@@ -54,7 +54,7 @@ use Rattle.play_events.specs.Given.GroupedReach.{Reach}
 use Rattle.play_events.proofs.Given.GroupedMakingGoes.{MakesSo, MakesThen, is_on, making_begins, making_steps}
 use Rattle.play_events.proofs.Given.GroupedMidst.{InEvent, event_ends_so, at_rest}
 use Rattle.play_events.proofs.Given.GroupedReached.{goes_at, reach_so}
-use Rattle.papaya_steps.specs.Pieced.SoFar.{ActsSoFar, GoesOnByActs}
+use Rattle.papaya_steps.specs.Pieced.SoFar.{ActsSoFar, ContinuesByActs}
 use Rattle.papaya_steps.proofs.Pieced.Chains.{goes_to}
 use Rattle.play_events.proofs.Given.AgreesFirstPlaces.{asked_places, first_back}
 use Rattle.papaya_steps.proofs.Pieced.Quiet.{did_nothing}
@@ -178,7 +178,7 @@ module _ {K V S : Type 0} (same : K → K → Bool) (by_hasher : S → K → ℕ
 module _ {K V S : Type 0} (same : K → K → Bool) (by_hasher : S → K → ℕ) (any : (batch_size roots : ℕ) → Course V same by_hasher batch_size roots slot_of) (own : List ℕ) (mode : ResizeMode) (capacity : ℕ) (played : Played V)
     (old new : Scheduler K V S) (idle : played.steps ≡ 0) (works : WorksOnMap played old new own mode capacity) (lawful : AreLawful same (by_hasher old.logged.executor.hasher)) (processors : old.setup.processors ≤ 2 ^ 63)
     (count : length new.logged.executor.maps.items ≡ numbers_made played.outcome (length old.logged.executor.maps.items)) where
-  pub make_goes_on : GoesOnByActs same by_hasher (event.MakeMap own mode capacity) played old new
+  pub make_goes_on : ContinuesByActs same by_hasher (event.MakeMap own mode capacity) played old new
   make_goes_on terms log stands in_turn next next2 at = by works.1
     where
       ev : Event K V

@@ -6,13 +6,13 @@ use Rattle.run_schedules.specs.Schedules.After.{moment}
 use Rattle.run_schedules.specs.Schedules.Entry.{Entry}
 use Rattle.run_schedules.specs.Schedules.Terms.{Terms}
 use Rattle.play_events.specs.Given.ExecutorDeclared.caller.NamedCaller.{NamedCaller}
-use Rattle.play_events.specs.Given.ExecutorIsThere.{KeepsGiven}
+use Rattle.play_events.specs.Given.ExecutorIsThere.{PreservesSettings}
 use Rattle.play_events.specs.Given.LoggedDeclared.logged.Logged.{Logged}
 use Rattle.play_events.specs.Given.SchedulerPlayed.{entry_of}
 use Rattle.play_events.specs.Given.SchedulerDeclared.played.Played.{Played}
 use Rattle.play_events.specs.Given.SchedulerDeclared.scheduler.Scheduler.{Scheduler}
 use Rattle.play_events.proofs.Given.GroupedMidst.{maps_of}
-use Rattle.papaya_steps.specs.Pieced.SoFar.{ActsSoFar, GoesOnByActs}
+use Rattle.papaya_steps.specs.Pieced.SoFar.{ActsSoFar, ContinuesByActs}
 use Rattle.play_events.specs.Given.GroupedGrouping.{MayRest}
 use Rattle.run_schedules.specs.Schedules.Moment.{Moment}
 
@@ -43,14 +43,14 @@ module _ {K V S : Type 0} (same : K → K → Bool) (by_hasher : S → K → ℕ
 
 module _ {K V S : Type 0} (event : Event K V) (played : Played V) (old new : Scheduler K V S) where
   -- an event that makes no map, and keeps how many of them have a number, is one after which there are no fewer
-  pub later_by : (log : List (Entry K V)) → maps_of event ≡ 0 → KeepsGiven old.logged.executor new.logged.executor → length old.logged.executor.maps.items ≡ (moment log).made
+  pub later_by : (log : List (Entry K V)) → maps_of event ≡ 0 → PreservesSettings old.logged.executor new.logged.executor → length old.logged.executor.maps.items ≡ (moment log).made
       → length new.logged.executor.maps.items ≡ (moment (entry_of event played ∷ log)).made → (moment log).made + maps_of event ≤ (moment (entry_of event played ∷ log)).made
   later_by log none given next next2 = let same_count = given.3 in omega (arith, none, same_count, next, next2)
 
   -- So it is of one by which nothing is done.
   pub did_nothing : (same : K → K → Bool) (by_hasher : S → K → ℕ) → played.steps ≡ 0 → played.effects.items ≡ [] → new.logged ≡ old.logged → new.calls ≡ old.calls
       → ((m : Moment K V) → m.there ≡ old.there → MayRest m event played.outcome)
-      → GoesOnByActs same by_hasher event played old new
+      → ContinuesByActs same by_hasher event played old new
   did_nothing same by_hasher idle none logged calls rest terms log stands in_turn next next2 at =
       let count : length new.logged.executor.maps.items ≡ length old.logged.executor.maps.items = ap (λ (l : Logged K V S). length l.executor.maps.items) logged in
       subst (λ (l : Logged K V S). ActsSoFar same by_hasher terms (entry_of event played ∷ log) l new.calls) (sym logged)

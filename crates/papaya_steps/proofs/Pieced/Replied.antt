@@ -18,10 +18,10 @@ use Rattle.run_schedules.specs.Schedules.Entry.{Entry}
 use Rattle.run_schedules.specs.Schedules.Terms.{Terms, shards_of}
 use Rattle.run_effects.specs.Effects.Known.{known}
 use Rattle.seize_words.specs.declared.fault.Fault.TheVariants as fault
-use Rattle.play_events.specs.Given.ExecutorIsThere.{IsThere, KeepsGiven, StaysGiven}
+use Rattle.play_events.specs.Given.ExecutorIsThere.{IsThere, PreservesSettings, StaysGiven}
 use Rattle.play_events.specs.Given.ExecutorReplying.{RepliesThere}
 use Rattle.play_events.specs.Given.ExecutorDeclared.executor.Executor.{Executor}
-use Rattle.play_events.specs.Given.HandsAsked.{as_told}
+use Rattle.play_events.specs.Given.HandsAsked.{reply_to_machine}
 use Rattle.play_events.specs.Given.SchedulerPlayed.{HasReplied, IsPlayed, Replies as Told', entry_of}
 use Rattle.play_events.proofs.Given.SchedulerHere.{here_at, read_here}
 use Rattle.play_events.specs.Given.SchedulerDeclared.played.Played.{Played}
@@ -37,7 +37,7 @@ use Rattle.play_events.specs.Given.ActsLists.{Course}
 use Rattle.run_schedules.specs.Deeds.Deeds.{Replies, Entry as Act}
 use Rattle.play_events.specs.Given.DrivesExecutors.{IsAct}
 use Rattle.play_events.proofs.Given.DrivesExecutors.{executors_act}
-use Rattle.play_events.specs.Given.PlayedPlay.{Calling, State, call_told, play_act, reply_for, told_call}
+use Rattle.play_events.specs.Given.PlayedPlay.{Calling, State, call_replied, play_act, reply_for, replied_call}
 use Rattle.play_events.specs.Given.PlayedReached.{IsOfStage}
 use Rattle.play_events.proofs.Given.PlayedPlayedAs.{played_as}
 use Rattle.play_events.specs.Given.GroupedCalled.{CallersAre, IsCalledAs, PlaysSo}
@@ -58,7 +58,7 @@ abbrev abort_of : {V : Type 0} → Reply V → V → V
 abort_of (reply.Aborts value) other = value
 abort_of _ other = other
 
-told_back : {V : Type 0} (told : Reply V) (other : V) → reply_for (abort_of told other) (as_told told) ≡ told
+told_back : {V : Type 0} (told : Reply V) (other : V) → reply_for (abort_of told other) (reply_to_machine told) ≡ told
 told_back (reply.Gives value) other = refl
 told_back reply.Removes other = refl
 told_back (reply.Aborts value) other = refl
@@ -88,7 +88,7 @@ module _ {K V S : Type 0} (same : K → K → Bool) (by_hasher : S → K → ℕ
   module _ (names : Names) (x : State K V S) (so : CallersAre names old.calls x) (c : Calling K V) (at : x.now.calls d.map d.number ≡ Some c) (aborts : ℕ → V) (is_ok_then : is_ok (machine_replied c.machine did.as_it).1 ≡ true)
       (as_reply : reply_for (aborts (length x.told)) did.as_it ≡ told) where
     abbrev z : State K V S
-    z = call_told d.number d.map aborts did.as_it x c
+    z = call_replied d.number d.map aborts did.as_it x c
 
     history_then : z.history ≡ entry ∷ x.history
     history_then =
@@ -105,7 +105,7 @@ module _ {K V S : Type 0} (same : K → K → Bool) (by_hasher : S → K → ℕ
     others a other is = record {
       name = is.name;
       call = is.call;
-      here = call_beside x.now.calls d.map d.number (Some (told_call (machine_replied c.machine did.as_it) (reply_for (aborts (length x.told)) did.as_it) c)) a.map a.number other ∙ is.here;
+      here = call_beside x.now.calls d.map d.number (Some (replied_call (machine_replied c.machine did.as_it) (reply_for (aborts (length x.told)) did.as_it) c)) a.map a.number other ∙ is.here;
       kind = is.kind;
       value = is.value;
     }
@@ -113,8 +113,8 @@ module _ {K V S : Type 0} (same : K → K → Bool) (by_hasher : S → K → ℕ
     it_then : IsCalledAs names z next_caller
     it_then = record {
       name = called.name;
-      call = told_call (machine_replied c.machine did.as_it) (reply_for (aborts (length x.told)) did.as_it) c;
-      here = call_here x.now.calls d.map d.number (Some (told_call (machine_replied c.machine did.as_it) (reply_for (aborts (length x.told)) did.as_it) c));
+      call = replied_call (machine_replied c.machine did.as_it) (reply_for (aborts (length x.told)) did.as_it) c;
+      here = call_here x.now.calls d.map d.number (Some (replied_call (machine_replied c.machine did.as_it) (reply_for (aborts (length x.told)) did.as_it) c));
       kind = ap (λ (a : Calling K V). kind_of a.call) (sym one) ∙ called.kind;
       value = ap (λ (b : Bool). if b then aborted_by (reply_for (aborts (length x.told)) did.as_it) else c.value) is_ok_then ∙ ap aborted_by as_reply ∙ sym did.value_is;
     }
@@ -129,10 +129,10 @@ module _ {K V S : Type 0} (same : K → K → Bool) (by_hasher : S → K → ℕ
   -- played, it is a piece of one entry
   piece : (x : State K V S) → PlaysSo log old.calls x → (c : Calling K V) → x.now.calls d.map d.number ≡ Some c → (aborts : ℕ → V) → is_ok (machine_replied c.machine did.as_it).1 ≡ true
       → reply_for (aborts (length x.told)) did.as_it ≡ told → played.outcome ≡ outcome.Goes → played.steps ≡ 0 → played.effects.items ≡ []
-      → PlaysSo (entry_of (event.Replied own told) played ∷ log) new.calls (call_told d.number d.map aborts did.as_it x c)
+      → PlaysSo (entry_of (event.Replied own told) played ∷ log) new.calls (call_replied d.number d.map aborts did.as_it x c)
   piece x so c at aborts is_ok_then as_reply goes none idle =
       let begins = event_begins log (event.Replied own told) at_rest refl old.calls x so in
-      let z = call_told d.number d.map aborts did.as_it x c in
+      let z = call_replied d.number d.map aborts did.as_it x c in
       let callers = callers_then so.names x so.callers c at aborts is_ok_then as_reply in
       let name : IsCalledAs so.names x d = each_at (λ a. IsCalledAs so.names x a) old.calls did.place d here so.callers.each in
       let on = event_goes_on log (event.Replied own told) [] 0 at_rest old.calls new.calls x z begins entry (history_then so.names x so.callers c at aborts is_ok_then as_reply) (λ n l. refl) refl refl
@@ -177,7 +177,7 @@ module _ {K V S : Type 0} (same : K → K → Bool) (by_hasher : S → K → ℕ
 
 -- The event by which a reply is told, or is out of turn.
 module _ {K V S : Type 0} (same : K → K → Bool) (by_hasher : S → K → ℕ) (any : (batch_size roots : ℕ) → Course V same by_hasher batch_size roots slot_of) (own : List ℕ) (told : Reply V) (played : Played V) (old new : Scheduler K V S)
-    (idle : played.steps ≡ 0) (tells : Told' same (by_hasher old.logged.executor.hasher) own told played old new) (given : KeepsGiven old.logged.executor new.logged.executor) (terms : Terms) (log : List (Entry K V))
+    (idle : played.steps ≡ 0) (tells : Told' same (by_hasher old.logged.executor.hasher) own told played old new) (given : PreservesSettings old.logged.executor new.logged.executor) (terms : Terms) (log : List (Entry K V))
     (stands : IsPlayed same (by_hasher old.logged.executor.hasher) terms log old) (in_turn : (moment log).is_closed ≡ false) (next : length old.logged.executor.maps.items ≡ (moment log).made)
     (next2 : length new.logged.executor.maps.items ≡ (moment (entry_of (event.Replied own told) played ∷ log)).made) where
   abbrev Goes : Type 0

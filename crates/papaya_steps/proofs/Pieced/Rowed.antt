@@ -21,14 +21,14 @@ use Rattle.run_schedules.specs.Schedules.Terms.{Terms, shards_of}
 use Rattle.seize_words.specs.declared.fault.Fault.{Fault}
 use Rattle.seize_words.specs.declared.fault.Fault.TheVariants.{Memory, SlotsUsedUp}
 use Rattle.run_effects.specs.Effects.Known.{Known, known}
-use Rattle.play_events.specs.Given.ExecutorIsThere.{KeepsGiven, work_of}
+use Rattle.play_events.specs.Given.ExecutorIsThere.{PreservesSettings, work_of}
 use Rattle.play_events.specs.Given.ExecutorOnSlots.{MayBegin, row_on}
 use Rattle.play_events.specs.Given.ExecutorDeclared.worker.Work.{Work}
 use Rattle.play_events.specs.Given.ExecutorDeclared.worker.Work.TheVariants.{OnSlot}
 use Rattle.play_events.specs.Given.LoggedGoes.{Far, RowGoes, RowGone, far}
 use Rattle.play_events.specs.Given.LoggedDeclared.logged.Logged.{Logged}
-use Rattle.play_events.specs.Given.SchedulerPlayed.{IsDue, IsPlayed, entry_of}
-use Rattle.play_events.specs.Given.SchedulerWorks.{ComesBy, DidNothing, HasNoRow, IsAbout, IsItsRow, WorksOnSlot, told_so}
+use Rattle.play_events.specs.Given.SchedulerPlayed.{IsInTurn, IsPlayed, entry_of}
+use Rattle.play_events.specs.Given.SchedulerWorks.{HasOutcomeBy, DidNothing, HasNoRow, IsAbout, IsItsRow, WorksOnSlot, outcome_of_row}
 use Rattle.play_events.specs.Given.SchedulerDeclared.played.Played.{Played}
 use Rattle.play_events.specs.Given.SchedulerDeclared.scheduler.Scheduler.{Scheduler}
 use Rattle.play_events.proofs.Given.SchedulerDrops as drops
@@ -49,7 +49,7 @@ use Rattle.play_events.proofs.Given.GroupedMidst.{InEvent, event_begins, event_e
 use Rattle.play_events.proofs.Given.GroupedReached.{goes_at, reach_so}
 use Rattle.play_events.proofs.Given.GroupedRowGoes.{row_begins, row_steps}
 use Rattle.papaya_steps.specs.Pieced.RowFor.{IsRowFor}
-use Rattle.papaya_steps.specs.Pieced.SoFar.{ActsSoFar, GoesOnByActs}
+use Rattle.papaya_steps.specs.Pieced.SoFar.{ActsSoFar, ContinuesByActs}
 use Rattle.papaya_steps.proofs.Pieced.Chains.{goes_to}
 use Rattle.papaya_steps.proofs.Pieced.Quiet.{did_nothing, later_by}
 use Rattle.papaya_steps.proofs.Pieced.RowKinds.{begins_row, keeps_row, may_row, shared}
@@ -103,19 +103,19 @@ module _ {K V S : Type 0} (same : K → K → Bool) (by_hasher : S → K → ℕ
 -- What is so of the row of each event: it may begin, and the event comes to what it has told.
 module _ {K V S : Type 0} (same : K → K → Bool) (hash : K → ℕ) (terms : Terms) (log : List (Entry K V)) (old : Scheduler K V S) (stands : IsPlayed same hash terms log old) (in_turn : (moment log).is_closed ≡ false)
     (new : Logged K V S) (slot : ℕ) (effects : List Effect) where
-  abbrev due : (event : Event K V) → IsDue same hash terms log event old
+  abbrev due : (event : Event K V) → IsInTurn same hash terms log event old
   due event = record { played = stands; in_turn = in_turn }
 
   abbrev Facts : Event K V → SlotCall → Outcome V → Type 0
   Facts event called o =
-      MayBegin old.logged.executor slot called × ((said : RowTold (Node K V)) → ComesBy event said o → RowRan slot called said [] effects old.logged new → o ≡ row_outcome said)
+      MayBegin old.logged.executor slot called × ((said : RowTold (Node K V)) → HasOutcomeBy event said o → RowRan slot called said [] effects old.logged new → o ≡ row_outcome said)
 
   -- a registering tells a slot, or a fault
-  took : (enters : Bool) (said : RowTold (Node K V)) (o : Outcome V) → o ≡ told_so said → RowRan 0 (call.Register enters) said [] effects old.logged new → o ≡ row_outcome said
+  took : (enters : Bool) (said : RowTold (Node K V)) (o : Outcome V) → o ≡ outcome_of_row said → RowRan 0 (call.Register enters) said [] effects old.logged new → o ≡ row_outcome said
   took enters said o is ran = by (taking.which same hash terms (moment log) old stands enters said [] effects new ran)
     where
       Fits : RowTold (Node K V) → Type 0
-      Fits t = o ≡ told_so t → o ≡ row_outcome t
+      Fits t = o ≡ outcome_of_row t → o ≡ row_outcome t
 
       by : ((at : ℕ) × (said ≡ told.Registered at)) ⊎ ((fault : Fault) × (said ≡ told.Refused fault) × ((fault ≡ Memory) ⊎ (fault ≡ SlotsUsedUp))) → o ≡ row_outcome said
       by (inl (at, says)) = subst Fits (sym says) (λ e. e) is
@@ -162,8 +162,8 @@ module _ {K V S : Type 0} (same : K → K → Bool) (hash : K → ℕ) (terms : 
   row_facts _ called o about its = absurd about
 
 module _ {K V S : Type 0} (same : K → K → Bool) (by_hasher : S → K → ℕ) (any : (batch_size roots : ℕ) → Course V same by_hasher batch_size roots slot_of) (event : Event K V) (makes_none : maps_of event ≡ 0) (played : Played V)
-    (old new : Scheduler K V S) (idle : played.steps ≡ 0) (works : WorksOnSlot played old new event) (given : KeepsGiven old.logged.executor new.logged.executor) where
-  pub row_goes_on : GoesOnByActs same by_hasher event played old new
+    (old new : Scheduler K V S) (idle : played.steps ≡ 0) (works : WorksOnSlot played old new event) (given : PreservesSettings old.logged.executor new.logged.executor) where
+  pub row_goes_on : ContinuesByActs same by_hasher event played old new
   row_goes_on terms log stands in_turn next next2 at = by works.1
     where
       After : Type 0
@@ -175,7 +175,7 @@ module _ {K V S : Type 0} (same : K → K → Bool) (by_hasher : S → K → ℕ
       l : Logged K V S
       l = old.logged
 
-      ran_so : (slot : ℕ) → IsAbout event old slot → (called : SlotCall) → IsItsRow event old slot called → (said : RowTold (Node K V)) → ComesBy event said played.outcome
+      ran_so : (slot : ℕ) → IsAbout event old slot → (called : SlotCall) → IsItsRow event old slot called → (said : RowTold (Node K V)) → HasOutcomeBy event said played.outcome
           → RowRan slot called said [] played.effects.items old.logged new.logged → After
       ran_so slot about called its said comes ran =
           let facts = row_facts same its_hash terms log old stands in_turn new.logged slot played.effects.items event called played.outcome about its in
@@ -207,7 +207,7 @@ module _ {K V S : Type 0} (same : K → K → Bool) (by_hasher : S → K → ℕ
       by : ((fault : Fault) × (played.outcome ≡ outcome.Refused fault) × DidNothing played old new)
           ⊎ ((slot : ℕ) × IsAbout event old slot
           × (((played.outcome ≡ outcome.Done) × HasNoRow event old.there slot × DidNothing played old new)
-          ⊎ ((called : SlotCall) × IsItsRow event old slot called × (said : RowTold (Node K V)) × ComesBy event said played.outcome
+          ⊎ ((called : SlotCall) × IsItsRow event old slot called × (said : RowTold (Node K V)) × HasOutcomeBy event said played.outcome
           × RowRan slot called said [] played.effects.items old.logged new.logged))) → After
       by (inl (fault, says, nothing)) = did_nothing event played old new same by_hasher idle nothing.0 nothing.1 works.0 (λ m there. inl (ap refuses says)) terms log stands in_turn next next2 at
       by (inr (slot, about, inl (done, no_row, nothing))) = did_nothing event played old new same by_hasher idle nothing.0 nothing.1 works.0 (λ m there. inr (inr (inr (shared [] m old there slot event about no_row)))) terms log stands in_turn next next2 at

@@ -10,7 +10,7 @@ use Rattle.papaya_raw.specs.declared.machines.progress.Progress.{Progress}
 use Rattle.papaya_raw.specs.declared.machines.progress.Progress.TheVariants as progress
 use Rattle.run_effects.specs.declared.changed.Changed.{Changed}
 use Rattle.play_events.specs.Given.CallersTogether.{UnderWay}
-use Rattle.play_events.specs.Given.FinishesMachines.{GoesOnAs, machine_of}
+use Rattle.play_events.specs.Given.FinishesMachines.{ContinuesAs, machine_of}
 use Rattle.play_events.specs.Given.ScenesScene.{Scene, slot_of}
 use Rattle.play_events.specs.Given.ScenesStepping.{has_ended}
 use Rattle.run_schedules.specs.declared.effect.Effect.{Effect}
@@ -51,7 +51,7 @@ use Rattle.play_events.proofs.Given.GroupedOneMore.{one_act}
 use Rattle.seize_words.proofs.General.{same_some}
 
 -- what goes on is there as this machine
-goes : {K V : Type 0} (machine : Machine K V K) (said : Progress (Node K V)) (next : Option (UnderWay K V K)) → has_ended said ≡ false → GoesOnAs machine said next → option_map machine_of next ≡ Some machine
+goes : {K V : Type 0} (machine : Machine K V K) (said : Progress (Node K V)) (next : Option (UnderWay K V K)) → has_ended said ≡ false → ContinuesAs machine said next → option_map machine_of next ≡ Some machine
 goes machine progress.Goes next on (u, is, same) = ap (option_map machine_of) is ∙ ap Some same
 goes machine (progress.Gave node) next on (u, is, same) = ap (option_map machine_of) is ∙ ap Some same
 goes machine (progress.Unstored node) next on (u, is, same) = ap (option_map machine_of) is ∙ ap Some same

@@ -14,7 +14,7 @@ use Rattle.run_schedules.specs.Schedules.After.{moment}
 use Rattle.run_schedules.specs.Schedules.Entry.{Entry}
 use Rattle.run_effects.specs.Effects.Known.{Known, known}
 use Rattle.play_events.specs.Given.SchedulerDeclared.scheduler.Scheduler.{Scheduler}
-use Rattle.play_events.specs.Given.NamedTelling.{goes_on}
+use Rattle.play_events.specs.Given.NamedTelling.{continues}
 use Rattle.play_events.specs.Given.ExecutorDeclared.caller.NamedCaller.{NamedCaller}
 use Rattle.play_events.specs.Given.ExecutorDeclared.kind.CallKind.{CallKind}
 use Rattle.play_events.specs.Given.ActsLists.{Course}
@@ -33,7 +33,7 @@ none_more : (n : ℕ) → n ≡ 0 + n
 none_more n = omega arith
 
 -- a step after which a call goes on by itself is none by which it has ended
-still : {K V : Type 0} (by : Known) (its : CallKind) (value : Option V) (said : Progress (Node K V)) → goes_on (outcome_of by its value said) ≡ true → has_ended said ≡ false
+still : {K V : Type 0} (by : Known) (its : CallKind) (value : Option V) (said : Progress (Node K V)) → continues (outcome_of by its value said) ≡ true → has_ended said ≡ false
 still by its value progress.Goes on = refl
 still by its value (progress.Gave node) on = refl
 still by its value (progress.Unstored node) on = refl
@@ -113,7 +113,7 @@ module _ {K V S : Type 0} (same : K → K → Bool) (by_hasher : S → K → ℕ
         let was = gone_for n before mid p t steps prev before_it stands at in
         let done = one_goes outcome mid after t q (n + steps) was.0 h b r any st was.1.1 was.1.0 in
         let count : 1 + (n + steps) ≡ suc n + steps = omega arith in
-        (outcome, (subst (λ (k : ℕ). InMidst h b r after k outcome q) count done.0, done.1 (still (known q.logged.notes) st.caller.kind st.caller.value st.said (sym (ap goes_on st.outcome_is) ∙ on))))
+        (outcome, (subst (λ (k : ℕ). InMidst h b r after k outcome q) count done.0, done.1 (still (known q.logged.notes) st.caller.kind st.caller.value st.said (sym (ap continues st.outcome_is) ∙ on))))
 
     -- and then one that came to this
     pub gone_by : (count : ℕ) (outcome : Outcome V) (before after : List Effect) (p q : Scheduler K V S) (prev : Outcome V) → GoneBy same (by_hasher h) place count outcome before after p q → StandsThere p → InMidst h b r before 0 prev p

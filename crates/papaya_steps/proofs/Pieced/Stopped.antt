@@ -16,7 +16,7 @@ use Rattle.run_schedules.specs.Schedules.Entry.{Entry}
 use Rattle.run_schedules.specs.Schedules.Terms.{Terms, shards_of}
 use Rattle.seize_words.specs.declared.fault.Fault.TheVariants as fault
 use Rattle.run_effects.specs.Effects.Known.{known}
-use Rattle.play_events.specs.Given.ExecutorIsThere.{IsThere, KeepsGiven, StaysGiven}
+use Rattle.play_events.specs.Given.ExecutorIsThere.{IsThere, PreservesSettings, StaysGiven}
 use Rattle.play_events.specs.Given.ExecutorReplying.{StopsThere}
 use Rattle.play_events.specs.Given.ExecutorDeclared.executor.Executor.{Executor}
 use Rattle.play_events.specs.Given.SchedulerPlayed.{HasStopped, IsPlayed, Stops as GivesUp, entry_of}
@@ -120,7 +120,7 @@ module _ {K V S : Type 0} (same : K → K → Bool) (by_hasher : S → K → ℕ
 
 -- The event by which it is given up, or is out of turn.
 module _ {K V S : Type 0} (same : K → K → Bool) (by_hasher : S → K → ℕ) (any : (batch_size roots : ℕ) → Course V same by_hasher batch_size roots slot_of) (own : List ℕ) (played : Played V) (old new : Scheduler K V S)
-    (idle : played.steps ≡ 0) (stops : GivesUp same (by_hasher old.logged.executor.hasher) own played old new) (given : KeepsGiven old.logged.executor new.logged.executor) (terms : Terms) (log : List (Entry K V))
+    (idle : played.steps ≡ 0) (stops : GivesUp same (by_hasher old.logged.executor.hasher) own played old new) (given : PreservesSettings old.logged.executor new.logged.executor) (terms : Terms) (log : List (Entry K V))
     (stands : IsPlayed same (by_hasher old.logged.executor.hasher) terms log old) (in_turn : (moment log).is_closed ≡ false) (next : length old.logged.executor.maps.items ≡ (moment log).made)
     (next2 : length new.logged.executor.maps.items ≡ (moment (entry_of (event.Stop own) played ∷ log)).made) where
   abbrev Goes : Type 0

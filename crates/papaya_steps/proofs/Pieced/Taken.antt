@@ -14,8 +14,8 @@ use Rattle.run_schedules.specs.Schedules.Entry.{Entry}
 use Rattle.run_schedules.specs.Schedules.Moment.{Moment}
 use Rattle.run_schedules.specs.Schedules.Terms.{Terms, shards_of}
 use Rattle.run_effects.specs.Effects.Known.{known}
-use Rattle.play_events.specs.Given.ExecutorIsThere.{KeepsGiven}
-use Rattle.play_events.specs.Given.SchedulerPlayed.{IsPlayed, IsUnderWayAs, AsFar, StandsFor, entry_of}
+use Rattle.play_events.specs.Given.ExecutorIsThere.{PreservesSettings}
+use Rattle.play_events.specs.Given.SchedulerPlayed.{IsPlayed, IsUnderWayAs, AsFar, RefinesFor, entry_of}
 use Rattle.play_events.specs.Given.SchedulerDeclared.played.Played.{Played}
 use Rattle.play_events.specs.Given.SchedulerDeclared.scheduler.Scheduler.{Scheduler}
 use Rattle.play_events.specs.Given.NamedSeen.{is_named}
@@ -28,7 +28,7 @@ use Rattle.play_events.specs.Given.SteppingStepping.{SaysAgain, TakenBy, TookSte
 use Rattle.play_events.specs.Given.GroupedGrouping.{MayHave, Names, number_called, MayRest, asks_for_steps}
 use Rattle.play_events.specs.Given.GroupedReach.{Reach}
 use Rattle.play_events.specs.Given.GroupedCalled.{PlaysSo}
-use Rattle.papaya_steps.specs.Pieced.SoFar.{ActsSoFar, GoesOnByActs}
+use Rattle.papaya_steps.specs.Pieced.SoFar.{ActsSoFar, ContinuesByActs}
 use Rattle.play_events.proofs.Given.GroupedCallers.{each_at, placed_at}
 use Rattle.play_events.proofs.Given.GroupedMidst.{InEvent, event_begins, event_ends, maps_of, at_rest}
 use Rattle.papaya_steps.proofs.Pieced.Quiet.{later_by, quiet_goes_on}
@@ -37,7 +37,7 @@ use Rattle.papaya_steps.proofs.Pieced.StepCall.{HasCallIn}
 use Rattle.papaya_steps.proofs.Pieced.StepsCall.{gone_by}
 
 -- whose call is under way, has it under way in the executor
-pub works_at : {K V S : Type 0} (same : K → K → Bool) (hash : K → ℕ) (terms : Terms) (m : Moment K V) (p : Scheduler K V S) → StandsFor same hash terms m p → (place : ℕ) (d : NamedCaller V)
+pub works_at : {K V S : Type 0} (same : K → K → Bool) (hash : K → ℕ) (terms : Terms) (m : Moment K V) (p : Scheduler K V S) → RefinesFor same hash terms m p → (place : ℕ) (d : NamedCaller V)
     → slice_get p.calls place ≡ Some d → HasCallIn d.number d.map p.logged.executor
 works_at same hash terms m p stands place d here =
     let under_way = each_at (IsUnderWayAs AsFar stands.name stands.scene p.there) p.calls place d here stands.calls.each in
@@ -84,13 +84,13 @@ module _ {K V S : Type 0} (same : K → K → Bool) (by_hasher : S → K → ℕ
 
 -- so the events go on by acts that are steps of one call
 module _ {K V S : Type 0} (same : K → K → Bool) (by_hasher : S → K → ℕ) (any : (batch_size roots : ℕ) → Course V same by_hasher batch_size roots slot_of) (own : List ℕ) (refuse : Bool) (played : Played V) (old new : Scheduler K V S)
-    (most : ℕ) (took : TookSteps same (by_hasher old.logged.executor.hasher) most own played old new) (given : KeepsGiven old.logged.executor new.logged.executor) where
-  pub step_goes_on : GoesOnByActs same by_hasher (event.Step own refuse) played old new
+    (most : ℕ) (took : TookSteps same (by_hasher old.logged.executor.hasher) most own played old new) (given : PreservesSettings old.logged.executor new.logged.executor) where
+  pub step_goes_on : ContinuesByActs same by_hasher (event.Step own refuse) played old new
   step_goes_on terms log stands in_turn next next2 at =
       steps_are_acts same by_hasher terms (any terms.batch_size terms.roots) log (event.Step own refuse) own (λ names i called. called) refl played old new
       (later_by (event.Step own refuse) played old new log refl given next next2) most took stands at
 
-  pub go_goes_on : GoesOnByActs same by_hasher (event.Go own refuse) played old new
+  pub go_goes_on : ContinuesByActs same by_hasher (event.Go own refuse) played old new
   go_goes_on terms log stands in_turn next next2 at =
       steps_are_acts same by_hasher terms (any terms.batch_size terms.roots) log (event.Go own refuse) own (λ names i called. called) refl played old new
       (later_by (event.Go own refuse) played old new log refl given next next2) most took stands at

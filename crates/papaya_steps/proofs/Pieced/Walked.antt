@@ -16,7 +16,7 @@ use Rattle.run_schedules.specs.Schedules.After.{moment}
 use Rattle.run_schedules.specs.Schedules.Entry.{Entry}
 use Rattle.run_schedules.specs.Schedules.Terms.{shards_of}
 use Rattle.run_effects.specs.Effects.Known.{Known, known}
-use Rattle.play_events.specs.Given.ExecutorIsThere.{IsThere, KeepsGiven, StaysGiven}
+use Rattle.play_events.specs.Given.ExecutorIsThere.{IsThere, PreservesSettings, StaysGiven}
 use Rattle.play_events.specs.Given.ExecutorReplying.{AsksThere}
 use Rattle.play_events.specs.Given.ExecutorDeclared.executor.Executor.{Executor}
 use Rattle.play_events.specs.Given.SchedulerPlayed.{entry_of}
@@ -43,7 +43,7 @@ use Rattle.play_events.proofs.Given.GroupedCallers.{call_beside, call_here, each
 use Rattle.play_events.proofs.Given.GroupedMidst.{InEvent, event_ends, at_rest}
 use Rattle.play_events.proofs.Given.GroupedOneMore.{one_act}
 use Rattle.play_events.proofs.Given.GroupedReached.{goes_at, reach_so}
-use Rattle.papaya_steps.specs.Pieced.SoFar.{ActsSoFar, GoesOnByActs}
+use Rattle.papaya_steps.specs.Pieced.SoFar.{ActsSoFar, ContinuesByActs}
 use Rattle.papaya_steps.proofs.Pieced.Quiet.{did_nothing, later_by}
 use Rattle.papaya_steps.proofs.Pieced.StepCall.{HasCallIn}
 use Rattle.papaya_steps.proofs.Pieced.StepsCall.{InMidst, StandsThere, one_goes}
@@ -207,11 +207,11 @@ module _ {K V S : Type 0} (same : K → K → Bool) (by_hasher : S → K → ℕ
 
 -- So the event goes on by acts.
 module _ {K V S : Type 0} (same : K → K → Bool) (by_hasher : S → K → ℕ) (any : (batch_size roots : ℕ) → Course V same by_hasher batch_size roots slot_of) (own : List ℕ) (played : Played V) (old new : Scheduler K V S)
-    (took : TookNext same (by_hasher old.logged.executor.hasher) own played old new) (given : KeepsGiven old.logged.executor new.logged.executor) where
+    (took : TookNext same (by_hasher old.logged.executor.hasher) own played old new) (given : PreservesSettings old.logged.executor new.logged.executor) where
   abbrev its_hash : K → ℕ
   its_hash = by_hasher old.logged.executor.hasher
 
-  pub next_goes_on : GoesOnByActs same by_hasher (event.Next own) played old new
+  pub next_goes_on : ContinuesByActs same by_hasher (event.Next own) played old new
   next_goes_on terms log stands in_turn next next2 at = by (ready_place own old.calls) refl
     where
       ev : Event K V

@@ -6,7 +6,7 @@ use Rattle.run_schedules.specs.declared.record.Run.{Run}
 use Rattle.run_schedules.specs.Schedules.After.{AtEachEvent, moment}
 use Rattle.run_schedules.specs.Schedules.Entry.{Entry}
 use Rattle.run_schedules.specs.Schedules.Moment.{Moment}
-use Rattle.run_schedules.specs.Schedules.Runs.{IsLegal, IsRunOf, TellsEnd, log_of}
+use Rattle.run_schedules.specs.Schedules.Runs.{IsLegal, IsRunOf, ReportsEnd, log_of}
 use Rattle.run_schedules.specs.Schedules.Terms.{Terms}
 use Rattle.play_events.specs.Given.FindsTornDown.{StoredAreSomewhere}
 use Rattle.play_events.specs.Given.FindsWaiting.{is_unborn}
@@ -37,7 +37,7 @@ module _ {K V : Type 0} where
       tells = tells_end;
     }
       where
-        tells_end : TellsEnd (moment (log_of schedule run)) run
+        tells_end : ReportsEnd (moment (log_of schedule run)) run
         tells_end = record {
           stored = is.tells.stored;
           maps = is.tells.maps;

@@ -27,7 +27,7 @@ use Rattle.play_events.specs.Given.LoggedDeclared.logged.Logged.{Logged}
 use Rattle.play_events.proofs.Given.ReclaimsLeft.Stays.{left_is_left_behind, nothing_is_left}
 use Rattle.play_events.specs.Given.SchedulerFirst.{HasJustBegun}
 use Rattle.play_events.specs.Given.SchedulerMapping.{CountsMaps}
-use Rattle.play_events.specs.Given.SchedulerPlayed.{IsPlayed, StandsFor, terms_given}
+use Rattle.play_events.specs.Given.SchedulerPlayed.{IsPlayed, RefinesFor, terms_given}
 use Rattle.play_events.specs.Given.SchedulerReclaiming.{MayGiveAll}
 use Rattle.run_schedules.specs.declared.setup.Setup.{Setup}
 use Rattle.play_events.specs.Given.SchedulerDeclared.scheduler.Scheduler.{Scheduler}
@@ -102,7 +102,7 @@ module _ {K V S : Type 0} (same : K → K → Bool) (hash : K → ℕ) (setup : 
   abbrev roots : ℕ
   roots = p.logged.executor.roots
 
-  abbrev stands : StandsFor same hash (terms_given setup) start p
+  abbrev stands : RefinesFor same hash (terms_given setup) start p
   stands = begins.played same hash
 
   below : (r : ℕ) → r < roots → r < setup.roots

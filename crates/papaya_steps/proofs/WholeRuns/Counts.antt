@@ -16,7 +16,7 @@ use Rattle.run_schedules.specs.declared.outcome.Outcome.TheVariants.{Done, Goes,
 use Rattle.run_schedules.specs.Schedules.After.{maps_on, moment}
 use Rattle.run_schedules.specs.Schedules.Beginning.{begun, used_roots, with_call}
 use Rattle.run_schedules.specs.Schedules.Entry.{Entry, is_busy, nameless}
-use Rattle.run_schedules.specs.Schedules.InTurn.{ComesTo, InTurn, IsKeptOut, IsMade}
+use Rattle.run_schedules.specs.Schedules.InTurn.{HasOutcome, InTurn, IsKeptOut, IsMade}
 use Rattle.run_schedules.specs.Schedules.Moment.{MapThere, Moment}
 use Rattle.run_schedules.specs.Schedules.Terms.{Terms}
 use Rattle.run_schedules.specs.Schedules.Views.{map_of, number_of}
@@ -213,7 +213,7 @@ module _ {K V : Type 0} where
     m = moment log
 
     abbrev Right : Event K V → Outcome V → Type 0
-    Right event o = MatchBool m.is_closed (IsKeptOut event o) (ComesTo terms log m e event o)
+    Right event o = MatchBool m.is_closed (IsKeptOut event o) (HasOutcome terms log m e event o)
 
     -- a map that was made has a new name
     new_name : (n : List ℕ) (mode : ResizeMode) (c : ℕ) → Right (MakeMap n mode c) Done → map_of n m ≡ None

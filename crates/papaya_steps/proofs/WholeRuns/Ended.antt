@@ -18,10 +18,10 @@ use Rattle.run_schedules.specs.Schedules.Views.{is_in_a_map, is_waiting}
 use Rattle.run_effects.specs.Effects.Known.{Known, known}
 use Rattle.run_effects.specs.declared.role.Role.TheVariants.{Free}
 use Rattle.play_events.specs.Given.SchedulerDeclared.scheduler.Scheduler.{Scheduler}
-use Rattle.papaya_steps.specs.WholeRuns.Back.{BackSoFar, ReclaimsRight, TellsBack}
-use Rattle.papaya_steps.specs.WholeRuns.Ending.{shown_of, told_map}
+use Rattle.papaya_steps.specs.WholeRuns.Back.{BackSoFar, ReclaimsRight, ReportsBack}
+use Rattle.papaya_steps.specs.WholeRuns.Ending.{shown_of, map_reported}
 use Rattle.run_effects.specs.Tallies.Left.{HoldPairs, noted_below}
-use Rattle.papaya_steps.specs.WholeRuns.Run.{SoFar, TellsMost, log_so}
+use Rattle.papaya_steps.specs.WholeRuns.Run.{SoFar, ReportsMost, log_so}
 use Rattle.run_effects.specs.Tallies.Tally.{counted, numbers_at, passes}
 use Rattle.papaya_steps.specs.declared.record.Record.{Record}
 use Rattle.run_effects.specs.declared.tally.Tally.{Tally}
@@ -48,7 +48,7 @@ module _ {K V S : Type 0} (same : K → K → Bool) (hash : K → ℕ) (terms : 
       let st = so.holds.stands in
       subst (λ (x : Mem (Node K V)). HoldPairs noted.roles (value_at x)) st.shown.is_at.held.memory (hold_pairs m noted st.scene.world st.shown.shows.all.shown.blocks)
 
-  module _ (run : Run K V) (living : map shown_of run.maps.items ≡ map (told_map tally) p.maps) (waits : run.waiting.items ≡ numbers_at (passes None) 0 tally.pairs.items)
+  module _ (run : Run K V) (living : map shown_of run.maps.items ≡ map (map_reported tally) p.maps) (waits : run.waiting.items ≡ numbers_at (passes None) 0 tally.pairs.items)
       (tables : run.tables ≡ counted tally.tables.items) (stored : run.stored ≡ noted.stored)
       (left : (blocks : ℕ) × ((b : ℕ) → blocks ≤ b → noted.roles b ≡ Free) × (run.kept ≡ noted_below noted.roles (value_at memory) blocks)) where
     kept_is : run.kept ≡ noted_below noted.roles (value_at so.holds.stands.scene.world.memory) left.0
@@ -65,7 +65,7 @@ module _ {K V S : Type 0} (same : K → K → Bool) (hash : K → ℕ) (terms : 
         let st = so.holds.stands in
         subst (AllByRecursion (IsStored m.stored)) (sym kept_is) (stored_left m noted st.scene.world st.shown.shows.all.shown.blocks st.shown.shows.blocks left.0 left.1)
 
-    pub tells_most : TellsMost m run
+    pub tells_most : ReportsMost m run
     tells_most =
         let st = so.holds.stands in
         record {
@@ -79,7 +79,7 @@ module _ {K V S : Type 0} (same : K → K → Bool) (hash : K → ℕ) (terms : 
         }
 
     -- and what was reclaimed came back, as it was stored
-    pub tells_back : (given : List (Pair K V)) → run.given_back ≡ given → BackSoFar (log_so events rec) given → AtEachEvent ReclaimsRight (log_so events rec) → TellsBack m run
+    pub tells_back : (given : List (Pair K V)) → run.given_back ≡ given → BackSoFar (log_so events rec) given → AtEachEvent ReclaimsRight (log_so events rec) → ReportsBack m run
     tells_back given is so_far right =
         let back : AreBack m run.given_back = subst (AreBack m) (sym is) (so_far right) in
         record {

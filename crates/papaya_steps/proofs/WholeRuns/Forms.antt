@@ -12,7 +12,7 @@ use Rattle.run_schedules.specs.Schedules.After.{moment}
 use Rattle.run_schedules.specs.Schedules.Effects.{worked}
 use Rattle.run_schedules.specs.Schedules.Entry.{Entry, IfCall, acting, caller_of}
 use Rattle.run_schedules.specs.Schedules.InTurn.{IsKeptOut}
-use Rattle.run_schedules.specs.Schedules.Moment.{Moment, Stands, UnderWay}
+use Rattle.run_schedules.specs.Schedules.Moment.{Moment, CallState, UnderWay}
 use Rattle.run_schedules.specs.Schedules.Steps.{DoesFew, MakesSteps}
 use Rattle.run_schedules.specs.Schedules.Waiting.{WaitsLawfully, WaitsRight}
 use Rattle.play_events.proofs.Given.SchedulerRights.{entry}
@@ -24,7 +24,7 @@ does_nothing None steps effects none = tt
 does_nothing (Some caller) steps effects none = subst (λ (l : List Effect). DoesFew (Some caller) steps l) (sym none) (omega arith)
 
 module _ {K V : Type 0} where
-  none_made : (form : Event K V) → takes_steps form ≡ false → (stand : Stands) (o : Outcome V) → MakesSteps form stand 0 o
+  none_made : (form : Event K V) → takes_steps form ≡ false → (stand : CallState) (o : Outcome V) → MakesSteps form stand 0 o
   none_made form so stand (Refused Busy) = refl
   none_made (Collector setup) so stand o = refl
   none_made (Hash by) so stand o = refl
@@ -51,7 +51,7 @@ module _ {K V : Type 0} where
   none_made (Next c) so stand o = absurd (cc so)
 
   -- an event by which no call takes steps makes none,
-  pub makes_none : (form : Event K V) → takes_steps form ≡ false → (stand : Stands) (steps : ℕ) → steps ≡ 0 → (o : Outcome V) → MakesSteps form stand steps o
+  pub makes_none : (form : Event K V) → takes_steps form ≡ false → (stand : CallState) (steps : ℕ) → steps ≡ 0 → (o : Outcome V) → MakesSteps form stand steps o
   makes_none form so stand steps none o = subst (λ (n : ℕ). MakesSteps form stand n o) (sym none) (none_made form so stand o)
 
   -- it speaks of no call,
@@ -66,11 +66,11 @@ module _ {K V : Type 0} where
   pub does_none : (form : Event K V) → takes_steps form ≡ false → (steps : ℕ) (effects : List Effect) → DoesFew (caller_of form) steps effects
   does_none form so steps effects = subst (λ (own : Option (List ℕ)). DoesFew own steps effects) (sym (no_caller form so)) tt
 
-  busy_makes : (form : Event K V) (stand : Stands) (o : Outcome V) → o ≡ Refused Busy → MakesSteps form stand 0 o
+  busy_makes : (form : Event K V) (stand : CallState) (o : Outcome V) → o ≡ Refused Busy → MakesSteps form stand 0 o
   busy_makes form stand o is = subst (λ (x : Outcome V). MakesSteps form stand 0 x) (sym is) refl
 
   -- nor does one that is kept out
-  out_makes : (form : Event K V) (stand : Stands) (o : Outcome V) → IsKeptOut form o → MakesSteps form stand 0 o
+  out_makes : (form : Event K V) (stand : CallState) (o : Outcome V) → IsKeptOut form o → MakesSteps form stand 0 o
   out_makes (MakeMap n mode c) stand o out = none_made (MakeMap n mode c) refl stand o
   out_makes form stand (Refused Busy) out = refl
   out_makes (Collector setup) stand o out = none_made (Collector setup) refl stand o
@@ -96,7 +96,7 @@ module _ {K V : Type 0} where
   out_makes (OneCall g n call) stand o out = busy_makes (OneCall g n call) stand o out
   out_makes (Next c) stand o out = busy_makes (Next c) stand o out
 
-  pub makes_out : (form : Event K V) (stand : Stands) (steps : ℕ) → steps ≡ 0 → (o : Outcome V) → IsKeptOut form o → MakesSteps form stand steps o
+  pub makes_out : (form : Event K V) (stand : CallState) (steps : ℕ) → steps ≡ 0 → (o : Outcome V) → IsKeptOut form o → MakesSteps form stand steps o
   makes_out form stand steps none o out = subst (λ (n : ℕ). MakesSteps form stand n o) (sym none) (out_makes form stand o out)
 
   -- nor does either wait

@@ -18,7 +18,7 @@ use Rattle.run_schedules.specs.Schedules.Terms.{Terms}
 use Rattle.run_schedules.specs.Schedules.Views.{call_of}
 use Rattle.map_tables.specs.declared.resize_mode.ResizeMode.{ResizeMode}
 use Rattle.play_events.specs.Given.SchedulerAllWorks.{WorksOnAll}
-use Rattle.play_events.specs.Given.SchedulerPlayed.{Began, IsDue, PlaysAt, Replies, Stops, entry_of}
+use Rattle.play_events.specs.Given.SchedulerPlayed.{Began, IsInTurn, PlaysAt, Replies, Stops, entry_of}
 use Rattle.play_events.specs.Given.SchedulerQuiet.{StaysBusy}
 use Rattle.play_events.specs.Given.SchedulerWorks.{DidNothing, WorksOnEnd, WorksOnMap, WorksOnSetup, WorksOnSlot}
 use Rattle.play_events.specs.Given.SchedulerMapping.{numbers_made}
@@ -26,7 +26,7 @@ use Rattle.play_events.specs.Given.SchedulerDeclared.played.Played.{Played}
 use Rattle.play_events.specs.Given.SchedulerDeclared.scheduler.Scheduler.{Scheduler}
 use Rattle.play_events.specs.Given.SteppingStepping.{TookNext, TookSteps, TookWhole}
 use Rattle.play_events.specs.Events.Asked.{MayHappenDue}
-use Rattle.play_events.specs.Given.ExecutorIsThere.{KeepsGiven}
+use Rattle.play_events.specs.Given.ExecutorIsThere.{PreservesSettings}
 use Rattle.play_events.proofs.Events.OfCalls.Happens.{either, in_turn_comes}
 use Rattle.play_events.specs.Given.GroupedGrouping.{acts_on_none, refuses}
 use Rattle.play_events.proofs.Given.GroupedMidst.{maps_of}
@@ -43,11 +43,11 @@ use Rattle.papaya_steps.proofs.Pieced.Stopped.{stop_goes_on}
 use Rattle.papaya_steps.proofs.Pieced.Taken.{go_goes_on, step_goes_on}
 use Rattle.papaya_steps.proofs.Pieced.Walked.{next_goes_on}
 use Rattle.papaya_steps.specs.Pieced.SoFar.{ActsSoFar}
-use Rattle.papaya_steps.specs.WholeRuns.GoingOn.{GoesOnAt, GoesOnDue}
+use Rattle.papaya_steps.specs.WholeRuns.GoingOn.{ContinuesAt, ContinuesInTurn}
 
 module _ {K V S : Type 0} (same : K → K → Bool) (by_hasher : S → K → ℕ) (its : Event K V) (old new : Scheduler K V S) where
   abbrev Due : Event K V → Played V → Type 0
-  Due event played = GoesOnDue same by_hasher event played old new
+  Due event played = ContinuesInTurn same by_hasher event played old new
 
   -- an event of this form goes on as that does
   form_so : (form : Event K V) → its ≡ form → (played : Played V) → Due form played → Due its played
@@ -59,37 +59,37 @@ module _ {K V S : Type 0} (same : K → K → Bool) (by_hasher : S → K → ℕ
   module _ {X : Type 0} where
     -- calls
     pub begin_acts : (own guard name : List ℕ) (call : Call K V) → its ≡ event.Begin own guard name call → (result : Result (Played V) X) → IfOk result (λ played. played.steps ≡ 0)
-        → IfOk result (λ played. Began same its_hash own guard name call played old new) → KeepsGiven old.logged.executor new.logged.executor → IfOk result (λ played. Due its played)
+        → IfOk result (λ played. Began same its_hash own guard name call played old new) → PreservesSettings old.logged.executor new.logged.executor → IfOk result (λ played. Due its played)
     begin_acts own guard name call is (Ok played) steps began given =
         form_so (event.Begin own guard name call) is played (λ lawful few. begin_goes_on same by_hasher (any_course V same by_hasher lawful) played old new given own guard name call steps began)
     begin_acts own guard name call is (Err x) steps began given = tt
 
     pub step_acts : (own : List ℕ) (refuse : Bool) → its ≡ event.Step own refuse → (most : ℕ) (result : Result (Played V) X) → IfOk result (λ played. TookSteps same its_hash most own played old new)
-        → KeepsGiven old.logged.executor new.logged.executor → IfOk result (λ played. Due its played)
+        → PreservesSettings old.logged.executor new.logged.executor → IfOk result (λ played. Due its played)
     step_acts own refuse is most (Ok played) took given =
         form_so (event.Step own refuse) is played (λ lawful few. step_goes_on same by_hasher (any_course V same by_hasher lawful) own refuse played old new most took given)
     step_acts own refuse is most (Err x) took given = tt
 
     pub go_acts : (own : List ℕ) (refuse : Bool) → its ≡ event.Go own refuse → (most : ℕ) (result : Result (Played V) X) → IfOk result (λ played. TookSteps same its_hash most own played old new)
-        → KeepsGiven old.logged.executor new.logged.executor → IfOk result (λ played. Due its played)
+        → PreservesSettings old.logged.executor new.logged.executor → IfOk result (λ played. Due its played)
     go_acts own refuse is most (Ok played) took given =
         form_so (event.Go own refuse) is played (λ lawful few. go_goes_on same by_hasher (any_course V same by_hasher lawful) own refuse played old new most took given)
     go_acts own refuse is most (Err x) took given = tt
 
     pub whole_acts : (guard name : List ℕ) (call : Call K V) → its ≡ event.OneCall guard name call → (result : Result (Played V) X) → IfOk result (λ played. TookWhole same its_hash guard name call played old new)
-        → KeepsGiven old.logged.executor new.logged.executor → IfOk result (λ played. Due its played)
+        → PreservesSettings old.logged.executor new.logged.executor → IfOk result (λ played. Due its played)
     whole_acts guard name call is (Ok played) took given =
         form_so (event.OneCall guard name call) is played (λ lawful few. whole_goes_on same by_hasher (any_course V same by_hasher lawful) played old new given guard name call took)
     whole_acts guard name call is (Err x) took given = tt
 
-    pub next_acts : (own : List ℕ) → its ≡ event.Next own → (result : Result (Played V) X) → IfOk result (λ played. TookNext same its_hash own played old new) → KeepsGiven old.logged.executor new.logged.executor
+    pub next_acts : (own : List ℕ) → its ≡ event.Next own → (result : Result (Played V) X) → IfOk result (λ played. TookNext same its_hash own played old new) → PreservesSettings old.logged.executor new.logged.executor
         → IfOk result (λ played. Due its played)
     next_acts own is (Ok played) took given = form_so (event.Next own) is played (λ lawful few. next_goes_on same by_hasher (any_course V same by_hasher lawful) own played old new took given)
     next_acts own is (Err x) took given = tt
 
     -- rows on slots
     pub row_acts : (form : Event K V) → its ≡ form → maps_of form ≡ 0 → (result : Result (Played V) X) → IfOk result (λ played. played.steps ≡ 0) → IfOk result (λ played. WorksOnSlot played old new form)
-        → KeepsGiven old.logged.executor new.logged.executor → IfOk result (λ played. Due its played)
+        → PreservesSettings old.logged.executor new.logged.executor → IfOk result (λ played. Due its played)
     row_acts form is none (Ok played) steps works given = form_so form is played (λ lawful few. row_goes_on same by_hasher (any_course V same by_hasher lawful) form none played old new steps works given)
     row_acts form is none (Err x) steps works given = tt
 
@@ -109,19 +109,19 @@ module _ {K V S : Type 0} (same : K → K → Bool) (by_hasher : S → K → ℕ
     make_acts own mode capacity is (Err x) steps works count = tt
 
     pub end_acts : (own : List ℕ) → its ≡ event.EndMap own → (result : Result (Played V) X) → IfOk result (λ played. played.steps ≡ 0) → IfOk result (λ played. WorksOnEnd played old new own)
-        → KeepsGiven old.logged.executor new.logged.executor → IfOk result (λ played. Due its played)
+        → PreservesSettings old.logged.executor new.logged.executor → IfOk result (λ played. Due its played)
     end_acts own is (Ok played) steps works given = form_so (event.EndMap own) is played (λ lawful few. end_goes_on same by_hasher (any_course V same by_hasher lawful) own played old new steps works given)
     end_acts own is (Err x) steps works given = tt
 
     -- where all is reclaimed
     pub reclaim_acts : its ≡ event.ReclaimAll → MayHappenDue same its_hash its old → (result : Result (Played V) X) → IfOk result (λ played. played.steps ≡ 0) → IfOk result (λ played. WorksOnAll played old new)
-        → KeepsGiven old.logged.executor new.logged.executor → IfOk result (λ played. Due its played)
+        → PreservesSettings old.logged.executor new.logged.executor → IfOk result (λ played. Due its played)
     reclaim_acts is holds (Ok played) steps works given =
         form_so event.ReclaimAll is played (λ lawful few. reclaim_goes_on same by_hasher (any_course V same by_hasher lawful) played old new steps works holds.2.gives.slots given)
     reclaim_acts is holds (Err x) steps works given = tt
 
     pub close_acts : its ≡ event.Close → MayHappenDue same its_hash its old → (result : Result (Played V) X) → IfOk result (λ played. played.steps ≡ 0) → IfOk result (λ played. WorksOnAll played old new)
-        → KeepsGiven old.logged.executor new.logged.executor → IfOk result (λ played. Due its played)
+        → PreservesSettings old.logged.executor new.logged.executor → IfOk result (λ played. Due its played)
     close_acts is holds (Ok played) steps works given =
         form_so event.Close is played (λ lawful few. close_goes_on same by_hasher (any_course V same by_hasher lawful) played old new steps works holds.2.gives.slots given)
     close_acts is holds (Err x) steps works given = tt
@@ -129,24 +129,24 @@ module _ {K V S : Type 0} (same : K → K → Bool) (by_hasher : S → K → ℕ
   -- a reply, and a walk that is given up
   pub reply_acts : (own : List ℕ) (reply : Reply V) → its ≡ event.Replied own reply → (played : Played V) → played.steps ≡ 0
       → ((hash : K → ℕ) → PlaysAt same hash (event.Replied own reply) played old new) → ((hash : K → ℕ) → Replies same hash own reply played old new)
-      → ((hash : K → ℕ) → StaysBusy same hash (event.Replied own reply) played old new) → KeepsGiven old.logged.executor new.logged.executor → Due its played
+      → ((hash : K → ℕ) → StaysBusy same hash (event.Replied own reply) played old new) → PreservesSettings old.logged.executor new.logged.executor → Due its played
   reply_acts own reply is played steps plays told stays given =
       form_so (event.Replied own reply) is played
       (λ lawful few terms log stands in_turn next next2 at.
       (let hash : K → ℕ = by_hasher old.logged.executor.hasher in
-      let due : IsDue same hash terms log (event.Replied own reply) old = record { played = stands; in_turn = in_turn } in
+      let due : IsInTurn same hash terms log (event.Replied own reply) old = record { played = stands; in_turn = in_turn } in
       reply_goes_on same by_hasher (any_course V same by_hasher lawful) own reply played old new steps (told hash) given terms log stands in_turn next next2
       (either {A = played.outcome ≡ Goes} {B = played.outcome ≡ Refused Busy} (fits_reply (call_of own (moment log)) reply)
       (in_turn_comes terms log (entry_of (event.Replied own reply) played) in_turn (plays hash terms log due).right))
       (stays hash terms log due) at))
 
   pub stop_acts : (own : List ℕ) → its ≡ event.Stop own → (played : Played V) → played.steps ≡ 0 → ((hash : K → ℕ) → PlaysAt same hash (event.Stop own) played old new)
-      → ((hash : K → ℕ) → Stops same hash own played old new) → ((hash : K → ℕ) → StaysBusy same hash (event.Stop own) played old new) → KeepsGiven old.logged.executor new.logged.executor → Due its played
+      → ((hash : K → ℕ) → Stops same hash own played old new) → ((hash : K → ℕ) → StaysBusy same hash (event.Stop own) played old new) → PreservesSettings old.logged.executor new.logged.executor → Due its played
   stop_acts own is played steps plays stopped stays given =
       form_so (event.Stop own) is played
       (λ lawful few terms log stands in_turn next next2 at.
       (let hash : K → ℕ = by_hasher old.logged.executor.hasher in
-      let due : IsDue same hash terms log (event.Stop own) old = record { played = stands; in_turn = in_turn } in
+      let due : IsInTurn same hash terms log (event.Stop own) old = record { played = stands; in_turn = in_turn } in
       stop_goes_on same by_hasher (any_course V same by_hasher lawful) own played old new steps (stopped hash) given terms log stands in_turn next next2
       (either {A = played.outcome ≡ Done} {B = played.outcome ≡ Refused Busy} (shows_now (call_of own (moment log)))
       (in_turn_comes terms log (entry_of (event.Stop own) played) in_turn (plays hash terms log due).right))
@@ -172,11 +172,11 @@ module _ {K V S : Type 0} (same : K → K → Bool) (by_hasher : S → K → ℕ
   kept_refuses _ outcome is = ap refuses is
 
   -- An event that is in turn goes on so, if the log is not closed; and one that is kept out does nothing.
-  pub in_turn_acts : {X : Type 0} (result : Result (Played V) X) → old.is_closed ≡ false → IfOk result (λ played. Due its played) → IfOk result (λ played. GoesOnAt same by_hasher its played old new)
+  pub in_turn_acts : {X : Type 0} (result : Result (Played V) X) → old.is_closed ≡ false → IfOk result (λ played. Due its played) → IfOk result (λ played. ContinuesAt same by_hasher its played old new)
   in_turn_acts (Ok played) is_open due = λ lawful few terms log stands next next2 at. due lawful few terms log stands (stands.closed ∙ is_open) next next2 at
   in_turn_acts (Err x) is_open due = tt
 
-  pub out_acts : (played : Played V) (mapped : Bool) → IsKeptOut its played.outcome → played.steps ≡ 0 → played.effects.items ≡ [] → new ≡ record old { is_mapped = mapped } → GoesOnAt same by_hasher its played old new
+  pub out_acts : (played : Played V) (mapped : Bool) → IsKeptOut its played.outcome → played.steps ≡ 0 → played.effects.items ≡ [] → new ≡ record old { is_mapped = mapped } → ContinuesAt same by_hasher its played old new
   out_acts played mapped out steps none is = λ lawful few terms log stands next next2 at.
       (let logged : new.logged ≡ old.logged = ap (λ (p : Scheduler K V S). p.logged) is in
       let calls : new.calls ≡ old.calls = ap (λ (p : Scheduler K V S). p.calls) is in

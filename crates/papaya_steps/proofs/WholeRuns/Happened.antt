@@ -7,23 +7,23 @@ use Rattle.run_schedules.specs.Schedules.After.{moment}
 use Rattle.run_schedules.specs.Schedules.Beginning.{at_work}
 use Rattle.run_schedules.specs.Schedules.Entry.{Entry, acting, caller_of}
 use Rattle.run_schedules.specs.Schedules.InTurn.{IsKeptOut}
-use Rattle.run_schedules.specs.Schedules.Steps.{stands_or}
+use Rattle.run_schedules.specs.Schedules.Steps.{state_or}
 use Rattle.run_schedules.specs.Schedules.Terms.{Terms}
 use Rattle.play_events.specs.Given.SchedulerKeptOut.{PlaysKeptOut}
 use Rattle.play_events.specs.Given.SchedulerMapping.{MayMap}
-use Rattle.play_events.specs.Given.SchedulerPlayed.{IsDue, MayPlay, Plays, entry_of}
-use Rattle.play_events.specs.Given.SchedulerQuiet.{IsQuiet}
+use Rattle.play_events.specs.Given.SchedulerPlayed.{IsInTurn, MayPlay, Plays, entry_of}
+use Rattle.play_events.specs.Given.SchedulerQuiet.{BusyIsSilent}
 use Rattle.play_events.specs.Given.SchedulerReclaiming.{MayReclaimAll}
 use Rattle.play_events.specs.Given.SchedulerDeclared.played.Played.{Played}
 use Rattle.play_events.specs.Given.SchedulerDeclared.scheduler.Scheduler.{Scheduler}
-use Rattle.play_events.specs.Given.SteppingStepping.{ComesInCase, PlaysNextAt, PlaysOnAt}
+use Rattle.play_events.specs.Given.SteppingStepping.{OutcomeIsInCase, PlaysNextAt, PlaysOnAt}
 use Rattle.play_events.proofs.Given.SchedulerBusy.{none_quiet}
 use Rattle.play_events.specs.Events.Asked.{FindsRight, Happens, HappensAt, HappensDue, Holds, MayHappenDue, takes_steps}
 use Rattle.papaya_steps.proofs.WholeRuns.Forms.{does_none, does_nothing, makes_none, makes_out, waits_none, waits_out}
 
 module _ {K V S : Type 0} (same : K → K → Bool) (hash : K → ℕ) (event form : Event K V) (is : event ≡ form) (old : Scheduler K V S) where
   -- it may happen in this form, too
-  abbrev pub due_so : (terms : Terms) (log : List (Entry K V)) → Holds same hash terms (moment log) old → (moment log).is_closed ≡ false → IsDue same hash terms log form old
+  abbrev pub due_so : (terms : Terms) (log : List (Entry K V)) → Holds same hash terms (moment log) old → (moment log).is_closed ≡ false → IsInTurn same hash terms log form old
   due_so terms log holds out = record { played = holds.stands; in_turn = subst (λ (x : Event K V). (moment log).is_closed ≡ false) is out }
 
   pub may_play : MayHappenDue same hash event old → MayPlay same hash form old
@@ -46,23 +46,23 @@ module _ {K V S : Type 0} (same : K → K → Bool) (hash : K → ℕ) (event fo
     Due played = HappensDue same hash is_first event played old new
 
     -- one by which no call takes steps
-    pub still : takes_steps form ≡ false → (played : Played V) → played.steps ≡ 0 → IsQuiet played.outcome played.effects.items → PlaysForm played → Due played
+    pub still : takes_steps form ≡ false → (played : Played V) → played.steps ≡ 0 → BusyIsSilent played.outcome played.effects.items → PlaysForm played → Due played
     still so played none busy plays = λ terms log first holds out.
         subst (λ (x : Event K V). Happens same hash terms log (entry_of x played) new) (sym is) (record {
           played = (plays terms log first holds out).played;
           plays = λ finds. plays terms log first holds out;
-          makes = makes_none form so (stands_or (acting (caller_of form) (at_work (entry_of form played) (moment log)))) played.steps none played.outcome;
+          makes = makes_none form so (state_or (acting (caller_of form) (at_work (entry_of form played) (moment log)))) played.steps none played.outcome;
           does = does_none form so played.steps played.effects.items;
           waits = waits_none same form so played.outcome played.steps played.effects.items log;
           is_quiet = busy;
         })
 
-    pub still_if : {X : Type 0} → takes_steps form ≡ false → (result : Result (Played V) X) → IfOk result (λ played. played.steps ≡ 0) → IfOk result (λ played. IsQuiet played.outcome played.effects.items) → IfOk result PlaysForm → IfOk result Due
+    pub still_if : {X : Type 0} → takes_steps form ≡ false → (result : Result (Played V) X) → IfOk result (λ played. played.steps ≡ 0) → IfOk result (λ played. BusyIsSilent played.outcome played.effects.items) → IfOk result PlaysForm → IfOk result Due
     still_if so (Ok played) none busy plays = still so played none busy plays
     still_if so (Err x) none busy plays = tt
 
     -- one by which a call goes on
-    pub goes_if : {X : Type 0} → ((terms : Terms) (log : List (Entry K V)) (played : Played V) → FindsRight terms log (entry_of form played) → ComesInCase terms log (entry_of form played))
+    pub goes_if : {X : Type 0} → ((terms : Terms) (log : List (Entry K V)) (played : Played V) → FindsRight terms log (entry_of form played) → OutcomeIsInCase terms log (entry_of form played))
         → (result : Result (Played V) X) → IfOk result (λ played. PlaysOnAt same hash form played old new) → IfOk result Due
     goes_if case_of (Ok played) plays = λ terms log first holds out.
         let on = plays terms log (due_so terms log holds out) in
@@ -99,7 +99,7 @@ module _ {K V S : Type 0} (same : K → K → Bool) (hash : K → ℕ) (event : 
     stays_out played kept none nothing plays out = λ terms log first holds. record {
       played = (plays terms log holds.stands out).played;
       plays = λ finds. plays terms log holds.stands out;
-      makes = makes_out event (stands_or (acting (caller_of event) (at_work (entry_of event played) (moment log)))) played.steps none played.outcome kept;
+      makes = makes_out event (state_or (acting (caller_of event) (at_work (entry_of event played) (moment log)))) played.steps none played.outcome kept;
       does = does_nothing (caller_of event) played.steps played.effects.items nothing;
       waits = waits_out same event played.outcome kept played.steps played.effects.items log;
       is_quiet = none_quiet played.outcome played.effects.items nothing;

@@ -7,7 +7,7 @@ use Rattle.run_schedules.specs.declared.outcome.Outcome.{Outcome}
 use Rattle.run_schedules.specs.Schedules.After.{moment}
 use Rattle.run_schedules.specs.Schedules.Entry.{Entry}
 use Rattle.run_schedules.specs.Schedules.Handing.{gives_all}
-use Rattle.run_schedules.specs.Schedules.InTurn.{ComesRight}
+use Rattle.run_schedules.specs.Schedules.InTurn.{HasRightOutcome}
 use Rattle.run_schedules.specs.Schedules.Terms.{Terms}
 use Rattle.run_schedules.specs.Schedules.Runs.{IsLegal}
 use Rattle.run_effects.specs.Effects.Known.{known}
@@ -17,11 +17,11 @@ use Rattle.play_events.specs.Given.SchedulerPlayed.{entry_of}
 use Rattle.play_events.specs.Given.SchedulerDeclared.played.Played.{Played}
 use Rattle.play_events.specs.Given.SchedulerDeclared.scheduler.Scheduler.{Scheduler}
 use Rattle.play_events.specs.Events.Asked.{FindsBy, FindsRight, Happens, HappensAt, Holds, is_of_calls}
-use Rattle.play_events.specs.Events.OfAll.{KeepsAll}
+use Rattle.play_events.specs.Events.OfAll.{PreservesAll}
 use Rattle.play_events.specs.Folded.Folded.{HandsInOrder}
-use Rattle.play_events.specs.Events.OfCalls.{KeepsAt, Runs, RunsOn}
-use Rattle.play_events.specs.Events.OfRows.{KeepsRunAt, is_of_rows}
-use Rattle.play_events.specs.Events.OfSetups.{KeepsSetup, is_of_setups}
+use Rattle.play_events.specs.Events.OfCalls.{PreservesAt, Runs, RunsOn}
+use Rattle.play_events.specs.Events.OfRows.{PreservesRunAt, is_of_rows}
+use Rattle.play_events.specs.Events.OfSetups.{PreservesSetup, is_of_setups}
 use Rattle.play_events.proofs.Events.Nobody.{is_word, shows_nobody}
 
 module _ {K V : Type 0} where
@@ -56,7 +56,7 @@ module _ {K V S : Type 0} (same : K → K → Bool) (hash : K → ℕ) (is_first
   it = happens terms log first holds
 
   -- it comes to what is right, whichever it is
-  right : KeepsAt same hash its played old new → ComesRight terms log e
+  right : PreservesAt same hash its played old new → HasRightOutcome terms log e
   right calls = (it.plays (finds (is_of_calls its) refl)).right
     where
       finds : (q : Bool) → is_of_calls its ≡ q → FindsRight terms log e
@@ -64,11 +64,11 @@ module _ {K V S : Type 0} (same : K → K → Bool) (hash : K → ℕ) (is_first
       finds false none = others_right its none terms log e
 
   -- one that reclaims all,
-  of_all : KeepsAt same hash its played old new → KeepsAll same hash its played old new → gives_all its ≡ true → RunsOn same hash terms log e new × ReclaimsAll log e
+  of_all : PreservesAt same hash its played old new → PreservesAll same hash its played old new → gives_all its ≡ true → RunsOn same hash terms log e new × ReclaimsAll log e
   of_all calls keeps all = keeps all terms log holds runs it.played (right calls)
 
   -- and any other
-  of_others : KeepsAt same hash its played old new → KeepsRunAt same hash its played old new → KeepsSetup same hash its played old new → gives_all its ≡ false → RunsOn same hash terms log e new
+  of_others : PreservesAt same hash its played old new → PreservesRunAt same hash its played old new → PreservesSetup same hash its played old new → gives_all its ≡ false → RunsOn same hash terms log e new
   of_others calls rows setups none = by (is_of_calls its) (is_of_rows its) refl refl
     where
       by : (p q : Bool) → is_of_calls its ≡ p → is_of_rows its ≡ q → RunsOn same hash terms log e new
@@ -76,7 +76,7 @@ module _ {K V S : Type 0} (same : K → K → Bool) (hash : K → ℕ) (is_first
       by false true is of_rows = rows of_rows terms log holds runs it.played (right calls)
       by false false is of_rows = setups (is_setup its none is of_rows) terms log runs it.played (right calls)
 
-  goes_on : KeepsAt same hash its played old new → KeepsRunAt same hash its played old new → KeepsSetup same hash its played old new → KeepsAll same hash its played old new
+  goes_on : PreservesAt same hash its played old new → PreservesRunAt same hash its played old new → PreservesSetup same hash its played old new → PreservesAll same hash its played old new
       → RunsOn same hash terms log e new × ReclaimsAll log e
   goes_on calls rows setups all = by (gives_all its) refl
     where
@@ -85,7 +85,7 @@ module _ {K V S : Type 0} (same : K → K → Bool) (hash : K → ℕ) (is_first
       by false none = (of_others calls rows setups none, reclaims_none its played.outcome none _)
 
   -- so it is legal, the run goes on, and it hands over in order
-  pub legal_on : KeepsAt same hash its played old new → KeepsRunAt same hash its played old new → KeepsSetup same hash its played old new → KeepsAll same hash its played old new
+  pub legal_on : PreservesAt same hash its played old new → PreservesRunAt same hash its played old new → PreservesSetup same hash its played old new → PreservesAll same hash its played old new
       → IsLegal same terms log e × Runs same hash terms (e ∷ log) new × HandsInOrder log e
   legal_on calls rows setups all =
       let on = goes_on calls rows setups all in (

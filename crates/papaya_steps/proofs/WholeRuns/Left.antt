@@ -18,8 +18,8 @@ use Rattle.run_schedules.specs.Schedules.Views.{is_in_a_map, is_waiting}
 use Rattle.run_effects.specs.Effects.Known.{Known}
 use Rattle.run_effects.specs.declared.role.Role.{Role}
 use Rattle.run_effects.specs.declared.role.Role.TheVariants as role
-use Rattle.play_events.specs.Given.FollowsBlocks.{HasRole, ShowsBlocks}
-use Rattle.play_events.specs.Given.SpotsUnreclaimed.{ShowsUnreclaimed, is_unreclaimed}
+use Rattle.play_events.specs.Given.FollowsBlocks.{HasRole, RefinesBlocks}
+use Rattle.play_events.specs.Given.SpotsUnreclaimed.{RefinesUnreclaimed, is_unreclaimed}
 use Rattle.map_tables.specs.Given.SeizeWorld.{World}
 use Rattle.seize_words.specs.OneMemory.Mem.{value_at}
 use Rattle.run_effects.specs.Tallies.Left.{HoldPairs, noted, noted_below}
@@ -114,11 +114,11 @@ unreclaimed_is at.Behind = refl
 unreclaimed_is at.Left = refl
 unreclaimed_is at.GivenBack = refl
 
-module _ {K V : Type 0} (m : Moment K V) (known : Known) (w : World (Node K V)) (blocks : ShowsBlocks m known w) where
+module _ {K V : Type 0} (m : Moment K V) (known : Known) (w : World (Node K V)) (blocks : RefinesBlocks m known w) where
   pub hold_pairs : HoldPairs known.roles (value_at w.memory)
   hold_pairs b n is = let h = subst (HasRole w m.stored b) is (blocks.roles b) in (h.0, h.1, h.3)
 
-  module _ (unreclaimed : ShowsUnreclaimed m known) (count : ℕ) (past : (b : ℕ) → count ≤ b → known.roles b ≡ role.Free) where
+  module _ (unreclaimed : RefinesUnreclaimed m known) (count : ℕ) (past : (b : ℕ) → count ≤ b → known.roles b ≡ role.Free) where
     within : (b n : ℕ) → known.roles b ≡ role.Pair n → (b < count) ⊎ (count ≤ b) → b < count
     within b n is (inl less) = less
     within b n is (inr more) = absurd (let free = past b more in cc (free, is))

@@ -19,7 +19,7 @@ use Rattle.run_schedules.specs.Schedules.Runs.{log_on, singles, singles_of}
 use Rattle.run_schedules.specs.Schedules.Terms.{Terms}
 use Rattle.run_schedules.specs.Schedules.Views.{call_of, number_of}
 use Rattle.play_events.proofs.Given.RowsLists.{found_alike}
-use Rattle.play_events.specs.Given.SchedulerPlayed.{StandsFor}
+use Rattle.play_events.specs.Given.SchedulerPlayed.{RefinesFor}
 use Rattle.play_events.specs.Given.NamedSeen.{Seen, is_named, number_named, seen, seen_of}
 use Rattle.play_events.specs.Given.ExecutorDeclared.caller.NamedCaller.{NamedCaller}
 use Rattle.play_events.specs.Given.SchedulerDeclared.scheduler.Scheduler.{Scheduler}
@@ -146,7 +146,7 @@ found_last p f x is (y ∷ xs) = by (p y) (found_last p f x is xs)
     by true ih = refl
     by false ih = ih
 
-module _ {K V S : Type 0} (same : K → K → Bool) (hash : K → ℕ) (terms : Terms) (m : Moment K V) (p : Scheduler K V S) (stands : StandsFor same hash terms m p) (next : length p.logged.executor.maps.items ≡ m.made) where
+module _ {K V S : Type 0} (same : K → K → Bool) (hash : K → ℕ) (terms : Terms) (m : Moment K V) (p : Scheduler K V S) (stands : RefinesFor same hash terms m p) (next : length p.logged.executor.maps.items ≡ m.made) where
   pub called_so : (own : List ℕ) → option_map (λ c. c.map) (call_of own m) ≡ called_map own p
   called_so own =
       sym (seen_map (call_of own m)) ∙ ap (option_map (λ (z : Seen). z.map)) (found_alike seen seen_of m.calls p.calls stands.calls.listed (λ z. is_same z.name own))

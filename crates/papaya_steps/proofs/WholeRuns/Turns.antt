@@ -14,7 +14,7 @@ use Rattle.run_schedules.specs.Schedules.After.{AtEachEvent, moment}
 use Rattle.run_schedules.specs.Schedules.Beginning.{at_work}
 use Rattle.run_schedules.specs.Schedules.Entry.{Entry, acted_on, caller_of, is_busy}
 use Rattle.run_schedules.specs.Schedules.Moment.{Place, Deferral, MapThere, TableThere, Moment, start}
-use Rattle.run_schedules.specs.Schedules.Runs.{IsLegal, IsLegalLog, IsRunOf, Lists, ShowsMaps, log_of, log_on, trace_of}
+use Rattle.run_schedules.specs.Schedules.Runs.{IsLegal, IsLegalLog, IsRunOf, Lists, ListsMaps, log_of, log_on, trace_of}
 use Rattle.run_schedules.specs.Schedules.Terms.{Terms}
 use Rattle.run_schedules.specs.Schedules.Views.{is_in_map, is_retired}
 use Rattle.play_events.specs.Given.SchedulerPlayed.{entry_of}
@@ -24,14 +24,14 @@ use Rattle.play_events.specs.Given.ExecutorDeclared.named_map.NamedMap.{NamedMap
 use Rattle.play_events.specs.Given.SchedulerDeclared.scheduler.Scheduler.{Scheduler}
 use Rattle.papaya_steps.specs.WholeRuns.Acting.{acting_of, map_acted, singles_as, traced}
 use Rattle.play_events.specs.Events.Asked.{Happens, Holds}
-use Rattle.papaya_steps.specs.WholeRuns.Back.{BackSoFar, ReclaimsBy, ReclaimsRight, TellsBack}
-use Rattle.papaya_steps.specs.WholeRuns.Ending.{shown_of, told_map}
+use Rattle.papaya_steps.specs.WholeRuns.Back.{BackSoFar, ReclaimsBy, ReclaimsRight, ReportsBack}
+use Rattle.papaya_steps.specs.WholeRuns.Ending.{shown_of, map_reported}
 use Rattle.play_events.specs.Events.OfCalls.{Runs}
 use Rattle.play_events.specs.Folded.Folded.{HandsInOrder}
 use Rattle.play_events.proofs.Folded.Logs.{ended_calls_fold}
-use Rattle.papaya_steps.specs.WholeRuns.Run.{GoesRight, HandsOn, IsRightRun, SoFar, TellsMost, log_so}
+use Rattle.papaya_steps.specs.WholeRuns.Run.{GoesRight, HandsOn, IsRightRun, SoFar, ReportsMost, log_so}
 use Rattle.run_effects.specs.Tallies.Places.{Leads}
-use Rattle.run_effects.specs.Tallies.Tally.{Tells, TellsAll, TellsMoment, counted, deferral, flag_of}
+use Rattle.run_effects.specs.Tallies.Tally.{Records, RecordsAll, RecordsMoment, counted, deferral, flag_of}
 use Rattle.papaya_steps.specs.declared.record.Record.{Record}
 use Rattle.play_events.specs.Given.LoggedBack.{ComesBack}
 use Rattle.run_effects.specs.Tallies.Told.{AreBack}
@@ -58,22 +58,22 @@ module _ {K V S : Type 0} (same : K → K → Bool) (hash : K → ℕ) (terms : 
       log_long [] events rec.outcomes.items rec.steps.items (map (λ v. v.items) rec.effects.items) so.outcomes so.steps (lists_same rec.effects.items ∙ so.effects) ∙ omega arith
 
   -- the tally of the moment after an event
-  module _ (event : Event K V) (played : Played V) (tally2 : Tally) (tells : TellsAll (map_acted (acting_of event p) played.outcome) played.effects.items tally tally2) where
+  module _ (event : Event K V) (played : Played V) (tally2 : Tally) (tells : RecordsAll (map_acted (acting_of event p) played.outcome) played.effects.items tally tally2) where
     abbrev e : Entry K V
     e = entry_of event played
 
     abbrev b : Moment K V
     b = at_work e (moment log)
 
-    begun_tells : TellsMoment tally b
+    begun_tells : RecordsMoment tally b
     begun_tells =
         let s = begun_same event played.outcome (moment log) in
-        subst (λ (x : (ℕ → Place) × List Deferral × List TableThere). Tells tally x.0 x.1 x.2) (sym (λ i. (s.0 i, s.1 i, s.2 i))) so.told
+        subst (λ (x : (ℕ → Place) × List Deferral × List TableThere). Records tally x.0 x.1 x.2) (sym (λ i. (s.0 i, s.1 i, s.2 i))) so.told
 
-    pub tells_then : TellsMoment tally2 (moment (e ∷ log))
+    pub tells_then : RecordsMoment tally2 (moment (e ∷ log))
     tells_then =
         let acted : acted_on event b ≡ map_acted (acting_of event p) played.outcome = acted_so same hash terms (moment log) p so.holds.stands so.holds.counts.next e in
-        let noted = subst (λ (x : Option ℕ). TellsAll x played.effects.items tally tally2) (sym acted) tells in
+        let noted = subst (λ (x : Option ℕ). RecordsAll x played.effects.items tally tally2) (sym acted) tells in
         let told = told_moment (caller_of event) (acted_on event b) played.effects.items b tally2 (noted b.place b.deferred b.tables begun_tells) in
         record { pairs = told.pairs; behind = told.behind; flags = told.flags; places = told.places }
 
@@ -108,7 +108,7 @@ module _ {K V S : Type 0} (same : K → K → Bool) (hash : K → ℕ) (terms : 
         goes = subst (AtEachEvent (GoesRight terms)) (sym more)
             (record { right = (on so.runs).0.right; makes = happens.makes; does = happens.does; is_quiet = happens.is_quiet }, so.goes);
         holds = subst (λ (l : List (Entry K V)). Holds same hash terms (moment l) p2) (sym more) holds;
-        told = subst (λ (l : List (Entry K V)). TellsMoment tally2 (moment l)) (sym more) tells_then;
+        told = subst (λ (l : List (Entry K V)). RecordsMoment tally2 (moment l)) (sym more) tells_then;
         legal = subst (IsLegalLog same terms) (sym more) ((on so.runs).0, so.legal);
         hands = subst (AtEachEvent HandsInOrder) (sym more) ((on so.runs).2, so.hands);
         runs = subst (λ (l : List (Entry K V)). Runs same hash terms l p2) (sym more) (on so.runs).1;
@@ -135,7 +135,7 @@ start_so {K} {V} same hash terms rec tally p outcomes steps effects trace pairs 
   trace = trace ∙ ap trace_of (sym none);
   goes = subst (AtEachEvent (GoesRight terms)) (sym none) tt;
   holds = subst (λ (l : List (Entry K V)). Holds same hash terms (moment l) p) (sym none) holds;
-  told = subst (λ (l : List (Entry K V)). TellsMoment tally (moment l)) (sym none) (record {
+  told = subst (λ (l : List (Entry K V)). RecordsMoment tally (moment l)) (sym none) (record {
     pairs = λ n. ap (λ (l : List Whereabouts). slice_index_or l n Unborn) pairs;
     behind = ap (map deferral) behind;
     flags = flags;
@@ -155,15 +155,15 @@ back_first {K} {V} rec b outcomes steps effects none =
     (λ right. subst (AreBack (start {K = K} {V = V})) (sym none) (record { told = refl; contents = tt }))
 
 -- What is told of maps.
-module _ {K V : Type 0} (m : Moment K V) (tally : Tally) (tells : TellsMoment tally m) where
-  pub maps_shown : (living : List Living) (maps : List NamedMap) (there : List MapThere) → map shown_of living ≡ map (told_map tally) maps → map named there ≡ map named_of maps → ShowsMaps living there m
+module _ {K V : Type 0} (m : Moment K V) (tally : Tally) (tells : RecordsMoment tally m) where
+  pub maps_shown : (living : List Living) (maps : List NamedMap) (there : List MapThere) → map shown_of living ≡ map (map_reported tally) maps → map named there ≡ map named_of maps → ListsMaps living there m
   maps_shown [] [] [] a c = tt
   maps_shown [] [] (f ∷ there) a c = absurd (cc c)
   maps_shown [] (t ∷ maps) there a c = absurd (cc a)
   maps_shown (l ∷ living) [] there a c = absurd (cc a)
   maps_shown (l ∷ living) (t ∷ maps) [] a c = absurd (cc c)
   maps_shown (l ∷ living) (t ∷ maps) (f ∷ there) a c =
-      let first : shown_of l ≡ told_map tally t = head_is (shown_of l) (told_map tally t) _ _ a in
+      let first : shown_of l ≡ map_reported tally t = head_is (shown_of l) (map_reported tally t) _ _ a in
       let named_so : named f ≡ named_of t = head_is (named f) (named_of t) _ _ c in (
         ap (λ x. x.0) first ∙ sym (ap (λ x. x.0) named_so),
         subst (λ (n : ℕ). Lists l.pairs.items (is_in_map n) m) (sym (ap (λ x. x.1) named_so))
@@ -193,8 +193,8 @@ module _ {K V : Type 0} (m : Moment K V) (tally : Tally) (tells : TellsMoment ta
 
 -- The run of a schedule whose events have all happened.
 module _ {K V S : Type 0} (same : K → K → Bool) (hash : K → ℕ) (terms : Terms) (events : List (Event K V)) (rec : Record V) (tally : Tally) (p : Scheduler K V S) (so : SoFar same hash terms events rec tally p) where
-  pub run_so : (run : Run K V) → run.outcomes ≡ rec.outcomes → run.steps ≡ rec.steps → run.effects ≡ rec.effects → run.trace ≡ rec.trace → TellsMost (moment (log_so events rec)) run
-      → (AtEachEvent ReclaimsRight (log_so events rec) → TellsBack (moment (log_so events rec)) run) → IsRightRun terms events run
+  pub run_so : (run : Run K V) → run.outcomes ≡ rec.outcomes → run.steps ≡ rec.steps → run.effects ≡ rec.effects → run.trace ≡ rec.trace → ReportsMost (moment (log_so events rec)) run
+      → (AtEachEvent ReclaimsRight (log_so events rec) → ReportsBack (moment (log_so events rec)) run) → IsRightRun terms events run
   run_so run outcomes steps effects trace tells back =
       let same_log : log_of events run ≡ log_so events rec = λ i. log_on [] events (outcomes i).items (steps i).items (map (λ v. v.items) (effects i).items) in
       record {
@@ -203,13 +203,13 @@ module _ {K V S : Type 0} (same : K → K → Bool) (hash : K → ℕ) (terms : 
         effects = ap (λ v. length v.items) effects ∙ so.effects;
         trace = ap (λ v. v.items) trace ∙ so.trace ∙ ap trace_of (sym same_log);
         goes = subst (AtEachEvent (GoesRight terms)) (sym same_log) so.goes;
-        tells = subst (λ (l : List (Entry K V)). TellsMost (moment l) run) (sym same_log) tells;
-        back = subst (λ (l : List (Entry K V)). TellsBack (moment l) run) (sym same_log) (back (all_reclaim_right same terms (log_so events rec) so.legal));
+        tells = subst (λ (l : List (Entry K V)). ReportsMost (moment l) run) (sym same_log) tells;
+        back = subst (λ (l : List (Entry K V)). ReportsBack (moment l) run) (sym same_log) (back (all_reclaim_right same terms (log_so events rec) so.legal));
       }
 
   -- and it has all that is promised of one
-  pub whole_so : (run : Run K V) → run.outcomes ≡ rec.outcomes → run.steps ≡ rec.steps → run.effects ≡ rec.effects → run.trace ≡ rec.trace → TellsMost (moment (log_so events rec)) run
-      → (AtEachEvent ReclaimsRight (log_so events rec) → TellsBack (moment (log_so events rec)) run) → IsRunOf same terms events run
+  pub whole_so : (run : Run K V) → run.outcomes ≡ rec.outcomes → run.steps ≡ rec.steps → run.effects ≡ rec.effects → run.trace ≡ rec.trace → ReportsMost (moment (log_so events rec)) run
+      → (AtEachEvent ReclaimsRight (log_so events rec) → ReportsBack (moment (log_so events rec)) run) → IsRunOf same terms events run
   whole_so run outcomes steps effects trace tells back =
       let same_log : log_of events run ≡ log_so events rec = λ i. log_on [] events (outcomes i).items (steps i).items (map (λ v. v.items) (effects i).items) in
       as_run same terms events run (run_so run outcomes steps effects trace tells back) (subst (IsLegalLog same terms) (sym same_log) so.legal)

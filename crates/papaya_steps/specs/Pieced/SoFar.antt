@@ -20,8 +20,8 @@ module _ {K V S : Type 0} where
     ActsSoFar log l calls = Reach same by_hasher l.executor.hasher terms.batch_size terms.roots (shards_of terms) (PlaysSo log calls) l.executor (known l.notes)
 
   -- What is promised of an event that is in turn, where the executor has as many numbers of maps as the moments say: the list goes on by its acts.
-  abbrev pub GoesOnByActs : (K → K → Bool) → (S → K → ℕ) → Event K V → Played V → (old new : Scheduler K V S) → Type 0
-  GoesOnByActs same by_hasher event played old new =
+  abbrev pub ContinuesByActs : (K → K → Bool) → (S → K → ℕ) → Event K V → Played V → (old new : Scheduler K V S) → Type 0
+  ContinuesByActs same by_hasher event played old new =
       (terms : Terms) (log : List (Entry K V)) → IsPlayed same (by_hasher old.logged.executor.hasher) terms log old → (moment log).is_closed ≡ false
       → length old.logged.executor.maps.items ≡ (moment log).made → length new.logged.executor.maps.items ≡ (moment (entry_of event played ∷ log)).made
       → ActsSoFar same by_hasher terms log old.logged old.calls → ActsSoFar same by_hasher terms (entry_of event played ∷ log) new.logged new.calls

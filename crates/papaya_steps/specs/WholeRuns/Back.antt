@@ -41,7 +41,7 @@ module _ {K V : Type 0} where
   ReclaimsRight log e = ReclaimsBy e.event e.effects
 
   -- What a run tells at its end of pairs that were given back is what its events say; and which pair has a number, where each that was stored is somewhere.
-  pub record TellsBack (m : Moment K V) (run : Run K V) : Type 0 where
+  pub record ReportsBack (m : Moment K V) (run : Run K V) : Type 0 where
     pub given_back : numbers run.given_back ≡ m.given_back
     pub contents : AllByRecursion (IsStored m.stored) run.given_back
     pub pairs : ArePlaced m → (n : ℕ) → option_map (λ p. (p.key, p.value)) (pair_of run n) ≡ pair_at m.stored n

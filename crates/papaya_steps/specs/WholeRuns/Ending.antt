@@ -9,5 +9,5 @@ use Rattle.run_effects.specs.declared.tally.Tally.{Tally}
 abbrev pub shown_of : Living → List ℕ × List ℕ
 shown_of living = (living.name, living.pairs.items)
 
-abbrev pub told_map : Tally → NamedMap → List ℕ × List ℕ
-told_map tally named = (named.name, numbers_at (passes (Some named.number)) 0 tally.pairs.items)
+abbrev pub map_reported : Tally → NamedMap → List ℕ × List ℕ
+map_reported tally named = (named.name, numbers_at (passes (Some named.number)) 0 tally.pairs.items)

@@ -10,22 +10,22 @@ use Rattle.run_schedules.specs.declared.record.Run.{Run}
 use Rattle.run_schedules.specs.Schedules.After.{AtEachEvent, moment}
 use Rattle.run_schedules.specs.Schedules.Beginning.{at_work}
 use Rattle.run_schedules.specs.Schedules.Entry.{Entry, acting, caller_of}
-use Rattle.run_schedules.specs.Schedules.InTurn.{ComesRight}
+use Rattle.run_schedules.specs.Schedules.InTurn.{HasRightOutcome}
 use Rattle.run_schedules.specs.Schedules.Moment.{Moment}
-use Rattle.run_schedules.specs.Schedules.Runs.{IsLegalLog, Lists, ShowsMaps, log_of, log_on, trace_of}
-use Rattle.run_schedules.specs.Schedules.Steps.{DoesFew, MakesSteps, stands_or}
+use Rattle.run_schedules.specs.Schedules.Runs.{IsLegalLog, Lists, ListsMaps, log_of, log_on, trace_of}
+use Rattle.run_schedules.specs.Schedules.Steps.{DoesFew, MakesSteps, state_or}
 use Rattle.run_schedules.specs.Schedules.Terms.{Terms}
 use Rattle.run_schedules.specs.Schedules.Views.{is_in_a_map, is_retired, is_waiting}
 use Rattle.run_schedules.specs.declared.setup.Setup.{Setup}
-use Rattle.play_events.specs.Given.SchedulerQuiet.{IsQuiet}
+use Rattle.play_events.specs.Given.SchedulerQuiet.{BusyIsSilent}
 use Rattle.play_events.specs.Given.SchedulerDeclared.scheduler.Scheduler.{Scheduler}
 use Rattle.play_events.specs.Events.Asked.{Holds}
-use Rattle.papaya_steps.specs.WholeRuns.Back.{BackSoFar, TellsBack}
+use Rattle.papaya_steps.specs.WholeRuns.Back.{BackSoFar, ReportsBack}
 use Rattle.play_events.specs.Events.OfCalls.{Runs}
 use Rattle.play_events.specs.Given.PointsSteps.{AreLawful}
 use Rattle.papaya_steps.specs.Pieced.SoFar.{ActsSoFar}
 use Rattle.play_events.specs.Folded.Folded.{HandsAllOver, HandsInOrder}
-use Rattle.run_effects.specs.Tallies.Tally.{TellsMoment}
+use Rattle.run_effects.specs.Tallies.Tally.{RecordsMoment}
 use Rattle.papaya_steps.specs.declared.record.Record.{Record}
 use Rattle.papaya_steps.specs.declared.running.Running.{Running}
 use Rattle.run_effects.specs.declared.tally.Tally.{Tally}
@@ -41,10 +41,10 @@ module _ {K V : Type 0} where
 
   -- An event comes to what is right; it makes as many steps as it may, and does not more; and where it is refused as busy, it did nothing.
   pub record GoesRight (terms : Terms) (log : List (Entry K V)) (e : Entry K V) : Type 0 where
-    pub right : ComesRight terms log e
-    pub makes : MakesSteps e.event (stands_or (acting (caller_of e.event) (at_work e (moment log)))) e.steps e.outcome
+    pub right : HasRightOutcome terms log e
+    pub makes : MakesSteps e.event (state_or (acting (caller_of e.event) (at_work e (moment log)))) e.steps e.outcome
     pub does : DoesFew (caller_of e.event) e.steps e.effects
-    pub is_quiet : IsQuiet e.outcome e.effects
+    pub is_quiet : BusyIsSilent e.outcome e.effects
 
   -- An event hands over first what its call owes first; and a call that has ended with it, or is ready, has handed over just what it took out, in that order.
   pub record HandsOn (log : List (Entry K V)) (e : Entry K V) : Type 0 where
@@ -52,9 +52,9 @@ module _ {K V : Type 0} where
     pub whole : HandsAllOver log e
 
   -- What a run tells at its end of maps, and of what is not reclaimed, is what its events say, also while calls are under way; pairs that are left are as they were stored.
-  pub record TellsMost (m : Moment K V) (run : Run K V) : Type 0 where
+  pub record ReportsMost (m : Moment K V) (run : Run K V) : Type 0 where
     pub stored : run.stored ≡ length m.stored
-    pub maps : ShowsMaps run.maps.items m.maps m
+    pub maps : ListsMaps run.maps.items m.maps m
     pub waiting : Lists run.waiting.items is_waiting m
     pub ascending : IsSorted nat_cmp run.waiting.items
     pub tables : run.tables ≡ length (filter (λ u. is_retired u.stage) m.tables)
@@ -68,8 +68,8 @@ module _ {K V : Type 0} where
     pub effects : length run.effects.items ≡ length schedule
     pub trace : run.trace.items ≡ trace_of (log_of schedule run)
     pub goes : AtEachEvent (GoesRight terms) (log_of schedule run)
-    pub tells : TellsMost (moment (log_of schedule run)) run
-    pub back : TellsBack (moment (log_of schedule run)) run
+    pub tells : ReportsMost (moment (log_of schedule run)) run
+    pub back : ReportsBack (moment (log_of schedule run)) run
 
 module _ {K V S : Type 0} (same : K → K → Bool) (hash : K → ℕ) where
   -- These events have happened so far: the scheduler stands for the moment after them, and what events ask of it is so; the tally tells where pairs and tables are then; each kept its promises, and the run is as the next one needs.
@@ -80,7 +80,7 @@ module _ {K V S : Type 0} (same : K → K → Bool) (hash : K → ℕ) where
     pub trace : rec.trace.items ≡ trace_of (log_so events rec)
     pub goes : AtEachEvent (GoesRight terms) (log_so events rec)
     pub holds : Holds same hash terms (moment (log_so events rec)) p
-    pub told : TellsMoment tally (moment (log_so events rec))
+    pub told : RecordsMoment tally (moment (log_so events rec))
     pub legal : IsLegalLog same terms (log_so events rec)
     pub hands : AtEachEvent HandsInOrder (log_so events rec)
     pub runs : Runs same hash terms (log_so events rec) p

@@ -16,11 +16,11 @@ use Rattle.run_schedules.specs.Schedules.Reclaims.{is_quiescent}
 use Rattle.run_schedules.specs.Schedules.Terms.{Terms}
 use Rattle.run_schedules.specs.Schedules.Views.{call_of}
 use Rattle.run_kept.specs.Given.EffectsKnown.{known}
-use Rattle.play_lists.specs.Given.FindsBounded.{NobodyIsThere, ShowsRetired}
-use Rattle.play_lists.specs.Given.FindsLittle.{ShowsNobody}
+use Rattle.play_lists.specs.Given.FindsBounded.{NobodyIsThere, RefinesRetired}
+use Rattle.play_lists.specs.Given.FindsLittle.{RefinesQuiescence}
 use Rattle.run_legal.proofs.Found.{rest_shows_retired}
-use Rattle.play_lists.specs.Given.RowsRows.{used_as}
-use Rattle.play_lists.proofs.Given.RowsFacts.{row_rests}
+use Rattle.run_legal.specs.Given.RowsRows.{used_as}
+use Rattle.play_stepping.proofs.Given.RowsFacts.{row_rests}
 use Rattle.play_stepping.specs.Given.SchedulerDeclared.scheduler.Scheduler.{Scheduler}
 use Rattle.play_events.specs.Events.OfCalls.{Runs}
 use Rattle.play_stepping.specs.Given.ExecutorIsThere.{IsUsedAs, held_by, use_at}
@@ -72,14 +72,14 @@ module _ {K V S : Type 0} (same : K → K → Bool) (hash : K → ℕ) (terms : 
       outside = λ t. outside_by t p.there no_guards (use_at p.logged.executor t) (s.world.uses t) (runs.stands.slots t) (runs.stands.shown.is_at.uses t);
     }
 
-    retired : ShowsRetired m (known p.logged.notes) s.world
+    retired : RefinesRetired m (known p.logged.notes) s.world
     retired =
         rest_shows_retired K V same (λ map. hash) runs.stands.name m (known p.logged.notes) s (held_by p.logged.executor) runs.stands.shown.is_at.held runs.stands.shown.kept rests runs.shows.order.0.within.apart runs.taken
 
   pub is_word : terms.batch_size < 2 ^ 64
   is_word = subst (λ (n : ℕ). n < 2 ^ 64) runs.size runs.stands.shown.is_at.held.small
 
-  pub shows_nobody : ShowsNobody terms m (known p.logged.notes) s.world
+  pub shows_nobody : RefinesQuiescence terms m (known p.logged.notes) s.world
   shows_nobody = record {
     came = subst (λ (n : ℕ). CameAbout n s.world) runs.size runs.stands.shown.is_at.held.together.makings.standing.came;
     nobody = λ quiet. (nobody quiet, retired quiet);

@@ -16,11 +16,11 @@ use Rattle.run_schedules.specs.Schedules.After.{moment}
 use Rattle.run_schedules.specs.Schedules.Effects.{AtEachEffect}
 use Rattle.run_schedules.specs.Schedules.Entry.{Entry, speaker}
 use Rattle.run_schedules.specs.Schedules.Handing.{gives_all}
-use Rattle.run_schedules.specs.Schedules.InTurn.{ComesRight, IsKeptOut}
+use Rattle.run_schedules.specs.Schedules.InTurn.{HasRightOutcome, IsKeptOut}
 use Rattle.run_schedules.specs.Schedules.Moment.{Moment}
 use Rattle.run_schedules.specs.Schedules.Terms.{Terms}
 use Rattle.run_kept.specs.Given.EffectsKnown.{known}
-use Rattle.run_kept.specs.Given.ReclaimsLeft.{IsSomebodys, LeftAmong}
+use Rattle.run_kept.specs.Given.ReclaimsLeft.{IsSomebodys, LeftWithEndings}
 use Rattle.run_kept.specs.Given.ReclaimsReclaims.{IsRootOf}
 use Rattle.run_kept.proofs.Given.ReclaimsLeft.Stays.{nothing_is_left}
 use Rattle.play_stepping.specs.Given.ReclaimingReclaiming.{IsReclaimingThere, MayReclaim, NobodyHas}
@@ -29,14 +29,14 @@ use Rattle.play_events.proofs.Folded.Steps.{none_in_order}
 use Rattle.run_legal.proofs.Come.{events_bring_things}
 use Rattle.run_legal.proofs.Heads.Chains.{all_step, all_taken}
 use Rattle.run_legal.proofs.Heads.Rows.{slots_stay, taken_then}
-use Rattle.run_legal.specs.AllEvents.{AllCome, AllSteps, BeginsAll, BehindAreLeft, BehindIsLeft, FindsPair, LeftIsBehind, all_begun}
+use Rattle.run_legal.specs.AllEvents.{AllCome, AllSteps, BeginsAll, BehindRootsAreLeft, BehindRootsIsLeft, FindsPair, LeftIsBehindRoots, all_begun}
 use Rattle.run_legal.specs.CallEvents.{IsLegalBut}
-use Rattle.run_legal.specs.Carried.{ShowsRun}
+use Rattle.run_legal.specs.Carried.{RefinesRun}
 use Rattle.run_legal.proofs.OfAll.Ends.{all_runs_to_its_end, none_called}
 use Rattle.run_legal.proofs.OfAll.Pairs.{all_find_pairs}
-use Rattle.play_lists.specs.Given.LoggedGoes.{Far, ReclaimingGone, far}
-use Rattle.play_lists.specs.Given.LoggedShown.{IsShown}
-use Rattle.play_lists.proofs.Given.LoggedReclaimsRun.{same_setting}
+use Rattle.play_stepping.specs.Given.LoggedGoes.{Far, ReclaimingGone, far}
+use Rattle.play_stepping.specs.Given.LoggedShown.{IsShown}
+use Rattle.run_legal.proofs.Given.LogReclaimsRun.{same_setting}
 use Rattle.play_stepping.specs.Given.SchedulerAllWorks.{WorksOnAll}
 use Rattle.play_stepping.specs.Given.SchedulerPlayed.{IsPlayed, entry_of}
 use Rattle.play_stepping.specs.Given.SchedulerReclaiming.{MayGiveAll, are_gone}
@@ -47,7 +47,7 @@ use Rattle.play_stepping.proofs.Mapping.AllGiven.{may_reclaim, nobody_has}
 use Rattle.play_stepping.proofs.Given.SchedulerRights.{entry, entry_is}
 use Rattle.play_events.proofs.Events.OfCalls.Worth.{have_values_then, nobody_says}
 use Rattle.play_events.specs.Events.Asked.{Holds, is_of_calls, is_of_maps}
-use Rattle.play_events.specs.Events.OfAll.{KeepsAll}
+use Rattle.play_events.specs.Events.OfAll.{PreservesAll}
 use Rattle.play_events.specs.Events.OfCalls.{HaveValues, Runs, RunsOn}
 use Rattle.run_legal.proofs.Works.Reached.{all_note_more}
 use Rattle.play_events.proofs.Events.OfAll.Behind.{behind_so}
@@ -94,7 +94,7 @@ module _ {K V : Type 0} where
 
 module _ {K V S : Type 0} (same : K → K → Bool) (hash : K → ℕ) (terms : Terms) (log : List (Entry K V)) (event : Event K V) (of_all : gives_all event ≡ true)
     (played : Played V) (old new : Scheduler K V S) (holds : Holds same hash terms (moment log) old) (run : Runs same hash terms log old) (after : IsPlayed same hash terms (entry_of event played ∷ log) new)
-    (right_so : ComesRight terms log (entry_of event played)) where
+    (right_so : HasRightOutcome terms log (entry_of event played)) where
   abbrev m : Moment K V
   m = moment log
 
@@ -119,7 +119,7 @@ module _ {K V S : Type 0} (same : K → K → Bool) (hash : K → ℕ) (terms : 
   roots_are = holds.counts.roots ∙ ap (λ (t : Terms). t.roots) run.stands.given
 
   -- which is what the moment says is left over
-  its_left : LeftIsBehind terms.roots m (known old.logged.notes) behind × BehindIsLeft terms.roots m (known old.logged.notes) behind × BehindAreLeft terms.roots m (known old.logged.notes) behind
+  its_left : LeftIsBehindRoots terms.roots m (known old.logged.notes) behind × BehindRootsIsLeft terms.roots m (known old.logged.notes) behind × BehindRootsAreLeft terms.roots m (known old.logged.notes) behind
   its_left = behind_so same hash terms log old run holds.counts.apart.numbers.found roots_are
 
   small : terms.batch_size < 2 ^ 64
@@ -130,7 +130,7 @@ module _ {K V S : Type 0} (same : K → K → Bool) (hash : K → ℕ) (terms : 
   Keeps e = RunsOn same hash terms log e new × ReclaimsAll log e
 
   abbrev KeepsAs : Entry K V → Type 0
-  KeepsAs e = IsPlayed same hash terms (e ∷ log) new → ComesRight terms log e → Keeps e
+  KeepsAs e = IsPlayed same hash terms (e ∷ log) new → HasRightOutcome terms log e → Keeps e
 
   -- its steps have come to their end
   module _ (calls : new.calls ≡ old.calls) (gone : are_gone old.there old.calls ≡ true) (ran : ReclaimingGone taken [] played.effects.items old.logged new.logged) where
@@ -183,12 +183,12 @@ module _ {K V S : Type 0} (same : K → K → Bool) (hash : K → ℕ) (terms : 
           ∙ ap (λ (r : ℕ). if taken then reclaiming_all terms.batch_size r else clearing r) roots_are;
     }
 
-    pairs : ComesRight terms log e → AtEachEffect FindsPair None None played.effects.items m
+    pairs : HasRightOutcome terms log e → AtEachEffect FindsPair None None played.effects.items m
     pairs right =
         all_find_pairs K V same (λ map. hash) name terms log (known old.logged.notes) s (held_by old.logged.executor) run.shows (none_called terms log played.steps played.effects.items event of_all right) 0 first
         behind its_left.0 its_left.2 (suc ran.3.0) over (to, y.chain, last)
 
-    it : ComesRight terms log e → IsLegalBut same terms log e × ReclaimsAll log e × ShowsRun same name terms (e ∷ log) (known new.logged.notes) last_scene
+    it : HasRightOutcome terms log e → IsLegalBut same terms log e × ReclaimsAll log e × RefinesRun same name terms (e ∷ log) (known new.logged.notes) last_scene
     it right =
         all_runs_to_its_end K V same (λ map. hash) name terms log (known old.logged.notes) s (held_by old.logged.executor) small run.shows event of_all
         (alone_follows same hash terms log old run event (speaks_of_none event of_all)) 0 first behind its_left.0 its_left.1 begins ran.3.0 to over y.chain last done played.steps played.effects.items refl
@@ -207,7 +207,7 @@ module _ {K V S : Type 0} (same : K → K → Bool) (hash : K → ℕ) (terms : 
         ((leads same hash terms 0 mid end y.now y.scene y.lists y.under_way y.roots ran.5).1.as_they_were k) ∙ y.settings k) ∙ run.stands.shown.is_at.maps k
 
     -- nothing is left behind any root
-    none_left : LeftAmong new.logged.executor.roots last_scene.world last_scene.maps last_scene.makers last_scene.enders (λ r. [])
+    none_left : LeftWithEndings new.logged.executor.roots last_scene.world last_scene.maps last_scene.makers last_scene.enders (λ r. [])
     none_left =
         nothing_is_left K V new.logged.executor.roots last_scene.world last_scene.maps last_scene.makers last_scene.enders
         (λ r l. by r ((all_back same hash terms 0 mid end y.now y.scene y.lists y.under_way y.roots ran.5 done).free r (subst (λ (n : ℕ). r < n) ran.5.0.given.2 l)))
@@ -264,23 +264,23 @@ module _ {K V S : Type 0} (same : K → K → Bool) (hash : K → ℕ) (terms : 
 
 module _ {K V S : Type 0} (same : K → K → Bool) (hash : K → ℕ) (event : Event K V) (old new : Scheduler K V S) where
   -- so it is of one that is kept out,
-  pub all_out : (mapped : Bool) → new ≡ record old { is_mapped = mapped } → (played : Played V) → IsKeptOut event played.outcome → played.effects.items ≡ [] → KeepsAll same hash event played old new
+  pub all_out : (mapped : Bool) → new ≡ record old { is_mapped = mapped } → (played : Played V) → IsKeptOut event played.outcome → played.effects.items ≡ [] → PreservesAll same hash event played old new
   all_out mapped same_but played out none = λ of_all terms log holds run after left.
       works_keep same hash terms log event of_all played old new holds run after left
       (ap (λ (p : Scheduler K V S). p.calls) same_but, inl (out_busy event of_all played.outcome out, (none, ap (λ (p : Scheduler K V S). p.logged) same_but)))
 
   -- and of one that does not reclaim all nothing is said
-  pub none_keep : {X : Type 0} → gives_all event ≡ false → (result : Result (Played V) X) → IfOk result (λ played. KeepsAll same hash event played old new)
+  pub none_keep : {X : Type 0} → gives_all event ≡ false → (result : Result (Played V) X) → IfOk result (λ played. PreservesAll same hash event played old new)
   none_keep none (Ok played) = λ of_all. absurd (cc (of_all, none))
   none_keep none (Err x) = tt
 
 -- So it is by what a function says of an event in this form.
 module _ {K V S : Type 0} (same : K → K → Bool) (hash : K → ℕ) (event form : Event K V) (is : event ≡ form) (old new : Scheduler K V S) where
-  pub all_keep : {X : Type 0} → (result : Result (Played V) X) → IfOk result (λ played. WorksOnAll played old new) → IfOk result (λ played. KeepsAll same hash event played old new)
+  pub all_keep : {X : Type 0} → (result : Result (Played V) X) → IfOk result (λ played. WorksOnAll played old new) → IfOk result (λ played. PreservesAll same hash event played old new)
   all_keep (Ok played) works =
-      subst (λ (x : Event K V). KeepsAll same hash x played old new) (sym is) (λ of_all terms log holds run after left. works_keep same hash terms log form of_all played old new holds run after left works)
+      subst (λ (x : Event K V). PreservesAll same hash x played old new) (sym is) (λ of_all terms log holds run after left. works_keep same hash terms log form of_all played old new holds run after left works)
   all_keep (Err x) works = tt
 
   -- of events of another form nothing is said
-  pub others_none : {X : Type 0} → gives_all form ≡ false → (result : Result (Played V) X) → IfOk result (λ played. KeepsAll same hash event played old new)
+  pub others_none : {X : Type 0} → gives_all form ≡ false → (result : Result (Played V) X) → IfOk result (λ played. PreservesAll same hash event played old new)
   others_none none = none_keep same hash event old new (ap gives_all is ∙ none)

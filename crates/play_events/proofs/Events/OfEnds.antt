@@ -20,7 +20,7 @@ use Rattle.play_stepping.specs.Given.MomentsWholeEnds.{all_ended, tables_ended}
 use Rattle.run_kept.specs.Given.OthersEndings.{ending_after}
 use Rattle.run_kept.specs.Given.RuleInWorld.{IsMapIn}
 use Rattle.run_kept.proofs.Given.RuleLaws.{current_is_known}
-use Rattle.run_kept.specs.Given.FollowsMaps.{ShowsMap}
+use Rattle.run_kept.specs.Given.FollowsMaps.{RefinesMap}
 use Rattle.run_schedules.specs.declared.effect.Effect.{Effect}
 use Rattle.run_schedules.specs.declared.effect.Effect.TheVariants.{Ended}
 use Rattle.run_schedules.specs.declared.event.Event.{Event}
@@ -30,7 +30,7 @@ use Rattle.run_schedules.specs.Schedules.After.{moment}
 use Rattle.run_schedules.specs.Schedules.Effects.{AtEachEffect, with_effects, worked}
 use Rattle.run_schedules.specs.Schedules.Entry.{Entry}
 use Rattle.run_schedules.specs.Schedules.Handing.{EndsMap, EndsNamed, IsWhole, may_do}
-use Rattle.run_schedules.specs.Schedules.InTurn.{ComesRight}
+use Rattle.run_schedules.specs.Schedules.InTurn.{HasRightOutcome}
 use Rattle.run_schedules.specs.Schedules.Lives.{Finds}
 use Rattle.run_schedules.specs.Schedules.Moment.{MapThere, Moment}
 use Rattle.run_schedules.specs.Schedules.Terms.{Terms, shards_of}
@@ -42,24 +42,25 @@ use Rattle.run_kept.specs.Given.EffectsDeclared.role.Role.TheVariants as role
 use Rattle.run_legal.proofs.Heads.Chains.{endings_taken}
 use Rattle.run_legal.proofs.Heads.Rows.{slots_stay}
 use Rattle.run_legal.specs.CallEvents.{IsLegalBut}
-use Rattle.run_legal.specs.Carried.{ShowsRun}
+use Rattle.run_legal.specs.Carried.{RefinesRun}
 use Rattle.run_legal.specs.Chains.{Chain, Come, EndSteps}
 use Rattle.run_legal.specs.MapEvents.{InEndEvent}
 use Rattle.run_legal.proofs.Chains.{ends_chain, ends_run_to_their_ends}
 use Rattle.run_legal.proofs.MapsOver.{end_events_begin_so}
 use Rattle.run_kept.proofs.Given.RemainsNumbered.{made_stays}
-use Rattle.play_lists.specs.Given.LoggedEnds.{EndCame, EndIsBegun, NotedStill, NotesMap, ended_as, is_done}
-use Rattle.play_lists.specs.Given.LoggedGoes.{EndGoes, EndOn, Far, GoesFor, far}
-use Rattle.play_lists.specs.Given.LoggedShown.{IsCounted, IsShown}
-use Rattle.run_kept.specs.Sheds.Waits.{TellsLeft, TellsWaiting}
-use Rattle.play_lists.proofs.Given.LoggedCounted.{counted_end_steps}
+use Rattle.play_stepping.specs.Given.LoggedEnds.{EndCame, EndIsBegun, NotedStill, NotesMap, is_done}
+use Rattle.run_kept.specs.Ends.{ended_as}
+use Rattle.play_stepping.specs.Given.LoggedGoes.{EndGoes, EndOn, Far, GoesFor, far}
+use Rattle.play_stepping.specs.Given.LoggedShown.{IsCounted, IsShown}
+use Rattle.run_kept.specs.Sheds.Waits.{ReportsLeft, ReportsWaiting}
+use Rattle.play_stepping.proofs.Given.LoggedCounted.{counted_end_steps}
 use Rattle.run_kept.proofs.Sheds.LeftNoted.{endings_note_left}
-use Rattle.play_lists.proofs.Given.LoggedEndSteps.{end_there}
+use Rattle.run_legal.proofs.Given.LogEndSteps.{end_there}
 use Rattle.run_kept.proofs.Sheds.Held.{ending_held}
-use Rattle.play_lists.proofs.Given.LoggedEndTold.{did_end, ends_alone, noted_on}
-use Rattle.play_lists.proofs.Given.RowsLists.{found_has}
+use Rattle.run_legal.proofs.Given.LogEndTold.{did_end, ends_alone, noted_on}
+use Rattle.play_stepping.proofs.Given.RowsLists.{found_has}
 use Rattle.play_stepping.specs.Given.SchedulerMapping.{AreApart}
-use Rattle.play_stepping.specs.Given.SchedulerPlayed.{IsDue, IsPlayed, entry_of}
+use Rattle.play_stepping.specs.Given.SchedulerPlayed.{IsInTurn, IsPlayed, entry_of}
 use Rattle.play_stepping.specs.Given.SchedulerWorks.{HasEndedMap, WorksOnEnd}
 use Rattle.play_stepping.specs.Given.SchedulerDeclared.played.Played.{Played}
 use Rattle.play_stepping.specs.Given.SchedulerDeclared.scheduler.Scheduler.{Scheduler}
@@ -69,7 +70,7 @@ use Rattle.play_stepping.proofs.Given.SchedulerMaps.{number_is}
 use Rattle.play_stepping.proofs.Given.SchedulerRights.{entry, entry_is}
 use Rattle.play_events.specs.Events.Asked.{Holds}
 use Rattle.play_events.specs.Events.OfCalls.{HaveShards, Runs, RunsOn}
-use Rattle.play_events.specs.Events.OfRows.{KeepsRun}
+use Rattle.play_events.specs.Events.OfRows.{PreservesRun}
 use Rattle.play_stepping.proofs.Given.NeedsEnds.{ends_find_all}
 use Rattle.run_legal.proofs.Works.Reached.{ends_note_more}
 use Rattle.play_events.proofs.Events.OfRows.Over.{over_runs}
@@ -238,7 +239,7 @@ module _ {K V S : Type 0} (same : K → K → Bool) (hash : K → ℕ) (terms : 
 
 module _ {K V S : Type 0} (same : K → K → Bool) (hash : K → ℕ) (terms : Terms) (log : List (Entry K V)) (own : List ℕ) (played : Played V) (old new : Scheduler K V S) (holds : Holds same hash terms (moment log) old)
     (run : Runs same hash terms log old) (turn : (moment log).is_closed ≡ false) (after : IsPlayed same hash terms (entry_of (EndMap own) played ∷ log) new)
-    (right_so : ComesRight terms log (entry_of (EndMap own) played)) where
+    (right_so : HasRightOutcome terms log (entry_of (EndMap own) played)) where
   abbrev m : Moment K V
   m = moment log
 
@@ -248,14 +249,14 @@ module _ {K V S : Type 0} (same : K → K → Bool) (hash : K → ℕ) (terms : 
   abbrev s : Scene K V
   s = run.stands.scene
 
-  abbrev due : IsDue same hash terms log (EndMap own) old
+  abbrev due : IsInTurn same hash terms log (EndMap own) old
   due = record { played = run.stands; in_turn = turn }
 
   small : terms.batch_size < 2 ^ 64
   small = subst (λ (n : ℕ). n < 2 ^ 64) run.size run.stands.shown.is_at.held.small
 
   abbrev KeepsAs : Entry K V → Type 0
-  KeepsAs x = IsPlayed same hash terms (x ∷ log) new → ComesRight terms log x → RunsOn same hash terms log x new
+  KeepsAs x = IsPlayed same hash terms (x ∷ log) new → HasRightOutcome terms log x → RunsOn same hash terms log x new
 
   -- the map has ended
   module _ (calls : new.calls ≡ old.calls) (done : played.outcome ≡ Done) (d : HasEndedMap played old new own) where
@@ -355,7 +356,7 @@ module _ {K V S : Type 0} (same : K → K → Bool) (hash : K → ℕ) (terms : 
     -- what waited is told as it ended
     abbrev LeftTells : (t : Scene K V) (gone_blocks : List ℕ) → EndCame s1 t i (finishing_of standing s.world) gone_blocks true → Type 0
     LeftTells t gone_blocks came =
-        (began : Moment K V) → TellsWaiting same map i (finishing_of standing s.world) began m first_noted s1.world → TellsLeft map standing.chart began (known new.logged.notes) came.ender.2.0
+        (began : Moment K V) → ReportsWaiting same map i (finishing_of standing s.world) began m first_noted s1.world → ReportsLeft map standing.chart began (known new.logged.notes) came.ender.2.0
 
     abbrev u : (t : Scene K V) × (gone_blocks : List ℕ) × (came : EndCame s1 t i (finishing_of standing s.world) gone_blocks true) × (d.ran.0 ≡ ended_as map first_noted gone_blocks)
         × NotedStill first_noted (known new.logged.notes) ([] ++ gone_blocks) × IsShown same hash name (with_effects None (Some map) d.ran.0 m) new.logged t
@@ -394,7 +395,7 @@ module _ {K V S : Type 0} (same : K → K → Bool) (hash : K → ℕ) (terms : 
     current_known : (n : ℕ) → standing.chart.current n ≡ true → (n < standing.chart.stored) × (standing.blocks.pair_known n ≡ true)
     current_known n current = current_is_known same standing.hash standing.setting s.world.memory standing.chart standing.blocks in_map.map.rule in_map.map.shows n current
 
-    abbrev stood : ShowsMap map (run.shows.calls.whole.all.shown.number map) standing m (known old.logged.notes)
+    abbrev stood : RefinesMap map (run.shows.calls.whole.all.shown.number map) standing m (known old.logged.notes)
     stood = run.shows.calls.whole.all.shown.maps map standing (begun none_on).1
 
     same_number : (n : ℕ) → standing.chart.current n ≡ true → number n ≡ run.shows.calls.whole.all.shown.number map n
@@ -409,7 +410,7 @@ module _ {K V S : Type 0} (same : K → K → Bool) (hash : K → ℕ) (terms : 
         subst (λ (fs : List Effect). AtEachEffect (Finds terms None (Some map) false []) None (Some map) fs m) (sym (did_all ∙ u.6 refl refl))
         (ends_find_all K V m (known old.logged.notes) map (run.shows.calls.whole.all.shown.number map) number standing stood (begun none_on).2 (λ n current. (current_known n current).0) same_number)
 
-    it : ComesRight terms log e → IsLegalBut same terms log e × ShowsRun same name terms (e ∷ log) (known new.logged.notes) y.scene
+    it : HasRightOutcome terms log e → IsLegalBut same terms log e × RefinesRun same name terms (e ∷ log) (known new.logged.notes) y.scene
     it right =
         ends_run_to_their_ends K V same (λ map. hash) name terms log (known old.logged.notes) s (held_by old.logged.executor) (held_by d.began.executor) run.stands.shown.is_at.held run.shows small own map i standing (begun none_on).1 yet at1.held
         (alone_follows same hash terms log old run (EndMap own) refl) (suc d.gone.1.0) (come_by (far effects new.logged) y.now y.scene) chain y.is_at.held played.steps effects refl acts_so over others may_end
@@ -452,7 +453,7 @@ module _ {K V S : Type 0} (same : K → K → Bool) (hash : K → ℕ) (terms : 
 
 -- So it is by what its function says.
 module _ {K V S : Type 0} (same : K → K → Bool) (hash : K → ℕ) (event : Event K V) (own : List ℕ) (is : event ≡ EndMap own) (old new : Scheduler K V S) where
-  pub ends_keep : {X : Type 0} → (result : Result (Played V) X) → IfOk result (λ played. WorksOnEnd played old new own) → IfOk result (λ played. KeepsRun same hash event played old new)
+  pub ends_keep : {X : Type 0} → (result : Result (Played V) X) → IfOk result (λ played. WorksOnEnd played old new own) → IfOk result (λ played. PreservesRun same hash event played old new)
   ends_keep (Ok played) works =
-      subst (λ (x : Event K V). KeepsRun same hash x played old new) (sym is) (λ of terms log holds run turn after right. map_end_keeps same hash terms log own played old new holds run turn after right works)
+      subst (λ (x : Event K V). PreservesRun same hash x played old new) (sym is) (λ of terms log holds run turn after right. map_end_keeps same hash terms log own played old new holds run turn after right works)
   ends_keep (Err x) works = tt

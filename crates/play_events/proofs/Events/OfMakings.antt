@@ -27,7 +27,7 @@ use Rattle.run_schedules.specs.Schedules.Beginning.{used_roots, with_map}
 use Rattle.run_schedules.specs.Schedules.Effects.{with_effects, worked}
 use Rattle.run_schedules.specs.Schedules.Entry.{Entry}
 use Rattle.run_schedules.specs.Schedules.Handing.{IsWhole, is_first_making, is_table_made, may_do, tables_named}
-use Rattle.run_schedules.specs.Schedules.InTurn.{ComesRight}
+use Rattle.run_schedules.specs.Schedules.InTurn.{HasRightOutcome}
 use Rattle.run_schedules.specs.Schedules.Lists.{least_free}
 use Rattle.run_schedules.specs.Schedules.Moment.{MapThere, Moment}
 use Rattle.run_schedules.specs.Schedules.Terms.{Terms, shards_of}
@@ -39,20 +39,20 @@ use Rattle.run_legal.proofs.Heads.Rows.{slots_stay}
 use Rattle.play_lists.proofs.Given.FindsCapacities.{given_are_for}
 use Rattle.run_legal.specs.CallEvents.{IsLegalBut}
 use Rattle.run_kept.specs.Models.Follows.{FollowsModel}
-use Rattle.run_legal.specs.Carried.{ComesAlone, ShowsRun}
+use Rattle.run_legal.specs.Carried.{IsSequential, RefinesRun}
 use Rattle.run_legal.specs.Chains.{Chain as StepChain, Come, MakingSteps}
 use Rattle.run_legal.specs.MapEvents.{InMakingEvent}
 use Rattle.run_legal.proofs.Chains.{makings_run_to_their_ends}
 use Rattle.run_legal.proofs.MapsOver.{making_events_begin_so}
 use Rattle.play_stepping.specs.Given.NeedsMakings.{CountsTables, table_left}
 use Rattle.play_stepping.proofs.Given.NeedsFirsts.{makings_open}
-use Rattle.run_kept.specs.Given.ReclaimsLeft.{LeftAmong}
-use Rattle.play_lists.specs.Given.LoggedGoes.{far}
-use Rattle.play_lists.specs.Given.LoggedMakings.{MakingIsBegun}
-use Rattle.play_lists.specs.Given.LoggedShown.{IsShown}
-use Rattle.play_lists.specs.Given.LoggedDeclared.logged.Logged.{Logged}
-use Rattle.play_lists.proofs.Given.LoggedGivenBack.{with_maps}
-use Rattle.play_lists.proofs.Given.RowsLists.{found_alike}
+use Rattle.run_kept.specs.Given.ReclaimsLeft.{LeftWithEndings}
+use Rattle.play_stepping.specs.Given.LoggedGoes.{far}
+use Rattle.play_stepping.specs.Given.LoggedMakings.{MakingIsBegun}
+use Rattle.play_stepping.specs.Given.LoggedShown.{IsShown}
+use Rattle.play_stepping.specs.Given.LoggedDeclared.logged.Logged.{Logged}
+use Rattle.run_legal.proofs.Given.LoggedGivenBack.{with_maps}
+use Rattle.play_stepping.proofs.Given.RowsLists.{found_alike}
 use Rattle.play_lists.proofs.Given.TablesLogarithms.{next-power-unique}
 use Rattle.play_stepping.specs.Given.NamedPlaces.{first_places}
 use Rattle.play_stepping.specs.Given.SchedulerMapping.{MayMap}
@@ -68,7 +68,7 @@ use Rattle.play_stepping.proofs.Given.SchedulerRanOn.{maps_named}
 use Rattle.play_stepping.proofs.Given.SchedulerRights.{entry, entry_is}
 use Rattle.play_events.specs.Events.Asked.{Holds}
 use Rattle.play_events.specs.Events.OfCalls.{HaveShards, Runs, RunsOn}
-use Rattle.play_events.specs.Events.OfRows.{KeepsRun}
+use Rattle.play_events.specs.Events.OfRows.{PreservesRun}
 use Rattle.run_legal.proofs.Works.Reached.{makings_note_more}
 use Rattle.play_events.proofs.Events.OfMakings.Begun.{begun_as, begun_in, begun_shown, none_begun}
 use Rattle.play_events.proofs.Events.OfMakings.Chain.{HasFound, MakingComes, Midway, comes_on, counts_on, found_on, makings_come, masks}
@@ -131,7 +131,7 @@ module _ {K V S : Type 0} (same : K → K → Bool) (hash : K → ℕ) (terms : 
   may = record { due = record { played = run.stands; in_turn = turn }; lawful = holds.lawful; counts = holds.counts }
 
   abbrev KeepsAs : Entry K V → Type 0
-  KeepsAs x = IsPlayed same hash terms (x ∷ log) new → ComesRight terms log x → RunsOn same hash terms log x new
+  KeepsAs x = IsPlayed same hash terms (x ∷ log) new → HasRightOutcome terms log x → RunsOn same hash terms log x new
 
   -- the map was made
   module _ (calls : new.calls ≡ old.calls) (setting : Setting) (d : MakingHasRun played old new own mode capacity (progress.Done setting)) where
@@ -168,7 +168,7 @@ module _ {K V S : Type 0} (same : K → K → Bool) (hash : K → ℕ) (terms : 
     begins_so : known d.began.notes ≡ known old.logged.notes
     begins_so = ap known d.noted
 
-    lone : ComesAlone event log → FollowsModel terms.batch_size terms.roots log (known old.logged.notes) s.world
+    lone : IsSequential event log → FollowsModel terms.batch_size terms.roots log (known old.logged.notes) s.world
     lone = alone_follows same hash terms log old run event refl
 
     midst : InMakingEvent same name terms log event b.map bm [] bm (known d.began.notes) s1
@@ -308,14 +308,14 @@ module _ {K V S : Type 0} (same : K → K → Bool) (hash : K → ℕ) (terms : 
         (subst (λ (o : Option ℕ). HasTables o bw) (sym number_still)
         (made_tables, has_table ∙ ap (λ (n : ℕ). if n == 0 then 0 else 1) d.places_are ∙ some_places capacity))
 
-    it : ComesRight terms log e → IsLegalBut same terms log e × ShowsRun same name terms (e ∷ log) (known mid.notes) y.scene
+    it : HasRightOutcome terms log e → IsLegalBut same terms log e × RefinesRun same name terms (e ∷ log) (known mid.notes) y.scene
     it right =
         makings_run_to_their_ends K V same (λ map. hash) name terms log (known old.logged.notes) s (held_by old.logged.executor) (held_by d.began.executor) run.stands.shown.is_at.held run.shows own mode capacity there refl i b (none_begun run holds d) map_is
         (λ made. absurd made) lone at1.held (suc d.gone.1.0) (come_by (far effects mid) y.now y.scene) chain played.steps effects refl refl named_so
         (all_by is_first_making (may_do event m) (λ f is. is) effects y.firsts) found.found whole right
 
-    shows : ComesRight terms log e → ShowsRun same name terms (e ∷ log) (known new.logged.notes) y.scene
-    shows right = subst (λ (n : Notes). ShowsRun same name terms (e ∷ log) (known n) y.scene) (sym d.gone.5) (it right).1
+    shows : HasRightOutcome terms log e → RefinesRun same name terms (e ∷ log) (known new.logged.notes) y.scene
+    shows right = subst (λ (n : Notes). RefinesRun same name terms (e ∷ log) (known n) y.scene) (sym d.gone.5) (it right).1
 
     mask_is : d.given.mask + 1 ≡ shards_of terms
     mask_is =
@@ -336,9 +336,9 @@ module _ {K V S : Type 0} (same : K → K → Bool) (hash : K → ℕ) (terms : 
             ap (λ (x : Setting). x.mask + 1) (sym same_one) ∙ ap (λ (q : ℕ). q + 1) mask ∙ mask_is
 
     -- what ended maps left over is where it was
-    left_behind : LeftAmong new.logged.executor.roots y.scene.world y.scene.maps y.scene.makers y.scene.enders y.counted.remains.lists
+    left_behind : LeftWithEndings new.logged.executor.roots y.scene.world y.scene.maps y.scene.makers y.scene.enders y.counted.remains.lists
     left_behind =
-        subst (λ (r : ℕ). LeftAmong r y.scene.world y.scene.maps y.scene.makers y.scene.enders y.counted.remains.lists) (sym (ap (λ (x : Executor K V S). x.roots) d.gone.6)) y.counted.remains.left
+        subst (λ (r : ℕ). LeftWithEndings r y.scene.world y.scene.maps y.scene.makers y.scene.enders y.counted.remains.lists) (sym (ap (λ (x : Executor K V S). x.roots) d.gone.6)) y.counted.remains.left
 
     -- no bucket of slots is forgotten
     grows : (known old.logged.notes).buckets ≤ (known new.logged.notes).buckets
@@ -361,7 +361,7 @@ module _ {K V S : Type 0} (same : K → K → Bool) (hash : K → ℕ) (terms : 
       (λ so rest. still_keeps same hash terms log old run (entry event (Refused fault) played.steps []) new refl (refused_still log s.world event refl fault played.steps) still calls so rest refl)
 
   -- it was refused, and nothing was done; or its making was refused; or it was made
-  map_made_keeps : WorksOnMap played old new own mode capacity → IsPlayed same hash terms (entry_of event played ∷ log) new → ComesRight terms log (entry_of event played)
+  map_made_keeps : WorksOnMap played old new own mode capacity → IsPlayed same hash terms (entry_of event played ∷ log) new → HasRightOutcome terms log (entry_of event played)
       → RunsOn same hash terms log (entry_of event played) new
   map_made_keeps (calls, inl (fault, is, (none, still))) = refused_keeps fault is none still calls
   map_made_keeps (calls, inr (inl (fault, is, d))) =
@@ -370,8 +370,8 @@ module _ {K V S : Type 0} (same : K → K → Bool) (hash : K → ℕ) (terms : 
 
 -- So it is by what its function says.
 module _ {K V S : Type 0} (same : K → K → Bool) (hash : K → ℕ) (event : Event K V) (own : List ℕ) (mode : ResizeMode) (capacity : ℕ) (is : event ≡ MakeMap own mode capacity) (old new : Scheduler K V S) where
-  pub makings_keep : {X : Type 0} → (result : Result (Played V) X) → IfOk result (λ played. WorksOnMap played old new own mode capacity) → IfOk result (λ played. KeepsRun same hash event played old new)
+  pub makings_keep : {X : Type 0} → (result : Result (Played V) X) → IfOk result (λ played. WorksOnMap played old new own mode capacity) → IfOk result (λ played. PreservesRun same hash event played old new)
   makings_keep (Ok played) works =
-      subst (λ (x : Event K V). KeepsRun same hash x played old new) (sym is)
+      subst (λ (x : Event K V). PreservesRun same hash x played old new) (sym is)
       (λ of terms log holds run turn after right. map_made_keeps same hash terms log own mode capacity played old new holds run turn works after right)
   makings_keep (Err x) works = tt

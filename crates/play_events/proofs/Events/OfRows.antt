@@ -23,7 +23,7 @@ use Rattle.run_schedules.specs.Schedules.Beginning.{begun}
 use Rattle.run_schedules.specs.Schedules.Effects.{AtEachEffect}
 use Rattle.run_schedules.specs.Schedules.Entry.{Entry, speaker}
 use Rattle.run_schedules.specs.Schedules.Handing.{asks_for_bucket, gives_all, is_only, is_reclaiming, may_do}
-use Rattle.run_schedules.specs.Schedules.InTurn.{ComesRight}
+use Rattle.run_schedules.specs.Schedules.InTurn.{HasRightOutcome}
 use Rattle.run_schedules.specs.Schedules.Lives.{Finds}
 use Rattle.run_schedules.specs.Schedules.Moment.{Moment}
 use Rattle.run_schedules.specs.Schedules.InUse.{used_slots}
@@ -38,25 +38,25 @@ use Rattle.run_kept.specs.Models.OnSlots.{IsRowFor}
 use Rattle.play_lists.specs.Given.FindsLittle.{ReclaimsAll}
 use Rattle.run_legal.proofs.Heads.Registers.{IsOtherCall, ThenSo, other_begun, others_taken, registers_taken}
 use Rattle.run_legal.specs.CallEvents.{IsLegalBut}
-use Rattle.run_legal.specs.Carried.{ShowsRun}
+use Rattle.run_legal.specs.Carried.{RefinesRun}
 use Rattle.run_legal.specs.Chains.{Chain as StepChain, RowSteps}
 use Rattle.run_legal.specs.Found.{AsksInNeed}
 use Rattle.run_legal.specs.SlotEvents.{InSlotEvent}
 use Rattle.run_legal.proofs.Chains.{rows_run_to_their_ends}
 use Rattle.run_legal.proofs.Found.{row_chains_find}
 use Rattle.run_legal.proofs.Slots.{slot_events_begin_so}
-use Rattle.play_lists.specs.Given.LoggedGoes.{far}
-use Rattle.play_lists.specs.Given.LoggedOnSlots.{has_come}
+use Rattle.play_stepping.specs.Given.LoggedGoes.{far}
+use Rattle.run_legal.specs.Given.LogOnSlots.{has_come}
 use Rattle.run_kept.specs.Given.RemainsSlots.{SlotsNoted}
-use Rattle.play_lists.specs.Given.RowsRows.{RowRan, left_as}
-use Rattle.play_lists.proofs.Given.RowsFacts.{row_rests}
+use Rattle.run_legal.specs.Given.RowsRows.{RowRan, left_as}
+use Rattle.play_stepping.proofs.Given.RowsFacts.{row_rests}
 use Rattle.play_stepping.specs.Given.SchedulerPlayed.{IsPlayed, entry_of}
-use Rattle.play_stepping.specs.Given.SchedulerWorks.{ComesBy, IsAbout, IsItsRow, WorksOnSlot, told_so}
+use Rattle.play_stepping.specs.Given.SchedulerWorks.{HasOutcomeBy, IsAbout, IsItsRow, WorksOnSlot, outcome_of_row}
 use Rattle.play_stepping.specs.Given.SchedulerDeclared.played.Played.{Played}
 use Rattle.play_stepping.specs.Given.SchedulerDeclared.scheduler.Scheduler.{Scheduler}
 use Rattle.play_stepping.proofs.Given.SchedulerRights.{entry, entry_is}
 use Rattle.play_events.specs.Events.OfCalls.{HaveShards, Runs, RunsOn}
-use Rattle.play_events.specs.Events.OfRows.{KeepsRun, is_of_rows}
+use Rattle.play_events.specs.Events.OfRows.{PreservesRun, is_of_rows}
 use Rattle.play_stepping.proofs.Given.SchedulerVacancies.{first_is, none_on_vacant}
 use Rattle.run_legal.specs.Works.Rows.{may_row}
 use Rattle.run_legal.proofs.Works.Mays.{rows_do_theirs}
@@ -128,7 +128,7 @@ module _ {K V : Type 0} where
 
 module _ {K V S : Type 0} (same : K → K → Bool) (hash : K → ℕ) (terms : Terms) (log : List (Entry K V)) (event : Event K V) (played : Played V) (old new : Scheduler K V S)
     (of : is_of_rows event ≡ true) (on : is_of_slots event ≡ true) (run : Runs same hash terms log old) (turn : (moment log).is_closed ≡ false)
-    (after : IsPlayed same hash terms (entry_of event played ∷ log) new) (right : ComesRight terms log (entry_of event played)) where
+    (after : IsPlayed same hash terms (entry_of event played ∷ log) new) (right : HasRightOutcome terms log (entry_of event played)) where
   abbrev e : Entry K V
   e = entry_of event played
 
@@ -145,7 +145,7 @@ module _ {K V S : Type 0} (same : K → K → Bool) (hash : K → ℕ) (terms : 
   small = subst (λ (n : ℕ). n < 2 ^ 64) run.size run.stands.shown.is_at.held.small
 
   -- its row has run to its end
-  module _ (calls : new.calls ≡ old.calls) (slot : ℕ) (about : IsAbout event old slot) (called : SlotCall) (its : IsItsRow event old slot called) (said : RowTold (Node K V)) (comes : ComesBy event said played.outcome)
+  module _ (calls : new.calls ≡ old.calls) (slot : ℕ) (about : IsAbout event old slot) (called : SlotCall) (its : IsItsRow event old slot called) (said : RowTold (Node K V)) (comes : HasOutcomeBy event said played.outcome)
       (ran : RowRan slot called said [] played.effects.items old.logged new.logged) where
     f : RowFacts same hash terms log old run.stands said played.effects.items new.logged event slot called ran
     f = facts same hash terms log old run.stands said played.effects.items new.logged event turn slot about called its ran
@@ -235,7 +235,7 @@ module _ {K V S : Type 0} (same : K → K → Bool) (hash : K → ℕ) (terms : 
         (record { held = held_by ran.began.executor; did = []; now = m; notes = known old.logged.notes; scene = s1 }) (come_by (far played.effects.items new.logged) y.now y.scene) chain begun_so refl
         (all_of_row event of on m played.effects.items allowed) (in_need called refl done_by_row))
 
-    it : IsLegalBut same terms log e × ShowsRun same name terms (e ∷ log) (known new.logged.notes) y.scene
+    it : IsLegalBut same terms log e × RefinesRun same name terms (e ∷ log) (known new.logged.notes) y.scene
     it =
         rows_run_to_their_ends K V same (λ map. hash) name terms log (known old.logged.notes) s (held_by old.logged.executor) (held_by ran.began.executor) run.stands.shown.is_at.held run.size small run.shows e on ran.caller called
         leads spares (alone_follows same hash terms log old run event (all_facts_of event of on).0) ran.goes.0 (come_by (far played.effects.items new.logged) y.now y.scene) chain refl rests
@@ -260,7 +260,7 @@ module _ {K V S : Type 0} (same : K → K → Bool) (hash : K → ℕ) (terms : 
           taken = taken_begun;
         })
 
-    taken_registered : (enters : Bool) → called ≡ call.Register enters → SlotsTaken after_row (slots_on (told_so {V = V} said) m.slots)
+    taken_registered : (enters : Bool) → called ≡ call.Register enters → SlotsTaken after_row (slots_on (outcome_of_row {V = V} said) m.slots)
     taken_registered enters is =
         as_told said ran.come
         (registers_taken same hash ran.caller m.slots said ran.began.executor new.logged.executor ran.last (record {
@@ -271,7 +271,7 @@ module _ {K V S : Type 0} (same : K → K → Bool) (hash : K → ℕ) (terms : 
           taken = taken_begun;
         }))
       where
-        as_told : (t : RowTold (Node K V)) → has_come t ≡ true → ThenSo m.slots after_row t → SlotsTaken after_row (slots_on (told_so {V = V} t) m.slots)
+        as_told : (t : RowTold (Node K V)) → has_come t ≡ true → ThenSo m.slots after_row t → SlotsTaken after_row (slots_on (outcome_of_row {V = V} t) m.slots)
         as_told (told.Registered slot) come so = so
         as_told (told.Refused fault) come so = so
         as_told _ come so = so come
@@ -289,9 +289,9 @@ module _ {K V S : Type 0} (same : K → K → Bool) (hash : K → ℕ) (terms : 
         left_other true = tt
         left_other false = tt
 
-        by : (x : Event K V) → IsItsRow x old slot called → ComesBy x said played.outcome → SlotsTaken after_row (slots_on played.outcome m.slots)
-        by (Register registration) is to = comes_to (told_so said) to (taken_registered false is)
-        by (Own guard) is to = comes_to (told_so said) to (taken_registered true is)
+        by : (x : Event K V) → IsItsRow x old slot called → HasOutcomeBy x said played.outcome → SlotsTaken after_row (slots_on played.outcome m.slots)
+        by (Register registration) is to = comes_to (outcome_of_row said) to (taken_registered false is)
+        by (Own guard) is to = comes_to (outcome_of_row said) to (taken_registered true is)
         by (Unregister registration) is to = comes_to Done to (other_as call.Unregister is.0 tt)
         by (Enter guard registration) is to = comes_to Done to (other_as call.Enter is.0 tt)
         by (Refresh guard) is to = comes_to Done to (other_as call.Refresh is.0 tt)
@@ -309,7 +309,7 @@ module _ {K V S : Type 0} (same : K → K → Bool) (hash : K → ℕ) (terms : 
 
   -- and so it is of one that has done nothing
   abbrev KeepsAs : Entry K V → Type 0
-  KeepsAs x = IsPlayed same hash terms (x ∷ log) new → ComesRight terms log x → RunsOn same hash terms log x new
+  KeepsAs x = IsPlayed same hash terms (x ∷ log) new → HasRightOutcome terms log x → RunsOn same hash terms log x new
 
   pub slot_keeps : WorksOnSlot played old new event → RunsOn same hash terms log e new
   slot_keeps (calls, inl (fault, is, (none, still))) =
@@ -323,15 +323,15 @@ module _ {K V S : Type 0} (same : K → K → Bool) (hash : K → ℕ) (terms : 
 
 -- So it is by what a function says of an event in this form.
 module _ {K V S : Type 0} (same : K → K → Bool) (hash : K → ℕ) (event form : Event K V) (is : event ≡ form) (old new : Scheduler K V S) where
-  pub rows_keep : {X : Type 0} → is_of_slots form ≡ true → (result : Result (Played V) X) → IfOk result (λ played. WorksOnSlot played old new form) → IfOk result (λ played. KeepsRun same hash event played old new)
+  pub rows_keep : {X : Type 0} → is_of_slots form ≡ true → (result : Result (Played V) X) → IfOk result (λ played. WorksOnSlot played old new form) → IfOk result (λ played. PreservesRun same hash event played old new)
   rows_keep on (Ok played) works =
-      subst (λ (x : Event K V). KeepsRun same hash x played old new) (sym is) (λ of terms log holds run turn after right. slot_keeps same hash terms log form played old new of on run turn after right works)
+      subst (λ (x : Event K V). PreservesRun same hash x played old new) (sym is) (λ of terms log holds run turn after right. slot_keeps same hash terms log form played old new of on run turn after right works)
   rows_keep on (Err x) works = tt
 
   -- of others nothing is said
-  pub others_keep : is_of_rows form ≡ false → (played : Played V) → KeepsRun same hash event played old new
-  others_keep none played = subst (λ (x : Event K V). KeepsRun same hash x played old new) (sym is) (λ of terms log holds run turn after right. absurd (cc (of, none)))
+  pub others_keep : is_of_rows form ≡ false → (played : Played V) → PreservesRun same hash event played old new
+  others_keep none played = subst (λ (x : Event K V). PreservesRun same hash x played old new) (sym is) (λ of terms log holds run turn after right. absurd (cc (of, none)))
 
-  pub others_keep_if : {X : Type 0} → is_of_rows form ≡ false → (result : Result (Played V) X) → IfOk result (λ played. KeepsRun same hash event played old new)
+  pub others_keep_if : {X : Type 0} → is_of_rows form ≡ false → (result : Result (Played V) X) → IfOk result (λ played. PreservesRun same hash event played old new)
   others_keep_if none (Ok played) = others_keep none played
   others_keep_if none (Err x) = tt

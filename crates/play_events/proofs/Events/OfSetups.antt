@@ -11,7 +11,7 @@ use Rattle.run_schedules.specs.declared.outcome.Outcome.TheVariants.{Done, Refus
 use Rattle.run_schedules.specs.Schedules.After.{moment, slots_on}
 use Rattle.run_schedules.specs.Schedules.Entry.{Entry}
 use Rattle.run_schedules.specs.Schedules.Handing.{IsWhole}
-use Rattle.run_schedules.specs.Schedules.InTurn.{ComesRight, ComesTo, InTurn, IsDone, IsKeptOut, IsShapeOf, chain_named}
+use Rattle.run_schedules.specs.Schedules.InTurn.{HasRightOutcome, HasOutcome, InTurn, IsDone, IsKeptOut, IsShapeOf, chain_named}
 use Rattle.run_schedules.specs.Schedules.InUse.{is_free_guard}
 use Rattle.run_schedules.specs.Schedules.Moment.{Moment, TableThere}
 use Rattle.run_schedules.specs.Schedules.Terms.{Terms}
@@ -19,11 +19,11 @@ use Rattle.run_schedules.specs.Schedules.Views.{map_of, number_of}
 use Rattle.run_kept.specs.Given.EffectsKnown.{known}
 use Rattle.run_legal.proofs.Come.{events_bring_things}
 use Rattle.run_legal.specs.CallEvents.{IsLegalBut}
-use Rattle.run_legal.specs.Carried.{ShowsRun}
+use Rattle.run_legal.specs.Carried.{RefinesRun}
 use Rattle.run_legal.proofs.Choices.{choices_end}
-use Rattle.play_lists.specs.Given.LoggedChoosing.{logged_chosen, scene_chosen}
-use Rattle.play_lists.specs.Given.LoggedShown.{IsShown}
-use Rattle.play_lists.proofs.Given.LoggedChoosing.{choice_shown}
+use Rattle.run_legal.specs.Given.LoggedChoosing.{logged_chosen, scene_chosen}
+use Rattle.play_stepping.specs.Given.LoggedShown.{IsShown}
+use Rattle.run_legal.proofs.Given.LoggedChoosing.{choice_shown}
 use Rattle.play_stepping.specs.Given.SchedulerPlayed.{IsPlayed, entry_of}
 use Rattle.play_stepping.specs.Given.SchedulerWorks.{DidNothing, WorksOnSetup}
 use Rattle.play_stepping.specs.Given.SchedulerDeclared.played.Played.{Played}
@@ -32,7 +32,7 @@ use Rattle.play_stepping.proofs.Given.SchedulerRights.{entry, entry_is}
 use Rattle.play_events.proofs.Events.OfCalls.Worth.{have_values_then, nobody_says}
 use Rattle.play_events.specs.Events.Asked.{is_of_calls}
 use Rattle.play_events.specs.Events.OfCalls.{Runs, RunsOn}
-use Rattle.play_events.specs.Events.OfSetups.{KeepsSetup, is_of_setups}
+use Rattle.play_events.specs.Events.OfSetups.{PreservesSetup, is_of_setups}
 use Rattle.play_events.proofs.Events.OfCalls.Scenes.{its_named, stands_in}
 use Rattle.play_events.proofs.Events.OfRows.Lone.{alone_follows}
 use Rattle.play_events.proofs.Events.OfRows.Quiet.{IsStill, still_keeps}
@@ -66,7 +66,7 @@ module _ {K V : Type 0} (log : List (Entry K V)) (w : World (Node K V)) where
   setup_still _ of outcome steps = absurd (cc of)
 
   -- and takes no slot
-  no_slot : (terms : Terms) (its : Event K V) → is_of_setups its ≡ true → (outcome : Outcome V) (steps : ℕ) → ComesRight terms log (entry its outcome steps []) → slots_on outcome (moment log).slots ≡ (moment log).slots
+  no_slot : (terms : Terms) (its : Event K V) → is_of_setups its ≡ true → (outcome : Outcome V) (steps : ℕ) → HasRightOutcome terms log (entry its outcome steps []) → slots_on outcome (moment log).slots ≡ (moment log).slots
   no_slot terms its of outcome steps right = by (moment log).is_closed its of right
     where
       busy : (o : Outcome V) → o ≡ Refused Busy → slots_on o (moment log).slots ≡ (moment log).slots
@@ -81,7 +81,7 @@ module _ {K V : Type 0} (log : List (Entry K V)) (w : World (Node K V)) where
       shape true tables _ is = absurd is
       shape false tables o is = busy o is
 
-      by : (out : Bool) (x : Event K V) → is_of_setups x ≡ true → MatchBool out (IsKeptOut x outcome) (ComesTo terms log (moment log) (entry its outcome steps []) x outcome)
+      by : (out : Bool) (x : Event K V) → is_of_setups x ≡ true → MatchBool out (IsKeptOut x outcome) (HasOutcome terms log (moment log) (entry its outcome steps []) x outcome)
           → slots_on outcome (moment log).slots ≡ (moment log).slots
       by true (Collector setup) is_one to = busy outcome to
       by true (Hash kind) is_one to = busy outcome to
@@ -112,8 +112,8 @@ module _ {K V S : Type 0} (same : K → K → Bool) (hash : K → ℕ) (terms : 
   shown : IsShown same hash name (moment log) (logged_chosen choice old.logged) s
   shown = choice_shown choice old.logged same hash name (moment log) run.stands.scene run.stands.shown
 
-  module _ (after : IsPlayed same hash terms (e ∷ log) chosen) (right : ComesRight terms log e) where
-    it : IsLegalBut same terms log e × ShowsRun same name terms (e ∷ log) (known old.logged.notes) s
+  module _ (after : IsPlayed same hash terms (e ∷ log) chosen) (right : HasRightOutcome terms log e) where
+    it : IsLegalBut same terms log e × RefinesRun same name terms (e ∷ log) (known old.logged.notes) s
     it =
         choices_end K V same name terms log (known old.logged.notes) run.stands.scene run.shows choice (alone_follows same hash terms log old run (Choose choice) refl) shown.shows shown.kept steps
         right
@@ -144,7 +144,7 @@ module _ {K V S : Type 0} (same : K → K → Bool) (hash : K → ℕ) (terms : 
 
 module _ {K V S : Type 0} (same : K → K → Bool) (hash : K → ℕ) (terms : Terms) (log : List (Entry K V)) (old new : Scheduler K V S) (run : Runs same hash terms log old) (played : Played V) where
   abbrev KeepsIn : Entry K V → Scheduler K V S → Type 0
-  KeepsIn x p = IsPlayed same hash terms (x ∷ log) p → ComesRight terms log x → RunsOn same hash terms log x p
+  KeepsIn x p = IsPlayed same hash terms (x ∷ log) p → HasRightOutcome terms log x → RunsOn same hash terms log x p
 
   -- one that did nothing keeps its promises,
   still_on : (its : Event K V) → is_of_setups its ≡ true → (new.calls ≡ old.calls) × DidNothing played old new → KeepsIn (entry_of its played) new
@@ -181,24 +181,24 @@ calls_set_none _ of = absurd (cc of)
 
 module _ {K V S : Type 0} (same : K → K → Bool) (hash : K → ℕ) (its : Event K V) (old new : Scheduler K V S) where
   -- One that is kept out did nothing,
-  pub setup_out : (mapped : Bool) → new ≡ record old { is_mapped = mapped } → (played : Played V) → played.effects.items ≡ [] → KeepsSetup same hash its played old new
+  pub setup_out : (mapped : Bool) → new ≡ record old { is_mapped = mapped } → (played : Played V) → played.effects.items ≡ [] → PreservesSetup same hash its played old new
   setup_out mapped same_but played none = λ of terms log run after right.
       still_on same hash terms log old new run played its of (ap (λ (p : Scheduler K V S). p.calls) same_but, (none, ap (λ (p : Scheduler K V S). p.logged) same_but)) after right
 
   -- and of events of other kinds nothing is said.
-  pub none_set : {X : Type 0} → is_of_setups its ≡ false → (result : Result (Played V) X) → IfOk result (λ played. KeepsSetup same hash its played old new)
+  pub none_set : {X : Type 0} → is_of_setups its ≡ false → (result : Result (Played V) X) → IfOk result (λ played. PreservesSetup same hash its played old new)
   none_set none (Ok played) = λ of. absurd (cc (of, none))
   none_set none (Err x) = tt
 
 -- So it is by what a function says of an event in this form.
 module _ {K V S : Type 0} (same : K → K → Bool) (hash : K → ℕ) (its form : Event K V) (is : its ≡ form) (old new : Scheduler K V S) where
-  pub setup_keeps : (played : Played V) → WorksOnSetup played old new form → KeepsSetup same hash its played old new
+  pub setup_keeps : (played : Played V) → WorksOnSetup played old new form → PreservesSetup same hash its played old new
   setup_keeps played works =
-      subst (λ (x : Event K V). KeepsSetup same hash x played old new) (sym is) (λ of terms log run after right. setup_on same hash terms log old new run played form of works after right)
+      subst (λ (x : Event K V). PreservesSetup same hash x played old new) (sym is) (λ of terms log run after right. setup_on same hash terms log old new run played form of works after right)
 
-  pub setup_keeps_if : {X : Type 0} (result : Result (Played V) X) → IfOk result (λ played. WorksOnSetup played old new form) → IfOk result (λ played. KeepsSetup same hash its played old new)
+  pub setup_keeps_if : {X : Type 0} (result : Result (Played V) X) → IfOk result (λ played. WorksOnSetup played old new form) → IfOk result (λ played. PreservesSetup same hash its played old new)
   setup_keeps_if (Ok played) works = setup_keeps played works
   setup_keeps_if (Err x) works = tt
 
-  pub others_set : {X : Type 0} → is_of_setups form ≡ false → (result : Result (Played V) X) → IfOk result (λ played. KeepsSetup same hash its played old new)
+  pub others_set : {X : Type 0} → is_of_setups form ≡ false → (result : Result (Played V) X) → IfOk result (λ played. PreservesSetup same hash its played old new)
   others_set none = none_set same hash its old new (ap is_of_setups is ∙ none)

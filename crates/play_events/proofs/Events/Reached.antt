@@ -27,18 +27,18 @@ use Rattle.run_schedules.specs.Schedules.After.{moment, moments_from, slots_on, 
 use Rattle.run_schedules.specs.Schedules.Coming.{Progresses}
 use Rattle.run_schedules.specs.Schedules.Effects.{worked}
 use Rattle.run_schedules.specs.Schedules.Entry.{ByCall, Entry, acting, caller_of}
-use Rattle.run_schedules.specs.Schedules.InTurn.{ComesRight, ComesTo, GoesOn, InTurn, IsDone, IsEntered, IsFlushed, IsKeptOut, IsMade, IsNext, IsShapeOf, chain_named}
+use Rattle.run_schedules.specs.Schedules.InTurn.{HasRightOutcome, HasOutcome, Continues, InTurn, IsDone, IsEntered, IsFlushed, IsKeptOut, IsMade, IsNext, IsShapeOf, chain_named}
 use Rattle.run_schedules.specs.Schedules.InUse.{is_held, used_slots}
 use Rattle.run_schedules.specs.Schedules.Lists.{is_among}
-use Rattle.run_schedules.specs.Schedules.Moment.{Asking, IsReady, Moment, Stands, UnderWay as CallThere}
+use Rattle.run_schedules.specs.Schedules.Moment.{Asking, IsReady, Moment, CallState, UnderWay as CallThere}
 use Rattle.run_schedules.specs.Schedules.Terms.{Terms}
 use Rattle.run_schedules.specs.Schedules.Views.{number_of}
 use Rattle.run_kept.specs.Given.EffectsKnown.{Known, known}
 use Rattle.run_kept.specs.Given.ScenesDeclared.row.SlotUse.TheVariants as used
-use Rattle.play_lists.specs.Given.RowsRows.{used_as}
-use Rattle.play_lists.proofs.Given.RowsFacts.{used_once}
-use Rattle.play_lists.proofs.Given.RowsInUse.{among_used, unused_by}
-use Rattle.play_stepping.specs.Given.SchedulerPlayed.{IsPlayed, StandsFor}
+use Rattle.run_legal.specs.Given.RowsRows.{used_as}
+use Rattle.play_stepping.proofs.Given.RowsFacts.{used_once}
+use Rattle.run_legal.proofs.Given.RowsInUse.{among_used, unused_by}
+use Rattle.play_stepping.specs.Given.SchedulerPlayed.{IsPlayed, RefinesFor}
 use Rattle.play_stepping.specs.Given.SchedulerDeclared.scheduler.Scheduler.{Scheduler}
 use Rattle.play_stepping.specs.Given.NeedsNeeds.{AreReached}
 use Rattle.run_legal.proofs.Works.Reached.{reached_still}
@@ -92,7 +92,7 @@ module _ {T : Type 0} {size : ℕ} (defers : T → Option ℕ) (w : World T) (go
         behind_last s good.room.bucketed.number good.room.bucketed.whole (good.room.enough s s taken (omega arith) (below_last s taken)) last (below_last s taken)
   ]
 
-module _ {K V S : Type 0} (same : K → K → Bool) (hash : K → ℕ) (terms : Terms) (m : Moment K V) (p : Scheduler K V S) (plays : StandsFor same hash terms m p) where
+module _ {K V S : Type 0} (same : K → K → Bool) (hash : K → ℕ) (terms : Terms) (m : Moment K V) (p : Scheduler K V S) (plays : RefinesFor same hash terms m p) where
   -- a slot that somebody uses has its words, and so has the one behind it
   used_reaches : (s : ℕ) → is_among s (used_slots m.there) ≡ true → s + 1 + 32 < capacity (known p.logged.notes).buckets
   used_reaches s among =
@@ -129,10 +129,10 @@ module _ {K V : Type 0} (terms : Terms) (log : List (Entry K V)) (e : Entry K V)
   not_done : {X : Type 0} → e.outcome ≡ Done → X
   not_done done = absurd (cc (is, done))
 
-  not_progress : {X : Type 0} (stands : Stands) (c : CallThere K V) (moments : List (Moment K V)) (w : Moment K V) (o : Outcome V) → o ≡ Slot s → Progresses terms stands c moments w o → X
+  not_progress : {X : Type 0} (stands : CallState) (c : CallThere K V) (moments : List (Moment K V)) (w : Moment K V) (o : Outcome V) → o ≡ Slot s → Progresses terms stands c moments w o → X
   not_progress stands c moments w o so goes = absurd (by stands (subst (Progresses terms stands c moments w) so goes))
     where
-      by : (stands : Stands) → Progresses terms stands c moments w (Slot s) → ⊥
+      by : (stands : CallState) → Progresses terms stands c moments w (Slot s) → ⊥
       by (Asking question) right = cc right
       by IsReady right = cc right
       by _ right = right
@@ -141,7 +141,7 @@ module _ {K V : Type 0} (terms : Terms) (log : List (Entry K V)) (e : Entry K V)
   not_by None right = absurd right
   not_by (Some c) right = not_progress c.stands c (moments_from c.begun log) (worked e m) e.outcome is right
 
-  not_goes_on : {X : Type 0} → GoesOn terms log e → X
+  not_goes_on : {X : Type 0} → Continues terms log e → X
   not_goes_on right = not_by (acting (caller_of e.event) (worked e m)) right
 
   not_entered : {X : Type 0} (q : Bool) → e.outcome ≡ (if q then Done else Refused GuardsFull) → X
@@ -174,7 +174,7 @@ module _ {K V : Type 0} (terms : Terms) (log : List (Entry K V)) (e : Entry K V)
       subst (λ (x : Event K V). is_among s (used_slots (there_on x e.outcome (worked e m).there)) ≡ true) (sym event_is)
       (subst (λ (o : Outcome V). is_among s (used_slots (there_on its o (worked e m).there)) ≡ true) (sym is) so)
 
-  comes : (its : Event K V) → e.event ≡ its → ComesTo terms log m e its e.outcome → Uses
+  comes : (its : Event K V) → e.event ≡ its → HasOutcome terms log m e its e.outcome → Uses
   comes (event.Register registration) event_is right =
       uses_by (event.Register registration) event_is (registered_among s registration (worked e m).there.registrations (map (λ (g : NamedGuard). g.slot) (worked e m).there.guards))
   comes (event.Own guard) event_is right =
@@ -195,17 +195,17 @@ module _ {K V : Type 0} (terms : Terms) (log : List (Entry K V)) (e : Entry K V)
   comes (event.ShowShape name) event_is right =
       out_of _ (IsShapeOf (chain_named (number_of name m) m)) right (λ its. absurd (subst (IsShapeOf (chain_named (number_of name m) m)) is its))
   comes (event.Begin caller guard name call) event_is right = out_of _ (λ (o : Outcome V). o ≡ Goes) right (λ its. absurd (cc (is, its)))
-  comes (event.Step caller refuse) event_is right = out_of _ (λ (o : Outcome V). GoesOn terms log e) right not_goes_on
-  comes (event.Go caller refuse) event_is right = out_of _ (λ (o : Outcome V). GoesOn terms log e) right not_goes_on
+  comes (event.Step caller refuse) event_is right = out_of _ (λ (o : Outcome V). Continues terms log e) right not_goes_on
+  comes (event.Go caller refuse) event_is right = out_of _ (λ (o : Outcome V). Continues terms log e) right not_goes_on
   comes (event.Replied caller reply) event_is right = out_of _ (λ (o : Outcome V). o ≡ Goes) right (λ its. absurd (cc (is, its)))
-  comes (event.OneCall guard name call) event_is right = out_of _ (λ (o : Outcome V). GoesOn terms log e) right not_goes_on
+  comes (event.OneCall guard name call) event_is right = out_of _ (λ (o : Outcome V). Continues terms log e) right not_goes_on
   comes (event.Next caller) event_is right = out_of _ IsNext right (λ its. absurd (subst IsNext is its))
   comes (event.Stop caller) event_is right = out_of _ IsDone right not_done
 
-  slot_is_used : ComesRight terms log e → Uses
+  slot_is_used : HasRightOutcome terms log e → Uses
   slot_is_used right = by m.is_closed right
     where
-      by : (q : Bool) → MatchBool q (IsKeptOut e.event e.outcome) (ComesTo terms log m e e.event e.outcome) → Uses
+      by : (q : Bool) → MatchBool q (IsKeptOut e.event e.outcome) (HasOutcome terms log m e e.event e.outcome) → Uses
       by true out = kept e.event out
       by false turn = comes e.event refl turn
 
@@ -214,7 +214,7 @@ max_below a b n l r = omega (arith, l, r)
 
 -- So it is after each event that comes to what is right, if no bucket is forgotten.
 module _ {K V S : Type 0} (same : K → K → Bool) (hash : K → ℕ) (terms : Terms) (log : List (Entry K V)) (e : Entry K V) (old new : Scheduler K V S) where
-  pub reached_after : ComesRight terms log e → IsPlayed same hash terms (e ∷ log) new → (known old.logged.notes).buckets ≤ (known new.logged.notes).buckets
+  pub reached_after : HasRightOutcome terms log e → IsPlayed same hash terms (e ∷ log) new → (known old.logged.notes).buckets ≤ (known new.logged.notes).buckets
       → AreReached (moment log).slots (known old.logged.notes) → AreReached (moment (e ∷ log)).slots (known new.logged.notes)
   reached_after right plays more so = by e.outcome refl
     where
@@ -230,6 +230,6 @@ module _ {K V S : Type 0} (same : K → K → Bool) (hash : K → ℕ) (terms : 
       by _ is = still
 
   -- and where it notes the same
-  pub reached_by : ComesRight terms log e → IsPlayed same hash terms (e ∷ log) new → known new.logged.notes ≡ known old.logged.notes
+  pub reached_by : HasRightOutcome terms log e → IsPlayed same hash terms (e ∷ log) new → known new.logged.notes ≡ known old.logged.notes
       → AreReached (moment log).slots (known old.logged.notes) → AreReached (moment (e ∷ log)).slots (known new.logged.notes)
   reached_by right plays alike so = reached_after right plays (let same_number = ap (λ (k : Known). k.buckets) alike in omega (arith, same_number)) so

@@ -16,15 +16,15 @@ use Rattle.run_schedules.specs.Schedules.Moment.{Moment}
 use Rattle.run_kept.specs.Given.EffectsKnown.{known}
 use Rattle.run_kept.specs.Given.EffectsDeclared.role.Role.TheVariants as role
 use Rattle.run_schedules.specs.Schedules.Terms.{Terms}
-use Rattle.run_kept.specs.Given.ReclaimsLeft.{IsSomebodys, LeftAmong}
+use Rattle.run_kept.specs.Given.ReclaimsLeft.{IsSomebodys, LeftWithEndings}
 use Rattle.run_kept.specs.Given.ReclaimsReclaims.{IsRootOf, LeftBehind, RootLeads}
-use Rattle.run_kept.specs.Given.RemainsRemains.{AllStand, RootsAreTaken, ShowsRemains, has_some, left_at}
+use Rattle.run_kept.specs.Given.RemainsRemains.{AllStand, RootsAreTaken, RefinesRemains, has_some, left_at}
 use Rattle.run_kept.proofs.Given.RemainsLeads.{both_lead}
 use Rattle.run_kept.proofs.Given.RemainsRests.{each_noted, rests_remain}
-use Rattle.play_lists.specs.Given.LoggedShown.{IsCounted}
-use Rattle.play_lists.proofs.Given.RowsFacts.{no_ending_of, no_making_of}
-use Rattle.play_lists.proofs.Given.RowsLists.{both_none, both_some}
-use Rattle.play_stepping.specs.Given.SchedulerPlayed.{StandsFor}
+use Rattle.play_stepping.specs.Given.LoggedShown.{IsCounted}
+use Rattle.play_stepping.proofs.Given.RowsFacts.{no_ending_of, no_making_of}
+use Rattle.play_stepping.proofs.Given.RowsLists.{both_none, both_some}
+use Rattle.play_stepping.specs.Given.SchedulerPlayed.{RefinesFor}
 use Rattle.play_stepping.specs.Given.SchedulerReclaiming.{MayGiveAll}
 use Rattle.play_stepping.specs.Given.NamedSeen.{named, named_of}
 use Rattle.play_stepping.specs.Given.SchedulerDeclared.scheduler.Scheduler.{Scheduler}
@@ -40,11 +40,11 @@ root_in {K} same hash p s t at_s at_t r (n, st, stands, its) =
     let x = both_some setting setting (t.maps n) (s.maps n) (at_t.maps n ∙ sym (at_s.maps n)) st stands in
     (n, x.0, x.1, ap (λ (z : Setting). z.root) x.2 ∙ its)
 
-module _ {K V S : Type 0} (same : K → K → Bool) (hash : K → ℕ) (terms : Terms) (m : Moment K V) (p : Scheduler K V S) (plays : StandsFor same hash terms m p) where
+module _ {K V S : Type 0} (same : K → K → Bool) (hash : K → ℕ) (terms : Terms) (m : Moment K V) (p : Scheduler K V S) (plays : RefinesFor same hash terms m p) where
   abbrev t : Scene K V
   t = plays.scene
 
-  abbrev c : ShowsRemains p.logged.executor.roots m (known p.logged.notes) t
+  abbrev c : RefinesRemains p.logged.executor.roots m (known p.logged.notes) t
   c = plays.shown.counted.remains
 
   -- nobody makes a map, or ends one
@@ -108,7 +108,7 @@ module _ {K V S : Type 0} (same : K → K → Bool) (hash : K → ℕ) (terms : 
     there_is r (inr (inl (j, b, makes, taken, is))) = absurd (let none = makers_here j in cc (none, makes))
     there_is r (inr (inr (j, f, ends, is))) = absurd (let none = enders_here j in cc (none, ends))
 
-    module _ (lists : ℕ → List ℕ) (left : LeftAmong p.logged.executor.roots s.world s.maps s.makers s.enders lists) where
+    module _ (lists : ℕ → List ℕ) (left : LeftWithEndings p.logged.executor.roots s.world s.maps s.makers s.enders lists) where
       none_behind : (r : ℕ) → r < p.logged.executor.roots → IsSomebodys t.maps t.makers t.enders r → IsSomebodys s.maps s.makers s.enders r → c.lists r ≡ lists r
       none_behind r l there here = c.left.none r l there ∙ sym (left.none r l here)
 

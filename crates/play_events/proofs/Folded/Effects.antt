@@ -19,10 +19,10 @@ use Rattle.run_kept.proofs.Given.FollowsCalls.{changed, changed_same, of_same}
 use Rattle.play_stepping.proofs.Given.HandsCalling.{caller_is}
 use Rattle.play_stepping.proofs.Given.ChangesBegun.{effects_begun}
 use Rattle.play_stepping.proofs.Given.ChangesChanges.{acted_on}
-use Rattle.play_lists.proofs.Given.RowsLists.{both_some, found_alike, unseen}
+use Rattle.play_stepping.proofs.Given.RowsLists.{both_some, found_alike, unseen}
 use Rattle.run_kept.proofs.Given.SettlesGains.{none_changed, others_stay}
 use Rattle.run_kept.proofs.Given.SettlesOwing.{leaves, thing_itself}
-use Rattle.play_events.specs.Folded.Folded.{EffectsFold, HandInOrder, IsOwedFirst, handed_in, if_its, out_in}
+use Rattle.play_events.specs.Folded.Folded.{EffectsFold, HandInOrder, IsFirstObligation, handed_in, if_its, out_in}
 use Rattle.play_stepping.proofs.Given.General.{same_some as one_of}
 
 -- where first ones come to this, and later ones to that, both do
@@ -36,7 +36,7 @@ without_first x owes rest is = ap (without_one same_thing x) is ∙ ap (λ (q : 
 
 module _ {K V : Type 0} where
   -- one effect
-  one_goes : (m : Moment K V) (f : Effect) (c : CallThere K V) → IsOwedFirst f c → c.owes ++ out_by m f ≡ handed_in f ++ (call_by m f c).owes
+  one_goes : (m : Moment K V) (f : Effect) (c : CallThere K V) → IsFirstObligation f c → c.owes ++ out_by m f ≡ handed_in f ++ (call_by m f c).owes
   one_goes m (effect.Deferred n t) c (rest, is) = append-nil c.owes ∙ is ∙ ap (λ (l : List Thing). APair n ∷ l) (sym (without_first (APair n) c.owes rest is))
   one_goes m (effect.Retired x) c (rest, is) = append-nil c.owes ∙ is ∙ ap (λ (l : List Thing). x ∷ l) (sym (without_first x c.owes rest is))
   one_goes m (effect.Promoted t) c first = refl
@@ -61,7 +61,7 @@ module _ {K V : Type 0} where
         rest.1,
         rest.2 ∙ begun_on own f m c is,
         joined c.owes (out_by m f) (out_in (Some own) acted fs (with_effect (Some own) acted f m)) (handed_in f) d.owes (flat_map handed_in fs) rest.0.owes
-            (one_goes m f c (subst (IfCall (IsOwedFirst f)) is all.0)) rest.3
+            (one_goes m f c (subst (IfCall (IsFirstObligation f)) is all.0)) rest.3
             ∙ ap (λ (l : List Thing). l ++ rest.0.owes) (sym (flat_map-cons handed_in f fs)),
       )
 

@@ -11,7 +11,7 @@ use Rattle.run_schedules.specs.Schedules.After.{AtEachEvent, moment}
 use Rattle.run_schedules.specs.Schedules.Beginning.{at_work}
 use Rattle.run_schedules.specs.Schedules.Effects.{worked}
 use Rattle.run_schedules.specs.Schedules.Entry.{ByCall, Entry, IfCall, acted_on, acting, caller_of}
-use Rattle.run_schedules.specs.Schedules.Handing.{LeavesOf, comes_clear, gives_all, moments_of}
+use Rattle.run_schedules.specs.Schedules.Handing.{LeavesOf, is_clear_outcome, gives_all, moments_of}
 use Rattle.run_schedules.specs.Schedules.Growing.{only_looks}
 use Rattle.run_schedules.specs.Schedules.Lives.{CallFinds, Finds, MayDefer}
 use Rattle.run_schedules.specs.Schedules.Moment.{UnderWay as CallThere, Moment}
@@ -116,9 +116,9 @@ ended_calls_fold K V terms log e all life clear own its c is =
 
     none : c.owes ≡ []
     none =
-        owes_none (comes_clear e.outcome) e.outcome c clear
-        (subst (IfCall (LeavesOf (comes_clear e.outcome) e.outcome)) is
-        (subst (λ (o : Option (List ℕ)). IfCall (LeavesOf (comes_clear e.outcome) e.outcome) (acting o (worked e (moment log)))) its life.leaves))
+        owes_none (is_clear_outcome e.outcome) e.outcome c clear
+        (subst (IfCall (LeavesOf (is_clear_outcome e.outcome) e.outcome)) is
+        (subst (λ (o : Option (List ℕ)). IfCall (LeavesOf (is_clear_outcome e.outcome) e.outcome) (acting o (worked e (moment log)))) its life.leaves))
 
 module _ {K V : Type 0} (terms : Terms) (moments : List (Moment K V)) (everything : Bool) where
   -- a pair that is put behind a table may wait there

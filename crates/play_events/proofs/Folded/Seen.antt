@@ -9,13 +9,13 @@ use Rattle.run_schedules.specs.declared.event.Event.{Event}
 use Rattle.run_schedules.specs.declared.event.Event.TheVariants.{Begin, MakeMap, OneCall, Replied, Stop}
 use Rattle.run_schedules.specs.declared.outcome.Outcome.{Outcome}
 use Rattle.run_schedules.specs.declared.outcome.Outcome.TheVariants.{Asks, Done, Goes}
-use Rattle.run_schedules.specs.Schedules.After.{asks_on, calls_on, comes_to, replied, stepped, without_call}
+use Rattle.run_schedules.specs.Schedules.After.{asks_on, calls_on, with_outcome, replied, stepped, without_call}
 use Rattle.run_schedules.specs.Schedules.Beginning.{begun, fresh_call, with_call}
 use Rattle.run_schedules.specs.Schedules.Entry.{caller_of, ends_call, is_busy, nameless}
-use Rattle.run_schedules.specs.Schedules.Moment.{Asking, Moment, Stands, UnderWay as CallThere}
+use Rattle.run_schedules.specs.Schedules.Moment.{Asking, Moment, CallState, UnderWay as CallThere}
 use Rattle.run_schedules.specs.Schedules.Views.{call_of, number_of}
 use Rattle.run_kept.proofs.Given.FollowsCalling.{is_same_is}
-use Rattle.play_lists.proofs.Given.RowsLists.{both_some, found_alike, unseen}
+use Rattle.play_stepping.proofs.Given.RowsLists.{both_some, found_alike, unseen}
 use Rattle.play_stepping.proofs.Given.General.{same_some as one_of}
 
 -- what is seen of a call
@@ -51,15 +51,15 @@ module _ {K V : Type 0} where
       by c false = refl
 
   -- a call that is told something, or comes to something
-  told_seen : (reply : Reply V) (c : CallThere K V) (stands : Stands) → seen_of (replied reply c stands) ≡ seen_of c
+  told_seen : (reply : Reply V) (c : CallThere K V) (stands : CallState) → seen_of (replied reply c stands) ≡ seen_of c
   told_seen reply c (Asking q) = refl
   told_seen reply c _ = refl
 
-  asks_seen : (question : Option ℕ) (c : CallThere K V) (stands : Stands) → seen_of (asks_on question c stands) ≡ seen_of c
+  asks_seen : (question : Option ℕ) (c : CallThere K V) (stands : CallState) → seen_of (asks_on question c stands) ≡ seen_of c
   asks_seen question c (Asking q) = refl
   asks_seen question c _ = refl
 
-  comes_seen : (o : Outcome V) (steps : ℕ) (c : CallThere K V) → seen_of (comes_to o (record c { steps = steps })) ≡ seen_of c
+  comes_seen : (o : Outcome V) (steps : ℕ) (c : CallThere K V) → seen_of (with_outcome o (record c { steps = steps })) ≡ seen_of c
   comes_seen (Asks question) steps c = asks_seen question (record c { steps = steps }) c.stands
   comes_seen _ steps c = refl
 
@@ -101,9 +101,9 @@ module _ {K V : Type 0} where
   steps_seen None o steps xs = seen_same xs
   steps_seen (Some own) o steps xs = by (ends_call o)
     where
-      by : (q : Bool) → SeenIn xs (if q then without_call own xs else map (λ c. if is_same c.caller own then comes_to o (record c { steps = c.steps + steps }) else c) xs)
+      by : (q : Bool) → SeenIn xs (if q then without_call own xs else map (λ c. if is_same c.caller own then with_outcome o (record c { steps = c.steps + steps }) else c) xs)
       by true = left_seen own xs
-      by false = changed_seen own (λ c. comes_to o (record c { steps = c.steps + steps })) (λ c. comes_seen o (c.steps + steps) c) xs
+      by false = changed_seen own (λ c. with_outcome o (record c { steps = c.steps + steps })) (λ c. comes_seen o (c.steps + steps) c) xs
 
   pub calls_seen : (event : Event K V) (o : Outcome V) (steps : ℕ) (xs : List (CallThere K V)) → SeenIn xs (calls_on event o steps xs)
   calls_seen (Replied caller reply) Goes steps xs = changed_seen caller (λ c. replied reply c c.stands) (λ c. told_seen reply c c.stands) xs

@@ -16,19 +16,19 @@ use Rattle.run_kept.specs.Given.EffectsEffects.{effects_of}
 use Rattle.run_kept.specs.Given.EffectsDeclared.acting.Acting.TheVariants as acts
 use Rattle.play_stepping.specs.Given.CallersTogether.{UnderWay}
 use Rattle.run_kept.specs.Given.EffectsKnown.{Known}
-use Rattle.play_stepping.specs.Given.MomentsWhole.{ShowsWhole}
+use Rattle.play_stepping.specs.Given.MomentsWhole.{RefinesWhole}
 use Rattle.run_kept.specs.Given.HistoriesInEvent.{here_of}
 use Rattle.run_kept.specs.Given.SettlesHand.{in_hand}
-use Rattle.run_kept.specs.Given.SettlesOwing.{AllLeave, HandsFirst, HandsOver, KeepsOwed, OwesGo, Passes, PutsOver, TakesOut, leaves_owed}
+use Rattle.run_kept.specs.Given.SettlesOwing.{AllLeave, HandsFirst, HandsOver, KeepsOwed, ObligationsGo, Passes, PutsOver, TakesOut, leaves_owed}
 use Rattle.run_kept.proofs.Given.SettlesHand.All.{calls_go_in_hand}
-use Rattle.run_kept.specs.Kept.Kept.{ShowsKept}
+use Rattle.run_kept.specs.Kept.Kept.{RefinesKept}
 use Rattle.run_kept.proofs.Kept.Calls.{own_made}
 use Rattle.run_legal.specs.CallEvents.{InCallEvent}
 use Rattle.run_legal.specs.Chains.{CallCome, CallSteps}
 use Rattle.run_legal.proofs.Calls.{call_events_go_on_so}
 use Rattle.run_legal.proofs.Chains.{chains_keep}
 use Rattle.run_legal.proofs.Slots.{each_join}
-use Rattle.play_events.specs.Folded.Folded.{HandInOrder, HandsInOrder, IsOwedFirst, handed_in}
+use Rattle.play_events.specs.Folded.Folded.{HandInOrder, HandsInOrder, IsFirstObligation, handed_in}
 use Rattle.play_events.specs.Folded.Steps.{CallEventsHandInOrder, StepsHandInOrder}
 use Rattle.run_kept.specs.Given.ScenesHeld.{Held, IsAt}
 use Rattle.run_kept.specs.Given.ScenesScene.{Scene}
@@ -48,7 +48,7 @@ one_in _ x is = absurd is
 
 module _ {K V : Type 0} (own : List ℕ) (acted : Option ℕ) where
   -- one that hands nothing over does so in order,
-  none_first : (f : Effect) → handed_in f ≡ [] → (o : Option (CallThere K V)) → IfCall (IsOwedFirst f) o
+  none_first : (f : Effect) → handed_in f ≡ [] → (o : Option (CallThere K V)) → IfCall (IsFirstObligation f) o
   none_first f none None = tt
   none_first f none (Some c) = (c.owes, ap (λ (l : List Thing). l ++ c.owes) (sym none))
 
@@ -57,7 +57,7 @@ module _ {K V : Type 0} (own : List ℕ) (acted : Option ℕ) where
   all_leave (f ∷ fs) m all = (none_first f (none_in f all.0) (acting (Some own) m), all_leave fs (with_effect (Some own) acted f m) all.1)
 
   -- and so do those by which what is owed goes as it does
-  in_order : (effects : List Effect) (m : Moment K V) (c : CallThere K V) → call_of own m ≡ Some c → (after : List Thing) → OwesGo m effects c.owes after → HandInOrder (Some own) acted effects m
+  in_order : (effects : List Effect) (m : Moment K V) (c : CallThere K V) → call_of own m ≡ Some c → (after : List Thing) → ObligationsGo m effects c.owes after → HandInOrder (Some own) acted effects m
   in_order effects m c is after (KeepsOwed all e) = all_leave effects m all
   in_order effects m c is after (TakesOut p are e) =
       subst (λ (l : List Effect). HandInOrder (Some own) acted l m) (sym are) (none_first (effect.Removed p) refl (acting (Some own) m), tt)
@@ -70,7 +70,7 @@ module _ {K V : Type 0} (own : List ℕ) (acted : Option ℕ) where
       subst (λ (l : List Effect). HandInOrder (Some own) acted l m) (sym are) (none_first (effect.Promoted t) refl (acting (Some own) m), tt)
   in_order effects m c is after (HandsFirst f x are hands owes) =
       subst (λ (l : List Effect). HandInOrder (Some own) acted l m) (sym are) (
-        subst (IfCall (IsOwedFirst f)) (sym is) (after, owes ∙ ap (λ (l : List Thing). l ++ after) (sym (one_in f x hands))),
+        subst (IfCall (IsFirstObligation f)) (sym is) (after, owes ∙ ap (λ (l : List Thing). l ++ after) (sym (one_in f x hands))),
         tt,
       )
 
@@ -104,16 +104,16 @@ module _ (K V : Type 0) (same : K → K → Bool) (hash : ℕ → K → ℕ) whe
       let c = whole.all.shown.calls map i u here in
       let effects = effects_of (acts.Call i map) known new.changed in
       let then_in_hand = in_hand known (leads map u here).1 in
-      in_order (name i) (Some map) effects m c.0 c.1 then_in_hand (subst (λ (l : List Thing). OwesGo m effects l then_in_hand) (sym (kept.owed.owed map i u here c.0 c.1)) goes.0)
+      in_order (name i) (Some map) effects m c.0 c.1 then_in_hand (subst (λ (l : List Thing). ObligationsGo m effects l then_in_hand) (sym (kept.owed.owed map i u here c.0 c.1)) goes.0)
 
   -- so they do behind what an event has done so far
-  pub more_in_order : (name : ℕ → List ℕ) (m : Moment K V) (known : Known) (s : Scene K V) (old new : Held K V) → IsAt same hash old s → ShowsWhole same name m known s → ShowsKept name m known s
+  pub more_in_order : (name : ℕ → List ℕ) (m : Moment K V) (known : Known) (s : Scene K V) (old new : Held K V) → IsAt same hash old s → RefinesWhole same name m known s → RefinesKept name m known s
       → (map i : ℕ) (u : UnderWay K V K) → s.calls map i ≡ Some u → (said : Progress (Node K V)) → StepLeads same hash i said s old new
       → (done : List Effect) (beginning : Moment K V) → m ≡ with_effects (Some (name i)) (Some map) done beginning → HandInOrder (Some (name i)) (Some map) done beginning
       → HandInOrder (Some (name i)) (Some map) (done ++ effects_of (acts.Call i map) known new.changed) beginning
   more_in_order name m known s old new at whole kept map i u here said leads done beginning so hands =
       let did = effects_of (acts.Call i map) known new.changed in
-      each_join (λ v f. IfCall (IsOwedFirst f) (acting (Some (name i)) v)) (Some (name i)) (Some map) done did beginning hands
+      each_join (λ v f. IfCall (IsFirstObligation f) (acting (Some (name i)) v)) (Some (name i)) (Some map) done did beginning hands
       (subst (λ (v : Moment K V). HandInOrder (Some (name i)) (Some map) did v) so (steps_hand_in_order name m known s old new at whole kept map i u here said leads))
 
   pub call_events_hand_in_order : CallEventsHandInOrder K V same hash

@@ -8,23 +8,23 @@ use Rattle.run_schedules.specs.Schedules.After.{moment}
 use Rattle.run_schedules.specs.Schedules.Beginning.{at_work}
 use Rattle.run_schedules.specs.Schedules.Entry.{Entry, acting, caller_of}
 use Rattle.run_schedules.specs.Schedules.Moment.{Moment}
-use Rattle.run_schedules.specs.Schedules.Steps.{DoesFew, MakesSteps, stands_or}
+use Rattle.run_schedules.specs.Schedules.Steps.{DoesFew, MakesSteps, state_or}
 use Rattle.run_schedules.specs.Schedules.Terms.{Terms}
 use Rattle.run_schedules.specs.Schedules.Waiting.{WaitsLawfully}
 use Rattle.play_stepping.specs.Given.SchedulerMapping.{CountsMaps, numbers_made}
-use Rattle.play_stepping.specs.Given.SchedulerPlayed.{Plays, StandsFor, entry_of, IsPlayed}
-use Rattle.play_stepping.specs.Given.SchedulerQuiet.{IsQuiet}
+use Rattle.play_stepping.specs.Given.SchedulerPlayed.{Plays, RefinesFor, entry_of, IsPlayed}
+use Rattle.play_stepping.specs.Given.SchedulerQuiet.{BusyIsSilent}
 use Rattle.play_stepping.specs.Given.SchedulerReclaiming.{MayGiveAll}
 use Rattle.play_stepping.specs.Given.SchedulerDeclared.played.Played.{Played}
 use Rattle.play_stepping.specs.Given.SchedulerDeclared.scheduler.Scheduler.{Scheduler}
-use Rattle.play_stepping.specs.EventSteps.Stepping.{ComesInCase}
+use Rattle.play_stepping.specs.EventSteps.Stepping.{OutcomeIsInCase}
 
 module _ {K V : Type 0} where
   -- A call that goes on is refused for the length of a table in its case alone.
   abbrev pub FindsBy : Terms → List (Entry K V) → Entry K V → Event K V → Type 0
-  FindsBy terms log e (Step caller refuse) = ComesInCase terms log e
-  FindsBy terms log e (Go caller refuse) = ComesInCase terms log e
-  FindsBy terms log e (OneCall guard name call) = ComesInCase terms log e
+  FindsBy terms log e (Step caller refuse) = OutcomeIsInCase terms log e
+  FindsBy terms log e (Go caller refuse) = OutcomeIsInCase terms log e
+  FindsBy terms log e (OneCall guard name call) = OutcomeIsInCase terms log e
   FindsBy terms log e _ = Unit {0}
 
   -- so it is of the event of an entry
@@ -68,7 +68,7 @@ module _ {K V S : Type 0} (same : K → K → Bool) (hash : K → ℕ) where
   -- The scheduler stands for the moment, and what events ask of it is so: keys have lawful hashes; numbers, roots and names of maps are those that the moment says; and what ended maps
   -- left over is behind their roots.
   pub record Holds (terms : Terms) (m : Moment K V) (p : Scheduler K V S) : Type 0 where
-    pub stands : StandsFor same hash terms m p
+    pub stands : RefinesFor same hash terms m p
     pub lawful : AreLawful same hash
     pub counts : CountsMaps m p
     pub gives : MayGiveAll p stands.scene
@@ -78,10 +78,10 @@ module _ {K V S : Type 0} (same : K → K → Bool) (hash : K → ℕ) where
   pub record Happens (terms : Terms) (log : List (Entry K V)) (e : Entry K V) (p : Scheduler K V S) : Type 0 where
     pub played : IsPlayed same hash terms (e ∷ log) p
     pub plays : FindsRight terms log e → Plays same hash terms log e p
-    pub makes : MakesSteps e.event (stands_or (acting (caller_of e.event) (at_work e (moment log)))) e.steps e.outcome
+    pub makes : MakesSteps e.event (state_or (acting (caller_of e.event) (at_work e (moment log)))) e.steps e.outcome
     pub does : DoesFew (caller_of e.event) e.steps e.effects
     pub waits : WaitsLawfully same log e
-    pub is_quiet : IsQuiet e.outcome e.effects
+    pub is_quiet : BusyIsSilent e.outcome e.effects
 
   -- an event may happen, kept out or not,
   abbrev pub MayHappen : Scheduler K V S → Type 0

@@ -4,7 +4,7 @@ use Rattle.run_schedules.specs.declared.event.Event.{Event}
 use Rattle.run_schedules.specs.Schedules.After.{moment}
 use Rattle.run_schedules.specs.Schedules.Entry.{Entry}
 use Rattle.run_schedules.specs.Schedules.Handing.{gives_all}
-use Rattle.run_schedules.specs.Schedules.InTurn.{ComesRight}
+use Rattle.run_schedules.specs.Schedules.InTurn.{HasRightOutcome}
 use Rattle.run_schedules.specs.Schedules.Terms.{Terms}
 use Rattle.play_lists.specs.Given.FindsLittle.{ReclaimsAll}
 use Rattle.play_stepping.specs.Given.SchedulerPlayed.{IsPlayed, entry_of}
@@ -15,8 +15,8 @@ use Rattle.play_events.specs.Events.OfCalls.{Runs, RunsOn}
 
 module _ {K V S : Type 0} (same : K → K → Bool) (hash : K → ℕ) where
   -- What is promised of one that comes to what is right: it keeps its promises, all is back, and the run goes on.
-  abbrev pub KeepsAll : Event K V → Played V → (old new : Scheduler K V S) → Type 0
-  KeepsAll event played old new =
+  abbrev pub PreservesAll : Event K V → Played V → (old new : Scheduler K V S) → Type 0
+  PreservesAll event played old new =
       gives_all event ≡ true → (terms : Terms) (log : List (Entry K V)) → Holds same hash terms (moment log) old → (run : Runs same hash terms log old)
-      → IsPlayed same hash terms (entry_of event played ∷ log) new → ComesRight terms log (entry_of event played)
+      → IsPlayed same hash terms (entry_of event played ∷ log) new → HasRightOutcome terms log (entry_of event played)
       → RunsOn same hash terms log (entry_of event played) new × ReclaimsAll log (entry_of event played)

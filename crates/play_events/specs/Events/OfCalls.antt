@@ -11,7 +11,7 @@ use Rattle.run_schedules.specs.declared.effect.Effect.{Effect}
 use Rattle.run_schedules.specs.declared.event.Event.{Event}
 use Rattle.run_schedules.specs.Schedules.After.{moment}
 use Rattle.run_schedules.specs.Schedules.Entry.{Entry}
-use Rattle.run_schedules.specs.Schedules.InTurn.{ComesRight}
+use Rattle.run_schedules.specs.Schedules.InTurn.{HasRightOutcome}
 use Rattle.run_schedules.specs.declared.effect.Thing.{Thing}
 use Rattle.run_schedules.specs.Schedules.Model.{things_in}
 use Rattle.run_schedules.specs.Schedules.Moment.{UnderWay as CallThere, Moment}
@@ -22,21 +22,21 @@ use Rattle.run_kept.specs.Given.EffectsEffects.{known_after}
 use Rattle.run_kept.specs.Given.EffectsKnown.{Known, known}
 use Rattle.run_kept.specs.Given.EffectsDeclared.acting.Acting.TheVariants as acts
 use Rattle.play_stepping.specs.Given.ExecutorDeclared.executor.Executor.{Executor}
-use Rattle.run_kept.specs.Given.HistoriesInEvent.{ComesSo}
+use Rattle.run_kept.specs.Given.HistoriesInEvent.{HasOutcomeSo}
 use Rattle.run_kept.specs.Given.FinishesMachines.{machine_of}
 use Rattle.run_kept.specs.Models.CallEvents.{IsInItsRow}
 use Rattle.run_kept.specs.Values.Values.{KeepsValue}
 use Rattle.play_stepping.specs.Given.ExecutorDeclared.caller.NamedCaller.{NamedCaller}
 use Rattle.run_legal.specs.CallEvents.{InCallEvent, IsLegalBut}
-use Rattle.run_legal.specs.CallSwept.{TellsOf}
-use Rattle.run_legal.specs.Carried.{ShowsRun}
+use Rattle.run_legal.specs.CallSwept.{OutcomeOf}
+use Rattle.run_legal.specs.Carried.{RefinesRun}
 use Rattle.run_legal.specs.Noted.{HaveCome}
 use Rattle.play_events.specs.Folded.Folded.{HandsInOrder}
 use Rattle.play_stepping.specs.Given.SchedulerPlayed.{IsPlayed, entry_of}
 use Rattle.play_stepping.specs.Given.NamedSeen.{kind_of}
 use Rattle.play_stepping.specs.Given.SchedulerDeclared.played.Played.{Played}
 use Rattle.play_stepping.specs.Given.SchedulerDeclared.scheduler.Scheduler.{Scheduler}
-use Rattle.play_stepping.specs.EventSteps.Stepping.{ComesAs}
+use Rattle.play_stepping.specs.EventSteps.Stepping.{HasOutcomeOfKind}
 use Rattle.play_stepping.specs.Given.Says.{outcome_of}
 use Rattle.play_stepping.specs.Given.NeedsNeeds.{AreReached}
 use Rattle.play_events.specs.Events.Asked.{FindsRight, is_of_calls}
@@ -61,7 +61,7 @@ module _ {K V S : Type 0} (same : K → K → Bool) (hash : K → ℕ) where
   -- that were ever taken have their words, as is noted.
   pub record Runs (terms : Terms) (log : List (Entry K V)) (p : Scheduler K V S) : Type 0 where
     pub stands : IsPlayed same hash terms log p
-    pub shows : ShowsRun same stands.name terms log (known p.logged.notes) stands.scene
+    pub shows : RefinesRun same stands.name terms log (known p.logged.notes) stands.scene
     pub come : HaveCome (things_in log) (moment log)
     pub values : HaveValues (moment log) stands.scene p.calls
     pub taken : SlotsTaken stands.scene.world.memory (moment log).slots
@@ -91,17 +91,17 @@ module _ (K V : Type 0) (same : K → K → Bool) (hash : ℕ → K → ℕ) whe
       → (d : CallThere K V) → call_of (name i) m ≡ Some d → d.call ≡ c.call → d.replies ≡ c.replies → (value : Option V)
       → (let known2 = known_after (acts.Call i map) new.changed known in
       let told = outcome_of known2 (kind_of c.call) value said in
-      ComesAs c.call told → KeepsValue c.call c.replies (machine_of u) value → ComesSo known2 c.call c.replies said told × TellsOf same log m map known2 said told c.call)
+      HasOutcomeOfKind c.call told → KeepsValue c.call c.replies (machine_of u) value → HasOutcomeSo known2 c.call c.replies said told × OutcomeOf same log m map known2 said told c.call)
 
 module _ {K V S : Type 0} (same : K → K → Bool) (hash : K → ℕ) where
   -- What is promised of an event of a call that is in turn: it finds what it must to come to what is right; and if it does, it keeps its promises, and the run goes on.
-  abbrev pub KeepsDue : Event K V → Played V → (old new : Scheduler K V S) → Type 0
-  KeepsDue event played old new =
+  abbrev pub PreservesInTurn : Event K V → Played V → (old new : Scheduler K V S) → Type 0
+  PreservesInTurn event played old new =
       (terms : Terms) (log : List (Entry K V)) → Runs same hash terms log old → (moment log).is_closed ≡ false
-      → FindsRight terms log (entry_of event played) × (ComesRight terms log (entry_of event played) → RunsOn same hash terms log (entry_of event played) new)
+      → FindsRight terms log (entry_of event played) × (HasRightOutcome terms log (entry_of event played) → RunsOn same hash terms log (entry_of event played) new)
 
   -- And so it is of one that is kept out.
-  abbrev pub KeepsAt : Event K V → Played V → (old new : Scheduler K V S) → Type 0
-  KeepsAt event played old new =
+  abbrev pub PreservesAt : Event K V → Played V → (old new : Scheduler K V S) → Type 0
+  PreservesAt event played old new =
       is_of_calls event ≡ true → (terms : Terms) (log : List (Entry K V)) → Runs same hash terms log old
-      → FindsRight terms log (entry_of event played) × (ComesRight terms log (entry_of event played) → RunsOn same hash terms log (entry_of event played) new)
+      → FindsRight terms log (entry_of event played) × (HasRightOutcome terms log (entry_of event played) → RunsOn same hash terms log (entry_of event played) new)

@@ -4,7 +4,7 @@ use Rattle.run_schedules.specs.declared.event.Event.{Event}
 use Rattle.run_schedules.specs.declared.event.Event.TheVariants.{DropGuard, EndMap, Enter, Flush, MakeMap, Own, Refresh, Register, Unregister}
 use Rattle.run_schedules.specs.Schedules.After.{moment}
 use Rattle.run_schedules.specs.Schedules.Entry.{Entry}
-use Rattle.run_schedules.specs.Schedules.InTurn.{ComesRight}
+use Rattle.run_schedules.specs.Schedules.InTurn.{HasRightOutcome}
 use Rattle.run_schedules.specs.Schedules.Terms.{Terms}
 use Rattle.play_stepping.specs.Given.SchedulerPlayed.{IsPlayed, entry_of}
 use Rattle.play_stepping.specs.Given.SchedulerDeclared.played.Played.{Played}
@@ -28,13 +28,13 @@ module _ {K V : Type 0} where
 
 module _ {K V S : Type 0} (same : K → K → Bool) (hash : K → ℕ) where
   -- What is promised of one that is in turn, if it comes to what is right: it keeps its promises, and the run goes on.
-  abbrev pub KeepsRun : Event K V → Played V → (old new : Scheduler K V S) → Type 0
-  KeepsRun event played old new =
+  abbrev pub PreservesRun : Event K V → Played V → (old new : Scheduler K V S) → Type 0
+  PreservesRun event played old new =
       is_of_rows event ≡ true → (terms : Terms) (log : List (Entry K V)) → Holds same hash terms (moment log) old → Runs same hash terms log old → (moment log).is_closed ≡ false
-      → IsPlayed same hash terms (entry_of event played ∷ log) new → ComesRight terms log (entry_of event played) → RunsOn same hash terms log (entry_of event played) new
+      → IsPlayed same hash terms (entry_of event played ∷ log) new → HasRightOutcome terms log (entry_of event played) → RunsOn same hash terms log (entry_of event played) new
 
   -- and so of one that is kept out
-  abbrev pub KeepsRunAt : Event K V → Played V → (old new : Scheduler K V S) → Type 0
-  KeepsRunAt event played old new =
+  abbrev pub PreservesRunAt : Event K V → Played V → (old new : Scheduler K V S) → Type 0
+  PreservesRunAt event played old new =
       is_of_rows event ≡ true → (terms : Terms) (log : List (Entry K V)) → Holds same hash terms (moment log) old → Runs same hash terms log old
-      → IsPlayed same hash terms (entry_of event played ∷ log) new → ComesRight terms log (entry_of event played) → RunsOn same hash terms log (entry_of event played) new
+      → IsPlayed same hash terms (entry_of event played ∷ log) new → HasRightOutcome terms log (entry_of event played) → RunsOn same hash terms log (entry_of event played) new

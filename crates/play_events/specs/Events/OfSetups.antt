@@ -3,7 +3,7 @@ use Rattle.std.specs.Prelude.{◌≡◌, ℕ, Bool, true, false, List, ◌∷◌
 use Rattle.run_schedules.specs.declared.event.Event.{Event}
 use Rattle.run_schedules.specs.declared.event.Event.TheVariants.{Collector, Hash, Choose, Forget, ShowShape}
 use Rattle.run_schedules.specs.Schedules.Entry.{Entry}
-use Rattle.run_schedules.specs.Schedules.InTurn.{ComesRight}
+use Rattle.run_schedules.specs.Schedules.InTurn.{HasRightOutcome}
 use Rattle.run_schedules.specs.Schedules.Terms.{Terms}
 use Rattle.play_stepping.specs.Given.SchedulerPlayed.{IsPlayed, entry_of}
 use Rattle.play_stepping.specs.Given.SchedulerDeclared.played.Played.{Played}
@@ -22,7 +22,7 @@ module _ {K V : Type 0} where
 
 module _ {K V S : Type 0} (same : K → K → Bool) (hash : K → ℕ) where
   -- Nothing is left to be asked of one that comes to what is right.
-  abbrev pub KeepsSetup : Event K V → Played V → (old new : Scheduler K V S) → Type 0
-  KeepsSetup event played old new =
+  abbrev pub PreservesSetup : Event K V → Played V → (old new : Scheduler K V S) → Type 0
+  PreservesSetup event played old new =
       is_of_setups event ≡ true → (terms : Terms) (log : List (Entry K V)) → Runs same hash terms log old → IsPlayed same hash terms (entry_of event played ∷ log) new
-      → ComesRight terms log (entry_of event played) → RunsOn same hash terms log (entry_of event played) new
+      → HasRightOutcome terms log (entry_of event played) → RunsOn same hash terms log (entry_of event played) new

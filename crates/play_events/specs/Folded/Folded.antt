@@ -10,7 +10,7 @@ use Rattle.run_schedules.specs.Schedules.After.{AtEachEvent, moment}
 use Rattle.run_schedules.specs.Schedules.Beginning.{at_work}
 use Rattle.run_schedules.specs.Schedules.Effects.{AtEachEffect, out_by, with_effect, with_effects, worked}
 use Rattle.run_schedules.specs.Schedules.Entry.{ByCall, Entry, IfCall, acted_on, acting, caller_of}
-use Rattle.run_schedules.specs.Schedules.Handing.{MovesOn, comes_clear}
+use Rattle.run_schedules.specs.Schedules.Handing.{MovesOn, is_clear_outcome}
 use Rattle.run_schedules.specs.Schedules.Lives.{MayDefer}
 use Rattle.run_schedules.specs.Schedules.Moment.{UnderWay as CallThere, Moment}
 use Rattle.run_schedules.specs.Schedules.Terms.{Terms}
@@ -29,12 +29,12 @@ if_its own (Some caller) things = if is_same caller own then things else []
 
 module _ {K V : Type 0} where
   -- what an effect hands over its call owes first
-  abbrev pub IsOwedFirst : Effect → CallThere K V → Type 0
-  IsOwedFirst f c = (rest : List Thing) × (c.owes ≡ handed_in f ++ rest)
+  abbrev pub IsFirstObligation : Effect → CallThere K V → Type 0
+  IsFirstObligation f c = (rest : List Thing) × (c.owes ≡ handed_in f ++ rest)
 
   -- so it is of each of these effects of a caller, if it has a call
   abbrev pub HandInOrder : Option (List ℕ) → Option ℕ → List Effect → Moment K V → Type 0
-  HandInOrder caller map effects m = AtEachEffect (λ v f. IfCall (IsOwedFirst f) (acting caller v)) caller map effects m
+  HandInOrder caller map effects m = AtEachEffect (λ v f. IfCall (IsFirstObligation f) (acting caller v)) caller map effects m
 
   -- what effects take out of their map, one after another
   abbrev pub out_in : Option (List ℕ) → Option ℕ → List Effect → Moment K V → List Thing
@@ -61,18 +61,18 @@ module _ {K V : Type 0} where
   -- Of an event with which a call ends, or is ready: the call has handed over just what it took out since it began, one thing after another.
   abbrev pub HandsAllOver : List (Entry K V) → Entry K V → Type 0
   HandsAllOver log e =
-      comes_clear e.outcome ≡ true → (own : List ℕ) → caller_of e.event ≡ Some own → (c : CallThere K V) → call_of own (worked e (moment log)) ≡ Some c
+      is_clear_outcome e.outcome ≡ true → (own : List ℕ) → caller_of e.event ≡ Some own → (c : CallThere K V) → call_of own (worked e (moment log)) ≡ Some c
       → since handed c.begun own (e ∷ log) ≡ since took c.begun own (e ∷ log)
 
 module _ (K V : Type 0) where
-  -- The promises: by effects that hand over in order, what a call owed and what they take out is what they hand over, and behind that what it owes then;
+  -- The promises: by effects that hand over in order, what a call owed and what they take out is what they hand over, and behind that its obligations then;
   abbrev pub EffectsFold : Type 0
   EffectsFold =
       (own : List ℕ) (map : Option ℕ) (effects : List Effect) (m : Moment K V) (c : CallThere K V) → call_of own m ≡ Some c → HandInOrder (Some own) map effects m
       → (d : CallThere K V) × (call_of own (with_effects (Some own) map effects m) ≡ Some d) × (d.begun ≡ c.begun)
       × (c.owes ++ out_in (Some own) map effects m ≡ flat_map handed_in effects ++ d.owes)
 
-  -- so what a call under way took out since it began is what it has handed over, and behind that what it owes, whatever others did meanwhile;
+  -- so what a call under way took out since it began is what it has handed over, and behind that its obligations, whatever others did meanwhile;
   abbrev pub CallsFold : Type 0
   CallsFold =
       (log : List (Entry K V)) → AtEachEvent HandsInOrder log → (own : List ℕ) (c : CallThere K V) → call_of own (moment log) ≡ Some c

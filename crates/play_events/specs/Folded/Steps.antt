@@ -11,8 +11,8 @@ use Rattle.play_stepping.specs.Given.CallersTogether.{UnderWay}
 use Rattle.run_kept.specs.Given.EffectsEffects.{effects_of}
 use Rattle.run_kept.specs.Given.EffectsKnown.{Known}
 use Rattle.run_kept.specs.Given.EffectsDeclared.acting.Acting.TheVariants as acts
-use Rattle.play_stepping.specs.Given.MomentsWhole.{ShowsWhole}
-use Rattle.run_kept.specs.Kept.Kept.{ShowsKept}
+use Rattle.play_stepping.specs.Given.MomentsWhole.{RefinesWhole}
+use Rattle.run_kept.specs.Kept.Kept.{RefinesKept}
 use Rattle.run_legal.specs.CallEvents.{InCallEvent}
 use Rattle.run_legal.specs.Chains.{CallCome, CallSteps, Chain}
 use Rattle.play_events.specs.Folded.Folded.{HandInOrder, HandsInOrder}
@@ -24,7 +24,7 @@ module _ (K V : Type 0) (same : K → K → Bool) (hash : ℕ → K → ℕ) whe
   -- The promises: the effects of a step of a call, of whatever kind, hand over in order;
   abbrev pub StepsHandInOrder : Type 0
   StepsHandInOrder =
-      (name : ℕ → List ℕ) (m : Moment K V) (known : Known) (s : Scene K V) (old new : Held K V) → IsAt same hash old s → ShowsWhole same name m known s → ShowsKept name m known s
+      (name : ℕ → List ℕ) (m : Moment K V) (known : Known) (s : Scene K V) (old new : Held K V) → IsAt same hash old s → RefinesWhole same name m known s → RefinesKept name m known s
       → (map i : ℕ) (u : UnderWay K V K) → s.calls map i ≡ Some u → (said : Progress (Node K V)) → StepLeads same hash i said s old new
       → HandInOrder (Some (name i)) (Some map) (effects_of (acts.Call i map) known new.changed) m
 

@@ -4,13 +4,13 @@ use Rattle.std.proofs.Common.{refl, ap, sym, subst, ◌∙◌, inl, inr}
 use Rattle.std.proofs.lemmas.Bool.{cases_eq}
 use Rattle.std.proofs.lemmas.List.{append-nil}
 use Rattle.seize_acts.specs.Acts.Answers.{Grant}
-use Rattle.run_grows.specs.Given.SeizeWorld.{World, with_at}
-use Rattle.run_grows.specs.Given.SeizeDeclared.rows.settle.Settled.{Settled}
-use Rattle.run_grows.specs.Given.SeizeDeclared.rows.settle.Settled.TheVariants as settled
+use Rattle.seize_acts.specs.Given.SeizeWorld.{World, with_at}
+use Rattle.seize_acts.specs.Given.SeizeDeclared.rows.settle.Settled.{Settled}
+use Rattle.seize_acts.specs.Given.SeizeDeclared.rows.settle.Settled.TheVariants as settled
 use Rattle.play_lists.specs.Given.TablesDeclared.node.Node.{Node}
 use Rattle.run_schedules.specs.Given.RawEndMap.{end_map_plan}
-use Rattle.run_grows.specs.Given.RawDeclared.machines.end_map.EndMap.{EndMap}
-use Rattle.run_grows.proofs.Given.CallersTogether.At.{at_other, at_same}
+use Rattle.run_logged.specs.Given.RawDeclared.machines.end_map.EndMap.{EndMap}
+use Rattle.run_logged.proofs.Given.CallersTogether.At.{at_other, at_same}
 use Rattle.play_lists.specs.Given.FinishesEndings.{Finishing, waiting_by}
 use Rattle.play_lists.specs.Given.FinishesFactsEnds.{Deed as FactsDeed, taken_by as taken_of}
 use Rattle.run_schedules.specs.declared.effect.Effect.{Effect}
@@ -20,16 +20,16 @@ use Rattle.run_schedules.specs.Schedules.Views.{map_at, size_of}
 use Rattle.play_lists.specs.Given.EffectsEffects.{effects_of, known_after, taken_by}
 use Rattle.play_lists.specs.Given.EffectsKnown.{Known}
 use Rattle.play_lists.specs.Given.EffectsDeclared.acting.Acting.TheVariants as acts
-use Rattle.play_lists.specs.Given.OthersEndings.{TellsNext}
+use Rattle.play_lists.specs.Given.OthersEndings.{ObservesNext}
 use Rattle.play_lists.specs.Given.EffectsDeclared.changed.Changed.{Changed}
 use Rattle.play_lists.specs.Given.EffectsDeclared.changed.Changed.TheVariants as changed
 use Rattle.play_lists.specs.Given.EffectsDeclared.changed.Changed.TheVariants.{Nothing as NoChange}
-use Rattle.play_lists.specs.Given.ScenesEnding.{EndingComesTo, EndingLeads}
+use Rattle.play_lists.specs.Given.ScenesEnding.{EndingHasOutcome, EndingLeads}
 use Rattle.play_lists.specs.Given.ScenesHeld.{Held, IsAt}
 use Rattle.play_lists.specs.Given.ScenesScene.{Scene, slot_of}
 use Rattle.play_lists.proofs.Given.FollowsOperations.{Operated, operated}
 use Rattle.play_lists.proofs.Given.ScenesMay.{may_end}
-use Rattle.play_lists.specs.Given.LoggedEnds.{ended_as}
+use Rattle.run_sweeps.specs.Given.Ends.{ended_as}
 use Rattle.play_lists.specs.Given.ActsActs.{Act, Answer, OfEnding, StepsEnding}
 use Rattle.play_lists.specs.Given.ActsAsSteps.{EndedTo, LeadsAs, changed_by, held_in}
 use Rattle.play_lists.specs.Given.ActsLeads.{Led}
@@ -43,8 +43,8 @@ use Rattle.play_linear.proofs.Linear.Coming.{gone_leaves}
 use Rattle.play_linear.proofs.Linear.Holding.{AllHolds}
 use Rattle.play_lists.proofs.Played.Tied.{EndingTied, ending_tied}
 use Rattle.play_lists.specs.MapsEnd.Ends.{AlikeOf, EndsWell}
-use Rattle.play_lists.specs.MapsEnd.Going.{GoesOnToEnd}
-use Rattle.play_linear.specs.Endings.GoingOn.{EndsGoOn}
+use Rattle.play_lists.specs.MapsEnd.Going.{ContinuesToEnd}
+use Rattle.play_linear.specs.Endings.GoingOn.{EndsContinue}
 use Rattle.play_linear.specs.Endings.InOrder.{EndsInOrder}
 use Rattle.play_lists.proofs.MapsEnd.Alike.{alike_all, alike_itself, alike_maps, alike_then}
 use Rattle.play_linear.proofs.Endings.EndSteps.{Then, behind_same, does, none_done, none_then, one_then, tells}
@@ -54,10 +54,10 @@ use Rattle.play_linear.proofs.Endings.Others.{taken_spares}
 use Rattle.play_linear.proofs.Endings.Played.{goes_of, noted_on}
 use Rattle.play_lists.proofs.MapsEnd.Spares.{all_spared}
 use Rattle.play_lists.proofs.Agrees.Names.{effects_named}
-use Rattle.run_grows.proofs.Given.General.{same_some}
+use Rattle.run_schedules.proofs.Given.General.{same_some}
 
 module _ {K V S : Type 0} (same : K → K → Bool) (by_hasher : S → K → ℕ) (hash : ℕ → K → ℕ) (batch_size roots : ℕ) (aborts : ℕ → V) (x y : State K V S) (s n : Scene K V)
-    (is : IsOf by_hasher s s.world.row x.now) (at : IsAt same hash (held_in batch_size roots NoChange s) s) (all : AllHolds same x s) (so : EndsGoOn x s) (told : Answer K V) (i : ℕ) (g : Grant) where
+    (is : IsOf by_hasher s s.world.row x.now) (at : IsAt same hash (held_in batch_size roots NoChange s) s) (all : AllHolds same x s) (so : EndsContinue x s) (told : Answer K V) (i : ℕ) (g : Grant) where
   abbrev act : Act K V S
   act = StepsEnding i g
 
@@ -90,7 +90,7 @@ module _ {K V S : Type 0} (same : K → K → Bool) (by_hasher : S → K → ℕ
     its : Goes map f x.known s
     its = goes_of same by_hasher hash batch_size roots aborts x y s n is at all so told i it here f ends
 
-    own : GoesOnToEnd map f x.known m
+    own : ContinuesToEnd map f x.known m
     own = so.each i it here f ends
 
     done : (effects ≡ []) ⊎ ((b : ℕ) × (new.changed ≡ changed.Took b))
@@ -108,7 +108,7 @@ module _ {K V S : Type 0} (same : K → K → Bool) (by_hasher : S → K → ℕ
 
     -- Of another map that ends all is as it was.
     module _ (j : ℕ) (apart : j ≢ i) (e : Ending) (ending : x.now.enders j ≡ Some e) (f2 : Finishing K V) (ends2 : s.enders j ≡ Some f2) (ends_then : n.enders j ≡ Some f2) where
-      go : GoesOnToEnd e.map f2 x.known m
+      go : ContinuesToEnd e.map f2 x.known m
       go = so.each j e ending f2 ends2
 
       ne : map ≢ e.map
@@ -139,11 +139,11 @@ module _ {K V S : Type 0} (same : K → K → Bool) (by_hasher : S → K → ℕ
           let z = after (record { deed = MapGoes map; outcome = settled_outcome said; effects = effects; refused = is_refusal new.changed }) m in
           alike_maps e.map w z (gone_leaves e.map map ne w z (effects_named None (Some map) effects m all.maps.names) refl refl refl).there refl refl refl refl
 
-      pub other_goes : GoesOnToEnd e.map f2 known_then v
+      pub other_goes : ContinuesToEnd e.map f2 known_then v
       other_goes = going_alike e.map f2 x.known m go known_then v (alike_then e.map m w v alike_led (alike_over (is_over said))) still
 
     -- its own goes on, if it is not over
-    own_v : (f3 : Finishing K V) → is_over said ≡ false → GoesOnToEnd map f3 known_then w → GoesOnToEnd map f3 known_then v
+    own_v : (f3 : Finishing K V) → is_over said ≡ false → ContinuesToEnd map f3 known_then w → ContinuesToEnd map f3 known_then v
     own_v f3 goes_on so_far = going_alike map f3 known_then w so_far known_then v (by (is_over said) goes_on) (λ b some. refl)
       where
         by : (q : Bool) → q ≡ false → AlikeOf map w (after (record { deed = if q then MapGoes map else Ends map; outcome = settled_outcome said; effects = effects; refused = is_refusal new.changed }) m)
@@ -160,16 +160,16 @@ module _ {K V S : Type 0} (same : K → K → Bool) (by_hasher : S → K → ℕ
     D = (leads f ends).2.deed
 
     abbrev Comes : Settled (Node K V) → Type 0
-    Comes p = EndingComesTo same hash s new i f E W D p
+    Comes p = EndingHasOutcome same hash s new i f E W D p
 
-    told_next : TellsNext same hash s new i f E W D said (leads f ends).3 new.changed
+    told_next : ObservesNext same hash s new i f E W D said (leads f ends).3 new.changed
     told_next = tells same hash m x.known s old new at all.holds.shows.whole i f ends said leads map its own
 
     none : taken_of D ≡ [] → Then same hash m x.known s old new at all.holds.shows.whole i f ends said leads map its own []
     none = none_then same hash m x.known s old new at all.holds.shows.whole i f ends said leads map its own
 
     -- what it does finds what it must
-    finds_by : (p : Settled (Node K V)) (c : Comes p) → TellsNext same hash s new i f E W D p c new.changed → AtEachEffect (EndFinds map) None (Some map) effects m
+    finds_by : (p : Settled (Node K V)) (c : Comes p) → ObservesNext same hash s new i f E W D p c new.changed → AtEachEffect (EndFinds map) None (Some map) effects m
     finds_by settled.Goes c tells_none = (none c.0).0
     finds_by settled.Waits c never = absurd c
     finds_by (settled.Gave value) c took = (one_then same hash m x.known s old new at all.holds.shows.whole i f ends said leads map its own value c took same_there).0
@@ -196,21 +196,21 @@ module _ {K V S : Type 0} (same : K → K → Bool) (by_hasher : S → K → ℕ
     record Next (p : Settled (Node K V)) : Type 0 where
       pub next : Option (Finishing K V)
       pub ends_are : n.enders ≡ with_at s.enders i next
-      pub goes : (last : EndMap) (e2 : Ending) (f2 : Finishing K V) → ended_on it last p ≡ Some e2 → next ≡ Some f2 → GoesOnToEnd e2.map f2 known_then v
+      pub goes : (last : EndMap) (e2 : Ending) (f2 : Finishing K V) → ended_on it last p ≡ Some e2 → next ≡ Some f2 → ContinuesToEnd e2.map f2 known_then v
 
     own_next : (f3 : Finishing K V) (last : EndMap) (e2 : Ending) (f2 : Finishing K V) → ◌≡◌ {A = Option Ending} (Some (record it { machine = last })) (Some e2) → ◌≡◌ {A = Option (Finishing K V)} (Some f3) (Some f2)
-        → GoesOnToEnd map f3 known_then v → GoesOnToEnd e2.map f2 known_then v
+        → ContinuesToEnd map f3 known_then v → ContinuesToEnd e2.map f2 known_then v
     own_next f3 last e2 f2 e_is f_is goes_on =
-        subst (λ (z : Ending). GoesOnToEnd z.map f2 known_then v) (same_some (record it { machine = last }) e2 e_is) (subst (λ (z : Finishing K V). GoesOnToEnd map z known_then v) (same_some f3 f2 f_is) goes_on)
+        subst (λ (z : Ending). ContinuesToEnd z.map f2 known_then v) (same_some (record it { machine = last }) e2 e_is) (subst (λ (z : Finishing K V). ContinuesToEnd map z known_then v) (same_some f3 f2 f_is) goes_on)
 
-    next_by : (p : Settled (Node K V)) (c : Comes p) → TellsNext same hash s new i f E W D p c new.changed → is_over said ≡ is_over p → EndedTo same hash s new i f E W D p c n → Next p
+    next_by : (p : Settled (Node K V)) (c : Comes p) → ObservesNext same hash s new i f E W D p c new.changed → is_over said ≡ is_over p → EndedTo same hash s new i f E W D p c n → Next p
     next_by settled.Goes c tells_none over led_to = record {
       next = Some (record f { machine = E; waits = f.waits ++ waiting_by D });
       ends_are = ap (λ (z : Scene K V). z.enders) led_to;
       goes = λ last e2 f2 e_is f_is.
           own_next (record f { machine = E; waits = f.waits ++ waiting_by D }) last e2 f2 e_is f_is
           (own_v (record f { machine = E; waits = f.waits ++ waiting_by D }) over
-          (subst (λ (l : List ℕ). GoesOnToEnd map (record f { machine = E; back = l; waits = f.waits ++ waiting_by D }) known_then w) (append-nil f.back) ((none c.0).1 E (f.waits ++ waiting_by D))));
+          (subst (λ (l : List ℕ). ContinuesToEnd map (record f { machine = E; back = l; waits = f.waits ++ waiting_by D }) known_then w) (append-nil f.back) ((none c.0).1 E (f.waits ++ waiting_by D))));
     }
     next_by settled.Waits c never over led_to = absurd c
     next_by (settled.Gave value) c took over led_to = record {
@@ -224,10 +224,10 @@ module _ {K V S : Type 0} (same : K → K → Bool) (by_hasher : S → K → ℕ
     next_by settled.Done c tells_none over led_to = record { next = None; ends_are = ap (λ (z : Scene K V). z.enders) led_to; goes = λ last e2 f2 e_is f_is. absurd (cc f_is) }
 
     -- So all ends go on.
-    pub all_go : (last : EndMap) → EndedTo same hash s new i f E W D said (leads f ends).3 n → y.known ≡ known_then → moment y.history ≡ v → y.now.enders ≡ with_at x.now.enders i (ended_on it last said) → EndsGoOn y n
+    pub all_go : (last : EndMap) → EndedTo same hash s new i f E W D said (leads f ends).3 n → y.known ≡ known_then → moment y.history ≡ v → y.now.enders ≡ with_at x.now.enders i (ended_on it last said) → EndsContinue y n
     all_go last led_to known_is moment_is enders = record {
       each = λ j e ending f2 ends2.
-          subst (λ (k : Known). GoesOnToEnd e.map f2 k (moment y.history)) (sym known_is) (subst (GoesOnToEnd e.map f2 known_then) (sym moment_is)
+          subst (λ (k : Known). ContinuesToEnd e.map f2 k (moment y.history)) (sym known_is) (subst (ContinuesToEnd e.map f2 known_then) (sym moment_is)
           (each j e f2 (cases_eq j i) (sym (ap (λ (h : ℕ → Option Ending). h j) enders) ∙ ending) ends2 (sym (ap (λ (h : ℕ → Option (Finishing K V)). h j) its_next.ends_are) ∙ ends2)));
       apart = λ j k e e2 ne one two. so_apart j k e e2 ne (sym (ap (λ (h : ℕ → Option Ending). h j) enders) ∙ one) (sym (ap (λ (h : ℕ → Option Ending). h k) enders) ∙ two);
     }
@@ -236,7 +236,7 @@ module _ {K V S : Type 0} (same : K → K → Bool) (by_hasher : S → K → ℕ
         its_next = next_by said (leads f ends).3 told_next refl led_to
 
         each : (j : ℕ) (e : Ending) (f2 : Finishing K V) → (j ≡ i) ⊎ (j ≢ i) → with_at x.now.enders i (ended_on it last said) j ≡ Some e → n.enders j ≡ Some f2 → with_at s.enders i its_next.next j ≡ Some f2
-            → GoesOnToEnd e.map f2 known_then v
+            → ContinuesToEnd e.map f2 known_then v
         each j e f2 (inl same_one) e_is ends_then f_is = its_next.goes last e f2 (sym (at_same x.now.enders i (ended_on it last said) j same_one) ∙ e_is) (sym (at_same s.enders i its_next.next j same_one) ∙ f_is)
         each j e f2 (inr ne) e_is ends_then f_is =
             other_goes j ne e (sym (at_other x.now.enders i (ended_on it last said) j ne) ∙ e_is) f2 (sym (at_other s.enders i its_next.next j ne) ∙ f_is) ends_then
@@ -258,7 +258,7 @@ module _ {K V S : Type 0} (same : K → K → Bool) (by_hasher : S → K → ℕ
             let a = was_so j e one in let b = was_so k e2 two in so.apart j k a.0 b.0 ne a.1 b.1 (sym a.2 ∙ same_map ∙ b.2)
 
   -- A step of an end is played: all ends go on.
-  pub end_step_goes : PlayedAs same by_hasher batch_size roots aborts x y (StepsEnding i g) → Led same by_hasher batch_size roots slot_of act s told n → LeadsAs same by_hasher hash act s told n old new → IsAt same hash new n → EndsGoOn y n
+  pub end_step_goes : PlayedAs same by_hasher batch_size roots aborts x y (StepsEnding i g) → Led same by_hasher batch_size roots slot_of act s told n → LeadsAs same by_hasher hash act s told n old new → IsAt same hash new n → EndsContinue y n
   end_step_goes played (f, ends, m2, machine, progress, computed, told_is, did, came) (said, answer, leads, goes) at2 =
       all_go tied.it tied.here f ends said leads at2 (f, ends, m2, machine, progress, computed, told_is, did, came) machine (goes f ends) (ap (λ (z : State K V S). z.known) z_is) (ap (λ (z : State K V S). moment z.history) z_is)
       (ap (λ (z : State K V S). z.now.enders) z_is)

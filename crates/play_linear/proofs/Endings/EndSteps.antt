@@ -2,14 +2,14 @@
 use Rattle.std.specs.Prelude.{◌≡◌, ◌≢◌, ◌<◌, ◌≤◌, ◌⊎◌, ◌++◌, ℕ, Bool, false, List, [], ◌∷◌, Some, None}
 use Rattle.std.proofs.Common.{refl, ap, sym, subst, ◌∙◌, arith, inl, inr}
 use Rattle.std.proofs.lemmas.List.{append-nil, append_assoc}
-use Rattle.run_grows.specs.Given.SeizeWorld.{World, times}
-use Rattle.run_grows.specs.Given.SeizeDeclared.rows.settle.Settled.{Settled}
-use Rattle.run_grows.specs.Given.SeizeDeclared.rows.settle.Settled.TheVariants as settled
+use Rattle.seize_acts.specs.Given.SeizeWorld.{World, times}
+use Rattle.seize_acts.specs.Given.SeizeDeclared.rows.settle.Settled.{Settled}
+use Rattle.seize_acts.specs.Given.SeizeDeclared.rows.settle.Settled.TheVariants as settled
 use Rattle.play_lists.specs.Given.TablesDeclared.node.Node.{Node}
-use Rattle.run_grows.specs.Given.RawDeclared.machines.end_map.EndMap.{EndMap}
+use Rattle.run_logged.specs.Given.RawDeclared.machines.end_map.EndMap.{EndMap}
 use Rattle.play_lists.specs.Given.FinishesEndings.{Finishing, FinishingFacts, StepsOfEnding, waiting_by}
 use Rattle.play_lists.specs.Given.FinishesFactsEnds.{back_of, taken_by as taken_of}
-use Rattle.run_grows.proofs.Given.CallersTogether.At.{at_same}
+use Rattle.run_logged.proofs.Given.CallersTogether.At.{at_same}
 use Rattle.play_lists.proofs.Given.FinishesEnds.CountedBlocks.{later_apart, next_apart}
 use Rattle.play_lists.proofs.Given.FinishesEnds.OrdersOn.{back_same}
 use Rattle.play_lists.proofs.Given.FinishesEnds.OrdersOnce.{plain_order}
@@ -21,24 +21,24 @@ use Rattle.play_lists.specs.Given.EffectsEffects.{effects_of, known_after, taken
 use Rattle.play_lists.specs.Given.EffectsKnown.{Known}
 use Rattle.play_lists.specs.Given.EffectsDeclared.acting.Acting.TheVariants as acts
 use Rattle.play_lists.specs.Given.EffectsDeclared.role.Role.TheVariants as role
-use Rattle.play_lists.specs.Given.OthersEndings.{TellsNext}
-use Rattle.play_lists.specs.Given.ScenesEnding.{EndingComesTo, EndingLeads}
+use Rattle.play_lists.specs.Given.OthersEndings.{ObservesNext}
+use Rattle.play_lists.specs.Given.ScenesEnding.{EndingHasOutcome, EndingLeads}
 use Rattle.play_lists.specs.Given.ScenesHeld.{Held, IsAt}
 use Rattle.play_lists.specs.Given.ScenesScene.{Scene, slot_of}
 use Rattle.play_lists.specs.Given.EffectsDeclared.changed.Changed.{Changed}
 use Rattle.play_lists.specs.Given.EffectsDeclared.changed.Changed.TheVariants as changed
-use Rattle.run_grows.specs.Given.MomentsWhole.{ShowsWhole}
+use Rattle.run_logged.specs.Given.MomentsWhole.{RefinesWhole}
 use Rattle.play_lists.proofs.Given.FollowsAlike.{put_elsewhere}
 use Rattle.play_lists.proofs.Given.OthersEnds.{tells_next}
-use Rattle.play_lists.specs.Given.LoggedEnds.{ended_as}
+use Rattle.run_sweeps.specs.Given.Ends.{ended_as}
 use Rattle.play_lists.proofs.Given.ShedsEndLists.{back_first, once}
-use Rattle.play_lists.proofs.Given.LoggedEndTold.{did_end, noted_on}
+use Rattle.run_logged.proofs.Log.EndTold.{did_end, noted_on}
 use Rattle.run_schedules.specs.Deeds.Deeds.{named}
 use Rattle.run_schedules.specs.Deeds.History.{EndFinds}
 use Rattle.play_linear.specs.Linear.Coming.{Goes}
 use Rattle.play_linear.proofs.Linear.Going.{as_noted, notes_all, notes_still}
 use Rattle.play_lists.specs.MapsEnd.Ends.{AreStored, EndsWell}
-use Rattle.play_lists.specs.MapsEnd.Going.{GoesOnToEnd}
+use Rattle.play_lists.specs.MapsEnd.Going.{ContinuesToEnd}
 use Rattle.play_lists.proofs.MapsEnd.Going.{NotedAlike, ended_alike, ends_on}
 
 -- what comes behind the same is the same
@@ -58,8 +58,8 @@ module _ {K V : Type 0} (same : K → K → Bool) (size : ℕ) (w : World (Node 
   pub rest_new : (rest : List ℕ) → all ≡ f.back ++ rest → (b : ℕ) → 0 < times b rest → times b f.back ≡ 0
   rest_new rest is b some = later_apart b all f.back rest each_once is some
 
-module _ {K V : Type 0} (same : K → K → Bool) (hash : ℕ → K → ℕ) (m : Moment K V) (known : Known) (s : Scene K V) (old new : Held K V) (at : IsAt same hash old s) (whole : ShowsWhole same named m known s)
-    (i : ℕ) (f : Finishing K V) (here : s.enders i ≡ Some f) (said : Settled (Node K V)) (leads : EndingLeads same hash i said s old new) (map : ℕ) (goes : Goes map f known s) (so : GoesOnToEnd map f known m) where
+module _ {K V : Type 0} (same : K → K → Bool) (hash : ℕ → K → ℕ) (m : Moment K V) (known : Known) (s : Scene K V) (old new : Held K V) (at : IsAt same hash old s) (whole : RefinesWhole same named m known s)
+    (i : ℕ) (f : Finishing K V) (here : s.enders i ≡ Some f) (said : Settled (Node K V)) (leads : EndingLeads same hash i said s old new) (map : ℕ) (goes : Goes map f known s) (so : ContinuesToEnd map f known m) where
   abbrev e : EndMap
   e = (leads f here).0
 
@@ -78,7 +78,7 @@ module _ {K V : Type 0} (same : K → K → Bool) (hash : ℕ → K → ℕ) (m 
   facts : FinishingFacts same old.batch_size s.world i f
   facts = at.together.facts i f here
 
-  pub tells : TellsNext same hash s new i f e did.w2 did.deed said (leads f here).3 new.changed
+  pub tells : ObservesNext same hash s new i f e did.w2 did.deed said (leads f here).3 new.changed
   tells = tells_next same hash named m known s old new at whole.all.shown i f here e said (leads f here).1 did map goes.gone.not_there said (leads f here).3
 
   -- by a step that reclaims nothing nothing is done, and what is left is noted as it was
@@ -97,7 +97,7 @@ module _ {K V : Type 0} (same : K → K → Bool) (hash : ℕ → K → ℕ) (m 
   pub does : (effects ≡ []) ⊎ ((b : ℕ) × (new.changed ≡ changed.Took b))
   does = by said (leads f here).3 tells
     where
-      by : (t : Settled (Node K V)) (c : EndingComesTo same hash s new i f e did.w2 did.deed t) → TellsNext same hash s new i f e did.w2 did.deed t c new.changed → (effects ≡ []) ⊎ ((b : ℕ) × (new.changed ≡ changed.Took b))
+      by : (t : Settled (Node K V)) (c : EndingHasOutcome same hash s new i f e did.w2 did.deed t) → ObservesNext same hash s new i f e did.w2 did.deed t c new.changed → (effects ≡ []) ⊎ ((b : ℕ) × (new.changed ≡ changed.Took b))
       by settled.Goes c none = inl (none_done c.0)
       by settled.Waits c never = absurd c
       by (settled.Gave value) c took = inr (c.0, took)
@@ -105,7 +105,7 @@ module _ {K V : Type 0} (same : K → K → Bool) (hash : ℕ → K → ℕ) (m 
 
   -- So it goes on after a step by which it is not over, with what that has reclaimed.
   abbrev pub Then : List ℕ → Type 0
-  Then gone = AtEachEffect (EndFinds map) None (Some map) effects m × ((machine : EndMap) (waits : List ℕ) → GoesOnToEnd map (record f { machine = machine; back = f.back ++ gone; waits = waits }) known_then v)
+  Then gone = AtEachEffect (EndFinds map) None (Some map) effects m × ((machine : EndMap) (waits : List ℕ) → ContinuesToEnd map (record f { machine = machine; back = f.back ++ gone; waits = waits }) known_then v)
 
   pub none_then : taken_of did.deed ≡ [] → Then []
   none_then none = (
@@ -124,7 +124,7 @@ module _ {K V : Type 0} (same : K → K → Bool) (hash : ℕ → K → ℕ) (m 
       as_before P was = subst (λ (l : List Effect). P (with_effects None (Some map) l m)) (sym (none_done none)) was
 
   -- one that reclaims a block
-  module _ (value : Node K V) (c : EndingComesTo same hash s new i f e did.w2 did.deed (settled.Gave value)) (took : new.changed ≡ changed.Took c.0) where
+  module _ (value : Node K V) (c : EndingHasOutcome same hash s new i f e did.w2 did.deed (settled.Gave value)) (took : new.changed ≡ changed.Took c.0) where
     abbrev f2 : Finishing K V
     f2 = record f { machine = e; back = f.back ++ c.0 ∷ []; waits = f.waits ++ waiting_by did.deed }
 

@@ -2,11 +2,11 @@
 use Rattle.std.specs.Prelude.{map as mapped, ◌≡◌, ◌≢◌, ◌<◌, ◌⊎◌, ℕ, Bool, true, false, List, [], Option, Some, None, option_map}
 use Rattle.std.proofs.Common.{refl, ap, sym, subst, ◌∙◌, inl, inr}
 use Rattle.std.proofs.lemmas.Bool.{cases_eq}
-use Rattle.run_grows.specs.Given.SeizeWorld.{with_at}
+use Rattle.seize_acts.specs.Given.SeizeWorld.{with_at}
 use Rattle.play_lists.specs.Given.TablesChunks.{is_incremental}
 use Rattle.run_schedules.specs.Given.RawEndMap.{ending}
-use Rattle.run_grows.specs.Given.RawDeclared.machines.end_map.EndMap.{EndMap}
-use Rattle.run_grows.proofs.Given.CallersTogether.At.{at_other, at_same}
+use Rattle.run_logged.specs.Given.RawDeclared.machines.end_map.EndMap.{EndMap}
+use Rattle.run_logged.proofs.Given.CallersTogether.At.{at_other, at_same}
 use Rattle.play_lists.specs.Given.FinishesEndings.{AllPairsOnce, Finishing, finishing_of}
 use Rattle.play_lists.specs.Given.FinishesFactsEnds.{back_of}
 use Rattle.play_lists.specs.Given.FinishesMaps.{Standing}
@@ -21,14 +21,14 @@ use Rattle.play_lists.specs.Given.EffectsKnown.{Known}
 use Rattle.play_lists.specs.Given.EffectsDeclared.acting.Acting.TheVariants as acts
 use Rattle.play_lists.specs.Given.EffectsDeclared.role.Role.{Role}
 use Rattle.play_lists.specs.Given.EffectsDeclared.role.Role.TheVariants as role
-use Rattle.play_lists.specs.Given.FollowsMaps.{ShowsMap}
+use Rattle.play_lists.specs.Given.FollowsMaps.{RefinesMap}
 use Rattle.play_lists.specs.Given.EffectsDeclared.changed.Changed.TheVariants.{Nothing as NoChange}
 use Rattle.play_lists.specs.Given.ScenesHeld.{Held, IsAt}
 use Rattle.play_lists.specs.Given.ScenesScene.{Scene, slot_of}
-use Rattle.run_grows.specs.Given.MomentsWhole.{ShowsWhole}
+use Rattle.run_logged.specs.Given.MomentsWhole.{RefinesWhole}
 use Rattle.play_lists.proofs.Given.RuleLaws.{current_is_known}
-use Rattle.play_lists.specs.Given.LoggedEnds.{NotesMap}
-use Rattle.play_lists.proofs.Given.LoggedEndAll.{all_end}
+use Rattle.run_logged.specs.Log.Ends.{NotesMap}
+use Rattle.run_logged.proofs.Log.EndAll.{all_end}
 use Rattle.play_lists.proofs.Given.ShedsEndOrder.{pairs_ordered}
 use Rattle.play_lists.specs.Given.ActsActs.{Act, Answer, BeginsEnding}
 use Rattle.play_lists.specs.Given.ActsAsSteps.{changed_by, held_in}
@@ -40,14 +40,14 @@ use Rattle.play_lists.proofs.Played.PlayedAs.{PlayedAs}
 use Rattle.play_linear.proofs.Linear.ComeActs.{notes_map}
 use Rattle.play_linear.proofs.Linear.Holding.{AllHolds}
 use Rattle.play_lists.specs.MapsEnd.Ends.{EndsWell}
-use Rattle.play_lists.specs.MapsEnd.Going.{GoesOnToEnd}
-use Rattle.play_linear.specs.Endings.GoingOn.{EndsGoOn}
+use Rattle.play_lists.specs.MapsEnd.Going.{ContinuesToEnd}
+use Rattle.play_linear.specs.Endings.GoingOn.{EndsContinue}
 use Rattle.play_lists.proofs.MapsEnd.Begins.{are_stored, would_end}
 use Rattle.play_linear.proofs.Endings.Played.{goes_of}
-use Rattle.run_grows.proofs.Given.General.{same_some}
+use Rattle.run_schedules.proofs.Given.General.{same_some}
 
 -- Where the end of a map begins it goes on to end.
-module _ {K V : Type 0} (same : K → K → Bool) (hash : ℕ → K → ℕ) (old : Held K V) (m : Moment K V) (known : Known) (s : Scene K V) (at : IsAt same hash old s) (whole : ShowsWhole same named m known s) (map : ℕ)
+module _ {K V : Type 0} (same : K → K → Bool) (hash : ℕ → K → ℕ) (old : Held K V) (m : Moment K V) (known : Known) (s : Scene K V) (at : IsAt same hash old s) (whole : RefinesWhole same named m known s) (map : ℕ)
     (standing : Standing K) (there : s.maps map ≡ Some standing) (each_once : AllPairsOnce (is_incremental standing.setting.mode) standing.chart) where
   abbrev number : ℕ → ℕ
   number = whole.all.shown.number map
@@ -55,7 +55,7 @@ module _ {K V : Type 0} (same : K → K → Bool) (hash : ℕ → K → ℕ) (ol
   abbrev chunks : Bool
   chunks = is_incremental standing.setting.mode
 
-  shows : ShowsMap map number standing m known
+  shows : RefinesMap map number standing m known
   shows = whole.all.shown.maps map standing there
 
   in_it : IsMapIn same standing.hash standing.setting s.world standing.chart standing.blocks
@@ -73,7 +73,7 @@ module _ {K V : Type 0} (same : K → K → Bool) (hash : ℕ → K → ℕ) (ol
   stored : (k : ℕ) → standing.chart.current k ≡ true → k < standing.chart.stored
   stored k current = (current_is_known same standing.hash standing.setting s.world.memory standing.chart standing.blocks in_it.map.rule in_it.map.shows k current).0
 
-  pub begun_goes : GoesOnToEnd map (finishing_of standing s.world) known m
+  pub begun_goes : ContinuesToEnd map (finishing_of standing s.world) known m
   begun_goes = record {
     rest = back_of standing.setting standing.chart standing.blocks (λ t. []) false;
     back_is = refl;
@@ -93,7 +93,7 @@ maps_kept map (role.Table t len) m = refl
 maps_kept map (role.Counter of) m = refl
 
 module _ {K V S : Type 0} (same : K → K → Bool) (by_hasher : S → K → ℕ) (hash : ℕ → K → ℕ) (batch_size roots : ℕ) (aborts : ℕ → V) (x y : State K V S) (s n : Scene K V)
-    (is : IsOf by_hasher s s.world.row x.now) (at : IsAt same hash (held_in batch_size roots NoChange s) s) (all : AllHolds same x s) (so : EndsGoOn x s) (told : Answer K V) (i : ℕ) where
+    (is : IsOf by_hasher s s.world.row x.now) (at : IsAt same hash (held_in batch_size roots NoChange s) s) (all : AllHolds same x s) (so : EndsContinue x s) (told : Answer K V) (i : ℕ) where
   abbrev old : Held K V
   old = held_in batch_size roots NoChange s
 
@@ -105,9 +105,9 @@ module _ {K V S : Type 0} (same : K → K → Bool) (by_hasher : S → K → ℕ
 
   -- the end of a map begins
   pub begins_going : (map : ℕ) → PlayedAs same by_hasher batch_size roots aborts x y (BeginsEnding i map) → Led same by_hasher batch_size roots slot_of (BeginsEnding i map) s told n
-      → IsAt same hash (held_in batch_size roots (changed_by same (begins map) s) n) n → EndsGoOn y n
+      → IsAt same hash (held_in batch_size roots (changed_by same (begins map) s) n) n → EndsContinue y n
   begins_going map (set, there, y_is) (standing, stands, none, n_is) at2 =
-      subst (λ (z : State K V S). EndsGoOn z n) (sym y_is) (record { each = λ j e ends f is_f. each j e f (cases_eq j i) ends (sym (ap (λ (z : Scene K V). z.enders j) n_is) ∙ is_f); apart = apart_so })
+      subst (λ (z : State K V S). EndsContinue z n) (sym y_is) (record { each = λ j e ends f is_f. each j e f (cases_eq j i) ends (sym (ap (λ (z : Scene K V). z.enders j) n_is) ∙ is_f); apart = apart_so })
     where
       its : Ending
       its = record { map = map; machine = ending set.0 false }
@@ -115,15 +115,15 @@ module _ {K V S : Type 0} (same : K → K → Bool) (by_hasher : S → K → ℕ
       f2 : Finishing K V
       f2 = finishing_of standing s.world
 
-      itself : GoesOnToEnd map f2 x.known m
+      itself : ContinuesToEnd map f2 x.known m
       itself =
           begun_goes same hash old m x.known s at all.holds.shows.whole map standing stands
           (at2.together.facts i f2 (ap (λ (z : Scene K V). z.enders i) n_is ∙ at_same s.enders i (Some f2) i refl)).each
 
-      each : (j : ℕ) (e : Ending) (f : Finishing K V) → (j ≡ i) ⊎ (j ≢ i) → with_at x.now.enders i (Some its) j ≡ Some e → with_at s.enders i (Some f2) j ≡ Some f → GoesOnToEnd e.map f x.known m
+      each : (j : ℕ) (e : Ending) (f : Finishing K V) → (j ≡ i) ⊎ (j ≢ i) → with_at x.now.enders i (Some its) j ≡ Some e → with_at s.enders i (Some f2) j ≡ Some f → ContinuesToEnd e.map f x.known m
       each j e f (inl at_it) ends is_f =
-          subst (λ (z : Ending). GoesOnToEnd z.map f x.known m) (same_some its e (sym (at_same x.now.enders i (Some its) j at_it) ∙ ends))
-          (subst (λ (z : Finishing K V). GoesOnToEnd map z x.known m) (same_some f2 f (sym (at_same s.enders i (Some f2) j at_it) ∙ is_f)) itself)
+          subst (λ (z : Ending). ContinuesToEnd z.map f x.known m) (same_some its e (sym (at_same x.now.enders i (Some its) j at_it) ∙ ends))
+          (subst (λ (z : Finishing K V). ContinuesToEnd map z x.known m) (same_some f2 f (sym (at_same s.enders i (Some f2) j at_it) ∙ is_f)) itself)
       each j e f (inr ne) ends is_f = so.each j e (sym (at_other x.now.enders i (Some its) j ne) ∙ ends) f (sym (at_other s.enders i (Some f2) j ne) ∙ is_f)
 
       -- a map of which an end is under way does not stand

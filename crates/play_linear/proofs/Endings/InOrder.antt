@@ -1,15 +1,15 @@
 -- By the history of each list of acts maps end in order.
 use Rattle.std.specs.Prelude.{◌≡◌, ◌==◌, ℕ, Bool, true, false, List, ◌∷◌, Option, is_ok, if◌then◌else◌}
 use Rattle.std.proofs.Common.{refl, ap, sym, subst}
-use Rattle.run_grows.specs.Given.SeizeDeclared.rows.leave.Leave.{Leave}
-use Rattle.run_grows.specs.Given.SeizeDeclared.rows.leave.Leaving.{Leaving}
-use Rattle.run_grows.specs.Given.SeizeDeclared.rows.leave.Leaving.TheVariants as leaving
-use Rattle.run_grows.specs.Given.SeizeDeclared.rows.reclaim_all.ReclaimAll.{ReclaimAll}
-use Rattle.run_grows.specs.Given.SeizeDeclared.rows.register.Registering.{Registering}
-use Rattle.run_grows.specs.Given.SeizeDeclared.rows.register.Registering.TheVariants as registers
-use Rattle.run_grows.specs.Given.SeizeDeclared.states.TheConstants.{ACTIVE}
-use Rattle.run_grows.specs.Given.ResizeDeclared.new_map.NewMap.{NewMap}
-use Rattle.run_grows.specs.Given.RawMachine.{machine_asked, machine_replied}
+use Rattle.seize_acts.specs.Given.SeizeDeclared.rows.leave.Leave.{Leave}
+use Rattle.seize_acts.specs.Given.SeizeDeclared.rows.leave.Leaving.{Leaving}
+use Rattle.seize_acts.specs.Given.SeizeDeclared.rows.leave.Leaving.TheVariants as leaving
+use Rattle.seize_acts.specs.Given.SeizeDeclared.rows.reclaim_all.ReclaimAll.{ReclaimAll}
+use Rattle.seize_acts.specs.Given.SeizeDeclared.rows.register.Registering.{Registering}
+use Rattle.seize_acts.specs.Given.SeizeDeclared.rows.register.Registering.TheVariants as registers
+use Rattle.seize_acts.specs.Given.SeizeDeclared.states.TheConstants.{ACTIVE}
+use Rattle.run_logged.specs.Given.ResizeDeclared.new_map.NewMap.{NewMap}
+use Rattle.run_logged.specs.Given.RawMachine.{machine_asked, machine_replied}
 use Rattle.run_schedules.specs.Schedules.After.{AtEachEvent}
 use Rattle.run_schedules.specs.declared.effect.Effect.{Effect}
 use Rattle.run_schedules.specs.Schedules.Moment.{Moment}
@@ -32,7 +32,7 @@ use Rattle.play_lists.proofs.Played.PlayedAs.{PlayedAs, played_as, reclaimed_as}
 use Rattle.play_linear.proofs.Linear.Holding.{AllHolds}
 use Rattle.play_linear.proofs.Linear.Linear.{wherever_led}
 use Rattle.play_linear.proofs.Linear.Stays.{first_holds}
-use Rattle.play_linear.specs.Endings.GoingOn.{EndsGoOn}
+use Rattle.play_linear.specs.Endings.GoingOn.{EndsContinue}
 use Rattle.play_linear.specs.Endings.InOrder.{EndsInOrder, EndsSo, MapsEndInOrder}
 use Rattle.play_linear.proofs.Endings.EndStepGoes.{end_step_in_order}
 use Rattle.play_linear.proofs.Endings.Stays.{AllGo, ends_go_on, first_go}
@@ -80,7 +80,7 @@ module _ {K V : Type 0} where
   taken_or_not false e log one each = each
 
 module _ {K V S : Type 0} (same : K → K → Bool) (by_hasher : S → K → ℕ) (hash : ℕ → K → ℕ) (batch_size roots : ℕ) (aborts : ℕ → V) (x y : State K V S) (s n : Scene K V)
-    (is : IsOf by_hasher s s.world.row x.now) (at : IsAt same hash (held_in batch_size roots NoChange s) s) (all : AllHolds same x s) (so : EndsGoOn x s) (told : Answer K V) (each : EachInOrder x.history) where
+    (is : IsOf by_hasher s s.world.row x.now) (at : IsAt same hash (held_in batch_size roots NoChange s) s) (all : AllHolds same x s) (so : EndsContinue x s) (told : Answer K V) (each : EachInOrder x.history) where
   -- by what the history is then
   then_so : (log : List (Entry K V)) → y.history ≡ log → EachInOrder log → EachInOrder y.history
   then_so log is_log so_far = subst EachInOrder (sym is_log) so_far

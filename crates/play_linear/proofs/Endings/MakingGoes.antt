@@ -3,14 +3,14 @@ use Rattle.std.specs.Prelude.{◌≡◌, ◌≢◌, ℕ, Bool, true, false, List
 use Rattle.std.specs.List.{list_all}
 use Rattle.std.proofs.Common.{refl, ap, ◌∙◌}
 use Rattle.seize_acts.specs.Acts.Answers.{Grant}
-use Rattle.run_grows.specs.Given.SeizeWorld.{World}
-use Rattle.run_grows.specs.Given.SeizeDeclared.advance.Advance.{Advance}
-use Rattle.run_grows.specs.Given.SeizeDeclared.advance.Advance.TheVariants as progress
+use Rattle.seize_acts.specs.Given.SeizeWorld.{World}
+use Rattle.seize_acts.specs.Given.SeizeDeclared.advance.Advance.{Advance}
+use Rattle.seize_acts.specs.Given.SeizeDeclared.advance.Advance.TheVariants as progress
 use Rattle.play_lists.specs.Given.TablesDeclared.node.Node.{Node}
 use Rattle.play_lists.specs.Given.TablesDeclared.resize_mode.ResizeMode.{ResizeMode}
 use Rattle.play_lists.specs.Given.TablesDeclared.setting.Setting.{Setting}
-use Rattle.run_grows.specs.Given.ResizeNewMap.{new_map_plan}
-use Rattle.run_grows.specs.Given.ResizeDeclared.new_map.NewMap.{NewMap}
+use Rattle.run_logged.specs.Given.ResizeNewMap.{new_map_plan}
+use Rattle.run_logged.specs.Given.ResizeDeclared.new_map.NewMap.{NewMap}
 use Rattle.play_lists.specs.Given.FinishesEndings.{Finishing}
 use Rattle.play_lists.specs.Given.FinishesMakings.{Beginning}
 use Rattle.run_schedules.specs.declared.effect.Effect.{Effect}
@@ -22,11 +22,11 @@ use Rattle.play_lists.specs.Given.EffectsEffects.{effects_of, known_after}
 use Rattle.play_lists.specs.Given.EffectsDeclared.acting.Acting.TheVariants as acts
 use Rattle.play_lists.specs.Given.EffectsDeclared.changed.Changed.TheVariants.{Nothing as NoChange}
 use Rattle.play_lists.specs.Given.ScenesHeld.{Held, IsAt}
-use Rattle.play_lists.specs.Given.ScenesMaking.{MakingComesTo}
+use Rattle.play_lists.specs.Given.ScenesMaking.{MakingHasOutcome}
 use Rattle.play_lists.specs.Given.ScenesScene.{Scene, slot_of}
 use Rattle.play_lists.proofs.Given.FollowsOperations.{Operated, operated}
 use Rattle.play_lists.proofs.Given.ScenesMay.{may_make}
-use Rattle.run_grows.proofs.Needs.Makings.{makings_do_theirs}
+use Rattle.run_sweeps.proofs.Needs.Makings.{makings_do_theirs}
 use Rattle.play_lists.specs.Given.ActsActs.{Act, Answer, StepsMaking}
 use Rattle.play_lists.specs.Given.ActsAsSteps.{LeadsAs, MadeTo, changed_by, held_in}
 use Rattle.play_lists.specs.Given.ActsLeads.{Led}
@@ -41,8 +41,8 @@ use Rattle.play_linear.proofs.Linear.Coming.{come_leaves, gone_leaves}
 use Rattle.play_linear.proofs.Linear.Holding.{AllHolds}
 use Rattle.play_lists.proofs.Played.Tied.{MakingTied, making_tied}
 use Rattle.play_lists.specs.MapsEnd.Ends.{AlikeOf, AreStored}
-use Rattle.play_lists.specs.MapsEnd.Going.{GoesOnToEnd}
-use Rattle.play_linear.specs.Endings.GoingOn.{EndsGoOn}
+use Rattle.play_lists.specs.MapsEnd.Going.{ContinuesToEnd}
+use Rattle.play_linear.specs.Endings.GoingOn.{EndsContinue}
 use Rattle.play_lists.proofs.MapsEnd.Alike.{alike_all, alike_maps, alike_then}
 use Rattle.play_lists.proofs.MapsEnd.Going.{NotedAlike}
 use Rattle.play_linear.proofs.Endings.Others.{firsts_spare}
@@ -91,7 +91,7 @@ module _ {K V : Type 0} (map own : ℕ) (ne : own ≢ map) (m : Moment K V) (sto
       (alike_all map v (then_at false true) refl refl refl refl refl))
 
 module _ {K V S : Type 0} (same : K → K → Bool) (by_hasher : S → K → ℕ) (hash : ℕ → K → ℕ) (batch_size roots : ℕ) (aborts : ℕ → V) (x y : State K V S) (s n : Scene K V)
-    (is : IsOf by_hasher s s.world.row x.now) (at : IsAt same hash (held_in batch_size roots NoChange s) s) (all : AllHolds same x s) (so : EndsGoOn x s) (told : Answer K V) (i : ℕ) (g : Grant) where
+    (is : IsOf by_hasher s s.world.row x.now) (at : IsAt same hash (held_in batch_size roots NoChange s) s) (all : AllHolds same x s) (so : EndsContinue x s) (told : Answer K V) (i : ℕ) (g : Grant) where
   abbrev act : Act K V S
   act = StepsMaking i g
 
@@ -104,14 +104,14 @@ module _ {K V S : Type 0} (same : K → K → Bool) (by_hasher : S → K → ℕ
   abbrev m : Moment K V
   m = moment x.history
 
-  made_ends : (b : Beginning K) (opening : NewMap) (w2 : World (Node K V)) (p : Advance Setting) (comes : MakingComesTo same hash s old new i b opening w2 p) → MadeTo same hash s old new i b opening w2 p comes n → n.enders ≡ s.enders
+  made_ends : (b : Beginning K) (opening : NewMap) (w2 : World (Node K V)) (p : Advance Setting) (comes : MakingHasOutcome same hash s old new i b opening w2 p) → MadeTo same hash s old new i b opening w2 p comes n → n.enders ≡ s.enders
   made_ends b opening w2 progress.Goes comes is_n = ap (λ (v : Scene K V). v.enders) is_n
   made_ends b opening w2 progress.Waits comes never = absurd never
   made_ends b opening w2 (progress.Done setting) comes is_n = ap (λ (v : Scene K V). v.enders) is_n
   made_ends b opening w2 (progress.Refused fault) comes is_n = ap (λ (v : Scene K V). v.enders) is_n
 
   pub making_goes : PlayedAs same by_hasher batch_size roots aborts x y (StepsMaking i g) → Led same by_hasher batch_size roots slot_of (StepsMaking i g) s told n
-      → LeadsAs same by_hasher hash (StepsMaking i g) s told n old new → IsAt same hash new n → EndsGoOn y n
+      → LeadsAs same by_hasher hash (StepsMaking i g) s told n old new → IsAt same hash new n → EndsContinue y n
   making_goes played (b, makes, m2, machine, said, computed, told_is, did, _) (told2, answer, leads, goes) at2 =
       ends_stay same by_hasher hash batch_size roots aborts x y s n is at all so told (known_after (acts.Making b.map) new.changed x.known) (after entry m) known_is (ap (λ (log : List (Entry K V)). moment log) history)
       (ap (λ (z : State K V S). z.now.enders) tied.comes ∙ made_enders tied.it i machine said (record x.now { memory = m2 })) ends_are each
@@ -145,7 +145,7 @@ module _ {K V S : Type 0} (same : K → K → Bool) (by_hasher : S → K → ℕ
       firsts : list_all is_first_making effects ≡ true
       firsts = makings_do_theirs K V same hash named m x.known s old new at all.holds.shows.whole.all.shown i told2 leads b makes (all.holds.shows.whole.counters i b makes)
 
-      each : (j : ℕ) (e : Ending) → x.now.enders j ≡ Some e → (f : Finishing K V) → s.enders j ≡ Some f → (go : GoesOnToEnd e.map f x.known m)
+      each : (j : ℕ) (e : Ending) → x.now.enders j ≡ Some e → (f : Finishing K V) → s.enders j ≡ Some f → (go : ContinuesToEnd e.map f x.known m)
           → AlikeOf e.map m (after entry m) × NotedAlike go.rest x.known (known_after (acts.Making b.map) new.changed x.known)
       each j e ending f ends go =
           let its = goes_of same by_hasher hash batch_size roots aborts x y s n is at all so told j e ending f ends in

@@ -4,7 +4,7 @@ use Rattle.std.specs.List.{list_all}
 use Rattle.std.proofs.Common.{refl, sym, ◌∙◌}
 use Rattle.std.proofs.lemmas.Bool.{and_parts}
 use Rattle.run_schedules.specs.Given.SeizeWordsDeclared.at.At.TheVariants.{Entry, Root, Slot, Used, Word}
-use Rattle.run_grows.specs.Given.SeizeWorld.{times}
+use Rattle.seize_acts.specs.Given.SeizeWorld.{times}
 use Rattle.play_lists.specs.Given.FinishesEndings.{Finishing}
 use Rattle.run_schedules.specs.declared.effect.Effect.{Effect}
 use Rattle.run_schedules.specs.declared.effect.Effect.TheVariants as effect
@@ -22,12 +22,12 @@ use Rattle.play_lists.specs.Given.EffectsDeclared.role.Role.TheVariants as role
 use Rattle.play_lists.specs.Given.ScenesScene.{Scene}
 use Rattle.play_lists.specs.Given.EffectsDeclared.changed.Changed.{Changed}
 use Rattle.play_lists.specs.Given.EffectsDeclared.changed.Changed.TheVariants as changed
-use Rattle.run_grows.specs.Given.MomentsWhole.{ShowsWhole}
+use Rattle.run_logged.specs.Given.MomentsWhole.{RefinesWhole}
 use Rattle.play_lists.proofs.Given.OthersRowPlans.{TellsRow}
 use Rattle.play_lists.proofs.Agrees.Elsewhere.{AllLinkElsewhere}
 use Rattle.play_lists.proofs.Agrees.Fresh.{AnyTable}
 use Rattle.play_lists.specs.MapsEnd.Ends.{IsOther, IsOut, Spares}
-use Rattle.play_lists.specs.MapsEnd.Going.{GoesOnToEnd}
+use Rattle.play_lists.specs.MapsEnd.Going.{ContinuesToEnd}
 use Rattle.play_lists.proofs.MapsEnd.Going.{NotedAlike, pair_out, table_other, taken_apart}
 
 module _ {K V : Type 0} (map : ℕ) (caller : Option (List ℕ)) (acted : Option ℕ) where
@@ -44,7 +44,7 @@ module _ {K V : Type 0} (map : ℕ) (caller : Option (List ℕ)) (acted : Option
       let two = and_parts (is_first_making f) (list_all is_first_making effects) firsts in
       (one_first f m two.0 (links.0, tt), firsts_spare effects (with_effect caller acted f m) two.1 links.1)
 
-module _ {K V : Type 0} (same : K → K → Bool) (name : ℕ → List ℕ) (map : ℕ) (f : Finishing K V) (known : Known) (m : Moment K V) (s : Scene K V) (whole : ShowsWhole same name m known s) (so : GoesOnToEnd map f known m) where
+module _ {K V : Type 0} (same : K → K → Bool) (name : ℕ → List ℕ) (map : ℕ) (f : Finishing K V) (known : Known) (m : Moment K V) (s : Scene K V) (whole : RefinesWhole same name m known s) (so : ContinuesToEnd map f known m) where
   -- somebody takes a block away
   module _ (its : Acting) (caller : Option (List ℕ)) (acted : Option ℕ) (b : ℕ) (still : NotedAlike so.rest known (known_after its (changed.Took b) known)) where
     out_spares : (who : Acting) (k : ℕ) → IsOut map m k → Spares map acted m (pair_taken who k)

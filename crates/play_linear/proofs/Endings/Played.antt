@@ -2,9 +2,9 @@
 use Rattle.std.specs.Prelude.{◌≡◌, ◌≢◌, ◌<◌, ℕ, Bool, true, false, List, [], ◌∷◌, Option, Some, None, is_ok, length, if◌then◌else◌}
 use Rattle.std.proofs.Common.{refl, ap, sym, subst, ◌∙◌}
 use Rattle.seize_acts.specs.Acts.Answers.{Grant}
-use Rattle.run_grows.specs.Given.SeizeWorld.{Row, times}
-use Rattle.run_grows.specs.Given.RawMachine.{machine_asked, machine_plan, machine_replied}
-use Rattle.run_grows.specs.Given.RawDeclared.machines.asking.MachineReply.{MachineReply as Told}
+use Rattle.seize_acts.specs.Given.SeizeWorld.{Row, times}
+use Rattle.run_logged.specs.Given.RawMachine.{machine_asked, machine_plan, machine_replied}
+use Rattle.run_logged.specs.Given.RawDeclared.machines.asking.MachineReply.{MachineReply as Told}
 use Rattle.play_lists.specs.Given.FinishesEndings.{Finishing, FinishingFacts}
 use Rattle.play_lists.specs.Given.FinishesMachines.{machine_of}
 use Rattle.play_lists.proofs.Given.FinishesEnds.CountedBlocks.{some_last}
@@ -25,11 +25,11 @@ use Rattle.play_lists.proofs.Given.FollowsOperations.{Operated, operated}
 use Rattle.play_lists.proofs.Given.OthersRowPlans.{row_operated, row_tells}
 use Rattle.play_lists.proofs.Given.ScenesMay.{may_row, may_step}
 use Rattle.play_lists.specs.Given.ActsActs.{Act, Answer, AsksCall, BeginsCall, BeginsRow, StepsCall, StepsRow, StopsCall, TellsCall}
-use Rattle.play_lists.specs.Given.ActsAsSteps.{LeadsAs, changed_by, held_in, row_changed, row_told}
+use Rattle.play_lists.specs.Given.ActsAsSteps.{LeadsAs, changed_by, held_in, row_changed, outcome_of_row_step}
 use Rattle.play_lists.specs.Given.ActsLeads.{Led}
 use Rattle.run_schedules.specs.Deeds.Deeds.{Entry, Replies, Steps, Stops, acted_on, after, map_of_call, moment, named}
 use Rattle.play_lists.proofs.Given.ShedsEndLists.{one_of}
-use Rattle.run_grows.specs.Given.NamedSeen.{kind_of}
+use Rattle.run_logged.specs.Given.NamedSeen.{kind_of}
 use Rattle.play_lists.specs.Played.Play.{Ending, State, is_refusal, outcome_of, reply_for, row_deed, row_outcome, row_stepped}
 use Rattle.play_lists.specs.Played.Reached.{IsOf, row_or_rests}
 use Rattle.play_lists.proofs.Played.PlayedAs.{PlayedAs}
@@ -41,8 +41,8 @@ use Rattle.play_linear.proofs.Linear.Like.{IsLike}
 use Rattle.play_linear.proofs.Linear.RowsPlayed.{is_of_row, rows_like}
 use Rattle.play_lists.proofs.Played.Tied.{CallTied, call_tied}
 use Rattle.play_lists.specs.MapsEnd.Ends.{AlikeOf}
-use Rattle.play_lists.specs.MapsEnd.Going.{GoesOnToEnd}
-use Rattle.play_linear.specs.Endings.GoingOn.{EndsGoOn}
+use Rattle.play_lists.specs.MapsEnd.Going.{ContinuesToEnd}
+use Rattle.play_linear.specs.Endings.GoingOn.{EndsContinue}
 use Rattle.play_lists.proofs.MapsEnd.Alike.{alike_all, alike_then}
 use Rattle.play_lists.proofs.MapsEnd.Calls.{call_spares}
 use Rattle.play_linear.proofs.Endings.EndSteps.{rest_new}
@@ -76,7 +76,7 @@ module _ {K V S : Type 0} where
     quiet_same act quiet played = absurd quiet
 
 module _ {K V S : Type 0} (same : K → K → Bool) (by_hasher : S → K → ℕ) (hash : ℕ → K → ℕ) (batch_size roots : ℕ) (aborts : ℕ → V) (x y : State K V S) (s n : Scene K V)
-    (is : IsOf by_hasher s s.world.row x.now) (at : IsAt same hash (held_in batch_size roots NoChange s) s) (all : AllHolds same x s) (so : EndsGoOn x s) (told : Answer K V) where
+    (is : IsOf by_hasher s s.world.row x.now) (at : IsAt same hash (held_in batch_size roots NoChange s) s) (all : AllHolds same x s) (so : EndsContinue x s) (told : Answer K V) where
   abbrev old : Held K V
   old = held_in batch_size roots NoChange s
 
@@ -91,21 +91,21 @@ module _ {K V S : Type 0} (same : K → K → Bool) (by_hasher : S → K → ℕ
 
   -- where the ends are those that they were
   pub ends_stay : (known2 : Known) (v : Moment K V) → y.known ≡ known2 → moment y.history ≡ v → y.now.enders ≡ x.now.enders → n.enders ≡ s.enders
-      → ((j : ℕ) (e : Ending) → x.now.enders j ≡ Some e → (f : Finishing K V) → s.enders j ≡ Some f → (g : GoesOnToEnd e.map f x.known m) → AlikeOf e.map m v × NotedAlike g.rest x.known known2) → EndsGoOn y n
+      → ((j : ℕ) (e : Ending) → x.now.enders j ≡ Some e → (f : Finishing K V) → s.enders j ≡ Some f → (g : ContinuesToEnd e.map f x.known m) → AlikeOf e.map m v × NotedAlike g.rest x.known known2) → EndsContinue y n
   ends_stay known2 v known_is moment_is enders ends each = record {
     each = λ j e ending f ends_it.
         (let was : x.now.enders j ≡ Some e = sym (ap (λ (h : ℕ → Option Ending). h j) enders) ∙ ending in
         let was_it : s.enders j ≡ Some f = sym (ap (λ (h : ℕ → Option (Finishing K V)). h j) ends) ∙ ends_it in
         let g = so.each j e was f was_it in
         let it = each j e was f was_it g in
-        subst (λ (k : Known). GoesOnToEnd e.map f k (moment y.history)) (sym known_is) (subst (GoesOnToEnd e.map f known2) (sym moment_is) (going_alike e.map f x.known m g known2 v it.0 it.1)));
+        subst (λ (k : Known). ContinuesToEnd e.map f k (moment y.history)) (sym known_is) (subst (ContinuesToEnd e.map f known2) (sym moment_is) (going_alike e.map f x.known m g known2 v it.0 it.1)));
     apart = λ i j e g ne ending other.
         so.apart i j e g ne (sym (ap (λ (h : ℕ → Option Ending). h i) enders) ∙ ending) (sym (ap (λ (h : ℕ → Option Ending). h j) enders) ∙ other);
   }
 
   -- What an end has still to reclaim is noted as it was, whoever else acts.
   module _ (new : Held K V) (at2 : IsAt same hash new n) (op : Operated old.memory new.memory new.changed) (its : Acting) (j : ℕ) (e : Ending) (ending : x.now.enders j ≡ Some e) (f : Finishing K V) (ends : s.enders j ≡ Some f)
-      (ends2 : n.enders j ≡ Some f) (g : GoesOnToEnd e.map f x.known m) where
+      (ends2 : n.enders j ≡ Some f) (g : ContinuesToEnd e.map f x.known m) where
     facts : FinishingFacts same old.batch_size s.world j f
     facts = at.together.facts j f ends
 
@@ -116,7 +116,7 @@ module _ {K V S : Type 0} (same : K → K → Bool) (by_hasher : S → K → ℕ
         (subst (λ (l : List ℕ). 0 < times b l) (sym g.back_is) (some_last b f.back g.rest some))) (rest_new same old.batch_size s.world j f facts g.rest g.back_is b some)
 
   -- Acts of which there is no step,
-  pub quiet_go : (act : Act K V S) → IsQuiet act → PlayedAs same by_hasher batch_size roots aborts x y act → Led same by_hasher batch_size roots slot_of act s told n → EndsGoOn y n
+  pub quiet_go : (act : Act K V S) → IsQuiet act → PlayedAs same by_hasher batch_size roots aborts x y act → Led same by_hasher batch_size roots slot_of act s told n → EndsContinue y n
   quiet_go act quiet played led =
       let was = quiet_played same by_hasher batch_size roots aborts x y act quiet played in
       let scene = quiet_led same by_hasher batch_size roots aborts x y s n act quiet told led in
@@ -125,7 +125,7 @@ module _ {K V S : Type 0} (same : K → K → Bool) (by_hasher : S → K → ℕ
 
   -- the step of a call,
   pub step_goes : (i map : ℕ) (g : Grant) → PlayedAs same by_hasher batch_size roots aborts x y (StepsCall i map g) → Led same by_hasher batch_size roots slot_of (StepsCall i map g) s told n
-      → LeadsAs same by_hasher hash (StepsCall i map g) s told n old (then_held (StepsCall i map g)) → IsAt same hash (then_held (StepsCall i map g)) n → EndsGoOn y n
+      → LeadsAs same by_hasher hash (StepsCall i map g) s told n old (then_held (StepsCall i map g)) → IsAt same hash (then_held (StepsCall i map g)) n → EndsContinue y n
   step_goes i map g played led (said, answer, leads, goes) at2 =
       ends_stay (known_after (acts.Call i map) new.changed x.known) (after entry m) (ap (λ (z : State K V S). z.known) tied.comes) (ap (λ (z : State K V S). moment z.history) tied.comes)
       (ap (λ (z : State K V S). z.now.enders) tied.comes) (ap (λ (z : Scene K V). z.enders) led.comes) each
@@ -152,7 +152,7 @@ module _ {K V S : Type 0} (same : K → K → Bool) (by_hasher : S → K → ℕ
       op = operated old.memory new.memory new.changed (machine_plan same same (leads map led.call led.here).0.hash (machine_of led.call)) ((leads map led.call led.here).1, said)
           (may_step same hash old s at map (leads map led.call led.here).0 (leads map led.call led.here).2 i led.call led.here) (leads map led.call led.here).3
 
-      each : (j : ℕ) (e : Ending) → x.now.enders j ≡ Some e → (f : Finishing K V) → s.enders j ≡ Some f → (go : GoesOnToEnd e.map f x.known m)
+      each : (j : ℕ) (e : Ending) → x.now.enders j ≡ Some e → (f : Finishing K V) → s.enders j ≡ Some f → (go : ContinuesToEnd e.map f x.known m)
           → AlikeOf e.map m (after entry m) × NotedAlike go.rest x.known (known_after (acts.Call i map) new.changed x.known)
       each j e ending f ends go = (
         alike_then e.map m w (after entry m)
@@ -174,7 +174,7 @@ module _ {K V S : Type 0} (same : K → K → Bool) (by_hasher : S → K → ℕ
 
   -- and that of a row.
   pub row_goes : (i : ℕ) (g : Grant) → HasNoCall s i → PlayedAs same by_hasher batch_size roots aborts x y (StepsRow i g) → Led same by_hasher batch_size roots slot_of (StepsRow i g) s told n
-      → LeadsAs same by_hasher hash (StepsRow i g) s told n old (then_held (StepsRow i g)) → IsAt same hash (then_held (StepsRow i g)) n → EndsGoOn y n
+      → LeadsAs same by_hasher hash (StepsRow i g) s told n old (then_held (StepsRow i g)) → IsAt same hash (then_held (StepsRow i g)) n → EndsContinue y n
   row_goes i g no_call (row, row_is, end, came, y_is) led (leads, goes) at2 =
       ends_stay (known_after acts.Row new.changed x.known) (after entry m) (ap (λ (z : State K V S). z.known) comes) (ap (λ (z : State K V S). moment z.history) comes)
       (ap (λ (z : State K V S). z.now.enders) comes) (ap (λ (z : Scene K V). z.enders) (goes row here)) each
@@ -204,7 +204,7 @@ module _ {K V S : Type 0} (same : K → K → Bool) (by_hasher : S → K → ℕ
       entry = record { deed = row_deed row; outcome = row_outcome end.1.1; effects = effects; refused = is_refusal new.changed }
 
       op : Operated old.memory new.memory new.changed
-      op = row_operated old.memory new.memory new.changed ((leads row here).0, row_told (s.world.row i) g s.world.memory) row (may_row same hash old s at i row here) (leads row here).1
+      op = row_operated old.memory new.memory new.changed ((leads row here).0, outcome_of_row_step (s.world.row i) g s.world.memory) row (may_row same hash old s at i row here) (leads row here).1
 
       w : Moment K V
       w = with_effects None None effects m
@@ -212,14 +212,14 @@ module _ {K V S : Type 0} (same : K → K → Bool) (by_hasher : S → K → ℕ
       like : IsLike w (after entry m)
       like = rows_like (row_deed row) (is_of_row K V row) (row_outcome end.1.1) effects (is_refusal new.changed) m
 
-      each : (j : ℕ) (e : Ending) → x.now.enders j ≡ Some e → (f : Finishing K V) → s.enders j ≡ Some f → (go : GoesOnToEnd e.map f x.known m)
+      each : (j : ℕ) (e : Ending) → x.now.enders j ≡ Some e → (f : Finishing K V) → s.enders j ≡ Some f → (go : ContinuesToEnd e.map f x.known m)
           → AlikeOf e.map m (after entry m) × NotedAlike go.rest x.known (known_after acts.Row new.changed x.known)
       each j e ending f ends go =
           let still = noted_on new at2 op acts.Row j e ending f ends (ap (λ (z : Scene K V). z.enders j) (goes row here) ∙ ends) go in (
             alike_then e.map m w (after entry m)
                 (all_spared e.map None None (λ both. cc both) effects m go.stored
                 (row_spares same named e.map f x.known m s all.holds.shows.whole go new.changed
-                (row_tells old.memory new.memory new.changed ((leads row here).0, row_told (s.world.row i) g s.world.memory) row (leads row here).1) still))
+                (row_tells old.memory new.memory new.changed ((leads row here).0, outcome_of_row_step (s.world.row i) g s.world.memory) row (leads row here).1) still))
                 (alike_all e.map w (after entry m) (ap (λ (z : Moment K V). z.maps) like) (ap (λ (z : Moment K V). z.place) like) (ap (λ (z : Moment K V). z.tables) like) (ap (λ (z : Moment K V). z.spot) like)
                 (ap (λ (z : Moment K V). z.stored) like)),
             still,

@@ -3,10 +3,10 @@ use Rattle.std.specs.Prelude.{◌≡◌, ℕ, ◌==◌, Bool, true, false, Optio
 use Rattle.std.proofs.Common.{refl, sym, subst}
 use Rattle.run_schedules.specs.Given.SeizeWordsOp.{Out, Found, Stored, Exchanged, Made, Taken, Roomed}
 use Rattle.run_schedules.specs.Given.SeizeWordsWord.{block_in}
-use Rattle.run_grows.specs.Given.SeizeDeclared.advance.Advance.{Advance as Counting}
-use Rattle.run_grows.specs.Given.SeizeDeclared.advance.Advance.TheVariants as counting
-use Rattle.run_grows.specs.Given.SeizeDeclared.rows.settle.Settled.{Settled}
-use Rattle.run_grows.specs.Given.SeizeDeclared.rows.settle.Settled.TheVariants as settled
+use Rattle.seize_acts.specs.Given.SeizeDeclared.advance.Advance.{Advance as Counting}
+use Rattle.seize_acts.specs.Given.SeizeDeclared.advance.Advance.TheVariants as counting
+use Rattle.seize_acts.specs.Given.SeizeDeclared.rows.settle.Settled.{Settled}
+use Rattle.seize_acts.specs.Given.SeizeDeclared.rows.settle.Settled.TheVariants as settled
 use Rattle.play_lists.specs.Given.TablesChunks.{is_incremental}
 use Rattle.play_lists.specs.Given.TablesFinding.{may_name}
 use Rattle.play_lists.specs.Given.TablesTrials.{next_trial, with_met}
@@ -16,42 +16,42 @@ use Rattle.play_lists.specs.Given.TablesDeclared.marks.TheConstants.{TOMBSTONE}
 use Rattle.play_lists.specs.Given.TablesDeclared.node.Node.{Node}
 use Rattle.play_lists.specs.Given.TablesDeclared.node.Node.TheVariants as node
 use Rattle.play_lists.specs.Given.TablesDeclared.table.Table.{Table}
-use Rattle.run_grows.specs.Given.ResizeCopier.{copier_plan}
-use Rattle.run_grows.specs.Given.ResizeCopierStates.{copying_all}
-use Rattle.run_grows.specs.Given.ResizeDispose.{dispose_plan}
-use Rattle.run_grows.specs.Given.ResizeLookup.{lookup_plan}
-use Rattle.run_grows.specs.Given.ResizeNewTable.{new_table_plan}
-use Rattle.run_grows.specs.Given.ResizeDeclared.copier.Copier.{Copier}
-use Rattle.run_grows.specs.Given.ResizeDeclared.dispose.Dispose.{Dispose}
-use Rattle.run_grows.specs.Given.ResizeDeclared.lookup.Lookup.{Lookup}
-use Rattle.run_grows.specs.Given.ResizeDeclared.new_table.NewTable.{NewTable}
-use Rattle.run_grows.specs.Given.ResizeDeclared.yielding.Yielding.{Yielding}
-use Rattle.run_grows.specs.Given.ResizeDeclared.yielding.Yielding.TheVariants as outcome
-use Rattle.run_grows.specs.Given.RawAnswers.{ended}
-use Rattle.run_grows.specs.Given.RawCall.{made, makes_of, root_found, next_found, dropped, key_read, pair_read, word_read, word_found, tried, looked, looks_for, first_made, next_made, disposed, helped, copied, plan_at}
-use Rattle.run_grows.specs.Given.RawCallFills.{filled, putting_by, fill_by, emptied, fills_with, given_up, asks_at}
-use Rattle.run_grows.specs.Given.RawCallPoints.{going, standing, over, ending, following_made, storing, burying, at_gap, gap_by, asking_at, pair_by, tableless, at_free, at_last, at_pair, told_of, entering, went_on, changed, counted, having_met}
-use Rattle.run_grows.specs.Given.RawReplies.{value_for, as_own}
-use Rattle.run_grows.specs.Given.RawDeclared.machines.answer.KeyAnswer.{KeyAnswer}
-use Rattle.run_grows.specs.Given.RawDeclared.machines.answer.KeyAnswer.TheVariants as answers
-use Rattle.run_grows.specs.Given.RawDeclared.machines.answer.Called.{Called}
-use Rattle.run_grows.specs.Given.RawDeclared.machines.answer.Called.TheVariants as called
-use Rattle.run_grows.specs.Given.RawDeclared.machines.answer.End.{End}
-use Rattle.run_grows.specs.Given.RawDeclared.machines.answer.End.TheVariants as ends
-use Rattle.run_grows.specs.Given.RawDeclared.machines.answer.Missing.{Missing}
-use Rattle.run_grows.specs.Given.RawDeclared.machines.answer.Missing.TheVariants as missing
-use Rattle.run_grows.specs.Given.RawDeclared.machines.answer.There.{There}
-use Rattle.run_grows.specs.Given.RawDeclared.machines.answer.There.TheVariants as there
-use Rattle.run_grows.specs.Given.RawDeclared.machines.asking.Asking.{Asking as AskingAt}
-use Rattle.run_grows.specs.Given.RawDeclared.machines.asking.Asking.TheVariants as asking
-use Rattle.run_grows.specs.Given.RawDeclared.machines.asking.Gap.{Gap}
-use Rattle.run_grows.specs.Given.RawDeclared.machines.asking.Gap.TheVariants as gaps
-use Rattle.run_grows.specs.Given.RawDeclared.machines.asking.Told.{Told}
-use Rattle.run_grows.specs.Given.RawDeclared.machines.asking.Told.TheVariants as tells
-use Rattle.run_grows.specs.Given.RawDeclared.machines.call.Calling.{Calling}
-use Rattle.run_grows.specs.Given.RawDeclared.machines.call.Calling.TheVariants as at
-use Rattle.run_grows.specs.Given.RawDeclared.machines.call.KeyCall.{KeyCall}
-use Rattle.run_grows.proofs.Given.PointsCalls.Asked.{passed_so}
+use Rattle.run_logged.specs.Given.ResizeCopier.{copier_plan}
+use Rattle.run_logged.specs.Given.ResizeCopierStates.{copying_all}
+use Rattle.run_logged.specs.Given.ResizeDispose.{dispose_plan}
+use Rattle.run_logged.specs.Given.ResizeLookup.{lookup_plan}
+use Rattle.run_logged.specs.Given.ResizeNewTable.{new_table_plan}
+use Rattle.run_logged.specs.Given.ResizeDeclared.copier.Copier.{Copier}
+use Rattle.run_logged.specs.Given.ResizeDeclared.dispose.Dispose.{Dispose}
+use Rattle.run_logged.specs.Given.ResizeDeclared.lookup.Lookup.{Lookup}
+use Rattle.run_logged.specs.Given.ResizeDeclared.new_table.NewTable.{NewTable}
+use Rattle.run_logged.specs.Given.ResizeDeclared.yielding.Yielding.{Yielding}
+use Rattle.run_logged.specs.Given.ResizeDeclared.yielding.Yielding.TheVariants as outcome
+use Rattle.run_logged.specs.Given.RawAnswers.{ended}
+use Rattle.run_logged.specs.Given.RawCall.{made, makes_of, root_found, next_found, dropped, key_read, pair_read, word_read, word_found, tried, looked, looks_for, first_made, next_made, disposed, helped, copied, plan_at}
+use Rattle.run_logged.specs.Given.RawCallFills.{filled, putting_by, fill_by, emptied, fills_with, given_up, asks_at}
+use Rattle.run_logged.specs.Given.RawCallPoints.{going, standing, over, ending, following_made, storing, burying, at_gap, gap_by, asking_at, pair_by, tableless, at_free, at_last, at_pair, after_finding, entering, continued_in, changed, counted, having_met}
+use Rattle.run_logged.specs.Given.RawReplies.{value_for, as_own}
+use Rattle.run_logged.specs.Given.RawDeclared.machines.answer.KeyAnswer.{KeyAnswer}
+use Rattle.run_logged.specs.Given.RawDeclared.machines.answer.KeyAnswer.TheVariants as answers
+use Rattle.run_logged.specs.Given.RawDeclared.machines.answer.Called.{Called}
+use Rattle.run_logged.specs.Given.RawDeclared.machines.answer.Called.TheVariants as called
+use Rattle.run_logged.specs.Given.RawDeclared.machines.answer.End.{End}
+use Rattle.run_logged.specs.Given.RawDeclared.machines.answer.End.TheVariants as ends
+use Rattle.run_logged.specs.Given.RawDeclared.machines.answer.Missing.{Missing}
+use Rattle.run_logged.specs.Given.RawDeclared.machines.answer.Missing.TheVariants as missing
+use Rattle.run_logged.specs.Given.RawDeclared.machines.answer.There.{There}
+use Rattle.run_logged.specs.Given.RawDeclared.machines.answer.There.TheVariants as there
+use Rattle.run_logged.specs.Given.RawDeclared.machines.asking.Asking.{Asking as AskingAt}
+use Rattle.run_logged.specs.Given.RawDeclared.machines.asking.Asking.TheVariants as asking
+use Rattle.run_logged.specs.Given.RawDeclared.machines.asking.Gap.{Gap}
+use Rattle.run_logged.specs.Given.RawDeclared.machines.asking.Gap.TheVariants as gaps
+use Rattle.run_logged.specs.Given.RawDeclared.machines.asking.Told.{Told}
+use Rattle.run_logged.specs.Given.RawDeclared.machines.asking.Told.TheVariants as tells
+use Rattle.run_logged.specs.Given.RawDeclared.machines.call.Calling.{Calling}
+use Rattle.run_logged.specs.Given.RawDeclared.machines.call.Calling.TheVariants as at
+use Rattle.run_logged.specs.Given.RawDeclared.machines.call.KeyCall.{KeyCall}
+use Rattle.run_logged.proofs.Given.PointsCalls.Asked.{passed_so}
 use Rattle.play_lists.proofs.Given.RuleKeys.Always.{Always, AlwaysOf, always_if, always_plan_as}
 
 -- it takes no reply there
@@ -130,7 +130,7 @@ module _ {K V Q : Type 0} where
     there_so there.Asks word =
         either (block_in word == p.replies.pair) (pair_by p.replies.present p word) (pair_by tells.Nothing p word) (pair_so p.replies.present word) (pair_so tells.Nothing word)
 
-    told_so : (loaded : Bool) (word : ℕ) (found : Finding) → AsksAloud (told_of loaded p word found)
+    told_so : (loaded : Bool) (word : ℕ) (found : Finding) → AsksAloud (after_finding loaded p word found)
     told_so loaded word finds.Free = free_so p.missing
     told_so loaded word finds.Passed =
         passed_so AsksAloud (having_met p word) (λ next. tt) tt
@@ -140,7 +140,7 @@ module _ {K V Q : Type 0} where
     told_so loaded word finds.Copying = either loaded (standing p at.Probes, called.Waits) (going p at.Probes) tt tt
     told_so loaded word finds.There = there_so p.there word
 
-    on_so : (table : Table) → AsksAloud (went_on p table)
+    on_so : (table : Table) → AsksAloud (continued_in p table)
     on_so table =
         either (is_incremental p.setting.mode) _ (going p (at.Copies (copying_all p.setting p.trial.table table))) (either p.helped (entering p table) _ tt tt) tt
 

@@ -3,28 +3,28 @@ use Rattle.std.specs.Prelude.{◌≡◌, ℕ, ◌==◌, ◌&&◌, Bool, true, fa
 use Rattle.std.proofs.Common.{refl, sym, subst}
 use Rattle.run_schedules.specs.Given.SeizeWordsOp.{Out, Found, Stored, Exchanged, Made, Taken, Roomed}
 use Rattle.run_schedules.specs.Given.SeizeWordsWord.{block_in}
-use Rattle.run_grows.specs.Given.SeizeDeclared.rows.settle.Settled.{Settled}
-use Rattle.run_grows.specs.Given.SeizeDeclared.rows.settle.Settled.TheVariants as settled
+use Rattle.seize_acts.specs.Given.SeizeDeclared.rows.settle.Settled.{Settled}
+use Rattle.seize_acts.specs.Given.SeizeDeclared.rows.settle.Settled.TheVariants as settled
 use Rattle.play_lists.specs.Given.TablesMarks.{has_mark}
 use Rattle.play_lists.specs.Given.TablesNodes.{table_seen}
 use Rattle.play_lists.specs.Given.TablesDeclared.marks.TheConstants.{COPYING}
 use Rattle.play_lists.specs.Given.TablesDeclared.node.Node.{Node}
 use Rattle.play_lists.specs.Given.TablesDeclared.table.Table.{Table}
-use Rattle.run_grows.specs.Given.ResizeCopier.{copier_plan}
-use Rattle.run_grows.specs.Given.ResizeDispose.{dispose_plan}
-use Rattle.run_grows.specs.Given.ResizeDeclared.copier.Copier.{Copier}
-use Rattle.run_grows.specs.Given.ResizeDeclared.dispose.Dispose.{Dispose}
-use Rattle.run_grows.specs.Given.ResizeDeclared.yielding.Yielding.{Yielding}
-use Rattle.run_grows.specs.Given.ResizeDeclared.yielding.Yielding.TheVariants as outcome
-use Rattle.run_grows.specs.Given.SweepsSweep.{word_found, tried, disposed, root_read, next_read, copied, plan_at}
-use Rattle.run_grows.specs.Given.SweepsSweepPoints.{removes, beginning, tableless, entering, further, told, telling, at_pair, seen}
-use Rattle.run_grows.specs.Given.ReservesDeclared.sweep.Purpose.{Purpose}
-use Rattle.run_grows.specs.Given.ReservesDeclared.sweep.Purpose.TheVariants.{Walks, Clears, Retains}
-use Rattle.run_grows.specs.Given.ReservesDeclared.sweep.Sweep.{Sweep}
-use Rattle.run_grows.specs.Given.ReservesDeclared.sweep.Sweeping.{Sweeping}
-use Rattle.run_grows.specs.Given.ReservesDeclared.sweep.Sweeping.TheVariants as at
-use Rattle.run_grows.specs.Given.ReservesDeclared.sweep.Swept.{Swept}
-use Rattle.run_grows.specs.Given.ReservesDeclared.sweep.Swept.TheVariants as ends
+use Rattle.run_logged.specs.Given.ResizeCopier.{copier_plan}
+use Rattle.run_logged.specs.Given.ResizeDispose.{dispose_plan}
+use Rattle.run_logged.specs.Given.ResizeDeclared.copier.Copier.{Copier}
+use Rattle.run_logged.specs.Given.ResizeDeclared.dispose.Dispose.{Dispose}
+use Rattle.run_logged.specs.Given.ResizeDeclared.yielding.Yielding.{Yielding}
+use Rattle.run_logged.specs.Given.ResizeDeclared.yielding.Yielding.TheVariants as outcome
+use Rattle.run_logged.specs.Given.SweepsSweep.{word_found, tried, disposed, root_read, next_read, copied, plan_at}
+use Rattle.run_logged.specs.Given.SweepsSweepPoints.{removes, beginning, tableless, entering, further, told, telling, at_pair, seen}
+use Rattle.run_logged.specs.Given.ReservesDeclared.sweep.Purpose.{Purpose}
+use Rattle.run_logged.specs.Given.ReservesDeclared.sweep.Purpose.TheVariants.{Walks, Clears, Retains}
+use Rattle.run_logged.specs.Given.ReservesDeclared.sweep.Sweep.{Sweep}
+use Rattle.run_logged.specs.Given.ReservesDeclared.sweep.Sweeping.{Sweeping}
+use Rattle.run_logged.specs.Given.ReservesDeclared.sweep.Sweeping.TheVariants as at
+use Rattle.run_logged.specs.Given.ReservesDeclared.sweep.Swept.{Swept}
+use Rattle.run_logged.specs.Given.ReservesDeclared.sweep.Swept.TheVariants as ends
 use Rattle.play_lists.proofs.Given.RuleKeys.Always.{Always, AlwaysOf, always_if, always_plan_as}
 
 -- it takes no reply there

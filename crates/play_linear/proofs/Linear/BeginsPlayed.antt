@@ -1,22 +1,22 @@
 -- Where a call begins, is asked for its next pair, or is given up, as it is played, the entry is linearizable, if there is one, and what the moment shows of calls and of what they were told it shows then.
 use Rattle.std.specs.Prelude.{◌≡◌, ◌⊎◌, ℕ, Bool, true, false, List, [], ◌∷◌, Option, Some, None}
 use Rattle.std.proofs.Common.{refl, ap, sym, subst, ◌∙◌, inl, inr}
-use Rattle.run_grows.specs.Given.SeizeWorld.{Rests, with_at}
+use Rattle.seize_acts.specs.Given.SeizeWorld.{Rests, with_at}
 use Rattle.play_lists.specs.Given.TablesDeclared.setting.Setting.{Setting}
-use Rattle.run_grows.specs.Given.RawMachine.{machine_asked}
-use Rattle.run_grows.specs.Given.RawDeclared.machines.machine.Machine.{Machine}
-use Rattle.run_grows.specs.Given.RawDeclared.machines.machine.Machine.TheVariants as kinds
-use Rattle.run_grows.specs.Given.SweepsSweepPoints.{after_next, next_at}
-use Rattle.run_grows.specs.Given.ReservesDeclared.sweep.Sweep.{Sweep}
-use Rattle.run_grows.specs.Given.ReservesDeclared.sweep.Sweeping.{Sweeping}
-use Rattle.run_grows.specs.Given.ReservesDeclared.sweep.Sweeping.TheVariants as sweeping
-use Rattle.run_grows.specs.Given.CallersOverAll.{CallOverAll, gone_on}
-use Rattle.run_grows.specs.Given.CallersTogether.{UnderWay, OnKey, ForRoom, Counting, OverAll, in_slot}
+use Rattle.run_logged.specs.Given.RawMachine.{machine_asked}
+use Rattle.run_logged.specs.Given.RawDeclared.machines.machine.Machine.{Machine}
+use Rattle.run_logged.specs.Given.RawDeclared.machines.machine.Machine.TheVariants as kinds
+use Rattle.run_logged.specs.Given.SweepsSweepPoints.{after_next, next_at}
+use Rattle.run_logged.specs.Given.ReservesDeclared.sweep.Sweep.{Sweep}
+use Rattle.run_logged.specs.Given.ReservesDeclared.sweep.Sweeping.{Sweeping}
+use Rattle.run_logged.specs.Given.ReservesDeclared.sweep.Sweeping.TheVariants as sweeping
+use Rattle.run_logged.specs.Given.CallersOverAll.{CallOverAll, gone_on}
+use Rattle.run_logged.specs.Given.CallersTogether.{UnderWay, OnKey, ForRoom, Counting, OverAll, in_slot}
 use Rattle.play_lists.specs.Given.FinishesMachines.{machine_of}
 use Rattle.play_lists.specs.Given.FinishesMaps.{Standing, with_call}
 use Rattle.play_lists.specs.Given.FollowsCalling.{NoneNamed}
 use Rattle.play_lists.proofs.Given.FollowsCalling.{is_same_refl}
-use Rattle.run_grows.proofs.Given.HandsAsking.{which}
+use Rattle.run_logged.proofs.Given.HandsAsking.{which}
 use Rattle.run_schedules.specs.Runs.Same.{is_same}
 use Rattle.run_schedules.specs.declared.call.Call.{Call}
 use Rattle.run_schedules.specs.declared.call.Call.TheVariants.{On}
@@ -38,14 +38,14 @@ use Rattle.play_lists.specs.Given.ActsActs.{Wanted, begun}
 use Rattle.play_lists.specs.Given.ActsLeads.{asked_on}
 use Rattle.play_lists.specs.Played.Play.{Calling, State, begun_call, call_for}
 use Rattle.play_lists.proofs.Played.Noted.{CallsAreNoted, apart}
-use Rattle.play_linear.specs.Linear.Shown.{ShowsAnswers}
+use Rattle.play_linear.specs.Linear.Shown.{RefinesAnswers}
 use Rattle.play_linear.proofs.Linear.Begun.{begun_rightly}
 use Rattle.play_linear.proofs.Linear.CallEntries.{begins_answer, stops_answer}
 use Rattle.play_linear.proofs.Linear.CallsGo.{walks_go_on}
 use Rattle.play_linear.proofs.Linear.Heard.{IsHeard, SaidOn, begins_aside, begins_itself, stops_aside}
 use Rattle.play_linear.proofs.Linear.HeardAll.{AreHeard, AreHeardAt, none_other, one_heard}
 use Rattle.play_linear.proofs.Linear.TakesReply.{TakesNone, asked_none, begins_none}
-use Rattle.run_grows.proofs.Given.General.{same_some}
+use Rattle.run_schedules.proofs.Given.General.{same_some}
 
 -- one that is not the other's has another name
 not_named : (i j : ℕ) → (j ≡ i → ⊥) → is_same (named i) (named j) ≡ false
@@ -73,7 +73,7 @@ module _ {K V : Type 0} where
   asked_keeps (kinds.Sweep c) _ replies value keeps = tt
 
 module _ {K V S : Type 0} (same : K → K → Bool) (hash : ℕ → K → ℕ) (x : State K V S) (s : Scene K V) (old new : Held K V) (at : IsAt same hash old s)
-    (all : ShowsAnswers same (past x.history) (moment x.history) x.known s) (heard : AreHeard x) (i m : ℕ) where
+    (all : RefinesAnswers same (past x.history) (moment x.history) x.known s) (heard : AreHeard x) (i m : ℕ) where
   -- A call begins
   module _ (by_hasher : S → K → ℕ) (set : Setting × S) (standing : Standing K) (there : s.maps m ≡ Some standing) (wanted : Wanted K V) (begins : BeginsSo same standing i (begun same slot_of standing i wanted))
       (no_call : (k : ℕ) → s.calls k i ≡ None) (none : (k : ℕ) → x.now.calls k i ≡ None) (rests : s.world.row i ≡ Rests) (at2 : IsAt same hash new (scene_with m i (begun same slot_of standing i wanted) s)) where
@@ -86,7 +86,7 @@ module _ {K V S : Type 0} (same : K → K → Bool) (hash : ℕ → K → ℕ) (
     pub none_named : NoneNamed named (named i) s
     none_named map j u is = not_named i j (λ e. let both : None ≡ Some u = sym (no_call map) ∙ sym (ap (s.calls map) e) ∙ is in cc both)
 
-    pub played_begins : IsLinearizable same x.history entry × ShowsAnswers same (past (entry ∷ x.history)) (moment (entry ∷ x.history)) x.known (scene_with m i (begun same slot_of standing i wanted) s)
+    pub played_begins : IsLinearizable same x.history entry × RefinesAnswers same (past (entry ∷ x.history)) (moment (entry ∷ x.history)) x.known (scene_with m i (begun same slot_of standing i wanted) s)
     played_begins =
         let right = begun_rightly same standing i wanted in
         begins_answer same hash x.history x.known s old new at all m i standing there (begun same slot_of standing i wanted) call begins right.0 right.1 right.2 none_named rests at2
@@ -139,9 +139,9 @@ module _ {K V S : Type 0} (same : K → K → Bool) (hash : ℕ → K → ℕ) (
       pub asked_so : (ready : Bool) (leads : AskLeads same hash i ready s old new) → (leads m u under).0 ≡ asked_on u → Q (scene_with m i (asked_on u) s)
       asked_so ready leads is = so_asked u under ready (leads m u under).2 leads is
 
-    pub played_asks : (ready : Bool) (leads : AskLeads same hash i ready s old new) → (leads m u under).0 ≡ asked_on u → ShowsAnswers same (past x.history) (moment x.history) x.known (scene_with m i (asked_on u) s)
+    pub played_asks : (ready : Bool) (leads : AskLeads same hash i ready s old new) → (leads m u under).0 ≡ asked_on u → RefinesAnswers same (past x.history) (moment x.history) x.known (scene_with m i (asked_on u) s)
     played_asks ready leads is =
-        asked_so (ShowsAnswers same (past x.history) (moment x.history) x.known) all
+        asked_so (RefinesAnswers same (past x.history) (moment x.history) x.known) all
         (λ o o_is walks goes. walks_go_on K V same hash (past x.history) x.known s old at (moment x.history) all new i walks m o o_is goes) ready leads is
 
     asked_then : IsHeard (moment x.history) i c.call (machine_asked c.machine).0 c.value
@@ -184,7 +184,7 @@ module _ {K V S : Type 0} (same : K → K → Bool) (hash : ℕ → K → ℕ) (
 
     pub played_stops : StopLeads same hash i true s old new
         → IsLinearizable same x.history given_up
-        × ShowsAnswers same (past (given_up ∷ x.history)) (moment (given_up ∷ x.history)) x.known (record s { calls = with_call s.calls m i (unless_stopped true u) })
+        × RefinesAnswers same (past (given_up ∷ x.history)) (moment (given_up ∷ x.history)) x.known (record s { calls = with_call s.calls m i (unless_stopped true u) })
     played_stops leads = stops_answer same hash x.history x.known s old new at all m i leads u under none_then
 
     pub played_stops_are_heard : AreHeardAt (moment (given_up ∷ x.history)) (with_call x.now.calls m i None)
@@ -192,8 +192,8 @@ module _ {K V S : Type 0} (same : K → K → Bool) (hash : ℕ → K → ℕ) (
         one_heard x heard i m None (moment (given_up ∷ x.history)) (stops_aside i (moment x.history)) (λ d is. absurd (let both : None ≡ Some d = is in cc both)) (none_other x noted i m c here)
 
     -- and one that isn't ready is not given up
-    pub played_stays : ShowsAnswers same (past x.history) (moment x.history) x.known (scene_with m i u s)
-    played_stays = subst (ShowsAnswers same (past x.history) (moment x.history) x.known) (sym (same_calls s m i u under)) all
+    pub played_stays : RefinesAnswers same (past x.history) (moment x.history) x.known (scene_with m i u s)
+    played_stays = subst (RefinesAnswers same (past x.history) (moment x.history) x.known) (sym (same_calls s m i u under)) all
 
     pub played_stays_heard : AreHeardAt (moment x.history) (with_call x.now.calls m i (Some c))
     played_stays_heard = stays_heard c it

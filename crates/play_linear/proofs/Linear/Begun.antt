@@ -1,16 +1,16 @@
 -- A call as an act begins it is what was called: on its key, given its pair, and over the map for its purpose.
 use Rattle.std.specs.Prelude.{◌≡◌, ℕ, Bool, Some, None}
 use Rattle.std.proofs.Common.{refl, sym, subst}
-use Rattle.run_grows.specs.Given.ReservesDeclared.sweep.Purpose.TheVariants as purpose
-use Rattle.run_grows.specs.Given.CallersTogether.{UnderWay}
+use Rattle.run_logged.specs.Given.ReservesDeclared.sweep.Purpose.TheVariants as purpose
+use Rattle.run_logged.specs.Given.CallersTogether.{UnderWay}
 use Rattle.play_lists.specs.Given.FinishesMaps.{Standing}
 use Rattle.play_lists.specs.Given.FollowsCalls.{IsCalled}
-use Rattle.run_grows.specs.Given.HandsCalling.{IsBegunFor}
+use Rattle.run_logged.specs.Given.HandsCalling.{IsBegunFor}
 use Rattle.run_schedules.specs.declared.call.Call.{Call}
 use Rattle.run_schedules.specs.declared.call.Call.TheVariants.{On, Reserve, Clear, Retain, Len, Walk}
 use Rattle.play_lists.specs.Given.ScenesScene.{slot_of}
 use Rattle.play_lists.specs.Given.HistoriesAsCalled.{IsBegunAs}
-use Rattle.run_grows.proofs.Given.NamedCalled.{begun_call, is_begun_for, is_called}
+use Rattle.run_logged.proofs.Given.NamedCalled.{begun_call, is_begun_for, is_called}
 use Rattle.play_lists.specs.Given.ActsActs.{Wanted, begun, Get, Remove, Insert, TryToInsert, Compute, Update, UpdateOrInsert, TryToInsertWith, RemoveIf, GetKeyValue, ContainsKey, GetOrInsert, GetOrInsertWith, RemoveEntry, MakeRoom, Count, GoOver}
 use Rattle.play_lists.specs.Played.Play.{call_for}
 

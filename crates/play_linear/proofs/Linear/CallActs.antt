@@ -3,13 +3,13 @@ use Rattle.std.specs.Prelude.{◌≡◌, ℕ, Bool, true, false, Some, None, Res
 use Rattle.std.proofs.Common.{refl, ap, sym, subst, ◌∙◌}
 use Rattle.seize_acts.specs.Acts.Acts.{rests}
 use Rattle.seize_acts.specs.Acts.Answers.{Grant}
-use Rattle.run_grows.specs.Given.RawMachine.{machine_asked, machine_replied}
-use Rattle.run_grows.specs.Given.RawDeclared.machines.asking.MachineReply.{MachineReply as Told}
-use Rattle.run_grows.specs.Given.RawDeclared.machines.machine.Machine.{Machine}
-use Rattle.run_grows.specs.Given.RawDeclared.machines.progress.Progress.{Progress}
-use Rattle.run_grows.specs.Given.SeizeWorld.{Rests, Row}
+use Rattle.run_logged.specs.Given.RawMachine.{machine_asked, machine_replied}
+use Rattle.run_logged.specs.Given.RawDeclared.machines.asking.MachineReply.{MachineReply as Told}
+use Rattle.run_logged.specs.Given.RawDeclared.machines.machine.Machine.{Machine}
+use Rattle.run_logged.specs.Given.RawDeclared.machines.progress.Progress.{Progress}
+use Rattle.seize_acts.specs.Given.SeizeWorld.{Rests, Row}
 use Rattle.play_lists.specs.Given.TablesDeclared.node.Node.{Node}
-use Rattle.run_grows.specs.Given.CallersTogether.{UnderWay}
+use Rattle.run_logged.specs.Given.CallersTogether.{UnderWay}
 use Rattle.play_lists.specs.Given.FinishesMachines.{machine_of}
 use Rattle.play_lists.specs.Given.FinishesMaps.{with_call}
 use Rattle.play_lists.specs.Given.EffectsDeclared.changed.Changed.{Changed}
@@ -18,13 +18,13 @@ use Rattle.play_lists.specs.Given.ScenesHeld.{Held, IsAt}
 use Rattle.play_lists.specs.Given.ScenesReplying.{StopLeads, scene_with, unless_stopped}
 use Rattle.play_lists.specs.Given.ScenesScene.{Scene, slot_of}
 use Rattle.run_schedules.specs.declared.outcome.Outcome.TheVariants as outcome
-use Rattle.run_grows.specs.Given.NamedMachines.{aborted_by}
+use Rattle.run_logged.specs.Given.NamedMachines.{aborted_by}
 use Rattle.play_lists.specs.Given.ActsActs.{Act, Answer, OfAsking, OfCall, OfReply, Wanted, begun, BeginsCall, StepsCall, TellsCall, AsksCall, StopsCall}
 use Rattle.play_lists.specs.Given.ActsAsSteps.{LeadsAs, changed_by, held_in}
 use Rattle.play_lists.specs.Given.ActsLeads.{Led, MayBe, asked_on}
 use Rattle.play_lists.proofs.Given.ActsCalls.{refused_same}
 use Rattle.run_schedules.specs.Deeds.Deeds.{Replies, Stops, moment}
-use Rattle.play_lists.specs.Played.Play.{Calling, State, call_asked, call_begun, call_for, call_stepped, did, reply_for, told_call}
+use Rattle.play_lists.specs.Played.Play.{Calling, State, call_asked, call_begun, call_for, call_stepped, did, reply_for, replied_call}
 use Rattle.play_lists.specs.Played.Reached.{IsOf}
 use Rattle.play_lists.proofs.Played.Noted.{CallsAreNoted}
 use Rattle.play_lists.proofs.Played.PlayedAs.{PlayedAs}
@@ -34,7 +34,7 @@ use Rattle.play_linear.proofs.Linear.Holds.{Holds, onto}
 use Rattle.play_linear.proofs.Linear.RepliesPlayed.{played_replies, played_replies_are_heard}
 use Rattle.play_linear.proofs.Linear.StepsPlayed.{led, played_steps_answer, played_steps_are_heard, played_steps_are_linearizable, there_alike, there_is}
 use Rattle.play_lists.proofs.Played.Tied.{call_tied}
-use Rattle.run_grows.proofs.Given.General.{same_some, none_mapped as nothing_told}
+use Rattle.run_schedules.proofs.Given.General.{same_some, none_mapped as nothing_told}
 
 pub ok_is : {E : Type 0} (r : Result Unit E) → is_ok r ≡ true → r ≡ Ok tt
 ok_is (Ok done) e = refl
@@ -107,7 +107,7 @@ module _ {K V S : Type 0} (same : K → K → Bool) (by_hasher : S → K → ℕ
 
       z : Bool → State K V S
       z b = did b (Replies i (reply_for (aborts (length x.told)) reply)) outcome.Goes (OfReply (machine_replied c.machine reply).1)
-          (record x.now { calls = with_call x.now.calls m i (Some (told_call (machine_replied c.machine reply) (reply_for (aborts (length x.told)) reply) c)) }) x
+          (record x.now { calls = with_call x.now.calls m i (Some (replied_call (machine_replied c.machine reply) (reply_for (aborts (length x.told)) reply) c)) }) x
 
       by : (b : Bool) → is_ok (machine_replied c.machine reply).1 ≡ b → Holds same y n
       by true ok =
@@ -123,7 +123,7 @@ module _ {K V S : Type 0} (same : K → K → Bool) (by_hasher : S → K → ℕ
           })
       by false not =
           let refused = err_is (machine_replied c.machine reply).1 not in
-          let as_it_was : told_call (machine_replied c.machine reply) (reply_for (aborts (length x.told)) reply) c ≡ c =
+          let as_it_was : replied_call (machine_replied c.machine reply) (reply_for (aborts (length x.told)) reply) c ≡ c =
           ap (λ (b : Bool). record c { machine = (machine_replied c.machine reply).0; value = if b then aborted_by (reply_for (aborts (length x.told)) reply) else c.value }) not
           ∙ ap (λ (w : Machine K V K). record c { machine = w }) (refused_same c.machine reply refused) in
           comes_so (z false) (scene_with m i u s) (y_is ∙ ap z not)

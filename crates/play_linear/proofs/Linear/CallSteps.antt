@@ -2,11 +2,11 @@
 use Rattle.std.specs.Prelude.{◌≡◌, ℕ, suc, Bool, true, false, List, [], ◌∷◌, length, Option, Some, None}
 use Rattle.std.proofs.Common.{refl, ap, sym, subst, ◌∙◌, inl, inr, arith}
 use Rattle.play_lists.specs.Given.TablesDeclared.node.Node.{Node}
-use Rattle.run_grows.specs.Given.RawDeclared.machines.machine.Machine.{Machine}
-use Rattle.run_grows.specs.Given.RawDeclared.machines.progress.Progress.{Progress}
-use Rattle.run_grows.specs.Given.RawDeclared.machines.progress.Progress.TheVariants as progress
-use Rattle.play_lists.specs.Given.FinishesMachines.{GoesOnAs}
-use Rattle.run_grows.specs.Given.CallersTogether.{UnderWay}
+use Rattle.run_logged.specs.Given.RawDeclared.machines.machine.Machine.{Machine}
+use Rattle.run_logged.specs.Given.RawDeclared.machines.progress.Progress.{Progress}
+use Rattle.run_logged.specs.Given.RawDeclared.machines.progress.Progress.TheVariants as progress
+use Rattle.play_lists.specs.Given.FinishesMachines.{ContinuesAs}
+use Rattle.run_logged.specs.Given.CallersTogether.{UnderWay}
 use Rattle.run_schedules.specs.Runs.Same.{is_same}
 use Rattle.run_schedules.specs.declared.effect.Effect.{Effect}
 use Rattle.run_schedules.specs.declared.outcome.Outcome.{Outcome}
@@ -22,28 +22,28 @@ use Rattle.play_lists.specs.Given.ScenesHeld.{Held, IsAt}
 use Rattle.play_lists.specs.Given.ScenesScene.{Scene}
 use Rattle.play_lists.specs.Given.ScenesStepping.{StepLeads, has_ended, scene_after}
 use Rattle.play_lists.specs.Given.FollowsCalling.{NoneNamed, come_to}
-use Rattle.run_grows.specs.Given.HandsCalling.{AsksJust}
-use Rattle.run_grows.proofs.Given.HandsAsking.{which}
+use Rattle.run_logged.specs.Given.HandsCalling.{AsksJust}
+use Rattle.run_logged.proofs.Given.HandsAsking.{which}
 use Rattle.play_lists.proofs.Given.FollowsCalling.{is_same_is, is_same_refl}
 use Rattle.play_lists.specs.Given.HistoriesAsCalled.{AsksAsCalled}
-use Rattle.play_lists.specs.Given.HistoriesInEvent.{ComesSo, InEvent, here_of}
+use Rattle.play_lists.specs.Given.HistoriesInEvent.{HasOutcomeSo, InEvent, here_of}
 use Rattle.play_lists.specs.Given.HistoriesQuestions.{AsksOnStill, AsksStill}
 use Rattle.play_lists.proofs.Given.HistoriesAnyCall.AsksThere.{events_ask_there}
 use Rattle.play_lists.proofs.Given.HistoriesAnyCall.InEvent.{events_begin, events_end}
 use Rattle.run_schedules.specs.Deeds.Deeds.{Entry, Steps, acted_on, after, map_of_call, moment, named, worked}
 use Rattle.run_schedules.specs.Deeds.History.{IsLinearizable, past, transition}
-use Rattle.play_linear.specs.Linear.Shown.{ShowsAnswers}
+use Rattle.play_linear.specs.Linear.Shown.{RefinesAnswers}
 use Rattle.play_linear.proofs.Linear.CallsGo.{calls_come_to, calls_step}
 use Rattle.play_linear.proofs.Linear.Like.{entries_are_over}
 
 -- one that has ended is under way no more
-gone_then : {K V : Type 0} (machine : Machine K V K) (said : Progress (Node K V)) (next : Option (UnderWay K V K)) → has_ended said ≡ true → GoesOnAs machine said next → next ≡ None
+gone_then : {K V : Type 0} (machine : Machine K V K) (said : Progress (Node K V)) (next : Option (UnderWay K V K)) → has_ended said ≡ true → ContinuesAs machine said next → next ≡ None
 gone_then machine (progress.Done answer) next e it = it
 gone_then machine (progress.Refused fault) next e it = it
 gone_then machine _ next e it = absurd (cc e)
 
 module _ {K V : Type 0} (same : K → K → Bool) (hash : ℕ → K → ℕ) (history : List (Entry K V)) (known : Known) (s : Scene K V) (old new : Held K V) (at : IsAt same hash old s)
-    (all : ShowsAnswers same (past history) (moment history) known s) (map i : ℕ) (u : UnderWay K V K) (here : s.calls map i ≡ Some u) (said : Progress (Node K V)) (leads : StepLeads same hash i said s old new)
+    (all : RefinesAnswers same (past history) (moment history) known s) (map i : ℕ) (u : UnderWay K V K) (here : s.calls map i ≡ Some u) (said : Progress (Node K V)) (leads : StepLeads same hash i said s old new)
     (d : CallThere K V) (d_is : call_of (named i) (moment history) ≡ Some d) (on_map : d.map ≡ map) (o : Outcome V) where
   abbrev m : Moment K V
   m = moment history
@@ -71,7 +71,7 @@ module _ {K V : Type 0} (same : K → K → Bool) (hash : ℕ → K → ℕ) (hi
   acted : acted_on {K = K} {V = V} (Steps i) m ≡ Some map
   acted = ap map_of_call d_is ∙ ap Some on_map
 
-  module _ (comes : ComesSo known_then d.call d.replies said o) (refused : Bool) where
+  module _ (comes : HasOutcomeSo known_then d.call d.replies said o) (refused : Bool) where
     ends : Linearizes same (past history) (transition history (step refused)) × AsksOnStill (transition history (step refused))
     ends = events_end K V same hash named (past history) m map i d d_is all.questions [] m known s u midst old new at said leads (transition history (step refused)) refl refl acted refl comes
 
@@ -110,13 +110,13 @@ module _ {K V : Type 0} (same : K → K → Bool) (hash : ℕ → K → ℕ) (hi
       still : (c : CallThere K V) → call_of (named i) v ≡ Some c → AsksStill c.stands o
       still c c_is = subst (IfCall (λ (x : CallThere K V). AsksStill x.stands o)) (ap (call_of (named i)) (sym worked_is) ∙ c_is) ends.1
 
-      come : ShowsAnswers same (past history) (come_to (named i) o 1 v) known_then led
+      come : RefinesAnswers same (past history) (come_to (named i) o 1 v) known_then led
       come = calls_come_to K V same (past history) v known_then led (calls_step K V same hash (past history) known s old at all map i new u there_is said leads) (named i) o 1 ended asks still
 
       counted : (moment (step refused ∷ history)).events ≡ suc (length history)
       counted = let before = all.dues.history.past.counted in omega (arith, before)
 
-      pub steps_answer : ShowsAnswers same (past (step refused ∷ history)) (moment (step refused ∷ history)) known_then led
+      pub steps_answer : RefinesAnswers same (past (step refused ∷ history)) (moment (step refused ∷ history)) known_then led
       steps_answer =
           entries_are_over same (past history) known_then led (come_to (named i) o 1 (worked (step refused) m)) (after (step refused) m)
-          (subst (λ (x : Moment K V). ShowsAnswers same (past history) (come_to (named i) o 1 x) known_then led) worked_is come) refl counted
+          (subst (λ (x : Moment K V). RefinesAnswers same (past history) (come_to (named i) o 1 x) known_then led) worked_is come) refl counted

@@ -2,16 +2,16 @@
 use Rattle.std.specs.Prelude.{◌≡◌, ℕ, Bool, true, false, List, Option, Some, Ok}
 use Rattle.std.proofs.Common.{refl, ap, sym, ◌∙◌}
 use Rattle.run_schedules.specs.Given.SeizeWordsDeclared.fault.Fault.TheVariants.{Memory}
-use Rattle.run_grows.specs.Given.SeizeWorld.{Rests}
-use Rattle.run_grows.specs.Given.SweepsSweepPoints.{after_next}
+use Rattle.seize_acts.specs.Given.SeizeWorld.{Rests}
+use Rattle.run_logged.specs.Given.SweepsSweepPoints.{after_next}
 use Rattle.play_lists.specs.Given.TablesDeclared.node.Node.{Node}
-use Rattle.run_grows.specs.Given.RawMachine.{machine_replied}
-use Rattle.run_grows.specs.Given.RawDeclared.machines.progress.Progress.{Progress}
-use Rattle.run_grows.specs.Given.PointsFactsCalls.{Unchanged}
-use Rattle.run_grows.specs.Given.CallersOverAll.{CallOverAll, gone_on}
-use Rattle.run_grows.specs.Given.CallersRooms.{CallForRoom}
-use Rattle.run_grows.specs.Given.CallersTogether.{CallOnKey, Counting, ForRoom, OnKey, OverAll, UnderWay}
-use Rattle.play_lists.specs.Given.FinishesMachines.{ToldOfKind, machine_of}
+use Rattle.run_logged.specs.Given.RawMachine.{machine_replied}
+use Rattle.run_logged.specs.Given.RawDeclared.machines.progress.Progress.{Progress}
+use Rattle.run_logged.specs.Given.PointsFactsCalls.{Unchanged}
+use Rattle.run_logged.specs.Given.CallersOverAll.{CallOverAll, gone_on}
+use Rattle.run_logged.specs.Given.CallersRooms.{CallForRoom}
+use Rattle.run_logged.specs.Given.CallersTogether.{CallOnKey, Counting, ForRoom, OnKey, OverAll, UnderWay}
+use Rattle.play_lists.specs.Given.FinishesMachines.{RepliedOfKind, machine_of}
 use Rattle.play_lists.specs.Given.FinishesMaps.{Standing, with_call as with_call_of}
 use Rattle.run_schedules.specs.Runs.Same.{is_same}
 use Rattle.run_schedules.specs.declared.call.Call.{Call}
@@ -23,7 +23,7 @@ use Rattle.run_schedules.specs.declared.outcome.Outcome.TheVariants.{Refused}
 use Rattle.run_schedules.specs.Schedules.Beginning.{with_call}
 use Rattle.run_schedules.specs.Schedules.Effects.{with_effects}
 use Rattle.run_schedules.specs.Schedules.Entry.{ends_call}
-use Rattle.run_schedules.specs.Schedules.Moment.{Asking, Moment, Stands, UnderWay as CallThere}
+use Rattle.run_schedules.specs.Schedules.Moment.{Asking, Moment, CallState, UnderWay as CallThere}
 use Rattle.run_schedules.specs.Schedules.Transition.{Past}
 use Rattle.run_schedules.specs.Schedules.Views.{call_of}
 use Rattle.play_lists.specs.Given.EffectsEffects.{effects_of, known_after}
@@ -36,15 +36,15 @@ use Rattle.play_lists.specs.Given.ScenesScene.{Scene, slot_of}
 use Rattle.play_lists.specs.Given.ScenesStepping.{StepLeads, scene_after}
 use Rattle.play_lists.specs.Given.FollowsCalling.{NoneNamed, come_to, told}
 use Rattle.play_lists.specs.Given.FollowsCalls.{IsCalled}
-use Rattle.run_grows.specs.Given.HandsAsked.{as_told}
-use Rattle.run_grows.specs.Given.HandsCalling.{AsksJust, IsBegunFor}
+use Rattle.run_logged.specs.Given.HandsAsked.{reply_to_machine}
+use Rattle.run_logged.specs.Given.HandsCalling.{AsksJust, IsBegunFor}
 use Rattle.play_lists.specs.Given.OthersWalks.{given_up}
-use Rattle.run_grows.proofs.Given.MomentsCalls.{calls_begin_whole, calls_come_to_whole, calls_keep_whole, calls_take_whole}
-use Rattle.run_grows.proofs.Given.MomentsWalks.{walks_go_on_whole, walks_stop_whole}
+use Rattle.run_logged.proofs.Given.MomentsCalls.{calls_begin_whole, calls_come_to_whole, calls_keep_whole, calls_take_whole}
+use Rattle.run_logged.proofs.Given.MomentsWalks.{walks_go_on_whole, walks_stop_whole}
 use Rattle.play_lists.specs.Given.HistoriesAsCalled.{AsksAsCalled, IsBegunAs}
-use Rattle.run_grows.specs.Given.ChangesChanges.{IsTaken}
-use Rattle.run_grows.specs.Given.ChangesHistories.{began_of}
-use Rattle.play_lists.specs.Given.HistoriesQuestions.{AsksStill, ShowsQuestions}
+use Rattle.run_logged.specs.Given.ChangesChanges.{IsTaken}
+use Rattle.run_logged.specs.Given.ChangesHistories.{began_of}
+use Rattle.play_lists.specs.Given.HistoriesQuestions.{AsksStill, AllHaveAskedJust}
 use Rattle.play_lists.proofs.Given.HistoriesAside.Stays.{as_called_stays, dues_stay}
 use Rattle.play_lists.proofs.Given.HistoriesCalling.{first_steps_change_first}
 use Rattle.play_lists.proofs.Given.HistoriesDue.{calls_keep_due}
@@ -56,7 +56,7 @@ use Rattle.play_lists.proofs.Given.KeptBetween.{calls_begin_kept, calls_take_kep
 use Rattle.play_lists.proofs.Given.KeptCalls.{calls_keep_kept}
 use Rattle.play_lists.proofs.Given.KeptStays.{calls_come_to_kept}
 use Rattle.run_schedules.specs.Deeds.Deeds.{named}
-use Rattle.play_linear.specs.Linear.Shown.{ShowsAnswers}
+use Rattle.play_linear.specs.Linear.Shown.{RefinesAnswers}
 
 -- A call begins now, and has changed nothing.
 module _ {K V : Type 0} (same : K → K → Bool) (standing : Standing K) (i : ℕ) where
@@ -74,19 +74,19 @@ module _ {K V : Type 0} (same : K → K → Bool) (standing : Standing K) (i : �
 
 -- where one is given up, what others have asked is as it was
 module _ {K V : Type 0} (own : List ℕ) (m : Moment K V) where
-  asks_still : (st : Stands) → AsksStill {V = V} st (Refused Memory)
+  asks_still : (st : CallState) → AsksStill {V = V} st (Refused Memory)
   asks_still (Asking question) = λ goes. goes
   asks_still _ = tt
 
-  given_questions : (q : Bool) → ShowsQuestions m → ShowsQuestions (given_up own q m)
+  given_questions : (q : Bool) → AllHaveAskedJust m → AllHaveAskedJust (given_up own q m)
   given_questions true questions = calls_come_to_questions K V own (Refused Memory) 0 m questions (λ c c_is. asks_still c.stands)
   given_questions false questions = questions
 
 module _ (K V : Type 0) (same : K → K → Bool) (hash : ℕ → K → ℕ) (log : Past K V) (known : Known) (s : Scene K V) (old : Held K V) (at : IsAt same hash old s) where
-  module _ (all : ShowsAnswers same log log.now known s) (map i : ℕ) where
+  module _ (all : RefinesAnswers same log log.now known s) (map i : ℕ) where
     pub calls_begin : (new : Held K V) (standing : Standing K) → s.maps map ≡ Some standing → (u : UnderWay K V K) (call : Call K V) (guard : List ℕ) → Begins same standing i u → IsCalled same u call
         → IsBegunFor u call → IsBegunAs u call → NoneNamed named (named i) s → s.world.row i ≡ Rests → IsAt same hash new (scene_with map i u s)
-        → ShowsAnswers same log (with_call (named i) guard call (Some map) log.now) known (scene_with map i u s)
+        → RefinesAnswers same log (with_call (named i) guard call (Some map) log.now) known (scene_with map i u s)
     calls_begin new standing there u call guard begins called given swept none rests at2 =
         let whole = calls_begin_whole K V same named log.now known s all.whole map i u call guard none called given rests in
         record {
@@ -101,7 +101,7 @@ module _ (K V : Type 0) (same : K → K → Bool) (hash : ℕ → K → ℕ) (lo
     -- after the step of a call, whoever's
     pub calls_step : (new : Held K V) (u : UnderWay K V K) (here : s.calls map i ≡ Some u) (said : Progress (Node K V)) (leads : StepLeads same hash i said s old new)
         → (let to = leads map u here in
-        ShowsAnswers same log (with_effects (Some (named i)) (Some map) (effects_of (acts.Call i map) known new.changed) log.now) (known_after (acts.Call i map) new.changed known)
+        RefinesAnswers same log (with_effects (Some (named i)) (Some map) (effects_of (acts.Call i map) known new.changed) log.now) (known_after (acts.Call i map) new.changed known)
         (scene_after same s old new map i to.0 u to.1 said to.4))
     calls_step new u here said leads = record {
       whole = calls_keep_whole K V same hash named log.now known s old new at all.whole map i u here said leads;
@@ -112,18 +112,18 @@ module _ (K V : Type 0) (same : K → K → Bool) (hash : ℕ → K → ℕ) (lo
       questions = effects_keep_questions K V (Some (named i)) (Some map) (effects_of (acts.Call i map) known new.changed) log.now all.questions;
     }
 
-  module _ (m : Moment K V) (all : ShowsAnswers same log m known s) where
+  module _ (m : Moment K V) (all : RefinesAnswers same log m known s) where
     -- where one that asks takes a reply that such a call takes
     pub calls_take : (new : Held K V) (map i : ℕ) (u : UnderWay K V K) → s.calls map i ≡ Some u → (c : CallThere K V) → call_of (named i) m ≡ Some c → (question : Option ℕ) → c.stands ≡ Asking question
         → (standing : Standing K) → s.maps map ≡ Some standing → (is_told : Reply V) (next : UnderWay K V K)
-        → machine_of next ≡ (machine_replied (machine_of u) (as_told is_told)).0 → (machine_replied (machine_of u) (as_told is_told)).1 ≡ Ok tt
-        → ToldOfKind V same same old.batch_size old.roots slot_of standing i u (as_told is_told) next → ((one : OneKey K V) → c.call ≡ On one → IsTaken one is_told)
-        → IsAt same hash new (scene_with map i next s) → ShowsAnswers same log (told (named i) is_told m) known (scene_with map i next s)
+        → machine_of next ≡ (machine_replied (machine_of u) (reply_to_machine is_told)).0 → (machine_replied (machine_of u) (reply_to_machine is_told)).1 ≡ Ok tt
+        → RepliedOfKind V same same old.batch_size old.roots slot_of standing i u (reply_to_machine is_told) next → ((one : OneKey K V) → c.call ≡ On one → IsTaken one is_told)
+        → IsAt same hash new (scene_with map i next s) → RefinesAnswers same log (told (named i) is_told m) known (scene_with map i next s)
     calls_take new map i u here c c_is question asks standing there is_told next next_is takes told_kind taken at2 =
         let whole = calls_take_whole K V same hash named m known s old at all.whole map i u here c c_is question asks standing there is_told next next_is takes told_kind in
         record {
           whole = whole;
-          kept = calls_take_kept K V same hash named m known s old new at all.whole all.kept map i u here (as_told is_told) next next_is is_told at2 whole.all.shown;
+          kept = calls_take_kept K V same hash named m known s old new at all.whole all.kept map i u here (reply_to_machine is_told) next next_is is_told at2 whole.all.shown;
           dues = calls_take_due K V same hash named log m known s old at all.dues map i u here c c_is question asks standing there is_told next next_is takes told_kind taken;
           as_called = calls_take_as_called K V same hash named m known s old at all.whole all.as_called map i u here c c_is question asks standing there is_told next next_is takes told_kind;
           questions = calls_take_questions K V (named i) is_told m all.questions;
@@ -131,7 +131,7 @@ module _ (K V : Type 0) (same : K → K → Bool) (hash : ℕ → K → ℕ) (lo
 
     -- where a walk that is ready is asked for its next pair
     pub walks_go_on : (new : Held K V) (i : ℕ) (leads : AskLeads same hash i true s old new) (map : ℕ) (o : CallOverAll) (here : s.calls map i ≡ Some (OverAll o))
-        → (leads map (OverAll o) here).0 ≡ OverAll (gone_on o (after_next o.sweep)) → ShowsAnswers same log m known (scene_with map i (leads map (OverAll o) here).0 s)
+        → (leads map (OverAll o) here).0 ≡ OverAll (gone_on o (after_next o.sweep)) → RefinesAnswers same log m known (scene_with map i (leads map (OverAll o) here).0 s)
     walks_go_on new i leads map o here is = record {
       whole = walks_go_on_whole K V same hash named m known s old new all.whole i leads map (OverAll o) here;
       kept = walks_go_on_kept K V same hash named m known s old new all.whole all.kept i leads map (OverAll o) here;
@@ -143,7 +143,7 @@ module _ (K V : Type 0) (same : K → K → Bool) (hash : ℕ → K → ℕ) (lo
     -- or is given up, and no call that is under way then has its name
     pub walks_stop : (new : Held K V) (i : ℕ) (stopped : Bool) → StopLeads same hash i stopped s old new → (map : ℕ) (u : UnderWay K V K) → s.calls map i ≡ Some u
         → (let after = record s { calls = with_call_of s.calls map i (unless_stopped stopped u) } in
-        (stopped ≡ true → NoneNamed named (named i) after) → ShowsAnswers same log (given_up (named i) stopped m) known after)
+        (stopped ≡ true → NoneNamed named (named i) after) → RefinesAnswers same log (given_up (named i) stopped m) known after)
     walks_stop new i stopped leads map u here none = record {
       whole = walks_stop_whole K V same hash named m known s old new all.whole i stopped leads map u here none;
       kept = walks_stop_kept K V same hash named m known s old new at all.whole all.kept i stopped leads map u here none;
@@ -153,11 +153,11 @@ module _ (K V : Type 0) (same : K → K → Bool) (hash : ℕ → K → ℕ) (lo
     }
 
 -- where a call comes to an outcome, if it asks as it was called, and does not go on by itself while it asks
-pub calls_come_to : (K V : Type 0) (same : K → K → Bool) (log : Past K V) (m : Moment K V) (known : Known) (s : Scene K V) → ShowsAnswers same log m known s
+pub calls_come_to : (K V : Type 0) (same : K → K → Bool) (log : Past K V) (m : Moment K V) (known : Known) (s : Scene K V) → RefinesAnswers same log m known s
     → (own : List ℕ) (outcome : Outcome V) (steps : ℕ) → (ends_call outcome ≡ true → NoneNamed named own s)
     → ((map i : ℕ) (u : UnderWay K V K) → s.calls map i ≡ Some u → is_same (named i) own ≡ true → AsksJust known u outcome × AsksAsCalled known u outcome)
     → ((c : CallThere K V) → call_of own m ≡ Some c → AsksStill c.stands outcome)
-    → ShowsAnswers same log (come_to own outcome steps m) known s
+    → RefinesAnswers same log (come_to own outcome steps m) known s
 calls_come_to K V same log m known s all own outcome steps ended asks still = record {
   whole = calls_come_to_whole K V same named m known s all.whole own outcome steps ended (λ map i u is its. (asks map i u is its).0);
   kept = calls_come_to_kept K V same named m known s all.whole all.kept own outcome steps ended;

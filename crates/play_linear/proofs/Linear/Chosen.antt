@@ -1,19 +1,19 @@
 -- A choice of a number comes: the moment shows the scene as before, and maps come and go as before.
 use Rattle.std.specs.Prelude.{ℕ, Bool, Option}
-use Rattle.play_lists.specs.Given.FollowsShows.{Shows}
+use Rattle.play_lists.specs.Given.FollowsShows.{Refines}
 use Rattle.run_schedules.specs.Schedules.Moment.{Moment}
 use Rattle.run_schedules.specs.Schedules.Transition.{Past}
 use Rattle.play_lists.specs.Given.EffectsKnown.{Known}
-use Rattle.play_lists.proofs.Given.LoggedChoosing.{kept_then, whole_then}
+use Rattle.run_logged.proofs.Log.Choosing.{kept_then, whole_then}
 use Rattle.play_lists.specs.Given.ActsDoings.{scene_chosen}
 use Rattle.run_schedules.specs.Deeds.Deeds.{named}
 use Rattle.play_linear.specs.Linear.Coming.{MapsComeAndGo}
-use Rattle.play_linear.specs.Linear.Shown.{ShowsAnswers}
+use Rattle.play_linear.specs.Linear.Shown.{RefinesAnswers}
 use Rattle.play_lists.specs.Played.Play.{Ending}
 use Rattle.play_lists.specs.Given.ScenesScene.{Scene}
 
-module _ {K V : Type 0} (same : K → K → Bool) (choice : ℕ) (log : Past K V) (m : Moment K V) (known : Known) (s : Scene K V) (so : ShowsAnswers same log m known s) where
-  abbrev pub shown_chosen : Shows same named m known s → Shows same named m known (scene_chosen choice s)
+module _ {K V : Type 0} (same : K → K → Bool) (choice : ℕ) (log : Past K V) (m : Moment K V) (known : Known) (s : Scene K V) (so : RefinesAnswers same log m known s) where
+  abbrev pub shown_chosen : Refines same named m known s → Refines same named m known (scene_chosen choice s)
   shown_chosen shows = record {
     blocks = (whole_then choice same named m known s so.whole).all.shown.blocks;
     number = shows.number;
@@ -21,7 +21,7 @@ module _ {K V : Type 0} (same : K → K → Bool) (choice : ℕ) (log : Past K V
     calls = shows.calls;
   }
 
-  pub shows_chosen : ShowsAnswers same log m known (scene_chosen choice s)
+  pub shows_chosen : RefinesAnswers same log m known (scene_chosen choice s)
   shows_chosen = record {
     whole = whole_then choice same named m known s so.whole;
     kept = kept_then choice named m known s so.kept;

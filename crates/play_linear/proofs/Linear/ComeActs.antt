@@ -3,21 +3,21 @@ use Rattle.std.specs.Prelude.{◌≡◌, ◌≢◌, ◌⊎◌, ◌+◌, ℕ, Boo
 use Rattle.std.proofs.Common.{refl, ap, sym, subst, ◌∙◌, arith, inl, inr}
 use Rattle.std.proofs.lemmas.Bool.{cases_eq}
 use Rattle.seize_acts.specs.Acts.Answers.{Grant}
-use Rattle.run_grows.specs.Given.SeizeWorld.{Row, World, with_at}
-use Rattle.run_grows.specs.Given.SeizeDeclared.advance.Advance.{Advance}
-use Rattle.run_grows.specs.Given.SeizeDeclared.advance.Advance.TheVariants as progress
-use Rattle.run_grows.specs.Given.SeizeDeclared.rows.settle.Settled.{Settled}
-use Rattle.run_grows.specs.Given.SeizeDeclared.rows.settle.Settled.TheVariants as settled
+use Rattle.seize_acts.specs.Given.SeizeWorld.{Row, World, with_at}
+use Rattle.seize_acts.specs.Given.SeizeDeclared.advance.Advance.{Advance}
+use Rattle.seize_acts.specs.Given.SeizeDeclared.advance.Advance.TheVariants as progress
+use Rattle.seize_acts.specs.Given.SeizeDeclared.rows.settle.Settled.{Settled}
+use Rattle.seize_acts.specs.Given.SeizeDeclared.rows.settle.Settled.TheVariants as settled
 use Rattle.play_lists.specs.Given.TablesDeclared.node.Node.{Node}
 use Rattle.play_lists.specs.Given.TablesDeclared.setting.Setting.{Setting}
 use Rattle.play_lists.specs.Given.EffectsDeclared.changed.Changed.{Changed}
-use Rattle.run_grows.specs.Given.ResizeNewMap.{new_map_plan}
-use Rattle.run_grows.specs.Given.ResizeDeclared.new_map.NewMap.{NewMap}
+use Rattle.run_logged.specs.Given.ResizeNewMap.{new_map_plan}
+use Rattle.run_logged.specs.Given.ResizeDeclared.new_map.NewMap.{NewMap}
 use Rattle.run_schedules.specs.Given.RawEndMap.{ending}
 use Rattle.play_lists.specs.Given.FinishesEndings.{Finishing, finishing_of}
 use Rattle.play_lists.specs.Given.FinishesMakings.{Beginning}
 use Rattle.play_lists.specs.Given.FinishesMaps.{Standing}
-use Rattle.run_grows.proofs.Given.CallersTogether.At.{at_other, at_same}
+use Rattle.run_logged.proofs.Given.CallersTogether.At.{at_other, at_same}
 use Rattle.play_lists.proofs.Given.ScenesMay.{may_make}
 use Rattle.play_lists.specs.Given.ScenesHeld.{Held, IsAt}
 use Rattle.play_lists.specs.Given.ScenesMaking.{MakingLeads, making_begun}
@@ -26,22 +26,22 @@ use Rattle.run_schedules.specs.Schedules.Moment.{Moment}
 use Rattle.play_lists.specs.Given.EffectsEffects.{effects_of, known_after}
 use Rattle.play_lists.specs.Given.EffectsKnown.{Known}
 use Rattle.play_lists.specs.Given.EffectsDeclared.acting.Acting.TheVariants as acts
-use Rattle.play_lists.specs.Given.FollowsShows.{Shows}
-use Rattle.run_grows.specs.Given.MomentsNumbers.{MapsAreBelow}
-use Rattle.run_grows.specs.Given.MomentsWhole.{ShowsWhole}
+use Rattle.play_lists.specs.Given.FollowsShows.{Refines}
+use Rattle.run_logged.specs.Given.MomentsNumbers.{MapsAreBelow}
+use Rattle.run_logged.specs.Given.MomentsWhole.{RefinesWhole}
 use Rattle.play_lists.proofs.Given.FollowsOperations.{Operated, operated}
 use Rattle.play_lists.proofs.Given.RuleLaws.{current_is_known}
-use Rattle.play_lists.specs.Given.LoggedEnds.{NotesMap}
+use Rattle.run_logged.specs.Log.Ends.{NotesMap}
 use Rattle.play_lists.proofs.Given.RemainsNumbered.{more_are_counted}
 use Rattle.play_lists.specs.Given.ActsActs.{Act, Answer, OfEnding, OfMaking, StepsCall, BeginsMaking, StepsMaking, BeginsEnding, StepsEnding, StepsRow}
-use Rattle.play_lists.specs.Given.ActsAsSteps.{LeadsAs, changed_by, held_in, row_changed, row_told}
+use Rattle.play_lists.specs.Given.ActsAsSteps.{LeadsAs, changed_by, held_in, row_changed, outcome_of_row_step}
 use Rattle.play_lists.specs.Given.ActsLeads.{EndingCame, Led, MakingCame}
 use Rattle.run_schedules.specs.Deeds.Deeds.{Entry, Steps, acted_on, map_of_call, moment, named}
 use Rattle.play_lists.specs.Played.Play.{Ending, Making, Now, State, ending_stepped, is_refusal, made_on, making_deed, making_outcome, outcome_of, row_outcome, row_stepped, settled_outcome}
 use Rattle.play_lists.specs.Played.Reached.{IsOf, row_or_rests}
 use Rattle.play_lists.proofs.Played.Noted.{CallsAreNoted}
 use Rattle.play_lists.proofs.Played.PlayedAs.{PlayedAs}
-use Rattle.run_grows.specs.Given.NamedSeen.{kind_of}
+use Rattle.run_logged.specs.Given.NamedSeen.{kind_of}
 use Rattle.play_linear.specs.Linear.Coming.{Comes, Goes, IsByNewNumber, IsGone, MapsComeAndGo}
 use Rattle.play_linear.proofs.Linear.AsideActs.{IsQuiet, aside_quiet, call_steps_aside, quiet_led, quiet_played, row_steps_aside}
 use Rattle.play_linear.proofs.Linear.Below.{BeginsBelow, acts_stay_below, more_below}
@@ -50,10 +50,10 @@ use Rattle.play_linear.proofs.Linear.Going.{goes_alike, goes_beside}
 use Rattle.play_linear.proofs.Linear.Gone.{BeginsOther, acts_leave_gone}
 use Rattle.play_linear.proofs.Linear.MakesRight.{made_coming, made_names, made_numbers}
 use Rattle.play_lists.proofs.Played.Tied.{EndingTied, MakingTied, call_tied, ending_tied, making_tied}
-use Rattle.run_grows.proofs.Given.General.{same_some}
+use Rattle.run_schedules.proofs.Given.General.{same_some}
 
 -- What is noted of a map that stands.
-module _ {K V : Type 0} (same : K → K → Bool) (hash : ℕ → K → ℕ) (old : Held K V) (m : Moment K V) (known : Known) (s : Scene K V) (at : IsAt same hash old s) (shown : Shows same named m known s) (map : ℕ) (standing : Standing K)
+module _ {K V : Type 0} (same : K → K → Bool) (hash : ℕ → K → ℕ) (old : Held K V) (m : Moment K V) (known : Known) (s : Scene K V) (at : IsAt same hash old s) (shown : Refines same named m known s) (map : ℕ) (standing : Standing K)
     (there : s.maps map ≡ Some standing) where
   pub notes_map : NotesMap map (shown.number map) known standing.setting standing.chart standing.blocks
   notes_map =
@@ -74,7 +74,7 @@ module _ {K V S : Type 0} where
   made_enders b i machine (progress.Refused fault) now = refl
 
 module _ {K V S : Type 0} (same : K → K → Bool) (by_hasher : S → K → ℕ) (hash : ℕ → K → ℕ) (batch_size roots : ℕ) (aborts : ℕ → V) (x y : State K V S) (s n : Scene K V) (rows : ℕ → Row) (is : IsOf by_hasher s rows x.now)
-    (before : Changed) (at : IsAt same hash (held_in batch_size roots before s) s) (whole : ShowsWhole same named (moment x.history) x.known s) (so : MapsComeAndGo (moment x.history) x.known x.now.enders s) (told : Answer K V) where
+    (before : Changed) (at : IsAt same hash (held_in batch_size roots before s) s) (whole : RefinesWhole same named (moment x.history) x.known s) (so : MapsComeAndGo (moment x.history) x.known x.now.enders s) (told : Answer K V) where
   abbrev old : Held K V
   old = held_in batch_size roots before s
 
@@ -132,7 +132,7 @@ module _ {K V S : Type 0} (same : K → K → Bool) (by_hasher : S → K → ℕ
       let change : row_changed (row_of row) g x.now.memory ≡ new.changed = ap (row_changed (row_of row) g) of.memory ∙ ap (λ (r : Row). row_changed r g s.world.memory) (sym there) in
       subst Here (sym (y_is ∙ ap (λ (c : Changed). row_stepped i row c x end) change))
       (row_steps_aside same hash m x.known x.now.enders s n old new whole so at at2 (below act tt led) (gone act (λ k. tt) led) (ap (λ (z : Scene K V). z.makers) (goes row here)) (ap (λ (z : Scene K V). z.enders) (goes row here))
-      (row_outcome end.1.1) (is_refusal new.changed) i row here (row_told (s.world.row i) g s.world.memory) leads)
+      (row_outcome end.1.1) (is_refusal new.changed) i row here (outcome_of_row_step (s.world.row i) g s.world.memory) leads)
 
   -- A making begins, of a map that is unknown and of which no end is under way,
   pub making_begins_come : (i map : ℕ) (hasher : S) (given : Setting) (places : ℕ) → IsByNewNumber x (BeginsMaking i map hasher given places)

@@ -20,10 +20,10 @@ use Rattle.play_lists.specs.Given.EffectsDeclared.acting.Acting.{Acting}
 use Rattle.play_lists.specs.Given.EffectsDeclared.acting.Acting.TheVariants as acts
 use Rattle.play_lists.specs.Given.EffectsDeclared.role.Role.TheVariants as role
 use Rattle.play_lists.specs.Given.OthersMakings.{IsNew}
-use Rattle.run_grows.specs.Given.SpotsUnreclaimed.{ShowsUnreclaimed}
+use Rattle.run_logged.specs.Given.SpotsUnreclaimed.{RefinesUnreclaimed}
 use Rattle.play_lists.proofs.Given.OthersEndBegins.{found_still}
 use Rattle.play_lists.proofs.Given.OthersRowPlans.{TellsRow}
-use Rattle.run_grows.proofs.Given.MomentsNumbers.{found_of}
+use Rattle.run_logged.proofs.Given.MomentsNumbers.{found_of}
 use Rattle.play_lists.proofs.Agrees.Elsewhere.{SameOf, acting_elsewhere, effects_elsewhere, rows_elsewhere}
 use Rattle.run_schedules.specs.Deeds.Deeds.{come, named, without_map}
 use Rattle.play_lists.specs.Played.Play.{has_root}
@@ -93,7 +93,7 @@ module _ (map : ℕ) (t : TableId) (here : t.map ≡ map) where
           let other : (u.table.map == t.map) ≡ false = ap (λ (k : ℕ). u.table.map == k) here ∙ e in
           later is (sym (ap (λ (q : Bool). ((q && (u.table.turn == t.turn)) && is_there u.stage) || list_any (λ v. same_table v.table t && is_there v.stage) us) other) ∙ any)
 
-module _ {K V : Type 0} (m : Moment K V) (known : Known) (held : ShowsUnreclaimed m known) (map : ℕ) (none : tables_of map m ≡ []) where
+module _ {K V : Type 0} (m : Moment K V) (known : Known) (held : RefinesUnreclaimed m known) (map : ℕ) (none : tables_of map m ≡ []) where
   pub no_table_of : (b : ℕ) (t : TableId) (len : ℕ) → known.roles b ≡ role.Table t len → t.map ≢ map
   no_table_of b t len is here = none_so map t here m.tables none (held.tables b len t is)
 

@@ -8,8 +8,8 @@ use Rattle.std.proofs.lemmas.List.Elements.{All-append, All-cons}
 use Rattle.std.proofs.lemmas.List.Folds.{find-append}
 use Rattle.run_schedules.specs.Schedules.Moment.{MapThere, Moment, TableThere}
 use Rattle.run_schedules.specs.Schedules.Views.{map_at}
-use Rattle.run_grows.specs.Given.MomentsNumbers.{AreFound}
-use Rattle.run_grows.proofs.Given.MomentsNumbers.{maps_go}
+use Rattle.run_logged.specs.Given.MomentsNumbers.{AreFound}
+use Rattle.run_logged.proofs.Given.MomentsNumbers.{maps_go}
 use Rattle.play_lists.specs.Given.RemainsNumbered.{NumbersUpTo}
 use Rattle.run_schedules.specs.Deeds.Deeds.{come, named, without_map}
 

@@ -3,18 +3,18 @@ use Rattle.std.specs.Prelude.{◌≡◌, ◌≢◌, ◌⊎◌, ℕ, Bool, true, 
 use Rattle.std.proofs.Common.{refl, ap, sym, subst, ◌∙◌, inl, inr}
 use Rattle.std.proofs.lemmas.Bool.{cases_eq}
 use Rattle.std.proofs.lemmas.List.{append-nil}
-use Rattle.run_grows.specs.Given.SeizeWorld.{World, times, with_at}
-use Rattle.run_grows.specs.Given.SeizeDeclared.rows.settle.Settled.{Settled}
-use Rattle.run_grows.specs.Given.SeizeDeclared.rows.settle.Settled.TheVariants as settled
+use Rattle.seize_acts.specs.Given.SeizeWorld.{World, times, with_at}
+use Rattle.seize_acts.specs.Given.SeizeDeclared.rows.settle.Settled.{Settled}
+use Rattle.seize_acts.specs.Given.SeizeDeclared.rows.settle.Settled.TheVariants as settled
 use Rattle.play_lists.specs.Given.TablesDeclared.node.Node.{Node}
 use Rattle.run_schedules.specs.Given.RawEndMap.{end_map_plan}
-use Rattle.run_grows.specs.Given.RawDeclared.machines.end_map.EndMap.{EndMap}
+use Rattle.run_logged.specs.Given.RawDeclared.machines.end_map.EndMap.{EndMap}
 use Rattle.play_lists.specs.Given.FinishesEndings.{Finishing, waiting_by}
 use Rattle.play_lists.specs.Given.FinishesFactsEnds.{Deed as FactsDeed, taken_by as taken_of}
 use Rattle.play_lists.specs.Given.FinishesMakings.{Beginning}
-use Rattle.run_grows.proofs.Given.CallersTogether.At.{at_other, at_same}
+use Rattle.run_logged.proofs.Given.CallersTogether.At.{at_other, at_same}
 use Rattle.play_lists.proofs.Given.ScenesMay.{may_end}
-use Rattle.play_lists.specs.Given.ScenesEnding.{EndingComesTo, EndingLeads}
+use Rattle.play_lists.specs.Given.ScenesEnding.{EndingHasOutcome, EndingLeads}
 use Rattle.play_lists.specs.Given.ScenesHeld.{Held, IsAt}
 use Rattle.play_lists.specs.Given.ScenesScene.{Scene}
 use Rattle.run_schedules.specs.declared.effect.Effect.{Effect}
@@ -25,13 +25,14 @@ use Rattle.run_schedules.specs.Schedules.Views.{tables_of}
 use Rattle.play_lists.specs.Given.EffectsEffects.{effects_of, known_after, taken_by}
 use Rattle.play_lists.specs.Given.EffectsKnown.{Known}
 use Rattle.play_lists.specs.Given.EffectsDeclared.acting.Acting.TheVariants as acts
-use Rattle.run_grows.specs.Given.MomentsNumbers.{AreFound}
-use Rattle.run_grows.specs.Given.MomentsWhole.{ShowsWhole}
-use Rattle.run_grows.proofs.Given.MomentsAfter.{effects_after}
+use Rattle.run_logged.specs.Given.MomentsNumbers.{AreFound}
+use Rattle.run_logged.specs.Given.MomentsWhole.{RefinesWhole}
+use Rattle.run_logged.proofs.Given.MomentsAfter.{effects_after}
 use Rattle.play_lists.proofs.Given.FollowsOperations.{Operated, operated}
 use Rattle.play_lists.specs.Given.RemainsNumbered.{NumbersUpTo}
-use Rattle.play_lists.specs.Given.LoggedEnds.{NotedStill, ended_as}
-use Rattle.play_lists.proofs.Given.LoggedEndTold.{did_end, noted_on}
+use Rattle.run_logged.specs.Log.Ends.{NotedStill}
+use Rattle.run_sweeps.specs.Given.Ends.{ended_as}
+use Rattle.run_logged.proofs.Log.EndTold.{did_end, noted_on}
 use Rattle.play_lists.proofs.Given.RemainsNumbered.{ends_keep_count}
 use Rattle.play_lists.specs.Given.ActsAsSteps.{EndedTo}
 use Rattle.play_lists.proofs.Agrees.Elsewhere.{SameOf}
@@ -45,7 +46,7 @@ use Rattle.play_linear.proofs.Linear.MapsPlayed.{IsApart}
 use Rattle.play_linear.proofs.Linear.Names.{apart_so}
 use Rattle.play_lists.specs.Agrees.Fresh.{AreNamed}
 use Rattle.play_lists.proofs.Agrees.Names.{effects_named, gone_named}
-use Rattle.run_grows.proofs.Given.General.{same_some}
+use Rattle.run_schedules.proofs.Given.General.{same_some}
 
 -- what ends with a map leaves numbers below the count
 ends_count : {K V : Type 0} (count map : ℕ) (first : Known) (blocks : List ℕ) (m : Moment K V) → NumbersUpTo count m → NumbersUpTo count (with_effects None (Some map) (ended_as map first blocks) m)
@@ -56,7 +57,7 @@ ends_count {K} {V} count map first (b ∷ blocks) m numbers =
 
 -- The end of a map takes its step.
 module _ {K V : Type 0} (same : K → K → Bool) (hash : ℕ → K → ℕ) (m : Moment K V) (known : Known) (enders : ℕ → Option Ending) (s n : Scene K V) (old new : Held K V) (at : IsAt same hash old s)
-    (whole : ShowsWhole same named m known s) (so : MapsComeAndGo m known enders s) (i : ℕ) (e : Ending) (ending : enders i ≡ Some e) (f : Finishing K V) (ends : s.enders i ≡ Some f) (said : Settled (Node K V))
+    (whole : RefinesWhole same named m known s) (so : MapsComeAndGo m known enders s) (i : ℕ) (e : Ending) (ending : enders i ≡ Some e) (f : Finishing K V) (ends : s.enders i ≡ Some f) (said : Settled (Node K V))
     (leads : EndingLeads same hash i said s old new) (gone : (map : ℕ) → IsGone map s → IsGone map n) where
   abbrev effects : List Effect
   effects = effects_of (acts.Ending e.map) known new.changed
@@ -180,7 +181,7 @@ module _ {K V : Type 0} (same : K → K → Bool) (hash : ℕ → K → ℕ) (m 
     abbrev D : FactsDeed
     D = (leads f ends).2.deed
 
-    going_said : (last : EndMap) (p : Settled (Node K V)) (c : EndingComesTo same hash s new i f E W D p) → EndedTo same hash s new i f E W D p c n
+    going_said : (last : EndMap) (p : Settled (Node K V)) (c : EndingHasOutcome same hash s new i f E W D p) → EndedTo same hash s new i f E W D p c n
         → (j : ℕ) (e2 : Ending) → with_at enders i (ended_on e last p) j ≡ Some e2 → (f2 : Finishing K V) → n.enders j ≡ Some f2 → Goes e2.map f2 known_then n
     going_said last settled.Goes c led =
         going_by (Some (record e { machine = last })) (Some (record f { machine = E; back = f.back; waits = f.waits ++ waiting_by D })) (ap (λ (z : Scene K V). z.enders) led)

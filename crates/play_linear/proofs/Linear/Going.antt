@@ -3,7 +3,7 @@ use Rattle.std.specs.Prelude.{◌≡◌, ◌==◌, ℕ, Bool, true, false, Some,
 use Rattle.std.proofs.Common.{refl, ap, sym, subst, ◌∙◌, arith, inl, inr}
 use Rattle.std.proofs.lemmas.Bool.{eq-eqb}
 use Rattle.run_schedules.specs.Given.SeizeWordsMem.{Mem, value_at}
-use Rattle.run_grows.specs.Given.SeizeWorld.{times}
+use Rattle.seize_acts.specs.Given.SeizeWorld.{times}
 use Rattle.play_lists.specs.Given.TablesDeclared.node.Node.{Node}
 use Rattle.play_lists.specs.Given.FinishesEndings.{Finishing, FinishingFacts}
 use Rattle.run_schedules.specs.Schedules.Moment.{Moment}
@@ -12,11 +12,11 @@ use Rattle.play_lists.specs.Given.EffectsKnown.{Known}
 use Rattle.play_lists.specs.Given.EffectsDeclared.acting.Acting.{Acting}
 use Rattle.play_lists.specs.Given.EffectsDeclared.role.Role.{Role}
 use Rattle.play_lists.specs.Given.EffectsDeclared.role.Role.TheVariants as role
-use Rattle.play_lists.specs.Given.FollowsBlocks.{ShowsBlocks}
+use Rattle.play_lists.specs.Given.FollowsBlocks.{RefinesBlocks}
 use Rattle.play_lists.specs.Given.ScenesHeld.{Held, IsAt}
 use Rattle.play_lists.specs.Given.ScenesScene.{Scene}
 use Rattle.play_lists.proofs.Given.FollowsOperations.{LeavesBy, Operated, operated_leaves}
-use Rattle.play_lists.specs.Given.LoggedEnds.{NotedStill, NotesMap}
+use Rattle.run_logged.specs.Log.Ends.{NotedStill, NotesMap}
 use Rattle.play_linear.specs.Linear.Coming.{Goes, IsGone, IsItsBlock}
 use Rattle.play_linear.proofs.Linear.Lasting.{IsLasting, lasting_there, lasts}
 
@@ -56,7 +56,7 @@ module _ {K V : Type 0} (map : ℕ) (f : Finishing K V) (known : Known) (s : Sce
   goes_alike n gone = record { gone = gone; number = so.number; first = so.first; notes = so.notes; still = so.still }
 
   -- Who acts may be anybody else.
-  module _ (same : K → K → Bool) (hash : ℕ → K → ℕ) (m : Moment K V) (n : Scene K V) (old new : Held K V) (at : IsAt same hash old s) (at2 : IsAt same hash new n) (shown : ShowsBlocks m known s.world)
+  module _ (same : K → K → Bool) (hash : ℕ → K → ℕ) (m : Moment K V) (n : Scene K V) (old new : Held K V) (at : IsAt same hash old s) (at2 : IsAt same hash new n) (shown : RefinesBlocks m known s.world)
       (op : Operated old.memory new.memory new.changed) (its : Acting) (j : ℕ) (ends : s.enders j ≡ Some f) (ends2 : n.enders j ≡ Some f) where
     left : LeavesBy s.world.memory n.world.memory new.changed
     left =

@@ -2,20 +2,20 @@
 use Rattle.std.specs.Prelude.{◌≡◌, ◌⊎◌, ◌≢◌, ℕ, Bool, Option, Some, None, option_map}
 use Rattle.std.proofs.Common.{ap, sym, subst, ◌∙◌, inl, inr}
 use Rattle.std.proofs.lemmas.Bool.{cases_eq}
-use Rattle.run_grows.specs.Given.SeizeWorld.{World, with_at}
-use Rattle.run_grows.specs.Given.SeizeDeclared.advance.Advance.{Advance}
-use Rattle.run_grows.specs.Given.SeizeDeclared.advance.Advance.TheVariants as progress
-use Rattle.run_grows.specs.Given.SeizeDeclared.rows.settle.Settled.{Settled}
-use Rattle.run_grows.specs.Given.SeizeDeclared.rows.settle.Settled.TheVariants as settled
+use Rattle.seize_acts.specs.Given.SeizeWorld.{World, with_at}
+use Rattle.seize_acts.specs.Given.SeizeDeclared.advance.Advance.{Advance}
+use Rattle.seize_acts.specs.Given.SeizeDeclared.advance.Advance.TheVariants as progress
+use Rattle.seize_acts.specs.Given.SeizeDeclared.rows.settle.Settled.{Settled}
+use Rattle.seize_acts.specs.Given.SeizeDeclared.rows.settle.Settled.TheVariants as settled
 use Rattle.play_lists.specs.Given.TablesDeclared.node.Node.{Node}
 use Rattle.play_lists.specs.Given.TablesDeclared.setting.Setting.{Setting}
-use Rattle.run_grows.specs.Given.ResizeDeclared.new_map.NewMap.{NewMap}
-use Rattle.run_grows.specs.Given.RawDeclared.machines.end_map.EndMap.{EndMap}
+use Rattle.run_logged.specs.Given.ResizeDeclared.new_map.NewMap.{NewMap}
+use Rattle.run_logged.specs.Given.RawDeclared.machines.end_map.EndMap.{EndMap}
 use Rattle.play_lists.specs.Given.FinishesEndings.{Finishing}
 use Rattle.play_lists.specs.Given.FinishesFactsEnds.{Deed}
 use Rattle.play_lists.specs.Given.FinishesMakings.{Beginning}
 use Rattle.play_lists.specs.Given.FinishesMaps.{IsSameMap, Standing}
-use Rattle.run_grows.proofs.Given.CallersTogether.At.{at_other, at_same}
+use Rattle.run_logged.proofs.Given.CallersTogether.At.{at_other, at_same}
 use Rattle.play_lists.proofs.Given.ScenesGoes.{same_map_keeps}
 use Rattle.play_lists.specs.Given.ScenesMaking.{making_begun}
 use Rattle.play_lists.specs.Given.ScenesScene.{Scene, slot_of}
@@ -23,7 +23,7 @@ use Rattle.play_lists.specs.Given.ActsActs.{Act, Answer, BeginsCall, StepsCall, 
 use Rattle.play_lists.specs.Given.ActsLeads.{EndingCame, Led, MakingCame}
 use Rattle.play_linear.specs.Linear.Coming.{IsGone}
 use Rattle.play_linear.proofs.Linear.Below.{called_settings}
-use Rattle.run_grows.proofs.Given.General.{none_mapped as nothing_told, same_some}
+use Rattle.run_schedules.proofs.Given.General.{none_mapped as nothing_told, same_some}
 
 -- a making that begins is of another map
 abbrev pub BeginsOther : {K V S : Type 0} → ℕ → Act K V S → Type 0

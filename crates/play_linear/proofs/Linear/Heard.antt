@@ -1,22 +1,22 @@
 -- What a moment says that a caller's call was told, and whether it asks, while the call keeps its value and may take a reply: after each kind of entry.
 use Rattle.std.specs.Prelude.{◌+◌, cond, not, find, map, Option, Some, None, if◌then◌else◌}
 use Rattle.std.proofs.Common.{◌≡◌, ◌⊎◌, ℕ, Bool, true, false, List, [], ◌∷◌, refl, ap, sym, subst, ◌∙◌}
-use Rattle.run_grows.specs.Given.RawDeclared.machines.machine.Machine.{Machine}
+use Rattle.run_logged.specs.Given.RawDeclared.machines.machine.Machine.{Machine}
 use Rattle.run_schedules.specs.Runs.Same.{is_same}
 use Rattle.run_schedules.specs.declared.call.Call.{Call}
 use Rattle.run_schedules.specs.declared.call.Reply.{Reply}
 use Rattle.run_schedules.specs.declared.effect.Effect.{Effect}
 use Rattle.run_schedules.specs.declared.outcome.Outcome.{Outcome}
 use Rattle.run_schedules.specs.declared.outcome.Outcome.TheVariants as outcome
-use Rattle.run_schedules.specs.Schedules.After.{asks_on, comes_to, replied, without_call}
+use Rattle.run_schedules.specs.Schedules.After.{asks_on, with_outcome, replied, without_call}
 use Rattle.run_schedules.specs.Schedules.Beginning.{fresh_call}
 use Rattle.run_schedules.specs.Schedules.Effects.{with_effect, with_effects}
 use Rattle.run_schedules.specs.Schedules.Entry.{ends_call}
-use Rattle.run_schedules.specs.Schedules.Moment.{Asking, Moment, Stands, Told, UnderWay}
+use Rattle.run_schedules.specs.Schedules.Moment.{Asking, Moment, CallState, Told, UnderWay}
 use Rattle.run_schedules.specs.Schedules.Views.{call_of}
 use Rattle.play_lists.proofs.Given.FollowsCalling.{apart_back, come_same, found_kept, found_passes, is_same_is, is_same_refl, replied_same}
 use Rattle.play_lists.proofs.Given.FollowsCalls.{IsOfSame, changed, found}
-use Rattle.run_grows.proofs.Given.HandsReplacing.{calls_after}
+use Rattle.run_logged.proofs.Given.HandsReplacing.{calls_after}
 use Rattle.play_lists.specs.Given.ValuesValues.{KeepsValue}
 use Rattle.run_schedules.specs.Deeds.Deeds.{Begins, Entry, Replies, Steps, Stops, acted_on, after, at_work, caller_of, named, worked}
 use Rattle.play_lists.proofs.Played.Noted.{OfNoCall}
@@ -47,7 +47,7 @@ module _ {K V : Type 0} where
         is = w.1;
         called = w.2.0 ∙ heard.called;
         keeps = subst (λ (c : Call K V). KeepsValue c w.0.replies machine value) (sym w.2.0) (subst (λ (rs : List (Option ℕ × Reply V)). KeepsValue heard.there.call rs machine value) (sym w.2.1) heard.keeps);
-        asks = subst (λ (st : Stands). TakesNone machine ⊎ ((question : Option ℕ) × (st ≡ Asking question))) (sym w.2.2) heard.asks;
+        asks = subst (λ (st : CallState). TakesNone machine ⊎ ((question : Option ℕ) × (st ≡ Asking question))) (sym w.2.2) heard.asks;
       }
 
   same_said : (m v : Moment K V) (i : ℕ) → v.calls ≡ m.calls → SaidOn m v i
@@ -105,35 +105,35 @@ module _ {K V : Type 0} where
     pub steps_aside : (i : ℕ) → is_same (named own) (named i) ≡ false → SaidOn m (after step m) i
     steps_aside i other = then_said m w (after step m) i (worked_said i) (by (ends_call o))
       where
-        by : (b : Bool) → SaidOn w (record w { calls = if b then without_call (named own) w.calls else map (λ c. if is_same c.caller (named own) then comes_to o (record c { steps = c.steps + 1 }) else c) w.calls }) i
+        by : (b : Bool) → SaidOn w (record w { calls = if b then without_call (named own) w.calls else map (λ c. if is_same c.caller (named own) then with_outcome o (record c { steps = c.steps + 1 }) else c) w.calls }) i
         by true = aside_gone (named own) w i other
-        by false = aside_same (λ c. comes_to o (record c { steps = c.steps + 1 })) (λ c. come_same o (record c { steps = c.steps + 1 })) (named own) w i other
+        by false = aside_same (λ c. with_outcome o (record c { steps = c.steps + 1 })) (λ c. come_same o (record c { steps = c.steps + 1 })) (named own) w i other
 
     -- and its own has come to that
     pub steps_itself : ends_call o ≡ false → (u : UnderWay K V) → call_of (named own) m ≡ Some u
-        → (d : UnderWay K V) × IsSaid u d × (call_of (named own) (after step m) ≡ Some (comes_to o (record d { steps = d.steps + 1 })))
+        → (d : UnderWay K V) × IsSaid u d × (call_of (named own) (after step m) ≡ Some (with_outcome o (record d { steps = d.steps + 1 })))
     steps_itself goes u is =
         let x = worked_said own u is in
         let its : x.0.caller ≡ named own = is_same_is x.0.caller (named own) (found_passes (λ c. is_same c.caller (named own)) (λ c. true) w.calls x.0 x.1) in
         let here : is_same x.0.caller (named own) ≡ true = ap (λ (l : List ℕ). is_same l (named own)) its ∙ is_same_refl (named own) in
-        let then_is : call_of (named own) (record w { calls = map (λ c. if is_same c.caller (named own) then comes_to o (record c { steps = c.steps + 1 }) else c) w.calls })
-        ≡ Some (comes_to o (record x.0 { steps = x.0.steps + 1 })) =
-        found (λ c. comes_to o (record c { steps = c.steps + 1 })) (λ c. come_same o (record c { steps = c.steps + 1 })) (named own) (named own) w.calls x.0 x.1
-        ∙ ap (λ (q : Bool). Some (if q then comes_to o (record x.0 { steps = x.0.steps + 1 }) else x.0)) here in (
+        let then_is : call_of (named own) (record w { calls = map (λ c. if is_same c.caller (named own) then with_outcome o (record c { steps = c.steps + 1 }) else c) w.calls })
+        ≡ Some (with_outcome o (record x.0 { steps = x.0.steps + 1 })) =
+        found (λ c. with_outcome o (record c { steps = c.steps + 1 })) (λ c. come_same o (record c { steps = c.steps + 1 })) (named own) (named own) w.calls x.0 x.1
+        ∙ ap (λ (q : Bool). Some (if q then with_outcome o (record x.0 { steps = x.0.steps + 1 }) else x.0)) here in (
           x.0,
           x.2,
           subst (λ (b : Bool). call_of (named own)
-              (record w { calls = if b then without_call (named own) w.calls else map (λ c. if is_same c.caller (named own) then comes_to o (record c { steps = c.steps + 1 }) else c) w.calls })
-              ≡ Some (comes_to o (record x.0 { steps = x.0.steps + 1 }))) (sym goes) then_is,
+              (record w { calls = if b then without_call (named own) w.calls else map (λ c. if is_same c.caller (named own) then with_outcome o (record c { steps = c.steps + 1 }) else c) w.calls })
+              ≡ Some (with_outcome o (record x.0 { steps = x.0.steps + 1 }))) (sym goes) then_is,
         )
 
   -- what comes to something was called so, and was told the same
-  pub come_said : (o : Outcome V) (d : UnderWay K V) → ((comes_to o d).call ≡ d.call) × ((comes_to o d).replies ≡ d.replies)
+  pub come_said : (o : Outcome V) (d : UnderWay K V) → ((with_outcome o d).call ≡ d.call) × ((with_outcome o d).replies ≡ d.replies)
   come_said outcome.Goes d = (refl, refl)
   come_said outcome.Waits d = (refl, refl)
   come_said (outcome.Asks question) d = by d.stands
     where
-      by : (st : Stands) → ((asks_on question d st).call ≡ d.call) × ((asks_on question d st).replies ≡ d.replies)
+      by : (st : CallState) → ((asks_on question d st).call ≡ d.call) × ((asks_on question d st).replies ≡ d.replies)
       by (Asking q) = (refl, refl)
       by _ = (refl, refl)
   come_said outcome.Ready d = (refl, refl)
@@ -141,10 +141,10 @@ module _ {K V : Type 0} where
   come_said _ d = (refl, refl)
 
   -- and if it asks, it stands so
-  pub come_asks : (question : Option ℕ) (d : UnderWay K V) → (q : Option ℕ) × ((comes_to (outcome.Asks question) d).stands ≡ Asking q)
+  pub come_asks : (question : Option ℕ) (d : UnderWay K V) → (q : Option ℕ) × ((with_outcome (outcome.Asks question) d).stands ≡ Asking q)
   come_asks question d = by d.stands refl
     where
-      by : (st : Stands) → d.stands ≡ st → (q : Option ℕ) × ((asks_on question d st).stands ≡ Asking q)
+      by : (st : CallState) → d.stands ≡ st → (q : Option ℕ) × ((asks_on question d st).stands ≡ Asking q)
       by (Asking q) is = (q, is)
       by _ is = (question, refl)
 
@@ -159,7 +159,7 @@ module _ {K V : Type 0} where
       let its : u.caller ≡ named own = is_same_is u.caller (named own) (found_passes (λ c. is_same c.caller (named own)) (λ c. true) m.calls u is) in
       let here : is_same u.caller (named own) ≡ true = ap (λ (l : List ℕ). is_same l (named own)) its ∙ is_same_refl (named own) in
       found (λ c. replied reply c c.stands) (λ c. replied_same reply c c.stands) (named own) (named own) m.calls u is ∙ ap (λ (q : Bool). Some (if q then replied reply u u.stands else u)) here
-      ∙ ap (λ (st : Stands). Some (replied reply u st)) asks
+      ∙ ap (λ (st : CallState). Some (replied reply u st)) asks
 
   -- One that is given up
   pub stops_aside : (own : ℕ) (m : Moment K V) (i : ℕ) → is_same (named own) (named i) ≡ false

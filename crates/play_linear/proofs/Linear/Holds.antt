@@ -7,12 +7,12 @@ use Rattle.run_schedules.specs.Deeds.Deeds.{moment}
 use Rattle.run_schedules.specs.Deeds.History.{IsLinearizable, past}
 use Rattle.play_lists.specs.Played.Play.{State}
 use Rattle.play_lists.proofs.Played.Noted.{CallsAreNoted}
-use Rattle.play_linear.specs.Linear.Shown.{ShowsAnswers}
+use Rattle.play_linear.specs.Linear.Shown.{RefinesAnswers}
 use Rattle.play_linear.proofs.Linear.HeardAll.{AreHeard}
 
 -- Each entry so far is linearizable; and the moment shows the scene, and what calls are, and what they were told.
 pub record Holds {K V S : Type 0} (same : K → K → Bool) (x : State K V S) (s : Scene K V) : Type 0 where
-  pub shows : ShowsAnswers same (past x.history) (moment x.history) x.known s
+  pub shows : RefinesAnswers same (past x.history) (moment x.history) x.known s
   pub noted : CallsAreNoted x
   pub heard : AreHeard x
   pub each : AtEachEvent (IsLinearizable same) x.history

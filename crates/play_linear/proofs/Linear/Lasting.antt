@@ -5,7 +5,7 @@ use Rattle.run_schedules.specs.Given.SeizeWordsDeclared.at.At.{At}
 use Rattle.run_schedules.specs.Given.SeizeWordsDeclared.at.At.TheVariants.{Root, Used, Slot, Entry, Word}
 use Rattle.run_schedules.specs.Given.SeizeWordsMem.{Mem, value_at}
 use Rattle.run_schedules.specs.Given.SeizeWordsWord.{block_in}
-use Rattle.run_grows.specs.Given.SeizeWorld.{World}
+use Rattle.seize_acts.specs.Given.SeizeWorld.{World}
 use Rattle.play_lists.specs.Given.TablesDeclared.node.Node.{Node}
 use Rattle.play_lists.specs.Given.TablesDeclared.table_words.TheConstants.{NEXT}
 use Rattle.run_schedules.specs.Schedules.Lists.{put}

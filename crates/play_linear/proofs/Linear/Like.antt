@@ -5,18 +5,18 @@ use Rattle.run_schedules.specs.Runs.Present.{Present}
 use Rattle.run_schedules.specs.Schedules.Moment.{Moment, Remains, Sheltered}
 use Rattle.run_schedules.specs.Schedules.Transition.{Past, further}
 use Rattle.play_lists.specs.Given.EffectsKnown.{Known}
-use Rattle.play_lists.specs.Given.OthersAfter.{ShowsAfter}
+use Rattle.play_lists.specs.Given.OthersAfter.{RefinesAfter}
 use Rattle.play_lists.specs.Given.OthersElsewhere.{HasSame}
 use Rattle.play_lists.specs.Given.ScenesScene.{Scene}
-use Rattle.run_grows.specs.Given.MomentsWhole.{ShowsWhole}
+use Rattle.run_logged.specs.Given.MomentsWhole.{RefinesWhole}
 use Rattle.play_lists.proofs.Given.OthersElsewhere.{shown_elsewhere}
 use Rattle.play_lists.proofs.Given.OthersStays.{same_maps}
-use Rattle.run_grows.proofs.Given.MomentsMapsCome.{asked_still}
+use Rattle.run_logged.proofs.Given.MomentsMapsCome.{asked_still}
 use Rattle.play_lists.proofs.Given.HistoriesAside.Stays.{as_called_stays, dues_stay}
 use Rattle.play_lists.proofs.Given.HistoriesDueOn.{events_keep_due}
 use Rattle.play_lists.proofs.Given.KeptStays.{stays_kept}
 use Rattle.run_schedules.specs.Deeds.Deeds.{named}
-use Rattle.play_linear.specs.Linear.Shown.{ShowsAnswers}
+use Rattle.play_linear.specs.Linear.Shown.{RefinesAnswers}
 
 -- the moment is like another one, of which it has the calls, the pairs, the maps and the tables
 abbrev pub IsLike : {K V : Type 0} → Moment K V → Moment K V → Type 0
@@ -49,7 +49,7 @@ module _ {K V : Type 0} (m : Moment K V) (events : ℕ) (is_mapped is_closed is_
   abbrev alike : HasSame m other
   alike = record { place = refl; born = refl; stored = refl; maps = refl; tables = refl; calls = refl }
 
-  whole_like : (same : K → K → Bool) (known : Known) (s : Scene K V) → ShowsWhole same named m known s → ShowsWhole same named other known s
+  whole_like : (same : K → K → Bool) (known : Known) (s : Scene K V) → RefinesWhole same named m known s → RefinesWhole same named other known s
   whole_like same known s whole =
       let hands = whole.all.hands in
       let held = whole.blocks in
@@ -70,10 +70,10 @@ module _ {K V : Type 0} (m : Moment K V) (events : ℕ) (is_mapped is_closed is_
         counters = whole.counters;
       }
     where
-      after : ShowsAfter same named m known s whole.all.shown other known s
+      after : RefinesAfter same named m known s whole.all.shown other known s
       after = shown_elsewhere K V same named m other known s s whole.all.shown alike (record { memory = refl; hand = refl; maps = λ n. same_maps (s.maps n); calls = refl })
 
-  answers_like : (same : K → K → Bool) (log : Past K V) (known : Known) (s : Scene K V) → ShowsAnswers same log m known s → ShowsAnswers same log other known s
+  answers_like : (same : K → K → Bool) (log : Past K V) (known : Known) (s : Scene K V) → RefinesAnswers same log m known s → RefinesAnswers same log other known s
   answers_like same log known s all = record {
     whole = whole_like same known s all.whole;
     kept = stays_kept K V named m other known s s all.kept refl refl refl refl refl refl refl refl refl;
@@ -83,13 +83,13 @@ module _ {K V : Type 0} (m : Moment K V) (events : ℕ) (is_mapped is_closed is_
   }
 
 module _ {K V : Type 0} (same : K → K → Bool) (log : Past K V) (known : Known) (s : Scene K V) where
-  pub likes_answer : (m v : Moment K V) → ShowsAnswers same log m known s → IsLike m v → ShowsAnswers same log v known s
+  pub likes_answer : (m v : Moment K V) → RefinesAnswers same log m known s → IsLike m v → RefinesAnswers same log v known s
   likes_answer m v all like =
-      subst (λ (x : Moment K V). ShowsAnswers same log x known s) (sym like)
+      subst (λ (x : Moment K V). RefinesAnswers same log x known s) (sym like)
       (answers_like m v.events v.is_mapped v.is_closed v.is_alone v.there v.slots v.sheltered v.remains v.made same log known s all)
 
   -- where the moment is one of the history
-  pub entries_come : (m : Moment K V) → ShowsAnswers same log m known s → m.events ≡ suc log.entries → ShowsAnswers same (further m log) m known s
+  pub entries_come : (m : Moment K V) → RefinesAnswers same log m known s → m.events ≡ suc log.entries → RefinesAnswers same (further m log) m known s
   entries_come m all counted = record {
     whole = all.whole;
     kept = all.kept;
@@ -99,5 +99,5 @@ module _ {K V : Type 0} (same : K → K → Bool) (log : Past K V) (known : Know
   }
 
   -- and so where an entry is over
-  pub entries_are_over : (m v : Moment K V) → ShowsAnswers same log m known s → IsLike m v → v.events ≡ suc log.entries → ShowsAnswers same (further v log) v known s
+  pub entries_are_over : (m v : Moment K V) → RefinesAnswers same log m known s → IsLike m v → v.events ≡ suc log.entries → RefinesAnswers same (further v log) v known s
   entries_are_over m v all like counted = entries_come v (likes_answer m v all like) counted

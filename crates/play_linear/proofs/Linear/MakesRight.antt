@@ -4,21 +4,21 @@ use Rattle.std.proofs.Common.{refl, ap, sym, subst, ◌∙◌, inl, inr}
 use Rattle.std.proofs.lemmas.Bool.{cases_eq}
 use Rattle.seize_acts.specs.Acts.Answers.{Grant}
 use Rattle.run_schedules.specs.Given.SeizeWordsMem.{Mem}
-use Rattle.run_grows.specs.Given.SeizeWorld.{World, with_at}
-use Rattle.run_grows.specs.Given.SeizeDeclared.advance.Advance.{Advance}
-use Rattle.run_grows.specs.Given.SeizeDeclared.advance.Advance.TheVariants as progress
+use Rattle.seize_acts.specs.Given.SeizeWorld.{World, with_at}
+use Rattle.seize_acts.specs.Given.SeizeDeclared.advance.Advance.{Advance}
+use Rattle.seize_acts.specs.Given.SeizeDeclared.advance.Advance.TheVariants as progress
 use Rattle.play_lists.specs.Given.EffectsDeclared.changed.Changed.{Changed}
 use Rattle.play_lists.specs.Given.TablesDeclared.node.Node.{Node}
 use Rattle.play_lists.specs.Given.TablesDeclared.setting.Setting.{Setting}
-use Rattle.run_grows.specs.Given.ResizeNewMap.{at_root, new_map_plan}
-use Rattle.run_grows.specs.Given.ResizeDeclared.new_map.NewMap.{NewMap}
-use Rattle.run_grows.specs.Given.ResizeDeclared.new_map.Opening.{Opening}
-use Rattle.run_grows.specs.Given.ResizeDeclared.new_map.Opening.TheVariants as opens
-use Rattle.play_lists.specs.Given.TellerTells.{StepsTold}
+use Rattle.run_logged.specs.Given.ResizeNewMap.{at_root, new_map_plan}
+use Rattle.run_logged.specs.Given.ResizeDeclared.new_map.NewMap.{NewMap}
+use Rattle.run_logged.specs.Given.ResizeDeclared.new_map.Opening.{Opening}
+use Rattle.run_logged.specs.Given.ResizeDeclared.new_map.Opening.TheVariants as opens
+use Rattle.play_lists.specs.Given.TellerTells.{StepsObserved}
 use Rattle.play_lists.specs.Given.EffectsDeclared.changed.Changed.TheVariants as changed
-use Rattle.play_lists.specs.Given.FinishesEndings.{MakingStepsAmong}
-use Rattle.play_lists.specs.Given.FinishesMakings.{Beginning, HasTaken, KeepsIts, MakingFacts, OpeningFacts}
-use Rattle.run_grows.proofs.Given.CallersTogether.At.{at_other, at_same}
+use Rattle.play_lists.specs.Given.FinishesEndings.{MakingStepsWithEndings}
+use Rattle.play_lists.specs.Given.FinishesMakings.{Beginning, HasTaken, PreservesItsOwn, MakingFacts, OpeningFacts}
+use Rattle.run_logged.proofs.Given.CallersTogether.At.{at_other, at_same}
 use Rattle.play_lists.specs.Given.ScenesHeld.{Held, IsAt}
 use Rattle.play_lists.specs.Given.ScenesMaking.{MakingLeads}
 use Rattle.play_lists.specs.Given.ScenesScene.{Scene, slot_of}
@@ -31,8 +31,8 @@ use Rattle.play_lists.specs.Given.EffectsEffects.{effects_of}
 use Rattle.play_lists.specs.Given.EffectsKnown.{Known}
 use Rattle.play_lists.specs.Given.EffectsDeclared.acting.Acting.TheVariants as acts
 use Rattle.play_lists.specs.Given.OthersMakings.{IsNew, WasNew}
-use Rattle.run_grows.specs.Given.MomentsNumbers.{AreFound}
-use Rattle.run_grows.specs.Given.MomentsWhole.{ShowsWhole}
+use Rattle.run_logged.specs.Given.MomentsNumbers.{AreFound}
+use Rattle.run_logged.specs.Given.MomentsWhole.{RefinesWhole}
 use Rattle.play_lists.proofs.Given.OthersMakingGoes.{new_maps_stay}
 use Rattle.play_lists.specs.Given.RemainsNumbered.{NumbersUpTo}
 use Rattle.play_lists.proofs.Given.RemainsNumbered.{makings_keep_count}
@@ -51,7 +51,7 @@ use Rattle.play_linear.proofs.Linear.MapsPlayed.{IsApart}
 use Rattle.play_linear.proofs.Linear.Names.{apart_so}
 use Rattle.play_lists.specs.Agrees.Fresh.{AreNamed}
 use Rattle.play_lists.proofs.Agrees.Names.{come_named, effects_named, gone_named}
-use Rattle.run_grows.proofs.Given.General.{same_some}
+use Rattle.run_schedules.proofs.Given.General.{same_some}
 
 -- it has taken its root where it has it
 has_taken : {K V : Type 0} (w : World (Node K V)) (roots i : ℕ) (n : NewMap) (p : Opening) → OpeningFacts w roots i n p → has_root p ≡ true → HasTaken p
@@ -65,9 +65,9 @@ has_taken w roots i n (opens.Refused fault) facts has = absurd facts
 
 -- The step of a making has led on so.
 module _ {K V S : Type 0} (same : K → K → Bool) (by_hasher : S → K → ℕ) (hash : ℕ → K → ℕ) (batch_size roots : ℕ) (m : Moment K V) (known : Known) (enders : ℕ → Option Ending) (s n : Scene K V) (before : Changed) (new : Held K V)
-    (at : IsAt same hash (held_in batch_size roots before s) s) (whole : ShowsWhole same named m known s) (so : MapsComeAndGo m known enders s) (i : ℕ) (g : Grant) (b : Beginning K) (m2 : Mem (Node K V)) (machine : NewMap) (said : Advance Setting)
+    (at : IsAt same hash (held_in batch_size roots before s) s) (whole : RefinesWhole same named m known s) (so : MapsComeAndGo m known enders s) (i : ℕ) (g : Grant) (b : Beginning K) (m2 : Mem (Node K V)) (machine : NewMap) (said : Advance Setting)
     (makes : s.makers i ≡ Some b) (computed : making_steps {S = S} same by_hasher batch_size roots slot_of s g b ≡ Some (m2, (machine, said)))
-    (did : MakingStepsAmong V same same batch_size roots slot_of s.world s.maps s.calls s.makers s.enders i b m2 (machine, said))
+    (did : MakingStepsWithEndings V same same batch_size roots slot_of s.world s.maps s.calls s.makers s.enders i b m2 (machine, said))
     (came : MakingCame {S = S} same by_hasher batch_size roots slot_of s i b did.step.w2 machine n said) (leads : MakingLeads same hash i said s (held_in batch_size roots before s) new) where
   abbrev old : Held K V
   old = held_in batch_size roots before s
@@ -87,7 +87,7 @@ module _ {K V S : Type 0} (same : K → K → Bool) (by_hasher : S → K → ℕ
   abbrev change : Changed
   change = changed_of s.world.memory g (new_map_plan {K = K} {V = V} b.machine)
 
-  told : StepsTold K V (NewMap × Advance Setting) s.world.memory changed.Nothing (new_map_plan b.machine) m2 change (machine, said)
+  told : StepsObserved K V (NewMap × Advance Setting) s.world.memory changed.Nothing (new_map_plan b.machine) m2 change (machine, said)
   told = was_told s.world.memory g (new_map_plan {K = K} {V = V} b.machine) (m2, (machine, said)) computed
 
   -- it had its root if its map stands then, and has it still unless it is refused
@@ -127,7 +127,7 @@ module _ {K V S : Type 0} (same : K → K → Bool) (by_hasher : S → K → ℕ
   worked_other k other bare = others_leave m known whole.blocks k bare (acts.Making b.map) other new.changed None (Some b.map) (λ e. other (cc e))
 
   -- What is asked of it: a map that stands then was there as a new one,
-  new_by : (p : Advance Setting) → said ≡ p → KeepsIts V same same batch_size roots slot_of s.world did.step.w2 b.machine (machine, p)
+  new_by : (p : Advance Setting) → said ≡ p → PreservesItsOwn V same same batch_size roots slot_of s.world did.step.w2 b.machine (machine, p)
       → MakingCame {S = S} same by_hasher batch_size roots slot_of s i b did.step.w2 machine n p → WasNew b.map p m
   new_by (progress.Done setting) done keeps (standing, is_made, led) =
       let was = done_had setting done in
@@ -228,7 +228,7 @@ module _ {K V S : Type 0} (same : K → K → Bool) (by_hasher : S → K → ℕ
 
       taken_on : had ≡ true → HasTaken machine.stands × (machine.setting.root ≡ b.machine.setting.root)
       taken_on was =
-          (subst (λ (p : Advance Setting). KeepsIts V same same batch_size roots slot_of s.world did.step.w2 b.machine (machine, p)) goes did.step.keeps).0 (had_taken was)
+          (subst (λ (p : Advance Setting). PreservesItsOwn V same same batch_size roots slot_of s.world did.step.w2 b.machine (machine, p)) goes did.step.keeps).0 (had_taken was)
 
       itself_by : (p q : Bool) → had ≡ p → has ≡ q → ComesBy q b2 (then_at p q effects)
       itself_by true true was is =

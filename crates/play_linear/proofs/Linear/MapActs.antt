@@ -3,15 +3,15 @@ use Rattle.std.specs.Prelude.{◌≡◌, ℕ, Bool, true, false, [], ◌∷◌, 
 use Rattle.std.proofs.Common.{refl, ap, sym, subst, ◌∙◌}
 use Rattle.seize_acts.specs.Acts.Answers.{Grant}
 use Rattle.run_schedules.specs.Given.SeizeWordsMem.{Mem}
-use Rattle.run_grows.specs.Given.SeizeWorld.{Row}
-use Rattle.run_grows.specs.Given.SeizeDeclared.advance.Advance.{Advance}
-use Rattle.run_grows.specs.Given.SeizeDeclared.advance.Advance.TheVariants as progress
-use Rattle.run_grows.specs.Given.SeizeDeclared.rows.settle.Settled.{Settled}
-use Rattle.run_grows.specs.Given.SeizeDeclared.rows.settle.Settled.TheVariants as settled
+use Rattle.seize_acts.specs.Given.SeizeWorld.{Row}
+use Rattle.seize_acts.specs.Given.SeizeDeclared.advance.Advance.{Advance}
+use Rattle.seize_acts.specs.Given.SeizeDeclared.advance.Advance.TheVariants as progress
+use Rattle.seize_acts.specs.Given.SeizeDeclared.rows.settle.Settled.{Settled}
+use Rattle.seize_acts.specs.Given.SeizeDeclared.rows.settle.Settled.TheVariants as settled
 use Rattle.play_lists.specs.Given.TablesDeclared.node.Node.{Node}
 use Rattle.play_lists.specs.Given.TablesDeclared.setting.Setting.{Setting}
-use Rattle.run_grows.specs.Given.ResizeDeclared.new_map.NewMap.{NewMap}
-use Rattle.play_lists.specs.Given.FinishesEndings.{Finishing, MakingStepsAmong}
+use Rattle.run_logged.specs.Given.ResizeDeclared.new_map.NewMap.{NewMap}
+use Rattle.play_lists.specs.Given.FinishesEndings.{Finishing, MakingStepsWithEndings}
 use Rattle.play_lists.specs.Given.FinishesMakings.{Beginning}
 use Rattle.play_lists.specs.Given.EffectsDeclared.changed.Changed.{Changed}
 use Rattle.play_lists.proofs.Given.ScenesNoCall.{none_is}
@@ -28,8 +28,8 @@ use Rattle.play_lists.specs.Given.EffectsEffects.{effects_of, known_after}
 use Rattle.play_lists.specs.Given.EffectsKnown.{Known}
 use Rattle.play_lists.specs.Given.EffectsDeclared.acting.Acting.TheVariants as acts
 use Rattle.play_lists.specs.Given.OthersMakings.{WasNew}
-use Rattle.run_grows.specs.Given.MomentsNumbers.{AreFound}
-use Rattle.play_lists.specs.Given.LoggedEnds.{NotedStill, NotesMap}
+use Rattle.run_logged.specs.Given.MomentsNumbers.{AreFound}
+use Rattle.run_logged.specs.Log.Ends.{NotedStill, NotesMap}
 use Rattle.play_lists.specs.Given.ActsActs.{Act, Answer, OfEnding, OfMaking, BeginsMaking, StepsMaking, BeginsEnding, StepsEnding}
 use Rattle.play_lists.specs.Given.ActsAsSteps.{EndedTo, LeadsAs, MadeTo, changed_by, held_in}
 use Rattle.play_lists.specs.Given.ActsLeads.{Led, MakingCame, MayBe, making_steps}
@@ -39,7 +39,7 @@ use Rattle.play_lists.specs.Played.Play.{Ending, State, ending_begun as end_begu
 use Rattle.play_lists.specs.Played.Reached.{IsOf}
 use Rattle.play_lists.proofs.Played.Noted.{CallsAreNoted, ending_none, made_calls, making_none}
 use Rattle.play_lists.proofs.Played.PlayedAs.{PlayedAs}
-use Rattle.play_linear.specs.Linear.Shown.{ShowsAnswers}
+use Rattle.play_linear.specs.Linear.Shown.{RefinesAnswers}
 use Rattle.play_linear.proofs.Linear.Holds.{Holds, onto}
 use Rattle.play_linear.proofs.Linear.Heard.{none_said}
 use Rattle.play_linear.proofs.Linear.HeardAll.{all_heard}
@@ -101,7 +101,7 @@ module _ {K V S : Type 0} (same : K → K → Bool) (by_hasher : S → K → ℕ
   abbrev pub MakingDid : (i : ℕ) (g : Grant) (b : Beginning K) (m2 : Mem (Node K V)) (machine : NewMap) (progress : Advance Setting) → Type 0
   MakingDid i g b m2 machine progress =
       (s.makers i ≡ Some b) × (making_steps {S = S} same by_hasher batch_size roots slot_of s g b ≡ Some (m2, (machine, progress))) × (told ≡ OfMaking progress)
-      × ((did : MakingStepsAmong V same same batch_size roots slot_of s.world s.maps s.calls s.makers s.enders i b m2 (machine, progress))
+      × ((did : MakingStepsWithEndings V same same batch_size roots slot_of s.world s.maps s.calls s.makers s.enders i b m2 (machine, progress))
       × MakingCame {S = S} same by_hasher batch_size roots slot_of s i b did.step.w2 machine n progress)
 
   -- A step of a making, whose map comes and goes so
@@ -136,7 +136,7 @@ module _ {K V S : Type 0} (same : K → K → Bool) (by_hasher : S → K → ℕ
       led = made same hash x s old new at holds.shows i said leads b here (making_outcome said)
 
       answers : (p q : Bool) → has_root b.machine.stands ≡ p → has_root after.stands ≡ q
-          → ShowsAnswers same (past (entry (deed_by b.map after p q) ∷ x.history)) (moment (entry (deed_by b.map after p q) ∷ x.history)) known_then led
+          → RefinesAnswers same (past (entry (deed_by b.map after p q) ∷ x.history)) (moment (entry (deed_by b.map after p q) ∷ x.history)) known_then led
       answers true true had has = makes_answer same hash x s old new at holds.shows i said leads b here (making_outcome said) so.was_new
       answers false false had has = makes_answer same hash x s old new at holds.shows i said leads b here (making_outcome said) so.was_new
       answers false true had has =
@@ -147,7 +147,7 @@ module _ {K V S : Type 0} (same : K → K → Bool) (by_hasher : S → K → ℕ
           fails_answer same hash x s old new at holds.shows i said leads b here (making_outcome said) so.was_new it.0 (subst (IsApart b.map v) n_is it.1)
           (subst (IsAt same hash new) n_is at2)
 
-      pub shown_then : ShowsAnswers same (past (entry (making_deed b.map b.machine after) ∷ x.history)) (moment (entry (making_deed b.map b.machine after) ∷ x.history)) known_then led
+      pub shown_then : RefinesAnswers same (past (entry (making_deed b.map b.machine after) ∷ x.history)) (moment (entry (making_deed b.map b.machine after) ∷ x.history)) known_then led
       shown_then = answers (has_root b.machine.stands) (has_root after.stands) refl refl
 
       pub linear_then : AtEachEvent (IsLinearizable same) (entry (making_deed b.map b.machine after) ∷ x.history)
@@ -194,7 +194,7 @@ module _ {K V S : Type 0} (same : K → K → Bool) (by_hasher : S → K → ℕ
 
         Then : ℕ → NewMap → Type 0
         Then map first =
-            ShowsAnswers same (past (step map first ∷ x.history)) (moment (step map first ∷ x.history)) (known_after (acts.Making map) new.changed x.known)
+            RefinesAnswers same (past (step map first ∷ x.history)) (moment (step map first ∷ x.history)) (known_after (acts.Making map) new.changed x.known)
             (made same hash x s old new at holds.shows i said leads b makes (making_outcome said)) × AtEachEvent (IsLinearizable same) (step map first ∷ x.history)
 
         both : Then tied.it.map tied.it.machine
@@ -268,7 +268,7 @@ module _ {K V S : Type 0} (same : K → K → Bool) (by_hasher : S → K → ℕ
 
         answers : (b : Bool) (o : Outcome V)
             → (let e : Entry K V = record { deed = if b then MapGoes tied.it.map else Ends tied.it.map; outcome = o; effects = effects_of (acts.Ending tied.it.map) x.known end_new.changed; refused = is_refusal end_new.changed } in
-            ShowsAnswers same (past (e ∷ x.history)) (moment (e ∷ x.history)) (known_after (acts.Ending tied.it.map) end_new.changed x.known) led)
+            RefinesAnswers same (past (e ∷ x.history)) (moment (e ∷ x.history)) (known_after (acts.Ending tied.it.map) end_new.changed x.known) led)
         answers true o =
             goes_answer same hash x s old end_new at holds.shows i said leads f ends tied.it.map its.not_there its.number its.first its.notes its.still o its.goes.0
             (subst (IsApart tied.it.map (with_effects None (Some tied.it.map) (effects_of (acts.Ending tied.it.map) x.known end_new.changed) m)) n_is its.goes.1) (subst (IsAt same hash end_new) n_is at2)

@@ -4,7 +4,7 @@ use Rattle.std.proofs.Common.{ap, sym, subst, ◌∙◌, arith}
 use Rattle.run_schedules.specs.Runs.Same.{is_same}
 use Rattle.run_schedules.specs.Schedules.Moment.{Moment}
 use Rattle.play_lists.specs.Given.ScenesScene.{Scene}
-use Rattle.run_grows.proofs.Given.MomentsNumbers.{found_of}
+use Rattle.run_logged.proofs.Given.MomentsNumbers.{found_of}
 use Rattle.run_schedules.specs.Deeds.Deeds.{named}
 use Rattle.play_lists.specs.Agrees.Fresh.{AreNamed, IsNamed}
 use Rattle.play_lists.proofs.Played.Noted.{apart}

@@ -1,15 +1,15 @@
 -- What a moment shows of calls it shows where a row begins on a slot, a map comes or goes, its making or its end begins, after each step of these, and after one by which all is reclaimed.
 use Rattle.std.specs.Prelude.{◌≡◌, ℕ, Bool, false, List, [], Some, None}
 use Rattle.std.proofs.Common.{refl, sym, ◌∙◌}
-use Rattle.run_grows.specs.Given.SeizeWorld.{Begin, Step}
-use Rattle.run_grows.specs.Given.SeizeDeclared.advance.Advance.{Advance as Making}
-use Rattle.run_grows.specs.Given.SeizeDeclared.advance.Advance.TheVariants as progress
-use Rattle.run_grows.specs.Given.SeizeDeclared.rows.reclaim_all.ReclaimAll.{ReclaimAll}
-use Rattle.run_grows.specs.Given.SeizeDeclared.rows.settle.Settled.{Settled}
-use Rattle.run_grows.specs.Given.SeizeDeclared.rows.settle.Settled.TheVariants as settled
+use Rattle.seize_acts.specs.Given.SeizeWorld.{Begin, Step}
+use Rattle.seize_acts.specs.Given.SeizeDeclared.advance.Advance.{Advance as Making}
+use Rattle.seize_acts.specs.Given.SeizeDeclared.advance.Advance.TheVariants as progress
+use Rattle.seize_acts.specs.Given.SeizeDeclared.rows.reclaim_all.ReclaimAll.{ReclaimAll}
+use Rattle.seize_acts.specs.Given.SeizeDeclared.rows.settle.Settled.{Settled}
+use Rattle.seize_acts.specs.Given.SeizeDeclared.rows.settle.Settled.TheVariants as settled
 use Rattle.play_lists.specs.Given.TablesDeclared.node.Node.{Node}
 use Rattle.play_lists.specs.Given.TablesDeclared.setting.Setting.{Setting}
-use Rattle.run_grows.specs.Given.CallersTogether.{OnKey, UnderWay}
+use Rattle.run_logged.specs.Given.CallersTogether.{OnKey, UnderWay}
 use Rattle.play_lists.specs.Given.FinishesEndings.{Finishing}
 use Rattle.play_lists.specs.Given.FinishesMakings.{Beginning, HasMade}
 use Rattle.play_lists.specs.Given.FinishesMaps.{Standing}
@@ -35,27 +35,27 @@ use Rattle.play_lists.specs.Given.ScenesDeclared.row.SlotRow.{SlotRow}
 use Rattle.play_lists.specs.Given.OthersEndings.{ending_after, without_map}
 use Rattle.play_lists.specs.Given.OthersMakings.{WasNew, making_after}
 use Rattle.play_lists.specs.Given.OthersRows.{scene_then}
-use Rattle.run_grows.specs.Given.MomentsEndings.{IsOfIts}
-use Rattle.run_grows.specs.Given.MomentsNumbers.{AreFound}
-use Rattle.run_grows.proofs.Given.MomentsEnds.{endings_begin_whole, endings_keep_whole}
-use Rattle.run_grows.proofs.Given.MomentsMakingSteps.{makings_keep_whole}
-use Rattle.run_grows.proofs.Given.MomentsMapsCome.{makings_begin_whole, maps_come_whole}
-use Rattle.run_grows.proofs.Given.MomentsOnSlots.{rows_begin_whole, rows_keep_whole}
-use Rattle.run_grows.proofs.Given.MomentsOver.{endings_are_over_whole}
+use Rattle.run_logged.specs.Given.MomentsEndings.{IsOfIts}
+use Rattle.run_logged.specs.Given.MomentsNumbers.{AreFound}
+use Rattle.run_logged.proofs.Given.MomentsEnds.{endings_begin_whole, endings_keep_whole}
+use Rattle.run_logged.proofs.Given.MomentsMakingSteps.{makings_keep_whole}
+use Rattle.run_logged.proofs.Given.MomentsMapsCome.{makings_begin_whole, maps_come_whole}
+use Rattle.run_logged.proofs.Given.MomentsOnSlots.{rows_begin_whole, rows_keep_whole}
+use Rattle.run_logged.proofs.Given.MomentsOver.{endings_are_over_whole}
 use Rattle.play_lists.proofs.Given.HistoriesAside.Stays.{as_called_stays, dues_stay}
 use Rattle.play_lists.proofs.Given.HistoriesQuestions.{effects_keep_questions}
 use Rattle.play_lists.proofs.Given.KeptOthers.{endings_begin_kept, endings_find_kept, endings_keep_kept, makings_keep_kept, rows_begin_kept, rows_find_kept, rows_keep_kept}
 use Rattle.play_lists.proofs.Given.KeptStays.{makings_begin_kept, stays_kept}
-use Rattle.play_lists.proofs.Given.LoggedReclaiming.Rest.{reclaiming_found, reclaiming_keeps}
+use Rattle.run_logged.proofs.Log.Reclaiming.Rest.{reclaiming_found, reclaiming_keeps}
 use Rattle.play_lists.proofs.Given.ShedsReclaiming.Steps.{reclaiming_whole}
 use Rattle.run_schedules.specs.Deeds.Deeds.{named}
-use Rattle.play_linear.specs.Linear.Shown.{ShowsAnswers}
+use Rattle.play_linear.specs.Linear.Shown.{RefinesAnswers}
 
-module _ (K V : Type 0) (same : K → K → Bool) (hash : ℕ → K → ℕ) (log : Past K V) (m : Moment K V) (known : Known) (s : Scene K V) (all : ShowsAnswers same log m known s) (old new : Held K V) where
+module _ (K V : Type 0) (same : K → K → Bool) (hash : ℕ → K → ℕ) (log : Past K V) (m : Moment K V) (known : Known) (s : Scene K V) (all : RefinesAnswers same log m known s) (old new : Held K V) where
   module _ (at : IsAt same hash old s) where
     -- where a row begins on a slot, and after each step of it
     pub rows_begin : (called : SlotCall) (i : ℕ) (leads : RowBegins same hash called i s old new)
-        → ShowsAnswers same log m known (scene_then same hash (Begin i (request_of (slot_of i) called)) s old new leads.2)
+        → RefinesAnswers same log m known (scene_then same hash (Begin i (request_of (slot_of i) called)) s old new leads.2)
     rows_begin called i leads = record {
       whole = rows_begin_whole K V same hash named m known s old new at all.whole called i leads;
       kept = rows_begin_kept K V same hash named m known s old new at all.kept called i leads;
@@ -65,7 +65,7 @@ module _ (K V : Type 0) (same : K → K → Bool) (hash : ℕ → K → ℕ) (lo
     }
 
     pub rows_step : (i : ℕ) (said : RowTold (Node K V)) (leads : RowLeads same hash i said s old new) (row : SlotRow) (here : IsOnSlot s i row)
-        → ShowsAnswers same log (with_effects None None (effects_of acts.Row known new.changed) m) (known_after acts.Row new.changed known) (scene_then same hash (Step i) s old new (leads row here).2)
+        → RefinesAnswers same log (with_effects None None (effects_of acts.Row known new.changed) m) (known_after acts.Row new.changed known) (scene_then same hash (Step i) s old new (leads row here).2)
     rows_step i said leads row here =
         let found = rows_find_kept K V same hash named m known s old new at all.whole all.kept i said leads row here in
         record {
@@ -77,7 +77,7 @@ module _ (K V : Type 0) (same : K → K → Bool) (hash : ℕ → K → ℕ) (lo
         }
 
     -- where the making of a map begins, by one that makes none
-    pub makings_begin : (i : ℕ) (b : Beginning K) → s.makers i ≡ None → (HasMade b.machine.stands → ⊥) → IsAt same hash new (scene_making i b s) → ShowsAnswers same log m known (scene_making i b s)
+    pub makings_begin : (i : ℕ) (b : Beginning K) → s.makers i ≡ None → (HasMade b.machine.stands → ⊥) → IsAt same hash new (scene_making i b s) → RefinesAnswers same log m known (scene_making i b s)
     makings_begin i b none not_made at2 = record {
       whole = makings_begin_whole K V same named m known s all.whole i b not_made;
       kept = makings_begin_kept K V named m known s all.kept i b none;
@@ -87,7 +87,7 @@ module _ (K V : Type 0) (same : K → K → Bool) (hash : ℕ → K → ℕ) (lo
     }
 
     -- where its map comes, by a number of which there is no table
-    pub maps_come : (there : MapThere) → tables_of there.number m ≡ [] → ShowsAnswers same log (with_map there m) known s
+    pub maps_come : (there : MapThere) → tables_of there.number m ≡ [] → RefinesAnswers same log (with_map there m) known s
     maps_come there no_tables = record {
       whole = maps_come_whole K V same named m known s all.whole there no_tables;
       kept = stays_kept K V named m (with_map there m) known s s all.kept refl refl refl refl refl refl refl refl refl;
@@ -106,7 +106,7 @@ module _ (K V : Type 0) (same : K → K → Bool) (hash : ℕ → K → ℕ) (lo
 
     pub makings_step : (i : ℕ) (said : Making Setting) (leads : MakingLeads same hash i said s old new) (b : Beginning K) (here : s.makers i ≡ Some b) → WasNew b.map said m
         → (let to = leads b here in
-        ShowsAnswers same log (with_effects None (Some b.map) (effects_of (acts.Making b.map) known new.changed) m) (known_after (acts.Making b.map) new.changed known)
+        RefinesAnswers same log (with_effects None (Some b.map) (effects_of (acts.Making b.map) known new.changed) m) (known_after (acts.Making b.map) new.changed known)
         (making_after same hash s old new i b to.0 to.2.step.w2 said to.3))
     makings_step i said leads b here was_new =
         let whole = makings_keep_whole K V same hash named m known s old new at all.whole i said leads b here (Some b.map) was_new in
@@ -120,7 +120,7 @@ module _ (K V : Type 0) (same : K → K → Bool) (hash : ℕ → K → ℕ) (lo
 
     -- where the end of one begins, by one that ends none, and after each step of it, which takes tables of its map alone
     pub ends_begin : (map i : ℕ) (standing : Standing K) → s.maps map ≡ Some standing → s.enders i ≡ None → IsAt same hash new (ending_begun map i standing s)
-        → ShowsAnswers same log m known (ending_begun map i standing s)
+        → RefinesAnswers same log m known (ending_begun map i standing s)
     ends_begin map i standing there idle at2 = record {
       whole = endings_begin_whole K V same hash named m known s new all.whole map i standing there at2;
       kept = endings_begin_kept K V same hash named m known s old new at all.kept map i standing idle at2;
@@ -140,7 +140,7 @@ module _ (K V : Type 0) (same : K → K → Bool) (hash : ℕ → K → ℕ) (lo
         → (let to = leads f here in
         let effects = effects_of (acts.Ending map) known new.changed in
         AtEachEffect (IsOfIts map) None (Some map) effects m
-        → ShowsAnswers same log (with_effects None (Some map) effects m) (known_after (acts.Ending map) new.changed known) (ending_after same hash s new i f to.0 to.2.w2 to.2.deed said to.3))
+        → RefinesAnswers same log (with_effects None (Some map) effects m) (known_after (acts.Ending map) new.changed known) (ending_after same hash s new i f to.0 to.2.w2 to.2.deed said to.3))
     ends_step i said leads f here map not_there its = record {
       whole = endings_keep_whole K V same hash named m known s old new at all.whole i said leads f here map not_there its
           (endings_find_kept K V same hash named m known s old new at all.whole all.kept i said leads f here map not_there);
@@ -153,7 +153,7 @@ module _ (K V : Type 0) (same : K → K → Bool) (hash : ℕ → K → ℕ) (lo
     -- and where the map is there no more: no map that stands has its name
     pub maps_go : (own : List ℕ) (remains : List Remains) → AreFound m
         → ((map : ℕ) (standing : Standing K) (there : MapThere) → s.maps map ≡ Some standing → map_at map m ≡ Some there → is_same there.name own ≡ false)
-        → ShowsAnswers same log (without_map own remains m) known s
+        → RefinesAnswers same log (without_map own remains m) known s
     maps_go own remains found apart = record {
       whole = endings_are_over_whole K V same named m known s all.whole own remains found apart;
       kept = stays_kept K V named m (without_map own remains m) known s s all.kept refl refl refl refl refl refl refl refl refl;
@@ -165,7 +165,7 @@ module _ (K V : Type 0) (same : K → K → Bool) (hash : ℕ → K → ℕ) (lo
   -- after a step by which all is reclaimed: no call is under way
   pub all_step : (i : ℕ) (lists : ℕ → List ℕ) (before after : ReclaimAll) (told : Settled (Node K V)) → IsReclaiming same hash old s i lists before
       → (leads : ReclaimingLeads same hash s i lists old new before after told)
-      → ShowsAnswers same log (with_effects None None (effects_of acts.Row known new.changed) m) (known_after acts.Row new.changed known) (record s { world = leads.1.w2; maps = leads.1.maps2 })
+      → RefinesAnswers same log (with_effects None None (effects_of acts.Row known new.changed) m) (known_after acts.Row new.changed known) (record s { world = leads.1.w2; maps = leads.1.maps2 })
   all_step i lists before after told under_way leads =
       let found = reclaiming_found same hash named m known s all.whole all.kept old new i lists before after told under_way leads in
       let whole = reclaiming_whole same hash named m known s all.whole old new i lists before after told under_way leads found.0 found.1 in

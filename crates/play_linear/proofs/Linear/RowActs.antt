@@ -3,16 +3,16 @@ use Rattle.std.specs.Prelude.{◌≡◌, ℕ, Bool, List}
 use Rattle.std.proofs.Common.{ap, sym, subst, ◌∙◌}
 use Rattle.seize_acts.specs.Acts.Answers.{Grant}
 use Rattle.run_schedules.specs.Given.SeizeWordsMem.{Mem}
-use Rattle.run_grows.specs.Given.SeizeWorld.{Request, Row}
-use Rattle.run_grows.specs.Given.SeizeDeclared.rows.reclaim_all.ReclaimAll.{ReclaimAll}
-use Rattle.run_grows.specs.Given.SeizeDeclared.rows.settle.Settled.{Settled}
+use Rattle.seize_acts.specs.Given.SeizeWorld.{Request, Row}
+use Rattle.seize_acts.specs.Given.SeizeDeclared.rows.reclaim_all.ReclaimAll.{ReclaimAll}
+use Rattle.seize_acts.specs.Given.SeizeDeclared.rows.settle.Settled.{Settled}
 use Rattle.play_lists.specs.Given.TablesDeclared.node.Node.{Node}
 use Rattle.play_lists.specs.Given.EffectsDeclared.changed.Changed.{Changed}
 use Rattle.play_lists.specs.Given.ScenesHeld.{Held, IsAt}
 use Rattle.play_lists.specs.Given.ScenesReclaiming.{IsReclaiming, ReclaimingLeads}
 use Rattle.play_lists.specs.Given.ScenesScene.{HasNoCall, IsOnSlot, Scene, row_of}
 use Rattle.play_lists.specs.Given.ActsActs.{Act, Answer, BeginsRow, StepsRow}
-use Rattle.play_lists.specs.Given.ActsAsSteps.{LeadsAs, changed_by, held_in, row_changed, row_told}
+use Rattle.play_lists.specs.Given.ActsAsSteps.{LeadsAs, changed_by, held_in, row_changed, outcome_of_row_step}
 use Rattle.run_schedules.specs.Deeds.Deeds.{moment}
 use Rattle.run_schedules.specs.Deeds.History.{past}
 use Rattle.play_lists.specs.Played.Play.{State, all_stepped, row_begun, row_outcome, row_stepped}
@@ -48,7 +48,7 @@ module _ {K V S : Type 0} (same : K → K → Bool) (by_hasher : S → K → ℕ
       let new = then_held (StepsRow i g) in
       let there : s.world.row i ≡ row_of row = sym (is.between i no_call) ∙ ap row_or_rests row_is in
       let here : IsOnSlot s i row = (no_call, there) in
-      let said = row_told (s.world.row i) g s.world.memory in
+      let said = outcome_of_row_step (s.world.row i) g s.world.memory in
       let change : row_changed (row_of row) g x.now.memory ≡ new.changed = ap (row_changed (row_of row) g) is.memory ∙ ap (λ (r : Row). row_changed r g s.world.memory) (sym there) in
       let z_is : y ≡ row_stepped i row new.changed x end = y_is ∙ ap (λ (c : Changed). row_stepped i row c x end) change in
       onto same (row_stepped i row new.changed x end) (record s { world = (leads row here).2.0; maps = (leads row here).2.2 }) y n z_is (goes row here)

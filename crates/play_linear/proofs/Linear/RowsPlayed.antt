@@ -1,15 +1,15 @@
 -- A row that begins on a slot, its step, and one by which all is reclaimed, as they are played: the entry is linearizable, and what the moment shows of calls it shows then.
 use Rattle.std.specs.Prelude.{◌≡◌, ◌==◌, ℕ, Bool, true, false, List, ◌∷◌, None, if◌then◌else◌}
 use Rattle.std.proofs.Common.{refl, inl}
-use Rattle.run_grows.specs.Given.SeizeWorld.{Step}
-use Rattle.run_grows.specs.Given.SeizeDeclared.states.TheConstants.{ACTIVE}
-use Rattle.run_grows.specs.Given.SeizeDeclared.rows.leave.Leave.{Leave}
-use Rattle.run_grows.specs.Given.SeizeDeclared.rows.leave.Leaving.{Leaving}
-use Rattle.run_grows.specs.Given.SeizeDeclared.rows.leave.Leaving.TheVariants as leaves
-use Rattle.run_grows.specs.Given.SeizeDeclared.rows.reclaim_all.ReclaimAll.{ReclaimAll}
-use Rattle.run_grows.specs.Given.SeizeDeclared.rows.register.Registering.{Registering}
-use Rattle.run_grows.specs.Given.SeizeDeclared.rows.register.Registering.TheVariants as registers
-use Rattle.run_grows.specs.Given.SeizeDeclared.rows.settle.Settled.{Settled}
+use Rattle.seize_acts.specs.Given.SeizeWorld.{Step}
+use Rattle.seize_acts.specs.Given.SeizeDeclared.states.TheConstants.{ACTIVE}
+use Rattle.seize_acts.specs.Given.SeizeDeclared.rows.leave.Leave.{Leave}
+use Rattle.seize_acts.specs.Given.SeizeDeclared.rows.leave.Leaving.{Leaving}
+use Rattle.seize_acts.specs.Given.SeizeDeclared.rows.leave.Leaving.TheVariants as leaves
+use Rattle.seize_acts.specs.Given.SeizeDeclared.rows.reclaim_all.ReclaimAll.{ReclaimAll}
+use Rattle.seize_acts.specs.Given.SeizeDeclared.rows.register.Registering.{Registering}
+use Rattle.seize_acts.specs.Given.SeizeDeclared.rows.register.Registering.TheVariants as registers
+use Rattle.seize_acts.specs.Given.SeizeDeclared.rows.settle.Settled.{Settled}
 use Rattle.play_lists.specs.Given.TablesDeclared.node.Node.{Node}
 use Rattle.run_schedules.specs.declared.effect.Effect.{Effect}
 use Rattle.run_schedules.specs.declared.outcome.Outcome.{Outcome}
@@ -31,7 +31,7 @@ use Rattle.run_schedules.specs.Deeds.Deeds.{Deed, Entry, Leaves, Opens, Reclaims
 use Rattle.run_schedules.specs.Deeds.History.{IsLinearizable, past}
 use Rattle.play_lists.specs.Played.Play.{State, is_over, is_refusal, leaves_as, registers_as, row_deed, settled_outcome}
 use Rattle.play_lists.proofs.Played.Noted.{row_none}
-use Rattle.play_linear.specs.Linear.Shown.{ShowsAnswers}
+use Rattle.play_linear.specs.Linear.Shown.{RefinesAnswers}
 use Rattle.play_linear.proofs.Linear.CallEntries.{entry_answers, none_is_linearizable}
 use Rattle.play_linear.proofs.Linear.Heard.{none_said}
 use Rattle.play_linear.proofs.Linear.HeardAll.{AreHeard, AreHeardAt, all_heard}
@@ -92,7 +92,7 @@ module _ (K V : Type 0) where
   is_of_row (rows.Frees c) = tt
 
 module _ {K V S : Type 0} (same : K → K → Bool) (hash : ℕ → K → ℕ) (x : State K V S) (s : Scene K V) (old new : Held K V)
-    (all : ShowsAnswers same (past x.history) (moment x.history) x.known s) (heard : AreHeard x) where
+    (all : RefinesAnswers same (past x.history) (moment x.history) x.known s) (heard : AreHeard x) where
   module _ (at : IsAt same hash old s) (i : ℕ) (row : SlotRow) (here : IsOnSlot s i row) (said : RowTold (Node K V)) (leads : RowLeads same hash i said s old new) (o : Outcome V) where
     abbrev entry : Entry K V
     entry = record { deed = row_deed row; outcome = o; effects = effects_of acts.Row x.known new.changed; refused = is_refusal new.changed }
@@ -102,7 +102,7 @@ module _ {K V S : Type 0} (same : K → K → Bool) (hash : ℕ → K → ℕ) (
         none_is_linearizable same x.history entry (no_caller (row_deed row) (is_of_row K V row))
         (rows_shift_none x.known new.changed (inl (row_tells old.memory new.memory new.changed ((leads row here).0, said) row (leads row here).1)))
 
-    pub played_rows_answer : ShowsAnswers same (past (entry ∷ x.history)) (moment (entry ∷ x.history)) (known_after acts.Row new.changed x.known) (scene_then same hash (Step i) s old new (leads row here).2)
+    pub played_rows_answer : RefinesAnswers same (past (entry ∷ x.history)) (moment (entry ∷ x.history)) (known_after acts.Row new.changed x.known) (scene_then same hash (Step i) s old new (leads row here).2)
     played_rows_answer =
         entry_answers same x.history entry (with_effects None None entry.effects (moment x.history)) (known_after acts.Row new.changed x.known) (scene_then same hash (Step i) s old new (leads row here).2)
         (rows_step K V same hash (past x.history) (moment x.history) x.known s all old new at i said leads row here)
@@ -121,7 +121,7 @@ module _ {K V S : Type 0} (same : K → K → Bool) (hash : ℕ → K → ℕ) (
     pub reclaiming_is_linearizable : IsLinearizable same x.history entry_of_all
     reclaiming_is_linearizable = none_is_linearizable same x.history entry_of_all refl (rows_shift_none x.known new.changed (reclaiming_tells old.memory new.memory new.changed before before.stands (next, told) leads.0))
 
-    pub reclaiming_answers : ShowsAnswers same (past (entry_of_all ∷ x.history)) (moment (entry_of_all ∷ x.history)) (known_after acts.Row new.changed x.known) (record s { world = leads.1.w2; maps = leads.1.maps2 })
+    pub reclaiming_answers : RefinesAnswers same (past (entry_of_all ∷ x.history)) (moment (entry_of_all ∷ x.history)) (known_after acts.Row new.changed x.known) (record s { world = leads.1.w2; maps = leads.1.maps2 })
     reclaiming_answers =
         entry_answers same x.history entry_of_all (with_effects None None entry_of_all.effects (moment x.history)) (known_after acts.Row new.changed x.known) (record s { world = leads.1.w2; maps = leads.1.maps2 })
         (all_step K V same hash (past x.history) (moment x.history) x.known s all old new i lists before next told at leads)

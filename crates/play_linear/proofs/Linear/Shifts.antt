@@ -19,9 +19,9 @@ use Rattle.play_lists.specs.Given.EffectsDeclared.acting.Acting.TheVariants as a
 use Rattle.play_lists.specs.Given.EffectsDeclared.role.Role.{Role}
 use Rattle.play_lists.specs.Given.EffectsDeclared.role.Role.TheVariants as role
 use Rattle.play_lists.proofs.Given.OthersRowPlans.{TellsRow}
-use Rattle.play_lists.specs.Given.LoggedEnds.{ended_as}
+use Rattle.run_sweeps.specs.Given.Ends.{ended_as}
 use Rattle.play_lists.proofs.Given.ShedsReclaiming.Rows.{EmptiesRoot}
-use Rattle.run_grows.proofs.Needs.Shifts.{making_none as first_shifts}
+use Rattle.run_sweeps.proofs.Needs.Shifts.{making_none as first_shifts}
 
 -- what takes a block away shifts nothing
 taken_shifts : (who : Acting) (r : Role) → flat_map shift_of (taken_by who r) ≡ []

@@ -4,17 +4,17 @@ use Rattle.std.proofs.Common.{ap, sym, subst, ◌∙◌, arith}
 use Rattle.seize_acts.specs.Acts.Answers.{Grant, stepped}
 use Rattle.run_schedules.specs.Given.SeizeWordsMem.{Mem}
 use Rattle.run_schedules.specs.Given.SeizeWordsPlan.{Plan}
-use Rattle.run_grows.specs.Given.SeizeReclaimAll.{reclaim_all_plan}
-use Rattle.run_grows.specs.Given.SeizeDeclared.rows.reclaim_all.ReclaimAll.{ReclaimAll}
-use Rattle.run_grows.specs.Given.SeizeDeclared.rows.settle.Settled.{Settled}
+use Rattle.seize_acts.specs.Given.SeizeReclaimAll.{reclaim_all_plan}
+use Rattle.seize_acts.specs.Given.SeizeDeclared.rows.reclaim_all.ReclaimAll.{ReclaimAll}
+use Rattle.seize_acts.specs.Given.SeizeDeclared.rows.settle.Settled.{Settled}
 use Rattle.play_lists.specs.Given.TablesNodes.{deferred_word, was_left}
 use Rattle.play_lists.specs.Given.TablesDeclared.node.Node.{Node}
 use Rattle.play_lists.specs.Given.EffectsDeclared.changed.Changed.{Changed}
 use Rattle.play_lists.specs.Given.EffectsDeclared.changed.Changed.TheVariants.{Nothing as NoChange}
 use Rattle.play_lists.specs.Given.ScenesScene.{at_first, slot_of}
 use Rattle.play_lists.specs.Given.EffectsKnown.{nothing_known}
-use Rattle.run_grows.proofs.Given.MomentsCalls.{whole_begins}
-use Rattle.run_grows.proofs.Given.MomentsNumbers.{numbers_begin}
+use Rattle.run_logged.proofs.Given.MomentsCalls.{whole_begins}
+use Rattle.run_logged.proofs.Given.MomentsNumbers.{numbers_begin}
 use Rattle.play_lists.proofs.Given.HistoriesDueOn.{dues_begin}
 use Rattle.play_lists.proofs.Given.HistoriesQuestions.{questions_begin}
 use Rattle.play_lists.proofs.Given.KeptStays.{begins_kept}
@@ -31,14 +31,14 @@ use Rattle.play_linear.proofs.Linear.Chosen.{maps_chosen, shows_chosen}
 use Rattle.play_lists.proofs.Played.Along.{At, Is, StaysSo, far, held, lists_at}
 use Rattle.play_lists.proofs.Played.PlayedAs.{ReclaimedAs, played_as, reclaimed_as}
 use Rattle.play_linear.specs.Linear.Coming.{MapsComeAndGo}
-use Rattle.play_linear.specs.Linear.Shown.{ShowsAnswers}
+use Rattle.play_linear.specs.Linear.Shown.{RefinesAnswers}
 use Rattle.play_linear.proofs.Linear.AsideActs.{reclaiming_aside}
 use Rattle.play_linear.proofs.Linear.Holding.{AllHolds, acts_come, acts_hold, new_number}
 use Rattle.play_linear.proofs.Linear.RowActs.{all_steps_hold}
-use Rattle.run_grows.proofs.Given.General.{same_some}
+use Rattle.run_schedules.proofs.Given.General.{same_some}
 
 -- at first
-first_shows : {K V : Type 0} (same : K → K → Bool) (roots : ℕ) → ShowsAnswers {K = K} {V = V} same (past []) (moment []) nothing_known (at_first roots)
+first_shows : {K V : Type 0} (same : K → K → Bool) (roots : ℕ) → RefinesAnswers {K = K} {V = V} same (past []) (moment []) nothing_known (at_first roots)
 first_shows {K = K} {V = V} same roots =
     let whole = whole_begins K V same roots named in
     record {

@@ -3,15 +3,15 @@ use Rattle.std.specs.Prelude.{◌≡◌, ◌⊎◌, ◌+◌, ℕ, Bool, true, fa
 use Rattle.std.proofs.Common.{refl, ap, sym, subst, ◌∙◌, inl, inr}
 use Rattle.run_schedules.specs.Given.SeizeWordsMem.{Mem}
 use Rattle.play_lists.specs.Given.TablesDeclared.node.Node.{Node}
-use Rattle.run_grows.specs.Given.RawDeclared.machines.machine.Machine.{Machine}
-use Rattle.run_grows.specs.Given.RawDeclared.machines.progress.Progress.{Progress}
-use Rattle.run_grows.specs.Given.RawDeclared.machines.progress.Progress.TheVariants as progress
-use Rattle.run_grows.specs.Given.CallersTogether.{UnderWay}
+use Rattle.run_logged.specs.Given.RawDeclared.machines.machine.Machine.{Machine}
+use Rattle.run_logged.specs.Given.RawDeclared.machines.progress.Progress.{Progress}
+use Rattle.run_logged.specs.Given.RawDeclared.machines.progress.Progress.TheVariants as progress
+use Rattle.run_logged.specs.Given.CallersTogether.{UnderWay}
 use Rattle.play_lists.specs.Given.FinishesMachines.{machine_of}
 use Rattle.run_schedules.specs.declared.call.Call.{Call}
 use Rattle.run_schedules.specs.declared.call.Reply.{Reply}
 use Rattle.run_schedules.specs.declared.outcome.Outcome.{Outcome}
-use Rattle.run_schedules.specs.Schedules.After.{comes_to}
+use Rattle.run_schedules.specs.Schedules.After.{with_outcome}
 use Rattle.run_schedules.specs.Schedules.Entry.{ends_call}
 use Rattle.run_schedules.specs.Schedules.Moment.{Asking, UnderWay as CallThere}
 use Rattle.run_schedules.specs.Schedules.Views.{call_of}
@@ -23,10 +23,10 @@ use Rattle.play_lists.specs.Given.ScenesHeld.{Held, IsAt}
 use Rattle.play_lists.specs.Given.ScenesScene.{Scene}
 use Rattle.play_lists.proofs.Given.ScenesGoes.{goes_as}
 use Rattle.play_lists.specs.Given.ScenesStepping.{StepLeads, has_ended, scene_after}
-use Rattle.run_grows.specs.Given.NamedSeen.{kind_of}
-use Rattle.run_grows.specs.Given.NamedTelling.{number_by}
-use Rattle.run_grows.specs.Given.ExecutorDeclared.kind.CallKind.{CallKind}
-use Rattle.play_lists.specs.Given.HistoriesInEvent.{ComesSo}
+use Rattle.run_logged.specs.Given.NamedSeen.{kind_of}
+use Rattle.run_logged.specs.Given.NamedTelling.{number_by}
+use Rattle.run_logged.specs.Given.ExecutorDeclared.kind.CallKind.{CallKind}
+use Rattle.play_lists.specs.Given.HistoriesInEvent.{HasOutcomeSo}
 use Rattle.play_lists.specs.Given.ValuesValues.{KeepsValue, kept_after}
 use Rattle.play_lists.proofs.Given.ValuesValues.{values_go_on}
 use Rattle.run_schedules.specs.Deeds.Deeds.{Steps, acted_on, map_of_call, moment, named}
@@ -34,13 +34,13 @@ use Rattle.run_schedules.specs.Deeds.History.{IsLinearizable, past}
 use Rattle.play_lists.specs.Played.Play.{Calling, State, call_stepped, going, is_refusal, keeps, outcome_of}
 use Rattle.play_lists.proofs.Played.Alike.{its_call}
 use Rattle.play_lists.proofs.Played.Noted.{CallsAreNoted, not_over}
-use Rattle.play_linear.specs.Linear.Shown.{ShowsAnswers}
+use Rattle.play_linear.specs.Linear.Shown.{RefinesAnswers}
 use Rattle.play_linear.proofs.Linear.CallSteps.{ended, steps_answer, steps_are_linearizable, there_is as call_there}
 use Rattle.play_linear.proofs.Linear.Comes.{steps_come_so}
 use Rattle.play_linear.proofs.Linear.Heard.{IsHeard, IsSaid, come_asks, come_said, steps_aside, steps_itself}
 use Rattle.play_linear.proofs.Linear.HeardAll.{AreHeard, none_other, one_heard}
 use Rattle.play_linear.proofs.Linear.TakesReply.{TakesNone, steps_take_none}
-use Rattle.run_grows.proofs.Given.General.{same_some}
+use Rattle.run_schedules.proofs.Given.General.{same_some}
 
 -- what is told alike of both is there alike
 pub there_alike : {A B C : Type 0} (f : A → C) (g : B → C) (o : Option A) (p : Option B) → option_map f o ≡ option_map g p → (a : A) → o ≡ Some a → (b : B) × (p ≡ Some b) × (f a ≡ g b)
@@ -74,12 +74,12 @@ module _ {K V : Type 0} where
 
   -- it takes no reply, or asks
   asks_or_not : (known : Known) (kind : CallKind) (value : Option V) (said t : Progress (Node K V)) → said ≡ t → (e : CallThere K V) (machine : Machine K V K)
-      → (((about : Option ℕ) → said ≡ progress.Asks about → ⊥) → TakesNone machine) → TakesNone machine ⊎ ((question : Option ℕ) × ((comes_to (outcome_of known kind value t) e).stands ≡ Asking question))
+      → (((about : Option ℕ) → said ≡ progress.Asks about → ⊥) → TakesNone machine) → TakesNone machine ⊎ ((question : Option ℕ) × ((with_outcome (outcome_of known kind value t) e).stands ≡ Asking question))
   asks_or_not known kind value said (progress.Asks about) is e machine none = inr (come_asks (option_map (number_by known) about) e)
   asks_or_not known kind value said _ is e machine none = inl (none (λ about asks. absurd (cc (is, asks))))
 
 module _ {K V S : Type 0} (same : K → K → Bool) (hash : ℕ → K → ℕ) (x : State K V S) (s : Scene K V) (old new : Held K V) (at : IsAt same hash old s)
-    (all : ShowsAnswers same (past x.history) (moment x.history) x.known s) (noted : CallsAreNoted x) (heard : AreHeard x) (i m : ℕ) (c : Calling K V) (here : x.now.calls m i ≡ Some c)
+    (all : RefinesAnswers same (past x.history) (moment x.history) x.known s) (noted : CallsAreNoted x) (heard : AreHeard x) (i m : ℕ) (c : Calling K V) (here : x.now.calls m i ≡ Some c)
     (u : UnderWay K V K) (under : s.calls m i ≡ Some u) (its : c.machine ≡ machine_of u) (said : Progress (Node K V)) (leads : StepLeads same hash i said s old new)
     (memory : Mem (Node K V)) (machine : Machine K V K) where
   abbrev it : IsHeard (moment x.history) i c.call c.machine c.value
@@ -110,15 +110,15 @@ module _ {K V S : Type 0} (same : K → K → Bool) (hash : ℕ → K → ℕ) (
   keeps_now : KeepsValue d.call d.replies (machine_of u) c.value
   keeps_now = subst (λ (z : Machine K V K). KeepsValue d.call d.replies z c.value) its it.keeps
 
-  comes_so_then : ComesSo known_then d.call d.replies said o
+  comes_so_then : HasOutcomeSo known_then d.call d.replies said o
   comes_so_then =
-      subst (λ (z : Call K V). ComesSo known_then d.call d.replies said (outcome_of known_then (kind_of z) c.value said)) it.called
+      subst (λ (z : Call K V). HasOutcomeSo known_then d.call d.replies said (outcome_of known_then (kind_of z) c.value said)) it.called
       (steps_come_so same hash x.history x.known s old new at all m i u under said leads d it.is c.value keeps_now)
 
   pub played_steps_are_linearizable : IsLinearizable same x.history (record { deed = Steps i; outcome = o; effects = effects_of (acts.Call i m) x.known new.changed; refused = is_refusal new.changed })
   played_steps_are_linearizable = steps_are_linearizable same hash x.history x.known s old new at all m i u under said leads d it.is on_map o comes_so_then (is_refusal new.changed)
 
-  pub played_steps_answer : ShowsAnswers same (past then_at.history) (moment then_at.history) then_at.known led
+  pub played_steps_answer : RefinesAnswers same (past then_at.history) (moment then_at.history) then_at.known led
   played_steps_answer =
       steps_answer same hash x.history x.known s old new at all m i u under said leads d it.is on_map o comes_so_then (is_refusal new.changed) (over_so known_then (kind_of c.call) c.value said)
 
@@ -139,10 +139,10 @@ module _ {K V S : Type 0} (same : K → K → Bool) (hash : ℕ → K → ℕ) (
             → IsHeard (moment then_at.history) i d2.call d2.machine d2.value
         by true ended none = absurd (let both : None ≡ Some d2 = none in cc both)
         by false goes is = record {
-          there = comes_to o (record itself_then.0 { steps = itself_then.0.steps + 1 });
+          there = with_outcome o (record itself_then.0 { steps = itself_then.0.steps + 1 });
           is = itself_then.2;
           called = e_is.0 ∙ itself_then.1.0 ∙ it.called ∙ ap (λ (z : Calling K V). z.call) one;
-          keeps = subst (λ (z : Call K V). KeepsValue z (comes_to o (record itself_then.0 { steps = itself_then.0.steps + 1 })).replies d2.machine d2.value) (sym (e_is.0 ∙ itself_then.1.0))
+          keeps = subst (λ (z : Call K V). KeepsValue z (with_outcome o (record itself_then.0 { steps = itself_then.0.steps + 1 })).replies d2.machine d2.value) (sym (e_is.0 ∙ itself_then.1.0))
               (subst (λ (z : List (Option ℕ × Reply V)). KeepsValue d.call z d2.machine d2.value) (sym (e_is.1 ∙ itself_then.1.1)) keeps_then);
           asks = asks_or_not known_then (kind_of c.call) c.value said said refl (record itself_then.0 { steps = itself_then.0.steps + 1 }) d2.machine none_then;
         }
@@ -150,11 +150,11 @@ module _ {K V S : Type 0} (same : K → K → Bool) (hash : ℕ → K → ℕ) (
             one : record c { machine = machine; value = keeps (kind_of c.call) said c.value } ≡ d2
             one = same_some (record c { machine = machine; value = keeps (kind_of c.call) said c.value }) d2 is
 
-            itself_then : (z : CallThere K V) × IsSaid d z × (call_of (named i) (moment then_at.history) ≡ Some (comes_to o (record z { steps = z.steps + 1 })))
+            itself_then : (z : CallThere K V) × IsSaid d z × (call_of (named i) (moment then_at.history) ≡ Some (with_outcome o (record z { steps = z.steps + 1 })))
             itself_then =
                 steps_itself i m o (effects_of (acts.Call i m) x.known new.changed) (is_refusal new.changed) (moment x.history) acted (not_over known_then (kind_of c.call) c.value said goes) d it.is
 
-            e_is : (let e = comes_to o (record itself_then.0 { steps = itself_then.0.steps + 1 }) in (e.call ≡ itself_then.0.call) × (e.replies ≡ itself_then.0.replies))
+            e_is : (let e = with_outcome o (record itself_then.0 { steps = itself_then.0.steps + 1 }) in (e.call ≡ itself_then.0.call) × (e.replies ≡ itself_then.0.replies))
             e_is = come_said o (record itself_then.0 { steps = itself_then.0.steps + 1 })
 
             next : (u2 : UnderWay K V K) × (led.calls m i ≡ Some u2) × (d2.machine ≡ machine_of u2)

@@ -6,39 +6,39 @@ use Rattle.run_schedules.specs.Given.SeizeWordsDeclared.fault.Fault.TheVariants.
 use Rattle.play_lists.specs.Given.TablesDeclared.marks.TheConstants.{TOMBSTONE}
 use Rattle.play_lists.specs.Given.TablesDeclared.node.Node.{Node}
 use Rattle.play_lists.specs.Given.TablesDeclared.setting.Setting.{Setting}
-use Rattle.run_grows.specs.Given.ResizeSum.{sum_plan}
-use Rattle.run_grows.specs.Given.ReservesReserve.{reserve_plan}
-use Rattle.run_grows.specs.Given.SweepsSweep.{plan_at as sweep_at}
-use Rattle.run_grows.specs.Given.SweepsSweepPoints.{further, next_at, past, removes, reply_at}
-use Rattle.run_grows.specs.Given.ReservesDeclared.sweep.Sweep.{Sweep}
-use Rattle.run_grows.specs.Given.ReservesDeclared.sweep.Sweeping.{Sweeping}
-use Rattle.run_grows.specs.Given.ReservesDeclared.sweep.Sweeping.TheVariants as sweeping
-use Rattle.run_grows.specs.Given.ReservesDeclared.sweep.Swept.{Swept}
-use Rattle.run_grows.specs.Given.ReservesDeclared.sweep.Swept.TheVariants as swept_as
-use Rattle.run_grows.specs.Given.RawCall.{plan_at}
-use Rattle.run_grows.specs.Given.RawCallAsks.{absent_told, present_told, told_at, with_absent, with_present}
-use Rattle.run_grows.specs.Given.RawCallPoints.{at_gap, burying, ending, going, over}
-use Rattle.run_grows.specs.Given.RawMachine.{called, counted, machine_asked, machine_replied, reserved, swept, sweep_told}
-use Rattle.run_grows.specs.Given.RawDeclared.machines.answer.Called.{Called}
-use Rattle.run_grows.specs.Given.RawDeclared.machines.answer.Called.TheVariants as says
-use Rattle.run_grows.specs.Given.RawDeclared.machines.answer.End.{End}
-use Rattle.run_grows.specs.Given.RawDeclared.machines.answer.End.TheVariants as ends
-use Rattle.run_grows.specs.Given.RawDeclared.machines.answer.KeyAnswer.TheVariants as answers
-use Rattle.run_grows.specs.Given.RawDeclared.machines.asking.Asking.TheVariants as asking
-use Rattle.run_grows.specs.Given.RawDeclared.machines.asking.Gap.{Gap}
-use Rattle.run_grows.specs.Given.RawDeclared.machines.asking.Gap.TheVariants as gaps
-use Rattle.run_grows.specs.Given.RawDeclared.machines.asking.MachineReply.{MachineReply}
-use Rattle.run_grows.specs.Given.RawDeclared.machines.asking.MachineReply.TheVariants as reply
-use Rattle.run_grows.specs.Given.RawDeclared.machines.asking.Takes.{Takes}
-use Rattle.run_grows.specs.Given.RawDeclared.machines.asking.Takes.TheVariants as takes
-use Rattle.run_grows.specs.Given.RawDeclared.machines.asking.Told.TheVariants as tells
-use Rattle.run_grows.specs.Given.RawDeclared.machines.call.Calling.{Calling}
-use Rattle.run_grows.specs.Given.RawDeclared.machines.call.Calling.TheVariants as at
-use Rattle.run_grows.specs.Given.RawDeclared.machines.call.KeyCall.{KeyCall}
-use Rattle.run_grows.specs.Given.RawDeclared.machines.machine.Machine.{Machine}
-use Rattle.run_grows.specs.Given.RawDeclared.machines.machine.Machine.TheVariants as kinds
-use Rattle.run_grows.specs.Given.RawDeclared.machines.progress.Progress.{Progress}
-use Rattle.run_grows.specs.Given.RawDeclared.machines.progress.Progress.TheVariants as progress
+use Rattle.run_logged.specs.Given.ResizeSum.{sum_plan}
+use Rattle.run_logged.specs.Given.ReservesReserve.{reserve_plan}
+use Rattle.run_logged.specs.Given.SweepsSweep.{plan_at as sweep_at}
+use Rattle.run_logged.specs.Given.SweepsSweepPoints.{further, next_at, past, removes, reply_at}
+use Rattle.run_logged.specs.Given.ReservesDeclared.sweep.Sweep.{Sweep}
+use Rattle.run_logged.specs.Given.ReservesDeclared.sweep.Sweeping.{Sweeping}
+use Rattle.run_logged.specs.Given.ReservesDeclared.sweep.Sweeping.TheVariants as sweeping
+use Rattle.run_logged.specs.Given.ReservesDeclared.sweep.Swept.{Swept}
+use Rattle.run_logged.specs.Given.ReservesDeclared.sweep.Swept.TheVariants as swept_as
+use Rattle.run_logged.specs.Given.RawCall.{plan_at}
+use Rattle.run_logged.specs.Given.RawCallAsks.{absent_replied, present_replied, replied_at, with_absent, with_present}
+use Rattle.run_logged.specs.Given.RawCallPoints.{at_gap, burying, ending, going, over}
+use Rattle.run_logged.specs.Given.RawMachine.{called, counted, machine_asked, machine_replied, reserved, swept, sweep_with_reply}
+use Rattle.run_logged.specs.Given.RawDeclared.machines.answer.Called.{Called}
+use Rattle.run_logged.specs.Given.RawDeclared.machines.answer.Called.TheVariants as says
+use Rattle.run_logged.specs.Given.RawDeclared.machines.answer.End.{End}
+use Rattle.run_logged.specs.Given.RawDeclared.machines.answer.End.TheVariants as ends
+use Rattle.run_logged.specs.Given.RawDeclared.machines.answer.KeyAnswer.TheVariants as answers
+use Rattle.run_logged.specs.Given.RawDeclared.machines.asking.Asking.TheVariants as asking
+use Rattle.run_logged.specs.Given.RawDeclared.machines.asking.Gap.{Gap}
+use Rattle.run_logged.specs.Given.RawDeclared.machines.asking.Gap.TheVariants as gaps
+use Rattle.run_logged.specs.Given.RawDeclared.machines.asking.MachineReply.{MachineReply}
+use Rattle.run_logged.specs.Given.RawDeclared.machines.asking.MachineReply.TheVariants as reply
+use Rattle.run_logged.specs.Given.RawDeclared.machines.asking.Takes.{Takes}
+use Rattle.run_logged.specs.Given.RawDeclared.machines.asking.Takes.TheVariants as takes
+use Rattle.run_logged.specs.Given.RawDeclared.machines.asking.Told.TheVariants as tells
+use Rattle.run_logged.specs.Given.RawDeclared.machines.call.Calling.{Calling}
+use Rattle.run_logged.specs.Given.RawDeclared.machines.call.Calling.TheVariants as at
+use Rattle.run_logged.specs.Given.RawDeclared.machines.call.KeyCall.{KeyCall}
+use Rattle.run_logged.specs.Given.RawDeclared.machines.machine.Machine.{Machine}
+use Rattle.run_logged.specs.Given.RawDeclared.machines.machine.Machine.TheVariants as kinds
+use Rattle.run_logged.specs.Given.RawDeclared.machines.progress.Progress.{Progress}
+use Rattle.run_logged.specs.Given.RawDeclared.machines.progress.Progress.TheVariants as progress
 use Rattle.play_lists.specs.Given.EffectsDeclared.changed.Changed.TheVariants.{Nothing}
 use Rattle.run_schedules.specs.declared.call.Call.{Call}
 use Rattle.run_schedules.specs.declared.call.Call.TheVariants as calls
@@ -48,7 +48,7 @@ use Rattle.play_lists.specs.Given.ScenesHeld.{Held}
 use Rattle.play_lists.specs.Given.ScenesStepping.{StepsFrom}
 use Rattle.play_lists.proofs.Given.RuleKeys.Always.{always_plan_as}
 use Rattle.play_lists.proofs.Given.HistoriesAsking.{always_told, always_turned}
-use Rattle.run_grows.specs.Given.NamedMachines.{machine_for}
+use Rattle.run_logged.specs.Given.NamedMachines.{machine_for}
 use Rattle.play_linear.proofs.Linear.Aloud as keys
 use Rattle.play_linear.proofs.Linear.AloudSweeps as sweeps
 
@@ -87,7 +87,7 @@ module _ {K V : Type 0} where
   as_sweep p (q, swept_as.Refused fault) so = so
 
 -- of sweeps
-sweep_refuses : {V : Type 0} (stands : Sweeping) (c : Sweep) (said : MachineReply V) → sweeps.TakesNone stands → (sweep_told stands c said).1 ≡ Ok tt → ⊥
+sweep_refuses : {V : Type 0} (stands : Sweeping) (c : Sweep) (said : MachineReply V) → sweeps.TakesNone stands → (sweep_with_reply stands c said).1 ≡ Ok tt → ⊥
 sweep_refuses (sweeping.Asks word) c said none takes = none
 sweep_refuses _ c said none takes = cc takes
 
@@ -99,7 +99,7 @@ further_none c = by (nat_lt (past c).place c.table.len) (removes c.purpose && c.
     by false true = tt
     by false false = tt
 
-sweep_none : {V : Type 0} (stands : Sweeping) (c : Sweep) → c.stands ≡ stands → (said : MachineReply V) → (sweep_told stands c said).1 ≡ Ok tt → sweeps.TakesNone (sweep_told stands c said).0.stands
+sweep_none : {V : Type 0} (stands : Sweeping) (c : Sweep) → c.stands ≡ stands → (said : MachineReply V) → (sweep_with_reply stands c said).1 ≡ Ok tt → sweeps.TakesNone (sweep_with_reply stands c said).0.stands
 sweep_none (sweeping.Asks word) c is reply.Yes e = subst (λ (x : Sweeping). sweeps.TakesNone (reply_at x c true).stands) (sym is) (further_none c)
 sweep_none (sweeping.Asks word) c is reply.No e = subst (λ (x : Sweeping). sweeps.TakesNone (reply_at x c false).stands) (sym is) tt
 sweep_none (sweeping.Asks word) c is _ e = absurd (cc e)
@@ -140,7 +140,7 @@ module _ {K V : Type 0} (same : K → K → Bool) (hash : K → ℕ) (old new : 
 
 module _ {K V : Type 0} where
   -- One that takes none takes none;
-  key_refuses : (stands : Calling) (c : KeyCall K V K) (said : MachineReply V) → keys.TakesNone stands → (told_at stands c said).1 ≡ Ok tt → ⊥
+  key_refuses : (stands : Calling) (c : KeyCall K V K) (said : MachineReply V) → keys.TakesNone stands → (replied_at stands c said).1 ≡ Ok tt → ⊥
   key_refuses (at.Asks (asking.Absent gap)) c said none takes = none
   key_refuses (at.Asks (asking.Present word)) c said none takes = none
   key_refuses _ c said none takes = cc takes
@@ -173,7 +173,7 @@ module _ {K V : Type 0} where
   gap_none gaps.Past c value = tt
   gap_none gaps.Last c value = tt
 
-  absent_none : (its : Takes) (c : KeyCall K V K) (gap : Gap) (said : MachineReply V) → (absent_told its c gap said).1 ≡ Ok tt → keys.TakesNone (absent_told its c gap said).0.stands
+  absent_none : (its : Takes) (c : KeyCall K V K) (gap : Gap) (said : MachineReply V) → (absent_replied its c gap said).1 ≡ Ok tt → keys.TakesNone (absent_replied its c gap said).0.stands
   absent_none takes.Values c gap (reply.Insert value) e = gap_none gap c value
   absent_none takes.Changes c gap (reply.Insert value) e = gap_none gap c value
   absent_none takes.Changes c gap reply.Remove e = ending_none (ends.Refused RemoveNothing) c
@@ -183,7 +183,7 @@ module _ {K V : Type 0} where
   absent_none takes.Choices c gap said e = absurd (cc e)
   absent_none takes.Nothing c gap said e = absurd (cc e)
 
-  present_none : (its : Takes) (c : KeyCall K V K) (word : ℕ) (said : MachineReply V) → (present_told its c word said).1 ≡ Ok tt → keys.TakesNone (present_told its c word said).0.stands
+  present_none : (its : Takes) (c : KeyCall K V K) (word : ℕ) (said : MachineReply V) → (present_replied its c word said).1 ≡ Ok tt → keys.TakesNone (present_replied its c word said).0.stands
   present_none takes.Values c word (reply.Insert value) e = tt
   present_none takes.Changes c word (reply.Insert value) e = tt
   present_none takes.Changes c word reply.Remove e = burying_none (with_present c word tells.Removes) word
@@ -195,7 +195,7 @@ module _ {K V : Type 0} where
   present_none takes.Choices c word _ e = absurd (cc e)
   present_none takes.Nothing c word said e = absurd (cc e)
 
-  key_none : (stands : Calling) (c : KeyCall K V K) (said : MachineReply V) → (told_at stands c said).1 ≡ Ok tt → keys.TakesNone (told_at stands c said).0.stands
+  key_none : (stands : Calling) (c : KeyCall K V K) (said : MachineReply V) → (replied_at stands c said).1 ≡ Ok tt → keys.TakesNone (replied_at stands c said).0.stands
   key_none (at.Asks (asking.Absent gap)) c said e = absent_none c.replies.takes c gap said e
   key_none (at.Asks (asking.Present word)) c said e = present_none c.replies.takes c word said e
   key_none _ c said e = absurd (cc e)

@@ -1,6 +1,6 @@
 -- So it is after each act: what was sheltered is so still, and no entry reclaims any of it.
 use Rattle.std.proofs.Common.{◌≡◌, ℕ, List, ◌∷◌, ap, sym, subst}
-use Rattle.run_grows.specs.Given.SeizeWorld.{Begins, World}
+use Rattle.seize_acts.specs.Given.SeizeWorld.{Begins, World}
 use Rattle.play_lists.specs.Given.TablesNodes.{deferred_word}
 use Rattle.play_lists.specs.Given.TablesDeclared.node.Node.{Node}
 use Rattle.run_schedules.specs.Schedules.After.{AtEachEvent}

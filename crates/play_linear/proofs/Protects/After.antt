@@ -4,7 +4,7 @@ use Rattle.std.specs.List.{AllByRecursion}
 use Rattle.std.specs.Option.{option_or}
 use Rattle.std.proofs.Common.{◌≡◌, ℕ, List, [], ◌∷◌, refl, ap, sym, subst, ◌∙◌}
 use Rattle.std.proofs.lemmas.List.Folds.{find-append}
-use Rattle.run_grows.specs.Given.SeizeWorld.{World}
+use Rattle.seize_acts.specs.Given.SeizeWorld.{World}
 use Rattle.play_lists.specs.Given.TablesDeclared.node.Node.{Node}
 use Rattle.run_schedules.specs.Runs.Present.{Present, drops, enters_slot, guard_of}
 use Rattle.run_schedules.specs.Runs.Same.{is_same}

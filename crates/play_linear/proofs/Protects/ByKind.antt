@@ -1,26 +1,26 @@
 -- Each kind of step leaves sheltered, in sections that are open, what is so.
 use Rattle.std.specs.Prelude.{◌≡◌, ℕ, Bool, List, [], Some, None, Option, flat_map}
 use Rattle.std.proofs.Common.{ap, ◌∙◌}
-use Rattle.run_grows.specs.Given.SeizeLaw.{is_open}
-use Rattle.run_grows.specs.Given.SeizeWorld.{Runs, World}
-use Rattle.run_grows.specs.Given.SeizeDeclared.advance.Advance.{Advance}
-use Rattle.run_grows.specs.Given.SeizeDeclared.rows.settle.Settled.{Settled}
+use Rattle.run_logged.specs.Given.SeizeLaw.{is_open}
+use Rattle.seize_acts.specs.Given.SeizeWorld.{Runs, World}
+use Rattle.seize_acts.specs.Given.SeizeDeclared.advance.Advance.{Advance}
+use Rattle.seize_acts.specs.Given.SeizeDeclared.rows.settle.Settled.{Settled}
 use Rattle.play_lists.specs.Given.TablesNodes.{deferred_word}
 use Rattle.play_lists.specs.Given.TablesDeclared.node.Node.{Node}
 use Rattle.play_lists.specs.Given.TablesDeclared.setting.Setting.{Setting}
-use Rattle.run_grows.specs.Given.RawDeclared.machines.progress.Progress.{Progress as CallProgress}
+use Rattle.run_logged.specs.Given.RawDeclared.machines.progress.Progress.{Progress as CallProgress}
 use Rattle.run_schedules.specs.Runs.Present.{Present}
 use Rattle.run_schedules.specs.Schedules.Effects.{with_effects}
 use Rattle.run_schedules.specs.Schedules.Model.{thing_back}
 use Rattle.run_schedules.specs.Schedules.Moment.{Moment, Sheltered}
-use Rattle.run_grows.specs.Given.CallersTogether.{UnderWay}
+use Rattle.run_logged.specs.Given.CallersTogether.{UnderWay}
 use Rattle.play_lists.specs.Given.EffectsEffects.{effects_of, known_after}
 use Rattle.play_lists.specs.Given.EffectsKnown.{Known}
 use Rattle.play_lists.specs.Given.EffectsDeclared.acting.Acting.TheVariants as acts
 use Rattle.play_lists.specs.Given.FinishesEndings.{Finishing}
 use Rattle.play_lists.specs.Given.FinishesFactsEnds.{Deed, JoinsPair, LeavesTable, Looks, TakesCounter, TakesLeft, TakesPair, WritesRoot, events_of}
 use Rattle.play_lists.specs.Given.FinishesMakings.{Beginning}
-use Rattle.run_grows.specs.Given.MomentsWhole.{ShowsWhole}
+use Rattle.run_logged.specs.Given.MomentsWhole.{RefinesWhole}
 use Rattle.play_lists.specs.Given.OthersMakings.{WasNew}
 use Rattle.play_lists.specs.Given.ScenesEnding.{EndingLeads}
 use Rattle.play_lists.specs.Given.ScenesHeld.{Held, IsAt}
@@ -55,7 +55,7 @@ module _ {K V : Type 0} (size i t : ℕ) where
   end_opens (WritesRoot at word) w w2 (v, first, is) o = ap (λ (y : World (Node K V)). is_open t y.log) is ∙ ap (λ (y : World (Node K V)). is_open t y.log) first.4 ∙ o
 
 module _ {K V : Type 0} (same : K → K → Bool) (hash : ℕ → K → ℕ) (name : ℕ → List ℕ) (m : Moment K V) (known : Known) (s : Scene K V) (old new : Held K V) (at : IsAt same hash old s)
-    (whole : ShowsWhole same name m known s) where
+    (whole : RefinesWhole same name m known s) where
   -- of a call: the sections of guards that its caller's row spares
   pub call_step_shelters : (map i : ℕ) (u : UnderWay K V K) (here : s.calls map i ≡ Some u) (told : CallProgress (Node K V)) (leads : StepLeads same hash i told s old new)
       → GuardsAreOn (IsSpared i s.world) m.there → AreShelteredOn (IsSpared i s.world) m.there s.world known m.sheltered

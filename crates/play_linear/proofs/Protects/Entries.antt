@@ -2,29 +2,29 @@
 use Rattle.std.specs.Prelude.{Bool, true, false, Option, Some, None, flat_map, if◌then◌else◌}
 use Rattle.std.specs.Option.{is_none}
 use Rattle.std.proofs.Common.{◌≡◌, ℕ, List, [], refl, ap, sym, subst, ◌∙◌}
-use Rattle.run_grows.specs.Given.SeizeWorld.{World}
-use Rattle.run_grows.specs.Given.SeizeDeclared.advance.Advance.{Advance}
-use Rattle.run_grows.specs.Given.SeizeDeclared.rows.settle.Settled.{Settled}
+use Rattle.seize_acts.specs.Given.SeizeWorld.{World}
+use Rattle.seize_acts.specs.Given.SeizeDeclared.advance.Advance.{Advance}
+use Rattle.seize_acts.specs.Given.SeizeDeclared.rows.settle.Settled.{Settled}
 use Rattle.play_lists.specs.Given.TablesNodes.{deferred_word}
 use Rattle.play_lists.specs.Given.TablesDeclared.node.Node.{Node}
 use Rattle.play_lists.specs.Given.TablesDeclared.setting.Setting.{Setting}
-use Rattle.run_grows.specs.Given.ResizeDeclared.new_map.NewMap.{NewMap}
-use Rattle.run_grows.specs.Given.RawDeclared.machines.progress.Progress.{Progress as CallProgress}
+use Rattle.run_logged.specs.Given.ResizeDeclared.new_map.NewMap.{NewMap}
+use Rattle.run_logged.specs.Given.RawDeclared.machines.progress.Progress.{Progress as CallProgress}
 use Rattle.run_schedules.specs.Schedules.Effects.{with_effects}
 use Rattle.run_schedules.specs.Schedules.Model.{thing_back}
 use Rattle.run_schedules.specs.Schedules.Moment.{Moment, UnderWay as CallThere}
 use Rattle.run_schedules.specs.declared.call.Call.{Call}
 use Rattle.run_schedules.specs.declared.effect.Effect.{Effect}
 use Rattle.run_schedules.specs.declared.outcome.Outcome.{Outcome}
-use Rattle.run_grows.specs.Given.CallersTogether.{UnderWay}
-use Rattle.run_grows.proofs.Given.CallersTogether.Came.{came_reached}
+use Rattle.run_logged.specs.Given.CallersTogether.{UnderWay}
+use Rattle.run_logged.proofs.Given.CallersTogether.Came.{came_reached}
 use Rattle.seize_acts.proofs.Given.SeizeAloneHistories.Reached.{Reached}
 use Rattle.play_lists.specs.Given.EffectsEffects.{effects_of, known_after}
 use Rattle.play_lists.specs.Given.EffectsKnown.{Known}
 use Rattle.play_lists.specs.Given.EffectsDeclared.acting.Acting.TheVariants as acts
 use Rattle.play_lists.specs.Given.FinishesEndings.{Finishing}
 use Rattle.play_lists.specs.Given.FinishesMakings.{Beginning}
-use Rattle.run_grows.specs.Given.MomentsWhole.{ShowsWhole}
+use Rattle.run_logged.specs.Given.MomentsWhole.{RefinesWhole}
 use Rattle.play_lists.specs.Given.OthersMakings.{WasNew}
 use Rattle.play_lists.specs.Given.ScenesEnding.{EndingLeads}
 use Rattle.play_lists.specs.Given.ScenesHeld.{Held, IsAt}
@@ -95,7 +95,7 @@ module _ {K V : Type 0} where
       ∙ ap (λ (v : Moment K V). (with_effects None (acted_on e.deed v) e.effects v).sheltered) plain.begins
 
 module _ {K V S : Type 0} (same : K → K → Bool) (by_hasher : S → K → ℕ) (hash : ℕ → K → ℕ) (x : State K V S) (s : Scene K V) (is : IsOf by_hasher s s.world.row x.now) (old new : Held K V)
-    (at : IsAt same hash old s) (whole : ShowsWhole same named (moment x.history) x.known s) (shelter : SectionsShelter (moment x.history) x.known s.world) where
+    (at : IsAt same hash old s) (whole : RefinesWhole same named (moment x.history) x.known s) (shelter : SectionsShelter (moment x.history) x.known s.world) where
   abbrev m : Moment K V
   m = moment x.history
 

@@ -1,18 +1,18 @@
 -- Sections that no row of a caller ends go on over its steps.
 use Rattle.std.specs.Prelude.{◌≢◌, false}
 use Rattle.std.proofs.Common.{◌≡◌, ℕ, [], ◌∷◌, inl, inr, refl, ap, sym, subst, ◌∙◌, ◌+◌}
-use Rattle.run_grows.specs.Given.SeizeLaw.{Deferred}
-use Rattle.run_grows.specs.Given.SeizeWorld.{Begin, Defer', Defers, Enter', Flush, Happens, IsInside, Leave', LeaveOwned, Leaves, Refresh, Register', Request, Retire, Row, Settles, Unregister', World}
-use Rattle.run_grows.specs.Given.SeizeDeclared.rows.leave.Leave.{Leave}
-use Rattle.run_grows.specs.Given.SeizeDeclared.rows.leave.Leaving.TheVariants as leaving
+use Rattle.run_logged.specs.Given.SeizeLaw.{Deferred}
+use Rattle.seize_acts.specs.Given.SeizeWorld.{Begin, Defer', Defers, Enter', Flush, Happens, IsInside, Leave', LeaveOwned, Leaves, Refresh, Register', Request, Retire, Row, Settles, Unregister', World}
+use Rattle.seize_acts.specs.Given.SeizeDeclared.rows.leave.Leave.{Leave}
+use Rattle.seize_acts.specs.Given.SeizeDeclared.rows.leave.Leaving.TheVariants as leaving
 use Rattle.seize_acts.proofs.Given.SeizeAloneHistories.Reached.{Reached}
 use Rattle.seize_acts.proofs.Given.SeizeRuleRows.Known.{leaving_on, works_on}
 use Rattle.seize_acts.proofs.Given.SeizeRuleRows.Teams.{is_shared, no_other, shares}
 use Rattle.play_lists.specs.Given.TablesNodes.{deferred_word}
 use Rattle.play_lists.specs.Given.TablesDeclared.node.Node.{Node}
 use Rattle.play_lists.specs.Given.TablesDeclared.setting.Setting.{Setting}
-use Rattle.run_grows.specs.Given.CallersTogether.{HandsOver, IsOneStep}
-use Rattle.run_grows.proofs.Given.CallersTogether.At.{at_same}
+use Rattle.run_logged.specs.Given.CallersTogether.{HandsOver, IsOneStep}
+use Rattle.run_logged.proofs.Given.CallersTogether.At.{at_same}
 use Rattle.play_lists.proofs.Given.PromisesShelters.Within.{GoOnByRows, Sections}
 use Rattle.play_linear.specs.Protects.Shelters.{IsOpen}
 use Rattle.play_linear.proofs.Protects.Sections.{Keeps, Spares, keeps_by, keeps_same, keeps_then, step_keeps, users_keep}

@@ -1,7 +1,7 @@
 -- The guards of a history whose sections are open are spared by whoever has no row beside them.
 use Rattle.std.specs.Prelude.{Option, Some, None}
 use Rattle.std.proofs.Common.{◌≡◌, ℕ, List, inl, inr, ap, sym, ◌∙◌}
-use Rattle.run_grows.specs.Given.SeizeWorld.{World}
+use Rattle.seize_acts.specs.Given.SeizeWorld.{World}
 use Rattle.seize_acts.proofs.Given.SeizeAloneHistories.Reached.{Reached}
 use Rattle.play_lists.specs.Given.TablesNodes.{deferred_word}
 use Rattle.play_lists.specs.Given.TablesDeclared.node.Node.{Node}

@@ -3,18 +3,18 @@ use Rattle.std.specs.Prelude.{Bool, true, false, Some, is_ok, length, if◌then�
 use Rattle.std.proofs.Common.{◌≡◌, ℕ, [], ◌∷◌, refl, ap, sym, subst, ◌∙◌}
 use Rattle.seize_acts.specs.Acts.Acts.{row_steps}
 use Rattle.seize_acts.specs.Acts.Answers.{Grant}
-use Rattle.run_grows.specs.Given.SeizeLaw.{Ended}
-use Rattle.run_grows.specs.Given.SeizeWorld.{Row, World}
-use Rattle.run_grows.specs.Given.SeizeDeclared.advance.Advance.{Advance}
-use Rattle.run_grows.specs.Given.SeizeDeclared.advance.Advance.TheVariants as progress
-use Rattle.run_grows.specs.Given.SeizeDeclared.rows.settle.Settled.{Settled}
-use Rattle.run_grows.specs.Given.SeizeDeclared.rows.settle.Settled.TheVariants as settled
+use Rattle.run_logged.specs.Given.SeizeLaw.{Ended}
+use Rattle.seize_acts.specs.Given.SeizeWorld.{Row, World}
+use Rattle.seize_acts.specs.Given.SeizeDeclared.advance.Advance.{Advance}
+use Rattle.seize_acts.specs.Given.SeizeDeclared.advance.Advance.TheVariants as progress
+use Rattle.seize_acts.specs.Given.SeizeDeclared.rows.settle.Settled.{Settled}
+use Rattle.seize_acts.specs.Given.SeizeDeclared.rows.settle.Settled.TheVariants as settled
 use Rattle.play_lists.specs.Given.TablesNodes.{deferred_word}
 use Rattle.play_lists.specs.Given.TablesDeclared.node.Node.{Node}
 use Rattle.play_lists.specs.Given.TablesDeclared.setting.Setting.{Setting}
-use Rattle.run_grows.specs.Given.ResizeDeclared.new_map.NewMap.{NewMap}
-use Rattle.run_grows.specs.Given.RawMachine.{machine_asked, machine_replied}
-use Rattle.run_grows.specs.Given.RawDeclared.machines.end_map.EndMap.{EndMap}
+use Rattle.run_logged.specs.Given.ResizeDeclared.new_map.NewMap.{NewMap}
+use Rattle.run_logged.specs.Given.RawMachine.{machine_asked, machine_replied}
+use Rattle.run_logged.specs.Given.RawDeclared.machines.end_map.EndMap.{EndMap}
 use Rattle.run_schedules.specs.declared.holders.NamedGuard.{NamedGuard}
 use Rattle.run_schedules.specs.Schedules.Moment.{Moment}
 use Rattle.run_schedules.specs.declared.outcome.Outcome.{Outcome}
@@ -27,15 +27,15 @@ use Rattle.play_lists.specs.Given.FinishesEndings.{Finishing}
 use Rattle.play_lists.specs.Given.FinishesFactsEnds.{Deed as EndDeed}
 use Rattle.play_lists.specs.Given.FinishesMakings.{Beginning}
 use Rattle.play_lists.specs.Given.OthersMakings.{WasNew}
-use Rattle.play_lists.specs.Given.ScenesEnding.{EndingComesTo}
+use Rattle.play_lists.specs.Given.ScenesEnding.{EndingHasOutcome}
 use Rattle.play_lists.specs.Given.ScenesHeld.{Held, IsAt}
-use Rattle.play_lists.specs.Given.ScenesMaking.{MakingComesTo, MakingLeads}
+use Rattle.play_lists.specs.Given.ScenesMaking.{MakingHasOutcome, MakingLeads}
 use Rattle.play_lists.specs.Given.ScenesScene.{HasNoCall, IsOnSlot, Scene, row_of, slot_of}
 use Rattle.play_lists.specs.Given.ActsActs.{Act, Answer, AsksCall, BeginsCall, BeginsEnding, BeginsMaking, BeginsRow, OfEnding, OfMaking, StepsCall, StepsEnding, StepsMaking, StepsRow, StopsCall, TellsCall}
-use Rattle.play_lists.specs.Given.ActsAsSteps.{EndedTo, LeadsAs, MadeTo, changed_by, held_in, row_changed, row_told}
+use Rattle.play_lists.specs.Given.ActsAsSteps.{EndedTo, LeadsAs, MadeTo, changed_by, held_in, row_changed, outcome_of_row_step}
 use Rattle.play_lists.specs.Given.ActsLeads.{Led, MayBe}
 use Rattle.run_schedules.specs.Deeds.Deeds.{Begins, Entry, Replies, Steps, Stops, begun, moment}
-use Rattle.run_grows.specs.Given.NamedSeen.{kind_of}
+use Rattle.run_logged.specs.Given.NamedSeen.{kind_of}
 use Rattle.play_lists.specs.Played.Play.{State, call_for, ending_deed, has_root, is_refusal, making_deed, making_outcome, outcome_of, reply_for, row_deed, row_outcome, row_stepped, settled_outcome}
 use Rattle.play_lists.specs.Played.Reached.{IsOf, row_or_rests}
 use Rattle.play_lists.proofs.Played.PlayedAs.{PlayedAs}
@@ -56,14 +56,14 @@ use Rattle.play_linear.proofs.Protects.Sections.{Keeps, keeps_by, keeps_same, us
 
 -- the world of the scene to which a step of a making, or of an end, has come
 module _ {K V : Type 0} (same : K → K → Bool) (hash : ℕ → K → ℕ) (s : Scene K V) (old new : Held K V) (i : ℕ) (n : Scene K V) where
-  made_world : (b : Beginning K) (opening : NewMap) (w2 : World (Node K V)) (told : Advance Setting) (comes : MakingComesTo same hash s old new i b opening w2 told) → MadeTo same hash s old new i b opening w2 told comes n
+  made_world : (b : Beginning K) (opening : NewMap) (w2 : World (Node K V)) (told : Advance Setting) (comes : MakingHasOutcome same hash s old new i b opening w2 told) → MadeTo same hash s old new i b opening w2 told comes n
       → n.world ≡ w2
   made_world b opening w2 progress.Goes comes is = ap (λ (v : Scene K V). v.world) is
   made_world b opening w2 progress.Waits comes never = absurd never
   made_world b opening w2 (progress.Done setting) comes is = ap (λ (v : Scene K V). v.world) is
   made_world b opening w2 (progress.Refused fault) comes is = ap (λ (v : Scene K V). v.world) is
 
-  ended_world : (f : Finishing K V) (ending : EndMap) (w2 : World (Node K V)) (deed : EndDeed) (told : Settled (Node K V)) (comes : EndingComesTo same hash s new i f ending w2 deed told)
+  ended_world : (f : Finishing K V) (ending : EndMap) (w2 : World (Node K V)) (deed : EndDeed) (told : Settled (Node K V)) (comes : EndingHasOutcome same hash s new i f ending w2 deed told)
       → EndedTo same hash s new i f ending w2 deed told comes n → n.world ≡ w2
   ended_world f ending w2 deed settled.Goes comes is = ap (λ (v : Scene K V). v.world) is
   ended_world f ending w2 deed settled.Waits comes never = absurd never
@@ -195,7 +195,7 @@ module _ {K V S : Type 0} (same : K → K → Bool) (by_hasher : S → K → ℕ
       let each = all_of (λ (k : NamedGuard). (k ≡ guard_on k.slot) × IsOpenOn x.now.rows s.world.uses k.slot) (λ (k : NamedGuard). k ≡ guard_on k.slot) m.there.guards (λ k both. both.0) guards.each in
       let inside = rows_by i s.world g w2 row
       (ap (λ (r : Row). row_steps deferred_word i r g s.world) (sym there) ∙ computed ∙ ap Some one) in
-      let it = row_entry_shelters same hash m x.known s old new at i (row_told (s.world.row i) g s.world.memory) leads row here each
+      let it = row_entry_shelters same hash m x.known s old new at i (outcome_of_row_step (s.world.row i) g s.world.memory) leads row here each
       (all_on (IsOpen s.world) m.there so.0.guards m.there.guards each (all_found m.there.guards) each) so.0 e refl refl inside in
       one_more x y s n so e (known_after acts.Row new.changed x.known) w2 (ap (λ (z : State K V S). z.history) comes) (ap (λ (z : State K V S). z.known) comes) (ap (λ (v : Scene K V). v.world) (goes row here))
       (it.0, protected_so e x.history it.1)

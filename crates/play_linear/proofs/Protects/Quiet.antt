@@ -4,18 +4,18 @@ use Rattle.run_schedules.specs.Given.SeizeWordsMem.{Mem}
 use Rattle.run_schedules.specs.Given.SeizeWordsOp.{Out, Exchange, Exchanged}
 use Rattle.std.specs.Prelude.{Ok}
 use Rattle.run_schedules.specs.Given.SeizeWordsDeclared.at.At.TheVariants.{Used}
-use Rattle.run_grows.specs.Given.SeizeDeclared.advance.Advance.{Advance}
+use Rattle.seize_acts.specs.Given.SeizeDeclared.advance.Advance.{Advance}
 use Rattle.play_lists.specs.Given.TablesDeclared.node.Node.{Node}
 use Rattle.play_lists.specs.Given.TablesDeclared.setting.Setting.{Setting}
-use Rattle.run_grows.specs.Given.ResizeNewMap.{plan_at}
-use Rattle.run_grows.specs.Given.ResizeDeclared.new_map.NewMap.{NewMap}
-use Rattle.run_grows.specs.Given.ResizeDeclared.new_map.Opening.{Opening}
-use Rattle.run_grows.specs.Given.ResizeDeclared.new_map.Opening.TheVariants as openings
+use Rattle.run_logged.specs.Given.ResizeNewMap.{plan_at}
+use Rattle.run_logged.specs.Given.ResizeDeclared.new_map.NewMap.{NewMap}
+use Rattle.run_logged.specs.Given.ResizeDeclared.new_map.Opening.{Opening}
+use Rattle.run_logged.specs.Given.ResizeDeclared.new_map.Opening.TheVariants as openings
 use Rattle.play_lists.specs.Given.TellsSeen.{seen_of}
-use Rattle.play_lists.specs.Given.TellerTells.{StepsTold, told_of}
+use Rattle.play_lists.specs.Given.TellerTells.{StepsObserved, observed_of}
 use Rattle.play_lists.specs.Given.EffectsDeclared.changed.Changed.{Changed}
 use Rattle.play_lists.specs.Given.EffectsDeclared.changed.Changed.TheVariants as changed
-use Rattle.run_grows.specs.Given.SeizeWorld.{World}
+use Rattle.seize_acts.specs.Given.SeizeWorld.{World}
 use Rattle.run_schedules.specs.Runs.Present.{Present}
 use Rattle.run_schedules.specs.Schedules.Moment.{Moment, Sheltered}
 use Rattle.play_lists.specs.Given.EffectsEffects.{known_after}
@@ -41,11 +41,11 @@ module _ {K V : Type 0} (c : NewMap) (m n : Mem (Node K V)) (told : Changed) (en
   abbrev LeavesKnown : Changed → Type 0
   LeavesKnown x = (who : Acting) (known : Known) → known_after who x known ≡ known
 
-  exchange_leaves : (out : Out (Node K V)) → LeavesKnown (told_of (Exchange (Used c.setting.root) 0 1) out (seen_of m (Exchange (Used c.setting.root) 0 1) out))
+  exchange_leaves : (out : Out (Node K V)) → LeavesKnown (observed_of (Exchange (Used c.setting.root) 0 1) out (seen_of m (Exchange (Used c.setting.root) 0 1) out))
   exchange_leaves (Exchanged (Ok word)) who known = refl
   exchange_leaves _ who known = refl
 
-  pub rootless_leaves : (stands : Opening) → has_root stands ≡ false → StepsTold K V (NewMap × Advance Setting) m changed.Nothing (plan_at c stands) n told end → LeavesKnown told
+  pub rootless_leaves : (stands : Opening) → has_root stands ≡ false → StepsObserved K V (NewMap × Advance Setting) m changed.Nothing (plan_at c stands) n told end → LeavesKnown told
   rootless_leaves openings.Takes none steps = subst LeavesKnown (sym steps.1.1) (exchange_leaves steps.0)
   rootless_leaves (openings.Refused fault) none steps = subst LeavesKnown (sym steps.2) (λ who known. refl)
   rootless_leaves openings.Shards none steps = absurd (cc none)

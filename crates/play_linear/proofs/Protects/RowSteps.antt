@@ -3,14 +3,14 @@ use Rattle.std.specs.Prelude.{◌≢◌, ◌==◌, ◌&&◌, nat_lt, Bool, true,
 use Rattle.std.specs.List.{AllByRecursion}
 use Rattle.std.proofs.Common.{◌≡◌, ℕ, List, [], ◌∷◌, refl, ap, sym, subst, ◌∙◌}
 use Rattle.run_schedules.specs.Given.SeizeWordsDeclared.at.At.TheVariants.{Entry as AtEntry, Root, Slot, Used, Word}
-use Rattle.run_grows.specs.Given.SeizeWorld.{IsInside, Leaves as LeavesRow, World}
-use Rattle.run_grows.specs.Given.SeizeDeclared.rows.leave.Leave.{Leave}
-use Rattle.run_grows.specs.Given.SeizeDeclared.rows.leave.Leaving.{Leaving}
-use Rattle.run_grows.specs.Given.SeizeDeclared.rows.leave.Leaving.TheVariants as leaving
-use Rattle.run_grows.specs.Given.SeizeDeclared.rows.register.Register.{Register}
-use Rattle.run_grows.specs.Given.SeizeDeclared.rows.register.Registering.{Registering}
-use Rattle.run_grows.specs.Given.SeizeDeclared.rows.register.Registering.TheVariants as registers
-use Rattle.run_grows.specs.Given.SeizeDeclared.states.TheConstants.{ACTIVE}
+use Rattle.seize_acts.specs.Given.SeizeWorld.{IsInside, Leaves as LeavesRow, World}
+use Rattle.seize_acts.specs.Given.SeizeDeclared.rows.leave.Leave.{Leave}
+use Rattle.seize_acts.specs.Given.SeizeDeclared.rows.leave.Leaving.{Leaving}
+use Rattle.seize_acts.specs.Given.SeizeDeclared.rows.leave.Leaving.TheVariants as leaving
+use Rattle.seize_acts.specs.Given.SeizeDeclared.rows.register.Register.{Register}
+use Rattle.seize_acts.specs.Given.SeizeDeclared.rows.register.Registering.{Registering}
+use Rattle.seize_acts.specs.Given.SeizeDeclared.rows.register.Registering.TheVariants as registers
+use Rattle.seize_acts.specs.Given.SeizeDeclared.states.TheConstants.{ACTIVE}
 use Rattle.play_lists.specs.Given.TablesNodes.{deferred_word}
 use Rattle.play_lists.specs.Given.TablesDeclared.node.Node.{Node}
 use Rattle.play_lists.specs.Given.EffectsDeclared.changed.Changed.{Changed}
@@ -29,7 +29,7 @@ use Rattle.play_lists.specs.Given.ScenesHeld.{Held, IsAt}
 use Rattle.play_lists.specs.Given.ScenesOnSlots.{RowLeads}
 use Rattle.play_lists.specs.Given.ScenesScene.{IsOnSlot, Scene, row_of}
 use Rattle.play_lists.specs.Given.ScenesDeclared.row.RowTold.{RowTold}
-use Rattle.run_grows.proofs.Given.CallersTogether.Came.{came_reached}
+use Rattle.run_logged.proofs.Given.CallersTogether.Came.{came_reached}
 use Rattle.seize_acts.proofs.Given.SeizeAloneHistories.Reached.{Reached}
 use Rattle.seize_acts.proofs.Given.SeizeAloneHistories.Uses.{inside_open}
 use Rattle.play_lists.proofs.Given.OthersRowPlans.{TellsRow, row_tells}

@@ -3,19 +3,19 @@ use Rattle.std.specs.Prelude.{Ok, Err, Option}
 use Rattle.std.proofs.Common.{◌≡◌, ℕ, true, List, [], ◌∷◌, ◌++◌, refl, ap, sym, subst, ◌∙◌, ◌+◌, arith}
 use Rattle.run_schedules.specs.Given.SeizeWordsMem.{Mem}
 use Rattle.run_schedules.specs.Given.SeizeWordsOp.{Out, Found, Stored, Exchanged, Made, Taken, Roomed}
-use Rattle.run_grows.specs.Given.SeizeLaw.{Deferred, Dropped, Effect, Ended, Entered, Left, LeftOver, Linked, Made as MadeBlock, Retired, Taken as TakenBlock, Unlinked, holds, is_open}
-use Rattle.run_grows.specs.Given.SeizeWorld.{Begin, Chooses, Clears, Defers, Drops, Ends, Enters, Event, Frees, Hand, Happens, Leaves, LeavesOver, Links, Makes, Making, Operates, Parts, Registers, Relinks, Rests, Rewrites, Row, Runs, Settles, Step, Steps', Unlinks, World, leave_effects, leaves_on, defers_on, made_by, register_effects, registers_on, settle_effects, settles_on}
-use Rattle.run_grows.specs.Given.SeizeSequence.{IsUsers}
-use Rattle.run_grows.specs.Given.SeizeDeclared.advance.Advance.{Advance}
-use Rattle.run_grows.specs.Given.SeizeDeclared.advance.Advance.TheVariants as progress
-use Rattle.run_grows.specs.Given.SeizeDeclared.rows.defer.Defer.{Defer}
-use Rattle.run_grows.specs.Given.SeizeDeclared.rows.leave.Leave.{Leave}
-use Rattle.run_grows.specs.Given.SeizeDeclared.rows.leave.Leaving.TheVariants as leaving
-use Rattle.run_grows.specs.Given.SeizeDeclared.rows.register.Register.{Register}
-use Rattle.run_grows.specs.Given.SeizeDeclared.rows.settle.Settle.{Settle}
-use Rattle.run_grows.specs.Given.SeizeDeclared.rows.settle.Settled.{Settled}
-use Rattle.run_grows.specs.Given.SeizeDeclared.rows.settle.Settled.TheVariants as settled
-use Rattle.run_grows.specs.Given.SeizeDeclared.states.TheConstants.{LAST_SLOT}
+use Rattle.run_logged.specs.Given.SeizeLaw.{Deferred, Dropped, Effect, Ended, Entered, Left, LeftOver, Linked, Made as MadeBlock, Retired, Taken as TakenBlock, Unlinked, holds, is_open}
+use Rattle.seize_acts.specs.Given.SeizeWorld.{Begin, Chooses, Clears, Defers, Drops, Ends, Enters, Event, Frees, Hand, Happens, Leaves, LeavesOver, Links, Makes, Making, Operates, Parts, Registers, Relinks, Rests, Rewrites, Row, Runs, Settles, Step, Steps', Unlinks, World, leave_effects, leaves_on, defers_on, made_by, register_effects, registers_on, settle_effects, settles_on}
+use Rattle.run_logged.specs.Given.SeizeSequence.{IsUsers}
+use Rattle.seize_acts.specs.Given.SeizeDeclared.advance.Advance.{Advance}
+use Rattle.seize_acts.specs.Given.SeizeDeclared.advance.Advance.TheVariants as progress
+use Rattle.seize_acts.specs.Given.SeizeDeclared.rows.defer.Defer.{Defer}
+use Rattle.seize_acts.specs.Given.SeizeDeclared.rows.leave.Leave.{Leave}
+use Rattle.seize_acts.specs.Given.SeizeDeclared.rows.leave.Leaving.TheVariants as leaving
+use Rattle.seize_acts.specs.Given.SeizeDeclared.rows.register.Register.{Register}
+use Rattle.seize_acts.specs.Given.SeizeDeclared.rows.settle.Settle.{Settle}
+use Rattle.seize_acts.specs.Given.SeizeDeclared.rows.settle.Settled.{Settled}
+use Rattle.seize_acts.specs.Given.SeizeDeclared.rows.settle.Settled.TheVariants as settled
+use Rattle.seize_acts.specs.Given.SeizeDeclared.states.TheConstants.{LAST_SLOT}
 use Rattle.seize_acts.proofs.Given.SeizeMovesMoves.Blocks.{never_held}
 use Rattle.seize_acts.proofs.Given.SeizeMovesState.Held.{NoneLeft, NotLeft, held_beside, held_through}
 use Rattle.seize_acts.proofs.Given.SeizeRulePoints.Aside.{HandFits}

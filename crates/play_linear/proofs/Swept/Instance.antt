@@ -19,22 +19,22 @@ use Rattle.play_lists.specs.Given.ScenesStepping.{scene_after}
 use Rattle.play_lists.specs.Given.FollowsCalling.{come_to, told}
 use Rattle.play_lists.specs.Given.OthersEndings.{without_map}
 use Rattle.play_lists.specs.Given.OthersWalks.{given_up}
-use Rattle.run_grows.proofs.Given.PurposesNothing.{no_calls_are_swept}
+use Rattle.run_sweeps.proofs.Purposes.Nothing.{no_calls_are_swept}
 use Rattle.play_lists.specs.Agrees.Shards.{ShardsAre}
 use Rattle.run_schedules.specs.Deeds.Deeds.{Begins, Ends, Entry, Makes, MapFails, MapGoes, ReclaimsAll, Replies, Steps, Stops, acted_on, after, caller_of, come, map_of_call, moment, named, worked}
 use Rattle.run_schedules.specs.Deeds.History.{IsSwept, is_of_kind, past, transition}
-use Rattle.run_grows.specs.Given.NamedSeen.{kind_of}
+use Rattle.run_logged.specs.Given.NamedSeen.{kind_of}
 use Rattle.play_lists.specs.Played.Play.{call_for, is_over, is_refusal, making_outcome, outcome_of, row_deed, settled_outcome}
-use Rattle.play_linear.specs.Linear.Shown.{ShowsAnswers}
+use Rattle.play_linear.specs.Linear.Shown.{RefinesAnswers}
 use Rattle.play_linear.proofs.Linear.Like.{IsLike, likes_answer}
 use Rattle.play_linear.proofs.Linear.OthersGo.{makings_step, ends_step, maps_come}
 use Rattle.play_linear.proofs.Linear.RowsPlayed.{is_of_row, no_caller, rows_like}
-use Rattle.play_linear.specs.Swept.Shown.{HasSwept, ShowsSweeps}
+use Rattle.play_linear.specs.Swept.Shown.{HasSwept, RefinesSweeps}
 use Rattle.play_linear.proofs.Swept.Calls.{reads, sweeps_begin, sweeps_go_on, sweeps_step, sweeps_stop, sweeps_take}
 use Rattle.play_linear.proofs.Swept.Kept.{IsKept, alone, coming, comes_by}
 use Rattle.play_linear.proofs.Swept.Others.{sweeps_by_end, sweeps_by_end_begun, sweeps_by_making, sweeps_by_making_begun, sweeps_by_map_come, sweeps_by_map_gone, sweeps_by_reclaiming, sweeps_by_row, sweeps_by_row_begun, sweeps_chosen, sweeps_like, sweeps_over}
 use Rattle.play_linear.proofs.Swept.SweptBy.{pair_words, right, shows_as_walk, walks_bring_none}
-use Rattle.run_grows.proofs.Given.General.{same_some}
+use Rattle.run_schedules.proofs.Given.General.{same_some}
 
 module _ {K V : Type 0} (same : K → K → Bool) (terms : Terms) where
   -- an entry of no call is swept
@@ -45,8 +45,8 @@ module _ {K V : Type 0} (same : K → K → Bool) (terms : Terms) where
   )
 
   -- one more entry, whose moment is like that to which its effects, and what it begins and ends, have led
-  one_more : (history : List (Entry K V)) (known known2 : Known) (s t : Scene K V) → ShowsAnswers same (past history) (moment history) known s → HasSwept same terms history known s
-      → (e : Entry K V) → IsSwept same terms history e → (m : Moment K V) → ShowsSweeps same (past history) m known2 t → IsLike m (after e (moment history)) → HasSwept same terms (e ∷ history) known2 t
+  one_more : (history : List (Entry K V)) (known known2 : Known) (s t : Scene K V) → RefinesAnswers same (past history) (moment history) known s → HasSwept same terms history known s
+      → (e : Entry K V) → IsSwept same terms history e → (m : Moment K V) → RefinesSweeps same (past history) m known2 t → IsLike m (after e (moment history)) → HasSwept same terms (e ∷ history) known2 t
   one_more history known known2 s t all has e swept m sweeps like = record {
     shows = sweeps_over same (past history) known2 t m (after e (moment history)) sweeps like (let before = all.dues.history.past.counted in omega (arith, before));
     each = (swept, has.each);
@@ -84,7 +84,7 @@ module _ {K V : Type 0} (same : K → K → Bool) (hash : ℕ → K → ℕ) (te
         let sweeps = sweeps_step same hash (past history) known s old new at all has.shows map i u here said leads called value (pair_words same hash history known s old new at all has.shows.purposes map i u here said leads d d_is)
         ended in
         one_more same terms history known known2 s _ all has e swept (come_to (named i) o 1 (worked e (moment history)))
-        (subst (λ (x : Moment K V). ShowsSweeps same (past history) (come_to (named i) o 1 x) known2 (let to = leads map u here in scene_after same s old new map i to.0 u to.1 said to.4)) (sym worked_is) sweeps) refl);
+        (subst (λ (x : Moment K V). RefinesSweeps same (past history) (come_to (named i) o 1 x) known2 (let to = leads map u here in scene_after same s old new map i to.0 u to.1 said to.4)) (sym worked_is) sweeps) refl);
     calls_take = λ history known s old new at all shards has map i u here d d_is question asks standing there reply next next_is takes kind at2 shows.
         one_more same terms history known known s _ all has (alone (Replies i reply) outcome.Goes) (none_swept same terms history (alone (Replies i reply) outcome.Goes) refl) (told (named i) reply (moment history))
         (sweeps_take same hash (past history) known s old new at all has.shows map i u here d d_is question asks standing there reply next next_is takes kind) refl;

@@ -1,20 +1,20 @@
 -- What is so of a history, of what is known, and of the scene to which acts have led, and stays so by each kind of step, beside what else is so of them: its entry, if there is one, is on the history then.
 use Rattle.std.specs.Prelude.{◌≡◌, ℕ, Bool, true, false, List, [], ◌∷◌, Option, Some, None, Ok}
-use Rattle.run_grows.specs.Given.SeizeWorld.{Begin, Rests, Step}
-use Rattle.run_grows.specs.Given.SeizeDeclared.advance.Advance.{Advance as Making}
-use Rattle.run_grows.specs.Given.SeizeDeclared.advance.Advance.TheVariants as progress
-use Rattle.run_grows.specs.Given.SeizeDeclared.rows.reclaim_all.ReclaimAll.{ReclaimAll}
-use Rattle.run_grows.specs.Given.SeizeDeclared.rows.settle.Settled.{Settled}
-use Rattle.run_grows.specs.Given.SweepsSweepPoints.{after_next}
+use Rattle.seize_acts.specs.Given.SeizeWorld.{Begin, Rests, Step}
+use Rattle.seize_acts.specs.Given.SeizeDeclared.advance.Advance.{Advance as Making}
+use Rattle.seize_acts.specs.Given.SeizeDeclared.advance.Advance.TheVariants as progress
+use Rattle.seize_acts.specs.Given.SeizeDeclared.rows.reclaim_all.ReclaimAll.{ReclaimAll}
+use Rattle.seize_acts.specs.Given.SeizeDeclared.rows.settle.Settled.{Settled}
+use Rattle.run_logged.specs.Given.SweepsSweepPoints.{after_next}
 use Rattle.play_lists.specs.Given.TablesDeclared.node.Node.{Node}
 use Rattle.play_lists.specs.Given.TablesDeclared.setting.Setting.{Setting}
-use Rattle.run_grows.specs.Given.ResizeDeclared.new_map.NewMap.{NewMap}
-use Rattle.run_grows.specs.Given.RawMachine.{machine_replied}
-use Rattle.run_grows.specs.Given.RawDeclared.machines.progress.Progress.{Progress}
-use Rattle.run_grows.specs.Given.CallersOverAll.{CallOverAll, gone_on}
-use Rattle.run_grows.specs.Given.CallersTogether.{OverAll, UnderWay}
+use Rattle.run_logged.specs.Given.ResizeDeclared.new_map.NewMap.{NewMap}
+use Rattle.run_logged.specs.Given.RawMachine.{machine_replied}
+use Rattle.run_logged.specs.Given.RawDeclared.machines.progress.Progress.{Progress}
+use Rattle.run_logged.specs.Given.CallersOverAll.{CallOverAll, gone_on}
+use Rattle.run_logged.specs.Given.CallersTogether.{OverAll, UnderWay}
 use Rattle.play_lists.specs.Given.FinishesEndings.{Finishing}
-use Rattle.play_lists.specs.Given.FinishesMachines.{ToldOfKind, machine_of}
+use Rattle.play_lists.specs.Given.FinishesMachines.{RepliedOfKind, machine_of}
 use Rattle.play_lists.specs.Given.FinishesMakings.{Beginning, HasMade}
 use Rattle.play_lists.specs.Given.FinishesMaps.{Standing, with_call}
 use Rattle.run_schedules.specs.declared.call.Call.{Call}
@@ -42,13 +42,13 @@ use Rattle.play_lists.specs.Given.ScenesDeclared.row.RowTold.{RowTold}
 use Rattle.play_lists.specs.Given.ScenesDeclared.row.SlotCall.{SlotCall}
 use Rattle.play_lists.specs.Given.ScenesDeclared.row.SlotRow.{SlotRow}
 use Rattle.play_lists.specs.Given.FollowsCalling.{NoneNamed}
-use Rattle.run_grows.specs.Given.HandsAsked.{as_told}
+use Rattle.run_logged.specs.Given.HandsAsked.{reply_to_machine}
 use Rattle.play_lists.specs.Given.OthersEndings.{ending_after}
 use Rattle.play_lists.specs.Given.OthersMakings.{WasNew, making_after}
 use Rattle.play_lists.specs.Given.OthersRows.{scene_then}
-use Rattle.run_grows.specs.Given.MomentsEndings.{IsOfIts}
-use Rattle.run_grows.specs.Given.MomentsNumbers.{AreFound}
-use Rattle.run_grows.specs.Given.NamedSeen.{kind_of}
+use Rattle.run_logged.specs.Given.MomentsEndings.{IsOfIts}
+use Rattle.run_logged.specs.Given.MomentsNumbers.{AreFound}
+use Rattle.run_logged.specs.Given.NamedSeen.{kind_of}
 use Rattle.play_lists.specs.Given.ValuesValues.{KeepsValue}
 use Rattle.play_lists.specs.Given.ActsActs.{Wanted, begun}
 use Rattle.play_lists.specs.Given.ActsDoings.{scene_chosen}
@@ -56,7 +56,7 @@ use Rattle.play_lists.specs.Agrees.Fresh.{IsFresh}
 use Rattle.run_schedules.specs.Deeds.Deeds.{Begins, Deed, Ends, Entry, Makes, MapComes, MapFails, MapGoes, ReclaimsAll, Replies, Steps, Stops, come, moment, named}
 use Rattle.run_schedules.specs.Deeds.History.{past}
 use Rattle.play_lists.specs.Played.Play.{call_for, has_root, is_over, is_refusal, making_outcome, outcome_of, pairs_for, row_deed, settled_outcome}
-use Rattle.play_linear.specs.Linear.Shown.{ShowsAnswers}
+use Rattle.play_linear.specs.Linear.Shown.{RefinesAnswers}
 use Rattle.play_linear.proofs.Linear.MapsPlayed.{IsApart}
 
 -- the map that comes of a making
@@ -75,12 +75,12 @@ module _ {K V : Type 0} where
 module _ {K V : Type 0} (same : K → K → Bool) (hash : ℕ → K → ℕ) (R P : List (Entry K V) → Known → Scene K V → Type 0) where
   -- if the moment shows then what its next entry asks for
   abbrev pub Now : List (Entry K V) → Known → Scene K V → Type 0
-  Now history known s = ShowsAnswers same (past history) (moment history) known s → P history known s
+  Now history known s = RefinesAnswers same (past history) (moment history) known s → P history known s
 
   -- from a history whose moment shows what its next entry asks for, of which something else is so
   abbrev pub From : (List (Entry K V) → Known → Scene K V → Held K V → Held K V → Type 0) → Type 0
   From Then =
-      (history : List (Entry K V)) (known : Known) (s : Scene K V) (old new : Held K V) → IsAt same hash old s → ShowsAnswers same (past history) (moment history) known s → R history known s → P history known s
+      (history : List (Entry K V)) (known : Known) (s : Scene K V) (old new : Held K V) → IsAt same hash old s → RefinesAnswers same (past history) (moment history) known s → R history known s → P history known s
       → Then history known s old new
 
   pub record IsKept : Type 0 where
@@ -100,8 +100,8 @@ module _ {K V : Type 0} (same : K → K → Bool) (hash : ℕ → K → ℕ) (R 
     pub calls_take : From (λ history known s old new. (map i : ℕ) (u : UnderWay K V K) → s.calls map i ≡ Some u
         → (d : CallThere K V) → call_of (named i) (moment history) ≡ Some d → (question : Option ℕ) → d.stands ≡ Asking question
         → (standing : Standing K) → s.maps map ≡ Some standing → (reply : Reply V) (next : UnderWay K V K)
-        → machine_of next ≡ (machine_replied (machine_of u) (as_told reply)).0 → (machine_replied (machine_of u) (as_told reply)).1 ≡ Ok tt
-        → ToldOfKind V same same old.batch_size old.roots slot_of standing i u (as_told reply) next → IsAt same hash new (scene_with map i next s)
+        → machine_of next ≡ (machine_replied (machine_of u) (reply_to_machine reply)).0 → (machine_replied (machine_of u) (reply_to_machine reply)).1 ≡ Ok tt
+        → RepliedOfKind V same same old.batch_size old.roots slot_of standing i u (reply_to_machine reply) next → IsAt same hash new (scene_with map i next s)
         → Now (alone (Replies i reply) outcome.Goes ∷ history) known (scene_with map i next s))
     pub walks_go_on : From (λ history known s old new. (map i : ℕ) (leads : AskLeads same hash i true s old new) (o : CallOverAll) (here : s.calls map i ≡ Some (OverAll o))
         → (leads map (OverAll o) here).0 ≡ OverAll (gone_on o (after_next o.sweep)) → Now history known (scene_with map i (leads map (OverAll o) here).0 s))
@@ -114,7 +114,7 @@ module _ {K V : Type 0} (same : K → K → Bool) (hash : ℕ → K → ℕ) (R 
     pub rows_step : From (λ history known s old new. (i : ℕ) (said : RowTold (Node K V)) (leads : RowLeads same hash i said s old new) (row : SlotRow) (here : IsOnSlot s i row) (o : Outcome V)
         → (let e : Entry K V = record { deed = row_deed row; outcome = o; effects = effects_of acts.Row known new.changed; refused = is_refusal new.changed } in
         Now (e ∷ history) (known_after acts.Row new.changed known) (scene_then same hash (Step i) s old new (leads row here).2)))
-    pub all_step : (history : List (Entry K V)) (known : Known) (s : Scene K V) (old new : Held K V) → ShowsAnswers same (past history) (moment history) known s → P history known s
+    pub all_step : (history : List (Entry K V)) (known : Known) (s : Scene K V) (old new : Held K V) → RefinesAnswers same (past history) (moment history) known s → P history known s
         → (i : ℕ) (lists : ℕ → List ℕ) (before next : ReclaimAll) (told : Settled (Node K V)) → IsReclaiming same hash old s i lists before
         → (leads : ReclaimingLeads same hash s i lists old new before next told)
         → (let e : Entry K V = record { deed = ReclaimsAll (is_over told); outcome = settled_outcome told; effects = effects_of acts.Row known new.changed; refused = is_refusal new.changed } in
@@ -158,5 +158,5 @@ module _ {K V : Type 0} (same : K → K → Bool) (hash : ℕ → K → ℕ) (R 
         let e : Entry K V = record { deed = MapGoes map; outcome = settled_outcome said; effects = effects_of (acts.Ending map) known new.changed; refused = is_refusal new.changed } in
         AreFound v → IsApart map v ended → IsAt same hash new ended → Now (e ∷ history) (known_after (acts.Ending map) new.changed known) ended))
     -- And where a choice of a number comes.
-    pub choices_come : (history : List (Entry K V)) (known : Known) (s : Scene K V) → ShowsAnswers same (past history) (moment history) known s → P history known s → (choice : ℕ)
+    pub choices_come : (history : List (Entry K V)) (known : Known) (s : Scene K V) → RefinesAnswers same (past history) (moment history) known s → P history known s → (choice : ℕ)
         → Now history known (scene_chosen choice s)

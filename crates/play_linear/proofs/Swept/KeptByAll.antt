@@ -2,14 +2,14 @@
 use Rattle.std.specs.Prelude.{◌≡◌, ℕ, Bool, List, Option, None}
 use Rattle.std.proofs.Common.{ap, sym, subst, ◌∙◌}
 use Rattle.seize_acts.specs.Acts.Answers.{Grant}
-use Rattle.run_grows.specs.Given.SeizeWorld.{Request, Row}
-use Rattle.run_grows.specs.Given.SeizeDeclared.rows.reclaim_all.ReclaimAll.{ReclaimAll}
+use Rattle.seize_acts.specs.Given.SeizeWorld.{Request, Row}
+use Rattle.seize_acts.specs.Given.SeizeDeclared.rows.reclaim_all.ReclaimAll.{ReclaimAll}
 use Rattle.play_lists.specs.Given.EffectsDeclared.changed.Changed.TheVariants.{Nothing as NoChange}
 use Rattle.play_lists.specs.Given.ScenesHeld.{Held, IsAt}
 use Rattle.play_lists.specs.Given.ScenesScene.{HasNoCall, IsOnSlot, Scene, row_of, slot_of}
 use Rattle.play_lists.specs.Given.EffectsKnown.{Known}
 use Rattle.play_lists.specs.Given.ActsActs.{Act, Answer, BeginsCall, StepsCall, TellsCall, AsksCall, StopsCall, BeginsMaking, StepsMaking, BeginsEnding, StepsEnding, BeginsRow, StepsRow}
-use Rattle.play_lists.specs.Given.ActsAsSteps.{LeadsAs, changed_by, held_in, row_changed, row_told}
+use Rattle.play_lists.specs.Given.ActsAsSteps.{LeadsAs, changed_by, held_in, row_changed, outcome_of_row_step}
 use Rattle.play_lists.specs.Given.ActsLeads.{Led, MayBe}
 use Rattle.play_lists.specs.Agrees.Fresh.{HasNewNumber}
 use Rattle.run_schedules.specs.Deeds.Deeds.{Entry}
@@ -49,7 +49,7 @@ module _ {K V S : Type 0} (same : K → K → Bool) (by_hasher : S → K → ℕ
       let new = then_held (StepsRow i g) in
       let there : s.world.row i ≡ row_of row = sym (is.between i no_call) ∙ ap row_or_rests row_is in
       let here : IsOnSlot s i row = (no_call, there) in
-      let said = row_told (s.world.row i) g s.world.memory in
+      let said = outcome_of_row_step (s.world.row i) g s.world.memory in
       let change : row_changed (row_of row) g x.now.memory ≡ new.changed = ap (row_changed (row_of row) g) is.memory ∙ ap (λ (r : Row). row_changed r g s.world.memory) (sym there) in
       let z : State K V S = row_stepped i row new.changed x end in
       let z_is : y ≡ z = y_is ∙ ap (λ c. row_stepped i row c x end) change in

@@ -2,14 +2,14 @@
 use Rattle.std.specs.Prelude.{◌≡◌, ◌⊎◌, ℕ, Bool, true, false, List, Option, Some, None, Ok, is_ok, is_err, length, option_map}
 use Rattle.std.proofs.Common.{refl, ap, sym, subst, ◌∙◌, inl, inr}
 use Rattle.seize_acts.specs.Acts.Answers.{Grant}
-use Rattle.run_grows.specs.Given.RawMachine.{machine_asked, machine_replied}
-use Rattle.run_grows.specs.Given.RawDeclared.machines.asking.MachineReply.{MachineReply as Told}
-use Rattle.run_grows.specs.Given.RawDeclared.machines.machine.Machine.{Machine}
-use Rattle.run_grows.specs.Given.RawDeclared.machines.progress.Progress.{Progress}
-use Rattle.run_grows.specs.Given.SeizeWorld.{Row}
+use Rattle.run_logged.specs.Given.RawMachine.{machine_asked, machine_replied}
+use Rattle.run_logged.specs.Given.RawDeclared.machines.asking.MachineReply.{MachineReply as Told}
+use Rattle.run_logged.specs.Given.RawDeclared.machines.machine.Machine.{Machine}
+use Rattle.run_logged.specs.Given.RawDeclared.machines.progress.Progress.{Progress}
+use Rattle.seize_acts.specs.Given.SeizeWorld.{Row}
 use Rattle.play_lists.specs.Given.TablesDeclared.node.Node.{Node}
-use Rattle.run_grows.specs.Given.CallersTogether.{UnderWay}
-use Rattle.play_lists.specs.Given.FinishesMachines.{ToldOfKind, machine_of}
+use Rattle.run_logged.specs.Given.CallersTogether.{UnderWay}
+use Rattle.play_lists.specs.Given.FinishesMachines.{RepliedOfKind, machine_of}
 use Rattle.play_lists.specs.Given.FinishesMaps.{with_call}
 use Rattle.play_lists.specs.Given.EffectsDeclared.changed.Changed.{Changed}
 use Rattle.play_lists.proofs.Given.ScenesNoCall.{none_is}
@@ -25,7 +25,7 @@ use Rattle.play_lists.specs.Given.ActsActs.{Act, Answer, OfCall, OfReply, OfAski
 use Rattle.play_lists.specs.Given.ActsAsSteps.{LeadsAs, changed_by, held_in}
 use Rattle.play_lists.specs.Given.ActsLeads.{Led, MayBe, asked_on}
 use Rattle.run_schedules.specs.Deeds.Deeds.{Entry, Replies, Stops, moment}
-use Rattle.play_lists.specs.Played.Play.{Calling, State, call_asked, call_begun, call_for, call_stepped, did, reply_for, told_call}
+use Rattle.play_lists.specs.Played.Play.{Calling, State, call_asked, call_begun, call_for, call_stepped, did, reply_for, replied_call}
 use Rattle.play_lists.specs.Played.Reached.{IsOf}
 use Rattle.play_lists.proofs.Played.PlayedAs.{PlayedAs}
 use Rattle.play_linear.proofs.Linear.BeginsPlayed.{asked_so, none_named, none_then, same_calls}
@@ -37,7 +37,7 @@ use Rattle.play_linear.proofs.Linear.TakesReply.{TakesNone, refuses}
 use Rattle.play_linear.proofs.Linear.StepsPlayed.{led, played_ended, there_is}
 use Rattle.play_lists.proofs.Played.Tied.{call_tied}
 use Rattle.play_linear.proofs.Swept.Kept.{IsKept, Now}
-use Rattle.run_grows.proofs.Given.General.{none_mapped as nothing_told}
+use Rattle.run_schedules.proofs.Given.General.{none_mapped as nothing_told}
 
 module _ {K V S : Type 0} (same : K → K → Bool) (by_hasher : S → K → ℕ) (hash : ℕ → K → ℕ) (batch_size roots : ℕ) (aborts : ℕ → V) (R P : List (Entry K V) → Known → Scene K V → Type 0)
     (kept : IsKept same hash R P) (x y : State K V S) (s n : Scene K V) (rows : ℕ → Row)
@@ -91,14 +91,14 @@ module _ {K V S : Type 0} (same : K → K → Bool) (by_hasher : S → K → ℕ
 
       z : Bool → State K V S
       z b = did b (Replies i said) outcome.Goes (OfReply (machine_replied c.machine reply).1)
-          (record x.now { calls = with_call x.now.calls m i (Some (told_call (machine_replied c.machine reply) said c)) }) x
+          (record x.now { calls = with_call x.now.calls m i (Some (replied_call (machine_replied c.machine reply) said c)) }) x
 
       by : (b : Bool) → is_ok (machine_replied c.machine reply).1 ≡ b → Then
       by true ok = comes_so (z true) (scene_with m i next s) (y_is ∙ ap z ok) n_is
           (kept.calls_take x.history x.known s old new at holds.shows other so m i u under it.there it.is asks.0 asks.1 standing stands said next
           (next_is ∙ ap (λ (t : Told V). (machine_replied (machine_of u) t).0) (sym (told_back (aborts (length x.told)) reply)))
           (subst (λ (t : Told V). (machine_replied (machine_of u) t).1 ≡ Ok tt) (sym (told_back (aborts (length x.told)) reply)) (subst (λ (w : Machine K V K). (machine_replied w reply).1 ≡ Ok tt) its taken))
-          (subst (λ (t : Told V). ToldOfKind V same same old.batch_size old.roots slot_of standing i u t next) (sym (told_back (aborts (length x.told)) reply)) kind.0) (subst (IsAt same hash new) n_is at2))
+          (subst (λ (t : Told V). RepliedOfKind V same same old.batch_size old.roots slot_of standing i u t next) (sym (told_back (aborts (length x.told)) reply)) kind.0) (subst (IsAt same hash new) n_is at2))
         where
           taken : (machine_replied c.machine reply).1 ≡ Ok tt
           taken = ok_is (machine_replied c.machine reply).1 ok

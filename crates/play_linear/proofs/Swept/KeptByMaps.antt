@@ -3,14 +3,14 @@ use Rattle.std.specs.Prelude.{◌≡◌, ℕ, Bool, true, false, List, ◌∷◌
 use Rattle.std.proofs.Common.{refl, ap, sym, subst, ◌∙◌}
 use Rattle.seize_acts.specs.Acts.Answers.{Grant}
 use Rattle.run_schedules.specs.Given.SeizeWordsMem.{Mem}
-use Rattle.run_grows.specs.Given.SeizeWorld.{Row}
-use Rattle.run_grows.specs.Given.SeizeDeclared.advance.Advance.{Advance}
-use Rattle.run_grows.specs.Given.SeizeDeclared.advance.Advance.TheVariants as making
-use Rattle.run_grows.specs.Given.SeizeDeclared.rows.settle.Settled.{Settled}
+use Rattle.seize_acts.specs.Given.SeizeWorld.{Row}
+use Rattle.seize_acts.specs.Given.SeizeDeclared.advance.Advance.{Advance}
+use Rattle.seize_acts.specs.Given.SeizeDeclared.advance.Advance.TheVariants as making
+use Rattle.seize_acts.specs.Given.SeizeDeclared.rows.settle.Settled.{Settled}
 use Rattle.play_lists.specs.Given.TablesDeclared.node.Node.{Node}
 use Rattle.play_lists.specs.Given.TablesDeclared.setting.Setting.{Setting}
-use Rattle.run_grows.specs.Given.ResizeNewMap.{new_map_plan}
-use Rattle.run_grows.specs.Given.ResizeDeclared.new_map.NewMap.{NewMap}
+use Rattle.run_logged.specs.Given.ResizeNewMap.{new_map_plan}
+use Rattle.run_logged.specs.Given.ResizeDeclared.new_map.NewMap.{NewMap}
 use Rattle.play_lists.specs.Given.FinishesEndings.{Finishing}
 use Rattle.play_lists.specs.Given.FinishesMakings.{Beginning}
 use Rattle.play_lists.specs.Given.EffectsDeclared.changed.Changed.{Changed}
@@ -24,8 +24,8 @@ use Rattle.run_schedules.specs.Schedules.Moment.{Moment}
 use Rattle.play_lists.specs.Given.EffectsEffects.{effects_of, known_after}
 use Rattle.play_lists.specs.Given.EffectsKnown.{Known}
 use Rattle.play_lists.specs.Given.EffectsDeclared.acting.Acting.TheVariants as acts
-use Rattle.run_grows.specs.Given.MomentsEndings.{IsOfIts}
-use Rattle.play_lists.proofs.Given.LoggedEndTold.{ends_alone}
+use Rattle.run_logged.specs.Given.MomentsEndings.{IsOfIts}
+use Rattle.run_logged.proofs.Log.EndTold.{ends_alone}
 use Rattle.play_lists.specs.Given.ActsActs.{Act, Answer, OfEnding, OfMaking, BeginsMaking, StepsMaking, BeginsEnding, StepsEnding}
 use Rattle.play_lists.specs.Given.ActsAsSteps.{LeadsAs, changed_by, changed_of, held_in}
 use Rattle.play_lists.specs.Given.ActsLeads.{Led, MayBe}

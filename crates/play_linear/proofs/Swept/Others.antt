@@ -3,18 +3,18 @@ use Rattle.std.specs.Prelude.{◌≡◌, ◌⊎◌, ◌≤◌, ℕ, suc, Bool, t
 use Rattle.std.proofs.Common.{refl, ap, sym, subst, ◌∙◌, arith, inl, inr}
 use Rattle.run_schedules.specs.Given.SeizeWordsMem.{Mem, word_at}
 use Rattle.run_schedules.specs.Given.SeizeWordsDeclared.at.At.TheVariants.{Word}
-use Rattle.run_grows.specs.Given.SeizeReclaimAll.{reclaim_all_plan}
-use Rattle.run_grows.specs.Given.SeizeWorld.{Begin, Step}
-use Rattle.run_grows.specs.Given.SeizeDeclared.advance.Advance.{Advance as Making}
-use Rattle.run_grows.specs.Given.SeizeDeclared.advance.Advance.TheVariants as progress
-use Rattle.run_grows.specs.Given.SeizeDeclared.rows.reclaim_all.ReclaimAll.{ReclaimAll}
-use Rattle.run_grows.specs.Given.SeizeDeclared.rows.settle.Settled.{Settled}
-use Rattle.run_grows.specs.Given.SeizeDeclared.rows.settle.Settled.TheVariants as settled
+use Rattle.seize_acts.specs.Given.SeizeReclaimAll.{reclaim_all_plan}
+use Rattle.seize_acts.specs.Given.SeizeWorld.{Begin, Step}
+use Rattle.seize_acts.specs.Given.SeizeDeclared.advance.Advance.{Advance as Making}
+use Rattle.seize_acts.specs.Given.SeizeDeclared.advance.Advance.TheVariants as progress
+use Rattle.seize_acts.specs.Given.SeizeDeclared.rows.reclaim_all.ReclaimAll.{ReclaimAll}
+use Rattle.seize_acts.specs.Given.SeizeDeclared.rows.settle.Settled.{Settled}
+use Rattle.seize_acts.specs.Given.SeizeDeclared.rows.settle.Settled.TheVariants as settled
 use Rattle.play_lists.specs.Given.TablesNodes.{deferred_word, was_left}
 use Rattle.play_lists.specs.Given.TablesDeclared.node.Node.{Node}
 use Rattle.play_lists.specs.Given.TablesDeclared.setting.Setting.{Setting}
 use Rattle.play_lists.specs.Given.EffectsDeclared.changed.Changed.{Changed}
-use Rattle.run_grows.specs.Given.CallersTogether.{UnderWay}
+use Rattle.run_logged.specs.Given.CallersTogether.{UnderWay}
 use Rattle.play_lists.specs.Given.FinishesEndings.{Finishing}
 use Rattle.play_lists.specs.Given.FinishesMachines.{machine_of}
 use Rattle.play_lists.specs.Given.FinishesMakings.{Beginning, HasMade}
@@ -42,31 +42,31 @@ use Rattle.play_lists.specs.Given.ScenesDeclared.row.SlotRow.{SlotRow}
 use Rattle.play_lists.specs.Given.OthersEndings.{ending_after, without_map}
 use Rattle.play_lists.specs.Given.OthersMakings.{WasNew, making_after}
 use Rattle.play_lists.specs.Given.OthersRows.{scene_then}
-use Rattle.run_grows.specs.Given.MomentsEndings.{IsOfIts}
+use Rattle.run_logged.specs.Given.MomentsEndings.{IsOfIts}
 use Rattle.play_lists.proofs.Given.FollowsOperations.{Operated, operated}
 use Rattle.play_lists.proofs.Given.OthersRowPlans.{TellsRow}
 use Rattle.play_lists.proofs.Given.ScenesMay.{may_reclaim}
 use Rattle.play_lists.proofs.Given.KeptOthers.{rows_find_kept}
-use Rattle.play_lists.proofs.Given.LoggedReclaiming.Rest.{reclaiming_found}
+use Rattle.run_logged.proofs.Log.Reclaiming.Rest.{reclaiming_found}
 use Rattle.play_lists.proofs.Given.ShedsReclaiming.Rows.{EmptiesRoot, reclaiming_tells}
 use Rattle.play_lists.proofs.Given.ShedsReclaiming.Steps.{reclaiming_whole}
 use Rattle.play_lists.proofs.Given.FindsGrows.Steps.{tables_have_been}
 use Rattle.play_lists.specs.Given.SettlesCounts.{is_to_count}
 use Rattle.play_lists.proofs.Given.SettlesUncounted.{CountsNowhere}
-use Rattle.play_lists.specs.Given.ShardsShardWords.{IsUncounted, ShowsShards}
+use Rattle.play_lists.specs.Given.ShardsShardWords.{IsUncounted, RefinesShards}
 use Rattle.play_lists.proofs.Given.ShardsShardBetween.{counters_stay}
 use Rattle.play_lists.proofs.Given.ShardsShardKept.{none_shards, same_setting, word_kept}
 use Rattle.play_lists.proofs.Given.ShardsShardMakes.{makings_keep_counters}
 use Rattle.play_lists.proofs.Given.ShardsShardOthers.{endings_begin_counters, endings_keep_counters, makings_begin_counters, rows_begin_counters, rows_keep_counters}
-use Rattle.run_grows.proofs.Given.PurposesBetween.{events_keep_purposes}
-use Rattle.run_grows.proofs.Given.PurposesElsewhere.{purposes_stay}
-use Rattle.run_grows.proofs.Given.PurposesStored.{effects_stored, numbers_last}
+use Rattle.run_sweeps.proofs.Purposes.Between.{events_keep_purposes}
+use Rattle.run_sweeps.proofs.Purposes.Elsewhere.{purposes_stay}
+use Rattle.run_sweeps.proofs.Purposes.Stored.{effects_stored, numbers_last}
 use Rattle.play_lists.specs.Given.ActsDoings.{scene_chosen}
 use Rattle.run_schedules.specs.Deeds.Deeds.{named}
-use Rattle.play_linear.specs.Linear.Shown.{ShowsAnswers}
+use Rattle.play_linear.specs.Linear.Shown.{RefinesAnswers}
 use Rattle.play_linear.proofs.Linear.Chosen.{shown_chosen}
 use Rattle.play_linear.proofs.Linear.Like.{IsLike}
-use Rattle.play_linear.specs.Swept.Shown.{IsTabled, ShowsSweeps}
+use Rattle.play_linear.specs.Swept.Shown.{IsTabled, RefinesSweeps}
 use Rattle.play_linear.proofs.Swept.Tabled.{tabled_stays}
 
 -- with the same calls, who is about to count was so
@@ -76,7 +76,7 @@ Were {K} {V} s t = (of i : ℕ) (u : UnderWay K V K) → t.calls of i ≡ Some u
 same_calls : {K V : Type 0} (s t : Scene K V) → t.calls ≡ s.calls → Were s t
 same_calls s t same of i u is counts = (u, ap (λ f. f of i) (sym same) ∙ is, counts)
 
-module _ (K V : Type 0) (same : K → K → Bool) (hash : ℕ → K → ℕ) (log : Past K V) (m : Moment K V) (known : Known) (s : Scene K V) (all : ShowsAnswers same log m known s) (sweeps : ShowsSweeps same log m known s)
+module _ (K V : Type 0) (same : K → K → Bool) (hash : ℕ → K → ℕ) (log : Past K V) (m : Moment K V) (known : Known) (s : Scene K V) (all : RefinesAnswers same log m known s) (sweeps : RefinesSweeps same log m known s)
     (old new : Held K V) where
   -- tables never go, and none but a call counts
   tabled_on : (acted : Option ℕ) (effects : List Effect) (t : Scene K V) → t.calls ≡ s.calls → IsTabled (with_effects None acted effects m) t
@@ -84,7 +84,7 @@ module _ (K V : Type 0) (same : K → K → Bool) (hash : ℕ → K → ℕ) (lo
       tabled_stays m (with_effects None acted effects m) s t sweeps.tabled (λ of. tables_have_been K V None acted effects m of) (none_shards acted effects m) (same_calls s t calls)
 
   module _ (at : IsAt same hash old s) where
-    pub sweeps_by_row_begun : (called : SlotCall) (i : ℕ) (leads : RowBegins same hash called i s old new) → ShowsSweeps same log m known (scene_then same hash (Begin i (request_of (slot_of i) called)) s old new leads.2)
+    pub sweeps_by_row_begun : (called : SlotCall) (i : ℕ) (leads : RowBegins same hash called i s old new) → RefinesSweeps same log m known (scene_then same hash (Begin i (request_of (slot_of i) called)) s old new leads.2)
     sweeps_by_row_begun called i leads = record {
       purposes = (purposes_stay K V same hash named log).rows_begin m known s old new at all.whole sweeps.purposes called i leads;
       counters = rows_begin_counters K V same hash named m s old new at sweeps.counters called i leads;
@@ -92,7 +92,7 @@ module _ (K V : Type 0) (same : K → K → Bool) (hash : ℕ → K → ℕ) (lo
     }
 
     pub sweeps_by_row : (i : ℕ) (said : RowTold (Node K V)) (leads : RowLeads same hash i said s old new) (row : SlotRow) (here : IsOnSlot s i row)
-        → ShowsSweeps same log (with_effects None None (effects_of acts.Row known new.changed) m) (known_after acts.Row new.changed known) (scene_then same hash (Step i) s old new (leads row here).2)
+        → RefinesSweeps same log (with_effects None None (effects_of acts.Row known new.changed) m) (known_after acts.Row new.changed known) (scene_then same hash (Step i) s old new (leads row here).2)
     sweeps_by_row i said leads row here =
         let found = rows_find_kept K V same hash named m known s old new at all.whole all.kept i said leads row here in
         record {
@@ -101,14 +101,14 @@ module _ (K V : Type 0) (same : K → K → Bool) (hash : ℕ → K → ℕ) (lo
           tabled = tabled_on None (effects_of acts.Row known new.changed) (scene_then same hash (Step i) s old new (leads row here).2) refl;
         }
 
-    pub sweeps_by_making_begun : (i : ℕ) (b : Beginning K) → (HasMade b.machine.stands → ⊥) → IsUncounted b.map m → IsAt same hash new (scene_making i b s) → ShowsSweeps same log m known (scene_making i b s)
+    pub sweeps_by_making_begun : (i : ℕ) (b : Beginning K) → (HasMade b.machine.stands → ⊥) → IsUncounted b.map m → IsAt same hash new (scene_making i b s) → RefinesSweeps same log m known (scene_making i b s)
     sweeps_by_making_begun i b not_made uncounted at2 = record {
       purposes = (purposes_stay K V same hash named log).makings_begin m known s old new at all.whole sweeps.purposes i b at2;
       counters = makings_begin_counters K V named m s sweeps.counters i b not_made uncounted;
       tabled = tabled_on None [] (scene_making i b s) refl;
     }
 
-    pub sweeps_by_map_come : (there : MapThere) → tables_of there.number m ≡ [] → ShowsSweeps same log (with_map there m) known s
+    pub sweeps_by_map_come : (there : MapThere) → tables_of there.number m ≡ [] → RefinesSweeps same log (with_map there m) known s
     sweeps_by_map_come there no_tables = record {
       purposes = (purposes_stay K V same hash named log).maps_come m known s old old at all.whole sweeps.purposes there no_tables;
       counters = counters_stay K V named m (with_map there m) s s sweeps.counters refl refl refl refl refl (λ of j x is removed adds. (x, is, adds));
@@ -124,7 +124,7 @@ module _ (K V : Type 0) (same : K → K → Bool) (hash : ℕ → K → ℕ) (lo
 
     pub sweeps_by_making : (i : ℕ) (said : Making Setting) (leads : MakingLeads same hash i said s old new) (b : Beginning K) (here : s.makers i ≡ Some b) → WasNew b.map said m
         → (let to = leads b here in
-        ShowsSweeps same log (with_effects None (Some b.map) (effects_of (acts.Making b.map) known new.changed) m) (known_after (acts.Making b.map) new.changed known)
+        RefinesSweeps same log (with_effects None (Some b.map) (effects_of (acts.Making b.map) known new.changed) m) (known_after (acts.Making b.map) new.changed known)
         (making_after same hash s old new i b to.0 to.2.step.w2 said to.3))
     sweeps_by_making i said leads b here was_new =
         let to = leads b here in
@@ -134,7 +134,7 @@ module _ (K V : Type 0) (same : K → K → Bool) (hash : ℕ → K → ℕ) (lo
           tabled = tabled_on (Some b.map) (effects_of (acts.Making b.map) known new.changed) (making_after same hash s old new i b to.0 to.2.step.w2 said to.3) (made_calls i said leads b here);
         }
 
-    pub sweeps_by_end_begun : (map i : ℕ) (standing : Standing K) → s.maps map ≡ Some standing → IsAt same hash new (ending_begun map i standing s) → ShowsSweeps same log m known (ending_begun map i standing s)
+    pub sweeps_by_end_begun : (map i : ℕ) (standing : Standing K) → s.maps map ≡ Some standing → IsAt same hash new (ending_begun map i standing s) → RefinesSweeps same log m known (ending_begun map i standing s)
     sweeps_by_end_begun map i standing there at2 = record {
       purposes = (purposes_stay K V same hash named log).endings_begin m known s old new at all.whole sweeps.purposes map i standing there at2;
       counters = endings_begin_counters K V named m s sweeps.counters map i standing;
@@ -152,7 +152,7 @@ module _ (K V : Type 0) (same : K → K → Bool) (hash : ℕ → K → ℕ) (lo
         → (let to = leads f here in
         let effects = effects_of (acts.Ending map) known new.changed in
         AtEachEffect (IsOfIts map) None (Some map) effects m
-        → ShowsSweeps same log (with_effects None (Some map) effects m) (known_after (acts.Ending map) new.changed known) (ending_after same hash s new i f to.0 to.2.w2 to.2.deed said to.3))
+        → RefinesSweeps same log (with_effects None (Some map) effects m) (known_after (acts.Ending map) new.changed known) (ending_after same hash s new i f to.0 to.2.w2 to.2.deed said to.3))
     sweeps_by_end i said leads f here map not_there its =
         let to = leads f here in
         record {
@@ -163,7 +163,7 @@ module _ (K V : Type 0) (same : K → K → Bool) (hash : ℕ → K → ℕ) (lo
 
     pub sweeps_by_map_gone : (own : List ℕ) (remains : List Remains)
         → ((map : ℕ) (standing : Standing K) (there : MapThere) → s.maps map ≡ Some standing → map_at map m ≡ Some there → is_same there.name own ≡ false)
-        → ShowsSweeps same log (without_map own remains m) known s
+        → RefinesSweeps same log (without_map own remains m) known s
     sweeps_by_map_gone own remains apart = record {
       purposes = (purposes_stay K V same hash named log).endings_over m known s old old at all.whole sweeps.purposes own remains apart;
       counters = counters_stay K V named m (without_map own remains m) s s sweeps.counters refl refl refl refl refl (λ of j x is removed adds. (x, is, adds));
@@ -194,7 +194,7 @@ module _ (K V : Type 0) (same : K → K → Bool) (hash : ℕ → K → ℕ) (lo
         (subst (λ (n : Mem (Node K V)). Operated n new.memory x) (sym under_way.memory)
         (operated old.memory new.memory x (reclaim_all_plan deferred_word was_left before) (after, told) (may_reclaim same hash old s i lists before under_way) leads.0))
 
-    shards_then : ShowsShards v t
+    shards_then : RefinesShards v t
     shards_then n st is shard few =
         let was = same_setting (s.maps n) (leads.1.maps2 n) (leads.1.as_they_were n) st is in
         let counter = (all.whole.all.shown.maps n was.0 was.1).counter in
@@ -206,7 +206,7 @@ module _ (K V : Type 0) (same : K → K → Bool) (hash : ℕ → K → ℕ) (lo
         (ap (λ (z : Setting). word_at s.world.memory (Word z.counter shard)) was.2 ∙ held) now.1 in
         now.1 ∙ ap Some one ∙ ap (λ (f : ℕ → ℕ → ℕ). Some (f n shard)) (sym (none_shards None (effects_of acts.Row known x) m))
 
-    pub sweeps_by_reclaiming : ShowsSweeps same log v (known_after acts.Row x known) t
+    pub sweeps_by_reclaiming : RefinesSweeps same log v (known_after acts.Row x known) t
     sweeps_by_reclaiming =
         let found = reclaiming_found same hash named m known s all.whole all.kept old new i lists before after told under_way leads in
         let whole = reclaiming_whole same hash named m known s all.whole old new i lists before after told under_way leads found.0 found.1 in
@@ -229,8 +229,8 @@ module _ (K V : Type 0) (same : K → K → Bool) (hash : ℕ → K → ℕ) (lo
 
 -- So it is at a moment that is like another one, where an entry is over, and where a choice comes.
 module _ {K V : Type 0} (same : K → K → Bool) (log : Past K V) (known : Known) (s : Scene K V) where
-  pub sweeps_like : (m v : Moment K V) → ShowsSweeps same log m known s → IsLike m v → ShowsSweeps same log v known s
-  sweeps_like m v sweeps like = subst (λ (x : Moment K V). ShowsSweeps same log x known s) (sym like) (record {
+  pub sweeps_like : (m v : Moment K V) → RefinesSweeps same log m known s → IsLike m v → RefinesSweeps same log v known s
+  sweeps_like m v sweeps like = subst (λ (x : Moment K V). RefinesSweeps same log x known s) (sym like) (record {
     purposes = (purposes_stay K V same (λ n k. 0) named log).alike m other known s sweeps.purposes (record { place = refl; born = refl; stored = refl; maps = refl; tables = refl; calls = refl });
     counters = counters_stay K V named m other s s sweeps.counters refl refl refl refl refl (λ of j x is removed adds. (x, is, adds));
     tabled = tabled_stays m other s s sweeps.tabled (λ of. omega arith) refl (same_calls s s refl);
@@ -249,12 +249,12 @@ module _ {K V : Type 0} (same : K → K → Bool) (log : Past K V) (known : Know
         made = v.made;
       }
 
-  pub sweeps_over : (m v : Moment K V) → ShowsSweeps same log m known s → IsLike m v → v.events ≡ suc log.entries → ShowsSweeps same (further v log) v known s
+  pub sweeps_over : (m v : Moment K V) → RefinesSweeps same log m known s → IsLike m v → v.events ≡ suc log.entries → RefinesSweeps same (further v log) v known s
   sweeps_over m v sweeps like counted =
       let now = sweeps_like m v sweeps like in record { purposes = events_keep_purposes K V same named log v known s now.purposes counted; counters = now.counters; tabled = now.tabled }
 
   -- Where a choice of a number comes it is as before.
-  pub sweeps_chosen : (m : Moment K V) → ShowsAnswers same log m known s → ShowsSweeps same log m known s → (choice : ℕ) → ShowsSweeps same log m known (scene_chosen choice s)
+  pub sweeps_chosen : (m : Moment K V) → RefinesAnswers same log m known s → RefinesSweeps same log m known s → (choice : ℕ) → RefinesSweeps same log m known (scene_chosen choice s)
   sweeps_chosen m all sweeps choice = record {
     purposes = record {
       past = sweeps.purposes.past;

@@ -5,15 +5,15 @@ use Rattle.run_schedules.specs.Given.SeizeWordsMem.{Mem, value_at}
 use Rattle.run_schedules.specs.Given.SeizeWordsOp.{Out, Exchanged}
 use Rattle.run_schedules.specs.Given.SeizeWordsPlan.{Ends as EndsSo}
 use Rattle.run_schedules.specs.Given.SeizeWordsDeclared.fault.Fault.TheVariants.{RootsUsedUp}
-use Rattle.run_grows.specs.Given.SeizeDeclared.advance.Advance.{Advance}
-use Rattle.run_grows.specs.Given.SeizeDeclared.advance.Advance.TheVariants as progress
+use Rattle.seize_acts.specs.Given.SeizeDeclared.advance.Advance.{Advance}
+use Rattle.seize_acts.specs.Given.SeizeDeclared.advance.Advance.TheVariants as progress
 use Rattle.play_lists.specs.Given.TablesDeclared.node.Node.{Node}
 use Rattle.play_lists.specs.Given.TablesDeclared.setting.Setting.{Setting}
-use Rattle.run_grows.specs.Given.ResizeNewMap.{at_root, goes, plan_at, refused, taken}
-use Rattle.run_grows.specs.Given.ResizeDeclared.new_map.NewMap.{NewMap}
-use Rattle.run_grows.specs.Given.ResizeDeclared.new_map.Opening.{Opening}
-use Rattle.run_grows.specs.Given.ResizeDeclared.new_map.Opening.TheVariants as openings
-use Rattle.play_lists.specs.Given.TellerTells.{StepsTold}
+use Rattle.run_logged.specs.Given.ResizeNewMap.{at_root, goes, plan_at, refused, taken}
+use Rattle.run_logged.specs.Given.ResizeDeclared.new_map.NewMap.{NewMap}
+use Rattle.run_logged.specs.Given.ResizeDeclared.new_map.Opening.{Opening}
+use Rattle.run_logged.specs.Given.ResizeDeclared.new_map.Opening.TheVariants as openings
+use Rattle.play_lists.specs.Given.TellerTells.{StepsObserved}
 use Rattle.play_lists.specs.Given.EffectsDeclared.changed.Changed.{Changed}
 use Rattle.play_lists.specs.Given.EffectsDeclared.changed.Changed.TheVariants as changed
 use Rattle.play_lists.specs.Played.Play.{has_root}
@@ -38,7 +38,7 @@ module _ {K V : Type 0} (c : NewMap) (m n : Mem (Node K V)) (told : Changed) (en
   taken_goes (Exchanged (Err used)) ends = as_goes _ ends next_goes
   taken_goes _ ends = as_goes (c, progress.Goes) ends (λ rooted. refl)
 
-  pub comes_going : (stands : Opening) → c.stands ≡ stands → StepsTold K V (NewMap × Advance Setting) m changed.Nothing (plan_at c stands) n told end → has_root stands ≡ false → has_root end.0.stands ≡ true
+  pub comes_going : (stands : Opening) → c.stands ≡ stands → StepsObserved K V (NewMap × Advance Setting) m changed.Nothing (plan_at c stands) n told end → has_root stands ≡ false → has_root end.0.stands ≡ true
       → end.1 ≡ progress.Goes
   comes_going openings.Takes is s none = taken_goes s.0 s.2
   comes_going openings.Shards is s none = absurd (cc none)

@@ -5,9 +5,9 @@ use Rattle.std.proofs.Common.{refl}
 use Rattle.run_schedules.specs.Schedules.Terms.{Terms, shards_of}
 use Rattle.play_lists.specs.Given.EffectsKnown.{nothing_known}
 use Rattle.play_lists.specs.Given.ScenesScene.{at_first, slot_of}
-use Rattle.run_grows.proofs.Given.MomentsCalls.{whole_begins}
+use Rattle.run_logged.proofs.Given.MomentsCalls.{whole_begins}
 use Rattle.play_lists.proofs.Given.HistoriesDueOn.{dues_begin}
-use Rattle.run_grows.proofs.Given.PurposesStored.{first_lasts}
+use Rattle.run_sweeps.proofs.Purposes.Stored.{first_lasts}
 use Rattle.play_lists.specs.Given.ActsActs.{Act}
 use Rattle.play_lists.specs.Given.ActsDoings.{Doing, Does, BeginsReclaiming, BeginsClearing, StepsReclaiming, Chooses}
 use Rattle.play_lists.specs.Given.ActsLists.{nothing_done}
@@ -23,7 +23,7 @@ use Rattle.run_schedules.specs.Deeds.History.{past}
 use Rattle.play_lists.specs.Played.Play.{State, first_state}
 use Rattle.play_lists.proofs.Played.Along.{AllFit, At, wherever}
 use Rattle.play_linear.proofs.Linear.Stays.{first_holds}
-use Rattle.play_linear.specs.Swept.Shown.{HasSwept, ShowsSweeps}
+use Rattle.play_linear.specs.Swept.Shown.{HasSwept, RefinesSweeps}
 use Rattle.play_linear.specs.Swept.Swept.{ListsAreSwept}
 use Rattle.play_linear.proofs.Swept.Instance.{P, Shards, sweeps_are_kept}
 use Rattle.play_linear.proofs.Swept.KeptByAll.{Fit, With, all_kept}
@@ -32,7 +32,7 @@ use Rattle.play_linear.proofs.Swept.KeptByAll.{Fit, With, all_kept}
 pub first_swept : {K V : Type 0} (same : K → K → Bool) (terms : Terms) (roots : ℕ) → HasSwept {K = K} {V = V} same terms [] nothing_known (at_first roots)
 first_swept {K} {V} same terms roots = record { shows = first_shows; each = tt }
   where
-    first_shows : ShowsSweeps {K = K} {V = V} same (past []) (moment []) nothing_known (at_first roots)
+    first_shows : RefinesSweeps {K = K} {V = V} same (past []) (moment []) nothing_known (at_first roots)
     first_shows = record {
       purposes = record {
         past = (dues_begin K V same roots named).history.past;

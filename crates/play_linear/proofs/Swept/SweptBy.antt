@@ -2,27 +2,27 @@
 use Rattle.std.specs.Prelude.{◌≡◌, ℕ, suc, Bool, true, List, [], Option, Some}
 use Rattle.std.proofs.Common.{refl, ap, sym, subst, ◌∙◌, inl, inr}
 use Rattle.play_lists.specs.Given.TablesDeclared.node.Node.{Node}
-use Rattle.run_grows.specs.Given.SeizeDeclared.advance.Advance.{Advance as Counted}
-use Rattle.run_grows.specs.Given.SeizeDeclared.advance.Advance.TheVariants as counted
-use Rattle.run_grows.specs.Given.ResizeDeclared.yielding.Yielding.{Yielding as Room}
-use Rattle.run_grows.specs.Given.ResizeDeclared.yielding.Yielding.TheVariants as room
-use Rattle.run_grows.specs.Given.ReservesDeclared.sweep.Purpose.{Purpose}
-use Rattle.run_grows.specs.Given.ReservesDeclared.sweep.Purpose.TheVariants.{Clears, Retains, Walks}
-use Rattle.run_grows.specs.Given.ReservesDeclared.sweep.Sweep.{Sweep}
-use Rattle.run_grows.specs.Given.ReservesDeclared.sweep.Sweeping.TheVariants as sweeping
-use Rattle.run_grows.specs.Given.ReservesDeclared.sweep.Swept.{Swept}
-use Rattle.run_grows.specs.Given.ReservesDeclared.sweep.Swept.TheVariants as swept
-use Rattle.run_grows.specs.Given.RawProgress.{of_called, of_counting, of_outcome, of_swept}
-use Rattle.run_grows.specs.Given.RawDeclared.machines.answer.Called.{Called}
-use Rattle.run_grows.specs.Given.RawDeclared.machines.answer.Called.TheVariants as called
-use Rattle.run_grows.specs.Given.RawDeclared.machines.machine.Machine.TheVariants as kinds
-use Rattle.run_grows.specs.Given.RawDeclared.machines.progress.Answer.TheVariants as answers
-use Rattle.run_grows.specs.Given.RawDeclared.machines.progress.Progress.{Progress}
-use Rattle.run_grows.specs.Given.RawDeclared.machines.progress.Progress.TheVariants as progress
-use Rattle.run_grows.specs.Given.LateToldSweeps.{TellsSo}
-use Rattle.run_grows.specs.Given.CallersOverAll.{CallOverAll}
-use Rattle.run_grows.specs.Given.CallersTogether.{UnderWay, OnKey, ForRoom, Counting, OverAll}
-use Rattle.play_lists.specs.Given.FinishesMachines.{GoesOnAs, machine_of}
+use Rattle.seize_acts.specs.Given.SeizeDeclared.advance.Advance.{Advance as Counted}
+use Rattle.seize_acts.specs.Given.SeizeDeclared.advance.Advance.TheVariants as counted
+use Rattle.run_logged.specs.Given.ResizeDeclared.yielding.Yielding.{Yielding as Room}
+use Rattle.run_logged.specs.Given.ResizeDeclared.yielding.Yielding.TheVariants as room
+use Rattle.run_logged.specs.Given.ReservesDeclared.sweep.Purpose.{Purpose}
+use Rattle.run_logged.specs.Given.ReservesDeclared.sweep.Purpose.TheVariants.{Clears, Retains, Walks}
+use Rattle.run_logged.specs.Given.ReservesDeclared.sweep.Sweep.{Sweep}
+use Rattle.run_logged.specs.Given.ReservesDeclared.sweep.Sweeping.TheVariants as sweeping
+use Rattle.run_logged.specs.Given.ReservesDeclared.sweep.Swept.{Swept}
+use Rattle.run_logged.specs.Given.ReservesDeclared.sweep.Swept.TheVariants as swept
+use Rattle.run_logged.specs.Given.RawProgress.{of_called, of_counting, of_outcome, of_swept}
+use Rattle.run_logged.specs.Given.RawDeclared.machines.answer.Called.{Called}
+use Rattle.run_logged.specs.Given.RawDeclared.machines.answer.Called.TheVariants as called
+use Rattle.run_logged.specs.Given.RawDeclared.machines.machine.Machine.TheVariants as kinds
+use Rattle.run_logged.specs.Given.RawDeclared.machines.progress.Answer.TheVariants as answers
+use Rattle.run_logged.specs.Given.RawDeclared.machines.progress.Progress.{Progress}
+use Rattle.run_logged.specs.Given.RawDeclared.machines.progress.Progress.TheVariants as progress
+use Rattle.run_logged.specs.Given.LateToldSweeps.{OutcomeAgrees}
+use Rattle.run_logged.specs.Given.CallersOverAll.{CallOverAll}
+use Rattle.run_logged.specs.Given.CallersTogether.{UnderWay, OnKey, ForRoom, Counting, OverAll}
+use Rattle.play_lists.specs.Given.FinishesMachines.{ContinuesAs, machine_of}
 use Rattle.play_lists.specs.Given.FinishesMaps.{Standing}
 use Rattle.run_schedules.specs.declared.call.Response.TheVariants as answer
 use Rattle.run_schedules.specs.declared.call.Call.{Call}
@@ -44,36 +44,36 @@ use Rattle.play_lists.specs.Given.EffectsDeclared.acting.Acting.TheVariants as a
 use Rattle.play_lists.specs.Given.ScenesHeld.{Held, IsAt}
 use Rattle.play_lists.specs.Given.ScenesScene.{Scene}
 use Rattle.play_lists.specs.Given.ScenesStepping.{StepLeads, scene_after}
-use Rattle.run_grows.proofs.Given.HandsReplacing.{calls_after}
-use Rattle.run_grows.proofs.Given.CallersTogether.At.{at_same}
-use Rattle.run_grows.specs.Given.MomentsWhole.{ShowsWhole}
+use Rattle.run_logged.proofs.Given.HandsReplacing.{calls_after}
+use Rattle.run_logged.proofs.Given.CallersTogether.At.{at_same}
+use Rattle.run_logged.specs.Given.MomentsWhole.{RefinesWhole}
 use Rattle.play_lists.proofs.Given.ScenesMay.{standing_is}
-use Rattle.run_grows.proofs.Given.MomentsCalls.{calls_keep_whole}
+use Rattle.run_logged.proofs.Given.MomentsCalls.{calls_keep_whole}
 use Rattle.play_lists.specs.Given.HistoriesAnswers.{NamesPair}
 use Rattle.play_lists.specs.Given.HistoriesInEvent.{InEvent}
 use Rattle.play_lists.proofs.Given.HistoriesAnyCall.InEvent.{events_begin}
 use Rattle.play_lists.proofs.Given.HistoriesOtherMidsts.{fewer_so}
 use Rattle.play_lists.proofs.Given.HistoriesRetaining.{found_there}
-use Rattle.run_grows.specs.OwnPairs.{EachIsItsOwn}
-use Rattle.run_grows.proofs.OwnPairs.{each_is_its_own}
-use Rattle.run_grows.specs.Given.NamedSeen.{kind_of}
-use Rattle.run_grows.specs.Given.NamedTelling.{number_by, number_in}
-use Rattle.run_grows.proofs.Quiet.Sweeps.{walks_at}
-use Rattle.run_grows.specs.Given.PurposesKept.{NoneCame, PairsChangeFirst}
-use Rattle.run_grows.specs.Given.PurposesPurposes.{IsFor, ShowsPurposes}
-use Rattle.run_grows.specs.Given.PurposesShards.{ReadsShards}
-use Rattle.run_grows.specs.Given.PurposesSwept.{ComesSo as IsToldSo, SaysNothing}
-use Rattle.run_grows.proofs.Given.PurposesBetween.{first_steps_change_pairs_first}
-use Rattle.run_grows.proofs.Given.PurposesFindsRoom.{reservations_are_swept}
-use Rattle.run_grows.proofs.Given.PurposesNothing.{calls_on_keys_are_swept, other_outcomes_are_swept}
-use Rattle.run_grows.proofs.Given.PurposesShows.{walks_show}
-use Rattle.run_grows.proofs.Given.PurposesShowsAll.{walks_show_all}
-use Rattle.run_grows.proofs.Given.PurposesSwept.{clearings_are_swept, countings_are_swept, retainings_are_swept}
-use Rattle.run_grows.proofs.Given.PurposesWalkWords.{walks_have_words}
+use Rattle.run_sweeps.specs.OwnPairs.{EachIsItsOwn}
+use Rattle.run_sweeps.proofs.OwnPairs.{each_is_its_own}
+use Rattle.run_logged.specs.Given.NamedSeen.{kind_of}
+use Rattle.run_logged.specs.Given.NamedTelling.{number_by, number_in}
+use Rattle.run_sweeps.proofs.Quiet.Sweeps.{walks_at}
+use Rattle.run_sweeps.specs.Purposes.Kept.{NoneCame, PairsChangeFirst}
+use Rattle.run_sweeps.specs.Given.PurposesPurposes.{IsFor, RefinesPurposes}
+use Rattle.run_sweeps.specs.Given.PurposesShards.{ReadsShards}
+use Rattle.run_sweeps.specs.Purposes.Swept.{EndsWithOutcome as IsToldSo, SaysNothing}
+use Rattle.run_sweeps.proofs.Purposes.Between.{first_steps_change_pairs_first}
+use Rattle.run_sweeps.proofs.Purposes.FindsRoom.{reservations_are_swept}
+use Rattle.run_sweeps.proofs.Purposes.Nothing.{calls_on_keys_are_swept, other_outcomes_are_swept}
+use Rattle.run_sweeps.proofs.Purposes.Shows.{walks_show}
+use Rattle.run_sweeps.proofs.Purposes.ShowsAll.{walks_show_all}
+use Rattle.run_sweeps.proofs.Purposes.Swept.{clearings_are_swept, countings_are_swept, retainings_are_swept}
+use Rattle.run_sweeps.proofs.Purposes.WalkWords.{walks_have_words}
 use Rattle.run_schedules.specs.Deeds.Deeds.{Entry, moment, named}
 use Rattle.run_schedules.specs.Deeds.History.{is_of_kind, past}
 use Rattle.play_lists.specs.Played.Play.{outcome_of}
-use Rattle.play_linear.specs.Linear.Shown.{ShowsAnswers}
+use Rattle.play_linear.specs.Linear.Shown.{RefinesAnswers}
 
 -- what a machine says, by its kind
 abbrev SaidBy : {K V : Type 0} → UnderWay K V K → Progress (Node K V) → Type 0
@@ -110,12 +110,12 @@ module _ {K V : Type 0} (same : K → K → Bool) (hash : ℕ → K → ℕ) (s 
 
   stands_ready : (p2.purpose ≡ o.sweep.purpose) × (p2.stands ≡ sweeping.Ready)
   stands_ready = elim (leads map (OverAll o) here).4.did.4 as (λ _. (p2.purpose ≡ o.sweep.purpose) × (p2.stands ≡ sweeping.Ready)) [
-    | inl it ↦ (it.0.step.went.told.stands.purpose, (subst (TellsSo o.sweep.stands p2.stands) end_is it.0.step.went.told.stands.tells).1)
+    | inl it ↦ (it.0.step.went.told.stands.purpose, (subst (OutcomeAgrees o.sweep.stands p2.stands) end_is it.0.step.went.told.stands.tells).1)
     | inr it ↦ absurd (let silent = it.0.step.silent in let pair = end_is in cc (silent, pair))
   ]
 
   goes_on : (y : UnderWay K V K) × ((leads map (OverAll o) here).4.next ≡ Some y) × (machine_of y ≡ (leads map (OverAll o) here).1)
-  goes_on = subst (λ (p : Progress (Node K V)). GoesOnAs (leads map (OverAll o) here).1 p (leads map (OverAll o) here).4.next) is (leads map (OverAll o) here).4.goes_on
+  goes_on = subst (λ (p : Progress (Node K V)). ContinuesAs (leads map (OverAll o) here).1 p (leads map (OverAll o) here).4.next) is (leads map (OverAll o) here).4.goes_on
 
   its_sweep : (y : UnderWay K V K) → machine_of y ≡ kinds.Sweep p2 → (x : CallOverAll) × (y ≡ OverAll x) × (x.sweep ≡ p2)
   its_sweep (OverAll x) e = (x, refl, (let f : x.sweep ≡ p2 = cc e in f))
@@ -133,7 +133,7 @@ module _ {K V : Type 0} (same : K → K → Bool) (hash : ℕ → K → ℕ) (s 
 
 -- A transition that is the step of this call, whose effects have led to that moment
 module _ {K V : Type 0} (same : K → K → Bool) (hash : ℕ → K → ℕ) (terms : Terms) (log : Past K V) (known : Known) (s : Scene K V) (old new : Held K V) (at : IsAt same hash old s)
-    (whole : ShowsWhole same named log.now known s) (purposes : ShowsPurposes same named log log.now known s) (map i : ℕ) (u : UnderWay K V K) (here : s.calls map i ≡ Some u) (said : Progress (Node K V))
+    (whole : RefinesWhole same named log.now known s) (purposes : RefinesPurposes same named log log.now known s) (map i : ℕ) (u : UnderWay K V K) (here : s.calls map i ≡ Some u) (said : Progress (Node K V))
     (leads : StepLeads same hash i said s old new) (reads : ReadsShards log log.now s map u) (shards : (standing : Standing K) → s.maps map ≡ Some standing → suc standing.setting.mask ≡ shards_of terms)
     (d : CallThere K V) (d_is : call_of (named i) log.now ≡ Some d) (value : Option V) (t : Transition K V) (caller : t.caller ≡ Some (named i))
     (worked : worked_by t ≡ with_effects (Some (named i)) (Some map) (effects_of (acts.Call i map) known new.changed) log.now) where
@@ -317,7 +317,7 @@ walk_called o _ for walks = absurd for
 
 -- In a history, by a step of a call.
 module _ {K V : Type 0} (same : K → K → Bool) (hash : ℕ → K → ℕ) (history : List (Entry K V)) (known : Known) (s : Scene K V) (old new : Held K V) (at : IsAt same hash old s)
-    (all : ShowsAnswers same (past history) (moment history) known s) (purposes : ShowsPurposes same named (past history) (moment history) known s) (map i : ℕ) (u : UnderWay K V K)
+    (all : RefinesAnswers same (past history) (moment history) known s) (purposes : RefinesPurposes same named (past history) (moment history) known s) (map i : ℕ) (u : UnderWay K V K)
     (here : s.calls map i ≡ Some u) (said : Progress (Node K V)) (leads : StepLeads same hash i said s old new) (d : CallThere K V) (d_is : call_of (named i) (moment history) ≡ Some d) where
   abbrev m : Moment K V
   m = moment history

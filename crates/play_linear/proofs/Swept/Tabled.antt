@@ -4,8 +4,8 @@ use Rattle.std.specs.List.{list_any}
 use Rattle.std.proofs.Common.{refl, ap, sym, subst, ◌∙◌, arith, inl, inr}
 use Rattle.std.proofs.lemmas.Bool.{cases_eq, cases_lt, eq-eqb}
 use Rattle.play_lists.specs.Given.TablesDeclared.node.Node.{Node}
-use Rattle.run_grows.specs.Given.RawDeclared.machines.progress.Progress.{Progress}
-use Rattle.run_grows.specs.Given.CallersTogether.{UnderWay, OnKey, ForRoom, Counting, OverAll}
+use Rattle.run_logged.specs.Given.RawDeclared.machines.progress.Progress.{Progress}
+use Rattle.run_logged.specs.Given.CallersTogether.{UnderWay, OnKey, ForRoom, Counting, OverAll}
 use Rattle.play_lists.specs.Given.FinishesMachines.{machine_of}
 use Rattle.play_lists.specs.Given.FinishesMaps.{Standing}
 use Rattle.run_schedules.specs.declared.effect.Effect.{Effect}
@@ -21,14 +21,14 @@ use Rattle.play_lists.specs.Given.ScenesHeld.{Held, IsAt}
 use Rattle.play_lists.specs.Given.ScenesScene.{Scene}
 use Rattle.play_lists.specs.Given.ScenesStepping.{StepLeads, scene_after}
 use Rattle.play_lists.specs.Given.FollowsFinds.{FindsMap}
-use Rattle.run_grows.specs.Given.MomentsWhole.{ShowsWhole}
+use Rattle.run_logged.specs.Given.MomentsWhole.{RefinesWhole}
 use Rattle.play_lists.proofs.Given.FollowsFinds.{tables_many}
-use Rattle.run_grows.proofs.Given.HandsAsking.{which}
-use Rattle.play_lists.specs.Given.SettlesCounts.{ShowsCounts, is_to_count}
+use Rattle.run_logged.proofs.Given.HandsAsking.{which}
+use Rattle.play_lists.specs.Given.SettlesCounts.{RefinesCounts, is_to_count}
 use Rattle.play_lists.proofs.Given.SettlesCalls.{goes_as_one}
 use Rattle.play_lists.proofs.Given.SettlesUncounted.{none_counts}
 use Rattle.play_lists.specs.Given.ShardsAdds.{adds_of}
-use Rattle.play_lists.specs.Given.ShardsShardWords.{ShowsCounters}
+use Rattle.play_lists.specs.Given.ShardsShardWords.{RefinesCounters}
 use Rattle.play_lists.proofs.Given.ShardsAdds.{AddsIts, AddsNone, Brings, StepAdds, machine_adds, machine_not_adds}
 use Rattle.play_lists.proofs.Given.ShardsKeyAdds.{key_adds}
 use Rattle.play_lists.proofs.Given.ShardsRestAdds.{room_adds, sum_adds, sweep_adds}
@@ -54,8 +54,8 @@ module _ (map : ℕ) (spot : Spot) where
       by true r w z some rest = omega arith
       by false r w z some rest = rest some
 
-module _ {K V : Type 0} (same : K → K → Bool) (hash : ℕ → K → ℕ) (m : Moment K V) (known : Known) (s : Scene K V) (old new : Held K V) (at : IsAt same hash old s) (whole : ShowsWhole same named m known s)
-    (kept : ShowsCounts named m s) (counters : ShowsCounters named m s) (tabled : IsTabled m s) (map i : ℕ) (u : UnderWay K V K) (here : s.calls map i ≡ Some u) (said : Progress (Node K V))
+module _ {K V : Type 0} (same : K → K → Bool) (hash : ℕ → K → ℕ) (m : Moment K V) (known : Known) (s : Scene K V) (old new : Held K V) (at : IsAt same hash old s) (whole : RefinesWhole same named m known s)
+    (kept : RefinesCounts named m s) (counters : RefinesCounters named m s) (tabled : IsTabled m s) (map i : ℕ) (u : UnderWay K V K) (here : s.calls map i ≡ Some u) (said : Progress (Node K V))
     (leads : StepLeads same hash i said s old new) where
   abbrev effects : List Effect
   effects = effects_of (acts.Call i map) known new.changed
@@ -150,8 +150,8 @@ module _ {K V : Type 0} (same : K → K → Bool) (hash : ℕ → K → ℕ) (m 
     tabled_then = record { maps = maps_then; counts = counts_then }
 
 -- So it is after the step of a call, whoever's.
-pub calls_keep_tabled : {K V : Type 0} (same : K → K → Bool) (hash : ℕ → K → ℕ) (m : Moment K V) (known : Known) (s : Scene K V) (old new : Held K V) → IsAt same hash old s → ShowsWhole same named m known s
-    → ShowsCounts named m s → ShowsCounters named m s → IsTabled m s
+pub calls_keep_tabled : {K V : Type 0} (same : K → K → Bool) (hash : ℕ → K → ℕ) (m : Moment K V) (known : Known) (s : Scene K V) (old new : Held K V) → IsAt same hash old s → RefinesWhole same named m known s
+    → RefinesCounts named m s → RefinesCounters named m s → IsTabled m s
     → (map i : ℕ) (u : UnderWay K V K) (here : s.calls map i ≡ Some u) (said : Progress (Node K V)) (leads : StepLeads same hash i said s old new)
     → (let to = leads map u here in IsTabled (with_effects (Some (named i)) (Some map) (effects_of (acts.Call i map) known new.changed) m) (scene_after same s old new map i to.0 u to.1 said to.4))
 calls_keep_tabled same hash m known s old new at whole kept counters tabled map i (OnKey x) here said leads =

@@ -1,7 +1,7 @@
 -- What is so of maps that come and go as a list of acts is played: of their numbers, of those that are being made, and of those that end.
 use Rattle.std.specs.Prelude.{◌≡◌, ◌≢◌, ◌≤◌, ◌<◌, ◌⊎◌, ℕ, Bool, true, false, Option, Some, None, []}
-use Rattle.run_grows.specs.Given.SeizeWorld.{times}
-use Rattle.run_grows.specs.Given.ResizeNewMap.{at_root}
+use Rattle.seize_acts.specs.Given.SeizeWorld.{times}
+use Rattle.run_logged.specs.Given.ResizeNewMap.{at_root}
 use Rattle.play_lists.specs.Given.FinishesEndings.{Finishing}
 use Rattle.play_lists.specs.Given.FinishesMakings.{Beginning}
 use Rattle.run_schedules.specs.Schedules.Moment.{InMap, Moment}
@@ -9,9 +9,9 @@ use Rattle.run_schedules.specs.Schedules.Views.{map_at, tables_of}
 use Rattle.play_lists.specs.Given.EffectsKnown.{Known}
 use Rattle.play_lists.specs.Given.OthersMakings.{IsNew}
 use Rattle.play_lists.specs.Given.ScenesScene.{Scene}
-use Rattle.run_grows.specs.Given.MomentsNumbers.{MapsAreBelow}
+use Rattle.run_logged.specs.Given.MomentsNumbers.{MapsAreBelow}
 use Rattle.play_lists.specs.Given.RemainsNumbered.{NumbersUpTo}
-use Rattle.play_lists.specs.Given.LoggedEnds.{NotesMap}
+use Rattle.run_logged.specs.Log.Ends.{NotesMap}
 use Rattle.play_lists.specs.Given.ActsActs.{Act, BeginsMaking}
 use Rattle.play_lists.specs.Agrees.Fresh.{AreNamed}
 use Rattle.run_schedules.specs.Deeds.Deeds.{moment}

@@ -1,7 +1,7 @@
 -- What left its map while guards were there: sections that are open, by what has happened, hold it still.
 use Rattle.std.specs.Prelude.{◌≡◌, ℕ, true}
-use Rattle.run_grows.specs.Given.SeizeLaw.{is_open}
-use Rattle.run_grows.specs.Given.SeizeWorld.{World}
+use Rattle.run_logged.specs.Given.SeizeLaw.{is_open}
+use Rattle.seize_acts.specs.Given.SeizeWorld.{World}
 use Rattle.play_lists.specs.Given.TablesDeclared.node.Node.{Node}
 use Rattle.run_schedules.specs.Schedules.Moment.{Moment}
 use Rattle.play_lists.specs.Given.EffectsKnown.{Known}

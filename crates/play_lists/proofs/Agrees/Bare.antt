@@ -13,33 +13,33 @@ use Rattle.map_tables.specs.declared.setting.Setting.{Setting}
 use Rattle.map_tables.specs.declared.table.Table.{Table as Planned}
 use Rattle.map_tables.specs.declared.table_words.TheConstants.{PLACES}
 use Rattle.map_tables.specs.declared.lengths.Reason.{Reason}
-use Rattle.run_logged.specs.Given.ResizeNewMap as new_map
-use Rattle.run_logged.specs.Given.ResizeNewTable as new_table
-use Rattle.run_logged.specs.Given.ResizeSum as sums
-use Rattle.run_logged.specs.Given.ResizeDeclared.new_map.NewMap.{NewMap}
-use Rattle.run_logged.specs.Given.ResizeDeclared.new_map.Opening.{Opening}
-use Rattle.run_logged.specs.Given.ResizeDeclared.new_map.Opening.TheVariants as openings
-use Rattle.run_logged.specs.Given.ResizeDeclared.new_table.NewTable.{NewTable}
-use Rattle.run_logged.specs.Given.ResizeDeclared.new_table.Making.{Making}
-use Rattle.run_logged.specs.Given.ResizeDeclared.new_table.Making.TheVariants as makes
-use Rattle.run_logged.specs.Given.ResizeDeclared.sum.Sum.{Sum}
-use Rattle.run_logged.specs.Given.ResizeDeclared.sum.Summing.{Summing}
-use Rattle.run_logged.specs.Given.ResizeDeclared.sum.Summing.TheVariants as summing
-use Rattle.run_logged.specs.Given.TellsSeen.{seen_of}
-use Rattle.run_logged.specs.Given.TellerTells.{StepsTold, told_of}
-use Rattle.run_logged.specs.Given.EffectsDeclared.changed.Changed.{Changed}
-use Rattle.run_logged.specs.Given.EffectsDeclared.changed.Changed.TheVariants as changed
-use Rattle.run_logged.specs.Given.EffectsDeclared.changed.Kind.{Kind}
-use Rattle.run_logged.specs.Given.EffectsDeclared.changed.Kind.TheVariants as kind
+use Rattle.run_kept.specs.Given.ResizeNewMap as new_map
+use Rattle.run_finds.specs.Given.ResizeNewTable as new_table
+use Rattle.run_finds.specs.Given.ResizeSum as sums
+use Rattle.run_finds.specs.Given.ResizeDeclared.new_map.NewMap.{NewMap}
+use Rattle.run_finds.specs.Given.ResizeDeclared.new_map.Opening.{Opening}
+use Rattle.run_finds.specs.Given.ResizeDeclared.new_map.Opening.TheVariants as openings
+use Rattle.run_finds.specs.Given.ResizeDeclared.new_table.NewTable.{NewTable}
+use Rattle.run_finds.specs.Given.ResizeDeclared.new_table.Making.{Making}
+use Rattle.run_finds.specs.Given.ResizeDeclared.new_table.Making.TheVariants as makes
+use Rattle.run_finds.specs.Given.ResizeDeclared.sum.Sum.{Sum}
+use Rattle.run_finds.specs.Given.ResizeDeclared.sum.Summing.{Summing}
+use Rattle.run_finds.specs.Given.ResizeDeclared.sum.Summing.TheVariants as summing
+use Rattle.run_finds.specs.Given.TellsSeen.{seen_of}
+use Rattle.run_finds.specs.Given.TellerTells.{StepsObserved, observed_of}
+use Rattle.run_kept.specs.Given.EffectsDeclared.changed.Changed.{Changed}
+use Rattle.run_kept.specs.Given.EffectsDeclared.changed.Changed.TheVariants as changed
+use Rattle.run_kept.specs.Given.EffectsDeclared.changed.Kind.{Kind}
+use Rattle.run_kept.specs.Given.EffectsDeclared.changed.Kind.TheVariants as kind
 use Rattle.run_schedules.specs.declared.effect.Effect.{Effect}
 use Rattle.run_schedules.specs.declared.effect.Effect.TheVariants as effect
 use Rattle.run_schedules.specs.declared.effect.Growth.TheVariants.{ABlock, ABucket}
-use Rattle.run_logged.specs.Given.EffectsEffects.{effects_of, made_by, pair_taken, table_taken, taken_by}
-use Rattle.run_logged.specs.Given.EffectsKnown.{Known}
-use Rattle.run_logged.specs.Given.EffectsDeclared.acting.Acting.{Acting}
-use Rattle.run_logged.specs.Given.EffectsDeclared.acting.Acting.TheVariants as acting
-use Rattle.run_logged.specs.Given.EffectsDeclared.role.Role.{Role}
-use Rattle.run_logged.specs.Given.EffectsDeclared.role.Role.TheVariants as role
+use Rattle.run_kept.specs.Given.EffectsEffects.{effects_of, made_by, pair_taken, table_taken, taken_by}
+use Rattle.run_kept.specs.Given.EffectsKnown.{Known}
+use Rattle.run_kept.specs.Given.EffectsDeclared.acting.Acting.{Acting}
+use Rattle.run_kept.specs.Given.EffectsDeclared.acting.Acting.TheVariants as acting
+use Rattle.run_kept.specs.Given.EffectsDeclared.role.Role.{Role}
+use Rattle.run_kept.specs.Given.EffectsDeclared.role.Role.TheVariants as role
 use Rattle.many_acts.proofs.Given.OthersOutcomes.{told_in}
 use Rattle.play_lists.specs.Played.Play.{has_root}
 use Rattle.play_lists.proofs.Agrees.Elsewhere.{AllLinkElsewhere}
@@ -137,7 +137,7 @@ bare_below c (n, progress.Refused fault) bare = tt
 -- what is told of an operation
 module _ {K V : Type 0} (m : Mem (Node K V)) where
   abbrev told_as : Op (Node K V) → Out (Node K V) → Changed
-  told_as op out = told_of op out (seen_of m op out)
+  told_as op out = observed_of op out (seen_of m op out)
 
   takes_root : (r old new : ℕ) (out : Out (Node K V)) → WritesNone (told_as (Exchange (Used r) old new) out)
   takes_root r old new (Exchanged (Ok word)) = tt
@@ -167,7 +167,7 @@ module _ {K V : Type 0} (m m2 : Mem (Node K V)) (told : Changed) where
     AtTable stands = (has_none stands ≡ true) × WritesNone told
 
     sums_write : (before : Planned) (reason : Reason) (sum : Sum) (at : Summing) (end : NewTable × Advance Planned)
-        → StepsTold K V (NewTable × Advance Planned) m changed.Nothing (plan_as (new_table.counted n before reason) (sums.plan_at sum at)) m2 told end → WritesNone told
+        → StepsObserved K V (NewTable × Advance Planned) m changed.Nothing (plan_as (new_table.counted n before reason) (sums.plan_at sum at)) m2 told end → WritesNone told
     sums_write before reason sum (summing.Adds shard total) end s = so_told _ s.1.1 tt
     sums_write before reason sum (summing.Over count) end s = so_told _ s.2 tt
 
@@ -181,7 +181,7 @@ module _ {K V : Type 0} (m m2 : Mem (Node K V)) (told : Changed) where
     links_has table (Roomed roomed) end is ends bare = cc (subst IsBareTable ends bare, ap has_none is)
 
     table_writes : (stands : Making) → n.stands ≡ stands → (end : NewTable × Advance Planned)
-        → StepsTold K V (NewTable × Advance Planned) m changed.Nothing (new_table.plan_at n stands) m2 told end → IsBareTable end → AtTable stands
+        → StepsObserved K V (NewTable × Advance Planned) m changed.Nothing (new_table.plan_at n stands) m2 told end → IsBareTable end → AtTable stands
     table_writes (makes.Sums before reason sum) is end s bare = (refl, sums_write before reason sum sum.stands end s)
     table_writes (makes.Makes table) is end s bare = (refl, so_told _ s.1.1 (makes_one m (node.Table table.len table.limit table.turn) ((table.len + PLACES) % 2 ^ 64) s.0))
     table_writes (makes.Promotes table) is end s bare = absurd (cc (subst IsBareTable s.2 bare))
@@ -195,7 +195,7 @@ module _ {K V : Type 0} (m m2 : Mem (Node K V)) (told : Changed) where
     BareAfter end = is_bare end.0.stands ≡ true
 
     map_writes : (stands : Opening) → c.stands ≡ stands → (end : NewMap × Advance Setting)
-        → StepsTold K V (NewMap × Advance Setting) m changed.Nothing (new_map.plan_at c stands) m2 told end → BareAfter end → (is_bare stands ≡ true) × WritesNone told
+        → StepsObserved K V (NewMap × Advance Setting) m changed.Nothing (new_map.plan_at c stands) m2 told end → BareAfter end → (is_bare stands ≡ true) × WritesNone told
     map_writes openings.Takes is end s bare = (refl, so_told _ s.1.1 (takes_root m c.setting.root 0 1 s.0))
     map_writes openings.Shards is end s bare = (refl, so_told _ s.1.1 (makes_one m node.Shards ((c.setting.mask + 1) % 2 ^ 64) s.0))
     map_writes (openings.Tables making) is end s bare =
@@ -206,6 +206,6 @@ module _ {K V : Type 0} (m m2 : Mem (Node K V)) (told : Changed) where
     map_writes openings.Over is end s bare = absurd (cc (subst BareAfter s.1 bare, ap is_bare is))
     map_writes (openings.Refused fault) is end s bare = (refl, so_told _ s.2 tt)
 
-    pub bare_writes : (end : NewMap × Advance Setting) → StepsTold K V (NewMap × Advance Setting) m changed.Nothing (new_map.new_map_plan c) m2 told end → is_bare end.0.stands ≡ true
+    pub bare_writes : (end : NewMap × Advance Setting) → StepsObserved K V (NewMap × Advance Setting) m changed.Nothing (new_map.new_map_plan c) m2 told end → is_bare end.0.stands ≡ true
         → (is_bare c.stands ≡ true) × WritesNone told
     bare_writes end s bare = map_writes c.stands refl end s bare

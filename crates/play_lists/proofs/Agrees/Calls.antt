@@ -10,11 +10,11 @@ use Rattle.run_schedules.specs.declared.effect.Effect.{Effect}
 use Rattle.run_schedules.specs.declared.effect.Effect.TheVariants as effect
 use Rattle.run_schedules.specs.declared.outcome.Outcome.{Outcome}
 use Rattle.run_schedules.specs.declared.outcome.Outcome.TheVariants as outcome
-use Rattle.run_schedules.specs.Schedules.After.{asks_on, comes_to, replied, stepped, without_call}
+use Rattle.run_schedules.specs.Schedules.After.{asks_on, with_outcome, replied, stepped, without_call}
 use Rattle.run_schedules.specs.Schedules.Effects.{call_by, due_for, with_effect, with_effects}
 use Rattle.run_schedules.specs.Schedules.Entry.{ends_call}
-use Rattle.run_schedules.specs.Schedules.Moment.{Asking, Going, IsReady, Moment, Stands, Told, UnderWay}
-use Rattle.run_logged.specs.Given.EffectsEffects.{effects_of}
+use Rattle.run_schedules.specs.Schedules.Moment.{Asking, Going, IsReady, Moment, CallState, Told, UnderWay}
+use Rattle.run_kept.specs.Given.EffectsEffects.{effects_of}
 use Rattle.run_schedules.specs.Deeds.Deeds.{Deed, Begins, Steps, Replies, Stops, MapComes, Entry, acted_on, after, at_work, begun, caller_of, calls_on, moment, named, worked}
 use Rattle.play_lists.specs.Played.Play.{is_refusal}
 use Rattle.play_lists.specs.Agrees.Guards.{CallsHaveGuards, HasItsGuard}
@@ -64,13 +64,13 @@ module _ {K V : Type 0} where
   begun_so (MapComes map root mode capacity) m its all = all
   begun_so _ m its all = all
 
-  asked_same : (question : Option ℕ) (c : UnderWay K V) (stands : Stands) → AsIts c (asks_on question c stands)
+  asked_same : (question : Option ℕ) (c : UnderWay K V) (stands : CallState) → AsIts c (asks_on question c stands)
   asked_same question c Going = (refl, refl)
   asked_same question c (Asking q) = (refl, refl)
   asked_same question c Told = (refl, refl)
   asked_same question c IsReady = (refl, refl)
 
-  come_same : (o : Outcome V) (c : UnderWay K V) → AsIts c (comes_to o (record c { steps = c.steps + 1 }))
+  come_same : (o : Outcome V) (c : UnderWay K V) → AsIts c (with_outcome o (record c { steps = c.steps + 1 }))
   come_same outcome.Goes c = (refl, refl)
   come_same outcome.Waits c = (refl, refl)
   come_same (outcome.Asks question) c = asked_same question (record c { steps = c.steps + 1 }) c.stands
@@ -78,7 +78,7 @@ module _ {K V : Type 0} where
   come_same (outcome.Shows n) c = (refl, refl)
   come_same _ c = (refl, refl)
 
-  replied_same : (reply : Reply V) (c : UnderWay K V) (stands : Stands) → AsIts c (replied reply c stands)
+  replied_same : (reply : Reply V) (c : UnderWay K V) (stands : CallState) → AsIts c (replied reply c stands)
   replied_same reply c Going = (refl, refl)
   replied_same reply c (Asking q) = (refl, refl)
   replied_same reply c Told = (refl, refl)
@@ -88,9 +88,9 @@ module _ {K V : Type 0} where
   stepped_so None o cs all = all
   stepped_so (Some own) o cs all = by (ends_call o)
     where
-      by : (q : Bool) → AllByRecursion HasItsGuard (if q then without_call own cs else map (λ c. if is_same c.caller own then comes_to o (record c { steps = c.steps + 1 }) else c) cs)
+      by : (q : Bool) → AllByRecursion HasItsGuard (if q then without_call own cs else map (λ c. if is_same c.caller own then with_outcome o (record c { steps = c.steps + 1 }) else c) cs)
       by true = kept_so (λ c. not (is_same c.caller own)) cs all
-      by false = changed_so (λ c. is_same c.caller own) (λ c. comes_to o (record c { steps = c.steps + 1 })) (come_same o) cs all
+      by false = changed_so (λ c. is_same c.caller own) (λ c. with_outcome o (record c { steps = c.steps + 1 })) (come_same o) cs all
 
   calls_so : (d : Deed K V) (o : Outcome V) (cs : List (UnderWay K V)) → AllByRecursion HasItsGuard cs → AllByRecursion HasItsGuard (calls_on d o cs)
   calls_so (Replies i reply) outcome.Goes cs all = changed_so (λ c. is_same c.caller (named i)) (λ c. replied reply c c.stands) (λ c. replied_same reply c c.stands) cs all

@@ -14,14 +14,14 @@ use Rattle.run_schedules.specs.Schedules.Things.{same_table}
 use Rattle.run_schedules.specs.Schedules.Views.{behind, map_at, tables_of}
 use Rattle.run_schedules.specs.Given.SeizeWordsWord.{block_in}
 use Rattle.run_schedules.specs.Given.SeizeWordsDeclared.at.At.TheVariants.{Root, Used, Slot, Entry, Word}
-use Rattle.run_logged.specs.Given.EffectsDeclared.changed.Changed.{Changed}
-use Rattle.run_logged.specs.Given.EffectsDeclared.changed.Changed.TheVariants as changed
-use Rattle.run_logged.specs.Given.EffectsEffects.{effects_of, led_to, map_of, named, names_same, pair_taken, table_taken, taken_by}
-use Rattle.run_logged.specs.Given.EffectsKnown.{Known}
-use Rattle.run_logged.specs.Given.EffectsDeclared.acting.Acting.{Acting}
-use Rattle.run_logged.specs.Given.EffectsDeclared.acting.Acting.TheVariants as acting
-use Rattle.run_logged.specs.Given.EffectsDeclared.role.Role.{Role}
-use Rattle.run_logged.specs.Given.EffectsDeclared.role.Role.TheVariants as role
+use Rattle.run_kept.specs.Given.EffectsDeclared.changed.Changed.{Changed}
+use Rattle.run_kept.specs.Given.EffectsDeclared.changed.Changed.TheVariants as changed
+use Rattle.run_kept.specs.Given.EffectsEffects.{effects_of, led_to, map_of, named, names_same, pair_taken, table_taken, taken_by}
+use Rattle.run_kept.specs.Given.EffectsKnown.{Known}
+use Rattle.run_kept.specs.Given.EffectsDeclared.acting.Acting.{Acting}
+use Rattle.run_kept.specs.Given.EffectsDeclared.acting.Acting.TheVariants as acting
+use Rattle.run_kept.specs.Given.EffectsDeclared.role.Role.{Role}
+use Rattle.run_kept.specs.Given.EffectsDeclared.role.Role.TheVariants as role
 use Rattle.many_acts.proofs.Given.FollowsOfEach.{OfEach, operation_so, taken_so}
 use Rattle.many_acts.proofs.Given.OthersRowPlans.{TellsRow}
 

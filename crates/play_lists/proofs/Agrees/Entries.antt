@@ -11,20 +11,20 @@ use Rattle.map_tables.specs.Given.SeizeDeclared.rows.register.Registering.TheVar
 use Rattle.map_tables.specs.Given.SeizeDeclared.rows.settle.Settled.{Settled}
 use Rattle.map_tables.specs.Given.SeizeDeclared.states.TheConstants.{ACTIVE}
 use Rattle.map_tables.specs.Nodes.{deferred_word, was_left}
-use Rattle.run_logged.specs.Given.ResizeNewMap.{new_map_plan}
-use Rattle.run_logged.specs.Given.ResizeDeclared.new_map.NewMap.{NewMap}
-use Rattle.run_logged.specs.Given.RawEndMap.{end_map_plan}
-use Rattle.run_logged.specs.Given.RawMachine.{machine_asked, machine_plan, machine_replied}
-use Rattle.run_logged.specs.Given.EffectsDeclared.changed.Changed.{Changed}
+use Rattle.run_kept.specs.Given.ResizeNewMap.{new_map_plan}
+use Rattle.run_finds.specs.Given.ResizeDeclared.new_map.NewMap.{NewMap}
+use Rattle.run_schedules.specs.Given.RawEndMap.{end_map_plan}
+use Rattle.run_finds.specs.Given.RawMachine.{machine_asked, machine_plan, machine_replied}
+use Rattle.run_kept.specs.Given.EffectsDeclared.changed.Changed.{Changed}
 use Rattle.many_acts.specs.Given.ScenesScene.{row_of, slot_of}
 use Rattle.many_acts.specs.Given.ScenesDeclared.row.SlotRow.{SlotRow}
 use Rattle.many_acts.specs.Given.ScenesDeclared.row.SlotRow.TheVariants as rows
 use Rattle.run_schedules.specs.declared.outcome.Outcome.{Outcome}
 use Rattle.run_schedules.specs.declared.outcome.Outcome.TheVariants as outcome
-use Rattle.run_logged.specs.Given.EffectsEffects.{effects_of, known_after}
-use Rattle.run_logged.specs.Given.EffectsKnown.{Known}
-use Rattle.run_logged.specs.Given.EffectsDeclared.acting.Acting.{Acting}
-use Rattle.run_logged.specs.Given.EffectsDeclared.acting.Acting.TheVariants as acting
+use Rattle.run_kept.specs.Given.EffectsEffects.{effects_of, known_after}
+use Rattle.run_kept.specs.Given.EffectsKnown.{Known}
+use Rattle.run_kept.specs.Given.EffectsDeclared.acting.Acting.{Acting}
+use Rattle.run_kept.specs.Given.EffectsDeclared.acting.Acting.TheVariants as acting
 use Rattle.run_finds.specs.Given.NamedSeen.{kind_of}
 use Rattle.many_acts.specs.Acts.Acts.{Act, BeginsCall, StepsCall, TellsCall, AsksCall, StopsCall, BeginsMaking, StepsMaking, BeginsEnding, StepsEnding, BeginsRow, StepsRow}
 use Rattle.many_acts.specs.Acts.AsSteps.{changed_of, row_changed}

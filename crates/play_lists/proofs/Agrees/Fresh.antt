@@ -8,7 +8,7 @@ use Rattle.std.proofs.lemmas.List.Folds.{find-append}
 use Rattle.many_acts.proofs.Given.FollowsCalling.{come_same, replied_same}
 use Rattle.many_acts.proofs.Given.FollowsCalls.{IsOfSame, changed, changed_same, of_same}
 use Rattle.run_schedules.specs.Runs.Same.{is_same}
-use Rattle.run_schedules.specs.Schedules.After.{comes_to, replied, stepped, without_call}
+use Rattle.run_schedules.specs.Schedules.After.{with_outcome, replied, stepped, without_call}
 use Rattle.run_schedules.specs.Schedules.Effects.{call_by, maps_by, shards_by, with_effect, with_effects, word_with}
 use Rattle.run_schedules.specs.Schedules.Entry.{acting, ends_call}
 use Rattle.run_schedules.specs.Schedules.Lists.{put}
@@ -135,9 +135,9 @@ module _ {K V : Type 0} (n : ℕ) where
   stepped_other None o cs all = all
   stepped_other (Some own) o cs all = by (ends_call o)
     where
-      by : (q : Bool) → AllByRecursion OnOther (if q then without_call own cs else map (λ c. if is_same c.caller own then comes_to o (record c { steps = c.steps + 1 }) else c) cs)
+      by : (q : Bool) → AllByRecursion OnOther (if q then without_call own cs else map (λ c. if is_same c.caller own then with_outcome o (record c { steps = c.steps + 1 }) else c) cs)
       by true = kept_other (λ c. not (is_same c.caller own)) cs all
-      by false = changed_other (λ c. comes_to o (record c { steps = c.steps + 1 })) (λ c. come_same o (record c { steps = c.steps + 1 })) own cs all
+      by false = changed_other (λ c. with_outcome o (record c { steps = c.steps + 1 })) (λ c. come_same o (record c { steps = c.steps + 1 })) own cs all
 
   calls_left : (d : Deed K V) (o : Outcome V) (cs : List (UnderWay K V)) → AllByRecursion OnOther cs → AllByRecursion OnOther (calls_on d o cs)
   calls_left (Replies i reply) outcome.Goes cs all = changed_other (λ c. replied reply c c.stands) (λ c. replied_same reply c c.stands) (named i) cs all

@@ -10,16 +10,16 @@ use Rattle.map_tables.specs.Given.SeizeDeclared.advance.Advance.TheVariants as p
 use Rattle.map_tables.specs.Nodes.{deferred_word, was_left}
 use Rattle.map_tables.specs.declared.node.Node.{Node}
 use Rattle.map_tables.specs.declared.setting.Setting.{Setting}
-use Rattle.run_logged.specs.Given.ResizeNewMap.{new_map_plan, opening}
-use Rattle.run_logged.specs.Given.ResizeDeclared.new_map.NewMap.{NewMap}
-use Rattle.run_logged.specs.Given.RawEndMap.{end_map_plan, ending}
-use Rattle.run_logged.specs.Given.RawMachine.{machine_asked, machine_plan, machine_replied}
-use Rattle.run_logged.specs.Given.EffectsDeclared.changed.Changed.{Changed}
+use Rattle.run_kept.specs.Given.ResizeNewMap.{new_map_plan, opening}
+use Rattle.run_finds.specs.Given.ResizeDeclared.new_map.NewMap.{NewMap}
+use Rattle.run_schedules.specs.Given.RawEndMap.{end_map_plan, ending}
+use Rattle.run_finds.specs.Given.RawMachine.{machine_asked, machine_plan, machine_replied}
+use Rattle.run_kept.specs.Given.EffectsDeclared.changed.Changed.{Changed}
 use Rattle.many_acts.specs.Given.ScenesScene.{row_of, slot_of}
 use Rattle.many_acts.proofs.Given.ScenesNoCall.{none_is}
 use Rattle.run_schedules.specs.declared.outcome.Outcome.TheVariants as outcome
-use Rattle.run_logged.specs.Given.EffectsEffects.{known_after}
-use Rattle.run_logged.specs.Given.EffectsDeclared.acting.Acting.TheVariants as acting
+use Rattle.run_kept.specs.Given.EffectsEffects.{known_after}
+use Rattle.run_kept.specs.Given.EffectsDeclared.acting.Acting.TheVariants as acting
 use Rattle.run_finds.specs.Given.NamedSeen.{kind_of}
 use Rattle.many_acts.specs.Acts.Acts.{Act, BeginsCall, StepsCall, TellsCall, AsksCall, StopsCall, BeginsMaking, StepsMaking, BeginsEnding, StepsEnding, BeginsRow, StepsRow}
 use Rattle.many_acts.specs.Acts.AsSteps.{changed_of, row_changed}

@@ -1,11 +1,11 @@
 -- Wherever a list has led, each entry of its history that was refused a growth has asked for it, and made nothing.
 use Rattle.std.specs.Prelude.{true, false}
 use Rattle.std.proofs.Common.{refl}
-use Rattle.run_logged.specs.Given.EffectsDeclared.changed.Changed.{Changed}
-use Rattle.run_logged.specs.Given.EffectsDeclared.changed.Changed.TheVariants as changes
-use Rattle.run_logged.specs.Given.EffectsEffects.{effects_of}
-use Rattle.run_logged.specs.Given.EffectsKnown.{Known}
-use Rattle.run_logged.specs.Given.EffectsDeclared.acting.Acting.{Acting}
+use Rattle.run_kept.specs.Given.EffectsDeclared.changed.Changed.{Changed}
+use Rattle.run_kept.specs.Given.EffectsDeclared.changed.Changed.TheVariants as changes
+use Rattle.run_kept.specs.Given.EffectsEffects.{effects_of}
+use Rattle.run_kept.specs.Given.EffectsKnown.{Known}
+use Rattle.run_kept.specs.Given.EffectsDeclared.acting.Acting.{Acting}
 use Rattle.run_schedules.specs.Deeds.History.{Refuses}
 use Rattle.play_lists.specs.Played.Play.{is_refusal}
 use Rattle.play_lists.specs.Agrees.Grants.{EachRefuses}

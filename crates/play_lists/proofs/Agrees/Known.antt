@@ -9,15 +9,15 @@ use Rattle.run_schedules.specs.Given.SeizeWordsWord.{block_in}
 use Rattle.run_schedules.specs.Given.SeizeWordsDeclared.at.At.TheVariants.{Root, Used, Slot, Entry, Word}
 use Rattle.map_tables.specs.declared.node.Node.{Node}
 use Rattle.map_tables.specs.declared.table_words.TheConstants.{NEXT}
-use Rattle.run_logged.specs.Given.TellsSeen.{seen_of}
-use Rattle.run_logged.specs.Given.TellerTells.{StepsTold, told_of}
-use Rattle.run_logged.specs.Given.EffectsDeclared.changed.Changed.{Changed}
-use Rattle.run_logged.specs.Given.EffectsDeclared.changed.Changed.TheVariants as changed
-use Rattle.run_logged.specs.Given.EffectsEffects.{in_block_on, in_table_on, is_place, known_after, linked_on, made_role, named, names_same, stored_on, table_at}
-use Rattle.run_logged.specs.Given.EffectsKnown.{Known, with_role}
-use Rattle.run_logged.specs.Given.EffectsDeclared.acting.Acting.{Acting}
-use Rattle.run_logged.specs.Given.EffectsDeclared.role.Role.{Role}
-use Rattle.run_logged.specs.Given.EffectsDeclared.role.Role.TheVariants as role
+use Rattle.run_finds.specs.Given.TellsSeen.{seen_of}
+use Rattle.run_finds.specs.Given.TellerTells.{StepsObserved, observed_of}
+use Rattle.run_kept.specs.Given.EffectsDeclared.changed.Changed.{Changed}
+use Rattle.run_kept.specs.Given.EffectsDeclared.changed.Changed.TheVariants as changed
+use Rattle.run_kept.specs.Given.EffectsEffects.{in_block_on, in_table_on, is_place, known_after, linked_on, made_role, named, names_same, stored_on, table_at}
+use Rattle.run_kept.specs.Given.EffectsKnown.{Known, with_role}
+use Rattle.run_kept.specs.Given.EffectsDeclared.acting.Acting.{Acting}
+use Rattle.run_kept.specs.Given.EffectsDeclared.role.Role.{Role}
+use Rattle.run_kept.specs.Given.EffectsDeclared.role.Role.TheVariants as role
 
 -- a block that is made has another number
 abbrev pub MakesSome : Changed → Type 0
@@ -25,7 +25,7 @@ MakesSome (changed.Made kind b) = 0 < b
 MakesSome told = Unit {0}
 
 module _ {K V : Type 0} where
-  op_makes : (m n : Mem (Node K V)) (op : Op (Node K V)) (out : Out (Node K V)) → Took m op out n → MakesSome (told_of op out (seen_of m op out))
+  op_makes : (m n : Mem (Node K V)) (op : Op (Node K V)) (out : Out (Node K V)) → Took m op out n → MakesSome (observed_of op out (seen_of m op out))
   op_makes m n (Load at) out took = tt
   op_makes m n (Store at word) out took = tt
   op_makes m n (Swap at word) (Found before) took = tt
@@ -44,7 +44,7 @@ module _ {K V : Type 0} where
   op_makes m n (Room bucket) (Roomed roomed) took = tt
   op_makes m n (Room bucket) _ took = tt
 
-  pub step_makes : {R : Type 0} (m n : Mem (Node K V)) (told : Changed) (plan : Plan (Node K V) R) (end : R) → StepsTold K V R m changed.Nothing plan n told end → MakesSome told
+  pub step_makes : {R : Type 0} (m n : Mem (Node K V)) (told : Changed) (plan : Plan (Node K V) R) (end : R) → StepsObserved K V R m changed.Nothing plan n told end → MakesSome told
   step_makes m n told (Turn rest) end steps = subst MakesSome (sym steps.2) tt
   step_makes m n told (Do op rest) end steps = subst MakesSome (sym steps.1.1) (op_makes m n op steps.0 steps.1.0)
 

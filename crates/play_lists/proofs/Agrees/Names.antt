@@ -11,7 +11,7 @@ use Rattle.run_schedules.specs.Schedules.Moment.{MapThere, Moment}
 use Rattle.run_schedules.specs.declared.effect.Effect.{Effect}
 use Rattle.run_schedules.specs.declared.effect.Effect.TheVariants.{Promoted}
 use Rattle.run_schedules.specs.declared.effect.TableId.{TableId}
-use Rattle.run_logged.specs.Given.EffectsEffects.{effects_of}
+use Rattle.run_kept.specs.Given.EffectsEffects.{effects_of}
 use Rattle.run_schedules.specs.Deeds.Deeds.{Deed, Entry, MapComes, MapFails, MapGoes, acted_on, after, at_work, begun, caller_of, come, maps_on, moment, named, without_map, worked}
 use Rattle.play_lists.specs.Played.Play.{is_refusal}
 use Rattle.play_lists.specs.Agrees.Fresh.{AreNamed, IsNamed}

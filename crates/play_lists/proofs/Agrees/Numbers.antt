@@ -14,14 +14,14 @@ use Rattle.map_tables.specs.Given.SeizeDeclared.rows.settle.Settled.{Settled}
 use Rattle.map_tables.specs.Nodes.{deferred_word, was_left}
 use Rattle.map_tables.specs.declared.node.Node.{Node}
 use Rattle.map_tables.specs.declared.setting.Setting.{Setting}
-use Rattle.run_logged.specs.Given.ResizeNewMap.{new_map_plan, opening}
-use Rattle.run_logged.specs.Given.ResizeDeclared.new_map.NewMap.{NewMap}
-use Rattle.run_logged.specs.Given.RawEndMap.{end_map_plan, ending}
-use Rattle.run_logged.specs.Given.RawMachine.{machine_asked, machine_plan, machine_replied}
-use Rattle.run_logged.specs.Given.RawDeclared.machines.end_map.EndMap.{EndMap}
-use Rattle.run_logged.specs.Given.TellerTells.{StepsTold}
-use Rattle.run_logged.specs.Given.EffectsDeclared.changed.Changed.{Changed}
-use Rattle.run_logged.specs.Given.EffectsDeclared.changed.Changed.TheVariants.{Nothing as NoChange}
+use Rattle.run_kept.specs.Given.ResizeNewMap.{new_map_plan, opening}
+use Rattle.run_finds.specs.Given.ResizeDeclared.new_map.NewMap.{NewMap}
+use Rattle.run_schedules.specs.Given.RawEndMap.{end_map_plan, ending}
+use Rattle.run_finds.specs.Given.RawMachine.{machine_asked, machine_plan, machine_replied}
+use Rattle.run_finds.specs.Given.RawDeclared.machines.end_map.EndMap.{EndMap}
+use Rattle.run_finds.specs.Given.TellerTells.{StepsObserved}
+use Rattle.run_kept.specs.Given.EffectsDeclared.changed.Changed.{Changed}
+use Rattle.run_kept.specs.Given.EffectsDeclared.changed.Changed.TheVariants.{Nothing as NoChange}
 use Rattle.many_acts.specs.Given.FinishesMaps.{with_call}
 use Rattle.many_acts.proofs.Given.CallersTogether.At.{at_other, at_same}
 use Rattle.many_acts.specs.Given.ScenesReplying.{unless_stopped}
@@ -30,15 +30,15 @@ use Rattle.run_schedules.specs.Runs.Same.{is_same}
 use Rattle.run_schedules.specs.Schedules.Moment.{UnderWay}
 use Rattle.run_schedules.specs.declared.outcome.Outcome.{Outcome}
 use Rattle.run_schedules.specs.declared.outcome.Outcome.TheVariants as outcome
-use Rattle.run_logged.specs.Given.EffectsEffects.{effects_of, known_after}
-use Rattle.run_logged.specs.Given.EffectsDeclared.acting.Acting.{Acting}
-use Rattle.run_logged.specs.Given.EffectsDeclared.acting.Acting.TheVariants as acting
+use Rattle.run_kept.specs.Given.EffectsEffects.{effects_of, known_after}
+use Rattle.run_kept.specs.Given.EffectsDeclared.acting.Acting.{Acting}
+use Rattle.run_kept.specs.Given.EffectsDeclared.acting.Acting.TheVariants as acting
 use Rattle.run_finds.specs.Given.NamedSeen.{kind_of}
 use Rattle.many_acts.specs.Acts.Acts.{Act, Answer, OfAsking, OfCall, OfEnding, OfMaking, OfReclaiming, OfReply, Nothing, BeginsCall, StepsCall, TellsCall, AsksCall, StopsCall, BeginsMaking, StepsMaking, BeginsEnding, StepsEnding, BeginsRow, StepsRow}
 use Rattle.many_acts.specs.Acts.AsSteps.{changed_of, row_changed}
 use Rattle.many_acts.proofs.Acts.AsSteps.Told.{was_told}
 use Rattle.run_schedules.specs.Deeds.Deeds.{Deed, Begins, Steps, Replies, Stops, MapFails, ReclaimsAll, Entry, acted_on, at_work, map_of_call, maps_on, moment, named, worked as worked_on}
-use Rattle.play_lists.specs.Played.Play.{Calling, Ending, Making, Now, State, all_on, begun_call, call_for, did, ended_on, ending_deed, first_state, going, has_root, is_over, is_refusal, made_on, making_deed, making_outcome, outcome_of, reply_for, row_deed, row_on, row_outcome, settled_outcome, told_call, worked}
+use Rattle.play_lists.specs.Played.Play.{Calling, Ending, Making, Now, State, all_on, begun_call, call_for, did, ended_on, ending_deed, first_state, going, has_root, is_over, is_refusal, made_on, making_deed, making_outcome, outcome_of, reply_for, row_deed, row_on, row_outcome, settled_outcome, replied_call, worked}
 use Rattle.play_lists.proofs.Played.Along.{StaysSo}
 use Rattle.play_lists.proofs.Played.Noted.{Anything, CallsAreNoted, IsNoted, notes_stay}
 use Rattle.play_lists.proofs.Played.PlayedAs.{PlayedAs, ReclaimedAs, played_as, reclaimed_as}
@@ -262,7 +262,7 @@ module _ {K V S : Type 0} (again : Bool) (x : State K V S) (here : NumbersHold a
     done_then : (setting : Setting) → end.1.1 ≡ progress.Done setting → in_use again b.map log_then ≡ true
     done_then setting done = by (has_root end.1.0.stands) refl
       where
-        told_so : StepsTold K V (NewMap × Advance Setting) x.now.memory NoChange (new_map_plan {K = K} {V = V} b.machine) end.0 change end.1
+        told_so : StepsObserved K V (NewMap × Advance Setting) x.now.memory NoChange (new_map_plan {K = K} {V = V} b.machine) end.0 change end.1
         told_so = was_told x.now.memory g (new_map_plan {K = K} {V = V} b.machine) end came
 
         had : has_root b.machine.stands ≡ true
@@ -342,7 +342,7 @@ module _ {K V S : Type 0} (same : K → K → Bool) (hash : S → K → ℕ) (ba
   acts_number (TellsCall i m reply) may (c, has, is) noted =
       let to = machine_replied c.machine reply in
       subst (NumbersHold again) (sym is)
-      (did_so again x here (is_ok to.1) (Replies i (reply_for (aborts (length x.told)) reply)) outcome.Goes (OfReply to.1) (with_call x.now.calls m i (Some (told_call to (reply_for (aborts (length x.told)) reply) c))) (λ n. refl) (λ n not. tt))
+      (did_so again x here (is_ok to.1) (Replies i (reply_for (aborts (length x.told)) reply)) outcome.Goes (OfReply to.1) (with_call x.now.calls m i (Some (replied_call to (reply_for (aborts (length x.told)) reply) c))) (λ n. refl) (λ n not. tt))
   acts_number (AsksCall i m) may (c, has, is) noted =
       let to = machine_asked c.machine in
       subst (NumbersHold again) (sym is) (did_so again x here false (Steps i) outcome.Goes (OfAsking to.1) (with_call x.now.calls m i (Some (record c { machine = to.0 }))) (λ n. refl) (λ n not. tt))

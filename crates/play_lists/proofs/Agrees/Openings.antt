@@ -13,20 +13,20 @@ use Rattle.map_tables.specs.Given.SeizeDeclared.rows.settle.Settled.{Settled}
 use Rattle.map_tables.specs.declared.node.Node.{Node}
 use Rattle.map_tables.specs.declared.setting.Setting.{Setting}
 use Rattle.map_tables.specs.declared.table.Table.{Table}
-use Rattle.run_logged.specs.Given.ResizeNewMap.{at_root, done, goes, made, opened, plan_at, refused, taken}
-use Rattle.run_logged.specs.Given.ResizeNewTable.{first_table, new_table_plan}
-use Rattle.run_logged.specs.Given.ResizeDeclared.new_map.NewMap.{NewMap}
-use Rattle.run_logged.specs.Given.ResizeDeclared.new_map.Opening.{Opening}
-use Rattle.run_logged.specs.Given.ResizeDeclared.new_map.Opening.TheVariants as openings
-use Rattle.run_logged.specs.Given.ResizeDeclared.new_table.NewTable.{NewTable}
-use Rattle.run_logged.specs.Given.TellsSeen.{seen_of}
-use Rattle.run_logged.specs.Given.TellerTells.{StepsTold, told_of}
-use Rattle.run_logged.specs.Given.EffectsDeclared.changed.Changed.{Changed}
-use Rattle.run_logged.specs.Given.EffectsDeclared.changed.Changed.TheVariants as changed
+use Rattle.run_kept.specs.Given.ResizeNewMap.{at_root, done, goes, made, opened, plan_at, refused, taken}
+use Rattle.run_finds.specs.Given.ResizeNewTable.{first_table, new_table_plan}
+use Rattle.run_finds.specs.Given.ResizeDeclared.new_map.NewMap.{NewMap}
+use Rattle.run_finds.specs.Given.ResizeDeclared.new_map.Opening.{Opening}
+use Rattle.run_finds.specs.Given.ResizeDeclared.new_map.Opening.TheVariants as openings
+use Rattle.run_finds.specs.Given.ResizeDeclared.new_table.NewTable.{NewTable}
+use Rattle.run_finds.specs.Given.TellsSeen.{seen_of}
+use Rattle.run_finds.specs.Given.TellerTells.{StepsObserved, observed_of}
+use Rattle.run_kept.specs.Given.EffectsDeclared.changed.Changed.{Changed}
+use Rattle.run_kept.specs.Given.EffectsDeclared.changed.Changed.TheVariants as changed
 use Rattle.run_schedules.specs.Schedules.Moment.{Moment}
-use Rattle.run_logged.specs.Given.EffectsEffects.{effects_of}
-use Rattle.run_logged.specs.Given.EffectsKnown.{Known}
-use Rattle.run_logged.specs.Given.EffectsDeclared.acting.Acting.{Acting}
+use Rattle.run_kept.specs.Given.EffectsEffects.{effects_of}
+use Rattle.run_kept.specs.Given.EffectsKnown.{Known}
+use Rattle.run_kept.specs.Given.EffectsDeclared.acting.Acting.{Acting}
 use Rattle.many_acts.proofs.Given.OthersOutcomes.{told_in}
 use Rattle.run_schedules.specs.Deeds.Deeds.{Deed, MapComes, Makes, MapFails, Ends, MapGoes, acted_on}
 use Rattle.play_lists.specs.Played.Play.{Ending, ending_deed, has_root, is_over, making_deed, pairs_for}
@@ -44,9 +44,9 @@ IsRefused told = ⊥
 
 module _ {K V : Type 0} (c : NewMap) (m n : Mem (Node K V)) (told : Changed) (end : NewMap × Advance Setting) where
   abbrev Steps : Opening → Type 0
-  Steps stands = StepsTold K V (NewMap × Advance Setting) m changed.Nothing (plan_at c stands) n told end
+  Steps stands = StepsObserved K V (NewMap × Advance Setting) m changed.Nothing (plan_at c stands) n told end
 
-  exchange_quiet : (out : Out (Node K V)) → IsQuiet (told_of (Exchange (Used c.setting.root) 0 1) out (seen_of m (Exchange (Used c.setting.root) 0 1) out))
+  exchange_quiet : (out : Out (Node K V)) → IsQuiet (observed_of (Exchange (Used c.setting.root) 0 1) out (seen_of m (Exchange (Used c.setting.root) 0 1) out))
   exchange_quiet (Exchanged (Ok word)) who known = refl
   exchange_quiet _ who known = refl
 

@@ -21,9 +21,9 @@ use Rattle.map_tables.specs.Given.SeizeDeclared.rows.settle.Settled.{Settled}
 use Rattle.map_tables.specs.Given.SeizeDeclared.states.TheConstants.{ACTIVE}
 use Rattle.map_tables.specs.Nodes.{deferred_word, was_left}
 use Rattle.map_tables.specs.declared.node.Node.{Node}
-use Rattle.run_logged.specs.Given.TellerTells.{StepsTold}
-use Rattle.run_logged.specs.Given.EffectsDeclared.changed.Changed.{Changed}
-use Rattle.run_logged.specs.Given.EffectsDeclared.changed.Changed.TheVariants as changed
+use Rattle.run_finds.specs.Given.TellerTells.{StepsObserved}
+use Rattle.run_kept.specs.Given.EffectsDeclared.changed.Changed.{Changed}
+use Rattle.run_kept.specs.Given.EffectsDeclared.changed.Changed.TheVariants as changed
 use Rattle.many_acts.specs.Given.ScenesOnSlots.{RowSteps}
 use Rattle.many_acts.specs.Given.ScenesRows.{of_registering, of_settling, of_storing}
 use Rattle.many_acts.specs.Given.ScenesScene.{row_of}
@@ -73,7 +73,7 @@ module _ {K V : Type 0} (m n : Mem (Node K V)) (told : Changed) (end : ReclaimAl
   as_row : (x : Changed) → told ≡ x → TellsRow x → TellsRow told ⊎ EmptiesRoot told
   as_row x is so = inl (subst TellsRow (sym is) so)
 
-  all_tell : (c : ReclaimAll) (p : Reclaiming) → StepsTold K V (ReclaimAll × Settled (Node K V)) m changed.Nothing (plan_at deferred_word was_left c p) n told end → TellsRow told ⊎ EmptiesRoot told
+  all_tell : (c : ReclaimAll) (p : Reclaiming) → StepsObserved K V (ReclaimAll × Settled (Node K V)) m changed.Nothing (plan_at deferred_word was_left c p) n told end → TellsRow told ⊎ EmptiesRoot told
   all_tell c (at.Heads slot) s = as_row _ s.1.1 tt
   all_tell c (at.Retakes slot) s = as_row _ s.1.1 tt
   all_tell c (at.Leaves slot leave) s =

@@ -1,10 +1,10 @@
 -- What a caller begins in an executor, as what it wants of a map.
 use Rattle.std.specs.Prelude.{◌≡◌, ℕ, Bool, [], None}
 use Rattle.std.proofs.Common.{refl, sym, ap, ◌∙◌}
-use Rattle.run_logged.specs.Given.RawDeclared.machines.call.KeyCall.{KeyCall}
-use Rattle.run_logged.specs.Given.RawCallAsks.{removing_if}
-use Rattle.run_logged.specs.Given.RawCallPoints.{getting, removing}
-use Rattle.run_logged.specs.Given.RuleMaps.{IsClass}
+use Rattle.run_finds.specs.Given.RawDeclared.machines.call.KeyCall.{KeyCall}
+use Rattle.run_kept.specs.Given.RawCallAsks.{removing_if}
+use Rattle.run_kept.specs.Given.RawCallPoints.{getting, removing}
+use Rattle.run_finds.specs.Given.RuleMaps.{IsClass}
 use Rattle.many_acts.specs.Given.PointsSteps.{AreLawful}
 use Rattle.many_acts.specs.Given.CallersKind.{gets, removes, removes_if}
 use Rattle.many_acts.specs.Given.CallersPairs.{Given, Begun, IsTold}

@@ -26,18 +26,18 @@ use Rattle.seize_acts.proofs.Given.SeizeRuleWorld.Kept.{rows_may}
 use Rattle.map_tables.specs.Nodes.{deferred_word}
 use Rattle.map_tables.specs.declared.node.Node.{Node}
 use Rattle.map_tables.specs.declared.setting.Setting.{Setting}
-use Rattle.run_logged.specs.Given.ResizeNewMap.{new_map_plan}
-use Rattle.run_logged.specs.Given.ResizeDeclared.new_map.NewMap.{NewMap}
-use Rattle.run_logged.specs.Given.RawEndMap.{end_map_plan}
-use Rattle.run_logged.specs.Given.RawMachine.{machine_asked, machine_plan, machine_replied}
-use Rattle.run_logged.specs.Given.RawDeclared.machines.asking.MachineReply.{MachineReply}
-use Rattle.run_logged.specs.Given.RawDeclared.machines.end_map.EndMap.{EndMap}
-use Rattle.run_logged.specs.Given.RawDeclared.machines.machine.Machine.{Machine}
-use Rattle.run_logged.specs.Given.RawDeclared.machines.progress.Progress.{Progress as CallProgress}
-use Rattle.run_logged.specs.Given.TellerTells.{StepsTold}
-use Rattle.run_logged.specs.Given.EffectsDeclared.changed.Changed.TheVariants.{Nothing as NoChange}
+use Rattle.run_kept.specs.Given.ResizeNewMap.{new_map_plan}
+use Rattle.run_finds.specs.Given.ResizeDeclared.new_map.NewMap.{NewMap}
+use Rattle.run_schedules.specs.Given.RawEndMap.{end_map_plan}
+use Rattle.run_finds.specs.Given.RawMachine.{machine_asked, machine_plan, machine_replied}
+use Rattle.run_finds.specs.Given.RawDeclared.machines.asking.MachineReply.{MachineReply}
+use Rattle.run_finds.specs.Given.RawDeclared.machines.end_map.EndMap.{EndMap}
+use Rattle.run_finds.specs.Given.RawDeclared.machines.machine.Machine.{Machine}
+use Rattle.run_finds.specs.Given.RawDeclared.machines.progress.Progress.{Progress as CallProgress}
+use Rattle.run_finds.specs.Given.TellerTells.{StepsObserved}
+use Rattle.run_kept.specs.Given.EffectsDeclared.changed.Changed.TheVariants.{Nothing as NoChange}
 use Rattle.many_acts.specs.Given.CallersTogether.{Closes, Counting, ForRoom, OnKey, OverAll, UnderWay, UnlessCounts}
-use Rattle.many_acts.specs.Given.FinishesEndings.{EndingsTogether, Finishing, MakingStepsAmong, StepsOfEnding}
+use Rattle.many_acts.specs.Given.FinishesEndings.{EndingsTogether, Finishing, MakingStepsWithEndings, StepsOfEnding}
 use Rattle.many_acts.specs.Given.FinishesMachines.{machine_of}
 use Rattle.many_acts.specs.Given.FinishesMakings.{Beginning}
 use Rattle.many_acts.specs.Given.FinishesMaps.{Standing, with_call}
@@ -63,8 +63,8 @@ use Rattle.run_finds.specs.Given.ExecutorOnSlots.{MayBegin, NobodyIn, RowStepsTh
 use Rattle.run_finds.specs.Given.ExecutorMaking.{MakesThere}
 use Rattle.run_finds.specs.Given.ExecutorReplying.{RepliesThere}
 use Rattle.run_finds.specs.Given.ExecutorStepping.{StepsThere}
-use Rattle.many_acts.specs.Given.ScenesEnding.{EndingComesToThere}
-use Rattle.many_acts.specs.Given.ScenesMaking.{MakingComesToThere}
+use Rattle.many_acts.specs.Given.ScenesEnding.{EndingOutcomeHolds}
+use Rattle.many_acts.specs.Given.ScenesMaking.{MakingOutcomeHolds}
 use Rattle.many_acts.specs.Given.ScenesOnSlots.{RowSteps}
 use Rattle.many_acts.specs.Given.ScenesReplying.{scene_with, unless_stopped}
 use Rattle.many_acts.specs.Given.ScenesRows.{request_of}
@@ -114,7 +114,7 @@ module _ {K V S : Type 0} (same : K → K → Bool) (hash : S → K → ℕ) (e 
 
   -- a step that is told is computed, with some choice
   computed : {R : Type 0} (plan : Plan (Node K V) R) (end : R) → May Can Took value_at s.world.memory plan
-      → StepsTold K V R e.memory.memory NoChange plan e2.memory.memory e2.memory.changed end → (g : Grant) × IsComputed e e2 plan end g
+      → StepsObserved K V R e.memory.memory NoChange plan e2.memory.memory e2.memory.changed end → (g : Grant) × IsComputed e e2 plan end g
   computed plan end can st =
       let so = told_so e.memory.memory plan e2.memory.memory e2.memory.changed end (subst (λ (m : Mem (Node K V)). May Can Took value_at m plan) at.held.memory can) st in
       (so.0, (so.1, so.2))
@@ -133,7 +133,7 @@ module _ {K V S : Type 0} (same : K → K → Bool) (hash : S → K → ℕ) (e 
 
   -- so it is of a machine, of which one step was told
   computed_to : {M P : Type 0} (plan : Plan (Node K V) (M × P)) (machine : M) (told : P) → May Can Took value_at s.world.memory plan
-      → StepsTold K V (M × P) e.memory.memory NoChange plan e2.memory.memory e2.memory.changed (machine, told)
+      → StepsObserved K V (M × P) e.memory.memory NoChange plan e2.memory.memory e2.memory.changed (machine, told)
       → ((g : Grant) × Computes e e2 plan told g) × ((g : Grant) → Computes e e2 plan told g → IsComputed e e2 plan (machine, told) g)
   computed_to {M} {P} plan machine told can st =
       let so = computed plan (machine, told) can st in (
@@ -159,7 +159,7 @@ module _ {K V S : Type 0} (same : K → K → Bool) (hash : S → K → ℕ) (e 
       let hashed : to.0.hash ≡ hash e.hasher = at.held.hashes m to.0 to.2 in
       let plan = machine_plan same same (hash e.hasher) (machine_of u) in
       let can = subst (λ (h : K → ℕ). May Can Took value_at s.world.memory (machine_plan same same h (machine_of u))) hashed (may.calls m i to.0 u to.2 here) in
-      let st = subst (λ (h : K → ℕ). StepsTold K V (Machine K V K × CallProgress (Node K V)) e.memory.memory NoChange (machine_plan same same h (machine_of u)) e2.memory.memory e2.memory.changed (to.1, told)) hashed
+      let st = subst (λ (h : K → ℕ). StepsObserved K V (Machine K V K × CallProgress (Node K V)) e.memory.memory NoChange (machine_plan same same h (machine_of u)) e2.memory.memory e2.memory.changed (to.1, told)) hashed
       to.3 in
       let all = computed_to plan to.1 told can st in
       let at_it = call_there m to.0 u to.2 here in (
@@ -291,8 +291,8 @@ module _ {K V S : Type 0} (same : K → K → Bool) (hash : S → K → ℕ) (e 
         acts (StopsCall i m) tt (there_call m u here) (OfAsking stopped) _ (u, here, ap OfAsking to.0, ap (λ (x : Bool). record s { calls = with_call s.calls m i (unless_stopped x u) }) to.0) to.2);
   }
 
-  making_comes : (b : Beginning K) (machine : NewMap) (told : Advance Setting) (did : MakingStepsAmong V same same e.batch_size e.roots slot_of s.world s.maps s.calls s.makers s.enders i b e2.memory.memory (machine, told))
-      → MakingComesToThere same (IsThere same (hash e.hasher) e2) s (held_by e) i b machine did.step.w2 told
+  making_comes : (b : Beginning K) (machine : NewMap) (told : Advance Setting) (did : MakingStepsWithEndings V same same e.batch_size e.roots slot_of s.world s.maps s.calls s.makers s.enders i b e2.memory.memory (machine, told))
+      → MakingOutcomeHolds same (IsThere same (hash e.hasher) e2) s (held_by e) i b machine did.step.w2 told
       → (n : Scene K V) × MakingCame same hash e.batch_size e.roots slot_of s i b did.step.w2 machine n told × IsThere same (hash e.hasher) e2 n
   making_comes b machine progress.Goes did is = (_, refl, is)
   making_comes b machine progress.Waits did never = absurd never
@@ -315,7 +315,7 @@ module _ {K V S : Type 0} (same : K → K → Bool) (hash : S → K → ℕ) (e 
       )
 
   ending_comes : (f : Finishing K V) (machine : EndMap) (told : Settled (Node K V)) (did : StepsOfEnding V same same e.batch_size e.roots slot_of s.world s.maps s.calls s.makers s.enders i f e2.memory.memory (machine, told))
-      → EndingComesToThere same (IsThere same (hash e.hasher) e2) s i f machine did.w2 did.deed told
+      → EndingOutcomeHolds same (IsThere same (hash e.hasher) e2) s i f machine did.w2 did.deed told
       → (n : Scene K V) × EndingCame same hash e.batch_size e.roots slot_of s i f did.w2 did.deed machine n told × IsThere same (hash e.hasher) e2 n
   ending_comes f machine settled.Goes did (none, is) = (_, (none, refl), is)
   ending_comes f machine settled.Waits did never = absurd never

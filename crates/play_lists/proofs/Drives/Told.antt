@@ -16,9 +16,9 @@ use Rattle.seize_acts.specs.Acts.Answers.{Grant, answer, ends, stepped, then_on}
 use Rattle.seize_acts.proofs.Acts.Answers.{some}
 use Rattle.seize_acts.proofs.Acts.Steps.{steps_so}
 use Rattle.map_tables.specs.declared.node.Node.{Node}
-use Rattle.run_logged.specs.Given.TellerTells.{StepsTold}
-use Rattle.run_logged.specs.Given.EffectsDeclared.changed.Changed.{Changed}
-use Rattle.run_logged.specs.Given.EffectsDeclared.changed.Changed.TheVariants.{Nothing as NoChange}
+use Rattle.run_finds.specs.Given.TellerTells.{StepsObserved}
+use Rattle.run_kept.specs.Given.EffectsDeclared.changed.Changed.{Changed}
+use Rattle.run_kept.specs.Given.EffectsDeclared.changed.Changed.TheVariants.{Nothing as NoChange}
 use Rattle.many_acts.specs.Acts.AsSteps.{changed_as, changed_of}
 use Rattle.run_finds.proofs.Given.General.{same_some}
 
@@ -140,7 +140,7 @@ module _ {T : Type 0} where
 
 module _ {K V R : Type 0} where
   -- a step is computed with a choice by which it has changed what is told
-  pub told_so : (m : Mem (Node K V)) (plan : Plan (Node K V) R) (n : Mem (Node K V)) (told : Changed) (end : R) → May Can Took value_at m plan → StepsTold K V R m NoChange plan n told end
+  pub told_so : (m : Mem (Node K V)) (plan : Plan (Node K V) R) (n : Mem (Node K V)) (told : Changed) (end : R) → May Can Took value_at m plan → StepsObserved K V R m NoChange plan n told end
       → (g : Grant) × (stepped m g plan ≡ Some (n, end)) × (changed_of m g plan ≡ told)
   told_so m (Turn rest) n told end may st = let s = steps_so m (Turn rest) n end may (st.0, st.1) in (s.0, s.1, sym st.2)
   told_so m (Do op rest) n told end may (out, (took, tells), is) =

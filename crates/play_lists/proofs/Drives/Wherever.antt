@@ -11,8 +11,8 @@ use Rattle.map_tables.specs.Given.SeizeDeclared.rows.settle.Settled.TheVariants 
 use Rattle.map_tables.specs.Nodes.{deferred_word}
 use Rattle.map_tables.specs.declared.node.Node.{Node}
 use Rattle.map_tables.specs.declared.setting.Setting.{Setting}
-use Rattle.run_logged.specs.Given.ResizeDeclared.new_map.NewMap.{NewMap}
-use Rattle.run_logged.specs.Given.RawDeclared.machines.end_map.EndMap.{EndMap}
+use Rattle.run_finds.specs.Given.ResizeDeclared.new_map.NewMap.{NewMap}
+use Rattle.run_finds.specs.Given.RawDeclared.machines.end_map.EndMap.{EndMap}
 use Rattle.many_acts.specs.Given.CallersRows.{IsUsedAlike}
 use Rattle.many_acts.specs.Given.CallersTogether.{IsOfSlots}
 use Rattle.many_acts.proofs.Given.CallersTogether.Users.{events_uses}

@@ -5,7 +5,7 @@ use Rattle.std.proofs.lemmas.List.{length-append}
 use Rattle.seize_acts.specs.Acts.Answers.{then_on}
 use Rattle.many_acts.specs.Acts.Acts.{Answer, BeginsCall, StepsCall, TellsCall, AsksCall, StopsCall, BeginsMaking, StepsMaking, BeginsEnding, StepsEnding, BeginsRow, StepsRow}
 use Rattle.many_acts.specs.Acts.Doings.{Doing, Does, BeginsReclaiming, BeginsClearing, StepsReclaiming, Chooses}
-use Rattle.play_lists.specs.Played.Play.{State, call_told, play, play_all}
+use Rattle.play_lists.specs.Played.Play.{State, call_replied, play, play_all}
 use Rattle.play_lists.proofs.Played.PlayedAs.{played_as, reclaimed_as}
 use Rattle.play_lists.specs.Agrees.Fresh.{IsNew, MakesNew}
 use Rattle.run_finds.proofs.Given.General.{same_some}
@@ -14,7 +14,7 @@ module _ {K V S : Type 0} (same : K → K → Bool) (by_hasher : S → K → ℕ
   -- the next state, by what a closure aborts with at this act alone
   one_play : (aborts other : ℕ → V) (doing : Doing K V S) (x : State K V S) → aborts (length x.told) ≡ other (length x.told)
       → play same by_hasher batch_size roots aborts doing x ≡ play same by_hasher batch_size roots other doing x
-  one_play aborts other (Does (TellsCall i m reply)) x e = ap (λ (v : V). option_map (call_told i m (λ n. v) reply x) (x.now.calls m i)) e
+  one_play aborts other (Does (TellsCall i m reply)) x e = ap (λ (v : V). option_map (call_replied i m (λ n. v) reply x) (x.now.calls m i)) e
   one_play aborts other (Does (BeginsCall i m wanted)) x e = refl
   one_play aborts other (Does (StepsCall i m g)) x e = refl
   one_play aborts other (Does (AsksCall i m)) x e = refl

@@ -16,7 +16,7 @@ use Rattle.map_tables.specs.Given.SeizeDeclared.rows.settle.Settled.TheVariants 
 use Rattle.map_tables.specs.Given.SeizeDeclared.states.TheConstants.{HEAD}
 use Rattle.map_tables.specs.Nodes.{deferred_word, was_left}
 use Rattle.map_tables.specs.declared.node.Node.{Node}
-use Rattle.run_logged.specs.Given.EffectsDeclared.changed.Changed.{Changed}
+use Rattle.run_kept.specs.Given.EffectsDeclared.changed.Changed.{Changed}
 use Rattle.many_acts.specs.Given.CallersRows.{IsRowOn}
 use Rattle.many_acts.specs.Given.FinishesEndings.{EndingsTogether, Finishing}
 use Rattle.many_acts.specs.Given.FinishesMachines.{machine_of}
@@ -24,7 +24,7 @@ use Rattle.many_acts.specs.Given.FinishesMakings.{Beginning}
 use Rattle.many_acts.specs.Given.FinishesMaps.{Standing}
 use Rattle.many_acts.proofs.Given.ScenesGoes.{same_map_keeps}
 use Rattle.many_acts.specs.Given.ScenesHeld.{Held}
-use Rattle.many_acts.specs.Given.ScenesReclaiming.{ReclaimingComesToThere}
+use Rattle.many_acts.specs.Given.ScenesReclaiming.{ReclaimingOutcomeHolds}
 use Rattle.many_acts.specs.Given.ScenesScene.{Scene, slot_of}
 use Rattle.many_acts.specs.Given.ReclaimsReclaims.{AllIsReclaimed}
 use Rattle.many_acts.specs.Given.ScenesDeclared.callers.TheConstants.{SLOTS}
@@ -33,9 +33,9 @@ use Rattle.run_schedules.specs.declared.event.Event.{Event}
 use Rattle.run_schedules.specs.declared.outcome.Outcome.{Outcome}
 use Rattle.run_schedules.specs.Schedules.After.{moment}
 use Rattle.run_schedules.specs.Schedules.Entry.{Entry}
-use Rattle.run_logged.specs.Given.EffectsEffects.{effects_of, known_after}
-use Rattle.run_logged.specs.Given.EffectsKnown.{Known}
-use Rattle.run_logged.specs.Given.EffectsDeclared.acting.Acting.TheVariants as acting
+use Rattle.run_kept.specs.Given.EffectsEffects.{effects_of, known_after}
+use Rattle.run_kept.specs.Given.EffectsKnown.{Known}
+use Rattle.run_kept.specs.Given.EffectsDeclared.acting.Acting.TheVariants as acting
 use Rattle.run_finds.specs.Given.ExecutorIsThere.{HasRow, IsThere, IsUsedAs, StaysGiven, call_in, ending_in, held_by, making_in, use_at, work_of}
 use Rattle.run_finds.specs.Given.ExecutorDeclared.executor.Executor.{Executor}
 use Rattle.run_finds.specs.Given.ExecutorDeclared.worker.Work.{Work}
@@ -82,14 +82,14 @@ still_on settled.Done it on = absurd (cc on)
 -- where a step of it leads, as it goes on, and where it is over
 module _ {K V : Type 0} (same : K → K → Bool) (s : Scene K V) (i : ℕ) (lists : ℕ → List ℕ) (GoesOn : Scene K V → (ℕ → List ℕ) → ReclaimAll → Type 0) (Is : Scene K V → Type 0) (old new : Held K V) (s2 : Scene K V)
     (lists2 : ℕ → List ℕ) (all : ReclaimAll) where
-  goes_on_there : (said : Settled (Node K V)) → is_over said ≡ false → ReclaimingComesToThere same s i lists GoesOn Is old new s2 lists2 all said → GoesOn s2 lists2 all
+  goes_on_there : (said : Settled (Node K V)) → is_over said ≡ false → ReclaimingOutcomeHolds same s i lists GoesOn Is old new s2 lists2 all said → GoesOn s2 lists2 all
   goes_on_there settled.Goes on comes = comes
   goes_on_there settled.Waits on comes = comes
   goes_on_there (settled.Gave value) on comes = comes
   goes_on_there settled.Done on comes = absurd (cc on)
 
-  over_there : (said : Settled (Node K V)) → said ≡ settled.Done → ReclaimingComesToThere same s i lists GoesOn Is old new s2 lists2 all said → AllIsReclaimed old.roots s2.world s2.maps × Is s2
-  over_there said done comes = subst (λ (t : Settled (Node K V)). ReclaimingComesToThere same s i lists GoesOn Is old new s2 lists2 all t) done comes
+  over_there : (said : Settled (Node K V)) → said ≡ settled.Done → ReclaimingOutcomeHolds same s i lists GoesOn Is old new s2 lists2 all said → AllIsReclaimed old.roots s2.world s2.maps × Is s2
+  over_there said done comes = subst (λ (t : Settled (Node K V)). ReclaimingOutcomeHolds same s i lists GoesOn Is old new s2 lists2 all t) done comes
 
 module _ {K V S : Type 0} (same : K → K → Bool) (by_hasher : S → K → ℕ) (h : S) (b r : ℕ) where
   -- Caller i reclaims all, as far as this, in what the executor holds.

@@ -15,7 +15,7 @@ use Rattle.run_schedules.specs.declared.event.Event.{Event}
 use Rattle.run_schedules.specs.declared.outcome.Outcome.TheVariants as outcome
 use Rattle.run_schedules.specs.Schedules.After.{moment}
 use Rattle.run_schedules.specs.Schedules.Entry.{Entry}
-use Rattle.run_logged.specs.Given.EffectsKnown.{Known}
+use Rattle.run_kept.specs.Given.EffectsKnown.{Known}
 use Rattle.run_finds.specs.Given.ExecutorBeginning.{BeginsThere}
 use Rattle.run_finds.specs.Given.ExecutorIsThere.{IsThere, StaysGiven, use_at, work_of}
 use Rattle.run_finds.specs.Given.ExecutorDeclared.executor.Executor.{Executor}

@@ -7,7 +7,7 @@ use Rattle.map_tables.specs.Given.SeizeWorld.{with_at}
 use Rattle.many_acts.specs.Given.FinishesMaps.{with_call}
 use Rattle.many_acts.proofs.Given.CallersTogether.At.{at_other, at_same}
 use Rattle.run_finds.proofs.Given.General.{all_so as each_so, same_some}
-use Rattle.run_logged.proofs.Rows.Lists.{all_but}
+use Rattle.run_kept.proofs.Lists.{all_but}
 
 -- something is there, of which this is seen
 pub under : {A B : Type 0} (f : A → B) (o : Option A) (b : B) → option_map f o ≡ Some b → (a : A) × (o ≡ Some a) × (f a ≡ b)

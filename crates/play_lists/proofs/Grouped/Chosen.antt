@@ -1,7 +1,7 @@
 -- A choice of a number comes: the list of acts goes on by that, and the executor is there with it.
 use Rattle.std.proofs.Common.{ℕ, Bool, refl, ap}
 use Rattle.many_acts.specs.Given.ScenesScene.{Scene, slot_of}
-use Rattle.run_logged.specs.Given.EffectsKnown.{Known}
+use Rattle.run_kept.specs.Given.EffectsKnown.{Known}
 use Rattle.run_finds.specs.Given.ExecutorIsThere.{IsThere}
 use Rattle.run_finds.specs.Given.ExecutorDeclared.executor.Executor.{Executor}
 use Rattle.many_acts.specs.Acts.Doings.{memory_chosen, scene_chosen}

@@ -5,9 +5,9 @@ use Rattle.seize_acts.specs.Acts.Answers.{Grant}
 use Rattle.run_schedules.specs.Given.SeizeWordsMem.{Mem}
 use Rattle.map_tables.specs.Given.SeizeDeclared.rows.settle.Settled.{Settled}
 use Rattle.map_tables.specs.declared.node.Node.{Node}
-use Rattle.run_logged.specs.Given.RawEndMap.{end_map_plan, ending}
-use Rattle.run_logged.specs.Given.RawDeclared.machines.end_map.EndMap.{EndMap}
-use Rattle.run_logged.specs.Given.EffectsDeclared.changed.Changed.{Changed}
+use Rattle.run_schedules.specs.Given.RawEndMap.{end_map_plan, ending}
+use Rattle.run_finds.specs.Given.RawDeclared.machines.end_map.EndMap.{EndMap}
+use Rattle.run_kept.specs.Given.EffectsDeclared.changed.Changed.{Changed}
 use Rattle.many_acts.specs.Given.FinishesEndings.{Finishing}
 use Rattle.many_acts.proofs.Given.CallersTogether.At.{at_same}
 use Rattle.many_acts.specs.Given.ScenesScene.{Scene, slot_of}
@@ -16,9 +16,9 @@ use Rattle.run_schedules.specs.declared.event.Event.{Event}
 use Rattle.run_schedules.specs.declared.outcome.Outcome.{Outcome}
 use Rattle.run_schedules.specs.Schedules.After.{moment}
 use Rattle.run_schedules.specs.Schedules.Entry.{Entry}
-use Rattle.run_logged.specs.Given.EffectsEffects.{effects_of, known_after}
-use Rattle.run_logged.specs.Given.EffectsKnown.{Known}
-use Rattle.run_logged.specs.Given.EffectsDeclared.acting.Acting.TheVariants as acting
+use Rattle.run_kept.specs.Given.EffectsEffects.{effects_of, known_after}
+use Rattle.run_kept.specs.Given.EffectsKnown.{Known}
+use Rattle.run_kept.specs.Given.EffectsDeclared.acting.Acting.TheVariants as acting
 use Rattle.run_finds.specs.Given.ExecutorEnding.{EndingBegins, EndsThere, NoCallOn}
 use Rattle.run_finds.specs.Given.ExecutorIsThere.{IsThere, StaysGiven, ending_in, work_of}
 use Rattle.run_finds.specs.Given.ExecutorDeclared.executor.Executor.{Executor}

@@ -18,13 +18,13 @@ use Rattle.map_tables.specs.declared.node.Node.{Node}
 use Rattle.map_tables.specs.declared.resize_mode.ResizeMode.{ResizeMode}
 use Rattle.map_tables.specs.declared.setting.Setting.{Setting}
 use Rattle.map_tables.specs.declared.table.Table.{Table}
-use Rattle.run_logged.specs.Given.ResizeNewMap as new_map
-use Rattle.run_logged.specs.Given.ResizeNewTable.{first_table, new_table_plan}
-use Rattle.run_logged.specs.Given.ResizeDeclared.new_map.NewMap.{NewMap}
-use Rattle.run_logged.specs.Given.ResizeDeclared.new_map.Opening.{Opening}
-use Rattle.run_logged.specs.Given.ResizeDeclared.new_map.Opening.TheVariants as at
-use Rattle.run_logged.specs.Given.ResizeDeclared.new_table.NewTable.{NewTable}
-use Rattle.run_logged.specs.Given.EffectsDeclared.changed.Changed.{Changed}
+use Rattle.run_kept.specs.Given.ResizeNewMap as new_map
+use Rattle.run_finds.specs.Given.ResizeNewTable.{first_table, new_table_plan}
+use Rattle.run_finds.specs.Given.ResizeDeclared.new_map.NewMap.{NewMap}
+use Rattle.run_finds.specs.Given.ResizeDeclared.new_map.Opening.{Opening}
+use Rattle.run_finds.specs.Given.ResizeDeclared.new_map.Opening.TheVariants as at
+use Rattle.run_finds.specs.Given.ResizeDeclared.new_table.NewTable.{NewTable}
+use Rattle.run_kept.specs.Given.EffectsDeclared.changed.Changed.{Changed}
 use Rattle.many_acts.specs.Given.PointsSteps.{AreLawful}
 use Rattle.many_acts.specs.Given.FinishesMakings.{Beginning}
 use Rattle.many_acts.proofs.Given.CallersTogether.At.{at_same}
@@ -34,9 +34,9 @@ use Rattle.run_schedules.specs.declared.event.Event.{Event}
 use Rattle.run_schedules.specs.declared.outcome.Outcome.{Outcome}
 use Rattle.run_schedules.specs.Schedules.After.{moment}
 use Rattle.run_schedules.specs.Schedules.Entry.{Entry}
-use Rattle.run_logged.specs.Given.EffectsEffects.{effects_of, known_after}
-use Rattle.run_logged.specs.Given.EffectsKnown.{Known}
-use Rattle.run_logged.specs.Given.EffectsDeclared.acting.Acting.TheVariants as acting
+use Rattle.run_kept.specs.Given.EffectsEffects.{effects_of, known_after}
+use Rattle.run_kept.specs.Given.EffectsKnown.{Known}
+use Rattle.run_kept.specs.Given.EffectsDeclared.acting.Acting.TheVariants as acting
 use Rattle.run_finds.specs.Given.ExecutorIsThere.{IsThere, StaysGiven, making_in, work_of}
 use Rattle.run_finds.specs.Given.ExecutorMaking.{MakesThere}
 use Rattle.run_finds.specs.Given.ExecutorMakingBegins.{MakingBegins}

@@ -14,7 +14,7 @@ use Rattle.run_finds.specs.Given.ExecutorDeclared.caller.NamedCaller.{NamedCalle
 use Rattle.run_schedules.specs.Deeds.Deeds.{Deed, Begins, Steps, Replies, Stops, Registers, Opens, Shuts, Leaves, Tends, MapComes, Makes, MapFails, Ends, MapGoes, ReclaimsAll, Entry as Act}
 use Rattle.play_lists.specs.Agrees.Fresh.{comes_with, gives_back, is_taken}
 use Rattle.play_lists.specs.Played.Play.{State}
-use Rattle.play_lists.specs.Grouped.Grouping.{ComesTo, IsGroupingOf, MayHave, Names, effects_in, is_step, names_after, names_on, refuses, steps_in}
+use Rattle.play_lists.specs.Grouped.Grouping.{HasOutcome, IsGroupingOf, MayHave, Names, effects_in, is_step, names_after, names_on, refuses, steps_in}
 use Rattle.play_lists.specs.Grouped.Called.{CallersAre, PlaysSo}
 
 -- what an event that has done nothing yet would come to
@@ -35,7 +35,7 @@ pub record InEvent {K V S : Type 0} (log : List (Entry K V)) (event : Event K V)
   pub history : x.history ≡ piece ++ before
   pub effects : did ≡ effects_in piece
   pub counts : steps ≡ steps_in piece
-  pub comes : ComesTo (moment log) event piece outcome
+  pub comes : HasOutcome (moment log) event piece outcome
   pub deeds : AllByRecursion (λ a. MayHave (names_after event piece known) (moment log) event a.deed) piece
   pub callers : CallersAre (names_after event piece known) calls x
   pub fresh : (n : ℕ) → (moment log).made + maps_of event ≤ n → is_taken n x.history ≡ false

@@ -5,7 +5,7 @@ use Rattle.std.specs.List.{AllByRecursion}
 use Rattle.std.proofs.Common.{◌≡◌, ℕ, Bool, List, [], ◌∷◌, refl, sym, ap, subst, arith, ◌∙◌}
 use Rattle.std.proofs.lemmas.Bool.{eq-eqb, ne_eqb}
 use Rattle.many_acts.specs.Given.ScenesScene.{Scene, slot_of}
-use Rattle.run_logged.specs.Given.EffectsKnown.{Known}
+use Rattle.run_kept.specs.Given.EffectsKnown.{Known}
 use Rattle.run_finds.specs.Given.ExecutorIsThere.{IsThere, StaysGiven}
 use Rattle.run_finds.specs.Given.ExecutorDeclared.executor.Executor.{Executor}
 use Rattle.many_acts.specs.Acts.Acts.{Act, Answer, BeginsRow}

@@ -1,7 +1,7 @@
 -- What is so of a state wherever other facts are, is so of where a list of acts leads; and by which terms it is said makes no difference.
 use Rattle.std.proofs.Common.{ℕ, Bool, sym, subst}
 use Rattle.many_acts.specs.Given.ScenesScene.{slot_of}
-use Rattle.run_logged.specs.Given.EffectsKnown.{Known}
+use Rattle.run_kept.specs.Given.EffectsKnown.{Known}
 use Rattle.run_finds.specs.Given.ExecutorDeclared.executor.Executor.{Executor}
 use Rattle.many_acts.specs.Acts.Lists.{Course}
 use Rattle.play_lists.specs.Played.Play.{State}

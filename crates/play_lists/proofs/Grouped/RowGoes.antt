@@ -14,7 +14,7 @@ use Rattle.map_tables.specs.Given.SeizeDeclared.rows.settle.Settle.{Settle}
 use Rattle.map_tables.specs.Given.SeizeDeclared.rows.settle.Settled.{Settled}
 use Rattle.map_tables.specs.Given.SeizeDeclared.rows.reclaim_all.ReclaimAll.{ReclaimAll}
 use Rattle.map_tables.specs.declared.node.Node.{Node}
-use Rattle.run_logged.specs.Given.EffectsDeclared.changed.Changed.{Changed}
+use Rattle.run_kept.specs.Given.EffectsDeclared.changed.Changed.{Changed}
 use Rattle.many_acts.specs.Given.FinishesMachines.{machine_of}
 use Rattle.many_acts.proofs.Given.ScenesRows.{one_row}
 use Rattle.many_acts.specs.Given.ScenesRows.{of_registering, of_settling, of_storing, request_of}
@@ -28,9 +28,9 @@ use Rattle.run_schedules.specs.declared.event.Event.{Event}
 use Rattle.run_schedules.specs.declared.outcome.Outcome.{Outcome}
 use Rattle.run_schedules.specs.Schedules.After.{moment}
 use Rattle.run_schedules.specs.Schedules.Entry.{Entry}
-use Rattle.run_logged.specs.Given.EffectsEffects.{effects_of, known_after}
-use Rattle.run_logged.specs.Given.EffectsKnown.{Known}
-use Rattle.run_logged.specs.Given.EffectsDeclared.acting.Acting.TheVariants as acting
+use Rattle.run_kept.specs.Given.EffectsEffects.{effects_of, known_after}
+use Rattle.run_kept.specs.Given.EffectsKnown.{Known}
+use Rattle.run_kept.specs.Given.EffectsDeclared.acting.Acting.TheVariants as acting
 use Rattle.run_finds.specs.Given.ExecutorIsThere.{HasRow, IsThere, StaysGiven, call_in, work_of}
 use Rattle.run_finds.specs.Given.ExecutorOnSlots.{MayBegin, RowBeginsThere, RowStepsThere}
 use Rattle.run_finds.specs.Given.ExecutorDeclared.executor.Executor.{Executor}

@@ -1,7 +1,7 @@
 -- What a call of a run wants of a map: what begins then is that call, with its machine.
 use Rattle.std.specs.Prelude.{Some, None}
 use Rattle.std.proofs.Common.{◌≡◌, ℕ, Bool, refl}
-use Rattle.run_logged.specs.Given.ReservesDeclared.sweep.Purpose.TheVariants as purpose
+use Rattle.run_finds.specs.Given.ReservesDeclared.sweep.Purpose.TheVariants as purpose
 use Rattle.many_acts.specs.Given.CallersTogether.{in_slot}
 use Rattle.many_acts.specs.Given.FinishesMachines.{machine_of}
 use Rattle.many_acts.specs.Given.FinishesMaps.{Standing}

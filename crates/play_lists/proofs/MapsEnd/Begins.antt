@@ -19,8 +19,8 @@ use Rattle.run_schedules.specs.Schedules.Moment.{GivenBack, InMap, IsLinked, IsT
 use Rattle.run_schedules.specs.Schedules.Lists.{is_among}
 use Rattle.run_schedules.specs.Schedules.Things.{is_before, same_table}
 use Rattle.run_schedules.specs.Schedules.Views.{behind, chain_of, first_of, first_or, is_in_map, is_linked, tables_of}
-use Rattle.run_logged.specs.Given.EffectsKnown.{Known}
-use Rattle.run_finds.specs.Given.FollowsMaps.{ShowsMap, shape_at, table_of, tables_to}
+use Rattle.run_kept.specs.Given.EffectsKnown.{Known}
+use Rattle.run_finds.specs.Given.FollowsMaps.{RefinesMap, shape_at, table_of, tables_to}
 use Rattle.run_finds.proofs.Given.FollowsAlike.{put_elsewhere}
 use Rattle.run_finds.proofs.Given.OthersLeads.{same_parts}
 use Rattle.run_finds.proofs.Given.SpotsUnreclaimed.{same_itself}
@@ -33,7 +33,7 @@ use Rattle.play_lists.proofs.MapsEnd.Alike.{ended}
 use Rattle.play_lists.proofs.MapsEnd.Left.{left_by}
 use Rattle.play_lists.proofs.MapsEnd.Places.{none_then}
 use Rattle.run_finds.proofs.Given.FollowsStored.{in_map_true as in_map_of}
-use Rattle.run_logged.proofs.Given.ShedsEndOrder.{goes_before}
+use Rattle.run_kept.proofs.Sheds.EndOrder.{goes_before}
 
 before_then : (a b c d e f : ℕ) → goes_before a b c d ≡ true → goes_before c d e f ≡ true → goes_before a b e f ≡ true
 before_then a b c d e f one two = grind (arith, one, two)
@@ -218,7 +218,7 @@ module _ {K : Type 0} (of : ℕ) (c : Chart K) (stage : ℕ → Stage) (first : 
       by false e = refl
       by true e = ap (λ (q : Bool). cond q (one n ∷ []) []) (ap is_linked (each n (leb-true first n e) (omega arith)))
 
-module _ {K V : Type 0} (m : Moment K V) (known : Known) (of : ℕ) (number : ℕ → ℕ) (st : Standing K) (shows : ShowsMap of number st m known) (once : AllPairsOnce (is_incremental st.setting.mode) st.chart)
+module _ {K V : Type 0} (m : Moment K V) (known : Known) (of : ℕ) (number : ℕ → ℕ) (st : Standing K) (shows : RefinesMap of number st m known) (once : AllPairsOnce (is_incremental st.setting.mode) st.chart)
     (stored : (n : ℕ) → st.chart.current n ≡ true → n < st.chart.stored) (order : in_order m (map number (pairs_of (is_incremental st.setting.mode) st.chart)) ≡ true) where
   abbrev pairs : List ℕ
   pairs = pairs_of (is_incremental st.setting.mode) st.chart

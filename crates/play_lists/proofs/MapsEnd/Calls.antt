@@ -4,7 +4,7 @@ use Rattle.std.specs.List.{AllByRecursion, list_all}
 use Rattle.std.proofs.Common.{refl, ap, sym, subst, ◌∙◌, arith, inl, inr, eqb-true}
 use Rattle.std.proofs.lemmas.Bool.{and_parts, leb-true, ne_eqb}
 use Rattle.std.proofs.lemmas.List.Elements.{filter_passes, recursion_from_All}
-use Rattle.run_logged.specs.Given.RawDeclared.machines.progress.Progress.{Progress}
+use Rattle.run_finds.specs.Given.RawDeclared.machines.progress.Progress.{Progress}
 use Rattle.map_tables.specs.declared.node.Node.{Node}
 use Rattle.many_acts.specs.Given.CallersTogether.{UnderWay}
 use Rattle.run_schedules.specs.declared.effect.Effect.{Effect}
@@ -18,15 +18,15 @@ use Rattle.run_schedules.specs.Schedules.Lives.{MayCopy}
 use Rattle.run_schedules.specs.Schedules.Moment.{InMap, MapThere, Moment, TableThere, UnderWay as CallThere}
 use Rattle.run_schedules.specs.Schedules.Things.{same_table}
 use Rattle.run_schedules.specs.Schedules.Views.{first_of, first_or, is_in_map, map_at}
-use Rattle.run_logged.specs.Given.EffectsEffects.{effects_of}
-use Rattle.run_logged.specs.Given.EffectsKnown.{Known}
-use Rattle.run_logged.specs.Given.EffectsDeclared.acting.Acting.TheVariants as acts
+use Rattle.run_kept.specs.Given.EffectsEffects.{effects_of}
+use Rattle.run_kept.specs.Given.EffectsKnown.{Known}
+use Rattle.run_kept.specs.Given.EffectsDeclared.acting.Acting.TheVariants as acts
 use Rattle.many_acts.specs.Given.FollowsFinds.{FindsMap}
 use Rattle.many_acts.specs.Given.FollowsSteps.{HasLeft}
 use Rattle.many_acts.specs.Given.ScenesHeld.{Held, IsAt}
 use Rattle.many_acts.specs.Given.ScenesScene.{Scene}
 use Rattle.many_acts.specs.Given.ScenesStepping.{StepLeads}
-use Rattle.run_finds.specs.Given.MomentsWhole.{ShowsWhole}
+use Rattle.run_finds.specs.Given.MomentsWhole.{RefinesWhole}
 use Rattle.run_finds.proofs.Given.MomentsCalls.{of_row}
 use Rattle.run_finds.proofs.Given.HandsRowSteps.{rows_hand_theirs}
 use Rattle.run_finds.proofs.Given.OthersLeads.{same_parts}
@@ -132,7 +132,7 @@ module _ {K V : Type 0} (map : ℕ) where
         same_number x e = cc e
 
 module _ {K V : Type 0} (same : K → K → Bool) (hash : ℕ → K → ℕ) (name : ℕ → List ℕ) (m : Moment K V) (known : Known) (s : Scene K V) (old new : Held K V) (at : IsAt same hash old s)
-    (whole : ShowsWhole same name m known s) (on i : ℕ) (u : UnderWay K V K) (here : s.calls on i ≡ Some u) (told : Progress (Node K V)) (leads : StepLeads same hash i told s old new) where
+    (whole : RefinesWhole same name m known s) (on i : ℕ) (u : UnderWay K V K) (here : s.calls on i ≡ Some u) (told : Progress (Node K V)) (leads : StepLeads same hash i told s old new) where
   abbrev effects : List Effect
   effects = effects_of (acts.Call i on) known new.changed
 

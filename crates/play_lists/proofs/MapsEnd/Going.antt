@@ -11,21 +11,21 @@ use Rattle.run_schedules.specs.Schedules.Effects.{AtEachEffect, with_effects}
 use Rattle.run_schedules.specs.Schedules.Moment.{Moment, TableThere}
 use Rattle.run_schedules.specs.Schedules.Things.{same_table}
 use Rattle.run_schedules.specs.Schedules.Views.{is_in_map}
-use Rattle.run_logged.specs.Given.EffectsEffects.{known_after, taken_by}
-use Rattle.run_logged.specs.Given.EffectsKnown.{Known}
-use Rattle.run_logged.specs.Given.EffectsDeclared.acting.Acting.{Acting}
-use Rattle.run_logged.specs.Given.EffectsDeclared.acting.Acting.TheVariants as acts
-use Rattle.run_logged.specs.Given.EffectsDeclared.role.Role.{Role}
-use Rattle.run_logged.specs.Given.EffectsDeclared.role.Role.TheVariants as role
+use Rattle.run_kept.specs.Given.EffectsEffects.{known_after, taken_by}
+use Rattle.run_kept.specs.Given.EffectsKnown.{Known}
+use Rattle.run_kept.specs.Given.EffectsDeclared.acting.Acting.{Acting}
+use Rattle.run_kept.specs.Given.EffectsDeclared.acting.Acting.TheVariants as acts
+use Rattle.run_kept.specs.Given.EffectsDeclared.role.Role.{Role}
+use Rattle.run_kept.specs.Given.EffectsDeclared.role.Role.TheVariants as role
 use Rattle.run_finds.specs.Given.SpotsDeferred.{WaitOutside}
 use Rattle.run_finds.proofs.Given.SpotsDeferred.{each_waits_outside}
 use Rattle.run_finds.proofs.Given.SpotsUnreclaimed.{table_is}
 use Rattle.run_finds.proofs.Given.FollowsAlike.{put_here}
-use Rattle.run_logged.specs.Given.EffectsDeclared.changed.Changed.TheVariants as changed
-use Rattle.run_logged.specs.Log.Ends.{ended_as}
+use Rattle.run_kept.specs.Given.EffectsDeclared.changed.Changed.TheVariants as changed
+use Rattle.run_kept.specs.Ends.{ended_as}
 use Rattle.run_schedules.specs.Deeds.History.{EndFinds, left_tables}
 use Rattle.play_lists.specs.MapsEnd.Ends.{AlikeOf, AreStored, EndsWell, IsOther, IsOut}
-use Rattle.play_lists.specs.MapsEnd.Going.{GoesOnToEnd}
+use Rattle.play_lists.specs.MapsEnd.Going.{ContinuesToEnd}
 use Rattle.play_lists.proofs.MapsEnd.Alike.{ended, ends_alike, ends_next}
 use Rattle.play_lists.proofs.MapsEnd.Noted.{Takes, pair_ends, pair_noted, table_ends, table_noted}
 use Rattle.play_lists.proofs.MapsEnd.Places.{stored_alike}
@@ -41,8 +41,8 @@ ended_alike map (b ∷ blocks) known known2 same =
     ap (λ (r : Role). taken_by (acts.Ending map) r ++ ended_as map known2 blocks) (same b (some_here b blocks))
     ∙ ap (λ (l : List Effect). taken_by (acts.Ending map) (known.roles b) ++ l) (ended_alike map blocks known known2 (λ x some. same x (some_last x (b ∷ []) blocks some)))
 
-module _ {K V : Type 0} (map : ℕ) (f : Finishing K V) (known : Known) (m : Moment K V) (so : GoesOnToEnd map f known m) where
-  pub going_alike : (known2 : Known) (v : Moment K V) → AlikeOf map m v → NotedAlike so.rest known known2 → GoesOnToEnd map f known2 v
+module _ {K V : Type 0} (map : ℕ) (f : Finishing K V) (known : Known) (m : Moment K V) (so : ContinuesToEnd map f known m) where
+  pub going_alike : (known2 : Known) (v : Moment K V) → AlikeOf map m v → NotedAlike so.rest known known2 → ContinuesToEnd map f known2 v
   going_alike known2 v alike same = record {
     rest = so.rest;
     back_is = so.back_is;

@@ -11,13 +11,13 @@ use Rattle.run_schedules.specs.Schedules.Lists.{OneOf}
 use Rattle.run_schedules.specs.Schedules.Moment.{GivenBack, IsTaken, Moment}
 use Rattle.run_schedules.specs.Schedules.Things.{same_table}
 use Rattle.run_schedules.specs.Schedules.Views.{first_of, is_in_map}
-use Rattle.run_logged.specs.Given.EffectsEffects.{taken_by}
-use Rattle.run_logged.specs.Given.EffectsKnown.{Known}
-use Rattle.run_logged.specs.Given.EffectsDeclared.acting.Acting.TheVariants as acts
-use Rattle.run_logged.specs.Given.EffectsDeclared.role.Role.{Role}
-use Rattle.run_logged.specs.Given.EffectsDeclared.role.Role.TheVariants as role
+use Rattle.run_kept.specs.Given.EffectsEffects.{taken_by}
+use Rattle.run_kept.specs.Given.EffectsKnown.{Known}
+use Rattle.run_kept.specs.Given.EffectsDeclared.acting.Acting.TheVariants as acts
+use Rattle.run_kept.specs.Given.EffectsDeclared.role.Role.{Role}
+use Rattle.run_kept.specs.Given.EffectsDeclared.role.Role.TheVariants as role
 use Rattle.run_finds.proofs.Given.SpotsUnreclaimed.{table_is}
-use Rattle.run_logged.specs.Log.Ends.{ended_as}
+use Rattle.run_kept.specs.Ends.{ended_as}
 use Rattle.run_schedules.specs.Deeds.History.{left_tables}
 use Rattle.play_lists.specs.MapsEnd.Ends.{AreStored, EndsWell}
 use Rattle.play_lists.proofs.MapsEnd.Alike.{ended, ends_next}

@@ -10,11 +10,11 @@ use Rattle.seize_acts.specs.Acts.Answers.{Grant, stepped, then_on}
 use Rattle.seize_acts.proofs.Acts.Begun.{rests_is}
 use Rattle.map_tables.specs.declared.node.Node.{Node}
 use Rattle.map_tables.specs.declared.setting.Setting.{Setting}
-use Rattle.run_logged.specs.Given.ReservesDeclared.sweep.Purpose.TheVariants as purpose
-use Rattle.run_logged.specs.Given.RawMachine.{machine_plan, machine_replied, machine_asked}
-use Rattle.run_logged.specs.Given.RawDeclared.machines.asking.MachineReply.{MachineReply}
-use Rattle.run_logged.specs.Given.RawDeclared.machines.machine.Machine.{Machine}
-use Rattle.run_logged.specs.Given.RawDeclared.machines.progress.Progress.{Progress}
+use Rattle.run_finds.specs.Given.ReservesDeclared.sweep.Purpose.TheVariants as purpose
+use Rattle.run_finds.specs.Given.RawMachine.{machine_plan, machine_replied, machine_asked}
+use Rattle.run_finds.specs.Given.RawDeclared.machines.asking.MachineReply.{MachineReply}
+use Rattle.run_finds.specs.Given.RawDeclared.machines.machine.Machine.{Machine}
+use Rattle.run_finds.specs.Given.RawDeclared.machines.progress.Progress.{Progress}
 use Rattle.many_acts.specs.Given.CallersTogether.{UnderWay, in_slot}
 use Rattle.many_acts.specs.Given.FinishesMachines.{machine_of}
 use Rattle.many_acts.specs.Given.FinishesMaps.{Standing, with_call}
@@ -31,7 +31,7 @@ use Rattle.many_acts.proofs.Acts.Calls.{asked_machine}
 use Rattle.many_acts.proofs.Acts.Courses.{same_set_up, stop_rests}
 use Rattle.run_finds.specs.Given.NamedMachines.{machine_for}
 use Rattle.run_finds.specs.Given.NamedSeen.{kind_of}
-use Rattle.play_lists.specs.Played.Play.{Calling, Now, State, begun_call, call_asked, call_begun, call_for, call_stepped, call_stopped, call_told, going, keeps, play_act, reply_for, step_call, told_call}
+use Rattle.play_lists.specs.Played.Play.{Calling, Now, State, begun_call, call_asked, call_begun, call_for, call_stepped, call_stopped, call_replied, going, keeps, play_act, reply_for, step_call, replied_call}
 use Rattle.play_lists.specs.Played.Reached.{IsOf, row_or_rests, stands_so}
 use Rattle.play_lists.proofs.Played.Alike.{both_at, its_call, none_rests, others_call, there_too}
 
@@ -186,10 +186,10 @@ module _ {K V S : Type 0} (same : K → K → Bool) (hash : S → K → ℕ) (ba
       pub tells : (reply : MachineReply V) (told : Answer K V) → Led same hash batch_size roots slot_of (TellsCall i m reply) s told n → Plays (TellsCall i m reply) told
       tells reply told (standing, stands, u, next, here, machine_is, told_is, kind, comes) =
           let it = there_too machine_at machine_of (x.now.calls m i) (s.calls m i) (is.calls m i) u here in
-          let y = call_told i m aborts reply x it.0 in (
+          let y = call_replied i m aborts reply x it.0 in (
             y,
-            ap (option_map (call_told i m aborts reply x)) it.1,
-            call_alone (Some next) (Some (told_call (machine_replied it.0.machine reply) (reply_for (aborts (length x.told)) reply) it.0)) (ap (λ (v : Machine K V K). Some (machine_replied v reply).0) it.2 ∙ ap Some (sym machine_is)) (λ none. absurd (cc none))
+            ap (option_map (call_replied i m aborts reply x)) it.1,
+            call_alone (Some next) (Some (replied_call (machine_replied it.0.machine reply) (reply_for (aborts (length x.told)) reply) it.0)) (ap (λ (v : Machine K V K). Some (machine_replied v reply).0) it.2 ∙ ap Some (sym machine_is)) (λ none. absurd (cc none))
                 (is.calling m i u here) comes,
             says (OfReply (machine_replied it.0.machine reply).1) told (told_is ∙ ap (λ (v : Machine K V K). OfReply (machine_replied v reply).1) (sym it.2)),
             refl,

@@ -11,12 +11,12 @@ use Rattle.map_tables.specs.Given.SeizeDeclared.rows.settle.Settled.TheVariants 
 use Rattle.seize_acts.specs.Acts.Answers.{Grant, stepped, then_on}
 use Rattle.map_tables.specs.declared.node.Node.{Node}
 use Rattle.map_tables.specs.declared.setting.Setting.{Setting}
-use Rattle.run_logged.specs.Given.ResizeNewMap.{new_map_plan}
-use Rattle.run_logged.specs.Given.ResizeDeclared.new_map.NewMap.{NewMap}
-use Rattle.run_logged.specs.Given.RawEndMap.{ending, end_map_plan}
-use Rattle.run_logged.specs.Given.RawDeclared.machines.end_map.EndMap.{EndMap}
+use Rattle.run_kept.specs.Given.ResizeNewMap.{new_map_plan}
+use Rattle.run_finds.specs.Given.ResizeDeclared.new_map.NewMap.{NewMap}
+use Rattle.run_schedules.specs.Given.RawEndMap.{ending, end_map_plan}
+use Rattle.run_finds.specs.Given.RawDeclared.machines.end_map.EndMap.{EndMap}
 use Rattle.many_acts.proofs.Given.CallersTogether.Users.{events_rows}
-use Rattle.many_acts.specs.Given.FinishesEndings.{Finishing, StepsOfEnding, MakingStepsAmong, finishing_of, waiting_by}
+use Rattle.many_acts.specs.Given.FinishesEndings.{Finishing, StepsOfEnding, MakingStepsWithEndings, finishing_of, waiting_by}
 use Rattle.many_acts.specs.Given.FinishesMakings.{Beginning}
 use Rattle.many_acts.specs.Given.FinishesMaps.{Standing}
 use Rattle.many_acts.specs.Given.ScenesEnding.{ending_begun as scene_ending}
@@ -96,7 +96,7 @@ module _ {K V S : Type 0} (same : K → K → Bool) (hash : S → K → ℕ) (ba
         ∙ both_at (option_map (stands_so hash)) (option_map set_up) x.now.maps s.maps b.map (Some (setting, it.0.hasher)) (Some standing)
         (ap (λ (p : Made). Some (setting, p.1.0)) it.2 ∙ ap (λ (h : K → ℕ). Some (setting, h)) (sym hash_is) ∙ ap (λ (v : Setting). Some (v, standing.hash)) (sym setting_is)) is.maps m
 
-    made : (told : Advance Setting) (did : MakingStepsAmong V same same batch_size roots slot_of s.world s.maps s.calls s.makers s.enders i b m2 (machine, told))
+    made : (told : Advance Setting) (did : MakingStepsWithEndings V same same batch_size roots slot_of s.world s.maps s.calls s.makers s.enders i b m2 (machine, told))
         → MakingCame same hash batch_size roots slot_of s i b did.step.w2 machine n told → IsOf hash n n.world.row (made_on i it.0 machine told (record x.now { memory = m2 }))
     made progress.Goes did comes =
         to (made_on i it.0 machine progress.Goes (record x.now { memory = m2 })) (record s { world = did.step.w2; makers = with_at s.makers i (Some (record b { machine = machine })) }) comes
@@ -124,7 +124,7 @@ module _ {K V S : Type 0} (same : K → K → Bool) (hash : S → K → ℕ) (ba
     all_is (progress.Refused fault) = refl
 
     pub making_steps_so : (end : Advance Setting) → making_steps same hash batch_size roots slot_of s g b ≡ Some (m2, (machine, end))
-        → (did : MakingStepsAmong V same same batch_size roots slot_of s.world s.maps s.calls s.makers s.enders i b m2 (machine, end))
+        → (did : MakingStepsWithEndings V same same batch_size roots slot_of s.world s.maps s.calls s.makers s.enders i b m2 (machine, end))
         → MakingCame same hash batch_size roots slot_of s i b did.step.w2 machine n end → (told : Answer K V) → told ≡ OfMaking end → Plays (StepsMaking i g) told
     making_steps_so end computed did came told told_is =
         let comes_to : stepped x.now.memory g making ≡ Some (m2, (machine, end)) =

@@ -13,14 +13,14 @@ use Rattle.map_tables.specs.Given.SeizeDeclared.rows.settle.Settled.{Settled}
 use Rattle.map_tables.specs.Given.SeizeDeclared.states.TheConstants.{ACTIVE}
 use Rattle.map_tables.specs.declared.node.Node.{Node}
 use Rattle.map_tables.specs.declared.setting.Setting.{Setting}
-use Rattle.run_logged.specs.Given.ResizeDeclared.new_map.NewMap.{NewMap}
+use Rattle.run_finds.specs.Given.ResizeDeclared.new_map.NewMap.{NewMap}
 use Rattle.map_tables.specs.Given.SeizeReclaimAll.{reclaim_all_plan}
 use Rattle.map_tables.specs.Nodes.{deferred_word, was_left}
-use Rattle.run_logged.specs.Given.ResizeNewMap.{new_map_plan}
-use Rattle.run_logged.specs.Given.RawEndMap.{end_map_plan}
-use Rattle.run_logged.specs.Given.RawMachine.{machine_asked, machine_plan, machine_replied}
-use Rattle.run_logged.specs.Given.RawDeclared.machines.progress.Progress.{Progress as CallProgress}
-use Rattle.run_logged.specs.Given.RawDeclared.machines.progress.Progress.TheVariants as comes
+use Rattle.run_kept.specs.Given.ResizeNewMap.{new_map_plan}
+use Rattle.run_schedules.specs.Given.RawEndMap.{end_map_plan}
+use Rattle.run_finds.specs.Given.RawMachine.{machine_asked, machine_plan, machine_replied}
+use Rattle.run_finds.specs.Given.RawDeclared.machines.progress.Progress.{Progress as CallProgress}
+use Rattle.run_finds.specs.Given.RawDeclared.machines.progress.Progress.TheVariants as comes
 use Rattle.many_acts.specs.Given.FinishesMaps.{with_call}
 use Rattle.many_acts.proofs.Given.CallersTogether.At.{at_other}
 use Rattle.map_tables.specs.Given.SeizeWorld.{with_at}
@@ -38,15 +38,15 @@ use Rattle.run_schedules.specs.declared.call.Reply.{Reply}
 use Rattle.run_schedules.specs.declared.effect.Effect.{Effect}
 use Rattle.run_schedules.specs.declared.outcome.Outcome.{Outcome}
 use Rattle.run_schedules.specs.declared.outcome.Outcome.TheVariants as outcome
-use Rattle.run_schedules.specs.Schedules.After.{comes_to, replied, without_call}
+use Rattle.run_schedules.specs.Schedules.After.{with_outcome, replied, without_call}
 use Rattle.run_schedules.specs.Schedules.Beginning.{fresh_call}
 use Rattle.run_schedules.specs.Schedules.Effects.{call_by, with_effect, with_effects}
 use Rattle.run_schedules.specs.Schedules.Entry.{ends_call}
 use Rattle.run_schedules.specs.Schedules.Moment.{UnderWay, Moment}
 use Rattle.run_schedules.specs.Schedules.Views.{call_of}
-use Rattle.run_logged.specs.Given.EffectsEffects.{effects_of, known_after}
-use Rattle.run_logged.specs.Given.EffectsKnown.{Known}
-use Rattle.run_logged.specs.Given.EffectsDeclared.acting.Acting.TheVariants as acting
+use Rattle.run_kept.specs.Given.EffectsEffects.{effects_of, known_after}
+use Rattle.run_kept.specs.Given.EffectsKnown.{Known}
+use Rattle.run_kept.specs.Given.EffectsDeclared.acting.Acting.TheVariants as acting
 use Rattle.many_acts.proofs.Given.FollowsCalling.{apart_back, found_kept, found_passes, is_same_is, is_same_refl, come_same, replied_same}
 use Rattle.many_acts.proofs.Given.FollowsCalls.{IsOfSame, changed, changed_same, found, of_same}
 use Rattle.run_finds.specs.Given.ExecutorDeclared.kind.CallKind.{CallKind}
@@ -55,7 +55,7 @@ use Rattle.run_schedules.specs.Deeds.Deeds.{Deed, Begins, Steps, Replies, Stops,
 use Rattle.many_acts.specs.Acts.Acts.{Act, BeginsCall, StepsCall, TellsCall, AsksCall, StopsCall, BeginsMaking, StepsMaking, BeginsEnding, StepsEnding, BeginsRow, StepsRow}
 use Rattle.many_acts.specs.Acts.AsSteps.{changed_of, row_changed}
 use Rattle.many_acts.specs.Acts.Leads.{MayBe}
-use Rattle.play_lists.specs.Played.Play.{Calling, Making, Ending, Now, State, begun_call, call_for, ending_deed, has_root, is_over, keeps, leaves_as, made_on, making_deed, making_outcome, outcome_of, pairs_for, registers_as, reply_for, row_deed, row_outcome, settled_outcome, told_call}
+use Rattle.play_lists.specs.Played.Play.{Calling, Making, Ending, Now, State, begun_call, call_for, ending_deed, has_root, is_over, keeps, leaves_as, made_on, making_deed, making_outcome, outcome_of, pairs_for, registers_as, reply_for, row_deed, row_outcome, settled_outcome, replied_call}
 use Rattle.play_lists.proofs.Played.Alike.{its_call, others_call}
 use Rattle.play_lists.proofs.Played.PlayedAs.{PlayedAs, ReclaimedAs, played_as, reclaimed_as}
 use Rattle.play_lists.proofs.Played.Along.{At, Is, StaysSo}
@@ -173,11 +173,11 @@ module _ {K V : Type 0} where
       at = effects_noted (Some (named own)) (acted_on {K = K} {V = V} (Steps own) m) effects m on i call noted
 
       Then : Bool → Type 0
-      Then b = IsNoted (record w { calls = if b then without_call (named own) w.calls else map (λ c. if is_same c.caller (named own) then comes_to o (record c { steps = c.steps + 1 }) else c) w.calls }) on i call
+      Then b = IsNoted (record w { calls = if b then without_call (named own) w.calls else map (λ c. if is_same c.caller (named own) then with_outcome o (record c { steps = c.steps + 1 }) else c) w.calls }) on i call
 
       by : (b : Bool) → ends_call o ≡ b → Then (ends_call o)
       by true ends = subst Then (sym ends) (others_noted w own on i call (apart ends) at)
-      by false ends = subst Then (sym ends) (changed_noted (λ c. comes_to o (record c { steps = c.steps + 1 })) (λ c. come_same o (record c { steps = c.steps + 1 })) (named own) w on i call at)
+      by false ends = subst Then (sym ends) (changed_noted (λ c. with_outcome o (record c { steps = c.steps + 1 })) (λ c. come_same o (record c { steps = c.steps + 1 })) (named own) w on i call at)
 
   replied_after : (own : ℕ) (reply : Reply V) (m : Moment K V) (on i : ℕ) (call : Call K V) → IsNoted m on i call
       → IsNoted (after (record { deed = Replies own reply; outcome = outcome.Goes; effects = []; refused = false }) m) on i call
@@ -336,7 +336,7 @@ module _ {K V S : Type 0} (same : K → K → Bool) (hash : S → K → ℕ) (ba
       (record c { machine = end.1.0; value = keeps (kind_of c.call) end.1.1 c.value }) refl)
   acts_note (TellsCall i m reply) (c, here, is) free =
       subst CallsAreNoted (sym is)
-      (tells_noted x noted i m c here (is_ok (machine_replied c.machine reply).1) (reply_for (aborts (length x.told)) reply) (told_call (machine_replied c.machine reply) (reply_for (aborts (length x.told)) reply) c) refl)
+      (tells_noted x noted i m c here (is_ok (machine_replied c.machine reply).1) (reply_for (aborts (length x.told)) reply) (replied_call (machine_replied c.machine reply) (reply_for (aborts (length x.told)) reply) c) refl)
   acts_note (AsksCall i m) (c, here, is) free = subst CallsAreNoted (sym is) (same_call x noted i m c here (record c { machine = (machine_asked c.machine).0 }) refl)
   acts_note (StopsCall i m) (c, here, is) free = subst CallsAreNoted (sym is) (stops_noted x noted i m c here (machine_asked c.machine).1)
   acts_note (BeginsMaking i on hasher given places) is free = subst CallsAreNoted (sym is) noted

@@ -6,14 +6,14 @@ use Rattle.seize_acts.specs.Acts.Answers.{Grant, stepped, then_on}
 use Rattle.seize_acts.proofs.Acts.Answers.{some}
 use Rattle.map_tables.specs.Nodes.{deferred_word, was_left}
 use Rattle.map_tables.specs.declared.setting.Setting.{Setting}
-use Rattle.run_logged.specs.Given.ResizeNewMap.{new_map_plan}
-use Rattle.run_logged.specs.Given.RawEndMap.{end_map_plan}
-use Rattle.run_logged.specs.Given.RawMachine.{machine_plan}
+use Rattle.run_kept.specs.Given.ResizeNewMap.{new_map_plan}
+use Rattle.run_schedules.specs.Given.RawEndMap.{end_map_plan}
+use Rattle.run_finds.specs.Given.RawMachine.{machine_plan}
 use Rattle.many_acts.specs.Given.ScenesScene.{row_of}
 use Rattle.many_acts.specs.Acts.Acts.{Act, BeginsCall, StepsCall, TellsCall, AsksCall, StopsCall, BeginsMaking, StepsMaking, BeginsEnding, StepsEnding, BeginsRow, StepsRow}
 use Rattle.many_acts.specs.Acts.AsSteps.{changed_of, row_changed}
 use Rattle.many_acts.specs.Acts.Doings.{StepsReclaiming}
-use Rattle.play_lists.specs.Played.Play.{State, all_stepped, call_asked, call_begun, call_for, call_stepped, call_stopped, call_told, ending_begun, ending_stepped, making_begun, making_stepped, play, play_act, row_begun, row_stepped, slot_call_of, slot_row_steps, step_call}
+use Rattle.play_lists.specs.Played.Play.{State, all_stepped, call_asked, call_begun, call_for, call_stepped, call_stopped, call_replied, ending_begun, ending_stepped, making_begun, making_stepped, play, play_act, row_begun, row_stepped, slot_call_of, slot_row_steps, step_call}
 use Rattle.run_finds.proofs.Given.General.{same_some}
 
 module _ {K V S : Type 0} (same : K → K → Bool) (hash : S → K → ℕ) (batch_size roots : ℕ) (aborts : ℕ → V) (x y : State K V S) where
@@ -31,7 +31,7 @@ module _ {K V S : Type 0} (same : K → K → Bool) (hash : S → K → ℕ) (ba
       (at : Setting × S) × (x.now.maps m ≡ Some at)
       × BySteps (x.now.calls m i) (λ c. stepped x.now.memory g (machine_plan same same (hash at.1) c.machine))
       (λ c. call_stepped i m c (changed_of x.now.memory g (machine_plan same same (hash at.1) c.machine)) x)
-  PlayedAs (TellsCall i m reply) = By (x.now.calls m i) (call_told i m aborts reply x)
+  PlayedAs (TellsCall i m reply) = By (x.now.calls m i) (call_replied i m aborts reply x)
   PlayedAs (AsksCall i m) = By (x.now.calls m i) (call_asked i m x)
   PlayedAs (StopsCall i m) = By (x.now.calls m i) (call_stopped i m x)
   PlayedAs (BeginsMaking i map hasher given places) = y ≡ making_begun i roots map hasher given places x
@@ -70,7 +70,7 @@ module _ {K V S : Type 0} (same : K → K → Bool) (hash : S → K → ℕ) (ba
         by_steps (x.now.calls m i) (λ c. stepped x.now.memory g (machine_plan same same (hash at.0.1) c.machine))
             (λ c. call_stepped i m c (changed_of x.now.memory g (machine_plan same same (hash at.0.1) c.machine)) x) at.2,
       )
-  played_as (TellsCall i m reply) e = by (x.now.calls m i) (call_told i m aborts reply x) e
+  played_as (TellsCall i m reply) e = by (x.now.calls m i) (call_replied i m aborts reply x) e
   played_as (AsksCall i m) e = by (x.now.calls m i) (call_asked i m x) e
   played_as (StopsCall i m) e = by (x.now.calls m i) (call_stopped i m x) e
   played_as (BeginsMaking i map hasher given places) e = sym (same_some (making_begun i roots map hasher given places x) y e)

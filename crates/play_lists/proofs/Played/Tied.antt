@@ -9,15 +9,15 @@ use Rattle.map_tables.specs.Given.SeizeDeclared.advance.Advance.{Advance as Maki
 use Rattle.map_tables.specs.Given.SeizeDeclared.rows.settle.Settled.{Settled}
 use Rattle.map_tables.specs.declared.node.Node.{Node}
 use Rattle.map_tables.specs.declared.setting.Setting.{Setting}
-use Rattle.run_logged.specs.Given.ResizeNewMap.{new_map_plan}
-use Rattle.run_logged.specs.Given.ResizeDeclared.new_map.NewMap.{NewMap}
-use Rattle.run_logged.specs.Given.RawEndMap.{end_map_plan}
-use Rattle.run_logged.specs.Given.RawMachine.{machine_plan}
-use Rattle.run_logged.specs.Given.RawDeclared.machines.end_map.EndMap.{EndMap}
-use Rattle.run_logged.specs.Given.RawDeclared.machines.machine.Machine.{Machine}
-use Rattle.run_logged.specs.Given.RawDeclared.machines.progress.Progress.{Progress}
-use Rattle.run_logged.specs.Given.EffectsDeclared.changed.Changed.{Changed}
-use Rattle.run_logged.specs.Given.EffectsDeclared.changed.Changed.TheVariants.{Nothing as NoChange}
+use Rattle.run_kept.specs.Given.ResizeNewMap.{new_map_plan}
+use Rattle.run_finds.specs.Given.ResizeDeclared.new_map.NewMap.{NewMap}
+use Rattle.run_schedules.specs.Given.RawEndMap.{end_map_plan}
+use Rattle.run_finds.specs.Given.RawMachine.{machine_plan}
+use Rattle.run_finds.specs.Given.RawDeclared.machines.end_map.EndMap.{EndMap}
+use Rattle.run_finds.specs.Given.RawDeclared.machines.machine.Machine.{Machine}
+use Rattle.run_finds.specs.Given.RawDeclared.machines.progress.Progress.{Progress}
+use Rattle.run_kept.specs.Given.EffectsDeclared.changed.Changed.{Changed}
+use Rattle.run_kept.specs.Given.EffectsDeclared.changed.Changed.TheVariants.{Nothing as NoChange}
 use Rattle.many_acts.specs.Given.CallersTogether.{UnderWay}
 use Rattle.many_acts.specs.Given.FinishesEndings.{Finishing}
 use Rattle.many_acts.specs.Given.FinishesMachines.{machine_of}

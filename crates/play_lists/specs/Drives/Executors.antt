@@ -15,15 +15,15 @@ use Rattle.map_tables.specs.Given.SeizeDeclared.rows.leave.Leave.{Leave}
 use Rattle.map_tables.specs.Given.SeizeDeclared.rows.register.Register.{Register}
 use Rattle.map_tables.specs.Given.SeizeDeclared.rows.settle.Settle.{Settle}
 use Rattle.map_tables.specs.Nodes.{deferred_word}
-use Rattle.run_logged.specs.Given.ResizeNewMap.{new_map_plan}
-use Rattle.run_logged.specs.Given.RawEndMap.{end_map_plan}
-use Rattle.run_logged.specs.Given.RawMachine.{machine_plan}
+use Rattle.run_kept.specs.Given.ResizeNewMap.{new_map_plan}
+use Rattle.run_schedules.specs.Given.RawEndMap.{end_map_plan}
+use Rattle.run_finds.specs.Given.RawMachine.{machine_plan}
 use Rattle.map_tables.specs.Lengths.{IsTableLen}
 use Rattle.map_tables.specs.declared.node.Node.{Node}
 use Rattle.map_tables.specs.declared.setting.Setting.{Setting}
-use Rattle.run_logged.specs.Given.RawDeclared.machines.asking.MachineReply.{MachineReply}
-use Rattle.run_logged.specs.Given.RawDeclared.machines.machine.Machine.{Machine}
-use Rattle.run_logged.specs.Given.RawDeclared.machines.progress.Progress.{Progress as CallProgress}
+use Rattle.run_finds.specs.Given.RawDeclared.machines.asking.MachineReply.{MachineReply}
+use Rattle.run_finds.specs.Given.RawDeclared.machines.machine.Machine.{Machine}
+use Rattle.run_finds.specs.Given.RawDeclared.machines.progress.Progress.{Progress as CallProgress}
 use Rattle.many_acts.specs.Given.PointsSteps.{AreLawful}
 use Rattle.many_acts.specs.Given.CallersTogether.{UnderWay}
 use Rattle.many_acts.specs.Given.FinishesEndings.{Finishing}
@@ -70,8 +70,8 @@ module _ {K V S : Type 0} (e e2 : Executor K V S) where
   RowIsComputed (rows.Frees c) told g = (end : Unregister × Advance Unit) × IsComputed (unregister_plan c) end g × (told ≡ of_storing end.1)
 
 module _ {K V S : Type 0} (same : K → K → Bool) (hash : S → K → ℕ) (e e2 : Executor K V S) (s : Scene K V) where
-  -- In this scene, in which the first executor is, the act may be made, and tells this: it leads to one in which the second is; and so is each one to which it leads,
-  -- where all stand together.
+  -- In this scene, in which the first executor is, the act may be made, and tells this: it leads to one in which the second is; and so is each one to which it
+  -- leads, where the invariant of all holds.
   pub record IsAct (act : Act K V S) (told : Answer K V) : Type 0 where
     pub may : MayBe same hash e.batch_size e.roots slot_of act s
     pub to : Scene K V

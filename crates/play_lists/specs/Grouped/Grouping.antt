@@ -137,16 +137,16 @@ module _ {K V : Type 0} where
   MayRest m e outcome =
       (refuses outcome ≡ true) ⊎ ((acts_on_none e ≡ true) ⊎ (((asks_for_steps e ≡ true) × (stands_still outcome ≡ true)) ⊎ IsShared m e))
 
-  abbrev pub ComesTo : Moment K V → Event K V → List (Act K V) → Outcome V → Type 0
-  ComesTo m e [] outcome = MayRest m e outcome
-  ComesTo m e (x ∷ piece) outcome = outcome ≡ x.outcome
+  abbrev pub HasOutcome : Moment K V → Event K V → List (Act K V) → Outcome V → Type 0
+  HasOutcome m e [] outcome = MayRest m e outcome
+  HasOutcome m e (x ∷ piece) outcome = outcome ≡ x.outcome
 
   -- A piece is of an entry: it has done, one after another, what the event did, has as many steps, and its last one came to what the event came to, or the
   -- event may be of none; and it may have each of its deeds.
   pub record IsPieceOf (names : Names) (m : Moment K V) (e : Entry K V) (piece : List (Act K V)) : Type 0 where
     pub effects : e.effects ≡ effects_in piece
     pub steps : e.steps ≡ steps_in piece
-    pub outcome : ComesTo m e.event piece e.outcome
+    pub outcome : HasOutcome m e.event piece e.outcome
     pub deeds : AllByRecursion (λ x. MayHave names m e.event x.deed) piece
 
   -- The log is the grouping of the history, and callers go by these names: the newest entry is one of the last piece, and the log before it is that of what was before.

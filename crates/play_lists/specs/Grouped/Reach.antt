@@ -2,7 +2,7 @@
 use Rattle.std.specs.Prelude.{◌≡◌, ℕ, Bool, List, None, Some}
 use Rattle.std.specs.List.{AllByRecursion}
 use Rattle.many_acts.specs.Given.ScenesScene.{slot_of}
-use Rattle.run_logged.specs.Given.EffectsKnown.{Known}
+use Rattle.run_kept.specs.Given.EffectsKnown.{Known}
 use Rattle.run_finds.specs.Given.ExecutorIsThere.{IsThere}
 use Rattle.run_finds.specs.Given.ExecutorDeclared.executor.Executor.{Executor}
 use Rattle.many_acts.specs.Acts.Doings.{Doing, Stage, reclaiming}

@@ -25,21 +25,21 @@ use Rattle.map_tables.specs.Given.SeizeDeclared.states.TheConstants.{ACTIVE}
 use Rattle.map_tables.specs.Nodes.{deferred_word, was_left}
 use Rattle.map_tables.specs.declared.node.Node.{Node}
 use Rattle.map_tables.specs.declared.setting.Setting.{Setting}
-use Rattle.run_logged.specs.Given.ResizeNewMap.{new_map_plan, opening}
-use Rattle.run_logged.specs.Given.ResizeDeclared.new_map.NewMap.{NewMap}
-use Rattle.run_logged.specs.Given.ResizeDeclared.new_map.Opening.{Opening}
-use Rattle.run_logged.specs.Given.ResizeDeclared.new_map.Opening.TheVariants as openings
-use Rattle.run_logged.specs.Given.ReservesDeclared.sweep.Purpose.TheVariants as purpose
-use Rattle.run_logged.specs.Given.RawEndMap.{ending, end_map_plan}
-use Rattle.run_logged.specs.Given.RawMachine.{machine_plan, machine_replied, machine_asked}
-use Rattle.run_logged.specs.Given.RawDeclared.machines.asking.MachineReply.{MachineReply as Told}
-use Rattle.run_logged.specs.Given.RawDeclared.machines.asking.MachineReply.TheVariants as told
-use Rattle.run_logged.specs.Given.RawDeclared.machines.end_map.EndMap.{EndMap}
-use Rattle.run_logged.specs.Given.RawDeclared.machines.machine.Machine.{Machine}
-use Rattle.run_logged.specs.Given.RawDeclared.machines.progress.Progress.{Progress as CallProgress}
-use Rattle.run_logged.specs.Given.RawDeclared.machines.progress.Progress.TheVariants as comes
-use Rattle.run_logged.specs.Given.EffectsDeclared.changed.Changed.{Changed}
-use Rattle.run_logged.specs.Given.EffectsDeclared.changed.Changed.TheVariants as changes
+use Rattle.run_kept.specs.Given.ResizeNewMap.{new_map_plan, opening}
+use Rattle.run_finds.specs.Given.ResizeDeclared.new_map.NewMap.{NewMap}
+use Rattle.run_finds.specs.Given.ResizeDeclared.new_map.Opening.{Opening}
+use Rattle.run_finds.specs.Given.ResizeDeclared.new_map.Opening.TheVariants as openings
+use Rattle.run_finds.specs.Given.ReservesDeclared.sweep.Purpose.TheVariants as purpose
+use Rattle.run_schedules.specs.Given.RawEndMap.{ending, end_map_plan}
+use Rattle.run_finds.specs.Given.RawMachine.{machine_plan, machine_replied, machine_asked}
+use Rattle.run_finds.specs.Given.RawDeclared.machines.asking.MachineReply.{MachineReply as Told}
+use Rattle.run_finds.specs.Given.RawDeclared.machines.asking.MachineReply.TheVariants as told
+use Rattle.run_finds.specs.Given.RawDeclared.machines.end_map.EndMap.{EndMap}
+use Rattle.run_finds.specs.Given.RawDeclared.machines.machine.Machine.{Machine}
+use Rattle.run_finds.specs.Given.RawDeclared.machines.progress.Progress.{Progress as CallProgress}
+use Rattle.run_finds.specs.Given.RawDeclared.machines.progress.Progress.TheVariants as comes
+use Rattle.run_kept.specs.Given.EffectsDeclared.changed.Changed.{Changed}
+use Rattle.run_kept.specs.Given.EffectsDeclared.changed.Changed.TheVariants as changes
 use Rattle.many_acts.specs.Given.CallersTogether.{in_slot}
 use Rattle.many_acts.specs.Given.FinishesMaps.{with_call}
 use Rattle.many_acts.specs.Given.ScenesReplying.{unless_stopped}
@@ -59,10 +59,10 @@ use Rattle.run_schedules.specs.declared.call.Reply.{Reply}
 use Rattle.run_schedules.specs.declared.call.Reply.TheVariants as reply
 use Rattle.run_schedules.specs.declared.outcome.Outcome.{Outcome}
 use Rattle.run_schedules.specs.declared.outcome.Outcome.TheVariants as outcome
-use Rattle.run_logged.specs.Given.EffectsEffects.{effects_of, known_after}
-use Rattle.run_logged.specs.Given.EffectsKnown.{Known, nothing_known}
-use Rattle.run_logged.specs.Given.EffectsDeclared.acting.Acting.{Acting}
-use Rattle.run_logged.specs.Given.EffectsDeclared.acting.Acting.TheVariants as acting
+use Rattle.run_kept.specs.Given.EffectsEffects.{effects_of, known_after}
+use Rattle.run_kept.specs.Given.EffectsKnown.{Known, nothing_known}
+use Rattle.run_kept.specs.Given.EffectsDeclared.acting.Acting.{Acting}
+use Rattle.run_kept.specs.Given.EffectsDeclared.acting.Acting.TheVariants as acting
 use Rattle.run_finds.specs.Given.NamedMachines.{aborted_by, machine_for}
 use Rattle.run_finds.specs.Given.NamedSeen.{kind_of}
 use Rattle.run_finds.specs.Given.NamedTelling.{answer_of, kept, number_by}
@@ -199,8 +199,8 @@ abbrev pub going : {K V : Type 0} → Calling K V → Machine K V K → CallProg
 going c machine told = if has_ended told then None else Some (record c { machine = machine; value = keeps (kind_of c.call) told c.value })
 
 -- one that takes a reply goes on by it, and one that does not take it as it was
-abbrev pub told_call : {K V : Type 0} → Machine K V K × Result Unit (Told V) → Reply V → Calling K V → Calling K V
-told_call to reply c = record c { machine = to.0; value = if is_ok to.1 then aborted_by reply else c.value }
+abbrev pub replied_call : {K V : Type 0} → Machine K V K × Result Unit (Told V) → Reply V → Calling K V → Calling K V
+replied_call to reply c = record c { machine = to.0; value = if is_ok to.1 then aborted_by reply else c.value }
 
 -- of this caller, on this map
 module _ {K V S : Type 0} (i m : ℕ) where
@@ -216,11 +216,11 @@ module _ {K V S : Type 0} (i m : ℕ) where
       (record s.now { memory = p.0; calls = with_call s.now.calls m i (going c p.1.0 p.1.1) }) s
 
   -- what the closure aborts with that is told to, is given by the number of the act, so many of which were done before
-  abbrev pub call_told : (ℕ → V) → Told V → State K V S → Calling K V → State K V S
-  call_told aborts told s c =
+  abbrev pub call_replied : (ℕ → V) → Told V → State K V S → Calling K V → State K V S
+  call_replied aborts told s c =
       let to = machine_replied c.machine told in
       let reply = reply_for (aborts (length s.told)) told in
-      did (is_ok to.1) (Replies i reply) outcome.Goes (OfReply to.1) (record s.now { calls = with_call s.now.calls m i (Some (told_call to reply c)) }) s
+      did (is_ok to.1) (Replies i reply) outcome.Goes (OfReply to.1) (record s.now { calls = with_call s.now.calls m i (Some (replied_call to reply c)) }) s
 
   -- what a walk that is ready is asked for is the step that comes
   abbrev pub call_asked : State K V S → Calling K V → State K V S
@@ -406,7 +406,7 @@ module _ {K V S : Type 0} (same : K → K → Bool) (hash : S → K → ℕ) (ba
   abbrev pub play_act : Act K V S → State K V S → Option (State K V S)
   play_act (BeginsCall i m wanted) s = option_map (call_begun i m hash (call_for wanted) s) (s.now.maps m)
   play_act (StepsCall i m g) s = then_on (s.now.maps m) (λ at. then_on (s.now.calls m i) (step_call i m g s at))
-  play_act (TellsCall i m reply) s = option_map (call_told i m aborts reply s) (s.now.calls m i)
+  play_act (TellsCall i m reply) s = option_map (call_replied i m aborts reply s) (s.now.calls m i)
   play_act (AsksCall i m) s = option_map (call_asked i m s) (s.now.calls m i)
   play_act (StopsCall i m) s = option_map (call_stopped i m s) (s.now.calls m i)
   play_act (BeginsMaking i map hasher given places) s = Some (making_begun i roots map hasher given places s)

@@ -2,7 +2,7 @@
 use Rattle.std.specs.Prelude.{◌≡◌, ◌⊎◌, ◌<◌, ◌+◌, ◌==◌, ℕ, Bool, true, false, List, [], ◌∷◌, Some}
 use Rattle.std.specs.List.{list_any}
 use Rattle.std.proofs.Common.{refl, ap, sym, subst, ◌∙◌, arith, inl, inr, eqb-true}
-use Rattle.run_legal.specs.AllEvents.{BehindAreLeft}
+use Rattle.run_legal.specs.AllEvents.{BehindRootsAreLeft}
 use Rattle.seize_acts.specs.Given.SeizeWorld.{LeftTo, World, times}
 use Rattle.seize_acts.specs.Given.SeizeDeclared.rows.reclaim_all.ReclaimAll.{ReclaimAll}
 use Rattle.seize_acts.specs.Given.SeizeDeclared.rows.reclaim_all.Reclaiming.{Reclaiming}
@@ -18,12 +18,12 @@ use Rattle.play_lists.specs.Given.EffectsDeclared.role.Role.TheVariants as role
 use Rattle.play_lists.specs.Given.FindsWaiting.{is_behind_one, is_out, once_if, owed_by, put_in}
 use Rattle.play_lists.specs.Given.FindsWithin.{AllIsInOrder}
 use Rattle.play_lists.specs.Given.FinishesMaps.{Standing}
-use Rattle.play_lists.specs.Given.FollowsMaps.{ShowsMap}
-use Rattle.play_lists.specs.Given.KeptKept.{ShowsKept}
-use Rattle.run_legal.specs.Given.LivesBehind.{EachWaits, IsLeft, LiesBehind, NoTableLeft}
+use Rattle.play_lists.specs.Given.FollowsMaps.{RefinesMap}
+use Rattle.play_lists.specs.Given.KeptKept.{RefinesKept}
+use Rattle.run_legal.specs.Given.LivesBehind.{EachWaits, IsLeft, IsDeferredTo, NoTableLeft}
 use Rattle.run_legal.specs.Given.LivesWaiting.{waits_behind}
 use Rattle.seize_acts.specs.Reclaims.Roots.{all_lists}
-use Rattle.run_legal.specs.Given.MomentsWhole.{ShowsWhole}
+use Rattle.run_legal.specs.Given.MomentsWhole.{RefinesWhole}
 use Rattle.run_legal.specs.Given.ReclaimsReclaims.{ReclaimingAt}
 use Rattle.play_lists.specs.Given.ScenesHeld.{Held}
 use Rattle.play_lists.specs.Given.ScenesReclaiming.{IsReclaiming}
@@ -53,7 +53,7 @@ left_at batch_size roots i c w maps lists (reclaiming.Unuses root) is = is.1.but
 left_at batch_size roots i c w maps lists reclaiming.Over is = is.1.left
 left_at batch_size roots i c w maps lists _ is = is.1.left
 
-module _ {K V : Type 0} (same : K → K → Bool) (hash : ℕ → K → ℕ) (name : ℕ → List ℕ) (m : Moment K V) (known : Known) (s : Scene K V) (whole : ShowsWhole same name m known s) (kept : ShowsKept name m known s) (old : Held K V)
+module _ {K V : Type 0} (same : K → K → Bool) (hash : ℕ → K → ℕ) (name : ℕ → List ℕ) (m : Moment K V) (known : Known) (s : Scene K V) (whole : RefinesWhole same name m known s) (kept : RefinesKept name m known s) (old : Held K V)
     (i : ℕ) (lists : ℕ → List ℕ) (all : ReclaimAll) (at : IsReclaiming same hash old s i lists all) (order : AllIsInOrder m) (none : m.calls ≡ [])
     (stand : (n : ℕ) → list_any (λ (f : MapThere). f.number == n) m.maps ≡ true → (standing : Standing K) × (s.maps n ≡ Some standing)) where
   abbrev w : World (Node K V)
@@ -69,7 +69,7 @@ module _ {K V : Type 0} (same : K → K → Bool) (hash : ℕ → K → ℕ) (na
 
   -- a pair in a block that is left over
   module _ (b n j : ℕ) (hand : w.hand b ≡ LeftTo j) (noted : known.roles b ≡ role.Pair n) where
-    never_behind : (t : TableId) → (m.place n ≡ Behind) × LiesBehind known w n t → ⊥
+    never_behind : (t : TableId) → (m.place n ≡ Behind) × IsDeferredTo known w n t → ⊥
     never_behind t (told, lies) = by lies.waits
       where
         same_block : lies.pair ≡ b
@@ -81,7 +81,7 @@ module _ {K V : Type 0} (same : K → K → Bool) (hash : ℕ → K → ℕ) (na
 
     in_use : (of : ℕ) → m.place n ≡ InMap of → (standing : Standing K) → s.maps of ≡ Some standing → ⊥
     in_use of is standing stands =
-        (let shows : ShowsMap of (whole.all.shown.number of) standing m known = whole.all.shown.maps of standing stands in
+        (let shows : RefinesMap of (whole.all.shown.number of) standing m known = whole.all.shown.maps of standing stands in
         let its = shows.pairs.all n is in
         let current : standing.chart.current its.0 ≡ true =
         sym (shows.pairs.here its.0 its.1) ∙ ap (λ (k : ℕ). is_in_map of (m.place k)) (sym its.2) ∙ (let here : is_in_map of (m.place n) ≡ true = ap (is_in_map of) is ∙ itself of in here) in
@@ -104,11 +104,11 @@ module _ {K V : Type 0} (same : K → K → Bool) (hash : ℕ → K → ℕ) (na
         absurd (let its = kept.handed.handed n (ap is_handed is) in
         let one = whole.all.shown.blocks.once its.0 b n its.1 noted in let has = sym (ap w.hand one) ∙ its.2.0 in cc (has, hand))
     its_place Behind is =
-        absurd (let zero = none_put (λ (k : ℕ) (t : TableId). (m.place k ≡ Behind) × LiesBehind known w k t) n never_behind m.deferred kept.waiting in
+        absurd (let zero = none_put (λ (k : ℕ) (t : TableId). (m.place k ≡ Behind) × IsDeferredTo known w k t) n never_behind m.deferred kept.waiting in
         let one : 0 ≡ 1 = sym zero ∙ order.waits.placed.put n ∙ ap (λ (p : Place). once_if (is_behind_one p)) is in cc one)
     its_place Left is = is
     its_place GivenBack is = absurd (let there = subst (λ (p : Place). is_unreclaimed p ≡ true) is (whole.blocks.pairs b n noted) in cc there)
 
-  pub behind_found : BehindAreLeft old.roots m known lists
+  pub behind_found : BehindRootsAreLeft old.roots m known lists
   behind_found b n among noted =
       let its = left_at old.batch_size old.roots i all w s.maps lists all.stands at.under_way.point b among in its_place b n its.0 its.1 noted (m.place n) refl

@@ -9,7 +9,7 @@ use Rattle.run_schedules.specs.Given.SeizeWordsPlace.{capacity}
 use Rattle.run_legal.proofs.Given.SeizeWordsPlaces.Words.{capacity-more, capacity_le_capacity, capacity_pos}
 use Rattle.play_lists.specs.Given.TablesDeclared.node.Node.{Node}
 use Rattle.play_lists.specs.Given.TellsSeen.{seen_of}
-use Rattle.play_lists.specs.Given.TellerTells.{told_of}
+use Rattle.play_lists.specs.Given.TellerTells.{observed_of}
 use Rattle.play_lists.specs.Given.EffectsDeclared.changed.Changed.{Changed}
 use Rattle.play_lists.specs.Given.EffectsDeclared.changed.Changed.TheVariants as changed
 use Rattle.run_schedules.specs.declared.effect.Effect.{Effect}
@@ -118,15 +118,15 @@ module _ (who : Acting) (known : Known) where
   one_counts m m2 told (inl (same, is)) noted = subst Counts (sym is) (omega arith)
   one_counts {K} {V} m m2 told (inr made) noted = subst Counts (sym made.is) (by made.op made.out made.can (either_way made.op made.out))
     where
-      by : (op : Op (Node K V)) (out : Out (Node K V)) → Can m op → IsOther op out ⊎ MakesRoom op out → Counts (told_of op out (seen_of m op out))
+      by : (op : Op (Node K V)) (out : Out (Node K V)) → Can m op → IsOther op out ⊎ MakesRoom op out → Counts (observed_of op out (seen_of m op out))
       by op out can (inl other) =
           let none = no_room_told m op out other in
-          let same = buckets_stay who (told_of op out (seen_of m op out)) known none in
-          let zero = none_came (told_of op out (seen_of m op out)) none in
+          let same = buckets_stay who (observed_of op out (seen_of m op out)) known none in
+          let zero = none_came (observed_of op out (seen_of m op out)) none in
           omega (arith, same, zero)
       by op out can (inr (bucket, is_room, is_made)) =
-          subst (λ (o : Op (Node K V)). Counts (told_of o out (seen_of m o out))) (sym is_room)
-          (subst (λ (o : Out (Node K V)). Counts (told_of (Room bucket) o (seen_of m (Room bucket) o))) (sym is_made)
+          subst (λ (o : Op (Node K V)). Counts (observed_of o out (seen_of m o out))) (sym is_room)
+          (subst (λ (o : Out (Node K V)). Counts (observed_of (Room bucket) o (seen_of m (Room bucket) o))) (sym is_made)
           (room_counts bucket (let room = (subst (Can m) is_room can).1 in let whole = noted.whole in omega (arith, room, whole))))
 
 module _ {K V S : Type 0} (x : State K V S) (here : BucketsHold x) where

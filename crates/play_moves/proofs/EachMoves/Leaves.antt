@@ -11,7 +11,7 @@ use Rattle.run_schedules.specs.declared.outcome.Outcome.{Outcome}
 use Rattle.run_schedules.specs.declared.outcome.Outcome.TheVariants as outcome
 use Rattle.run_schedules.specs.Schedules.Effects.{with_effects}
 use Rattle.run_schedules.specs.Schedules.Entry.{IfCall}
-use Rattle.run_schedules.specs.Schedules.Handing.{HasGrown, LeavesOf, comes_clear}
+use Rattle.run_schedules.specs.Schedules.Handing.{HasGrown, LeavesOf, is_clear_outcome}
 use Rattle.run_schedules.specs.Schedules.Moment.{UnderWay as CallThere, Moment}
 use Rattle.run_schedules.specs.Schedules.Views.{call_of}
 use Rattle.run_legal.specs.Given.CallersTogether.{UnderWay}
@@ -19,8 +19,8 @@ use Rattle.play_lists.specs.Given.EffectsEffects.{effects_of, known_after}
 use Rattle.play_lists.specs.Given.EffectsKnown.{Known}
 use Rattle.play_lists.specs.Given.EffectsDeclared.acting.Acting.TheVariants as acts
 use Rattle.play_lists.specs.Given.FinishesMachines.{machine_of}
-use Rattle.play_lists.specs.Given.KeptKept.{ShowsKept}
-use Rattle.run_legal.specs.Given.MomentsWhole.{ShowsWhole}
+use Rattle.play_lists.specs.Given.KeptKept.{RefinesKept}
+use Rattle.run_legal.specs.Given.MomentsWhole.{RefinesWhole}
 use Rattle.run_legal.specs.Given.OwesEvents.{LeavesNothingMade}
 use Rattle.play_lists.specs.Given.ScenesHeld.{Held, IsAt}
 use Rattle.play_lists.specs.Given.ScenesScene.{Scene}
@@ -42,7 +42,7 @@ use Rattle.run_schedules.proofs.Given.General.{none_mapped as none_of}
 use Rattle.run_legal.proofs.Given.OwesEvents.{has_grown}
 
 module _ {K V : Type 0} (same : K → K → Bool) (hash : ℕ → K → ℕ) (name : ℕ → List ℕ) (m : Moment K V) (known : Known) (s : Scene K V) (old new : Held K V) (at : IsAt same hash old s)
-    (whole : ShowsWhole same name m known s) (kept : ShowsKept name m known s) (map i : ℕ) (u : UnderWay K V K) (here : s.calls map i ≡ Some u) (said : Progress (Node K V))
+    (whole : RefinesWhole same name m known s) (kept : RefinesKept name m known s) (map i : ℕ) (u : UnderWay K V K) (here : s.calls map i ≡ Some u) (said : Progress (Node K V))
     (leads : StepLeads same hash i said s old new) where
   abbrev v : Moment K V
   v = with_effects (Some (name i)) (Some map) (effects_of (acts.Call i map) known new.changed) m
@@ -56,7 +56,7 @@ module _ {K V : Type 0} (same : K → K → Bool) (hash : ℕ → K → ℕ) (na
   abbrev then_at : Scene K V
   then_at = scene_after same s old new map i (leads map u here).0 u (leads map u here).1 said (leads map u here).4
 
-  after : ShowsKept name v then_known then_at
+  after : RefinesKept name v then_known then_at
   after = calls_keep_kept K V same hash name m known s old new at whole kept map i u here said leads
 
   -- its call is under way no more, or it is ready
@@ -102,14 +102,14 @@ module _ {K V : Type 0} (same : K → K → Bool) (hash : ℕ → K → ℕ) (na
     clear_then (inl ended) = when_gone (gone ended)
     clear_then (inr ready) = when_ready ready next refl
 
-    leaves_by : (comes_clear o ≡ true → (has_ended said ≡ true) ⊎ (said ≡ progress.Ready)) → (q : Bool) → comes_clear o ≡ q → LeavesOf q o d
+    leaves_by : (is_clear_outcome o ≡ true → (has_ended said ≡ true) ⊎ (said ≡ progress.Ready)) → (q : Bool) → is_clear_outcome o ≡ q → LeavesOf q o d
     leaves_by over false is = tt
     leaves_by over true is = let clear = clear_then (over is) in (record { owes = clear.0; block = clear.2.0; table = clear.2.1; counted = clear.1 }, clear.2.2)
 
-  pub leaves_nothing : (o : Outcome V) → (said ≡ progress.Refused Memory → o ≡ outcome.Refused Memory) → (comes_clear o ≡ true → (has_ended said ≡ true) ⊎ (said ≡ progress.Ready))
-      → IfCall (LeavesOf (comes_clear o) o) (call_of (name i) v)
+  pub leaves_nothing : (o : Outcome V) → (said ≡ progress.Refused Memory → o ≡ outcome.Refused Memory) → (is_clear_outcome o ≡ true → (has_ended said ≡ true) ⊎ (said ≡ progress.Ready))
+      → IfCall (LeavesOf (is_clear_outcome o) o) (call_of (name i) v)
   leaves_nothing o refused over = by (call_of (name i) v) refl
     where
-      by : (found : Option (CallThere K V)) → call_of (name i) v ≡ found → IfCall (LeavesOf (comes_clear o) o) found
+      by : (found : Option (CallThere K V)) → call_of (name i) v ≡ found → IfCall (LeavesOf (is_clear_outcome o) o) found
       by None none = tt
-      by (Some d) is = leaves_by o refused d is over (comes_clear o) refl
+      by (Some d) is = leaves_by o refused d is over (is_clear_outcome o) refl

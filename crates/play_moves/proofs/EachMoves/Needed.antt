@@ -35,7 +35,7 @@ use Rattle.run_schedules.specs.Deeds.History.{NeedsBucket, buckets}
 use Rattle.play_lists.specs.Played.Play.{State}
 use Rattle.play_moves.proofs.EachMoves.Buckets.{BucketsHold}
 use Rattle.run_legal.proofs.Works.Needs.{asked_is}
-use Rattle.run_legal.proofs.Given.NeedsRegistering.{AsksAt, lacks_at}
+use Rattle.run_legal.proofs.Works.Registering.{AsksAt, lacks_at}
 
 -- what a row knows that asks for room of the bucket that is not there
 needs_at : (n i : ℕ) (m : Ghost) (x : Extra) (k slot bucket there : ℕ) (p : Registering) → FitsRegister n i m x k slot p → AsksAt p bucket → bucket ≡ there → NeedsBucket slot there

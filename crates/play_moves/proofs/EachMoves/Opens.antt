@@ -16,13 +16,13 @@ use Rattle.play_lists.specs.Given.FinishesFactsEnds.{Deed}
 use Rattle.play_lists.specs.Given.FinishesMakings.{Beginning}
 use Rattle.play_lists.specs.Given.OthersMakings.{making_after}
 use Rattle.play_lists.specs.Given.ScenesHeld.{Held}
-use Rattle.play_lists.specs.Given.ScenesMaking.{MakingComesTo, making_begun}
+use Rattle.play_lists.specs.Given.ScenesMaking.{MakingHasOutcome, making_begun}
 use Rattle.play_lists.specs.Given.ScenesScene.{Scene, slot_of}
 use Rattle.play_lists.specs.Given.ActsActs.{Act, Answer, BeginsCall, StepsCall, TellsCall, AsksCall, StopsCall, BeginsMaking, StepsMaking, BeginsEnding, StepsEnding, BeginsRow, StepsRow}
 use Rattle.play_lists.specs.Given.ActsAsSteps.{LeadsAs, MadeTo, changed_by, held_in}
 use Rattle.play_lists.specs.Given.ActsLeads.{EndingCame, Led}
 use Rattle.play_lists.proofs.Agrees.Numbers.{with_so}
-use Rattle.run_legal.specs.Given.NeedsFirsts.{ShowsOpenings}
+use Rattle.run_legal.specs.Given.NeedsFirsts.{AllMakingsOpen}
 use Rattle.run_legal.proofs.Given.NeedsFirsts.{makings_go_on, makings_open}
 use Rattle.play_lists.specs.Agrees.Places.{ArePlaces, AsksPlaces}
 use Rattle.play_moves.specs.EachMoves.Places.{OpensFor}
@@ -37,7 +37,7 @@ module _ {K V : Type 0} (s n : Scene K V) (here : OpensFor s) where
   }
 
   -- where one goes on, or is over
-  pub next_open : (i : ℕ) (next : Option (Beginning K)) → n.makers ≡ with_at s.makers i next → ((b : Beginning K) → next ≡ Some b → ArePlaces b.given b.places) → ShowsOpenings n → OpensFor n
+  pub next_open : (i : ℕ) (next : Option (Beginning K)) → n.makers ≡ with_at s.makers i next → ((b : Beginning K) → next ≡ Some b → ArePlaces b.given b.places) → AllMakingsOpen n → OpensFor n
   next_open i next makers own opens = record {
     opens = opens;
     places = λ j b it.
@@ -55,8 +55,8 @@ module _ {K V S : Type 0} (same : K → K → Bool) (by_hasher : S → K → ℕ
   ended i f w2 deed machine (settled.Gave value) came = ap (λ (z : Scene K V). z.makers) came.3
   ended i f w2 deed machine settled.Done came = ap (λ (z : Scene K V). z.makers) came.2
 
-  made : (old new : Held K V) (i : ℕ) (b : Beginning K) (makes : s.makers i ≡ Some b) (machine : NewMap) (w2 : World (Node K V)) (p : Advance Setting) (comes : MakingComesTo same hash s old new i b machine w2 p)
-      → MadeTo same hash s old new i b machine w2 p comes n → ShowsOpenings n → OpensFor n
+  made : (old new : Held K V) (i : ℕ) (b : Beginning K) (makes : s.makers i ≡ Some b) (machine : NewMap) (w2 : World (Node K V)) (p : Advance Setting) (comes : MakingHasOutcome same hash s old new i b machine w2 p)
+      → MadeTo same hash s old new i b machine w2 p comes n → AllMakingsOpen n → OpensFor n
   made old new i b makes machine w2 progress.Goes comes to opens =
       next_open s n here i (Some (record b { machine = machine })) (ap (λ (z : Scene K V). z.makers) to)
       (λ d is. subst (λ (z : Beginning K). ArePlaces z.given z.places) (same_some (record b { machine = machine }) d is) (here.places i b makes)) opens
@@ -64,12 +64,12 @@ module _ {K V S : Type 0} (same : K → K → Bool) (by_hasher : S → K → ℕ
   made old new i b makes machine w2 (progress.Done setting) comes to opens = next_open s n here i None (ap (λ (z : Scene K V). z.makers) to) (λ d none. absurd (cc none)) opens
   made old new i b makes machine w2 (progress.Refused fault) comes to opens = next_open s n here i None (ap (λ (z : Scene K V). z.makers) to) (λ d none. absurd (cc none)) opens
 
-  opened : (old new : Held K V) (i : ℕ) (b : Beginning K) (machine : NewMap) (w2 : World (Node K V)) (p : Advance Setting) (comes : MakingComesTo same hash s old new i b machine w2 p)
-      → MadeTo same hash s old new i b machine w2 p comes n → ShowsOpenings (making_after same hash s old new i b machine w2 p comes) → ShowsOpenings n
-  opened old new i b machine w2 progress.Goes comes to opens = subst ShowsOpenings (sym to) opens
+  opened : (old new : Held K V) (i : ℕ) (b : Beginning K) (machine : NewMap) (w2 : World (Node K V)) (p : Advance Setting) (comes : MakingHasOutcome same hash s old new i b machine w2 p)
+      → MadeTo same hash s old new i b machine w2 p comes n → AllMakingsOpen (making_after same hash s old new i b machine w2 p comes) → AllMakingsOpen n
+  opened old new i b machine w2 progress.Goes comes to opens = subst AllMakingsOpen (sym to) opens
   opened old new i b machine w2 progress.Waits comes to opens = absurd comes
-  opened old new i b machine w2 (progress.Done setting) comes to opens = subst ShowsOpenings (sym to) opens
-  opened old new i b machine w2 (progress.Refused fault) comes to opens = subst ShowsOpenings (sym to) opens
+  opened old new i b machine w2 (progress.Done setting) comes to opens = subst AllMakingsOpen (sym to) opens
+  opened old new i b machine w2 (progress.Refused fault) comes to opens = subst AllMakingsOpen (sym to) opens
 
   pub acts_open : (act : Act K V S) → AsksPlaces act → Leads act → LeadsAs same by_hasher hash act s told n (held_in batch_size roots NoChange s) (held_in batch_size roots (changed_by same act s) n) → OpensFor n
   acts_open (BeginsCall i m wanted) asks led leads = still_open s n here (ap (λ (z : Scene K V). z.makers) led.3)
@@ -80,7 +80,7 @@ module _ {K V S : Type 0} (same : K → K → Bool) (by_hasher : S → K → ℕ
   acts_open (BeginsMaking i map hasher given places) asks led leads =
       let b = making_begun (by_hasher hasher) roots map given places in
       next_open s n here i (Some b) (ap (λ (z : Scene K V). z.makers) led.1) (λ d is. subst (λ (z : Beginning K). ArePlaces z.given z.places) (same_some b d is) asks)
-      (subst ShowsOpenings (sym led.1) (makings_open K V s here.opens i b given roots places refl))
+      (subst AllMakingsOpen (sym led.1) (makings_open K V s here.opens i b given roots places refl))
   acts_open (StepsMaking i g) asks led (said, answer, leads, goes) =
       let old = held_in batch_size roots NoChange s in
       let new = held_in batch_size roots (changed_by {S = S} same (StepsMaking i g) s) n in

@@ -17,7 +17,7 @@ use Rattle.threads_rule.specs.Given.ResizeDeclared.new_map.NewMap.{NewMap}
 use Rattle.threads_rule.specs.Given.ResizeDeclared.new_map.Opening.{Opening}
 use Rattle.threads_rule.specs.Given.ResizeDeclared.new_map.Opening.TheVariants as openings
 use Rattle.threads_rule.specs.Given.ResizeDeclared.new_table.NewTable.{NewTable}
-use Rattle.play_lists.specs.Given.TellerTells.{StepsTold}
+use Rattle.play_lists.specs.Given.TellerTells.{StepsObserved}
 use Rattle.play_lists.specs.Given.EffectsDeclared.changed.Changed.{Changed}
 use Rattle.play_lists.specs.Given.EffectsDeclared.changed.Changed.TheVariants as changed
 use Rattle.run_legal.proofs.Given.OthersOutcomes.{told_in}
@@ -73,7 +73,7 @@ module _ {K V : Type 0} (c : NewMap) (m n : Mem (Node K V)) (told : Changed) (en
   made_rooted is (Made (Err value)) ends = by_end openings.Shards (goes c (openings.Frees Memory)) ends (at_root_still openings.Shards (goes c (openings.Frees Memory)) refl (λ fault no. cc no))
   made_rooted is _ ends = by_end openings.Shards (c, progress.Goes) ends (at_root_still openings.Shards (c, progress.Goes) (ap has_root is) (λ fault no. cc no))
 
-  pub step_rooted : (stands : Opening) → c.stands ≡ stands → StepsTold K V (NewMap × Advance Setting) m changed.Nothing (plan_at c stands) n told end → Rooted stands end
+  pub step_rooted : (stands : Opening) → c.stands ≡ stands → StepsObserved K V (NewMap × Advance Setting) m changed.Nothing (plan_at c stands) n told end → Rooted stands end
   step_rooted openings.Takes is s = taken_rooted s.0 s.2
   step_rooted openings.Shards is s = made_rooted is s.0 s.2
   step_rooted (openings.Tables making) is s =

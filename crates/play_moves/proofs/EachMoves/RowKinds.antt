@@ -23,7 +23,7 @@ use Rattle.seize_acts.specs.Given.SeizeDeclared.states.TheConstants.{ACTIVE}
 use Rattle.play_lists.specs.Given.TablesNodes.{deferred_word}
 use Rattle.play_lists.specs.Given.TablesDeclared.node.Node.{Node}
 use Rattle.play_lists.specs.Given.TellsSeen.{seen_of}
-use Rattle.play_lists.specs.Given.TellerTells.{StepsTold, told_of}
+use Rattle.play_lists.specs.Given.TellerTells.{StepsObserved, observed_of}
 use Rattle.play_lists.specs.Given.EffectsDeclared.changed.Changed.{Changed}
 use Rattle.play_lists.specs.Given.EffectsDeclared.changed.Changed.TheVariants as changed
 use Rattle.run_schedules.specs.declared.effect.Effect.{Effect}
@@ -46,17 +46,17 @@ module _ {K V : Type 0} (m m2 : Mem (Node K V)) (told : Changed) (after : SlotRo
   effects = effects_of acts.Row known told
 
   -- Where a section begins or ends nothing is done:
-  swaps_quietly : (slot field word : ℕ) (out : Out (Node K V)) → effects_of acts.Row known (told_of (Swap (Slot slot field) word) out (seen_of m (Swap (Slot slot field) word) out)) ≡ []
+  swaps_quietly : (slot field word : ℕ) (out : Out (Node K V)) → effects_of acts.Row known (observed_of (Swap (Slot slot field) word) out (seen_of m (Swap (Slot slot field) word) out)) ≡ []
   swaps_quietly slot field word (Found before) = refl
   swaps_quietly slot field word _ = refl
 
   pub enters_quietly : (c : Register) → RowSteps K V (rows.Registers c) m m2 told after → c.stands ≡ registering.Enter → effects ≡ []
   enters_quietly c s is =
-      let it = subst (λ (p : Registering). StepsTold K V (Register × Advance ℕ) m changed.Nothing (register.plan_at c p) m2 told s.0) is s.1 in ap (effects_of acts.Row known) it.1.1
+      let it = subst (λ (p : Registering). StepsObserved K V (Register × Advance ℕ) m changed.Nothing (register.plan_at c p) m2 told s.0) is s.1 in ap (effects_of acts.Row known) it.1.1
 
   leaves_at : (c : Leave) (s : RowSteps K V (rows.Leaves c) m m2 told after) (p : Leaving) → c.stands ≡ p
-      → StepsTold K V (Leave × Settled (Node K V)) m changed.Nothing (leave.plan_at deferred_word c p) m2 told s.0
-  leaves_at c s p is = subst (λ (q : Leaving). StepsTold K V (Leave × Settled (Node K V)) m changed.Nothing (leave.plan_at deferred_word c q) m2 told s.0) is s.1
+      → StepsObserved K V (Leave × Settled (Node K V)) m changed.Nothing (leave.plan_at deferred_word c p) m2 told s.0
+  leaves_at c s p is = subst (λ (q : Leaving). StepsObserved K V (Leave × Settled (Node K V)) m changed.Nothing (leave.plan_at deferred_word c q) m2 told s.0) is s.1
 
   pub ends_quietly : (c : Leave) → RowSteps K V (rows.Leaves c) m m2 told after → c.stands ≡ leaving.Swaps → effects ≡ []
   ends_quietly c s is = let it = leaves_at c s leaving.Swaps is in ap (effects_of acts.Row known) it.1.1 ∙ swaps_quietly c.slot _ c.becomes it.0
@@ -88,7 +88,7 @@ module _ {K V : Type 0} (m m2 : Mem (Node K V)) (told : Changed) (after : SlotRo
 
     pub flushes_reclaim : (c : Settle) → RowSteps K V (rows.Flushes c) m m2 told after → (p : Settling) → c.stands ≡ p → list_all is_reclaiming effects ≡ true
     flushes_reclaim c s (settling.Takes next) is =
-        let it = subst (λ (q : Settling). StepsTold K V (Settle × Settled (Node K V)) m changed.Nothing (settle.plan_at deferred_word c q) m2 told s.0) is s.1 in
+        let it = subst (λ (q : Settling). StepsObserved K V (Settle × Settled (Node K V)) m changed.Nothing (settle.plan_at deferred_word c q) m2 told s.0) is s.1 in
         reclaims_alone known told (subst (Tells true false) (sym it.1.1) refl) own
     flushes_reclaim c s _ is = ap (list_all is_reclaiming) (does_nothing known told (flushes_tell m m2 told after c (λ takes. subst IsTaking is takes) s))
 

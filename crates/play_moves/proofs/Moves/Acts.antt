@@ -24,7 +24,7 @@ use Rattle.play_lists.specs.Given.ScenesHeld.{Held, IsAt}
 use Rattle.play_lists.specs.Given.ScenesMaking.{MakingLeads}
 use Rattle.play_lists.specs.Given.ScenesScene.{IsOnSlot, Scene, row_of, slot_of}
 use Rattle.play_lists.specs.Given.ActsActs.{Act, Answer, BeginsCall, StepsCall, TellsCall, AsksCall, StopsCall, StepsMaking, StepsRow, OfCall, OfMaking, Wanted}
-use Rattle.play_lists.specs.Given.ActsAsSteps.{LeadsAs, changed_by, changed_of, held_in, row_changed, row_told}
+use Rattle.play_lists.specs.Given.ActsAsSteps.{LeadsAs, changed_by, changed_of, held_in, row_changed, outcome_of_row_step}
 use Rattle.play_lists.specs.Given.ActsLeads.{Led, MayBe}
 use Rattle.play_lists.proofs.Given.ActsAsSteps.Told.{was_told}
 use Rattle.run_schedules.specs.Deeds.Deeds.{Begins, Deed, Entry, Replies, Stops, moment}
@@ -100,7 +100,7 @@ module _ {K V S : Type 0} (same : K → K → Bool) (by_hasher : S → K → ℕ
       let here : IsOnSlot s i row = (may.0, there) in
       let change : row_changed (row_of row) g x.now.memory ≡ new.changed = ap (row_changed (row_of row) g) is.memory ∙ ap (λ (r : Row). row_changed r g s.world.memory) (sym there) in
       subst AllMove (sym (y_is ∙ ap (λ (c : Changed). row_stepped i row c x end) change))
-      (rows_move same hash x s old new holds.shows at i row here (row_told (s.world.row i) g s.world.memory) leads (row_outcome end.1.1), so)
+      (rows_move same hash x s old new holds.shows at i row here (outcome_of_row_step (s.world.row i) g s.world.memory) leads (row_outcome end.1.1), so)
 
   -- the step of a making
   module _ (i : ℕ) (g : Grant) (played : Played (StepsMaking i g)) (leads : LeadsAs same by_hasher hash (StepsMaking i g) s told n old (then_held (StepsMaking i g))) where

@@ -3,7 +3,7 @@ use Rattle.std.specs.Prelude.{◌≡◌, ℕ, Bool, true, List, [], ◌∷◌, N
 use Rattle.std.specs.List.{list_all}
 use Rattle.std.proofs.Common.{refl, sym, subst}
 use Rattle.std.proofs.lemmas.Bool.{and_parts}
-use Rattle.run_legal.specs.AllEvents.{BehindAreLeft, FindsPair}
+use Rattle.run_legal.specs.AllEvents.{BehindRootsAreLeft, FindsPair}
 use Rattle.seize_acts.specs.Given.SeizeDeclared.rows.reclaim_all.ReclaimAll.{ReclaimAll}
 use Rattle.seize_acts.specs.Given.SeizeDeclared.rows.settle.Settled.{Settled}
 use Rattle.play_lists.specs.Given.TablesDeclared.node.Node.{Node}
@@ -21,18 +21,18 @@ use Rattle.run_histories.specs.Given.MomentsOnSlots.{HadRetired}
 use Rattle.play_lists.specs.Given.ScenesHeld.{Held}
 use Rattle.play_lists.specs.Given.ScenesReclaiming.{IsReclaiming, ReclaimingLeads}
 use Rattle.play_lists.specs.Given.ScenesScene.{Scene}
-use Rattle.play_lists.proofs.Given.LoggedReclaiming.Rest.{reclaiming_found}
+use Rattle.run_legal.proofs.Given.ReclaimingRest.{reclaiming_found}
 use Rattle.run_legal.proofs.OfAll.Pairs.{step_finds}
 use Rattle.run_legal.proofs.OfAll.Tells.{gone_by, it_reclaims}
 use Rattle.run_schedules.specs.Deeds.Deeds.{Entry, ReclaimsAll, moment, named}
 use Rattle.run_schedules.specs.Deeds.History.{FindsBy, past, transition}
 use Rattle.play_lists.specs.Played.Play.{State, is_over, is_refusal, settled_outcome}
-use Rattle.play_linear.specs.Linear.Shown.{ShowsAnswers}
+use Rattle.play_linear.specs.Linear.Shown.{RefinesAnswers}
 use Rattle.run_legal.proofs.OfAll.Steps.{things_reclaim as all_reclaim}
 
-module _ {K V S : Type 0} (same : K → K → Bool) (hash : ℕ → K → ℕ) (x : State K V S) (s : Scene K V) (old new : Held K V) (all : ShowsAnswers same (past x.history) (moment x.history) x.known s)
+module _ {K V S : Type 0} (same : K → K → Bool) (hash : ℕ → K → ℕ) (x : State K V S) (s : Scene K V) (old new : Held K V) (all : RefinesAnswers same (past x.history) (moment x.history) x.known s)
     (i : ℕ) (lists : ℕ → List ℕ) (before next : ReclaimAll) (told : Settled (Node K V)) (at : IsReclaiming same hash old s i lists before) (leads : ReclaimingLeads same hash s i lists old new before next told)
-    (placed : PairsArePlaced (moment x.history)) (none : (moment x.history).calls ≡ []) (behind : BehindAreLeft old.roots (moment x.history) x.known lists) (terms : Terms) where
+    (placed : PairsArePlaced (moment x.history)) (none : (moment x.history).calls ≡ []) (behind : BehindRootsAreLeft old.roots (moment x.history) x.known lists) (terms : Terms) where
   abbrev m : Moment K V
   m = moment x.history
 

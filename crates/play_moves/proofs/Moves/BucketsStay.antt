@@ -26,7 +26,7 @@ use Rattle.play_lists.proofs.Given.OthersRowPlans.{row_operated}
 use Rattle.run_legal.proofs.Given.RemainsSlots.{slots_begin}
 use Rattle.play_lists.proofs.Given.ScenesMay.{may_end, may_make, may_reclaim, may_row, may_step}
 use Rattle.play_lists.specs.Given.ActsActs.{Act, Answer, BeginsCall, StepsCall, TellsCall, AsksCall, StopsCall, BeginsMaking, StepsMaking, BeginsEnding, StepsEnding, BeginsRow, StepsRow}
-use Rattle.play_lists.specs.Given.ActsAsSteps.{LeadsAs, changed_by, held_in, row_changed, row_told}
+use Rattle.play_lists.specs.Given.ActsAsSteps.{LeadsAs, changed_by, held_in, row_changed, outcome_of_row_step}
 use Rattle.play_lists.specs.Given.ActsLeads.{Led, MayBe}
 use Rattle.run_schedules.specs.Deeds.Deeds.{Begins, Replies, Stops}
 use Rattle.play_lists.specs.Played.Play.{State, call_for, ending_deed, first_state, making_deed, making_outcome, outcome_of, reply_for, row_deed, row_outcome, row_stepped, settled_outcome}
@@ -96,7 +96,7 @@ module _ {K V S : Type 0} (same : K → K → Bool) (by_hasher : S → K → ℕ
       let change : row_changed (row_of row) g x.now.memory ≡ new.changed = ap (row_changed (row_of row) g) is.memory ∙ ap (λ (r : Row). row_changed r g s.world.memory) (sym there) in
       let y_then : y ≡ row_stepped i row new.changed x end = y_is ∙ ap (λ (c : Changed). row_stepped i row c x end) change in
       let to = leads row on_it in
-      let said : RowTold (Node K V) = row_told (s.world.row i) g s.world.memory in
+      let said : RowTold (Node K V) = outcome_of_row_step (s.world.row i) g s.world.memory in
       let operation = row_operated old.memory new.memory new.changed (to.0, said) row (may_row same hash old s at i row on_it) to.1 in
       worked_hold x here y acts.Row new.changed (made new.changed operation) (ap (λ (z : State K V S). z.known) y_then) (row_deed row) (row_outcome end.1.1) (ap (λ (z : State K V S). z.history) y_then)
 

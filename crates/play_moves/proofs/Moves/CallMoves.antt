@@ -9,7 +9,7 @@ use Rattle.run_schedules.specs.declared.outcome.Outcome.{Outcome}
 use Rattle.run_schedules.specs.declared.outcome.Outcome.TheVariants as outcome
 use Rattle.run_schedules.specs.Schedules.Effects.{with_effects}
 use Rattle.run_schedules.specs.Schedules.Entry.{IfCall}
-use Rattle.run_schedules.specs.Schedules.Handing.{LeavesOf, comes_clear, is_call_effect}
+use Rattle.run_schedules.specs.Schedules.Handing.{LeavesOf, is_clear_outcome, is_call_effect}
 use Rattle.run_schedules.specs.Schedules.Views.{call_of}
 use Rattle.run_legal.specs.Given.CallersTogether.{UnderWay}
 use Rattle.play_lists.specs.Given.EffectsEffects.{effects_of, known_after}
@@ -25,7 +25,7 @@ use Rattle.run_schedules.specs.Deeds.Deeds.{Entry, Steps, acted_on, map_of_call,
 use Rattle.run_schedules.specs.Deeds.History.{may_do, past}
 use Rattle.play_lists.specs.Played.Play.{Calling, State, is_refusal, outcome_of}
 use Rattle.play_lists.proofs.Played.Noted.{CallsAreNoted}
-use Rattle.play_linear.specs.Linear.Shown.{ShowsAnswers}
+use Rattle.play_linear.specs.Linear.Shown.{RefinesAnswers}
 use Rattle.play_moves.specs.EachMoves.Parts.{DoesIts}
 use Rattle.play_moves.proofs.EachMoves.Leaves.{leaves_nothing}
 use Rattle.play_moves.proofs.EachMoves.Parts.{all_also, granted_so}
@@ -33,7 +33,7 @@ use Rattle.play_lists.proofs.Agrees.Grants.{refusals_so as refuses_so}
 
 module _ {K V : Type 0} (known : Known) (kind : CallKind) (value : Option V) where
   -- a call is over, or ready, where its step says so
-  clear_so : (said : Progress (Node K V)) → comes_clear (outcome_of known kind value said) ≡ true → (has_ended said ≡ true) ⊎ (said ≡ progress.Ready)
+  clear_so : (said : Progress (Node K V)) → is_clear_outcome (outcome_of known kind value said) ≡ true → (has_ended said ≡ true) ⊎ (said ≡ progress.Ready)
   clear_so (progress.Done answer) e = inl refl
   clear_so (progress.Refused fault) e = inl refl
   clear_so progress.Ready e = inr refl
@@ -48,7 +48,7 @@ module _ {K V : Type 0} (known : Known) (kind : CallKind) (value : Option V) whe
   refused_so said is = ap (outcome_of known kind value) is
 
 module _ {K V S : Type 0} (same : K → K → Bool) (hash : ℕ → K → ℕ) (x : State K V S) (s : Scene K V) (old new : Held K V) (at : IsAt same hash old s)
-    (all : ShowsAnswers same (past x.history) (moment x.history) x.known s) (noted : CallsAreNoted x) (i m : ℕ) (c : Calling K V) (here : x.now.calls m i ≡ Some c) (u : UnderWay K V K)
+    (all : RefinesAnswers same (past x.history) (moment x.history) x.known s) (noted : CallsAreNoted x) (i m : ℕ) (c : Calling K V) (here : x.now.calls m i ≡ Some c) (u : UnderWay K V K)
     (under : s.calls m i ≡ Some u) (said : Progress (Node K V)) (leads : StepLeads same hash i said s old new) where
   abbrev o : Outcome V
   o = outcome_of (known_after (acts.Call i m) new.changed x.known) (kind_of c.call) c.value said
@@ -67,7 +67,7 @@ module _ {K V S : Type 0} (same : K → K → Bool) (hash : ℕ → K → ℕ) (
     granted = granted_so (acts.Call i m) x.known new.changed;
     refuses = refuses_so (acts.Call i m) x.known new.changed;
     whole = tt;
-    leaves = subst (λ (on : Option ℕ). IfCall (LeavesOf (comes_clear o) o) (call_of (named i) (with_effects (Some (named i)) on entry.effects (moment x.history)))) (sym acted)
+    leaves = subst (λ (on : Option ℕ). IfCall (LeavesOf (is_clear_outcome o) o) (call_of (named i) (with_effects (Some (named i)) on entry.effects (moment x.history)))) (sym acted)
         (leaves_nothing same hash named (moment x.history) x.known s old new at all.whole all.kept m i u under said leads o
         (refused_so (known_after (acts.Call i m) new.changed x.known) (kind_of c.call) c.value said)
         (clear_so (known_after (acts.Call i m) new.changed x.known) (kind_of c.call) c.value said));

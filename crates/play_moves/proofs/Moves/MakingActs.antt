@@ -20,12 +20,12 @@ use Rattle.run_schedules.specs.Schedules.Views.{capacity_or, map_at, tables_of}
 use Rattle.play_lists.specs.Given.EffectsDeclared.changed.Changed.TheVariants.{Nothing as NoChange}
 use Rattle.play_lists.specs.Given.EffectsEffects.{effects_of, known_after}
 use Rattle.play_lists.specs.Given.EffectsDeclared.acting.Acting.TheVariants as acts
-use Rattle.play_lists.specs.Given.FinishesEndings.{MakingStepsAmong}
+use Rattle.play_lists.specs.Given.FinishesEndings.{MakingStepsWithEndings}
 use Rattle.play_lists.specs.Given.FinishesMakings.{Beginning}
 use Rattle.run_legal.specs.Given.OwesMaking.{making_in_opening}
 use Rattle.run_legal.specs.Given.OwesTables.{table_made}
 use Rattle.play_lists.specs.Given.ScenesHeld.{Held, IsAt}
-use Rattle.play_lists.specs.Given.ScenesMaking.{MakingComesTo, MakingLeads}
+use Rattle.play_lists.specs.Given.ScenesMaking.{MakingHasOutcome, MakingLeads}
 use Rattle.play_lists.specs.Given.ScenesScene.{Scene, slot_of}
 use Rattle.run_legal.proofs.Given.CallersTogether.At.{at_same}
 use Rattle.play_lists.proofs.Given.OthersMakingGoes.{new_maps_stay}
@@ -75,7 +75,7 @@ module _ {K V S : Type 0} (same : K → K → Bool) (by_hasher : S → K → ℕ
 
   module _ (b : Beginning K) (makes : s.makers i ≡ Some b) (m2 : Mem (Node K V)) (machine : NewMap) (end : Advance Setting)
       (computed : making_steps {S = S} same by_hasher batch_size roots slot_of s g b ≡ Some (m2, (machine, end)))
-      (did : MakingStepsAmong V same same batch_size roots slot_of s.world s.maps s.calls s.makers s.enders i b m2 (machine, end))
+      (did : MakingStepsWithEndings V same same batch_size roots slot_of s.world s.maps s.calls s.makers s.enders i b m2 (machine, end))
       (came : MakingCame {S = S} same by_hasher batch_size roots slot_of s i b did.step.w2 machine n end) (leads : MakingLeads same hash i end s old new)
       (goes : (let to = leads b makes in MadeTo same hash s old new i b to.0 to.2.step.w2 end to.3 n)) (at2 : IsAt same hash new n) (it : Making S) (here : x.now.makers i ≡ Some it) (map_is : it.map ≡ b.map)
       (machine_is : it.machine ≡ b.machine) where
@@ -131,7 +131,7 @@ module _ {K V S : Type 0} (same : K → K → Bool) (by_hasher : S → K → ℕ
       makers_by (progress.Done setting) e c = absurd (cc e)
       makers_by (progress.Refused fault) e c = absurd (cc e)
 
-      led_by : (c : NewMap) (w2 : World (Node K V)) (p : Advance Setting) → p ≡ progress.Goes → (comes : MakingComesTo same hash s old new i b c w2 p) → MadeTo same hash s old new i b c w2 p comes n
+      led_by : (c : NewMap) (w2 : World (Node K V)) (p : Advance Setting) → p ≡ progress.Goes → (comes : MakingHasOutcome same hash s old new i b c w2 p) → MadeTo same hash s old new i b c w2 p comes n
           → n.makers ≡ with_at s.makers i (Some (record b { machine = c }))
       led_by c w2 progress.Goes e comes to = ap (λ (z : Scene K V). z.makers) to
       led_by c w2 progress.Waits e comes to = absurd comes

@@ -23,15 +23,15 @@ use Rattle.play_lists.proofs.Given.FindsLife.{each_so}
 use Rattle.run_schedules.specs.Deeds.Deeds.{Deed, Entry, Makes, MapFails, begun, moment, named}
 use Rattle.run_schedules.specs.Deeds.History.{FindsBy, past, transition}
 use Rattle.play_lists.specs.Played.Play.{State, has_root, is_refusal, making_outcome}
-use Rattle.run_legal.specs.Given.NeedsFirsts.{ShowsOpenings}
+use Rattle.run_legal.specs.Given.NeedsFirsts.{AllMakingsOpen}
 use Rattle.run_legal.proofs.Given.NeedsMakings.{makings_find_theirs}
-use Rattle.play_linear.specs.Linear.Shown.{ShowsAnswers}
+use Rattle.play_linear.specs.Linear.Shown.{RefinesAnswers}
 use Rattle.play_linear.proofs.Linear.MapActs.{deed_by}
 use Rattle.play_linear.proofs.Linear.OthersGo.{makings_step}
 use Rattle.play_moves.specs.EachMoves.Finds.{FindsIts}
 
 module _ {K V S : Type 0} (same : K → K → Bool) (hash : ℕ → K → ℕ) (x : State K V S) (s : Scene K V) (old new : Held K V) (at : IsAt same hash old s)
-    (all : ShowsAnswers same (past x.history) (moment x.history) x.known s) (openings : ShowsOpenings s) (i : ℕ) (b : Beginning K) (makes : s.makers i ≡ Some b) (machine : NewMap) (said : Advance Setting)
+    (all : RefinesAnswers same (past x.history) (moment x.history) x.known s) (openings : AllMakingsOpen s) (i : ℕ) (b : Beginning K) (makes : s.makers i ≡ Some b) (machine : NewMap) (said : Advance Setting)
     (leads : MakingLeads same hash i said s old new) (was_new : WasNew b.map said (moment x.history)) (bare : tables_of b.map (moment x.history) ≡ []) (terms : Terms) where
   abbrev m : Moment K V
   m = moment x.history

@@ -12,7 +12,7 @@ use Rattle.threads_rule.specs.Given.ResizeNewMap.{plan_at}
 use Rattle.threads_rule.specs.Given.ResizeDeclared.new_map.NewMap.{NewMap}
 use Rattle.threads_rule.specs.Given.ResizeDeclared.new_map.Opening.{Opening}
 use Rattle.threads_rule.specs.Given.ResizeDeclared.new_map.Opening.TheVariants as openings
-use Rattle.play_lists.specs.Given.TellerTells.{StepsTold}
+use Rattle.play_lists.specs.Given.TellerTells.{StepsObserved}
 use Rattle.play_lists.specs.Given.EffectsDeclared.changed.Changed.{Changed}
 use Rattle.play_lists.specs.Given.EffectsDeclared.changed.Changed.TheVariants as changed
 use Rattle.run_schedules.specs.declared.effect.Effect.{Effect}
@@ -25,10 +25,10 @@ use Rattle.play_lists.specs.Given.EffectsEffects.{effects_of, known_after}
 use Rattle.play_lists.specs.Given.EffectsKnown.{Known}
 use Rattle.play_lists.specs.Given.EffectsDeclared.acting.Acting.TheVariants as acts
 use Rattle.play_lists.specs.Given.FinishesMakings.{Beginning, MakingFacts}
-use Rattle.play_lists.specs.Given.FollowsShows.{Shows}
+use Rattle.play_lists.specs.Given.FollowsShows.{Refines}
 use Rattle.play_lists.specs.Given.OthersMakings.{WasNew, making_after}
 use Rattle.play_lists.specs.Given.ScenesHeld.{Held, IsAt}
-use Rattle.play_lists.specs.Given.ScenesMaking.{MakingComesTo, MakingLeads}
+use Rattle.play_lists.specs.Given.ScenesMaking.{MakingHasOutcome, MakingLeads}
 use Rattle.play_lists.specs.Given.ScenesScene.{Scene}
 use Rattle.run_legal.proofs.Given.CallersTogether.At.{at_same}
 use Rattle.play_lists.proofs.Given.FindsCapacities.{effects_keep_capacities}
@@ -40,7 +40,7 @@ use Rattle.play_lists.specs.Played.Play.{State, has_root, is_refusal, making_out
 use Rattle.run_legal.proofs.Given.NeedsMakings.{makings_do_theirs}
 use Rattle.run_legal.proofs.Given.NeedsTablesMade.{makings_count_tables}
 use Rattle.run_legal.specs.Given.NeedsMakings.{CountsTables, in_hand, table_left}
-use Rattle.play_linear.specs.Linear.Shown.{ShowsAnswers}
+use Rattle.play_linear.specs.Linear.Shown.{RefinesAnswers}
 use Rattle.play_linear.proofs.Linear.MapActs.{deed_by}
 use Rattle.play_linear.proofs.Linear.OthersGo.{makings_step}
 use Rattle.play_moves.specs.EachMoves.Parts.{DoesIts}
@@ -48,16 +48,16 @@ use Rattle.play_moves.proofs.EachMoves.Counted.{are_so_many, freeing_has_none, o
 use Rattle.play_moves.proofs.EachMoves.Parts.{all_also, granted_so, none_may}
 use Rattle.play_moves.proofs.EachMoves.Rooted.{IsFreeing, Rooted}
 use Rattle.play_lists.proofs.Agrees.Grants.{refusals_so as refuses_so}
-use Rattle.play_lists.proofs.Given.LoggedMakingsRun.{new_past as new_tables}
+use Rattle.run_legal.proofs.Given.LogMakingsRun.{new_past as new_tables}
 
 -- where it frees its root nothing else is done
 pub frees_quietly : {K V : Type 0} (c : NewMap) (m n : Mem (Node K V)) (told : Changed) (end : NewMap × Advance Setting) (stands : Opening) → IsFreeing stands
-    → StepsTold K V (NewMap × Advance Setting) m changed.Nothing (plan_at c stands) n told end → (map : ℕ) (known : Known) → effects_of (acts.Making map) known told ≡ []
+    → StepsObserved K V (NewMap × Advance Setting) m changed.Nothing (plan_at c stands) n told end → (map : ℕ) (known : Known) → effects_of (acts.Making map) known told ≡ []
 frees_quietly c m n told end (openings.Frees fault) is s map known = ap (effects_of (acts.Making map) known) s.1.1
 frees_quietly c m n told end _ is s map known = absurd is
 
 module _ {K V S : Type 0} (same : K → K → Bool) (hash : ℕ → K → ℕ) (x : State K V S) (s : Scene K V) (old new : Held K V) (at : IsAt same hash old s)
-    (all : ShowsAnswers same (past x.history) (moment x.history) x.known s) (i : ℕ) (b : Beginning K) (makes : s.makers i ≡ Some b) (machine : NewMap) (said : Advance Setting)
+    (all : RefinesAnswers same (past x.history) (moment x.history) x.known s) (i : ℕ) (b : Beginning K) (makes : s.makers i ≡ Some b) (machine : NewMap) (said : Advance Setting)
     (leads : MakingLeads same hash i said s old new) (rooted : Rooted b.machine.stands (machine, said)) (was_new : WasNew b.map said (moment x.history))
     (bare : tables_of b.map (moment x.history) ≡ []) (made : made_for b.map x.history ≡ in_hand (table_left b.machine progress.Goes))
     (capacity : has_root b.machine.stands ≡ true → capacity_or (map_at b.map (moment x.history)) ≡ pairs_for b.machine.len) where
@@ -91,7 +91,7 @@ module _ {K V S : Type 0} (same : K → K → Bool) (hash : ℕ → K → ℕ) (
   firsts : list_all is_first_making effects ≡ true
   firsts = makings_do_theirs K V same hash named m x.known s old new at all.whole.all.shown i said leads b makes (all.whole.counters i b makes)
 
-  shown_then : (let to = leads b makes in Shows same named w known_then (making_after same hash s old new i b to.0 to.2.step.w2 said to.3))
+  shown_then : (let to = leads b makes in Refines same named w known_then (making_after same hash s old new i b to.0 to.2.step.w2 said to.3))
   shown_then = (makings_step K V same hash (past x.history) m x.known s all old new at i said leads b makes was_new).whole.all.shown
 
   -- so many tables are made then, and those that the map has then, and the one in hand
@@ -106,8 +106,8 @@ module _ {K V S : Type 0} (same : K → K → Bool) (hash : ℕ → K → ℕ) (
       let many = are_so_many (made_for b.map x.history) in omega (arith, then_so, parts, many)
 
   -- a map that stands then has the one table, if it is to have one
-  stands_with : (told : Advance Setting) (comes : MakingComesTo same hash s old new i b (leads b makes).0 (leads b makes).2.step.w2 told)
-      → Shows same named w known_then (making_after same hash s old new i b (leads b makes).0 (leads b makes).2.step.w2 told comes) → (setting : Setting) → told ≡ progress.Done setting
+  stands_with : (told : Advance Setting) (comes : MakingHasOutcome same hash s old new i b (leads b makes).0 (leads b makes).2.step.w2 told)
+      → Refines same named w known_then (making_after same hash s old new i b (leads b makes).0 (leads b makes).2.step.w2 told comes) → (setting : Setting) → told ≡ progress.Done setting
       → length (tables_of b.map w) ≡ (if b.places == 0 then 0 else 1)
   stands_with progress.Goes comes shown setting is = absurd (cc is)
   stands_with progress.Waits comes shown setting is = absurd comes

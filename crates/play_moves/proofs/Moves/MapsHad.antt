@@ -38,7 +38,7 @@ use Rattle.play_lists.specs.Given.ActsCourses.{set_up}
 use Rattle.play_lists.specs.Given.ActsLeads.{MayBe}
 use Rattle.play_lists.proofs.Given.ActsAsSteps.Told.{was_told}
 use Rattle.run_schedules.specs.Deeds.Deeds.{Begins, Deed, Ends, Entry, Leaves, Makes, MapGoes, Opens, ReclaimsAll, Registers, Replies, Shuts, Steps, Stops, Tends, moment}
-use Rattle.play_lists.specs.Played.Play.{Ending, Making, Now, State, all_stepped, call_begun, call_for, call_stepped, call_stopped, call_told, has_root, is_over, is_refusal, made_on, making_deed, making_outcome, outcome_of, pairs_for, reply_for, row_deed, row_outcome, row_stepped, settled_outcome}
+use Rattle.play_lists.specs.Played.Play.{Ending, Making, Now, State, all_stepped, call_begun, call_for, call_stepped, call_stopped, call_replied, has_root, is_over, is_refusal, made_on, making_deed, making_outcome, outcome_of, pairs_for, reply_for, row_deed, row_outcome, row_stepped, settled_outcome}
 use Rattle.play_lists.specs.Played.Reached.{IsOf, made_so, makes_so, stands_so}
 use Rattle.play_lists.proofs.Played.PlayedAs.{PlayedAs, ReclaimedAs}
 use Rattle.play_linear.specs.Linear.Coming.{ComesBy, MapsComeAndGo}
@@ -240,7 +240,7 @@ module _ {K V S : Type 0} (same : K → K → Bool) (by_hasher : S → K → ℕ
       (works_had x here (Steps i) tt (outcome_of (known_after (acts.Call i m) change x.known) (kind_of c.call) c.value end.1.1) (effects_of (acts.Call i m) x.known change) (is_refusal change) (call_stepped i m c change x end).now
       (λ k had. had))
   acts_had (TellsCall i m reply) may (c, has, y_is) =
-      then_had _ y_is (quiet_had x here (is_ok (machine_replied c.machine reply).1) (Replies i (reply_for (aborts (length x.told)) reply)) tt outcome.Goes (call_told i m aborts reply x c).now (λ k had. had))
+      then_had _ y_is (quiet_had x here (is_ok (machine_replied c.machine reply).1) (Replies i (reply_for (aborts (length x.told)) reply)) tt outcome.Goes (call_replied i m aborts reply x c).now (λ k had. had))
   acts_had (AsksCall i m) may (c, has, y_is) = then_had _ y_is here
   acts_had (StopsCall i m) may (c, has, y_is) = then_had _ y_is (quiet_had x here (machine_asked c.machine).1 (Stops i) tt outcome.Done (call_stopped i m x c).now (λ k had. had))
   acts_had (BeginsMaking i map hasher given places) may played = making_begins i map hasher given places may played

@@ -5,7 +5,7 @@ use Rattle.std.proofs.Common.{ℕ, refl, sym, subst, ◌∙◌}
 use Rattle.run_schedules.specs.Schedules.After.{AtEachEvent}
 use Rattle.run_schedules.specs.Schedules.Terms.{Terms, shards_of}
 use Rattle.play_lists.specs.Given.EffectsKnown.{nothing_known}
-use Rattle.play_lists.specs.Given.FollowsShows.{Shows}
+use Rattle.play_lists.specs.Given.FollowsShows.{Refines}
 use Rattle.play_lists.specs.Given.ScenesScene.{at_first, slot_of}
 use Rattle.play_lists.specs.Given.ActsActs.{Act, BeginsMaking}
 use Rattle.play_lists.specs.Given.ActsDoings.{Doing, Does, BeginsReclaiming, BeginsClearing, StepsReclaiming, Chooses}
@@ -32,7 +32,7 @@ use Rattle.play_moves.specs.EachMoves.Moves.{ListsMoveOn}
 use Rattle.play_moves.specs.Moves.Order.{KeepsOrder}
 use Rattle.play_moves.specs.EachMoves.Own.{IsOfItsCall}
 use Rattle.play_moves.specs.EachMoves.Parts.{DoesIts}
-use Rattle.play_moves.specs.Moves.Steps.{HasFound, ShowsSteps, StepFinds}
+use Rattle.play_moves.specs.Moves.Steps.{HasFound, RefinesSteps, StepFinds}
 use Rattle.play_moves.proofs.Moves.BucketsStay.{first_buckets}
 use Rattle.play_moves.proofs.Moves.MoveOn.{OtherFinds, all_move_on}
 use Rattle.play_moves.proofs.Moves.OtherStays.{OthersStand, others_stay}
@@ -54,8 +54,8 @@ each_other terms (e ∷ log) does ends others = (others_found terms log e does.0
 first_order : (K V : Type 0) (terms : Terms) (roots : ℕ) → KeepsOrder {K = K} {V = V} terms [] (at_first roots)
 first_order K V terms roots = record { under_way = tt; room = λ map i u is. absurd (cc is); each = tt; own = tt }
 
-module _ (K V : Type 0) (same : K → K → Bool) (terms : Terms) (roots : ℕ) (shown : Shows {K = K} {V = V} same named (moment []) nothing_known (at_first roots)) where
-  first_steps : ShowsSteps {K = K} {V = V} same (past []) (moment []) nothing_known (at_first roots)
+module _ (K V : Type 0) (same : K → K → Bool) (terms : Terms) (roots : ℕ) (shown : Refines {K = K} {V = V} same named (moment []) nothing_known (at_first roots)) where
+  first_steps : RefinesSteps {K = K} {V = V} same (past []) (moment []) nothing_known (at_first roots)
   first_steps = record {
     finding = record {
       growing = λ map i u is. absurd (cc is);
@@ -108,7 +108,7 @@ module _ {K S : Type 0} (V : Type 0) (same : K → K → Bool) (by_hasher : S �
       first_all : AllHolds same (first_state {K = K} {V = V} {S = S} roots) first.0
       first_all = first_holds V same by_hasher hash batch_size roots aborts first refl (again_first roots)
 
-      abbrev first_shown : Shows {K = K} {V = V} same named (moment []) nothing_known (at_first roots)
+      abbrev first_shown : Refines {K = K} {V = V} same named (moment []) nothing_known (at_first roots)
       first_shown = first_all.holds.shows.whole.all.shown
 
       first_beside : Beside V same by_hasher hash batch_size roots aborts terms first (first_state roots)

@@ -19,7 +19,7 @@ use Rattle.play_lists.specs.Given.ScenesHeld.{Held, IsAt}
 use Rattle.play_lists.specs.Given.ScenesScene.{IsOnSlot, Scene, row_of, slot_of}
 use Rattle.play_lists.specs.Given.ScenesDeclared.row.RowTold.{RowTold}
 use Rattle.play_lists.specs.Given.ActsActs.{Act, Answer, BeginsCall, StepsCall, TellsCall, AsksCall, StopsCall, BeginsMaking, StepsMaking, BeginsEnding, StepsEnding, BeginsRow, StepsRow}
-use Rattle.play_lists.specs.Given.ActsAsSteps.{LeadsAs, changed_by, held_in, row_changed, row_told}
+use Rattle.play_lists.specs.Given.ActsAsSteps.{LeadsAs, changed_by, held_in, row_changed, outcome_of_row_step}
 use Rattle.play_lists.specs.Given.ActsLeads.{Led, MayBe}
 use Rattle.run_schedules.specs.Deeds.Deeds.{Deed, Ends, Entry, Leaves, MapGoes, Opens, ReclaimsAll, Registers, Shuts, Tends, moment}
 use Rattle.run_schedules.specs.Deeds.History.{FindsBy, transition}
@@ -86,7 +86,7 @@ module _ {K V S : Type 0} (same : K → K → Bool) (by_hasher : S → K → ℕ
       let there : s.world.row i ≡ row_of row = sym (is.between i may.0) ∙ ap row_or_rests row_is in
       let here : IsOnSlot s i row = (may.0, there) in
       let change : row_changed (row_of row) g x.now.memory ≡ new.changed = ap (row_changed (row_of row) g) is.memory ∙ ap (λ (r : Row). row_changed r g s.world.memory) (sym there) in
-      let said : RowTold (Node K V) = row_told (s.world.row i) g s.world.memory in
+      let said : RowTold (Node K V) = outcome_of_row_step (s.world.row i) g s.world.memory in
       let finds = row_finds same hash x s old new at all.holds.shows i said leads (row_outcome end.1.1) terms row here (row_needs same hash x s old new at is.memory buckets i said leads row here) in
       subst (AllFind terms) (sym (y_is ∙ ap (λ (c : Changed). row_stepped i row c x end) change))
       ((λ of order. rows_its terms x.history (row_deed row) (is_of_row K V row) (row_outcome end.1.1) (effects_of acts.Row x.known new.changed) (is_refusal new.changed) finds), each)

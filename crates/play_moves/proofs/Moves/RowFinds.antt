@@ -36,7 +36,7 @@ use Rattle.run_legal.proofs.Given.NeedsSteps.{IsNoOwn, asks_alone, does_nothing,
 use Rattle.run_schedules.specs.Deeds.Deeds.{Deed, Entry, Leaves, Opens, Registers, Shuts, Tends, moment, named}
 use Rattle.run_schedules.specs.Deeds.History.{FindsBy, NeedsBucket, buckets, past, transition}
 use Rattle.play_lists.specs.Played.Play.{State, is_refusal, leaves_as, registers_as, row_deed}
-use Rattle.play_linear.specs.Linear.Shown.{ShowsAnswers}
+use Rattle.play_linear.specs.Linear.Shown.{RefinesAnswers}
 use Rattle.play_moves.proofs.EachMoves.Parts.{all_also}
 use Rattle.play_moves.proofs.EachMoves.RowKinds.{ends_quietly, enters_quietly, flushes_reclaim, left_quietly, leaves_reclaim}
 
@@ -55,7 +55,7 @@ module _ {K V : Type 0} (terms : Terms) (log : List (Entry K V)) (slot : ℕ) (t
       (one_asks f v both.0 need, all_ask fs (with_effect None None f v) both.1 (λ some. need))
 
 module _ {K V S : Type 0} (same : K → K → Bool) (hash : ℕ → K → ℕ) (x : State K V S) (s : Scene K V) (old new : Held K V) (at : IsAt same hash old s)
-    (all : ShowsAnswers same (past x.history) (moment x.history) x.known s) (i : ℕ) (said : RowTold (Node K V)) (leads : RowLeads same hash i said s old new) (o : Outcome V) (terms : Terms) where
+    (all : RefinesAnswers same (past x.history) (moment x.history) x.known s) (i : ℕ) (said : RowTold (Node K V)) (leads : RowLeads same hash i said s old new) (o : Outcome V) (terms : Terms) where
   abbrev m : Moment K V
   m = moment x.history
 

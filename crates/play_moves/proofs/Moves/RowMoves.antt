@@ -23,7 +23,7 @@ use Rattle.run_legal.proofs.Given.NeedsSteps.{takes_no_own}
 use Rattle.run_schedules.specs.Deeds.Deeds.{Deed, Entry, Leaves, Opens, ReclaimsAll, Registers, Shuts, Tends, moment, named}
 use Rattle.run_schedules.specs.Deeds.History.{may_do, past}
 use Rattle.play_lists.specs.Played.Play.{State, is_over, is_refusal, row_deed, settled_outcome}
-use Rattle.play_linear.specs.Linear.Shown.{ShowsAnswers}
+use Rattle.play_linear.specs.Linear.Shown.{RefinesAnswers}
 use Rattle.play_linear.proofs.Linear.RowsPlayed.{IsOfRow, is_of_row}
 use Rattle.play_moves.specs.EachMoves.Parts.{DoesIts}
 use Rattle.play_moves.proofs.EachMoves.Parts.{all_also, granted_so}
@@ -45,7 +45,7 @@ module _ {K V : Type 0} (log : List (Entry K V)) (o : Outcome V) (known : Known)
   of_row (ReclaimsAll last) is may = record { may = may; granted = granted_so acts.Row known changed; refuses = refuses_so acts.Row known changed; whole = tt; leaves = tt }
   of_row _ is may = absurd is
 
-module _ {K V S : Type 0} (same : K → K → Bool) (hash : ℕ → K → ℕ) (x : State K V S) (s : Scene K V) (old new : Held K V) (all : ShowsAnswers same (past x.history) (moment x.history) x.known s) where
+module _ {K V S : Type 0} (same : K → K → Bool) (hash : ℕ → K → ℕ) (x : State K V S) (s : Scene K V) (old new : Held K V) (all : RefinesAnswers same (past x.history) (moment x.history) x.known s) where
   pub rows_move : IsAt same hash old s → (i : ℕ) (row : SlotRow) (here : IsOnSlot s i row) (said : RowTold (Node K V)) → RowLeads same hash i said s old new → (o : Outcome V)
       → DoesIts x.history (record { deed = row_deed row; outcome = o; effects = effects_of acts.Row x.known new.changed; refused = is_refusal new.changed })
   rows_move at i row here said leads o =

@@ -15,7 +15,7 @@ use Rattle.play_lists.specs.Given.EffectsEffects.{effects_of}
 use Rattle.play_lists.specs.Given.EffectsDeclared.acting.Acting.TheVariants as acts
 use Rattle.play_lists.specs.Given.FinishesEndings.{Finishing}
 use Rattle.play_lists.specs.Given.FinishesMakings.{Beginning}
-use Rattle.play_lists.specs.Given.ScenesEnding.{EndingComesTo}
+use Rattle.play_lists.specs.Given.ScenesEnding.{EndingHasOutcome}
 use Rattle.play_lists.specs.Given.ScenesHeld.{Held, IsAt}
 use Rattle.play_lists.specs.Given.ScenesMaking.{MakingLeads}
 use Rattle.play_lists.specs.Given.ScenesScene.{Scene, slot_of}
@@ -32,7 +32,7 @@ use Rattle.play_linear.proofs.Linear.Holding.{AllHolds}
 use Rattle.play_linear.proofs.Linear.Stays.{all_tied}
 use Rattle.play_linear.proofs.Linear.StepsPlayed.{there_alike}
 use Rattle.play_lists.proofs.Played.Tied.{EndingTied, MakingTied, ending_tied, making_tied}
-use Rattle.play_linear.specs.Endings.GoingOn.{EndsGoOn}
+use Rattle.play_linear.specs.Endings.GoingOn.{EndsContinue}
 use Rattle.play_linear.proofs.Endings.EndStepGoes.{over_whole, step_finds}
 use Rattle.play_linear.proofs.Endings.EndSteps.{none_done}
 use Rattle.play_linear.proofs.Endings.Stays.{AllGo, ends_go_on}
@@ -44,7 +44,7 @@ use Rattle.play_moves.proofs.Moves.MakingActs.{made_then}
 use Rattle.play_moves.proofs.Moves.RowMoves.{reclaiming_moves}
 
 module _ {K V S : Type 0} (same : K → K → Bool) (by_hasher : S → K → ℕ) (hash : ℕ → K → ℕ) (batch_size roots : ℕ) (aborts : ℕ → V) (x y : State K V S) (s n : Scene K V) (is : IsOf by_hasher s s.world.row x.now)
-    (at : IsAt same hash (held_in batch_size roots NoChange s) s) (all : AllHolds same x s) (go : EndsGoOn x s) (made : MadeHolds x) (so : AllMove x) (told : Answer K V) where
+    (at : IsAt same hash (held_in batch_size roots NoChange s) s) (all : AllHolds same x s) (go : EndsContinue x s) (made : MadeHolds x) (so : AllMove x) (told : Answer K V) where
   abbrev old : Held K V
   old = held_in batch_size roots NoChange s
 
@@ -98,7 +98,7 @@ module _ {K V S : Type 0} (same : K → K → Bool) (by_hasher : S → K → ℕ
             ends_move x.history tied.it.map (settled_outcome said) x.known end_new.changed
             (step_finds same by_hasher hash batch_size roots aborts x y s n is at all go told i g tied.it tied.here f ends said leads at2 (f, ends, m2, machine, end, computed, told_is, did, came))
 
-        by : (p : Settled (Node K V)) → said ≡ p → EndingComesTo same hash s end_new i f (leads f ends).0 (leads f ends).2.w2 (leads f ends).2.deed p → DoesIts x.history (entry (is_over said))
+        by : (p : Settled (Node K V)) → said ≡ p → EndingHasOutcome same hash s end_new i f (leads f ends).0 (leads f ends).2.w2 (leads f ends).2.deed p → DoesIts x.history (entry (is_over said))
         by settled.Goes e c = subst (λ (q : Bool). DoesIts x.history (entry q)) (sym (ap is_over e)) moving
         by settled.Waits e c = absurd c
         by (settled.Gave value) e c = subst (λ (q : Bool). DoesIts x.history (entry q)) (sym (ap is_over e)) moving

@@ -13,7 +13,7 @@ use Rattle.run_schedules.specs.Given.RawDeclared.machines.answer.KeyAnswer.TheVa
 use Rattle.run_schedules.specs.Given.RawDeclared.machines.progress.Answer.TheVariants.{Key}
 use Rattle.run_schedules.specs.Given.RawDeclared.machines.progress.Progress.{Progress}
 use Rattle.run_schedules.specs.Given.RawDeclared.machines.progress.Progress.TheVariants.{Done}
-use Rattle.threads_rule.specs.Views.Listed.{Called, calls_then, has_told, seat_of}
+use Rattle.threads_rule.specs.Views.Listed.{Called, calls_then, has_progressed, seat_of}
 use Rattle.threads_rule.specs.Views.Told.{untold}
 use Rattle.run_schedules.specs.Schedules.After.{AtEachEvent}
 use Rattle.run_schedules.specs.Schedules.Moment.{UnderWay}
@@ -35,11 +35,11 @@ use Rattle.play_lists.specs.Given.EffectsEffects.{effects_of, known_after}
 use Rattle.play_lists.specs.Given.EffectsKnown.{Known}
 use Rattle.play_lists.specs.Given.EffectsDeclared.acting.Acting.TheVariants as acting
 use Rattle.play_lists.specs.Given.EffectsDeclared.role.Role.TheVariants as role
-use Rattle.run_histories.specs.Histories.Events.{ComesToIt}
-use Rattle.run_histories.specs.Histories.InEvent.{ComesSo}
+use Rattle.run_histories.specs.Histories.Events.{HasOutcome}
+use Rattle.run_histories.specs.Histories.InEvent.{HasOutcomeSo}
 use Rattle.run_schedules.specs.Runs.Log.{pair_at}
 use Rattle.run_legal.specs.Given.NamedSeen.{kind_of}
-use Rattle.play_lists.specs.Played.Play.{Calling, State, begun_call, call_asked, call_begun, call_for, call_stepped, call_stopped, call_told, has_root, is_over, is_refusal, keeps, leaves_as, making_deed, outcome_of, pairs_for, registers_as, reply_for, row_deed, told_call}
+use Rattle.play_lists.specs.Played.Play.{Calling, State, begun_call, call_asked, call_begun, call_for, call_stepped, call_stopped, call_replied, has_root, is_over, is_refusal, keeps, leaves_as, making_deed, outcome_of, pairs_for, registers_as, reply_for, row_deed, replied_call}
 use Rattle.play_lists.specs.Given.ScenesReplying.{unless_stopped}
 use Rattle.play_lists.specs.Given.ScenesStepping.{has_ended}
 use Rattle.play_lists.specs.Given.EffectsDeclared.changed.Changed.{Changed}
@@ -122,7 +122,7 @@ PairsAreThere {K} {V} x memory =
     (b k : ℕ) → x.known.roles b ≡ role.Pair k → (key : K) × (value : V) × (pair_at (moment x.history).stored k ≡ Some (key, value)) × (value_at memory b ≡ Some (node.Pair key value))
 
 -- where a lookup has found a pair, its word names that pair
-found_pair : {K V : Type 0} (known : Known) (key : K) (word : ℕ) (replies : List (Option ℕ × Told V)) (o : Outcome V) → ComesToIt known (Get key) replies (Done (Key (Found word))) o
+found_pair : {K V : Type 0} (known : Known) (key : K) (word : ℕ) (replies : List (Option ℕ × Told V)) (o : Outcome V) → HasOutcome known (Get key) replies (Done (Key (Found word))) o
     → (n : ℕ) × (known.roles (block_in word) ≡ role.Pair n) × (o ≡ Answered (answer.Found n))
 found_pair known key word replies (Answered a) (inl (n, names, means)) = (n, names, ap Answered (let is = means 0 in let one : answer.Found n ≡ a = cc is in sym one))
 found_pair known key word replies (Answered a) (inr done) = absurd done
@@ -180,8 +180,8 @@ module _ {K V S : Type 0} (same : K → K → Bool) (seat : ℕ) (x : State K V 
         says : SaysSo same known (record one { told = progress }) (outcome_of known (kind_of (call_for one.wanted)) c.value progress)
         says key is = (
           its_own.0.replies,
-          subst (λ (o : Outcome V). ComesToIt known key its_own.0.replies progress o) outcome_is
-              (subst (λ (call : Call K V). ComesSo known call its_own.0.replies progress (outcome_of known (kind_of c.call) c.value progress)) (its_own.3 ∙ sym call_is ∙ is)
+          subst (λ (o : Outcome V). HasOutcome known key its_own.0.replies progress o) outcome_is
+              (subst (λ (call : Call K V). HasOutcomeSo known call its_own.0.replies progress (outcome_of known (kind_of c.call) c.value progress)) (its_own.3 ∙ sym call_is ∙ is)
               (words i progress x.told entry x.history its_own.0 refl refl refl its_own.1)),
         )
 
@@ -211,7 +211,7 @@ module _ {K V S : Type 0} (same : K → K → Bool) (seat : ℕ) (x : State K V 
             let word_says = says (one_key.Get key) wanted in
             let found =
             found_pair known key word word_says.0 (outcome_of known (kind_of (call_for one.wanted)) c.value progress)
-            (subst (λ (p : Progress (Node K V)). ComesToIt known (one_key.Get key) word_says.0 p (outcome_of known (kind_of (call_for one.wanted)) c.value progress)) told_is word_says.1) in
+            (subst (λ (p : Progress (Node K V)). HasOutcome known (one_key.Get key) word_says.0 p (outcome_of known (kind_of (call_for one.wanted)) c.value progress)) told_is word_says.1) in
             let pair = pairs (block_in word) found.0 found.1 in (
               pair.0,
               pair.1,
@@ -245,10 +245,10 @@ module _ {K V S : Type 0} (same : K → K → Bool) (seat : ℕ) (x : State K V 
       -- the pair that the newest call has found
       abbrev NewestAs : Mem (Node K V) → Called K V → List (Called K V) → Bool → Type 0
       NewestAs memory one earlier q =
-          IfNewest same i (HasSeenPair same stepped.history memory) (if q then record one { told = progress } ∷ earlier else one ∷ has_told i progress earlier)
+          IfNewest same i (HasSeenPair same stepped.history memory) (if q then record one { told = progress } ∷ earlier else one ∷ has_progressed i progress earlier)
 
       newest_found : (memory : Mem (Node K V)) → PairsAreThere stepped memory → (calls : List (Called K V)) → IsCalled same i m c.call calls
-          → IfNewest same i (HasSeenPair same stepped.history memory) (has_told i progress calls)
+          → IfNewest same i (HasSeenPair same stepped.history memory) (has_progressed i progress calls)
       newest_found memory pairs [] is = tt
       newest_found memory pairs (one ∷ earlier) is = by (cases_eq one.caller i)
         where
@@ -260,10 +260,10 @@ module _ {K V S : Type 0} (same : K → K → Bool) (seat : ℕ) (x : State K V 
           by (inr ne) = subst (NewestAs memory one earlier) (sym (ne_eqb one.caller i ne)) (λ of. absurd (ne of))
 
       -- of a call of the caller that goes on nothing was answered
-      opens : (on j : ℕ) (d : Calling K V) → stepped.now.calls on j ≡ Some d → seat ≡ seat_of j → (j ≡ i) ⊎ (j ≢ i) → (on ≡ m) ⊎ (on ≢ m) → IsOpen j (has_told i progress calls)
+      opens : (on j : ℕ) (d : Calling K V) → stepped.now.calls on j ≡ Some d → seat ≡ seat_of j → (j ≡ i) ⊎ (j ≢ i) → (on ≡ m) ⊎ (on ≢ m) → IsOpen j (has_progressed i progress calls)
       opens on j d has of (inr ne) on_map = let was = before on j d has in others_newest i j ne progress (λ one. is_answer one.told ≡ false) calls (tells.unanswered on j was.0 of was.1)
       opens on j d has of (inl e) (inl f) =
-          subst (λ (k : ℕ). IsOpen k (has_told i progress calls)) (sym e)
+          subst (λ (k : ℕ). IsOpen k (has_progressed i progress calls)) (sym e)
           (open_then i progress
           (unended progress (record c { machine = machine; value = keeps (kind_of c.call) progress c.value }) d
           (sym (at_it x.now.calls m i (if has_ended progress then None else Some (record c { machine = machine; value = keeps (kind_of c.call) progress c.value })) on j f e) ∙ has)) calls
@@ -274,12 +274,12 @@ module _ {K V S : Type 0} (same : K → K → Bool) (seat : ℕ) (x : State K V 
           absurd (ne (sym (one_call (moment x.history) m on i c.call d.call (noted m i c here) (noted on i d was))))
 
       -- and the answers are those of before, and this one
-      gets : (j : ℕ) → seat ≡ seat_of j → (j ≡ i) ⊎ (j ≢ i) → HaveGot j (has_told i progress calls) (answers_of j stepped.history)
+      gets : (j : ℕ) → seat ≡ seat_of j → (j ≡ i) ⊎ (j ≢ i) → HaveGot j (has_progressed i progress calls) (answers_of j stepped.history)
       gets j of (inr ne) =
-          subst (HaveGot j (has_told i progress calls)) (sym (same_answers j x.history stepped.history (inr (entry, refl, ne_eqb j i ne)))) (others_got i j ne progress calls (answers_of j x.history) (tells.got j of))
+          subst (HaveGot j (has_progressed i progress calls)) (sym (same_answers j x.history stepped.history (inr (entry, refl, ne_eqb j i ne)))) (others_got i j ne progress calls (answers_of j x.history) (tells.got j of))
       gets j of (inl e) =
-          subst (λ (k : ℕ). HaveGot k (has_told i progress calls) (answers_of k stepped.history)) (sym e)
-          (subst (HaveGot i (has_told i progress calls)) (sym new_answers)
+          subst (λ (k : ℕ). HaveGot k (has_progressed i progress calls) (answers_of k stepped.history)) (sym e)
+          (subst (HaveGot i (has_progressed i progress calls)) (sym new_answers)
           (got_then i its_own.0 known c.value c.call its_own.3 progress calls (answers_of i x.history) (tells.unanswered m i c (of ∙ ap seat_of e) here) (wants same i m c.call calls (tells.under_way m i c (of ∙ ap seat_of e) here))
           (tells.got i (of ∙ ap seat_of e))))
         where
@@ -289,36 +289,36 @@ module _ {K V S : Type 0} (same : K → K → Bool) (seat : ℕ) (x : State K V 
               ∙ ap (λ (o : Option (UnderWay K V)). answered o entry.outcome ++ answers_of i x.history) its_own.1
 
       -- the newest call of a caller, if it has ended, has ended last
-      last_then : (calls : List (Called K V)) → IsCalled same i m c.call calls → NewestCall i (HasEndedLast same stepped.history) (has_told i progress calls)
+      last_then : (calls : List (Called K V)) → IsCalled same i m c.call calls → NewestCall i (HasEndedLast same stepped.history) (has_progressed i progress calls)
       last_then [] is = absurd is
       last_then (one ∷ earlier) is = by (λ rest. last_then earlier rest) (cases_eq one.caller i)
         where
-          by : (IsCalled same i m c.call earlier → NewestCall i (HasEndedLast same stepped.history) (has_told i progress earlier)) → (one.caller ≡ i) ⊎ (one.caller ≢ i)
-              → NewestCall i (HasEndedLast same stepped.history) (if one.caller == i then record one { told = progress } ∷ earlier else one ∷ has_told i progress earlier)
+          by : (IsCalled same i m c.call earlier → NewestCall i (HasEndedLast same stepped.history) (has_progressed i progress earlier)) → (one.caller ≡ i) ⊎ (one.caller ≢ i)
+              → NewestCall i (HasEndedLast same stepped.history) (if one.caller == i then record one { told = progress } ∷ earlier else one ∷ has_progressed i progress earlier)
           by rest (inl e) =
               let test = eq-eqb one.caller i e in
               let its_call = subst (λ (q : Bool). IfElse q ((one.map ≡ m) × (call_for one.wanted ≡ c.call)) (IsCalled same i m c.call earlier)) test is in
-              subst (λ (q : Bool). NewestCall i (HasEndedLast same stepped.history) (if q then record one { told = progress } ∷ earlier else one ∷ has_told i progress earlier)) (sym test)
+              subst (λ (q : Bool). NewestCall i (HasEndedLast same stepped.history) (if q then record one { told = progress } ∷ earlier else one ∷ has_progressed i progress earlier)) (sym test)
               (subst (λ (q : Bool). IfElse q (HasEndedLast same stepped.history (record one { told = progress })) (NewestCall i (HasEndedLast same stepped.history) earlier)) (sym test)
               (ends_last one e its_call.0 its_call.1))
           by rest (inr ne) =
               let test = ne_eqb one.caller i ne in
               let its_call = subst (λ (q : Bool). IfElse q ((one.map ≡ m) × (call_for one.wanted ≡ c.call)) (IsCalled same i m c.call earlier)) test is in
-              subst (λ (q : Bool). NewestCall i (HasEndedLast same stepped.history) (if q then record one { told = progress } ∷ earlier else one ∷ has_told i progress earlier)) (sym test)
-              (subst (λ (q : Bool). IfElse q (HasEndedLast same stepped.history one) (NewestCall i (HasEndedLast same stepped.history) (has_told i progress earlier))) (sym test) (rest its_call))
+              subst (λ (q : Bool). NewestCall i (HasEndedLast same stepped.history) (if q then record one { told = progress } ∷ earlier else one ∷ has_progressed i progress earlier)) (sym test)
+              (subst (λ (q : Bool). IfElse q (HasEndedLast same stepped.history one) (NewestCall i (HasEndedLast same stepped.history) (has_progressed i progress earlier))) (sym test) (rest its_call))
 
-      lasts : (j : ℕ) → seat ≡ seat_of j → (j ≡ i) ⊎ (j ≢ i) → NewestCall j (HasEndedLast same stepped.history) (has_told i progress calls)
+      lasts : (j : ℕ) → seat ≡ seat_of j → (j ≡ i) ⊎ (j ≢ i) → NewestCall j (HasEndedLast same stepped.history) (has_progressed i progress calls)
       lasts j of (inl e) =
-          subst (λ (k : ℕ). NewestCall k (HasEndedLast same stepped.history) (has_told i progress calls)) (sym e) (last_then calls (tells.under_way m i c (of ∙ ap seat_of e) here))
+          subst (λ (k : ℕ). NewestCall k (HasEndedLast same stepped.history) (has_progressed i progress calls)) (sym e) (last_then calls (tells.under_way m i c (of ∙ ap seat_of e) here))
       lasts j of (inr ne) =
           others_newest i j ne progress (HasEndedLast same stepped.history) calls (last_on same x.history stepped.history j (inr (entry, refl, ne_eqb j i ne)) calls (tells.last j of))
 
       -- whether it is the seat's or another one's
       abbrev SteppedBy : Mem (Node K V) → Bool → Type 0
-      SteppedBy memory q = Tells same seat stepped (if q then has_told i progress calls else calls) (if q then Some (i, memory) else seen)
+      SteppedBy memory q = Tells same seat stepped (if q then has_progressed i progress calls else calls) (if q then Some (i, memory) else seen)
 
       pub steps_tell : (memory : Mem (Node K V)) → PairsAreThere stepped memory
-          → Tells same seat stepped (if seat == seat_of i then has_told i progress calls else calls) (if seat == seat_of i then Some (i, memory) else seen)
+          → Tells same seat stepped (if seat == seat_of i then has_progressed i progress calls else calls) (if seat == seat_of i then Some (i, memory) else seen)
       steps_tell memory pairs = by (cases_eq seat (seat_of i))
         where
           goes : GoesOn x.history stepped.history
@@ -332,8 +332,8 @@ module _ {K V S : Type 0} (same : K → K → Bool) (seat : ℕ) (x : State K V 
                     let both = same_some (i, memory) (j, then_there) is in
                     let one : i ≡ j = ap (λ (p : ℕ × Mem (Node K V)). p.0) both in
                     let there : memory ≡ then_there = ap (λ (p : ℕ × Mem (Node K V)). p.1) both in
-                    subst (λ (k : ℕ). IfNewest same k (HasSeenPair same stepped.history then_there) (has_told i progress calls)) one
-                    (subst (λ (n : Mem (Node K V)). IfNewest same i (HasSeenPair same stepped.history n) (has_told i progress calls)) there (newest_found memory pairs calls (tells.under_way m i c e here)));
+                    subst (λ (k : ℕ). IfNewest same k (HasSeenPair same stepped.history then_there) (has_progressed i progress calls)) one
+                    (subst (λ (n : Mem (Node K V)). IfNewest same i (HasSeenPair same stepped.history n) (has_progressed i progress calls)) there (newest_found memory pairs calls (tells.under_way m i c e here)));
                 unanswered = λ on j d of has. opens on j d has of (cases_eq j i) (cases_eq on m);
                 got = λ j of. gets j of (cases_eq j i);
                 last = λ j of. lasts j of (cases_eq j i);
@@ -432,10 +432,10 @@ module _ {K V S : Type 0} (same : K → K → Bool) (hash : S → K → ℕ) (ba
       (begins_tell same seat x calls seen tells i m wanted hash at (subst CallsAreNoted is noted))
   acts_tell noted (StepsCall i m g) other told played = absurd other
   acts_tell noted (TellsCall i m reply) other told (c, here, is) =
-      so_still (call_told i m aborts reply x c) is (if_more (is_ok (machine_replied c.machine reply).1) _ x.history)
+      so_still (call_replied i m aborts reply x c) is (if_more (is_ok (machine_replied c.machine reply).1) _ x.history)
       (λ on j d has.
-      one_goes same seat x calls seen tells i m c here (Some (told_call (machine_replied c.machine reply) (reply_for (aborts (length x.told)) reply) c))
-      (λ e some. ap (λ (v : Calling K V). v.call) (sym (same_some (told_call (machine_replied c.machine reply) (reply_for (aborts (length x.told)) reply) c) e some))) on j d has)
+      one_goes same seat x calls seen tells i m c here (Some (replied_call (machine_replied c.machine reply) (reply_for (aborts (length x.told)) reply) c))
+      (λ e some. ap (λ (v : Calling K V). v.call) (sym (same_some (replied_call (machine_replied c.machine reply) (reply_for (aborts (length x.told)) reply) c) e some))) on j d has)
       (λ j of. aside_if j (is_ok (machine_replied c.machine reply).1) _ x.history refl)
   acts_tell noted (AsksCall i m) other told (c, here, is) =
       so_still (call_asked i m x c) is (inl refl)

@@ -6,7 +6,7 @@ use Rattle.std.proofs.lemmas.List.{append-nil}
 use Rattle.play_lists.proofs.Given.ActsFurther.{led_further}
 use Rattle.threads_rule.proofs.Views.Listed.{numbered_on}
 use Rattle.play_lists.specs.Given.TablesDeclared.node.Node.{Node}
-use Rattle.threads_rule.specs.Views.Listed.{Called, AreNumbered, calls_of, calls_then, has_told, seat_of, seen_of, seen_then}
+use Rattle.threads_rule.specs.Views.Listed.{Called, AreNumbered, calls_of, calls_then, has_progressed, seat_of, seen_of, seen_then}
 use Rattle.run_schedules.specs.Schedules.After.{AtEachEvent}
 use Rattle.run_schedules.specs.Deeds.Deeds.{moment}
 use Rattle.run_schedules.specs.Deeds.History.{IsLinearizable, past}
@@ -168,7 +168,7 @@ module _ {K S : Type 0} (V : Type 0) (same : K → K → Bool) (by_hasher : S �
           let memory = n.0.0.world.memory in
           let next = if seat == seat_of i then Some (i, memory) else seen in
           subst (λ (told : Answer K V). Tells same seat z (calls_then {S = S} seat (Does (StepsCall i m g)) told calls) next) (sym came.tells)
-          (subst (λ (v : State K V S). Tells same seat v (if seat == seat_of i then has_told i came.progress calls else calls) next) (sym tied.comes)
+          (subst (λ (v : State K V S). Tells same seat v (if seat == seat_of i then has_progressed i came.progress calls else calls) next) (sym tied.comes)
           (steps_tell same seat x calls seen tells here.0.holds.noted i m tied.it tied.here changed came.memory came.machine came.progress
           (subst (λ (v : State K V S). AtEachEvent (IsLinearizable same) v.history) tied.comes here_then.0.holds.each)
           (λ u is. lookup_owes same (past x.history) (moment x.history) x.known a.0.0 here.0.holds.shows.dues m i came.call came.here came.standing came.stands u is)

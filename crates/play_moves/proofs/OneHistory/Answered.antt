@@ -13,7 +13,7 @@ use Rattle.run_schedules.specs.Given.RawDeclared.machines.progress.Answer.TheVar
 use Rattle.run_schedules.specs.Given.RawDeclared.machines.progress.Progress.{Progress}
 use Rattle.run_schedules.specs.Given.RawDeclared.machines.progress.Progress.TheVariants.{Done}
 use Rattle.threads_rule.specs.Views.Begun.{machine_for}
-use Rattle.threads_rule.specs.Views.Listed.{Called, calls_of, calls_then, has_told, plain, seat_of, seen_of}
+use Rattle.threads_rule.specs.Views.Listed.{Called, calls_of, calls_then, has_progressed, plain, seat_of, seen_of}
 use Rattle.threads_rule.specs.Views.Told.{untold}
 use Rattle.threads_rule.specs.Views.Rule.{MapsWorld, KnowsMap, IsRun, AreRuns, Holds, caller_at, runs_of}
 use Rattle.threads_rule.specs.declared.view.Map.{Map}
@@ -40,7 +40,7 @@ use Rattle.play_lists.specs.Given.FinishesMaps.{Standing}
 use Rattle.run_legal.specs.Given.NamedSeen.{kind_of}
 use Rattle.play_lists.specs.Played.Play.{State as Played, call_for, first_state, outcome_of, play_all}
 use Rattle.play_lists.specs.Given.ScenesStepping.{has_ended}
-use Rattle.run_histories.specs.Histories.Events.{ComesToIt}
+use Rattle.run_histories.specs.Histories.Events.{HasOutcome}
 use Rattle.play_moves.specs.OneHistory.Answered.{IsAnswered, SeatsAreAnswered}
 use Rattle.play_moves.specs.OneHistory.Lookups.{IsLookedUp, IsSuch, LookupsWereSo}
 use Rattle.play_moves.specs.OneHistory.Order.{CallsAreInOrder}
@@ -54,11 +54,11 @@ module _ {K V : Type 0} (seat : ℕ) where
   IsIts call = seat_of call.caller ≡ seat
 
   -- the calls of a seat are its callers'
-  told_its : (i : ℕ) (told : Progress (Node K V)) (calls : List (Called K V)) → AllByRecursion IsIts calls → AllByRecursion IsIts (has_told i told calls)
+  told_its : (i : ℕ) (told : Progress (Node K V)) (calls : List (Called K V)) → AllByRecursion IsIts calls → AllByRecursion IsIts (has_progressed i told calls)
   told_its i told [] all = tt
   told_its i told (call ∷ calls) all = by (told_its i told calls all.1) (call.caller == i)
     where
-      by : AllByRecursion IsIts (has_told i told calls) → (q : Bool) → AllByRecursion IsIts (if q then record call { told = told } ∷ calls else call ∷ has_told i told calls)
+      by : AllByRecursion IsIts (has_progressed i told calls) → (q : Bool) → AllByRecursion IsIts (if q then record call { told = told } ∷ calls else call ∷ has_progressed i told calls)
       by rest true = all
       by rest false = (all.0, rest)
 
@@ -74,7 +74,7 @@ module _ {K V S : Type 0} (seat : ℕ) where
       by (inr ne) = subst (λ (q : Bool). AllByRecursion (IsIts seat) (if q then new ∷ calls else calls)) (sym (ne_eqb seat (seat_of i) ne)) all
   then_its (Does (StepsCall i m g)) (OfCall told) calls all = by (seat == seat_of i)
     where
-      by : (q : Bool) → AllByRecursion (IsIts seat) (if q then has_told i told calls else calls)
+      by : (q : Bool) → AllByRecursion (IsIts seat) (if q then has_progressed i told calls else calls)
       by true = told_its seat i told calls all
       by false = all
   then_its _ _ calls all = all
@@ -99,7 +99,7 @@ module _ {K V S : Type 0} (same : K → K → Bool) (hash : S → K → ℕ) (sc
   found (other ∷ later) [] are all more = absurd are
 
 -- what is told of a lookup, in the words of the history
-pub such : {K V : Type 0} (known : Known) (key : K) (replies : List (Option ℕ × Reply V)) (told : KeyAnswer) (o : Outcome V) → ComesToIt known (one_key.Get key) replies (Done (Key told)) o
+pub such : {K V : Type 0} (known : Known) (key : K) (replies : List (Option ℕ × Reply V)) (told : KeyAnswer) (o : Outcome V) → HasOutcome known (one_key.Get key) replies (Done (Key told)) o
     → (answer : Response V) × IsSuch told answer × (o ≡ Answered answer)
 such known key replies says.Absent (Answered a) (inl so) = (a, (let is = so 0 in let one : answers.Absent ≡ a = cc is in sym one), refl)
 such known key replies (says.Found word) (Answered a) (inl (n, names, so)) = (a, (n, (let is = so 0 in let one : answers.Found n ≡ a = cc is in sym one)), refl)
@@ -175,7 +175,7 @@ module _ {K V S : Type 0} (same : K → K → Bool) (hash : S → K → ℕ) (fi
   Comes known value c m w told =
       IsAnswered same history c m (call_for w) (outcome known value w told)
       × ((key : K) (answer : Response V) → call_for w ≡ On (one_key.Get key) → outcome known value w told ≡ Answered answer → IsLookedUp same history c m key answer)
-      × ((key : OneKey K V) → call_for w ≡ On key → (replies : List (Option ℕ × Reply V)) × ComesToIt known key replies told (outcome known value w told))
+      × ((key : OneKey K V) → call_for w ≡ On key → (replies : List (Option ℕ × Reply V)) × HasOutcome known key replies told (outcome known value w told))
 
   pub comes : (known : Known) × (value : Option V) × Comes known value (caller_at id t) map.number wanted run.told
   comes =
@@ -199,7 +199,7 @@ module _ {K V S : Type 0} (same : K → K → Bool) (hash : S → K → ℕ) (fi
   was_so key told wants tells =
       let o = outcome comes.0 comes.1 wanted run.told in
       let on = comes.2.2 (one_key.Get key) (ap call_for wants) in
-      let by = such comes.0 key on.0 told o (subst (λ (p : Progress (Node K V)). ComesToIt comes.0 (one_key.Get key) on.0 p o) tells on.1) in
+      let by = such comes.0 key on.0 told o (subst (λ (p : Progress (Node K V)). HasOutcome comes.0 (one_key.Get key) on.0 p o) tells on.1) in
       (tell.0, tell.1, by.0, by.1, comes.2.1 key by.0 (ap call_for wants) by.2)
 
 module _ {K S : Type 0} (V : Type 0) (same : K → K → Bool) (hash : S → K → ℕ) where

@@ -39,7 +39,7 @@ use Rattle.play_lists.specs.Given.ActsActs.{Wanted, Get, Insert, TryToInsert, Re
 use Rattle.run_schedules.specs.Deeds.Deeds.{Entry}
 use Rattle.play_lists.specs.Given.EffectsKnown.{Known}
 use Rattle.play_lists.specs.Played.Play.{State as Played, call_for, outcome_of}
-use Rattle.run_histories.specs.Histories.Events.{ComesToIt}
+use Rattle.run_histories.specs.Histories.Events.{HasOutcome}
 use Rattle.play_moves.specs.OneHistory.Answered.{ByNewest, IfElse, IsItsEnd}
 use Rattle.play_moves.specs.OneHistory.Calls.{FoundNone, FoundValue, HasInserted, HasLooked, HasRefused, HasRemoved, HasTried, ItsCall}
 use Rattle.play_moves.specs.OneHistory.Lookups.{WasHad, WasSo}
@@ -53,7 +53,7 @@ use Rattle.run_schedules.proofs.Given.General.{same_some}
 module _ {K V : Type 0} (known : Known) (replies : List (Option ℕ × Reply V)) where
   -- a storing: it tells whether a pair was replaced
   inserted : (key : K) (value : V) (is_replaced : Said → Bool) → ((old new : ℕ) → is_replaced (said.Key (says.Replaced old new)) ≡ true) → ((new : ℕ) → is_replaced (said.Key (says.Stored new)) ≡ false)
-      → (it : Said) (o : Outcome V) → ComesToIt known (one_key.Insert key value) replies (progress.Done it) o → (before : Option ℕ) × (is_some before ≡ is_replaced it) × (o ≡ Answered (looked before))
+      → (it : Said) (o : Outcome V) → HasOutcome known (one_key.Insert key value) replies (progress.Done it) o → (before : Option ℕ) × (is_some before ≡ is_replaced it) × (o ≡ Answered (looked before))
   inserted key value is_replaced if_so if_not (said.Key (says.Stored new)) (Answered a) (inr (n, names, v, means)) = (None, sym (if_not new), ap Answered (let one : answers.Absent ≡ a = cc means in sym one))
   inserted key value is_replaced if_so if_not (said.Key (says.Replaced old new)) (Answered a) (inr (o, n, was, names, v, means)) =
       (Some o, sym (if_so old new), ap Answered (let one : answers.Found o ≡ a = cc means in sym one))
@@ -69,7 +69,7 @@ module _ {K V : Type 0} (known : Known) (replies : List (Option ℕ × Reply V))
 
   -- one that leaves a pair that is there: it tells whether its own was stored
   tried : (key : K) (value : V) (is_stored : Said → Bool) → ((new : ℕ) → is_stored (said.Key (says.Stored new)) ≡ true) → ((word : ℕ) → is_stored (said.Key (says.Found word)) ≡ false)
-      → (it : Said) (o : Outcome V) → ComesToIt known (one_key.TryInsert key value) replies (progress.Done it) o
+      → (it : Said) (o : Outcome V) → HasOutcome known (one_key.TryInsert key value) replies (progress.Done it) o
       → (pair : ℕ) × (o ≡ Answered (if is_stored it then answers.Stored pair else answers.Occupied pair value))
   tried key value is_stored if_so if_not (said.Key (says.Stored new)) (Answered a) (inr (n, names, v, means)) =
       (n, ap Answered (subst (λ (q : Bool). a ≡ (if q then answers.Stored n else answers.Occupied n value)) (sym (if_so new)) (let one : answers.Stored n ≡ a = cc means in sym one)))
@@ -87,7 +87,7 @@ module _ {K V : Type 0} (known : Known) (replies : List (Option ℕ × Reply V))
 
   -- a removing: it tells whether there was a pair
   removed : (key : K) (is_removed : Said → Bool) → ((word : ℕ) → is_removed (said.Key (says.Removed word)) ≡ true) → is_removed (said.Key says.Absent) ≡ false
-      → (it : Said) (o : Outcome V) → ComesToIt known (one_key.Remove key) replies (progress.Done it) o → (pair : Option ℕ) × (is_some pair ≡ is_removed it) × (o ≡ Answered (looked pair))
+      → (it : Said) (o : Outcome V) → HasOutcome known (one_key.Remove key) replies (progress.Done it) o → (pair : Option ℕ) × (is_some pair ≡ is_removed it) × (o ≡ Answered (looked pair))
   removed key is_removed if_so if_not (said.Key (says.Removed word)) (Answered a) (inr (o, names, means)) =
       (Some o, sym (if_so word), ap Answered (let is = means 0 in let one : answers.Found o ≡ a = cc is in sym one))
   removed key is_removed if_so if_not (said.Key says.Absent) (Answered a) (inl means) = (None, sym if_not, ap Answered (let is = means 0 in let one : answers.Absent ≡ a = cc is in sym one))
@@ -107,7 +107,7 @@ module _ {K V S : Type 0} (same : K → K → Bool) (hash : S → K → ℕ) (fi
   module _ (wanted : Wanted K V) (simple : plain wanted ≡ wanted) (began : run.began ≡ machine_for same hash map t wanted) (ended : has_ended run.told ≡ true) where
     -- in each state
     module _ (aborts : ℕ → V) (s : State (Node K V) (View K V S) (MapsWorld K V S)) (h : Holds same hash fixed s) (at_id : view_of s id ≡ Some v) where
-      abbrev history : List (Entry K V)
+      abbrev pub history : List (Entry K V)
       history = (tell same hash fixed small aborts id t v map wanted run [] before knows calls_are simple began ended s h at_id).0.history
 
       its_slot : IsSlot t
@@ -135,7 +135,7 @@ module _ {K V S : Type 0} (same : K → K → Bool) (hash : S → K → ℕ) (fi
             (subst (λ (w : Wanted K V). ByNewest one.caller (EndsAs same one.caller one.map w run.told) history) (sym wants)
             (subst (λ (p : Progress (Node K V)). ByNewest one.caller (EndsAs same one.caller one.map one.wanted p) history) (sym is.told) (had (ap has_ended (sym is.told) ∙ ended)))))
 
-      ends : ByNewest (caller_at id t) (EndsAs same (caller_at id t) map.number wanted run.told) history
+      pub ends : ByNewest (caller_at id t) (EndsAs same (caller_at id t) map.number wanted run.told) history
       ends =
           by (calls_of id s.world.doings h.reached.1 []) its_runs (calls_its id s.world.doings h.reached.1 [] tt)
           ((tell same hash fixed small aborts id t v map wanted run [] before knows calls_are simple began ended s h at_id).2.last (caller_at id t) (sym (its_seat id t its_slot)))
@@ -165,7 +165,7 @@ module _ {K V S : Type 0} (same : K → K → Bool) (hash : S → K → ℕ) (fi
     )
 
     -- by what it was told
-    by_newest : (So : ℕ → ℕ → List (Entry K V) → Entry K V → Type 0)
+    pub by_newest : (So : ℕ → ℕ → List (Entry K V) → Entry K V → Type 0)
         → ((log : List (Entry K V)) (e : Entry K V) → EndsAs same (caller_at id t) map.number wanted run.told log e → So (caller_at id t) map.number log e) → ItsCall same hash fixed id v So
     by_newest So so =
         in_its So
@@ -178,7 +178,7 @@ module _ {K V S : Type 0} (same : K → K → Bool) (hash : S → K → ℕ) (fi
       by_newest (Get key) refl began (ap has_ended told) (λ i m. WasSo same i m key answers.Absent) (λ log e ends.
       let o = outcome_of ends.0 (kind_of (call_for {K = K} {V = V} (Get key))) ends.1 run.told in
       let on = ends.4 (one_key.Get key) refl in
-      let by = such ends.0 key on.0 says.Absent o (subst (λ (p : Progress (Node K V)). ComesToIt ends.0 (one_key.Get key) on.0 p o) told on.1) in
+      let by = such ends.0 key on.0 says.Absent o (subst (λ (p : Progress (Node K V)). HasOutcome ends.0 (one_key.Get key) on.0 p o) told on.1) in
       ends.3 key answers.Absent refl (by.2 ∙ ap Answered by.1))
 
   -- or there was one,
@@ -187,7 +187,7 @@ module _ {K V S : Type 0} (same : K → K → Bool) (hash : S → K → ℕ) (fi
       by_newest (Get key) refl began (ap has_ended told) (λ i m log e. (pair : Option ℕ) × (is_some pair ≡ true) × WasSo same i m key (looked pair) log e) (λ log e ends.
       let o = outcome_of ends.0 (kind_of (call_for {K = K} {V = V} (Get key))) ends.1 run.told in
       let on = ends.4 (one_key.Get key) refl in
-      let by = such ends.0 key on.0 (says.Found word) o (subst (λ (p : Progress (Node K V)). ComesToIt ends.0 (one_key.Get key) on.0 p o) told on.1) in
+      let by = such ends.0 key on.0 (says.Found word) o (subst (λ (p : Progress (Node K V)). HasOutcome ends.0 (one_key.Get key) on.0 p o) told on.1) in
       (Some by.1.0, refl, ends.3 key (answers.Found by.1.0) refl (by.2 ∙ ap Answered by.1.1)))
 
   pub has_missed : (key : K) → run.began ≡ machine_for same hash map t (Get key) → run.told ≡ progress.Done (said.Key says.Absent) → HasLooked same hash fixed id v key false
@@ -195,7 +195,7 @@ module _ {K V S : Type 0} (same : K → K → Bool) (hash : S → K → ℕ) (fi
       by_newest (Get key) refl began (ap has_ended told) (λ i m log e. (pair : Option ℕ) × (is_some pair ≡ false) × WasSo same i m key (looked pair) log e) (λ log e ends.
       let o = outcome_of ends.0 (kind_of (call_for {K = K} {V = V} (Get key))) ends.1 run.told in
       let on = ends.4 (one_key.Get key) refl in
-      let by = such ends.0 key on.0 says.Absent o (subst (λ (p : Progress (Node K V)). ComesToIt ends.0 (one_key.Get key) on.0 p o) told on.1) in
+      let by = such ends.0 key on.0 says.Absent o (subst (λ (p : Progress (Node K V)). HasOutcome ends.0 (one_key.Get key) on.0 p o) told on.1) in
       (None, refl, ends.3 key answers.Absent refl (by.2 ∙ ap Answered by.1)))
 
   -- of which this is the value that it holds.
@@ -247,7 +247,7 @@ module _ {K V S : Type 0} (same : K → K → Bool) (hash : S → K → ℕ) (fi
       (λ i m log e. (old : Option ℕ) × (is_some old ≡ is_replaced it) × IsItsEnd same i m (On (one_key.Insert key value)) (Answered (looked old)) log e) (λ log e ends.
       let o = outcome_of ends.0 (kind_of (call_for (Insert key value))) ends.1 run.told in
       let on = ends.4 (one_key.Insert key value) refl in
-      let by = inserted ends.0 on.0 key value is_replaced if_so if_not it o (subst (λ (p : Progress (Node K V)). ComesToIt ends.0 (one_key.Insert key value) on.0 p o) told on.1) in
+      let by = inserted ends.0 on.0 key value is_replaced if_so if_not it o (subst (λ (p : Progress (Node K V)). HasOutcome ends.0 (one_key.Insert key value) on.0 p o) told on.1) in
       (by.0, by.1, subst (λ (a : Outcome V). IsItsEnd same (caller_at id t) map.number (On (one_key.Insert key value)) a log e) by.2 ends.2))
 
   -- or where there was none,
@@ -258,7 +258,7 @@ module _ {K V S : Type 0} (same : K → K → Bool) (hash : S → K → ℕ) (fi
       (λ i m log e. (pair : ℕ) × IsItsEnd same i m (On (one_key.TryInsert key value)) (Answered (if is_stored it then answers.Stored pair else answers.Occupied pair value)) log e) (λ log e ends.
       let o = outcome_of ends.0 (kind_of (call_for (TryToInsert key value))) ends.1 run.told in
       let on = ends.4 (one_key.TryInsert key value) refl in
-      let by = tried ends.0 on.0 key value is_stored if_so if_not it o (subst (λ (p : Progress (Node K V)). ComesToIt ends.0 (one_key.TryInsert key value) on.0 p o) told on.1) in
+      let by = tried ends.0 on.0 key value is_stored if_so if_not it o (subst (λ (p : Progress (Node K V)). HasOutcome ends.0 (one_key.TryInsert key value) on.0 p o) told on.1) in
       (by.0, subst (λ (a : Outcome V). IsItsEnd same (caller_at id t) map.number (On (one_key.TryInsert key value)) a log e) by.1 ends.2))
 
   -- or has removed one,
@@ -269,7 +269,7 @@ module _ {K V S : Type 0} (same : K → K → Bool) (hash : S → K → ℕ) (fi
       (λ i m log e. (pair : Option ℕ) × (is_some pair ≡ is_removed it) × IsItsEnd same i m (On (one_key.Remove key)) (Answered (looked pair)) log e) (λ log e ends.
       let o = outcome_of ends.0 (kind_of (call_for {K = K} {V = V} (Remove key))) ends.1 run.told in
       let on = ends.4 (one_key.Remove key) refl in
-      let by = removed ends.0 on.0 key is_removed if_so if_not it o (subst (λ (p : Progress (Node K V)). ComesToIt ends.0 (one_key.Remove key) on.0 p o) told on.1) in
+      let by = removed ends.0 on.0 key is_removed if_so if_not it o (subst (λ (p : Progress (Node K V)). HasOutcome ends.0 (one_key.Remove key) on.0 p o) told on.1) in
       (by.0, by.1, subst (λ (a : Outcome V). IsItsEnd same (caller_at id t) map.number (On (one_key.Remove key)) a log e) by.2 ends.2))
 
   -- or was refused.

@@ -1,7 +1,7 @@
 -- A lookup owes nothing, and so it is answered what the finite map of its map has for the key at a moment since it began.
 use Rattle.std.specs.Prelude.{◌+◌, ◌++◌, length, flat_map, Option, Some, None, if◌then◌else◌}
 use Rattle.std.proofs.Common.{◌≡◌, ℕ, Bool, true, false, List, [], ◌∷◌, inl, inr, refl, sym, subst, ap, ◌∙◌}
-use Rattle.run_histories.specs.Histories.Due.{Owes, ShowsDue}
+use Rattle.run_histories.specs.Histories.Due.{HasPendingAnswer, RefinesPendingAnswers}
 use Rattle.run_legal.specs.Given.PointsFactsCalls.{Change, Unchanged, Stored as HasStored, Replaced as HasReplaced, Removed as HasRemoved}
 use Rattle.run_legal.specs.Given.CallersTogether.{UnderWay as UnderWayIn, OnKey, ForRoom, Counting, OverAll}
 use Rattle.play_lists.specs.Given.EffectsKnown.{Known}
@@ -29,9 +29,9 @@ use Rattle.play_lists.proofs.Given.FollowsCalls.{changed, changed_same, found, o
 use Rattle.run_histories.proofs.Promises.Brief.Shown.{one_as as one_so}
 use Rattle.run_schedules.proofs.Given.General.{same_some}
 
-module _ {K V : Type 0} (same : K → K → Bool) (log : Past K V) (m : Moment K V) (known : Known) (s : Scene K V) (dues : ShowsDue same named log m known s) where
+module _ {K V : Type 0} (same : K → K → Bool) (log : Past K V) (m : Moment K V) (known : Known) (s : Scene K V) (dues : RefinesPendingAnswers same named log m known s) where
   -- a lookup has changed nothing
-  none_owed : (number : ℕ → ℕ) (stored : ℕ) (key : K) (c : UnderWay K V) (change : Change) → Owes number stored (Get key) c change → c.due ≡ None
+  none_owed : (number : ℕ → ℕ) (stored : ℕ) (key : K) (c : UnderWay K V) (change : Change) → HasPendingAnswer number stored (Get key) c change → c.due ≡ None
   none_owed number stored key c Unchanged owes = owes
   none_owed number stored key c (HasStored n) (less, a, v, means, due) = absurd (cc means)
   none_owed number stored key c (HasReplaced o n) (old, less, a, v, means, due) = absurd (cc means)

@@ -5,7 +5,7 @@ use Rattle.std.proofs.lemmas.Bool.{cases_eq, ne_eqb}
 use Rattle.play_lists.specs.Given.TablesDeclared.node.Node.{Node}
 use Rattle.run_schedules.specs.Given.RawDeclared.machines.progress.Progress.{Progress}
 use Rattle.run_schedules.specs.Given.RawDeclared.machines.progress.Progress.TheVariants as progress
-use Rattle.threads_rule.specs.Views.Listed.{Called, has_told}
+use Rattle.threads_rule.specs.Views.Listed.{Called, has_progressed}
 use Rattle.run_schedules.specs.Schedules.Entry.{acting}
 use Rattle.run_schedules.specs.Schedules.Moment.{UnderWay}
 use Rattle.run_schedules.specs.declared.call.Response.{Response}
@@ -39,14 +39,14 @@ module _ {K V : Type 0} (i : ℕ) where
 
   module _ (told : Progress (Node K V)) where
     -- it goes on, and has no answer
-    pub open_then : is_answer told ≡ false → (calls : List (Called K V)) → IsOpen calls → IsOpen (has_told i told calls)
+    pub open_then : is_answer told ≡ false → (calls : List (Called K V)) → IsOpen calls → IsOpen (has_progressed i told calls)
     open_then none [] unanswered = tt
     open_then none (one ∷ before) unanswered = by (λ rest. open_then none before rest) (one.caller == i) refl
       where
-        by : (IsOpen before → IsOpen (has_told i told before)) → (q : Bool) → (one.caller == i) ≡ q → IsOpen (if q then record one { told = told } ∷ before else one ∷ has_told i told before)
+        by : (IsOpen before → IsOpen (has_progressed i told before)) → (q : Bool) → (one.caller == i) ≡ q → IsOpen (if q then record one { told = told } ∷ before else one ∷ has_progressed i told before)
         by rest true e = subst (λ (k : Bool). IfElse k (is_answer told ≡ false) (IsOpen before)) (sym e) none
         by rest false e =
-            subst (λ (k : Bool). IfElse k (is_answer one.told ≡ false) (IsOpen (has_told i told before))) (sym e)
+            subst (λ (k : Bool). IfElse k (is_answer one.told ≡ false) (IsOpen (has_progressed i told before))) (sym e)
             (rest (subst (λ (k : Bool). IfElse k (is_answer one.told ≡ false) (IsOpen before)) e unanswered))
 
   -- with what it is told last
@@ -69,19 +69,19 @@ module _ {K V : Type 0} (i : ℕ) where
     now one before answers e wants got (progress.Refused fault) = got
 
     module _ (told : Progress (Node K V)) where
-      pub got_then : (calls : List (Called K V)) (answers : List (Call K V × Response V)) → IsOpen calls → Wants call calls → HaveGot i calls answers → HaveGot i (has_told i told calls) (New told ++ answers)
+      pub got_then : (calls : List (Called K V)) (answers : List (Call K V × Response V)) → IsOpen calls → Wants call calls → HaveGot i calls answers → HaveGot i (has_progressed i told calls) (New told ++ answers)
       got_then [] answers unanswered wants got = absurd wants
       got_then (one ∷ before) answers unanswered wants got = by (λ o w g. got_then before answers o w g) (one.caller == i) refl
         where
-          by : (IsOpen before → Wants call before → HaveGot i before answers → HaveGot i (has_told i told before) (New told ++ answers)) → (q : Bool) → (one.caller == i) ≡ q
-              → HaveGot i (if q then record one { told = told } ∷ before else one ∷ has_told i told before) (New told ++ answers)
+          by : (IsOpen before → Wants call before → HaveGot i before answers → HaveGot i (has_progressed i told before) (New told ++ answers)) → (q : Bool) → (one.caller == i) ≡ q
+              → HaveGot i (if q then record one { told = told } ∷ before else one ∷ has_progressed i told before) (New told ++ answers)
           by rest true e =
               let none : is_answer one.told ≡ false = subst (λ (k : Bool). IfElse k (is_answer one.told ≡ false) (IsOpen before)) e unanswered in
               now one before answers e (subst (λ (k : Bool). IfElse k (call_for one.wanted ≡ call) (Wants call before)) e wants)
               (subst (λ (k : Bool). IfElse (k && (one.caller == i)) (IsNewestAnswer one (HaveGot i before) answers) (HaveGot i before answers)) none got) told
           by rest false e =
               let aside : (is_answer one.told && (one.caller == i)) ≡ false = ap (λ (k : Bool). is_answer one.told && k) e ∙ and_false (is_answer one.told) in
-              subst (λ (k : Bool). IfElse k (IsNewestAnswer one (HaveGot i (has_told i told before)) (New told ++ answers)) (HaveGot i (has_told i told before) (New told ++ answers))) (sym aside)
+              subst (λ (k : Bool). IfElse k (IsNewestAnswer one (HaveGot i (has_progressed i told before)) (New told ++ answers)) (HaveGot i (has_progressed i told before) (New told ++ answers))) (sym aside)
               (rest (subst (λ (k : Bool). IfElse k (is_answer one.told ≡ false) (IsOpen before)) e unanswered) (subst (λ (k : Bool). IfElse k (call_for one.wanted ≡ call) (Wants call before)) e wants)
               (subst (λ (k : Bool). IfElse k (IsNewestAnswer one (HaveGot i before) answers) (HaveGot i before answers)) aside got))
 
@@ -94,40 +94,40 @@ module _ {K V : Type 0} (i j : ℕ) (ne : j ≢ i) (told : Progress (Node K V)) 
       by (inl is) = ne_eqb caller j (λ f. ne (sym f ∙ is))
       by (inr other) = absurd (let none = ne_eqb caller i other in let both : true ≡ false = sym e ∙ none in cc both)
 
-  pub others_newest : (So : Called K V → Type 0) (calls : List (Called K V)) → NewestCall j So calls → NewestCall j So (has_told i told calls)
+  pub others_newest : (So : Called K V → Type 0) (calls : List (Called K V)) → NewestCall j So calls → NewestCall j So (has_progressed i told calls)
   others_newest So [] was = was
   others_newest So (one ∷ before) was = by (λ rest. others_newest So before rest) (one.caller == i) refl
     where
-      on : (NewestCall j So before → NewestCall j So (has_told i told before)) → (k : Bool) → IfElse k (So one) (NewestCall j So before) → IfElse k (So one) (NewestCall j So (has_told i told before))
+      on : (NewestCall j So before → NewestCall j So (has_progressed i told before)) → (k : Bool) → IfElse k (So one) (NewestCall j So before) → IfElse k (So one) (NewestCall j So (has_progressed i told before))
       on rest true so = so
       on rest false so = rest so
 
-      by : (NewestCall j So before → NewestCall j So (has_told i told before)) → (q : Bool) → (one.caller == i) ≡ q
-          → NewestCall j So (if q then record one { told = told } ∷ before else one ∷ has_told i told before)
+      by : (NewestCall j So before → NewestCall j So (has_progressed i told before)) → (q : Bool) → (one.caller == i) ≡ q
+          → NewestCall j So (if q then record one { told = told } ∷ before else one ∷ has_progressed i told before)
       by rest true e =
           subst (λ (k : Bool). IfElse k (So (record one { told = told })) (NewestCall j So before)) (sym (not_its one.caller e))
           (subst (λ (k : Bool). IfElse k (So one) (NewestCall j So before)) (not_its one.caller e) was)
       by rest false e = on rest (one.caller == j) was
 
-  pub others_got : (calls : List (Called K V)) (answers : List (Call K V × Response V)) → HaveGot j calls answers → HaveGot j (has_told i told calls) answers
+  pub others_got : (calls : List (Called K V)) (answers : List (Call K V × Response V)) → HaveGot j calls answers → HaveGot j (has_progressed i told calls) answers
   others_got [] answers got = got
   others_got (one ∷ before) answers got = by (λ a g. others_got before a g) (one.caller == i) refl
     where
-      newest : ((a : List (Call K V × Response V)) → HaveGot j before a → HaveGot j (has_told i told before) a) → (a : List (Call K V × Response V)) → IsNewestAnswer one (HaveGot j before) a
-          → IsNewestAnswer one (HaveGot j (has_told i told before)) a
+      newest : ((a : List (Call K V × Response V)) → HaveGot j before a → HaveGot j (has_progressed i told before) a) → (a : List (Call K V × Response V)) → IsNewestAnswer one (HaveGot j before) a
+          → IsNewestAnswer one (HaveGot j (has_progressed i told before)) a
       newest rest [] was = was
       newest rest (one_got ∷ a) was = (was.0, was.1, rest a was.2)
 
-      on : ((a : List (Call K V × Response V)) → HaveGot j before a → HaveGot j (has_told i told before) a) → (k : Bool) → IfElse k (IsNewestAnswer one (HaveGot j before) answers) (HaveGot j before answers)
-          → IfElse k (IsNewestAnswer one (HaveGot j (has_told i told before)) answers) (HaveGot j (has_told i told before) answers)
+      on : ((a : List (Call K V × Response V)) → HaveGot j before a → HaveGot j (has_progressed i told before) a) → (k : Bool) → IfElse k (IsNewestAnswer one (HaveGot j before) answers) (HaveGot j before answers)
+          → IfElse k (IsNewestAnswer one (HaveGot j (has_progressed i told before)) answers) (HaveGot j (has_progressed i told before) answers)
       on rest true was = newest rest answers was
       on rest false was = rest answers was
 
       aside : (p : Progress (Node K V)) → (one.caller == i) ≡ true → (is_answer p && (one.caller == j)) ≡ false
       aside p e = ap (λ (k : Bool). is_answer p && k) (not_its one.caller e) ∙ and_false (is_answer p)
 
-      by : ((a : List (Call K V × Response V)) → HaveGot j before a → HaveGot j (has_told i told before) a) → (q : Bool) → (one.caller == i) ≡ q
-          → HaveGot j (if q then record one { told = told } ∷ before else one ∷ has_told i told before) answers
+      by : ((a : List (Call K V × Response V)) → HaveGot j before a → HaveGot j (has_progressed i told before) a) → (q : Bool) → (one.caller == i) ≡ q
+          → HaveGot j (if q then record one { told = told } ∷ before else one ∷ has_progressed i told before) answers
       by rest true e =
           subst (λ (k : Bool). IfElse k (IsNewestAnswer (record one { told = told }) (HaveGot j before) answers) (HaveGot j before answers)) (sym (aside told e))
           (subst (λ (k : Bool). IfElse k (IsNewestAnswer one (HaveGot j before) answers) (HaveGot j before answers)) (aside one.told e) got)

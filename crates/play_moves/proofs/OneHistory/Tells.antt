@@ -11,7 +11,7 @@ use Rattle.run_schedules.specs.Given.RawDeclared.machines.answer.KeyAnswer.TheVa
 use Rattle.run_schedules.specs.Given.RawDeclared.machines.progress.Answer.TheVariants.{Key}
 use Rattle.run_schedules.specs.Given.RawDeclared.machines.progress.Progress.{Progress}
 use Rattle.run_schedules.specs.Given.RawDeclared.machines.progress.Progress.TheVariants.{Done}
-use Rattle.threads_rule.specs.Views.Listed.{Called, has_told, seat_of}
+use Rattle.threads_rule.specs.Views.Listed.{Called, has_progressed, seat_of}
 use Rattle.run_schedules.specs.declared.call.Response.{Response}
 use Rattle.run_schedules.specs.declared.call.Call.{Call}
 use Rattle.run_schedules.specs.declared.call.Call.TheVariants.{On}
@@ -19,7 +19,7 @@ use Rattle.run_schedules.specs.declared.call.OneKey.{OneKey}
 use Rattle.run_schedules.specs.declared.call.OneKey.TheVariants.{Get}
 use Rattle.run_schedules.specs.declared.call.Reply.{Reply}
 use Rattle.run_schedules.specs.Given.SeizeWordsMem.{Mem, value_at}
-use Rattle.run_histories.specs.Histories.Events.{ComesToIt}
+use Rattle.run_histories.specs.Histories.Events.{HasOutcome}
 use Rattle.run_schedules.specs.declared.outcome.Outcome.{Outcome}
 use Rattle.run_schedules.specs.declared.outcome.Outcome.TheVariants.{Answered}
 use Rattle.play_lists.specs.Given.ActsActs.{Wanted}
@@ -46,7 +46,7 @@ module _ {K V : Type 0} (same : K → K → Bool) where
 
   -- what one on a key has told is what it was answered
   abbrev pub SaysSo : Known → Called K V → Outcome V → Type 0
-  SaysSo known one outcome = (key : OneKey K V) → call_for one.wanted ≡ On key → (replies : List (Option ℕ × Reply V)) × ComesToIt known key replies one.told outcome
+  SaysSo known one outcome = (key : OneKey K V) → call_for one.wanted ≡ On key → (replies : List (Option ℕ × Reply V)) × HasOutcome known key replies one.told outcome
 
   -- a call that has ended was answered in the history
   abbrev pub HasAnswered : List (Entry K V) → Called K V → Type 0
@@ -97,7 +97,7 @@ module _ {K V : Type 0} (same : K → K → Bool) where
   EndsAs i m wanted told log e =
       (known : Known) × (value : Option V) × IsItsEnd same i m (call_for wanted) (outcome_of known (kind_of (call_for wanted)) value told) log e
       × ((key : K) (answer : Response V) → call_for wanted ≡ On (Get key) → outcome_of known (kind_of (call_for wanted)) value told ≡ Answered answer → WasSo same i m key answer log e)
-      × ((key : OneKey K V) → call_for wanted ≡ On key → (replies : List (Option ℕ × Reply V)) × ComesToIt known key replies told (outcome_of known (kind_of (call_for wanted)) value told))
+      × ((key : OneKey K V) → call_for wanted ≡ On key → (replies : List (Option ℕ × Reply V)) × HasOutcome known key replies told (outcome_of known (kind_of (call_for wanted)) value told))
 
   -- it is the newest step of its caller's calls
   abbrev pub HasEndedLast : List (Entry K V) → Called K V → Type 0
@@ -134,36 +134,36 @@ module _ {K V : Type 0} (same : K → K → Bool) where
     abbrev Its : ℕ → Call K V → Called K V → Type 0
     Its m call one = (one.map ≡ m) × (call_for one.wanted ≡ call)
 
-    pub called_on : (j m : ℕ) (call : Call K V) (calls : List (Called K V)) → IsCalled j m call calls → IsCalled j m call (has_told i told calls)
+    pub called_on : (j m : ℕ) (call : Call K V) (calls : List (Called K V)) → IsCalled j m call calls → IsCalled j m call (has_progressed i told calls)
     called_on j m call [] is = is
     called_on j m call (one ∷ calls) is = by (λ rest. called_on j m call calls rest) (one.caller == i)
       where
-        then_on : (IsCalled j m call calls → IsCalled j m call (has_told i told calls)) → (q : Bool) → IfElse q (Its m call one) (IsCalled j m call calls)
-            → IfElse q (Its m call one) (IsCalled j m call (has_told i told calls))
+        then_on : (IsCalled j m call calls → IsCalled j m call (has_progressed i told calls)) → (q : Bool) → IfElse q (Its m call one) (IsCalled j m call calls)
+            → IfElse q (Its m call one) (IsCalled j m call (has_progressed i told calls))
         then_on rest true its = its
         then_on rest false its = rest its
 
-        by : (IsCalled j m call calls → IsCalled j m call (has_told i told calls)) → (q : Bool)
-            → IsCalled j m call (if q then record one { told = told } ∷ calls else one ∷ has_told i told calls)
+        by : (IsCalled j m call calls → IsCalled j m call (has_progressed i told calls)) → (q : Bool)
+            → IsCalled j m call (if q then record one { told = told } ∷ calls else one ∷ has_progressed i told calls)
         by rest true = is
         by rest false = then_on rest (one.caller == j) is
 
     pub answered_then : (history : List (Entry K V)) (m : ℕ) (call : Call K V)
         → ((one : Called K V) → one.caller ≡ i → one.map ≡ m → call_for one.wanted ≡ call → HasAnswered history (record one { told = told }))
-        → (calls : List (Called K V)) → IsCalled i m call calls → AllByRecursion (HasAnswered history) calls → AllByRecursion (HasAnswered history) (has_told i told calls)
+        → (calls : List (Called K V)) → IsCalled i m call calls → AllByRecursion (HasAnswered history) calls → AllByRecursion (HasAnswered history) (has_progressed i told calls)
     answered_then history m call new [] is all = tt
     answered_then history m call new (one ∷ calls) is all = by (λ its. answered_then history m call new calls its all.1) (cases_eq one.caller i)
       where
-        by : (IsCalled i m call calls → AllByRecursion (HasAnswered history) (has_told i told calls)) → (one.caller ≡ i) ⊎ (one.caller ≢ i)
-            → AllByRecursion (HasAnswered history) (if one.caller == i then record one { told = told } ∷ calls else one ∷ has_told i told calls)
+        by : (IsCalled i m call calls → AllByRecursion (HasAnswered history) (has_progressed i told calls)) → (one.caller ≡ i) ⊎ (one.caller ≢ i)
+            → AllByRecursion (HasAnswered history) (if one.caller == i then record one { told = told } ∷ calls else one ∷ has_progressed i told calls)
         by rest (inl e) =
             let test = eq-eqb one.caller i e in
             let its = subst (λ (q : Bool). IfElse q (Its m call one) (IsCalled i m call calls)) test is in
-            subst (λ (q : Bool). AllByRecursion (HasAnswered history) (if q then record one { told = told } ∷ calls else one ∷ has_told i told calls)) (sym test) (new one e its.0 its.1, all.1)
+            subst (λ (q : Bool). AllByRecursion (HasAnswered history) (if q then record one { told = told } ∷ calls else one ∷ has_progressed i told calls)) (sym test) (new one e its.0 its.1, all.1)
         by rest (inr ne) =
             let test = ne_eqb one.caller i ne in
             let its = subst (λ (q : Bool). IfElse q (Its m call one) (IsCalled i m call calls)) test is in
-            subst (λ (q : Bool). AllByRecursion (HasAnswered history) (if q then record one { told = told } ∷ calls else one ∷ has_told i told calls)) (sym test) (all.0, rest its)
+            subst (λ (q : Bool). AllByRecursion (HasAnswered history) (if q then record one { told = told } ∷ calls else one ∷ has_progressed i told calls)) (sym test) (all.0, rest its)
 
   -- So a state tells of the calls of a seat.
   pub record Tells {S : Type 0} (seat : ℕ) (x : State K V S) (calls : List (Called K V)) (seen : Option (ℕ × Mem (Node K V))) : Type 0 where

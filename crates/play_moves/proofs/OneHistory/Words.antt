@@ -7,7 +7,7 @@ use Rattle.run_schedules.specs.Given.RawDeclared.machines.progress.Progress.{Pro
 use Rattle.play_linear.proofs.Linear.Comes.{steps_come_so}
 use Rattle.play_linear.proofs.Linear.Heard.{IsHeard}
 use Rattle.play_linear.proofs.Linear.Holds.{Holds}
-use Rattle.run_histories.specs.Histories.InEvent.{ComesSo}
+use Rattle.run_histories.specs.Histories.InEvent.{HasOutcomeSo}
 use Rattle.play_lists.specs.Given.ValuesValues.{KeepsValue}
 use Rattle.play_lists.specs.Given.ScenesHeld.{Held, IsAt}
 use Rattle.play_lists.specs.Given.ScenesScene.{Scene, slot_of}
@@ -50,7 +50,7 @@ module _ {K V S : Type 0} where
   abbrev pub HasWords : State K V S → Type 0
   HasWords x =
       (i : ℕ) (said : Progress (Node K V)) (before : List (Answer K V)) (e : Entry K V) (earlier : List (Entry K V)) (c : UnderWay K V)
-      → x.told ≡ before ++ OfCall said ∷ [] → x.history ≡ e ∷ earlier → e.deed ≡ Steps i → call_of (named i) (moment earlier) ≡ Some c → ComesSo x.known c.call c.replies said e.outcome
+      → x.told ≡ before ++ OfCall said ∷ [] → x.history ≡ e ∷ earlier → e.deed ≡ Steps i → call_of (named i) (moment earlier) ≡ Some c → HasOutcomeSo x.known c.call c.replies said e.outcome
 
   -- where it has told something else there is none
   pub silent : (x : State K V S) (before : List (Answer K V)) (a : Answer K V) → x.told ≡ before ++ a ∷ [] → ((said : Progress (Node K V)) → a ≡ OfCall said → ⊥) → HasWords x
@@ -90,9 +90,9 @@ module _ {K V S : Type 0} (same : K → K → Bool) (by_hasher : S → K → ℕ
       heard : IsHeard (moment x.history) i tied.it.call tied.it.machine tied.it.value
       heard = holds.heard m i tied.it tied.here
 
-      comes : ComesSo known_then heard.there.call heard.there.replies said o
+      comes : HasOutcomeSo known_then heard.there.call heard.there.replies said o
       comes =
-          subst (λ (z : Call K V). ComesSo known_then heard.there.call heard.there.replies said (outcome_of known_then (kind_of z) tied.it.value said)) heard.called
+          subst (λ (z : Call K V). HasOutcomeSo known_then heard.there.call heard.there.replies said (outcome_of known_then (kind_of z) tied.it.value said)) heard.called
           (steps_come_so same hash x.history x.known s old new at holds.shows m i came.call came.here said leads heard.there heard.is tied.it.value
           (subst (λ (z : Machine K V K). KeepsValue heard.there.call heard.there.replies z tied.it.value) tied.machine heard.keeps))
 
@@ -107,9 +107,9 @@ module _ {K V S : Type 0} (same : K → K → Bool) (by_hasher : S → K → ℕ
           let its : heard.there ≡ c =
           same_some heard.there c
           (sym heard.is ∙ ap (λ (k : ℕ). call_of (named k) (moment x.history)) caller ∙ ap (λ (l : List (Entry K V)). call_of (named j) (moment l)) others ∙ there) in
-          subst (λ (z : Outcome V). ComesSo known_then c.call c.replies last z) (ap (λ (z : Entry K V). z.outcome) newest)
-          (subst (λ (z : UnderWay K V). ComesSo known_then z.call z.replies last o) its
-          (subst (λ (p : Progress (Node K V)). ComesSo known_then heard.there.call heard.there.replies p o) one comes))
+          subst (λ (z : Outcome V). HasOutcomeSo known_then c.call c.replies last z) (ap (λ (z : Entry K V). z.outcome) newest)
+          (subst (λ (z : UnderWay K V). HasOutcomeSo known_then z.call z.replies last o) its
+          (subst (λ (p : Progress (Node K V)). HasOutcomeSo known_then heard.there.call heard.there.replies p o) one comes))
 
       steps_say : HasWords y
       steps_say = subst HasWords (sym (tied.comes ∙ ap (λ (p : Progress (Node K V)). call_stepped i m tied.it new.changed x (came.memory, (came.machine, p))) said_is)) words

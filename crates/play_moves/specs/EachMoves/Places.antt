@@ -3,9 +3,9 @@ use Rattle.std.specs.Prelude.{◌≡◌, ℕ, Some}
 use Rattle.play_lists.specs.Given.FinishesMakings.{Beginning}
 use Rattle.play_lists.specs.Given.ScenesScene.{Scene}
 use Rattle.play_lists.specs.Agrees.Places.{ArePlaces}
-use Rattle.run_legal.specs.Given.NeedsFirsts.{ShowsOpenings}
+use Rattle.run_legal.specs.Given.NeedsFirsts.{AllMakingsOpen}
 
 -- Each making that is under way makes a first table for its places.
 pub record OpensFor {K V : Type 0} (s : Scene K V) : Type 0 where
-  pub opens : ShowsOpenings s
+  pub opens : AllMakingsOpen s
   pub places : (i : ℕ) (b : Beginning K) → s.makers i ≡ Some b → ArePlaces b.given b.places

@@ -14,11 +14,11 @@ use Rattle.play_lists.specs.Given.EffectsKnown.{Known}
 use Rattle.play_lists.specs.Given.FinishesMakings.{Beginning}
 use Rattle.play_lists.specs.Given.FindsLife.{StoresOne}
 use Rattle.play_lists.specs.Given.FindsWithin.{AllIsInOrder}
-use Rattle.run_legal.specs.Given.GrowsFinding.{ShowsFinding}
-use Rattle.run_legal.specs.Given.GrowsNexts.{ShowsNexts}
-use Rattle.run_legal.specs.Given.GrowsTries.{ShowsTries}
+use Rattle.run_legal.specs.Given.GrowsFinding.{RefinesFinding}
+use Rattle.run_legal.specs.Given.GrowsNexts.{RefinesNexts}
+use Rattle.run_legal.specs.Given.GrowsTries.{RefinesTries}
 use Rattle.play_lists.specs.Given.ScenesScene.{Scene, slot_of}
-use Rattle.run_legal.specs.Given.SourcesSources.{ShowsSources}
+use Rattle.run_legal.specs.Given.SourcesSources.{RefinesSources}
 use Rattle.play_lists.specs.Agrees.Guards.{CallsHaveGuards, guard_on}
 use Rattle.play_lists.specs.Agrees.Shards.{ShardsAre}
 use Rattle.run_schedules.specs.Deeds.Deeds.{Deed, Entry, Steps, moment, named}
@@ -28,11 +28,11 @@ use Rattle.play_moves.specs.EachMoves.Finds.{FindsIts}
 
 -- For what calls make tables, for which capacities maps were made, and where the pairs lie that calls have in hand; that the map of a copier that makes a table
 -- has a second one, or had one; what calls have met at tries; and from where pairs were copied.
-pub record ShowsSteps {K V : Type 0} (same : K → K → Bool) (log : Past K V) (m : Moment K V) (known : Known) (s : Scene K V) : Type 0 where
-  pub finding : ShowsFinding named m known s
-  pub nexts : ShowsNexts named log m s
-  pub tries : ShowsTries named log m s
-  pub sources : ShowsSources same named m known s
+pub record RefinesSteps {K V : Type 0} (same : K → K → Bool) (log : Past K V) (m : Moment K V) (known : Known) (s : Scene K V) : Type 0 where
+  pub finding : RefinesFinding named m known s
+  pub nexts : RefinesNexts named log m s
+  pub tries : RefinesTries named log m s
+  pub sources : RefinesSources same named m known s
 
 module _ {K V : Type 0} where
   -- all is in order, and was at each moment of the history
@@ -66,5 +66,5 @@ pub record StepsMay {K V : Type 0} (terms : Terms) (history : List (Entry K V)) 
 -- What is so of a history, and of the scene to which acts have led: its entries are swept, those that are steps of calls find what they must, and by what it shows so will the next one.
 pub record HasFound {K V : Type 0} (same : K → K → Bool) (terms : Terms) (history : List (Entry K V)) (known : Known) (s : Scene K V) : Type 0 where
   pub swept : HasSwept same terms history known s
-  pub shows : InOrderSoFar history → ShowsSteps same (past history) (moment history) known s
+  pub shows : InOrderSoFar history → RefinesSteps same (past history) (moment history) known s
   pub each : AtEachEvent (StepFinds terms) history

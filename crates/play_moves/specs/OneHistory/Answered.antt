@@ -33,8 +33,8 @@ module _ {K V : Type 0} where
   ByNewest i So (e ∷ log) = IfElse (is_of i e.deed) (So log e) (ByNewest i So log)
 
 module _ {K V : Type 0} (same : K → K → Bool) where
-  -- By this entry the caller's call comes to its end: it has this call under way on this map, which comes to this; and that is so: an answer is what the call means in the
-  -- finite map of its map at a moment since it began, or what it owes since it changed that.
+  -- By this entry the caller's call terminates: it has this call under way on this map, which comes to this; and that is so: an answer is what the call means
+  -- in the finite map of its map at a moment since it began, or its obligations since it changed that.
   pub record IsItsEnd (i map : ℕ) (call : Call K V) (outcome : Outcome V) (log : List (Entry K V)) (e : Entry K V) : Type 0 where
     pub deed : e.deed ≡ Steps i
     pub comes : e.outcome ≡ outcome

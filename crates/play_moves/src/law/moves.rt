@@ -11,8 +11,8 @@ ghost use Rattle.play_moves.specs.EachMoves.Moves.{ListsMoveOn};
 /// those that its capacity asks for; what is handed over was owed; the end of a map takes its pairs and its tables by place; and who registers asks for the
 /// bucket that it needs. And each entry does what is its own to do, and all of that: it has effects of its kind alone; what is made was asked for in the same
 /// step, and where a growth was refused nothing is made; a map that is made has the one table that was made for it where it has a capacity, and else none;
-/// where its making is refused none was made; once it is there no more it has neither a pair nor a table; and a call that is over, or a walk that is ready,
-/// owes nothing, has nothing made and nothing to count. So it is for any callers, maps, modes and hashes, whatever the memory chose and refused, if each map
+/// where its making is refused none was made; once it is there no more it has neither a pair nor a table; and a call that is over, or a walk that is ready, has
+/// no obligation, has nothing made and nothing to count. So it is for any callers, maps, modes and hashes, whatever the memory chose and refused, if each map
 /// is made with a number that is not taken, with so many shards as the terms say, and with such places as a capacity asks for.
 pub fn lists_move_on<K, V, S>()
     ensures moves { (same : K → K → Bool) (by_hasher : S → K → ℕ) (hash : ℕ → K → ℕ) (batch_size roots : ℕ) (terms : Terms) → ListsMoveOn V same by_hasher hash batch_size roots terms }

@@ -6,9 +6,9 @@ use Rattle.run_schedules.specs.declared.call.Call.{Call}
 use Rattle.run_schedules.specs.declared.call.Call.TheVariants.{On}
 use Rattle.run_schedules.specs.declared.outcome.Outcome.{Outcome}
 use Rattle.run_schedules.specs.declared.outcome.Outcome.TheVariants.{Asks, Ready}
-use Rattle.run_schedules.specs.Schedules.After.{asks_on, comes_to}
+use Rattle.run_schedules.specs.Schedules.After.{asks_on, with_outcome}
 use Rattle.run_schedules.specs.Schedules.Entry.{ends_call}
-use Rattle.run_schedules.specs.Schedules.Moment.{Asking, IsReady, Stands, UnderWay as CallThere, Moment}
+use Rattle.run_schedules.specs.Schedules.Moment.{Asking, IsReady, CallState, UnderWay as CallThere, Moment}
 use Rattle.run_schedules.specs.Schedules.Terms.{Terms}
 use Rattle.run_schedules.specs.Schedules.Views.{call_of}
 use Rattle.owner_whole.specs.Given.CallersTogether.{UnderWay, OnKey}
@@ -22,7 +22,7 @@ use Rattle.run_executor.specs.Given.HandsCalling.{AsksJust}
 use Rattle.run_executor.proofs.Given.MomentsCalls.{calls_come_to_whole}
 use Rattle.play_scheduler.proofs.Given.KeptStays.{calls_come_to_kept}
 use Rattle.play_scheduler.proofs.Given.LoggedCounted.{counted_calls}
-use Rattle.play_scheduler.specs.Played.{StandsFor}
+use Rattle.play_scheduler.specs.Played.{RefinesFor}
 use Rattle.run_executor.specs.Named.Seen.{Seen, far_of, is_named, seen, seen_of}
 use Rattle.run_executor.specs.declared.caller.NamedCaller.{NamedCaller}
 use Rattle.run_executor.specs.declared.caller.Stands.{Stands as HowFar}
@@ -36,12 +36,12 @@ use Rattle.play_scheduler.specs.Given.ScenesScene.{Scene}
 use Rattle.run_executor.specs.Executing.IsThere.{held_by}
 use Rattle.seize_words.proofs.General.{same_some as the}
 
-pub far_ready : (stand : Stands) → far_of stand ≡ far.Ready → stand ≡ IsReady
+pub far_ready : (stand : CallState) → far_of stand ≡ far.Ready → stand ≡ IsReady
 far_ready IsReady e = refl
 far_ready (Asking question) e = absurd (cc e)
 far_ready _ e = absurd (cc e)
 
-module _ {K V S : Type 0} (same : K → K → Bool) (hash : K → ℕ) (terms : Terms) (m : Moment K V) (p : Scheduler K V S) (stands : StandsFor same hash terms m p) (own : List ℕ) (place : ℕ)
+module _ {K V S : Type 0} (same : K → K → Bool) (hash : K → ℕ) (terms : Terms) (m : Moment K V) (p : Scheduler K V S) (stands : RefinesFor same hash terms m p) (own : List ℕ) (place : ℕ)
     (here : Here same hash terms m p stands own place) (outcome : Outcome V) (goes_on : ends_call outcome ≡ false) (counted : ℕ) where
   abbrev s : Scene K V
   s = stands.scene
@@ -53,7 +53,7 @@ module _ {K V S : Type 0} (same : K → K → Bool) (hash : K → ℕ) (terms : 
   calls = p.calls
 
   abbrev change : CallThere K V → CallThere K V
-  change x = comes_to outcome (record x { steps = x.steps + counted })
+  change x = with_outcome outcome (record x { steps = x.steps + counted })
 
   -- of calls of its name nothing else is seen
   module _ (just : (n j : ℕ) (x : UnderWay K V K) → s.calls n j ≡ Some x → is_same (stands.name j) own ≡ true → AsksJust (known p.logged.notes) x outcome)
@@ -67,7 +67,7 @@ module _ {K V S : Type 0} (same : K → K → Bool) (hash : K → ℕ) (terms : 
         so : (x : CallThere K V) (y : NamedCaller V) → find (is_named own) calls ≡ Some y → seen x ≡ seen_of y → seen (change x) ≡ seen_of d
         so x y found it = alike x (it ∙ ap seen_of (the y d (sym found ∙ here.found)))
 
-    pub stands_again : StandsFor same hash terms (come_to own outcome counted m) p
+    pub stands_again : RefinesFor same hash terms (come_to own outcome counted m) p
     stands_again = record {
       name = stands.name;
       scene = s;
@@ -88,17 +88,17 @@ module _ {K V S : Type 0} (same : K → K → Bool) (hash : K → ℕ) (terms : 
       names = stands.names;
     }
 
-module _ {K V S : Type 0} (same : K → K → Bool) (hash : K → ℕ) (terms : Terms) (m : Moment K V) (p : Scheduler K V S) (stands : StandsFor same hash terms m p) (own : List ℕ) (place : ℕ)
+module _ {K V S : Type 0} (same : K → K → Bool) (hash : K → ℕ) (terms : Terms) (m : Moment K V) (p : Scheduler K V S) (stands : RefinesFor same hash terms m p) (own : List ℕ) (place : ℕ)
     (here : Here same hash terms m p stands own place) (counted : ℕ) where
   -- one that asks
-  pub asks_again : (question : Option ℕ) → here.caller.stands ≡ far.Asks question → StandsFor same hash terms (come_to own (Asks question) counted m) p
+  pub asks_again : (question : Option ℕ) → here.caller.stands ≡ far.Asks question → RefinesFor same hash terms (come_to own (Asks question) counted m) p
   asks_again question is = stands_again same hash terms m p stands own place here (Asks question) refl counted just alike
     where
-      alike : (x : CallThere K V) → seen x ≡ seen_of here.caller → seen (comes_to (Asks question) (record x { steps = x.steps + counted })) ≡ seen_of here.caller
+      alike : (x : CallThere K V) → seen x ≡ seen_of here.caller → seen (with_outcome (Asks question) (record x { steps = x.steps + counted })) ≡ seen_of here.caller
       alike x it = by x.stands (far_asks x.stands question (ap (λ (z : Seen). z.far) it ∙ is))
         where
-          by : (stand : Stands) → stand ≡ Asking question → seen (asks_on question (record x { steps = x.steps + counted }) stand) ≡ seen_of here.caller
-          by stand e = subst (λ (y : Stands). seen (asks_on question (record x { steps = x.steps + counted }) y) ≡ seen_of here.caller) (sym e) it
+          by : (stand : CallState) → stand ≡ Asking question → seen (asks_on question (record x { steps = x.steps + counted }) stand) ≡ seen_of here.caller
+          by stand e = subst (λ (y : CallState). seen (asks_on question (record x { steps = x.steps + counted }) y) ≡ seen_of here.caller) (sym e) it
 
       -- a call on one key stands there
       just : (n j : ℕ) (x : UnderWay K V K) → stands.scene.calls n j ≡ Some x → is_same (stands.name j) own ≡ true → AsksJust (known p.logged.notes) x (Asks question)
@@ -125,7 +125,7 @@ module _ {K V S : Type 0} (same : K → K → Bool) (hash : K → ℕ) (terms : 
       just n j _ here_x named_so = tt
 
   -- and one that is ready
-  pub ready_again : here.caller.stands ≡ far.Ready → StandsFor same hash terms (come_to own Ready counted m) p
+  pub ready_again : here.caller.stands ≡ far.Ready → RefinesFor same hash terms (come_to own Ready counted m) p
   ready_again is = stands_again same hash terms m p stands own place here Ready refl counted just
       (λ x it. ap (λ (h : HowFar). record (seen x) { far = h }) (sym is ∙ ap (λ (z : Seen). z.far) (sym it)) ∙ it)
     where

@@ -11,7 +11,7 @@ use Rattle.owner_whole.specs.Given.CallersTogether.{UnderWay, OnKey, ForRoom, Co
 use Rattle.owner_whole.specs.Given.FinishesMachines.{machine_of}
 use Rattle.run_executor.specs.Given.EffectsKnown.{Known}
 use Rattle.play_scheduler.specs.Given.FollowsCalls.{IsCalled}
-use Rattle.run_executor.specs.Given.MomentsWhole.{ShowsWhole}
+use Rattle.run_executor.specs.Given.MomentsWhole.{RefinesWhole}
 use Rattle.run_executor.specs.Named.Machines.{IsAsFar, RefusedForRoom}
 use Rattle.run_executor.specs.Named.Seen.{kind_of}
 use Rattle.run_executor.specs.declared.caller.Stands.TheVariants as far
@@ -23,7 +23,7 @@ use Rattle.play_scheduler.specs.Given.ScenesScene.{Scene}
 use Rattle.run_executor.specs.Given.ScenesStepping.{StepLeads}
 
 module _ {K V : Type 0} (same : K → K → Bool) (hash : ℕ → K → ℕ) (name : ℕ → List ℕ) (m : Moment K V) (known : Known) (s : Scene K V) (old new : Held K V) (at_old : IsAt same hash old s)
-    (whole : ShowsWhole same name m known s) (map i : ℕ) (c : CallThere K V) (c_is : call_of (name i) m ≡ Some c) (its : CallKind) (its_is : kind_of c.call ≡ its) (value : Option V)
+    (whole : RefinesWhole same name m known s) (map i : ℕ) (c : CallThere K V) (c_is : call_of (name i) m ≡ Some c) (its : CallKind) (its_is : kind_of c.call ≡ its) (value : Option V)
     (said : Progress (Node K V)) (leads : StepLeads same hash i said s old new) where
   abbrev Its : (u : UnderWay K V K) → s.calls map i ≡ Some u → Type 0
   Its u under = Says same hash name m known s old new at_old whole map i c c_is its its_is value u under said leads

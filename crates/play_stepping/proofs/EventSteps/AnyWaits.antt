@@ -37,9 +37,9 @@ use Rattle.owner_whole.specs.Given.FinishesMaps.{Standing}
 use Rattle.play_scheduler.specs.Given.FollowsCalls.{IsCalled}
 use Rattle.run_executor.proofs.Given.OthersOutcomes.{told_in}
 use Rattle.play_scheduler.proofs.Given.OwesTables.Hosts.{Step}
-use Rattle.play_scheduler.specs.Played.{StandsFor}
+use Rattle.play_scheduler.specs.Played.{RefinesFor}
 use Rattle.play_scheduler.specs.declared.scheduler.Scheduler.{Scheduler}
-use Rattle.run_grows.proofs.Quiet.LookSays.{key_waits, never_waits}
+use Rattle.run_sweeps.proofs.Quiet.LookSays.{key_waits, never_waits}
 use Rattle.play_stepping.proofs.EventSteps.RoomsWait.{SaysWaits, room_says, sweep_says}
 use Rattle.play_stepping.proofs.EventSteps.WaitsFor.{quiet, waits_so}
 use Rattle.play_scheduler.proofs.Given.ScenesMay.{standing_is}
@@ -49,7 +49,7 @@ use Rattle.run_executor.specs.Given.ScenesHeld.{Held}
 use Rattle.owner_whole.proofs.Lowers.Waits.{swept_waits as sweep_waits, outcome_waits as room_waits}
 use Rattle.seize_words.proofs.General.{same_some as the}
 
-module _ {K V S : Type 0} (same : K → K → Bool) (hash : K → ℕ) (terms : Terms) (m : Moment K V) (p : Scheduler K V S) (stands : StandsFor same hash terms m p) (own : List ℕ) (of i : ℕ)
+module _ {K V S : Type 0} (same : K → K → Bool) (hash : K → ℕ) (terms : Terms) (m : Moment K V) (p : Scheduler K V S) (stands : RefinesFor same hash terms m p) (own : List ℕ) (of i : ℕ)
     (x : UnderWay K V K) (under : stands.scene.calls of i ≡ Some x) (named : stands.name i ≡ own) (new : Held K V) (next : Machine K V K)
     (step : StepsFrom same hash (machine_of x) (held_by p.logged.executor) new next progress.Waits) (c : CallThere K V) (c_is : call_of own m ≡ Some c) where
   abbrev its : (d : CallThere K V) × (call_of (stands.name i) m ≡ Some d) × (d.map ≡ of) × IsCalled same x d.call

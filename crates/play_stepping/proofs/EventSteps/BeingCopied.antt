@@ -13,16 +13,16 @@ use Rattle.run_schedules.specs.Schedules.Views.{finite_map, first_of}
 use Rattle.run_schedules.specs.Schedules.Waiting.{is_to_be_copied}
 use Rattle.run_executor.specs.Given.EffectsKnown.{known}
 use Rattle.owner_whole.specs.Given.FinishesMaps.{Standing}
-use Rattle.play_scheduler.specs.Given.FollowsMaps.{ShowsPairs}
+use Rattle.play_scheduler.specs.Given.FollowsMaps.{RefinesPairs}
 use Rattle.run_executor.specs.Given.ChangesHad.{Had, HadJust}
 use Rattle.run_executor.proofs.Given.ChangesNow.{now_had}
-use Rattle.play_scheduler.specs.Played.{StandsFor}
+use Rattle.play_scheduler.specs.Played.{RefinesFor}
 use Rattle.play_scheduler.specs.declared.scheduler.Scheduler.{Scheduler}
 use Rattle.play_stepping.proofs.EventSteps.Waiting.{chain_longer, first_as}
 use Rattle.play_scheduler.specs.Given.ScenesScene.{slot_of}
 use Rattle.seize_words.proofs.General.{at_most_true as upto, and_true as both_true}
 
-module _ {K V S : Type 0} (same : K → K → Bool) (hash : K → ℕ) (terms : Terms) (m : Moment K V) (p : Scheduler K V S) (stands : StandsFor same hash terms m p) (of : ℕ)
+module _ {K V S : Type 0} (same : K → K → Bool) (hash : K → ℕ) (terms : Terms) (m : Moment K V) (p : Scheduler K V S) (stands : RefinesFor same hash terms m p) (of : ℕ)
     (st : Standing K) (is : stands.scene.maps of ≡ Some st) where
   abbrev w : World (Node K V)
   w = stands.scene.world
@@ -34,7 +34,7 @@ module _ {K V S : Type 0} (same : K → K → Bool) (hash : K → ℕ) (terms : 
   abbrev number : ℕ → ℕ
   number = stands.shown.shows.all.shown.number of
 
-  pairs : ShowsPairs of number st m (known p.logged.notes)
+  pairs : RefinesPairs of number st m (known p.logged.notes)
   pairs = (stands.shown.shows.all.shown.maps of st is).pairs
 
   lawful : AreLawful same st.hash

@@ -30,11 +30,11 @@ use Rattle.owner_whole.specs.Given.PointsSteps.{AreLawful}
 use Rattle.owner_whole.specs.Given.PointsTold.{IsRowOfCall, IsRowOfCopier}
 use Rattle.owner_whole.specs.Given.LateFactsReserves.{CopiesWhole, IsEnding, ReservingFacts}
 use Rattle.owner_whole.specs.Given.LateFactsSweeps.{SweepingFacts}
-use Rattle.owner_whole.specs.Given.LateLateCalls.{LateCallFacts}
-use Rattle.owner_whole.specs.Given.LateLateCopies.{LateCopierFacts, LateCopying}
+use Rattle.owner_whole.specs.Given.LateLateCalls.{SupersededCallFacts}
+use Rattle.owner_whole.specs.Given.LateLateCopies.{SupersededCopierFacts, SupersededCopying}
 use Rattle.owner_whole.specs.Given.LateToldReserves.{IsRowOfReserve}
 use Rattle.owner_whole.specs.Given.LateToldSweeps.{IsRowOfSweep}
-use Rattle.owner_whole.specs.Given.CallersSights.{IsSight, seen_by}
+use Rattle.owner_whole.specs.Given.CallersSights.{IsVisibility, seen_by}
 use Rattle.owner_whole.specs.Given.CallersTogether.{CallOnKey, UnderWay, UnlessCounts, OnKey, ForRoom, Counting, OverAll, Together, in_slot}
 use Rattle.owner_whole.proofs.Given.WaitsAwaited.{HasOther}
 use Rattle.owner_whole.proofs.Given.WaitsClaimed.{chosen}
@@ -54,7 +54,7 @@ use Rattle.play_scheduler.specs.Given.OwesLooking.{IsLooking}
 use Rattle.play_scheduler.specs.Given.SettlesHand.{in_hand, in_hand_of_call, in_hand_of_room, in_hand_of_sweep, tables_in_hand}
 use Rattle.play_scheduler.proofs.Given.SettlesPassed.{numbered, passed_first, tables_named}
 use Rattle.run_schedules.specs.Schedules.Effects.{passed}
-use Rattle.play_scheduler.specs.Played.{StandsFor}
+use Rattle.play_scheduler.specs.Played.{RefinesFor}
 use Rattle.play_scheduler.specs.declared.scheduler.Scheduler.{Scheduler}
 use Rattle.play_stepping.proofs.EventSteps.Waiting.{IsForResizes, owing_hands, waits_for_copier, waits_for_handing}
 use Rattle.owner_whole.proofs.Given.WaitsWorks.{OnlyLooks, works}
@@ -110,7 +110,7 @@ module _ (by : Known) (q : Copier) where
   hand_of (OverAll o) e = sweep_hand o.sweep.stands e
   hand_of (Counting sum) e = absurd (cc e)
 
-module _ {K V S : Type 0} (same : K → K → Bool) (hash : K → ℕ) (terms : Terms) (m : Moment K V) (p : Scheduler K V S) (stands : StandsFor same hash terms m p) (of : ℕ)
+module _ {K V S : Type 0} (same : K → K → Bool) (hash : K → ℕ) (terms : Terms) (m : Moment K V) (p : Scheduler K V S) (stands : RefinesFor same hash terms m p) (of : ℕ)
     (st : Standing K) (is : stands.scene.maps of ≡ Some st) where
   abbrev w : World (Node K V)
   w = stands.scene.world
@@ -149,7 +149,7 @@ module _ {K V S : Type 0} (same : K → K → Bool) (hash : K → ℕ) (terms : 
     abbrev its_setting : Setting
     its_setting = in_slot st.setting (slot_of i)
 
-    its_sight : IsInside (w.uses (slot_of i)) → IsSight st.chart st.blocks (st.sights (slot_of i))
+    its_sight : IsInside (w.uses (slot_of i)) → IsVisibility st.chart st.blocks (st.sights (slot_of i))
     its_sight inside = (all_together.ground.sight (slot_of i) inside).0
 
     -- a table of its sight is noted as one of the map
@@ -188,7 +188,7 @@ module _ {K V S : Type 0} (same : K → K → Bool) (hash : K → ℕ) (terms : 
 
         key_facts : (u : CallOnKey K V K) → copier_in u.call.stands ≡ Some q
             → CallFacts same hash same w i its_setting st.chart seen u.keys u.change u.call
-            ⊎ ((u.change ≡ Unchanged) × LateCallFacts same hash same w i its_setting st.chart seen u.keys u.began u.call) → Knows
+            ⊎ ((u.change ≡ Unchanged) × SupersededCallFacts same hash same w i its_setting st.chart seen u.keys u.began u.call) → Knows
         key_facts u e (inl fresh) = key_knows u u.call.stands e fresh.point
         key_facts u e (inr (same_change, late)) = absurd (let blocking = late.blocking in cc (mode, blocking))
 
@@ -242,10 +242,10 @@ module _ {K V S : Type 0} (same : K → K → Bool) (hash : K → ℕ) (terms : 
         by : CopyingFactsBlocking same hash w k (in_slot st.setting (slot_of k)) st.chart (seen_by st.blocks (st.sights (slot_of k))) q copies.Announces → Unlinked
         by (s, source, unlinked) = (s, st.chart.first, unlinked.0, source, ap (λ (y : Table). y.turn) unlinked.1.is)
 
-    at_last : (began : ℕ) → LateCopierFacts same hash w k (in_slot st.setting (slot_of k)) st.chart (seen_by st.blocks (st.sights (slot_of k))) began q → Unlinked
-    at_last began facts = by (subst (λ (s : Copying). LateCopying same hash w k (in_slot st.setting (slot_of k)) st.chart (seen_by st.blocks (st.sights (slot_of k))) began q s) here facts.point)
+    at_last : (began : ℕ) → SupersededCopierFacts same hash w k (in_slot st.setting (slot_of k)) st.chart (seen_by st.blocks (st.sights (slot_of k))) began q → Unlinked
+    at_last began facts = by (subst (λ (s : Copying). SupersededCopying same hash w k (in_slot st.setting (slot_of k)) st.chart (seen_by st.blocks (st.sights (slot_of k))) began q s) here facts.point)
       where
-        by : LateCopying same hash w k (in_slot st.setting (slot_of k)) st.chart (seen_by st.blocks (st.sights (slot_of k))) began q copies.Announces → Unlinked
+        by : SupersededCopying same hash w k (in_slot st.setting (slot_of k)) st.chart (seen_by st.blocks (st.sights (slot_of k))) began q copies.Announces → Unlinked
         by (s, t, source, unlinked) = (s, t, unlinked.0, source, ap (λ (y : Table). y.turn) unlinked.1.is)
 
     unlinked : Unlinked

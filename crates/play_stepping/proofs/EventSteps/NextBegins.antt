@@ -19,11 +19,11 @@ use Rattle.owner_whole.proofs.Given.CallersTogether.At.{at_other, at_same}
 use Rattle.owner_whole.specs.Given.FinishesMachines.{machine_of}
 use Rattle.owner_whole.specs.Given.FinishesMaps.{Standing}
 use Rattle.play_scheduler.proofs.Given.FollowsCalling.{is_same_refl}
-use Rattle.play_scheduler.specs.Given.LoggedCalling.{WalkGoesOn}
+use Rattle.play_scheduler.specs.Given.LoggedCalling.{WalkContinues}
 use Rattle.play_scheduler.specs.Given.LoggedShown.{IsShown}
 use Rattle.play_scheduler.specs.Given.LoggedDeclared.logged.Logged.{Logged}
 use Rattle.run_executor.specs.Named.Machines.{IsAsFar, IsFor}
-use Rattle.play_scheduler.specs.Played.{IsUnderWay, IsUnderWayAs, StandsAs, StandsFor}
+use Rattle.play_scheduler.specs.Played.{IsUnderWay, IsUnderWayAs, RefinesAs, RefinesFor}
 use Rattle.run_executor.specs.Named.Seen.{is_named}
 use Rattle.play_stepping.specs.EventSteps.Stepping.{IsWalking, WalksFar}
 use Rattle.run_executor.specs.declared.caller.NamedCaller.{NamedCaller}
@@ -35,7 +35,7 @@ use Rattle.play_scheduler.specs.declared.scheduler.Scheduler.{Scheduler}
 use Rattle.play_scheduler.proofs.Given.RowsFacts.{no_ending_of, no_making_of, no_work_at, row_rests, used_still}
 use Rattle.play_scheduler.proofs.Here.{Here}
 use Rattle.play_scheduler.proofs.Given.RowsLists.{set_all, set_itself}
-use Rattle.run_grows.proofs.Quiet.Sweeps.{walks_at}
+use Rattle.run_sweeps.proofs.Quiet.Sweeps.{walks_at}
 use Rattle.play_scheduler.proofs.Given.ScenesMay.{standing_is}
 use Rattle.run_executor.specs.Executing.IsThere.{held_by, work_of}
 use Rattle.play_scheduler.specs.Given.ScenesReplying.{scene_with}
@@ -56,7 +56,7 @@ asked_walks K V sweep walks ready = subst (λ (x : Sweeping). IsWalking {K = K} 
     by true = (walks, inl (refl, omega arith))
     by false = (walks, inr (refl, refl))
 
-module _ {K V S : Type 0} (same : K → K → Bool) (hash : K → ℕ) (terms : Terms) (m : Moment K V) (p : Scheduler K V S) (stands : StandsFor same hash terms m p) (own : List ℕ) (place : ℕ)
+module _ {K V S : Type 0} (same : K → K → Bool) (hash : K → ℕ) (terms : Terms) (m : Moment K V) (p : Scheduler K V S) (stands : RefinesFor same hash terms m p) (own : List ℕ) (place : ℕ)
     (here : Here same hash terms m p stands own place) (ready : here.caller.stands ≡ far.Ready) where
   abbrev s : Scene K V
   s = stands.scene
@@ -98,7 +98,7 @@ module _ {K V S : Type 0} (same : K → K → Bool) (hash : K → ℕ) (terms : 
   pub has_walk : HasCall s i
   has_walk = (d.map, u, under)
 
-  module _ (was_ready : Bool) (new : Logged K V S) (leads : WalkGoesOn same hash stands.name m s i was_ready p.logged new) where
+  module _ (was_ready : Bool) (new : Logged K V S) (leads : WalkContinues same hash stands.name m s i was_ready p.logged new) where
     ready_is : was_ready ≡ true
     ready_is = (leads d.map u under).0 ∙ (its_walk u refl).0
 
@@ -168,7 +168,7 @@ module _ {K V S : Type 0} (same : K → K → Bool) (hash : K → ℕ) (terms : 
             no_work_at same hash new.executor then_at to.2.is_at j none (no_making_of same hash p.logged.executor s at_s j before) (no_ending_of same hash p.logged.executor s at_s j before)
             (row_rests same hash p.logged.executor s at_s j before)
 
-    pub walk_begins : StandsAs (WalksFar own 0) same hash terms m (record p { logged = new })
+    pub walk_begins : RefinesAs (WalksFar own 0) same hash terms m (record p { logged = new })
     walk_begins = record {
       name = stands.name;
       scene = then_at;

@@ -17,13 +17,13 @@ use Rattle.run_schedules.specs.declared.effect.Effect.{Effect}
 use Rattle.run_schedules.specs.declared.event.Event.TheVariants.{Next}
 use Rattle.run_schedules.specs.declared.outcome.Outcome.{Outcome}
 use Rattle.run_schedules.specs.declared.outcome.Outcome.TheVariants.{Answered, Refused, Shows}
-use Rattle.run_schedules.specs.Schedules.After.{comes_to, is_alone_on, moment, slots_on}
+use Rattle.run_schedules.specs.Schedules.After.{with_outcome, is_alone_on, moment, slots_on}
 use Rattle.run_schedules.specs.Schedules.Coming.{shows_now}
 use Rattle.run_schedules.specs.Schedules.Effects.{with_effects}
 use Rattle.run_schedules.specs.Schedules.Entry.{Entry}
 use Rattle.run_schedules.specs.Schedules.InTurn.{IsNext}
-use Rattle.run_schedules.specs.Schedules.Moment.{Stands, UnderWay as CallThere, Moment}
-use Rattle.run_schedules.specs.Schedules.Steps.{MakesSteps, stands_or, weight}
+use Rattle.run_schedules.specs.Schedules.Moment.{CallState, UnderWay as CallThere, Moment}
+use Rattle.run_schedules.specs.Schedules.Steps.{MakesSteps, state_or, weight}
 use Rattle.run_schedules.specs.Schedules.Terms.{Terms}
 use Rattle.run_schedules.specs.Schedules.Views.{call_of}
 use Rattle.owner_whole.specs.Given.LateFaults.{RoomInSweeping}
@@ -31,7 +31,7 @@ use Rattle.owner_whole.specs.Given.CallersTogether.{UnderWay}
 use Rattle.run_executor.specs.Given.EffectsKnown.{Known, known}
 use Rattle.owner_whole.specs.Given.FinishesMachines.{machine_of}
 use Rattle.play_scheduler.specs.Given.FollowsCalling.{come_to}
-use Rattle.play_scheduler.specs.Given.LoggedCalling.{CallGoesOn, WalkGoesOn, step_did}
+use Rattle.play_scheduler.specs.Given.LoggedCalling.{CallContinues, WalkContinues, step_did}
 use Rattle.play_scheduler.specs.Given.LoggedShown.{IsShown}
 use Rattle.play_scheduler.specs.Given.LoggedDeclared.logged.Logged.{Logged}
 use Rattle.play_scheduler.proofs.Given.KeptStays.{calls_come_to_kept}
@@ -39,23 +39,23 @@ use Rattle.run_executor.proofs.Given.MomentsCalls.{calls_come_to_whole}
 use Rattle.play_scheduler.proofs.Given.RemainsStays.{remains_stay}
 use Rattle.play_scheduler.proofs.Given.LoggedCounted.{counted_calls}
 use Rattle.run_executor.specs.Named.Machines.{IsFor}
-use Rattle.play_scheduler.specs.Played.{AsFar, IsDue, StandsAs, StandsFor}
+use Rattle.play_scheduler.specs.Played.{AsFar, IsInTurn, RefinesAs, RefinesFor}
 use Rattle.run_executor.specs.Named.Seen.{Seen, is_named, is_ready as is_ready_there, ready_place, seen, seen_of}
-use Rattle.play_scheduler.specs.Quiet.{IsQuiet}
+use Rattle.play_scheduler.specs.Quiet.{BusyIsSilent}
 use Rattle.play_stepping.specs.EventSteps.Stepping.{IsMidWalk, IsPlaced, IsStepOf, PlaysNext, ReadyAt, WalkComes, WalksFar}
-use Rattle.run_grows.specs.Says.{callers_then, outcome_of}
+use Rattle.run_sweeps.specs.Says.{callers_then, outcome_of}
 use Rattle.run_executor.specs.Named.Telling.{answer_of, number_by, swept}
 use Rattle.run_executor.specs.declared.caller.NamedCaller.{NamedCaller}
 use Rattle.run_executor.specs.declared.caller.Stands.{Stands as HowFar}
 use Rattle.run_executor.specs.declared.caller.Stands.TheVariants as far
 use Rattle.run_executor.specs.declared.kind.CallKind.{CallKind}
 use Rattle.play_scheduler.specs.declared.scheduler.Scheduler.{Scheduler}
-use Rattle.run_grows.proofs.Quiet.AfterEffects.{closed_stays, mapped_stays}
+use Rattle.play_stepping.proofs.EventSteps.AfterEffects.{closed_stays, mapped_stays}
 use Rattle.play_scheduler.proofs.Here.{Here, HereAs, here_at}
 use Rattle.play_scheduler.proofs.Given.RowsLists.{changed_at, removed_at}
 use Rattle.play_stepping.proofs.EventSteps.NextBegins.{has_walk, walk_begins}
 use Rattle.play_stepping.proofs.EventSteps.NextOn.{alike, all_did, follows_all, goes_as_said, here, idle_all, is_ready, its_place, its_sweep, its_walk, leads_is, last_did, midst_w, saying, shown, then_at, then_next, under_way}
-use Rattle.run_grows.proofs.Quiet.NextSays.{NextSays}
+use Rattle.run_sweeps.proofs.Quiet.NextSays.{NextSays}
 use Rattle.play_stepping.proofs.EventSteps.OneStep.{over_next}
 use Rattle.play_stepping.proofs.EventSteps.PlaysAgain.{busy_stands}
 use Rattle.play_stepping.proofs.EventSteps.PlaysSteps.{stands_elsewhere}
@@ -68,7 +68,7 @@ use Rattle.play_scheduler.proofs.Stopped.{ready_parts, shows_by, shows_is}
 use Rattle.play_scheduler.specs.Given.ScenesScene.{HasCall}
 use Rattle.seize_words.proofs.General.{same_some as the}
 
-module _ {K V S : Type 0} (same : K → K → Bool) (hash : K → ℕ) (terms : Terms) (own : List ℕ) (n : ℕ) (w : Moment K V) (p : Scheduler K V S) (stands : StandsAs (WalksFar own n) same hash terms w p)
+module _ {K V S : Type 0} (same : K → K → Bool) (hash : K → ℕ) (terms : Terms) (own : List ℕ) (n : ℕ) (w : Moment K V) (p : Scheduler K V S) (stands : RefinesAs (WalksFar own n) same hash terms w p)
     (place : ℕ) (at_place : ReadyAt own place p) where
   abbrev its : HereAs (WalksFar own n) same hash terms w p stands own place
   its = here same hash terms own n w p stands place at_place
@@ -80,7 +80,7 @@ module _ {K V S : Type 0} (same : K → K → Bool) (hash : K → ℕ) (terms : 
   calls = p.calls
 
   abbrev Leads : Progress (Node K V) → Logged K V S → (before after : List Effect) → Type 0
-  Leads said new before after = CallGoesOn same hash stands.name w stands.scene d.number d.map said before after p.logged new
+  Leads said new before after = CallContinues same hash stands.name w stands.scene d.number d.map said before after p.logged new
 
   -- others are as far as they say
   others : (x : NamedCaller V) → is_named own x ≡ false → (machine : Machine K V K) → WalksFar own n x machine → AsFar x machine
@@ -98,7 +98,7 @@ module _ {K V S : Type 0} (same : K → K → Bool) (hash : K → ℕ) (terms : 
 
     -- it shows a pair, and is ready
     shows_pair : (word : ℕ) → Leads (progress.Pair word) new before after → callers ≡ callers_then {K = K} by place d (progress.Pair word) calls
-        → StandsFor same hash terms (come_to own (Shows (number_by by word)) counted w2) p2
+        → RefinesFor same hash terms (come_to own (Shows (number_by by word)) counted w2) p2
     shows_pair word leads_so items =
         going_on (WalksFar own n) AsFar own others same hash terms w p stands place its (progress.Pair word) new (leads_so its.way.0 its.way.1).0
         (come_to own (Shows (number_by by word)) counted w2) shown_told (there_stays (Some own) (Some d.map) (step_did same hash stands.name w stands.scene d.number d.map p.logged new) w)
@@ -121,7 +121,7 @@ module _ {K V S : Type 0} (same : K → K → Bool) (hash : K → ℕ) (terms : 
             )
 
         change : CallThere K V → CallThere K V
-        change x = comes_to (Shows (number_by by word)) (record x { steps = x.steps + counted })
+        change x = with_outcome (Shows (number_by by word)) (record x { steps = x.steps + counted })
 
         listed : map seen (come_to own (Shows (number_by by word)) counted w2).calls ≡ map seen_of (slice_set calls place (record d { stands = far.Ready; value = d.value }))
         listed =
@@ -145,7 +145,7 @@ module _ {K V S : Type 0} (same : K → K → Bool) (hash : K → ℕ) (terms : 
 
     -- it has shown all, and is under way no more
     shows_none : Leads (progress.Done answers.Swept) new before after → callers ≡ callers_then {K = K} by place d (progress.Done answers.Swept) calls
-        → StandsFor same hash terms (come_to own (Answered (answer_of by d.kind d.value answers.Swept)) counted w2) p2
+        → RefinesFor same hash terms (come_to own (Answered (answer_of by d.kind d.value answers.Swept)) counted w2) p2
     shows_none leads_so items =
         has_gone (WalksFar own n) AsFar own others same hash terms w p stands place its (progress.Done answers.Swept) new (leads_so its.way.0 its.way.1).0
         (come_to own answer counted w2) shown_told (there_stays (Some own) (Some d.map) (step_did same hash stands.name w stands.scene d.number d.map p.logged new) w)
@@ -181,7 +181,7 @@ module _ {K V S : Type 0} (same : K → K → Bool) (hash : K → ℕ) (terms : 
     -- what it comes to
     pub record Ends (said : Progress (Node K V)) : Type 0 where
       pub is_next : IsNext (outcome_of by d.kind d.value said)
-      pub stands_told : StandsFor same hash terms (come_to own (outcome_of by d.kind d.value said) counted w2) p2
+      pub stands_told : RefinesFor same hash terms (come_to own (outcome_of by d.kind d.value said) counted w2) p2
 
     pub walk_ends : (said : Progress (Node K V)) → (said ≡ progress.Goes → ⊥) → Leads said new before after → callers ≡ callers_then by place d said calls → Ends said
     walk_ends said never leads_so items =
@@ -198,17 +198,17 @@ module _ {K V S : Type 0} (same : K → K → Bool) (hash : K → ℕ) (terms : 
         of _ fails l it after_it so = absurd so
 
 module _ (K V : Type 0) where
-  makes_next : (own : List ℕ) (stand : Stands) (steps : ℕ) (o : Outcome V) → IsNext o → 1 ≤ steps → MakesSteps {K = K} {V = V} (Next own) stand steps o
+  makes_next : (own : List ℕ) (stand : CallState) (steps : ℕ) (o : Outcome V) → IsNext o → 1 ≤ steps → MakesSteps {K = K} {V = V} (Next own) stand steps o
   makes_next own stand steps (Shows pair) is some = some
   makes_next own stand steps (Answered Absent) is some = some
   makes_next own stand steps _ is some = absurd is
 
-  next_quiet : (effects : List Effect) (o : Outcome V) → IsNext o → IsQuiet o effects
+  next_quiet : (effects : List Effect) (o : Outcome V) → IsNext o → BusyIsSilent o effects
   next_quiet effects (Shows pair) is = tt
   next_quiet effects (Answered Absent) is = tt
   next_quiet effects _ is = absurd is
 
-module _ {K V S : Type 0} (same : K → K → Bool) (hash : K → ℕ) (terms : Terms) (log : List (Entry K V)) (own : List ℕ) (old : Scheduler K V S) (due : IsDue same hash terms log (Next own) old) where
+module _ {K V S : Type 0} (same : K → K → Bool) (hash : K → ℕ) (terms : Terms) (log : List (Entry K V)) (own : List ℕ) (old : Scheduler K V S) (due : IsInTurn same hash terms log (Next own) old) where
   abbrev m : Moment K V
   m = moment log
 
@@ -239,15 +239,15 @@ module _ {K V S : Type 0} (same : K → K → Bool) (hash : K → ℕ) (terms : 
     pub next_may : HasCall due.played.scene asked_here.caller.number
     next_may = has_walk same hash terms m old due.played own place asked_here asked_ready
 
-    pub next_asked : (was_ready : Bool) (new : Logged K V S) → WalkGoesOn same hash due.played.name m due.played.scene asked_here.caller.number was_ready old.logged new
-        → StandsAs (WalksFar own 0) same hash terms m (record old { logged = new })
+    pub next_asked : (was_ready : Bool) (new : Logged K V S) → WalkContinues same hash due.played.name m due.played.scene asked_here.caller.number was_ready old.logged new
+        → RefinesAs (WalksFar own 0) same hash terms m (record old { logged = new })
     next_asked was_ready new leads = walk_begins same hash terms m old due.played own place asked_here asked_ready was_ready new leads
 
     pub next_ready : (new : Logged K V S) → ReadyAt own place (record old { logged = new })
     next_ready new = (parts.0, asked_here.caller, asked_here.at, asked_ready)
 
   -- the walk was asked, has taken steps, and its caller is told
-  module _ (place : ℕ) (asked : Scheduler K V S) (stands : StandsAs (WalksFar own 0) same hash terms m asked) (at_place : ReadyAt own place asked) (steps : ℕ) (said : Progress (Node K V))
+  module _ (place : ℕ) (asked : Scheduler K V S) (stands : RefinesAs (WalksFar own 0) same hash terms m asked) (at_place : ReadyAt own place asked) (steps : ℕ) (said : Progress (Node K V))
       (effects : List Effect) (walked : Scheduler K V S) (comes : WalkComes same hash place steps said [] effects asked walked) where
     abbrev n : ℕ
     n = comes.1
@@ -305,12 +305,12 @@ module _ {K V S : Type 0} (same : K → K → Bool) (hash : K → ℕ) (terms : 
       abbrev last_w : Moment K V
       last_w = w2 same hash terms own n (midst_w same hash terms own place m n [] mid effects p walked midst) p midst.stands place midst.ready walked.logged mid effects callers steps
 
-      stands_told : StandsFor same hash terms (come_to own outcome steps w) then_new
+      stands_told : RefinesFor same hash terms (come_to own outcome steps w) then_new
       stands_told =
-          subst (λ (x : Scheduler K V S). StandsFor same hash terms (come_to own outcome steps w) (record x { calls = callers })) (sym step.rest)
-          (subst (λ (x : Moment K V). StandsFor same hash terms (come_to own outcome steps x) (record p { logged = walked.logged; calls = callers }))
+          subst (λ (x : Scheduler K V S). RefinesFor same hash terms (come_to own outcome steps w) (record x { calls = callers })) (sym step.rest)
+          (subst (λ (x : Moment K V). RefinesFor same hash terms (come_to own outcome steps x) (record p { logged = walked.logged; calls = callers }))
           (all_did same hash terms own place m n [] mid effects p walked midst said step ∙ worked_is)
-          (subst (λ (o : Outcome V). StandsFor same hash terms (come_to own o steps last_w) (record p { logged = walked.logged; calls = callers })) outcome_is ends.stands_told))
+          (subst (λ (o : Outcome V). RefinesFor same hash terms (come_to own o steps last_w) (record p { logged = walked.logged; calls = callers })) outcome_is ends.stands_told))
 
       is_next : IsNext outcome
       is_next = subst (λ (o : Outcome V). IsNext o) outcome_is ends.is_next
@@ -327,7 +327,7 @@ module _ {K V S : Type 0} (same : K → K → Bool) (hash : K → ℕ) (terms : 
                 w.sheltered m.remains (sym (mapped_stays (Some own) (option_map (λ x. x.map) (call_of own m)) effects m)) (sym (closed_stays (Some own) (option_map (λ x. x.map) (call_of own m)) effects m)) refl
                 (sym (remains_stay (Some own) (option_map (λ x. x.map) (call_of own m)) effects m)));
             idle = idle;
-            makes = makes_next K V own (stands_or (call_of own m)) steps outcome is_next (let more = comes.2 in omega (arith, more));
+            makes = makes_next K V own (state_or (call_of own m)) steps outcome is_next (let more = comes.2 in omega (arith, more));
             does = subst (λ (l : List Effect). sum_by weight l ≤ steps) (sym idle) (omega arith);
             waits = waits_never same w outcome (λ e. subst (λ (o : Outcome V). IsNext o) e is_next) (call_of own w);
             is_quiet = next_quiet K V effects outcome is_next;

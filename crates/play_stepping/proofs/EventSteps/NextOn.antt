@@ -25,26 +25,26 @@ use Rattle.owner_whole.specs.Given.FinishesMaps.{Standing}
 use Rattle.run_executor.specs.Given.EffectsDeclared.changed.Changed.TheVariants.{Nothing}
 use Rattle.play_scheduler.proofs.Given.FollowsCalling.{is_same_refl}
 use Rattle.run_executor.proofs.Given.HandsReplacing.{calls_after}
-use Rattle.play_scheduler.specs.Given.LoggedCalling.{CallGoesOn, step_did}
+use Rattle.play_scheduler.specs.Given.LoggedCalling.{CallContinues, step_did}
 use Rattle.play_scheduler.specs.Given.LoggedShown.{IsShown}
 use Rattle.play_scheduler.specs.Given.LoggedDeclared.logged.Logged.{Logged}
 use Rattle.run_executor.proofs.Given.MomentsAfter.{effects_after}
-use Rattle.play_scheduler.specs.Played.{StandsAs}
+use Rattle.play_scheduler.specs.Played.{RefinesAs}
 use Rattle.run_executor.specs.Named.Seen.{Seen, seen, seen_of}
 use Rattle.play_stepping.specs.EventSteps.Stepping.{IsMidWalk, IsStepOf, IsWalking, ReadyAt, WalksFar}
 use Rattle.run_executor.specs.declared.caller.NamedCaller.{NamedCaller}
 use Rattle.run_executor.specs.declared.caller.Stands.TheVariants as far
 use Rattle.run_executor.specs.declared.kind.CallKind.TheVariants as kind
 use Rattle.play_scheduler.specs.declared.scheduler.Scheduler.{Scheduler}
-use Rattle.run_grows.proofs.Quiet.AfterEffects.{calls_seen, closed_stays, mapped_stays}
+use Rattle.play_stepping.proofs.EventSteps.AfterEffects.{calls_seen, closed_stays, mapped_stays}
 use Rattle.play_scheduler.proofs.Here.{HereAs, here_as_at}
 use Rattle.play_scheduler.proofs.Given.RowsLists.{set_itself}
-use Rattle.run_grows.proofs.Quiet.NextSays.{IsNextSaying, NextSays, over_idle, over_says, words_idle, words_say}
+use Rattle.run_sweeps.proofs.Quiet.NextSays.{IsNextSaying, NextSays, over_idle, over_says, words_idle, words_say}
 use Rattle.play_stepping.proofs.EventSteps.OneStep.{goes_next}
 use Rattle.play_scheduler.proofs.RanOn.{maps_named, there_stays}
 use Rattle.play_stepping.proofs.EventSteps.StepSays.{goes_as}
 use Rattle.play_stepping.proofs.EventSteps.SteppedTo.{going_on}
-use Rattle.run_grows.proofs.Quiet.Sweeps.{knows_at}
+use Rattle.run_sweeps.proofs.Quiet.Sweeps.{knows_at}
 use Rattle.play_scheduler.proofs.Given.ScenesMay.{standing_is}
 use Rattle.run_executor.specs.Executing.IsThere.{IsThere, held_by}
 use Rattle.play_scheduler.specs.Given.ScenesScene.{HasCall, Scene, slot_of}
@@ -126,7 +126,7 @@ module _ {K V : Type 0} (same : K → K → Bool) (n : ℕ) (s : Scene K V) (map
       by (inl (words, low, inside, sized)) = words_idle same hash old new it.sweep it.walks machine said from words
       by (inr (over, none)) = over_idle same hash old new it.sweep it.walks machine said from over
 
-module _ {K V S : Type 0} (same : K → K → Bool) (hash : K → ℕ) (terms : Terms) (own : List ℕ) (n : ℕ) (w : Moment K V) (p : Scheduler K V S) (stands : StandsAs (WalksFar own n) same hash terms w p)
+module _ {K V S : Type 0} (same : K → K → Bool) (hash : K → ℕ) (terms : Terms) (own : List ℕ) (n : ℕ) (w : Moment K V) (p : Scheduler K V S) (stands : RefinesAs (WalksFar own n) same hash terms w p)
     (place : ℕ) (at_place : ReadyAt own place p) where
   abbrev pub here : HereAs (WalksFar own n) same hash terms w p stands own place
   here = here_as_at (WalksFar own n) same hash terms w p stands own place at_place.0
@@ -161,7 +161,7 @@ module _ {K V S : Type 0} (same : K → K → Bool) (hash : K → ℕ) (terms : 
   pub few_steps : n ≤ 2 ^ 48
   few_steps = few_places same n stands.scene d.map d.number st.0 together here.way.0 here.way.1 its_walk.1 its_sweep.sweep its_sweep.over
 
-  module _ (said : Progress (Node K V)) (new : Logged K V S) (before after : List Effect) (leads_so : CallGoesOn same hash stands.name w stands.scene d.number d.map said before after p.logged new) where
+  module _ (said : Progress (Node K V)) (new : Logged K V S) (before after : List Effect) (leads_so : CallContinues same hash stands.name w stands.scene d.number d.map said before after p.logged new) where
     abbrev pub leads : StepLeads same (λ map. hash) d.number said stands.scene (held_by p.logged.executor) (held_by new.executor)
     leads = (leads_so here.way.0 here.way.1).0
 
@@ -201,12 +201,12 @@ module _ {K V S : Type 0} (same : K → K → Bool) (hash : K → ℕ) (terms : 
     goes_as_said x goes = goes_as (leads d.map here.way.0 here.way.1).1 said then_next (leads d.map here.way.0 here.way.1).4.goes_on x goes ∙ saying.1
 
 -- it goes on to the next place
-module _ {K V S : Type 0} (same : K → K → Bool) (hash : K → ℕ) (terms : Terms) (own : List ℕ) (n : ℕ) (w : Moment K V) (p : Scheduler K V S) (stands : StandsAs (WalksFar own n) same hash terms w p)
+module _ {K V S : Type 0} (same : K → K → Bool) (hash : K → ℕ) (terms : Terms) (own : List ℕ) (n : ℕ) (w : Moment K V) (p : Scheduler K V S) (stands : RefinesAs (WalksFar own n) same hash terms w p)
     (place : ℕ) (at_place : ReadyAt own place p) (new : Logged K V S) (before after : List Effect) where
   abbrev its : HereAs (WalksFar own n) same hash terms w p stands own place
   its = here same hash terms own n w p stands place at_place
 
-  module _ (leads_so : CallGoesOn same hash stands.name w stands.scene its.caller.number its.caller.map progress.Goes before after p.logged new) where
+  module _ (leads_so : CallContinues same hash stands.name w stands.scene its.caller.number its.caller.map progress.Goes before after p.logged new) where
     goes_far : (x : UnderWay K V K) → then_next same hash terms own n w p stands place at_place progress.Goes new before after leads_so ≡ Some x → WalksFar own (n + 1) its.caller (machine_of x)
     goes_far x goes = (
       λ holds. (
@@ -223,7 +223,7 @@ module _ {K V S : Type 0} (same : K → K → Bool) (hash : K → ℕ) (terms : 
         to : (swept : Sweep) × (((leads_so its.way.0 its.way.1).0 its.caller.map its.way.0 its.way.1).1 ≡ kinds.Sweep swept) × (swept.purpose ≡ it.sweep.purpose) × NextSays {K = K} {V = V} it.sweep progress.Goes swept
         to = saying same hash terms own n w p stands place at_place progress.Goes new before after leads_so
 
-    pub walk_goes : StandsAs (WalksFar own (n + 1)) same hash terms (with_effects (Some own) (Some its.caller.map) (step_did same hash stands.name w stands.scene its.caller.number its.caller.map p.logged new) w) (record p { logged = new })
+    pub walk_goes : RefinesAs (WalksFar own (n + 1)) same hash terms (with_effects (Some own) (Some its.caller.map) (step_did same hash stands.name w stands.scene its.caller.number its.caller.map p.logged new) w) (record p { logged = new })
     walk_goes =
         let more = under_way same hash terms own n w p stands place at_place progress.Goes new before after leads_so refl in
         let did = step_did same hash stands.name w stands.scene its.caller.number its.caller.map p.logged new in
@@ -257,8 +257,8 @@ module _ {K V S : Type 0} (same : K → K → Bool) (hash : K → ℕ) (terms : 
     pub caller_is : step.caller ≡ its_place.caller
     caller_is = the step.caller its_place.caller (sym step.at ∙ its_place.at)
 
-    pub leads_is : CallGoesOn same hash midst.stands.name midst_w midst.stands.scene its_place.caller.number its_place.caller.map said mid after p.logged new.logged
-    leads_is = subst (λ (x : NamedCaller V). CallGoesOn same hash midst.stands.name midst_w midst.stands.scene x.number x.map said mid after p.logged new.logged) caller_is
+    pub leads_is : CallContinues same hash midst.stands.name midst_w midst.stands.scene its_place.caller.number its_place.caller.map said mid after p.logged new.logged
+    leads_is = subst (λ (x : NamedCaller V). CallContinues same hash midst.stands.name midst_w midst.stands.scene x.number x.map said mid after p.logged new.logged) caller_is
         (step.leads midst.stands.name midst_w midst.stands.scene midst.stands.shown)
 
     abbrev pub last_did : List Effect
@@ -280,15 +280,15 @@ module _ {K V S : Type 0} (same : K → K → Bool) (hash : K → ℕ) (terms : 
     did = midst.did ++ last_did progress.Goes step;
     follows = follows_all progress.Goes step;
     idle = idle_all progress.Goes step;
-    stands = subst (λ (x : Scheduler K V S). StandsAs (WalksFar own (n + 1)) same hash terms (with_effects (Some own) (Some c.map) (midst.did ++ last_did progress.Goes step) m) x) (sym step.rest)
-        (subst (λ (x : Moment K V). StandsAs (WalksFar own (n + 1)) same hash terms x (record p { logged = new.logged })) (all_did progress.Goes step)
+    stands = subst (λ (x : Scheduler K V S). RefinesAs (WalksFar own (n + 1)) same hash terms (with_effects (Some own) (Some c.map) (midst.did ++ last_did progress.Goes step) m) x) (sym step.rest)
+        (subst (λ (x : Moment K V). RefinesAs (WalksFar own (n + 1)) same hash terms x (record p { logged = new.logged })) (all_did progress.Goes step)
         (walk_goes same hash terms own n midst_w p midst.stands place midst.ready new.logged mid after (leads_is progress.Goes step)));
     ready = subst (λ (x : Scheduler K V S). ReadyAt own place x) (sym step.rest) midst.ready;
   }
 
 -- before the first one
 module _ {K V S : Type 0} (same : K → K → Bool) (hash : K → ℕ) (terms : Terms) (own : List ℕ) (place : ℕ) (m : Moment K V) where
-  pub mid_first : (p : Scheduler K V S) (stands : StandsAs (WalksFar own 0) same hash terms m p) → ReadyAt own place p → (list : List Effect) → list ≡ list ++ [] → IsMidWalk same hash terms own place m 0 list list p
+  pub mid_first : (p : Scheduler K V S) (stands : RefinesAs (WalksFar own 0) same hash terms m p) → ReadyAt own place p → (list : List Effect) → list ≡ list ++ [] → IsMidWalk same hash terms own place m 0 list list p
   mid_first p stands ready list none =
       let it = here same hash terms own 0 m p stands place ready in
       record { call = it.call; call_is = it.call_is; did = []; follows = none; idle = refl; stands = stands; ready = ready }

@@ -8,7 +8,7 @@ use Rattle.run_schedules.specs.declared.effect.Effect.{Effect}
 use Rattle.run_schedules.specs.declared.outcome.Outcome.{Outcome}
 use Rattle.run_schedules.specs.Schedules.Moment.{Moment}
 use Rattle.run_executor.specs.Given.EffectsKnown.{known}
-use Rattle.play_scheduler.specs.Given.LoggedCalling.{WalkGoesOn}
+use Rattle.play_scheduler.specs.Given.LoggedCalling.{WalkContinues}
 use Rattle.play_scheduler.specs.Given.LoggedShown.{IsShown}
 use Rattle.play_scheduler.specs.Given.LoggedDeclared.logged.Logged.{Logged}
 use Rattle.run_executor.specs.Named.Seen.{ready_place}
@@ -16,8 +16,8 @@ use Rattle.run_executor.specs.declared.caller.NamedCaller.{NamedCaller}
 use Rattle.play_scheduler.specs.declared.played.Played.{Played}
 use Rattle.play_scheduler.specs.declared.scheduler.Scheduler.{Scheduler}
 use Rattle.play_stepping.specs.EventSteps.Stepping.{HasWalked, IsStepOf, IsStepped, TookNext, WalkComes}
-use Rattle.run_grows.specs.Says.{callers_then, outcome_of}
-use Rattle.run_executor.specs.Executing.IsThere.{IsThere, KeepsGiven}
+use Rattle.run_sweeps.specs.Says.{callers_then, outcome_of}
+use Rattle.run_executor.specs.Executing.IsThere.{IsThere, PreservesSettings}
 use Rattle.run_executor.specs.Executing.Replying.{AsksThere}
 use Rattle.play_scheduler.specs.Given.ScenesScene.{Scene}
 use Rattle.seize_words.proofs.General.{same_some as the}
@@ -54,15 +54,15 @@ module _ {K V S : Type 0} (same : K → K → Bool) (hash : K → ℕ) (place : 
 
   has_walked : (caller : NamedCaller V) → slice_get old.calls place ≡ Some caller → (ready : Bool) (number : ℕ) → number ≡ caller.number
       → ((s : Scene K V) → IsThere same hash old.logged.executor s → AsksThere same hash number ready s old.logged.executor asked.executor)
-      → ((name : ℕ → List ℕ) (m : Moment K V) (s : Scene K V) → IsShown same hash name m old.logged s → WalkGoesOn same hash name m s number ready old.logged asked)
-      → asked.notes ≡ old.logged.notes → KeepsGiven old.logged.executor asked.executor → HasWalked same hash place played old (record walked { calls = callers })
+      → ((name : ℕ → List ℕ) (m : Moment K V) (s : Scene K V) → IsShown same hash name m old.logged s → WalkContinues same hash name m s number ready old.logged asked)
+      → asked.notes ≡ old.logged.notes → PreservesSettings old.logged.executor asked.executor → HasWalked same hash place played old (record walked { calls = callers })
   has_walked caller at ready number its leads goes notes given = record {
     caller = caller;
     at = at;
     ready = ready;
     asked = asked;
     leads = λ s is_at. subst (λ (k : ℕ). AsksThere same hash k ready s old.logged.executor asked.executor) its (leads s is_at);
-    goes = λ name m s shown. subst (λ (k : ℕ). WalkGoesOn same hash name m s k ready old.logged asked) its (goes name m s shown);
+    goes = λ name m s shown. subst (λ (k : ℕ). WalkContinues same hash name m s k ready old.logged asked) its (goes name m s shown);
     notes = notes;
     given = given;
     steps = comes.7;
@@ -77,8 +77,8 @@ module _ {K V S : Type 0} (same : K → K → Bool) (hash : K → ℕ) (place : 
   pub took_next : (own : List ℕ) → Some place ≡ ready_place own old.calls → (new : Scheduler K V S) → new ≡ record walked { calls = callers }
       → (caller : NamedCaller V) → slice_get old.calls place ≡ Some caller → (ready : Bool) (number : ℕ) → number ≡ caller.number
       → ((s : Scene K V) → IsThere same hash old.logged.executor s → AsksThere same hash number ready s old.logged.executor asked.executor)
-      → ((name : ℕ → List ℕ) (m : Moment K V) (s : Scene K V) → IsShown same hash name m old.logged s → WalkGoesOn same hash name m s number ready old.logged asked)
-      → asked.notes ≡ old.logged.notes → KeepsGiven old.logged.executor asked.executor → TookNext same hash own played old new
+      → ((name : ℕ → List ℕ) (m : Moment K V) (s : Scene K V) → IsShown same hash name m old.logged s → WalkContinues same hash name m s number ready old.logged asked)
+      → asked.notes ≡ old.logged.notes → PreservesSettings old.logged.executor asked.executor → TookNext same hash own played old new
   took_next own found new is caller at ready number its leads goes notes given = (
     λ at_place there.
         subst (λ (k : ℕ). HasWalked same hash k played old new) (the place at_place (found ∙ sym there))

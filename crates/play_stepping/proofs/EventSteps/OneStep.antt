@@ -14,23 +14,23 @@ use Rattle.run_schedules.specs.declared.call.Call.TheVariants.{On}
 use Rattle.run_schedules.specs.declared.effect.Effect.{Effect}
 use Rattle.run_schedules.specs.declared.outcome.Outcome.{Outcome}
 use Rattle.run_schedules.specs.declared.outcome.Outcome.TheVariants.{Refused, Waits}
-use Rattle.run_schedules.specs.Schedules.After.{asks_on, comes_to}
+use Rattle.run_schedules.specs.Schedules.After.{asks_on, with_outcome}
 use Rattle.run_schedules.specs.Schedules.Effects.{with_effects}
 use Rattle.run_schedules.specs.Schedules.Entry.{ends_call}
 use Rattle.run_schedules.specs.Schedules.Growing.{only_looks}
-use Rattle.run_schedules.specs.Schedules.Moment.{Stands, Going, Asking, Told, IsReady, UnderWay as CallThere, Moment}
+use Rattle.run_schedules.specs.Schedules.Moment.{CallState, Going, Asking, Told, IsReady, UnderWay as CallThere, Moment}
 use Rattle.run_schedules.specs.Schedules.Terms.{Terms}
 use Rattle.run_schedules.specs.Schedules.Views.{call_of}
 use Rattle.run_schedules.specs.Schedules.Waiting.{may_wait_for}
 use Rattle.owner_whole.specs.Given.CallersTogether.{UnderWay}
-use Rattle.owner_whole.specs.Given.FinishesMachines.{GoesOnAs, machine_of}
+use Rattle.owner_whole.specs.Given.FinishesMachines.{ContinuesAs, machine_of}
 use Rattle.run_executor.specs.Given.EffectsKnown.{Known, known}
 use Rattle.run_executor.specs.Given.EffectsEffects.{known_after}
 use Rattle.run_executor.specs.Given.EffectsDeclared.acting.Acting.TheVariants as acts
 use Rattle.play_scheduler.specs.Given.FollowsCalling.{come_to}
 use Rattle.play_scheduler.proofs.Given.FollowsCalling.{apart_back}
 use Rattle.run_executor.specs.Given.HandsCalling.{AsksJust}
-use Rattle.play_scheduler.specs.Given.LoggedCalling.{CallGoesOn, step_did}
+use Rattle.play_scheduler.specs.Given.LoggedCalling.{CallContinues, step_did}
 use Rattle.play_scheduler.specs.Given.LoggedShown.{IsShown}
 use Rattle.play_scheduler.specs.Given.LoggedDeclared.logged.Logged.{Logged}
 use Rattle.run_executor.proofs.Given.MomentsCalls.{calls_come_to_whole}
@@ -39,19 +39,19 @@ use Rattle.play_scheduler.proofs.Given.LoggedCounted.{counted_calls}
 use Rattle.play_scheduler.proofs.Given.OwesGrown.Calls.{step_keeps_grown}
 use Rattle.play_scheduler.proofs.Given.PromisesWeights.{operations_are_single}
 use Rattle.run_executor.specs.Named.Machines.{IsAsFar}
-use Rattle.play_scheduler.specs.Played.{AsFar, StandsFor}
+use Rattle.play_scheduler.specs.Played.{AsFar, RefinesFor}
 use Rattle.run_executor.specs.Named.Seen.{Seen, far_of, is_named, seen, seen_of}
-use Rattle.play_stepping.specs.EventSteps.Stepping.{ComesAs, ComesBy, GoesAt, IsStepped}
-use Rattle.run_grows.specs.Says.{caller_then, callers_then, far_then, outcome_of}
-use Rattle.run_executor.specs.Named.Telling.{goes_on, kept}
+use Rattle.play_stepping.specs.EventSteps.Stepping.{HasOutcomeOfKind, StepsHaveOutcome, GoesAt, IsStepped}
+use Rattle.run_sweeps.specs.Says.{caller_then, callers_then, far_then, outcome_of}
+use Rattle.run_executor.specs.Named.Telling.{continues, kept}
 use Rattle.run_executor.specs.declared.caller.NamedCaller.{NamedCaller}
 use Rattle.run_executor.specs.declared.caller.Stands.{Stands as HowFar}
 use Rattle.run_executor.specs.declared.caller.Stands.TheVariants as far
 use Rattle.run_executor.specs.declared.kind.CallKind.{CallKind}
 use Rattle.play_scheduler.specs.declared.scheduler.Scheduler.{Scheduler}
-use Rattle.run_grows.proofs.Quiet.AfterEffects.{calls_seen, closed_stays, mapped_stays}
+use Rattle.play_stepping.proofs.EventSteps.AfterEffects.{calls_seen, closed_stays, mapped_stays}
 use Rattle.play_stepping.proofs.EventSteps.AnySays.{any_says}
-use Rattle.run_grows.proofs.Quiet.LookSays.{never_waits}
+use Rattle.run_sweeps.proofs.Quiet.LookSays.{never_waits}
 use Rattle.play_scheduler.proofs.Here.{Here, here_at}
 use Rattle.play_scheduler.proofs.Given.RowsLists.{changed_at, removed_at, set_get, set_position, set_seen}
 use Rattle.play_scheduler.proofs.RanOn.{maps_named, there_stays}
@@ -70,7 +70,7 @@ module _ {K V : Type 0} (by : Known) (its : CallKind) (value : Option V) where
   value_then _ = value
 
   -- a call that has not ended goes on by itself just where it says so
-  far_goes : (said : Progress (Node K V)) → goes_on (outcome_of by its value said) ≡ true → far_then by said ≡ far.Goes
+  far_goes : (said : Progress (Node K V)) → continues (outcome_of by its value said) ≡ true → far_then by said ≡ far.Goes
   far_goes progress.Goes e = refl
   far_goes (progress.Gave node) e = refl
   far_goes (progress.Unstored node) e = refl
@@ -81,7 +81,7 @@ module _ {K V : Type 0} (by : Known) (its : CallKind) (value : Option V) where
   far_goes (progress.Done said) e = refl
   far_goes (progress.Refused fault) e = refl
 
-  pub going_not_ended : (said : Progress (Node K V)) → goes_on (outcome_of by its value said) ≡ true → has_ended said ≡ false
+  pub going_not_ended : (said : Progress (Node K V)) → continues (outcome_of by its value said) ≡ true → has_ended said ≡ false
   going_not_ended progress.Goes e = refl
   going_not_ended (progress.Gave node) e = refl
   going_not_ended (progress.Unstored node) e = refl
@@ -130,14 +130,14 @@ module _ {K V : Type 0} (by : Known) (its : CallKind) (value : Option V) where
   said_waits (progress.Refused fault) e = absurd (cc e)
 
   -- what is seen of it then
-  asks_seen : (question : Option ℕ) (c : CallThere K V) (stand : Stands) → far_of stand ≡ far.Goes → seen (asks_on question c stand) ≡ record (seen c) { far = far.Asks question }
+  asks_seen : (question : Option ℕ) (c : CallThere K V) (stand : CallState) → far_of stand ≡ far.Goes → seen (asks_on question c stand) ≡ record (seen c) { far = far.Asks question }
   asks_seen question c (Asking other) e = absurd (cc e)
   asks_seen question c Going e = refl
   asks_seen question c Told e = refl
   asks_seen question c IsReady e = absurd (cc e)
 
-  comes_seen : (call : Call K V) (said : Progress (Node K V)) → ComesAs call (outcome_of by its value said) → has_ended said ≡ false → (c : CallThere K V) → far_of c.stands ≡ far.Goes
-      → seen (comes_to (outcome_of by its value said) c) ≡ record (seen c) { far = far_then by said }
+  comes_seen : (call : Call K V) (said : Progress (Node K V)) → HasOutcomeOfKind call (outcome_of by its value said) → has_ended said ≡ false → (c : CallThere K V) → far_of c.stands ≡ far.Goes
+      → seen (with_outcome (outcome_of by its value said) c) ≡ record (seen c) { far = far_then by said }
   comes_seen call progress.Goes comes on c goes = refl
   comes_seen call (progress.Gave node) comes on c goes = refl
   comes_seen call (progress.Unstored node) comes on c goes = refl
@@ -156,17 +156,17 @@ module _ {K V : Type 0} where
   caller_as by d _ = refl
 
   -- a machine that has not ended goes on, and one that has does not
-  pub goes_next : (machine : Machine K V K) (said : Progress (Node K V)) (after : Option (UnderWay K V K)) → GoesOnAs machine said after → has_ended said ≡ false → (x : UnderWay K V K) × (after ≡ Some x)
+  pub goes_next : (machine : Machine K V K) (said : Progress (Node K V)) (after : Option (UnderWay K V K)) → ContinuesAs machine said after → has_ended said ≡ false → (x : UnderWay K V K) × (after ≡ Some x)
   goes_next machine (progress.Done answer) after is on = absurd (cc on)
   goes_next machine (progress.Refused fault) after is on = absurd (cc on)
   goes_next machine _ after is on = (is.0, is.1)
 
-  pub over_next : (machine : Machine K V K) (said : Progress (Node K V)) (after : Option (UnderWay K V K)) → GoesOnAs machine said after → has_ended said ≡ true → after ≡ None
+  pub over_next : (machine : Machine K V K) (said : Progress (Node K V)) (after : Option (UnderWay K V K)) → ContinuesAs machine said after → has_ended said ≡ true → after ≡ None
   over_next machine (progress.Done answer) after is over = is
   over_next machine (progress.Refused fault) after is over = is
   over_next machine _ after is over = absurd (cc over)
 
-module _ {K V S : Type 0} (same : K → K → Bool) (hash : K → ℕ) (terms : Terms) (m : Moment K V) (p : Scheduler K V S) (stands : StandsFor same hash terms m p) (own : List ℕ) (place : ℕ)
+module _ {K V S : Type 0} (same : K → K → Bool) (hash : K → ℕ) (terms : Terms) (m : Moment K V) (p : Scheduler K V S) (stands : RefinesFor same hash terms m p) (own : List ℕ) (place : ℕ)
     (at : GoesAt own place p) (said : Progress (Node K V)) (new : Logged K V S) (before after : List Effect) where
   abbrev here : Here same hash terms m p stands own place
   here = here_at same hash terms m p stands own place at.0
@@ -186,7 +186,7 @@ module _ {K V S : Type 0} (same : K → K → Bool) (hash : K → ℕ) (terms : 
   map_is : c.map ≡ d.map
   map_is = ap (λ (z : Seen). z.map) here.as_seen
 
-  module _ (leads_so : CallGoesOn same hash stands.name m stands.scene d.number d.map said before after p.logged new) where
+  module _ (leads_so : CallContinues same hash stands.name m stands.scene d.number d.map said before after p.logged new) where
     abbrev leads : StepLeads same (λ map. hash) d.number said stands.scene (held_by p.logged.executor) (held_by new.executor)
     leads = (leads_so here.way.0 here.way.1).0
 
@@ -244,7 +244,7 @@ module _ {K V S : Type 0} (same : K → K → Bool) (hash : K → ℕ) (terms : 
       items_gone over = items ∙ ap (λ (b : Bool). if b then remove calls place else slice_set calls place (caller_then by d said)) over
 
       -- as it goes on by itself, before its outcome is told
-      midst : goes_on outcome ≡ true → StandsFor same hash terms w p2
+      midst : continues outcome ≡ true → RefinesFor same hash terms w p2
       midst on =
           let more = goes_next (leads d.map here.way.0 here.way.1).1 said then_next (leads d.map here.way.0 here.way.1).4.goes_on (going_not_ended by d.kind d.value said on) in
           going_on AsFar AsFar own (λ x apart machine is. is) same hash terms m p stands place here said new leads w shown (there_stays (Some own) (Some d.map) did m) (mapped_stays (Some own) (Some d.map) did m)
@@ -252,7 +252,7 @@ module _ {K V S : Type 0} (same : K → K → Bool) (hash : K → ℕ) (terms : 
           (alike ∙ sym (set_seen seen_of calls place d gone_on here.at (ap (λ (h : HowFar). record (seen_of d) { far = h }) (far_goes by d.kind d.value said on ∙ sym goes))))
           callers (items_on (going_not_ended by d.kind d.value said on))
 
-      going : goes_on outcome ≡ true → GoesAt own place p2
+      going : continues outcome ≡ true → GoesAt own place p2
       going on =
           let set = items_on (going_not_ended by d.kind d.value said on) in (
             at.0 ∙ sym (ap (λ (l : List (NamedCaller V)). position (is_named own) l) set ∙ set_position (is_named own) calls place d gone_on here.at refl),
@@ -294,7 +294,7 @@ module _ {K V S : Type 0} (same : K → K → Bool) (hash : K → ℕ) (terms : 
                     let more = goes_next (leads d.map here.way.0 here.way.1).1 said then_next (leads d.map here.way.0 here.way.1).4.goes_on on in
                     subst (λ (y : UnderWay K V K). AsksJust by y outcome) (sym (its more.0 (here_then AsFar AsFar own (λ x apart machine is. is) same hash terms m p stands place here said new leads ∙ more.1))) (says.asks more.0 more.1)
 
-        stands_told : StandsFor same hash terms told p2
+        stands_told : RefinesFor same hash terms told p2
         stands_told = of (ended_cases (has_ended said))
           where
             ends_so : (b : Bool) → has_ended said ≡ b → ends_call outcome ≡ b
@@ -304,7 +304,7 @@ module _ {K V S : Type 0} (same : K → K → Bool) (hash : K → ℕ) (terms : 
             ended e = sym (ends_as by d.kind d.value said never) ∙ e
 
             change : CallThere K V → CallThere K V
-            change x = comes_to outcome (record x { steps = x.steps + counted })
+            change x = with_outcome outcome (record x { steps = x.steps + counted })
 
             branches : Bool → List (CallThere K V)
             branches b = if b then filter (λ x. not (is_same x.caller own)) w.calls else map (λ x. if is_same x.caller own then change x else x) w.calls
@@ -328,7 +328,7 @@ module _ {K V S : Type 0} (same : K → K → Bool) (hash : K → ℕ) (terms : 
                 ∙ removed_at seen seen_of (λ (z : Seen). is_same z.name own) w.calls calls alike (stands.calls.once own) here.any
                 ∙ ap (λ (k : ℕ). map seen_of (remove calls k)) (sym here.first)
 
-            of : (has_ended said ≡ true) ⊎ (has_ended said ≡ false) → StandsFor same hash terms told p2
+            of : (has_ended said ≡ true) ⊎ (has_ended said ≡ false) → RefinesFor same hash terms told p2
             of (inl over) =
                 has_gone AsFar AsFar own (λ x apart machine is. is) same hash terms m p stands place here said new leads told (shown_told ended) (there_stays (Some own) (Some d.map) did m) (mapped_stays (Some own) (Some d.map) did m)
                 (closed_stays (Some own) (Some d.map) did m) (maps_named (Some own) (Some d.map) did m)
@@ -339,7 +339,7 @@ module _ {K V S : Type 0} (same : K → K → Bool) (hash : K → ℕ) (terms : 
                 (closed_stays (Some own) (Some d.map) did m) (maps_named (Some own) (Some d.map) did m) more.0 more.1 (far_then by said) (value_then by d.kind d.value said) (says.far more.0 more.1, says.room more.0 more.1)
                 (listed_on on) callers (items_on on)
 
-      pub one_comes : ComesBy same hash terms own place m 1 outcome before after p2
+      pub one_comes : StepsHaveOutcome same hash terms own place m 1 outcome before after p2
       one_comes = record {
         call = c;
         call_is = here.call_is;
@@ -354,8 +354,8 @@ module _ {K V S : Type 0} (same : K → K → Bool) (hash : K → ℕ) (terms : 
             d.map d.number here.way.0 here.way.1 said leads).1 (said_short by d.kind d.value said refused) x
             (subst (λ (l : List ℕ). call_of l (with_effects (Some l) (Some d.map) did m) ≡ Some x) (sym its_name)
             (subst (λ (k : ℕ). call_of own (with_effects (Some own) (Some k) did m) ≡ Some x) map_is x_is));
-        goes = λ on. (subst (λ (x : ℕ). StandsFor same hash terms (with_effects (Some own) (Some x) did m) p2) (sym map_is) (midst on), going on);
-        stands = λ never counted. subst (λ (x : ℕ). StandsFor same hash terms (come_to own outcome counted (with_effects (Some own) (Some x) did m)) p2) (sym map_is) (stands_told never counted);
+        goes = λ on. (subst (λ (x : ℕ). RefinesFor same hash terms (with_effects (Some own) (Some x) did m) p2) (sym map_is) (midst on), going on);
+        stands = λ never counted. subst (λ (x : ℕ). RefinesFor same hash terms (come_to own outcome counted (with_effects (Some own) (Some x) did m)) p2) (sym map_is) (stands_told never counted);
       }
         where
           -- one that only looks never waits
@@ -386,7 +386,7 @@ module _ {K V S : Type 0} (same : K → K → Bool) (hash : K → ℕ) (terms : 
               right : Right []
               right y y_is = any_waits_for same hash terms m p stands own d.map d.number here.way.0 here.way.1 its_name (held_by new.executor) (leads d.map here.way.0 here.way.1).1 its_step y y_is
 
-module _ {K V S : Type 0} (same : K → K → Bool) (hash : K → ℕ) (terms : Terms) (m : Moment K V) (p new : Scheduler K V S) (stands : StandsFor same hash terms m p) (own : List ℕ) (place : ℕ)
+module _ {K V S : Type 0} (same : K → K → Bool) (hash : K → ℕ) (terms : Terms) (m : Moment K V) (p new : Scheduler K V S) (stands : RefinesFor same hash terms m p) (own : List ℕ) (place : ℕ)
     (at : GoesAt own place p) (outcome : Outcome V) (before after : List Effect) (step : IsStepped same hash place outcome before after p new) where
   abbrev its : Here same hash terms m p stands own place
   its = here_at same hash terms m p stands own place at.0
@@ -394,8 +394,8 @@ module _ {K V S : Type 0} (same : K → K → Bool) (hash : K → ℕ) (terms : 
   caller_is : step.caller ≡ its.caller
   caller_is = the step.caller its.caller (sym step.at ∙ its.at)
 
-  leads_is : CallGoesOn same hash stands.name m stands.scene its.caller.number its.caller.map step.said before after p.logged new.logged
-  leads_is = subst (λ (x : NamedCaller V). CallGoesOn same hash stands.name m stands.scene x.number x.map step.said before after p.logged new.logged) caller_is
+  leads_is : CallContinues same hash stands.name m stands.scene its.caller.number its.caller.map step.said before after p.logged new.logged
+  leads_is = subst (λ (x : NamedCaller V). CallContinues same hash stands.name m stands.scene x.number x.map step.said before after p.logged new.logged) caller_is
       (step.leads stands.name m stands.scene stands.shown)
 
   abbrev then_known : Known
@@ -412,8 +412,8 @@ module _ {K V S : Type 0} (same : K → K → Bool) (hash : K → ℕ) (terms : 
   items_so = step.calls ∙ ap (λ (x : NamedCaller V). callers_then (known new.logged.notes) place x step.said p.calls) caller_is
       ∙ ap (λ (k : Known). callers_then k place its.caller step.said p.calls) known_is
 
-  pub step_comes : ComesBy same hash terms own place m 1 outcome before after new
+  pub step_comes : StepsHaveOutcome same hash terms own place m 1 outcome before after new
   step_comes =
-      subst (λ (x : Scheduler K V S). ComesBy same hash terms own place m 1 outcome before after x) (sym step.rest)
-      (subst (λ (o : Outcome V). ComesBy same hash terms own place m 1 o before after (record p { logged = new.logged; calls = new.calls })) outcome_so
+      subst (λ (x : Scheduler K V S). StepsHaveOutcome same hash terms own place m 1 outcome before after x) (sym step.rest)
+      (subst (λ (o : Outcome V). StepsHaveOutcome same hash terms own place m 1 o before after (record p { logged = new.logged; calls = new.calls })) outcome_so
       (one_comes same hash terms m p stands own place at step.said new.logged before after leads_is new.calls items_so))

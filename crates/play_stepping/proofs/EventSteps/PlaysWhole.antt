@@ -14,18 +14,18 @@ use Rattle.run_schedules.specs.Schedules.Beginning.{fresh_call, with_call}
 use Rattle.run_schedules.specs.Schedules.Coming.{Progresses}
 use Rattle.run_schedules.specs.Schedules.Effects.{with_effects}
 use Rattle.run_schedules.specs.Schedules.Entry.{ByCall, Entry, IfCall, is_busy, nameless}
-use Rattle.run_schedules.specs.Schedules.InTurn.{GoesOn}
+use Rattle.run_schedules.specs.Schedules.InTurn.{Continues}
 use Rattle.run_schedules.specs.Schedules.InUse.{is_living}
 use Rattle.run_schedules.specs.Schedules.Moment.{MapThere, Moment}
-use Rattle.run_schedules.specs.Schedules.Steps.{stands_or}
+use Rattle.run_schedules.specs.Schedules.Steps.{state_or}
 use Rattle.run_schedules.specs.Schedules.Terms.{Terms}
 use Rattle.run_schedules.specs.Schedules.Views.{call_of, map_of, number_of}
 use Rattle.run_schedules.specs.Schedules.Waiting.{WaitsRight}
 use Rattle.play_scheduler.specs.Given.FollowsCalling.{come_to}
 use Rattle.play_scheduler.proofs.Given.FollowsCalling.{is_same_refl}
-use Rattle.play_scheduler.specs.Played.{BeginsSo, IsDue, StandsFor, entry_of}
+use Rattle.play_scheduler.specs.Played.{BeginsSo, IsInTurn, RefinesFor, entry_of}
 use Rattle.run_executor.specs.Named.Seen.{Seen, is_named, seen, seen_of}
-use Rattle.play_stepping.specs.EventSteps.Stepping.{ComesBy, GoesAt, IsInCase, PlaysOn, StepsCome, TakenAs, TakenBy, TakesUpTo, may_begin}
+use Rattle.play_stepping.specs.EventSteps.Stepping.{StepsHaveOutcome, GoesAt, IsInCase, PlaysOn, StepsCome, TakenAs, TakenBy, TakesUpTo, may_begin}
 use Rattle.run_executor.specs.declared.caller.NamedCaller.{NamedCaller}
 use Rattle.run_executor.specs.declared.caller.Stands.{Stands as HowFar}
 use Rattle.run_executor.specs.declared.caller.Stands.TheVariants as far
@@ -45,7 +45,7 @@ plain (Refused Busy) never = absurd (never refl)
 plain _ never = refl
 
 module _ {K V S : Type 0} (same : K → K → Bool) (hash : K → ℕ) (terms : Terms) (log : List (Entry K V)) (guard name : List ℕ) (call : Call K V) (old mid : Scheduler K V S)
-    (due : IsDue same hash terms log (OneCall guard name call) old) where
+    (due : IsInTurn same hash terms log (OneCall guard name call) old) where
   abbrev m : Moment K V
   m = moment log
 
@@ -59,7 +59,7 @@ module _ {K V S : Type 0} (same : K → K → Bool) (hash : K → ℕ) (terms : 
       subst (λ (x : Scheduler K V S). PlaysOn same hash terms log e x) (sym (begins.none refl)) (record {
         played = stands_elsewhere same hash terms (come_to nameless (Refused Busy) 0 m) old (busy_stands same hash terms log nameless false old due.played) (m.events + 1) m.is_mapped m.is_closed
             (m.is_alone && is_alone_on e m) m.there m.slots m.sheltered m.remains refl refl refl refl;
-        plays = λ within. plays same hash terms log (OneCall guard name call) old due e refl (out_of_turn (λ o. GoesOn terms log e) (may_begin guard name m) (Refused Busy) (sym begins.so) refl)
+        plays = λ within. plays same hash terms log (OneCall guard name call) old due e refl (out_of_turn (λ o. Continues terms log e) (may_begin guard name m) (Refused Busy) (sym begins.so) refl)
             (stands_elsewhere same hash terms (come_to nameless (Refused Busy) 0 m) old (busy_stands same hash terms log nameless false old due.played) (m.events + 1) m.is_mapped m.is_closed
             (m.is_alone && is_alone_on e m) m.there m.slots m.sheltered m.remains refl refl refl refl);
         makes = refl;
@@ -71,7 +71,7 @@ module _ {K V S : Type 0} (same : K → K → Bool) (hash : K → ℕ) (terms : 
   -- it begins, and takes steps
   module _ (begins : BeginsSo same hash terms m nameless guard name call true old mid) (steps : ℕ) (outcome : Outcome V) (effects : List Effect) (new : Scheduler K V S)
       (placed : Some 0 ≡ position (is_named nameless) mid.calls) (goes : (here_at same hash terms m1 mid (begins.stands refl) nameless 0 placed).caller.stands ≡ far.Goes)
-      (comes : ComesBy same hash terms nameless 0 m1 steps outcome [] effects new) (takes : TakesUpTo most_steps steps outcome) where
+      (comes : StepsHaveOutcome same hash terms nameless 0 m1 steps outcome [] effects new) (takes : TakesUpTo most_steps steps outcome) where
     never : outcome ≡ Refused Busy → ⊥
     never = never_busy same hash terms log m1 nameless mid (begins.stands refl) 0 placed goes steps outcome effects new comes
 
@@ -113,18 +113,18 @@ module _ {K V S : Type 0} (same : K → K → Bool) (hash : K → ℕ) (terms : 
 
     pub plays_whole : PlaysOn same hash terms log e new
     plays_whole = record {
-      played = subst (λ (x : Moment K V). StandsFor same hash terms (After x) new) b_is
+      played = subst (λ (x : Moment K V). RefinesFor same hash terms (After x) new) b_is
           (stands_then same hash terms log m1 nameless mid (begins.stands refl) 0 placed goes steps outcome effects new comes (m.events + 1) m.is_mapped m.is_closed (m.is_alone && is_alone_on e m)
           (slots_on outcome m.slots) m.remains (mapped_with (number_of name m)) (closed_with (number_of name m)) (remains_with (number_of name m)));
       plays = λ within.
           let at_m1 = subst InCase (sym b_is) within in
           plays same hash terms log (OneCall guard name call) new due e refl
-          (in_turn (λ o. GoesOn terms log e) (may_begin guard name m) outcome (sym begins.so)
+          (in_turn (λ o. Continues terms log e) (may_begin guard name m) outcome (sym begins.so)
           (subst Right b_is (goes_right same hash terms log m1 nameless mid (begins.stands refl) 0 placed goes steps outcome effects new comes at_m1)))
-          (subst (λ (x : Moment K V). StandsFor same hash terms (After x) new) b_is
+          (subst (λ (x : Moment K V). RefinesFor same hash terms (After x) new) b_is
           (stands_then same hash terms log m1 nameless mid (begins.stands refl) 0 placed goes steps outcome effects new comes (m.events + 1) m.is_mapped m.is_closed (m.is_alone && is_alone_on e m)
           (slots_on outcome m.slots) m.remains (mapped_with (number_of name m)) (closed_with (number_of name m)) (remains_with (number_of name m))));
-      makes = makes_whole guard name call (stands_or (call_of nameless b)) steps outcome takes never;
+      makes = makes_whole guard name call (state_or (call_of nameless b)) steps outcome takes never;
       does = few_steps same hash terms log m1 nameless mid (begins.stands refl) 0 placed goes steps outcome effects new comes;
       waits = subst Waiting b_is (waits_so same hash terms log m1 nameless mid (begins.stands refl) 0 placed goes steps outcome effects new comes);
       is_quiet = never_quiet outcome effects never;
@@ -132,7 +132,7 @@ module _ {K V S : Type 0} (same : K → K → Bool) (hash : K → ℕ) (terms : 
 
 -- the newest call is the first of the callers
 module _ {K V S : Type 0} (same : K → K → Bool) (hash : K → ℕ) (terms : Terms) (m : Moment K V) (own guard : List ℕ) (call : Call K V) (number : ℕ) (p : Scheduler K V S)
-    (stands : StandsFor same hash terms (with_call own guard call (Some number) m) p) where
+    (stands : RefinesFor same hash terms (with_call own guard call (Some number) m) p) where
   first_of : (calls : List (NamedCaller V)) → seen (fresh_call own guard call number m.events) ∷ map seen m.calls ≡ map seen_of calls
       → (d : NamedCaller V) × (rest : List (NamedCaller V)) × (calls ≡ d ∷ rest) × (d.name ≡ own) × (d.stands ≡ far.Goes)
   first_of [] e = absurd (cc e)
@@ -144,11 +144,11 @@ module _ {K V S : Type 0} (same : K → K → Bool) (hash : K → ℕ) (terms : 
 
 -- so it goes on at the first place
 module _ {K V S : Type 0} (same : K → K → Bool) (hash : K → ℕ) (terms : Terms) (m : Moment K V) (own guard : List ℕ) (call : Call K V) (there : Option ℕ) (some : is_some there ≡ true) (p : Scheduler K V S)
-    (stands : StandsFor same hash terms (with_call own guard call there m) p) where
+    (stands : RefinesFor same hash terms (with_call own guard call there m) p) where
   pub goes_first : GoesAt own 0 p
   goes_first = by there some stands
     where
-      by : (o : Option ℕ) → is_some o ≡ true → StandsFor same hash terms (with_call own guard call o m) p → GoesAt own 0 p
+      by : (o : Option ℕ) → is_some o ≡ true → RefinesFor same hash terms (with_call own guard call o m) p → GoesAt own 0 p
       by None e so = absurd (cc e)
       by (Some number) e so =
           let it = first_there same hash terms m own guard call number p so in
@@ -174,7 +174,7 @@ map_there m guard name is = mapped (map_of name m) (third (is_none (call_of name
 
 -- so it plays, where it has begun and taken its steps
 module _ {K V S : Type 0} (same : K → K → Bool) (hash : K → ℕ) (terms : Terms) (log : List (Entry K V)) (guard name : List ℕ) (call : Call K V) (old mid : Scheduler K V S)
-    (due : IsDue same hash terms log (OneCall guard name call) old) (begins : BeginsSo same hash terms (moment log) nameless guard name call true old mid) (played : Played V) (new : Scheduler K V S)
+    (due : IsInTurn same hash terms log (OneCall guard name call) old) (begins : BeginsSo same hash terms (moment log) nameless guard name call true old mid) (played : Played V) (new : Scheduler K V S)
     (taken : TakenAs same hash 0 most_steps played mid new) where
   abbrev m2 : Moment K V
   m2 = with_call nameless guard call (number_of name (moment log)) (moment log)

@@ -37,7 +37,7 @@ use Rattle.owner_whole.specs.Given.PointsFactsDisposes.{DisposeFacts, DisposingF
 use Rattle.owner_whole.specs.Given.PointsTold.{IsRowOfCopier}
 use Rattle.owner_whole.specs.Given.LateFactsReserves.{ReserveFacts, ReservingFacts, CopiesWhole, IsEnding}
 use Rattle.owner_whole.specs.Given.LateFactsSweeps.{SweepFacts, SweepingFacts}
-use Rattle.owner_whole.specs.Given.LateLateReserves.{LateReserveFacts, LateReserving}
+use Rattle.owner_whole.specs.Given.LateLateReserves.{SupersededReserveFacts, SupersededReserving}
 use Rattle.owner_whole.specs.Given.LateToldSweeps.{IsRowOfSweep}
 use Rattle.owner_whole.specs.Given.CallersOverAll.{CallOverAll, row_of_sweep as swept_row}
 use Rattle.owner_whole.specs.Given.CallersRooms.{CallForRoom, row_of_room}
@@ -63,13 +63,13 @@ use Rattle.owner_whole.specs.Given.FinishesMaps.{Standing}
 use Rattle.play_scheduler.specs.Given.FollowsCalls.{IsCalled}
 use Rattle.play_scheduler.specs.Given.FollowsMaps.{table_of}
 use Rattle.play_scheduler.proofs.Given.OwesTables.Hosts.{Step}
-use Rattle.play_scheduler.specs.Played.{StandsFor}
+use Rattle.play_scheduler.specs.Played.{RefinesFor}
 use Rattle.play_scheduler.specs.declared.scheduler.Scheduler.{Scheduler}
 use Rattle.play_stepping.proofs.EventSteps.CopiesWait.{all_together, within_section, copier_knows, is_lawful, noted_table, other_waits}
-use Rattle.run_grows.proofs.Quiet.QuietCopies.{IsQuiet, quiet_does, room_copier_told, room_row_quiet, sweep_copier_told, sweep_row_quiet}
+use Rattle.run_sweeps.proofs.Quiet.QuietCopies.{IsQuiet, quiet_does, room_copier_told, room_row_quiet, sweep_copier_told, sweep_row_quiet}
 use Rattle.play_stepping.proofs.EventSteps.Waiting.{IsForResizes, room_for_resizes, sweep_for_resizes, waits_for_holder}
 use Rattle.owner_whole.specs.Given.PointsFactsCopiesBlocking.{CopierFactsBlocking, CopyingFactsBlocking}
-use Rattle.owner_whole.specs.Given.LateLateCopies.{LateCopierFacts, LateCopying}
+use Rattle.owner_whole.specs.Given.LateLateCopies.{SupersededCopierFacts, SupersededCopying}
 use Rattle.play_scheduler.specs.Given.KeptEnds.{HaveEndsIn}
 use Rattle.owner_whole.specs.Given.SeizeActsWaits.{SettlesOn}
 use Rattle.run_executor.proofs.Given.ScenesTold.{as_step}
@@ -88,7 +88,7 @@ same_row slot (sweeps.Copies copier) = refl
 same_row slot (sweeps.Disposes dispose) = refl
 same_row slot _ = refl
 
-module _ {K V S : Type 0} (same : K → K → Bool) (hash : K → ℕ) (terms : Terms) (m : Moment K V) (p : Scheduler K V S) (stands : StandsFor same hash terms m p) (of : ℕ)
+module _ {K V S : Type 0} (same : K → K → Bool) (hash : K → ℕ) (terms : Terms) (m : Moment K V) (p : Scheduler K V S) (stands : RefinesFor same hash terms m p) (of : ℕ)
     (st : Standing K) (is : stands.scene.maps of ≡ Some st) where
   abbrev w : World (Node K V)
   w = stands.scene.world
@@ -137,10 +137,10 @@ module _ {K V S : Type 0} (same : K → K → Bool) (hash : K → ℕ) (terms : 
         by (copies.Retires settle rest) g = ap (λ (y : Settle). y.slot) g.2.0
         by _ g = tt
 
-    pub late_on : (began : ℕ) (copier : Copier) → LateCopierFacts same hash w i its_setting st.chart seen began copier → IsRowOn (slot_of i) (row_of_copier copier.stands)
+    pub late_on : (began : ℕ) (copier : Copier) → SupersededCopierFacts same hash w i its_setting st.chart seen began copier → IsRowOn (slot_of i) (row_of_copier copier.stands)
     late_on began copier facts = by copier.stands facts.point
       where
-        by : (q : Copying) → LateCopying same hash w i its_setting st.chart seen began copier q → IsRowOn (slot_of i) (row_of_copier q)
+        by : (q : Copying) → SupersededCopying same hash w i its_setting st.chart seen began copier q → IsRowOn (slot_of i) (row_of_copier q)
         by (copies.Retires settle rest) g = ap (λ (y : Settle). y.slot) g.3.0
         by _ g = tt
 
@@ -240,12 +240,12 @@ module _ {K V S : Type 0} (same : K → K → Bool) (hash : K → ℕ) (terms : 
         begins (reserves.Copies copier) f = whole_on i (ForRoom r) under copier f
         begins _ f = tt
 
-        begins_late : (q : Reserving) → LateReserving same hash w i (its_setting i (ForRoom r) under) st.chart (seen i (ForRoom r) under) r.began q → IsRowOn (slot_of i) (row_of_room q)
+        begins_late : (q : Reserving) → SupersededReserving same hash w i (its_setting i (ForRoom r) under) st.chart (seen i (ForRoom r) under) r.began q → IsRowOn (slot_of i) (row_of_room q)
         begins_late (reserves.Copies copier) f = late_on i (ForRoom r) under r.began copier f
         begins_late _ f = tt
 
         facts : ReserveFacts same hash w i (its_setting i (ForRoom r) under) st.chart (seen i (ForRoom r) under) r.reserve
-            ⊎ LateReserveFacts same hash w i (its_setting i (ForRoom r) under) st.chart (seen i (ForRoom r) under) r.began r.reserve → IsRowOn (slot_of i) (row_of_room r.reserve.stands)
+            ⊎ SupersededReserveFacts same hash w i (its_setting i (ForRoom r) under) st.chart (seen i (ForRoom r) under) r.began r.reserve → IsRowOn (slot_of i) (row_of_room r.reserve.stands)
         facts (inl fresh) = begins r.reserve.stands fresh.point
         facts (inr late) = begins_late r.reserve.stands late.point
 

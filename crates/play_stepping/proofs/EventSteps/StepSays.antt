@@ -36,9 +36,9 @@ use Rattle.owner_whole.specs.Given.PointsTold.{IsRowOfCall}
 use Rattle.owner_whole.specs.Given.CallersPairs.{Given, kind_of as kind_given}
 use Rattle.owner_whole.specs.Given.CallersRooms.{CallForRoom}
 use Rattle.owner_whole.specs.Given.CallersSights.{seen_by}
-use Rattle.owner_whole.specs.Given.CallersTogether.{CallOnKey, UnderWay, OnKey, ForRoom, Counting, Stands as TogetherStands, Together}
+use Rattle.owner_whole.specs.Given.CallersTogether.{CallOnKey, UnderWay, OnKey, ForRoom, Counting, IsAtPoint as TogetherStands, Together}
 use Rattle.owner_whole.proofs.Given.CallersTogether.At.{at_same}
-use Rattle.owner_whole.specs.Given.FinishesMachines.{GoesOnAs, machine_of}
+use Rattle.owner_whole.specs.Given.FinishesMachines.{ContinuesAs, machine_of}
 use Rattle.owner_whole.specs.Given.FinishesMaps.{Standing}
 use Rattle.run_executor.specs.Given.EffectsEffects.{effects_of, known_after}
 use Rattle.run_executor.specs.Given.EffectsKnown.{Known}
@@ -47,33 +47,33 @@ use Rattle.play_scheduler.specs.Given.FollowsCalls.{IsCalled}
 use Rattle.run_executor.specs.Given.HandsAsked.{AsksThere, IsAskedAs, IsAskedOn}
 use Rattle.run_executor.specs.Given.HandsCalling.{AsksJust}
 use Rattle.run_executor.proofs.Given.HandsReplacing.{IsOn, calls_after}
-use Rattle.run_executor.specs.Given.MomentsWhole.{ShowsWhole}
+use Rattle.run_executor.specs.Given.MomentsWhole.{RefinesWhole}
 use Rattle.run_executor.proofs.Given.MomentsCalls.{calls_keep_whole}
-use Rattle.play_scheduler.specs.Given.HistoriesAsking.{IsToldQuestion}
+use Rattle.play_scheduler.specs.Given.HistoriesAsking.{IsQuestionAsked}
 use Rattle.play_scheduler.proofs.Given.HistoriesAnyCall.HasWords.{questions_have_words}
 use Rattle.play_scheduler.proofs.Given.HistoriesAsking.{asking_steps_stand_there}
 use Rattle.play_scheduler.proofs.Given.HistoriesRefusals.{refused}
 use Rattle.run_executor.specs.Named.Machines.{IsAsFar, RefusedForRoom}
 use Rattle.run_executor.specs.Named.Seen.{kind_of}
-use Rattle.play_stepping.specs.EventSteps.Stepping.{ComesAs, IsFaultOn}
-use Rattle.run_grows.specs.Says.{far_then, outcome_of}
+use Rattle.play_stepping.specs.EventSteps.Stepping.{HasOutcomeOfKind, IsFaultOn}
+use Rattle.run_sweeps.specs.Says.{far_then, outcome_of}
 use Rattle.run_executor.specs.Named.Telling.{number_by}
 use Rattle.run_executor.specs.declared.kind.CallKind.{CallKind}
 use Rattle.run_executor.specs.declared.kind.CallKind.TheVariants as kind
-use Rattle.run_grows.proofs.Quiet.RoomSays.{NeverRefused, SaysRoom, reserve_room, sum_room}
+use Rattle.run_sweeps.proofs.Quiet.RoomSays.{NeverRefused, SaysRoom, reserve_room, sum_room}
 use Rattle.play_stepping.proofs.EventSteps.KeySays.{key_asks, key_refused}
 use Rattle.play_scheduler.proofs.Given.LogKinds.{of_kind}
-use Rattle.run_grows.proofs.Quiet.SweepSays.{WalkSays}
+use Rattle.run_sweeps.proofs.Quiet.SweepSays.{WalkSays}
 use Rattle.play_scheduler.proofs.Given.ScenesMay.{standing_is}
 use Rattle.run_executor.specs.Given.ScenesHeld.{Held, IsAt}
 use Rattle.play_scheduler.specs.Given.ScenesScene.{Scene, slot_of}
 use Rattle.run_executor.specs.Given.ScenesStepping.{StepLeads, scene_after}
 use Rattle.seize_words.proofs.General.{same_some as the}
-use Rattle.run_grows.proofs.Quiet.Saying.{told_by}
+use Rattle.run_sweeps.proofs.Quiet.Saying.{told_by}
 
 module _ {K V : Type 0} where
   -- a call goes on as its machine does
-  pub goes_as : (machine : Machine K V K) (said : Progress (Node K V)) (next : Option (UnderWay K V K)) → GoesOnAs machine said next → (x : UnderWay K V K) → next ≡ Some x → machine_of x ≡ machine
+  pub goes_as : (machine : Machine K V K) (said : Progress (Node K V)) (next : Option (UnderWay K V K)) → ContinuesAs machine said next → (x : UnderWay K V K) → next ≡ Some x → machine_of x ≡ machine
   goes_as machine (progress.Done answer) next is x e = absurd (cc (is, e))
   goes_as machine (progress.Refused fault) next is x e = absurd (cc (is, e))
   goes_as machine _ next is x e = ap machine_of (the x is.0 (sym e ∙ is.1)) ∙ is.2
@@ -105,7 +105,7 @@ module _ {K V : Type 0} where
   room_far its by p (room.Done end) = tt
   room_far its by p (room.Refused fault) = tt
 
-  room_comes : (its : CallKind) (by : Known) (value : Option V) (more : ℕ) (end : Room (Node K V) Unit) → SaysRoom {K = K} {V = V} (of_outcome end) → ComesAs {K = K} (Reserves more) (outcome_of by its value (of_outcome end))
+  room_comes : (its : CallKind) (by : Known) (value : Option V) (more : ℕ) (end : Room (Node K V) Unit) → SaysRoom {K = K} {V = V} (of_outcome end) → HasOutcomeOfKind {K = K} (Reserves more) (outcome_of by its value (of_outcome end))
   room_comes its by value more room.Goes for = tt
   room_comes its by value more room.Waits for = tt
   room_comes its by value more (room.Gave node) for = tt
@@ -113,7 +113,7 @@ module _ {K V : Type 0} where
   room_comes its by value more (room.Refused fault) for = for
 
   -- a walk that has come to no pair yet
-  pub walk_comes : (by : Known) (value : Option V) (said : Progress (Node K V)) (stands : Sweeping) → WalkSays said stands → SaysRoom said → ComesAs {K = K} Walk (outcome_of by kind.Walks value said)
+  pub walk_comes : (by : Known) (value : Option V) (said : Progress (Node K V)) (stands : Sweeping) → WalkSays said stands → SaysRoom said → HasOutcomeOfKind {K = K} Walk (outcome_of by kind.Walks value said)
   walk_comes by value progress.Goes stands says for = tt
   walk_comes by value progress.Waits stands says for = tt
   walk_comes by value (progress.Gave node) stands says for = tt
@@ -137,20 +137,20 @@ module _ (K V : Type 0) where
   sum_far its by p (counted.Done count) = tt
   sum_far its by p (counted.Refused fault) = tt
 
-  sum_comes : (its : CallKind) (by : Known) (value : Option V) (end : Counted ℕ) → NeverRefused {K = K} {V = V} (of_counting end) → ComesAs {K = K} Len (outcome_of {K = K} by its value (of_counting end))
+  sum_comes : (its : CallKind) (by : Known) (value : Option V) (end : Counted ℕ) → NeverRefused {K = K} {V = V} (of_counting end) → HasOutcomeOfKind {K = K} Len (outcome_of {K = K} by its value (of_counting end))
   sum_comes its by value counted.Goes for = tt
   sum_comes its by value counted.Waits for = tt
   sum_comes its by value (counted.Done count) for = refl
   sum_comes its by value (counted.Refused fault) for = for
 
 -- one that has ended is under way no more
-pub ended_not : {K V : Type 0} (machine : Machine K V K) (said : Progress (Node K V)) (next : Option (UnderWay K V K)) → GoesOnAs machine said next → (x : UnderWay K V K) → next ≡ Some x
+pub ended_not : {K V : Type 0} (machine : Machine K V K) (said : Progress (Node K V)) (next : Option (UnderWay K V K)) → ContinuesAs machine said next → (x : UnderWay K V K) → next ≡ Some x
     → (fault : Fault) → said ≡ progress.Refused fault → ⊥
 ended_not machine (progress.Refused other) next is x e fault f = cc (is, e)
 ended_not machine _ next is x e fault f = cc f
 
 module _ {K V : Type 0} (same : K → K → Bool) (hash : ℕ → K → ℕ) (name : ℕ → List ℕ) (m : Moment K V) (known : Known) (s : Scene K V) (old new : Held K V) (at_old : IsAt same hash old s)
-    (whole : ShowsWhole same name m known s) (map i : ℕ) (c : CallThere K V) (c_is : call_of (name i) m ≡ Some c) (its : CallKind) (its_is : kind_of c.call ≡ its) (value : Option V) where
+    (whole : RefinesWhole same name m known s) (map i : ℕ) (c : CallThere K V) (c_is : call_of (name i) m ≡ Some c) (its : CallKind) (its_is : kind_of c.call ≡ its) (value : Option V) where
   abbrev pub known2 : Known
   known2 = known_after (acts.Call i map) new.changed known
 
@@ -159,7 +159,7 @@ module _ {K V : Type 0} (same : K → K → Bool) (hash : ℕ → K → ℕ) (na
 
   -- what is so of such a step
   pub record Says (u : UnderWay K V K) (under : s.calls map i ≡ Some u) (said : Progress (Node K V)) (leads : StepLeads same hash i said s old new) : Type 0 where
-    pub comes : ComesAs c.call (outcome_of known2 its value said)
+    pub comes : HasOutcomeOfKind c.call (outcome_of known2 its value said)
     pub far : (x : UnderWay K V K) → (leads map u under).4.next ≡ Some x → IsAsFar its (far_then known2 said) (machine_of x)
     pub asks : (x : UnderWay K V K) → (leads map u under).4.next ≡ Some x → AsksJust known2 x (outcome_of known2 its value said)
     pub room : (x : UnderWay K V K) → (leads map u under).4.next ≡ Some x → RefusedForRoom (machine_of x)
@@ -176,7 +176,7 @@ module _ {K V : Type 0} (same : K → K → Bool) (hash : ℕ → K → ℕ) (na
     pub at_new : IsAt same hash new s2
     at_new = (leads map u under).5
 
-    pub whole2 : ShowsWhole same name (with_effects (Some (name i)) (Some map) effects m) known2 s2
+    pub whole2 : RefinesWhole same name (with_effects (Some (name i)) (Some map) effects m) known2 s2
     whole2 = calls_keep_whole K V same hash name m known s old new at_old whole map i u under said leads
 
     pub here_then : (x : UnderWay K V K) → (leads map u under).4.next ≡ Some x → s2.calls map i ≡ Some x
@@ -207,10 +207,10 @@ module _ {K V : Type 0} (same : K → K → Bool) (hash : ℕ → K → ℕ) (na
     key_may (progress.Asks a) leads about is = key_asks known2 one on.asked asks.0 question.0 asks.2 (subst (λ (g : Given K V). FitsAsking (kind_given g).present (kind_given g).absent (kind_given g).takes asks.0) on.given fit)
       where
         it : (after : CallOnKey K V K) × ((leads map (OnKey x) under).4.next ≡ Some (OnKey after))
-            × ((by : Known) (asked : Option ℕ) → IsToldQuestion by a asked → AsksThere by after.call.stands asked)
+            × ((by : Known) (asked : Option ℕ) → IsQuestionAsked by a asked → AsksThere by after.call.stands asked)
         it = asking_steps_stand_there K V same hash s old new map i x under a leads
 
-        question : (q : Option ℕ) × IsToldQuestion known2 a q
+        question : (q : Option ℕ) × IsQuestionAsked known2 a q
         question = questions_have_words K V same hash name m known s old new at_old whole map i (OnKey x) under a leads
 
         asks : AsksThere known2 it.0.call.stands question.0
@@ -274,7 +274,7 @@ module _ {K V : Type 0} (same : K → K → Bool) (hash : ℕ → K → ℕ) (na
     key_just (progress.Done answer) leads y goes = asks_nothing known2 y _ (λ q e. cc e)
     key_just (progress.Refused fault) leads y goes = asks_nothing known2 y _ (λ q e. cc e)
 
-    key_comes : (said : Progress (Node K V)) (leads : StepLeads same hash i said s old new) (end : Called (Node K V)) → said ≡ of_called end → ComesAs (On one) (outcome_of known2 its value (of_called end))
+    key_comes : (said : Progress (Node K V)) (leads : StepLeads same hash i said s old new) (end : Called (Node K V)) → said ≡ of_called end → HasOutcomeOfKind (On one) (outcome_of known2 its value (of_called end))
     key_comes said leads called.Goes is = tt
     key_comes said leads called.Waits is = tt
     key_comes said leads (called.Gave node) is = tt
@@ -286,8 +286,8 @@ module _ {K V : Type 0} (same : K → K → Bool) (hash : ℕ → K → ℕ) (na
     pub key_says : (said : Progress (Node K V)) (leads : StepLeads same hash i said s old new) → Says (OnKey x) under said leads
     key_says said leads =
         let did = (leads map (OnKey x) under).4.did in record {
-          comes = subst (λ (z : Call K V). ComesAs z (outcome_of known2 its value said)) (sym one_is)
-              (subst (λ (z : Progress (Node K V)). ComesAs (On one) (outcome_of known2 its value z)) (sym did.3) (key_comes said leads did.1 did.3));
+          comes = subst (λ (z : Call K V). HasOutcomeOfKind z (outcome_of known2 its value said)) (sym one_is)
+              (subst (λ (z : Progress (Node K V)). HasOutcomeOfKind (On one) (outcome_of known2 its value z)) (sym did.3) (key_comes said leads did.1 did.3));
           far = λ y goes. subst (λ (z : Machine K V K). IsAsFar its (far_then known2 said) z)
               (sym (goes_as (leads map (OnKey x) under).1 said (leads map (OnKey x) under).4.next (leads map (OnKey x) under).4.goes_on y goes ∙ did.2))
               (subst (λ (z : Progress (Node K V)). IsAsFar its (far_then known2 z) (kinds.Key did.0)) (sym did.3) (key_far its known2 did.0 did.1));
@@ -308,8 +308,8 @@ module _ {K V : Type 0} (same : K → K → Bool) (hash : ℕ → K → ℕ) (na
       let to = leads map (ForRoom r) under in
       let for = reserve_room same to.0.hash old new to.1 said r.reserve room to.3 in
       let did = to.4.did in record {
-        comes = subst (λ (z : Call K V). ComesAs z (outcome_of known2 its value said)) (sym call_is)
-            (subst (λ (z : Progress (Node K V)). ComesAs {K = K} (Reserves more) (outcome_of known2 its value z)) (sym did.3) (room_comes its known2 value more did.1 (subst SaysRoom did.3 for.1)));
+        comes = subst (λ (z : Call K V). HasOutcomeOfKind z (outcome_of known2 its value said)) (sym call_is)
+            (subst (λ (z : Progress (Node K V)). HasOutcomeOfKind {K = K} (Reserves more) (outcome_of known2 its value z)) (sym did.3) (room_comes its known2 value more did.1 (subst SaysRoom did.3 for.1)));
         far = λ y goes. subst (λ (z : Machine K V K). IsAsFar its (far_then known2 said) z) (sym (goes_as to.1 said to.4.next to.4.goes_on y goes ∙ did.2))
             (subst (λ (z : Progress (Node K V)). IsAsFar {K = K} {V = V} its (far_then known2 z) (kinds.Reserve did.0)) (sym did.3) (room_far its known2 did.0 did.1));
         asks = λ y goes. no_key (ForRoom r) under said leads (λ p e. let a = did.2 in cc (a, e)) y goes;
@@ -320,8 +320,8 @@ module _ {K V : Type 0} (same : K → K → Bool) (hash : ℕ → K → ℕ) (na
   sum_says sum under call_is said leads =
       let to = leads map (Counting sum) under in
       let did = to.4.did in record {
-        comes = subst (λ (z : Call K V). ComesAs z (outcome_of known2 its value said)) (sym call_is)
-            (subst (λ (z : Progress (Node K V)). ComesAs {K = K} Len (outcome_of known2 its value z)) (sym did.3) (sum_comes K V its known2 value did.1 (subst NeverRefused did.3 (sum_room same to.0.hash old new to.1 said sum to.3))));
+        comes = subst (λ (z : Call K V). HasOutcomeOfKind z (outcome_of known2 its value said)) (sym call_is)
+            (subst (λ (z : Progress (Node K V)). HasOutcomeOfKind {K = K} Len (outcome_of known2 its value z)) (sym did.3) (sum_comes K V its known2 value did.1 (subst NeverRefused did.3 (sum_room same to.0.hash old new to.1 said sum to.3))));
         far = λ y goes. subst (λ (z : Machine K V K). IsAsFar its (far_then known2 said) z) (sym (goes_as to.1 said to.4.next to.4.goes_on y goes ∙ did.2))
             (subst (λ (z : Progress (Node K V)). IsAsFar {K = K} {V = V} its (far_then known2 z) (kinds.Count did.0)) (sym did.3) (sum_far K V its known2 did.0 did.1));
         asks = λ y goes. no_key (Counting sum) under said leads (λ p e. let a = did.2 in cc (a, e)) y goes;

@@ -13,7 +13,7 @@ use Rattle.run_schedules.specs.Schedules.Terms.{Terms}
 use Rattle.owner_whole.specs.Given.CallersRows.{IsUsedAlike}
 use Rattle.owner_whole.specs.Given.CallersTogether.{UnderWay}
 use Rattle.owner_whole.proofs.Given.CallersTogether.At.{at_other, at_same}
-use Rattle.owner_whole.specs.Given.FinishesMachines.{MachineStepsAmong, machine_of}
+use Rattle.owner_whole.specs.Given.FinishesMachines.{MachineStepsWithEndings, machine_of}
 use Rattle.owner_whole.specs.Given.FinishesMaps.{IsSameMap, Standing}
 use Rattle.play_scheduler.specs.Given.ScenesDeclared.row.SlotUse.{SlotUse}
 use Rattle.play_scheduler.specs.Given.ScenesDeclared.row.SlotUse.TheVariants as used
@@ -21,7 +21,7 @@ use Rattle.play_scheduler.specs.Given.FollowsCalling.{NoneNamed}
 use Rattle.play_scheduler.proofs.Given.FollowsCalling.{apart_back, is_same_refl}
 use Rattle.play_scheduler.specs.Given.LoggedShown.{IsShown}
 use Rattle.play_scheduler.specs.Given.LoggedDeclared.logged.Logged.{Logged}
-use Rattle.play_scheduler.specs.Played.{CallsAs, IsUnderWayAs, StandsAs}
+use Rattle.play_scheduler.specs.Played.{CallsAs, IsUnderWayAs, RefinesAs}
 use Rattle.run_executor.specs.Named.Seen.{is_named, named, seen, seen_of}
 use Rattle.run_executor.specs.declared.caller.NamedCaller.{NamedCaller}
 use Rattle.run_executor.specs.declared.caller.Stands.{Stands as HowFar}
@@ -47,7 +47,7 @@ same_stands (Some x) after same st e = (record x { blocks = same.0; sights = sam
 
 -- The machine of its caller is as far as is said of it then; those of others are as far as before.
 module _ {K V S : Type 0} (Far Then : NamedCaller V → Machine K V K → Type 0) (own : List ℕ) (stays : (x : NamedCaller V) → is_named own x ≡ false → (machine : Machine K V K) → Far x machine → Then x machine)
-    (same : K → K → Bool) (hash : K → ℕ) (terms : Terms) (m : Moment K V) (p : Scheduler K V S) (stands : StandsAs Far same hash terms m p) (place : ℕ)
+    (same : K → K → Bool) (hash : K → ℕ) (terms : Terms) (m : Moment K V) (p : Scheduler K V S) (stands : RefinesAs Far same hash terms m p) (place : ℕ)
     (here : HereAs Far same hash terms m p stands own place) (said : Progress (Node K V)) (new : Logged K V S)
     (leads : StepLeads same (λ map. hash) here.caller.number said stands.scene (held_by p.logged.executor) (held_by new.executor)) where
   abbrev s : Scene K V
@@ -109,7 +109,7 @@ module _ {K V S : Type 0} (Far Then : NamedCaller V → Machine K V K → Type 0
   stand_then : (t : NamedMap) → ((standing : Standing K) × (s.maps t.number ≡ Some standing)) → (standing : Standing K) × (s2.maps t.number ≡ Some standing)
   stand_then t st = by (cases_eq t.number d.map)
     where
-      moved : MachineStepsAmong V same same p.logged.executor.batch_size p.logged.executor.roots slot_of s.world s.maps s.calls s.makers s.enders d.map (leads d.map u under).0 i new.executor.memory.memory u
+      moved : MachineStepsWithEndings V same same p.logged.executor.batch_size p.logged.executor.roots slot_of s.world s.maps s.calls s.makers s.enders d.map (leads d.map u under).0 i new.executor.memory.memory u
           (leads d.map u under).1 said
       moved = (leads d.map u under).4
 
@@ -176,7 +176,7 @@ module _ {K V S : Type 0} (Far Then : NamedCaller V → Machine K V K → Type 0
 
     module _ (there : m2.there ≡ m.there) (mapped : m2.is_mapped ≡ m.is_mapped) (closed : m2.is_closed ≡ m.is_closed) (maps : map named m2.maps ≡ map named m.maps) where
       with_calls : (callers : List (NamedCaller V)) → CallsAs Then stands.name s2 p.there m2 callers → ((j : ℕ) → ((n : ℕ) → s2.calls n j ≡ None) → work_of new.executor j ≡ None)
-          → StandsAs Then same hash terms m2 (record p { logged = new; calls = callers })
+          → RefinesAs Then same hash terms m2 (record p { logged = new; calls = callers })
       with_calls callers are rests = record {
         name = stands.name;
         scene = s2;
@@ -199,7 +199,7 @@ module _ {K V S : Type 0} (Far Then : NamedCaller V → Machine K V K → Type 0
       pub going_on : (x : UnderWay K V K) → next ≡ Some x → (h : HowFar) (value : Option V) → Then (record d { stands = h; value = value }) (machine_of x)
           → map seen m2.calls ≡ map seen_of (slice_set calls place (record d { stands = h; value = value }))
           → (callers : List (NamedCaller V)) → callers ≡ slice_set calls place (record d { stands = h; value = value })
-          → StandsAs Then same hash terms m2 (record p { logged = new; calls = callers })
+          → RefinesAs Then same hash terms m2 (record p { logged = new; calls = callers })
       going_on x goes h value as_far listed callers items =
           with_calls callers (subst (λ (xs : List (NamedCaller V)). CallsAs Then stands.name s2 p.there m2 xs) (sym items) (record { listed = listed; once = once_then; each = each_then; only = only_then })) rests_then
         where
@@ -237,7 +237,7 @@ module _ {K V S : Type 0} (Far Then : NamedCaller V → Machine K V K → Type 0
 
       -- it has ended
       pub has_gone : next ≡ None → map seen m2.calls ≡ map seen_of (remove calls place) → (callers : List (NamedCaller V)) → callers ≡ remove calls place
-          → StandsAs Then same hash terms m2 (record p { logged = new; calls = callers })
+          → RefinesAs Then same hash terms m2 (record p { logged = new; calls = callers })
       has_gone over listed callers items =
           with_calls callers (subst (λ (xs : List (NamedCaller V)). CallsAs Then stands.name s2 p.there m2 xs) (sym items) (record {
             listed = listed;

@@ -20,31 +20,31 @@ use Rattle.run_schedules.specs.Schedules.Views.{call_of}
 use Rattle.owner_whole.specs.Given.LateFaults.{RoomInSweeping}
 use Rattle.owner_whole.specs.Given.CallersOverAll.{CallOverAll}
 use Rattle.owner_whole.specs.Given.CallersTogether.{UnderWay, OverAll}
-use Rattle.owner_whole.specs.Given.FinishesMachines.{GoesOnAs, machine_of}
+use Rattle.owner_whole.specs.Given.FinishesMachines.{ContinuesAs, machine_of}
 use Rattle.owner_whole.specs.Given.FinishesMaps.{Standing}
 use Rattle.run_executor.specs.Given.EffectsKnown.{Known}
 use Rattle.run_executor.specs.Given.HandsCalling.{AsksJust}
-use Rattle.run_executor.specs.Given.MomentsWhole.{ShowsWhole}
+use Rattle.run_executor.specs.Given.MomentsWhole.{RefinesWhole}
 use Rattle.play_scheduler.proofs.Given.HistoriesNoKey.Sweeps.{SweepsOn, sweeps_on}
 use Rattle.run_executor.specs.Named.Machines.{IsAsFar, IsFor, RefusedForRoom}
 use Rattle.run_executor.specs.Named.Seen.{kind_of}
-use Rattle.play_stepping.specs.EventSteps.Stepping.{ComesAs}
-use Rattle.run_grows.specs.Says.{far_then, outcome_of}
+use Rattle.play_stepping.specs.EventSteps.Stepping.{HasOutcomeOfKind}
+use Rattle.run_sweeps.specs.Says.{far_then, outcome_of}
 use Rattle.run_executor.specs.declared.caller.Stands.TheVariants as far
 use Rattle.run_executor.specs.declared.kind.CallKind.{CallKind}
 use Rattle.run_executor.specs.declared.kind.CallKind.TheVariants as kind
-use Rattle.run_grows.proofs.Quiet.RoomSays.{SaysRoom, sweep_room}
+use Rattle.run_sweeps.proofs.Quiet.RoomSays.{SaysRoom, sweep_room}
 use Rattle.play_stepping.proofs.EventSteps.StepSays.{Says, ended_not, goes_as, here_then, known2, no_key, s2, then_there, together2, walk_comes, walk_far}
-use Rattle.run_grows.proofs.Quiet.SweepSays.{IsWalkSaying, ShowsNone, WalkSays, shows_none, walk_says}
+use Rattle.run_sweeps.proofs.Quiet.SweepSays.{IsWalkSaying, ShowsNone, WalkSays, shows_none, walk_says}
 use Rattle.play_scheduler.proofs.Given.ScenesMay.{standing_is}
 use Rattle.run_executor.specs.Given.ScenesHeld.{Held, IsAt}
 use Rattle.play_scheduler.specs.Given.ScenesScene.{Scene}
 use Rattle.run_executor.specs.Given.ScenesStepping.{StepLeads}
-use Rattle.run_grows.proofs.Quiet.Sweeps.{retains_at, walks_at}
+use Rattle.run_sweeps.proofs.Quiet.Sweeps.{retains_at, walks_at}
 
 module _ {K V : Type 0} where
   -- a clearing or a retaining, by what it says
-  clear_comes : (by : Known) (value : Option V) (end : Swept (Node K V)) → ShowsNone {K = K} {V = V} (of_swept end) → SaysRoom {K = K} {V = V} (of_swept end) → ((word : ℕ) → end ≡ ends.Asks word → ⊥) → ComesAs {K = K} Clear (outcome_of by kind.Clears value (of_swept end))
+  clear_comes : (by : Known) (value : Option V) (end : Swept (Node K V)) → ShowsNone {K = K} {V = V} (of_swept end) → SaysRoom {K = K} {V = V} (of_swept end) → ((word : ℕ) → end ≡ ends.Asks word → ⊥) → HasOutcomeOfKind {K = K} Clear (outcome_of by kind.Clears value (of_swept end))
   clear_comes by value ends.Goes shows for asks = tt
   clear_comes by value ends.Waits shows for asks = tt
   clear_comes by value (ends.Gave node) shows for asks = tt
@@ -54,7 +54,7 @@ module _ {K V : Type 0} where
   clear_comes by value ends.Done shows for asks = refl
   clear_comes by value (ends.Refused fault) shows for asks = for
 
-  retain_comes : (by : Known) (value : Option V) (end : Swept (Node K V)) → ShowsNone {K = K} {V = V} (of_swept end) → SaysRoom {K = K} {V = V} (of_swept end) → ComesAs {K = K} Retain (outcome_of by kind.Retains value (of_swept end))
+  retain_comes : (by : Known) (value : Option V) (end : Swept (Node K V)) → ShowsNone {K = K} {V = V} (of_swept end) → SaysRoom {K = K} {V = V} (of_swept end) → HasOutcomeOfKind {K = K} Retain (outcome_of by kind.Retains value (of_swept end))
   retain_comes by value ends.Goes shows for = tt
   retain_comes by value ends.Waits shows for = tt
   retain_comes by value (ends.Gave node) shows for = tt
@@ -85,7 +85,7 @@ module _ {K V : Type 0} where
       of (progress.Refused fault) sh told = (for, λ walks. absurd (on walks))
 
 module _ {K V : Type 0} (same : K → K → Bool) (hash : ℕ → K → ℕ) (name : ℕ → List ℕ) (m : Moment K V) (known : Known) (s : Scene K V) (old new : Held K V) (at_old : IsAt same hash old s)
-    (whole : ShowsWhole same name m known s) (map i : ℕ) (c : CallThere K V) (c_is : call_of (name i) m ≡ Some c) (its : CallKind) (its_is : kind_of c.call ≡ its) (value : Option V)
+    (whole : RefinesWhole same name m known s) (map i : ℕ) (c : CallThere K V) (c_is : call_of (name i) m ≡ Some c) (its : CallKind) (its_is : kind_of c.call ≡ its) (value : Option V)
     (o : CallOverAll) (under : s.calls map i ≡ Some (OverAll o)) (said : Progress (Node K V)) (leads : StepLeads same hash i said s old new) (now : IsAsFar {K = K} {V = V} its far.Goes (machine_of (OverAll o)))
     (room : RoomInSweeping o.sweep.stands) where
   abbrev by : Known
@@ -155,8 +155,8 @@ module _ {K V : Type 0} (same : K → K → Bool) (hash : ℕ → K → ℕ) (na
   asks_next : (word : ℕ) → end ≡ ends.Asks word → (y : UnderWay K V K) × ((leads map (OverAll o) under).4.next ≡ Some y)
   asks_next word is = on (said_is ∙ ap of_swept is) (leads map (OverAll o) under).4.goes_on
     where
-      on : said ≡ progress.Asks (Some word) → GoesOnAs (leads map (OverAll o) under).1 said (leads map (OverAll o) under).4.next → (y : UnderWay K V K) × ((leads map (OverAll o) under).4.next ≡ Some y)
-      on e goes = let g = subst (λ (z : Progress (Node K V)). GoesOnAs (leads map (OverAll o) under).1 z (leads map (OverAll o) under).4.next) e goes in (g.0, g.1)
+      on : said ≡ progress.Asks (Some word) → ContinuesAs (leads map (OverAll o) under).1 said (leads map (OverAll o) under).4.next → (y : UnderWay K V K) × ((leads map (OverAll o) under).4.next ≡ Some y)
+      on e goes = let g = subst (λ (z : Progress (Node K V)). ContinuesAs (leads map (OverAll o) under).1 z (leads map (OverAll o) under).4.next) e goes in (g.0, g.1)
 
   removing : removes o.sweep.purpose ≡ true → IsFor its o.sweep.purpose → (y : UnderWay K V K) → (leads map (OverAll o) under).4.next ≡ Some y → IsAsFar its (far_then by said) (machine_of y)
   removing takes for y goes = subst (λ (z : Machine K V K). IsAsFar its (far_then by said) z) (sym (next_is y goes))
@@ -164,9 +164,9 @@ module _ {K V : Type 0} (same : K → K → Bool) (hash : ℕ → K → ℕ) (na
 
   pub clear_says : c.call ≡ Clear → Its
   clear_says call_is = record {
-    comes = subst (λ (z : Call K V). ComesAs z (outcome_of by its value said)) (sym call_is)
-        (subst (λ (k : CallKind). ComesAs {K = K} Clear (outcome_of by k value said)) its_clears
-        (subst (λ (z : Progress (Node K V)). ComesAs {K = K} Clear (outcome_of by kind.Clears value z)) (sym said_is)
+    comes = subst (λ (z : Call K V). HasOutcomeOfKind z (outcome_of by its value said)) (sym call_is)
+        (subst (λ (k : CallKind). HasOutcomeOfKind {K = K} Clear (outcome_of by k value said)) its_clears
+        (subst (λ (z : Progress (Node K V)). HasOutcomeOfKind {K = K} Clear (outcome_of by kind.Clears value z)) (sym said_is)
         (clear_comes by value end (subst ShowsNone said_is (shows takes)) (subst SaysRoom said_is for_room.1) never)));
     far = removing takes now.0;
     asks = asks_none;
@@ -190,9 +190,9 @@ module _ {K V : Type 0} (same : K → K → Bool) (hash : ℕ → K → ℕ) (na
 
   pub retain_says : c.call ≡ Retain → Its
   retain_says call_is = record {
-    comes = subst (λ (z : Call K V). ComesAs z (outcome_of by its value said)) (sym call_is)
-        (subst (λ (k : CallKind). ComesAs {K = K} Retain (outcome_of by k value said)) its_retains
-        (subst (λ (z : Progress (Node K V)). ComesAs {K = K} Retain (outcome_of by kind.Retains value z)) (sym said_is)
+    comes = subst (λ (z : Call K V). HasOutcomeOfKind z (outcome_of by its value said)) (sym call_is)
+        (subst (λ (k : CallKind). HasOutcomeOfKind {K = K} Retain (outcome_of by k value said)) its_retains
+        (subst (λ (z : Progress (Node K V)). HasOutcomeOfKind {K = K} Retain (outcome_of by kind.Retains value z)) (sym said_is)
         (retain_comes by value end (subst ShowsNone said_is (shows takes)) (subst SaysRoom said_is for_room.1))));
     far = removing takes now.0;
     asks = asks_none;
@@ -207,8 +207,8 @@ module _ {K V : Type 0} (same : K → K → Bool) (hash : ℕ → K → ℕ) (na
 
   pub walk_step_says : c.call ≡ Walk → Its
   walk_step_says call_is = record {
-    comes = subst (λ (z : Call K V). ComesAs z (outcome_of by its value said)) (sym call_is)
-        (subst (λ (k : CallKind). ComesAs {K = K} Walk (outcome_of by k value said)) its_walks (walk_comes by value said p2.stands says for_room.1));
+    comes = subst (λ (z : Call K V). HasOutcomeOfKind z (outcome_of by its value said)) (sym call_is)
+        (subst (λ (k : CallKind). HasOutcomeOfKind {K = K} Walk (outcome_of by k value said)) its_walks (walk_comes by value said p2.stands says for_room.1));
     far = λ y goes. subst (λ (z : Machine K V K). IsAsFar its (far_then by said) z) (sym (next_is y goes))
         (subst (λ (k : CallKind). IsAsFar {K = K} {V = V} k (far_then by said) (kinds.Sweep p2)) its_walks
         (walk_far by said p2 (goes_on.0 ∙ walks) says (ended_not (leads map (OverAll o) under).1 said (leads map (OverAll o) under).4.next (leads map (OverAll o) under).4.goes_on y goes)));

@@ -10,7 +10,7 @@ use Rattle.run_schedules.specs.Schedules.After.{moment}
 use Rattle.run_schedules.specs.Schedules.Entry.{Entry}
 use Rattle.run_schedules.specs.Schedules.Moment.{Moment}
 use Rattle.run_schedules.specs.Schedules.Terms.{Terms}
-use Rattle.play_scheduler.specs.Played.{IsDue, entry_of}
+use Rattle.play_scheduler.specs.Played.{IsInTurn, entry_of}
 use Rattle.run_executor.specs.Named.Seen.{is_named}
 use Rattle.play_stepping.specs.EventSteps.Stepping.{PlaysOn, SaysAgain, TakenAs, TakenBy}
 use Rattle.run_executor.specs.declared.caller.Stands.{Stands as HowFar}
@@ -33,7 +33,7 @@ module _ {K V S : Type 0} (same : K → K → Bool) (hash : K → ℕ) (terms : 
       subst (λ (x : Scheduler K V S). PlaysOn same hash terms log (entry_of event played) x) (sym says.3)
       (subst (λ (e : Entry K V). PlaysOn same hash terms log e old) (sym (entry_is event played outcome 0 [] says.0 says.1 says.2)) so)
 
-  module _ (due : IsDue same hash terms log (Step own refuse) old) (taken : TakenAs same hash place 1 played old new) where
+  module _ (due : IsInTurn same hash terms log (Step own refuse) old) (taken : TakenAs same hash place 1 played old new) where
     abbrev here : Here same hash terms m old due.played own place
     here = here_at same hash terms m old due.played own place placed
 
@@ -47,7 +47,7 @@ module _ {K V S : Type 0} (same : K → K → Bool) (hash : K → ℕ) (terms : 
     pub plays_taken : PlaysOn same hash terms log (entry_of (Step own refuse) played) new
     plays_taken = by_step here.caller.stands refl (taken here.caller here.at)
 
-  module _ (due : IsDue same hash terms log (Go own refuse) old) (taken : TakenAs same hash place most_steps played old new) where
+  module _ (due : IsInTurn same hash terms log (Go own refuse) old) (taken : TakenAs same hash place most_steps played old new) where
     abbrev there : Here same hash terms m old due.played own place
     there = here_at same hash terms m old due.played own place placed
 

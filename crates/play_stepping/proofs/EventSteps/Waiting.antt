@@ -33,7 +33,7 @@ use Rattle.play_scheduler.specs.Given.FollowsCalls.{IsCalled}
 use Rattle.run_executor.proofs.Given.HandsCalling.{caller_is}
 use Rattle.play_scheduler.specs.Given.OwesLooking.{IsLooking}
 use Rattle.play_scheduler.proofs.Given.RowsHolders.{works_there}
-use Rattle.play_scheduler.specs.Played.{StandsFor}
+use Rattle.play_scheduler.specs.Played.{RefinesFor}
 use Rattle.play_scheduler.specs.Shapes.{shape_of}
 use Rattle.play_scheduler.specs.declared.scheduler.Scheduler.{Scheduler}
 use Rattle.play_scheduler.proofs.HeldTold.{has_call, its_guard, one_passes}
@@ -92,7 +92,7 @@ module _ {K V : Type 0} (same : K → K → Bool) (m : Moment K V) where
   pub at_once_for_resizes : (c : CallThere K V) → grows_in_chunks (map_at c.map m) ≡ false → IsForResizes c
   at_once_for_resizes c blocking d = at_once_so c d blocking c.call
 
-module _ {K V S : Type 0} (same : K → K → Bool) (hash : K → ℕ) (terms : Terms) (m : Moment K V) (p : Scheduler K V S) (stands : StandsFor same hash terms m p) where
+module _ {K V S : Type 0} (same : K → K → Bool) (hash : K → ℕ) (terms : Terms) (m : Moment K V) (p : Scheduler K V S) (stands : RefinesFor same hash terms m p) where
   module _ (number : ℕ) (st : Standing K) (is : stands.scene.maps number ≡ Some st) where
     -- the moment says how a map grows, and which table is its root's
     pub grows_as : grows_in_chunks (map_at number m) ≡ is_incremental st.setting.mode

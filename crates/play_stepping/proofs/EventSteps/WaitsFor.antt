@@ -24,7 +24,7 @@ use Rattle.play_scheduler.specs.Given.RuleWords.{Blocks}
 use Rattle.owner_whole.specs.Given.PointsFactsCalls.{CallFacts, CallingFacts, IsCopying, Unchanged}
 use Rattle.owner_whole.specs.Given.PointsSteps.{AreLawful}
 use Rattle.owner_whole.specs.Given.PointsTold.{IsRowOfCall}
-use Rattle.owner_whole.specs.Given.LateLateCalls.{LateCallFacts, LateCalling}
+use Rattle.owner_whole.specs.Given.LateLateCalls.{SupersededCallFacts, SupersededCalling}
 use Rattle.owner_whole.specs.Given.CallersRows.{IsRowOn, row_of}
 use Rattle.owner_whole.specs.Given.CallersSights.{seen_by}
 use Rattle.owner_whole.specs.Given.CallersTogether.{CallOnKey, UnderWay, OnKey, Together, in_slot}
@@ -46,17 +46,17 @@ use Rattle.run_executor.specs.Given.EffectsDeclared.changed.Changed.TheVariants 
 use Rattle.owner_whole.specs.Given.FinishesMaps.{Standing}
 use Rattle.play_scheduler.specs.Given.FollowsCalls.{IsCalled}
 use Rattle.play_scheduler.proofs.Given.OwesTables.Hosts.{Step}
-use Rattle.play_scheduler.specs.Played.{StandsFor}
+use Rattle.play_scheduler.specs.Played.{RefinesFor}
 use Rattle.play_scheduler.specs.declared.scheduler.Scheduler.{Scheduler}
 use Rattle.play_stepping.proofs.EventSteps.CopiesWait.{only_looks_by}
 use Rattle.play_stepping.proofs.EventSteps.BeingCopied.{may_be_copied}
-use Rattle.run_grows.proofs.Quiet.QuietWaits.{asked_quiet, row_quiet, try_quiet}
+use Rattle.run_sweeps.proofs.Quiet.QuietWaits.{asked_quiet, row_quiet, try_quiet}
 use Rattle.play_stepping.proofs.EventSteps.Waiting.{at_once_for_resizes, for_pair, grows_as, waits_for_holder, waits_for_worker}
 use Rattle.play_stepping.proofs.EventSteps.RoomsWait.{at_once_on, copier_on, copier_waits, dispose_on, late_on, on_slot}
 use Rattle.run_executor.proofs.Given.ScenesTold.{as_step}
 use Rattle.play_scheduler.specs.Given.ScenesScene.{slot_of}
 
-module _ {K V S : Type 0} (same : K → K → Bool) (hash : K → ℕ) (terms : Terms) (m : Moment K V) (p : Scheduler K V S) (stands : StandsFor same hash terms m p) (of i : ℕ) (u : CallOnKey K V K)
+module _ {K V S : Type 0} (same : K → K → Bool) (hash : K → ℕ) (terms : Terms) (m : Moment K V) (p : Scheduler K V S) (stands : RefinesFor same hash terms m p) (of i : ℕ) (u : CallOnKey K V K)
     (under : stands.scene.calls of i ≡ Some (OnKey u)) (st : Standing K) (is : stands.scene.maps of ≡ Some st) where
   abbrev w : World (Node K V)
   w = stands.scene.world
@@ -91,7 +91,7 @@ module _ {K V S : Type 0} (same : K → K → Bool) (hash : K → ℕ) (terms : 
   module _ (mode : is_incremental st.setting.mode ≡ true) where
     -- in incremental mode it goes on in the tables from the root on
     fresh_of : CallFacts same hash same w i its_setting st.chart seen u.keys u.change u.call
-        ⊎ ((u.change ≡ Unchanged) × LateCallFacts same hash same w i its_setting st.chart seen u.keys u.began u.call) → CallFacts same hash same w i its_setting st.chart seen u.keys u.change u.call
+        ⊎ ((u.change ≡ Unchanged) × SupersededCallFacts same hash same w i its_setting st.chart seen u.keys u.began u.call) → CallFacts same hash same w i its_setting st.chart seen u.keys u.change u.call
     fresh_of (inl fresh) = fresh
     fresh_of (inr (same_change, late)) = absurd (let blocking = late.blocking in cc (mode, blocking))
 
@@ -115,7 +115,7 @@ module _ {K V S : Type 0} (same : K → K → Bool) (hash : K → ℕ) (terms : 
   begins_on (at.Copies copier) f = at_once_on same hash terms m p stands of st is i (OnKey u) under copier f.2
   begins_on _ f = tt
 
-  begins_late : (q : Calling) → LateCalling same hash same w i its_setting st.chart seen u.keys u.began u.call q → IsRowOn (slot_of i) (row_of (slot_of i) q)
+  begins_late : (q : Calling) → SupersededCalling same hash same w i its_setting st.chart seen u.keys u.began u.call q → IsRowOn (slot_of i) (row_of (slot_of i) q)
   begins_late (at.Disposes dispose answer) f = absurd f
   begins_late (at.Helps copier goal) f = absurd f
   begins_late (at.Copies copier) f = late_on same hash terms m p stands of st is i (OnKey u) under u.began copier f.1

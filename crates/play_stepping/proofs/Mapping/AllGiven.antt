@@ -31,7 +31,7 @@ use Rattle.play_scheduler.proofs.Given.OthersQuiet.{calls_none}
 use Rattle.owner_whole.proofs.Given.SeizeQuietSlots.Stages.{never_taken}
 use Rattle.run_executor.specs.ReclaimsAll.Reclaiming.{MayReclaim, NobodyHas}
 use Rattle.play_scheduler.specs.Given.ReclaimsReclaims.{AllIsReclaimed}
-use Rattle.play_scheduler.specs.Given.RemainsRemains.{ShowsRemains}
+use Rattle.play_scheduler.specs.Given.RemainsRemains.{RefinesRemains}
 use Rattle.play_scheduler.proofs.Given.RemainsMaps.{reclaimed_remain}
 use Rattle.play_scheduler.proofs.Given.RemainsStays.{roots_stay}
 use Rattle.play_scheduler.specs.Given.LoggedReclaims.{AllIsShown, ReclaimRetired, ReclaimingCame, ReclaimingRan}
@@ -40,7 +40,7 @@ use Rattle.play_scheduler.proofs.Given.RowsElsewhere.{elsewhere, kept_elsewhere,
 use Rattle.play_scheduler.proofs.Given.RowsFacts.{no_ending_of, no_making_of, no_work_at, row_rests, used_once}
 use Rattle.play_scheduler.proofs.Given.RowsLists.{all_so}
 use Rattle.play_scheduler.proofs.Given.RowsNames.{nobody_named}
-use Rattle.play_scheduler.specs.Played.{IsDue, IsUnderWay, Plays, StandsFor}
+use Rattle.play_scheduler.specs.Played.{IsInTurn, IsUnderWay, Plays, RefinesFor}
 use Rattle.play_scheduler.specs.Reclaiming.{MayGiveAll, are_gone}
 use Rattle.run_executor.specs.Named.Seen.{named, named_of, seen, seen_of}
 use Rattle.run_executor.specs.declared.caller.NamedCaller.{NamedCaller}
@@ -67,7 +67,7 @@ none_in : {X : Type 0} (xs : List X) → (length xs == 0) ≡ true → xs ≡ []
 none_in [] e = refl
 none_in (x ∷ xs) e = absurd (let z = eqb-true (suc (length xs)) 0 e in omega (arith, z))
 
-module _ {K V S : Type 0} (same : K → K → Bool) (hash : K → ℕ) (terms : Terms) (m : Moment K V) (p : Scheduler K V S) (stands : StandsFor same hash terms m p) where
+module _ {K V S : Type 0} (same : K → K → Bool) (hash : K → ℕ) (terms : Terms) (m : Moment K V) (p : Scheduler K V S) (stands : RefinesFor same hash terms m p) where
   abbrev s : Scene K V
   s = stands.scene
 
@@ -135,10 +135,10 @@ module _ {K V S : Type 0} (same : K → K → Bool) (hash : K → ℕ) (terms : 
       Then events closed alone did = elsewhere events m.is_mapped closed alone nobody m.slots [] [] (with_effects None None did m)
 
       pub stands_then : (events : ℕ) (closed alone : Bool) (p2 : Scheduler K V S) → p2 ≡ record p { logged = new; there = nobody; is_closed = p2.is_closed } → closed ≡ p2.is_closed
-          → StandsFor same hash terms (Then events closed alone after) p2
+          → RefinesFor same hash terms (Then events closed alone after) p2
       stands_then events closed alone p2 is is_closed =
-          subst (λ (xs : List Effect). StandsFor same hash terms (Then events closed alone xs) p2) (sym did_is)
-          (subst (StandsFor same hash terms (Then events closed alone ran.0)) (sym is) (record {
+          subst (λ (xs : List Effect). RefinesFor same hash terms (Then events closed alone xs) p2) (sym did_is)
+          (subst (RefinesFor same hash terms (Then events closed alone ran.0)) (sym is) (record {
             name = stands.name;
             scene = s2;
             shown = record {
@@ -147,7 +147,7 @@ module _ {K V S : Type 0} (same : K → K → Bool) (hash : K → ℕ) (terms : 
               kept = kept_elsewhere w (known new.notes) events m.is_mapped closed alone nobody m.slots [] [] stands.name s2 u.3.kept;
               counted = record {
                 numbered = numbered_elsewhere w (known new.notes) events m.is_mapped closed alone nobody m.slots [] [] new u.3.numbered;
-                remains = subst (λ (r : ℕ). ShowsRemains r (elsewhere events m.is_mapped closed alone nobody m.slots [] [] w) (known new.notes) s2) (sym roots)
+                remains = subst (λ (r : ℕ). RefinesRemains r (elsewhere events m.is_mapped closed alone nobody m.slots [] [] w) (known new.notes) s2) (sym roots)
                     (reclaimed_remain K V p.logged.executor.roots m (elsewhere events m.is_mapped closed alone nobody m.slots [] [] w) (known p.logged.notes) (known new.notes) s s2 stands.shown.counted.remains (roots_stay None None ran.0 m) refl
                     (λ j. ap (λ (f : ℕ → Option (Beginning K)). f j) u.1.makers ∙ no_making_of same hash p.logged.executor s stands.shown.is_at j (nobody_has j))
                     (λ j. ap (λ (f : ℕ → Option (Finishing K V)). f j) u.1.enders ∙ no_ending_of same hash p.logged.executor s stands.shown.is_at j (nobody_has j)) u.2);
@@ -179,7 +179,7 @@ module _ {K V S : Type 0} (same : K → K → Bool) (hash : K → ℕ) (terms : 
   abbrev now : Moment K V
   now = moment log
 
-  module _ (due : IsDue same hash terms log ReclaimAll p) where
+  module _ (due : IsInTurn same hash terms log ReclaimAll p) where
     pub not_left : are_gone p.there p.calls ≡ false → Plays same hash terms log (quiet ReclaimAll (Refused Busy)) p
     not_left there =
         let e = quiet ReclaimAll (Refused Busy) in
@@ -196,7 +196,7 @@ module _ {K V S : Type 0} (same : K → K → Bool) (hash : K → ℕ) (terms : 
           (now.events + 1) now.is_closed (now.is_alone && is_alone_on e now) p2 (is ∙ ap (λ (b : Bool). record p { logged = new; there = nobody; is_closed = b }) (sym (ap (λ (x : Scheduler K V S). x.is_closed) is)))
           (due.played.closed ∙ sym (ap (λ (x : Scheduler K V S). x.is_closed) is)))
 
-  module _ (due : IsDue same hash terms log Close p) where
+  module _ (due : IsInTurn same hash terms log Close p) where
     abbrev turn : Bool
     turn = is_left now && is_empty now.maps
 

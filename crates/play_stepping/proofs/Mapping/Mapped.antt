@@ -14,13 +14,13 @@ use Rattle.play_scheduler.specs.Given.LoggedDeclared.logged.Logged.{Logged}
 use Rattle.play_scheduler.proofs.Given.RowsElsewhere.{elsewhere, shown_elsewhere, kept_elsewhere, counted_elsewhere}
 use Rattle.play_scheduler.proofs.Given.RowsFacts.{no_ending_of, no_making_of, no_work_at, row_rests, used_still}
 use Rattle.play_scheduler.proofs.Given.RowsLists.{all_so}
-use Rattle.play_scheduler.specs.Played.{IsUnderWay, StandsFor}
+use Rattle.play_scheduler.specs.Played.{IsUnderWay, RefinesFor}
 use Rattle.run_executor.specs.Named.Seen.{named, named_of, seen}
 use Rattle.run_executor.specs.declared.named_map.NamedMap.{NamedMap}
 use Rattle.play_scheduler.specs.declared.scheduler.Scheduler.{Scheduler}
 use Rattle.play_scheduler.specs.Given.ScenesScene.{Scene}
 
-module _ {K V S : Type 0} (same : K → K → Bool) (hash : K → ℕ) (terms : Terms) (m : Moment K V) (p : Scheduler K V S) (stands : StandsFor same hash terms m p) (new : Logged K V S) (w : Moment K V)
+module _ {K V S : Type 0} (same : K → K → Bool) (hash : K → ℕ) (terms : Terms) (m : Moment K V) (p : Scheduler K V S) (stands : RefinesFor same hash terms m p) (new : Logged K V S) (w : Moment K V)
     (s2 : Scene K V) (shown : IsShown same hash stands.name w new s2) (calls : s2.calls ≡ stands.scene.calls) (rows : s2.world.row ≡ stands.scene.world.row)
     (uses : s2.world.uses ≡ stands.scene.world.uses) (makers : (j : ℕ) → stands.scene.makers j ≡ None → s2.makers j ≡ None)
     (enders : (j : ℕ) → stands.scene.enders j ≡ None → s2.enders j ≡ None) (no_call : w.calls ≡ m.calls) where
@@ -33,9 +33,9 @@ module _ {K V S : Type 0} (same : K → K → Bool) (hash : K → ℕ) (terms : 
   module _ (p2 : Scheduler K V S) (is : p2 ≡ record p { logged = new; maps = p2.maps; is_mapped = p2.is_mapped }) where
     pub stands_mapped : (is_mapped : Bool) → is_mapped ≡ p2.is_mapped → map named w.maps ≡ map named_of p2.maps → AllByRecursion Stands p2.maps → (there : Present) → there ≡ p.there
         → (events : ℕ) (is_alone : Bool) (slots : ℕ) (sheltered : List Sheltered) (remains : List Remains) → remains ≡ w.remains
-        → StandsFor same hash terms (elsewhere events is_mapped m.is_closed is_alone there slots sheltered remains w) p2
+        → RefinesFor same hash terms (elsewhere events is_mapped m.is_closed is_alone there slots sheltered remains w) p2
     stands_mapped is_mapped mapped listed stand there same_there events is_alone slots sheltered remains alike =
-        subst (StandsFor same hash terms (elsewhere events is_mapped m.is_closed is_alone there slots sheltered remains w)) (sym is) (record {
+        subst (RefinesFor same hash terms (elsewhere events is_mapped m.is_closed is_alone there slots sheltered remains w)) (sym is) (record {
           name = stands.name;
           scene = s2;
           shown = record {

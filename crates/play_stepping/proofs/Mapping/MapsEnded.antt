@@ -45,14 +45,16 @@ use Rattle.play_scheduler.specs.Given.RemainsRemains.{left_roots, map_roots}
 use Rattle.play_scheduler.proofs.Given.RemainsLeads.{waits_lead}
 use Rattle.play_scheduler.proofs.Given.RemainsLists.{among_append, found_among}
 use Rattle.play_scheduler.proofs.Given.RemainsStays.{remains_stay, roots_stay, used_then}
-use Rattle.play_scheduler.specs.Given.LoggedEnds.{EndCame, EndIsBegun, EndIsOver, EndRan, NotedStill, ended_as}
+use Rattle.play_scheduler.specs.Given.LoggedEnds.{EndCame, EndIsBegun, EndIsOver, EndRan, NotedStill}
+use Rattle.run_sweeps.specs.Given.Ends.{ended_as}
 use Rattle.play_scheduler.specs.Given.LoggedShown.{IsShown}
-use Rattle.play_scheduler.specs.Given.ShedsWaits.{TellsLeft, TellsWaiting}
+use Rattle.play_scheduler.specs.Given.ShedsWaits.{ReportsLeft, ReportsWaiting}
 use Rattle.play_scheduler.specs.Given.LoggedDeclared.logged.Logged.{Logged}
 use Rattle.play_scheduler.proofs.Given.RowsElsewhere.{elsewhere}
-use Rattle.play_scheduler.proofs.Given.RowsLists.{all_but, all_so, any_alike, found_passes, one_of}
+use Rattle.play_scheduler.proofs.Given.Lists.{all_but}
+use Rattle.play_scheduler.proofs.Given.RowsLists.{all_so, any_alike, found_passes, one_of}
 use Rattle.play_scheduler.specs.Mapping.{AreApart}
-use Rattle.play_scheduler.specs.Played.{IsDue, IsUnderWay, Plays, StandsFor}
+use Rattle.play_scheduler.specs.Played.{IsInTurn, IsUnderWay, Plays, RefinesFor}
 use Rattle.run_executor.specs.Named.Seen.{named, named_of, number_named, seen, seen_of}
 use Rattle.run_executor.specs.declared.named_map.NamedMap.{NamedMap}
 use Rattle.play_scheduler.specs.declared.scheduler.Scheduler.{Scheduler}
@@ -85,11 +87,11 @@ module _ {K V : Type 0} (acted : Option ℕ) where
       let tables : List Effect = tables_ended of c.first (c.past - c.first) in
       ap (λ (x : Moment K V). x.maps) (effects_after None acted pairs tables m) ∙ tables_gone of c.first (c.past - c.first) (with_effects None acted pairs m) ∙ pairs_ended number (pairs_of incremental c) m
 
-module _ {K V S : Type 0} (same : K → K → Bool) (hash : K → ℕ) (terms : Terms) (log : List (Entry K V)) (p : Scheduler K V S) (own : List ℕ) (due : IsDue same hash terms log (EndMap own) p) where
+module _ {K V S : Type 0} (same : K → K → Bool) (hash : K → ℕ) (terms : Terms) (log : List (Entry K V)) (p : Scheduler K V S) (own : List ℕ) (due : IsInTurn same hash terms log (EndMap own) p) where
   abbrev m : Moment K V
   m = moment log
 
-  abbrev stands : StandsFor same hash terms m p
+  abbrev stands : RefinesFor same hash terms m p
   stands = due.played
 
   abbrev s : Scene K V
@@ -179,7 +181,7 @@ module _ {K V S : Type 0} (same : K → K → Bool) (hash : K → ℕ) (terms : 
 
           abbrev u : (t : Scene K V) × (gone : List ℕ) × (came : EndCame s1 t i f gone true) × (ran.0 ≡ ended_as number (known mid.notes) gone) × NotedStill (known mid.notes) (known new.notes) (f.back ++ gone)
               × IsShown same hash stands.name v new t × (true ≡ true → f.back ≡ [] → ran.0 ≡ all_ended (is_incremental f.setting.mode) number number_by f.chart)
-              × ((began : Moment K V) → TellsWaiting same number i f began m (known mid.notes) s1.world → TellsLeft number f.chart began (known new.notes) came.ender.2.0)
+              × ((began : Moment K V) → ReportsWaiting same number i f began m (known mid.notes) s1.world → ReportsLeft number f.chart began (known new.notes) came.ender.2.0)
           u = ran.3 same hash stands.name m s1 shown_mid f here (at_same s.maps number None number refl) number_by (known mid.notes) (begun no_call).3.1 (λ b t. refl)
 
           abbrev s2 : Scene K V
@@ -339,8 +341,8 @@ module _ {K V S : Type 0} (same : K → K → Bool) (hash : K → ℕ) (terms : 
               → p2.maps ≡ filter (λ t. not (is_same t.name own)) p.maps → Plays same hash terms log (entry (EndMap own) Done 0 after) p2
           ended p2 is mapped kept =
               plays same hash terms log (EndMap own) p2 due e refl (in_turn IsDone turn Done in_its_turn refl)
-              (subst (λ (x : Option ℕ). StandsFor same hash terms (Then x after) p2) (sym acts_on)
-              (subst (λ (xs : List Effect). StandsFor same hash terms (Then (Some number) xs) p2) (sym did_is)
+              (subst (λ (x : Option ℕ). RefinesFor same hash terms (Then x after) p2) (sym acts_on)
+              (subst (λ (xs : List Effect). RefinesFor same hash terms (Then (Some number) xs) p2) (sym did_is)
               (stands_mapped same hash terms m p stands new w s2 shown_then u.2.calls u.2.rows u.2.uses (λ j none_there. ap (λ (g : ℕ → Option (Beginning K)). g j) u.2.makers ∙ none_there) enders_then
               (calls_none (Some number) ran.0 m) p2 is m.is_mapped (stands.mapped ∙ sym mapped)
               (kept_map named keeps v.maps ∙ ap (λ (ms : List MapThere). filter keeps (map named ms)) same_maps ∙ ap (filter keeps) stands.maps.listed ∙ sym (kept_map named_of keeps p.maps)

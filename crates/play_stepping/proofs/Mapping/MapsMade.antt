@@ -46,8 +46,8 @@ use Rattle.play_scheduler.proofs.Given.RowsElsewhere.{elsewhere}
 use Rattle.play_scheduler.proofs.Given.RowsLeast.{least_is}
 use Rattle.play_scheduler.proofs.Given.RowsLists.{all_so}
 use Rattle.play_scheduler.specs.Mapping.{CountsMaps, IsGivenFor, MayMap}
-use Rattle.play_scheduler.specs.Played.{Plays, StandsFor}
-use Rattle.play_scheduler.specs.Quiet.{IsQuiet}
+use Rattle.play_scheduler.specs.Played.{Plays, RefinesFor}
+use Rattle.play_scheduler.specs.Quiet.{BusyIsSilent}
 use Rattle.run_executor.specs.Named.Seen.{named, named_of, number_named}
 use Rattle.run_executor.specs.declared.named_map.NamedMap.{NamedMap}
 use Rattle.play_scheduler.specs.declared.scheduler.Scheduler.{Scheduler}
@@ -67,7 +67,7 @@ module _ {K V S : Type 0} (same : K → K → Bool) (hash : K → ℕ) (terms : 
   abbrev m : Moment K V
   m = moment log
 
-  abbrev stands : StandsFor same hash terms m p
+  abbrev stands : RefinesFor same hash terms m p
   stands = may.due.played
 
   abbrev s : Scene K V
@@ -209,11 +209,11 @@ module _ {K V S : Type 0} (same : K → K → Bool) (hash : K → ℕ) (terms : 
             pub refused_never : is_busy {V = V} (Refused fault) ≡ false
             refused_never = never_by fault (found no_map new before after empty ran finds)
 
-            quiet_by : (x : Fault) → is_busy {V = V} (Refused x) ≡ false → IsQuiet {V = V} (Refused x) after
+            quiet_by : (x : Fault) → is_busy {V = V} (Refused x) ≡ false → BusyIsSilent {V = V} (Refused x) after
             quiet_by Busy never = absurd (cc never)
             quiet_by _ never = tt
 
-            pub refused_quiet : IsQuiet {V = V} (Refused fault) after
+            pub refused_quiet : BusyIsSilent {V = V} (Refused fault) after
             refused_quiet = quiet_by fault refused_never
 
             abbrev refusal : Entry K V
@@ -228,7 +228,7 @@ module _ {K V S : Type 0} (same : K → K → Bool) (hash : K → ℕ) (terms : 
                 → Plays same hash terms log (entry event (Refused fault) 0 after) p2
             not_made p2 is mapped kept =
                 plays same hash terms log event p2 may.due refusal refl (turns after (Refused fault) (right_by fault (found no_map new before after empty ran finds)))
-                (subst (λ (xs : List Effect). StandsFor same hash terms (Then_refused xs) p2) (sym (did_is no_map new before after empty ran finds))
+                (subst (λ (xs : List Effect). RefinesFor same hash terms (Then_refused xs) p2) (sym (did_is no_map new before after empty ran finds))
                 (stands_mapped same hash terms m p stands new (with_effects None (number_of own m) ran.0 m) went.0 went.2 went.1.calls went.1.rows went.1.uses (makers_then no_map new before after empty ran finds went.0 went.1 went.1.maker)
                 (enders_then no_map new before after empty ran finds went.0 went.1 went.1.maker) (calls_none (number_of own m) ran.0 m) p2 is true (sym mapped)
                 (maps_named None (number_of own m) ran.0 m ∙ stands.maps.listed ∙ ap (map named_of) (sym kept))
@@ -299,7 +299,7 @@ module _ {K V S : Type 0} (same : K → K → Bool) (hash : K → ℕ) (terms : 
                 → p2.maps ≡ p.maps ++ record { name = own; number = number } ∷ [] → Plays same hash terms log (entry event Done 0 after) p2
             made p2 is mapped kept =
                 plays same hash terms log event p2 may.due e refl (turns after Done (one_free after Done setting.root its_root.0 (inl refl)))
-                (subst (λ (xs : List Effect). StandsFor same hash terms (Then xs) p2) (sym (did_is told new before after empty ran finds))
+                (subst (λ (xs : List Effect). RefinesFor same hash terms (Then xs) p2) (sym (did_is told new before after empty ran finds))
                 (stands_mapped same hash terms m p stands new v u.0 u.2 u.1.calls u.1.rows u.1.uses (makers_then told new before after empty ran finds u.0 u.1 u.1.maker)
                 (enders_then told new before after empty ran finds u.0 u.1 u.1.maker) (calls_none of ran.0 bm) p2 is true (sym mapped)
                 (maps_named None of ran.0 bm ∙ map-append named m.maps (there ∷ []) ∙ ap (λ (zs : List (List ℕ × ℕ)). zs ++ (own, m.made) ∷ []) stands.maps.listed

@@ -5,7 +5,7 @@ use Rattle.std.proofs.lemmas.Bool.{eq-eqb}
 use Rattle.run_schedules.specs.Runs.LifeCycle.{times}
 use Rattle.run_schedules.specs.Schedules.Lists.{is_among}
 use Rattle.play_scheduler.proofs.Given.RowsLeast.{as_many, off}
-use Rattle.run_grows.proofs.Given.RemainsLists.{none_times}
+use Rattle.play_scheduler.proofs.Given.RemainsLists.{none_times}
 
 -- one number is so often in a list that the list is so much longer than without it
 off_times : (j : ℕ) (xs : List ℕ) → times j xs + length (off j xs) ≡ length xs

@@ -29,30 +29,30 @@ use Rattle.run_schedules.specs.Schedules.Growing.{only_looks}
 use Rattle.run_schedules.specs.Schedules.Lists.{OneOf}
 use Rattle.run_schedules.specs.Schedules.Moment.{UnderWay as CallThere, Moment}
 use Rattle.run_schedules.specs.Schedules.Sequential.{is_lookup}
-use Rattle.run_schedules.specs.Schedules.Steps.{DoesFew, MakesSteps, stands_or, weight}
+use Rattle.run_schedules.specs.Schedules.Steps.{DoesFew, MakesSteps, state_or, weight}
 use Rattle.run_schedules.specs.Schedules.Terms.{Terms}
 use Rattle.run_schedules.specs.Schedules.Views.{call_of, map_of}
 use Rattle.run_schedules.specs.Schedules.Waiting.{WaitsLawfully, may_wait_for}
 use Rattle.owner_whole.specs.Given.LateFaults.{IsRoom}
 use Rattle.run_executor.specs.Given.EffectsKnown.{known}
 use Rattle.play_scheduler.specs.Given.FollowsCalling.{come_to}
-use Rattle.play_scheduler.specs.Given.LoggedCalling.{CallGoesOn, CallSteps, WalkGoesOn}
+use Rattle.play_scheduler.specs.Given.LoggedCalling.{CallContinues, CallSteps, WalkContinues}
 use Rattle.play_scheduler.specs.Given.LoggedShown.{IsShown}
 use Rattle.play_scheduler.specs.Given.LoggedDeclared.logged.Logged.{Logged}
-use Rattle.play_scheduler.specs.Played.{AsFar, BeginsSo, IsDue, IsPlayed, Plays, StandsAs, StandsFor, entry_of}
-use Rattle.play_scheduler.specs.Quiet.{IsQuiet}
+use Rattle.play_scheduler.specs.Played.{AsFar, BeginsSo, IsInTurn, IsPlayed, Plays, RefinesAs, RefinesFor, entry_of}
+use Rattle.play_scheduler.specs.Quiet.{BusyIsSilent}
 use Rattle.run_executor.specs.Named.Seen.{is_named, ready_place}
-use Rattle.run_executor.specs.Named.Telling.{goes_on}
+use Rattle.run_executor.specs.Named.Telling.{continues}
 use Rattle.run_executor.specs.declared.caller.NamedCaller.{NamedCaller}
 use Rattle.run_executor.specs.declared.caller.Stands.{Stands as HowFar}
 use Rattle.run_executor.specs.declared.caller.Stands.TheVariants as far
 use Rattle.run_executor.specs.declared.kind.CallKind.TheVariants as kind
 use Rattle.play_scheduler.specs.declared.played.Played.{Played}
 use Rattle.play_scheduler.specs.declared.scheduler.Scheduler.{Scheduler}
-use Rattle.run_executor.specs.Executing.IsThere.{IsThere, KeepsGiven}
+use Rattle.run_executor.specs.Executing.IsThere.{IsThere, PreservesSettings}
 use Rattle.run_executor.specs.Executing.Replying.{AsksThere}
 use Rattle.play_scheduler.specs.Given.ScenesScene.{HasCall, Scene}
-use Rattle.run_grows.specs.Says.{callers_then, outcome_of}
+use Rattle.run_sweeps.specs.Says.{callers_then, outcome_of}
 
 -- for what a call on one key is refused, which is no lookup: for room, or, of `compute`, for removing what is not there
 abbrev pub IsFaultOn : {K V : Type 0} → OneKey K V → Fault → Type 0
@@ -61,16 +61,16 @@ IsFaultOn {K} {V} one fault =
 
 module _ {K V : Type 0} where
   -- What a call that goes on comes to, by its kind. In which case it waits, or is refused for room, this does not say.
-  abbrev pub ComesAs : Call K V → Outcome V → Type 0
-  ComesAs call Goes = Unit {0}
-  ComesAs call Waits = Unit {0}
-  ComesAs call (Asks question) = may_ask call ≡ true
-  ComesAs call Ready = is_walk call ≡ true
-  ComesAs call (Answered a) = is_answer call a ≡ true
-  ComesAs (On one) (Refused fault) = IsFaultOn one fault
-  ComesAs Len (Refused fault) = ⊥
-  ComesAs call (Refused fault) = IsRoom fault
-  ComesAs call _ = ⊥
+  abbrev pub HasOutcomeOfKind : Call K V → Outcome V → Type 0
+  HasOutcomeOfKind call Goes = Unit {0}
+  HasOutcomeOfKind call Waits = Unit {0}
+  HasOutcomeOfKind call (Asks question) = may_ask call ≡ true
+  HasOutcomeOfKind call Ready = is_walk call ≡ true
+  HasOutcomeOfKind call (Answered a) = is_answer call a ≡ true
+  HasOutcomeOfKind (On one) (Refused fault) = IsFaultOn one fault
+  HasOutcomeOfKind Len (Refused fault) = ⊥
+  HasOutcomeOfKind call (Refused fault) = IsRoom fault
+  HasOutcomeOfKind call _ = ⊥
 
   -- That says: a call is refused for the length of a table only where it finds none: it needs more places than a table can have, or a table after the longest or the last one.
   abbrev pub IsInCase : Terms → CallThere K V → List (Moment K V) → Moment K V → Outcome V → Type 0
@@ -78,8 +78,8 @@ module _ {K V : Type 0} where
   IsInCase terms c moments now _ = Unit {0}
 
   -- so it is of the call of an event
-  abbrev pub ComesInCase : Terms → List (Entry K V) → Entry K V → Type 0
-  ComesInCase terms log e =
+  abbrev pub OutcomeIsInCase : Terms → List (Entry K V) → Entry K V → Type 0
+  OutcomeIsInCase terms log e =
       let w = worked e (moment log) in IfCall (λ c. IsInCase terms c (moments_from c.begun log) w e.outcome) (acting (caller_of e.event) w)
 
 -- a call without a name may begin
@@ -122,20 +122,20 @@ module _ {K V : Type 0} where
 module _ {K V S : Type 0} (same : K → K → Bool) (hash : K → ℕ) (terms : Terms) (own : List ℕ) (place : ℕ) (m : Moment K V) where
   -- So many steps of a call, of which each was taken while it went on: what they did follows in the list; and the scheduler stands for the moment at which the call has
   -- come to this, however many steps are counted, if that is no refusal as out of turn, which would end no call.
-  pub record ComesBy (steps : ℕ) (outcome : Outcome V) (before after : List Effect) (new : Scheduler K V S) : Type 0 where
+  pub record StepsHaveOutcome (steps : ℕ) (outcome : Outcome V) (before after : List Effect) (new : Scheduler K V S) : Type 0 where
     pub call : CallThere K V
     pub call_is : call_of own m ≡ Some call
     pub did : List Effect
     pub follows : after ≡ before ++ did
     pub few : sum_by weight did ≤ steps
-    pub comes : ComesAs call.call outcome
+    pub comes : HasOutcomeOfKind call.call outcome
     -- one that waits does more than look, and waits for one that it may wait for; one that is refused for want of memory has asked for a growth, and nothing was made since
     pub works : outcome ≡ Waits → only_looks call.call ≡ false
     pub waits : outcome ≡ Waits → (let w = with_effects (Some own) (Some call.map) did m in
         (d : CallThere K V) → call_of own w ≡ Some d → list_any (may_wait_for same d w) w.calls ≡ true)
     pub memory : outcome ≡ Refused Memory → (d : CallThere K V) → call_of own (with_effects (Some own) (Some call.map) did m) ≡ Some d → d.is_short ≡ true
-    pub goes : goes_on outcome ≡ true → StandsFor same hash terms (with_effects (Some own) (Some call.map) did m) new × GoesAt own place new
-    pub stands : (outcome ≡ Refused Busy → ⊥) → (counted : ℕ) → StandsFor same hash terms (come_to own outcome counted (with_effects (Some own) (Some call.map) did m)) new
+    pub goes : continues outcome ≡ true → RefinesFor same hash terms (with_effects (Some own) (Some call.map) did m) new × GoesAt own place new
+    pub stands : (outcome ≡ Refused Busy → ⊥) → (counted : ℕ) → RefinesFor same hash terms (come_to own outcome counted (with_effects (Some own) (Some call.map) did m)) new
 
   -- In the midst of these the call goes on, after what they did.
   pub record IsMidst (steps : ℕ) (before after : List Effect) (p : Scheduler K V S) : Type 0 where
@@ -144,7 +144,7 @@ module _ {K V S : Type 0} (same : K → K → Bool) (hash : K → ℕ) (terms : 
     pub did : List Effect
     pub follows : after ≡ before ++ did
     pub few : sum_by weight did ≤ steps
-    pub stands : StandsFor same hash terms (with_effects (Some own) (Some call.map) did m) p
+    pub stands : RefinesFor same hash terms (with_effects (Some own) (Some call.map) did m) p
     pub going : GoesAt own place p
 
   -- In the midst of the steps to its next pair a walk goes over places, as many at least as it has taken steps, and has done nothing.
@@ -154,12 +154,12 @@ module _ {K V S : Type 0} (same : K → K → Bool) (hash : K → ℕ) (terms : 
     pub did : List Effect
     pub follows : after ≡ before ++ did
     pub idle : did ≡ []
-    pub stands : StandsAs (WalksFar own steps) same hash terms (with_effects (Some own) (Some call.map) did m) p
+    pub stands : RefinesAs (WalksFar own steps) same hash terms (with_effects (Some own) (Some call.map) did m) p
     pub ready : ReadyAt own place p
 
 -- at least one, and at most so many; a call that goes on has taken all of them
 abbrev pub TakesUpTo : {V : Type 0} → ℕ → ℕ → Outcome V → Type 0
-TakesUpTo most steps outcome = (1 ≤ steps) × (steps ≤ most) × (goes_on outcome ≡ true → steps ≡ most)
+TakesUpTo most steps outcome = (1 ≤ steps) × (steps ≤ most) × (continues outcome ≡ true → steps ≡ most)
 
 module _ {K V S : Type 0} (same : K → K → Bool) (hash : K → ℕ) where
   -- A call of this name is under way.
@@ -172,18 +172,18 @@ module _ {K V S : Type 0} (same : K → K → Bool) (hash : K → ℕ) where
     pub at : slice_get old.calls place ≡ Some caller
     pub said : Progress (Node K V)
     pub leads : (name : ℕ → List ℕ) (m : Moment K V) (s : Scene K V) → IsShown same hash name m old.logged s
-        → CallGoesOn same hash name m s caller.number caller.map said before after old.logged new.logged
+        → CallContinues same hash name m s caller.number caller.map said before after old.logged new.logged
     pub steps : CallSteps same hash caller.number caller.map said before after old.logged new.logged
     pub outcome_is : outcome ≡ outcome_of (known new.logged.notes) caller.kind caller.value said
     pub calls : new.calls ≡ callers_then (known new.logged.notes) place caller said old.calls
     pub rest : new ≡ record old { logged = new.logged; calls = new.calls }
-    pub given : KeepsGiven old.logged.executor new.logged.executor
+    pub given : PreservesSettings old.logged.executor new.logged.executor
 
   -- So many steps were taken at this place, each of which let the call go on,
   abbrev pub GoneFor : (place steps : ℕ) → (before after : List Effect) → (old new : Scheduler K V S) → Type 0
   GoneFor place zero before after old new = (before ≡ after) × (old ≡ new)
   GoneFor place (suc n) before after old new =
-      (mid : List Effect) × (p : Scheduler K V S) × (outcome : Outcome V) × GoneFor place n before mid old p × (goes_on outcome ≡ true) × IsStepped place outcome mid after p new
+      (mid : List Effect) × (p : Scheduler K V S) × (outcome : Outcome V) × GoneFor place n before mid old p × (continues outcome ≡ true) × IsStepped place outcome mid after p new
 
   -- and then one that came to this.
   abbrev pub GoneBy : (place steps : ℕ) → Outcome V → (before after : List Effect) → (old new : Scheduler K V S) → Type 0
@@ -192,13 +192,13 @@ module _ {K V S : Type 0} (same : K → K → Bool) (hash : K → ℕ) where
 
   -- What a scheduler is asked for the steps of a call of this name that goes on,
   abbrev pub MayGo : List ℕ → Scheduler K V S → Type 0
-  MayGo own p = (terms : Terms) × (m : Moment K V) × (place : ℕ) × StandsFor same hash terms m p × GoesAt own place p
+  MayGo own p = (terms : Terms) × (m : Moment K V) × (place : ℕ) × RefinesFor same hash terms m p × GoesAt own place p
 
   -- and what so many of them come to.
   abbrev pub StepsCome : (place most steps : ℕ) → Outcome V → (before after : List Effect) → (old new : Scheduler K V S) → Type 0
   StepsCome place most steps outcome before after old new =
       TakesUpTo most steps outcome
-      × ((terms : Terms) (m : Moment K V) (own : List ℕ) → StandsFor same hash terms m old → GoesAt own place old → ComesBy same hash terms own place m steps outcome before after new)
+      × ((terms : Terms) (m : Moment K V) (own : List ℕ) → RefinesFor same hash terms m old → GoesAt own place old → StepsHaveOutcome same hash terms own place m steps outcome before after new)
       × GoneBy place steps outcome before after old new
 
   -- The machine of the call at this place takes a step, and no caller is told of it.
@@ -206,10 +206,10 @@ module _ {K V S : Type 0} (same : K → K → Bool) (hash : K → ℕ) where
     pub caller : NamedCaller V
     pub at : slice_get old.calls place ≡ Some caller
     pub leads : (name : ℕ → List ℕ) (m : Moment K V) (s : Scene K V) → IsShown same hash name m old.logged s
-        → CallGoesOn same hash name m s caller.number caller.map said before after old.logged new.logged
+        → CallContinues same hash name m s caller.number caller.map said before after old.logged new.logged
     pub steps : CallSteps same hash caller.number caller.map said before after old.logged new.logged
     pub rest : new ≡ record old { logged = new.logged }
-    pub given : KeepsGiven old.logged.executor new.logged.executor
+    pub given : PreservesSettings old.logged.executor new.logged.executor
 
   -- So many steps of the walk at this place were taken, each of which just went on.
   abbrev pub WalkedFor : (place steps : ℕ) → (before after : List Effect) → (old new : Scheduler K V S) → Type 0
@@ -218,19 +218,19 @@ module _ {K V S : Type 0} (same : K → K → Bool) (hash : K → ℕ) where
 
   -- What a scheduler is asked for the steps of a walk of this name that was asked for its next pair,
   abbrev pub MayWalk : List ℕ → Scheduler K V S → Type 0
-  MayWalk own p = (terms : Terms) × (m : Moment K V) × (place : ℕ) × StandsAs (WalksFar own 0) same hash terms m p × ReadyAt own place p
+  MayWalk own p = (terms : Terms) × (m : Moment K V) × (place : ℕ) × RefinesAs (WalksFar own 0) same hash terms m p × ReadyAt own place p
 
   -- and where so many steps have led, of which the last one alone did not just go on.
   abbrev pub WalkComes : (place steps : ℕ) → Progress (Node K V) → (before after : List Effect) → (old new : Scheduler K V S) → Type 0
   WalkComes place steps said before after old new =
       (said ≡ progress.Goes → ⊥)
       × (n : ℕ) × (steps ≡ n + 1) × (mid : List Effect) × (p : Scheduler K V S) × IsStepOf place said mid after p new
-      × ((terms : Terms) (m : Moment K V) (own : List ℕ) → StandsAs (WalksFar own 0) same hash terms m old → ReadyAt own place old → IsMidWalk same hash terms own place m n before mid p)
+      × ((terms : Terms) (m : Moment K V) (own : List ℕ) → RefinesAs (WalksFar own 0) same hash terms m old → ReadyAt own place old → IsMidWalk same hash terms own place m n before mid p)
       × (k : ℕ) × (steps ≡ k + 1) × WalkedFor place k before mid old p
 
   -- What a scheduler is asked for the steps of a call of this name, however far it is: one that asks, or is ready, says so again, and one that goes on takes steps.
   abbrev pub MayTake : List ℕ → Scheduler K V S → Type 0
-  MayTake own p = (terms : Terms) × (m : Moment K V) × (place : ℕ) × StandsFor same hash terms m p × IsPlaced own place p.calls
+  MayTake own p = (terms : Terms) × (m : Moment K V) × (place : ℕ) × RefinesFor same hash terms m p × IsPlaced own place p.calls
 
   abbrev pub SaysAgain : Outcome V → Played V → (old new : Scheduler K V S) → Type 0
   SaysAgain outcome played old new = (played.outcome ≡ outcome) × (played.steps ≡ 0) × (played.effects.items ≡ []) × (new ≡ old)
@@ -251,7 +251,7 @@ module _ {K V S : Type 0} (same : K → K → Bool) (hash : K → ℕ) where
 
   abbrev pub TookWhole : (guard name : List ℕ) → Call K V → Played V → (old new : Scheduler K V S) → Type 0
   TookWhole guard name call played old new =
-      (terms : Terms) (m : Moment K V) → StandsFor same hash terms m old
+      (terms : Terms) (m : Moment K V) → RefinesFor same hash terms m old
       → (begun : Bool) × (mid : Scheduler K V S) × BeginsSo same hash terms m nameless guard name call begun old mid
       × (mid.logged.executor.batch_size ≡ old.logged.executor.batch_size) × (begun ≡ true → TakenAs 0 most_steps played mid new) × (begun ≡ false → SaysAgain (Refused Busy) played mid new)
 
@@ -262,9 +262,9 @@ module _ {K V S : Type 0} (same : K → K → Bool) (hash : K → ℕ) where
     pub ready : Bool
     pub asked : Logged K V S
     pub leads : (s : Scene K V) → IsThere same hash old.logged.executor s → AsksThere same hash caller.number ready s old.logged.executor asked.executor
-    pub goes : (name : ℕ → List ℕ) (m : Moment K V) (s : Scene K V) → IsShown same hash name m old.logged s → WalkGoesOn same hash name m s caller.number ready old.logged asked
+    pub goes : (name : ℕ → List ℕ) (m : Moment K V) (s : Scene K V) → IsShown same hash name m old.logged s → WalkContinues same hash name m s caller.number ready old.logged asked
     pub notes : asked.notes ≡ old.logged.notes
-    pub given : KeepsGiven old.logged.executor asked.executor
+    pub given : PreservesSettings old.logged.executor asked.executor
     pub steps : ℕ
     pub steps_are : played.steps ≡ steps + 1
     pub mid : List Effect
@@ -282,24 +282,24 @@ module _ {K V S : Type 0} (same : K → K → Bool) (hash : K → ℕ) where
   -- does not more; it waits only where it may; and what is refused as busy did nothing.
   pub record PlaysOn (terms : Terms) (log : List (Entry K V)) (e : Entry K V) (p : Scheduler K V S) : Type 0 where
     pub played : IsPlayed same hash terms (e ∷ log) p
-    pub plays : ComesInCase terms log e → Plays same hash terms log e p
-    pub makes : MakesSteps e.event (stands_or (acting (caller_of e.event) (at_work e (moment log)))) e.steps e.outcome
+    pub plays : OutcomeIsInCase terms log e → Plays same hash terms log e p
+    pub makes : MakesSteps e.event (state_or (acting (caller_of e.event) (at_work e (moment log)))) e.steps e.outcome
     pub does : DoesFew (caller_of e.event) e.steps e.effects
     pub waits : WaitsLawfully same log e
-    pub is_quiet : IsQuiet e.outcome e.effects
+    pub is_quiet : BusyIsSilent e.outcome e.effects
 
   abbrev pub PlaysOnAt : Event K V → Played V → (old new : Scheduler K V S) → Type 0
-  PlaysOnAt event played old new = (terms : Terms) (log : List (Entry K V)) → IsDue same hash terms log event old → PlaysOn terms log (entry_of event played) new
+  PlaysOnAt event played old new = (terms : Terms) (log : List (Entry K V)) → IsInTurn same hash terms log event old → PlaysOn terms log (entry_of event played) new
 
   -- What is promised of the event by which a walk shows its next pair: it does nothing to pairs or tables.
   pub record PlaysNext (terms : Terms) (log : List (Entry K V)) (e : Entry K V) (p : Scheduler K V S) : Type 0 where
     pub plays : Plays same hash terms log e p
     pub idle : e.effects ≡ []
-    pub makes : MakesSteps e.event (stands_or (acting (caller_of e.event) (at_work e (moment log)))) e.steps e.outcome
+    pub makes : MakesSteps e.event (state_or (acting (caller_of e.event) (at_work e (moment log)))) e.steps e.outcome
     pub does : DoesFew (caller_of e.event) e.steps e.effects
     pub waits : WaitsLawfully same log e
-    pub is_quiet : IsQuiet e.outcome e.effects
+    pub is_quiet : BusyIsSilent e.outcome e.effects
 
   abbrev pub PlaysNextAt : List ℕ → Played V → (old new : Scheduler K V S) → Type 0
   PlaysNextAt own played old new =
-      (terms : Terms) (log : List (Entry K V)) → IsDue same hash terms log (Next own) old → PlaysNext terms log (entry_of (Next own) played) new
+      (terms : Terms) (log : List (Entry K V)) → IsInTurn same hash terms log (Next own) old → PlaysNext terms log (entry_of (Next own) played) new

@@ -32,9 +32,9 @@ abbrev pub SaysOnly : List ℕ → Streams → Type 0
 SaysOnly line s = Keeps s.output_before s.output_after × (s.errors_failed ≡ false → Appends s.errors_before s.errors_after line)
 
 -- that a write failed is told by a line on the errors, unless that write fails, too; else nothing is written there
-abbrev pub TellsFailure : Bool → Bool → Option (List ℕ) → Option (List ℕ) → Type 0
-TellsFailure true errors_failed before after = errors_failed ≡ false → Appends before after (codes "write failed\n")
-TellsFailure false errors_failed before after = Keeps before after
+abbrev pub ReportsFailure : Bool → Bool → Option (List ℕ) → Option (List ℕ) → Type 0
+ReportsFailure true errors_failed before after = errors_failed ≡ false → Appends before after (codes "write failed\n")
+ReportsFailure false errors_failed before after = Keeps before after
 
 -- with what a script is run
 abbrev pub terms_of : List ScriptEvent → Terms
@@ -65,7 +65,7 @@ IsStopped bytes s = (stop : ScriptStop) × Answers bytes s.left (Err stop) × Sa
 -- the script says events, and a write of what is printed for them failed, which is told on the errors
 abbrev pub IsUnwritten : List ℕ → Streams → Type 0
 IsUnwritten bytes s =
-    (events : List ScriptEvent) × (script_of bytes ≡ Ok events) × (s.output_failed ≡ true) × TellsFailure true s.errors_failed s.errors_before s.errors_after
+    (events : List ScriptEvent) × (script_of bytes ≡ Ok events) × (s.output_failed ≡ true) × ReportsFailure true s.errors_failed s.errors_before s.errors_after
 
 -- the status is 0 where all is printed, and else 1
 abbrev pub EndsWith : ℕ → List ℕ → Streams → Type 0

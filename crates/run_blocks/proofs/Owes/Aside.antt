@@ -10,7 +10,7 @@ use Rattle.run_debts.specs.Given.RunsDeclared.effect.Effect.{Effect}
 use Rattle.run_debts.specs.Given.RunsDeclared.effect.Effect.TheVariants as effect
 use Rattle.run_debts.specs.Given.SchedulesMoment.{UnderWay as CallThere, Moment}
 use Rattle.run_debts.specs.Given.SchedulesViews.{call_of}
-use Rattle.run_debts.specs.Given.TellerTells.{told_of, StepsTold}
+use Rattle.run_debts.specs.Given.TellerTells.{observed_of, StepsObserved}
 use Rattle.run_debts.specs.Given.EffectsDeclared.changed.Changed.{Changed}
 use Rattle.run_debts.specs.Given.EffectsDeclared.changed.Changed.TheVariants as changed
 use Rattle.run_debts.specs.Given.EffectsDeclared.changed.Kind.TheVariants as kind
@@ -23,7 +23,7 @@ use Rattle.run_debts.specs.Given.EffectsDeclared.role.Role.{Role}
 use Rattle.run_debts.specs.Given.EffectsDeclared.role.Role.TheVariants as role
 use Rattle.run_debts.proofs.Given.FollowsAlike.{is_calm, AllCalm}
 use Rattle.run_blocks.specs.Owes.Beside.{of_block, NoneOfBlock, StaysMade}
-use Rattle.run_blocks.specs.Owes.Made.{OwnsSo, own_word, IsItsBlock, HasBlock, NamesBlock, ShowsMade}
+use Rattle.run_blocks.specs.Owes.Made.{OwnsSo, own_word, IsItsBlock, HasBlock, NamesBlock, RefinesMade}
 use Rattle.run_blocks.proofs.Owes.Roles.{own_of, own_is, IsStoring, StoresNew, StoresOver, DoesSo, Leaves, Makes, GivesUp, Stores, no_block}
 use Rattle.run_blocks.proofs.Owes.Quiet.{pair_back, table_back}
 use Rattle.run_debts.specs.Given.FinishesMachines.{machine_of}
@@ -33,7 +33,7 @@ use Rattle.run_debts.specs.Given.ScenesScene.{Scene}
 abbrev pub AreTheirs : Known → Known → Type 0
 AreTheirs known known2 = (b : ℕ) → own_of (known2.roles b) ≡ own_of (known.roles b)
 
-module _ {K V : Type 0} (name : ℕ → List ℕ) (m v : Moment K V) (known known2 : Known) (s t : Scene K V) (made : ShowsMade name m known s) (calls : v.calls ≡ m.calls) (under_way : t.calls ≡ s.calls)
+module _ {K V : Type 0} (name : ℕ → List ℕ) (m v : Moment K V) (known known2 : Known) (s t : Scene K V) (made : RefinesMade name m known s) (calls : v.calls ≡ m.calls) (under_way : t.calls ≡ s.calls)
     (theirs : AreTheirs known known2) where
   back : (j b : ℕ) → IsItsBlock known2 j b → IsItsBlock known j b
   back j b is = own_is (known.roles b) j (sym (theirs b) ∙ ap own_of is)
@@ -58,7 +58,7 @@ module _ {K V : Type 0} (name : ℕ → List ℕ) (m v : Moment K V) (known know
   whose_still j b is =
       let before = made.whose j b (back j b is) in (before.0, before.1, ap (λ (f : ℕ → ℕ → Option (UnderWay K V K)). f before.0 j) under_way ∙ before.2)
 
-  pub made_still : ShowsMade name v known2 t
+  pub made_still : RefinesMade name v known2 t
   made_still = record {
     has = λ n j x is c c_is. has_still j c.has_block (made.has n j x (there n j x is) c (its_call j c c_is));
     named = named_still;
@@ -132,7 +132,7 @@ module _ {K V : Type 0} where
   takes_within f (Turn rest) x takes = takes
   takes_within f (Do op rest) x takes = takes
 
-  op_took : (m : Mem (Node K V)) (op : Op (Node K V)) (out : Out (Node K V)) (x : ℕ) → told_of op out (seen_of m op out) ≡ changed.Took x → TakesThat op x
+  op_took : (m : Mem (Node K V)) (op : Op (Node K V)) (out : Out (Node K V)) (x : ℕ) → observed_of op out (seen_of m op out) ≡ changed.Took x → TakesThat op x
   op_took m (Load at) out x e = absurd (cc e)
   op_took m (Store at word) out x e = absurd (cc e)
   op_took m (Swap at word) (Found before) x e = absurd (cc e)
@@ -151,6 +151,6 @@ module _ {K V : Type 0} where
   op_took m (Room bucket) (Roomed roomed) x e = absurd (cc e)
   op_took m (Room bucket) _ x e = absurd (cc e)
 
-  pub plan_took : {R : Type 0} (m m2 : Mem (Node K V)) (told : Changed) (plan : Plan (Node K V) R) (end : R) → StepsTold K V R m changed.Nothing plan m2 told end → (x : ℕ) → told ≡ changed.Took x → TakesIn plan x
+  pub plan_took : {R : Type 0} (m m2 : Mem (Node K V)) (told : Changed) (plan : Plan (Node K V) R) (end : R) → StepsObserved K V R m changed.Nothing plan m2 told end → (x : ℕ) → told ≡ changed.Took x → TakesIn plan x
   plan_took m m2 told (Turn rest) end steps x is = absurd (let nothing = steps.2 in cc (nothing, is))
   plan_took m m2 told (Do op rest) end steps x is = op_took m op steps.0 x (sym steps.1.1 ∙ is)

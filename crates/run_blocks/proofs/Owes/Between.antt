@@ -20,9 +20,9 @@ use Rattle.run_debts.proofs.Given.FollowsCalling.{is_same_refl}
 use Rattle.run_debts.proofs.Given.HandsAsking.{which}
 use Rattle.owner_calls.proofs.Holds.Calls.Runs.{told_so, calls_begin}
 use Rattle.run_debts.specs.Given.OthersWalks.{given_up}
-use Rattle.run_blocks.specs.Owes.Beside.{WalksGoOnMade, WalksStopMade}
+use Rattle.run_blocks.specs.Owes.Beside.{WalksPreserveMade, WalksStopMade}
 use Rattle.run_blocks.specs.Owes.Keeping.{MadeBegins, CallsBeginMade, CallsBeginOwning, CallsTakeMade, CallsComeToMade}
-use Rattle.run_blocks.specs.Owes.Made.{own_word, OwnsSo, IsItsBlock, HasBlock, NamesBlock, ShowsMade}
+use Rattle.run_blocks.specs.Owes.Made.{own_word, OwnsSo, IsItsBlock, HasBlock, NamesBlock, RefinesMade}
 use Rattle.run_blocks.proofs.Owes.Kept.{calls_beside, calls_its, calls_without, HadAsMuch, fresh_has, others_there, told_had, left_had, come_had}
 use Rattle.run_debts.specs.Given.ScenesReplying.{unless_stopped}
 use Rattle.run_debts.specs.Given.ScenesScene.{Scene}
@@ -49,7 +49,7 @@ module _ {K V : Type 0} where
   told_machine (kinds.Sweep c) reply o = (tt, refl)
   told_machine (kinds.Count sum) reply o = (tt, refl)
 
-module _ {K V : Type 0} (name : ℕ → List ℕ) (m : Moment K V) (known : Known) (s : Scene K V) (made : ShowsMade name m known s) where
+module _ {K V : Type 0} (name : ℕ → List ℕ) (m : Moment K V) (known : Known) (s : Scene K V) (made : RefinesMade name m known s) where
   abbrev Named : ℕ → UnderWay K V K → Type 0
   Named j x = OwnsSo (machine_of x) × NamesBlock known j (own_word (machine_of x))
 
@@ -165,9 +165,9 @@ module _ (K V : Type 0) where
   stopped_none (kinds.Sweep c) e = refl
   stopped_none (kinds.Count sum) e = refl
 
-  goes_made : (name : ℕ → List ℕ) (m : Moment K V) (known : Known) (s : Scene K V) → ShowsMade name m known s → (of i : ℕ) (u : UnderWay K V K) → s.calls of i ≡ Some u → (next : UnderWay K V K)
+  goes_made : (name : ℕ → List ℕ) (m : Moment K V) (known : Known) (s : Scene K V) → RefinesMade name m known s → (of i : ℕ) (u : UnderWay K V K) → s.calls of i ≡ Some u → (next : UnderWay K V K)
       → OwnsSo (machine_of next) × (own_word (machine_of next) ≡ own_word (machine_of u))
-      → ShowsMade name m known (record s { calls = with_in s.calls of i (Some next) })
+      → RefinesMade name m known (record s { calls = with_in s.calls of i (Some next) })
   goes_made name m known s made of i u here next on = record {
     has = λ n j x is c c_is. let was = on_there name m known s made of i u here next on n j x is in made.has n j was.0 was.1 c c_is;
     named = on_named name m known s made of i u here next on;
@@ -175,7 +175,7 @@ module _ (K V : Type 0) where
   }
 
 module _ (K V : Type 0) (same : K → K → Bool) (hash : ℕ → K → ℕ) where
-  pub walks_go_on_made : WalksGoOnMade K V same hash
+  pub walks_go_on_made : WalksPreserveMade K V same hash
   walks_go_on_made name m known s old new made i leads map u here =
       let to = leads map u here in
       let a = asked_machine K V (machine_of u) (made.named map i u here).0 in
@@ -187,7 +187,7 @@ module _ (K V : Type 0) (same : K → K → Bool) (hash : ℕ → K → ℕ) whe
       at_end : Bool → Scene K V
       at_end q = record s { calls = with_in s.calls map i (unless_stopped q u) }
 
-      by : (q : Bool) → q ≡ (machine_asked (machine_of u)).1 → (q ≡ true → NoneNamed name (name i) (at_end q)) → ShowsMade name (given_up (name i) q m) known (at_end q)
+      by : (q : Bool) → q ≡ (machine_asked (machine_of u)).1 → (q ≡ true → NoneNamed name (name i) (at_end q)) → RefinesMade name (given_up (name i) q m) known (at_end q)
       by true e none =
           let without = stopped_none K V (machine_of u) e in
           record {

@@ -27,7 +27,7 @@ use Rattle.run_debts.specs.Given.EffectsDeclared.changed.Kind.TheVariants as kin
 use Rattle.owner_calls.specs.Given.RuleInWorld.{IsHeldBy, SparesOthers}
 use Rattle.owner_calls.specs.Given.CallersOverAll.{CallOverAll}
 use Rattle.run_debts.specs.Given.CallersRooms.{CallForRoom}
-use Rattle.owner_calls.specs.Given.CallersSights.{seen_by, IsSight}
+use Rattle.owner_calls.specs.Given.CallersSights.{seen_by, IsVisibility}
 use Rattle.owner_calls.specs.Given.CallersTogether.{CallOnKey, UnderWay, OnKey, ForRoom, Counting, OverAll, IsOneStep, Together}
 use Rattle.run_debts.specs.Given.EffectsEffects.{effects_of, known_after}
 use Rattle.run_debts.specs.Given.EffectsKnown.{Known}
@@ -35,11 +35,11 @@ use Rattle.run_debts.specs.Given.EffectsDeclared.acting.Acting.{Acting}
 use Rattle.run_debts.specs.Given.EffectsDeclared.acting.Acting.TheVariants as acts
 use Rattle.run_debts.specs.Given.EffectsDeclared.role.Role.{Role}
 use Rattle.run_debts.specs.Given.EffectsDeclared.role.Role.TheVariants as role
-use Rattle.run_debts.specs.Given.FinishesEndings.{StepsAmong}
+use Rattle.run_debts.specs.Given.FinishesEndings.{StepsWithEndings}
 use Rattle.run_debts.specs.Given.FinishesMachines.{machine_of}
 use Rattle.run_debts.specs.Given.FinishesMaps.{Standing}
 use Rattle.run_debts.specs.Given.FollowsBlocks.{WasLinked, HasRole}
-use Rattle.run_debts.specs.Given.FollowsShows.{Shows}
+use Rattle.run_debts.specs.Given.FollowsShows.{Refines}
 use Rattle.run_debts.specs.Given.FollowsSteps.{TakesNone}
 use Rattle.run_debts.proofs.Given.FollowsAlike.{put_here}
 use Rattle.run_debts.proofs.Given.FollowsCalling.{is_same_refl}
@@ -50,12 +50,12 @@ use Rattle.run_debts.proofs.Given.FollowsSteps.{WentTo, went_to, made_so, DidSo,
 use Rattle.run_debts.specs.Given.FollowsCalls.{IsCalled}
 use Rattle.run_debts.proofs.Given.HandsAsking.{which}
 use Rattle.run_debts.proofs.Given.HandsRowSteps.{rows_hand_theirs}
-use Rattle.run_debts.specs.Given.MomentsWhole.{ShowsWhole}
+use Rattle.run_debts.specs.Given.MomentsWhole.{RefinesWhole}
 use Rattle.run_debts.proofs.Given.MomentsCalls.{of_row, calls_keep_whole}
 use Rattle.run_debts.proofs.Given.MomentsRoles.{roles_then}
 use Rattle.run_blocks.specs.Owes.Beside.{NoneOfBlock}
-use Rattle.run_blocks.specs.Owes.Keeping.{FindBlocks, CallsKeepMade}
-use Rattle.run_blocks.specs.Owes.Made.{own_word, OwnsSo, IsItsBlock, HasBlock, NamesBlock, ShowsMade}
+use Rattle.run_blocks.specs.Owes.Keeping.{FindBlocks, CallsPreserveMade}
+use Rattle.run_blocks.specs.Owes.Made.{own_word, OwnsSo, IsItsBlock, HasBlock, NamesBlock, RefinesMade}
 use Rattle.run_blocks.specs.Owes.Making.{making_in_calling, making_in_reserving, making_in_sweeping}
 use Rattle.run_blocks.proofs.Owes.Effects.{block_by, effect_block}
 use Rattle.owner_calls.specs.Holds.Came.{Owns}
@@ -80,9 +80,9 @@ use Rattle.run_debts.proofs.Calls.{goes_as_one}
 use Rattle.run_debts.proofs.Given.General.{same_some as one_of}
 
 module _ {K V : Type 0} (same : K → K → Bool) (hash : ℕ → K → ℕ) (name : ℕ → List ℕ) (m : Moment K V) (known : Known) (s : Scene K V) (old new : Held K V) (at : IsAt same hash old s)
-    (whole : ShowsWhole same name m known s) (made : ShowsMade name m known s) (map i : ℕ) (u : UnderWay K V K) (here : s.calls map i ≡ Some u) (said : Progress (Node K V))
+    (whole : RefinesWhole same name m known s) (made : RefinesMade name m known s) (map i : ℕ) (u : UnderWay K V K) (here : s.calls map i ≡ Some u) (said : Progress (Node K V))
     (leads : StepLeads same hash i said s old new) where
-  abbrev shown : Shows same name m known s
+  abbrev shown : Refines same name m known s
   shown = whole.all.shown
 
   abbrev to : WentTo same hash name m known s old new at shown map i u here said leads
@@ -124,13 +124,13 @@ module _ {K V : Type 0} (same : K → K → Bool) (hash : ℕ → K → ℕ) (na
   pub left : LeavesBy w.memory new.memory told
   left = operated_leaves w.memory new.memory told (made_so same hash name m known s old new at shown map i u here said leads)
 
-  pub then_shown : Shows same name v known2 led
+  pub then_shown : Refines same name v known2 led
   then_shown = (calls_keep_whole K V same hash name m known s old new at whole map i u here said leads).all.shown
 
   each : Together V same st.hash same st.setting slot_of w st.chart st.blocks st.sights (s.calls map)
   each = at.together.makings.standing.each map st to.2
 
-  sight : IsInside (s.world.uses (slot_of i)) → IsSight st.chart st.blocks (st.sights (slot_of i))
+  sight : IsInside (s.world.uses (slot_of i)) → IsVisibility st.chart st.blocks (st.sights (slot_of i))
   sight inside = (each.ground.sight (slot_of i) inside).0
 
   -- a block that is made was free
@@ -315,7 +315,7 @@ module _ {K V : Type 0} (same : K → K → Bool) (hash : ℕ → K → ℕ) (na
   -- a call that has ended has no such block
 
   -- of the pairs that a call on one key looks at after a step that is none of a row
-  module _ (x : CallOnKey K V K) (p2 : KeyCall K V K) (end : Called (Node K V)) (step : StepsAmong V same same old.batch_size old.roots slot_of s.world s.maps s.calls s.makers s.enders map st i x new.memory p2 end)
+  module _ (x : CallOnKey K V K) (p2 : KeyCall K V K) (end : Called (Node K V)) (step : StepsWithEndings V same same old.batch_size old.roots slot_of s.world s.maps s.calls s.makers s.enders map st i x new.memory p2 end)
       (moved : to.4.maps2 ≡ with_at s.maps map (Some (record st { chart = step.step.went.c2; blocks = step.step.blocks2; sights = step.step.sights2 }))) where
     seen_then : (n : ℕ) → n < step.step.went.c2.stored → step.step.went.blocks2.pair_known n ≡ true → known2.roles (step.step.went.blocks2.pair n) ≡ role.Pair (then_shown.number map n)
     seen_then n l known_too = roles_then same old.batch_size old.roots s map i st (sight step.step.inside) x new.memory p2 end step then_shown moved n l known_too
@@ -438,12 +438,12 @@ module _ {K V : Type 0} (same : K → K → Bool) (hash : ℕ → K → ℕ) (na
   none_has true has none = absurd (none has.0 has.1)
   none_has false has none = refl
 
-  pub step_keeps_made : FindBlocks (name i) map effects m × ShowsMade name v known2 led × (to.4.next ≡ None → (c : CallThere K V) → call_of (name i) v ≡ Some c → c.has_block ≡ false)
+  pub step_keeps_made : FindBlocks (name i) map effects m × RefinesMade name v known2 led × (to.4.next ≡ None → (c : CallThere K V) → call_of (name i) v ≡ Some c → c.has_block ≡ false)
   step_keeps_made = (
     left_all.finds its_there.0 its_there.1 (made.has map i u here its_there.0 its_there.1),
     record { has = has_then; named = named_then; whose = whose_then },
     λ none c c_is. none_has c.has_block (own_has c c_is) (ends_none none),
   )
 
-pub calls_keep_made : (K V : Type 0) (same : K → K → Bool) (hash : ℕ → K → ℕ) → CallsKeepMade K V same hash
+pub calls_keep_made : (K V : Type 0) (same : K → K → Bool) (hash : ℕ → K → ℕ) → CallsPreserveMade K V same hash
 calls_keep_made K V same hash name m known s old new at whole made map i u here said leads = step_keeps_made same hash name m known s old new at whole made map i u here said leads

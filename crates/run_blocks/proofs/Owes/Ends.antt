@@ -18,7 +18,7 @@ use Rattle.owner_calls.specs.Given.PointsSteps.{AreLawful}
 use Rattle.owner_calls.specs.Given.CallersTogether.{CallOnKey, in_slot, next_of, AnswersOnce}
 use Rattle.run_debts.specs.Given.EffectsKnown.{Known}
 use Rattle.run_debts.specs.Given.EffectsDeclared.role.Role.TheVariants as role
-use Rattle.owner_calls.specs.Holds.Came.{TellsOwn, Owns}
+use Rattle.owner_calls.specs.Holds.Came.{AnswerNamesOwn, Owns}
 use Rattle.owner_calls.proofs.Holds.Calls.Goes.{TellsSo}
 use Rattle.run_blocks.proofs.Owes.Held.{disposes_pair, answered_pair}
 
@@ -34,8 +34,8 @@ module _ {K V : Type 0} where
   refused_own (p, called.Done answer) fault e so = absurd (cc e)
 
   -- and what one answers tells its block, or that it has none
-  pub answered_own : (r : KeyCall K V K × Called (Node K V)) (answer : KeyAnswer) → of_called (called.Done answer) ≡ of_called r.1 → TellsSo r → TellsOwn r.0.own answer
-  answered_own (p, called.Done other) answer e so = let one : other ≡ answer = cc e in subst (TellsOwn p.own) one so
+  pub answered_own : (r : KeyCall K V K × Called (Node K V)) (answer : KeyAnswer) → of_called (called.Done answer) ≡ of_called r.1 → TellsSo r → AnswerNamesOwn r.0.own answer
+  answered_own (p, called.Done other) answer e so = let one : other ≡ answer = cc e in subst (AnswerNamesOwn p.own) one so
   answered_own (p, called.Goes) answer e so = absurd (cc e)
   answered_own (p, called.Waits) answer e so = absurd (cc e)
   answered_own (p, called.Gave value) answer e so = absurd (cc e)
@@ -47,7 +47,7 @@ module _ {K V : Type 0} where
 module _ {K V : Type 0} (same : K → K → Bool) (hash : K → ℕ) (setting : Setting) (slot : ℕ → ℕ) (w : World (Node K V)) (c : Chart K) (seen : Blocks) (i : ℕ) (u : CallOnKey K V K)
     (lawful : AreLawful same hash) (known : Known) (number : ℕ → ℕ) (roles : (n : ℕ) → n < c.stored → seen.pair_known n ≡ true → known.roles (seen.pair n) ≡ role.Pair (number n))
     (pairs : (n : ℕ) → n < c.stored → seen.pair_known n ≡ true → 0 < seen.pair n) where
-  pub answer_pair : (p : KeyCall K V K) → Owns p → p.own ≢ 0 → (change : Change) (answer : KeyAnswer) → AnswersOnce V same hash same setting slot w c seen i u change answer → TellsOwn p.own answer
+  pub answer_pair : (p : KeyCall K V K) → Owns p → p.own ≢ 0 → (change : Change) (answer : KeyAnswer) → AnswersOnce V same hash same setting slot w c seen i u change answer → AnswerNamesOwn p.own answer
       → (n : ℕ) × (known.roles (block_in p.own) ≡ role.Pair n)
   answer_pair p o some change answer (fits, inl (none, so, leaves)) own =
       answered_pair same hash w i (in_slot setting (slot i)) c seen u.keys p o.code some lawful known number roles pairs u.began answer so own

@@ -18,26 +18,26 @@ use Rattle.run_debts.specs.Given.EffectsDeclared.acting.Acting.TheVariants as ac
 use Rattle.run_debts.specs.Given.EffectsDeclared.role.Role.{Role}
 use Rattle.run_debts.specs.Given.EffectsDeclared.role.Role.TheVariants as role
 use Rattle.run_debts.specs.Given.FinishesEndings.{Finishing, StepsOfEnding}
-use Rattle.run_debts.specs.Given.FollowsShows.{Shows}
+use Rattle.run_debts.specs.Given.FollowsShows.{Refines}
 use Rattle.run_debts.proofs.Given.FollowsAlike.{AllCalm, put_here}
 use Rattle.run_debts.proofs.Given.FollowsOperations.{LeavesBy}
 use Rattle.run_debts.specs.Given.OthersEndings.{ending_after}
 use Rattle.run_debts.proofs.Given.OthersQuiet.{calls_none}
-use Rattle.run_blocks.specs.Owes.Beside.{NoneOfBlock, EndingsKeepMade}
-use Rattle.run_blocks.specs.Owes.Made.{ShowsMade}
+use Rattle.run_blocks.specs.Owes.Beside.{NoneOfBlock, EndingsPreserveMade}
+use Rattle.run_blocks.specs.Owes.Made.{RefinesMade}
 use Rattle.run_blocks.proofs.Owes.Aside.{LeavesAlone, NoneStored, left_alone, not_storing, calm_none, taken_none, made_still}
 use Rattle.run_blocks.proofs.Owes.InHand.{free_there, in_hand}
 use Rattle.run_blocks.proofs.Owes.Roles.{MakesFree, does_so}
 use Rattle.run_blocks.proofs.Owes.Lasting.{ending_leaves, ending_says, ending_keeps_held}
-use Rattle.run_debts.specs.Given.ScenesEnding.{EndingComesTo, EndingStepsFrom}
+use Rattle.run_debts.specs.Given.ScenesEnding.{EndingHasOutcome, EndingStepsFrom}
 use Rattle.run_debts.specs.Given.ScenesHeld.{Held, IsAt}
 use Rattle.run_debts.specs.Given.ScenesScene.{Scene, slot_of}
 
 module _ {K V : Type 0} (same : K → K → Bool) (hash : ℕ → K → ℕ) (name : ℕ → List ℕ) (m : Moment K V) (known : Known) (s : Scene K V) (old new : Held K V) (at : IsAt same hash old s)
-    (shown : Shows same name m known s) (made : ShowsMade name m known s) (i : ℕ) (f : Finishing K V) (here : s.enders i ≡ Some f) (end : EndMap) (said : Settled (Node K V))
+    (shown : Refines same name m known s) (made : RefinesMade name m known s) (i : ℕ) (f : Finishing K V) (here : s.enders i ≡ Some f) (end : EndMap) (said : Settled (Node K V))
     (steps : EndingStepsFrom f.machine old new end said)
     (did : StepsOfEnding V same same old.batch_size old.roots slot_of s.world s.maps s.calls s.makers s.enders i f new.memory (end, said))
-    (map : ℕ) (not_there : s.maps map ≡ None) (comes : EndingComesTo same hash s new i f end did.w2 did.deed said) where
+    (map : ℕ) (not_there : s.maps map ≡ None) (comes : EndingHasOutcome same hash s new i f end did.w2 did.deed said) where
   abbrev w : World (Node K V)
   w = s.world
 
@@ -89,14 +89,14 @@ module _ {K V : Type 0} (same : K → K → Bool) (hash : ℕ → K → ℕ) (na
   alone : LeavesAlone its known told
   alone = left_alone its known told (does_so its known told (makes_free told leaves)) unmade untaken (λ storing. not_storing (effects_of its known told) storing stores_none)
 
-  same_calls : (t : Settled (Node K V)) (there : EndingComesTo same hash s new i f end did.w2 did.deed t) → (ending_after same hash s new i f end did.w2 did.deed t there).calls ≡ s.calls
+  same_calls : (t : Settled (Node K V)) (there : EndingHasOutcome same hash s new i f end did.w2 did.deed t) → (ending_after same hash s new i f end did.w2 did.deed t there).calls ≡ s.calls
   same_calls settled.Goes there = refl
   same_calls settled.Waits there = refl
   same_calls (settled.Gave value) there = refl
   same_calls settled.Done there = refl
 
   pub ending_keeps : NoneOfBlock (effects_of its known told)
-      × ShowsMade name (with_effects None (Some map) (effects_of its known told) m) (known_after its told known) (ending_after same hash s new i f end did.w2 did.deed said comes)
+      × RefinesMade name (with_effects None (Some map) (effects_of its known told) m) (known_after its told known) (ending_after same hash s new i f end did.w2 did.deed said comes)
   ending_keeps = (
     alone.1,
     made_still name m (with_effects None (Some map) (effects_of its known told) m) known (known_after its told known) s (ending_after same hash s new i f end did.w2 did.deed said comes) made
@@ -104,6 +104,6 @@ module _ {K V : Type 0} (same : K → K → Bool) (hash : ℕ → K → ℕ) (na
   )
 
 module _ (K V : Type 0) (same : K → K → Bool) (hash : ℕ → K → ℕ) where
-  pub endings_keep_made : EndingsKeepMade K V same hash
+  pub endings_keep_made : EndingsPreserveMade K V same hash
   endings_keep_made name m known s old new at shown made i told leads f here map not_there =
       let to = leads f here in ending_keeps same hash name m known s old new at shown made i f here to.0 told to.1 to.2 map not_there to.3

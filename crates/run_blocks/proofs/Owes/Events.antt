@@ -23,11 +23,11 @@ use Rattle.run_debts.specs.Given.EffectsEffects.{effects_of}
 use Rattle.run_debts.specs.Given.EffectsKnown.{Known}
 use Rattle.run_debts.specs.Given.EffectsDeclared.acting.Acting.TheVariants as acts
 use Rattle.run_debts.proofs.Given.FollowsSteps.{WentTo, went_to}
-use Rattle.run_debts.specs.Given.MomentsWhole.{ShowsWhole}
+use Rattle.run_debts.specs.Given.MomentsWhole.{RefinesWhole}
 use Rattle.run_blocks.specs.Owes.Events.{LeavesNothingMade, EventsLeaveNothingMade, FindsMade, FindMade, StepsFindMade}
-use Rattle.run_blocks.specs.Owes.Made.{ShowsMade}
-use Rattle.run_blocks.specs.Owes.Short.{ShowsShort, FindsGrown, FindGrown}
-use Rattle.run_blocks.specs.Owes.Tables.{ShowsTables, FindsTable, FindTables}
+use Rattle.run_blocks.specs.Owes.Made.{RefinesMade}
+use Rattle.run_blocks.specs.Owes.Short.{RefinesShort, FindsGrown, FindGrown}
+use Rattle.run_blocks.specs.Owes.Tables.{RefinesOwnTables, FindsTable, FindTables}
 use Rattle.run_blocks.proofs.Owes.Calls.{step_keeps_made}
 use Rattle.run_blocks.proofs.Owes.Clear.{walks_are_clear}
 use Rattle.run_blocks.proofs.Owes.Kept.{calls_its}
@@ -77,7 +77,7 @@ has_grown (outcome.Refused Memory) c e = tt
 has_grown _ c e = e
 
 module _ {K V : Type 0} (same : K → K → Bool) (hash : ℕ → K → ℕ) (name : ℕ → List ℕ) (m : Moment K V) (known : Known) (s : Scene K V) (old new : Held K V) (at : IsAt same hash old s)
-    (whole : ShowsWhole same name m known s) (made : ShowsMade name m known s) (tables : ShowsTables name m known s) (short : ShowsShort name m s) (map i : ℕ) (u : UnderWay K V K)
+    (whole : RefinesWhole same name m known s) (made : RefinesMade name m known s) (tables : RefinesOwnTables name m known s) (short : RefinesShort name m s) (map i : ℕ) (u : UnderWay K V K)
     (here : s.calls map i ≡ Some u) (said : Progress (Node K V)) (leads : StepLeads same hash i said s old new) where
   abbrev to : WentTo same hash name m known s old new at whole.all.shown map i u here said leads
   to = went_to same hash name m known s old new at whole.all.shown map i u here said leads

@@ -20,16 +20,16 @@ use Rattle.run_debts.specs.Given.RawDeclared.machines.call.KeyCall.{KeyCall}
 use Rattle.owner_calls.specs.Given.RuleChart.{Still, Holds, Chart}
 use Rattle.owner_calls.specs.Given.RuleWords.{Blocks, byte_of, mark_bits, place_word}
 use Rattle.owner_calls.proofs.Given.RuleLaws.{words_name_pairs, bytes_are_few}
-use Rattle.owner_calls.specs.Given.PointsFactsCalls.{Holding, Apart, InBlock, ByReply, holding, Change, Unchanged, Stored, Replaced, Removed, IsOwnPair, IsVacant, HasOwn, HasIts, IsToFill, Tells, AskingFacts, CallingFacts}
+use Rattle.owner_calls.specs.Given.PointsFactsCalls.{Holding, Apart, InBlock, ByReply, holding, Change, Unchanged, Stored, Replaced, Removed, IsOwnPair, IsVacant, HasOwn, HasIts, IsToFill, AnswersChange, AskingFacts, CallingFacts}
 use Rattle.owner_calls.specs.Given.PointsSteps.{AreLawful}
 use Rattle.owner_calls.specs.Given.PointsTold.{IsRowOfCall}
-use Rattle.owner_calls.specs.Given.LateLateCalls.{LateAsking, LateCalling}
+use Rattle.owner_calls.specs.Given.LateLateCalls.{SupersededAsking, SupersededCalling}
 use Rattle.run_debts.specs.Given.CallersRows.{past_row, once_over}
 use Rattle.owner_calls.specs.Given.CallersSince.{SoSince, Since}
-use Rattle.owner_calls.specs.Given.CallersTogether.{CallOnKey, OnKey, in_slot, Knows, Stands}
+use Rattle.owner_calls.specs.Given.CallersTogether.{CallOnKey, OnKey, in_slot, Knows, IsAtPoint}
 use Rattle.run_debts.specs.Given.EffectsKnown.{Known}
 use Rattle.run_debts.specs.Given.EffectsDeclared.role.Role.TheVariants as role
-use Rattle.owner_calls.specs.Holds.Came.{TellsOwn, EndsOwn, OwnsAt, Owns}
+use Rattle.owner_calls.specs.Holds.Came.{AnswerNamesOwn, EndsOwn, OwnsAt, Owns}
 use Rattle.owner_calls.proofs.Holds.Calls.Steps.{names_block}
 
 -- a block is in this caller's hands, as a table or a pair to come, and not as the counter of a map
@@ -82,13 +82,13 @@ module _ {K V : Type 0} (same : K → K → Bool) (hash : K → ℕ) (w : World 
     asking_held change (asking.Fills word) facts = fill_held change facts.0
     asking_held change (asking.GivesUp word) facts = its_held change facts.0
 
-    late_asking_held : (began : ℕ) (a : Asking) → LateAsking same hash same w i setting c seen keys began p a → Its
+    late_asking_held : (began : ℕ) (a : Asking) → SupersededAsking same hash same w i setting c seen keys began p a → Its
     late_asking_held began (asking.Absent gap) facts = its_held Unchanged facts.0
     late_asking_held began (asking.Present word) facts = its_held Unchanged facts.0
     late_asking_held began (asking.Fills word) facts = fill_held Unchanged facts.0
     late_asking_held began (asking.GivesUp word) facts = its_held Unchanged facts.0
 
-    late_held : (began : ℕ) (stands : Calling) → LateCalling same hash same w i setting c seen keys began p stands → Its
+    late_held : (began : ℕ) (stands : Calling) → SupersededCalling same hash same w i setting c seen keys began p stands → Its
     late_held began (at.Looks l) facts = absurd (some facts.0)
     late_held began at.Probes facts = its_held Unchanged facts.0
     late_held began (at.Tries word new) facts = its_held Unchanged facts.0
@@ -127,7 +127,7 @@ module _ {K V : Type 0} (same : K → K → Bool) (hash : K → ℕ) (w : World 
         | inr none ↦ absurd (some none)
       ]
 
-      pub disposes_pair : (x change : Change) (answer : KeyAnswer) → Tells same hash same w i setting c seen keys x change answer → TellsOwn p.own answer → IsAPair
+      pub disposes_pair : (x change : Change) (answer : KeyAnswer) → AnswersChange same hash same w i setting c seen keys x change answer → AnswerNamesOwn p.own answer → IsAPair
       disposes_pair x change answers.Absent tells own = absurd (some own)
       disposes_pair x change (answers.Found word) tells own = absurd (some own)
       disposes_pair x change (answers.Removed word) tells own = absurd (some own)
@@ -142,7 +142,7 @@ module _ {K V : Type 0} (same : K → K → Bool) (hash : K → ℕ) (w : World 
 
       module _ (began : ℕ) where
         -- it has ended without a change, and so without such a block
-        pub answered_pair : (answer : KeyAnswer) → SoSince hash c seen keys began answer → TellsOwn p.own answer → IsAPair
+        pub answered_pair : (answer : KeyAnswer) → SoSince hash c seen keys began answer → AnswerNamesOwn p.own answer → IsAPair
         answered_pair answers.Absent so own = absurd (some own)
         answered_pair (answers.Found word) so own = absurd (some own)
         answered_pair (answers.Removed word) so own = absurd (some own)
@@ -205,7 +205,7 @@ module _ {K V : Type 0} (same : K → K → Bool) (hash : K → ℕ) (setting : 
   ]
 
   -- so it is wherever the call stands, within a row or not
-  pub stands_held : Owns u.call → u.call.own ≢ 0 → Stands V same hash same setting slot w c seen i (OnKey u) → Held u.call.own
+  pub stands_held : Owns u.call → u.call.own ≢ 0 → IsAtPoint V same hash same setting slot w c seen i (OnKey u) → Held u.call.own
   stands_held o some stands = elim stands as (λ _. Held u.call.own) [
     | inl k ↦ knows_held u.call o some k.1
     | inr k ↦ knows_held (once_over u.call) (owns_over u.call o k.1) some k.2

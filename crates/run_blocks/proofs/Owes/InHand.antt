@@ -5,15 +5,15 @@ use Rattle.run_debts.specs.Given.SeizeWordsMem.{value_at}
 use Rattle.run_debts.specs.Given.SeizeWorld.{World}
 use Rattle.run_debts.specs.Given.TablesDeclared.node.Node.{Node}
 use Rattle.run_debts.specs.Given.SchedulesMoment.{Moment}
-use Rattle.owner_calls.specs.Given.CallersSights.{seen_by, IsSight}
+use Rattle.owner_calls.specs.Given.CallersSights.{seen_by, IsVisibility}
 use Rattle.owner_calls.specs.Given.CallersTogether.{CallOnKey, UnderWay, OnKey, ForRoom, Counting, OverAll, Together}
 use Rattle.run_debts.specs.Given.EffectsKnown.{Known}
 use Rattle.run_debts.specs.Given.EffectsDeclared.role.Role.{Role}
 use Rattle.run_debts.specs.Given.EffectsDeclared.role.Role.TheVariants as role
 use Rattle.run_debts.specs.Given.FinishesMaps.{Standing}
 use Rattle.run_debts.specs.Given.FollowsBlocks.{HasRole}
-use Rattle.run_debts.specs.Given.FollowsShows.{Shows}
-use Rattle.run_blocks.specs.Owes.Made.{IsItsBlock, ShowsMade}
+use Rattle.run_debts.specs.Given.FollowsShows.{Refines}
+use Rattle.run_blocks.specs.Owes.Made.{IsItsBlock, RefinesMade}
 use Rattle.run_blocks.proofs.Owes.Held.{IsInHand, stands_held}
 use Rattle.run_debts.proofs.Given.ScenesMay.{standing_is}
 use Rattle.run_debts.specs.Given.ScenesHeld.{Held, IsAt}
@@ -32,7 +32,7 @@ free_there {K} {V} w stored known roles b none = by (known.roles b) refl (roles 
     by (role.Counter map) e has = absurd (cc (has, none))
 
 module _ {K V : Type 0} (same : K → K → Bool) (hash : ℕ → K → ℕ) (name : ℕ → List ℕ) (m : Moment K V) (known : Known) (s : Scene K V) (e : Held K V) (at : IsAt same hash e s)
-    (shown : Shows same name m known s) (made : ShowsMade name m known s) where
+    (shown : Refines same name m known s) (made : RefinesMade name m known s) where
   -- of a call on one key
   module _ (map j : ℕ) (u : CallOnKey K V K) (here : s.calls map j ≡ Some (OnKey u)) where
     abbrev st : Standing K
@@ -44,7 +44,7 @@ module _ {K V : Type 0} (same : K → K → Bool) (hash : ℕ → K → ℕ) (na
     each : Together V same st.hash same st.setting slot_of s.world st.chart st.blocks st.sights (s.calls map)
     each = at.together.makings.standing.each map st there
 
-    sight : IsSight st.chart st.blocks (st.sights (slot_of j))
+    sight : IsVisibility st.chart st.blocks (st.sights (slot_of j))
     sight = (each.ground.sight (slot_of j) (each.inside j (OnKey u) here)).0
 
     key_in_hand : (b : ℕ) → IsItsBlock known j b → IsInHand s.world j b

@@ -8,16 +8,16 @@ use Rattle.run_debts.specs.Given.RunsDeclared.call.Call.{Call}
 use Rattle.run_debts.specs.Given.RunsDeclared.call.Reply.{Reply}
 use Rattle.run_debts.specs.Given.RunsDeclared.outcome.Outcome.{Outcome}
 use Rattle.run_debts.specs.Given.RunsDeclared.outcome.Outcome.TheVariants as outcome
-use Rattle.run_debts.specs.Given.SchedulesAfter.{asks_on, comes_to, replied, without_call}
+use Rattle.run_debts.specs.Given.SchedulesAfter.{asks_on, with_outcome, replied, without_call}
 use Rattle.run_debts.specs.Given.SchedulesBeginning.{fresh_call, with_call}
 use Rattle.run_debts.specs.Given.SchedulesEntry.{ends_call}
-use Rattle.run_debts.specs.Given.SchedulesMoment.{Stands, Going, Asking, Told, IsReady, UnderWay as CallThere, Moment}
+use Rattle.run_debts.specs.Given.SchedulesMoment.{CallState, Going, Asking, Told, IsReady, UnderWay as CallThere, Moment}
 use Rattle.run_debts.specs.Given.SchedulesViews.{call_of}
 use Rattle.owner_calls.specs.Given.CallersTogether.{UnderWay}
 use Rattle.owner_calls.proofs.Given.CallersTogether.At.{at_other, at_same}
 use Rattle.run_debts.specs.Given.FinishesMaps.{with_call as with_in}
 use Rattle.run_debts.specs.Given.FollowsCalling.{told, come_to}
-use Rattle.run_debts.specs.Given.FollowsCalls.{ShowsCalls}
+use Rattle.run_debts.specs.Given.FollowsCalls.{RefinesCalls}
 use Rattle.run_debts.proofs.Given.FollowsCalling.{is_same_refl, apart_back, found_kept, come, come_of_same, replied_same}
 use Rattle.run_debts.proofs.Given.FollowsCalls.{IsOfSame, changed, found}
 use Rattle.run_debts.proofs.Given.HandsAsking.{which}
@@ -50,19 +50,19 @@ module _ {K V : Type 0} where
 
   -- what it is told, and what it comes to, leaves that
 
-  replied_keeps : (reply : Reply V) (c : CallThere K V) (stands : Stands) → HasAsMuch c (replied reply c stands)
+  replied_keeps : (reply : Reply V) (c : CallThere K V) (stands : CallState) → HasAsMuch c (replied reply c stands)
   replied_keeps reply c Going = (refl, refl, refl, refl)
   replied_keeps reply c (Asking q) = (refl, refl, refl, refl)
   replied_keeps reply c Told = (refl, refl, refl, refl)
   replied_keeps reply c IsReady = (refl, refl, refl, refl)
 
-  asks_keeps : (question : Option ℕ) (c : CallThere K V) (stands : Stands) → HasAsMuch c (asks_on question c stands)
+  asks_keeps : (question : Option ℕ) (c : CallThere K V) (stands : CallState) → HasAsMuch c (asks_on question c stands)
   asks_keeps question c Going = (refl, refl, refl, refl)
   asks_keeps question c (Asking q) = (refl, refl, refl, refl)
   asks_keeps question c Told = (refl, refl, refl, refl)
   asks_keeps question c IsReady = (refl, refl, refl, refl)
 
-  comes_keeps : (o : Outcome V) (c : CallThere K V) → HasAsMuch c (comes_to o c)
+  comes_keeps : (o : Outcome V) (c : CallThere K V) → HasAsMuch c (with_outcome o c)
   comes_keeps outcome.Done c = (refl, refl, refl, refl)
   comes_keeps (outcome.Slot n) c = (refl, refl, refl, refl)
   comes_keeps outcome.Goes c = (refl, refl, refl, refl)
@@ -103,7 +103,7 @@ module _ {K V : Type 0} (name : ℕ → List ℕ) (m : Moment K V) where
     others_there j apart d d_is = sym (ap (among j) apart) ∙ d_is
 
   -- of one of which calls go on as themselves
-  module _ (same : K → K → Bool) (calls : ℕ → ℕ → Option (UnderWay K V K)) (shown : ShowsCalls same name m calls) where
+  module _ (same : K → K → Bool) (calls : ℕ → ℕ → Option (UnderWay K V K)) (shown : RefinesCalls same name m calls) where
     module _ (own : List ℕ) (change : CallThere K V → CallThere K V) (is_of : (c : CallThere K V) → IsOfSame c (change c)) (kept : (c : CallThere K V) → HasAsMuch c (change c)) where
       changed_kept : (c : CallThere K V) → HasAsMuch c (changed change is_of own c)
       changed_kept c = by (is_same c.caller own)

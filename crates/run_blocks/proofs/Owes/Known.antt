@@ -27,10 +27,10 @@ use Rattle.owner_calls.specs.Given.PointsFactsCalls.{CallingFacts}
 use Rattle.owner_calls.specs.Given.PointsFactsDisposes.{DisposeFacts}
 use Rattle.owner_calls.specs.Given.PointsTold.{IsRowOf, IsRowOfCall}
 use Rattle.owner_calls.specs.Given.LateFactsSweeps.{SweepingFacts}
-use Rattle.owner_calls.specs.Given.LateLateCalls.{LateCalling}
+use Rattle.owner_calls.specs.Given.LateLateCalls.{SupersededCalling}
 use Rattle.owner_calls.specs.Given.LateToldSweeps.{IsRowOfSweep}
 use Rattle.owner_calls.specs.Given.CallersOverAll.{CallOverAll}
-use Rattle.owner_calls.specs.Given.CallersTogether.{CallOnKey, OnKey, OverAll, Stands, in_slot}
+use Rattle.owner_calls.specs.Given.CallersTogether.{CallOnKey, OnKey, OverAll, IsAtPoint, in_slot}
 
 -- the root that a disposal reads is the first table of its map
 pub root_turn : {K V : Type 0} (same : K → K → Bool) (hash : K → ℕ) (setting : Setting) (w : World (Node K V)) (caller : ℕ) (c : Chart K) (blocks : Blocks) → IsMapIn same hash setting w c blocks
@@ -49,12 +49,12 @@ module _ {K V : Type 0} (same : K → K → Bool) (hash : K → ℕ) (setting : 
   own = in_slot setting (slot i)
 
   -- of a call on one key
-  module _ (x : CallOnKey K V K) (stands : Stands V same hash same setting slot w c seen i (OnKey x)) where
+  module _ (x : CallOnKey K V K) (stands : IsAtPoint V same hash same setting slot w c seen i (OnKey x)) where
     abbrev At : Calling → Type 0
     At q = CallingFacts same hash same w i own c seen x.keys x.change x.call q
 
     abbrev LateAt : Calling → Type 0
-    LateAt q = LateCalling same hash same w i own c seen x.keys x.began x.call q
+    LateAt q = SupersededCalling same hash same w i own c seen x.keys x.began x.call q
 
     abbrev Tries : Type 0
     Tries = (t : ℕ) × IsTable c seen x.call.trial.table t × (x.call.setting ≡ own)
@@ -78,7 +78,7 @@ module _ {K V : Type 0} (same : K → K → Bool) (hash : K → ℕ) (setting : 
     ]
 
   -- and of a sweep
-  module _ (x : CallOverAll) (stands : Stands V same hash same setting slot w c seen i (OverAll x)) where
+  module _ (x : CallOverAll) (stands : IsAtPoint V same hash same setting slot w c seen i (OverAll x)) where
     abbrev SweptAt : Sweeping → Type 0
     SweptAt q = SweepingFacts same hash w i own c seen x.began x.sweep q
 

@@ -25,16 +25,16 @@ use Rattle.run_debts.specs.Given.ScenesDeclared.row.SlotRow.{SlotRow}
 use Rattle.run_debts.proofs.Given.FinishesEnds.Frames.{that_one}
 use Rattle.run_debts.proofs.Given.FinishesEnds.Points.{end_steps}
 use Rattle.run_debts.specs.Given.FinishesEndings.{Finishing, FinishingFacts, StepsOfEnding}
-use Rattle.run_debts.specs.Given.FinishesFactsEnds.{Deed, EndWent, IsFresh, IsItsDeed, JoinsPair, LeavesTable, Looks, TakesCounter, TakesLeft, TakesPair, WritesRoot, taken_by}
+use Rattle.run_debts.specs.Given.FinishesFactsEnds.{Deed, EndStepSpec, IsFresh, IsItsDeed, JoinsPair, LeavesTable, Looks, TakesCounter, TakesLeft, TakesPair, WritesRoot, taken_by}
 use Rattle.run_debts.proofs.Given.FollowsAlike.{AllCalm}
 use Rattle.run_debts.proofs.Given.FollowsOperations.{LeavesBy, operated_leaves}
-use Rattle.run_debts.specs.Given.FollowsShows.{Shows}
+use Rattle.run_debts.specs.Given.FollowsShows.{Refines}
 use Rattle.run_debts.proofs.Given.OthersEnds.{left, says_or_takes}
 use Rattle.run_debts.proofs.Given.OthersRowPlans.{row_operated}
 use Rattle.run_blocks.proofs.Owes.Held.{IsInHand}
 use Rattle.run_debts.proofs.Given.ScenesMay.{may_row}
 use Rattle.run_debts.proofs.Given.ScenesTold.{as_step}
-use Rattle.run_debts.specs.Given.ScenesEnding.{EndingComesTo, EndingStepsFrom}
+use Rattle.run_debts.specs.Given.ScenesEnding.{EndingHasOutcome, EndingStepsFrom}
 use Rattle.run_debts.specs.Given.ScenesHeld.{Held, IsAt}
 use Rattle.run_debts.specs.Given.ScenesOnSlots.{HappensAt, RowSteps}
 use Rattle.run_debts.specs.Given.ScenesScene.{IsOnSlot, Scene, slot_of}
@@ -66,10 +66,10 @@ pub record IsAside {K V : Type 0} (w : World (Node K V)) (b : ℕ) : Type 0 wher
   pub other : value ≢ node.Shards
 
 module _ {K V : Type 0} (same : K → K → Bool) (hash : ℕ → K → ℕ) (name : ℕ → List ℕ) (m : Moment K V) (known : Known) (s : Scene K V) (old new : Held K V) (at : IsAt same hash old s)
-    (shown : Shows same name m known s) (i : ℕ) (f : Finishing K V) (here : s.enders i ≡ Some f) (end : EndMap) (said : Settled (Node K V))
+    (shown : Refines same name m known s) (i : ℕ) (f : Finishing K V) (here : s.enders i ≡ Some f) (end : EndMap) (said : Settled (Node K V))
     (steps : EndingStepsFrom f.machine old new end said)
     (did : StepsOfEnding V same same old.batch_size old.roots slot_of s.world s.maps s.calls s.makers s.enders i f new.memory (end, said))
-    (map : ℕ) (not_there : s.maps map ≡ None) (comes : EndingComesTo same hash s new i f end did.w2 did.deed said) where
+    (map : ℕ) (not_there : s.maps map ≡ None) (comes : EndingHasOutcome same hash s new i f end did.w2 did.deed said) where
   abbrev w : World (Node K V)
   w = s.world
 
@@ -92,7 +92,7 @@ module _ {K V : Type 0} (same : K → K → Bool) (hash : ℕ → K → ℕ) (na
   ending_says = says_or_takes same hash name m known s old new at shown i f here end said steps did map not_there comes told refl ending_leaves
 
   -- what it did, by what it knows of its map
-  went : EndWent f.setting f.chart f.blocks facts.lists false i f.hash f.began w facts.past f.back new.memory (end, said)
+  went : EndStepSpec f.setting f.chart f.blocks facts.lists false i f.hash f.began w facts.past f.back new.memory (end, said)
   went =
       (end_steps same f.hash facts.lawful f.setting f.chart f.blocks facts.lists false i f.began facts.stood w f.machine facts.past f.back facts.facts).1 new.memory (end, said)
       (subst (λ (n : Mem (Node K V)). Steps Took value_at n (end_map_plan {K = K} {V = V} f.machine) new.memory (end, said)) (sym at.memory)

@@ -29,7 +29,7 @@ use Rattle.run_debts.specs.Given.RawDeclared.machines.progress.Progress.{Progres
 use Rattle.owner_calls.specs.Given.PointsTold.{IsRowOfCopier, IsRowOfCall}
 use Rattle.owner_calls.specs.Given.LateToldReserves.{IsRowOfReserve}
 use Rattle.owner_calls.specs.Given.LateToldSweeps.{IsRowOfSweep}
-use Rattle.run_debts.specs.Given.TellerTells.{StepsTold}
+use Rattle.run_debts.specs.Given.TellerTells.{StepsObserved}
 use Rattle.run_debts.specs.Given.EffectsDeclared.changed.Changed.{Changed}
 use Rattle.run_debts.specs.Given.EffectsDeclared.changed.Changed.TheVariants as changed
 use Rattle.run_debts.specs.Given.EffectsDeclared.changed.Kind.TheVariants as kind
@@ -72,7 +72,7 @@ sweep_none _ row = refl
 -- of a step of a machine that has come to this
 module _ {K V : Type 0} (asks : K → K → Bool) (same : K → K → Bool) (hash : K → ℕ) (m m2 : Mem (Node K V)) (told : Changed) (machine : Machine K V K) (said : Progress (Node K V)) where
   abbrev pub SteppedFrom : Machine K V K → Type 0
-  SteppedFrom before = StepsTold K V (Machine K V K × Progress (Node K V)) m changed.Nothing (machine_plan asks same hash before) m2 told (machine, said)
+  SteppedFrom before = StepsObserved K V (Machine K V K × Progress (Node K V)) m changed.Nothing (machine_plan asks same hash before) m2 told (machine, said)
 
   -- a call on one key
   module _ (p : KeyCall K V K) (o : Owns p) (has : (n : NewTable) → making_in_calling p.stands ≡ Some n → HasPlaces n.stands)
@@ -80,7 +80,7 @@ module _ {K V : Type 0} (asks : K → K → Bool) (same : K → K → Bool) (has
     abbrev CameTo : Type 0
     CameTo =
         (r : KeyCall K V K × Called (Node K V)) × (◌≡◌ {A = Machine K V K × Progress (Node K V)} (machine, said) (of_key r))
-        × StepsTold K V (KeyCall K V K × Called (Node K V)) m changed.Nothing (call_plan asks same hash p) m2 told r
+        × StepsObserved K V (KeyCall K V K × Called (Node K V)) m changed.Nothing (call_plan asks same hash p) m2 told r
 
     pub came_to : CameTo
     came_to = told_in m m2 told of_key (call_plan asks same hash p) (machine, said) steps

@@ -26,7 +26,7 @@ use Rattle.owner_calls.specs.Given.ResizeDeclared.sum.Summing.TheVariants as sum
 use Rattle.run_debts.specs.Given.SchedulesEffects.{with_effects}
 use Rattle.run_debts.specs.Given.SchedulesMoment.{Moment}
 use Rattle.run_debts.specs.Given.TellsSeen.{seen_of}
-use Rattle.run_debts.specs.Given.TellerTells.{told_of, StepsTold}
+use Rattle.run_debts.specs.Given.TellerTells.{observed_of, StepsObserved}
 use Rattle.run_debts.specs.Given.EffectsDeclared.changed.Changed.{Changed}
 use Rattle.run_debts.specs.Given.EffectsDeclared.changed.Changed.TheVariants as changed
 use Rattle.run_debts.specs.Given.EffectsDeclared.changed.Kind.{Kind}
@@ -40,17 +40,17 @@ use Rattle.run_debts.specs.Given.EffectsKnown.{Known}
 use Rattle.run_debts.specs.Given.EffectsDeclared.acting.Acting.{Acting}
 use Rattle.run_debts.specs.Given.EffectsDeclared.acting.Acting.TheVariants as acts
 use Rattle.run_debts.specs.Given.EffectsDeclared.role.Role.TheVariants as role
-use Rattle.run_debts.specs.Given.FinishesEndings.{MakingStepsAmong}
+use Rattle.run_debts.specs.Given.FinishesEndings.{MakingStepsWithEndings}
 use Rattle.run_debts.specs.Given.FinishesMakings.{Beginning, OpeningFacts}
-use Rattle.run_debts.specs.Given.FollowsShows.{Shows}
+use Rattle.run_debts.specs.Given.FollowsShows.{Refines}
 use Rattle.run_debts.proofs.Given.FollowsOperations.{LeavesBy}
 use Rattle.run_debts.specs.Given.OthersMakings.{making_after}
 use Rattle.run_debts.proofs.Given.OthersLeads.{word_says}
 use Rattle.run_debts.proofs.Given.OthersMakingPlans.{TellsMaking}
 use Rattle.run_debts.proofs.Given.OthersMakes.{no_table_word, facts, tells, left}
 use Rattle.run_debts.proofs.Given.OthersQuiet.{calls_none}
-use Rattle.run_blocks.specs.Owes.Beside.{of_block, NoneOfBlock, MakingsKeepMade}
-use Rattle.run_blocks.specs.Owes.Made.{ShowsMade}
+use Rattle.run_blocks.specs.Owes.Beside.{of_block, NoneOfBlock, MakingsPreserveMade}
+use Rattle.run_blocks.specs.Owes.Made.{RefinesMade}
 use Rattle.run_blocks.specs.Owes.Making.{making_in_opening}
 use Rattle.run_blocks.proofs.Owes.Aside.{LeavesAlone, TakesIn, left_alone, not_storing, none_of, calm_none, taken_none, NoneStored, made_still, plan_took, takes_within}
 use Rattle.run_blocks.proofs.Owes.InHand.{free_there, in_hand}
@@ -60,7 +60,7 @@ use Rattle.run_blocks.proofs.Owes.Quiet.{none_if, led_none}
 use Rattle.run_blocks.proofs.Owes.Walks.{PlanMakes, plan_made, makes_as, table_makes, IsToMake}
 use Rattle.run_blocks.proofs.Owes.Words.{none_for_pair}
 use Rattle.run_debts.specs.Given.ScenesHeld.{Held, IsAt}
-use Rattle.run_debts.specs.Given.ScenesMaking.{MakingComesTo, MakingStepsFrom}
+use Rattle.run_debts.specs.Given.ScenesMaking.{MakingHasOutcome, MakingStepsFrom}
 use Rattle.run_debts.specs.Given.ScenesScene.{Scene, slot_of}
 
 module _ {K V : Type 0} (w : World (Node K V)) (i roots : ℕ) (n : NewMap) where
@@ -87,7 +87,7 @@ module _ {K V : Type 0} (w : World (Node K V)) (i roots : ℕ) (n : NewMap) wher
   opening_has same hash (opening.Refused fault) facts t is = absurd (cc is)
 
   -- or a counter
-  shards_kind : (m : Mem (Node K V)) (words : ℕ) (out : Out (Node K V)) (k : Kind) (b : ℕ) → told_of (Make node.Shards words) out (seen_of m (Make node.Shards words) out) ≡ changed.Made k b → k ≡ kind.Shards
+  shards_kind : (m : Mem (Node K V)) (words : ℕ) (out : Out (Node K V)) (k : Kind) (b : ℕ) → observed_of (Make node.Shards words) out (seen_of m (Make node.Shards words) out) ≡ changed.Made k b → k ≡ kind.Shards
   shards_kind m words (Made (Ok x)) k b e = (let same : kind.Shards ≡ k = cc e in sym same)
   shards_kind m words (Made (Err back)) k b e = absurd (cc e)
   shards_kind m words _ k b e = absurd (cc e)
@@ -119,7 +119,7 @@ module _ {K V : Type 0} (w : World (Node K V)) (i roots : ℕ) (n : NewMap) wher
 
   module _ (m m2 : Mem (Node K V)) (told : Changed) (end : NewMap × Advance Setting) where
     abbrev Told : Opening → Type 0
-    Told p = StepsTold K V (NewMap × Advance Setting) m changed.Nothing (new_map.plan_at n p) m2 told end
+    Told p = StepsObserved K V (NewMap × Advance Setting) m changed.Nothing (new_map.plan_at n p) m2 told end
 
     -- what it makes is the table of its making, or its counter
     pub opening_which : (p : Opening) → Told p → (k : Kind) (b : ℕ) → told ≡ changed.Made k b → ((value : Node K V) × IsToMake (making_in_opening p) value × (kind_of value ≡ k)) ⊎ (k ≡ kind.Shards)
@@ -142,9 +142,9 @@ module _ {K V : Type 0} (w : World (Node K V)) (i roots : ℕ) (n : NewMap) wher
     takes_its facts steps x is = opening_takes n.stands facts x (plan_took m m2 told (new_map.plan_at n n.stands) end steps x is)
 
 module _ {K V : Type 0} (same : K → K → Bool) (hash : ℕ → K → ℕ) (name : ℕ → List ℕ) (m : Moment K V) (known : Known) (s : Scene K V) (old new : Held K V) (at : IsAt same hash old s)
-    (shown : Shows same name m known s) (made : ShowsMade name m known s) (i : ℕ) (b : Beginning K) (here : s.makers i ≡ Some b) (end : NewMap) (said : Advance Setting)
+    (shown : Refines same name m known s) (made : RefinesMade name m known s) (i : ℕ) (b : Beginning K) (here : s.makers i ≡ Some b) (end : NewMap) (said : Advance Setting)
     (steps : MakingStepsFrom b.machine old new end said)
-    (did : MakingStepsAmong V same same old.batch_size old.roots slot_of s.world s.maps s.calls s.makers s.enders i b new.memory (end, said)) (of : Option ℕ) where
+    (did : MakingStepsWithEndings V same same old.batch_size old.roots slot_of s.world s.maps s.calls s.makers s.enders i b new.memory (end, said)) (of : Option ℕ) where
   abbrev w : World (Node K V)
   w = s.world
 
@@ -212,14 +212,14 @@ module _ {K V : Type 0} (same : K → K → Bool) (hash : ℕ → K → ℕ) (na
       (no_pair_made w i old.roots b.machine old.memory new.memory told (end, said) same b.hash point steps) untaken
       (λ storing. not_storing (effects_of its known told) storing (stores_none told so))
 
-  same_calls : (t : Advance Setting) (comes : MakingComesTo same hash s old new i b end w2 t) → (making_after same hash s old new i b end w2 t comes).calls ≡ s.calls
+  same_calls : (t : Advance Setting) (comes : MakingHasOutcome same hash s old new i b end w2 t) → (making_after same hash s old new i b end w2 t comes).calls ≡ s.calls
   same_calls progress.Goes comes = refl
   same_calls progress.Waits comes = refl
   same_calls (progress.Done setting) comes = refl
   same_calls (progress.Refused fault) comes = refl
 
-  pub making_keeps : (comes : MakingComesTo same hash s old new i b end w2 said) → NoneOfBlock (effects_of its known told)
-      × ShowsMade name (with_effects None of (effects_of its known told) m) (known_after its told known) (making_after same hash s old new i b end w2 said comes)
+  pub making_keeps : (comes : MakingHasOutcome same hash s old new i b end w2 said) → NoneOfBlock (effects_of its known told)
+      × RefinesMade name (with_effects None of (effects_of its known told) m) (known_after its told known) (making_after same hash s old new i b end w2 said comes)
   making_keeps comes = (
     alone.1,
     made_still name m (with_effects None of (effects_of its known told) m) known (known_after its told known) s (making_after same hash s old new i b end w2 said comes) made
@@ -227,6 +227,6 @@ module _ {K V : Type 0} (same : K → K → Bool) (hash : ℕ → K → ℕ) (na
   )
 
 module _ (K V : Type 0) (same : K → K → Bool) (hash : ℕ → K → ℕ) where
-  pub makings_keep_made : MakingsKeepMade K V same hash
+  pub makings_keep_made : MakingsPreserveMade K V same hash
   makings_keep_made name m known s old new at shown made i told leads b here of =
       let to = leads b here in making_keeps same hash name m known s old new at shown made i b here to.0 told to.1 to.2 of to.3

@@ -14,7 +14,7 @@ use Rattle.owner_calls.specs.Given.CallersTogether.{UnderWay}
 use Rattle.run_debts.specs.Given.FinishesMachines.{machine_of}
 use Rattle.run_debts.specs.Given.FinishesMaps.{with_call as with_in}
 use Rattle.run_debts.specs.Given.FollowsCalling.{NoneNamed, told, come_to}
-use Rattle.run_debts.specs.Given.FollowsCalls.{ShowsCalls}
+use Rattle.run_debts.specs.Given.FollowsCalls.{RefinesCalls}
 use Rattle.run_debts.proofs.Given.HandsAsking.{which}
 use Rattle.run_debts.specs.Given.OthersWalks.{given_up}
 use Rattle.run_blocks.proofs.Owes.Kept.{calls_without, HasAsMuch, HadAsMuch, fresh_has, others_there, told_had, left_had, come_had}
@@ -63,7 +63,7 @@ module _ {K V : Type 0} (mark : CallThere K V → Bool) (P : Machine K V K → T
       go_on_marked n j x is d d_is e = let was = on_there n j x is in was.2 (marked n j was.0 was.1 d d_is e)
 
     -- where the moment shows the calls
-    module _ (same : K → K → Bool) (shown : ShowsCalls same name m s.calls) where
+    module _ (same : K → K → Bool) (shown : RefinesCalls same name m s.calls) where
       pub take_marked : (of i : ℕ) (u : UnderWay K V K) → s.calls of i ≡ Some u → (next : UnderWay K V K) → (P (machine_of u) → P (machine_of next)) → (is_told : Reply V)
           → Marked name (told (name i) is_told m) (scene_with of i next s)
       take_marked of i u here next goes is_told n j x is d d_is e =

@@ -25,7 +25,7 @@ use Rattle.run_debts.specs.Given.RawDeclared.machines.call.Calling.TheVariants a
 use Rattle.run_debts.specs.Given.RawDeclared.machines.call.KeyCall.{KeyCall}
 use Rattle.owner_calls.proofs.Given.RuleKeys.Always.{AlwaysOf, always_plan_as, always_steps}
 use Rattle.run_debts.specs.Given.TellsSeen.{seen_of}
-use Rattle.run_debts.specs.Given.TellerTells.{told_of, StepsTold}
+use Rattle.run_debts.specs.Given.TellerTells.{observed_of, StepsObserved}
 use Rattle.run_debts.specs.Given.EffectsDeclared.changed.Changed.{Changed}
 use Rattle.run_debts.specs.Given.EffectsDeclared.changed.Changed.TheVariants as changed
 use Rattle.run_debts.specs.Given.EffectsDeclared.changed.Kind.{Kind}
@@ -57,7 +57,7 @@ module _ {K V : Type 0} (p : KeyCall K V K) (o : Owns p) (m m2 : Mem (Node K V))
   same_own e is none = HasIt is (λ its. none)
 
   -- a block was made for the pair
-  made_own : (value : Node K V) (b : ℕ) (e : End') → Took m (Make value 0) (Made (Ok b)) m2 → told ≡ told_of (Make value 0) (Made (Ok b)) (seen_of m (Make value 0) (Made (Ok b))) → p.own ≡ 0 → (hash : ℕ) → hash ≡ p.hash
+  made_own : (value : Node K V) (b : ℕ) (e : End') → Took m (Make value 0) (Made (Ok b)) m2 → told ≡ observed_of (Make value 0) (Made (Ok b)) (seen_of m (Make value 0) (Made (Ok b))) → p.own ≡ 0 → (hash : ℕ) → hash ≡ p.hash
       → e.0.own ≡ word_to b hash → OwnGoes e.0
   made_own value b e took is none hash hash_is own =
       let its : e.0.own ≡ word_to b p.hash = own ∙ ap (word_to b) hash_is in
@@ -67,21 +67,21 @@ module _ {K V : Type 0} (p : KeyCall K V K) (o : Owns p) (m m2 : Mem (Node K V))
   told_none : (x : Changed) → told ≡ x → NoneMade x → NoneMade told
   told_none x is none = subst NoneMade (sym is) none
 
-  makes_own : p.own ≡ 0 → (unmade : Option (Node K V)) (e : End') → StepsTold K V End' m changed.Nothing (makes_of p unmade) m2 told e → OwnGoes e.0
+  makes_own : p.own ≡ 0 → (unmade : Option (Node K V)) (e : End') → StepsObserved K V End' m changed.Nothing (makes_of p unmade) m2 told e → OwnGoes e.0
   makes_own none None e s = same_own e (ap own_in s.1) (told_none changed.Nothing s.2 tt)
   makes_own none (Some value) e s = by s.0 s.1.0 s.1.1 s.2
     where
-      by : (out : Out (Node K V)) → Took m (Make value 0) out m2 → told ≡ told_of (Make value 0) out (seen_of m (Make value 0) out) → Ends (value_at m2) (made p out) e → OwnGoes e.0
+      by : (out : Out (Node K V)) → Took m (Make value 0) out m2 → told ≡ observed_of (Make value 0) out (seen_of m (Make value 0) out) → Ends (value_at m2) (made p out) e → OwnGoes e.0
       by (Made (Ok b)) took is end = made_own value b e took is none p.hash refl (ap own_in end)
       by (Made (Err back)) took is end = same_own e (ap own_in end) (told_none _ is tt)
       by _ took is end = absurd took.0
 
   -- the pair goes into its own block, which is made where there is none
   puts_own : (q : KeyCall K V K) → q.own ≡ p.own → q.hash ≡ p.hash → (b : Bool) → (q.own == 0) ≡ b → (word : ℕ) (key : K) (value : V) (e : End')
-      → StepsTold K V End' m changed.Nothing (putting_by b q word key value) m2 told e → OwnGoes e.0
+      → StepsObserved K V End' m changed.Nothing (putting_by b q word key value) m2 told e → OwnGoes e.0
   puts_own q own hash true none word key value e s = by s.0 s.1.0 s.1.1 s.2
     where
-      by : (out : Out (Node K V)) → Took m (Make (node.Pair key value) 0) out m2 → told ≡ told_of (Make (node.Pair key value) 0) out (seen_of m (Make (node.Pair key value) 0) out)
+      by : (out : Out (Node K V)) → Took m (Make (node.Pair key value) 0) out m2 → told ≡ observed_of (Make (node.Pair key value) 0) out (seen_of m (Make (node.Pair key value) 0) out)
           → Ends (value_at m2) (filled q word out) e → OwnGoes e.0
       by (Made (Ok b)) took is end = made_own (node.Pair key value) b e took is (sym own ∙ eqb-true q.own 0 none) q.hash hash (ap own_in end)
       by (Made (Err back)) took is end = same_own e (ap own_in end ∙ own) (told_none _ is tt)
@@ -89,11 +89,11 @@ module _ {K V : Type 0} (p : KeyCall K V K) (o : Owns p) (m m2 : Mem (Node K V))
   puts_own q own hash false has word key value e s = by s.0 s.1.0 s.1.1 s.2
     where
       by : (out : Out (Node K V)) → Took m (Rewrite (block_in q.own) (node.Pair key value)) out m2
-          → told ≡ told_of (Rewrite (block_in q.own) (node.Pair key value)) out (seen_of m (Rewrite (block_in q.own) (node.Pair key value)) out) → Ends (value_at m2) (filled q word out) e → OwnGoes e.0
+          → told ≡ observed_of (Rewrite (block_in q.own) (node.Pair key value)) out (seen_of m (Rewrite (block_in q.own) (node.Pair key value)) out) → Ends (value_at m2) (filled q word out) e → OwnGoes e.0
       by (Taken back) took is end = same_own e (ap own_in end ∙ own) (told_none _ is tt)
       by _ took is end = absurd took.0
 
-  filled_own : (value : Option V) (word : ℕ) (key : K) (e : End') → StepsTold K V End' m changed.Nothing (fill_by value (record p { replies = as_own p.replies word }) word key) m2 told e → OwnGoes e.0
+  filled_own : (value : Option V) (word : ℕ) (key : K) (e : End') → StepsObserved K V End' m changed.Nothing (fill_by value (record p { replies = as_own p.replies word }) word key) m2 told e → OwnGoes e.0
   filled_own None word key e s = same_own e (ap own_in s.1) (told_none changed.Nothing s.2 tt)
   filled_own (Some value) word key e s = puts_own (record p { replies = record (as_own p.replies word) { key = None } }) refl refl (p.own == 0) refl word key value e s
 
@@ -108,13 +108,13 @@ module _ {K V : Type 0} (p : KeyCall K V K) (o : Owns p) (m m2 : Mem (Node K V))
   emptied_own word (Made r) e end = ap own_in end
   emptied_own word (Roomed r) e end = ap own_in end
 
-  fills_own : (key : Option K) (word : ℕ) (e : End') → StepsTold K V End' m changed.Nothing (fills_with key p word) m2 told e → OwnGoes e.0
+  fills_own : (key : Option K) (word : ℕ) (e : End') → StepsObserved K V End' m changed.Nothing (fills_with key p word) m2 told e → OwnGoes e.0
   fills_own (Some key) word e s = filled_own (value_for p.replies word) word key e s
   fills_own None word e s = same_own e (emptied_own word s.0 e s.2) (told_none _ s.1.1 tt)
 
   module _ (asks : K → K → Bool) (same : K → K → Bool) (hash : K → ℕ) (e : End') where
     abbrev ToldAt : Calling → Type 0
-    ToldAt stands = StepsTold K V End' m changed.Nothing (plan_at asks same hash p stands) m2 told e
+    ToldAt stands = StepsObserved K V End' m changed.Nothing (plan_at asks same hash p stands) m2 told e
 
     -- a point at which it keeps its own block
     at_point : (stands : Calling) → p.stands ≡ stands → (IsToOwn stands → ⊥) → AlwaysOf (GoesWith p.own) (plan_at asks same hash p stands) → ToldAt stands → OwnGoes e.0
@@ -146,5 +146,5 @@ module _ {K V : Type 0} (p : KeyCall K V K) (o : Owns p) (m m2 : Mem (Node K V))
     from (at.Drops end) is a s = TookIt s.1.1
     from (at.Over end) is a s = at_point (at.Over end) is (λ z. z) (told_over p o end a) s
 
-    pub own_goes : StepsTold K V End' m changed.Nothing (call_plan asks same hash p) m2 told e → OwnGoes e.0
+    pub own_goes : StepsObserved K V End' m changed.Nothing (call_plan asks same hash p) m2 told e → OwnGoes e.0
     own_goes s = from p.stands refl o.point s

@@ -33,9 +33,9 @@ use Rattle.owner_calls.specs.Given.PointsFactsCopiesBlocking.{CopyingFactsBlocki
 use Rattle.owner_calls.specs.Given.PointsFactsTables.{IsOwnTable, IsPlanned, IsLinkOf, StandsAs, MakingFacts, NewTableFacts}
 use Rattle.owner_calls.specs.Given.LateFactsReserves.{IsEnding, CopiesWhole, ReservingFacts}
 use Rattle.owner_calls.specs.Given.LateFactsSweeps.{CopiesTable, SweepingFacts}
-use Rattle.owner_calls.specs.Given.LateLateCalls.{LateFirst, LateFirstFacts, LateCalling}
-use Rattle.owner_calls.specs.Given.LateLateCopies.{LateCopying, LateCopierFacts}
-use Rattle.owner_calls.specs.Given.LateLateReserves.{LateReserving}
+use Rattle.owner_calls.specs.Given.LateLateCalls.{SupersededFirst, SupersededFirstFacts, SupersededCalling}
+use Rattle.owner_calls.specs.Given.LateLateCopies.{SupersededCopying, SupersededCopierFacts}
+use Rattle.owner_calls.specs.Given.LateLateReserves.{SupersededReserving}
 use Rattle.owner_calls.specs.Given.CallersOverAll.{CallOverAll}
 use Rattle.owner_calls.specs.Given.CallersTogether.{CallOnKey, in_slot, Knows, KnowsRoom, KnowsSweep}
 use Rattle.run_debts.specs.Given.ReservesDeclared.reserve.Reserve.{Reserve}
@@ -134,7 +134,7 @@ module _ {K V : Type 0} (same : K → K → Bool) (hash : K → ℕ) (w : World 
       by (inl (is, first)) = inl (setting.root, facts.link_is ∙ is)
       by (inr (t, is, next, there, seen, aborted)) = inr (t, facts.link_is ∙ is, there, seen)
 
-  first_has : (began : ℕ) (p : Making) → LateFirst w caller setting c blocks began p → IsMadeBy w caller p
+  first_has : (began : ℕ) (p : Making) → SupersededFirst w caller setting c blocks began p → IsMadeBy w caller p
   first_has began (making.Sums before reason sum) facts = absurd facts
   first_has began (making.Makes table) facts = absurd facts
   first_has began (making.Promotes table) facts = absurd facts
@@ -143,7 +143,7 @@ module _ {K V : Type 0} (same : K → K → Bool) (hash : K → ℕ) (w : World 
   first_has began (making.Over table) facts = tt
   first_has began (making.Refused fault) facts = absurd facts
 
-  first_turn : (began : ℕ) (p : Making) → LateFirst w caller setting c blocks began p → IsInTurn c.past p
+  first_turn : (began : ℕ) (p : Making) → SupersededFirst w caller setting c blocks began p → IsInTurn c.past p
   first_turn began (making.Sums before reason sum) facts = absurd facts
   first_turn began (making.Makes table) facts = absurd facts
   first_turn began (making.Promotes table) facts = absurd facts
@@ -152,7 +152,7 @@ module _ {K V : Type 0} (same : K → K → Bool) (hash : K → ℕ) (w : World 
   first_turn began (making.Over table) facts = tt
   first_turn began (making.Refused fault) facts = absurd facts
 
-  late_first_has : (began : ℕ) (n : NewTable) → LateFirstFacts w caller setting c blocks began n → Its n
+  late_first_has : (began : ℕ) (n : NewTable) → SupersededFirstFacts w caller setting c blocks began n → Its n
   late_first_has began n facts = (first_has began n.stands facts.point, inl (setting.root, facts.link_is), first_turn began n.stands facts.point)
 
   module _ (n : NewTable) where
@@ -172,12 +172,12 @@ module _ {K V : Type 0} (same : K → K → Bool) (hash : K → ℕ) (w : World 
     copier_blocking_has : (x : Copier) → CopierFactsBlocking same hash w caller setting c blocks x → making_in_copying x.stands ≡ Some n → Its n
     copier_blocking_has x facts is = blocking_has x x.stands facts.point is
 
-    late_has : (began : ℕ) (x : Copier) (p : Copying) → LateCopying same hash w caller setting c blocks began x p → making_in_copying p ≡ Some n → Its n
+    late_has : (began : ℕ) (x : Copier) (p : Copying) → SupersededCopying same hash w caller setting c blocks began x p → making_in_copying p ≡ Some n → Its n
     late_has began x (copying.Grows word code m) facts is = absurd facts
     late_has began x (copying.Remakes m) facts is = that_one Its n m is (new_made _ _ m facts.3)
     late_has began x _ facts is = absurd (cc is)
 
-    late_copier_has : (began : ℕ) (x : Copier) → LateCopierFacts same hash w caller setting c blocks began x → making_in_copying x.stands ≡ Some n → Its n
+    late_copier_has : (began : ℕ) (x : Copier) → SupersededCopierFacts same hash w caller setting c blocks began x → making_in_copying x.stands ≡ Some n → Its n
     late_copier_has began x facts is = late_has began x x.stands facts.point is
 
     -- a copier of a whole table, in the mode of the map
@@ -204,7 +204,7 @@ module _ {K V : Type 0} (same : K → K → Bool) (hash : K → ℕ) (w : World 
     room_has (reserving.Copies copier) facts is = whole_has copier facts is
     room_has _ facts is = absurd (cc is)
 
-    late_room_has : (began : ℕ) (p : Reserving) → LateReserving same hash w caller setting c blocks began p → making_in_reserving p ≡ Some n → Its n
+    late_room_has : (began : ℕ) (p : Reserving) → SupersededReserving same hash w caller setting c blocks began p → making_in_reserving p ≡ Some n → Its n
     late_room_has began (reserving.Makes m) facts is = that_one Its n m is (late_first_has began m facts)
     late_room_has began (reserving.Grows table m) facts is = that_one Its n m is (new_made _ _ m facts.3)
     late_room_has began (reserving.Copies copier) facts is = late_copier_has began copier facts is
@@ -222,7 +222,7 @@ module _ {K V : Type 0} (same : K → K → Bool) (hash : K → ℕ) (w : World 
       call_has change x (calling.Copies copier) facts is = copier_blocking_has copier facts.2 is
       call_has change x _ facts is = absurd (cc is)
 
-      late_call_has : (began : ℕ) (x : KeyCall K V K) (p : Calling) → LateCalling same hash same w caller setting c blocks keys began x p → making_in_calling p ≡ Some n → Its n
+      late_call_has : (began : ℕ) (x : KeyCall K V K) (p : Calling) → SupersededCalling same hash same w caller setting c blocks keys began x p → making_in_calling p ≡ Some n → Its n
       late_call_has began x (calling.Firsts m) facts is = that_one Its n m is (late_first_has began m facts.2)
       late_call_has began x (calling.Allocs m) facts is = that_one Its n m is (new_made _ _ m facts.4)
       late_call_has began x (calling.Helps copier goal) facts is = absurd facts

@@ -41,7 +41,7 @@ use Rattle.run_debts.specs.Given.RawDeclared.machines.machine.Machine.TheVariant
 use Rattle.run_debts.specs.Given.RawDeclared.machines.progress.Progress.{Progress}
 use Rattle.run_debts.specs.Given.RawDeclared.machines.progress.Progress.TheVariants as progress
 use Rattle.owner_calls.proofs.Given.RuleKeys.Always.{Always, AlwaysOf, always_if, always_plan_as, always_steps}
-use Rattle.run_debts.specs.Given.TellerTells.{StepsTold}
+use Rattle.run_debts.specs.Given.TellerTells.{StepsObserved}
 use Rattle.run_debts.specs.Given.EffectsDeclared.changed.Changed.{Changed}
 use Rattle.run_debts.specs.Given.EffectsDeclared.changed.Changed.TheVariants as changed
 use Rattle.run_debts.proofs.Given.OthersOutcomes.{told_in}
@@ -181,7 +181,7 @@ module _ {K V : Type 0} (asks : K → K → Bool) (same : K → K → Bool) (has
   said_is y z is = sym (ap (λ (q : Both). q.1) is) ∙ ready
 
   -- a machine that says that it is ready is asked for a pair
-  pub ready_so : (before : Machine K V K) → StepsTold K V Both m changed.Nothing (machine_plan asks same hash before) m2 told (machine, said) → (machine_asked machine).1 ≡ true
+  pub ready_so : (before : Machine K V K) → StepsObserved K V Both m changed.Nothing (machine_plan asks same hash before) m2 told (machine, said) → (machine_asked machine).1 ≡ true
   ready_so (kinds.Key p) s = let it = told_in m m2 told of_key (call_plan asks same hash p) (machine, said) s in absurd (key_other it.0.1 (said_is (kinds.Key it.0.0) (of_called it.0.1) it.1))
   ready_so (kinds.Reserve r) s = let it = told_in m m2 told of_room (reserve_plan hash r) (machine, said) s in absurd (room_other it.0.1 (said_is (kinds.Reserve it.0.0) (of_outcome it.0.1) it.1))
   ready_so (kinds.Count sum) s = let it = told_in m m2 told of_sum (sum_plan sum) (machine, said) s in absurd (count_other it.0.1 (said_is (kinds.Count it.0.0) (of_counting it.0.1) it.1))

@@ -17,12 +17,12 @@ use Rattle.run_debts.specs.Given.EffectsDeclared.acting.Acting.TheVariants.{Row}
 use Rattle.run_debts.specs.Given.EffectsDeclared.role.Role.TheVariants as role
 use Rattle.run_debts.specs.Given.ScenesDeclared.row.RowTold.{RowTold}
 use Rattle.run_debts.specs.Given.ScenesDeclared.row.SlotRow.{SlotRow}
-use Rattle.run_debts.specs.Given.FollowsShows.{Shows}
+use Rattle.run_debts.specs.Given.FollowsShows.{Refines}
 use Rattle.run_debts.specs.Given.OthersRows.{scene_then}
 use Rattle.run_debts.proofs.Given.OthersQuiet.{calls_none}
 use Rattle.run_debts.proofs.Given.OthersRowPlans.{TellsRow, row_tells}
-use Rattle.run_blocks.specs.Owes.Beside.{of_block, NoneOfBlock, RowsKeepMade}
-use Rattle.run_blocks.specs.Owes.Made.{ShowsMade}
+use Rattle.run_blocks.specs.Owes.Beside.{of_block, NoneOfBlock, RowsPreserveMade}
+use Rattle.run_blocks.specs.Owes.Made.{RefinesMade}
 use Rattle.run_blocks.proofs.Owes.Aside.{LeavesAlone, NoneStored, left_alone, not_storing, none_of, taken_none, made_still}
 use Rattle.run_blocks.proofs.Owes.InHand.{in_hand}
 use Rattle.run_blocks.proofs.Owes.Roles.{MakesFree, does_so}
@@ -33,7 +33,7 @@ use Rattle.run_debts.specs.Given.ScenesOnSlots.{HappensAt, RowSteps}
 use Rattle.run_debts.specs.Given.ScenesScene.{IsOnSlot, Scene}
 
 module _ {K V : Type 0} (same : K → K → Bool) (hash : ℕ → K → ℕ) (name : ℕ → List ℕ) (m : Moment K V) (known : Known) (s : Scene K V) (old new : Held K V) (at : IsAt same hash old s)
-    (shown : Shows same name m known s) (made : ShowsMade name m known s) (i : ℕ) (row : SlotRow) (here : IsOnSlot s i row) (end : SlotRow × RowTold (Node K V))
+    (shown : Refines same name m known s) (made : RefinesMade name m known s) (i : ℕ) (row : SlotRow) (here : IsOnSlot s i row) (end : SlotRow × RowTold (Node K V))
     (steps : RowSteps K V row old.memory new.memory new.changed end) (happened : HappensAt same hash (Step i) s old new) where
   abbrev told : Changed
   told = new.changed
@@ -73,7 +73,7 @@ module _ {K V : Type 0} (same : K → K → Bool) (hash : ℕ → K → ℕ) (na
   alone = left_alone Row known told (does_so Row known told (makes_free told tells)) (unmade told tells) untaken
       (λ storing. not_storing (effects_of Row known told) storing (stores_none told tells))
 
-  pub row_keeps : NoneOfBlock (effects_of Row known told) × ShowsMade name (with_effects None None (effects_of Row known told) m) (known_after Row told known) (scene_then same hash (Step i) s old new happened)
+  pub row_keeps : NoneOfBlock (effects_of Row known told) × RefinesMade name (with_effects None None (effects_of Row known told) m) (known_after Row told known) (scene_then same hash (Step i) s old new happened)
   row_keeps = (
     alone.1,
     made_still name m (with_effects None None (effects_of Row known told) m) known (known_after Row told known) s (scene_then same hash (Step i) s old new happened) made
@@ -81,6 +81,6 @@ module _ {K V : Type 0} (same : K → K → Bool) (hash : ℕ → K → ℕ) (na
   )
 
 module _ (K V : Type 0) (same : K → K → Bool) (hash : ℕ → K → ℕ) where
-  pub rows_keep_made : RowsKeepMade K V same hash
+  pub rows_keep_made : RowsPreserveMade K V same hash
   rows_keep_made name m known s old new at shown made i told leads row here =
       let to = leads row here in row_keeps same hash name m known s old new at shown made i row here (to.0, told) to.1 to.2

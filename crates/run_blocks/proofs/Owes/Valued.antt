@@ -7,7 +7,7 @@ use Rattle.run_debts.specs.Given.TablesDeclared.node.Node.{Node}
 use Rattle.run_debts.specs.Given.TablesDeclared.setting.Setting.{Setting}
 use Rattle.owner_calls.specs.Given.RawCall as calls
 use Rattle.owner_calls.specs.Given.RawCallFills.{fills_with}
-use Rattle.owner_calls.specs.Given.RawReplies.{value_told, value_for}
+use Rattle.owner_calls.specs.Given.RawReplies.{value_replied, value_for}
 use Rattle.run_debts.specs.Given.RawDeclared.machines.asking.Asking.TheVariants as asking
 use Rattle.run_debts.specs.Given.RawDeclared.machines.asking.MachineReply.TheVariants as reply
 use Rattle.run_debts.specs.Given.RawDeclared.machines.asking.Takes.{Takes}
@@ -34,21 +34,21 @@ use Rattle.owner_calls.specs.Given.RuleChart.{Chart}
 use Rattle.owner_calls.specs.Given.RuleWords.{Blocks}
 use Rattle.owner_calls.specs.Given.PointsFactsCalls.{ByReply, holding, Change, CallingFacts}
 use Rattle.owner_calls.specs.Given.PointsTold.{IsRowOfCall}
-use Rattle.owner_calls.specs.Given.LateLateCalls.{LateCalling}
-use Rattle.owner_calls.specs.Given.CallersAsked.{Asked, is_about, last_told}
+use Rattle.owner_calls.specs.Given.LateLateCalls.{SupersededCalling}
+use Rattle.owner_calls.specs.Given.CallersAsked.{Asked, is_about, last_reply}
 use Rattle.owner_calls.specs.Given.CallersKind.{Kind}
 use Rattle.owner_calls.specs.Given.CallersPairs.{Given, Begun, IsTold, KeepsGiven}
 use Rattle.owner_calls.specs.Given.CallersTogether.{CallOnKey, OnKey, in_slot, Knows}
 use Rattle.run_debts.specs.Given.EffectsDeclared.changed.Changed.{Changed}
 use Rattle.run_debts.specs.Given.EffectsDeclared.changed.Changed.TheVariants as changed
-use Rattle.run_debts.specs.Given.TellerTells.{StepsTold}
+use Rattle.run_debts.specs.Given.TellerTells.{StepsObserved}
 use Rattle.run_debts.specs.Given.EffectsKnown.{Known}
 use Rattle.run_debts.specs.Given.FollowsCalls.{IsCalled}
-use Rattle.run_debts.specs.Given.HandsAsked.{as_told, given_by, AreReplies, IsAskedAs}
+use Rattle.run_debts.specs.Given.HandsAsked.{reply_to_machine, given_by, AreReplies, IsAskedAs}
 use Rattle.run_blocks.proofs.Owes.Walks.{IsToOwn}
 use Rattle.run_debts.proofs.Given.General.{or_either as either_so}
 
-gives : {V : Type 0} (r : Reply V) (value : V) → as_told r ≡ reply.Insert value → is_gift r ≡ true
+gives : {V : Type 0} (r : Reply V) (value : V) → reply_to_machine r ≡ reply.Insert value → is_gift r ≡ true
 gives (Gives w) value e = refl
 gives Removes value e = absurd (cc e)
 gives (Aborts w) value e = absurd (cc e)
@@ -57,12 +57,12 @@ gives (Decides false) value e = absurd (cc e)
 
 -- a value that a call was told is a gift
 pub gift_told : {V : Type 0} (number : ℕ → ℕ) (stored : ℕ) (asked : List (Asked V)) (replies : List (Option ℕ × Reply V)) (about : Option ℕ) (value : V) → AreReplies number stored asked replies
-    → last_told about asked ≡ Some (reply.Insert value) → has_gift replies ≡ true
+    → last_reply about asked ≡ Some (reply.Insert value) → has_gift replies ≡ true
 gift_told number stored [] replies about value are e = absurd (cc e)
 gift_told number stored (a ∷ asked) [] about value are e = absurd are
 gift_told number stored (a ∷ asked) (r ∷ replies) about value are e = by (is_about a.about about) e (λ later. gift_told number stored asked replies about value are.2 later)
   where
-    by : (q : Bool) → (if q then Some a.told else last_told about asked) ≡ Some (reply.Insert value) → (last_told about asked ≡ Some (reply.Insert value) → has_gift replies ≡ true)
+    by : (q : Bool) → (if q then Some a.told else last_reply about asked) ≡ Some (reply.Insert value) → (last_reply about asked ≡ Some (reply.Insert value) → has_gift replies ≡ true)
         → (is_gift r.1 || has_gift replies) ≡ true
     by true is further = either_so (is_gift r.1) (has_gift replies) (inl (gives r.1 value (sym are.1 ∙ (let told : a.told ≡ reply.Insert value = cc is in told))))
     by false is further = either_so (is_gift r.1) (has_gift replies) (inr (further is))
@@ -72,7 +72,7 @@ module _ {K V : Type 0} where
   abbrev pub HasGiven : Given K V → Type 0
   HasGiven g =
       ((kind : Kind) × (pair : Node K V) × (g ≡ Begun kind (Some pair)))
-      ⊎ ((kind : Kind) × (key : K) × (asked : List (Asked V)) × (about : Option ℕ) × (value : V) × (g ≡ IsTold kind (Some key) asked) × (last_told about asked ≡ Some (reply.Insert value)))
+      ⊎ ((kind : Kind) × (key : K) × (asked : List (Asked V)) × (about : Option ℕ) × (value : V) × (g ≡ IsTold kind (Some key) asked) × (last_reply about asked ≡ Some (reply.Insert value)))
 
   -- by what is called
 
@@ -94,12 +94,12 @@ module _ {K V : Type 0} where
   begun_valued (RemoveIf k) asked kind pair e told = absurd (cc e)
 
   module _ (number : ℕ → ℕ) (stored : ℕ) (replies : List (Option ℕ × Reply V)) (kind : Kind) (key : K) (asked : List (Asked V)) (about : Option ℕ) (value : V)
-      (was : last_told about asked ≡ Some (reply.Insert value)) where
+      (was : last_reply about asked ≡ Some (reply.Insert value)) where
     abbrev Its : Given K V
     Its = IsTold kind (Some key) asked
 
     same_told : (of : List (Asked V)) → AreReplies number stored of replies → asked ≡ of → has_gift replies ≡ true
-    same_told of are e = gift_told number stored of replies about value are (ap (last_told about) (sym e) ∙ was)
+    same_told of are e = gift_told number stored of replies about value are (ap (last_reply about) (sym e) ∙ was)
 
     told_valued : (one : OneKey K V) (of : List (Asked V)) → AreReplies number stored of replies → Its ≡ given_by one of → has_value one (has_gift replies) ≡ true
     told_valued (Insert k v) of are e = refl
@@ -148,7 +148,7 @@ module _ {K V : Type 0} (same : K → K → Bool) (hash : K → ℕ) (w : World 
   holds_other missing.Answers e = cc e
   holds_other missing.Asks e = cc e
 
-  told_is : (t : Told V) (value : V) → value_told t ≡ Some value → t ≡ tells.Value value
+  told_is : (t : Told V) (value : V) → value_replied t ≡ Some value → t ≡ tells.Value value
   told_is (tells.Value v) value e = let one : v ≡ value = cc e in ap (λ (x : V). tells.Value x) one
   told_is tells.Nothing value e = absurd (cc e)
   told_is tells.Own value e = absurd (cc e)
@@ -167,12 +167,12 @@ module _ {K V : Type 0} (same : K → K → Bool) (hash : K → ℕ) (w : World 
       its_key : ◌≡◌ {A = Given K V} (IsTold kind its asked) (IsTold kind (Some key) asked)
       its_key = ap (λ (o : Option K). IsTold kind o asked) (keeps.0.0.key key key_is)
 
-      by : (q : Bool) → value_told (if q then p.replies.absent else p.replies.present) ≡ Some value → HasGiven (IsTold kind its asked)
+      by : (q : Bool) → value_replied (if q then p.replies.absent else p.replies.present) ≡ Some value → HasGiven (IsTold kind its asked)
       by true e = inr (kind, key, asked, None, value, its_key, keeps.0.0.absent value (told_is p.replies.absent value e))
       by false e = let recalls = keeps.0.0.present value (told_is p.replies.present value e) in inr (kind, key, asked, Some recalls.0, value, its_key, recalls.3)
 
   given_at : (g : Given K V) (began : ℕ) (q : Calling) → IsToOwn q → KeyFor q
-      → CallingFacts same hash same w i setting c seen keys change p q ⊎ LateCalling same hash same w i setting c seen keys began p q
+      → CallingFacts same hash same w i setting c seen keys change p q ⊎ SupersededCalling same hash same w i setting c seen keys began p q
       → KeepsGiven hash w.memory c seen keys g change p q → HasGiven g
   given_at g began at.Makes own key (inl facts) keeps = makes_given g facts keeps
   given_at g began at.Makes own key (inr late) keeps = absurd late
@@ -197,21 +197,21 @@ module _ {K V : Type 0} (same : K → K → Bool) (hash : K → ℕ) (w : World 
 
   -- by a step that has changed something: a block was made, or refused
   module _ (asks : K → K → Bool) (codes : K → ℕ) (m m2 : Mem (Node K V)) (told : Changed) (e : KeyCall K V K × Called (Node K V)) (some : told ≡ changed.Nothing → ⊥) where
-    fills_key : (word : ℕ) (o : Option K) → p.replies.key ≡ o → StepsTold K V (KeyCall K V K × Called (Node K V)) m changed.Nothing (fills_with o p word) m2 told e → (key : K) × (p.replies.key ≡ Some key)
+    fills_key : (word : ℕ) (o : Option K) → p.replies.key ≡ o → StepsObserved K V (KeyCall K V K × Called (Node K V)) m changed.Nothing (fills_with o p word) m2 told e → (key : K) × (p.replies.key ≡ Some key)
     fills_key word (Some key) is s = (key, is)
     fills_key word None is s = absurd (some s.1.1)
 
-    key_for : (q : Calling) → IsToOwn q → StepsTold K V (KeyCall K V K × Called (Node K V)) m changed.Nothing (calls.plan_at asks same codes p q) m2 told e → KeyFor q
+    key_for : (q : Calling) → IsToOwn q → StepsObserved K V (KeyCall K V K × Called (Node K V)) m changed.Nothing (calls.plan_at asks same codes p q) m2 told e → KeyFor q
     key_for (at.Asks (asking.Fills word)) own s = fills_key word p.replies.key refl s
     key_for _ own s = tt
 
 pub knows_given : {K V : Type 0} (same : K → K → Bool) (hash : K → ℕ) (setting : Setting) (slot : ℕ → ℕ) (w : World (Node K V)) (c : Chart K) (seen : Blocks) (i : ℕ) (u : CallOnKey K V K) (p : KeyCall K V K)
     → Knows V same hash same setting slot w c seen i u p → IsToOwn p.stands → (codes : K → ℕ) (m m2 : Mem (Node K V)) (told : Changed) (e : KeyCall K V K × Called (Node K V)) → (told ≡ changed.Nothing → ⊥)
-    → StepsTold K V (KeyCall K V K × Called (Node K V)) m changed.Nothing (calls.call_plan same same codes p) m2 told e → HasGiven u.pair
+    → StepsObserved K V (KeyCall K V K × Called (Node K V)) m changed.Nothing (calls.call_plan same same codes p) m2 told e → HasGiven u.pair
 knows_given same hash setting slot w c seen i u p knows own codes m m2 told e some s =
     given_at same hash w i (in_slot setting (slot i)) c seen u.keys u.change p u.pair u.began p.stands own
     (key_for same hash w i (in_slot setting (slot i)) c seen u.keys u.change p same codes m m2 told e some p.stands own s)
-    (elim (knows.facts) as (λ _. CallingFacts same hash same w i (in_slot setting (slot i)) c seen u.keys u.change p p.stands ⊎ LateCalling same hash same w i (in_slot setting (slot i)) c seen u.keys u.began p p.stands) [
+    (elim (knows.facts) as (λ _. CallingFacts same hash same w i (in_slot setting (slot i)) c seen u.keys u.change p p.stands ⊎ SupersededCalling same hash same w i (in_slot setting (slot i)) c seen u.keys u.began p p.stands) [
       | inl facts ↦ inl facts.point
       | inr late ↦ inr late.1.point
     ])

@@ -63,7 +63,7 @@ use Rattle.run_debts.specs.Given.RawDeclared.machines.call.Calling.TheVariants a
 use Rattle.run_debts.specs.Given.RawDeclared.machines.call.KeyCall.{KeyCall}
 use Rattle.run_debts.specs.Given.TellsSeen.{seen_of}
 use Rattle.run_debts.specs.Given.TellerChanged.{kind_of}
-use Rattle.run_debts.specs.Given.TellerTells.{told_of, StepsTold}
+use Rattle.run_debts.specs.Given.TellerTells.{observed_of, StepsObserved}
 use Rattle.run_debts.specs.Given.EffectsDeclared.changed.Changed.{Changed}
 use Rattle.run_debts.specs.Given.EffectsDeclared.changed.Changed.TheVariants as changed
 use Rattle.run_debts.specs.Given.EffectsDeclared.changed.Kind.{Kind}
@@ -105,7 +105,7 @@ module _ {K V : Type 0} where
   makes_as o f plan so = so_as (IsToMake o) f plan so
 
   -- what is told as made was made so
-  op_made : (P : Node K V → Type 0) (m : Mem (Node K V)) (op : Op (Node K V)) (out : Out (Node K V)) (k : Kind) (b : ℕ) → told_of op out (seen_of m op out) ≡ changed.Made k b → MakesSo P op
+  op_made : (P : Node K V → Type 0) (m : Mem (Node K V)) (op : Op (Node K V)) (out : Out (Node K V)) (k : Kind) (b : ℕ) → observed_of op out (seen_of m op out) ≡ changed.Made k b → MakesSo P op
       → (value : Node K V) × P value × (kind_of value ≡ k)
   op_made P m (Load at) out k b e so = absurd (cc e)
   op_made P m (Store at word) out k b e so = absurd (cc e)
@@ -125,14 +125,14 @@ module _ {K V : Type 0} where
   op_made P m (Room bucket) (Roomed roomed) k b e so = absurd (cc e)
   op_made P m (Room bucket) _ k b e so = absurd (cc e)
 
-  pub plan_made_so : {R : Type 0} (P : Node K V → Type 0) (m m2 : Mem (Node K V)) (told : Changed) (plan : Plan (Node K V) R) (end : R) → StepsTold K V R m changed.Nothing plan m2 told end → PlanMakesSo P plan
+  pub plan_made_so : {R : Type 0} (P : Node K V → Type 0) (m m2 : Mem (Node K V)) (told : Changed) (plan : Plan (Node K V) R) (end : R) → StepsObserved K V R m changed.Nothing plan m2 told end → PlanMakesSo P plan
       → (k : Kind) (b : ℕ) → told ≡ changed.Made k b → (value : Node K V) × P value × (kind_of value ≡ k)
   plan_made_so P m m2 told (Turn rest) end steps so k b is = absurd (let nothing = steps.2 in cc (nothing, is))
   plan_made_so P m m2 told (Do op rest) end steps so k b is = op_made P m op steps.0 k b (sym steps.1.1 ∙ is) so
 
   -- a block that was refused was to be made so
 
-  op_unmade : (P : Node K V → Type 0) (m : Mem (Node K V)) (op : Op (Node K V)) (out : Out (Node K V)) (k : Kind) → told_of op out (seen_of m op out) ≡ changed.Unmade k → MakesSo P op
+  op_unmade : (P : Node K V → Type 0) (m : Mem (Node K V)) (op : Op (Node K V)) (out : Out (Node K V)) (k : Kind) → observed_of op out (seen_of m op out) ≡ changed.Unmade k → MakesSo P op
       → (value : Node K V) × P value
   op_unmade P m (Load at) out k e so = absurd (cc e)
   op_unmade P m (Store at word) out k e so = absurd (cc e)
@@ -149,14 +149,14 @@ module _ {K V : Type 0} where
   op_unmade P m (Rewrite x value) out k e so = absurd (cc e)
   op_unmade P m (Room bucket) out k e so = absurd so
 
-  pub plan_unmade_so : {R : Type 0} (P : Node K V → Type 0) (m m2 : Mem (Node K V)) (told : Changed) (plan : Plan (Node K V) R) (end : R) → StepsTold K V R m changed.Nothing plan m2 told end → PlanMakesSo P plan
+  pub plan_unmade_so : {R : Type 0} (P : Node K V → Type 0) (m m2 : Mem (Node K V)) (told : Changed) (plan : Plan (Node K V) R) (end : R) → StepsObserved K V R m changed.Nothing plan m2 told end → PlanMakesSo P plan
       → (k : Kind) → told ≡ changed.Unmade k → (value : Node K V) × P value
   plan_unmade_so P m m2 told (Turn rest) end steps so k is = absurd (let nothing = steps.2 in cc (nothing, is))
   plan_unmade_so P m m2 told (Do op rest) end steps so k is = op_unmade P m op steps.0 k (sym steps.1.1 ∙ is) so
 
   -- no bucket was asked for
 
-  op_no_room : (P : Node K V → Type 0) (m : Mem (Node K V)) (op : Op (Node K V)) (out : Out (Node K V)) (bucket : ℕ) (had : Bool) → told_of op out (seen_of m op out) ≡ changed.Roomed bucket had → MakesSo P op → ⊥
+  op_no_room : (P : Node K V → Type 0) (m : Mem (Node K V)) (op : Op (Node K V)) (out : Out (Node K V)) (bucket : ℕ) (had : Bool) → observed_of op out (seen_of m op out) ≡ changed.Roomed bucket had → MakesSo P op → ⊥
   op_no_room P m (Load at) out bucket had e so = cc e
   op_no_room P m (Store at word) out bucket had e so = cc e
   op_no_room P m (Swap at word) (Found before) bucket had e so = cc e
@@ -174,12 +174,12 @@ module _ {K V : Type 0} where
   op_no_room P m (Rewrite x value) out bucket had e so = cc e
   op_no_room P m (Room other) out bucket had e so = so
 
-  pub plan_no_room : {R : Type 0} (P : Node K V → Type 0) (m m2 : Mem (Node K V)) (told : Changed) (plan : Plan (Node K V) R) (end : R) → StepsTold K V R m changed.Nothing plan m2 told end → PlanMakesSo P plan
+  pub plan_no_room : {R : Type 0} (P : Node K V → Type 0) (m m2 : Mem (Node K V)) (told : Changed) (plan : Plan (Node K V) R) (end : R) → StepsObserved K V R m changed.Nothing plan m2 told end → PlanMakesSo P plan
       → (bucket : ℕ) (had : Bool) → told ≡ changed.Roomed bucket had → ⊥
   plan_no_room P m m2 told (Turn rest) end steps so bucket had is = (let nothing = steps.2 in cc (nothing, is))
   plan_no_room P m m2 told (Do op rest) end steps so bucket had is = op_no_room P m op steps.0 bucket had (sym steps.1.1 ∙ is) so
 
-  pub plan_made : {R : Type 0} (o : Option NewTable) (m m2 : Mem (Node K V)) (told : Changed) (plan : Plan (Node K V) R) (end : R) → StepsTold K V R m changed.Nothing plan m2 told end → PlanMakes o plan
+  pub plan_made : {R : Type 0} (o : Option NewTable) (m m2 : Mem (Node K V)) (told : Changed) (plan : Plan (Node K V) R) (end : R) → StepsObserved K V R m changed.Nothing plan m2 told end → PlanMakes o plan
       → (k : Kind) (b : ℕ) → told ≡ changed.Made k b → (value : Node K V) × IsToMake o value × (kind_of value ≡ k)
   plan_made o m m2 told plan end steps so k b is = plan_made_so (IsToMake o) m m2 told plan end steps so k b is
 

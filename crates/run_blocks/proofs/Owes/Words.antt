@@ -11,7 +11,7 @@ use Rattle.owner_calls.specs.Given.RawCall.{call_plan}
 use Rattle.run_debts.specs.Given.RawDeclared.machines.answer.Called.{Called}
 use Rattle.run_debts.specs.Given.RawDeclared.machines.call.KeyCall.{KeyCall}
 use Rattle.run_debts.specs.Given.TellerChanged.{kind_of}
-use Rattle.run_debts.specs.Given.TellerTells.{StepsTold}
+use Rattle.run_debts.specs.Given.TellerTells.{StepsObserved}
 use Rattle.run_debts.specs.Given.EffectsDeclared.changed.Changed.{Changed}
 use Rattle.run_debts.specs.Given.EffectsDeclared.changed.Changed.TheVariants as changed
 use Rattle.run_debts.specs.Given.EffectsDeclared.changed.Kind.{Kind}
@@ -46,7 +46,7 @@ module _ {K V : Type 0} where
 
   module _ (asks : K → K → Bool) (same : K → K → Bool) (hash : K → ℕ) (p : KeyCall K V K) (o : Owns p) (m m2 : Mem (Node K V)) (told : Changed) (e : KeyCall K V K × Called (Node K V))
       (has : (n : NewTable) → making_in_calling p.stands ≡ Some n → HasPlaces n.stands) where
-    pub call_word : StepsTold K V (KeyCall K V K × Called (Node K V)) m changed.Nothing (call_plan asks same hash p) m2 told e → WordGoes told p.own e.0.own
+    pub call_word : StepsObserved K V (KeyCall K V K × Called (Node K V)) m changed.Nothing (call_plan asks same hash p) m2 told e → WordGoes told p.own e.0.own
     call_word s = by (own_goes p o m m2 told asks same hash e s)
       where
         by : OwnGoes p o m m2 told e.0 → WordGoes told p.own e.0.own

@@ -22,15 +22,15 @@ use Rattle.owner_calls.specs.Given.RuleChart.{Chart}
 use Rattle.owner_calls.specs.Given.RuleWords.{Blocks}
 use Rattle.owner_calls.specs.Given.PointsFactsCalls.{Change, Removed, CallingFacts}
 use Rattle.owner_calls.specs.Given.PointsTold.{IsRowOfCall}
-use Rattle.owner_calls.specs.Given.LateLateCalls.{LateCalling}
+use Rattle.owner_calls.specs.Given.LateLateCalls.{SupersededCalling}
 use Rattle.owner_calls.specs.Given.CallersSights.{seen_by}
-use Rattle.owner_calls.specs.Given.CallersTogether.{CallOnKey, OnKey, Stands, change_told, in_slot}
+use Rattle.owner_calls.specs.Given.CallersTogether.{CallOnKey, OnKey, IsAtPoint, change_observed, in_slot}
 use Rattle.run_debts.specs.Given.EffectsEffects.{effects_of}
 use Rattle.run_debts.specs.Given.EffectsKnown.{Known}
 use Rattle.run_debts.specs.Given.EffectsDeclared.acting.Acting.TheVariants as acts
-use Rattle.run_debts.specs.Given.FinishesEndings.{StepsAmong}
+use Rattle.run_debts.specs.Given.FinishesEndings.{StepsWithEndings}
 use Rattle.run_debts.specs.Given.FinishesMaps.{Standing}
-use Rattle.run_debts.specs.Given.FollowsShows.{Shows}
+use Rattle.run_debts.specs.Given.FollowsShows.{Refines}
 use Rattle.run_debts.proofs.Given.FollowsSteps.{WentTo, went_to, DidSo}
 use Rattle.run_debts.proofs.Given.HandsDone.{stepped, here}
 use Rattle.run_debts.proofs.Given.ChangesWhich.{DidOnce, DidNone, DidStore, DidReplace, DidRemove}
@@ -64,12 +64,12 @@ module _ {K V : Type 0} (same : K → K → Bool) (hash : K → ℕ) (w : World 
       ]
   counted_at change x _ facts removed is = absurd (cc is)
 
-  late_not : (began : ℕ) (x : KeyCall K V K) (p : Calling) → LateCalling same hash same w i setting c seen keys began x p → (removed : ℕ) → p ≡ at.Counts removed → ⊥
+  late_not : (began : ℕ) (x : KeyCall K V K) (p : Calling) → SupersededCalling same hash same w i setting c seen keys began x p → (removed : ℕ) → p ≡ at.Counts removed → ⊥
   late_not began x (at.Counts r) facts removed is = absurd facts
   late_not began x _ facts removed is = cc is
 
 module _ {K V : Type 0} (same : K → K → Bool) (hash : K → ℕ) (setting : Setting) (slot : ℕ → ℕ) (w : World (Node K V)) (c : Chart K) (seen : Blocks) (i : ℕ) (x : CallOnKey K V K) where
-  stands_counted : (removed : ℕ) → x.call.stands ≡ at.Counts removed → Stands V same hash same setting slot w c seen i (OnKey x) → IsCounted x.change removed
+  stands_counted : (removed : ℕ) → x.call.stands ≡ at.Counts removed → IsAtPoint V same hash same setting slot w c seen i (OnKey x) → IsCounted x.change removed
   stands_counted removed is stands = elim stands as (λ _. IsCounted x.change removed) [
     | inl k ↦ elim (k.1.facts) as (λ _. IsCounted x.change removed) [
       | inl facts ↦ counted_at same hash w i (in_slot setting (slot i)) c seen x.keys x.change x.call x.call.stands facts.point removed is
@@ -83,7 +83,7 @@ before_adds : (p : Calling) → IsBefore p → adds_in_calling p ≡ None
 before_adds p before = adds_none p (before_not p before)
 
 module _ {K V : Type 0} (same : K → K → Bool) (hash : ℕ → K → ℕ) (name : ℕ → List ℕ) (m : Moment K V) (known : Known) (s : Scene K V) (old new : Held K V) (at_old : IsAt same hash old s)
-    (shown : Shows same name m known s) (map i : ℕ) (x : CallOnKey K V K) (under_way : s.calls map i ≡ Some (OnKey x)) (said : Progress (Node K V)) (leads : StepLeads same hash i said s old new) where
+    (shown : Refines same name m known s) (map i : ℕ) (x : CallOnKey K V K) (under_way : s.calls map i ≡ Some (OnKey x)) (said : Progress (Node K V)) (leads : StepLeads same hash i said s old new) where
   abbrev to : WentTo same hash name m known s old new at_old shown map i (OnKey x) under_way said leads
   to = went_to same hash name m known s old new at_old shown map i (OnKey x) under_way said leads
 
@@ -117,7 +117,7 @@ module _ {K V : Type 0} (same : K → K → Bool) (hash : ℕ → K → ℕ) (na
     row_adds : IsRowOfCall x.call.stands → Does
     row_adds is_row = let it = row_beyond x.call.stands is_row in spares it.1 it.0
 
-    module _ (step : StepsAmong V same same old.batch_size old.roots slot_of s.world s.maps s.calls s.makers s.enders map st i x new.memory p2 end) where
+    module _ (step : StepsWithEndings V same same old.batch_size old.roots slot_of s.world s.maps s.calls s.makers s.enders map st i x new.memory p2 end) where
       abbrev Tog : Called (Node K V) → Type 0
       Tog = Together2 same hash name m known s old new at_old shown map i x under_way said leads p2 end machine_is told_is step
 
@@ -126,10 +126,10 @@ module _ {K V : Type 0} (same : K → K → Bool) (hash : ℕ → K → ℕ) (na
 
       module _ (removed : ℕ) (is : p2.stands ≡ at.Counts removed) where
         abbrev ChangedBy : (e : Called (Node K V)) → Tog e → Change
-        ChangedBy e tog = change_told V same st.hash same st.setting slot_of tog.went.told
+        ChangedBy e tog = change_observed V same st.hash same st.setting slot_of tog.went.told
 
         on : (e : Called (Node K V)) (tog : Tog e)
-            → Stands V same st.hash same st.setting slot_of tog.went.w2 tog.went.c2 (seen_by tog.blocks2 (tog.sights2 (slot_of i))) i
+            → IsAtPoint V same st.hash same st.setting slot_of tog.went.w2 tog.went.c2 (seen_by tog.blocks2 (tog.sights2 (slot_of i))) i
             (OnKey (stepped same st.hash same st.setting slot_of s.world st.chart st.blocks st.sights (s.calls map) i x new.memory p2 e tog)) → IsCounted (ChangedBy e tog) removed
         on e tog stands =
             stands_counted same st.hash st.setting slot_of tog.went.w2 tog.went.c2 (seen_by tog.blocks2 (tog.sights2 (slot_of i))) i

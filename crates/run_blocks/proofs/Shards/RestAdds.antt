@@ -21,8 +21,8 @@ use Rattle.run_debts.specs.Given.EffectsKnown.{Known}
 use Rattle.run_debts.specs.Given.EffectsDeclared.acting.Acting.TheVariants as acts
 use Rattle.run_debts.specs.Given.EffectsDeclared.role.Role.TheVariants as role
 use Rattle.run_debts.specs.Given.FinishesMaps.{Standing}
-use Rattle.run_debts.specs.Given.FinishesSweeps.{SweepStepsAmong}
-use Rattle.run_debts.specs.Given.FollowsShows.{Shows}
+use Rattle.run_debts.specs.Given.FinishesSweeps.{SweepStepsWithEndings}
+use Rattle.run_debts.specs.Given.FollowsShows.{Refines}
 use Rattle.run_debts.proofs.Given.FollowsSteps.{WentTo, went_to, DidSo}
 use Rattle.run_debts.proofs.Given.FollowsWrites.{nothing_free}
 use Rattle.run_blocks.specs.Shards.Adds.{adds_in_sweeping, adds_of}
@@ -37,7 +37,7 @@ use Rattle.run_debts.specs.Given.ScenesScene.{Scene, slot_of}
 use Rattle.run_debts.specs.Given.ScenesStepping.{StepLeads}
 
 module _ {K V : Type 0} (same : K → K → Bool) (hash : ℕ → K → ℕ) (name : ℕ → List ℕ) (m : Moment K V) (known : Known) (s : Scene K V) (old new : Held K V) (at_old : IsAt same hash old s)
-    (shown : Shows same name m known s) (map i : ℕ) (u : UnderWay K V K) (under_way : s.calls map i ≡ Some u) (said : Progress (Node K V)) (leads : StepLeads same hash i said s old new) where
+    (shown : Refines same name m known s) (map i : ℕ) (u : UnderWay K V K) (under_way : s.calls map i ≡ Some u) (said : Progress (Node K V)) (leads : StepLeads same hash i said s old new) where
   abbrev to : WentTo same hash name m known s old new at_old shown map i u under_way said leads
   to = went_to same hash name m known s old new at_old shown map i u under_way said leads
 
@@ -84,7 +84,7 @@ module _ {K V : Type 0} (same : K → K → Bool) (hash : ℕ → K → ℕ) (na
           (sweep_adds_none x.sweep.stands (elsewhere_not x.sweep.stands elsewhere))
           (none_then (idle same hash name m known s old new at_old shown map i u under_way said leads x is_over p2 end machine_is told_is none))
 
-      module _ (step : SweepStepsAmong V same same old.batch_size old.roots slot_of s.world s.maps s.calls s.makers s.enders map st i x new.memory p2 end) where
+      module _ (step : SweepStepsWithEndings V same same old.batch_size old.roots slot_of s.world s.maps s.calls s.makers s.enders map st i x new.memory p2 end) where
         -- one that has removed a pair is to count that, whose word is not 0
         removed_some : (removed : ℕ) → p2.stands ≡ sweeping.Counts removed → (n : ℕ) → effects ≡ effect.Removed n ∷ [] → (removed == 0) ≡ false
         removed_some removed is n are = by (removed == 0) refl

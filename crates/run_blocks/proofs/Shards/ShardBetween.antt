@@ -8,8 +8,8 @@ use Rattle.run_debts.specs.Given.RunsSame.{is_same}
 use Rattle.run_debts.specs.Given.ReservesDeclared.sweep.Sweep.{Sweep}
 use Rattle.run_debts.specs.Given.ReservesDeclared.sweep.Sweeping.{Sweeping}
 use Rattle.run_debts.specs.Given.ReservesDeclared.sweep.Sweeping.TheVariants as sweeping
-use Rattle.owner_calls.specs.Given.RawCallAsks.{told_at}
-use Rattle.run_debts.specs.Given.RawMachine.{sweep_told, machine_replied}
+use Rattle.owner_calls.specs.Given.RawCallAsks.{replied_at}
+use Rattle.run_debts.specs.Given.RawMachine.{sweep_with_reply, machine_replied}
 use Rattle.run_debts.specs.Given.RawDeclared.machines.asking.MachineReply.{MachineReply}
 use Rattle.run_debts.specs.Given.RawDeclared.machines.call.Calling.{Calling}
 use Rattle.run_debts.specs.Given.RawDeclared.machines.call.Calling.TheVariants as at
@@ -19,36 +19,36 @@ use Rattle.run_debts.specs.Given.RawDeclared.machines.machine.Machine.TheVariant
 use Rattle.run_debts.specs.Given.RunsDeclared.call.Reply.{Reply}
 use Rattle.run_debts.specs.Given.RunsDeclared.outcome.Outcome.{Outcome}
 use Rattle.run_debts.specs.Given.RunsDeclared.outcome.Outcome.TheVariants as outcome
-use Rattle.run_debts.specs.Given.SchedulesAfter.{asks_on, comes_to, replied, without_call}
+use Rattle.run_debts.specs.Given.SchedulesAfter.{asks_on, with_outcome, replied, without_call}
 use Rattle.run_debts.specs.Given.SchedulesBeginning.{fresh_call, with_call}
 use Rattle.run_debts.specs.Given.SchedulesEntry.{ends_call}
-use Rattle.run_debts.specs.Given.SchedulesMoment.{Stands, Going, Asking, Told as WasTold, IsReady, UnderWay as CallThere, Moment}
+use Rattle.run_debts.specs.Given.SchedulesMoment.{CallState, Going, Asking, Told as WasTold, IsReady, UnderWay as CallThere, Moment}
 use Rattle.run_debts.specs.Given.SchedulesViews.{call_of}
 use Rattle.owner_calls.specs.Given.CallersTogether.{UnderWay}
 use Rattle.run_debts.specs.Given.FinishesMachines.{machine_of}
 use Rattle.run_debts.specs.Given.FinishesMakings.{Beginning}
 use Rattle.run_debts.specs.Given.FinishesMaps.{Standing, with_call as with_in}
 use Rattle.run_debts.specs.Given.FollowsCalling.{NoneNamed}
-use Rattle.run_debts.specs.Given.FollowsCalls.{ShowsCalls}
+use Rattle.run_debts.specs.Given.FollowsCalls.{RefinesCalls}
 use Rattle.run_debts.proofs.Given.FollowsCalling.{apart_back, found_kept, come, come_of_same, replied_same}
 use Rattle.run_debts.proofs.Given.FollowsCalls.{IsOfSame, changed, found}
 use Rattle.run_debts.proofs.Given.HandsAsking.{which}
 use Rattle.run_debts.proofs.Given.HandsCalling.{caller_is}
-use Rattle.run_blocks.specs.Shards.Adds.{adds_in_calling, adds_in_sweeping, adds_of, Adds, ShowsAdds}
+use Rattle.run_blocks.specs.Shards.Adds.{adds_in_calling, adds_in_sweeping, adds_of, Adds, RefinesAdds}
 use Rattle.run_debts.specs.Counts.{counts_in_calling, counts_in_sweeping, is_to_count}
 use Rattle.run_blocks.specs.Shards.ShardSteps.{CallsBeginCounters, CallsTakeCounters, CallsComeToCounters, CountersStay}
-use Rattle.run_blocks.specs.Shards.ShardWords.{ShowsShards, MakesUncounted}
+use Rattle.run_blocks.specs.Shards.ShardWords.{RefinesShards, MakesUncounted}
 use Rattle.run_blocks.proofs.Shards.Adds.{machine_adds}
 use Rattle.run_debts.proofs.Between.{told_same}
 use Rattle.run_debts.specs.Given.ScenesScene.{Scene}
 use Rattle.run_debts.proofs.Given.General.{same_some as one_of}
 
 -- a machine that is about to add something takes no reply
-key_told : {K V : Type 0} (p : KeyCall K V K) (stands : Calling) (told : MachineReply V) → p.stands ≡ stands → counts_in_calling stands ≡ true → adds_in_calling (told_at stands p told).0.stands ≡ adds_in_calling p.stands
+key_told : {K V : Type 0} (p : KeyCall K V K) (stands : Calling) (told : MachineReply V) → p.stands ≡ stands → counts_in_calling stands ≡ true → adds_in_calling (replied_at stands p told).0.stands ≡ adds_in_calling p.stands
 key_told p (at.Counts removed) told is counts = refl
 key_told p _ told is counts = absurd (cc counts)
 
-swept_told : {V : Type 0} (p : Sweep) (stands : Sweeping) (told : MachineReply V) → p.stands ≡ stands → counts_in_sweeping stands ≡ true → adds_in_sweeping (sweep_told stands p told).0.stands ≡ adds_in_sweeping p.stands
+swept_told : {V : Type 0} (p : Sweep) (stands : Sweeping) (told : MachineReply V) → p.stands ≡ stands → counts_in_sweeping stands ≡ true → adds_in_sweeping (sweep_with_reply stands p told).0.stands ≡ adds_in_sweeping p.stands
 swept_told p (sweeping.Counts removed) told is counts = refl
 swept_told p _ told is counts = absurd (cc counts)
 
@@ -68,19 +68,19 @@ module _ {K V : Type 0} where
   abbrev Keeps : CallThere K V → CallThere K V → Type 0
   Keeps c d = (d.gained ≡ c.gained) × (d.lost ≡ c.lost)
 
-  replied_keeps : (reply : Reply V) (c : CallThere K V) (stands : Stands) → Keeps c (replied reply c stands)
+  replied_keeps : (reply : Reply V) (c : CallThere K V) (stands : CallState) → Keeps c (replied reply c stands)
   replied_keeps reply c Going = (refl, refl)
   replied_keeps reply c (Asking q) = (refl, refl)
   replied_keeps reply c WasTold = (refl, refl)
   replied_keeps reply c IsReady = (refl, refl)
 
-  asks_keeps : (question : Option ℕ) (c : CallThere K V) (stands : Stands) → Keeps c (asks_on question c stands)
+  asks_keeps : (question : Option ℕ) (c : CallThere K V) (stands : CallState) → Keeps c (asks_on question c stands)
   asks_keeps question c Going = (refl, refl)
   asks_keeps question c (Asking q) = (refl, refl)
   asks_keeps question c WasTold = (refl, refl)
   asks_keeps question c IsReady = (refl, refl)
 
-  comes_keeps : (o : Outcome V) (c : CallThere K V) → Keeps c (comes_to o c)
+  comes_keeps : (o : Outcome V) (c : CallThere K V) → Keeps c (with_outcome o c)
   comes_keeps outcome.Done c = (refl, refl)
   comes_keeps (outcome.Slot n) c = (refl, refl)
   comes_keeps outcome.Goes c = (refl, refl)
@@ -157,9 +157,9 @@ calls_take_counters K V same name m known s whole counters of i u here reply nex
     ]
 
 -- where one comes to an outcome
-module _ {K V : Type 0} (same : K → K → Bool) (name : ℕ → List ℕ) (m v : Moment K V) (s : Scene K V) (shown : ShowsCalls same name m s.calls) (adds : ShowsAdds name m s) where
+module _ {K V : Type 0} (same : K → K → Bool) (name : ℕ → List ℕ) (m v : Moment K V) (s : Scene K V) (shown : RefinesCalls same name m s.calls) (adds : RefinesAdds name m s) where
   -- the calls that are under way are there, but for that of this name
-  pub fewer_add : (own : List ℕ) → NoneNamed name own s → v.calls ≡ without_call own m.calls → ShowsAdds name v s
+  pub fewer_add : (own : List ℕ) → NoneNamed name own s → v.calls ≡ without_call own m.calls → RefinesAdds name v s
   fewer_add own apart calls_are n j x is removed to_add d d_is =
       let there = shown n j x is in
       let is_its = caller_is (name j) m there.0 there.1 in
@@ -168,14 +168,14 @@ module _ {K V : Type 0} (same : K → K → Bool) (name : ℕ → List ℕ) (m v
       subst (Adds removed) (one_of there.0 d (sym found_now ∙ d_is)) (adds n j x is removed to_add there.0 there.1)
 
   changed_add : (change : CallThere K V → CallThere K V) (is_of : (c : CallThere K V) → IsOfSame c (change c)) → ((c : CallThere K V) → Keeps c (change c)) → (own : List ℕ)
-      → v.calls ≡ map (changed change is_of own) m.calls → ShowsAdds name v s
+      → v.calls ≡ map (changed change is_of own) m.calls → RefinesAdds name v s
   changed_add change is_of keeps own calls_are n j x is removed to_add d d_is =
       let there = shown n j x is in adds_changed change is_of keeps own name m v calls_are removed j there.0 d there.1 d_is (adds n j x is removed to_add there.0 there.1)
 
 pub calls_come_to_counters : (K V : Type 0) → CallsComeToCounters K V
 calls_come_to_counters K V same name m known s whole counters own o steps ended = record { shards = counters.shards; makes = counters.makes; adds = by (ends_call o) refl }
   where
-    by : (q : Bool) → ends_call o ≡ q → ShowsAdds name (record m { calls = if q then without_call own m.calls else map (λ c. if is_same c.caller own then come o steps c else c) m.calls }) s
+    by : (q : Bool) → ends_call o ≡ q → RefinesAdds name (record m { calls = if q then without_call own m.calls else map (λ c. if is_same c.caller own then come o steps c else c) m.calls }) s
     by true e = fewer_add same name m (record m { calls = without_call own m.calls }) s whole.all.shown.calls counters.adds own (ended e) refl
     by false e = changed_add same name m (record m { calls = map (λ c. if is_same c.caller own then come o steps c else c) m.calls }) s whole.all.shown.calls counters.adds (come o steps) (come_of_same o steps) (come_keeps o steps) own refl
 
@@ -183,7 +183,7 @@ calls_come_to_counters K V same name m known s whole counters own o steps ended 
 pub counters_stay : (K V : Type 0) → CountersStay K V
 counters_stay K V name m v s t counters calls shards memory maps makers fewer = record { shards = shards_then; makes = makes_then; adds = adds_then }
   where
-    shards_then : ShowsShards v t
+    shards_then : RefinesShards v t
     shards_then n st is shard few =
         ap (λ (x : Mem (Node K V)). word_at x (Word st.setting.counter shard)) memory
         ∙ counters.shards n st (subst (λ (f : ℕ → Option (Standing K)). f n ≡ Some st) maps is) shard few ∙ ap (λ (f : ℕ → ℕ → ℕ). Some (f n shard)) (sym shards)
@@ -195,7 +195,7 @@ counters_stay K V name m v s t counters calls shards memory maps makers fewer = 
           λ has_made shard few. ap (λ (x : Mem (Node K V)). word_at x (Word b.machine.setting.counter shard)) memory ∙ was.1 has_made shard few,
         )
 
-    adds_then : ShowsAdds name v t
+    adds_then : RefinesAdds name v t
     adds_then n i u is removed to_add c found_now =
         let before = fewer n i u is removed to_add in
         counters.adds n i before.0 before.1 removed before.2 c (ap (λ (cs : List (CallThere K V)). find (λ x. is_same x.caller (name i)) cs) (sym calls) ∙ found_now)

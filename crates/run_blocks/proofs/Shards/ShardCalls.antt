@@ -27,17 +27,17 @@ use Rattle.run_debts.specs.Given.FinishesMachines.{machine_of}
 use Rattle.run_debts.specs.Given.FinishesMakings.{Beginning, HasMade}
 use Rattle.run_debts.specs.Given.FinishesMaps.{Standing}
 use Rattle.run_debts.specs.Given.FollowsCalls.{IsCalled}
-use Rattle.run_debts.specs.Given.FollowsShows.{Shows}
+use Rattle.run_debts.specs.Given.FollowsShows.{Refines}
 use Rattle.run_debts.proofs.Given.FollowsAlike.{put_here, put_elsewhere}
 use Rattle.run_debts.proofs.Given.FollowsOperations.{LeavesBy, Operated, operated_leaves}
 use Rattle.run_debts.proofs.Given.FollowsSteps.{WentTo, went_to, made_so}
 use Rattle.run_debts.proofs.Given.HandsAsking.{which}
 use Rattle.run_debts.proofs.Given.HandsCalling.{caller_is}
-use Rattle.run_debts.specs.Given.MomentsWhole.{ShowsWhole}
+use Rattle.run_debts.specs.Given.MomentsWhole.{RefinesWhole}
 use Rattle.run_blocks.specs.Shards.Adds.{adds_of, Adds}
-use Rattle.run_debts.specs.Counts.{HasToCount, ShowsCounts, shard_for}
-use Rattle.run_blocks.specs.Shards.ShardSteps.{AddsUp, CallsKeepCounters, RoomsCountNothing}
-use Rattle.run_blocks.specs.Shards.ShardWords.{ShowsShards, MakesUncounted, ShowsCounters}
+use Rattle.run_debts.specs.Counts.{HasToCount, RefinesCounts, shard_for}
+use Rattle.run_blocks.specs.Shards.ShardSteps.{AddsUp, CallsPreserveCounters, RoomsCountNothing}
+use Rattle.run_blocks.specs.Shards.ShardWords.{RefinesShards, MakesUncounted, RefinesCounters}
 use Rattle.run_blocks.proofs.Shards.Adds.{machine_not_adds, StepAdds, AddsNone, AddsIts, word_added, then_adds}
 use Rattle.run_debts.proofs.Calls.{goes_as_one, MayStore, replaces_none}
 use Rattle.run_debts.proofs.Gains.{others_stay}
@@ -53,9 +53,9 @@ use Rattle.run_debts.specs.Given.ScenesStepping.{StepLeads, scene_after}
 use Rattle.run_debts.proofs.Given.General.{same_some as one_of}
 
 module _ {K V : Type 0} (same : K → K → Bool) (hash : ℕ → K → ℕ) (name : ℕ → List ℕ) (m : Moment K V) (known : Known) (s : Scene K V) (old new : Held K V) (at_old : IsAt same hash old s)
-    (whole : ShowsWhole same name m known s) (counts : ShowsCounts name m s) (counters : ShowsCounters name m s) (map i : ℕ) (u : UnderWay K V K) (here : s.calls map i ≡ Some u)
+    (whole : RefinesWhole same name m known s) (counts : RefinesCounts name m s) (counters : RefinesCounters name m s) (map i : ℕ) (u : UnderWay K V K) (here : s.calls map i ≡ Some u)
     (said : Progress (Node K V)) (leads : StepLeads same hash i said s old new) where
-  abbrev shown : Shows same name m known s
+  abbrev shown : Refines same name m known s
   shown = whole.all.shown
 
   abbrev to : WentTo same hash name m known s old new at_old shown map i u here said leads
@@ -119,7 +119,7 @@ module _ {K V : Type 0} (same : K → K → Bool) (hash : ℕ → K → ℕ) (na
     same_shards : v.shards ≡ m.shards
     same_shards = uncounted_shards (Some (name i)) (Some map) effects m (none_counts i map known told nowhere)
 
-    unwritten : ShowsShards v t × MakesUncounted v t
+    unwritten : RefinesShards v t × MakesUncounted v t
     unwritten = (
       shards_kept same hash m v s t new to.5 IsCounter keeps same_shards of_map stood counters.shards,
       makes_kept same hash m v s t new to.5 IsCounter keeps same_shards refl of_maker counters.makes,
@@ -197,7 +197,7 @@ module _ {K V : Type 0} (same : K → K → Bool) (hash : ℕ → K → ℕ) (na
         ∙ sym (ap (λ (g : ℕ → ℕ). g f) (others_now n ne))
         )
 
-    counted_shards : ShowsShards v t
+    counted_shards : RefinesShards v t
     counted_shards n x is f few = elim (cases_eq n map) as (λ _. Says n x.setting f) [
       | inl e ↦
           let at_map : t.maps map ≡ Some x = ap t.maps (sym e) ∙ is in
@@ -225,7 +225,7 @@ module _ {K V : Type 0} (same : K → K → Bool) (hash : ℕ → K → ℕ) (na
 
   module _ (does : Does) where
     abbrev AllShow : Type 0
-    AllShow = ShowsShards v t × MakesUncounted v t
+    AllShow = RefinesShards v t × MakesUncounted v t
 
     shards_then : AllShow
     shards_then = by does
@@ -275,10 +275,10 @@ module _ {K V : Type 0} (same : K → K → Bool) (hash : ℕ → K → ℕ) (na
         by (AddsNone nowhere none brings) = ap (λ (f : ℕ → ℕ → ℕ). f n) (same_shards nowhere)
         by (AddsIts removed o wrote effects_are before after) = others_now removed o wrote effects_are (counters.adds map i u here removed before its.0 its.1) n ne
 
-    pub counters_then : ShowsCounters name v t
+    pub counters_then : RefinesCounters name v t
     counters_then = record { shards = shards_then.0; makes = shards_then.1; adds = adds_then }
 
-pub calls_keep_counters : (K V : Type 0) (same : K → K → Bool) (hash : ℕ → K → ℕ) → CallsKeepCounters K V same hash
+pub calls_keep_counters : (K V : Type 0) (same : K → K → Bool) (hash : ℕ → K → ℕ) → CallsPreserveCounters K V same hash
 calls_keep_counters K V same hash name m known s old new at_old whole counts counters map i (OnKey x) here said leads =
     counters_then same hash name m known s old new at_old whole counts counters map i (OnKey x) here said leads
     (key_adds same hash name m known s old new at_old whole.all.shown map i x here said leads (leads map (OnKey x) here).4.did)

@@ -20,8 +20,8 @@ use Rattle.run_debts.specs.Given.FinishesMakings.{Beginning, HasMade, HasOwnCoun
 use Rattle.run_debts.specs.Given.FinishesMaps.{Standing, IsSameMap}
 use Rattle.run_debts.proofs.Given.FinishesBeside.Makings.Lasts.{made_counter}
 use Rattle.run_debts.proofs.Given.FollowsOperations.{Operated}
-use Rattle.run_blocks.specs.Shards.Adds.{ShowsAdds}
-use Rattle.run_blocks.specs.Shards.ShardWords.{ShowsShards, IsUncounted, MakesUncounted}
+use Rattle.run_blocks.specs.Shards.Adds.{RefinesAdds}
+use Rattle.run_blocks.specs.Shards.ShardWords.{RefinesShards, IsUncounted, MakesUncounted}
 use Rattle.run_debts.specs.Shards.{is_counting}
 use Rattle.run_debts.proofs.Gains.{NoneCounts}
 use Rattle.run_debts.proofs.Uncounted.{CountsNowhere}
@@ -83,7 +83,7 @@ module _ {K V : Type 0} (same : K → K → Bool) (hash : ℕ → K → ℕ) (m 
         now.1 ∙ ap Some (keeps st.setting.counter shard x now.0 (subst (λ (z : Setting). IsCounter z.counter) (sym same_setting) its) was_so now.1)
 
     pub shards_kept : v.shards ≡ m.shards → ((n : ℕ) (st : Standing K) → s.maps n ≡ Some st → IsCounter st.setting.counter)
-        → ((n : ℕ) (st : Standing K) → t.maps n ≡ Some st → (before : Standing K) × (s.maps n ≡ Some before) × (st.setting ≡ before.setting)) → ShowsShards m s → ShowsShards v t
+        → ((n : ℕ) (st : Standing K) → t.maps n ≡ Some st → (before : Standing K) × (s.maps n ≡ Some before) × (st.setting ≡ before.setting)) → RefinesShards m s → RefinesShards v t
     shards_kept shards its stood shows n st is shard few =
         let was = stood n st is in
         shard_kept n st was.0 is was.2 (its n was.0 was.1) shard (m.shards n shard) few (shows n was.0 was.1 shard (subst (λ (z : Setting). shard ≤ z.mask) was.2 few))
@@ -106,7 +106,7 @@ module _ {K V : Type 0} (same : K → K → Bool) (hash : ℕ → K → ℕ) (m 
         made_kept i b is was (λ shard. ap (λ (f : ℕ → ℕ → ℕ). f b.map shard) shards ∙ (makes i b was).0 shard) (its i b was) makes
 
 -- calls are as they were, of the moment and under way
-pub adds_kept : {K V : Type 0} (name : ℕ → List ℕ) (m v : Moment K V) (s t : Scene K V) → v.calls ≡ m.calls → t.calls ≡ s.calls → ShowsAdds name m s → ShowsAdds name v t
+pub adds_kept : {K V : Type 0} (name : ℕ → List ℕ) (m v : Moment K V) (s t : Scene K V) → v.calls ≡ m.calls → t.calls ≡ s.calls → RefinesAdds name m s → RefinesAdds name v t
 adds_kept {K} {V} name m v s t calls under_way adds n i u is removed to_add c found =
     adds n i u (subst (λ (f : ℕ → ℕ → Option (UnderWay K V K)). f n i ≡ Some u) under_way is) removed to_add c
     (ap (λ (cs : List (CallThere K V)). find (λ x. is_same x.caller (name i)) cs) (sym calls) ∙ found)

@@ -30,15 +30,15 @@ use Rattle.run_debts.specs.Given.EffectsEffects.{effects_of}
 use Rattle.run_debts.specs.Given.EffectsKnown.{Known}
 use Rattle.run_debts.specs.Given.EffectsDeclared.acting.Acting.TheVariants as acts
 use Rattle.run_debts.specs.Given.EffectsDeclared.role.Role.TheVariants as role
-use Rattle.run_debts.specs.Given.FinishesEndings.{MakingStepsAmong}
-use Rattle.run_debts.specs.Given.FinishesMakings.{Beginning, HasMade, OpeningFacts, MakingFacts, IsMade, KeepsIts}
+use Rattle.run_debts.specs.Given.FinishesEndings.{MakingStepsWithEndings}
+use Rattle.run_debts.specs.Given.FinishesMakings.{Beginning, HasMade, OpeningFacts, MakingFacts, IsMade, PreservesItsOwn}
 use Rattle.run_debts.specs.Given.FinishesMaps.{Standing}
 use Rattle.run_debts.specs.Given.FollowsBlocks.{HasRole}
 use Rattle.run_debts.proofs.Given.FollowsOperations.{LeavesBy, Operated, operated, operated_leaves}
-use Rattle.run_debts.specs.Given.MomentsWhole.{ShowsWhole}
+use Rattle.run_debts.specs.Given.MomentsWhole.{RefinesWhole}
 use Rattle.run_debts.proofs.Given.OthersMakingPlans.{DoneBy, making_done, CounterFrom, counter_from}
-use Rattle.run_blocks.specs.Shards.ShardSteps.{MakingsKeepCounters}
-use Rattle.run_blocks.specs.Shards.ShardWords.{ShowsShards, IsUncounted, MakesUncounted, ShowsCounters}
+use Rattle.run_blocks.specs.Shards.ShardSteps.{MakingsPreserveCounters}
+use Rattle.run_blocks.specs.Shards.ShardWords.{RefinesShards, IsUncounted, MakesUncounted, RefinesCounters}
 use Rattle.run_debts.proofs.Aimed.{new_aims}
 use Rattle.run_debts.proofs.Aims.{NewAims, PlanAims, aims_as, table_at, plan_aimed}
 use Rattle.run_debts.proofs.Gains.{none_changed}
@@ -68,9 +68,9 @@ module _ (P : ℕ → Type 0) where
   open_at K V c (at.Refused fault) so = tt
 
 module _ {K V : Type 0} (same : K → K → Bool) (hash : ℕ → K → ℕ) (name : ℕ → List ℕ) (m : Moment K V) (known : Known) (s : Scene K V) (old new : Held K V) (at_old : IsAt same hash old s)
-    (whole : ShowsWhole same name m known s) (counters : ShowsCounters name m s) (i : ℕ) (b : Beginning K) (here : s.makers i ≡ Some b) (end : NewMap) (said : Advance Setting)
+    (whole : RefinesWhole same name m known s) (counters : RefinesCounters name m s) (i : ℕ) (b : Beginning K) (here : s.makers i ≡ Some b) (end : NewMap) (said : Advance Setting)
     (steps : MakingStepsFrom b.machine old new end said)
-    (did : MakingStepsAmong V same same old.batch_size old.roots slot_of s.world s.maps s.calls s.makers s.enders i b new.memory (end, said)) (of : Option ℕ) where
+    (did : MakingStepsWithEndings V same same old.batch_size old.roots slot_of s.world s.maps s.calls s.makers s.enders i b new.memory (end, said)) (of : Option ℕ) where
   abbrev w : World (Node K V)
   w = s.world
 
@@ -180,11 +180,11 @@ module _ {K V : Type 0} (same : K → K → Bool) (hash : ℕ → K → ℕ) (na
     gone d e is = absurd (cc e)
 
     -- the maps that stand are those that did
-    shards_still : t.maps ≡ s.maps → ShowsShards v t
+    shards_still : t.maps ≡ s.maps → RefinesShards v t
     shards_still maps =
         shards_kept same hash m v s t new at_new IsCounter keeps_then same_shards of_map (λ n st is. (st, subst (λ (f : ℕ → Option (Standing K)). f n ≡ Some st) maps is, refl)) counters.shards
 
-    counters_at : MakesUncounted v t → ShowsShards v t → t.calls ≡ s.calls → ShowsCounters name v t
+    counters_at : MakesUncounted v t → RefinesShards v t → t.calls ≡ s.calls → RefinesCounters name v t
     counters_at makes shards under_way = record { shards = shards; makes = makes; adds = adds_kept name m v s t (none_changed of effects m) under_way counters.adds }
 
     -- or one more does
@@ -198,8 +198,8 @@ module _ {K V : Type 0} (same : K → K → Bool) (hash : ℕ → K → ℕ) (na
       its_steps : MakingStepsFrom b.machine old new end (progress.Done setting)
       its_steps = subst (λ (p : Advance Setting). MakingStepsFrom b.machine old new end p) done steps
 
-      its_keeps : KeepsIts V same same old.batch_size old.roots slot_of w w2 b.machine (end, progress.Done setting)
-      its_keeps = subst (λ (p : Advance Setting). KeepsIts V same same old.batch_size old.roots slot_of w w2 b.machine (end, p)) done did.step.keeps
+      its_keeps : PreservesItsOwn V same same old.batch_size old.roots slot_of w w2 b.machine (end, progress.Done setting)
+      its_keeps = subst (λ (p : Advance Setting). PreservesItsOwn V same same old.batch_size old.roots slot_of w w2 b.machine (end, p)) done did.step.keeps
 
       done_zero : (shard y : ℕ) → shard ≤ setting.mask → word_at w2.memory (Word setting.counter shard) ≡ Some y → y ≡ 0
       done_zero shard y few is = by told refl (making_done w i old.roots b.machine old.memory new.memory told end setting facts.point its_steps)
@@ -225,7 +225,7 @@ module _ {K V : Type 0} (same : K → K → Bool) (hash : ℕ → K → ℕ) (na
           subst (λ (z : Setting). word_at w2.memory (Word z.counter shard) ≡ Some now.0) made_map.setting_is (subst (λ (u : World (Node K V)). word_at u.memory (Word st.setting.counter shard) ≡ Some now.0) world now.1) in
           now.1 ∙ ap Some (done_zero shard now.0 (subst (λ (z : Setting). shard ≤ z.mask) made_map.setting_is few) there ∙ sym (uncounted i b here shard))
 
-      shards_more : ShowsShards v t
+      shards_more : RefinesShards v t
       shards_more n x is shard few = elim (cases_eq n b.map) as (λ _. word_at t.world.memory (Word x.setting.counter shard) ≡ Some (v.shards n shard)) [
         | inl e ↦
             let one : st ≡ x = one_of st x (sym its_map ∙ ap t.maps (sym e) ∙ is) in
@@ -238,7 +238,7 @@ module _ {K V : Type 0} (same : K → K → Bool) (hash : ℕ → K → ℕ) (na
       ]
 
 module _ (K V : Type 0) (same : K → K → Bool) (hash : ℕ → K → ℕ) where
-  pub makings_keep_counters : MakingsKeepCounters K V same hash
+  pub makings_keep_counters : MakingsPreserveCounters K V same hash
   makings_keep_counters name m known s old new at_old whole counters i progress.Goes leads b here of =
       let to = leads b here in
       let t : Scene K V = record s { world = to.2.step.w2; makers = with_at s.makers i (Some (record b { machine = to.0 })) } in

@@ -9,9 +9,9 @@ use Rattle.owner_calls.specs.Given.CallersTogether.{UnderWay, OnKey, ForRoom, Co
 use Rattle.run_debts.specs.Given.EffectsEffects.{effects_of}
 use Rattle.run_debts.specs.Given.EffectsKnown.{Known}
 use Rattle.run_debts.specs.Given.EffectsDeclared.acting.Acting.TheVariants as acts
-use Rattle.run_debts.specs.Given.MomentsWhole.{ShowsWhole}
-use Rattle.run_debts.specs.Counts.{ShowsCounts}
-use Rattle.run_blocks.specs.Shards.ShardWords.{ShowsCounters}
+use Rattle.run_debts.specs.Given.MomentsWhole.{RefinesWhole}
+use Rattle.run_debts.specs.Counts.{RefinesCounts}
+use Rattle.run_blocks.specs.Shards.ShardWords.{RefinesCounters}
 use Rattle.run_blocks.proofs.Shards.KeyAdds.{key_adds}
 use Rattle.run_blocks.proofs.Shards.RestAdds.{room_adds, sum_adds, sweep_adds}
 use Rattle.run_blocks.proofs.Shards.ShardCalls.{others_then}
@@ -21,7 +21,7 @@ use Rattle.run_debts.specs.Given.ScenesStepping.{StepLeads}
 
 -- a step of a call counts on its map alone
 pub calls_spare_others : {K V : Type 0} (same : K → K → Bool) (hash : ℕ → K → ℕ) (name : ℕ → List ℕ) (m : Moment K V) (known : Known) (s : Scene K V) (old new : Held K V) → IsAt same hash old s
-    → ShowsWhole same name m known s → ShowsCounts name m s → ShowsCounters name m s
+    → RefinesWhole same name m known s → RefinesCounts name m s → RefinesCounters name m s
     → (map i : ℕ) (u : UnderWay K V K) (here : s.calls map i ≡ Some u) (said : Progress (Node K V)) (leads : StepLeads same hash i said s old new)
     → (n : ℕ) → n ≢ map → (with_effects (Some (name i)) (Some map) (effects_of (acts.Call i map) known new.changed) m).shards n ≡ m.shards n
 calls_spare_others same hash name m known s old new at_old whole counts counters map i (OnKey x) here said leads =

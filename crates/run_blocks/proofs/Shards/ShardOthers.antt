@@ -22,13 +22,13 @@ use Rattle.run_debts.specs.Given.FinishesFactsEnds.{Deed, Spares, taken_by}
 use Rattle.run_debts.specs.Given.FinishesMakings.{Beginning, HasMade}
 use Rattle.run_debts.specs.Given.FinishesMaps.{Standing}
 use Rattle.run_debts.proofs.Given.FollowsOperations.{Operated}
-use Rattle.run_debts.specs.Given.MomentsWhole.{ShowsWhole}
+use Rattle.run_debts.specs.Given.MomentsWhole.{RefinesWhole}
 use Rattle.run_debts.specs.Given.OthersEndings.{ending_after}
 use Rattle.run_debts.specs.Given.OthersRows.{scene_then}
 use Rattle.run_debts.proofs.Given.OthersRowPlans.{TellsRow, row_tells, row_operated}
 use Rattle.run_histories.proofs.Histories.Aside.Elsewhere.{ending_at}
-use Rattle.run_blocks.specs.Shards.ShardSteps.{RowsBeginCounters, RowsKeepCounters, EndingsKeepCounters, MakingsBeginCounters, EndingsBeginCounters}
-use Rattle.run_blocks.specs.Shards.ShardWords.{ShowsShards, IsUncounted, MakesUncounted, ShowsCounters}
+use Rattle.run_blocks.specs.Shards.ShardSteps.{RowsBeginCounters, RowsPreserveCounters, EndingsPreserveCounters, MakingsBeginCounters, EndingsBeginCounters}
+use Rattle.run_blocks.specs.Shards.ShardWords.{RefinesShards, IsUncounted, MakesUncounted, RefinesCounters}
 use Rattle.run_debts.proofs.Gains.{none_changed}
 use Rattle.run_blocks.proofs.Shards.ShardKept.{none_shards, same_setting, word_kept, shards_kept, makes_kept, adds_kept}
 use Rattle.run_debts.proofs.Uncounted.{CountsNowhere}
@@ -50,7 +50,7 @@ row_nowhere : (known : Known) (told : Changed) → TellsRow told → CountsNowhe
 row_nowhere known told tells b field old new of is counter = absurd (subst TellsRow is tells)
 
 module _ {K V : Type 0} (same : K → K → Bool) (hash : ℕ → K → ℕ) (name : ℕ → List ℕ) (m : Moment K V) (known : Known) (s : Scene K V) (old new : Held K V) (at_old : IsAt same hash old s)
-    (whole : ShowsWhole same name m known s) (counters : ShowsCounters name m s) (i : ℕ) (row : SlotRow) (here : IsOnSlot s i row) (end : SlotRow × RowTold (Node K V))
+    (whole : RefinesWhole same name m known s) (counters : RefinesCounters name m s) (i : ℕ) (row : SlotRow) (here : IsOnSlot s i row) (end : SlotRow × RowTold (Node K V))
     (steps : RowSteps K V row old.memory new.memory new.changed end) (happened : HappensAt same hash (Step i) s old new) where
   abbrev t : Scene K V
   t = scene_then same hash (Step i) s old new happened
@@ -72,7 +72,7 @@ module _ {K V : Type 0} (same : K → K → Bool) (hash : ℕ → K → ℕ) (na
   keeps c f x y its was is =
       word_kept known s.world.memory t.world.memory told made (row_nowhere known told (row_tells old.memory new.memory told end row steps)) c f x y its.0 its.1 was is
 
-  row_counters : ShowsCounters name (with_effects None None (effects_of acts.Row known told) m) t
+  row_counters : RefinesCounters name (with_effects None None (effects_of acts.Row known told) m) t
   row_counters =
       let v : Moment K V = with_effects None None (effects_of acts.Row known told) m in
       let shards = none_shards None (effects_of acts.Row known told) m in
@@ -94,12 +94,12 @@ module _ {K V : Type 0} (setting : Setting) (caller : ℕ) (w w2 : World (Node K
 
 -- where each word that is there is what it was, and calls, maps and makings are as they were
 module _ {K V : Type 0} (same : K → K → Bool) (hash : ℕ → K → ℕ) (name : ℕ → List ℕ) (m v : Moment K V) (s t : Scene K V) (new : Held K V) (at_new : IsAt same hash new t)
-    (counters : ShowsCounters name m s) (shards : v.shards ≡ m.shards) (calls : v.calls ≡ m.calls) where
+    (counters : RefinesCounters name m s) (shards : v.shards ≡ m.shards) (calls : v.calls ≡ m.calls) where
   abbrev AnyBlock : ℕ → Type 0
   AnyBlock c = Unit {0}
 
   words_kept : ((c f x y : ℕ) → word_at s.world.memory (Word c f) ≡ Some x → word_at t.world.memory (Word c f) ≡ Some y → y ≡ x)
-      → ((n : ℕ) (st : Standing K) → t.maps n ≡ Some st → (before : Standing K) × (s.maps n ≡ Some before) × (st.setting ≡ before.setting)) → t.calls ≡ s.calls → t.makers ≡ s.makers → ShowsCounters name v t
+      → ((n : ℕ) (st : Standing K) → t.maps n ≡ Some st → (before : Standing K) × (s.maps n ≡ Some before) × (st.setting ≡ before.setting)) → t.calls ≡ s.calls → t.makers ≡ s.makers → RefinesCounters name v t
   words_kept keeps stood under_way makers = record {
     shards = shards_kept same hash m v s t new at_new AnyBlock (λ c f x y its was is. keeps c f x y was is) shards (λ n st is. tt) stood counters.shards;
     makes = makes_kept same hash m v s t new at_new AnyBlock (λ c f x y its was is. keeps c f x y was is) shards makers (λ j b is has_made. tt) counters.makes;
@@ -115,11 +115,11 @@ module _ (K V : Type 0) (same : K → K → Bool) (hash : ℕ → K → ℕ) whe
       (leads.2.4.memory ∙ leads.0 ∙ sym at_old.memory) c f x y was is)
       (λ n st is. same_setting (s.maps n) (leads.2.2 n) (leads.2.3 n) st is) refl refl
 
-  pub rows_keep_counters : RowsKeepCounters K V same hash
+  pub rows_keep_counters : RowsPreserveCounters K V same hash
   rows_keep_counters name m known s old new at_old whole counters i told leads row here =
       let to = leads row here in row_counters same hash name m known s old new at_old whole counters i row here (to.0, told) to.1 to.2
 
-  pub endings_keep_counters : EndingsKeepCounters K V same hash
+  pub endings_keep_counters : EndingsPreserveCounters K V same hash
   endings_keep_counters name m known s old new at_old counters i told leads f here map =
       let to = leads f here in
       let it = ending_at same hash s old new i f to.0 to.2.w2 to.2.deed told to.3 in
@@ -147,7 +147,7 @@ module _ (K V : Type 0) where
   pub endings_begin_counters : EndingsBeginCounters K V
   endings_begin_counters name m s counters map i standing = record { shards = shards_then; makes = counters.makes; adds = counters.adds }
     where
-      shards_then : ShowsShards m (ending_begun map i standing s)
+      shards_then : RefinesShards m (ending_begun map i standing s)
       shards_then n st is shard few = elim (cases_eq n map) as (λ _. word_at s.world.memory (Word st.setting.counter shard) ≡ Some (m.shards n shard)) [
         | inl e ↦ absurd (let none = at_same s.maps map None n e in cc (none, is))
         | inr ne ↦ counters.shards n st (sym (at_other s.maps map None n ne) ∙ is) shard few

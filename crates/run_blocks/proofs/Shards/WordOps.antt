@@ -10,7 +10,7 @@ use Rattle.run_debts.proofs.Given.SeizeWordsOneOwner.AfterWrites.{word_at-with_w
 use Rattle.run_debts.proofs.Given.SeizeMemoryWords.Named.{or_zero, words_of, same_at-true, block_there, made_one}
 use Rattle.run_debts.specs.Given.TablesDeclared.node.Node.{Node}
 use Rattle.run_debts.specs.Given.TellsSeen.{seen_of}
-use Rattle.run_debts.specs.Given.TellerTells.{told_of}
+use Rattle.run_debts.specs.Given.TellerTells.{observed_of}
 use Rattle.run_debts.specs.Given.EffectsDeclared.changed.Changed.{Changed}
 use Rattle.run_debts.specs.Given.EffectsDeclared.changed.Changed.TheVariants as changed
 use Rattle.run_debts.proofs.Given.FollowsOperations.{Operated}
@@ -38,7 +38,7 @@ module _ {K V : Type 0} (m m2 : Mem (Node K V)) (c f y : ℕ) (is : word_at m2 (
   taken_not true e = absurd (cc (is, e))
   taken_not false e = same_word e
 
-  op_lasts : (op : Op (Node K V)) (out : Out (Node K V)) → Can m op → Took m op out m2 → Lasts (told_of op out (seen_of m op out))
+  op_lasts : (op : Op (Node K V)) (out : Out (Node K V)) → Can m op → Took m op out m2 → Lasts (observed_of op out (seen_of m op out))
   op_lasts (Load at) out can took = inl (same_memory took.1)
   op_lasts (Store at word) out can took = wrote at _ word can took.1
   op_lasts (Swap at word) (Found before) can took = wrote at before word can took.1

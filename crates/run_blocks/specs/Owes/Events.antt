@@ -19,10 +19,10 @@ use Rattle.owner_calls.specs.Given.CallersTogether.{UnderWay}
 use Rattle.run_debts.specs.Given.EffectsEffects.{effects_of}
 use Rattle.run_debts.specs.Given.EffectsKnown.{Known}
 use Rattle.run_debts.specs.Given.EffectsDeclared.acting.Acting.TheVariants as acts
-use Rattle.run_debts.specs.Given.MomentsWhole.{ShowsWhole}
-use Rattle.run_blocks.specs.Owes.Made.{ShowsMade}
-use Rattle.run_blocks.specs.Owes.Short.{ShowsShort}
-use Rattle.run_blocks.specs.Owes.Tables.{ShowsTables}
+use Rattle.run_debts.specs.Given.MomentsWhole.{RefinesWhole}
+use Rattle.run_blocks.specs.Owes.Made.{RefinesMade}
+use Rattle.run_blocks.specs.Owes.Short.{RefinesShort}
+use Rattle.run_blocks.specs.Owes.Tables.{RefinesOwnTables}
 use Rattle.run_debts.specs.Given.ScenesHeld.{Held, IsAt}
 use Rattle.run_debts.specs.Given.ScenesScene.{Scene}
 use Rattle.run_debts.specs.Given.ScenesStepping.{StepLeads}
@@ -52,7 +52,7 @@ module _ (K V : Type 0) (same : K → K → Bool) (hash : ℕ → K → ℕ) whe
   abbrev pub StepsFindMade : Type 0
   StepsFindMade =
       (name : ℕ → List ℕ) (m : Moment K V) (known : Known) (s : Scene K V) (old new : Held K V) → IsAt same hash old s
-      → ShowsWhole same name m known s → ShowsMade name m known s → ShowsTables name m known s → ShowsShort name m s
+      → RefinesWhole same name m known s → RefinesMade name m known s → RefinesOwnTables name m known s → RefinesShort name m s
       → (map i : ℕ) (u : UnderWay K V K) (here : s.calls map i ≡ Some u) (said : Progress (Node K V)) (leads : StepLeads same hash i said s old new)
       → (terms : Terms) (moments : List (Moment K V)) → FindMade terms moments (name i) map (effects_of (acts.Call i map) known new.changed) m
 
@@ -60,7 +60,7 @@ module _ (K V : Type 0) (same : K → K → Bool) (hash : ℕ → K → ℕ) whe
   abbrev pub EventsLeaveNothingMade : Type 0
   EventsLeaveNothingMade =
       (name : ℕ → List ℕ) (m : Moment K V) (known : Known) (s : Scene K V) (old new : Held K V) → IsAt same hash old s
-      → ShowsWhole same name m known s → ShowsMade name m known s → ShowsTables name m known s → ShowsShort name m s
+      → RefinesWhole same name m known s → RefinesMade name m known s → RefinesOwnTables name m known s → RefinesShort name m s
       → (map i : ℕ) (u : UnderWay K V K) (here : s.calls map i ≡ Some u) (said : Progress (Node K V)) (leads : StepLeads same hash i said s old new)
       → (let to = leads map u here in
       (to.4.next ≡ None) ⊎ (said ≡ progress.Ready)

@@ -26,8 +26,8 @@ use Rattle.run_debts.specs.Given.EffectsDeclared.acting.Acting.TheVariants as ac
 use Rattle.run_debts.specs.Given.FinishesMachines.{machine_of}
 use Rattle.run_debts.specs.Given.FollowsCalling.{NoneNamed, told, come_to}
 use Rattle.owner_calls.specs.Holds.Came.{Owns}
-use Rattle.run_debts.specs.Given.MomentsWhole.{ShowsWhole}
-use Rattle.run_blocks.specs.Owes.Made.{OwnsSo, ShowsMade}
+use Rattle.run_debts.specs.Given.MomentsWhole.{RefinesWhole}
+use Rattle.run_blocks.specs.Owes.Made.{OwnsSo, RefinesMade}
 use Rattle.run_debts.specs.Given.ScenesHeld.{Held, IsAt}
 use Rattle.run_debts.specs.Given.ScenesReplying.{scene_with}
 use Rattle.run_debts.specs.Given.ScenesScene.{Scene, at_first}
@@ -47,28 +47,28 @@ module _ {K V : Type 0} where
 
 -- The promises: nobody has such a block as a run begins,
 abbrev pub MadeBegins : Type 0 → Type 0 → Type 0
-MadeBegins K V = (roots : ℕ) (name : ℕ → List ℕ) → ShowsMade {K = K} {V = V} name start nothing_known (at_first roots)
+MadeBegins K V = (roots : ℕ) (name : ℕ → List ℕ) → RefinesMade {K = K} {V = V} name start nothing_known (at_first roots)
 
 module _ (K V : Type 0) (same : K → K → Bool) (hash : ℕ → K → ℕ) where
   -- The effects of a step of a call find the call's block as they must, it is so after the step, whoever takes it, and a call that has ended by it has none.
-  abbrev pub CallsKeepMade : Type 0
-  CallsKeepMade =
-      (name : ℕ → List ℕ) (m : Moment K V) (known : Known) (s : Scene K V) (old new : Held K V) → IsAt same hash old s → ShowsWhole same name m known s → ShowsMade name m known s
+  abbrev pub CallsPreserveMade : Type 0
+  CallsPreserveMade =
+      (name : ℕ → List ℕ) (m : Moment K V) (known : Known) (s : Scene K V) (old new : Held K V) → IsAt same hash old s → RefinesWhole same name m known s → RefinesMade name m known s
       → (map i : ℕ) (u : UnderWay K V K) (here : s.calls map i ≡ Some u) (said : Progress (Node K V)) (leads : StepLeads same hash i said s old new)
       → (let to = leads map u here in
       let effects = effects_of (acts.Call i map) known new.changed in
       let v = with_effects (Some (name i)) (Some map) effects m in
       FindBlocks (name i) map effects m
-      × ShowsMade name v (known_after (acts.Call i map) new.changed known) (scene_after same s old new map i to.0 u to.1 said to.4)
+      × RefinesMade name v (known_after (acts.Call i map) new.changed known) (scene_after same s old new map i to.0 u to.1 said to.4)
       × (to.4.next ≡ None → (c : CallThere K V) → call_of (name i) v ≡ Some c → c.has_block ≡ false))
 
 module _ (K V : Type 0) where
   -- So it is where a call begins by a name that no call under way has,
   abbrev pub CallsBeginMade : Type 0
   CallsBeginMade =
-      (name : ℕ → List ℕ) (m : Moment K V) (known : Known) (s : Scene K V) → ShowsMade name m known s
+      (name : ℕ → List ℕ) (m : Moment K V) (known : Known) (s : Scene K V) → RefinesMade name m known s
       → (map i : ℕ) (u : UnderWay K V K) (call : Call K V) (guard : List ℕ) → NoneNamed name (name i) s → OwnsSo (machine_of u)
-      → ShowsMade name (with_call (name i) guard call (Some map) m) known (scene_with map i u s)
+      → RefinesMade name (with_call (name i) guard call (Some map) m) known (scene_with map i u s)
 
   -- as each call on one key begins,
   abbrev pub CallsBeginOwning : Type 0
@@ -79,12 +79,12 @@ module _ (K V : Type 0) where
   -- where one that asks goes on by what it is told,
   abbrev pub CallsTakeMade : Type 0
   CallsTakeMade =
-      (same : K → K → Bool) (name : ℕ → List ℕ) (m : Moment K V) (known : Known) (s : Scene K V) → ShowsWhole same name m known s → ShowsMade name m known s
+      (same : K → K → Bool) (name : ℕ → List ℕ) (m : Moment K V) (known : Known) (s : Scene K V) → RefinesWhole same name m known s → RefinesMade name m known s
       → (map i : ℕ) (u : UnderWay K V K) → s.calls map i ≡ Some u → (reply : MachineReply V) (next : UnderWay K V K) → machine_of next ≡ (machine_replied (machine_of u) reply).0
-      → (is_told : Reply V) → ShowsMade name (told (name i) is_told m) known (scene_with map i next s)
+      → (is_told : Reply V) → RefinesMade name (told (name i) is_told m) known (scene_with map i next s)
 
   -- and where one comes to an outcome: where that is its end, no call under way has its name any more.
   abbrev pub CallsComeToMade : Type 0
   CallsComeToMade =
-      (same : K → K → Bool) (name : ℕ → List ℕ) (m : Moment K V) (known : Known) (s : Scene K V) → ShowsWhole same name m known s → ShowsMade name m known s
-      → (own : List ℕ) (outcome : Outcome V) (steps : ℕ) → (ends_call outcome ≡ true → NoneNamed name own s) → ShowsMade name (come_to own outcome steps m) known s
+      (same : K → K → Bool) (name : ℕ → List ℕ) (m : Moment K V) (known : Known) (s : Scene K V) → RefinesWhole same name m known s → RefinesMade name m known s
+      → (own : List ℕ) (outcome : Outcome V) (steps : ℕ) → (ends_call outcome ≡ true → NoneNamed name own s) → RefinesMade name (come_to own outcome steps m) known s

@@ -30,7 +30,7 @@ use Rattle.run_debts.specs.Given.FinishesMaps.{with_call as with_in}
 use Rattle.run_debts.specs.Given.FollowsCalling.{NoneNamed, told, come_to}
 use Rattle.run_debts.specs.Given.HandsAsked.{given_by}
 use Rattle.owner_calls.specs.Given.LateKinds.{IsLookup}
-use Rattle.run_debts.specs.Given.MomentsWhole.{ShowsWhole}
+use Rattle.run_debts.specs.Given.MomentsWhole.{RefinesWhole}
 use Rattle.run_debts.specs.Given.OthersWalks.{given_up}
 use Rattle.run_debts.specs.Given.ScenesHeld.{Held, IsAt}
 use Rattle.run_debts.specs.Given.ScenesReplying.{AskLeads, StopLeads, scene_with, unless_stopped}
@@ -45,8 +45,8 @@ IsLooking (kinds.Reserve r) = ⊥
 IsLooking (kinds.Sweep c) = ⊥
 
 -- so is that of each call that only looks, by the moment
-abbrev pub ShowsLooking : {K V : Type 0} → (ℕ → List ℕ) → Moment K V → Scene K V → Type 0
-ShowsLooking {K} {V} name m s = (map i : ℕ) (u : UnderWay K V K) → s.calls map i ≡ Some u → (c : CallThere K V) → call_of (name i) m ≡ Some c → only_looks c.call ≡ true → IsLooking (machine_of u)
+abbrev pub RefinesLooking : {K V : Type 0} → (ℕ → List ℕ) → Moment K V → Scene K V → Type 0
+RefinesLooking {K} {V} name m s = (map i : ℕ) (u : UnderWay K V K) → s.calls map i ≡ Some u → (c : CallThere K V) → call_of (name i) m ≡ Some c → only_looks c.call ≡ true → IsLooking (machine_of u)
 
 module _ {K V : Type 0} where
   -- each of the effects finds that the call does more than look
@@ -55,30 +55,30 @@ module _ {K V : Type 0} where
 
 module _ (K V : Type 0) (same : K → K → Bool) (hash : ℕ → K → ℕ) where
   -- The promises: a step of a call has effects only if the call does more than look; and after it, whoever takes it, those that only look are as they must be.
-  abbrev pub CallsKeepLooking : Type 0
-  CallsKeepLooking =
-      (name : ℕ → List ℕ) (m : Moment K V) (known : Known) (s : Scene K V) (old new : Held K V) → IsAt same hash old s → ShowsWhole same name m known s → ShowsLooking name m s
+  abbrev pub CallsPreserveLooking : Type 0
+  CallsPreserveLooking =
+      (name : ℕ → List ℕ) (m : Moment K V) (known : Known) (s : Scene K V) (old new : Held K V) → IsAt same hash old s → RefinesWhole same name m known s → RefinesLooking name m s
       → (map i : ℕ) (u : UnderWay K V K) (here : s.calls map i ≡ Some u) (said : Progress (Node K V)) (leads : StepLeads same hash i said s old new)
       → (let to = leads map u here in
       let effects = effects_of (acts.Call i map) known new.changed in
       FindAtWork (name i) map effects m
-      × ShowsLooking name (with_effects (Some (name i)) (Some map) effects m) (scene_after same s old new map i to.0 u to.1 said to.4))
+      × RefinesLooking name (with_effects (Some (name i)) (Some map) effects m) (scene_after same s old new map i to.0 u to.1 said to.4))
 
 module _ (K V : Type 0) where
   -- So it is, too, of those that look, as a run begins,
   abbrev pub LookingBegins : Type 0
-  LookingBegins = (roots : ℕ) (name : ℕ → List ℕ) → ShowsLooking {K = K} {V = V} name start (at_first roots)
+  LookingBegins = (roots : ℕ) (name : ℕ → List ℕ) → RefinesLooking {K = K} {V = V} name start (at_first roots)
 
   -- as long as calls are as they were,
   abbrev pub StaysLooking : Type 0
-  StaysLooking = (name : ℕ → List ℕ) (m v : Moment K V) (s t : Scene K V) → ShowsLooking name m s → v.calls ≡ m.calls → t.calls ≡ s.calls → ShowsLooking name v t
+  StaysLooking = (name : ℕ → List ℕ) (m v : Moment K V) (s t : Scene K V) → RefinesLooking name m s → v.calls ≡ m.calls → t.calls ≡ s.calls → RefinesLooking name v t
 
   -- where a call begins by a name that no call under way has,
   abbrev pub CallsBeginLooking : Type 0
   CallsBeginLooking =
-      (name : ℕ → List ℕ) (m : Moment K V) (s : Scene K V) → ShowsLooking name m s
+      (name : ℕ → List ℕ) (m : Moment K V) (s : Scene K V) → RefinesLooking name m s
       → (map i : ℕ) (u : UnderWay K V K) (call : Call K V) (guard : List ℕ) → NoneNamed name (name i) s → (only_looks call ≡ true → IsLooking (machine_of u))
-      → ShowsLooking name (with_call (name i) guard call (Some map) m) (scene_with map i u s)
+      → RefinesLooking name (with_call (name i) guard call (Some map) m) (scene_with map i u s)
 
   -- as each call on one key that only looks begins,
   abbrev pub LookupsBegin : Type 0
@@ -89,27 +89,27 @@ module _ (K V : Type 0) where
   -- where one that asks goes on by what it is told,
   abbrev pub CallsTakeLooking : Type 0
   CallsTakeLooking =
-      (same : K → K → Bool) (name : ℕ → List ℕ) (m : Moment K V) (known : Known) (s : Scene K V) → ShowsWhole same name m known s → ShowsLooking name m s
+      (same : K → K → Bool) (name : ℕ → List ℕ) (m : Moment K V) (known : Known) (s : Scene K V) → RefinesWhole same name m known s → RefinesLooking name m s
       → (map i : ℕ) (u : UnderWay K V K) → s.calls map i ≡ Some u → (reply : MachineReply V) (next : UnderWay K V K) → machine_of next ≡ (machine_replied (machine_of u) reply).0
-      → (is_told : Reply V) → ShowsLooking name (told (name i) is_told m) (scene_with map i next s)
+      → (is_told : Reply V) → RefinesLooking name (told (name i) is_told m) (scene_with map i next s)
 
   -- and where one comes to an outcome.
   abbrev pub CallsComeToLooking : Type 0
   CallsComeToLooking =
-      (same : K → K → Bool) (name : ℕ → List ℕ) (m : Moment K V) (known : Known) (s : Scene K V) → ShowsWhole same name m known s → ShowsLooking name m s
-      → (own : List ℕ) (outcome : Outcome V) (steps : ℕ) → (ends_call outcome ≡ true → NoneNamed name own s) → ShowsLooking name (come_to own outcome steps m) s
+      (same : K → K → Bool) (name : ℕ → List ℕ) (m : Moment K V) (known : Known) (s : Scene K V) → RefinesWhole same name m known s → RefinesLooking name m s
+      → (own : List ℕ) (outcome : Outcome V) (steps : ℕ) → (ends_call outcome ≡ true → NoneNamed name own s) → RefinesLooking name (come_to own outcome steps m) s
 
 module _ (K V : Type 0) (same : K → K → Bool) (hash : ℕ → K → ℕ) where
   -- So it is where a walk goes on to its next pair,
-  abbrev pub WalksGoOnLooking : Type 0
-  WalksGoOnLooking =
-      (name : ℕ → List ℕ) (m : Moment K V) (s : Scene K V) (old new : Held K V) → ShowsLooking name m s
-      → (i : ℕ) (leads : AskLeads same hash i true s old new) (map : ℕ) (u : UnderWay K V K) (here : s.calls map i ≡ Some u) → ShowsLooking name m (scene_with map i (leads map u here).0 s)
+  abbrev pub WalksPreserveLooking : Type 0
+  WalksPreserveLooking =
+      (name : ℕ → List ℕ) (m : Moment K V) (s : Scene K V) (old new : Held K V) → RefinesLooking name m s
+      → (i : ℕ) (leads : AskLeads same hash i true s old new) (map : ℕ) (u : UnderWay K V K) (here : s.calls map i ≡ Some u) → RefinesLooking name m (scene_with map i (leads map u here).0 s)
 
   -- and where one is given up.
   abbrev pub WalksStopLooking : Type 0
   WalksStopLooking =
-      (name : ℕ → List ℕ) (m : Moment K V) (known : Known) (s : Scene K V) (old new : Held K V) → ShowsWhole same name m known s → ShowsLooking name m s
+      (name : ℕ → List ℕ) (m : Moment K V) (known : Known) (s : Scene K V) (old new : Held K V) → RefinesWhole same name m known s → RefinesLooking name m s
       → (i : ℕ) (stopped : Bool) → StopLeads same hash i stopped s old new → (map : ℕ) (u : UnderWay K V K) → s.calls map i ≡ Some u
       → (let after = record s { calls = with_in s.calls map i (unless_stopped stopped u) } in
-      (stopped ≡ true → NoneNamed name (name i) after) → ShowsLooking name (given_up (name i) stopped m) after)
+      (stopped ≡ true → NoneNamed name (name i) after) → RefinesLooking name (given_up (name i) stopped m) after)

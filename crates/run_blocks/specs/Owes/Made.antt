@@ -37,7 +37,7 @@ module _ (known : Known) (i : ℕ) where
   NamesBlock word = (b : ℕ) → IsItsBlock b → (word ≢ 0) × (b ≡ block_in word)
 
 -- Each call under way has a block for a pair just if the moment says so, and none but that which its machine names; and nobody else has any.
-pub record ShowsMade {K V : Type 0} (name : ℕ → List ℕ) (m : Moment K V) (known : Known) (s : Scene K V) : Type 0 where
+pub record RefinesMade {K V : Type 0} (name : ℕ → List ℕ) (m : Moment K V) (known : Known) (s : Scene K V) : Type 0 where
   pub has : (map i : ℕ) (u : UnderWay K V K) → s.calls map i ≡ Some u → (c : CallThere K V) → call_of (name i) m ≡ Some c → HasBlock known i c.has_block
   pub named : (map i : ℕ) (u : UnderWay K V K) → s.calls map i ≡ Some u → OwnsSo (machine_of u) × NamesBlock known i (own_word (machine_of u))
   pub whose : (i b : ℕ) → IsItsBlock known i b → (map : ℕ) × (u : UnderWay K V K) × (s.calls map i ≡ Some u)

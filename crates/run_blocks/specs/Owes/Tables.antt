@@ -30,8 +30,8 @@ use Rattle.run_debts.specs.Given.EffectsDeclared.role.Role.TheVariants as role
 use Rattle.run_debts.specs.Given.FinishesMachines.{machine_of}
 use Rattle.run_debts.specs.Given.FinishesMakings.{Beginning}
 use Rattle.run_debts.specs.Given.FollowsCalling.{NoneNamed, told, come_to}
-use Rattle.run_debts.specs.Given.FollowsShows.{Shows}
-use Rattle.run_debts.specs.Given.MomentsWhole.{ShowsWhole}
+use Rattle.run_debts.specs.Given.FollowsShows.{Refines}
+use Rattle.run_debts.specs.Given.MomentsWhole.{RefinesWhole}
 use Rattle.run_blocks.specs.Owes.Making.{making_of, making_in_opening}
 use Rattle.run_debts.specs.Given.ScenesHeld.{Held, IsAt}
 use Rattle.run_debts.specs.Given.ScenesReplying.{scene_with}
@@ -66,7 +66,7 @@ module _ {K V : Type 0} (s : Scene K V) where
   HoldsTable i b = IsOfCall i b ⊎ IsOfMaker i b
 
 -- Each call under way has the table that its machine has made, if any; and each block that is noted as a table which is not linked is one of a call's, or of a making's.
-pub record ShowsTables {K V : Type 0} (name : ℕ → List ℕ) (m : Moment K V) (known : Known) (s : Scene K V) : Type 0 where
+pub record RefinesOwnTables {K V : Type 0} (name : ℕ → List ℕ) (m : Moment K V) (known : Known) (s : Scene K V) : Type 0 where
   pub tables : (map i : ℕ) (u : UnderWay K V K) → s.calls map i ≡ Some u → (c : CallThere K V) → call_of (name i) m ≡ Some c
       → c.table ≡ option_map (of_map map) (table_made (making_of (machine_of u)))
   pub whose : (b turn : ℕ) (shape : TableShape) → known.roles b ≡ role.OwnTable turn shape → (i : ℕ) × HoldsTable s i b
@@ -84,41 +84,41 @@ module _ {K V : Type 0} where
 
 module _ (K V : Type 0) (same : K → K → Bool) (hash : ℕ → K → ℕ) where
   -- The promise: the effects of a step of a call find the call's table as they must, it is so after the step, whoever takes it, and a call that has ended by it has none.
-  abbrev pub CallsKeepTables : Type 0
-  CallsKeepTables =
-      (name : ℕ → List ℕ) (m : Moment K V) (known : Known) (s : Scene K V) (old new : Held K V) → IsAt same hash old s → ShowsWhole same name m known s → ShowsTables name m known s
+  abbrev pub CallsPreserveOwnTables : Type 0
+  CallsPreserveOwnTables =
+      (name : ℕ → List ℕ) (m : Moment K V) (known : Known) (s : Scene K V) (old new : Held K V) → IsAt same hash old s → RefinesWhole same name m known s → RefinesOwnTables name m known s
       → (map i : ℕ) (u : UnderWay K V K) (here : s.calls map i ≡ Some u) (said : Progress (Node K V)) (leads : StepLeads same hash i said s old new)
       → (let to = leads map u here in
       let effects = effects_of (acts.Call i map) known new.changed in
       let v = with_effects (Some (name i)) (Some map) effects m in
       FindTables (name i) map effects m
-      × ShowsTables name v (known_after (acts.Call i map) new.changed known) (scene_after same s old new map i to.0 u to.1 said to.4)
+      × RefinesOwnTables name v (known_after (acts.Call i map) new.changed known) (scene_after same s old new map i to.0 u to.1 said to.4)
       × (to.4.next ≡ None → (c : CallThere K V) → call_of (name i) v ≡ Some c → c.table ≡ None))
 
 module _ (K V : Type 0) (same : K → K → Bool) (hash : ℕ → K → ℕ) where
   -- So it is where a call begins by a name that no call under way has: what is held has such a scene before it and after it, and the moment shows both,
   abbrev pub CallsBeginTables : Type 0
   CallsBeginTables =
-      (name : ℕ → List ℕ) (m : Moment K V) (known : Known) (s : Scene K V) (old new : Held K V) → IsAt same hash old s → ShowsWhole same name m known s → ShowsTables name m known s
+      (name : ℕ → List ℕ) (m : Moment K V) (known : Known) (s : Scene K V) (old new : Held K V) → IsAt same hash old s → RefinesWhole same name m known s → RefinesOwnTables name m known s
       → (map i : ℕ) (u : UnderWay K V K) (call : Call K V) (guard : List ℕ) → NoneNamed name (name i) s → IsAt same hash new (scene_with map i u s)
-      → Shows same name (with_call (name i) guard call (Some map) m) known (scene_with map i u s) → ShowsTables name (with_call (name i) guard call (Some map) m) known (scene_with map i u s)
+      → Refines same name (with_call (name i) guard call (Some map) m) known (scene_with map i u s) → RefinesOwnTables name (with_call (name i) guard call (Some map) m) known (scene_with map i u s)
 
   -- where one that asks goes on by what it is told,
   abbrev pub CallsTakeTables : Type 0
   CallsTakeTables =
-      (name : ℕ → List ℕ) (m : Moment K V) (known : Known) (s : Scene K V) (old new : Held K V) → IsAt same hash old s → ShowsWhole same name m known s → ShowsTables name m known s
+      (name : ℕ → List ℕ) (m : Moment K V) (known : Known) (s : Scene K V) (old new : Held K V) → IsAt same hash old s → RefinesWhole same name m known s → RefinesOwnTables name m known s
       → (map i : ℕ) (u : UnderWay K V K) → s.calls map i ≡ Some u → (reply : MachineReply V) (next : UnderWay K V K) → machine_of next ≡ (machine_replied (machine_of u) reply).0
-      → (is_told : Reply V) → IsAt same hash new (scene_with map i next s) → Shows same name (told (name i) is_told m) known (scene_with map i next s)
-      → ShowsTables name (told (name i) is_told m) known (scene_with map i next s)
+      → (is_told : Reply V) → IsAt same hash new (scene_with map i next s) → Refines same name (told (name i) is_told m) known (scene_with map i next s)
+      → RefinesOwnTables name (told (name i) is_told m) known (scene_with map i next s)
 
 -- and where one comes to an outcome.
 abbrev pub CallsComeToTables : Type 0 → Type 0 → Type 0
 CallsComeToTables K V =
-    (same : K → K → Bool) (name : ℕ → List ℕ) (m : Moment K V) (known : Known) (s : Scene K V) → ShowsWhole same name m known s → ShowsTables name m known s
-    → (own : List ℕ) (outcome : Outcome V) (steps : ℕ) → (ends_call outcome ≡ true → NoneNamed name own s) → ShowsTables name (come_to own outcome steps m) known s
+    (same : K → K → Bool) (name : ℕ → List ℕ) (m : Moment K V) (known : Known) (s : Scene K V) → RefinesWhole same name m known s → RefinesOwnTables name m known s
+    → (own : List ℕ) (outcome : Outcome V) (steps : ℕ) → (ends_call outcome ≡ true → NoneNamed name own s) → RefinesOwnTables name (come_to own outcome steps m) known s
 
 -- So each block that is noted as a table of somebody's own is in the hands of the one who makes it.
 abbrev pub TablesAreMade : (K V : Type 0) (same : K → K → Bool) (hash : ℕ → K → ℕ) → Type 0
 TablesAreMade K V same hash =
-    (name : ℕ → List ℕ) (m : Moment K V) (known : Known) (s : Scene K V) (e : Held K V) → IsAt same hash e s → Shows same name m known s → ShowsTables name m known s
+    (name : ℕ → List ℕ) (m : Moment K V) (known : Known) (s : Scene K V) (e : Held K V) → IsAt same hash e s → Refines same name m known s → RefinesOwnTables name m known s
     → (b turn : ℕ) (shape : TableShape) → known.roles b ≡ role.OwnTable turn shape → (j : ℕ) × (s.world.hand b ≡ IsMaking j)

@@ -35,7 +35,7 @@ module _ {K V : Type 0} where
   Adds removed c = (c.gained ≡ cond (removed == 0) 1 0) × (c.lost ≡ cond (removed == 0) 0 1)
 
   -- so it is of each call under way whose machine is about to count
-  abbrev pub ShowsAdds : (ℕ → List ℕ) → Moment K V → Scene K V → Type 0
-  ShowsAdds name m s =
+  abbrev pub RefinesAdds : (ℕ → List ℕ) → Moment K V → Scene K V → Type 0
+  RefinesAdds name m s =
       (of i : ℕ) (u : UnderWay K V K) → s.calls of i ≡ Some u → (removed : ℕ) → adds_of (machine_of u) ≡ Some removed
       → (c : CallThere K V) → call_of (name i) m ≡ Some c → Adds removed c

@@ -5,13 +5,13 @@ use Rattle.run_debts.specs.Given.SeizeWordsDeclared.at.At.TheVariants.{Word}
 use Rattle.run_debts.specs.Given.SchedulesMoment.{Moment}
 use Rattle.run_debts.specs.Given.FinishesMakings.{Beginning, HasMade}
 use Rattle.run_debts.specs.Given.FinishesMaps.{Standing}
-use Rattle.run_blocks.specs.Shards.Adds.{ShowsAdds}
+use Rattle.run_blocks.specs.Shards.Adds.{RefinesAdds}
 use Rattle.run_debts.specs.Given.ScenesScene.{Scene}
 
 module _ {K V : Type 0} where
   -- each shard of a map that stands says what the moment says
-  abbrev pub ShowsShards : Moment K V → Scene K V → Type 0
-  ShowsShards m s =
+  abbrev pub RefinesShards : Moment K V → Scene K V → Type 0
+  RefinesShards m s =
       (of : ℕ) (standing : Standing K) → s.maps of ≡ Some standing → (shard : ℕ) → shard ≤ standing.setting.mask
       → word_at s.world.memory (Word standing.setting.counter shard) ≡ Some (m.shards of shard)
 
@@ -27,7 +27,7 @@ module _ {K V : Type 0} where
       × (HasMade b.machine.stands → (shard : ℕ) → shard ≤ b.machine.setting.mask → word_at s.world.memory (Word b.machine.setting.counter shard) ≡ Some 0)
 
 -- The shards in the memory are those of the moment, and those of new maps are 0; and what calls are about to add is what the moment says that they have to count.
-pub record ShowsCounters {K V : Type 0} (name : ℕ → List ℕ) (m : Moment K V) (s : Scene K V) : Type 0 where
-  pub shards : ShowsShards m s
+pub record RefinesCounters {K V : Type 0} (name : ℕ → List ℕ) (m : Moment K V) (s : Scene K V) : Type 0 where
+  pub shards : RefinesShards m s
   pub makes : MakesUncounted m s
-  pub adds : ShowsAdds name m s
+  pub adds : RefinesAdds name m s

@@ -14,11 +14,11 @@ use Rattle.owner_facts.specs.Given.CallersOverAll.{CallOverAll}
 use Rattle.owner_facts.specs.Given.CallersRooms.{CallForRoom}
 use Rattle.owner_facts.specs.Given.CallersTogether.{CallOnKey, UnderWay, OnKey, ForRoom, Counting, OverAll}
 use Rattle.run_places.specs.Given.EffectsKnown.{Known}
-use Rattle.run_places.specs.Given.FollowsShows.{Shows}
+use Rattle.run_places.specs.Given.FollowsShows.{Refines}
 use Rattle.run_places.proofs.Given.FollowsSteps.{went_to, made_so, DidSo, OfNoRow}
 use Rattle.run_places.proofs.Spots.Steps.{stayed_calm}
-use Rattle.run_debts.specs.Hand.{in_hand, NotesInHand}
-use Rattle.run_debts.specs.Owed.{HandGoes, CallsGoInHand}
+use Rattle.run_debts.specs.Hand.{in_hand, NotesPending}
+use Rattle.run_debts.specs.Owed.{PendingGoes, CallsMovePending}
 use Rattle.run_debts.specs.Owing.{KeepsOwed}
 use Rattle.run_debts.proofs.Hand.KeyCopies.{key_copies}
 use Rattle.run_debts.proofs.Hand.Keys.{keys_go_in_hand}
@@ -37,7 +37,7 @@ copies_or_not (at.Copies copier) = inl tt
 copies_or_not _ = inr (λ copies. copies)
 
 module _ {K V : Type 0} (same : K → K → Bool) (hash : ℕ → K → ℕ) (name : ℕ → List ℕ) (m : Moment K V) (known : Known) (s : Scene K V) (old new : Held K V) (at_old : IsAt same hash old s)
-    (shown : Shows same name m known s) (map i : ℕ) (u : UnderWay K V K) (under_way : s.calls map i ≡ Some u) (said : Progress (Node K V)) (leads : StepLeads same hash i said s old new) where
+    (shown : Refines same name m known s) (map i : ℕ) (u : UnderWay K V K) (under_way : s.calls map i ≡ Some u) (said : Progress (Node K V)) (leads : StepLeads same hash i said s old new) where
   abbrev Did : UnderWay K V K → Type 0
   Did x = DidSo same hash name m known s old new at_old shown map i u under_way said leads x
 
@@ -68,10 +68,10 @@ module _ {K V : Type 0} (same : K → K → Bool) (hash : ℕ → K → ℕ) (na
   sweep_rests x (p2, end, machine_is, told_is, inr row) own = absurd own
 
 module _ (K V : Type 0) (same : K → K → Bool) (hash : ℕ → K → ℕ) where
-  pub calls_go_in_hand : CallsGoInHand K V same hash
+  pub calls_go_in_hand : CallsMovePending K V same hash
   calls_go_in_hand name m known s old new at_old shown rows entries owning map i (OnKey x) here said leads notes =
-      elim (own_or_row same hash name m known s old new at_old shown map i (OnKey x) here said leads (OnKey x) did) as (λ _. HandGoes K V same hash m known s old new map i (OnKey x) said here leads) [
-        | inl own ↦ elim (copies_or_not x.call.stands) as (λ _. HandGoes K V same hash m known s old new map i (OnKey x) said here leads) [
+      elim (own_or_row same hash name m known s old new at_old shown map i (OnKey x) here said leads (OnKey x) did) as (λ _. PendingGoes K V same hash m known s old new map i (OnKey x) said here leads) [
+        | inl own ↦ elim (copies_or_not x.call.stands) as (λ _. PendingGoes K V same hash m known s old new map i (OnKey x) said here leads) [
           | inl copies ↦ key_copies same hash name m known s old new at_old shown map i x here said leads notes
               (key_rests same hash name m known s old new at_old shown map i (OnKey x) here said leads x did own) own copies
           | inr copies ↦ keys_go_in_hand K V same hash name m known s old new at_old shown map i x here said leads copies notes own
@@ -82,7 +82,7 @@ module _ (K V : Type 0) (same : K → K → Bool) (hash : ℕ → K → ℕ) whe
       did : DidSo same hash name m known s old new at_old shown map i (OnKey x) here said leads (OnKey x)
       did = (went_to same hash name m known s old new at_old shown map i (OnKey x) here said leads).4.did
   calls_go_in_hand name m known s old new at_old shown rows entries owning map i (ForRoom x) here said leads notes =
-      elim (own_or_row same hash name m known s old new at_old shown map i (ForRoom x) here said leads (ForRoom x) did) as (λ _. HandGoes K V same hash m known s old new map i (ForRoom x) said here leads) [
+      elim (own_or_row same hash name m known s old new at_old shown map i (ForRoom x) here said leads (ForRoom x) did) as (λ _. PendingGoes K V same hash m known s old new map i (ForRoom x) said here leads) [
         | inl own ↦ room_goes_on same hash name m known s old new at_old shown map i x here said leads notes
             (room_rests same hash name m known s old new at_old shown map i (ForRoom x) here said leads x did own) own
         | inr other ↦ rows_hand_over K V same hash name m known s old new at_old shown rows entries owning map i (ForRoom x) here said leads notes other
@@ -91,7 +91,7 @@ module _ (K V : Type 0) (same : K → K → Bool) (hash : ℕ → K → ℕ) whe
       did : DidSo same hash name m known s old new at_old shown map i (ForRoom x) here said leads (ForRoom x)
       did = (went_to same hash name m known s old new at_old shown map i (ForRoom x) here said leads).4.did
   calls_go_in_hand name m known s old new at_old shown rows entries owning map i (OverAll x) here said leads notes =
-      elim (own_or_row same hash name m known s old new at_old shown map i (OverAll x) here said leads (OverAll x) did) as (λ _. HandGoes K V same hash m known s old new map i (OverAll x) said here leads) [
+      elim (own_or_row same hash name m known s old new at_old shown map i (OverAll x) here said leads (OverAll x) did) as (λ _. PendingGoes K V same hash m known s old new map i (OverAll x) said here leads) [
         | inl own ↦ sweep_goes_on same hash name m known s old new at_old shown map i x here said leads notes
             (sweep_rests same hash name m known s old new at_old shown map i (OverAll x) here said leads x did own) own
         | inr other ↦ rows_hand_over K V same hash name m known s old new at_old shown rows entries owning map i (OverAll x) here said leads notes other
@@ -101,9 +101,9 @@ module _ (K V : Type 0) (same : K → K → Bool) (hash : ℕ → K → ℕ) whe
       did = (went_to same hash name m known s old new at_old shown map i (OverAll x) here said leads).4.did
   calls_go_in_hand name m known s old new at_old shown rows entries owning map i (Counting x) here said leads notes = by (went_to same hash name m known s old new at_old shown map i (Counting x) here said leads).4.did
     where
-      by : DidSo same hash name m known s old new at_old shown map i (Counting x) here said leads (Counting x) → HandGoes K V same hash m known s old new map i (Counting x) said here leads
+      by : DidSo same hash name m known s old new at_old shown map i (Counting x) here said leads (Counting x) → PendingGoes K V same hash m known s old new map i (Counting x) said here leads
       by (sum2, end, machine_is, told_is, still, stayed) =
           let to = went_to same hash name m known s old new at_old shown map i (Counting x) here said leads in
           let none : in_hand known to.1 ≡ [] = ap (in_hand known) machine_is in
           let calm = stayed_calm same hash m known s old new at_old name shown map i to.0 to.2 (name i) (made_so same hash name m known s old new at_old shown map i (Counting x) here said leads) still in
-          (KeepsOwed (all_calm _ calm.calm).0 none, subst (NotesInHand known) (sym machine_is) tt, λ ended. none)
+          (KeepsOwed (all_calm _ calm.calm).0 none, subst (NotesPending known) (sym machine_is) tt, λ ended. none)

@@ -6,9 +6,9 @@ use Rattle.run_places.specs.Given.SweepsSweepPoints.{next_at, reply_at, after_re
 use Rattle.run_places.specs.Given.ReservesDeclared.sweep.Sweep.{Sweep}
 use Rattle.run_places.specs.Given.ReservesDeclared.sweep.Sweeping.{Sweeping}
 use Rattle.run_places.specs.Given.ReservesDeclared.sweep.Sweeping.TheVariants as sweeping
-use Rattle.run_places.specs.Given.RawCallAsks.{with_absent, with_present, absent_told, present_told, told_at}
+use Rattle.run_places.specs.Given.RawCallAsks.{with_absent, with_present, absent_replied, present_replied, replied_at}
 use Rattle.run_places.specs.Given.RawCallPoints.{going, over, ending, storing, burying, at_gap}
-use Rattle.run_places.specs.Given.RawMachine.{is_ready, sweep_told, machine_replied, machine_asked}
+use Rattle.run_places.specs.Given.RawMachine.{is_ready, sweep_with_reply, machine_replied, machine_asked}
 use Rattle.run_places.specs.Given.RawDeclared.machines.answer.Called.{Called}
 use Rattle.run_places.specs.Given.RawDeclared.machines.answer.End.{End}
 use Rattle.run_places.specs.Given.RawDeclared.machines.answer.End.TheVariants as ends
@@ -30,7 +30,7 @@ use Rattle.run_places.specs.Given.RawDeclared.machines.machine.Machine.TheVarian
 use Rattle.run_places.specs.Given.TablesDeclared.marks.TheConstants.{TOMBSTONE}
 use Rattle.run_places.specs.Given.TablesDeclared.node.Node.{Node}
 use Rattle.run_places.specs.Given.EffectsKnown.{Known}
-use Rattle.run_debts.specs.Hand.{in_hand_of_call, in_hand_of_sweep, in_hand, NotesOfCall, NotesOfSweep, NotesInHand}
+use Rattle.run_debts.specs.Hand.{in_hand_of_call, in_hand_of_sweep, in_hand, NotesOfCall, NotesOfSweep, NotesPending}
 use Rattle.run_debts.specs.Owed.{WalksHaveNothing}
 
 module _ (known : Known) where
@@ -58,7 +58,7 @@ module _ (known : Known) where
 
   -- it has what it had
   abbrev pub StaysInHand : {K V : Type 0} → Machine K V K → Machine K V K → Type 0
-  StaysInHand machine machine2 = (in_hand known machine2 ≡ in_hand known machine) × (NotesInHand known machine → NotesInHand known machine2)
+  StaysInHand machine machine2 = (in_hand known machine2 ≡ in_hand known machine) × (NotesPending known machine → NotesPending known machine2)
 
   abbrev StaysSwept : Sweep → Sweep → Type 0
   StaysSwept p q = (in_hand_of_sweep known q.stands ≡ in_hand_of_sweep known p.stands) × (NotesOfSweep known p.stands → NotesOfSweep known q.stands)
@@ -69,7 +69,7 @@ module _ (known : Known) where
   asks_none : (p : Sweep) (word : ℕ) → p.stands ≡ sweeping.Asks word → NoneOfSweep p.stands
   asks_none p word is = subst NoneOfSweep (sym is) (refl, tt)
 
-  sweep_told_so : {V : Type 0} (p : Sweep) (stands : Sweeping) (told : MachineReply V) → p.stands ≡ stands → StaysSwept p (sweep_told stands p told).0
+  sweep_told_so : {V : Type 0} (p : Sweep) (stands : Sweeping) (told : MachineReply V) → p.stands ≡ stands → StaysSwept p (sweep_with_reply stands p told).0
   sweep_told_so p (sweeping.Asks word) reply.Yes is = none_swept p (after_reply p true) (asks_none p word is) (replied_none p true word is)
   sweep_told_so p (sweeping.Asks word) reply.No is = none_swept p (after_reply p false) (asks_none p word is) (replied_none p false word is)
   sweep_told_so p _ told is = (refl, λ notes. notes)
@@ -104,14 +104,14 @@ module _ (known : Known) where
     gap_none p gaps.Past = (refl, tt)
     gap_none p gaps.Last = (refl, tt)
 
-    absent_none : (t : Takes) (p : KeyCall K V K) (gap : Gap) (told : MachineReply V) → NoneInHand p → NoneInHand (absent_told t p gap told).0
+    absent_none : (t : Takes) (p : KeyCall K V K) (gap : Gap) (told : MachineReply V) → NoneInHand p → NoneInHand (absent_replied t p gap told).0
     absent_none takes.Values p gap (reply.Insert value) none = gap_none (with_absent p value) gap
     absent_none takes.Changes p gap (reply.Insert value) none = gap_none (with_absent p value) gap
     absent_none takes.Changes p gap reply.Remove none = ending_none p _
     absent_none takes.Changes p gap reply.Abort none = ending_none p (ends.Answered answers.Absent)
     absent_none _ p gap told none = none
 
-    present_none : (t : Takes) (p : KeyCall K V K) (word : ℕ) (told : MachineReply V) → NoneInHand p → NoneInHand (present_told t p word told).0
+    present_none : (t : Takes) (p : KeyCall K V K) (word : ℕ) (told : MachineReply V) → NoneInHand p → NoneInHand (present_replied t p word told).0
     present_none takes.Values p word (reply.Insert value) none = (refl, tt)
     present_none takes.Changes p word (reply.Insert value) none = (refl, tt)
     present_none takes.Changes p word reply.Remove none = burying_none (with_present p word tells.Removes) word
@@ -126,13 +126,13 @@ module _ (known : Known) where
     none_called : (p q : KeyCall K V K) → NoneInHand p → NoneInHand q → StaysCalled p q
     none_called p q before after = (after.0 ∙ sym before.0, λ notes. after.1)
 
-    key_told : (p : KeyCall K V K) (stands : Calling) (told : MachineReply V) → p.stands ≡ stands → StaysCalled p (told_at stands p told).0
+    key_told : (p : KeyCall K V K) (stands : Calling) (told : MachineReply V) → p.stands ≡ stands → StaysCalled p (replied_at stands p told).0
     key_told p (at.Asks (asking.Absent gap)) told is =
         let none : NoneInHand p = subst NoneOfCall (sym is) (refl, tt) in
-        none_called p (absent_told p.replies.takes p gap told).0 none (absent_none p.replies.takes p gap told none)
+        none_called p (absent_replied p.replies.takes p gap told).0 none (absent_none p.replies.takes p gap told none)
     key_told p (at.Asks (asking.Present word)) told is =
         let none : NoneInHand p = subst NoneOfCall (sym is) (refl, tt) in
-        none_called p (present_told p.replies.takes p word told).0 none (present_none p.replies.takes p word told none)
+        none_called p (present_replied p.replies.takes p word told).0 none (present_none p.replies.takes p word told none)
     key_told p _ told is = (refl, λ notes. notes)
 
     pub told_stays : (machine : Machine K V K) (told : MachineReply V) → StaysInHand machine (machine_replied machine told).0

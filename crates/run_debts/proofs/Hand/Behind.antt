@@ -52,7 +52,7 @@ use Rattle.run_places.proofs.Given.RuleKeys.Always.{AlwaysOf, always_plan_as}
 use Rattle.owner_facts.specs.Given.PointsTold.{IsRowOf, IsRowOfCopier, IsRowOfCall}
 use Rattle.owner_facts.specs.Given.LateToldReserves.{IsRowOfReserve}
 use Rattle.owner_facts.specs.Given.LateToldSweeps.{IsRowOfSweep}
-use Rattle.run_debts.specs.Due.{Due, ToPut, word_due, due_in_settle, due_in_disposing, due_in_copying, due_in_calling, due_in_reserving, due_in_sweeping}
+use Rattle.run_debts.specs.Due.{RowObligation, ToPut, word_due, due_in_settle, due_in_disposing, due_in_copying, due_in_calling, due_in_reserving, due_in_sweeping}
 use Rattle.run_debts.specs.Hand.{things_at, tables_from, tables_in_hand, in_hand_of_call, in_hand_of_room, in_hand_of_sweep, IsPairRole, NotesPair, NotesDue, NotesTable, NotesTables, NotesOfCall, NotesOfRoom, NotesOfSweep}
 use Rattle.run_debts.specs.InHand.{pair_in_disposing}
 use Rattle.run_debts.proofs.DueRows.{GoesOn}
@@ -62,7 +62,7 @@ use Rattle.run_debts.proofs.Passed.{GoesBehind, retired_behind}
 use Rattle.run_places.specs.Given.ScenesStepping.{has_ended}
 
 -- what a row is to hand over it has still, or has none of any more
-abbrev pub GoesDue : Option Due → Option Due → Type 0
+abbrev pub GoesDue : Option RowObligation → Option RowObligation → Type 0
 GoesDue before after = (after ≡ before) ⊎ (after ≡ None)
 
 -- a row that retires a block puts none behind another
@@ -114,21 +114,21 @@ module _ (K V : Type 0) where
 
 module _ (known : Known) where
   -- what is so of a pair alone
-  alone_behind : (o : Option ℕ) (due : Option Due) → o ≡ word_due due → things_at known o ≡ things_at known (word_due due) ++ []
+  alone_behind : (o : Option ℕ) (due : Option RowObligation) → o ≡ word_due due → things_at known o ≡ things_at known (word_due due) ++ []
   alone_behind o due is = ap (things_at known) is ∙ sym (append-nil (things_at known (word_due due)))
 
-  pair_noted : (o o2 : Option ℕ) (due due2 : Option Due) → o ≡ word_due due → o2 ≡ word_due due2 → NotesPair known o → GoesDue due due2 → NotesPair known o2
+  pair_noted : (o o2 : Option ℕ) (due due2 : Option RowObligation) → o ≡ word_due due → o2 ≡ word_due due2 → NotesPair known o → GoesDue due due2 → NotesPair known o2
   pair_noted o o2 due due2 is is2 noted (inl same) = subst (NotesPair known) (sym (is2 ∙ ap word_due same ∙ sym is)) noted
   pair_noted o o2 due due2 is is2 noted (inr none) = subst (NotesPair known) (sym (is2 ∙ ap word_due none)) tt
 
-  due_noted : (due due2 : Option Due) → NotesDue known (word_due due) → GoesDue due due2 → NotesDue known (word_due due2)
-  due_noted due due2 noted (inl same) = subst (λ (d : Option Due). NotesDue known (word_due d)) (sym same) noted
-  due_noted due due2 noted (inr none) = subst (λ (d : Option Due). NotesDue known (word_due d)) (sym none) tt
+  due_noted : (due due2 : Option RowObligation) → NotesDue known (word_due due) → GoesDue due due2 → NotesDue known (word_due due2)
+  due_noted due due2 noted (inl same) = subst (λ (d : Option RowObligation). NotesDue known (word_due d)) (sym same) noted
+  due_noted due due2 noted (inr none) = subst (λ (d : Option RowObligation). NotesDue known (word_due d)) (sym none) tt
 
   -- what is put behind another block is a pair
   disposal_puts : (d : Dispose) (p : Disposing) → NotesPair known (pair_in_disposing d p) → (word : ℕ) (place : At) → due_in_disposing p ≡ Some (ToPut word place) → IsPairRole (named known word)
   disposal_puts d (disposing.Settles settle) notes word place e = absurd (settle_puts settle settle.stands word place e)
-  disposal_puts d (disposing.Defers defer) notes word place e = subst (λ (due : Option Due). NotesPair known (word_due due)) e notes
+  disposal_puts d (disposing.Defers defer) notes word place e = subst (λ (due : Option RowObligation). NotesPair known (word_due due)) e notes
   disposal_puts d disposing.Reads notes word place e = absurd (cc e)
   disposal_puts d (disposing.Walks table) notes word place e = absurd (cc e)
   disposal_puts d disposing.Over notes word place e = absurd (cc e)
@@ -296,7 +296,7 @@ module _ {K : Type 0} (V : Type 0) (known : Known) (hash : K → ℕ) (x : Sweep
   sweep_disposed d row noted (d2, settled.Waits) alone = let it = dispose_keeps known d row noted d2 alone in (it.0, it.1, λ e. absurd (cc e))
   sweep_disposed d row noted (d2, settled.Gave value) alone = let it = dispose_keeps known d row noted d2 alone in (it.0, it.1, λ e. absurd (cc e))
   sweep_disposed d row noted (d2, settled.Done) alone = (
-    Behind [] (alone_before known d row noted) ((further_none known x).0 ∙ sym (ap (λ (due : Option Due). things_at known (word_due due) ++ []) (further_none known x).1)),
+    Behind [] (alone_before known d row noted) ((further_none known x).0 ∙ sym (ap (λ (due : Option RowObligation). things_at known (word_due due) ++ []) (further_none known x).1)),
     λ goes. (further_none known x).2,
     λ e. (further_none known x).0,
   )

@@ -7,24 +7,24 @@ use Rattle.run_places.specs.Given.RawDeclared.machines.machine.Machine.{Machine}
 use Rattle.run_places.specs.Given.RunsDeclared.call.Reply.{Reply}
 use Rattle.run_places.specs.Given.RunsDeclared.outcome.Outcome.{Outcome}
 use Rattle.run_places.specs.Given.RunsDeclared.outcome.Outcome.TheVariants as outcome
-use Rattle.run_places.specs.Given.SchedulesAfter.{asks_on, comes_to, replied, without_call}
+use Rattle.run_places.specs.Given.SchedulesAfter.{asks_on, with_outcome, replied, without_call}
 use Rattle.run_places.specs.Given.SchedulesBeginning.{fresh_call, with_call}
 use Rattle.run_places.specs.Given.SchedulesEntry.{ends_call}
-use Rattle.run_places.specs.Given.SchedulesMoment.{Stands, Going, Asking, Told as WasTold, IsReady, UnderWay as CallThere, Moment}
+use Rattle.run_places.specs.Given.SchedulesMoment.{CallState, Going, Asking, Told as WasTold, IsReady, UnderWay as CallThere, Moment}
 use Rattle.run_places.specs.Given.SchedulesViews.{call_of}
 use Rattle.owner_facts.specs.Given.CallersTogether.{UnderWay}
 use Rattle.run_places.specs.Given.EffectsKnown.{Known}
 use Rattle.owner_facts.specs.Given.FinishesMachines.{machine_of}
 use Rattle.owner_facts.specs.Given.FinishesMaps.{with_call as with_in}
 use Rattle.run_places.specs.Given.FollowsCalling.{NoneNamed}
-use Rattle.run_places.specs.Given.FollowsCalls.{ShowsCalls}
+use Rattle.run_places.specs.Given.FollowsCalls.{RefinesCalls}
 use Rattle.run_places.proofs.Given.FollowsCalling.{is_same_refl, apart_back, found_kept, come, come_of_same, replied_same}
 use Rattle.run_places.proofs.Given.FollowsCalls.{IsOfSame, changed, found}
 use Rattle.run_places.proofs.Hands.Asking.{which}
 use Rattle.run_places.proofs.Hands.Calling.{caller_is}
 use Rattle.run_places.specs.Given.OthersWalks.{given_up}
-use Rattle.run_debts.specs.Hand.{in_hand, NotesInHand, ShowsOwed}
-use Rattle.run_debts.specs.Owed.{OwedBegins, StaysOwed, EffectsLeaveOwed, CallsBeginOwed, CallsTakeOwed, CallsComeToOwed, WalksGoOnOwed, WalksStopOwed}
+use Rattle.run_debts.specs.Hand.{in_hand, NotesPending, RefinesObligations}
+use Rattle.run_debts.specs.Owed.{ObligationsBegin, ObligationsStay, EffectsLeaveObligations, CallsBeginObligations, CallsTakeObligations, OutcomesPreserveObligations, WalksPreserveObligations, WalksStopObligations}
 use Rattle.run_debts.proofs.Gains.{none_changed}
 use Rattle.run_debts.proofs.Hand.Asked.{told_stays, asked_stays}
 use Rattle.run_debts.proofs.Hand.Roles.{hand_same, hand_noted}
@@ -32,11 +32,11 @@ use Rattle.run_places.specs.Given.ScenesScene.{Scene}
 use Rattle.run_places.proofs.Given.General.{same_some as one_of}
 
 -- As a run begins there is no call.
-pub owed_begins : (K V : Type 0) → OwedBegins K V
+pub owed_begins : (K V : Type 0) → ObligationsBegin K V
 owed_begins K V roots name = record { owed = λ map i u is c c_is. absurd (cc is); noted = λ map i u is. absurd (cc is) }
 
 -- So it is as long as calls are as they were, and what they have in hand.
-pub stays_owed : (K V : Type 0) → StaysOwed K V
+pub stays_owed : (K V : Type 0) → ObligationsStay K V
 stays_owed K V name m v known known2 s t shows same under_way in_hand_same = record { owed = owes_then; noted = λ n j x is. hand_noted known known2 (machine_of x) (in_hand_same n j x (was n j x is)) (shows.noted n j x (was n j x is)) }
   where
     was : (n j : ℕ) (x : UnderWay K V K) → t.calls n j ≡ Some x → s.calls n j ≡ Some x
@@ -47,11 +47,11 @@ stays_owed K V name m v known known2 s t shows same under_way in_hand_same = rec
         shows.owed n j x (was n j x is) c (ap (λ (l : List (CallThere K V)). find (λ y. is_same y.caller (name j)) l) (sym same) ∙ c_is)
         ∙ sym (hand_same known known2 (machine_of x) (in_hand_same n j x (was n j x is)))
 
-pub effects_leave_owed : (K V : Type 0) → EffectsLeaveOwed K V
+pub effects_leave_owed : (K V : Type 0) → EffectsLeaveObligations K V
 effects_leave_owed K V name m known known2 s t shows under_way in_hand_same acted effects = stays_owed K V name m _ known known2 s t shows (none_changed acted effects m) under_way in_hand_same
 
 -- where a call begins that has nothing in hand
-pub calls_begin_owed : (K V : Type 0) → CallsBeginOwed K V
+pub calls_begin_owed : (K V : Type 0) → CallsBeginObligations K V
 calls_begin_owed K V name m known s shows of i u call guard apart none = record { owed = begun; noted = notes }
   where
     fresh : CallThere K V
@@ -79,27 +79,27 @@ calls_begin_owed K V name m known s shows of i u call guard apart none = record 
       | inr was ↦ shows.owed n j x was.1 c (sym (beside j (apart n j x was.1)) ∙ c_is)
     ]
 
-    notes : (n j : ℕ) (x : UnderWay K V K) → with_in s.calls of i (Some u) n j ≡ Some x → NotesInHand known (machine_of x)
-    notes n j x is = elim (which s.calls of i (Some u) n j x is) as (λ _. NotesInHand known (machine_of x)) [
-      | inl it ↦ subst (λ (z : UnderWay K V K). NotesInHand known (machine_of z)) (one_of u x it.2) (none known).1
+    notes : (n j : ℕ) (x : UnderWay K V K) → with_in s.calls of i (Some u) n j ≡ Some x → NotesPending known (machine_of x)
+    notes n j x is = elim (which s.calls of i (Some u) n j x is) as (λ _. NotesPending known (machine_of x)) [
+      | inl it ↦ subst (λ (z : UnderWay K V K). NotesPending known (machine_of z)) (one_of u x it.2) (none known).1
       | inr was ↦ shows.noted n j x was.1
     ]
 
 module _ {K V : Type 0} where
   -- what a call is told, and what it comes to, leaves it owing as much
-  replied_owes : (reply : Reply V) (c : CallThere K V) (stands : Stands) → (replied reply c stands).owes ≡ c.owes
+  replied_owes : (reply : Reply V) (c : CallThere K V) (stands : CallState) → (replied reply c stands).owes ≡ c.owes
   replied_owes reply c Going = refl
   replied_owes reply c (Asking q) = refl
   replied_owes reply c WasTold = refl
   replied_owes reply c IsReady = refl
 
-  asks_owes : (question : Option ℕ) (c : CallThere K V) (stands : Stands) → (asks_on question c stands).owes ≡ c.owes
+  asks_owes : (question : Option ℕ) (c : CallThere K V) (stands : CallState) → (asks_on question c stands).owes ≡ c.owes
   asks_owes question c Going = refl
   asks_owes question c (Asking q) = refl
   asks_owes question c WasTold = refl
   asks_owes question c IsReady = refl
 
-  comes_owes : (o : Outcome V) (c : CallThere K V) → (comes_to o c).owes ≡ c.owes
+  comes_owes : (o : Outcome V) (c : CallThere K V) → (with_outcome o c).owes ≡ c.owes
   comes_owes outcome.Done c = refl
   comes_owes (outcome.Slot n) c = refl
   comes_owes outcome.Goes c = refl
@@ -131,7 +131,7 @@ module _ {K V : Type 0} where
         ap (λ (x : CallThere K V). x.owes) (one_of d (changed change same own c) (sym there ∙ now)) ∙ changed_owes c
 
 -- where one that asks is told a reply
-pub calls_take_owed : (K V : Type 0) → CallsTakeOwed K V
+pub calls_take_owed : (K V : Type 0) → CallsTakeObligations K V
 calls_take_owed K V same name m known s whole shows of i u here reply next is is_told = record { owed = then_owes; noted = notes }
   where
     change : CallThere K V → CallThere K V
@@ -158,16 +158,16 @@ calls_take_owed K V same name m known s whole shows of i u here reply next is is
           has j c.0 d c.1 d_is ∙ shows.owed n j x was.1 c.0 c.1
     ]
 
-    notes : (n j : ℕ) (x : UnderWay K V K) → with_in s.calls of i (Some next) n j ≡ Some x → NotesInHand known (machine_of x)
-    notes n j x there = elim (which s.calls of i (Some next) n j x there) as (λ _. NotesInHand known (machine_of x)) [
-      | inl it ↦ subst (λ (z : Machine K V K). NotesInHand known z) (sym (its x it.2)) ((told_stays known (machine_of u) reply).1 (shows.noted of i u here))
+    notes : (n j : ℕ) (x : UnderWay K V K) → with_in s.calls of i (Some next) n j ≡ Some x → NotesPending known (machine_of x)
+    notes n j x there = elim (which s.calls of i (Some next) n j x there) as (λ _. NotesPending known (machine_of x)) [
+      | inl it ↦ subst (λ (z : Machine K V K). NotesPending known z) (sym (its x it.2)) ((told_stays known (machine_of u) reply).1 (shows.noted of i u here))
       | inr was ↦ shows.noted n j x was.1
     ]
 
 -- where one comes to an outcome
-module _ {K V : Type 0} (same : K → K → Bool) (name : ℕ → List ℕ) (m v : Moment K V) (known : Known) (s : Scene K V) (shown : ShowsCalls same name m s.calls) (shows : ShowsOwed name m known s) where
+module _ {K V : Type 0} (same : K → K → Bool) (name : ℕ → List ℕ) (m v : Moment K V) (known : Known) (s : Scene K V) (shown : RefinesCalls same name m s.calls) (shows : RefinesObligations name m known s) where
   -- the calls that are under way are there, but for that of this name
-  fewer_owe : (own : List ℕ) → NoneNamed name own s → v.calls ≡ without_call own m.calls → ShowsOwed name v known s
+  fewer_owe : (own : List ℕ) → NoneNamed name own s → v.calls ≡ without_call own m.calls → RefinesObligations name v known s
   fewer_owe own apart calls_are = record { owed = owes_still; noted = shows.noted }
     where
       owes_still : (n j : ℕ) (x : UnderWay K V K) → s.calls n j ≡ Some x → (d : CallThere K V) → call_of (name j) v ≡ Some d → d.owes ≡ in_hand known (machine_of x)
@@ -179,21 +179,21 @@ module _ {K V : Type 0} (same : K → K → Bool) (name : ℕ → List ℕ) (m v
           subst (λ (z : CallThere K V). z.owes ≡ in_hand known (machine_of x)) (one_of there.0 d (sym found_now ∙ d_is)) (shows.owed n j x is there.0 there.1)
 
   changed_owe : (change : CallThere K V → CallThere K V) (is_of : (c : CallThere K V) → IsOfSame c (change c)) → ((c : CallThere K V) → (change c).owes ≡ c.owes) → (own : List ℕ)
-      → v.calls ≡ map (changed change is_of own) m.calls → ShowsOwed name v known s
+      → v.calls ≡ map (changed change is_of own) m.calls → RefinesObligations name v known s
   changed_owe change is_of keeps own calls_are = record {
     owed = λ n j x is d d_is. (let there = shown n j x is in owes_changed change is_of keeps own name m v calls_are j there.0 d there.1 d_is ∙ shows.owed n j x is there.0 there.1);
     noted = shows.noted;
   }
 
-pub calls_come_to_owed : (K V : Type 0) → CallsComeToOwed K V
+pub calls_come_to_owed : (K V : Type 0) → OutcomesPreserveObligations K V
 calls_come_to_owed K V same name m known s whole shows own o steps ended = by (ends_call o) refl
   where
-    by : (q : Bool) → ends_call o ≡ q → ShowsOwed name (record m { calls = if q then without_call own m.calls else map (λ c. if is_same c.caller own then come o steps c else c) m.calls }) known s
+    by : (q : Bool) → ends_call o ≡ q → RefinesObligations name (record m { calls = if q then without_call own m.calls else map (λ c. if is_same c.caller own then come o steps c else c) m.calls }) known s
     by true e = fewer_owe same name m _ known s whole.all.shown.calls shows own (ended e) refl
     by false e = changed_owe same name m _ known s whole.all.shown.calls shows (come o steps) (come_of_same o steps) (come_owes o steps) own refl
 
 -- a walk goes on to its next pair
-pub walks_go_on_owed : (K V : Type 0) (same : K → K → Bool) (hash : ℕ → K → ℕ) → WalksGoOnOwed K V same hash
+pub walks_go_on_owed : (K V : Type 0) (same : K → K → Bool) (hash : ℕ → K → ℕ) → WalksPreserveObligations K V same hash
 walks_go_on_owed K V same hash name m known s old new shows i leads of u here = record { owed = then_owes; noted = notes }
   where
     next : UnderWay K V K
@@ -210,14 +210,14 @@ walks_go_on_owed K V same hash name m known s old new shows i leads of u here = 
       | inr was ↦ shows.owed n j x was.1 d d_is
     ]
 
-    notes : (n j : ℕ) (x : UnderWay K V K) → with_in s.calls of i (Some next) n j ≡ Some x → NotesInHand known (machine_of x)
-    notes n j x there = elim (which s.calls of i (Some next) n j x there) as (λ _. NotesInHand known (machine_of x)) [
-      | inl it ↦ subst (λ (z : Machine K V K). NotesInHand known z) (sym (its x it.2)) ((asked_stays known (machine_of u)).1 (shows.noted of i u here))
+    notes : (n j : ℕ) (x : UnderWay K V K) → with_in s.calls of i (Some next) n j ≡ Some x → NotesPending known (machine_of x)
+    notes n j x there = elim (which s.calls of i (Some next) n j x there) as (λ _. NotesPending known (machine_of x)) [
+      | inl it ↦ subst (λ (z : Machine K V K). NotesPending known z) (sym (its x it.2)) ((asked_stays known (machine_of u)).1 (shows.noted of i u here))
       | inr was ↦ shows.noted n j x was.1
     ]
 
 -- or is given up
-pub walks_stop_owed : (K V : Type 0) (same : K → K → Bool) (hash : ℕ → K → ℕ) → WalksStopOwed K V same hash
+pub walks_stop_owed : (K V : Type 0) (same : K → K → Bool) (hash : ℕ → K → ℕ) → WalksStopObligations K V same hash
 walks_stop_owed K V same hash name m known s old new shown shows i true leads of u here apart = record { owed = left; noted = λ n j x is. shows.noted n j x (was n j x is) }
   where
     after : Scene K V
@@ -245,8 +245,8 @@ walks_stop_owed K V same hash name m known s old new shown shows i false leads o
       | inr was ↦ shows.owed n j x was.1 d d_is
     ]
 
-    notes : (n j : ℕ) (x : UnderWay K V K) → with_in s.calls of i (Some u) n j ≡ Some x → NotesInHand known (machine_of x)
-    notes n j x is = elim (which s.calls of i (Some u) n j x is) as (λ _. NotesInHand known (machine_of x)) [
-      | inl it ↦ subst (λ (z : UnderWay K V K). NotesInHand known (machine_of z)) (one_of u x it.2) (shows.noted of i u here)
+    notes : (n j : ℕ) (x : UnderWay K V K) → with_in s.calls of i (Some u) n j ≡ Some x → NotesPending known (machine_of x)
+    notes n j x is = elim (which s.calls of i (Some u) n j x is) as (λ _. NotesPending known (machine_of x)) [
+      | inl it ↦ subst (λ (z : UnderWay K V K). NotesPending known (machine_of z)) (one_of u x it.2) (shows.noted of i u here)
       | inr was ↦ shows.noted n j x was.1
     ]

@@ -17,16 +17,16 @@ use Rattle.run_places.specs.Given.EffectsKnown.{Known}
 use Rattle.run_places.specs.Given.EffectsDeclared.acting.Acting.TheVariants as acts
 use Rattle.owner_facts.specs.Given.FinishesMachines.{machine_of}
 use Rattle.run_places.specs.Given.FollowsCalls.{IsCalled}
-use Rattle.run_places.specs.Given.FollowsShows.{Shows}
+use Rattle.run_places.specs.Given.FollowsShows.{Refines}
 use Rattle.run_places.proofs.Given.FollowsOnward.{KeepsRoles}
 use Rattle.run_places.proofs.Given.FollowsSteps.{WentTo, went_to}
 use Rattle.run_places.proofs.Hands.Asking.{which}
 use Rattle.run_places.proofs.Hands.Calling.{caller_is}
 use Rattle.run_places.proofs.Changes.Steps.{led_on}
-use Rattle.run_places.specs.Moments.Whole.{ShowsWhole}
-use Rattle.run_debts.specs.Hand.{in_hand, NotesInHand, ShowsOwed}
-use Rattle.run_debts.specs.Owed.{HandGoes, CallsKeepOwed}
-use Rattle.run_debts.specs.Owing.{OwesGo, FindsOwed}
+use Rattle.run_places.specs.Moments.Whole.{RefinesWhole}
+use Rattle.run_debts.specs.Hand.{in_hand, NotesPending, RefinesObligations}
+use Rattle.run_debts.specs.Owed.{PendingGoes, CallsPreserveObligations}
+use Rattle.run_debts.specs.Owing.{ObligationsGo, FindsObligation}
 use Rattle.run_debts.proofs.Calls.{goes_as_one}
 use Rattle.run_debts.proofs.Gains.{others_stay}
 use Rattle.run_debts.proofs.Hand.All.{calls_go_in_hand}
@@ -38,9 +38,9 @@ use Rattle.run_places.specs.Given.ScenesStepping.{StepLeads, scene_after}
 use Rattle.run_places.proofs.Given.General.{same_some as one_of}
 
 module _ {K V : Type 0} (same : K → K → Bool) (hash : ℕ → K → ℕ) (name : ℕ → List ℕ) (m : Moment K V) (known : Known) (s : Scene K V) (old new : Held K V) (at : IsAt same hash old s)
-    (whole : ShowsWhole same name m known s) (shows : ShowsOwed name m known s) (map i : ℕ) (u : UnderWay K V K) (here : s.calls map i ≡ Some u) (said : Progress (Node K V))
-    (leads : StepLeads same hash i said s old new) (goes : HandGoes K V same hash m known s old new map i u said here leads) where
-  abbrev shown : Shows same name m known s
+    (whole : RefinesWhole same name m known s) (shows : RefinesObligations name m known s) (map i : ℕ) (u : UnderWay K V K) (here : s.calls map i ≡ Some u) (said : Progress (Node K V))
+    (leads : StepLeads same hash i said s old new) (goes : PendingGoes K V same hash m known s old new map i u said here leads) where
+  abbrev shown : Refines same name m known s
   shown = whole.all.shown
 
   abbrev to : WentTo same hash name m known s old new at shown map i u here said leads
@@ -59,7 +59,7 @@ module _ {K V : Type 0} (same : K → K → Bool) (hash : ℕ → K → ℕ) (na
   keeps : KeepsRoles known known2
   keeps = (led_on same hash name m known s old new at whole shown map i u here said leads).keeps
 
-  still : (machine : Machine K V K) → NotesInHand known machine → (in_hand known2 machine ≡ in_hand known machine) × NotesInHand known2 machine
+  still : (machine : Machine K V K) → NotesPending known machine → (in_hand known2 machine ≡ in_hand known machine) × NotesPending known2 machine
   still machine notes =
       let same_blocks = hand_kept known known2 keeps machine notes in (hand_same known known2 machine same_blocks, hand_noted known known2 machine same_blocks notes)
 
@@ -67,13 +67,13 @@ module _ {K V : Type 0} (same : K → K → Bool) (hash : ℕ → K → ℕ) (na
   its = shown.calls map i u here
 
   abbrev Finds : Type 0
-  Finds = AtEachEffect (λ w f. ByCall (FindsOwed w f) (acting (Some (name i)) w)) (Some (name i)) (Some map) effects m
+  Finds = AtEachEffect (λ w f. ByCall (FindsObligation w f) (acting (Some (name i)) w)) (Some (name i)) (Some map) effects m
 
   -- its own
   follows : Finds × (d : CallThere K V) × (call_of (name i) v ≡ Some d) × (d.owes ≡ in_hand known to.1)
   follows =
       owes_follow K V (name i) map effects m its.0 its.1 (in_hand known to.1)
-      (subst (λ (l : List Thing). OwesGo m effects l (in_hand known to.1)) (sym (shows.owed map i u here its.0 its.1)) goes.0)
+      (subst (λ (l : List Thing). ObligationsGo m effects l (in_hand known to.1)) (sym (shows.owed map i u here its.0 its.1)) goes.0)
 
   own_owes : (d : CallThere K V) → call_of (name i) v ≡ Some d → d.owes ≡ in_hand known to.1
   own_owes d is = ap (λ (x : CallThere K V). x.owes) (one_of d follows.1 (sym is ∙ follows.2)) ∙ follows.3
@@ -105,16 +105,16 @@ module _ {K V : Type 0} (same : K → K → Bool) (hash : ℕ → K → ℕ) (na
     | inr was ↦ other_owes n j x was.0 was.1 d d_is
   ]
 
-  noted_then : (n j : ℕ) (x : UnderWay K V K) → led.calls n j ≡ Some x → NotesInHand known2 (machine_of x)
-  noted_then n j x is = elim (which s.calls map i to.4.next n j x is) as (λ _. NotesInHand known2 (machine_of x)) [
-    | inl it ↦ subst (λ (z : Machine K V K). NotesInHand known2 z) (sym (machine_then x it.2)) (still to.1 goes.1).1
+  noted_then : (n j : ℕ) (x : UnderWay K V K) → led.calls n j ≡ Some x → NotesPending known2 (machine_of x)
+  noted_then n j x is = elim (which s.calls map i to.4.next n j x is) as (λ _. NotesPending known2 (machine_of x)) [
+    | inl it ↦ subst (λ (z : Machine K V K). NotesPending known2 z) (sym (machine_then x it.2)) (still to.1 goes.1).1
     | inr was ↦ (still (machine_of x) (shows.noted n j x was.1)).1
   ]
 
-  pub kept : Finds × ShowsOwed name v known2 led × (to.4.next ≡ None → (d : CallThere K V) → call_of (name i) v ≡ Some d → d.owes ≡ [])
+  pub kept : Finds × RefinesObligations name v known2 led × (to.4.next ≡ None → (d : CallThere K V) → call_of (name i) v ≡ Some d → d.owes ≡ [])
   kept = (follows.0, record { owed = owes_then; noted = noted_then }, λ none d is. own_owes d is ∙ goes.2 none)
 
-pub calls_keep_owed : (K V : Type 0) (same : K → K → Bool) (hash : ℕ → K → ℕ) → CallsKeepOwed K V same hash
+pub calls_keep_owed : (K V : Type 0) (same : K → K → Bool) (hash : ℕ → K → ℕ) → CallsPreserveObligations K V same hash
 calls_keep_owed K V same hash name m known s old new at whole entries owning shows map i u here said leads =
     kept same hash name m known s old new at whole shows map i u here said leads
     (calls_go_in_hand K V same hash name m known s old new at whole.all.shown whole.all.rows entries owning map i u here said leads (shows.noted map i u here))

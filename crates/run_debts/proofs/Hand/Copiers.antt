@@ -29,7 +29,7 @@ use Rattle.run_places.specs.Given.RunsDeclared.effect.Thing.{Thing}
 use Rattle.run_places.specs.Given.SchedulesEffects.{passed}
 use Rattle.run_places.specs.Given.SchedulesMoment.{Moment}
 use Rattle.run_places.specs.Given.SchedulesViews.{first_or, first_of}
-use Rattle.run_places.specs.Given.TellerTells.{StepsTold}
+use Rattle.run_places.specs.Given.TellerTells.{StepsObserved}
 use Rattle.run_places.specs.Given.EffectsDeclared.changed.Changed.{Changed}
 use Rattle.run_places.specs.Given.EffectsDeclared.changed.Changed.TheVariants as changed
 use Rattle.run_places.specs.Given.RuleChart.{Chart}
@@ -42,7 +42,7 @@ use Rattle.owner_facts.specs.Given.PointsUnlinked.{has_unlinked}
 use Rattle.owner_facts.proofs.Given.PointsBlocking.Successors.{next_read, rest_between, rest_last}
 use Rattle.owner_facts.proofs.Given.PointsCopiers.CopiersWhole.{unlinks_none}
 use Rattle.owner_facts.proofs.Given.PointsSteps.RootSteps.{is_promoting}
-use Rattle.owner_facts.specs.Given.CallersSights.{seen_by, IsSight}
+use Rattle.owner_facts.specs.Given.CallersSights.{seen_by, IsVisibility}
 use Rattle.owner_facts.specs.Given.CallersTogether.{UnderWay, Together, in_slot}
 use Rattle.owner_facts.proofs.Given.CallersSights.Seen.{map_seen}
 use Rattle.owner_facts.proofs.Given.CallersTogether.Fits.{map_in_slot}
@@ -53,11 +53,11 @@ use Rattle.run_places.specs.Given.EffectsDeclared.acting.Acting.TheVariants as a
 use Rattle.run_places.specs.Given.EffectsDeclared.role.Role.TheVariants as role
 use Rattle.owner_facts.specs.Given.FinishesMaps.{Standing}
 use Rattle.run_places.specs.Given.FollowsMaps.{table_of}
-use Rattle.run_places.specs.Given.FollowsShows.{Shows}
+use Rattle.run_places.specs.Given.FollowsShows.{Refines}
 use Rattle.run_places.proofs.Given.FollowsSteps.{went_to}
 use Rattle.run_places.proofs.Given.FollowsWrites.{root_says}
 use Rattle.run_debts.specs.Hand.{thing_as, things_at, tables_from, tables_in_hand, IsTableRole, NotesTable, NotesTables}
-use Rattle.run_debts.specs.Owing.{AllLeave, OwesGo, KeepsOwed, Passes}
+use Rattle.run_debts.specs.Owing.{AllLeave, ObligationsGo, KeepsOwed, Passes}
 use Rattle.run_debts.proofs.CopierTables.{HasEnds, HasCutFrom, SeesTables, KnowsTables}
 use Rattle.run_debts.proofs.Here.{each, is_sight}
 use Rattle.run_debts.proofs.Passed.{numbered, passed_none, passed_first, tables_named, tables_none, copier_none}
@@ -71,7 +71,7 @@ abbrev pub GoesOrHas : {K V : Type 0} → Copier × Yielding (Node K V) Table �
 GoesOrHas e = (has_unlinked e.0.stands ≡ false) ⊎ (e.1 ≡ outcome.Goes)
 
 module _ {K V : Type 0} (same : K → K → Bool) (hash : ℕ → K → ℕ) (name : ℕ → List ℕ) (m : Moment K V) (known : Known) (s : Scene K V) (old new : Held K V) (at_old : IsAt same hash old s)
-    (shown : Shows same name m known s) (map i : ℕ) (u : UnderWay K V K) (under_way : s.calls map i ≡ Some u) (said : Progress (Node K V)) (leads : StepLeads same hash i said s old new)
+    (shown : Refines same name m known s) (map i : ℕ) (u : UnderWay K V K) (under_way : s.calls map i ≡ Some u) (said : Progress (Node K V)) (leads : StepLeads same hash i said s old new)
     (inside : IsInside (s.world.uses (slot_of i))) where
   abbrev st : Standing K
   st = (went_to same hash name m known s old new at_old shown map i u under_way said leads).0
@@ -100,7 +100,7 @@ module _ {K V : Type 0} (same : K → K → Bool) (hash : ℕ → K → ℕ) (na
   here_each : Together V same st.hash same st.setting slot_of s.world c st.blocks st.sights (s.calls map)
   here_each = each same hash name m known s old at_old shown map i st there u under_way
 
-  here_sight : IsSight c st.blocks (st.sights (slot_of i))
+  here_sight : IsVisibility c st.blocks (st.sights (slot_of i))
   here_sight = is_sight same hash name m known s old at_old shown map i st there u under_way inside
 
   is_map : IsMapIn same st.hash setting s.world c blocks
@@ -136,11 +136,11 @@ module _ {K V : Type 0} (same : K → K → Bool) (hash : ℕ → K → ℕ) (na
 
   module _ (p : Copier) (knows : KnowsTables same st.hash s.world i setting c blocks p) (end : Copier × Yielding (Node K V) Table) where
     abbrev SteppedAt : Copying → Type 0
-    SteppedAt stands = StepsTold K V (Copier × Yielding (Node K V) Table) old.memory changed.Nothing (copiers.plan_at st.hash p stands) new.memory told end
+    SteppedAt stands = StepsObserved K V (Copier × Yielding (Node K V) Table) old.memory changed.Nothing (copiers.plan_at st.hash p stands) new.memory told end
 
     -- what it had in hand at this point goes so
     abbrev pub GoesFrom : Copying → Copier × Yielding (Node K V) Table → Type 0
-    GoesFrom stands e = OwesGo m effects (tables_in_hand known p stands) (tables_in_hand known e.0 e.0.stands) × NotesTables known e.0 e.0.stands × GoesOrHas e
+    GoesFrom stands e = ObligationsGo m effects (tables_in_hand known p stands) (tables_in_hand known e.0 e.0.stands) × NotesTables known e.0 e.0.stands × GoesOrHas e
 
     -- it makes its target the root, and has the tables in hand that the root has left
     module _ (ends : HasEnds same st.hash s.world i setting c blocks p) where
@@ -290,5 +290,5 @@ module _ {K V : Type 0} (same : K → K → Bool) (hash : ℕ → K → ℕ) (na
     CopierGoes = GoesFrom p.stands end
 
     pub copier_goes : (IsRowOfCopier p.stands → ⊥) → NotesTables known p p.stands → Leaves p.stands
-        → StepsTold K V (Copier × Yielding (Node K V) Table) old.memory changed.Nothing (copier_plan st.hash p) new.memory told end → CopierGoes
+        → StepsObserved K V (Copier × Yielding (Node K V) Table) old.memory changed.Nothing (copier_plan st.hash p) new.memory told end → CopierGoes
     copier_goes row notes leaves steps = goes_at p.stands refl row knows.1 notes leaves steps

@@ -29,7 +29,7 @@ use Rattle.run_places.specs.Given.RunsDeclared.effect.Effect.TheVariants as effe
 use Rattle.run_places.specs.Given.RunsDeclared.effect.TableId.{TableId as TableTurn}
 use Rattle.run_places.specs.Given.RunsDeclared.effect.Thing.{Thing}
 use Rattle.run_places.specs.Given.SchedulesMoment.{Moment}
-use Rattle.run_places.specs.Given.TellerTells.{StepsTold}
+use Rattle.run_places.specs.Given.TellerTells.{StepsObserved}
 use Rattle.run_places.specs.Given.EffectsDeclared.changed.Changed.TheVariants as changed
 use Rattle.run_places.specs.Given.TablesChunks.{is_incremental}
 use Rattle.owner_facts.specs.Given.PointsTold.{IsRowOfCopier}
@@ -41,12 +41,12 @@ use Rattle.run_places.specs.Given.EffectsKnown.{Known}
 use Rattle.run_places.specs.Given.EffectsDeclared.acting.Acting.TheVariants as acts
 use Rattle.owner_facts.specs.Given.FinishesMachines.{machine_of}
 use Rattle.owner_facts.specs.Given.FinishesMaps.{Standing}
-use Rattle.run_places.specs.Given.FollowsShows.{Shows}
+use Rattle.run_places.specs.Given.FollowsShows.{Refines}
 use Rattle.run_places.proofs.Given.FollowsSteps.{WentTo, went_to, OfNoRow}
-use Rattle.run_debts.specs.Hand.{tables_in_hand, in_hand_of_call, in_hand_of_room, in_hand_of_sweep, in_hand, NotesTables, NotesOfCall, NotesOfRoom, NotesOfSweep, NotesInHand}
+use Rattle.run_debts.specs.Hand.{tables_in_hand, in_hand_of_call, in_hand_of_room, in_hand_of_sweep, in_hand, NotesTables, NotesOfCall, NotesOfRoom, NotesOfSweep, NotesPending}
 use Rattle.run_debts.specs.InHand.{TakesPair, pair_in_calling}
-use Rattle.run_debts.specs.Owed.{HandGoes}
-use Rattle.run_debts.specs.Owing.{OwesGo}
+use Rattle.run_debts.specs.Owed.{PendingGoes}
+use Rattle.run_debts.specs.Owing.{ObligationsGo}
 use Rattle.run_debts.proofs.CopierTables.{KnowsTables}
 use Rattle.run_debts.proofs.Hand.Asked.{NoneOfSweep, either_sweep, ending_none, sweeps_apart}
 use Rattle.run_debts.proofs.Hand.Copiers.{GoesOrHas, CopierGoes, copier_goes}
@@ -57,7 +57,7 @@ use Rattle.run_places.specs.Given.ScenesScene.{Scene, slot_of}
 use Rattle.run_places.specs.Given.ScenesStepping.{StepLeads, has_ended}
 
 module _ {K V : Type 0} (same : K → K → Bool) (hash : ℕ → K → ℕ) (name : ℕ → List ℕ) (m : Moment K V) (known : Known) (s : Scene K V) (old new : Held K V) (at_old : IsAt same hash old s)
-    (shown : Shows same name m known s) (map i : ℕ) (u : UnderWay K V K) (under_way : s.calls map i ≡ Some u) (said : Progress (Node K V)) (leads : StepLeads same hash i said s old new) where
+    (shown : Refines same name m known s) (map i : ℕ) (u : UnderWay K V K) (under_way : s.calls map i ≡ Some u) (said : Progress (Node K V)) (leads : StepLeads same hash i said s old new) where
   abbrev to : WentTo same hash name m known s old new at_old shown map i u under_way said leads
   to = went_to same hash name m known s old new at_old shown map i u under_way said leads
 
@@ -71,17 +71,17 @@ module _ {K V : Type 0} (same : K → K → Bool) (hash : ℕ → K → ℕ) (na
   pub copying_goes : IsInside (s.world.uses (slot_of i)) → OfNoRow same hash name m known s old new at_old shown map i u under_way said leads u to.4.did
       → (p : Copier) → KnowsTables same st.hash s.world i (in_slot st.setting (slot_of i)) st.chart (seen_by st.blocks (st.sights (slot_of i))) p → (IsRowOfCopier p.stands → ⊥)
       → in_hand known (machine_of u) ≡ tables_in_hand known p p.stands → NotesTables known p p.stands → (r : Copier × Yielding (Node K V) Table)
-      → StepsTold K V (Copier × Yielding (Node K V) Table) old.memory changed.Nothing (copier_plan to.0.hash p) new.memory new.changed r
-      → (GoesOrHas r → (in_hand known to.1 ≡ tables_in_hand known r.0 r.0.stands) × (NotesTables known r.0 r.0.stands → NotesInHand known to.1))
+      → StepsObserved K V (Copier × Yielding (Node K V) Table) old.memory changed.Nothing (copier_plan to.0.hash p) new.memory new.changed r
+      → (GoesOrHas r → (in_hand known to.1 ≡ tables_in_hand known r.0 r.0.stands) × (NotesTables known r.0 r.0.stands → NotesPending known to.1))
       → (has_ended said ≡ true → in_hand known to.1 ≡ []) → ((n : ℕ) → TakesPair effects n → ⊥) → (is_promoting p.stands ≡ false → (t : TableTurn) → effects ≡ effect.Promoted t ∷ [] → ⊥)
-      → HandGoes K V same hash m known s old new map i u said under_way leads
+      → PendingGoes K V same hash m known s old new map i u said under_way leads
   copying_goes inside own p knows row before notes r steps came ended no_pair no_table =
       let goes : CopierGoes same hash name m known s old new at_old shown map i u under_way said leads inside p knows r =
       copier_goes same hash name m known s old new at_old shown map i u under_way said leads inside p knows r row notes
       (λ other. leaves same hash name m known s old new at_old shown map i u under_way said leads own no_pair (no_table other)) steps in
       let it = came goes.2 in (
-        subst (λ (l : List Thing). OwesGo m effects l (in_hand known to.1)) (sym before)
-            (subst (λ (l : List Thing). OwesGo m effects (tables_in_hand known p p.stands) l) (sym it.0) goes.0),
+        subst (λ (l : List Thing). ObligationsGo m effects l (in_hand known to.1)) (sym before)
+            (subst (λ (l : List Thing). ObligationsGo m effects (tables_in_hand known p p.stands) l) (sym it.0) goes.0),
         it.1 goes.1,
         λ none. ended (has_gone same hash name m known s old new at_old shown map i u under_way said leads none),
       )

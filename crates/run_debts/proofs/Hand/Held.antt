@@ -35,9 +35,9 @@ use Rattle.owner_facts.specs.Given.PointsFactsCopies.{CopierFacts, CopyingFacts}
 use Rattle.owner_facts.specs.Given.PointsFactsCopiesBlocking.{CopierFactsBlocking, CopyingFactsBlocking}
 use Rattle.owner_facts.specs.Given.PointsFactsDisposes.{DisposeFacts, DisposingFacts}
 use Rattle.owner_facts.specs.Given.PointsTold.{IsRowOf, IsRowOfCopier, IsRowOfCall}
-use Rattle.owner_facts.specs.Given.LateLateCalls.{LateCalling}
-use Rattle.owner_facts.specs.Given.LateLateCopies.{LateCopierFacts, LateCopying}
-use Rattle.owner_facts.specs.Given.LateLateReserves.{LateReserving}
+use Rattle.owner_facts.specs.Given.LateLateCalls.{SupersededCalling}
+use Rattle.owner_facts.specs.Given.LateLateCopies.{SupersededCopierFacts, SupersededCopying}
+use Rattle.owner_facts.specs.Given.LateLateReserves.{SupersededReserving}
 use Rattle.owner_facts.specs.Given.LateFactsReserves.{CopiesWhole, IsEnding, ReservingFacts}
 use Rattle.owner_facts.specs.Given.LateFactsSweeps.{CopiesTable, SweepingFacts}
 use Rattle.owner_facts.specs.Given.LateToldReserves.{IsRowOfReserve}
@@ -45,10 +45,10 @@ use Rattle.owner_facts.specs.Given.LateToldSweeps.{IsRowOfSweep}
 use Rattle.owner_facts.specs.Given.CallersOverAll.{row_of_sweep, past_sweeping, sweep_once_over}
 use Rattle.owner_facts.specs.Given.CallersRooms.{row_of_room, past_room}
 use Rattle.owner_facts.specs.Given.CallersRows.{row_of_disposal, row_of_copier, row_of, past_copying, past_row, once_over}
-use Rattle.owner_facts.specs.Given.CallersTogether.{UnderWay, OnKey, ForRoom, Counting, OverAll, Stands, in_slot}
+use Rattle.owner_facts.specs.Given.CallersTogether.{UnderWay, OnKey, ForRoom, Counting, OverAll, IsAtPoint, in_slot}
 use Rattle.owner_facts.specs.Given.FinishesMachines.{machine_of}
-use Rattle.run_debts.specs.Due.{Due, ToRetire, ToPut, word_due, due_in_settle, due_in_defer}
-use Rattle.run_debts.specs.Hand.{HoldsAt, HoldsOf, HoldsTables, HoldsOfCall, HoldsOfRoom, HoldsOfSweep, HoldsInHand}
+use Rattle.run_debts.specs.Due.{RowObligation, ToRetire, ToPut, word_due, due_in_settle, due_in_defer}
+use Rattle.run_debts.specs.Hand.{HoldsAt, HoldsOf, HoldsTables, HoldsOfCall, HoldsOfRoom, HoldsOfSweep, HoldsOfPending}
 use Rattle.run_debts.specs.InHand.{pair_in_calling, pair_in_disposing}
 use Rattle.run_places.specs.Given.ScenesScene.{slot_of}
 
@@ -59,13 +59,13 @@ IsTakenOut (Cutting h) = Unit {0}
 IsTakenOut _ = ⊥
 
 -- what a row is to hand over
-abbrev pub due_of_row : Row → Option Due
+abbrev pub due_of_row : Row → Option RowObligation
 due_of_row (Settles c) = due_in_settle c c.stands
 due_of_row (Defers s c) = due_in_defer c c.stands
 due_of_row _ = None
 
 -- it is this block
-abbrev pub IsDueBlock : ℕ → Option Due → Type 0
+abbrev pub IsDueBlock : ℕ → Option RowObligation → Type 0
 IsDueBlock b None = ⊥
 IsDueBlock b (Some (ToRetire word)) = block_in word ≡ b
 IsDueBlock b (Some (ToPut word place)) = block_in word ≡ b
@@ -76,7 +76,7 @@ pub data IsHeld {T : Type 0} (w : World T) (i b : ℕ) : Type 0 where
   HeldByRow : IsDueBlock b (due_of_row (w.row i)) → IsHeld w i b
 
 module _ (P : ℕ → Type 0) where
-  at_due : (due : Option Due) → ((b : ℕ) → IsDueBlock b due → P b) → HoldsAt P (word_due due)
+  at_due : (due : Option RowObligation) → ((b : ℕ) → IsDueBlock b due → P b) → HoldsAt P (word_due due)
   at_due None each = tt
   at_due (Some (ToRetire word)) each = each (block_in word) refl
   at_due (Some (ToPut word place)) each = each (block_in word) refl
@@ -148,7 +148,7 @@ module _ {K V : Type 0} (w : World (Node K V)) (i : ℕ) where
         (settle_held settle setting.slot setting.batch_size (blocks.table s) is cut, rest_held s c.first rest before cuts next last)
     blocking_held p _ facts = tt
 
-    late_held : (began : ℕ) (p : Copier) (stands : Copying) → LateCopying same hash w i setting c blocks began p stands → HoldsTables Held p stands
+    late_held : (began : ℕ) (p : Copier) (stands : Copying) → SupersededCopying same hash w i setting c blocks began p stands → HoldsTables Held p stands
     late_held began p copying.Announces (s, t, source, (before, target, left, none, cuts)) = λ some. held_cut (blocks.table s) p.source.link (cuts s (omega arith) before).1 (ap (λ (x : Table). x.link) source.is)
     late_held began p (copying.Succeeds table) (s, t, (before, target, left, none, cuts), is) = λ some. held_cut (blocks.table s) table (cuts s (omega arith) before).1 is
     late_held began p (copying.Retires settle rest) (s, t, (before, target, left, none, cuts), (is, cut), (next, last)) =
@@ -162,7 +162,7 @@ module _ {K V : Type 0} (w : World (Node K V)) (i : ℕ) where
     Blocking p = CopierFactsBlocking same hash w i setting c blocks p
 
     abbrev Late : ℕ → Copier → Type 0
-    Late began p = LateCopierFacts same hash w i setting c blocks began p
+    Late began p = SupersededCopierFacts same hash w i setting c blocks began p
 
     fresh_reads : (p : Copier) → Fresh p → HoldsTables Held p p.stands
     fresh_reads p facts = fresh_held p p.stands facts.point
@@ -227,7 +227,7 @@ module _ {K V : Type 0} (w : World (Node K V)) (i : ℕ) where
     key_held keys change x (calling.Copies copier) facts = blocking_reads copier facts.2
     key_held keys change x _ facts = tt
 
-    late_key_held : (keys : K → Bool) (began : ℕ) (x : KeyCall K V K) (p : Calling) → LateCalling same hash same w i setting c blocks keys began x p → HoldsOfCall Held Held p
+    late_key_held : (keys : K → Bool) (began : ℕ) (x : KeyCall K V K) (p : Calling) → SupersededCalling same hash same w i setting c blocks keys began x p → HoldsOfCall Held Held p
     late_key_held keys began x (calling.Counts removed) facts = absurd facts
     late_key_held keys began x (calling.Disposes dispose answer) facts = absurd facts
     late_key_held keys began x (calling.Helps copier goal) facts = absurd facts
@@ -242,7 +242,7 @@ module _ {K V : Type 0} (w : World (Node K V)) (i : ℕ) where
     key_row slot keys change x _ row is facts = absurd row
 
     late_key_row : (slot : ℕ) (keys : K → Bool) (began : ℕ) (x : KeyCall K V K) (p : Calling) → IsRowOfCall p → w.row i ≡ row_of slot p
-        → LateCalling same hash same w i setting c blocks keys began x (past_row p) → HoldsOfCall Held Held p
+        → SupersededCalling same hash same w i setting c blocks keys began x (past_row p) → HoldsOfCall Held Held p
     late_key_row slot keys began x (calling.Disposes dispose answer) row is facts = absurd facts
     late_key_row slot keys began x (calling.Helps copier goal) row is facts = absurd facts
     late_key_row slot keys began x (calling.Copies copier) row is facts = copier_row (Late began) (late_reads began) copier copier.stands row is facts.1
@@ -254,7 +254,7 @@ module _ {K V : Type 0} (w : World (Node K V)) (i : ℕ) where
     room_held (reserving.Copies copier) facts = whole_reads copier facts
     room_held _ facts = tt
 
-    late_room_held : (began : ℕ) (p : Reserving) → LateReserving same hash w i setting c blocks began p → HoldsOfRoom Held Held p
+    late_room_held : (began : ℕ) (p : Reserving) → SupersededReserving same hash w i setting c blocks began p → HoldsOfRoom Held Held p
     late_room_held began (reserving.Copies copier) facts = late_reads began copier facts
     late_room_held began _ facts = tt
 
@@ -262,7 +262,7 @@ module _ {K V : Type 0} (w : World (Node K V)) (i : ℕ) where
     room_row (reserving.Copies copier) row is facts = copier_row (CopiesWhole same hash w i setting c blocks) whole_reads copier copier.stands row is facts
     room_row _ row is facts = absurd row
 
-    late_room_row : (began : ℕ) (p : Reserving) → IsRowOfReserve p → w.row i ≡ row_of_room p → LateReserving same hash w i setting c blocks began (past_room p) → HoldsOfRoom Held Held p
+    late_room_row : (began : ℕ) (p : Reserving) → IsRowOfReserve p → w.row i ≡ row_of_room p → SupersededReserving same hash w i setting c blocks began (past_room p) → HoldsOfRoom Held Held p
     late_room_row began (reserving.Copies copier) row is facts = copier_row (Late began) (late_reads began) copier copier.stands row is facts
     late_room_row began _ row is facts = absurd row
 
@@ -286,7 +286,7 @@ module _ {K V : Type 0} (same : K → K → Bool) (hash : K → ℕ) (setting : 
   abbrev its : Setting
   its = in_slot setting (slot_of i)
 
-  pub held_in_hand : (u : UnderWay K V K) → Stands V same hash same setting slot_of w c blocks i u → HoldsInHand (Held w i) (Held w i) (machine_of u)
+  pub held_in_hand : (u : UnderWay K V K) → IsAtPoint V same hash same setting slot_of w c blocks i u → HoldsOfPending (Held w i) (Held w i) (machine_of u)
   held_in_hand (OnKey x) (inl (rests, knows)) = elim knows.facts as (λ _. HoldsOfCall (Held w i) (Held w i) x.call.stands) [
     | inl facts ↦ key_held w i same hash its c blocks few x.keys x.change x.call x.call.stands facts.point
     | inr late ↦ late_key_held w i same hash its c blocks few x.keys x.began x.call x.call.stands late.1.point

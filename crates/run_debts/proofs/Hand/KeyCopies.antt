@@ -18,26 +18,26 @@ use Rattle.run_places.specs.Given.RawDeclared.machines.machine.Machine.TheVarian
 use Rattle.run_places.specs.Given.RawDeclared.machines.progress.Progress.{Progress}
 use Rattle.run_places.specs.Given.RunsDeclared.effect.Effect.{Effect}
 use Rattle.run_places.specs.Given.SchedulesMoment.{Moment}
-use Rattle.run_places.specs.Given.TellerTells.{StepsTold}
+use Rattle.run_places.specs.Given.TellerTells.{StepsObserved}
 use Rattle.run_places.specs.Given.EffectsDeclared.changed.Changed.{Changed}
 use Rattle.run_places.specs.Given.EffectsDeclared.changed.Changed.TheVariants as changed
 use Rattle.run_places.specs.Given.RuleWords.{Blocks}
 use Rattle.owner_facts.specs.Given.PointsFactsCalls.{IsCopying, CallingFacts}
 use Rattle.owner_facts.specs.Given.PointsTold.{IsRowOfCopier, IsRowOfCall}
 use Rattle.owner_facts.proofs.Given.PointsSteps.RootSteps.{is_promoting, call_is_promoting, spares_call}
-use Rattle.owner_facts.specs.Given.LateLateCalls.{LateCalling}
+use Rattle.owner_facts.specs.Given.LateLateCalls.{SupersededCalling}
 use Rattle.owner_facts.specs.Given.CallersSights.{seen_by}
 use Rattle.owner_facts.specs.Given.CallersTogether.{CallOnKey, OnKey, in_slot}
 use Rattle.run_places.specs.Given.EffectsEffects.{effects_of}
 use Rattle.run_places.specs.Given.EffectsKnown.{Known}
 use Rattle.run_places.specs.Given.EffectsDeclared.acting.Acting.TheVariants as acts
 use Rattle.owner_facts.specs.Given.FinishesMaps.{Standing}
-use Rattle.run_places.specs.Given.FollowsShows.{Shows}
+use Rattle.run_places.specs.Given.FollowsShows.{Refines}
 use Rattle.run_places.proofs.Given.FollowsSteps.{WentTo, went_to, is_inside, OfNoRow}
 use Rattle.run_places.proofs.Given.OthersOutcomes.{told_in}
-use Rattle.run_debts.specs.Hand.{tables_in_hand, in_hand_of_call, in_hand, NotesTables, NotesOfCall, NotesInHand}
+use Rattle.run_debts.specs.Hand.{tables_in_hand, in_hand_of_call, in_hand, NotesTables, NotesOfCall, NotesPending}
 use Rattle.run_debts.specs.InHand.{TakesPair, pair_in_calling}
-use Rattle.run_debts.specs.Owed.{HandGoes}
+use Rattle.run_debts.specs.Owed.{PendingGoes}
 use Rattle.run_debts.proofs.CopierTables.{KnowsTables, fresh_knows, blocking_knows, late_knows}
 use Rattle.run_debts.proofs.Hand.Copies.{copying_goes, KeyThen, helped_then, copied_then}
 use Rattle.run_debts.proofs.Here.{each}
@@ -48,7 +48,7 @@ use Rattle.run_places.specs.Given.ScenesScene.{Scene, slot_of}
 use Rattle.run_places.specs.Given.ScenesStepping.{StepLeads, has_ended}
 
 module _ {K V : Type 0} (same : K → K → Bool) (hash : ℕ → K → ℕ) (name : ℕ → List ℕ) (m : Moment K V) (known : Known) (s : Scene K V) (old new : Held K V) (at_old : IsAt same hash old s)
-    (shown : Shows same name m known s) (map i : ℕ) (x : CallOnKey K V K) (under_way : s.calls map i ≡ Some (OnKey x)) (said : Progress (Node K V)) (leads : StepLeads same hash i said s old new)
+    (shown : Refines same name m known s) (map i : ℕ) (x : CallOnKey K V K) (under_way : s.calls map i ≡ Some (OnKey x)) (said : Progress (Node K V)) (leads : StepLeads same hash i said s old new)
     (notes : NotesOfCall known x.call.stands) (no_row : IsRowOfCall x.call.stands → ⊥)
     (own : OfNoRow same hash name m known s old new at_old shown map i (OnKey x) under_way said leads (OnKey x) (went_to same hash name m known s old new at_old shown map i (OnKey x) under_way said leads).4.did) where
   abbrev to : WentTo same hash name m known s old new at_old shown map i (OnKey x) under_way said leads
@@ -67,7 +67,7 @@ module _ {K V : Type 0} (same : K → K → Bool) (hash : ℕ → K → ℕ) (na
   blocks = seen_by st.blocks (st.sights (slot_of i))
 
   abbrev Stepped : Calling → KeyCall K V K × Called (Node K V) → Type 0
-  Stepped stands e = StepsTold K V (KeyCall K V K × Called (Node K V)) old.memory changed.Nothing (plan_at same same to.0.hash x.call stands) new.memory told e
+  Stepped stands e = StepsObserved K V (KeyCall K V K × Called (Node K V)) old.memory changed.Nothing (plan_at same same to.0.hash x.call stands) new.memory told e
 
   inner : (e : KeyCall K V K × Called (Node K V)) × (◌≡◌ {A = Machine K V K × Progress (Node K V)} (to.1, said) (of_key e)) × Stepped x.call.stands e
   inner = told_in old.memory new.memory told of_key (call_plan same same to.0.hash x.call) (to.1, said) to.3
@@ -86,7 +86,7 @@ module _ {K V : Type 0} (same : K → K → Bool) (hash : ℕ → K → ℕ) (na
   fresh_of (at.Copies copier) facts = blocking_knows same st.hash s.world i (in_slot st.setting (slot_of i)) st.chart blocks copier facts.2
   fresh_of _ facts = tt
 
-  late_of : (p : Calling) → LateCalling same st.hash same s.world i (in_slot st.setting (slot_of i)) st.chart blocks x.keys x.began x.call p → KnowsOf p
+  late_of : (p : Calling) → SupersededCalling same st.hash same s.world i (in_slot st.setting (slot_of i)) st.chart blocks x.keys x.began x.call p → KnowsOf p
   late_of (at.Copies copier) facts = late_knows same st.hash s.world i (in_slot st.setting (slot_of i)) st.chart blocks x.began copier facts.1
   late_of (at.Helps copier goal) facts = absurd facts
   late_of _ facts = tt
@@ -101,12 +101,12 @@ module _ {K V : Type 0} (same : K → K → Bool) (hash : ℕ → K → ℕ) (na
   ]
 
   abbrev Goes : Type 0
-  Goes = HandGoes K V same hash m known s old new map i (OnKey x) said under_way leads
+  Goes = PendingGoes K V same hash m known s old new map i (OnKey x) said under_way leads
 
   -- its copier has taken the step, and it has come to this by that
   module _ (p : Copier) (its : Knows p) (row : IsRowOfCopier p.stands → ⊥) (before : in_hand_of_call known x.call.stands ≡ tables_in_hand known p p.stands) (noted : NotesTables known p p.stands)
       (other : is_promoting p.stands ≡ false → call_is_promoting x.call.stands ≡ false) (r : Copier × Yielding (Node K V) Table)
-      (steps : StepsTold K V (Copier × Yielding (Node K V) Table) old.memory changed.Nothing (copier_plan to.0.hash p) new.memory told r)
+      (steps : StepsObserved K V (Copier × Yielding (Node K V) Table) old.memory changed.Nothing (copier_plan to.0.hash p) new.memory told r)
       (e : KeyCall K V K × Called (Node K V)) (is : inner.0 ≡ e) (came : KeyThen known r e) where
     machine_is : to.1 ≡ kinds.Key e.0
     machine_is = ap (λ (z : Machine K V K × Progress (Node K V)). z.0) inner.1 ∙ ap (λ (z : KeyCall K V K × Called (Node K V)). kinds.Key z.0) is
@@ -126,7 +126,7 @@ module _ {K V : Type 0} (same : K → K → Bool) (hash : ℕ → K → ℕ) (na
     goes_so =
         copying_goes same hash name m known s old new at_old shown map i (OnKey x) under_way said leads
         (is_inside same hash name m known s old new at_old shown map i (OnKey x) under_way said leads) own p its row before noted r steps
-        (λ has. (ap (in_hand known) machine_is ∙ (came.0 has).0, λ n. subst (NotesInHand known) (sym machine_is) ((came.0 has).1 n)))
+        (λ has. (ap (in_hand known) machine_is ∙ (came.0 has).0, λ n. subst (NotesPending known) (sym machine_is) ((came.0 has).1 n)))
         (λ ended. ap (in_hand known) machine_is ∙ came.1 (ap has_ended (sym said_is) ∙ ended)) no_pair
         (λ no. no_promotion same hash name m known s old new at_old shown map i (OnKey x) under_way said leads (call_plan same same to.0.hash x.call) inner.0
         (spares_call same same to.0.hash x.call x.call.stands (other no) no_row) inner.2)

@@ -37,24 +37,24 @@ use Rattle.owner_facts.specs.Given.PointsTold.{IsRowOfCall}
 use Rattle.owner_facts.proofs.Given.PointsSteps.RootSteps.{call_is_promoting, spares_call}
 use Rattle.owner_facts.specs.Alone.Handed.{call_has_unlinked}
 use Rattle.owner_facts.specs.Given.CallersSights.{seen_by}
-use Rattle.owner_facts.specs.Given.CallersTogether.{CallOnKey, OnKey, Stands, change_told, next_of}
+use Rattle.owner_facts.specs.Given.CallersTogether.{CallOnKey, OnKey, IsAtPoint, change_observed, next_of}
 use Rattle.run_places.specs.Given.EffectsEffects.{effects_of}
 use Rattle.run_places.specs.Given.EffectsKnown.{Known}
 use Rattle.run_places.specs.Given.EffectsDeclared.acting.Acting.TheVariants as acts
 use Rattle.run_places.specs.Given.EffectsDeclared.role.Role.TheVariants as role
-use Rattle.owner_facts.specs.Given.FinishesEndings.{StepsAmong}
+use Rattle.owner_facts.specs.Given.FinishesEndings.{StepsWithEndings}
 use Rattle.owner_facts.specs.Given.FinishesMachines.{machine_of}
 use Rattle.owner_facts.specs.Given.FinishesMaps.{Standing}
-use Rattle.run_places.specs.Given.FollowsShows.{Shows}
+use Rattle.run_places.specs.Given.FollowsShows.{Refines}
 use Rattle.run_places.specs.Given.FollowsSteps.{IsOfNoRow}
 use Rattle.run_places.proofs.Given.FollowsSteps.{WentTo, went_to, DidSo, OfNoRow}
 use Rattle.run_places.proofs.Given.FollowsWrites.{nothing_free}
 use Rattle.run_places.proofs.Hands.Done.{stepped, here}
 use Rattle.run_places.proofs.Changes.Which.{DidOnce, DidNone, DidStore, DidReplace, DidRemove}
-use Rattle.run_debts.specs.Hand.{thing_as, things_at, in_hand_of_call, in_hand, IsPairRole, NotesPair, NotesOfCall, NotesInHand}
+use Rattle.run_debts.specs.Hand.{thing_as, things_at, in_hand_of_call, in_hand, IsPairRole, NotesPair, NotesOfCall, NotesPending}
 use Rattle.run_debts.specs.InHand.{pair_in_calling}
-use Rattle.run_debts.specs.Owed.{HandGoes}
-use Rattle.run_debts.specs.Owing.{hands_over, HandsOver, AllLeave, OwesGo, KeepsOwed, TakesOut, PutsOver, Passes, HandsFirst}
+use Rattle.run_debts.specs.Owed.{PendingGoes}
+use Rattle.run_debts.specs.Owing.{hands_over, HandsOver, AllLeave, ObligationsGo, KeepsOwed, TakesOut, PutsOver, Passes, HandsFirst}
 use Rattle.run_debts.proofs.EndsOver.{IsOverAt, IsEnded, ended_step}
 use Rattle.run_debts.proofs.Fresh.{IsBefore, IsFreshAt, IsFresh}
 use Rattle.run_debts.proofs.Hand.Asked.{NoneOfCall}
@@ -134,7 +134,7 @@ module _ (known : Known) where
     past_none _ is row e past = absurd (past tt)
 
 module _ {K V : Type 0} (same : K → K → Bool) (hash : ℕ → K → ℕ) (name : ℕ → List ℕ) (m : Moment K V) (known : Known) (s : Scene K V) (old new : Held K V) (at_old : IsAt same hash old s)
-    (shown : Shows same name m known s) (map i : ℕ) (x : CallOnKey K V K) (under_way : s.calls map i ≡ Some (OnKey x)) (said : Progress (Node K V)) (leads : StepLeads same hash i said s old new)
+    (shown : Refines same name m known s) (map i : ℕ) (x : CallOnKey K V K) (under_way : s.calls map i ≡ Some (OnKey x)) (said : Progress (Node K V)) (leads : StepLeads same hash i said s old new)
     (copies : IsCopying x.call.stands → ⊥) (notes : NotesOfCall known x.call.stands)
     (own : OfNoRow same hash name m known s old new at_old shown map i (OnKey x) under_way said leads (OnKey x) (went_to same hash name m known s old new at_old shown map i (OnKey x) under_way said leads).4.did)
     (p2 : KeyCall K V K) (end : Called (Node K V)) where
@@ -154,16 +154,16 @@ module _ {K V : Type 0} (same : K → K → Bool) (hash : ℕ → K → ℕ) (na
   before = in_hand_of_call known x.call.stands
 
   abbrev Goal : Machine K V K → Type 0
-  Goal machine = OwesGo m effects before (in_hand known machine) × NotesInHand known machine
+  Goal machine = ObligationsGo m effects before (in_hand known machine) × NotesPending known machine
 
-  taking : (taken : List Thing) × OwesGo m effects before (before ++ taken) × (list_any hands_over effects ≡ false)
+  taking : (taken : List Thing) × ObligationsGo m effects before (before ++ taken) × (list_any hands_over effects ≡ false)
   taking = steps_take_out K V same hash name m known s old new at_old shown map i (OnKey x) under_way said leads own before
 
   none_handed : (f : Effect) (y : Thing) → effects ≡ f ∷ [] → HandsOver f y → ⊥
   none_handed = no_handing effects taking.2
 
   module _ (machine_is : to.1 ≡ kinds.Key p2) (told_is : said ≡ of_called end)
-      (step : StepsAmong V same same old.batch_size old.roots slot_of s.world s.maps s.calls s.makers s.enders map st i x new.memory p2 end) where
+      (step : StepsWithEndings V same same old.batch_size old.roots slot_of s.world s.maps s.calls s.makers s.enders map st i x new.memory p2 end) where
     no_promotion : (t : TableId) → effects ≡ effect.Promoted t ∷ [] → ⊥
     no_promotion t are =
         (let none = none_promotes i map known (nothing_free s.world m.stored known shown.blocks.roles) told
@@ -180,7 +180,7 @@ module _ {K V : Type 0} (same : K → K → Bool) (hash : ℕ → K → ℕ) (na
         subst Goal (sym held.1)
         (KeepsOwed (by taking.1) same_hand, noted_of known held.0.stands held.2 held.3 (subst (λ (b : ℕ). IsPairRole (known.roles b)) (sym held.4) (note_of known x.call.stands word e notes)))
       where
-        by : OwesGo m effects before (before ++ taking.0) → AllLeave effects
+        by : ObligationsGo m effects before (before ++ taking.0) → AllLeave effects
         by (KeepsOwed all same_owed) = all
         by (TakesOut p are more) = absurd (let none = (calls_take_in_hand K V same hash name m known s old new at_old shown map i x under_way said leads own p (inl are)).0 in cc (none, e))
         by (PutsOver p n sp are more) =
@@ -192,10 +192,10 @@ module _ {K V : Type 0} (same : K → K → Bool) (hash : ℕ → K → ℕ) (na
     Tog = Together2 same hash name m known s old new at_old shown map i x under_way said leads p2 end machine_is told_is step
 
     abbrev Took : (e : Called (Node K V)) → Tog e → Change
-    Took e tog = change_told V same st.hash same st.setting slot_of tog.went.told
+    Took e tog = change_observed V same st.hash same st.setting slot_of tog.went.told
 
     on_none : (e : Called (Node K V)) (tog : Tog e) → IsFreshAt p2.stands → call_has_unlinked p2.stands ≡ false → TakesNone (Took e tog)
-        → Stands V same st.hash same st.setting slot_of tog.went.w2 tog.went.c2 (seen_by tog.blocks2 (tog.sights2 (slot_of i))) i
+        → IsAtPoint V same st.hash same st.setting slot_of tog.went.w2 tog.went.c2 (seen_by tog.blocks2 (tog.sights2 (slot_of i))) i
         (OnKey (stepped same st.hash same st.setting slot_of s.world st.chart st.blocks st.sights (s.calls map) i x new.memory p2 e tog)) → NoneOfCall known p2.stands
     on_none e tog its linked takes stands =
         stands_none known same st.hash st.setting slot_of tog.went.w2 tog.went.c2 (seen_by tog.blocks2 (tog.sights2 (slot_of i))) i
@@ -269,7 +269,7 @@ module _ {K V : Type 0} (same : K → K → Bool) (hash : ℕ → K → ℕ) (na
           noted_of known q.stands word pair (subst IsPairRole (sym its_role) tt),
         )
 
-        by : OwesGo m effects before (before ++ taking.0) → Goal to.1
+        by : ObligationsGo m effects before (before ++ taking.0) → Goal to.1
         by (KeepsOwed all same_owed) = let none = none_after e all in subst Goal (sym machine_is) (KeepsOwed all (none.0 ∙ sym nothing), none.1)
         by (TakesOut p are more) =
             let it = calls_take_in_hand K V same hash name m known s old new at_old shown map i x under_way said leads own p (inl are) in
@@ -305,19 +305,19 @@ module _ {K V : Type 0} (same : K → K → Bool) (hash : ℕ → K → ℕ) (na
 -- A step of a call on one key that is none of a row, where the call copies no pairs: what it has in hand goes so.
 abbrev KeysGoInHand : (K V : Type 0) (same : K → K → Bool) (hash : ℕ → K → ℕ) → Type 0
 KeysGoInHand K V same hash =
-    (name : ℕ → List ℕ) (m : Moment K V) (known : Known) (s : Scene K V) (old new : Held K V) → IsAt same hash old s → Shows same name m known s
+    (name : ℕ → List ℕ) (m : Moment K V) (known : Known) (s : Scene K V) (old new : Held K V) → IsAt same hash old s → Refines same name m known s
     → (map i : ℕ) (x : CallOnKey K V K) (here : s.calls map i ≡ Some (OnKey x)) (said : Progress (Node K V)) (leads : StepLeads same hash i said s old new)
-    → (IsCopying x.call.stands → ⊥) → NotesInHand known (machine_of (OnKey x))
+    → (IsCopying x.call.stands → ⊥) → NotesPending known (machine_of (OnKey x))
     → (let to = leads map (OnKey x) here in
     IsOfNoRow same old.batch_size old.roots s.world s.maps s.calls s.makers s.enders map to.0 i new.memory to.4.w2 to.4.maps2 to.4.next (OnKey x) to.1 said to.4.did
-    → HandGoes K V same hash m known s old new map i (OnKey x) said here leads)
+    → PendingGoes K V same hash m known s old new map i (OnKey x) said here leads)
 
 pub keys_go_in_hand : (K V : Type 0) (same : K → K → Bool) (hash : ℕ → K → ℕ) → KeysGoInHand K V same hash
 keys_go_in_hand K V same hash name m known s old new at_old shown map i x under_way said leads copies notes own =
     by (went_to same hash name m known s old new at_old shown map i (OnKey x) under_way said leads).4.did own
   where
     by : (done : DidSo same hash name m known s old new at_old shown map i (OnKey x) under_way said leads (OnKey x))
-        → OfNoRow same hash name m known s old new at_old shown map i (OnKey x) under_way said leads (OnKey x) done → HandGoes K V same hash m known s old new map i (OnKey x) said under_way leads
+        → OfNoRow same hash name m known s old new at_old shown map i (OnKey x) under_way said leads (OnKey x) done → PendingGoes K V same hash m known s old new map i (OnKey x) said under_way leads
     by (p2, end, machine_is, told_is, inl (step, moved)) none =
         let it = key_goes same hash name m known s old new at_old shown map i x under_way said leads copies notes own p2 end machine_is told_is step _ moved.2 in (it.0.0, it.0.1, it.1)
     by (p2, end, machine_is, told_is, inr row) none = absurd none

@@ -20,7 +20,7 @@ use Rattle.run_places.specs.Given.EffectsDeclared.role.Role.{Role}
 use Rattle.run_places.specs.Given.EffectsDeclared.role.Role.TheVariants as role
 use Rattle.run_places.proofs.Given.FollowsOnward.{IsLasting, KeepsRoles}
 use Rattle.run_debts.specs.Due.{due_in_settle, word_due}
-use Rattle.run_debts.specs.Hand.{thing_as, things_at, tables_up_to, tables_from, tables_in_hand, in_hand_of_call, in_hand_of_room, in_hand_of_sweep, in_hand, IsPairRole, IsTableRole, HoldsAt, HoldsOf, HoldsTables, HoldsOfCall, HoldsOfRoom, HoldsOfSweep, HoldsInHand, IsPairAt, IsTableAt, NotesInHand, IsSameRole, SameInHand}
+use Rattle.run_debts.specs.Hand.{thing_as, things_at, tables_up_to, tables_from, tables_in_hand, in_hand_of_call, in_hand_of_room, in_hand_of_sweep, in_hand, IsPairRole, IsTableRole, HoldsAt, HoldsOf, HoldsTables, HoldsOfCall, HoldsOfRoom, HoldsOfSweep, HoldsOfPending, IsPairAt, IsTableAt, NotesPending, IsSameRole, SamePending}
 use Rattle.run_debts.specs.InHand.{pair_in_calling, pair_in_sweeping}
 
 pair_lasts : (r : Role) → IsPairRole r → IsLasting r
@@ -67,7 +67,7 @@ module _ (known known2 : Known) where
   sweep_same (sweeping.Copies copier) same = copier_same copier copier.stands same
   sweep_same p same = things_same (pair_in_sweeping p) same
 
-  pub hand_same : {K V Q : Type 0} (machine : Machine K V Q) → SameInHand known known2 machine → in_hand known2 machine ≡ in_hand known machine
+  pub hand_same : {K V Q : Type 0} (machine : Machine K V Q) → SamePending known known2 machine → in_hand known2 machine ≡ in_hand known machine
   hand_same (kinds.Key p) same = call_same p.stands same
   hand_same (kinds.Reserve r) same = room_same r.stands same
   hand_same (kinds.Sweep c) same = sweep_same c.stands same
@@ -102,7 +102,7 @@ module _ (P P1 P2 Q Q1 Q2 : ℕ → Type 0) (pairs : (b : ℕ) → P b → P1 b 
   sweep_both (sweeping.Copies copier) is so = copier_both copier copier.stands is so
   sweep_both p is so = at_both (pair_in_sweeping p) is so
 
-  pub hand_both : {K V M : Type 0} (machine : Machine K V M) → HoldsInHand P Q machine → HoldsInHand P1 Q1 machine → HoldsInHand P2 Q2 machine
+  pub hand_both : {K V M : Type 0} (machine : Machine K V M) → HoldsOfPending P Q machine → HoldsOfPending P1 Q1 machine → HoldsOfPending P2 Q2 machine
   hand_both (kinds.Key p) is so = call_both p.stands is so
   hand_both (kinds.Reserve r) is so = room_both r.stands is so
   hand_both (kinds.Sweep c) is so = sweep_both c.stands is so
@@ -110,13 +110,13 @@ module _ (P P1 P2 Q Q1 Q2 : ℕ → Type 0) (pairs : (b : ℕ) → P b → P1 b 
 
 module _ (known known2 : Known) where
   -- and is noted as it was
-  pub hand_noted : {K V M : Type 0} (machine : Machine K V M) → SameInHand known known2 machine → NotesInHand known machine → NotesInHand known2 machine
+  pub hand_noted : {K V M : Type 0} (machine : Machine K V M) → SamePending known known2 machine → NotesPending known machine → NotesPending known2 machine
   hand_noted machine =
       hand_both (IsSameRole known known2) (IsPairAt known) (IsPairAt known2) (IsSameRole known known2) (IsTableAt known) (IsTableAt known2)
       (λ b same noted. subst IsPairRole (sym same) noted) (λ b same noted. subst IsTableRole (sym same) noted) machine
 
   -- such blocks last
-  pub hand_kept : KeepsRoles known known2 → {K V M : Type 0} (machine : Machine K V M) → NotesInHand known machine → SameInHand known known2 machine
+  pub hand_kept : KeepsRoles known known2 → {K V M : Type 0} (machine : Machine K V M) → NotesPending known machine → SamePending known known2 machine
   hand_kept keeps machine noted =
       hand_both (IsPairAt known) (IsPairAt known) (IsSameRole known known2) (IsTableAt known) (IsTableAt known) (IsSameRole known known2)
       (λ b is so. keeps b (pair_lasts (known.roles b) is)) (λ b is so. keeps b (table_lasts (known.roles b) is)) machine noted noted

@@ -28,14 +28,14 @@ use Rattle.run_places.specs.Given.RawDeclared.machines.machine.Machine.TheVarian
 use Rattle.run_places.specs.Given.RawDeclared.machines.progress.Progress.{Progress}
 use Rattle.run_places.specs.Given.RunsDeclared.effect.Effect.{Effect}
 use Rattle.run_places.specs.Given.SchedulesMoment.{Moment}
-use Rattle.run_places.specs.Given.TellerTells.{StepsTold}
+use Rattle.run_places.specs.Given.TellerTells.{StepsObserved}
 use Rattle.run_places.specs.Given.EffectsDeclared.changed.Changed.{Changed}
 use Rattle.run_places.specs.Given.EffectsDeclared.changed.Changed.TheVariants as changed
 use Rattle.run_places.specs.Given.RuleWords.{Blocks}
 use Rattle.run_places.proofs.Given.RuleKeys.Always.{Always, AlwaysOf, always_if, always_plan_as, always_steps}
 use Rattle.owner_facts.specs.Given.PointsUnlinked.{has_unlinked}
 use Rattle.owner_facts.specs.Given.LateFactsReserves.{CopiesPairs, ReservingFacts}
-use Rattle.owner_facts.specs.Given.LateLateReserves.{LateReserving}
+use Rattle.owner_facts.specs.Given.LateLateReserves.{SupersededReserving}
 use Rattle.owner_facts.specs.Given.LateToldReserves.{IsRowOfReserve}
 use Rattle.owner_facts.specs.Given.CallersRooms.{CallForRoom}
 use Rattle.owner_facts.specs.Given.CallersSights.{seen_by}
@@ -44,12 +44,12 @@ use Rattle.run_places.specs.Given.EffectsEffects.{effects_of}
 use Rattle.run_places.specs.Given.EffectsKnown.{Known}
 use Rattle.run_places.specs.Given.EffectsDeclared.acting.Acting.TheVariants as acts
 use Rattle.owner_facts.specs.Given.FinishesMaps.{Standing}
-use Rattle.run_places.specs.Given.FollowsShows.{Shows}
+use Rattle.run_places.specs.Given.FollowsShows.{Refines}
 use Rattle.run_places.proofs.Given.FollowsSteps.{WentTo, went_to, is_inside, OfNoRow}
 use Rattle.run_places.proofs.Given.OthersOutcomes.{told_in}
-use Rattle.run_debts.specs.Hand.{in_hand_of_room, in_hand, NotesOfRoom, NotesInHand}
+use Rattle.run_debts.specs.Hand.{in_hand_of_room, in_hand, NotesOfRoom, NotesPending}
 use Rattle.run_debts.specs.InHand.{TakesPair}
-use Rattle.run_debts.specs.Owed.{HandGoes}
+use Rattle.run_debts.specs.Owed.{PendingGoes}
 use Rattle.run_debts.specs.Owing.{KeepsOwed}
 use Rattle.run_debts.proofs.CopierTables.{KnowsTables, whole_knows, late_knows}
 use Rattle.run_debts.proofs.Hand.Copies.{copying_goes, room_then}
@@ -138,7 +138,7 @@ module _ (known : Known) (K V : Type 0) where
   none_at hash c (reserving.Refused fault) is none = subst (NoneOfRoom known) (sym is) (refl, tt)
 
 module _ {K V : Type 0} (same : K → K → Bool) (hash : ℕ → K → ℕ) (name : ℕ → List ℕ) (m : Moment K V) (known : Known) (s : Scene K V) (old new : Held K V) (at_old : IsAt same hash old s)
-    (shown : Shows same name m known s) (map i : ℕ) (x : CallForRoom) (under_way : s.calls map i ≡ Some (ForRoom x)) (said : Progress (Node K V)) (leads : StepLeads same hash i said s old new)
+    (shown : Refines same name m known s) (map i : ℕ) (x : CallForRoom) (under_way : s.calls map i ≡ Some (ForRoom x)) (said : Progress (Node K V)) (leads : StepLeads same hash i said s old new)
     (notes : NotesOfRoom known x.reserve.stands) (no_row : IsRowOfReserve x.reserve.stands → ⊥)
     (own : OfNoRow same hash name m known s old new at_old shown map i (ForRoom x) under_way said leads (ForRoom x) (went_to same hash name m known s old new at_old shown map i (ForRoom x) under_way said leads).4.did) where
   abbrev to : WentTo same hash name m known s old new at_old shown map i (ForRoom x) under_way said leads
@@ -157,7 +157,7 @@ module _ {K V : Type 0} (same : K → K → Bool) (hash : ℕ → K → ℕ) (na
   blocks = seen_by st.blocks (st.sights (slot_of i))
 
   abbrev Stepped : Reserving → Reserve × Yielding (Node K V) Unit → Type 0
-  Stepped stands e = StepsTold K V (Reserve × Yielding (Node K V) Unit) old.memory changed.Nothing (reserves.plan_at to.0.hash x.reserve stands) new.memory told e
+  Stepped stands e = StepsObserved K V (Reserve × Yielding (Node K V) Unit) old.memory changed.Nothing (reserves.plan_at to.0.hash x.reserve stands) new.memory told e
 
   inner : (e : Reserve × Yielding (Node K V) Unit) × (◌≡◌ {A = Machine K V K × Progress (Node K V)} (to.1, said) (of_room e)) × Stepped x.reserve.stands e
   inner = told_in old.memory new.memory told of_room (reserve_plan to.0.hash x.reserve) (to.1, said) to.3
@@ -179,7 +179,7 @@ module _ {K V : Type 0} (same : K → K → Bool) (hash : ℕ → K → ℕ) (na
   fresh_of (reserving.Copies copier) facts = whole_knows same st.hash s.world i (in_slot st.setting (slot_of i)) st.chart blocks copier facts
   fresh_of _ facts = tt
 
-  late_of : (p : Reserving) → LateReserving same st.hash s.world i (in_slot st.setting (slot_of i)) st.chart blocks x.began p → KnowsOf p
+  late_of : (p : Reserving) → SupersededReserving same st.hash s.world i (in_slot st.setting (slot_of i)) st.chart blocks x.began p → KnowsOf p
   late_of (reserving.Copies copier) facts = late_knows same st.hash s.world i (in_slot st.setting (slot_of i)) st.chart blocks x.began copier facts
   late_of _ facts = tt
 
@@ -193,7 +193,7 @@ module _ {K V : Type 0} (same : K → K → Bool) (hash : ℕ → K → ℕ) (na
   ]
 
   abbrev Goes : Type 0
-  Goes = HandGoes K V same hash m known s old new map i (ForRoom x) said under_way leads
+  Goes = PendingGoes K V same hash m known s old new map i (ForRoom x) said under_way leads
 
   -- it copies no pairs, and has nothing in hand, before and after
   none_goes : (CopiesPairs x.reserve.stands → ⊥) → in_hand_of_room known x.reserve.stands ≡ [] → room_is_promoting x.reserve.stands ≡ false → Goes
@@ -206,7 +206,7 @@ module _ {K V : Type 0} (same : K → K → Bool) (hash : ℕ → K → ℕ) (na
             (no_promotion same hash name m known s old new at_old shown map i (ForRoom x) under_way said leads (reserve_plan to.0.hash x.reserve) inner.0
             (spares_room K V to.0.hash x.reserve x.reserve.stands other no_row) inner.2))
             (none ∙ sym nothing),
-        subst (NotesInHand known) (sym machine_is) after.1,
+        subst (NotesPending known) (sym machine_is) after.1,
         λ ended. none,
       )
 
@@ -220,7 +220,7 @@ module _ {K V : Type 0} (same : K → K → Bool) (hash : ℕ → K → ℕ) (na
       copying_goes same hash name m known s old new at_old shown map i (ForRoom x) under_way said leads
       (is_inside same hash name m known s old new at_old shown map i (ForRoom x) under_way said leads) own copier (subst KnowsOf is knows) (λ row. no_row (subst IsRowOfReserve (sym is) row))
       (ap (in_hand_of_room known) is) (subst (NotesOfRoom known) is notes) d.0 d.2
-      (λ has. (ap (in_hand known) machine ∙ (came.0 has).0, λ n. subst (NotesInHand known) (sym machine) ((came.0 has).1 n)))
+      (λ has. (ap (in_hand known) machine ∙ (came.0 has).0, λ n. subst (NotesPending known) (sym machine) ((came.0 has).1 n)))
       (λ ended. ap (in_hand known) machine ∙ came.1 (ap has_ended (sym says) ∙ ended)) no_pair
       (λ no. no_promotion same hash name m known s old new at_old shown map i (ForRoom x) under_way said leads (reserve_plan to.0.hash x.reserve) inner.0
       (spares_room K V to.0.hash x.reserve x.reserve.stands (ap room_is_promoting is ∙ no) no_row) inner.2)

@@ -21,18 +21,18 @@ use Rattle.run_places.specs.Given.EffectsEffects.{effects_of}
 use Rattle.run_places.specs.Given.EffectsKnown.{Known}
 use Rattle.run_places.specs.Given.EffectsDeclared.acting.Acting.TheVariants as acts
 use Rattle.owner_facts.specs.Given.FinishesMachines.{machine_of}
-use Rattle.run_places.specs.Given.FollowsShows.{Shows}
+use Rattle.run_places.specs.Given.FollowsShows.{Refines}
 use Rattle.run_places.proofs.Given.FollowsSteps.{WentTo, went_to, DidSo, OfNoRow}
-use Rattle.run_places.specs.Hands.Rows.{ShowsRows}
+use Rattle.run_places.specs.Hands.Rows.{RowsReclaimNone}
 use Rattle.run_places.proofs.Given.OthersOutcomes.{told_in}
 use Rattle.owner_facts.specs.Given.PointsTold.{IsRowOfCall}
 use Rattle.owner_facts.specs.Given.LateToldReserves.{IsRowOfReserve}
 use Rattle.owner_facts.specs.Given.LateToldSweeps.{IsRowOfSweep}
-use Rattle.run_debts.specs.Due.{Due, due_in_row, RowTells, TellsNone, TellsRetired, TellsDeferred, OwnAreMade}
-use Rattle.run_debts.specs.Entries.{ShowsEntries}
-use Rattle.run_debts.specs.Hand.{in_hand, NotesInHand}
+use Rattle.run_debts.specs.Due.{RowObligation, due_in_row, RowTells, TellsNone, TellsRetired, TellsDeferred, OwnAreMade}
+use Rattle.run_debts.specs.Entries.{EntriesAreBlank}
+use Rattle.run_debts.specs.Hand.{in_hand, NotesPending}
 use Rattle.run_debts.specs.Owed.{RowsHandOver}
-use Rattle.run_debts.specs.Owing.{OwesGo}
+use Rattle.run_debts.specs.Owing.{ObligationsGo}
 use Rattle.run_debts.proofs.DueCalls.{rows_tell_due}
 use Rattle.run_debts.proofs.Hand.Behind.{GoesDue, KeyKeeps, key_keeps, key_puts, RoomKeeps, room_keeps, room_puts, SweepKeeps, sweep_keeps, sweep_puts}
 use Rattle.run_debts.proofs.Leaving.{has_gone}
@@ -43,13 +43,13 @@ use Rattle.run_places.specs.Given.ScenesScene.{Scene}
 use Rattle.run_places.specs.Given.ScenesStepping.{StepLeads, StepsFrom, has_ended}
 
 -- a row has in hand what it had, or nothing any more
-goes_due : (caller map : ℕ) (known : Known) (effects : List Effect) (due due2 : Option Due) → RowTells caller map known effects due due2 → GoesDue due due2
+goes_due : (caller map : ℕ) (known : Known) (effects : List Effect) (due due2 : Option RowObligation) → RowTells caller map known effects due due2 → GoesDue due due2
 goes_due caller map known effects due due2 (TellsNone none same) = inl same
 goes_due caller map known effects due due2 (TellsRetired word was gone are) = inr gone
 goes_due caller map known effects due due2 (TellsDeferred word block place t len was its gone table are) = inr gone
 
 module _ {K V : Type 0} (same : K → K → Bool) (hash : ℕ → K → ℕ) (name : ℕ → List ℕ) (m : Moment K V) (known : Known) (s : Scene K V) (old new : Held K V) (at_old : IsAt same hash old s)
-    (shown : Shows same name m known s) (rows : ShowsRows s) (entries : ShowsEntries s) (owning : OwnAreMade known s.world) (map i : ℕ) (u : UnderWay K V K) (under_way : s.calls map i ≡ Some u)
+    (shown : Refines same name m known s) (rows : RowsReclaimNone s) (entries : EntriesAreBlank s) (owning : OwnAreMade known s.world) (map i : ℕ) (u : UnderWay K V K) (under_way : s.calls map i ≡ Some u)
     (said : Progress (Node K V)) (leads : StepLeads same hash i said s old new) (other : OfNoRow same hash name m known s old new at_old shown map i u under_way said leads u (leads map u under_way).4.did → ⊥) where
   abbrev to : WentTo same hash name m known s old new at_old shown map i u under_way said leads
   to = went_to same hash name m known s old new at_old shown map i u under_way said leads
@@ -64,11 +64,11 @@ module _ {K V : Type 0} (same : K → K → Bool) (hash : ℕ → K → ℕ) (na
   its_row = rows_tell_due K V same hash name m known s old new at_old shown rows entries owning map i u under_way said leads other
 
   abbrev Goal : Machine K V K → Type 0
-  Goal machine = OwesGo m effects (in_hand known (machine_of u)) (in_hand known machine) × NotesInHand known machine × (to.4.next ≡ None → in_hand known machine ≡ [])
+  Goal machine = ObligationsGo m effects (in_hand known (machine_of u)) (in_hand known machine) × NotesPending known machine × (to.4.next ≡ None → in_hand known machine ≡ [])
 
   -- of the machine that it has come to
   come_to : (machine : Machine K V K) → to.1 ≡ machine → KeepsBehind known (in_hand known (machine_of u)) (in_hand known machine) (due_in_row (machine_of u)) (due_in_row machine)
-      → (GoesDue (due_in_row (machine_of u)) (due_in_row machine) → NotesInHand known machine) → PutsPair m known effects (due_in_row (machine_of u))
+      → (GoesDue (due_in_row (machine_of u)) (due_in_row machine) → NotesPending known machine) → PutsPair m known effects (due_in_row (machine_of u))
       → (has_ended said ≡ true → in_hand known machine ≡ []) → Goal to.1
   come_to machine is behind notes puts ended =
       let row = subst (λ (z : Machine K V K). RowTells i map known effects (due_in_row (machine_of u)) (due_in_row z)) is its_row in
@@ -85,7 +85,7 @@ module _ {K V : Type 0} (same : K → K → Bool) (hash : ℕ → K → ℕ) (na
   abbrev Keeps : UnderWay K V K → Machine K V K → Type 0
   Keeps x machine =
       KeepsBehind known (in_hand known (machine_of x)) (in_hand known machine) (due_in_row (machine_of x)) (due_in_row machine)
-      × (GoesDue (due_in_row (machine_of x)) (due_in_row machine) → NotesInHand known machine)
+      × (GoesDue (due_in_row (machine_of x)) (due_in_row machine) → NotesPending known machine)
 
   of_kind : (x : UnderWay K V K) → u ≡ x → (machine : Machine K V K) → to.1 ≡ machine → Keeps x machine → PutsPair m known effects (due_in_row (machine_of x))
       → (has_ended said ≡ true → in_hand known machine ≡ []) → Goal to.1
@@ -93,32 +93,32 @@ module _ {K V : Type 0} (same : K → K → Bool) (hash : ℕ → K → ℕ) (na
       let its = subst (λ (y : UnderWay K V K). Keeps y machine) (sym is) keeps in
       come_to machine machine_is its.0 its.1 (subst (λ (y : UnderWay K V K). PutsPair m known effects (due_in_row (machine_of y))) (sym is) puts) ended
 
-  key_goes : (x : CallOnKey K V K) → u ≡ OnKey x → IsRowOfCall x.call.stands → NotesInHand known (machine_of u) → Goal to.1
+  key_goes : (x : CallOnKey K V K) → u ≡ OnKey x → IsRowOfCall x.call.stands → NotesPending known (machine_of u) → Goal to.1
   key_goes x is row noted =
-      let notes = subst (λ (y : UnderWay K V K). NotesInHand known (machine_of y)) is noted in
+      let notes = subst (λ (y : UnderWay K V K). NotesPending known (machine_of y)) is noted in
       let inner = told_in old.memory new.memory told of_key (call_plan same same to.0.hash x.call) (to.1, said) (stepped (OnKey x) is) in
       let keeps = always_steps (KeyKeeps known same same to.0.hash x.call x.call.stands) old.memory new.memory (call_plan same same to.0.hash x.call) inner.0
       (key_keeps known same same to.0.hash x.call x.call.stands row notes)
       (as_step old.memory changed.Nothing (call_plan same same to.0.hash x.call) new.memory told inner.0 inner.2) in
       of_kind (OnKey x) is (kinds.Key inner.0.0) (ap (λ (z : Machine K V K × Progress (Node K V)). z.0) inner.1) (keeps.0, keeps.1) (λ word place e. key_puts known x.call.stands notes word place e) (λ e. keeps.2 (sym (ap (λ (z : Machine K V K × Progress (Node K V)). has_ended z.1) inner.1) ∙ e))
 
-  room_goes : (x : CallForRoom) → u ≡ ForRoom x → IsRowOfReserve x.reserve.stands → NotesInHand known (machine_of u) → Goal to.1
+  room_goes : (x : CallForRoom) → u ≡ ForRoom x → IsRowOfReserve x.reserve.stands → NotesPending known (machine_of u) → Goal to.1
   room_goes x is row noted =
-      let notes = subst (λ (y : UnderWay K V K). NotesInHand known (machine_of y)) is noted in
+      let notes = subst (λ (y : UnderWay K V K). NotesPending known (machine_of y)) is noted in
       let inner = told_in old.memory new.memory told of_room (reserve_plan to.0.hash x.reserve) (to.1, said) (stepped (ForRoom x) is) in
       let keeps = always_steps (RoomKeeps V known to.0.hash x.reserve x.reserve.stands) old.memory new.memory (reserve_plan to.0.hash x.reserve) inner.0
       (room_keeps V known to.0.hash x.reserve x.reserve.stands row notes) (as_step old.memory changed.Nothing (reserve_plan to.0.hash x.reserve) new.memory told inner.0 inner.2) in
       of_kind (ForRoom x) is (kinds.Reserve inner.0.0) (ap (λ (z : Machine K V K × Progress (Node K V)). z.0) inner.1) (keeps.0, keeps.1) (λ word place e. absurd (room_puts x.reserve.stands word place e)) (λ e. keeps.2 (sym (ap (λ (z : Machine K V K × Progress (Node K V)). has_ended z.1) inner.1) ∙ e))
 
-  sweep_goes : (x : CallOverAll) → u ≡ OverAll x → IsRowOfSweep x.sweep.stands → NotesInHand known (machine_of u) → Goal to.1
+  sweep_goes : (x : CallOverAll) → u ≡ OverAll x → IsRowOfSweep x.sweep.stands → NotesPending known (machine_of u) → Goal to.1
   sweep_goes x is row noted =
-      let notes = subst (λ (y : UnderWay K V K). NotesInHand known (machine_of y)) is noted in
+      let notes = subst (λ (y : UnderWay K V K). NotesPending known (machine_of y)) is noted in
       let inner = told_in old.memory new.memory told of_sweep (sweep_plan to.0.hash x.sweep) (to.1, said) (stepped (OverAll x) is) in
       let keeps = always_steps (SweepKeeps V known to.0.hash x.sweep x.sweep.stands) old.memory new.memory (sweep_plan to.0.hash x.sweep) inner.0
       (sweep_keeps V known to.0.hash x.sweep x.sweep.stands row notes) (as_step old.memory changed.Nothing (sweep_plan to.0.hash x.sweep) new.memory told inner.0 inner.2) in
       of_kind (OverAll x) is (kinds.Sweep inner.0.0) (ap (λ (z : Machine K V K × Progress (Node K V)). z.0) inner.1) (keeps.0, keeps.1) (λ word place e. sweep_puts known x.sweep.stands notes word place e) (λ e. keeps.2 (sym (ap (λ (z : Machine K V K × Progress (Node K V)). has_ended z.1) inner.1) ∙ e))
 
-  pub row_hands : NotesInHand known (machine_of u) → Goal to.1
+  pub row_hands : NotesPending known (machine_of u) → Goal to.1
   row_hands notes = by u refl to.4.did other
     where
       by : (x : UnderWay K V K) → u ≡ x → (did : DidSo same hash name m known s old new at_old shown map i u under_way said leads x)

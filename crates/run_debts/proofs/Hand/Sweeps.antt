@@ -33,13 +33,13 @@ use Rattle.run_places.specs.Given.RunsDeclared.effect.Effect.TheVariants as effe
 use Rattle.run_places.specs.Given.RunsDeclared.effect.Thing.{Thing}
 use Rattle.run_places.specs.Given.RunsDeclared.effect.Thing.TheVariants.{APair}
 use Rattle.run_places.specs.Given.SchedulesMoment.{Moment}
-use Rattle.run_places.specs.Given.TellerTells.{StepsTold}
+use Rattle.run_places.specs.Given.TellerTells.{StepsObserved}
 use Rattle.run_places.specs.Given.EffectsDeclared.changed.Changed.{Changed}
 use Rattle.run_places.specs.Given.EffectsDeclared.changed.Changed.TheVariants as changed
 use Rattle.run_places.specs.Given.RuleWords.{Blocks}
 use Rattle.run_places.proofs.Given.RuleKeys.Always.{Always, AlwaysOf, always_if, always_steps}
 use Rattle.owner_facts.specs.Given.LateFactsSweeps.{SweepingFacts}
-use Rattle.owner_facts.specs.Given.LateToldSweeps.{IsRowOfSweep, TellsSo}
+use Rattle.owner_facts.specs.Given.LateToldSweeps.{IsRowOfSweep, OutcomeAgrees}
 use Rattle.owner_facts.specs.Given.CallersOverAll.{CallOverAll}
 use Rattle.owner_facts.specs.Given.CallersSights.{seen_by}
 use Rattle.owner_facts.specs.Given.CallersTogether.{OverAll, in_slot, next_over_all}
@@ -47,14 +47,14 @@ use Rattle.run_places.specs.Given.EffectsEffects.{effects_of}
 use Rattle.run_places.specs.Given.EffectsKnown.{Known}
 use Rattle.run_places.specs.Given.EffectsDeclared.acting.Acting.TheVariants as acts
 use Rattle.owner_facts.specs.Given.FinishesMaps.{Standing}
-use Rattle.run_places.specs.Given.FollowsShows.{Shows}
+use Rattle.run_places.specs.Given.FollowsShows.{Refines}
 use Rattle.run_places.proofs.Given.FollowsSteps.{WentTo, went_to, is_inside, DidSo, OfNoRow}
 use Rattle.run_places.proofs.Given.OthersOutcomes.{told_in}
 use Rattle.run_debts.specs.Counts.{counts_in_sweeping, is_to_count, shard_for}
-use Rattle.run_debts.specs.Hand.{thing_as, things_at, in_hand_of_sweep, in_hand, IsPairRole, NotesPair, NotesOfSweep, NotesInHand}
+use Rattle.run_debts.specs.Hand.{thing_as, things_at, in_hand_of_sweep, in_hand, IsPairRole, NotesPair, NotesOfSweep, NotesPending}
 use Rattle.run_debts.specs.InHand.{TakesPair, pair_in_disposing, pair_in_sweeping}
-use Rattle.run_debts.specs.Owed.{HandGoes}
-use Rattle.run_debts.specs.Owing.{AllLeave, OwesGo, KeepsOwed, TakesOut}
+use Rattle.run_debts.specs.Owed.{PendingGoes}
+use Rattle.run_debts.specs.Owing.{AllLeave, ObligationsGo, KeepsOwed, TakesOut}
 use Rattle.run_debts.proofs.CopierTables.{KnowsTables, whole_knows, late_knows}
 use Rattle.run_debts.proofs.Gains.{AllApart, CountGoes, KeepsCount, AddsOne, GivesWay, TakesOne, CountsAll}
 use Rattle.run_debts.proofs.Hand.Asked.{NoneOfSweep, sweeps_apart, further_none}
@@ -184,7 +184,7 @@ module _ (known : Known) where
     none_at hash c (sweeping.Refused fault) is counts none copies disposes = λ e. subst (NoneOfSweep known) (sym is) none
 
 module _ {K V : Type 0} (same : K → K → Bool) (hash : ℕ → K → ℕ) (name : ℕ → List ℕ) (m : Moment K V) (known : Known) (s : Scene K V) (old new : Held K V) (at_old : IsAt same hash old s)
-    (shown : Shows same name m known s) (map i : ℕ) (x : CallOverAll) (under_way : s.calls map i ≡ Some (OverAll x)) (said : Progress (Node K V)) (leads : StepLeads same hash i said s old new)
+    (shown : Refines same name m known s) (map i : ℕ) (x : CallOverAll) (under_way : s.calls map i ≡ Some (OverAll x)) (said : Progress (Node K V)) (leads : StepLeads same hash i said s old new)
     (notes : NotesOfSweep known x.sweep.stands) (no_row : IsRowOfSweep x.sweep.stands → ⊥)
     (own : OfNoRow same hash name m known s old new at_old shown map i (OverAll x) under_way said leads (OverAll x) (went_to same hash name m known s old new at_old shown map i (OverAll x) under_way said leads).4.did) where
   abbrev to : WentTo same hash name m known s old new at_old shown map i (OverAll x) under_way said leads
@@ -203,7 +203,7 @@ module _ {K V : Type 0} (same : K → K → Bool) (hash : ℕ → K → ℕ) (na
   blocks = seen_by st.blocks (st.sights (slot_of i))
 
   abbrev Stepped : Sweeping → Sweep × Swept (Node K V) → Type 0
-  Stepped stands e = StepsTold K V (Sweep × Swept (Node K V)) old.memory changed.Nothing (sweeps.plan_at to.0.hash x.sweep stands) new.memory told e
+  Stepped stands e = StepsObserved K V (Sweep × Swept (Node K V)) old.memory changed.Nothing (sweeps.plan_at to.0.hash x.sweep stands) new.memory told e
 
   inner : (e : Sweep × Swept (Node K V)) × (◌≡◌ {A = Machine K V K × Progress (Node K V)} (to.1, said) (of_sweep e)) × Stepped x.sweep.stands e
   inner = told_in old.memory new.memory told of_sweep (sweep_plan to.0.hash x.sweep) (to.1, said) to.3
@@ -232,10 +232,10 @@ module _ {K V : Type 0} (same : K → K → Bool) (hash : ℕ → K → ℕ) (na
   ]
 
   abbrev Goal : Machine K V K → Type 0
-  Goal machine = OwesGo m effects (in_hand_of_sweep known x.sweep.stands) (in_hand known machine) × NotesInHand known machine
+  Goal machine = ObligationsGo m effects (in_hand_of_sweep known x.sweep.stands) (in_hand known machine) × NotesPending known machine
 
   abbrev Goes : Type 0
-  Goes = HandGoes K V same hash m known s old new map i (OverAll x) said under_way leads
+  Goes = PendingGoes K V same hash m known s old new map i (OverAll x) said under_way leads
 
   -- off a copying that promotes, and off a try, its effects leave what is owed
   none_taken : IsNoTry x.sweep.stands → (n : ℕ) → TakesPair effects n → ⊥
@@ -250,7 +250,7 @@ module _ {K V : Type 0} (same : K → K → Bool) (hash : ℕ → K → ℕ) (na
   ended_none : to.4.next ≡ None → in_hand known to.1 ≡ []
   ended_none none = by to.4.did own
     where
-      over_none : (y : CallOverAll) (p p2 : Sweeping) (end : Swept (Node K V)) → TellsSo p p2 end → next_over_all {K = K} {V = V} {Q = K} y end ≡ None → in_hand_of_sweep known p2 ≡ []
+      over_none : (y : CallOverAll) (p p2 : Sweeping) (end : Swept (Node K V)) → OutcomeAgrees p p2 end → next_over_all {K = K} {V = V} {Q = K} y end ≡ None → in_hand_of_sweep known p2 ≡ []
       over_none y p p2 swept.Done tells e = ap (in_hand_of_sweep known) tells
       over_none y p p2 (swept.Refused fault) tells e = ap (in_hand_of_sweep known) tells
       over_none y p p2 _ tells e = absurd (cc e)
@@ -329,7 +329,7 @@ module _ {K V : Type 0} (same : K → K → Bool) (hash : ℕ → K → ℕ) (na
       copying_goes same hash name m known s old new at_old shown map i (OverAll x) under_way said leads
       (is_inside same hash name m known s old new at_old shown map i (OverAll x) under_way said leads) own copier (subst KnowsOf is knows) (λ row. no_row (subst IsRowOfSweep (sym is) row))
       (ap (in_hand_of_sweep known) is) (subst (NotesOfSweep known) is notes) d.0 d.2
-      (λ has. (ap (in_hand known) machine ∙ (came.0 has).0, λ n. subst (NotesInHand known) (sym machine) ((came.0 has).1 n)))
+      (λ has. (ap (in_hand known) machine ∙ (came.0 has).0, λ n. subst (NotesPending known) (sym machine) ((came.0 has).1 n)))
       (λ ended. ap (in_hand known) machine ∙ came.1 (ap has_ended (sym says) ∙ ended)) (none_taken (subst IsNoTry (sym is) tt))
       (λ no. no_promotion same hash name m known s old new at_old shown map i (OverAll x) under_way said leads (sweep_plan to.0.hash x.sweep) inner.0
       (spares_sweep K V to.0.hash x.sweep x.sweep.stands (ap sweep_is_promoting is ∙ no) no_row) inner.2)

@@ -9,7 +9,7 @@ use Rattle.run_schedules.specs.Schedules.Moment.{Place, Moment}
 use Rattle.run_schedules.specs.Schedules.Moment as at
 use Rattle.run_schedules.specs.Schedules.Runs.{Lists}
 use Rattle.run_schedules.specs.Schedules.Views.{is_in_map, is_waiting}
-use Rattle.run_effects.specs.Tallies.Tally.{TellsMoment, numbers_at, passes, told_of}
+use Rattle.run_effects.specs.Tallies.Tally.{RecordsMoment, numbers_at, passes, whereabouts_of}
 use Rattle.run_effects.specs.declared.tally.Tally.{Tally}
 use Rattle.run_effects.specs.declared.tally.Whereabouts.{Whereabouts}
 use Rattle.run_effects.specs.declared.tally.Whereabouts.TheVariants.{Unborn}
@@ -77,7 +77,7 @@ module _ (test : Whereabouts → Bool) (no : test Unborn ≡ false) where
   ascending ws = λ k d from inside. let less = next_greater 0 (numbers_at test 0 ws) (rises ws 0) k d inside in grind (arith, less)
 
 -- What is told of places is what they are.
-in_map_told : (number : ℕ) (place : Place) → passes (Some number) (told_of place) ≡ is_in_map number place
+in_map_told : (number : ℕ) (place : Place) → passes (Some number) (whereabouts_of place) ≡ is_in_map number place
 in_map_told number at.Unborn = refl
 in_map_told number (at.InMap map) = refl
 in_map_told number at.Out = refl
@@ -86,7 +86,7 @@ in_map_told number at.Behind = refl
 in_map_told number at.Left = refl
 in_map_told number at.GivenBack = refl
 
-waiting_told : (place : Place) → passes None (told_of place) ≡ is_waiting place
+waiting_told : (place : Place) → passes None (whereabouts_of place) ≡ is_waiting place
 waiting_told at.Unborn = refl
 waiting_told (at.InMap map) = refl
 waiting_told at.Out = refl
@@ -95,7 +95,7 @@ waiting_told at.Behind = refl
 waiting_told at.Left = refl
 waiting_told at.GivenBack = refl
 
-module _ {K V : Type 0} (tally : Tally) (m : Moment K V) (tells : TellsMoment tally m) where
+module _ {K V : Type 0} (tally : Tally) (m : Moment K V) (tells : RecordsMoment tally m) where
   pub lists_map : (number : ℕ) → Lists (numbers_at (passes (Some number)) 0 tally.pairs.items) (is_in_map number) m
   lists_map number n =
       listed (passes (Some number)) refl tally.pairs.items n

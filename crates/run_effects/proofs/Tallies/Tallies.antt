@@ -15,7 +15,7 @@ use Rattle.run_schedules.specs.Schedules.Moment as at
 use Rattle.run_schedules.specs.Schedules.Things.{same_table}
 use Rattle.run_schedules.specs.Schedules.Views.{behind, is_retired}
 use Rattle.run_effects.specs.Tallies.Places.{Comes, Leads}
-use Rattle.run_effects.specs.Tallies.Tally.{Tells, TellsAll, TellsMoment, TellsNext, deferral, flag_of, flagged, numbers_behind, stored_in, told_all, told_of}
+use Rattle.run_effects.specs.Tallies.Tally.{Records, RecordsAll, RecordsMoment, RecordsNext, deferral, flag_of, flagged, numbers_behind, stored_in, all_recorded, whereabouts_of}
 use Rattle.run_effects.specs.declared.tally.Behind.{Behind}
 use Rattle.run_effects.specs.declared.tally.Flagged.{Flagged}
 use Rattle.run_effects.specs.declared.tally.Tally.{Tally}
@@ -73,16 +73,16 @@ flags_so : (t : TableId) (stage : Stage) (flag : Bool) → is_retired stage ≡ 
 flags_so t stage flag is [] = refl
 flags_so t stage flag is (u ∷ tables) = λ i. flag_so t stage flag is u i ∷ flags_so t stage flag is tables i
 
-module _ (old new : Tally) (place : ℕ → Place) (deferred : List Deferral) (tables : List TableThere) (tells : Tells old place deferred tables) where
+module _ (old new : Tally) (place : ℕ → Place) (deferred : List Deferral) (tables : List TableThere) (tells : Records old place deferred tables) where
   -- one table has another flag
   reflagged_leads : (t : TableId) (flag : Bool) → new.tables.items ≡ map (flagged t flag) old.tables.items → new.places ≡ old.places → Leads new.places new.tables.items
   reflagged_leads t flag tables_then places_same =
       same_leads old.places new.places (map (flagged t flag) old.tables.items) new.tables.items places_same tables_then (still_leads old.places t flag old.tables.items tells.places)
 
   -- a pair is put somewhere
-  pub put_tells : (n : ℕ) (there : Whereabouts) (to : Place) → there ≡ told_of to
+  pub put_tells : (n : ℕ) (there : Whereabouts) (to : Place) → there ≡ whereabouts_of to
       → ((k : ℕ) → slice_index_or new.pairs.items k Unborn ≡ (if k == n then there else slice_index_or old.pairs.items k Unborn)) → new.behind.items ≡ old.behind.items → new.tables.items ≡ old.tables.items
-      → new.places ≡ old.places → Tells new (put n to place) deferred tables
+      → new.places ≡ old.places → Records new (put n to place) deferred tables
   put_tells n there to is pairs behind_same tables_same places_same = record {
     pairs = λ k. pairs k ∙ by (k == n) k;
     behind = ap (map deferral) behind_same ∙ tells.behind;
@@ -90,13 +90,13 @@ module _ (old new : Tally) (place : ℕ → Place) (deferred : List Deferral) (t
     places = same_leads old.places new.places old.tables.items new.tables.items places_same tables_same tells.places;
   }
     where
-      by : (b : Bool) (k : ℕ) → (if b then there else slice_index_or old.pairs.items k Unborn) ≡ told_of (if b then to else place k)
+      by : (b : Bool) (k : ℕ) → (if b then there else slice_index_or old.pairs.items k Unborn) ≡ whereabouts_of (if b then to else place k)
       by true k = is
       by false k = tells.pairs k
 
   -- or behind a table
   pub behind_tells : (n : ℕ) (t : TableId) → ((k : ℕ) → slice_index_or new.pairs.items k Unborn ≡ (if k == n then Waits else slice_index_or old.pairs.items k Unborn))
-      → new.behind.items ≡ record { pair = n; table = t } ∷ old.behind.items → new.tables.items ≡ old.tables.items → new.places ≡ old.places → Tells new (put n at.Behind place) (record { pair = n; behind = t } ∷ deferred) tables
+      → new.behind.items ≡ record { pair = n; table = t } ∷ old.behind.items → new.tables.items ≡ old.tables.items → new.places ≡ old.places → Records new (put n at.Behind place) (record { pair = n; behind = t } ∷ deferred) tables
   behind_tells n t pairs behind_more tables_same places_same = record {
     pairs = λ k. pairs k ∙ by (k == n) k;
     behind = ap (map deferral) behind_more ∙ ap (λ (l : List Deferral). record { pair = n; behind = t } ∷ l) tells.behind;
@@ -104,16 +104,16 @@ module _ (old new : Tally) (place : ℕ → Place) (deferred : List Deferral) (t
     places = same_leads old.places new.places old.tables.items new.tables.items places_same tables_same tells.places;
   }
     where
-      by : (b : Bool) (k : ℕ) → (if b then Waits else slice_index_or old.pairs.items k Unborn) ≡ told_of (if b then at.Behind else place k)
+      by : (b : Bool) (k : ℕ) → (if b then Waits else slice_index_or old.pairs.items k Unborn) ≡ whereabouts_of (if b then at.Behind else place k)
       by true k = refl
       by false k = tells.pairs k
 
   -- a table goes, with what waits behind it
-  pub gone_tells : (t : TableId) (to : Place) → Waits ≡ told_of to → (stage : Stage) → is_retired stage ≡ false
+  pub gone_tells : (t : TableId) (to : Place) → Waits ≡ whereabouts_of to → (stage : Stage) → is_retired stage ≡ false
       → ((k : ℕ) → slice_index_or new.pairs.items k Unborn ≡ (if is_among k (numbers_behind t old.behind.items) then Waits else slice_index_or old.pairs.items k Unborn))
       → new.behind.items ≡ filter (λ w. not (same_table w.table t)) old.behind.items
       → (Leads old.places old.tables.items → new.tables.items ≡ map (flagged t false) old.tables.items) → new.places ≡ old.places
-      → Tells new (all_at to (behind t deferred) place) (filter (λ d. not (same_table d.behind t)) deferred) (map (at_stage t stage) tables)
+      → Records new (all_at to (behind t deferred) place) (filter (λ d. not (same_table d.behind t)) deferred) (map (at_stage t stage) tables)
   gone_tells t to is stage not_retired pairs behind_less tables_then places_same = record {
     pairs = λ k. pairs k ∙ ap (λ (l : List ℕ). if is_among k l then Waits else slice_index_or old.pairs.items k Unborn) (behind_is t old.behind.items ∙ ap (behind t) tells.behind) ∙ by (is_among k (behind t deferred)) k;
     behind = ap (map deferral) behind_less ∙ without_is t old.behind.items ∙ ap (filter (λ d. not (same_table d.behind t))) tells.behind;
@@ -121,13 +121,13 @@ module _ (old new : Tally) (place : ℕ → Place) (deferred : List Deferral) (t
     places = reflagged_leads t false (tables_then tells.places) places_same;
   }
     where
-      by : (b : Bool) (k : ℕ) → (if b then Waits else slice_index_or old.pairs.items k Unborn) ≡ told_of (if b then to else place k)
+      by : (b : Bool) (k : ℕ) → (if b then Waits else slice_index_or old.pairs.items k Unborn) ≡ whereabouts_of (if b then to else place k)
       by true k = is
       by false k = tells.pairs k
 
   -- a table is retired
   pub retired_tells : (t : TableId) → new.pairs.items ≡ old.pairs.items → new.behind.items ≡ old.behind.items
-      → (Leads old.places old.tables.items → new.tables.items ≡ map (flagged t true) old.tables.items) → new.places ≡ old.places → Tells new place deferred (map (at_stage t at.IsRetired) tables)
+      → (Leads old.places old.tables.items → new.tables.items ≡ map (flagged t true) old.tables.items) → new.places ≡ old.places → Records new place deferred (map (at_stage t at.IsRetired) tables)
   retired_tells t pairs behind_same tables_then places_same = record {
     pairs = λ k. ap (λ (l : List Whereabouts). slice_index_or l k Unborn) pairs ∙ tells.pairs k;
     behind = ap (map deferral) behind_same ∙ tells.behind;
@@ -137,7 +137,7 @@ module _ (old new : Tally) (place : ℕ → Place) (deferred : List Deferral) (t
 
   -- or comes
   pub linked_tells : (t : TableId) (shape : TableShape) → new.pairs.items ≡ old.pairs.items → new.behind.items ≡ old.behind.items
-      → new.tables.items ≡ old.tables.items ++ record { table = t; is_retired = false } ∷ [] → Comes t (length old.tables.items) old.places new.places → Tells new place deferred (tables ++ record { table = t; shape = shape; stage = at.IsLinked } ∷ [])
+      → new.tables.items ≡ old.tables.items ++ record { table = t; is_retired = false } ∷ [] → Comes t (length old.tables.items) old.places new.places → Records new place deferred (tables ++ record { table = t; shape = shape; stage = at.IsLinked } ∷ [])
   linked_tells t shape pairs behind_same tables_then comes = record {
     pairs = λ k. ap (λ (l : List Whereabouts). slice_index_or l k Unborn) pairs ∙ tells.pairs k;
     behind = ap (map deferral) behind_same ∙ tells.behind;
@@ -147,14 +147,14 @@ module _ (old new : Tally) (place : ℕ → Place) (deferred : List Deferral) (t
   }
 
 -- where a pair is stored
-pub stored_so : (map : Option ℕ) → stored_in map ≡ told_of (in_map map)
+pub stored_so : (map : Option ℕ) → stored_in map ≡ whereabouts_of (in_map map)
 stored_so (Some n) = refl
 stored_so None = refl
 
 -- no other effect moves a pair or a table
 pub other_tells : (map : Option ℕ) (t : Tally) (f : Effect) → ((n : ℕ) (s : Spot) → f ≡ effect.Stored n s → ⊥) → ((n : ℕ) → f ≡ effect.Replaced n → ⊥) → ((n : ℕ) → f ≡ effect.Removed n → ⊥)
     → ((n : ℕ) (b : TableId) → f ≡ effect.Deferred n b → ⊥) → ((x : Thing) → f ≡ effect.Retired x → ⊥) → ((x : Thing) → f ≡ effect.Reclaimed x → ⊥) → ((n : ℕ) → f ≡ effect.Ended n → ⊥)
-    → ((b : TableId) → f ≡ effect.Taken b → ⊥) → ((b : TableId) (shape : TableShape) → f ≡ effect.Linked b shape → ⊥) → TellsNext map f t t
+    → ((b : TableId) → f ≡ effect.Taken b → ⊥) → ((b : TableId) (shape : TableShape) → f ≡ effect.Linked b shape → ⊥) → RecordsNext map f t t
 other_tells map t (effect.Stored n s) a b c d e h i j k = absurd (a n s refl)
 other_tells map t (effect.Replaced n) a b c d e h i j k = absurd (b n refl)
 other_tells map t (effect.Removed n) a b c d e h i j k = absurd (c n refl)
@@ -175,13 +175,13 @@ other_tells map t (effect.Counted s) a b c d e h i j k = λ place deferred table
 
 -- The effects of an event, one after another, are told as the moment with them says.
 pub all_told : {K V : Type 0} (caller : Option (List ℕ)) (map : Option ℕ) (effects : List Effect) (m : Moment K V)
-    → told_all map effects (m.place, m.deferred, m.tables) ≡ (let w = with_effects caller map effects m in (w.place, w.deferred, w.tables))
+    → all_recorded map effects (m.place, m.deferred, m.tables) ≡ (let w = with_effects caller map effects m in (w.place, w.deferred, w.tables))
 all_told caller map [] m = refl
 all_told caller map (f ∷ effects) m = all_told caller map effects _
 
 pub told_moment : {K V : Type 0} (caller : Option (List ℕ)) (map : Option ℕ) (effects : List Effect) (m : Moment K V) (t : Tally)
-    → (let so = told_all map effects (m.place, m.deferred, m.tables) in Tells t so.0 so.1 so.2) → TellsMoment t (with_effects caller map effects m)
-told_moment caller map effects m t tells = subst (λ (so : (ℕ → Place) × List Deferral × List TableThere). Tells t so.0 so.1 so.2) (all_told caller map effects m) tells
+    → (let so = all_recorded map effects (m.place, m.deferred, m.tables) in Records t so.0 so.1 so.2) → RecordsMoment t (with_effects caller map effects m)
+told_moment caller map effects m t tells = subst (λ (so : (ℕ → Place) × List Deferral × List TableThere). Records t so.0 so.1 so.2) (all_told caller map effects m) tells
 
 -- Those behind a table, one after another: what is left comes to all.
 module _ (t : TableId) (old : ℕ → Whereabouts) (all : List Behind) where
@@ -230,28 +230,28 @@ module _ {X : Type 0} (f : X → X) where
 module _ (map : Option ℕ) (old : Tally) (all : List Effect) where
   abbrev pub Notes : List Effect → Tally → Type 0
   Notes rest now =
-      (place : ℕ → Place) (deferred : List Deferral) (tables : List TableThere) → Tells old place deferred tables
-      → (place2 : ℕ → Place) × (deferred2 : List Deferral) × (tables2 : List TableThere) × Tells now place2 deferred2 tables2
-      × (told_all map rest (place2, deferred2, tables2) ≡ told_all map all (place, deferred, tables))
+      (place : ℕ → Place) (deferred : List Deferral) (tables : List TableThere) → Records old place deferred tables
+      → (place2 : ℕ → Place) × (deferred2 : List Deferral) × (tables2 : List TableThere) × Records now place2 deferred2 tables2
+      × (all_recorded map rest (place2, deferred2, tables2) ≡ all_recorded map all (place, deferred, tables))
 
   pub notes_first : Notes all old
   notes_first place deferred tables tells = (place, deferred, tables, tells, refl)
 
-  pub notes_next : (i : ℕ) (f : Effect) → i < length all → f ≡ slice_index_or all i f → (now next : Tally) → Notes (drop i all) now → TellsNext map f now next → Notes (drop (i + 1) all) next
+  pub notes_next : (i : ℕ) (f : Effect) → i < length all → f ≡ slice_index_or all i f → (now next : Tally) → Notes (drop i all) now → RecordsNext map f now next → Notes (drop (i + 1) all) next
   notes_next i f inside is now next so_far noted place deferred tables tells =
       let s = so_far place deferred tables tells in (
         place_by map s.1 f s.0,
         deferred_by f s.1,
         tables_by f s.2,
         noted s.0 s.1 s.2 s.3,
-        sym (at_drop_more (λ l. told_all map l (s.0, s.1, s.2)) all i f inside ∙ ap (λ x. told_all map (x ∷ drop (i + 1) all) (s.0, s.1, s.2)) (sym is)) ∙ s.4,
+        sym (at_drop_more (λ l. all_recorded map l (s.0, s.1, s.2)) all i f inside ∙ ap (λ x. all_recorded map (x ∷ drop (i + 1) all) (s.0, s.1, s.2)) (sym is)) ∙ s.4,
       )
 
-  pub notes_all : (i : ℕ) → length all ≤ i → (now : Tally) → Notes (drop i all) now → TellsAll map all old now
+  pub notes_all : (i : ℕ) → length all ≤ i → (now : Tally) → Notes (drop i all) now → RecordsAll map all old now
   notes_all i past now so_far place deferred tables tells =
       let s = so_far place deferred tables tells in
-      subst (λ (so : (ℕ → Place) × List Deferral × List TableThere). Tells now so.0 so.1 so.2)
-      (sym (at_drop_all (λ l. told_all map l (s.0, s.1, s.2)) all i past) ∙ s.4) s.3
+      subst (λ (so : (ℕ → Place) × List Deferral × List TableThere). Records now so.0 so.1 so.2)
+      (sym (at_drop_all (λ l. all_recorded map l (s.0, s.1, s.2)) all i past) ∙ s.4) s.3
 
 -- what is not changed yet is as it was
 pub unchanged_at : {X : Type 0} (f : X → X) (xs : List X) (i : ℕ) (d : X) → i < length xs → slice_index_or (map f (take i xs) ++ drop i xs) i d ≡ slice_index_or xs i d

@@ -19,7 +19,7 @@ use Rattle.map_rule.specs.Maps.{spot_of, IsMap}
 use Rattle.map_rule.specs.InWorld.{SameBlocks, SparesTables}
 use Rattle.map_rule.proofs.Words.PlaceWordsRead.{pair_word-large}
 use Rattle.run_effects.specs.Tells.Seen.{Seen, Wrote, MadeOne, HadNoRoom, TookAway, NewValue, Unseen}
-use Rattle.run_effects.specs.Tells.Tells.{place_at, last_link, IsQuiet, IsSeenAs}
+use Rattle.run_effects.specs.Tells.Tells.{place_at, last_link, IsSilent, IsSeenAs}
 use Rattle.run_effects.proofs.Tells.Changed.{IsUsersWord}
 use Rattle.run_effects.proofs.Tells.Kept.{IsWritten}
 use Rattle.run_effects.proofs.Tells.Names.{IsQuietTo, IsQuietMove, quiet_move}
@@ -35,10 +35,10 @@ module _ {K V : Type 0} (same : K → K → Bool) (hash : K → ℕ) (lawful : I
   made_by move = after (spot_of hash) (is_incremental setting.mode) move c
 
   -- what keeps names is seen as nothing else
-  pub quiet_seen : IsQuietTo c c2 → IsQuiet setting c blocks seen
+  pub quiet_seen : IsQuietTo c c2 → IsSilent setting c blocks seen
   quiet_seen quiet = by seen refl
     where
-      by : (s : Seen (Node K V)) → seen ≡ s → IsQuiet setting c blocks s
+      by : (s : Seen (Node K V)) → seen ≡ s → IsSilent setting c blocks s
       by Unseen e = tt
       by (Wrote x old new) e = quiet_written same hash fits setting m m2 c c2 blocks blocks2 map map2 kept quiet old new x (written x old new e)
       by (MadeOne value b) e = tt

@@ -10,12 +10,12 @@ use Rattle.map_tables.specs.declared.node.Node.{Node}
 use Rattle.map_tables.specs.declared.setting.Setting.{Setting}
 use Rattle.map_tables.specs.declared.table_words.TheConstants.{NEXT, PLACES}
 use Rattle.map_rule.specs.Chart.{Place, Empty, Tombstone, Holds, Chart}
-use Rattle.map_rule.specs.Words.{Blocks, byte_of, place_word, next_word, root_word, Shows}
+use Rattle.map_rule.specs.Words.{Blocks, byte_of, place_word, next_word, root_word, Represents}
 use Rattle.map_rule.specs.Maps.{IsMap}
 use Rattle.map_rule.specs.InWorld.{SameBlocks}
 use Rattle.map_rule.proofs.Laws.{bytes_are_few, words_name_pairs}
 use Rattle.map_rule.proofs.Words.PlaceWords.{empty_block, tombstone_block}
-use Rattle.run_effects.specs.Tells.Tells.{KeepsNames}
+use Rattle.run_effects.specs.Tells.Tells.{PreservesNames}
 use Rattle.run_effects.proofs.Tells.Kept.{IsWritten}
 use Rattle.run_effects.proofs.Tells.Names.{named, IsQuietTo}
 
@@ -32,10 +32,10 @@ module _ {K : Type 0} (hash : K → ℕ) (fits : (k : K) → hash k < 2 ^ 64) wh
 
 module _ {K V : Type 0} (same : K → K → Bool) (hash : K → ℕ) (fits : (k : K) → hash k < 2 ^ 64) (setting : Setting) (m m2 : Mem (Node K V)) (c c2 : Chart K) (blocks blocks2 : Blocks)
     (map : IsMap same hash setting.mode setting.root m c blocks) (map2 : IsMap same hash setting.mode setting.root m2 c2 blocks2) (kept : SameBlocks c blocks blocks2) (quiet : IsQuietTo c c2) where
-  abbrev shown : Shows hash m c blocks setting.root
+  abbrev shown : Represents hash m c blocks setting.root
   shown = map.shows
 
-  abbrev shown2 : Shows hash m2 c2 blocks2 setting.root
+  abbrev shown2 : Represents hash m2 c2 blocks2 setting.root
   shown2 = map2.shows
 
   -- the root leads where it led
@@ -83,7 +83,7 @@ module _ {K V : Type 0} (same : K → K → Bool) (hash : K → ℕ) (fits : (k 
         ap block_in new_is ∙ block_of_place hash fits c2 blocks2 (c2.place t i) ∙ block_kept t i made known ∙ sym (block_of_place hash fits c blocks (c.place t i)) ∙ ap block_in (sym old_is)
 
     -- what is written of a table's words
-    word_written : (b field : ℕ) → IsWritten m m2 (Word b field) old new → KeepsNames setting c blocks (Word b field) old new
+    word_written : (b field : ℕ) → IsWritten m m2 (Word b field) old new → PreservesNames setting c blocks (Word b field) old new
     word_written b field is t made known e = (links, λ i inside f. place_kept t i made known inside (at_place i f))
       where
         at_place : (i : ℕ) → field ≡ i + PLACES → IsWritten m m2 (Word (blocks.table t) (i + PLACES)) old new
@@ -102,14 +102,14 @@ module _ {K V : Type 0} (same : K → K → Bool) (hash : K → ℕ) (fits : (k 
             new_is ∙ next_kept t made known ∙ sym old_is
 
     -- and of a root's
-    root_written : (r : ℕ) → IsWritten m m2 (Root r) old new → KeepsNames setting c blocks (Root r) old new
+    root_written : (r : ℕ) → IsWritten m m2 (Root r) old new → PreservesNames setting c blocks (Root r) old new
     root_written r is e =
         let old_is : old ≡ root_word hash c blocks = (let here : word_at m (Root setting.root) ≡ Some old = subst (λ (q : ℕ). word_at m (Root q) ≡ Some old) e is.0 in cc (here, shown.root_there)) in
         let new_is : new ≡ root_word hash c2 blocks2 = (let here : word_at m2 (Root setting.root) ≡ Some new = subst (λ (q : ℕ). word_at m2 (Root q) ≡ Some new) e is.1 in cc (here, shown2.root_there)) in
         new_is ∙ root_kept ∙ sym old_is
 
     -- what is written of the map's links and places names what it named
-    pub quiet_written : (x : At) → IsWritten m m2 x old new → KeepsNames setting c blocks x old new
+    pub quiet_written : (x : At) → IsWritten m m2 x old new → PreservesNames setting c blocks x old new
     quiet_written (Root r) is = root_written r is
     quiet_written (Word b field) is = word_written b field is
     quiet_written (Used r) is = tt

@@ -15,14 +15,14 @@ use Rattle.run_effects.specs.declared.tally.Whereabouts.{Whereabouts}
 use Rattle.run_effects.specs.declared.tally.Whereabouts.TheVariants.{Unborn, InMap, Waits, Back}
 
 -- so much is told of where a pair is
-abbrev pub told_of : Place → Whereabouts
-told_of at.Unborn = Unborn
-told_of (at.InMap map) = InMap map
-told_of at.Out = Waits
-told_of at.Handed = Waits
-told_of at.Behind = Waits
-told_of at.Left = Waits
-told_of at.GivenBack = Back
+abbrev pub whereabouts_of : Place → Whereabouts
+whereabouts_of at.Unborn = Unborn
+whereabouts_of (at.InMap map) = InMap map
+whereabouts_of at.Out = Waits
+whereabouts_of at.Handed = Waits
+whereabouts_of at.Behind = Waits
+whereabouts_of at.Left = Waits
+whereabouts_of at.GivenBack = Back
 
 -- of a pair that is stored by an event on this map
 abbrev pub stored_in : Option ℕ → Whereabouts
@@ -67,27 +67,27 @@ abbrev pub flag_of : TableThere → Flagged
 flag_of u = record { table = u.table; is_retired = is_retired u.stage }
 
 -- It tells where pairs are, what waits behind tables, and which tables wait; each table is found at its place.
-pub record Tells (tally : Tally) (place : ℕ → Place) (deferred : List Deferral) (tables : List TableThere) : Type 0 where
-  pub pairs : (n : ℕ) → slice_index_or tally.pairs.items n Unborn ≡ told_of (place n)
+pub record Records (tally : Tally) (place : ℕ → Place) (deferred : List Deferral) (tables : List TableThere) : Type 0 where
+  pub pairs : (n : ℕ) → slice_index_or tally.pairs.items n Unborn ≡ whereabouts_of (place n)
   pub behind : map deferral tally.behind.items ≡ deferred
   pub flags : tally.tables.items ≡ map flag_of tables
   pub places : Leads tally.places tally.tables.items
 
-abbrev pub TellsMoment : {K V : Type 0} → Tally → Moment K V → Type 0
-TellsMoment tally m = Tells tally m.place m.deferred m.tables
+abbrev pub RecordsMoment : {K V : Type 0} → Tally → Moment K V → Type 0
+RecordsMoment tally m = Records tally m.place m.deferred m.tables
 
 -- so it does after an effect
-abbrev pub TellsNext : Option ℕ → Effect → (old new : Tally) → Type 0
-TellsNext map effect old new =
-    (place : ℕ → Place) (deferred : List Deferral) (tables : List TableThere) → Tells old place deferred tables
-    → Tells new (place_by map deferred effect place) (deferred_by effect deferred) (tables_by effect tables)
+abbrev pub RecordsNext : Option ℕ → Effect → (old new : Tally) → Type 0
+RecordsNext map effect old new =
+    (place : ℕ → Place) (deferred : List Deferral) (tables : List TableThere) → Records old place deferred tables
+    → Records new (place_by map deferred effect place) (deferred_by effect deferred) (tables_by effect tables)
 
 -- and after all of an event, in their order
-abbrev pub told_all : Option ℕ → List Effect → (ℕ → Place) × List Deferral × List TableThere → (ℕ → Place) × List Deferral × List TableThere
-told_all map [] so = so
-told_all map (f ∷ effects) so = told_all map effects (place_by map so.1 f so.0, deferred_by f so.1, tables_by f so.2)
+abbrev pub all_recorded : Option ℕ → List Effect → (ℕ → Place) × List Deferral × List TableThere → (ℕ → Place) × List Deferral × List TableThere
+all_recorded map [] so = so
+all_recorded map (f ∷ effects) so = all_recorded map effects (place_by map so.1 f so.0, deferred_by f so.1, tables_by f so.2)
 
-abbrev pub TellsAll : Option ℕ → List Effect → (old new : Tally) → Type 0
-TellsAll map effects old new =
-    (place : ℕ → Place) (deferred : List Deferral) (tables : List TableThere) → Tells old place deferred tables
-    → (let so = told_all map effects (place, deferred, tables) in Tells new so.0 so.1 so.2)
+abbrev pub RecordsAll : Option ℕ → List Effect → (old new : Tally) → Type 0
+RecordsAll map effects old new =
+    (place : ℕ → Place) (deferred : List Deferral) (tables : List TableThere) → Records old place deferred tables
+    → (let so = all_recorded map effects (place, deferred, tables) in Records new so.0 so.1 so.2)

@@ -17,7 +17,7 @@ use Rattle.map_rule.specs.Moves.{Move, Links, Stores, Replaces, Removes, Puts, P
 use Rattle.map_rule.specs.Words.{Blocks, place_word}
 use Rattle.map_rule.specs.Maps.{spot_of}
 use Rattle.map_rule.specs.Rule.{IsLawful}
-use Rattle.map_rule.specs.InWorld.{IsMapIn, Moved, Went}
+use Rattle.map_rule.specs.InWorld.{IsMapIn, Moved, StepSpec}
 use Rattle.run_effects.specs.Tells.Seen.{Seen, Wrote, Unseen, seen_of}
 
 -- the word of a place of the table with this turn
@@ -31,16 +31,16 @@ last_link setting blocks (suc t) = Word (blocks.table t) NEXT
 
 module _ {K : Type 0} (setting : Setting) (c : Chart K) (blocks : Blocks) where
   -- a link of the map is as it was, and a place names what it named: the same pair, or none
-  abbrev pub KeepsNames : At → ℕ → ℕ → Type 0
-  KeepsNames (Root r) old new = r ≡ setting.root → new ≡ old
-  KeepsNames (Word b field) old new =
+  abbrev pub PreservesNames : At → ℕ → ℕ → Type 0
+  PreservesNames (Root r) old new = r ≡ setting.root → new ≡ old
+  PreservesNames (Word b field) old new =
       (t : ℕ) → t < c.past → blocks.table_known t ≡ true → b ≡ blocks.table t
       → (field ≡ NEXT → new ≡ old) × ((i : ℕ) → i < c.len t → field ≡ i + PLACES → block_in new ≡ block_in old)
-  KeepsNames _ old new = Unit {0}
+  PreservesNames _ old new = Unit {0}
 
-  abbrev pub IsQuiet : {T : Type 0} → Seen T → Type 0
-  IsQuiet (Wrote at old new) = KeepsNames at old new
-  IsQuiet _ = Unit {0}
+  abbrev pub IsSilent : {T : Type 0} → Seen T → Type 0
+  IsSilent (Wrote at old new) = PreservesNames at old new
+  IsSilent _ = Unit {0}
 
 -- of a map before a step and after it
 module _ {K : Type 0} (hash : K → ℕ) (setting : Setting) (c : Chart K) (blocks : Blocks) (c2 : Chart K) (blocks2 : Blocks) where
@@ -69,29 +69,29 @@ module _ {K : Type 0} (hash : K → ℕ) (setting : Setting) (c : Chart K) (bloc
         × WroteFrom t (spot_of hash (c.len t) k j) 0 (place_word hash c2 blocks2 (Holds n Still (is_incremental setting.mode))) seen
     IsSeenAs (PutsLate t i n) seen = WroteFrom t i 0 (place_word hash c2 blocks2 (Holds n Still false)) seen
     IsSeenAs (Promotes t) seen = seen ≡ Wrote (Root setting.root) (blocks.table c.first * 2048) (blocks.table t * 2048)
-    IsSeenAs _ seen = IsQuiet setting c blocks seen
+    IsSeenAs _ seen = IsSilent setting c blocks seen
 
     -- what was seen tells the change that was made, if one was
-    abbrev pub IsTold : (same : K → K → Bool) (caller : ℕ) → Moved same hash setting.mode caller c c2 → Seen T → Type 0
-    IsTold same caller (inl same_tables) seen = IsQuiet setting c blocks seen
-    IsTold same caller (inr made) seen = IsSeenAs made.0 seen
+    abbrev pub IsObserved : (same : K → K → Bool) (caller : ℕ) → Moved same hash setting.mode caller c c2 → Seen T → Type 0
+    IsObserved same caller (inl same_tables) seen = IsSilent setting c blocks seen
+    IsObserved same caller (inr made) seen = IsSeenAs made.0 seen
 
 module _ {K : Type 0} (V : Type 0) (same : K → K → Bool) (hash : K → ℕ) where
   -- a step of this caller has led there, of which nothing more is known
-  abbrev pub WentThere : Setting → ℕ → World (Node K V) → Chart K → Blocks → Mem (Node K V) → Type 0
-  WentThere setting caller w c blocks m2 = Went same hash setting caller w c blocks m2 (λ w2 c2 blocks2. Unit {0})
+  abbrev pub HasStepped : Setting → ℕ → World (Node K V) → Chart K → Blocks → Mem (Node K V) → Type 0
+  HasStepped setting caller w c blocks m2 = StepSpec same hash setting caller w c blocks m2 (λ w2 c2 blocks2. Unit {0})
 
   -- The promise, of a step that made this operation, and got this answer.
   abbrev pub OperationsTell : Type 0
   OperationsTell =
       IsLawful same (spot_of hash) → ((k : K) → hash k < 2 ^ 64) → (setting : Setting) (caller : ℕ) (w : World (Node K V)) (c : Chart K) (blocks : Blocks) (m2 : Mem (Node K V)) → IsMapIn same hash setting w c blocks
-      → (went : WentThere setting caller w c blocks m2)
+      → (went : HasStepped setting caller w c blocks m2)
       → (op : Op (Node K V)) (out : Out (Node K V)) → Can w.memory op → Took w.memory op out m2
-      → IsTold hash setting c blocks went.c2 went.blocks2 same caller went.moved (seen_of w.memory op out)
+      → IsObserved hash setting c blocks went.c2 went.blocks2 same caller went.moved (seen_of w.memory op out)
 
   -- And of one that made none: it made no change that an operation would be seen by.
   abbrev pub StillStepsTell : Type 0
   StillStepsTell =
       IsLawful same (spot_of hash) → ((k : K) → hash k < 2 ^ 64) → (setting : Setting) (caller : ℕ) (w : World (Node K V)) (c : Chart K) (blocks : Blocks) (m2 : Mem (Node K V)) → IsMapIn same hash setting w c blocks
-      → (went : WentThere setting caller w c blocks m2) → m2 ≡ w.memory
-      → IsTold hash setting c blocks went.c2 went.blocks2 {T = Node K V} same caller went.moved Unseen
+      → (went : HasStepped setting caller w c blocks m2) → m2 ≡ w.memory
+      → IsObserved hash setting c blocks went.c2 went.blocks2 {T = Node K V} same caller went.moved Unseen

@@ -13,7 +13,7 @@ use Rattle.papaya_raw.specs.declared.machines.end_map.EndMap.{EndMap}
 use Rattle.run_effects.specs.declared.changed.Changed.TheVariants.{Nothing}
 use Rattle.run_shows.proofs.Given.CallersTogether.Slots.{between_rows, between_slots}
 use Rattle.run_shows.specs.Given.CallersRows.{LeavesSlots}
-use Rattle.run_shows.specs.Given.FinishesEndings.{Finishing, EndingsTogether, FinishingTold, StepsOfEnding, waiting_by}
+use Rattle.run_shows.specs.Given.FinishesEndings.{Finishing, EndingsTogether, FinishingOutcome, StepsOfEnding, waiting_by}
 use Rattle.run_shows.specs.Given.FinishesFactsEnds.{events_of}
 use Rattle.run_shows.proofs.Given.FinishesAmong.Own.Steps.{endings_stand}
 use Rattle.run_executor.specs.declared.executor.Executor.{Executor}
@@ -28,7 +28,7 @@ use Rattle.run_executor.specs.Executing.Ending.{ending_on}
 use Rattle.run_executor.specs.Executing.IsThere.{ChangesAt, HasRow, IsThere, call_in, ending_in, making_in, place_of, worker_at, worker_of, held_by}
 use Rattle.run_shows.proofs.Scenes.Between.{deed_between}
 use Rattle.run_shows.proofs.Scenes.Told.{as_step}
-use Rattle.run_shows.specs.Scenes.Ending.{EndingComesToThere, EndingStepsFrom}
+use Rattle.run_shows.specs.Scenes.Ending.{EndingOutcomeHolds, EndingStepsFrom}
 use Rattle.run_shows.specs.Scenes.Scene.{IsEnding, Scene, slot_of}
 
 module _ (K V : Type 0) where
@@ -94,11 +94,11 @@ module _ {K V S : Type 0} (same : K → K → Bool) (hash : K → ℕ) (e : Exec
         → IsThere same hash e2 (record s { world = did.w2; enders = with_at s.enders i (Some g) })
     goes t is on g g_is = is_ended (Some g) (ap Some g_is ∙ sym (ap (λ x. ending_in (ending_on ending x)) is ∙ on))
 
-    comes : EndingComesToThere same (IsThere same hash e2) s i f ending did.w2 did.deed told
+    comes : EndingOutcomeHolds same (IsThere same hash e2) s i f ending did.w2 did.deed told
     comes = by told refl did.told
       where
-        by : (t : Settled (Node K V)) → told ≡ t → FinishingTold V same same e.batch_size e.roots slot_of s.world s.maps s.calls s.makers s.enders i f did.w2 did.deed (ending, t)
-            → EndingComesToThere same (IsThere same hash e2) s i f ending did.w2 did.deed t
+        by : (t : Settled (Node K V)) → told ≡ t → FinishingOutcome V same same e.batch_size e.roots slot_of s.world s.maps s.calls s.makers s.enders i f did.w2 did.deed (ending, t)
+            → EndingOutcomeHolds same (IsThere same hash e2) s i f ending did.w2 did.deed t
         by settled.Goes is (none, together) = (none, goes settled.Goes is refl (record f { machine = ending; waits = f.waits ++ waiting_by did.deed }) refl together)
         by settled.Waits is never = never
         by (settled.Gave value) is (b, there, taken, together) =
@@ -118,7 +118,7 @@ module _ {K V S : Type 0} (same : K → K → Bool) (hash : K → ℕ) (e : Exec
       → e2.hasher ≡ e.hasher → e2.batch_size ≡ e.batch_size → e2.roots ≡ e.roots → e2.maps.items ≡ e.maps.items → e2.slots.items ≡ e.slots.items
       → (ending : EndMap) × EndingStepsFrom f.machine (held_by e) (held_by e2) ending told
       × (did : StepsOfEnding V same same e.batch_size e.roots slot_of s.world s.maps s.calls s.makers s.enders i f e2.memory.memory (ending, told))
-      × EndingComesToThere same (IsThere same hash e2) s i f ending did.w2 did.deed told
+      × EndingOutcomeHolds same (IsThere same hash e2) s i f ending did.w2 did.deed told
   ending_leads e2 ending told slot before is within steps items hasher batch_size roots maps slots = (ending, steps2, did e2 ending told steps2 changes, comes e2 ending told steps2 changes)
     where
       steps2 : EndingStepsFrom f.machine (held_by e) (held_by e2) ending told

@@ -8,7 +8,7 @@ use Rattle.papaya_raw.specs.Given.TablesNodes.{deferred_word}
 use Rattle.run_shows.specs.Given.FinishesEndings.{EndingsTogether}
 use Rattle.run_shows.proofs.Given.FinishesAmong.Begins.{no_endings_begin}
 use Rattle.run_shows.proofs.Given.FinishesBeside.Makings.Promised.{no_makings_begin}
-use Rattle.run_shows.proofs.Given.FinishesBeside.Makings.Samples.{start_roots}
+use Rattle.run_shows.proofs.Given.ManyMapsSamples.Beside.Makings.{start_roots}
 use Rattle.run_shows.proofs.Given.FinishesBeside.Maps.Comes.{no_maps_begin}
 use Rattle.run_executor.specs.declared.executor.Executor.{Executor}
 use Rattle.run_shows.specs.declared.row.SlotUse.{SlotUse}

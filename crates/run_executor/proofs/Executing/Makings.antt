@@ -17,7 +17,7 @@ use Rattle.run_effects.specs.declared.changed.Changed.TheVariants.{Nothing}
 use Rattle.run_shows.proofs.Given.CallersTogether.At.{at_other, at_same}
 use Rattle.run_shows.proofs.Given.CallersTogether.Slots.{all_between, between_rows, between_slots}
 use Rattle.run_shows.specs.Given.CallersRows.{LeavesSlots}
-use Rattle.run_shows.specs.Given.FinishesEndings.{EndingsTogether, MakingStepsAmong, MakingToldAmong}
+use Rattle.run_shows.specs.Given.FinishesEndings.{EndingsTogether, MakingStepsWithEndings, MakingOutcomeWithEndings}
 use Rattle.run_shows.specs.Given.FinishesMakings.{Beginning}
 use Rattle.run_shows.specs.Given.FinishesMaps.{Standing}
 use Rattle.run_shows.proofs.Given.FinishesAmong.Makings.{makings_stand_among}
@@ -31,7 +31,7 @@ use Rattle.run_executor.proofs.Executing.Places.{making_found}
 use Rattle.run_executor.specs.Executing.IsThere.{ChangesAt, HasRow, IsThere, call_in, ending_in, making_in, place_of, worker_at, worker_of, held_by}
 use Rattle.run_executor.specs.Executing.Making.{making_on, maps_on}
 use Rattle.run_shows.proofs.Scenes.Told.{as_step}
-use Rattle.run_shows.specs.Scenes.Making.{MakingComesToThere, MakingStepsFrom}
+use Rattle.run_shows.specs.Scenes.Making.{MakingOutcomeHolds, MakingStepsFrom}
 use Rattle.run_shows.specs.Scenes.Scene.{IsMaking, Scene, slot_of}
 
 -- the settings are as many as they were
@@ -97,7 +97,7 @@ module _ {K V S : Type 0} (same : K → K → Bool) (hash : K → ℕ) (e : Exec
   module _ (mid e2 : Executor K V S) (opening : NewMap) (told : Advance Setting) (steps : MakingStepsFrom b.machine (held_by e) (held_by e2) opening told)
       (changes : ChangesAt (place_of i) (worker_of (slot_of i) (making_on b.map opening told)) e mid)
       (workers : e2.workers.items ≡ mid.workers.items) (slots : e2.slots.items ≡ e.slots.items) (batch_size : e2.batch_size ≡ e.batch_size) (roots : e2.roots ≡ e.roots) (maps : e2.maps.items ≡ maps_on b.map told e.maps.items) where
-    pub did : MakingStepsAmong V same same e.batch_size e.roots slot_of s.world s.maps s.calls s.makers s.enders i b e2.memory.memory (opening, told)
+    pub did : MakingStepsWithEndings V same same e.batch_size e.roots slot_of s.world s.maps s.calls s.makers s.enders i b e2.memory.memory (opening, told)
     did = (makings_stand_among {Q = K} V same same e.batch_size e.roots slot_of s.world s.maps s.calls s.makers s.enders at.held.together i b here).1 e2.memory.memory (opening, told)
         (subst (λ (x : Mem (Node K V)). Steps Took value_at x (new_map_plan {K = K} {V = V} b.machine) e2.memory.memory (opening, told)) (sym at.held.memory)
         (as_step e.memory.memory Nothing (new_map_plan b.machine) e2.memory.memory e2.memory.changed (opening, told) steps))
@@ -126,7 +126,7 @@ module _ {K V S : Type 0} (same : K → K → Bool) (hash : K → ℕ) (e : Exec
           mid e2 changes workers batch_size roots slots (omega (arith, count)) did.step.w2 did.step.memory (λ j ne. ap (λ (f : ℕ → Row). f j) rows) leaves
           (no_row K V b.map opening told (did.step.w2.row i) resting) maps2 settings hashes refl (no_ending K V b.map opening told) next next_is (λ c is. let so = next_so c is in (so.0, subst (λ (x : ℕ). c.map < x) (sym count) so.1)) together
 
-    pub comes : MakingComesToThere same (IsThere same hash e2) s (held_by e) i b opening did.step.w2 told
+    pub comes : MakingOutcomeHolds same (IsThere same hash e2) s (held_by e) i b opening did.step.w2 told
     comes = by told refl maps did.told
       where
         -- the setting of a map that was made, and those of the others
@@ -158,8 +158,8 @@ module _ {K V S : Type 0} (same : K → K → Bool) (hash : K → ℕ) (e : Exec
             (sym (ap (λ (x : Beginning K). x.hash) it) ∙ at.held.hashes_made i b here, subst (λ (x : ℕ). x < length e.maps.items) (ap (λ (x : Beginning K). x.map) it) (at.numbers i b here))
 
         by : (told2 : Advance Setting) → told ≡ told2 → e2.maps.items ≡ maps_on b.map told2 e.maps.items
-            → MakingToldAmong V same same e.batch_size e.roots slot_of s.world s.maps s.calls s.makers s.enders i b did.step.w2 (opening, told2)
-            → MakingComesToThere same (IsThere same hash e2) s (held_by e) i b opening did.step.w2 told2
+            → MakingOutcomeWithEndings V same same e.batch_size e.roots slot_of s.world s.maps s.calls s.makers s.enders i b did.step.w2 (opening, told2)
+            → MakingOutcomeHolds same (IsThere same hash e2) s (held_by e) i b opening did.step.w2 told2
         by progress.Goes is set together =
             is_made s.maps (λ m. at.maps m ∙ ap (λ xs. slice_index_or xs m None) (sym set)) at.held.hashes (Some (record b { machine = opening }))
             (sym (ap (λ x. making_in (making_on {K = K} {V = V} b.map opening x)) is)) as_it_is together
@@ -187,8 +187,8 @@ module _ {K V S : Type 0} (same : K → K → Bool) (hash : K → ℕ) (e : Exec
       → e2.workers.items ≡ slice_set (slice_set e.workers.items (place_of i) None) (place_of i) (worker_of slot (making_on map opening told))
       → e2.hasher ≡ e.hasher → (batch_size : e2.batch_size ≡ e.batch_size) (roots : e2.roots ≡ e.roots) → e2.slots.items ≡ e.slots.items → e2.maps.items ≡ maps_on map told e.maps.items
       → (opening : NewMap) × MakingStepsFrom b.machine (held_by e) (held_by e2) opening told
-      × (did : MakingStepsAmong V same same e.batch_size e.roots slot_of s.world s.maps s.calls s.makers s.enders i b e2.memory.memory (opening, told))
-      × MakingComesToThere same (IsThere same hash e2) s (held_by e) i b opening did.step.w2 told
+      × (did : MakingStepsWithEndings V same same e.batch_size e.roots slot_of s.world s.maps s.calls s.makers s.enders i b e2.memory.memory (opening, told))
+      × MakingOutcomeHolds same (IsThere same hash e2) s (held_by e) i b opening did.step.w2 told
   making_leads e2 opening told slot map before is within steps items hasher batch_size roots slots maps =
       (opening, steps2, did mid e2 opening told steps2 changes refl slots batch_size roots maps2, comes mid e2 opening told steps2 changes refl slots batch_size roots maps2)
     where

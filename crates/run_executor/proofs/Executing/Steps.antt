@@ -8,10 +8,10 @@ use Rattle.papaya_raw.specs.Given.TablesDeclared.node.Node.{Node}
 use Rattle.papaya_raw.specs.Machine.{machine_plan}
 use Rattle.papaya_raw.specs.declared.machines.machine.Machine.{Machine}
 use Rattle.papaya_raw.specs.declared.machines.progress.Progress.{Progress}
-use Rattle.run_effects.specs.ReportingMemory.Tells.{StepsTold}
+use Rattle.run_effects.specs.ReportingMemory.Tells.{StepsObserved}
 use Rattle.run_effects.specs.declared.changed.Changed.TheVariants.{Nothing}
 use Rattle.run_shows.specs.Given.CallersTogether.{UnderWay}
-use Rattle.run_shows.specs.Given.FinishesMachines.{machine_of, MachineStepsAmong}
+use Rattle.run_shows.specs.Given.FinishesMachines.{machine_of, MachineStepsWithEndings}
 use Rattle.run_shows.specs.Given.FinishesMaps.{Standing}
 use Rattle.run_shows.proofs.Given.FinishesAmong.Machines.{machines_stand_among}
 use Rattle.run_executor.specs.declared.executor.Executor.{Executor}
@@ -50,7 +50,7 @@ module _ {K V S : Type 0} (same : K → K → Bool) (hash : K → ℕ) (e : Exec
         (subst (λ (x : Mem (Node K V)). Steps Took value_at x (machine_plan same same hash (machine_of u)) e2.memory.memory (machine, told)) (sym at.held.memory)
         (as_step e.memory.memory Nothing (machine_plan same same hash (machine_of u)) e2.memory.memory e2.memory.changed (machine, told) steps))
 
-    did : MachineStepsAmong V same same e.batch_size e.roots slot_of s.world s.maps s.calls s.makers s.enders m standing i e2.memory.memory u machine told
+    did : MachineStepsWithEndings V same same e.batch_size e.roots slot_of s.world s.maps s.calls s.makers s.enders m standing i e2.memory.memory u machine told
     did = (machines_stand_among V same same e.batch_size e.roots slot_of s.world s.maps s.calls s.makers s.enders at.held.together m standing stands i u here).1
         e2.memory.memory machine told its_step
 
@@ -63,7 +63,7 @@ module _ {K V S : Type 0} (same : K → K → Bool) (hash : K → ℕ) (e : Exec
 
     -- and the executor is there again
     pub stepped : (standing : Standing K) × (machine : Machine K V K) × (s.maps m ≡ Some standing) × StepsFrom same standing.hash (machine_of u) (held_by e) (held_by e2) machine told
-        × (did : MachineStepsAmong V same same e.batch_size e.roots slot_of s.world s.maps s.calls s.makers s.enders m standing i e2.memory.memory u machine told)
+        × (did : MachineStepsWithEndings V same same e.batch_size e.roots slot_of s.world s.maps s.calls s.makers s.enders m standing i e2.memory.memory u machine told)
         × IsThere same hash e2 (scene_after same s (held_by e) (held_by e2) m i standing u machine told did)
     stepped = (
       standing,
@@ -81,11 +81,11 @@ module _ {K V S : Type 0} (same : K → K → Bool) (hash : K → ℕ) (e : Exec
       (batch_size : e1.batch_size ≡ e.batch_size) (roots : e1.roots ≡ e.roots) (maps : e1.maps.items ≡ e.maps.items) (slots : e1.slots.items ≡ e.slots.items) (told : Progress (Node K V)) where
     pub leads_on : (slot map : ℕ) (before : Machine K V K) → (slot ≡ slot_of i) × (map ≡ m) × (before ≡ machine_of u) → SteppedAs same hash (place_of i) slot map before told e1 e2
         → (standing : Standing K) × (machine : Machine K V K) × (s.maps m ≡ Some standing) × StepsFrom same standing.hash (machine_of u) (held_by e) (held_by e2) machine told
-        × (did : MachineStepsAmong V same same e.batch_size e.roots slot_of s.world s.maps s.calls s.makers s.enders m standing i e2.memory.memory u machine told)
+        × (did : MachineStepsWithEndings V same same e.batch_size e.roots slot_of s.world s.maps s.calls s.makers s.enders m standing i e2.memory.memory u machine told)
         × IsThere same hash e2 (scene_after same s (held_by e) (held_by e2) m i standing u machine told did)
     leads_on slot map before (slot_is, map_is, before_is) (machine, steps, changes) =
         stepped e2 machine told
-        (subst (λ (x : Mem (Node K V)). StepsTold K V (Machine K V K × Progress (Node K V)) x Nothing (machine_plan same same hash (machine_of u)) e2.memory.memory e2.memory.changed (machine, told))
+        (subst (λ (x : Mem (Node K V)). StepsObserved K V (Machine K V K × Progress (Node K V)) x Nothing (machine_plan same same hash (machine_of u)) e2.memory.memory e2.memory.changed (machine, told))
         memory (subst (λ (x : Machine K V K). StepsFrom same hash x (held_by e1) (held_by e2) machine told) before_is steps))
         (through e e1 e2 (place_of i) _ items hasher batch_size roots maps slots
         (subst (λ (x : ℕ). ChangesAt (place_of i) (worker_with x m (going_on machine told)) e1 e2) slot_is

@@ -1,8 +1,8 @@
 -- A call that asks takes each reply of its kind.
 use Rattle.std.specs.Prelude.{◌≡◌, ℕ, true, false, not, List, Option, Ok}
 use Rattle.std.proofs.Common.{refl, sym, subst}
-use Rattle.papaya_raw.specs.CallAsks.{absent_told, present_told, told_at}
-use Rattle.papaya_raw.specs.Machine.{sweep_told}
+use Rattle.papaya_raw.specs.CallAsks.{absent_replied, present_replied, replied_at}
+use Rattle.papaya_raw.specs.Machine.{sweep_with_reply}
 use Rattle.papaya_raw.specs.declared.machines.answer.Missing.TheVariants as missing
 use Rattle.papaya_raw.specs.declared.machines.answer.There.TheVariants as there
 use Rattle.papaya_raw.specs.declared.machines.asking.Asking.{Asking}
@@ -23,7 +23,7 @@ use Rattle.run_shows.specs.Given.LateKinds.{FitsAsking}
 use Rattle.run_shows.specs.Given.CallersAsked.{Asked}
 use Rattle.run_shows.specs.Given.CallersPairs.{kind_of}
 use Rattle.run_effects.specs.Effects.Known.{Known}
-use Rattle.run_places.specs.Hands.Asked.{IsQuestion, as_told, given_by}
+use Rattle.run_places.specs.Hands.Asked.{IsQuestion, reply_to_machine, given_by}
 use Rattle.run_executor.specs.Named.Machines.{IsFor, SweepIsAt}
 use Rattle.run_executor.specs.Named.Seen.{fits, is_choice, is_gift, kind_on}
 use Rattle.run_executor.specs.declared.caller.Stands.TheVariants as far
@@ -32,12 +32,12 @@ use Rattle.run_executor.specs.declared.kind.CallKind.TheVariants as kind
 
 module _ {K V : Type 0} (known : Known) (c : KeyCall K V K) where
   abbrev TakesIt : Asking → Reply V → Type 0
-  TakesIt it told = (told_at (at.Asks it) c (as_told told)).1 ≡ Ok tt
+  TakesIt it told = (replied_at (at.Asks it) c (reply_to_machine told)).1 ≡ Ok tt
 
   -- a value, where it takes values,
   values_taken : (it : Asking) (question : Option ℕ) → IsQuestion known it question → c.replies.takes ≡ takes.Values → (told : Reply V) → is_gift told ≡ true → TakesIt it told
-  values_taken (asking.Absent gap) question is takes (Gives v) gift = subst (λ (t : Takes). (absent_told t c gap (reply.Insert v)).1 ≡ Ok tt) (sym takes) refl
-  values_taken (asking.Present word) question is takes (Gives v) gift = subst (λ (t : Takes). (present_told t c word (reply.Insert v)).1 ≡ Ok tt) (sym takes) refl
+  values_taken (asking.Absent gap) question is takes (Gives v) gift = subst (λ (t : Takes). (absent_replied t c gap (reply.Insert v)).1 ≡ Ok tt) (sym takes) refl
+  values_taken (asking.Present word) question is takes (Gives v) gift = subst (λ (t : Takes). (present_replied t c word (reply.Insert v)).1 ≡ Ok tt) (sym takes) refl
   values_taken (asking.Fills word) question is takes told gift = absurd is
   values_taken (asking.GivesUp word) question is takes told gift = absurd is
   values_taken it question is takes Removes gift = absurd (cc gift)
@@ -46,12 +46,12 @@ module _ {K V : Type 0} (known : Known) (c : KeyCall K V K) where
 
   -- a change, where it takes changes,
   changes_taken : (it : Asking) (question : Option ℕ) → IsQuestion known it question → c.replies.takes ≡ takes.Changes → (told : Reply V) → not (is_choice told) ≡ true → TakesIt it told
-  changes_taken (asking.Absent gap) question is takes (Gives v) plain = subst (λ (t : Takes). (absent_told t c gap (reply.Insert v)).1 ≡ Ok tt) (sym takes) refl
-  changes_taken (asking.Absent gap) question is takes Removes plain = subst (λ (t : Takes). (absent_told t c gap reply.Remove).1 ≡ Ok tt) (sym takes) refl
-  changes_taken (asking.Absent gap) question is takes (Aborts w) plain = subst (λ (t : Takes). (absent_told t c gap reply.Abort).1 ≡ Ok tt) (sym takes) refl
-  changes_taken (asking.Present word) question is takes (Gives v) plain = subst (λ (t : Takes). (present_told t c word (reply.Insert v)).1 ≡ Ok tt) (sym takes) refl
-  changes_taken (asking.Present word) question is takes Removes plain = subst (λ (t : Takes). (present_told t c word reply.Remove).1 ≡ Ok tt) (sym takes) refl
-  changes_taken (asking.Present word) question is takes (Aborts w) plain = subst (λ (t : Takes). (present_told t c word reply.Abort).1 ≡ Ok tt) (sym takes) refl
+  changes_taken (asking.Absent gap) question is takes (Gives v) plain = subst (λ (t : Takes). (absent_replied t c gap (reply.Insert v)).1 ≡ Ok tt) (sym takes) refl
+  changes_taken (asking.Absent gap) question is takes Removes plain = subst (λ (t : Takes). (absent_replied t c gap reply.Remove).1 ≡ Ok tt) (sym takes) refl
+  changes_taken (asking.Absent gap) question is takes (Aborts w) plain = subst (λ (t : Takes). (absent_replied t c gap reply.Abort).1 ≡ Ok tt) (sym takes) refl
+  changes_taken (asking.Present word) question is takes (Gives v) plain = subst (λ (t : Takes). (present_replied t c word (reply.Insert v)).1 ≡ Ok tt) (sym takes) refl
+  changes_taken (asking.Present word) question is takes Removes plain = subst (λ (t : Takes). (present_replied t c word reply.Remove).1 ≡ Ok tt) (sym takes) refl
+  changes_taken (asking.Present word) question is takes (Aborts w) plain = subst (λ (t : Takes). (present_replied t c word reply.Abort).1 ≡ Ok tt) (sym takes) refl
   changes_taken (asking.Fills word) question is takes told plain = absurd is
   changes_taken (asking.GivesUp word) question is takes told plain = absurd is
   changes_taken it question is takes (Decides b) plain = absurd (cc plain)
@@ -60,8 +60,8 @@ module _ {K V : Type 0} (known : Known) (c : KeyCall K V K) where
   choices_taken : (it : Asking) (question : Option ℕ) → IsQuestion known it question → c.replies.takes ≡ takes.Choices → FitsAsking there.Asks missing.Answers takes.Choices it
       → (told : Reply V) → is_choice told ≡ true → TakesIt it told
   choices_taken (asking.Absent gap) question is takes fit told choice = absurd (cc fit)
-  choices_taken (asking.Present word) question is takes fit (Decides true) choice = subst (λ (t : Takes). (present_told t c word reply.Yes).1 ≡ Ok tt) (sym takes) refl
-  choices_taken (asking.Present word) question is takes fit (Decides false) choice = subst (λ (t : Takes). (present_told t c word reply.No).1 ≡ Ok tt) (sym takes) refl
+  choices_taken (asking.Present word) question is takes fit (Decides true) choice = subst (λ (t : Takes). (present_replied t c word reply.Yes).1 ≡ Ok tt) (sym takes) refl
+  choices_taken (asking.Present word) question is takes fit (Decides false) choice = subst (λ (t : Takes). (present_replied t c word reply.No).1 ≡ Ok tt) (sym takes) refl
   choices_taken (asking.Fills word) question is takes fit told choice = absurd is
   choices_taken (asking.GivesUp word) question is takes fit told choice = absurd is
   choices_taken it question is takes fit (Gives v) choice = absurd (cc choice)
@@ -71,7 +71,7 @@ module _ {K V : Type 0} (known : Known) (c : KeyCall K V K) where
   -- whichever call on a key it is
   pub key_takes : (one : OneKey K V) (asked : List (Asked V)) (it : Asking) (question : Option ℕ) → IsQuestion known it question → c.replies.takes ≡ (kind_of (given_by one asked)).takes
       → FitsAsking (kind_of (given_by one asked)).present (kind_of (given_by one asked)).absent (kind_of (given_by one asked)).takes it
-      → (told : Reply V) → fits (kind_on one) told ≡ true → (told_at (at.Asks it) c (as_told told)).1 ≡ Ok tt
+      → (told : Reply V) → fits (kind_on one) told ≡ true → (replied_at (at.Asks it) c (reply_to_machine told)).1 ≡ Ok tt
   key_takes (TryInsertWith k) asked it question is takes fit told fits = values_taken it question is takes told fits
   key_takes (GetOrInsertWith k) asked it question is takes fit told fits = values_taken it question is takes told fits
   key_takes (Update k) asked it question is takes fit told fits = values_taken it question is takes told fits
@@ -100,14 +100,14 @@ module _ {K V : Type 0} (known : Known) (c : KeyCall K V K) where
 
 -- a sweep that asks takes a choice
 module _ {V : Type 0} (c : Sweep) where
-  by_stage : (stage : Sweeping) (word : ℕ) → stage ≡ sweeping.Asks word → (told : Reply V) → is_choice told ≡ true → (sweep_told stage c (as_told told)).1 ≡ Ok tt
-  by_stage stage word is (Decides true) choice = subst (λ (x : Sweeping). (sweep_told {V = V} x c reply.Yes).1 ≡ Ok tt) (sym is) refl
-  by_stage stage word is (Decides false) choice = subst (λ (x : Sweeping). (sweep_told {V = V} x c reply.No).1 ≡ Ok tt) (sym is) refl
+  by_stage : (stage : Sweeping) (word : ℕ) → stage ≡ sweeping.Asks word → (told : Reply V) → is_choice told ≡ true → (sweep_with_reply stage c (reply_to_machine told)).1 ≡ Ok tt
+  by_stage stage word is (Decides true) choice = subst (λ (x : Sweeping). (sweep_with_reply {V = V} x c reply.Yes).1 ≡ Ok tt) (sym is) refl
+  by_stage stage word is (Decides false) choice = subst (λ (x : Sweeping). (sweep_with_reply {V = V} x c reply.No).1 ≡ Ok tt) (sym is) refl
   by_stage stage word is (Gives v) choice = absurd (cc choice)
   by_stage stage word is Removes choice = absurd (cc choice)
   by_stage stage word is (Aborts w) choice = absurd (cc choice)
 
-  pub sweep_takes : (its : CallKind) (question : Option ℕ) → IsFor its c.purpose → SweepIsAt (far.Asks question) c → (told : Reply V) → fits its told ≡ true → (sweep_told c.stands c (as_told told)).1 ≡ Ok tt
+  pub sweep_takes : (its : CallKind) (question : Option ℕ) → IsFor its c.purpose → SweepIsAt (far.Asks question) c → (told : Reply V) → fits its told ≡ true → (sweep_with_reply c.stands c (reply_to_machine told)).1 ≡ Ok tt
   sweep_takes kind.Retains question for asks told fits = by_stage c.stands asks.0 asks.1 told fits
   sweep_takes kind.Clears question for asks told fits = absurd (cc fits)
   sweep_takes kind.Walks question for asks told fits = absurd (cc fits)

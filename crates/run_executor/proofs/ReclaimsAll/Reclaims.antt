@@ -10,7 +10,7 @@ use Rattle.seize.specs.ReclaimAll.{reclaiming_all, clearing, reclaim_all_plan}
 use Rattle.seize.specs.World.{Rests}
 use Rattle.papaya_raw.specs.Given.TablesNodes.{deferred_word, was_left}
 use Rattle.papaya_raw.specs.Given.TablesDeclared.node.Node.{Node}
-use Rattle.run_effects.specs.ReportingMemory.Tells.{StepsTold}
+use Rattle.run_effects.specs.ReportingMemory.Tells.{StepsObserved}
 use Rattle.run_effects.specs.declared.changed.Changed.TheVariants.{Nothing}
 use Rattle.run_effects.specs.declared.teller.Teller.{Teller}
 use Rattle.run_shows.specs.Given.CallersRows.{IsRowOn}
@@ -23,10 +23,10 @@ use Rattle.run_executor.specs.declared.executor.Executor.{Executor}
 use Rattle.run_shows.specs.declared.row.SlotUse.{SlotUse}
 use Rattle.run_executor.specs.declared.worker.Work.{Work}
 use Rattle.run_executor.specs.ReclaimsAll.Reclaiming.{NobodyHas, MayReclaim, IsReclaimingThere, Leaves, ReclaimsThere}
-use Rattle.run_executor.specs.Executing.IsThere.{HasRow, IsThere, IsUsedAs, KeepsGiven, call_in, ending_in, held_by, making_in}
+use Rattle.run_executor.specs.Executing.IsThere.{HasRow, IsThere, IsUsedAs, PreservesSettings, call_in, ending_in, held_by, making_in}
 use Rattle.run_shows.proofs.Scenes.Goes.{same_map_keeps}
 use Rattle.run_shows.proofs.Scenes.Told.{as_step}
-use Rattle.run_shows.specs.Scenes.Reclaiming.{ReclaimingComesToThere}
+use Rattle.run_shows.specs.Scenes.Reclaiming.{ReclaimingOutcomeHolds}
 use Rattle.run_shows.specs.Scenes.Scene.{Scene, slot_of}
 use Rattle.seize_words.proofs.General.{none_mapped as none_of}
 
@@ -52,7 +52,7 @@ module _ {K V S : Type 0} (same : K → K → Bool) (hash : K → ℕ) (e : Exec
 
 module _ {K V S : Type 0} (same : K → K → Bool) (hash : K → ℕ) (e : Executor K V S) (s : Scene K V) (i : ℕ) (lists : ℕ → List ℕ) (all : ReclaimAll) (at : IsReclaimingThere same hash e s i lists all) where
   module _ (e1 : Executor K V S) (after : ReclaimAll) (told : Settled (Node K V))
-      (steps : StepsTold K V (ReclaimAll × Settled (Node K V)) e.memory.memory Nothing (reclaim_all_plan deferred_word was_left all) e1.memory.memory e1.memory.changed (after, told))
+      (steps : StepsObserved K V (ReclaimAll × Settled (Node K V)) e.memory.memory Nothing (reclaim_all_plan deferred_word was_left all) e1.memory.memory e1.memory.changed (after, told))
       (rest : e1 ≡ record e { memory = e1.memory }) (e2 : Executor K V S) (leaves : Leaves e1 e2 told) where
     its_step : Steps Took value_at s.world.memory (reclaim_all_plan deferred_word was_left all) e1.memory.memory (after, told)
     its_step =
@@ -110,7 +110,7 @@ module _ {K V S : Type 0} (same : K → K → Bool) (hash : K → ℕ) (e : Exec
         }
 
     abbrev ComesTo : Scene K V → (ℕ → List ℕ) → ReclaimAll → Settled (Node K V) → Type 0
-    ComesTo = ReclaimingComesToThere same s i lists (λ s2 lists2 all. IsReclaimingThere same hash e2 s2 i lists2 all) (IsThere same hash e2) (held_by e) (held_by e2)
+    ComesTo = ReclaimingOutcomeHolds same s i lists (λ s2 lists2 all. IsReclaimingThere same hash e2 s2 i lists2 all) (IsThere same hash e2) (held_by e) (held_by e2)
 
     by_told : (t : Settled (Node K V)) → told ≡ t → Leaves e1 e2 t → ComesTo scene2 did.lists2 after t
     by_told settled.Goes is leaves = goes e2 leaves
@@ -127,7 +127,7 @@ module _ {K V S : Type 0} (same : K → K → Bool) (hash : K → ℕ) (e : Exec
     -- where the step leads, in the memory that it has come to
     abbrev LeadsIn : Teller (Mem (Node K V)) → Type 0
     LeadsIn t =
-        StepsTold K V (ReclaimAll × Settled (Node K V)) e.memory.memory Nothing (reclaim_all_plan deferred_word was_left all) t.memory t.changed (after, told)
+        StepsObserved K V (ReclaimAll × Settled (Node K V)) e.memory.memory Nothing (reclaim_all_plan deferred_word was_left all) t.memory t.changed (after, told)
         × (d : StepsOfReclaiming V same same e.batch_size e.roots slot_of s.maps s.calls s.makers s.enders s.world i lists all.stands t.memory after told)
         × ComesTo (record s { world = d.w2; maps = d.maps2 }) d.lists2 after told
 
@@ -136,7 +136,7 @@ module _ {K V S : Type 0} (same : K → K → Bool) (hash : K → ℕ) (e : Exec
 
 -- a step in the memory alone, and what it leaves then, keep what the executor was given
 module _ {K V S : Type 0} (e mid e2 : Executor K V S) where
-  given_by : e2 ≡ record mid { slots = e2.slots } → mid ≡ record e { memory = mid.memory } → KeepsGiven e e2
+  given_by : e2 ≡ record mid { slots = e2.slots } → mid ≡ record e { memory = mid.memory } → PreservesSettings e e2
   given_by left rest = (
     ap (λ x. x.hasher) left ∙ ap (λ x. x.hasher) rest,
     ap (λ x. x.batch_size) left ∙ ap (λ x. x.batch_size) rest,
@@ -144,10 +144,10 @@ module _ {K V S : Type 0} (e mid e2 : Executor K V S) where
     ap (λ x. length x.maps.items) left ∙ ap (λ x. length x.maps.items) rest,
   )
 
-  given_by_none : e2 ≡ mid → mid ≡ record e { memory = mid.memory } → KeepsGiven e e2
+  given_by_none : e2 ≡ mid → mid ≡ record e { memory = mid.memory } → PreservesSettings e e2
   given_by_none left rest = given_by (left ∙ sym (ap (λ x. record mid { slots = x.slots }) left)) rest
 
-  pub given_then : (told : Settled (Node K V)) → mid ≡ record e { memory = mid.memory } → Leaves mid e2 told → KeepsGiven e e2
+  pub given_then : (told : Settled (Node K V)) → mid ≡ record e { memory = mid.memory } → Leaves mid e2 told → PreservesSettings e e2
   given_then settled.Done rest left = given_by left.2 rest
   given_then settled.Goes rest left = given_by_none left rest
   given_then settled.Waits rest left = given_by_none left rest

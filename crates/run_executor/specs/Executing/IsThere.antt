@@ -95,8 +95,8 @@ module _ {K V S : Type 0} where
   StaysGiven old new = (new.hasher ≡ old.hasher) × (new.batch_size ≡ old.batch_size) × (new.roots ≡ old.roots)
 
   -- and so does, but where maps are to be made, how many of them have a number
-  abbrev pub KeepsGiven : Executor K V S → Executor K V S → Type 0
-  KeepsGiven old new = (new.hasher ≡ old.hasher) × (new.batch_size ≡ old.batch_size) × (new.roots ≡ old.roots) × (length new.maps.items ≡ length old.maps.items)
+  abbrev pub PreservesSettings : Executor K V S → Executor K V S → Type 0
+  PreservesSettings old new = (new.hasher ≡ old.hasher) × (new.batch_size ≡ old.batch_size) × (new.roots ≡ old.roots) × (length new.maps.items ≡ length old.maps.items)
 
 module _ {K V S : Type 0} (same : K → K → Bool) (hash : K → ℕ) where
   -- The executor is there: the scene is that of what it holds, where all keys have one hash; and it has the settings of the maps that stand, of each caller what it

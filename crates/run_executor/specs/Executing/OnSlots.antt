@@ -47,11 +47,11 @@ module _ {K V S : Type 0} (same : K → K → Bool) (hash : K → ℕ) where
       × (new.slots.items ≡ uses_begun (slot_of i) called old.slots.items) × RowBeginsTo (IsThere same hash new) called i s (held_by old) (held_by new)
 
   -- The step of this row of a caller: it is told, with what its one operation has changed, the row goes on, unless it has ended, and slots are used by that.
-  abbrev pub RowComesThere : ℕ → RowTold (Node K V) → Scene K V → Executor K V S → Executor K V S → SlotRow → Type 0
-  RowComesThere i told s old new row =
+  abbrev pub RowStepHasOutcome : ℕ → RowTold (Node K V) → Scene K V → Executor K V S → Executor K V S → SlotRow → Type 0
+  RowStepHasOutcome i told s old new row =
       IsOnSlot s i row × (after : SlotRow) × RowSteps K V row old.memory.memory new.memory.memory new.memory.changed (after, told) × (work_of new i ≡ row_on after told)
       × (new.slots.items ≡ uses_after (change_of row) told old.slots.items) × HappensTo (IsThere same hash new) (Step i) s (held_by old)
 
   -- So it is of whatever row the caller has under way.
   abbrev pub RowStepsThere : ℕ → RowTold (Node K V) → Scene K V → Executor K V S → Executor K V S → Type 0
-  RowStepsThere i told s old new = (row : SlotRow) → work_of old i ≡ Some (work.OnSlot row) → RowComesThere i told s old new row
+  RowStepsThere i told s old new = (row : SlotRow) → work_of old i ≡ Some (work.OnSlot row) → RowStepHasOutcome i told s old new row

@@ -10,7 +10,7 @@ use Rattle.run_schedules.specs.declared.call.OneKey.{OneKey}
 use Rattle.run_schedules.specs.declared.call.OneKey.TheVariants.{Get, GetKeyValue, ContainsKey, Insert, TryInsert, TryInsertWith, GetOrInsert, GetOrInsertWith, Update, UpdateOrInsert, UpdateOrInsertWith, Compute, Remove, RemoveEntry, RemoveIf}
 use Rattle.run_schedules.specs.declared.call.Reply.{Reply}
 use Rattle.run_schedules.specs.declared.call.Reply.TheVariants.{Gives, Decides}
-use Rattle.run_schedules.specs.Schedules.Moment.{Stands, Going, Asking, Told, IsReady, UnderWay, MapThere}
+use Rattle.run_schedules.specs.Schedules.Moment.{CallState, Going, Asking, Told, IsReady, UnderWay, MapThere}
 use Rattle.run_executor.specs.declared.caller.NamedCaller.{NamedCaller}
 use Rattle.run_executor.specs.declared.caller.Stands.{Stands as HowFar}
 use Rattle.run_executor.specs.declared.caller.Stands.TheVariants as far
@@ -66,7 +66,7 @@ module _ {V : Type 0} where
   fits _ reply = is_gift reply
 
 -- how far it is; that it has just got its reply is not told apart
-abbrev pub far_of : Stands → HowFar
+abbrev pub far_of : CallState → HowFar
 far_of Going = far.Goes
 far_of (Asking question) = far.Asks question
 far_of Told = far.Goes

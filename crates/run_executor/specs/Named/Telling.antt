@@ -45,9 +45,9 @@ kept_by (keeps.Unstored unstored) kind.TriesToInsert value = unstored
 kept_by (keeps.Unstored unstored) _ value = value
 
 -- whether a call goes on by itself
-abbrev pub goes_on : {V : Type 0} → Outcome V → Bool
-goes_on outcome.Goes = true
-goes_on _ = false
+abbrev pub continues : {V : Type 0} → Outcome V → Bool
+continues outcome.Goes = true
+continues _ = false
 
 module _ {V : Type 0} where
   -- the pair is there, and this value was not stored

@@ -8,7 +8,7 @@ use Rattle.seize.specs.declared.rows.settle.Settled.TheVariants as settled
 use Rattle.seize.specs.declared.states.TheConstants.{HEAD}
 use Rattle.papaya_raw.specs.Given.TablesDeclared.node.Node.{Node}
 use Rattle.run_shows.specs.Reclaims.Reclaims.{LeftBehind}
-use Rattle.run_shows.specs.Reclaims.Slots.{IsQuiet}
+use Rattle.run_shows.specs.Reclaims.Slots.{IsQuiescent}
 use Rattle.run_executor.specs.declared.executor.Executor.{Executor}
 use Rattle.run_shows.specs.declared.callers.TheConstants.{SLOTS}
 use Rattle.run_shows.specs.declared.row.SlotUse.TheVariants.{Vacant}
@@ -29,7 +29,7 @@ module _ {K V S : Type 0} where
   -- These lists are behind the roots of maps that have ended; and a slot was taken, or nothing is left of what slots had.
   abbrev pub MayReclaim : Executor K V S → Scene K V → (ℕ → List ℕ) → Bool → Type 0
   MayReclaim e s lists true = LeftBehind e.roots s.world s.maps lists × IsSome (word_at s.world.memory (Slot 0 HEAD))
-  MayReclaim e s lists false = LeftBehind e.roots s.world s.maps lists × IsQuiet s.world
+  MayReclaim e s lists false = LeftBehind e.roots s.world s.maps lists × IsQuiescent s.world
 
 module _ {K V S : Type 0} (same : K → K → Bool) (hash : K → ℕ) where
   -- All is being reclaimed in what an executor holds: nobody has anything under way, and it has the settings of the maps that stand.

@@ -15,7 +15,7 @@ use Rattle.run_executor.specs.Given.SchedulesGrowing.{MayGrow}
 use Rattle.run_executor.specs.Given.SchedulesMoment.{UnderWay as CallThere, Moment}
 use Rattle.run_executor.specs.Given.SchedulesTerms.{Terms}
 use Rattle.run_executor.specs.Given.SchedulesViews.{call_of}
-use Rattle.run_executor.specs.Given.TellerTells.{StepsTold}
+use Rattle.run_executor.specs.Given.TellerTells.{StepsObserved}
 use Rattle.run_executor.specs.Given.EffectsDeclared.changed.Changed.{Changed}
 use Rattle.run_executor.specs.Given.EffectsDeclared.changed.Changed.TheVariants as changed
 use Rattle.run_executor.specs.Given.EffectsDeclared.changed.Kind.{Kind}
@@ -27,7 +27,7 @@ use Rattle.run_executor.specs.Given.EffectsDeclared.acting.Acting.{Acting}
 use Rattle.run_executor.specs.Given.EffectsDeclared.acting.Acting.TheVariants as acts
 use Rattle.run_executor.specs.Given.FinishesMachines.{machine_of}
 use Rattle.run_executor.proofs.Given.FollowsSteps.{WentTo, went_to}
-use Rattle.run_executor.specs.Given.MomentsWhole.{ShowsWhole}
+use Rattle.run_executor.specs.Given.MomentsWhole.{RefinesWhole}
 use Rattle.run_blocks.proofs.Owes.Fields.{its_effect}
 use Rattle.run_blocks.proofs.Owes.Short.Effects.{of_growth, NoneOfGrowth, none_asked}
 use Rattle.run_blocks.proofs.Owes.Tables.Held.{call_unmade}
@@ -88,7 +88,7 @@ asks_some (changed.Took b) asks e = asks
 asks_some (changed.Roomed bucket had) asks e = asks
 
 -- the table that a step was to make is that of the making
-pub made_of : {K V R : Type 0} (o : Option NewTable) (m m2 : Mem (Node K V)) (told : Changed) (plan : Plan (Node K V) R) (end : R) → StepsTold K V R m changed.Nothing plan m2 told end → PlanMakes o plan → Asks told
+pub made_of : {K V R : Type 0} (o : Option NewTable) (m m2 : Mem (Node K V)) (told : Changed) (plan : Plan (Node K V) R) (end : R) → StepsObserved K V R m changed.Nothing plan m2 told end → PlanMakes o plan → Asks told
     → (n : NewTable) × (o ≡ Some n)
 made_of o m m2 told plan end steps so asks = by told refl asks
   where
@@ -101,7 +101,7 @@ made_of o m m2 told plan end steps so asks = by told refl asks
     by (changed.Roomed bucket had) told_is asked = absurd asked
 
 module _ {K V : Type 0} (same : K → K → Bool) (hash : ℕ → K → ℕ) (name : ℕ → List ℕ) (m : Moment K V) (known : Known) (s : Scene K V) (old new : Held K V) (at : IsAt same hash old s)
-    (whole : ShowsWhole same name m known s) (map i : ℕ) (u : UnderWay K V K) (here : s.calls map i ≡ Some u) (said : Progress (Node K V)) (leads : StepLeads same hash i said s old new) where
+    (whole : RefinesWhole same name m known s) (map i : ℕ) (u : UnderWay K V K) (here : s.calls map i ≡ Some u) (said : Progress (Node K V)) (leads : StepLeads same hash i said s old new) where
   abbrev to : WentTo same hash name m known s old new at whole.all.shown map i u here said leads
   to = went_to same hash name m known s old new at whole.all.shown map i u here said leads
 

@@ -12,7 +12,7 @@ use Rattle.run_executor.specs.Given.CallersTogether.{CallOnKey, UnderWay, OnKey,
 use Rattle.run_executor.specs.Given.FinishesMachines.{machine_of}
 use Rattle.run_executor.specs.Given.FinishesMaps.{Standing}
 use Rattle.run_executor.proofs.Given.HandsAsking.{which}
-use Rattle.run_finds.specs.Growing.{GrowsAt, ShowsGrowing, GrowingStays, CallsBeginGrowing, CallsTakeGrowing, WalksGoOnGrowing}
+use Rattle.run_finds.specs.Growing.{GrowsAt, RefinesGrowing, GrowingStays, CallsBeginGrowing, CallsTakeGrowing, WalksPreserveGrowing}
 use Rattle.run_finds.specs.Within.{many_of}
 use Rattle.run_finds.proofs.Grows.On.{grows_later, reply_grows}
 use Rattle.run_executor.specs.Given.ScenesBeginning.{Begins}
@@ -25,9 +25,9 @@ growing_stays K V m v s t growing later keeps map i u is =
     let before = subst (λ (p : KeyCall K V K). GrowsAt (many_of map m) p p.stands) was.2 (growing map i was.0 was.1) in
     grows_later (many_of map v) (many_of map m) (later map) u.call u.call.stands before
 
-module _ {K V : Type 0} (m : Moment K V) (s : Scene K V) (growing : ShowsGrowing m s) (map i : ℕ) where
+module _ {K V : Type 0} (m : Moment K V) (s : Scene K V) (growing : RefinesGrowing m s) (map i : ℕ) where
   -- one call goes on as another machine
-  goes_on : (next : UnderWay K V K) → ((y : CallOnKey K V K) → next ≡ OnKey y → GrowsAt (many_of map m) y.call y.call.stands) → ShowsGrowing m (scene_with map i next s)
+  goes_on : (next : UnderWay K V K) → ((y : CallOnKey K V K) → next ≡ OnKey y → GrowsAt (many_of map m) y.call y.call.stands) → RefinesGrowing m (scene_with map i next s)
   goes_on next so n j y is = elim (which s.calls map i (Some next) n j (OnKey y) is) as (λ _. GrowsAt (many_of n m) y.call y.call.stands) [
     | inl it ↦ subst (λ (k : ℕ). GrowsAt (many_of k m) y.call y.call.stands) (sym it.0) (so y (let one : next ≡ OnKey y = cc (it.2) in one))
     | inr was ↦ growing n j y was.1
@@ -79,7 +79,7 @@ calls_take_growing K V m s growing map i u here reply next goes = goes_on m s gr
     by (Counting sum) is on = no_key (many_of map m) next (kinds.Count sum) (λ p e. cc e) on
     by (OverAll o) is on = no_key (many_of map m) next (kinds.Sweep (sweep_replied o.sweep reply).0) (λ p e. cc e) on
 
-pub walks_go_on_growing : (K V : Type 0) → WalksGoOnGrowing K V
+pub walks_go_on_growing : (K V : Type 0) → WalksPreserveGrowing K V
 walks_go_on_growing K V m s growing map i u here next goes = goes_on m s growing map i next (by u here goes)
   where
     by : (x : UnderWay K V K) → s.calls map i ≡ Some x → machine_of next ≡ (machine_asked (machine_of x)).0 → (y : CallOnKey K V K) → next ≡ OnKey y → GrowsAt (many_of map m) y.call y.call.stands

@@ -25,7 +25,7 @@ use Rattle.run_executor.specs.Given.SchedulesViews.{has_gift}
 use Rattle.run_executor.specs.Given.RuleChart.{Chart}
 use Rattle.run_executor.specs.Given.RuleWords.{Blocks}
 use Rattle.run_executor.specs.Given.PointsFactsCalls.{Change, IsCopying}
-use Rattle.run_executor.specs.Given.CallersAsked.{Asked, last_told, IsAsTold}
+use Rattle.run_executor.specs.Given.CallersAsked.{Asked, last_reply, IsAsReplied}
 use Rattle.run_executor.specs.Given.CallersKind.{Kind}
 use Rattle.run_executor.specs.Given.CallersPairs.{Given, Begun, IsTold, kind_of, KeepsGiven}
 use Rattle.run_executor.specs.Given.CallersTogether.{CallOnKey, OnKey, Knows}
@@ -38,7 +38,7 @@ use Rattle.run_finds.specs.Growing.{HasForNone, GrowsAt}
 
 -- of a call of this kind, which was told so: it stores where its key is missing, or asks there, and was told a value
 abbrev pub StoresForNone : {V : Type 0} → Kind → List (Asked V) → Type 0
-StoresForNone {V} kind asked = (kind.absent ≡ missing.Puts) ⊎ ((kind.absent ≡ missing.Asks) × (value : V) × (last_told None asked ≡ Some (reply.Insert value)))
+StoresForNone {V} kind asked = (kind.absent ≡ missing.Puts) ⊎ ((kind.absent ≡ missing.Asks) × (value : V) × (last_reply None asked ≡ Some (reply.Insert value)))
 
 -- a call that just answers there stores nothing
 pub answers_none : {V : Type 0} (kind : Kind) (asked : List (Asked V)) → kind.absent ≡ missing.Answers → StoresForNone kind asked → ⊥
@@ -79,15 +79,15 @@ module _ {K V : Type 0} where
     Its = IsTold kind its asked
 
     -- it does not store without asking, so it was told a value
-    was_told : (kind.absent ≡ missing.Puts → ⊥) → (value : V) × (last_told None asked ≡ Some (reply.Insert value))
+    was_told : (kind.absent ≡ missing.Puts → ⊥) → (value : V) × (last_reply None asked ≡ Some (reply.Insert value))
     was_told never = by stores
       where
-        by : StoresForNone kind asked → (value : V) × (last_told None asked ≡ Some (reply.Insert value))
+        by : StoresForNone kind asked → (value : V) × (last_reply None asked ≡ Some (reply.Insert value))
         by (inl puts) = absurd (never puts)
         by (inr (asks, value, was)) = (value, was)
 
     gift_there : (of : List (Asked V)) → AreReplies number stored of replies → asked ≡ of → (kind.absent ≡ missing.Puts → ⊥) → has_gift replies ≡ true
-    gift_there of are e never = let it = was_told never in gift_told number stored of replies None it.0 are (ap (last_told None) (sym e) ∙ it.1)
+    gift_there of are e never = let it = was_told never in gift_told number stored of replies None it.0 are (ap (last_reply None) (sym e) ∙ it.1)
 
     told_valued : (one : OneKey K V) (of : List (Asked V)) → AreReplies number stored of replies → Its ≡ given_by one of → has_value one (has_gift replies) ≡ true
     told_valued (Insert k v) of are e = refl
@@ -134,11 +134,11 @@ module _ {K V : Type 0} (hash : K → ℕ) (m : Mem (Node K V)) (c : Chart K) (s
       by (inl puts) = cc (none, puts)
       by (inr (asks, some)) = cc (none, asks)
 
-  told_for : (kind : Kind) (its : Option K) (asked : List (Asked V)) → IsAsTold hash m c seen its asked p.replies p.own → p.missing ≡ kind.absent → HasForNone p → StoresForNone kind asked
+  told_for : (kind : Kind) (its : Option K) (asked : List (Asked V)) → IsAsReplied hash m c seen its asked p.replies p.own → p.missing ≡ kind.absent → HasForNone p → StoresForNone kind asked
   told_for kind its asked as_told is (inl puts) = inl (sym is ∙ puts)
   told_for kind its asked as_told is (inr (asks, some)) = (let it = by p.replies.absent refl in inr (sym is ∙ asks, it.0, it.1))
     where
-      by : (t : Told V) → p.replies.absent ≡ t → (value : V) × (last_told None asked ≡ Some (reply.Insert value))
+      by : (t : Told V) → p.replies.absent ≡ t → (value : V) × (last_reply None asked ≡ Some (reply.Insert value))
       by tells.Nothing e = absurd (some e)
       by (tells.Value value) e = (value, as_told.absent value e)
       by tells.Own e = let own = as_told.absent_own e in (own.1.1, own.1.4)

@@ -35,9 +35,9 @@ use Rattle.run_blocks.specs.Given.ResizeDeclared.new_table.NewTable.{NewTable}
 use Rattle.run_blocks.specs.Given.ResizeDeclared.yielding.Yielding.{Yielding}
 use Rattle.run_blocks.specs.Given.ResizeDeclared.yielding.Yielding.TheVariants as outcome
 use Rattle.run_executor.specs.Given.RawCall.{have_one_key, made, makes_of, root_found, next_read, next_found, dropped, key_read, pair_read, word_read, word_found, tried, looked, looks_for, first_made, next_made, disposed, helped, copied, plan_at}
-use Rattle.run_executor.specs.Given.RawCallAsks.{with_absent, with_present, absent_told, present_told, told_at, replied}
+use Rattle.run_executor.specs.Given.RawCallAsks.{with_absent, with_present, absent_replied, present_replied, replied_at, replied}
 use Rattle.run_executor.specs.Given.RawCallFills.{filled, putting_by, fill_by, emptied, fills_with, given_up}
-use Rattle.run_executor.specs.Given.RawCallPoints.{aim_of, standing, going, over, ending, following_made, storing, burying, at_gap, gap_by, asking_at, pair_by, tableless, at_free, at_end, at_last, at_pair, passed, told_of, told, entering, went_on, changed, counted, having_met}
+use Rattle.run_executor.specs.Given.RawCallPoints.{aim_of, standing, going, over, ending, following_made, storing, burying, at_gap, gap_by, asking_at, pair_by, tableless, at_free, at_end, at_last, at_pair, passed, after_finding, told, entering, continued_in, changed, counted, having_met}
 use Rattle.run_executor.specs.Given.RawReplies.{value_for, as_own}
 use Rattle.run_executor.specs.Given.RawDeclared.machines.answer.Called.{Called}
 use Rattle.run_executor.specs.Given.RawDeclared.machines.answer.Called.TheVariants as called
@@ -62,7 +62,7 @@ use Rattle.run_executor.specs.Given.RawDeclared.machines.call.Calling.{Calling}
 use Rattle.run_executor.specs.Given.RawDeclared.machines.call.Calling.TheVariants as at
 use Rattle.run_executor.specs.Given.RawDeclared.machines.call.KeyCall.{KeyCall}
 use Rattle.run_executor.proofs.Given.RuleKeys.Always.{Always, AlwaysOf, always_if, always_ends, always_plan_as, always_steps}
-use Rattle.run_executor.specs.Given.TellerTells.{StepsTold}
+use Rattle.run_executor.specs.Given.TellerTells.{StepsObserved}
 use Rattle.run_executor.specs.Given.EffectsDeclared.changed.Changed.{Changed}
 use Rattle.run_executor.specs.Given.EffectsDeclared.changed.Changed.TheVariants as changes
 use Rattle.run_finds.specs.Growing.{HasForNone, GrowsAt}
@@ -196,14 +196,14 @@ module _ {K V : Type 0} (many : ℕ) where
 
   -- so it is of a call at a try, which counts the word of a try that it passes
   module _ (p : KeyCall K V K) where
-    told_so : (loaded : Bool) (word : ℕ) (found : Finding) → (found ≡ is.Moved → is_incremental p.setting.mode ≡ false → suc p.trial.table.turn < many) → GrowsSo (told_of loaded p word found)
+    told_so : (loaded : Bool) (word : ℕ) (found : Finding) → (found ≡ is.Moved → is_incremental p.setting.mode ≡ false → suc p.trial.table.turn < many) → GrowsSo (after_finding loaded p word found)
     told_so loaded word is.Free next = free_so p p.missing refl
     told_so loaded word is.Passed next = passed_so (having_met p word) (next_trial (with_met p.trial word))
     told_so loaded word is.Moved next = λ alone. inr (next refl alone)
     told_so loaded word is.Copying next = by_test loaded (standing p at.Probes, called.Waits) (going p at.Probes) (λ e. tt) (λ e. tt)
     told_so loaded word is.There next = there_so p p.there word
 
-    on_so : (table : Table) → GrowsSo (went_on p table)
+    on_so : (table : Table) → GrowsSo (continued_in p table)
     on_so table =
         by_test (is_incremental p.setting.mode) (if p.helped then entering p table else going (record p { helped = true }) (at.Helps (helping p.setting) table))
         (going p (at.Copies (copying_all p.setting p.trial.table table)))
@@ -316,7 +316,7 @@ module _ {K V : Type 0} (many : ℕ) where
 
   module _ (had : ℕ) (le : had ≤ many) (asks : K → K → Bool) (same : K → K → Bool) (hash : K → ℕ) (p : KeyCall K V K) (m m2 : Mem (Node K V)) (told_by : Changed) (end : KeyCall K V K × Called (Node K V)) where
     abbrev pub StepAt : Calling → Type 0
-    StepAt q = StepsTold K V (KeyCall K V K × Called (Node K V)) m changes.Nothing (plan_at asks same hash p q) m2 told_by end
+    StepAt q = StepsObserved K V (KeyCall K V K × Called (Node K V)) m changes.Nothing (plan_at asks same hash p q) m2 told_by end
 
     -- a word of its try was read
 
@@ -355,7 +355,7 @@ module _ {K V : Type 0} (many : ℕ) where
     next_so_read : NoneIfLast had p m → GrowsAt had p at.Nexts → (link : ℕ) → word_at m (at_word p.trial.table NEXT) ≡ Some link → Always GrowsSo (next_read p link)
     next_so_read last grows link read = by (link == 0) refl
       where
-        by : (q : Bool) → (link == 0) ≡ q → Always GrowsSo (if q then Now (at_last p.missing p) else Seeing (block_in link) (λ (value : Node K V). Now (went_on p (table_seen link value))))
+        by : (q : Bool) → (link == 0) ≡ q → Always GrowsSo (if q then Now (at_last p.missing p) else Seeing (block_in link) (λ (value : Node K V). Now (continued_in p (table_seen link value))))
         by true e = last_so p (λ alone. has_for_none last (grows alone) (read ∙ ap (λ (x : ℕ). Some x) (number_is link 0 e))) p.missing refl
         by false e = λ value. on_so p (table_seen link value)
 
@@ -406,14 +406,14 @@ module _ {K V : Type 0} (many : ℕ) where
   told_for_none : (p : KeyCall K V K) (value : V) → p.missing ≡ missing.Asks → HasForNone (with_absent p value)
   told_for_none p value asks = inr (asks, λ none. cc none)
 
-  absent_so : (t : Takes) (p : KeyCall K V K) (gap : Gap) (reply : MachineReply V) → p.missing ≡ missing.Asks → GrowsSo (p, called.Goes) → GrowsAt many (absent_told t p gap reply).0 (absent_told t p gap reply).0.stands
+  absent_so : (t : Takes) (p : KeyCall K V K) (gap : Gap) (reply : MachineReply V) → p.missing ≡ missing.Asks → GrowsSo (p, called.Goes) → GrowsAt many (absent_replied t p gap reply).0 (absent_replied t p gap reply).0.stands
   absent_so takes.Values p gap (replies.Insert value) asks stays = gap_so (with_absent p value) (told_for_none p value asks) gap
   absent_so takes.Changes p gap (replies.Insert value) asks stays = gap_so (with_absent p value) (told_for_none p value asks) gap
   absent_so takes.Changes p gap replies.Remove asks stays = ending_so p (ends.Refused RemoveNothing)
   absent_so takes.Changes p gap replies.Abort asks stays = ending_so p (ends.Answered answers.Absent)
   absent_so _ p gap _ asks stays = stays
 
-  present_so : (t : Takes) (p : KeyCall K V K) (word : ℕ) (reply : MachineReply V) → GrowsSo (p, called.Goes) → GrowsAt many (present_told t p word reply).0 (present_told t p word reply).0.stands
+  present_so : (t : Takes) (p : KeyCall K V K) (word : ℕ) (reply : MachineReply V) → GrowsSo (p, called.Goes) → GrowsAt many (present_replied t p word reply).0 (present_replied t p word reply).0.stands
   present_so takes.Values p word (replies.Insert value) stays = tt
   present_so takes.Changes p word (replies.Insert value) stays = tt
   present_so takes.Changes p word replies.Remove stays = burying_so (with_present p word tells.Removes) word
@@ -422,7 +422,7 @@ module _ {K V : Type 0} (many : ℕ) where
   present_so takes.Choices p word replies.No stays = ending_so p (ends.Answered (answers.Found word))
   present_so _ p word _ stays = stays
 
-  by_reply : (q : Calling) (p : KeyCall K V K) (reply : MachineReply V) → GrowsAt many p q → GrowsSo (p, called.Goes) → GrowsAt many (told_at q p reply).0 (told_at q p reply).0.stands
+  by_reply : (q : Calling) (p : KeyCall K V K) (reply : MachineReply V) → GrowsAt many p q → GrowsSo (p, called.Goes) → GrowsAt many (replied_at q p reply).0 (replied_at q p reply).0.stands
   by_reply (at.Asks (asking.Absent gap)) p reply grows stays = absent_so p.replies.takes p gap reply grows stays
   by_reply (at.Asks (asking.Present word)) p reply grows stays = present_so p.replies.takes p word reply stays
   by_reply _ p reply grows stays = stays

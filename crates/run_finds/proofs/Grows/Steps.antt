@@ -20,7 +20,7 @@ use Rattle.run_executor.specs.Given.SchedulesGrowing.{has_value_for}
 use Rattle.run_executor.specs.Given.SchedulesMoment.{UnderWay as CallThere, Moment}
 use Rattle.run_executor.specs.Given.SchedulesTerms.{Terms}
 use Rattle.run_executor.specs.Given.SchedulesViews.{call_of}
-use Rattle.run_executor.specs.Given.TellerTells.{StepsTold}
+use Rattle.run_executor.specs.Given.TellerTells.{StepsObserved}
 use Rattle.run_executor.specs.Given.EffectsDeclared.changed.Changed.{Changed}
 use Rattle.run_executor.specs.Given.EffectsDeclared.changed.Changed.TheVariants as changed
 use Rattle.run_executor.specs.Given.PointsFactsCalls.{IsCopying}
@@ -37,13 +37,13 @@ use Rattle.run_executor.specs.Given.HandsAsked.{IsAskedAs}
 use Rattle.run_executor.proofs.Given.FollowsFinds.{tables_many}
 use Rattle.run_executor.proofs.Given.FollowsSteps.{WentTo, went_to}
 use Rattle.run_executor.proofs.Given.HandsAsking.{which}
-use Rattle.run_executor.specs.Given.MomentsWhole.{ShowsWhole}
+use Rattle.run_executor.specs.Given.MomentsWhole.{RefinesWhole}
 use Rattle.run_executor.proofs.Given.OthersOutcomes.{told_in}
 use Rattle.run_blocks.proofs.Owes.Machines.{call_none}
 use Rattle.run_blocks.proofs.Owes.Valued.{call_valued, row_no_own, knows_given}
 use Rattle.run_blocks.proofs.Owes.Walks.{IsToOwn, call_makes}
 use Rattle.run_blocks.specs.Owes.Making.{making_in_calling}
-use Rattle.run_finds.specs.Growing.{GrowsAt, ShowsGrowing, FindAsked, CallsKeepGrowing, KeyCallsMayAsk, TablesHaveBeen}
+use Rattle.run_finds.specs.Growing.{GrowsAt, RefinesGrowing, FindAsked, CallsPreserveGrowing, KeyCallsMayAsk, TablesHaveBeen}
 use Rattle.run_finds.specs.Within.{many_of}
 use Rattle.run_finds.proofs.Grown.{many_grow}
 use Rattle.run_finds.proofs.Grows.Asked.{Asks, asks_some, made_of, may_ask}
@@ -63,7 +63,7 @@ tables_have_been K V caller acted (f ∷ effects) m map =
     let one = many_grow caller acted m f map in let rest = tables_have_been K V caller acted effects (with_effect caller acted f m) map in omega (arith, one, rest)
 
 module _ {K V : Type 0} (same : K → K → Bool) (hash : ℕ → K → ℕ) (name : ℕ → List ℕ) (m : Moment K V) (known : Known) (s : Scene K V) (old new : Held K V) (at : IsAt same hash old s)
-    (whole : ShowsWhole same name m known s) (growing : ShowsGrowing m s) (map i : ℕ) (u : UnderWay K V K) (here : s.calls map i ≡ Some u) (said : Progress (Node K V))
+    (whole : RefinesWhole same name m known s) (growing : RefinesGrowing m s) (map i : ℕ) (u : UnderWay K V K) (here : s.calls map i ≡ Some u) (said : Progress (Node K V))
     (leads : StepLeads same hash i said s old new) where
   abbrev to : WentTo same hash name m known s old new at whole.all.shown map i u here said leads
   to = went_to same hash name m known s old new at whole.all.shown map i u here said leads
@@ -98,7 +98,7 @@ module _ {K V : Type 0} (same : K → K → Bool) (hash : ℕ → K → ℕ) (na
   -- of a call on one key
   module _ (x : CallOnKey K V K) (is : s.calls map i ≡ Some (OnKey x)) where
     abbrev Stepped : Type 0
-    Stepped = StepsTold K V (Machine K V K × Progress (Node K V)) old.memory changed.Nothing (machine_plan same same to.0.hash (kinds.Key x.call)) new.memory told (to.1, said)
+    Stepped = StepsObserved K V (Machine K V K × Progress (Node K V)) old.memory changed.Nothing (machine_plan same same to.0.hash (kinds.Key x.call)) new.memory told (to.1, said)
 
     its_table : TableTells (many_of map m) x.call old.memory x.call.stands
     its_table = subst (λ (n : ℕ). TableTells n x.call old.memory x.call.stands) many_now
@@ -126,7 +126,7 @@ module _ {K V : Type 0} (same : K → K → Bool) (hash : ℕ → K → ℕ) (na
       Valued = has_value_for c.call c ≡ true
 
       it : (r : KeyCall K V K × Called (Node K V)) × (◌≡◌ {A = Machine K V K × Progress (Node K V)} (to.1, said) (of_key r))
-          × StepsTold K V (KeyCall K V K × Called (Node K V)) old.memory changed.Nothing (call_plan same same to.0.hash x.call) new.memory told r
+          × StepsObserved K V (KeyCall K V K × Called (Node K V)) old.memory changed.Nothing (call_plan same same to.0.hash x.call) new.memory told r
       it = told_in old.memory new.memory told of_key (call_plan same same to.0.hash x.call) (to.1, said) steps
 
       asked_as : IsAskedAs (whole.all.shown.number map) st.chart.stored known x c.call c
@@ -184,14 +184,14 @@ module _ {K V : Type 0} (same : K → K → Bool) (hash : ℕ → K → ℕ) (na
       cc no
       )
 
-  pub growing_then : ShowsGrowing v led
+  pub growing_then : RefinesGrowing v led
   growing_then n j y is = elim (which s.calls map i to.4.next n j (OnKey y) is) as (λ _. GrowsAt (many_of n v) y.call y.call.stands) [
     | inl it ↦
         subst (λ (k : ℕ). GrowsAt (many_of k v) y.call y.call.stands) (sym it.0) (came u here to.3 y (goes_as_one to.1 said to.4.next to.4.goes_on (OnKey y) it.2))
     | inr was ↦ grows_later (many_of n v) (many_of n m) (later n) y.call y.call.stands (growing n j y was.1)
   ]
 
-pub calls_keep_growing : (K V : Type 0) (same : K → K → Bool) (hash : ℕ → K → ℕ) → CallsKeepGrowing K V same hash
+pub calls_keep_growing : (K V : Type 0) (same : K → K → Bool) (hash : ℕ → K → ℕ) → CallsPreserveGrowing K V same hash
 calls_keep_growing K V same hash name m known s old new at whole growing map i u here said leads = growing_then same hash name m known s old new at whole growing map i u here said leads
 
 pub key_calls_may_ask : (K V : Type 0) (same : K → K → Bool) (hash : ℕ → K → ℕ) → KeyCallsMayAsk K V same hash

@@ -35,9 +35,9 @@ use Rattle.run_executor.proofs.Given.RuleWords.PlaceWordsMarks.{has_copying}
 use Rattle.run_executor.proofs.Given.RuleWords.TablesSeen.{place_there, link_not_zero}
 use Rattle.run_executor.specs.Given.PointsFactsCalls.{Change, CallingFacts}
 use Rattle.run_executor.specs.Given.PointsTold.{IsRowOfCall}
-use Rattle.run_executor.specs.Given.LateLateCalls.{LateCalling}
+use Rattle.run_executor.specs.Given.LateLateCalls.{SupersededCalling}
 use Rattle.run_executor.specs.Given.LateLeft.{Left}
-use Rattle.run_executor.specs.Given.CallersSights.{Sight, seen_by, IsSight}
+use Rattle.run_executor.specs.Given.CallersSights.{Visible, seen_by, IsVisibility}
 use Rattle.run_executor.specs.Given.CallersTogether.{CallOnKey, in_slot, Knows}
 use Rattle.run_finds.proofs.Grows.On.{TableTells}
 use Rattle.run_executor.proofs.Given.General.{equal_so as number_is}
@@ -111,17 +111,17 @@ module _ {K V : Type 0} (same : K → K → Bool) (hash : K → ℕ) (setting : 
       link_not_zero hash w.memory c blocks setting.root map.map.shows (suc t) link.1 link.2 (sym link.0))
 
 -- What a call sees of its table is so.
-pub unseen : {K : Type 0} (c : Chart K) (blocks : Blocks) (sight : Sight) → IsSight c blocks sight → (table : Table) (t : ℕ) → IsTable c (seen_by blocks sight) table t → IsTable c blocks table t
+pub unseen : {K : Type 0} (c : Chart K) (blocks : Blocks) (sight : Visible) → IsVisibility c blocks sight → (table : Table) (t : ℕ) → IsTable c (seen_by blocks sight) table t → IsTable c blocks table t
 unseen c blocks sight is table t entered = record { made = entered.made; known = is.tables t entered.made entered.known; is = entered.is }
 
-unseen_trial : {K : Type 0} (c : Chart K) (blocks : Blocks) (sight : Sight) → IsSight c blocks sight → (trial : Trial) (code t j : ℕ) → IsTrial c (seen_by blocks sight) trial code t j
+unseen_trial : {K : Type 0} (c : Chart K) (blocks : Blocks) (sight : Visible) → IsVisibility c blocks sight → (trial : Trial) (code t j : ℕ) → IsTrial c (seen_by blocks sight) trial code t j
     → IsTrial c blocks trial code t j
 unseen_trial c blocks sight is trial code t j at_try =
     record { table = unseen c blocks sight is trial.table t at_try.table; place = at_try.place; try = at_try.try; most = at_try.most }
 
 -- By the point at which it stands.
-module _ {K V : Type 0} (same : K → K → Bool) (hash : K → ℕ) (setting : Setting) (slot : ℕ → ℕ) (w : World (Node K V)) (c : Chart K) (blocks : Blocks) (sight : Sight)
-    (map : IsMapIn same hash setting w c blocks) (is_sight : IsSight c blocks sight) (i : ℕ) (p : KeyCall K V K) (setting_is : p.setting ≡ in_slot setting (slot i)) where
+module _ {K V : Type 0} (same : K → K → Bool) (hash : K → ℕ) (setting : Setting) (slot : ℕ → ℕ) (w : World (Node K V)) (c : Chart K) (blocks : Blocks) (sight : Visible)
+    (map : IsMapIn same hash setting w c blocks) (is_sight : IsVisibility c blocks sight) (i : ℕ) (p : KeyCall K V K) (setting_is : p.setting ≡ in_slot setting (slot i)) where
   abbrev seen : Blocks
   seen = seen_by blocks sight
 
@@ -169,7 +169,7 @@ module _ {K V : Type 0} (same : K → K → Bool) (hash : K → ℕ) (setting : 
     at_current change (at.Drops end) facts = tt
     at_current change (at.Over end) facts = tt
 
-    at_late : (began : ℕ) (q : Calling) → LateCalling same hash same w i (in_slot setting (slot i)) c seen keys began p q → TableTells c.past p w.memory q
+    at_late : (began : ℕ) (q : Calling) → SupersededCalling same hash same w i (in_slot setting (slot i)) c seen keys began p q → TableTells c.past p w.memory q
     at_late began at.Probes late = λ word read flag moved alone. at_place_left began late.1.0 late.1.1 late.1.2 late.1.4
     at_late began (at.Tries word new) late = λ found read flag moved alone. at_place_left began late.1.0 late.1.1 late.1.2 late.1.4
     at_late began at.Nexts late = λ read before. at_last_table late.1 late.2 read before
@@ -187,8 +187,8 @@ module _ {K V : Type 0} (same : K → K → Bool) (hash : K → ℕ) (setting : 
     at_late began (at.Over end) late = tt
 
 -- So it is of a call that knows what its point says,
-pub table_tells : {K V : Type 0} (same : K → K → Bool) (hash : K → ℕ) (setting : Setting) (slot : ℕ → ℕ) (w : World (Node K V)) (c : Chart K) (blocks : Blocks) (sight : Sight)
-    → IsMapIn same hash setting w c blocks → IsSight c blocks sight → (i : ℕ) (u : CallOnKey K V K) (p : KeyCall K V K) → Knows V same hash same setting slot w c (seen_by blocks sight) i u p
+pub table_tells : {K V : Type 0} (same : K → K → Bool) (hash : K → ℕ) (setting : Setting) (slot : ℕ → ℕ) (w : World (Node K V)) (c : Chart K) (blocks : Blocks) (sight : Visible)
+    → IsMapIn same hash setting w c blocks → IsVisibility c blocks sight → (i : ℕ) (u : CallOnKey K V K) (p : KeyCall K V K) → Knows V same hash same setting slot w c (seen_by blocks sight) i u p
     → TableTells c.past p w.memory p.stands
 table_tells same hash setting slot w c blocks sight map is_sight i u p knows = elim (knows.facts) as (λ _. TableTells c.past p w.memory p.stands) [
   | inl facts ↦ at_current same hash setting slot w c blocks sight map is_sight i p facts.setting_is u.keys u.change p.stands facts.point

@@ -23,18 +23,18 @@ use Rattle.run_executor.specs.Given.RawDeclared.machines.machine.Machine.{Machin
 use Rattle.run_executor.specs.Given.RawDeclared.machines.machine.Machine.TheVariants as kinds
 use Rattle.run_executor.specs.Given.EffectsKnown.{Known}
 use Rattle.run_executor.specs.Given.EffectsDeclared.role.Role.TheVariants as role
-use Rattle.run_blocks.specs.Given.SettlesDue.{Due, ToRetire, ToPut, word_due, due_in_defer, due_in_disposing, due_in_copying, due_in_calling, due_in_reserving, due_in_sweeping, due_in_row}
-use Rattle.run_blocks.specs.Given.SettlesHand.{things_at, in_hand_of_call, in_hand_of_sweep, in_hand, IsTableRole, HoldsAt, IsTableAt, NotesTables, NotesOfCall, NotesOfRoom, NotesOfSweep, NotesInHand}
+use Rattle.run_blocks.specs.Given.SettlesDue.{RowObligation, ToRetire, ToPut, word_due, due_in_defer, due_in_disposing, due_in_copying, due_in_calling, due_in_reserving, due_in_sweeping, due_in_row}
+use Rattle.run_blocks.specs.Given.SettlesHand.{things_at, in_hand_of_call, in_hand_of_sweep, in_hand, IsTableRole, HoldsAt, IsTableAt, NotesTables, NotesOfCall, NotesOfRoom, NotesOfSweep, NotesPending}
 use Rattle.run_blocks.specs.Given.SettlesInHand.{pair_in_disposing, pair_in_calling, pair_in_sweeping}
 use Rattle.run_finds.specs.Waits.{waits_in_disposing, waits_in_calling, waits_in_sweeping, waits_in, pair_in}
 use Rattle.run_blocks.proofs.Given.SettlesHand.Behind.{settle_puts as never_put}
 
-abbrev pub word_of : Due → ℕ
+abbrev pub word_of : RowObligation → ℕ
 word_of (ToRetire word) = word
 word_of (ToPut word place) = word
 
 -- it waits just if it is to be put behind a table
-abbrev pub WaitsBy : Due → Option ℕ → Type 0
+abbrev pub WaitsBy : RowObligation → Option ℕ → Type 0
 WaitsBy (ToRetire word) waits = waits ≡ None
 WaitsBy (ToPut word place) waits = (turn : ℕ) × (waits ≡ Some turn)
 
@@ -42,7 +42,7 @@ never_retired : (c : Defer) (p : Deferring) (word : ℕ) → due_in_defer c p �
 never_retired c deferring.Over word e = cc e
 never_retired c _ word e = cc e
 
-pub dispose_due : (d : Dispose) (q : Disposing) (due : Due) → due_in_disposing q ≡ Some due → (pair_in_disposing d q ≡ Some (word_of due)) × WaitsBy due (waits_in_disposing d q)
+pub dispose_due : (d : Dispose) (q : Disposing) (due : RowObligation) → due_in_disposing q ≡ Some due → (pair_in_disposing d q ≡ Some (word_of due)) × WaitsBy due (waits_in_disposing d q)
 dispose_due d (disposing.Settles settle) (ToRetire word) e = (ap word_due e, refl)
 dispose_due d (disposing.Settles settle) (ToPut word place) e = absurd (never_put settle settle.stands word place e)
 dispose_due d (disposing.Defers defer) (ToRetire word) e = absurd (never_retired defer defer.stands word e)
@@ -52,17 +52,17 @@ dispose_due d (disposing.Walks table) due e = absurd (cc e)
 dispose_due d disposing.Over due e = absurd (cc e)
 
 -- of what the call has in hand
-abbrev pub DueHas : {K V Q : Type 0} → Known → Due → Machine K V Q → Type 0
+abbrev pub DueHas : {K V Q : Type 0} → Known → RowObligation → Machine K V Q → Type 0
 DueHas known due machine = (in_hand known machine ≡ things_at known (Some (word_of due))) × (pair_in machine ≡ Some (word_of due)) × WaitsBy due (waits_in machine)
 
-module _ (known : Known) (due : Due) (n : ℕ) (is_pair : known.roles (block_in (word_of due)) ≡ role.Pair n) where
+module _ (known : Known) (due : RowObligation) (n : ℕ) (is_pair : known.roles (block_in (word_of due)) ≡ role.Pair n) where
   -- a copier hands tables over
-  noted_table : (x : Due) → known.roles (block_in (word_of x)) ≡ role.Pair n → HoldsAt (IsTableAt known) (word_due (Some x)) → ⊥
+  noted_table : (x : RowObligation) → known.roles (block_in (word_of x)) ≡ role.Pair n → HoldsAt (IsTableAt known) (word_due (Some x)) → ⊥
   noted_table (ToRetire word) is noted = subst IsTableRole is noted
   noted_table (ToPut word place) is noted = subst IsTableRole is noted
 
   copy_due : (p : Copier) (q : Copying) → NotesTables known p q → due_in_copying q ≡ Some due → ⊥
-  copy_due p (copying.Retires settle rest) notes e = noted_table due is_pair (subst (λ (o : Option Due). HoldsAt (IsTableAt known) (word_due o)) e notes.0)
+  copy_due p (copying.Retires settle rest) notes e = noted_table due is_pair (subst (λ (o : Option RowObligation). HoldsAt (IsTableAt known) (word_due o)) e notes.0)
   copy_due p _ notes e = cc e
 
   room_due : (q : Reserving) → NotesOfRoom known q → due_in_reserving q ≡ Some due → ⊥
@@ -95,7 +95,7 @@ module _ (known : Known) (due : Due) (n : ℕ) (is_pair : known.roles (block_in 
     sweep_due c _ is notes e = absurd (cc e)
 
   module _ {K V Q : Type 0} where
-    pub row_due : (machine : Machine K V Q) → NotesInHand known machine → due_in_row machine ≡ Some due → DueHas known due machine
+    pub row_due : (machine : Machine K V Q) → NotesPending known machine → due_in_row machine ≡ Some due → DueHas known due machine
     row_due (kinds.Key p) notes e = call_due p p.stands refl notes e
     row_due (kinds.Reserve r) notes e = absurd (room_due r.stands notes e)
     row_due (kinds.Sweep c) notes e = sweep_due K V Q c c.stands refl notes e

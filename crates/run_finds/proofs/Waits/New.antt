@@ -29,17 +29,17 @@ use Rattle.run_executor.proofs.Given.RuleWords.TablesSeen.{block_of_link}
 use Rattle.run_executor.specs.Given.CallersSights.{seen_by}
 use Rattle.run_executor.specs.Given.EffectsKnown.{Known}
 use Rattle.run_executor.specs.Given.FinishesMaps.{Standing}
-use Rattle.run_executor.specs.Given.FollowsShows.{Shows}
+use Rattle.run_executor.specs.Given.FollowsShows.{Refines}
 use Rattle.run_executor.proofs.Given.FollowsFinds.{first_is, chunks_are}
 use Rattle.run_executor.proofs.Given.FollowsOperations.{Operated}
-use Rattle.run_executor.specs.Given.SpotsSpots.{ThePair, named_by, LiesAt, ShowsPlaces}
+use Rattle.run_executor.specs.Given.SpotsSpots.{ThePair, named_by, LiesAt, RefinesPlaces}
 use Rattle.run_finds.specs.Waits.{waits_in_disposing, waits_of, LiesFor}
 use Rattle.run_finds.proofs.Waits.Taken.{TookPair, is_map}
 use Rattle.run_executor.specs.Given.ScenesHeld.{Held, IsAt}
 use Rattle.run_executor.specs.Given.ScenesScene.{Scene, slot_of}
 
 module _ {K V : Type 0} (same : K → K → Bool) (hash : ℕ → K → ℕ) (m : Moment K V) (known : Known) (s : Scene K V) (old new : Held K V) (at_old : IsAt same hash old s)
-    (name : ℕ → List ℕ) (shown : Shows same name m known s) (lying : ShowsPlaces m known s.maps) (map i : ℕ) (standing : Standing K) (there : s.maps map ≡ Some standing)
+    (name : ℕ → List ℕ) (shown : Refines same name m known s) (lying : RefinesPlaces m known s.maps) (map i : ℕ) (standing : Standing K) (there : s.maps map ≡ Some standing)
     (made : Operated s.world.memory new.memory new.changed) (inside_it : IsInside (s.world.uses (slot_of i))) (k : ℕ)
     (took : TookPair same hash m known s old new at_old name shown lying map i standing there made inside_it k) where
   abbrev c : Chart K

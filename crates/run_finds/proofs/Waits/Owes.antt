@@ -19,10 +19,10 @@ use Rattle.run_executor.specs.Given.EffectsEffects.{carried}
 use Rattle.run_executor.specs.Given.EffectsKnown.{Known}
 use Rattle.run_executor.specs.Given.EffectsDeclared.role.Role.{Role}
 use Rattle.run_executor.specs.Given.EffectsDeclared.role.Role.TheVariants as role
-use Rattle.run_blocks.specs.Given.SettlesDue.{Due, RowTells, TellsNone, TellsRetired, TellsDeferred, told_retired}
+use Rattle.run_blocks.specs.Given.SettlesDue.{RowObligation, RowTells, TellsNone, TellsRetired, TellsDeferred, retired_effects}
 use Rattle.run_blocks.specs.Given.SettlesHand.{thing_as, things_at, in_hand_of_call, in_hand_of_sweep, IsPairRole, NotesPair, NotesOfSweep}
 use Rattle.run_blocks.specs.Given.SettlesInHand.{pair_in_calling, pair_in_sweeping, TakesPair}
-use Rattle.run_blocks.specs.Given.SettlesOwing.{OwesGo, KeepsOwed, TakesOut, PutsOver, Passes, HandsFirst}
+use Rattle.run_blocks.specs.Given.SettlesOwing.{ObligationsGo, KeepsOwed, TakesOut, PutsOver, Passes, HandsFirst}
 use Rattle.run_finds.specs.Waiting.{once_if, owed_in}
 use Rattle.run_finds.proofs.Owed.{passed_none}
 
@@ -47,7 +47,7 @@ by_passed effects k (x ∷ []) tables none e = OwedIt (let one : x ≡ APair k =
 by_passed effects k (x ∷ y ∷ rest) tables none e = absurd (cc e)
 
 module _ {K V : Type 0} (m : Moment K V) where
-  pub owed_before : (effects : List Effect) (k : ℕ) (before after : List Thing) → OwesGo m effects before after → after ≡ APair k ∷ [] → OwedBefore effects k before
+  pub owed_before : (effects : List Effect) (k : ℕ) (before after : List Thing) → ObligationsGo m effects before after → after ≡ APair k ∷ [] → OwedBefore effects k before
   owed_before effects k before after (KeepsOwed all same) is = OwedIt (sym same ∙ is)
   owed_before effects k before after (TakesOut p are more) is = by_last effects p k before (inl are) (sym more ∙ is)
   owed_before effects k before after (PutsOver p n s are more) is = by_last effects p k before (inr (n, s, are)) (sym more ∙ is)
@@ -107,7 +107,7 @@ module _ (known : Known) where
   sweep_noted q none notes word some e = things_none word (subst (NotesPair known) some notes) (ap (things_at known) (sym some) ∙ e)
 
 -- a row takes no pair out of its map
-pub row_takes : (caller map : ℕ) (known : Known) (effects : List Effect) (before after : Option Due) (k : ℕ) → RowTells caller map known effects before after → TakesPair effects k → ⊥
+pub row_takes : (caller map : ℕ) (known : Known) (effects : List Effect) (before after : Option RowObligation) (k : ℕ) → RowTells caller map known effects before after → TakesPair effects k → ⊥
 row_takes caller map known effects before after k (TellsNone none same) takes = nothing takes
   where
     nothing : TakesPair effects k → ⊥
@@ -115,7 +115,7 @@ row_takes caller map known effects before after k (TellsNone none same) takes = 
     nothing (inr (n, s, is)) = (let both = sym is ∙ none in cc both)
 row_takes caller map known effects before after k (TellsRetired word was gone are) takes = by (known.roles (block_in word)) are takes
   where
-    by : (r : Role) → effects ≡ told_retired r → TakesPair effects k → ⊥
+    by : (r : Role) → effects ≡ retired_effects r → TakesPair effects k → ⊥
     by (role.Pair n) e (inl is) = (let both = sym is ∙ e in cc both)
     by (role.Pair n) e (inr (x, s, is)) = (let both = sym is ∙ e in cc both)
     by (role.Table t len) e (inl is) = (let both = sym is ∙ e in cc both)

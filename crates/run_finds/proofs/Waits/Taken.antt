@@ -15,10 +15,10 @@ use Rattle.run_executor.specs.Given.SchedulesMoment.{Moment}
 use Rattle.run_executor.specs.Given.EffectsDeclared.changed.Changed.{Changed}
 use Rattle.run_executor.specs.Given.EffectsDeclared.changed.Changed.TheVariants as changed
 use Rattle.run_executor.specs.Given.TellsSeen.{Seen, Unseen, Wrote, seen_of}
-use Rattle.run_executor.specs.Given.TellsTells.{place_at, IsSeenAs, IsTold}
+use Rattle.run_executor.specs.Given.TellsTells.{place_at, IsSeenAs, IsObserved}
 use Rattle.run_executor.proofs.Given.TellsPromised.{operations_tell, still_steps_tell}
 use Rattle.run_executor.specs.Given.RuleChart.{Still, Holds, Chart}
-use Rattle.run_executor.specs.Given.RuleInWorld.{IsMapIn, Moved, Went}
+use Rattle.run_executor.specs.Given.RuleInWorld.{IsMapIn, Moved, StepSpec}
 use Rattle.run_executor.specs.Given.RuleMaps.{spot_of}
 use Rattle.run_executor.specs.Given.RuleMoves.{Move, Links, Stores, Replaces, Removes, Marks, MarksBlocking, Skips, Unmarks, Puts, Covers, PutsLate, Claims, Reclaims, Counts, GivesUp, Aborts, Promotes, Announces, MayChange, Allowed}
 use Rattle.run_executor.specs.Given.RuleRule.{Rule}
@@ -27,7 +27,7 @@ use Rattle.run_executor.proofs.Given.RuleLaws.{current_is_known}
 use Rattle.run_executor.proofs.Given.RuleMoves.StoodAlone.{alone_there, never_later}
 use Rattle.run_executor.proofs.Given.RuleWorld.WentTold.{went_as}
 use Rattle.run_executor.specs.Given.PointsSteps.{AreLawful}
-use Rattle.run_executor.specs.Given.CallersSights.{Sight, seen_by, IsGrown, IsSight}
+use Rattle.run_executor.specs.Given.CallersSights.{Visible, seen_by, IsGrown, IsVisibility}
 use Rattle.run_executor.specs.Given.CallersTogether.{in_slot, Together}
 use Rattle.run_executor.proofs.Given.CallersSights.Seen.{map_seen}
 use Rattle.run_executor.proofs.Given.CallersTogether.Fits.{map_in_slot}
@@ -35,12 +35,12 @@ use Rattle.run_executor.specs.Given.EffectsEffects.{effects_of}
 use Rattle.run_executor.specs.Given.EffectsKnown.{Known}
 use Rattle.run_executor.specs.Given.EffectsDeclared.acting.Acting.TheVariants.{Call}
 use Rattle.run_executor.specs.Given.FinishesMaps.{Standing}
-use Rattle.run_executor.specs.Given.FollowsMaps.{ShowsMap}
-use Rattle.run_executor.specs.Given.FollowsShows.{Shows}
+use Rattle.run_executor.specs.Given.FollowsMaps.{RefinesMap}
+use Rattle.run_executor.specs.Given.FollowsShows.{Refines}
 use Rattle.run_executor.proofs.Given.FollowsAlike.{AllCalm}
 use Rattle.run_executor.proofs.Given.FollowsOperations.{LeavesBy, Operated, operated_leaves, seen_write, told_write}
 use Rattle.run_executor.proofs.Given.FollowsStored.{inside, still_current, still_home}
-use Rattle.run_executor.specs.Given.SpotsSpots.{named_by, spot_in, LiesAt, ShowsPlaces}
+use Rattle.run_executor.specs.Given.SpotsSpots.{named_by, spot_in, LiesAt, RefinesPlaces}
 use Rattle.run_executor.proofs.Given.SpotsDone.{DidBy, DidMoved, did_moved}
 use Rattle.run_executor.proofs.Given.SpotsNames.{holds_is}
 use Rattle.run_blocks.specs.Given.SettlesInHand.{TakesPair}
@@ -80,7 +80,7 @@ module _ {K : Type 0} (same : K → K → Bool) (hash : K → ℕ) (c : Chart K)
       ap (λ (x : ℕ). spot_in x at.place) turn ∙ ap (spot_in t) place
 
 module _ {K V : Type 0} (same : K → K → Bool) (hash : ℕ → K → ℕ) (m : Moment K V) (known : Known) (s : Scene K V) (old new : Held K V) (at : IsAt same hash old s)
-    (name : ℕ → List ℕ) (shown : Shows same name m known s) (lying : ShowsPlaces m known s.maps) (map i : ℕ) (standing : Standing K) (there : s.maps map ≡ Some standing)
+    (name : ℕ → List ℕ) (shown : Refines same name m known s) (lying : RefinesPlaces m known s.maps) (map i : ℕ) (standing : Standing K) (there : s.maps map ≡ Some standing)
     (made : Operated s.world.memory new.memory new.changed) (inside_it : IsInside (s.world.uses (slot_of i))) (k : ℕ) where
   abbrev m2 : Mem (Node K V)
   m2 = new.memory
@@ -97,7 +97,7 @@ module _ {K V : Type 0} (same : K → K → Bool) (hash : ℕ → K → ℕ) (m 
   abbrev setting : Setting
   setting = in_slot standing.setting (slot_of i)
 
-  abbrev sight : Sight
+  abbrev sight : Visible
   sight = standing.sights (slot_of i)
 
   abbrev c : Chart K
@@ -133,13 +133,13 @@ module _ {K V : Type 0} (same : K → K → Bool) (hash : ℕ → K → ℕ) (m 
   left : LeavesBy w.memory m2 told
   left = operated_leaves w.memory m2 told made
 
-  pub is_sight : IsSight standing.chart standing.blocks sight
+  pub is_sight : IsVisibility standing.chart standing.blocks sight
   is_sight = (here.ground.sight (slot_of i) inside_it).0
 
   pub is_map : IsMapIn same standing.hash setting w standing.chart (seen_by standing.blocks sight)
   is_map = map_seen same standing.hash setting w standing.chart standing.blocks sight (map_in_slot same standing.hash standing.setting w standing.chart standing.blocks (slot_of i) here.ground.map) is_sight
 
-  abbrev shown_map : ShowsMap map (shown.number map) standing m known
+  abbrev shown_map : RefinesMap map (shown.number map) standing m known
   shown_map = shown.maps map standing there
 
   rule : Rule same (spot_of standing.hash) q c
@@ -175,9 +175,9 @@ module _ {K V : Type 0} (same : K → K → Bool) (hash : ℕ → K → ℕ) (m 
         stored = subst (λ (x : ℕ). x ≤ length m.stored) (sym is) lies.1;
       }
 
-  module _ (Told : World (Node K V) → Chart K → Blocks → Type 0) (had : Went same standing.hash setting i w standing.chart (seen_by standing.blocks sight) m2 Told)
-      (blocks2 : Blocks) (grown : IsGrown standing.chart standing.blocks had.blocks2 blocks2) (sights2 : ℕ → Sight) where
-    abbrev went : Went same standing.hash setting i w standing.chart (seen_by standing.blocks sight) m2 (λ w2 c2 blocks2. Unit {0})
+  module _ (Told : World (Node K V) → Chart K → Blocks → Type 0) (had : StepSpec same standing.hash setting i w standing.chart (seen_by standing.blocks sight) m2 Told)
+      (blocks2 : Blocks) (grown : IsGrown standing.chart standing.blocks had.blocks2 blocks2) (sights2 : ℕ → Visible) where
+    abbrev went : StepSpec same standing.hash setting i w standing.chart (seen_by standing.blocks sight) m2 (λ w2 c2 blocks2. Unit {0})
     went = went_as same standing.hash setting i w standing.chart (seen_by standing.blocks sight) m2 Told (λ w2 c2 blocks2. Unit {0}) (λ w2 c2 blocks2 map moved alike told. tt) had
 
     abbrev DidIt : Moved same standing.hash setting.mode i standing.chart went.c2 → Type 0
@@ -238,11 +238,11 @@ module _ {K V : Type 0} (same : K → K → Bool) (hash : ℕ → K → ℕ) (m 
       by_move (Aborts t) allowed saw calm = quiet calm.calm
       by_move (Announces t) allowed saw calm = quiet calm.calm
 
-      by_moved : (moved : Moved same standing.hash setting.mode i standing.chart went.c2) → IsTold standing.hash setting c seen went.c2 went.blocks2 same i moved seen_so → DidIt moved → TookPair
+      by_moved : (moved : Moved same standing.hash setting.mode i standing.chart went.c2) → IsObserved standing.hash setting c seen went.c2 went.blocks2 same i moved seen_so → DidIt moved → TookPair
       by_moved (inl still) saw calm = quiet calm.calm
       by_moved (inr one) saw did = by_move one.0 one.1 saw did
 
-      took_by : ((x : At) (before after : ℕ) → told ≡ changed.Wrote x before after → seen_so ≡ Wrote x before after) → IsTold standing.hash setting c seen went.c2 went.blocks2 same i went.moved seen_so → TookPair
+      took_by : ((x : At) (before after : ℕ) → told ≡ changed.Wrote x before after → seen_so ≡ Wrote x before after) → IsObserved standing.hash setting c seen went.c2 went.blocks2 same i went.moved seen_so → TookPair
       took_by as_seen saw =
           by_moved went.moved saw
           (did_moved same (slot_of i) i map (Some (name i)) (shown.number map) standing lawful w sight is_sight is_map m2 (λ w2 c2 blocks2. Unit {0}) went blocks2 grown sights2 m known

@@ -7,7 +7,7 @@ use Rattle.papaya_raw.specs.Machine.{called as of_key, swept as of_sweep}
 use Rattle.papaya_raw.specs.declared.machines.call.Calling.{Calling}
 use Rattle.papaya_raw.specs.declared.machines.call.Calling.TheVariants as calling
 use Rattle.papaya_raw.specs.declared.machines.progress.Progress.{Progress}
-use Rattle.run_logged.specs.Given.ResizeDeclared.new_table.NewTable.{NewTable}
+use Rattle.run_finds.specs.Given.ResizeDeclared.new_table.NewTable.{NewTable}
 use Rattle.papaya_raw.specs.Given.SweepsSweep.{sweep_plan}
 use Rattle.run_schedules.specs.declared.call.Call.{Call}
 use Rattle.run_schedules.specs.declared.call.Call.TheVariants as call
@@ -24,12 +24,12 @@ use Rattle.run_executor.specs.Given.EffectsKnown.{Known}
 use Rattle.run_executor.specs.Given.FinishesMachines.{machine_of}
 use Rattle.run_executor.specs.Given.FollowsCalls.{IsCalled}
 use Rattle.run_executor.proofs.Given.FollowsSteps.{WentTo, went_to}
-use Rattle.run_executor.specs.Given.MomentsWhole.{ShowsWhole}
+use Rattle.run_executor.specs.Given.MomentsWhole.{RefinesWhole}
 use Rattle.run_executor.proofs.Given.OthersOutcomes.{told_in}
-use Rattle.run_logged.specs.Given.OwesMaking.{making_in_calling, making_in_sweeping}
-use Rattle.run_logged.proofs.Given.OwesWalks.{IsToOwn, call_makes, sweep_makes}
+use Rattle.run_kept.specs.Given.OwesMaking.{making_in_calling, making_in_sweeping}
+use Rattle.run_kept.proofs.Given.OwesWalks.{IsToOwn, call_makes, sweep_makes}
 use Rattle.run_grows.specs.Grows.Copiers.{copier_in_calling, making_of_copier, MakesByCopier, CopiersMayAsk}
-use Rattle.run_sweeps.proofs.Given.FindsGrows.Asked.{Asks, made_of, may_ask}
+use Rattle.run_finds.proofs.Grows.Asked.{Asks, made_of, may_ask}
 use Rattle.run_executor.specs.Given.ScenesHeld.{Held, IsAt}
 use Rattle.run_executor.specs.Given.ScenesScene.{Scene}
 use Rattle.run_executor.specs.Given.ScenesStepping.{StepLeads, StepsFrom}
@@ -65,7 +65,7 @@ next_grows terms m moments (call.Reserve more) c none next = absurd none
 next_grows terms m moments _ c none next = inr next
 
 module _ {K V : Type 0} (same : K → K → Bool) (hash : ℕ → K → ℕ) (name : ℕ → List ℕ) (m : Moment K V) (known : Known) (s : Scene K V) (old new : Held K V) (at : IsAt same hash old s)
-    (whole : ShowsWhole same name m known s) (map i : ℕ) (u : UnderWay K V K) (here : s.calls map i ≡ Some u) (said : Progress (Node K V)) (leads : StepLeads same hash i said s old new) where
+    (whole : RefinesWhole same name m known s) (map i : ℕ) (u : UnderWay K V K) (here : s.calls map i ≡ Some u) (said : Progress (Node K V)) (leads : StepLeads same hash i said s old new) where
   abbrev to : WentTo same hash name m known s old new at whole.all.shown map i u here said leads
   to = went_to same hash name m known s old new at whole.all.shown map i u here said leads
 

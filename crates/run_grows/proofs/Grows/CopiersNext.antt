@@ -9,7 +9,7 @@ use Rattle.run_schedules.specs.Schedules.Views.{first_of, chain_of}
 use Rattle.run_executor.specs.Given.RuleChart.{Chart}
 use Rattle.run_executor.specs.Given.EffectsKnown.{Known}
 use Rattle.run_executor.specs.Given.FinishesMaps.{Standing}
-use Rattle.run_executor.specs.Given.FollowsMaps.{table_of, shape_at, tables_to, ShowsMap}
+use Rattle.run_executor.specs.Given.FollowsMaps.{table_of, shape_at, tables_to, RefinesMap}
 use Rattle.run_executor.proofs.Given.FollowsFinds.{first_is}
 
 -- Of so many tables of a map no more lie before a turn than that says.
@@ -35,7 +35,7 @@ module _ {K : Type 0} (map : ℕ) (c : Chart K) (stage : ℕ → Stage) (first :
   many_from (suc t) = one_more t (many_from t) (nat_le first t) refl
 
 -- So a map whose root's table has one behind it has a second table.
-pub second_there : {K V : Type 0} (map : ℕ) (number : ℕ → ℕ) (s : Standing K) (m : Moment K V) (known : Known) → ShowsMap map number s m known → suc s.chart.first < s.chart.past → HasNext map m
+pub second_there : {K V : Type 0} (map : ℕ) (number : ℕ → ℕ) (s : Standing K) (m : Moment K V) (known : Known) → RefinesMap map number s m known → suc s.chart.first < s.chart.past → HasNext map m
 second_there map number s m known shown ahead =
     let listed : length (chain_of map m) ≡ length (filter (λ (u : TableThere). nat_le (first_of map m) u.table.turn) (tables_to map s.chart shown.tables.stage s.chart.past)) =
     ap (λ (l : List TableThere). length (filter (λ (u : TableThere). nat_le (first_of map m) u.table.turn) l)) shown.tables.listed in

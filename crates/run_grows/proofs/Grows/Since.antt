@@ -25,14 +25,14 @@ use Rattle.run_executor.specs.Given.EffectsDeclared.acting.Acting.TheVariants as
 use Rattle.run_executor.specs.Given.FinishesMachines.{machine_of}
 use Rattle.run_executor.specs.Given.FinishesMaps.{Standing, with_call as with_in}
 use Rattle.run_executor.specs.Given.FollowsCalling.{NoneNamed, come_to, told}
-use Rattle.run_executor.specs.Given.FollowsCalls.{ShowsCalls as IsThere}
+use Rattle.run_executor.specs.Given.FollowsCalls.{RefinesCalls as IsThere}
 use Rattle.run_executor.proofs.Given.FollowsCalling.{apart_back, come, come_of_same, found_kept, replied_same}
 use Rattle.run_executor.proofs.Given.FollowsCalls.{found}
 use Rattle.run_executor.proofs.Given.FollowsSteps.{WentTo, went_to}
 use Rattle.run_executor.proofs.Given.HandsAsking.{which}
 use Rattle.run_executor.proofs.Given.HandsCalling.{caller_is}
 use Rattle.run_executor.specs.Given.OthersWalks.{given_up}
-use Rattle.run_executor.specs.Given.MomentsWhole.{ShowsWhole}
+use Rattle.run_executor.specs.Given.MomentsWhole.{RefinesWhole}
 use Rattle.run_executor.proofs.Given.ChangesBegun.{comes_begun, effects_begun, if_begun, replied_begun}
 use Rattle.run_executor.proofs.Given.ChangesLogs.{grows, now_there}
 use Rattle.run_grows.proofs.Grows.Finding.Between.{fewer_calls}
@@ -44,7 +44,7 @@ use Rattle.run_executor.specs.Given.ScenesStepping.{StepLeads, scene_after}
 use Rattle.run_schedules.specs.Schedules.Transition.{Past, further}
 use Rattle.run_executor.specs.Given.ChangesHistories.{IsPast}
 use Rattle.run_executor.proofs.Given.General.{same_some as one_of}
-use Rattle.run_logged.proofs.Given.SettlesCalls.{goes_as_one}
+use Rattle.run_finds.proofs.Given.SettlesCalls.{goes_as_one}
 
 -- pairs are where they were
 pub record HasSamePairs {K V : Type 0} (m v : Moment K V) : Type 0 where
@@ -220,7 +220,7 @@ module _ {K V X : Type 0} (Of : (X → Type 0) → Machine K V K → Type 0) (mo
   -- A step of a call.
 
   module _ (same : K → K → Bool) (hash : ℕ → K → ℕ) (name : ℕ → List ℕ) (log : Past K V) (m : Moment K V) (known : Known) (s : Scene K V) (old new : Held K V) (at : IsAt same hash old s)
-      (whole : ShowsWhole same name m known s) (map i : ℕ) (u : UnderWay K V K) (here : s.calls map i ≡ Some u) (said : Progress (Node K V)) (leads : StepLeads same hash i said s old new)
+      (whole : RefinesWhole same name m known s) (map i : ℕ) (u : UnderWay K V K) (here : s.calls map i ≡ Some u) (said : Progress (Node K V)) (leads : StepLeads same hash i said s old new)
       (others : OthersSo name log i m s) where
     abbrev to : WentTo same hash name m known s old new at whole.all.shown map i u here said leads
     to = went_to same hash name m known s old new at whole.all.shown map i u here said leads

@@ -3,9 +3,9 @@ use Rattle.std.specs.Prelude.{◌≡◌, ℕ, zero, suc, List, [], ◌∷◌, Op
 use Rattle.papaya_raw.specs.Given.TablesLengths.{next_len, next_limit}
 use Rattle.papaya_raw.specs.Given.TablesDeclared.lengths.Reason.TheVariants.{NoPlace}
 use Rattle.papaya_raw.specs.Given.TablesDeclared.table.Table.{Table}
-use Rattle.run_logged.specs.Given.ResizeDeclared.copier.Copying.{Copying}
-use Rattle.run_logged.specs.Given.ResizeDeclared.copier.Copying.TheVariants as copying
-use Rattle.run_logged.specs.Given.ResizeDeclared.new_table.NewTable.{NewTable}
+use Rattle.run_finds.specs.Given.ResizeDeclared.copier.Copying.{Copying}
+use Rattle.run_finds.specs.Given.ResizeDeclared.copier.Copying.TheVariants as copying
+use Rattle.run_finds.specs.Given.ResizeDeclared.new_table.NewTable.{NewTable}
 use Rattle.papaya_raw.specs.Given.ReservesDeclared.reserve.Reserving.{Reserving}
 use Rattle.papaya_raw.specs.Given.ReservesDeclared.reserve.Reserving.TheVariants as reserving
 use Rattle.papaya_raw.specs.Given.ReservesDeclared.sweep.Sweeping.{Sweeping}
@@ -19,7 +19,7 @@ use Rattle.run_schedules.specs.Schedules.Moment.{Moment, TableThere}
 use Rattle.run_schedules.specs.Schedules.Views.{tables_of}
 use Rattle.run_executor.specs.Given.CallersTogether.{UnderWay}
 use Rattle.run_executor.specs.Given.FinishesMachines.{machine_of}
-use Rattle.run_sweeps.specs.Given.FindsShaping.{ShapedAt}
+use Rattle.run_finds.specs.Shaping.{ShapedAt}
 use Rattle.run_executor.specs.Given.ScenesScene.{Scene}
 
 -- the one of a turn, if there are so many
@@ -36,12 +36,12 @@ abbrev pub lengths_of : {K V : Type 0} → ℕ → Moment K V → List ℕ
 lengths_of map m = lengths_in (tables_of map m)
 
 -- it follows a table of such a length, and is there since a copy has found no place in that
-abbrev pub IsBehind : List ℕ → Table → Type 0
-IsBehind lengths table = (t len : ℕ) × (table.turn ≡ suc t) × (at_turn lengths t ≡ Some len) × Has (next_len NoPlace len 0 0) table.len × (table.limit ≡ next_limit NoPlace len 0 table.len)
+abbrev pub FollowsFullTable : List ℕ → Table → Type 0
+FollowsFullTable lengths table = (t len : ℕ) × (table.turn ≡ suc t) × (at_turn lengths t ≡ Some len) × Has (next_len NoPlace len 0 0) table.len × (table.limit ≡ next_limit NoPlace len 0 table.len)
 
 -- a making makes such a table, for which no pairs are counted
 abbrev pub IsFurther : List ℕ → NewTable → Type 0
-IsFurther lengths n = ShapedAt (λ before reason. ⊥) (IsBehind lengths) n.stands
+IsFurther lengths n = ShapedAt (λ before reason. ⊥) (FollowsFullTable lengths) n.stands
 
 -- what a copier makes is such a making: its own,
 abbrev pub CopierMakes : (NewTable → Type 0) → Copying → Type 0
@@ -70,5 +70,5 @@ MachineMakes Such (kinds.Sweep c) = SweepMakes Such c.stands
 MachineMakes Such (kinds.Count sum) = Unit {0}
 
 -- so it is of each call that is under way
-abbrev pub ShowsFurther : {K V : Type 0} → Moment K V → Scene K V → Type 0
-ShowsFurther {K} {V} m s = (map i : ℕ) (u : UnderWay K V K) → s.calls map i ≡ Some u → MachineMakes (IsFurther (lengths_of map m)) (machine_of u)
+abbrev pub RefinesFurther : {K V : Type 0} → Moment K V → Scene K V → Type 0
+RefinesFurther {K} {V} m s = (map i : ℕ) (u : UnderWay K V K) → s.calls map i ≡ Some u → MachineMakes (IsFurther (lengths_of map m)) (machine_of u)

@@ -15,7 +15,7 @@ use Rattle.run_schedules.specs.Schedules.Coming.{is_at_limit}
 use Rattle.run_schedules.specs.Schedules.Lists.{OneOf}
 use Rattle.run_schedules.specs.Schedules.Moment.{Moment, UnderWay as CallThere}
 use Rattle.run_schedules.specs.Schedules.Views.{call_of}
-use Rattle.run_executor.specs.Given.LateFaults.{StandsInCalling, StandsInReserving, StandsInSweeping}
+use Rattle.run_executor.specs.Given.LateFaults.{HoldsInCalling, HoldsInReserving, HoldsInSweeping}
 use Rattle.run_executor.specs.Given.CallersTogether.{UnderWay}
 use Rattle.run_executor.specs.Given.FinishesMachines.{machine_of}
 use Rattle.run_executor.specs.Given.ScenesScene.{Scene}
@@ -26,21 +26,21 @@ abbrev pub IsFor : Type 0 → Fault → Type 0
 IsFor Why fault = fault ≡ Capacity → Why
 
 -- and so it is where it is to put one behind another that none can follow
-abbrev pub IsForBehind : Type 0 → Table → Reason → Type 0
-IsForBehind Why before reason = GoesByTable reason × (CannotBeFollowed before.len before.turn → Why)
+abbrev pub IsForDeferral : Type 0 → Table → Reason → Type 0
+IsForDeferral Why before reason = GoesByTable reason × (CannotBeFollowed before.len before.turn → Why)
 
 -- so many further pairs need more places than a table can have, however few are there
 abbrev pub NeedsMore : ℕ → Type 0
 NeedsMore additional = 2 ^ 48 < needed additional 0
 
 abbrev pub RoomEnds : Type 0 → Reserving → Type 0
-RoomEnds Why p = StandsInReserving (IsFor Why) (IsForBehind Why) p
+RoomEnds Why p = HoldsInReserving (IsFor Why) (IsForDeferral Why) p
 
 -- so it is of a call, whichever it is, wherever it stands,
 abbrev pub MachineEnds : {K V Q : Type 0} → Type 0 → Machine K V Q → Type 0
-MachineEnds Why (kinds.Key p) = StandsInCalling (IsFor Why) (IsForBehind Why) p.trial.table p.stands
+MachineEnds Why (kinds.Key p) = HoldsInCalling (IsFor Why) (IsForDeferral Why) p.trial.table p.stands
 MachineEnds Why (kinds.Reserve r) = RoomEnds (Why ⊎ NeedsMore r.additional) r.stands
-MachineEnds Why (kinds.Sweep c) = StandsInSweeping (IsFor Why) (IsForBehind Why) c.stands
+MachineEnds Why (kinds.Sweep c) = HoldsInSweeping (IsFor Why) (IsForDeferral Why) c.stands
 MachineEnds Why (kinds.Count sum) = Unit {0}
 
 -- and of what it says
@@ -60,8 +60,8 @@ module _ {K V : Type 0} where
   HasLimit map begun log m = HadLimit map begun log ⊎ IsAtLimit map m
 
   -- so it is of each call that is under way;
-  abbrev pub ShowsLimits : (ℕ → List ℕ) → Past K V → Moment K V → Scene K V → Type 0
-  ShowsLimits name log m s =
+  abbrev pub RefinesLimits : (ℕ → List ℕ) → Past K V → Moment K V → Scene K V → Type 0
+  RefinesLimits name log m s =
       (map i : ℕ) (u : UnderWay K V K) → s.calls map i ≡ Some u → (c : CallThere K V) → call_of (name i) m ≡ Some c → MachineEnds (HasLimit map c.begun log m) (machine_of u)
 
   -- in the midst of an event of caller i, by the log alone of each other call

@@ -1,6 +1,6 @@
 -- For what a copier makes a table: its map has a second table, or had one at a moment since the call began.
 use Rattle.std.specs.Prelude.{◌≡◌, ◌≢◌, ◌⊎◌, ℕ, List, Some}
-use Rattle.run_logged.specs.Given.ResizeDeclared.new_table.NewTable.{NewTable}
+use Rattle.run_finds.specs.Given.ResizeDeclared.new_table.NewTable.{NewTable}
 use Rattle.run_schedules.specs.Schedules.Growing.{HasNext}
 use Rattle.run_schedules.specs.Schedules.Lists.{OneOf}
 use Rattle.run_schedules.specs.Schedules.Moment.{Moment, UnderWay as CallThere}
@@ -20,8 +20,8 @@ module _ {K V : Type 0} where
   MayFollow map begun log m = HadNext map begun log ⊎ HasNext map m
 
   -- so it is of each call whose copier makes a table;
-  abbrev pub ShowsNexts : (ℕ → List ℕ) → Past K V → Moment K V → Scene K V → Type 0
-  ShowsNexts name log m s =
+  abbrev pub RefinesNexts : (ℕ → List ℕ) → Past K V → Moment K V → Scene K V → Type 0
+  RefinesNexts name log m s =
       (map i : ℕ) (u : UnderWay K V K) → s.calls map i ≡ Some u → (c : CallThere K V) → call_of (name i) m ≡ Some c → MachineMakes (λ (n : NewTable). MayFollow map c.begun log m) (machine_of u)
 
   -- in the midst of an event of caller i, by the log alone of each other call

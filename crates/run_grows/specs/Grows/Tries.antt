@@ -16,7 +16,7 @@ use Rattle.run_schedules.specs.Schedules.Tries.{try_at, FindsTaken}
 use Rattle.run_schedules.specs.Schedules.Views.{call_of}
 use Rattle.run_executor.specs.Given.CallersTogether.{UnderWay}
 use Rattle.run_executor.specs.Given.FinishesMachines.{machine_of}
-use Rattle.run_sweeps.specs.Given.FindsWithin.{many_of}
+use Rattle.run_finds.specs.Within.{many_of}
 use Rattle.run_executor.specs.Given.ScenesScene.{Scene}
 use Rattle.run_schedules.specs.Schedules.Transition.{Past}
 use Rattle.std.specs.List.{AllByRecursion}
@@ -76,8 +76,8 @@ module _ {K V : Type 0} where
   HasTaken map begun log m x = HadTaken map begun log x ⊎ TakenOrPassed map x m
 
   -- so it is of each call that is under way;
-  abbrev pub ShowsTries : (ℕ → List ℕ) → Past K V → Moment K V → Scene K V → Type 0
-  ShowsTries name log m s =
+  abbrev pub RefinesTries : (ℕ → List ℕ) → Past K V → Moment K V → Scene K V → Type 0
+  RefinesTries name log m s =
       (map i : ℕ) (u : UnderWay K V K) → s.calls map i ≡ Some u → (c : CallThere K V) → call_of (name i) m ≡ Some c → MachineTried (HasTaken map c.begun log m) (machine_of u)
 
   -- in the midst of an event of caller i, by the log alone of each other call

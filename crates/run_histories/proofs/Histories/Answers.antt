@@ -26,16 +26,16 @@ use Rattle.run_places.specs.Given.RuleWords.{Blocks}
 use Rattle.run_places.specs.Given.PointsFactsCalls.{Change, Unchanged, Changes}
 use Rattle.run_places.specs.Given.CallersSights.{seen_by}
 use Rattle.run_places.specs.Given.CallersSince.{SoSince}
-use Rattle.run_places.specs.Given.CallersTogether.{CallOnKey, OnKey, StepTold, Fresh, Late, change_told, AnswersOnce, in_slot}
+use Rattle.run_places.specs.Given.CallersTogether.{CallOnKey, OnKey, StepOutcome, Fresh, Late, change_observed, AnswersOnce, in_slot}
 use Rattle.run_places.specs.Given.FinishesMaps.{Standing, IsSameMap}
 use Rattle.run_places.specs.Given.EffectsKnown.{Known}
 use Rattle.run_places.specs.Given.EffectsDeclared.role.Role.TheVariants as role
-use Rattle.run_places.specs.Given.FollowsShows.{Shows}
+use Rattle.run_places.specs.Given.FollowsShows.{Refines}
 use Rattle.run_places.proofs.Given.FollowsSteps.{WentTo, DidSo, LeadsThere}
-use Rattle.run_places.specs.Moments.Whole.{ShowsWhole}
-use Rattle.run_histories.specs.Histories.Answers.{NamesPair, IsToldAs, AnswersWereSo}
+use Rattle.run_places.specs.Moments.Whole.{RefinesWhole}
+use Rattle.run_histories.specs.Histories.Answers.{NamesPair, IsAnsweredAs, AnswersWereSo}
 use Rattle.run_places.specs.Changes.Had.{HadThen}
-use Rattle.run_places.specs.Changes.Histories.{IsWithin, ShowsHistory}
+use Rattle.run_places.specs.Changes.Histories.{IsWithin, RefinesHistory}
 use Rattle.run_places.proofs.Changes.Had.{had_none, had_pair}
 use Rattle.run_places.proofs.Changes.Keys.{its_call}
 use Rattle.run_places.proofs.Changes.Later.{IsLater}
@@ -59,11 +59,11 @@ ended (called.Done other) answer e = let one : other ≡ answer = cc e in ap cal
 ended (called.Refused fault) answer e = absurd (cc e)
 
 module _ {K V : Type 0} (same : K → K → Bool) (hash : ℕ → K → ℕ) (name : ℕ → List ℕ) (log : Past K V) (m : Moment K V) (known : Known) (s : Scene K V) (old new : Held K V)
-    (at : IsAt same hash old s) (whole : ShowsWhole same name m known s) (history : ShowsHistory same name log m known s) (map i : ℕ) (x : CallOnKey K V K)
+    (at : IsAt same hash old s) (whole : RefinesWhole same name m known s) (history : RefinesHistory same name log m known s) (map i : ℕ) (x : CallOnKey K V K)
     (here : s.calls map i ≡ Some (OnKey x)) (said : Progress (Node K V)) (leads : StepLeads same hash i said s old new)
     (c : CallThere K V) (c_is : call_of (name i) m ≡ Some c) (one : OneKey K V) (one_is : c.call ≡ On one)
     (still : finite_map same map m (key_of one) ≡ finite_map same map log.now (key_of one)) (mean : Meaning V) where
-  abbrev shown : Shows same name m known s
+  abbrev shown : Refines same name m known s
   shown = history.shown
 
   abbrev went : WentTo same hash name m known s old new at shown map i (OnKey x) here said leads
@@ -148,8 +148,8 @@ module _ {K V : Type 0} (same : K → K → Bool) (hash : ℕ → K → ℕ) (na
           let no : same k had.2 ≡ false = ap (λ (f : K → Bool). f had.2) (sym its.1) ∙ none.1 n had.2 had.0 had.1 had.3 in let yes = had.4 in cc (no, yes)))
 
   -- a step by which the call has changed nothing has moved no pair
-  pub kept_by : {p2 : KeyCall K V K} {end : Called (Node K V)} {w2 : World (Node K V)} {c2 : Chart K} {blocks2 : Blocks} → (it : StepTold V same st.hash same st.setting slot_of st.chart i x p2 end w2 c2 blocks2)
-      → change_told V same st.hash same st.setting slot_of it ≡ Unchanged → c2.current ≡ st.chart.current
+  pub kept_by : {p2 : KeyCall K V K} {end : Called (Node K V)} {w2 : World (Node K V)} {c2 : Chart K} {blocks2 : Blocks} → (it : StepOutcome V same st.hash same st.setting slot_of st.chart i x p2 end w2 c2 blocks2)
+      → change_observed V same st.hash same st.setting slot_of it ≡ Unchanged → c2.current ≡ st.chart.current
   kept_by {c2 = c2} (Fresh told) none = elim told.changes as (λ _. c2.current ≡ st.chart.current) [
     | inl kept ↦ kept.1
     | inr changed ↦ subst (λ (z : Change). Changes same st.hash (is_incremental st.setting.mode) x.keys st.chart c2 z) none changed.1
@@ -168,14 +168,14 @@ module _ {K V : Type 0} (same : K → K → Bool) (hash : ℕ → K → ℕ) (na
     stands_on_is = same_map.2
 
 module _ {K V : Type 0} (same : K → K → Bool) (hash : ℕ → K → ℕ) (name : ℕ → List ℕ) (log : Past K V) (m : Moment K V) (known : Known) (s : Scene K V) (old new : Held K V)
-    (at : IsAt same hash old s) (whole : ShowsWhole same name m known s) (history : ShowsHistory same name log m known s) (map i : ℕ) (x : CallOnKey K V K)
+    (at : IsAt same hash old s) (whole : RefinesWhole same name m known s) (history : RefinesHistory same name log m known s) (map i : ℕ) (x : CallOnKey K V K)
     (here : s.calls map i ≡ Some (OnKey x)) (answer : KeyAnswer) (leads : StepLeads same hash i (Done (Key answer)) s old new)
     (c : CallThere K V) (c_is : call_of (name i) m ≡ Some c) (one : OneKey K V) (one_is : c.call ≡ On one)
     (still : finite_map same map m (key_of one) ≡ finite_map same map log.now (key_of one)) (a : Response V) where
   abbrev said : Progress (Node K V)
   said = Done (Key answer)
 
-  abbrev its_shown : Shows same name m known s
+  abbrev its_shown : Refines same name m known s
   its_shown = history.shown
 
   abbrev its_step : WentTo same hash name m known s old new at its_shown map i (OnKey x) here said leads
@@ -192,7 +192,7 @@ module _ {K V : Type 0} (same : K → K → Bool) (hash : ℕ → K → ℕ) (na
 
   module _ (st2 : Standing K) (st2_is : its_step.4.maps2 map ≡ Some st2) (kept : st2.chart.current ≡ stood.chart.current) (seen : Blocks)
       (roles : (n : ℕ) → n < st2.chart.stored → seen.pair_known n ≡ true → noted.roles (seen.pair n) ≡ role.Pair ((led_on same hash name m known s old new at whole its_shown map i (OnKey x) here said leads).shows.number map n)) where
-    was_so : (an : KeyAnswer) → SoSince st2.hash st2.chart seen x.keys x.began an → IsToldAs noted one c.replies an a → Answered
+    was_so : (an : KeyAnswer) → SoSince st2.hash st2.chart seen x.keys x.began an → IsAnsweredAs noted one c.replies an a → Answered
     was_so (answers.Found word) so told =
         found_then same hash name log m known s old new at whole history map i x here said leads c c_is one one_is still (Answers a Leaves) st2 st2_is kept seen roles word so told.0 told.1 told.2
     was_so answers.Absent so told = absent_then same hash name log m known s old new at whole history map i x here said leads c c_is one one_is still (Answers a Leaves) st2 st2_is kept seen roles so told
@@ -201,14 +201,14 @@ module _ {K V : Type 0} (same : K → K → Bool) (hash : ℕ → K → ℕ) (na
     was_so (answers.Removed word) (time, from, until, never) told = absurd never
 
   module _ (w : World (Node K V)) (c2 : Chart K) (seen : Blocks) where
-    once : (change : Change) → AnswersOnce V same stood.hash same stood.setting slot_of w c2 seen i x change answer → IsToldAs noted one c.replies answer a
+    once : (change : Change) → AnswersOnce V same stood.hash same stood.setting slot_of w c2 seen i x change answer → IsAnsweredAs noted one c.replies answer a
         → (change ≡ Unchanged) × SoSince stood.hash c2 seen x.keys x.began answer
     once change (fits, inl so) told = (so.0, so.1)
     once change (fits, inr (changed, tells, stores)) told = absurd (no_change same stood.hash same w i (in_slot stood.setting (slot_of i)) c2 seen x.keys change noted one c.replies a change answer tells told)
 
-  by : (told : IsToldAs noted one c.replies answer a) → DidSo same hash name m known s old new at its_shown map i (OnKey x) here said leads (OnKey x) → Answered
+  by : (told : IsAnsweredAs noted one c.replies answer a) → DidSo same hash name m known s old new at its_shown map i (OnKey x) here said leads (OnKey x) → Answered
   by told (p2, end, machine_is, told_is, inl (step, moved)) =
-      let it = once step.step.went.w2 step.step.went.c2 step.step.went.blocks2 (change_told V same stood.hash same stood.setting slot_of step.step.went.told) (step.step.answers answer (ended end answer told_is)) told in
+      let it = once step.step.went.w2 step.step.went.c2 step.step.went.blocks2 (change_observed V same stood.hash same stood.setting slot_of step.step.went.told) (step.step.answers answer (ended end answer told_is)) told in
       was_so (stands_then same hash name m known s old new at whole its_shown map i x here said leads p2 end step moved.1) (stands_is same hash name m known s old new at whole its_shown map i x here said leads p2 end step moved.1)
       (kept_by same hash name log m known s old new at whole history map i x here said leads c c_is one one_is still (Answers a Leaves) step.step.went.told it.0) step.step.went.blocks2 (roles_after same hash name m known s old new at whole its_shown map i x here said leads p2 end step moved.1) answer it.1 told
   by told (p2, end, machine_is, told_is, inr (row, stayed)) =

@@ -19,14 +19,14 @@ use Rattle.run_places.specs.Given.RawDeclared.machines.progress.Progress.{Progre
 use Rattle.run_places.specs.Given.RawDeclared.machines.progress.Progress.TheVariants as progress
 use Rattle.run_places.specs.Given.RunsDeclared.call.Call.{Call}
 use Rattle.run_places.proofs.Given.RuleKeys.Always.{Always, AlwaysOf, always_ends}
-use Rattle.run_places.specs.Given.TellerTells.{StepsTold}
+use Rattle.run_places.specs.Given.TellerTells.{StepsObserved}
 use Rattle.run_places.specs.Given.EffectsDeclared.changed.Changed.{Changed}
 use Rattle.run_places.specs.Given.EffectsDeclared.changed.Changed.TheVariants.{Nothing}
 use Rattle.run_places.specs.Given.CallersTogether.{CallOnKey, UnderWay, OnKey, ForRoom, Counting, OverAll}
 use Rattle.run_places.specs.Given.EffectsKnown.{Known}
 use Rattle.run_places.specs.Given.FinishesMachines.{machine_of}
 use Rattle.run_places.specs.Hands.Asked.{IsQuestion, IsAskedAs, AsksThere}
-use Rattle.run_histories.specs.Histories.Asking.{IsToldQuestion, AskingStepsStandThere, AskingCallsAskStill}
+use Rattle.run_histories.specs.Histories.Asking.{IsQuestionAsked, AskingStepsStandThere, AskingCallsAskStill}
 use Rattle.run_histories.proofs.Histories.Says.{AsksAt, SaysSo, says_so}
 use Rattle.run_places.specs.Given.ScenesHeld.{Held}
 use Rattle.run_places.specs.Given.ScenesStepping.{StepsFrom}
@@ -43,12 +43,12 @@ module _ {T A B : Type 0} (P : A → Type 0) (Q : B → Type 0) (f : A → B) (t
   always_turned (Do op rest) so = λ out. always_then (rest out) (so out)
 
 -- is so of the one to which a step has come, whose operation is told
-pub always_told : {K V R : Type 0} (P : R → Type 0) (m n : Mem (Node K V)) (before told : Changed) (plan : Plan (Node K V) R) (end : R) → AlwaysOf P plan → StepsTold K V R m before plan n told end → P end
+pub always_told : {K V R : Type 0} (P : R → Type 0) (m n : Mem (Node K V)) (before told : Changed) (plan : Plan (Node K V) R) (end : R) → AlwaysOf P plan → StepsObserved K V R m before plan n told end → P end
 always_told P m n before told (Turn rest) end always s = always_ends P (value_at n) rest end always s.1
 always_told P m n before told (Do op rest) end always s = always_ends P (value_at n) (rest s.0) end (always s.0) s.2
 
 -- in the words of a run
-asks_there : (known : Known) (stands : Calling) (about question : Option ℕ) → AsksAt about stands → IsToldQuestion known about question → AsksThere known stands question
+asks_there : (known : Known) (stands : Calling) (about question : Option ℕ) → AsksAt about stands → IsQuestionAsked known about question → AsksThere known stands question
 asks_there known stands None None at_gap told = (asking.Absent at_gap.0, at_gap.1, tt)
 asks_there known stands None (Some n) at_gap told = absurd told
 asks_there known stands (Some word) None at_word told = absurd told
@@ -89,10 +89,10 @@ module _ {K V : Type 0} (same : K → K → Bool) (hash : K → ℕ) (old new : 
 
   abbrev StepsAt : Calling → Type 0
   StepsAt stands =
-      StepsTold K V (Machine K V K × Progress (Node K V)) old.memory Nothing (plan_as called (plan_at same same hash u.call stands)) new.memory new.changed (machine, said)
+      StepsObserved K V (Machine K V K × Progress (Node K V)) old.memory Nothing (plan_as called (plan_at same same hash u.call stands)) new.memory new.changed (machine, said)
 
   -- where it asks, it says so
-  says_still : (known : Known) (it : AskingAt) (question : Option ℕ) → IsQuestion known it question → StepsAt (at.Asks it) → (about : Option ℕ) × (said ≡ progress.Asks about) × IsToldQuestion known about question
+  says_still : (known : Known) (it : AskingAt) (question : Option ℕ) → IsQuestion known it question → StepsAt (at.Asks it) → (about : Option ℕ) × (said ≡ progress.Asks about) × IsQuestionAsked known about question
   says_still known (asking.Absent gap) None is steps = (None, ap (λ (x : Machine K V K × Progress (Node K V)). x.1) steps.1, tt)
   says_still known (asking.Absent gap) (Some n) is steps = absurd is
   says_still known (asking.Present word) None is steps = absurd is
@@ -102,7 +102,7 @@ module _ {K V : Type 0} (same : K → K → Bool) (hash : K → ℕ) (old new : 
   says_still known (asking.GivesUp word) None is steps = absurd is
   says_still known (asking.GivesUp word) (Some n) is steps = absurd is
 
-  asks_again_there : (known : Known) (question : Option ℕ) → AsksThere known u.call.stands question → (about : Option ℕ) × (said ≡ progress.Asks about) × IsToldQuestion known about question
+  asks_again_there : (known : Known) (question : Option ℕ) → AsksThere known u.call.stands question → (about : Option ℕ) × (said ≡ progress.Asks about) × IsQuestionAsked known about question
   asks_again_there known question (it, stands, is) = says_still known it question is (subst StepsAt stands steps)
 
 module _ (K V : Type 0) (same : K → K → Bool) (hash : ℕ → K → ℕ) where

@@ -7,13 +7,13 @@ use Rattle.run_places.specs.Given.RunsDeclared.call.OneKey.{OneKey}
 use Rattle.run_places.specs.Given.RunsDeclared.effect.Effect.{Effect}
 use Rattle.run_places.specs.Given.RunsDeclared.outcome.Outcome.TheVariants as outcome
 use Rattle.run_places.specs.Given.SchedulesLinearizable.{MayAsk, AsksRight}
-use Rattle.run_places.specs.Given.SchedulesMoment.{Stands, Going, Asking, Told, IsReady, UnderWay as CallThere, Moment}
+use Rattle.run_places.specs.Given.SchedulesMoment.{CallState, Going, Asking, Told, IsReady, UnderWay as CallThere, Moment}
 use Rattle.run_places.specs.Given.SchedulesSequential.{key_of}
 use Rattle.run_places.specs.Given.SchedulesViews.{finite_map}
 use Rattle.run_places.specs.Given.CallersTogether.{CallOnKey}
 use Rattle.run_places.specs.Given.EffectsKnown.{Known}
 use Rattle.run_places.specs.Hands.Asked.{AsksThere}
-use Rattle.run_histories.specs.Histories.Questions.{unanswered, ShowsQuestions}
+use Rattle.run_histories.specs.Histories.Questions.{unanswered, AllHaveAskedJust}
 use Rattle.run_histories.specs.Histories.Several.{InMidst}
 use Rattle.run_places.proofs.Changes.Found.{map_alike}
 use Rattle.run_histories.proofs.Histories.MayAsk.{may_ask, asks_unchanged}
@@ -23,7 +23,7 @@ use Rattle.run_places.specs.Given.ScenesScene.{Scene}
 use Rattle.run_places.specs.Given.SchedulesTransition.{Past}
 
 module _ {K V : Type 0} (same : K → K → Bool) (hash : ℕ → K → ℕ) (name : ℕ → List ℕ) (log : Past K V) (beginning : Moment K V) (map i : ℕ) (one : OneKey K V) (c : CallThere K V)
-    (one_is : c.call ≡ On one) (questions : ShowsQuestions beginning)
+    (one_is : c.call ≡ On one) (questions : AllHaveAskedJust beginning)
     (done : List Effect) (m : Moment K V) (known : Known) (s : Scene K V) (u : CallOnKey K V K) (midst : InMidst same name log beginning map i one c done m known s u)
     (x : Held K V) (at_x : IsAt same hash x s) (question : Option ℕ) (asks : AsksThere known u.call.stands question) where
   -- the call as its event comes to its end
@@ -33,8 +33,8 @@ module _ {K V : Type 0} (same : K → K → Bool) (hash : ℕ → K → ℕ) (na
   there_one : there.call ≡ On one
   there_one = midst.same_call.call ∙ one_is
 
-  then_asked : ShowsQuestions m
-  then_asked = subst (λ (y : Moment K V). ShowsQuestions y) (sym midst.worked) (effects_keep_questions K V (Some (name i)) (Some map) done beginning questions)
+  then_asked : AllHaveAskedJust m
+  then_asked = subst (λ (y : Moment K V). AllHaveAskedJust y) (sym midst.worked) (effects_keep_questions K V (Some (name i)) (Some map) done beginning questions)
 
   -- it has changed nothing
   still : finite_map same map m (key_of one) ≡ finite_map same map log.now (key_of one)
@@ -46,7 +46,7 @@ module _ {K V : Type 0} (same : K → K → Bool) (hash : ℕ → K → ℕ) (na
   may first = subst (λ (z : Call K V). MayAsk same z there (log.since there.begun) question) (sym there_one)
       (may_ask same hash name log m known s x at_x midst.dues map i u midst.here there midst.there_is one there_one then_asked still first question asks)
 
-  pub asks_right : (stands : Stands) → there.stands ≡ stands → AsksRight same stands there (log.since there.begun) (outcome.Asks question)
+  pub asks_right : (stands : CallState) → there.stands ≡ stands → AsksRight same stands there (log.since there.begun) (outcome.Asks question)
   asks_right (Asking q) is = tt
   asks_right Going is = may (ap unanswered is)
   asks_right Told is = may (ap unanswered is)

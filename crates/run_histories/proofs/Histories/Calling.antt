@@ -12,20 +12,20 @@ use Rattle.run_places.specs.Given.SchedulesMoment.{UnderWay as CallThere, Moment
 use Rattle.run_places.specs.Given.SchedulesViews.{call_of, finite_map}
 use Rattle.run_places.specs.Given.CallersTogether.{UnderWay, OnKey, ForRoom, Counting, OverAll}
 use Rattle.run_places.specs.Given.EffectsKnown.{Known}
-use Rattle.run_places.specs.Given.FinishesMachines.{ToldOfKind}
+use Rattle.run_places.specs.Given.FinishesMachines.{RepliedOfKind}
 use Rattle.run_places.specs.Given.FinishesMaps.{Standing, with_call as with_in}
 use Rattle.run_places.specs.Given.FollowsCalling.{NoneNamed, told, come_to}
-use Rattle.run_places.specs.Given.FollowsShows.{Shows}
+use Rattle.run_places.specs.Given.FollowsShows.{Refines}
 use Rattle.run_places.proofs.Given.FollowsCalling.{is_same_refl, apart_back, replied_same, come, come_of_same, found_kept, begins_with, told_with, come_with}
 use Rattle.run_places.proofs.Given.FollowsCalls.{found}
-use Rattle.run_places.specs.Hands.Asked.{as_told, ShowsAsked}
+use Rattle.run_places.specs.Hands.Asked.{reply_to_machine, RefinesAsked}
 use Rattle.run_places.proofs.Hands.Asking.{which}
 use Rattle.run_places.proofs.Hands.Beginning.{runs_begin_so}
 use Rattle.run_places.proofs.Hands.Calling.{caller_is, begins_asked, come_asked}
 use Rattle.run_places.proofs.Hands.Told.{own_told, told_asked}
 use Rattle.run_places.specs.Changes.Had.{HadThen}
-use Rattle.run_places.specs.Changes.Histories.{began_of, since, IsWithin, ShowsHistory, StaysWithin}
-use Rattle.run_places.specs.Changes.Kept.{HistoriesBegin, CallsBeginHistories, CallsTakeHistories, CallsComeToHistories, EventsKeepHistories, FirstStepsChangeFirst}
+use Rattle.run_places.specs.Changes.Histories.{began_of, since, IsWithin, RefinesHistory, StaysWithin}
+use Rattle.run_places.specs.Changes.Kept.{HistoriesBegin, CallsBeginHistories, CallsTakeHistories, CallsComeToHistories, EventsPreserveHistories, FirstStepsChangeFirst}
 use Rattle.run_places.proofs.Changes.Begun.{if_begun, replied_begun, comes_begun}
 use Rattle.run_places.proofs.Changes.Found.{map_alike}
 use Rattle.run_places.proofs.Changes.Logs.{first_is_past, further_is_past, grows}
@@ -49,7 +49,7 @@ histories_begin K V same roots name =
 pub first_steps_change_first : (K V : Type 0) (same : K → K → Bool) → FirstStepsChangeFirst K V same
 first_steps_change_first K V same log m v map begun k = inr (map_alike same map k log.now m begun.0 begun.1)
 
-pub events_keep_histories : (K V : Type 0) (same : K → K → Bool) → EventsKeepHistories K V same
+pub events_keep_histories : (K V : Type 0) (same : K → K → Bool) → EventsPreserveHistories K V same
 events_keep_histories K V same name log m known s history counted = (
   record {
     past = further_is_past m log counted;
@@ -68,7 +68,7 @@ events_keep_histories K V same name log m known s history counted = (
 
 -- a call that was told something began when it began
 told_began : {K V : Type 0} (same : K → K → Bool) (batch_size roots : ℕ) (standing : Standing K) (i : ℕ) (u : UnderWay K V K) (reply : MachineReply V) (next : UnderWay K V K)
-    → ToldOfKind V same same batch_size roots slot_of standing i u reply next → began_of next ≡ began_of u
+    → RepliedOfKind V same same batch_size roots slot_of standing i u reply next → began_of next ≡ began_of u
 told_began same batch_size roots standing i (OnKey u) reply next (inl (asks_at, about, stands, asked, is)) = ap (λ (z : UnderWay _ _ _). began_of z) is
 told_began same batch_size roots standing i (OnKey u) reply next (inr is) = ap (λ (z : UnderWay _ _ _). began_of z) is
 told_began same batch_size roots standing i (ForRoom r) reply next is = ap (λ (z : UnderWay _ _ _). began_of z) is
@@ -78,10 +78,10 @@ told_began same batch_size roots standing i (OverAll o) reply next (inl (word, n
 told_began same batch_size roots standing i (OverAll o) reply next (inr is) = ap (λ (z : UnderWay _ _ _). began_of z) is
 
 -- Only calls have changed: each that is there then was there, begun by the same event and at the same moment of its map, or it begins now.
-module _ {K V : Type 0} (same : K → K → Bool) (name : ℕ → List ℕ) (log : Past K V) (m m2 : Moment K V) (known : Known) (s : Scene K V) (history : ShowsHistory same name log m known s)
+module _ {K V : Type 0} (same : K → K → Bool) (name : ℕ → List ℕ) (log : Past K V) (m m2 : Moment K V) (known : Known) (s : Scene K V) (history : RefinesHistory same name log m known s)
     (place : m2.place ≡ m.place) (stored : m2.stored ≡ m.stored) (calls2 : ℕ → ℕ → Option (UnderWay K V K))
-    (after : Shows same name m2 known (record s { calls = calls2 })) (numbers : after.number ≡ history.shown.number)
-    (asked : ShowsAsked name history.shown.number m2 known (record s { calls = calls2 })) where
+    (after : Refines same name m2 known (record s { calls = calls2 })) (numbers : after.number ≡ history.shown.number)
+    (asked : RefinesAsked name history.shown.number m2 known (record s { calls = calls2 })) where
   abbrev pub IsAsBefore : ℕ → ℕ → UnderWay K V K → CallThere K V → Type 0
   IsAsBefore n j x d = (y : UnderWay K V K) × (s.calls n j ≡ Some y) × (began_of x ≡ began_of y) × (c : CallThere K V) × (call_of (name j) m ≡ Some c) × (d.begun ≡ c.begun)
 
@@ -109,7 +109,7 @@ module _ {K V : Type 0} (same : K → K → Bool) (name : ℕ → List ℕ) (log
       record {
         past = history.past;
         shown = after;
-        asked = subst (λ (f : ℕ → ℕ → ℕ). ShowsAsked name f m2 known (record s { calls = calls2 })) (sym numbers) asked;
+        asked = subst (λ (f : ℕ → ℕ → ℕ). RefinesAsked name f m2 known (record s { calls = calls2 })) (sym numbers) asked;
         begun = λ n j x is d d_is. begun_then n j x d (which_is n j x is d d_is);
         within = λ n j x is st there d d_is began began_is. within_then n j x d (which_is n j x is d d_is) st there began began_is;
       },
@@ -119,7 +119,7 @@ module _ {K V : Type 0} (same : K → K → Bool) (name : ℕ → List ℕ) (log
 module _ (K V : Type 0) (same : K → K → Bool) (hash : ℕ → K → ℕ) where
   pub calls_take_histories : CallsTakeHistories K V same hash
   calls_take_histories name log m known s e at history map i u here c c_is question c_asks standing there is_told next machine taken goes =
-      let b = told_with same name m known s history.shown map i u here e.batch_size e.roots standing (as_told is_told) next goes is_told in
+      let b = told_with same name m known s history.shown map i u here e.batch_size e.roots standing (reply_to_machine is_told) next goes is_told in
       calls_changed same name log m (told (name i) is_told m) known s history refl refl (with_in s.calls map i (Some next)) b.0 b.1
       (told_asked same hash name m known s e at history.shown history.asked map i standing there c c_is question c_asks is_told u next here
       (own_told same hash name m known s e at history.shown history.asked map i standing there c c_is question c_asks is_told u next here machine taken goes))
@@ -141,7 +141,7 @@ module _ (K V : Type 0) (same : K → K → Bool) (hash : ℕ → K → ℕ) whe
           let was = history.shown.calls n j u is in (
             u,
             is,
-            ap (λ (z : UnderWay K V K). began_of z) (one_of x next (sym its.2)) ∙ told_began same e.batch_size e.roots standing i u (as_told is_told) next goes,
+            ap (λ (z : UnderWay K V K). began_of z) (one_of x next (sym its.2)) ∙ told_began same e.batch_size e.roots standing i u (reply_to_machine is_told) next goes,
             was.0,
             was.1,
             same_event j was.0 d was.1 d_is,
@@ -160,7 +160,7 @@ module _ (K V : Type 0) (same : K → K → Bool) (hash : ℕ → K → ℕ) whe
       fresh : CallThere K V
       fresh = fresh_call (name i) guard its map m.events
 
-      b : (after : Shows same name m2 known (scene_with map i u s)) × (after.number ≡ history.shown.number)
+      b : (after : Refines same name m2 known (scene_with map i u s)) × (after.number ≡ history.shown.number)
       b = begins_with same name m known s history.shown map i u its guard apart called
 
       found_now : (j : ℕ) (q : Bool) → is_same (name i) (name j) ≡ q → (d : CallThere K V) → call_of (name j) m2 ≡ Some d → cond q (Some fresh) (call_of (name j) m) ≡ Some d
@@ -217,7 +217,7 @@ module _ (K V : Type 0) (same : K → K → Bool) where
       calls_changed same name log m (come_to own o steps m) known s history refl refl s.calls b.0 b.1
       (come_asked same name m known s history.shown history.asked own o steps ended just) (λ n j x is d d_is. inl (as_before n j x is d d_is))
     where
-      b : (after : Shows same name (come_to own o steps m) known s) × (after.number ≡ history.shown.number)
+      b : (after : Refines same name (come_to own o steps m) known s) × (after.number ≡ history.shown.number)
       b = come_with same name m known s history.shown own o steps ended
 
       as_before : (n j : ℕ) (x : UnderWay K V K) → s.calls n j ≡ Some x → (d : CallThere K V) → call_of (name j) (come_to own o steps m) ≡ Some d

@@ -21,19 +21,19 @@ use Rattle.run_places.specs.Given.SchedulesSequential.{Meaning, Answers, Deed, P
 use Rattle.run_places.specs.Given.SchedulesViews.{is_in_map, call_of, reply_to}
 use Rattle.run_places.specs.Given.RuleChart.{Chart}
 use Rattle.run_places.specs.Given.PointsFactsCalls.{Change, Unchanged, Stored, Replaced, Removed}
-use Rattle.run_places.specs.Given.CallersTogether.{CallOnKey, UnderWay, OnKey, ForRoom, Counting, OverAll, change_told}
+use Rattle.run_places.specs.Given.CallersTogether.{CallOnKey, UnderWay, OnKey, ForRoom, Counting, OverAll, change_observed}
 use Rattle.run_places.specs.Given.FinishesMaps.{Standing}
 use Rattle.run_places.specs.Given.EffectsEffects.{effects_of}
 use Rattle.run_places.specs.Given.EffectsKnown.{Known}
 use Rattle.run_places.specs.Given.EffectsDeclared.acting.Acting.TheVariants as acts
-use Rattle.run_places.specs.Given.FollowsMaps.{ShowsPairs}
-use Rattle.run_places.specs.Given.FollowsShows.{Shows}
+use Rattle.run_places.specs.Given.FollowsMaps.{RefinesPairs}
+use Rattle.run_places.specs.Given.FollowsShows.{Refines}
 use Rattle.run_places.proofs.Given.FollowsCalled.{room_goes_on, counting_goes_on, sweep_goes_on, key_goes_on}
 use Rattle.run_places.proofs.Given.FollowsSteps.{WentTo, DidSo, LeadsThere}
 use Rattle.run_places.proofs.Hands.Asking.{which}
 use Rattle.run_places.proofs.Hands.Calling.{caller_is}
 use Rattle.run_places.proofs.Hands.Replacing.{calls_after}
-use Rattle.run_places.specs.Moments.Whole.{ShowsWhole}
+use Rattle.run_places.specs.Moments.Whole.{RefinesWhole}
 use Rattle.run_places.specs.Given.CallersPairs.{kind_of}
 use Rattle.run_places.specs.Given.FollowsSteps.{named_now, HasToStore, TakesNone}
 use Rattle.run_places.proofs.Given.FollowsAlike.{put_here}
@@ -46,7 +46,7 @@ use Rattle.run_places.specs.Changes.Changes.{AreTaken}
 use Rattle.run_places.proofs.Changes.Changes.{acted_on, Stores, has_to, replacing, there, asked_on, takes_now, Did, ToldOnce, told_once, none_by, its_shifts, its_done, by_row, DidSoHere, NoRow}
 use Rattle.run_places.proofs.Changes.Meanings.{ToRemove}
 use Rattle.run_places.proofs.Changes.Which.{DidOnce, DidNone, DidStore, DidReplace, DidRemove, did_once}
-use Rattle.run_histories.specs.Histories.Due.{Owes, ShowsDue, CallsKeepDue}
+use Rattle.run_histories.specs.Histories.Due.{HasPendingAnswer, RefinesPendingAnswers, CallsPreservePendingAnswers}
 use Rattle.run_places.specs.Changes.Kept.{ChangesFirst}
 use Rattle.run_places.proofs.Changes.Dues.{effects_due}
 use Rattle.run_places.proofs.Changes.Later.{IsLater}
@@ -69,7 +69,7 @@ module _ {K V : Type 0} (number number2 : ℕ → ℕ) (stored stored2 : ℕ) (n
       ∙ ap (λ (z : List (Option ℕ × Reply V)). means one (reply_to o z) o n) replies_are ∙ said
 
   -- what is owed is owed on
-  pub owes_on : (change : Change) → Owes number stored one c change → Owes number2 stored2 one d change
+  pub owes_on : (change : Change) → HasPendingAnswer number stored one c change → HasPendingAnswer number2 stored2 one d change
   owes_on Unchanged h = due_is ∙ h
   owes_on (Stored n) (l, a, v, said, due) = (omega (arith, l, more), a, v, said_on None None (number n) (number2 n) (Answers a (Puts v)) refl (numbers n l) said, due_is ∙ due)
   owes_on (Replaced o n) (l, l2, a, v, said, due) = (
@@ -94,9 +94,9 @@ pub same_change : {K V : Type 0} (x y : CallOnKey K V K) → ◌≡◌ {A = Unde
 same_change x y e = let one : x ≡ y = cc e in ap (λ (z : CallOnKey _ _ _). z.change) one
 
 module _ {K V : Type 0} (same : K → K → Bool) (hash : ℕ → K → ℕ) (name : ℕ → List ℕ) (log : Past K V) (m : Moment K V) (known : Known) (s : Scene K V) (old new : Held K V)
-    (at : IsAt same hash old s) (whole : ShowsWhole same name m known s) (dues : ShowsDue same name log m known s) (map i : ℕ) (u : UnderWay K V K) (here : s.calls map i ≡ Some u)
+    (at : IsAt same hash old s) (whole : RefinesWhole same name m known s) (dues : RefinesPendingAnswers same name log m known s) (map i : ℕ) (u : UnderWay K V K) (here : s.calls map i ≡ Some u)
     (said : Progress (Node K V)) (leads : StepLeads same hash i said s old new) where
-  abbrev shown : Shows same name m known s
+  abbrev shown : Refines same name m known s
   shown = dues.history.shown
 
   abbrev went : WentTo same hash name m known s old new at shown map i u here said leads
@@ -130,7 +130,7 @@ module _ {K V : Type 0} (same : K → K → Bool) (hash : ℕ → K → ℕ) (na
 
   -- of another call nothing has changed
   other : (n j : ℕ) (x : CallOnKey K V K) → (n ≡ map → j ≡ i → ⊥) → s.calls n j ≡ Some (OnKey x) → (st2 : Standing K) → went.4.maps2 n ≡ Some st2 → (d : CallThere K V) → call_of (name j) v2 ≡ Some d
-      → (one : OneKey K V) → d.call ≡ On one → Owes (number2 n) st2.chart.stored one d x.change
+      → (one : OneKey K V) → d.call ≡ On one → HasPendingAnswer (number2 n) st2.chart.stored one d x.change
   other n j x apart is st2 there d found one one_is =
       let c = shown.calls n j (OnKey x) is in
       let before = maps_later same hash name m known s old new at whole shown map i u here said leads n st2 there in
@@ -141,7 +141,7 @@ module _ {K V : Type 0} (same : K → K → Bool) (hash : ℕ → K → ℕ) (na
 
   -- the call itself, where its effects shift no pair
   pub kept : (z : CallOnKey K V K) → s.calls map i ≡ Some (OnKey z) → (st2 : Standing K) → went.4.maps2 map ≡ Some st2 → flat_map shift_of effects ≡ [] → (d : CallThere K V) → call_of (name i) v2 ≡ Some d
-      → (one : OneKey K V) → d.call ≡ On one → Owes (number2 map) st2.chart.stored one d z.change
+      → (one : OneKey K V) → d.call ≡ On one → HasPendingAnswer (number2 map) st2.chart.stored one d z.change
   kept z is st2 there none d found one one_is =
       let c = shown.calls map i (OnKey z) is in
       let before = maps_later same hash name m known s old new at whole shown map i u here said leads map st2 there in
@@ -152,15 +152,15 @@ module _ {K V : Type 0} (same : K → K → Bool) (hash : ℕ → K → ℕ) (na
   abbrev pub Own : Type 0
   Own =
       (x : CallOnKey K V K) → went.4.next ≡ Some (OnKey x) → (st2 : Standing K) → went.4.maps2 map ≡ Some st2 → (d : CallThere K V) → call_of (name i) v2 ≡ Some d → (one : OneKey K V) → d.call ≡ On one
-      → Owes (number2 map) st2.chart.stored one d x.change
+      → HasPendingAnswer (number2 map) st2.chart.stored one d x.change
 
   -- so it is for all, where it is for the call itself
   module _ (own : Own) (changes : ChangesFirst log m same map v2) where
     owes_then : (n j : ℕ) (x : CallOnKey K V K) → scene2.calls n j ≡ Some (OnKey x) → (st2 : Standing K) → went.4.maps2 n ≡ Some st2 → (d : CallThere K V) → call_of (name j) v2 ≡ Some d
-        → (one : OneKey K V) → d.call ≡ On one → Owes (number2 n) st2.chart.stored one d x.change
-    owes_then n j x is st2 there d found one one_is = elim (which s.calls map i went.4.next n j (OnKey x) is) as (λ _. Owes (number2 n) st2.chart.stored one d x.change) [
+        → (one : OneKey K V) → d.call ≡ On one → HasPendingAnswer (number2 n) st2.chart.stored one d x.change
+    owes_then n j x is st2 there d found one one_is = elim (which s.calls map i went.4.next n j (OnKey x) is) as (λ _. HasPendingAnswer (number2 n) st2.chart.stored one d x.change) [
       | inl its ↦
-          subst (λ (z : ℕ). Owes (number2 z) st2.chart.stored one d x.change) (sym its.0)
+          subst (λ (z : ℕ). HasPendingAnswer (number2 z) st2.chart.stored one d x.change) (sym its.0)
           (own x its.2 st2 (ap went.4.maps2 (sym its.0) ∙ there) d (ap (λ (z : ℕ). call_of (name z) v2) (sym its.1) ∙ found) one one_is)
       | inr was ↦ other n j x was.0 was.1 st2 there d found one one_is
     ]
@@ -172,7 +172,7 @@ module _ {K V : Type 0} (same : K → K → Bool) (hash : ℕ → K → ℕ) (na
         let was = was_there j c.0 d c.1 found in
         subst (AreTaken one) (sym was.1) (dues.taken n j under_way.0 under_way.1 c.0 c.1 one (sym was.0 ∙ one_is))
 
-    pub dues_then : ShowsDue same name log v2 (after same hash name m known s old new at whole shown map i u here said leads) scene2
+    pub dues_then : RefinesPendingAnswers same name log v2 (after same hash name m known s old new at whole shown map i u here said leads) scene2
     dues_then = record {
       history = step_history same hash name log m known s old new at whole dues.history map i u here said leads changes;
       owes = owes_then;
@@ -193,9 +193,9 @@ module _ {K V : Type 0} (same : K → K → Bool) (hash : ℕ → K → ℕ) (na
 
 -- a call on one key
 module _ {K V : Type 0} (same : K → K → Bool) (hash : ℕ → K → ℕ) (name : ℕ → List ℕ) (log : Past K V) (m : Moment K V) (known : Known) (s : Scene K V) (old new : Held K V)
-    (at : IsAt same hash old s) (whole : ShowsWhole same name m known s) (dues : ShowsDue same name log m known s) (map i : ℕ) (z : CallOnKey K V K) (here : s.calls map i ≡ Some (OnKey z))
+    (at : IsAt same hash old s) (whole : RefinesWhole same name m known s) (dues : RefinesPendingAnswers same name log m known s) (map i : ℕ) (z : CallOnKey K V K) (here : s.calls map i ≡ Some (OnKey z))
     (said : Progress (Node K V)) (leads : StepLeads same hash i said s old new) where
-  abbrev shown1 : Shows same name m known s
+  abbrev shown1 : Refines same name m known s
   shown1 = dues.history.shown
 
   abbrev went1 : WentTo same hash name m known s old new at shown1 map i (OnKey z) here said leads
@@ -229,7 +229,7 @@ module _ {K V : Type 0} (same : K → K → Bool) (hash : ℕ → K → ℕ) (na
         let it = maps_later same hash name m known s old new at whole shown1 map i (OnKey z) here said leads map st2 st2_is in
         subst (λ (x : Standing K). IsLater x.chart st2.chart) (one_of it.0 went1.0 (sym it.1 ∙ went1.2)) it.2
 
-    pairs2 : ShowsPairs map num2 st2 v1 (after same hash name m known s old new at whole shown1 map i (OnKey z) here said leads)
+    pairs2 : RefinesPairs map num2 st2 v1 (after same hash name m known s old new at whole shown1 map i (OnKey z) here said leads)
     pairs2 = (on1.shows.maps map st2 st2_is).pairs
 
     replies_are : d.replies ≡ c.replies
@@ -238,11 +238,11 @@ module _ {K V : Type 0} (same : K → K → Bool) (hash : ℕ → K → ℕ) (na
     pub taken : AreTaken one c.replies
     taken = dues.taken map i (OnKey z) here c c_is one one_is
 
-    owed : Owes num ch.stored one c z.change
+    owed : HasPendingAnswer num ch.stored one c z.change
     owed = dues.owes map i z here went1.0 went1.2 c c_is one one_is
 
     pub nothing_due : z.change ≡ Unchanged → c.due ≡ None
-    nothing_due e = subst (Owes num ch.stored one c) e owed
+    nothing_due e = subst (HasPendingAnswer num ch.stored one c) e owed
 
     -- the pair that has come has the number that was next
     new_number : v1.place q ≡ InMap map → ((n : ℕ) → st2.chart.current n ≡ true → ch.stored ≤ n → n ≡ ch.stored) → (q ≡ num2 ch.stored) × (ch.stored < st2.chart.stored)
@@ -268,7 +268,7 @@ module _ {K V : Type 0} (same : K → K → Bool) (hash : ℕ → K → ℕ) (na
     block = named_now new.changed
 
     -- what was stored where there was none
-    owes_stored : (sp : Spot) → its_effects ≡ effect.Stored q sp ∷ [] → StoresIts its_effects → ((n : ℕ) → st2.chart.current n ≡ true → ch.stored ≤ n → n ≡ ch.stored) → Owes num2 st2.chart.stored one d (Stored ch.stored)
+    owes_stored : (sp : Spot) → its_effects ≡ effect.Stored q sp ∷ [] → StoresIts its_effects → ((n : ℕ) → st2.chart.current n ≡ true → ch.stored ≤ n → n ≡ ch.stored) → HasPendingAnswer num2 st2.chart.stored one d (Stored ch.stored)
     owes_stored sp is stores comes =
         let has = (subst (λ (l : List Effect). StoresIts l) is stores).0 in
         let it = has_to same hash name m known s old new at whole shown1 dues.history.asked map i z here said leads c c_is one one_is taken nothing_due block q None c refl refl asked.replacing
@@ -286,7 +286,7 @@ module _ {K V : Type 0} (same : K → K → Bool) (hash : ℕ → K → ℕ) (na
 
     -- in the place of a pair
     owes_replaced : (n : ℕ) (sp : Spot) → its_effects ≡ effect.Replaced (num n) ∷ effect.Stored q sp ∷ [] → StoresIts its_effects → ch.current n ≡ true
-        → ((n : ℕ) → st2.chart.current n ≡ true → ch.stored ≤ n → n ≡ ch.stored) → Owes num2 st2.chart.stored one d (Replaced n ch.stored)
+        → ((n : ℕ) → st2.chart.current n ≡ true → ch.stored ≤ n → n ≡ ch.stored) → HasPendingAnswer num2 st2.chart.stored one d (Replaced n ch.stored)
     owes_replaced n sp is stores current comes =
         let m1 = with_effect (Some (name i)) (Some map) (effect.Replaced (num n)) m in
         let c1 = call_by m (effect.Replaced (num n)) c in
@@ -311,7 +311,7 @@ module _ {K V : Type 0} (same : K → K → Bool) (hash : ℕ → K → ℕ) (na
         )
 
     -- and what was removed
-    owes_removed : (n : ℕ) → its_effects ≡ effect.Removed (num n) ∷ [] → ch.current n ≡ true → MayDo (kind_of z.pair) (Removed n) → ToRemove n z.pair → Owes num2 st2.chart.stored one d (Removed n)
+    owes_removed : (n : ℕ) → its_effects ≡ effect.Removed (num n) ∷ [] → ch.current n ≡ true → MayDo (kind_of z.pair) (Removed n) → ToRemove n z.pair → HasPendingAnswer num2 st2.chart.stored one d (Removed n)
     owes_removed n is current may told =
         let it = takes_now same hash name m known s old new at whole shown1 dues.history.asked map i z here said leads c c_is one one_is taken nothing_due n current may told in
         let v_is : v1 ≡ with_effect (Some (name i)) (Some map) (effect.Removed (num n)) m = ap (λ (l : List Effect). with_effects (Some (name i)) (Some map) l m) is in
@@ -330,7 +330,7 @@ module _ {K V : Type 0} (same : K → K → Bool) (hash : ℕ → K → ℕ) (na
         )
 
     abbrev Then : Change → Type 0
-    Then change = Owes num2 st2.chart.stored one d change
+    Then change = HasPendingAnswer num2 st2.chart.stored one d change
 
     stays : flat_map shift_of its_effects ≡ [] → Then z.change
     stays none = kept same hash name log m known s old new at whole dues map i (OnKey z) here said leads z here st2 st2_is none d d_is one
@@ -360,14 +360,14 @@ module _ {K V : Type 0} (same : K → K → Bool) (hash : ℕ → K → ℕ) (na
 
     -- what the call has changed by its step
     abbrev pub change_by : DidHere → Change
-    change_by (p2, end, machine_is, told_is, inl (step, moved)) = change_told V same went1.0.hash same went1.0.setting slot_of step.step.went.told
+    change_by (p2, end, machine_is, told_is, inl (step, moved)) = change_observed V same went1.0.hash same went1.0.setting slot_of step.step.went.told
     change_by (p2, end, machine_is, told_is, inr (row, stayed)) = z.change
 
     -- it owes what it means by that
     pub owes_now : (did : DidHere) → (NoRow same hash name m known s old new at whole shown1 dues.history.asked map i z here said leads c c_is one one_is taken nothing_due did → StoresIts its_effects) → ((NoRow same hash name m known s old new at whole shown1 dues.history.asked map i z here said leads c c_is one one_is taken nothing_due did → ⊥) → TakesNone new.changed) → Then (change_by did)
     owes_now (p2, end, machine_is, told_is, inl (step, moved)) stores takes =
         by_told step.step.went.c2 (moved_chart same hash name m known s old new at whole shown1 map i (OnKey z) here said leads step.step.went.c2 step.step.blocks2 step.step.sights2 moved.1 st2 st2_is)
-        (its_shifts same hash name m known s old new at whole shown1 dues.history.asked map i z here said leads c c_is one one_is taken nothing_due p2 end step) (stores tt) (change_told V same went1.0.hash same went1.0.setting slot_of step.step.went.told)
+        (its_shifts same hash name m known s old new at whole shown1 dues.history.asked map i z here said leads c c_is one one_is taken nothing_due p2 end step) (stores tt) (change_observed V same went1.0.hash same went1.0.setting slot_of step.step.went.told)
         (told_once same hash name m known s old new at whole shown1 dues.history.asked map i z here said leads c c_is one one_is taken nothing_due step.step.went.told) (its_done same hash name m known s old new at whole shown1 dues.history.asked map i z here said leads c c_is one one_is taken nothing_due p2 end step)
     owes_now (p2, end, machine_is, told_is, inr (row, stayed)) stores takes = stays (by_row same hash name m known s old new at whole shown1 dues.history.asked map i z here said leads c c_is one one_is taken nothing_due (takes (λ no. no)) (p2, end, machine_is, told_is, inr (row, stayed)) (λ no. no))
 
@@ -384,10 +384,10 @@ module _ {K V : Type 0} (same : K → K → Bool) (hash : ℕ → K → ℕ) (na
   own_key x e st2 st2_is d d_is one one_is =
       let c = shown1.calls map i (OnKey z) here in
       let was = was_there same hash name log m known s old new at whole dues map i (OnKey z) here said leads i c.0 d c.1 d_is in
-      subst (λ (y : Change). Owes num2 st2.chart.stored one d y) (sym (goes_on c.0 c.1 one (sym was.0 ∙ one_is) st2 st2_is d d_is x e went1.4.did))
+      subst (λ (y : Change). HasPendingAnswer num2 st2.chart.stored one d y) (sym (goes_on c.0 c.1 one (sym was.0 ∙ one_is) st2 st2_is d d_is x e went1.4.did))
       (owes_then_by c.0 c.1 one (sym was.0 ∙ one_is) st2 st2_is d d_is)
 
-pub calls_keep_due : (K V : Type 0) (same : K → K → Bool) (hash : ℕ → K → ℕ) → CallsKeepDue K V same hash
+pub calls_keep_due : (K V : Type 0) (same : K → K → Bool) (hash : ℕ → K → ℕ) → CallsPreservePendingAnswers K V same hash
 calls_keep_due K V same hash name log m known s old new at whole dues map i (OnKey z) here said leads changes =
     dues_then same hash name log m known s old new at whole dues map i (OnKey z) here said leads (own_key same hash name log m known s old new at whole dues map i z here said leads) changes
 calls_keep_due K V same hash name log m known s old new at whole dues map i (ForRoom r) here said leads changes =

@@ -11,25 +11,25 @@ use Rattle.run_places.specs.Given.RunsDeclared.call.OneKey.{OneKey}
 use Rattle.run_places.specs.Given.RunsDeclared.call.Reply.{Reply}
 use Rattle.run_places.specs.Given.RunsDeclared.outcome.Outcome.{Outcome}
 use Rattle.run_places.specs.Given.RunsDeclared.outcome.Outcome.TheVariants as outcome
-use Rattle.run_places.specs.Given.SchedulesAfter.{asks_on, comes_to, replied}
+use Rattle.run_places.specs.Given.SchedulesAfter.{asks_on, with_outcome, replied}
 use Rattle.run_places.specs.Given.SchedulesBeginning.{fresh_call, with_call}
 use Rattle.run_places.specs.Given.SchedulesThings.{same_question}
-use Rattle.run_places.specs.Given.SchedulesMoment.{Stands, Going, Asking, Told, IsReady, UnderWay as CallThere, Moment}
+use Rattle.run_places.specs.Given.SchedulesMoment.{CallState, Going, Asking, Told, IsReady, UnderWay as CallThere, Moment}
 use Rattle.run_places.specs.Given.SchedulesViews.{call_of, reply_to}
 use Rattle.run_places.specs.Given.PointsFactsCalls.{Change, Unchanged, Seeks}
 use Rattle.run_places.specs.Given.PointsTold.{IsRowOfCall}
 use Rattle.run_places.specs.Given.CallersSights.{seen_by}
-use Rattle.run_places.specs.Given.CallersTogether.{CallOnKey, UnderWay, OnKey, ForRoom, Counting, OverAll, Knows, Stands as StandsAt, in_slot}
-use Rattle.run_places.specs.Given.FinishesMachines.{ToldOfKind}
+use Rattle.run_places.specs.Given.CallersTogether.{CallOnKey, UnderWay, OnKey, ForRoom, Counting, OverAll, Knows, IsAtPoint as StandsAt, in_slot}
+use Rattle.run_places.specs.Given.FinishesMachines.{RepliedOfKind}
 use Rattle.run_places.specs.Given.FinishesMaps.{Standing}
 use Rattle.run_places.specs.Given.FollowsCalling.{told}
 use Rattle.run_places.proofs.Given.FollowsCalling.{is_same_refl, replied_same, come}
 use Rattle.run_places.proofs.Given.FollowsCalls.{found}
-use Rattle.run_places.specs.Hands.Asked.{as_told, IsAskedAs}
+use Rattle.run_places.specs.Hands.Asked.{reply_to_machine, IsAskedAs}
 use Rattle.run_places.proofs.Hands.Asking.{which}
 use Rattle.run_places.proofs.Hands.Calling.{caller_is}
 use Rattle.run_places.specs.Changes.Changes.{IsTaken, AreTaken}
-use Rattle.run_histories.specs.Histories.Due.{Owes, DuesBegin, CallsComeToDue, EventsKeepDue, CallsBeginDue, CallsTakeDue}
+use Rattle.run_histories.specs.Histories.Due.{HasPendingAnswer, PendingAnswersBegin, CallsComeToDue, EventsPreservePendingAnswers, CallsBeginDue, CallsTakeDue}
 use Rattle.run_places.specs.Changes.Histories.{StaysWithin}
 use Rattle.run_histories.proofs.Histories.Calling.{came_so, histories_begin, calls_begin_histories, calls_take_histories, calls_come_to_histories, events_keep_histories}
 use Rattle.run_histories.proofs.Histories.Due.{owes_on, same_change}
@@ -43,13 +43,13 @@ module _ {K V : Type 0} where
   abbrev pub IsAsOwed : CallThere K V → CallThere K V → Type 0
   IsAsOwed c d = (d.due ≡ c.due) × (d.replies ≡ c.replies) × (d.call ≡ c.call)
 
-  asks_owed : (question : Option ℕ) (c : CallThere K V) (stands : Stands) → IsAsOwed c (asks_on question c stands)
+  asks_owed : (question : Option ℕ) (c : CallThere K V) (stands : CallState) → IsAsOwed c (asks_on question c stands)
   asks_owed question c Going = (refl, refl, refl)
   asks_owed question c (Asking q) = (refl, refl, refl)
   asks_owed question c Told = (refl, refl, refl)
   asks_owed question c IsReady = (refl, refl, refl)
 
-  pub comes_owed : (o : Outcome V) (c : CallThere K V) → IsAsOwed c (comes_to o c)
+  pub comes_owed : (o : Outcome V) (c : CallThere K V) → IsAsOwed c (with_outcome o c)
   comes_owed outcome.Done c = (refl, refl, refl)
   comes_owed (outcome.Slot n) c = (refl, refl, refl)
   comes_owed outcome.Goes c = (refl, refl, refl)
@@ -68,16 +68,16 @@ module _ {K V : Type 0} where
       (ap (λ (z : CallThere K V). z.due) e ∙ it.0, ap (λ (z : CallThere K V). z.replies) e ∙ it.1, ap (λ (z : CallThere K V). z.call) e ∙ it.2)
 
 module _ (K V : Type 0) (same : K → K → Bool) where
-  pub dues_begin : DuesBegin K V same
+  pub dues_begin : PendingAnswersBegin K V same
   dues_begin roots name =
       record { history = histories_begin K V same roots name; owes = λ map i u is st there c found one one_is. absurd (cc is); taken = λ map i u is c found one one_is. absurd (cc is) }
 
-  pub events_keep_due : EventsKeepDue K V same
+  pub events_keep_due : EventsPreservePendingAnswers K V same
   events_keep_due name log m known s dues counted =
       let on = events_keep_histories K V same name log m known s dues.history counted in
       record {
         history = on.0;
-        owes = λ map i u is st there c found one one_is. subst (λ (f : ℕ → ℕ → ℕ). Owes (f map) st.chart.stored one c u.change) (sym on.1) (dues.owes map i u is st there c found one one_is);
+        owes = λ map i u is st there c found one one_is. subst (λ (f : ℕ → ℕ → ℕ). HasPendingAnswer (f map) st.chart.stored one c u.change) (sym on.1) (dues.owes map i u is st there c found one one_is);
         taken = dues.taken;
       }
 
@@ -86,7 +86,7 @@ module _ (K V : Type 0) (same : K → K → Bool) where
       let on = calls_come_to_histories K V same name log m known s dues.history own o steps ended just in
       record {
         history = on.0;
-        owes = λ map i u is st there d found one one_is. subst (λ (f : ℕ → ℕ → ℕ). Owes (f map) st.chart.stored one d u.change) (sym on.1)
+        owes = λ map i u is st there d found one one_is. subst (λ (f : ℕ → ℕ → ℕ). HasPendingAnswer (f map) st.chart.stored one d u.change) (sym on.1)
             (let was = dues.history.shown.calls map i (OnKey u) is in
             let kept = came_owed o steps was.0 d (came_so same name m s own o steps ended map i (OnKey u) is was.0 was.1 d found) in
             owes_on (dues.history.shown.number map) (dues.history.shown.number map) st.chart.stored st.chart.stored (λ n l. refl) (omega arith) one was.0 d kept.0 kept.1 u.change
@@ -126,7 +126,7 @@ module _ {K V : Type 0} (same : K → K → Bool) (hash : ℕ → K → ℕ) whe
 
 module _ {K V : Type 0} (same : K → K → Bool) where
   -- a call that was told something has changed what it had changed
-  told_change : (batch_size roots : ℕ) (st : Standing K) (i : ℕ) (u : UnderWay K V K) (reply : MachineReply V) (x : CallOnKey K V K) → ToldOfKind V same same batch_size roots slot_of st i u reply (OnKey x)
+  told_change : (batch_size roots : ℕ) (st : Standing K) (i : ℕ) (u : UnderWay K V K) (reply : MachineReply V) (x : CallOnKey K V K) → RepliedOfKind V same same batch_size roots slot_of st i u reply (OnKey x)
       → (y : CallOnKey K V K) × (u ≡ OnKey y) × (x.change ≡ y.change)
   told_change batch_size roots st i (OnKey y) reply x (inl (asks_at, about, stands, asked, is)) = (y, refl, same_change x _ is)
   told_change batch_size roots st i (OnKey y) reply x (inr is) = (y, refl, same_change x y is)
@@ -140,7 +140,7 @@ module _ (K V : Type 0) (same : K → K → Bool) (hash : ℕ → K → ℕ) whe
   pub calls_begin_due : CallsBeginDue K V same hash
   calls_begin_due name log m known s e is_at dues map i u its guard standing there begins unchanged apart called begun_for events = record {
     history = on.0;
-    owes = λ n j x is st st_is d d_is one one_is. subst (λ (f : ℕ → ℕ → ℕ). Owes (f n) st.chart.stored one d x.change) (sym on.1) (owes n j x d d_is one one_is st st_is (which s.calls map i (Some u) n j (OnKey x) is));
+    owes = λ n j x is st st_is d d_is one one_is. subst (λ (f : ℕ → ℕ → ℕ). HasPendingAnswer (f n) st.chart.stored one d x.change) (sym on.1) (owes n j x d d_is one one_is st st_is (which s.calls map i (Some u) n j (OnKey x) is));
     taken = λ n j x is d d_is one one_is. taken n j x d d_is one one_is (which s.calls map i (Some u) n j x is);
   }
     where
@@ -161,9 +161,9 @@ module _ (K V : Type 0) (same : K → K → Bool) (hash : ℕ → K → ℕ) whe
 
       owes : (n j : ℕ) (x : CallOnKey K V K) (d : CallThere K V) → call_of (name j) m2 ≡ Some d → (one : OneKey K V) → d.call ≡ On one → (st : Standing K) → s.maps n ≡ Some st
           → ((n ≡ map) × (j ≡ i) × (◌≡◌ {A = Option (UnderWay K V K)} (Some u) (Some (OnKey x)))) ⊎ ((n ≡ map → j ≡ i → ⊥) × (s.calls n j ≡ Some (OnKey x)))
-          → Owes (dues.history.shown.number n) st.chart.stored one d x.change
+          → HasPendingAnswer (dues.history.shown.number n) st.chart.stored one d x.change
       owes n j x d d_is one one_is st st_is (inl a) =
-          subst (λ (y : Change). Owes (dues.history.shown.number n) st.chart.stored one d y) (sym (unchanged x (one_of u (OnKey x) a.2))) (ap (λ (y : CallThere K V). y.due) (is_fresh j a.1 d d_is))
+          subst (λ (y : Change). HasPendingAnswer (dues.history.shown.number n) st.chart.stored one d y) (sym (unchanged x (one_of u (OnKey x) a.2))) (ap (λ (y : CallThere K V). y.due) (is_fresh j a.1 d d_is))
       owes n j x d d_is one one_is st st_is (inr a) = dues.owes n j x a.1 st st_is d (found_now j false (apart n j (OnKey x) a.1) d d_is) one one_is
 
       taken : (n j : ℕ) (x : UnderWay K V K) (d : CallThere K V) → call_of (name j) m2 ≡ Some d → (one : OneKey K V) → d.call ≡ On one
@@ -174,7 +174,7 @@ module _ (K V : Type 0) (same : K → K → Bool) (hash : ℕ → K → ℕ) whe
   pub calls_take_due : CallsTakeDue K V same hash
   calls_take_due name log m known s e is_at dues map i u here c c_is question c_asks standing there is_told next machine takes goes its_taken = record {
     history = on.0;
-    owes = λ n j x is st st_is d d_is one one_is. subst (λ (f : ℕ → ℕ → ℕ). Owes (f n) st.chart.stored one d x.change) (sym on.1) (owes n j x d d_is one one_is st st_is (which s.calls map i (Some next) n j (OnKey x) is));
+    owes = λ n j x is st st_is d d_is one one_is. subst (λ (f : ℕ → ℕ → ℕ). HasPendingAnswer (f n) st.chart.stored one d x.change) (sym on.1) (owes n j x d d_is one one_is st st_is (which s.calls map i (Some next) n j (OnKey x) is));
     taken = λ n j x is d d_is one one_is. taken n j x d d_is one one_is (which s.calls map i (Some next) n j x is);
   }
     where
@@ -208,17 +208,17 @@ module _ (K V : Type 0) (same : K → K → Bool) (hash : ℕ → K → ℕ) whe
 
       owes : (n j : ℕ) (x : CallOnKey K V K) (d : CallThere K V) → call_of (name j) v ≡ Some d → (one : OneKey K V) → d.call ≡ On one → (st : Standing K) → s.maps n ≡ Some st
           → ((n ≡ map) × (j ≡ i) × (◌≡◌ {A = Option (UnderWay K V K)} (Some next) (Some (OnKey x)))) ⊎ ((n ≡ map → j ≡ i → ⊥) × (s.calls n j ≡ Some (OnKey x)))
-          → Owes (dues.history.shown.number n) st.chart.stored one d x.change
+          → HasPendingAnswer (dues.history.shown.number n) st.chart.stored one d x.change
       owes n j x d d_is one one_is st st_is (inl a) =
-          let y = told_change same e.batch_size e.roots standing i u (as_told is_told) x (subst (ToldOfKind V same same e.batch_size e.roots slot_of standing i u (as_told is_told)) (one_of next (OnKey x) a.2) goes) in
+          let y = told_change same e.batch_size e.roots standing i u (reply_to_machine is_told) x (subst (RepliedOfKind V same same e.batch_size e.roots slot_of standing i u (reply_to_machine is_told)) (one_of next (OnKey x) a.2) goes) in
           let y_here : s.calls map i ≡ Some (OnKey y.0) = here ∙ ap Some y.1 in
           let d_after = own_then j a.1 d d_is in
           let c_one : c.call ≡ On one = ap (λ (z : CallThere K V). z.call) (sym d_after) ∙ one_is in
           let none = asks_unchanged same hash s e is_at map i standing there y.0 y_here in
           let asks = asks_at y.0 y_here one c_one in
           let unchanged : y.0.change ≡ Unchanged = none asks.0 asks.1 in
-          subst (λ (z : Change). Owes (dues.history.shown.number n) st.chart.stored one d z) (sym (y.2 ∙ unchanged))
-          (ap (λ (z : CallThere K V). z.due) d_after ∙ subst (λ (z : Change). Owes (dues.history.shown.number map) standing.chart.stored one c z) unchanged (dues.owes map i y.0 y_here standing there c c_is one c_one))
+          subst (λ (z : Change). HasPendingAnswer (dues.history.shown.number n) st.chart.stored one d z) (sym (y.2 ∙ unchanged))
+          (ap (λ (z : CallThere K V). z.due) d_after ∙ subst (λ (z : Change). HasPendingAnswer (dues.history.shown.number map) standing.chart.stored one c z) unchanged (dues.owes map i y.0 y_here standing there c c_is one c_one))
         where
           asks_at : (y : CallOnKey K V K) → s.calls map i ≡ Some (OnKey y) → (one : OneKey K V) → c.call ≡ On one → (it : AskingAt) × (y.call.stands ≡ at.Asks it)
           asks_at y y_here one c_one =

@@ -20,7 +20,7 @@ use Rattle.run_places.specs.Given.SchedulesEffects.{with_effects}
 use Rattle.run_places.specs.Given.SchedulesEntry.{acting, IfCall}
 use Rattle.run_places.specs.Given.SchedulesLinearizable.{shift_of, meaning_at, Changes, ChangesOnce, AnswersDue, EndsOn, Ends, AsksRight, IsRight, IsRightOf, Linearizes}
 use Rattle.run_places.specs.Given.SchedulesLists.{OneOf}
-use Rattle.run_places.specs.Given.SchedulesMoment.{Stands, Going, Asking, Told, IsReady, UnderWay as CallThere, Moment}
+use Rattle.run_places.specs.Given.SchedulesMoment.{CallState, Going, Asking, Told, IsReady, UnderWay as CallThere, Moment}
 use Rattle.run_places.specs.Given.SchedulesSequential.{Meaning, Answers, Refuses, Leaves, means, key_of}
 use Rattle.run_places.specs.Given.SchedulesViews.{call_of, reply_to, finite_map}
 use Rattle.run_places.specs.Given.PointsFactsCalls.{Unchanged}
@@ -29,10 +29,10 @@ use Rattle.run_places.specs.Given.EffectsEffects.{effects_of, known_after}
 use Rattle.run_places.specs.Given.EffectsKnown.{Known}
 use Rattle.run_places.specs.Given.EffectsDeclared.acting.Acting.TheVariants as acts
 use Rattle.run_places.proofs.Hands.Replacing.{calls_after}
-use Rattle.run_histories.specs.Histories.Answers.{IsToldAs, IsToldDone}
-use Rattle.run_histories.specs.Histories.Events.{ComesToIt}
-use Rattle.run_histories.specs.Histories.Asking.{IsToldQuestion}
-use Rattle.run_histories.specs.Histories.Questions.{GoesItself, AsksStill, ShowsQuestions, AsksOnStill}
+use Rattle.run_histories.specs.Histories.Answers.{IsAnsweredAs, IsAnsweredDone}
+use Rattle.run_histories.specs.Histories.Events.{HasOutcome}
+use Rattle.run_histories.specs.Histories.Asking.{IsQuestionAsked}
+use Rattle.run_histories.specs.Histories.Questions.{GoesItself, AsksStill, AllHaveAskedJust, AsksOnStill}
 use Rattle.run_histories.specs.Histories.Several.{IsSameCall, InMidst, MidstsEnd, MidstsAskStill}
 use Rattle.run_histories.proofs.Histories.Answers.{answers_were_so}
 use Rattle.run_histories.proofs.Histories.Asking.{asking_steps_stand_there, asking_calls_ask_still}
@@ -91,7 +91,7 @@ module _ {K V : Type 0} (same : K → K → Bool) (hash : ℕ → K → ℕ) (na
 
   -- what is answered is due
   answered : (answer : KeyAnswer) (leads : StepLeads same hash i (progress.Done (machine.Key answer)) s old new) (a : Response V)
-      → IsToldAs known2 one there.replies answer a ⊎ IsToldDone known2 one there.replies answer a
+      → IsAnsweredAs known2 one there.replies answer a ⊎ IsAnsweredDone known2 one there.replies answer a
       → AnswersDue same one (call_then (progress.Done (machine.Key answer)) leads) (log.since (call_then (progress.Done (machine.Key answer)) leads).begun)
       (call_then (progress.Done (machine.Key answer)) leads).due a
   answered answer leads a (inl told) =
@@ -124,8 +124,8 @@ module _ {K V : Type 0} (same : K → K → Bool) (hash : ℕ → K → ℕ) (na
   refused_right call _ so = so.0
 
   -- one that says that it asks may ask that
-  module _ (questions : ShowsQuestions beginning) (about : Option ℕ) (leads : StepLeads same hash i (progress.Asks about) s old new) where
-    asks_then : (question : Option ℕ) → IsToldQuestion known2 about question
+  module _ (questions : AllHaveAskedJust beginning) (about : Option ℕ) (leads : StepLeads same hash i (progress.Asks about) s old new) where
+    asks_then : (question : Option ℕ) → IsQuestionAsked known2 about question
         → AsksRight same (call_then (progress.Asks about) leads).stands (call_then (progress.Asks about) leads) (log.since (call_then (progress.Asks about) leads).begun) (outcome.Asks question)
     asks_then question told =
         let on = asking_steps_stand_there K V same hash s old new map i u midst.here about leads in
@@ -136,7 +136,7 @@ module _ {K V : Type 0} (same : K → K → Bool) (hash : ℕ → K → ℕ) (na
         (leads map (OnKey u) midst.here).5 question (on.2 known2 question told) then.there.stands refl)
 
   -- so it ends right, and asks right
-  ends_right : ShowsQuestions beginning → (said : Progress (Node K V)) (leads : StepLeads same hash i said s old new) (o : Outcome V) → ComesToIt known2 one there.replies said o
+  ends_right : AllHaveAskedJust beginning → (said : Progress (Node K V)) (leads : StepLeads same hash i said s old new) (o : Outcome V) → HasOutcome known2 one there.replies said o
       → EndsOn same one (call_then said leads) (log.since (call_then said leads).begun) o
       × AsksRight same (call_then said leads).stands (call_then said leads) (log.since (call_then said leads).begun) o
   ends_right questions (progress.Done (machine.Key answer)) leads (outcome.Answered a) told = (answered answer leads a told, asks_none same (call_then _ leads) _ (call_then _ leads).stands (outcome.Answered a) tt)
@@ -153,13 +153,13 @@ module _ {K V : Type 0} (same : K → K → Bool) (hash : ℕ → K → ℕ) (na
   ends_right questions _ leads o told = absurd told
 
   -- what asks does not go on by itself
-  no_going : (replies : List (Option ℕ × Reply V)) (about : Option ℕ) (o : Outcome V) → ComesToIt known2 one replies (progress.Asks about) o → GoesItself o → ⊥
+  no_going : (replies : List (Option ℕ × Reply V)) (about : Option ℕ) (o : Outcome V) → HasOutcome known2 one replies (progress.Asks about) o → GoesItself o → ⊥
   no_going replies about (outcome.Asks question) told goes = goes
   no_going replies about _ told goes = told
 
   module _ (c_is : call_of (name i) beginning ≡ Some c) (said : Progress (Node K V)) (leads : StepLeads same hash i said s old new) (t : Transition K V) (is_caller : t.caller ≡ Some (name i))
       (begun : t.found ≡ beginning) (acts_on : t.map ≡ Some map)
-      (effects_are : t.effects ≡ done ++ effects_of (acts.Call i map) known new.changed) (comes : ComesToIt known2 one c.replies said t.outcome) where
+      (effects_are : t.effects ≡ done ++ effects_of (acts.Call i map) known new.changed) (comes : HasOutcome known2 one c.replies said t.outcome) where
     abbrev call : CallThere K V
     call = call_then said leads
 
@@ -179,7 +179,7 @@ module _ {K V : Type 0} (same : K → K → Bool) (hash : ℕ → K → ℕ) (na
         ap (λ (o : Option (List ℕ)). acting o (worked_by t)) is_caller ∙ ap (call_of (name i)) worked_is
         ∙ d_is same hash name log beginning map i one c one_is done m known s u midst old new at said leads
 
-    right : ShowsQuestions beginning → IsRight same log t c call
+    right : AllHaveAskedJust beginning → IsRight same log t c call
     right questions = record {
       changes = subst (λ (x : Call K V). Changes same x c t.found (flat_map shift_of t.effects)) (sym one_is)
           (subst (λ (b : Moment K V). ChangesOnce same one c b (flat_map shift_of t.effects)) (sym begun)
@@ -190,18 +190,18 @@ module _ {K V : Type 0} (same : K → K → Bool) (hash : ℕ → K → ℕ) (na
     }
       where
         ends_so : EndsOn same one call (log.since call.begun) t.outcome × AsksRight same call.stands call (log.since call.begun) t.outcome
-        ends_so = ends_right questions said leads t.outcome (subst (λ (r : List (Option ℕ × Reply V)). ComesToIt known2 one r said t.outcome) (sym midst.same_call.replies) comes)
+        ends_so = ends_right questions said leads t.outcome (subst (λ (r : List (Option ℕ × Reply V)). HasOutcome known2 one r said t.outcome) (sym midst.same_call.replies) comes)
 
-    pub linearizable : ShowsQuestions beginning → Linearizes same log t
+    pub linearizable : AllHaveAskedJust beginning → Linearizes same log t
     linearizable questions = subst (λ (x : Option (CallThere K V)). IsRightOf same log t x (call_left t)) (sym before)
         (subst (λ (x : Option (CallThere K V)). IsRightOf same log t (Some c) x) (sym then_acting) (right questions))
 
     -- a call that asks says so by the last step, too
-    still_so : (stands : Stands) → call.stands ≡ stands → AsksStill stands t.outcome
+    still_so : (stands : CallState) → call.stands ≡ stands → AsksStill stands t.outcome
     still_so (Asking question) is = λ goes.
         let on = (calls_after (name i) map (name i) (effects_of (acts.Call i map) known new.changed) m there midst.there_is).2.0.stands in
         let says = asking_calls_ask_still K V same hash name midst.dues.history.shown.number m known s old new midst.dues.history.asked map i u midst.here said leads there midst.there_is one there_one question (sym on ∙ is) in
-        no_going c.replies says.0 t.outcome (subst (λ (x : Progress (Node K V)). ComesToIt known2 one c.replies x t.outcome) says.1 comes) goes
+        no_going c.replies says.0 t.outcome (subst (λ (x : Progress (Node K V)). HasOutcome known2 one c.replies x t.outcome) says.1 comes) goes
     still_so Going is = tt
     still_so Told is = tt
     still_so IsReady is = tt

@@ -24,7 +24,7 @@ use Rattle.run_places.specs.Given.PointsFactsCalls.{Change, Unchanged, Seeks}
 use Rattle.run_places.specs.Given.PointsSteps.{AreLawful}
 use Rattle.run_places.specs.Given.PointsTold.{IsRowOfCall, HasAnswered}
 use Rattle.run_places.specs.Given.LateKinds.{FitsAsking}
-use Rattle.run_places.specs.Given.CallersAsked.{last_told}
+use Rattle.run_places.specs.Given.CallersAsked.{last_reply}
 use Rattle.run_places.specs.Given.CallersPairs.{Given, kind_of, KeepsGiven}
 use Rattle.run_places.specs.Given.CallersSights.{seen_by}
 use Rattle.run_places.specs.Given.CallersSince.{SoSince}
@@ -36,9 +36,9 @@ use Rattle.run_places.specs.Hands.Asked.{given_by, KnowsFirst, IsSameQuestion, I
 use Rattle.run_places.proofs.Hands.Replies.{told_as}
 use Rattle.run_places.proofs.Hands.Steps.{numbers_apart}
 use Rattle.run_places.proofs.Hands.Takes.{not_first}
-use Rattle.run_histories.specs.Histories.Due.{Owes, ShowsDue}
+use Rattle.run_histories.specs.Histories.Due.{HasPendingAnswer, RefinesPendingAnswers}
 use Rattle.run_places.specs.Changes.Had.{HadThen}
-use Rattle.run_histories.specs.Histories.Questions.{unanswered, replied_to, ShowsQuestions}
+use Rattle.run_histories.specs.Histories.Questions.{unanswered, replied_to, AllHaveAskedJust}
 use Rattle.run_places.proofs.Changes.Had.{had_none, had_pair}
 use Rattle.run_places.proofs.Changes.Keys.{its_call}
 use Rattle.run_places.proofs.Changes.Logs.{each_of, now_there}
@@ -50,7 +50,7 @@ use Rattle.run_places.specs.Given.ScenesScene.{Scene, slot_of}
 use Rattle.run_places.specs.Given.SchedulesTransition.{Past}
 
 module _ {K V : Type 0} (same : K → K → Bool) (hash : ℕ → K → ℕ) (name : ℕ → List ℕ) (log : Past K V) (m : Moment K V) (known : Known) (s : Scene K V) (e : Held K V)
-    (at_e : IsAt same hash e s) (dues : ShowsDue same name log m known s) (map i : ℕ) (u : CallOnKey K V K) (here : s.calls map i ≡ Some (OnKey u))
+    (at_e : IsAt same hash e s) (dues : RefinesPendingAnswers same name log m known s) (map i : ℕ) (u : CallOnKey K V K) (here : s.calls map i ≡ Some (OnKey u))
     (c : CallThere K V) (c_is : call_of (name i) m ≡ Some c) (one : OneKey K V) (one_is : c.call ≡ On one) where
   abbrev st : Standing K
   st = (stands same hash s e at_e map i (OnKey u) here).0
@@ -106,7 +106,7 @@ module _ {K V : Type 0} (same : K → K → Bool) (hash : ℕ → K → ℕ) (na
     ]
 
     owes_none : c.due ≡ None
-    owes_none = subst (λ (z : Change). Owes number st.chart.stored one c z) unchanged (dues.owes map i u here st st_is c c_is one one_is)
+    owes_none = subst (λ (z : Change). HasPendingAnswer number st.chart.stored one c z) unchanged (dues.owes map i u here st st_is c c_is one one_is)
 
     -- what it would answer if nothing is to change was so since it began
     so_since : (answer : KeyAnswer) → HasAnswered answer (at.Asks it) → SoSince st.hash st.chart seen u.keys u.began answer
@@ -119,7 +119,7 @@ module _ {K V : Type 0} (same : K → K → Bool) (hash : ℕ → K → ℕ) (na
     fits : FitsAsking (kind_of (given_by one asked.asked)).present (kind_of (given_by one asked.asked)).absent (kind_of (given_by one asked.asked)).takes it
     fits = fits_it st.hash s.world.memory st.chart seen u.keys u.change u.call (given_by one asked.asked) it keeps
 
-  module _ (questions : ShowsQuestions m) (still : finite_map same map m k ≡ finite_map same map log.now k) (first : unanswered c.stands ≡ []) where
+  module _ (questions : AllHaveAskedJust m) (still : finite_map same map m k ≡ finite_map same map log.now k) (first : unanswered c.stands ≡ []) where
     abbrev Wanted : Option ℕ → Moment K V → Type 0
     Wanted question y = (there_for same one c y ≡ question) × (means one None question (length y.stored + 1) ≡ Wants)
 
@@ -140,7 +140,7 @@ module _ {K V : Type 0} (same : K → K → Bool) (hash : ℕ → K → ℕ) (na
             each_of (λ (y : Moment K V). HadThen same st number time k (finite_map same map y k)) (Wanted o) (log.since c.begun) (λ y h. so y (is (finite_map same map y k) h)) had
 
     -- what it was told nothing of it has not asked
-    new_question : (about question : Option ℕ) → IsSameQuestion number st.chart.stored about question → last_told about asked.asked ≡ None → is_in same_question question c.asked ≡ false
+    new_question : (about question : Option ℕ) → IsSameQuestion number st.chart.stored about question → last_reply about asked.asked ≡ None → is_in same_question question c.asked ≡ false
     new_question about question alike none =
         ap (is_in same_question question) (questions (name i) c c_is ∙ ap (λ (l : List (Option ℕ)). l ++ replied_to c.replies) first)
         ∙ never_asked question c.replies

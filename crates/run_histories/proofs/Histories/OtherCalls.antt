@@ -17,21 +17,21 @@ use Rattle.run_places.specs.Given.RunsDeclared.outcome.Outcome.TheVariants as ou
 use Rattle.run_places.specs.Given.SchedulesEffects.{with_effects}
 use Rattle.run_places.specs.Given.SchedulesEntry.{acting}
 use Rattle.run_places.specs.Given.SchedulesLinearizable.{shift_of, MayRemove, RemovesOnly, Changes, Ends, AsksRight, IsRight, IsRightOf}
-use Rattle.run_places.specs.Given.SchedulesMoment.{Stands, Going, Asking, Told, IsReady, UnderWay as CallThere, Moment}
+use Rattle.run_places.specs.Given.SchedulesMoment.{CallState, Going, Asking, Told, IsReady, UnderWay as CallThere, Moment}
 use Rattle.run_places.specs.Given.SchedulesSequential.{Shift, ComesIn, GivesWay, GoesOut}
 use Rattle.run_places.specs.Given.SchedulesViews.{call_of, reply_to}
 use Rattle.run_places.specs.Given.RuleChart.{Chart, put}
 use Rattle.run_places.proofs.Given.RuleLaws.{current_is_known}
 use Rattle.run_places.proofs.Given.RuleMoves.Writes.{put_here, put_elsewhere}
 use Rattle.run_places.specs.Given.PointsFactsCalls.{Unchanged}
-use Rattle.run_places.specs.Given.CallersOverAll.{Verdict, CallOverAll, RemovesTold}
+use Rattle.run_places.specs.Given.CallersOverAll.{Verdict, CallOverAll, RemovesAsReplied}
 use Rattle.run_places.specs.Given.CallersTogether.{UnderWay, OnKey, ForRoom, Counting, OverAll, Together, IsOneStep}
 use Rattle.run_places.specs.Given.FinishesMaps.{Standing}
 use Rattle.run_places.specs.Given.EffectsEffects.{effects_of}
 use Rattle.run_places.specs.Given.EffectsKnown.{Known}
 use Rattle.run_places.specs.Given.EffectsDeclared.acting.Acting.TheVariants as acts
 use Rattle.run_places.specs.Given.FollowsCalls.{IsCalled}
-use Rattle.run_places.specs.Given.FollowsShows.{Shows}
+use Rattle.run_places.specs.Given.FollowsShows.{Refines}
 use Rattle.run_places.specs.Given.FollowsSteps.{TakesNone}
 use Rattle.run_places.proofs.Given.FollowsOperations.{operated_leaves, LeavesBy}
 use Rattle.run_places.proofs.Given.FollowsRows.{one_step_leaves}
@@ -41,9 +41,9 @@ use Rattle.run_places.proofs.Hands.Replacing.{calls_after}
 use Rattle.run_places.proofs.Hands.RowSteps.{rows_hand_theirs}
 use Rattle.run_places.proofs.Spots.Shifts.{Shifts, KeepsAll, StoresOne, ReplacesOne, RemovesOne, calm_shifts}
 use Rattle.run_places.proofs.Spots.Steps.{moved_shifts, stayed_calm}
-use Rattle.run_places.specs.Moments.Whole.{ShowsWhole}
+use Rattle.run_places.specs.Moments.Whole.{RefinesWhole}
 use Rattle.run_places.proofs.Moments.Calls.{of_row}
-use Rattle.run_histories.specs.Histories.AsCalled.{purpose_of, IsLastTold, IsAsCalled, ShowsAsCalled}
+use Rattle.run_histories.specs.Histories.AsCalled.{purpose_of, IsLastReply, IsAsCalled, RefinesAsCalled}
 use Rattle.run_histories.specs.Histories.OtherCalls.{IsOnNoKey, OthersRemoveOnly, RemovalsAdd, OthersAreLinearizable, NoCallsAreLinearizable}
 use Rattle.run_places.proofs.Changes.Changes.{hands_shift}
 use Rattle.run_places.proofs.Changes.Which.{did_once, none_shifted}
@@ -118,7 +118,7 @@ module _ {K : Type 0} (same : K → K → Bool) (hash : K → ℕ) (incremental 
 
 -- by a step of a sweep no pair comes
 module _ {K : Type 0} (o : CallOverAll) (c c2 : Chart K) where
-  pub less_told : RemovesTold o c c2 → (n : ℕ) → c2.current n ≡ true → c.current n ≡ true
+  pub less_told : RemovesAsReplied o c c2 → (n : ℕ) → c2.current n ≡ true → c.current n ≡ true
   less_told (inl kept) n is = ap (λ (f : ℕ → Bool). f n) (sym kept) ∙ is
   less_told (inr (p, was, cur, why)) n is = elim (cases_eq n p) as (λ _. c.current n ≡ true) [
     | inl e ↦ ap c.current e ∙ was
@@ -126,15 +126,15 @@ module _ {K : Type 0} (o : CallOverAll) (c c2 : Chart K) where
   ]
 
   -- and by one of a walk none goes
-  walk_keeps : RemovesTold o c c2 → o.sweep.purpose ≡ Walks → c2.current ≡ c.current
+  walk_keeps : RemovesAsReplied o c c2 → o.sweep.purpose ≡ Walks → c2.current ≡ c.current
   walk_keeps (inl kept) walks = kept
   walk_keeps (inr (p, was, cur, inl clears)) walks = absurd (cc (walks, clears))
   walk_keeps (inr (p, was, cur, inr (retains, told))) walks = absurd (cc (walks, retains))
 
 module _ {K V : Type 0} (same : K → K → Bool) (hash : ℕ → K → ℕ) (name : ℕ → List ℕ) (m : Moment K V) (known : Known) (s : Scene K V) (old new : Held K V) (at : IsAt same hash old s)
-    (whole : ShowsWhole same name m known s) (all : ShowsAsCalled same name m known s) (map i : ℕ) (u : UnderWay K V K) (here : s.calls map i ≡ Some u) (said : Progress (Node K V))
+    (whole : RefinesWhole same name m known s) (all : RefinesAsCalled same name m known s) (map i : ℕ) (u : UnderWay K V K) (here : s.calls map i ≡ Some u) (said : Progress (Node K V))
     (leads : StepLeads same hash i said s old new) where
-  abbrev shown : Shows same name m known s
+  abbrev shown : Refines same name m known s
   shown = all.shown
 
   abbrev to : WentTo same hash name m known s old new at shown map i u here said leads
@@ -165,17 +165,17 @@ module _ {K V : Type 0} (same : K → K → Bool) (hash : ℕ → K → ℕ) (na
   kept_none : (c2 : Chart K) → Moved c2 → c2.current ≡ st.chart.current → flat_map shift_of effects ≡ []
   kept_none c2 = none_kept same st.hash (is_incremental st.setting.mode) st.chart c2 (shown.number map) known.stored effects there
 
-  gone_told : (o : CallOverAll) (c2 : Chart K) → Moved c2 → RemovesTold o st.chart c2 → (flat_map shift_of effects ≡ []) ⊎ ((q : ℕ) × (flat_map shift_of effects ≡ GoesOut q ∷ []))
+  gone_told : (o : CallOverAll) (c2 : Chart K) → Moved c2 → RemovesAsReplied o st.chart c2 → (flat_map shift_of effects ≡ []) ⊎ ((q : ℕ) × (flat_map shift_of effects ≡ GoesOut q ∷ []))
   gone_told o c2 shifts told = gone_only same st.hash (is_incremental st.setting.mode) st.chart c2 (shown.number map) known.stored effects there (less_told o st.chart c2 told) shifts
 
   module _ (c : CallThere K V) where
     -- a retaining may remove the pair about which it was told no
-    retains : (o : CallOverAll) (c2 : Chart K) → IsLastTold (shown.number map) st.chart.stored o.told c.replies → o.sweep.purpose ≡ Retains → Moved c2 → RemovesTold o st.chart c2
+    retains : (o : CallOverAll) (c2 : Chart K) → IsLastReply (shown.number map) st.chart.stored o.told c.replies → o.sweep.purpose ≡ Retains → Moved c2 → RemovesAsReplied o st.chart c2
         → RemovesOnly same call.Retain c (flat_map shift_of effects)
     retains o c2 last retaining shifts (inl kept) = none_removed same call.Retain c (flat_map shift_of effects) (kept_none c2 shifts kept)
     retains o c2 last retaining shifts (inr (p, was, cur, inl clears)) = absurd (cc (retaining, clears))
     retains o c2 last retaining shifts (inr (p, was, cur, inr (its, told))) =
-        let reply = subst (λ (v : Option Verdict). IsLastTold (shown.number map) st.chart.stored v c.replies) told last in
+        let reply = subst (λ (v : Option Verdict). IsLastReply (shown.number map) st.chart.stored v c.replies) told last in
         subst (RemovesOnly same call.Retain c)
         (sym (gone_that same st.hash (is_incremental st.setting.mode) st.chart c2 (shown.number map) known.stored effects there (less_told o st.chart c2 (inr (p, was, cur, inr (its, told)))) p was cur shifts))
         (reply.1, tt)
@@ -247,7 +247,7 @@ IsNoQuestion _ = Unit {0}
 
 module _ {K V : Type 0} (same : K → K → Bool) where
   -- what is no question asks nothing
-  pub asks_none : (c : CallThere K V) (moments : List (Moment K V)) (stands : Stands) (o : Outcome V) → IsNoQuestion o → AsksRight same stands c moments o
+  pub asks_none : (c : CallThere K V) (moments : List (Moment K V)) (stands : CallState) (o : Outcome V) → IsNoQuestion o → AsksRight same stands c moments o
   asks_none c moments (Asking q) o none = tt
   asks_none c moments Going (outcome.Asks q) none = absurd none
   asks_none c moments Going _ none = tt

@@ -22,17 +22,17 @@ use Rattle.run_places.specs.Given.EffectsEffects.{effects_of}
 use Rattle.run_places.specs.Given.EffectsKnown.{Known}
 use Rattle.run_places.specs.Given.EffectsDeclared.acting.Acting.TheVariants as acts
 use Rattle.run_places.specs.Given.FollowsCalls.{IsCalled}
-use Rattle.run_places.specs.Given.FollowsShows.{Shows}
+use Rattle.run_places.specs.Given.FollowsShows.{Refines}
 use Rattle.run_places.proofs.Given.FollowsSteps.{WentTo, DidSo, LeadsThere}
 use Rattle.run_places.proofs.Hands.Replacing.{calls_after}
-use Rattle.run_places.specs.Moments.Whole.{ShowsWhole}
+use Rattle.run_places.specs.Moments.Whole.{RefinesWhole}
 use Rattle.run_places.proofs.Moments.After.{effects_after}
 use Rattle.run_places.proofs.Moments.Calls.{calls_keep_whole}
 use Rattle.run_places.proofs.Moments.OnSlots.{stood_same}
 use Rattle.run_places.specs.Changes.Had.{HadJust, HadThen}
 use Rattle.run_places.specs.Changes.Kept.{ChangesFirst}
 use Rattle.run_histories.specs.Histories.OtherCalls.{IsOnNoKey}
-use Rattle.run_histories.specs.Histories.OtherMidsts.{InOtherMidst, OtherMidstsBegin, OtherMidstsGoOn, OtherMidstsKeepDue}
+use Rattle.run_histories.specs.Histories.OtherMidsts.{InOtherMidst, OtherMidstsBegin, OtherMidstsContinue, OtherMidstsPreservePendingAnswers}
 use Rattle.run_histories.specs.Histories.Several.{IsSameCall}
 use Rattle.run_histories.proofs.Histories.NoKey.AsCalled.{calls_keep_as_called}
 use Rattle.run_histories.proofs.Histories.Due.{calls_keep_due}
@@ -62,7 +62,7 @@ on_no_key same (Counting sum) its is other x e = absurd (cc e)
 on_no_key same (OverAll o) its is other x e = absurd (cc e)
 
 module _ {K V : Type 0} (same : K → K → Bool) (hash : ℕ → K → ℕ) (name : ℕ → List ℕ) (m : Moment K V) (known : Known) (s : Scene K V) (old new : Held K V) (at : IsAt same hash old s)
-    (whole : ShowsWhole same name m known s) (shown : Shows same name m known s) (map i : ℕ) (u : UnderWay K V K) (here : s.calls map i ≡ Some u) (said : Progress (Node K V))
+    (whole : RefinesWhole same name m known s) (shown : Refines same name m known s) (map i : ℕ) (u : UnderWay K V K) (here : s.calls map i ≡ Some u) (said : Progress (Node K V))
     (leads : StepLeads same hash i said s old new) (its : Call K V) (called : IsCalled same u its) (other : IsOnNoKey its) where
   abbrev went : WentTo same hash name m known s old new at shown map i u here said leads
   went = to same hash name m known s old new at whole shown map i u here said leads
@@ -224,12 +224,12 @@ module _ (K V : Type 0) (same : K → K → Bool) where
   }
 
 module _ (K V : Type 0) (same : K → K → Bool) (hash : ℕ → K → ℕ) where
-  pub other_midsts_keep_due : OtherMidstsKeepDue K V same hash
+  pub other_midsts_keep_due : OtherMidstsPreservePendingAnswers K V same hash
   other_midsts_keep_due name log beginning map i c done m known s u midst old new at said leads =
       calls_keep_due K V same hash name log m known s old new at midst.whole midst.dues map i u midst.here said leads
       (first_change same hash name log beginning map i c done m known s u midst old new at said leads)
 
-  pub other_midsts_go_on : OtherMidstsGoOn K V same hash
+  pub other_midsts_go_on : OtherMidstsContinue K V same hash
   other_midsts_go_on name log beginning map i c done m known s u midst old new at said leads next goes = record {
     here = ap (λ (f : ℕ → Option (UnderWay K V K)). f i) (at_same s.calls map (with_at (s.calls map) i (leads map u midst.here).4.next) map refl)
         ∙ at_same (s.calls map) i (leads map u midst.here).4.next i refl ∙ goes;

@@ -10,12 +10,12 @@ use Rattle.run_places.specs.Given.RuleChart.{Chart}
 use Rattle.run_places.specs.Given.CallersTogether.{CallOnKey, UnderWay, OnKey}
 use Rattle.run_places.specs.Given.FinishesMaps.{Standing}
 use Rattle.run_places.specs.Given.EffectsKnown.{Known}
-use Rattle.run_places.specs.Given.OthersAfter.{ShowsAfter}
+use Rattle.run_places.specs.Given.OthersAfter.{RefinesAfter}
 use Rattle.run_places.proofs.Moments.Beside.{IsBeside, StoodSo, StandsNew, asked_beside}
-use Rattle.run_places.specs.Hands.Asked.{ShowsAsked}
-use Rattle.run_histories.specs.Histories.Due.{Owes, ShowsDue}
+use Rattle.run_places.specs.Hands.Asked.{RefinesAsked}
+use Rattle.run_histories.specs.Histories.Due.{HasPendingAnswer, RefinesPendingAnswers}
 use Rattle.run_places.specs.Changes.Had.{HadThen}
-use Rattle.run_places.specs.Changes.Histories.{began_of, since, IsWithin, ShowsHistory}
+use Rattle.run_places.specs.Changes.Histories.{began_of, since, IsWithin, RefinesHistory}
 use Rattle.run_places.proofs.Changes.Had.{had_on, had_one}
 use Rattle.run_places.proofs.Changes.Later.{IsLater, same_later}
 use Rattle.run_places.proofs.Changes.Now.{now_had}
@@ -25,7 +25,7 @@ use Rattle.run_places.specs.Given.ScenesScene.{Scene}
 use Rattle.run_places.specs.Given.SchedulesTransition.{Past}
 
 module _ {K V : Type 0} (same : K → K → Bool) (hash : ℕ → K → ℕ) (name : ℕ → List ℕ) (log : Past K V) (m m2 : Moment K V) (known known2 : Known) (s s2 : Scene K V) (old new : Held K V)
-    (at : IsAt same hash old s) (at2 : IsAt same hash new s2) (history : ShowsHistory same name log m known s) (after : ShowsAfter same name m known s history.shown m2 known2 s2)
+    (at : IsAt same hash old s) (at2 : IsAt same hash new s2) (history : RefinesHistory same name log m known s) (after : RefinesAfter same name m known s history.shown m2 known2 s2)
     (calls : m2.calls ≡ m.calls) (was_here : (n j : ℕ) (x : UnderWay K V K) → s2.calls n j ≡ Some x → s.calls n j ≡ Some x)
     (stand : (n : ℕ) (st : Standing K) → s2.maps n ≡ Some st → StoodSo known known2 s s2 n st ⊎ StandsNew known known2 s s2 n) where
   was_called : (j : ℕ) (c : CallThere K V) → call_of (name j) m2 ≡ Some c → call_of (name j) m ≡ Some c
@@ -57,7 +57,7 @@ module _ {K V : Type 0} (same : K → K → Bool) (hash : ℕ → K → ℕ) (na
         within_on same n stood.0 st (history.shown.number n) (after.shows.number n) later (λ o l. numbers o) log history.past m m2 c.begun (history.begun n j x (was_here n j x is) c (was_called j c found))
         (λ k. inl (same_then k)) now_then began (history.within n j x (was_here n j x is) stood.0 stood.1 c (was_called j c found) began began_is)
 
-  pub aside_history : ShowsAsked name after.shows.number m2 known2 s2 → ShowsHistory same name log m2 known2 s2
+  pub aside_history : RefinesAsked name after.shows.number m2 known2 s2 → RefinesHistory same name log m2 known2 s2
   aside_history asked = record {
     past = history.past;
     shown = after.shows;
@@ -74,21 +74,21 @@ module _ {K V : Type 0} (same : K → K → Bool) (hash : ℕ → K → ℕ) (na
 
 -- and calls owe what they owed
 module _ {K V : Type 0} (same : K → K → Bool) (hash : ℕ → K → ℕ) (name : ℕ → List ℕ) (log : Past K V) (m m2 : Moment K V) (known known2 : Known) (s s2 : Scene K V) (old new : Held K V)
-    (at : IsAt same hash old s) (at2 : IsAt same hash new s2) (dues : ShowsDue same name log m known s) (after : ShowsAfter same name m known s dues.history.shown m2 known2 s2)
+    (at : IsAt same hash old s) (at2 : IsAt same hash new s2) (dues : RefinesPendingAnswers same name log m known s) (after : RefinesAfter same name m known s dues.history.shown m2 known2 s2)
     (calls : m2.calls ≡ m.calls) (was_here : (n j : ℕ) (x : UnderWay K V K) → s2.calls n j ≡ Some x → s.calls n j ≡ Some x)
     (stand : (n : ℕ) (st : Standing K) → s2.maps n ≡ Some st → StoodSo known known2 s s2 n st ⊎ StandsNew known known2 s s2 n) where
   abbrev called : (j : ℕ) (c : CallThere K V) → call_of (name j) m2 ≡ Some c → call_of (name j) m ≡ Some c
   called = was_called same hash name log m m2 known known2 s s2 old new at at2 dues.history after calls was_here stand
 
   owes_so : (n j : ℕ) (u : CallOnKey K V K) → s2.calls n j ≡ Some (OnKey u) → (st : Standing K) → (c : CallThere K V) → call_of (name j) m2 ≡ Some c → (one : OneKey K V) → c.call ≡ On one
-      → StoodSo known known2 s s2 n st ⊎ StandsNew known known2 s s2 n → Owes (after.shows.number n) st.chart.stored one c u.change
+      → StoodSo known known2 s s2 n st ⊎ StandsNew known known2 s s2 n → HasPendingAnswer (after.shows.number n) st.chart.stored one c u.change
   owes_so n j u is st c found one one_is (inl stood) =
-      subst (λ (f : ℕ → ℕ). Owes f st.chart.stored one c u.change) (sym (after.numbers n stood.0 stood.1))
-      (subst (λ (x : Chart K). Owes (dues.history.shown.number n) x.stored one c u.change) (sym stood.2)
+      subst (λ (f : ℕ → ℕ). HasPendingAnswer f st.chart.stored one c u.change) (sym (after.numbers n stood.0 stood.1))
+      (subst (λ (x : Chart K). HasPendingAnswer (dues.history.shown.number n) x.stored one c u.change) (sym stood.2)
       (dues.owes n j u (was_here n j (OnKey u) is) stood.0 stood.1 c (called j c found) one one_is))
   owes_so n j u is st c found one one_is (inr new_map) = absurd (let none = new_map.0 j in cc (none, is))
 
-  pub aside_due : ShowsAsked name after.shows.number m2 known2 s2 → ShowsDue same name log m2 known2 s2
+  pub aside_due : RefinesAsked name after.shows.number m2 known2 s2 → RefinesPendingAnswers same name log m2 known2 s2
   unfolding aside_history
   aside_due asked = record {
     history = aside_history same hash name log m m2 known known2 s s2 old new at at2 dues.history after calls was_here stand asked;
@@ -102,7 +102,7 @@ module _ {K V : Type 0} (same : K → K → Bool) (hash : ℕ → K → ℕ) (na
   before : (n j : ℕ) (x : UnderWay K V K) → s2.calls n j ≡ Some x → s.calls n j ≡ Some x
   before n j x is = subst (λ (f : ℕ → ℕ → Option (UnderWay K V K)). f n j ≡ Some x) beside.same_calls is
 
-  pub beside_due : (dues : ShowsDue same name log m known s) → ShowsAfter same name m known s dues.history.shown m2 known2 s2 → ShowsDue same name log m2 known2 s2
+  pub beside_due : (dues : RefinesPendingAnswers same name log m known s) → RefinesAfter same name m known s dues.history.shown m2 known2 s2 → RefinesPendingAnswers same name log m2 known2 s2
   beside_due dues after =
       aside_due same hash name log m m2 known known2 s s2 old new at at2 dues after beside.calls before beside.stood
       (asked_beside same name m m2 known known2 s s2 dues.history.shown after beside hash new at2 dues.history.asked)

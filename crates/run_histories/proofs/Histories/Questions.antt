@@ -11,20 +11,20 @@ use Rattle.run_places.specs.Given.RunsDeclared.event.Event.{Event}
 use Rattle.run_places.specs.Given.RunsDeclared.event.Event.TheVariants as event
 use Rattle.run_places.specs.Given.RunsDeclared.outcome.Outcome.{Outcome}
 use Rattle.run_places.specs.Given.RunsDeclared.outcome.Outcome.TheVariants as outcome
-use Rattle.run_places.specs.Given.SchedulesAfter.{asks_on, comes_to, without_call, stepped, replied, calls_on, moment}
+use Rattle.run_places.specs.Given.SchedulesAfter.{asks_on, with_outcome, without_call, stepped, replied, calls_on, moment}
 use Rattle.run_places.specs.Given.SchedulesBeginning.{fresh_call, with_call, begun, at_work}
 use Rattle.run_places.specs.Given.SchedulesEffects.{due_for, call_by, calls_by, with_effect, with_effects, worked}
 use Rattle.run_places.specs.Given.SchedulesEntry.{Entry, is_busy, ends_call, nameless, caller_of, acting, acted_on, IfCall}
-use Rattle.run_places.specs.Given.SchedulesMoment.{Stands, Going, Asking, Told, IsReady, UnderWay as CallThere, Moment}
+use Rattle.run_places.specs.Given.SchedulesMoment.{CallState, Going, Asking, Told, IsReady, UnderWay as CallThere, Moment}
 use Rattle.run_places.specs.Given.SchedulesViews.{number_of}
 use Rattle.run_places.proofs.Given.FollowsCalling.{is_same_is, found_passes, replied_same, come, come_of_same}
 use Rattle.run_places.proofs.Given.FollowsCalls.{IsOfSame, changed_same, changed, of_same}
-use Rattle.run_histories.specs.Histories.Questions.{unanswered, replied_to, GoesItself, AsksStill, HasAskedJust, EventAsksStill, QuestionsBegin, EffectsKeepQuestions, CallsBeginQuestions, CallsTakeQuestions, CallsComeToQuestions, EventsKeepQuestions}
+use Rattle.run_histories.specs.Histories.Questions.{unanswered, replied_to, GoesItself, AsksStill, HasAskedJust, EventAsksStill, QuestionsBegin, EffectsPreserveQuestions, CallsBeginQuestions, CallsTakeQuestions, CallsComeToQuestions, EventsPreserveQuestions}
 use Rattle.run_places.specs.Given.SchedulesTransition.{further}
 use Rattle.run_places.proofs.Given.General.{same_some as one_of}
 
 -- one that goes on does not ask
-quiet : (V : Type 0) (stands : Stands) (o : Outcome V) → GoesItself o → AsksStill stands o → unanswered stands ≡ []
+quiet : (V : Type 0) (stands : CallState) (o : Outcome V) → GoesItself o → AsksStill stands o → unanswered stands ≡ []
 quiet V Going o goes still = refl
 quiet V (Asking q) o goes still = absurd (still goes)
 quiet V Told o goes still = refl
@@ -73,7 +73,7 @@ module _ {K V : Type 0} where
 
   alike_just : (c d : CallThere K V) → AsksAlike c d → HasAskedJust c → HasAskedJust d
   alike_just c d alike h =
-      alike.0 ∙ h ∙ ap (λ (z : Stands). unanswered z ++ replied_to c.replies) (sym alike.1) ∙ ap (λ (r : List (Option ℕ × Reply V)). unanswered d.stands ++ replied_to r) (sym alike.2)
+      alike.0 ∙ h ∙ ap (λ (z : CallState). unanswered z ++ replied_to c.replies) (sym alike.1) ∙ ap (λ (r : List (Option ℕ × Reply V)). unanswered d.stands ++ replied_to r) (sym alike.2)
 
   due_alike : (its : Call K V) (c : CallThere K V) (old : Option ℕ) (new : ℕ) → AsksAlike c (due_for its c old new)
   due_alike (call.On one) c old new = (refl, refl, refl)
@@ -150,21 +150,21 @@ module _ {K V : Type 0} where
           (λ x f. ap not (ap (λ (l : List ℕ). is_same l own) (is_same_is x.caller name f) ∙ e)) cs) ∙ is)
 
   -- a call that was told something
-  replied_just : (reply : Reply V) (c : CallThere K V) (stands : Stands) → c.stands ≡ stands → HasAskedJust c → HasAskedJust (replied reply c stands)
+  replied_just : (reply : Reply V) (c : CallThere K V) (stands : CallState) → c.stands ≡ stands → HasAskedJust c → HasAskedJust (replied reply c stands)
   replied_just reply c Going e h = h
-  replied_just reply c (Asking q) e h = h ∙ ap (λ (z : Stands). unanswered z ++ replied_to c.replies) e
+  replied_just reply c (Asking q) e h = h ∙ ap (λ (z : CallState). unanswered z ++ replied_to c.replies) e
   replied_just reply c Told e h = h
   replied_just reply c IsReady e h = h
 
   -- one that asks
-  asks_just : (question : Option ℕ) (c : CallThere K V) (stands : Stands) → c.stands ≡ stands → HasAskedJust c → HasAskedJust (asks_on question c stands)
+  asks_just : (question : Option ℕ) (c : CallThere K V) (stands : CallState) → c.stands ≡ stands → HasAskedJust c → HasAskedJust (asks_on question c stands)
   asks_just question c (Asking q) e h = h
-  asks_just question c Going e h = ap (λ l. question ∷ l) (h ∙ ap (λ (z : Stands). unanswered z ++ replied_to c.replies) e)
-  asks_just question c Told e h = ap (λ l. question ∷ l) (h ∙ ap (λ (z : Stands). unanswered z ++ replied_to c.replies) e)
-  asks_just question c IsReady e h = ap (λ l. question ∷ l) (h ∙ ap (λ (z : Stands). unanswered z ++ replied_to c.replies) e)
+  asks_just question c Going e h = ap (λ l. question ∷ l) (h ∙ ap (λ (z : CallState). unanswered z ++ replied_to c.replies) e)
+  asks_just question c Told e h = ap (λ l. question ∷ l) (h ∙ ap (λ (z : CallState). unanswered z ++ replied_to c.replies) e)
+  asks_just question c IsReady e h = ap (λ l. question ∷ l) (h ∙ ap (λ (z : CallState). unanswered z ++ replied_to c.replies) e)
 
   -- and one that has come to an outcome
-  come_just : (o : Outcome V) (c : CallThere K V) → AsksStill c.stands o → HasAskedJust c → HasAskedJust (comes_to o c)
+  come_just : (o : Outcome V) (c : CallThere K V) → AsksStill c.stands o → HasAskedJust c → HasAskedJust (with_outcome o c)
   come_just outcome.Done c still h = h
   come_just (outcome.Slot n) c still h = h
   come_just outcome.Goes c still h = h ∙ ap (λ (l : List (Option ℕ)). l ++ replied_to c.replies) (quiet V c.stands outcome.Goes tt still)
@@ -249,7 +249,7 @@ module _ (K V : Type 0) where
   pub questions_begin : QuestionsBegin K V
   questions_begin own c is = absurd (cc is)
 
-  pub effects_keep_questions : EffectsKeepQuestions K V
+  pub effects_keep_questions : EffectsPreserveQuestions K V
   effects_keep_questions own of effects m all = effects_just own of effects m all
 
   pub calls_begin_questions : CallsBeginQuestions K V
@@ -261,5 +261,5 @@ module _ (K V : Type 0) where
   pub calls_come_to_questions : CallsComeToQuestions K V
   calls_come_to_questions own o steps m all still = stepped_just own o steps m.calls still all
 
-  pub events_keep_questions : EventsKeepQuestions K V
+  pub events_keep_questions : EventsPreserveQuestions K V
   events_keep_questions log e all still = after_just log e still all

@@ -24,13 +24,13 @@ use Rattle.run_places.specs.Given.CallersSights.{seen_by}
 use Rattle.run_places.specs.Given.CallersTogether.{CallOnKey, OnKey}
 use Rattle.run_places.specs.Given.FinishesMaps.{Standing}
 use Rattle.run_places.specs.Given.EffectsKnown.{Known}
-use Rattle.run_places.specs.Given.FollowsShows.{Shows}
+use Rattle.run_places.specs.Given.FollowsShows.{Refines}
 use Rattle.run_places.proofs.Given.FollowsSteps.{WentTo, DidSo}
 use Rattle.run_places.specs.Hands.Asked.{IsAskedOn, IsAskedAs}
 use Rattle.run_places.proofs.Hands.Steps.{numbers_apart}
-use Rattle.run_places.specs.Moments.Whole.{ShowsWhole}
+use Rattle.run_places.specs.Moments.Whole.{RefinesWhole}
 use Rattle.run_histories.specs.Histories.Answers.{RefusalsWereSo}
-use Rattle.run_histories.specs.Histories.Due.{Owes, ShowsDue}
+use Rattle.run_histories.specs.Histories.Due.{HasPendingAnswer, RefinesPendingAnswers}
 use Rattle.run_histories.proofs.Histories.Answers.{absent_then, kept_by, stands_on, stands_on_is}
 use Rattle.run_histories.proofs.Histories.Due.{change_by, owes_then_by}
 use Rattle.run_places.proofs.Changes.Meanings.{refuses_it}
@@ -51,13 +51,13 @@ refused (called.Done other) fault e = absurd (cc e)
 refused (called.Refused other) fault e = let one : other ≡ fault = cc e in ap called.Refused one
 
 module _ {K V : Type 0} (same : K → K → Bool) (hash : ℕ → K → ℕ) (name : ℕ → List ℕ) (log : Past K V) (m : Moment K V) (known : Known) (s : Scene K V) (old new : Held K V)
-    (at : IsAt same hash old s) (whole : ShowsWhole same name m known s) (dues : ShowsDue same name log m known s) (map i : ℕ) (x : CallOnKey K V K) (here : s.calls map i ≡ Some (OnKey x))
+    (at : IsAt same hash old s) (whole : RefinesWhole same name m known s) (dues : RefinesPendingAnswers same name log m known s) (map i : ℕ) (x : CallOnKey K V K) (here : s.calls map i ≡ Some (OnKey x))
     (fault : Fault) (leads : StepLeads same hash i (Refused fault) s old new) (c : CallThere K V) (c_is : call_of (name i) m ≡ Some c) (one : OneKey K V) (one_is : c.call ≡ On one)
     (still : finite_map same map m (key_of one) ≡ finite_map same map log.now (key_of one)) where
   abbrev said : Progress (Node K V)
   said = Refused fault
 
-  abbrev shown : Shows same name m known s
+  abbrev shown : Refines same name m known s
   shown = dues.history.shown
 
   abbrev went : WentTo same hash name m known s old new at shown map i (OnKey x) here said leads
@@ -99,7 +99,7 @@ module _ {K V : Type 0} (same : K → K → Bool) (hash : ℕ → K → ℕ) (na
 
   module _ (d : CallThere K V) (d_is : call_of (name i) (v same hash name m known s old new at whole shown map i (OnKey x) here said leads) ≡ Some d) where
     abbrev Owed : Change → Type 0
-    Owed change = Owes ((led_on same hash name m known s old new at whole shown map i (OnKey x) here said leads).shows.number map) st2.chart.stored one d change
+    Owed change = HasPendingAnswer ((led_on same hash name m known s old new at whole shown map i (OnKey x) here said leads).shows.number map) st2.chart.stored one d change
 
     none_owed : (did : Did) → Owed (change_by same hash name log m known s old new at whole dues map i x here said leads c c_is one one_is st2 went.4.its_map.4 d d_is did) → d.due ≡ None
     none_owed (p2, end, machine_is, told_is, inl (step, moved)) owes = subst Owed (step.step.refuses fault (refused end fault told_is)).0 owes
@@ -113,7 +113,7 @@ module _ {K V : Type 0} (same : K → K → Bool) (hash : ℕ → K → ℕ) (na
 
 -- a call that is refused has changed nothing
 module _ {K V : Type 0} (same : K → K → Bool) (hash : ℕ → K → ℕ) (name : ℕ → List ℕ) (log : Past K V) (m : Moment K V) (known : Known) (s : Scene K V) (old new : Held K V)
-    (at : IsAt same hash old s) (whole : ShowsWhole same name m known s) (dues : ShowsDue same name log m known s) (map i : ℕ) (x : CallOnKey K V K) (here : s.calls map i ≡ Some (OnKey x))
+    (at : IsAt same hash old s) (whole : RefinesWhole same name m known s) (dues : RefinesPendingAnswers same name log m known s) (map i : ℕ) (x : CallOnKey K V K) (here : s.calls map i ≡ Some (OnKey x))
     (fault : Fault) (leads : StepLeads same hash i (Refused fault) s old new) (c : CallThere K V) (c_is : call_of (name i) m ≡ Some c) (one : OneKey K V) (one_is : c.call ≡ On one)
     (st2 : Standing K) (st2_is : (leads map (OnKey x) here).4.maps2 map ≡ Some st2) (d : CallThere K V)
     (d_is : call_of (name i) (v same hash name m known s old new at whole dues.history.shown map i (OnKey x) here (Refused fault) leads) ≡ Some d) where

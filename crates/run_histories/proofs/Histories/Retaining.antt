@@ -11,15 +11,15 @@ use Rattle.run_places.specs.Given.PointsSteps.{AreLawful}
 use Rattle.run_places.specs.Given.LateCovers.{CoversAt}
 use Rattle.run_places.specs.Given.LateToldSweeps.{IsRowOfSweep}
 use Rattle.run_places.specs.Given.CallersOverAll.{CallOverAll}
-use Rattle.run_places.specs.Given.CallersSights.{IsSight, seen_by}
+use Rattle.run_places.specs.Given.CallersSights.{IsVisibility, seen_by}
 use Rattle.run_places.specs.Given.CallersTogether.{OverAll, KnowsSweep, Together}
 use Rattle.run_places.specs.Given.FinishesMaps.{Standing}
 use Rattle.run_places.specs.Given.EffectsKnown.{Known}
 use Rattle.run_places.specs.Given.EffectsDeclared.role.Role.TheVariants as role
-use Rattle.run_places.specs.Given.FollowsShows.{Shows}
+use Rattle.run_places.specs.Given.FollowsShows.{Refines}
 use Rattle.run_histories.specs.Histories.Answers.{NamesPair}
 use Rattle.run_places.specs.Changes.Had.{HadThen}
-use Rattle.run_places.specs.Changes.Histories.{ShowsHistory}
+use Rattle.run_places.specs.Changes.Histories.{RefinesHistory}
 use Rattle.run_histories.specs.Histories.Retaining.{RetainingsMayAsk}
 use Rattle.run_places.proofs.Changes.Found.{FoundIn, found}
 use Rattle.run_places.proofs.Changes.Had.{had_pair}
@@ -38,11 +38,11 @@ found_there same map m k q is =
     (both_true (is_in_map map (m.place q)) (is_key same (pair_at m.stored q) k) it.2).0
 
 module _ {K V : Type 0} (same : K → K → Bool) (hash : ℕ → K → ℕ) (name : ℕ → List ℕ) (log : Past K V) (m : Moment K V) (known : Known) (s : Scene K V) (e : Held K V)
-    (at_e : IsAt same hash e s) (history : ShowsHistory same name log m known s) (map i : ℕ) (o : CallOverAll) (here : s.calls map i ≡ Some (OverAll o))
+    (at_e : IsAt same hash e s) (history : RefinesHistory same name log m known s) (map i : ℕ) (o : CallOverAll) (here : s.calls map i ≡ Some (OverAll o))
     (c : CallThere K V) (c_is : call_of (name i) m ≡ Some c)
     (fewer : (k : K) → (finite_map same map m k ≡ finite_map same map log.now k) ⊎ (finite_map same map m k ≡ None))
     (word q : ℕ) (stands_at : o.sweep.stands ≡ at.Asks word) (names : NamesPair known word q) where
-  abbrev shown : Shows same name m known s
+  abbrev shown : Refines same name m known s
   shown = history.shown
 
   abbrev st : Standing K
@@ -63,7 +63,7 @@ module _ {K V : Type 0} (same : K → K → Bool) (hash : ℕ → K → ℕ) (na
   abbrev number : ℕ → ℕ
   number = shown.number map
 
-  its_sight : IsSight st.chart st.blocks (st.sights (slot_of i))
+  its_sight : IsVisibility st.chart st.blocks (st.sights (slot_of i))
   its_sight = (each.ground.sight (slot_of i) (each.inside i (OverAll o) here)).0
 
   knows : KnowsSweep V same st.hash same st.setting slot_of s.world st.chart seen i o o.sweep

@@ -30,7 +30,7 @@ use Rattle.run_places.specs.Given.ResizeDeclared.yielding.Yielding.TheVariants a
 use Rattle.run_places.specs.Given.RawAnswers.{ended}
 use Rattle.run_places.specs.Given.RawCall.{made, makes_of, root_found, next_found, dropped, key_read, pair_read, word_read, word_found, tried, looked, looks_for, first_made, next_made, disposed, helped, copied, plan_at}
 use Rattle.run_places.specs.Given.RawCallFills.{filled, putting_by, fill_by, emptied, fills_with, given_up, asks_at}
-use Rattle.run_places.specs.Given.RawCallPoints.{going, standing, over, ending, following_made, storing, burying, at_gap, gap_by, asking_at, pair_by, tableless, at_free, at_last, at_pair, told_of, entering, went_on, changed, counted, having_met}
+use Rattle.run_places.specs.Given.RawCallPoints.{going, standing, over, ending, following_made, storing, burying, at_gap, gap_by, asking_at, pair_by, tableless, at_free, at_last, at_pair, after_finding, entering, continued_in, changed, counted, having_met}
 use Rattle.run_places.specs.Given.RawReplies.{value_for, as_own}
 use Rattle.run_places.specs.Given.RawDeclared.machines.answer.KeyAnswer.{KeyAnswer}
 use Rattle.run_places.specs.Given.RawDeclared.machines.answer.KeyAnswer.TheVariants as answers
@@ -128,7 +128,7 @@ module _ {K V Q : Type 0} where
     there_so there.Asks word =
         either (block_in word == p.replies.pair) (pair_by p.replies.present p word) (pair_by tells.Nothing p word) (pair_so p.replies.present word) (pair_so tells.Nothing word)
 
-    told_so : (loaded : Bool) (word : ℕ) (found : Finding) → SaysSo (told_of loaded p word found)
+    told_so : (loaded : Bool) (word : ℕ) (found : Finding) → SaysSo (after_finding loaded p word found)
     told_so loaded word finds.Free = free_so p.missing
     told_so loaded word finds.Passed =
         passed_so SaysSo (having_met p word) (λ next. tt) tt
@@ -138,7 +138,7 @@ module _ {K V Q : Type 0} where
     told_so loaded word finds.Copying = either loaded (standing p at.Probes, called.Waits) (going p at.Probes) tt tt
     told_so loaded word finds.There = there_so p.there word
 
-    on_so : (table : Table) → SaysSo (went_on p table)
+    on_so : (table : Table) → SaysSo (continued_in p table)
     on_so table =
         either (is_incremental p.setting.mode) _ (going p (at.Copies (copying_all p.setting p.trial.table table))) (either p.helped (entering p table) _ tt tt) tt
 

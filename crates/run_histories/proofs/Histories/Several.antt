@@ -24,9 +24,9 @@ use Rattle.run_places.specs.Given.EffectsKnown.{Known}
 use Rattle.run_places.specs.Given.EffectsDeclared.acting.Acting.TheVariants as acts
 use Rattle.run_places.proofs.Hands.Replacing.{calls_after}
 use Rattle.run_places.proofs.Moments.Calls.{calls_keep_whole}
-use Rattle.run_histories.specs.Histories.Due.{Owes}
+use Rattle.run_histories.specs.Histories.Due.{HasPendingAnswer}
 use Rattle.run_places.specs.Changes.Kept.{ChangesFirst}
-use Rattle.run_histories.specs.Histories.Several.{IsSameCall, InMidst, MidstsBegin, MidstsGoOn}
+use Rattle.run_histories.specs.Histories.Several.{IsSameCall, InMidst, MidstsBegin, MidstsContinue}
 use Rattle.run_places.proofs.Changes.Begun.{effects_begun}
 use Rattle.run_places.proofs.Changes.Changes.{changes_once}
 use Rattle.run_histories.proofs.Histories.Due.{change_by, goes_on, calls_keep_due}
@@ -130,7 +130,7 @@ module _ {K V : Type 0} (same : K → K → Bool) (hash : ℕ → K → ℕ) (na
   its_changes =
       changes_once same hash name m known s old new at midst.whole midst.whole.all.shown midst.whole.all.asked map i u midst.here said leads there midst.there_is one there_one
       (midst.dues.taken map i (OnKey u) midst.here there midst.there_is one there_one)
-      (λ none. subst (λ (x : Change). Owes (midst.dues.history.shown.number map) (leads map (OnKey u) midst.here).0.chart.stored one there x) none
+      (λ none. subst (λ (x : Change). HasPendingAnswer (midst.dues.history.shown.number map) (leads map (OnKey u) midst.here).0.chart.stored one there x) none
       (midst.dues.owes map i u midst.here (leads map (OnKey u) midst.here).0 (leads map (OnKey u) midst.here).2 there midst.there_is one there_one))
 
   all_shifts : flat_map shift_of (done ++ step_effects) ≡ flat_map shift_of done ++ flat_map shift_of step_effects
@@ -233,9 +233,9 @@ module _ (K V : Type 0) (same : K → K → Bool) (hash : ℕ → K → ℕ) whe
       λ k. refl,
       refl,
       (let st = stands same hash s e at map i (OnKey u) here in
-          subst (λ (x : Change). Owes (dues.history.shown.number map) st.0.chart.stored one c x) none (dues.owes map i u here st.0 st.1 c c_is one one_is)),
+          subst (λ (x : Change). HasPendingAnswer (dues.history.shown.number map) st.0.chart.stored one c x) none (dues.owes map i u here st.0 st.1 c c_is one one_is)),
     );
   }
 
-  pub midsts_go_on : MidstsGoOn K V same hash
+  pub midsts_go_on : MidstsContinue K V same hash
   midsts_go_on name log beginning map i one c one_is done m known s u midst old new at said leads next goes = midst_then same hash name log beginning map i one c one_is done m known s u midst old new at said leads next goes

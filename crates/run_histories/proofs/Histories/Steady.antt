@@ -15,18 +15,18 @@ use Rattle.run_places.specs.Given.SchedulesMoment.{UnderWay as CallThere, Moment
 use Rattle.run_places.specs.Given.SchedulesViews.{call_of, finite_map}
 use Rattle.run_places.specs.Given.RuleChart.{Chart}
 use Rattle.run_places.specs.Given.PointsFactsCalls.{Change, Unchanged, Stored, Replaced, Removed, Changes}
-use Rattle.run_places.specs.Given.CallersTogether.{CallOnKey, OnKey, change_told}
+use Rattle.run_places.specs.Given.CallersTogether.{CallOnKey, OnKey, change_observed}
 use Rattle.run_places.specs.Given.FinishesMaps.{Standing}
 use Rattle.run_places.specs.Given.EffectsEffects.{effects_of}
 use Rattle.run_places.specs.Given.EffectsKnown.{Known}
 use Rattle.run_places.specs.Given.EffectsDeclared.acting.Acting.TheVariants as acts
-use Rattle.run_places.specs.Given.FollowsShows.{Shows}
+use Rattle.run_places.specs.Given.FollowsShows.{Refines}
 use Rattle.run_places.specs.Given.FollowsSteps.{TakesNone}
 use Rattle.run_places.proofs.Given.FollowsSteps.{WentTo}
 use Rattle.run_places.proofs.Hands.RowSteps.{rows_hand_theirs}
-use Rattle.run_places.specs.Moments.Whole.{ShowsWhole}
+use Rattle.run_places.specs.Moments.Whole.{RefinesWhole}
 use Rattle.run_places.proofs.Moments.OnSlots.{stood_same}
-use Rattle.run_histories.specs.Histories.Due.{ShowsDue}
+use Rattle.run_histories.specs.Histories.Due.{RefinesPendingAnswers}
 use Rattle.run_places.proofs.Changes.Changes.{ToldOnce, told_once, none_by, its_shifts, by_row, DidSoHere, NoRow}
 use Rattle.run_places.proofs.Changes.Dues.{none_of}
 use Rattle.run_histories.proofs.Histories.Due.{taken, nothing_due, change_by}
@@ -52,11 +52,11 @@ module _ {K V : Type 0} where
       effects_stored caller acted effects (with_effect caller acted f m) two.1 ∙ stored_kept (acting caller m) f m.stored two.0
 
 module _ {K V : Type 0} (same : K → K → Bool) (hash : ℕ → K → ℕ) (name : ℕ → List ℕ) (log : Past K V) (m : Moment K V) (known : Known) (s : Scene K V) (old new : Held K V)
-    (at : IsAt same hash old s) (whole : ShowsWhole same name m known s) (dues : ShowsDue same name log m known s) (map i : ℕ) (z : CallOnKey K V K) (here : s.calls map i ≡ Some (OnKey z))
+    (at : IsAt same hash old s) (whole : RefinesWhole same name m known s) (dues : RefinesPendingAnswers same name log m known s) (map i : ℕ) (z : CallOnKey K V K) (here : s.calls map i ≡ Some (OnKey z))
     (said : Progress (Node K V)) (leads : StepLeads same hash i said s old new) (c : CallThere K V) (c_is : call_of (name i) m ≡ Some c) (one : OneKey K V) (one_is : c.call ≡ On one)
     (st2 : Standing K) (st2_is : (leads map (OnKey z) here).4.maps2 map ≡ Some st2) (d : CallThere K V)
     (d_is : call_of (name i) (v same hash name m known s old new at whole dues.history.shown map i (OnKey z) here said leads) ≡ Some d) where
-  abbrev shown : Shows same name m known s
+  abbrev shown : Refines same name m known s
   shown = dues.history.shown
 
   abbrev went : WentTo same hash name m known s old new at shown map i (OnKey z) here said leads
@@ -88,7 +88,7 @@ module _ {K V : Type 0} (same : K → K → Bool) (hash : ℕ → K → ℕ) (na
   kinds (p2, end, machine_is, told_is, inl (step, moved)) takes = by_told (told_once same hash name m known s old new at whole shown dues.history.asked map i z here said leads c c_is one one_is (taken same hash name log m known s old new at whole dues map i z here said leads c c_is one one_is st2 st2_is d d_is) (nothing_due same hash name log m known s old new at whole dues map i z here said leads c c_is one one_is st2 st2_is d d_is) step.step.went.told)
     where
       change : Change
-      change = change_told V same went.0.hash same went.0.setting slot_of step.step.went.told
+      change = change_observed V same went.0.hash same went.0.setting slot_of step.step.went.told
 
       kept : step.step.went.c2.current ≡ went.0.chart.current → (flat_map shift_of effects ≡ []) × ((k : K) → finite_map same map v2 k ≡ finite_map same map m k)
       kept cur = (

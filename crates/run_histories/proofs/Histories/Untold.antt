@@ -22,11 +22,11 @@ use Rattle.run_places.specs.Given.RuleChart.{Chart, Holds, Still}
 use Rattle.run_places.specs.Given.RuleWords.{Blocks, place_word}
 use Rattle.run_places.specs.Given.PointsFactsCalls.{Change}
 use Rattle.run_places.specs.Given.LateKinds.{FitsAsking}
-use Rattle.run_places.specs.Given.CallersAsked.{Asked, last_told, told_before}
+use Rattle.run_places.specs.Given.CallersAsked.{Asked, last_reply, replies_before}
 use Rattle.run_places.specs.Given.CallersAskedOnce.{IsNew, AskedAt}
 use Rattle.run_places.specs.Given.CallersKind.{Kind}
 use Rattle.run_places.specs.Given.CallersPairs.{Given, Begun, IsTold, kind_of, IsOfKind, KeepsGiven}
-use Rattle.run_places.specs.Hands.Asked.{as_told, given_by, KnowsFirst}
+use Rattle.run_places.specs.Hands.Asked.{reply_to_machine, given_by, KnowsFirst}
 use Rattle.run_places.proofs.Hands.Replies.{told_since}
 use Rattle.run_histories.specs.Histories.Questions.{replied_to}
 use Rattle.run_places.specs.Given.SchedulesTransition.{further}
@@ -42,11 +42,11 @@ unreplied {V} question (r ∷ replies) none = by (same_question question r.0) re
     by false e further =
         ap (λ z. z || is_in same_question question (replied_to replies)) e ∙ further (ap (λ z. if z then Some r.1 else reply_to question replies) (sym e) ∙ none)
 
-none_told : {V : Type 0} (o : Option (Reply V)) → ◌≡◌ {A = Option (MachineReply V)} (option_map as_told o) None → o ≡ None
+none_told : {V : Type 0} (o : Option (Reply V)) → ◌≡◌ {A = Option (MachineReply V)} (option_map reply_to_machine o) None → o ≡ None
 none_told None e = refl
 none_told (Some r) e = absurd (cc e)
 
-pub never_asked : {V : Type 0} (question : Option ℕ) (replies : List (Option ℕ × Reply V)) → ◌≡◌ {A = Option (MachineReply V)} (option_map as_told (reply_to question replies)) None
+pub never_asked : {V : Type 0} (question : Option ℕ) (replies : List (Option ℕ × Reply V)) → ◌≡◌ {A = Option (MachineReply V)} (option_map reply_to_machine (reply_to question replies)) None
     → is_in same_question question (replied_to replies) ≡ false
 never_asked question replies none = unreplied question replies (none_told (reply_to question replies) none)
 
@@ -99,10 +99,10 @@ module _ {K V Q : Type 0} (hash : K → ℕ) (m : Mem (Node K V)) (c : Chart K) 
 
   -- where its key is missing, it was told nothing of that
   module _ (asked : List (Asked V)) (gap : Gap) where
-    of_gap : (kind : Kind) (its : Option K) (told : List (Asked V)) → Keeps (IsTold kind its told) (asking.Absent gap) → last_told None told ≡ None
+    of_gap : (kind : Kind) (its : Option K) (told : List (Asked V)) → Keeps (IsTold kind its told) (asking.Absent gap) → last_reply None told ≡ None
     of_gap kind its told keeps = keeps.0.0.absent_first keeps.0.1
 
-    pub untold_none : (one : OneKey K V) → Keeps (given_by one asked) (asking.Absent gap) → (kind_of (given_by one asked)).absent ≡ missing.Asks → (KnowsFirst one → ⊥) → last_told None asked ≡ None
+    pub untold_none : (one : OneKey K V) → Keeps (given_by one asked) (asking.Absent gap) → (kind_of (given_by one asked)).absent ≡ missing.Asks → (KnowsFirst one → ⊥) → last_reply None asked ≡ None
     untold_none (Get k) keeps asks new = absurd (cc asks)
     untold_none (GetKeyValue k) keeps asks new = absurd (cc asks)
     untold_none (ContainsKey k) keeps asks new = absurd (cc asks)
@@ -122,7 +122,7 @@ module _ {K V Q : Type 0} (hash : K → ℕ) (m : Mem (Node K V)) (c : Chart K) 
   -- where the pair of a word is there, it was told nothing of that one
   abbrev pub IsUntold : List (Asked V) → ℕ → Type 0
   IsUntold asked word =
-      (n : ℕ) × (n < c.stored) × (seen.pair_known n ≡ true) × (borrowed : Bool) × (word ≡ place_word hash c seen (Holds n Still borrowed)) × (last_told (Some n) asked ≡ None)
+      (n : ℕ) × (n < c.stored) × (seen.pair_known n ≡ true) × (borrowed : Bool) × (word ≡ place_word hash c seen (Holds n Still borrowed)) × (last_reply (Some n) asked ≡ None)
 
   module _ (asked : List (Asked V)) (word : ℕ) where
     by_new : (told : List (Asked V)) → IsNew hash c seen keys told word → IsUntold told word
@@ -142,8 +142,8 @@ module _ {K V Q : Type 0} (hash : K → ℕ) (m : Mem (Node K V)) (c : Chart K) 
     untold_pair (GetOrInsertWith k) keeps asks once = absurd (cc asks)
     untold_pair (Update k) keeps asks once = of_pair _ _ asked keeps
     untold_pair (UpdateOrInsert k v) keeps asks once =
-        let it = of_pair _ _ (asked ++ told_before (Some v)) keeps in
-        (it.0, it.1, it.2, it.3, it.4, sym (told_since (Some it.0) asked (told_before (Some v)) refl) ∙ it.5)
+        let it = of_pair _ _ (asked ++ replies_before (Some v)) keeps in
+        (it.0, it.1, it.2, it.3, it.4, sym (told_since (Some it.0) asked (replies_before (Some v)) refl) ∙ it.5)
     untold_pair (UpdateOrInsertWith k) keeps asks once = of_pair _ _ asked keeps
     untold_pair (Compute k) keeps asks once = of_pair _ _ asked keeps
     untold_pair (Remove k) keeps asks once = absurd (cc asks)

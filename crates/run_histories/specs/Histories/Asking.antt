@@ -9,17 +9,17 @@ use Rattle.run_places.specs.Given.SchedulesMoment.{Asking, UnderWay as CallThere
 use Rattle.run_places.specs.Given.SchedulesViews.{call_of}
 use Rattle.run_places.specs.Given.CallersTogether.{CallOnKey, OnKey}
 use Rattle.run_places.specs.Given.EffectsKnown.{Known}
-use Rattle.run_places.specs.Hands.Asked.{AsksThere, ShowsAsked}
+use Rattle.run_places.specs.Hands.Asked.{AsksThere, RefinesAsked}
 use Rattle.run_histories.specs.Histories.Answers.{NamesPair}
 use Rattle.run_places.specs.Given.ScenesHeld.{Held}
 use Rattle.run_places.specs.Given.ScenesScene.{Scene}
 use Rattle.run_places.specs.Given.ScenesStepping.{StepLeads}
 
 -- what the machine asks is told as this question: about the pair of its word, or about none
-abbrev pub IsToldQuestion : Known → Option ℕ → Option ℕ → Type 0
-IsToldQuestion known None None = Unit {0}
-IsToldQuestion known (Some word) (Some n) = NamesPair known word n
-IsToldQuestion known _ _ = ⊥
+abbrev pub IsQuestionAsked : Known → Option ℕ → Option ℕ → Type 0
+IsQuestionAsked known None None = Unit {0}
+IsQuestionAsked known (Some word) (Some n) = NamesPair known word n
+IsQuestionAsked known _ _ = ⊥
 
 module _ (K V : Type 0) (same : K → K → Bool) (hash : ℕ → K → ℕ) where
   -- The promise: a step that says that its call asks has led to where it asks that, by whatever is known then,
@@ -27,12 +27,12 @@ module _ (K V : Type 0) (same : K → K → Bool) (hash : ℕ → K → ℕ) whe
   AskingStepsStandThere =
       (s : Scene K V) (old new : Held K V) (map i : ℕ) (u : CallOnKey K V K) (here : s.calls map i ≡ Some (OnKey u)) (about : Option ℕ) (leads : StepLeads same hash i (progress.Asks about) s old new)
       → (next : CallOnKey K V K) × ((leads map (OnKey u) here).4.next ≡ Some (OnKey next))
-      × ((known : Known) (question : Option ℕ) → IsToldQuestion known about question → AsksThere known next.call.stands question)
+      × ((known : Known) (question : Option ℕ) → IsQuestionAsked known about question → AsksThere known next.call.stands question)
 
   -- and a call that asks, and takes a step, says so again.
   abbrev pub AskingCallsAskStill : Type 0
   AskingCallsAskStill =
-      (name : ℕ → List ℕ) (number : ℕ → ℕ → ℕ) (m : Moment K V) (known : Known) (s : Scene K V) (old new : Held K V) → ShowsAsked name number m known s
+      (name : ℕ → List ℕ) (number : ℕ → ℕ → ℕ) (m : Moment K V) (known : Known) (s : Scene K V) (old new : Held K V) → RefinesAsked name number m known s
       → (map i : ℕ) (u : CallOnKey K V K) (here : s.calls map i ≡ Some (OnKey u)) (said : Progress (Node K V)) (leads : StepLeads same hash i said s old new)
       → (c : CallThere K V) → call_of (name i) m ≡ Some c → (one : OneKey K V) → c.call ≡ On one → (question : Option ℕ) → c.stands ≡ Asking question
-      → (about : Option ℕ) × (said ≡ progress.Asks about) × IsToldQuestion known about question
+      → (about : Option ℕ) × (said ≡ progress.Asks about) × IsQuestionAsked known about question

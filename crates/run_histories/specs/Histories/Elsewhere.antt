@@ -30,9 +30,9 @@ use Rattle.run_places.specs.Given.OthersRows.{scene_then}
 use Rattle.run_places.specs.Given.OthersWalks.{given_up}
 use Rattle.run_places.specs.Moments.Endings.{IsOfIts}
 use Rattle.run_places.specs.Moments.OnSlots.{HadRetired}
-use Rattle.run_places.specs.Moments.Whole.{ShowsWhole}
-use Rattle.run_histories.specs.Histories.AsCalled.{ShowsAsCalled}
-use Rattle.run_histories.specs.Histories.Due.{ShowsDue}
+use Rattle.run_places.specs.Moments.Whole.{RefinesWhole}
+use Rattle.run_histories.specs.Histories.AsCalled.{RefinesAsCalled}
+use Rattle.run_histories.specs.Histories.Due.{RefinesPendingAnswers}
 use Rattle.run_places.specs.Given.ScenesEnding.{EndingLeads, ending_begun}
 use Rattle.run_places.specs.Given.ScenesHeld.{Held, IsAt}
 use Rattle.run_places.specs.Given.ScenesMaking.{MakingLeads}
@@ -46,7 +46,7 @@ module _ {K V : Type 0} (same : K → K → Bool) (hash : ℕ → K → ℕ) (na
   -- from a moment that shows all of a scene, and at which it is so
   abbrev pub From : (Moment K V → Known → Scene K V → Held K V → Held K V → Type 0) → Type 0
   From Then =
-      (m : Moment K V) (known : Known) (s : Scene K V) (old new : Held K V) → IsAt same hash old s → ShowsWhole same name m known s → P m known s
+      (m : Moment K V) (known : Known) (s : Scene K V) (old new : Held K V) → IsAt same hash old s → RefinesWhole same name m known s → P m known s
       → Then m known s old new
 
   pub record StaysElsewhere : Type 0 where
@@ -90,10 +90,10 @@ module _ {K V : Type 0} (same : K → K → Bool) (hash : ℕ → K → ℕ) (na
     pub alike : (m m2 : Moment K V) (known : Known) (s : Scene K V) → P m known s → HasSame m m2 → P m2 known s
 
 module _ (K V : Type 0) (same : K → K → Bool) (hash : ℕ → K → ℕ) where
-  -- The promises: so does what calls owe,
-  abbrev pub DuesStay : Type 0
-  DuesStay = (name : ℕ → List ℕ) (log : Past K V) → StaysElsewhere same hash name (ShowsDue same name log)
+  -- The promises: so do the obligations of calls,
+  abbrev pub PendingAnswersStay : Type 0
+  PendingAnswersStay = (name : ℕ → List ℕ) (log : Past K V) → StaysElsewhere same hash name (RefinesPendingAnswers same name log)
 
   -- and what those on no key are called for, told and ask.
   abbrev pub AsCalledStays : Type 0
-  AsCalledStays = (name : ℕ → List ℕ) → StaysElsewhere {V = V} same hash name (ShowsAsCalled same name)
+  AsCalledStays = (name : ℕ → List ℕ) → StaysElsewhere {V = V} same hash name (RefinesAsCalled same name)

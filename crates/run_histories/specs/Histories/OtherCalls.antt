@@ -15,8 +15,8 @@ use Rattle.run_places.specs.Given.CallersTogether.{UnderWay}
 use Rattle.run_places.specs.Given.EffectsEffects.{effects_of}
 use Rattle.run_places.specs.Given.EffectsKnown.{Known}
 use Rattle.run_places.specs.Given.EffectsDeclared.acting.Acting.TheVariants as acts
-use Rattle.run_places.specs.Moments.Whole.{ShowsWhole}
-use Rattle.run_histories.specs.Histories.AsCalled.{ShowsAsCalled}
+use Rattle.run_places.specs.Moments.Whole.{RefinesWhole}
+use Rattle.run_histories.specs.Histories.AsCalled.{RefinesAsCalled}
 use Rattle.run_places.specs.Given.ScenesHeld.{Held, IsAt}
 use Rattle.run_places.specs.Given.ScenesScene.{Scene}
 use Rattle.run_places.specs.Given.ScenesStepping.{StepLeads}
@@ -27,7 +27,7 @@ abbrev pub IsOnNoKey : {K V : Type 0} → Call K V → Type 0
 IsOnNoKey (On one) = ⊥
 IsOnNoKey _ = Unit {0}
 
--- by it no call has come to an end, and none asks
+-- by it no call has terminated, and none asks
 abbrev pub IsIdle : {V : Type 0} → Outcome V → Type 0
 IsIdle (Answered a) = ⊥
 IsIdle (Refused Busy) = Unit {0}
@@ -39,8 +39,8 @@ module _ (K V : Type 0) (same : K → K → Bool) (hash : ℕ → K → ℕ) whe
   -- The promises: a step of such a call changes no pair, but one of a clearing may remove one, and one of a retaining one about which the last reply was no.
   abbrev pub OthersRemoveOnly : Type 0
   OthersRemoveOnly =
-      (name : ℕ → List ℕ) (m : Moment K V) (known : Known) (s : Scene K V) (old new : Held K V) → IsAt same hash old s → ShowsWhole same name m known s
-      → ShowsAsCalled same name m known s
+      (name : ℕ → List ℕ) (m : Moment K V) (known : Known) (s : Scene K V) (old new : Held K V) → IsAt same hash old s → RefinesWhole same name m known s
+      → RefinesAsCalled same name m known s
       → (map i : ℕ) (u : UnderWay K V K) (here : s.calls map i ≡ Some u) (said : Progress (Node K V)) (leads : StepLeads same hash i said s old new)
       → (c : CallThere K V) → call_of (name i) m ≡ Some c → IsOnNoKey c.call
       → RemovesOnly same c.call c (flat_map shift_of (effects_of (acts.Call i map) known new.changed))
@@ -63,6 +63,6 @@ module _ (K V : Type 0) (same : K → K → Bool) where
   abbrev pub NoCallsAreLinearizable : Type 0
   NoCallsAreLinearizable = (log : Past K V) (t : Transition K V) → t.caller ≡ None → flat_map shift_of t.effects ≡ [] → Linearizes same log t
 
-  -- So is one that does nothing, and by which no call has come to an end or asks.
+  -- So is one that does nothing, and by which no call has terminated or asks.
   abbrev pub IdleAreLinearizable : Type 0
   IdleAreLinearizable = (log : Past K V) (t : Transition K V) → t.effects ≡ [] → IsIdle t.outcome → Linearizes same log t

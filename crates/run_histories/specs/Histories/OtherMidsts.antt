@@ -15,10 +15,10 @@ use Rattle.run_places.specs.Given.CallersTogether.{UnderWay}
 use Rattle.run_places.specs.Given.EffectsEffects.{effects_of, known_after}
 use Rattle.run_places.specs.Given.EffectsKnown.{Known}
 use Rattle.run_places.specs.Given.EffectsDeclared.acting.Acting.TheVariants as acts
-use Rattle.run_places.specs.Moments.Whole.{ShowsWhole}
-use Rattle.run_histories.specs.Histories.AsCalled.{ShowsAsCalled}
-use Rattle.run_histories.specs.Histories.Asking.{IsToldQuestion}
-use Rattle.run_histories.specs.Histories.Due.{ShowsDue}
+use Rattle.run_places.specs.Moments.Whole.{RefinesWhole}
+use Rattle.run_histories.specs.Histories.AsCalled.{RefinesAsCalled}
+use Rattle.run_histories.specs.Histories.Asking.{IsQuestionAsked}
+use Rattle.run_histories.specs.Histories.Due.{RefinesPendingAnswers}
 use Rattle.run_places.specs.Changes.Kept.{HasJustBegun}
 use Rattle.run_histories.specs.Histories.OtherCalls.{IsOnNoKey}
 use Rattle.run_histories.specs.Histories.Several.{IsSameCall}
@@ -30,20 +30,20 @@ use Rattle.run_histories.specs.Histories.Questions.{AsksOnStill}
 
 -- What a step says that its call asks the event asks, by the number of the pair; and it asks nothing else.
 abbrev pub AsksAsSaid : {K V : Type 0} → Known → Progress (Node K V) → Outcome V → Type 0
-AsksAsSaid known (progress.Asks about) (outcome.Asks question) = IsToldQuestion known about question
+AsksAsSaid known (progress.Asks about) (outcome.Asks question) = IsQuestionAsked known about question
 AsksAsSaid known (progress.Asks about) _ = ⊥
 AsksAsSaid known _ (outcome.Asks question) = ⊥
 AsksAsSaid known _ _ = Unit {0}
 
--- After so many effects of an event, since the moment at which it has begun what it begins, the moment shows the scene, what calls owe, and what those on no
--- key were called for, told and ask. Each class has what it had there, or nothing any more; and the effects remove only what such a call may.
+-- After so many effects of an event, since the moment at which it has begun what it begins, the moment shows the scene, the obligations of calls, and what
+-- those on no key were called for, told and ask. Each class has what it had there, or nothing any more; and the effects remove only what such a call may.
 pub record InOtherMidst {K V : Type 0} (same : K → K → Bool) (name : ℕ → List ℕ) (log : Past K V) (beginning : Moment K V) (map i : ℕ) (c : CallThere K V)
     (done : List Effect) (m : Moment K V) (known : Known) (s : Scene K V) (u : UnderWay K V K) : Type 0 where
   pub here : s.calls map i ≡ Some u
   pub other : IsOnNoKey c.call
-  pub whole : ShowsWhole same name m known s
-  pub dues : ShowsDue same name log m known s
-  pub called : ShowsAsCalled same name m known s
+  pub whole : RefinesWhole same name m known s
+  pub dues : RefinesPendingAnswers same name log m known s
+  pub called : RefinesAsCalled same name m known s
   pub begins : HasJustBegun log beginning
   pub worked : m ≡ with_effects (Some (name i)) (Some map) done beginning
   pub there : CallThere K V
@@ -57,15 +57,15 @@ module _ (K V : Type 0) (same : K → K → Bool) where
   abbrev pub OtherMidstsBegin : Type 0
   OtherMidstsBegin =
       (name : ℕ → List ℕ) (log : Past K V) (beginning : Moment K V) → HasJustBegun log beginning
-      → (known : Known) (s : Scene K V) → ShowsWhole same name beginning known s → ShowsDue same name log beginning known s
-      → ShowsAsCalled same name beginning known s
+      → (known : Known) (s : Scene K V) → RefinesWhole same name beginning known s → RefinesPendingAnswers same name log beginning known s
+      → RefinesAsCalled same name beginning known s
       → (map i : ℕ) (u : UnderWay K V K) → s.calls map i ≡ Some u → (c : CallThere K V) → call_of (name i) beginning ≡ Some c → IsOnNoKey c.call
       → InOtherMidst same name log beginning map i c [] beginning known s u
 
 module _ (K V : Type 0) (same : K → K → Bool) (hash : ℕ → K → ℕ) where
   -- after each step of the call, where it goes on,
-  abbrev pub OtherMidstsGoOn : Type 0
-  OtherMidstsGoOn =
+  abbrev pub OtherMidstsContinue : Type 0
+  OtherMidstsContinue =
       (name : ℕ → List ℕ) (log : Past K V) (beginning : Moment K V) (map i : ℕ) (c : CallThere K V)
       → (done : List Effect) (m : Moment K V) (known : Known) (s : Scene K V) (u : UnderWay K V K)
       → (midst : InOtherMidst same name log beginning map i c done m known s u)
@@ -77,15 +77,15 @@ module _ (K V : Type 0) (same : K → K → Bool) (hash : ℕ → K → ℕ) whe
       (known_after (acts.Call i map) new.changed known)
       (scene_after same s old new map i to.0 u to.1 said to.4) next)
 
-  -- after the last one what calls owe is shown, and the history of each map is within the run,
-  abbrev pub OtherMidstsKeepDue : Type 0
-  OtherMidstsKeepDue =
+  -- after the last one the obligations of calls is shown, and the history of each map is within the run,
+  abbrev pub OtherMidstsPreservePendingAnswers : Type 0
+  OtherMidstsPreservePendingAnswers =
       (name : ℕ → List ℕ) (log : Past K V) (beginning : Moment K V) (map i : ℕ) (c : CallThere K V)
       → (done : List Effect) (m : Moment K V) (known : Known) (s : Scene K V) (u : UnderWay K V K)
       → (midst : InOtherMidst same name log beginning map i c done m known s u)
       → (old new : Held K V) → IsAt same hash old s → (said : Progress (Node K V)) (leads : StepLeads same hash i said s old new)
       → (let to = leads map u midst.here in
-      ShowsDue same name log (with_effects (Some (name i)) (Some map) (effects_of (acts.Call i map) known new.changed) m)
+      RefinesPendingAnswers same name log (with_effects (Some (name i)) (Some map) (effects_of (acts.Call i map) known new.changed) m)
       (known_after (acts.Call i map) new.changed known)
       (scene_after same s old new map i to.0 u to.1 said to.4))
 

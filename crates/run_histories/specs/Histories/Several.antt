@@ -14,11 +14,11 @@ use Rattle.run_places.specs.Given.CallersTogether.{CallOnKey, OnKey}
 use Rattle.run_places.specs.Given.EffectsEffects.{effects_of, known_after}
 use Rattle.run_places.specs.Given.EffectsKnown.{Known}
 use Rattle.run_places.specs.Given.EffectsDeclared.acting.Acting.TheVariants as acts
-use Rattle.run_places.specs.Moments.Whole.{ShowsWhole}
-use Rattle.run_histories.specs.Histories.Due.{ShowsDue}
-use Rattle.run_histories.specs.Histories.Events.{ComesToIt}
+use Rattle.run_places.specs.Moments.Whole.{RefinesWhole}
+use Rattle.run_histories.specs.Histories.Due.{RefinesPendingAnswers}
+use Rattle.run_histories.specs.Histories.Events.{HasOutcome}
 use Rattle.run_places.specs.Changes.Kept.{HasJustBegun}
-use Rattle.run_histories.specs.Histories.Questions.{ShowsQuestions, AsksOnStill}
+use Rattle.run_histories.specs.Histories.Questions.{AllHaveAskedJust, AsksOnStill}
 use Rattle.run_places.specs.Given.ScenesHeld.{Held, IsAt}
 use Rattle.run_places.specs.Given.ScenesScene.{Scene}
 use Rattle.run_places.specs.Given.ScenesStepping.{StepLeads, scene_after}
@@ -31,13 +31,14 @@ pub record IsSameCall {K V : Type 0} (c d : CallThere K V) : Type 0 where
   pub replies : d.replies ≡ c.replies
   pub begun : d.begun ≡ c.begun
 
--- After so many effects of an event, since the moment at which it has begun what it begins, the moment shows the scene, and what calls owe. The class of the call's
--- key has changed once at most since then, by what the call meant there; and no class has, nor has a pair come, as long as the call has changed nothing.
+-- After so many effects of an event, since the moment at which it has begun what it begins, the moment shows the scene, and the obligations of calls. The class
+-- of the call's key has changed once at most since then, by what the call meant there; and no class has, nor has a pair come, as long as the call has changed
+-- nothing.
 pub record InMidst {K V : Type 0} (same : K → K → Bool) (name : ℕ → List ℕ) (log : Past K V) (beginning : Moment K V) (map i : ℕ) (one : OneKey K V) (c : CallThere K V)
     (done : List Effect) (m : Moment K V) (known : Known) (s : Scene K V) (u : CallOnKey K V K) : Type 0 where
   pub here : s.calls map i ≡ Some (OnKey u)
-  pub whole : ShowsWhole same name m known s
-  pub dues : ShowsDue same name log m known s
+  pub whole : RefinesWhole same name m known s
+  pub dues : RefinesPendingAnswers same name log m known s
   pub begins : HasJustBegun log beginning
   pub worked : m ≡ with_effects (Some (name i)) (Some map) done beginning
   pub there : CallThere K V
@@ -52,13 +53,13 @@ module _ (K V : Type 0) (same : K → K → Bool) (hash : ℕ → K → ℕ) whe
   abbrev pub MidstsBegin : Type 0
   MidstsBegin =
       (name : ℕ → List ℕ) (log : Past K V) (beginning : Moment K V) → HasJustBegun log beginning
-      → (known : Known) (s : Scene K V) (e : Held K V) → IsAt same hash e s → ShowsWhole same name beginning known s → ShowsDue same name log beginning known s
+      → (known : Known) (s : Scene K V) (e : Held K V) → IsAt same hash e s → RefinesWhole same name beginning known s → RefinesPendingAnswers same name log beginning known s
       → (map i : ℕ) (u : CallOnKey K V K) (here : s.calls map i ≡ Some (OnKey u)) (c : CallThere K V) → call_of (name i) beginning ≡ Some c → (one : OneKey K V) → c.call ≡ On one
       → InMidst same name log beginning map i one c [] beginning known s u
 
   -- after each step of the call, where it goes on,
-  abbrev pub MidstsGoOn : Type 0
-  MidstsGoOn =
+  abbrev pub MidstsContinue : Type 0
+  MidstsContinue =
       (name : ℕ → List ℕ) (log : Past K V) (beginning : Moment K V) (map i : ℕ) (one : OneKey K V) (c : CallThere K V) → c.call ≡ On one
       → (done : List Effect) (m : Moment K V) (known : Known) (s : Scene K V) (u : CallOnKey K V K) (midst : InMidst same name log beginning map i one c done m known s u)
       → (old new : Held K V) → IsAt same hash old s → (said : Progress (Node K V)) (leads : StepLeads same hash i said s old new)
@@ -72,11 +73,11 @@ module _ (K V : Type 0) (same : K → K → Bool) (hash : ℕ → K → ℕ) whe
   abbrev pub MidstsEnd : Type 0
   MidstsEnd =
       (name : ℕ → List ℕ) (log : Past K V) (beginning : Moment K V) (map i : ℕ) (one : OneKey K V) (c : CallThere K V) → call_of (name i) beginning ≡ Some c → c.call ≡ On one
-      → ShowsQuestions beginning
+      → AllHaveAskedJust beginning
       → (done : List Effect) (m : Moment K V) (known : Known) (s : Scene K V) (u : CallOnKey K V K) (midst : InMidst same name log beginning map i one c done m known s u)
       → (old new : Held K V) → IsAt same hash old s → (said : Progress (Node K V)) (leads : StepLeads same hash i said s old new)
       → (t : Transition K V) → t.caller ≡ Some (name i) → t.found ≡ beginning → t.map ≡ Some map
-      → t.effects ≡ done ++ effects_of (acts.Call i map) known new.changed → ComesToIt (known_after (acts.Call i map) new.changed known) one c.replies said t.outcome
+      → t.effects ≡ done ++ effects_of (acts.Call i map) known new.changed → HasOutcome (known_after (acts.Call i map) new.changed known) one c.replies said t.outcome
       → Linearizes same log t
 
   -- by it a call that asks does not go on by itself.
@@ -86,5 +87,5 @@ module _ (K V : Type 0) (same : K → K → Bool) (hash : ℕ → K → ℕ) whe
       → (done : List Effect) (m : Moment K V) (known : Known) (s : Scene K V) (u : CallOnKey K V K) (midst : InMidst same name log beginning map i one c done m known s u)
       → (old new : Held K V) → IsAt same hash old s → (said : Progress (Node K V)) (leads : StepLeads same hash i said s old new)
       → (t : Transition K V) → t.caller ≡ Some (name i) → t.found ≡ beginning → t.map ≡ Some map
-      → t.effects ≡ done ++ effects_of (acts.Call i map) known new.changed → ComesToIt (known_after (acts.Call i map) new.changed known) one c.replies said t.outcome
+      → t.effects ≡ done ++ effects_of (acts.Call i map) known new.changed → HasOutcome (known_after (acts.Call i map) new.changed known) one c.replies said t.outcome
       → AsksOnStill t

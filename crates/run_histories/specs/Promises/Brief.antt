@@ -23,7 +23,7 @@ use Rattle.run_places.specs.Given.SchedulesMoment.{UnderWay as CallThere, TableT
 use Rattle.run_places.specs.Given.SchedulesSteps.{root_table, ReadsFew}
 use Rattle.run_places.specs.Given.SchedulesViews.{first_of}
 use Rattle.run_places.specs.Given.EffectsKnown.{Known}
-use Rattle.run_places.specs.Given.FollowsMaps.{ShowsThere, ShowsTables}
+use Rattle.run_places.specs.Given.FollowsMaps.{RefinesPresence, RefinesTables}
 
 -- the words of a table that a lookup may read
 abbrev pub words_of : TableThere → ℕ
@@ -96,12 +96,12 @@ module _ {K V : Type 0} where
 abbrev pub ReadingsAreFew : Type 0 → Type 0 → Type 0
 ReadingsAreFew K V =
     (s : Standing K) (now v : Moment K V) (known : Known) (call : CallThere K V) (moments : List (Moment K V)) (steps : ℕ) (stands : Looking)
-    → ShowsTables call.map s now known
+    → RefinesTables call.map s now known
     → ReadsSince (is_incremental s.setting.mode) call.map s.chart (v ∷ moments) steps stands
     → OneOf (ReadsFew (is_incremental s.setting.mode) call now (suc steps)) (v ∷ moments)
 
 -- The root of a map is the root's table at a moment that shows it.
 abbrev pub RootsAreShown : Type 0 → Type 0 → Type 0
 RootsAreShown K V =
-    (map : ℕ) (s : Standing K) (v : Moment K V) (known : Known) → ShowsThere map s v known → ShowsTables map s v known → s.chart.first < s.chart.past
+    (map : ℕ) (s : Standing K) (v : Moment K V) (known : Known) → RefinesPresence map s v known → RefinesTables map s v known → s.chart.first < s.chart.past
     → WasRoot (is_incremental s.setting.mode) map s.chart s.chart.first v

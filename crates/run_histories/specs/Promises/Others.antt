@@ -27,7 +27,7 @@ use Rattle.run_places.specs.Given.FollowsCalling.{told as told_so, come_to}
 use Rattle.run_places.specs.Given.OthersEndings.{without_map}
 use Rattle.run_places.specs.Given.OthersMakings.{WasNew}
 use Rattle.run_places.specs.Given.OthersWalks.{given_up}
-use Rattle.run_places.specs.Moments.Whole.{ShowsWhole}
+use Rattle.run_places.specs.Moments.Whole.{RefinesWhole}
 use Rattle.run_histories.specs.Promises.Sheltered.{GuardsAreInside, AreSheltered, SectionsHold}
 use Rattle.run_places.specs.Given.ScenesEnding.{EndingLeads}
 use Rattle.run_places.specs.Given.ScenesHeld.{Held, IsAt}
@@ -51,7 +51,7 @@ module _ (K V : Type 0) (same : K → K → Bool) (hash : ℕ → K → ℕ) whe
   abbrev pub MakingsShelter : Type 0
   MakingsShelter =
       (name : ℕ → List ℕ) (m : Moment K V) (known : Known) (s : Scene K V) (old new : Held K V) → IsAt same hash old s
-      → ShowsWhole same name m known s
+      → RefinesWhole same name m known s
       → (i : ℕ) (told : Advance Setting) (leads : MakingLeads same hash i told s old new) (b : Beginning K) (here : s.makers i ≡ Some b)
       → (of : Option ℕ) → WasNew b.map told m → SectionsHold m known s.world
       → (let to = leads b here in
@@ -64,7 +64,7 @@ module _ (K V : Type 0) (same : K → K → Bool) (hash : ℕ → K → ℕ) whe
   abbrev pub EndingsShelter : Type 0
   EndingsShelter =
       (name : ℕ → List ℕ) (m : Moment K V) (known : Known) (s : Scene K V) (old new : Held K V) → IsAt same hash old s
-      → ShowsWhole same name m known s
+      → RefinesWhole same name m known s
       → (i : ℕ) (told : Settled (Node K V)) (leads : EndingLeads same hash i told s old new) (f : Finishing K V) (here : s.enders i ≡ Some f) (map : ℕ)
       → s.maps map ≡ None → SectionsHold m known s.world
       → (let to = leads f here in
@@ -97,5 +97,5 @@ module _ {K V : Type 0} (m : Moment K V) (known : Known) (w : World (Node K V)) 
     pub has : (memory : Mem (Node K V)) → SectionsHold m known (record w { memory = memory })
 
 -- The promise: so it is.
-abbrev pub SectionsGoOn : Type 0 → Type 0 → Type 0
-SectionsGoOn K V = (m : Moment K V) (known : Known) (w : World (Node K V)) → SectionsHold m known w → HoldByCalls m known w × HoldByMaps m known w
+abbrev pub SectionsContinue : Type 0 → Type 0 → Type 0
+SectionsContinue K V = (m : Moment K V) (known : Known) (w : World (Node K V)) → SectionsHold m known w → HoldByCalls m known w × HoldByMaps m known w

@@ -31,7 +31,7 @@ use Rattle.run_places.specs.Given.ScenesDeclared.row.SlotCall.{SlotCall}
 use Rattle.run_places.specs.Given.ScenesDeclared.row.SlotRow.{SlotRow}
 use Rattle.run_places.specs.Given.OthersMakings.{WasNew}
 use Rattle.run_places.specs.Given.OthersRows.{scene_then}
-use Rattle.run_places.specs.Moments.Whole.{ShowsWhole}
+use Rattle.run_places.specs.Moments.Whole.{RefinesWhole}
 use Rattle.run_histories.specs.Promises.Guards.{EntersInside}
 use Rattle.run_histories.specs.Promises.Others.{SparesGuards}
 use Rattle.run_histories.specs.Promises.Sheltered.{GuardsAreInside, AreSheltered, SectionsHold}
@@ -134,7 +134,7 @@ module _ (K V : Type 0) (same : K → K → Bool) (hash : ℕ → K → ℕ) whe
   abbrev pub CallsProtect : Type 0
   CallsProtect =
       (name : ℕ → List ℕ) (m : Moment K V) (known : Known) (s : Scene K V) (old new : Held K V) → IsAt same hash old s
-      → ShowsWhole same name m known s
+      → RefinesWhole same name m known s
       → (map i : ℕ) (u : UnderWay K V K) (here : s.calls map i ≡ Some u) (told : Progress (Node K V)) (leads : StepLeads same hash i told s old new)
       → (event : Event K V) → is_of_slots event ≡ false → (done : List Effect) → InMidst event done m known s.world
       → (let to = leads map u here in
@@ -145,7 +145,7 @@ module _ (K V : Type 0) (same : K → K → Bool) (hash : ℕ → K → ℕ) whe
   abbrev pub MakingsProtect : Type 0
   MakingsProtect =
       (name : ℕ → List ℕ) (m : Moment K V) (known : Known) (s : Scene K V) (old new : Held K V) → IsAt same hash old s
-      → ShowsWhole same name m known s
+      → RefinesWhole same name m known s
       → (i : ℕ) (told : Making Setting) (leads : MakingLeads same hash i told s old new) (b : Beginning K) (here : s.makers i ≡ Some b) (of : Option ℕ)
       → WasNew b.map told m → (event : Event K V) → is_of_slots event ≡ false → (done : List Effect) → InMidst event done m known s.world
       → (let to = leads b here in
@@ -156,7 +156,7 @@ module _ (K V : Type 0) (same : K → K → Bool) (hash : ℕ → K → ℕ) whe
   abbrev pub EndingsProtect : Type 0
   EndingsProtect =
       (name : ℕ → List ℕ) (m : Moment K V) (known : Known) (s : Scene K V) (old new : Held K V) → IsAt same hash old s
-      → ShowsWhole same name m known s
+      → RefinesWhole same name m known s
       → (i : ℕ) (told : Settled (Node K V)) (leads : EndingLeads same hash i told s old new) (f : Finishing K V) (here : s.enders i ≡ Some f) (map : ℕ)
       → s.maps map ≡ None → (event : Event K V) → is_of_slots event ≡ false → (done : List Effect) → InMidst event done m known s.world
       → (let to = leads f here in
@@ -174,7 +174,7 @@ module _ (K V : Type 0) (same : K → K → Bool) (hash : ℕ → K → ℕ) whe
   abbrev pub RowsProtect : Type 0
   RowsProtect =
       (name : ℕ → List ℕ) (m : Moment K V) (known : Known) (s : Scene K V) (old new : Held K V) → IsAt same hash old s
-      → ShowsWhole same name m known s
+      → RefinesWhole same name m known s
       → (i : ℕ) (told : RowTold (Node K V)) (leads : RowLeads same hash i told s old new) (row : SlotRow) (here : IsOnSlot s i row)
       → (event : Event K V) → is_of_slots event ≡ true → (done : List Effect) → InMidst event done m known s.world
       → (let effects = effects_of acts.Row known new.changed in

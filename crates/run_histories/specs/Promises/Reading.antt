@@ -16,7 +16,7 @@ use Rattle.run_places.specs.Given.FinishesMaps.{Standing}
 use Rattle.run_places.specs.Given.EffectsEffects.{effects_of}
 use Rattle.run_places.specs.Given.EffectsKnown.{Known}
 use Rattle.run_places.specs.Given.EffectsDeclared.acting.Acting.TheVariants as acts
-use Rattle.run_places.specs.Moments.Whole.{ShowsWhole}
+use Rattle.run_places.specs.Moments.Whole.{RefinesWhole}
 use Rattle.run_histories.specs.Promises.Brief.{TablesLast, ReadsSince}
 use Rattle.run_places.specs.Given.ScenesHeld.{Held, IsAt}
 use Rattle.run_places.specs.Given.ScenesScene.{Scene}
@@ -43,7 +43,7 @@ module _ {K V : Type 0} where
 
 -- Each lookup that is under way has made the steps of its moment, and those that its event has made so far, and has read no more than these. It began with an
 -- event of the log, or with the next one.
-pub record ShowsReading {K V : Type 0} (name : ℕ → List ℕ) (log : Past K V) (made : ℕ → ℕ) (m : Moment K V) (s : Scene K V) : Type 0 where
+pub record RefinesReadings {K V : Type 0} (name : ℕ → List ℕ) (log : Past K V) (made : ℕ → ℕ) (m : Moment K V) (s : Scene K V) : Type 0 where
   pub past : IsPast log
   pub begun : (map i : ℕ) (u : UnderWay K V K) → s.calls map i ≡ Some u → (c : CallThere K V) → call_of (name i) m ≡ Some c → looks c.call ≡ true → c.begun ≤ log.entries
   pub reads : (map i : ℕ) (u : UnderWay K V K) → s.calls map i ≡ Some u → (c : CallThere K V) → call_of (name i) m ≡ Some c → looks c.call ≡ true
@@ -71,14 +71,14 @@ module _ (K V : Type 0) (name : ℕ → List ℕ) where
   -- The promises: so lookups have read what they had read,
   abbrev pub ReadingsStay : Type 0
   ReadingsStay =
-      (log : Past K V) (made made2 : ℕ → ℕ) (m m2 : Moment K V) (s s2 : Scene K V) → LookupsStay name made m s made2 m2 s2 → ShowsReading name log made m s
-      → ShowsReading name log made2 m2 s2
+      (log : Past K V) (made made2 : ℕ → ℕ) (m m2 : Moment K V) (s s2 : Scene K V) → LookupsStay name made m s made2 m2 s2 → RefinesReadings name log made m s
+      → RefinesReadings name log made2 m2 s2
 
   -- and where an event is over, and its moment is one of the log.
-  abbrev pub EventsKeepReadings : Type 0
-  EventsKeepReadings =
-      (log : Past K V) (next : Moment K V) (made : ℕ → ℕ) (m : Moment K V) (s : Scene K V) → ShowsReading name log made m s → next.events ≡ suc log.entries
-      → ShowsReading name (further next log) made m s
+  abbrev pub EventsPreserveReadings : Type 0
+  EventsPreserveReadings =
+      (log : Past K V) (next : Moment K V) (made : ℕ → ℕ) (m : Moment K V) (s : Scene K V) → RefinesReadings name log made m s → next.events ≡ suc log.entries
+      → RefinesReadings name (further next log) made m s
 
 module _ (K V : Type 0) (same : K → K → Bool) (hash : ℕ → K → ℕ) where
   -- A step of a lookup does nothing to pairs, tables and blocks.
@@ -89,19 +89,19 @@ module _ (K V : Type 0) (same : K → K → Bool) (hash : ℕ → K → ℕ) whe
       → HasLooked incremental map c moments steps u → effects_of (acts.Call i map) known new.changed ≡ []
 
   -- By it the lookup has read no more than by a step more, where maps and tables are as they were at the end of the last event.
-  abbrev pub LookupsKeepReadings : Type 0
-  LookupsKeepReadings =
+  abbrev pub LookupsPreserveReadings : Type 0
+  LookupsPreserveReadings =
       (name : ℕ → List ℕ) (log : Past K V) (made : ℕ → ℕ) (m : Moment K V) (known : Known) (s : Scene K V) (old new : Held K V) → IsAt same hash old s
-      → ShowsWhole same name m known s → ShowsReading name log made m s → m.maps ≡ log.now.maps → m.tables ≡ log.now.tables
+      → RefinesWhole same name m known s → RefinesReadings name log made m s → m.maps ≡ log.now.maps → m.tables ≡ log.now.tables
       → (map i : ℕ) (u : UnderWay K V K) (here : s.calls map i ≡ Some u) (said : Progress (Node K V)) (leads : StepLeads same hash i said s old new)
       → (c : CallThere K V) → call_of (name i) m ≡ Some c → looks c.call ≡ true
       → (let to = leads map u here in
-      ShowsReading name log (one_more_of i made) m (scene_after same s old new map i to.0 u to.1 said to.4))
+      RefinesReadings name log (one_more_of i made) m (scene_after same s old new map i to.0 u to.1 said to.4))
 
   -- And with its next step it has read few words, by the moments of its call; so what has that as its last step reads briefly.
   abbrev pub EventsReadBriefly : Type 0
   EventsReadBriefly =
       (name : ℕ → List ℕ) (log : Past K V) (made : ℕ → ℕ) (m : Moment K V) (known : Known) (s : Scene K V) (e : Held K V) → IsAt same hash e s
-      → ShowsWhole same name m known s → ShowsReading name log made m s
+      → RefinesWhole same name m known s → RefinesReadings name log made m s
       → (map i : ℕ) (u : UnderWay K V K) → s.calls map i ≡ Some u
       → (caller : Option (List ℕ)) → caller ≡ Some (name i) → (steps : ℕ) → steps ≤ suc (made i) → HasReadFew log caller steps m

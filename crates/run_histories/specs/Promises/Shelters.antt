@@ -18,7 +18,7 @@ use Rattle.run_places.specs.Given.EffectsDeclared.acting.Acting.TheVariants as a
 use Rattle.run_places.specs.Given.ScenesDeclared.row.RowTold.{RowTold}
 use Rattle.run_places.specs.Given.ScenesDeclared.row.SlotRow.{SlotRow}
 use Rattle.run_places.specs.Given.OthersRows.{scene_then}
-use Rattle.run_places.specs.Moments.Whole.{ShowsWhole}
+use Rattle.run_places.specs.Moments.Whole.{RefinesWhole}
 use Rattle.run_histories.specs.Promises.Sheltered.{GuardsAreInside, AreSheltered}
 use Rattle.run_places.specs.Given.ScenesHeld.{Held, IsAt}
 use Rattle.run_places.specs.Given.ScenesOnSlots.{RowLeads}
@@ -43,7 +43,7 @@ module _ (K V : Type 0) (same : K → K → Bool) (hash : ℕ → K → ℕ) whe
   -- A step of a call leaves guards within their sections, and shelters what it takes out of its map; it reclaims nothing.
   abbrev pub CallsShelter : Type 0
   CallsShelter =
-      (name : ℕ → List ℕ) (m : Moment K V) (known : Known) (s : Scene K V) (old new : Held K V) → IsAt same hash old s → ShowsWhole same name m known s
+      (name : ℕ → List ℕ) (m : Moment K V) (known : Known) (s : Scene K V) (old new : Held K V) → IsAt same hash old s → RefinesWhole same name m known s
       → (map i : ℕ) (u : UnderWay K V K) (here : s.calls map i ≡ Some u) (told : Progress (Node K V)) (leads : StepLeads same hash i told s old new)
       → GuardsAreInside m.there s.world → AreSheltered m.there s.world known m.sheltered
       → (let to = leads map u here in
@@ -55,7 +55,7 @@ module _ (K V : Type 0) (same : K → K → Bool) (hash : ℕ → K → ℕ) whe
   -- A step of a row on a slot leaves each that is within its section there, and leaves sheltered, and reclaims none of, what is sheltered by whom.
   abbrev pub RowsShelter : Type 0
   RowsShelter =
-      (name : ℕ → List ℕ) (m : Moment K V) (known : Known) (s : Scene K V) (old new : Held K V) → IsAt same hash old s → ShowsWhole same name m known s
+      (name : ℕ → List ℕ) (m : Moment K V) (known : Known) (s : Scene K V) (old new : Held K V) → IsAt same hash old s → RefinesWhole same name m known s
       → (i : ℕ) (told : RowTold (Node K V)) (leads : RowLeads same hash i told s old new) (row : SlotRow) (here : IsOnSlot s i row)
       → (there : Present) (sheltered : List Sheltered) → AreSheltered there s.world known sheltered
       → (let effects = effects_of acts.Row known new.changed in

@@ -50,7 +50,7 @@ use Rattle.run_waiting.proofs.Lives.Reclaimed.{others_leave_retired}
 use Rattle.run_waiting.proofs.Lives.Waiting.{others_leave_waiting}
 use Rattle.run_blocks.specs.Given.WaitsOthers.{copier_in, copier_in_room, copier_in_sweep, copier_of}
 use Rattle.run_kept.proofs.Kept.Ends.{calls_begin_ends, calls_take_ends, walks_go_on_ends, walks_stop_ends}
-use Rattle.run_kept.specs.Kept.Steps.{CallsBeginKept, CallsTakeKept, WalksGoOnKept, WalksStopKept}
+use Rattle.run_kept.specs.Kept.Steps.{CallsBeginKept, CallsTakeKept, WalksPreserveKept, WalksStopKept}
 use Rattle.run_shows.proofs.Scenes.May.{standing_is}
 use Rattle.run_shows.specs.Scenes.Beginning.{Begins}
 use Rattle.run_shows.specs.Scenes.Held.{Held, IsAt}
@@ -239,7 +239,7 @@ module _ (K V : Type 0) (same : K → K → Bool) (hash : ℕ → K → ℕ) whe
       v : Moment K V
       v = told (name i) is_told m
 
-  pub walks_go_on_kept : WalksGoOnKept K V same hash
+  pub walks_go_on_kept : WalksPreserveKept K V same hash
   walks_go_on_kept name m known s old new whole kept i leads map u here =
       let next = (leads map u here).0 in
       record {

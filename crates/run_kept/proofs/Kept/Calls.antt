@@ -7,7 +7,7 @@ use Rattle.run_effects.specs.Effects.Effects.{effects_of, known_after}
 use Rattle.run_effects.specs.Effects.Known.{Known}
 use Rattle.run_effects.specs.declared.acting.Acting.TheVariants.{Call}
 use Rattle.run_shows.proofs.Follows.Steps.{went_to}
-use Rattle.run_executor.specs.Given.MomentsWhole.{ShowsWhole}
+use Rattle.run_executor.specs.Given.MomentsWhole.{RefinesWhole}
 use Rattle.run_blocks.proofs.Owes.Calls.{calls_keep_made}
 use Rattle.run_blocks.proofs.Owes.Looking.Calls.{calls_keep_looking}
 use Rattle.run_blocks.proofs.Owes.Short.Calls.{calls_keep_short}
@@ -20,7 +20,7 @@ use Rattle.run_blocks.proofs.Given.SettlesEntryScenes.{calls_keep_entries}
 use Rattle.run_blocks.proofs.Given.SettlesHand.All.{own_or_row}
 use Rattle.run_blocks.proofs.Given.SettlesHand.Calls.{calls_keep_owed}
 use Rattle.run_blocks.proofs.Given.SettlesHanding.{calls_keep_handing}
-use Rattle.run_waiting.specs.Lives.Behind.{ShowsWaiting, WaitsOnce}
+use Rattle.run_waiting.specs.Lives.Behind.{RefinesWaiting, WaitsOnce}
 use Rattle.run_waiting.proofs.Lives.CallRows.{row_waits_on}
 use Rattle.run_waiting.proofs.Lives.Calls.{calls_keep_waiting, calls_keep_list}
 use Rattle.run_waiting.proofs.Lives.HandedCalls.{calls_keep_handed}
@@ -28,18 +28,18 @@ use Rattle.run_waiting.proofs.Lives.LeftTables.{calls_keep_left}
 use Rattle.run_waiting.proofs.Lives.LyingCalls.{calls_keep_lying}
 use Rattle.run_waiting.proofs.Lives.OrderCalls.{calls_keep_order}
 use Rattle.run_waiting.proofs.Lives.RetiredCalls.{calls_keep_retired}
-use Rattle.run_kept.specs.Kept.Kept.{ShowsKept}
+use Rattle.run_kept.specs.Kept.Kept.{RefinesKept}
 use Rattle.run_kept.proofs.Kept.EndCalls.{calls_keep_all_ends}
-use Rattle.run_kept.specs.Kept.Steps.{CallsKeepKept}
+use Rattle.run_kept.specs.Kept.Steps.{CallsPreserveKept}
 use Rattle.run_shows.specs.Scenes.Held.{Held, IsAt}
 use Rattle.run_shows.specs.Scenes.Scene.{Scene}
 
 module _ (K V : Type 0) (same : K → K → Bool) (hash : ℕ → K → ℕ) where
   -- each table that somebody has made is in the hands of who makes it
-  pub own_made : (name : ℕ → List ℕ) (m : Moment K V) (known : Known) (s : Scene K V) (e : Held K V) → IsAt same hash e s → ShowsWhole same name m known s → ShowsKept name m known s → OwnAreMade known s.world
+  pub own_made : (name : ℕ → List ℕ) (m : Moment K V) (known : Known) (s : Scene K V) (e : Held K V) → IsAt same hash e s → RefinesWhole same name m known s → RefinesKept name m known s → OwnAreMade known s.world
   own_made name m known s e at whole kept b turn shape is = tables_are_made K V same hash name m known s e at whole.all.shown kept.tables b turn shape is
 
-  pub calls_keep_kept : CallsKeepKept K V same hash
+  pub calls_keep_kept : CallsPreserveKept K V same hash
   calls_keep_kept name m known s old new at whole kept map i u here said leads =
       let owned = own_made name m known s old at whole kept in
       record {
@@ -66,7 +66,7 @@ module _ (K V : Type 0) (same : K → K → Bool) (hash : ℕ → K → ℕ) whe
       v = with_effects (Some (name i)) (Some map) (effects_of (Call i map) known new.changed) m
 
       Waits : Type 0
-      Waits = ShowsWaiting v (known_after (Call i map) new.changed known) (leads map u here).4.w2 × WaitsOnce v.deferred
+      Waits = RefinesWaiting v (known_after (Call i map) new.changed known) (leads map u here).4.w2 × WaitsOnce v.deferred
 
       waits : OwnAreMade known s.world → Waits
       waits owned =

@@ -45,22 +45,22 @@ use Rattle.run_shows.specs.Given.PointsSteps.{AreLawful}
 use Rattle.run_shows.specs.Given.PointsTold.{IsRowOfCall, IsRowOfCopier}
 use Rattle.run_shows.specs.Given.LateToldReserves.{IsRowOfReserve}
 use Rattle.run_shows.specs.Given.LateToldSweeps.{IsRowOfSweep}
-use Rattle.run_effects.specs.ReportingMemory.Tells.{StepsTold}
+use Rattle.run_effects.specs.ReportingMemory.Tells.{StepsObserved}
 use Rattle.run_effects.specs.declared.changed.Changed.TheVariants as changed
 use Rattle.run_shows.specs.Given.CallersOverAll.{CallOverAll}
 use Rattle.run_shows.specs.Given.CallersRooms.{CallForRoom}
-use Rattle.run_shows.specs.Given.CallersSights.{Sight}
+use Rattle.run_shows.specs.Given.CallersSights.{Visible}
 use Rattle.run_shows.specs.Given.CallersTogether.{CallOnKey, UnderWay, OnKey, ForRoom, Counting, OverAll, Together, next_of_counting}
 use Rattle.run_shows.proofs.Given.CallersTogether.At.{at_same, at_other}
 use Rattle.run_effects.specs.Effects.Known.{Known}
 use Rattle.run_shows.specs.Given.FinishesMaps.{Standing, IsSameMap}
-use Rattle.run_shows.specs.Follows.Shows.{Shows}
+use Rattle.run_shows.specs.Follows.Shows.{Refines}
 use Rattle.run_shows.proofs.Follows.Steps.{WentTo, went_to, DidSo}
 use Rattle.run_shows.proofs.Others.Outcomes.{told_in}
 use Rattle.run_schedules.specs.Schedules.Moment.{Moment}
 use Rattle.run_blocks.proofs.Given.SettlesKeys.{steps as key_told}
 use Rattle.run_blocks.proofs.Given.SettlesRest.{steps as sweep_told}
-use Rattle.run_kept.specs.Kept.Ends.{HaveEndsIn, ShowsEnds}
+use Rattle.run_kept.specs.Kept.Ends.{HaveEndsIn, MapsHaveEnds}
 use Rattle.run_kept.proofs.Kept.Ends.{StoodSo, call_goes, idle_keeps, stood_ends, stood_so}
 use Rattle.seize.specs.declared.advance.Advance.{Advance as CountGoes}
 use Rattle.seize.specs.declared.advance.Advance.TheVariants as progress
@@ -107,7 +107,7 @@ same_outcome (outcome.Refused v) (outcome.Refused w) e = let one : v ≡ w = cc 
 same_outcome _ _ e = absurd (cc e)
 
 module _ {K V : Type 0} (same : K → K → Bool) (hash : ℕ → K → ℕ) (name : ℕ → List ℕ) (m : Moment K V) (known : Known) (s : Scene K V) (old new : Held K V) (at_old : IsAt same hash old s)
-    (shown : Shows same name m known s) (ends : ShowsEnds s) (map i : ℕ) (said : Progress (Node K V)) (leads : StepLeads same hash i said s old new) where
+    (shown : Refines same name m known s) (ends : MapsHaveEnds s) (map i : ℕ) (said : Progress (Node K V)) (leads : StepLeads same hash i said s old new) where
   module _ (u : UnderWay K V K) (here : s.calls map i ≡ Some u) where
     abbrev to : WentTo same hash name m known s old new at_old shown map i u here said leads
     to = went_to same hash name m known s old new at_old shown map i u here said leads
@@ -125,9 +125,9 @@ module _ {K V : Type 0} (same : K → K → Bool) (hash : ℕ → K → ℕ) (na
     power = (at_old.together.makings.standing.fit map to.0 to.2).1
 
     -- its map has moved on, and each other one is as it was
-    moved : (chart : Chart K) (blocks : Blocks) (sights : ℕ → Sight) (it : Option (UnderWay K V K))
+    moved : (chart : Chart K) (blocks : Blocks) (sights : ℕ → Visible) (it : Option (UnderWay K V K))
         → to.4.maps2 ≡ with_at s.maps map (Some (record to.0 { chart = chart; blocks = blocks; sights = sights })) → to.4.next ≡ it
-        → HaveEndsIn (is_incremental to.0.setting.mode) chart (with_at (s.calls map) i it) → ShowsEnds led
+        → HaveEndsIn (is_incremental to.0.setting.mode) chart (with_at (s.calls map) i it) → MapsHaveEnds led
     moved chart blocks sights it maps next own = call_goes s ends led map i to.4.next refl others its
       where
         after : Standing K
@@ -144,7 +144,7 @@ module _ {K V : Type 0} (same : K → K → Bool) (hash : ℕ → K → ℕ) (na
 
     -- each map is as it was
     stayed : (it : Option (UnderWay K V K)) → ((n : ℕ) → IsSameMap (s.maps n) (to.4.maps2 n)) → to.4.next ≡ it → IsIdleCopier (copier_then (Some u))
-        → (is_incremental to.0.setting.mode ≡ false → IsFreshCopier (copier_then it)) → ShowsEnds led
+        → (is_incremental to.0.setting.mode ≡ false → IsFreshCopier (copier_then it)) → MapsHaveEnds led
     stayed it same_maps next idle fresh = call_goes s ends led map i to.4.next refl (λ n st ne is. stood_so (s.maps n) (to.4.maps2 n) (same_maps n) st is) its
       where
         its : (st : Standing K) → to.4.maps2 map ≡ Some st → HaveEndsIn (is_incremental st.setting.mode) st.chart (with_at (s.calls map) i to.4.next)
@@ -178,7 +178,7 @@ module _ {K V : Type 0} (same : K → K → Bool) (hash : ℕ → K → ℕ) (na
         (as_step old.memory changed.Nothing (call_plan same same (to (OnKey x) here).0.hash x.call) new.memory new.changed (p2, end)
         (key_told same hash name m known s old new at_old shown map i x here said leads p2 end machine_is told_is))
 
-    key_ends : DidSo same hash name m known s old new at_old shown map i (OnKey x) here said leads (OnKey x) → ShowsEnds (led (OnKey x) here)
+    key_ends : DidSo same hash name m known s old new at_old shown map i (OnKey x) here said leads (OnKey x) → MapsHaveEnds (led (OnKey x) here)
     key_ends (p2, end, machine_is, told_is, inl (step, went)) =
         let st : Standing K = (to (OnKey x) here).0 in
         moved (OnKey x) here step.step.went.c2 step.step.blocks2 step.step.sights2 _ went.1 went.2
@@ -202,7 +202,7 @@ module _ {K V : Type 0} (same : K → K → Bool) (hash : ℕ → K → ℕ) (na
         (as_step old.memory changed.Nothing (reserve_plan (to (ForRoom x) here).0.hash x.reserve) new.memory new.changed (p2, end) (by inner.0 inner.1 inner.2))
       where
         Stepped : Reserve × Yielding (Node K V) Unit → Type 0
-        Stepped e = StepsTold K V (Reserve × Yielding (Node K V) Unit) old.memory changed.Nothing (reserve_plan (to (ForRoom x) here).0.hash x.reserve) new.memory new.changed e
+        Stepped e = StepsObserved K V (Reserve × Yielding (Node K V) Unit) old.memory changed.Nothing (reserve_plan (to (ForRoom x) here).0.hash x.reserve) new.memory new.changed e
 
         inner : (r : Reserve × Yielding (Node K V) Unit) × (◌≡◌ {A = Machine K V K × Progress (Node K V)} ((to (ForRoom x) here).1, said) (of_room r)) × Stepped r
         inner = told_in old.memory new.memory new.changed of_room (reserve_plan (to (ForRoom x) here).0.hash x.reserve) ((to (ForRoom x) here).1, said) (to (ForRoom x) here).3
@@ -214,7 +214,7 @@ module _ {K V : Type 0} (same : K → K → Bool) (hash : ℕ → K → ℕ) (na
             let one : q ≡ p2 = cc machines in
             subst (λ (z : Yielding (Node K V) Unit). Stepped (p2, z)) (same_outcome said_so end says) (subst (λ (z : Reserve). Stepped (z, said_so)) one told)
 
-    room_ends : DidSo same hash name m known s old new at_old shown map i (ForRoom x) here said leads (ForRoom x) → ShowsEnds (led (ForRoom x) here)
+    room_ends : DidSo same hash name m known s old new at_old shown map i (ForRoom x) here said leads (ForRoom x) → MapsHaveEnds (led (ForRoom x) here)
     room_ends (p2, end, machine_is, told_is, inl (step, went)) =
         let st : Standing K = (to (ForRoom x) here).0 in
         moved (ForRoom x) here step.step.went.c2 step.step.blocks2 step.step.sights2 _ went.1 went.2
@@ -238,7 +238,7 @@ module _ {K V : Type 0} (same : K → K → Bool) (hash : ℕ → K → ℕ) (na
         (as_step old.memory changed.Nothing (sweep_plan (to (OverAll x) here).0.hash x.sweep) new.memory new.changed (p2, end)
         (sweep_told same hash name m known s old new at_old shown map i (OverAll x) here said leads x refl p2 end machine_is told_is))
 
-    sweep_ends : DidSo same hash name m known s old new at_old shown map i (OverAll x) here said leads (OverAll x) → ShowsEnds (led (OverAll x) here)
+    sweep_ends : DidSo same hash name m known s old new at_old shown map i (OverAll x) here said leads (OverAll x) → MapsHaveEnds (led (OverAll x) here)
     sweep_ends (p2, end, machine_is, told_is, inl (step, went)) =
         let st : Standing K = (to (OverAll x) here).0 in
         moved (OverAll x) here step.step.went.c2 step.step.blocks2 step.step.sights2 _ went.1 went.2
@@ -255,10 +255,10 @@ module _ {K V : Type 0} (same : K → K → Bool) (hash : ℕ → K → ℕ) (na
 
   -- a counting
   count_ends : (x : Sum) (here : s.calls map i ≡ Some (Counting x)) → DidSo same hash name m known s old new at_old shown map i (Counting x) here said leads (Counting x)
-      → ShowsEnds (led (Counting x) here)
+      → MapsHaveEnds (led (Counting x) here)
   count_ends x here (sum2, end, machine_is, told_is, memory, still) = stayed (Counting x) here _ still.1 still.2 tt (λ mode. count_fresh K V sum2 end)
 
-  pub calls_keep_all_ends : (u : UnderWay K V K) (here : s.calls map i ≡ Some u) → ShowsEnds (led u here)
+  pub calls_keep_all_ends : (u : UnderWay K V K) (here : s.calls map i ≡ Some u) → MapsHaveEnds (led u here)
   calls_keep_all_ends (OnKey x) here = key_ends x here (to (OnKey x) here).4.did
   calls_keep_all_ends (ForRoom x) here = room_ends x here (to (ForRoom x) here).4.did
   calls_keep_all_ends (Counting x) here = count_ends x here (to (Counting x) here).4.did

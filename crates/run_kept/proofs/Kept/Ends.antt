@@ -15,8 +15,8 @@ use Rattle.papaya_raw.specs.Given.TablesDeclared.node.Node.{Node}
 use Rattle.papaya_raw.specs.Given.TablesDeclared.setting.Setting.{Setting}
 use Rattle.run_effects.specs.Given.ResizeDeclared.copier.Copier.{Copier}
 use Rattle.run_effects.specs.Given.ResizeDeclared.new_map.NewMap.{NewMap}
-use Rattle.papaya_raw.specs.CallAsks.{told_at}
-use Rattle.papaya_raw.specs.Machine.{is_ready, machine_asked, machine_replied, sweep_told}
+use Rattle.papaya_raw.specs.CallAsks.{replied_at}
+use Rattle.papaya_raw.specs.Machine.{is_ready, machine_asked, machine_replied, sweep_with_reply}
 use Rattle.papaya_raw.specs.declared.machines.asking.MachineReply.{MachineReply}
 use Rattle.papaya_raw.specs.declared.machines.call.Calling.{Calling}
 use Rattle.papaya_raw.specs.declared.machines.call.Calling.TheVariants as at
@@ -41,11 +41,11 @@ use Rattle.run_shows.proofs.Follows.Calling.{is_same_refl}
 use Rattle.run_shows.specs.Others.Endings.{ending_after}
 use Rattle.run_shows.specs.Others.Makings.{making_after}
 use Rattle.run_shows.specs.Others.Rows.{scene_then}
-use Rattle.run_kept.specs.Kept.Ends.{HaveEndsIn, ShowsEnds}
+use Rattle.run_kept.specs.Kept.Ends.{HaveEndsIn, MapsHaveEnds}
 use Rattle.run_kept.proofs.Kept.ToldFresh.{reply_fresh, told_fresh}
-use Rattle.run_shows.specs.Scenes.Ending.{EndingComesTo, ending_begun}
+use Rattle.run_shows.specs.Scenes.Ending.{EndingHasOutcome, ending_begun}
 use Rattle.run_shows.specs.Scenes.Held.{Held}
-use Rattle.run_shows.specs.Scenes.Making.{MakingComesTo}
+use Rattle.run_shows.specs.Scenes.Making.{MakingHasOutcome}
 use Rattle.run_shows.specs.Scenes.OnSlots.{HappensAt}
 use Rattle.run_shows.specs.Scenes.Replying.{scene_with, unless_stopped}
 use Rattle.run_shows.specs.Scenes.Scene.{Scene, at_first}
@@ -78,7 +78,7 @@ stood_so (Some before) o2 (blocks, sights, here, part) st is =
     let one = one_of st (record before { blocks = blocks; sights = sights }) (sym is ∙ here) in
     (before, refl, ap (λ (x : Standing _). x.chart) one, ap (λ (x : Standing _). x.setting) one)
 
-module _ {K V : Type 0} (s : Scene K V) (ends : ShowsEnds s) where
+module _ {K V : Type 0} (s : Scene K V) (ends : MapsHaveEnds s) where
   pub stood_ends : (n : ℕ) (st : Standing K) → StoodSo (s.maps n) st → HaveEndsIn (is_incremental st.setting.mode) st.chart (s.calls n)
   stood_ends n st (before, there, chart, setting) =
       subst (λ (c : Chart K). HaveEndsIn (is_incremental st.setting.mode) c (s.calls n)) (sym chart)
@@ -86,17 +86,17 @@ module _ {K V : Type 0} (s : Scene K V) (ends : ShowsEnds s) where
 
   module _ (t : Scene K V) where
     -- each map that stands then stood so, with the same calls
-    pub maps_stay : ((n : ℕ) (st : Standing K) → t.maps n ≡ Some st → StoodSo (s.maps n) st) → t.calls ≡ s.calls → ShowsEnds t
+    pub maps_stay : ((n : ℕ) (st : Standing K) → t.maps n ≡ Some st → StoodSo (s.maps n) st) → t.calls ≡ s.calls → MapsHaveEnds t
     maps_stay stood calls n st is =
         subst (λ (f : ℕ → ℕ → Option (UnderWay K V K)). HaveEndsIn (is_incremental st.setting.mode) st.chart (f n)) (sym calls) (stood_ends n st (stood n st is))
 
-    pub ends_stay : t.maps ≡ s.maps → t.calls ≡ s.calls → ShowsEnds t
+    pub ends_stay : t.maps ≡ s.maps → t.calls ≡ s.calls → MapsHaveEnds t
     ends_stay maps calls = maps_stay (λ n st is. (st, sym (ap (λ (f : ℕ → Option (Standing K)). f n) maps) ∙ is, refl, refl)) calls
 
     -- one caller's call on one map has become another, has begun, or is under way no more
     pub call_goes : (map i : ℕ) (next : Option (UnderWay K V K)) → t.calls ≡ with_in s.calls map i next
         → ((n : ℕ) (st : Standing K) → (n ≡ map → ⊥) → t.maps n ≡ Some st → StoodSo (s.maps n) st)
-        → ((st : Standing K) → t.maps map ≡ Some st → HaveEndsIn (is_incremental st.setting.mode) st.chart (with_at (s.calls map) i next)) → ShowsEnds t
+        → ((st : Standing K) → t.maps map ≡ Some st → HaveEndsIn (is_incremental st.setting.mode) st.chart (with_at (s.calls map) i next)) → MapsHaveEnds t
     call_goes map i next calls others own n st is = elim (cases_eq n map) as (λ _. HaveEndsIn (is_incremental st.setting.mode) st.chart (t.calls n)) [
       | inl e ↦ subst (λ (f : ℕ → Option (UnderWay K V K)). HaveEndsIn (is_incremental st.setting.mode) st.chart f) (sym (there e)) (own st (subst (λ (k : ℕ). t.maps k ≡ Some st) e is))
       | inr ne ↦ subst (λ (f : ℕ → Option (UnderWay K V K)). HaveEndsIn (is_incremental st.setting.mode) st.chart f) (sym (elsewhere ne)) (stood_ends n st (others n st ne is))
@@ -109,13 +109,13 @@ module _ {K V : Type 0} (s : Scene K V) (ends : ShowsEnds s) where
         elsewhere ne = ap (λ (f : ℕ → ℕ → Option (UnderWay K V K)). f n) calls ∙ at_other s.calls map (with_at (s.calls map) i next) n ne
 
   -- where no map has changed
-  pub call_like : (map i : ℕ) (next : Option (UnderWay K V K)) → IsLike (copier_then next) (copier_then (s.calls map i)) → ShowsEnds (record s { calls = with_in s.calls map i next })
+  pub call_like : (map i : ℕ) (next : Option (UnderWay K V K)) → IsLike (copier_then next) (copier_then (s.calls map i)) → MapsHaveEnds (record s { calls = with_in s.calls map i next })
   call_like map i next like =
       call_goes (record s { calls = with_in s.calls map i next }) map i next refl (λ n st ne is. (st, is, refl, refl))
       (λ st is. like_keeps (is_incremental st.setting.mode) st.chart (s.calls map) i next (ends map st is) like)
 
 -- what a sweep is told, or asked for, leads out of no copier
-sweep_like : {V : Type 0} (c : Sweep) (reply : MachineReply V) (stands : Sweeping) → c.stands ≡ stands → IsLike (copier_in_sweep (sweep_told stands c reply).0.stands) (copier_in_sweep stands)
+sweep_like : {V : Type 0} (c : Sweep) (reply : MachineReply V) (stands : Sweeping) → c.stands ≡ stands → IsLike (copier_in_sweep (sweep_with_reply stands c reply).0.stands) (copier_in_sweep stands)
 sweep_like c reply (sweeping.Asks word) here = inr (tt, told_fresh c word here reply)
 sweep_like c reply _ here = inl (ap copier_in_sweep here)
 
@@ -146,7 +146,7 @@ module _ {K V : Type 0} where
   copier_is (Counting sum) = refl
   copier_is (OverAll o) = refl
 
-  key_like : (c : KeyCall K V K) (reply : MachineReply V) (stands : Calling) → c.stands ≡ stands → IsLike (copier_in (told_at stands c reply).0.stands) (copier_in stands)
+  key_like : (c : KeyCall K V K) (reply : MachineReply V) (stands : Calling) → c.stands ≡ stands → IsLike (copier_in (replied_at stands c reply).0.stands) (copier_in stands)
   key_like c reply (at.Asks about) here = inr (tt, reply_fresh c about here reply)
   key_like c reply _ here = inl (ap copier_in here)
 
@@ -180,12 +180,12 @@ module _ {K V : Type 0} where
   stopped_like true u is o here = inr (subst IsIdleCopier (sym (ap copier_then here ∙ ready_none u is)) tt, tt)
 
 -- before all events no map stands
-pub ends_begin : (K V : Type 0) (roots : ℕ) → ShowsEnds {K = K} {V = V} (at_first roots)
+pub ends_begin : (K V : Type 0) (roots : ℕ) → MapsHaveEnds {K = K} {V = V} (at_first roots)
 ends_begin K V roots map st is = absurd (cc is)
 
-module _ {K V : Type 0} (s : Scene K V) (ends : ShowsEnds s) (map i : ℕ) where
+module _ {K V : Type 0} (s : Scene K V) (ends : MapsHaveEnds s) (map i : ℕ) where
   -- a call begins, by a caller whose name no call has
-  pub calls_begin_ends : (name : ℕ → List ℕ) → NoneNamed name (name i) s → (u : UnderWay K V K) → copier_of u ≡ None → ShowsEnds (scene_with map i u s)
+  pub calls_begin_ends : (name : ℕ → List ℕ) → NoneNamed name (name i) s → (u : UnderWay K V K) → copier_of u ≡ None → MapsHaveEnds (scene_with map i u s)
   calls_begin_ends name none u within =
       call_like s ends map i (Some u) (inr (subst (λ (o : Option (UnderWay K V K)). IsIdleCopier (copier_then o)) (sym (nobody (s.calls map i) refl)) tt, subst IsFreshCopier (sym within) tt))
     where
@@ -195,16 +195,16 @@ module _ {K V : Type 0} (s : Scene K V) (ends : ShowsEnds s) (map i : ℕ) where
 
   module _ (u : UnderWay K V K) (here : s.calls map i ≡ Some u) where
     -- one goes on by what it is told
-    pub calls_take_ends : (reply : MachineReply V) (next : UnderWay K V K) → machine_of next ≡ (machine_replied (machine_of u) reply).0 → ShowsEnds (scene_with map i next s)
+    pub calls_take_ends : (reply : MachineReply V) (next : UnderWay K V K) → machine_of next ≡ (machine_replied (machine_of u) reply).0 → MapsHaveEnds (scene_with map i next s)
     calls_take_ends reply next next_is =
         call_like s ends map i (Some next) (goes_like u next (s.calls map i) here (machine_replied (machine_of u) reply).0 next_is (replied_like (machine_of u) reply))
 
     -- a walk goes on to its next pair,
-    pub walks_go_on_ends : (next : UnderWay K V K) → machine_of next ≡ (machine_asked (machine_of u)).0 → ShowsEnds (scene_with map i next s)
+    pub walks_go_on_ends : (next : UnderWay K V K) → machine_of next ≡ (machine_asked (machine_of u)).0 → MapsHaveEnds (scene_with map i next s)
     walks_go_on_ends next next_is = call_like s ends map i (Some next) (goes_like u next (s.calls map i) here (machine_asked (machine_of u)).0 next_is (asked_like (machine_of u)))
 
     -- and is given up
-    pub walks_stop_ends : (stopped : Bool) → stopped ≡ (machine_asked (machine_of u)).1 → ShowsEnds (record s { calls = with_in s.calls map i (unless_stopped stopped u) })
+    pub walks_stop_ends : (stopped : Bool) → stopped ≡ (machine_asked (machine_of u)).1 → MapsHaveEnds (record s { calls = with_in s.calls map i (unless_stopped stopped u) })
     walks_stop_ends stopped is = call_like s ends map i (unless_stopped stopped u) (stopped_like stopped u is (s.calls map i) here)
 
 -- a new map has one table at most
@@ -221,15 +221,15 @@ few_have false c calls few none = record {
   spent = λ k x is. absurd (let nobody = none k in cc (is, nobody));
 }
 
-module _ {K V : Type 0} (same : K → K → Bool) (hash : ℕ → K → ℕ) (s : Scene K V) (ends : ShowsEnds s) (old new : Held K V) where
+module _ {K V : Type 0} (same : K → K → Bool) (hash : ℕ → K → ℕ) (s : Scene K V) (ends : MapsHaveEnds s) (old new : Held K V) where
   -- a row on a slot begins, and takes its steps
-  pub rows_leave_ends : (event : Event (Node K V)) (happened : HappensAt same hash event s old new) → ShowsEnds (scene_then same hash event s old new happened)
+  pub rows_leave_ends : (event : Event (Node K V)) (happened : HappensAt same hash event s old new) → MapsHaveEnds (scene_then same hash event s old new happened)
   rows_leave_ends event happened =
       maps_stay s ends (scene_then same hash event s old new happened) (λ n st is. stood_so (s.maps n) (happened.2 n) (happened.3 n) st is) refl
 
   -- a map is made
-  pub makings_keep_ends : (i : ℕ) (b : Beginning K) → ((k : ℕ) → s.calls b.map k ≡ None) → (opening : NewMap) (w2 : World (Node K V)) (said : Advance Setting) (comes : MakingComesTo same hash s old new i b opening w2 said)
-      → ShowsEnds (making_after same hash s old new i b opening w2 said comes)
+  pub makings_keep_ends : (i : ℕ) (b : Beginning K) → ((k : ℕ) → s.calls b.map k ≡ None) → (opening : NewMap) (w2 : World (Node K V)) (said : Advance Setting) (comes : MakingHasOutcome same hash s old new i b opening w2 said)
+      → MapsHaveEnds (making_after same hash s old new i b opening w2 said comes)
   makings_keep_ends i b none opening w2 progress.Goes comes = ends
   makings_keep_ends i b none opening w2 progress.Waits comes = ends
   makings_keep_ends i b none opening w2 (progress.Done setting) comes = λ n st is. elim (cases_eq n b.map) as (λ _. HaveEndsIn (is_incremental st.setting.mode) st.chart (s.calls n)) [
@@ -242,14 +242,14 @@ module _ {K V : Type 0} (same : K → K → Bool) (hash : ℕ → K → ℕ) (s 
   makings_keep_ends i b none opening w2 (progress.Refused fault) comes = ends
 
   -- and one ends
-  pub endings_keep_ends : (i : ℕ) (f : Finishing K V) (ending : EndMap) (w2 : World (Node K V)) (deed : Deed) (said : Settled (Node K V)) (comes : EndingComesTo same hash s new i f ending w2 deed said)
-      → ShowsEnds (ending_after same hash s new i f ending w2 deed said comes)
+  pub endings_keep_ends : (i : ℕ) (f : Finishing K V) (ending : EndMap) (w2 : World (Node K V)) (deed : Deed) (said : Settled (Node K V)) (comes : EndingHasOutcome same hash s new i f ending w2 deed said)
+      → MapsHaveEnds (ending_after same hash s new i f ending w2 deed said comes)
   endings_keep_ends i f ending w2 deed settled.Goes comes = ends
   endings_keep_ends i f ending w2 deed settled.Waits comes = ends
   endings_keep_ends i f ending w2 deed (settled.Gave value) comes = ends
   endings_keep_ends i f ending w2 deed settled.Done comes = ends
 
-pub endings_begin_ends : {K V : Type 0} (s : Scene K V) → ShowsEnds s → (map i : ℕ) (standing : Standing K) → ShowsEnds (ending_begun map i standing s)
+pub endings_begin_ends : {K V : Type 0} (s : Scene K V) → MapsHaveEnds s → (map i : ℕ) (standing : Standing K) → MapsHaveEnds (ending_begun map i standing s)
 endings_begin_ends s ends map i standing n st is = elim (cases_eq n map) as (λ _. HaveEndsIn (is_incremental st.setting.mode) st.chart (s.calls n)) [
   | inl e ↦ absurd (let none = sym (at_same s.maps map None n e) ∙ is in cc none)
   | inr ne ↦ ends n st (sym (at_other s.maps map None n ne) ∙ is)

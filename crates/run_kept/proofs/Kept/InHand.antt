@@ -50,13 +50,13 @@ use Rattle.run_shows.proofs.Follows.Onward.{IsOfMap}
 use Rattle.run_shows.proofs.Follows.Told.{roomed_as_many}
 use Rattle.run_shows.specs.Others.Makings.{WasNew}
 use Rattle.run_shows.proofs.Others.RowPlans.{TellsRow, row_tells}
-use Rattle.run_executor.specs.Given.MomentsWhole.{ShowsWhole}
+use Rattle.run_executor.specs.Given.MomentsWhole.{RefinesWhole}
 use Rattle.run_blocks.proofs.Owes.Lasting.{IsAside, ending_says, ending_spares}
 use Rattle.run_blocks.specs.Given.SettlesDue.{due_in_settle, due_in_defer}
-use Rattle.run_blocks.specs.Given.SettlesHand.{HoldsInHand, IsPairRole, IsTableRole, IsPairAt, IsTableAt, IsSameRole, NotesInHand, SameInHand}
+use Rattle.run_blocks.specs.Given.SettlesHand.{HoldsOfPending, IsPairRole, IsTableRole, IsPairAt, IsTableAt, IsSameRole, NotesPending, SamePending}
 use Rattle.run_blocks.proofs.Given.SettlesHand.Held.{IsTakenOut, IsDueBlock, IsHeld, HeldOut, HeldByRow, Held as HeldBy, due_of_row, held_in_hand}
 use Rattle.run_blocks.proofs.Given.SettlesHand.Roles.{hand_both}
-use Rattle.run_waiting.specs.Lives.Retired.{IsDue, IsToRetire, ShowsRetired}
+use Rattle.run_waiting.specs.Lives.Retired.{IsPendingRetirement, IsToRetire, RefinesRetiredTables}
 use Rattle.run_waiting.proofs.Lives.Makings.{role_kept}
 use Rattle.run_waiting.proofs.Lives.Reclaimed.{leaves, none_to_retire, there}
 use Rattle.run_waiting.proofs.Lives.Retires.{given_hand, row_life}
@@ -72,7 +72,7 @@ use Rattle.run_shows.specs.Scenes.Scene.{IsOnSlot, Scene, slot_of}
 
 -- what a row is to retire, or to put behind another block
 
-settle_due : (b : ℕ) (c : Settle) (p : Settling) → IsDueBlock b (due_in_settle c p) → IsDue b (due_in_settle c p)
+settle_due : (b : ℕ) (c : Settle) (p : Settling) → IsDueBlock b (due_in_settle c p) → IsPendingRetirement b (due_in_settle c p)
 settle_due b c settling.Sees due = due
 settle_due b c settling.Holds due = due
 settle_due b c settling.Pops due = due
@@ -151,7 +151,7 @@ not_over h j (inl out) is = subst IsTakenOut is out
 not_over h j (inr handed) is = cc (handed, is)
 
 module _ {K V : Type 0} (same : K → K → Bool) (hash : ℕ → K → ℕ) (name : ℕ → List ℕ) (m : Moment K V) (known : Known) (s : Scene K V) (old new : Held K V) (at : IsAt same hash old s)
-    (whole : ShowsWhole same name m known s) (retired : ShowsRetired m known s) where
+    (whole : RefinesWhole same name m known s) (retired : RefinesRetiredTables m known s) where
   abbrev w : World (Node K V)
   w = s.world
 
@@ -166,7 +166,7 @@ module _ {K V : Type 0} (same : K → K → Bool) (hash : ℕ → K → ℕ) (na
 
   -- of a call
   module _ (map j : ℕ) (u : UnderWay K V K) (call : s.calls map j ≡ Some u) where
-    holds : HoldsInHand (HeldBy w j) (HeldBy w j) (machine_of u)
+    holds : HoldsOfPending (HeldBy w j) (HeldBy w j) (machine_of u)
     holds =
         let its_map = standing_is same hash old s at map j u call in
         let st = its_map.0 in
@@ -177,7 +177,7 @@ module _ {K V : Type 0} (same : K → K → Bool) (hash : ℕ → K → ℕ) (na
         u ((at.together.makings.standing.each map st its_map.1).stand j u call)
 
     -- blocks that are held, and noted as pairs and tables, are what they were where this is so of each such block
-    in_hand_so : (known2 : Known) → ((b : ℕ) → IsHeld w j b → IsOfMap (known.roles b) → known2.roles b ≡ known.roles b) → NotesInHand known (machine_of u) → SameInHand known known2 (machine_of u)
+    in_hand_so : (known2 : Known) → ((b : ℕ) → IsHeld w j b → IsOfMap (known.roles b) → known2.roles b ≡ known.roles b) → NotesPending known (machine_of u) → SamePending known known2 (machine_of u)
     in_hand_so known2 each noted =
         hand_both (IsPairAt known) (HeldBy w j) (IsSameRole known known2) (IsTableAt known) (HeldBy w j) (IsSameRole known known2)
         (λ b is held. each b held (pair_of_map (known.roles b) is)) (λ b is held. each b held (table_of_map (known.roles b) is)) (machine_of u) noted holds
@@ -227,7 +227,7 @@ module _ {K V : Type 0} (same : K → K → Bool) (hash : ℕ → K → ℕ) (na
     row_role j b held (changed.Took x) e is = put_elsewhere x role.Free known.roles b (λ one. untaken j b held (e ∙ ap changed.Took (sym one)))
     row_role j b held (changed.Roomed bucket had) e is = ap (λ (f : ℕ → Role). f b) (roomed_as_many acts.Row known bucket had).0
 
-    pub rows_leave_in_hand : (map j : ℕ) (u : UnderWay K V K) → s.calls map j ≡ Some u → NotesInHand known (machine_of u) → SameInHand known (known_after acts.Row told known) (machine_of u)
+    pub rows_leave_in_hand : (map j : ℕ) (u : UnderWay K V K) → s.calls map j ≡ Some u → NotesPending known (machine_of u) → SamePending known (known_after acts.Row told known) (machine_of u)
     rows_leave_in_hand map j u call noted =
         let to = leads row here in
         in_hand_so map j u call (known_after acts.Row told known)
@@ -235,14 +235,14 @@ module _ {K V : Type 0} (same : K → K → Bool) (hash : ℕ → K → ℕ) (na
 
   -- the making of a map
   pub makings_leave_in_hand : (i : ℕ) (said : Advance Setting) (leads : MakingLeads same hash i said s old new) (b : Beginning K) (here : s.makers i ≡ Some b) (of : Option ℕ) → WasNew b.map said m
-      → (map j : ℕ) (u : UnderWay K V K) → s.calls map j ≡ Some u → NotesInHand known (machine_of u) → SameInHand known (known_after (acts.Making b.map) told known) (machine_of u)
+      → (map j : ℕ) (u : UnderWay K V K) → s.calls map j ≡ Some u → NotesPending known (machine_of u) → SamePending known (known_after (acts.Making b.map) told known) (machine_of u)
   makings_leave_in_hand i said leads b here of was_new map j u call noted =
       in_hand_so map j u call (known_after (acts.Making b.map) told known)
       (λ x held its_map. role_kept same hash name m known s old new at whole i said leads b here of was_new x (known.roles x) refl its_map) noted
 
   -- the end of a map, that does not stand then
   pub endings_leave_in_hand : (i : ℕ) (said : Settled (Node K V)) (leads : EndingLeads same hash i said s old new) (f : Finishing K V) (here : s.enders i ≡ Some f) (ended : ℕ) → s.maps ended ≡ None
-      → (map j : ℕ) (u : UnderWay K V K) → s.calls map j ≡ Some u → NotesInHand known (machine_of u) → SameInHand known (known_after (acts.Ending ended) told known) (machine_of u)
+      → (map j : ℕ) (u : UnderWay K V K) → s.calls map j ≡ Some u → NotesPending known (machine_of u) → SamePending known (known_after (acts.Ending ended) told known) (machine_of u)
   endings_leave_in_hand i said leads f here ended not_there map j u call noted = in_hand_so map j u call (known_after (acts.Ending ended) told known) each noted
     where
       aside : (b : ℕ) → IsHeld w j b → IsOfMap (known.roles b) → IsAside w b

@@ -39,9 +39,9 @@ use Rattle.run_blocks.proofs.Given.SettlesBetween.{stays_counts, effects_leave_c
 use Rattle.run_blocks.proofs.Given.SettlesEntryScenes.{rows_begin_entries, rows_keep_entries, makings_keep_entries, endings_begin_entries, endings_keep_entries}
 use Rattle.run_blocks.proofs.Given.SettlesHand.Between.{stays_owed, effects_leave_owed}
 use Rattle.run_blocks.proofs.Given.SettlesHanding.{others_leave_handing}
-use Rattle.run_waiting.specs.Lives.Behind.{ShowsWaiting, WaitsOnce}
-use Rattle.run_waiting.specs.Lives.Lying.{ShowsLying}
-use Rattle.run_waiting.specs.Lives.Order.{ShowsOrder}
+use Rattle.run_waiting.specs.Lives.Behind.{RefinesWaiting, WaitsOnce}
+use Rattle.run_waiting.specs.Lives.Lying.{RefinesLying}
+use Rattle.run_waiting.specs.Lives.Order.{RefinesOrder}
 use Rattle.run_waiting.proofs.Lives.HandedEnds.{endings_keep_handed}
 use Rattle.run_waiting.proofs.Lives.HandedMakings.{makings_keep_handed}
 use Rattle.run_waiting.proofs.Lives.HandedRows.{endings_begin_handed, others_leave_handed, rows_begin_handed, rows_keep_handed}
@@ -59,41 +59,41 @@ use Rattle.run_waiting.proofs.Lives.RetiredCalls.{makings_keep_retired}
 use Rattle.run_waiting.proofs.Lives.RetiredEnds.{endings_keep_retired}
 use Rattle.run_waiting.proofs.Lives.Waiting.{endings_begin_waiting, rows_begin_waiting, rows_keep_waiting, rows_find_waiting}
 use Rattle.run_waiting.proofs.Lives.WaitingEnds.{endings_keep_waiting, once_then}
-use Rattle.run_kept.specs.Kept.Steps.{RowsBeginKept, RowsKeepKept, RowsFindKept, MakingsKeepKept, EndingsBeginKept, EndingsKeepKept, EndingsFindKept}
+use Rattle.run_kept.specs.Kept.Steps.{RowsBeginKept, RowsPreserveKept, RowsFindKept, MakingsPreserveKept, EndingsBeginKept, EndingsPreserveKept, EndingsFindKept}
 use Rattle.run_kept.proofs.Kept.Calls.{own_made}
 use Rattle.run_kept.proofs.Kept.Ends.{endings_begin_ends, endings_keep_ends, makings_keep_ends, rows_leave_ends}
 use Rattle.run_kept.proofs.Kept.InHand.{rows_leave_in_hand, makings_leave_in_hand, endings_leave_in_hand}
 use Rattle.run_kept.proofs.Kept.Stays.{calls_same, entries_stay, same_in_hand}
-use Rattle.run_shows.specs.Scenes.Ending.{EndingComesTo, ending_begun}
+use Rattle.run_shows.specs.Scenes.Ending.{EndingHasOutcome, ending_begun}
 use Rattle.run_shows.specs.Scenes.Held.{Held}
-use Rattle.run_shows.specs.Scenes.Making.{MakingComesTo}
+use Rattle.run_shows.specs.Scenes.Making.{MakingHasOutcome}
 use Rattle.run_shows.specs.Scenes.Rows.{request_of}
 use Rattle.run_shows.specs.Scenes.Scene.{Scene, slot_of}
 
 -- the calls and ends that are under way after a step of a making, and the calls after one of an end
 module _ {K V : Type 0} (same : K → K → Bool) (hash : ℕ → K → ℕ) (s : Scene K V) (old new : Held K V) (i : ℕ) where
-  making_calls : (b : Beginning K) (opening : NewMap) (w2 : World (Node K V)) (said : Advance Setting) (comes : MakingComesTo same hash s old new i b opening w2 said)
+  making_calls : (b : Beginning K) (opening : NewMap) (w2 : World (Node K V)) (said : Advance Setting) (comes : MakingHasOutcome same hash s old new i b opening w2 said)
       → (making_after same hash s old new i b opening w2 said comes).calls ≡ s.calls
   making_calls b opening w2 progress.Goes comes = refl
   making_calls b opening w2 progress.Waits comes = refl
   making_calls b opening w2 (progress.Done setting) comes = refl
   making_calls b opening w2 (progress.Refused fault) comes = refl
 
-  making_enders : (b : Beginning K) (opening : NewMap) (w2 : World (Node K V)) (said : Advance Setting) (comes : MakingComesTo same hash s old new i b opening w2 said)
+  making_enders : (b : Beginning K) (opening : NewMap) (w2 : World (Node K V)) (said : Advance Setting) (comes : MakingHasOutcome same hash s old new i b opening w2 said)
       → (making_after same hash s old new i b opening w2 said comes).enders ≡ s.enders
   making_enders b opening w2 progress.Goes comes = refl
   making_enders b opening w2 progress.Waits comes = refl
   making_enders b opening w2 (progress.Done setting) comes = refl
   making_enders b opening w2 (progress.Refused fault) comes = refl
 
-  ending_calls : (f : Finishing K V) (ending : EndMap) (w2 : World (Node K V)) (deed : Deed) (said : Settled (Node K V)) (comes : EndingComesTo same hash s new i f ending w2 deed said)
+  ending_calls : (f : Finishing K V) (ending : EndMap) (w2 : World (Node K V)) (deed : Deed) (said : Settled (Node K V)) (comes : EndingHasOutcome same hash s new i f ending w2 deed said)
       → (ending_after same hash s new i f ending w2 deed said comes).calls ≡ s.calls
   ending_calls f ending w2 deed settled.Goes comes = refl
   ending_calls f ending w2 deed settled.Waits comes = refl
   ending_calls f ending w2 deed (settled.Gave value) comes = refl
   ending_calls f ending w2 deed settled.Done comes = refl
 
-  ending_world : (f : Finishing K V) (ending : EndMap) (w2 : World (Node K V)) (deed : Deed) (said : Settled (Node K V)) (comes : EndingComesTo same hash s new i f ending w2 deed said)
+  ending_world : (f : Finishing K V) (ending : EndMap) (w2 : World (Node K V)) (deed : Deed) (said : Settled (Node K V)) (comes : EndingHasOutcome same hash s new i f ending w2 deed said)
       → (ending_after same hash s new i f ending w2 deed said comes).world ≡ w2
   ending_world f ending w2 deed settled.Goes comes = refl
   ending_world f ending w2 deed settled.Waits comes = absurd comes
@@ -125,7 +125,7 @@ module _ (K V : Type 0) (same : K → K → Bool) (hash : ℕ → K → ℕ) whe
       t : Scene K V
       t = scene_then same hash (Begin i (request_of (slot_of i) called)) s old new leads.2
 
-  pub rows_keep_kept : RowsKeepKept K V same hash
+  pub rows_keep_kept : RowsPreserveKept K V same hash
   rows_keep_kept name m known s old new at whole kept i said leads row here = record {
     entries = rows_keep_entries K V same hash s old new at kept.entries i said leads row here;
     made = (rows_keep_made K V same hash name m known s old new at whole.all.shown kept.made i said leads row here).1;
@@ -163,7 +163,7 @@ module _ (K V : Type 0) (same : K → K → Bool) (hash : ℕ → K → ℕ) whe
     rows_find_waiting K V same hash m known s old new kept.waiting i said leads row here,
   )
 
-  pub makings_keep_kept : MakingsKeepKept K V same hash
+  pub makings_keep_kept : MakingsPreserveKept K V same hash
   makings_keep_kept name m known s old new at whole kept i said leads b here of was_new at2 shows2 = record {
     entries = entries_stay stepped led (makings_keep_entries K V same hash s old new at kept.entries i said leads b here) world calls;
     made = (makings_keep_made K V same hash name m known s old new at whole.all.shown kept.made i said leads b here of).1;
@@ -175,11 +175,11 @@ module _ (K V : Type 0) (same : K → K → Bool) (hash : ℕ → K → ℕ) whe
     owed = effects_leave_owed K V name m known known2 s led kept.owed calls
         (λ map j u is. makings_leave_in_hand same hash name m known s old new at whole kept.retired i said leads b here of was_new map j u is (kept.owed.noted map j u is)) of effects;
     handing = others_leave_handing K V same hash name m v known s led old new at at2 kept.owed kept.handing (calls_none of effects m) calls;
-    waiting = subst (ShowsWaiting v known2) (sym world) (makings_keep_waiting K V same hash name m known s old new at whole kept.waiting i said leads b here of was_new);
+    waiting = subst (RefinesWaiting v known2) (sym world) (makings_keep_waiting K V same hash name m known s old new at whole kept.waiting i said leads b here of was_new);
     once = subst WaitsOnce (sym (apart same hash name m known s old new at whole i said leads b here of was_new).0) kept.once;
-    lying = subst (ShowsLying v known2) (sym world)
+    lying = subst (RefinesLying v known2) (sym world)
         (makings_keep_lying K V same hash name m known s old new at whole (own_made K V same hash name m known s old at whole kept) kept.lying i said leads b here of was_new);
-    order = subst (ShowsOrder v known2) (sym world)
+    order = subst (RefinesOrder v known2) (sym world)
         (makings_keep_order K V same hash name m known s old new at whole (own_made K V same hash name m known s old at whole kept) kept.waiting kept.order i said leads b here of was_new);
     retired = others_leave_retired K V v v known2 stepped led
         (makings_keep_retired K V same hash name m known s old new at whole (own_made K V same hash name m known s old at whole kept) kept.retired i said leads b here of was_new) refl world
@@ -237,7 +237,7 @@ module _ (K V : Type 0) (same : K → K → Bool) (hash : ℕ → K → ℕ) whe
       t : Scene K V
       t = ending_begun map i standing s
 
-  pub endings_keep_kept : EndingsKeepKept K V same hash
+  pub endings_keep_kept : EndingsPreserveKept K V same hash
   endings_keep_kept name m known s old new at whole kept i said leads f here map not_there at2 = record {
     entries = entries_stay stepped led (endings_keep_entries K V same hash s old new at kept.entries i said leads f here) world calls;
     made = (endings_keep_made K V same hash name m known s old new at whole.all.shown kept.made i said leads f here map not_there).1;

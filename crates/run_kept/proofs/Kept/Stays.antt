@@ -17,17 +17,17 @@ use Rattle.run_blocks.proofs.Owes.Short.Between.{short_begins, stays_short, call
 use Rattle.run_blocks.proofs.Owes.Grown.Between.{grown_begins, stays_grown, calls_come_to_grown}
 use Rattle.run_blocks.proofs.Owes.Tables.Aside.{tables_begin, stays_tables, makings_begin_tables}
 use Rattle.run_blocks.proofs.Owes.Tables.Between.{calls_come_to_tables}
-use Rattle.run_blocks.specs.Given.SettlesEntries.{IsSomebodys, IsBlank, RetiresOne, ShowsEntries}
-use Rattle.run_blocks.specs.Given.SettlesHand.{SameInHand, ShowsOwed}
-use Rattle.run_blocks.specs.Given.SettlesHanding.{HandsTold}
+use Rattle.run_blocks.specs.Given.SettlesEntries.{IsSomebodys, IsBlank, RetiresOne, EntriesAreBlank}
+use Rattle.run_blocks.specs.Given.SettlesHand.{SamePending, RefinesObligations}
+use Rattle.run_blocks.specs.Given.SettlesHanding.{RowsAreHandingOver}
 use Rattle.run_blocks.proofs.Given.SettlesBetween.{counts_begin, stays_counts, calls_come_to_counts}
 use Rattle.run_blocks.proofs.Given.SettlesEntryScenes.{entries_begin}
 use Rattle.run_blocks.proofs.Given.SettlesHand.Between.{owed_begins, stays_owed, calls_come_to_owed}
 use Rattle.run_blocks.proofs.Given.SettlesHand.Roles.{hand_kept}
 use Rattle.run_blocks.proofs.Given.SettlesHanding.{handing_begins, calls_come_to_handing}
-use Rattle.run_waiting.specs.Lives.Behind.{ShowsWaiting, WaitsOnce}
-use Rattle.run_waiting.specs.Lives.Lying.{ShowsLying}
-use Rattle.run_waiting.specs.Lives.Order.{ShowsOrder}
+use Rattle.run_waiting.specs.Lives.Behind.{RefinesWaiting, WaitsOnce}
+use Rattle.run_waiting.specs.Lives.Lying.{RefinesLying}
+use Rattle.run_waiting.specs.Lives.Order.{RefinesOrder}
 use Rattle.run_waiting.proofs.Lives.HandedRows.{handed_begins, others_leave_handed}
 use Rattle.run_waiting.proofs.Lives.LeftTables.{left_begins, others_keep_left}
 use Rattle.run_waiting.proofs.Lives.Lying.{lying_begins, others_leave_lying}
@@ -61,7 +61,7 @@ begins_kept K V roots name = record {
 
 module _ {K V : Type 0} where
   -- entries, by the world and its calls
-  pub entries_stay : (s t : Scene K V) → ShowsEntries s → t.world ≡ s.world → t.calls ≡ s.calls → ShowsEntries t
+  pub entries_stay : (s t : Scene K V) → EntriesAreBlank s → t.world ≡ s.world → t.calls ≡ s.calls → EntriesAreBlank t
   entries_stay s t entries world calls = record {
     blank = λ b its. subst (λ (x : World (Node K V)). IsBlank x.memory b) (sym world) (entries.blank b (subst (λ (x : World (Node K V)). IsSomebodys (x.hand b)) world its));
     one = λ map i u is.
@@ -73,11 +73,11 @@ module _ {K V : Type 0} where
   calls_same s t calls j has = (has.0, has.1, ap (λ (f : ℕ → ℕ → Option (UnderWay K V K)). f has.0 j) calls ∙ has.2)
 
   -- what calls have in hand is what it was with the same notes
-  pub same_in_hand : (name : ℕ → List ℕ) (m : Moment K V) (known : Known) (s : Scene K V) → ShowsOwed name m known s
-      → (map i : ℕ) (u : UnderWay K V K) → s.calls map i ≡ Some u → SameInHand known known (machine_of u)
+  pub same_in_hand : (name : ℕ → List ℕ) (m : Moment K V) (known : Known) (s : Scene K V) → RefinesObligations name m known s
+      → (map i : ℕ) (u : UnderWay K V K) → s.calls map i ≡ Some u → SamePending known known (machine_of u)
   same_in_hand name m known s owed map i u is = hand_kept known known (λ b lasts. refl) (machine_of u) (owed.noted map i u is)
 
-  handing_stays : (name : ℕ → List ℕ) (m v : Moment K V) (s t : Scene K V) → HandsTold name m s → v.calls ≡ m.calls → t.world ≡ s.world → t.calls ≡ s.calls → HandsTold name v t
+  handing_stays : (name : ℕ → List ℕ) (m v : Moment K V) (s t : Scene K V) → RowsAreHandingOver name m s → v.calls ≡ m.calls → t.world ≡ s.world → t.calls ≡ s.calls → RowsAreHandingOver name v t
   handing_stays name m v s t handing listed world calls map i u is busy c c_is =
       handing map i u (ap (λ (f : ℕ → ℕ → Option (UnderWay K V K)). f map i) (sym calls) ∙ is) (λ rests. busy (ap (λ (x : World (Node K V)). x.row i) world ∙ rests)) c
       (ap (λ (l : List (CallThere K V)). find (λ y. is_same y.caller (name i)) l) (sym listed) ∙ c_is)
@@ -93,10 +93,10 @@ stays_kept K V name m v known s t kept listed tables deferred place world calls 
   counts = stays_counts K V name m v s t kept.counts listed calls;
   owed = stays_owed K V name m v known known s t kept.owed listed calls (same_in_hand name m known s kept.owed);
   handing = handing_stays name m v s t kept.handing listed world calls;
-  waiting = subst (ShowsWaiting v known) (sym world) (others_leave_waiting K V m v known s.world kept.waiting deferred place);
+  waiting = subst (RefinesWaiting v known) (sym world) (others_leave_waiting K V m v known s.world kept.waiting deferred place);
   once = subst WaitsOnce (sym deferred) kept.once;
-  lying = subst (ShowsLying v known) (sym world) (others_leave_lying K V m v known s.world kept.lying deferred);
-  order = subst (ShowsOrder v known) (sym world) (others_leave_order K V m v known s.world kept.order deferred);
+  lying = subst (RefinesLying v known) (sym world) (others_leave_lying K V m v known s.world kept.lying deferred);
+  order = subst (RefinesOrder v known) (sym world) (others_leave_order K V m v known s.world kept.order deferred);
   retired = others_leave_retired K V m v known s t kept.retired tables world (λ j has. inl (calls_same s t calls j has));
   left = others_keep_left K V known s t kept.left world enders;
   handed = others_leave_handed K V m v known s t kept.handed place deferred tables world (λ j has. inl (calls_same s t calls j has));

@@ -6,9 +6,9 @@ use Rattle.run_blocks.proofs.Given.WaitersBeginsSweeps.{quiet_none}
 use Rattle.run_blocks.proofs.Given.WaitersLikes.{IsFreshCopier}
 use Rattle.run_schedules.specs.Given.SeizeWordsDeclared.fault.Fault.TheVariants.{RemoveNothing}
 use Rattle.papaya_raw.specs.Given.TablesDeclared.marks.TheConstants.{TOMBSTONE}
-use Rattle.papaya_raw.specs.CallAsks.{absent_told, present_told, told_at, with_absent, with_present}
+use Rattle.papaya_raw.specs.CallAsks.{absent_replied, present_replied, replied_at, with_absent, with_present}
 use Rattle.papaya_raw.specs.CallPoints.{at_gap, burying, ending, going, over, storing}
-use Rattle.papaya_raw.specs.Machine.{sweep_told}
+use Rattle.papaya_raw.specs.Machine.{sweep_with_reply}
 use Rattle.papaya_raw.specs.declared.machines.answer.End.{End}
 use Rattle.papaya_raw.specs.declared.machines.answer.End.TheVariants as ends
 use Rattle.papaya_raw.specs.declared.machines.answer.KeyAnswer.TheVariants as answers
@@ -60,14 +60,14 @@ module _ {K V : Type 0} where
   gap_fresh gaps.Past c = tt
   gap_fresh gaps.Last c = tt
 
-  absent_fresh : (takes : Takes) (c : KeyCall K V K) (gap : Gap) → c.stands ≡ at.Asks (asking.Absent gap) → (reply : MachineReply V) → IsFreshCopier (copier_in (absent_told takes c gap reply).0.stands)
+  absent_fresh : (takes : Takes) (c : KeyCall K V K) (gap : Gap) → c.stands ≡ at.Asks (asking.Absent gap) → (reply : MachineReply V) → IsFreshCopier (copier_in (absent_replied takes c gap reply).0.stands)
   absent_fresh takes.Values c gap here (replies.Insert value) = gap_fresh gap (with_absent c value)
   absent_fresh takes.Changes c gap here (replies.Insert value) = gap_fresh gap (with_absent c value)
   absent_fresh takes.Changes c gap here replies.Remove = ending_fresh c (ends.Refused RemoveNothing)
   absent_fresh takes.Changes c gap here replies.Abort = ending_fresh c (ends.Answered answers.Absent)
   absent_fresh _ c gap here _ = still_fresh c (asking.Absent gap) here
 
-  present_fresh : (takes : Takes) (c : KeyCall K V K) (word : ℕ) → c.stands ≡ at.Asks (asking.Present word) → (reply : MachineReply V) → IsFreshCopier (copier_in (present_told takes c word reply).0.stands)
+  present_fresh : (takes : Takes) (c : KeyCall K V K) (word : ℕ) → c.stands ≡ at.Asks (asking.Present word) → (reply : MachineReply V) → IsFreshCopier (copier_in (present_replied takes c word reply).0.stands)
   present_fresh takes.Values c word here (replies.Insert value) = tt
   present_fresh takes.Changes c word here (replies.Insert value) = tt
   present_fresh takes.Changes c word here replies.Remove = burying_fresh (with_present c word tells.Removes) word
@@ -76,7 +76,7 @@ module _ {K V : Type 0} where
   present_fresh takes.Choices c word here replies.No = ending_fresh c (ends.Answered (answers.Found word))
   present_fresh _ c word here _ = still_fresh c (asking.Present word) here
 
-  pub reply_fresh : (c : KeyCall K V K) (about : Asking) → c.stands ≡ at.Asks about → (reply : MachineReply V) → IsFreshCopier (copier_in (told_at (at.Asks about) c reply).0.stands)
+  pub reply_fresh : (c : KeyCall K V K) (about : Asking) → c.stands ≡ at.Asks about → (reply : MachineReply V) → IsFreshCopier (copier_in (replied_at (at.Asks about) c reply).0.stands)
   reply_fresh c (asking.Absent gap) here reply = absent_fresh c.replies.takes c gap here reply
   reply_fresh c (asking.Present word) here reply = present_fresh c.replies.takes c word here reply
   reply_fresh c (asking.Fills word) here reply = still_fresh c (asking.Fills word) here
@@ -86,7 +86,7 @@ module _ {K V : Type 0} where
 further_fresh : (c : Sweep) → IsFreshCopier (copier_in_sweep (further c).stands)
 further_fresh c = subst IsFreshCopier (sym (quiet_none (further c).stands (quiet_further c))) tt
 
-pub told_fresh : {V : Type 0} (c : Sweep) (word : ℕ) → c.stands ≡ sweeping.Asks word → (reply : MachineReply V) → IsFreshCopier (copier_in_sweep (sweep_told (sweeping.Asks word) c reply).0.stands)
+pub told_fresh : {V : Type 0} (c : Sweep) (word : ℕ) → c.stands ≡ sweeping.Asks word → (reply : MachineReply V) → IsFreshCopier (copier_in_sweep (sweep_with_reply (sweeping.Asks word) c reply).0.stands)
 told_fresh c word here replies.Yes = subst (λ (p : Sweeping). IsFreshCopier (copier_in_sweep (reply_at p c true).stands)) (sym here) (further_fresh c)
 told_fresh c word here replies.No = subst (λ (p : Sweeping). IsFreshCopier (copier_in_sweep (reply_at p c false).stands)) (sym here) tt
 told_fresh c word here _ = subst (λ (p : Sweeping). IsFreshCopier (copier_in_sweep p)) (sym here) tt

@@ -15,7 +15,7 @@ use Rattle.run_effects.specs.Effects.Effects.{effects_of, known_after}
 use Rattle.run_effects.specs.Effects.Known.{Known}
 use Rattle.run_effects.specs.declared.acting.Acting.TheVariants.{Call}
 use Rattle.run_shows.proofs.Follows.Onward.{IsLasting, KeepsRoles}
-use Rattle.run_executor.specs.Given.MomentsWhole.{ShowsWhole}
+use Rattle.run_executor.specs.Given.MomentsWhole.{RefinesWhole}
 use Rattle.run_schedules.specs.Schedules.After.{moment}
 use Rattle.run_schedules.specs.Schedules.Beginning.{at_work}
 use Rattle.run_schedules.specs.Schedules.Model.{came, thing_back, number_in, handing, things_in, changes_by, left_last}
@@ -28,12 +28,12 @@ use Rattle.run_schedules.specs.declared.event.Event.TheVariants as event
 use Rattle.run_schedules.specs.declared.outcome.Outcome.{Outcome}
 use Rattle.run_schedules.specs.declared.effect.Thing.TheVariants.{APair, ATable}
 use Rattle.run_kept.specs.Models.Alike.{ChangesAlike}
-use Rattle.run_kept.specs.Models.CallEvents.{IsNoted, HasToldPart, things_then, IsInItsRow, FollowsInEvent, CallEventsBegin, CallEventsGoOn, CallEventsPause, IsOfNoSlot, slot_of_call, OthersHandOver}
+use Rattle.run_kept.specs.Models.CallEvents.{IsNoted, HasReportedPart, things_then, IsInItsRow, FollowsInEvent, CallEventsBegin, CallEventsContinue, CallEventsPause, IsOfNoSlot, slot_of_call, OthersHandOver}
 use Rattle.run_kept.specs.Models.Calls.{sets_on, FollowsInCall, EndsNone, EndNone}
-use Rattle.run_kept.specs.Models.Defers.{AreNoted, HasToldIt}
+use Rattle.run_kept.specs.Models.Defers.{AreNoted, HasReportedDefer}
 use Rattle.run_kept.specs.Models.Follows.{FollowsSets}
 use Rattle.run_kept.specs.Models.Numbers.{HasNumber, EachIsOnce, IsOfThings, AreOfThings, NotBack, NoneBack}
-use Rattle.run_kept.specs.Models.Retires.{HasToldSo}
+use Rattle.run_kept.specs.Models.Retires.{HasReportedRetire}
 use Rattle.run_kept.proofs.Models.Calls.{OneStep, one_step, no_or, no_row_rests, call_follows, row_begun, row_goes_on, own_keeps, row_keeps, kept_numbers, more_numbers, more_things_follow, rows_within_end}
 use Rattle.run_kept.proofs.Models.Defers as defers
 use Rattle.run_kept.proofs.Models.Defers.{defers_are_told}
@@ -139,15 +139,15 @@ module _ (known : Known) (things more : List Thing) (slot : ℕ) where
   put_more b t (d ∷ []) h = let it = h.0 in ((it.0, it.1, more_numbers known things more b it.0 it.2, more_numbers known things more t it.1 it.3, it.4), tt)
   put_more b t (d ∷ e ∷ l) h = absurd h.1
 
-  part_more : {K V : Type 0} (i : ℕ) (request : Request) (handed : List Change) (w : World (Node K V)) → HasToldPart things known slot i request handed w → HasToldPart (things ++ more) known slot i request handed w
+  part_more : {K V : Type 0} (i : ℕ) (request : Request) (handed : List Change) (w : World (Node K V)) → HasReportedPart things known slot i request handed w → HasReportedPart (things ++ more) known slot i request handed w
   part_more i (Retire s b) handed w (same, (k, has), told) = (same, (k, more_numbers known things more b k has), by told)
     where
-      by : HasToldSo things known i slot b handed w → HasToldSo (things ++ more) known i slot b handed w
+      by : HasReportedRetire things known i slot b handed w → HasReportedRetire (things ++ more) known i slot b handed w
       by (inl due) = inl due
       by (inr (past, alike)) = inr (past, one_more slot b handed alike)
   part_more i (Defer' s b t) handed w (noted, told) = (noted_more b t noted, by told)
     where
-      by : HasToldIt things known i b t handed w → HasToldIt (things ++ more) known i b t handed w
+      by : HasReportedDefer things known i b t handed w → HasReportedDefer (things ++ more) known i b t handed w
       by (inl due) = inl due
       by (inr (past, alike)) = inr (past, put_more b t handed alike)
   part_more i (Register' enters) handed w told = absurd told
@@ -180,7 +180,7 @@ call_events_begin K V batch_size roots things sets known w follows slot i = reco
 -- A step.
 
 module _ {K V : Type 0} (same : K → K → Bool) (hash : ℕ → K → ℕ) (name : ℕ → List ℕ) (m : Moment K V) (known : Known) (s : Scene K V) (old new : Held K V) (at : IsAt same hash old s)
-    (whole : ShowsWhole same name m known s) (map i : ℕ) (u : UnderWay K V K) (here : s.calls map i ≡ Some u) (told : Progress (Node K V)) (leads : StepLeads same hash i told s old new)
+    (whole : RefinesWhole same name m known s) (map i : ℕ) (u : UnderWay K V K) (here : s.calls map i ≡ Some u) (told : Progress (Node K V)) (leads : StepLeads same hash i told s old new)
     (once : EachIsOnce (known_after (Call i map) new.changed known)) (roots : ℕ) (things : List Thing) (sets : Sets) (slot : ℕ) (done : List Effect)
     (f : FollowsInEvent old.batch_size roots things sets slot i done known s.world) where
   abbrev w2 : World (Node K V)
@@ -232,11 +232,11 @@ module _ {K V : Type 0} (same : K → K → Bool) (hash : ℕ → K → ℕ) (na
       (inl ((more_things_follow K V old.batch_size roots now more sets_next known2 w2).0 (call_follows same hash name m known s old new at whole map i u here told leads own roots now sets_now follows slot)))
 
   -- a row has taken a step, and goes on, or has ended
-  after_row : (request : Request) (handed : List Change) → FollowsInCall old.batch_size roots now sets_next known2 i request handed w2 → HasToldPart now known2 slot i request handed w2
+  after_row : (request : Request) (handed : List Change) → FollowsInCall old.batch_size roots now sets_next known2 i request handed w2 → HasReportedPart now known2 slot i request handed w2
       → FollowsSets old.batch_size roots (now ++ more) sets_next known2 w2 ⊎ IsInItsRow old.batch_size roots (now ++ more) sets_next slot i known2 w2
   after_row request handed follows part = by (rests_or (w2.row i))
     where
-      alike : (request : Request) → HasToldPart now known2 slot i request handed w2 → w2.row i ≡ Rests → (r : FollowsInCall old.batch_size roots now sets_next known2 i request handed w2)
+      alike : (request : Request) → HasReportedPart now known2 slot i request handed w2 → w2.row i ≡ Rests → (r : FollowsInCall old.batch_size roots now sets_next known2 i request handed w2)
           → ChangesAlike (HasNumber known2 now) (changes request r.began.uses w2.uses) handed
       alike (Retire s2 b) (is, has, so) rests r =
           subst (λ (x : ℕ). ChangesAlike (HasNumber known2 now) (Retires x b ∷ []) handed) (sym is) (retires_are_told K V now known2 i slot b handed w2 so rests r.began.uses w2.uses)
@@ -265,7 +265,7 @@ module _ {K V : Type 0} (same : K → K → Bool) (hash : ℕ → K → ℕ) (na
   -- a row has begun
   begun_part : (other : Its → ⊥) (request : Request) (begun : World (Node K V)) → Happens deferred_word old.batch_size (Begin i request) s.world begun
       → Happens deferred_word old.batch_size (Step i) begun w2 → IsNoted now known slot request
-      → HasToldPart now known2 slot i request (flat_map (handing now slot) effects) w2 × AreOfThings now effects
+      → HasReportedPart now known2 slot i request (flat_map (handing now slot) effects) w2 × AreOfThings now effects
   begun_part other (Retire s2 b) begun begins step (is, k, has) =
       let on = retires.begun_tells same hash name m known s old new at whole map i u here told leads other (Retire s2 b) begun begins step now slot b k (ap (λ (x : ℕ). Retire x b) is) has in
       ((is, (k, kept_numbers known known2 (keeps other) now b k has), on.0), on.1)
@@ -281,8 +281,8 @@ module _ {K V : Type 0} (same : K → K → Bool) (hash : ℕ → K → ℕ) (na
   begun_part other (Flush s2) begun begins step noted = absurd noted
 
   -- and goes on
-  next_part : (other : Its → ⊥) → s.world.row i ≢ Rests → (request : Request) (handed : List Change) → HasToldPart now known slot i request handed s.world
-      → HasToldPart now known2 slot i request (handed ++ flat_map (handing now slot) effects) w2 × AreOfThings now effects
+  next_part : (other : Its → ⊥) → s.world.row i ≢ Rests → (request : Request) (handed : List Change) → HasReportedPart now known slot i request handed s.world
+      → HasReportedPart now known2 slot i request (handed ++ flat_map (handing now slot) effects) w2 × AreOfThings now effects
   next_part other goes (Retire s2 b) handed (is, (k, has), so) =
       let on = retires.goes_on same hash name m known s old new at whole map i u here told leads other goes now slot b k handed has so in
       ((is, (k, kept_numbers known known2 (keeps other) now b k has), on.0), on.1)
@@ -327,7 +327,7 @@ module _ {K V : Type 0} (same : K → K → Bool) (hash : ℕ → K → ℕ) (na
           (row_goes_on same hash name m known s old new at whole map i u here told leads other row.goes roots now sets_now row.request row.handed row.follows slot) part.0)
 
 module _ (K V : Type 0) (same : K → K → Bool) (hash : ℕ → K → ℕ) where
-  pub call_events_go_on : CallEventsGoOn K V same hash
+  pub call_events_go_on : CallEventsContinue K V same hash
   call_events_go_on name m known s old new at whole map i u here told leads once roots things sets slot done f noted =
       goes_on same hash name m known s old new at whole map i u here told leads once roots things sets slot done f noted
 

@@ -15,7 +15,7 @@ use Rattle.run_schedules.specs.declared.effect.Effect.{Effect}
 use Rattle.run_schedules.specs.declared.effect.Thing.{Thing}
 use Rattle.run_schedules.specs.declared.effect.Thing.TheVariants.{APair, ATable}
 use Rattle.run_shows.specs.Given.CallersSights.{seen_by}
-use Rattle.run_shows.specs.Given.CallersTogether.{UnderWay, OnKey, ForRoom, Counting, OverAll, HandsOver, IsOneStep, Stands, Together}
+use Rattle.run_shows.specs.Given.CallersTogether.{UnderWay, OnKey, ForRoom, Counting, OverAll, HandsOver, IsOneStep, IsAtPoint, Together}
 use Rattle.run_effects.specs.Effects.Effects.{effects_of, known_after}
 use Rattle.run_effects.specs.Effects.Known.{Known}
 use Rattle.run_effects.specs.declared.acting.Acting.TheVariants.{Call}
@@ -25,7 +25,7 @@ use Rattle.run_shows.proofs.Follows.RowSteps.{row_step_shown}
 use Rattle.run_shows.proofs.Follows.Steps.{WentTo, went_to, DidSo, OfNoRow, step_shown}
 use Rattle.run_executor.proofs.Given.HandsRowSteps.{rows_hand_theirs}
 use Rattle.run_executor.proofs.Given.HandsSteps.{calls_store_theirs}
-use Rattle.run_executor.specs.Given.MomentsWhole.{ShowsWhole}
+use Rattle.run_executor.specs.Given.MomentsWhole.{RefinesWhole}
 use Rattle.run_blocks.specs.Given.PromisesSheltered.{IsOfThing}
 use Rattle.run_kept.specs.Models.Alike.{SetsAlike}
 use Rattle.run_kept.specs.Models.Calls.{sets_on, FollowsInCall, MoreThingsFollow, RowsWithinEnd}
@@ -83,7 +83,7 @@ rows_within_end K V batch_size roots things sets known i request handed w small 
 
 -- The steps of a call.
 module _ {K V : Type 0} (same : K → K → Bool) (hash : ℕ → K → ℕ) (name : ℕ → List ℕ) (m : Moment K V) (known : Known) (s : Scene K V) (old new : Held K V) (at : IsAt same hash old s)
-    (whole : ShowsWhole same name m known s) (map i : ℕ) (u : UnderWay K V K) (here : s.calls map i ≡ Some u) (told : Progress (Node K V)) (leads : StepLeads same hash i told s old new) where
+    (whole : RefinesWhole same name m known s) (map i : ℕ) (u : UnderWay K V K) (here : s.calls map i ≡ Some u) (told : Progress (Node K V)) (leads : StepLeads same hash i told s old new) where
   abbrev to : WentTo same hash name m known s old new at whole.all.shown map i u here told leads
   to = went_to same hash name m known s old new at whole.all.shown map i u here told leads
 
@@ -229,7 +229,7 @@ module _ {K V : Type 0} (same : K → K → Bool) (hash : ℕ → K → ℕ) (na
   no_row_rests own = by u to.4.did own (each.stand i u here)
     where
       by : (x : UnderWay K V K) (did : Did x) → NoRow x did
-          → Stands V same to.0.hash same to.0.setting slot_of s.world to.0.chart (seen_by to.0.blocks (to.0.sights (slot_of i))) i x → s.world.row i ≡ Rests
+          → IsAtPoint V same to.0.hash same to.0.setting slot_of s.world to.0.chart (seen_by to.0.blocks (to.0.sights (slot_of i))) i x → s.world.row i ≡ Rests
       by (OnKey x) did own (inl is) = is.0
       by (OnKey x) (p2, end, machine_is, told_is, inl (step, has)) own (inr is) = absurd (step.no_row is.1)
       by (OnKey x) (p2, end, machine_is, told_is, inr row) own (inr is) = absurd own

@@ -16,7 +16,7 @@ use Rattle.seize.specs.declared.advance.Advance.TheVariants as progress
 use Rattle.seize.specs.declared.rows.defer.Defer.{Defer}
 use Rattle.seize.specs.declared.rows.defer.Deferring.{Deferring}
 use Rattle.seize.specs.declared.rows.defer.Deferring.TheVariants as deferring
-use Rattle.seize.specs.Defer.{standing, head_read, push_told, defer_plan, plan_at, deferring as deferring_to}
+use Rattle.seize.specs.Defer.{standing, head_read, after_push, defer_plan, plan_at, deferring as deferring_to}
 use Rattle.seize.specs.Sequence.{changes}
 use Rattle.seize.specs.WaitingSets.{Change, Defers}
 use Rattle.seize.specs.World.{World, Row, Rests, Registers, Enters, Settles, Leaves, Defers as DefersRow, Frees, Request, Defer', Begin, Step, Begins, Happens, Steps', defers_on}
@@ -50,7 +50,7 @@ use Rattle.run_shows.specs.Follows.Blocks.{HasRole}
 use Rattle.run_shows.proofs.Follows.Onward.{KeepsRoles}
 use Rattle.run_shows.proofs.Follows.Operations.{LeavesBy, Operated, operated_leaves}
 use Rattle.run_executor.proofs.Given.HandsHanding.{plan_aside}
-use Rattle.run_executor.specs.Given.MomentsWhole.{ShowsWhole}
+use Rattle.run_executor.specs.Given.MomentsWhole.{RefinesWhole}
 use Rattle.run_schedules.specs.Schedules.Model.{number_in, handing}
 use Rattle.run_schedules.specs.Schedules.Moment.{Moment}
 use Rattle.run_schedules.specs.declared.effect.Effect.{Effect}
@@ -59,7 +59,7 @@ use Rattle.run_schedules.specs.declared.effect.Thing.{Thing}
 use Rattle.run_schedules.specs.declared.effect.Thing.TheVariants.{APair, ATable}
 use Rattle.run_executor.proofs.Given.SpotsHanding.{AllKeep}
 use Rattle.run_kept.specs.Models.Alike.{ChangesAlike}
-use Rattle.run_kept.specs.Models.Defers.{IsDue, IsDone, IsToDefer, HasDeferred, AreNoted, HasToldIt, DefersAreTold}
+use Rattle.run_kept.specs.Models.Defers.{IsStillPending, IsDone, IsToDefer, HasDeferred, AreNoted, HasReportedDefer, DefersAreReported}
 use Rattle.run_kept.specs.Models.Numbers.{HasNumber, AreOfThings}
 use Rattle.run_kept.proofs.Models.Calls.{one_step, kept_numbers}
 use Rattle.run_kept.proofs.Models.Handing.{nothing_handed, keep_of}
@@ -142,7 +142,7 @@ module _ {K V : Type 0} (size : ℕ) (w w2 : World (Node K V)) (reached : Reache
       abbrev Due : Type 0
       Due = IsToDefer b at (w2.row i)
 
-      reads_on : IsDue c.stands → (out : Out (Node K V)) → Ends (value_at mem2) (head_read c out) end → Due
+      reads_on : IsStillPending c.stands → (out : Out (Node K V)) → Ends (value_at mem2) (head_read c out) end → Due
       reads_on due (Found head) h = on_row (IsToDefer b at) (standing c (deferring.Links head)) h (block_is, at_is, tt)
       reads_on due _ h = on_row (IsToDefer b at) c h (block_is, at_is, due)
 
@@ -192,7 +192,7 @@ module _ {K V : Type 0} (size : ℕ) (w w2 : World (Node K V)) (reached : Reache
               let one : count x (x ∷ l) ≡ 0 = ap (λ (y : ℕ). count y (x ∷ l)) same ∙ counted in
               grind (arith, one)
 
-      pushes_on : (head : ℕ) → c.stands ≡ deferring.Pushes head → (out : Out (Node K V)) → Took w.memory (Exchange c.table_word head c.block) out mem2 → Ends (value_at mem2) (push_told c out) end → Goes
+      pushes_on : (head : ℕ) → c.stands ≡ deferring.Pushes head → (out : Out (Node K V)) → Took w.memory (Exchange c.table_word head c.block) out mem2 → Ends (value_at mem2) (after_push c out) end → Goes
       pushes_on head stands (Exchanged (Ok found)) took h =
           let was : word_at w.memory at ≡ Some found = ap (word_at w.memory) (sym at_is) ∙ took.0.0 in
           inr (
@@ -221,8 +221,8 @@ module _ {K V : Type 0} (size : ℕ) (w w2 : World (Node K V)) (reached : Reache
           (subst (λ (k : Mem (Node K V)). Steps Took value_at w.memory (plan_at c (deferring.Links head)) k end) (sym memory_is)
           (subst (λ (p : Deferring). Steps Took value_at w.memory (plan_at c p) mem2 end) stands st)))
 
-      due_on : (p : Deferring) → c.stands ≡ p → IsDue p → Steps Took value_at w.memory (plan_at c p) mem2 end → Goes
-      due_on deferring.Reads stands due step = inl (reads_on (subst IsDue (sym stands) due) step.0 step.2, same_quiet (memory_is ∙ step.1.1))
+      due_on : (p : Deferring) → c.stands ≡ p → IsStillPending p → Steps Took value_at w.memory (plan_at c p) mem2 end → Goes
+      due_on deferring.Reads stands due step = inl (reads_on (subst IsStillPending (sym stands) due) step.0 step.2, same_quiet (memory_is ∙ step.1.1))
       due_on (deferring.Links head) stands due step = inl (on_row (IsToDefer b at) (standing c (deferring.Pushes head)) step.2 (block_is, at_is, tt), links_quiet head stands)
       due_on (deferring.Pushes head) stands due step = pushes_on head stands step.0 step.1 step.2
       due_on deferring.Over stands due step = absurd due
@@ -297,12 +297,12 @@ module _ {K V : Type 0} (size : ℕ) (w w2 : World (Node K V)) (reached : Reache
         subst (ChangesAlike (HasNumber known2 things) (Defers b t ∷ [])) (sym all)
         ((pair_number, table_number, kept_numbers known known2 kept things b pair_number pair, kept_numbers known known2 kept things t table_number table, refl), tt)
 
-    pub told_on : Steps' deferred_word i (w.row i) w w2 → HasToldIt things known i b t handed w
-        → HasToldIt things known2 i b t (handed ++ flat_map (handing things under) effects) w2 × AreOfThings things effects
+    pub told_on : Steps' deferred_word i (w.row i) w w2 → HasReportedDefer things known i b t handed w
+        → HasReportedDefer things known2 i b t (handed ++ flat_map (handing things under) effects) w2 × AreOfThings things effects
     told_on step (inl (is, nil)) = by (due_step (w.row i) refl step is)
       where
         by : (IsToDefer b at (w2.row i) × Quiet) ⊎ (HasDeferred (w2.row i) × Pushed)
-            → HasToldIt things known2 i b t (handed ++ flat_map (handing things under) effects) w2 × AreOfThings things effects
+            → HasReportedDefer things known2 i b t (handed ++ flat_map (handing things under) effects) w2 × AreOfThings things effects
         by (inl (still, quiet)) = (inl (still, nothing_more quiet ∙ nil), keep_of things effects quiet)
         by (inr (done, pushed)) =
             let said = said_now pushed in (inr (done, told_now said nil), subst (AreOfThings things) (sym said) ((noted.pair_came, noted.table_came), tt))
@@ -312,10 +312,10 @@ module _ {K V : Type 0} (size : ℕ) (w w2 : World (Node K V)) (reached : Reache
           keep_of things effects on.1,
         )
 
-pub defers_are_told : (K V : Type 0) → DefersAreTold K V
+pub defers_are_told : (K V : Type 0) → DefersAreReported K V
 defers_are_told K V things known i s b t handed w told rests before after = by told
   where
-    by : HasToldIt things known i b t handed w → ChangesAlike (HasNumber known things) (changes (Defer' s b t) before after) handed
+    by : HasReportedDefer things known i b t handed w → ChangesAlike (HasNumber known things) (changes (Defer' s b t) before after) handed
     by (inl (is, nil)) = absurd (subst (IsToDefer b (Word t DEFERRED)) rests is)
     by (inr (done, alike)) = alike
 
@@ -328,7 +328,7 @@ list_word K V len limit turn field e = by (len == 0) e
     by false e = cc e
 
 module _ {K V : Type 0} (same : K → K → Bool) (hash : ℕ → K → ℕ) (name : ℕ → List ℕ) (m : Moment K V) (known : Known) (s : Scene K V) (old new : Held K V) (at : IsAt same hash old s)
-    (whole : ShowsWhole same name m known s) (map i : ℕ) (u : UnderWay K V K) (here : s.calls map i ≡ Some u) (told : ProgressOfCall (Node K V)) (leads : StepLeads same hash i told s old new) where
+    (whole : RefinesWhole same name m known s) (map i : ℕ) (u : UnderWay K V K) (here : s.calls map i ≡ Some u) (told : ProgressOfCall (Node K V)) (leads : StepLeads same hash i told s old new) where
   abbrev Its : Type 0
   Its = No same hash name m known s old new at whole map i u here told leads
 
@@ -352,9 +352,9 @@ module _ {K V : Type 0} (same : K → K → Bool) (hash : ℕ → K → ℕ) (na
   -- what it has told then, and that it is of things
   abbrev Tells : (things : List Thing) (under b t : ℕ) → List Change → Type 0
   Tells things under b t handed =
-      HasToldIt things (known_after (Call i map) new.changed known) i b t (handed ++ flat_map (handing things under) effects_now) w2 × AreOfThings things effects_now
+      HasReportedDefer things (known_after (Call i map) new.changed known) i b t (handed ++ flat_map (handing things under) effects_now) w2 × AreOfThings things effects_now
 
-  pub goes_on : (Its → ⊥) → s.world.row i ≢ Rests → (things : List Thing) (under b t : ℕ) (handed : List Change) → AreNoted things known b t → HasToldIt things known i b t handed s.world
+  pub goes_on : (Its → ⊥) → s.world.row i ≢ Rests → (things : List Thing) (under b t : ℕ) (handed : List Change) → AreNoted things known b t → HasReportedDefer things known i b t handed s.world
       → Tells things under b t handed
   goes_on other goes things under b t handed noted so = by (one_step same hash name m known s old new at whole map i u here told leads other)
     where
@@ -384,11 +384,11 @@ module _ {K V : Type 0} (same : K → K → Bool) (hash : ℕ → K → ℕ) (na
 
   pub begins : (Its → ⊥) → s.world.row i ≡ Rests
       → (request : Request) × ((things : List Thing) (slot under b t : ℕ) → request ≡ Defer' slot b t → AreNoted things known b t
-      → HasToldIt things (known_after (Call i map) new.changed known) i b t (flat_map (handing things under) effects_now) w2)
+      → HasReportedDefer things (known_after (Call i map) new.changed known) i b t (flat_map (handing things under) effects_now) w2)
   begins other rests = by (one_step same hash name m known s old new at whole map i u here told leads other)
     where
       by : DidStep
           → (request : Request) × ((things : List Thing) (slot under b t : ℕ) → request ≡ Defer' slot b t → AreNoted things known b t
-          → HasToldIt things (known_after (Call i map) new.changed known) i b t (flat_map (handing things under) effects_now) w2)
+          → HasReportedDefer things (known_after (Call i map) new.changed known) i b t (flat_map (handing things under) effects_now) w2)
       by (inl step) = absurd (subst (λ (r : Row). Steps' deferred_word i r s.world w2) rests step)
       by (inr (request, begun, hands, begin, step)) = (request, λ things slot under b t is noted. (begun_tells other request begun begin step things slot under b t is noted).0)

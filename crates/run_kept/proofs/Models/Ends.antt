@@ -36,21 +36,21 @@ use Rattle.run_effects.specs.declared.role.Role.{Role}
 use Rattle.run_effects.specs.declared.role.Role.TheVariants as role
 use Rattle.run_shows.specs.Given.FinishesEndings.{Finishing, StepsOfEnding}
 use Rattle.run_shows.specs.Given.FinishesFactsEnds.{Deed, Looks, TakesPair, LeavesTable, JoinsPair, TakesLeft, TakesCounter, WritesRoot, events_of, taken_by, left_by}
-use Rattle.run_shows.specs.Follows.Blocks.{HasRole, ShowsBlocks}
+use Rattle.run_shows.specs.Follows.Blocks.{HasRole, RefinesBlocks}
 use Rattle.run_shows.proofs.Follows.Alike.{is_calm, AllCalm}
-use Rattle.run_executor.specs.Given.MomentsWhole.{ShowsWhole}
+use Rattle.run_executor.specs.Given.MomentsWhole.{RefinesWhole}
 use Rattle.run_shows.proofs.Others.Ends.{says_or_takes, left}
 use Rattle.run_blocks.specs.Given.PromisesSheltered.{IsOfThing}
 use Rattle.run_executor.proofs.Given.SpotsHanding.{KeepsAll, AllKeep, calm_keep}
 use Rattle.run_kept.specs.Models.Alike.{FurtherAlike}
-use Rattle.run_kept.specs.Models.Ends.{IsOfEnd, AreOfEnd, WasTaken, FollowsInEnd, EndsBegin, EndsGoOn}
+use Rattle.run_kept.specs.Models.Ends.{IsOfEnd, AreOfEnd, WasTaken, FollowsInEnd, EndsBegin, EndsContinue}
 use Rattle.run_kept.specs.Models.Follows.{FollowsSets}
 use Rattle.run_kept.specs.Models.Numbers.{HasNumber}
 use Rattle.run_kept.specs.Models.Others.{HandsNone, HandNone}
 use Rattle.run_kept.specs.Models.Turns.{sets_of, CameByTurns}
 use Rattle.run_kept.proofs.Models.OnSlots.{noted_still}
 use Rattle.run_kept.proofs.Models.Turns.{events_follow, all_have_lists}
-use Rattle.run_shows.specs.Scenes.Ending.{EndingComesTo, EndingStepsFrom}
+use Rattle.run_shows.specs.Scenes.Ending.{EndingHasOutcome, EndingStepsFrom}
 use Rattle.run_shows.specs.Scenes.Held.{Held, IsAt}
 use Rattle.run_shows.specs.Scenes.Scene.{Scene, slot_of}
 use Rattle.run_shows.proofs.Given.SeizeAloneHistories.UsersTurn.{AreBetween}
@@ -59,7 +59,7 @@ use Rattle.run_shows.proofs.Scenes.Between.{deed_between}
 -- Where the end begins what others wait behind is noted as a table.
 
 module _ {K V : Type 0} (batch_size roots : ℕ) (things : List Thing) (sets : Sets) (known : Known) (w : World (Node K V)) (small : batch_size < 2 ^ 64)
-    (follows : FollowsSets batch_size roots things sets known w) (m : Moment K V) (blocks : ShowsBlocks m known w) where
+    (follows : FollowsSets batch_size roots things sets known w) (m : Moment K V) (blocks : RefinesBlocks m known w) where
   abbrev IsTable : ℕ → Type 0
   IsTable b = (t : TableId) × (len : ℕ) × (known.roles b ≡ role.Table t len)
 
@@ -286,9 +286,9 @@ module _ (of : ℕ) (known : Known) where
 -- A step of the end.
 
 module _ {K V : Type 0} (same : K → K → Bool) (hash : ℕ → K → ℕ) (name : ℕ → List ℕ) (m : Moment K V) (known : Known) (s : Scene K V) (old new : Held K V) (at : IsAt same hash old s)
-    (whole : ShowsWhole same name m known s) (i : ℕ) (f : Finishing K V) (here : s.enders i ≡ Some f) (end : EndMap) (said : Settled (Node K V)) (steps : EndingStepsFrom f.machine old new end said)
+    (whole : RefinesWhole same name m known s) (i : ℕ) (f : Finishing K V) (here : s.enders i ≡ Some f) (end : EndMap) (said : Settled (Node K V)) (steps : EndingStepsFrom f.machine old new end said)
     (did : StepsOfEnding V same same old.batch_size old.roots slot_of s.world s.maps s.calls s.makers s.enders i f new.memory (end, said))
-    (number : ℕ) (not_there : s.maps number ≡ None) (comes : EndingComesTo same hash s new i f end did.w2 did.deed said) where
+    (number : ℕ) (not_there : s.maps number ≡ None) (comes : EndingHasOutcome same hash s new i f end did.w2 did.deed said) where
   abbrev w : World (Node K V)
   w = s.world
 
@@ -385,6 +385,6 @@ module _ {K V : Type 0} (same : K → K → Bool) (hash : ℕ → K → ℕ) (na
     }
 
 module _ (K V : Type 0) (same : K → K → Bool) (hash : ℕ → K → ℕ) where
-  pub ends_go_on : EndsGoOn K V same hash
+  pub ends_go_on : EndsContinue K V same hash
   ends_go_on name m known s old new at whole i told leads f here number not_there roots things sets first done r =
       let to = leads f here in goes_on same hash name m known s old new at whole i f here to.0 told to.1 to.2 number not_there to.3 roots things sets first done r

@@ -26,7 +26,7 @@ use Rattle.run_schedules.specs.declared.effect.Thing.TheVariants.{ATable}
 use Rattle.run_effects.specs.Effects.Known.{Known}
 use Rattle.run_effects.specs.declared.role.Role.{Role}
 use Rattle.run_effects.specs.declared.role.Role.TheVariants as role
-use Rattle.run_shows.specs.Follows.Blocks.{HasRole, ShowsBlocks}
+use Rattle.run_shows.specs.Follows.Blocks.{HasRole, RefinesBlocks}
 use Rattle.run_executor.proofs.Given.MomentsOnSlots.{none_some}
 use Rattle.run_blocks.specs.Given.PromisesSheltered.{IsOfThing}
 use Rattle.run_blocks.proofs.Given.PromisesShelters.Rows.{things_are}
@@ -83,7 +83,7 @@ module _ (things : List Thing) where
       by false e is ih = ih is
 
 module _ {K V : Type 0} (batch_size roots : ℕ) (things : List Thing) (sets : Sets) (first : Known) (i : ℕ) (done : List Effect) (known : Known) (w : World (Node K V)) (small : batch_size < 2 ^ 64)
-    (once : EachIsOnce first) (r : FollowsInEnd batch_size roots things sets first i done known w) (m : Moment K V) (blocks : ShowsBlocks m known w) (no_table : NoTableIsLeft known i w)
+    (once : EachIsOnce first) (r : FollowsInEnd batch_size roots things sets first i done known w) (m : Moment K V) (blocks : RefinesBlocks m known w) (no_table : NoTableIsLeft known i w)
     (slot : ℕ) where
   abbrev then_sets : Sets
   then_sets = sets_of batch_size r.before

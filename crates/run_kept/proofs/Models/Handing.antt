@@ -14,7 +14,7 @@ use Rattle.run_shows.specs.Given.CallersTogether.{UnderWay}
 use Rattle.run_effects.specs.Effects.Effects.{effects_of}
 use Rattle.run_effects.specs.Effects.Known.{Known}
 use Rattle.run_effects.specs.declared.acting.Acting.TheVariants.{Call}
-use Rattle.run_shows.specs.Follows.Shows.{Shows}
+use Rattle.run_shows.specs.Follows.Shows.{Refines}
 use Rattle.run_shows.proofs.Follows.Steps.{WentTo, went_to, DidSo, OfNoRow}
 use Rattle.run_executor.proofs.Given.SpotsHanding.{KeepsAll, AllKeep, nothing_keep}
 use Rattle.run_executor.proofs.Given.SpotsSteps.{hands_nothing}
@@ -47,7 +47,7 @@ keep_of things (e ∷ effects) all = (by e all.0, keep_of things effects all.1)
 
 -- whichever kind of call it is
 module _ {K V : Type 0} (same : K → K → Bool) (hash : ℕ → K → ℕ) (name : ℕ → List ℕ) (m : Moment K V) (known : Known) (s : Scene K V) (old new : Held K V) (at : IsAt same hash old s)
-    (shown : Shows same name m known s) (map i : ℕ) (u : UnderWay K V K) (here : s.calls map i ≡ Some u) (told : Progress (Node K V)) (leads : StepLeads same hash i told s old new) where
+    (shown : Refines same name m known s) (map i : ℕ) (u : UnderWay K V K) (here : s.calls map i ≡ Some u) (told : Progress (Node K V)) (leads : StepLeads same hash i told s old new) where
   abbrev to : WentTo same hash name m known s old new at shown map i u here told leads
   to = went_to same hash name m known s old new at shown map i u here told leads
 

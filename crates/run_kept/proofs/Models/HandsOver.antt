@@ -53,7 +53,7 @@ use Rattle.run_shows.proofs.Follows.Steps.{WentTo, went_to, made_so}
 use Rattle.run_executor.specs.Given.HandsRows.{ReclaimsNone}
 use Rattle.run_executor.proofs.Given.HandsGuarded.{there_is}
 use Rattle.run_executor.proofs.Given.HandsHanding.{plan_aside, settle_aside, is_batches as batches_or}
-use Rattle.run_executor.specs.Given.MomentsWhole.{ShowsWhole}
+use Rattle.run_executor.specs.Given.MomentsWhole.{RefinesWhole}
 use Rattle.run_schedules.specs.Schedules.Model.{handing}
 use Rattle.run_schedules.specs.Schedules.Moment.{Moment}
 use Rattle.run_schedules.specs.declared.effect.Effect.{Effect}
@@ -64,7 +64,7 @@ use Rattle.run_blocks.specs.Given.PromisesSheltered.{IsOfThing}
 use Rattle.run_executor.proofs.Given.SpotsHanding.{AllKeep}
 use Rattle.run_kept.specs.Models.Alike.{ChangesAlike}
 use Rattle.run_kept.specs.Models.Numbers.{HasNumber, AreOfThings}
-use Rattle.run_kept.specs.Models.Retires.{IsToRetireAt, IsToRetire, IsPast, HasRetired, HasToldSo, RetiresAreTold}
+use Rattle.run_kept.specs.Models.Retires.{IsToRetireAt, IsToRetire, IsPast, HasRetired, HasReportedRetire, RetiresAreReported}
 use Rattle.run_kept.proofs.Models.Calls.{NoRow, OneStep, one_step, its_memory, kept_numbers, row_keeps}
 use Rattle.run_kept.proofs.Models.Handing.{nothing_handed, keep_of}
 use Rattle.run_kept.proofs.Models.Retires.{to_retire, retires, past_on, goes_row, past_row}
@@ -227,12 +227,12 @@ module _ {K V : Type 0} (size : ℕ) (w w2 : World (Node K V)) (reached : Reache
         ∙ ap (λ (x : ℕ). Retires slot x ∷ []) has.3 in
         subst (ChangesAlike (HasNumber known2 things) (Retires slot b ∷ [])) (sym all) ((k, kept_numbers known known2 keeps things b k has, refl), tt)
 
-    pub told_on : ReclaimsNone (w.row i) → Steps' deferred_word i (w.row i) w w2 → HasToldSo things known i slot b handed w
-        → HasToldSo things known2 i slot b (handed ++ flat_map (handing things slot) effects) w2 × AreOfThings things effects
+    pub told_on : ReclaimsNone (w.row i) → Steps' deferred_word i (w.row i) w w2 → HasReportedRetire things known i slot b handed w
+        → HasReportedRetire things known2 i slot b (handed ++ flat_map (handing things slot) effects) w2 × AreOfThings things effects
     told_on none step (inl (is, nil, first, next)) = by (due_step (w.row i) refl none step is next)
       where
         by : (IsToRetire b (w2.row i) × Kept × Quiet) ⊎ (HasRetired (w2.row i) × Writes)
-            → HasToldSo things known2 i slot b (handed ++ flat_map (handing things slot) effects) w2 × AreOfThings things effects
+            → HasReportedRetire things known2 i slot b (handed ++ flat_map (handing things slot) effects) w2 × AreOfThings things effects
         by (inl (still, kept, quiet)) = (inl (still, nothing_more quiet ∙ nil, kept FIRST ∙ first, kept NEXT ∙ next), keep_of things effects quiet)
         by (inr (past, writes)) =
             let said = said_now writes first in (inr (past, told_now said nil), subst (AreOfThings things) (sym said) (has.2, tt))
@@ -270,15 +270,15 @@ module _ {K V : Type 0} (size : ℕ) (w : World (Node K V)) (came : CameAbout si
       there_is (word_at w.memory (Entry b NEXT)) 0 (reached.good.stocked.entries b NEXT (reached.good.shows.lists.lived b ∙ ap lives life) (omega arith))
       (subst (NextIs ((view deferred_word w.memory).nexts b)) life (reached.good.shows.lists.nexted b))
 
-pub retires_are_told : (K V : Type 0) → RetiresAreTold K V
+pub retires_are_told : (K V : Type 0) → RetiresAreReported K V
 retires_are_told K V things known i s b handed w told rests before after = by told
   where
-    by : HasToldSo things known i s b handed w → ChangesAlike (HasNumber known things) (changes (Retire s b) before after) handed
+    by : HasReportedRetire things known i s b handed w → ChangesAlike (HasNumber known things) (changes (Retire s b) before after) handed
     by (inl (is, nil, first, next)) = absurd (subst (IsToRetire b) rests is)
     by (inr (past, alike)) = alike
 
 module _ {K V : Type 0} (same : K → K → Bool) (hash : ℕ → K → ℕ) (name : ℕ → List ℕ) (m : Moment K V) (known : Known) (s : Scene K V) (old new : Held K V) (at : IsAt same hash old s)
-    (whole : ShowsWhole same name m known s) (map i : ℕ) (u : UnderWay K V K) (here : s.calls map i ≡ Some u) (told : Progress (Node K V)) (leads : StepLeads same hash i told s old new) where
+    (whole : RefinesWhole same name m known s) (map i : ℕ) (u : UnderWay K V K) (here : s.calls map i ≡ Some u) (told : Progress (Node K V)) (leads : StepLeads same hash i told s old new) where
   abbrev pub to : WentTo same hash name m known s old new at whole.all.shown map i u here told leads
   to = went_to same hash name m known s old new at whole.all.shown map i u here told leads
 
@@ -317,9 +317,9 @@ module _ {K V : Type 0} (same : K → K → Bool) (hash : ℕ → K → ℕ) (na
 
   -- what it has told then, and that it is of things
   abbrev Tells : (things : List Thing) (slot b : ℕ) → List Change → Type 0
-  Tells things slot b handed = HasToldSo things (known_after (Call i map) new.changed known) i slot b (handed ++ flat_map (handing things slot) effects_now) to.4.w2 × AreOfThings things effects_now
+  Tells things slot b handed = HasReportedRetire things (known_after (Call i map) new.changed known) i slot b (handed ++ flat_map (handing things slot) effects_now) to.4.w2 × AreOfThings things effects_now
 
-  pub goes_on : (No → ⊥) → s.world.row i ≢ Rests → (things : List Thing) (slot b k : ℕ) (handed : List Change) → HasNumber known things b k → HasToldSo things known i slot b handed s.world
+  pub goes_on : (No → ⊥) → s.world.row i ≢ Rests → (things : List Thing) (slot b k : ℕ) (handed : List Change) → HasNumber known things b k → HasReportedRetire things known i slot b handed s.world
       → Tells things slot b handed
   goes_on other goes things slot b k handed has so = by (one_step same hash name m known s old new at whole map i u here told leads other)
     where
@@ -348,11 +348,11 @@ module _ {K V : Type 0} (same : K → K → Bool) (hash : ℕ → K → ℕ) (na
 
   pub begins : (No → ⊥) → s.world.row i ≡ Rests
       → (request : Request) × ((things : List Thing) (slot b k : ℕ) → request ≡ Retire slot b → HasNumber known things b k
-      → HasToldSo things (known_after (Call i map) new.changed known) i slot b (flat_map (handing things slot) effects_now) to.4.w2)
+      → HasReportedRetire things (known_after (Call i map) new.changed known) i slot b (flat_map (handing things slot) effects_now) to.4.w2)
   begins other rests = by (one_step same hash name m known s old new at whole map i u here told leads other)
     where
       by : Stepped
           → (request : Request) × ((things : List Thing) (slot b k : ℕ) → request ≡ Retire slot b → HasNumber known things b k
-          → HasToldSo things (known_after (Call i map) new.changed known) i slot b (flat_map (handing things slot) effects_now) to.4.w2)
+          → HasReportedRetire things (known_after (Call i map) new.changed known) i slot b (flat_map (handing things slot) effects_now) to.4.w2)
       by (inl step) = absurd (subst (λ (r : Row). Steps' deferred_word i r s.world to.4.w2) rests step)
       by (inr (request, begun, hands, begin, step)) = (request, λ things slot b k is has. (begun_tells other request begun begin step things slot b k is has).0)

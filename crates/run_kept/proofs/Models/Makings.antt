@@ -26,7 +26,7 @@ use Rattle.run_effects.specs.declared.acting.Acting.{Acting}
 use Rattle.run_effects.specs.declared.acting.Acting.TheVariants as acts
 use Rattle.run_effects.specs.declared.role.Role.{Role}
 use Rattle.run_effects.specs.declared.role.Role.TheVariants as role
-use Rattle.run_shows.specs.Given.FinishesEndings.{MakingStepsAmong}
+use Rattle.run_shows.specs.Given.FinishesEndings.{MakingStepsWithEndings}
 use Rattle.run_shows.specs.Given.FinishesMakings.{Beginning}
 use Rattle.run_shows.proofs.Follows.Alike.{is_calm, AllCalm}
 use Rattle.run_shows.proofs.Follows.Operations.{LeavesBy}
@@ -35,7 +35,7 @@ use Rattle.run_shows.proofs.Others.Leads.{word_says}
 use Rattle.run_shows.proofs.Others.MakingPlans.{TellsMaking}
 use Rattle.run_shows.proofs.Others.Makes.{no_table_word, tells, left}
 use Rattle.run_executor.proofs.Given.SpotsHanding.{AllKeep, calm_keep}
-use Rattle.run_executor.specs.Given.MomentsWhole.{ShowsWhole}
+use Rattle.run_executor.specs.Given.MomentsWhole.{RefinesWhole}
 use Rattle.run_executor.proofs.Given.MomentsBeside.{IsBeside}
 use Rattle.run_executor.proofs.Given.MomentsMakings.{before_free, not_of_map}
 use Rattle.run_executor.proofs.Given.MomentsMakingSteps.{makings_go_beside}
@@ -65,8 +65,8 @@ calm_back (e ∷ effects) all = (by e all.0, calm_back effects all.1)
     by _ is = tt
 
 module _ {K V : Type 0} (same : K → K → Bool) (hash : ℕ → K → ℕ) (name : ℕ → List ℕ) (m : Moment K V) (known : Known) (s : Scene K V) (old new : Held K V) (at : IsAt same hash old s)
-    (whole : ShowsWhole same name m known s) (i : ℕ) (b : Beginning K) (here : s.makers i ≡ Some b) (end : NewMap) (said : Advance Setting) (steps : MakingStepsFrom b.machine old new end said)
-    (did : MakingStepsAmong V same same old.batch_size old.roots slot_of s.world s.maps s.calls s.makers s.enders i b new.memory (end, said)) (of : Option ℕ) where
+    (whole : RefinesWhole same name m known s) (i : ℕ) (b : Beginning K) (here : s.makers i ≡ Some b) (end : NewMap) (said : Advance Setting) (steps : MakingStepsFrom b.machine old new end said)
+    (did : MakingStepsWithEndings V same same old.batch_size old.roots slot_of s.world s.maps s.calls s.makers s.enders i b new.memory (end, said)) (of : Option ℕ) where
   abbrev w : World (Node K V)
   w = s.world
 

@@ -15,7 +15,7 @@ use Rattle.run_kept.specs.Models.CallEvents.{things_then}
 use Rattle.run_kept.specs.Models.Calls.{EndsNone, EndNone, sets_on}
 use Rattle.run_kept.specs.Models.Ends.{IsOfEnd, AreOfEnd}
 use Rattle.run_kept.specs.Models.Follows.{FollowsSets}
-use Rattle.run_kept.specs.Models.MapEvents.{MomentsNoteOnce, MakingEventsBegin, MakingEventsGoOn, MakingEventsEnd, EndEventsEnd}
+use Rattle.run_kept.specs.Models.MapEvents.{MomentsNoteOnce, MakingEventsBegin, MakingEventsContinue, MakingEventsEnd, EndEventsEnd}
 use Rattle.run_kept.specs.Models.Others.{HandsNone, HandNone}
 use Rattle.run_kept.proofs.Models.CallEvents.{things_more, both_back, nothing_back}
 use Rattle.run_kept.proofs.Models.Calls.{more_things_follow}
@@ -64,7 +64,7 @@ none_handed_over things slot (e ∷ effects) hands ends =
     by _ is none = refl
 
 module _ (K V : Type 0) (same : K → K → Bool) (hash : ℕ → K → ℕ) where
-  pub making_events_go_on : MakingEventsGoOn K V same hash
+  pub making_events_go_on : MakingEventsContinue K V same hash
   making_events_go_on name m known s old new at whole i told leads b here of is_new roots things sets done f =
       let to = leads b here in
       let effects = effects_of (Making b.map) known new.changed in

@@ -14,7 +14,7 @@ use Rattle.run_schedules.specs.declared.effect.Thing.TheVariants.{APair, ATable}
 use Rattle.run_effects.specs.Effects.Known.{Known}
 use Rattle.run_effects.specs.declared.role.Role.{Role}
 use Rattle.run_effects.specs.declared.role.Role.TheVariants as role
-use Rattle.run_executor.specs.Given.SpotsUnreclaimed.{ShowsUnreclaimed}
+use Rattle.run_executor.specs.Given.SpotsUnreclaimed.{RefinesUnreclaimed}
 use Rattle.run_blocks.specs.Given.PromisesSheltered.{IsOfThing}
 use Rattle.run_blocks.proofs.Given.PromisesShelters.Rows.{things_are}
 use Rattle.run_kept.specs.Models.Alike.{IsOneToOne}
@@ -78,7 +78,7 @@ has_one known things once = record {
 
 -- a moment that shows the blocks notes each thing once
 pub noted_once : {K V : Type 0} (m : Moment K V) (known : Known) → ((b d n : ℕ) → known.roles b ≡ role.Pair n → known.roles d ≡ role.Pair n → b ≡ d)
-    → ShowsUnreclaimed m known → EachIsOnce known
+    → RefinesUnreclaimed m known → EachIsOnce known
 noted_once m known pairs shows b d (APair n) p q = pairs b d n p q
 noted_once m known pairs shows b d (ATable t) p q = shows.tables_once b d p.0 q.0 t p.1 q.1
 

@@ -37,7 +37,7 @@ use Rattle.run_effects.specs.declared.role.Role.{Role}
 use Rattle.run_effects.specs.declared.role.Role.TheVariants as role
 use Rattle.run_shows.specs.declared.row.RowTold.{RowTold}
 use Rattle.run_shows.specs.declared.row.SlotRow.{SlotRow}
-use Rattle.run_shows.specs.Follows.Blocks.{HasRole, ShowsBlocks}
+use Rattle.run_shows.specs.Follows.Blocks.{HasRole, RefinesBlocks}
 use Rattle.run_shows.proofs.Follows.Operations.{LeavesBy, operated_leaves}
 use Rattle.run_shows.proofs.Others.RowPlans.{TellsRow, row_tells, row_operated}
 use Rattle.run_executor.proofs.Given.MomentsOnSlots.{none_some}
@@ -45,7 +45,7 @@ use Rattle.run_blocks.specs.Given.PromisesSheltered.{IsOfThing}
 use Rattle.run_kept.specs.Models.Alike.{AreAlike, SetsAlike, AfterAlike, ChangesAlike}
 use Rattle.run_kept.specs.Models.Follows.{IsFollowed}
 use Rattle.run_kept.specs.Models.Numbers.{things_of, HasNumber, EachIsOnce, AreOfRow}
-use Rattle.run_kept.specs.Models.OnSlots.{FollowsInRow, IsRowFor, SlotEventsBegin, SlotEventsGoOn, SlotEventsEnd}
+use Rattle.run_kept.specs.Models.OnSlots.{FollowsInRow, IsRowFor, SlotEventsBegin, SlotEventsContinue, SlotEventsEnd}
 use Rattle.run_kept.specs.Models.Turns.{sets_of, HasRun}
 use Rattle.run_kept.proofs.Models.Alike.Again.{alike_again}
 use Rattle.run_kept.proofs.Models.Alike.Changed.{all_alike}
@@ -97,7 +97,7 @@ noted_still r first after (inr p) (inl q) = inr (q ∙ p)
 noted_still r first after p (inr q) = inr q
 
 module _ {K V : Type 0} (same : K → K → Bool) (hash : ℕ → K → ℕ) (m : Moment K V) (known : Known) (s : Scene K V) (old new : Held K V) (at : IsAt same hash old s)
-    (blocks : ShowsBlocks m known s.world) (i : ℕ) (row : SlotRow) (here : IsOnSlot s i row) (end : SlotRow × RowTold (Node K V))
+    (blocks : RefinesBlocks m known s.world) (i : ℕ) (row : SlotRow) (here : IsOnSlot s i row) (end : SlotRow × RowTold (Node K V))
     (steps : RowSteps K V row old.memory new.memory new.changed end) (happened : HappensAt same hash (Step i) s old new) where
   abbrev w : World (Node K V)
   w = s.world
@@ -158,7 +158,7 @@ module _ {K V : Type 0} (same : K → K → Bool) (hash : ℕ → K → ℕ) (m 
         }
 
 module _ (K V : Type 0) (same : K → K → Bool) (hash : ℕ → K → ℕ) where
-  pub slot_events_go_on : SlotEventsGoOn K V same hash
+  pub slot_events_go_on : SlotEventsContinue K V same hash
   slot_events_go_on m known s old new at blocks i told leads row here roots things sets first request began done r =
       let to = leads row here in
       goes_on same hash m known s old new at blocks i row here (to.0, told) to.1 to.2 roots things sets first request began done r
@@ -244,7 +244,7 @@ numbers_back known things (b ∷ blocks) (n ∷ numbers) h =
 module _ {K V : Type 0} (terms : Terms) (log : List (Entry K V)) (e : Entry K V) (first : Known) (i : ℕ) (request : Request) (known : Known) (began w : World (Node K V))
     (small : terms.batch_size < 2 ^ 64) (once : EachIsOnce first)
     (r : FollowsInRow terms.batch_size terms.roots (things_in log) (sets_in terms.batch_size log) first i request began e.effects known w) (rests : w.row i ≡ Rests)
-    (m : Moment K V) (blocks : ShowsBlocks m known w) (is : IsRowFor request began.uses w.uses e.event e.outcome (at_work e (moment log))) where
+    (m : Moment K V) (blocks : RefinesBlocks m known w) (is : IsRowFor request began.uses w.uses e.event e.outcome (at_work e (moment log))) where
   abbrev now : List Change
   now = changes request began.uses w.uses
 

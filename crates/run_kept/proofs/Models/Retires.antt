@@ -13,7 +13,7 @@ use Rattle.seize.specs.declared.rows.settle.Settled.{Settled}
 use Rattle.seize.specs.declared.rows.settle.Settled.TheVariants as settled
 use Rattle.seize.specs.declared.rows.settle.Settling.{Settling}
 use Rattle.seize.specs.declared.rows.settle.Settling.TheVariants as at
-use Rattle.seize.specs.Settle.{standing, with_batch, onward, behind, pushed_of, needs_none, closed, scanning, to, goes, seen, taken_hold, popped, first_read, counted, scanned, marked_next, slot_read, push_told, next_pushed, summed, plan_at}
+use Rattle.seize.specs.Settle.{standing, with_batch, onward, behind, pushed_of, needs_none, closed, scanning, to, goes, seen, taken_hold, popped, first_read, counted, scanned, marked_next, slot_read, after_push, next_pushed, summed, plan_at}
 use Rattle.seize.specs.World.{World, Rests, Settles, settles_on}
 use Rattle.run_shows.proofs.Given.SeizeRulePoints.Retire.{of_link}
 use Rattle.run_effects.proofs.Given.SeizeRuleRows.Others.{with_here}
@@ -176,7 +176,7 @@ module _ {T : Type 0} (defers : T → Option ℕ) (b : ℕ) (some : 0 < b) (m m2
     slot_on block left pushed (Found slot) h = subst Past (sym h) (none, tt)
     slot_on block left pushed _ h = stays h
 
-    push_on : (block left pushed slot : ℕ) (out : Out T) → Ends (value_at m2) (push_told c block left pushed slot out) end → Past end
+    push_on : (block left pushed slot : ℕ) (out : Out T) → Ends (value_at m2) (after_push c block left pushed slot out) end → Past end
     push_on block left pushed slot (Exchanged (Ok w)) h = subst Past (sym h) (none, pushed_past block left ((pushed + 1) % 2 ^ 64))
     push_on block left pushed slot (Exchanged (Err head)) h = by (needs_none c head) h
       where

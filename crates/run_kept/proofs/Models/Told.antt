@@ -15,7 +15,7 @@ use Rattle.run_executor.proofs.Given.HandsHanding.{IsHanding}
 use Rattle.papaya_raw.specs.Given.TablesDeclared.table_words.TheConstants.{DEFERRED}
 use Rattle.papaya_raw.specs.Given.TablesDeclared.node.Node.{Node}
 use Rattle.run_effects.specs.Tells.Seen.{seen_of, word_or}
-use Rattle.run_effects.specs.ReportingMemory.Tells.{told_of}
+use Rattle.run_effects.specs.ReportingMemory.Tells.{observed_of}
 use Rattle.run_effects.specs.declared.changed.Changed.{Changed}
 use Rattle.run_effects.specs.declared.changed.Changed.TheVariants as changed
 use Rattle.run_effects.specs.declared.changed.Kind.{Kind}
@@ -212,7 +212,7 @@ module _ {K V : Type 0} (m m2 : Mem (Node K V)) (at : At) (same : same_at at at 
       ap (λ (k : Mem (Node K V)). value_at k c) gone ∙ ap value_in (block_of-with_block m c c x.0 None x.1) ∙ ap (λ (q : Bool). value_in (if q then None else block_of m c)) (eq-eqb c c refl) in
       let some : IsSome {T = Node K V} None = subst (λ (o : Option (Node K V)). IsSome o) (sym (values c) ∙ none) can in cc some
 
-  told_so : (op : Op (Node K V)) (out : Out (Node K V)) → Can m op → Took m op out m2 → told_of op out (seen_of m op out) ≡ changed.Wrote at old new
+  told_so : (op : Op (Node K V)) (out : Out (Node K V)) → Can m op → Took m op out m2 → observed_of op out (seen_of m op out) ≡ changed.Wrote at old new
   told_so (Load y) out can took = unchanged took.1
   told_so (Store y word) out can took = wrote_so y word (word_or (word_at m y)) (some_word (word_at m y) can) took.1
   told_so (Swap y word) (Found before) can took = wrote_so y word before took.0 took.1

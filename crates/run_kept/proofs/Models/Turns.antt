@@ -19,7 +19,7 @@ use Rattle.run_shows.specs.Given.SeizeAloneAlone.{History, IsHistory, at_rest}
 use Rattle.run_shows.proofs.Given.SeizeAloneLaws.{waiting_was_handed, carriers_are_there, carriers_have_lists, insides_are_active}
 use Rattle.run_shows.proofs.Given.SeizeAloneWhole.Register.{steps_more, steps_end}
 use Rattle.run_kept.specs.Models.Alike.{AllAre}
-use Rattle.run_kept.specs.Models.Turns.{sets_of, CameByTurns, IsInRow, TurnsBegin, RowsBegin, RowsGoOn, RowsEnd, EventsFollow, UsersFollow}
+use Rattle.run_kept.specs.Models.Turns.{sets_of, CameByTurns, IsInRow, TurnsBegin, RowsBegin, RowsContinue, RowsEnd, EventsFollow, UsersFollow}
 use Rattle.run_kept.proofs.Models.Alike.Again.{all_are}
 use Rattle.run_shows.proofs.Given.FinishesBeside.Makings.Outs.{handed_lives}
 
@@ -46,7 +46,7 @@ module _ {T : Type 0} (defers : T → Option ℕ) (batch_size roots : ℕ) where
   pub rows_begin : RowsBegin T defers batch_size roots
   rows_begin v w before came i request rests begins = record { came = came; rested = rests; begun = w; begins = begins; steps = 0; runs = refl }
 
-  pub rows_go_on : RowsGoOn T defers batch_size roots
+  pub rows_go_on : RowsContinue T defers batch_size roots
   rows_go_on i request v w n before r step = record {
     came = r.came;
     rested = r.rested;

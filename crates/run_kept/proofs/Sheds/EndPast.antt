@@ -7,7 +7,7 @@ use Rattle.papaya_raw.specs.Given.TablesDeclared.node.Node.{Node}
 use Rattle.papaya_raw.specs.declared.machines.end_map.Ending.{Ending}
 use Rattle.papaya_raw.specs.declared.machines.end_map.Ending.TheVariants as at
 use Rattle.run_shows.specs.Given.FinishesEndings.{Finishing, FinishingFacts}
-use Rattle.run_shows.specs.Given.FinishesFactsEnds.{AtPairs, EndingFacts, HasBehind, IsAt, IsTableYet, back_of, from_place, from_table}
+use Rattle.run_shows.specs.Given.FinishesFactsEnds.{AtPairs, EndingFacts, HasDeferred, IsAt, IsTableYet, back_of, from_place, from_table}
 use Rattle.run_shows.specs.Given.FinishesOrders.{pairs_behind, pairs_from}
 use Rattle.run_shows.proofs.Given.FinishesEnds.CountedBlocks.{later_apart, some_last}
 use Rattle.run_shows.proofs.Given.FinishesEnds.OrdersOn.{back_same, table_later}
@@ -132,7 +132,7 @@ module _ {K V : Type 0} (same : K → K → Bool) (size : ℕ) (w : World (Node 
     yet_used = (its.used yet).0
 
     -- and carries this.
-    pub yet_carries : HasBehind w table (k.lists t)
+    pub yet_carries : HasDeferred w table (k.lists t)
     yet_carries = its.carries yet
 
   -- one before those is left over, if it is not reclaimed

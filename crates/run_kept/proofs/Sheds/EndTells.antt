@@ -14,7 +14,7 @@ use Rattle.papaya_raw.specs.declared.machines.end_map.Ending.{Ending}
 use Rattle.papaya_raw.specs.declared.machines.end_map.Ending.TheVariants as ending
 use Rattle.run_schedules.specs.declared.effect.Effect.{Effect}
 use Rattle.run_effects.specs.Tells.Seen.{seen_of}
-use Rattle.run_effects.specs.ReportingMemory.Tells.{told_of, StepsTold}
+use Rattle.run_effects.specs.ReportingMemory.Tells.{observed_of, StepsObserved}
 use Rattle.run_effects.specs.declared.changed.Changed.{Changed}
 use Rattle.run_effects.specs.declared.changed.Changed.TheVariants as changed
 use Rattle.run_effects.specs.Effects.Effects.{led_to, named, names_same, effects_of}
@@ -54,7 +54,7 @@ module _ {K V : Type 0} where
   IsEndOp (Rewrite b value) = ⊥
   IsEndOp (Room bucket) = ⊥
 
-  op_tells : (m : Mem (Node K V)) (op : Op (Node K V)) (out : Out (Node K V)) → IsEndOp op → TellsEnd (told_of op out (seen_of m op out))
+  op_tells : (m : Mem (Node K V)) (op : Op (Node K V)) (out : Out (Node K V)) → IsEndOp op → TellsEnd (observed_of op out (seen_of m op out))
   op_tells m (Load at) out is = tt
   op_tells m (Store at word) out is = is
   op_tells m (Swap at word) out is = absurd is
@@ -70,7 +70,7 @@ module _ {K V : Type 0} where
   IsEndPlan (Turn rest) = Unit {0}
   IsEndPlan (Do op rest) = IsEndOp op
 
-  plan_tells : {R : Type 0} (m m2 : Mem (Node K V)) (told : Changed) (plan : Plan (Node K V) R) (end : R) → StepsTold K V R m changed.Nothing plan m2 told end → IsEndPlan plan → TellsEnd told
+  plan_tells : {R : Type 0} (m m2 : Mem (Node K V)) (told : Changed) (plan : Plan (Node K V) R) (end : R) → StepsObserved K V R m changed.Nothing plan m2 told end → IsEndPlan plan → TellsEnd told
   plan_tells m m2 told (Turn rest) end steps is = subst TellsEnd (sym steps.2) tt
   plan_tells m m2 told (Do op rest) end steps is = subst TellsEnd (sym steps.1.1) (op_tells m op steps.0 is)
 
@@ -91,7 +91,7 @@ end_plan K V e ending.Frees = tt
 end_plan K V e ending.Over = tt
 
 module _ {K V : Type 0} where
-  pub end_tells : (e : EndMap) (m m2 : Mem (Node K V)) (told : Changed) (end : EndMap × Settled (Node K V)) → StepsTold K V (EndMap × Settled (Node K V)) m changed.Nothing (end_map_plan e) m2 told end
+  pub end_tells : (e : EndMap) (m m2 : Mem (Node K V)) (told : Changed) (end : EndMap × Settled (Node K V)) → StepsObserved K V (EndMap × Settled (Node K V)) m changed.Nothing (end_map_plan e) m2 told end
       → TellsEnd told
   end_tells e m m2 told end steps = plan_tells m m2 told (end_map_plan e) end steps (end_plan K V e e.stands)
 

@@ -34,17 +34,17 @@ use Rattle.run_shows.specs.Others.Makings.{WasNew}
 use Rattle.run_shows.specs.Others.Rows.{scene_then}
 use Rattle.run_shows.proofs.Others.RowPlans.{row_tells}
 use Rattle.run_executor.proofs.Given.MomentsEnds.{end_keeps}
-use Rattle.run_executor.specs.Given.MomentsWhole.{ShowsWhole}
+use Rattle.run_executor.specs.Given.MomentsWhole.{RefinesWhole}
 use Rattle.run_blocks.proofs.Given.SettlesHand.All.{own_or_row}
 use Rattle.run_waiting.proofs.Lives.CallRows.{role_kept}
 use Rattle.run_waiting.proofs.Lives.Lying.{row_pair}
 use Rattle.run_waiting.proofs.Lives.Makings.{role_kept as made_kept}
 use Rattle.run_waiting.proofs.Lives.Users.{left_lives}
 use Rattle.run_waiting.proofs.Lives.Waiting.{left, reached}
-use Rattle.run_kept.specs.Kept.Kept.{ShowsKept}
+use Rattle.run_kept.specs.Kept.Kept.{RefinesKept}
 use Rattle.run_kept.proofs.Kept.Calls.{own_made}
 use Rattle.run_waiting.specs.Remains.Remains.{LeftNoted}
-use Rattle.run_shows.specs.Scenes.Ending.{EndingComesTo, EndingLeads}
+use Rattle.run_shows.specs.Scenes.Ending.{EndingHasOutcome, EndingLeads}
 use Rattle.run_shows.specs.Scenes.Held.{Held, IsAt}
 use Rattle.run_shows.specs.Scenes.Making.{MakingLeads}
 use Rattle.run_shows.specs.Scenes.OnSlots.{RowLeads}
@@ -78,9 +78,9 @@ rows_note_left {K} {V} same hash known s old new at i said leads row here b n is
     (left K V same hash s old new at i row here (to.0, said) to.1 to.2)
 
 module _ {K V : Type 0} (same : K → K → Bool) (hash : ℕ → K → ℕ) (name : ℕ → List ℕ) (m : Moment K V) (known : Known) (s : Scene K V) (old new : Held K V) (at : IsAt same hash old s)
-    (whole : ShowsWhole same name m known s) where
+    (whole : RefinesWhole same name m known s) where
   -- of a call
-  pub calls_note_left : ShowsKept name m known s → (map i : ℕ) (u : UnderWay K V K) (here : s.calls map i ≡ Some u) (said : CallTold (Node K V)) (leads : StepLeads same hash i said s old new)
+  pub calls_note_left : RefinesKept name m known s → (map i : ℕ) (u : UnderWay K V K) (here : s.calls map i ≡ Some u) (said : CallTold (Node K V)) (leads : StepLeads same hash i said s old new)
       → (w2 : World (Node K V)) → LeftNoted known (known_after (acts.Call i map) new.changed known) s.world w2
   calls_note_left kept map i u here said leads w2 b n is before after =
       elim (own_or_row same hash name m known s old new at whole.all.shown map i u here said leads u (went_to same hash name m known s old new at whole.all.shown map i u here said leads).4.did)
@@ -108,7 +108,7 @@ module _ {K V : Type 0} (same : K → K → Bool) (hash : ℕ → K → ℕ) (na
       r2 =
           runs_reached deferred_word old.batch_size (events_of i (leads f here).2.deed) s.world (leads f here).2.w2 (came_reached old.batch_size s.world at.together.makings.standing.came) (leads f here).2.runs
 
-      there : (t : Settled (Node K V)) (c : EndingComesTo same hash s new i f (leads f here).0 (leads f here).2.w2 (leads f here).2.deed t)
+      there : (t : Settled (Node K V)) (c : EndingHasOutcome same hash s new i f (leads f here).0 (leads f here).2.w2 (leads f here).2.deed t)
           → ((j : ℕ) × ((ending_after same hash s new i f (leads f here).0 (leads f here).2.w2 (leads f here).2.deed t c).world.hand b ≡ LeftTo j)) → IsSome (value_at (leads f here).2.w2.memory b)
       there settled.Goes c l = left_there old.batch_size (leads f here).2.w2 r2 b l.0 l.1
       there settled.Waits c l = absurd c

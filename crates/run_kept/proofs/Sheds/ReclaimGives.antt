@@ -23,7 +23,7 @@ use Rattle.seize.specs.declared.rows.settle.Settling.TheVariants as settling
 use Rattle.papaya_raw.specs.Given.TablesNodes.{deferred_word, was_left}
 use Rattle.papaya_raw.specs.Given.TablesDeclared.node.Node.{Node}
 use Rattle.run_effects.specs.Tells.Seen.{seen_of}
-use Rattle.run_effects.specs.ReportingMemory.Tells.{StepsTold, told_of}
+use Rattle.run_effects.specs.ReportingMemory.Tells.{StepsObserved, observed_of}
 use Rattle.run_effects.specs.declared.changed.Changed.{Changed}
 use Rattle.run_effects.specs.declared.changed.Changed.TheVariants as changed
 use Rattle.run_shows.proofs.Follows.Operations.{LeavesBy}
@@ -53,7 +53,7 @@ module _ {K V : Type 0} (m m2 : Mem (Node K V)) (told : Changed) where
   or_none none (settled.Gave value) = tt
   or_none none settled.Done = none
 
-  op_quiet : (op : Op (Node K V)) (out : Out (Node K V)) → IsNoTake op → TakesNone (told_of op out (seen_of m op out))
+  op_quiet : (op : Op (Node K V)) (out : Out (Node K V)) → IsNoTake op → TakesNone (observed_of op out (seen_of m op out))
   op_quiet (Load place) out is = tt
   op_quiet (Store place word) out is = tt
   op_quiet (Swap place word) (Found before) is = tt
@@ -72,7 +72,7 @@ module _ {K V : Type 0} (m m2 : Mem (Node K V)) (told : Changed) where
   op_quiet (Room bucket) (Roomed roomed) is = tt
   op_quiet (Room bucket) _ is = tt
 
-  quiet : {R : Type 0} (plan : Plan (Node K V) R) (end : R) → StepsTold K V R m changed.Nothing plan m2 told end → IsQuiet plan → TakesNone told
+  quiet : {R : Type 0} (plan : Plan (Node K V) R) (end : R) → StepsObserved K V R m changed.Nothing plan m2 told end → IsQuiet plan → TakesNone told
   quiet (Turn rest) end s is = subst TakesNone (sym s.2) tt
   quiet (Do op rest) end s is = subst TakesNone (sym s.1.1) (op_quiet op s.0 is)
 
@@ -85,7 +85,7 @@ module _ {K V : Type 0} (m m2 : Mem (Node K V)) (told : Changed) where
     takes_gives next (Taken value) took e = subst (λ (x : Settle × Settled (Node K V)). GivesOr x.1) (sym e) tt
     takes_gives next _ took e = absurd took.0
 
-    settle_gives : (p : Settling) → StepsTold K V (Settle × Settled (Node K V)) m changed.Nothing (settle.plan_at deferred_word c p) m2 told end → GivesOr end.1
+    settle_gives : (p : Settling) → StepsObserved K V (Settle × Settled (Node K V)) m changed.Nothing (settle.plan_at deferred_word c p) m2 told end → GivesOr end.1
     settle_gives (settling.Takes next) s = takes_gives next s.0 s.1.0 s.2
     settle_gives p s = or_none (quiet (settle.plan_at deferred_word c p) end s (quiet_at p (λ h. h))) end.1
 
@@ -96,7 +96,7 @@ module _ {K V : Type 0} (m m2 : Mem (Node K V)) (told : Changed) where
     settled_gives (x, settled.Gave value) g = g
     settled_gives (x, settled.Done) g = g
 
-    leave_gives : (p : Leaving) → StepsTold K V (Leave × Settled (Node K V)) m changed.Nothing (leave.plan_at deferred_word c p) m2 told end → GivesOr end.1
+    leave_gives : (p : Leaving) → StepsObserved K V (Leave × Settled (Node K V)) m changed.Nothing (leave.plan_at deferred_word c p) m2 told end → GivesOr end.1
     leave_gives leaving.Swaps s = or_none (quiet (leave.plan_at deferred_word c leaving.Swaps) end s tt) end.1
     leave_gives (leaving.Settles it) s =
         let inner = told_in m m2 told (leave.settled c) (settle.settle_plan deferred_word it) end s in
@@ -106,7 +106,7 @@ module _ {K V : Type 0} (m m2 : Mem (Node K V)) (told : Changed) where
 
   module _ (c : ReclaimAll) (end : ReclaimAll × Settled (Node K V)) where
     abbrev Told : Reclaiming → Type 0
-    Told p = StepsTold K V (ReclaimAll × Settled (Node K V)) m changed.Nothing (all.plan_at deferred_word was_left c p) m2 told end
+    Told p = StepsObserved K V (ReclaimAll × Settled (Node K V)) m changed.Nothing (all.plan_at deferred_word was_left c p) m2 told end
 
     within_gives : {R : Type 0} (inside : R → ReclaimAll) (behind : ReclaimAll) (r : R × Settled (Node K V)) → GivesOr r.1 → GivesOr (all.within inside behind r).1
     within_gives inside behind (x, settled.Goes) g = g

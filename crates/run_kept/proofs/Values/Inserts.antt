@@ -22,20 +22,20 @@ use Rattle.run_schedules.specs.declared.call.OneKey.{OneKey}
 use Rattle.run_schedules.specs.declared.call.OneKey.TheVariants.{TryInsert}
 use Rattle.run_schedules.specs.Schedules.Moment.{UnderWay as CallThere, Moment}
 use Rattle.run_schedules.specs.Schedules.Views.{call_of}
-use Rattle.run_shows.specs.Given.PointsFactsCalls.{Change, Stored, Replaced, Removed, Unchanged, Holding, InBlock, CallingFacts, HasIts, HasOwn, Tells, holding}
+use Rattle.run_shows.specs.Given.PointsFactsCalls.{Change, Stored, Replaced, Removed, Unchanged, Holding, InBlock, CallingFacts, HasIts, HasOwn, AnswersChange, holding}
 use Rattle.run_shows.specs.Given.PointsTold.{IsRowOfCall}
 use Rattle.run_shows.specs.Given.LateKinds.{FitsAt}
-use Rattle.run_shows.specs.Given.LateLateCalls.{LateCalling}
+use Rattle.run_shows.specs.Given.LateLateCalls.{SupersededCalling}
 use Rattle.run_shows.specs.Given.CallersKind.{tries_to_insert}
 use Rattle.run_shows.specs.Given.CallersPairs.{Begun, Given, KeepsGiven}
 use Rattle.run_shows.specs.Given.CallersRows.{once_over, past_row}
 use Rattle.run_shows.specs.Given.CallersSights.{seen_by}
-use Rattle.run_shows.specs.Given.CallersTogether.{CallOnKey, UnderWay, OnKey, Knows, Stands, in_slot}
+use Rattle.run_shows.specs.Given.CallersTogether.{CallOnKey, UnderWay, OnKey, Knows, IsAtPoint, in_slot}
 use Rattle.run_effects.specs.Effects.Known.{Known}
 use Rattle.run_shows.specs.Given.FinishesMaps.{Standing}
 use Rattle.run_shows.specs.Follows.Calls.{IsCalled}
 use Rattle.run_executor.specs.Given.HandsAsked.{IsAsked, IsAskedAs, IsAskedOn}
-use Rattle.run_executor.specs.Given.MomentsWhole.{ShowsWhole}
+use Rattle.run_executor.specs.Given.MomentsWhole.{RefinesWhole}
 use Rattle.run_kept.proofs.Values.KeyEnds.{MayFind}
 use Rattle.run_shows.specs.Scenes.Held.{Held, IsAt}
 use Rattle.run_shows.specs.Scenes.Scene.{Scene, slot_of}
@@ -46,7 +46,7 @@ word_some : (block code : ℕ) → 0 < block → block < 2 ^ 53 → code < 2 ^ 6
 word_some block code some small few none = absurd (omega (arith, some, small, few, none))
 
 module _ {K V : Type 0} (same : K → K → Bool) (hash : ℕ → K → ℕ) (name : ℕ → List ℕ) (m : Moment K V) (known : Known) (s : Scene K V) (e : Held K V) (at_e : IsAt same hash e s)
-    (whole : ShowsWhole same name m known s) (map i : ℕ) (st : Standing K) (stands_there : s.maps map ≡ Some st) (c : CallThere K V) (c_is : call_of (name i) m ≡ Some c) where
+    (whole : RefinesWhole same name m known s) (map i : ℕ) (st : Standing K) (stands_there : s.maps map ≡ Some st) (c : CallThere K V) (c_is : call_of (name i) m ≡ Some c) where
   pub called_so : (u : UnderWay K V K) → s.calls map i ≡ Some u → IsCalled same u c.call
   called_so u here =
       let there = whole.all.shown.calls map i u here in
@@ -61,7 +61,7 @@ module _ {K V : Type 0} (same : K → K → Bool) (hash : ℕ → K → ℕ) (na
     asked_on one is = subst (λ (call : Call K V). IsAskedAs (whole.all.shown.number map) st.chart.stored known x call c) is its_asked
 
     abbrev StandsSo : Type 0
-    StandsSo = Stands V same st.hash same st.setting slot_of s.world st.chart (seen_by st.blocks (st.sights (slot_of i))) i (OnKey x)
+    StandsSo = IsAtPoint V same st.hash same st.setting slot_of s.world st.chart (seen_by st.blocks (st.sights (slot_of i))) i (OnKey x)
 
     stands : StandsSo
     stands = (at_e.together.makings.standing.each map st stands_there).stand i (OnKey x) here
@@ -119,7 +119,7 @@ module _ {K V : Type 0} (same : K → K → Bool) (hash : ℕ → K → ℕ) (na
           of_facts (at.Tries old new) try point = point.0
           of_facts _ try point = absurd try
 
-          of_late : (p : Calling) → IsTry p → LateCalling same st.hash same s.world i its st.chart seen x.keys x.began x.call p → HasIts same st.hash same s.world i its st.chart seen x.keys Unchanged x.call
+          of_late : (p : Calling) → IsTry p → SupersededCalling same st.hash same s.world i its st.chart seen x.keys x.began x.call p → HasIts same st.hash same s.world i its st.chart seen x.keys Unchanged x.call
           of_late at.Probes try point = point.0
           of_late (at.Tries old new) try point = point.0
           of_late _ try point = absurd try
@@ -134,12 +134,12 @@ module _ {K V : Type 0} (same : K → K → Bool) (hash : ℕ → K → ℕ) (na
             | inl facts ↦
                 block_there x.change (of_facts p try (subst (λ (q : Calling). CallingFacts same st.hash same s.world i its st.chart seen x.keys x.change x.call q) is facts.point)) facts.code none
             | inr late ↦
-                block_there Unchanged (of_late p try (subst (λ (q : Calling). LateCalling same st.hash same s.world i its st.chart seen x.keys x.began x.call q) is late.1.point)) late.1.code none
+                block_there Unchanged (of_late p try (subst (λ (q : Calling). SupersededCalling same st.hash same s.world i its st.chart seen x.keys x.began x.call q) is late.1.point)) late.1.code none
           ]
           by (inr (row, is_row, knows)) = no_row p try (subst IsRowOfCall is is_row)
 
       -- a disposal answers no such thing
-      tells_none : (change : Change) (word : ℕ) → Tells same st.hash same s.world i its st.chart seen x.keys x.change change (answers.Found word) → ⊥
+      tells_none : (change : Change) (word : ℕ) → AnswersChange same st.hash same s.world i its st.chart seen x.keys x.change change (answers.Found word) → ⊥
       tells_none Unchanged word tells = tells
       tells_none (Stored n) word tells = tells
       tells_none (Replaced o n) word tells = tells
@@ -148,17 +148,17 @@ module _ {K V : Type 0} (same : K → K → Bool) (hash : ℕ → K → ℕ) (na
       disposes_none : (dispose : Dispose) (answer : KeyAnswer) → x.call.stands ≡ at.Disposes dispose answer → (word : ℕ) → answer ≡ answers.Found word → ⊥
       disposes_none dispose answer is word found = by stands
         where
-          told : Tells same st.hash same s.world i its st.chart seen x.keys x.change x.change answer → ⊥
-          told tells = tells_none x.change word (subst (λ (a : KeyAnswer). Tells same st.hash same s.world i its st.chart seen x.keys x.change x.change a) found tells)
+          told : AnswersChange same st.hash same s.world i its st.chart seen x.keys x.change x.change answer → ⊥
+          told tells = tells_none x.change word (subst (λ (a : KeyAnswer). AnswersChange same st.hash same s.world i its st.chart seen x.keys x.change x.change a) found tells)
 
           by : StandsSo → ⊥
           by (inl (rests, knows)) = elim (knows.facts) as (λ _. ⊥) [
             | inl facts ↦ told (subst (λ (q : Calling). CallingFacts same st.hash same s.world i its st.chart seen x.keys x.change x.call q) is facts.point).1
-            | inr late ↦ subst (λ (q : Calling). LateCalling same st.hash same s.world i its st.chart seen x.keys x.began x.call q) is late.1.point
+            | inr late ↦ subst (λ (q : Calling). SupersededCalling same st.hash same s.world i its st.chart seen x.keys x.began x.call q) is late.1.point
           ]
           by (inr (row, is_row, knows)) = elim (knows.facts) as (λ _. ⊥) [
             | inl facts ↦ told (subst (λ (q : Calling). CallingFacts same st.hash same s.world i its st.chart seen x.keys x.change (once_over x.call) (past_row q)) is facts.point).1
-            | inr late ↦ subst (λ (q : Calling). LateCalling same st.hash same s.world i its st.chart seen x.keys x.began (once_over x.call) (past_row q)) is late.1.point
+            | inr late ↦ subst (λ (q : Calling). SupersededCalling same st.hash same s.world i its st.chart seen x.keys x.began (once_over x.call) (past_row q)) is late.1.point
           ]
 
       -- nor is it a lookup

@@ -32,7 +32,7 @@ use Rattle.run_effects.specs.Given.ResizeDeclared.yielding.Yielding.TheVariants 
 use Rattle.papaya_raw.specs.Answers.{ended}
 use Rattle.papaya_raw.specs.Call.{made, makes_of, root_found, next_found, dropped, key_read, pair_read, word_read, word_found, tried, looked, looks_for, first_made, next_made, helped, copied, disposed, plan_at, call_plan}
 use Rattle.papaya_raw.specs.CallFills.{filled, putting_by, fill_by, emptied, fills_with, given_up}
-use Rattle.papaya_raw.specs.CallPoints.{going, over, ending, storing, burying, at_gap, gap_by, asking_at, pair_by, tableless, at_free, at_last, at_pair, told_of, entering, went_on, changed, having_met}
+use Rattle.papaya_raw.specs.CallPoints.{going, over, ending, storing, burying, at_gap, gap_by, asking_at, pair_by, tableless, at_free, at_last, at_pair, after_finding, entering, continued_in, changed, having_met}
 use Rattle.papaya_raw.specs.Replies.{value_for, as_own}
 use Rattle.papaya_raw.specs.declared.machines.answer.Called.{Called}
 use Rattle.papaya_raw.specs.declared.machines.answer.Called.TheVariants as called
@@ -134,7 +134,7 @@ module _ (Founds : ℕ → Type 0) {K V Q : Type 0} where
     last_comes missing.Puts = tt
     last_comes missing.Asks = either (is_incremental p.setting.mode) (asking_at gaps.Last p) _ (asking_comes gaps.Last) tt
 
-    on_comes : (table : Table) → Comes (went_on p table)
+    on_comes : (table : Table) → Comes (continued_in p table)
     on_comes table =
         either (is_incremental p.setting.mode) _ (going p (at.Copies (copying_all p.setting p.trial.table table))) (either p.helped (entering p table) _ tt tt) tt
 
@@ -154,7 +154,7 @@ module _ (Founds : ℕ → Type 0) {K V Q : Type 0} where
       there_comes there.Asks word =
           either (block_in word == p.replies.pair) (pair_by p.replies.present p word) (pair_by tells.Nothing p word) (pair_comes p.replies.present word) (pair_comes tells.Nothing word)
 
-      told_comes : (loaded : Bool) (word : ℕ) (found : Finding) → Comes (told_of loaded p word found)
+      told_comes : (loaded : Bool) (word : ℕ) (found : Finding) → Comes (after_finding loaded p word found)
       told_comes loaded word finds.Free = free_comes p.missing
       told_comes loaded word finds.Passed =
           passed_so Comes (having_met p word) (λ next. tt) tt

@@ -6,7 +6,7 @@ use Rattle.run_schedules.specs.Given.SeizeWordsPlan.{Steps}
 use Rattle.papaya_raw.specs.Given.TablesDeclared.node.Node.{Node}
 use Rattle.papaya_raw.specs.Given.TablesDeclared.node.Node.TheVariants as node
 use Rattle.papaya_raw.specs.Call.{call_plan}
-use Rattle.papaya_raw.specs.CallAsks.{absent_told, present_told, told_at}
+use Rattle.papaya_raw.specs.CallAsks.{absent_replied, present_replied, replied_at}
 use Rattle.papaya_raw.specs.CallPoints.{ending, going, over}
 use Rattle.papaya_raw.specs.Machine.{called, machine_replied}
 use Rattle.papaya_raw.specs.Progress.{of_called}
@@ -43,18 +43,18 @@ use Rattle.run_shows.specs.Given.CallersKind.{Kind, tries_to_insert}
 use Rattle.run_shows.specs.Given.CallersPairs.{Begun, Given, HandsBack}
 use Rattle.run_shows.specs.Given.CallersTogether.{CallOnKey, UnderWay, OnKey, ForRoom, Counting, OverAll}
 use Rattle.run_effects.specs.Effects.Known.{Known}
-use Rattle.run_shows.specs.Given.FinishesMachines.{DidOfKind, GoesOnAs, machine_of}
+use Rattle.run_shows.specs.Given.FinishesMachines.{DidOfKind, ContinuesAs, machine_of}
 use Rattle.run_shows.specs.Given.FinishesMaps.{Standing}
 use Rattle.run_shows.specs.Follows.Calls.{IsCalled}
-use Rattle.run_executor.specs.Given.HandsAsked.{AsksThere, as_told}
-use Rattle.run_executor.specs.Given.MomentsWhole.{ShowsWhole}
+use Rattle.run_executor.specs.Given.HandsAsked.{AsksThere, reply_to_machine}
+use Rattle.run_executor.specs.Given.MomentsWhole.{RefinesWhole}
 use Rattle.run_shows.proofs.Others.Outcomes.{told_in}
 use Rattle.run_effects.specs.declared.changed.Changed.TheVariants as changed
 use Rattle.run_executor.specs.Named.Machines.{aborted_by}
 use Rattle.run_executor.specs.Named.Seen.{kind_of}
 use Rattle.run_executor.specs.Named.Telling.{value_of}
 use Rattle.run_executor.specs.declared.kind.CallKind.TheVariants as kind
-use Rattle.run_kept.specs.Values.Values.{InsertsTellTheirs, IsEnding, KeepsValue, ValuesBegin, ValuesGoOn, ValuesTaken, kept_after}
+use Rattle.run_kept.specs.Values.Values.{InsertsTellTheirs, IsEnding, KeepsValue, ValuesBegin, ValuesContinue, ValuesTaken, kept_after}
 use Rattle.run_kept.proofs.Values.KeyEnds.{Comes, IsNotOver, MayFind, ending_stays, key_comes_so}
 use Rattle.run_kept.proofs.Values.Inserts.{FoundOver, asked_on, called_so, its_pair, may_find, takes_nothing}
 use Rattle.run_shows.proofs.Scenes.Told.{as_step}
@@ -79,32 +79,32 @@ module _ {K V Q : Type 0} where
       by true = tt
       by false = tt
 
-  absent_aborts : (t : Takes) (p : KeyCall K V Q) (gap : Gap) → (absent_told t p gap reply.Abort).1 ≡ Ok tt → IsEnding (absent_told t p gap reply.Abort).0.stands
+  absent_aborts : (t : Takes) (p : KeyCall K V Q) (gap : Gap) → (absent_replied t p gap reply.Abort).1 ≡ Ok tt → IsEnding (absent_replied t p gap reply.Abort).0.stands
   absent_aborts takes.Changes p gap taken = ends_now p (ends.Answered answers.Absent)
   absent_aborts takes.Values p gap taken = absurd (cc taken)
   absent_aborts takes.Nothing p gap taken = absurd (cc taken)
   absent_aborts takes.Choices p gap taken = absurd (cc taken)
 
-  present_aborts : (t : Takes) (p : KeyCall K V Q) (word : ℕ) → (present_told t p word reply.Abort).1 ≡ Ok tt → IsEnding (present_told t p word reply.Abort).0.stands
+  present_aborts : (t : Takes) (p : KeyCall K V Q) (word : ℕ) → (present_replied t p word reply.Abort).1 ≡ Ok tt → IsEnding (present_replied t p word reply.Abort).0.stands
   present_aborts takes.Changes p word taken = ends_now p (ends.Answered (answers.Found word))
   present_aborts takes.Values p word taken = absurd (cc taken)
   present_aborts takes.Nothing p word taken = absurd (cc taken)
   present_aborts takes.Choices p word taken = absurd (cc taken)
 
-  aborts : (it : AskingAt) (p : KeyCall K V Q) → (told_at (at.Asks it) p reply.Abort).1 ≡ Ok tt → IsEnding (told_at (at.Asks it) p reply.Abort).0.stands
+  aborts : (it : AskingAt) (p : KeyCall K V Q) → (replied_at (at.Asks it) p reply.Abort).1 ≡ Ok tt → IsEnding (replied_at (at.Asks it) p reply.Abort).0.stands
   aborts (asking.Absent gap) p taken = absent_aborts p.replies.takes p gap taken
   aborts (asking.Present word) p taken = present_aborts p.replies.takes p word taken
   aborts (asking.Fills word) p taken = absurd (cc taken)
   aborts (asking.GivesUp word) p taken = absurd (cc taken)
 
   -- one that takes nothing takes no reply
-  absent_nothing : (t : Takes) → t ≡ takes.Nothing → (p : KeyCall K V Q) (gap : Gap) (r : MachineReply V) → (absent_told t p gap r).1 ≡ Ok tt → ⊥
-  absent_nothing t is p gap r taken = (let none : Err r ≡ Ok tt = subst (λ (x : Takes). (absent_told x p gap r).1 ≡ Ok tt) is taken in cc none)
+  absent_nothing : (t : Takes) → t ≡ takes.Nothing → (p : KeyCall K V Q) (gap : Gap) (r : MachineReply V) → (absent_replied t p gap r).1 ≡ Ok tt → ⊥
+  absent_nothing t is p gap r taken = (let none : Err r ≡ Ok tt = subst (λ (x : Takes). (absent_replied x p gap r).1 ≡ Ok tt) is taken in cc none)
 
-  present_nothing : (t : Takes) → t ≡ takes.Nothing → (p : KeyCall K V Q) (word : ℕ) (r : MachineReply V) → (present_told t p word r).1 ≡ Ok tt → ⊥
-  present_nothing t is p word r taken = (let none : Err r ≡ Ok tt = subst (λ (x : Takes). (present_told x p word r).1 ≡ Ok tt) is taken in cc none)
+  present_nothing : (t : Takes) → t ≡ takes.Nothing → (p : KeyCall K V Q) (word : ℕ) (r : MachineReply V) → (present_replied t p word r).1 ≡ Ok tt → ⊥
+  present_nothing t is p word r taken = (let none : Err r ≡ Ok tt = subst (λ (x : Takes). (present_replied x p word r).1 ≡ Ok tt) is taken in cc none)
 
-  takes_none : (it : AskingAt) (p : KeyCall K V Q) → p.replies.takes ≡ takes.Nothing → (r : MachineReply V) → (told_at (at.Asks it) p r).1 ≡ Ok tt → ⊥
+  takes_none : (it : AskingAt) (p : KeyCall K V Q) → p.replies.takes ≡ takes.Nothing → (r : MachineReply V) → (replied_at (at.Asks it) p r).1 ≡ Ok tt → ⊥
   takes_none (asking.Absent gap) p is r taken = absent_nothing p.replies.takes is p gap r taken
   takes_none (asking.Present word) p is r taken = present_nothing p.replies.takes is p word r taken
   takes_none (asking.Fills word) p is r taken = cc taken
@@ -113,7 +113,7 @@ module _ {K V Q : Type 0} where
 -- A step.
 
 module _ {K V : Type 0} (same : K → K → Bool) (hash : ℕ → K → ℕ) (name : ℕ → List ℕ) (m : Moment K V) (known : Known) (s : Scene K V) (old new : Held K V) (at_old : IsAt same hash old s)
-    (whole : ShowsWhole same name m known s) (map i : ℕ) (x : CallOnKey K V K) (here : s.calls map i ≡ Some (OnKey x)) (said : Progress (Node K V)) (leads : StepLeads same hash i said s old new)
+    (whole : RefinesWhole same name m known s) (map i : ℕ) (x : CallOnKey K V K) (here : s.calls map i ≡ Some (OnKey x)) (said : Progress (Node K V)) (leads : StepLeads same hash i said s old new)
     (c : CallThere K V) (c_is : call_of (name i) m ≡ Some c) where
   abbrev Stepped : Type 0
   Stepped = (r : KeyCall K V K × Called (Node K V)) × (((leads map (OnKey x) here).1, said) ≡ called r) × Steps Took value_at old.memory (call_plan same same (leads map (OnKey x) here).0.hash x.call) new.memory r
@@ -156,15 +156,15 @@ module _ {K V : Type 0} (same : K → K → Bool) (hash : ℕ → K → ℕ) (na
     next_machine : machine_of next ≡ kinds.Key stepped.0.0
     next_machine = by said (leads map (OnKey x) here).4.goes_on ∙ machine_is
       where
-        by : (p : Progress (Node K V)) → GoesOnAs (leads map (OnKey x) here).1 p (leads map (OnKey x) here).4.next → machine_of next ≡ (leads map (OnKey x) here).1
+        by : (p : Progress (Node K V)) → ContinuesAs (leads map (OnKey x) here).1 p (leads map (OnKey x) here).4.next → machine_of next ≡ (leads map (OnKey x) here).1
         by (progress.Done answer) none = absurd (let two = sym none ∙ next_is in cc two)
         by (progress.Refused fault) none = absurd (let two = sym none ∙ next_is in cc two)
         by _ (u, is, machine) = ap machine_of (same_call next u (sym next_is ∙ is)) ∙ machine
 
     not_ended : (p : Progress (Node K V)) → said ≡ p → has_ended p ≡ true → ⊥
-    not_ended p is ended = by p ended (subst (λ (q : Progress (Node K V)). GoesOnAs (leads map (OnKey x) here).1 q (leads map (OnKey x) here).4.next) is (leads map (OnKey x) here).4.goes_on)
+    not_ended p is ended = by p ended (subst (λ (q : Progress (Node K V)). ContinuesAs (leads map (OnKey x) here).1 q (leads map (OnKey x) here).4.next) is (leads map (OnKey x) here).4.goes_on)
       where
-        by : (p : Progress (Node K V)) → has_ended p ≡ true → GoesOnAs (leads map (OnKey x) here).1 p (leads map (OnKey x) here).4.next → ⊥
+        by : (p : Progress (Node K V)) → has_ended p ≡ true → ContinuesAs (leads map (OnKey x) here).1 p (leads map (OnKey x) here).4.next → ⊥
         by (progress.Done answer) ended none = (let two = sym none ∙ next_is in cc two)
         by (progress.Refused fault) ended none = (let two = sym none ∙ next_is in cc two)
         by _ ended goes = cc ended
@@ -262,7 +262,7 @@ on_no_key same u call is other one e = by u refl (subst (IsCalled same u) e is)
     by (OverAll o) v_is called_it = called_it
 
 module _ (K V : Type 0) (same : K → K → Bool) (hash : ℕ → K → ℕ) where
-  pub values_go_on : ValuesGoOn K V same hash
+  pub values_go_on : ValuesContinue K V same hash
   values_go_on name m known s old new at_old whole map i (OnKey x) here said leads c c_is value keeps next next_is =
       keeps_on same hash name m known s old new at_old whole map i x here said leads c c_is next next_is value c.call refl keeps
   values_go_on name m known s old new at_old whole map i (ForRoom r) here said leads c c_is value keeps next next_is =
@@ -292,32 +292,32 @@ module _ (K V : Type 0) (same : K → K → Bool) (hash : ℕ → K → ℕ) whe
       absurd (subst (IsCalled same (OverAll o)) is (called_so same hash name m known s old at_old whole map i (leads map (OverAll o) here).0 (leads map (OverAll o) here).2 c c_is (OverAll o) here))
 
   -- of a call on one key that takes a reply
-  module _ (name : ℕ → List ℕ) (m : Moment K V) (known : Known) (s : Scene K V) (e : Held K V) (at_e : IsAt same hash e s) (whole : ShowsWhole same name m known s) (map i : ℕ) (x : CallOnKey K V K)
+  module _ (name : ℕ → List ℕ) (m : Moment K V) (known : Known) (s : Scene K V) (e : Held K V) (at_e : IsAt same hash e s) (whole : RefinesWhole same name m known s) (map i : ℕ) (x : CallOnKey K V K)
       (here : s.calls map i ≡ Some (OnKey x)) (st : Standing K) (stands_there : s.maps map ≡ Some st) (c : CallThere K V) (c_is : call_of (name i) m ≡ Some c) (question : Option ℕ)
-      (asks_it : c.stands ≡ Asking question) (told_it : Reply V) (taken : (told_at x.call.stands x.call (as_told told_it)).1 ≡ Ok tt) (value : Option V) where
+      (asks_it : c.stands ≡ Asking question) (told_it : Reply V) (taken : (replied_at x.call.stands x.call (reply_to_machine told_it)).1 ≡ Ok tt) (value : Option V) where
     its_asking : (one : OneKey K V) → c.call ≡ On one → AsksThere known x.call.stands question
     its_asking one is = (asked_on same hash name m known s e at_e whole map i st stands_there c c_is x here one is).asks question asks_it
 
     -- where it is told to abort
-    aborts_now : (it : AskingAt) → x.call.stands ≡ at.Asks it → (v : V) → told_it ≡ Aborts v → IsEnding (told_at x.call.stands x.call (as_told told_it)).0.stands × (aborted_by told_it ≡ Some v)
+    aborts_now : (it : AskingAt) → x.call.stands ≡ at.Asks it → (v : V) → told_it ≡ Aborts v → IsEnding (replied_at x.call.stands x.call (reply_to_machine told_it)).0.stands × (aborted_by told_it ≡ Some v)
     aborts_now it stands v is = (
-      subst (λ (p : Calling). IsEnding (told_at p x.call (as_told told_it)).0.stands) (sym stands)
-          (subst (λ (r : Reply V). IsEnding (told_at (at.Asks it) x.call (as_told r)).0.stands) (sym is)
-          (aborts it x.call (subst (λ (r : Reply V). (told_at (at.Asks it) x.call (as_told r)).1 ≡ Ok tt) is (subst (λ (p : Calling). (told_at p x.call (as_told told_it)).1 ≡ Ok tt) stands taken)))),
+      subst (λ (p : Calling). IsEnding (replied_at p x.call (reply_to_machine told_it)).0.stands) (sym stands)
+          (subst (λ (r : Reply V). IsEnding (replied_at (at.Asks it) x.call (reply_to_machine r)).0.stands) (sym is)
+          (aborts it x.call (subst (λ (r : Reply V). (replied_at (at.Asks it) x.call (reply_to_machine r)).1 ≡ Ok tt) is (subst (λ (p : Calling). (replied_at p x.call (reply_to_machine told_it)).1 ≡ Ok tt) stands taken)))),
       ap aborted_by is,
     )
 
     takes_so : (call : Call K V) → c.call ≡ call → KeepsValue call c.replies (kinds.Key x.call) value
-        → KeepsValue call ((question, told_it) ∷ c.replies) (kinds.Key (told_at x.call.stands x.call (as_told told_it)).0) (aborted_by told_it)
+        → KeepsValue call ((question, told_it) ∷ c.replies) (kinds.Key (replied_at x.call.stands x.call (reply_to_machine told_it)).0) (aborted_by told_it)
     takes_so (On (TryInsert k v)) is keeps =
         let asking = its_asking (TryInsert k v) is in
         λ word over.
-        absurd (takes_none asking.0 x.call (takes_nothing same hash name m known s e at_e whole map i st stands_there c c_is x here k v is) (as_told told_it)
-        (subst (λ (p : Calling). (told_at p x.call (as_told told_it)).1 ≡ Ok tt) asking.1 taken))
+        absurd (takes_none asking.0 x.call (takes_nothing same hash name m known s e at_e whole map i st stands_there c c_is x here k v is) (reply_to_machine told_it)
+        (subst (λ (p : Calling). (replied_at p x.call (reply_to_machine told_it)).1 ≡ Ok tt) asking.1 taken))
     takes_so (On (Compute k)) is keeps = λ about v told. by about v (same_question about question) told
       where
         by : (about : Option ℕ) (v : V) (q : Bool) → (if q then Some told_it else reply_to about c.replies) ≡ Some (Aborts v)
-            → IsEnding (told_at x.call.stands x.call (as_told told_it)).0.stands × (aborted_by told_it ≡ Some v)
+            → IsEnding (replied_at x.call.stands x.call (reply_to_machine told_it)).0.stands × (aborted_by told_it ≡ Some v)
         by about v true told = (let asking = its_asking (Compute k) is in aborts_now asking.0 asking.1 v (same_call told_it (Aborts v) told))
         by about v false told = (let asking = its_asking (Compute k) is in absurd (subst IsEnding asking.1 (keeps about v told).0))
     takes_so _ is keeps = tt
@@ -327,10 +327,10 @@ module _ (K V : Type 0) (same : K → K → Bool) (hash : ℕ → K → ℕ) whe
       takes_so name m known s e at_e whole map i x here st stands_there c c_is question asks_it told_it taken value c.call refl keeps
   values_taken name m known s e at_e whole map i (ForRoom r) here st stands_there c c_is question asks_it told_it taken value keeps =
       keeps_none c.call (on_no_key same (ForRoom r) c.call (called_so same hash name m known s e at_e whole map i st stands_there c c_is (ForRoom r) here) (λ x e. absurd (cc e))) ((question, told_it) ∷ c.replies)
-      (machine_replied (machine_of (ForRoom r)) (as_told told_it)).0 (aborted_by told_it)
+      (machine_replied (machine_of (ForRoom r)) (reply_to_machine told_it)).0 (aborted_by told_it)
   values_taken name m known s e at_e whole map i (Counting sum) here st stands_there c c_is question asks_it told_it taken value keeps =
       keeps_none c.call (on_no_key same (Counting sum) c.call (called_so same hash name m known s e at_e whole map i st stands_there c c_is (Counting sum) here) (λ x e. absurd (cc e)))
-      ((question, told_it) ∷ c.replies) (machine_replied (machine_of (Counting sum)) (as_told told_it)).0 (aborted_by told_it)
+      ((question, told_it) ∷ c.replies) (machine_replied (machine_of (Counting sum)) (reply_to_machine told_it)).0 (aborted_by told_it)
   values_taken name m known s e at_e whole map i (OverAll o) here st stands_there c c_is question asks_it told_it taken value keeps =
       keeps_none c.call (on_no_key same (OverAll o) c.call (called_so same hash name m known s e at_e whole map i st stands_there c c_is (OverAll o) here) (λ x e. absurd (cc e)))
-      ((question, told_it) ∷ c.replies) (machine_replied (machine_of (OverAll o)) (as_told told_it)).0 (aborted_by told_it)
+      ((question, told_it) ∷ c.replies) (machine_replied (machine_of (OverAll o)) (reply_to_machine told_it)).0 (aborted_by told_it)

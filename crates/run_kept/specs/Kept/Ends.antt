@@ -12,5 +12,5 @@ use Rattle.run_shows.specs.Scenes.Scene.{Scene}
 abbrev pub HaveEndsIn : {K V : Type 0} → Bool → Chart K → (ℕ → Option (UnderWay K V K)) → Type 0
 HaveEndsIn incremental c calls = cond incremental (HaveEnds c calls) (HaveEndsBlocking c calls)
 
-abbrev pub ShowsEnds : {K V : Type 0} → Scene K V → Type 0
-ShowsEnds {K} s = (map : ℕ) (st : Standing K) → s.maps map ≡ Some st → HaveEndsIn (is_incremental st.setting.mode) st.chart (s.calls map)
+abbrev pub MapsHaveEnds : {K V : Type 0} → Scene K V → Type 0
+MapsHaveEnds {K} s = (map : ℕ) (st : Standing K) → s.maps map ≡ Some st → HaveEndsIn (is_incremental st.setting.mode) st.chart (s.calls map)

@@ -2,22 +2,22 @@
 use Rattle.std.specs.Prelude.{ℕ, List}
 use Rattle.run_schedules.specs.Schedules.Moment.{Moment}
 use Rattle.run_effects.specs.Effects.Known.{Known}
-use Rattle.run_blocks.specs.Owes.Grown.{ShowsGrown}
-use Rattle.run_blocks.specs.Owes.Looking.{ShowsLooking}
-use Rattle.run_blocks.specs.Owes.Made.{ShowsMade}
-use Rattle.run_blocks.specs.Owes.Short.{ShowsShort}
-use Rattle.run_blocks.specs.Owes.Tables.{ShowsTables}
-use Rattle.run_blocks.specs.Given.SettlesCounts.{ShowsCounts}
-use Rattle.run_blocks.specs.Given.SettlesEntries.{ShowsEntries}
-use Rattle.run_blocks.specs.Given.SettlesHand.{ShowsOwed}
-use Rattle.run_blocks.specs.Given.SettlesHanding.{HandsTold}
-use Rattle.run_waiting.specs.Lives.Behind.{ShowsWaiting, WaitsOnce}
-use Rattle.run_waiting.specs.Lives.Handed.{ShowsHanded}
-use Rattle.run_waiting.specs.Lives.LeftTables.{ShowsLeft}
-use Rattle.run_waiting.specs.Lives.Lying.{ShowsLying}
-use Rattle.run_waiting.specs.Lives.Order.{ShowsOrder}
-use Rattle.run_waiting.specs.Lives.Retired.{ShowsRetired}
-use Rattle.run_kept.specs.Kept.Ends.{ShowsEnds}
+use Rattle.run_blocks.specs.Owes.Grown.{RefinesGrown}
+use Rattle.run_blocks.specs.Owes.Looking.{RefinesLooking}
+use Rattle.run_blocks.specs.Owes.Made.{RefinesMade}
+use Rattle.run_blocks.specs.Owes.Short.{RefinesShort}
+use Rattle.run_blocks.specs.Owes.Tables.{RefinesOwnTables}
+use Rattle.run_blocks.specs.Given.SettlesCounts.{RefinesCounts}
+use Rattle.run_blocks.specs.Given.SettlesEntries.{EntriesAreBlank}
+use Rattle.run_blocks.specs.Given.SettlesHand.{RefinesObligations}
+use Rattle.run_blocks.specs.Given.SettlesHanding.{RowsAreHandingOver}
+use Rattle.run_waiting.specs.Lives.Behind.{RefinesWaiting, WaitsOnce}
+use Rattle.run_waiting.specs.Lives.Handed.{RefinesHanded}
+use Rattle.run_waiting.specs.Lives.LeftTables.{RefinesLeft}
+use Rattle.run_waiting.specs.Lives.Lying.{RefinesLying}
+use Rattle.run_waiting.specs.Lives.Order.{RefinesOrder}
+use Rattle.run_waiting.specs.Lives.Retired.{RefinesRetiredTables}
+use Rattle.run_kept.specs.Kept.Ends.{MapsHaveEnds}
 use Rattle.run_shows.specs.Scenes.Scene.{Scene}
 
 -- What somebody has is blank, and a row within a call retires one block. Each call has made just that block for a pair, and that table, which the moment says, and is short
@@ -26,21 +26,21 @@ use Rattle.run_shows.specs.Scenes.Scene.{Scene}
 -- has is retired, or about to be; and
 -- each that is left over is one of a map whose end is under way. Each pair that the collector has was handed over, or waits, or is in hand still. Each copying that is not over has a place that is not counted, or a call that is to
 -- end it; in blocking mode also one that is to give it up, where a place of it was.
-pub record ShowsKept {K V : Type 0} (name : ℕ → List ℕ) (m : Moment K V) (known : Known) (s : Scene K V) : Type 0 where
-  pub entries : ShowsEntries s
-  pub made : ShowsMade name m known s
-  pub tables : ShowsTables name m known s
-  pub looking : ShowsLooking name m s
-  pub short : ShowsShort name m s
-  pub grown : ShowsGrown name m s
-  pub counts : ShowsCounts name m s
-  pub owed : ShowsOwed name m known s
-  pub handing : HandsTold name m s
-  pub waiting : ShowsWaiting m known s.world
+pub record RefinesKept {K V : Type 0} (name : ℕ → List ℕ) (m : Moment K V) (known : Known) (s : Scene K V) : Type 0 where
+  pub entries : EntriesAreBlank s
+  pub made : RefinesMade name m known s
+  pub tables : RefinesOwnTables name m known s
+  pub looking : RefinesLooking name m s
+  pub short : RefinesShort name m s
+  pub grown : RefinesGrown name m s
+  pub counts : RefinesCounts name m s
+  pub owed : RefinesObligations name m known s
+  pub handing : RowsAreHandingOver name m s
+  pub waiting : RefinesWaiting m known s.world
   pub once : WaitsOnce m.deferred
-  pub lying : ShowsLying m known s.world
-  pub order : ShowsOrder m known s.world
-  pub retired : ShowsRetired m known s
-  pub left : ShowsLeft known s
-  pub handed : ShowsHanded m known s
-  pub ends : ShowsEnds s
+  pub lying : RefinesLying m known s.world
+  pub order : RefinesOrder m known s.world
+  pub retired : RefinesRetiredTables m known s
+  pub left : RefinesLeft known s
+  pub handed : RefinesHanded m known s
+  pub ends : MapsHaveEnds s

@@ -28,7 +28,7 @@ use Rattle.run_shows.specs.Given.FinishesMakings.{Beginning}
 use Rattle.run_shows.specs.Given.FinishesMaps.{Standing, with_call as with_in}
 use Rattle.run_shows.specs.Follows.Calling.{NoneNamed, told, come_to}
 use Rattle.run_shows.specs.Follows.Calls.{IsCalled}
-use Rattle.run_shows.specs.Follows.Shows.{Shows}
+use Rattle.run_shows.specs.Follows.Shows.{Refines}
 use Rattle.run_executor.specs.Given.HandsCalling.{IsBegunFor}
 use Rattle.run_shows.specs.Others.Endings.{ending_after}
 use Rattle.run_shows.specs.Others.Makings.{WasNew, making_after}
@@ -37,8 +37,8 @@ use Rattle.run_shows.specs.Others.Walks.{given_up}
 use Rattle.run_executor.specs.Given.SpotsOnSlots.{WaitUnreclaimed}
 use Rattle.run_executor.specs.Given.MomentsEndings.{WaitsOn}
 use Rattle.run_executor.specs.Given.MomentsOnSlots.{HadRetired}
-use Rattle.run_executor.specs.Given.MomentsWhole.{ShowsWhole}
-use Rattle.run_kept.specs.Kept.Kept.{ShowsKept}
+use Rattle.run_executor.specs.Given.MomentsWhole.{RefinesWhole}
+use Rattle.run_kept.specs.Kept.Kept.{RefinesKept}
 use Rattle.run_shows.specs.Scenes.Beginning.{Begins}
 use Rattle.run_shows.specs.Scenes.Ending.{EndingLeads, ending_begun}
 use Rattle.run_shows.specs.Scenes.Held.{Held, IsAt}
@@ -52,122 +52,122 @@ use Rattle.run_shows.specs.Scenes.Stepping.{StepLeads, scene_after}
 module _ (K V : Type 0) where
   -- The promises: so it is before all events,
   abbrev pub BeginsKept : Type 0
-  BeginsKept = (roots : ℕ) (name : ℕ → List ℕ) → ShowsKept {K = K} {V = V} name start nothing_known (at_first roots)
+  BeginsKept = (roots : ℕ) (name : ℕ → List ℕ) → RefinesKept {K = K} {V = V} name start nothing_known (at_first roots)
 
   -- as long as nothing of this has changed, as where an event is over, a map comes or is there no more, or somebody comes or goes,
   abbrev pub StaysKept : Type 0
   StaysKept =
-      (name : ℕ → List ℕ) (m v : Moment K V) (known : Known) (s t : Scene K V) → ShowsKept name m known s
+      (name : ℕ → List ℕ) (m v : Moment K V) (known : Known) (s t : Scene K V) → RefinesKept name m known s
       → v.calls ≡ m.calls → v.tables ≡ m.tables → v.deferred ≡ m.deferred → v.place ≡ m.place → t.world ≡ s.world → t.calls ≡ s.calls → t.makers ≡ s.makers → t.enders ≡ s.enders
-      → t.maps ≡ s.maps → ShowsKept name v known t
+      → t.maps ≡ s.maps → RefinesKept name v known t
 
   -- by other names of callers that have no call,
   abbrev pub RenamedKept : Type 0
-  RenamedKept = (name name2 : ℕ → List ℕ) (m : Moment K V) (known : Known) (s : Scene K V) → ((i : ℕ) → HasCall s i → name2 i ≡ name i) → ShowsKept name m known s → ShowsKept name2 m known s
+  RenamedKept = (name name2 : ℕ → List ℕ) (m : Moment K V) (known : Known) (s : Scene K V) → ((i : ℕ) → HasCall s i → name2 i ≡ name i) → RefinesKept name m known s → RefinesKept name2 m known s
 
   -- where a call comes to an outcome: where that is its end, no call under way has its name any more,
   abbrev pub CallsComeToKept : Type 0
   CallsComeToKept =
-      (same : K → K → Bool) (name : ℕ → List ℕ) (m : Moment K V) (known : Known) (s : Scene K V) → ShowsWhole same name m known s → ShowsKept name m known s
-      → (own : List ℕ) (outcome : Outcome V) (steps : ℕ) → (ends_call outcome ≡ true → NoneNamed name own s) → ShowsKept name (come_to own outcome steps m) known s
+      (same : K → K → Bool) (name : ℕ → List ℕ) (m : Moment K V) (known : Known) (s : Scene K V) → RefinesWhole same name m known s → RefinesKept name m known s
+      → (own : List ℕ) (outcome : Outcome V) (steps : ℕ) → (ends_call outcome ≡ true → NoneNamed name own s) → RefinesKept name (come_to own outcome steps m) known s
 
   -- and where the making of a map begins, by one that makes none.
   abbrev pub MakingsBeginKept : Type 0
   MakingsBeginKept =
-      (name : ℕ → List ℕ) (m : Moment K V) (known : Known) (s : Scene K V) → ShowsKept name m known s
-      → (i : ℕ) (b : Beginning K) → s.makers i ≡ None → ShowsKept name m known (record s { makers = with_at s.makers i (Some b) })
+      (name : ℕ → List ℕ) (m : Moment K V) (known : Known) (s : Scene K V) → RefinesKept name m known s
+      → (i : ℕ) (b : Beginning K) → s.makers i ≡ None → RefinesKept name m known (record s { makers = with_at s.makers i (Some b) })
 
 module _ (K V : Type 0) (same : K → K → Bool) (hash : ℕ → K → ℕ) where
   -- So it is where a call begins, by a name that no call under way has, and where its caller has no row under way: what is held has such a scene before it and after it, and the
   -- moment shows both,
   abbrev pub CallsBeginKept : Type 0
   CallsBeginKept =
-      (name : ℕ → List ℕ) (m : Moment K V) (known : Known) (s : Scene K V) (old new : Held K V) → IsAt same hash old s → ShowsWhole same name m known s → ShowsKept name m known s
+      (name : ℕ → List ℕ) (m : Moment K V) (known : Known) (s : Scene K V) (old new : Held K V) → IsAt same hash old s → RefinesWhole same name m known s → RefinesKept name m known s
       → (map i : ℕ) (standing : Standing K) → s.maps map ≡ Some standing → (u : UnderWay K V K) (call : Call K V) (guard : List ℕ) → Begins same standing i u → IsCalled same u call → IsBegunFor u call
       → NoneNamed name (name i) s → s.world.row i ≡ Rests
-      → IsAt same hash new (scene_with map i u s) → Shows same name (with_call (name i) guard call (Some map) m) known (scene_with map i u s)
-      → ShowsKept name (with_call (name i) guard call (Some map) m) known (scene_with map i u s)
+      → IsAt same hash new (scene_with map i u s) → Refines same name (with_call (name i) guard call (Some map) m) known (scene_with map i u s)
+      → RefinesKept name (with_call (name i) guard call (Some map) m) known (scene_with map i u s)
 
   -- after each step of a call, of its row, too,
-  abbrev pub CallsKeepKept : Type 0
-  CallsKeepKept =
-      (name : ℕ → List ℕ) (m : Moment K V) (known : Known) (s : Scene K V) (old new : Held K V) → IsAt same hash old s → ShowsWhole same name m known s → ShowsKept name m known s
+  abbrev pub CallsPreserveKept : Type 0
+  CallsPreserveKept =
+      (name : ℕ → List ℕ) (m : Moment K V) (known : Known) (s : Scene K V) (old new : Held K V) → IsAt same hash old s → RefinesWhole same name m known s → RefinesKept name m known s
       → (map i : ℕ) (u : UnderWay K V K) (here : s.calls map i ≡ Some u) (said : CallTold (Node K V)) (leads : StepLeads same hash i said s old new)
       → (let to = leads map u here in
-      ShowsKept name (with_effects (Some (name i)) (Some map) (effects_of (acts.Call i map) known new.changed) m) (known_after (acts.Call i map) new.changed known)
+      RefinesKept name (with_effects (Some (name i)) (Some map) (effects_of (acts.Call i map) known new.changed) m) (known_after (acts.Call i map) new.changed known)
       (scene_after same s old new map i to.0 u to.1 said to.4))
 
   -- where one that asks goes on by what it is told,
   abbrev pub CallsTakeKept : Type 0
   CallsTakeKept =
-      (name : ℕ → List ℕ) (m : Moment K V) (known : Known) (s : Scene K V) (old new : Held K V) → IsAt same hash old s → ShowsWhole same name m known s → ShowsKept name m known s
+      (name : ℕ → List ℕ) (m : Moment K V) (known : Known) (s : Scene K V) (old new : Held K V) → IsAt same hash old s → RefinesWhole same name m known s → RefinesKept name m known s
       → (map i : ℕ) (u : UnderWay K V K) → s.calls map i ≡ Some u → (reply : MachineReply V) (next : UnderWay K V K) → machine_of next ≡ (machine_replied (machine_of u) reply).0
-      → (is_told : Reply V) → IsAt same hash new (scene_with map i next s) → Shows same name (told (name i) is_told m) known (scene_with map i next s)
-      → ShowsKept name (told (name i) is_told m) known (scene_with map i next s)
+      → (is_told : Reply V) → IsAt same hash new (scene_with map i next s) → Refines same name (told (name i) is_told m) known (scene_with map i next s)
+      → RefinesKept name (told (name i) is_told m) known (scene_with map i next s)
 
   -- where a walk goes on to its next pair,
-  abbrev pub WalksGoOnKept : Type 0
-  WalksGoOnKept =
-      (name : ℕ → List ℕ) (m : Moment K V) (known : Known) (s : Scene K V) (old new : Held K V) → ShowsWhole same name m known s → ShowsKept name m known s
-      → (i : ℕ) (leads : AskLeads same hash i true s old new) (map : ℕ) (u : UnderWay K V K) (here : s.calls map i ≡ Some u) → ShowsKept name m known (scene_with map i (leads map u here).0 s)
+  abbrev pub WalksPreserveKept : Type 0
+  WalksPreserveKept =
+      (name : ℕ → List ℕ) (m : Moment K V) (known : Known) (s : Scene K V) (old new : Held K V) → RefinesWhole same name m known s → RefinesKept name m known s
+      → (i : ℕ) (leads : AskLeads same hash i true s old new) (map : ℕ) (u : UnderWay K V K) (here : s.calls map i ≡ Some u) → RefinesKept name m known (scene_with map i (leads map u here).0 s)
 
   -- and where one is given up: no call that is under way then has its name.
   abbrev pub WalksStopKept : Type 0
   WalksStopKept =
-      (name : ℕ → List ℕ) (m : Moment K V) (known : Known) (s : Scene K V) (old new : Held K V) → IsAt same hash old s → ShowsWhole same name m known s → ShowsKept name m known s
+      (name : ℕ → List ℕ) (m : Moment K V) (known : Known) (s : Scene K V) (old new : Held K V) → IsAt same hash old s → RefinesWhole same name m known s → RefinesKept name m known s
       → (i : ℕ) (stopped : Bool) → StopLeads same hash i stopped s old new → (map : ℕ) (u : UnderWay K V K) → s.calls map i ≡ Some u
       → (let after = record s { calls = with_in s.calls map i (unless_stopped stopped u) } in
-      (stopped ≡ true → NoneNamed name (name i) after) → ShowsKept name (given_up (name i) stopped m) known after)
+      (stopped ≡ true → NoneNamed name (name i) after) → RefinesKept name (given_up (name i) stopped m) known after)
 
   -- So it is where a row begins on a slot, and after each step of it;
   abbrev pub RowsBeginKept : Type 0
   RowsBeginKept =
-      (name : ℕ → List ℕ) (m : Moment K V) (known : Known) (s : Scene K V) (old new : Held K V) → IsAt same hash old s → ShowsKept name m known s
+      (name : ℕ → List ℕ) (m : Moment K V) (known : Known) (s : Scene K V) (old new : Held K V) → IsAt same hash old s → RefinesKept name m known s
       → (called : SlotCall) (i : ℕ) (leads : RowBegins same hash called i s old new)
-      → ShowsKept name m known (scene_then same hash (Begin i (request_of (slot_of i) called)) s old new leads.2)
+      → RefinesKept name m known (scene_then same hash (Begin i (request_of (slot_of i) called)) s old new leads.2)
 
-  abbrev pub RowsKeepKept : Type 0
-  RowsKeepKept =
-      (name : ℕ → List ℕ) (m : Moment K V) (known : Known) (s : Scene K V) (old new : Held K V) → IsAt same hash old s → ShowsWhole same name m known s → ShowsKept name m known s
+  abbrev pub RowsPreserveKept : Type 0
+  RowsPreserveKept =
+      (name : ℕ → List ℕ) (m : Moment K V) (known : Known) (s : Scene K V) (old new : Held K V) → IsAt same hash old s → RefinesWhole same name m known s → RefinesKept name m known s
       → (i : ℕ) (said : RowTold (Node K V)) (leads : RowLeads same hash i said s old new) (row : SlotRow) (here : IsOnSlot s i row)
-      → ShowsKept name (with_effects None None (effects_of acts.Row known new.changed) m) (known_after acts.Row new.changed known) (scene_then same hash (Step i) s old new (leads row here).2)
+      → RefinesKept name (with_effects None None (effects_of acts.Row known new.changed) m) (known_after acts.Row new.changed known) (scene_then same hash (Step i) s old new (leads row here).2)
 
   -- a table that it reclaims was retired, and what waits behind that is not reclaimed.
   abbrev pub RowsFindKept : Type 0
   RowsFindKept =
-      (name : ℕ → List ℕ) (m : Moment K V) (known : Known) (s : Scene K V) (old new : Held K V) → IsAt same hash old s → ShowsWhole same name m known s → ShowsKept name m known s
+      (name : ℕ → List ℕ) (m : Moment K V) (known : Known) (s : Scene K V) (old new : Held K V) → IsAt same hash old s → RefinesWhole same name m known s → RefinesKept name m known s
       → (i : ℕ) (said : RowTold (Node K V)) → RowLeads same hash i said s old new → (row : SlotRow) → IsOnSlot s i row
       → (let effects = effects_of acts.Row known new.changed in AtEachEffect HadRetired None None effects m × AtEachEffect WaitUnreclaimed None None effects m)
 
-  -- And after each step of the making of a map, on whichever map its effects are told, if the moment after it shows the scene.
-  abbrev pub MakingsKeepKept : Type 0
-  MakingsKeepKept =
-      (name : ℕ → List ℕ) (m : Moment K V) (known : Known) (s : Scene K V) (old new : Held K V) → IsAt same hash old s → ShowsWhole same name m known s → ShowsKept name m known s
+  -- And after each step of the making of a map, on whichever map its effects are told, if the scene refines the moment after it.
+  abbrev pub MakingsPreserveKept : Type 0
+  MakingsPreserveKept =
+      (name : ℕ → List ℕ) (m : Moment K V) (known : Known) (s : Scene K V) (old new : Held K V) → IsAt same hash old s → RefinesWhole same name m known s → RefinesKept name m known s
       → (i : ℕ) (said : Advance Setting) (leads : MakingLeads same hash i said s old new) (b : Beginning K) (here : s.makers i ≡ Some b) (of : Option ℕ) → WasNew b.map said m
       → (let to = leads b here in
       let v = with_effects None of (effects_of (acts.Making b.map) known new.changed) m in
       let after = known_after (acts.Making b.map) new.changed known in
       let led = making_after same hash s old new i b to.0 to.2.step.w2 said to.3 in
-      IsAt same hash new led → Shows same name v after led → ShowsKept name v after led)
+      IsAt same hash new led → Refines same name v after led → RefinesKept name v after led)
 
   -- So it is where one begins an end who has none under way, and then after each step of it;
   abbrev pub EndingsBeginKept : Type 0
   EndingsBeginKept =
-      (name : ℕ → List ℕ) (m : Moment K V) (known : Known) (s : Scene K V) (old new : Held K V) → IsAt same hash old s → ShowsKept name m known s
-      → (map i : ℕ) (standing : Standing K) → s.enders i ≡ None → IsAt same hash new (ending_begun map i standing s) → ShowsKept name m known (ending_begun map i standing s)
+      (name : ℕ → List ℕ) (m : Moment K V) (known : Known) (s : Scene K V) (old new : Held K V) → IsAt same hash old s → RefinesKept name m known s
+      → (map i : ℕ) (standing : Standing K) → s.enders i ≡ None → IsAt same hash new (ending_begun map i standing s) → RefinesKept name m known (ending_begun map i standing s)
 
-  abbrev pub EndingsKeepKept : Type 0
-  EndingsKeepKept =
-      (name : ℕ → List ℕ) (m : Moment K V) (known : Known) (s : Scene K V) (old new : Held K V) → IsAt same hash old s → ShowsWhole same name m known s → ShowsKept name m known s
+  abbrev pub EndingsPreserveKept : Type 0
+  EndingsPreserveKept =
+      (name : ℕ → List ℕ) (m : Moment K V) (known : Known) (s : Scene K V) (old new : Held K V) → IsAt same hash old s → RefinesWhole same name m known s → RefinesKept name m known s
       → (i : ℕ) (said : Settled (Node K V)) (leads : EndingLeads same hash i said s old new) (f : Finishing K V) (here : s.enders i ≡ Some f) (map : ℕ) → s.maps map ≡ None
       → (let to = leads f here in
       let led = ending_after same hash s new i f to.0 to.2.w2 to.2.deed said to.3 in
       IsAt same hash new led
-      → ShowsKept name (with_effects None (Some map) (effects_of (acts.Ending map) known new.changed) m) (known_after (acts.Ending map) new.changed known) led)
+      → RefinesKept name (with_effects None (Some map) (effects_of (acts.Ending map) known new.changed) m) (known_after (acts.Ending map) new.changed known) led)
 
   -- and what waits behind a table that ends with its map is not reclaimed.
   abbrev pub EndingsFindKept : Type 0
   EndingsFindKept =
-      (name : ℕ → List ℕ) (m : Moment K V) (known : Known) (s : Scene K V) (old new : Held K V) → IsAt same hash old s → ShowsWhole same name m known s → ShowsKept name m known s
+      (name : ℕ → List ℕ) (m : Moment K V) (known : Known) (s : Scene K V) (old new : Held K V) → IsAt same hash old s → RefinesWhole same name m known s → RefinesKept name m known s
       → (i : ℕ) (said : Settled (Node K V)) → EndingLeads same hash i said s old new → (f : Finishing K V) → s.enders i ≡ Some f → (map : ℕ) → s.maps map ≡ None
       → AtEachEffect WaitsOn None (Some map) (effects_of (acts.Ending map) known new.changed) m

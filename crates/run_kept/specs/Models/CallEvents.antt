@@ -11,7 +11,7 @@ use Rattle.run_shows.specs.Given.CallersTogether.{UnderWay, HandsOver}
 use Rattle.run_effects.specs.Effects.Effects.{effects_of, known_after}
 use Rattle.run_effects.specs.Effects.Known.{Known}
 use Rattle.run_effects.specs.declared.acting.Acting.TheVariants.{Call}
-use Rattle.run_executor.specs.Given.MomentsWhole.{ShowsWhole}
+use Rattle.run_executor.specs.Given.MomentsWhole.{RefinesWhole}
 use Rattle.run_schedules.specs.Schedules.After.{moment}
 use Rattle.run_schedules.specs.Runs.Present.{slot_of_guard}
 use Rattle.run_schedules.specs.Schedules.Beginning.{at_work}
@@ -24,10 +24,10 @@ use Rattle.run_schedules.specs.declared.effect.Thing.{Thing}
 use Rattle.run_schedules.specs.declared.event.Event.{Event}
 use Rattle.run_schedules.specs.declared.event.Event.TheVariants as event
 use Rattle.run_kept.specs.Models.Calls.{sets_on, FollowsInCall}
-use Rattle.run_kept.specs.Models.Defers.{AreNoted, HasToldIt}
+use Rattle.run_kept.specs.Models.Defers.{AreNoted, HasReportedDefer}
 use Rattle.run_kept.specs.Models.Follows.{FollowsSets, FollowsModel}
 use Rattle.run_kept.specs.Models.Numbers.{HasNumber, EachIsOnce, AreOfThings, NoneBack}
-use Rattle.run_kept.specs.Models.Retires.{HasToldSo}
+use Rattle.run_kept.specs.Models.Retires.{HasReportedRetire}
 use Rattle.run_shows.specs.Scenes.Held.{Held, IsAt}
 use Rattle.run_shows.specs.Scenes.Scene.{Scene}
 use Rattle.run_shows.specs.Scenes.Stepping.{StepLeads}
@@ -40,10 +40,10 @@ module _ (things : List Thing) (known : Known) (slot : ℕ) where
   IsNoted _ = ⊥
 
   -- and it has told its part so far
-  abbrev pub HasToldPart : {K V : Type 0} → ℕ → Request → List Change → World (Node K V) → Type 0
-  HasToldPart i (Retire s b) handed w = (s ≡ slot) × ((k : ℕ) × HasNumber known things b k) × HasToldSo things known i slot b handed w
-  HasToldPart i (Defer' s b t) handed w = AreNoted things known b t × HasToldIt things known i b t handed w
-  HasToldPart i _ handed w = ⊥
+  abbrev pub HasReportedPart : {K V : Type 0} → ℕ → Request → List Change → World (Node K V) → Type 0
+  HasReportedPart i (Retire s b) handed w = (s ≡ slot) × ((k : ℕ) × HasNumber known things b k) × HasReportedRetire things known i slot b handed w
+  HasReportedPart i (Defer' s b t) handed w = AreNoted things known b t × HasReportedDefer things known i b t handed w
+  HasReportedPart i _ handed w = ⊥
 
 -- all things after these effects
 abbrev pub things_then : List Thing → List Effect → List Thing
@@ -56,7 +56,7 @@ module _ {K V : Type 0} (batch_size roots : ℕ) where
     pub request : Request
     pub handed : List Change
     pub follows : FollowsInCall batch_size roots things sets known i request handed w
-    pub told : HasToldPart things known slot i request handed w
+    pub told : HasReportedPart things known slot i request handed w
 
   -- In the midst of an event of a call of caller i under this slot, which has done this; as it began these were the things and the sets of the model.
   pub record FollowsInEvent (things : List Thing) (sets : Sets) (slot i : ℕ) (done : List Effect) (known : Known) (w : World (Node K V)) : Type 0 where
@@ -84,9 +84,9 @@ module _ (K V : Type 0) where
 
 module _ (K V : Type 0) (same : K → K → Bool) (hash : ℕ → K → ℕ) where
   -- So it is after each step of the call, if what a row is to hand over that begins with it is noted.
-  abbrev pub CallEventsGoOn : Type 0
-  CallEventsGoOn =
-      (name : ℕ → List ℕ) (m : Moment K V) (known : Known) (s : Scene K V) (old new : Held K V) → IsAt same hash old s → ShowsWhole same name m known s
+  abbrev pub CallEventsContinue : Type 0
+  CallEventsContinue =
+      (name : ℕ → List ℕ) (m : Moment K V) (known : Known) (s : Scene K V) (old new : Held K V) → IsAt same hash old s → RefinesWhole same name m known s
       → (map i : ℕ) (u : UnderWay K V K) (here : s.calls map i ≡ Some u) (told : Progress (Node K V)) (leads : StepLeads same hash i told s old new)
       → EachIsOnce (known_after (Call i map) new.changed known)
       → (roots : ℕ) (things : List Thing) (sets : Sets) (slot : ℕ) (done : List Effect) → FollowsInEvent old.batch_size roots things sets slot i done known s.world

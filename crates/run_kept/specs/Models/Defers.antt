@@ -21,9 +21,9 @@ use Rattle.run_kept.specs.Models.Alike.{ChangesAlike}
 use Rattle.run_kept.specs.Models.Numbers.{HasNumber}
 
 -- the block is not on the list still
-abbrev pub IsDue : Deferring → Type 0
-IsDue deferring.Over = ⊥
-IsDue _ = Unit {0}
+abbrev pub IsStillPending : Deferring → Type 0
+IsStillPending deferring.Over = ⊥
+IsStillPending _ = Unit {0}
 
 -- it is
 abbrev pub IsDone : Deferring → Type 0
@@ -32,7 +32,7 @@ IsDone _ = ⊥
 
 -- the row is to put this block on the list that begins with this word
 abbrev pub IsToDefer : ℕ → At → Row → Type 0
-IsToDefer b at (DefersRow s c) = (c.block ≡ link_to b) × (c.table_word ≡ at) × IsDue c.stands
+IsToDefer b at (DefersRow s c) = (c.block ≡ link_to b) × (c.table_word ≡ at) × IsStillPending c.stands
 IsToDefer b at _ = ⊥
 
 abbrev pub HasDeferred : Row → Type 0
@@ -52,12 +52,12 @@ pub record AreNoted (things : List Thing) (known : Known) (b t : ℕ) : Type 0 w
 
 module _ {K V : Type 0} (things : List Thing) (known : Known) where
   -- a row of caller i that defers this block behind that one: so far it has told nothing; or it has told just that
-  abbrev pub HasToldIt : (i b t : ℕ) → List Change → World (Node K V) → Type 0
-  HasToldIt i b t handed w =
+  abbrev pub HasReportedDefer : (i b t : ℕ) → List Change → World (Node K V) → Type 0
+  HasReportedDefer i b t handed w =
       (IsToDefer b (Word t DEFERRED) (w.row i) × (handed ≡ [])) ⊎ (HasDeferred (w.row i) × ChangesAlike (HasNumber known things) (Defers b t ∷ []) handed)
 
 -- The promise: once it has ended, it was told as what it is.
-abbrev pub DefersAreTold : Type 0 → Type 0 → Type 0
-DefersAreTold K V =
-    (things : List Thing) (known : Known) (i s b t : ℕ) (handed : List Change) (w : World (Node K V)) → HasToldIt things known i b t handed w → w.row i ≡ Rests
+abbrev pub DefersAreReported : Type 0 → Type 0 → Type 0
+DefersAreReported K V =
+    (things : List Thing) (known : Known) (i s b t : ℕ) (handed : List Change) (w : World (Node K V)) → HasReportedDefer things known i b t handed w → w.row i ≡ Rests
     → (before after : ℕ → Use) → ChangesAlike (HasNumber known things) (changes (Defer' s b t) before after) handed

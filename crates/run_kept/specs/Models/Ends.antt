@@ -23,8 +23,8 @@ use Rattle.run_effects.specs.Effects.Known.{Known}
 use Rattle.run_effects.specs.declared.acting.Acting.TheVariants.{Ending}
 use Rattle.run_effects.specs.declared.role.Role.TheVariants as role
 use Rattle.run_shows.specs.Given.FinishesEndings.{Finishing}
-use Rattle.run_shows.specs.Follows.Blocks.{ShowsBlocks}
-use Rattle.run_executor.specs.Given.MomentsWhole.{ShowsWhole}
+use Rattle.run_shows.specs.Follows.Blocks.{RefinesBlocks}
+use Rattle.run_executor.specs.Given.MomentsWhole.{RefinesWhole}
 use Rattle.run_kept.specs.Models.Alike.{SetsAlike}
 use Rattle.run_kept.specs.Models.Calls.{sets_on}
 use Rattle.run_kept.specs.Models.Follows.{FollowsSets}
@@ -77,20 +77,20 @@ module _ (K V : Type 0) where
   abbrev pub EndsBegin : Type 0
   EndsBegin =
       (batch_size roots : ℕ) (things : List Thing) (sets : Sets) (known : Known) (w : World (Node K V)) → batch_size < 2 ^ 64 → FollowsSets batch_size roots things sets known w
-      → (m : Moment K V) → ShowsBlocks m known w → (i owner : ℕ) → FollowsInEnd batch_size roots things sets known i [] known (with_effect w (Ended owner))
+      → (m : Moment K V) → RefinesBlocks m known w → (i owner : ℕ) → FollowsInEnd batch_size roots things sets known i [] known (with_effect w (Ended owner))
 
   -- and once it is over, and no table is left over, the sets are alike.
   abbrev pub EndsEnd : Type 0
   EndsEnd =
       (batch_size roots : ℕ) (things : List Thing) (sets : Sets) (first : Known) (i : ℕ) (done : List Effect) (known : Known) (w : World (Node K V)) → batch_size < 2 ^ 64
-      → EachIsOnce first → FollowsInEnd batch_size roots things sets first i done known w → (m : Moment K V) → ShowsBlocks m known w → NoTableIsLeft known i w
+      → EachIsOnce first → FollowsInEnd batch_size roots things sets first i done known w → (m : Moment K V) → RefinesBlocks m known w → NoTableIsLeft known i w
       → (slot : ℕ) → FollowsSets batch_size roots things (sets_on batch_size things slot done sets) known w
 
 module _ (K V : Type 0) (same : K → K → Bool) (hash : ℕ → K → ℕ) where
   -- It goes on so by each step of the end.
-  abbrev pub EndsGoOn : Type 0
-  EndsGoOn =
-      (name : ℕ → List ℕ) (m : Moment K V) (known : Known) (s : Scene K V) (old new : Held K V) → IsAt same hash old s → ShowsWhole same name m known s
+  abbrev pub EndsContinue : Type 0
+  EndsContinue =
+      (name : ℕ → List ℕ) (m : Moment K V) (known : Known) (s : Scene K V) (old new : Held K V) → IsAt same hash old s → RefinesWhole same name m known s
       → (i : ℕ) (told : Settled (Node K V)) (leads : EndingLeads same hash i told s old new) (f : Finishing K V) (here : s.enders i ≡ Some f) (map : ℕ) → s.maps map ≡ None
       → (roots : ℕ) (things : List Thing) (sets : Sets) (first : Known) (done : List Effect) → FollowsInEnd old.batch_size roots things sets first i done known s.world
       → FollowsInEnd old.batch_size roots things sets first i (done ++ effects_of (Ending map) known new.changed) (known_after (Ending map) new.changed known)

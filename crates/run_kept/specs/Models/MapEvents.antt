@@ -9,8 +9,8 @@ use Rattle.run_effects.specs.Effects.Effects.{effects_of, known_after}
 use Rattle.run_effects.specs.Effects.Known.{Known}
 use Rattle.run_effects.specs.declared.acting.Acting.TheVariants.{Making}
 use Rattle.run_shows.specs.Given.FinishesMakings.{Beginning}
-use Rattle.run_shows.specs.Follows.Blocks.{ShowsBlocks}
-use Rattle.run_executor.specs.Given.MomentsWhole.{ShowsWhole}
+use Rattle.run_shows.specs.Follows.Blocks.{RefinesBlocks}
+use Rattle.run_executor.specs.Given.MomentsWhole.{RefinesWhole}
 use Rattle.run_schedules.specs.Schedules.After.{moment}
 use Rattle.run_schedules.specs.Schedules.Entry.{Entry}
 use Rattle.run_schedules.specs.Schedules.Model.{handing, things_in, sets_in, changes_of, left_last}
@@ -40,7 +40,7 @@ module _ {K V : Type 0} (batch_size roots : ℕ) where
 -- A moment that shows a scene notes each thing once.
 abbrev pub MomentsNoteOnce : Type 0 → Type 0 → Type 0
 MomentsNoteOnce K V =
-    (same : K → K → Bool) (name : ℕ → List ℕ) (m : Moment K V) (known : Known) (s : Scene K V) → ShowsWhole same name m known s → EachIsOnce known
+    (same : K → K → Bool) (name : ℕ → List ℕ) (m : Moment K V) (known : Known) (s : Scene K V) → RefinesWhole same name m known s → EachIsOnce known
 
 module _ (K V : Type 0) where
   -- The promises: so it is where a making begins,
@@ -61,14 +61,14 @@ module _ (K V : Type 0) where
   EndEventsEnd =
       (terms : Terms) (log : List (Entry K V)) (e : Entry K V) (slot i : ℕ) (first known : Known) (w : World (Node K V)) → terms.batch_size < 2 ^ 64 → EachIsOnce first
       → FollowsInEnd terms.batch_size terms.roots (things_in log) (sets_in terms.batch_size log) first i e.effects known w
-      → (m : Moment K V) → ShowsBlocks m known w → NoTableIsLeft known i w → changes_of log e ≡ flat_map (handing (things_in (e ∷ log)) slot) e.effects
+      → (m : Moment K V) → RefinesBlocks m known w → NoTableIsLeft known i w → changes_of log e ≡ flat_map (handing (things_in (e ∷ log)) slot) e.effects
       → left_last e.event e.outcome (moment log) ≡ [] → IsFollowed terms log e known w
 
 module _ (K V : Type 0) (same : K → K → Bool) (hash : ℕ → K → ℕ) where
   -- A making goes on so with each step.
-  abbrev pub MakingEventsGoOn : Type 0
-  MakingEventsGoOn =
-      (name : ℕ → List ℕ) (m : Moment K V) (known : Known) (s : Scene K V) (old new : Held K V) → IsAt same hash old s → ShowsWhole same name m known s
+  abbrev pub MakingEventsContinue : Type 0
+  MakingEventsContinue =
+      (name : ℕ → List ℕ) (m : Moment K V) (known : Known) (s : Scene K V) (old new : Held K V) → IsAt same hash old s → RefinesWhole same name m known s
       → (i : ℕ) (told : Advance Setting) (leads : MakingLeads same hash i told s old new) (b : Beginning K) (here : s.makers i ≡ Some b) → Option ℕ → WasNew b.map told m
       → (roots : ℕ) (things : List Thing) (sets : Sets) (done : List Effect) → FollowsInMaking old.batch_size roots things sets done known s.world
       → FollowsInMaking old.batch_size roots things sets (done ++ effects_of (Making b.map) known new.changed) (known_after (Making b.map) new.changed known)

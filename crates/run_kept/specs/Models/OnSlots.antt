@@ -22,7 +22,7 @@ use Rattle.run_effects.specs.declared.acting.Acting.TheVariants.{Row}
 use Rattle.run_effects.specs.declared.role.Role.TheVariants.{Free}
 use Rattle.run_shows.specs.declared.row.RowTold.{RowTold}
 use Rattle.run_shows.specs.declared.row.SlotRow.{SlotRow}
-use Rattle.run_shows.specs.Follows.Blocks.{ShowsBlocks}
+use Rattle.run_shows.specs.Follows.Blocks.{RefinesBlocks}
 use Rattle.run_shows.specs.Others.Rows.{scene_then}
 use Rattle.run_kept.specs.Models.Alike.{SetsAlike}
 use Rattle.run_kept.specs.Models.Follows.{FollowsSets, IsFollowed}
@@ -65,14 +65,14 @@ module _ (K V : Type 0) where
       (terms : Terms) (log : List (Entry K V)) (e : Entry K V) (first : Known) (i : ℕ) (request : Request) (known : Known) (began w : World (Node K V))
       → terms.batch_size < 2 ^ 64 → EachIsOnce first
       → FollowsInRow terms.batch_size terms.roots (things_in log) (sets_in terms.batch_size log) first i request began e.effects known w
-      → w.row i ≡ Rests → (m : Moment K V) → ShowsBlocks m known w
+      → w.row i ≡ Rests → (m : Moment K V) → RefinesBlocks m known w
       → IsRowFor request began.uses w.uses e.event e.outcome (at_work e (moment log)) → IsFollowed terms log e known w
 
 module _ (K V : Type 0) (same : K → K → Bool) (hash : ℕ → K → ℕ) where
   -- It goes on so by each step of the row.
-  abbrev pub SlotEventsGoOn : Type 0
-  SlotEventsGoOn =
-      (m : Moment K V) (known : Known) (s : Scene K V) (old new : Held K V) → IsAt same hash old s → ShowsBlocks m known s.world
+  abbrev pub SlotEventsContinue : Type 0
+  SlotEventsContinue =
+      (m : Moment K V) (known : Known) (s : Scene K V) (old new : Held K V) → IsAt same hash old s → RefinesBlocks m known s.world
       → (i : ℕ) (told : RowTold (Node K V)) (leads : RowLeads same hash i told s old new) (row : SlotRow) (here : IsOnSlot s i row)
       → (roots : ℕ) (things : List Thing) (sets : Sets) (first : Known) (request : Request) (began : World (Node K V)) (done : List Effect)
       → FollowsInRow old.batch_size roots things sets first i request began done known s.world

@@ -15,7 +15,7 @@ use Rattle.run_effects.specs.Effects.Effects.{effects_of, known_after}
 use Rattle.run_effects.specs.Effects.Known.{Known}
 use Rattle.run_effects.specs.declared.acting.Acting.TheVariants.{Making}
 use Rattle.run_shows.specs.Given.FinishesMakings.{Beginning}
-use Rattle.run_executor.specs.Given.MomentsWhole.{ShowsWhole}
+use Rattle.run_executor.specs.Given.MomentsWhole.{RefinesWhole}
 use Rattle.run_kept.specs.Models.Calls.{sets_on}
 use Rattle.run_shows.specs.Others.Makings.{WasNew}
 use Rattle.run_kept.specs.Models.Follows.{FollowsSets}
@@ -43,7 +43,7 @@ MapsAreByModel K V =
 module _ (K V : Type 0) (same : K → K → Bool) (hash : ℕ → K → ℕ) where
   abbrev pub MakingsFollow : Type 0
   MakingsFollow =
-      (name : ℕ → List ℕ) (m : Moment K V) (known : Known) (s : Scene K V) (old new : Held K V) → IsAt same hash old s → ShowsWhole same name m known s
+      (name : ℕ → List ℕ) (m : Moment K V) (known : Known) (s : Scene K V) (old new : Held K V) → IsAt same hash old s → RefinesWhole same name m known s
       → (i : ℕ) (told : Advance Setting) (leads : MakingLeads same hash i told s old new) (b : Beginning K) (here : s.makers i ≡ Some b) → Option ℕ → WasNew b.map told m
       → (roots : ℕ) (things : List Thing) (sets : Sets) → FollowsSets old.batch_size roots things sets known s.world → (slot : ℕ)
       → (let effects = effects_of (Making b.map) known new.changed in

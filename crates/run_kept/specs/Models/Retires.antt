@@ -46,13 +46,13 @@ HasRetired _ = ⊥
 
 module _ {K V : Type 0} (things : List Thing) (known : Known) where
   -- a row of caller i that retires this block under this slot: so far it has told nothing, and the block is in no list and no batch; or it has told just that
-  abbrev pub HasToldSo : (i s b : ℕ) → List Change → World (Node K V) → Type 0
-  HasToldSo i s b handed w =
+  abbrev pub HasReportedRetire : (i s b : ℕ) → List Change → World (Node K V) → Type 0
+  HasReportedRetire i s b handed w =
       (IsToRetire b (w.row i) × (handed ≡ []) × (word_at w.memory (Entry b FIRST) ≡ Some 0) × (word_at w.memory (Entry b NEXT) ≡ Some 0))
       ⊎ (HasRetired (w.row i) × ChangesAlike (HasNumber known things) (Retires s b ∷ []) handed)
 
 -- The promise: once it has ended, it was told as what it is.
-abbrev pub RetiresAreTold : Type 0 → Type 0 → Type 0
-RetiresAreTold K V =
-    (things : List Thing) (known : Known) (i s b : ℕ) (handed : List Change) (w : World (Node K V)) → HasToldSo things known i s b handed w → w.row i ≡ Rests
+abbrev pub RetiresAreReported : Type 0 → Type 0 → Type 0
+RetiresAreReported K V =
+    (things : List Thing) (known : Known) (i s b : ℕ) (handed : List Change) (w : World (Node K V)) → HasReportedRetire things known i s b handed w → w.row i ≡ Rests
     → (before after : ℕ → Use) → ChangesAlike (HasNumber known things) (changes (Retire s b) before after) handed

@@ -40,8 +40,8 @@ module _ (T : Type 0) (defers : T → Option ℕ) (batch_size roots : ℕ) where
       (v w : World T) (before : List Change) → CameByTurns defers batch_size roots v before → (i : ℕ) (request : Request) → v.row i ≡ Rests
       → Begins defers batch_size i request v w → IsInRow defers batch_size roots i request v before w
 
-  abbrev pub RowsGoOn : Type 0
-  RowsGoOn =
+  abbrev pub RowsContinue : Type 0
+  RowsContinue =
       (i : ℕ) (request : Request) (v w n : World T) (before : List Change) → IsInRow defers batch_size roots i request v before w
       → Steps' defers i (w.row i) w n → IsInRow defers batch_size roots i request v before n
 

@@ -24,15 +24,15 @@ pub record WaitsSo {K V : Type 0} (map : ℕ) (c : Chart K) (first m : Moment K 
   pub still : (t : ℕ) → past ≤ t → t < c.past → behind (table_of map t) m.deferred ≡ behind (table_of map t) first.deferred
 
 -- so it is of an end that is under way,
-abbrev pub TellsWaiting : {K V : Type 0} → (K → K → Bool) → ℕ → ℕ → Finishing K V → Moment K V → Moment K V → Known → World (Node K V) → Type 0
-TellsWaiting same map i f first m known w = (size : ℕ) (k : FinishingFacts same size w i f) → WaitsSo map f.chart first m known k.past f.waits
+abbrev pub ReportsWaiting : {K V : Type 0} → (K → K → Bool) → ℕ → ℕ → Finishing K V → Moment K V → Moment K V → Known → World (Node K V) → Type 0
+ReportsWaiting same map i f first m known w = (size : ℕ) (k : FinishingFacts same size w i f) → WaitsSo map f.chart first m known k.past f.waits
 
 -- and of all tables, once it is over.
-abbrev pub TellsLeft : {K V : Type 0} → ℕ → Chart K → Moment K V → Known → List ℕ → Type 0
-TellsLeft map c first known waits = each_of known.roles waits ≡ each_of role.Pair (waited_behind map first.deferred c.first (c.past - c.first))
+abbrev pub ReportsLeft : {K V : Type 0} → ℕ → Chart K → Moment K V → Known → List ℕ → Type 0
+ReportsLeft map c first known waits = each_of known.roles waits ≡ each_of role.Pair (waited_behind map first.deferred c.first (c.past - c.first))
 
 -- where it has come by a deed
-abbrev pub TellsThen : {K V : Type 0} → (K → K → Bool) → ℕ → ℕ → Finishing K V → (over : Bool) → EndMap → Deed → Moment K V → Moment K V → Known → World (Node K V) → Type 0
-TellsThen same map i f true ending deed first m known w = TellsLeft map f.chart first known f.waits
-TellsThen same map i f false ending deed first m known w =
-    TellsWaiting same map i (record f { machine = ending; back = f.back ++ taken_by deed; waits = f.waits ++ waiting_by deed }) first m known w
+abbrev pub ReportsThen : {K V : Type 0} → (K → K → Bool) → ℕ → ℕ → Finishing K V → (over : Bool) → EndMap → Deed → Moment K V → Moment K V → Known → World (Node K V) → Type 0
+ReportsThen same map i f true ending deed first m known w = ReportsLeft map f.chart first known f.waits
+ReportsThen same map i f false ending deed first m known w =
+    ReportsWaiting same map i (record f { machine = ending; back = f.back ++ taken_by deed; waits = f.waits ++ waiting_by deed }) first m known w

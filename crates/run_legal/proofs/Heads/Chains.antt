@@ -15,8 +15,8 @@ use Rattle.run_legal.specs.AllEvents.{AllCome, AllSteps}
 use Rattle.run_legal.specs.Chains.{Chain, Come, EndSteps, MakingSteps}
 use Rattle.run_legal.proofs.Heads.Rows.{KeepsTaken, by_memory, taken_then}
 use Rattle.run_legal.proofs.Heads.Steps.{ending_taken, making_taken, reclaiming_taken}
-use Rattle.run_grows.specs.Given.ScenesEnding.{EndingComesTo}
-use Rattle.run_grows.specs.Given.ScenesMaking.{MakingComesTo}
+use Rattle.run_grows.specs.Given.ScenesEnding.{EndingHasOutcome}
+use Rattle.run_grows.specs.Given.ScenesMaking.{MakingHasOutcome}
 
 -- what each step leaves, all of them do
 chain_taken : {X : Type 0} {K V : Type 0} (memory : X → Mem (Node K V)) (Steps : X → X → Type 0) → ((from to : X) → Steps from to → KeepsTaken (memory from) (memory to)) → (n : ℕ) (from to : X) → Chain Steps n from to
@@ -44,7 +44,7 @@ module _ {K V : Type 0} (same : K → K → Bool) (hash : ℕ → K → ℕ) (te
             (making_taken same hash from.scene from.held to.held i step.said step.leads step.making step.here)
 
         by : (said : Advance Setting)
-            → (comes : MakingComesTo same hash from.scene from.held to.held i step.making (step.leads step.making step.here).0 (step.leads step.making step.here).2.step.w2 said)
+            → (comes : MakingHasOutcome same hash from.scene from.held to.held i step.making (step.leads step.making step.here).0 (step.leads step.making step.here).2.step.w2 said)
             → KeepsTaken (memory_at from)
             (making_after same hash from.scene from.held to.held i step.making (step.leads step.making step.here).0 (step.leads step.making step.here).2.step.w2 said comes).world.memory
         by progress.Goes comes = kept
@@ -63,7 +63,7 @@ module _ {K V : Type 0} (same : K → K → Bool) (hash : ℕ → K → ℕ) (te
             (ending_taken same hash from.scene from.held to.held i step.said step.leads step.ending step.here)
 
         by : (said : Settled (Node K V))
-            → (comes : EndingComesTo same hash from.scene to.held i step.ending (step.leads step.ending step.here).0 (step.leads step.ending step.here).2.w2 (step.leads step.ending step.here).2.deed said)
+            → (comes : EndingHasOutcome same hash from.scene to.held i step.ending (step.leads step.ending step.here).0 (step.leads step.ending step.here).2.w2 (step.leads step.ending step.here).2.deed said)
             → KeepsTaken (memory_at from)
             (ending_after same hash from.scene to.held i step.ending (step.leads step.ending step.here).0 (step.leads step.ending step.here).2.w2 (step.leads step.ending step.here).2.deed said comes).world.memory
         by settled.Goes comes = kept

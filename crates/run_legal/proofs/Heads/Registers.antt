@@ -38,9 +38,9 @@ use Rattle.run_grows.specs.Given.ScenesDeclared.row.SlotRow.TheVariants as rows
 use Rattle.run_grows.specs.Given.ExecutorDeclared.executor.Executor.{Executor}
 use Rattle.run_grows.specs.Given.ExecutorDeclared.worker.Work.TheVariants.{OnSlot}
 use Rattle.run_grows.specs.Given.ExecutorIsThere.{IsThere, held_by, work_of}
-use Rattle.run_grows.specs.Given.ExecutorOnSlots.{RowComesThere, row_on}
+use Rattle.run_grows.specs.Given.ExecutorOnSlots.{RowStepHasOutcome, row_on}
 use Rattle.run_grows.proofs.Given.ExecutorRowLeads.{has_row, held_row}
-use Rattle.run_grows.specs.Given.LoggedOnSlots.{GoesOnFor, OnSlotLast, StepsOn, has_come}
+use Rattle.run_logged.specs.Log.OnSlots.{ContinuesFor, OnSlotLast, StepsOn, has_come}
 use Rattle.run_legal.proofs.Heads.Rows.{KeepsTaken, Off, elsewhere, fits_at, from_up_to, idle_some, is_taken, no_change, now, positive, same_taken, slots_stay, step_taken, taken_word_of, up_to, written}
 use Rattle.run_grows.proofs.Given.ScenesTold.{as_step}
 use Rattle.run_grows.specs.Given.ScenesHeld.{Held, IsAt}
@@ -281,7 +281,7 @@ module _ {K V S : Type 0} (same : K → K → Bool) (hash : K → ℕ) (i k : �
         other_step same (λ m. hash) i k r.scene (held_by mid) (held_by new) r.is_at.held said (held_row same hash r.scene mid new r.is_at i said leads) r.row (leads r.row r.here).0 r.other r.taken
 
     -- its step, as of the row that is on the slot
-    abbrev registers_to : (r : RegistersGo mid) → RowComesThere same hash i said r.scene mid new (rows.Registers r.register)
+    abbrev registers_to : (r : RegistersGo mid) → RowStepHasOutcome same hash i said r.scene mid new (rows.Registers r.register)
     registers_to r =
         let leads = step same hash r.scene r.is_at in
         leads (rows.Registers r.register) (has_row same hash mid r.scene r.is_at i (rows.Registers r.register) (leads (rows.Registers r.register) r.here).0)
@@ -292,7 +292,7 @@ module _ {K V S : Type 0} (same : K → K → Bool) (hash : K → ℕ) (i k : �
         register_step same (λ m. hash) i k r.scene (held_by mid) (held_by new) r.is_at.held said (held_row same hash r.scene mid new r.is_at i said leads) r.register
         (leads (rows.Registers r.register) r.here).0 r.taken
 
-  others_go : (n : ℕ) (old new : Executor K V S) → GoesOnFor i n old new → OthersGo old → OthersGo new
+  others_go : (n : ℕ) (old new : Executor K V S) → ContinuesFor i n old new → OthersGo old → OthersGo new
   others_go zero old new gone q = subst OthersGo gone q
   others_go (suc n) old new (mid, said, gone, going, step) q =
       let r = others_go n old mid gone q in
@@ -306,7 +306,7 @@ module _ {K V S : Type 0} (same : K → K → Bool) (hash : K → ℕ) (i k : �
         taken = other_goes mid new said step r;
       }
 
-  registers_go : (n : ℕ) (old new : Executor K V S) → GoesOnFor i n old new → RegistersGo old → RegistersGo new
+  registers_go : (n : ℕ) (old new : Executor K V S) → ContinuesFor i n old new → RegistersGo old → RegistersGo new
   registers_go zero old new gone q = subst RegistersGo gone q
   registers_go (suc n) old new (mid, said, gone, going, step) q =
       let r = registers_go n old mid gone q in

@@ -133,7 +133,7 @@ module _ {T : Type 0} {size : ℕ} (defers : T → Option ℕ) (w : World T) (go
   settle_at : (c : Settle) (p : Settling) → FitsAt (LAST_SLOT + 1) i (view defers w.memory) good.state good.extra (bare c) p → May Can Took value_at w.memory (settles.plan_at defers c p)
       → (m2 : Mem T) (end : Settle × Settled T) → Steps Took value_at w.memory (settles.plan_at defers c p) m2 end → KeepsTaken w.memory m2
   settle_at c (settling.Pushes block left pushed slot head) r may m2 end st =
-      elim (exchanged w.memory (settles.push_told c block left pushed slot) (Slot slot HEAD) head block m2 end st) as (λ _. KeepsTaken w.memory m2) [
+      elim (exchanged w.memory (settles.after_push c block left pushed slot) (Slot slot HEAD) head block m2 end st) as (λ _. KeepsTaken w.memory m2) [
         | inl d ↦ by_memory w.memory (with_word w.memory (Slot slot HEAD) block) m2 d.2
             (written w.memory slot block may.0 (pushed_some c block left pushed slot head r)
             (let is : words_of w.memory (Slot slot HEAD) ≡ head = word_found w.memory (Slot slot HEAD) d.0 d.1.0 ∙ d.1.1 in let high = r.links.active in omega (arith, is, high)))

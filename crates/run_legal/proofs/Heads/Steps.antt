@@ -50,13 +50,13 @@ use Rattle.run_grows.specs.Given.CallersRows.{row_of, row_of_copier, row_of_disp
 use Rattle.run_grows.specs.Given.CallersRooms.{row_of_room}
 use Rattle.run_grows.specs.Given.CallersOverAll.{row_of_sweep}
 use Rattle.run_grows.specs.Given.CallersSights.{seen_by}
-use Rattle.run_grows.specs.Given.CallersTogether.{CameAbout, UnderWay, OnKey, ForRoom, Counting, OverAll, HandsOver, Stands}
+use Rattle.run_grows.specs.Given.CallersTogether.{CameAbout, UnderWay, OnKey, ForRoom, Counting, OverAll, HandsOver, IsAtPoint}
 use Rattle.run_grows.proofs.Given.CallersTogether.Came.{came_reached}
 use Rattle.run_grows.specs.Given.EffectsKnown.{Known}
 use Rattle.run_grows.specs.Given.FinishesEndings.{Finishing}
 use Rattle.run_grows.specs.Given.FinishesFactsEnds.{TakesLeft, WritesRoot, events_of}
 use Rattle.run_grows.specs.Given.FinishesMakings.{Beginning}
-use Rattle.run_grows.specs.Given.MomentsWhole.{ShowsWhole}
+use Rattle.run_grows.specs.Given.MomentsWhole.{RefinesWhole}
 use Rattle.run_grows.specs.Given.ReclaimsReclaims.{ReclaimingAt}
 use Rattle.run_grows.specs.Given.ReclaimsSlots.{AreItsRows, DoesAt}
 use Rattle.run_grows.specs.Given.SeizeQuietSlots.{BeginsAt}
@@ -162,7 +162,7 @@ rests_off row is = subst Off (sym is) tt
 
 -- A call takes a step.
 module _ {K V : Type 0} (same : K → K → Bool) (hash : ℕ → K → ℕ) (name : ℕ → List ℕ) (m : Moment K V) (known : Known) (s : Scene K V) (old new : Held K V) (at : IsAt same hash old s)
-    (whole : ShowsWhole same name m known s) (map i : ℕ) (u : UnderWay K V K) (here : s.calls map i ≡ Some u) (told : CallTold (Node K V)) (leads : StepLeads same hash i told s old new) where
+    (whole : RefinesWhole same name m known s) (map i : ℕ) (u : UnderWay K V K) (here : s.calls map i ≡ Some u) (told : CallTold (Node K V)) (leads : StepLeads same hash i told s old new) where
   abbrev w2 : World (Node K V)
   w2 = (leads map u here).4.w2
 
@@ -174,7 +174,7 @@ module _ {K V : Type 0} (same : K → K → Bool) (hash : ℕ → K → ℕ) (na
   its_row = by u ((at.together.makings.standing.each map (leads map u here).0 (leads map u here).2).stand i u here)
     where
       by : (x : UnderWay K V K)
-          → Stands V same (leads map u here).0.hash same (leads map u here).0.setting slot_of s.world (leads map u here).0.chart
+          → IsAtPoint V same (leads map u here).0.hash same (leads map u here).0.setting slot_of s.world (leads map u here).0.chart
           (seen_by (leads map u here).0.blocks ((leads map u here).0.sights (slot_of i))) i x → Off (s.world.row i)
       by (OnKey x) (inl is) = rests_off (s.world.row i) is.0
       by (OnKey x) (inr is) = subst Off (sym is.0) (call_off (slot_of i) x.call.stands)

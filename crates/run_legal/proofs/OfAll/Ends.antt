@@ -20,7 +20,7 @@ use Rattle.run_grows.specs.Given.SchedulesBeginning.{at_work}
 use Rattle.run_grows.specs.Given.SchedulesEffects.{with_effect, with_effects, AtEachEffect}
 use Rattle.run_grows.specs.Given.SchedulesEntry.{Entry, acted_on, caller_of}
 use Rattle.run_grows.specs.Given.SchedulesHanding.{gives_all, is_reclaiming, may_do}
-use Rattle.run_grows.specs.Given.SchedulesInTurn.{ComesRight, IsKeptOut}
+use Rattle.run_grows.specs.Given.SchedulesInTurn.{HasRightOutcome, IsKeptOut}
 use Rattle.run_grows.specs.Given.SchedulesInUse.{is_left}
 use Rattle.run_grows.specs.Given.SchedulesLists.{is_empty}
 use Rattle.run_grows.specs.Given.SchedulesLives.{Finds}
@@ -32,8 +32,8 @@ use Rattle.run_grows.specs.Given.EffectsKnown.{Known}
 use Rattle.run_grows.specs.Given.FinishesMakings.{IsFreeRoot}
 use Rattle.run_grows.specs.Given.MomentsOnSlots.{HadRetired}
 use Rattle.run_grows.specs.Given.SeizeReclaimsRoots.{all_lists}
-use Rattle.run_grows.specs.Given.ReclaimsReclaims.{AllIsReclaimed, IsRootOf, ReclaimingTold}
-use Rattle.run_grows.specs.Given.ScenesReclaiming.{ReclaimingComesTo}
+use Rattle.run_grows.specs.Given.ReclaimsReclaims.{AllIsReclaimed, IsRootOf, ReclaimingOutcome}
+use Rattle.run_grows.specs.Given.ScenesReclaiming.{ReclaimingHasOutcome}
 use Rattle.run_grows.specs.Given.PromisesProtected.{EndsInside, InMidst, is_of_slots}
 use Rattle.run_grows.specs.Given.PromisesSheltered.{SectionsHold}
 use Rattle.run_grows.proofs.Given.PromisesProtected.{all_is_ended_protected, slot_events_end_protected}
@@ -47,7 +47,7 @@ use Rattle.run_grows.proofs.Given.FindsClosed.{none_there}
 use Rattle.run_legal.specs.AllEvents.{AllCome, AllRunsToItsEnd, FindsPair, InAllEvent, all_begun, scene_in}
 use Rattle.run_legal.specs.Between.{IsLike}
 use Rattle.run_legal.specs.CallEvents.{IsLegalBut}
-use Rattle.run_legal.specs.Carried.{ComesAlone, ShowsRun}
+use Rattle.run_legal.specs.Carried.{IsSequential, RefinesRun}
 use Rattle.run_legal.proofs.Between.{likes_show}
 use Rattle.run_legal.proofs.Found.{none_at_rest}
 use Rattle.run_legal.proofs.OfAll.BySets.{all_reclaim_by_sets}
@@ -125,7 +125,7 @@ module _ {K V : Type 0} (terms : Terms) (log : List (Entry K V)) (steps : ℕ) (
   nobody_calls is = none_there m.calls (last_of_three (is_empty m.there.registrations) (all_forgotten m.there.guards) (is_empty m.calls) is)
 
   -- no call was under way
-  pub none_called : (its : Event K V) → gives_all its ≡ true → ComesRight terms log (entry its) → m.calls ≡ []
+  pub none_called : (its : Event K V) → gives_all its ≡ true → HasRightOutcome terms log (entry its) → m.calls ≡ []
   none_called event.ReclaimAll of_all right =
       nobody_calls (in_turn terms log (entry event.ReclaimAll) (is_left m) _ (was_done V)
       (not_kept_out terms log (entry event.ReclaimAll) m.is_closed (IsKeptOut {K = K} {V = V} event.ReclaimAll (was_done V)) _ (was_done V) (λ out. out) right refl) refl)
@@ -160,7 +160,7 @@ module _ (K V : Type 0) (same : K → K → Bool) (hash : ℕ → K → ℕ) whe
 
       -- nothing is behind the roots, and nothing is retired
       told : (last.leads.1.lists2 ≡ to.lists) × (last.leads.1.w2 ≡ to.come.scene.world)
-      told = subst (λ (t : Settled (Node K V)). ReclaimingTold to.come.scene.world last.leads.1.w2 to.lists last.leads.1.lists2 t) done last.leads.1.told
+      told = subst (λ (t : Settled (Node K V)). ReclaimingOutcome to.come.scene.world last.leads.1.w2 to.lists last.leads.1.lists2 t) done last.leads.1.told
 
       reclaimed : AllIsReclaimed to.come.held.roots last.leads.1.w2 last.leads.1.maps2
       reclaimed = last.leads.1.over done
@@ -182,7 +182,7 @@ module _ (K V : Type 0) (same : K → K → Bool) (hash : ℕ → K → ℕ) whe
       -- the scene is that of what is held
       there : IsAt same hash over.come.held over.come.scene
       there = subst (λ (z : AllCome K V). IsAt same hash over.come.held z.come.scene) (sym last.comes)
-          (subst (λ (t : Settled (Node K V)). ReclaimingComesTo same hash to.come.scene i to.lists to.come.held over.come.held (scene_in to.come.scene last.leads.1.w2 last.leads.1.maps2)
+          (subst (λ (t : Settled (Node K V)). ReclaimingHasOutcome same hash to.come.scene i to.lists to.come.held over.come.held (scene_in to.come.scene last.leads.1.w2 last.leads.1.maps2)
           last.leads.1.lists2 over.all t) done last.leads.2).1
 
       none_retired : (b : ℕ) → is_retired b over.come.scene.world.log ≡ false
@@ -228,7 +228,7 @@ module _ (K V : Type 0) (same : K → K → Bool) (hash : ℕ → K → ℕ) whe
           → HasReclaimed deferred_word terms.batch_size terms.roots s.world changes over.come.scene.world
       has_reclaimed changes came = all_reclaim_by_sets K V same hash terms small i n (all_begun log known s old all lists) to over begins chain last done changes came
 
-      followed : ComesAlone its log → IsFollowed terms log e over.come.notes over.come.scene.world
+      followed : IsSequential its log → IsFollowed terms log e over.come.notes over.come.scene.world
       followed alone =
           let follows = before alone in
           all_is_followed terms log known s.world lists behind effects over.come.notes over.come.scene.world over.all over.lists at_over.turn nothing its of_all steps at_over.may small at_over.once
@@ -246,7 +246,7 @@ module _ (K V : Type 0) (same : K → K → Bool) (hash : ℕ → K → ℕ) whe
       is_like : IsLike over.come.now (moment (e ∷ log))
       is_like = subst (λ (z : Moment K V). IsLike z (moment (e ∷ log))) (sym at_over.worked) (like log Done steps effects its on)
 
-      ran : ShowsRun same name terms (e ∷ log) over.come.notes over.come.scene
+      ran : RefinesRun same name terms (e ∷ log) over.come.notes over.come.scene
       ran =
           runs_go_on K V same name name terms log known over.come.notes s over.come.scene run e right but.life
           (each_stores its (moment log) on (caller_of its) (acted_on its (at_work e (moment log))) effects (at_work e (moment log)) may) reclaims

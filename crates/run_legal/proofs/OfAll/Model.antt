@@ -29,7 +29,7 @@ use Rattle.run_grows.specs.Given.SchedulesTerms.{Terms}
 use Rattle.run_grows.specs.Given.EffectsKnown.{Known}
 use Rattle.run_grows.specs.Given.EffectsDeclared.role.Role.{Role}
 use Rattle.run_grows.specs.Given.EffectsDeclared.role.Role.TheVariants as role
-use Rattle.run_grows.specs.Given.FollowsBlocks.{HasRole, ShowsBlocks}
+use Rattle.run_grows.specs.Given.FollowsBlocks.{HasRole, RefinesBlocks}
 use Rattle.run_grows.proofs.Given.MomentsOnSlots.{none_some}
 use Rattle.run_grows.specs.Given.SeizeReclaimsRoots.{all_lists}
 use Rattle.run_grows.specs.Given.PromisesSheltered.{IsOfThing}
@@ -44,7 +44,7 @@ use Rattle.run_grows.proofs.Given.ModelsFollows.{if_alone, same_things, sets_the
 use Rattle.run_grows.proofs.Given.ModelsNumbers.{has_one}
 use Rattle.run_grows.proofs.Given.ModelsOnSlots.{numbers_back}
 use Rattle.run_grows.proofs.Given.ModelsTurns.{all_there}
-use Rattle.run_legal.specs.AllEvents.{BehindIsLeft, TakesInTurn}
+use Rattle.run_legal.specs.AllEvents.{BehindRootsIsLeft, TakesInTurn}
 
 -- What such an event is to the model.
 
@@ -65,7 +65,7 @@ none_comes [] may = refl
 none_comes (Reclaimed x ∷ effects) may = flat_map-cons came (Reclaimed x) effects ∙ none_comes effects may
 none_comes (_ ∷ effects) may = absurd (cc may)
 
-module _ {K V : Type 0} (terms : Terms) (log : List (Entry K V)) (first : Known) (began : World (Node K V)) (behind : ℕ → List ℕ) (left : BehindIsLeft terms.roots (moment log) first behind)
+module _ {K V : Type 0} (terms : Terms) (log : List (Entry K V)) (first : Known) (began : World (Node K V)) (behind : ℕ → List ℕ) (left : BehindRootsIsLeft terms.roots (moment log) first behind)
     (effects : List Effect) (known : Known) (w : World (Node K V)) (all : ReclaimAll) (lists : ℕ → List ℕ) (turn : TakesInTurn terms.roots first began behind effects known w all lists)
     (none : all_lists lists terms.roots ≡ []) where
   abbrev things : ℕ → List Thing
@@ -84,7 +84,7 @@ module _ {K V : Type 0} (terms : Terms) (log : List (Entry K V)) (first : Known)
 
   module _ (its : Event K V) (of_all : gives_all its ≡ true) (steps : ℕ) (may : list_all is_reclaiming effects ≡ true) (small : terms.batch_size < 2 ^ 64) (once : EachIsOnce first)
       (follows : FollowsModel terms.batch_size terms.roots log first began) (has : HasReclaimed deferred_word terms.batch_size terms.roots began follows.before w) (m : Moment K V)
-      (blocks : ShowsBlocks m known w) where
+      (blocks : RefinesBlocks m known w) where
     abbrev e : Entry K V
     e = record { event = its; outcome = Done; steps = steps; effects = effects }
 

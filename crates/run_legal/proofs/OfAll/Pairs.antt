@@ -31,20 +31,20 @@ use Rattle.run_grows.specs.Given.HandsHands.{IsInUse}
 use Rattle.run_grows.proofs.Given.FinishesEnds.CountedBlocks.{times_here}
 use Rattle.run_grows.proofs.Given.FollowsAlike.{put_here}
 use Rattle.run_grows.proofs.Given.FollowsOperations.{LeavesBy}
-use Rattle.run_grows.specs.Given.MomentsWhole.{ShowsWhole}
+use Rattle.run_grows.specs.Given.MomentsWhole.{RefinesWhole}
 use Rattle.run_grows.specs.Given.SpotsUnreclaimed.{is_unreclaimed}
 use Rattle.run_grows.specs.Given.SeizeReclaimsRoots.{all_lists}
 use Rattle.run_grows.specs.Given.ScenesReclaiming.{IsReclaiming, ReclaimingLeads}
-use Rattle.run_grows.specs.Given.LivesBehind.{EachWaits, IsLeft, LiesBehind}
+use Rattle.run_grows.specs.Given.LivesBehind.{EachWaits, IsLeft, IsDeferredTo}
 use Rattle.run_grows.specs.Given.LivesWaiting.{waits_behind}
 use Rattle.run_grows.proofs.Given.LivesEach.{found}
 use Rattle.run_grows.proofs.Given.LivesWorlds.{Kept, runs_kept, start_kept, unretired}
 use Rattle.run_grows.proofs.Given.ShedsReclaiming.Steps.{left as leaves_there}
-use Rattle.run_grows.specs.Given.KeptKept.{ShowsKept}
+use Rattle.run_grows.specs.Given.KeptKept.{RefinesKept}
 use Rattle.run_grows.specs.Given.ModelsNumbers.{things_of}
 use Rattle.run_grows.specs.Given.FindsWaiting.{FindsPlaced, PairsArePlaced, is_behind_one, is_let_go, is_out, once_if, owed_by, put_in}
 use Rattle.run_grows.proofs.Given.FindsPlaced.{effects_keep_placed}
-use Rattle.run_legal.specs.AllEvents.{AllCome, AllFindPairs, AllSteps, BehindAreLeft, FindsPair, InAllEvent, all_begun}
+use Rattle.run_legal.specs.AllEvents.{AllCome, AllFindPairs, AllSteps, BehindRootsAreLeft, FindsPair, InAllEvent, all_begun}
 use Rattle.run_legal.proofs.Chains.{chains_keep}
 use Rattle.run_legal.proofs.OfAll.Roots.{handed, slots_leave_roots}
 use Rattle.run_legal.proofs.OfAll.Steps.{all_events_begin, all_goes_on}
@@ -104,10 +104,10 @@ module _ {K V : Type 0} (v : Moment K V) where
       by true e = absurd (none t e)
       by false e = is
 
-module _ {K V : Type 0} (same : K → K → Bool) (hash : ℕ → K → ℕ) (name : ℕ → List ℕ) (m : Moment K V) (known : Known) (s : Scene K V) (whole : ShowsWhole same name m known s)
-    (kept : ShowsKept name m known s) (old new : Held K V) (i : ℕ) (lists : ℕ → List ℕ) (before after : ReclaimAll) (told : Settled (Node K V)) (under_way : IsReclaiming same hash old s i lists before)
+module _ {K V : Type 0} (same : K → K → Bool) (hash : ℕ → K → ℕ) (name : ℕ → List ℕ) (m : Moment K V) (known : Known) (s : Scene K V) (whole : RefinesWhole same name m known s)
+    (kept : RefinesKept name m known s) (old new : Held K V) (i : ℕ) (lists : ℕ → List ℕ) (before after : ReclaimAll) (told : Settled (Node K V)) (under_way : IsReclaiming same hash old s i lists before)
     (leads : ReclaimingLeads same hash s i lists old new before after told) (roots : ℕ) (roots_are : old.roots ≡ roots) (placed : PairsArePlaced m) (none : m.calls ≡ [])
-    (behind : BehindAreLeft roots m known lists) where
+    (behind : BehindRootsAreLeft roots m known lists) where
   abbrev x : Changed
   x = new.changed
 
@@ -131,7 +131,7 @@ module _ {K V : Type 0} (same : K → K → Bool) (hash : ℕ → K → ℕ) (na
   -- a pair behind a table is told to be behind one
   is_behind : (n : ℕ) (t : TableId) → is_among n (behind_table t m.deferred) ≡ true → m.place n ≡ Behind
   is_behind n t among =
-      let a = found (λ (k : ℕ) (u : TableId). (m.place k ≡ Behind) × LiesBehind known w k u) n t m.deferred kept.waiting among in
+      let a = found (λ (k : ℕ) (u : TableId). (m.place k ≡ Behind) × IsDeferredTo known w k u) n t m.deferred kept.waiting among in
       ap m.place (sym a.number) ∙ a.so.0
 
   -- The pair in a block that was retired, and is taken away.
@@ -148,10 +148,10 @@ module _ {K V : Type 0} (same : K → K → Bool) (hash : ℕ → K → ℕ) (na
     not_behind is =
         (let one : 1 ≡ once_if (is_behind_one (m.place k)) = sym (ap (λ (p : Place). once_if (is_behind_one p)) is) in
         let put : 0 < put_in k m.deferred = (let e = placed.put k in omega (arith, one, e)) in
-        let waits = waits_of (λ (n : ℕ) (t : TableId). (m.place n ≡ Behind) × LiesBehind known w n t) k m.deferred put kept.waiting in
+        let waits = waits_of (λ (n : ℕ) (t : TableId). (m.place n ≡ Behind) × IsDeferredTo known w n t) k m.deferred put kept.waiting in
         lies waits.1.1)
       where
-        lies : {t : TableId} → LiesBehind known w k t → ⊥
+        lies : {t : TableId} → IsDeferredTo known w k t → ⊥
         lies l = by l.waits
           where
             same_block : l.pair ≡ b
@@ -243,7 +243,7 @@ module _ {K V : Type 0} (same : K → K → Bool) (hash : ℕ → K → ℕ) (na
   pub step_calls : (with_effects None None effects m).calls ≡ []
   step_calls = subst (λ (fs : List Effect). (with_effects None None fs m).calls ≡ []) (sym does) (calls_still m (things_of goes.gone) m ∙ none)
 
-  pub step_behind : BehindAreLeft roots (with_effects None None effects m) (known_after Row x known) leads.1.lists2
+  pub step_behind : BehindRootsAreLeft roots (with_effects None None effects m) (known_after Row x known) leads.1.lists2
   step_behind b n among noted =
       subst (λ (fs : List Effect). (with_effects None None fs m).place n ≡ Left) (sym does) (left_on m n goes.gone was (goes.apart b n noted) apart)
     where
@@ -263,7 +263,7 @@ module _ (K V : Type 0) (same : K → K → Bool) (hash : ℕ → K → ℕ) whe
     pub finds : AtEachEffect FindsPair None None x.come.did (moment log)
     pub placed : PairsArePlaced x.come.now
     pub none : x.come.now.calls ≡ []
-    pub behind : BehindAreLeft roots x.come.now x.come.notes x.lists
+    pub behind : BehindRootsAreLeft roots x.come.now x.come.notes x.lists
 
   pub all_find_pairs : AllFindPairs K V same hash
   all_find_pairs name terms log known s old run none i all lists left behind n to chain =

@@ -18,7 +18,7 @@ use Rattle.run_grows.specs.Given.SeizeSetsReclaims.{is_on_slots}
 use Rattle.run_grows.specs.Given.TablesNodes.{deferred_word, was_left}
 use Rattle.run_grows.specs.Given.TablesDeclared.node.Node.{Node}
 use Rattle.run_grows.specs.Given.TablesDeclared.setting.Setting.{Setting}
-use Rattle.run_grows.specs.Given.TellerTells.{StepsTold}
+use Rattle.run_grows.specs.Given.TellerTells.{StepsObserved}
 use Rattle.run_grows.specs.Given.EffectsDeclared.changed.Changed.{Changed}
 use Rattle.run_grows.specs.Given.EffectsDeclared.changed.Changed.TheVariants as changed
 use Rattle.run_grows.proofs.Given.CallersTogether.At.{at_other, at_same}
@@ -27,7 +27,7 @@ use Rattle.run_grows.specs.Given.FinishesMaps.{IsSameMap, Standing}
 use Rattle.run_grows.specs.Given.FollowsSteps.{TakesNone}
 use Rattle.run_grows.specs.Given.SeizeReclaimsRoots.{all_lists}
 use Rattle.run_grows.specs.Given.ReclaimsReclaims.{IsRootOf, LeftBehind, Opened, ReclaimingAt, RootLeads}
-use Rattle.run_grows.specs.Given.ReclaimsSlots.{IsQuiet}
+use Rattle.run_grows.specs.Given.ReclaimsSlots.{IsQuiescent}
 use Rattle.run_grows.proofs.Given.ShardsShardKept.{same_setting}
 
 -- it stands where a block behind a root is taken away
@@ -38,7 +38,7 @@ IsAtTakes p = (root : ℕ) × (block : ℕ) × (next : ℕ) × (p ≡ at.Takes r
 
 module _ {K V : Type 0} (m m2 : Mem (Node K V)) (told : Changed) (c : ReclaimAll) (end : ReclaimAll × Settled (Node K V)) where
   abbrev Told : Reclaiming → Type 0
-  Told p = StepsTold K V (ReclaimAll × Settled (Node K V)) m changed.Nothing (all.plan_at deferred_word was_left c p) m2 told end
+  Told p = StepsObserved K V (ReclaimAll × Settled (Node K V)) m changed.Nothing (all.plan_at deferred_word was_left c p) m2 told end
 
   abbrev IsOff : ReclaimAll → Type 0
   IsOff d = is_on_slots d.stands ≡ false
@@ -117,7 +117,7 @@ module _ {K V : Type 0} (batch_size roots i : ℕ) (c : ReclaimAll) (w : World (
   abbrev At : Reclaiming → Type 0
   At p = ReclaimingAt batch_size roots i c w maps lists p
 
-  pub quiet_there : (p : Reclaiming) → is_on_slots p ≡ false → At p → IsQuiet w
+  pub quiet_there : (p : Reclaiming) → is_on_slots p ≡ false → At p → IsQuiescent w
   quiet_there (at.Roots root) off point = point.0
   quiet_there (at.Nexts root block) off point = point.0
   quiet_there (at.Takes root block next) off point = point.0

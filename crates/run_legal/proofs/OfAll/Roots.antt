@@ -24,7 +24,7 @@ use Rattle.run_grows.proofs.Given.SeizeAloneWhole.Midway.{taken_append}
 use Rattle.run_grows.specs.Given.SeizeSetsReclaims.{is_on_slots}
 use Rattle.run_grows.specs.Given.TablesNodes.{deferred_word, was_left}
 use Rattle.run_grows.specs.Given.TablesDeclared.node.Node.{Node}
-use Rattle.run_grows.specs.Given.TellerTells.{StepsTold}
+use Rattle.run_grows.specs.Given.TellerTells.{StepsObserved}
 use Rattle.run_grows.specs.Given.EffectsDeclared.changed.Changed.{Changed}
 use Rattle.run_grows.specs.Given.EffectsDeclared.changed.Changed.TheVariants as changed
 use Rattle.run_grows.proofs.Given.CallersTogether.Came.{came_reached}
@@ -34,7 +34,7 @@ use Rattle.run_grows.specs.Given.FollowsSteps.{TakesNone}
 use Rattle.run_grows.proofs.Given.FollowsOperations.{LeavesBy, operated, operated_leaves}
 use Rattle.run_grows.proofs.Given.MomentsOnSlots.{none_some}
 use Rattle.run_grows.proofs.Given.OthersOutcomes.{told_in}
-use Rattle.run_grows.specs.Given.ReclaimsReclaims.{HasTaken, ReclaimingAt, ReclaimingTold}
+use Rattle.run_grows.specs.Given.ReclaimsReclaims.{HasTaken, ReclaimingAt, ReclaimingOutcome}
 use Rattle.run_grows.specs.Given.ReclaimsSlots.{AreItsRows, IsForSlots}
 use Rattle.run_grows.specs.Given.ScenesReclaiming.{IsReclaiming, ReclaimingLeads}
 use Rattle.run_grows.proofs.Given.ScenesMay.{may_reclaim}
@@ -156,7 +156,7 @@ module _ {K V : Type 0} (same : K → K → Bool) (hash : ℕ → K → ℕ) (s 
     quiet none = subst TakesNone took none
 
     -- the collector had it
-    pub handed : (p : Reclaiming) → is_on_slots p ≡ true → StepsTold K V (ReclaimAll × Settled (Node K V)) old.memory changed.Nothing (all.plan_at deferred_word was_left before p) new.memory x (after, told)
+    pub handed : (p : Reclaiming) → is_on_slots p ≡ true → StepsObserved K V (ReclaimAll × Settled (Node K V)) old.memory changed.Nothing (all.plan_at deferred_word was_left before p) new.memory x (after, told)
         → ReclaimingAt old.batch_size old.roots i before w s.maps lists p → w.hand b ≡ Handed
     handed (at.Leaves slot it) on_it st point =
         let inner = told_in old.memory new.memory x (all.within (λ (l : Leave). all.standing before (at.Leaves slot l)) (all.next_head before slot)) (leave.leave_plan deferred_word it) (after, told) st in
@@ -206,7 +206,7 @@ module _ {K V : Type 0} (same : K → K → Bool) (hash : ℕ → K → ℕ) (s 
   stays : leads.1.lists2 ≡ lists
   stays = by told leads.1.told
     where
-      by : (t : Settled (Node K V)) → ReclaimingTold w w2 lists leads.1.lists2 t → leads.1.lists2 ≡ lists
+      by : (t : Settled (Node K V)) → ReclaimingOutcome w w2 lists leads.1.lists2 t → leads.1.lists2 ≡ lists
       by settled.Goes say = say.0
       by settled.Waits say = absurd say
       by (settled.Gave value) say = by_taken say.0 value say.1 say.2 say.3

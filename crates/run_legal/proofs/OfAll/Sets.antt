@@ -42,14 +42,14 @@ use Rattle.run_grows.specs.Given.FinishesMaps.{Standing}
 use Rattle.run_grows.specs.Given.SeizeReclaimsAllReclaimed.{is_within}
 use Rattle.run_grows.proofs.Given.SeizeReclaimsAllReclaimed.Weights.{at_next_batch, at_next_head}
 use Rattle.run_grows.specs.Given.ReclaimsReclaims.{ReclaimingAt, StepsOfReclaiming}
-use Rattle.run_grows.specs.Given.ReclaimsSlots.{AllRest, AreItsRows, DoesAt, IsQuiet}
+use Rattle.run_grows.specs.Given.ReclaimsSlots.{AllRest, AreItsRows, DoesAt, IsQuiescent}
 use Rattle.run_grows.specs.Given.SeizeQuietSlots.{BeginsAt}
 use Rattle.run_grows.proofs.Given.SeizeQuietSlots.Facts.{no_word, outside_at, rested_by}
 use Rattle.run_grows.specs.Given.ModelsReclaims.{HasReclaimed}
 use Rattle.run_grows.specs.Given.ModelsTurns.{CameByTurns}
 use Rattle.run_grows.proofs.Given.ModelsReclaims.{has_reclaimed, quiet_reclaimed}
 use Rattle.run_grows.proofs.Given.ModelsTurns.{events_follow}
-use Rattle.run_grows.proofs.Needs.Flushes.Worlds.{slots as n}
+use Rattle.run_sweeps.proofs.Needs.Flushes.Worlds.{slots as n}
 
 -- where nothing but what lies between rows happened, and rows alone, nothing happened
 pub none_of_rows : {T : Type 0} (i : ℕ) (events : List (Event T)) → AreItsRows i events → AllByRecursion IsBetween events → events ≡ []
@@ -139,7 +139,7 @@ module _ {K V : Type 0} (size roots i : ℕ) (small : size < 2 ^ 64) (began : Wo
   pub starts_so : (w : World (Node K V)) → w ≡ began → SoFarAt (reclaiming_all size roots) w (reclaiming_all size roots).stands
   starts_so w same = subst (λ (x : World (Node K V)). Staged (reclaiming_all size roots) x) (sym same) (first_stage deferred_word n size roots refl i began)
 
-  pub quiet_so : CameAbout size began → IsQuiet began → Has began
+  pub quiet_so : CameAbout size began → IsQuiescent began → Has began
   quiet_so came quiet =
       quiet_reclaimed deferred_word was_left size roots small began before came_first i quiet.vacant
       (λ s l. no_word deferred_word size began came quiet.rests (outside_at 0 began.uses (λ t k. absurd (omega (arith, k))) (λ t k. quiet.vacant t)) s (quiet.none s (omega (arith, l))))

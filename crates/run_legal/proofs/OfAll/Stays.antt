@@ -26,21 +26,21 @@ use Rattle.run_grows.specs.Given.EffectsKnown.{Known}
 use Rattle.run_grows.specs.Given.EffectsDeclared.acting.Acting.TheVariants.{Row}
 use Rattle.run_grows.proofs.Given.FollowsOperations.{Operated, operated}
 use Rattle.run_grows.specs.Given.MomentsNumbers.{NumbersMaps}
-use Rattle.run_grows.specs.Given.MomentsWhole.{ShowsWhole}
+use Rattle.run_grows.specs.Given.MomentsWhole.{RefinesWhole}
 use Rattle.run_grows.proofs.Given.MomentsNewMaps.{effects_keep_pairs}
 use Rattle.run_grows.proofs.Given.OthersRowPlans.{TellsRow}
 use Rattle.run_grows.proofs.Given.HistoriesQuestions.{effects_keep_questions}
 use Rattle.run_grows.specs.Given.ScenesReclaiming.{IsReclaiming, ReclaimingLeads}
 use Rattle.run_grows.proofs.Given.ScenesMay.{may_reclaim}
-use Rattle.run_grows.proofs.Given.LoggedReclaiming.Rest.{reclaiming_found, reclaiming_keeps}
+use Rattle.run_logged.proofs.Log.Reclaiming.Rest.{reclaiming_found, reclaiming_keeps}
 use Rattle.run_grows.proofs.Given.ShedsReclaiming.Rows.{EmptiesRoot, reclaiming_tells}
 use Rattle.run_grows.proofs.Given.ShedsReclaiming.Steps.{reclaiming_whole}
-use Rattle.run_grows.specs.Given.PromisesReading.{ShowsReading}
+use Rattle.run_grows.specs.Given.PromisesReading.{RefinesReadings}
 use Rattle.run_grows.proofs.Given.SettlesUncounted.{CountsNowhere}
-use Rattle.run_grows.specs.Given.ShardsShardWords.{ShowsCounters, ShowsShards}
+use Rattle.run_grows.specs.Given.ShardsShardWords.{RefinesCounters, RefinesShards}
 use Rattle.run_grows.proofs.Given.ShardsShardKept.{none_shards, same_setting, word_kept}
 use Rattle.run_legal.specs.AllEvents.{scene_in}
-use Rattle.run_legal.specs.Carried.{ShowsCalls}
+use Rattle.run_legal.specs.Carried.{RefinesAllCalls}
 use Rattle.run_grows.proofs.Given.SpotsEffects.{AllAside}
 use Rattle.run_legal.proofs.Sourced.{reclaimed_aside, same_maps_aside}
 use Rattle.run_grows.proofs.Grows.Finding.Others.{finding_of_none}
@@ -49,7 +49,7 @@ use Rattle.run_legal.proofs.Uncounted.{none_counted}
 use Rattle.run_grows.specs.Given.ScenesHeld.{Held}
 use Rattle.run_grows.specs.Given.ScenesScene.{Scene}
 use Rattle.run_grows.specs.Given.SchedulesTransition.{Past}
-use Rattle.run_grows.proofs.Given.PurposesStored.{effects_stored, numbers_last}
+use Rattle.run_sweeps.proofs.Purposes.Stored.{effects_stored, numbers_last}
 
 -- Maps have their numbers still once something is reclaimed.
 
@@ -78,7 +78,7 @@ nowhere : (known : Known) (x : Changed) → TellsRow x ⊎ EmptiesRoot x → Cou
 nowhere known x (inl tells) b field old new of is counter = absurd (subst TellsRow is tells)
 nowhere known x (inr empties) b field old new of is counter = absurd (subst EmptiesRoot is empties)
 
-module _ {K V : Type 0} (same : K → K → Bool) (hash : ℕ → K → ℕ) (name : ℕ → List ℕ) (log : Past K V) (m : Moment K V) (known : Known) (s : Scene K V) (calls : ShowsCalls same name log m known s)
+module _ {K V : Type 0} (same : K → K → Bool) (hash : ℕ → K → ℕ) (name : ℕ → List ℕ) (log : Past K V) (m : Moment K V) (known : Known) (s : Scene K V) (calls : RefinesAllCalls same name log m known s)
     (old new : Held K V) (i : ℕ) (lists : ℕ → List ℕ) (before after : ReclaimAll) (told : Settled (Node K V)) (under_way : IsReclaiming same hash old s i lists before)
     (leads : ReclaimingLeads same hash s i lists old new before after told) where
   abbrev x : Changed
@@ -96,7 +96,7 @@ module _ {K V : Type 0} (same : K → K → Bool) (hash : ℕ → K → ℕ) (na
   none : {X : Type 0} (map j : ℕ) (u : UnderWay K V K) → s.calls map j ≡ Some u → X
   none map j u here = none_under_way same hash name m known s calls.whole calls.kept old new i lists before after told under_way leads map j u here
 
-  whole_then : ShowsWhole same name v (known_after Row x known) t
+  whole_then : RefinesWhole same name v (known_after Row x known) t
   whole_then =
       let found = reclaiming_found same hash name m known s calls.whole calls.kept old new i lists before after told under_way leads in
       reclaiming_whole same hash name m known s calls.whole old new i lists before after told under_way leads found.0 found.1
@@ -108,7 +108,7 @@ module _ {K V : Type 0} (same : K → K → Bool) (hash : ℕ → K → ℕ) (na
       (subst (λ (n : Mem (Node K V)). Operated n new.memory x) (sym under_way.memory)
       (operated old.memory new.memory x (reclaim_all_plan deferred_word was_left before) (after, told) (may_reclaim same hash old s i lists before under_way) leads.0))
 
-  shards_then : ShowsShards v t
+  shards_then : RefinesShards v t
   shards_then n st is shard few =
       let was = same_setting (s.maps n) (leads.1.maps2 n) (leads.1.as_they_were n) st is in
       let counter = (calls.whole.all.shown.maps n was.0 was.1).counter in
@@ -120,14 +120,14 @@ module _ {K V : Type 0} (same : K → K → Bool) (hash : ℕ → K → ℕ) (na
       (ap (λ (z : Setting). word_at s.world.memory (Word z.counter shard)) was.2 ∙ held) now.1 in
       now.1 ∙ ap Some one ∙ ap (λ (f : ℕ → ℕ → ℕ). Some (f n shard)) (sym (none_shards None effects m))
 
-  counters_then : ShowsCounters name v t
+  counters_then : RefinesCounters name v t
   counters_then = record {
     shards = shards_then;
     makes = λ j b is. absurd (let idle = under_way.under_way.stand.no_makers j in cc (idle, is));
     adds = λ of j u is removed to_add c found. none of j u is;
   }
 
-  pub calls_then : ShowsCalls same name log v (known_after Row x known) t
+  pub calls_then : RefinesAllCalls same name log v (known_after Row x known) t
   calls_then = record {
     whole = whole_then;
     numbers = (
@@ -168,5 +168,5 @@ module _ {K V : Type 0} (same : K → K → Bool) (hash : ℕ → K → ℕ) (na
     };
   }
 
-  pub reading_then : ShowsReading name log (λ j. 0) v t
+  pub reading_then : RefinesReadings name log (λ j. 0) v t
   reading_then = record { past = calls.dues.history.past; begun = λ n j u is c found looks. none n j u is; reads = λ n j u is c found looks st there. none n j u is }

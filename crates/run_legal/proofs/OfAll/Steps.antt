@@ -24,7 +24,7 @@ use Rattle.run_grows.specs.Given.EffectsDeclared.acting.Acting.TheVariants.{Row}
 use Rattle.run_grows.specs.Given.MomentsOnSlots.{HadRetired}
 use Rattle.run_grows.proofs.Given.MomentsAfter.{effects_after}
 use Rattle.run_grows.specs.Given.ScenesReclaiming.{IsReclaiming, ReclaimingLeads}
-use Rattle.run_grows.proofs.Given.LoggedReclaiming.Rest.{reclaiming_found}
+use Rattle.run_logged.proofs.Log.Reclaiming.Rest.{reclaiming_found}
 use Rattle.run_grows.proofs.Given.PromisesWeights.{grants_add_up, operations_are_single}
 use Rattle.run_grows.proofs.Given.ModelsMapEvents.{moments_note_once}
 use Rattle.run_legal.specs.AllEvents.{AllChain, AllCome, AllEventsBegin, AllSteps, InAllEvent, scene_in}

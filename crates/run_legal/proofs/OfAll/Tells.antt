@@ -28,7 +28,7 @@ use Rattle.run_grows.specs.Given.RunsDeclared.effect.Effect.TheVariants.{Reclaim
 use Rattle.run_grows.specs.Given.RunsDeclared.effect.Thing.{Thing}
 use Rattle.run_grows.specs.Given.SchedulesMoment.{Moment}
 use Rattle.run_grows.specs.Given.TellsSeen.{seen_of}
-use Rattle.run_grows.specs.Given.TellerTells.{StepsTold, told_of}
+use Rattle.run_grows.specs.Given.TellerTells.{StepsObserved, observed_of}
 use Rattle.run_grows.specs.Given.EffectsDeclared.changed.Changed.{Changed}
 use Rattle.run_grows.specs.Given.EffectsDeclared.changed.Changed.TheVariants as changed
 use Rattle.run_grows.specs.Given.CallersTogether.{UnderWay}
@@ -40,19 +40,19 @@ use Rattle.run_grows.specs.Given.EffectsDeclared.role.Role.TheVariants as role
 use Rattle.run_grows.specs.Given.FollowsSteps.{TakesNone}
 use Rattle.run_grows.proofs.Given.FollowsTold.{roomed_as_many}
 use Rattle.run_grows.proofs.Given.OthersRowPlans.{TellsRow}
-use Rattle.run_grows.specs.Given.MomentsWhole.{ShowsWhole}
+use Rattle.run_grows.specs.Given.MomentsWhole.{RefinesWhole}
 use Rattle.run_grows.specs.Given.OwesTables.{HoldsTable}
-use Rattle.run_grows.specs.Given.ReclaimsReclaims.{HasTaken, ReclaimingTold}
+use Rattle.run_grows.specs.Given.ReclaimsReclaims.{HasTaken, ReclaimingOutcome}
 use Rattle.run_grows.specs.Given.ScenesReclaiming.{IsReclaiming, ReclaimingLeads}
 use Rattle.run_grows.proofs.Given.ShedsReclaimGives.{GivesOr, reclaiming_gives, taken_gone}
 use Rattle.run_grows.proofs.Given.ShedsReclaiming.Rows.{EmptiesRoot, reclaiming_tells}
 use Rattle.run_grows.proofs.Given.ShedsReclaiming.Steps.{left, no_call, nothing_there, root_none}
-use Rattle.run_grows.specs.Given.KeptKept.{ShowsKept}
+use Rattle.run_grows.specs.Given.KeptKept.{RefinesKept}
 use Rattle.run_grows.specs.Given.ModelsNumbers.{things_of}
 use Rattle.run_grows.proofs.Given.ModelsRowSteps.{roles_after}
 use Rattle.run_grows.specs.Given.ScenesHeld.{Held}
 use Rattle.run_grows.specs.Given.ScenesScene.{Scene}
-use Rattle.run_grows.proofs.Needs.Steps.{IsNoOwn}
+use Rattle.run_sweeps.proofs.Needs.Steps.{IsNoOwn}
 
 -- It asks for no room.
 
@@ -74,7 +74,7 @@ IsNotRoomed (changed.Roomed bucket had) = ⊥
 IsNotRoomed _ = Unit {0}
 
 module _ {K V : Type 0} where
-  op_no_room : (m : Mem (Node K V)) (op : Op (Node K V)) (out : Out (Node K V)) → AsksNoRoom op → IsNotRoomed (told_of op out (seen_of m op out))
+  op_no_room : (m : Mem (Node K V)) (op : Op (Node K V)) (out : Out (Node K V)) → AsksNoRoom op → IsNotRoomed (observed_of op out (seen_of m op out))
   op_no_room m (Load place) out is = tt
   op_no_room m (Store place word) out is = tt
   op_no_room m (Swap place word) (Found before) is = tt
@@ -92,7 +92,7 @@ module _ {K V : Type 0} where
   op_no_room m (Rewrite b value) out is = tt
   op_no_room m (Room bucket) out is = absurd is
 
-  plan_no_room : {R : Type 0} (m m2 : Mem (Node K V)) (told : Changed) (plan : Plan (Node K V) R) (end : R) → StepsTold K V R m changed.Nothing plan m2 told end → NoRoom plan → IsNotRoomed told
+  plan_no_room : {R : Type 0} (m m2 : Mem (Node K V)) (told : Changed) (plan : Plan (Node K V) R) (end : R) → StepsObserved K V R m changed.Nothing plan m2 told end → NoRoom plan → IsNotRoomed told
   plan_no_room m m2 told (Turn rest) end s is = subst IsNotRoomed (sym s.2) tt
   plan_no_room m m2 told (Do op rest) end s is = subst IsNotRoomed (sym s.1.1) (op_no_room m op s.0 is)
 
@@ -162,8 +162,8 @@ module _ (known : Known) where
   row_notes (changed.Took c) tells none b = absurd none
   row_notes (changed.Roomed bucket had) tells none b = ap (λ (f : ℕ → Role). f b) (roomed_as_many Row known bucket had).0
 
-module _ {K V : Type 0} (same : K → K → Bool) (hash : ℕ → K → ℕ) (name : ℕ → List ℕ) (m : Moment K V) (known : Known) (s : Scene K V) (whole : ShowsWhole same name m known s)
-    (kept : ShowsKept name m known s) (old new : Held K V) (i : ℕ) (lists : ℕ → List ℕ) (before after : ReclaimAll) (told : Settled (Node K V)) (under_way : IsReclaiming same hash old s i lists before)
+module _ {K V : Type 0} (same : K → K → Bool) (hash : ℕ → K → ℕ) (name : ℕ → List ℕ) (m : Moment K V) (known : Known) (s : Scene K V) (whole : RefinesWhole same name m known s)
+    (kept : RefinesKept name m known s) (old new : Held K V) (i : ℕ) (lists : ℕ → List ℕ) (before after : ReclaimAll) (told : Settled (Node K V)) (under_way : IsReclaiming same hash old s i lists before)
     (leads : ReclaimingLeads same hash s i lists old new before after told) where
   abbrev x : Changed
   x = new.changed
@@ -240,7 +240,7 @@ module _ {K V : Type 0} (same : K → K → Bool) (hash : ℕ → K → ℕ) (na
   pub has_done : HasDone
   has_done = by told leads.1.told (reclaiming_gives old.memory new.memory x before (after, told) before.stands leads.0)
     where
-      by : (t : Settled (Node K V)) → ReclaimingTold s.world leads.1.w2 lists leads.1.lists2 t → GivesOr old.memory new.memory x t → HasDone
+      by : (t : Settled (Node K V)) → ReclaimingOutcome s.world leads.1.w2 lists leads.1.lists2 t → GivesOr old.memory new.memory x t → HasDone
       by settled.Goes say none = inl (none, say.0, say.1)
       by settled.Waits say none = absurd say
       by (settled.Gave value) say gives =

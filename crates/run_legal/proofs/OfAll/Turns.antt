@@ -34,18 +34,18 @@ use Rattle.run_grows.specs.Given.FollowsBlocks.{HasRole}
 use Rattle.run_grows.specs.Given.FollowsSteps.{TakesNone}
 use Rattle.run_grows.proofs.Given.FollowsAlike.{put_elsewhere}
 use Rattle.run_grows.proofs.Given.FollowsOperations.{LeavesBy}
-use Rattle.run_grows.specs.Given.MomentsWhole.{ShowsWhole}
+use Rattle.run_grows.specs.Given.MomentsWhole.{RefinesWhole}
 use Rattle.run_grows.proofs.Given.MomentsOnSlots.{none_some}
 use Rattle.run_grows.specs.Given.SeizeReclaimsRoots.{all_lists}
-use Rattle.run_grows.specs.Given.ReclaimsSlots.{IsQuiet}
+use Rattle.run_grows.specs.Given.ReclaimsSlots.{IsQuiescent}
 use Rattle.run_grows.proofs.Given.SeizeQuietSlots.Facts.{nothing_left}
 use Rattle.run_grows.specs.Given.ScenesReclaiming.{IsReclaiming, ReclaimingLeads}
 use Rattle.run_grows.proofs.Given.ShedsReclaiming.Steps.{left as leaves_there}
-use Rattle.run_grows.specs.Given.KeptKept.{ShowsKept}
+use Rattle.run_grows.specs.Given.KeptKept.{RefinesKept}
 use Rattle.run_grows.specs.Given.ModelsNumbers.{things_of}
 use Rattle.run_grows.proofs.Given.ModelsOnSlots.{noted_still as still_noted}
 use Rattle.run_grows.specs.Given.FindsOrderly.{is_left_over}
-use Rattle.run_legal.specs.AllEvents.{LeftIsBehind, TakesInTurn}
+use Rattle.run_legal.specs.AllEvents.{LeftIsBehindRoots, TakesInTurn}
 use Rattle.run_legal.proofs.OfAll.Points.{first_taken, quiet_there, root_there, stays_off, takes_there}
 use Rattle.run_legal.proofs.OfAll.Tells.{HasDone, gone_by, has_done, it_reclaims, none_gone, noted_or_free, noted_still}
 use Rattle.run_grows.specs.Given.ScenesHeld.{Held}
@@ -84,8 +84,8 @@ module _ {K V : Type 0} (v : Moment K V) (n : ℕ) where
       by true back = absurd (cc back)
       by false back = (back, λ e. cc e)
 
-module _ {K V : Type 0} (same : K → K → Bool) (hash : ℕ → K → ℕ) (name : ℕ → List ℕ) (m : Moment K V) (known : Known) (s : Scene K V) (whole : ShowsWhole same name m known s)
-    (kept : ShowsKept name m known s) (old new : Held K V) (i : ℕ) (lists : ℕ → List ℕ) (before after : ReclaimAll) (told : Settled (Node K V)) (under_way : IsReclaiming same hash old s i lists before)
+module _ {K V : Type 0} (same : K → K → Bool) (hash : ℕ → K → ℕ) (name : ℕ → List ℕ) (m : Moment K V) (known : Known) (s : Scene K V) (whole : RefinesWhole same name m known s)
+    (kept : RefinesKept name m known s) (old new : Held K V) (i : ℕ) (lists : ℕ → List ℕ) (before after : ReclaimAll) (told : Settled (Node K V)) (under_way : IsReclaiming same hash old s i lists before)
     (leads : ReclaimingLeads same hash s i lists old new before after told) (roots : ℕ) (roots_are : old.roots ≡ roots) (on_slots : is_on_slots before.stands ≡ true → leads.1.lists2 ≡ lists) where
   abbrev x : Changed
   x = new.changed
@@ -105,7 +105,7 @@ module _ {K V : Type 0} (same : K → K → Bool) (hash : ℕ → K → ℕ) (na
   -- once it is on roots nothing is retired
   none_retired : is_on_slots before.stands ≡ false → (b : ℕ) → is_retired b w.log ≡ true → ⊥
   none_retired off b retired =
-      (let quiet : IsQuiet w = quiet_there old.batch_size old.roots i before w s.maps lists before.stands off under_way.under_way.point in
+      (let quiet : IsQuiescent w = quiet_there old.batch_size old.roots i before w s.maps lists before.stands off under_way.under_way.point in
       let none = (nothing_left deferred_word old.batch_size under_way.small w under_way.under_way.stand.together.makings.standing.came quiet).1 b in cc (retired, none))
 
   off_then : is_on_slots before.stands ≡ false → is_on_slots after.stands ≡ false
@@ -232,7 +232,7 @@ module _ {K V : Type 0} (same : K → K → Bool) (hash : ℕ → K → ℕ) (na
         by (inr (b, took, inr it)) = root_taken b took it
 
   -- What is left over is behind a root still.
-  pub left_stays : LeftIsBehind roots m known lists → LeftIsBehind roots (with_effects None None effects m) (known_after Row x known) lists2
+  pub left_stays : LeftIsBehindRoots roots m known lists → LeftIsBehindRoots roots (with_effects None None effects m) (known_after Row x known) lists2
   left_stays left n over = by has_turned
     where
       IsBehind : Type 0

@@ -31,9 +31,9 @@ use Rattle.run_legal.specs.SlotEvents.{InSlotEvent}
 use Rattle.run_legal.proofs.Chains.{chains_keep}
 use Rattle.run_legal.proofs.Slots.{slot_events_go_on_so}
 use Rattle.run_legal.specs.Works.Rows.{RowsDoTheirs, may_row, row_begun}
-use Rattle.run_grows.proofs.Needs.Flushes.Moves.{FlushesOn}
-use Rattle.run_grows.proofs.Needs.Flushes.Worlds.{Flushing, flush_begins, flush_steps}
-use Rattle.run_grows.proofs.Needs.Steps.{IsNoOwn, IsTaking, asks_alone, does_nothing, enters_tell, flushes_tell, frees_tell, leaves_tell, reclaims_alone, registers_tell, takes_no_own}
+use Rattle.run_sweeps.proofs.Needs.Flushes.Moves.{FlushesOn}
+use Rattle.run_sweeps.proofs.Needs.Flushes.Worlds.{Flushing, flush_begins, flush_steps}
+use Rattle.run_sweeps.proofs.Needs.Steps.{IsNoOwn, IsTaking, asks_alone, does_nothing, enters_tell, flushes_tell, frees_tell, leaves_tell, reclaims_alone, registers_tell, takes_no_own}
 use Rattle.run_grows.specs.Given.ScenesOnSlots.{RowSteps as StepsAs, row_then}
 use Rattle.run_grows.proofs.Given.ScenesRows.{begun_there, never_rests, one_row}
 use Rattle.run_grows.specs.Given.ScenesRows.{begun_row, request_of}

@@ -37,11 +37,11 @@ use Rattle.run_legal.specs.Found.{AsksInNeed}
 use Rattle.run_legal.proofs.Chains.{chains_keep}
 use Rattle.run_grows.specs.Given.RemainsSlots.{SlotsNoted}
 use Rattle.run_grows.proofs.Given.RemainsSlots.{buckets_grow, rows_note_slots}
-use Rattle.run_grows.proofs.Given.RowsTaking.{Next, OnIt, first_on, next}
-use Rattle.run_grows.specs.Needs.Needs.{AreReached}
+use Rattle.run_logged.proofs.Rows.Taking.{Next, OnIt, first_on, next}
+use Rattle.run_sweeps.specs.Needs.Needs.{AreReached}
 use Rattle.run_legal.proofs.Works.Mays.{goes_as}
-use Rattle.run_grows.proofs.Needs.Registering.{NeedsSlot, asks_in_need}
-use Rattle.run_grows.proofs.Needs.Steps.{Tells, registers_tell}
+use Rattle.run_legal.proofs.Works.Registering.{NeedsSlot, asks_in_need}
+use Rattle.run_sweeps.proofs.Needs.Steps.{Tells, registers_tell}
 use Rattle.run_grows.specs.Given.ScenesHeld.{Held, IsAt}
 use Rattle.run_grows.specs.Given.ScenesOnSlots.{RowBegins, RowSteps as StepsAs, row_then}
 use Rattle.run_grows.specs.Given.ScenesScene.{Scene, row_of, slot_of}

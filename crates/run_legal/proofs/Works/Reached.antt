@@ -9,7 +9,7 @@ use Rattle.run_legal.specs.AllEvents.{AllCome, AllSteps}
 use Rattle.run_legal.specs.Chains.{Chain, Come, EndSteps, MakingSteps, RowSteps}
 use Rattle.run_legal.proofs.Chains.{chains_keep}
 use Rattle.run_grows.proofs.Given.RemainsSlots.{buckets_grow}
-use Rattle.run_grows.specs.Needs.Needs.{AreReached}
+use Rattle.run_sweeps.specs.Needs.Needs.{AreReached}
 
 -- where no fewer buckets are noted the slots that were ever taken have their words still
 pub reached_still : (slots : ℕ) (known after : Known) → known.buckets ≤ after.buckets → AreReached slots known → AreReached slots after

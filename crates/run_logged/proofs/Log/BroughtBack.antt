@@ -39,20 +39,21 @@ use Rattle.run_shows.specs.Given.FinishesFactsEnds.{taken_by as taken_of}
 use Rattle.run_shows.specs.Given.FinishesMaps.{Standing}
 use Rattle.run_shows.specs.Follows.Blocks.{HasRole}
 use Rattle.run_shows.specs.Follows.Steps.{TakesNone}
-use Rattle.run_shows.specs.Others.Endings.{TellsNext}
+use Rattle.run_shows.specs.Others.Endings.{ObservesNext}
 use Rattle.run_shows.specs.Others.Gives.{GivesWhatItTook}
 use Rattle.run_shows.proofs.Others.Ends.{tells_next}
 use Rattle.run_shows.proofs.Others.Quiet.{stored_none}
 use Rattle.run_shows.proofs.Others.RowGives.{rows_give_what_they_took}
 use Rattle.run_shows.proofs.Others.RowPlans.{TellsRow, row_tells}
 use Rattle.run_logged.specs.Log.Back.{BringsBack, ComesBack, EndBringsBack, number_back, number_in, number_last, numbered, pair_back, row_back, settled_back}
-use Rattle.run_logged.specs.Log.Ends.{EndRan, EndSteps, ended_as, is_done}
+use Rattle.run_logged.specs.Log.Ends.{EndRan, EndSteps, is_done}
+use Rattle.run_kept.specs.Ends.{ended_as}
 use Rattle.run_logged.specs.Log.OnSlots.{OnSlotRan, has_come}
 use Rattle.run_logged.specs.Log.Shown.{IsShown}
 use Rattle.run_logged.specs.declared.logged.Logged.{Logged}
 use Rattle.run_executor.specs.Executing.IsThere.{IsThere, held_by, work_of}
 use Rattle.run_executor.specs.Executing.OnSlots.{RowStepsThere}
-use Rattle.run_shows.specs.Scenes.Ending.{EndingComesTo, EndingLeads}
+use Rattle.run_shows.specs.Scenes.Ending.{EndingHasOutcome, EndingLeads}
 use Rattle.run_shows.specs.Scenes.Scene.{Scene}
 use Rattle.run_executor.proofs.Executing.RowLeads.{held_row}
 
@@ -236,8 +237,8 @@ module _ {K V S : Type 0} where
           let to = leads f here in
           by said to.3 (tells_next same (λ map. hash) name m noted s (held_by mid.executor) (held_by new) shown.is_at.held shown.shows.all.shown i f here to.0 said to.1 to.2 map not_there said to.3)
         where
-          by : (t : Settled (Node K V)) (comes : EndingComesTo same (λ map. hash) s (held_by new) i f (leads f here).0 (leads f here).2.w2 (leads f here).2.deed t)
-              → TellsNext same (λ map. hash) s (held_by new) i f (leads f here).0 (leads f here).2.w2 (leads f here).2.deed t comes new.memory.changed → IsBack m.stored ends (settled_back t (ys ++ ends))
+          by : (t : Settled (Node K V)) (comes : EndingHasOutcome same (λ map. hash) s (held_by new) i f (leads f here).0 (leads f here).2.w2 (leads f here).2.deed t)
+              → ObservesNext same (λ map. hash) s (held_by new) i f (leads f here).0 (leads f here).2.w2 (leads f here).2.deed t comes new.memory.changed → IsBack m.stored ends (settled_back t (ys ++ ends))
           by settled.Goes comes tells = none_ends comes.0
           by settled.Waits comes tells = absurd comes
           by (settled.Gave value) comes tells =

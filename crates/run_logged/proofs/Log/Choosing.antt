@@ -15,18 +15,18 @@ use Rattle.run_shows.specs.Given.FinishesEndings.{Finishing}
 use Rattle.run_shows.specs.Given.FinishesMakings.{Beginning}
 use Rattle.run_shows.specs.Given.FinishesMaps.{Standing}
 use Rattle.run_shows.proofs.Given.FinishesAmong.Choices.{choices_stand_among}
-use Rattle.run_shows.specs.Reclaims.Left.{IsSomebodys, LeftAmong}
+use Rattle.run_shows.specs.Reclaims.Left.{IsSomebodys, LeftWithEndings}
 use Rattle.run_shows.specs.Reclaims.Reclaims.{RootLeads}
 use Rattle.run_shows.specs.Follows.Blocks.{HasRole}
 use Rattle.run_executor.specs.Given.HandsRows.{HoldsOne}
 use Rattle.run_executor.proofs.Given.HandsSettlingRows.{one_kept}
-use Rattle.run_executor.specs.Given.MomentsWhole.{ShowsWhole}
+use Rattle.run_executor.specs.Given.MomentsWhole.{RefinesWhole}
 use Rattle.run_waiting.specs.Given.SettlesEntries.{IsBlank}
 use Rattle.run_waiting.proofs.Given.SettlesEntryScenes.{one_as}
-use Rattle.run_waiting.specs.Lives.Behind.{LiesBehind}
+use Rattle.run_waiting.specs.Lives.Behind.{IsDeferredTo}
 use Rattle.run_waiting.proofs.Lives.Each.{each_on}
 use Rattle.run_waiting.proofs.Lives.LeftTables.{left_as}
-use Rattle.run_kept.specs.Kept.Kept.{ShowsKept}
+use Rattle.run_kept.specs.Kept.Kept.{RefinesKept}
 use Rattle.run_logged.specs.Log.Choosing.{ChoiceIsShown, logged_chosen, memory_chosen, scene_chosen}
 use Rattle.run_logged.specs.Log.Shown.{IsCounted}
 use Rattle.run_logged.specs.declared.logged.Logged.{Logged}
@@ -60,7 +60,7 @@ module _ {K V : Type 0} (choice : ℕ) (w : World (Node K V)) where
   one_then slot first one = record { block = one.block; held = one.held; retired = one.retired; is_first = one.is_first }
 
 module _ {K V : Type 0} (choice : ℕ) (same : K → K → Bool) (name : ℕ → List ℕ) (m : Moment K V) (noted : Known) (s : Scene K V) where
-  pub whole_then : ShowsWhole same name m noted s → ShowsWhole same name m noted (scene_chosen choice s)
+  pub whole_then : RefinesWhole same name m noted s → RefinesWhole same name m noted (scene_chosen choice s)
   whole_then whole =
       let shown = whole.all.shown in
       let hands = whole.all.hands in
@@ -92,10 +92,10 @@ module _ {K V : Type 0} (choice : ℕ) (name : ℕ → List ℕ) (m : Moment K V
   blank_then : (b : ℕ) → IsBlank s.world.memory b → IsBlank (then_in choice s.world).memory b
   blank_then b blank = record { next = blank.next; first = blank.first }
 
-  lies_then : (n : ℕ) (t : TableId) → LiesBehind noted s.world n t → LiesBehind noted (then_in choice s.world) n t
+  lies_then : (n : ℕ) (t : TableId) → IsDeferredTo noted s.world n t → IsDeferredTo noted (then_in choice s.world) n t
   lies_then n t l = record { pair = l.pair; is_pair = l.is_pair; table = l.table; len = l.len; is_table = l.is_table; waits = l.waits }
 
-  pub kept_then : ShowsKept name m noted s → ShowsKept name m noted (scene_chosen choice s)
+  pub kept_then : RefinesKept name m noted s → RefinesKept name m noted (scene_chosen choice s)
   kept_then kept = record {
     entries = record {
       blank = λ b its. blank_then b (kept.entries.blank b its);
@@ -110,7 +110,7 @@ module _ {K V : Type 0} (choice : ℕ) (name : ℕ → List ℕ) (m : Moment K V
     owed = record { owed = kept.owed.owed; noted = kept.owed.noted };
     handing = kept.handing;
     waiting =
-        each_on (λ n t. (m.place n ≡ Behind) × LiesBehind noted s.world n t) (λ n t. (m.place n ≡ Behind) × LiesBehind noted (then_in choice s.world) n t) (λ n t p. (p.0, lies_then n t p.1)) m.deferred
+        each_on (λ n t. (m.place n ≡ Behind) × IsDeferredTo noted s.world n t) (λ n t. (m.place n ≡ Behind) × IsDeferredTo noted (then_in choice s.world) n t) (λ n t p. (p.0, lies_then n t p.1)) m.deferred
         kept.waiting;
     once = kept.once;
     lying = kept.lying;
@@ -131,8 +131,8 @@ module _ {K V : Type 0} (choice roots : ℕ) (w : World (Node K V)) where
   leads_then r [] leads = leads
   leads_then r (b ∷ l) (value, (word, there, list), used) = (value, (word, there, list_then word (b ∷ l) list), used)
 
-  left_then : (maps : ℕ → Option (Standing K)) (makers : ℕ → Option (Beginning K)) (enders : ℕ → Option (Finishing K V)) (lists : ℕ → List ℕ) → LeftAmong roots w maps makers enders lists
-      → LeftAmong roots (then_in choice w) maps makers enders lists
+  left_then : (maps : ℕ → Option (Standing K)) (makers : ℕ → Option (Beginning K)) (enders : ℕ → Option (Finishing K V)) (lists : ℕ → List ℕ) → LeftWithEndings roots w maps makers enders lists
+      → LeftWithEndings roots (then_in choice w) maps makers enders lists
   left_then maps makers enders lists left = record {
     root = λ r lt. elim (left.root r lt) as (λ _. IsSomebodys maps makers enders r ⊎ RootLeads (then_in choice w) r (lists r)) [
       | inl its ↦ inl its

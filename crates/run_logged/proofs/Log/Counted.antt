@@ -32,7 +32,7 @@ use Rattle.run_shows.specs.declared.row.RowTold.{RowTold}
 use Rattle.run_shows.specs.declared.row.SlotCall.{SlotCall}
 use Rattle.run_shows.specs.declared.row.SlotCall.TheVariants as call
 use Rattle.run_shows.specs.declared.row.SlotRow.{SlotRow}
-use Rattle.run_shows.specs.Follows.Shows.{Shows}
+use Rattle.run_shows.specs.Follows.Shows.{Refines}
 use Rattle.run_shows.specs.Others.Endings.{ending_after, without_map}
 use Rattle.run_shows.specs.Others.Makings.{making_after}
 use Rattle.run_shows.specs.Others.Rows.{scene_then}
@@ -40,7 +40,7 @@ use Rattle.run_executor.proofs.Given.MomentsAfter.{effects_after}
 use Rattle.run_executor.proofs.Given.MomentsNumbers.{maps_go}
 use Rattle.run_executor.specs.Given.MomentsNumbers.{MapsAreBelow, NumbersMaps}
 use Rattle.run_waiting.specs.Remains.Numbered.{NumbersUpTo}
-use Rattle.run_waiting.specs.Remains.Remains.{LeftNoted, ShowsRemains}
+use Rattle.run_waiting.specs.Remains.Remains.{LeftNoted, RefinesRemains}
 use Rattle.run_waiting.specs.Remains.Slots.{SlotsNoted}
 use Rattle.run_waiting.proofs.Remains.Endings.{endings_begin_remain, endings_keep_remains}
 use Rattle.run_waiting.proofs.Remains.Makings.{makings_begin_remain, makings_keep_remains}
@@ -49,10 +49,10 @@ use Rattle.run_waiting.proofs.Remains.Numbered.{calls_keep_count, ends_keep_coun
 use Rattle.run_waiting.proofs.Remains.Slots.{calls_note_slots, endings_note_slots, makings_note_slots, rows_note_slots, slots_begin}
 use Rattle.run_waiting.proofs.Remains.Stays.{begins_remain, stays_remain}
 use Rattle.run_waiting.proofs.Remains.Steps.{calls_keep_remains, rows_begin_remain, rows_keep_remains}
-use Rattle.run_logged.specs.Log.Ends.{ended_as}
+use Rattle.run_kept.specs.Ends.{ended_as}
 use Rattle.run_logged.specs.Log.Shown.{IsCounted}
 use Rattle.run_logged.specs.declared.logged.Logged.{Logged}
-use Rattle.run_executor.specs.Executing.IsThere.{KeepsGiven, held_by}
+use Rattle.run_executor.specs.Executing.IsThere.{PreservesSettings, held_by}
 use Rattle.run_shows.specs.Scenes.Ending.{EndingLeads, ending_begun}
 use Rattle.run_shows.specs.Scenes.Rows.{request_of}
 use Rattle.run_shows.specs.Scenes.Scene.{IsOnSlot, Scene, at_first, slot_of}
@@ -84,12 +84,12 @@ ends_count {K} {V} count of first (b ∷ blocks) m numbers =
     subst (NumbersUpTo count) (sym (effects_after None (Some of) (taken_by (acts.Ending of) (first.roles b)) (ended_as of first blocks) m))
     (ends_count count of first blocks (with_effects None (Some of) (taken_by (acts.Ending of) (first.roles b)) m) (ends_keep_count K V m count numbers of (first.roles b) None (Some of)))
 
-module _ {K V S : Type 0} (old new : Logged K V S) (given : KeepsGiven old.executor new.executor) where
+module _ {K V S : Type 0} (old new : Logged K V S) (given : PreservesSettings old.executor new.executor) where
   -- by what the executor was given, which stays
-  pub counted_on : (v : Moment K V) (t : Scene K V) → ShowsRemains old.executor.roots v (known new.notes) t → NumbersUpTo (length old.executor.maps.items) v → SlotsNoted (known new.notes) new.executor.memory.memory → IsCounted v new t
+  pub counted_on : (v : Moment K V) (t : Scene K V) → RefinesRemains old.executor.roots v (known new.notes) t → NumbersUpTo (length old.executor.maps.items) v → SlotsNoted (known new.notes) new.executor.memory.memory → IsCounted v new t
   counted_on v t remains numbers slots = record {
     numbered = record { numbers = subst (λ (n : ℕ). NumbersUpTo n v) (sym given.3) numbers; slots = slots };
-    remains = subst (λ (r : ℕ). ShowsRemains r v (known new.notes) t) (sym given.2) remains;
+    remains = subst (λ (r : ℕ). RefinesRemains r v (known new.notes) t) (sym given.2) remains;
   }
 
   module _ (noted : new.notes ≡ old.notes) where
@@ -103,7 +103,7 @@ module _ {K V S : Type 0} (old new : Logged K V S) (given : KeepsGiven old.execu
         → t.world ≡ s.world → t.maps ≡ s.maps → t.makers ≡ s.makers → t.enders ≡ s.enders → IsCounted v new t
     counted_stays m v s t c memory maps tables remains world same_maps makers enders =
         counted_on v t
-        (subst (λ (n : Notes). ShowsRemains old.executor.roots v (known n) t) (sym noted) (stays_remain K V old.executor.roots m v (known old.notes) s t c.remains (ap (λ (ms : List MapThere). map (λ f. f.root) ms) maps) remains world same_maps makers enders))
+        (subst (λ (n : Notes). RefinesRemains old.executor.roots v (known n) t) (sym noted) (stays_remain K V old.executor.roots m v (known old.notes) s t c.remains (ap (λ (ms : List MapThere). map (λ f. f.root) ms) maps) remains world same_maps makers enders))
         (numbers_as (length old.executor.maps.items) m v maps tables c.numbered.numbers) (same_slots memory c.numbered.slots)
 
 -- where nothing of it has changed, as where a call comes to an outcome
@@ -136,22 +136,22 @@ module _ {K V S : Type 0} (same : K → K → Bool) (hash : ℕ → K → ℕ) w
       numbers = record { found = λ k d l. absurd (let none = l in omega (arith, none)); below = λ k d l. absurd (let none = l in omega (arith, none)); tables = λ k d l. absurd (let none = l in omega (arith, none)) };
       slots = subst (λ (k : Known). SlotsNoted k l.executor.memory.memory) (sym noted) (subst (λ (x : Mem (Node K V)). SlotsNoted nothing_known x) at.memory (slots_begin K V roots));
     };
-    remains = subst (λ (r : ℕ). ShowsRemains {K = K} {V = V} r start (known l.notes) (at_first roots)) (sym is_roots)
-        (subst (λ (k : Known). ShowsRemains {K = K} {V = V} roots start k (at_first roots)) (sym noted) (begins_remain K V roots));
+    remains = subst (λ (r : ℕ). RefinesRemains {K = K} {V = V} r start (known l.notes) (at_first roots)) (sym is_roots)
+        (subst (λ (k : Known). RefinesRemains {K = K} {V = V} roots start k (at_first roots)) (sym noted) (begins_remain K V roots));
   }
 
   -- where a row begins on a slot, and after a step of it
-  pub counted_row_begins : (old new : Logged K V S) → KeepsGiven old.executor new.executor → new.notes ≡ old.notes → (m : Moment K V) (s : Scene K V) → IsAt same hash (held_by old.executor) s → IsCounted m old s
+  pub counted_row_begins : (old new : Logged K V S) → PreservesSettings old.executor new.executor → new.notes ≡ old.notes → (m : Moment K V) (s : Scene K V) → IsAt same hash (held_by old.executor) s → IsCounted m old s
       → (called : SlotCall) (i : ℕ) (leads : RowBegins same hash called i s (held_by old.executor) (held_by new.executor))
       → IsCounted m new (scene_then same hash (Begin i (request_of (slot_of i) called)) s (held_by old.executor) (held_by new.executor) leads.2)
   counted_row_begins old new given noted m s at c called i leads =
       let to = leads.2 in
       counted_on old new given m _
-      (subst (λ (n : Notes). ShowsRemains old.executor.roots m (known n) (scene_then same hash (Begin i (request_of (slot_of i) called)) s (held_by old.executor) (held_by new.executor) to)) (sym noted)
+      (subst (λ (n : Notes). RefinesRemains old.executor.roots m (known n) (scene_then same hash (Begin i (request_of (slot_of i) called)) s (held_by old.executor) (held_by new.executor) to)) (sym noted)
       (rows_begin_remain K V same hash m (known old.notes) s (held_by old.executor) (held_by new.executor) at c.remains called i leads)) c.numbered.numbers
       (same_slots old new given noted (sym to.4.memory ∙ begun_memory old.executor.batch_size (slot_of i) i s.world to.0 called to.1.1 ∙ at.memory) c.numbered.slots)
 
-  pub counted_row_steps : (old : Logged K V S) (stepped : Executor K V S) (notes : Notes) → KeepsGiven old.executor stepped → (m : Moment K V) (s : Scene K V) → IsAt same hash (held_by old.executor) s → IsCounted m old s
+  pub counted_row_steps : (old : Logged K V S) (stepped : Executor K V S) (notes : Notes) → PreservesSettings old.executor stepped → (m : Moment K V) (s : Scene K V) → IsAt same hash (held_by old.executor) s → IsCounted m old s
       → (i : ℕ) (told : RowTold (Node K V)) (leads : RowLeads same hash i told s (held_by old.executor) (held_by stepped)) (row : SlotRow) (here : IsOnSlot s i row)
       → known notes ≡ known_after acts.Row stepped.memory.changed (known old.notes)
       → LeftNoted (known old.notes) (known_after acts.Row stepped.memory.changed (known old.notes)) s.world (scene_then same hash (Step i) s (held_by old.executor) (held_by stepped) (leads row here).2).world
@@ -159,7 +159,7 @@ module _ {K V S : Type 0} (same : K → K → Bool) (hash : ℕ → K → ℕ) w
       (scene_then same hash (Step i) s (held_by old.executor) (held_by stepped) (leads row here).2)
   counted_row_steps old stepped notes given m s at c i told leads row here noted left =
       counted_on old (record { executor = stepped; notes = notes }) given _ _
-      (subst (λ (k : Known). ShowsRemains old.executor.roots (with_effects None None (effects_of acts.Row (known old.notes) stepped.memory.changed) m) k
+      (subst (λ (k : Known). RefinesRemains old.executor.roots (with_effects None None (effects_of acts.Row (known old.notes) stepped.memory.changed) m) k
       (scene_then same hash (Step i) s (held_by old.executor) (held_by stepped) (leads row here).2)) (sym noted)
       (rows_keep_remains K V same hash m (known old.notes) (known_after acts.Row stepped.memory.changed (known old.notes)) s (held_by old.executor) (held_by stepped) at c.remains i told leads row here None None
       (effects_of acts.Row (known old.notes) stepped.memory.changed) left))
@@ -167,7 +167,7 @@ module _ {K V S : Type 0} (same : K → K → Bool) (hash : ℕ → K → ℕ) w
       (subst (λ (k : Known). SlotsNoted k stepped.memory.memory) (sym noted) (rows_note_slots K V same hash (known old.notes) s (held_by old.executor) (held_by stepped) at c.numbered.slots i told leads row here))
 
   -- after a step of a call
-  pub counted_call_steps : (old : Logged K V S) (stepped : Executor K V S) (notes : Notes) → KeepsGiven old.executor stepped → (m : Moment K V) (s : Scene K V) → IsAt same hash (held_by old.executor) s → MapsAreBelow (length old.executor.maps.items) s → IsCounted m old s
+  pub counted_call_steps : (old : Logged K V S) (stepped : Executor K V S) (notes : Notes) → PreservesSettings old.executor stepped → (m : Moment K V) (s : Scene K V) → IsAt same hash (held_by old.executor) s → MapsAreBelow (length old.executor.maps.items) s → IsCounted m old s
       → (of i : ℕ) (u : UnderWay K V K) (here : s.calls of i ≡ Some u) (told : CallTold (Node K V)) (leads : StepLeads same hash i told s (held_by old.executor) (held_by stepped)) (caller : List ℕ)
       → known notes ≡ known_after (acts.Call i of) stepped.memory.changed (known old.notes)
       → (let to = leads of u here in
@@ -177,7 +177,7 @@ module _ {K V S : Type 0} (same : K → K → Bool) (hash : ℕ → K → ℕ) w
   counted_call_steps old stepped notes given m s at below c of i u here told leads caller noted left =
       counted_on old (record { executor = stepped; notes = notes }) given _ _
       (let to = leads of u here in
-      subst (λ (k : Known). ShowsRemains old.executor.roots (with_effects (Some caller) (Some of) (effects_of (acts.Call i of) (known old.notes) stepped.memory.changed) m) k
+      subst (λ (k : Known). RefinesRemains old.executor.roots (with_effects (Some caller) (Some of) (effects_of (acts.Call i of) (known old.notes) stepped.memory.changed) m) k
       (scene_after same s (held_by old.executor) (held_by stepped) of i to.0 u to.1 told to.4)) (sym noted)
       (calls_keep_remains K V same hash m (known old.notes) (known_after (acts.Call i of) stepped.memory.changed (known old.notes)) s (held_by old.executor) (held_by stepped) at c.remains of i u here told leads
       (Some caller) (Some of) (effects_of (acts.Call i of) (known old.notes) stepped.memory.changed) left))
@@ -194,12 +194,12 @@ module _ {K V S : Type 0} (same : K → K → Bool) (hash : ℕ → K → ℕ) w
       slots = subst (λ (n : Notes). SlotsNoted (known n) new.executor.memory.memory) (sym noted)
           (subst (λ (x : Mem (Node K V)). SlotsNoted (known old.notes) x) (sym memory) c.numbered.slots);
     };
-    remains = subst (λ (r : ℕ). ShowsRemains r m (known new.notes) (record s { makers = with_at s.makers i (Some b) })) (sym roots)
-        (subst (λ (n : Notes). ShowsRemains old.executor.roots m (known n) (record s { makers = with_at s.makers i (Some b) })) (sym noted)
+    remains = subst (λ (r : ℕ). RefinesRemains r m (known new.notes) (record s { makers = with_at s.makers i (Some b) })) (sym roots)
+        (subst (λ (n : Notes). RefinesRemains old.executor.roots m (known n) (record s { makers = with_at s.makers i (Some b) })) (sym noted)
         (makings_begin_remain K V old.executor.roots m (known old.notes) s c.remains i b none taken));
   }
 
-  pub counted_making_steps : (old : Logged K V S) (stepped : Executor K V S) (notes : Notes) → KeepsGiven old.executor stepped → (m : Moment K V) (s : Scene K V) → IsAt same hash (held_by old.executor) s → MapsAreBelow (length old.executor.maps.items) s → IsCounted m old s
+  pub counted_making_steps : (old : Logged K V S) (stepped : Executor K V S) (notes : Notes) → PreservesSettings old.executor stepped → (m : Moment K V) (s : Scene K V) → IsAt same hash (held_by old.executor) s → MapsAreBelow (length old.executor.maps.items) s → IsCounted m old s
       → (i : ℕ) (told : Advance Setting) (leads : MakingLeads same hash i told s (held_by old.executor) (held_by stepped)) (b : Beginning K) (here : s.makers i ≡ Some b) (of : Option ℕ)
       → known notes ≡ known_after (acts.Making b.map) stepped.memory.changed (known old.notes)
       → (let to = leads b here in
@@ -209,7 +209,7 @@ module _ {K V S : Type 0} (same : K → K → Bool) (hash : ℕ → K → ℕ) w
   counted_making_steps old stepped notes given m s at below c i told leads b here of noted left =
       counted_on old (record { executor = stepped; notes = notes }) given _ _
       (let to = leads b here in
-      subst (λ (k : Known). ShowsRemains old.executor.roots (with_effects None of (effects_of (acts.Making b.map) (known old.notes) stepped.memory.changed) m) k
+      subst (λ (k : Known). RefinesRemains old.executor.roots (with_effects None of (effects_of (acts.Making b.map) (known old.notes) stepped.memory.changed) m) k
       (making_after same hash s (held_by old.executor) (held_by stepped) i b to.0 to.2.step.w2 told to.3)) (sym noted)
       (makings_keep_remains K V same hash m (known old.notes) (known_after (acts.Making b.map) stepped.memory.changed (known old.notes)) s (held_by old.executor) (held_by stepped) at c.remains i told leads b here
       None of (effects_of (acts.Making b.map) (known old.notes) stepped.memory.changed) left))
@@ -217,16 +217,16 @@ module _ {K V S : Type 0} (same : K → K → Bool) (hash : ℕ → K → ℕ) w
       (subst (λ (k : Known). SlotsNoted k stepped.memory.memory) (sym noted) (makings_note_slots K V same hash (known old.notes) s (held_by old.executor) (held_by stepped) at c.numbered.slots i told leads b here b.map))
 
   -- where the end of one begins, and after a step of it, which does what it is told to do
-  pub counted_end_begins : (old new : Logged K V S) → KeepsGiven old.executor new.executor → new.notes ≡ old.notes → (name : ℕ → List ℕ) (m : Moment K V) (s : Scene K V) → IsAt same hash (held_by old.executor) s
-      → Shows same name m (known old.notes) s → IsCounted m old s → (of i : ℕ) (standing : Standing K) → s.maps of ≡ Some standing → s.enders i ≡ None
+  pub counted_end_begins : (old new : Logged K V S) → PreservesSettings old.executor new.executor → new.notes ≡ old.notes → (name : ℕ → List ℕ) (m : Moment K V) (s : Scene K V) → IsAt same hash (held_by old.executor) s
+      → Refines same name m (known old.notes) s → IsCounted m old s → (of i : ℕ) (standing : Standing K) → s.maps of ≡ Some standing → s.enders i ≡ None
       → IsAt same hash (held_by new.executor) (ending_begun of i standing s) → IsCounted m new (ending_begun of i standing s)
   counted_end_begins old new given noted name m s at shown c of i standing there none at2 =
       counted_on old new given m _
-      (subst (λ (n : Notes). ShowsRemains old.executor.roots m (known n) (ending_begun of i standing s)) (sym noted)
+      (subst (λ (n : Notes). RefinesRemains old.executor.roots m (known n) (ending_begun of i standing s)) (sym noted)
       (endings_begin_remain K V same hash name m (known old.notes) s (held_by old.executor) at shown c.remains of i standing there none)) c.numbered.numbers
       (same_slots old new given noted (same_memory same hash old.executor new.executor s (ending_begun of i standing s) at at2 refl) c.numbered.slots)
 
-  pub counted_end_steps : (old : Logged K V S) (stepped : Executor K V S) (notes : Notes) → KeepsGiven old.executor stepped → (m : Moment K V) (s : Scene K V) → IsAt same hash (held_by old.executor) s → IsCounted m old s
+  pub counted_end_steps : (old : Logged K V S) (stepped : Executor K V S) (notes : Notes) → PreservesSettings old.executor stepped → (m : Moment K V) (s : Scene K V) → IsAt same hash (held_by old.executor) s → IsCounted m old s
       → (i of : ℕ) (told : Settled (Node K V)) (leads : EndingLeads same hash i told s (held_by old.executor) (held_by stepped)) (f : Finishing K V) (here : s.enders i ≡ Some f)
       → known notes ≡ known_after (acts.Ending of) stepped.memory.changed (known old.notes)
       → (first : Known) (blocks : List ℕ) → effects_of (acts.Ending of) (known old.notes) stepped.memory.changed ≡ ended_as of first blocks
@@ -237,7 +237,7 @@ module _ {K V S : Type 0} (same : K → K → Bool) (hash : ℕ → K → ℕ) w
   counted_end_steps old stepped notes given m s at c i of told leads f here noted first blocks does left =
       counted_on old (record { executor = stepped; notes = notes }) given _ _
       (let to = leads f here in
-      subst (λ (k : Known). ShowsRemains old.executor.roots (with_effects None (Some of) (effects_of (acts.Ending of) (known old.notes) stepped.memory.changed) m) k
+      subst (λ (k : Known). RefinesRemains old.executor.roots (with_effects None (Some of) (effects_of (acts.Ending of) (known old.notes) stepped.memory.changed) m) k
       (ending_after same hash s (held_by stepped) i f to.0 to.2.w2 to.2.deed told to.3)) (sym noted)
       (endings_keep_remains K V same hash m (known old.notes) (known_after (acts.Ending of) stepped.memory.changed (known old.notes)) s (held_by old.executor) (held_by stepped) at c.remains i told leads f here
       None (Some of) (effects_of (acts.Ending of) (known old.notes) stepped.memory.changed) left))

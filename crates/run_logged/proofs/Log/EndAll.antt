@@ -20,7 +20,8 @@ use Rattle.run_shows.specs.Given.FinishesOrders.{pairs_of, tables_in}
 use Rattle.run_shows.proofs.Given.FinishesEnds.CountedBlocks.{some_here}
 use Rattle.run_shows.specs.Follows.Maps.{table_of}
 use Rattle.run_executor.specs.Given.MomentsWholeEnds.{all_ended, tables_ended}
-use Rattle.run_logged.specs.Log.Ends.{NotesMap, ended_as}
+use Rattle.run_logged.specs.Log.Ends.{NotesMap}
+use Rattle.run_kept.specs.Ends.{ended_as}
 
 -- a pair of the list is one of the map
 current_of : (q : Bool) (n : ℕ) → 0 < n → n ≡ cond q 1 0 → q ≡ true

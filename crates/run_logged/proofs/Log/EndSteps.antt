@@ -24,13 +24,13 @@ use Rattle.run_executor.proofs.Given.MomentsEnds.{endings_begin_whole, endings_k
 use Rattle.run_executor.proofs.Given.MomentsOver.{endings_are_over_whole}
 use Rattle.run_executor.proofs.Given.MomentsWholeEnds.{whole_ends_take_all}
 use Rattle.run_executor.specs.Given.MomentsWholeEnds.{all_ended}
-use Rattle.run_executor.specs.Given.MomentsWhole.{ShowsWhole}
-use Rattle.run_logged.specs.Log.Ends.{is_done, AllEnds, NotesMap, NotedStill, EndIsBegun, EndGoesOn, EndSteps, EndIsOver}
-use Rattle.run_kept.specs.Kept.Kept.{ShowsKept}
+use Rattle.run_executor.specs.Given.MomentsWhole.{RefinesWhole}
+use Rattle.run_logged.specs.Log.Ends.{is_done, AllEnds, NotesMap, NotedStill, EndIsBegun, EndContinues, EndSteps, EndIsOver}
+use Rattle.run_kept.specs.Kept.Kept.{RefinesKept}
 use Rattle.run_kept.proofs.Kept.Others.{endings_begin_kept, endings_keep_kept, endings_find_kept}
 use Rattle.run_kept.proofs.Kept.Stays.{stays_kept}
 use Rattle.run_logged.specs.Log.Shown.{IsShown}
-use Rattle.run_kept.specs.Sheds.Waits.{TellsThen, TellsWaiting}
+use Rattle.run_kept.specs.Sheds.Waits.{ReportsThen, ReportsWaiting}
 use Rattle.run_logged.specs.declared.logged.Logged.{Logged}
 use Rattle.run_logged.proofs.Log.Counted.{counted_end_begins, counted_end_steps, counted_goes}
 use Rattle.run_kept.proofs.Sheds.LeftNoted.{endings_note_left}
@@ -39,7 +39,7 @@ use Rattle.run_kept.proofs.Sheds.EndLists.{once}
 use Rattle.run_logged.proofs.Log.EndTold.{did_end, ends_alone, noted_on}
 use Rattle.run_logged.proofs.Log.EndWaits.{waits_begin, waits_said}
 use Rattle.run_executor.specs.Executing.Ending.{EndingBegins, EndsThere}
-use Rattle.run_executor.specs.Executing.IsThere.{IsThere, KeepsGiven, held_by}
+use Rattle.run_executor.specs.Executing.IsThere.{IsThere, PreservesSettings, held_by}
 use Rattle.run_shows.specs.Scenes.Ending.{ending_begun}
 use Rattle.run_shows.specs.Scenes.Scene.{Scene}
 use Rattle.run_kept.proofs.Sheds.Held.{ending_held}
@@ -75,7 +75,7 @@ module _ {K V S : Type 0} (same : K → K → Bool) (hash : K → ℕ) where
         }
 
   pub end_is_begun : (old new : Logged K V S) (map i : ℕ) → ((s : Scene K V) → IsThere same hash old.executor s → EndingBegins same hash map i s old.executor new.executor)
-      → ((s : Scene K V) → IsThere same hash old.executor s → s.enders i ≡ None) → new.notes ≡ old.notes → KeepsGiven old.executor new.executor
+      → ((s : Scene K V) → IsThere same hash old.executor s → s.enders i ≡ None) → new.notes ≡ old.notes → PreservesSettings old.executor new.executor
       → (name : ℕ → List ℕ) (m : Moment K V) (s : Scene K V) → IsShown same hash name m old s → EndIsBegun same hash name m s map i old new
   end_is_begun old new map i begins yet noted given name m s shown nobody =
       let to = (begins s shown.is_at nobody).1 in (
@@ -89,13 +89,13 @@ module _ {K V S : Type 0} (same : K → K → Bool) (hash : K → ℕ) where
         ),
         record {
           is_at = to.4;
-          shows = subst (λ (n : Notes). ShowsWhole {K = K} {V = V} same name m (known n) (ending_begun map i to.0 s)) (sym noted)
+          shows = subst (λ (n : Notes). RefinesWhole {K = K} {V = V} same name m (known n) (ending_begun map i to.0 s)) (sym noted)
               (endings_begin_whole K V same (λ map. hash) name m (known old.notes) s (held_by new.executor) shown.shows map i to.0 to.1 to.4.held);
-          kept = subst (λ (n : Notes). ShowsKept {K = K} {V = V} name m (known n) (ending_begun map i to.0 s)) (sym noted)
+          kept = subst (λ (n : Notes). RefinesKept {K = K} {V = V} name m (known n) (ending_begun map i to.0 s)) (sym noted)
               (endings_begin_kept K V same (λ map. hash) name m (known old.notes) s (held_by old.executor) (held_by new.executor) shown.is_at.held shown.kept map i to.0 (yet s shown.is_at) to.4.held);
           counted = counted_end_begins same (λ map. hash) old new given noted name m s shown.is_at.held shown.shows.all.shown shown.counted map i to.0 to.1 (yet s shown.is_at) to.4.held;
         },
-        subst (λ (n : Notes). TellsWaiting {K = K} {V = V} same map i (finishing_of to.0 s.world) m m (known n) (ending_begun map i to.0 s).world) (sym noted)
+        subst (λ (n : Notes). ReportsWaiting {K = K} {V = V} same map i (finishing_of to.0 s.world) m m (known n) (ending_begun map i to.0 s).world) (sym noted)
             (waits_begin same map i to.0 m (known old.notes) s.world (ending_begun map i to.0 s).world),
       )
 
@@ -109,9 +109,9 @@ module _ {K V S : Type 0} (same : K → K → Bool) (hash : K → ℕ) where
 
   end_so : (old : Logged K V S) (stepped : Executor K V S) (notes : Notes) (i map : ℕ) (said : Settled (Node K V))
       → ((s : Scene K V) → IsThere same hash old.executor s → EndsThere same hash i said s old.executor stepped)
-      → known notes ≡ known_after (Ending map) stepped.memory.changed (known old.notes) → KeepsGiven old.executor stepped
+      → known notes ≡ known_after (Ending map) stepped.memory.changed (known old.notes) → PreservesSettings old.executor stepped
       → (name : ℕ → List ℕ) (m : Moment K V) (s : Scene K V) → IsShown same hash name m old s
-      → EndGoesOn same hash name m s i map said (effects_of (Ending map) (known old.notes) stepped.memory.changed) old (record { executor = stepped; notes = notes })
+      → EndContinues same hash name m s i map said (effects_of (Ending map) (known old.notes) stepped.memory.changed) old (record { executor = stepped; notes = notes })
   end_so old stepped notes i map said stepping noted given name m s shown f here not_there number first its still =
       let went = stepping s shown.is_at in
       let leads = ending_held same hash s old.executor stepped i said went in
@@ -123,11 +123,11 @@ module _ {K V S : Type 0} (same : K → K → Bool) (hash : K → ℕ) where
             (noted_on same (λ map. hash) name m (known old.notes) s (held_by old.executor) (held_by stepped) shown.is_at.held shown.shows i f here to.0 said to.1 to.2 map not_there to.3 number first its still),
         record {
           is_at = end_there old.executor stepped s i said went f here;
-          shows = subst (λ (k : Known). ShowsWhole {K = K} {V = V} same name (with_effects None (Some map) effects m) k (ending_after same (λ map. hash) s (held_by stepped) i f to.0 to.2.w2 to.2.deed said to.3)) (sym noted)
+          shows = subst (λ (k : Known). RefinesWhole {K = K} {V = V} same name (with_effects None (Some map) effects m) k (ending_after same (λ map. hash) s (held_by stepped) i f to.0 to.2.w2 to.2.deed said to.3)) (sym noted)
               (endings_keep_whole K V same (λ map. hash) name m (known old.notes) s (held_by old.executor) (held_by stepped) shown.is_at.held shown.shows i said leads f here map not_there
               (ends_alone same (λ map. hash) name m (known old.notes) s (held_by old.executor) (held_by stepped) shown.is_at.held shown.shows i f here to.0 said to.1 to.2 map not_there to.3 number first its still)
               (endings_find_kept K V same (λ map. hash) name m (known old.notes) s (held_by old.executor) (held_by stepped) shown.is_at.held shown.shows shown.kept i said leads f here map not_there));
-          kept = subst (λ (k : Known). ShowsKept {K = K} {V = V} name (with_effects None (Some map) effects m) k (ending_after same (λ map. hash) s (held_by stepped) i f to.0 to.2.w2 to.2.deed said to.3)) (sym noted)
+          kept = subst (λ (k : Known). RefinesKept {K = K} {V = V} name (with_effects None (Some map) effects m) k (ending_after same (λ map. hash) s (held_by stepped) i f to.0 to.2.w2 to.2.deed said to.3)) (sym noted)
               (endings_keep_kept K V same (λ map. hash) name m (known old.notes) s (held_by old.executor) (held_by stepped) shown.is_at.held shown.shows shown.kept i said leads f here map not_there
               (end_there old.executor stepped s i said went f here).held);
           counted = counted_end_steps same (λ map. hash) old stepped notes given m s shown.is_at.held shown.counted i map said leads f here noted first (taken_of to.2.deed)
@@ -135,7 +135,7 @@ module _ {K V S : Type 0} (same : K → K → Bool) (hash : K → ℕ) where
               (endings_note_left same (λ map. hash) name m (known old.notes) s (held_by old.executor) (held_by stepped) shown.is_at.held shown.shows i map said leads f here not_there);
         },
         λ began before.
-            subst (λ (k : Known). TellsThen {K = K} {V = V} same map i f (is_done said) to.0 to.2.deed began (with_effects None (Some map) effects m) k to.2.w2) (sym noted)
+            subst (λ (k : Known). ReportsThen {K = K} {V = V} same map i f (is_done said) to.0 to.2.deed began (with_effects None (Some map) effects m) k to.2.w2) (sym noted)
             (waits_said same (λ map. hash) name m (known old.notes) s (held_by old.executor) (held_by stepped) shown.is_at.held shown.shows shown.kept i f here to.0 said to.1 to.2 map not_there to.3 number first its still
             (noted_on same (λ map. hash) name m (known old.notes) s (held_by old.executor) (held_by stepped) shown.is_at.held shown.shows i f here to.0 said to.1 to.2 map not_there to.3 number first its still) began before),
       )
@@ -145,12 +145,12 @@ pub end_steps : {K V S : Type 0} (old new : Logged K V S) (stepped : Executor K 
     → ((same : K → K → Bool) (hash : K → ℕ) (s : Scene K V) → IsThere same hash old.executor s → EndsThere same hash i said s old.executor stepped)
     → after ≡ before ++ effects_of (Ending map) (known old.notes) stepped.memory.changed
     → known new.notes ≡ known_after (Ending map) stepped.memory.changed (known old.notes)
-    → new.executor ≡ stepped → KeepsGiven old.executor stepped → EndSteps i map said before after old new
+    → new.executor ≡ stepped → PreservesSettings old.executor stepped → EndSteps i map said before after old new
 end_steps {K} {V} {S} old new stepped i map said before after stepping did noted executor given =
     let effects = effects_of (Ending map) (known old.notes) stepped.memory.changed in (
       effects,
       did,
-      λ same hash name m s shown. subst (λ (e : Executor K V S). EndGoesOn same hash name m s i map said effects old (record { executor = e; notes = new.notes })) (sym executor)
+      λ same hash name m s shown. subst (λ (e : Executor K V S). EndContinues same hash name m s i map said effects old (record { executor = e; notes = new.notes })) (sym executor)
           (end_so same hash old stepped new.notes i map said (stepping same hash) noted given name m s shown),
     )
 

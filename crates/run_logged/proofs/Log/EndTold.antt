@@ -25,15 +25,16 @@ use Rattle.run_shows.proofs.Given.FinishesEnds.OrdersOn.{back_same}
 use Rattle.run_shows.proofs.Given.FinishesEnds.OrdersOnce.{HasOrder, plain_order}
 use Rattle.run_shows.specs.Follows.Steps.{TakesNone}
 use Rattle.run_shows.proofs.Follows.Alike.{AllCalm, put_elsewhere}
-use Rattle.run_shows.specs.Others.Endings.{TellsNext}
+use Rattle.run_shows.specs.Others.Endings.{ObservesNext}
 use Rattle.run_shows.proofs.Others.Ends.{tells_next}
 use Rattle.run_executor.specs.Given.MomentsEndings.{IsOfIts}
 use Rattle.run_executor.proofs.Given.MomentsEnds.{says}
-use Rattle.run_executor.specs.Given.MomentsWhole.{ShowsWhole}
-use Rattle.run_logged.specs.Log.Ends.{ended_as, NotesMap, NotedStill}
+use Rattle.run_executor.specs.Given.MomentsWhole.{RefinesWhole}
+use Rattle.run_kept.specs.Ends.{ended_as}
+use Rattle.run_logged.specs.Log.Ends.{NotesMap, NotedStill}
 use Rattle.run_kept.proofs.Sheds.EndLists.{back_first, IsOneOf, once, one_of}
 use Rattle.run_kept.proofs.Sheds.EndTells.{end_tells, nothing_done}
-use Rattle.run_shows.specs.Scenes.Ending.{EndingComesTo, EndingStepsFrom}
+use Rattle.run_shows.specs.Scenes.Ending.{EndingHasOutcome, EndingStepsFrom}
 use Rattle.run_shows.specs.Scenes.Held.{Held, IsAt}
 use Rattle.run_shows.specs.Scenes.Scene.{Scene, slot_of}
 use Rattle.run_shows.proofs.Given.FinishesEnds.Frames.{other_than as not_the_one}
@@ -55,10 +56,10 @@ module _ (map : ℕ) where
   ends_its m (role.Table t len) is = (is, tt)
   ends_its m (role.Counter other) is = tt
 
-module _ {K V : Type 0} (same : K → K → Bool) (hash : ℕ → K → ℕ) (name : ℕ → List ℕ) (m : Moment K V) (known : Known) (s : Scene K V) (old new : Held K V) (at : IsAt same hash old s) (whole : ShowsWhole same name m known s)
+module _ {K V : Type 0} (same : K → K → Bool) (hash : ℕ → K → ℕ) (name : ℕ → List ℕ) (m : Moment K V) (known : Known) (s : Scene K V) (old new : Held K V) (at : IsAt same hash old s) (whole : RefinesWhole same name m known s)
     (i : ℕ) (f : Finishing K V) (here : s.enders i ≡ Some f) (e : EndMap) (said : Settled (Node K V)) (steps : EndingStepsFrom f.machine old new e said)
     (did : StepsOfEnding V same same old.batch_size old.roots slot_of s.world s.maps s.calls s.makers s.enders i f new.memory (e, said))
-    (map : ℕ) (not_there : s.maps map ≡ None) (comes : EndingComesTo same hash s new i f e did.w2 did.deed said) where
+    (map : ℕ) (not_there : s.maps map ≡ None) (comes : EndingHasOutcome same hash s new i f e did.w2 did.deed said) where
   abbrev told : Changed
   told = new.changed
 
@@ -85,7 +86,7 @@ module _ {K V : Type 0} (same : K → K → Bool) (hash : ℕ → K → ℕ) (na
           × ((b : ℕ) → times b (taken_of did.deed) ≡ 0 → (then_known told).roles b ≡ known.roles b)
       none_done none taken = let it = does_none none in (it.0 ∙ sym (ap (ended_as map known) taken), λ b l. ap (λ (r : ℕ → Role). r b) it.1)
 
-      by : (t : Settled (Node K V)) (c : EndingComesTo same hash s new i f e did.w2 did.deed t) → TellsNext same hash s new i f e did.w2 did.deed t c told → (does told ≡ ended_as map known (taken_of did.deed))
+      by : (t : Settled (Node K V)) (c : EndingHasOutcome same hash s new i f e did.w2 did.deed t) → ObservesNext same hash s new i f e did.w2 did.deed t c told → (does told ≡ ended_as map known (taken_of did.deed))
           × ((b : ℕ) → times b (taken_of did.deed) ≡ 0 → (then_known told).roles b ≡ known.roles b)
       by settled.Goes c none = none_done none c.0
       by settled.Waits c none = absurd c
@@ -96,7 +97,7 @@ module _ {K V : Type 0} (same : K → K → Bool) (hash : ℕ → K → ℕ) (na
       by settled.Done c none = none_done none c.0
 
   -- a block that it reclaims is the next one of those that it is to reclaim
-  module _ (value : Node K V) (c : EndingComesTo same hash s new i f e did.w2 did.deed (settled.Gave value)) where
+  module _ (value : Node K V) (c : EndingHasOutcome same hash s new i f e did.w2 did.deed (settled.Gave value)) where
     abbrev f2 : Finishing K V
     f2 = record f { machine = e; back = f.back ++ c.0 ∷ []; waits = f.waits ++ waiting_by did.deed }
 
@@ -135,7 +136,7 @@ module _ {K V : Type 0} (same : K → K → Bool) (hash : ℕ → K → ℕ) (na
     EndsIts taken = AtEachEffect (IsOfIts map) None (Some map) (ended_as map first taken) m
 
     -- what was noted of it as the end began is what counts
-    at_first : (t : Settled (Node K V)) → EndingComesTo same hash s new i f e did.w2 did.deed t
+    at_first : (t : Settled (Node K V)) → EndingHasOutcome same hash s new i f e did.w2 did.deed t
         → (ended_as map known (taken_of did.deed) ≡ ended_as map first (taken_of did.deed)) × EndsIts (taken_of did.deed)
     at_first settled.Goes c = (ap (ended_as map known) c.0 ∙ sym (ap (ended_as map first) c.0), subst EndsIts (sym c.0) tt)
     at_first settled.Waits c = absurd c

@@ -27,24 +27,24 @@ use Rattle.run_effects.specs.declared.acting.Acting.TheVariants.{Ending}
 use Rattle.run_effects.specs.declared.role.Role.{Role}
 use Rattle.run_effects.specs.declared.role.Role.TheVariants as role
 use Rattle.run_shows.specs.Given.FinishesEndings.{Finishing, FinishingFacts, HasFinished, StepsOfEnding, finishing_of, waiting_by}
-use Rattle.run_shows.specs.Given.FinishesFactsEnds.{Deed, Looks, TakesPair, LeavesTable, JoinsPair, TakesLeft, TakesCounter, WritesRoot, HasBehind, events_of, from_table, left_by, taken_by as taken_of}
+use Rattle.run_shows.specs.Given.FinishesFactsEnds.{Deed, Looks, TakesPair, LeavesTable, JoinsPair, TakesLeft, TakesCounter, WritesRoot, HasDeferred, events_of, from_table, left_by, taken_by as taken_of}
 use Rattle.run_shows.specs.Given.FinishesMaps.{Standing}
 use Rattle.run_shows.specs.Given.FinishesOrders.{pairs_of}
 use Rattle.run_shows.proofs.Given.FinishesEnds.CountedBlocks.{some_first, some_here, some_last, times-append, times_other}
 use Rattle.run_shows.proofs.Given.FinishesEnds.OrdersOn.{table_later}
 use Rattle.run_shows.specs.Follows.Maps.{table_of}
 use Rattle.run_shows.proofs.Follows.Onward.{IsOfMap}
-use Rattle.run_executor.specs.Given.MomentsWhole.{ShowsWhole}
+use Rattle.run_executor.specs.Given.MomentsWhole.{RefinesWhole}
 use Rattle.run_executor.proofs.Given.MomentsEnds.{end_keeps}
 use Rattle.run_waiting.proofs.Lives.InUse.{list_is}
 use Rattle.run_waiting.proofs.Lives.Order.{noted_still}
 use Rattle.run_waiting.proofs.Lives.OrderEnds.{same_behind, used_before}
-use Rattle.run_kept.specs.Kept.Kept.{ShowsKept}
+use Rattle.run_kept.specs.Kept.Kept.{RefinesKept}
 use Rattle.run_logged.specs.Log.Ends.{is_done, NotesMap, NotedStill}
-use Rattle.run_kept.specs.Sheds.Waits.{TellsLeft, TellsThen, TellsWaiting, WaitsSo, waited_behind}
+use Rattle.run_kept.specs.Sheds.Waits.{ReportsLeft, ReportsThen, ReportsWaiting, WaitsSo, waited_behind}
 use Rattle.run_kept.proofs.Sheds.LeftNoted.{left_there}
 use Rattle.run_kept.proofs.Sheds.EndPast.{left_before, past_within, yet_carries, yet_fresh, yet_used}
-use Rattle.run_shows.specs.Scenes.Ending.{EndingComesTo, EndingStepsFrom}
+use Rattle.run_shows.specs.Scenes.Ending.{EndingHasOutcome, EndingStepsFrom}
 use Rattle.run_shows.specs.Scenes.Held.{Held, IsAt}
 use Rattle.run_shows.specs.Scenes.Scene.{Scene, slot_of}
 use Rattle.run_shows.proofs.Given.General.{map_append as each_two}
@@ -58,13 +58,13 @@ one_waited map ds t (suc tables) =
     ∙ sym (append_assoc (behind (table_of map t) ds) (waited_behind map ds (suc t) tables) (behind (table_of map (t + suc tables)) ds))
 
 module _ {K V : Type 0} (same : K → K → Bool) (hash : ℕ → K → ℕ) (name : ℕ → List ℕ) (m : Moment K V) (known : Known) (s : Scene K V) (old new : Held K V) (at : IsAt same hash old s)
-    (whole : ShowsWhole same name m known s) (kept : ShowsKept name m known s) (i : ℕ) (f : Finishing K V) (here : s.enders i ≡ Some f) (end : EndMap)
+    (whole : RefinesWhole same name m known s) (kept : RefinesKept name m known s) (i : ℕ) (f : Finishing K V) (here : s.enders i ≡ Some f) (end : EndMap)
     (said : Settled (Node K V)) (steps : EndingStepsFrom f.machine old new end said)
     (did : StepsOfEnding V same same old.batch_size old.roots slot_of s.world s.maps s.calls s.makers s.enders i f new.memory (end, said))
-    (of : ℕ) (not_there : s.maps of ≡ None) (comes : EndingComesTo same hash s new i f end did.w2 did.deed said)
+    (of : ℕ) (not_there : s.maps of ≡ None) (comes : EndingHasOutcome same hash s new i f end did.w2 did.deed said)
     (number : ℕ → ℕ) (first_known : Known) (notes : NotesMap of number first_known f.setting f.chart f.blocks) (noted : NotedStill first_known known f.back)
     (noted_then : NotedStill first_known (known_after (Ending of) new.changed known) (f.back ++ taken_of did.deed))
-    (first : Moment K V) (before : TellsWaiting same of i f first m known s.world) where
+    (first : Moment K V) (before : ReportsWaiting same of i f first m known s.world) where
   abbrev w : World (Node K V)
   w = s.world
 
@@ -123,7 +123,7 @@ module _ {K V : Type 0} (same : K → K → Bool) (hash : ℕ → K → ℕ) (na
 
   -- what a table may leave over is what it carries
   module _ (u : ℕ) (yet : k.past ≤ u) (made : u < f.chart.past) (further : List ℕ) (are : FurtherAre deferred_word w.memory (table u) further) where
-    carried : HasBehind w (table u) (k.lists u)
+    carried : HasDeferred w (table u) (k.lists u)
     carried = yet_carries same old.batch_size w i f k u yet made
 
     one_list : further ≡ k.lists u
@@ -365,7 +365,7 @@ module _ {K V : Type 0} (same : K → K → Bool) (hash : ℕ → K → ℕ) (na
     goes_so : WaitsSo of f.chart first v known2 k2.past waits2
     goes_so = record { noted = subst (Noted k2.past) (sym is_waits) (noted_by moves); still = still_then }
 
-  pub waits_go : TellsWaiting same of i (record f { machine = end; back = f.back ++ taken_of did.deed; waits = f.waits ++ waiting_by did.deed }) first v known2 did.w2
+  pub waits_go : ReportsWaiting same of i (record f { machine = end; back = f.back ++ taken_of did.deed; waits = f.waits ++ waiting_by did.deed }) first v known2 did.w2
   waits_go size2 k2 = goes_so (f.waits ++ waiting_by did.deed) refl size2 k2
 
   -- where it is over all tables were left over
@@ -386,7 +386,7 @@ module _ {K V : Type 0} (same : K → K → Bool) (hash : ℕ → K → ℕ) (na
             let zero_times = fresh k.past yet lt in absurd (omega (arith, some, zero_times))
         by (inr le) = (let bound = (past_within same old.batch_size w i f k).1 in omega (arith, le, bound))
 
-    pub waits_over : TellsLeft of f.chart first known2 f.waits
+    pub waits_over : ReportsLeft of f.chart first known2 f.waits
     waits_over =
         subst (λ (p : ℕ). each_of known2.roles f.waits ≡ each_of role.Pair (waited_behind of first.deferred f.chart.first (p - f.chart.first))) past_all
         (noted_still known known2 f.waits (waited_behind of first.deferred f.chart.first (k.past - f.chart.first)) so.noted
@@ -395,10 +395,10 @@ module _ {K V : Type 0} (same : K → K → Bool) (hash : ℕ → K → ℕ) (na
         (left_there old.batch_size w its_first b i (k.facts.since.waits b (subst (λ (l : List ℕ). 0 < times b l) k.waits_are some)))) is))
 
   -- by what it says
-  pub waits_said : TellsThen same of i f (is_done said) end did.deed first v known2 did.w2
+  pub waits_said : ReportsThen same of i f (is_done said) end did.deed first v known2 did.w2
   waits_said = by said comes
     where
-      by : (t : Settled (Node K V)) → EndingComesTo same hash s new i f end did.w2 did.deed t → TellsThen same of i f (is_done t) end did.deed first v known2 did.w2
+      by : (t : Settled (Node K V)) → EndingHasOutcome same hash s new i f end did.w2 did.deed t → ReportsThen same of i f (is_done t) end did.deed first v known2 did.w2
       by settled.Goes c = waits_go
       by settled.Waits c = absurd c
       by (settled.Gave value) c = waits_go
@@ -406,7 +406,7 @@ module _ {K V : Type 0} (same : K → K → Bool) (hash : ℕ → K → ℕ) (na
 
 -- As the end begins nothing is left over.
 pub waits_begin : {K V : Type 0} (same : K → K → Bool) (map i : ℕ) (standing : Standing K) (m : Moment K V) (known : Known) (w0 w : World (Node K V))
-    → TellsWaiting same map i (finishing_of standing w0) m m known w
+    → ReportsWaiting same map i (finishing_of standing w0) m m known w
 waits_begin same map i standing m known w0 w size k =
     let is = k.facts.point.0 in
     let none : k.past - standing.chart.first ≡ 0 = omega (arith, is) in

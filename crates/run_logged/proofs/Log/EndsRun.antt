@@ -31,9 +31,10 @@ use Rattle.run_executor.specs.declared.worker.Work.{Work}
 use Rattle.run_executor.specs.declared.worker.Work.TheVariants as work
 use Rattle.run_shows.specs.Others.Endings.{ending_after}
 use Rattle.run_executor.proofs.Given.MomentsAfter.{effects_after}
-use Rattle.run_logged.specs.Log.Ends.{is_done, ended_as, TellsCame, NotedStill, EndCame, EndSteps, EndIsAt, EndIsShown, EndRan}
+use Rattle.run_logged.specs.Log.Ends.{is_done, ReportsCame, NotedStill, EndCame, EndSteps, EndIsAt, EndIsShown, EndRan}
+use Rattle.run_kept.specs.Ends.{ended_as}
 use Rattle.run_logged.specs.Log.Shown.{IsShown}
-use Rattle.run_kept.specs.Sheds.Waits.{TellsThen, TellsWaiting}
+use Rattle.run_kept.specs.Sheds.Waits.{ReportsThen, ReportsWaiting}
 use Rattle.run_logged.specs.declared.logged.Logged.{Logged}
 use Rattle.run_logged.proofs.Log.EndAll.{all_end}
 use Rattle.run_logged.proofs.Log.EndSteps.{end_there}
@@ -136,18 +137,18 @@ module _ {K V : Type 0} (s : Scene K V) (i : ℕ) (f : Finishing K V) where
 
       -- what it has left over by then
       pub waits_on : (of : ℕ) (began x : Moment K V) (noted : Known) (said : Settled (Node K V)) (leads : EndingLeads same hash i said s1 mid new)
-          → TellsThen same of i f1 (is_done said) (leads f1 here1).0 (leads f1 here1).2.deed began x noted (leads f1 here1).2.w2
+          → ReportsThen same of i f1 (is_done said) (leads f1 here1).0 (leads f1 here1).2.deed began x noted (leads f1 here1).2.w2
           → (let s2 = ending_after same hash s1 new i f1 (leads f1 here1).0 (leads f1 here1).2.w2 (leads f1 here1).2.deed said (leads f1 here1).3 in
-          TellsCame s s2 i f (gone ++ taken_of (leads f1 here1).2.deed) same of began x noted (is_done said) (came_on said leads).ender)
+          ReportsCame s s2 i f (gone ++ taken_of (leads f1 here1).2.deed) same of began x noted (is_done said) (came_on said leads).ender)
       unfolding came_on
       waits_on of began x noted settled.Goes leads tells =
           let to = leads f1 here1 in
-          subst (λ (l : List ℕ). TellsWaiting same of i (record f { machine = to.0; back = l; waits = came.ender.1 ++ waiting_by to.2.deed }) began x noted to.2.w2)
+          subst (λ (l : List ℕ). ReportsWaiting same of i (record f { machine = to.0; back = l; waits = came.ender.1 ++ waiting_by to.2.deed }) began x noted to.2.w2)
           (append_assoc f.back gone (taken_of to.2.deed)) tells
       waits_on of began x noted settled.Waits leads tells = absurd (leads f1 here1).3
       waits_on of began x noted (settled.Gave value) leads tells =
           let to = leads f1 here1 in
-          subst (λ (l : List ℕ). TellsWaiting same of i (record f { machine = to.0; back = l; waits = came.ender.1 ++ waiting_by to.2.deed }) began x noted to.2.w2)
+          subst (λ (l : List ℕ). ReportsWaiting same of i (record f { machine = to.0; back = l; waits = came.ender.1 ++ waiting_by to.2.deed }) began x noted to.2.w2)
           (append_assoc f.back gone (taken_of to.2.deed)) tells
       waits_on of began x noted settled.Done leads tells = tells
 
@@ -224,7 +225,7 @@ module _ {K V S : Type 0} (i map : ℕ) where
       subst (NotedStill first (known l.notes)) (sym (append-nil f.back)) still,
       shown,
       λ over none. absurd (cc over),
-      λ began before. subst (λ (bs : List ℕ). TellsWaiting same map i (record f { back = bs }) began m (known l.notes) s.world) (sym (append-nil f.back)) before,
+      λ began before. subst (λ (bs : List ℕ). ReportsWaiting same map i (record f { back = bs }) began m (known l.notes) s.world) (sym (append-nil f.back)) before,
     ),
   )
 
@@ -269,7 +270,7 @@ module _ {K V S : Type 0} (i map : ℕ) where
                 did_so ∙ ap (ended_as map first) all ∙ all_end map number first f.setting f.chart f.blocks notes (shown.is_at.held.together.facts i f here).each),
             λ began before.
                 waits_on s i f u.0 u.1 u.2 same (λ map. hash) (held_by mid.executor) (held_by new.executor) map began (with_effects None (Some map) (ran.0 ++ step.0) m) (known new.notes) said leads
-                (subst (λ (x : Moment K V). TellsThen same map i g (is_done said) its.0 its.2.deed began x (known new.notes) its.2.w2)
+                (subst (λ (x : Moment K V). ReportsThen same map i g (is_done said) its.0 its.2.deed began x (known new.notes) its.2.w2)
                 (sym (effects_after None (Some map) ran.0 step.0 m)) (to.4 began (u.7 began before))),
           )
 

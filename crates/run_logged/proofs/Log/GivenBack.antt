@@ -19,11 +19,11 @@ use Rattle.run_effects.specs.declared.notes.Notes.{Notes}
 use Rattle.run_shows.specs.Given.FinishesMakings.{Beginning}
 use Rattle.run_shows.specs.Given.FinishesMaps.{Standing}
 use Rattle.run_executor.specs.declared.executor.Executor.{Executor}
-use Rattle.run_executor.specs.Given.MomentsWhole.{ShowsWhole}
-use Rattle.run_kept.specs.Kept.Kept.{ShowsKept}
+use Rattle.run_executor.specs.Given.MomentsWhole.{RefinesWhole}
+use Rattle.run_kept.specs.Kept.Kept.{RefinesKept}
 use Rattle.run_logged.specs.Log.Makings.{given_back, numbers_then, MakingCame, MakingRan, BelowIfRefused, CameBare, JustAsks}
 use Rattle.run_waiting.specs.Remains.Numbered.{NumbersUpTo}
-use Rattle.run_waiting.specs.Remains.Remains.{ShowsRemains}
+use Rattle.run_waiting.specs.Remains.Remains.{RefinesRemains}
 use Rattle.run_waiting.specs.Remains.Slots.{SlotsNoted}
 use Rattle.run_logged.specs.Log.Shown.{IsCounted}
 use Rattle.run_logged.specs.declared.logged.Logged.{Logged}
@@ -153,8 +153,8 @@ module _ {K V S : Type 0} (i map : ℕ) (told : Advance Setting) (mid new : Logg
       slots = subst (λ (n : Notes). SlotsNoted (known n) new.executor.memory.memory) (sym notes)
           (subst (λ (x : Mem (Node K V)). SlotsNoted (known mid.notes) x) (sym (ap (λ (e : Executor K V S). e.memory.memory) is)) c.numbered.slots);
     };
-    remains = subst (λ (r : ℕ). ShowsRemains r (with_effects None of fs m) (known new.notes) s2) (sym (ap (λ (e : Executor K V S). e.roots) is))
-        (subst (λ (n : Notes). ShowsRemains mid.executor.roots (with_effects None of fs m) (known n) s2) (sym notes) c.remains);
+    remains = subst (λ (r : ℕ). RefinesRemains r (with_effects None of fs m) (known new.notes) s2) (sym (ap (λ (e : Executor K V S). e.roots) is))
+        (subst (λ (n : Notes). RefinesRemains mid.executor.roots (with_effects None of fs m) (known n) s2) (sym notes) c.remains);
   }
     where
       just : (t : Advance Setting) (came : MakingCame s s2 i b t) → (CameBare s s2 i b t came.maker → JustAsks b fs) → IsRefused t → list_all is_growth fs ≡ true
@@ -181,8 +181,8 @@ ran_given {K} {V} {S} i map told xs ys old mid new ran notes is items = (
               u.1,
               record {
                 is_at = at_given same hash map i s u.0 old.executor shown.is_at b here of_map mid.executor new.executor is u.2.is_at told u.1 items;
-                shows = subst (λ (n : Notes). ShowsWhole {K = K} {V = V} same name (with_effects None of ran.0 m) (known n) u.0) (sym notes) u.2.shows;
-                kept = subst (λ (n : Notes). ShowsKept {K = K} {V = V} name (with_effects None of ran.0 m) (known n) u.0) (sym notes) u.2.kept;
+                shows = subst (λ (n : Notes). RefinesWhole {K = K} {V = V} same name (with_effects None of ran.0 m) (known n) u.0) (sym notes) u.2.shows;
+                kept = subst (λ (n : Notes). RefinesKept {K = K} {V = V} name (with_effects None of ran.0 m) (known n) u.0) (sym notes) u.2.kept;
                 counted = counted_given i map told mid new notes is items of ran.0 m s u.0 b u.1 below u.3 u.2.counted;
               },
               u.3,

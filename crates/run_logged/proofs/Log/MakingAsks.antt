@@ -5,8 +5,8 @@ use Rattle.std.proofs.Common.{refl, ap, subst, sym, ◌∙◌, inl, inr}
 use Rattle.run_schedules.specs.Given.SeizeWordsDeclared.at.At.{At}
 use Rattle.run_schedules.specs.Given.SeizeWordsDeclared.at.At.TheVariants.{Root, Used, Slot, Entry, Word}
 use Rattle.run_schedules.specs.Given.SeizeWordsMem.{Mem, value_at}
-use Rattle.run_schedules.specs.Given.SeizeWordsOp.{Op, Out, Found, Stored, Exchanged, Made, Taken, Roomed, Exchange, Make}
-use Rattle.run_schedules.specs.Given.SeizeWordsPlan.{Plan, Then, Now, Seeing, Sure, Turn, Do, Ends, then_as, plan_as}
+use Rattle.run_schedules.specs.Given.SeizeWordsOp.{Out, Found, Stored, Exchanged, Made, Taken, Roomed, Exchange, Make}
+use Rattle.run_schedules.specs.Given.SeizeWordsPlan.{Ends, plan_as}
 use Rattle.run_schedules.proofs.Given.SeizeWordsOneOwner.Operations.{exchanged, taken}
 use Rattle.seize.specs.declared.advance.Advance.{Advance}
 use Rattle.seize.specs.declared.advance.Advance.TheVariants as progress
@@ -29,8 +29,7 @@ use Rattle.run_effects.specs.Given.ResizeDeclared.new_map.NewMap.{NewMap}
 use Rattle.run_effects.specs.Given.ResizeDeclared.new_map.Opening.{Opening}
 use Rattle.run_effects.specs.Given.ResizeDeclared.new_map.Opening.TheVariants as opens
 use Rattle.run_schedules.specs.Schedules.InTurn.{is_growth}
-use Rattle.run_effects.specs.Tells.Seen.{seen_of}
-use Rattle.run_effects.specs.ReportingMemory.Tells.{told_of, StepsTold}
+use Rattle.run_effects.specs.ReportingMemory.Tells.{StepsObserved}
 use Rattle.run_effects.specs.declared.changed.Changed.{Changed}
 use Rattle.run_effects.specs.declared.changed.Changed.TheVariants as changed
 use Rattle.run_effects.specs.Effects.Effects.{taken_by, effects_of}
@@ -41,18 +40,7 @@ use Rattle.run_effects.specs.declared.role.Role.TheVariants as role
 use Rattle.run_shows.specs.Given.FinishesMakings.{HasMade}
 use Rattle.run_logged.specs.Log.Makings.{has_table, has_tabled, IsBare}
 use Rattle.run_shows.proofs.Scenes.Told.{as_step}
-
--- what a step whose outcome is turned into another comes to, and tells
-module _ {K V A B : Type 0} (f : A → B) where
-  ends_back : (m : Mem (Node K V)) (rest : Then (Node K V) A) (end : B) → Ends (value_at m) (then_as f rest) end → (e : A) × Ends (value_at m) rest e × (end ≡ f e)
-  ends_back m (Now r) end h = (r, refl, h)
-  ends_back m (Seeing block rest) end h = let k = ends_back m (rest h.0) end h.2 in (k.0, (h.0, h.1, k.1), k.2)
-  ends_back m (Sure fact rest) end h = ends_back m rest end h
-
-  pub told_back : (m m2 : Mem (Node K V)) (before told : Changed) (plan : Plan (Node K V) A) (end : B) → StepsTold K V B m before (plan_as f plan) m2 told end
-      → (e : A) × StepsTold K V A m before plan m2 told e × (end ≡ f e)
-  told_back m m2 before told (Turn rest) end s = let k = ends_back m2 rest end s.1 in (k.0, (s.0, k.1, s.2), k.2)
-  told_back m m2 before told (Do op rest) end s = let k = ends_back m2 (rest s.0) end s.2 in (k.0, (s.0, s.1, k.1), k.2)
+use Rattle.run_kept.proofs.Told.{told_back, told_as}
 
 -- a table that is being made has none of its own yet, if it goes on, or is refused
 abbrev IsBareTable : NewTable × Advance Table → Type 0
@@ -79,10 +67,6 @@ bare_below n (t, progress.Goes) bare = bare
 bare_below n (t, progress.Waits) bare = bare
 bare_below n (t, progress.Done table) bare = bare
 bare_below n (t, progress.Refused fault) bare = tt
-
-module _ {K V : Type 0} where
-  abbrev pub told_as : Mem (Node K V) → Op (Node K V) → Out (Node K V) → Changed
-  told_as m op out = told_of op out (seen_of m op out)
 
 module _ (map : ℕ) (known : Known) where
   -- what was told is nothing but that growths were asked for
@@ -115,7 +99,7 @@ module _ {K V : Type 0} (map : ℕ) (known : Known) where
     AsksAt stands = (has_table stands ≡ false) × Grows map known told
 
     sums_ask : (before : Table) (reason : Reason) (sum : Sum) (at : Summing) (end : NewTable × Advance Table)
-        → StepsTold K V (NewTable × Advance Table) m changed.Nothing (plan_as (new_table.counted n before reason) (sums.plan_at sum at)) m2 told end → Grows map known told
+        → StepsObserved K V (NewTable × Advance Table) m changed.Nothing (plan_as (new_table.counted n before reason) (sums.plan_at sum at)) m2 told end → Grows map known told
     sums_ask before reason sum (summing.Adds shard total) end s = subst (Grows map known) (sym s.1.1) refl
     sums_ask before reason sum (summing.Over count) end s = subst (Grows map known) (sym s.2) refl
 
@@ -129,7 +113,7 @@ module _ {K V : Type 0} (map : ℕ) (known : Known) where
     makes_ask table words end bare (Taken value) ends = refl
     makes_ask table words end bare (Roomed roomed) ends = refl
 
-    table_asks : (stands : Making) (end : NewTable × Advance Table) → StepsTold K V (NewTable × Advance Table) m changed.Nothing (new_table.plan_at n stands) m2 told end → IsBareTable end → AsksAt stands
+    table_asks : (stands : Making) (end : NewTable × Advance Table) → StepsObserved K V (NewTable × Advance Table) m changed.Nothing (new_table.plan_at n stands) m2 told end → IsBareTable end → AsksAt stands
     table_asks (makes.Sums before reason sum) end s bare = (refl, sums_ask before reason sum sum.stands end s)
     table_asks (makes.Makes table) end s bare = (refl, subst (Grows map known) (sym s.1.1) (makes_ask table ((table.len + PLACES) % 2 ^ 64) end bare s.0 s.2))
     table_asks (makes.Promotes table) end s bare =
@@ -148,7 +132,7 @@ module _ {K V : Type 0} (map : ℕ) (known : Known) where
 
   -- and of the map
   module _ (m m2 : Mem (Node K V)) (told : Changed) (n : NewMap) where
-    map_asks : (stands : Opening) (end : NewMap × Advance Setting) → StepsTold K V (NewMap × Advance Setting) m changed.Nothing (new_map.plan_at n stands) m2 told end
+    map_asks : (stands : Opening) (end : NewMap × Advance Setting) → StepsObserved K V (NewMap × Advance Setting) m changed.Nothing (new_map.plan_at n stands) m2 told end
         → (HasMade stands → known.roles n.setting.counter ≡ role.Counter map) → IsBareMap end → (has_tabled stands ≡ false) × Grows map known told
     map_asks opens.Takes end s noted bare = (refl, subst (Grows map known) (sym s.1.1) (takes_root m n.setting.root 0 1 s.0))
     map_asks opens.Shards end s noted bare = (refl, subst (Grows map known) (sym s.1.1) (makes_shards m ((n.setting.mask + 1) % 2 ^ 64) s.0))
@@ -162,7 +146,7 @@ module _ {K V : Type 0} (map : ℕ) (known : Known) where
     map_asks (opens.Refused fault) end s noted bare = (refl, subst (Grows map known) (sym s.2) refl)
 
     -- if a step made no table, nor those before it, it asked for growths alone
-    pub making_asks : (told_it : Advance Setting) (opening : NewMap) → StepsTold K V (NewMap × Advance Setting) m changed.Nothing (new_map.new_map_plan n) m2 told (opening, told_it)
+    pub making_asks : (told_it : Advance Setting) (opening : NewMap) → StepsObserved K V (NewMap × Advance Setting) m changed.Nothing (new_map.new_map_plan n) m2 told (opening, told_it)
         → (HasMade n.stands → known.roles n.setting.counter ≡ role.Counter map) → IsBare told_it opening
         → (has_tabled n.stands ≡ false) × (list_all is_growth (effects_of (acts.Making map) known told) ≡ true)
     making_asks told_it opening s noted bare = map_asks n.stands (opening, told_it) s noted bare

@@ -24,7 +24,7 @@ use Rattle.run_effects.specs.Given.ResizeDeclared.new_map.Opening.{Opening}
 use Rattle.run_effects.specs.Given.ResizeDeclared.new_map.Opening.TheVariants as opens
 use Rattle.run_schedules.specs.declared.effect.Effect.{Effect}
 use Rattle.run_schedules.specs.Schedules.InTurn.{has_grown, is_growth}
-use Rattle.run_effects.specs.ReportingMemory.Tells.{StepsTold}
+use Rattle.run_effects.specs.ReportingMemory.Tells.{StepsObserved}
 use Rattle.run_effects.specs.declared.changed.Changed.{Changed}
 use Rattle.run_effects.specs.declared.changed.Changed.TheVariants as changed
 use Rattle.run_effects.specs.Effects.Effects.{effects_of}
@@ -32,7 +32,7 @@ use Rattle.run_effects.specs.Effects.Known.{Known}
 use Rattle.run_effects.specs.declared.acting.Acting.TheVariants as acts
 use Rattle.run_shows.specs.Given.FinishesMakings.{HasTaken}
 use Rattle.run_logged.specs.Log.Roots.{AreTaken, FindsRoot, IsFirstFree, with_root}
-use Rattle.run_logged.proofs.Log.MakingAsks.{told_as, told_back}
+use Rattle.run_kept.proofs.Told.{told_as, told_back}
 use Rattle.run_logged.proofs.Log.MakingTables.{HasAsked, IsFirstMaking, TableThen, begins_first, first_tables_then}
 use Rattle.run_shows.proofs.Scenes.Told.{as_step}
 use Rattle.run_executor.proofs.Given.MomentsWholeEnds.{one_if as bit}
@@ -181,7 +181,7 @@ module _ {K V : Type 0} (map : ℕ) (known : Known) (roots : ℕ) (taken : ℕ �
           by (inr last) = subst Next (let e : false ≡ nat_lt n.setting.root (n.roots - 1) = grind (arith, last) in e) ((λ q l. through q (omega (arith, l, last, as_many))), are)
 
       takes_then : (n.setting.root < roots) × ((q : ℕ) → q < n.setting.root → taken q ≡ true) × AreTaken roots taken m → (end : NewMap × Advance Setting)
-          → StepsTold K V (NewMap × Advance Setting) m changed.Nothing (new_map.takes n) m2 told end → LeavesOthers roots m m2 n end → HasItsRoot roots m m2 n end → RootThen end
+          → StepsObserved K V (NewMap × Advance Setting) m changed.Nothing (new_map.takes n) m2 told end → LeavesOthers roots m m2 n end → HasItsRoot roots m m2 n end → RootThen end
       takes_then (below, lower, are) end s leaves its =
           elim (exchanged m (new_map.taken n) (Used n.setting.root) 0 1 m2 end (as_step m changed.Nothing (new_map.takes n) m2 told end s)) as (λ _. RootThen end) [
             | inl d ↦
@@ -261,7 +261,7 @@ module _ {K V : Type 0} (map : ℕ) (known : Known) (roots : ℕ) (taken : ℕ �
           (as_many, small, (goes_then found has (opens.Unmakes fault) tt (subst (LeavesOthers roots m m2 n) e leaves) (subst (HasItsRoot roots m m2 n) e its), so.0, grown_now so.1))
 
     point_then : (stands : Opening) → n.stands ≡ stands → RootSoFar roots taken (has_grown did) m n stands → (end : NewMap × Advance Setting)
-        → StepsTold K V (NewMap × Advance Setting) m changed.Nothing (new_map.plan_at n stands) m2 told end → LeavesOthers roots m m2 n end → HasItsRoot roots m m2 n end → RootThen end
+        → StepsObserved K V (NewMap × Advance Setting) m changed.Nothing (new_map.plan_at n stands) m2 told end → LeavesOthers roots m m2 n end → HasItsRoot roots m m2 n end → RootThen end
     point_then opens.Takes is so end s leaves its = takes_then is so end s leaves its
     point_then opens.Shards is so end s leaves its = shards_then opens.Shards is (subst HasTaken (sym is) tt) so refl end s.0 s.1.1 s.2 leaves its
     point_then (opens.Tables making) is so end s leaves its =
@@ -278,5 +278,5 @@ module _ {K V : Type 0} (map : ℕ) (known : Known) (roots : ℕ) (taken : ℕ �
 
     -- so is it after each step
     pub root_then : RootSoFar roots taken (has_grown did) m n n.stands → (end : NewMap × Advance Setting)
-        → StepsTold K V (NewMap × Advance Setting) m changed.Nothing (new_map.new_map_plan n) m2 told end → LeavesOthers roots m m2 n end → HasItsRoot roots m m2 n end → RootThen end
+        → StepsObserved K V (NewMap × Advance Setting) m changed.Nothing (new_map.new_map_plan n) m2 told end → LeavesOthers roots m m2 n end → HasItsRoot roots m m2 n end → RootThen end
     root_then so end s leaves its = point_then n.stands refl so end s leaves its

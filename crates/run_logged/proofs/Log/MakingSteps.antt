@@ -21,17 +21,17 @@ use Rattle.run_shows.proofs.Others.MakingGoes.{new_maps_stay}
 use Rattle.run_executor.proofs.Given.MomentsMakingSteps.{makings_keep_whole}
 use Rattle.run_executor.proofs.Given.MomentsMapsCome.{makings_begin_whole, maps_come_whole}
 use Rattle.run_executor.proofs.Given.MomentsNumbers.{maps_come_by_number}
-use Rattle.run_executor.specs.Given.MomentsWhole.{ShowsWhole}
-use Rattle.run_kept.specs.Kept.Kept.{ShowsKept}
+use Rattle.run_executor.specs.Given.MomentsWhole.{RefinesWhole}
+use Rattle.run_kept.specs.Kept.Kept.{RefinesKept}
 use Rattle.run_kept.proofs.Kept.Others.{makings_keep_kept}
 use Rattle.run_kept.proofs.Kept.Stays.{makings_begin_kept, stays_kept}
-use Rattle.run_logged.specs.Log.Makings.{MakingIsBegun, MakingGoesOn, MakingSteps, MapIsThere, StaysNew}
+use Rattle.run_logged.specs.Log.Makings.{MakingIsBegun, MakingContinues, MakingSteps, MapIsThere, StaysNew}
 use Rattle.run_logged.specs.Log.Shown.{IsCounted, IsShown}
 use Rattle.run_logged.specs.declared.logged.Logged.{Logged}
 use Rattle.run_logged.proofs.Log.Counted.{counted_comes, counted_making_begins, counted_making_steps, numbers_within, same_memory}
 use Rattle.run_kept.proofs.Sheds.LeftNoted.{makings_note_left}
 use Rattle.run_logged.proofs.Log.MakingAsks.{making_asks}
-use Rattle.run_executor.specs.Executing.IsThere.{IsThere, KeepsGiven, held_by}
+use Rattle.run_executor.specs.Executing.IsThere.{IsThere, PreservesSettings, held_by}
 use Rattle.run_executor.specs.Executing.Making.{MakesThere}
 use Rattle.run_executor.specs.Executing.MakingBegins.{MakingBegins, next_making}
 use Rattle.run_shows.specs.Scenes.Scene.{Scene}
@@ -48,9 +48,9 @@ module _ {K V S : Type 0} (same : K → K → Bool) (hash : K → ℕ) where
       let b = next_making hash given places old.executor in
       record {
         is_at = (begins s shown.is_at lawful initial batches mask some sized).1;
-        shows = subst (λ (n : Notes). ShowsWhole {K = K} {V = V} same name m (known n) (record s { makers = with_at s.makers i (Some b) })) (sym noted)
+        shows = subst (λ (n : Notes). RefinesWhole {K = K} {V = V} same name m (known n) (record s { makers = with_at s.makers i (Some b) })) (sym noted)
             (makings_begin_whole K V same name m (known old.notes) s shown.shows i b (λ none. none));
-        kept = subst (λ (n : Notes). ShowsKept {K = K} {V = V} name m (known n) (record s { makers = with_at s.makers i (Some b) })) (sym noted)
+        kept = subst (λ (n : Notes). RefinesKept {K = K} {V = V} name m (known n) (record s { makers = with_at s.makers i (Some b) })) (sym noted)
             (makings_begin_kept K V name m (known old.notes) s shown.kept i b (fresh s shown.is_at));
         counted = counted_making_begins same (λ map. hash) old new roots count noted
             (same_memory same (λ map. hash) old.executor new.executor s (record s { makers = with_at s.makers i (Some b) }) shown.is_at.held
@@ -82,7 +82,7 @@ module _ {K V S : Type 0} (same : K → K → Bool) (hash : K → ℕ) where
     Then told leads b here = making_after same (λ map. hash) s (held_by old.executor) (held_by stepped) i b (leads b here).0 (leads b here).2.step.w2 told (leads b here).3
 
     counted_of : (told : Advance Setting) (leads : MakingLeads same (λ map. hash) i told s (held_by old.executor) (held_by stepped))
-        → known notes ≡ known_after (acts.Making map) stepped.memory.changed (known old.notes) → KeepsGiven old.executor stepped → (b : Beginning K) (here : s.makers i ≡ Some b) → b.map ≡ map → (of : Option ℕ) → WasNew map told m
+        → known notes ≡ known_after (acts.Making map) stepped.memory.changed (known old.notes) → PreservesSettings old.executor stepped → (b : Beginning K) (here : s.makers i ≡ Some b) → b.map ≡ map → (of : Option ℕ) → WasNew map told m
         → IsCounted (with_effects None of (effects_of (acts.Making map) (known old.notes) stepped.memory.changed) m) then_logged (Then told leads b here)
     counted_of told leads noted keeps b here of_map of was_new =
         subst (λ (n : ℕ). IsCounted (with_effects None of (effects_of (acts.Making n) (known old.notes) stepped.memory.changed) m) then_logged (Then told leads b here)) of_map
@@ -92,8 +92,8 @@ module _ {K V S : Type 0} (same : K → K → Bool) (hash : K → ℕ) where
         (subst (λ (n : ℕ). WasNew n told m) (sym of_map) was_new) (Then told leads b here).world))
 
     making_so : (told : Advance Setting) → ((s : Scene K V) → IsThere same hash old.executor s → MakesThere same hash i told s old.executor stepped)
-        → known notes ≡ known_after (acts.Making map) stepped.memory.changed (known old.notes) → KeepsGiven old.executor stepped
-        → MakingGoesOn same hash name m s i map told (effects_of (acts.Making map) (known old.notes) stepped.memory.changed) old then_logged
+        → known notes ≡ known_after (acts.Making map) stepped.memory.changed (known old.notes) → PreservesSettings old.executor stepped
+        → MakingContinues same hash name m s i map told (effects_of (acts.Making map) (known old.notes) stepped.memory.changed) old then_logged
     making_so told stepping noted keeps b here of_map =
         let went = stepping s shown.is_at in
         let leads = making_held same hash s old.executor stepped i told went in (
@@ -104,12 +104,12 @@ module _ {K V S : Type 0} (same : K → K → Bool) (hash : K → ℕ) where
             subst (λ (n : ℕ). StaysNew n told m (with_effects None of (effects_of (acts.Making n) (known old.notes) stepped.memory.changed) m)) of_map (stays_so told leads b here of),
             λ was_new. record {
               is_at = is_there old.executor stepped s i told went b here;
-              shows = subst (λ (k : Known). ShowsWhole {K = K} {V = V} same name (with_effects None of (effects_of (acts.Making map) (known old.notes) stepped.memory.changed) m) k (Then told leads b here)) (sym noted)
-                  (subst (λ (n : ℕ). WasNew n told m → ShowsWhole {K = K} {V = V} same name (with_effects None of (effects_of (acts.Making n) (known old.notes) stepped.memory.changed) m)
+              shows = subst (λ (k : Known). RefinesWhole {K = K} {V = V} same name (with_effects None of (effects_of (acts.Making map) (known old.notes) stepped.memory.changed) m) k (Then told leads b here)) (sym noted)
+                  (subst (λ (n : ℕ). WasNew n told m → RefinesWhole {K = K} {V = V} same name (with_effects None of (effects_of (acts.Making n) (known old.notes) stepped.memory.changed) m)
                   (known_after (acts.Making n) stepped.memory.changed (known old.notes)) (Then told leads b here)) of_map
                   (λ new. makings_keep_whole K V same (λ map. hash) name m (known old.notes) s (held_by old.executor) (held_by stepped) shown.is_at.held shown.shows i told leads b here of new) was_new);
-              kept = subst (λ (k : Known). ShowsKept {K = K} {V = V} name (with_effects None of (effects_of (acts.Making map) (known old.notes) stepped.memory.changed) m) k (Then told leads b here)) (sym noted)
-                  (subst (λ (n : ℕ). WasNew n told m → ShowsKept {K = K} {V = V} name (with_effects None of (effects_of (acts.Making n) (known old.notes) stepped.memory.changed) m)
+              kept = subst (λ (k : Known). RefinesKept {K = K} {V = V} name (with_effects None of (effects_of (acts.Making map) (known old.notes) stepped.memory.changed) m) k (Then told leads b here)) (sym noted)
+                  (subst (λ (n : ℕ). WasNew n told m → RefinesKept {K = K} {V = V} name (with_effects None of (effects_of (acts.Making n) (known old.notes) stepped.memory.changed) m)
                   (known_after (acts.Making n) stepped.memory.changed (known old.notes)) (Then told leads b here)) of_map
                   (λ new. makings_keep_kept K V same (λ map. hash) name m (known old.notes) s (held_by old.executor) (held_by stepped) shown.is_at.held shown.shows shown.kept i told leads b here of new
                   (is_there old.executor stepped s i told went b here).held
@@ -124,12 +124,12 @@ pub making_steps : {K V S : Type 0} (old new : Logged K V S) (stepped : Executor
     → ((same : K → K → Bool) (hash : K → ℕ) (s : Scene K V) → IsThere same hash old.executor s → MakesThere same hash i told s old.executor stepped)
     → after ≡ before ++ effects_of (acts.Making map) (known old.notes) stepped.memory.changed
     → known new.notes ≡ known_after (acts.Making map) stepped.memory.changed (known old.notes)
-    → new.executor ≡ stepped → KeepsGiven old.executor stepped → MakingSteps i map told before after old new
+    → new.executor ≡ stepped → PreservesSettings old.executor stepped → MakingSteps i map told before after old new
 making_steps {K} {V} {S} old new stepped i map told before after stepping did noted executor keeps =
     let effects = effects_of (acts.Making map) (known old.notes) stepped.memory.changed in (
       effects,
       did,
-      λ same hash name m s shown. subst (λ (e : Executor K V S). MakingGoesOn same hash name m s i map told effects old (record { executor = e; notes = new.notes })) (sym executor)
+      λ same hash name m s shown. subst (λ (e : Executor K V S). MakingContinues same hash name m s i map told effects old (record { executor = e; notes = new.notes })) (sym executor)
           (making_so same hash old stepped new.notes i map name m s shown told (stepping same hash) noted keeps),
     )
 

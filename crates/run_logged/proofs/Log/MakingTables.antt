@@ -21,13 +21,13 @@ use Rattle.run_effects.specs.Given.ResizeDeclared.new_table.NewTable.{NewTable}
 use Rattle.run_effects.specs.Given.ResizeDeclared.new_table.Making.{Making}
 use Rattle.run_effects.specs.Given.ResizeDeclared.new_table.Making.TheVariants as makes
 use Rattle.run_schedules.specs.Schedules.InTurn.{has_grown}
-use Rattle.run_effects.specs.ReportingMemory.Tells.{StepsTold}
+use Rattle.run_effects.specs.ReportingMemory.Tells.{StepsObserved}
 use Rattle.run_effects.specs.declared.changed.Changed.{Changed}
 use Rattle.run_effects.specs.declared.changed.Changed.TheVariants as changed
 use Rattle.run_effects.specs.Effects.Effects.{effects_of}
 use Rattle.run_effects.specs.Effects.Known.{Known}
 use Rattle.run_effects.specs.declared.acting.Acting.TheVariants as acts
-use Rattle.run_logged.proofs.Log.MakingAsks.{told_as}
+use Rattle.run_kept.proofs.Told.{told_as}
 use Rattle.run_shows.proofs.Scenes.Told.{as_step}
 
 -- a first table is none that counts, or that has answered
@@ -89,7 +89,7 @@ module _ {K V : Type 0} (map : ℕ) (known : Known) (m m2 : Mem (Node K V)) (tol
   linked_then table end first (Roomed roomed) ends = subst Then (sym ends) first
 
   table_then : (stands : Making) → n.stands ≡ stands → IsFirstMaking stands → (end : NewTable × Advance Table)
-      → StepsTold K V (NewTable × Advance Table) m changed.Nothing (new_table.plan_at n stands) m2 told end → Then end
+      → StepsObserved K V (NewTable × Advance Table) m changed.Nothing (new_table.plan_at n stands) m2 told end → Then end
   table_then (makes.Sums before reason sum) is first end s = absurd first
   table_then (makes.Makes table) is first end s = made_then table ((table.len + PLACES) % 2 ^ 64) end (subst IsFirstMaking (sym is) first) s.0 s.1.1 s.2
   table_then (makes.Promotes table) is first end s = subst Then (sym s.2) tt
@@ -100,5 +100,5 @@ module _ {K V : Type 0} (map : ℕ) (known : Known) (m m2 : Mem (Node K V)) (tol
   table_then (makes.Over table) is first end s = absurd first
   table_then (makes.Refused fault) is first end s = absurd first
 
-  pub first_tables_then : IsFirstMaking n.stands → (end : NewTable × Advance Table) → StepsTold K V (NewTable × Advance Table) m changed.Nothing (new_table.new_table_plan n) m2 told end → Then end
+  pub first_tables_then : IsFirstMaking n.stands → (end : NewTable × Advance Table) → StepsObserved K V (NewTable × Advance Table) m changed.Nothing (new_table.new_table_plan n) m2 told end → Then end
   first_tables_then first end s = table_then n.stands refl first end s

@@ -18,7 +18,7 @@ use Rattle.run_effects.specs.Effects.Known.{Known, known}
 use Rattle.run_effects.specs.declared.acting.Acting.TheVariants.{Row}
 use Rattle.run_effects.specs.declared.role.Role.{Role}
 use Rattle.run_effects.specs.declared.role.Role.TheVariants as role
-use Rattle.run_shows.specs.Reclaims.Reclaims.{ReclaimingTold}
+use Rattle.run_shows.specs.Reclaims.Reclaims.{ReclaimingOutcome}
 use Rattle.run_executor.specs.declared.executor.Executor.{Executor}
 use Rattle.run_executor.specs.ReclaimsAll.Reclaiming.{MayReclaim, NobodyHas}
 use Rattle.run_shows.specs.Follows.Steps.{TakesNone}
@@ -82,7 +82,7 @@ module _ {K V S : Type 0} where
     all_brings : IsBack m.stored does (settled_back told (ys ++ does))
     all_brings = by told leads.1.told (reclaiming_gives mid.executor.memory.memory new.memory.memory new.memory.changed before (after, told) before.stands leads.0)
       where
-        by : (t : Settled (Node K V)) → ReclaimingTold s.world leads.1.w2 lists leads.1.lists2 t → GivesOr mid.executor.memory.memory new.memory.memory new.memory.changed t
+        by : (t : Settled (Node K V)) → ReclaimingOutcome s.world leads.1.w2 lists leads.1.lists2 t → GivesOr mid.executor.memory.memory new.memory.memory new.memory.changed t
             → IsBack m.stored does (settled_back t (ys ++ does))
         by settled.Goes say none = silent none
         by settled.Waits say none = silent none

@@ -14,9 +14,9 @@ use Rattle.run_effects.specs.declared.acting.Acting.TheVariants.{Row}
 use Rattle.run_effects.specs.declared.notes.Notes.{Notes}
 use Rattle.run_executor.specs.declared.executor.Executor.{Executor}
 use Rattle.run_executor.specs.ReclaimsAll.Reclaiming.{IsReclaimingThere, ReclaimsThere}
-use Rattle.run_executor.specs.Given.MomentsWhole.{ShowsWhole}
-use Rattle.run_kept.specs.Kept.Kept.{ShowsKept}
-use Rattle.run_logged.specs.Log.Reclaims.{ReclaimingIsShown, ReclaimingThen, ReclaimingGoesOn, ReclaimingSteps}
+use Rattle.run_executor.specs.Given.MomentsWhole.{RefinesWhole}
+use Rattle.run_kept.specs.Kept.Kept.{RefinesKept}
+use Rattle.run_logged.specs.Log.Reclaims.{ReclaimingIsShown, ReclaimingThen, ReclaimingContinues, ReclaimingSteps}
 use Rattle.run_logged.specs.Log.Shown.{AreNumbered, IsShown}
 use Rattle.run_logged.specs.declared.logged.Logged.{Logged}
 use Rattle.run_waiting.specs.Remains.Numbered.{NumbersUpTo}
@@ -24,10 +24,10 @@ use Rattle.run_waiting.specs.Remains.Slots.{SlotsNoted}
 use Rattle.run_kept.proofs.Sheds.Reclaiming.Numbered.{reclaiming_keeps_count, reclaiming_notes_slots}
 use Rattle.run_logged.proofs.Log.Reclaiming.Rest.{reclaiming_found, reclaiming_keeps}
 use Rattle.run_kept.proofs.Sheds.Reclaiming.Steps.{reclaiming_whole}
-use Rattle.run_executor.specs.Executing.IsThere.{IsThere, KeepsGiven, held_by}
+use Rattle.run_executor.specs.Executing.IsThere.{IsThere, PreservesSettings, held_by}
 use Rattle.run_shows.specs.Scenes.Scene.{Scene}
 use Rattle.run_kept.proofs.Sheds.Held.{reclaim_held}
-use Rattle.run_shows.specs.Scenes.Reclaiming.{ReclaimingComesToThere}
+use Rattle.run_shows.specs.Scenes.Reclaiming.{ReclaimingOutcomeHolds}
 
 module _ {K V S : Type 0} (same : K → K → Bool) (hash : K → ℕ) where
   -- it begins where the executor is shown
@@ -42,8 +42,8 @@ module _ {K V S : Type 0} (same : K → K → Bool) (hash : K → ℕ) where
     abbrev then_logged : Logged K V S
     then_logged = record { executor = stepped; notes = notes }
 
-    then_so : (to : Scene K V) (lists2 : ℕ → List ℕ) (told : Settled (Node K V)) → ReclaimingComesToThere same s i lists (λ s2 lists3 all. IsReclaimingThere same hash stepped s2 i lists3 all) (IsThere same hash stepped) (held_by old.executor) (held_by stepped) to lists2 after told
-        → ShowsWhole same name moment_then (known notes) to → ShowsKept name moment_then (known notes) to → AreNumbered moment_then then_logged
+    then_so : (to : Scene K V) (lists2 : ℕ → List ℕ) (told : Settled (Node K V)) → ReclaimingOutcomeHolds same s i lists (λ s2 lists3 all. IsReclaimingThere same hash stepped s2 i lists3 all) (IsThere same hash stepped) (held_by old.executor) (held_by stepped) to lists2 after told
+        → RefinesWhole same name moment_then (known notes) to → RefinesKept name moment_then (known notes) to → AreNumbered moment_then then_logged
         → ReclaimingThen same hash name moment_then s i lists to lists2 after old then_logged told
     then_so to lists2 settled.Goes comes shows kept numbered = record { under_way = comes; shows = shows; kept = kept; numbered = numbered }
     then_so to lists2 settled.Waits comes shows kept numbered = record { under_way = comes; shows = shows; kept = kept; numbered = numbered }
@@ -52,8 +52,8 @@ module _ {K V S : Type 0} (same : K → K → Bool) (hash : K → ℕ) where
 
     reclaiming_so : (told : Settled (Node K V))
         → ((s : Scene K V) (i : ℕ) (lists : ℕ → List ℕ) → IsReclaimingThere same hash old.executor s i lists before → ReclaimsThere same hash s i lists old.executor stepped before after told)
-        → known notes ≡ known_after Row stepped.memory.changed (known old.notes) → KeepsGiven old.executor stepped → ReclaimingIsShown same hash name m old s i lists before
-        → ReclaimingGoesOn same hash name m s i lists before after told (effects_of Row (known old.notes) stepped.memory.changed) old then_logged
+        → known notes ≡ known_after Row stepped.memory.changed (known old.notes) → PreservesSettings old.executor stepped → ReclaimingIsShown same hash name m old s i lists before
+        → ReclaimingContinues same hash name m s i lists before after told (effects_of Row (known old.notes) stepped.memory.changed) old then_logged
     reclaiming_so told stepping noted given shown =
         let went = stepping s i lists shown.under_way in
         let leads = reclaim_held same hash s old.executor stepped i lists before after told went in
@@ -62,9 +62,9 @@ module _ {K V S : Type 0} (same : K → K → Bool) (hash : K → ℕ) where
           leads,
           found,
           then_so to leads.1.lists2 told went.2
-              (subst (λ (k : Known). ShowsWhole {K = K} {V = V} same name moment_then k to) (sym noted)
+              (subst (λ (k : Known). RefinesWhole {K = K} {V = V} same name moment_then k to) (sym noted)
               (reclaiming_whole same (λ map. hash) name m (known old.notes) s shown.shows (held_by old.executor) (held_by stepped) i lists before after told shown.under_way.held leads found.0 found.1))
-              (subst (λ (k : Known). ShowsKept {K = K} {V = V} name moment_then k to) (sym noted)
+              (subst (λ (k : Known). RefinesKept {K = K} {V = V} name moment_then k to) (sym noted)
               (reclaiming_keeps same (λ map. hash) name m (known old.notes) s shown.shows shown.kept (held_by old.executor) (held_by stepped) i lists before after told shown.under_way.held leads))
               (record {
                 numbers = subst (λ (n : ℕ). NumbersUpTo n moment_then) (sym given.3)
@@ -79,12 +79,12 @@ pub reclaiming_steps : {K V S : Type 0} (old new : Logged K V S) (stepped : Exec
     → ReclaimsThere same hash s i lists old.executor stepped before after told)
     → has ≡ had ++ effects_of Row (known old.notes) stepped.memory.changed
     → known new.notes ≡ known_after Row stepped.memory.changed (known old.notes)
-    → new.executor ≡ stepped → KeepsGiven old.executor stepped → ReclaimingSteps before after told had has old new
+    → new.executor ≡ stepped → PreservesSettings old.executor stepped → ReclaimingSteps before after told had has old new
 reclaiming_steps {K} {V} {S} old new stepped before after told had has stepping did noted executor given =
     let effects = effects_of Row (known old.notes) stepped.memory.changed in (
       effects,
       did,
       λ same hash name m s i lists shown.
-          subst (λ (e : Executor K V S). ReclaimingGoesOn same hash name m s i lists before after told effects old (record { executor = e; notes = new.notes })) (sym executor)
+          subst (λ (e : Executor K V S). ReclaimingContinues same hash name m s i lists before after told effects old (record { executor = e; notes = new.notes })) (sym executor)
           (reclaiming_so same hash old stepped new.notes name m s i lists before after told (stepping same hash) noted given shown),
     )

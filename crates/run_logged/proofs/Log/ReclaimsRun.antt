@@ -21,7 +21,7 @@ use Rattle.run_logged.specs.Log.Shown.{IsShown}
 use Rattle.run_logged.specs.declared.logged.Logged.{Logged}
 use Rattle.run_shows.specs.Scenes.Scene.{Scene}
 use Rattle.run_executor.specs.Executing.IsThere.{IsThere, held_by}
-use Rattle.run_shows.specs.Scenes.Reclaiming.{ReclaimingComesToThere, ReclaimingLeads}
+use Rattle.run_shows.specs.Scenes.Reclaiming.{ReclaimingOutcomeHolds, ReclaimingLeads}
 
 -- a map that is the same has its setting
 pub same_setting : {K : Type 0} (o o2 : Option (Standing K)) → IsSameMap o o2 → option_map (λ standing. standing.setting) o2 ≡ option_map (λ standing. standing.setting) o
@@ -58,7 +58,7 @@ module _ {K V S : Type 0} where
     did_so = step.1 ∙ ap (λ (l : List Effect). l ++ step.0) so.1 ∙ append_assoc xs so.0 step.0
 
     goes_to : (same : K → K → Bool) (hash : K → ℕ) (s : Scene K V) (i : ℕ) (lists : ℕ → List ℕ) (said : Settled (Node K V)) → is_done said ≡ false → (s2 : Scene K V) (lists2 : ℕ → List ℕ)
-        → ReclaimingComesToThere same s i lists (λ s3 lists3 all. IsReclaimingThere same hash new.executor s3 i lists3 all) (IsThere same hash new.executor) (held_by mid.executor) (held_by new.executor) s2 lists2 next said
+        → ReclaimingOutcomeHolds same s i lists (λ s3 lists3 all. IsReclaimingThere same hash new.executor s3 i lists3 all) (IsThere same hash new.executor) (held_by mid.executor) (held_by new.executor) s2 lists2 next said
         → IsReclaimingThere same hash new.executor s2 i lists2 next
     goes_to same hash s i lists settled.Goes more s2 lists2 comes = comes
     goes_to same hash s i lists settled.Waits more s2 lists2 comes = comes

@@ -5,9 +5,9 @@ use Rattle.run_schedules.specs.Runs.Present.{Present}
 use Rattle.run_schedules.specs.Schedules.Moment.{Remains, Sheltered, Moment}
 use Rattle.run_shows.specs.Given.FinishesMaps.{Standing}
 use Rattle.run_effects.specs.Effects.Known.{Known, known as noted_in}
-use Rattle.run_shows.specs.Follows.Maps.{ShowsMap}
-use Rattle.run_executor.specs.Given.MomentsWhole.{ShowsWhole}
-use Rattle.run_kept.specs.Kept.Kept.{ShowsKept}
+use Rattle.run_shows.specs.Follows.Maps.{RefinesMap}
+use Rattle.run_executor.specs.Given.MomentsWhole.{RefinesWhole}
+use Rattle.run_kept.specs.Kept.Kept.{RefinesKept}
 use Rattle.run_kept.proofs.Kept.Stays.{stays_kept}
 use Rattle.run_waiting.proofs.Remains.Stays.{stays_remain}
 use Rattle.run_logged.specs.Log.Shown.{AreNumbered, IsCounted}
@@ -23,7 +23,7 @@ module _ {K V : Type 0} (m : Moment K V) (known : Known) (events : ℕ) (is_mapp
   abbrev v : Moment K V
   v = elsewhere events is_mapped is_closed is_alone there slots sheltered remains m
 
-  map_elsewhere : (map : ℕ) (number : ℕ → ℕ) (s : Standing K) → ShowsMap map number s m known → ShowsMap map number s v known
+  map_elsewhere : (map : ℕ) (number : ℕ → ℕ) (s : Standing K) → RefinesMap map number s m known → RefinesMap map number s v known
   map_elsewhere map number s shows = record {
     there = let t = shows.there in record { there = t.there; is = t.is; root = t.root; mode = t.mode; first = t.first };
     pairs = let p = shows.pairs in record { roles = p.roles; numbered = p.numbered; rising = p.rising; born = p.born; here = p.here; all = p.all };
@@ -31,7 +31,7 @@ module _ {K V : Type 0} (m : Moment K V) (known : Known) (events : ℕ) (is_mapp
     counter = shows.counter;
   }
 
-  pub shown_elsewhere : (same : K → K → Bool) (name : ℕ → List ℕ) (s : Scene K V) → ShowsWhole same name m known s → ShowsWhole same name v known s
+  pub shown_elsewhere : (same : K → K → Bool) (name : ℕ → List ℕ) (s : Scene K V) → RefinesWhole same name m known s → RefinesWhole same name v known s
   shown_elsewhere same name s whole =
       let shown = whole.all.shown in
       let hands = whole.all.hands in
@@ -62,7 +62,7 @@ module _ {K V : Type 0} (m : Moment K V) (known : Known) (events : ℕ) (is_mapp
   numbered_elsewhere l n = record { numbers = (let x = n.numbers in record { found = x.found; below = x.below; tables = x.tables }); slots = n.slots }
 
   -- and what every step keeps is so then
-  pub kept_elsewhere : (name : ℕ → List ℕ) (s : Scene K V) → ShowsKept name m known s → ShowsKept name v known s
+  pub kept_elsewhere : (name : ℕ → List ℕ) (s : Scene K V) → RefinesKept name m known s → RefinesKept name v known s
   kept_elsewhere name s kept = stays_kept K V name m v known s s kept refl refl refl refl refl refl refl refl refl
 
   -- so are numbers, and what ended maps have left over, where the moment tells the same remains

@@ -1,9 +1,10 @@
 -- Lists: what is found, and what becomes of it, on two lists of which the same is seen.
-use Rattle.std.specs.Prelude.{◌≡◌, ◌≤◌, ◌<◌, ◌+◌, ℕ, zero, suc, Bool, true, false, not, cond, ◌||◌, ◌&&◌, List, [], ◌∷◌, length, filter, find, map, is_some, Option, Some, None, option_map, slice_set, slice_get, slice_index_or, nat_lt, position, if◌then◌else◌}
+use Rattle.std.specs.Prelude.{◌≡◌, ◌≤◌, ◌+◌, ℕ, zero, suc, Bool, true, false, not, cond, ◌||◌, ◌&&◌, List, [], ◌∷◌, length, filter, find, map, is_some, Option, Some, None, option_map, slice_set, slice_get, slice_index_or, nat_lt, position, if◌then◌else◌}
 use Rattle.std.specs.List.{AllByRecursion, list_any, list_all, position_or_len, remove}
 use Rattle.std.proofs.lemmas.Bool.{lt-ltb}
 use Rattle.std.proofs.lemmas.List.Folds.{find_at}
 use Rattle.std.proofs.Common.{refl, ap, sym, subst, ◌∙◌, arith}
+use Rattle.run_kept.proofs.Lists.{all_but}
 
 one_more : (n : ℕ) → suc n ≡ 1 + n
 one_more n = omega arith
@@ -112,15 +113,6 @@ as_some f g None None e = refl
 as_some f g (Some x) (Some y) e = refl
 as_some f g None (Some y) e = absurd (cc e)
 as_some f g (Some x) None e = absurd (cc e)
-
--- where none passes a test, each may be taken to fail it
-pub all_but : {X : Type 0} (P Q : X → Type 0) (q : X → Bool) → ((x : X) → q x ≡ false → P x → Q x) → (xs : List X) → list_any q xs ≡ false → AllByRecursion P xs → AllByRecursion Q xs
-all_but P Q q so [] none all = tt
-all_but P Q q so (x ∷ xs) none all = both (q x) refl none (λ f. all_but P Q q so xs f all.1)
-  where
-    both : (b : Bool) → q x ≡ b → (b || list_any q xs) ≡ false → (list_any q xs ≡ false → AllByRecursion Q xs) → Q x × AllByRecursion Q xs
-    both true e f ih = absurd (cc f)
-    both false e f ih = (so x e all.0, ih f)
 
 module _ {X : Type 0} (p : X → Bool) where
   pub none_kept : (xs : List X) → list_any p xs ≡ false → filter p xs ≡ []

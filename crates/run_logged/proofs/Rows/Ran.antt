@@ -22,7 +22,7 @@ use Rattle.run_shows.specs.declared.row.SlotRow.{SlotRow}
 use Rattle.run_shows.specs.declared.row.SlotRow.TheVariants as rows
 use Rattle.run_executor.specs.declared.worker.Work.TheVariants.{OnSlot}
 use Rattle.run_shows.specs.Given.FinishesMaps.{IsSameMap, Standing}
-use Rattle.run_logged.specs.Log.OnSlots.{GoesOnFor, OnSlotLast, StepsOn, has_come}
+use Rattle.run_logged.specs.Log.OnSlots.{ContinuesFor, OnSlotLast, StepsOn, has_come}
 use Rattle.run_logged.specs.Log.Shown.{IsShown}
 use Rattle.run_logged.specs.declared.logged.Logged.{Logged}
 use Rattle.run_logged.proofs.Log.RowsFall.{under_way_on}
@@ -79,7 +79,7 @@ module _ {K V S : Type 0} (same : K → K → Bool) (hash : K → ℕ) (i : ℕ)
     abbrev pub OnWay : Executor K V S → Type 0
     OnWay e = Led e × ((row : SlotRow) × (work_of e i ≡ Some (OnSlot row)) × Is row)
 
-    pub goes_led : (n : ℕ) (old new : Executor K V S) → GoesOnFor i n old new → OnWay old → OnWay new
+    pub goes_led : (n : ℕ) (old new : Executor K V S) → ContinuesFor i n old new → OnWay old → OnWay new
     goes_led zero old new is way = subst OnWay is way
     goes_led (suc n) old new (mid, said, goes, not_yet, steps) way =
         let on = goes_led n old mid goes way in

@@ -15,7 +15,7 @@ use Rattle.seize.specs.declared.rows.register.Registering.TheVariants as at
 use Rattle.seize.specs.Register.{begun, looked, widened, taken, further, taking, going, refused, registered, can_be_taken, bucket_needed, plan_at}
 use Rattle.papaya_raw.specs.Given.TablesDeclared.node.Node.{Node}
 use Rattle.run_effects.specs.Tells.Seen.{seen_of}
-use Rattle.run_effects.specs.ReportingMemory.Tells.{StepsTold, told_of}
+use Rattle.run_effects.specs.ReportingMemory.Tells.{StepsObserved, observed_of}
 use Rattle.run_effects.specs.declared.changed.Changed.{Changed}
 use Rattle.run_effects.specs.declared.changed.Changed.TheVariants as changed
 
@@ -59,7 +59,7 @@ module _ {K V : Type 0} (m m2 : Mem (Node K V)) (told_so : Changed) (c : Registe
   abbrev FoundNone : Type 0
   FoundNone = (bucket : ℕ) × (told_so ≡ changed.Roomed bucket false)
 
-  none_begun : (out : Out (Node K V)) → told_so ≡ told_of (Room 0) out (seen_of m (Room 0) out) → Ends (value_at m2) (begun c out) end → FoundNone
+  none_begun : (out : Out (Node K V)) → told_so ≡ observed_of (Room 0) out (seen_of m (Room 0) out) → Ends (value_at m2) (begun c out) end → FoundNone
   none_begun (Roomed (Err fault)) so ends = (0, so)
   none_begun (Roomed (Ok made)) so ends = absurd (fine_end end (going c at.Look) ends refl is)
   none_begun (Found word) so ends = absurd (fine_end end (c, progress.Goes) ends refl is)
@@ -68,7 +68,7 @@ module _ {K V : Type 0} (m m2 : Mem (Node K V)) (told_so : Changed) (c : Registe
   none_begun (Made block) so ends = absurd (fine_end end (c, progress.Goes) ends refl is)
   none_begun (Taken value) so ends = absurd (fine_end end (c, progress.Goes) ends refl is)
 
-  none_widened : (bucket seen : ℕ) (out : Out (Node K V)) → told_so ≡ told_of (Room bucket) out (seen_of m (Room bucket) out) → Ends (value_at m2) (widened c seen out) end → FoundNone
+  none_widened : (bucket seen : ℕ) (out : Out (Node K V)) → told_so ≡ observed_of (Room bucket) out (seen_of m (Room bucket) out) → Ends (value_at m2) (widened c seen out) end → FoundNone
   none_widened bucket seen (Roomed (Err fault)) so ends = (bucket, so)
   none_widened bucket seen (Roomed (Ok made)) so ends = absurd (fine_end end (going c (at.Take seen)) ends refl is)
   none_widened bucket seen (Found word) so ends = absurd (fine_end end (c, progress.Goes) ends refl is)
@@ -95,7 +95,7 @@ module _ {K V : Type 0} (m m2 : Mem (Node K V)) (told_so : Changed) (c : Registe
   not_taken (Made block) ends = fine_end end (c, progress.Goes) ends refl is
   not_taken (Taken value) ends = fine_end end (c, progress.Goes) ends refl is
 
-  pub found_none : (p : Registering) → ((fault : Fault) → p ≡ at.Refused fault → ⊥) → StepsTold K V (Register × Advance ℕ) m changed.Nothing (plan_at c p) m2 told_so end → FoundNone
+  pub found_none : (p : Registering) → ((fault : Fault) → p ≡ at.Refused fault → ⊥) → StepsObserved K V (Register × Advance ℕ) m changed.Nothing (plan_at c p) m2 told_so end → FoundNone
   found_none at.Begin under st = none_begun st.0 st.1.1 st.2
   found_none at.Look under st = absurd (not_looked st.0 st.2)
   found_none (at.Widen bucket seen) under st = none_widened bucket seen st.0 st.1.1 st.2

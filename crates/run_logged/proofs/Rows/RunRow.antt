@@ -17,7 +17,7 @@ use Rattle.run_logged.specs.Log.Shown.{IsShown}
 use Rattle.run_logged.specs.declared.logged.Logged.{Logged}
 use Rattle.run_logged.proofs.Log.Goes.{goes_more}
 use Rattle.run_logged.specs.Rows.Rows.{RowRan}
-use Rattle.run_executor.specs.Executing.IsThere.{IsThere, KeepsGiven, work_of}
+use Rattle.run_executor.specs.Executing.IsThere.{IsThere, PreservesSettings, work_of}
 use Rattle.run_executor.specs.Executing.OnSlots.{MayBegin, RowBeginsThere}
 use Rattle.run_shows.specs.Scenes.Rows.{begun_row, uses_begun}
 use Rattle.run_shows.specs.Scenes.Scene.{Scene, slot_of}
@@ -47,7 +47,7 @@ module _ {K V S : Type 0} (slot : ℕ) (called : SlotCall) (caller : ℕ) (old b
     -- and has run
     pub has_run : (said : RowTold (Node K V)) (before after : List Effect)
         → ((same2 : K → K → Bool) (hash2 : K → ℕ) (s2 : Scene K V) → IsThere same2 hash2 old.executor s2 → RowBeginsThere same2 hash2 called caller s2 old.executor began.executor)
-        → began.notes ≡ old.notes → KeepsGiven old.executor began.executor
+        → began.notes ≡ old.notes → PreservesSettings old.executor began.executor
         → RowGone caller said before after began new → OnSlotComes caller said new → OnSlotLast caller said began.executor new.executor
         → ((row : SlotRow) → work_of began.executor caller ≡ Some (OnSlot row) → has_ended said ≡ true → new.executor.slots.items ≡ uses_ended row said began.executor.slots.items)
         → OnSlotRan before after began new → EndsTelling after new.executor → RowRan slot called said before after old new

@@ -33,7 +33,7 @@ use Rattle.run_shows.specs.declared.row.SlotCall.TheVariants as call
 use Rattle.run_shows.specs.declared.row.SlotRow.{SlotRow}
 use Rattle.run_shows.specs.declared.row.SlotRow.TheVariants as rows
 use Rattle.run_executor.specs.declared.worker.Work.TheVariants.{OnSlot}
-use Rattle.run_logged.specs.Log.OnSlots.{GoesOnFor, OnSlotLast, has_come}
+use Rattle.run_logged.specs.Log.OnSlots.{ContinuesFor, OnSlotLast, has_come}
 use Rattle.run_logged.specs.Log.Shown.{IsShown}
 use Rattle.run_logged.specs.declared.logged.Logged.{Logged}
 use Rattle.run_logged.specs.Rows.Rows.{RowRan}
@@ -147,7 +147,7 @@ module _ {K V S : Type 0} (same : K → K → Bool) (hash : K → ℕ) (i : ℕ)
   ended_come e said (inl (fault, is, why, asked)) = ap (λ (x : RowTold (Node K V)). has_come x) is
   ended_come e said (inr (slot, is, first)) = ap (λ (x : RowTold (Node K V)). has_come x) is
 
-  goes_taking : (n : ℕ) (old new : Executor K V S) → GoesOnFor i n old new → OnTheWay old → OnTheWay new
+  goes_taking : (n : ℕ) (old new : Executor K V S) → ContinuesFor i n old new → OnTheWay old → OnTheWay new
   goes_taking zero old new is way = subst OnTheWay is way
   goes_taking (suc n) old new (mid, said, goes, not_yet, steps) way =
       let on = goes_taking n old mid goes way in

@@ -24,7 +24,7 @@ use Rattle.run_shows.specs.Given.FinishesMachines.{machine_of}
 use Rattle.run_shows.specs.Given.FinishesMaps.{Standing, with_call as with_call_of}
 use Rattle.run_shows.specs.Follows.Calling.{NoneNamed, told as told_so}
 use Rattle.run_shows.specs.Follows.Calls.{IsCalled}
-use Rattle.run_executor.specs.Given.HandsAsked.{as_told}
+use Rattle.run_executor.specs.Given.HandsAsked.{reply_to_machine}
 use Rattle.run_executor.specs.Given.HandsCalling.{IsBegunFor}
 use Rattle.run_shows.specs.Others.Walks.{given_up}
 use Rattle.run_logged.specs.Log.Goes.{IsNotedAs, far}
@@ -52,8 +52,8 @@ module _ {K V S : Type 0} (same : K → K → Bool) (hash : K → ℕ) (name : �
   step_did i map old new = effects_of (acts.Call i map) (known old.notes) new.executor.memory.changed
 
   -- A step of a caller's call on a map: what it does follows in the list, what is known then is noted, and the moment after that shows where the step has led.
-  abbrev pub CallGoesOn : (i map : ℕ) → Progress (Node K V) → (before after : List Effect) → (old new : Logged K V S) → Type 0
-  CallGoesOn i map told before after old new =
+  abbrev pub CallContinues : (i map : ℕ) → Progress (Node K V) → (before after : List Effect) → (old new : Logged K V S) → Type 0
+  CallContinues i map told before after old new =
       (u : UnderWay K V K) (here : s.calls map i ≡ Some u)
       → (leads : StepLeads same (λ map. hash) i told s (held_by old.executor) (held_by new.executor)) × (after ≡ before ++ step_did i map old new)
       × (known new.notes ≡ known_after (acts.Call i map) new.executor.memory.changed (known old.notes))
@@ -73,12 +73,12 @@ module _ {K V S : Type 0} (same : K → K → Bool) (hash : K → ℕ) (name : �
   abbrev pub CallTakes : ℕ → MachineReply V → Result Unit (MachineReply V) → (old new : Logged K V S) → Type 0
   CallTakes i reply result old new =
       (map : ℕ) (u : UnderWay K V K) → s.calls map i ≡ Some u → (c : CallThere K V) → call_of (name i) m ≡ Some c → (question : Option ℕ) → c.stands ≡ Asking question
-      → (is_told : Reply V) → reply ≡ as_told is_told → result ≡ Ok tt
+      → (is_told : Reply V) → reply ≡ reply_to_machine is_told → result ≡ Ok tt
       → (next : UnderWay K V K) × (machine_of next ≡ (machine_replied (machine_of u) reply).0) × IsShown same hash name (told_so (name i) is_told m) new (scene_with map i next s)
 
   -- A walk that was ready goes on to its next pair,
-  abbrev pub WalkGoesOn : ℕ → Bool → (old new : Logged K V S) → Type 0
-  WalkGoesOn i ready old new =
+  abbrev pub WalkContinues : ℕ → Bool → (old new : Logged K V S) → Type 0
+  WalkContinues i ready old new =
       (map : ℕ) (u : UnderWay K V K) → s.calls map i ≡ Some u
       → (ready ≡ (machine_asked (machine_of u)).1)
       × (ready ≡ true → (next : UnderWay K V K) × (machine_of next ≡ (machine_asked (machine_of u)).0) × IsShown same hash name m new (scene_with map i next s))

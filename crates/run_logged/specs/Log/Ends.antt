@@ -1,5 +1,5 @@
 -- Where the beginning of the end of a map leads, a step of it, and its run to the end; and what they do.
-use Rattle.std.specs.Prelude.{◌≡◌, ◌≢◌, ◌<◌, ◌≤◌, ℕ, Bool, true, false, List, [], ◌++◌, length, filter, flat_map, map as each_of, Some, None}
+use Rattle.std.specs.Prelude.{◌≡◌, ◌≢◌, ◌<◌, ◌≤◌, ℕ, Bool, true, false, List, [], ◌++◌, length, filter, map as each_of, Some, None}
 use Rattle.seize.specs.World.{times}
 use Rattle.seize.specs.declared.rows.settle.Settled.{Settled}
 use Rattle.seize.specs.declared.rows.settle.Settled.TheVariants as settled
@@ -16,9 +16,7 @@ use Rattle.run_schedules.specs.Schedules.Effects.{with_effects}
 use Rattle.run_schedules.specs.Schedules.Handing.{EndsMap}
 use Rattle.run_schedules.specs.Schedules.Moment.{MapThere, Moment}
 use Rattle.run_schedules.specs.Schedules.Views.{map_at, map_of}
-use Rattle.run_effects.specs.Effects.Effects.{taken_by}
 use Rattle.run_effects.specs.Effects.Known.{Known, known}
-use Rattle.run_effects.specs.declared.acting.Acting.TheVariants.{Ending}
 use Rattle.run_effects.specs.declared.role.Role.TheVariants as role
 use Rattle.run_shows.specs.Given.FinishesEndings.{Finishing, AllPairsOnce, finishing_of}
 use Rattle.run_shows.specs.Given.FinishesFactsEnds.{RootIs, back_of, taken_by as taken_of}
@@ -28,21 +26,18 @@ use Rattle.run_shows.specs.Others.Endings.{ending_after, without_map}
 use Rattle.run_executor.specs.Given.MomentsNumbers.{AreFound}
 use Rattle.run_executor.specs.Given.MomentsWholeEnds.{all_ended}
 use Rattle.run_logged.specs.Log.Shown.{IsShown}
-use Rattle.run_kept.specs.Sheds.Waits.{TellsLeft, TellsThen, TellsWaiting}
+use Rattle.run_kept.specs.Sheds.Waits.{ReportsLeft, ReportsThen, ReportsWaiting}
 use Rattle.run_logged.specs.declared.logged.Logged.{Logged}
 use Rattle.run_executor.specs.Executing.Ending.{NoCallOn}
 use Rattle.run_executor.specs.Executing.IsThere.{IsThere, held_by}
 use Rattle.run_shows.specs.Scenes.Ending.{EndingLeads, ending_begun}
 use Rattle.run_shows.specs.Scenes.Scene.{Scene}
+use Rattle.run_kept.specs.Ends.{ended_as}
 
 -- an end is over
 abbrev pub is_done : {T : Type 0} → Settled T → Bool
 is_done settled.Done = true
 is_done _ = false
-
--- what it is to the run that an end reclaims these blocks, of which this was known as it began
-abbrev pub ended_as : ℕ → Known → List ℕ → List Effect
-ended_as map first blocks = flat_map (λ b. taken_by (Ending map) (first.roles b)) blocks
 
 -- These effects are a whole end of the map: all pairs that are in it end, in order, and its tables, from the root's on.
 abbrev pub AllEnds : {K V : Type 0} → ℕ → List Effect → Moment K V → Type 0
@@ -67,20 +62,20 @@ module _ {K V S : Type 0} (same : K → K → Bool) (hash : K → ℕ) (name : �
       → (standing : Standing K) × (s.maps map ≡ Some standing) × AllPairsOnce (is_incremental standing.setting.mode) standing.chart
       × ((number : ℕ → ℕ) × NotesMap map number (known new.notes) standing.setting standing.chart standing.blocks × AllEnds map (all_ended (is_incremental standing.setting.mode) map number standing.chart) m)
       × IsShown same hash name m new (ending_begun map i standing s)
-      × TellsWaiting same map i (finishing_of standing s.world) m m (known new.notes) (ending_begun map i standing s).world
+      × ReportsWaiting same map i (finishing_of standing s.world) m m (known new.notes) (ending_begun map i standing s).world
 
   -- A step of a caller's end of the map of this number, of which this was noted as it began. The pair, or the table, that it reclaims ends with the map, and it does
   -- nothing else. The moment after it shows where the step has led, and what it has left over tells what waited as before.
-  abbrev pub EndGoesOn : (i map : ℕ) → Settled (Node K V) → List Effect → (old new : Logged K V S) → Type 0
-  EndGoesOn i map said did old new =
+  abbrev pub EndContinues : (i map : ℕ) → Settled (Node K V) → List Effect → (old new : Logged K V S) → Type 0
+  EndContinues i map said did old new =
       (f : Finishing K V) (here : s.enders i ≡ Some f) → s.maps map ≡ None
       → (number : ℕ → ℕ) (first : Known) → NotesMap map number first f.setting f.chart f.blocks → NotedStill first (known old.notes) f.back
       → (leads : EndingLeads same (λ map. hash) i said s (held_by old.executor) (held_by new.executor))
       × (did ≡ ended_as map first (taken_of (leads f here).2.deed))
       × NotedStill first (known new.notes) (f.back ++ taken_of (leads f here).2.deed)
       × IsShown same hash name (with_effects None (Some map) did m) new (ending_after same (λ map. hash) s (held_by new.executor) i f (leads f here).0 (leads f here).2.w2 (leads f here).2.deed said (leads f here).3)
-      × ((began : Moment K V) → TellsWaiting same map i f began m (known old.notes) s.world
-      → TellsThen same map i f (is_done said) (leads f here).0 (leads f here).2.deed began (with_effects None (Some map) did m) (known new.notes) (leads f here).2.w2)
+      × ((began : Moment K V) → ReportsWaiting same map i f began m (known old.notes) s.world
+      → ReportsThen same map i f (is_done said) (leads f here).0 (leads f here).2.deed began (with_effects None (Some map) did m) (known new.notes) (leads f here).2.w2)
 
 -- Where an end has come that was there so, and has reclaimed these further blocks: it goes on, as another machine; or it is over, has reclaimed all that it was to, and what
 -- it left over waits behind its root, which is free without that. All else that is under way is so as before, and so are the maps that stand, and the uses of slots.
@@ -91,9 +86,9 @@ module _ {K V : Type 0} (s s2 : Scene K V) (i : ℕ) (f : Finishing K V) (gone :
       (s2.enders i ≡ None) × (f.back ++ gone ≡ back_of f.setting f.chart f.blocks (λ t. []) false) × ((waits : List ℕ) × RootIs {K = K} f.setting s2.world.memory waits)
 
   -- what it has left over is what waited as it began
-  abbrev pub TellsCame : (K → K → Bool) → ℕ → Moment K V → Moment K V → Known → (over : Bool) → EnderIs over → Type 0
-  TellsCame same map began m known false ender = TellsWaiting same map i (record f { machine = ender.0; back = f.back ++ gone; waits = ender.1 }) began m known s2.world
-  TellsCame same map began m known true ender = TellsLeft map f.chart began known ender.2.0
+  abbrev pub ReportsCame : (K → K → Bool) → ℕ → Moment K V → Moment K V → Known → (over : Bool) → EnderIs over → Type 0
+  ReportsCame same map began m known false ender = ReportsWaiting same map i (record f { machine = ender.0; back = f.back ++ gone; waits = ender.1 }) began m known s2.world
+  ReportsCame same map began m known true ender = ReportsLeft map f.chart began known ender.2.0
 
   pub record EndCame (over : Bool) : Type 0 where
     pub ender : EnderIs over
@@ -109,7 +104,7 @@ module _ {K V S : Type 0} where
   abbrev pub EndSteps : (i map : ℕ) → Settled (Node K V) → (before after : List Effect) → (old new : Logged K V S) → Type 0
   EndSteps i map said before after old new =
       (did : List Effect) × (after ≡ before ++ did)
-      × ((same : K → K → Bool) (hash : K → ℕ) (name : ℕ → List ℕ) (m : Moment K V) (s : Scene K V) → IsShown same hash name m old s → EndGoesOn same hash name m s i map said did old new)
+      × ((same : K → K → Bool) (hash : K → ℕ) (name : ℕ → List ℕ) (m : Moment K V) (s : Scene K V) → IsShown same hash name m old s → EndContinues same hash name m s i map said did old new)
 
   module _ (same : K → K → Bool) (hash : K → ℕ) (s : Scene K V) (i : ℕ) (over : Bool) (new : Logged K V S) where
     -- The executor is there where the end has come,
@@ -125,8 +120,8 @@ module _ {K V S : Type 0} where
         → (s2 : Scene K V) × (gone : List ℕ) × (came : EndCame s s2 i f gone over) × (did ≡ ended_as map first gone) × NotedStill first (known new.notes) (f.back ++ gone)
         × IsShown same hash name (with_effects None (Some map) did m) new s2
         × (over ≡ true → f.back ≡ [] → did ≡ all_ended (is_incremental f.setting.mode) map number f.chart)
-        × ((began : Moment K V) → TellsWaiting same map i f began m (known old.notes) s.world
-        → TellsCame s s2 i f gone same map began (with_effects None (Some map) did m) (known new.notes) over came.ender)
+        × ((began : Moment K V) → ReportsWaiting same map i f began m (known old.notes) s.world
+        → ReportsCame s s2 i f gone same map began (with_effects None (Some map) did m) (known new.notes) over came.ender)
 
   -- So it is of several steps.
   abbrev pub EndRan : (i map : ℕ) → Bool → (before after : List Effect) → (old new : Logged K V S) → Type 0

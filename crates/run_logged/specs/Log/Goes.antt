@@ -25,7 +25,7 @@ use Rattle.run_logged.specs.Log.OnSlots.{StepsOn}
 use Rattle.run_logged.specs.Log.Shown.{IsShown}
 use Rattle.run_logged.specs.declared.logged.Logged.{Logged}
 use Rattle.run_executor.specs.Executing.Ending.{EndsThere}
-use Rattle.run_executor.specs.Executing.IsThere.{IsThere, KeepsGiven, ending_in, making_in, work_of}
+use Rattle.run_executor.specs.Executing.IsThere.{IsThere, PreservesSettings, ending_in, making_in, work_of}
 use Rattle.run_executor.specs.Executing.Making.{MakesThere}
 use Rattle.run_shows.specs.Scenes.Scene.{Scene}
 
@@ -49,7 +49,7 @@ module _ {K V S : Type 0} where
   pub record IsNotedAs (acting : Acting) (from to : Far K V S) : Type 0 where
     pub did : to.effects ≡ from.effects ++ effects_of acting (known from.logged.notes) to.logged.executor.memory.changed
     pub noted : known to.logged.notes ≡ known_after acting to.logged.executor.memory.changed (known from.logged.notes)
-    pub given : KeepsGiven from.logged.executor to.logged.executor
+    pub given : PreservesSettings from.logged.executor to.logged.executor
 
   -- what a step of a making leads to, in whatever scene the executor is there, and one of an end
   abbrev pub StepsMaking : ℕ → Advance Setting → (old new : Executor K V S) → Type 0

@@ -95,8 +95,8 @@ module _ {K V S : Type 0} (same : K → K → Bool) (hash : K → ℕ) (name : �
 
   -- A step of a caller's making of this map, which did this. The moment after it shows where the step has led; if the map stands then, it was there as a new one. A step
   -- of one that has made no table yet, or was refused, does nothing but ask for growths.
-  abbrev pub MakingGoesOn : (i map : ℕ) → Advance Setting → List Effect → (old new : Logged K V S) → Type 0
-  MakingGoesOn i map told did old new =
+  abbrev pub MakingContinues : (i map : ℕ) → Advance Setting → List Effect → (old new : Logged K V S) → Type 0
+  MakingContinues i map told did old new =
       (b : Beginning K) (here : s.makers i ≡ Some b) → b.map ≡ map
       → (leads : MakingLeads same (λ map. hash) i told s (held_by old.executor) (held_by new.executor))
       × (IsBare told (leads b here).0 → JustAsks b did)
@@ -146,7 +146,7 @@ module _ {K V S : Type 0} where
   abbrev pub MakingSteps : (i map : ℕ) → Advance Setting → (before after : List Effect) → (old new : Logged K V S) → Type 0
   MakingSteps i map told before after old new =
       (did : List Effect) × (after ≡ before ++ did)
-      × ((same : K → K → Bool) (hash : K → ℕ) (name : ℕ → List ℕ) (m : Moment K V) (s : Scene K V) → IsShown same hash name m old s → MakingGoesOn same hash name m s i map told did old new)
+      × ((same : K → K → Bool) (hash : K → ℕ) (name : ℕ → List ℕ) (m : Moment K V) (s : Scene K V) → IsShown same hash name m old s → MakingContinues same hash name m s i map told did old new)
 
   module _ (same : K → K → Bool) (hash : K → ℕ) (s : Scene K V) (i map : ℕ) (told : Advance Setting) (did : List Effect) (old new : Logged K V S) where
     -- The executor is there where the making has come,

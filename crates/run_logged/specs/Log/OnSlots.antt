@@ -32,8 +32,8 @@ module _ {K V S : Type 0} (same : K → K → Bool) (hash : K → ℕ) (name : �
       × IsShown same hash name m new (record s { world = (leads may).3.2.0; maps = (leads may).3.2.2 })
 
   -- A step of a caller's row, which did this: the moment after it shows where the step has led.
-  abbrev pub OnSlotGoesOn : ℕ → RowTold (Node K V) → List Effect → (old new : Logged K V S) → Type 0
-  OnSlotGoesOn i said did old new =
+  abbrev pub OnSlotContinues : ℕ → RowTold (Node K V) → List Effect → (old new : Logged K V S) → Type 0
+  OnSlotContinues i said did old new =
       (row : SlotRow) (here : work_of old.executor i ≡ Some (OnSlot row))
       → (on : IsOnSlot s i row) × (leads : RowLeads same (λ map. hash) i said s (held_by old.executor) (held_by new.executor))
       × IsShown same hash name (with_effects None None did m) new (scene_then same (λ map. hash) (Step i) s (held_by old.executor) (held_by new.executor) (leads row on).2)
@@ -54,7 +54,7 @@ module _ {K V S : Type 0} where
   abbrev pub OnSlotSteps : ℕ → RowTold (Node K V) → (before after : List Effect) → (old new : Logged K V S) → Type 0
   OnSlotSteps i said before after old new =
       (did : List Effect) × (after ≡ before ++ did)
-      × ((same : K → K → Bool) (hash : K → ℕ) (name : ℕ → List ℕ) (m : Moment K V) (s : Scene K V) → IsShown same hash name m old s → OnSlotGoesOn same hash name m s i said did old new)
+      × ((same : K → K → Bool) (hash : K → ℕ) (name : ℕ → List ℕ) (m : Moment K V) (s : Scene K V) → IsShown same hash name m old s → OnSlotContinues same hash name m s i said did old new)
 
   -- So it does step by step, and the executor stays there.
   abbrev pub OnSlotRan : (before after : List Effect) → (old new : Logged K V S) → Type 0
@@ -74,13 +74,13 @@ module _ {K V S : Type 0} (i : ℕ) where
   StepsOn said old new = (same : K → K → Bool) (hash : K → ℕ) (s : Scene K V) → IsThere same hash old s → RowStepsThere same hash i said s old new
 
   -- so many of them, after none of which the row has ended, or waits
-  abbrev pub GoesOnFor : ℕ → (old new : Executor K V S) → Type 0
-  GoesOnFor zero old new = old ≡ new
-  GoesOnFor (suc n) old new = (mid : Executor K V S) × (said : RowTold (Node K V)) × GoesOnFor n old mid × (has_come said ≡ false) × StepsOn said mid new
+  abbrev pub ContinuesFor : ℕ → (old new : Executor K V S) → Type 0
+  ContinuesFor zero old new = old ≡ new
+  ContinuesFor (suc n) old new = (mid : Executor K V S) × (said : RowTold (Node K V)) × ContinuesFor n old mid × (has_come said ≡ false) × StepsOn said mid new
 
   -- and then the last one, which told this
   abbrev pub OnSlotLast : RowTold (Node K V) → (old new : Executor K V S) → Type 0
-  OnSlotLast said old new = (mid : Executor K V S) × (n : ℕ) × GoesOnFor n old mid × StepsOn said mid new
+  OnSlotLast said old new = (mid : Executor K V S) × (n : ℕ) × ContinuesFor n old mid × StepsOn said mid new
 
 -- The list ends with what the last operation of a row did, by what was noted before it.
 abbrev pub EndsTelling : {K V S : Type 0} → List Effect → Executor K V S → Type 0

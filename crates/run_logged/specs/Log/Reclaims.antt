@@ -12,8 +12,8 @@ use Rattle.run_shows.specs.Reclaims.Reclaims.{AllIsReclaimed}
 use Rattle.run_executor.specs.ReclaimsAll.Reclaiming.{IsReclaimingThere, MayReclaim, NobodyHas}
 use Rattle.run_executor.specs.Given.SpotsOnSlots.{WaitUnreclaimed}
 use Rattle.run_executor.specs.Given.MomentsOnSlots.{HadRetired}
-use Rattle.run_executor.specs.Given.MomentsWhole.{ShowsWhole}
-use Rattle.run_kept.specs.Kept.Kept.{ShowsKept}
+use Rattle.run_executor.specs.Given.MomentsWhole.{RefinesWhole}
+use Rattle.run_kept.specs.Kept.Kept.{RefinesKept}
 use Rattle.run_logged.specs.Log.Shown.{AreNumbered, IsShown}
 use Rattle.run_logged.specs.declared.logged.Logged.{Logged}
 use Rattle.run_executor.specs.Executing.IsThere.{IsThere, held_by}
@@ -21,18 +21,19 @@ use Rattle.run_shows.specs.Scenes.Scene.{Scene}
 use Rattle.run_shows.specs.Scenes.Reclaiming.{ReclaimingLeads}
 
 module _ {K V S : Type 0} (same : K → K → Bool) (hash : K → ℕ) (name : ℕ → List ℕ) where
-  -- All is being reclaimed, it is so far, and these lists are behind the roots still; and a moment shows the scene with the notes, of which all is so that every step keeps.
+  -- All is being reclaimed, it is so far, and these lists are behind the roots still; and the scene refines a moment with the notes, of which all is so that
+  -- every step keeps.
   pub record ReclaimingIsShown (m : Moment K V) (l : Logged K V S) (s : Scene K V) (i : ℕ) (lists : ℕ → List ℕ) (all : ReclaimAll) : Type 0 where
     pub under_way : IsReclaimingThere same hash l.executor s i lists all
-    pub shows : ShowsWhole same name m (known l.notes) s
-    pub kept : ShowsKept name m (known l.notes) s
+    pub shows : RefinesWhole same name m (known l.notes) s
+    pub kept : RefinesKept name m (known l.notes) s
     pub numbered : AreNumbered m l
 
   -- So it is once all is reclaimed, when nothing is left over, whatever the moment tells of that.
   pub record AllIsShown (m : Moment K V) (l : Logged K V S) (s : Scene K V) : Type 0 where
     pub is_at : IsThere same hash l.executor s
-    pub shows : ShowsWhole same name m (known l.notes) s
-    pub kept : ShowsKept name m (known l.notes) s
+    pub shows : RefinesWhole same name m (known l.notes) s
+    pub kept : RefinesKept name m (known l.notes) s
     pub numbered : AreNumbered m l
 
   module _ (m : Moment K V) (s : Scene K V) (i : ℕ) (lists : ℕ → List ℕ) where
@@ -47,9 +48,9 @@ ReclaimRetired did m = AtEachEffect HadRetired None None did m × AtEachEffect W
 
 -- A step of it, which did this: what it reclaims was retired so, and the moment after it shows where it has led.
 module _ {K V S : Type 0} where
-  abbrev pub ReclaimingGoesOn : (same : K → K → Bool) (hash : K → ℕ) → (ℕ → List ℕ) → Moment K V → Scene K V → ℕ → (ℕ → List ℕ) → (before after : ReclaimAll) → Settled (Node K V) → List Effect
+  abbrev pub ReclaimingContinues : (same : K → K → Bool) (hash : K → ℕ) → (ℕ → List ℕ) → Moment K V → Scene K V → ℕ → (ℕ → List ℕ) → (before after : ReclaimAll) → Settled (Node K V) → List Effect
       → (old new : Logged K V S) → Type 0
-  ReclaimingGoesOn same hash name m s i lists before after told did old new =
+  ReclaimingContinues same hash name m s i lists before after told did old new =
       (leads : ReclaimingLeads same (λ map. hash) s i lists (held_by old.executor) (held_by new.executor) before after told)
       × ReclaimRetired did m
       × ReclaimingThen same hash name (with_effects None None did m) s i lists (record s { world = leads.1.w2; maps = leads.1.maps2 }) leads.1.lists2 after old new told
@@ -59,7 +60,7 @@ module _ {K V S : Type 0} where
   ReclaimingSteps before after told had has old new =
       (did : List Effect) × (has ≡ had ++ did)
       × ((same : K → K → Bool) (hash : K → ℕ) (name : ℕ → List ℕ) (m : Moment K V) (s : Scene K V) (i : ℕ) (lists : ℕ → List ℕ) → ReclaimingIsShown same hash name m old s i lists before
-      → ReclaimingGoesOn same hash name m s i lists before after told did old new)
+      → ReclaimingContinues same hash name m s i lists before after told did old new)
 
 -- Where reclaiming has come to: each map stands as it stood, and nothing else is under way than before.
 pub record ReclaimingCame {K V : Type 0} (s s2 : Scene K V) : Type 0 where

@@ -17,7 +17,7 @@ use Rattle.run_logged.specs.Log.Goes.{GoesTo, RowGoes, RowGone, far}
 use Rattle.run_logged.specs.Log.OnSlots.{EndsTelling, OnSlotBegins, OnSlotLast, has_come}
 use Rattle.run_logged.specs.Log.Shown.{IsShown}
 use Rattle.run_logged.specs.declared.logged.Logged.{Logged}
-use Rattle.run_executor.specs.Executing.IsThere.{IsThere, KeepsGiven}
+use Rattle.run_executor.specs.Executing.IsThere.{IsThere, PreservesSettings}
 use Rattle.run_executor.specs.Executing.OnSlots.{MayBegin, RowBeginsThere}
 use Rattle.run_shows.specs.Scenes.Rows.{begun_row, uses_begun}
 use Rattle.run_shows.specs.Scenes.Scene.{Scene, slot_of}
@@ -31,7 +31,7 @@ pub record RowRan {K V S : Type 0} (slot : ℕ) (called : SlotCall) (said : RowT
   pub begins : (same : K → K → Bool) (hash : K → ℕ) (name : ℕ → List ℕ) (m : Moment K V) (s : Scene K V) → IsShown same hash name m old s → OnSlotBegins same hash name m s called caller old began
   pub begun : (same : K → K → Bool) (hash : K → ℕ) (s : Scene K V) → IsThere same hash old.executor s → RowBeginsThere same hash called caller s old.executor began.executor
   pub noted : began.notes ≡ old.notes
-  pub given : KeepsGiven old.executor began.executor
+  pub given : PreservesSettings old.executor began.executor
   pub goes : GoesTo (RowGoes caller) (far before began) (far after new)
   pub gone : RowGone caller said before after began new
   pub last : OnSlotLast caller said began.executor new.executor

@@ -9,10 +9,10 @@ use Rattle.run_logged.specs.declared.logged.Logged.{Logged}
 use Rattle.run_logged.specs.Rows.Rows.{RowRan}
 
 -- what it told, by the slot that it has found, or the fault
-abbrev pub told_as : {T : Type 0} → Result ℕ Fault → RowTold T
-told_as (Ok slot) = told.Registered slot
-told_as (Err fault) = told.Refused fault
+abbrev pub outcome_of_taking : {T : Type 0} → Result ℕ Fault → RowTold T
+outcome_of_taking (Ok slot) = told.Registered slot
+outcome_of_taking (Err fault) = told.Refused fault
 
 -- A registering has run, which has told this.
 abbrev pub SlotTaken : {K V S : Type 0} → Bool → Result ℕ Fault → (before after : List Effect) → (old new : Logged K V S) → Type 0
-SlotTaken enters slot before after old new = RowRan 0 (call.Register enters) (told_as slot) before after old new
+SlotTaken enters slot before after old new = RowRan 0 (call.Register enters) (outcome_of_taking slot) before after old new

@@ -9,9 +9,9 @@ use Rattle.run_shows.specs.Given.RunsDeclared.effect.Effect.{Effect}
 use Rattle.run_shows.specs.Given.RunsDeclared.effect.Effect.TheVariants as effect
 use Rattle.run_shows.specs.Given.RunsDeclared.outcome.Outcome.{Outcome}
 use Rattle.run_shows.specs.Given.RunsDeclared.outcome.Outcome.TheVariants as outcome
-use Rattle.run_shows.specs.Given.SchedulesAfter.{asks_on, comes_to, replied}
+use Rattle.run_shows.specs.Given.SchedulesAfter.{asks_on, with_outcome, replied}
 use Rattle.run_shows.specs.Given.SchedulesEffects.{due_for, call_by, with_effect, with_effects}
-use Rattle.run_shows.specs.Given.SchedulesMoment.{Stands, Going, Asking, Told, IsReady, UnderWay as CallThere, Moment}
+use Rattle.run_shows.specs.Given.SchedulesMoment.{CallState, Going, Asking, Told, IsReady, UnderWay as CallThere, Moment}
 use Rattle.run_shows.specs.Given.SchedulesViews.{call_of}
 use Rattle.run_shows.proofs.Follows.Calls.{changed_same, changed, found}
 
@@ -56,19 +56,19 @@ module _ {K V : Type 0} where
       let rest = effects_begun own acted name effects (with_effect (Some own) (Some acted) f m) d (found (call_by m f) (changed_same m f) own name m.calls c is) in
       (rest.0, rest.1, rest.2 ∙ if_begun (call_by m f) (by_begun m f) c (is_same c.caller own))
 
-  pub replied_begun : (reply : Reply V) (c : CallThere K V) (stands : Stands) → (replied reply c stands).begun ≡ c.begun
+  pub replied_begun : (reply : Reply V) (c : CallThere K V) (stands : CallState) → (replied reply c stands).begun ≡ c.begun
   replied_begun reply c Going = refl
   replied_begun reply c (Asking q) = refl
   replied_begun reply c Told = refl
   replied_begun reply c IsReady = refl
 
-  asks_begun : (question : Option ℕ) (c : CallThere K V) (stands : Stands) → (asks_on question c stands).begun ≡ c.begun
+  asks_begun : (question : Option ℕ) (c : CallThere K V) (stands : CallState) → (asks_on question c stands).begun ≡ c.begun
   asks_begun question c Going = refl
   asks_begun question c (Asking q) = refl
   asks_begun question c Told = refl
   asks_begun question c IsReady = refl
 
-  pub comes_begun : (o : Outcome V) (c : CallThere K V) → (comes_to o c).begun ≡ c.begun
+  pub comes_begun : (o : Outcome V) (c : CallThere K V) → (with_outcome o c).begun ≡ c.begun
   comes_begun outcome.Done c = refl
   comes_begun (outcome.Slot n) c = refl
   comes_begun outcome.Goes c = refl

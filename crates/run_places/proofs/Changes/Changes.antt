@@ -29,13 +29,13 @@ use Rattle.run_shows.specs.Given.RuleWords.{Blocks}
 use Rattle.run_shows.proofs.Given.RuleLaws.{current_is_known}
 use Rattle.run_shows.specs.Given.PointsFactsCalls.{Change, Unchanged, Stored, Replaced, Removed, Changes}
 use Rattle.run_shows.specs.Given.CallersPairs.{Given, Begun, IsTold, kind_of, StoresGiven}
-use Rattle.run_shows.specs.Given.CallersTogether.{CallOnKey, OnKey, Together, StepTold, Fresh, Late, change_told}
-use Rattle.run_shows.specs.Given.FinishesEndings.{StepsAmong}
+use Rattle.run_shows.specs.Given.CallersTogether.{CallOnKey, OnKey, Together, StepOutcome, Fresh, Late, change_observed}
+use Rattle.run_shows.specs.Given.FinishesEndings.{StepsWithEndings}
 use Rattle.run_shows.specs.Given.FinishesMaps.{Standing}
 use Rattle.run_shows.specs.Given.EffectsEffects.{effects_of}
 use Rattle.run_shows.specs.Given.EffectsKnown.{Known}
 use Rattle.run_shows.specs.Given.EffectsDeclared.acting.Acting.TheVariants as acts
-use Rattle.run_shows.specs.Follows.Shows.{Shows}
+use Rattle.run_shows.specs.Follows.Shows.{Refines}
 use Rattle.run_shows.specs.Follows.Steps.{named_now, HasToStore, HasPair, TakesNone}
 use Rattle.run_shows.proofs.Follows.Calling.{is_same_refl}
 use Rattle.run_shows.proofs.Follows.Calls.{changed_same, found}
@@ -43,7 +43,7 @@ use Rattle.run_shows.proofs.Follows.Operations.{operated_leaves, LeavesBy}
 use Rattle.run_shows.proofs.Follows.Rows.{HandsOn, IsStill, Puts as PutsBehind, Retires, one_step_leaves}
 use Rattle.run_shows.proofs.Follows.RowSteps.{row_done}
 use Rattle.run_shows.proofs.Follows.Steps.{WentTo, went_to, made_so, DidSo, OfNoRow}
-use Rattle.run_places.specs.Hands.Asked.{IsAskedOn, IsAskedAs, ShowsAsked}
+use Rattle.run_places.specs.Hands.Asked.{IsAskedOn, IsAskedAs, RefinesAsked}
 use Rattle.run_places.proofs.Hands.Calling.{caller_is}
 use Rattle.run_places.proofs.Hands.Done.{done}
 use Rattle.run_places.proofs.Hands.Puts.{MayDo}
@@ -51,7 +51,7 @@ use Rattle.run_places.proofs.Hands.RowSteps.{rows_hand_theirs}
 use Rattle.run_places.proofs.Hands.Steps.{numbers_apart, calls_store_theirs}
 use Rattle.run_places.proofs.Spots.Shifts.{Shifts, calm_shifts}
 use Rattle.run_places.proofs.Spots.Steps.{moved_shifts}
-use Rattle.run_places.specs.Moments.Whole.{ShowsWhole}
+use Rattle.run_places.specs.Moments.Whole.{RefinesWhole}
 use Rattle.run_places.proofs.Moments.Calls.{of_row}
 use Rattle.run_places.specs.Changes.Changes.{AreTaken}
 use Rattle.run_places.specs.Changes.Had.{HadThen}
@@ -77,7 +77,7 @@ acted_on name map f m c c_is =
     ∙ ap (λ (q : Bool). Some (if q then call_by m f c else c)) (ap (λ (l : List ℕ). is_same l name) (caller_is name m c c_is) ∙ is_same_refl name)
 
 module _ {K V : Type 0} (same : K → K → Bool) (hash : ℕ → K → ℕ) (name : ℕ → List ℕ) (m : Moment K V) (known : Known) (s : Scene K V) (old new : Held K V) (at : IsAt same hash old s)
-    (whole : ShowsWhole same name m known s) (shown : Shows same name m known s) (asked : ShowsAsked name shown.number m known s) (map i : ℕ) (x : CallOnKey K V K) (here : s.calls map i ≡ Some (OnKey x)) (said : Progress (Node K V)) (leads : StepLeads same hash i said s old new)
+    (whole : RefinesWhole same name m known s) (shown : Refines same name m known s) (asked : RefinesAsked name shown.number m known s) (map i : ℕ) (x : CallOnKey K V K) (here : s.calls map i ≡ Some (OnKey x)) (said : Progress (Node K V)) (leads : StepLeads same hash i said s old new)
     (c : CallThere K V) (c_is : call_of (name i) m ≡ Some c) (one : OneKey K V) (one_is : c.call ≡ On one) (taken : AreTaken one c.replies) (due : x.change ≡ Unchanged → c.due ≡ None) where
   abbrev to : WentTo same hash name m known s old new at shown map i (OnKey x) here said leads
   to = went_to same hash name m known s old new at shown map i (OnKey x) here said leads
@@ -233,8 +233,8 @@ module _ {K V : Type 0} (same : K → K → Bool) (hash : ℕ → K → ℕ) (na
   ToldOnce c2 change =
       ((change ≡ x.change) × (c2.current ≡ ch.current)) ⊎ ((x.change ≡ Unchanged) × Changes same st.hash (is_incremental st.setting.mode) x.keys ch c2 change)
 
-  pub told_once : {p2 : KeyCall K V K} {end : Called (Node K V)} {w2 : World (Node K V)} {c2 : Chart K} {blocks2 : Blocks} → (it : StepTold V same st.hash same st.setting slot_of ch i x p2 end w2 c2 blocks2)
-      → ToldOnce c2 (change_told V same st.hash same st.setting slot_of it)
+  pub told_once : {p2 : KeyCall K V K} {end : Called (Node K V)} {w2 : World (Node K V)} {c2 : Chart K} {blocks2 : Blocks} → (it : StepOutcome V same st.hash same st.setting slot_of ch i x p2 end w2 c2 blocks2)
+      → ToldOnce c2 (change_observed V same st.hash same st.setting slot_of it)
   told_once (Fresh told) = told.changes
   told_once (Late blocking none told) = inl (sym none, told.same_pairs)
 
@@ -249,22 +249,22 @@ module _ {K V : Type 0} (same : K → K → Bool) (hash : ℕ → K → ℕ) (na
   to_remove_by memory c2 blocks (Removed n) has = to_remove memory c2 blocks x.pair n has
 
   -- of a step that is none of a row: which pairs have come or gone, and what the call has done
-  module _ (p2 : KeyCall K V K) (end : Called (Node K V)) (step : StepsAmong V same same old.batch_size old.roots slot_of s.world s.maps s.calls s.makers s.enders map st i x new.memory p2 end) where
+  module _ (p2 : KeyCall K V K) (end : Called (Node K V)) (step : StepsWithEndings V same same old.batch_size old.roots slot_of s.world s.maps s.calls s.makers s.enders map st i x new.memory p2 end) where
     pub its_shifts : Shifts ch step.step.went.c2 number known.stored effects
     its_shifts =
         moved_shifts same hash m known s old new at name shown map i st to.2 (name i) (made_so same hash name m known s old new at shown map i (OnKey x) here said leads)
         step.step.inside _ step.step.went step.step.blocks2 step.step.grown step.step.sights2
 
-    pub its_done : Did (change_told V same st.hash same st.setting slot_of step.step.went.told)
+    pub its_done : Did (change_observed V same st.hash same st.setting slot_of step.step.went.told)
     its_done = elim (done same st.hash same st.setting slot_of s.world ch st.blocks st.sights (s.calls map) i x new.memory p2 end step.step) as
-        (λ _. Did (change_told V same st.hash same st.setting slot_of step.step.went.told)) [
+        (λ _. Did (change_observed V same st.hash same st.setting slot_of step.step.went.told)) [
           | inl none ↦ inl none
-          | inr has ↦ inr (has.2, to_remove_by step.step.went.w2.memory step.step.went.c2 has.0 (change_told V same st.hash same st.setting slot_of step.step.went.told) has.3)
+          | inr has ↦ inr (has.2, to_remove_by step.step.went.w2.memory step.step.went.c2 has.0 (change_observed V same st.hash same st.setting slot_of step.step.went.told) has.3)
         ]
 
   by_own : Stores effects → (did : DidSoHere) → NoRow did → Goal
   by_own stores (p2, end, machine_is, told_is, inl (step, moved)) own =
-      by_shifts step.step.went.c2 (its_shifts p2 end step) stores (change_told V same st.hash same st.setting slot_of step.step.went.told) (told_once step.step.went.told) (its_done p2 end step)
+      by_shifts step.step.went.c2 (its_shifts p2 end step) stores (change_observed V same st.hash same st.setting slot_of step.step.went.told) (told_once step.step.went.told) (its_done p2 end step)
   by_own stores (p2, end, machine_is, told_is, inr row) own = absurd own
 
   -- one of a row says of no pair that it has come or gone

@@ -10,11 +10,11 @@ use Rattle.run_shows.specs.Given.SchedulesViews.{call_of}
 use Rattle.run_shows.specs.Given.CallersTogether.{CallOnKey, OnKey}
 use Rattle.run_shows.specs.Given.EffectsKnown.{Known}
 use Rattle.run_shows.specs.Follows.Calls.{IsCalled}
-use Rattle.run_shows.specs.Follows.Shows.{Shows}
+use Rattle.run_shows.specs.Follows.Shows.{Refines}
 use Rattle.run_shows.specs.Scenes.Scene.{Scene}
 use Rattle.run_shows.proofs.Given.General.{same_some as one_of}
 
-pub its_call : {K V : Type 0} (same : K → K → Bool) (name : ℕ → List ℕ) (m : Moment K V) (known : Known) (s : Scene K V) → Shows same name m known s
+pub its_call : {K V : Type 0} (same : K → K → Bool) (name : ℕ → List ℕ) (m : Moment K V) (known : Known) (s : Scene K V) → Refines same name m known s
     → (map i : ℕ) (x : CallOnKey K V K) → s.calls map i ≡ Some (OnKey x) → (c : CallThere K V) → call_of (name i) m ≡ Some c → (one : OneKey K V) → c.call ≡ On one
     → (c.map ≡ map) × (x.keys ≡ same (key_of one))
 its_call same name m known s shown map i x here c c_is one one_is =

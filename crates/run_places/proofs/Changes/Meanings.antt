@@ -15,9 +15,9 @@ use Rattle.run_shows.specs.Given.SchedulesSequential.{Meaning, Answers, Refuses,
 use Rattle.run_shows.specs.Given.SchedulesViews.{reply_to}
 use Rattle.run_shows.specs.Given.LateFaults.{IsRoom}
 use Rattle.run_shows.specs.Given.LateKinds.{MayRemove, FaultFits}
-use Rattle.run_shows.specs.Given.CallersAsked.{Asked, last_told}
+use Rattle.run_shows.specs.Given.CallersAsked.{Asked, last_reply}
 use Rattle.run_shows.specs.Given.CallersPairs.{Given, Begun, IsTold, kind_of, RemovesNone}
-use Rattle.run_places.specs.Hands.Asked.{as_told, given_by, AreReplies}
+use Rattle.run_places.specs.Hands.Asked.{reply_to_machine, given_by, AreReplies}
 use Rattle.run_places.proofs.Hands.Replies.{told_as}
 use Rattle.run_places.specs.Changes.Changes.{AreTaken}
 
@@ -32,7 +32,7 @@ module _ {V X : Type 0} where
 
 module _ {V : Type 0} where
   -- what was told to remove a pair was that, or a yes
-  removed_by : (o : Option (Reply V)) → ◌≡◌ {A = Option (MachineReply V)} (option_map as_told o) (Some reply.Remove) → o ≡ Some Removes
+  removed_by : (o : Option (Reply V)) → ◌≡◌ {A = Option (MachineReply V)} (option_map reply_to_machine o) (Some reply.Remove) → o ≡ Some Removes
   removed_by None e = absurd (cc e)
   removed_by (Some (Gives w)) e = absurd (cc e)
   removed_by (Some Removes) e = refl
@@ -40,7 +40,7 @@ module _ {V : Type 0} where
   removed_by (Some (Decides true)) e = absurd (cc e)
   removed_by (Some (Decides false)) e = absurd (cc e)
 
-  decided_by : (o : Option (Reply V)) → ◌≡◌ {A = Option (MachineReply V)} (option_map as_told o) (Some reply.Yes) → o ≡ Some (Decides true)
+  decided_by : (o : Option (Reply V)) → ◌≡◌ {A = Option (MachineReply V)} (option_map reply_to_machine o) (Some reply.Yes) → o ≡ Some (Decides true)
   decided_by None e = absurd (cc e)
   decided_by (Some (Gives w)) e = absurd (cc e)
   decided_by (Some Removes) e = absurd (cc e)
@@ -51,12 +51,12 @@ module _ {V : Type 0} where
 -- it was told last to remove this pair, if it asks
 abbrev pub ToRemove : {K V : Type 0} → ℕ → Given K V → Type 0
 ToRemove n (Begun kind pair) = Unit {0}
-ToRemove n (IsTold kind its asked) = (last_told (Some n) asked ≡ Some reply.Remove) ⊎ (last_told (Some n) asked ≡ Some reply.Yes)
+ToRemove n (IsTold kind its asked) = (last_reply (Some n) asked ≡ Some reply.Remove) ⊎ (last_reply (Some n) asked ≡ Some reply.Yes)
 
 -- the last reply about a pair is what the call was told last of it
 module _ {V : Type 0} (number : ℕ → ℕ) (stored : ℕ) (apart : (n o : ℕ) → n < stored → o < stored → number n ≡ number o → n ≡ o)
     (asked : List (Asked V)) (replies : List (Option ℕ × Reply V)) (are : AreReplies number stored asked replies) (n : ℕ) (l : n < stored) where
-  reply_is : last_told (Some n) asked ≡ option_map as_told (reply_to (Some (number n)) replies)
+  reply_is : last_reply (Some n) asked ≡ option_map reply_to_machine (reply_to (Some (number n)) replies)
   reply_is = told_as number stored apart (Some n) (Some (number n)) (l, refl) asked replies are
 
 module _ {K V : Type 0} (number : ℕ → ℕ) (stored : ℕ) (apart : (n o : ℕ) → n < stored → o < stored → number n ≡ number o → n ≡ o)
@@ -65,13 +65,13 @@ module _ {K V : Type 0} (number : ℕ → ℕ) (stored : ℕ) (apart : (n o : �
   abbrev pub TakesIt : OneKey K V → Type 0
   TakesIt one = (a : Response V) × (means one (reply_to (Some (number n)) replies) (Some (number n)) new ≡ Answers a Takes)
 
-  computed : (k : K) → AreTaken (Compute k) replies → (last_told (Some n) asked ≡ Some reply.Remove) ⊎ (last_told (Some n) asked ≡ Some reply.Yes) → TakesIt (Compute k)
+  computed : (k : K) → AreTaken (Compute k) replies → (last_reply (Some n) asked ≡ Some reply.Remove) ⊎ (last_reply (Some n) asked ≡ Some reply.Yes) → TakesIt (Compute k)
   computed k taken (inl told) =
       let is = removed_by (reply_to (Some (number n)) replies) (sym (reply_is number stored apart asked replies are n l) ∙ told) in
       (answer.Removed (number n), ap (λ (o : Option (Reply V)). means {K = K} (Compute k) o (Some (number n)) new) is)
   computed k taken (inr told) = absurd (taken (Some (number n)) (Decides true) (decided_by (reply_to (Some (number n)) replies) (sym (reply_is number stored apart asked replies are n l) ∙ told)))
 
-  chosen : (k : K) → AreTaken (RemoveIf k) replies → (last_told (Some n) asked ≡ Some reply.Remove) ⊎ (last_told (Some n) asked ≡ Some reply.Yes) → TakesIt (RemoveIf k)
+  chosen : (k : K) → AreTaken (RemoveIf k) replies → (last_reply (Some n) asked ≡ Some reply.Remove) ⊎ (last_reply (Some n) asked ≡ Some reply.Yes) → TakesIt (RemoveIf k)
   chosen k taken (inl told) = absurd (taken (Some (number n)) Removes (removed_by (reply_to (Some (number n)) replies) (sym (reply_is number stored apart asked replies are n l) ∙ told)))
   chosen k taken (inr told) =
       let is = decided_by (reply_to (Some (number n)) replies) (sym (reply_is number stored apart asked replies are n l) ∙ told) in

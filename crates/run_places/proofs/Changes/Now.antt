@@ -16,8 +16,8 @@ use Rattle.run_shows.specs.Given.CallersTogether.{UnderWay, Together}
 use Rattle.run_shows.proofs.Given.CallersAsked.OneCurrent.{one_current}
 use Rattle.run_shows.specs.Given.FinishesMaps.{Standing}
 use Rattle.run_shows.specs.Given.EffectsKnown.{Known}
-use Rattle.run_shows.specs.Follows.Blocks.{HasRole, ShowsBlocks}
-use Rattle.run_shows.specs.Follows.Maps.{ShowsPairs}
+use Rattle.run_shows.specs.Follows.Blocks.{HasRole, RefinesBlocks}
+use Rattle.run_shows.specs.Follows.Maps.{RefinesPairs}
 use Rattle.run_shows.proofs.Follows.Stored.{in_map_true}
 use Rattle.run_places.specs.Changes.Had.{Had, HadJust, HadThen}
 use Rattle.run_places.proofs.Changes.Found.{is_its, FoundIn, found}
@@ -26,7 +26,7 @@ use Rattle.run_shows.proofs.Given.General.{both_true}
 
 module _ {K V : Type 0} (same : K → K → Bool) (map : ℕ) (number : ℕ → ℕ) (s : Standing K) (m : Moment K V) (known : Known) (w : World (Node K V)) (calls : ℕ → Option (UnderWay K V K))
     (lawful : AreLawful same s.hash) (each : Together V same s.hash same s.setting slot_of w s.chart s.blocks s.sights calls)
-    (pairs : ShowsPairs map number s m known) (blocks : ShowsBlocks m known w) where
+    (pairs : RefinesPairs map number s m known) (blocks : RefinesBlocks m known w) where
   abbrev c : Chart K
   c = s.chart
 

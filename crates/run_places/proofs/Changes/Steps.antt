@@ -11,11 +11,11 @@ use Rattle.run_shows.specs.Given.SchedulesEffects.{with_effects}
 use Rattle.run_shows.specs.Given.SchedulesMoment.{UnderWay as CallThere, Moment}
 use Rattle.run_shows.specs.Given.SchedulesViews.{call_of, finite_map}
 use Rattle.run_shows.specs.Given.RuleChart.{Chart}
-use Rattle.run_shows.specs.Given.RuleInWorld.{IsMapIn, Went}
+use Rattle.run_shows.specs.Given.RuleInWorld.{IsMapIn, StepSpec}
 use Rattle.run_shows.specs.Given.RuleMoments.{Remembers}
 use Rattle.run_shows.specs.Given.RuleWords.{Blocks}
 use Rattle.run_shows.proofs.Given.PointsMovedLasts.{moved_lasts}
-use Rattle.run_shows.specs.Given.CallersSights.{Sight, seen_by}
+use Rattle.run_shows.specs.Given.CallersSights.{Visible, seen_by}
 use Rattle.run_shows.specs.Given.CallersTogether.{UnderWay, OnKey, ForRoom, Counting, OverAll, in_slot}
 use Rattle.run_shows.proofs.Given.CallersSights.Seen.{map_seen}
 use Rattle.run_shows.proofs.Given.CallersTogether.At.{at_same}
@@ -24,7 +24,7 @@ use Rattle.run_shows.specs.Given.FinishesMaps.{Standing, IsSameMap}
 use Rattle.run_shows.specs.Given.EffectsEffects.{effects_of, known_after}
 use Rattle.run_shows.specs.Given.EffectsKnown.{Known}
 use Rattle.run_shows.specs.Given.EffectsDeclared.acting.Acting.TheVariants as acts
-use Rattle.run_shows.specs.Follows.Shows.{Shows}
+use Rattle.run_shows.specs.Follows.Shows.{Refines}
 use Rattle.run_shows.proofs.Follows.Called.{key_goes_on, room_goes_on, sweep_goes_on, counting_goes_on}
 use Rattle.run_shows.proofs.Follows.RowSteps.{row_step_shown}
 use Rattle.run_shows.proofs.Follows.Steps.{WentTo, went_to, made_so, is_sight, DidSo, LeadsThere, step_shown}
@@ -32,11 +32,11 @@ use Rattle.run_places.proofs.Hands.AskedOn.{asked_on}
 use Rattle.run_places.proofs.Hands.Asking.{which}
 use Rattle.run_places.proofs.Hands.RowSteps.{rows_hand_theirs}
 use Rattle.run_places.proofs.Hands.Steps.{calls_store_theirs}
-use Rattle.run_places.specs.Moments.Whole.{ShowsWhole}
+use Rattle.run_places.specs.Moments.Whole.{RefinesWhole}
 use Rattle.run_places.proofs.Moments.Calls.{of_row}
 use Rattle.run_places.proofs.Moments.OnSlots.{stood_same}
 use Rattle.run_places.specs.Changes.Had.{HadThen}
-use Rattle.run_places.specs.Changes.Histories.{began_of, since, IsWithin, ShowsHistory}
+use Rattle.run_places.specs.Changes.Histories.{began_of, since, IsWithin, RefinesHistory}
 use Rattle.run_places.specs.Changes.Kept.{ChangesFirst}
 use Rattle.run_places.proofs.Changes.Begun.{effects_begun}
 use Rattle.run_places.proofs.Changes.Had.{had_on, had_at, had_one}
@@ -50,7 +50,7 @@ use Rattle.run_shows.specs.Given.SchedulesTransition.{Past}
 use Rattle.run_shows.proofs.Given.General.{same_some as one_of}
 
 module _ {K V : Type 0} (same : K → K → Bool) (hash : ℕ → K → ℕ) (name : ℕ → List ℕ) (m : Moment K V) (known : Known) (s : Scene K V) (old new : Held K V) (at : IsAt same hash old s)
-    (whole : ShowsWhole same name m known s) (shown : Shows same name m known s) (map i : ℕ) (u : UnderWay K V K) (here : s.calls map i ≡ Some u) (said : Progress (Node K V))
+    (whole : RefinesWhole same name m known s) (shown : Refines same name m known s) (map i : ℕ) (u : UnderWay K V K) (here : s.calls map i ≡ Some u) (said : Progress (Node K V))
     (leads : StepLeads same hash i said s old new) where
   abbrev pub to : WentTo same hash name m known s old new at shown map i u here said leads
   to = went_to same hash name m known s old new at shown map i u here said leads
@@ -72,7 +72,7 @@ module _ {K V : Type 0} (same : K → K → Bool) (hash : ℕ → K → ℕ) (na
   ]
 
   -- the tables of its map have come to these
-  pub moved_chart : (c2 : Chart K) (blocks2 : Blocks) (sights2 : ℕ → Sight) → to.4.maps2 ≡ with_at s.maps map (Some (record to.0 { chart = c2; blocks = blocks2; sights = sights2 }))
+  pub moved_chart : (c2 : Chart K) (blocks2 : Blocks) (sights2 : ℕ → Visible) → to.4.maps2 ≡ with_at s.maps map (Some (record to.0 { chart = c2; blocks = blocks2; sights = sights2 }))
       → (st : Standing K) → to.4.maps2 map ≡ Some st → st.chart ≡ c2
   moved_chart c2 blocks2 sights2 e st is =
       ap (λ (x : Standing K). x.chart)
@@ -86,7 +86,7 @@ module _ {K V : Type 0} (same : K → K → Bool) (hash : ℕ → K → ℕ) (na
       (is_sight same hash m known s old new at name shown map i to.0 to.2 (name i) (made_so same hash name m known s old new at shown map i u here said leads) inside)
 
   went_later : IsInside (s.world.uses (slot_of i)) → (Told : World (Node K V) → Chart K → Blocks → Type 0)
-      (went : Went same to.0.hash (in_slot to.0.setting (slot_of i)) i s.world to.0.chart (seen_by to.0.blocks (to.0.sights (slot_of i))) new.memory Told)
+      (went : StepSpec same to.0.hash (in_slot to.0.setting (slot_of i)) i s.world to.0.chart (seen_by to.0.blocks (to.0.sights (slot_of i))) new.memory Told)
       → Remembers (is_incremental to.0.setting.mode) to.0.chart went.c2 → IsLater to.0.chart went.c2
   went_later inside Told went remembers =
       moved_later same to.0.hash to.0.setting.mode to.0.chart went.c2 i went.moved
@@ -107,7 +107,7 @@ module _ {K V : Type 0} (same : K → K → Bool) (hash : ℕ → K → ℕ) (na
       Was : Type 0
       Was = (before : Standing K) × (s.maps n ≡ Some before) × IsLater before.chart st.chart
 
-      moved_on : n ≡ map → (c2 : Chart K) (blocks2 : Blocks) (sights2 : ℕ → Sight) → to.4.maps2 ≡ with_at s.maps map (Some (record to.0 { chart = c2; blocks = blocks2; sights = sights2 }))
+      moved_on : n ≡ map → (c2 : Chart K) (blocks2 : Blocks) (sights2 : ℕ → Visible) → to.4.maps2 ≡ with_at s.maps map (Some (record to.0 { chart = c2; blocks = blocks2; sights = sights2 }))
           → IsLater to.0.chart c2 → Was
       moved_on e c2 blocks2 sights2 maps_are later =
           (to.0, ap s.maps e ∙ to.2, subst (IsLater to.0.chart) (sym (moved_chart c2 blocks2 sights2 maps_are st (ap to.4.maps2 (sym e) ∙ is))) later)
@@ -179,7 +179,7 @@ module _ {K V : Type 0} (same : K → K → Bool) (hash : ℕ → K → ℕ) (na
       let it = stood_same (s.maps n) (to.4.maps2 n) (to.4.others n ne) st there in same_pairs n st there it.0 it.1 (ap (λ (c : Chart K). c.current) it.2) k
 
 module _ {K V : Type 0} (same : K → K → Bool) (hash : ℕ → K → ℕ) (name : ℕ → List ℕ) (log : Past K V) (m : Moment K V) (known : Known) (s : Scene K V) (old new : Held K V)
-    (at : IsAt same hash old s) (whole : ShowsWhole same name m known s) (history : ShowsHistory same name log m known s) (map i : ℕ) (u : UnderWay K V K) (here : s.calls map i ≡ Some u)
+    (at : IsAt same hash old s) (whole : RefinesWhole same name m known s) (history : RefinesHistory same name log m known s) (map i : ℕ) (u : UnderWay K V K) (here : s.calls map i ≡ Some u)
     (said : Progress (Node K V)) (leads : StepLeads same hash i said s old new) where
   abbrev pub then_shown : LeadsThere same hash name m known s old new at history.shown map i u here said leads
   then_shown = led_on same hash name m known s old new at whole history.shown map i u here said leads
@@ -219,7 +219,7 @@ module _ {K V : Type 0} (same : K → K → Bool) (hash : ℕ → K → ℕ) (na
         (history.begun n j was.0 was.1 was.3 was.4) (changes_then n st there) (now_then same hash name m known s old new at whole history.shown map i u here said leads n st there) began
         (history.within n j was.0 was.1 before.0 before.1 was.3 was.4 began (sym was.2 ∙ began_is)))
 
-    abbrev pub step_history : ShowsHistory same name log v2 (after same hash name m known s old new at whole history.shown map i u here said leads) scene2
+    abbrev pub step_history : RefinesHistory same name log v2 (after same hash name m known s old new at whole history.shown map i u here said leads) scene2
     step_history = record {
       past = history.past;
       shown = then_shown.shows;

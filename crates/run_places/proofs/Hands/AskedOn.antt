@@ -12,9 +12,9 @@ use Rattle.run_shows.specs.Given.EffectsEffects.{effects_of, known_after}
 use Rattle.run_shows.specs.Given.EffectsKnown.{Known}
 use Rattle.run_shows.specs.Given.EffectsDeclared.acting.Acting.TheVariants as acts
 use Rattle.run_shows.specs.Given.FinishesMaps.{Standing}
-use Rattle.run_shows.specs.Follows.Shows.{Shows}
+use Rattle.run_shows.specs.Follows.Shows.{Refines}
 use Rattle.run_shows.proofs.Follows.Steps.{WentTo, went_to, LeadsThere}
-use Rattle.run_places.specs.Hands.Asked.{IsAsked, ShowsAsked}
+use Rattle.run_places.specs.Hands.Asked.{IsAsked, RefinesAsked}
 use Rattle.run_places.proofs.Hands.Asking.{asked_kept, own_asked, which}
 use Rattle.run_places.proofs.Hands.Replacing.{all_settle, calls_after, replaces_none}
 use Rattle.run_shows.specs.Scenes.Held.{Held, IsAt}
@@ -23,8 +23,8 @@ use Rattle.run_shows.specs.Scenes.Stepping.{StepLeads, scene_after}
 use Rattle.run_shows.proofs.Given.General.{same_some as one_of}
 
 module _ {K V : Type 0} (same : K → K → Bool) (hash : ℕ → K → ℕ) (name : ℕ → List ℕ) (m : Moment K V) (known : Known) (s : Scene K V) (old new : Held K V) (at : IsAt same hash old s)
-    (shown : Shows same name m known s) (map i : ℕ) (u : UnderWay K V K) (here : s.calls map i ≡ Some u) (told : Progress (Node K V)) (leads : StepLeads same hash i told s old new)
-    (asked : ShowsAsked name shown.number m known s) (on : LeadsThere same hash name m known s old new at shown map i u here told leads) where
+    (shown : Refines same name m known s) (map i : ℕ) (u : UnderWay K V K) (here : s.calls map i ≡ Some u) (told : Progress (Node K V)) (leads : StepLeads same hash i told s old new)
+    (asked : RefinesAsked name shown.number m known s) (on : LeadsThere same hash name m known s old new at shown map i u here told leads) where
   abbrev effects : List Effect
   effects = effects_of (acts.Call i map) known new.changed
 
@@ -79,7 +79,7 @@ module _ {K V : Type 0} (same : K → K → Bool) (hash : ℕ → K → ℕ) (na
           (asked_kept known after on.keeps (shown.number n) (on.shows.number n) before.chart.stored stood.0.chart.stored stood.2.stored (on.numbers n before stands) x was.0 now.0 now.2.0
           (replaces_none (name i) map (name j) effects was.0 now.0 (all_settle i map known new.changed) now.2) (asked.each n j x is before stands was.0 was.1)))
 
-  pub asked_on : ShowsAsked name on.shows.number v after s2
+  pub asked_on : RefinesAsked name on.shows.number v after s2
   asked_on = record {
     apart = λ n j k l x y is is2 names. asked.apart n j k l (before n j x is).0 (before k l y is2).0 (before n j x is).1 (before k l y is2).1 names;
     each = λ n j x is st there c found. elim (which s.calls map i to.4.next n j x is) as (λ _. IsAsked (on.shows.number n) st.chart.stored after x c) [

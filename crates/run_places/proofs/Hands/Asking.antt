@@ -22,12 +22,12 @@ use Rattle.run_shows.specs.Given.RunsDeclared.call.Call.TheVariants as call
 use Rattle.run_shows.specs.Given.RunsDeclared.call.OneKey.{OneKey}
 use Rattle.run_shows.specs.Given.RunsDeclared.call.Reply.{Reply}
 use Rattle.run_shows.specs.Given.SchedulesMoment.{UnderWay as CallThere}
-use Rattle.run_shows.specs.Given.TellerTells.{StepsTold}
+use Rattle.run_shows.specs.Given.TellerTells.{StepsObserved}
 use Rattle.run_shows.specs.Given.EffectsDeclared.changed.Changed.TheVariants.{Nothing}
 use Rattle.run_shows.specs.Given.PointsFactsCalls.{Change}
 use Rattle.run_shows.specs.Given.CallersAsked.{Asked}
 use Rattle.run_shows.specs.Given.CallersOverAll.{come_to, gone_on}
-use Rattle.run_shows.specs.Given.CallersTogether.{CallOnKey, UnderWay, OnKey, ForRoom, Counting, OverAll, next_of, change_told}
+use Rattle.run_shows.specs.Given.CallersTogether.{CallOnKey, UnderWay, OnKey, ForRoom, Counting, OverAll, next_of, change_observed}
 use Rattle.run_shows.proofs.Given.CallersTogether.At.{at_other, at_same}
 use Rattle.run_shows.specs.Given.EffectsKnown.{Known}
 use Rattle.run_shows.specs.Given.FinishesEndings.{Finishing}
@@ -106,7 +106,7 @@ module _ (known known2 : Known) (keeps : KeepsRoles known known2) where
 module _ {K V : Type 0} (same : K → K → Bool) (hash : K → ℕ) (old new : Held K V) (machine : Machine K V K) (told : Progress (Node K V)) (p : KeyCall K V K) where
   abbrev StepsAt : Calling → Type 0
   StepsAt stands =
-      StepsTold K V (Machine K V K × Progress (Node K V)) old.memory Nothing (plan_as called (plan_at same same hash p stands)) new.memory new.changed (machine, told)
+      StepsObserved K V (Machine K V K × Progress (Node K V)) old.memory Nothing (plan_as called (plan_at same same hash p stands)) new.memory new.changed (machine, told)
 
   asks_on : (known : Known) (it : AskingAt) (q : Option ℕ) → IsQuestion known it q → StepsAt (at.Asks it) → machine ≡ kinds.Key p
   asks_on known (asking.Absent gap) q is steps = ap (λ (x : Machine K V K × Progress (Node K V)). x.0) steps.1
@@ -144,7 +144,7 @@ module _ {K V : Type 0} (same : K → K → Bool) (batch_size roots : ℕ) (w : 
   pub own_asked : (u : UnderWay K V K) → StepsFrom same s.hash (machine_of u) old new machine told → Did same batch_size roots w maps calls makers enders m s i new.memory w2 maps2 next u machine told
       → IsAsked number stored known u c → IsAsked number2 stored2 known2 x d
   own_asked (OnKey u) steps (p2, end, machine_is, told_is, inl (to, moved)) h =
-      on_key u (change_told V same s.hash same s.setting slot_of to.step.went.told) p2 end moved.2 machine_is steps h
+      on_key u (change_observed V same s.hash same s.setting slot_of to.step.went.told) p2 end moved.2 machine_is steps h
   own_asked (OnKey u) steps (p2, end, machine_is, told_is, inr (to, stayed)) h = on_key u u.change p2 end stayed.2 machine_is steps h
   own_asked (ForRoom r) steps (p2, end, machine_is, told_is, inl (to, moved)) h = as_one (ForRoom (record { began = r.began; reserve = p2 })) (room_goes_on (record { began = r.began; reserve = p2 }) end x (sym moved.2 ∙ goes_on)) tt
   own_asked (ForRoom r) steps (p2, end, machine_is, told_is, inr (to, stayed)) h = as_one (ForRoom (record { began = r.began; reserve = p2 })) (room_goes_on (record { began = r.began; reserve = p2 }) end x (sym stayed.2 ∙ goes_on)) tt

@@ -10,16 +10,16 @@ use Rattle.run_shows.specs.Given.RunsDeclared.outcome.Outcome.TheVariants as out
 use Rattle.run_shows.specs.Given.SchedulesAfter.{asks_on, without_call}
 use Rattle.run_shows.specs.Given.SchedulesBeginning.{fresh_call, with_call}
 use Rattle.run_shows.specs.Given.SchedulesEntry.{ends_call}
-use Rattle.run_shows.specs.Given.SchedulesMoment.{Stands, Going, Asking, Told, IsReady, UnderWay as CallThere, Moment}
+use Rattle.run_shows.specs.Given.SchedulesMoment.{CallState, Going, Asking, Told, IsReady, UnderWay as CallThere, Moment}
 use Rattle.run_shows.specs.Given.SchedulesViews.{call_of}
 use Rattle.run_shows.specs.Given.CallersTogether.{CallOnKey, UnderWay, OnKey, ForRoom, Counting, OverAll}
 use Rattle.run_shows.specs.Given.EffectsKnown.{Known}
 use Rattle.run_shows.specs.Given.FinishesMaps.{Standing, with_call as with_in}
 use Rattle.run_shows.specs.Follows.Calling.{NoneNamed, come_to}
-use Rattle.run_shows.specs.Follows.Shows.{Shows}
+use Rattle.run_shows.specs.Follows.Shows.{Refines}
 use Rattle.run_shows.proofs.Follows.Calling.{is_same_refl, is_same_is, apart_back, found_passes, found_kept, begins_with, come, come_of_same, come_with}
 use Rattle.run_shows.proofs.Follows.Calls.{changed, found}
-use Rattle.run_places.specs.Hands.Asked.{AreReplies, AsksThere, IsAskedOn, IsAskedAs, IsAsked, ShowsAsked}
+use Rattle.run_places.specs.Hands.Asked.{AreReplies, AsksThere, IsAskedOn, IsAskedAs, IsAsked, RefinesAsked}
 use Rattle.run_places.specs.Hands.Calling.{IsBegunFor, AsksJust, CallsBeginFor, CallsComeToSo}
 use Rattle.run_places.proofs.Hands.Asking.{which}
 use Rattle.run_places.proofs.Hands.RowsOn.{rows_with}
@@ -66,7 +66,7 @@ module _ {K V : Type 0} (number : ℕ → ℕ) (stored : ℕ) (known : Known) wh
     pub stands_asked : IsAsked number stored known (OnKey u) c → IsAsked number stored known (OnKey u) d
     stands_asked h = subst (λ (x : Call K V). IsAskedAs number stored known u x d) (sym its) (as_stands c.call h)
 
-  asking_asked : (u : CallOnKey K V K) (question : Option ℕ) (c : CallThere K V) (stands : Stands) → c.stands ≡ stands → AsksThere known u.call.stands question → IsAsked number stored known (OnKey u) c
+  asking_asked : (u : CallOnKey K V K) (question : Option ℕ) (c : CallThere K V) (stands : CallState) → c.stands ≡ stands → AsksThere known u.call.stands question → IsAsked number stored known (OnKey u) c
       → IsAsked number stored known (OnKey u) (asks_on question c stands)
   asking_asked u question c (Asking q) is just h = h
   asking_asked u question c Going is just h =
@@ -103,9 +103,9 @@ module _ {K V : Type 0} (number : ℕ → ℕ) (stored : ℕ) (known : Known) wh
 pub caller_is : {K V : Type 0} (name : List ℕ) (m : Moment K V) (c : CallThere K V) → call_of name m ≡ Some c → c.caller ≡ name
 caller_is name m c is = is_same_is c.caller name (found_passes (λ x. is_same x.caller name) (λ x. true) m.calls c is)
 
-module _ {K V : Type 0} (same : K → K → Bool) (name : ℕ → List ℕ) (m : Moment K V) (known : Known) (s : Scene K V) (shown : Shows same name m known s) (asked : ShowsAsked name shown.number m known s) where
+module _ {K V : Type 0} (same : K → K → Bool) (name : ℕ → List ℕ) (m : Moment K V) (known : Known) (s : Scene K V) (shown : Refines same name m known s) (asked : RefinesAsked name shown.number m known s) where
   pub begins_asked : (of i : ℕ) (u : UnderWay K V K) (its : Call K V) (guard : List ℕ) → NoneNamed name (name i) s → IsBegunFor u its
-      → ShowsAsked name shown.number (with_call (name i) guard its (Some of) m) known (record s { calls = with_in s.calls of i (Some u) })
+      → RefinesAsked name shown.number (with_call (name i) guard its (Some of) m) known (record s { calls = with_in s.calls of i (Some u) })
   begins_asked of i u its guard apart begun = record {
     apart = λ n j k l x y is is2 names. two n j k l x y (which s.calls of i (Some u) n j x is) (which s.calls of i (Some u) k l y is2) names;
     each = λ n j x is st there c found. one n j x st there c found (which s.calls of i (Some u) n j x is);
@@ -135,7 +135,7 @@ module _ {K V : Type 0} (same : K → K → Bool) (name : ℕ → List ℕ) (m :
           asked.each n j x a.1 st there c (sym (ap (λ z. cond z (Some fresh) (find (λ y. is_same y.caller (name j)) m.calls)) (apart n j x a.1)) ∙ is)
 
   pub come_asked : (own : List ℕ) (o : Outcome V) (steps : ℕ) → (ends_call o ≡ true → NoneNamed name own s)
-      → ((n j : ℕ) (x : UnderWay K V K) → s.calls n j ≡ Some x → is_same (name j) own ≡ true → AsksJust known x o) → ShowsAsked name shown.number (come_to own o steps m) known s
+      → ((n j : ℕ) (x : UnderWay K V K) → s.calls n j ≡ Some x → is_same (name j) own ≡ true → AsksJust known x o) → RefinesAsked name shown.number (come_to own o steps m) known s
   come_asked own o steps ended just = record { apart = asked.apart; each = λ n j x is st there c found. one n j x is st there c (ends_call o) refl found }
     where
       -- its call was one before, and is kept where that has not ended
@@ -167,7 +167,7 @@ module _ (K V : Type 0) (same : K → K → Bool) where
       let b = begins_with same name m known s all.shown of i u its guard apart called in
       record {
         shown = b.0;
-        asked = subst (λ (f : ℕ → ℕ → ℕ). ShowsAsked name f (with_call (name i) guard its (Some of) m) known (record s { calls = with_in s.calls of i (Some u) })) (sym b.1)
+        asked = subst (λ (f : ℕ → ℕ → ℕ). RefinesAsked name f (with_call (name i) guard its (Some of) m) known (record s { calls = with_in s.calls of i (Some u) })) (sym b.1)
             (begins_asked same name m known s all.shown all.asked of i u its guard apart begun);
         hands = hands_with m known s (with_call (name i) guard its (Some of) m).calls (with_in s.calls of i (Some u)) all.hands;
         rows = rows_with s of i u all.rows (subst ReclaimsNone (sym rests) tt, subst (KeepsOne (HoldsOne s.world (slot_of i))) (sym rests) tt);
@@ -178,7 +178,7 @@ module _ (K V : Type 0) (same : K → K → Bool) where
       let b = come_with same name m known s all.shown own o steps ended in
       record {
         shown = b.0;
-        asked = subst (λ (f : ℕ → ℕ → ℕ). ShowsAsked name f (come_to own o steps m) known s) (sym b.1) (come_asked same name m known s all.shown all.asked own o steps ended just);
+        asked = subst (λ (f : ℕ → ℕ → ℕ). RefinesAsked name f (come_to own o steps m) known s) (sym b.1) (come_asked same name m known s all.shown all.asked own o steps ended just);
         hands = hands_with m known s (come_to own o steps m).calls s.calls all.hands;
         rows = all.rows;
       }

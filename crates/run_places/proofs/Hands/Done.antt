@@ -16,12 +16,12 @@ use Rattle.run_shows.specs.Given.RawDeclared.machines.call.Calling.TheVariants a
 use Rattle.run_shows.specs.Given.LateKinds as kinds
 use Rattle.run_shows.specs.Given.RuleChart.{Still, Chart}
 use Rattle.run_shows.specs.Given.RuleWords.{Blocks, byte_of, mark_bits}
-use Rattle.run_shows.specs.Given.PointsFactsCalls.{Change, Unchanged, Stored, Replaced, Removed, Seeks, CallingFacts, Tells}
+use Rattle.run_shows.specs.Given.PointsFactsCalls.{Change, Unchanged, Stored, Replaced, Removed, Seeks, CallingFacts, AnswersChange}
 use Rattle.run_shows.specs.Given.CallersKind.{Kind}
 use Rattle.run_shows.specs.Given.CallersPairs.{Given, Begun, IsTold, kind_of, StoresGiven, KeepsGiven}
 use Rattle.run_shows.specs.Given.CallersRows.{once_over}
-use Rattle.run_shows.specs.Given.CallersSights.{Sight, seen_by}
-use Rattle.run_shows.specs.Given.CallersTogether.{CallOnKey, UnderWay, OnKey, in_slot, Knows, Stands, change_told, AnswersOnce, StepsTogether}
+use Rattle.run_shows.specs.Given.CallersSights.{Visible, seen_by}
+use Rattle.run_shows.specs.Given.CallersTogether.{CallOnKey, UnderWay, OnKey, in_slot, Knows, IsAtPoint, change_observed, AnswersOnce, StepsTogether}
 use Rattle.run_shows.proofs.Given.CallersTogether.At.{at_same}
 use Rattle.run_places.proofs.Hands.Puts.{MayDo}
 
@@ -36,7 +36,7 @@ module _ {K V Q : Type 0} (same : K → K → Bool) (hash : K → ℕ) (asks : Q
       ⊎ ((blocks : Blocks) × (blocks.pair n ≡ b) × MayDo (kind_of u.pair) change × StoresGiven hash w.memory c blocks u.pair change)
 
   tells_kind : (w : World (Node K V)) (c : Chart K) (seen : Blocks) (kind : Kind) (x : Change) (answer : KeyAnswer) → kinds.Fits kind.present kind.absent kind.takes answer
-      → Tells same hash asks w i (in_slot setting (slot i)) c seen u.keys change x answer → MayDo kind x
+      → AnswersChange same hash asks w i (in_slot setting (slot i)) c seen u.keys change x answer → MayDo kind x
   tells_kind w c seen kind Unchanged answer fits tells = tt
   tells_kind w c seen kind (Removed n) (answers.Removed word) fits tells = fits
   tells_kind w c seen kind (Removed n) (answers.Found word) fits tells = absurd tells
@@ -105,13 +105,13 @@ module _ {K V Q : Type 0} (same : K → K → Bool) (hash : K → ℕ) (asks : Q
       ]
 
 module _ {K V Q : Type 0} (same : K → K → Bool) (hash : K → ℕ) (asks : Q → K → Bool) (setting : Setting) (slot : ℕ → ℕ) (w : World (Node K V)) (c : Chart K) (blocks : Blocks)
-    (sights : ℕ → Sight) (calls : ℕ → Option (UnderWay K V Q)) (i : ℕ) (u : CallOnKey K V Q) (m2 : Mem (Node K V)) (p2 : KeyCall K V Q) where
+    (sights : ℕ → Visible) (calls : ℕ → Option (UnderWay K V Q)) (i : ℕ) (u : CallOnKey K V Q) (m2 : Mem (Node K V)) (p2 : KeyCall K V Q) where
   abbrev Step : Called (Node K V) → Type 0
   Step progress = StepsTogether V same hash asks setting slot w c blocks sights calls i u m2 p2 progress
 
   -- the call after its step
   abbrev pub stepped : (progress : Called (Node K V)) → Step progress → CallOnKey K V Q
-  stepped progress step = record { keys = u.keys; pair = u.pair; began = u.began; change = change_told V same hash asks setting slot step.went.told; call = p2 }
+  stepped progress step = record { keys = u.keys; pair = u.pair; began = u.began; change = change_observed V same hash asks setting slot step.went.told; call = p2 }
 
   abbrev pub HasDoneSo : (progress : Called (Node K V)) → Step progress → Type 0
   HasDoneSo progress step = HasDone same hash asks setting slot i (stepped progress step) step.went.w2 step.went.c2 c.stored (step.went.blocks2.pair c.stored)
@@ -130,7 +130,7 @@ module _ {K V Q : Type 0} (same : K → K → Bool) (hash : K → ℕ) (asks : Q
     have_blocks : IsInside (step.went.w2.uses (slot i)) → (n : ℕ) → n < step.went.c2.stored → seen.pair_known n ≡ true → 0 < seen.pair n
     have_blocks inside n l known = let ground = step.together.ground in (ground.map.map.shows.pair_numbers n l ((ground.sight (slot i) inside).0.pairs n l known)).0
 
-    goes_on : IsInside (step.went.w2.uses (slot i)) → Stands V same hash asks setting slot step.went.w2 step.went.c2 seen i (OnKey (stepped progress step)) → HasDoneSo progress step
+    goes_on : IsInside (step.went.w2.uses (slot i)) → IsAtPoint V same hash asks setting slot step.went.w2 step.went.c2 seen i (OnKey (stepped progress step)) → HasDoneSo progress step
     goes_on is stands = elim stands as (λ _. HasDoneSo progress step) [
       | inl k ↦ from_held (held same hash asks setting slot i (stepped progress step) step.went.w2 step.went.c2 seen p2 (have_blocks is) k.1)
       | inr k ↦ from_held (held same hash asks setting slot i (stepped progress step) step.went.w2 step.went.c2 seen (once_over p2) (have_blocks is) k.2)

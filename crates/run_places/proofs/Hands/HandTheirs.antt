@@ -43,7 +43,7 @@ use Rattle.run_shows.specs.Given.EffectsDeclared.role.Role.{Role}
 use Rattle.run_shows.specs.Given.EffectsDeclared.role.Role.TheVariants as role
 use Rattle.run_shows.specs.Follows.Steps.{HandTheirs}
 use Rattle.run_shows.proofs.Follows.Operations.{LeavesBy}
-use Rattle.run_places.specs.Hands.Hands.{IsInUse, ShowsHands}
+use Rattle.run_places.specs.Hands.Hands.{IsInUse, RefinesHands}
 use Rattle.run_places.proofs.Hands.Handing.{IsHanding, IsHandingRow, HandsOne, row_hands}
 use Rattle.run_shows.specs.Scenes.Scene.{Scene}
 
@@ -156,7 +156,7 @@ module _ {K V : Type 0} (setting : Setting) (i : ℕ) (w w2 : World (Node K V)) 
   used_on (inr (request, begun, over, begins, step)) used =
       used_by begun (came_next setting.batch_size w begun (Begin i request) came begins) step ((begun_so setting i w w2 came begun request over begins).used b used)
 
-module _ {K V : Type 0} (name : List ℕ) (caller map : ℕ) (m : Moment K V) (known : Known) (s : Scene K V) (hands : ShowsHands m known s) where
+module _ {K V : Type 0} (name : List ℕ) (caller map : ℕ) (m : Moment K V) (known : Known) (s : Scene K V) (hands : RefinesHands m known s) where
   abbrev its : Acting
   its = acts.Call caller map
 

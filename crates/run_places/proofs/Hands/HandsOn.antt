@@ -12,10 +12,10 @@ use Rattle.run_shows.specs.Given.CallersTogether.{UnderWay}
 use Rattle.run_shows.specs.Given.EffectsKnown.{Known}
 use Rattle.run_shows.specs.Given.EffectsDeclared.role.Role.TheVariants as role
 use Rattle.run_shows.specs.Given.FinishesMaps.{Standing}
-use Rattle.run_shows.specs.Follows.Shows.{Shows}
+use Rattle.run_shows.specs.Follows.Shows.{Refines}
 use Rattle.run_shows.proofs.Follows.Going.{ComesToBe, ShowsOn}
 use Rattle.run_shows.proofs.Follows.Onward.{IsOfMap}
-use Rattle.run_places.specs.Hands.Hands.{IsInUse, ShowsHands}
+use Rattle.run_places.specs.Hands.Hands.{IsInUse, RefinesHands}
 use Rattle.run_shows.specs.Scenes.Held.{Held, IsAt}
 use Rattle.run_shows.specs.Scenes.Scene.{Scene}
 use Rattle.run_shows.proofs.Given.General.{same_some as one_of}
@@ -37,11 +37,11 @@ in_one Left e = absurd (cc e)
 in_one GivenBack e = absurd (cc e)
 
 -- so it is where nothing but calls has changed
-pub hands_with : {K V : Type 0} (m : Moment K V) (known : Known) (s : Scene K V) (calls : List (CallThere K V)) (calls2 : ℕ → ℕ → Option (UnderWay K V K)) → ShowsHands m known s
-    → ShowsHands (record m { calls = calls }) known (record s { calls = calls2 })
+pub hands_with : {K V : Type 0} (m : Moment K V) (known : Known) (s : Scene K V) (calls : List (CallThere K V)) (calls2 : ℕ → ℕ → Option (UnderWay K V K)) → RefinesHands m known s
+    → RefinesHands (record m { calls = calls }) known (record s { calls = calls2 })
 hands_with m known s calls calls2 h = record { pairs = h.pairs; tables = h.tables; born = h.born; stand = h.stand }
 
-module _ {K V : Type 0} (same : K → K → Bool) (hash : ℕ → K → ℕ) (name : ℕ → List ℕ) (m : Moment K V) (known : Known) (s : Scene K V) (shown : Shows same name m known s) (hands : ShowsHands m known s)
+module _ {K V : Type 0} (same : K → K → Bool) (hash : ℕ → K → ℕ) (name : ℕ → List ℕ) (m : Moment K V) (known : Known) (s : Scene K V) (shown : Refines same name m known s) (hands : RefinesHands m known s)
     (m2 : Moment K V) (known2 : Known) (s2 : Scene K V) (on : ShowsOn same name m known s shown m2 known2 s2) (new : Held K V) (at : IsAt same hash new s2)
     (pairs : (b n map : ℕ) → known.roles b ≡ role.Pair n → m.place n ≡ InMap map → s.maps map ≡ None → IsInUse (s.world.hand b) → IsInUse (s2.world.hand b))
     (tables : (b len : ℕ) (t : TableId) → known.roles b ≡ role.Table t len → s.maps t.map ≡ None → IsInUse (s.world.hand b) → IsInUse (s2.world.hand b)) where
@@ -145,7 +145,7 @@ module _ {K V : Type 0} (same : K → K → Bool) (hash : ℕ → K → ℕ) (na
           let few = was.0 in let more = alike.stored in
           (omega (arith, few, more), alike.born n was.0 ∙ was.1)
 
-  pub hands_on : ShowsHands m2 known2 s2
+  pub hands_on : RefinesHands m2 known2 s2
   hands_on = record {
     pairs = λ b n is there. (let it = in_one (m2.place n) there in pair_on b n it.0 is it.1);
     tables = table_on;

@@ -15,7 +15,7 @@ use Rattle.run_shows.proofs.Given.CallersTogether.Users.{events_rows}
 use Rattle.run_shows.specs.Given.FinishesFactsEnds.{Deed, events_of, taken_by}
 use Rattle.run_shows.specs.Given.FinishesMaps.{with_call}
 use Rattle.run_places.specs.Hands.Others.{RowsBeginAside, RowsGoAside, MakingsGoAside, EndingsBeginAside, EndingsGoAside, CallsGoAside}
-use Rattle.run_places.specs.Hands.Rows.{ReclaimsNone, HoldsOne, KeepsOne, ShowsRows}
+use Rattle.run_places.specs.Hands.Rows.{ReclaimsNone, HoldsOne, KeepsOne, RowsReclaimNone}
 use Rattle.run_places.proofs.Hands.Asking.{which}
 use Rattle.run_shows.proofs.Scenes.Between.{deed_between}
 use Rattle.run_places.proofs.Hands.Guarded.{IsInStill, in_at_first, all_between_in, one_of_still, there_still, step_keeps_one, begin_keeps_one, runs_keep_one}
@@ -27,7 +27,7 @@ use Rattle.run_shows.specs.Scenes.Rows.{request_of}
 use Rattle.run_shows.specs.Scenes.Scene.{HasNoCall, Scene, slot_of}
 use Rattle.run_shows.proofs.Scenes.NoCall.{no_call}
 
-module _ {K V : Type 0} (s : Scene K V) (rows : ShowsRows s) (w2 : World (Node K V)) where
+module _ {K V : Type 0} (s : Scene K V) (rows : RowsReclaimNone s) (w2 : World (Node K V)) where
   -- the row of a call that is under way is as it was, and keeps its block of a batch
   abbrev IsSameRow : ℕ → Type 0
   IsSameRow j = (w2.row j ≡ s.world.row j) × KeepsOne (HoldsOne w2 (slot_of j)) (s.world.row j)
@@ -39,7 +39,7 @@ module _ {K V : Type 0} (s : Scene K V) (rows : ShowsRows s) (w2 : World (Node K
   )
 
   -- so they reclaim nothing still
-  rows_still : (rest : Scene K V) → rest.calls ≡ s.calls → rest.world ≡ w2 → ((n j : ℕ) (x : UnderWay K V K) → s.calls n j ≡ Some x → IsSameRow j) → ShowsRows rest
+  rows_still : (rest : Scene K V) → rest.calls ≡ s.calls → rest.world ≡ w2 → ((n j : ℕ) (x : UnderWay K V K) → s.calls n j ≡ Some x → IsSameRow j) → RowsReclaimNone rest
   rows_still rest calls world each = record { none = λ n j x is. (so n j x is).0; one = λ n j x is. (so n j x is).1 }
     where
       so : (n j : ℕ) (x : UnderWay K V K) → rest.calls n j ≡ Some x → RowSo rest.world j

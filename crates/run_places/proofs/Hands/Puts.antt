@@ -15,7 +15,7 @@ use Rattle.run_shows.specs.Given.LateKinds.{MayPut, MayReplace, MayRemove}
 use Rattle.run_shows.specs.Given.PointsFactsCalls.{Change, Stored, Replaced, Removed}
 use Rattle.run_shows.specs.Given.RuleChart.{Chart}
 use Rattle.run_shows.specs.Given.RuleWords.{Blocks}
-use Rattle.run_shows.specs.Given.CallersAsked.{Asked, last_told, told_before}
+use Rattle.run_shows.specs.Given.CallersAsked.{Asked, last_reply, replies_before}
 use Rattle.run_shows.specs.Given.CallersKind.{Kind}
 use Rattle.run_shows.specs.Given.CallersPairs.{kind_of, StoresGiven}
 use Rattle.run_places.specs.Hands.Asked.{given_by, KnowsFirst, IsSameQuestion, AreReplies}
@@ -51,10 +51,10 @@ module _ {K V : Type 0} where
   module _ (hash : K → ℕ) (number : ℕ → ℕ) (stored : ℕ) (apart : (n o : ℕ) → n < stored → o < stored → number n ≡ number o → n ≡ o) (m : Mem (Node K V)) (c : Chart K) (blocks : Blocks)
       (asked : List (Asked V)) (replies : List (Option ℕ × Reply V)) (are : AreReplies number stored asked replies) (new : ℕ) where
     -- it was told last to store this
-    reply_is : (q k : Option ℕ) (v : V) → IsSameQuestion number stored q k → last_told q asked ≡ Some (reply.Insert v) → reply_to k replies ≡ Some (Gives v)
+    reply_is : (q k : Option ℕ) (v : V) → IsSameQuestion number stored q k → last_reply q asked ≡ Some (reply.Insert v) → reply_to k replies ≡ Some (Gives v)
     reply_is q k v same told = gave (reply_to k replies) v (sym (told_as number stored apart q k same asked replies are) ∙ told)
 
-    pub puts_new : (one : OneKey K V) → (KnowsFirst one → last_told None asked ≡ None) → (n : ℕ) → MayDo (kind_of (given_by one asked)) (Stored n) → StoresGiven hash m c blocks (given_by one asked) (Stored n)
+    pub puts_new : (one : OneKey K V) → (KnowsFirst one → last_reply None asked ≡ None) → (n : ℕ) → MayDo (kind_of (given_by one asked)) (Stored n) → StoresGiven hash m c blocks (given_by one asked) (Stored n)
         → PutsThere one replies None new m (blocks.pair n)
     puts_new (Get k) first n (inl may) has = absurd (cc may)
     puts_new (Get k) first n (inr may) has = absurd (cc may)
@@ -72,7 +72,7 @@ module _ {K V : Type 0} where
     puts_new (Update k) first n (inl may) has = absurd (cc may)
     puts_new (Update k) first n (inr may) has = absurd (cc may)
     puts_new (UpdateOrInsert k v) first n may (there, (key, value, is, its, told)) =
-        let known : last_told None (asked ++ told_before (Some v)) ≡ Some (reply.Insert v) = told_first None asked (told_before (Some v)) (first tt) in
+        let known : last_reply None (asked ++ replies_before (Some v)) ≡ Some (reply.Insert v) = told_first None asked (replies_before (Some v)) (first tt) in
         let same : value ≡ v = cc (known, told) in
         (v, refl, some_pair k key v m (blocks.pair n) its (is ∙ ap (λ (x : V). Some (node.Pair key x)) same))
     puts_new (UpdateOrInsertWith k) first n may (there, (key, value, is, its, told)) =
@@ -87,8 +87,8 @@ module _ {K V : Type 0} where
     puts_new (RemoveIf k) first n (inr may) has = absurd (cc may)
 
     -- what was told about a pair was told since it began
-    since_it : (o : ℕ) (v w : V) → last_told (Some o) (asked ++ told_before (Some v)) ≡ Some (reply.Insert w) → last_told (Some o) asked ≡ Some (reply.Insert w)
-    since_it o v w told = sym (told_since (Some o) asked (told_before (Some v)) refl) ∙ told
+    since_it : (o : ℕ) (v w : V) → last_reply (Some o) (asked ++ replies_before (Some v)) ≡ Some (reply.Insert w) → last_reply (Some o) asked ≡ Some (reply.Insert w)
+    since_it o v w told = sym (told_since (Some o) asked (replies_before (Some v)) refl) ∙ told
 
     pub puts_over : (one : OneKey K V) (o n : ℕ) → o < stored → MayDo (kind_of (given_by one asked)) (Replaced o n) → StoresGiven hash m c blocks (given_by one asked) (Replaced o n)
         → PutsThere one replies (Some (number o)) new m (blocks.pair n)

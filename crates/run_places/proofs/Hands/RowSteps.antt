@@ -13,15 +13,15 @@ use Rattle.run_shows.specs.Given.EffectsKnown.{Known}
 use Rattle.run_shows.specs.Given.EffectsDeclared.acting.Acting.TheVariants as acts
 use Rattle.run_shows.specs.Given.EffectsDeclared.role.Role.TheVariants as role
 use Rattle.run_shows.specs.Follows.Blocks.{HasRole}
-use Rattle.run_shows.specs.Follows.Shows.{Shows}
+use Rattle.run_shows.specs.Follows.Shows.{Refines}
 use Rattle.run_shows.specs.Follows.Steps.{HandTheirs, TakesNone}
 use Rattle.run_shows.proofs.Follows.Onward.{IsLasting}
 use Rattle.run_shows.proofs.Follows.Operations.{LeavesBy, operated_leaves}
 use Rattle.run_shows.proofs.Follows.RowSteps.{row_step_shown}
 use Rattle.run_shows.proofs.Follows.Steps.{WentTo, went_to, made_so, DidSo, OfNoRow, LeadsThere}
-use Rattle.run_places.specs.Hands.Hands.{IsInUse, ShowsHands}
+use Rattle.run_places.specs.Hands.Hands.{IsInUse, RefinesHands}
 use Rattle.run_places.specs.Hands.Steps.{RowsHandTheirs}
-use Rattle.run_places.specs.Hands.Rows.{HoldsOne, ShowsRows}
+use Rattle.run_places.specs.Hands.Rows.{HoldsOne, RowsReclaimNone}
 use Rattle.run_places.proofs.Hands.AskedOn.{asked_on}
 use Rattle.run_places.proofs.Hands.HandTheirs.{hands_out, all_left, used_on}
 use Rattle.run_places.proofs.Hands.HandsOn.{used_as, hands_on}
@@ -34,8 +34,8 @@ use Rattle.run_shows.specs.Scenes.Scene.{Scene, slot_of}
 use Rattle.run_shows.specs.Scenes.Stepping.{StepLeads}
 
 module _ {K V : Type 0} (same : K → K → Bool) (hash : ℕ → K → ℕ) (name : ℕ → List ℕ) (m : Moment K V) (known : Known) (s : Scene K V) (old new : Held K V) (at : IsAt same hash old s)
-    (shown : Shows same name m known s) (map i : ℕ) (u : UnderWay K V K) (here : s.calls map i ≡ Some u) (told : Progress (Node K V)) (leads : StepLeads same hash i told s old new)
-    (hands : ShowsHands m known s) where
+    (shown : Refines same name m known s) (map i : ℕ) (u : UnderWay K V K) (here : s.calls map i ≡ Some u) (told : Progress (Node K V)) (leads : StepLeads same hash i told s old new)
+    (hands : RefinesHands m known s) where
   abbrev to : WentTo same hash name m known s old new at shown map i u here told leads
   to = went_to same hash name m known s old new at shown map i u here told leads
 
@@ -82,7 +82,7 @@ module _ {K V : Type 0} (same : K → K → Bool) (hash : ℕ → K → ℕ) (na
       by (OverAll x) did in_it other = in_it
 
   -- and it goes on so where it reclaims nothing, and leaves the others the blocks of their batches
-  pub reclaims_none : (NoRow u to.4.did → ⊥) → ShowsRows s → (IsToTake (s.world.row i) → ⊥) × RowSo to.4.w2 i
+  pub reclaims_none : (NoRow u to.4.did → ⊥) → RowsReclaimNone s → (IsToTake (s.world.row i) → ⊥) × RowSo to.4.w2 i
       × ((slot : ℕ) → IsInside (s.world.uses slot) → (first : ℕ) → HoldsOne s.world slot first → HoldsOne to.4.w2 slot first)
   reclaims_none other rows =
       let row = row_step other in

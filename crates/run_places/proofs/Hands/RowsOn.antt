@@ -15,9 +15,9 @@ use Rattle.run_shows.proofs.Given.CallersTogether.Fits.{unless_on}
 use Rattle.run_shows.proofs.Given.CallersTogether.Users.{events_rows}
 use Rattle.run_shows.specs.Given.EffectsKnown.{Known}
 use Rattle.run_shows.specs.Given.FinishesMaps.{Standing}
-use Rattle.run_shows.specs.Follows.Shows.{Shows}
+use Rattle.run_shows.specs.Follows.Shows.{Refines}
 use Rattle.run_shows.proofs.Follows.Steps.{WentTo, went_to, DidSo, OfNoRow}
-use Rattle.run_places.specs.Hands.Rows.{ReclaimsNone, HoldsOne, KeepsOne, ShowsRows}
+use Rattle.run_places.specs.Hands.Rows.{ReclaimsNone, HoldsOne, KeepsOne, RowsReclaimNone}
 use Rattle.run_places.proofs.Hands.Asking.{which}
 use Rattle.run_places.proofs.Hands.Guarded.{runs_keep_one}
 use Rattle.run_places.proofs.Hands.SettlingRows.{one_kept}
@@ -31,14 +31,14 @@ abbrev pub RowSo : {K V : Type 0} → World (Node K V) → ℕ → Type 0
 RowSo w i = ReclaimsNone (w.row i) × KeepsOne (HoldsOne w (slot_of i)) (w.row i)
 
 -- where calls alone have changed
-module _ {K V : Type 0} (s : Scene K V) (map i : ℕ) (u : UnderWay K V K) (rows : ShowsRows s) (own : RowSo s.world i) where
+module _ {K V : Type 0} (s : Scene K V) (map i : ℕ) (u : UnderWay K V K) (rows : RowsReclaimNone s) (own : RowSo s.world i) where
   each_so : (n j : ℕ) (x : UnderWay K V K) → (scene_with map i u s).calls n j ≡ Some x → RowSo s.world j
   each_so n j x is = elim (which s.calls map i (Some u) n j x is) as (λ _. RowSo s.world j) [
     | inl its ↦ subst (λ (k : ℕ). RowSo s.world k) (sym its.1) own
     | inr was ↦ (rows.none n j x was.1, rows.one n j x was.1)
   ]
 
-  pub rows_with : ShowsRows (scene_with map i u s)
+  pub rows_with : RowsReclaimNone (scene_with map i u s)
   rows_with = record { none = λ n j x is. (each_so n j x is).0; one = λ n j x is. (each_so n j x is).1 }
 
 -- whoever has a call under way that needs it is within its section
@@ -67,8 +67,8 @@ module _ {K V : Type 0} (same : K → K → Bool) (hash : ℕ → K → ℕ) (s 
   kept_within Two n j (OverAll o) is keeps one = one_kept (HoldsOne s.world (slot_of j)) Two keeps (s.world.row j) one
 
 module _ {K V : Type 0} (same : K → K → Bool) (hash : ℕ → K → ℕ) (name : ℕ → List ℕ) (m : Moment K V) (known : Known) (s : Scene K V) (old new : Held K V) (at : IsAt same hash old s)
-    (shown : Shows same name m known s) (map i : ℕ) (u : UnderWay K V K) (here : s.calls map i ≡ Some u) (told : Progress (Node K V)) (leads : StepLeads same hash i told s old new)
-    (rows : ShowsRows s) where
+    (shown : Refines same name m known s) (map i : ℕ) (u : UnderWay K V K) (here : s.calls map i ≡ Some u) (told : Progress (Node K V)) (leads : StepLeads same hash i told s old new)
+    (rows : RowsReclaimNone s) where
   abbrev to : WentTo same hash name m known s old new at shown map i u here told leads
   to = went_to same hash name m known s old new at shown map i u here told leads
 
@@ -79,7 +79,7 @@ module _ {K V : Type 0} (same : K → K → Bool) (hash : ℕ → K → ℕ) (na
   abbrev KeepsTheirs : Type 0
   KeepsTheirs = (slot : ℕ) → IsInside (s.world.uses slot) → (first : ℕ) → HoldsOne s.world slot first → HoldsOne to.4.w2 slot first
 
-  pub rows_on : KeepsTheirs → Own → ShowsRows (scene_after same s old new map i to.0 u to.1 told to.4)
+  pub rows_on : KeepsTheirs → Own → RowsReclaimNone (scene_after same s old new map i to.0 u to.1 told to.4)
   rows_on keeps own = record { none = λ n j x is. (one n j x is).0; one = λ n j x is. (one n j x is).1 }
     where
       by : (n j : ℕ) (x : UnderWay K V K) → ((n ≡ map) × (j ≡ i) × (to.4.next ≡ Some x)) ⊎ ((n ≡ map → j ≡ i → ⊥) × (s.calls n j ≡ Some x)) → (j ≡ i) ⊎ (j ≢ i) → RowSo to.4.w2 j

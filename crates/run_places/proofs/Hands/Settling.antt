@@ -155,7 +155,7 @@ module _ (One : ℕ → Type 0) where
           slot_read_of block left pushed (Found w) = goes_to (record c { lost = 0 }) (bare_of c h) (at.Links block left pushed w ACTIVE) (tt, one)
           slot_read_of block left pushed _ = stays
 
-          push_told_of : (block left pushed slot : ℕ) (out : Out T) → AllOf (plans.push_told c block left pushed slot out)
+          push_told_of : (block left pushed slot : ℕ) (out : Out T) → AllOf (plans.after_push c block left pushed slot out)
           push_told_of block left pushed slot (Exchanged (Ok w)) =
               goes_to c (bare_of c h) (plans.pushed_of block left ((pushed + 1) % 2 ^ 64)) (pushed_aside c one block left ((pushed + 1) % 2 ^ 64))
           push_told_of block left pushed slot (Exchanged (Err w)) = either (plans.needs_none c w) (plans.goes c (plans.pushed_of block left pushed)) (plans.to (record c { lost = c.lost + 1; stands = at.Links block left pushed slot w }))

@@ -21,16 +21,16 @@ use Rattle.run_shows.specs.Given.RuleInWorld.{IsIts}
 use Rattle.run_shows.specs.Given.CallersOverAll.{row_of_sweep}
 use Rattle.run_shows.specs.Given.CallersRooms.{row_of_room}
 use Rattle.run_shows.specs.Given.CallersRows.{row_of_disposal, row_of_copier, row_of}
-use Rattle.run_shows.specs.Given.CallersSights.{IsSight, seen_by}
+use Rattle.run_shows.specs.Given.CallersSights.{IsVisibility, seen_by}
 use Rattle.run_shows.specs.Given.CallersTogether.{UnderWay, OnKey, ForRoom, Counting, OverAll, Together}
 use Rattle.run_shows.specs.Given.EffectsKnown.{Known}
 use Rattle.run_shows.specs.Given.EffectsDeclared.role.Role.TheVariants as role
 use Rattle.run_shows.specs.Given.FinishesMaps.{Standing}
 use Rattle.run_shows.specs.Follows.Blocks.{HasRole}
 use Rattle.run_shows.specs.Follows.Maps.{table_of}
-use Rattle.run_shows.specs.Follows.Shows.{Shows}
+use Rattle.run_shows.specs.Follows.Shows.{Refines}
 use Rattle.run_shows.proofs.Follows.Steps.{WentTo, went_to, made_so, is_sight, DidSo, OfNoRow, spares_beside}
-use Rattle.run_places.specs.Hands.Hands.{IsInUse, ShowsHands}
+use Rattle.run_places.specs.Hands.Hands.{IsInUse, RefinesHands}
 use Rattle.run_places.proofs.Hands.Handing.{IsHandingRow}
 use Rattle.run_places.proofs.Hands.HandsOn.{used_as}
 use Rattle.run_shows.specs.Scenes.Held.{Held, IsAt}
@@ -74,8 +74,8 @@ module _ {K V : Type 0} (same : K → K → Bool) (s : Standing K) (w : World (N
   handing (OverAll o) here = elim (each.stand i (OverAll o) here) as (λ _. IsHandingRow (w.row i)) [ inl k ↦ as_row _ k.0 tt | inr k ↦ as_row _ k.0 (handing_sweep (slot_of i) o.sweep.stands) ]
 
 module _ {K V : Type 0} (same : K → K → Bool) (hash : ℕ → K → ℕ) (name : ℕ → List ℕ) (m : Moment K V) (known : Known) (s : Scene K V) (old new : Held K V) (at_old : IsAt same hash old s)
-    (shown : Shows same name m known s) (map i : ℕ) (u : UnderWay K V K) (here : s.calls map i ≡ Some u) (told : Progress (Node K V)) (leads : StepLeads same hash i told s old new)
-    (hands : ShowsHands m known s) where
+    (shown : Refines same name m known s) (map i : ℕ) (u : UnderWay K V K) (here : s.calls map i ≡ Some u) (told : Progress (Node K V)) (leads : StepLeads same hash i told s old new)
+    (hands : RefinesHands m known s) where
   abbrev to : WentTo same hash name m known s old new at_old shown map i u here told leads
   to = went_to same hash name m known s old new at_old shown map i u here told leads
 
@@ -106,7 +106,7 @@ module _ {K V : Type 0} (same : K → K → Bool) (hash : ℕ → K → ℕ) (na
           step.step.inside _ step.step.went step.step.blocks2 step.step.grown step.step.sights2 b value is (other step.step.inside)
       by (OverAll x) (p2, end, machine_is, told_is, inr row) own = absurd own
 
-  sight : IsInside (s.world.uses (slot_of i)) → IsSight to.0.chart to.0.blocks (to.0.sights (slot_of i))
+  sight : IsInside (s.world.uses (slot_of i)) → IsVisibility to.0.chart to.0.blocks (to.0.sights (slot_of i))
   sight = is_sight same hash m known s old new at_old name shown map i to.0 to.2 (name i) (made_so same hash name m known s old new at_old shown map i u here told leads)
 
   not_made : (h : Hand) → IsInUse h → h ≡ Making i → ⊥

@@ -11,11 +11,11 @@ use Rattle.run_shows.specs.Given.EffectsKnown.{Known}
 use Rattle.run_shows.specs.Given.EffectsDeclared.acting.Acting.TheVariants as acts
 use Rattle.run_shows.specs.Given.FinishesMaps.{Standing}
 use Rattle.run_shows.specs.Given.RuleInWorld.{IsMapIn}
-use Rattle.run_shows.specs.Follows.Maps.{ShowsPairs}
-use Rattle.run_shows.specs.Follows.Shows.{Shows}
+use Rattle.run_shows.specs.Follows.Maps.{RefinesPairs}
+use Rattle.run_shows.specs.Follows.Shows.{Refines}
 use Rattle.run_shows.specs.Follows.Steps.{StoreTheirs}
 use Rattle.run_shows.proofs.Follows.Steps.{WentTo, went_to, made_so, DidSo, OfNoRow, step_shown, stores_its, stayed_stores}
-use Rattle.run_places.specs.Hands.Asked.{ShowsAsked}
+use Rattle.run_places.specs.Hands.Asked.{RefinesAsked}
 use Rattle.run_places.specs.Hands.Steps.{CallsStoreTheirs}
 use Rattle.run_places.proofs.Hands.AskedOn.{asked_on}
 use Rattle.run_places.proofs.Hands.HandsOn.{hands_on}
@@ -27,7 +27,7 @@ use Rattle.run_shows.specs.Scenes.Scene.{Scene}
 use Rattle.run_shows.specs.Scenes.Stepping.{StepLeads}
 
 -- no two pairs of a map have one number
-pub numbers_apart : {K V : Type 0} (map : ℕ) (number : ℕ → ℕ) (s : Standing K) (m : Moment K V) (known : Known) → ShowsPairs map number s m known
+pub numbers_apart : {K V : Type 0} (map : ℕ) (number : ℕ → ℕ) (s : Standing K) (m : Moment K V) (known : Known) → RefinesPairs map number s m known
     → (n o : ℕ) → n < s.chart.stored → o < s.chart.stored → number n ≡ number o → n ≡ o
 numbers_apart map number s m known shown n o l l2 e = elim (cases_eq n o) as (λ _. n ≡ o) [
   | inl same ↦ same
@@ -38,8 +38,8 @@ numbers_apart map number s m known shown n o l l2 e = elim (cases_eq n o) as (λ
 ]
 
 module _ {K V : Type 0} (same : K → K → Bool) (hash : ℕ → K → ℕ) (name : ℕ → List ℕ) (m : Moment K V) (known : Known) (s : Scene K V) (old new : Held K V) (at : IsAt same hash old s)
-    (shown : Shows same name m known s) (map i : ℕ) (u : UnderWay K V K) (here : s.calls map i ≡ Some u) (told : Progress (Node K V)) (leads : StepLeads same hash i told s old new)
-    (asked : ShowsAsked name shown.number m known s) where
+    (shown : Refines same name m known s) (map i : ℕ) (u : UnderWay K V K) (here : s.calls map i ≡ Some u) (told : Progress (Node K V)) (leads : StepLeads same hash i told s old new)
+    (asked : RefinesAsked name shown.number m known s) where
   abbrev to : WentTo same hash name m known s old new at shown map i u here told leads
   to = went_to same hash name m known s old new at shown map i u here told leads
 

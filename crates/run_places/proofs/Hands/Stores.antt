@@ -25,8 +25,8 @@ use Rattle.run_shows.specs.Given.RuleInWorld.{IsMapIn}
 use Rattle.run_shows.proofs.Given.RuleLaws.{current_is_known}
 use Rattle.run_shows.specs.Given.PointsFactsCalls.{Change, Unchanged, Stored, Replaced, Removed, Changes}
 use Rattle.run_shows.specs.Given.CallersPairs.{Given, kind_of, StoresGiven}
-use Rattle.run_shows.specs.Given.CallersOverAll.{CallOverAll, RemovesTold}
-use Rattle.run_shows.specs.Given.CallersTogether.{CallOnKey, UnderWay, OnKey, StepTold, Fresh, Late, change_told, StepsTogether}
+use Rattle.run_shows.specs.Given.CallersOverAll.{CallOverAll, RemovesAsReplied}
+use Rattle.run_shows.specs.Given.CallersTogether.{CallOnKey, UnderWay, OnKey, StepOutcome, Fresh, Late, change_observed, StepsTogether}
 use Rattle.run_shows.specs.Given.EffectsKnown.{Known}
 use Rattle.run_shows.specs.Given.FinishesMaps.{Standing}
 use Rattle.run_shows.specs.Follows.Calls.{IsCalled}
@@ -95,7 +95,7 @@ module _ {K V : Type 0} (same : K → K → Bool) (standing : Standing K) (w : W
     }
 
     -- nor does one of a sweep
-    pub sweep_gives : (o : CallOverAll) → RemovesTold o c c2 → Gives map name number c c2 new m w.memory m2
+    pub sweep_gives : (o : CallOverAll) → RemovesAsReplied o c c2 → Gives map name number c c2 new m w.memory m2
     sweep_gives o (inl same_pairs) = room_gives same_pairs
     sweep_gives o (inr (n, current, is, told)) = record {
       stored = λ one_more fresh others values k. absurd (none_without c2 n current is fresh);
@@ -122,8 +122,8 @@ module _ {K V : Type 0} (same : K → K → Bool) (standing : Standing K) (w : W
     HasDoneAs x = (x ≡ Unchanged) ⊎ ((blocks : Blocks) × (blocks.pair c.stored ≡ new) × MayDo (kind_of u.pair) x × StoresGiven standing.hash w2.memory c2 blocks u.pair x)
 
     -- what it has changed, where a pair has come
-    changes_of : (told : StepTold V same standing.hash same standing.setting slot_of c i u p2 progress w2 c2 step.went.blocks2) → c2.current c.stored ≡ true
-        → ChangesSo (change_told V same standing.hash same standing.setting slot_of told)
+    changes_of : (told : StepOutcome V same standing.hash same standing.setting slot_of c i u p2 progress w2 c2 step.went.blocks2) → c2.current c.stored ≡ true
+        → ChangesSo (change_observed V same standing.hash same standing.setting slot_of told)
     changes_of (Fresh told) fresh = elim (told.changes) as (λ _. ChangesSo told.change2) [
       | inl same_so ↦ absurd (none_same c2 same_so.1 fresh)
       | inr changes ↦ changes.1
@@ -190,7 +190,7 @@ module _ {K V : Type 0} (same : K → K → Bool) (standing : Standing K) (w : W
     key_gives = by there.call refl called asked
       where
         change : Change
-        change = change_told V same standing.hash same standing.setting slot_of step.went.told
+        change = change_observed V same standing.hash same standing.setting slot_of step.went.told
 
         by : (x : Call K V) → there.call ≡ x → IsCalled same (OnKey u) x → IsAskedAs number c.stored known u x there → Gives map (Some name) number c c2 new m w.memory m2
         by (call.On one) on called its = record {

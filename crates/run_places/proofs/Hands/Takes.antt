@@ -4,7 +4,7 @@ use Rattle.std.proofs.Common.{refl, ap, subst, ◌∙◌, inl, inr}
 use Rattle.run_shows.specs.Given.SeizeWorld.{World}
 use Rattle.run_shows.specs.Given.TablesDeclared.node.Node.{Node}
 use Rattle.run_shows.specs.Given.TablesDeclared.marks.TheConstants.{TOMBSTONE}
-use Rattle.run_shows.specs.Given.RawCallAsks.{with_absent, with_present, absent_told, present_told, told_at, replied}
+use Rattle.run_shows.specs.Given.RawCallAsks.{with_absent, with_present, absent_replied, present_replied, replied_at, replied}
 use Rattle.run_shows.specs.Given.RawCallPoints.{going, over, answering, burying, at_gap}
 use Rattle.run_shows.specs.Given.RawDeclared.machines.answer.Called.{Called}
 use Rattle.run_shows.specs.Given.RawDeclared.machines.answer.End.TheVariants as ends
@@ -27,11 +27,11 @@ use Rattle.run_shows.specs.Given.RunsDeclared.call.OneKey.{OneKey}
 use Rattle.run_shows.specs.Given.RunsDeclared.call.OneKey.TheVariants.{Get, GetKeyValue, ContainsKey, Insert, TryInsert, TryInsertWith, GetOrInsert, GetOrInsertWith, Update, UpdateOrInsert, UpdateOrInsertWith, Compute, Remove, RemoveEntry, RemoveIf}
 use Rattle.run_shows.specs.Given.RuleWords.{Blocks}
 use Rattle.run_shows.specs.Given.PointsTold.{IsRowOfCall}
-use Rattle.run_shows.specs.Given.CallersAsked.{Asked, last_told, told_before}
+use Rattle.run_shows.specs.Given.CallersAsked.{Asked, last_reply, replies_before}
 use Rattle.run_shows.specs.Given.CallersKind.{Kind, gets, removes, inserts, tries_to_insert, updates_or_inserts}
-use Rattle.run_shows.specs.Given.CallersPairs.{Given, Begun, IsTold, and_told, KeepsGiven}
+use Rattle.run_shows.specs.Given.CallersPairs.{Given, Begun, IsTold, with_reply, KeepsGiven}
 use Rattle.run_shows.specs.Given.CallersSights.{seen_by}
-use Rattle.run_shows.specs.Given.CallersTogether.{CallOnKey, OnKey, Knows, Stands}
+use Rattle.run_shows.specs.Given.CallersTogether.{CallOnKey, OnKey, Knows, IsAtPoint}
 use Rattle.run_shows.specs.Given.FinishesMaps.{Standing}
 use Rattle.run_places.specs.Hands.Asked.{given_by, KnowsFirst}
 use Rattle.run_places.proofs.Hands.Replies.{told_first}
@@ -39,19 +39,19 @@ use Rattle.run_shows.specs.Scenes.Scene.{slot_of}
 
 module _ {K V Q : Type 0} where
   -- one that never asks takes none
-  absent_never : (t : Takes) (c : KeyCall K V Q) (gap : Gap) (told : MachineReply V) → t ≡ takes.Nothing → (absent_told t c gap told).1 ≡ Ok tt → ⊥
+  absent_never : (t : Takes) (c : KeyCall K V Q) (gap : Gap) (told : MachineReply V) → t ≡ takes.Nothing → (absent_replied t c gap told).1 ≡ Ok tt → ⊥
   absent_never takes.Nothing c gap told never taken = cc taken
   absent_never takes.Values c gap told never taken = cc never
   absent_never takes.Changes c gap told never taken = cc never
   absent_never takes.Choices c gap told never taken = cc never
 
-  present_never : (t : Takes) (c : KeyCall K V Q) (word : ℕ) (told : MachineReply V) → t ≡ takes.Nothing → (present_told t c word told).1 ≡ Ok tt → ⊥
+  present_never : (t : Takes) (c : KeyCall K V Q) (word : ℕ) (told : MachineReply V) → t ≡ takes.Nothing → (present_replied t c word told).1 ≡ Ok tt → ⊥
   present_never takes.Nothing c word told never taken = cc taken
   present_never takes.Values c word told never taken = cc never
   present_never takes.Changes c word told never taken = cc never
   present_never takes.Choices c word told never taken = cc never
 
-  never_at : (stands : Calling) (c : KeyCall K V Q) (told : MachineReply V) → c.replies.takes ≡ takes.Nothing → (told_at stands c told).1 ≡ Ok tt → ⊥
+  never_at : (stands : Calling) (c : KeyCall K V Q) (told : MachineReply V) → c.replies.takes ≡ takes.Nothing → (replied_at stands c told).1 ≡ Ok tt → ⊥
   never_at (at.Asks (asking.Absent gap)) c told never taken = absent_never c.replies.takes c gap told never taken
   never_at (at.Asks (asking.Present word)) c told never taken = present_never c.replies.takes c word told never taken
   never_at (at.Asks (asking.Fills word)) c told never taken = cc taken
@@ -86,7 +86,7 @@ module _ {K V Q : Type 0} where
   gap_leaves gaps.Last c value e = cc e
 
   -- what is taken leads on from the question
-  absent_leaves : (t : Takes) (c : KeyCall K V Q) (gap : Gap) (told : MachineReply V) → (absent_told t c gap told).1 ≡ Ok tt → (absent_told t c gap told).0.stands ≢ at.Asks (asking.Absent gap)
+  absent_leaves : (t : Takes) (c : KeyCall K V Q) (gap : Gap) (told : MachineReply V) → (absent_replied t c gap told).1 ≡ Ok tt → (absent_replied t c gap told).0.stands ≢ at.Asks (asking.Absent gap)
   absent_leaves takes.Nothing c gap told taken e = cc taken
   absent_leaves takes.Choices c gap told taken e = cc taken
   absent_leaves takes.Values c gap (reply.Insert value) taken e = gap_leaves gap c value e
@@ -109,7 +109,7 @@ module _ {K V Q : Type 0} where
   found_leaves c word =
       pick (c.own == 0) (over c (ends.Answered (answers.Found word))) (going c (at.Drops (ends.Answered (answers.Found word)))) (at.Asks (asking.Present word)) (λ z. cc z) (λ z. cc z)
 
-  present_leaves : (t : Takes) (c : KeyCall K V Q) (word : ℕ) (told : MachineReply V) → (present_told t c word told).1 ≡ Ok tt → (present_told t c word told).0.stands ≢ at.Asks (asking.Present word)
+  present_leaves : (t : Takes) (c : KeyCall K V Q) (word : ℕ) (told : MachineReply V) → (present_replied t c word told).1 ≡ Ok tt → (present_replied t c word told).0.stands ≢ at.Asks (asking.Present word)
   present_leaves takes.Nothing c word told taken e = cc taken
   present_leaves takes.Values c word (reply.Insert value) taken e = cc e
   present_leaves takes.Values c word reply.Remove taken e = cc taken
@@ -130,9 +130,9 @@ module _ {K V Q : Type 0} where
   -- so a call that has taken a reply stands elsewhere
   pub asked_leaves : (c : KeyCall K V Q) (it : AskingAt) (told : MachineReply V) → c.stands ≡ at.Asks it → (replied c told).1 ≡ Ok tt → (replied c told).0 ≡ c → ⊥
   asked_leaves c it told stands taken same =
-      led it (subst (λ (x : Calling). (told_at x c told).1 ≡ Ok tt) stands taken) (subst (λ (x : Calling). (told_at x c told).0.stands ≡ at.Asks it) stands (ap (λ (x : KeyCall K V Q). x.stands) same ∙ stands))
+      led it (subst (λ (x : Calling). (replied_at x c told).1 ≡ Ok tt) stands taken) (subst (λ (x : Calling). (replied_at x c told).0.stands ≡ at.Asks it) stands (ap (λ (x : KeyCall K V Q). x.stands) same ∙ stands))
     where
-      led : (y : AskingAt) → (told_at (at.Asks y) c told).1 ≡ Ok tt → (told_at (at.Asks y) c told).0.stands ≡ at.Asks y → ⊥
+      led : (y : AskingAt) → (replied_at (at.Asks y) c told).1 ≡ Ok tt → (replied_at (at.Asks y) c told).0.stands ≡ at.Asks y → ⊥
       led (asking.Absent gap) taken e = absent_leaves c.replies.takes c gap told taken e
       led (asking.Present word) taken e = present_leaves c.replies.takes c word told taken e
       led (asking.Fills word) taken e = cc taken
@@ -141,7 +141,7 @@ module _ {K V Q : Type 0} where
 module _ {K V : Type 0} where
   -- a reply that was taken is what it was told last
   pub and_given : (one : OneKey K V) (asked : List (Asked V)) (about : Option ℕ) (told : MachineReply V) → ((kind : Kind) (pair : Option (Node K V)) → given_by one asked ≡ Begun kind pair → ⊥)
-      → and_told (given_by one asked) about told (Ok tt) ≡ given_by one (record { about = about; told = told } ∷ asked)
+      → with_reply (given_by one asked) about told (Ok tt) ≡ given_by one (record { about = about; told = told } ∷ asked)
   and_given (Get k) asked about told never = absurd (never gets None refl)
   and_given (GetKeyValue k) asked about told never = absurd (never gets None refl)
   and_given (ContainsKey k) asked about told never = absurd (never gets None refl)
@@ -160,7 +160,7 @@ module _ {K V : Type 0} where
 
 -- what a call knows where it asks
 module _ {K V : Type 0} (same : K → K → Bool) (s : Standing K) (w : World (Node K V)) (i : ℕ) (u : CallOnKey K V K) (it : AskingAt) (stands : u.call.stands ≡ at.Asks it)
-    (knows : Stands V same s.hash same s.setting slot_of w s.chart (seen_by s.blocks (s.sights (slot_of i))) i (OnKey u)) where
+    (knows : IsAtPoint V same s.hash same s.setting slot_of w s.chart (seen_by s.blocks (s.sights (slot_of i))) i (OnKey u)) where
   abbrev seen : Blocks
   seen = seen_by s.blocks (s.sights (slot_of i))
 
@@ -179,12 +179,12 @@ module _ {K V : Type 0} (same : K → K → Bool) (s : Standing K) (w : World (N
       never_takes u.call told (subst (λ (g : Given K V). KeepsGiven s.hash w.memory s.chart seen u.keys g u.change u.call (at.Asks it)) is keeps).0 taken
 
   -- one that knows what to store where its key is missing does not ask that
-  pub not_first : (gap : Gap) → it ≡ asking.Absent gap → (one : OneKey K V) (asked : List (Asked V)) → u.pair ≡ given_by one asked → KnowsFirst one → last_told None asked ≡ None → ⊥
+  pub not_first : (gap : Gap) → it ≡ asking.Absent gap → (one : OneKey K V) (asked : List (Asked V)) → u.pair ≡ given_by one asked → KnowsFirst one → last_reply None asked ≡ None → ⊥
   not_first gap is (UpdateOrInsert k v) asked given first none =
-      let kept = subst (λ (x : AskingAt). KeepsGiven s.hash w.memory s.chart seen u.keys (IsTold updates_or_inserts (Some k) (asked ++ told_before (Some v))) u.change u.call (at.Asks x)) is
+      let kept = subst (λ (x : AskingAt). KeepsGiven s.hash w.memory s.chart seen u.keys (IsTold updates_or_inserts (Some k) (asked ++ replies_before (Some v))) u.change u.call (at.Asks x)) is
       (subst (λ (g : Given K V). KeepsGiven s.hash w.memory s.chart seen u.keys g u.change u.call (at.Asks it)) given keeps) in
       let untold = kept.0.0.absent_first kept.0.1 in
-      let told = told_first None asked (told_before (Some v)) none in
+      let told = told_first None asked (replies_before (Some v)) none in
       cc (untold, told)
   not_first gap is (Get k) asked given first none = first
   not_first gap is (GetKeyValue k) asked given first none = first

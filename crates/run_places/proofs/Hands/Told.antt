@@ -18,20 +18,20 @@ use Rattle.run_shows.specs.Given.SchedulesViews.{call_of}
 use Rattle.run_shows.specs.Given.RuleChart.{Still}
 use Rattle.run_shows.specs.Given.RuleWords.{byte_of}
 use Rattle.run_shows.proofs.Given.RuleLaws.{words_name_pairs, bytes_are_few}
-use Rattle.run_shows.specs.Given.CallersAsked.{last_told}
-use Rattle.run_shows.specs.Given.CallersPairs.{Given, and_told}
-use Rattle.run_shows.specs.Given.CallersSights.{seen_by, IsSight}
-use Rattle.run_shows.specs.Given.CallersTogether.{CallOnKey, UnderWay, OnKey, ForRoom, Counting, OverAll, told_about, AsksAbout, Together}
+use Rattle.run_shows.specs.Given.CallersAsked.{last_reply}
+use Rattle.run_shows.specs.Given.CallersPairs.{Given, with_reply}
+use Rattle.run_shows.specs.Given.CallersSights.{seen_by, IsVisibility}
+use Rattle.run_shows.specs.Given.CallersTogether.{CallOnKey, UnderWay, OnKey, ForRoom, Counting, OverAll, replied_about, AsksAbout, Together}
 use Rattle.run_shows.specs.Given.EffectsKnown.{Known}
 use Rattle.run_shows.specs.Given.EffectsDeclared.role.Role.TheVariants as role
-use Rattle.run_shows.specs.Given.FinishesMachines.{machine_of, ToldOfKind}
+use Rattle.run_shows.specs.Given.FinishesMachines.{machine_of, RepliedOfKind}
 use Rattle.run_shows.specs.Given.FinishesMaps.{Standing, with_call as with_in}
 use Rattle.run_shows.specs.Follows.Calling.{told}
 use Rattle.run_shows.specs.Follows.Calls.{IsCalled}
-use Rattle.run_shows.specs.Follows.Shows.{Shows}
+use Rattle.run_shows.specs.Follows.Shows.{Refines}
 use Rattle.run_shows.proofs.Follows.Calling.{is_same_refl, replied_same, told_with}
 use Rattle.run_shows.proofs.Follows.Calls.{changed, found}
-use Rattle.run_places.specs.Hands.Asked.{as_told, KnowsFirst, IsSameQuestion, IsQuestion, IsAskedOn, IsAskedAs, IsAsked, ShowsAsked}
+use Rattle.run_places.specs.Hands.Asked.{reply_to_machine, KnowsFirst, IsSameQuestion, IsQuestion, IsAskedOn, IsAskedAs, IsAsked, RefinesAsked}
 use Rattle.run_places.specs.Hands.Calling.{CallsTake}
 use Rattle.run_places.proofs.Hands.Asking.{which}
 use Rattle.run_places.proofs.Hands.RowsOn.{rows_with}
@@ -43,7 +43,7 @@ use Rattle.run_shows.specs.Scenes.Scene.{Scene, slot_of}
 use Rattle.run_shows.proofs.Given.General.{same_some as one_of}
 
 module _ {K V : Type 0} (same : K → K → Bool) (hash : ℕ → K → ℕ) (name : ℕ → List ℕ) (m : Moment K V) (known : Known) (s : Scene K V) (e : Held K V) (at_e : IsAt same hash e s)
-    (shown : Shows same name m known s) (asked : ShowsAsked name shown.number m known s) (map i : ℕ) (standing : Standing K) (there : s.maps map ≡ Some standing)
+    (shown : Refines same name m known s) (asked : RefinesAsked name shown.number m known s) (map i : ℕ) (standing : Standing K) (there : s.maps map ≡ Some standing)
     (c : CallThere K V) (c_is : call_of (name i) m ≡ Some c) (question : Option ℕ) (c_asks : c.stands ≡ Asking question) (is_told : Reply V) where
   each : Together V same standing.hash same standing.setting slot_of s.world standing.chart standing.blocks standing.sights (s.calls map)
   each = at_e.together.makings.standing.each map standing there
@@ -58,10 +58,10 @@ module _ {K V : Type 0} (same : K → K → Bool) (hash : ℕ → K → ℕ) (na
   abbrev after : CallThere K V
   after = record c { stands = Told; replies = (question, is_told) ∷ c.replies }
 
-  module _ (u : CallOnKey K V K) (here : s.calls map i ≡ Some (OnKey u)) (taken : (replied u.call (as_told is_told)).1 ≡ Ok tt) where
+  module _ (u : CallOnKey K V K) (here : s.calls map i ≡ Some (OnKey u)) (taken : (replied u.call (reply_to_machine is_told)).1 ≡ Ok tt) where
     module _ (asks_at : AskingAt) (about : Option ℕ) (stands : u.call.stands ≡ at.Asks asks_at)
         (asks : AsksAbout V same standing.hash same standing.setting slot_of standing.chart (seen_by standing.blocks (standing.sights (slot_of i))) asks_at about) where
-      is_sight : IsSight standing.chart standing.blocks (standing.sights (slot_of i))
+      is_sight : IsVisibility standing.chart standing.blocks (standing.sights (slot_of i))
       is_sight = (each.ground.sight (slot_of i) (each.inside i (OnKey u) here)).0
 
       -- what it is told about is the question that the moment has
@@ -86,7 +86,7 @@ module _ {K V : Type 0} (same : K → K → Bool) (hash : ℕ → K → ℕ) (na
       -- it asks what is not known from the beginning
       first_kept : (one : OneKey K V) (h : IsAskedOn number stored known u one c) (q : Option ℕ) → (it : AskingAt) → asks_at ≡ it
           → AsksAbout V same standing.hash same standing.setting slot_of standing.chart (seen_by standing.blocks (standing.sights (slot_of i))) it q → IsQuestion known it question
-          → KnowsFirst one → last_told None (record { about = q; told = as_told is_told } ∷ h.asked) ≡ None
+          → KnowsFirst one → last_reply None (record { about = q; told = reply_to_machine is_told } ∷ h.asked) ≡ None
       first_kept one h (Some n) it is asks just first = h.first first
       first_kept one h None (asking.Absent gap) is asks just first =
           absurd (not_first same standing s.world i u asks_at stands (each.stand i (OnKey u) here) gap is one h.asked h.given first (h.first first))
@@ -102,23 +102,23 @@ module _ {K V : Type 0} (same : K → K → Bool) (hash : ℕ → K → ℕ) (na
           no_question it None just = just
           no_question it (Some k) just = just
 
-      one_told : (one : OneKey K V) → IsAskedOn number stored known u one c → IsAskedOn number stored known (told_about u about (as_told is_told)) one after
+      one_told : (one : OneKey K V) → IsAskedOn number stored known u one c → IsAskedOn number stored known (replied_about u about (reply_to_machine is_told)) one after
       one_told one h =
           let was = h.asks question c_asks in
           let it_is : was.0 ≡ asks_at = (let same_at : at.Asks was.0 ≡ at.Asks asks_at = sym was.1 ∙ stands in cc same_at) in
           let just : IsQuestion known asks_at question = subst (λ (x : AskingAt). IsQuestion known x question) it_is was.2 in
           record {
-            asked = record { about = about; told = as_told is_told } ∷ h.asked;
-            given = ap (and_told u.pair about (as_told is_told)) taken ∙ ap (λ (g : Given K V). and_told g about (as_told is_told) (Ok tt)) h.given
-                ∙ and_given one h.asked about (as_told is_told)
-                (λ kind pair is. not_begun same standing s.world i u asks_at stands (each.stand i (OnKey u) here) (as_told is_told) taken kind pair (h.given ∙ is));
+            asked = record { about = about; told = reply_to_machine is_told } ∷ h.asked;
+            given = ap (with_reply u.pair about (reply_to_machine is_told)) taken ∙ ap (λ (g : Given K V). with_reply g about (reply_to_machine is_told) (Ok tt)) h.given
+                ∙ and_given one h.asked about (reply_to_machine is_told)
+                (λ kind pair is. not_begun same standing s.world i u asks_at stands (each.stand i (OnKey u) here) (reply_to_machine is_told) taken kind pair (h.given ∙ is));
             replies = (same_question asks_at refl about question asks just, refl, h.replies);
             first = first_kept one h about asks_at refl asks just;
             replacing = h.replacing;
             asks = λ q e. absurd (let no : Told ≡ Asking q = e in cc no);
           }
 
-      as_told_on : (x : Call K V) → IsAskedAs number stored known u x c → IsAskedAs number stored known (told_about u about (as_told is_told)) x after
+      as_told_on : (x : Call K V) → IsAskedAs number stored known u x c → IsAskedAs number stored known (replied_about u about (reply_to_machine is_told)) x after
       as_told_on (call.On one) h = one_told one h
       as_told_on (call.Reserve n) h = tt
       as_told_on call.Clear h = tt
@@ -126,22 +126,22 @@ module _ {K V : Type 0} (same : K → K → Bool) (hash : ℕ → K → ℕ) (na
       as_told_on call.Len h = tt
       as_told_on call.Walk h = tt
 
-  pub own_told : (u next : UnderWay K V K) → s.calls map i ≡ Some u → machine_of next ≡ (machine_replied (machine_of u) (as_told is_told)).0 → (machine_replied (machine_of u) (as_told is_told)).1 ≡ Ok tt
-      → ToldOfKind V same same e.batch_size e.roots slot_of standing i u (as_told is_told) next → IsAsked number stored known next after
+  pub own_told : (u next : UnderWay K V K) → s.calls map i ≡ Some u → machine_of next ≡ (machine_replied (machine_of u) (reply_to_machine is_told)).0 → (machine_replied (machine_of u) (reply_to_machine is_told)).1 ≡ Ok tt
+      → RepliedOfKind V same same e.batch_size e.roots slot_of standing i u (reply_to_machine is_told) next → IsAsked number stored known next after
   own_told (OnKey u) next here machine taken (inl (asks_at, about, stands, asks, is)) =
       subst (λ (x : UnderWay K V K). IsAsked number stored known x after) (sym is)
       (as_told_on u here taken asks_at about stands asks c.call (asked.each map i (OnKey u) here standing there c c_is))
   own_told (OnKey u) next here machine taken (inr is) =
       absurd (asked_so c.call (asked.each map i (OnKey u) here standing there c c_is) its)
     where
-      same_call : u.call ≡ (replied u.call (as_told is_told)).0
+      same_call : u.call ≡ (replied u.call (reply_to_machine is_told)).0
       same_call = let one = sym (ap machine_of is) ∙ machine in cc one
 
       its : IsCalled same (OnKey u) c.call
       its = let was = shown.calls map i (OnKey u) here in subst (λ (x : CallThere K V). IsCalled same (OnKey u) x.call) (one_of was.0 c (sym was.1 ∙ c_is)) was.3
 
       asked_so : (x : Call K V) → IsAskedAs number stored known u x c → IsCalled same (OnKey u) x → ⊥
-      asked_so (call.On one) h called = let was = h.asks question c_asks in asked_leaves u.call was.0 (as_told is_told) was.1 taken (sym same_call)
+      asked_so (call.On one) h called = let was = h.asks question c_asks in asked_leaves u.call was.0 (reply_to_machine is_told) was.1 taken (sym same_call)
       asked_so (call.Reserve n) h called = called
       asked_so call.Clear h called = called
       asked_so call.Retain h called = called
@@ -166,7 +166,7 @@ module _ {K V : Type 0} (same : K → K → Bool) (hash : ℕ → K → ℕ) (na
       | inr was ↦ (x, was.1)
     ]
 
-    pub told_asked : ShowsAsked name shown.number v known (record s { calls = with_in s.calls map i (Some next) })
+    pub told_asked : RefinesAsked name shown.number v known (record s { calls = with_in s.calls map i (Some next) })
     told_asked = record {
       apart = λ n j k l x y is is2 names. asked.apart n j k l (before n j x is).0 (before k l y is2).0 (before n j x is).1 (before k l y is2).1 names;
       each = λ n j x is st st_is d d_is. one n j x st st_is d d_is (which s.calls map i (Some next) n j x is);
@@ -201,10 +201,10 @@ module _ {K V : Type 0} (same : K → K → Bool) (hash : ℕ → K → ℕ) (na
 
 pub calls_take : (K V : Type 0) (same : K → K → Bool) (hash : ℕ → K → ℕ) → CallsTake K V same hash
 calls_take K V same hash name m known s e at_e all map i u here c c_is question c_asks standing there is_told next machine taken goes =
-    let b = told_with same name m known s all.shown map i u here e.batch_size e.roots standing (as_told is_told) next goes is_told in
+    let b = told_with same name m known s all.shown map i u here e.batch_size e.roots standing (reply_to_machine is_told) next goes is_told in
     record {
       shown = b.0;
-      asked = subst (λ (f : ℕ → ℕ → ℕ). ShowsAsked name f (told (name i) is_told m) known (record s { calls = with_in s.calls map i (Some next) })) (sym b.1)
+      asked = subst (λ (f : ℕ → ℕ → ℕ). RefinesAsked name f (told (name i) is_told m) known (record s { calls = with_in s.calls map i (Some next) })) (sym b.1)
           (told_asked same hash name m known s e at_e all.shown all.asked map i standing there c c_is question c_asks is_told u next here
           (own_told same hash name m known s e at_e all.shown all.asked map i standing there c c_is question c_asks is_told u next here machine taken goes));
       hands = hands_with m known s (told (name i) is_told m).calls (with_in s.calls map i (Some next)) all.hands;

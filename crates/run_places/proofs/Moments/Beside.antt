@@ -26,12 +26,12 @@ use Rattle.run_shows.specs.Given.EffectsKnown.{Known}
 use Rattle.run_shows.specs.Given.EffectsDeclared.role.Role.TheVariants as role
 use Rattle.run_shows.specs.Given.FinishesMaps.{Standing}
 use Rattle.run_shows.specs.Follows.Blocks.{HasRole}
-use Rattle.run_shows.specs.Follows.Shows.{Shows}
+use Rattle.run_shows.specs.Follows.Shows.{Refines}
 use Rattle.run_shows.proofs.Follows.Onward.{IsOfMap}
-use Rattle.run_places.specs.Hands.Asked.{IsQuestion, IsAskedAs, IsAsked, ShowsAsked}
-use Rattle.run_places.specs.Hands.Hands.{IsInUse, ShowsHands}
+use Rattle.run_places.specs.Hands.Asked.{IsQuestion, IsAskedAs, IsAsked, RefinesAsked}
+use Rattle.run_places.specs.Hands.Hands.{IsInUse, RefinesHands}
 use Rattle.run_places.proofs.Hands.HandsOn.{in_one}
-use Rattle.run_shows.specs.Others.After.{ShowsAfter}
+use Rattle.run_shows.specs.Others.After.{RefinesAfter}
 use Rattle.run_shows.specs.Scenes.Held.{Held, IsAt}
 use Rattle.run_shows.specs.Scenes.Scene.{Scene, slot_of}
 
@@ -66,13 +66,13 @@ pub record IsBeside {K V : Type 0} (m m2 : Moment K V) (known known2 : Known) (s
   pub same_calls : s2.calls ≡ s.calls
   pub stood : (map : ℕ) (st : Standing K) → s2.maps map ≡ Some st → StoodSo known known2 s s2 map st ⊎ StandsNew known known2 s s2 map
 
-module _ {K V : Type 0} (same : K → K → Bool) (name : ℕ → List ℕ) (m m2 : Moment K V) (known known2 : Known) (s s2 : Scene K V) (shown : Shows same name m known s)
-    (after : ShowsAfter same name m known s shown m2 known2 s2) (beside : IsBeside m m2 known known2 s s2) where
+module _ {K V : Type 0} (same : K → K → Bool) (name : ℕ → List ℕ) (m m2 : Moment K V) (known known2 : Known) (s s2 : Scene K V) (shown : Refines same name m known s)
+    (after : RefinesAfter same name m known s shown m2 known2 s2) (beside : IsBeside m m2 known known2 s s2) where
   some_is : (b : ℕ) (value : Node K V) → value_at s2.world.memory b ≡ Some value → IsSome (value_at s2.world.memory b)
   some_is b value e = subst (λ (o : Option (Node K V)). IsSome o) (sym e) refl
 
   -- hands
-  module _ (hands : ShowsHands m known s) where
+  module _ (hands : RefinesHands m known s) where
     pair_used : (b n : ℕ) → known2.roles b ≡ role.Pair n → is_in_a_map (m2.place n) ≡ true → IsInUse (s2.world.hand b)
     pair_used b n is there =
         let had = subst (HasRole s2.world m2.stored b) is (after.shows.blocks.roles b) in
@@ -115,11 +115,11 @@ module _ {K V : Type 0} (same : K → K → Bool) (name : ℕ → List ℕ) (m m
             let same_table : came.table ≡ t = (let table = came.is in cc (table, is)) in
             subst Goal same_table (came.place st (ap s2.maps (ap (λ (u : TableId). u.map) same_table) ∙ there))
 
-    pub hands_beside : ShowsHands m2 known2 s2
+    pub hands_beside : RefinesHands m2 known2 s2
     hands_beside = record { pairs = pair_used; tables = table_used; born = born_so; stand = stand_so }
 
   -- calls
-  module _ (hash : ℕ → K → ℕ) (new : Held K V) (at_new : IsAt same hash new s2) (asked : ShowsAsked name shown.number m known s) where
+  module _ (hash : ℕ → K → ℕ) (new : Held K V) (at_new : IsAt same hash new s2) (asked : RefinesAsked name shown.number m known s) where
     -- the pair that a call asks about is there
     module _ (map i : ℕ) (u : CallOnKey K V K) (here : s2.calls map i ≡ Some (OnKey u)) (st : Standing K) (there : s2.maps map ≡ Some st) where
       each : Together V same st.hash same st.setting slot_of s2.world st.chart st.blocks st.sights (s2.calls map)
@@ -179,7 +179,7 @@ module _ {K V : Type 0} (same : K → K → Bool) (name : ℕ → List ℕ) (m m
     was_here : (map i : ℕ) (u : UnderWay K V K) → s2.calls map i ≡ Some u → s.calls map i ≡ Some u
     was_here map i u here = subst (λ (f : ℕ → ℕ → Option (UnderWay K V K)). f map i ≡ Some u) beside.same_calls here
 
-    pub asked_beside : ShowsAsked name after.shows.number m2 known2 s2
+    pub asked_beside : RefinesAsked name after.shows.number m2 known2 s2
     asked_beside = record {
       apart = λ n j k l x y is is2 names. asked.apart n j k l x y (was_here n j x is) (was_here k l y is2) names;
       each = λ map i u here st there c found. asked_so map i u here st there c (after.shows.number map) st.chart.stored (as_before map i u here st c found (beside.stood map st there));

@@ -13,7 +13,7 @@ use Rattle.run_shows.specs.Given.EffectsDeclared.acting.Acting.TheVariants as ac
 use Rattle.run_shows.specs.Follows.Calling.{told, come_to}
 use Rattle.run_shows.specs.Follows.Steps.{TakesNone}
 use Rattle.run_shows.proofs.Follows.Steps.{WentTo, went_to, DidSo, OfNoRow}
-use Rattle.run_places.specs.Hands.Shows.{ShowsAll}
+use Rattle.run_places.specs.Hands.Shows.{RefinesHeld}
 use Rattle.run_places.proofs.Hands.Beginning.{runs_begin_so}
 use Rattle.run_places.proofs.Hands.Calling.{calls_begin_for, calls_come_to_so}
 use Rattle.run_places.proofs.Hands.RowSteps.{rows_hand_theirs}
@@ -22,7 +22,7 @@ use Rattle.run_places.proofs.Hands.Told.{calls_take}
 use Rattle.run_shows.proofs.Others.Counters.{calls_note_counters}
 use Rattle.run_places.proofs.Spots.Begins.{places_begin, blocks_begin, calls_leave_places}
 use Rattle.run_places.proofs.Spots.Steps.{calls_keep_places, calls_keep_blocks, calls_leave_outside}
-use Rattle.run_places.specs.Moments.Whole.{ShowsWhole, WholeBegins, CallsKeepWhole, CallsTakeWhole, CallsBeginWhole, CallsComeToWhole}
+use Rattle.run_places.specs.Moments.Whole.{RefinesWhole, WholeBegins, CallsPreserveWhole, CallsTakeWhole, CallsBeginWhole, CallsComeToWhole}
 use Rattle.run_shows.specs.Scenes.Held.{Held, IsAt}
 use Rattle.run_shows.specs.Scenes.Scene.{Scene}
 use Rattle.run_shows.specs.Scenes.Stepping.{StepLeads, scene_after}
@@ -37,7 +37,7 @@ whole_begins K V same roots name = record {
 }
 
 module _ {K V : Type 0} (same : K → K → Bool) (hash : ℕ → K → ℕ) (name : ℕ → List ℕ) (m : Moment K V) (known : Known) (s : Scene K V) (old new : Held K V) (at : IsAt same hash old s)
-    (whole : ShowsWhole same name m known s) (map i : ℕ) (u : UnderWay K V K) (here : s.calls map i ≡ Some u) (told : Progress (Node K V)) (leads : StepLeads same hash i told s old new) where
+    (whole : RefinesWhole same name m known s) (map i : ℕ) (u : UnderWay K V K) (here : s.calls map i ≡ Some u) (told : Progress (Node K V)) (leads : StepLeads same hash i told s old new) where
   abbrev to : WentTo same hash name m known s old new at whole.all.shown map i u here told leads
   to = went_to same hash name m known s old new at whole.all.shown map i u here told leads
 
@@ -66,7 +66,7 @@ module _ {K V : Type 0} (same : K → K → Bool) (hash : ℕ → K → ℕ) (na
   abbrev then_at : Scene K V
   then_at = scene_after same s old new map i to.0 u to.1 told to.4
 
-  whole_by : ShowsAll same name v after then_at → ((NoRow u to.4.did → ⊥) → TakesNone new.changed) → ShowsWhole same name v after then_at
+  whole_by : RefinesHeld same name v after then_at → ((NoRow u to.4.did → ⊥) → TakesNone new.changed) → RefinesWhole same name v after then_at
   whole_by all takes = record {
     all = all;
     places = calls_keep_places K V same hash name m known s old new at whole.all.shown whole.places map i u here told leads;
@@ -75,14 +75,14 @@ module _ {K V : Type 0} (same : K → K → Bool) (hash : ℕ → K → ℕ) (na
     counters = calls_note_counters K V same hash name m known s old new at whole.all.shown whole.counters map i u here told leads;
   }
 
-  pub step_keeps : ShowsWhole same name v after then_at
-  step_keeps = elim (of_row u to.4.did) as (λ _. ShowsWhole same name v after then_at) [
+  pub step_keeps : RefinesWhole same name v after then_at
+  step_keeps = elim (of_row u to.4.did) as (λ _. RefinesWhole same name v after then_at) [
     | inl own ↦ whole_by (calls_store_theirs K V same hash name m known s old new at whole.all map i u here told leads own).2 (λ other. absurd (other own))
     | inr other ↦ let it = rows_hand_theirs K V same hash name m known s old new at whole.all map i u here told leads other in whole_by it.2 (λ row. it.1)
   ]
 
 module _ (K V : Type 0) (same : K → K → Bool) (hash : ℕ → K → ℕ) where
-  pub calls_keep_whole : CallsKeepWhole K V same hash
+  pub calls_keep_whole : CallsPreserveWhole K V same hash
   calls_keep_whole name m known s old new at whole map i u here told leads = step_keeps same hash name m known s old new at whole map i u here told leads
 
   pub calls_take_whole : CallsTakeWhole K V same hash

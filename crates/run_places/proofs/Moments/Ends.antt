@@ -31,9 +31,9 @@ use Rattle.run_shows.proofs.Follows.Alike.{is_calm, AllCalm, AreSame, calm_still
 use Rattle.run_shows.proofs.Follows.Onward.{IsOfMap}
 use Rattle.run_shows.proofs.Follows.Operations.{LeavesBy}
 use Rattle.run_places.specs.Hands.Hands.{IsInUse}
-use Rattle.run_places.specs.Hands.Rows.{ShowsRows}
+use Rattle.run_places.specs.Hands.Rows.{RowsReclaimNone}
 use Rattle.run_places.proofs.Hands.Others.{endings_begin_aside, endings_go_aside}
-use Rattle.run_shows.specs.Others.After.{ShowsAfter}
+use Rattle.run_shows.specs.Others.After.{RefinesAfter}
 use Rattle.run_shows.specs.Others.Counters.{NotesCounters}
 use Rattle.run_shows.specs.Others.Endings.{ending_after}
 use Rattle.run_shows.specs.Others.Gone.{EndsWith}
@@ -43,8 +43,8 @@ use Rattle.run_shows.proofs.Others.Ends.{left, says_or_takes, endings_are_shown}
 use Rattle.run_shows.proofs.Others.Quiet.{all_quiet}
 use Rattle.run_shows.proofs.Others.Stays.{same_maps}
 use Rattle.run_places.specs.Spots.Deferred.{WaitOutside, FindsNumbers}
-use Rattle.run_places.specs.Spots.Spots.{ShowsPlaces}
-use Rattle.run_places.specs.Spots.Unreclaimed.{is_unreclaimed, ShowsUnreclaimed}
+use Rattle.run_places.specs.Spots.Spots.{RefinesPlaces}
+use Rattle.run_places.specs.Spots.Unreclaimed.{is_unreclaimed, RefinesUnreclaimed}
 use Rattle.run_places.proofs.Spots.Begins.{fewer_maps_stand}
 use Rattle.run_places.proofs.Spots.Calm.{put_back}
 use Rattle.run_places.proofs.Spots.Deferred.{effects_leave_outside, each_waits_outside}
@@ -52,11 +52,11 @@ use Rattle.run_places.proofs.Spots.Effects.{AllAside, calm_aside}
 use Rattle.run_places.proofs.Spots.Gone.{other_gone, pair_gone, table_gone}
 use Rattle.run_places.proofs.Spots.Stays.{WerePairs, places_stay}
 use Rattle.run_places.proofs.Spots.Unreclaimed.{unreclaimed_same}
-use Rattle.run_places.specs.Moments.Endings.{IsOfIts, WaitsOn, EndingsBeginWhole, EndingsKeepWhole}
-use Rattle.run_places.specs.Moments.Whole.{ShowsWhole}
+use Rattle.run_places.specs.Moments.Endings.{IsOfIts, WaitsOn, EndingsBeginWhole, EndingsPreserveWhole}
+use Rattle.run_places.specs.Moments.Whole.{RefinesWhole}
 use Rattle.run_places.proofs.Moments.Beside.{IsBeside, hands_beside, asked_beside}
 use Rattle.run_places.proofs.Moments.OnSlots.{put_out, all_out, with_outside, IsAlone, alone, still_alone, none_some, Keeps, same_roles}
-use Rattle.run_shows.specs.Scenes.Ending.{EndingComesTo, EndingStepsFrom, ending_begun}
+use Rattle.run_shows.specs.Scenes.Ending.{EndingHasOutcome, EndingStepsFrom, ending_begun}
 use Rattle.run_shows.specs.Scenes.Held.{Held, IsAt}
 use Rattle.run_shows.specs.Scenes.Scene.{Scene, slot_of}
 
@@ -106,9 +106,9 @@ module _ {K V : Type 0} (map : ℕ) (m : Moment K V) where
   calm_alone effects calm = still_alone m (Some map) effects (calm_still effects calm)
 
 module _ {K V : Type 0} (same : K → K → Bool) (hash : ℕ → K → ℕ) (name : ℕ → List ℕ) (m : Moment K V) (known : Known) (s : Scene K V) (old new : Held K V) (at : IsAt same hash old s)
-    (whole : ShowsWhole same name m known s) (i : ℕ) (f : Finishing K V) (here : s.enders i ≡ Some f) (end : EndMap) (said : Settled (Node K V)) (steps : EndingStepsFrom f.machine old new end said)
+    (whole : RefinesWhole same name m known s) (i : ℕ) (f : Finishing K V) (here : s.enders i ≡ Some f) (end : EndMap) (said : Settled (Node K V)) (steps : EndingStepsFrom f.machine old new end said)
     (did : StepsOfEnding V same same old.batch_size old.roots slot_of s.world s.maps s.calls s.makers s.enders i f new.memory (end, said))
-    (map : ℕ) (not_there : s.maps map ≡ None) (comes : EndingComesTo same hash s new i f end did.w2 did.deed said) where
+    (map : ℕ) (not_there : s.maps map ≡ None) (comes : EndingHasOutcome same hash s new i f end did.w2 did.deed said) where
   abbrev w : World (Node K V)
   w = s.world
 
@@ -179,7 +179,7 @@ module _ {K V : Type 0} (same : K → K → Bool) (hash : ℕ → K → ℕ) (na
 
   -- which blocks are unreclaimed
   taken_blocks : (b : ℕ) (r : Role) → known.roles b ≡ r → AtEachEffect WaitsOn None (Some map) (taken_by (Ending map) r) m
-      → ShowsUnreclaimed (with_effects None (Some map) (taken_by (Ending map) r) m) (with_role b role.Free known)
+      → RefinesUnreclaimed (with_effects None (Some map) (taken_by (Ending map) r) m) (with_role b role.Free known)
   taken_blocks b role.Free e may = other_gone m m known b whole.blocks (λ of. subst IsOfMap e of) (record { place = λ k. refl; tables = λ t. refl })
   taken_blocks b (role.OwnPair j) e may =
       other_gone m (with_effects None (Some map) (taken_by (Ending map) (role.OwnPair j)) m) known b whole.blocks (λ of. subst IsOfMap e of) (record { place = λ k. refl; tables = λ t. refl })
@@ -206,25 +206,25 @@ module _ {K V : Type 0} (same : K → K → Bool) (hash : ℕ → K → ℕ) (na
   end_pairs : WerePairs known (then_known told)
   end_pairs b k is = sym (end_keeps.0 b (subst IsOfMap (sym is) tt)) ∙ is
 
-  end_places : ShowsPlaces (then_at told) (then_known told) s.maps
+  end_places : RefinesPlaces (then_at told) (then_known told) s.maps
   end_places = places_stay None (Some map) (does told) m known (then_known told) s.maps s.maps end_aside end_pairs (λ n. same_maps (s.maps n)) whole.places
 
   -- what waits behind a table that ends with its map is not reclaimed
   module _ (waits : AtEachEffect WaitsOn None (Some map) (does told) m) where
-    end_blocks : ShowsUnreclaimed (then_at told) (then_known told)
-    end_blocks = elim says as (λ _. ShowsUnreclaimed (then_at told) (then_known told)) [
+    end_blocks : RefinesUnreclaimed (then_at told) (then_known told)
+    end_blocks = elim says as (λ _. RefinesUnreclaimed (then_at told) (then_known told)) [
       | inl it ↦
           let a = same_calm map m (does told) it.0 in
           unreclaimed_same m (then_at told) known (then_known told)
           (record { place = λ k. ap (λ (g : ℕ → Place). is_unreclaimed (g k)) a.place; tables = λ t. ap (list_any (λ u. same_table u.table t && is_there u.stage)) a.tables })
           (λ b of. ap (λ (g : ℕ → Role). g b) it.1) (λ b of. ap (λ (g : ℕ → Role). g b) it.1) whole.blocks
       | inr it ↦
-          subst (λ (x : Changed). AtEachEffect WaitsOn None (Some map) (does x) m → ShowsUnreclaimed (then_at x) (then_known x)) (sym it.1) (taken_blocks it.0 (known.roles it.0) refl) waits
+          subst (λ (x : Changed). AtEachEffect WaitsOn None (Some map) (does x) m → RefinesUnreclaimed (then_at x) (then_known x)) (sym it.1) (taken_blocks it.0 (known.roles it.0) refl) waits
     ]
 
     -- so all is shown of a scene that has come so far
-    whole_at : (s2 : Scene K V) → s2.world ≡ w2 → s2.calls ≡ s.calls → s2.maps ≡ s.maps → IsAt same hash new s2 → ShowsRows s2
-        → ShowsAfter same name m known s whole.all.shown (then_at told) (then_known told) s2 → NotesCounters (then_known told) s2 → ShowsWhole same name (then_at told) (then_known told) s2
+    whole_at : (s2 : Scene K V) → s2.world ≡ w2 → s2.calls ≡ s.calls → s2.maps ≡ s.maps → IsAt same hash new s2 → RowsReclaimNone s2
+        → RefinesAfter same name m known s whole.all.shown (then_at told) (then_known told) s2 → NotesCounters (then_known told) s2 → RefinesWhole same name (then_at told) (then_known told) s2
     whole_at s2 world calls maps at_new rows after counters = record {
       all = record {
         shown = after.shows;
@@ -232,15 +232,15 @@ module _ {K V : Type 0} (same : K → K → Bool) (hash : ℕ → K → ℕ) (na
         hands = hands_beside same name m (then_at told) known (then_known told) s s2 whole.all.shown after (end_beside s2 world calls maps) whole.all.hands;
         rows = rows;
       };
-      places = subst (λ (g : ℕ → Option (Standing K)). ShowsPlaces (then_at told) (then_known told) g) (sym maps) end_places;
+      places = subst (λ (g : ℕ → Option (Standing K)). RefinesPlaces (then_at told) (then_known told) g) (sym maps) end_places;
       blocks = end_blocks;
       outside = effects_leave_outside K V None (Some map) (does told) m end_numbers whole.outside;
       counters = counters;
     }
 
-    pub end_keeps_whole : (t : Settled (Node K V)) (it : EndingComesTo same hash s new i f end w2 did.deed t) → ShowsRows (record s { world = w2 })
-        → ShowsAfter same name m known s whole.all.shown (then_at told) (then_known told) (ending_after same hash s new i f end w2 did.deed t it)
-        → NotesCounters (then_known told) (ending_after same hash s new i f end w2 did.deed t it) → ShowsWhole same name (then_at told) (then_known told) (ending_after same hash s new i f end w2 did.deed t it)
+    pub end_keeps_whole : (t : Settled (Node K V)) (it : EndingHasOutcome same hash s new i f end w2 did.deed t) → RowsReclaimNone (record s { world = w2 })
+        → RefinesAfter same name m known s whole.all.shown (then_at told) (then_known told) (ending_after same hash s new i f end w2 did.deed t it)
+        → NotesCounters (then_known told) (ending_after same hash s new i f end w2 did.deed t it) → RefinesWhole same name (then_at told) (then_known told) (ending_after same hash s new i f end w2 did.deed t it)
     end_keeps_whole settled.Goes it rows after counters = whole_at _ refl refl refl it.1 (record { none = rows.none; one = rows.one }) after counters
     end_keeps_whole settled.Waits it rows after counters = absurd it
     end_keeps_whole (settled.Gave value) it rows after counters = whole_at _ refl refl refl it.3 (record { none = rows.none; one = rows.one }) after counters
@@ -251,7 +251,7 @@ ends_with map (Taken t) v of_map outside = (of_map, each_waits_outside _ _ v out
 ends_with map _ v of_map outside = tt
 
 module _ (K V : Type 0) (same : K → K → Bool) (hash : ℕ → K → ℕ) where
-  pub endings_keep_whole : EndingsKeepWhole K V same hash
+  pub endings_keep_whole : EndingsPreserveWhole K V same hash
   endings_keep_whole name m known s old new at whole i told leads f here map not_there of_map waits =
       let to = leads f here in
       let finds = end_numbers same hash name m known s old new at whole i f here to.0 told to.1 to.2 map not_there to.3 in

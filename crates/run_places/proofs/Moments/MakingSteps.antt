@@ -19,7 +19,7 @@ use Rattle.run_shows.specs.Given.EffectsDeclared.changed.Changed.{Changed}
 use Rattle.run_shows.specs.Given.EffectsDeclared.changed.Changed.TheVariants as changed
 use Rattle.run_shows.specs.Given.RuleInWorld.{IsOut, IsMapIn}
 use Rattle.run_shows.proofs.Given.CallersTogether.At.{at_other, at_same}
-use Rattle.run_shows.specs.Given.FinishesEndings.{MakingStepsAmong}
+use Rattle.run_shows.specs.Given.FinishesEndings.{MakingStepsWithEndings}
 use Rattle.run_shows.specs.Given.FinishesMakings.{Beginning, IsMade}
 use Rattle.run_shows.specs.Given.FinishesMaps.{Standing}
 use Rattle.run_shows.specs.Given.EffectsEffects.{table_at, made_role, taken_by, led_to, linked_on, named, names_same, effects_of, known_after}
@@ -32,7 +32,7 @@ use Rattle.run_shows.proofs.Follows.Alike.{AllStill, calm_still, put_here, put_e
 use Rattle.run_shows.proofs.Follows.Onward.{IsOfMap}
 use Rattle.run_shows.proofs.Follows.Operations.{LeavesBy}
 use Rattle.run_places.specs.Hands.Hands.{IsInUse}
-use Rattle.run_places.specs.Hands.Rows.{ShowsRows}
+use Rattle.run_places.specs.Hands.Rows.{RowsReclaimNone}
 use Rattle.run_places.proofs.Hands.Others.{makings_go_aside}
 use Rattle.run_shows.specs.Others.Makings.{IsNew, WasNew, making_after}
 use Rattle.run_shows.proofs.Others.Leads.{word_says}
@@ -43,8 +43,8 @@ use Rattle.run_shows.proofs.Others.Makes.{no_table_word, not_going, not_refused,
 use Rattle.run_shows.proofs.Others.Quiet.{calls_none, stored_none}
 use Rattle.run_places.proofs.Spots.Calm.{put_back}
 use Rattle.run_places.proofs.Spots.Makings.{makings_leave_places}
-use Rattle.run_places.specs.Moments.Makings.{MakingsKeepWhole}
-use Rattle.run_places.specs.Moments.Whole.{ShowsWhole}
+use Rattle.run_places.specs.Moments.Makings.{MakingsPreserveWhole}
+use Rattle.run_places.specs.Moments.Whole.{RefinesWhole}
 use Rattle.run_places.proofs.Moments.Beside.{CameAsTable, StoodSo, StandsNew, IsBeside, hands_beside, asked_beside}
 use Rattle.run_places.proofs.Moments.Makings.{none_of_it, none_of_map, not_of_map, before_free, makings_keep_blocks}
 use Rattle.run_places.proofs.Moments.OnSlots.{IsAlone, alone, still_alone, none_some, Keeps, same_roles}
@@ -55,8 +55,8 @@ use Rattle.run_places.proofs.Spots.Unreclaimed.{of_map_lasts as lasting_of}
 use Rattle.run_shows.proofs.Given.General.{same_some as one_of}
 
 module _ {K V : Type 0} (same : K → K → Bool) (hash : ℕ → K → ℕ) (name : ℕ → List ℕ) (m : Moment K V) (known : Known) (s : Scene K V) (old new : Held K V) (at : IsAt same hash old s)
-    (whole : ShowsWhole same name m known s) (i : ℕ) (b : Beginning K) (here : s.makers i ≡ Some b) (end : NewMap) (said : Advance Setting) (steps : MakingStepsFrom b.machine old new end said)
-    (did : MakingStepsAmong V same same old.batch_size old.roots slot_of s.world s.maps s.calls s.makers s.enders i b new.memory (end, said)) (of : Option ℕ) where
+    (whole : RefinesWhole same name m known s) (i : ℕ) (b : Beginning K) (here : s.makers i ≡ Some b) (end : NewMap) (said : Advance Setting) (steps : MakingStepsFrom b.machine old new end said)
+    (did : MakingStepsWithEndings V same same old.batch_size old.roots slot_of s.world s.maps s.calls s.makers s.enders i b new.memory (end, said)) (of : Option ℕ) where
   abbrev w : World (Node K V)
   w = s.world
 
@@ -254,7 +254,7 @@ module _ {K V : Type 0} (same : K → K → Bool) (hash : ℕ → K → ℕ) (na
     done_beside = making_beside rest refl refl (all_went rest (λ r before after is. root_went r before after is)) stood_or_new
 
 module _ (K V : Type 0) (same : K → K → Bool) (hash : ℕ → K → ℕ) where
-  module _ (name : ℕ → List ℕ) (m : Moment K V) (known : Known) (s : Scene K V) (old new : Held K V) (at : IsAt same hash old s) (whole : ShowsWhole same name m known s)
+  module _ (name : ℕ → List ℕ) (m : Moment K V) (known : Known) (s : Scene K V) (old new : Held K V) (at : IsAt same hash old s) (whole : RefinesWhole same name m known s)
       (i : ℕ) (told : Advance Setting) (leads : MakingLeads same hash i told s old new) (b : Beginning K) (here : s.makers i ≡ Some b) (of : Option ℕ)
       (was_new : WasNew b.map told m) where
     abbrev v : Moment K V
@@ -266,7 +266,7 @@ module _ (K V : Type 0) (same : K → K → Bool) (hash : ℕ → K → ℕ) whe
     abbrev s2 : Scene K V
     s2 = making_after same hash s old new i b (leads b here).0 (leads b here).2.step.w2 told (leads b here).3
 
-    whole_then : IsBeside m v known after_known s s2 → IsAt same hash new s2 → ShowsRows s2 → ShowsWhole same name v after_known s2
+    whole_then : IsBeside m v known after_known s s2 → IsAt same hash new s2 → RowsReclaimNone s2 → RefinesWhole same name v after_known s2
     whole_then beside at_new rows =
         let after = makings_are_shown K V same hash name m known s old new at whole.all.shown i told leads b here of (whole.counters i b here) was_new in
         let lie = makings_leave_places K V same hash name m known s old new at whole.all.shown i told leads b here of whole.places whole.outside in
@@ -284,7 +284,7 @@ module _ (K V : Type 0) (same : K → K → Bool) (hash : ℕ → K → ℕ) whe
         }
 
   -- what calls and hands are asked by lasts by each step of a making
-  pub makings_go_beside : (name : ℕ → List ℕ) (m : Moment K V) (known : Known) (s : Scene K V) (old new : Held K V) (at : IsAt same hash old s) (whole : ShowsWhole same name m known s)
+  pub makings_go_beside : (name : ℕ → List ℕ) (m : Moment K V) (known : Known) (s : Scene K V) (old new : Held K V) (at : IsAt same hash old s) (whole : RefinesWhole same name m known s)
       → (i : ℕ) (told : Advance Setting) (leads : MakingLeads same hash i told s old new) (b : Beginning K) (here : s.makers i ≡ Some b) (of : Option ℕ) → WasNew b.map told m
       → IsBeside m (with_effects None of (effects_of (acts.Making b.map) known new.changed) m) known (known_after (acts.Making b.map) new.changed known) s
       (making_after same hash s old new i b (leads b here).0 (leads b here).2.step.w2 told (leads b here).3)
@@ -307,7 +307,7 @@ module _ (K V : Type 0) (same : K → K → Bool) (hash : ℕ → K → ℕ) whe
       (λ r before after is. absurd (not_refused same hash name m known s old new at whole.all.shown i b here to.0 (progress.Refused fault) to.1 to.2 of r before after is fault refl)))
       (stood_still same hash name m known s old new at whole i b here to.0 (progress.Refused fault) to.1 to.2 of s2 refl)
 
-  pub makings_keep_whole : MakingsKeepWhole K V same hash
+  pub makings_keep_whole : MakingsPreserveWhole K V same hash
   makings_keep_whole name m known s old new at whole i progress.Goes leads b here of was_new =
       let rows = makings_go_aside K V same hash s old new at whole.all.rows i progress.Goes leads b here in
       whole_then name m known s old new at whole i progress.Goes leads b here of was_new

@@ -11,19 +11,19 @@ use Rattle.run_shows.specs.Given.SchedulesMoment.{UnderWay as CallThere, MapTher
 use Rattle.run_shows.specs.Given.SchedulesViews.{map_at}
 use Rattle.run_shows.specs.Given.EffectsKnown.{Known}
 use Rattle.run_shows.specs.Given.EffectsDeclared.role.Role.TheVariants as role
-use Rattle.run_shows.specs.Follows.Shows.{Shows}
-use Rattle.run_places.specs.Hands.Asked.{IsAsked, ShowsAsked}
+use Rattle.run_shows.specs.Follows.Shows.{Refines}
+use Rattle.run_places.specs.Hands.Asked.{IsAsked, RefinesAsked}
 use Rattle.run_places.specs.Hands.Hands.{IsInUse}
-use Rattle.run_shows.specs.Others.After.{ShowsAfter}
+use Rattle.run_shows.specs.Others.After.{RefinesAfter}
 use Rattle.run_shows.proofs.Others.Counters.{beginnings_note_counters}
 use Rattle.run_shows.proofs.Others.MakeBegins.{maps_are_there}
 use Rattle.run_places.specs.Moments.Makings.{MakingsBeginWhole, MapsComeWhole}
 use Rattle.run_places.proofs.Moments.Makings.{none_of_it}
 use Rattle.run_shows.specs.Scenes.Scene.{Scene}
 
-module _ {K V : Type 0} (same : K → K → Bool) (name : ℕ → List ℕ) (m m2 : Moment K V) (known : Known) (s : Scene K V) (shown : Shows same name m known s) where
+module _ {K V : Type 0} (same : K → K → Bool) (name : ℕ → List ℕ) (m m2 : Moment K V) (known : Known) (s : Scene K V) (shown : Refines same name m known s) where
   -- what calls were asked and told stays as it was where they and the maps that stand are so
-  pub asked_still : (after : ShowsAfter same name m known s shown m2 known s) → m2.calls ≡ m.calls → ShowsAsked name shown.number m known s → ShowsAsked name after.shows.number m2 known s
+  pub asked_still : (after : RefinesAfter same name m known s shown m2 known s) → m2.calls ≡ m.calls → RefinesAsked name shown.number m known s → RefinesAsked name after.shows.number m2 known s
   asked_still after calls asked = record {
     apart = asked.apart;
     each = λ map i u here st there c found.

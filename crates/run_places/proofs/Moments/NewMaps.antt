@@ -9,7 +9,7 @@ use Rattle.run_shows.specs.Given.SchedulesEffects.{in_map, with_effect, with_eff
 use Rattle.run_shows.specs.Given.SchedulesMoment.{InMap, Out, Handed, Behind, Left, GivenBack, Moment}
 use Rattle.run_shows.specs.Given.SchedulesViews.{behind}
 use Rattle.run_shows.proofs.Follows.Alike.{put_here, put_elsewhere}
-use Rattle.run_places.specs.Moments.Numbers.{PairsAreBelow, PairsBegin, PairsStayAsMapsCome, PairsStayAsMapsGo, EffectsKeepPairs, MapsComeAsNew}
+use Rattle.run_places.specs.Moments.Numbers.{PairsAreBelow, PairsBegin, PairsStayAsMapsCome, PairsStayAsMapsGo, EffectsPreservePairs, MapsComeAsNew}
 use Rattle.run_places.proofs.Moments.Numbers.{itself, maps_come_by_number}
 use Rattle.run_places.proofs.Moments.OnSlots.{put_out, all_out}
 
@@ -47,7 +47,7 @@ pairs_stay_as_maps_come K V m below there n map is = let l = below n map is in o
 pub pairs_stay_as_maps_go : (K V : Type 0) → PairsStayAsMapsGo K V
 pairs_stay_as_maps_go K V m below own remains = below
 
-pub effects_keep_pairs : (K V : Type 0) → EffectsKeepPairs K V
+pub effects_keep_pairs : (K V : Type 0) → EffectsPreservePairs K V
 effects_keep_pairs K V m below caller acted effects made = all_below caller acted effects m made below
 
 pub maps_come_as_new : (K V : Type 0) → MapsComeAsNew K V

@@ -28,7 +28,7 @@ use Rattle.run_shows.specs.Given.EffectsDeclared.role.Role.{Role}
 use Rattle.run_shows.specs.Given.EffectsDeclared.role.Role.TheVariants as role
 use Rattle.run_shows.proofs.Others.EndBegins.{found_still}
 use Rattle.run_shows.proofs.Others.RowPlans.{TellsRow, row_tells}
-use Rattle.run_places.specs.Moments.Numbers.{NumbersMaps, NumbersBegin, MapsComeByNumber, MapsGo, StepsKeepNumbers, NumbersAreBelow, RowsKeepNumbers}
+use Rattle.run_places.specs.Moments.Numbers.{NumbersMaps, NumbersBegin, MapsComeByNumber, MapsGo, StepsPreserveNumbers, NumbersAreBelow, RowsPreserveNumbers}
 use Rattle.run_shows.proofs.Follows.OfEach.{OfEach, each_operation_so}
 
 module _ {X : Type 0} where
@@ -196,7 +196,7 @@ module _ (made : ℕ) where
 pub numbers_begin : (K V : Type 0) → NumbersBegin K V
 numbers_begin K V = record { found = λ k d l. absurd (omega (arith, l)); below = λ k d l. absurd (omega (arith, l)); tables = λ k d l. absurd (omega (arith, l)) }
 
-pub steps_keep_numbers : (K V : Type 0) → StepsKeepNumbers K V
+pub steps_keep_numbers : (K V : Type 0) → StepsPreserveNumbers K V
 steps_keep_numbers K V m n caller acted acting known told l = all_kept caller acted (effects_of acting known told) m (acting_links m.made acting l known told) n
 
 pub numbers_are_below : (K V : Type 0) → NumbersAreBelow K V
@@ -251,7 +251,7 @@ maps_go K V m n own remains = record {
     keep f = not (is_same f.name own)
 
 module _ (K V : Type 0) (same : K → K → Bool) (hash : ℕ → K → ℕ) where
-  pub rows_keep_numbers : RowsKeepNumbers K V same hash
+  pub rows_keep_numbers : RowsPreserveNumbers K V same hash
   rows_keep_numbers m n known s old new i told leads row here =
       let to = leads row here in
       all_kept None None (effects_of acts.Row known new.changed) m

@@ -51,7 +51,7 @@ use Rattle.run_places.proofs.Spots.Calm.{put_back}
 use Rattle.run_places.proofs.Spots.Deferred.{effects_leave_outside, each_waits_outside}
 use Rattle.run_places.proofs.Spots.OnSlots.{row_beside as finds_numbers, rows_leave_places, rows_keep_blocks}
 use Rattle.run_places.proofs.Spots.Stays.{places_stay}
-use Rattle.run_places.specs.Moments.OnSlots.{HadRetired, RowsBeginWhole, RowsKeepWhole}
+use Rattle.run_places.specs.Moments.OnSlots.{HadRetired, RowsBeginWhole, RowsPreserveWhole}
 use Rattle.run_places.proofs.Moments.Beside.{IsBeside, hands_beside, asked_beside}
 use Rattle.run_shows.proofs.Scenes.May.{may_row}
 use Rattle.run_shows.specs.Scenes.Held.{Held, IsAt}
@@ -232,7 +232,7 @@ begun_hands size slot i w v call.Flush h = ap (λ (x : World (Node _ _)). x.hand
 begun_hands size slot i w v call.Unregister h = ap (λ (x : World (Node _ _)). x.hand) h.1
 
 module _ (K V : Type 0) (same : K → K → Bool) (hash : ℕ → K → ℕ) where
-  pub rows_keep_whole : RowsKeepWhole K V same hash
+  pub rows_keep_whole : RowsPreserveWhole K V same hash
   rows_keep_whole name m known s old new at whole i told leads row here retired unreclaimed =
       let to = leads row here in
       let tells = row_tells old.memory new.memory new.changed (to.0, told) row to.1 in

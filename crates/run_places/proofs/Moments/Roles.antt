@@ -8,25 +8,25 @@ use Rattle.run_shows.specs.Given.TablesDeclared.node.Node.{Node}
 use Rattle.run_shows.specs.Given.RawDeclared.machines.answer.Called.{Called}
 use Rattle.run_shows.specs.Given.RawDeclared.machines.call.KeyCall.{KeyCall}
 use Rattle.run_shows.specs.Given.SchedulesMoment.{Moment}
-use Rattle.run_shows.specs.Given.CallersSights.{IsSight}
+use Rattle.run_shows.specs.Given.CallersSights.{IsVisibility}
 use Rattle.run_shows.specs.Given.CallersTogether.{CallOnKey}
 use Rattle.run_shows.proofs.Given.CallersTogether.At.{at_same}
 use Rattle.run_shows.specs.Given.EffectsKnown.{Known}
 use Rattle.run_shows.specs.Given.EffectsDeclared.role.Role.TheVariants as role
-use Rattle.run_shows.specs.Given.FinishesEndings.{StepsAmong}
+use Rattle.run_shows.specs.Given.FinishesEndings.{StepsWithEndings}
 use Rattle.run_shows.specs.Given.FinishesMaps.{Standing}
-use Rattle.run_shows.specs.Follows.Shows.{Shows}
+use Rattle.run_shows.specs.Follows.Shows.{Refines}
 use Rattle.run_shows.specs.Scenes.Scene.{Scene, slot_of}
 
-module _ {K V : Type 0} (same : K → K → Bool) (batch_size roots : ℕ) (s : Scene K V) (map i : ℕ) (st : Standing K) (sight : IsSight st.chart st.blocks (st.sights (slot_of i))) (x : CallOnKey K V K)
+module _ {K V : Type 0} (same : K → K → Bool) (batch_size roots : ℕ) (s : Scene K V) (map i : ℕ) (st : Standing K) (sight : IsVisibility st.chart st.blocks (st.sights (slot_of i))) (x : CallOnKey K V K)
     (m2 : Mem (Node K V)) (p2 : KeyCall K V K) (end : Called (Node K V))
-    (step : StepsAmong V same same batch_size roots slot_of s.world s.maps s.calls s.makers s.enders map st i x m2 p2 end) where
+    (step : StepsWithEndings V same same batch_size roots slot_of s.world s.maps s.calls s.makers s.enders map st i x m2 p2 end) where
   -- how the map stands then
   abbrev pub standing_then : Standing K
   standing_then = record st { chart = step.step.went.c2; blocks = step.step.blocks2; sights = step.step.sights2 }
 
   -- where a moment shows it so
-  module _ {name : ℕ → List ℕ} {v : Moment K V} {known : Known} {led : Scene K V} (shows : Shows same name v known led) (moved : led.maps ≡ with_at s.maps map (Some standing_then)) where
+  module _ {name : ℕ → List ℕ} {v : Moment K V} {known : Known} {led : Scene K V} (shows : Refines same name v known led) (moved : led.maps ≡ with_at s.maps map (Some standing_then)) where
     there : led.maps map ≡ Some standing_then
     there = ap (λ (f : ℕ → Option (Standing K)). f map) moved ∙ at_same s.maps map (Some standing_then) map refl
 

@@ -11,23 +11,23 @@ use Rattle.run_shows.specs.Given.EffectsKnown.{Known}
 use Rattle.run_shows.specs.Given.FinishesMachines.{machine_of}
 use Rattle.run_shows.specs.Given.FinishesMaps.{Standing, with_call}
 use Rattle.run_shows.specs.Follows.Calling.{NoneNamed}
-use Rattle.run_places.specs.Hands.Asked.{IsAsked, ShowsAsked}
+use Rattle.run_places.specs.Hands.Asked.{IsAsked, RefinesAsked}
 use Rattle.run_places.specs.Hands.Calling.{AsksJust}
 use Rattle.run_places.proofs.Hands.Asking.{which}
 use Rattle.run_places.proofs.Hands.HandsOn.{hands_with}
 use Rattle.run_places.proofs.Hands.Others.{calls_go_aside}
-use Rattle.run_shows.specs.Others.After.{ShowsAfter}
+use Rattle.run_shows.specs.Others.After.{RefinesAfter}
 use Rattle.run_shows.specs.Others.Walks.{given_up}
 use Rattle.run_shows.proofs.Others.Walks.{fewer_calls, with_calls, walks_go_on, walks_are_given_up}
-use Rattle.run_places.specs.Moments.Walks.{WalksGoOnWhole, WalksStopWhole}
-use Rattle.run_places.specs.Moments.Whole.{ShowsWhole}
+use Rattle.run_places.specs.Moments.Walks.{WalksPreserveWhole, WalksStopWhole}
+use Rattle.run_places.specs.Moments.Whole.{RefinesWhole}
 use Rattle.run_places.proofs.Moments.Calls.{calls_come_to_whole}
 use Rattle.run_shows.specs.Scenes.Replying.{unless_stopped}
 use Rattle.run_shows.specs.Scenes.Scene.{Scene}
 use Rattle.run_shows.proofs.Given.General.{same_some as one_of}
 
 -- a call goes on as another one, or is under way no more, and nothing else has changed
-module _ {K V : Type 0} (same : K → K → Bool) (name : ℕ → List ℕ) (m : Moment K V) (known : Known) (s : Scene K V) (whole : ShowsWhole same name m known s)
+module _ {K V : Type 0} (same : K → K → Bool) (name : ℕ → List ℕ) (m : Moment K V) (known : Known) (s : Scene K V) (whole : RefinesWhole same name m known s)
     (map i : ℕ) (u : UnderWay K V K) (here : s.calls map i ≡ Some u) (next : Option (UnderWay K V K)) where
   abbrev then_at : Scene K V
   then_at = record s { calls = with_call s.calls map i next }
@@ -40,7 +40,7 @@ module _ {K V : Type 0} (same : K → K → Bool) (name : ℕ → List ℕ) (m :
   was n j x (inl its) = (u, ap (λ (k : ℕ). s.calls k j) its.0 ∙ ap (s.calls map) its.1 ∙ here)
   was n j x (inr other) = (x, other.1)
 
-  module _ (after : ShowsAfter same name m known s whole.all.shown m known then_at)
+  module _ (after : RefinesAfter same name m known s whole.all.shown m known then_at)
       (asks : (x : UnderWay K V K) → next ≡ Some x → (st : Standing K) → s.maps map ≡ Some st → (c : CallThere K V) → call_of (name i) m ≡ Some c
       → IsAsked (whole.all.shown.number map) st.chart.stored known x c) where
     one_asked : (n j : ℕ) (x : UnderWay K V K) (st : Standing K) → s.maps n ≡ Some st → (c : CallThere K V) → call_of (name j) m ≡ Some c → Which n j x
@@ -50,7 +50,7 @@ module _ {K V : Type 0} (same : K → K → Bool) (name : ℕ → List ℕ) (m :
         (asks x its.2 st (ap s.maps (sym its.0) ∙ there) c (ap (λ (k : ℕ). call_of (name k) m) (sym its.1) ∙ found))
     one_asked n j x st there c found (inr other) = whole.all.asked.each n j x other.1 st there c found
 
-    then_asked : ShowsAsked name after.shows.number m known then_at
+    then_asked : RefinesAsked name after.shows.number m known then_at
     then_asked = record {
       apart = λ n j k l x y is is2 names.
           let a = was n j x (which s.calls map i next n j x is) in
@@ -60,7 +60,7 @@ module _ {K V : Type 0} (same : K → K → Bool) (name : ℕ → List ℕ) (m :
           subst (λ (f : ℕ → ℕ). IsAsked f st.chart.stored known x c) (sym (after.numbers n st there)) (one_asked n j x st there c found (which s.calls map i next n j x is));
     }
 
-    pub then_whole : ShowsWhole same name m known then_at
+    pub then_whole : RefinesWhole same name m known then_at
     then_whole = record {
       all = record {
         shown = after.shows;
@@ -94,7 +94,7 @@ module _ {K V : Type 0} where
   asks_nothing known (OverAll o) = tt
 
 module _ (K V : Type 0) (same : K → K → Bool) (hash : ℕ → K → ℕ) where
-  pub walks_go_on_whole : WalksGoOnWhole K V same hash
+  pub walks_go_on_whole : WalksPreserveWhole K V same hash
   walks_go_on_whole name m known s old new whole i leads map u here =
       let to = leads map u here in
       then_whole same name m known s whole map i u here (Some to.0) (walks_go_on K V same hash name m known s old new whole.all.shown i leads map u here)
@@ -108,8 +108,8 @@ module _ (K V : Type 0) (same : K → K → Bool) (hash : ℕ → K → ℕ) whe
       at_end : Bool → Scene K V
       at_end q = record s { calls = with_call s.calls map i (unless_stopped q u) }
 
-      by : (q : Bool) → ((q ≡ true → NoneNamed name (name i) (at_end q)) → ShowsAfter same name m known s whole.all.shown (given_up (name i) q m) known (at_end q))
-          → (q ≡ true → NoneNamed name (name i) (at_end q)) → ShowsWhole same name (given_up (name i) q m) known (at_end q)
+      by : (q : Bool) → ((q ≡ true → NoneNamed name (name i) (at_end q)) → RefinesAfter same name m known s whole.all.shown (given_up (name i) q m) known (at_end q))
+          → (q ≡ true → NoneNamed name (name i) (at_end q)) → RefinesWhole same name (given_up (name i) q m) known (at_end q)
       by true after none =
           let without = record s { calls = with_call s.calls map i None } in
           let before = with_calls same name m known s (with_call s.calls map i None) (fewer_calls same name m s.calls map i u here None (λ x e. absurd (cc e)) whole.all.shown.calls) whole.all.shown in

@@ -21,7 +21,7 @@ use Rattle.run_shows.specs.Given.FinishesMaps.{Standing}
 use Rattle.run_shows.specs.Given.FinishesOrders.{pairs_of}
 use Rattle.run_shows.proofs.Given.FinishesEnds.CountedBlocks.{some_of_first}
 use Rattle.run_shows.specs.Given.EffectsKnown.{Known}
-use Rattle.run_shows.specs.Follows.Maps.{ShowsMap, shape_at, table_of, tables_to}
+use Rattle.run_shows.specs.Follows.Maps.{RefinesMap, shape_at, table_of, tables_to}
 use Rattle.run_shows.proofs.Follows.Alike.{put_here}
 use Rattle.run_places.specs.Moments.WholeEnds.{all_ended, tables_ended, WholeEndsTakeAll}
 use Rattle.run_places.proofs.Moments.After.{effects_after}
@@ -117,7 +117,7 @@ in_it : (q : Bool) (n : ℕ) → q ≡ true → n ≡ cond q 1 0 → 0 < n
 in_it true n e is = omega (arith, is)
 in_it false n e is = absurd (cc e)
 
-module _ {K V : Type 0} (m : Moment K V) (known : Known) (of : ℕ) (number : ℕ → ℕ) (st : Standing K) (shows : ShowsMap of number st m known) (once : AllPairsOnce (is_incremental st.setting.mode) st.chart) where
+module _ {K V : Type 0} (m : Moment K V) (known : Known) (of : ℕ) (number : ℕ → ℕ) (st : Standing K) (shows : RefinesMap of number st m known) (once : AllPairsOnce (is_incremental st.setting.mode) st.chart) where
   abbrev pairs : List ℕ
   pairs = pairs_of (is_incremental st.setting.mode) st.chart
 

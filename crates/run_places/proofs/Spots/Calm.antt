@@ -15,10 +15,10 @@ use Rattle.run_shows.specs.Given.EffectsDeclared.changed.Changed.{Changed}
 use Rattle.run_shows.specs.Given.EffectsDeclared.changed.Changed.TheVariants as changed
 use Rattle.run_shows.specs.Given.EffectsDeclared.changed.Kind.{Kind}
 use Rattle.run_shows.specs.Given.EffectsDeclared.changed.Kind.TheVariants as kind
-use Rattle.run_shows.specs.Given.TellsTells.{KeepsNames}
+use Rattle.run_shows.specs.Given.TellsTells.{PreservesNames}
 use Rattle.run_shows.specs.Given.RuleChart.{Chart}
 use Rattle.run_shows.specs.Given.RuleWords.{Blocks}
-use Rattle.run_shows.specs.Given.RuleInWorld.{IsMapIn, Went}
+use Rattle.run_shows.specs.Given.RuleInWorld.{IsMapIn, StepSpec}
 use Rattle.run_shows.specs.Given.EffectsEffects.{made_by, taken_by, effects_of, known_after}
 use Rattle.run_shows.specs.Given.EffectsKnown.{Known}
 use Rattle.run_shows.specs.Given.EffectsDeclared.acting.Acting.{Acting}
@@ -53,10 +53,10 @@ pub record IsCalm (known : Known) (effects : List Effect) (known2 : Known) : Typ
   pub back : (b : ℕ) → IsOfMap (known2.roles b) → known2.roles b ≡ known.roles b
 
 module _ {K V : Type 0} (same : K → K → Bool) (hash : K → ℕ) (setting : Setting) (caller : ℕ) (w : World (Node K V)) (c : Chart K) (blocks : Blocks)
-    (m2 : Mem (Node K V)) (Told : World (Node K V) → Chart K → Blocks → Type 0) (went : Went same hash setting caller w c blocks m2 Told) (is_map : IsMapIn same hash setting w c blocks)
+    (m2 : Mem (Node K V)) (Told : World (Node K V) → Chart K → Blocks → Type 0) (went : StepSpec same hash setting caller w c blocks m2 Told) (is_map : IsMapIn same hash setting w c blocks)
     (map : ℕ) (count : List (K × V)) (known : Known) (had : (b : ℕ) → HasRole w count b (known.roles b)) (single : ArePairsOnce known.roles)
     (tables : (t : ℕ) → t < c.past → blocks.table_known t ≡ true → known.roles (blocks.table t) ≡ role.Table (table_of map t) (c.len t))
-    (told : Changed) (left : LeavesBy w.memory m2 told) (quiet : (at : At) (old new : ℕ) → told ≡ changed.Wrote at old new → KeepsNames setting c blocks at old new) where
+    (told : Changed) (left : LeavesBy w.memory m2 told) (quiet : (at : At) (old new : ℕ) → told ≡ changed.Wrote at old new → PreservesNames setting c blocks at old new) where
   abbrev its : Acting
   its = Call caller map
 

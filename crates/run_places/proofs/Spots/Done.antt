@@ -20,17 +20,17 @@ use Rattle.run_shows.specs.Given.SchedulesMoment.{Moment}
 use Rattle.run_shows.specs.Given.EffectsDeclared.changed.Changed.{Changed}
 use Rattle.run_shows.specs.Given.EffectsDeclared.changed.Changed.TheVariants as changed
 use Rattle.run_shows.specs.Given.TellsSeen.{Seen, Wrote}
-use Rattle.run_shows.specs.Given.TellsTells.{place_at, last_link, IsQuiet, new_word, IsSeenAs, IsTold}
+use Rattle.run_shows.specs.Given.TellsTells.{place_at, last_link, IsSilent, new_word, IsSeenAs, IsObserved}
 use Rattle.run_shows.specs.Given.RuleChart.{Phase, Still, Copying, Holds, Chart}
 use Rattle.run_shows.specs.Given.RuleMoves.{Move, Links, Stores, Replaces, Removes, Marks, MarksBlocking, Skips, Unmarks, Puts, Covers, PutsLate, Claims, Reclaims, Counts, GivesUp, Aborts, Promotes, Announces, Allowed, after, without}
 use Rattle.run_shows.specs.Given.RuleWords.{Blocks, byte_of, place_word}
 use Rattle.run_shows.specs.Given.RuleMaps.{spot_of}
-use Rattle.run_shows.specs.Given.RuleInWorld.{IsMapIn, Moved, Went}
+use Rattle.run_shows.specs.Given.RuleInWorld.{IsMapIn, Moved, StepSpec}
 use Rattle.run_shows.proofs.Given.RuleMoves.Writes.{put_in_here}
 use Rattle.run_shows.proofs.Given.RuleLaws.{words_name_pairs, bytes_are_few}
 use Rattle.run_shows.proofs.Given.RuleWords.TablesSeen.{block_of_link}
 use Rattle.run_shows.specs.Given.PointsSteps.{AreLawful}
-use Rattle.run_shows.specs.Given.CallersSights.{Sight, seen_by, IsGrown, IsSight}
+use Rattle.run_shows.specs.Given.CallersSights.{Visible, seen_by, IsGrown, IsVisibility}
 use Rattle.run_shows.specs.Given.CallersTogether.{in_slot}
 use Rattle.run_shows.specs.Given.FinishesMaps.{Standing}
 use Rattle.run_shows.specs.Given.EffectsEffects.{spot_at, placed, effects_of, known_after}
@@ -39,8 +39,8 @@ use Rattle.run_shows.specs.Given.EffectsDeclared.acting.Acting.{Acting}
 use Rattle.run_shows.specs.Given.EffectsDeclared.acting.Acting.TheVariants.{Call}
 use Rattle.run_shows.specs.Given.EffectsDeclared.role.Role.{Role}
 use Rattle.run_shows.specs.Given.EffectsDeclared.role.Role.TheVariants as role
-use Rattle.run_shows.specs.Follows.Blocks.{ShowsBlocks}
-use Rattle.run_shows.specs.Follows.Maps.{table_of, ShowsMap}
+use Rattle.run_shows.specs.Follows.Blocks.{RefinesBlocks}
+use Rattle.run_shows.specs.Follows.Maps.{table_of, RefinesMap}
 use Rattle.run_shows.proofs.Follows.Linked.{was_own as own_before}
 use Rattle.run_shows.proofs.Follows.Operations.{LeavesBy}
 use Rattle.run_shows.proofs.Follows.Stored.{inside, still_home, was_own}
@@ -49,10 +49,10 @@ use Rattle.run_places.specs.Spots.Spots.{spot_in}
 use Rattle.run_places.proofs.Spots.Calm.{IsCalm, calm_done}
 
 module _ {K V : Type 0} (same : K → K → Bool) (slot caller map : ℕ) (name : Option (List ℕ)) (number : ℕ → ℕ) (s : Standing K) (lawful : AreLawful same s.hash)
-    (w : World (Node K V)) (sight : Sight) (is_sight : IsSight s.chart s.blocks sight) (is_map : IsMapIn same s.hash (in_slot s.setting slot) w s.chart (seen_by s.blocks sight))
+    (w : World (Node K V)) (sight : Visible) (is_sight : IsVisibility s.chart s.blocks sight) (is_map : IsMapIn same s.hash (in_slot s.setting slot) w s.chart (seen_by s.blocks sight))
     (m2 : Mem (Node K V)) (Told : World (Node K V) → Chart K → Blocks → Type 0)
-    (went : Went same s.hash (in_slot s.setting slot) caller w s.chart (seen_by s.blocks sight) m2 Told) (blocks2 : Blocks) (grown : IsGrown s.chart s.blocks went.blocks2 blocks2) (sights2 : ℕ → Sight)
-    (m : Moment K V) (known : Known) (shown : ShowsMap map number s m known) (shown_blocks : ShowsBlocks m known w) where
+    (went : StepSpec same s.hash (in_slot s.setting slot) caller w s.chart (seen_by s.blocks sight) m2 Told) (blocks2 : Blocks) (grown : IsGrown s.chart s.blocks went.blocks2 blocks2) (sights2 : ℕ → Visible)
+    (m : Moment K V) (known : Known) (shown : RefinesMap map number s m known) (shown_blocks : RefinesBlocks m known w) where
   abbrev c : Chart K
   c = s.chart
 
@@ -131,9 +131,9 @@ module _ {K V : Type 0} (same : K → K → Bool) (slot caller map : ℕ) (name 
 
     module _ (seen : Seen (Node K V)) (as_told : (at : At) (old new : ℕ) → seen ≡ Wrote at old new → told ≡ changed.Wrote at old new)
         (as_seen : (at : At) (old new : ℕ) → told ≡ changed.Wrote at old new → seen ≡ Wrote at old new) where
-      calm : IsQuiet setting c seen_blocks seen → IsCalm known effects known2
+      calm : IsSilent setting c seen_blocks seen → IsCalm known effects known2
       calm quiet = calm_done same s.hash setting caller w c seen_blocks m2 Told went is_map map m.stored known shown_blocks.roles shown_blocks.once (λ t l seen. shown.tables.roles t l (is_sight.tables t l seen)) told left
-          (λ at old new e. subst (IsQuiet setting c seen_blocks) (as_seen at old new e) quiet)
+          (λ at old new e. subst (IsSilent setting c seen_blocks) (as_seen at old new e) quiet)
 
       -- a pair is copied into an empty place of a table that is seen
       copied : (t i n : ℕ) (new : ℕ) → t < c.past → sight.tables t ≡ true → i < c.len t → block_in new ≡ s.blocks.pair n → known.roles (s.blocks.pair n) ≡ role.Pair (number n) → 0 < s.blocks.pair n
@@ -334,9 +334,9 @@ module _ {K V : Type 0} (same : K → K → Bool) (slot caller map : ℕ) (name 
       by_move (Announces t) allowed is saw = calm saw
 
       -- so does a step, whichever it made
-      pub did_moved : IsTold s.hash setting c seen_blocks went.c2 went.blocks2 same caller went.moved seen → DidMoved went.moved
+      pub did_moved : IsObserved s.hash setting c seen_blocks went.c2 went.blocks2 same caller went.moved seen → DidMoved went.moved
       did_moved saw = by went.moved saw
         where
-          by : (moved : Moved same s.hash setting.mode caller c went.c2) → IsTold s.hash setting c seen_blocks went.c2 went.blocks2 same caller moved seen → DidMoved moved
+          by : (moved : Moved same s.hash setting.mode caller c went.c2) → IsObserved s.hash setting c seen_blocks went.c2 went.blocks2 same caller moved seen → DidMoved moved
           by (inl still) quiet = calm quiet
           by (inr made) saw = by_move made.0 made.1 made.2 saw

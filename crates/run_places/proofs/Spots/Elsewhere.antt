@@ -20,21 +20,21 @@ use Rattle.run_shows.specs.Given.RuleChart.{Chart}
 use Rattle.run_shows.specs.Given.RuleMoves.{Move, Links, Stores, Replaces, Removes, Marks, MarksBlocking, Skips, Unmarks, Puts, Covers, PutsLate, Claims, Reclaims, Counts, GivesUp, Aborts, Promotes, Announces}
 use Rattle.run_shows.specs.Given.RuleWords.{Blocks}
 use Rattle.run_shows.specs.Given.RuleMaps.{spot_of}
-use Rattle.run_shows.specs.Given.RuleInWorld.{IsMapIn, Moved, Went}
+use Rattle.run_shows.specs.Given.RuleInWorld.{IsMapIn, Moved, StepSpec}
 use Rattle.run_shows.specs.Given.PointsSteps.{AreLawful}
-use Rattle.run_shows.specs.Given.CallersSights.{Sight, seen_by, IsGrown, IsSight}
+use Rattle.run_shows.specs.Given.CallersSights.{Visible, seen_by, IsGrown, IsVisibility}
 use Rattle.run_shows.specs.Given.CallersTogether.{in_slot}
 use Rattle.run_shows.specs.Given.FinishesMaps.{Standing}
 use Rattle.run_shows.specs.Given.EffectsEffects.{effects_of, known_after}
 use Rattle.run_shows.specs.Given.EffectsKnown.{Known}
 use Rattle.run_shows.specs.Given.EffectsDeclared.acting.Acting.TheVariants.{Call}
 use Rattle.run_shows.specs.Given.EffectsDeclared.role.Role.TheVariants as role
-use Rattle.run_shows.specs.Follows.Blocks.{ShowsBlocks}
-use Rattle.run_shows.specs.Follows.Maps.{table_of, ShowsMap}
+use Rattle.run_shows.specs.Follows.Blocks.{RefinesBlocks}
+use Rattle.run_shows.specs.Follows.Maps.{table_of, RefinesMap}
 use Rattle.run_shows.proofs.Follows.Alike.{put_elsewhere}
 use Rattle.run_shows.proofs.Follows.Onward.{IsLasting, KeepsRoles}
 use Rattle.run_shows.proofs.Follows.Operations.{LeavesBy}
-use Rattle.run_places.specs.Spots.Spots.{spot_in, LiesAt, IsCopiedTo, IsPairOf, ShowsSpots}
+use Rattle.run_places.specs.Spots.Spots.{spot_in, LiesAt, IsCopiedTo, IsPairOf, RefinesSpots}
 use Rattle.run_places.proofs.Spots.Calm.{IsCalm}
 use Rattle.run_places.proofs.Spots.Done.{DidBy, DidMoved}
 use Rattle.run_places.proofs.Spots.Effects.{AllAside, AreAside, aside_all, calm_aside, spot_copied_other, spot_promoted_other}
@@ -70,8 +70,8 @@ module _ {K V : Type 0} where
   }
 
   -- each pair of another map lies where it lay
-  pub other_lies : (map of : ℕ) (number : ℕ → ℕ) (s : Standing K) (m v : Moment K V) (known known2 : Known) → of ≢ map → ShowsMap of number s m known → KeepsRoles known known2 → IsElsewhere map m v
-      → ((n : ℕ) → s.chart.current n ≡ true → is_in_map map (m.place (number n)) ≡ false) → ShowsSpots s m known → ShowsSpots s v known2
+  pub other_lies : (map of : ℕ) (number : ℕ → ℕ) (s : Standing K) (m v : Moment K V) (known known2 : Known) → of ≢ map → RefinesMap of number s m known → KeepsRoles known known2 → IsElsewhere map m v
+      → ((n : ℕ) → s.chart.current n ≡ true → is_in_map map (m.place (number n)) ≡ false) → RefinesSpots s m known → RefinesSpots s v known2
   other_lies map of number s m v known known2 apart shown keeps away out h = record {
     born = λ n k t i b pair e. subst (λ (x : TableId). x.turn ≤ t) (sym (away.born k (within n k pair))) (h.born n k t i b (was n k pair) e);
     whole = h.whole;
@@ -101,10 +101,10 @@ module _ {K V : Type 0} where
       elsewhere n k pair e = apart (sym (shown.pairs.born n pair.0) ∙ ap (λ (x : ℕ). (m.born x).map) (its n k pair) ∙ e)
 
 module _ {K V : Type 0} (same : K → K → Bool) (slot caller map : ℕ) (name : Option (List ℕ)) (number : ℕ → ℕ) (s : Standing K) (lawful : AreLawful same s.hash)
-    (w : World (Node K V)) (sight : Sight) (is_sight : IsSight s.chart s.blocks sight) (is_map : IsMapIn same s.hash (in_slot s.setting slot) w s.chart (seen_by s.blocks sight))
+    (w : World (Node K V)) (sight : Visible) (is_sight : IsVisibility s.chart s.blocks sight) (is_map : IsMapIn same s.hash (in_slot s.setting slot) w s.chart (seen_by s.blocks sight))
     (m2 : Mem (Node K V)) (Told : World (Node K V) → Chart K → Blocks → Type 0)
-    (went : Went same s.hash (in_slot s.setting slot) caller w s.chart (seen_by s.blocks sight) m2 Told) (blocks2 : Blocks) (grown : IsGrown s.chart s.blocks went.blocks2 blocks2) (sights2 : ℕ → Sight)
-    (m : Moment K V) (known : Known) (shown : ShowsMap map number s m known) (shown_blocks : ShowsBlocks m known w)
+    (went : StepSpec same s.hash (in_slot s.setting slot) caller w s.chart (seen_by s.blocks sight) m2 Told) (blocks2 : Blocks) (grown : IsGrown s.chart s.blocks went.blocks2 blocks2) (sights2 : ℕ → Visible)
+    (m : Moment K V) (known : Known) (shown : RefinesMap map number s m known) (shown_blocks : RefinesBlocks m known w)
     (told : Changed) (left : LeavesBy w.memory m2 told) where
   abbrev c : Chart K
   c = s.chart

@@ -26,9 +26,9 @@ use Rattle.run_shows.specs.Given.RuleRule.{Rule}
 use Rattle.run_shows.specs.Given.RuleMoves.{Move, Links, Stores, Replaces, Removes, Marks, MarksBlocking, Skips, Unmarks, Puts, Covers, PutsLate, Claims, Reclaims, Counts, GivesUp, Aborts, Promotes, Announces, MayChange, Allowed}
 use Rattle.run_shows.specs.Given.RuleWords.{Blocks}
 use Rattle.run_shows.specs.Given.RuleMaps.{spot_of}
-use Rattle.run_shows.specs.Given.RuleInWorld.{IsMapIn, Moved, Went}
+use Rattle.run_shows.specs.Given.RuleInWorld.{IsMapIn, Moved, StepSpec}
 use Rattle.run_shows.specs.Given.PointsSteps.{AreLawful}
-use Rattle.run_shows.specs.Given.CallersSights.{Sight, seen_by, IsGrown, IsSight}
+use Rattle.run_shows.specs.Given.CallersSights.{Visible, seen_by, IsGrown, IsVisibility}
 use Rattle.run_shows.specs.Given.CallersTogether.{in_slot}
 use Rattle.run_shows.specs.Given.FinishesMaps.{Standing}
 use Rattle.run_shows.specs.Given.EffectsEffects.{spot_at, taken_by, effects_of, known_after}
@@ -36,16 +36,16 @@ use Rattle.run_shows.specs.Given.EffectsKnown.{Known}
 use Rattle.run_shows.specs.Given.EffectsDeclared.acting.Acting.TheVariants.{Call}
 use Rattle.run_shows.specs.Given.EffectsDeclared.role.Role.{Role}
 use Rattle.run_shows.specs.Given.EffectsDeclared.role.Role.TheVariants as role
-use Rattle.run_shows.specs.Follows.Blocks.{ShowsBlocks}
-use Rattle.run_shows.specs.Follows.Maps.{table_of, shape_at, tables_to, ShowsMap}
+use Rattle.run_shows.specs.Follows.Blocks.{RefinesBlocks}
+use Rattle.run_shows.specs.Follows.Maps.{table_of, shape_at, tables_to, RefinesMap}
 use Rattle.run_shows.proofs.Follows.Alike.{AllCalm}
 use Rattle.run_shows.proofs.Follows.Finds.{first_is, chunks_are, same_one, among, may_stand}
 use Rattle.run_shows.proofs.Follows.Operations.{LeavesBy}
 use Rattle.run_shows.proofs.Follows.Rows.{HandsOn, IsStill, Puts as PutsBehind, Retires, RowLeaves, row_written}
 use Rattle.run_shows.proofs.Follows.Stored.{in_map_true, still_current}
 use Rattle.run_places.specs.Spots.Placed.{FindPlaces}
-use Rattle.run_places.specs.Spots.Spots.{ThePair, named_by, spot_in, LiesAt, ShowsSpots}
-use Rattle.run_places.specs.Spots.Unreclaimed.{is_unreclaimed, ShowsUnreclaimed}
+use Rattle.run_places.specs.Spots.Spots.{ThePair, named_by, spot_in, LiesAt, RefinesSpots}
+use Rattle.run_places.specs.Spots.Unreclaimed.{is_unreclaimed, RefinesUnreclaimed}
 use Rattle.run_places.proofs.Spots.Born.{late_born}
 use Rattle.run_places.proofs.Spots.Copies.{copied_from_root}
 use Rattle.run_places.proofs.Spots.Done.{DidBy, DidMoved}
@@ -119,7 +119,7 @@ module _ {K : Type 0} (map : ℕ) (c : Chart K) (stage : ℕ → Stage) (test : 
           omega (arith, turns)
 
 -- a table of a map that stands is among those that the map has had
-pub listed_there : {K V : Type 0} (map : ℕ) (number : ℕ → ℕ) (s : Standing K) (m : Moment K V) (known : Known) (shown : ShowsMap map number s m known) (test : Stage → Bool) (t : ℕ)
+pub listed_there : {K V : Type 0} (map : ℕ) (number : ℕ → ℕ) (s : Standing K) (m : Moment K V) (known : Known) (shown : RefinesMap map number s m known) (test : Stage → Bool) (t : ℕ)
     → is_stage test (table_of map t) m ≡ true → list_any (AtStage map s.chart shown.tables.stage test t) (tables_to map s.chart shown.tables.stage s.chart.past) ≡ true
 listed_there map number s m known shown test t there =
     ap (list_any (AtStage map s.chart shown.tables.stage test t)) (sym shown.tables.listed)
@@ -127,11 +127,11 @@ listed_there map number s m known shown test t there =
     (λ u e. let two = and_both (same_table u.table (table_of map t)) (test u.stage) e in ap (λ (x : TableId). x.map == map) (table_is u.table (table_of map t) two.0) ∙ eq-eqb map map refl) m.tables there
 
 module _ {K V : Type 0} (same : K → K → Bool) (slot caller map : ℕ) (name : Option (List ℕ)) (number : ℕ → ℕ) (s : Standing K) (lawful : AreLawful same s.hash)
-    (w : World (Node K V)) (sight : Sight) (is_sight : IsSight s.chart s.blocks sight) (is_map : IsMapIn same s.hash (in_slot s.setting slot) w s.chart (seen_by s.blocks sight))
+    (w : World (Node K V)) (sight : Visible) (is_sight : IsVisibility s.chart s.blocks sight) (is_map : IsMapIn same s.hash (in_slot s.setting slot) w s.chart (seen_by s.blocks sight))
     (m2 : Mem (Node K V)) (Told : World (Node K V) → Chart K → Blocks → Type 0)
-    (went : Went same s.hash (in_slot s.setting slot) caller w s.chart (seen_by s.blocks sight) m2 Told) (blocks2 : Blocks) (grown : IsGrown s.chart s.blocks went.blocks2 blocks2) (sights2 : ℕ → Sight)
-    (m : Moment K V) (known : Known) (shown : ShowsMap map number s m known) (shown_blocks : ShowsBlocks m known w)
-    (moments : Moments (is_incremental s.setting.mode) s.chart) (lying : ShowsSpots s m known) (held : ShowsUnreclaimed m known)
+    (went : StepSpec same s.hash (in_slot s.setting slot) caller w s.chart (seen_by s.blocks sight) m2 Told) (blocks2 : Blocks) (grown : IsGrown s.chart s.blocks went.blocks2 blocks2) (sights2 : ℕ → Visible)
+    (m : Moment K V) (known : Known) (shown : RefinesMap map number s m known) (shown_blocks : RefinesBlocks m known w)
+    (moments : Moments (is_incremental s.setting.mode) s.chart) (lying : RefinesSpots s m known) (held : RefinesUnreclaimed m known)
     (there : (n : ℕ) → s.chart.current n ≡ true → (n < s.chart.stored) × (s.blocks.pair_known n ≡ true))
     (told : Changed) (left : LeavesBy w.memory m2 told) where
   abbrev c : Chart K
@@ -263,7 +263,7 @@ module _ {K V : Type 0} (same : K → K → Bool) (slot caller map : ℕ) (name 
       by (inr made) did = by_move made.0 made.1 did
 
 -- a row finds nothing there
-module _ {K V : Type 0} (caller map : ℕ) (m : Moment K V) (known : Known) (w w2 : World (Node K V)) (shown : ShowsBlocks m known w) (leaves : RowLeaves w w2) where
+module _ {K V : Type 0} (caller map : ℕ) (m : Moment K V) (known : Known) (w w2 : World (Node K V)) (shown : RefinesBlocks m known w) (leaves : RowLeaves w w2) where
   pub row_finds : (told : Changed) → LeavesBy w.memory w2.memory told → FindPlaces map m (effects_of (Call caller map) known told)
   row_finds changed.Nothing left = tt
   row_finds (changed.Wrote at old new) left =

@@ -13,11 +13,11 @@ use Rattle.run_shows.specs.Given.EffectsDeclared.role.Role.{Role}
 use Rattle.run_shows.specs.Given.EffectsDeclared.role.Role.TheVariants as role
 use Rattle.run_shows.proofs.Follows.Alike.{put_here, put_elsewhere}
 use Rattle.run_shows.proofs.Follows.Onward.{IsOfMap}
-use Rattle.run_places.specs.Spots.Unreclaimed.{is_unreclaimed, ShowsUnreclaimed}
+use Rattle.run_places.specs.Spots.Unreclaimed.{is_unreclaimed, RefinesUnreclaimed}
 use Rattle.run_places.proofs.Spots.Calm.{put_back}
 use Rattle.run_places.proofs.Spots.Unreclaimed.{AsUnreclaimed, unreclaimed_same, Now, staged_other}
 
-module _ {K V : Type 0} (m v : Moment K V) (known : Known) (b : ℕ) (h : ShowsUnreclaimed m known) where
+module _ {K V : Type 0} (m v : Moment K V) (known : Known) (b : ℕ) (h : RefinesUnreclaimed m known) where
   abbrev roles2 : ℕ → Role
   roles2 = put b role.Free known.roles
 
@@ -32,11 +32,11 @@ module _ {K V : Type 0} (m v : Moment K V) (known : Known) (b : ℕ) (h : ShowsU
   others_stay x ne = put_elsewhere b role.Free known.roles x ne
 
   -- one that was none of a map
-  pub other_gone : (IsOfMap (known.roles b) → ⊥) → AsUnreclaimed m v → ShowsUnreclaimed v (with_role b role.Free known)
+  pub other_gone : (IsOfMap (known.roles b) → ⊥) → AsUnreclaimed m v → RefinesUnreclaimed v (with_role b role.Free known)
   other_gone none same = unreclaimed_same m v known (with_role b role.Free known) same (λ x of. others_stay x (λ e. none (subst (λ (y : ℕ). IsOfMap (known.roles y)) e of))) was_role h
 
   -- that of a pair, which no other block is
-  pub pair_gone : (k : ℕ) → known.roles b ≡ role.Pair k → ((d : ℕ) → known.roles d ≡ role.Pair k → d ≡ b) → v.place ≡ put k GivenBack m.place → v.tables ≡ m.tables → ShowsUnreclaimed v (with_role b role.Free known)
+  pub pair_gone : (k : ℕ) → known.roles b ≡ role.Pair k → ((d : ℕ) → known.roles d ≡ role.Pair k → d ≡ b) → v.place ≡ put k GivenBack m.place → v.tables ≡ m.tables → RefinesUnreclaimed v (with_role b role.Free known)
   pair_gone k its once place tables = record {
     pairs = λ x n is. (let was = sym (was_role x (subst IsOfMap (sym is) tt)) ∙ is in
         same_place n (λ e. not_it x (subst IsOfMap (sym is) tt) (once x (was ∙ ap role.Pair e))) ∙ h.pairs x n was);
@@ -66,7 +66,7 @@ none_there to gone t (x ∷ xs) = ap (λ (q : Bool). q || list_any (Now t t) (ma
     by true e = ap (λ (z : Bool). z && is_there to) e ∙ gone
     by false e = ap (λ (z : Bool). z && is_there x.stage) e
 
-module _ {K V : Type 0} (m v : Moment K V) (known : Known) (b len : ℕ) (t : TableId) (its : known.roles b ≡ role.Table t len) (h : ShowsUnreclaimed m known)
+module _ {K V : Type 0} (m v : Moment K V) (known : Known) (b len : ℕ) (t : TableId) (its : known.roles b ≡ role.Table t len) (h : RefinesUnreclaimed m known)
     (p : Place) (kept : is_unreclaimed p ≡ true) (to : Stage) (gone : is_there to ≡ false) (place : v.place ≡ all_at p (behind t m.deferred) m.place) (tables : v.tables ≡ map (at_stage t to) m.tables)
     (waits : (n : ℕ) → is_among n (behind t m.deferred) ≡ true → is_unreclaimed (m.place n) ≡ true) where
   same_place : (n : ℕ) → is_unreclaimed (v.place n) ≡ is_unreclaimed (m.place n)
@@ -80,7 +80,7 @@ module _ {K V : Type 0} (m v : Moment K V) (known : Known) (b len : ℕ) (t : Ta
   other_tables u ne = ap (list_any (Now t u)) tables ∙ staged_other t to u m.tables ne
 
   -- that of a table
-  pub table_gone : ShowsUnreclaimed v (with_role b role.Free known)
+  pub table_gone : RefinesUnreclaimed v (with_role b role.Free known)
   table_gone = record {
     pairs = λ x n is. same_place n ∙ h.pairs x n (sym (was_role m v known b h x (subst IsOfMap (sym is) tt)) ∙ is);
     pairs_there = λ n e. (let was = h.pairs_there n (sym (same_place n) ∙ e) in

@@ -20,9 +20,9 @@ use Rattle.run_shows.specs.Given.RuleChart.{Still, Holds, Chart}
 use Rattle.run_shows.specs.Given.RuleMoves.{Move, Links, Stores, Replaces, Removes, Marks, MarksBlocking, Skips, Unmarks, Puts, Covers, PutsLate, Claims, Reclaims, Counts, GivesUp, Aborts, Promotes, Announces, MayChange, Allowed}
 use Rattle.run_shows.specs.Given.RuleWords.{Blocks}
 use Rattle.run_shows.specs.Given.RuleMaps.{spot_of}
-use Rattle.run_shows.specs.Given.RuleInWorld.{IsMapIn, Moved, Went}
+use Rattle.run_shows.specs.Given.RuleInWorld.{IsMapIn, Moved, StepSpec}
 use Rattle.run_shows.specs.Given.PointsSteps.{AreLawful}
-use Rattle.run_shows.specs.Given.CallersSights.{Sight, seen_by, IsGrown, IsSight}
+use Rattle.run_shows.specs.Given.CallersSights.{Visible, seen_by, IsGrown, IsVisibility}
 use Rattle.run_shows.specs.Given.CallersTogether.{in_slot}
 use Rattle.run_shows.specs.Given.FinishesMaps.{Standing}
 use Rattle.run_shows.specs.Given.EffectsEffects.{effects_of, known_after}
@@ -31,8 +31,8 @@ use Rattle.run_shows.specs.Given.EffectsDeclared.acting.Acting.{Acting}
 use Rattle.run_shows.specs.Given.EffectsDeclared.acting.Acting.TheVariants.{Call}
 use Rattle.run_shows.specs.Given.EffectsDeclared.role.Role.{Role}
 use Rattle.run_shows.specs.Given.EffectsDeclared.role.Role.TheVariants as role
-use Rattle.run_shows.specs.Follows.Blocks.{ShowsBlocks}
-use Rattle.run_shows.specs.Follows.Maps.{table_of, ShowsMap}
+use Rattle.run_shows.specs.Follows.Blocks.{RefinesBlocks}
+use Rattle.run_shows.specs.Follows.Maps.{table_of, RefinesMap}
 use Rattle.run_shows.specs.Follows.Steps.{TakesNone}
 use Rattle.run_shows.proofs.Follows.Alike.{AreSame, calm_still, still_all}
 use Rattle.run_shows.proofs.Follows.Onward.{IsLasting}
@@ -41,7 +41,7 @@ use Rattle.run_shows.proofs.Follows.Rows.{HandsOn, IsStill, Puts as PutsBehind, 
 use Rattle.run_shows.proofs.Follows.RowSteps.{row_done}
 use Rattle.run_shows.proofs.Follows.Stored.{still_current}
 use Rattle.run_places.specs.Spots.Spots.{spot_in}
-use Rattle.run_places.specs.Spots.Unreclaimed.{is_unreclaimed, ShowsUnreclaimed}
+use Rattle.run_places.specs.Spots.Unreclaimed.{is_unreclaimed, RefinesUnreclaimed}
 use Rattle.run_places.proofs.Spots.Calm.{IsCalm}
 use Rattle.run_places.proofs.Spots.Done.{DidBy, DidMoved}
 use Rattle.run_places.proofs.Spots.Finding.{turn_below, listed_there}
@@ -65,11 +65,11 @@ as_same m v same = record {
 }
 
 module _ {K V : Type 0} (same : K → K → Bool) (slot caller map : ℕ) (name : Option (List ℕ)) (number : ℕ → ℕ) (s : Standing K) (lawful : AreLawful same s.hash)
-    (w : World (Node K V)) (sight : Sight) (is_sight : IsSight s.chart s.blocks sight) (is_map : IsMapIn same s.hash (in_slot s.setting slot) w s.chart (seen_by s.blocks sight))
+    (w : World (Node K V)) (sight : Visible) (is_sight : IsVisibility s.chart s.blocks sight) (is_map : IsMapIn same s.hash (in_slot s.setting slot) w s.chart (seen_by s.blocks sight))
     (m2 : Mem (Node K V)) (Told : World (Node K V) → Chart K → Blocks → Type 0)
-    (went : Went same s.hash (in_slot s.setting slot) caller w s.chart (seen_by s.blocks sight) m2 Told) (blocks2 : Blocks) (grown : IsGrown s.chart s.blocks went.blocks2 blocks2) (sights2 : ℕ → Sight)
-    (m : Moment K V) (known : Known) (shown : ShowsMap map number s m known) (shown_blocks : ShowsBlocks m known w)
-    (told : Changed) (left : LeavesBy w.memory m2 told) (h : ShowsUnreclaimed m known) where
+    (went : StepSpec same s.hash (in_slot s.setting slot) caller w s.chart (seen_by s.blocks sight) m2 Told) (blocks2 : Blocks) (grown : IsGrown s.chart s.blocks went.blocks2 blocks2) (sights2 : ℕ → Visible)
+    (m : Moment K V) (known : Known) (shown : RefinesMap map number s m known) (shown_blocks : RefinesBlocks m known w)
+    (told : Changed) (left : LeavesBy w.memory m2 told) (h : RefinesUnreclaimed m known) where
   abbrev c : Chart K
   c = s.chart
 
@@ -89,16 +89,16 @@ module _ {K V : Type 0} (same : K → K → Bool) (slot caller map : ℕ) (name 
   led e = with_effects name (Some map) e m
 
   abbrev Now : Type 0
-  Now = ShowsUnreclaimed (led effects) known2
+  Now = RefinesUnreclaimed (led effects) known2
 
-  as_done : (e : List Effect) (k : Known) → (effects ≡ e) × (known2 ≡ k) → ShowsUnreclaimed (led e) k → Now
-  as_done e k done g = subst (λ (x : List Effect). ShowsUnreclaimed (led x) known2) (sym done.0) (subst (ShowsUnreclaimed (led e)) (sym done.1) g)
+  as_done : (e : List Effect) (k : Known) → (effects ≡ e) × (known2 ≡ k) → RefinesUnreclaimed (led e) k → Now
+  as_done e k done g = subst (λ (x : List Effect). RefinesUnreclaimed (led x) known2) (sym done.0) (subst (RefinesUnreclaimed (led e)) (sym done.1) g)
 
   calm_then : IsCalm known effects known2 → Now
   calm_then calm = unreclaimed_same m (led effects) known known2 (as_same m (led effects) (still_all name map effects m (calm_still effects calm.calm))) (stay_of_maps known known2 calm.keeps) calm.back h
 
   -- as much is known, and nothing is reclaimed
-  known_then : (v : Moment K V) → AsUnreclaimed m v → ShowsUnreclaimed v known
+  known_then : (v : Moment K V) → AsUnreclaimed m v → RefinesUnreclaimed v known
   known_then v same_so = unreclaimed_same m v known known same_so (λ b of. refl) (λ b of. refl) h
 
   module _ (t i n : ℕ) (borrowed : Bool) (k : K) (held : c.place t i ≡ Holds n Still borrowed) (may : MayChange same (spot_of s.hash) q c t k) where
@@ -146,9 +146,9 @@ module _ {K V : Type 0} (same : K → K → Bool) (slot caller map : ℕ) (name 
       by (inl still) calm = calm_then calm
       by (inr made) did = by_move made.0 made.1 did
 
-module _ {K V : Type 0} (caller map : ℕ) (name : Option (List ℕ)) (m : Moment K V) (known : Known) (h : ShowsUnreclaimed m known) where
+module _ {K V : Type 0} (caller map : ℕ) (name : Option (List ℕ)) (m : Moment K V) (known : Known) (h : RefinesUnreclaimed m known) where
   -- so it is where nothing is done to pairs and tables
-  pub calm_holds : (effects : List Effect) (known2 : Known) → IsCalm known effects known2 → ShowsUnreclaimed (with_effects name (Some map) effects m) known2
+  pub calm_holds : (effects : List Effect) (known2 : Known) → IsCalm known effects known2 → RefinesUnreclaimed (with_effects name (Some map) effects m) known2
   calm_holds effects known2 calm =
       unreclaimed_same m (with_effects name (Some map) effects m) known known2 (as_same m (with_effects name (Some map) effects m) (still_all name map effects m (calm_still effects calm.calm))) (stay_of_maps known known2 calm.keeps) calm.back h
 
@@ -159,7 +159,7 @@ module _ {K V : Type 0} (caller map : ℕ) (name : Option (List ℕ)) (m : Momen
   hands_hold _ (Retires (APair n)) blocks = let it = blocks.0 in moved_unreclaimed m (with_effects name (Some map) (Retired (APair n) ∷ []) m) n Handed refl refl (h.pairs it.0 n it.1) refl
   hands_hold _ (Retires (ATable t)) blocks = let it = blocks.0 in retired_unreclaimed m (with_effects name (Some map) (Retired (ATable t) ∷ []) m) t refl refl (h.tables it.0 it.1 t it.2)
 
-  module _ (w w2 : World (Node K V)) (shown : ShowsBlocks m known w) (leaves : RowLeaves w w2) where
+  module _ (w w2 : World (Node K V)) (shown : RefinesBlocks m known w) (leaves : RowLeaves w w2) where
     abbrev its : Acting
     its = Call caller map
 
@@ -175,7 +175,7 @@ module _ {K V : Type 0} (caller map : ℕ) (name : Option (List ℕ)) (m : Momen
         roomed true = record { place = λ k. refl; tables = λ t. refl }
         roomed false = record { place = λ k. refl; tables = λ t. refl }
 
-    pub row_holds : (told : Changed) → LeavesBy w.memory w2.memory told → TakesNone told → ShowsUnreclaimed (with_effects name (Some map) (effects_of its known told) m) (known_after its told known)
+    pub row_holds : (told : Changed) → LeavesBy w.memory w2.memory told → TakesNone told → RefinesUnreclaimed (with_effects name (Some map) (effects_of its known told) m) (known_after its told known)
     row_holds told left none =
         let done = row_done caller map m known w w2 shown leaves told left none in
         unreclaimed_same m (with_effects name (Some map) (effects_of its known told) m) known (known_after its told known) (have_blocks told done.hands left none)

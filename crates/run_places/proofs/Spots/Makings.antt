@@ -41,13 +41,13 @@ use Rattle.run_shows.proofs.Others.Makes.{tells, left, no_table_word}
 use Rattle.run_shows.proofs.Others.Stays.{same_maps}
 use Rattle.run_places.specs.Spots.Deferred.{FindsNumbers}
 use Rattle.run_places.specs.Spots.Makings.{MakingsLeavePlaces}
-use Rattle.run_places.specs.Spots.Spots.{IsPairOf, ShowsSpots, ShowsPlaces}
+use Rattle.run_places.specs.Spots.Spots.{IsPairOf, RefinesSpots, RefinesPlaces}
 use Rattle.run_places.proofs.Spots.Deferred.{effects_leave_outside}
 use Rattle.run_places.proofs.Spots.Effects.{AllAside}
 use Rattle.run_places.proofs.Spots.Rows.{same_pairs}
 use Rattle.run_places.proofs.Spots.Stays.{WerePairs, places_stay}
 use Rattle.run_shows.specs.Scenes.Held.{Held}
-use Rattle.run_shows.specs.Scenes.Making.{MakingComesTo}
+use Rattle.run_shows.specs.Scenes.Making.{MakingHasOutcome}
 use Rattle.run_shows.specs.Scenes.Scene.{Scene}
 use Rattle.run_shows.proofs.Given.General.{same_some as one_of}
 
@@ -142,7 +142,7 @@ module _ {K V : Type 0} (hash : K → ℕ) (setting : Setting) (places : ℕ) (s
   has_none (inl (none, is)) = (ap (λ (x : Chart K). x.stored) is, subst (λ (x : Chart K). x.status 0 ≢ ABORTED) (sym is) (λ e. omega (arith, e)))
   has_none (inr (some, limit, is)) = (ap (λ (x : Chart K). x.stored) is, subst (λ (x : Chart K). x.status 0 ≢ ABORTED) (sym is) (λ e. omega (arith, e)))
 
-  pub new_map_lies : IsNewChart hash setting places st.chart → ShowsSpots st m known
+  pub new_map_lies : IsNewChart hash setting places st.chart → RefinesSpots st m known
   new_map_lies new = record {
     born = λ n k t i b pair e. absurd (never n k pair);
     whole = (has_none new).1;
@@ -154,13 +154,13 @@ module _ {K V : Type 0} (hash : K → ℕ) (setting : Setting) (places : ℕ) (s
       never n k pair = let l = pair.0 in let none = (has_none new).0 in omega (arith, l, none)
 
 module _ {K V : Type 0} (same : K → K → Bool) (hash : ℕ → K → ℕ) (s : Scene K V) (old new : Held K V) (i : ℕ) (b : Beginning K) (opening : NewMap) (w2 : World (Node K V)) (v : Moment K V) (known2 : Known) where
-  places_then : (told : Advance Setting) (comes : MakingComesTo same hash s old new i b opening w2 told) → ShowsPlaces v known2 s.maps → ShowsPlaces v known2 (making_after same hash s old new i b opening w2 told comes).maps
+  places_then : (told : Advance Setting) (comes : MakingHasOutcome same hash s old new i b opening w2 told) → RefinesPlaces v known2 s.maps → RefinesPlaces v known2 (making_after same hash s old new i b opening w2 told comes).maps
   places_then progress.Goes comes h = h
   places_then progress.Waits comes h = h
   places_then (progress.Refused fault) comes h = h
   places_then (progress.Done setting) comes h = record {
-    each = λ n st is. elim (cases_eq n b.map) as (λ _. ShowsSpots st v known2) [
-      | inl e ↦ subst (λ (x : Standing K). ShowsSpots x v known2) (one_of comes.0 st (sym (at_same s.maps b.map (Some comes.0) n e) ∙ is)) (new_map_lies b.hash setting b.places comes.0 v known2 comes.1.chart_is)
+    each = λ n st is. elim (cases_eq n b.map) as (λ _. RefinesSpots st v known2) [
+      | inl e ↦ subst (λ (x : Standing K). RefinesSpots x v known2) (one_of comes.0 st (sym (at_same s.maps b.map (Some comes.0) n e) ∙ is)) (new_map_lies b.hash setting b.places comes.0 v known2 comes.1.chart_is)
       | inr ne ↦ h.each n st (sym (at_other s.maps b.map (Some comes.0) n ne) ∙ is)
     ];
     fresh = h.fresh;

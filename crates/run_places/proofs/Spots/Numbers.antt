@@ -15,9 +15,9 @@ use Rattle.run_shows.specs.Given.EffectsDeclared.changed.Changed.TheVariants as 
 use Rattle.run_shows.specs.Given.RuleChart.{Chart}
 use Rattle.run_shows.specs.Given.RuleMoves.{Move, Links, Stores, Replaces, Removes, Marks, MarksBlocking, Skips, Unmarks, Puts, Covers, PutsLate, Claims, Reclaims, Counts, GivesUp, Aborts, Promotes, Announces}
 use Rattle.run_shows.specs.Given.RuleWords.{Blocks}
-use Rattle.run_shows.specs.Given.RuleInWorld.{IsMapIn, Moved, Went}
+use Rattle.run_shows.specs.Given.RuleInWorld.{IsMapIn, Moved, StepSpec}
 use Rattle.run_shows.specs.Given.PointsSteps.{AreLawful}
-use Rattle.run_shows.specs.Given.CallersSights.{Sight, seen_by, IsGrown, IsSight}
+use Rattle.run_shows.specs.Given.CallersSights.{Visible, seen_by, IsGrown, IsVisibility}
 use Rattle.run_shows.specs.Given.CallersTogether.{in_slot}
 use Rattle.run_shows.specs.Given.FinishesMaps.{Standing}
 use Rattle.run_shows.specs.Given.EffectsEffects.{taken_by, effects_of, known_after}
@@ -25,8 +25,8 @@ use Rattle.run_shows.specs.Given.EffectsKnown.{Known}
 use Rattle.run_shows.specs.Given.EffectsDeclared.acting.Acting.TheVariants.{Call}
 use Rattle.run_shows.specs.Given.EffectsDeclared.role.Role.{Role}
 use Rattle.run_shows.specs.Given.EffectsDeclared.role.Role.TheVariants as role
-use Rattle.run_shows.specs.Follows.Blocks.{HasRole, ShowsBlocks}
-use Rattle.run_shows.specs.Follows.Maps.{ShowsMap}
+use Rattle.run_shows.specs.Follows.Blocks.{HasRole, RefinesBlocks}
+use Rattle.run_shows.specs.Follows.Maps.{RefinesMap}
 use Rattle.run_shows.proofs.Follows.Alike.{is_calm, AllCalm}
 use Rattle.run_shows.proofs.Follows.Contents.{pair_within}
 use Rattle.run_shows.proofs.Follows.Operations.{LeavesBy}
@@ -48,10 +48,10 @@ module _ {K V : Type 0} where
   calm_numbers name acted (f ∷ effects) m all = (calm_number f m all.0, calm_numbers name acted effects (with_effect name acted f m) all.1)
 
 module _ {K V : Type 0} (same : K → K → Bool) (slot caller map : ℕ) (name : Option (List ℕ)) (number : ℕ → ℕ) (s : Standing K) (lawful : AreLawful same s.hash)
-    (w : World (Node K V)) (sight : Sight) (is_sight : IsSight s.chart s.blocks sight) (is_map : IsMapIn same s.hash (in_slot s.setting slot) w s.chart (seen_by s.blocks sight))
+    (w : World (Node K V)) (sight : Visible) (is_sight : IsVisibility s.chart s.blocks sight) (is_map : IsMapIn same s.hash (in_slot s.setting slot) w s.chart (seen_by s.blocks sight))
     (m2 : Mem (Node K V)) (Told : World (Node K V) → Chart K → Blocks → Type 0)
-    (went : Went same s.hash (in_slot s.setting slot) caller w s.chart (seen_by s.blocks sight) m2 Told) (blocks2 : Blocks) (grown : IsGrown s.chart s.blocks went.blocks2 blocks2) (sights2 : ℕ → Sight)
-    (m : Moment K V) (known : Known) (shown : ShowsMap map number s m known) (shown_blocks : ShowsBlocks m known w)
+    (went : StepSpec same s.hash (in_slot s.setting slot) caller w s.chart (seen_by s.blocks sight) m2 Told) (blocks2 : Blocks) (grown : IsGrown s.chart s.blocks went.blocks2 blocks2) (sights2 : ℕ → Visible)
+    (m : Moment K V) (known : Known) (shown : RefinesMap map number s m known) (shown_blocks : RefinesBlocks m known w)
     (told : Changed) (left : LeavesBy w.memory m2 told) where
   abbrev By : Move K → Type 0
   By = DidBy same slot caller map name number s lawful w sight is_sight is_map m2 Told went blocks2 grown sights2 m known shown shown_blocks told left
@@ -100,7 +100,7 @@ module _ {K V : Type 0} (same : K → K → Bool) (slot caller map : ℕ) (name 
       by (inr made) did = by_move made.0 did
 
 -- and so do those of a row
-module _ {K V : Type 0} (caller map : ℕ) (name : Option (List ℕ)) (m : Moment K V) (known : Known) (w w2 : World (Node K V)) (shown : ShowsBlocks m known w) (leaves : RowLeaves w w2) where
+module _ {K V : Type 0} (caller map : ℕ) (name : Option (List ℕ)) (m : Moment K V) (known : Known) (w w2 : World (Node K V)) (shown : RefinesBlocks m known w) (leaves : RowLeaves w w2) where
   abbrev RowFinds : List Effect → Type 0
   RowFinds e = AtEachEffect FindsNumbers name (Some map) e m
 

@@ -17,13 +17,13 @@ use Rattle.run_shows.specs.Given.EffectsKnown.{Known, with_role}
 use Rattle.run_shows.specs.Given.EffectsDeclared.acting.Acting.TheVariants.{Row}
 use Rattle.run_shows.specs.Given.EffectsDeclared.role.Role.{Role}
 use Rattle.run_shows.specs.Given.EffectsDeclared.role.Role.TheVariants as role
-use Rattle.run_shows.specs.Follows.Shows.{Shows}
+use Rattle.run_shows.specs.Follows.Shows.{Refines}
 use Rattle.run_shows.proofs.Follows.Onward.{IsOfMap}
 use Rattle.run_shows.proofs.Follows.Told.{roomed_as_many}
 use Rattle.run_shows.proofs.Others.RowPlans.{TellsRow, row_tells}
 use Rattle.run_places.specs.Spots.Deferred.{FindsNumbers}
-use Rattle.run_places.specs.Spots.OnSlots.{WaitUnreclaimed, RowsLeavePlaces, RowsKeepBlocks}
-use Rattle.run_places.specs.Spots.Unreclaimed.{is_unreclaimed, ShowsUnreclaimed}
+use Rattle.run_places.specs.Spots.OnSlots.{WaitUnreclaimed, RowsLeavePlaces, RowsPreserveBlocks}
+use Rattle.run_places.specs.Spots.Unreclaimed.{is_unreclaimed, RefinesUnreclaimed}
 use Rattle.run_places.proofs.Spots.Calm.{put_back}
 use Rattle.run_places.proofs.Spots.Deferred.{effects_leave_outside}
 use Rattle.run_places.proofs.Spots.Effects.{AllAside}
@@ -79,24 +79,24 @@ module _ (K V : Type 0) (same : K → K → Bool) (hash : ℕ → K → ℕ) whe
       )
 
   -- which blocks are unreclaimed
-  module _ (name : ℕ → List ℕ) (m : Moment K V) (known : Known) (s : Scene K V) (shown : Shows same name m known s) (h : ShowsUnreclaimed m known) where
+  module _ (name : ℕ → List ℕ) (m : Moment K V) (known : Known) (s : Scene K V) (shown : Refines same name m known s) (h : RefinesUnreclaimed m known) where
     abbrev After : Changed → Type 0
-    After told = AtEachEffect WaitUnreclaimed None None (effects_of Row known told) m → ShowsUnreclaimed (with_effects None None (effects_of Row known told) m) (known_after Row told known)
+    After told = AtEachEffect WaitUnreclaimed None None (effects_of Row known told) m → RefinesUnreclaimed (with_effects None None (effects_of Row known told) m) (known_after Row told known)
 
-    as_before : (v : Moment K V) (known2 : Known) → v.place ≡ m.place → v.tables ≡ m.tables → known2.roles ≡ known.roles → ShowsUnreclaimed v known2
+    as_before : (v : Moment K V) (known2 : Known) → v.place ≡ m.place → v.tables ≡ m.tables → known2.roles ≡ known.roles → RefinesUnreclaimed v known2
     as_before v known2 place tables roles = unreclaimed_same m v known known2
         (record { place = λ k. ap (λ (f : ℕ → Place). is_unreclaimed (f k)) place; tables = λ t. ap (list_any (λ u. same_table u.table t && is_there u.stage)) tables })
         (λ b of. ap (λ (f : ℕ → Role). f b) roles) (λ b of. ap (λ (f : ℕ → Role). f b) roles) h
 
-    nothing_done : (q : Bool) → ShowsUnreclaimed (with_effects None None (if q then [] else []) m) known
+    nothing_done : (q : Bool) → RefinesUnreclaimed (with_effects None None (if q then [] else []) m) known
     nothing_done true = h
     nothing_done false = h
 
-    roomed_done : (q : Bool) (known2 : Known) → known2.roles ≡ known.roles → ShowsUnreclaimed (with_effects None None (if q then [] else Asked ABucket ∷ []) m) known2
+    roomed_done : (q : Bool) (known2 : Known) → known2.roles ≡ known.roles → RefinesUnreclaimed (with_effects None None (if q then [] else Asked ABucket ∷ []) m) known2
     roomed_done true known2 roles = as_before m known2 refl refl roles
     roomed_done false known2 roles = as_before (with_effect None None (Asked ABucket) m) known2 refl refl roles
 
-    taken_done : (b : ℕ) (r : Role) → known.roles b ≡ r → AtEachEffect WaitUnreclaimed None None (taken_by Row r) m → ShowsUnreclaimed (with_effects None None (taken_by Row r) m) (with_role b role.Free known)
+    taken_done : (b : ℕ) (r : Role) → known.roles b ≡ r → AtEachEffect WaitUnreclaimed None None (taken_by Row r) m → RefinesUnreclaimed (with_effects None None (taken_by Row r) m) (with_role b role.Free known)
     taken_done b role.Free e may = other_gone m m known b h (λ of. subst IsOfMap e of) (record { place = λ k. refl; tables = λ t. refl })
     taken_done b (role.OwnPair i) e may = other_gone m (with_effects None None (taken_by Row (role.OwnPair i)) m) known b h (λ of. subst IsOfMap e of) (record { place = λ k. refl; tables = λ t. refl })
     taken_done b (role.OwnTable turn shape) e may =
@@ -117,6 +117,6 @@ module _ (K V : Type 0) (same : K → K → Bool) (hash : ℕ → K → ℕ) whe
     blocks_done (changed.Took b) is may = taken_done b (known.roles b) refl may
     blocks_done (changed.Roomed bucket had) is may = roomed_done (had && nat_lt bucket known.buckets) (known_after Row (changed.Roomed bucket had) known) (roomed_as_many Row known bucket had).0
 
-  pub rows_keep_blocks : RowsKeepBlocks K V same hash
+  pub rows_keep_blocks : RowsPreserveBlocks K V same hash
   rows_keep_blocks name m known s old new shown i told leads row here may h =
       let to = leads row here in blocks_done name m known s shown h new.changed (row_tells old.memory new.memory new.changed (to.0, told) row to.1) may

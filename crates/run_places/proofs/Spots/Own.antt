@@ -21,9 +21,9 @@ use Rattle.run_shows.specs.Given.RuleRule.{Rule}
 use Rattle.run_shows.specs.Given.RuleMoves.{Move, Links, Stores, Replaces, Removes, Marks, MarksBlocking, Skips, Unmarks, Puts, Covers, PutsLate, Claims, Reclaims, Counts, GivesUp, Aborts, Promotes, Announces, Allowed, after}
 use Rattle.run_shows.specs.Given.RuleWords.{Blocks}
 use Rattle.run_shows.specs.Given.RuleMaps.{spot_of}
-use Rattle.run_shows.specs.Given.RuleInWorld.{IsMapIn, Moved, Went}
+use Rattle.run_shows.specs.Given.RuleInWorld.{IsMapIn, Moved, StepSpec}
 use Rattle.run_shows.specs.Given.PointsSteps.{AreLawful}
-use Rattle.run_shows.specs.Given.CallersSights.{Sight, seen_by, IsGrown, IsSight}
+use Rattle.run_shows.specs.Given.CallersSights.{Visible, seen_by, IsGrown, IsVisibility}
 use Rattle.run_shows.specs.Given.CallersTogether.{in_slot}
 use Rattle.run_shows.specs.Given.FinishesMaps.{Standing}
 use Rattle.run_shows.specs.Given.EffectsEffects.{effects_of, known_after}
@@ -31,14 +31,14 @@ use Rattle.run_shows.specs.Given.EffectsKnown.{Known, with_pair, with_role}
 use Rattle.run_shows.specs.Given.EffectsDeclared.acting.Acting.TheVariants.{Call}
 use Rattle.run_shows.specs.Given.EffectsDeclared.role.Role.{Role}
 use Rattle.run_shows.specs.Given.EffectsDeclared.role.Role.TheVariants as role
-use Rattle.run_shows.specs.Follows.Blocks.{ShowsBlocks}
-use Rattle.run_shows.specs.Follows.Maps.{table_of, ShowsMap}
+use Rattle.run_shows.specs.Follows.Blocks.{RefinesBlocks}
+use Rattle.run_shows.specs.Follows.Maps.{table_of, RefinesMap}
 use Rattle.run_shows.proofs.Follows.Alike.{put_here, put_elsewhere}
 use Rattle.run_shows.proofs.Follows.Finds.{chunks_are}
 use Rattle.run_shows.proofs.Follows.Onward.{IsLasting, KeepsRoles}
 use Rattle.run_shows.proofs.Follows.Operations.{LeavesBy}
 use Rattle.run_shows.proofs.Follows.Stored.{in_root, still_home}
-use Rattle.run_places.specs.Spots.Spots.{ThePair, named_by, spot_in, IsPairOf, ShowsSpots}
+use Rattle.run_places.specs.Spots.Spots.{ThePair, named_by, spot_in, IsPairOf, RefinesSpots}
 use Rattle.run_places.proofs.Spots.Born.{born_move, whole_move}
 use Rattle.run_places.proofs.Spots.Copies.{alone, new_lies, new_copied}
 use Rattle.run_places.proofs.Spots.Calm.{IsCalm}
@@ -56,11 +56,11 @@ pub keeps_pair : (known : Known) (b : ℕ) → (IsLasting (known.roles b) → �
 keeps_pair known b none x lasting = put_elsewhere b (role.Pair (known.stored + 1)) known.roles x (λ e. none (subst (λ (y : ℕ). IsLasting (known.roles y)) e lasting))
 
 module _ {K V : Type 0} (same : K → K → Bool) (slot caller map : ℕ) (name : Option (List ℕ)) (number : ℕ → ℕ) (s : Standing K) (lawful : AreLawful same s.hash)
-    (w : World (Node K V)) (sight : Sight) (is_sight : IsSight s.chart s.blocks sight) (is_map : IsMapIn same s.hash (in_slot s.setting slot) w s.chart (seen_by s.blocks sight))
+    (w : World (Node K V)) (sight : Visible) (is_sight : IsVisibility s.chart s.blocks sight) (is_map : IsMapIn same s.hash (in_slot s.setting slot) w s.chart (seen_by s.blocks sight))
     (m2 : Mem (Node K V)) (Told : World (Node K V) → Chart K → Blocks → Type 0)
-    (went : Went same s.hash (in_slot s.setting slot) caller w s.chart (seen_by s.blocks sight) m2 Told) (blocks2 : Blocks) (grown : IsGrown s.chart s.blocks went.blocks2 blocks2) (sights2 : ℕ → Sight)
-    (m : Moment K V) (known : Known) (shown : ShowsMap map number s m known) (shown_blocks : ShowsBlocks m known w)
-    (moments : Moments (is_incremental s.setting.mode) s.chart) (lying : ShowsSpots s m known) (fresh : (k : ℕ) → length m.stored < k → m.copy k ≡ spot_in 0 0)
+    (went : StepSpec same s.hash (in_slot s.setting slot) caller w s.chart (seen_by s.blocks sight) m2 Told) (blocks2 : Blocks) (grown : IsGrown s.chart s.blocks went.blocks2 blocks2) (sights2 : ℕ → Visible)
+    (m : Moment K V) (known : Known) (shown : RefinesMap map number s m known) (shown_blocks : RefinesBlocks m known w)
+    (moments : Moments (is_incremental s.setting.mode) s.chart) (lying : RefinesSpots s m known) (fresh : (k : ℕ) → length m.stored < k → m.copy k ≡ spot_in 0 0)
     (there : (n : ℕ) → s.chart.current n ≡ true → (n < s.chart.stored) × (s.blocks.pair_known n ≡ true)) where
   abbrev c : Chart K
   c = s.chart
@@ -114,7 +114,7 @@ module _ {K V : Type 0} (same : K → K → Bool) (slot caller map : ℕ) (name 
       | inr after ↦ new n k after l is
     ]
 
-    pub shown_all : ShowsSpots s2 v known2
+    pub shown_all : RefinesSpots s2 v known2
     shown_all = record {
       born = λ n k t i b pair e. (shown_each n k pair).born t i b e;
       whole = whole;
@@ -136,10 +136,10 @@ module _ {K V : Type 0} (same : K → K → Bool) (slot caller map : ℕ) (name 
     led e = with_effects name (Some map) e m
 
     abbrev Now : Type 0
-    Now = ShowsSpots s2 (led effects) known2
+    Now = RefinesSpots s2 (led effects) known2
 
-    as_done : (e : List Effect) (k : Known) → (effects ≡ e) × (known2 ≡ k) → ShowsSpots s2 (led e) k → Now
-    as_done e k done h = subst (λ (x : List Effect). ShowsSpots s2 (led x) known2) (sym done.0) (subst (ShowsSpots s2 (led e)) (sym done.1) h)
+    as_done : (e : List Effect) (k : Known) → (effects ≡ e) × (known2 ≡ k) → RefinesSpots s2 (led e) k → Now
+    as_done e k done h = subst (λ (x : List Effect). RefinesSpots s2 (led x) known2) (sym done.0) (subst (RefinesSpots s2 (led e)) (sym done.1) h)
 
     -- no table has changed
     stays : went.c2 ≡ c → IsCalm known effects known2 → Now
@@ -245,7 +245,7 @@ module _ {K V : Type 0} (same : K → K → Bool) (slot caller map : ℕ) (name 
             let number_is : next ≡ k = cc k_is in
             subst (λ (x : ℕ). Shown v x k) (sym n_is) (subst (λ (x : ℕ). Shown v c.stored x) number_is its_own)
 
-        pub store_then : ShowsSpots s2 v (with_pair b known)
+        pub store_then : RefinesSpots s2 v (with_pair b known)
         store_then = shown_all v (with_pair b known) (keeps_pair known b (λ lasting. subst IsLasting own lasting)) whole_then old_then new_then
 
       -- a pair was copied
@@ -268,7 +268,7 @@ module _ {K V : Type 0} (same : K → K → Bool) (slot caller map : ℕ) (name 
             (subst (λ (x : Spot). Lies q d o x (m.copy (number o)) (m.born (number o)).turn) (sym (spot_copied_other _ m.place m.copy (number n) sp m.spot (number o) (apart o n l old ne)))
             (plain_then o l (others o (λ e. ne (sym e))) now))
 
-        pub copy_then : ShowsSpots s2 copying known
+        pub copy_then : RefinesSpots s2 copying known
         copy_then = shown_all copying known (λ b lasting. refl) whole_then
             (λ o l seen. shown_then copying o l seen refl (λ now. elim (cases_eq o n) as (λ _. Lies q d o (copying.spot (number o)) (copying.copy (number o)) (m.born (number o)).turn) [
               | inl e ↦ subst (λ (x : ℕ). Lies q d x (copying.spot (number x)) (copying.copy (number x)) (m.born (number x)).turn) (sym e) (copied_lies (ap d.current (sym e) ∙ now))
@@ -281,7 +281,7 @@ module _ {K V : Type 0} (same : K → K → Bool) (slot caller map : ℕ) (name 
     root_home false = refl
 
     -- the root came to a table
-    promote_then : (t : ℕ) → Allowed same (spot_of s.hash) q (Promotes t) c → went.c2 ≡ after (spot_of s.hash) q (Promotes t) c → ShowsSpots s2 (led (Promoted (table_of map t) ∷ [])) known
+    promote_then : (t : ℕ) → Allowed same (spot_of s.hash) q (Promotes t) c → went.c2 ≡ after (spot_of s.hash) q (Promotes t) c → RefinesSpots s2 (led (Promoted (table_of map t) ∷ [])) known
     promote_then t allowed is = shown_all v known (λ b lasting. refl) (whole_then (Promotes t) allowed is)
         (λ n l seen. shown_then (Promotes t) allowed is v n l seen refl (λ now. its_lies n l now))
         (no_new (Promotes t) allowed is refl v known)

@@ -15,7 +15,7 @@ use Rattle.run_shows.specs.Given.EffectsDeclared.acting.Acting.{Acting}
 use Rattle.run_shows.specs.Given.EffectsDeclared.acting.Acting.TheVariants.{Call}
 use Rattle.run_shows.specs.Given.EffectsDeclared.role.Role.{Role}
 use Rattle.run_shows.specs.Given.EffectsDeclared.role.Role.TheVariants as role
-use Rattle.run_shows.specs.Follows.Blocks.{ShowsBlocks}
+use Rattle.run_shows.specs.Follows.Blocks.{RefinesBlocks}
 use Rattle.run_shows.proofs.Follows.Onward.{IsOfMap}
 use Rattle.run_shows.proofs.Follows.Operations.{LeavesBy}
 use Rattle.run_shows.proofs.Follows.Rows.{HandsOn, IsStill, Puts, Retires, RowLeaves, row_written}
@@ -46,7 +46,7 @@ roomed_aside false = (refl, tt)
 pub same_pairs : (known known2 : Known) → known2.roles ≡ known.roles → WerePairs known known2
 same_pairs known known2 same b k is = ap (λ (f : ℕ → Role). f b) (sym same) ∙ is
 
-module _ {K V : Type 0} (caller map : ℕ) (m : Moment K V) (known : Known) (w w2 : World (Node K V)) (shown : ShowsBlocks m known w) (leaves : RowLeaves w w2) where
+module _ {K V : Type 0} (caller map : ℕ) (m : Moment K V) (known : Known) (w w2 : World (Node K V)) (shown : RefinesBlocks m known w) (leaves : RowLeaves w w2) where
   abbrev its : Acting
   its = Call caller map
 

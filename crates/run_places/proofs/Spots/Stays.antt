@@ -8,11 +8,11 @@ use Rattle.run_shows.specs.Given.RunsDeclared.effect.TableId.{TableId}
 use Rattle.run_shows.specs.Given.SchedulesEffects.{with_effects}
 use Rattle.run_shows.specs.Given.SchedulesMoment.{Moment}
 use Rattle.run_shows.specs.Given.RuleWords.{Blocks}
-use Rattle.run_shows.specs.Given.CallersSights.{Sight, IsPartOf}
+use Rattle.run_shows.specs.Given.CallersSights.{Visible, IsPartOf}
 use Rattle.run_shows.specs.Given.FinishesMaps.{Standing, IsSameMap}
 use Rattle.run_shows.specs.Given.EffectsKnown.{Known}
 use Rattle.run_shows.specs.Given.EffectsDeclared.role.Role.TheVariants as role
-use Rattle.run_places.specs.Spots.Spots.{LiesAt, IsCopiedTo, IsPairOf, ShowsSpots, ShowsPlaces}
+use Rattle.run_places.specs.Spots.Spots.{LiesAt, IsCopiedTo, IsPairOf, RefinesSpots, RefinesPlaces}
 use Rattle.run_places.proofs.Spots.Effects.{AllAside, AreAside, aside_all}
 use Rattle.run_places.proofs.Spots.Elsewhere.{stored_grows}
 
@@ -22,7 +22,7 @@ WerePairs known known2 = (b k : ℕ) → known2.roles b ≡ role.Pair k → know
 
 module _ {K V : Type 0} (m v : Moment K V) (known known2 : Known) (aside : AreAside m v) (back : WerePairs known known2) where
   -- a map of which less may be looked at
-  part_lies : (s : Standing K) (blocks : Blocks) (sights : ℕ → Sight) → IsPartOf s.chart blocks s.blocks → ShowsSpots s m known → ShowsSpots (record s { blocks = blocks; sights = sights }) v known2
+  part_lies : (s : Standing K) (blocks : Blocks) (sights : ℕ → Visible) → IsPartOf s.chart blocks s.blocks → RefinesSpots s m known → RefinesSpots (record s { blocks = blocks; sights = sights }) v known2
   part_lies s blocks sights part h = record {
     born = λ n k t i b pair e. subst (λ (f : ℕ → TableId). (f k).turn ≤ t) (sym aside.born) (h.born n k t i b (was n k pair) e);
     whole = h.whole;
@@ -35,17 +35,17 @@ module _ {K V : Type 0} (m v : Moment K V) (known known2 : Known) (aside : AreAs
       was : (n k : ℕ) → IsPairOf (record s { blocks = blocks; sights = sights }) known2 n k → IsPairOf s known n k
       was n k (l, seen, is) = (l, part.pairs_known n l seen, ap known.roles (sym (part.pairs n)) ∙ back (blocks.pair n) k is)
 
-  same_lies : (o after : Option (Standing K)) → IsSameMap o after → (st : Standing K) → after ≡ Some st → ((before : Standing K) → o ≡ Some before → ShowsSpots before m known) → ShowsSpots st v known2
+  same_lies : (o after : Option (Standing K)) → IsSameMap o after → (st : Standing K) → after ≡ Some st → ((before : Standing K) → o ≡ Some before → RefinesSpots before m known) → RefinesSpots st v known2
   same_lies None after none st is had = absurd (cc (none, is))
   same_lies (Some before) after (blocks, sights, here, part) st is had =
       let one : record before { blocks = blocks; sights = sights } ≡ st = some_is (record before { blocks = blocks; sights = sights }) st (sym here ∙ is) in
-      subst (λ (x : Standing K). ShowsSpots x v known2) one (part_lies before blocks sights part (had before refl))
+      subst (λ (x : Standing K). RefinesSpots x v known2) one (part_lies before blocks sights part (had before refl))
     where
       some_is : (x y : Standing K) → ◌≡◌ {A = Option (Standing K)} (Some x) (Some y) → x ≡ y
       some_is x y e = cc e
 
 module _ {K V : Type 0} (caller : Option (List ℕ)) (acted : Option ℕ) (effects : List Effect) (m : Moment K V) (known known2 : Known) (maps maps2 : ℕ → Option (Standing K)) where
-  pub places_stay : AllAside effects → WerePairs known known2 → ((n : ℕ) → IsSameMap (maps n) (maps2 n)) → ShowsPlaces m known maps → ShowsPlaces (with_effects caller acted effects m) known2 maps2
+  pub places_stay : AllAside effects → WerePairs known known2 → ((n : ℕ) → IsSameMap (maps n) (maps2 n)) → RefinesPlaces m known maps → RefinesPlaces (with_effects caller acted effects m) known2 maps2
   places_stay all back same h =
       let aside = aside_all caller acted effects m all in
       let more = stored_grows caller acted effects m in

@@ -17,27 +17,27 @@ use Rattle.run_shows.specs.Given.SchedulesViews.{is_in_map}
 use Rattle.run_shows.specs.Given.EffectsDeclared.changed.Changed.{Changed}
 use Rattle.run_shows.specs.Given.EffectsDeclared.changed.Changed.TheVariants as changed
 use Rattle.run_shows.specs.Given.TellsSeen.{Seen, Unseen, Wrote, seen_of}
-use Rattle.run_shows.specs.Given.TellsTells.{IsTold}
+use Rattle.run_shows.specs.Given.TellsTells.{IsObserved}
 use Rattle.run_shows.proofs.Given.TellsPromised.{operations_tell, still_steps_tell}
 use Rattle.run_shows.specs.Given.RuleChart.{Chart}
 use Rattle.run_shows.specs.Given.RuleWords.{Blocks}
-use Rattle.run_shows.specs.Given.RuleInWorld.{IsMapIn, Went}
+use Rattle.run_shows.specs.Given.RuleInWorld.{IsMapIn, StepSpec}
 use Rattle.run_shows.proofs.Given.RuleLaws.{current_is_known}
 use Rattle.run_shows.proofs.Given.RuleWorld.WentTold.{went_as}
 use Rattle.run_shows.specs.Given.PointsSteps.{AreLawful}
-use Rattle.run_shows.specs.Given.CallersSights.{Sight, seen_by, IsGrown, IsSight}
+use Rattle.run_shows.specs.Given.CallersSights.{Visible, seen_by, IsGrown, IsVisibility}
 use Rattle.run_shows.specs.Given.CallersTogether.{UnderWay, OnKey, ForRoom, Counting, OverAll, in_slot, IsOneStep, Together}
 use Rattle.run_shows.proofs.Given.CallersSights.Seen.{map_seen}
 use Rattle.run_shows.proofs.Given.CallersTogether.At.{at_other, at_same}
 use Rattle.run_shows.proofs.Given.CallersTogether.Fits.{map_in_slot}
-use Rattle.run_shows.specs.Given.FinishesMachines.{machine_of, MachineStepsAmong}
+use Rattle.run_shows.specs.Given.FinishesMachines.{machine_of, MachineStepsWithEndings}
 use Rattle.run_shows.specs.Given.FinishesMaps.{Standing, IsSameMap}
 use Rattle.run_shows.specs.Given.EffectsEffects.{effects_of, known_after}
 use Rattle.run_shows.specs.Given.EffectsKnown.{Known}
 use Rattle.run_shows.specs.Given.EffectsDeclared.acting.Acting.{Acting}
 use Rattle.run_shows.specs.Given.EffectsDeclared.acting.Acting.TheVariants.{Call}
-use Rattle.run_shows.specs.Follows.Maps.{ShowsMap}
-use Rattle.run_shows.specs.Follows.Shows.{Shows}
+use Rattle.run_shows.specs.Follows.Maps.{RefinesMap}
+use Rattle.run_shows.specs.Follows.Shows.{Refines}
 use Rattle.run_shows.specs.Follows.Steps.{TakesNone, Did, IsOfNoRow}
 use Rattle.run_shows.proofs.Follows.Nowhere.{names_stay, went_nowhere}
 use Rattle.run_shows.proofs.Follows.Onward.{IsOfMap}
@@ -45,9 +45,9 @@ use Rattle.run_shows.proofs.Follows.Operations.{LeavesBy, Operated, operated, op
 use Rattle.run_shows.proofs.Follows.Rows.{one_step_leaves}
 use Rattle.run_places.specs.Spots.Deferred.{FindsNumbers, CallsLeaveOutside}
 use Rattle.run_places.specs.Spots.Placed.{FindPlaces, CallsFindPlaces}
-use Rattle.run_places.specs.Spots.Spots.{ShowsSpots, ShowsPlaces}
-use Rattle.run_places.specs.Spots.Steps.{CallsKeepPlaces, CallsKeepBlocks}
-use Rattle.run_places.specs.Spots.Unreclaimed.{ShowsUnreclaimed}
+use Rattle.run_places.specs.Spots.Spots.{RefinesSpots, RefinesPlaces}
+use Rattle.run_places.specs.Spots.Steps.{CallsPreservePlaces, CallsPreserveBlocks}
+use Rattle.run_places.specs.Spots.Unreclaimed.{RefinesUnreclaimed}
 use Rattle.run_places.proofs.Spots.Calm.{IsCalm, calm_done}
 use Rattle.run_places.proofs.Spots.Deferred.{effects_leave_outside}
 use Rattle.run_places.proofs.Spots.Done.{DidMoved, did_moved}
@@ -78,7 +78,7 @@ in_one_map a b Left ne e = refl
 in_one_map a b GivenBack ne e = refl
 
 module _ {K V : Type 0} (same : K → K → Bool) (hash : ℕ → K → ℕ) (m : Moment K V) (known : Known) (s : Scene K V) (old new : Held K V) (at : IsAt same hash old s)
-    (name : ℕ → List ℕ) (shown : Shows same name m known s)
+    (name : ℕ → List ℕ) (shown : Refines same name m known s)
     (map i : ℕ) (standing : Standing K) (there : s.maps map ≡ Some standing) (caller : List ℕ)
     (made : Operated s.world.memory new.memory new.changed) where
   abbrev m2 : Mem (Node K V)
@@ -105,7 +105,7 @@ module _ {K V : Type 0} (same : K → K → Bool) (hash : ℕ → K → ℕ) (m 
   abbrev setting : Setting
   setting = in_slot standing.setting (slot_of i)
 
-  abbrev sight : Sight
+  abbrev sight : Visible
   sight = standing.sights (slot_of i)
 
   together : (n : ℕ) (st : Standing K) → s.maps n ≡ Some st → Together V same st.hash same st.setting slot_of w st.chart st.blocks st.sights (s.calls n)
@@ -117,7 +117,7 @@ module _ {K V : Type 0} (same : K → K → Bool) (hash : ℕ → K → ℕ) (m 
   left : LeavesBy w.memory m2 told
   left = operated_leaves w.memory m2 told made
 
-  abbrev is_shown : ShowsMap map (shown.number map) standing m known
+  abbrev is_shown : RefinesMap map (shown.number map) standing m known
   is_shown = shown.maps map standing there
 
   -- a pair of a map can be looked at
@@ -127,16 +127,16 @@ module _ {K V : Type 0} (same : K → K → Bool) (hash : ℕ → K → ℕ) (m 
 
   -- within its section
   module _ (inside : IsInside (w.uses (slot_of i))) where
-    is_sight : IsSight standing.chart standing.blocks sight
+    is_sight : IsVisibility standing.chart standing.blocks sight
     is_sight = ((together map standing there).ground.sight (slot_of i) inside).0
 
     is_map : IsMapIn same standing.hash setting w standing.chart (seen_by standing.blocks sight)
     is_map = map_seen same standing.hash setting w standing.chart standing.blocks sight
         (map_in_slot same standing.hash standing.setting w standing.chart standing.blocks (slot_of i) (together map standing there).ground.map) is_sight
 
-    module _ (Told : World (Node K V) → Chart K → Blocks → Type 0) (had : Went same standing.hash setting i w standing.chart (seen_by standing.blocks sight) m2 Told)
-        (blocks2 : Blocks) (grown : IsGrown standing.chart standing.blocks had.blocks2 blocks2) (sights2 : ℕ → Sight) where
-      abbrev went : Went same standing.hash setting i w standing.chart (seen_by standing.blocks sight) m2 (λ w2 c2 blocks2. Unit {0})
+    module _ (Told : World (Node K V) → Chart K → Blocks → Type 0) (had : StepSpec same standing.hash setting i w standing.chart (seen_by standing.blocks sight) m2 Told)
+        (blocks2 : Blocks) (grown : IsGrown standing.chart standing.blocks had.blocks2 blocks2) (sights2 : ℕ → Visible) where
+      abbrev went : StepSpec same standing.hash setting i w standing.chart (seen_by standing.blocks sight) m2 (λ w2 c2 blocks2. Unit {0})
       went = went_as same standing.hash setting i w standing.chart (seen_by standing.blocks sight) m2 Told (λ w2 c2 blocks2. Unit {0}) (λ w2 c2 blocks2 map moved alike told. tt) had
 
       abbrev DidIt : Type 0
@@ -146,7 +146,7 @@ module _ {K V : Type 0} (same : K → K → Bool) (hash : ℕ → K → ℕ) (m 
       did = by made
         where
           did_by : (seen : Seen (Node K V)) → ((at : At) (x y : ℕ) → seen ≡ Wrote at x y → told ≡ changed.Wrote at x y) → ((at : At) (x y : ℕ) → told ≡ changed.Wrote at x y → seen ≡ Wrote at x y)
-              → IsTold standing.hash setting standing.chart (seen_by standing.blocks sight) went.c2 went.blocks2 same i went.moved seen → DidIt
+              → IsObserved standing.hash setting standing.chart (seen_by standing.blocks sight) went.c2 went.blocks2 same i went.moved seen → DidIt
           did_by = did_moved same (slot_of i) i map (Some caller) (shown.number map) standing lawful w sight is_sight is_map m2 (λ w2 c2 blocks2. Unit {0}) went blocks2 grown sights2 m known is_shown shown.blocks told left
 
           by : Operated w.memory m2 told → DidIt
@@ -164,10 +164,10 @@ module _ {K V : Type 0} (same : K → K → Bool) (hash : ℕ → K → ℕ) (m 
       leaves : Leaves same (slot_of i) i map (Some caller) (shown.number map) standing lawful w sight is_sight is_map m2 (λ w2 c2 blocks2. Unit {0}) went blocks2 grown sights2 m known is_shown shown.blocks told left effects known2
       leaves = moved_leaves same (slot_of i) i map (Some caller) (shown.number map) standing lawful w sight is_sight is_map m2 (λ w2 c2 blocks2. Unit {0}) went blocks2 grown sights2 m known is_shown shown.blocks told left did
 
-      pub moved_blocks : ShowsUnreclaimed m known → ShowsUnreclaimed v known2
+      pub moved_blocks : RefinesUnreclaimed m known → RefinesUnreclaimed v known2
       moved_blocks h = moved_holds same (slot_of i) i map (Some caller) (shown.number map) standing lawful w sight is_sight is_map m2 (λ w2 c2 blocks2. Unit {0}) went blocks2 grown sights2 m known is_shown shown.blocks told left h did
 
-      pub moved_finds_places : ShowsPlaces m known s.maps → ShowsUnreclaimed m known → FindPlaces map m effects
+      pub moved_finds_places : RefinesPlaces m known s.maps → RefinesUnreclaimed m known → FindPlaces map m effects
       moved_finds_places lying held = moved_finds same (slot_of i) i map (Some caller) (shown.number map) standing lawful w sight is_sight is_map m2 (λ w2 c2 blocks2. Unit {0}) went blocks2 grown sights2 m known is_shown shown.blocks
           (together map standing there).ground.moments (lying.each map standing there) held (current_there map standing there) told left did
 
@@ -183,28 +183,28 @@ module _ {K V : Type 0} (same : K → K → Bool) (hash : ℕ → K → ℕ) (m 
       moved_hands = moved_hand same (slot_of i) i map (Some caller) (shown.number map) standing lawful w sight is_sight is_map m2 (λ w2 c2 blocks2. Unit {0}) went blocks2 grown sights2 m known is_shown shown.blocks told left did
 
       -- where pairs lie
-      module _ (lying : ShowsPlaces m known s.maps) where
-        own : ShowsSpots moved_on v known2
+      module _ (lying : RefinesPlaces m known s.maps) where
+        own : RefinesSpots moved_on v known2
         own = own_lies same (slot_of i) i map (Some caller) (shown.number map) standing lawful w sight is_sight is_map m2 (λ w2 c2 blocks2. Unit {0}) went blocks2 grown sights2 m known is_shown shown.blocks
             (together map standing there).ground.moments (lying.each map standing there) lying.fresh (current_there map standing there) told left did
 
-        other : (n : ℕ) (st : Standing K) → s.maps n ≡ Some st → n ≢ map → ShowsSpots st v known2
+        other : (n : ℕ) (st : Standing K) → s.maps n ≡ Some st → n ≢ map → RefinesSpots st v known2
         other n st is ne =
             other_lies map n (shown.number n) st m v known known2 ne (shown.maps n st is) leaves.keeps leaves.elsewhere
             (λ k current. in_one_map n map (m.place (shown.number n k)) ne ((shown.maps n st is).pairs.here k (current_there n st is k current).0 ∙ current)) (lying.each n st is)
 
-        pub moved_places : (maps2 : ℕ → Option (Standing K)) → maps2 ≡ with_at s.maps map (Some moved_on) → ShowsPlaces v known2 maps2
+        pub moved_places : (maps2 : ℕ → Option (Standing K)) → maps2 ≡ with_at s.maps map (Some moved_on) → RefinesPlaces v known2 maps2
         moved_places maps2 maps_are = record {
-          each = λ n st is. elim (cases_eq n map) as (λ _. ShowsSpots st v known2) [
+          each = λ n st is. elim (cases_eq n map) as (λ _. RefinesSpots st v known2) [
             | inl e ↦
-                subst (λ (x : Standing K). ShowsSpots x v known2) (one_of moved_on st (sym (at_same s.maps map (Some moved_on) n e) ∙ ap (λ (f : ℕ → Option (Standing K)). f n) (sym maps_are) ∙ is)) own
+                subst (λ (x : Standing K). RefinesSpots x v known2) (one_of moved_on st (sym (at_same s.maps map (Some moved_on) n e) ∙ ap (λ (f : ℕ → Option (Standing K)). f n) (sym maps_are) ∙ is)) own
             | inr ne ↦ other n st (sym (at_other s.maps map (Some moved_on) n ne) ∙ ap (λ (f : ℕ → Option (Standing K)). f n) (sym maps_are) ∙ is) ne
           ];
           fresh = λ k l. (let more = stored_grows (Some caller) (Some map) effects m in let before : length m.stored < k = omega (arith, more, l) in leaves.elsewhere.beyond k before ∙ lying.fresh k before);
         }
 
   -- A step of a row has moved none.
-  pub row_places : (lying : ShowsPlaces m known s.maps) (w2 : World (Node K V)) → w2.memory ≡ m2 → IsOneStep standing.setting i w w2 → (maps2 : ℕ → Option (Standing K)) → ((n : ℕ) → IsSameMap (s.maps n) (maps2 n)) → ShowsPlaces v known2 maps2
+  pub row_places : (lying : RefinesPlaces m known s.maps) (w2 : World (Node K V)) → w2.memory ≡ m2 → IsOneStep standing.setting i w w2 → (maps2 : ℕ → Option (Standing K)) → ((n : ℕ) → IsSameMap (s.maps n) (maps2 n)) → RefinesPlaces v known2 maps2
   row_places lying w2 memory happened maps2 maps_same =
       let aside = row_aside i map m known w w2 shown.blocks (one_step_leaves standing.setting i w w2 (together map standing there).ground.came happened) told
       (subst (λ (n : Mem (Node K V)). LeavesBy w.memory n told) (sym memory) left) in
@@ -220,7 +220,7 @@ module _ {K V : Type 0} (same : K → K → Bool) (hash : ℕ → K → ℕ) (m 
       row_numbers i map (Some caller) m known w w2 shown.blocks (one_step_leaves standing.setting i w w2 (together map standing there).ground.came happened) told
       (subst (λ (n : Mem (Node K V)). LeavesBy w.memory n told) (sym memory) left)
 
-  pub row_blocks : (w2 : World (Node K V)) → w2.memory ≡ m2 → IsOneStep standing.setting i w w2 → TakesNone told → ShowsUnreclaimed m known → ShowsUnreclaimed v known2
+  pub row_blocks : (w2 : World (Node K V)) → w2.memory ≡ m2 → IsOneStep standing.setting i w w2 → TakesNone told → RefinesUnreclaimed m known → RefinesUnreclaimed v known2
   row_blocks w2 memory happened none h =
       row_holds i map (Some caller) m known h w w2 shown.blocks (one_step_leaves standing.setting i w w2 (together map standing there).ground.came happened) told
       (subst (λ (n : Mem (Node K V)). LeavesBy w.memory n told) (sym memory) left) none
@@ -230,28 +230,28 @@ module _ {K V : Type 0} (same : K → K → Bool) (hash : ℕ → K → ℕ) (m 
   whole = map_in_slot same standing.hash standing.setting w standing.chart standing.blocks (slot_of i) (together map standing there).ground.map
 
   module _ (still : m2 ≡ w.memory) where
-    abbrev stayed : Went same standing.hash setting i w standing.chart standing.blocks m2 (λ w2 c2 blocks2. Unit {0})
+    abbrev stayed : StepSpec same standing.hash setting i w standing.chart standing.blocks m2 (λ w2 c2 blocks2. Unit {0})
     stayed = went_nowhere same standing.hash setting i w standing.chart standing.blocks whole m2 still
 
     pub stayed_calm : IsCalm known effects known2
     stayed_calm = calm_done same standing.hash setting i w standing.chart standing.blocks m2 (λ w2 c2 blocks2. Unit {0}) stayed whole map m.stored known
         shown.blocks.roles shown.blocks.once is_shown.tables.roles told left (names_stay setting standing.chart standing.blocks w.memory m2 still told left)
 
-    pub stayed_places : (lying : ShowsPlaces m known s.maps) (maps2 : ℕ → Option (Standing K)) → ((n : ℕ) → IsSameMap (s.maps n) (maps2 n)) → ShowsPlaces v known2 maps2
+    pub stayed_places : (lying : RefinesPlaces m known s.maps) (maps2 : ℕ → Option (Standing K)) → ((n : ℕ) → IsSameMap (s.maps n) (maps2 n)) → RefinesPlaces v known2 maps2
     stayed_places lying maps2 maps_same =
         places_stay (Some caller) (Some map) effects m known known2 s.maps maps2 (calm_aside effects stayed_calm.calm)
         (λ b k is. sym (stayed_calm.back b (subst IsOfMap (sym is) tt)) ∙ is) maps_same lying
 
-    pub stayed_blocks : ShowsUnreclaimed m known → ShowsUnreclaimed v known2
+    pub stayed_blocks : RefinesUnreclaimed m known → RefinesUnreclaimed v known2
     stayed_blocks h = calm_holds i map (Some caller) m known h effects known2 stayed_calm
 
 -- A step of a call, whichever kind that is of: it has moved its map's tables, or was one of a row, or has left the memory as it was.
 module _ {K V : Type 0} (same : K → K → Bool) (hash : ℕ → K → ℕ) (name : ℕ → List ℕ) (m : Moment K V) (known : Known) (s : Scene K V) (old new : Held K V) (at : IsAt same hash old s)
-    (shown : Shows same name m known s) (map i : ℕ) (u : UnderWay K V K) (here : s.calls map i ≡ Some u) (told : Progress (Node K V)) (leads : StepLeads same hash i told s old new) where
+    (shown : Refines same name m known s) (map i : ℕ) (u : UnderWay K V K) (here : s.calls map i ≡ Some u) (told : Progress (Node K V)) (leads : StepLeads same hash i told s old new) where
   abbrev To : Type 0
   To =
       (standing : Standing K) × (machine : Machine K V K) × (s.maps map ≡ Some standing) × StepsFrom same standing.hash (machine_of u) old new machine told
-      × (did : MachineStepsAmong V same same old.batch_size old.roots slot_of s.world s.maps s.calls s.makers s.enders map standing i new.memory u machine told)
+      × (did : MachineStepsWithEndings V same same old.batch_size old.roots slot_of s.world s.maps s.calls s.makers s.enders map standing i new.memory u machine told)
       × IsAt same hash new (scene_after same s old new map i standing u machine told did)
 
   abbrev to : To
@@ -272,8 +272,8 @@ module _ {K V : Type 0} (same : K → K → Bool) (hash : ℕ → K → ℕ) (na
   Stayed = (n : ℕ) → IsSameMap (s.maps n) (to.4.maps2 n)
 
   module _ (Goal : Type 0)
-      (moved : IsInside (s.world.uses (slot_of i)) → (Told : World (Node K V) → Chart K → Blocks → Type 0) (had : Went same to.0.hash (in_slot to.0.setting (slot_of i)) i s.world to.0.chart (seen_by to.0.blocks (to.0.sights (slot_of i))) new.memory Told)
-      (blocks2 : Blocks) (grown : IsGrown to.0.chart to.0.blocks had.blocks2 blocks2) (sights2 : ℕ → Sight)
+      (moved : IsInside (s.world.uses (slot_of i)) → (Told : World (Node K V) → Chart K → Blocks → Type 0) (had : StepSpec same to.0.hash (in_slot to.0.setting (slot_of i)) i s.world to.0.chart (seen_by to.0.blocks (to.0.sights (slot_of i))) new.memory Told)
+      (blocks2 : Blocks) (grown : IsGrown to.0.chart to.0.blocks had.blocks2 blocks2) (sights2 : ℕ → Visible)
       → to.4.maps2 ≡ with_at s.maps map (Some (record to.0 { chart = had.c2; blocks = blocks2; sights = sights2 })) → Goal)
       (row : (w2 : World (Node K V)) → w2.memory ≡ new.memory → IsOneStep to.0.setting i s.world w2 → Stayed → (NoRow u to.4.did → ⊥) → Goal)
       (still : new.memory ≡ s.world.memory → Stayed → Goal) where
@@ -297,22 +297,22 @@ module _ {K V : Type 0} (same : K → K → Bool) (hash : ℕ → K → ℕ) (na
       (λ same_memory stayed. calm_hand (effects_of (Call i map) known new.changed) (stayed_calm same hash m known s old new at name shown map i to.0 to.2 (name i) made same_memory).calm)
 
   -- where pairs lie then
-  keeps_places : ShowsPlaces m known s.maps → ShowsPlaces (with_effects (Some (name i)) (Some map) (effects_of (Call i map) known new.changed) m) (known_after (Call i map) new.changed known) to.4.maps2
+  keeps_places : RefinesPlaces m known s.maps → RefinesPlaces (with_effects (Some (name i)) (Some map) (effects_of (Call i map) known new.changed) m) (known_after (Call i map) new.changed known) to.4.maps2
   keeps_places lying = by_kind _
       (λ inside Told had blocks2 grown sights2 are. moved_places same hash m known s old new at name shown map i to.0 to.2 (name i) made inside Told had blocks2 grown sights2 lying to.4.maps2 are)
       (λ w2 memory happened stayed no. row_places same hash m known s old new at name shown map i to.0 to.2 (name i) made lying w2 memory happened to.4.maps2 stayed)
       (λ same_memory stayed. stayed_places same hash m known s old new at name shown map i to.0 to.2 (name i) made same_memory lying to.4.maps2 stayed)
 
   -- which blocks are unreclaimed
-  keeps_blocks : ((NoRow u to.4.did → ⊥) → TakesNone new.changed) → ShowsUnreclaimed m known
-      → ShowsUnreclaimed (with_effects (Some (name i)) (Some map) (effects_of (Call i map) known new.changed) m) (known_after (Call i map) new.changed known)
+  keeps_blocks : ((NoRow u to.4.did → ⊥) → TakesNone new.changed) → RefinesUnreclaimed m known
+      → RefinesUnreclaimed (with_effects (Some (name i)) (Some map) (effects_of (Call i map) known new.changed) m) (known_after (Call i map) new.changed known)
   keeps_blocks none held = by_kind _
       (λ inside Told had blocks2 grown sights2 are. moved_blocks same hash m known s old new at name shown map i to.0 to.2 (name i) made inside Told had blocks2 grown sights2 held)
       (λ w2 memory happened stayed no. row_blocks same hash m known s old new at name shown map i to.0 to.2 (name i) made w2 memory happened (none no) held)
       (λ same_memory stayed. stayed_blocks same hash m known s old new at name shown map i to.0 to.2 (name i) made same_memory held)
 
   -- what it finds of places
-  finds_places : ShowsPlaces m known s.maps → ShowsUnreclaimed m known → FindPlaces map m (effects_of (Call i map) known new.changed)
+  finds_places : RefinesPlaces m known s.maps → RefinesUnreclaimed m known → FindPlaces map m (effects_of (Call i map) known new.changed)
   finds_places lying held = by_kind _
       (λ inside Told had blocks2 grown sights2 are. moved_finds_places same hash m known s old new at name shown map i to.0 to.2 (name i) made inside Told had blocks2 grown sights2 lying held)
       (λ w2 memory happened stayed no. row_finds_places same hash m known s old new at name shown map i to.0 to.2 (name i) made w2 memory happened)
@@ -326,10 +326,10 @@ module _ {K V : Type 0} (same : K → K → Bool) (hash : ℕ → K → ℕ) (na
       (λ same_memory stayed. calm_numbers (Some (name i)) (Some map) (effects_of (Call i map) known new.changed) m (stayed_calm same hash m known s old new at name shown map i to.0 to.2 (name i) made same_memory).calm)
 
 module _ (K V : Type 0) (same : K → K → Bool) (hash : ℕ → K → ℕ) where
-  pub calls_keep_places : CallsKeepPlaces K V same hash
+  pub calls_keep_places : CallsPreservePlaces K V same hash
   calls_keep_places name m known s old new at shown lying map i u here told leads = keeps_places same hash name m known s old new at shown map i u here told leads lying
 
-  pub calls_keep_blocks : CallsKeepBlocks K V same hash
+  pub calls_keep_blocks : CallsPreserveBlocks K V same hash
   calls_keep_blocks name m known s old new at shown held map i u here told leads none = keeps_blocks same hash name m known s old new at shown map i u here told leads none held
 
   pub calls_find_places : CallsFindPlaces K V same hash

@@ -11,7 +11,7 @@ use Rattle.run_shows.specs.Given.SchedulesTries.{has_pair_at, is_taken_at}
 use Rattle.run_shows.specs.Given.SchedulesViews.{is_in_map}
 use Rattle.run_shows.specs.Given.FinishesMaps.{Standing}
 use Rattle.run_shows.specs.Given.EffectsKnown.{Known}
-use Rattle.run_shows.specs.Follows.Maps.{ShowsMap}
+use Rattle.run_shows.specs.Follows.Maps.{RefinesMap}
 use Rattle.run_shows.proofs.Follows.Stored.{in_map_true}
 use Rattle.run_places.specs.Spots.Spots.{ThePair, named_by, spot_in, LiesAt}
 use Rattle.run_places.proofs.Spots.Placed.{lies_named}
@@ -54,7 +54,7 @@ module _ {K V : Type 0} (map : ℕ) (m : Moment K V) where
       (ap (λ (q : Bool). q && same_spot (m.spot k) s) in_map ∙ spot_same (m.spot k) s at)
 
 -- and none where the table names none
-module _ {K V : Type 0} (map : ℕ) (number : ℕ → ℕ) (s : Standing K) (m : Moment K V) (known : Known) (shown : ShowsMap map number s m known) (q : Bool)
+module _ {K V : Type 0} (map : ℕ) (number : ℕ → ℕ) (s : Standing K) (m : Moment K V) (known : Known) (shown : RefinesMap map number s m known) (q : Bool)
     (lies : (n : ℕ) → s.chart.current n ≡ true → LiesAt s.chart q n (m.spot (number n)) (m.born (number n)).turn) where
   pub no_pair_there : (t i : ℕ) → ((n : ℕ) (b : Bool) → named_by (s.chart.place t i) ≢ ThePair n b) → has_pair_at map (spot_in t i) m ≡ false
   no_pair_there t i none = any_none (λ k. is_in_map map (m.place k) && same_spot (m.spot k) (spot_in t i)) (λ k. by k (is_in_map map (m.place k)) refl (same_spot (m.spot k) (spot_in t i)) refl) (numbers_from 1 (length m.stored))

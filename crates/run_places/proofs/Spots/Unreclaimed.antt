@@ -15,7 +15,7 @@ use Rattle.run_shows.specs.Given.EffectsDeclared.role.Role.{Role}
 use Rattle.run_shows.specs.Given.EffectsDeclared.role.Role.TheVariants as role
 use Rattle.run_shows.proofs.Follows.Alike.{put_here, put_elsewhere}
 use Rattle.run_shows.proofs.Follows.Onward.{IsLasting, IsOfMap, KeepsRoles}
-use Rattle.run_places.specs.Spots.Unreclaimed.{is_unreclaimed, ShowsUnreclaimed}
+use Rattle.run_places.specs.Spots.Unreclaimed.{is_unreclaimed, RefinesUnreclaimed}
 use Rattle.run_shows.proofs.Given.General.{both_true as and_both, or_second as or_right, or_first as or_left}
 
 -- blocks of maps are those that they were, and stay those
@@ -42,7 +42,7 @@ module _ {K V : Type 0} where
     pub place : (k : ℕ) → is_unreclaimed (v.place k) ≡ is_unreclaimed (m.place k)
     pub tables : (t : TableId) → is_stage is_there t v ≡ is_stage is_there t m
 
-  pub unreclaimed_same : (m v : Moment K V) (known known2 : Known) → AsUnreclaimed m v → StayOfMaps known known2 → WereOfMaps known known2 → ShowsUnreclaimed m known → ShowsUnreclaimed v known2
+  pub unreclaimed_same : (m v : Moment K V) (known known2 : Known) → AsUnreclaimed m v → StayOfMaps known known2 → WereOfMaps known known2 → RefinesUnreclaimed m known → RefinesUnreclaimed v known2
   unreclaimed_same m v known known2 same keeps back h = record {
     pairs = λ b k is. same.place k ∙ h.pairs b k (sym (back b (subst IsOfMap (sym is) tt)) ∙ is);
     pairs_there = λ k e. let it = h.pairs_there k (sym (same.place k) ∙ e) in (it.0, keeps it.0 (subst IsOfMap (sym it.1) tt) ∙ it.1);
@@ -63,7 +63,7 @@ module _ {K V : Type 0} where
 
   -- a pair is stored in a block that was none of a map
   pub stored_unreclaimed : (m v : Moment K V) (known : Known) (b : ℕ) (p : Place) → (IsLasting (known.roles b) → ⊥) → is_unreclaimed p ≡ true → v.place ≡ put (known.stored + 1) p m.place → v.tables ≡ m.tables
-      → ShowsUnreclaimed m known → ShowsUnreclaimed v (with_pair b known)
+      → RefinesUnreclaimed m known → RefinesUnreclaimed v (with_pair b known)
   stored_unreclaimed m v known b p own new place tables h = record {
     pairs = λ x k is. ap (λ (f : ℕ → Place). is_unreclaimed (f k)) place ∙ (elim (cases_eq k next) as (λ _. is_unreclaimed (put next p m.place k) ≡ true) [
       | inl e ↦ ap is_unreclaimed (put_here next p m.place k e) ∙ new
@@ -146,7 +146,7 @@ same_itself t = ap (λ (q : Bool). q && (t.turn == t.turn)) (eq-eqb t.map t.map 
 module _ {K V : Type 0} where
   -- a table is linked, in a block that was none of a map
   pub linked_unreclaimed : (m v : Moment K V) (known : Known) (b len : ℕ) (t : TableId) (shape : TableShape) → (IsLasting (known.roles b) → ⊥) → ((x n : ℕ) → known.roles x ≡ role.Table t n → ⊥) → v.place ≡ m.place → v.tables ≡ m.tables ++ record { table = t; shape = shape; stage = IsLinked } ∷ []
-      → ShowsUnreclaimed m known → ShowsUnreclaimed v (with_role b (role.Table t len) known)
+      → RefinesUnreclaimed m known → RefinesUnreclaimed v (with_role b (role.Table t len) known)
   linked_unreclaimed m v known b len t shape own none place tables h = record {
     pairs = λ x k is. same_place k ∙ h.pairs x k (sym (put_elsewhere b its known.roles x (λ z. (let one : its ≡ role.Pair k = sym (put_here b its known.roles x z) ∙ is in cc one))) ∙ is);
     pairs_there = λ k e. let was = h.pairs_there k (sym (same_place k) ∙ e) in

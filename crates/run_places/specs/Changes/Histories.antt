@@ -6,8 +6,8 @@ use Rattle.run_shows.specs.Given.SchedulesViews.{call_of, finite_map}
 use Rattle.run_shows.specs.Given.CallersTogether.{UnderWay, OnKey, ForRoom, Counting, OverAll}
 use Rattle.run_shows.specs.Given.EffectsKnown.{Known}
 use Rattle.run_shows.specs.Given.FinishesMaps.{Standing}
-use Rattle.run_shows.specs.Follows.Shows.{Shows}
-use Rattle.run_places.specs.Hands.Asked.{ShowsAsked}
+use Rattle.run_shows.specs.Follows.Shows.{Refines}
+use Rattle.run_places.specs.Hands.Asked.{RefinesAsked}
 use Rattle.run_places.specs.Changes.Had.{HadThen}
 use Rattle.run_shows.specs.Scenes.Scene.{Scene}
 use Rattle.run_shows.specs.Given.SchedulesTransition.{Past}
@@ -36,16 +36,16 @@ pub record IsPast {K V : Type 0} (log : Past K V) : Type 0 where
 
 -- The moment shows the scene, and what its calls were told. The event that began a call is one of the log or the next one, and the history of its map since it
 -- began is within the moments of the run since then.
-pub record ShowsHistory {K V : Type 0} (same : K → K → Bool) (name : ℕ → List ℕ) (log : Past K V) (m : Moment K V) (known : Known) (s : Scene K V) : Type 0 where
+pub record RefinesHistory {K V : Type 0} (same : K → K → Bool) (name : ℕ → List ℕ) (log : Past K V) (m : Moment K V) (known : Known) (s : Scene K V) : Type 0 where
   pub past : IsPast log
-  pub shown : Shows same name m known s
-  pub asked : ShowsAsked name shown.number m known s
+  pub shown : Refines same name m known s
+  pub asked : RefinesAsked name shown.number m known s
   pub begun : (map i : ℕ) (u : UnderWay K V K) → s.calls map i ≡ Some u → (c : CallThere K V) → call_of (name i) m ≡ Some c → c.begun ≤ log.entries
   pub within : (map i : ℕ) (u : UnderWay K V K) → s.calls map i ≡ Some u → (standing : Standing K) → s.maps map ≡ Some standing
       → (c : CallThere K V) → call_of (name i) m ≡ Some c
       → (began : ℕ) → began_of u ≡ Some began → IsWithin same map standing (shown.number map) (since log m c) began
 
 -- the moment shows it so, and pairs have the numbers that they had
-abbrev pub StaysWithin : {K V : Type 0} (same : K → K → Bool) (name : ℕ → List ℕ) (log : Past K V) (m : Moment K V) (known : Known) (s : Scene K V) → ShowsHistory same name log m known s
+abbrev pub StaysWithin : {K V : Type 0} (same : K → K → Bool) (name : ℕ → List ℕ) (log : Past K V) (m : Moment K V) (known : Known) (s : Scene K V) → RefinesHistory same name log m known s
     → Past K V → Moment K V → Scene K V → Type 0
-StaysWithin same name log m known s history log2 m2 s2 = (after : ShowsHistory same name log2 m2 known s2) × (after.shown.number ≡ history.shown.number)
+StaysWithin same name log m known s history log2 m2 s2 = (after : RefinesHistory same name log2 m2 known s2) × (after.shown.number ≡ history.shown.number)

@@ -17,7 +17,7 @@ use Rattle.run_shows.specs.Given.RunsDeclared.call.Reply.{Reply}
 use Rattle.run_shows.specs.Given.RunsDeclared.call.Reply.TheVariants.{Gives, Removes, Aborts, Decides}
 use Rattle.run_shows.specs.Given.SchedulesMoment.{Asking, UnderWay as CallThere, Moment}
 use Rattle.run_shows.specs.Given.SchedulesViews.{call_of}
-use Rattle.run_shows.specs.Given.CallersAsked.{Asked, last_told, told_before}
+use Rattle.run_shows.specs.Given.CallersAsked.{Asked, last_reply, replies_before}
 use Rattle.run_shows.specs.Given.CallersKind.{gets, removes, inserts, tries_to_insert, computes, updates, updates_or_inserts, tries_to_insert_with, removes_if}
 use Rattle.run_shows.specs.Given.CallersPairs.{Given, Begun, IsTold}
 use Rattle.run_shows.specs.Given.CallersTogether.{CallOnKey, UnderWay, OnKey}
@@ -27,12 +27,12 @@ use Rattle.run_shows.specs.Given.FinishesMaps.{Standing}
 use Rattle.run_shows.specs.Scenes.Scene.{Scene}
 
 -- a reply, as it is told to the call: what a closure aborts with is the caller's alone
-abbrev pub as_told : {V : Type 0} → Reply V → MachineReply V
-as_told (Gives v) = reply.Insert v
-as_told Removes = reply.Remove
-as_told (Aborts w) = reply.Abort
-as_told (Decides true) = reply.Yes
-as_told (Decides false) = reply.No
+abbrev pub reply_to_machine : {V : Type 0} → Reply V → MachineReply V
+reply_to_machine (Gives v) = reply.Insert v
+reply_to_machine Removes = reply.Remove
+reply_to_machine (Aborts w) = reply.Abort
+reply_to_machine (Decides true) = reply.Yes
+reply_to_machine (Decides false) = reply.No
 
 module _ {K V : Type 0} where
   -- what was called is begun with, and has been told since, the last reply first
@@ -46,7 +46,7 @@ module _ {K V : Type 0} where
   given_by (GetOrInsert k v) asked = Begun tries_to_insert (Some (node.Pair k v))
   given_by (GetOrInsertWith k) asked = IsTold tries_to_insert_with (Some k) asked
   given_by (Update k) asked = IsTold updates (Some k) asked
-  given_by (UpdateOrInsert k v) asked = IsTold updates_or_inserts (Some k) (asked ++ told_before (Some v))
+  given_by (UpdateOrInsert k v) asked = IsTold updates_or_inserts (Some k) (asked ++ replies_before (Some v))
   given_by (UpdateOrInsertWith k) asked = IsTold updates_or_inserts (Some k) asked
   given_by (Compute k) asked = IsTold computes (Some k) asked
   given_by (Remove k) asked = Begun removes None
@@ -69,7 +69,7 @@ module _ (number : ℕ → ℕ) (stored : ℕ) where
   -- what the call was told are these replies
   abbrev pub AreReplies : {V : Type 0} → List (Asked V) → List (Option ℕ × Reply V) → Type 0
   AreReplies [] [] = Unit {0}
-  AreReplies (a ∷ asked) (r ∷ replies) = IsSameQuestion a.about r.0 × (a.told ≡ as_told r.1) × AreReplies asked replies
+  AreReplies (a ∷ asked) (r ∷ replies) = IsSameQuestion a.about r.0 × (a.told ≡ reply_to_machine r.1) × AreReplies asked replies
   AreReplies _ _ = ⊥
 
 module _ (known : Known) where
@@ -90,7 +90,7 @@ module _ {K V : Type 0} (number : ℕ → ℕ) (stored : ℕ) (known : Known) wh
     pub asked : List (Asked V)
     pub given : u.pair ≡ given_by one asked
     pub replies : AreReplies number stored asked c.replies
-    pub first : KnowsFirst one → last_told None asked ≡ None
+    pub first : KnowsFirst one → last_reply None asked ≡ None
     pub replacing : c.replacing ≡ None
     pub asks : (question : Option ℕ) → c.stands ≡ Asking question → AsksThere known u.call.stands question
 
@@ -104,7 +104,7 @@ module _ {K V : Type 0} (number : ℕ → ℕ) (stored : ℕ) (known : Known) wh
   IsAsked _ c = Unit {0}
 
 -- No two calls that are under way have callers of one name, and each was asked and told as the moment says.
-pub record ShowsAsked {K V : Type 0} (name : ℕ → List ℕ) (number : ℕ → ℕ → ℕ) (m : Moment K V) (known : Known) (s : Scene K V) : Type 0 where
+pub record RefinesAsked {K V : Type 0} (name : ℕ → List ℕ) (number : ℕ → ℕ → ℕ) (m : Moment K V) (known : Known) (s : Scene K V) : Type 0 where
   pub apart : (n j k l : ℕ) (x y : UnderWay K V K) → s.calls n j ≡ Some x → s.calls k l ≡ Some y → is_same (name j) (name l) ≡ true → (n ≡ k) × (j ≡ l)
   pub each : (map i : ℕ) (u : UnderWay K V K) → s.calls map i ≡ Some u → (standing : Standing K) → s.maps map ≡ Some standing
       → (c : CallThere K V) → call_of (name i) m ≡ Some c → IsAsked (number map) standing.chart.stored known u c

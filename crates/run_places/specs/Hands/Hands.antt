@@ -15,7 +15,7 @@ IsInUse (InUse o) = Unit {0}
 IsInUse (LeftTo i) = Unit {0}
 IsInUse _ = ⊥
 
-pub record ShowsHands {K V : Type 0} (m : Moment K V) (known : Known) (s : Scene K V) : Type 0 where
+pub record RefinesHands {K V : Type 0} (m : Moment K V) (known : Known) (s : Scene K V) : Type 0 where
   -- so is each pair that is in a map, and each table that the root has not passed
   pub pairs : (b n : ℕ) → known.roles b ≡ role.Pair n → is_in_a_map (m.place n) ≡ true → IsInUse (s.world.hand b)
   pub tables : (b len : ℕ) (t : TableId) (there : MapThere) → known.roles b ≡ role.Table t len → map_at t.map m ≡ Some there → there.first ≤ t.turn → IsInUse (s.world.hand b)

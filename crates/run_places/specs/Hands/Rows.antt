@@ -59,6 +59,6 @@ KeepsOne One (Settles c) = TriesOne One c c.stands
 KeepsOne One _ = Unit {0}
 
 -- so it is of each row within a call
-pub record ShowsRows {K V : Type 0} (s : Scene K V) : Type 0 where
+pub record RowsReclaimNone {K V : Type 0} (s : Scene K V) : Type 0 where
   pub none : (map i : ℕ) (u : UnderWay K V K) → s.calls map i ≡ Some u → ReclaimsNone (s.world.row i)
   pub one : (map i : ℕ) (u : UnderWay K V K) → s.calls map i ≡ Some u → KeepsOne (HoldsOne s.world (slot_of i)) (s.world.row i)

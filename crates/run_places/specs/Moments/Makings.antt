@@ -11,10 +11,10 @@ use Rattle.run_shows.specs.Given.EffectsEffects.{effects_of, known_after}
 use Rattle.run_shows.specs.Given.EffectsKnown.{Known}
 use Rattle.run_shows.specs.Given.EffectsDeclared.acting.Acting.TheVariants.{Making}
 use Rattle.run_shows.specs.Given.FinishesMakings.{Beginning, HasMade}
-use Rattle.run_shows.specs.Follows.Shows.{Shows}
+use Rattle.run_shows.specs.Follows.Shows.{Refines}
 use Rattle.run_shows.specs.Others.Makings.{WasNew, making_after}
-use Rattle.run_places.specs.Spots.Unreclaimed.{ShowsUnreclaimed}
-use Rattle.run_places.specs.Moments.Whole.{ShowsWhole}
+use Rattle.run_places.specs.Spots.Unreclaimed.{RefinesUnreclaimed}
+use Rattle.run_places.specs.Moments.Whole.{RefinesWhole}
 use Rattle.run_shows.specs.Scenes.Held.{Held, IsAt}
 use Rattle.run_shows.specs.Scenes.Making.{MakingLeads}
 use Rattle.run_shows.specs.Scenes.Scene.{Scene}
@@ -23,29 +23,29 @@ module _ (K V : Type 0) (same : K → K → Bool) where
   -- The promises: so it is where a making begins, which has made no counter yet,
   abbrev pub MakingsBeginWhole : Type 0
   MakingsBeginWhole =
-      (name : ℕ → List ℕ) (m : Moment K V) (known : Known) (s : Scene K V) → ShowsWhole same name m known s
-      → (i : ℕ) (b : Beginning K) → (HasMade b.machine.stands → ⊥) → ShowsWhole same name m known (record s { makers = with_at s.makers i (Some b) })
+      (name : ℕ → List ℕ) (m : Moment K V) (known : Known) (s : Scene K V) → RefinesWhole same name m known s
+      → (i : ℕ) (b : Beginning K) → (HasMade b.machine.stands → ⊥) → RefinesWhole same name m known (record s { makers = with_at s.makers i (Some b) })
 
   -- and where its map is there, by a number of which there is no table.
   abbrev pub MapsComeWhole : Type 0
   MapsComeWhole =
-      (name : ℕ → List ℕ) (m : Moment K V) (known : Known) (s : Scene K V) → ShowsWhole same name m known s
-      → (there : MapThere) → tables_of there.number m ≡ [] → ShowsWhole same name (with_map there m) known s
+      (name : ℕ → List ℕ) (m : Moment K V) (known : Known) (s : Scene K V) → RefinesWhole same name m known s
+      → (there : MapThere) → tables_of there.number m ≡ [] → RefinesWhole same name (with_map there m) known s
 
 module _ (K V : Type 0) (same : K → K → Bool) (hash : ℕ → K → ℕ) where
   -- The promise, on whichever map its effects are told, if on any: the same blocks are unreclaimed as are pairs and tables of maps, where the map, if it stands then,
   -- was there as a new one.
-  abbrev pub MakingsKeepBlocks : Type 0
-  MakingsKeepBlocks =
-      (name : ℕ → List ℕ) (m : Moment K V) (known : Known) (s : Scene K V) (old new : Held K V) → IsAt same hash old s → Shows same name m known s → ShowsUnreclaimed m known
+  abbrev pub MakingsPreserveBlocks : Type 0
+  MakingsPreserveBlocks =
+      (name : ℕ → List ℕ) (m : Moment K V) (known : Known) (s : Scene K V) (old new : Held K V) → IsAt same hash old s → Refines same name m known s → RefinesUnreclaimed m known
       → (i : ℕ) (told : Advance Setting) → MakingLeads same hash i told s old new → (b : Beginning K) → s.makers i ≡ Some b → (of : Option ℕ) → WasNew b.map told m
-      → ShowsUnreclaimed (with_effects None of (effects_of (Making b.map) known new.changed) m) (known_after (Making b.map) new.changed known)
+      → RefinesUnreclaimed (with_effects None of (effects_of (Making b.map) known new.changed) m) (known_after (Making b.map) new.changed known)
 
   -- And all is shown after each step of a making, whether its map is there or not; after the last one with the map, if that stands, and was there as a new one.
-  abbrev pub MakingsKeepWhole : Type 0
-  MakingsKeepWhole =
-      (name : ℕ → List ℕ) (m : Moment K V) (known : Known) (s : Scene K V) (old new : Held K V) → IsAt same hash old s → ShowsWhole same name m known s
+  abbrev pub MakingsPreserveWhole : Type 0
+  MakingsPreserveWhole =
+      (name : ℕ → List ℕ) (m : Moment K V) (known : Known) (s : Scene K V) (old new : Held K V) → IsAt same hash old s → RefinesWhole same name m known s
       → (i : ℕ) (told : Advance Setting) (leads : MakingLeads same hash i told s old new) (b : Beginning K) (here : s.makers i ≡ Some b) (of : Option ℕ) → WasNew b.map told m
       → (let to = leads b here in
-      ShowsWhole same name (with_effects None of (effects_of (Making b.map) known new.changed) m) (known_after (Making b.map) new.changed known)
+      RefinesWhole same name (with_effects None of (effects_of (Making b.map) known new.changed) m) (known_after (Making b.map) new.changed known)
       (making_after same hash s old new i b to.0 to.2.step.w2 told to.3))

@@ -53,8 +53,8 @@ abbrev pub MapsGo : Type 0 → Type 0 → Type 0
 MapsGo K V = (m : Moment K V) → NumbersMaps m → (own : List ℕ) (remains : List Remains) → NumbersMaps (without_map own remains m)
 
 -- And so it is after each step of a call, of a making or of an end, on a map that was made; the number of a map that is there is one of those,
-abbrev pub StepsKeepNumbers : Type 0 → Type 0 → Type 0
-StepsKeepNumbers K V =
+abbrev pub StepsPreserveNumbers : Type 0 → Type 0 → Type 0
+StepsPreserveNumbers K V =
     (m : Moment K V) → NumbersMaps m → (caller : Option (List ℕ)) (acted : Option ℕ) (acting : Acting) (known : Known) (told : Changed) → map_of acting < m.made
     → NumbersMaps (with_effects caller acted (effects_of acting known told) m)
 
@@ -63,8 +63,8 @@ NumbersAreBelow K V = (m : Moment K V) → NumbersMaps m → (number : ℕ) (the
 
 module _ (K V : Type 0) (same : K → K → Bool) (hash : ℕ → K → ℕ) where
   -- and after a step of a row on a slot.
-  abbrev pub RowsKeepNumbers : Type 0
-  RowsKeepNumbers =
+  abbrev pub RowsPreserveNumbers : Type 0
+  RowsPreserveNumbers =
       (m : Moment K V) → NumbersMaps m → (known : Known) (s : Scene K V) (old new : Held K V) (i : ℕ) (told : RowTold (Node K V)) → RowLeads same hash i told s old new
       → (row : SlotRow) → IsOnSlot s i row → NumbersMaps (with_effects None None (effects_of Row known new.changed) m)
 
@@ -83,8 +83,8 @@ abbrev pub PairsStayAsMapsGo : Type 0 → Type 0 → Type 0
 PairsStayAsMapsGo K V = (m : Moment K V) → PairsAreBelow m → (own : List ℕ) (remains : List Remains) → PairsAreBelow (without_map own remains m)
 
 -- and after any effects, on a map that was made, or on none.
-abbrev pub EffectsKeepPairs : Type 0 → Type 0 → Type 0
-EffectsKeepPairs K V =
+abbrev pub EffectsPreservePairs : Type 0 → Type 0 → Type 0
+EffectsPreservePairs K V =
     (m : Moment K V) → PairsAreBelow m → (caller : Option (List ℕ)) (acted : Option ℕ) (effects : List Effect) → ((map : ℕ) → acted ≡ Some map → map < m.made)
     → PairsAreBelow (with_effects caller acted effects m)
 

@@ -16,7 +16,7 @@ use Rattle.run_shows.specs.declared.row.SlotCall.{SlotCall}
 use Rattle.run_shows.specs.declared.row.SlotRow.{SlotRow}
 use Rattle.run_shows.specs.Others.Rows.{scene_then}
 use Rattle.run_places.specs.Spots.OnSlots.{WaitUnreclaimed}
-use Rattle.run_places.specs.Moments.Whole.{ShowsWhole}
+use Rattle.run_places.specs.Moments.Whole.{RefinesWhole}
 use Rattle.run_shows.specs.Scenes.Held.{Held, IsAt}
 use Rattle.run_shows.specs.Scenes.OnSlots.{RowBegins, RowLeads}
 use Rattle.run_shows.specs.Scenes.Rows.{request_of}
@@ -31,15 +31,15 @@ module _ (K V : Type 0) (same : K → K → Bool) (hash : ℕ → K → ℕ) whe
   -- The promises: so it is where a row begins on a slot,
   abbrev pub RowsBeginWhole : Type 0
   RowsBeginWhole =
-      (name : ℕ → List ℕ) (m : Moment K V) (known : Known) (s : Scene K V) (old new : Held K V) → IsAt same hash old s → ShowsWhole same name m known s
+      (name : ℕ → List ℕ) (m : Moment K V) (known : Known) (s : Scene K V) (old new : Held K V) → IsAt same hash old s → RefinesWhole same name m known s
       → (called : SlotCall) (i : ℕ) (leads : RowBegins same hash called i s old new)
-      → ShowsWhole same name m known (scene_then same hash (Begin i (request_of (slot_of i) called)) s old new leads.2)
+      → RefinesWhole same name m known (scene_then same hash (Begin i (request_of (slot_of i) called)) s old new leads.2)
 
   -- and after a step of it: a table that it reclaims was retired, and what waits behind that is not reclaimed.
-  abbrev pub RowsKeepWhole : Type 0
-  RowsKeepWhole =
-      (name : ℕ → List ℕ) (m : Moment K V) (known : Known) (s : Scene K V) (old new : Held K V) → IsAt same hash old s → ShowsWhole same name m known s
+  abbrev pub RowsPreserveWhole : Type 0
+  RowsPreserveWhole =
+      (name : ℕ → List ℕ) (m : Moment K V) (known : Known) (s : Scene K V) (old new : Held K V) → IsAt same hash old s → RefinesWhole same name m known s
       → (i : ℕ) (told : RowTold (Node K V)) (leads : RowLeads same hash i told s old new) (row : SlotRow) (here : IsOnSlot s i row)
       → AtEachEffect HadRetired None None (effects_of Row known new.changed) m → AtEachEffect WaitUnreclaimed None None (effects_of Row known new.changed) m
-      → ShowsWhole same name (with_effects None None (effects_of Row known new.changed) m) (known_after Row new.changed known)
+      → RefinesWhole same name (with_effects None None (effects_of Row known new.changed) m) (known_after Row new.changed known)
       (scene_then same hash (Step i) s old new (leads row here).2)

@@ -17,17 +17,17 @@ use Rattle.run_shows.specs.Given.CallersTogether.{UnderWay}
 use Rattle.run_shows.specs.Given.EffectsEffects.{effects_of, known_after}
 use Rattle.run_shows.specs.Given.EffectsKnown.{Known, nothing_known}
 use Rattle.run_shows.specs.Given.EffectsDeclared.acting.Acting.TheVariants as acts
-use Rattle.run_shows.specs.Given.FinishesMachines.{machine_of, ToldOfKind}
+use Rattle.run_shows.specs.Given.FinishesMachines.{machine_of, RepliedOfKind}
 use Rattle.run_shows.specs.Given.FinishesMaps.{Standing}
 use Rattle.run_shows.specs.Follows.Calling.{NoneNamed, told, come_to}
 use Rattle.run_shows.specs.Follows.Calls.{IsCalled}
-use Rattle.run_places.specs.Hands.Asked.{as_told}
+use Rattle.run_places.specs.Hands.Asked.{reply_to_machine}
 use Rattle.run_places.specs.Hands.Calling.{IsBegunFor, AsksJust}
-use Rattle.run_places.specs.Hands.Shows.{ShowsAll}
+use Rattle.run_places.specs.Hands.Shows.{RefinesHeld}
 use Rattle.run_shows.specs.Others.Counters.{NotesCounters}
 use Rattle.run_places.specs.Spots.Deferred.{WaitOutside}
-use Rattle.run_places.specs.Spots.Spots.{ShowsPlaces}
-use Rattle.run_places.specs.Spots.Unreclaimed.{ShowsUnreclaimed}
+use Rattle.run_places.specs.Spots.Spots.{RefinesPlaces}
+use Rattle.run_places.specs.Spots.Unreclaimed.{RefinesUnreclaimed}
 use Rattle.run_shows.specs.Scenes.Held.{Held, IsAt}
 use Rattle.run_shows.specs.Scenes.Replying.{scene_with}
 use Rattle.run_shows.specs.Scenes.Scene.{Scene, at_first, slot_of}
@@ -35,49 +35,49 @@ use Rattle.run_shows.specs.Scenes.Stepping.{StepLeads, scene_after}
 
 -- It shows what the scene has, what calls were told, in whose hands blocks are and what rows do; where pairs lie, which blocks are not reclaimed, that what waits
 -- behind tables is in no map; and the counters of maps that are being made.
-pub record ShowsWhole {K V : Type 0} (same : K → K → Bool) (name : ℕ → List ℕ) (m : Moment K V) (known : Known) (s : Scene K V) : Type 0 where
-  pub all : ShowsAll same name m known s
-  pub places : ShowsPlaces m known s.maps
-  pub blocks : ShowsUnreclaimed m known
+pub record RefinesWhole {K V : Type 0} (same : K → K → Bool) (name : ℕ → List ℕ) (m : Moment K V) (known : Known) (s : Scene K V) : Type 0 where
+  pub all : RefinesHeld same name m known s
+  pub places : RefinesPlaces m known s.maps
+  pub blocks : RefinesUnreclaimed m known
   pub outside : WaitOutside m
   pub counters : NotesCounters known s
 
 -- The promises: so it is before all events,
 abbrev pub WholeBegins : Type 0 → Type 0 → Type 0
-WholeBegins K V = (same : K → K → Bool) (roots : ℕ) (name : ℕ → List ℕ) → ShowsWhole {K = K} {V = V} same name start nothing_known (at_first roots)
+WholeBegins K V = (same : K → K → Bool) (roots : ℕ) (name : ℕ → List ℕ) → RefinesWhole {K = K} {V = V} same name start nothing_known (at_first roots)
 
 module _ (K V : Type 0) (same : K → K → Bool) (hash : ℕ → K → ℕ) where
   -- after each step of a call,
-  abbrev pub CallsKeepWhole : Type 0
-  CallsKeepWhole =
-      (name : ℕ → List ℕ) (m : Moment K V) (known : Known) (s : Scene K V) (old new : Held K V) → IsAt same hash old s → ShowsWhole same name m known s
+  abbrev pub CallsPreserveWhole : Type 0
+  CallsPreserveWhole =
+      (name : ℕ → List ℕ) (m : Moment K V) (known : Known) (s : Scene K V) (old new : Held K V) → IsAt same hash old s → RefinesWhole same name m known s
       → (map i : ℕ) (u : UnderWay K V K) (here : s.calls map i ≡ Some u) (told : Progress (Node K V)) (leads : StepLeads same hash i told s old new)
       → (let to = leads map u here in
-      ShowsWhole same name (with_effects (Some (name i)) (Some map) (effects_of (acts.Call i map) known new.changed) m) (known_after (acts.Call i map) new.changed known)
+      RefinesWhole same name (with_effects (Some (name i)) (Some map) (effects_of (acts.Call i map) known new.changed) m) (known_after (acts.Call i map) new.changed known)
       (scene_after same s old new map i to.0 u to.1 told to.4))
 
   -- where one that asks takes what it is told,
   abbrev pub CallsTakeWhole : Type 0
   CallsTakeWhole =
-      (name : ℕ → List ℕ) (m : Moment K V) (known : Known) (s : Scene K V) (e : Held K V) → IsAt same hash e s → ShowsWhole same name m known s
+      (name : ℕ → List ℕ) (m : Moment K V) (known : Known) (s : Scene K V) (e : Held K V) → IsAt same hash e s → RefinesWhole same name m known s
       → (map i : ℕ) (u : UnderWay K V K) → s.calls map i ≡ Some u → (c : CallThere K V) → call_of (name i) m ≡ Some c → (question : Option ℕ) → c.stands ≡ Asking question
       → (standing : Standing K) → s.maps map ≡ Some standing → (is_told : Reply V) (next : UnderWay K V K)
-      → machine_of next ≡ (machine_replied (machine_of u) (as_told is_told)).0 → (machine_replied (machine_of u) (as_told is_told)).1 ≡ Ok tt
-      → ToldOfKind V same same e.batch_size e.roots slot_of standing i u (as_told is_told) next
-      → ShowsWhole same name (told (name i) is_told m) known (scene_with map i next s)
+      → machine_of next ≡ (machine_replied (machine_of u) (reply_to_machine is_told)).0 → (machine_replied (machine_of u) (reply_to_machine is_told)).1 ≡ Ok tt
+      → RepliedOfKind V same same e.batch_size e.roots slot_of standing i u (reply_to_machine is_told) next
+      → RefinesWhole same name (told (name i) is_told m) known (scene_with map i next s)
 
 module _ (K V : Type 0) (same : K → K → Bool) where
   -- where one begins by a name that no call under way has, of a caller that has no row under way,
   abbrev pub CallsBeginWhole : Type 0
   CallsBeginWhole =
-      (name : ℕ → List ℕ) (m : Moment K V) (known : Known) (s : Scene K V) → ShowsWhole same name m known s
+      (name : ℕ → List ℕ) (m : Moment K V) (known : Known) (s : Scene K V) → RefinesWhole same name m known s
       → (map i : ℕ) (u : UnderWay K V K) (call : Call K V) (guard : List ℕ) → NoneNamed name (name i) s → IsCalled same u call → IsBegunFor u call → s.world.row i ≡ Rests
-      → ShowsWhole same name (with_call (name i) guard call (Some map) m) known (scene_with map i u s)
+      → RefinesWhole same name (with_call (name i) guard call (Some map) m) known (scene_with map i u s)
 
   -- and where one comes to an outcome: it asks just that, and where it has ended, no call under way has its name any more.
   abbrev pub CallsComeToWhole : Type 0
   CallsComeToWhole =
-      (name : ℕ → List ℕ) (m : Moment K V) (known : Known) (s : Scene K V) → ShowsWhole same name m known s
+      (name : ℕ → List ℕ) (m : Moment K V) (known : Known) (s : Scene K V) → RefinesWhole same name m known s
       → (own : List ℕ) (outcome : Outcome V) (steps : ℕ) → (ends_call outcome ≡ true → NoneNamed name own s)
       → ((map i : ℕ) (u : UnderWay K V K) → s.calls map i ≡ Some u → is_same (name i) own ≡ true → AsksJust known u outcome)
-      → ShowsWhole same name (come_to own outcome steps m) known s
+      → RefinesWhole same name (come_to own outcome steps m) known s

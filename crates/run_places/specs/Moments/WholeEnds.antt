@@ -13,7 +13,7 @@ use Rattle.run_shows.specs.Given.FinishesEndings.{AllPairsOnce}
 use Rattle.run_shows.specs.Given.FinishesMaps.{Standing}
 use Rattle.run_shows.specs.Given.FinishesOrders.{pairs_of}
 use Rattle.run_shows.specs.Given.EffectsKnown.{Known}
-use Rattle.run_shows.specs.Follows.Maps.{ShowsMap, table_of}
+use Rattle.run_shows.specs.Follows.Maps.{RefinesMap, table_of}
 
 -- so many tables of a map end, from this one on
 abbrev pub tables_ended : ℕ → ℕ → ℕ → List Effect
@@ -27,6 +27,6 @@ all_ended incremental of number c = map (λ n. Ended (number n)) (pairs_of incre
 -- The promise: where all of a map ends that a moment shows, it has no pair then, and its tables end that were linked, from the root's on.
 abbrev pub WholeEndsTakeAll : Type 0 → Type 0 → Type 0
 WholeEndsTakeAll K V =
-    (m : Moment K V) (known : Known) (of : ℕ) (number : ℕ → ℕ) (st : Standing K) → ShowsMap of number st m known → AllPairsOnce (is_incremental st.setting.mode) st.chart
+    (m : Moment K V) (known : Known) (of : ℕ) (number : ℕ → ℕ) (st : Standing K) → RefinesMap of number st m known → AllPairsOnce (is_incremental st.setting.mode) st.chart
     → (let did = all_ended (is_incremental st.setting.mode) of number st.chart in
     (size_of of (with_effects None (Some of) did m) ≡ 0) × (flat_map tables_taken did ≡ tables_in (chain_of of m)))

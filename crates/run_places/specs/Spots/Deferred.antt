@@ -13,7 +13,7 @@ use Rattle.run_shows.specs.Given.CallersTogether.{UnderWay}
 use Rattle.run_shows.specs.Given.EffectsEffects.{effects_of}
 use Rattle.run_shows.specs.Given.EffectsKnown.{Known}
 use Rattle.run_shows.specs.Given.EffectsDeclared.acting.Acting.TheVariants.{Call}
-use Rattle.run_shows.specs.Follows.Shows.{Shows}
+use Rattle.run_shows.specs.Follows.Shows.{Refines}
 use Rattle.run_shows.specs.Scenes.Held.{Held, IsAt}
 use Rattle.run_shows.specs.Scenes.Scene.{Scene}
 use Rattle.run_shows.specs.Scenes.Stepping.{StepLeads}
@@ -43,6 +43,6 @@ module _ (K V : Type 0) (same : K → K → Bool) (hash : ℕ → K → ℕ) whe
   -- The promise of a step of a call.
   abbrev pub CallsLeaveOutside : Type 0
   CallsLeaveOutside =
-      (name : ℕ → List ℕ) (m : Moment K V) (known : Known) (s : Scene K V) (old new : Held K V) → IsAt same hash old s → Shows same name m known s → WaitOutside m
+      (name : ℕ → List ℕ) (m : Moment K V) (known : Known) (s : Scene K V) (old new : Held K V) → IsAt same hash old s → Refines same name m known s → WaitOutside m
       → (map i : ℕ) (u : UnderWay K V K) → s.calls map i ≡ Some u → (told : Progress (Node K V)) → StepLeads same hash i told s old new
       → WaitOutside (with_effects (Some (name i)) (Some map) (effects_of (Call i map) known new.changed) m)

@@ -8,10 +8,10 @@ use Rattle.run_shows.specs.Given.FinishesMakings.{Beginning}
 use Rattle.run_shows.specs.Given.EffectsEffects.{effects_of, known_after}
 use Rattle.run_shows.specs.Given.EffectsKnown.{Known}
 use Rattle.run_shows.specs.Given.EffectsDeclared.acting.Acting.TheVariants.{Making}
-use Rattle.run_shows.specs.Follows.Shows.{Shows}
+use Rattle.run_shows.specs.Follows.Shows.{Refines}
 use Rattle.run_shows.specs.Others.Makings.{making_after}
 use Rattle.run_places.specs.Spots.Deferred.{WaitOutside}
-use Rattle.run_places.specs.Spots.Spots.{ShowsPlaces}
+use Rattle.run_places.specs.Spots.Spots.{RefinesPlaces}
 use Rattle.run_shows.specs.Scenes.Held.{Held, IsAt}
 use Rattle.run_shows.specs.Scenes.Making.{MakingLeads}
 use Rattle.run_shows.specs.Scenes.Scene.{Scene}
@@ -21,9 +21,9 @@ module _ (K V : Type 0) (same : K → K → Bool) (hash : ℕ → K → ℕ) whe
   -- stays outside of maps.
   abbrev pub MakingsLeavePlaces : Type 0
   MakingsLeavePlaces =
-      (name : ℕ → List ℕ) (m : Moment K V) (known : Known) (s : Scene K V) (old new : Held K V) → IsAt same hash old s → Shows same name m known s
-      → (i : ℕ) (told : Advance Setting) (leads : MakingLeads same hash i told s old new) (b : Beginning K) (here : s.makers i ≡ Some b) (of : Option ℕ) → ShowsPlaces m known s.maps → WaitOutside m
+      (name : ℕ → List ℕ) (m : Moment K V) (known : Known) (s : Scene K V) (old new : Held K V) → IsAt same hash old s → Refines same name m known s
+      → (i : ℕ) (told : Advance Setting) (leads : MakingLeads same hash i told s old new) (b : Beginning K) (here : s.makers i ≡ Some b) (of : Option ℕ) → RefinesPlaces m known s.maps → WaitOutside m
       → (let to = leads b here in
-      ShowsPlaces (with_effects None of (effects_of (Making b.map) known new.changed) m) (known_after (Making b.map) new.changed known)
+      RefinesPlaces (with_effects None of (effects_of (Making b.map) known new.changed) m) (known_after (Making b.map) new.changed known)
       (making_after same hash s old new i b to.0 to.2.step.w2 told to.3).maps
       × WaitOutside (with_effects None of (effects_of (Making b.map) known new.changed) m))

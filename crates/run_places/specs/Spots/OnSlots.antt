@@ -14,11 +14,11 @@ use Rattle.run_shows.specs.Given.EffectsKnown.{Known}
 use Rattle.run_shows.specs.Given.EffectsDeclared.acting.Acting.TheVariants.{Row}
 use Rattle.run_shows.specs.declared.row.RowTold.{RowTold}
 use Rattle.run_shows.specs.declared.row.SlotRow.{SlotRow}
-use Rattle.run_shows.specs.Follows.Shows.{Shows}
+use Rattle.run_shows.specs.Follows.Shows.{Refines}
 use Rattle.run_shows.specs.Others.Rows.{scene_then}
 use Rattle.run_places.specs.Spots.Deferred.{WaitOutside}
-use Rattle.run_places.specs.Spots.Spots.{ShowsPlaces}
-use Rattle.run_places.specs.Spots.Unreclaimed.{is_unreclaimed, ShowsUnreclaimed}
+use Rattle.run_places.specs.Spots.Spots.{RefinesPlaces}
+use Rattle.run_places.specs.Spots.Unreclaimed.{is_unreclaimed, RefinesUnreclaimed}
 use Rattle.run_shows.specs.Scenes.Held.{Held}
 use Rattle.run_shows.specs.Scenes.OnSlots.{RowLeads}
 use Rattle.run_shows.specs.Scenes.Scene.{IsOnSlot, Scene}
@@ -33,14 +33,14 @@ module _ (K V : Type 0) (same : K → K → Bool) (hash : ℕ → K → ℕ) whe
   abbrev pub RowsLeavePlaces : Type 0
   RowsLeavePlaces =
       (m : Moment K V) (known : Known) (s : Scene K V) (old new : Held K V) (i : ℕ) (told : RowTold (Node K V)) (leads : RowLeads same hash i told s old new) (row : SlotRow)
-      (here : IsOnSlot s i row) → ShowsPlaces m known s.maps → WaitOutside m
-      → ShowsPlaces (with_effects None None (effects_of Row known new.changed) m) (known_after Row new.changed known) (scene_then same hash (Step i) s old new (leads row here).2).maps
+      (here : IsOnSlot s i row) → RefinesPlaces m known s.maps → WaitOutside m
+      → RefinesPlaces (with_effects None None (effects_of Row known new.changed) m) (known_after Row new.changed known) (scene_then same hash (Step i) s old new (leads row here).2).maps
       × WaitOutside (with_effects None None (effects_of Row known new.changed) m)
 
   -- And the same blocks are unreclaimed as are pairs and tables of maps, where what waits behind a table that the row reclaims is not reclaimed.
-  abbrev pub RowsKeepBlocks : Type 0
-  RowsKeepBlocks =
-      (name : ℕ → List ℕ) (m : Moment K V) (known : Known) (s : Scene K V) (old new : Held K V) → Shows same name m known s
+  abbrev pub RowsPreserveBlocks : Type 0
+  RowsPreserveBlocks =
+      (name : ℕ → List ℕ) (m : Moment K V) (known : Known) (s : Scene K V) (old new : Held K V) → Refines same name m known s
       → (i : ℕ) (told : RowTold (Node K V)) → RowLeads same hash i told s old new → (row : SlotRow) → IsOnSlot s i row
-      → AtEachEffect WaitUnreclaimed None None (effects_of Row known new.changed) m → ShowsUnreclaimed m known
-      → ShowsUnreclaimed (with_effects None None (effects_of Row known new.changed) m) (known_after Row new.changed known)
+      → AtEachEffect WaitUnreclaimed None None (effects_of Row known new.changed) m → RefinesUnreclaimed m known
+      → RefinesUnreclaimed (with_effects None None (effects_of Row known new.changed) m) (known_after Row new.changed known)

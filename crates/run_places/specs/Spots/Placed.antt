@@ -13,9 +13,9 @@ use Rattle.run_shows.specs.Given.CallersTogether.{UnderWay}
 use Rattle.run_shows.specs.Given.EffectsEffects.{effects_of}
 use Rattle.run_shows.specs.Given.EffectsKnown.{Known}
 use Rattle.run_shows.specs.Given.EffectsDeclared.acting.Acting.TheVariants.{Call}
-use Rattle.run_shows.specs.Follows.Shows.{Shows}
-use Rattle.run_places.specs.Spots.Spots.{ShowsPlaces}
-use Rattle.run_places.specs.Spots.Unreclaimed.{ShowsUnreclaimed}
+use Rattle.run_shows.specs.Follows.Shows.{Refines}
+use Rattle.run_places.specs.Spots.Spots.{RefinesPlaces}
+use Rattle.run_places.specs.Spots.Unreclaimed.{RefinesUnreclaimed}
 use Rattle.run_shows.specs.Scenes.Held.{Held, IsAt}
 use Rattle.run_shows.specs.Scenes.Scene.{Scene}
 use Rattle.run_shows.specs.Scenes.Stepping.{StepLeads}
@@ -33,5 +33,5 @@ module _ (K V : Type 0) (same : K → K → Bool) (hash : ℕ → K → ℕ) whe
   -- The promise: a step of a call finds where it stores or copies a pair, or replaces one, what it must.
   abbrev pub CallsFindPlaces : Type 0
   CallsFindPlaces =
-      (name : ℕ → List ℕ) (m : Moment K V) (known : Known) (s : Scene K V) (old new : Held K V) → IsAt same hash old s → Shows same name m known s → ShowsPlaces m known s.maps → ShowsUnreclaimed m known
+      (name : ℕ → List ℕ) (m : Moment K V) (known : Known) (s : Scene K V) (old new : Held K V) → IsAt same hash old s → Refines same name m known s → RefinesPlaces m known s.maps → RefinesUnreclaimed m known
       → (map i : ℕ) (u : UnderWay K V K) → s.calls map i ≡ Some u → (told : Progress (Node K V)) → StepLeads same hash i told s old new → FindPlaces map m (effects_of (Call i map) known new.changed)

@@ -42,13 +42,13 @@ module _ {K : Type 0} (s : Standing K) (known : Known) where
 module _ {K V : Type 0} (s : Standing K) (m : Moment K V) (known : Known) where
   -- No table names a pair that was stored in a later one, and the first table was not given up. Each pair of the map lies where it is said to, and in blocking
   -- mode its newest copy does.
-  pub record ShowsSpots : Type 0 where
+  pub record RefinesSpots : Type 0 where
     pub born : (n k t i : ℕ) (b : Bool) → IsPairOf s known n k → named_by (s.chart.place t i) ≡ ThePair n b → (m.born k).turn ≤ t
     pub whole : s.chart.status 0 ≢ ABORTED
     pub lies : (n k : ℕ) → IsPairOf s known n k → s.chart.current n ≡ true → LiesAt s.chart (is_incremental s.setting.mode) n (m.spot k) (m.born k).turn
     pub copied : is_incremental s.setting.mode ≡ false → (n k : ℕ) → IsPairOf s known n k → s.chart.current n ≡ true → IsCopiedTo s.chart n (m.copy k)
 
 -- So does each map that stands, and no pair that is yet to come has a copy.
-pub record ShowsPlaces {K V : Type 0} (m : Moment K V) (known : Known) (maps : ℕ → Option (Standing K)) : Type 0 where
-  pub each : (map : ℕ) (standing : Standing K) → maps map ≡ Some standing → ShowsSpots standing m known
+pub record RefinesPlaces {K V : Type 0} (m : Moment K V) (known : Known) (maps : ℕ → Option (Standing K)) : Type 0 where
+  pub each : (map : ℕ) (standing : Standing K) → maps map ≡ Some standing → RefinesSpots standing m known
   pub fresh : (k : ℕ) → length m.stored < k → m.copy k ≡ spot_in 0 0

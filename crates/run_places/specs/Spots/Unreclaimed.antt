@@ -13,7 +13,7 @@ is_unreclaimed GivenBack = false
 is_unreclaimed _ = true
 
 -- A block that was stored as a pair of the run holds one that is not reclaimed, and each such pair has its block. So it is with tables, and none has two.
-pub record ShowsUnreclaimed {K V : Type 0} (m : Moment K V) (known : Known) : Type 0 where
+pub record RefinesUnreclaimed {K V : Type 0} (m : Moment K V) (known : Known) : Type 0 where
   pub pairs : (b k : ℕ) → known.roles b ≡ role.Pair k → is_unreclaimed (m.place k) ≡ true
   pub pairs_there : (k : ℕ) → is_unreclaimed (m.place k) ≡ true → (b : ℕ) × (known.roles b ≡ role.Pair k)
   pub tables : (b len : ℕ) (t : TableId) → known.roles b ≡ role.Table t len → is_stage is_there t m ≡ true

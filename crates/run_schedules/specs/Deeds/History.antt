@@ -16,7 +16,7 @@ use Rattle.run_schedules.specs.Schedules.After.{moments_by}
 use Rattle.run_schedules.specs.Schedules.Coming.{is_answer, is_walk}
 use Rattle.run_schedules.specs.Schedules.Effects.{AtEachEffect}
 use Rattle.run_schedules.specs.Schedules.Entry.{IfCall, acting}
-use Rattle.run_schedules.specs.Schedules.Handing.{LeavesOf, asks_for_bucket, comes_clear, is_call_effect, is_ending, is_first_making, is_granted, is_made, is_reclaiming, is_table_made, moments_since}
+use Rattle.run_schedules.specs.Schedules.Handing.{LeavesOf, asks_for_bucket, is_clear_outcome, is_call_effect, is_ending, is_first_making, is_granted, is_made, is_reclaiming, is_table_made, moments_since}
 use Rattle.run_schedules.specs.Schedules.InTurn.{has_grown}
 use Rattle.run_schedules.specs.Schedules.Linearizable.{Linearizes}
 use Rattle.run_schedules.specs.Schedules.Lists.{numbers_from}
@@ -62,8 +62,8 @@ module _ {K V : Type 0} where
   is_of_kind call (Answered a) = is_answer call a
   is_of_kind call outcome = true
 
-  abbrev pub TellsItsKind : List (Entry K V) → Entry K V → Type 0
-  TellsItsKind log e = IfCall (λ c. is_of_kind c.call e.outcome ≡ true) (call_left (transition log e))
+  abbrev pub OutcomeIsOfItsKind : List (Entry K V) → Entry K V → Type 0
+  OutcomeIsOfItsKind log e = IfCall (λ c. is_of_kind c.call e.outcome ≡ true) (call_left (transition log e))
 
 module _ {K V : Type 0} (eq : K → K → Bool) where
   -- it changes maps, answers and asks as the finite map says; one that is no step of a call changes none
@@ -72,7 +72,7 @@ module _ {K V : Type 0} (eq : K → K → Bool) where
 
   -- A call tells what one of its kind may, and what a sweep has shown, removed and left is right at its end.
   abbrev pub IsSwept : Terms → List (Entry K V) → Entry K V → Type 0
-  IsSwept terms log e = TellsItsKind log e × SweepsRight eq terms (past log) (transition log e)
+  IsSwept terms log e = OutcomeIsOfItsKind log e × SweepsRight eq terms (past log) (transition log e)
 
 -- Who registers needs a bucket next: the first one, or before it takes a slot the one of the slot behind that, and it is not there yet.
 abbrev pub NeedsBucket : ℕ → ℕ → Type 0
@@ -162,7 +162,7 @@ module _ {K V : Type 0} (terms : Terms) where
     pub granted : is_granted false e.effects ≡ true
     pub refuses : Refuses e.refused e.effects
     pub whole : IsWhole log e.deed e.outcome e.effects (worked_by (transition log e))
-    pub leaves : IfCall (LeavesOf (comes_clear e.outcome) e.outcome) (call_left (transition log e))
+    pub leaves : IfCall (LeavesOf (is_clear_outcome e.outcome) e.outcome) (call_left (transition log e))
 
 module _ {K V : Type 0} where
   -- what a caller was answered, to which call, the newest first

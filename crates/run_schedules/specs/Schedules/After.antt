@@ -11,7 +11,7 @@ use Rattle.run_schedules.specs.declared.outcome.Outcome.TheVariants.{Done, Slot,
 use Rattle.run_schedules.specs.declared.effect.Effect.{Effect}
 use Rattle.run_schedules.specs.declared.effect.Effect.TheVariants.{Taken}
 use Rattle.run_schedules.specs.declared.effect.TableId.{TableId}
-use Rattle.run_schedules.specs.Schedules.Moment.{Stands, Going, Asking, Told, IsReady, UnderWay, MapThere, Remains, Sheltered, Moment, start}
+use Rattle.run_schedules.specs.Schedules.Moment.{CallState, Going, Asking, Told, IsReady, UnderWay, MapThere, Remains, Sheltered, Moment, start}
 use Rattle.run_schedules.specs.Schedules.Views.{map_of, behind}
 use Rattle.run_schedules.specs.Schedules.Entry.{Entry, is_busy, ends_call, caller_of, speaker}
 use Rattle.run_schedules.specs.Schedules.Effects.{worked}
@@ -51,17 +51,17 @@ module _ {K V : Type 0} where
 
 module _ {K V : Type 0} where
   -- a question is asked once, though it is told again while there is no reply
-  abbrev pub asks_on : Option ℕ → UnderWay K V → Stands → UnderWay K V
+  abbrev pub asks_on : Option ℕ → UnderWay K V → CallState → UnderWay K V
   asks_on question c (Asking q) = c
   asks_on question c stands = record c { stands = Asking question; asked = question ∷ c.asked }
 
-  abbrev pub comes_to : Outcome V → UnderWay K V → UnderWay K V
-  comes_to Goes c = record c { stands = Going }
-  comes_to Waits c = record c { stands = Going }
-  comes_to (Asks question) c = asks_on question c c.stands
-  comes_to Ready c = record c { stands = IsReady }
-  comes_to (Shows n) c = record c { shown = n ∷ c.shown }
-  comes_to _ c = c
+  abbrev pub with_outcome : Outcome V → UnderWay K V → UnderWay K V
+  with_outcome Goes c = record c { stands = Going }
+  with_outcome Waits c = record c { stands = Going }
+  with_outcome (Asks question) c = asks_on question c c.stands
+  with_outcome Ready c = record c { stands = IsReady }
+  with_outcome (Shows n) c = record c { shown = n ∷ c.shown }
+  with_outcome _ c = c
 
   abbrev pub without_call : List ℕ → List (UnderWay K V) → List (UnderWay K V)
   without_call caller calls = filter (λ c. not (is_same c.caller caller)) calls
@@ -70,10 +70,10 @@ module _ {K V : Type 0} where
   stepped None outcome steps calls = calls
   stepped (Some caller) outcome steps calls =
       if ends_call outcome then without_call caller calls
-      else map (λ c. if is_same c.caller caller then comes_to outcome (record c { steps = c.steps + steps }) else c) calls
+      else map (λ c. if is_same c.caller caller then with_outcome outcome (record c { steps = c.steps + steps }) else c) calls
 
   -- the reply to what was asked
-  abbrev pub replied : Reply V → UnderWay K V → Stands → UnderWay K V
+  abbrev pub replied : Reply V → UnderWay K V → CallState → UnderWay K V
   replied reply c (Asking q) = record c { stands = Told; replies = (q, reply) ∷ c.replies }
   replied reply c stands = c
 

@@ -15,15 +15,15 @@ use Rattle.run_schedules.specs.declared.outcome.Outcome.TheVariants.{Goes, Asks,
 use Rattle.run_schedules.specs.Schedules.Lists.{OneOf}
 use Rattle.run_schedules.specs.Schedules.Terms.{Terms, shards_of}
 use Rattle.run_schedules.specs.Schedules.Counts.{Counts}
-use Rattle.run_schedules.specs.Schedules.Moment.{Stands, Asking, IsReady, UnderWay, Moment}
+use Rattle.run_schedules.specs.Schedules.Moment.{CallState, Asking, IsReady, UnderWay, Moment}
 use Rattle.run_schedules.specs.Schedules.Views.{chain_of}
 use Rattle.run_schedules.specs.Schedules.Growing.{only_looks, is_too_many}
 
-abbrev pub is_asking : Stands → Bool
+abbrev pub is_asking : CallState → Bool
 is_asking (Asking q) = true
 is_asking _ = false
 
-abbrev pub is_ready : Stands → Bool
+abbrev pub is_ready : CallState → Bool
 is_ready IsReady = true
 is_ready _ = false
 
@@ -110,7 +110,7 @@ module _ {K V : Type 0} (terms : Terms) where
   MayCome c moments now _ = ⊥
 
   -- while there is no reply it asks the same again, and a walk that is ready is so until it is told to go on
-  abbrev pub Progresses : Stands → UnderWay K V → List (Moment K V) → Moment K V → Outcome V → Type 0
+  abbrev pub Progresses : CallState → UnderWay K V → List (Moment K V) → Moment K V → Outcome V → Type 0
   Progresses (Asking question) c moments now outcome = outcome ≡ Asks question
   Progresses IsReady c moments now outcome = outcome ≡ Ready
   Progresses _ c moments now outcome = MayCome c moments now outcome

@@ -105,6 +105,6 @@ module _ {K V : Type 0} where
   none_before map turn m = list_all (is_ahead map turn m) (numbers_from 1 (length m.stored))
 
 -- In incremental mode the root comes to the next table. In blocking mode it comes to the newest, as those between have had no place for a copy.
-abbrev pub ComesNext : Bool → ℕ → ℕ → List TableThere → Type 0
-ComesNext true first turn tables = turn ≡ first + 1
-ComesNext false first turn tables = (first < turn) × (turn + 1 ≡ length tables)
+abbrev pub IsNextRoot : Bool → ℕ → ℕ → List TableThere → Type 0
+IsNextRoot true first turn tables = turn ≡ first + 1
+IsNextRoot false first turn tables = (first < turn) × (turn + 1 ≡ length tables)

@@ -144,9 +144,9 @@ module _ {K V : Type 0} where
 -- a call at its end
 
 -- a walk that is ready has as little as a call that has ended
-abbrev pub comes_clear : {V : Type 0} → Outcome V → Bool
-comes_clear Ready = true
-comes_clear outcome = ends_call outcome
+abbrev pub is_clear_outcome : {V : Type 0} → Outcome V → Bool
+is_clear_outcome Ready = true
+is_clear_outcome outcome = ends_call outcome
 
 module _ {K V : Type 0} where
   pub record IsClear (c : UnderWay K V) : Type 0 where
@@ -188,4 +188,4 @@ module _ {K V : Type 0} (terms : Terms) where
     pub granted : is_granted false e.effects ≡ true
     pub refuses : (not (refuses e.event) || not (list_any is_made e.effects)) ≡ true
     pub whole : IsWhole e.event e.outcome e.effects (moment log) (worked e (moment log))
-    pub leaves : IfCall (LeavesOf (comes_clear e.outcome) e.outcome) (acting (caller_of e.event) (worked e (moment log)))
+    pub leaves : IfCall (LeavesOf (is_clear_outcome e.outcome) e.outcome) (acting (caller_of e.event) (worked e (moment log)))

@@ -88,44 +88,44 @@ module _ {K V : Type 0} where
 
 module _ {K V : Type 0} (terms : Terms) where
   -- the call of the event's caller goes on
-  abbrev pub GoesOn : List (Entry K V) → Entry K V → Type 0
-  GoesOn log e =
+  abbrev pub Continues : List (Entry K V) → Entry K V → Type 0
+  Continues log e =
       let w = worked e (moment log) in ByCall (λ c. Progresses terms c.stands c (moments_from c.begun log) w e.outcome) (acting (caller_of e.event) w)
 
   -- What an event comes to otherwise. A name that is taken or unknown, and an event out of turn, is busy.
-  abbrev pub ComesTo : List (Entry K V) → Moment K V → Entry K V → Event K V → Outcome V → Type 0
-  ComesTo log m e (Collector setup) outcome = InTurn (m.events == 0) IsDone outcome
-  ComesTo log m e (Hash by) outcome = InTurn (not m.is_mapped) IsDone outcome
-  ComesTo log m e (Choose choice) outcome = outcome ≡ Done
-  ComesTo log m e (Register registration) outcome = InTurn (not (is_registered registration m.there)) (GetsSlot m.there e.effects) outcome
-  ComesTo log m e (Unregister registration) outcome =
+  abbrev pub HasOutcome : List (Entry K V) → Moment K V → Entry K V → Event K V → Outcome V → Type 0
+  HasOutcome log m e (Collector setup) outcome = InTurn (m.events == 0) IsDone outcome
+  HasOutcome log m e (Hash by) outcome = InTurn (not m.is_mapped) IsDone outcome
+  HasOutcome log m e (Choose choice) outcome = outcome ≡ Done
+  HasOutcome log m e (Register registration) outcome = InTurn (not (is_registered registration m.there)) (GetsSlot m.there e.effects) outcome
+  HasOutcome log m e (Unregister registration) outcome =
       InTurn (is_registered registration m.there && (living_on (slot_of_registration registration m.there) m.there.guards == 0)) IsDone outcome
-  ComesTo log m e (Enter guard registration) outcome =
+  HasOutcome log m e (Enter guard registration) outcome =
       InTurn (not (is_guard guard m.there) && is_registered registration m.there) (IsEntered (slot_of_registration registration m.there) m.there) outcome
-  ComesTo log m e (Own guard) outcome = InTurn (not (is_guard guard m.there)) (GetsSlot m.there e.effects) outcome
-  ComesTo log m e (Refresh guard) outcome = InTurn (is_free_guard guard m) IsDone outcome
-  ComesTo log m e (Flush guard) outcome = InTurn (is_living guard m.there) (IsFlushed (is_held (slot_of_guard guard m.there) m)) outcome
-  ComesTo log m e (DropGuard guard) outcome = InTurn (is_free_guard guard m) IsDone outcome
-  ComesTo log m e (Forget guard) outcome = InTurn (is_free_guard guard m) IsDone outcome
-  ComesTo log m e ReclaimAll outcome = InTurn (is_left m) IsDone outcome
-  ComesTo log m e Close outcome = InTurn (is_left m && is_empty m.maps) IsDone outcome
-  ComesTo log m e (MakeMap name mode capacity) outcome =
+  HasOutcome log m e (Own guard) outcome = InTurn (not (is_guard guard m.there)) (GetsSlot m.there e.effects) outcome
+  HasOutcome log m e (Refresh guard) outcome = InTurn (is_free_guard guard m) IsDone outcome
+  HasOutcome log m e (Flush guard) outcome = InTurn (is_living guard m.there) (IsFlushed (is_held (slot_of_guard guard m.there) m)) outcome
+  HasOutcome log m e (DropGuard guard) outcome = InTurn (is_free_guard guard m) IsDone outcome
+  HasOutcome log m e (Forget guard) outcome = InTurn (is_free_guard guard m) IsDone outcome
+  HasOutcome log m e ReclaimAll outcome = InTurn (is_left m) IsDone outcome
+  HasOutcome log m e Close outcome = InTurn (is_left m && is_empty m.maps) IsDone outcome
+  HasOutcome log m e (MakeMap name mode capacity) outcome =
       MatchOption (map_fault mode capacity)
       (InTurn (is_none (map_of name m)) (IsMade (nat_lt (length (used_roots m)) terms.roots) e.effects) outcome)
       (λ fault. outcome ≡ Refused fault)
-  ComesTo log m e (EndMap name) outcome = InTurn (is_some (map_of name m) && not (is_called (number_of name m) m)) IsDone outcome
-  ComesTo log m e (ShowShape name) outcome = InTurn (is_some (map_of name m)) (IsShapeOf (chain_named (number_of name m) m)) outcome
-  ComesTo log m e (Begin caller guard name call) outcome =
+  HasOutcome log m e (EndMap name) outcome = InTurn (is_some (map_of name m) && not (is_called (number_of name m) m)) IsDone outcome
+  HasOutcome log m e (ShowShape name) outcome = InTurn (is_some (map_of name m)) (IsShapeOf (chain_named (number_of name m) m)) outcome
+  HasOutcome log m e (Begin caller guard name call) outcome =
       InTurn (is_none (call_of caller m) && is_living guard m.there && is_some (map_of name m)) (λ o. o ≡ Goes) outcome
-  ComesTo log m e (Step caller refuse) outcome = InTurn (is_some (call_of caller m)) (λ o. GoesOn log e) outcome
-  ComesTo log m e (Go caller refuse) outcome = InTurn (is_some (call_of caller m)) (λ o. GoesOn log e) outcome
-  ComesTo log m e (Replied caller reply) outcome = InTurn (fits_reply (call_of caller m) reply) (λ o. o ≡ Goes) outcome
-  ComesTo log m e (OneCall guard name call) outcome =
-      InTurn (is_none (call_of nameless m) && is_living guard m.there && is_some (map_of name m)) (λ o. GoesOn log e) outcome
-  ComesTo log m e (Next caller) outcome = InTurn (shows_now (call_of caller m)) IsNext outcome
-  ComesTo log m e (Stop caller) outcome = InTurn (shows_now (call_of caller m)) IsDone outcome
+  HasOutcome log m e (Step caller refuse) outcome = InTurn (is_some (call_of caller m)) (λ o. Continues log e) outcome
+  HasOutcome log m e (Go caller refuse) outcome = InTurn (is_some (call_of caller m)) (λ o. Continues log e) outcome
+  HasOutcome log m e (Replied caller reply) outcome = InTurn (fits_reply (call_of caller m) reply) (λ o. o ≡ Goes) outcome
+  HasOutcome log m e (OneCall guard name call) outcome =
+      InTurn (is_none (call_of nameless m) && is_living guard m.there && is_some (map_of name m)) (λ o. Continues log e) outcome
+  HasOutcome log m e (Next caller) outcome = InTurn (shows_now (call_of caller m)) IsNext outcome
+  HasOutcome log m e (Stop caller) outcome = InTurn (shows_now (call_of caller m)) IsDone outcome
 
   -- the event comes to what is right for it
-  abbrev pub ComesRight : List (Entry K V) → Entry K V → Type 0
-  ComesRight log e =
-      let m = moment log in MatchBool m.is_closed (IsKeptOut e.event e.outcome) (ComesTo log m e e.event e.outcome)
+  abbrev pub HasRightOutcome : List (Entry K V) → Entry K V → Type 0
+  HasRightOutcome log e =
+      let m = moment log in MatchBool m.is_closed (IsKeptOut e.event e.outcome) (HasOutcome log m e e.event e.outcome)

@@ -13,7 +13,7 @@ use Rattle.run_schedules.specs.declared.outcome.Outcome.TheVariants.{Asks, Answe
 use Rattle.run_schedules.specs.Schedules.Lists.{OneOf, is_in}
 use Rattle.run_schedules.specs.Schedules.Things.{same_question}
 use Rattle.run_schedules.specs.Schedules.Sequential.{Meaning, Answers, Refuses, Wants, Deed, Leaves, Shift, ComesIn, GivesWay, GoesOut, means, key_of, asks_again, shifts}
-use Rattle.run_schedules.specs.Schedules.Moment.{Stands, Asking, UnderWay, Moment}
+use Rattle.run_schedules.specs.Schedules.Moment.{CallState, Asking, UnderWay, Moment}
 use Rattle.run_schedules.specs.Schedules.Views.{finite_map, is_in_map, reply_to}
 use Rattle.run_schedules.specs.Schedules.Entry.{Entry}
 use Rattle.run_schedules.specs.Schedules.Transition.{Past, Transition, call_found, call_left, past, transition}
@@ -82,7 +82,7 @@ module _ {K V : Type 0} (eq : K → K → Bool) where
   MayAsk _ c moments question = ⊥
 
   -- what was asked and has no reply is told again
-  abbrev pub AsksRight : Stands → UnderWay K V → List (Moment K V) → Outcome V → Type 0
+  abbrev pub AsksRight : CallState → UnderWay K V → List (Moment K V) → Outcome V → Type 0
   AsksRight (Asking q) c moments outcome = Unit {0}
   AsksRight _ c moments (Asks question) = MayAsk c.call c moments question
   AsksRight _ c moments _ = Unit {0}

@@ -16,7 +16,7 @@ use Rattle.run_schedules.specs.Schedules.Terms.{Terms, shards_of}
 use Rattle.run_schedules.specs.Schedules.Moment.{Place, InMap, Handed, Left, GivenBack, UnderWay, MapThere, Moment}
 use Rattle.run_schedules.specs.Schedules.Views.{map_at, grows_in_chunks, capacity_or, is_there, is_linked, is_retired, first_of, tables_of, is_stage, is_place, behind}
 use Rattle.run_schedules.specs.Schedules.Tries.{has_pair_at}
-use Rattle.run_schedules.specs.Schedules.Growing.{only_looks, AsksForBlock, AsksForBucket, Follows, IsFirstShape, ComesNext, has_value_for, none_before}
+use Rattle.run_schedules.specs.Schedules.Growing.{only_looks, AsksForBlock, AsksForBucket, Follows, IsFirstShape, IsNextRoot, has_value_for, none_before}
 use Rattle.run_schedules.specs.Schedules.Entry.{ByCall, acting}
 use Rattle.run_schedules.specs.Schedules.InUse.{used_slots}
 
@@ -85,7 +85,7 @@ module _ {K V : Type 0} (terms : Terms) where
   CallFinds moments m (Linked t shape) c =
       (c.table ≡ Some t) × (t.turn ≡ length (tables_of c.map m)) × Follows terms c (m ∷ moments) (capacity_or (map_at c.map m)) shape (tables_of c.map m)
   CallFinds moments m (Promoted t) c =
-      (t.map ≡ c.map) × (is_stage is_linked t m ≡ true) × ComesNext (grows_in_chunks (map_at c.map m)) (first_of c.map m) t.turn (tables_of c.map m)
+      (t.map ≡ c.map) × (is_stage is_linked t m ≡ true) × IsNextRoot (grows_in_chunks (map_at c.map m)) (first_of c.map m) t.turn (tables_of c.map m)
       × (none_before c.map t.turn m ≡ true)
   CallFinds moments m (Copied n s) c = MayCopy (grows_in_chunks (map_at c.map m)) c.map m n s
   -- the n-th pair that is stored has the number n

@@ -21,11 +21,11 @@ pub data Place : Type 0 where
   GivenBack : Place  -- reclaimed
 
 -- how far a call is
-pub data Stands : Type 0 where
-  Going : Stands
-  Asking : Option ℕ → Stands  -- about this pair, or about none, and there is no reply yet
-  Told : Stands  -- it has just got its reply
-  IsReady : Stands  -- a walk that shows pairs
+pub data CallState : Type 0 where
+  Going : CallState
+  Asking : Option ℕ → CallState  -- about this pair, or about none, and there is no reply yet
+  Told : CallState  -- it has just got its reply
+  IsReady : CallState  -- a walk that shows pairs
 
 -- a call under way
 pub record UnderWay (K V : Type 0) : Type 0 where
@@ -34,7 +34,7 @@ pub record UnderWay (K V : Type 0) : Type 0 where
   pub map : ℕ  -- the number of its map
   pub call : Call K V
   pub begun : ℕ  -- how many events came before the one that began it
-  pub stands : Stands
+  pub stands : CallState
   pub replies : List (Option ℕ × Reply V)  -- each with what was asked, the newest first
   pub asked : List (Option ℕ)
   pub steps : ℕ

@@ -20,7 +20,7 @@ use Rattle.run_schedules.specs.Schedules.Moment.{Place, MapThere, Moment}
 use Rattle.run_schedules.specs.Schedules.Views.{is_in_map, is_in_a_map, is_waiting, is_retired}
 use Rattle.run_schedules.specs.Schedules.Entry.{Entry, is_busy}
 use Rattle.run_schedules.specs.Schedules.After.{moment, AtEachEvent}
-use Rattle.run_schedules.specs.Schedules.InTurn.{ComesRight}
+use Rattle.run_schedules.specs.Schedules.InTurn.{HasRightOutcome}
 use Rattle.run_schedules.specs.Schedules.Steps.{TakesSteps}
 use Rattle.run_schedules.specs.Schedules.Waiting.{WaitsLawfully}
 use Rattle.run_schedules.specs.Schedules.Linearizable.{IsLinearizable}
@@ -32,7 +32,7 @@ use Rattle.run_schedules.specs.Schedules.Reclaims.{IsProtected, LeavesLittle}
 -- What is promised of each event, by the events before it, whatever calls are under way, ask or go on.
 pub record IsLegal {K V : Type 0} (eq : K → K → Bool) (terms : Terms) (log : List (Entry K V)) (e : Entry K V) : Type 0 where
   -- it comes to what is right for it, and is refused in no other case
-  pub right : ComesRight terms log e
+  pub right : HasRightOutcome terms log e
   -- each step of a call does one thing at most
   pub steps : TakesSteps log e
   -- a call waits only where what it is to go on with may be being copied, or another one has still to hand something over
@@ -86,19 +86,19 @@ module _ {K V : Type 0} where
   Lists listed test m = (n : ℕ) → times n listed ≡ (if test (m.place n) then 1 else 0)
 
   -- each map that is there, in the order in which they were made, with its name and pairs
-  abbrev pub ShowsMaps : List Living → List MapThere → Moment K V → Type 0
-  ShowsMaps [] [] m = Unit {0}
-  ShowsMaps (living ∷ maps) (f ∷ there) m = (living.name ≡ f.name) × Lists living.pairs.items (is_in_map f.number) m × ShowsMaps maps there m
-  ShowsMaps _ _ m = ⊥
+  abbrev pub ListsMaps : List Living → List MapThere → Moment K V → Type 0
+  ListsMaps [] [] m = Unit {0}
+  ListsMaps (living ∷ maps) (f ∷ there) m = (living.name ≡ f.name) × Lists living.pairs.items (is_in_map f.number) m × ListsMaps maps there m
+  ListsMaps _ _ m = ⊥
 
   -- the pair of a number, reclaimed or not
   abbrev pub pair_of : Run K V → ℕ → Option (Pair K V)
   pair_of run n = find (λ p. p.number == n) (run.given_back ++ run.kept)
 
   -- what a run tells at its end is what its events say, also while calls are under way
-  pub record TellsEnd (m : Moment K V) (run : Run K V) : Type 0 where
+  pub record ReportsEnd (m : Moment K V) (run : Run K V) : Type 0 where
     pub stored : run.stored ≡ length m.stored
-    pub maps : ShowsMaps run.maps.items m.maps m
+    pub maps : ListsMaps run.maps.items m.maps m
     pub waiting : Lists run.waiting.items is_waiting m
     pub ascending : IsSorted nat_cmp run.waiting.items
     pub tables : run.tables ≡ length (filter (λ u. is_retired u.stage) m.tables)
@@ -114,4 +114,4 @@ pub record IsRunOf {K V : Type 0} (eq : K → K → Bool) (terms : Terms) (sched
   pub effects : length run.effects.items ≡ length schedule
   pub trace : run.trace.items ≡ trace_of (log_of schedule run)
   pub legal : IsLegalLog eq terms (log_of schedule run)
-  pub tells : TellsEnd (moment (log_of schedule run)) run
+  pub tells : ReportsEnd (moment (log_of schedule run)) run

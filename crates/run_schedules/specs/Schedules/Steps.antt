@@ -12,7 +12,7 @@ use Rattle.run_schedules.specs.declared.outcome.Outcome.{Outcome}
 use Rattle.run_schedules.specs.declared.outcome.Outcome.TheVariants.{Goes, Asks, Waits, Ready, Refused}
 use Rattle.run_schedules.specs.Schedules.Lists.{OneOf}
 use Rattle.run_schedules.specs.Schedules.Sequential.{is_lookup}
-use Rattle.run_schedules.specs.Schedules.Moment.{Stands, Going, Asking, Told, IsReady, UnderWay, TableThere, Moment}
+use Rattle.run_schedules.specs.Schedules.Moment.{CallState, Going, Asking, Told, IsReady, UnderWay, TableThere, Moment}
 use Rattle.run_schedules.specs.Schedules.Views.{map_at, grows_in_chunks, first_of, tables_of}
 use Rattle.run_schedules.specs.Schedules.Entry.{Entry, IfCall, caller_of, acting}
 use Rattle.run_schedules.specs.Schedules.Beginning.{at_work}
@@ -46,7 +46,7 @@ MakesSome steps Ready = Unit {0}
 MakesSome steps outcome = 1 ≤ steps
 
 -- how far a call is says which steps it makes: none without the reply that it wants, and one that has just got it may need none to go on
-abbrev pub Steps : {V : Type 0} → Bool → Stands → ℕ → Outcome V → Type 0
+abbrev pub Steps : {V : Type 0} → Bool → CallState → ℕ → Outcome V → Type 0
 Steps single (Asking q) steps outcome = steps ≡ 0
 Steps single IsReady steps outcome = steps ≡ 0
 Steps true Told steps outcome = steps ≤ 1
@@ -59,12 +59,12 @@ abbrev pub DoesFew : Option (List ℕ) → ℕ → List Effect → Type 0
 DoesFew None steps effects = Unit {0}
 DoesFew (Some caller) steps effects = sum_by weight effects ≤ steps
 
-abbrev pub stands_or : {K V : Type 0} → Option (UnderWay K V) → Stands
-stands_or None = Going
-stands_or (Some c) = c.stands
+abbrev pub state_or : {K V : Type 0} → Option (UnderWay K V) → CallState
+state_or None = Going
+state_or (Some c) = c.stands
 
 module _ {K V : Type 0} where
-  abbrev pub MakesSteps : Event K V → Stands → ℕ → Outcome V → Type 0
+  abbrev pub MakesSteps : Event K V → CallState → ℕ → Outcome V → Type 0
   MakesSteps event stands steps (Refused Busy) = steps ≡ 0
   MakesSteps (Step caller refuse) stands steps outcome = Steps true stands steps outcome
   MakesSteps (Go caller refuse) stands steps outcome = Steps false stands steps outcome
@@ -98,6 +98,6 @@ module _ {K V : Type 0} where
 
   -- the event makes as many steps as it may, and does not more than these
   pub record TakesSteps (log : List (Entry K V)) (e : Entry K V) : Type 0 where
-    pub makes : MakesSteps e.event (stands_or (acting (caller_of e.event) (at_work e (moment log)))) e.steps e.outcome
+    pub makes : MakesSteps e.event (state_or (acting (caller_of e.event) (at_work e (moment log)))) e.steps e.outcome
     pub does : DoesFew (caller_of e.event) e.steps e.effects
     pub brief : ReadsBriefly log e (worked e (moment log))

@@ -9,21 +9,21 @@ use Rattle.run_effects.specs.Given.RunsDeclared.call.Call.{Call}
 use Rattle.run_effects.specs.Given.RunsDeclared.call.Reply.{Reply}
 use Rattle.run_effects.specs.Given.RunsDeclared.outcome.Outcome.{Outcome}
 use Rattle.run_effects.specs.Given.RunsDeclared.outcome.Outcome.TheVariants as outcome
-use Rattle.run_effects.specs.Given.SchedulesAfter.{asks_on, comes_to, replied, without_call}
+use Rattle.run_effects.specs.Given.SchedulesAfter.{asks_on, with_outcome, replied, without_call}
 use Rattle.run_effects.specs.Given.SchedulesBeginning.{fresh_call, with_call}
 use Rattle.run_effects.specs.Given.SchedulesEntry.{ends_call}
-use Rattle.run_effects.specs.Given.SchedulesMoment.{Stands, Going, Asking, Told, IsReady, UnderWay as CallThere, Moment}
+use Rattle.run_effects.specs.Given.SchedulesMoment.{CallState, Going, Asking, Told, IsReady, UnderWay as CallThere, Moment}
 use Rattle.run_effects.specs.Given.SchedulesViews.{call_of}
 use Rattle.many_maps.specs.Given.CallersOverAll.{CallOverAll}
 use Rattle.many_maps.specs.Given.CallersTogether.{CallOnKey, UnderWay, OnKey, ForRoom, Counting, OverAll}
 use Rattle.many_maps.proofs.Given.CallersTogether.At.{at_other, at_same}
-use Rattle.many_maps.specs.Machines.{ToldOfKind}
+use Rattle.many_maps.specs.Machines.{RepliedOfKind}
 use Rattle.many_maps.specs.Maps.{Standing, with_call as with_in}
 use Rattle.run_effects.specs.Effects.Known.{Known}
 use Rattle.run_shows.specs.Follows.Blocks.{HasRole}
-use Rattle.run_shows.specs.Follows.Calls.{IsCalled, ShowsCalls}
+use Rattle.run_shows.specs.Follows.Calls.{IsCalled, RefinesCalls}
 use Rattle.run_shows.specs.Follows.Calling.{NoneNamed, told, come_to, CallsComeTo}
-use Rattle.run_shows.specs.Follows.Shows.{Shows}
+use Rattle.run_shows.specs.Follows.Shows.{Refines}
 use Rattle.run_shows.proofs.Follows.Alike.{AreSame, alike_same}
 use Rattle.run_shows.proofs.Follows.Called.{some_is, called_as, key_called, sweep_called}
 use Rattle.run_shows.proofs.Follows.Calls.{IsOfSame, CalledOn, changed, of_same, found, was_there}
@@ -54,8 +54,8 @@ apart_back a b e = by (is_same b a) refl
 
 module _ {K V : Type 0} where
   -- nothing but the calls has changed: pairs have the numbers that they had
-  calls_only : (same : K → K → Bool) (name : ℕ → List ℕ) (m m2 : Moment K V) (known : Known) (s : Scene K V) → AreSame m m2 → (calls2 : ℕ → ℕ → Option (UnderWay K V K)) → ShowsCalls same name m2 calls2
-      → (shown : Shows same name m known s) → (after : Shows same name m2 known (record s { calls = calls2 })) × (after.number ≡ shown.number)
+  calls_only : (same : K → K → Bool) (name : ℕ → List ℕ) (m m2 : Moment K V) (known : Known) (s : Scene K V) → AreSame m m2 → (calls2 : ℕ → ℕ → Option (UnderWay K V K)) → RefinesCalls same name m2 calls2
+      → (shown : Refines same name m known s) → (after : Refines same name m2 known (record s { calls = calls2 })) × (after.number ≡ shown.number)
   calls_only same name m m2 known s alike calls2 there shown = (
     record {
       blocks = record {
@@ -70,9 +70,9 @@ module _ {K V : Type 0} where
     refl,
   )
 
-  begins_calls : (same : K → K → Bool) (name : ℕ → List ℕ) (m : Moment K V) (calls : ℕ → ℕ → Option (UnderWay K V K)) → ShowsCalls same name m calls → (of i : ℕ) (u : UnderWay K V K) (call : Call K V) (guard : List ℕ)
+  begins_calls : (same : K → K → Bool) (name : ℕ → List ℕ) (m : Moment K V) (calls : ℕ → ℕ → Option (UnderWay K V K)) → RefinesCalls same name m calls → (of i : ℕ) (u : UnderWay K V K) (call : Call K V) (guard : List ℕ)
       → ((n j : ℕ) (x : UnderWay K V K) → calls n j ≡ Some x → is_same (name i) (name j) ≡ false) → IsCalled same u call
-      → ShowsCalls same name (with_call (name i) guard call (Some of) m) (with_in calls of i (Some u))
+      → RefinesCalls same name (with_call (name i) guard call (Some of) m) (with_in calls of i (Some u))
   begins_calls same name m calls shown of i u call guard apart called n j x is = by (cases_eq n of) (cases_eq j i)
     where
       fresh : CallThere K V
@@ -100,19 +100,19 @@ module _ {K V : Type 0} where
       by (inr ne) f = before (ap (λ (g : ℕ → Option (UnderWay K V K)). g j) (sym (at_other calls of (with_at (calls of) i (Some u)) n ne)) ∙ is)
 
   -- a call that is told something, or has come to something, is the same one
-  pub replied_same : (reply : Reply V) (c : CallThere K V) (stands : Stands) → IsOfSame c (replied reply c stands)
+  pub replied_same : (reply : Reply V) (c : CallThere K V) (stands : CallState) → IsOfSame c (replied reply c stands)
   replied_same reply c Going = (refl, refl, refl)
   replied_same reply c (Asking q) = (refl, refl, refl)
   replied_same reply c Told = (refl, refl, refl)
   replied_same reply c IsReady = (refl, refl, refl)
 
-  pub asked_same : (question : Option ℕ) (c : CallThere K V) (stands : Stands) → IsOfSame c (asks_on question c stands)
+  pub asked_same : (question : Option ℕ) (c : CallThere K V) (stands : CallState) → IsOfSame c (asks_on question c stands)
   asked_same question c Going = (refl, refl, refl)
   asked_same question c (Asking q) = (refl, refl, refl)
   asked_same question c Told = (refl, refl, refl)
   asked_same question c IsReady = (refl, refl, refl)
 
-  pub come_same : (o : Outcome V) (c : CallThere K V) → IsOfSame c (comes_to o c)
+  pub come_same : (o : Outcome V) (c : CallThere K V) → IsOfSame c (with_outcome o c)
   come_same outcome.Done c = (refl, refl, refl)
   come_same (outcome.Slot n) c = (refl, refl, refl)
   come_same outcome.Goes c = (refl, refl, refl)
@@ -132,7 +132,7 @@ module _ {K V : Type 0} where
     on_sweep next o p is its called = called_as same next (OverAll p) its is (sweep_called same o p its called)
 
     told_called : (batch_size roots : ℕ) (standing : Standing K) (i : ℕ) (u : UnderWay K V K) (reply : MachineReply V) (next : UnderWay K V K)
-        → ToldOfKind V same same batch_size roots slot_of standing i u reply next → CalledOn same u next
+        → RepliedOfKind V same same batch_size roots slot_of standing i u reply next → CalledOn same u next
     told_called batch_size roots standing i (OnKey u) reply next (inl (asks_at, about, stands, asked, is)) its called = on_key next u _ is refl its called
     told_called batch_size roots standing i (OnKey u) reply next (inr is) its called = called_as same next (OnKey u) its is called
     told_called batch_size roots standing i (ForRoom r) reply next is its called = called_as same next (ForRoom r) its is called
@@ -143,7 +143,7 @@ module _ {K V : Type 0} where
 
     -- calls of which one goes on as itself
     changed_calls : (change : CallThere K V → CallThere K V) (is_of : (c : CallThere K V) → IsOfSame c (change c)) (own : List ℕ) (name : ℕ → List ℕ) (m : Moment K V) (calls : ℕ → ℕ → Option (UnderWay K V K))
-        → ShowsCalls same name m calls → ShowsCalls same name (record m { calls = map (changed change is_of own) m.calls }) calls
+        → RefinesCalls same name m calls → RefinesCalls same name (record m { calls = map (changed change is_of own) m.calls }) calls
     changed_calls change is_of own name m calls shown n j x is =
         let there = shown n j x is in (
           changed change is_of own there.0,
@@ -153,7 +153,7 @@ module _ {K V : Type 0} where
         )
 
     next_calls : (name : ℕ → List ℕ) (m : Moment K V) (calls : ℕ → ℕ → Option (UnderWay K V K)) (of i : ℕ) (u : UnderWay K V K) → calls of i ≡ Some u → (next : UnderWay K V K) → CalledOn same u next
-        → ShowsCalls same name m calls → ShowsCalls same name m (with_in calls of i (Some next))
+        → RefinesCalls same name m calls → RefinesCalls same name m (with_in calls of i (Some next))
     next_calls name m calls of i u here next on shown n j x is =
         let before = was_there same calls of i u here (Some next) (λ y e its called. called_as same y next its (some_is next y e) (on its called)) n j x is in
         let there = shown n j before.0 before.1 in (there.0, there.1, there.2, before.2 there.0.call there.3)
@@ -185,7 +185,7 @@ module _ {K V : Type 0} where
         by false e false f rest = subst Goal (sym f) (rest (ap (λ z. cond z (Some x) (find test cs)) (sym e) ∙ is))
 
   kept_calls : (same : K → K → Bool) (own : List ℕ) (name : ℕ → List ℕ) (m : Moment K V) (calls : ℕ → ℕ → Option (UnderWay K V K)) → ((n j : ℕ) (x : UnderWay K V K) → calls n j ≡ Some x → is_same own (name j) ≡ false)
-      → ShowsCalls same name m calls → ShowsCalls same name (record m { calls = without_call own m.calls }) calls
+      → RefinesCalls same name m calls → RefinesCalls same name (record m { calls = without_call own m.calls }) calls
   kept_calls same own name m calls apart shown n j x is =
       let there = shown n j x is in
       let is_its = is_same_is there.0.caller (name j) (found_passes (λ c. is_same c.caller (name j)) (λ c. true) m.calls there.0 there.1) in
@@ -194,15 +194,15 @@ module _ {K V : Type 0} where
 
 -- a call has come to this, by so many steps
 abbrev pub come : {K V : Type 0} → Outcome V → ℕ → CallThere K V → CallThere K V
-come o steps c = comes_to o (record c { steps = c.steps + steps })
+come o steps c = with_outcome o (record c { steps = c.steps + steps })
 
 pub come_of_same : {K V : Type 0} (o : Outcome V) (steps : ℕ) (c : CallThere K V) → IsOfSame c (come o steps c)
 come_of_same o steps c = come_same o (record c { steps = c.steps + steps })
 
-module _ {K V : Type 0} (same : K → K → Bool) (name : ℕ → List ℕ) (m : Moment K V) (known : Known) (s : Scene K V) (shown : Shows same name m known s) where
+module _ {K V : Type 0} (same : K → K → Bool) (name : ℕ → List ℕ) (m : Moment K V) (known : Known) (s : Scene K V) (shown : Refines same name m known s) where
   -- the moment shows the scene with other calls, with the numbers of its pairs
   abbrev pub ShowsWith : Moment K V → (ℕ → ℕ → Option (UnderWay K V K)) → Type 0
-  ShowsWith m2 calls2 = (after : Shows same name m2 known (record s { calls = calls2 })) × (after.number ≡ shown.number)
+  ShowsWith m2 calls2 = (after : Refines same name m2 known (record s { calls = calls2 })) × (after.number ≡ shown.number)
 
   pub begins_with : (of i : ℕ) (u : UnderWay K V K) (call : Call K V) (guard : List ℕ) → NoneNamed name (name i) s → IsCalled same u call
       → ShowsWith (with_call (name i) guard call (Some of) m) (with_in s.calls of i (Some u))
@@ -211,7 +211,7 @@ module _ {K V : Type 0} (same : K → K → Bool) (name : ℕ → List ℕ) (m :
       (begins_calls same name m s.calls shown.calls of i u call guard apart called) shown
 
   pub told_with : (of i : ℕ) (u : UnderWay K V K) → s.calls of i ≡ Some u → (batch_size roots : ℕ) (standing : Standing K) (reply : MachineReply V) (next : UnderWay K V K)
-      → ToldOfKind V same same batch_size roots slot_of standing i u reply next → (is_told : Reply V) → ShowsWith (told (name i) is_told m) (with_in s.calls of i (Some next))
+      → RepliedOfKind V same same batch_size roots slot_of standing i u reply next → (is_told : Reply V) → ShowsWith (told (name i) is_told m) (with_in s.calls of i (Some next))
   told_with of i u here batch_size roots standing reply next goes is_told =
       calls_only same name m (told (name i) is_told m) known s (record { place = refl; born = refl; maps = refl; tables = refl; stored = refl }) (with_in s.calls of i (Some next))
       (next_calls same name (told (name i) is_told m) s.calls of i u here next (told_called same batch_size roots standing i u reply next goes)
@@ -221,7 +221,7 @@ module _ {K V : Type 0} (same : K → K → Bool) (name : ℕ → List ℕ) (m :
   come_with own o steps ended =
       calls_only same name m (come_to own o steps m) known s (record { place = refl; born = refl; maps = refl; tables = refl; stored = refl }) s.calls (by (ends_call o) refl) shown
     where
-      by : (q : Bool) → ends_call o ≡ q → ShowsCalls same name (record m { calls = if q then without_call own m.calls else map (λ c. if is_same c.caller own then come o steps c else c) m.calls }) s.calls
+      by : (q : Bool) → ends_call o ≡ q → RefinesCalls same name (record m { calls = if q then without_call own m.calls else map (λ c. if is_same c.caller own then come o steps c else c) m.calls }) s.calls
       by true e = kept_calls same own name m s.calls (ended e) shown.calls
       by false e = changed_calls same (come o steps) (come_of_same o steps) own name m s.calls shown.calls
 

@@ -14,7 +14,7 @@ use Rattle.run_effects.specs.Given.SchedulesViews.{call_of}
 use Rattle.many_maps.specs.Given.CallersTogether.{UnderWay}
 use Rattle.many_maps.proofs.Given.CallersTogether.At.{at_other, at_same}
 use Rattle.many_maps.specs.Maps.{with_call}
-use Rattle.run_shows.specs.Follows.Calls.{IsCalled, ShowsCalls}
+use Rattle.run_shows.specs.Follows.Calls.{IsCalled, RefinesCalls}
 
 module _ {K V : Type 0} where
   -- the call is the same one of the same caller, on the same map
@@ -110,7 +110,7 @@ module _ {K V : Type 0} where
     -- so they are there after a step, too
     pub calls_on : (name : ℕ → List ℕ) (own : List ℕ) (acted : ℕ) (effects : List Effect) (m : Moment K V) (calls : ℕ → ℕ → Option (UnderWay K V K)) (of i : ℕ) (u : UnderWay K V K)
         → calls of i ≡ Some u → (next : Option (UnderWay K V K)) → ((x : UnderWay K V K) → next ≡ Some x → CalledOn u x)
-        → ShowsCalls same name m calls → ShowsCalls same name (with_effects (Some own) (Some acted) effects m) (with_call calls of i next)
+        → RefinesCalls same name m calls → RefinesCalls same name (with_effects (Some own) (Some acted) effects m) (with_call calls of i next)
     calls_on name own acted effects m calls of i u here next on shown n j x is =
         let before = was_there calls of i u here next on n j x is in
         let there = shown n j before.0 before.1 in

@@ -9,7 +9,7 @@ use Rattle.run_effects.specs.Given.TablesDeclared.table_words.TheConstants.{PLAC
 use Rattle.run_effects.specs.Given.RunsDeclared.effect.Effect.{Effect}
 use Rattle.run_effects.specs.Given.RunsDeclared.effect.Effect.TheVariants.{Asked, PairMade, PairGivenUp, TableMade, TableGivenUp, Linked, Promoted, Copied, Stored, Replaced, Removed, Counted, Deferred, Retired, Reclaimed, Ended, Taken}
 use Rattle.run_effects.specs.Given.SchedulesEffects.{AtEachEffect, with_effect}
-use Rattle.run_effects.specs.Given.SchedulesGrowing.{ComesNext}
+use Rattle.run_effects.specs.Given.SchedulesGrowing.{IsNextRoot}
 use Rattle.run_effects.specs.Given.SchedulesLives.{IsFrom}
 use Rattle.run_effects.specs.Given.SchedulesMoment.{Stage, TableThere, Moment}
 use Rattle.run_effects.specs.Given.SchedulesThings.{same_table}
@@ -19,7 +19,7 @@ use Rattle.many_maps.specs.Maps.{Standing}
 use Rattle.run_effects.specs.Effects.Effects.{spot_at}
 use Rattle.run_effects.specs.Effects.Known.{Known}
 use Rattle.run_shows.specs.Follows.Finds.{MayStandAt, MayBeRoot, FindsMap}
-use Rattle.run_shows.specs.Follows.Maps.{table_of, shape_at, tables_to, ShowsMap}
+use Rattle.run_shows.specs.Follows.Maps.{table_of, shape_at, tables_to, RefinesMap}
 use Rattle.run_shows.proofs.Follows.Alike.{is_still, AllStill}
 use Rattle.seize_words.proofs.General.{or_second as or_last, or_first}
 
@@ -67,7 +67,7 @@ module _ {K : Type 0} (map : ℕ) (c : Chart K) (stage : ℕ → Stage) where
           any_last p (tables_to map c stage u) (table_there u ∷ []) (or_first (p (table_there u)) false (ap (λ (x : ℕ). p (table_there x)) (sym same) ∙ e))
       by (inr other) rest = any_first p (tables_to map c stage u) (table_there u ∷ []) (rest (omega (arith, l, other)))
 
-module _ {K V : Type 0} (map : ℕ) (number : ℕ → ℕ) (s : Standing K) (m : Moment K V) (known : Known) (shown : ShowsMap map number s m known) where
+module _ {K V : Type 0} (map : ℕ) (number : ℕ → ℕ) (s : Standing K) (m : Moment K V) (known : Known) (shown : RefinesMap map number s m known) where
   abbrev c : Chart K
   c = s.chart
 
@@ -113,13 +113,13 @@ module _ {K V : Type 0} (map : ℕ) (number : ℕ → ℕ) (s : Standing K) (m :
   -- the root may come to a table behind it
   pub may_be_root : (t : ℕ) → c.first < t → t < c.past → (is_incremental s.setting.mode ≡ true → t ≡ suc c.first) → (is_incremental s.setting.mode ≡ false → suc t ≡ c.past)
       → MayBeRoot map m (table_of map t)
-  may_be_root t ahead made next last = (is_there, subst (λ (q : Bool). ComesNext q (first_of map m) t (tables_of map m)) (sym chunks_are) (comes (is_incremental s.setting.mode) refl))
+  may_be_root t ahead made next last = (is_there, subst (λ (q : Bool). IsNextRoot q (first_of map m) t (tables_of map m)) (sym chunks_are) (comes (is_incremental s.setting.mode) refl))
     where
       is_there : is_stage is_linked (table_of map t) m ≡ true
       is_there = among (λ u. same_table u.table (table_of map t) && is_linked u.stage) t made
           (ap (λ (q : Bool). q && is_linked (shown.tables.stage t)) (same_one t) ∙ linked_there t (omega (arith, ahead)) made)
 
-      comes : (q : Bool) → is_incremental s.setting.mode ≡ q → ComesNext q (first_of map m) t (tables_of map m)
+      comes : (q : Bool) → is_incremental s.setting.mode ≡ q → IsNextRoot q (first_of map m) t (tables_of map m)
       comes true e = let n = next e in let f = first_is in omega (arith, n, f)
       comes false e = (let f = first_is in omega (arith, ahead, f), let n = last e in let many = tables_many in omega (arith, n, many))
 

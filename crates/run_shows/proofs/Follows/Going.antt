@@ -6,7 +6,7 @@ use Rattle.many_maps.specs.Maps.{Standing}
 use Rattle.run_effects.specs.Effects.Known.{Known}
 use Rattle.run_effects.specs.declared.role.Role.{Role}
 use Rattle.run_effects.specs.declared.role.Role.TheVariants as role
-use Rattle.run_shows.specs.Follows.Shows.{Shows}
+use Rattle.run_shows.specs.Follows.Shows.{Refines}
 use Rattle.run_shows.proofs.Follows.Alike.{AlikePairs}
 use Rattle.run_shows.proofs.Follows.Onward.{IsOfMap, KeepsRoles}
 use Rattle.run_shows.specs.Scenes.Scene.{Scene}
@@ -28,12 +28,12 @@ module _ {K V : Type 0} (known : Known) (s s2 : Scene K V) where
       × (t.turn ≡ before.chart.past) × (after.chart.past ≡ suc before.chart.past) × (b ≡ after.blocks.table before.chart.past)
   ComesToBe b _ = ⊥
 
-module _ {K V : Type 0} (same : K → K → Bool) (name : ℕ → List ℕ) (m : Moment K V) (known : Known) (s : Scene K V) (shown : Shows same name m known s)
+module _ {K V : Type 0} (same : K → K → Bool) (name : ℕ → List ℕ) (m : Moment K V) (known : Known) (s : Scene K V) (shown : Refines same name m known s)
     (m2 : Moment K V) (known2 : Known) (s2 : Scene K V) where
   -- It shows it, and pairs that had numbers have them still. Blocks that were linked are what they were, and no other one becomes a pair or a table but as it
   -- comes to a map. Maps that stood do so on; those that did not have the pairs and the root that they had.
   pub record ShowsOn : Type 0 where
-    pub shows : Shows same name m2 known2 s2
+    pub shows : Refines same name m2 known2 s2
     pub numbers : (of : ℕ) (standing : Standing K) → s.maps of ≡ Some standing → (n : ℕ) → n < standing.chart.stored → shows.number of n ≡ shown.number of n
     pub keeps : KeepsRoles known known2
     pub back : (b : ℕ) → IsOfMap (known2.roles b) → (known.roles b ≡ known2.roles b) ⊎ ComesToBe known s s2 b (known2.roles b)

@@ -15,10 +15,10 @@ use Rattle.run_effects.specs.Given.SchedulesThings.{same_table}
 use Rattle.run_effects.specs.Given.SchedulesViews.{is_in_map, is_in_a_map, map_at}
 use Rattle.run_effects.specs.Given.RuleChart.{Chart}
 use Rattle.run_effects.specs.Given.RuleWords.{Blocks}
-use Rattle.many_maps.specs.Given.CallersSights.{Sight}
+use Rattle.many_maps.specs.Given.CallersSights.{Visible}
 use Rattle.many_maps.specs.Maps.{Standing}
 use Rattle.run_effects.specs.Effects.Known.{Known}
-use Rattle.run_shows.specs.Follows.Maps.{table_of, shape_at, tables_to, ShowsMap}
+use Rattle.run_shows.specs.Follows.Maps.{table_of, shape_at, tables_to, RefinesMap}
 use Rattle.run_shows.specs.Follows.Steps.{HandTheirs}
 use Rattle.run_shows.proofs.Follows.Alike.{AlikePairs, IsAlike, alike_same, calm_still, still_all, put_here, put_elsewhere}
 use Rattle.run_shows.proofs.Follows.Onward.{StaysBlocks, tables_same, pairs_same, pairs_on, map_on}
@@ -114,15 +114,15 @@ module _ (t : TableId) where
 same_is : (of u : ℕ) (t : TableId) → same_table (table_of of u) t ≡ true → (of ≡ t.map) × (u ≡ t.turn)
 same_is of u t e = (grind (arith, e), grind (arith, e))
 
-module _ {K V : Type 0} (caller : List ℕ) (acted of : ℕ) (number : ℕ → ℕ) (s : Standing K) (blocks2 : Blocks) (sights2 : ℕ → Sight) (m : Moment K V) (known : Known)
-    (blocks : StaysBlocks s.chart s.blocks blocks2) (shown : ShowsMap of number s m known) where
+module _ {K V : Type 0} (caller : List ℕ) (acted of : ℕ) (number : ℕ → ℕ) (s : Standing K) (blocks2 : Blocks) (sights2 : ℕ → Visible) (m : Moment K V) (known : Known)
+    (blocks : StaysBlocks s.chart s.blocks blocks2) (shown : RefinesMap of number s m known) where
   abbrev s2 : Standing K
   s2 = record s { blocks = blocks2; sights = sights2 }
 
   abbrev led : List Effect → Moment K V
   led effects = with_effects (Some caller) (Some acted) effects m
 
-  alike_shown : (v : Moment K V) → IsAlike of m v → ShowsMap of number s2 v known
+  alike_shown : (v : Moment K V) → IsAlike of m v → RefinesMap of number s2 v known
   alike_shown v alike = map_on of number s s2 m v known known blocks (λ b lasting. refl) refl (tables_same s.chart) (pairs_same s.chart) alike shown
 
   -- a table that the root has passed
@@ -141,7 +141,7 @@ module _ {K V : Type 0} (caller : List ℕ) (acted of : ℕ) (number : ℕ → �
             let first = shown.there.first in let turn = k.1 in omega (arith, here, first, l, turn))
         by false e = shown.tables.linked u l made
 
-    table_retired : ShowsMap of number s2 v known
+    table_retired : RefinesMap of number s2 v known
     table_retired = record {
       there = record { there = shown.there.there; is = shown.there.is; root = shown.there.root; mode = shown.there.mode; first = shown.there.first };
       pairs = pairs_on of number s s2 m v known known blocks (λ b lasting. refl) (pairs_same s.chart)
@@ -155,12 +155,12 @@ module _ {K V : Type 0} (caller : List ℕ) (acted of : ℕ) (number : ℕ → �
       counter = shown.counter;
     }
 
-  thing_retired : (x : Thing) → HandTheirs caller acted (Retired x ∷ []) m → ShowsMap of number s2 (led (Retired x ∷ [])) known
+  thing_retired : (x : Thing) → HandTheirs caller acted (Retired x ∷ []) m → RefinesMap of number s2 (led (Retired x ∷ [])) known
   thing_retired (APair n) hands = alike_shown (led (Retired (APair n) ∷ [])) (retired_alike (Some caller) acted m of n hands.0)
   thing_retired (ATable t) hands = table_retired t hands.0
 
   -- each map is shown
-  pub hands_shown : (effects : List Effect) → HandsOn effects → HandTheirs caller acted effects m → ShowsMap of number s2 (led effects) known
+  pub hands_shown : (effects : List Effect) → HandsOn effects → HandTheirs caller acted effects m → RefinesMap of number s2 (led effects) known
   hands_shown effects (IsStill still all) hands = alike_shown (led still) (alike_same of m (led still) (still_all (Some caller) acted still m (calm_still still all)))
   hands_shown effects (Puts n t) hands = alike_shown (led (Deferred n t ∷ [])) (deferred_alike (Some caller) acted m of n t hands.0)
   hands_shown effects (Retires x) hands = thing_retired x hands

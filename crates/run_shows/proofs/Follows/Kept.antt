@@ -10,7 +10,7 @@ use Rattle.run_effects.specs.Given.TablesDeclared.setting.Setting.{Setting}
 use Rattle.run_effects.proofs.Given.TablesLists.{table_list}
 use Rattle.run_effects.specs.Given.RuleChart.{Chart}
 use Rattle.run_effects.specs.Given.RuleWords.{Blocks}
-use Rattle.run_effects.specs.Given.RuleInWorld.{IsOut, IsOwnBlock, IsIts, StaysTable, IsMapIn, Went}
+use Rattle.run_effects.specs.Given.RuleInWorld.{IsOut, IsOwnBlock, IsIts, StaysTable, IsMapIn, StepSpec}
 use Rattle.run_effects.proofs.Given.RuleWorld.BesideKept.{steps_spare_others}
 use Rattle.run_effects.proofs.Given.RuleWorld.WentTold.{went_as}
 use Rattle.run_effects.specs.declared.role.Role.{Role}
@@ -42,7 +42,7 @@ stays_none {K} {V} (node.Table (suc len) limit turn) after none stays = absurd (
 stays_none node.Shards after none stays = stays
 
 module _ {K V : Type 0} (same : K → K → Bool) (hash : K → ℕ) (setting : Setting) (caller : ℕ) (w : World (Node K V)) (c : Chart K) (blocks : Blocks)
-    (m2 : Mem (Node K V)) (Told : World (Node K V) → Chart K → Blocks → Type 0) (went : Went same hash setting caller w c blocks m2 Told) (is_map : IsMapIn same hash setting w c blocks) where
+    (m2 : Mem (Node K V)) (Told : World (Node K V) → Chart K → Blocks → Type 0) (went : StepSpec same hash setting caller w c blocks m2 Told) (is_map : IsMapIn same hash setting w c blocks) where
   abbrev pub NoMore : World (Node K V) → Chart K → Blocks → Type 0
   NoMore w2 c2 blocks2 = Unit {0}
 

@@ -9,17 +9,17 @@ use Rattle.run_effects.specs.Given.SchedulesEffects.{AtEachEffect, with_effects}
 use Rattle.run_effects.specs.Given.SchedulesMoment.{Moment}
 use Rattle.run_effects.specs.Given.RuleChart.{Chart}
 use Rattle.run_effects.specs.Given.RuleWords.{Blocks}
-use Rattle.run_effects.specs.Given.RuleInWorld.{IsMapIn, Went}
+use Rattle.run_effects.specs.Given.RuleInWorld.{IsMapIn, StepSpec}
 use Rattle.many_maps.specs.Given.PointsSteps.{AreLawful}
-use Rattle.many_maps.specs.Given.CallersSights.{Sight, seen_by, IsGrown, IsSight}
+use Rattle.many_maps.specs.Given.CallersSights.{Visible, seen_by, IsGrown, IsVisibility}
 use Rattle.many_maps.specs.Given.CallersTogether.{in_slot}
 use Rattle.many_maps.specs.Maps.{Standing}
 use Rattle.run_effects.specs.Effects.Known.{Known}
 use Rattle.run_effects.specs.declared.role.Role.{Role}
 use Rattle.run_effects.specs.declared.role.Role.TheVariants as role
-use Rattle.run_shows.specs.Follows.Blocks.{HasRole, ShowsBlocks}
+use Rattle.run_shows.specs.Follows.Blocks.{HasRole, RefinesBlocks}
 use Rattle.run_shows.specs.Follows.Finds.{FindsMap}
-use Rattle.run_shows.specs.Follows.Maps.{table_of, ShowsMap}
+use Rattle.run_shows.specs.Follows.Maps.{table_of, RefinesMap}
 use Rattle.run_shows.proofs.Follows.Alike.{IsAlike, alike_same, still_all}
 use Rattle.run_shows.proofs.Follows.Finds.{still_find}
 use Rattle.run_shows.proofs.Follows.Onward.{IsOfMap, KeepsRoles, StaysTables, StaysPairs, blocks_grown, map_on}
@@ -32,10 +32,10 @@ IsNew map c c2 blocks known b (role.Table t len) = (t ≡ table_of map c.past) �
 IsNew map c c2 blocks known b _ = ⊥
 
 module _ {K V : Type 0} (same : K → K → Bool) (slot caller map : ℕ) (name : Option (List ℕ)) (number : ℕ → ℕ) (s : Standing K) (lawful : AreLawful same s.hash)
-    (w : World (Node K V)) (sight : Sight) (is_sight : IsSight s.chart s.blocks sight) (is_map : IsMapIn same s.hash (in_slot s.setting slot) w s.chart (seen_by s.blocks sight))
+    (w : World (Node K V)) (sight : Visible) (is_sight : IsVisibility s.chart s.blocks sight) (is_map : IsMapIn same s.hash (in_slot s.setting slot) w s.chart (seen_by s.blocks sight))
     (m2 : Mem (Node K V)) (Told : World (Node K V) → Chart K → Blocks → Type 0)
-    (went : Went same s.hash (in_slot s.setting slot) caller w s.chart (seen_by s.blocks sight) m2 Told) (blocks2 : Blocks) (grown : IsGrown s.chart s.blocks went.blocks2 blocks2) (sights2 : ℕ → Sight)
-    (m : Moment K V) (known : Known) (shown : ShowsMap map number s m known) (shown_blocks : ShowsBlocks m known w) where
+    (went : StepSpec same s.hash (in_slot s.setting slot) caller w s.chart (seen_by s.blocks sight) m2 Told) (blocks2 : Blocks) (grown : IsGrown s.chart s.blocks went.blocks2 blocks2) (sights2 : ℕ → Visible)
+    (m : Moment K V) (known : Known) (shown : RefinesMap map number s m known) (shown_blocks : RefinesBlocks m known w) where
   -- the map after the step, and the moment after these effects
   abbrev pub after_step : Standing K
   after_step = record s { chart = went.c2; blocks = blocks2; sights = sights2 }
@@ -47,11 +47,11 @@ module _ {K V : Type 0} (same : K → K → Bool) (slot caller map : ℕ) (name 
     pub finds : AtEachEffect (FindsMap map) name (Some map) effects m
     pub number_then : ℕ → ℕ
     pub numbers : (n : ℕ) → n < s.chart.stored → number_then n ≡ number n
-    pub own : ShowsMap map number_then after_step (led effects) after
+    pub own : RefinesMap map number_then after_step (led effects) after
     pub others : (other : ℕ) → other ≢ map → IsAlike other m (led effects)
     pub keeps : KeepsRoles known after
     pub back : (b : ℕ) → IsOfMap (after.roles b) → (known.roles b ≡ after.roles b) ⊎ IsNew map s.chart went.c2 went.blocks2 known b (after.roles b)
-    pub blocks : ShowsBlocks (led effects) after went.w2
+    pub blocks : RefinesBlocks (led effects) after went.w2
 
   -- tables that the caller looks at have their roles
   pub tables_seen : (t : ℕ) → t < s.chart.past → sight.tables t ≡ true → known.roles (s.blocks.table t) ≡ role.Table (table_of map t) (s.chart.len t)

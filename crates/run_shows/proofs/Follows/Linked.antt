@@ -18,17 +18,17 @@ use Rattle.run_effects.specs.Given.SchedulesMoment.{IsLinked, Stage, MapThere, T
 use Rattle.run_effects.specs.Given.SchedulesViews.{tables_of}
 use Rattle.run_effects.specs.Given.RuleChart.{Chart}
 use Rattle.run_effects.specs.Given.RuleWords.{Blocks}
-use Rattle.run_effects.specs.Given.RuleInWorld.{IsMapIn, Went}
+use Rattle.run_effects.specs.Given.RuleInWorld.{IsMapIn, StepSpec}
 use Rattle.many_maps.specs.Given.PointsSteps.{AreLawful}
-use Rattle.many_maps.specs.Given.CallersSights.{Sight, seen_by, IsGrown, IsSight}
+use Rattle.many_maps.specs.Given.CallersSights.{Visible, seen_by, IsGrown, IsVisibility}
 use Rattle.many_maps.specs.Given.CallersTogether.{in_slot}
 use Rattle.many_maps.specs.Maps.{Standing}
 use Rattle.run_effects.specs.Effects.Known.{Known, with_role}
 use Rattle.run_effects.specs.declared.role.Role.{Role}
 use Rattle.run_effects.specs.declared.role.Role.TheVariants as role
-use Rattle.run_shows.specs.Follows.Blocks.{WasLinked, HasRole, ShowsBlocks}
+use Rattle.run_shows.specs.Follows.Blocks.{WasLinked, HasRole, RefinesBlocks}
 use Rattle.run_shows.specs.Follows.Finds.{MayBeRoot}
-use Rattle.run_shows.specs.Follows.Maps.{table_of, shape_at, tables_to, ShowsMap}
+use Rattle.run_shows.specs.Follows.Maps.{table_of, shape_at, tables_to, RefinesMap}
 use Rattle.run_shows.proofs.Follows.Alike.{put_here, put_elsewhere, linked_other, promoted_other}
 use Rattle.run_shows.proofs.Follows.Contents.{lasts_same}
 use Rattle.run_shows.proofs.Follows.Finds.{tables_many}
@@ -73,10 +73,10 @@ module _ {K : Type 0} (map : ℕ) (c : Chart K) where
       ∙ ap (λ (x : Stage). tables_to map c stage2 t ++ record { table = table_of map t; shape = shape_at map c t; stage = x } ∷ []) (sym (same t (omega arith)))
 
 module _ {K V : Type 0} (same : K → K → Bool) (slot caller map : ℕ) (name : Option (List ℕ)) (number : ℕ → ℕ) (s : Standing K) (lawful : AreLawful same s.hash)
-    (w : World (Node K V)) (sight : Sight) (is_sight : IsSight s.chart s.blocks sight) (is_map : IsMapIn same s.hash (in_slot s.setting slot) w s.chart (seen_by s.blocks sight))
+    (w : World (Node K V)) (sight : Visible) (is_sight : IsVisibility s.chart s.blocks sight) (is_map : IsMapIn same s.hash (in_slot s.setting slot) w s.chart (seen_by s.blocks sight))
     (m2 : Mem (Node K V)) (Told : World (Node K V) → Chart K → Blocks → Type 0)
-    (went : Went same s.hash (in_slot s.setting slot) caller w s.chart (seen_by s.blocks sight) m2 Told) (blocks2 : Blocks) (grown : IsGrown s.chart s.blocks went.blocks2 blocks2) (sights2 : ℕ → Sight)
-    (m : Moment K V) (known : Known) (shown : ShowsMap map number s m known) (shown_blocks : ShowsBlocks m known w)
+    (went : StepSpec same s.hash (in_slot s.setting slot) caller w s.chart (seen_by s.blocks sight) m2 Told) (blocks2 : Blocks) (grown : IsGrown s.chart s.blocks went.blocks2 blocks2) (sights2 : ℕ → Visible)
+    (m : Moment K V) (known : Known) (shown : RefinesMap map number s m known) (shown_blocks : RefinesBlocks m known w)
     (values : (b : ℕ) → value_at m2 b ≡ value_at w.memory b) (pairs : StaysPairs s.chart went.c2) where
   abbrev c : Chart K
   c = s.chart
@@ -129,7 +129,7 @@ module _ {K V : Type 0} (same : K → K → Bool) (slot caller map : ℕ) (name 
     keeps : KeepsRoles known (with_role b its_role known)
     keeps x lasting = put_elsewhere b its_role known.roles x (λ e. subst IsLasting (ap known.roles e ∙ was_own) lasting)
 
-    blocks_linked : (v : Moment K V) → v.stored ≡ m.stored → ShowsBlocks v (with_role b its_role known) went.w2
+    blocks_linked : (v : Moment K V) → v.stored ≡ m.stored → RefinesBlocks v (with_role b its_role known) went.w2
     blocks_linked v same_so = record {
       roles = λ x. elim (cases_eq x b) as (λ _. HasRole went.w2 v.stored x (put b its_role known.roles x)) [
         | inl e ↦ subst (λ (r : Role). HasRole went.w2 v.stored x r) (sym (put_here b its_role known.roles x e))

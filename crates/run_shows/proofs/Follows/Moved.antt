@@ -22,17 +22,17 @@ use Rattle.run_effects.specs.Given.SchedulesMoment.{Moment}
 use Rattle.run_effects.specs.declared.changed.Changed.{Changed}
 use Rattle.run_effects.specs.declared.changed.Changed.TheVariants as changed
 use Rattle.run_effects.specs.Tells.Seen.{Seen, Wrote}
-use Rattle.run_effects.specs.Tells.Tells.{place_at, last_link, KeepsNames, IsQuiet, new_word, IsSeenAs, IsTold}
+use Rattle.run_effects.specs.Tells.Tells.{place_at, last_link, PreservesNames, IsSilent, new_word, IsSeenAs, IsObserved}
 use Rattle.run_effects.specs.Given.RuleChart.{Phase, Still, Copying, Empty, Holds, Chart}
 use Rattle.many_maps.specs.Given.RuleMoves.{Move, Links, Stores, Replaces, Removes, Marks, MarksBlocking, Skips, Unmarks, Puts, Covers, PutsLate, Claims, Reclaims, Counts, GivesUp, Aborts, Promotes, Announces, Allowed, after, without}
 use Rattle.run_effects.specs.Given.RuleWords.{Blocks, byte_of, place_word}
 use Rattle.run_effects.specs.Given.RuleMaps.{spot_of}
-use Rattle.run_effects.specs.Given.RuleInWorld.{IsMapIn, Moved, Went}
+use Rattle.run_effects.specs.Given.RuleInWorld.{IsMapIn, Moved, StepSpec}
 use Rattle.many_maps.proofs.Given.RuleMoves.Writes.{put_in_here}
 use Rattle.run_effects.proofs.Given.RuleLaws.{words_name_pairs, bytes_are_few}
 use Rattle.run_effects.proofs.Given.RuleWords.TablesSeen.{block_of_link}
 use Rattle.many_maps.specs.Given.PointsSteps.{AreLawful}
-use Rattle.many_maps.specs.Given.CallersSights.{Sight, seen_by, IsGrown, IsSight}
+use Rattle.many_maps.specs.Given.CallersSights.{Visible, seen_by, IsGrown, IsVisibility}
 use Rattle.many_maps.specs.Given.CallersTogether.{in_slot}
 use Rattle.many_maps.specs.Maps.{Standing}
 use Rattle.run_effects.specs.Effects.Effects.{spot_at, effects_of, known_after}
@@ -40,9 +40,9 @@ use Rattle.run_effects.specs.Effects.Known.{Known, with_pair, with_role}
 use Rattle.run_effects.specs.declared.acting.Acting.{Acting}
 use Rattle.run_effects.specs.declared.acting.Acting.TheVariants.{Call}
 use Rattle.run_effects.specs.declared.role.Role.TheVariants as role
-use Rattle.run_shows.specs.Follows.Blocks.{ShowsBlocks}
+use Rattle.run_shows.specs.Follows.Blocks.{RefinesBlocks}
 use Rattle.run_shows.specs.Follows.Finds.{MayBeRoot}
-use Rattle.run_shows.specs.Follows.Maps.{table_of, ShowsMap}
+use Rattle.run_shows.specs.Follows.Maps.{table_of, RefinesMap}
 use Rattle.run_shows.specs.Follows.Steps.{named_now, HasToStore, HasPair}
 use Rattle.run_shows.proofs.Follows.Finds.{may_stand, may_be_root}
 use Rattle.run_shows.proofs.Follows.Gives.{Gives, stores_none}
@@ -55,10 +55,10 @@ use Rattle.run_shows.proofs.Follows.Told.{IsQuiet as IsStill, as_before, quiet_t
 use Rattle.run_shows.proofs.Follows.Writes.{Says, nothing_free, place_says, next_says, root_says}
 
 module _ {K V : Type 0} (same : K → K → Bool) (slot caller map : ℕ) (name : Option (List ℕ)) (number : ℕ → ℕ) (s : Standing K) (lawful : AreLawful same s.hash)
-    (w : World (Node K V)) (sight : Sight) (is_sight : IsSight s.chart s.blocks sight) (is_map : IsMapIn same s.hash (in_slot s.setting slot) w s.chart (seen_by s.blocks sight))
+    (w : World (Node K V)) (sight : Visible) (is_sight : IsVisibility s.chart s.blocks sight) (is_map : IsMapIn same s.hash (in_slot s.setting slot) w s.chart (seen_by s.blocks sight))
     (m2 : Mem (Node K V)) (Told : World (Node K V) → Chart K → Blocks → Type 0)
-    (went : Went same s.hash (in_slot s.setting slot) caller w s.chart (seen_by s.blocks sight) m2 Told) (blocks2 : Blocks) (grown : IsGrown s.chart s.blocks went.blocks2 blocks2) (sights2 : ℕ → Sight)
-    (m : Moment K V) (known : Known) (shown : ShowsMap map number s m known) (shown_blocks : ShowsBlocks m known w) where
+    (went : StepSpec same s.hash (in_slot s.setting slot) caller w s.chart (seen_by s.blocks sight) m2 Told) (blocks2 : Blocks) (grown : IsGrown s.chart s.blocks went.blocks2 blocks2) (sights2 : ℕ → Visible)
+    (m : Moment K V) (known : Known) (shown : RefinesMap map number s m known) (shown_blocks : RefinesBlocks m known w) where
   abbrev c : Chart K
   c = s.chart
 
@@ -131,7 +131,7 @@ module _ {K V : Type 0} (same : K → K → Bool) (slot caller map : ℕ) (name 
     stays : (at : At) (old new : ℕ) → told ≡ changed.Wrote at old new → (b : ℕ) → StaysThere w.memory m2 b
     stays at old new e b = record { gone = λ none. values at old new e b ∙ none; there = λ value is. (value, values at old new e b ∙ is) }
 
-    still_leads : ((at : At) (old new : ℕ) → told ≡ changed.Wrote at old new → KeepsNames setting c seen_blocks at old new) → StaysTables c went.c2 → StaysPairs c went.c2 → Comes
+    still_leads : ((at : At) (old new : ℕ) → told ≡ changed.Wrote at old new → PreservesNames setting c seen_blocks at old new) → StaysTables c went.c2 → StaysPairs c went.c2 → Comes
     still_leads quiet tables pairs =
         let still = quiet_told same s.hash setting caller w s.chart seen_blocks m2 Told went is_map map m.stored known shown_blocks.roles shown_blocks.once
         (tables_seen same slot caller map name number s lawful w sight is_sight is_map m2 Told went blocks2 grown sights2 m known shown shown_blocks) told left quiet in
@@ -139,8 +139,8 @@ module _ {K V : Type 0} (same : K → K → Bool) (slot caller map : ℕ) (name 
 
     module _ (seen : Seen (Node K V)) (as_told : (at : At) (old new : ℕ) → seen ≡ Wrote at old new → told ≡ changed.Wrote at old new)
         (as_seen : (at : At) (old new : ℕ) → told ≡ changed.Wrote at old new → seen ≡ Wrote at old new) where
-      calm : IsQuiet setting c seen_blocks seen → StaysTables c went.c2 → StaysPairs c went.c2 → Comes
-      calm quiet tables pairs = still_leads (λ at old new e. subst (IsQuiet setting c seen_blocks) (as_seen at old new e) quiet) tables pairs
+      calm : IsSilent setting c seen_blocks seen → StaysTables c went.c2 → StaysPairs c went.c2 → Comes
+      calm quiet tables pairs = still_leads (λ at old new e. subst (IsSilent setting c seen_blocks) (as_seen at old new e) quiet) tables pairs
 
       module _ (move : Move K) (is : went.c2 ≡ after (spot_of s.hash) incremental move c) where
         abbrev d : Chart K
@@ -156,7 +156,7 @@ module _ {K V : Type 0} (same : K → K → Bool) (slot caller map : ℕ) (name 
         calm_pairs : StaysPairs c d → StaysPairs c went.c2
         calm_pairs h = record { stored = ap (λ (x : Chart K). x.stored) is ∙ h.stored; current = λ n l. ap (λ (x : Chart K). x.current n) is ∙ h.current n l }
 
-        calm_by : IsQuiet setting c seen_blocks seen → StaysTables c d → StaysPairs c d → Comes
+        calm_by : IsSilent setting c seen_blocks seen → StaysTables c d → StaysPairs c d → Comes
         calm_by quiet tables pairs = calm quiet (calm_tables tables) (calm_pairs pairs)
 
       -- a pair is copied into an empty place of a table that is seen
@@ -466,9 +466,9 @@ module _ {K V : Type 0} (same : K → K → Bool) (slot caller map : ℕ) (name 
       by_move (Announces t) allowed is saw = calm_by (Announces t) is saw (record { past = refl; first = refl; lens = λ u l. (refl, refl) }) (record { stored = refl; current = λ o l. refl })
 
       -- and so does a step that made none
-      pub by_moved : IsTold s.hash setting c seen_blocks went.c2 went.blocks2 same caller went.moved seen → Comes
+      pub by_moved : IsObserved s.hash setting c seen_blocks went.c2 went.blocks2 same caller went.moved seen → Comes
       by_moved saw = by went.moved saw
         where
-          by : (moved : Moved same s.hash setting.mode caller c went.c2) → IsTold s.hash setting c seen_blocks went.c2 went.blocks2 same caller moved seen → Comes
+          by : (moved : Moved same s.hash setting.mode caller c went.c2) → IsObserved s.hash setting c seen_blocks went.c2 went.blocks2 same caller moved seen → Comes
           by (inl still) quiet = calm quiet (subst (StaysTables c) (sym still) (tables_same c)) (subst (StaysPairs c) (sym still) (pairs_same c))
           by (inr made) saw = by_move made.0 made.1 made.2 saw

@@ -10,7 +10,7 @@ use Rattle.many_maps.specs.Maps.{Standing}
 use Rattle.run_effects.specs.Effects.Known.{Known}
 use Rattle.run_effects.specs.declared.role.Role.{Role}
 use Rattle.run_effects.specs.declared.role.Role.TheVariants as role
-use Rattle.run_shows.specs.Follows.Maps.{table_of, shape_at, tables_to, ShowsPairs, ShowsTables, ShowsThere, ShowsMap}
+use Rattle.run_shows.specs.Follows.Maps.{table_of, shape_at, tables_to, RefinesPairs, RefinesTables, RefinesPresence, RefinesMap}
 use Rattle.run_shows.proofs.Follows.Alike.{AlikePairs, AlikeTables, IsAlike}
 
 -- a block that was linked, or that is a counter
@@ -85,7 +85,7 @@ module _ {K V : Type 0} (map : ℕ) (number : ℕ → ℕ) (s s2 : Standing K) (
     before : (n : ℕ) → n < s2.chart.stored → n < s.chart.stored
     before n l = let e = chart.stored in omega (arith, l, e)
 
-    pub pairs_on : ShowsPairs map number s m known → ShowsPairs map number s2 m2 known2
+    pub pairs_on : RefinesPairs map number s m known → RefinesPairs map number s2 m2 known2
     pairs_on h = record {
       roles = λ n l seen.
           let k = blocks.pairs n (before n l) seen in
@@ -99,7 +99,7 @@ module _ {K V : Type 0} (map : ℕ) (number : ℕ → ℕ) (s s2 : Standing K) (
     }
 
   module _ (setting : s2.setting ≡ s.setting) (chart : StaysTables s.chart s2.chart) (alike : AlikeTables map m m2) where
-    pub there_on : ShowsThere map s m known → ShowsThere map s2 m2 known2
+    pub there_on : RefinesPresence map s m known → RefinesPresence map s2 m2 known2
     there_on h = record {
       there = h.there;
       is = alike.there ∙ h.is;
@@ -111,7 +111,7 @@ module _ {K V : Type 0} (map : ℕ) (number : ℕ → ℕ) (s s2 : Standing K) (
     table_before : (t : ℕ) → t < s2.chart.past → t < s.chart.past
     table_before t l = let e = chart.past in omega (arith, l, e)
 
-    pub tables_on : ShowsTables map s m known → ShowsTables map s2 m2 known2
+    pub tables_on : RefinesTables map s m known → RefinesTables map s2 m2 known2
     tables_on h = record {
       roles = λ t l seen.
           let k = blocks.tables t (table_before t l) seen in
@@ -125,7 +125,7 @@ module _ {K V : Type 0} (map : ℕ) (number : ℕ → ℕ) (s s2 : Standing K) (
   pub counter_on : s2.setting ≡ s.setting → known.roles s.setting.counter ≡ role.Counter map → known2.roles s2.setting.counter ≡ role.Counter map
   counter_on setting is = ap (λ (x : Setting). known2.roles x.counter) setting ∙ keeps s.setting.counter (subst IsLasting (sym is) tt) ∙ is
 
-  pub map_on : s2.setting ≡ s.setting → StaysTables s.chart s2.chart → StaysPairs s.chart s2.chart → IsAlike map m m2 → ShowsMap map number s m known → ShowsMap map number s2 m2 known2
+  pub map_on : s2.setting ≡ s.setting → StaysTables s.chart s2.chart → StaysPairs s.chart s2.chart → IsAlike map m m2 → RefinesMap map number s m known → RefinesMap map number s2 m2 known2
   map_on setting tables pairs alike h = record {
     there = there_on setting tables alike.tables h.there;
     pairs = pairs_on pairs alike.pairs h.pairs;

@@ -12,7 +12,7 @@ use Rattle.run_effects.specs.Given.TablesDeclared.node.Node.{Node}
 use Rattle.run_effects.specs.Tells.Seen.{Seen, Unseen, Wrote, MadeOne, HadNoRoom, TookAway, NewValue, seen_of}
 use Rattle.run_effects.proofs.Tells.Kept.{seen_kept}
 use Rattle.run_effects.specs.ReportingMemory.Changed.{kind_of}
-use Rattle.run_effects.specs.ReportingMemory.Tells.{told_of, StepsTold}
+use Rattle.run_effects.specs.ReportingMemory.Tells.{observed_of, StepsObserved}
 use Rattle.run_effects.specs.declared.changed.Changed.{Changed}
 use Rattle.run_effects.specs.declared.changed.Changed.TheVariants as changed
 
@@ -40,7 +40,7 @@ module _ {K V : Type 0} (m m2 : Mem (Node K V)) where
   wrote : (at : At) (old new : ℕ) → (word_at m at ≡ Some old) × (word_at m2 at ≡ Some new) → IsSome (word_at m at) → m2 ≡ with_word m at new → LeavesBy (changed.Wrote at old new)
   wrote at old new is some e = (is.0, is.1, λ b. ap (λ (n : Mem (Node K V)). value_at n b) e ∙ value_at-with_word m at new b some)
 
-  pub leaves : (op : Op (Node K V)) (out : Out (Node K V)) → Can m op → Took m op out m2 → LeavesBy (told_of op out (seen_of m op out))
+  pub leaves : (op : Op (Node K V)) (out : Out (Node K V)) → Can m op → Took m op out m2 → LeavesBy (observed_of op out (seen_of m op out))
   leaves (Load at) out can took = stays_same took.1
   leaves (Store at word) out can took = wrote at _ word (seen_kept m m2 at _ word (Store at word) out can took refl) can took.1
   leaves (Swap at word) (Found before) can took = wrote at before word (seen_kept m m2 at before word (Swap at word) (Found before) can took refl) can took.1
@@ -110,7 +110,7 @@ module _ {K V : Type 0} (m m2 : Mem (Node K V)) where
   leaves (Room bucket) (Taken got) can took = absurd took.0
 
 module _ {K V : Type 0} where
-  unseen_no_write : (at : At) (old new : ℕ) (op : Op (Node K V)) (out : Out (Node K V)) → told_of op out Unseen ≡ changed.Wrote at old new → ⊥
+  unseen_no_write : (at : At) (old new : ℕ) (op : Op (Node K V)) (out : Out (Node K V)) → observed_of op out Unseen ≡ changed.Wrote at old new → ⊥
   unseen_no_write at old new (Load x) out e = cc e
   unseen_no_write at old new (Store x word) out e = cc e
   unseen_no_write at old new (Swap x word) out e = cc e
@@ -128,7 +128,7 @@ module _ {K V : Type 0} where
   unseen_no_write at old new (Room bucket) (Roomed got) e = cc e
 
   -- a word is told as written just where it is seen so
-  pub seen_write : (at : At) (old new : ℕ) (op : Op (Node K V)) (out : Out (Node K V)) (seen : Seen (Node K V)) → told_of op out seen ≡ changed.Wrote at old new → seen ≡ Wrote at old new
+  pub seen_write : (at : At) (old new : ℕ) (op : Op (Node K V)) (out : Out (Node K V)) (seen : Seen (Node K V)) → observed_of op out seen ≡ changed.Wrote at old new → seen ≡ Wrote at old new
   seen_write at old new op out (Wrote x was is) e =
       let x_is : x ≡ at = cc e in let was_is : was ≡ old = cc e in let is_is : is ≡ new = cc e in rw (x_is, was_is, is_is) refl
   seen_write at old new op out (MadeOne value b) e = absurd (cc e)
@@ -137,8 +137,8 @@ module _ {K V : Type 0} where
   seen_write at old new op out (NewValue b value) e = absurd (cc e)
   seen_write at old new op out Unseen e = absurd (unseen_no_write at old new op out e)
 
-  pub told_write : (at : At) (old new : ℕ) (op : Op (Node K V)) (out : Out (Node K V)) (seen : Seen (Node K V)) → seen ≡ Wrote at old new → told_of op out seen ≡ changed.Wrote at old new
-  told_write at old new op out seen e = ap (told_of op out) e
+  pub told_write : (at : At) (old new : ℕ) (op : Op (Node K V)) (out : Out (Node K V)) (seen : Seen (Node K V)) → seen ≡ Wrote at old new → observed_of op out seen ≡ changed.Wrote at old new
+  told_write at old new op out seen e = ap (observed_of op out) e
 
   -- a step was taken, of which this is told: it made one operation, or none
   pub record MadeOperation (m m2 : Mem (Node K V)) (told : Changed) : Type 0 where
@@ -146,13 +146,13 @@ module _ {K V : Type 0} where
     pub out : Out (Node K V)
     pub can : Can m op
     pub took : Took m op out m2
-    pub is : told ≡ told_of op out (seen_of m op out)
+    pub is : told ≡ observed_of op out (seen_of m op out)
 
   abbrev pub Operated : Mem (Node K V) → Mem (Node K V) → Changed → Type 0
   Operated m m2 told = ((m2 ≡ m) × (told ≡ changed.Nothing)) ⊎ MadeOperation m m2 told
 
   pub operated : {R : Type 0} (m m2 : Mem (Node K V)) (told : Changed) (plan : Plan (Node K V) R) (end : R) → May Can Took value_at m plan
-      → StepsTold K V R m changed.Nothing plan m2 told end → Operated m m2 told
+      → StepsObserved K V R m changed.Nothing plan m2 told end → Operated m m2 told
   operated m m2 told (Turn rest) end may steps = inl (steps.0, steps.2)
   operated m m2 told (Do op rest) end may steps = inr (record { op = op; out = steps.0; can = may.0; took = steps.1.0; is = steps.1.1 })
 

@@ -16,7 +16,7 @@ use Rattle.run_effects.specs.Given.SchedulesViews.{is_in_map}
 use Rattle.many_maps.specs.Maps.{Standing}
 use Rattle.run_effects.specs.Effects.Known.{Known}
 use Rattle.run_effects.specs.declared.role.Role.TheVariants as role
-use Rattle.run_shows.specs.Follows.Maps.{table_of, ShowsPairs}
+use Rattle.run_shows.specs.Follows.Maps.{table_of, RefinesPairs}
 use Rattle.run_shows.specs.Follows.Steps.{HasPair}
 use Rattle.run_shows.proofs.Follows.Alike.{put_here, put_elsewhere}
 use Rattle.run_shows.proofs.Follows.Onward.{IsLasting, KeepsRoles, StaysBlocks}
@@ -34,7 +34,7 @@ pub one_more_stored : {K V : Type 0} (memory : Mem (Node K V)) (b : ℕ) (before
 one_more_stored memory b before after one = ap length one.2 ∙ length-append before ((one.0, one.1) ∷ [])
 
 module _ {K V : Type 0} (map : ℕ) (number : ℕ → ℕ) (s s2 : Standing K) (m v : Moment K V) (known known2 : Known)
-    (blocks : StaysBlocks s.chart s.blocks s2.blocks) (keeps : KeepsRoles known known2) (shown : ShowsPairs map number s m known) where
+    (blocks : StaysBlocks s.chart s.blocks s2.blocks) (keeps : KeepsRoles known known2) (shown : RefinesPairs map number s m known) where
   -- other pairs have other numbers
   apart : (n o : ℕ) → n < s.chart.stored → o < s.chart.stored → n ≢ o → number n ≢ number o
   apart n o l l2 ne e = elim (cases_lt n o) as (λ _. ⊥) [
@@ -66,7 +66,7 @@ module _ {K V : Type 0} (map : ℕ) (number : ℕ → ℕ) (s s2 : Standing K) (
     ]
 
     -- a pair has left
-    pub goes_out : ShowsPairs map number s2 v known2
+    pub goes_out : RefinesPairs map number s2 v known2
     goes_out = record {
       roles = λ n l seen. role_on n (before n l) seen;
       numbered = λ n l. let k = shown.numbered n (before n l) in (k.0, let le = k.1 in omega (arith, le, as_many));
@@ -141,5 +141,5 @@ module _ {K V : Type 0} (map : ℕ) (number : ℕ → ℕ) (s s2 : Standing K) (
     ]
 
     -- a pair has come in
-    pub comes_in : ShowsPairs map number_then s2 v known2
+    pub comes_in : RefinesPairs map number_then s2 v known2
     comes_in = record { roles = in_roles; numbered = in_numbered; rising = in_rising; born = in_born; here = in_here; all = in_all }

@@ -15,10 +15,10 @@ use Rattle.run_effects.specs.Given.TablesDeclared.table_words.TheConstants.{NEXT
 use Rattle.run_effects.proofs.Given.TablesLists.{table_list}
 use Rattle.run_effects.specs.Given.RunsDeclared.effect.Effect.{Effect}
 use Rattle.run_effects.specs.Given.RunsDeclared.effect.TableId.{TableId}
-use Rattle.run_effects.specs.Tells.Tells.{KeepsNames}
+use Rattle.run_effects.specs.Tells.Tells.{PreservesNames}
 use Rattle.run_effects.specs.Given.RuleChart.{Chart}
 use Rattle.run_effects.specs.Given.RuleWords.{Blocks}
-use Rattle.run_effects.specs.Given.RuleInWorld.{IsOut, InFootprint, IsMapIn, Went}
+use Rattle.run_effects.specs.Given.RuleInWorld.{IsOut, InFootprint, IsMapIn, StepSpec}
 use Rattle.run_effects.specs.Effects.Effects.{names_same, led_to, is_place, placed, spot_at, carried, followed_by, in_table, in_block, batched, named, written_by, linked_on, stored_on, in_table_on, in_block_on, written_on}
 use Rattle.run_effects.specs.Effects.Known.{Known}
 use Rattle.run_effects.specs.declared.acting.Acting.{Acting}
@@ -56,7 +56,7 @@ place_of_field : (len field : ℕ) → is_place len field ≡ true → (PLACES �
 place_of_field len field e = (grind (arith, e), grind (arith, e))
 
 module _ {K V : Type 0} (same : K → K → Bool) (hash : K → ℕ) (setting : Setting) (caller : ℕ) (w : World (Node K V)) (c : Chart K) (blocks : Blocks)
-    (m2 : Mem (Node K V)) (Told : World (Node K V) → Chart K → Blocks → Type 0) (went : Went same hash setting caller w c blocks m2 Told) (is_map : IsMapIn same hash setting w c blocks)
+    (m2 : Mem (Node K V)) (Told : World (Node K V) → Chart K → Blocks → Type 0) (went : StepSpec same hash setting caller w c blocks m2 Told) (is_map : IsMapIn same hash setting w c blocks)
     (map : ℕ) (stored : List (K × V)) (known : Known) (roles : (b : ℕ) → HasRole w stored b (known.roles b))
     (tables : (t : ℕ) → t < c.past → blocks.table_known t ≡ true → known.roles (blocks.table t) ≡ role.Table (table_of map t) (c.len t)) where
   abbrev acting : Acting
@@ -118,7 +118,7 @@ module _ {K V : Type 0} (same : K → K → Bool) (hash : K → ℕ) (setting : 
       cc (now, is)
 
   module _ (b field old new : ℕ) (was : word_at w.memory (Word b field) ≡ Some old) (is : word_at m2 (Word b field) ≡ Some new)
-      (quiet : KeepsNames setting c blocks (Word b field) old new) (before after : Role) where
+      (quiet : PreservesNames setting c blocks (Word b field) old new) (before after : Role) where
     abbrev Does : Role → Bool → Type 0
     Does r q = DoneStill known (in_block acting r field known.stored q before after) (in_block_on acting r field q (block_in new) after known)
 
@@ -185,7 +185,7 @@ module _ {K V : Type 0} (same : K → K → Bool) (hash : K → ℕ) (setting : 
     entry_does (role.Counter of) has = none_retires (names_same old new)
 
   -- a word was written, and goes on naming what it named
-  pub written_still : (at : At) (old new : ℕ) → word_at w.memory at ≡ Some old → word_at m2 at ≡ Some new → KeepsNames setting c blocks at old new
+  pub written_still : (at : At) (old new : ℕ) → word_at w.memory at ≡ Some old → word_at m2 at ≡ Some new → PreservesNames setting c blocks at old new
       → DoneStill known (written_by acting known at old new) (written_on acting at old new known)
   written_still (Root r) old new was is quiet = subst Does (sym (same_name old new kept)) (tt, refl)
     where

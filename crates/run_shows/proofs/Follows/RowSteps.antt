@@ -20,10 +20,10 @@ use Rattle.run_effects.specs.declared.acting.Acting.{Acting}
 use Rattle.run_effects.specs.declared.acting.Acting.TheVariants.{Call}
 use Rattle.run_effects.specs.declared.role.Role.{Role}
 use Rattle.run_effects.specs.declared.role.Role.TheVariants as role
-use Rattle.run_shows.specs.Follows.Blocks.{HasRole, ShowsBlocks}
-use Rattle.run_shows.specs.Follows.Calls.{ShowsCalls}
-use Rattle.run_shows.specs.Follows.Maps.{ShowsMap}
-use Rattle.run_shows.specs.Follows.Shows.{Shows}
+use Rattle.run_shows.specs.Follows.Blocks.{HasRole, RefinesBlocks}
+use Rattle.run_shows.specs.Follows.Calls.{RefinesCalls}
+use Rattle.run_shows.specs.Follows.Maps.{RefinesMap}
+use Rattle.run_shows.specs.Follows.Shows.{Refines}
 use Rattle.run_shows.specs.Follows.Steps.{HandTheirs, TakesNone}
 use Rattle.run_shows.proofs.Follows.Alike.{alike_same}
 use Rattle.run_shows.proofs.Follows.Going.{ShowsOn}
@@ -38,7 +38,7 @@ use Rattle.run_shows.specs.Scenes.Scene.{Scene, slot_of}
 use Rattle.run_shows.specs.Scenes.Stepping.{StepLeads, scene_after}
 use Rattle.seize_words.proofs.General.{same_some as one_of}
 
-module _ {K V : Type 0} (caller map : ℕ) (m : Moment K V) (known : Known) (w w2 : World (Node K V)) (shown : ShowsBlocks m known w) (leaves : RowLeaves w w2) where
+module _ {K V : Type 0} (caller map : ℕ) (m : Moment K V) (known : Known) (w w2 : World (Node K V)) (shown : RefinesBlocks m known w) (leaves : RowLeaves w w2) where
   abbrev its : Acting
   its = Call caller map
 
@@ -91,7 +91,7 @@ module _ {K V : Type 0} (caller map : ℕ) (m : Moment K V) (known : Known) (w w
       let same = roomed_as_many its known bucket had in record { hands = roomed_hands (had && nat_lt bucket known.buckets); roles = same.0; as_many = same.1; has = all_have left }
 
 module _ {K V : Type 0} (same : K → K → Bool) (hash : ℕ → K → ℕ) (m : Moment K V) (known : Known) (s : Scene K V) (old new : Held K V) (at : IsAt same hash old s)
-    (name : ℕ → List ℕ) (shown : Shows same name m known s)
+    (name : ℕ → List ℕ) (shown : Refines same name m known s)
     (map i : ℕ) (standing : Standing K) (there : s.maps map ≡ Some standing) (caller : List ℕ)
     (made : Operated s.world.memory new.memory new.changed) (none : TakesNone new.changed)
     (hands : HandTheirs caller map (effects_of (Call i map) known new.changed) m)
@@ -124,20 +124,20 @@ module _ {K V : Type 0} (same : K → K → Bool) (hash : ℕ → K → ℕ) (m 
   same_stored = hands_same caller map m effects done.hands
 
   module _ (w3 : World (Node K V)) (maps2 : ℕ → Option (Standing K)) (w_is : w3 ≡ w2) (maps_same : (n : ℕ) → IsSameMap (s.maps n) (maps2 n)) where
-    map_then : (n : ℕ) (o : Option (Standing K)) → s.maps n ≡ o → IsSameMap o (maps2 n) → (st : Standing K) → maps2 n ≡ Some st → ShowsMap n (shown.number n) st v after
+    map_then : (n : ℕ) (o : Option (Standing K)) → s.maps n ≡ o → IsSameMap o (maps2 n) → (st : Standing K) → maps2 n ≡ Some st → RefinesMap n (shown.number n) st v after
     map_then n None e gone st is = absurd (cc (gone, is))
     map_then n (Some before) e (blocks, sights, here, part) st is =
         let now = record before { blocks = blocks; sights = sights } in
         let with_known = hands_shown caller map n (shown.number n) before blocks sights m known (blocks_part before.chart before.blocks blocks part) (shown.maps n before e) effects done.hands hands in
-        subst (λ (x : Standing K). ShowsMap n (shown.number n) x v after) (one_of now st (sym here ∙ is))
+        subst (λ (x : Standing K). RefinesMap n (shown.number n) x v after) (one_of now st (sym here ∙ is))
         (map_on n (shown.number n) now now v v known after (blocks_same before.chart blocks) (λ b lasting. ap (λ (f : ℕ → Role). f b) done.roles) refl (tables_same before.chart) (pairs_same before.chart)
         (alike_same n v v (record { place = refl; born = refl; maps = refl; tables = refl; stored = refl })) with_known)
 
-    module _ (rest : Scene K V) (calls : ShowsCalls same name v rest.calls) where
+    module _ (rest : Scene K V) (calls : RefinesCalls same name v rest.calls) where
       pub row_shown : ShowsOn same name m known s shown v after (record rest { world = w3; maps = maps2 })
       row_shown = record {
         shows = record {
-          blocks = subst (λ (x : World (Node K V)). ShowsBlocks v after x) (sym w_is) (record {
+          blocks = subst (λ (x : World (Node K V)). RefinesBlocks v after x) (sym w_is) (record {
             roles = λ b. subst (λ (xs : List (K × V)). HasRole w2 xs b (after.roles b)) (sym same_stored) (subst (λ (f : ℕ → Role). HasRole w2 m.stored b (f b)) (sym done.roles) (done.has b));
             once = λ b d n is is2. shown.blocks.once b d n (ap (λ (f : ℕ → Role). f b) (sym done.roles) ∙ is) (ap (λ (f : ℕ → Role). f d) (sym done.roles) ∙ is2);
             stored = done.as_many ∙ shown.blocks.stored ∙ sym (ap length same_stored);
@@ -155,7 +155,7 @@ module _ {K V : Type 0} (same : K → K → Bool) (hash : ℕ → K → ℕ) (m 
 
 -- so it is for whichever kind of call
 module _ {K V : Type 0} (same : K → K → Bool) (hash : ℕ → K → ℕ) (name : ℕ → List ℕ) (m : Moment K V) (known : Known) (s : Scene K V) (old new : Held K V) (at : IsAt same hash old s)
-    (shown : Shows same name m known s) (map i : ℕ) (u : UnderWay K V K) (here : s.calls map i ≡ Some u) (told : Progress (Node K V)) (leads : StepLeads same hash i told s old new) where
+    (shown : Refines same name m known s) (map i : ℕ) (u : UnderWay K V K) (here : s.calls map i ≡ Some u) (told : Progress (Node K V)) (leads : StepLeads same hash i told s old new) where
   abbrev to : WentTo same hash name m known s old new at shown map i u here told leads
   to = went_to same hash name m known s old new at shown map i u here told leads
 

@@ -19,23 +19,23 @@ use Rattle.run_effects.specs.Given.SchedulesViews.{map_at}
 use Rattle.run_effects.specs.declared.changed.Changed.{Changed}
 use Rattle.run_effects.specs.declared.changed.Changed.TheVariants as changed
 use Rattle.run_effects.specs.Tells.Seen.{Seen, Unseen, Wrote, seen_of}
-use Rattle.run_effects.specs.Tells.Tells.{IsTold}
+use Rattle.run_effects.specs.Tells.Tells.{IsObserved}
 use Rattle.run_effects.proofs.Tells.Promised.{operations_tell, still_steps_tell}
 use Rattle.run_effects.specs.Given.RuleChart.{Chart}
 use Rattle.many_maps.specs.Given.RuleLasts.{Lasts}
 use Rattle.run_effects.specs.Given.RuleMaps.{spot_of}
 use Rattle.run_effects.specs.Given.RuleWords.{Blocks}
-use Rattle.run_effects.specs.Given.RuleInWorld.{IsIts, IsMapIn, Went}
+use Rattle.run_effects.specs.Given.RuleInWorld.{IsIts, IsMapIn, StepSpec}
 use Rattle.run_effects.proofs.Given.RuleWorld.BesideKept.{steps_spare_others}
 use Rattle.run_effects.proofs.Given.RuleWorld.WentTold.{went_as}
 use Rattle.many_maps.specs.Given.PointsSteps.{AreLawful}
 use Rattle.many_maps.proofs.Given.PointsMovedLasts.{moved_lasts}
-use Rattle.many_maps.specs.Given.CallersSights.{Sight, seen_by, IsGrown, IsSight}
+use Rattle.many_maps.specs.Given.CallersSights.{Visible, seen_by, IsGrown, IsVisibility}
 use Rattle.many_maps.specs.Given.CallersTogether.{UnderWay, UnlessCounts, OnKey, ForRoom, Counting, OverAll, in_slot, Together}
 use Rattle.many_maps.proofs.Given.CallersSights.Seen.{map_seen}
 use Rattle.many_maps.proofs.Given.CallersTogether.At.{at_other, at_same}
 use Rattle.many_maps.proofs.Given.CallersTogether.Fits.{map_in_slot}
-use Rattle.many_maps.specs.Machines.{machine_of, MachineStepsAmong}
+use Rattle.many_maps.specs.Machines.{machine_of, MachineStepsWithEndings}
 use Rattle.many_maps.specs.Maps.{Standing, IsSameMap, with_call}
 use Rattle.run_effects.specs.Effects.Effects.{effects_of, known_after}
 use Rattle.run_effects.specs.Effects.Known.{Known}
@@ -43,11 +43,11 @@ use Rattle.run_effects.specs.declared.acting.Acting.{Acting}
 use Rattle.run_effects.specs.declared.acting.Acting.TheVariants.{Call}
 use Rattle.run_effects.specs.declared.role.Role.{Role}
 use Rattle.run_effects.specs.declared.role.Role.TheVariants as role
-use Rattle.run_shows.specs.Follows.Blocks.{HasRole, ShowsBlocks}
-use Rattle.run_shows.specs.Follows.Calls.{ShowsCalls}
+use Rattle.run_shows.specs.Follows.Blocks.{HasRole, RefinesBlocks}
+use Rattle.run_shows.specs.Follows.Calls.{RefinesCalls}
 use Rattle.run_shows.specs.Follows.Finds.{FindsMap}
-use Rattle.run_shows.specs.Follows.Maps.{ShowsMap}
-use Rattle.run_shows.specs.Follows.Shows.{Shows}
+use Rattle.run_shows.specs.Follows.Maps.{RefinesMap}
+use Rattle.run_shows.specs.Follows.Shows.{Refines}
 use Rattle.run_shows.specs.Follows.Steps.{named_now, StoreTheirs, Did, IsOfNoRow}
 use Rattle.run_shows.proofs.Follows.Alike.{AreSame, AlikePairs, alike_same, still_all}
 use Rattle.run_shows.proofs.Follows.Called.{called_on}
@@ -82,7 +82,7 @@ same_gone None o2 is same = same
 same_gone (Some before) o2 is same = absurd (cc is)
 
 module _ {K V : Type 0} (same : K → K → Bool) (hash : ℕ → K → ℕ) (m : Moment K V) (known : Known) (s : Scene K V) (old new : Held K V) (at : IsAt same hash old s)
-    (name : ℕ → List ℕ) (shown : Shows same name m known s)
+    (name : ℕ → List ℕ) (shown : Refines same name m known s)
     (map i : ℕ) (standing : Standing K) (there : s.maps map ≡ Some standing) (caller : List ℕ)
     (made : Operated s.world.memory new.memory new.changed) where
   abbrev m2 : Mem (Node K V)
@@ -109,7 +109,7 @@ module _ {K V : Type 0} (same : K → K → Bool) (hash : ℕ → K → ℕ) (m 
   abbrev setting : Setting
   setting = in_slot standing.setting (slot_of i)
 
-  abbrev sight : Sight
+  abbrev sight : Visible
   sight = standing.sights (slot_of i)
 
   each : Together V same standing.hash same standing.setting slot_of w standing.chart standing.blocks standing.sights (s.calls map)
@@ -121,20 +121,20 @@ module _ {K V : Type 0} (same : K → K → Bool) (hash : ℕ → K → ℕ) (m 
   left : LeavesBy w.memory m2 told
   left = operated_leaves w.memory m2 told made
 
-  abbrev is_shown : ShowsMap map (shown.number map) standing m known
+  abbrev is_shown : RefinesMap map (shown.number map) standing m known
   is_shown = shown.maps map standing there
 
   -- within its section
   module _ (inside : IsInside (w.uses (slot_of i))) where
-    pub is_sight : IsSight standing.chart standing.blocks sight
+    pub is_sight : IsVisibility standing.chart standing.blocks sight
     is_sight = (each.ground.sight (slot_of i) inside).0
 
     is_map : IsMapIn same standing.hash setting w standing.chart (seen_by standing.blocks sight)
     is_map = map_seen same standing.hash setting w standing.chart standing.blocks sight (map_in_slot same standing.hash standing.setting w standing.chart standing.blocks (slot_of i) each.ground.map) is_sight
 
-    module _ (Told : World (Node K V) → Chart K → Blocks → Type 0) (had : Went same standing.hash setting i w standing.chart (seen_by standing.blocks sight) m2 Told)
-        (blocks2 : Blocks) (grown : IsGrown standing.chart standing.blocks had.blocks2 blocks2) (sights2 : ℕ → Sight) where
-      abbrev went : Went same standing.hash setting i w standing.chart (seen_by standing.blocks sight) m2 (λ w2 c2 blocks2. Unit {0})
+    module _ (Told : World (Node K V) → Chart K → Blocks → Type 0) (had : StepSpec same standing.hash setting i w standing.chart (seen_by standing.blocks sight) m2 Told)
+        (blocks2 : Blocks) (grown : IsGrown standing.chart standing.blocks had.blocks2 blocks2) (sights2 : ℕ → Visible) where
+      abbrev went : StepSpec same standing.hash setting i w standing.chart (seen_by standing.blocks sight) m2 (λ w2 c2 blocks2. Unit {0})
       went = went_as same standing.hash setting i w standing.chart (seen_by standing.blocks sight) m2 Told (λ w2 c2 blocks2. Unit {0}) (λ w2 c2 blocks2 map moved alike told. tt) had
 
       abbrev LeadThere : Type 0
@@ -151,7 +151,7 @@ module _ {K V : Type 0} (same : K → K → Bool) (hash : ℕ → K → ℕ) (m 
       leads = by made
         where
           leads_by : (seen : Seen (Node K V)) → ((at : At) (x y : ℕ) → seen ≡ Wrote at x y → told ≡ changed.Wrote at x y) → ((at : At) (x y : ℕ) → told ≡ changed.Wrote at x y → seen ≡ Wrote at x y)
-              → IsTold standing.hash setting standing.chart (seen_by standing.blocks sight) went.c2 went.blocks2 same i went.moved seen → Lead
+              → IsObserved standing.hash setting standing.chart (seen_by standing.blocks sight) went.c2 went.blocks2 same i went.moved seen → Lead
           leads_by = by_moved same (slot_of i) i map (Some caller) (shown.number map) standing lawful w sight is_sight is_map m2 (λ w2 c2 blocks2. Unit {0}) went blocks2 grown sights2 m known is_shown shown.blocks told left
 
           by : Operated w.memory m2 told → Lead
@@ -189,19 +189,19 @@ module _ {K V : Type 0} (same : K → K → Bool) (hash : ℕ → K → ℕ) (m 
         other_is : (n : ℕ) → n ≢ map → maps2 n ≡ s.maps n
         other_is n ne = ap (λ (f : ℕ → Option (Standing K)). f n) maps_are ∙ at_other s.maps map (Some moved_on) n ne
 
-        map_then : (n : ℕ) (st : Standing K) → maps2 n ≡ Some st → ShowsMap n (with_at shown.number map lead.number_then n) st v after
-        map_then n st is = elim (cases_eq n map) as (λ _. ShowsMap n (with_at shown.number map lead.number_then n) st v after) [
+        map_then : (n : ℕ) (st : Standing K) → maps2 n ≡ Some st → RefinesMap n (with_at shown.number map lead.number_then n) st v after
+        map_then n st is = elim (cases_eq n map) as (λ _. RefinesMap n (with_at shown.number map lead.number_then n) st v after) [
           | inl e ↦
               let its_standing : moved_on ≡ st = one_of moved_on st (sym (at_same s.maps map (Some moved_on) n e) ∙ ap (λ (f : ℕ → Option (Standing K)). f n) (sym maps_are) ∙ is) in
-              subst (λ (f : ℕ → ℕ). ShowsMap n f st v after) (sym (at_same shown.number map lead.number_then n e))
-              (subst (λ (x : ℕ). ShowsMap x lead.number_then st v after) (sym e) (subst (λ (x : Standing K). ShowsMap map lead.number_then x v after) its_standing lead.own))
+              subst (λ (f : ℕ → ℕ). RefinesMap n f st v after) (sym (at_same shown.number map lead.number_then n e))
+              (subst (λ (x : ℕ). RefinesMap x lead.number_then st v after) (sym e) (subst (λ (x : Standing K). RefinesMap map lead.number_then x v after) its_standing lead.own))
           | inr ne ↦
               let was : s.maps n ≡ Some st = sym (at_other s.maps map (Some moved_on) n ne) ∙ ap (λ (f : ℕ → Option (Standing K)). f n) (sym maps_are) ∙ is in
-              subst (λ (f : ℕ → ℕ). ShowsMap n f st v after) (sym (at_other shown.number map lead.number_then n ne))
+              subst (λ (f : ℕ → ℕ). RefinesMap n f st v after) (sym (at_other shown.number map lead.number_then n ne))
               (map_on n (shown.number n) st st m v known after (blocks_same st.chart st.blocks) lead.keeps refl (tables_same st.chart) (pairs_same st.chart) (lead.others n ne) (shown.maps n st was))
         ]
 
-        module _ (rest : Scene K V) (calls : ShowsCalls same name v rest.calls) where
+        module _ (rest : Scene K V) (calls : RefinesCalls same name v rest.calls) where
           abbrev led : Scene K V
           led = record rest { world = w2; maps = maps2 }
 
@@ -260,7 +260,7 @@ module _ {K V : Type 0} (same : K → K → Bool) (hash : ℕ → K → ℕ) (m 
             lead.finds,
             record {
               shows = record {
-                blocks = subst (λ (x : World (Node K V)). ShowsBlocks v after x) (sym w_is) lead.blocks;
+                blocks = subst (λ (x : World (Node K V)). RefinesBlocks v after x) (sym w_is) lead.blocks;
                 number = with_at shown.number map lead.number_then;
                 maps = map_then;
                 calls = calls;
@@ -278,7 +278,7 @@ module _ {K V : Type 0} (same : K → K → Bool) (hash : ℕ → K → ℕ) (m 
   whole = map_in_slot same standing.hash standing.setting w standing.chart standing.blocks (slot_of i) each.ground.map
 
   module _ (still : m2 ≡ w.memory) where
-    abbrev stayed : Went same standing.hash setting i w standing.chart standing.blocks m2 (λ w2 c2 blocks2. Unit {0})
+    abbrev stayed : StepSpec same standing.hash setting i w standing.chart standing.blocks m2 (λ w2 c2 blocks2. Unit {0})
     stayed = went_nowhere same standing.hash setting i w standing.chart standing.blocks whole m2 still
 
     quiet : IsQuiet same standing.hash setting i w standing.chart standing.blocks m2 (λ w2 c2 blocks2. Unit {0}) stayed whole map m.stored known
@@ -291,15 +291,15 @@ module _ {K V : Type 0} (same : K → K → Bool) (hash : ℕ → K → ℕ) (m 
     stayed_stores = stores_none w.memory (named_now told) (Some caller) (Some map) effects m quiet.still
 
     module _ (w2 : World (Node K V)) (maps2 : ℕ → Option (Standing K)) (w_is : w2 ≡ w) (maps_same : (n : ℕ) → IsSameMap (s.maps n) (maps2 n)) where
-      same_map : (n : ℕ) (o : Option (Standing K)) → s.maps n ≡ o → IsSameMap o (maps2 n) → (st : Standing K) → maps2 n ≡ Some st → ShowsMap n (shown.number n) st v after
+      same_map : (n : ℕ) (o : Option (Standing K)) → s.maps n ≡ o → IsSameMap o (maps2 n) → (st : Standing K) → maps2 n ≡ Some st → RefinesMap n (shown.number n) st v after
       same_map n None e none st is = absurd (cc (none, is))
       same_map n (Some before) e (blocks, sights, here, part) st is =
           let alike = alike_same n m v (still_all (Some caller) map effects m quiet.still) in
           let now = record before { blocks = blocks; sights = sights } in
-          subst (λ (x : Standing K). ShowsMap n (shown.number n) x v after) (one_of now st (sym here ∙ is))
+          subst (λ (x : Standing K). RefinesMap n (shown.number n) x v after) (one_of now st (sym here ∙ is))
           (map_on n (shown.number n) before now m v known after (blocks_part before.chart before.blocks blocks part) quiet.keeps refl (tables_same before.chart) (pairs_same before.chart) alike (shown.maps n before e))
 
-      module _ (rest : Scene K V) (calls : ShowsCalls same name v rest.calls) where
+      module _ (rest : Scene K V) (calls : RefinesCalls same name v rest.calls) where
         same_so : AreSame m v
         same_so = still_all (Some caller) map effects m quiet.still
 
@@ -311,7 +311,7 @@ module _ {K V : Type 0} (same : K → K → Bool) (hash : ℕ → K → ℕ) (m 
           still_find map (Some caller) effects m quiet.still,
           record {
             shows = record {
-              blocks = subst (λ (x : World (Node K V)). ShowsBlocks v after x) (sym w_is) (record {
+              blocks = subst (λ (x : World (Node K V)). RefinesBlocks v after x) (sym w_is) (record {
                 roles = λ b. subst (λ (xs : List (K × V)). HasRole w xs b (after.roles b)) (sym same_so.stored) (quiet.roles b);
                 once = quiet.once;
                 stored = quiet.stored ∙ shown.blocks.stored ∙ sym as_many;
@@ -330,11 +330,11 @@ module _ {K V : Type 0} (same : K → K → Bool) (hash : ℕ → K → ℕ) (m 
 
 -- The step of a call that has led somewhere: it may be taken, and was one of its machine.
 module _ {K V : Type 0} (same : K → K → Bool) (hash : ℕ → K → ℕ) (name : ℕ → List ℕ) (m : Moment K V) (known : Known) (s : Scene K V) (old new : Held K V) (at : IsAt same hash old s)
-    (shown : Shows same name m known s) (map i : ℕ) (u : UnderWay K V K) (here : s.calls map i ≡ Some u) (told : Progress (Node K V)) (leads : StepLeads same hash i told s old new) where
+    (shown : Refines same name m known s) (map i : ℕ) (u : UnderWay K V K) (here : s.calls map i ≡ Some u) (told : Progress (Node K V)) (leads : StepLeads same hash i told s old new) where
   abbrev pub WentTo : Type 0
   WentTo =
       (standing : Standing K) × (machine : Machine K V K) × (s.maps map ≡ Some standing) × StepsFrom same standing.hash (machine_of u) old new machine told
-      × (did : MachineStepsAmong V same same old.batch_size old.roots slot_of s.world s.maps s.calls s.makers s.enders map standing i new.memory u machine told)
+      × (did : MachineStepsWithEndings V same same old.batch_size old.roots slot_of s.world s.maps s.calls s.makers s.enders map standing i new.memory u machine told)
       × IsAt same hash new (scene_after same s old new map i standing u machine told did)
 
   abbrev pub went_to : WentTo
@@ -345,7 +345,7 @@ module _ {K V : Type 0} (same : K → K → Bool) (hash : ℕ → K → ℕ) (na
       (operated old.memory new.memory new.changed (machine_plan same same went_to.0.hash (machine_of u)) (went_to.1, told) (may_step same hash old s at map went_to.0 went_to.2 i u here) went_to.3)
 
   -- the calls that are under way are there then
-  pub calls_then : ShowsCalls same name (with_effects (Some (name i)) (Some map) (effects_of (Call i map) known new.changed) m) (with_call s.calls map i went_to.4.next)
+  pub calls_then : RefinesCalls same name (with_effects (Some (name i)) (Some map) (effects_of (Call i map) known new.changed) m) (with_call s.calls map i went_to.4.next)
   calls_then = calls_on same name (name i) map (effects_of (Call i map) known new.changed) m s.calls map i u here went_to.4.next
       (called_on same old.batch_size old.roots s.world s.maps s.calls s.makers s.enders map went_to.0 i new.memory went_to.4.w2 went_to.4.maps2 went_to.4.next u went_to.1 told went_to.4.did) shown.calls
 

@@ -19,18 +19,18 @@ use Rattle.run_effects.specs.Given.RuleChart.{Still, Holds, Chart, is_settled}
 use Rattle.run_effects.specs.Given.RuleRule.{Rule}
 use Rattle.many_maps.specs.Given.RuleMoves.{Promotes, MayChange, Allowed}
 use Rattle.run_effects.specs.Given.RuleWords.{Blocks}
-use Rattle.run_effects.specs.Given.RuleInWorld.{IsMapIn, Went}
+use Rattle.run_effects.specs.Given.RuleInWorld.{IsMapIn, StepSpec}
 use Rattle.run_effects.proofs.Given.RuleLaws.{current_is_known}
 use Rattle.many_maps.specs.Given.PointsSteps.{AreLawful}
-use Rattle.many_maps.specs.Given.CallersSights.{Sight, seen_by, IsGrown, IsSight}
+use Rattle.many_maps.specs.Given.CallersSights.{Visible, seen_by, IsGrown, IsVisibility}
 use Rattle.many_maps.specs.Given.CallersTogether.{in_slot}
 use Rattle.many_maps.specs.Maps.{Standing}
 use Rattle.run_effects.specs.Effects.Known.{Known, with_pair}
 use Rattle.run_effects.specs.declared.role.Role.{Role}
 use Rattle.run_effects.specs.declared.role.Role.TheVariants as role
-use Rattle.run_shows.specs.Follows.Blocks.{WasLinked, HasRole, ShowsBlocks}
+use Rattle.run_shows.specs.Follows.Blocks.{WasLinked, HasRole, RefinesBlocks}
 use Rattle.run_shows.specs.Follows.Finds.{MayStandAt}
-use Rattle.run_shows.specs.Follows.Maps.{ShowsPairs, ShowsMap}
+use Rattle.run_shows.specs.Follows.Maps.{RefinesPairs, RefinesMap}
 use Rattle.run_shows.specs.Follows.Steps.{HasPair}
 use Rattle.run_shows.proofs.Follows.Alike.{alike_then, put_here, put_elsewhere, stored_other, replaced_other, removed_other}
 use Rattle.run_shows.proofs.Follows.Contents.{Lasts, lasts_same, lasts_more, pair_within, pair_next}
@@ -99,10 +99,10 @@ module _ {K : Type 0} (same : K → K → Bool) (spot : ℕ → K → ℕ → �
   still_current false rule may = rule.common.is_current t i n Still borrowed held (λ e. cc e) may
 
 module _ {K V : Type 0} (same : K → K → Bool) (slot caller map : ℕ) (name : Option (List ℕ)) (number : ℕ → ℕ) (s : Standing K) (lawful : AreLawful same s.hash)
-    (w : World (Node K V)) (sight : Sight) (is_sight : IsSight s.chart s.blocks sight) (is_map : IsMapIn same s.hash (in_slot s.setting slot) w s.chart (seen_by s.blocks sight))
+    (w : World (Node K V)) (sight : Visible) (is_sight : IsVisibility s.chart s.blocks sight) (is_map : IsMapIn same s.hash (in_slot s.setting slot) w s.chart (seen_by s.blocks sight))
     (m2 : Mem (Node K V)) (Told : World (Node K V) → Chart K → Blocks → Type 0)
-    (went : Went same s.hash (in_slot s.setting slot) caller w s.chart (seen_by s.blocks sight) m2 Told) (blocks2 : Blocks) (grown : IsGrown s.chart s.blocks went.blocks2 blocks2) (sights2 : ℕ → Sight)
-    (m : Moment K V) (known : Known) (shown : ShowsMap map number s m known) (shown_blocks : ShowsBlocks m known w)
+    (went : StepSpec same s.hash (in_slot s.setting slot) caller w s.chart (seen_by s.blocks sight) m2 Told) (blocks2 : Blocks) (grown : IsGrown s.chart s.blocks went.blocks2 blocks2) (sights2 : ℕ → Visible)
+    (m : Moment K V) (known : Known) (shown : RefinesMap map number s m known) (shown_blocks : RefinesBlocks m known w)
     (values : (b : ℕ) → value_at m2 b ≡ value_at w.memory b) where
   abbrev c : Chart K
   c = s.chart
@@ -164,7 +164,7 @@ module _ {K V : Type 0} (same : K → K → Bool) (slot caller map : ℕ) (name 
     abbrev roles_then : ℕ → Role
     roles_then = put b (role.Pair (known.stored + 1)) known.roles
 
-    pub blocks_stored : (v : Moment K V) → StoresOne w.memory b m.stored v.stored → ShowsBlocks v (with_pair b known) went.w2
+    pub blocks_stored : (v : Moment K V) → StoresOne w.memory b m.stored v.stored → RefinesBlocks v (with_pair b known) went.w2
     blocks_stored v one = record {
       roles = λ x. elim (cases_eq x b) as (λ _. HasRole went.w2 v.stored x (roles_then x)) [
         | inl e ↦ subst (λ (r : Role). HasRole went.w2 v.stored x r) (sym (put_here b (role.Pair (known.stored + 1)) known.roles x e))
@@ -243,7 +243,7 @@ module _ {K V : Type 0} (same : K → K → Bool) (slot caller map : ℕ) (name 
     without_it = record s { chart = record s.chart { current = λ n. cond (eqb n p) false (c.current n) } }
 
     module _ (v : Moment K V) (place : v.place ≡ put its Out m.place) (born : v.born ≡ m.born) (as_many : length v.stored ≡ length m.stored) where
-      pub left_pairs : ShowsPairs map number without_it v known
+      pub left_pairs : RefinesPairs map number without_it v known
       left_pairs =
           goes_out map number s without_it m v known known (blocks_same s.chart s.blocks) (λ b lasting. refl) shown.pairs p there place born as_many refl
           (ap (λ (q : Bool). cond q false (c.current p)) (eq-eqb p p refl)) (λ n l ne. ap (λ (q : Bool). cond q false (c.current n)) (ne_eqb n p ne))

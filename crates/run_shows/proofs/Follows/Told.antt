@@ -17,10 +17,10 @@ use Rattle.run_effects.specs.declared.changed.Changed.{Changed}
 use Rattle.run_effects.specs.declared.changed.Changed.TheVariants as changed
 use Rattle.run_effects.specs.declared.changed.Kind.{Kind}
 use Rattle.run_effects.specs.declared.changed.Kind.TheVariants as kind
-use Rattle.run_effects.specs.Tells.Tells.{KeepsNames}
+use Rattle.run_effects.specs.Tells.Tells.{PreservesNames}
 use Rattle.run_effects.specs.Given.RuleChart.{Chart}
 use Rattle.run_effects.specs.Given.RuleWords.{Blocks}
-use Rattle.run_effects.specs.Given.RuleInWorld.{IsMapIn, Went}
+use Rattle.run_effects.specs.Given.RuleInWorld.{IsMapIn, StepSpec}
 use Rattle.run_effects.specs.Effects.Effects.{made_role, taken_by, effects_of, known_after}
 use Rattle.run_effects.specs.Effects.Known.{Known, with_role}
 use Rattle.run_effects.specs.declared.acting.Acting.{Acting}
@@ -63,7 +63,7 @@ roomed_as_many acting known bucket true = by (nat_le known.buckets bucket)
 roomed_as_many acting known bucket false = (refl, refl)
 
 module _ {K V : Type 0} (same : K → K → Bool) (hash : K → ℕ) (setting : Setting) (caller : ℕ) (w : World (Node K V)) (c : Chart K) (blocks : Blocks)
-    (m2 : Mem (Node K V)) (Told : World (Node K V) → Chart K → Blocks → Type 0) (went : Went same hash setting caller w c blocks m2 Told) (is_map : IsMapIn same hash setting w c blocks)
+    (m2 : Mem (Node K V)) (Told : World (Node K V) → Chart K → Blocks → Type 0) (went : StepSpec same hash setting caller w c blocks m2 Told) (is_map : IsMapIn same hash setting w c blocks)
     (map : ℕ) (count : List (K × V)) (known : Known) (had : (b : ℕ) → HasRole w count b (known.roles b)) (single : ArePairsOnce known.roles)
     (tables : (t : ℕ) → t < c.past → blocks.table_known t ≡ true → known.roles (blocks.table t) ≡ role.Table (table_of map t) (c.len t)) where
   abbrev pub its : Acting
@@ -146,7 +146,7 @@ module _ {K V : Type 0} (same : K → K → Bool) (hash : K → ℕ) (setting : 
   roomed_still false = (refl, tt)
 
   -- so it is where each word that was written goes on naming what it named
-  pub quiet_told : (told : Changed) → LeavesBy w.memory m2 told → ((at : At) (old new : ℕ) → told ≡ changed.Wrote at old new → KeepsNames setting c blocks at old new)
+  pub quiet_told : (told : Changed) → LeavesBy w.memory m2 told → ((at : At) (old new : ℕ) → told ≡ changed.Wrote at old new → PreservesNames setting c blocks at old new)
       → IsQuiet (effects_of its known told) (known_after its told known)
   quiet_told changed.Nothing left quiet = as_before [] tt known refl refl left
   quiet_told (changed.Wrote at old new) left quiet =

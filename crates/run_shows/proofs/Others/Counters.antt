@@ -21,7 +21,7 @@ use Rattle.run_shows.specs.Others.Endings.{ending_after}
 use Rattle.run_shows.proofs.Others.Noted.{counters_on}
 use Rattle.run_shows.proofs.Others.RowPlans.{row_operated}
 use Rattle.run_shows.proofs.Scenes.May.{may_end, may_row, may_step}
-use Rattle.run_shows.specs.Scenes.Ending.{EndingComesTo, EndingStepsFrom}
+use Rattle.run_shows.specs.Scenes.Ending.{EndingHasOutcome, EndingStepsFrom}
 use Rattle.run_shows.specs.Scenes.Held.{IsAt}
 use Rattle.run_shows.specs.Scenes.Scene.{Scene, slot_of}
 use Rattle.run_shows.specs.Scenes.Stepping.{scene_after}
@@ -54,7 +54,7 @@ module _ (K V : Type 0) (same : K → K → Bool) (hash : ℕ → K → ℕ) whe
   endings_note_counters name m known s old new at shown notes i told leads f here map = by told to.3
     where
       to : (end : EndMap) × EndingStepsFrom f.machine old new end told
-          × (did : StepsOfEnding V same same old.batch_size old.roots slot_of s.world s.maps s.calls s.makers s.enders i f new.memory (end, told)) × EndingComesTo same hash s new i f end did.w2 did.deed told
+          × (did : StepsOfEnding V same same old.batch_size old.roots slot_of s.world s.maps s.calls s.makers s.enders i f new.memory (end, told)) × EndingHasOutcome same hash s new i f end did.w2 did.deed told
       to = leads f here
 
       op : Operated old.memory new.memory new.changed
@@ -65,7 +65,7 @@ module _ (K V : Type 0) (same : K → K → Bool) (hash : ℕ → K → ℕ) whe
       on : (s2 : Scene K V) → IsAt same hash new s2 → ((j : ℕ) (b : Beginning K) → s2.makers j ≡ Some b → s.makers j ≡ Some b) → NotesCounters (known_after (acts.Ending map) new.changed known) s2
       on s2 at2 was = counters_on same hash m known s s2 old new at at2 shown.blocks op (acts.Ending map) was notes
 
-      by : (t : Settled (Node K V)) (comes : EndingComesTo same hash s new i f to.0 to.2.w2 to.2.deed t) → NotesCounters (known_after (acts.Ending map) new.changed known) (ending_after same hash s new i f to.0 to.2.w2 to.2.deed t comes)
+      by : (t : Settled (Node K V)) (comes : EndingHasOutcome same hash s new i f to.0 to.2.w2 to.2.deed t) → NotesCounters (known_after (acts.Ending map) new.changed known) (ending_after same hash s new i f to.0 to.2.w2 to.2.deed t comes)
       by settled.Goes comes = on _ comes.1 (λ j b is. is)
       by settled.Waits comes = absurd comes
       by (settled.Gave value) comes = on _ comes.3 (λ j b is. is)

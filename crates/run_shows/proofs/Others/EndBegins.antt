@@ -4,7 +4,7 @@ use Rattle.std.proofs.Common.{refl, ap, sym, subst, ◌∙◌, inl, inr}
 use Rattle.std.proofs.lemmas.Bool.{cases_eq}
 use Rattle.run_effects.specs.Given.RunsSame.{is_same}
 use Rattle.many_maps.proofs.Given.CallersTogether.At.{at_other, at_same}
-use Rattle.run_shows.specs.Follows.Maps.{ShowsMap}
+use Rattle.run_shows.specs.Follows.Maps.{RefinesMap}
 use Rattle.run_shows.specs.Others.Endings.{EndingsBeginShown, EndingsAreOver}
 
 module _ {X : Type 0} (test keep : X → Bool) where
@@ -29,7 +29,7 @@ module _ (K V : Type 0) (same : K → K → Bool) where
     shows = record {
       blocks = record { roles = shown.blocks.roles; once = shown.blocks.once; stored = shown.blocks.stored };
       number = shown.number;
-      maps = λ n st is. elim (cases_eq n map) as (λ _. ShowsMap n (shown.number n) st m known) [
+      maps = λ n st is. elim (cases_eq n map) as (λ _. RefinesMap n (shown.number n) st m known) [
         | inl e ↦ absurd (let none = at_same s.maps map None n e in cc (none, is))
         | inr ne ↦ shown.maps n st (sym (at_other s.maps map None n ne) ∙ is)
       ];

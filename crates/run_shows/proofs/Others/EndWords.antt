@@ -13,7 +13,7 @@ use Rattle.run_effects.specs.Given.RawEndMap as end_map
 use Rattle.run_effects.specs.Given.RawDeclared.machines.end_map.EndMap.{EndMap}
 use Rattle.run_effects.specs.Given.RawDeclared.machines.end_map.Ending.{Ending}
 use Rattle.run_effects.specs.Given.RawDeclared.machines.end_map.Ending.TheVariants as at
-use Rattle.run_effects.specs.ReportingMemory.Tells.{StepsTold}
+use Rattle.run_effects.specs.ReportingMemory.Tells.{StepsObserved}
 use Rattle.run_effects.specs.declared.changed.Changed.{Changed}
 use Rattle.run_effects.specs.declared.changed.Changed.TheVariants as changed
 use Rattle.run_effects.specs.Given.RuleChart.{Chart}
@@ -52,9 +52,9 @@ module _ {K V : Type 0} (setting : Setting) (w : World (Node K V)) (m2 : Mem (No
       ap_one y l = let one : ◌≡◌ {A = ℕ} (if y == y then 1 else 0) 1 = ap (λ (q : Bool). if q then 1 else 0) (eq-eqb y y refl) in omega (arith, one)
 
 -- as it gives its root up it writes no root
-module _ {K V : Type 0} (e : EndMap) (m m2 : Mem (Node K V)) (told : Changed) (end : EndMap × Settled (Node K V)) (steps : StepsTold K V (EndMap × Settled (Node K V)) m changed.Nothing (end_map.end_map_plan e) m2 told end) where
+module _ {K V : Type 0} (e : EndMap) (m m2 : Mem (Node K V)) (told : Changed) (end : EndMap × Settled (Node K V)) (steps : StepsObserved K V (EndMap × Settled (Node K V)) m changed.Nothing (end_map.end_map_plan e) m2 told end) where
   pub frees_no_root : e.stands ≡ at.Frees → (r old new : ℕ) → told ≡ changed.Wrote (Root r) old new → ⊥
   frees_no_root stands r old new is =
-      let there : StepsTold K V (EndMap × Settled (Node K V)) m changed.Nothing (end_map.plan_at e at.Frees) m2 told end =
-      subst (λ (p : Ending). StepsTold K V (EndMap × Settled (Node K V)) m changed.Nothing (end_map.plan_at e p) m2 told end) stands steps in
+      let there : StepsObserved K V (EndMap × Settled (Node K V)) m changed.Nothing (end_map.plan_at e at.Frees) m2 told end =
+      subst (λ (p : Ending). StepsObserved K V (EndMap × Settled (Node K V)) m changed.Nothing (end_map.plan_at e p) m2 told end) stands steps in
       let wrote = there.1.1 in (cc (is, wrote))

@@ -35,24 +35,24 @@ use Rattle.run_effects.specs.declared.acting.Acting.TheVariants as acts
 use Rattle.run_effects.specs.declared.role.Role.{Role}
 use Rattle.run_effects.specs.declared.role.Role.TheVariants as role
 use Rattle.run_shows.specs.Follows.Blocks.{WasLinked, HasRole}
-use Rattle.run_shows.specs.Follows.Calls.{ShowsCalls}
+use Rattle.run_shows.specs.Follows.Calls.{RefinesCalls}
 use Rattle.run_shows.specs.Follows.Maps.{table_of}
-use Rattle.run_shows.specs.Follows.Shows.{Shows}
+use Rattle.run_shows.specs.Follows.Shows.{Refines}
 use Rattle.run_shows.specs.Follows.Steps.{TakesNone}
 use Rattle.run_shows.proofs.Follows.Alike.{AllStill, AllCalm}
 use Rattle.run_shows.proofs.Follows.Operations.{StaysThere, LeavesBy, operated, operated_leaves}
 use Rattle.run_shows.proofs.Follows.Quiet.{same_name, DoneStill as DoesNothing}
 use Rattle.run_shows.proofs.Follows.Told.{roomed_as_many}
 use Rattle.run_shows.proofs.Follows.Writes.{nothing_free}
-use Rattle.run_shows.specs.Others.After.{ShowsAfter}
-use Rattle.run_shows.specs.Others.Endings.{ending_after, TellsNext, EndingsAreShown}
+use Rattle.run_shows.specs.Others.After.{RefinesAfter}
+use Rattle.run_shows.specs.Others.Endings.{ending_after, ObservesNext, EndingsAreShown}
 use Rattle.run_shows.specs.Others.Gone.{EndsWith}
 use Rattle.run_shows.proofs.Others.EndWords.{NamesPair, root_leads, root_or_none, root_waits, frees_no_root}
 use Rattle.run_shows.proofs.Others.Leads.{same_parts, roomed_still, either_still, word_says, calls_then, quiet, nothing, gone_quiet, either_calm, roomed_calm}
 use Rattle.run_shows.proofs.Others.Scenes.{pair_gone, table_gone}
 use Rattle.run_shows.proofs.Others.Stays.{StaysBlock, same_there, same_maps}
 use Rattle.run_shows.proofs.Scenes.May.{may_end}
-use Rattle.run_shows.specs.Scenes.Ending.{EndingComesTo, EndingStepsFrom, ending_goes}
+use Rattle.run_shows.specs.Scenes.Ending.{EndingHasOutcome, EndingStepsFrom, ending_goes}
 use Rattle.run_shows.specs.Scenes.Held.{Held, IsAt}
 use Rattle.run_shows.specs.Scenes.Scene.{Scene, slot_of}
 
@@ -78,7 +78,7 @@ same_root_says its known b true was is e = (tt, refl)
 same_root_says its known b false was is e = absurd (cc e)
 
 module _ {K V : Type 0} (same : K → K → Bool) (hash : ℕ → K → ℕ) (name : ℕ → List ℕ) (m : Moment K V) (known : Known) (s : Scene K V) (old new : Held K V) (at : IsAt same hash old s)
-    (shown : Shows same name m known s) (i : ℕ) (f : Finishing K V) (here : s.enders i ≡ Some f) (end : EndMap) (said : Settled (Node K V)) (steps : EndingStepsFrom f.machine old new end said)
+    (shown : Refines same name m known s) (i : ℕ) (f : Finishing K V) (here : s.enders i ≡ Some f) (end : EndMap) (said : Settled (Node K V)) (steps : EndingStepsFrom f.machine old new end said)
     (did : StepsOfEnding V same same old.batch_size old.roots slot_of s.world s.maps s.calls s.makers s.enders i f new.memory (end, said))
     (map : ℕ) (not_there : s.maps map ≡ None) where
   abbrev w : World (Node K V)
@@ -153,7 +153,7 @@ module _ {K V : Type 0} (same : K → K → Bool) (hash : ℕ → K → ℕ) (na
       not_over : end.stands ≡ ending.Over → ⊥
       not_over over = subst (λ (p : Ending). EndingFacts f.setting f.chart f.blocks k.lists false i f.hash w2 end k.past back p) over k.facts.point
 
-  names_then : (t : Settled (Node K V)) → EndingComesTo same hash s new i f end w2 did.deed t → (word : ℕ) → word_at w2.memory (Root f.setting.root) ≡ Some word
+  names_then : (t : Settled (Node K V)) → EndingHasOutcome same hash s new i f end w2 did.deed t → (word : ℕ) → word_at w2.memory (Root f.setting.root) ≡ Some word
       → (word_at w2.memory (Root f.setting.root) ≡ Some (root_word f.hash f.chart f.blocks)) ⊎ NamesPair w word
   names_then settled.Goes comes word is = names_on f.back (f.waits ++ waiting_by did.deed) comes.1 word is
   names_then settled.Waits comes word is = absurd comes
@@ -185,7 +185,7 @@ module _ {K V : Type 0} (same : K → K → Bool) (hash : ℕ → K → ℕ) (na
       let has : HasRole w m.stored b (role.Table t len) = subst (λ (r : Role). HasRole w m.stored b r) e (shown.blocks.roles b) in
       word_stays b field before after _ (values b ∙ has.1) was now
 
-  module _ (comes : EndingComesTo same hash s new i f end w2 did.deed said) where
+  module _ (comes : EndingHasOutcome same hash s new i f end w2 did.deed said) where
     root_quiet : (r before after : ℕ) → told ≡ changed.Wrote (Root r) before after → word_at w.memory (Root r) ≡ Some before → word_at w2.memory (Root r) ≡ Some after
         → DoesNothing known (written_by its known (Root r) before after) (written_on its (Root r) before after known)
     root_quiet r before after is was now = elim (cases_eq r f.setting.root) as (λ _. Does) [
@@ -228,9 +228,9 @@ module _ {K V : Type 0} (same : K → K → Bool) (hash : ℕ → K → ℕ) (na
     says_or_takes (changed.Roomed bucket had) is l = inl (roomed_calm (had && nat_lt bucket known.buckets), (roomed_as_many its known bucket had).0)
 
     -- the scene after it
-    module _ (rest : Scene K V) (calls : ShowsCalls same name m rest.calls) (stand : (n : ℕ) (st : Standing K) → s.maps n ≡ Some st → IsMapIn same st.hash st.setting w2 st.chart st.blocks) where
+    module _ (rest : Scene K V) (calls : RefinesCalls same name m rest.calls) (stand : (n : ℕ) (st : Standing K) → s.maps n ≡ Some st → IsMapIn same st.hash st.setting w2 st.chart st.blocks) where
       abbrev Goal : List Effect → Known → Type 0
-      Goal effects after = ShowsAfter same name m known s shown (with_effects None (Some map) effects m) after (record rest { world = w2; maps = s.maps })
+      Goal effects after = RefinesAfter same name m known s shown (with_effects None (Some map) effects m) after (record rest { world = w2; maps = s.maps })
 
       still : (effects : List Effect) (after : Known) → AllStill effects → after.roles ≡ known.roles → after.stored ≡ known.stored → ((b : ℕ) → StaysThere w.memory w2.memory b) → Goal effects after
       still effects after none roles as_many there = quiet same name m known s shown w2 s.maps (λ n. same_maps (s.maps n)) (Some map) rest calls effects after none roles as_many (λ b. stays b (there b))
@@ -246,7 +246,7 @@ module _ {K V : Type 0} (same : K → K → Bool) (hash : ℕ → K → ℕ) (na
         others : (x : ℕ) → x ≢ b → StaysBlock w w2 x
         others x ne = stays x (there x ne)
 
-        calls_on : (effects : List Effect) → ShowsCalls same name (with_effects None (Some map) effects m) rest.calls
+        calls_on : (effects : List Effect) → RefinesCalls same name (with_effects None (Some map) effects m) rest.calls
         calls_on = calls_then same name m known s shown w2 s.maps (λ n. same_maps (s.maps n)) (Some map) rest calls
 
         none_moved : (effects : List Effect) → AllStill effects → Goal effects free
@@ -287,18 +287,18 @@ module _ {K V : Type 0} (same : K → K → Bool) (hash : ℕ → K → ℕ) (na
           let alike = roomed_as_many its known bucket had in still (effects_of its known (changed.Roomed bucket had)) _ (roomed_still (had && nat_lt bucket known.buckets)) alike.0 alike.1 l
 
   -- so it is by what it says
-  ending_shown : (t : Settled (Node K V)) → said ≡ t → (comes : EndingComesTo same hash s new i f end w2 did.deed t)
+  ending_shown : (t : Settled (Node K V)) → said ≡ t → (comes : EndingHasOutcome same hash s new i f end w2 did.deed t)
       → AtEachEffect (λ v effect. EndsWith v map effect) None (Some map) (effects_of its known told) m
-      → ShowsAfter same name m known s shown (with_effects None (Some map) (effects_of its known told) m) (known_after its told known) (ending_after same hash s new i f end w2 did.deed t comes)
+      → RefinesAfter same name m known s shown (with_effects None (Some map) (effects_of its known told) m) (known_after its told known) (ending_after same hash s new i f end w2 did.deed t comes)
   ending_shown settled.Goes e comes may =
-      leads (subst (λ (x : Settled (Node K V)). EndingComesTo same hash s new i f end w2 did.deed x) (sym e) comes) (ending_goes s i f end w2 did.deed f.back) shown.calls
+      leads (subst (λ (x : Settled (Node K V)). EndingHasOutcome same hash s new i f end w2 did.deed x) (sym e) comes) (ending_goes s i f end w2 did.deed f.back) shown.calls
       (λ n st is. (comes.1.together.makings.standing.each n st is).ground.map) told refl left may
   ending_shown settled.Waits e comes may = absurd comes
   ending_shown (settled.Gave value) e comes may =
-      leads (subst (λ (x : Settled (Node K V)). EndingComesTo same hash s new i f end w2 did.deed x) (sym e) comes) (ending_goes s i f end w2 did.deed (f.back ++ comes.0 ∷ [])) shown.calls
+      leads (subst (λ (x : Settled (Node K V)). EndingHasOutcome same hash s new i f end w2 did.deed x) (sym e) comes) (ending_goes s i f end w2 did.deed (f.back ++ comes.0 ∷ [])) shown.calls
       (λ n st is. (comes.3.together.makings.standing.each n st is).ground.map) told refl left may
   ending_shown settled.Done e comes may =
-      leads (subst (λ (x : Settled (Node K V)). EndingComesTo same hash s new i f end w2 did.deed x) (sym e) comes) (record s { world = w2; enders = with_at s.enders i None }) shown.calls
+      leads (subst (λ (x : Settled (Node K V)). EndingHasOutcome same hash s new i f end w2 did.deed x) (sym e) comes) (record s { world = w2; enders = with_at s.enders i None }) shown.calls
       (λ n st is. (comes.2.together.makings.standing.each n st is).ground.map) told refl left may
 
   -- what is told is what was taken
@@ -333,7 +333,7 @@ module _ {K V : Type 0} (same : K → K → Bool) (hash : ℕ → K → ℕ) (na
       let count : times b (taken_of did.deed) ≡ times b (b ∷ []) = ap (times b) is in
       did.spares.gone b (omega (arith, one, count))
 
-  pub tells_next : (t : Settled (Node K V)) (comes : EndingComesTo same hash s new i f end w2 did.deed t) → TellsNext same hash s new i f end w2 did.deed t comes told
+  pub tells_next : (t : Settled (Node K V)) (comes : EndingHasOutcome same hash s new i f end w2 did.deed t) → ObservesNext same hash s new i f end w2 did.deed t comes told
   tells_next settled.Goes comes = none_taken told left comes.0
   tells_next settled.Waits comes = comes
   tells_next (settled.Gave value) comes = one_taken told left comes.0 value comes.1 (next_gone comes.0 comes.2)

@@ -19,11 +19,11 @@ use Rattle.run_effects.specs.declared.acting.Acting.{Acting}
 use Rattle.run_effects.specs.declared.role.Role.{Role}
 use Rattle.run_effects.specs.declared.role.Role.TheVariants as role
 use Rattle.run_shows.specs.Follows.Blocks.{HasRole}
-use Rattle.run_shows.specs.Follows.Calls.{ShowsCalls}
-use Rattle.run_shows.specs.Follows.Shows.{Shows}
+use Rattle.run_shows.specs.Follows.Calls.{RefinesCalls}
+use Rattle.run_shows.specs.Follows.Shows.{Refines}
 use Rattle.run_shows.proofs.Follows.Alike.{AllStill, AllCalm, calm_still, alike_same}
 use Rattle.run_shows.proofs.Follows.Onward.{IsLasting}
-use Rattle.run_shows.specs.Others.After.{ShowsAfter}
+use Rattle.run_shows.specs.Others.After.{RefinesAfter}
 use Rattle.run_shows.proofs.Others.Quiet.{calls_none, stored_none, all_quiet, calls_shown}
 use Rattle.run_shows.proofs.Others.Scenes.{all_stay, one_put, still_gone}
 use Rattle.run_shows.proofs.Others.Stays.{StaysBlock}
@@ -63,13 +63,13 @@ word_says its known field b (role.Counter map) q was is names = ((refl, tt), ref
 word_says its known field b (role.Table t len) true was is names = (tt, refl)
 word_says its known field b (role.Table t len) false was is names = absurd (let e = names t len refl in cc e)
 
-module _ {K V : Type 0} (same : K → K → Bool) (name : ℕ → List ℕ) (m : Moment K V) (known : Known) (s : Scene K V) (shown : Shows same name m known s)
-    (w2 : World (Node K V)) (maps2 : ℕ → Option (Standing K)) (maps_same : (n : ℕ) → IsSameMap (s.maps n) (maps2 n)) (of : Option ℕ) (rest : Scene K V) (calls : ShowsCalls same name m rest.calls) where
+module _ {K V : Type 0} (same : K → K → Bool) (name : ℕ → List ℕ) (m : Moment K V) (known : Known) (s : Scene K V) (shown : Refines same name m known s)
+    (w2 : World (Node K V)) (maps2 : ℕ → Option (Standing K)) (maps_same : (n : ℕ) → IsSameMap (s.maps n) (maps2 n)) (of : Option ℕ) (rest : Scene K V) (calls : RefinesCalls same name m rest.calls) where
   -- the moment after these effects shows the scene, by what is known then
   abbrev pub LedTo : List Effect → Known → Type 0
-  LedTo effects after = ShowsAfter same name m known s shown (with_effects None of effects m) after (record rest { world = w2; maps = maps2 })
+  LedTo effects after = RefinesAfter same name m known s shown (with_effects None of effects m) after (record rest { world = w2; maps = maps2 })
 
-  pub calls_then : (effects : List Effect) → ShowsCalls same name (with_effects None of effects m) rest.calls
+  pub calls_then : (effects : List Effect) → RefinesCalls same name (with_effects None of effects m) rest.calls
   calls_then effects = calls_shown same name m (with_effects None of effects m) rest.calls (calls_none of effects m) calls
 
   -- each block is as before

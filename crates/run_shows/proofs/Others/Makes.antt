@@ -44,8 +44,8 @@ use Rattle.run_effects.specs.Given.RuleWords.{root_word}
 use Rattle.run_effects.proofs.Given.RuleWords.TablesSeen.{block_of_link}
 use Rattle.many_maps.specs.Given.PointsFactsTables.{IsOwnTable, IsPlanned}
 use Rattle.many_maps.proofs.Given.CallersTogether.At.{at_other, at_same}
-use Rattle.many_maps.specs.Endings.{MakingStepsAmong}
-use Rattle.many_maps.specs.Makings.{Beginning, MakingFacts, OpeningFacts, HasTaken, HasMade, IsMade, IsNewChart, KeepsIts}
+use Rattle.many_maps.specs.Endings.{MakingStepsWithEndings}
+use Rattle.many_maps.specs.Makings.{Beginning, MakingFacts, OpeningFacts, HasTaken, HasMade, IsMade, IsNewChart, PreservesItsOwn}
 use Rattle.many_maps.specs.Maps.{Standing}
 use Rattle.run_effects.specs.Effects.Effects.{names_same, named, made_by, made_role, taken_by, effects_of, known_after}
 use Rattle.run_effects.specs.Effects.Known.{Known, with_role}
@@ -54,14 +54,14 @@ use Rattle.run_effects.specs.declared.acting.Acting.TheVariants as acts
 use Rattle.run_effects.specs.declared.role.Role.{Role}
 use Rattle.run_effects.specs.declared.role.Role.TheVariants as role
 use Rattle.run_shows.specs.Follows.Blocks.{WasLinked, HasRole}
-use Rattle.run_shows.specs.Follows.Calls.{ShowsCalls}
-use Rattle.run_shows.specs.Follows.Maps.{table_of, shape_at, ShowsMap}
-use Rattle.run_shows.specs.Follows.Shows.{Shows}
+use Rattle.run_shows.specs.Follows.Calls.{RefinesCalls}
+use Rattle.run_shows.specs.Follows.Maps.{table_of, shape_at, RefinesMap}
+use Rattle.run_shows.specs.Follows.Shows.{Refines}
 use Rattle.run_shows.proofs.Follows.Alike.{AllStill, AreSame, IsAlike, put_here, put_elsewhere}
 use Rattle.run_shows.proofs.Follows.Onward.{IsLasting}
 use Rattle.run_shows.proofs.Follows.Operations.{LeavesBy, operated, operated_leaves}
 use Rattle.run_shows.proofs.Follows.Writes.{Says, root_says, nothing_free, own_table}
-use Rattle.run_shows.specs.Others.After.{ShowsAfter}
+use Rattle.run_shows.specs.Others.After.{RefinesAfter}
 use Rattle.run_shows.specs.Others.Makings.{IsNew, WasNew, NotesCounter, making_after, MakingsAreShown}
 use Rattle.run_shows.proofs.Others.Leads.{word_says, calls_then, nothing, made, gone_quiet}
 use Rattle.run_shows.proofs.Others.MadeBlocks.{not_pair, still_made, made_has, lasting_there}
@@ -73,14 +73,14 @@ use Rattle.run_shows.proofs.Others.Stays.{StaysBlock, same_maps}
 use Rattle.run_shows.proofs.Others.Users.{events_stay}
 use Rattle.run_shows.proofs.Scenes.May.{may_make}
 use Rattle.run_shows.specs.Scenes.Held.{Held, IsAt}
-use Rattle.run_shows.specs.Scenes.Making.{MakingComesTo, MakingStepsFrom}
+use Rattle.run_shows.specs.Scenes.Making.{MakingHasOutcome, MakingStepsFrom}
 use Rattle.run_shows.specs.Scenes.Scene.{Scene, slot_of}
 use Rattle.run_shows.proofs.Follows.Quiet.{DoneStill as DoesNothing}
 use Rattle.seize_words.proofs.General.{same_some as one_of}
 
 module _ {K V : Type 0} (same : K → K → Bool) (hash : ℕ → K → ℕ) (name : ℕ → List ℕ) (m : Moment K V) (known : Known) (s : Scene K V) (old new : Held K V) (at : IsAt same hash old s)
-    (shown : Shows same name m known s) (i : ℕ) (b : Beginning K) (here : s.makers i ≡ Some b) (end : NewMap) (said : Advance Setting) (steps : MakingStepsFrom b.machine old new end said)
-    (did : MakingStepsAmong V same same old.batch_size old.roots slot_of s.world s.maps s.calls s.makers s.enders i b new.memory (end, said)) (of : Option ℕ) where
+    (shown : Refines same name m known s) (i : ℕ) (b : Beginning K) (here : s.makers i ≡ Some b) (end : NewMap) (said : Advance Setting) (steps : MakingStepsFrom b.machine old new end said)
+    (did : MakingStepsWithEndings V same same old.batch_size old.roots slot_of s.world s.maps s.calls s.makers s.enders i b new.memory (end, said)) (of : Option ℕ) where
   abbrev w : World (Node K V)
   w = s.world
 
@@ -128,9 +128,9 @@ module _ {K V : Type 0} (same : K → K → Bool) (hash : ℕ → K → ℕ) (na
   no_table_word x q made t len e = absurd (let has : HasRole w m.stored x (role.Table t len) = subst (λ (r : Role). HasRole w m.stored x r) e (shown.blocks.roles x) in subst WasLinked made has.2)
 
   -- where it leads beside the map that it makes
-  module _ (rest : Scene K V) (calls : ShowsCalls same name m rest.calls) (stand : (n : ℕ) (st : Standing K) → s.maps n ≡ Some st → IsMapIn same st.hash st.setting w2 st.chart st.blocks) where
+  module _ (rest : Scene K V) (calls : RefinesCalls same name m rest.calls) (stand : (n : ℕ) (st : Standing K) → s.maps n ≡ Some st → IsMapIn same st.hash st.setting w2 st.chart st.blocks) where
     abbrev pub Goal : List Effect → Known → Type 0
-    Goal effects after = ShowsAfter same name m known s shown (with_effects None of effects m) after (record rest { world = w2; maps = s.maps })
+    Goal effects after = RefinesAfter same name m known s shown (with_effects None of effects m) after (record rest { world = w2; maps = s.maps })
 
     -- a block was taken away that was not linked
     taken : (x : ℕ) → value_at w2.memory x ≡ None → ((y : ℕ) → y ≢ x → value_at w2.memory y ≡ value_at w.memory y) → (r : Role) → known.roles x ≡ r → Goal (taken_by its r) (with_role x role.Free known)
@@ -183,8 +183,8 @@ module _ {K V : Type 0} (same : K → K → Bool) (hash : ℕ → K → ℕ) (na
   taken_root u roots n opening.Over k taken = absurd taken
   taken_root u roots n (opening.Refused fault) k taken = absurd taken
 
-  keeps : (t : Advance Setting) → said ≡ t → KeepsIts V same same old.batch_size old.roots slot_of w w2 b.machine (end, t)
-  keeps t e = subst (λ (x : Advance Setting). KeepsIts V same same old.batch_size old.roots slot_of w w2 b.machine (end, x)) e did.step.keeps
+  keeps : (t : Advance Setting) → said ≡ t → PreservesItsOwn V same same old.batch_size old.roots slot_of w w2 b.machine (end, t)
+  keeps t e = subst (λ (x : Advance Setting). PreservesItsOwn V same same old.batch_size old.roots slot_of w w2 b.machine (end, x)) e did.step.keeps
 
   -- its root was written
   module _ (r before after : ℕ) (is : told ≡ changed.Wrote (Root r) before after) where
@@ -234,13 +234,13 @@ module _ {K V : Type 0} (same : K → K → Bool) (hash : ℕ → K → ℕ) (na
 
     -- both what is beside it, and the map
     abbrev Both : List Effect → Known → Type 0
-    Both effects after = Goal rest shown.calls stand_beside effects after × ShowsMap b.map (λ n. 0) st (with_effects None of effects m) after
+    Both effects after = Goal rest shown.calls stand_beside effects after × RefinesMap b.map (λ n. 0) st (with_effects None of effects m) after
 
     -- where it has no table, its counter was made by this step
     no_table_done : (k : Kind) (x : ℕ) → told ≡ changed.Made k x → (b.machine.len ≡ 0) × (k ≡ kind.Shards) × (setting.counter ≡ x) → Both (effects_of its known told) (known_after its told known)
     no_table_done k x is by_it = (
       making_leads rest shown.calls stand_beside (λ r before after wrote_root. absurd (cc (is, wrote_root))),
-      subst (λ (y : Changed). ShowsMap b.map (λ n. 0) st (with_effects None of (effects_of its known y) m) (known_after its y known)) (sym is)
+      subst (λ (y : Changed). RefinesMap b.map (λ n. 0) st (with_effects None of (effects_of its known y) m) (known_after its y known)) (sym is)
           (new_shown b.map st m v (with_role x (made_role its k) known) setting was_new made_so.setting_is (ap (λ (c : Chart K). c.stored) chart_is) (ap (λ (c : Chart K). c.first) chart_is) alike.place alike.maps counter
           (no_tables_shown b.map st m v (with_role x (made_role its k) known) (ap (λ (c : Chart K). c.past) chart_is) (ap (λ ts. filter (λ t. t.table.map == b.map) ts) alike.tables ∙ was_new.no_tables))),
     )
@@ -405,7 +405,7 @@ module _ {K V : Type 0} (same : K → K → Bool) (hash : ℕ → K → ℕ) (na
           noted : known.roles setting.counter ≡ role.Counter b.map
           noted = ap known.roles ((keeps (progress.Done setting) done).1 by_it.0) ∙ notes by_it.0
 
-      of_map : ShowsMap b.map (λ n. 0) st v known_then
+      of_map : RefinesMap b.map (λ n. 0) st v known_then
       of_map = new_shown b.map st m v known_then setting was_new made_so.setting_is (ap (λ (c : Chart K). c.stored) chart_so.2) first_is refl refl counter_is (one_table_shown b.map st m v known_then past_is its_role listed)
 
       one_table_done : Both (effects_of its known (changed.Wrote (Root r) before after)) (known_after its (changed.Wrote (Root r) before after) known)
@@ -436,22 +436,22 @@ module _ {K V : Type 0} (same : K → K → Bool) (hash : ℕ → K → ℕ) (na
     done_so (changed.Roomed bucket had) is by_it = absurd by_it
 
     -- so all is shown
-    pub map_stands : ShowsAfter same name m known s shown (with_effects None of (effects_of its known told) m) (known_after its told known) rest
+    pub map_stands : RefinesAfter same name m known s shown (with_effects None of (effects_of its known told) m) (known_after its told known) rest
     map_stands = by (done_so told refl done_by)
       where
-        by : Both (effects_of its known told) (known_after its told known) → ShowsAfter same name m known s shown (with_effects None of (effects_of its known told) m) (known_after its told known) rest
+        by : Both (effects_of its known told) (known_after its told known) → RefinesAfter same name m known s shown (with_effects None of (effects_of its known told) m) (known_after its told known) rest
         by (beside, of_map) = record {
           shows = record {
             blocks = beside.shows.blocks;
             number = with_at beside.shows.number b.map (λ n. 0);
-            maps = λ n x is. elim (cases_eq n b.map) as (λ _. ShowsMap n (with_at beside.shows.number b.map (λ n. 0) n) x (with_effects None of (effects_of its known told) m) (known_after its told known)) [
+            maps = λ n x is. elim (cases_eq n b.map) as (λ _. RefinesMap n (with_at beside.shows.number b.map (λ n. 0) n) x (with_effects None of (effects_of its known told) m) (known_after its told known)) [
               | inl e ↦
                   let it_is : st ≡ x = one_of st x (sym (at_same s.maps b.map (Some st) n e) ∙ is) in
-                  subst (λ (f : ℕ → ℕ). ShowsMap n f x (with_effects None of (effects_of its known told) m) (known_after its told known)) (sym (at_same beside.shows.number b.map (λ n. 0) n e))
-                  (subst (λ (y : ℕ). ShowsMap y (λ n. 0) x (with_effects None of (effects_of its known told) m) (known_after its told known)) (sym e)
-                  (subst (λ (y : Standing K). ShowsMap b.map (λ n. 0) y (with_effects None of (effects_of its known told) m) (known_after its told known)) it_is of_map))
+                  subst (λ (f : ℕ → ℕ). RefinesMap n f x (with_effects None of (effects_of its known told) m) (known_after its told known)) (sym (at_same beside.shows.number b.map (λ n. 0) n e))
+                  (subst (λ (y : ℕ). RefinesMap y (λ n. 0) x (with_effects None of (effects_of its known told) m) (known_after its told known)) (sym e)
+                  (subst (λ (y : Standing K). RefinesMap b.map (λ n. 0) y (with_effects None of (effects_of its known told) m) (known_after its told known)) it_is of_map))
               | inr ne ↦
-                  subst (λ (f : ℕ → ℕ). ShowsMap n f x (with_effects None of (effects_of its known told) m) (known_after its told known)) (sym (at_other beside.shows.number b.map (λ n. 0) n ne))
+                  subst (λ (f : ℕ → ℕ). RefinesMap n f x (with_effects None of (effects_of its known told) m) (known_after its told known)) (sym (at_other beside.shows.number b.map (λ n. 0) n ne))
                   (beside.shows.maps n x (sym (at_other s.maps b.map (Some st) n ne) ∙ is))
             ];
             calls = beside.shows.calls;
@@ -459,8 +459,8 @@ module _ {K V : Type 0} (same : K → K → Bool) (hash : ℕ → K → ℕ) (na
           numbers = λ n x e. at_other beside.shows.number b.map (λ n. 0) n (λ same_number. (let none = ap s.maps same_number ∙ not_there in cc (none, e))) ∙ beside.numbers n x e;
         }
 
-  making_shown : (t : Advance Setting) → said ≡ t → (comes : MakingComesTo same hash s old new i b end w2 t) → NotesCounter known b → WasNew b.map t m
-      → ShowsAfter same name m known s shown (with_effects None of (effects_of its known told) m) (known_after its told known) (making_after same hash s old new i b end w2 t comes)
+  making_shown : (t : Advance Setting) → said ≡ t → (comes : MakingHasOutcome same hash s old new i b end w2 t) → NotesCounter known b → WasNew b.map t m
+      → RefinesAfter same name m known s shown (with_effects None of (effects_of its known told) m) (known_after its told known) (making_after same hash s old new i b end w2 t comes)
   making_shown progress.Goes e comes notes was_new =
       making_leads (record s { world = w2; makers = with_at s.makers i (Some (record b { machine = end })) }) shown.calls (λ n st is. (comes.together.makings.standing.each n st is).ground.map)
       (λ r before after is. absurd (not_going r before after is e comes))

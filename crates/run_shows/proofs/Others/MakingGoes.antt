@@ -18,7 +18,7 @@ use Rattle.run_effects.specs.declared.changed.Changed.{Changed}
 use Rattle.run_effects.specs.declared.changed.Changed.TheVariants as changed
 use Rattle.run_effects.specs.declared.changed.Kind.TheVariants as kind
 use Rattle.many_maps.proofs.Given.CallersTogether.At.{at_other, at_same}
-use Rattle.many_maps.specs.Endings.{MakingStepsAmong}
+use Rattle.many_maps.specs.Endings.{MakingStepsWithEndings}
 use Rattle.many_maps.specs.Makings.{Beginning, HasMade}
 use Rattle.run_effects.specs.Effects.Effects.{names_same, named, made_role, taken_by, effects_of, known_after}
 use Rattle.run_effects.specs.Effects.Known.{Known}
@@ -27,7 +27,7 @@ use Rattle.run_effects.specs.declared.acting.Acting.TheVariants as acts
 use Rattle.run_effects.specs.declared.role.Role.{Role}
 use Rattle.run_effects.specs.declared.role.Role.TheVariants as role
 use Rattle.run_shows.specs.Follows.Blocks.{HasRole}
-use Rattle.run_shows.specs.Follows.Shows.{Shows}
+use Rattle.run_shows.specs.Follows.Shows.{Refines}
 use Rattle.run_shows.proofs.Follows.Alike.{AllStill, AreSame, calm_still, put_here}
 use Rattle.run_shows.proofs.Follows.Operations.{LeavesBy, Operated, operated}
 use Rattle.run_shows.specs.Others.Counters.{NotesCounters, MakingsNoteCounters}
@@ -40,7 +40,7 @@ use Rattle.run_shows.proofs.Others.Noted.{counter_on}
 use Rattle.run_shows.proofs.Others.Quiet.{all_quiet}
 use Rattle.run_shows.proofs.Scenes.May.{may_make}
 use Rattle.run_shows.specs.Scenes.Held.{Held, IsAt}
-use Rattle.run_shows.specs.Scenes.Making.{MakingComesTo, MakingStepsFrom}
+use Rattle.run_shows.specs.Scenes.Making.{MakingHasOutcome, MakingStepsFrom}
 use Rattle.run_shows.specs.Scenes.Scene.{Scene, slot_of}
 use Rattle.seize_words.proofs.General.{same_some as one_of}
 
@@ -57,8 +57,8 @@ new_stays map setting m v same new = record {
 }
 
 module _ {K V : Type 0} (same : K → K → Bool) (hash : ℕ → K → ℕ) (name : ℕ → List ℕ) (m : Moment K V) (known : Known) (s : Scene K V) (old new : Held K V) (at : IsAt same hash old s)
-    (shown : Shows same name m known s) (i : ℕ) (b : Beginning K) (here : s.makers i ≡ Some b) (end : NewMap) (said : Advance Setting) (steps : MakingStepsFrom b.machine old new end said)
-    (did : MakingStepsAmong V same same old.batch_size old.roots slot_of s.world s.maps s.calls s.makers s.enders i b new.memory (end, said)) where
+    (shown : Refines same name m known s) (i : ℕ) (b : Beginning K) (here : s.makers i ≡ Some b) (end : NewMap) (said : Advance Setting) (steps : MakingStepsFrom b.machine old new end said)
+    (did : MakingStepsWithEndings V same same old.batch_size old.roots slot_of s.world s.maps s.calls s.makers s.enders i b new.memory (end, said)) where
   abbrev w : World (Node K V)
   w = s.world
 
@@ -129,7 +129,7 @@ module _ {K V : Type 0} (same : K → K → Bool) (hash : ℕ → K → ℕ) (na
       | inr ne ↦ others_noted s2 at2 j d is (sym (makers j ∙ at_other s.makers i next j ne) ∙ is)
     ]
 
-    pub making_noted : (t : Advance Setting) → (comes : MakingComesTo same hash s old new i b end w2 t) → NotesCounters (known_after its told known) (making_after same hash s old new i b end w2 t comes)
+    pub making_noted : (t : Advance Setting) → (comes : MakingHasOutcome same hash s old new i b end w2 t) → NotesCounters (known_after its told known) (making_after same hash s old new i b end w2 t comes)
     making_noted progress.Goes comes =
         noted_on _ comes (Some (record b { machine = end })) (λ j. refl) (λ d is. subst (λ (x : Beginning K). NotesCounter (known_after its told known) x) (one_of (record b { machine = end }) d is) (own_noted comes))
     making_noted progress.Waits comes = absurd comes

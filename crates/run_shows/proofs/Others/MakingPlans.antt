@@ -33,7 +33,7 @@ use Rattle.run_effects.specs.Given.ResizeDeclared.sum.Sum.{Sum}
 use Rattle.run_effects.specs.Given.ResizeDeclared.sum.Summing.{Summing}
 use Rattle.run_effects.specs.Given.ResizeDeclared.sum.Summing.TheVariants as summing
 use Rattle.run_effects.specs.Tells.Seen.{word_or, seen_of}
-use Rattle.run_effects.specs.ReportingMemory.Tells.{told_of, StepsTold}
+use Rattle.run_effects.specs.ReportingMemory.Tells.{observed_of, StepsObserved}
 use Rattle.run_effects.specs.declared.changed.Changed.{Changed}
 use Rattle.run_effects.specs.declared.changed.Changed.TheVariants as changed
 use Rattle.run_effects.specs.declared.changed.Kind.TheVariants as kind
@@ -74,7 +74,7 @@ module _ {K V : Type 0} (w : World (Node K V)) (i root : ℕ) where
   IsPlain (Take b) = Unit {0}
   IsPlain _ = ⊥
 
-  op_says : (m : Mem (Node K V)) (op : Op (Node K V)) (out : Out (Node K V)) → IsPlain op → TellsMaking (told_of op out (seen_of m op out))
+  op_says : (m : Mem (Node K V)) (op : Op (Node K V)) (out : Out (Node K V)) → IsPlain op → TellsMaking (observed_of op out (seen_of m op out))
   op_says m (Load at) out is = tt
   op_says m (Store at word) out is = is (word_or (word_at m at))
   op_says m (Swap at word) out is = absurd is
@@ -89,7 +89,7 @@ module _ {K V : Type 0} (w : World (Node K V)) (i root : ℕ) where
   op_says m (Rewrite b value) out is = absurd is
   op_says m (Room bucket) out is = absurd is
 
-  op_keeps : (m m2 : Mem (Node K V)) (op : Op (Node K V)) (out : Out (Node K V)) → IsPlain op → Can m op → Took m op out m2 → KeepsValues m m2 (told_of op out (seen_of m op out))
+  op_keeps : (m m2 : Mem (Node K V)) (op : Op (Node K V)) (out : Out (Node K V)) → IsPlain op → Can m op → Took m op out m2 → KeepsValues m m2 (observed_of op out (seen_of m op out))
   op_keeps m m2 (Load at) out is can took = λ b. ap (λ (n : Mem (Node K V)). value_at n b) took.1
   op_keeps m m2 (Store at word) out is can took = λ b. ap (λ (n : Mem (Node K V)). value_at n b) took.1 ∙ value_at-with_word m at word b can
   op_keeps m m2 (Swap at word) out is can took = absurd is
@@ -117,11 +117,11 @@ module _ {K V : Type 0} (w : World (Node K V)) (i root : ℕ) where
   plain_as f (Turn rest) is = tt
   plain_as f (Do op rest) is = is
 
-  plan_says : {R : Type 0} (m m2 : Mem (Node K V)) (told : Changed) (plan : Plan (Node K V) R) (end : R) → StepsTold K V R m changed.Nothing plan m2 told end → IsPlainPlan plan → TellsMaking told
+  plan_says : {R : Type 0} (m m2 : Mem (Node K V)) (told : Changed) (plan : Plan (Node K V) R) (end : R) → StepsObserved K V R m changed.Nothing plan m2 told end → IsPlainPlan plan → TellsMaking told
   plan_says m m2 told (Turn rest) end steps is = subst TellsMaking (sym steps.2) tt
   plan_says m m2 told (Do op rest) end steps is = subst TellsMaking (sym steps.1.1) (op_says m op steps.0 is)
 
-  plan_keeps : {R : Type 0} (m m2 : Mem (Node K V)) (told : Changed) (plan : Plan (Node K V) R) (end : R) → StepsTold K V R m changed.Nothing plan m2 told end → IsPlainPlan plan → May Can Took value_at m plan → KeepsValues m m2 told
+  plan_keeps : {R : Type 0} (m m2 : Mem (Node K V)) (told : Changed) (plan : Plan (Node K V) R) (end : R) → StepsObserved K V R m changed.Nothing plan m2 told end → IsPlainPlan plan → May Can Took value_at m plan → KeepsValues m m2 told
   plan_keeps m m2 told (Turn rest) end steps is can = subst (KeepsValues m m2) (sym steps.2) (λ b. ap (λ (n : Mem (Node K V)). value_at n b) steps.0)
   plan_keeps m m2 told (Do op rest) end steps is can = subst (KeepsValues m m2) (sym steps.1.1) (op_keeps m m2 op steps.0 is can.0 steps.1.0)
 
@@ -160,7 +160,7 @@ module _ {K V : Type 0} (w : World (Node K V)) (i roots : ℕ) (n : NewMap) wher
 
   module _ (m m2 : Mem (Node K V)) (told : Changed) where
     abbrev Told : Plan (Node K V) (NewMap × Advance Setting) → NewMap × Advance Setting → Type 0
-    Told plan end = StepsTold K V (NewMap × Advance Setting) m changed.Nothing plan m2 told end
+    Told plan end = StepsObserved K V (NewMap × Advance Setting) m changed.Nothing plan m2 told end
 
     pub making_tells : (end : NewMap × Advance Setting) → OpeningFacts w roots i n n.stands → Told (new_map.new_map_plan n) end → TellsMaking w i n.setting.root told
     making_tells end facts steps = plan_says w i n.setting.root m m2 told (new_map.new_map_plan n) end steps (map_plain n.stands facts)
@@ -169,7 +169,7 @@ module _ {K V : Type 0} (w : World (Node K V)) (i roots : ℕ) (n : NewMap) wher
     making_keeps end facts may steps = plan_keeps w i n.setting.root m m2 told (new_map.new_map_plan n) end steps (map_plain n.stands facts) may
 
     -- it has its root where it writes it
-    no_root : (at : At) (expected word : ℕ) (out : Out (Node K V)) (r before after : ℕ) → (at ≡ Root r → ⊥) → told_of (Exchange at expected word) out (seen_of m (Exchange at expected word) out) ≡ changed.Wrote (Root r) before after → ⊥
+    no_root : (at : At) (expected word : ℕ) (out : Out (Node K V)) (r before after : ℕ) → (at ≡ Root r → ⊥) → observed_of (Exchange at expected word) out (seen_of m (Exchange at expected word) out) ≡ changed.Wrote (Root r) before after → ⊥
     no_root at expected word (Exchanged (Ok found)) r before after other e = other (cc e)
     no_root at expected word (Exchanged (Err found)) r before after other e = cc e
     no_root at expected word _ r before after other e = cc e
@@ -209,7 +209,7 @@ module _ {K V : Type 0} (w : World (Node K V)) (i roots : ℕ) (n : NewMap) wher
       makes_not c table _ e = not_goes _ e
 
       links_so : (c : NewTable) (table : Table) (out : Out (Node K V)) → Ends (value_at m2) (then_as (new_map.opened n) (new_table.linked c table out)) (opening, progress.Done setting)
-          → (before : ℕ) × (told_of (Exchange c.link 0 table.link) out (seen_of m (Exchange c.link 0 table.link) out) ≡ changed.Wrote c.link before table.link)
+          → (before : ℕ) × (observed_of (Exchange c.link 0 table.link) out (seen_of m (Exchange c.link 0 table.link) out) ≡ changed.Wrote c.link before table.link)
       links_so c table (Exchanged (Ok before)) e = (before, refl)
       links_so c table (Exchanged (Err found)) e = absurd (not_goes _ e)
       links_so c table _ e = absurd (not_goes _ e)
@@ -229,7 +229,7 @@ module _ {K V : Type 0} (w : World (Node K V)) (i roots : ℕ) (n : NewMap) wher
       takes_not (Exchanged (Err used)) e = next_not (nat_lt n.setting.root (n.roots - 1)) _ _ _ e
       takes_not _ e = not_goes _ e
 
-      shards_so : (out : Out (Node K V)) → told ≡ told_of (Make node.Shards ((n.setting.mask + 1) % 2 ^ 64)) out (seen_of m (Make node.Shards ((n.setting.mask + 1) % 2 ^ 64)) out)
+      shards_so : (out : Out (Node K V)) → told ≡ observed_of (Make node.Shards ((n.setting.mask + 1) % 2 ^ 64)) out (seen_of m (Make node.Shards ((n.setting.mask + 1) % 2 ^ 64)) out)
           → Ends (value_at m2) (new_map.made n out) (opening, progress.Done setting) → DoneBy setting told
       shards_so (Made (Ok x)) is e = by (n.len == 0) refl e
         where
@@ -281,7 +281,7 @@ module _ {K V : Type 0} (w : World (Node K V)) (i roots : ℕ) (n : NewMap) wher
           by false f = none_there _ _ f (λ h. h)
       takes_none is _ e = none_there _ _ e (λ h. subst HasMade is h)
 
-      shards_made : n.stands ≡ at.Shards → (out : Out (Node K V)) → told ≡ told_of (Make node.Shards ((n.setting.mask + 1) % 2 ^ 64)) out (seen_of m (Make node.Shards ((n.setting.mask + 1) % 2 ^ 64)) out)
+      shards_made : n.stands ≡ at.Shards → (out : Out (Node K V)) → told ≡ observed_of (Make node.Shards ((n.setting.mask + 1) % 2 ^ 64)) out (seen_of m (Make node.Shards ((n.setting.mask + 1) % 2 ^ 64)) out)
           → Ends (value_at m2) (new_map.made n out) (end, said) → CounterFrom end
       shards_made is (Made (Ok x)) so e = by (n.len == 0) e
         where

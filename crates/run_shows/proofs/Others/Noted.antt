@@ -22,7 +22,7 @@ use Rattle.run_effects.specs.Effects.Known.{Known}
 use Rattle.run_effects.specs.declared.acting.Acting.{Acting}
 use Rattle.run_effects.specs.declared.role.Role.{Role}
 use Rattle.run_effects.specs.declared.role.Role.TheVariants as role
-use Rattle.run_shows.specs.Follows.Blocks.{HasRole, ShowsBlocks}
+use Rattle.run_shows.specs.Follows.Blocks.{HasRole, RefinesBlocks}
 use Rattle.run_shows.proofs.Follows.Alike.{put_elsewhere}
 use Rattle.run_shows.proofs.Follows.Operations.{LeavesBy, Operated, operated_leaves}
 use Rattle.run_shows.proofs.Follows.Told.{roomed_as_many}
@@ -30,7 +30,7 @@ use Rattle.run_shows.specs.Others.Counters.{NotesCounters}
 use Rattle.run_shows.specs.Scenes.Held.{Held, IsAt}
 use Rattle.run_shows.specs.Scenes.Scene.{Scene}
 
-module _ {K V : Type 0} (m : Moment K V) (known : Known) (w w2 : World (Node K V)) (shown : ShowsBlocks m known w) (its : Acting) (c map : ℕ) (noted : known.roles c ≡ role.Counter map)
+module _ {K V : Type 0} (m : Moment K V) (known : Known) (w w2 : World (Node K V)) (shown : RefinesBlocks m known w) (its : Acting) (c map : ℕ) (noted : known.roles c ≡ role.Counter map)
     (there : value_at w2.memory c ≡ Some node.Shards) where
   was_there : value_at w.memory c ≡ Some node.Shards
   was_there = subst (λ (r : Role). HasRole w m.stored c r) noted (shown.roles c)
@@ -97,7 +97,7 @@ counter_there w roots i n opening.Over facts has = absurd has
 counter_there w roots i n (opening.Refused fault) facts has = absurd has
 
 module _ {K V : Type 0} (same : K → K → Bool) (hash : ℕ → K → ℕ) (m : Moment K V) (known : Known) (s s2 : Scene K V) (old new : Held K V) (at : IsAt same hash old s) (at2 : IsAt same hash new s2)
-    (shown : ShowsBlocks m known s.world) (op : Operated old.memory new.memory new.changed) (its : Acting) where
+    (shown : RefinesBlocks m known s.world) (op : Operated old.memory new.memory new.changed) (its : Acting) where
   left : LeavesBy s.world.memory s2.world.memory new.changed
   left =
       subst (λ (n : Mem (Node K V)). LeavesBy s.world.memory n new.changed) (sym at2.memory)

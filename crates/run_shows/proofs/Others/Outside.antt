@@ -11,7 +11,7 @@ use Rattle.run_effects.specs.Given.SchedulesViews.{is_in_map, is_in_a_map, behin
 use Rattle.run_effects.specs.Given.RuleChart.{Chart}
 use Rattle.many_maps.specs.Maps.{Standing}
 use Rattle.run_effects.specs.Effects.Known.{Known}
-use Rattle.run_shows.specs.Follows.Maps.{table_of, shape_at, tables_to, ShowsMap}
+use Rattle.run_shows.specs.Follows.Maps.{table_of, shape_at, tables_to, RefinesMap}
 use Rattle.run_shows.proofs.Follows.Alike.{AlikePairs, put_here, put_elsewhere}
 use Rattle.run_shows.proofs.Follows.Onward.{blocks_same, pairs_same, pairs_on}
 use Rattle.run_shows.specs.Others.Gone.{WaitOutside}
@@ -113,7 +113,7 @@ module _ (to : Stage) (t : TableId) where
 module _ {K V : Type 0} (n : ℕ) (number : ℕ → ℕ) (s : Standing K) (m v : Moment K V) (known : Known) (to : Stage) (t : TableId)
     (pairs : AlikePairs n m v) (maps : v.maps ≡ m.maps) (tables : v.tables ≡ map (at_stage t to) m.tables)
     (passed : (u : ℕ) → s.chart.first ≤ u → u < s.chart.past → same_table (table_of n u) t ≡ false) where
-  pub table_staged : ShowsMap n number s m known → ShowsMap n number s v known
+  pub table_staged : RefinesMap n number s m known → RefinesMap n number s v known
   table_staged h = record {
     there = record { there = h.there.there; is = ap (λ fs. find (λ f. f.number == n) fs) maps ∙ h.there.is; root = h.there.root; mode = h.there.mode; first = h.there.first };
     pairs = pairs_on n number s s m v known known (blocks_same s.chart s.blocks) (λ b lasting. refl) (pairs_same s.chart) pairs h.pairs;

@@ -7,7 +7,7 @@ use Rattle.run_effects.specs.Given.RunsDeclared.effect.Effect.TheVariants.{Asked
 use Rattle.run_effects.specs.Given.SchedulesEffects.{with_effect, with_effects}
 use Rattle.run_effects.specs.Given.SchedulesMoment.{UnderWay as CallThere, Moment}
 use Rattle.many_maps.specs.Given.CallersTogether.{UnderWay}
-use Rattle.run_shows.specs.Follows.Calls.{ShowsCalls}
+use Rattle.run_shows.specs.Follows.Calls.{RefinesCalls}
 use Rattle.run_shows.proofs.Follows.Alike.{is_still, AllStill, AreSame, still_all}
 
 module _ {K V : Type 0} where
@@ -41,7 +41,7 @@ module _ {K V : Type 0} where
   all_quiet (Some map) effects m all = still_all None map effects m all
 
   -- calls are shown where they are those that they were
-  pub calls_shown : (same : K → K → Bool) (name : ℕ → List ℕ) (m v : Moment K V) (calls : ℕ → ℕ → Option (UnderWay K V K)) → v.calls ≡ m.calls → ShowsCalls same name m calls → ShowsCalls same name v calls
+  pub calls_shown : (same : K → K → Bool) (name : ℕ → List ℕ) (m v : Moment K V) (calls : ℕ → ℕ → Option (UnderWay K V K)) → v.calls ≡ m.calls → RefinesCalls same name m calls → RefinesCalls same name v calls
   calls_shown same name m v calls e shown map i u is =
       let there = shown map i u is in
       (there.0, ap (λ (cs : List (CallThere K V)). find (λ c. is_same c.caller (name i)) cs) e ∙ there.1, there.2, there.3)

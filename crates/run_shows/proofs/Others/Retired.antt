@@ -10,7 +10,7 @@ use Rattle.run_effects.specs.Given.SchedulesViews.{is_retired, is_stage}
 use Rattle.run_effects.specs.Given.RuleChart.{Chart}
 use Rattle.many_maps.specs.Maps.{Standing}
 use Rattle.run_effects.specs.Effects.Known.{Known}
-use Rattle.run_shows.specs.Follows.Maps.{table_of, shape_at, tables_to, ShowsMap}
+use Rattle.run_shows.specs.Follows.Maps.{table_of, shape_at, tables_to, RefinesMap}
 use Rattle.run_shows.proofs.Others.Leads.{same_parts}
 use Rattle.seize_acts.proofs.Acts.Begun.{or_either as one_of_two}
 use Rattle.seize_words.proofs.General.{both_true as both, or_second as or_last}
@@ -58,7 +58,7 @@ module _ {K : Type 0} (n : ℕ) (c : Chart K) (stage : ℕ → Stage) (p : Table
         | inr none ↦ absurd (cc none)
       ]
 
-module _ {K V : Type 0} (n : ℕ) (number : ℕ → ℕ) (s : Standing K) (m : Moment K V) (known : Known) (shown : ShowsMap n number s m known) (t : TableId) (retired : is_stage is_retired t m ≡ true) where
+module _ {K V : Type 0} (n : ℕ) (number : ℕ → ℕ) (s : Standing K) (m : Moment K V) (known : Known) (shown : RefinesMap n number s m known) (t : TableId) (retired : is_stage is_retired t m ≡ true) where
   abbrev is_it : TableThere → Bool
   is_it x = same_table x.table t && is_retired x.stage
 

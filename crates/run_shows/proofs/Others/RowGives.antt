@@ -30,7 +30,7 @@ use Rattle.run_effects.proofs.Given.SeizeRuleRows.Taken.{TellsTaken, settle_tell
 use Rattle.run_effects.specs.Given.TablesNodes.{deferred_word}
 use Rattle.run_effects.specs.Given.TablesDeclared.node.Node.{Node}
 use Rattle.run_effects.specs.Tells.Seen.{seen_of}
-use Rattle.run_effects.specs.ReportingMemory.Tells.{told_of, StepsTold}
+use Rattle.run_effects.specs.ReportingMemory.Tells.{observed_of, StepsObserved}
 use Rattle.run_effects.specs.declared.changed.Changed.{Changed}
 use Rattle.run_effects.specs.declared.changed.Changed.TheVariants as changed
 use Rattle.run_shows.specs.declared.row.RowTold.{RowTold}
@@ -73,7 +73,7 @@ registers_none T c registering.Begin = tt
 registers_none T c _ = tt
 
 module _ {K V : Type 0} (m m2 : Mem (Node K V)) (told : Changed) where
-  op_none : (op : Op (Node K V)) (out : Out (Node K V)) → IsNoTake op → TakesNone (told_of op out (seen_of m op out))
+  op_none : (op : Op (Node K V)) (out : Out (Node K V)) → IsNoTake op → TakesNone (observed_of op out (seen_of m op out))
   op_none (Load at) out is = tt
   op_none (Store at word) out is = tt
   op_none (Swap at word) (Found before) is = tt
@@ -92,7 +92,7 @@ module _ {K V : Type 0} (m m2 : Mem (Node K V)) (told : Changed) where
   op_none (Room bucket) (Roomed roomed) is = tt
   op_none (Room bucket) _ is = tt
 
-  plan_none : {R : Type 0} (plan : Plan (Node K V) R) (end : R) → StepsTold K V R m changed.Nothing plan m2 told end → IsNoTakePlan plan → TakesNone told
+  plan_none : {R : Type 0} (plan : Plan (Node K V) R) (end : R) → StepsObserved K V R m changed.Nothing plan m2 told end → IsNoTakePlan plan → TakesNone told
   plan_none (Turn rest) end steps is = subst TakesNone (sym steps.2) tt
   plan_none (Do op rest) end steps is = subst TakesNone (sym steps.1.1) (op_none op steps.0 is)
 
@@ -112,11 +112,11 @@ module _ {K V : Type 0} (m m2 : Mem (Node K V)) (told : Changed) where
     takes_gives next (Taken value) took is e = subst GivesBy (sym (ap (λ (x : Settle × Settled (Node K V)). x.1) e)) (block_in c.reclaiming, is, took.0)
     takes_gives next _ took is e = absurd took.0
 
-    settle_gives_at : (p : Settling) → StepsTold K V (Settle × Settled (Node K V)) m changed.Nothing (settle.plan_at deferred_word c p) m2 told end → TellsTaken m m2 (settle_effects c p) end.1 → GivesBy end.1
+    settle_gives_at : (p : Settling) → StepsObserved K V (Settle × Settled (Node K V)) m changed.Nothing (settle.plan_at deferred_word c p) m2 told end → TellsTaken m m2 (settle_effects c p) end.1 → GivesBy end.1
     settle_gives_at (settling.Takes next) s tells = takes_gives next s.0 s.1.0 s.1.1 s.2
     settle_gives_at p s tells = by_silence (settle_effects c p) (none_taken c p (λ h. h)) (plan_none (settle.plan_at deferred_word c p) end s (no_take (deferred_word {K = K} {V = V}) c p (λ h. h))) end.1 tells
 
-    settle_gives : StepsTold K V (Settle × Settled (Node K V)) m changed.Nothing (settle.settle_plan deferred_word c) m2 told end → GivesBy end.1
+    settle_gives : StepsObserved K V (Settle × Settled (Node K V)) m changed.Nothing (settle.settle_plan deferred_word c) m2 told end → GivesBy end.1
     settle_gives s = settle_gives_at c.stands s (settle_tells deferred_word m m2 c end (as_step m changed.Nothing (settle.settle_plan deferred_word c) m2 told end s))
 
   module _ (c : Leave) (end : Leave × Settled (Node K V)) where
@@ -137,7 +137,7 @@ module _ {K V : Type 0} (m m2 : Mem (Node K V)) (told : Changed) where
     settled_gives (x, settled.Gave value) g = g
     settled_gives (x, settled.Done) g = g
 
-    leave_gives : (p : Leaving) → StepsTold K V (Leave × Settled (Node K V)) m changed.Nothing (leave.plan_at deferred_word c p) m2 told end → GivesBy end.1
+    leave_gives : (p : Leaving) → StepsObserved K V (Leave × Settled (Node K V)) m changed.Nothing (leave.plan_at deferred_word c p) m2 told end → GivesBy end.1
     leave_gives leaving.Swaps s = swaps_gives (plan_none (leave.plan_at deferred_word c leaving.Swaps) end s tt) s.0 s.2
     leave_gives (leaving.Settles it) s =
         let inner = told_in m m2 told (leave.settled c) (settle.settle_plan deferred_word it) end s in

@@ -23,7 +23,7 @@ use Rattle.seize.specs.Settle as settle
 use Rattle.run_effects.specs.Given.TablesNodes.{deferred_word}
 use Rattle.run_effects.specs.Given.TablesDeclared.node.Node.{Node}
 use Rattle.run_effects.specs.Tells.Seen.{seen_of}
-use Rattle.run_effects.specs.ReportingMemory.Tells.{told_of, StepsTold}
+use Rattle.run_effects.specs.ReportingMemory.Tells.{observed_of, StepsObserved}
 use Rattle.run_effects.specs.declared.changed.Changed.{Changed}
 use Rattle.run_effects.specs.declared.changed.Changed.TheVariants as changed
 use Rattle.run_shows.specs.declared.row.RowTold.{RowTold}
@@ -85,7 +85,7 @@ registers_so T c registering.Begin = tt
 registers_so T c _ = tt
 
 module _ {K V : Type 0} where
-  op_tells : (m : Mem (Node K V)) (op : Op (Node K V)) (out : Out (Node K V)) → IsRowOp op → TellsRow (told_of op out (seen_of m op out))
+  op_tells : (m : Mem (Node K V)) (op : Op (Node K V)) (out : Out (Node K V)) → IsRowOp op → TellsRow (observed_of op out (seen_of m op out))
   op_tells m (Load at) out is = tt
   op_tells m (Store at word) out is = is
   op_tells m (Swap at word) (Found before) is = is
@@ -101,7 +101,7 @@ module _ {K V : Type 0} where
   op_tells m (Room bucket) (Roomed roomed) is = tt
   op_tells m (Room bucket) _ is = tt
 
-  plan_tells : {R : Type 0} (m m2 : Mem (Node K V)) (told : Changed) (plan : Plan (Node K V) R) (end : R) → StepsTold K V R m changed.Nothing plan m2 told end → IsRowPlan plan → TellsRow told
+  plan_tells : {R : Type 0} (m m2 : Mem (Node K V)) (told : Changed) (plan : Plan (Node K V) R) (end : R) → StepsObserved K V R m changed.Nothing plan m2 told end → IsRowPlan plan → TellsRow told
   plan_tells m m2 told (Turn rest) end steps is = subst TellsRow (sym steps.2) tt
   plan_tells m m2 told (Do op rest) end steps is = subst TellsRow (sym steps.1.1) (op_tells m op steps.0 is)
 

@@ -30,12 +30,12 @@ use Rattle.run_effects.specs.declared.role.Role.TheVariants as role
 use Rattle.run_shows.specs.declared.row.RowTold.{RowTold}
 use Rattle.run_shows.specs.declared.row.SlotRow.{SlotRow}
 use Rattle.run_shows.specs.Follows.Blocks.{WasLinked}
-use Rattle.run_shows.specs.Follows.Calls.{ShowsCalls}
-use Rattle.run_shows.specs.Follows.Shows.{Shows}
+use Rattle.run_shows.specs.Follows.Calls.{RefinesCalls}
+use Rattle.run_shows.specs.Follows.Shows.{Refines}
 use Rattle.run_shows.proofs.Follows.Alike.{AllStill}
 use Rattle.run_shows.proofs.Follows.Operations.{StaysThere, LeavesBy, operated_leaves}
 use Rattle.run_shows.proofs.Follows.Told.{roomed_as_many}
-use Rattle.run_shows.specs.Others.After.{ShowsAfter}
+use Rattle.run_shows.specs.Others.After.{RefinesAfter}
 use Rattle.run_shows.specs.Others.Gone.{WasRetired}
 use Rattle.run_shows.specs.Others.Rows.{scene_then, RowsOnSlotsAreShown}
 use Rattle.run_shows.proofs.Others.Leads.{roomed_still, either_still, calls_then, quiet, gone_quiet}
@@ -70,7 +70,7 @@ module _ {K V : Type 0} (size : ℕ) (w w2 : World (Node K V)) (r : Reached defe
           none (Some value) f = absurd (let now = (there.there value f).1 in cc (gone, now))
 
 -- Where such a step leads, whichever row it is of, or if it is of none: what is there stays so, but for a block that was taken away, and maps are as they were.
-module _ {K V : Type 0} (same : K → K → Bool) (name : ℕ → List ℕ) (m : Moment K V) (known : Known) (s : Scene K V) (shown : Shows same name m known s)
+module _ {K V : Type 0} (same : K → K → Bool) (name : ℕ → List ℕ) (m : Moment K V) (known : Known) (s : Scene K V) (shown : Refines same name m known s)
     (w2 : World (Node K V)) (maps2 : ℕ → Option (Standing K)) (maps_same : (n : ℕ) → IsSameMap (s.maps n) (maps2 n)) (stays : (b : ℕ) → StaysThere s.world.memory w2.memory b → StaysBlock s.world w2 b)
     (stood : (n : ℕ) (before : Standing K) → s.maps n ≡ Some before → IsMapIn same before.hash before.setting s.world before.chart before.blocks)
     (stand : (n : ℕ) (st : Standing K) → maps2 n ≡ Some st → IsMapIn same st.hash st.setting w2 st.chart st.blocks) where
@@ -79,7 +79,7 @@ module _ {K V : Type 0} (same : K → K → Bool) (name : ℕ → List ℕ) (m :
 
   -- where these are the effects
   abbrev Goal : List Effect → Known → Type 0
-  Goal effects after = ShowsAfter same name m known s shown (with_effects None None effects m) after rest
+  Goal effects after = RefinesAfter same name m known s shown (with_effects None None effects m) after rest
 
   still : (effects : List Effect) (after : Known) → AllStill effects → after.roles ≡ known.roles → after.stored ≡ known.stored → ((b : ℕ) → StaysThere s.world.memory w2.memory b) → Goal effects after
   still effects after none roles as_many there = quiet same name m known s shown w2 maps2 maps_same None rest shown.calls effects after none roles as_many (λ b. stays b (there b))
@@ -92,7 +92,7 @@ module _ {K V : Type 0} (same : K → K → Bool) (name : ℕ → List ℕ) (m :
     others : (x : ℕ) → x ≢ b → StaysBlock s.world w2 x
     others x ne = stays x (there x ne)
 
-    calls : (effects : List Effect) → ShowsCalls same name (with_effects None None effects m) s.calls
+    calls : (effects : List Effect) → RefinesCalls same name (with_effects None None effects m) s.calls
     calls = calls_then same name m known s shown w2 maps2 maps_same None rest shown.calls
 
     none_moved : (effects : List Effect) → AllStill effects → Goal effects free
@@ -111,7 +111,7 @@ module _ {K V : Type 0} (same : K → K → Bool) (name : ℕ → List ℕ) (m :
         (calls (Reclaimed (ATable t) ∷ [])) IsReclaimed t Handed (λ n before at. retired_apart n (shown.number n) before m known (shown.maps n before at) t may.0.0) may.0.1 (λ n. refl) refl refl refl refl
 
   pub row_leads : (told : Changed) → TellsRow told → LeavesBy s.world.memory w2.memory told → AtEachEffect WasRetired None None (effects_of Row known told) m
-      → ShowsAfter same name m known s shown (with_effects None None (effects_of Row known told) m) (known_after Row told known) (record s { world = w2; maps = maps2 })
+      → RefinesAfter same name m known s shown (with_effects None None (effects_of Row known told) m) (known_after Row told known) (record s { world = w2; maps = maps2 })
   row_leads changed.Nothing is l may = still [] known tt refl refl l
   row_leads (changed.Wrote (Slot t field) old new) is l may = still [] known tt refl refl (same_there s.world.memory w2.memory l.2)
   row_leads (changed.Wrote (Entry b field) old new) is l may = still _ known (either_still (names_same old new)) refl refl (same_there s.world.memory w2.memory l.2)
@@ -125,7 +125,7 @@ module _ {K V : Type 0} (same : K → K → Bool) (name : ℕ → List ℕ) (m :
       let alike = roomed_as_many Row known bucket had in still (effects_of Row known (changed.Roomed bucket had)) _ (roomed_still (had && nat_lt bucket known.buckets)) alike.0 alike.1 l
 
 module _ {K V : Type 0} (same : K → K → Bool) (hash : ℕ → K → ℕ) (name : ℕ → List ℕ) (m : Moment K V) (known : Known) (s : Scene K V) (old new : Held K V) (at : IsAt same hash old s)
-    (shown : Shows same name m known s) (i : ℕ) (row : SlotRow) (here : IsOnSlot s i row) (end : SlotRow × RowTold (Node K V))
+    (shown : Refines same name m known s) (i : ℕ) (row : SlotRow) (here : IsOnSlot s i row) (end : SlotRow × RowTold (Node K V))
     (steps : RowSteps K V row old.memory new.memory new.changed end) (happened : HappensAt same hash (Step i) s old new) where
   abbrev w : World (Node K V)
   w = s.world
@@ -141,7 +141,7 @@ module _ {K V : Type 0} (same : K → K → Bool) (hash : ℕ → K → ℕ) (na
       (row_operated old.memory new.memory told end row (may_row same hash old s at i row here) steps)))
 
   pub row_shown : AtEachEffect WasRetired None None (effects_of Row known told) m
-      → ShowsAfter same name m known s shown (with_effects None None (effects_of Row known told) m) (known_after Row told known) (scene_then same hash (Step i) s old new happened)
+      → RefinesAfter same name m known s shown (with_effects None None (effects_of Row known told) m) (known_after Row told known) (scene_then same hash (Step i) s old new happened)
   row_shown may =
       row_leads same name m known s shown happened.0 happened.2 happened.3
       (row_stays old.batch_size w happened.0 (came_reached old.batch_size w at.together.makings.standing.came) i happened.1)

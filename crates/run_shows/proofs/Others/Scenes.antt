@@ -13,18 +13,18 @@ use Rattle.run_effects.specs.Given.SchedulesViews.{is_in_map, behind}
 use Rattle.run_effects.specs.Given.RuleInWorld.{IsMapIn}
 use Rattle.run_effects.specs.Given.RuleWords.{Blocks}
 use Rattle.run_effects.proofs.Given.RuleWorld.Hands.{current_known}
-use Rattle.many_maps.specs.Given.CallersSights.{Sight, IsPartOf}
+use Rattle.many_maps.specs.Given.CallersSights.{Visible, IsPartOf}
 use Rattle.many_maps.specs.Maps.{Standing, IsSameMap}
 use Rattle.run_effects.specs.Effects.Known.{Known}
 use Rattle.run_effects.specs.declared.role.Role.{Role}
 use Rattle.run_effects.specs.declared.role.Role.TheVariants as role
 use Rattle.run_shows.specs.Follows.Blocks.{HasRole}
-use Rattle.run_shows.specs.Follows.Calls.{ShowsCalls}
-use Rattle.run_shows.specs.Follows.Maps.{table_of, ShowsMap}
-use Rattle.run_shows.specs.Follows.Shows.{Shows}
+use Rattle.run_shows.specs.Follows.Calls.{RefinesCalls}
+use Rattle.run_shows.specs.Follows.Maps.{table_of, RefinesMap}
+use Rattle.run_shows.specs.Follows.Shows.{Refines}
 use Rattle.run_shows.proofs.Follows.Alike.{AreSame, IsAlike, alike_same, put_elsewhere}
 use Rattle.run_shows.proofs.Follows.Onward.{IsLasting, tables_same, pairs_same, blocks_same, blocks_part, map_on}
-use Rattle.run_shows.specs.Others.After.{ShowsAfter}
+use Rattle.run_shows.specs.Others.After.{RefinesAfter}
 use Rattle.run_shows.specs.Others.Gone.{WaitOutside}
 use Rattle.run_shows.proofs.Others.Outside.{pairs_outside, put_outside, all_outside, table_staged}
 use Rattle.run_shows.proofs.Others.Stays.{StaysBlock, blocks_stay, blocks_but}
@@ -40,7 +40,7 @@ module _ {K V : Type 0} (same : K → K → Bool) (n : ℕ) (number : ℕ → �
       ap (λ (f : ℕ → Role). f b) roles
       ∙ put_elsewhere x role.Free known.roles b (λ e. (let there : value_at w2.memory x ≡ Some value = ap (value_at w2.memory) (sym e) ∙ is in cc (there, gone)))
 
-  pub without_block : ShowsMap n number st v known → ShowsMap n number st v after
+  pub without_block : RefinesMap n number st v known → RefinesMap n number st v after
   without_block h = record {
     there = record { there = h.there.there; is = h.there.is; root = h.there.root; mode = h.there.mode; first = h.there.first };
     pairs = record {
@@ -60,29 +60,29 @@ module _ {K V : Type 0} (same : K → K → Bool) (n : ℕ) (number : ℕ → �
     counter = as_was st.setting.counter _ stands.counter ∙ h.counter;
   }
 
-module _ {K V : Type 0} (same : K → K → Bool) (name : ℕ → List ℕ) (m : Moment K V) (known : Known) (s : Scene K V) (shown : Shows same name m known s)
+module _ {K V : Type 0} (same : K → K → Bool) (name : ℕ → List ℕ) (m : Moment K V) (known : Known) (s : Scene K V) (shown : Refines same name m known s)
     (w2 : World (Node K V)) (maps2 : ℕ → Option (Standing K)) (maps_same : (n : ℕ) → IsSameMap (s.maps n) (maps2 n)) where
   -- a map stands in the same blocks, of which these may be looked at
-  abbrev seen_so : Standing K → Blocks → (ℕ → Sight) → Standing K
+  abbrev seen_so : Standing K → Blocks → (ℕ → Visible) → Standing K
   seen_so st blocks sights = record st { blocks = blocks; sights = sights }
 
   -- each map that stands is shown so
   abbrev AreShown : Moment K V → Known → Type 0
   AreShown v after =
-      (n : ℕ) (before : Standing K) → s.maps n ≡ Some before → (blocks : Blocks) (sights : ℕ → Sight) → IsPartOf before.chart blocks before.blocks
-      → maps2 n ≡ Some (seen_so before blocks sights) → ShowsMap n (shown.number n) (seen_so before blocks sights) v after
+      (n : ℕ) (before : Standing K) → s.maps n ≡ Some before → (blocks : Blocks) (sights : ℕ → Visible) → IsPartOf before.chart blocks before.blocks
+      → maps2 n ≡ Some (seen_so before blocks sights) → RefinesMap n (shown.number n) (seen_so before blocks sights) v after
 
-  maps_then : (v : Moment K V) (after : Known) → AreShown v after → (n : ℕ) (st : Standing K) → maps2 n ≡ Some st → ShowsMap n (shown.number n) st v after
+  maps_then : (v : Moment K V) (after : Known) → AreShown v after → (n : ℕ) (st : Standing K) → maps2 n ≡ Some st → RefinesMap n (shown.number n) st v after
   maps_then v after each n st is = by (s.maps n) refl (maps_same n)
     where
-      by : (o : Option (Standing K)) → s.maps n ≡ o → IsSameMap o (maps2 n) → ShowsMap n (shown.number n) st v after
+      by : (o : Option (Standing K)) → s.maps n ≡ o → IsSameMap o (maps2 n) → RefinesMap n (shown.number n) st v after
       by None e none = absurd (cc (none, is))
       by (Some before) e (blocks, sights, here, part) =
-          subst (λ (x : Standing K). ShowsMap n (shown.number n) x v after) (one_of (seen_so before blocks sights) st (sym here ∙ is)) (each n before e blocks sights part here)
+          subst (λ (x : Standing K). RefinesMap n (shown.number n) x v after) (one_of (seen_so before blocks sights) st (sym here ∙ is)) (each n before e blocks sights part here)
 
   -- all blocks are as they were
   pub all_stay : (v : Moment K V) (after : Known) → AreSame m v → after.roles ≡ known.roles → after.stored ≡ known.stored → ((b : ℕ) → StaysBlock s.world w2 b)
-      → (rest : Scene K V) → ShowsCalls same name v rest.calls → ShowsAfter same name m known s shown v after (record rest { world = w2; maps = maps2 })
+      → (rest : Scene K V) → RefinesCalls same name v rest.calls → RefinesAfter same name m known s shown v after (record rest { world = w2; maps = maps2 })
   all_stay v after alike roles as_many stays rest calls = record {
     shows = record {
       blocks = blocks_stay m v known after s.world w2 shown.blocks alike.stored as_many roles stays;
@@ -98,7 +98,7 @@ module _ {K V : Type 0} (same : K → K → Bool) (name : ℕ → List ℕ) (m :
   -- one, which was none of a map's, is this from now on
   pub one_put : (v : Moment K V) (after : Known) → v.stored ≡ m.stored → ((n : ℕ) (before : Standing K) → s.maps n ≡ Some before → IsAlike n m v) → (x : ℕ) (r : Role) → after.roles ≡ put x r known.roles → after.stored ≡ known.stored → (IsLasting (known.roles x) → ⊥)
       → HasRole w2 m.stored x r → ((n : ℕ) → r ≡ role.Pair n → ⊥) → ((b : ℕ) → b ≢ x → StaysBlock s.world w2 b)
-      → (rest : Scene K V) → ShowsCalls same name v rest.calls → ShowsAfter same name m known s shown v after (record rest { world = w2; maps = maps2 })
+      → (rest : Scene K V) → RefinesCalls same name v rest.calls → RefinesAfter same name m known s shown v after (record rest { world = w2; maps = maps2 })
   one_put v after stored alike x r roles as_many none its no_pair stays rest calls = record {
     shows = record {
       blocks = blocks_but m v known after s.world w2 shown.blocks stored as_many x r roles its no_pair stays;
@@ -116,13 +116,13 @@ module _ {K V : Type 0} (same : K → K → Bool) (name : ℕ → List ℕ) (m :
   module _ (stood : (n : ℕ) (before : Standing K) → s.maps n ≡ Some before → IsMapIn same before.hash before.setting s.world before.chart before.blocks)
       (stand : (n : ℕ) (st : Standing K) → maps2 n ≡ Some st → IsMapIn same st.hash st.setting w2 st.chart st.blocks)
       (x : ℕ) (gone : value_at w2.memory x ≡ None) (stays : (b : ℕ) → b ≢ x → StaysBlock s.world w2 b) (after : Known) (roles : after.roles ≡ put x role.Free known.roles) (as_many : after.stored ≡ known.stored)
-      (rest : Scene K V) (v : Moment K V) (stored : v.stored ≡ m.stored) (calls : ShowsCalls same name v rest.calls) where
+      (rest : Scene K V) (v : Moment K V) (stored : v.stored ≡ m.stored) (calls : RefinesCalls same name v rest.calls) where
     abbrev Goal : Type 0
-    Goal = ShowsAfter same name m known s shown v after (record rest { world = w2; maps = maps2 })
+    Goal = RefinesAfter same name m known s shown v after (record rest { world = w2; maps = maps2 })
 
     -- where each map is shown at that moment, by what was known
-    gone_so : ((n : ℕ) (before : Standing K) (blocks : Blocks) (sights : ℕ → Sight) → s.maps n ≡ Some before → IsPartOf before.chart blocks before.blocks → maps2 n ≡ Some (seen_so before blocks sights)
-        → ShowsMap n (shown.number n) before v known) → Goal
+    gone_so : ((n : ℕ) (before : Standing K) (blocks : Blocks) (sights : ℕ → Visible) → s.maps n ≡ Some before → IsPartOf before.chart blocks before.blocks → maps2 n ≡ Some (seen_so before blocks sights)
+        → RefinesMap n (shown.number n) before v known) → Goal
     gone_so each = record {
       shows = record {
         blocks = blocks_but m v known after s.world w2 shown.blocks stored as_many x role.Free roles gone (λ n e. cc e) stays;
@@ -139,7 +139,7 @@ module _ {K V : Type 0} (same : K → K → Bool) (name : ℕ → List ℕ) (m :
 
     -- a pair that it was is in no map that stands
     module _ (k : ℕ) (was : known.roles x ≡ role.Pair k) where
-      not_here : (n : ℕ) (before : Standing K) (blocks : Blocks) (sights : ℕ → Sight) → s.maps n ≡ Some before → IsPartOf before.chart blocks before.blocks → maps2 n ≡ Some (seen_so before blocks sights)
+      not_here : (n : ℕ) (before : Standing K) (blocks : Blocks) (sights : ℕ → Visible) → s.maps n ≡ Some before → IsPartOf before.chart blocks before.blocks → maps2 n ≡ Some (seen_so before blocks sights)
           → is_in_map n (m.place k) ≡ false
       not_here n before blocks sights e part here = by (is_in_map n (m.place k)) refl
         where

@@ -11,7 +11,7 @@ use Rattle.many_maps.specs.Maps.{Standing, IsSameMap}
 use Rattle.run_effects.specs.Effects.Known.{Known}
 use Rattle.run_effects.specs.declared.role.Role.{Role}
 use Rattle.run_effects.specs.declared.role.Role.TheVariants as role
-use Rattle.run_shows.specs.Follows.Blocks.{WasLinked, HasRole, ShowsBlocks}
+use Rattle.run_shows.specs.Follows.Blocks.{WasLinked, HasRole, RefinesBlocks}
 use Rattle.run_shows.proofs.Follows.Alike.{put_here, put_elsewhere}
 use Rattle.run_shows.proofs.Follows.Operations.{StaysThere}
 use Rattle.run_shows.proofs.Follows.Told.{ArePairsOnce, once_put}
@@ -30,9 +30,9 @@ module _ {K V : Type 0} (w w2 : World (Node K V)) where
   role_stays stored b h (role.Table t len) has = (has.0, h.value ∙ has.1, h.linked _ has.1 has.2)
   role_stays stored b h (role.Counter map) has = h.value ∙ has
 
-module _ {K V : Type 0} (m v : Moment K V) (known after : Known) (w w2 : World (Node K V)) (shown : ShowsBlocks m known w)
+module _ {K V : Type 0} (m v : Moment K V) (known after : Known) (w w2 : World (Node K V)) (shown : RefinesBlocks m known w)
     (stored : v.stored ≡ m.stored) (as_many : after.stored ≡ known.stored) where
-  shown_so : ((b : ℕ) → HasRole w2 m.stored b (after.roles b)) → ArePairsOnce after.roles → ShowsBlocks v after w2
+  shown_so : ((b : ℕ) → HasRole w2 m.stored b (after.roles b)) → ArePairsOnce after.roles → RefinesBlocks v after w2
   shown_so has once = record {
     roles = λ b. subst (λ (xs : List (K × V)). HasRole w2 xs b (after.roles b)) (sym stored) (has b);
     once = once;
@@ -40,7 +40,7 @@ module _ {K V : Type 0} (m v : Moment K V) (known after : Known) (w w2 : World (
   }
 
   -- all blocks are as they were
-  pub blocks_stay : after.roles ≡ known.roles → ((b : ℕ) → StaysBlock w w2 b) → ShowsBlocks v after w2
+  pub blocks_stay : after.roles ≡ known.roles → ((b : ℕ) → StaysBlock w w2 b) → RefinesBlocks v after w2
   blocks_stay roles stays = shown_so
       (λ b. subst (λ (f : ℕ → Role). HasRole w2 m.stored b (f b)) (sym roles) (role_stays w w2 m.stored b (stays b) (known.roles b) (shown.roles b)))
       (subst ArePairsOnce (sym roles) shown.once)
@@ -55,7 +55,7 @@ module _ {K V : Type 0} (m v : Moment K V) (known after : Known) (w w2 : World (
           (role_stays w w2 m.stored b (stays b ne) (known.roles b) (shown.roles b))
     ]
 
-    pub blocks_but : ShowsBlocks v after w2
+    pub blocks_but : RefinesBlocks v after w2
     blocks_but = shown_so (λ b. subst (λ (f : ℕ → Role). HasRole w2 m.stored b (f b)) (sym roles) (has_put b))
         (subst ArePairsOnce (sym roles) (once_put known.roles x r none shown.once))
 

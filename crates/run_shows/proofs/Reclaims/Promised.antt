@@ -17,12 +17,12 @@ use Rattle.many_maps.specs.Given.CallersTogether.{UnderWay, CameAbout}
 use Rattle.many_maps.specs.Endings.{Finishing}
 use Rattle.many_maps.specs.Makings.{Beginning}
 use Rattle.many_maps.specs.Maps.{Standing, IsSameMap}
-use Rattle.run_shows.specs.Reclaims.Reclaims.{LeftBehind, ReclaimingAt, ReclaimingTold, AllStandIdle, ReclaimingTogether, ReclaimingBegins, StepsOfReclaiming, ReclaimingStands}
-use Rattle.run_shows.specs.Reclaims.Slots.{IsQuiet}
+use Rattle.run_shows.specs.Reclaims.Reclaims.{LeftBehind, ReclaimingAt, ReclaimingOutcome, AllStandIdle, ReclaimingTogether, ReclaimingBegins, StepsOfReclaiming, ReclaimingStands}
+use Rattle.run_shows.specs.Reclaims.Slots.{IsQuiescent}
 use Rattle.run_shows.proofs.Reclaims.Behind.Changes.{take_may, take_led, empty_may, empty_led, free_may, free_led}
 use Rattle.run_shows.proofs.Reclaims.Behind.Kept.{rows_stand, left_on}
 use Rattle.run_shows.proofs.Reclaims.Behind.Points.{root_may, root_led, next_may, next_led, over_led}
-use Rattle.seize_acts.specs.Quiet.Slots.{StageAt, Stage, Led, SlotsTold}
+use Rattle.seize_acts.specs.Quiet.Slots.{StageAt, Stage, Led, SlotsOutcome}
 use Rattle.seize_acts.specs.Quiet.Promises.{IsOnSlots}
 use Rattle.seize_acts.proofs.Quiet.Promised.{slots_begin, slots_lead}
 
@@ -62,13 +62,13 @@ module _ {K Q : Type 0} (V : Type 0) (same : K → K → Bool) (asks : Q → K �
     came = idle.together.makings.standing.came
 
     -- what a step on slots tells
-    told_so : (v : World (Node K V)) (p : Settled (Node K V)) → SlotsTold w v p → ReclaimingTold w v lists lists p
+    told_so : (v : World (Node K V)) (p : Settled (Node K V)) → SlotsOutcome w v p → ReclaimingOutcome w v lists lists p
     told_so v settled.Goes h = (refl, h)
     told_so v settled.Waits h = h
     told_so v (settled.Gave value) (b, was, retired, gone, took) = (b, was, gone, inl (retired, took, refl))
     told_so v settled.Done h = absurd h
 
-    not_over : (v : World (Node K V)) (p : Settled (Node K V)) → SlotsTold w v p → p ≡ settled.Done → ⊥
+    not_over : (v : World (Node K V)) (p : Settled (Node K V)) → SlotsOutcome w v p → p ≡ settled.Done → ⊥
     not_over v settled.Goes h e = cc e
     not_over v settled.Waits h e = h
     not_over v (settled.Gave value) h e = cc e
@@ -163,7 +163,7 @@ module _ {K Q : Type 0} (V : Type 0) (same : K → K → Bool) (asks : Q → K �
     (slots_begin deferred_word batch_size roots i w word idle.together.makings.standing.came rests).1,
   )
     where
-      with_roots : IsQuiet w → (b : Bool) → (b ≡ true → roots ≡ 0) → (b ≡ false → roots ≡ 0 → ⊥)
+      with_roots : IsQuiescent w → (b : Bool) → (b ≡ true → roots ≡ 0) → (b ≡ false → roots ≡ 0 → ⊥)
           → Together' maps w lists (if b then standing (reclaiming_all 0 roots) at.Over else standing (reclaiming_all 0 roots) (at.Roots 0))
       with_roots quiet true z ne = record { stand = idle; roots_are = refl; point = (quiet, left, λ r lt. absurd (let k = z refl in omega (arith, k, lt))) }
       with_roots quiet false z ne = record { stand = idle; roots_are = refl; point = (quiet, left, (let k = ne refl in omega (arith, k)), λ r lt. absurd (omega (arith, lt))) }

@@ -6,18 +6,18 @@ use Rattle.run_effects.specs.Given.RawDeclared.machines.machine.Machine.{Machine
 use Rattle.run_effects.specs.Given.RawDeclared.machines.progress.Progress.{Progress}
 use Rattle.run_effects.specs.Given.RawDeclared.machines.progress.Progress.TheVariants as progress
 use Rattle.many_maps.specs.Given.CallersTogether.{UnderWay}
-use Rattle.many_maps.specs.Machines.{machine_of, GoesOnAs, StandsOn}
+use Rattle.many_maps.specs.Machines.{machine_of, ContinuesAs, MapContinues}
 use Rattle.many_maps.specs.Maps.{Standing, IsSameMap}
 use Rattle.run_shows.specs.Scenes.Stepping.{going_on}
 
 -- what goes on is the machine after the step
-pub goes_as : {K V : Type 0} (machine : Machine K V K) (told : Progress (Node K V)) (next : Option (UnderWay K V K)) → GoesOnAs machine told next → option_map machine_of next ≡ going_on machine told
+pub goes_as : {K V : Type 0} (machine : Machine K V K) (told : Progress (Node K V)) (next : Option (UnderWay K V K)) → ContinuesAs machine told next → option_map machine_of next ≡ going_on machine told
 goes_as {K} {V} machine told next goes = of told goes
   where
     under : (x : UnderWay K V K) → next ≡ Some x → machine_of x ≡ machine → option_map machine_of next ≡ Some machine
     under x is same = ap (option_map machine_of) is ∙ ap Some same
 
-    of : (told : Progress (Node K V)) → GoesOnAs machine told next → option_map machine_of next ≡ going_on machine told
+    of : (told : Progress (Node K V)) → ContinuesAs machine told next → option_map machine_of next ≡ going_on machine told
     of progress.Goes g = under g.0 g.1 g.2
     of (progress.Asks about) g = under g.0 g.1 g.2
     of progress.Waits g = under g.0 g.1 g.2
@@ -46,7 +46,7 @@ module _ {K : Type 0} (hash : K → ℕ) where
     hashes = λ standing some. ap (hash_or hash) (sym some ∙ is) ∙ had old refl;
   }
 
-  pub moved_map_keeps : (old : Standing K) (before after : Option (Standing K)) → before ≡ Some old → old.hash ≡ hash → StandsOn old after → Keeps before after
+  pub moved_map_keeps : (old : Standing K) (before after : Option (Standing K)) → before ≡ Some old → old.hash ≡ hash → MapContinues old after → Keeps before after
   moved_map_keeps old before after was had (chart, blocks, sights, remembers, is) = record {
     setting = ap (option_map (λ standing. standing.setting)) is ∙ sym (ap (option_map (λ standing. standing.setting)) was);
     hashes = λ standing some. ap (hash_or hash) (sym some ∙ is) ∙ had;

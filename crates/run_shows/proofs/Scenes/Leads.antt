@@ -14,11 +14,11 @@ use Rattle.run_effects.specs.Given.RawDeclared.machines.progress.Progress.{Progr
 use Rattle.many_maps.specs.Endings.{Finishing}
 use Rattle.many_maps.specs.FactsEnds.{Deed}
 use Rattle.many_maps.specs.Makings.{Beginning}
-use Rattle.run_shows.specs.Scenes.Ending.{EndingComesToThere, EndingLeadsTo}
+use Rattle.run_shows.specs.Scenes.Ending.{EndingOutcomeHolds, EndingLeadsTo}
 use Rattle.run_shows.specs.Scenes.Held.{Held}
-use Rattle.run_shows.specs.Scenes.Making.{MakingComesToThere, MakingLeadsTo}
+use Rattle.run_shows.specs.Scenes.Making.{MakingOutcomeHolds, MakingLeadsTo}
 use Rattle.run_shows.specs.Scenes.OnSlots.{HappensTo, RowBeginsTo}
-use Rattle.run_shows.specs.Scenes.Reclaiming.{ReclaimingComesToThere, ReclaimingLeadsTo}
+use Rattle.run_shows.specs.Scenes.Reclaiming.{ReclaimingOutcomeHolds, ReclaimingLeadsTo}
 use Rattle.run_shows.specs.Scenes.Replying.{AskLeadsTo, StopLeadsTo}
 use Rattle.run_shows.specs.Scenes.Rows.{request_of}
 use Rattle.run_shows.specs.Scenes.Scene.{Scene, slot_of}
@@ -36,7 +36,7 @@ module _ {K V : Type 0} (same : K → K → Bool) (One Other : Scene K V → Typ
   stop_leads stopped leads = λ m u here. (let to = leads m u here in (to.0, to.1, each _ to.2))
 
   abbrev pub making_comes : (b : Beginning K) (opening : NewMap) (w2 : World (Node K V)) (told : Making Setting)
-      → MakingComesToThere same One s old i b opening w2 told → MakingComesToThere same Other s old i b opening w2 told
+      → MakingOutcomeHolds same One s old i b opening w2 told → MakingOutcomeHolds same Other s old i b opening w2 told
   making_comes b opening w2 making.Goes comes = each _ comes
   making_comes b opening w2 making.Waits comes = comes
   making_comes b opening w2 (making.Done setting) comes = (comes.0, comes.1, each _ comes.2)
@@ -46,7 +46,7 @@ module _ {K V : Type 0} (same : K → K → Bool) (One Other : Scene K V → Typ
   making_leads told leads = λ b here. (let to = leads b here in (to.0, to.1, to.2, making_comes b to.0 to.2.step.w2 told to.3))
 
   abbrev pub ending_comes : (f : Finishing K V) (ending : EndMap) (w2 : World (Node K V)) (deed : Deed) (told : Settled (Node K V))
-      → EndingComesToThere same One s i f ending w2 deed told → EndingComesToThere same Other s i f ending w2 deed told
+      → EndingOutcomeHolds same One s i f ending w2 deed told → EndingOutcomeHolds same Other s i f ending w2 deed told
   ending_comes f ending w2 deed settled.Goes comes = (comes.0, each _ comes.1)
   ending_comes f ending w2 deed settled.Waits comes = comes
   ending_comes f ending w2 deed (settled.Gave value) comes = (comes.0, comes.1, comes.2, each _ comes.3)
@@ -64,7 +64,7 @@ module _ {K V : Type 0} (same : K → K → Bool) (One Other : Scene K V → Typ
 module _ {K V : Type 0} (same : K → K → Bool) (s : Scene K V) (i : ℕ) (lists : ℕ → List ℕ) (One Other : Scene K V → Type 0) (each : (n : Scene K V) → One n → Other n)
     (Goes Goes2 : Scene K V → (ℕ → List ℕ) → ReclaimAll → Type 0) (goes_too : (n : Scene K V) (lists2 : ℕ → List ℕ) (all : ReclaimAll) → Goes n lists2 all → Goes2 n lists2 all) (old new : Held K V) where
   abbrev pub reclaiming_comes : (s2 : Scene K V) (lists2 : ℕ → List ℕ) (all : ReclaimAll) (told : Settled (Node K V))
-      → ReclaimingComesToThere same s i lists Goes One old new s2 lists2 all told → ReclaimingComesToThere same s i lists Goes2 Other old new s2 lists2 all told
+      → ReclaimingOutcomeHolds same s i lists Goes One old new s2 lists2 all told → ReclaimingOutcomeHolds same s i lists Goes2 Other old new s2 lists2 all told
   reclaiming_comes s2 lists2 all settled.Goes comes = goes_too s2 lists2 all comes
   reclaiming_comes s2 lists2 all settled.Waits comes = goes_too s2 lists2 all comes
   reclaiming_comes s2 lists2 all (settled.Gave value) comes = goes_too s2 lists2 all comes

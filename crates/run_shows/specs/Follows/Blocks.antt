@@ -28,7 +28,7 @@ module _ {K V : Type 0} (w : World (Node K V)) (stored : List (K × V)) where
   HasRole b (role.Counter map) = value_at w.memory b ≡ Some node.Shards
 
 -- each block has the role that is noted, no pair has two, and as many pairs were stored as are noted
-pub record ShowsBlocks {K V : Type 0} (m : Moment K V) (known : Known) (w : World (Node K V)) : Type 0 where
+pub record RefinesBlocks {K V : Type 0} (m : Moment K V) (known : Known) (w : World (Node K V)) : Type 0 where
   pub roles : (b : ℕ) → HasRole w m.stored b (known.roles b)
   pub once : (b d n : ℕ) → known.roles b ≡ role.Pair n → known.roles d ≡ role.Pair n → b ≡ d
   pub stored : known.stored ≡ length m.stored

@@ -1,4 +1,4 @@
--- Calls between their steps: where one begins, is told a reply, or has come to an outcome, the moment shows the scene then.
+-- Calls between their steps: where one begins, is told a reply, or has come to an outcome, the scene refines the moment then.
 use Rattle.std.specs.Prelude.{◌≡◌, ℕ, Bool, true, false, List, Some}
 use Rattle.run_effects.specs.Given.RunsSame.{is_same}
 use Rattle.run_effects.specs.Given.RunsDeclared.call.Reply.{Reply}
@@ -10,7 +10,7 @@ use Rattle.run_effects.specs.Given.SchedulesEntry.{ends_call}
 use Rattle.run_effects.specs.Given.SchedulesMoment.{Moment}
 use Rattle.many_maps.specs.Given.CallersTogether.{UnderWay}
 use Rattle.run_effects.specs.Effects.Known.{Known}
-use Rattle.run_shows.specs.Follows.Shows.{Shows}
+use Rattle.run_shows.specs.Follows.Shows.{Refines}
 use Rattle.run_shows.specs.Scenes.Scene.{Scene}
 
 module _ {K V : Type 0} where
@@ -30,6 +30,6 @@ module _ (K V : Type 0) (same : K → K → Bool) where
   -- The promise, where a call has come to an outcome: where that is its end, no call under way has its name any more.
   abbrev pub CallsComeTo : Type 0
   CallsComeTo =
-      (name : ℕ → List ℕ) (m : Moment K V) (known : Known) (s : Scene K V) → Shows same name m known s
+      (name : ℕ → List ℕ) (m : Moment K V) (known : Known) (s : Scene K V) → Refines same name m known s
       → (own : List ℕ) (outcome : Outcome V) (steps : ℕ) → (ends_call outcome ≡ true → NoneNamed name own s)
-      → Shows same name (come_to own outcome steps m) known s
+      → Refines same name (come_to own outcome steps m) known s

@@ -19,5 +19,5 @@ module _ {K V : Type 0} (same : K → K → Bool) where
   IsCalled _ _ = ⊥
 
   -- each call that the scene has under way is there, by its caller's name, on its map, and is what was called
-  abbrev pub ShowsCalls : (ℕ → List ℕ) → Moment K V → (ℕ → ℕ → Option (UnderWay K V K)) → Type 0
-  ShowsCalls name m calls = (map i : ℕ) (u : UnderWay K V K) → calls map i ≡ Some u → (c : CallThere K V) × (call_of (name i) m ≡ Some c) × (c.map ≡ map) × IsCalled u c.call
+  abbrev pub RefinesCalls : (ℕ → List ℕ) → Moment K V → (ℕ → ℕ → Option (UnderWay K V K)) → Type 0
+  RefinesCalls name m calls = (map i : ℕ) (u : UnderWay K V K) → calls map i ≡ Some u → (c : CallThere K V) × (call_of (name i) m ≡ Some c) × (c.map ≡ map) × IsCalled u c.call

@@ -4,7 +4,7 @@ use Rattle.run_effects.specs.Given.RunsDeclared.effect.Effect.{Effect}
 use Rattle.run_effects.specs.Given.RunsDeclared.effect.Effect.TheVariants.{Linked, Promoted, Stored, Replaced, Removed}
 use Rattle.run_effects.specs.Given.RunsDeclared.effect.Spot.{Spot}
 use Rattle.run_effects.specs.Given.RunsDeclared.effect.TableId.{TableId}
-use Rattle.run_effects.specs.Given.SchedulesGrowing.{ComesNext}
+use Rattle.run_effects.specs.Given.SchedulesGrowing.{IsNextRoot}
 use Rattle.run_effects.specs.Given.SchedulesLives.{IsFrom}
 use Rattle.run_effects.specs.Given.SchedulesMoment.{InMap, Moment}
 use Rattle.run_effects.specs.Given.SchedulesViews.{map_at, grows_in_chunks, is_linked, first_of, tables_of, is_stage, is_place}
@@ -16,7 +16,7 @@ module _ {K V : Type 0} (map : ℕ) (m : Moment K V) where
 
   -- the root may come on to this table
   abbrev pub MayBeRoot : TableId → Type 0
-  MayBeRoot t = (is_stage is_linked t m ≡ true) × ComesNext (grows_in_chunks (map_at map m)) (first_of map m) t.turn (tables_of map m)
+  MayBeRoot t = (is_stage is_linked t m ≡ true) × IsNextRoot (grows_in_chunks (map_at map m)) (first_of map m) t.turn (tables_of map m)
 
   -- A pair that leaves the map is in it. The pair that is stored gets the next number, and the table that is linked the next turn.
   abbrev pub FindsMap : Effect → Type 0

@@ -24,14 +24,14 @@ module _ {K : Type 0} (map : ℕ) (c : Chart K) where
 
 module _ {K V : Type 0} (map : ℕ) (s : Standing K) (m : Moment K V) (known : Known) where
   -- A table that may be looked at has its block. The map's tables are those that it has had, and from the root on they are linked.
-  pub record ShowsTables : Type 0 where
+  pub record RefinesTables : Type 0 where
     pub roles : (t : ℕ) → t < s.chart.past → s.blocks.table_known t ≡ true → known.roles (s.blocks.table t) ≡ role.Table (table_of map t) (s.chart.len t)
     pub stage : ℕ → Stage
     pub listed : tables_of map m ≡ tables_to map s.chart stage s.chart.past
     pub linked : (t : ℕ) → s.chart.first ≤ t → t < s.chart.past → stage t ≡ IsLinked
 
   -- it is there by its number, with its root's table
-  pub record ShowsThere : Type 0 where
+  pub record RefinesPresence : Type 0 where
     pub there : MapThere
     pub is : map_at map m ≡ Some there
     pub root : there.root ≡ s.setting.root
@@ -40,7 +40,7 @@ module _ {K V : Type 0} (map : ℕ) (s : Standing K) (m : Moment K V) (known : K
 
 module _ {K V : Type 0} (map : ℕ) (number : ℕ → ℕ) (s : Standing K) (m : Moment K V) (known : Known) where
   -- Its pairs have numbers, as the order is in which they were stored. A pair that may be looked at has its block, and those of the map are in it.
-  pub record ShowsPairs : Type 0 where
+  pub record RefinesPairs : Type 0 where
     pub roles : (n : ℕ) → n < s.chart.stored → s.blocks.pair_known n ≡ true → known.roles (s.blocks.pair n) ≡ role.Pair (number n)
     pub numbered : (n : ℕ) → n < s.chart.stored → (0 < number n) × (number n ≤ length m.stored)
     pub rising : (n o : ℕ) → n < o → o < s.chart.stored → number n < number o
@@ -48,8 +48,8 @@ module _ {K V : Type 0} (map : ℕ) (number : ℕ → ℕ) (s : Standing K) (m :
     pub here : (n : ℕ) → n < s.chart.stored → is_in_map map (m.place (number n)) ≡ s.chart.current n
     pub all : (k : ℕ) → m.place k ≡ InMap map → (n : ℕ) × (n < s.chart.stored) × (k ≡ number n)
 
-  pub record ShowsMap : Type 0 where
-    pub there : ShowsThere map s m known
-    pub pairs : ShowsPairs
-    pub tables : ShowsTables map s m known
+  pub record RefinesMap : Type 0 where
+    pub there : RefinesPresence map s m known
+    pub pairs : RefinesPairs
+    pub tables : RefinesTables map s m known
     pub counter : known.roles s.setting.counter ≡ role.Counter map

@@ -1,4 +1,4 @@
--- Makings of maps: where one begins and takes its steps, the moment shows the scene then, and the map, once it stands.
+-- Makings of maps: where one begins and takes its steps, the scene refines the moment then, and the map, once it stands.
 use Rattle.std.specs.Prelude.{◌≡◌, ℕ, Bool, List, [], Option, Some, None}
 use Rattle.seize.specs.World.{World, with_at}
 use Rattle.seize.specs.declared.advance.Advance.{Advance}
@@ -15,10 +15,10 @@ use Rattle.run_effects.specs.Effects.Known.{Known}
 use Rattle.run_effects.specs.declared.acting.Acting.TheVariants.{Making}
 use Rattle.run_effects.specs.declared.role.Role.TheVariants.{Counter}
 use Rattle.many_maps.specs.Makings.{Beginning, HasMade}
-use Rattle.run_shows.specs.Follows.Shows.{Shows}
-use Rattle.run_shows.specs.Others.After.{ShowsAfter}
+use Rattle.run_shows.specs.Follows.Shows.{Refines}
+use Rattle.run_shows.specs.Others.After.{RefinesAfter}
 use Rattle.run_shows.specs.Scenes.Held.{Held, IsAt}
-use Rattle.run_shows.specs.Scenes.Making.{MakingComesTo, MakingLeads}
+use Rattle.run_shows.specs.Scenes.Making.{MakingHasOutcome, MakingLeads}
 use Rattle.run_shows.specs.Scenes.Scene.{Scene}
 
 -- the map of this number is there with this setting, and has neither a pair nor a table yet
@@ -42,7 +42,7 @@ NotesCounter known b = HasMade b.machine.stands → known.roles b.machine.settin
 
 module _ {K V : Type 0} (same : K → K → Bool) (hash : ℕ → K → ℕ) (s : Scene K V) (old new : Held K V) (i : ℕ) (b : Beginning K) (opening : NewMap) (w2 : World (Node K V)) where
   -- the scene to which a step of the making has come
-  abbrev pub making_after : (told : Advance Setting) → MakingComesTo same hash s old new i b opening w2 told → Scene K V
+  abbrev pub making_after : (told : Advance Setting) → MakingHasOutcome same hash s old new i b opening w2 told → Scene K V
   making_after progress.Goes comes = record s { world = w2; makers = with_at s.makers i (Some (record b { machine = opening })) }
   making_after progress.Waits comes = s
   making_after (progress.Done setting) comes = record s { world = w2; maps = with_at s.maps b.map (Some comes.0); makers = with_at s.makers i None }
@@ -52,30 +52,30 @@ module _ (K V : Type 0) (same : K → K → Bool) where
   -- The promises: where a making begins, all is shown as before,
   abbrev pub MakingsBeginShown : Type 0
   MakingsBeginShown =
-      (name : ℕ → List ℕ) (m : Moment K V) (known : Known) (s : Scene K V) → (shown : Shows same name m known s)
-      → (i : ℕ) (b : Beginning K) → ShowsAfter same name m known s shown m known (record s { makers = with_at s.makers i (Some b) })
+      (name : ℕ → List ℕ) (m : Moment K V) (known : Known) (s : Scene K V) → (shown : Refines same name m known s)
+      → (i : ℕ) (b : Beginning K) → RefinesAfter same name m known s shown m known (record s { makers = with_at s.makers i (Some b) })
 
   -- and so it is where the map is there by its number.
   abbrev pub MapsAreThere : Type 0
   MapsAreThere =
-      (name : ℕ → List ℕ) (m : Moment K V) (known : Known) (s : Scene K V) → (shown : Shows same name m known s)
-      → (there : MapThere) → ShowsAfter same name m known s shown (with_map there m) known s
+      (name : ℕ → List ℕ) (m : Moment K V) (known : Known) (s : Scene K V) → (shown : Refines same name m known s)
+      → (there : MapThere) → RefinesAfter same name m known s shown (with_map there m) known s
 
 module _ (K V : Type 0) (same : K → K → Bool) (hash : ℕ → K → ℕ) where
   -- The promise, of a step of a making, on whichever map its effects are told, if on any: by the last one its map is shown, where it was there as a new one,
   -- and its counter was noted.
   abbrev pub MakingsAreShown : Type 0
   MakingsAreShown =
-      (name : ℕ → List ℕ) (m : Moment K V) (known : Known) (s : Scene K V) (old new : Held K V) → IsAt same hash old s → (shown : Shows same name m known s)
+      (name : ℕ → List ℕ) (m : Moment K V) (known : Known) (s : Scene K V) (old new : Held K V) → IsAt same hash old s → (shown : Refines same name m known s)
       → (i : ℕ) (told : Advance Setting) (leads : MakingLeads same hash i told s old new) (b : Beginning K) (here : s.makers i ≡ Some b) (of : Option ℕ)
       → NotesCounter known b → WasNew b.map told m
       → (let to = leads b here in
-      ShowsAfter same name m known s shown (with_effects None of (effects_of (Making b.map) known new.changed) m) (known_after (Making b.map) new.changed known)
+      RefinesAfter same name m known s shown (with_effects None of (effects_of (Making b.map) known new.changed) m) (known_after (Making b.map) new.changed known)
       (making_after same hash s old new i b to.0 to.2.step.w2 told to.3))
 
   -- The promise: while a making goes on, its map stays as new.
   abbrev pub NewMapsStay : Type 0
   NewMapsStay =
-      (name : ℕ → List ℕ) (m : Moment K V) (known : Known) (s : Scene K V) (old new : Held K V) → IsAt same hash old s → Shows same name m known s
+      (name : ℕ → List ℕ) (m : Moment K V) (known : Known) (s : Scene K V) (old new : Held K V) → IsAt same hash old s → Refines same name m known s
       → (i : ℕ) → MakingLeads same hash i progress.Goes s old new → (b : Beginning K) → s.makers i ≡ Some b → (of : Option ℕ) (setting : Setting)
       → IsNew b.map setting m → IsNew b.map setting (with_effects None of (effects_of (Making b.map) known new.changed) m)

@@ -1,4 +1,4 @@
--- Rows on slots: where one begins, and takes its steps, the moment shows the scene then.
+-- Rows on slots: where one begins, and takes its steps, the scene refines the moment then.
 use Rattle.std.specs.Prelude.{ℕ, Bool, List, None}
 use Rattle.seize.specs.World.{Event, Begin, Step}
 use Rattle.run_effects.specs.Given.TablesDeclared.node.Node.{Node}
@@ -10,8 +10,8 @@ use Rattle.run_effects.specs.declared.acting.Acting.TheVariants.{Row}
 use Rattle.run_shows.specs.declared.row.RowTold.{RowTold}
 use Rattle.run_shows.specs.declared.row.SlotCall.{SlotCall}
 use Rattle.run_shows.specs.declared.row.SlotRow.{SlotRow}
-use Rattle.run_shows.specs.Follows.Shows.{Shows}
-use Rattle.run_shows.specs.Others.After.{ShowsAfter}
+use Rattle.run_shows.specs.Follows.Shows.{Refines}
+use Rattle.run_shows.specs.Others.After.{RefinesAfter}
 use Rattle.run_shows.specs.Others.Gone.{WasRetired}
 use Rattle.run_shows.specs.Scenes.Held.{Held, IsAt}
 use Rattle.run_shows.specs.Scenes.OnSlots.{HappensAt, RowBegins, RowLeads}
@@ -26,15 +26,15 @@ module _ (K V : Type 0) (same : K → K → Bool) (hash : ℕ → K → ℕ) whe
   -- The promises: a row that begins on a slot changes nothing that is shown,
   abbrev pub RowsBeginShown : Type 0
   RowsBeginShown =
-      (name : ℕ → List ℕ) (m : Moment K V) (known : Known) (s : Scene K V) (old new : Held K V) → IsAt same hash old s → (shown : Shows same name m known s)
+      (name : ℕ → List ℕ) (m : Moment K V) (known : Known) (s : Scene K V) (old new : Held K V) → IsAt same hash old s → (shown : Refines same name m known s)
       → (called : SlotCall) (i : ℕ) (leads : RowBegins same hash called i s old new)
-      → ShowsAfter same name m known s shown m known (scene_then same hash (Begin i (request_of (slot_of i) called)) s old new leads.2)
+      → RefinesAfter same name m known s shown m known (scene_then same hash (Begin i (request_of (slot_of i) called)) s old new leads.2)
 
   -- and a step of it, which may reclaim a pair or a table, leads on: a table that it reclaims was retired, and what waits behind that is in no map.
   abbrev pub RowsOnSlotsAreShown : Type 0
   RowsOnSlotsAreShown =
-      (name : ℕ → List ℕ) (m : Moment K V) (known : Known) (s : Scene K V) (old new : Held K V) → IsAt same hash old s → (shown : Shows same name m known s)
+      (name : ℕ → List ℕ) (m : Moment K V) (known : Known) (s : Scene K V) (old new : Held K V) → IsAt same hash old s → (shown : Refines same name m known s)
       → (i : ℕ) (told : RowTold (Node K V)) (leads : RowLeads same hash i told s old new) (row : SlotRow) (here : IsOnSlot s i row)
       → AtEachEffect WasRetired None None (effects_of Row known new.changed) m
-      → ShowsAfter same name m known s shown (with_effects None None (effects_of Row known new.changed) m) (known_after Row new.changed known)
+      → RefinesAfter same name m known s shown (with_effects None None (effects_of Row known new.changed) m) (known_after Row new.changed known)
       (scene_then same hash (Step i) s old new (leads row here).2)

@@ -6,8 +6,8 @@ use Rattle.many_maps.specs.Given.CallersTogether.{UnderWay}
 use Rattle.many_maps.specs.Maps.{with_call}
 use Rattle.run_effects.specs.Effects.Known.{Known}
 use Rattle.run_shows.specs.Follows.Calling.{NoneNamed}
-use Rattle.run_shows.specs.Follows.Shows.{Shows}
-use Rattle.run_shows.specs.Others.After.{ShowsAfter}
+use Rattle.run_shows.specs.Follows.Shows.{Refines}
+use Rattle.run_shows.specs.Others.After.{RefinesAfter}
 use Rattle.run_shows.specs.Scenes.Held.{Held}
 use Rattle.run_shows.specs.Scenes.Replying.{AskLeads, StopLeads, scene_with, unless_stopped}
 use Rattle.run_shows.specs.Scenes.Scene.{Scene}
@@ -19,16 +19,16 @@ given_up own false m = m
 
 module _ (K V : Type 0) (same : K → K → Bool) (hash : ℕ → K → ℕ) where
   -- The promises: a walk that is ready is asked for its next pair,
-  abbrev pub WalksGoOn : Type 0
-  WalksGoOn =
-      (name : ℕ → List ℕ) (m : Moment K V) (known : Known) (s : Scene K V) (old new : Held K V) → (shown : Shows same name m known s)
+  abbrev pub WalksContinue : Type 0
+  WalksContinue =
+      (name : ℕ → List ℕ) (m : Moment K V) (known : Known) (s : Scene K V) (old new : Held K V) → (shown : Refines same name m known s)
       → (i : ℕ) (leads : AskLeads same hash i true s old new) (map : ℕ) (u : UnderWay K V K) (here : s.calls map i ≡ Some u)
-      → ShowsAfter same name m known s shown m known (scene_with map i (leads map u here).0 s)
+      → RefinesAfter same name m known s shown m known (scene_with map i (leads map u here).0 s)
 
   -- and is given up: no call that is under way then has its name.
   abbrev pub WalksAreGivenUp : Type 0
   WalksAreGivenUp =
-      (name : ℕ → List ℕ) (m : Moment K V) (known : Known) (s : Scene K V) (old new : Held K V) → (shown : Shows same name m known s)
+      (name : ℕ → List ℕ) (m : Moment K V) (known : Known) (s : Scene K V) (old new : Held K V) → (shown : Refines same name m known s)
       → (i : ℕ) (stopped : Bool) → StopLeads same hash i stopped s old new → (map : ℕ) (u : UnderWay K V K) → s.calls map i ≡ Some u
       → (let after = record s { calls = with_call s.calls map i (unless_stopped stopped u) } in
-      (stopped ≡ true → NoneNamed name (name i) after) → ShowsAfter same name m known s shown (given_up (name i) stopped m) known after)
+      (stopped ≡ true → NoneNamed name (name i) after) → RefinesAfter same name m known s shown (given_up (name i) stopped m) known after)

@@ -15,14 +15,14 @@ use Rattle.many_maps.specs.Makings.{Beginning}
 use Rattle.many_maps.specs.Maps.{Standing}
 use Rattle.run_shows.specs.Reclaims.Reclaims.{ReclaimingTogether}
 
--- Each step that may be taken from here ends it, or leads to where it comes to its end: so there is no way on without an end.
-pub data ComesToEnd {K V : Type 0} : Mem (Node K V) → ReclaimAll → Type 0 where
+-- Each step that may be taken from here ends it, or leads to where it terminates: so there is no way on without an end.
+pub data Terminates {K V : Type 0} : Mem (Node K V) → ReclaimAll → Type 0 where
   Comes : (m : Mem (Node K V)) → (c : ReclaimAll)
-      → ((m2 : Mem (Node K V)) → (c2 : ReclaimAll) → (told : Settled (Node K V)) → Steps Took value_at m (reclaim_all_plan deferred_word was_left c) m2 (c2, told) → (told ≡ settled.Done → ⊥) → ComesToEnd m2 c2)
-      → ComesToEnd m c
+      → ((m2 : Mem (Node K V)) → (c2 : ReclaimAll) → (told : Settled (Node K V)) → Steps Took value_at m (reclaim_all_plan deferred_word was_left c) m2 (c2, told) → (told ≡ settled.Done → ⊥) → Terminates m2 c2)
+      → Terminates m c
 
--- The promise: wherever it is under way, with any number of maps on the collector, it comes to its end.
+-- The promise: wherever it is under way, with any number of maps on the collector, it terminates.
 abbrev pub ReclaimingEnds : {K Q : Type 0} (V : Type 0) (same : K → K → Bool) (asks : Q → K → Bool) (batch_size roots : ℕ) (slot : ℕ → ℕ) (maps : ℕ → Option (Standing K))
     (calls : ℕ → ℕ → Option (UnderWay K V Q)) (makers : ℕ → Option (Beginning K)) (enders : ℕ → Option (Finishing K V)) (w : World (Node K V)) (i : ℕ) → Type 0
 ReclaimingEnds V same asks batch_size roots slot maps calls makers enders w i =
-    (lists : ℕ → List ℕ) (c : ReclaimAll) → batch_size < 2 ^ 64 → ReclaimingTogether V same asks batch_size roots slot maps calls makers enders w i lists c → ComesToEnd w.memory c
+    (lists : ℕ → List ℕ) (c : ReclaimAll) → batch_size < 2 ^ 64 → ReclaimingTogether V same asks batch_size roots slot maps calls makers enders w i lists c → Terminates w.memory c

@@ -14,9 +14,9 @@ use Rattle.run_effects.specs.Given.RawDeclared.machines.end_map.EndMap.{EndMap}
 use Rattle.run_effects.specs.Given.RawDeclared.machines.machine.Machine.{Machine}
 use Rattle.run_effects.specs.Given.RawDeclared.machines.progress.Progress.{Progress}
 use Rattle.many_maps.specs.Given.CallersTogether.{UnderWay, IsOfSlots}
-use Rattle.many_maps.specs.Endings.{Finishing, finishing_of, waiting_by, HasFinished, EndingsTogether, StepsOfEnding, MakingToldAmong, MakingStepsAmong}
+use Rattle.many_maps.specs.Endings.{Finishing, finishing_of, waiting_by, HasFinished, EndingsTogether, StepsOfEnding, MakingOutcomeWithEndings, MakingStepsWithEndings}
 use Rattle.many_maps.specs.FactsEnds.{Deed, taken_by}
-use Rattle.many_maps.specs.Machines.{MachineStepsAmong}
+use Rattle.many_maps.specs.Machines.{MachineStepsWithEndings}
 use Rattle.many_maps.specs.Makings.{Beginning, HasTaken, IsFreeRoot}
 use Rattle.many_maps.specs.Maps.{Standing, IsSameMap}
 use Rattle.run_shows.specs.Reclaims.Reclaims.{IsRootOf, RootLeads, LeftBehind}
@@ -30,7 +30,7 @@ IsSomebodys {K} {V} maps makers enders r =
 module _ {K V : Type 0} (roots : ℕ) (w : World (Node K V)) (maps : ℕ → Option (Standing K)) (makers : ℕ → Option (Beginning K)) (enders : ℕ → Option (Finishing K V)) (lists : ℕ → List ℕ) where
   -- These lists are behind the roots that are nobody's: what maps have left that have ended. Each other root that is nobody's is free. Their blocks are left
   -- over, and none stands there twice.
-  pub record LeftAmong : Type 0 where
+  pub record LeftWithEndings : Type 0 where
     pub root : (r : ℕ) → r < roots → IsSomebodys maps makers enders r ⊎ RootLeads w r (lists r)
     pub none : (r : ℕ) → r < roots → IsSomebodys maps makers enders r → lists r ≡ []
     pub left : (b : ℕ) → 0 < times b (all_lists lists roots) → (j : ℕ) × (w.hand b ≡ LeftTo j)
@@ -43,62 +43,62 @@ module _ {K V : Type 0} (roots : ℕ) (w : World (Node K V)) (maps : ℕ → Opt
 abbrev pub NothingIsLeft : Type 0 → Type 0 → Type 0
 NothingIsLeft K V =
     (roots : ℕ) (w : World (Node K V)) (maps : ℕ → Option (Standing K)) (makers : ℕ → Option (Beginning K)) (enders : ℕ → Option (Finishing K V))
-    → ((r : ℕ) → r < roots → IsSomebodys maps makers enders r ⊎ IsFreeRoot w r) → LeftAmong roots w maps makers enders (λ r. [])
+    → ((r : ℕ) → r < roots → IsSomebodys maps makers enders r ⊎ IsFreeRoot w r) → LeftWithEndings roots w maps makers enders (λ r. [])
 
 -- Where no map is made, and none ends, it is what a caller that reclaims all finds there, and leaves there.
 abbrev pub LeftIsLeftBehind : Type 0 → Type 0 → Type 0
 LeftIsLeftBehind K V =
     (roots : ℕ) (w : World (Node K V)) (maps : ℕ → Option (Standing K)) (makers : ℕ → Option (Beginning K)) (enders : ℕ → Option (Finishing K V)) (lists : ℕ → List ℕ)
     → ((j : ℕ) → makers j ≡ None) → ((j : ℕ) → enders j ≡ None)
-    → (LeftAmong roots w maps makers enders lists → LeftBehind roots w maps lists) × (LeftBehind roots w maps lists → LeftAmong roots w maps makers enders lists)
+    → (LeftWithEndings roots w maps makers enders lists → LeftBehind roots w maps lists) × (LeftBehind roots w maps lists → LeftWithEndings roots w maps makers enders lists)
 
 module _ {K Q : Type 0} (V : Type 0) (same : K → K → Bool) (asks : Q → K → Bool) (batch_size roots : ℕ) (slot : ℕ → ℕ)
     (w : World (Node K V)) (maps : ℕ → Option (Standing K)) (calls : ℕ → ℕ → Option (UnderWay K V Q)) (makers : ℕ → Option (Beginning K)) (enders : ℕ → Option (Finishing K V)) where
   -- The promise of steps of the machine that a caller has under way on a map, whichever it is.
   abbrev pub MachinesLeaveIt : Type 0
   MachinesLeaveIt =
-      (lists : ℕ → List ℕ) → EndingsTogether V same asks batch_size roots slot w maps calls makers enders → LeftAmong roots w maps makers enders lists
+      (lists : ℕ → List ℕ) → EndingsTogether V same asks batch_size roots slot w maps calls makers enders → LeftWithEndings roots w maps makers enders lists
       → (m : ℕ) (s : Standing K) → maps m ≡ Some s → (i : ℕ) (u : UnderWay K V Q) → calls m i ≡ Some u
       → (m2 : Mem (Node K V)) (machine : Machine K V Q) (told : Progress (Node K V))
-      → (st : MachineStepsAmong V same asks batch_size roots slot w maps calls makers enders m s i m2 u machine told) → LeftAmong roots st.w2 st.maps2 makers enders lists
+      → (st : MachineStepsWithEndings V same asks batch_size roots slot w maps calls makers enders m s i m2 u machine told) → LeftWithEndings roots st.w2 st.maps2 makers enders lists
 
   -- The promise of rows between calls.
   abbrev pub GuardsLeaveIt : Type 0
   GuardsLeaveIt =
-      (lists : ℕ → List ℕ) → EndingsTogether V same asks batch_size roots slot w maps calls makers enders → LeftAmong roots w maps makers enders lists
+      (lists : ℕ → List ℕ) → EndingsTogether V same asks batch_size roots slot w maps calls makers enders → LeftWithEndings roots w maps makers enders lists
       → (i : ℕ) (w2 : World (Node K V)) (maps2 : ℕ → Option (Standing K)) → ((m : ℕ) → IsSameMap (maps m) (maps2 m))
-      → ((request : Request) → IsOfSlots request → Happens deferred_word batch_size (Begin i request) w w2 → LeftAmong roots w2 maps2 makers enders lists)
-      × (Happens deferred_word batch_size (Step i) w w2 → LeftAmong roots w2 maps2 makers enders lists)
+      → ((request : Request) → IsOfSlots request → Happens deferred_word batch_size (Begin i request) w w2 → LeftWithEndings roots w2 maps2 makers enders lists)
+      × (Happens deferred_word batch_size (Step i) w w2 → LeftWithEndings roots w2 maps2 makers enders lists)
 
   -- A making begins, or takes a step.
   abbrev pub MakingsBeginAndLeaveIt : Type 0
   MakingsBeginAndLeaveIt =
-      (lists : ℕ → List ℕ) → LeftAmong roots w maps makers enders lists → (i : ℕ) → makers i ≡ None → (b : Beginning K) → (HasTaken b.machine.stands → ⊥)
-      → LeftAmong roots w maps (with_at makers i (Some b)) enders lists
+      (lists : ℕ → List ℕ) → LeftWithEndings roots w maps makers enders lists → (i : ℕ) → makers i ≡ None → (b : Beginning K) → (HasTaken b.machine.stands → ⊥)
+      → LeftWithEndings roots w maps (with_at makers i (Some b)) enders lists
 
   -- what is left then, whether the making goes on, is over with its map, or without it
   abbrev pub MakingLeft : (ℕ → List ℕ) → (i : ℕ) → (b : Beginning K) → (w2 : World (Node K V)) → (end : NewMap × Counted Setting)
-      → MakingToldAmong V same asks batch_size roots slot w maps calls makers enders i b w2 end → Type 0
-  MakingLeft lists i b w2 (n, counted.Goes) told = LeftAmong roots w2 maps (with_at makers i (Some (record b { machine = n }))) enders lists
+      → MakingOutcomeWithEndings V same asks batch_size roots slot w maps calls makers enders i b w2 end → Type 0
+  MakingLeft lists i b w2 (n, counted.Goes) told = LeftWithEndings roots w2 maps (with_at makers i (Some (record b { machine = n }))) enders lists
   MakingLeft lists i b w2 (n, counted.Waits) told = ⊥
-  MakingLeft lists i b w2 (n, counted.Done answer) told = LeftAmong roots w2 (with_at maps b.map (Some told.0)) (with_at makers i None) enders lists
-  MakingLeft lists i b w2 (n, counted.Refused fault) told = LeftAmong roots w2 maps (with_at makers i None) enders lists
+  MakingLeft lists i b w2 (n, counted.Done answer) told = LeftWithEndings roots w2 (with_at maps b.map (Some told.0)) (with_at makers i None) enders lists
+  MakingLeft lists i b w2 (n, counted.Refused fault) told = LeftWithEndings roots w2 maps (with_at makers i None) enders lists
 
   abbrev pub MakingsLeaveIt : Type 0
   MakingsLeaveIt =
-      (lists : ℕ → List ℕ) → EndingsTogether V same asks batch_size roots slot w maps calls makers enders → LeftAmong roots w maps makers enders lists
+      (lists : ℕ → List ℕ) → EndingsTogether V same asks batch_size roots slot w maps calls makers enders → LeftWithEndings roots w maps makers enders lists
       → (i : ℕ) (b : Beginning K) → makers i ≡ Some b → (m2 : Mem (Node K V)) (end : NewMap × Counted Setting)
-      → (st : MakingStepsAmong V same asks batch_size roots slot w maps calls makers enders i b m2 end) → MakingLeft lists i b st.step.w2 end st.told
+      → (st : MakingStepsWithEndings V same asks batch_size roots slot w maps calls makers enders i b m2 end) → MakingLeft lists i b st.step.w2 end st.told
 
   -- The end of a map begins.
   abbrev pub EndingsBeginAndLeaveIt : Type 0
   EndingsBeginAndLeaveIt =
-      (lists : ℕ → List ℕ) → EndingsTogether V same asks batch_size roots slot w maps calls makers enders → LeftAmong roots w maps makers enders lists
+      (lists : ℕ → List ℕ) → EndingsTogether V same asks batch_size roots slot w maps calls makers enders → LeftWithEndings roots w maps makers enders lists
       → (i : ℕ) → enders i ≡ None → (m : ℕ) (s : Standing K) → maps m ≡ Some s → (w2 : World (Node K V)) → Happens deferred_word batch_size (Ends i s.setting.counter) w w2
-      → LeftAmong roots w2 (with_at maps m None) makers (with_at enders i (Some (finishing_of s w))) lists
+      → LeftWithEndings roots w2 (with_at maps m None) makers (with_at enders i (Some (finishing_of s w))) lists
 
   -- It goes on as this one, of the same map: with what it has reclaimed, and what waits.
-  pub record GoesOnBy (f : Finishing K V) (deed : Deed) (f2 : Finishing K V) : Type 0 where
+  pub record ContinuesBy (f : Finishing K V) (deed : Deed) (f2 : Finishing K V) : Type 0 where
     pub setting_is : f2.setting ≡ f.setting
     pub chart_is : f2.chart ≡ f.chart
     pub blocks_are : f2.blocks ≡ f.blocks
@@ -108,8 +108,8 @@ module _ {K Q : Type 0} (V : Type 0) (same : K → K → Bool) (asks : Q → K �
   -- It takes a step. At its end what waits is behind its root.
   abbrev pub EndingsLeaveIt : Type 0
   EndingsLeaveIt =
-      (lists : ℕ → List ℕ) → EndingsTogether V same asks batch_size roots slot w maps calls makers enders → LeftAmong roots w maps makers enders lists
+      (lists : ℕ → List ℕ) → EndingsTogether V same asks batch_size roots slot w maps calls makers enders → LeftWithEndings roots w maps makers enders lists
       → (i : ℕ) (f : Finishing K V) → enders i ≡ Some f → (m2 : Mem (Node K V)) (end : EndMap × Settled (Node K V))
       → (st : StepsOfEnding V same asks batch_size roots slot w maps calls makers enders i f m2 end)
-      → ((f2 : Finishing K V) → GoesOnBy f st.deed f2 → LeftAmong roots st.w2 maps makers (with_at enders i (Some f2)) lists)
-      × (HasFinished st.w2.memory f → LeftAmong roots st.w2 maps makers (with_at enders i None) (with_at lists f.setting.root f.waits))
+      → ((f2 : Finishing K V) → ContinuesBy f st.deed f2 → LeftWithEndings roots st.w2 maps makers (with_at enders i (Some f2)) lists)
+      × (HasFinished st.w2.memory f → LeftWithEndings roots st.w2 maps makers (with_at enders i None) (with_at lists f.setting.root f.waits))

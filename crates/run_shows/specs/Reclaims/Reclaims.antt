@@ -1,5 +1,5 @@
--- A caller reclaims all, with any number of maps on the collector, while nothing else is under way: whichever step it takes, all stand together, and at its
--- end nothing waits but what is deferred.
+-- A caller reclaims all, with any number of maps on the collector, while nothing else is under way: whichever step it takes, the invariant of all holds, and at
+-- its end nothing waits but what is deferred.
 use Rattle.std.specs.Prelude.{◌≡◌, ◌≢◌, ℕ, ◌<◌, ◌≤◌, ◌^◌, ◌⊎◌, Bool, true, List, [], ◌∷◌, ◌++◌, Option, Some, None, IsSome}
 use Rattle.seize_words.specs.OneMemory.Word.{link_to}
 use Rattle.seize_words.specs.declared.at.At.TheVariants.{Root, Used, Slot, Entry}
@@ -26,7 +26,7 @@ use Rattle.many_maps.specs.FactsEnds.{TakesLeft, WritesRoot, events_of}
 use Rattle.many_maps.specs.Makings.{Beginning, IsFreeRoot}
 use Rattle.many_maps.specs.Maps.{Standing, IsSameMap}
 use Rattle.run_shows.specs.Reclaims.Deferred.{TablesCarryPairs, OnlyTheyCarry, OnlyPairsWait}
-use Rattle.run_shows.specs.Reclaims.Slots.{AreItsRows, AllRest, IsQuiet, OnSlotsAt, DoesAt}
+use Rattle.run_shows.specs.Reclaims.Slots.{AreItsRows, AllRest, IsQuiescent, OnSlotsAt, DoesAt}
 
 -- the root is that of a map that stands
 abbrev pub IsRootOf : {K : Type 0} → (ℕ → Option (Standing K)) → ℕ → Type 0
@@ -65,14 +65,14 @@ module _ {K V : Type 0} where
   -- What is so at each point: on slots what their rows say, and behind them that nothing is left of what slots had.
   module _ (batch_size roots i : ℕ) (c : ReclaimAll) (w : World (Node K V)) (maps : ℕ → Option (Standing K)) (lists : ℕ → List ℕ) where
     abbrev pub ReclaimingAt : Reclaiming → Type 0
-    ReclaimingAt (at.Roots root) = IsQuiet w × LeftBehind roots w maps lists × (root < roots) × ((r : ℕ) → r < root → lists r ≡ [])
-    ReclaimingAt (at.Nexts root block) = IsQuiet w × Opened roots w maps lists root × ((b : ℕ) × (rest : List ℕ) × (lists root ≡ b ∷ rest) × ListFrom w.memory block (b ∷ rest))
+    ReclaimingAt (at.Roots root) = IsQuiescent w × LeftBehind roots w maps lists × (root < roots) × ((r : ℕ) → r < root → lists r ≡ [])
+    ReclaimingAt (at.Nexts root block) = IsQuiescent w × Opened roots w maps lists root × ((b : ℕ) × (rest : List ℕ) × (lists root ≡ b ∷ rest) × ListFrom w.memory block (b ∷ rest))
     ReclaimingAt (at.Takes root block next) =
-        IsQuiet w × Opened roots w maps lists root
+        IsQuiescent w × Opened roots w maps lists root
         × ((b : ℕ) × (rest : List ℕ) × (lists root ≡ b ∷ rest) × (block ≡ link_to b) × (word_at w.memory (Entry b NEXT) ≡ Some next) × ListFrom w.memory next rest)
-    ReclaimingAt (at.Empties root) = IsQuiet w × Opened roots w maps lists root × (lists root ≡ [])
-    ReclaimingAt (at.Unuses root) = IsQuiet w × Opened roots w maps lists root × (lists root ≡ []) × (word_at w.memory (Root root) ≡ Some 0)
-    ReclaimingAt at.Over = IsQuiet w × LeftBehind roots w maps lists × ((r : ℕ) → r < roots → lists r ≡ [])
+    ReclaimingAt (at.Empties root) = IsQuiescent w × Opened roots w maps lists root × (lists root ≡ [])
+    ReclaimingAt (at.Unuses root) = IsQuiescent w × Opened roots w maps lists root × (lists root ≡ []) × (word_at w.memory (Root root) ≡ Some 0)
+    ReclaimingAt at.Over = IsQuiescent w × LeftBehind roots w maps lists × ((r : ℕ) → r < roots → lists r ≡ [])
     ReclaimingAt p = (c.batch_size ≡ batch_size) × LeftBehind roots w maps lists × OnSlotsAt batch_size i c w p
 
   -- Nothing waits any more but what is put behind blocks that the collector does not have: no row is under way, nothing is retired, no slot is in use,
@@ -90,11 +90,11 @@ module _ {K V : Type 0} where
         ((is_retired b w.log ≡ true) × (taken_in w2.log ≡ taken_in w.log ++ b ∷ []) × (lists2 ≡ lists))
         ⊎ ((root : ℕ) × (rest : List ℕ) × ((r : ℕ) → r < root → lists r ≡ []) × (lists root ≡ b ∷ rest) × (lists2 ≡ with_at lists root rest) × (taken_in w2.log ≡ taken_in w.log))
 
-    abbrev pub ReclaimingTold : Settled (Node K V) → Type 0
-    ReclaimingTold settled.Goes = (lists2 ≡ lists) × (taken_in w2.log ≡ taken_in w.log)
-    ReclaimingTold settled.Waits = ⊥
-    ReclaimingTold (settled.Gave value) = (b : ℕ) × (value_at w.memory b ≡ Some value) × (value_at w2.memory b ≡ None) × HasTaken b
-    ReclaimingTold settled.Done = (lists2 ≡ lists) × (w2 ≡ w)
+    abbrev pub ReclaimingOutcome : Settled (Node K V) → Type 0
+    ReclaimingOutcome settled.Goes = (lists2 ≡ lists) × (taken_in w2.log ≡ taken_in w.log)
+    ReclaimingOutcome settled.Waits = ⊥
+    ReclaimingOutcome (settled.Gave value) = (b : ℕ) × (value_at w.memory b ≡ Some value) × (value_at w2.memory b ≡ None) × HasTaken b
+    ReclaimingOutcome settled.Done = (lists2 ≡ lists) × (w2 ≡ w)
 
 -- The promise: if users have no other block behind which something may be put, then all that waits is so deferred.
 abbrev pub WaitsOnTables : Type 0 → Type 0 → Type 0
@@ -122,8 +122,8 @@ module _ {K Q : Type 0} (V : Type 0) (same : K → K → Bool) (asks : Q → K �
     ReclaimingBegins =
         (lists : ℕ → List ℕ) → batch_size < 2 ^ 64 → AllStandIdle maps calls makers enders w → AllRest w → LeftBehind roots w maps lists
         → (IsSome (word_at w.memory (Slot 0 HEAD)) → ReclaimingTogether maps calls makers enders w i lists (reclaiming_all batch_size roots))
-        × (IsQuiet w → ReclaimingTogether maps calls makers enders w i lists (clearing roots))
-        × (word_at w.memory (Slot 0 HEAD) ≡ None → IsQuiet w)
+        × (IsQuiescent w → ReclaimingTogether maps calls makers enders w i lists (clearing roots))
+        × (word_at w.memory (Slot 0 HEAD) ≡ None → IsQuiescent w)
 
     -- Where a step leads from a point. It is made up of beginnings and steps of rows on slots, those of that point, or takes a block away that was left over, or
     -- writes a word of a root. Each map stands as it stood, and at the end all is reclaimed.
@@ -138,7 +138,7 @@ module _ {K Q : Type 0} (V : Type 0) (same : K → K → Bool) (asks : Q → K �
       pub maps2 : ℕ → Option (Standing K)
       pub as_they_were : (m : ℕ) → IsSameMap (maps m) (maps2 m)
       pub lists2 : ℕ → List ℕ
-      pub told : ReclaimingTold w w2 lists lists2 progress
+      pub told : ReclaimingOutcome w w2 lists lists2 progress
       pub next : ReclaimingTogether maps2 calls makers enders w2 i lists2 c2
       pub over : progress ≡ settled.Done → AllIsReclaimed roots w2 maps2
 

@@ -6,7 +6,7 @@ use Rattle.seize.specs.World.{World, Event}
 use Rattle.run_effects.specs.Given.TablesNodes.{deferred_word}
 use Rattle.run_effects.specs.Given.TablesDeclared.node.Node.{Node}
 use Rattle.seize_acts.specs.Quiet.Slots as quiet
-pub use Rattle.seize_acts.specs.Quiet.Slots.{IsForSlots, AreItsRows, AllRest, HasNoBatch, IsQuiet}
+pub use Rattle.seize_acts.specs.Quiet.Slots.{IsForSlots, AreItsRows, AllRest, HasNoBatch, IsQuiescent}
 
 module _ {K V : Type 0} (batch_size i : ℕ) where
   -- what is so at each point of it

@@ -9,7 +9,7 @@ use Rattle.run_effects.specs.Given.TablesChunks.{is_incremental}
 use Rattle.run_effects.specs.Given.TablesDeclared.node.Node.{Node}
 use Rattle.run_effects.specs.Given.RawEndMap.{end_map_plan}
 use Rattle.run_effects.specs.Given.RawDeclared.machines.end_map.EndMap.{EndMap}
-use Rattle.run_effects.specs.ReportingMemory.Tells.{StepsTold}
+use Rattle.run_effects.specs.ReportingMemory.Tells.{StepsObserved}
 use Rattle.run_effects.specs.declared.changed.Changed.TheVariants.{Nothing}
 use Rattle.many_maps.specs.Endings.{Finishing, finishing_of, waiting_by, AllPairsOnce, HasFinished, StepsOfEnding}
 use Rattle.many_maps.specs.FactsEnds.{Deed, taken_by}
@@ -28,7 +28,7 @@ ending_begun m i standing s = record s {
 module _ {K V : Type 0} where
   -- it was a step of this end, and what its one operation has changed is told
   abbrev pub EndingStepsFrom : EndMap → Held K V → Held K V → EndMap → Settled (Node K V) → Type 0
-  EndingStepsFrom before old new ending told = StepsTold K V (EndMap × Settled (Node K V)) old.memory Nothing (end_map_plan before) new.memory new.changed (ending, told)
+  EndingStepsFrom before old new ending told = StepsObserved K V (EndMap × Settled (Node K V)) old.memory Nothing (end_map_plan before) new.memory new.changed (ending, told)
 
   -- the end goes on, and has reclaimed so much
   abbrev pub ending_goes : (s : Scene K V) (i : ℕ) (f : Finishing K V) (ending : EndMap) (w2 : World (Node K V)) (deed : Deed) → List ℕ → Scene K V
@@ -45,12 +45,12 @@ module _ {K V : Type 0} (same : K → K → Bool) where
 
     module _ (s : Scene K V) (i : ℕ) (f : Finishing K V) (ending : EndMap) (w2 : World (Node K V)) (deed : Deed) where
       -- By what it says: the end goes on, and has taken no block away, or one whose value it hands out; or it is over. It never waits.
-      abbrev pub EndingComesToThere : Settled (Node K V) → Type 0
-      EndingComesToThere settled.Goes = (taken_by deed ≡ []) × IsThere (ending_goes s i f ending w2 deed f.back)
-      EndingComesToThere settled.Waits = ⊥
-      EndingComesToThere (settled.Gave value) =
+      abbrev pub EndingOutcomeHolds : Settled (Node K V) → Type 0
+      EndingOutcomeHolds settled.Goes = (taken_by deed ≡ []) × IsThere (ending_goes s i f ending w2 deed f.back)
+      EndingOutcomeHolds settled.Waits = ⊥
+      EndingOutcomeHolds (settled.Gave value) =
           (b : ℕ) × (value_at s.world.memory b ≡ Some value) × (taken_by deed ≡ b ∷ []) × IsThere (ending_goes s i f ending w2 deed (f.back ++ b ∷ []))
-      EndingComesToThere settled.Done =
+      EndingOutcomeHolds settled.Done =
           (taken_by deed ≡ []) × HasFinished w2.memory f × IsThere (record s { world = w2; enders = with_at s.enders i None })
 
     -- The step of a caller's end of a map.
@@ -59,12 +59,12 @@ module _ {K V : Type 0} (same : K → K → Bool) where
         (f : Finishing K V) → s.enders i ≡ Some f
         → (ending : EndMap) × EndingStepsFrom f.machine old new ending told
         × (did : StepsOfEnding V same same old.batch_size old.roots slot_of s.world s.maps s.calls s.makers s.enders i f new.memory (ending, told))
-        × EndingComesToThere s i f ending did.w2 did.deed told
+        × EndingOutcomeHolds s i f ending did.w2 did.deed told
 
   -- the same, to the scene of what is held then
   module _ (hash : ℕ → K → ℕ) where
-    abbrev pub EndingComesTo : (s : Scene K V) (new : Held K V) (i : ℕ) (f : Finishing K V) (ending : EndMap) (w2 : World (Node K V)) (deed : Deed) → Settled (Node K V) → Type 0
-    EndingComesTo s new i f ending w2 deed told = EndingComesToThere (IsAt same hash new) s i f ending w2 deed told
+    abbrev pub EndingHasOutcome : (s : Scene K V) (new : Held K V) (i : ℕ) (f : Finishing K V) (ending : EndMap) (w2 : World (Node K V)) (deed : Deed) → Settled (Node K V) → Type 0
+    EndingHasOutcome s new i f ending w2 deed told = EndingOutcomeHolds (IsAt same hash new) s i f ending w2 deed told
 
     abbrev pub EndingLeads : ℕ → Settled (Node K V) → Scene K V → Held K V → Held K V → Type 0
     EndingLeads i told s old new = EndingLeadsTo (IsAt same hash new) i told s old new

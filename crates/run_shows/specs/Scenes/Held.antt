@@ -18,8 +18,8 @@ pub record Held (K V : Type 0) : Type 0 where
 
 -- Each map has a hash, by its number.
 module _ {K V : Type 0} (same : K → K → Bool) (hash : ℕ → K → ℕ) where
-  -- The scene is that of what is held: it has the memory, all stand together in it, the keys of a map have the map's hash, also while it is made, and a row works
-  -- on the slot of its caller.
+  -- The scene is that of what is held: it has the memory, the invariant of all holds in it, the keys of a map have the map's hash, also while it is made, and a
+  -- row works on the slot of its caller.
   pub record IsAt (h : Held K V) (s : Scene K V) : Type 0 where
     pub memory : s.world.memory ≡ h.memory
     pub together : EndingsTogether V same same h.batch_size h.roots slot_of s.world s.maps s.calls s.makers s.enders

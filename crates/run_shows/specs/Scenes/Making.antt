@@ -7,9 +7,9 @@ use Rattle.run_effects.specs.Given.TablesDeclared.node.Node.{Node}
 use Rattle.run_effects.specs.Given.TablesDeclared.setting.Setting.{Setting}
 use Rattle.run_effects.specs.Given.ResizeNewMap.{opening, new_map_plan}
 use Rattle.run_effects.specs.Given.ResizeDeclared.new_map.NewMap.{NewMap}
-use Rattle.run_effects.specs.ReportingMemory.Tells.{StepsTold}
+use Rattle.run_effects.specs.ReportingMemory.Tells.{StepsObserved}
 use Rattle.run_effects.specs.declared.changed.Changed.TheVariants.{Nothing}
-use Rattle.many_maps.specs.Endings.{MakingStepsAmong}
+use Rattle.many_maps.specs.Endings.{MakingStepsWithEndings}
 use Rattle.many_maps.specs.Makings.{Beginning, IsMade}
 use Rattle.many_maps.specs.Maps.{Standing}
 use Rattle.run_shows.specs.Scenes.Held.{Held, IsAt}
@@ -26,32 +26,32 @@ scene_making i b s = record s { makers = with_at s.makers i (Some b) }
 module _ {K V : Type 0} where
   -- it was a step of this making, and what its one operation has changed is told
   abbrev pub MakingStepsFrom : NewMap → Held K V → Held K V → NewMap → Advance Setting → Type 0
-  MakingStepsFrom before old new opening told = StepsTold K V (NewMap × Advance Setting) old.memory Nothing (new_map_plan before) new.memory new.changed (opening, told)
+  MakingStepsFrom before old new opening told = StepsObserved K V (NewMap × Advance Setting) old.memory Nothing (new_map_plan before) new.memory new.changed (opening, told)
 
 module _ {K V : Type 0} (same : K → K → Bool) where
   module _ (IsThere : Scene K V → Type 0) where
     module _ (s : Scene K V) (old : Held K V) (i : ℕ) (b : Beginning K) (opening : NewMap) (w2 : World (Node K V)) where
       -- by what it says: the making goes on, or its map stands, or it was refused
-      abbrev pub MakingComesToThere : Advance Setting → Type 0
-      MakingComesToThere progress.Goes = IsThere (record s { world = w2; makers = with_at s.makers i (Some (record b { machine = opening })) })
-      MakingComesToThere progress.Waits = ⊥
-      MakingComesToThere (progress.Done setting) =
+      abbrev pub MakingOutcomeHolds : Advance Setting → Type 0
+      MakingOutcomeHolds progress.Goes = IsThere (record s { world = w2; makers = with_at s.makers i (Some (record b { machine = opening })) })
+      MakingOutcomeHolds progress.Waits = ⊥
+      MakingOutcomeHolds (progress.Done setting) =
           (standing : Standing K) × IsMade V same same old.batch_size old.roots slot_of b setting standing
           × IsThere (record s { world = w2; maps = with_at s.maps b.map (Some standing); makers = with_at s.makers i None })
-      MakingComesToThere (progress.Refused fault) = IsThere (record s { world = w2; makers = with_at s.makers i None })
+      MakingOutcomeHolds (progress.Refused fault) = IsThere (record s { world = w2; makers = with_at s.makers i None })
 
     -- The step of a caller's making of a map.
     abbrev pub MakingLeadsTo : ℕ → Advance Setting → Scene K V → Held K V → Held K V → Type 0
     MakingLeadsTo i told s old new =
         (b : Beginning K) → s.makers i ≡ Some b
         → (opening : NewMap) × MakingStepsFrom b.machine old new opening told
-        × (did : MakingStepsAmong V same same old.batch_size old.roots slot_of s.world s.maps s.calls s.makers s.enders i b new.memory (opening, told))
-        × MakingComesToThere s old i b opening did.step.w2 told
+        × (did : MakingStepsWithEndings V same same old.batch_size old.roots slot_of s.world s.maps s.calls s.makers s.enders i b new.memory (opening, told))
+        × MakingOutcomeHolds s old i b opening did.step.w2 told
 
   -- the same, to the scene of what is held then
   module _ (hash : ℕ → K → ℕ) where
-    abbrev pub MakingComesTo : (s : Scene K V) (old new : Held K V) (i : ℕ) (b : Beginning K) (opening : NewMap) (w2 : World (Node K V)) → Advance Setting → Type 0
-    MakingComesTo s old new i b opening w2 told = MakingComesToThere (IsAt same hash new) s old i b opening w2 told
+    abbrev pub MakingHasOutcome : (s : Scene K V) (old new : Held K V) (i : ℕ) (b : Beginning K) (opening : NewMap) (w2 : World (Node K V)) → Advance Setting → Type 0
+    MakingHasOutcome s old new i b opening w2 told = MakingOutcomeHolds (IsAt same hash new) s old i b opening w2 told
 
     abbrev pub MakingLeads : ℕ → Advance Setting → Scene K V → Held K V → Held K V → Type 0
     MakingLeads i told s old new = MakingLeadsTo (IsAt same hash new) i told s old new

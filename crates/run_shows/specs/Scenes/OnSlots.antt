@@ -15,7 +15,7 @@ use Rattle.seize.specs.World.{World, Row, Rests, Event, Begin, Step, Happens}
 use Rattle.seize_words.specs.OneMemory.Mem.{Mem}
 use Rattle.run_effects.specs.Given.TablesNodes.{deferred_word}
 use Rattle.run_effects.specs.Given.TablesDeclared.node.Node.{Node}
-use Rattle.run_effects.specs.ReportingMemory.Tells.{StepsTold}
+use Rattle.run_effects.specs.ReportingMemory.Tells.{StepsObserved}
 use Rattle.run_effects.specs.declared.changed.Changed.{Changed}
 use Rattle.run_effects.specs.declared.changed.Changed.TheVariants.{Nothing}
 use Rattle.many_maps.specs.Maps.{Standing, IsSameMap}
@@ -32,15 +32,15 @@ module _ (K V : Type 0) where
   -- a step of a machine on a slot, of this plan, is told, and so is what its one operation has changed
   abbrev pub RowSteps : SlotRow → Mem (Node K V) → Mem (Node K V) → Changed → SlotRow × RowTold (Node K V) → Type 0
   RowSteps (rows.Registers c) m m2 changed after =
-      (end : Register × Advance ℕ) × StepsTold K V (Register × Advance ℕ) m Nothing (register_plan c) m2 changed end × (after ≡ (rows.Registers end.0, of_registering end.1))
+      (end : Register × Advance ℕ) × StepsObserved K V (Register × Advance ℕ) m Nothing (register_plan c) m2 changed end × (after ≡ (rows.Registers end.0, of_registering end.1))
   RowSteps (rows.Enters c) m m2 changed after =
-      (end : Enter × Advance Unit) × StepsTold K V (Enter × Advance Unit) m Nothing (enter_plan c) m2 changed end × (after ≡ (rows.Enters end.0, of_storing end.1))
+      (end : Enter × Advance Unit) × StepsObserved K V (Enter × Advance Unit) m Nothing (enter_plan c) m2 changed end × (after ≡ (rows.Enters end.0, of_storing end.1))
   RowSteps (rows.Leaves c) m m2 changed after =
-      (end : Leave × Settled (Node K V)) × StepsTold K V (Leave × Settled (Node K V)) m Nothing (leave_plan deferred_word c) m2 changed end × (after ≡ (rows.Leaves end.0, of_settling end.1))
+      (end : Leave × Settled (Node K V)) × StepsObserved K V (Leave × Settled (Node K V)) m Nothing (leave_plan deferred_word c) m2 changed end × (after ≡ (rows.Leaves end.0, of_settling end.1))
   RowSteps (rows.Flushes c) m m2 changed after =
-      (end : Settle × Settled (Node K V)) × StepsTold K V (Settle × Settled (Node K V)) m Nothing (settle_plan deferred_word c) m2 changed end × (after ≡ (rows.Flushes end.0, of_settling end.1))
+      (end : Settle × Settled (Node K V)) × StepsObserved K V (Settle × Settled (Node K V)) m Nothing (settle_plan deferred_word c) m2 changed end × (after ≡ (rows.Flushes end.0, of_settling end.1))
   RowSteps (rows.Frees c) m m2 changed after =
-      (end : Unregister × Advance Unit) × StepsTold K V (Unregister × Advance Unit) m Nothing (unregister_plan c) m2 changed end × (after ≡ (rows.Frees end.0, of_storing end.1))
+      (end : Unregister × Advance Unit) × StepsObserved K V (Unregister × Advance Unit) m Nothing (unregister_plan c) m2 changed end × (after ≡ (rows.Frees end.0, of_storing end.1))
 
 -- how a row goes on that has told this: as it is then, or it rests once it has come to its end
 abbrev pub row_then : {T : Type 0} → SlotRow → RowTold T → Row

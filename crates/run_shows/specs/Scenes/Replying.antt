@@ -3,7 +3,7 @@ use Rattle.std.specs.Prelude.{◌≡◌, ℕ, Bool, true, false, Option, Some, N
 use Rattle.run_effects.specs.Given.RawMachine.{machine_replied, machine_asked}
 use Rattle.run_effects.specs.Given.RawDeclared.machines.asking.MachineReply.{MachineReply}
 use Rattle.many_maps.specs.Given.CallersTogether.{UnderWay}
-use Rattle.many_maps.specs.Machines.{machine_of, ToldOfKind}
+use Rattle.many_maps.specs.Machines.{machine_of, RepliedOfKind}
 use Rattle.many_maps.specs.Maps.{Standing, with_call}
 use Rattle.run_shows.specs.Scenes.Held.{Held, IsAt}
 use Rattle.run_shows.specs.Scenes.Scene.{Scene, slot_of}
@@ -24,7 +24,7 @@ module _ {K V : Type 0} (same : K → K → Bool) where
     ReplyLeadsTo i told result s old new =
         (m : ℕ) (u : UnderWay K V K) → s.calls m i ≡ Some u
         → (standing : Standing K) × (next : UnderWay K V K) × (s.maps m ≡ Some standing)
-        × (machine_of next ≡ (machine_replied (machine_of u) told).0) × (result ≡ (machine_replied (machine_of u) told).1) × ToldOfKind V same same old.batch_size old.roots slot_of standing i u told next
+        × (machine_of next ≡ (machine_replied (machine_of u) told).0) × (result ≡ (machine_replied (machine_of u) told).1) × RepliedOfKind V same same old.batch_size old.roots slot_of standing i u told next
         × (new.memory ≡ old.memory) × IsThere (scene_with m i next s)
 
     -- A walk that was ready goes on to its next pair, and nothing else has changed.

@@ -5,12 +5,12 @@ use Rattle.run_finds.specs.Given.SchedulesMoment.{Moment}
 use Rattle.run_finds.specs.Given.SchedulesViews.{is_in_map}
 use Rattle.run_finds.specs.Given.FinishesMaps.{Standing}
 use Rattle.run_finds.specs.Given.EffectsKnown.{Known}
-use Rattle.run_finds.specs.Given.FollowsMaps.{ShowsPairs}
+use Rattle.run_finds.specs.Given.FollowsMaps.{RefinesPairs}
 use Rattle.run_finds.proofs.Given.FollowsStored.{in_map_true}
 
 module _ {K V : Type 0} (of : ℕ) where
   -- what one of them has, the other has
-  there_too : (m m2 : Moment K V) (known known2 : Known) (st st2 : Standing K) (number number2 : ℕ → ℕ) → ShowsPairs of number st m known → ShowsPairs of number2 st2 m2 known2
+  there_too : (m m2 : Moment K V) (known known2 : Known) (st st2 : Standing K) (number number2 : ℕ → ℕ) → RefinesPairs of number st m known → RefinesPairs of number2 st2 m2 known2
       → st2.chart.stored ≡ st.chart.stored → st2.chart.current ≡ st.chart.current → ((n : ℕ) → n < st.chart.stored → number2 n ≡ number n)
       → (q : ℕ) → is_in_map of (m2.place q) ≡ true → is_in_map of (m.place q) ≡ true
   there_too m m2 known known2 st st2 number number2 pairs pairs2 stored current numbers q is =
@@ -20,7 +20,7 @@ module _ {K V : Type 0} (of : ℕ) where
       ap (λ (x : ℕ). is_in_map of (m.place x)) (it.2 ∙ numbers it.0 l) ∙ pairs.here it.0 l ∙ ap (λ (f : ℕ → Bool). f it.0) (sym current) ∙ now
 
   -- so both have the same
-  pub alike : (m m2 : Moment K V) (known known2 : Known) (st st2 : Standing K) (number number2 : ℕ → ℕ) → ShowsPairs of number st m known → ShowsPairs of number2 st2 m2 known2
+  pub alike : (m m2 : Moment K V) (known known2 : Known) (st st2 : Standing K) (number number2 : ℕ → ℕ) → RefinesPairs of number st m known → RefinesPairs of number2 st2 m2 known2
       → st2.chart.stored ≡ st.chart.stored → st2.chart.current ≡ st.chart.current → ((n : ℕ) → n < st.chart.stored → number2 n ≡ number n)
       → (q : ℕ) → is_in_map of (m2.place q) ≡ is_in_map of (m.place q)
   alike m m2 known known2 st st2 number number2 pairs pairs2 stored current numbers q =

@@ -17,7 +17,7 @@ use Rattle.run_finds.specs.Given.RunsSame.{is_same}
 use Rattle.run_finds.specs.Given.RunsDeclared.call.Call.{Call}
 use Rattle.run_finds.specs.Given.RunsDeclared.call.Call.TheVariants as call
 use Rattle.run_finds.specs.Given.RunsDeclared.outcome.Outcome.{Outcome}
-use Rattle.run_finds.specs.Given.SchedulesAfter.{comes_to}
+use Rattle.run_finds.specs.Given.SchedulesAfter.{with_outcome}
 use Rattle.run_finds.specs.Given.SchedulesBeginning.{fresh_call, with_call}
 use Rattle.run_finds.specs.Given.SchedulesLists.{OneOf}
 use Rattle.run_finds.specs.Given.SchedulesMoment.{Place, MapThere, UnderWay as CallThere, Moment}
@@ -29,7 +29,7 @@ use Rattle.run_finds.specs.Given.CallersTogether.{UnderWay, OnKey, ForRoom, Coun
 use Rattle.run_finds.specs.Given.EffectsKnown.{Known}
 use Rattle.run_finds.specs.Given.FinishesMaps.{Standing, with_call as with_in}
 use Rattle.run_finds.specs.Given.FollowsCalling.{come_to}
-use Rattle.run_finds.specs.Given.FollowsShows.{Shows}
+use Rattle.run_finds.specs.Given.FollowsShows.{Refines}
 use Rattle.run_finds.proofs.Given.FollowsCalled.{called_as, some_is, sweep_called}
 use Rattle.run_finds.proofs.Given.FollowsCalling.{is_same_refl, come, begins_with, come_with}
 use Rattle.run_finds.proofs.Given.HandsAsking.{which}
@@ -39,18 +39,18 @@ use Rattle.run_finds.proofs.Given.HistoriesCalling.{came_so}
 use Rattle.run_finds.proofs.Given.ChangesFound.{map_alike}
 use Rattle.run_finds.proofs.Given.ChangesLogs.{now_there, grows, further_is_past}
 use Rattle.run_finds.proofs.Given.ChangesNow.{now_had}
-use Rattle.run_finds.specs.Given.OthersAfter.{ShowsAfter}
+use Rattle.run_finds.specs.Given.OthersAfter.{RefinesAfter}
 use Rattle.run_finds.proofs.Given.OthersWalks.{fewer_calls, with_calls}
-use Rattle.run_sweeps.specs.Purposes.Kept.{TellsNone, CallsBeginPurposes, WalksGoOnPurposes, CallsComeToPurposes, EventsKeepPurposes, FirstStepsChangePairsFirst}
-use Rattle.run_sweeps.specs.Purposes.Purposes.{IsFor, HasAdded, RoomAt, HasMet, TellsDone, KeysOf, HasSwept, HasCome}
+use Rattle.run_sweeps.specs.Purposes.Kept.{OutcomeShowsNone, CallsBeginPurposes, WalksPreservePurposes, CallsComeToPurposes, EventsPreservePurposes, FirstStepsChangePairsFirst}
+use Rattle.run_finds.specs.Purposes.Purposes.{IsFor, HasAdded, RoomAt, HasMet, ShowsDone, KeysOf, HasSwept, HasCome}
 use Rattle.run_finds.specs.Given.NamedMachines.{IsBefore}
 use Rattle.run_sweeps.proofs.Purposes.For.{sweep_for}
 use Rattle.run_sweeps.proofs.Purposes.KeysOn.{keys_next}
-use Rattle.run_sweeps.proofs.Purposes.Needs.{needs_wider, reserves_wider}
+use Rattle.run_finds.proofs.Purposes.Needs.{needs_wider, reserves_wider}
 use Rattle.run_sweeps.proofs.Purposes.Present.{begins_within}
 use Rattle.run_sweeps.proofs.Purposes.Shown.{IsStill, same_still, comes_still}
 use Rattle.run_sweeps.proofs.Purposes.Still.{come_still, for_still}
-use Rattle.run_sweeps.proofs.Purposes.Sums.{added_wider, counts_wider}
+use Rattle.run_finds.proofs.Purposes.Sums.{added_wider, counts_wider}
 use Rattle.run_sweeps.proofs.Purposes.Within.{pairs_within_moments}
 use Rattle.run_finds.specs.Given.ScenesBeginning.{Begins}
 use Rattle.run_finds.specs.Given.ScenesHeld.{Held, IsAt}
@@ -108,7 +108,7 @@ module _ {K V : Type 0} (same : K → K → Bool) (log : Past K V) (next : Momen
           by (inl is) = inl is
           by (inr there) = inr (wider (λ x. HadThen same st number time k (finite_map same of x k)) there)
 
-pub events_keep_purposes : (K V : Type 0) (same : K → K → Bool) → EventsKeepPurposes K V same
+pub events_keep_purposes : (K V : Type 0) (same : K → K → Bool) → EventsPreservePurposes K V same
 events_keep_purposes K V same name log m known s purposes counted = record {
   past = further_is_past m log counted;
   lasts = λ begun. further_lasts (nat_lt (suc log.entries) begun) (log.since begun) (purposes.lasts begun);
@@ -124,14 +124,14 @@ events_keep_purposes K V same name log m known s purposes counted = record {
     further_lasts false moments all = (λ n pair is. is, all)
 
 -- a call that comes to an outcome that tells of no pair
-come_so : {K V : Type 0} (named : Type 0) (o : Outcome V) → TellsNone o → (steps : ℕ) (c d : CallThere K V) → (d ≡ c) ⊎ ((d ≡ come o steps c) × named) → IsStill c d
+come_so : {K V : Type 0} (named : Type 0) (o : Outcome V) → OutcomeShowsNone o → (steps : ℕ) (c d : CallThere K V) → (d ≡ c) ⊎ ((d ≡ come o steps c) × named) → IsStill c d
 come_so {K} {V} named o none steps c d (inl e) = subst (IsStill c) (sym e) (same_still c)
 come_so {K} {V} named o none steps c d (inr e) = subst (IsStill c) (sym e.0) so
   where
     its : CallThere K V
     its = record c { steps = c.steps + steps }
 
-    so : IsStill c (comes_to o its)
+    so : IsStill c (with_outcome o its)
     so = let h = comes_still o none its in record { call = h.call; begun = h.begun; replies = h.replies; shown = h.shown; map = h.map }
 
 pub calls_come_to_purposes : (K V : Type 0) (same : K → K → Bool) → CallsComeToPurposes K V same
@@ -147,7 +147,7 @@ calls_come_to_purposes K V same name log m known s purposes own o steps none end
       (come_still same n st (purposes.shown.number n) log m (come_to own o steps m) refl refl c.0 d (still n j x is c.0 c.1 d d_is) x (purposes.come n j x is st there c.0 c.1));
 }
   where
-    b : (after : Shows same name (come_to own o steps m) known s) × (after.number ≡ purposes.shown.number)
+    b : (after : Refines same name (come_to own o steps m) known s) × (after.number ≡ purposes.shown.number)
     b = come_with same name m known s purposes.shown own o steps ended
 
     still : (n j : ℕ) (x : UnderWay K V K) → s.calls n j ≡ Some x → (c : CallThere K V) → call_of (name j) m ≡ Some c → (d : CallThere K V) → call_of (name j) (come_to own o steps m) ≡ Some d → IsStill c d
@@ -155,9 +155,9 @@ calls_come_to_purposes K V same name log m known s purposes own o steps none end
 
 -- a call that begins
 module _ {K V : Type 0} (same : K → K → Bool) (hash : ℕ → K → ℕ) (name : ℕ → List ℕ) (log : Past K V) (m : Moment K V) (known : Known) (s : Scene K V) (e : Held K V)
-    (at : IsAt same hash e s) (shown : Shows same name m known s) (of i : ℕ) (st : Standing K) (there : s.maps of ≡ Some st) (m2 : Moment K V) (place : m2.place ≡ m.place) (stored : m2.stored ≡ m.stored)
+    (at : IsAt same hash e s) (shown : Refines same name m known s) (of i : ℕ) (st : Standing K) (there : s.maps of ≡ Some st) (m2 : Moment K V) (place : m2.place ≡ m.place) (stored : m2.stored ≡ m.stored)
     (c : CallThere K V) (shows : c.shown ≡ []) (was : OneOf (λ x. first_of of x ≤ st.chart.first) (log.since c.begun)) where
-  none_told : (its : Call K V) (number : ℕ → ℕ) → TellsDone its number [] c
+  none_told : (its : Call K V) (number : ℕ → ℕ) → ShowsDone its number [] c
   none_told (call.On one) number = tt
   none_told (call.Reserve n) number = tt
   none_told call.Clear number = tt
@@ -208,7 +208,7 @@ calls_begin_purposes K V same hash name log m known s e at purposes of i u its g
     fresh : CallThere K V
     fresh = fresh_call (name i) guard its of m.events
 
-    b : (after : Shows same name m2 known (scene_with of i u s)) × (after.number ≡ purposes.shown.number)
+    b : (after : Refines same name m2 known (scene_with of i u s)) × (after.number ≡ purposes.shown.number)
     b = begins_with same name m known s purposes.shown of i u its guard apart called
 
     -- the root is where it was as the last event ended
@@ -269,7 +269,7 @@ next_purpose p = by p.stands
     by sweeping.Ready = refl
     by _ = refl
 
-pub walks_go_on_purposes : (K V : Type 0) (same : K → K → Bool) → WalksGoOnPurposes K V same
+pub walks_go_on_purposes : (K V : Type 0) (same : K → K → Bool) → WalksPreservePurposes K V same
 walks_go_on_purposes K V same name log m known s purposes of i o here ready = record {
   past = purposes.past;
   lasts = purposes.lasts;
@@ -286,7 +286,7 @@ walks_go_on_purposes K V same name log m known s purposes of i o here ready = re
     next : UnderWay K V K
     next = OverAll o2
 
-    b : ShowsAfter same name m known s purposes.shown m known (scene_with of i next s)
+    b : RefinesAfter same name m known s purposes.shown m known (scene_with of i next s)
     b = with_calls same name m known s (with_in s.calls of i (Some next))
         (fewer_calls same name m s.calls of i (OverAll o) here (Some next) (λ x e its called. called_as same x next its (some_is next x e) (sweep_called same o o2 its called)) purposes.shown.calls)
         purposes.shown

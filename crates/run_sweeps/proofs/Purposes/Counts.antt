@@ -20,14 +20,14 @@ use Rattle.run_finds.specs.Given.SchedulesCounts.{Counts}
 use Rattle.run_finds.specs.Given.SchedulesMoment.{UnderWay as CallThere, Moment}
 use Rattle.run_finds.specs.Given.PointsFactsTables.{CountsShards, SumFacts}
 use Rattle.run_finds.specs.Given.CallersTogether.{UnderWay, Counting, in_slot}
-use Rattle.run_finds.specs.Given.FinishesMachines.{GoesOnAs}
+use Rattle.run_finds.specs.Given.FinishesMachines.{ContinuesAs}
 use Rattle.run_finds.specs.Given.FinishesMaps.{Standing}
 use Rattle.run_finds.specs.Given.EffectsDeclared.changed.Changed.TheVariants.{Nothing}
 use Rattle.run_finds.proofs.Given.ChangesLogs.{now_there}
-use Rattle.run_finds.specs.Given.ShardsShardWords.{ShowsShards}
-use Rattle.run_sweeps.specs.Purposes.Purposes.{HasAdded}
-use Rattle.run_sweeps.specs.Purposes.Shards.{NoneCounted}
-use Rattle.run_sweeps.proofs.Purposes.Sums.{After, counting_on}
+use Rattle.run_finds.specs.Given.ShardsShardWords.{RefinesShards}
+use Rattle.run_finds.specs.Purposes.Purposes.{HasAdded}
+use Rattle.run_finds.specs.Purposes.Shards.{NoneCounted}
+use Rattle.run_finds.proofs.Purposes.Sums.{After, counting_on}
 use Rattle.run_finds.proofs.Given.ScenesTold.{as_step}
 use Rattle.run_finds.specs.Given.ScenesHeld.{Held, IsAt}
 use Rattle.run_finds.specs.Given.ScenesScene.{Scene, slot_of}
@@ -37,7 +37,7 @@ use Rattle.run_finds.specs.Given.SchedulesTransition.{Past}
 
 module _ {K V : Type 0} (same : K → K → Bool) (hash : ℕ → K → ℕ) (log : Past K V) (is_past : IsPast log) (m : Moment K V) (s : Scene K V) (old new : Held K V) (at : IsAt same hash old s)
     (of i : ℕ) (sum : Sum) (here : s.calls of i ≡ Some (Counting sum)) (st : Standing K) (there : s.maps of ≡ Some st) (c : CallThere K V) (before : c.begun ≤ log.entries)
-    (shards : ShowsShards m s) (none : NoneCounted log m of) (has : HasAdded of (log.since c.begun) sum.setting.mask sum.stands)
+    (shards : RefinesShards m s) (none : NoneCounted log m of) (has : HasAdded of (log.since c.begun) sum.setting.mask sum.stands)
     (machine : Machine K V K) (said : Progress (Node K V)) (steps : StepsFrom same st.hash (kinds.Count sum) old new machine said) where
   abbrev mem : Mem (Node K V)
   mem = old.memory
@@ -64,7 +64,7 @@ module _ {K V : Type 0} (same : K → K → Bool) (hash : ℕ → K → ℕ) (lo
       )
 
   -- where it goes on
-  pub counts_on : (next : Option (UnderWay K V K)) → GoesOnAs machine said next → (x : UnderWay K V K) → next ≡ Some x → (sum2 : Sum) → machine ≡ kinds.Count sum2
+  pub counts_on : (next : Option (UnderWay K V K)) → ContinuesAs machine said next → (x : UnderWay K V K) → next ≡ Some x → (sum2 : Sum) → machine ≡ kinds.Count sum2
       → HasAdded of (log.since c.begun) sum2.setting.mask sum2.stands
   counts_on next goes x e sum2 machine_is = by its_step
     where
@@ -75,7 +75,7 @@ module _ {K V : Type 0} (same : K → K → Bool) (hash : ℕ → K → ℕ) (lo
           (subst (λ (z : Setting). HasAdded of (log.since c.begun) z.mask c2.stands) (sym came.0) came.1)
       by ((c2, counting.Waits), came, is) = absurd came
       by ((c2, counting.Done count), came, is) =
-          absurd (let gone : next ≡ _ = subst (λ (p : Progress (Node K V)). GoesOnAs machine p next) (ap (λ z. z.1) is) goes in cc (gone, e))
+          absurd (let gone : next ≡ _ = subst (λ (p : Progress (Node K V)). ContinuesAs machine p next) (ap (λ z. z.1) is) goes in cc (gone, e))
       by ((c2, counting.Refused fault), came, is) = absurd came
 
   -- where it ends

@@ -20,7 +20,7 @@ use Rattle.run_finds.specs.Given.LateCoversSweeps.{DoneBy, DoneAt}
 use Rattle.run_finds.specs.Given.CallersOverAll.{CallOverAll}
 use Rattle.run_finds.specs.Given.CallersTogether.{OverAll}
 use Rattle.run_sweeps.specs.Purposes.Kept.{ShowsNone}
-use Rattle.run_sweeps.specs.Purposes.Purposes.{IsFor, TellsDone}
+use Rattle.run_finds.specs.Purposes.Purposes.{IsFor, ShowsDone}
 use Rattle.run_finds.specs.Given.NamedMachines.{IsBefore}
 use Rattle.run_sweeps.proofs.Purposes.Lists.{all_on, all_both, maps_alike}
 use Rattle.run_sweeps.proofs.Purposes.Shown.{IsStill}
@@ -56,7 +56,7 @@ module _ {K V : Type 0} (number number2 : ℕ → ℕ) (stored : ℕ) (numbers :
   pub maps_kept : map number2 done ≡ map number done
   maps_kept = maps_alike number2 number done (all_on (λ n. n < stored) (λ n. number2 n ≡ number n) numbers done below)
 
-  tells_by : (its : Call K V) → TellsDone its number done c → TellsDone its number2 done d
+  tells_by : (its : Call K V) → ShowsDone its number done c → ShowsDone its number2 done d
   tells_by (call.On one) tells = tt
   tells_by (call.Reserve n) tells = tt
   tells_by call.Clear tells = tt
@@ -64,23 +64,23 @@ module _ {K V : Type 0} (number number2 : ℕ → ℕ) (stored : ℕ) (numbers :
   tells_by call.Len tells = tt
   tells_by call.Walk tells = still.shown ∙ tells ∙ sym maps_kept
 
-  pub tells_kept : TellsDone c.call number done c → TellsDone d.call number2 done d
-  tells_kept tells = subst (λ (x : Call K V). TellsDone x number2 done d) (sym still.call) (tells_by c.call tells)
+  pub tells_kept : ShowsDone c.call number done c → ShowsDone d.call number2 done d
+  tells_kept tells = subst (λ (x : Call K V). ShowsDone x number2 done d) (sym still.call) (tells_by c.call tells)
 
 -- after a step by which it is as before, or nothing is done
 module _ {K V : Type 0} (o : CallOverAll) (done2 : List ℕ) (number : ℕ → ℕ) (c : CallThere K V) where
   abbrev pub Comes : Type 0
   Comes = (IsBefore o.sweep.stands × (done2 ≡ [])) ⊎ (done2 ≡ o.done)
 
-  pub next_tells : (its : Call K V) → IsFor (OverAll o) its → (o.sweep.purpose ≡ Walks → IsBefore o.sweep.stands → o.done ≡ []) → Comes → TellsDone its number o.done c
-      → TellsDone its number done2 c
-  next_tells its is_for none (inr kept) tells = subst (λ (l : List ℕ). TellsDone its number l c) (sym kept) tells
+  pub next_tells : (its : Call K V) → IsFor (OverAll o) its → (o.sweep.purpose ≡ Walks → IsBefore o.sweep.stands → o.done ≡ []) → Comes → ShowsDone its number o.done c
+      → ShowsDone its number done2 c
+  next_tells its is_for none (inr kept) tells = subst (λ (l : List ℕ). ShowsDone its number l c) (sym kept) tells
   next_tells (call.On one) is_for none (inl at_first) tells = tt
   next_tells (call.Reserve n) is_for none (inl at_first) tells = tt
   next_tells call.Clear is_for none (inl at_first) tells = tt
-  next_tells call.Retain is_for none (inl at_first) tells = subst (λ (l : List ℕ). TellsDone call.Retain number l c) (sym at_first.1) tt
+  next_tells call.Retain is_for none (inl at_first) tells = subst (λ (l : List ℕ). ShowsDone call.Retain number l c) (sym at_first.1) tt
   next_tells call.Len is_for none (inl at_first) tells = tt
-  next_tells call.Walk is_for none (inl at_first) tells = subst (λ (l : List ℕ). TellsDone call.Walk number l c) (none is_for at_first.0 ∙ sym at_first.1) tells
+  next_tells call.Walk is_for none (inl at_first) tells = subst (λ (l : List ℕ). ShowsDone call.Walk number l c) (none is_for at_first.0 ∙ sym at_first.1) tells
 
   pub next_below : (stored : ℕ) → Comes → AllByRecursion (λ n. n < stored) o.done → AllByRecursion (λ n. n < stored) done2
   next_below stored (inl at_first) below = subst (AllByRecursion (λ n. n < stored)) (sym at_first.1) tt

@@ -34,16 +34,16 @@ use Rattle.run_finds.proofs.Given.CallersTogether.Fits.{map_in_slot}
 use Rattle.run_finds.specs.Given.EffectsKnown.{Known}
 use Rattle.run_finds.specs.Given.FinishesMachines.{machine_of}
 use Rattle.run_finds.specs.Given.FinishesMaps.{Standing}
-use Rattle.run_finds.specs.Given.FollowsMaps.{tables_to, ShowsTables}
+use Rattle.run_finds.specs.Given.FollowsMaps.{tables_to, RefinesTables}
 use Rattle.run_finds.proofs.Given.FollowsSteps.{WentTo, made_so, is_sight}
 use Rattle.run_finds.proofs.Given.ChangesLogs.{each_of}
-use Rattle.run_finds.specs.Given.MomentsWhole.{ShowsWhole}
-use Rattle.run_sweeps.specs.Purposes.Purposes.{IsFor, HasMet, ShowsPurposes}
-use Rattle.run_sweeps.specs.Purposes.Shards.{ReadsShards}
+use Rattle.run_finds.specs.Given.MomentsWhole.{RefinesWhole}
+use Rattle.run_finds.specs.Purposes.Purposes.{IsFor, HasMet, RefinesPurposes}
+use Rattle.run_finds.specs.Purposes.Shards.{ReadsShards}
 use Rattle.run_sweeps.specs.Purposes.Swept.{ReservationsAreSwept}
-use Rattle.run_sweeps.proofs.Purposes.RoomSteps.{EndsSo, room_ends}
+use Rattle.run_finds.proofs.Purposes.RoomSteps.{EndsSo, room_ends}
 use Rattle.run_sweeps.proofs.Purposes.Steps.{went, on, known2, Did}
-use Rattle.run_sweeps.proofs.Purposes.Sums.{counts_wider}
+use Rattle.run_finds.proofs.Purposes.Sums.{counts_wider}
 use Rattle.run_sweeps.proofs.Purposes.Swept.{v, then_call, then_is, still, on_map, swept_by, same_map, completed_said}
 use Rattle.run_finds.specs.Given.ScenesHeld.{Held, IsAt}
 use Rattle.run_finds.specs.Given.ScenesScene.{Scene, slot_of}
@@ -84,7 +84,7 @@ one_table of c stage P (suc p) t l here = step (λ k. one_table of c stage P p t
     ]
 
 module _ {K V : Type 0} (same : K → K → Bool) (hash : ℕ → K → ℕ) (name : ℕ → List ℕ) (log : Past K V) (m : Moment K V) (known : Known) (s : Scene K V) (old new : Held K V)
-    (at : IsAt same hash old s) (whole : ShowsWhole same name m known s) (purposes : ShowsPurposes same name log m known s) (of i : ℕ) (u : UnderWay K V K) (here : s.calls of i ≡ Some u)
+    (at : IsAt same hash old s) (whole : RefinesWhole same name m known s) (purposes : RefinesPurposes same name log m known s) (of i : ℕ) (u : UnderWay K V K) (here : s.calls of i ≡ Some u)
     (said : Progress (Node K V)) (leads : StepLeads same hash i said s old new) (c : CallThere K V) (c_is : call_of (name i) m ≡ Some c) where
   abbrev to : WentTo same hash name m known s old new at purposes.shown of i u here said leads
   to = went same hash name log m known s old new at whole purposes of i u here said leads
@@ -167,7 +167,7 @@ module _ {K V : Type 0} (same : K → K → Bool) (hash : ℕ → K → ℕ) (na
           ),
         ))))
       where
-        tables : ShowsTables of on_it.st now (known2 same hash name log m known s old new at whole purposes of i u here said leads)
+        tables : RefinesTables of on_it.st now (known2 same hash name log m known s old new at whole purposes of i u here said leads)
         tables = ((on same hash name log m known s old new at whole purposes of i u here said leads).shows.maps of on_it.st on_it.there).tables
 
     abbrev Room : List (Moment K V) → ℕ → Type 0

@@ -7,7 +7,7 @@ use Rattle.run_finds.specs.Given.RunsDeclared.call.Call.TheVariants as call
 use Rattle.run_finds.specs.Given.CallersOverAll.{CallOverAll}
 use Rattle.run_finds.specs.Given.CallersRooms.{CallForRoom}
 use Rattle.run_finds.specs.Given.CallersTogether.{CallOnKey, UnderWay, OnKey, ForRoom, Counting, OverAll}
-use Rattle.run_sweeps.specs.Purposes.Purposes.{IsFor}
+use Rattle.run_finds.specs.Purposes.Purposes.{IsFor}
 
 module _ {K V : Type 0} where
   key_for : (its : Call K V) (u v : CallOnKey K V K) → IsFor (OnKey u) its → IsFor (OnKey v) its

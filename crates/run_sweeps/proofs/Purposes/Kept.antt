@@ -9,10 +9,10 @@ use Rattle.run_finds.specs.Given.CallersTogether.{UnderWay}
 use Rattle.run_finds.specs.Given.FinishesMaps.{Standing}
 use Rattle.run_finds.specs.Given.EffectsKnown.{Known}
 use Rattle.run_finds.proofs.Given.HandsAsking.{which}
-use Rattle.run_finds.specs.Given.MomentsWhole.{ShowsWhole}
+use Rattle.run_finds.specs.Given.MomentsWhole.{RefinesWhole}
 use Rattle.run_finds.specs.Given.ChangesKept.{ChangesFirst}
-use Rattle.run_sweeps.specs.Purposes.Kept.{PairsChangeFirst, CallsKeepPurposes}
-use Rattle.run_sweeps.specs.Purposes.Purposes.{IsFor, HasCome, ShowsPurposes, NumbersLast}
+use Rattle.run_sweeps.specs.Purposes.Kept.{PairsChangeFirst, CallsPreservePurposes}
+use Rattle.run_finds.specs.Purposes.Purposes.{IsFor, HasCome, RefinesPurposes, NumbersLast}
 use Rattle.run_sweeps.proofs.Purposes.Steps.{went, on, v2, scene2, same_call, kept_come, own_come, own_for}
 use Rattle.run_sweeps.proofs.Purposes.Still.{for_still}
 use Rattle.run_finds.specs.Given.ScenesHeld.{Held, IsAt}
@@ -24,7 +24,7 @@ use Rattle.run_finds.specs.Given.EffectsEffects.{effects_of}
 use Rattle.run_finds.specs.Given.EffectsDeclared.acting.Acting.TheVariants as acts
 
 module _ {K V : Type 0} (same : K → K → Bool) (hash : ℕ → K → ℕ) (name : ℕ → List ℕ) (log : Past K V) (m : Moment K V) (known : Known) (s : Scene K V) (old new : Held K V)
-    (at : IsAt same hash old s) (whole : ShowsWhole same name m known s) (purposes : ShowsPurposes same name log m known s) (of i : ℕ) (u : UnderWay K V K) (here : s.calls of i ≡ Some u)
+    (at : IsAt same hash old s) (whole : RefinesWhole same name m known s) (purposes : RefinesPurposes same name log m known s) (of i : ℕ) (u : UnderWay K V K) (here : s.calls of i ≡ Some u)
     (said : Progress (Node K V)) (leads : StepLeads same hash i said s old new) where
   abbrev pub then_at : Scene K V
   then_at = scene2 same hash name log m known s old new at whole purposes of i u here said leads
@@ -82,7 +82,7 @@ module _ {K V : Type 0} (same : K → K → Bool) (hash : ℕ → K → ℕ) (na
         (own x its.2 st (ap then_at.maps (sym its.0) ∙ there) d (ap (λ (k : ℕ). call_of (name k) v) (sym its.1) ∙ d_is))
     come_then own n j x st there d d_is (inr other) = other_come n j x other.1 st there d d_is
 
-pub calls_keep_purposes : (K V : Type 0) (same : K → K → Bool) (hash : ℕ → K → ℕ) → CallsKeepPurposes K V same hash
+pub calls_keep_purposes : (K V : Type 0) (same : K → K → Bool) (hash : ℕ → K → ℕ) → CallsPreservePurposes K V same hash
 calls_keep_purposes K V same hash name log m known s old new at whole purposes of i u here said leads changes class_first reads none =
     record {
       past = purposes.past;

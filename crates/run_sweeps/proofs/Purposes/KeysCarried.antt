@@ -39,14 +39,14 @@ use Rattle.run_finds.specs.Given.LateToldSweeps.{IsRowOfSweep}
 use Rattle.run_finds.proofs.Given.LateSwept.Sweeps.Points.{went_sweep}
 use Rattle.run_finds.proofs.Given.LateSwept.Sweeps.Tables.{upto_in, live_in}
 use Rattle.run_finds.specs.Given.CallersOverAll.{CallOverAll, sweep_once_over, past_sweeping}
-use Rattle.run_finds.specs.Given.CallersSights.{Sight, seen_by}
-use Rattle.run_finds.specs.Given.CallersTogether.{UnderWay, OverAll, Stands, Together, in_slot}
+use Rattle.run_finds.specs.Given.CallersSights.{Visible, seen_by}
+use Rattle.run_finds.specs.Given.CallersTogether.{UnderWay, OverAll, IsAtPoint, Together, in_slot}
 use Rattle.run_finds.proofs.Given.CallersSights.Seen.{map_seen}
 use Rattle.run_finds.proofs.Given.CallersTogether.Few.{claim_few}
 use Rattle.run_finds.proofs.Given.CallersTogether.Fits.{map_in_slot}
 use Rattle.run_finds.specs.Given.FinishesMaps.{Standing, IsSameMap}
-use Rattle.run_sweeps.specs.Purposes.Keys.{KeysAt, AreKeyed}
-use Rattle.run_sweeps.specs.Purposes.Purposes.{KeysOf}
+use Rattle.run_finds.specs.Purposes.Keys.{KeysAt, AreKeyed}
+use Rattle.run_finds.specs.Purposes.Purposes.{KeysOf}
 use Rattle.run_finds.specs.Given.NamedMachines.{IsBefore}
 use Rattle.run_sweeps.proofs.Purposes.KeysOn.{IsLow, StandsLow, keys_at_on}
 use Rattle.run_sweeps.proofs.Purposes.KeysSteps.{Leads, copies_lead, walk_leads}
@@ -161,7 +161,7 @@ copied_over {K} {V} p b end is done = subst (λ (x : Sweep × Swept (Node K V)).
     by (next, outcome.Refused fault) e = absurd (cc e)
 
 module _ {K V : Type 0} (same : K → K → Bool) (hash : K → ℕ) (are : AreLawful same hash) (setting : Setting) (initial : IsPowerOfTwo setting.initial) (slot : ℕ → ℕ) (w : World (Node K V))
-    (c : Chart K) (blocks : Blocks) (sights : ℕ → Sight) (calls : ℕ → Option (UnderWay K V K)) (each : Together V same hash same setting slot w c blocks sights calls) (i : ℕ) (o : CallOverAll)
+    (c : Chart K) (blocks : Blocks) (sights : ℕ → Visible) (calls : ℕ → Option (UnderWay K V K)) (each : Together V same hash same setting slot w c blocks sights calls) (i : ℕ) (o : CallOverAll)
     (has : calls i ≡ Some (OverAll o)) where
   abbrev pub seen : Blocks
   seen = seen_by blocks (sights (slot i))
@@ -215,7 +215,7 @@ module _ {K V : Type 0} (same : K → K → Bool) (hash : K → ℕ) (are : AreL
           copies_lead same hash are its_setting i o.began w c seen o.sweep setting_is walks o.done
           (subst (KeysAt same (spot_of hash) (is_incremental setting.mode) c o.began o.sweep o.done) is h) end d.0 d.2
 
-      others_on : ((copier : Copier) → o.sweep.stands ≢ at.Copies copier) → Stands V same hash same setting slot w c seen i (OverAll o) → LeadsOn
+      others_on : ((copier : Copier) → o.sweep.stands ≢ at.Copies copier) → IsAtPoint V same hash same setting slot w c seen i (OverAll o) → LeadsOn
       others_on other (inl (rests, k)) =
           let went = went_sweep same hash are i its_setting initial o.began w c seen its_map each.ground.moments (λ blocking t made. claim_few calls c (each.few blocking) t made) o.sweep k.facts m2 end
           (none_row o.sweep walks o.sweep.stands other k.facts.point) steps in

@@ -26,19 +26,19 @@ use Rattle.run_finds.specs.Given.RuleWords.{Blocks}
 use Rattle.run_finds.specs.Given.PointsSteps.{AreLawful}
 use Rattle.run_finds.specs.Given.LateCovers.{NamesPair}
 use Rattle.run_finds.specs.Given.CallersOverAll.{CallOverAll}
-use Rattle.run_finds.specs.Given.CallersSights.{Sight, seen_by}
+use Rattle.run_finds.specs.Given.CallersSights.{Visible, seen_by}
 use Rattle.run_finds.specs.Given.CallersTogether.{UnderWay, OnKey, ForRoom, Counting, OverAll, Together}
 use Rattle.run_finds.proofs.Given.CallersTogether.At.{at_same}
 use Rattle.run_finds.specs.Given.EffectsKnown.{Known}
 use Rattle.run_finds.specs.Given.FinishesMaps.{Standing}
-use Rattle.run_finds.specs.Given.FollowsShows.{Shows}
+use Rattle.run_finds.specs.Given.FollowsShows.{Refines}
 use Rattle.run_finds.proofs.Given.FollowsSteps.{WentTo, DidSo}
-use Rattle.run_finds.specs.Given.MomentsWhole.{ShowsWhole}
+use Rattle.run_finds.specs.Given.MomentsWhole.{RefinesWhole}
 use Rattle.run_finds.specs.Given.EffectsDeclared.changed.Changed.TheVariants.{Nothing}
 use Rattle.run_finds.proofs.Given.ChangesSteps.{to}
-use Rattle.run_sweeps.specs.Purposes.Keys.{KeysAt, AreKeyed}
+use Rattle.run_finds.specs.Purposes.Keys.{KeysAt, AreKeyed}
 use Rattle.run_sweeps.specs.Purposes.Kept.{ShowsNone}
-use Rattle.run_sweeps.specs.Purposes.Purposes.{KeysOf}
+use Rattle.run_finds.specs.Purposes.Purposes.{KeysOf}
 use Rattle.run_finds.specs.Given.NamedMachines.{IsBefore}
 use Rattle.run_sweeps.proofs.Purposes.KeysCarried.{StandsMoved, stood_moved, keys_carried, keyed_carried, its_map, since, LeadsOn, leads_on}
 use Rattle.run_sweeps.proofs.Purposes.KeysOn.{StandsLow}
@@ -50,7 +50,7 @@ use Rattle.run_finds.specs.Given.ScenesStepping.{StepLeads, StepsFrom}
 use Rattle.run_finds.proofs.Given.General.{same_some as one_of}
 
 module _ {K V : Type 0} (same : K → K → Bool) (hash : ℕ → K → ℕ) (name : ℕ → List ℕ) (m : Moment K V) (known : Known) (s : Scene K V) (old new : Held K V) (at : IsAt same hash old s)
-    (whole : ShowsWhole same name m known s) (shown : Shows same name m known s) (of i : ℕ) (u : UnderWay K V K) (here : s.calls of i ≡ Some u) (said : Progress (Node K V))
+    (whole : RefinesWhole same name m known s) (shown : Refines same name m known s) (of i : ℕ) (u : UnderWay K V K) (here : s.calls of i ≡ Some u) (said : Progress (Node K V))
     (leads : StepLeads same hash i said s old new) where
   abbrev pub went : WentTo same hash name m known s old new at shown of i u here said leads
   went = to same hash name m known s old new at whole shown of i u here said leads
@@ -64,7 +64,7 @@ module _ {K V : Type 0} (same : K → K → Bool) (hash : ℕ → K → ℕ) (na
     | inr ne ↦ stood_moved same i (s.maps n) (went.4.maps2 n) (went.4.others n ne) before st was is
   ]
     where
-      moved_on : n ≡ of → (c2 : Chart K) (blocks2 : Blocks) (sights2 : ℕ → Sight) → went.4.maps2 ≡ with_at s.maps of (Some (record went.0 { chart = c2; blocks = blocks2; sights = sights2 }))
+      moved_on : n ≡ of → (c2 : Chart K) (blocks2 : Blocks) (sights2 : ℕ → Visible) → went.4.maps2 ≡ with_at s.maps of (Some (record went.0 { chart = c2; blocks = blocks2; sights = sights2 }))
           → Moved same went.0.hash went.0.setting.mode i went.0.chart c2 → StandsMoved same i before st
       moved_on e c2 blocks2 sights2 maps_are moved =
           let st_is : st ≡ record went.0 { chart = c2; blocks = blocks2; sights = sights2 } =

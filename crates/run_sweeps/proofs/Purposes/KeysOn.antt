@@ -20,7 +20,7 @@ use Rattle.run_finds.proofs.Given.RuleMoves.Promised.{moves_keep}
 use Rattle.run_finds.proofs.Given.RuleMoves.Writes.{put_cases, put_in_cases, put_in_one, put_in_elsewhere}
 use Rattle.run_finds.proofs.Given.LateSwept.Sweeps.Tables.{root_is, still_current}
 use Rattle.run_finds.proofs.Given.CallersAsked.OneCurrent.{one_current}
-use Rattle.run_sweeps.specs.Purposes.Keys.{HasClass, HadAlways, of_class, StandsTo, KeysTo, KeysCame, KeysAt}
+use Rattle.run_finds.specs.Purposes.Keys.{HasClass, HadAlways, of_class, LiesAtPlace, KeysTo, KeysCame, KeysAt}
 
 -- a place has a pair
 abbrev pub IsHeld : Place → Type 0
@@ -210,7 +210,7 @@ module _ {K : Type 0} (same : K → K → Bool) (hash : K → ℕ) (incremental 
                     absurd (none_left_by table.turn i upto alive k named move allowed empties (always c2.now (let l = remembers.now in omega (arith, since, l)) (omega arith)))
               ]
 
-          by : StandsTo same (spot_of hash) incremental c table place done k → StandsTo same (spot_of hash) incremental c2 table place done k
+          by : LiesAtPlace same (spot_of hash) incremental c table place done k → LiesAtPlace same (spot_of hash) incremental c2 table place done k
           by (i, inside, named, inl (past, one)) = (i, inside, stands i named, inl (past, class_on k done below ∙ one))
           by (i, inside, named, inr (ahead, none)) = (i, inside, stands i named, inr (ahead, class_on k done below ∙ none))
 
@@ -256,7 +256,7 @@ keys_next same spot incremental c began done p ready h =
     at_end : nat_lt p.place p.table.len ≡ false → KeysTo same spot incremental c began p.table p.place done → KeysCame same spot incremental c began done
     at_end far to k always = one (to k always)
       where
-        one : StandsTo same spot incremental c p.table p.place done k → of_class same spot incremental c k done ≡ 1
+        one : LiesAtPlace same spot incremental c p.table p.place done k → of_class same spot incremental c k done ≡ 1
         one (i, within, named, inl (l, is)) = is
         one (i, within, named, inr (ahead, none)) = absurd (let l = ltb-false p.place p.table.len far in omega (arith, within, ahead, l))
 

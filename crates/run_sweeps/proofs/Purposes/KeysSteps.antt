@@ -38,7 +38,7 @@ use Rattle.run_finds.proofs.Given.LateSwept.Covers.Begins.{names_current}
 use Rattle.run_finds.proofs.Given.LateSwept.Covers.Told.{next_is}
 use Rattle.run_finds.proofs.Given.LateSwept.Sweeps.Moved.{SweepMoves}
 use Rattle.run_finds.proofs.Given.LateSwept.Sweeps.Tables.{upto_in, live_in, pair_some}
-use Rattle.run_sweeps.specs.Purposes.Keys.{of_class, StandsTo, KeysTo, KeysCame, KeysAt}
+use Rattle.run_finds.specs.Purposes.Keys.{of_class, LiesAtPlace, KeysTo, KeysCame, KeysAt}
 use Rattle.run_sweeps.specs.Purposes.Kept.{ShowsNone}
 use Rattle.run_finds.specs.Given.NamedMachines.{IsBefore}
 use Rattle.run_sweeps.proofs.Purposes.KeysOn.{named_held, names_by, inside_of, IsLow, StandsLow}
@@ -89,7 +89,7 @@ module _ {K V : Type 0} (same : K → K → Bool) (hash : K → ℕ) (are : AreL
           len = ap (λ (x : Table). x.len) there.is ∙ ap c.len root
 
           by : (n : ℕ) × (c.was c.now n ≡ true) × (is_of same (spot_of hash) (is_incremental setting.mode) k (c.key n) ≡ true)
-              → StandsTo same (spot_of hash) (is_incremental setting.mode) c table 0 done k
+              → LiesAtPlace same (spot_of hash) (is_incremental setting.mode) c table 0 done k
           by (n, was, of) =
               let named = (names_current same hash c (is_incremental setting.mode) map.map.rule last n).0 (sym (moments.now_is n) ∙ was) in
               let l = inside_of same (spot_of hash) (is_incremental setting.mode) c map.map.rule.common c.first named.0 (n, named.1, named.2, named.3) in (
@@ -188,7 +188,7 @@ module _ {K V : Type 0} (same : K → K → Bool) (hash : K → ℕ) (are : AreL
               pair_some same hash are.fits setting w c blocks map x p.place at_x.made at_x.known held.0 held.1 held.2
               (ap (λ (y : ℕ). c.place y p.place) (sym turn) ∙ ap (c.place p.table.turn) (sym e) ∙ held.3) {word = word0} refl zero
 
-          by : StandsTo same (spot_of hash) (is_incremental setting.mode) c p.table p.place done k → StandsTo same (spot_of hash) (is_incremental setting.mode) c p.table (suc p.place) done k
+          by : LiesAtPlace same (spot_of hash) (is_incremental setting.mode) c p.table p.place done k → LiesAtPlace same (spot_of hash) (is_incremental setting.mode) c p.table (suc p.place) done k
           by (i, within, named, inl (l, one)) = (i, within, named, inl (omega (arith, l), one))
           by (i, within, named, inr (ahead, none)) = (i, within, named, inr ((let ne = not_here i named in omega (arith, ahead, ne)), none))
 
@@ -201,7 +201,7 @@ module _ {K V : Type 0} (same : K → K → Bool) (hash : K → ℕ) (are : AreL
           came : nat_lt ((p.place + 1) % 2 ^ 64) p.table.len ≡ false → KeysCame same (spot_of hash) (is_incremental setting.mode) c began done
           came far k always = by (to2 k always)
             where
-              by : StandsTo same (spot_of hash) (is_incremental setting.mode) c p.table ((p.place + 1) % 2 ^ 64) done k → of_class same (spot_of hash) (is_incremental setting.mode) c k done ≡ 1
+              by : LiesAtPlace same (spot_of hash) (is_incremental setting.mode) c p.table ((p.place + 1) % 2 ^ 64) done k → of_class same (spot_of hash) (is_incremental setting.mode) c k done ≡ 1
               by (i, within, named, inl (l, one)) = one
               by (i, within, named, inr (ahead, none)) = absurd (let l = ltb-false ((p.place + 1) % 2 ^ 64) p.table.len far in omega (arith, within, ahead, l))
 
@@ -237,14 +237,14 @@ module _ {K V : Type 0} (same : K → K → Bool) (hash : K → ℕ) (are : AreL
                     let held = named_held same (spot_of hash) (is_incremental setting.mode) c.key k (c.place p.table.turn i) named in
                     absurd (ne (map.map.rule.common.once p.table.turn i p.place held.0.0 n held.0.1 phase held.0.2 borrowed k low.1 held.0.3 here held.1 e))
 
-            by : StandsTo same (spot_of hash) (is_incremental setting.mode) c p.table p.place done k → StandsTo same (spot_of hash) (is_incremental setting.mode) c p.table (suc p.place) (n ∷ done) k
+            by : LiesAtPlace same (spot_of hash) (is_incremental setting.mode) c p.table p.place done k → LiesAtPlace same (spot_of hash) (is_incremental setting.mode) c p.table (suc p.place) (n ∷ done) k
             by (i, within, named, inl (l, one)) = (
               i,
               within,
               named,
               inl (omega (arith, l), (let count = class_new k false (other i named (λ e. omega (arith, e, l))) in omega (arith, count, one))),
             )
-            by (i, within, named, inr (ahead, none)) = elim (cases_eq i p.place) as (λ _. StandsTo same (spot_of hash) (is_incremental setting.mode) c p.table (suc p.place) (n ∷ done) k) [
+            by (i, within, named, inr (ahead, none)) = elim (cases_eq i p.place) as (λ _. LiesAtPlace same (spot_of hash) (is_incremental setting.mode) c p.table (suc p.place) (n ∷ done) k) [
               | inl e ↦ (i, within, named, inl (omega (arith, e), (let count = class_new k true (its i named e) in omega (arith, count, none))))
               | inr ne ↦ (i, within, named, inr (omega (arith, ahead, ne), (let count = class_new k false (other i named ne) in omega (arith, count, none))))
             ]

@@ -10,18 +10,18 @@ use Rattle.run_finds.specs.Given.RawDeclared.machines.progress.Progress.{Progres
 use Rattle.run_finds.specs.Given.SchedulesMoment.{Moment}
 use Rattle.run_finds.specs.Given.LateCovers.{NamesPair}
 use Rattle.run_finds.specs.Given.CallersOverAll.{CallOverAll}
-use Rattle.run_finds.specs.Given.CallersSights.{Sight, IsSight}
+use Rattle.run_finds.specs.Given.CallersSights.{Visible, IsVisibility}
 use Rattle.run_finds.specs.Given.CallersTogether.{UnderWay}
 use Rattle.run_finds.proofs.Given.CallersTogether.At.{at_same}
 use Rattle.run_finds.specs.Given.EffectsKnown.{Known}
 use Rattle.run_finds.specs.Given.EffectsDeclared.role.Role.TheVariants as role
-use Rattle.run_finds.specs.Given.FinishesSweeps.{SweepStepsAmong}
+use Rattle.run_finds.specs.Given.FinishesSweeps.{SweepStepsWithEndings}
 use Rattle.run_finds.specs.Given.FinishesMaps.{Standing}
 use Rattle.run_finds.proofs.Given.FollowsSteps.{made_so, is_sight}
 use Rattle.run_finds.specs.Given.HistoriesAnswers.{NamesPair as NamesNumber}
 use Rattle.run_finds.proofs.Given.HistoriesRoles.{named_by}
-use Rattle.run_finds.specs.Given.MomentsWhole.{ShowsWhole}
-use Rattle.run_sweeps.specs.Purposes.Purposes.{ShowsPurposes}
+use Rattle.run_finds.specs.Given.MomentsWhole.{RefinesWhole}
+use Rattle.run_finds.specs.Purposes.Purposes.{RefinesPurposes}
 use Rattle.run_sweeps.proofs.Purposes.Steps.{went, on, known2}
 use Rattle.run_finds.specs.Given.ScenesHeld.{Held, IsAt}
 use Rattle.run_finds.specs.Given.ScenesScene.{Scene, slot_of}
@@ -29,7 +29,7 @@ use Rattle.run_finds.specs.Given.ScenesStepping.{StepLeads}
 use Rattle.run_finds.specs.Given.SchedulesTransition.{Past}
 
 module _ {K V : Type 0} (same : K → K → Bool) (hash : ℕ → K → ℕ) (name : ℕ → List ℕ) (log : Past K V) (m : Moment K V) (known : Known) (s : Scene K V) (old new : Held K V)
-    (at : IsAt same hash old s) (whole : ShowsWhole same name m known s) (purposes : ShowsPurposes same name log m known s) (of i : ℕ) (u : UnderWay K V K) (here : s.calls of i ≡ Some u)
+    (at : IsAt same hash old s) (whole : RefinesWhole same name m known s) (purposes : RefinesPurposes same name log m known s) (of i : ℕ) (u : UnderWay K V K) (here : s.calls of i ≡ Some u)
     (said : Progress (Node K V)) (leads : StepLeads same hash i said s old new) where
   abbrev st : Standing K
   st = (went same hash name log m known s old new at whole purposes of i u here said leads).0
@@ -37,10 +37,10 @@ module _ {K V : Type 0} (same : K → K → Bool) (hash : ℕ → K → ℕ) (na
   st_is : s.maps of ≡ Some st
   st_is = (went same hash name log m known s old new at whole purposes of i u here said leads).2
 
-  abbrev sight : Sight
+  abbrev sight : Visible
   sight = st.sights (slot_of i)
 
-  its_sight : IsInside (s.world.uses (slot_of i)) → IsSight st.chart st.blocks sight
+  its_sight : IsInside (s.world.uses (slot_of i)) → IsVisibility st.chart st.blocks sight
   its_sight =
       is_sight same hash m known s old new at name purposes.shown of i st st_is (name i) (made_so same hash name m known s old new at purposes.shown of i u here said leads)
 
@@ -48,7 +48,7 @@ module _ {K V : Type 0} (same : K → K → Bool) (hash : ℕ → K → ℕ) (na
   number2 = (on same hash name log m known s old new at whole purposes of i u here said leads).shows.number of
 
   module _ (o : CallOverAll) (p2 : Sweep) (end : Swept (Node K V))
-      (step : SweepStepsAmong V same same old.batch_size old.roots slot_of s.world s.maps s.calls s.makers s.enders of st i o new.memory p2 end)
+      (step : SweepStepsWithEndings V same same old.batch_size old.roots slot_of s.world s.maps s.calls s.makers s.enders of st i o new.memory p2 end)
       (moved : (went same hash name log m known s old new at whole purposes of i u here said leads).4.maps2
       ≡ with_at s.maps of (Some (record st { chart = step.step.went.c2; blocks = step.step.blocks2; sights = step.step.sights2 }))) where
     abbrev pub stands_then : Standing K

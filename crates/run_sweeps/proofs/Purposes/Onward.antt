@@ -28,7 +28,7 @@ use Rattle.run_finds.proofs.Given.RuleKeys.Always.{Always, AlwaysOf}
 use Rattle.run_finds.specs.Given.LateFactsSweeps.{SweepingFacts}
 use Rattle.run_finds.specs.Given.LateToldSweeps.{IsRowOfSweep}
 use Rattle.run_finds.specs.Given.CallersOverAll.{CallOverAll, sweep_once_over, past_sweeping}
-use Rattle.run_finds.specs.Given.CallersTogether.{OverAll, Stands}
+use Rattle.run_finds.specs.Given.CallersTogether.{OverAll, IsAtPoint}
 use Rattle.run_finds.proofs.Given.HistoriesAsking.{always_told, always_turned}
 use Rattle.run_finds.specs.Given.NamedMachines.{IsBefore}
 use Rattle.run_finds.specs.Given.ScenesHeld.{Held}
@@ -76,7 +76,7 @@ module _ {K V : Type 0} (same : K → K → Bool) (hash : K → ℕ) (w : World 
 
 module _ {K : Type 0} (V : Type 0) (same : K → K → Bool) (hash : K → ℕ) (setting : Setting) (slot : ℕ → ℕ) (w : World (Node K V)) (c : Chart K) (seen : Blocks) (i : ℕ) (o : CallOverAll) where
   -- so a walk that is under way stands there
-  pub walk_stands : Stands V same hash same setting slot w c seen i (OverAll o) → o.sweep.purpose ≡ Walks → (IsBefore o.sweep.stands → ⊥) → IsWalkAt o.sweep.stands
+  pub walk_stands : IsAtPoint V same hash same setting slot w c seen i (OverAll o) → o.sweep.purpose ≡ Walks → (IsBefore o.sweep.stands → ⊥) → IsWalkAt o.sweep.stands
   walk_stands (inl (rests, knows)) walks before = walk_at same hash w i _ c seen o.began o.sweep o.sweep.stands walks before knows.facts.point
   walk_stands (inr (row, is_row, knows)) walks before = absurd (row_at same hash w i _ c seen o.began (sweep_once_over o.sweep) o.sweep.stands walks before is_row knows.facts.point)
 

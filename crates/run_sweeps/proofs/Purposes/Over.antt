@@ -11,7 +11,7 @@ use Rattle.run_finds.specs.Given.FinishesMaps.{Standing}
 use Rattle.run_finds.specs.Given.ChangesHistories.{since, IsPast, IsWithin}
 use Rattle.run_finds.proofs.Given.ChangesLater.{IsLater}
 use Rattle.run_sweeps.specs.Purposes.Kept.{PairsChangeFirst}
-use Rattle.run_sweeps.specs.Purposes.Purposes.{PairsWithin, HasAdded, HasMet, KeysOf, HasSwept, HasCome}
+use Rattle.run_finds.specs.Purposes.Purposes.{PairsWithin, HasAdded, HasMet, KeysOf, HasSwept, HasCome}
 use Rattle.run_sweeps.proofs.Purposes.Done.{tells_kept}
 use Rattle.run_sweeps.proofs.Purposes.Lists.{all_on}
 use Rattle.run_sweeps.proofs.Purposes.Shown.{IsStill}

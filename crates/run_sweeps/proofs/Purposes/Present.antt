@@ -8,14 +8,14 @@ use Rattle.run_finds.proofs.Given.RuleLaws.{current_is_known}
 use Rattle.run_finds.specs.Given.CallersTogether.{Together}
 use Rattle.run_finds.specs.Given.EffectsKnown.{Known}
 use Rattle.run_finds.specs.Given.FinishesMaps.{Standing}
-use Rattle.run_finds.specs.Given.FollowsShows.{Shows}
+use Rattle.run_finds.specs.Given.FollowsShows.{Refines}
 use Rattle.run_finds.proofs.Given.FollowsStored.{in_map_true}
-use Rattle.run_sweeps.specs.Purposes.Purposes.{PairsWithin}
+use Rattle.run_finds.specs.Purposes.Purposes.{PairsWithin}
 use Rattle.run_finds.specs.Given.ScenesHeld.{Held, IsAt}
 use Rattle.run_finds.specs.Given.ScenesScene.{Scene, slot_of}
 
 module _ {K V : Type 0} (same : K → K → Bool) (hash : ℕ → K → ℕ) (name : ℕ → List ℕ) (m : Moment K V) (known : Known) (s : Scene K V) (e : Held K V) (at : IsAt same hash e s)
-    (shown : Shows same name m known s) (of : ℕ) (st : Standing K) (there : s.maps of ≡ Some st) where
+    (shown : Refines same name m known s) (of : ℕ) (st : Standing K) (there : s.maps of ≡ Some st) where
   abbrev c : Chart K
   c = st.chart
 

@@ -11,7 +11,7 @@ use Rattle.run_finds.specs.Given.CallersOverAll.{CallOverAll}
 use Rattle.run_finds.specs.Given.CallersTogether.{UnderWay, OverAll}
 use Rattle.run_finds.specs.Given.EffectsKnown.{Known}
 use Rattle.run_finds.specs.Given.FinishesMaps.{Standing}
-use Rattle.run_finds.specs.Given.OthersAfter.{ShowsAfter}
+use Rattle.run_finds.specs.Given.OthersAfter.{RefinesAfter}
 use Rattle.run_finds.proofs.Given.MomentsBeside.{IsBeside, StoodSo, StandsNew}
 use Rattle.run_finds.specs.Given.ChangesHad.{HadThen}
 use Rattle.run_finds.specs.Given.ChangesHistories.{since, IsWithin}
@@ -19,7 +19,7 @@ use Rattle.run_finds.proofs.Given.ChangesHad.{had_on, had_one}
 use Rattle.run_finds.proofs.Given.ChangesNow.{now_had}
 use Rattle.run_finds.proofs.Given.ChangesWithin.{within_on}
 use Rattle.run_finds.proofs.Given.ChangesLater.{IsLater, same_later}
-use Rattle.run_sweeps.specs.Purposes.Purposes.{KeysOf, HasSwept, HasCome, ShowsPurposes}
+use Rattle.run_finds.specs.Purposes.Purposes.{KeysOf, HasSwept, HasCome, RefinesPurposes}
 use Rattle.run_sweeps.proofs.Purposes.Alike.{alike}
 use Rattle.run_sweeps.proofs.Purposes.KeysCarried.{StandsMoved, keys_kept}
 use Rattle.run_sweeps.proofs.Purposes.Over.{come_over}
@@ -33,7 +33,7 @@ use Rattle.run_sweeps.proofs.Purposes.Stored.{numbers_last}
 use Rattle.run_finds.proofs.Given.General.{same_some as one_of}
 
 module _ {K V : Type 0} (same : K → K → Bool) (hash : ℕ → K → ℕ) (name : ℕ → List ℕ) (log : Past K V) (m m2 : Moment K V) (known known2 : Known) (s s2 : Scene K V) (old new : Held K V)
-    (at : IsAt same hash old s) (at2 : IsAt same hash new s2) (purposes : ShowsPurposes same name log m known s) (after : ShowsAfter same name m known s purposes.shown m2 known2 s2)
+    (at : IsAt same hash old s) (at2 : IsAt same hash new s2) (purposes : RefinesPurposes same name log m known s) (after : RefinesAfter same name m known s purposes.shown m2 known2 s2)
     (beside : IsBeside m m2 known known2 s s2) where
   was_here : (n j : ℕ) (x : UnderWay K V K) → s2.calls n j ≡ Some x → s.calls n j ≡ Some x
   was_here n j x is = subst (λ (f : ℕ → ℕ → Option (UnderWay K V K)). f n j ≡ Some x) beside.same_calls is
@@ -102,7 +102,7 @@ module _ {K V : Type 0} (same : K → K → Bool) (hash : ℕ → K → ℕ) (na
             keys_kept same 0 before st how (at.together.makings.standing.fit n before stood.1).0 (at.together.makings.standing.fit n before stood.1).1 slot_of s.world (s.calls n)
             (at.together.makings.standing.each n before stood.1) j o (was_here n j x is ∙ ap Some o_is) h.within.stored h.stored (h.keys walks)
 
-  pub beside_purposes : ShowsPurposes same name log m2 known2 s2
+  pub beside_purposes : RefinesPurposes same name log m2 known2 s2
   beside_purposes = record {
     past = purposes.past;
     lasts = numbers_last log m m2 (lasts_same m.stored m2.stored beside.stored) purposes.lasts;

@@ -7,7 +7,7 @@ use Rattle.run_finds.specs.Given.EffectsDeclared.acting.Acting.TheVariants as ac
 use Rattle.run_finds.proofs.Given.FollowsFinds.{tables_many}
 use Rattle.run_finds.proofs.Grows.Steps.{tables_have_been}
 use Rattle.run_finds.proofs.Given.ShardsShardCalls.{rooms_count_nothing}
-use Rattle.run_sweeps.specs.Purposes.Shards.{EventsBeginUncounted, StepsReadShards}
+use Rattle.run_finds.specs.Purposes.Shards.{EventsBeginUncounted, StepsReadShards}
 
 pub events_begin_uncounted : (K V : Type 0) → EventsBeginUncounted K V
 events_begin_uncounted K V log m of shards tables none = (

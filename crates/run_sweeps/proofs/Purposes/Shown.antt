@@ -8,14 +8,14 @@ use Rattle.run_finds.specs.Given.RunsDeclared.effect.Effect.{Effect}
 use Rattle.run_finds.specs.Given.RunsDeclared.effect.Effect.TheVariants as effect
 use Rattle.run_finds.specs.Given.RunsDeclared.outcome.Outcome.{Outcome}
 use Rattle.run_finds.specs.Given.RunsDeclared.outcome.Outcome.TheVariants as outcome
-use Rattle.run_finds.specs.Given.SchedulesAfter.{asks_on, comes_to}
+use Rattle.run_finds.specs.Given.SchedulesAfter.{asks_on, with_outcome}
 use Rattle.run_finds.specs.Given.SchedulesEffects.{due_for, call_by, with_effect, with_effects}
-use Rattle.run_finds.specs.Given.SchedulesMoment.{Stands, Going, Asking, Told, IsReady, UnderWay as CallThere, Moment}
+use Rattle.run_finds.specs.Given.SchedulesMoment.{CallState, Going, Asking, Told, IsReady, UnderWay as CallThere, Moment}
 use Rattle.run_finds.specs.Given.SchedulesViews.{call_of}
 use Rattle.run_finds.proofs.Given.FollowsCalls.{changed_same, changed, found}
 use Rattle.run_finds.proofs.Given.HandsReplacing.{calls_after}
 use Rattle.run_finds.proofs.Given.ChangesBegun.{effects_begun}
-use Rattle.run_sweeps.specs.Purposes.Kept.{TellsNone}
+use Rattle.run_sweeps.specs.Purposes.Kept.{OutcomeShowsNone}
 use Rattle.run_finds.proofs.Given.General.{same_some as one_of}
 
 module _ {K V : Type 0} where
@@ -84,14 +84,14 @@ module _ {K V : Type 0} where
         map = ap (λ (x : CallThere K V). x.map) on_is ∙ on.2.0.map;
       }
 
-  asks_still : (question : Option ℕ) (c : CallThere K V) (stands : Stands) → IsStill c (asks_on question c stands)
+  asks_still : (question : Option ℕ) (c : CallThere K V) (stands : CallState) → IsStill c (asks_on question c stands)
   asks_still question c Going = record { call = refl; begun = refl; replies = refl; shown = refl; map = refl }
   asks_still question c (Asking q) = same_still c
   asks_still question c Told = record { call = refl; begun = refl; replies = refl; shown = refl; map = refl }
   asks_still question c IsReady = record { call = refl; begun = refl; replies = refl; shown = refl; map = refl }
 
   -- and with one that comes to an outcome that tells of no pair
-  pub comes_still : (o : Outcome V) → TellsNone o → (c : CallThere K V) → IsStill c (comes_to o c)
+  pub comes_still : (o : Outcome V) → OutcomeShowsNone o → (c : CallThere K V) → IsStill c (with_outcome o c)
   comes_still outcome.Done none c = same_still c
   comes_still (outcome.Slot n) none c = same_still c
   comes_still outcome.Goes none c = record { call = refl; begun = refl; replies = refl; shown = refl; map = refl }

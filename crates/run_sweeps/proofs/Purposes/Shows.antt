@@ -22,20 +22,20 @@ use Rattle.run_finds.specs.Given.RuleChart.{Chart}
 use Rattle.run_finds.specs.Given.RuleWords.{Blocks}
 use Rattle.run_finds.specs.Given.LateCovers.{times, AreShown, CoversAt}
 use Rattle.run_finds.specs.Given.LateCoversSweeps.{Adds, DoneAt}
-use Rattle.run_finds.specs.Given.LateToldSweeps.{IsRowOfSweep, TellsSo}
+use Rattle.run_finds.specs.Given.LateToldSweeps.{IsRowOfSweep, OutcomeAgrees}
 use Rattle.run_finds.specs.Given.CallersOverAll.{CallOverAll, come_to}
-use Rattle.run_finds.specs.Given.CallersTogether.{UnderWay, OnKey, ForRoom, Counting, OverAll, Stands, next_over_all}
+use Rattle.run_finds.specs.Given.CallersTogether.{UnderWay, OnKey, ForRoom, Counting, OverAll, IsAtPoint, next_over_all}
 use Rattle.run_finds.proofs.Given.CallersTogether.At.{at_same}
 use Rattle.run_finds.specs.Given.EffectsKnown.{Known}
 use Rattle.run_finds.specs.Given.FinishesMaps.{Standing}
-use Rattle.run_finds.specs.Given.FinishesSweeps.{SweepStepsAmong}
+use Rattle.run_finds.specs.Given.FinishesSweeps.{SweepStepsWithEndings}
 use Rattle.run_finds.specs.Given.HistoriesAnswers.{NamesPair}
 use Rattle.run_finds.specs.Given.ChangesHistories.{since}
 use Rattle.run_finds.proofs.Given.ChangesLogs.{each_of, now_there}
-use Rattle.run_finds.specs.Given.MomentsWhole.{ShowsWhole}
+use Rattle.run_finds.specs.Given.MomentsWhole.{RefinesWhole}
 use Rattle.run_sweeps.specs.Purposes.Kept.{NoneCame, PairsChangeFirst}
-use Rattle.run_sweeps.specs.Purposes.Purposes.{IsFor, PairsWithin, TellsDone, HasSwept, ShowsPurposes}
-use Rattle.run_sweeps.specs.Purposes.Swept.{ComesSo, WalksShow}
+use Rattle.run_finds.specs.Purposes.Purposes.{IsFor, PairsWithin, ShowsDone, HasSwept, RefinesPurposes}
+use Rattle.run_sweeps.specs.Purposes.Swept.{EndsWithOutcome, WalksShow}
 use Rattle.run_sweeps.proofs.Purposes.Done.{maps_kept}
 use Rattle.run_sweeps.proofs.Purposes.Lists.{all_on, none_among}
 use Rattle.run_sweeps.proofs.Purposes.Named.{number_told, stands_then, stands_is}
@@ -56,12 +56,12 @@ module _ {K : Type 0} (hash : K → ℕ) (c : Chart K) (blocks : Blocks) (p : Sw
   ready_shown (inr goes) = goes.1.shown
 
 module _ {K : Type 0} (V : Type 0) (same : K → K → Bool) (st : Standing K) (i : ℕ) (o : CallOverAll) (ready : o.sweep.stands ≡ sweeping.Ready) where
-  stands_shown : {w : World (Node K V)} {seen : Blocks} → Stands V same st.hash same st.setting slot_of w st.chart seen i (OverAll o) → AreShown st.chart o.entered o.done
+  stands_shown : {w : World (Node K V)} {seen : Blocks} → IsAtPoint V same st.hash same st.setting slot_of w st.chart seen i (OverAll o) → AreShown st.chart o.entered o.done
   stands_shown {w} {seen} (inl k) = ready_shown st.hash st.chart seen o.sweep o.entered o.done (subst (CoversAt st.hash st.chart seen o.sweep o.entered o.done) ready k.1.covers)
   stands_shown {w} {seen} (inr k) = absurd (subst IsRowOfSweep ready k.1)
 
 module _ {K V : Type 0} (same : K → K → Bool) (hash : ℕ → K → ℕ) (name : ℕ → List ℕ) (log : Past K V) (m : Moment K V) (known : Known) (s : Scene K V) (old new : Held K V)
-    (at : IsAt same hash old s) (whole : ShowsWhole same name m known s) (purposes : ShowsPurposes same name log m known s) (of i : ℕ) (u : UnderWay K V K) (here : s.calls of i ≡ Some u)
+    (at : IsAt same hash old s) (whole : RefinesWhole same name m known s) (purposes : RefinesPurposes same name log m known s) (of i : ℕ) (u : UnderWay K V K) (here : s.calls of i ≡ Some u)
     (word : ℕ) (leads : StepLeads same hash i (progress.Pair word) s old new) (c : CallThere K V) (c_is : call_of (name i) m ≡ Some c)
     (changes : PairsChangeFirst log m of (v2 same hash name log m known s old new at whole purposes of i u here (progress.Pair word) leads))
     (came : NoneCame log (v2 same hash name log m known s old new at whole purposes of i u here (progress.Pair word) leads) of) (q : ℕ)
@@ -82,7 +82,7 @@ module _ {K V : Type 0} (same : K → K → Bool) (hash : ℕ → K → ℕ) (na
   number2 = (on same hash name log m known s old new at whole purposes of i u here (progress.Pair word) leads).shows.number of
 
   module _ (o : CallOverAll) (o_is : s.calls of i ≡ Some (OverAll o)) (walks : IsFor {K = K} {V = V} (OverAll o) call.Walk) (is_walk : c.call ≡ call.Walk) (p2 : Sweep) (end : Swept (Node K V)) (is : end ≡ swept.Pair word)
-      (step : SweepStepsAmong V same same old.batch_size old.roots slot_of s.world s.maps s.calls s.makers s.enders of
+      (step : SweepStepsWithEndings V same same old.batch_size old.roots slot_of s.world s.maps s.calls s.makers s.enders of
       (went same hash name log m known s old new at whole purposes of i u here (progress.Pair word) leads).0 i o new.memory p2 end)
       (moved : (went same hash name log m known s old new at whole purposes of i u here (progress.Pair word) leads).4.maps2 ≡ with_at s.maps of
       (Some (record (went same hash name log m known s old new at whole purposes of i u here (progress.Pair word) leads).0 { chart = step.step.went.c2; blocks = step.step.blocks2; sights = step.step.sights2 })))
@@ -99,8 +99,8 @@ module _ {K V : Type 0} (same : K → K → Bool) (hash : ℕ → K → ℕ) (na
     there2 : (scene2 same hash name log m known s old new at whole purposes of i u here (progress.Pair word) leads).maps of ≡ Some st2
     there2 = stands_is same hash name log m known s old new at whole purposes of i u here (progress.Pair word) leads o p2 end step moved
 
-    tells : TellsSo {T = Node K V} o.sweep.stands p2.stands (swept.Pair word)
-    tells = subst (TellsSo o.sweep.stands p2.stands) is step.step.went.told.stands.tells
+    tells : OutcomeAgrees {T = Node K V} o.sweep.stands p2.stands (swept.Pair word)
+    tells = subst (OutcomeAgrees o.sweep.stands p2.stands) is step.step.went.told.stands.tells
 
     one : (step.step.entered2 ≡ o.entered) × Adds its.hash step.step.went.c2 step.step.went.blocks2 o.done step.step.done2 word
     one = adds_one its.hash step.step.went.c2 step.step.went.blocks2 o.done step.step.done2 o.entered step.step.entered2 word (Node K V) o.sweep.stands p2.stands tells
@@ -170,7 +170,7 @@ module _ {K V : Type 0} (same : K → K → Bool) (hash : ℕ → K → ℕ) (na
         let b = before_then same hash name log m known s old new at whole purposes of i u here (progress.Pair word) leads of st2 there2 in
         let numbers = (on same hash name log m known s old new at whole purposes of i u here (progress.Pair word) leads).numbers of b.0 b.1 in
         let done_is : d.shown ≡ map number2 o.done =
-        stays.shown ∙ subst (λ (x : Call K V). TellsDone x (purposes.shown.number of) o.done c) is_walk before.tells ∙ sym (maps_kept (purposes.shown.number of) number2 b.0.chart.stored numbers c d stays o.done before.stored) in
+        stays.shown ∙ subst (λ (x : Call K V). ShowsDone x (purposes.shown.number of) o.done c) is_walk before.tells ∙ sym (maps_kept (purposes.shown.number of) number2 b.0.chart.stored numbers c d stays o.done before.stored) in
         let pairs = ((on same hash name log m known s old new at whole purposes of i u here (progress.Pair word) leads).shows.maps of st2 there2).pairs in
         ap (λ (x : ℕ). is_among x d.shown) q_is ∙ ap (is_among (number2 p)) done_is
         ∙ none_among number2 p o.done
@@ -190,7 +190,7 @@ module _ {K V : Type 0} (same : K → K → Bool) (hash : ℕ → K → ℕ) (na
       absurd (let silent = row.step.silent in let pair = pair_swept word end (sym told_is) in cc (silent, pair))
 
 -- no answer shows a pair
-none_answered : (K V : Type 0) (known : Known) (n : ℕ) (answer : Answer) → ComesSo {K = K} {V = V} known (progress.Done answer) (ShowsOne n) → ⊥
+none_answered : (K V : Type 0) (known : Known) (n : ℕ) (answer : Answer) → EndsWithOutcome {K = K} {V = V} known (progress.Done answer) (ShowsOne n) → ⊥
 none_answered K V known n (answers.Key answer) comes = comes
 none_answered K V known n answers.Reserved comes = comes
 none_answered K V known n answers.Swept comes = comes

@@ -26,7 +26,7 @@ use Rattle.run_finds.specs.Given.RuleChart.{Chart}
 use Rattle.run_finds.specs.Given.RuleMaps.{spot_of}
 use Rattle.run_finds.specs.Given.RuleRule.{is_of}
 use Rattle.run_finds.specs.Given.LateCovers.{times, WasSince}
-use Rattle.run_finds.specs.Given.LateToldSweeps.{TellsSo}
+use Rattle.run_finds.specs.Given.LateToldSweeps.{OutcomeAgrees}
 use Rattle.run_finds.specs.Given.CallersOverAll.{CallOverAll}
 use Rattle.run_finds.specs.Given.CallersTogether.{UnderWay, OnKey, ForRoom, Counting, OverAll}
 use Rattle.run_finds.specs.Given.EffectsEffects.{effects_of}
@@ -39,9 +39,9 @@ use Rattle.run_finds.specs.Given.ChangesHad.{Had, HadJust, HadThen}
 use Rattle.run_finds.specs.Given.ChangesHistories.{since}
 use Rattle.run_finds.proofs.Given.ChangesFound.{FoundIn, found}
 use Rattle.run_finds.proofs.Given.ChangesLogs.{now_there}
-use Rattle.run_finds.specs.Given.MomentsWhole.{ShowsWhole}
-use Rattle.run_sweeps.specs.Purposes.Keys.{HasClass, HadAlways, of_class, KeysCame, KeysAt}
-use Rattle.run_sweeps.specs.Purposes.Purposes.{IsFor, TellsDone, HasSwept, ShowsPurposes}
+use Rattle.run_finds.specs.Given.MomentsWhole.{RefinesWhole}
+use Rattle.run_finds.specs.Purposes.Keys.{HasClass, HadAlways, of_class, KeysCame, KeysAt}
+use Rattle.run_finds.specs.Purposes.Purposes.{IsFor, ShowsDone, HasSwept, RefinesPurposes}
 use Rattle.run_sweeps.specs.Purposes.Swept.{LosesNone, WalksShowAll}
 use Rattle.run_sweeps.proofs.Purposes.KeysCarried.{row_over, done_was}
 use Rattle.run_sweeps.proofs.Purposes.KeysMoved.{are, each, took, said_is, sweep_is, none_shown}
@@ -101,7 +101,7 @@ module _ {K V : Type 0} (same : K → K → Bool) (of : ℕ) (st : Standing K) (
           (key.0, ap (pair_at x.stored) number_is ∙ key.1, key.2)
 
 module _ {K V : Type 0} (same : K → K → Bool) (hash : ℕ → K → ℕ) (name : ℕ → List ℕ) (log : Past K V) (m : Moment K V) (known : Known) (s : Scene K V) (old new : Held K V)
-    (at : IsAt same hash old s) (whole : ShowsWhole same name m known s) (purposes : ShowsPurposes same name log m known s) (of i : ℕ) (u : UnderWay K V K) (here : s.calls of i ≡ Some u)
+    (at : IsAt same hash old s) (whole : RefinesWhole same name m known s) (purposes : RefinesPurposes same name log m known s) (of i : ℕ) (u : UnderWay K V K) (here : s.calls of i ≡ Some u)
     (leads : StepLeads same hash i (progress.Done answers.Swept) s old new) (c : CallThere K V) (c_is : call_of (name i) m ≡ Some c) (is_walk : c.call ≡ call.Walk)
     (loses : LosesNone same log m of) where
   abbrev said : Progress (Node K V)
@@ -143,7 +143,7 @@ module _ {K V : Type 0} (same : K → K → Bool) (hash : ℕ → K → ℕ) (na
     over (p2, end, machine_is, told_is, inl (step, moved)) = (
       p2,
       (none_shown same hash name m known s old new at whole purposes.shown of i u here said leads o o_is walks steps (its.keys walks) (its.none walks) tt p2 machine_is).0,
-      subst (TellsSo o.sweep.stands p2.stands) (ended end (sym told_is)) step.step.went.told.stands.tells,
+      subst (OutcomeAgrees o.sweep.stands p2.stands) (ended end (sym told_is)) step.step.went.told.stands.tells,
     )
     over (p2, end, machine_is, told_is, inr (row, stayed)) =
         let t = took same hash name m known s old new at whole purposes.shown of i u here said leads o o_is walks steps (its.keys walks) (its.none walks) in (
@@ -223,7 +223,7 @@ module _ {K V : Type 0} (same : K → K → Bool) (hash : ℕ → K → ℕ) (na
     pub shows_all : ShowsAll same d (log.since d.begun) v
     shows_all k been =
         let stays = still same hash name log m known s old new at whole purposes of i u here said leads c c_is in
-        let shown : d.shown ≡ map number o.done = stays.shown ∙ subst (λ (x : Call K V). TellsDone x number o.done c) is_walk its.tells in
+        let shown : d.shown ≡ map number o.done = stays.shown ∙ subst (λ (x : Call K V). ShowsDone x number o.done c) is_walk its.tells in
         let been_here : HasBeen same k of moments =
         subst (λ (x : ℕ). HasBeen same k x moments) (on_map same hash name log m known s old new at whole purposes of i u here said leads c c_is)
         (subst (λ (x : ℕ). HasBeen same k d.map (log.since x)) stays.begun been) in

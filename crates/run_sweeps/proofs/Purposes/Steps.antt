@@ -28,10 +28,10 @@ use Rattle.run_finds.specs.Given.FinishesMaps.{Standing}
 use Rattle.run_finds.specs.Given.EffectsEffects.{effects_of}
 use Rattle.run_finds.specs.Given.EffectsKnown.{Known}
 use Rattle.run_finds.specs.Given.EffectsDeclared.acting.Acting.TheVariants as acts
-use Rattle.run_finds.specs.Given.FollowsShows.{Shows}
+use Rattle.run_finds.specs.Given.FollowsShows.{Refines}
 use Rattle.run_finds.proofs.Given.FollowsCalled.{key_goes_on, room_goes_on, sweep_goes_on, counting_goes_on}
 use Rattle.run_finds.proofs.Given.FollowsSteps.{WentTo, DidSo, LeadsThere}
-use Rattle.run_finds.specs.Given.MomentsWhole.{ShowsWhole}
+use Rattle.run_finds.specs.Given.MomentsWhole.{RefinesWhole}
 use Rattle.run_finds.proofs.Given.MomentsOnSlots.{stood_same}
 use Rattle.run_finds.specs.Given.ChangesHistories.{since, IsWithin}
 use Rattle.run_finds.specs.Given.ChangesKept.{ChangesFirst}
@@ -39,13 +39,13 @@ use Rattle.run_finds.proofs.Given.ChangesLater.{IsLater}
 use Rattle.run_finds.proofs.Given.ChangesSteps.{to, led_on, v, after, s2, maps_later, now_then, same_elsewhere}
 use Rattle.run_finds.proofs.Given.ChangesWithin.{within_on}
 use Rattle.run_finds.proofs.Given.HistoriesNoKey.Sweeps.{SweepsOn, sweeps_on}
-use Rattle.run_sweeps.specs.Purposes.Keys.{KeysAt, AreKeyed}
+use Rattle.run_finds.specs.Purposes.Keys.{KeysAt, AreKeyed}
 use Rattle.run_sweeps.specs.Purposes.Kept.{ShowsNone, PairsChangeFirst}
 use Rattle.run_finds.specs.Reserving.{ReservesAt}
-use Rattle.run_sweeps.specs.Purposes.Needs.{NeedsAt}
-use Rattle.run_sweeps.specs.Purposes.Purposes.{IsFor, PairsWithin, HasAdded, RoomAt, HasMet, KeysOf, HasSwept, HasCome, ShowsPurposes}
+use Rattle.run_finds.specs.Purposes.Needs.{NeedsAt}
+use Rattle.run_finds.specs.Purposes.Purposes.{IsFor, PairsWithin, HasAdded, RoomAt, HasMet, KeysOf, HasSwept, HasCome, RefinesPurposes}
 use Rattle.run_finds.specs.Given.NamedMachines.{IsBefore}
-use Rattle.run_sweeps.specs.Purposes.Shards.{ReadsShards}
+use Rattle.run_finds.specs.Purposes.Shards.{ReadsShards}
 use Rattle.run_sweeps.proofs.Purposes.Alike.{alike}
 use Rattle.run_sweeps.proofs.Purposes.Counts.{counts_on}
 use Rattle.run_sweeps.proofs.Purposes.Done.{done_is, Comes, next_tells, next_below, tells_kept}
@@ -56,9 +56,9 @@ use Rattle.run_sweeps.proofs.Purposes.Lists.{all_on}
 use Rattle.run_sweeps.proofs.Purposes.Onward.{before_or, walk_stands, GoesOver, walk_onward}
 use Rattle.run_sweeps.proofs.Purposes.Over.{within_over, come_over}
 use Rattle.run_sweeps.proofs.Purposes.Present.{now_stored, now_there, absent}
-use Rattle.run_sweeps.proofs.Purposes.RoomFacts.{room_later}
-use Rattle.run_sweeps.proofs.Purposes.RoomPoints.{LedAt}
-use Rattle.run_sweeps.proofs.Purposes.RoomSteps.{EndsSo, room_goes, room_keeps}
+use Rattle.run_finds.proofs.Purposes.RoomFacts.{room_later}
+use Rattle.run_finds.proofs.Purposes.RoomPoints.{LedAt}
+use Rattle.run_finds.proofs.Purposes.RoomSteps.{EndsSo, room_goes, room_keeps}
 use Rattle.run_sweeps.proofs.Purposes.Rooms.{IsForRoom, room_kept}
 use Rattle.run_sweeps.proofs.Purposes.Shown.{IsStill, effects_still}
 use Rattle.run_finds.specs.Given.ScenesHeld.{Held, IsAt}
@@ -68,9 +68,9 @@ use Rattle.run_finds.specs.Given.SchedulesTransition.{Past}
 use Rattle.run_finds.proofs.Given.General.{same_some as one_of}
 
 module _ {K V : Type 0} (same : K → K → Bool) (hash : ℕ → K → ℕ) (name : ℕ → List ℕ) (log : Past K V) (m : Moment K V) (known : Known) (s : Scene K V) (old new : Held K V)
-    (at : IsAt same hash old s) (whole : ShowsWhole same name m known s) (purposes : ShowsPurposes same name log m known s) (of i : ℕ) (u : UnderWay K V K) (here : s.calls of i ≡ Some u)
+    (at : IsAt same hash old s) (whole : RefinesWhole same name m known s) (purposes : RefinesPurposes same name log m known s) (of i : ℕ) (u : UnderWay K V K) (here : s.calls of i ≡ Some u)
     (said : Progress (Node K V)) (leads : StepLeads same hash i said s old new) where
-  abbrev shown : Shows same name m known s
+  abbrev shown : Refines same name m known s
   shown = purposes.shown
 
   abbrev pub went : WentTo same hash name m known s old new at shown of i u here said leads

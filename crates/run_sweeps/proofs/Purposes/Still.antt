@@ -10,7 +10,7 @@ use Rattle.run_finds.specs.Given.FinishesMaps.{Standing}
 use Rattle.run_finds.specs.Given.ChangesHistories.{IsWithin}
 use Rattle.run_finds.proofs.Given.ChangesFound.{map_alike}
 use Rattle.run_finds.proofs.Given.ChangesWithin.{within_alike}
-use Rattle.run_sweeps.specs.Purposes.Purposes.{PairsWithin, IsFor, HasAdded, HasMet, HasCome}
+use Rattle.run_finds.specs.Purposes.Purposes.{PairsWithin, IsFor, HasAdded, HasMet, HasCome}
 use Rattle.run_sweeps.proofs.Purposes.Done.{tells_kept}
 use Rattle.run_sweeps.proofs.Purposes.Shown.{IsStill}
 use Rattle.run_sweeps.proofs.Purposes.Within.{pairs_within_moments}

@@ -8,7 +8,7 @@ use Rattle.run_finds.specs.Given.SchedulesEntry.{acting}
 use Rattle.run_finds.specs.Given.SchedulesMoment.{UnderWay as CallThere, Moment, start}
 use Rattle.run_finds.specs.Given.SchedulesTransition.{Past, past}
 use Rattle.run_finds.proofs.Given.FollowsContents.{Lasts, lasts_more}
-use Rattle.run_sweeps.specs.Purposes.Purposes.{NumbersLast}
+use Rattle.run_finds.specs.Purposes.Purposes.{NumbersLast}
 use Rattle.run_sweeps.proofs.Purposes.Lists.{all_on}
 
 module _ {K V : Type 0} where

@@ -41,11 +41,11 @@ use Rattle.run_finds.proofs.Given.FollowsSteps.{WentTo}
 use Rattle.run_finds.proofs.Given.FollowsStored.{in_map_true}
 use Rattle.run_finds.proofs.Given.HandsReplacing.{calls_after}
 use Rattle.run_finds.specs.Given.ChangesHistories.{since}
-use Rattle.run_finds.specs.Given.MomentsWhole.{ShowsWhole}
+use Rattle.run_finds.specs.Given.MomentsWhole.{RefinesWhole}
 use Rattle.run_sweeps.specs.Purposes.Kept.{PairsChangeFirst}
-use Rattle.run_sweeps.specs.Purposes.Purposes.{IsFor, PairsWithin, TellsDone, HasSwept, ShowsPurposes}
-use Rattle.run_sweeps.specs.Purposes.Shards.{ReadsShards}
-use Rattle.run_sweeps.specs.Purposes.Swept.{ComesSo, CountingsAreSwept, ClearingsAreSwept, RetainingsAreSwept}
+use Rattle.run_finds.specs.Purposes.Purposes.{IsFor, PairsWithin, ShowsDone, HasSwept, RefinesPurposes}
+use Rattle.run_finds.specs.Purposes.Shards.{ReadsShards}
+use Rattle.run_sweeps.specs.Purposes.Swept.{EndsWithOutcome, CountingsAreSwept, ClearingsAreSwept, RetainingsAreSwept}
 use Rattle.run_sweeps.proofs.Purposes.Counts.{counts_end, mask_is}
 use Rattle.run_sweeps.proofs.Purposes.Done.{tells_kept}
 use Rattle.run_sweeps.proofs.Purposes.Lists.{all_among, all_pass, one_passes}
@@ -72,12 +72,12 @@ module _ {K V : Type 0} (same : K → K → Bool) (terms : Terms) (log : Past K 
 
 -- what a step says where the event comes to that
 module _ {K V : Type 0} (known : Known) where
-  pub counted_said : (n : ℕ) (said : Progress (Node K V)) → ComesSo known said (Answered (Counted n)) → said ≡ progress.Done (answers.Count n)
+  pub counted_said : (n : ℕ) (said : Progress (Node K V)) → EndsWithOutcome known said (Answered (Counted n)) → said ≡ progress.Done (answers.Count n)
   counted_said n (progress.Done (answers.Count count)) is = ap (λ (x : ℕ). progress.Done (answers.Count x)) (sym is)
   counted_said n _ is = absurd is
 
   -- it has made room, or has swept
-  pub completed_said : (said : Progress (Node K V)) → ComesSo known said (Answered Completed) → (said ≡ progress.Done answers.Reserved) ⊎ (said ≡ progress.Done answers.Swept)
+  pub completed_said : (said : Progress (Node K V)) → EndsWithOutcome known said (Answered Completed) → (said ≡ progress.Done answers.Reserved) ⊎ (said ≡ progress.Done answers.Swept)
   completed_said (progress.Done answers.Reserved) is = inl refl
   completed_said (progress.Done answers.Swept) is = inr refl
   completed_said _ is = absurd is
@@ -117,7 +117,7 @@ same_map None o2 st is same = absurd (cc is)
 same_map (Some before) o2 st is (blocks, sights, here, part) = (record before { blocks = blocks; sights = sights }, here, ap (λ (x : Standing _). x.chart) (one_of before st is))
 
 module _ {K V : Type 0} (same : K → K → Bool) (hash : ℕ → K → ℕ) (name : ℕ → List ℕ) (log : Past K V) (m : Moment K V) (known : Known) (s : Scene K V) (old new : Held K V)
-    (at : IsAt same hash old s) (whole : ShowsWhole same name m known s) (purposes : ShowsPurposes same name log m known s) (of i : ℕ) (u : UnderWay K V K) (here : s.calls of i ≡ Some u)
+    (at : IsAt same hash old s) (whole : RefinesWhole same name m known s) (purposes : RefinesPurposes same name log m known s) (of i : ℕ) (u : UnderWay K V K) (here : s.calls of i ≡ Some u)
     (said : Progress (Node K V)) (leads : StepLeads same hash i said s old new) (c : CallThere K V) (c_is : call_of (name i) m ≡ Some c) where
   abbrev pub v : Moment K V
   v = v2 same hash name log m known s old new at whole purposes of i u here said leads
@@ -212,7 +212,7 @@ module _ {K V : Type 0} (same : K → K → Bool) (hash : ℕ → K → ℕ) (na
           said_yes : AllByRecursion (λ p. is_yes (reply_to (Some (number2 p)) then_call.replies) ≡ true) o.done
           said_yes =
               let b = before_then same hash name log m known s old new at whole purposes of i u here said leads of ended.st ended.there in
-              subst (λ (x : Call K V). TellsDone x number2 o.done then_call) call_is
+              subst (λ (x : Call K V). ShowsDone x number2 o.done then_call) call_is
               (tells_kept (purposes.shown.number of) number2 b.0.chart.stored ((on same hash name log m known s old new at whole purposes of i u here said leads).numbers of b.0 b.1) c then_call still o.done
               before.stored before.tells)
 

@@ -11,7 +11,7 @@ use Rattle.run_finds.specs.Given.RunsDeclared.event.Event.TheVariants as event
 use Rattle.run_finds.specs.Given.RunsDeclared.call.Reply.{Reply}
 use Rattle.run_finds.specs.Given.RunsDeclared.outcome.Outcome.{Outcome}
 use Rattle.run_finds.specs.Given.RunsDeclared.outcome.Outcome.TheVariants as outcome
-use Rattle.run_finds.specs.Given.SchedulesAfter.{asks_on, calls_on, comes_to, moment, replied, stepped, without_call}
+use Rattle.run_finds.specs.Given.SchedulesAfter.{asks_on, calls_on, with_outcome, moment, replied, stepped, without_call}
 use Rattle.run_finds.specs.Given.SchedulesBeginning.{begun, with_call}
 use Rattle.run_finds.specs.Given.SchedulesEffects.{AtEachEffect, call_by, shards_by, with_effect, with_effects, worked, word_with}
 use Rattle.run_finds.specs.Given.SchedulesEntry.{ByCall, acted_on, acting, caller_of, ends_call, is_busy, nameless}
@@ -19,7 +19,7 @@ use Rattle.run_finds.specs.Given.SchedulesGrowing.{only_looks}
 use Rattle.run_finds.specs.Given.SchedulesHanding.{gives_all, moments_of}
 use Rattle.run_finds.specs.Given.SchedulesLists.{put}
 use Rattle.run_finds.specs.Given.SchedulesLives.{CallFinds, Finds}
-use Rattle.run_finds.specs.Given.SchedulesMoment.{Asking, Going, IsReady, Moment, Stands, Told, UnderWay}
+use Rattle.run_finds.specs.Given.SchedulesMoment.{Asking, Going, IsReady, Moment, CallState, Told, UnderWay}
 use Rattle.run_finds.specs.Given.SchedulesTerms.{Terms}
 use Rattle.run_finds.specs.Given.SchedulesViews.{call_of, is_linked, number_of}
 use Rattle.run_finds.proofs.Given.FollowsAlike.{put_elsewhere}
@@ -34,7 +34,7 @@ use Rattle.run_finds.proofs.Over.{acts, both_at}
 use Rattle.run_finds.proofs.Runs.{acts_still}
 use Rattle.run_finds.proofs.Tables.{all_kept, all_under}
 use Rattle.run_finds.proofs.Within.{in_order, place_below}
-use Rattle.run_sweeps.specs.Purposes.Tableless.{EventsKeepTableless, HasTable, TablelessAtFirst, TablelessUncounted}
+use Rattle.run_finds.specs.Purposes.Tableless.{EventsPreserveTableless, HasTable, TablelessAtFirst, TablelessUncounted}
 
 pub tableless_at_first : (K V : Type 0) → TablelessAtFirst K V
 tableless_at_first K V = record { maps = λ of none shard. refl; calls = tt }
@@ -158,17 +158,17 @@ module _ {K V : Type 0} (w : Moment K V) where
   fewer_have own calls all =
       all_so (λ c. HasTable w c × (not (is_same c.caller own) ≡ true)) (HasTable w) (λ c its. its.0) (without_call own calls) (all_kept (HasTable w) (λ c. not (is_same c.caller own)) calls all)
 
-  asks_have : (question : Option ℕ) (c : UnderWay K V) (stands : Stands) → HasTable w c → HasTable w (asks_on question c stands)
+  asks_have : (question : Option ℕ) (c : UnderWay K V) (stands : CallState) → HasTable w c → HasTable w (asks_on question c stands)
   asks_have question c (Asking q) its = its
   asks_have question c Going its = its
   asks_have question c Told its = its
   asks_have question c IsReady its = its
 
-  comes_have : (came : Outcome V) (c : UnderWay K V) → HasTable w c → HasTable w (comes_to came c)
+  comes_have : (came : Outcome V) (c : UnderWay K V) → HasTable w c → HasTable w (with_outcome came c)
   comes_have (outcome.Asks question) c its = asks_have question c c.stands its
   comes_have _ c its = its
 
-  told_have : (reply : Reply V) (c : UnderWay K V) (stands : Stands) → HasTable w c → HasTable w (replied reply c stands)
+  told_have : (reply : Reply V) (c : UnderWay K V) (stands : CallState) → HasTable w c → HasTable w (replied reply c stands)
   told_have reply c (Asking q) its = its
   told_have reply c _ its = its
 
@@ -176,16 +176,16 @@ module _ {K V : Type 0} (w : Moment K V) where
   stepped_have None came steps calls all = all
   stepped_have (Some own) came steps calls all = by (ends_call came)
     where
-      by : (q : Bool) → AllByRecursion (HasTable w) (if q then without_call own calls else map (λ c. if is_same c.caller own then comes_to came (record c { steps = c.steps + steps }) else c) calls)
+      by : (q : Bool) → AllByRecursion (HasTable w) (if q then without_call own calls else map (λ c. if is_same c.caller own then with_outcome came (record c { steps = c.steps + steps }) else c) calls)
       by true = fewer_have own calls all
-      by false = changed_have own (λ c. comes_to came (record c { steps = c.steps + steps })) (λ c its. comes_have came (record c { steps = c.steps + steps }) its) calls all
+      by false = changed_have own (λ c. with_outcome came (record c { steps = c.steps + steps })) (λ c its. comes_have came (record c { steps = c.steps + steps }) its) calls all
 
   over_have : (its : Event K V) (came : Outcome V) (steps : ℕ) (calls : List (UnderWay K V)) → AllByRecursion (HasTable w) calls → AllByRecursion (HasTable w) (calls_on its came steps calls)
   over_have (event.Replied caller reply) outcome.Goes steps calls all = changed_have caller (λ c. replied reply c c.stands) (λ c its. told_have reply c c.stands its) calls all
   over_have (event.Stop caller) outcome.Done steps calls all = fewer_have caller calls all
   over_have its came steps calls all = stepped_have (caller_of its) came steps calls all
 
-pub events_keep_tableless : (K V : Type 0) → EventsKeepTableless K V
+pub events_keep_tableless : (K V : Type 0) → EventsPreserveTableless K V
 events_keep_tableless K V terms log e goes h has = record { maps = then_worked.maps; calls = over_have (worked e m) e.event e.outcome e.steps (worked e m).calls then_worked.calls }
   where
     m : Moment K V

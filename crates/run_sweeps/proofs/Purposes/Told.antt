@@ -8,7 +8,7 @@ use Rattle.run_finds.specs.Given.ReservesDeclared.sweep.Purpose.TheVariants.{Ret
 use Rattle.run_finds.specs.Given.ReservesDeclared.sweep.Sweep.{Sweep}
 use Rattle.run_finds.specs.Given.ReservesDeclared.sweep.Sweeping.{Sweeping}
 use Rattle.run_finds.specs.Given.ReservesDeclared.sweep.Sweeping.TheVariants as sweeping
-use Rattle.run_finds.specs.Given.RawMachine.{machine_replied, sweep_told}
+use Rattle.run_finds.specs.Given.RawMachine.{machine_replied, sweep_with_reply}
 use Rattle.run_finds.specs.Given.RawDeclared.machines.asking.MachineReply.{MachineReply}
 use Rattle.run_finds.specs.Given.RawDeclared.machines.asking.MachineReply.TheVariants as reply
 use Rattle.run_finds.specs.Given.RunsSame.{is_same}
@@ -25,26 +25,26 @@ use Rattle.run_finds.specs.Given.PointsSteps.{AreLawful}
 use Rattle.run_finds.specs.Given.LateCovers.{times, NamesPair, CoversAt}
 use Rattle.run_finds.specs.Given.LateFactsSweeps.{SweepingFacts}
 use Rattle.run_finds.specs.Given.LateToldSweeps.{IsRowOfSweep}
-use Rattle.run_finds.specs.Given.CallersOverAll.{CallOverAll, told_of}
-use Rattle.run_finds.specs.Given.CallersSights.{IsSight, seen_by}
+use Rattle.run_finds.specs.Given.CallersOverAll.{CallOverAll, with_verdict}
+use Rattle.run_finds.specs.Given.CallersSights.{IsVisibility, seen_by}
 use Rattle.run_finds.specs.Given.CallersTogether.{UnderWay, OnKey, ForRoom, Counting, OverAll, KnowsSweep, Together, in_slot}
 use Rattle.run_finds.specs.Given.EffectsKnown.{Known}
 use Rattle.run_finds.specs.Given.EffectsDeclared.role.Role.TheVariants as role
-use Rattle.run_finds.specs.Given.FinishesMachines.{machine_of, ToldOfKind}
+use Rattle.run_finds.specs.Given.FinishesMachines.{machine_of, RepliedOfKind}
 use Rattle.run_finds.specs.Given.FinishesMaps.{Standing}
 use Rattle.run_finds.specs.Given.FollowsCalling.{told}
-use Rattle.run_finds.specs.Given.FollowsShows.{Shows}
+use Rattle.run_finds.specs.Given.FollowsShows.{Refines}
 use Rattle.run_finds.proofs.Given.FollowsCalling.{is_same_refl, replied_same, told_with}
 use Rattle.run_finds.proofs.Given.FollowsCalls.{found}
-use Rattle.run_finds.specs.Given.HandsAsked.{as_told}
+use Rattle.run_finds.specs.Given.HandsAsked.{reply_to_machine}
 use Rattle.run_finds.proofs.Given.HandsAsking.{which}
 use Rattle.run_finds.proofs.Given.HandsCalling.{caller_is}
 use Rattle.run_finds.specs.Given.HistoriesAnswers.{NamesPair as NamesNumber}
 use Rattle.run_finds.specs.Given.ChangesHistories.{since, IsWithin}
 use Rattle.run_finds.proofs.Given.HistoriesRoles.{named_by}
-use Rattle.run_finds.specs.Given.MomentsWhole.{ShowsWhole}
+use Rattle.run_finds.specs.Given.MomentsWhole.{RefinesWhole}
 use Rattle.run_sweeps.specs.Purposes.Kept.{AsksAboutIt, CallsTakePurposes}
-use Rattle.run_sweeps.specs.Purposes.Purposes.{IsFor, PairsWithin, HasAdded, HasMet, TellsDone, HasSwept, HasCome, ShowsPurposes}
+use Rattle.run_finds.specs.Purposes.Purposes.{IsFor, PairsWithin, HasAdded, HasMet, ShowsDone, HasSwept, HasCome, RefinesPurposes}
 use Rattle.run_sweeps.proofs.Purposes.For.{key_is_for, sweep_for}
 use Rattle.run_sweeps.proofs.Purposes.Lists.{all_on, all_both, yes_now, yes_still}
 use Rattle.run_sweeps.proofs.Purposes.Shown.{same_still}
@@ -76,7 +76,7 @@ numbers_apart number stored rising n p n_there p_there same = by (cases_order n 
     by (inr (inr l)) = absurd (let r = rising p n l n_there in omega (arith, r, same))
 
 -- what is told as yes is yes
-is_yes_told : {V : Type 0} (r : Reply V) → as_told r ≡ reply.Yes → r ≡ Decides true
+is_yes_told : {V : Type 0} (r : Reply V) → reply_to_machine r ≡ reply.Yes → r ≡ Decides true
 is_yes_told (Gives v) e = absurd (cc e)
 is_yes_told Removes e = absurd (cc e)
 is_yes_told (Aborts w) e = absurd (cc e)
@@ -84,7 +84,7 @@ is_yes_told (Decides true) e = refl
 is_yes_told (Decides false) e = absurd (cc e)
 
 -- a sweep that takes a reply asks about a pair
-asks_word : {V : Type 0} (stands : Sweeping) (p : Sweep) (r : MachineReply V) → (sweep_told stands p r).1 ≡ Ok tt → (word : ℕ) × (stands ≡ sweeping.Asks word)
+asks_word : {V : Type 0} (stands : Sweeping) (p : Sweep) (r : MachineReply V) → (sweep_with_reply stands p r).1 ≡ Ok tt → (word : ℕ) × (stands ≡ sweeping.Asks word)
 asks_word (sweeping.Asks word) p r taken = (word, refl)
 asks_word _ p r taken = absurd (cc taken)
 
@@ -98,7 +98,7 @@ reply_purpose p keeps = by p.stands keeps
 
 -- what is so of a retaining that asks about the pair of a word
 module _ {K V : Type 0} (same : K → K → Bool) (hash : ℕ → K → ℕ) (name : ℕ → List ℕ) (log : Past K V) (m : Moment K V) (known : Known) (s : Scene K V) (e : Held K V)
-    (at : IsAt same hash e s) (shown : Shows same name m known s) (of i : ℕ) (o : CallOverAll) (here : s.calls of i ≡ Some (OverAll o)) (st : Standing K) (there : s.maps of ≡ Some st)
+    (at : IsAt same hash e s) (shown : Refines same name m known s) (of i : ℕ) (o : CallOverAll) (here : s.calls of i ≡ Some (OverAll o)) (st : Standing K) (there : s.maps of ≡ Some st)
     (word : ℕ) (stands : o.sweep.stands ≡ sweeping.Asks word) (q : ℕ) (names : NamesNumber known word q) where
   each : Together V same st.hash same st.setting slot_of s.world st.chart st.blocks st.sights (s.calls of)
   each = at.together.makings.standing.each of st there
@@ -112,7 +112,7 @@ module _ {K V : Type 0} (same : K → K → Bool) (hash : ℕ → K → ℕ) (na
   abbrev number : ℕ → ℕ
   number = shown.number of
 
-  its_sight : IsSight st.chart st.blocks (st.sights (slot_of i))
+  its_sight : IsVisibility st.chart st.blocks (st.sights (slot_of i))
   its_sight = (each.ground.sight (slot_of i) (each.inside i (OverAll o) here)).0
 
   knows : KnowsSweep V same st.hash same st.setting slot_of s.world st.chart seen i o o.sweep
@@ -169,7 +169,7 @@ module _ {K V : Type 0} (same : K → K → Bool) (hash : ℕ → K → ℕ) (na
           yes_all said_yes,
         )
 
-    tells : (its : Call K V) → IsFor (OverAll o) its → TellsDone its number o.done c → (done2 : List ℕ) → Does done2 → TellsDone its number done2 d
+    tells : (its : Call K V) → IsFor (OverAll o) its → ShowsDone its number o.done c → (done2 : List ℕ) → Does done2 → ShowsDone its number done2 d
     tells (call.On one) is has done2 does = tt
     tells (call.Reserve more) is has done2 does = tt
     tells call.Clear is has done2 does = tt
@@ -185,17 +185,17 @@ module _ {K V : Type 0} (same : K → K → Bool) (hash : ℕ → K → ℕ) (na
     told_come x began purpose does = record {
       within = subst (PairsWithin of st number (since log m2 d)) (sym began) (within_still same of st number log m m2 place stored c d begun o.began had.within);
       stored = below_done x.done does;
-      tells = subst (λ (y : Call K V). TellsDone y number x.done d) (sym same_call) (tells c.call is_for had.tells x.done does);
+      tells = subst (λ (y : Call K V). ShowsDone y number x.done d) (sym same_call) (tells c.call is_for had.tells x.done does);
       none = λ walks first. absurd (let r = retains in cc (walks, purpose, r));
       keys = λ walks. absurd (let r = retains in cc (walks, purpose, r));
       classes = subst (IsWithin same of st number (since log m2 d)) (sym began) (classes_still same of st number log m m2 place stored c d begun o.began had.classes);
     }
 
 module _ {K V : Type 0} (same : K → K → Bool) (hash : ℕ → K → ℕ) (name : ℕ → List ℕ) (log : Past K V) (m : Moment K V) (known : Known) (s : Scene K V) (e : Held K V)
-    (at : IsAt same hash e s) (whole : ShowsWhole same name m known s) (purposes : ShowsPurposes same name log m known s) (of i : ℕ) (u : UnderWay K V K) (here : s.calls of i ≡ Some u)
+    (at : IsAt same hash e s) (whole : RefinesWhole same name m known s) (purposes : RefinesPurposes same name log m known s) (of i : ℕ) (u : UnderWay K V K) (here : s.calls of i ≡ Some u)
     (c : CallThere K V) (c_is : call_of (name i) m ≡ Some c) (question : Option ℕ) (c_asks : c.stands ≡ Asking question) (about : AsksAboutIt known u question) (st : Standing K)
-    (there : s.maps of ≡ Some st) (is_told : Reply V) (next : UnderWay K V K) (taken : (machine_replied (machine_of u) (as_told is_told)).1 ≡ Ok tt)
-    (goes : ToldOfKind V same same e.batch_size e.roots slot_of st i u (as_told is_told) next) where
+    (there : s.maps of ≡ Some st) (is_told : Reply V) (next : UnderWay K V K) (taken : (machine_replied (machine_of u) (reply_to_machine is_told)).1 ≡ Ok tt)
+    (goes : RepliedOfKind V same same e.batch_size e.roots slot_of st i u (reply_to_machine is_told) next) where
   abbrev v : Moment K V
   v = told (name i) is_told m
 
@@ -205,8 +205,8 @@ module _ {K V : Type 0} (same : K → K → Bool) (hash : ℕ → K → ℕ) (na
   abbrev after : CallThere K V
   after = record c { stands = Told; replies = (question, is_told) ∷ c.replies }
 
-  b : (shows : Shows same name v known (scene_with of i next s)) × (shows.number ≡ purposes.shown.number)
-  b = told_with same name m known s purposes.shown of i u here e.batch_size e.roots st (as_told is_told) next goes is_told
+  b : (shows : Refines same name v known (scene_with of i next s)) × (shows.number ≡ purposes.shown.number)
+  b = told_with same name m known s purposes.shown of i u here e.batch_size e.roots st (reply_to_machine is_told) next goes is_told
 
   own_found : call_of (name i) v ≡ Some after
   own_found =
@@ -226,23 +226,23 @@ module _ {K V : Type 0} (same : K → K → Bool) (hash : ℕ → K → ℕ) (na
 
   -- the call's own
   module _ (d : CallThere K V) (d_is : d ≡ after) where
-    own_for : (y : UnderWay K V K) → IsFor y c.call → ToldOfKind V same same e.batch_size e.roots slot_of st i y (as_told is_told) next → IsFor next d.call
+    own_for : (y : UnderWay K V K) → IsFor y c.call → RepliedOfKind V same same e.batch_size e.roots slot_of st i y (reply_to_machine is_told) next → IsFor next d.call
     own_for y is to = subst (λ (f : CallThere K V). IsFor next f.call) (sym d_is) (by y is to)
       where
-        by : (y : UnderWay K V K) → IsFor y c.call → ToldOfKind V same same e.batch_size e.roots slot_of st i y (as_told is_told) next → IsFor next c.call
+        by : (y : UnderWay K V K) → IsFor y c.call → RepliedOfKind V same same e.batch_size e.roots slot_of st i y (reply_to_machine is_told) next → IsFor next c.call
         by (OnKey z) is (inl (asks_at, asked, stands, asks, next_is)) = key_is_for c.call z _ next next_is is
         by (OnKey z) is (inr next_is) = subst (λ (y : UnderWay K V K). IsFor y c.call) (sym next_is) is
         by (ForRoom r) is next_is = subst (λ (y : UnderWay K V K). IsFor y c.call) (sym next_is) is
         by (Counting sum) is next_is = subst (λ (y : UnderWay K V K). IsFor y c.call) (sym next_is) is
         by (OverAll o) is (inl (word, n, stands, names, inl (kept, next_is))) =
-            subst (λ (y : UnderWay K V K). IsFor y c.call) (sym next_is) (sweep_for c.call o (told_of o n true) (reply_purpose o.sweep true) is)
+            subst (λ (y : UnderWay K V K). IsFor y c.call) (sym next_is) (sweep_for c.call o (with_verdict o n true) (reply_purpose o.sweep true) is)
         by (OverAll o) is (inl (word, n, stands, names, inr (left, next_is))) =
-            subst (λ (y : UnderWay K V K). IsFor y c.call) (sym next_is) (sweep_for c.call o (told_of o n false) (reply_purpose o.sweep false) is)
+            subst (λ (y : UnderWay K V K). IsFor y c.call) (sym next_is) (sweep_for c.call o (with_verdict o n false) (reply_purpose o.sweep false) is)
         by (OverAll o) is (inr next_is) = subst (λ (y : UnderWay K V K). IsFor y c.call) (sym next_is) is
 
     module _ (o : CallOverAll) (o_is : s.calls of i ≡ Some (OverAll o)) (u_is : u ≡ OverAll o) where
       asks : (word : ℕ) × (o.sweep.stands ≡ sweeping.Asks word)
-      asks = asks_word o.sweep.stands o.sweep (as_told is_told) (subst (λ (y : UnderWay K V K). (machine_replied (machine_of y) (as_told is_told)).1 ≡ Ok tt) u_is taken)
+      asks = asks_word o.sweep.stands o.sweep (reply_to_machine is_told) (subst (λ (y : UnderWay K V K). (machine_replied (machine_of y) (reply_to_machine is_told)).1 ≡ Ok tt) u_is taken)
 
       asked : (q : ℕ) × (question ≡ Some q) × NamesNumber known asks.0 q
       asked = about o u_is asks.0 asks.1
@@ -266,16 +266,16 @@ module _ {K V : Type 0} (same : K → K → Bool) (hash : ℕ → K → ℕ) (na
           number_is same hash name log m known s e at purposes.shown of i o o_is st there asks.0 asks.1 asked.0 asked.2 n
           (subst (λ (z : ℕ). NamesPair st.hash st.chart (seen_by st.blocks (st.sights (slot_of i))) z n) same_word names)
 
-      own_sweep : ToldOfKind V same same e.batch_size e.roots slot_of st i (OverAll o) (as_told is_told) next → HasCome same of st (purposes.shown.number of) log v next d
+      own_sweep : RepliedOfKind V same same e.batch_size e.roots slot_of st i (OverAll o) (reply_to_machine is_told) next → HasCome same of st (purposes.shown.number of) log v next d
       own_sweep (inl (word, n, stands, names, inl (kept, next_is))) =
           let it = number_of word n stands names in
           subst (λ (y : UnderWay K V K). HasCome same of st (purposes.shown.number of) log v y d) (sym next_is)
-          (come_by (told_of o n true) refl (reply_purpose o.sweep true) (inr (n, refl, it.0, it.1, is_yes_told is_told kept)))
+          (come_by (with_verdict o n true) refl (reply_purpose o.sweep true) (inr (n, refl, it.0, it.1, is_yes_told is_told kept)))
       own_sweep (inl (word, n, stands, names, inr (left, next_is))) =
-          subst (λ (y : UnderWay K V K). HasCome same of st (purposes.shown.number of) log v y d) (sym next_is) (come_by (told_of o n false) refl (reply_purpose o.sweep false) (inl refl))
+          subst (λ (y : UnderWay K V K). HasCome same of st (purposes.shown.number of) log v y d) (sym next_is) (come_by (with_verdict o n false) refl (reply_purpose o.sweep false) (inl refl))
       own_sweep (inr next_is) = subst (λ (y : UnderWay K V K). HasCome same of st (purposes.shown.number of) log v y d) (sym next_is) (come_by o refl refl (inl refl))
 
-    own_come : (y : UnderWay K V K) → s.calls of i ≡ Some y → u ≡ y → ToldOfKind V same same e.batch_size e.roots slot_of st i y (as_told is_told) next → HasCome same of st (purposes.shown.number of) log v next d
+    own_come : (y : UnderWay K V K) → s.calls of i ≡ Some y → u ≡ y → RepliedOfKind V same same e.batch_size e.roots slot_of st i y (reply_to_machine is_told) next → HasCome same of st (purposes.shown.number of) log v next d
     own_come (OnKey z) y_is u_is (inl (at_it, of_it, stands, it_asks, next_is)) = subst (λ (y : UnderWay K V K). HasCome same of st (purposes.shown.number of) log v y d) (sym next_is) tt
     own_come (OnKey z) y_is u_is (inr next_is) = subst (λ (y : UnderWay K V K). HasCome same of st (purposes.shown.number of) log v y d) (sym next_is) tt
     own_come (ForRoom r) y_is u_is next_is =
@@ -315,7 +315,7 @@ module _ {K V : Type 0} (same : K → K → Bool) (hash : ℕ → K → ℕ) (na
       subst (λ (y : CallThere K V). HasCome same n z (purposes.shown.number n) log v x y) (sym (other_same n j x was.0 was.1 f.0 d f.1 d_is))
       (come_still same n z (purposes.shown.number n) log m v refl refl f.0 f.0 (same_still f.0) x (purposes.come n j x was.1 z z_is f.0 f.1))
 
-  pub told_purposes : ShowsPurposes same name log v known (scene_with of i next s)
+  pub told_purposes : RefinesPurposes same name log v known (scene_with of i next s)
   told_purposes = record {
     past = purposes.past;
     lasts = purposes.lasts;

@@ -15,15 +15,15 @@ use Rattle.run_finds.specs.Given.RunsDeclared.call.Call.{Call}
 use Rattle.run_finds.specs.Given.RunsDeclared.call.Call.TheVariants as call
 use Rattle.run_finds.specs.Given.SchedulesMoment.{Moment}
 use Rattle.run_finds.specs.Given.LateCoversSweeps.{Adds, DoneAt}
-use Rattle.run_finds.specs.Given.LateToldSweeps.{TellsSo}
+use Rattle.run_finds.specs.Given.LateToldSweeps.{OutcomeAgrees}
 use Rattle.run_finds.specs.Given.CallersOverAll.{CallOverAll}
 use Rattle.run_finds.specs.Given.CallersTogether.{UnderWay, OnKey, ForRoom, Counting, OverAll}
 use Rattle.run_finds.specs.Given.EffectsKnown.{Known}
 use Rattle.run_finds.specs.Given.FinishesMaps.{Standing}
-use Rattle.run_finds.specs.Given.FinishesSweeps.{SweepStepsAmong}
+use Rattle.run_finds.specs.Given.FinishesSweeps.{SweepStepsWithEndings}
 use Rattle.run_finds.specs.Given.HistoriesAnswers.{NamesPair}
-use Rattle.run_finds.specs.Given.MomentsWhole.{ShowsWhole}
-use Rattle.run_sweeps.specs.Purposes.Purposes.{IsFor, ShowsPurposes}
+use Rattle.run_finds.specs.Given.MomentsWhole.{RefinesWhole}
+use Rattle.run_finds.specs.Purposes.Purposes.{IsFor, RefinesPurposes}
 use Rattle.run_sweeps.specs.Purposes.Swept.{SaysAsWalk, WalksHaveWords}
 use Rattle.run_sweeps.proofs.Purposes.Named.{pair_named}
 use Rattle.run_sweeps.proofs.Purposes.Pairs.{pair_swept}
@@ -46,7 +46,7 @@ over_swept swept.Done answer e = let its : answers.Swept ≡ answer = cc e in sy
 over_swept (swept.Refused fault) answer e = absurd (cc e)
 
 module _ {K V : Type 0} (same : K → K → Bool) (hash : ℕ → K → ℕ) (name : ℕ → List ℕ) (log : Past K V) (m : Moment K V) (known : Known) (s : Scene K V) (old new : Held K V)
-    (at : IsAt same hash old s) (whole : ShowsWhole same name m known s) (purposes : ShowsPurposes same name log m known s) (of i : ℕ) (u : UnderWay K V K) (here : s.calls of i ≡ Some u)
+    (at : IsAt same hash old s) (whole : RefinesWhole same name m known s) (purposes : RefinesPurposes same name log m known s) (of i : ℕ) (u : UnderWay K V K) (here : s.calls of i ≡ Some u)
     (said : Progress (Node K V)) (leads : StepLeads same hash i said s old new) where
   abbrev its : Standing K
   its = (went same hash name log m known s old new at whole purposes of i u here said leads).0
@@ -55,7 +55,7 @@ module _ {K V : Type 0} (same : K → K → Bool) (hash : ℕ → K → ℕ) (na
   then_known = known2 same hash name log m known s old new at whole purposes of i u here said leads
 
   module _ (o : CallOverAll) (p2 : Sweep) (end : Swept (Node K V))
-      (step : SweepStepsAmong V same same old.batch_size old.roots slot_of s.world s.maps s.calls s.makers s.enders of its i o new.memory p2 end)
+      (step : SweepStepsWithEndings V same same old.batch_size old.roots slot_of s.world s.maps s.calls s.makers s.enders of its i o new.memory p2 end)
       (moved : (went same hash name log m known s old new at whole purposes of i u here said leads).4.maps2
       ≡ with_at s.maps of (Some (record its { chart = step.step.went.c2; blocks = step.step.blocks2; sights = step.step.sights2 }))) where
     -- the pair that it shows is noted by its number
@@ -67,7 +67,7 @@ module _ {K V : Type 0} (same : K → K → Bool) (hash : ℕ → K → ℕ) (na
       where
         added : (step.step.entered2 ≡ o.entered) × Adds its.hash step.step.went.c2 step.step.went.blocks2 o.done step.step.done2 word
         added = adds_one its.hash step.step.went.c2 step.step.went.blocks2 o.done step.step.done2 o.entered step.step.entered2 word (Node K V) o.sweep.stands p2.stands
-            (subst (TellsSo o.sweep.stands p2.stands) is step.step.went.told.stands.tells)
+            (subst (OutcomeAgrees o.sweep.stands p2.stands) is step.step.went.told.stands.tells)
             (subst (λ (x : Swept (Node K V)). DoneAt its.hash step.step.went.c2 step.step.went.blocks2 o.done step.step.done2 o.entered step.step.entered2 x o.sweep.stands) is step.step.done)
 
   as_walk : (x : UnderWay K V K) → IsFor {K = K} {V = V} x call.Walk → Did same hash name log m known s old new at whole purposes of i u here said leads x → SaysAsWalk then_known said

@@ -30,7 +30,7 @@ use Rattle.run_finds.specs.Given.RuleWords.{Blocks}
 use Rattle.run_finds.specs.Given.LateCovers.{NamesPair as LateNames}
 use Rattle.run_finds.specs.Given.LateCoversSweeps.{Adds, DoneAt}
 use Rattle.run_finds.specs.Given.LateFactsSweeps.{SweepingFacts}
-use Rattle.run_finds.specs.Given.LateToldSweeps.{TellsSo, SweepAfter}
+use Rattle.run_finds.specs.Given.LateToldSweeps.{OutcomeAgrees, SweepAfter}
 use Rattle.run_finds.proofs.Given.LateSwept.Covers.Kept.{names_on}
 use Rattle.run_finds.proofs.Given.LateSwept.Covers.Shows.{names_one}
 use Rattle.run_finds.specs.Given.CallersOverAll.{CallOverAll, come_to as came_to}
@@ -40,7 +40,7 @@ use Rattle.run_finds.specs.Given.FinishesMachines.{machine_of}
 use Rattle.run_finds.specs.Given.FinishesMaps.{Standing}
 use Rattle.run_finds.specs.Given.EffectsKnown.{Known}
 use Rattle.run_finds.specs.Given.FollowsCalling.{come_to}
-use Rattle.run_finds.specs.Given.FollowsShows.{Shows}
+use Rattle.run_finds.specs.Given.FollowsShows.{Refines}
 use Rattle.run_finds.proofs.Given.FollowsCalled.{key_goes_on, sweep_goes_on}
 use Rattle.run_finds.proofs.Given.FollowsCalling.{is_same_refl, come, come_of_same, come_with}
 use Rattle.run_finds.proofs.Given.FollowsCalls.{found}
@@ -49,10 +49,10 @@ use Rattle.run_finds.specs.Given.HistoriesAnswers.{NamesPair}
 use Rattle.run_finds.specs.Given.ChangesHistories.{since}
 use Rattle.run_finds.specs.Given.ChangesKept.{ChangesFirst}
 use Rattle.run_finds.proofs.Given.ChangesLater.{IsLater}
-use Rattle.run_finds.specs.Given.MomentsWhole.{ShowsWhole}
-use Rattle.run_sweeps.specs.Purposes.Keys.{KeysAt, AreKeyed}
+use Rattle.run_finds.specs.Given.MomentsWhole.{RefinesWhole}
+use Rattle.run_finds.specs.Purposes.Keys.{KeysAt, AreKeyed}
 use Rattle.run_sweeps.specs.Purposes.Kept.{PairsChangeFirst, WalksShowPurposes}
-use Rattle.run_sweeps.specs.Purposes.Purposes.{IsFor, TellsDone, KeysOf, HasSwept, HasCome, ShowsPurposes}
+use Rattle.run_finds.specs.Purposes.Purposes.{IsFor, ShowsDone, KeysOf, HasSwept, HasCome, RefinesPurposes}
 use Rattle.run_finds.specs.Given.NamedMachines.{IsBefore}
 use Rattle.run_sweeps.proofs.Purposes.Done.{maps_kept}
 use Rattle.run_sweeps.proofs.Purposes.Kept.{then_at, v, next, number2, Which, which_is, begun_then, for_then, other_come, lasts_then}
@@ -71,7 +71,7 @@ use Rattle.run_finds.proofs.Given.General.{cons_same as cons_both, same_some as 
 
 module _ {K : Type 0} (hash : K → ℕ) (c : Chart K) (blocks : Blocks) (done done2 : List ℕ) (entered entered2 word : ℕ) where
   -- one that shows a pair has read its word at a place of its table, and has done one pair more
-  pub adds_one : (T : Type 0) (stands stands2 : Sweeping) → TellsSo {T = T} stands stands2 (swept.Pair word) → DoneAt hash c blocks done done2 {T = T} entered entered2 (swept.Pair word) stands
+  pub adds_one : (T : Type 0) (stands stands2 : Sweeping) → OutcomeAgrees {T = T} stands stands2 (swept.Pair word) → DoneAt hash c blocks done done2 {T = T} entered entered2 (swept.Pair word) stands
       → (entered2 ≡ entered) × Adds hash c blocks done done2 word
   adds_one T sweeping.Words stands2 tells is = is
   adds_one T (sweeping.Tries there) stands2 tells is = is
@@ -98,7 +98,7 @@ none_room word (outcome.Done end) e = cc e
 none_room word (outcome.Refused fault) e = cc e
 
 module _ {K V : Type 0} (same : K → K → Bool) (hash : ℕ → K → ℕ) (name : ℕ → List ℕ) (log : Past K V) (m : Moment K V) (known : Known) (s : Scene K V) (old new : Held K V)
-    (at : IsAt same hash old s) (whole : ShowsWhole same name m known s) (purposes : ShowsPurposes same name log m known s) (of i : ℕ) (u : UnderWay K V K) (here : s.calls of i ≡ Some u)
+    (at : IsAt same hash old s) (whole : RefinesWhole same name m known s) (purposes : RefinesPurposes same name log m known s) (of i : ℕ) (u : UnderWay K V K) (here : s.calls of i ≡ Some u)
     (word : ℕ) (leads : StepLeads same hash i (progress.Pair word) s old new)
     (changes : PairsChangeFirst log m of (v same hash name log m known s old new at whole purposes of i u here (progress.Pair word) leads))
     (class_first : ChangesFirst log m same of (v same hash name log m known s old new at whole purposes of i u here (progress.Pair word) leads)) (q steps : ℕ)
@@ -121,7 +121,7 @@ module _ {K V : Type 0} (same : K → K → Bool) (hash : ℕ → K → ℕ) (na
   abbrev numbers2 : ℕ → ℕ → ℕ
   numbers2 = number2 same hash name log m known s old new at whole purposes of i u here (progress.Pair word) leads
 
-  b : (after : Shows same name v3 known_then then_there) × (after.number ≡ numbers2)
+  b : (after : Refines same name v3 known_then then_there) × (after.number ≡ numbers2)
   b = come_with same name v1 known_then then_there (on same hash name log m known s old new at whole purposes of i u here (progress.Pair word) leads).shows (name i) (ShowsOne q) steps (λ e. absurd (cc e))
 
   -- a call that is there then, by what it was before the outcome
@@ -162,7 +162,7 @@ module _ {K V : Type 0} (same : K → K → Bool) (hash : ℕ → K → ℕ) (na
         maps_kept (purposes.shown.number of) (numbers2 of) b4.0.chart.stored
         ((on same hash name log m known s old new at whole purposes of i u here (progress.Pair word) leads).numbers of b4.0 b4.1) c d still o.done before.stored
 
-    tells : (its : Call K V) → IsFor (OverAll o) its → TellsDone its (purposes.shown.number of) o.done c → TellsDone its (numbers2 of) done2 (come (ShowsOne q) steps d)
+    tells : (its : Call K V) → IsFor (OverAll o) its → ShowsDone its (purposes.shown.number of) o.done c → ShowsDone its (numbers2 of) done2 (come (ShowsOne q) steps d)
     tells (call.On one) is has = tt
     tells (call.Reserve more) is has = tt
     tells call.Clear is has = tt
@@ -177,7 +177,7 @@ module _ {K V : Type 0} (same : K → K → Bool) (hash : ℕ → K → ℕ) (na
           (own_within same hash name log m known s old new at whole purposes of i u here (progress.Pair word) leads changes o o_is st there c d c_is d_is);
       stored = subst (AllByRecursion (λ k. k < st.chart.stored)) (sym done_is)
           (below, below_then same hash name log m known s old new at whole purposes of i u here (progress.Pair word) leads changes o o_is st there c d c_is d_is o.done before.stored);
-      tells = subst (λ (x : Call K V). TellsDone x (numbers2 of) done2 (come (ShowsOne q) steps d)) (sym still.call)
+      tells = subst (λ (x : Call K V). ShowsDone x (numbers2 of) done2 (come (ShowsOne q) steps d)) (sym still.call)
           (tells c.call (purposes.is_for of i (OverAll o) o_is c c_is) before.tells);
       none = λ is at_first. absurd (subst IsBefore ready at_first);
       keys = λ is. keys;
@@ -210,11 +210,11 @@ module _ {K V : Type 0} (same : K → K → Bool) (hash : ℕ → K → ℕ) (na
 
       one : (step.step.entered2 ≡ o.entered) × Adds its.hash step.step.went.c2 step.step.went.blocks2 o.done step.step.done2 word
       one = adds_one its.hash step.step.went.c2 step.step.went.blocks2 o.done step.step.done2 o.entered step.step.entered2 word (Node K V) o.sweep.stands p2.stands
-          (subst (TellsSo o.sweep.stands p2.stands) is step.step.went.told.stands.tells)
+          (subst (OutcomeAgrees o.sweep.stands p2.stands) is step.step.went.told.stands.tells)
           (subst (λ (x : Swept (Node K V)). DoneAt its.hash step.step.went.c2 step.step.went.blocks2 o.done step.step.done2 o.entered step.step.entered2 x o.sweep.stands) is step.step.done)
 
       ready : p2.stands ≡ sweeping.Ready
-      ready = (subst (TellsSo o.sweep.stands p2.stands) is step.step.went.told.stands.tells).1
+      ready = (subst (OutcomeAgrees o.sweep.stands p2.stands) is step.step.went.told.stands.tells).1
 
       walks : p2.purpose ≡ Walks
       walks =
@@ -300,7 +300,7 @@ module _ {K V : Type 0} (same : K → K → Bool) (hash : ℕ → K → ℕ) (na
       (come_still same n st (numbers2 n) log v1 v3 refl refl d.0 d.0 (same_still d.0) x
       (other_come same hash name log m known s old new at whole purposes of i u here (progress.Pair word) leads changes class_first n j x other.1 st there d.0 d.1))
 
-  pub shows_purposes : ShowsPurposes same name log v3 known_then then_there
+  pub shows_purposes : RefinesPurposes same name log v3 known_then then_there
   shows_purposes = record {
     past = purposes.past;
     lasts = lasts_then same hash name log m known s old new at whole purposes of i u here (progress.Pair word) leads;

@@ -8,7 +8,7 @@ use Rattle.run_finds.specs.Given.SchedulesViews.{is_in_map}
 use Rattle.run_finds.specs.Given.FinishesMaps.{Standing}
 use Rattle.run_finds.proofs.Given.ChangesLater.{IsLater}
 use Rattle.run_finds.proofs.Given.ChangesLogs.{each_of, now_there as now_is_there}
-use Rattle.run_sweeps.specs.Purposes.Purposes.{PairsWithin}
+use Rattle.run_finds.specs.Purposes.Purposes.{PairsWithin}
 use Rattle.run_finds.specs.Given.ChangesHistories.{IsPast}
 use Rattle.run_finds.specs.Given.SchedulesTransition.{Past}
 

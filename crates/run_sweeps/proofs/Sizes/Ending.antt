@@ -12,12 +12,12 @@ use Rattle.run_finds.specs.Given.RunsDeclared.event.Event.{Event}
 use Rattle.run_finds.specs.Given.RunsDeclared.event.Event.TheVariants as event
 use Rattle.run_finds.specs.Given.RunsDeclared.outcome.Outcome.{Outcome}
 use Rattle.run_finds.specs.Given.RunsDeclared.outcome.Outcome.TheVariants as outcome
-use Rattle.run_finds.specs.Given.SchedulesAfter.{after, calls_on, comes_to, maps_on, moment, replied, stepped, without_call}
+use Rattle.run_finds.specs.Given.SchedulesAfter.{after, calls_on, with_outcome, maps_on, moment, replied, stepped, without_call}
 use Rattle.run_finds.specs.Given.SchedulesBeginning.{begun}
 use Rattle.run_finds.specs.Given.SchedulesEffects.{worked}
 use Rattle.run_finds.specs.Given.SchedulesEntry.{Entry, IfCall, acted_on, caller_of, ends_call}
 use Rattle.run_finds.specs.Given.SchedulesComing.{shows_now}
-use Rattle.run_finds.specs.Given.SchedulesHanding.{IsWhole, comes_clear, is_only, is_reclaiming, may_do}
+use Rattle.run_finds.specs.Given.SchedulesHanding.{IsWhole, is_clear_outcome, is_only, is_reclaiming, may_do}
 use Rattle.run_finds.specs.Given.SchedulesMoment.{MapThere, UnderWay, Moment}
 use Rattle.run_finds.specs.Given.SchedulesTerms.{Terms}
 use Rattle.run_finds.specs.Given.SchedulesViews.{call_of, map_at, map_of, number_of}
@@ -78,10 +78,10 @@ module _ {K V : Type 0} where
     stepped_sums (Some own) came steps ends = by (ends_call came) ends
       where
         by : (q : Bool) → Ends (if q then Some own else None) calls
-            → SameSums (if q then without_call own calls else map (λ c. if is_same c.caller own then comes_to came (record c { steps = c.steps + steps }) else c) calls)
+            → SameSums (if q then without_call own calls else map (λ c. if is_same c.caller own then with_outcome came (record c { steps = c.steps + steps }) else c) calls)
         by true none = gone_sums own none
         by false none =
-            changed_sums own (λ c. comes_to came (record c { steps = c.steps + steps }))
+            changed_sums own (λ c. with_outcome came (record c { steps = c.steps + steps }))
             (λ c. (let worth = comes_worth came (record c { steps = c.steps + steps }) in record { map = worth.map; gained = worth.gained; lost = worth.lost; replacing = worth.replacing }))
 
     pub over_sums : (its : Event K V) (came : Outcome V) (steps : ℕ) → Ends (ended_by its came) calls → SameSums (calls_on its came steps calls)
@@ -104,7 +104,7 @@ module _ {K V : Type 0} (terms : Terms) (log : List (Entry K V)) where
   abbrev at_end : Event K V → Outcome V → ℕ → List Effect → Moment K V
   at_end its came steps effects = worked (entry its came steps effects) m
 
-  clear_at_end : (came : Outcome V) → ends_call came ≡ true → comes_clear came ≡ true
+  clear_at_end : (came : Outcome V) → ends_call came ≡ true → is_clear_outcome came ≡ true
   clear_at_end outcome.Ready ends = refl
   clear_at_end came ends = ends
 

@@ -19,12 +19,9 @@ use Rattle.run_finds.specs.Within.{AllIsInOrder}
 use Rattle.run_sweeps.specs.Sizes.Once.{RunsHaveEachOnce}
 use Rattle.run_sweeps.proofs.Sizes.Sizes.{all_so_far}
 use Rattle.run_finds.proofs.Given.General.{equal_so as number_is}
+use Rattle.run_finds.proofs.Lists.{times_both}
 
 -- lists
-
-pub times_both : (n : ℕ) (xs ys : List ℕ) → times n (xs ++ ys) ≡ times n xs + times n ys
-times_both n [] ys = omega arith
-times_both n (x ∷ xs) ys = let rest = times_both n xs ys in omega (arith, rest)
 
 -- where a pair was stored it is given back, in a map, or waits
 somewhere : (p : Place) → is_unborn p ≡ false → once_if (is_back p) + once_if (is_in_a_map p || is_waiting p) ≡ 1

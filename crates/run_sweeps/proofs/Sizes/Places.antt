@@ -14,7 +14,7 @@ use Rattle.run_finds.specs.Given.SchedulesMoment.{Place, InMap, Out, Handed, Beh
 use Rattle.run_finds.specs.Given.SchedulesThings.{same_thing}
 use Rattle.run_finds.specs.Given.SchedulesViews.{behind, call_of, is_in_map, places_below, size_of}
 use Rattle.run_finds.proofs.Given.FollowsAlike.{put_here, put_elsewhere}
-use Rattle.run_finds.specs.Waiting.{FindsPlaced, OwesPair, PairsArePlaced, is_behind_one, is_let_go, is_out, is_unborn, once_if, owed_by}
+use Rattle.run_finds.specs.Waiting.{FindsPlaced, HasPairPending, PairsArePlaced, is_behind_one, is_let_go, is_out, is_unborn, once_if, owed_by}
 use Rattle.run_finds.specs.Within.{AllIsInOrder}
 use Rattle.run_finds.proofs.Counted.{was_behind}
 use Rattle.run_finds.proofs.Owed.{owed_at_least, owed_there}
@@ -57,10 +57,10 @@ module _ {K V : Type 0} (k : ℕ) (caller : Option (List ℕ)) (acted : Option �
   placed = h.waits.placed
 
   -- a pair that a call owes is in no map
-  owed_is_out : (n : ℕ) → OwesPair caller m n → m.place n ≡ InMap k → ⊥
+  owed_is_out : (n : ℕ) → HasPairPending caller m n → m.place n ≡ InMap k → ⊥
   owed_is_out n owes is = by caller owes
     where
-      by : (who : Option (List ℕ)) → OwesPair who m n → ⊥
+      by : (who : Option (List ℕ)) → HasPairPending who m n → ⊥
       by None owed = owed
       by (Some own) owed = of (call_of own m) refl owed
         where

@@ -9,13 +9,13 @@ use Rattle.run_finds.specs.Given.RunsDeclared.event.Event.{Event}
 use Rattle.run_finds.specs.Given.RunsDeclared.event.Event.TheVariants as event
 use Rattle.run_finds.specs.Given.RunsDeclared.outcome.Outcome.{Outcome}
 use Rattle.run_finds.specs.Given.RunsDeclared.outcome.Outcome.TheVariants as outcome
-use Rattle.run_finds.specs.Given.SchedulesAfter.{asks_on, calls_on, comes_to, moment, moments_from, replied, stepped, without_call}
+use Rattle.run_finds.specs.Given.SchedulesAfter.{asks_on, calls_on, with_outcome, moment, moments_from, replied, stepped, without_call}
 use Rattle.run_finds.specs.Given.SchedulesBeginning.{begun, with_call}
 use Rattle.run_finds.specs.Given.SchedulesComing.{Progresses, is_ready}
 use Rattle.run_finds.specs.Given.SchedulesEffects.{call_by, with_effect, with_effects, worked}
 use Rattle.run_finds.specs.Given.SchedulesEntry.{ByCall, Entry, IfCall, acting, caller_of, ends_call, is_busy, nameless}
-use Rattle.run_finds.specs.Given.SchedulesHanding.{LeavesOf, comes_clear}
-use Rattle.run_finds.specs.Given.SchedulesMoment.{Stands, Going, Asking, Told, IsReady, UnderWay, Moment}
+use Rattle.run_finds.specs.Given.SchedulesHanding.{LeavesOf, is_clear_outcome}
+use Rattle.run_finds.specs.Given.SchedulesMoment.{CallState, Going, Asking, Told, IsReady, UnderWay, Moment}
 use Rattle.run_finds.specs.Given.SchedulesTerms.{Terms}
 use Rattle.run_finds.specs.Given.SchedulesViews.{call_of, number_of}
 use Rattle.run_finds.proofs.Given.FollowsCalls.{changed_same}
@@ -86,11 +86,11 @@ module _ {K V : Type 0} where
 
   -- what an event's outcome, or a reply, leaves of a call's account
 
-  asks_worth : (question : Option ℕ) (c : UnderWay K V) (stands : Stands) → IsWorth (asks_on question c stands) c.map c.gained c.lost c.replacing
+  asks_worth : (question : Option ℕ) (c : UnderWay K V) (stands : CallState) → IsWorth (asks_on question c stands) c.map c.gained c.lost c.replacing
   asks_worth question c (Asking q) = record { map = refl; gained = refl; lost = refl; replacing = refl }
   asks_worth question c _ = record { map = refl; gained = refl; lost = refl; replacing = refl }
 
-  pub comes_worth : (came : Outcome V) (c : UnderWay K V) → IsWorth (comes_to came c) c.map c.gained c.lost c.replacing
+  pub comes_worth : (came : Outcome V) (c : UnderWay K V) → IsWorth (with_outcome came c) c.map c.gained c.lost c.replacing
   comes_worth (outcome.Asks question) c = asks_worth question c c.stands
   comes_worth outcome.Goes c = record { map = refl; gained = refl; lost = refl; replacing = refl }
   comes_worth outcome.Waits c = record { map = refl; gained = refl; lost = refl; replacing = refl }
@@ -98,17 +98,17 @@ module _ {K V : Type 0} where
   comes_worth (outcome.Shows n) c = record { map = refl; gained = refl; lost = refl; replacing = refl }
   comes_worth _ c = record { map = refl; gained = refl; lost = refl; replacing = refl }
 
-  pub told_worth : (reply : Reply V) (c : UnderWay K V) (stands : Stands) → IsWorth (replied reply c stands) c.map c.gained c.lost c.replacing
+  pub told_worth : (reply : Reply V) (c : UnderWay K V) (stands : CallState) → IsWorth (replied reply c stands) c.map c.gained c.lost c.replacing
   told_worth reply c (Asking q) = record { map = refl; gained = refl; lost = refl; replacing = refl }
   told_worth reply c _ = record { map = refl; gained = refl; lost = refl; replacing = refl }
 
   -- calls are settled once an event is over, if all were, and one that has come to be ready has nothing to count
 
-  asks_ready : (question : Option ℕ) (c : UnderWay K V) (stands : Stands) → ReadyCountsNone c → ReadyCountsNone (asks_on question c stands)
+  asks_ready : (question : Option ℕ) (c : UnderWay K V) (stands : CallState) → ReadyCountsNone c → ReadyCountsNone (asks_on question c stands)
   asks_ready question c (Asking q) its = its
   asks_ready question c _ its = λ e. absurd (cc e)
 
-  comes_ready : (came : Outcome V) (c : UnderWay K V) → (came ≡ outcome.Ready → c.gained + c.lost ≡ 0) → ReadyCountsNone c → ReadyCountsNone (comes_to came c)
+  comes_ready : (came : Outcome V) (c : UnderWay K V) → (came ≡ outcome.Ready → c.gained + c.lost ≡ 0) → ReadyCountsNone c → ReadyCountsNone (with_outcome came c)
   comes_ready (outcome.Asks question) c clear its = asks_ready question c c.stands its
   comes_ready outcome.Ready c clear its = λ e. clear refl
   comes_ready outcome.Goes c clear its = λ e. absurd (cc e)
@@ -116,7 +116,7 @@ module _ {K V : Type 0} where
   comes_ready (outcome.Shows n) c clear its = its
   comes_ready _ c clear its = its
 
-  told_ready : (reply : Reply V) (c : UnderWay K V) (stands : Stands) → ReadyCountsNone c → ReadyCountsNone (replied reply c stands)
+  told_ready : (reply : Reply V) (c : UnderWay K V) (stands : CallState) → ReadyCountsNone c → ReadyCountsNone (replied reply c stands)
   told_ready reply c (Asking q) its = λ e. absurd (cc e)
   told_ready reply c _ its = its
 
@@ -147,7 +147,7 @@ module _ {K V : Type 0} where
   stepped_settled (Some own) came steps calls clear all = by (ends_call came)
     where
       change : UnderWay K V → UnderWay K V
-      change c = comes_to came (record c { steps = c.steps + steps })
+      change c = with_outcome came (record c { steps = c.steps + steps })
 
       settled : (c : UnderWay K V) → (came ≡ outcome.Ready → c.gained + c.lost ≡ 0) → IsSettled c → IsSettled (change c)
       settled c none its =
@@ -157,7 +157,7 @@ module _ {K V : Type 0} where
       ready outcome.Ready is = all_so (λ c. is_same c.caller own ≡ true → CountsNone c) (λ c. is_same c.caller own ≡ true → came ≡ outcome.Ready → CountsNone c) (λ c its same e. its same) calls (clear own refl is)
       ready o is = all_so IsSettled (λ c. is_same c.caller own ≡ true → came ≡ outcome.Ready → CountsNone c) (λ c its same e. absurd (let two : o ≡ outcome.Ready = sym is ∙ e in cc two)) calls all
 
-      by : (q : Bool) → AllByRecursion IsSettled (if q then without_call own calls else map (λ c. if is_same c.caller own then comes_to came (record c { steps = c.steps + steps }) else c) calls)
+      by : (q : Bool) → AllByRecursion IsSettled (if q then without_call own calls else map (λ c. if is_same c.caller own then with_outcome came (record c { steps = c.steps + steps }) else c) calls)
       by true = fewer_settled own calls all
       by false = changed_settled own change calls
           (all_so (λ c. (is_same c.caller own ≡ true → came ≡ outcome.Ready → CountsNone c) × IsSettled c) (λ c. is_same c.caller own ≡ true → IsSettled (change c)) (λ c two same. settled c (two.0 same) two.1) calls
@@ -203,17 +203,17 @@ module _ {K V : Type 0} (terms : Terms) (log : List (Entry K V)) where
       abbrev w : Moment K V
       w = at_end its came steps effects
 
-      clear_of : (o : Option (UnderWay K V)) → comes_clear came ≡ true → IfCall (LeavesOf (comes_clear came) came) o → IfCall CountsNone o
+      clear_of : (o : Option (UnderWay K V)) → is_clear_outcome came ≡ true → IfCall (LeavesOf (is_clear_outcome came) came) o → IfCall CountsNone o
       clear_of None clear leaves = tt
       clear_of (Some c) clear leaves = (subst (λ (q : Bool). LeavesOf q came c) clear leaves).0.counted
 
       -- a call that ends with the event, or comes to be ready, has nothing to count
-      pub its_clear : (own : List ℕ) → caller_of its ≡ Some own → comes_clear came ≡ true → Its CountsNone own w.calls
+      pub its_clear : (own : List ℕ) → caller_of its ≡ Some own → is_clear_outcome came ≡ true → Its CountsNone own w.calls
       its_clear own is clear =
-          named CountsNone own w.calls apart (clear_of (call_of own w) clear (subst (λ (o : Option (List ℕ)). IfCall (LeavesOf (comes_clear came) came) (acting o w)) is goes.life.leaves))
+          named CountsNone own w.calls apart (clear_of (call_of own w) clear (subst (λ (o : Option (List ℕ)). IfCall (LeavesOf (is_clear_outcome came) came) (acting o w)) is goes.life.leaves))
 
       pub clear_if_ready : ClearIfReady (caller_of its) came w.calls
-      clear_if_ready own is ready = its_clear own is (ap comes_clear ready)
+      clear_if_ready own is ready = its_clear own is (ap is_clear_outcome ready)
 
       -- and so has one that was ready
       pub its_ready : AllByRecursion IsSettled (begun its came m).calls → (own : List ℕ) → caller_of its ≡ Some own → Its ReadyCountsNone own w.calls
@@ -225,7 +225,7 @@ module _ {K V : Type 0} (terms : Terms) (log : List (Entry K V)) where
               (subst (λ (fs : List Effect). AllByRecursion IsSettled (at_end its came steps fs).calls) (sym none) settled)
           by (inr on) = named ReadyCountsNone own w.calls apart (of (call_of own w) refl (subst (λ (o : Option (List ℕ)). ByCall (λ (c : UnderWay K V). Progresses terms c.stands c (moments_from c.begun log) w came) (acting o w)) is on))
             where
-              stands_ready : (s : Stands) (c : UnderWay K V) → is_ready s ≡ true → Progresses terms s c (moments_from c.begun log) w came → came ≡ outcome.Ready
+              stands_ready : (s : CallState) (c : UnderWay K V) → is_ready s ≡ true → Progresses terms s c (moments_from c.begun log) w came → came ≡ outcome.Ready
               stands_ready IsReady c e its_way = its_way
               stands_ready Going c e its_way = absurd (cc e)
               stands_ready (Asking q) c e its_way = absurd (cc e)
@@ -235,4 +235,4 @@ module _ {K V : Type 0} (terms : Terms) (log : List (Entry K V)) where
               of None found its_way = tt
               of (Some c) found its_way =
                   λ e. (let ready = stands_ready c.stands c e its_way in
-                  subst (IfCall CountsNone) found (clear_of (call_of own w) (ap comes_clear ready) (subst (λ (o : Option (List ℕ)). IfCall (LeavesOf (comes_clear came) came) (acting o w)) is goes.life.leaves)))
+                  subst (IfCall CountsNone) found (clear_of (call_of own w) (ap is_clear_outcome ready) (subst (λ (o : Option (List ℕ)). IfCall (LeavesOf (is_clear_outcome came) came) (acting o w)) is goes.life.leaves)))

@@ -11,7 +11,7 @@ use Rattle.run_finds.specs.Given.SchedulesViews.{size_of}
 use Rattle.run_finds.specs.Waiting.{once_if}
 use Rattle.run_finds.proofs.Lists.{all_so}
 use Rattle.run_finds.proofs.Runs.{all_in_order_at_first}
-use Rattle.run_sweeps.specs.Sizes.Sizes.{ShardsSaySize, TellsSize, lost_on}
+use Rattle.run_sweeps.specs.Sizes.Sizes.{ShardsSaySize, ShardsComeToSize, lost_on}
 use Rattle.run_sweeps.proofs.Sizes.Balance.{minus_of}
 use Rattle.run_sweeps.proofs.Sizes.Beginning.{Counted}
 use Rattle.run_sweeps.proofs.Sizes.Events.{IsSo, then_so}
@@ -35,5 +35,5 @@ module _ {K V : Type 0} where
 pub shards_say_size : (K V : Type 0) → ShardsSaySize K V
 shards_say_size K V eq terms log legal =
     let so = all_so_far eq terms log legal in
-    all_so (λ (f : MapThere). Counted (shards_of terms) (moment log) f.number) (TellsSize (shards_of terms) (moment log))
+    all_so (λ (f : MapThere). Counted (shards_of terms) (moment log) f.number) (ShardsComeToSize (shards_of terms) (moment log))
     (λ f its. its ∙ ap (λ (n : ℕ). (size_of f.number (moment log) + n) % 2 ^ 64) (minus_is_lost f.number (moment log) so.settled)) (moment log).maps so.counted

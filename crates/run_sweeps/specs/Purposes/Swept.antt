@@ -20,10 +20,10 @@ use Rattle.run_finds.specs.Given.EffectsKnown.{Known}
 use Rattle.run_finds.specs.Given.EffectsDeclared.acting.Acting.TheVariants as acts
 use Rattle.run_finds.specs.Given.FinishesMaps.{Standing}
 use Rattle.run_finds.specs.Given.HistoriesAnswers.{NamesPair}
-use Rattle.run_finds.specs.Given.MomentsWhole.{ShowsWhole}
+use Rattle.run_finds.specs.Given.MomentsWhole.{RefinesWhole}
 use Rattle.run_sweeps.specs.Purposes.Kept.{NoneCame, PairsChangeFirst}
-use Rattle.run_sweeps.specs.Purposes.Purposes.{ShowsPurposes}
-use Rattle.run_sweeps.specs.Purposes.Shards.{ReadsShards}
+use Rattle.run_finds.specs.Purposes.Purposes.{RefinesPurposes}
+use Rattle.run_finds.specs.Purposes.Shards.{ReadsShards}
 use Rattle.run_finds.specs.Given.ScenesHeld.{Held, IsAt}
 use Rattle.run_finds.specs.Given.ScenesScene.{Scene}
 use Rattle.run_finds.specs.Given.ScenesStepping.{StepLeads}
@@ -31,12 +31,12 @@ use Rattle.run_finds.specs.Given.SchedulesTransition.{Past, Transition, call_lef
 use Rattle.run_finds.specs.Given.SchedulesSweeps.{SweepsRight}
 
 -- what a call has ended with is told as this
-abbrev pub ComesSo : {K V : Type 0} → Known → Progress (Node K V) → Outcome V → Type 0
-ComesSo known (progress.Pair word) (Shows n) = NamesPair known word n
-ComesSo known (progress.Done (answers.Count count)) (Answered (Counted n)) = n ≡ count
-ComesSo known (progress.Done answers.Reserved) (Answered Completed) = Unit {0}
-ComesSo known (progress.Done answers.Swept) (Answered Completed) = Unit {0}
-ComesSo known _ _ = ⊥
+abbrev pub EndsWithOutcome : {K V : Type 0} → Known → Progress (Node K V) → Outcome V → Type 0
+EndsWithOutcome known (progress.Pair word) (Shows n) = NamesPair known word n
+EndsWithOutcome known (progress.Done (answers.Count count)) (Answered (Counted n)) = n ≡ count
+EndsWithOutcome known (progress.Done answers.Reserved) (Answered Completed) = Unit {0}
+EndsWithOutcome known (progress.Done answers.Swept) (Answered Completed) = Unit {0}
+EndsWithOutcome known _ _ = ⊥
 
 -- the outcome is none of which something is promised: neither an answer nor a pair that is shown
 abbrev pub SaysNothing : {V : Type 0} → Outcome V → Type 0
@@ -75,11 +75,11 @@ module _ (K V : Type 0) (same : K → K → Bool) (hash : ℕ → K → ℕ) whe
   abbrev pub Ends : (CallThere K V → Type 0) → (Past K V → Moment K V → Moment K V → Scene K V → ℕ → UnderWay K V K → Type 0) → Outcome V → Type 0
   Ends OfKind Asks outcome =
       (name : ℕ → List ℕ) (log : Past K V) (m : Moment K V) (known : Known) (s : Scene K V) (old new : Held K V) → IsAt same hash old s
-      → ShowsWhole same name m known s → ShowsPurposes same name log m known s
+      → RefinesWhole same name m known s → RefinesPurposes same name log m known s
       → (of i : ℕ) (u : UnderWay K V K) (here : s.calls of i ≡ Some u) (said : Progress (Node K V)) (leads : StepLeads same hash i said s old new)
       → (c : CallThere K V) → call_of (name i) m ≡ Some c → OfKind c
       → (let v = with_effects (Some (name i)) (Some of) (effects_of (acts.Call i of) known new.changed) m in
-      Asks log m v s of u → ComesSo (known_after (acts.Call i of) new.changed known) said outcome
+      Asks log m v s of u → EndsWithOutcome (known_after (acts.Call i of) new.changed known) said outcome
       → (terms : Terms) → ((standing : Standing K) → s.maps of ≡ Some standing → suc standing.setting.mask ≡ shards_of terms)
       → (t : Transition K V) → t.caller ≡ Some (name i) → worked_by t ≡ v → t.outcome ≡ outcome → SweepsRight same terms log t)
 
@@ -107,7 +107,7 @@ module _ (K V : Type 0) (same : K → K → Bool) (hash : ℕ → K → ℕ) whe
   abbrev pub WalksShowAll : Type 0
   WalksShowAll =
       (name : ℕ → List ℕ) (log : Past K V) (m : Moment K V) (known : Known) (s : Scene K V) (old new : Held K V) → IsAt same hash old s
-      → ShowsWhole same name m known s → ShowsPurposes same name log m known s
+      → RefinesWhole same name m known s → RefinesPurposes same name log m known s
       → (of i : ℕ) (u : UnderWay K V K) (here : s.calls of i ≡ Some u) (leads : StepLeads same hash i (progress.Done answers.Swept) s old new)
       → (c : CallThere K V) → call_of (name i) m ≡ Some c → IsWalk c
       → LosesNone same log m of
@@ -118,7 +118,7 @@ module _ (K V : Type 0) (same : K → K → Bool) (hash : ℕ → K → ℕ) whe
   abbrev pub WalksHaveWords : Type 0
   WalksHaveWords =
       (name : ℕ → List ℕ) (log : Past K V) (m : Moment K V) (known : Known) (s : Scene K V) (old new : Held K V) → IsAt same hash old s
-      → ShowsWhole same name m known s → ShowsPurposes same name log m known s
+      → RefinesWhole same name m known s → RefinesPurposes same name log m known s
       → (of i : ℕ) (u : UnderWay K V K) → s.calls of i ≡ Some u → (said : Progress (Node K V)) → StepLeads same hash i said s old new
       → (c : CallThere K V) → call_of (name i) m ≡ Some c → IsWalk c → SaysAsWalk (known_after (acts.Call i of) new.changed known) said
 

@@ -30,12 +30,12 @@ module _ {K V : Type 0} where
 
   -- The shards of a map, with what was added and not yet counted, come to its pairs, with what was taken out and not yet counted: modulo 2 ^ 64, as
   -- shards are words.
-  abbrev pub TellsSize : ℕ → Moment K V → MapThere → Type 0
-  TellsSize shards m f = (sum_below shards (m.shards f.number) + gained_on f.number m.calls) % 2 ^ 64 ≡ (size_of f.number m + lost_on f.number m.calls) % 2 ^ 64
+  abbrev pub ShardsComeToSize : ℕ → Moment K V → MapThere → Type 0
+  ShardsComeToSize shards m f = (sum_below shards (m.shards f.number) + gained_on f.number m.calls) % 2 ^ 64 ≡ (size_of f.number m + lost_on f.number m.calls) % 2 ^ 64
 
   -- so it is of each map that is there
   abbrev pub IsCounted : Terms → Moment K V → Type 0
-  IsCounted terms m = AllByRecursion (TellsSize (shards_of terms) m) m.maps
+  IsCounted terms m = AllByRecursion (ShardsComeToSize (shards_of terms) m) m.maps
 
   -- At each of these moments calls have counted all that they have added to a map and taken out, and it has so many pairs.
   abbrev pub StaysCounted : ℕ → ℕ → List (Moment K V) → Type 0

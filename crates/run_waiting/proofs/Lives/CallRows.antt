@@ -63,12 +63,12 @@ use Rattle.run_debts.specs.Given.HandsRows.{ReclaimsNone}
 use Rattle.run_debts.proofs.Given.HandsRowSteps.{rows_hand_theirs}
 use Rattle.run_debts.proofs.Given.SpotsSteps.{stayed_calm}
 use Rattle.run_debts.proofs.Given.SpotsUnreclaimed.{table_is, same_itself}
-use Rattle.run_debts.specs.Given.MomentsWhole.{ShowsWhole}
-use Rattle.run_debts.specs.Due.{ToRetire, ToPut, due_in_settle, due_in_row, told_retired, RowTells, TellsNone, TellsRetired, TellsDeferred, OwnAreMade}
-use Rattle.run_debts.specs.Entries.{ShowsEntries}
+use Rattle.run_debts.specs.Given.MomentsWhole.{RefinesWhole}
+use Rattle.run_debts.specs.Due.{ToRetire, ToPut, due_in_settle, due_in_row, retired_effects, RowTells, TellsNone, TellsRetired, TellsDeferred, OwnAreMade}
+use Rattle.run_debts.specs.Entries.{EntriesAreBlank}
 use Rattle.run_debts.proofs.DueCalls.{rows_tell_due}
-use Rattle.run_waiting.specs.Lives.Behind.{IsLeft, LiesBehind, EachWaits, ShowsWaiting, WaitsOnce}
-use Rattle.run_waiting.specs.Lives.Retired.{IsDue, IsToRetire}
+use Rattle.run_waiting.specs.Lives.Behind.{IsLeft, IsDeferredTo, EachWaits, RefinesWaiting, WaitsOnce}
+use Rattle.run_waiting.specs.Lives.Retired.{IsPendingRetirement, IsToRetire}
 use Rattle.run_waiting.specs.Lives.Waiting.{IsPutting, waits_behind}
 use Rattle.run_waiting.proofs.Lives.Each.{WaitsAt, each_on, found}
 use Rattle.run_waiting.proofs.Lives.Lives.{WaitsIn, OnWay, OnList, TakenOver, in_wait}
@@ -92,7 +92,7 @@ module _ (n i : ℕ) (f : View) (m : State) (x : Extra) (shows : Shows n f m x) 
       by [] h = refl
       by (c ∷ l) h = absurd (let some = h.0 in let names = h.1 in omega (arith, some, names))
 
-  due_takes_none : (b : ℕ) (c : Settle) (p : Settling) → c.reclaiming ≡ 0 → FitsAt n i f m x (bare c) p → IsDue b (due_in_settle c p) → m.left i ≡ []
+  due_takes_none : (b : ℕ) (c : Settle) (p : Settling) → c.reclaiming ≡ 0 → FitsAt n i f m x (bare c) p → IsPendingRetirement b (due_in_settle c p) → m.left i ≡ []
   due_takes_none b c at_point.Sees idle fits due = none_to_take (fits.retiring.rest.common.lefts ∙ idle)
   due_takes_none b c at_point.Holds idle fits due = none_to_take (fits.retiring.rest.common.lefts ∙ idle)
   due_takes_none b c at_point.Pops idle fits due = none_to_take (fits.retiring.rest.common.lefts ∙ idle)
@@ -160,7 +160,7 @@ module _ {T : Type 0} (defers : T → Option ℕ) (size i : ℕ) (w v w3 : World
       by (m2, end, (out, took, ends), is) = ap (λ (z : World T). z.memory) is ∙ defers_memory s m2 end ∙ took.1 ∙ ap (λ (z : World T). z.memory) h.7
 
 module _ {K V : Type 0} (same : K → K → Bool) (hash : ℕ → K → ℕ) (name : ℕ → List ℕ) (m : Moment K V) (known : Known) (s : Scene K V) (old new : Held K V) (at : IsAt same hash old s)
-    (whole : ShowsWhole same name m known s) (entries : ShowsEntries s) (owning : OwnAreMade known s.world) (waiting : ShowsWaiting m known s.world) (map i : ℕ) (u : UnderWay K V K)
+    (whole : RefinesWhole same name m known s) (entries : EntriesAreBlank s) (owning : OwnAreMade known s.world) (waiting : RefinesWaiting m known s.world) (map i : ℕ) (u : UnderWay K V K)
     (here_is : s.calls map i ≡ Some u) (said : CallTold (Node K V)) (leads : StepLeads same hash i said s old new)
     (other : OfNoRow same hash name m known s old new at whole.all.shown map i u here_is said leads u (leads map u here_is).4.did → ⊥) where
   abbrev to : WentTo same hash name m known s old new at whole.all.shown map i u here_is said leads
@@ -262,7 +262,7 @@ module _ {K V : Type 0} (same : K → K → Bool) (hash : ℕ → K → ℕ) (na
     one_on (inr (request, begun, over, begin, step)) p t pair table waits =
         step_on begun (happens_reached deferred_word size (Begin i request) w begun reached begin) step p t pair table (begin_on request begun over begin.1 p t waits)
 
-    lies_on : IsOneStep to.0.setting i w w3 → (n : ℕ) (t : TableId) → LiesBehind known w n t → LiesBehind known2 to.4.w2 n t
+    lies_on : IsOneStep to.0.setting i w w3 → (n : ℕ) (t : TableId) → IsDeferredTo known w n t → IsDeferredTo known2 to.4.w2 n t
     lies_on step n t l = record {
       pair = l.pair;
       is_pair = role_kept l.pair (role.Pair n) l.is_pair tt;
@@ -285,7 +285,7 @@ module _ {K V : Type 0} (same : K → K → Bool) (hash : ℕ → K → ℕ) (na
     looked (Flush slot) begun over h step = absurd over
 
     -- what it retires did not wait
-    not_waiting : w3.memory ≡ new.memory → IsOneStep to.0.setting i w w3 → (n k : ℕ) (t : TableId) (l : LiesBehind known w n t) → IsDue l.pair (due_in_row (machine_of u)) → effects ≡ Retired (APair k) ∷ [] → ⊥
+    not_waiting : w3.memory ≡ new.memory → IsOneStep to.0.setting i w w3 → (n k : ℕ) (t : TableId) (l : IsDeferredTo known w n t) → IsPendingRetirement l.pair (due_in_row (machine_of u)) → effects ≡ Retired (APair k) ∷ [] → ⊥
     not_waiting memory (inr (request, begun, over, begin, step)) n k t l due alone =
         (let calm = (stayed_calm same hash m known s old new at name whole.all.shown map i to.0 to.2 (name i) (made_so same hash name m known s old new at whole.all.shown map i u here_is said leads)
         (sym memory ∙ looked request begun over begin.1 step)).calm in
@@ -320,17 +320,17 @@ module _ {K V : Type 0} (same : K → K → Bool) (hash : ℕ → K → ℕ) (na
         by (inr both) = left_pending (w.hand l.pair) (kept.good.state.life l.pair) i both.0 (kept.good.hands l.pair) (pending (left_lives (w.hand l.pair) (kept.good.state.life l.pair) both.0 (kept.good.hands l.pair)))
 
     -- so it is at its place still
-    place_on : w3.memory ≡ new.memory → IsOneStep to.0.setting i w w3 → (n : ℕ) (t : TableId) → LiesBehind known w n t → m.place n ≡ Behind → v.place n ≡ Behind
+    place_on : w3.memory ≡ new.memory → IsOneStep to.0.setting i w w3 → (n : ℕ) (t : TableId) → IsDeferredTo known w n t → m.place n ≡ Behind → v.place n ≡ Behind
     place_on memory step n t l was = by tells
       where
         then_at : List Effect → Place
         then_at fs = (with_effects (Some (name i)) (Some map) fs m).place n
 
-        retired : (word : ℕ) (r : Role) → known.roles (block_in word) ≡ r → due_in_row (machine_of u) ≡ Some (ToRetire word) → effects ≡ told_retired r → then_at (told_retired r) ≡ Behind
+        retired : (word : ℕ) (r : Role) → known.roles (block_in word) ≡ r → due_in_row (machine_of u) ≡ Some (ToRetire word) → effects ≡ retired_effects r → then_at (retired_effects r) ≡ Behind
         retired word (role.Pair k) e due are =
             put_elsewhere k IsHanded m.place n (λ same_number.
             let names = whole.all.shown.blocks.once (block_in word) l.pair n (e ∙ ap role.Pair (sym same_number)) l.is_pair in
-            not_waiting memory step n k t l (subst (IsDue l.pair) (sym due) names) are) ∙ was
+            not_waiting memory step n k t l (subst (IsPendingRetirement l.pair) (sym due) names) are) ∙ was
         retired word (role.Table x len) e due are = was
         retired word role.Free e due are = was
         retired word (role.OwnPair j) e due are = was
@@ -354,11 +354,11 @@ module _ {K V : Type 0} (same : K → K → Bool) (hash : ℕ → K → ℕ) (na
         by (TellsDeferred word block place x len due its gone noted are) = ap then_at are ∙ put_behind x (named known word)
 
     abbrev Waited : ℕ → TableId → Type 0
-    Waited n t = (m.place n ≡ Behind) × LiesBehind known w n t
+    Waited n t = (m.place n ≡ Behind) × IsDeferredTo known w n t
 
     -- what waited does so still
     abbrev WaitsThen : ℕ → TableId → Type 0
-    WaitsThen n t = (v.place n ≡ Behind) × LiesBehind known2 to.4.w2 n t
+    WaitsThen n t = (v.place n ≡ Behind) × IsDeferredTo known2 to.4.w2 n t
 
     on_still : w3.memory ≡ new.memory → IsOneStep to.0.setting i w w3 → EachWaits WaitsThen m.deferred
     on_still memory step = each_on Waited WaitsThen (λ n t p. (place_on memory step n t p.1 p.0, lies_on step n t p.1)) m.deferred waiting
@@ -391,8 +391,8 @@ module _ {K V : Type 0} (same : K → K → Bool) (hash : ℕ → K → ℕ) (na
         a : WaitsAt Waited k x
         a = found Waited k x m.deferred waiting among
 
-        b : LiesBehind known w k x
-        b = subst (LiesBehind known w k) (table_is a.one.behind x a.its) (subst (λ (n : ℕ). LiesBehind known w n a.one.behind) a.number a.so.1)
+        b : IsDeferredTo known w k x
+        b = subst (IsDeferredTo known w k) (table_is a.one.behind x a.its) (subst (λ (n : ℕ). IsDeferredTo known w n a.one.behind) a.number a.so.1)
 
         puts : waits_behind (block_in word) w.log ≡ Some block
         puts = waits_put memory step word block place k t due its alone
@@ -411,7 +411,7 @@ module _ {K V : Type 0} (same : K → K → Bool) (hash : ℕ → K → ℕ) (na
 
     -- and lies behind it
     lies_new : w3.memory ≡ new.memory → IsOneStep to.0.setting i w w3 → (word block : ℕ) (place : At) (k len : ℕ) (t : TableId) → due_in_row (machine_of u) ≡ Some (ToPut word place) → IsWordOf block place
-        → known.roles block ≡ role.Table t len → named known word ≡ role.Pair k → effects ≡ Deferred k t ∷ [] → LiesBehind known2 to.4.w2 k t
+        → known.roles block ≡ role.Table t len → named known word ≡ role.Pair k → effects ≡ Deferred k t ∷ [] → IsDeferredTo known2 to.4.w2 k t
     lies_new memory step word block place k len t due its is_table is_pair alone = lies_on step k t (record {
       pair = block_in word;
       is_pair = is_pair;
@@ -424,7 +424,7 @@ module _ {K V : Type 0} (same : K → K → Bool) (hash : ℕ → K → ℕ) (na
     abbrev pub deferred_then : List Effect → List Deferral
     deferred_then fs = (with_effects (Some (name i)) (Some map) fs m).deferred
 
-    pub retired_list : (r : Role) → deferred_then (told_retired r) ≡ m.deferred
+    pub retired_list : (r : Role) → deferred_then (retired_effects r) ≡ m.deferred
     retired_list (role.Pair k) = refl
     retired_list (role.Table t len) = refl
     retired_list role.Free = refl
@@ -432,14 +432,14 @@ module _ {K V : Type 0} (same : K → K → Bool) (hash : ℕ → K → ℕ) (na
     retired_list (role.OwnTable turn shape) = refl
     retired_list (role.Counter of) = refl
 
-    waiting_on : w3.memory ≡ new.memory → IsOneStep to.0.setting i w w3 → ShowsWaiting v known2 to.4.w2
+    waiting_on : w3.memory ≡ new.memory → IsOneStep to.0.setting i w w3 → RefinesWaiting v known2 to.4.w2
     waiting_on memory step = by tells
       where
-        still : v.deferred ≡ m.deferred → ShowsWaiting v known2 to.4.w2
+        still : v.deferred ≡ m.deferred → RefinesWaiting v known2 to.4.w2
         still same_list = subst (EachWaits WaitsThen) (sym same_list) (on_still memory step)
 
         put_on : (word block : ℕ) (place : At) (t : TableId) (len : ℕ) (r : Role) → named known word ≡ r → due_in_row (machine_of u) ≡ Some (ToPut word place) → IsWordOf block place
-            → known.roles block ≡ role.Table t len → effects ≡ carried t r → ShowsWaiting v known2 to.4.w2
+            → known.roles block ≡ role.Table t len → effects ≡ carried t r → RefinesWaiting v known2 to.4.w2
         put_on word block place t len (role.Pair k) is due its table are =
             subst (EachWaits WaitsThen) (sym (ap deferred_then are)) (
               (ap (λ (fs : List Effect). (with_effects (Some (name i)) (Some map) fs m).place k) are ∙ put_here k Behind m.place k refl, lies_new memory step word block place k len t due its table is are),
@@ -451,7 +451,7 @@ module _ {K V : Type 0} (same : K → K → Bool) (hash : ℕ → K → ℕ) (na
         put_on word block place t len (role.Table y many) is due its table are = still (ap deferred_then are)
         put_on word block place t len (role.Counter of) is due its table are = still (ap deferred_then are)
 
-        by : RowTells i map known effects (due_in_row (machine_of u)) (due_in_row to.1) → ShowsWaiting v known2 to.4.w2
+        by : RowTells i map known effects (due_in_row (machine_of u)) (due_in_row to.1) → RefinesWaiting v known2 to.4.w2
         by (TellsNone none alike) = still (ap deferred_then none)
         by (TellsRetired word due gone are) = still (ap deferred_then are ∙ retired_list (known.roles (block_in word)))
         by (TellsDeferred word block place t len due its gone noted are) = put_on word block place t len (named known word) refl due its noted are
@@ -478,11 +478,11 @@ module _ {K V : Type 0} (same : K → K → Bool) (hash : ℕ → K → ℕ) (na
         by (TellsRetired word due gone are) = still (ap deferred_then are ∙ retired_list (known.roles (block_in word)))
         by (TellsDeferred word block place t len due its gone noted are) = put_on word block place t len (named known word) refl due its noted are
 
-  pub row_waits_on : ShowsWaiting v known2 to.4.w2 × (WaitsOnce m.deferred → WaitsOnce v.deferred)
+  pub row_waits_on : RefinesWaiting v known2 to.4.w2 × (WaitsOnce m.deferred → WaitsOnce v.deferred)
   row_waits_on = by u to.4.did other
     where
       by : (x : UnderWay K V K) (step : DidSo same hash name m known s old new at whole.all.shown map i u here_is said leads x)
-          → (OfNoRow same hash name m known s old new at whole.all.shown map i u here_is said leads x step → ⊥) → ShowsWaiting v known2 to.4.w2 × (WaitsOnce m.deferred → WaitsOnce v.deferred)
+          → (OfNoRow same hash name m known s old new at whole.all.shown map i u here_is said leads x step → ⊥) → RefinesWaiting v known2 to.4.w2 × (WaitsOnce m.deferred → WaitsOnce v.deferred)
       by (OnKey x) (p2, end, machine_is, told_is, inl step) none = absurd (none tt)
       by (OnKey x) (p2, end, machine_is, told_is, inr (row, stayed)) none = (waiting_on row.step.w2 stayed.0 row.step.memory row.step.happened, once_on row.step.w2 stayed.0 row.step.memory row.step.happened)
       by (ForRoom x) (p2, end, machine_is, told_is, inl step) none = absurd (none tt)

@@ -27,9 +27,9 @@ use Rattle.run_debts.proofs.Given.HandsSteps.{calls_store_theirs}
 use Rattle.run_debts.proofs.Given.SpotsElsewhere.{stored_grows}
 use Rattle.run_debts.proofs.Given.SpotsHanding.{HandsNothing, AllHandNothing}
 use Rattle.run_debts.proofs.Given.SpotsSteps.{hands_nothing}
-use Rattle.run_debts.specs.Given.MomentsWhole.{ShowsWhole}
-use Rattle.run_waiting.specs.Lives.Behind.{LiesBehind, ShowsWaiting}
-use Rattle.run_waiting.specs.Lives.Steps.{CallsKeepWaiting}
+use Rattle.run_debts.specs.Given.MomentsWhole.{RefinesWhole}
+use Rattle.run_waiting.specs.Lives.Behind.{IsDeferredTo, RefinesWaiting}
+use Rattle.run_waiting.specs.Lives.Steps.{CallsPreserveWaiting}
 use Rattle.run_waiting.proofs.Lives.Users.{users_keep_waiting}
 use Rattle.run_debts.specs.Given.ScenesHeld.{Held, IsAt}
 use Rattle.run_debts.specs.Given.ScenesScene.{Scene}
@@ -87,7 +87,7 @@ module _ {K V : Type 0} (map : ℕ) (caller : Option (List ℕ)) (acted : Option
       still_behind effects (with_effect caller acted f m) hands.1 finds.1 n (let more = stored_grows caller acted (f ∷ []) m in omega (arith, l, more)) (behind_one f m hands.0 finds.0 n l is)
 
 module _ {K V : Type 0} (same : K → K → Bool) (hash : ℕ → K → ℕ) (name : ℕ → List ℕ) (m : Moment K V) (known : Known) (s : Scene K V) (old new : Held K V) (at : IsAt same hash old s)
-    (whole : ShowsWhole same name m known s) (waiting : ShowsWaiting m known s.world) (map i : ℕ) (u : UnderWay K V K) (here : s.calls map i ≡ Some u) (told : Progress (Node K V))
+    (whole : RefinesWhole same name m known s) (waiting : RefinesWaiting m known s.world) (map i : ℕ) (u : UnderWay K V K) (here : s.calls map i ≡ Some u) (told : Progress (Node K V))
     (leads : StepLeads same hash i told s old new) where
   abbrev to : WentTo same hash name m known s old new at whole.all.shown map i u here told leads
   to = went_to same hash name m known s old new at whole.all.shown map i u here told leads
@@ -105,20 +105,20 @@ module _ {K V : Type 0} (same : K → K → Bool) (hash : ℕ → K → ℕ) (na
     kept : (x : ℕ) (r : Role) → known.roles x ≡ r → IsLasting r → known2.roles x ≡ r
     kept x r e its = keeps x (subst IsLasting (sym e) its) ∙ e
 
-    was_stored : (n : ℕ) (t : TableId) (l : LiesBehind known s.world n t) → n ≤ length m.stored
+    was_stored : (n : ℕ) (t : TableId) (l : IsDeferredTo known s.world n t) → n ≤ length m.stored
     was_stored n t l =
         let has = subst (λ (r : Role). HasRole s.world m.stored l.pair r) l.is_pair (whole.all.shown.blocks.roles l.pair) in
         pair_within m.stored n (has.0, has.1) has.2
 
-    by_events : (w2 : World (Node K V)) → to.4.w2 ≡ w2 → (events : List (Event (Node K V))) → AllUsers events → Runs deferred_word to.0.setting.batch_size events s.world w2 → ShowsWaiting v known2 to.4.w2
+    by_events : (w2 : World (Node K V)) → to.4.w2 ≡ w2 → (events : List (Event (Node K V))) → AllUsers events → Runs deferred_word to.0.setting.batch_size events s.world w2 → RefinesWaiting v known2 to.4.w2
     by_events w2 is events users runs =
-        subst (λ (z : World (Node K V)). ShowsWaiting v known2 z) (sym is)
+        subst (λ (z : World (Node K V)). RefinesWaiting v known2 z) (sym is)
         (users_keep_waiting K V to.0.setting.batch_size m v known known2 s.world w2 (at.together.makings.standing.each map to.0 to.2).ground.came waiting events users runs (same_deferred map (Some (name i)) (Some map) effects m hands)
         (λ n t l behind. still_behind map (Some (name i)) (Some map) effects m hands finds n (was_stored n t l) behind)
         (λ x n e. kept x (role.Pair n) e tt) (λ x len t e. kept x (role.Table t len) e tt))
 
     by_did : (x : UnderWay K V K) (did : DidSo same hash name m known s old new at whole.all.shown map i u here told leads x)
-        → OfNoRow same hash name m known s old new at whole.all.shown map i u here told leads x did → ShowsWaiting v known2 to.4.w2
+        → OfNoRow same hash name m known s old new at whole.all.shown map i u here told leads x did → RefinesWaiting v known2 to.4.w2
     by_did (OnKey x) (p2, end, machine_is, told_is, inl (step, moved)) own = by_events step.step.went.w2 moved.0 step.step.went.events step.step.went.users step.step.went.runs
     by_did (OnKey x) (p2, end, machine_is, told_is, inr (row, stayed)) own = absurd own
     by_did (ForRoom x) (p2, end, machine_is, told_is, inl (step, moved)) own = by_events step.step.went.w2 moved.0 step.step.went.events step.step.went.users step.step.went.runs
@@ -129,7 +129,7 @@ module _ {K V : Type 0} (same : K → K → Bool) (hash : ℕ → K → ℕ) (na
 
 -- the same pairs wait after it
 pub calls_keep_list : {K V : Type 0} (same : K → K → Bool) (hash : ℕ → K → ℕ) (name : ℕ → List ℕ) (m : Moment K V) (known : Known) (s : Scene K V) (old new : Held K V)
-    (at : IsAt same hash old s) (whole : ShowsWhole same name m known s) (map i : ℕ) (u : UnderWay K V K) (here : s.calls map i ≡ Some u) (told : Progress (Node K V))
+    (at : IsAt same hash old s) (whole : RefinesWhole same name m known s) (map i : ℕ) (u : UnderWay K V K) (here : s.calls map i ≡ Some u) (told : Progress (Node K V))
     (leads : StepLeads same hash i told s old new)
     → OfNoRow same hash name m known s old new at whole.all.shown map i u here told leads u (leads map u here).4.did
     → (with_effects (Some (name i)) (Some map) (effects_of (Call i map) known new.changed) m).deferred ≡ m.deferred
@@ -137,7 +137,7 @@ calls_keep_list same hash name m known s old new at whole map i u here told lead
     let hands = hands_nothing same hash name m known s old new at whole.all.shown map i u here told leads own in
     same_deferred map (Some (name i)) (Some map) (effects_of (Call i map) known new.changed) m hands
 
-pub calls_keep_waiting : (K V : Type 0) (same : K → K → Bool) (hash : ℕ → K → ℕ) → CallsKeepWaiting K V same hash
+pub calls_keep_waiting : (K V : Type 0) (same : K → K → Bool) (hash : ℕ → K → ℕ) → CallsPreserveWaiting K V same hash
 calls_keep_waiting K V same hash name m known s old new at whole waiting map i u here told leads own =
     let hands = hands_nothing same hash name m known s old new at whole.all.shown map i u here told leads own in
     let stores = (calls_store_theirs K V same hash name m known s old new at whole.all map i u here told leads own).0 in

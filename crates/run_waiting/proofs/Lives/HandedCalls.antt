@@ -52,14 +52,14 @@ use Rattle.run_debts.proofs.Given.HandsRowSteps.{rows_hand_theirs}
 use Rattle.run_debts.proofs.Given.HandsSteps.{calls_store_theirs}
 use Rattle.run_debts.proofs.Given.SpotsSteps.{hands_nothing, stayed_calm}
 use Rattle.run_debts.proofs.Given.SpotsUnreclaimed.{table_is}
-use Rattle.run_debts.specs.Given.MomentsWhole.{ShowsWhole}
+use Rattle.run_debts.specs.Given.MomentsWhole.{RefinesWhole}
 use Rattle.run_debts.proofs.Given.MomentsCalls.{calls_keep_whole}
-use Rattle.run_debts.specs.Due.{due_in_row, told_retired, RowTells, TellsNone, TellsRetired, TellsDeferred, OwnAreMade}
-use Rattle.run_debts.specs.Entries.{ShowsEntries}
+use Rattle.run_debts.specs.Due.{due_in_row, retired_effects, RowTells, TellsNone, TellsRetired, TellsDeferred, OwnAreMade}
+use Rattle.run_debts.specs.Entries.{EntriesAreBlank}
 use Rattle.run_debts.proofs.DueCalls.{rows_tell_due}
-use Rattle.run_waiting.specs.Lives.Behind.{ShowsWaiting}
-use Rattle.run_waiting.specs.Lives.Handed.{IsMeant, IsToHand, IsHandedOver, HasGone, is_deferred, ShowsHanded, CallsKeepHanded}
-use Rattle.run_waiting.specs.Lives.Retired.{IsDue, IsToRetire, ShowsRetired}
+use Rattle.run_waiting.specs.Lives.Behind.{RefinesWaiting}
+use Rattle.run_waiting.specs.Lives.Handed.{IsMeant, IsToHand, IsHandedOver, HasGone, is_deferred, RefinesHanded, CallsPreserveHanded}
+use Rattle.run_waiting.specs.Lives.Retired.{IsPendingRetirement, IsToRetire, RefinesRetiredTables}
 use Rattle.run_waiting.specs.Lives.Waiting.{waits_behind}
 use Rattle.run_waiting.proofs.Lives.CallRows.{looked, row_takes_none}
 use Rattle.run_waiting.proofs.Lives.Calls.{calls_keep_list}
@@ -77,8 +77,8 @@ use Rattle.run_debts.specs.Given.ScenesScene.{HasCall, Scene, slot_of}
 use Rattle.run_debts.specs.Given.ScenesStepping.{StepLeads, scene_after}
 
 module _ {K V : Type 0} (same : K → K → Bool) (hash : ℕ → K → ℕ) (name : ℕ → List ℕ) (m : Moment K V) (known : Known) (s : Scene K V) (old new : Held K V) (at : IsAt same hash old s)
-    (whole : ShowsWhole same name m known s) (entries : ShowsEntries s) (owning : OwnAreMade known s.world) (waiting : ShowsWaiting m known s.world) (retired : ShowsRetired m known s)
-    (shows : ShowsHanded m known s) (map i : ℕ) (u : UnderWay K V K) (here : s.calls map i ≡ Some u) (said : CallTold (Node K V)) (leads : StepLeads same hash i said s old new) where
+    (whole : RefinesWhole same name m known s) (entries : EntriesAreBlank s) (owning : OwnAreMade known s.world) (waiting : RefinesWaiting m known s.world) (retired : RefinesRetiredTables m known s)
+    (shows : RefinesHanded m known s) (map i : ℕ) (u : UnderWay K V K) (here : s.calls map i ≡ Some u) (said : CallTold (Node K V)) (leads : StepLeads same hash i said s old new) where
   abbrev to : WentTo same hash name m known s old new at whole.all.shown map i u here said leads
   to = went_to same hash name m known s old new at whole.all.shown map i u here said leads
 
@@ -119,7 +119,7 @@ module _ {K V : Type 0} (same : K → K → Bool) (hash : ℕ → K → ℕ) (na
   listing : Listing deferred_word size w
   listing = came_listed size w came
 
-  whole2 : ShowsWhole same name v known2 s2
+  whole2 : RefinesWhole same name v known2 s2
   whole2 = calls_keep_whole K V same hash name m known s old new at whole map i u here said leads
 
   -- a pair that the collector has was one
@@ -173,7 +173,7 @@ module _ {K V : Type 0} (same : K → K → Bool) (hash : ℕ → K → ℕ) (na
           | inr rests ↦ absurd (subst (IsToHand b) rests row)
         ]
 
-    by_events : ShowsHanded v known2 s2
+    by_events : RefinesHanded v known2 s2
     by_events = record {
       pairs = λ b n noted handed.
           let was = was_pair b n noted handed in
@@ -235,7 +235,7 @@ module _ {K V : Type 0} (same : K → K → Bool) (hash : ℕ → K → ℕ) (na
             inr (inr (i, (map, next.0, its), to_hand same to.0.hash to.0.setting to.4.w2 st2.chart (seen_by st2.blocks (st2.sights (slot_of i))) i b next.0 stands on meant2))
         by (TellsRetired word was gone are) =
             let names : block_in word ≡ b = subst (IsMeant b) was meant in
-            let alone = are ∙ ap (λ (k : ℕ). told_retired (known.roles k)) names ∙ ap told_retired pair in
+            let alone = are ∙ ap (λ (k : ℕ). retired_effects (known.roles k)) names ∙ ap retired_effects pair in
             inl (subst (λ (fs : List Effect). is_handed ((then_m fs).place n) ≡ true) (sym alone) (ap is_handed (put_here n IsHanded m.place n refl)))
         by (TellsDeferred word block place t len was its gone noted are) =
             let names : block_in word ≡ b = subst (IsMeant b) was meant in
@@ -268,7 +268,7 @@ module _ {K V : Type 0} (same : K → K → Bool) (hash : ℕ → K → ℕ) (na
       clash (ATable t) e = cc e
 
       -- what the row retires the collector has, and it does not wait
-      due_over : IsOneStep to.0.setting i w w3 → (x : Thing) → effects ≡ Retired x ∷ [] → (b : ℕ) → IsDue b (due_in_row (machine_of u)) → (value : Node K V) → value_at w.memory b ≡ Some value → IsHandedOver w b
+      due_over : IsOneStep to.0.setting i w w3 → (x : Thing) → effects ≡ Retired x ∷ [] → (b : ℕ) → IsPendingRetirement b (due_in_row (machine_of u)) → (value : Node K V) → value_at w.memory b ≡ Some value → IsHandedOver w b
       due_over (inr (request, begun, hands_over, begin, step)) x alone b due value there =
           absurd (
           let calm = (stayed_calm same hash m known s old new at name whole.all.shown map i to.0 to.2 (name i) (made_so same hash name m known s old new at whole.all.shown map i u here said leads)
@@ -328,8 +328,8 @@ module _ {K V : Type 0} (same : K → K → Bool) (hash : ℕ → K → ℕ) (na
       tables_had step t so = (let one = shows.tables t so in table_then one.0 one.1 t one.2 step one.3)
 
       -- a pair that is told to be handed over
-      pair_retired : IsOneStep to.0.setting i w w3 → (n word : ℕ) (r : Role) → known.roles (block_in word) ≡ r → IsDue (block_in word) (due_in_row (machine_of u)) → effects ≡ told_retired r
-          → is_handed ((then_m (told_retired r)).place n) ≡ true → PairOver n
+      pair_retired : IsOneStep to.0.setting i w w3 → (n word : ℕ) (r : Role) → known.roles (block_in word) ≡ r → IsPendingRetirement (block_in word) (due_in_row (machine_of u)) → effects ≡ retired_effects r
+          → is_handed ((then_m (retired_effects r)).place n) ≡ true → PairOver n
       pair_retired step n word (role.Pair k) e due are so = elim (cases_eq n k) as (λ _. PairOver n) [
         | inl one ↦
             let its : known.roles (block_in word) ≡ role.Pair n = e ∙ ap role.Pair (sym one) in
@@ -359,12 +359,12 @@ module _ {K V : Type 0} (same : K → K → Bool) (hash : ℕ → K → ℕ) (na
 
           by : RowTells i map known effects (due_in_row (machine_of u)) (due_in_row to.1) → PairOver n
           by (TellsNone none alike) = pairs_had step n (subst IsAfter none so)
-          by (TellsRetired word was gone are) = pair_retired step n word (known.roles (block_in word)) refl (subst (IsDue (block_in word)) (sym was) refl) are (subst IsAfter are so)
+          by (TellsRetired word was gone are) = pair_retired step n word (known.roles (block_in word)) refl (subst (IsPendingRetirement (block_in word)) (sym was) refl) are (subst IsAfter are so)
           by (TellsDeferred word block place t len was its gone noted are) = pair_put step n t (named known word) (subst IsAfter are so)
 
       -- and a table
-      table_retired : IsOneStep to.0.setting i w w3 → (t : TableId) (word : ℕ) (r : Role) → known.roles (block_in word) ≡ r → IsDue (block_in word) (due_in_row (machine_of u)) → effects ≡ told_retired r
-          → is_stage is_retired t (then_m (told_retired r)) ≡ true → TableOver t
+      table_retired : IsOneStep to.0.setting i w w3 → (t : TableId) (word : ℕ) (r : Role) → known.roles (block_in word) ≡ r → IsPendingRetirement (block_in word) (due_in_row (machine_of u)) → effects ≡ retired_effects r
+          → is_stage is_retired t (then_m (retired_effects r)) ≡ true → TableOver t
       table_retired step t word (role.Table x len) e due are so = by (same_table x t) refl
         where
           by : (q : Bool) → same_table x t ≡ q → TableOver t
@@ -395,7 +395,7 @@ module _ {K V : Type 0} (same : K → K → Bool) (hash : ℕ → K → ℕ) (na
 
           by : RowTells i map known effects (due_in_row (machine_of u)) (due_in_row to.1) → TableOver t
           by (TellsNone none alike) = tables_had step t (subst IsAfter none so)
-          by (TellsRetired word was gone are) = table_retired step t word (known.roles (block_in word)) refl (subst (IsDue (block_in word)) (sym was) refl) are (subst IsAfter are so)
+          by (TellsRetired word was gone are) = table_retired step t word (known.roles (block_in word)) refl (subst (IsPendingRetirement (block_in word)) (sym was) refl) are (subst IsAfter are so)
           by (TellsDeferred word block place u2 len was its gone noted are) = table_put step t u2 (named known word) (subst IsAfter are so)
 
       in_w3 : (b : ℕ) → s2.world.hand b ≡ Handed → w3.hand b ≡ Handed
@@ -461,17 +461,17 @@ module _ {K V : Type 0} (same : K → K → Bool) (hash : ℕ → K → ℕ) (na
           let row = did deferred_word size begun (happens_reached deferred_word size (Begin i request) w begun reached begin) i w3 step in
           begun_gone request begun hands_over begin.0 begin.1 step b n (was_pair b n noted handed) (handed_before row.effects begun.hand b (sym (ap (λ (h : ℕ → Hand). h b) row.hands) ∙ in_w3 b handed))
 
-      by_row : IsOneStep to.0.setting i w w3 → ShowsHanded v known2 s2
+      by_row : IsOneStep to.0.setting i w w3 → RefinesHanded v known2 s2
       by_row step = record { pairs = pair_gone step; handed = pair_over step; tables = table_over step }
 
-  pub kept_handed : ShowsHanded v known2 s2
+  pub kept_handed : RefinesHanded v known2 s2
   kept_handed = by u to.4.did (λ own. own) (λ none. none)
     where
       Own : (x : UnderWay K V K) → DidSo same hash name m known s old new at whole.all.shown map i u here said leads x → Type 0
       Own x step = OfNoRow same hash name m known s old new at whole.all.shown map i u here said leads x step
 
       by : (x : UnderWay K V K) (step : DidSo same hash name m known s old new at whole.all.shown map i u here said leads x) → (Own x step → Own u to.4.did)
-          → ((Own x step → ⊥) → Own u to.4.did → ⊥) → ShowsHanded v known2 s2
+          → ((Own x step → ⊥) → Own u to.4.did → ⊥) → RefinesHanded v known2 s2
       by (OnKey x) (p2, end, machine_is, told_is, inl (step, moved)) own no_own = by_events (own tt) step.step.went.w2 moved.0 step.step.went.events step.step.went.users step.step.went.runs
       by (OnKey x) (p2, end, machine_is, told_is, inr (row, stayed)) own no_own = by_row (no_own (λ z. z)) row.step.w2 stayed.0 row.step.memory row.step.happened
       by (ForRoom x) (p2, end, machine_is, told_is, inl (step, moved)) own no_own = by_events (own tt) step.step.went.w2 moved.0 step.step.went.events step.step.went.users step.step.went.runs
@@ -480,6 +480,6 @@ module _ {K V : Type 0} (same : K → K → Bool) (hash : ℕ → K → ℕ) (na
       by (OverAll x) (p2, end, machine_is, told_is, inl (step, moved)) own no_own = by_events (own tt) step.step.went.w2 moved.0 step.step.went.events step.step.went.users step.step.went.runs
       by (OverAll x) (p2, end, machine_is, told_is, inr (row, stayed)) own no_own = by_row (no_own (λ z. z)) row.step.w2 stayed.0 row.step.memory row.step.happened
 
-pub calls_keep_handed : (K V : Type 0) (same : K → K → Bool) (hash : ℕ → K → ℕ) → CallsKeepHanded K V same hash
+pub calls_keep_handed : (K V : Type 0) (same : K → K → Bool) (hash : ℕ → K → ℕ) → CallsPreserveHanded K V same hash
 calls_keep_handed K V same hash name m known s old new at whole entries owning waiting retired shows map i u here told leads =
     kept_handed same hash name m known s old new at whole entries owning waiting retired shows map i u here told leads

@@ -21,7 +21,7 @@ use Rattle.run_debts.proofs.Given.FollowsAlike.{put_here, put_elsewhere}
 use Rattle.run_debts.proofs.Given.SpotsElsewhere.{stored_grows}
 use Rattle.run_debts.proofs.Given.SpotsHanding.{HandsNothing, AllHandNothing}
 use Rattle.run_debts.proofs.Given.SpotsUnreclaimed.{any_either, same_itself, table_is}
-use Rattle.run_debts.specs.Due.{told_retired}
+use Rattle.run_debts.specs.Due.{retired_effects}
 use Rattle.run_waiting.specs.Lives.Handed.{is_deferred}
 use Rattle.run_debts.proofs.Given.General.{both_true as and_both, or_second as or_right}
 
@@ -269,7 +269,7 @@ module _ {K V : Type 0} (caller : Option (List ℕ)) (acted : Option ℕ) (m : M
   put_away t (role.Table x len) so = inl so
   put_away t (role.Counter of) so = inl so
 
-  pub retired_away : (r : Role) → is_handed (m.place n) ≡ true → Away (told_retired r)
+  pub retired_away : (r : Role) → is_handed (m.place n) ≡ true → Away (retired_effects r)
   retired_away (role.Pair k) so = elim (cases_eq n k) as (λ _. Away (Retired (APair k) ∷ [])) [
     | inl e ↦ inl (ap is_handed (put_here k IsHanded m.place n e))
     | inr ne ↦ inl (ap is_handed (put_elsewhere k IsHanded m.place n ne) ∙ so)
@@ -289,7 +289,7 @@ module _ {K V : Type 0} (caller : Option (List ℕ)) (acted : Option ℕ) (m : M
   list_put t (role.Table x len) so = so
   list_put t (role.Counter of) so = so
 
-  pub list_retired : (r : Role) → is_deferred n m.deferred ≡ true → is_deferred n (with_effects caller acted (told_retired r) m).deferred ≡ true
+  pub list_retired : (r : Role) → is_deferred n m.deferred ≡ true → is_deferred n (with_effects caller acted (retired_effects r) m).deferred ≡ true
   list_retired (role.Pair k) so = so
   list_retired (role.Table x len) so = so
   list_retired role.Free so = so

@@ -33,11 +33,11 @@ use Rattle.run_debts.proofs.Given.FollowsAlike.{is_calm, AllCalm, calm_still, st
 use Rattle.run_debts.proofs.Given.FollowsOnward.{IsOfMap}
 use Rattle.run_debts.specs.Given.OthersEndings.{ending_after}
 use Rattle.run_debts.proofs.Given.SpotsUnreclaimed.{table_is}
-use Rattle.run_debts.specs.Given.MomentsWhole.{ShowsWhole}
+use Rattle.run_debts.specs.Given.MomentsWhole.{RefinesWhole}
 use Rattle.run_debts.proofs.Given.MomentsEnds.{says, end_keeps}
-use Rattle.run_waiting.specs.Lives.Behind.{IsLeft, LiesBehind, ShowsWaiting}
-use Rattle.run_waiting.specs.Lives.Handed.{IsToHand, IsHandedOver, HasGone, is_deferred, ShowsHanded, EndingsKeepHanded}
-use Rattle.run_waiting.specs.Lives.Retired.{ShowsRetired}
+use Rattle.run_waiting.specs.Lives.Behind.{IsLeft, IsDeferredTo, RefinesWaiting}
+use Rattle.run_waiting.specs.Lives.Handed.{IsToHand, IsHandedOver, HasGone, is_deferred, RefinesHanded, EndingsPreserveHanded}
+use Rattle.run_waiting.specs.Lives.Retired.{RefinesRetiredTables}
 use Rattle.run_waiting.specs.Lives.Waiting.{waits_behind}
 use Rattle.run_waiting.proofs.Lives.Each.{WaitsAt, found}
 use Rattle.run_waiting.proofs.Lives.HandedEffects.{IsHanding, NoneHands, deferred_split, handed_back, retired_back}
@@ -48,7 +48,7 @@ use Rattle.run_debts.proofs.Given.CallersTogether.Slots.{between_rows}
 use Rattle.run_debts.proofs.Given.ScenesBetween.{deed_between}
 use Rattle.run_waiting.proofs.Lives.RetiredEnds.{handed_before}
 use Rattle.run_waiting.proofs.Lives.WaitingEnds.{calm_deferred}
-use Rattle.run_debts.specs.Given.ScenesEnding.{EndingComesTo, EndingStepsFrom}
+use Rattle.run_debts.specs.Given.ScenesEnding.{EndingHasOutcome, EndingStepsFrom}
 use Rattle.run_debts.specs.Given.ScenesHeld.{Held, IsAt}
 use Rattle.run_debts.specs.Given.ScenesScene.{Scene, slot_of}
 use Rattle.run_debts.proofs.Given.General.{none_less as none_of}
@@ -75,10 +75,10 @@ ending_none map (role.Table t len) = (λ z. z, tt)
 ending_none map (role.Counter of) = tt
 
 module _ {K V : Type 0} (same : K → K → Bool) (hash : ℕ → K → ℕ) (name : ℕ → List ℕ) (m : Moment K V) (known : Known) (s : Scene K V) (old new : Held K V) (at : IsAt same hash old s)
-    (whole : ShowsWhole same name m known s) (waiting : ShowsWaiting m known s.world) (retired : ShowsRetired m known s) (shows : ShowsHanded m known s) (i : ℕ) (f : Finishing K V)
+    (whole : RefinesWhole same name m known s) (waiting : RefinesWaiting m known s.world) (retired : RefinesRetiredTables m known s) (shows : RefinesHanded m known s) (i : ℕ) (f : Finishing K V)
     (here : s.enders i ≡ Some f) (end : EndMap) (said : Settled (Node K V)) (steps : EndingStepsFrom f.machine old new end said)
     (did : StepsOfEnding V same same old.batch_size old.roots slot_of s.world s.maps s.calls s.makers s.enders i f new.memory (end, said))
-    (map : ℕ) (not_there : s.maps map ≡ None) (comes : EndingComesTo same hash s new i f end did.w2 did.deed said) where
+    (map : ℕ) (not_there : s.maps map ≡ None) (comes : EndingHasOutcome same hash s new i f end did.w2 did.deed said) where
   abbrev w : World (Node K V)
   w = s.world
 
@@ -153,11 +153,11 @@ module _ {K V : Type 0} (same : K → K → Bool) (hash : ℕ → K → ℕ) (na
     waits_not : (x len : ℕ) (t : TableId) → told ≡ changed.Took x → 0 < times x (taken_of did.deed) → known.roles x ≡ role.Table t len → is_among n (behind t m.deferred) ≡ true → ⊥
     waits_not x len t is some table among = by l.waits
       where
-        a : WaitsAt (λ k y. (m.place k ≡ Behind) × LiesBehind known w k y) n t
-        a = found (λ k y. (m.place k ≡ Behind) × LiesBehind known w k y) n t m.deferred waiting among
+        a : WaitsAt (λ k y. (m.place k ≡ Behind) × IsDeferredTo known w k y) n t
+        a = found (λ k y. (m.place k ≡ Behind) × IsDeferredTo known w k y) n t m.deferred waiting among
 
-        l : LiesBehind known w n t
-        l = subst (LiesBehind known w n) (table_is a.one.behind t a.its) (subst (λ (k : ℕ). LiesBehind known w k a.one.behind) a.number a.so.1)
+        l : IsDeferredTo known w n t
+        l = subst (IsDeferredTo known w n) (table_is a.one.behind t a.its) (subst (λ (k : ℕ). IsDeferredTo known w k a.one.behind) a.number a.so.1)
 
         same_pair : l.pair ≡ b
         same_pair = whole.all.shown.blocks.once l.pair b n l.is_pair pair
@@ -173,7 +173,7 @@ module _ {K V : Type 0} (same : K → K → Bool) (hash : ℕ → K → ℕ) (na
     -- a pair that is handed over waits behind none
     not_both : (t : TableId) → is_handed (m.place n) ≡ true → is_among n (behind t m.deferred) ≡ true → ⊥
     not_both t so among =
-        let a = found (λ k y. (m.place k ≡ Behind) × LiesBehind known w k y) n t m.deferred waiting among in
+        let a = found (λ k y. (m.place k ≡ Behind) × IsDeferredTo known w k y) n t m.deferred waiting among in
         let none_there : is_handed (m.place n) ≡ false = ap is_handed (ap m.place (sym a.number) ∙ a.so.0) in
         cc (so, none_there)
 
@@ -245,7 +245,7 @@ module _ {K V : Type 0} (same : K → K → Bool) (hash : ℕ → K → ℕ) (na
         by_role x is (role.Pair k) e = took x is (is_taken x is (role.Pair k) e tt) (role.Pair k) e
         by_role x is (role.Table t len) e = took x is (is_taken x is (role.Table t len) e tt) (role.Table t len) e
 
-  shown_then : (s2 : Scene K V) → s2.world ≡ did.w2 → s2.calls ≡ s.calls → ShowsHanded v known2 s2
+  shown_then : (s2 : Scene K V) → s2.world ≡ did.w2 → s2.calls ≡ s.calls → RefinesHanded v known2 s2
   shown_then s2 world calls = record {
     pairs = λ b n noted handed.
         let in_w2 = sym (ap (λ (z : World (Node K V)). z.hand b) world) ∙ handed in
@@ -262,12 +262,12 @@ module _ {K V : Type 0} (same : K → K → Bool) (hash : ℕ → K → ℕ) (na
           ∙ ap (λ (g : ℕ → Row). g due.0) (between_rows deferred_word old.batch_size (events_of i did.deed) w did.w2 (deed_between (Node K V) i did.deed) did.runs) in
           inr (inr (due.0, (due.1.0, due.1.1, ap (λ (g : ℕ → ℕ → Option (UnderWay K V K)). g due.1.0 due.0) calls ∙ due.1.2), subst (IsToHand b) (sym rows) due.2))
 
-  pub handed_then : (x : Settled (Node K V)) (it : EndingComesTo same hash s new i f end did.w2 did.deed x) → ShowsHanded v known2 (ending_after same hash s new i f end did.w2 did.deed x it)
+  pub handed_then : (x : Settled (Node K V)) (it : EndingHasOutcome same hash s new i f end did.w2 did.deed x) → RefinesHanded v known2 (ending_after same hash s new i f end did.w2 did.deed x it)
   handed_then settled.Goes it = shown_then _ refl refl
   handed_then settled.Waits it = absurd it
   handed_then (settled.Gave value) it = shown_then _ refl refl
   handed_then settled.Done it = shown_then _ refl refl
 
-pub endings_keep_handed : (K V : Type 0) (same : K → K → Bool) (hash : ℕ → K → ℕ) → EndingsKeepHanded K V same hash
+pub endings_keep_handed : (K V : Type 0) (same : K → K → Bool) (hash : ℕ → K → ℕ) → EndingsPreserveHanded K V same hash
 endings_keep_handed K V same hash name m known s old new at whole waiting retired shows i told leads f here map not_there =
     let to = leads f here in handed_then same hash name m known s old new at whole waiting retired shows i f here to.0 told to.1 to.2 map not_there to.3 told to.3

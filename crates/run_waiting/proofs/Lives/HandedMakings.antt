@@ -32,9 +32,9 @@ use Rattle.run_debts.specs.Given.FollowsBlocks.{HasRole}
 use Rattle.run_debts.proofs.Given.FollowsAlike.{put_here}
 use Rattle.run_debts.proofs.Given.FollowsOnward.{IsOfMap}
 use Rattle.run_debts.specs.Given.OthersMakings.{WasNew}
-use Rattle.run_debts.specs.Given.MomentsWhole.{ShowsWhole}
+use Rattle.run_debts.specs.Given.MomentsWhole.{RefinesWhole}
 use Rattle.run_debts.proofs.Given.MomentsMakingSteps.{makings_go_beside}
-use Rattle.run_waiting.specs.Lives.Handed.{IsToHand, HasGone, is_deferred, ShowsHanded, MakingsKeepHanded}
+use Rattle.run_waiting.specs.Lives.Handed.{IsToHand, HasGone, is_deferred, RefinesHanded, MakingsPreserveHanded}
 use Rattle.run_waiting.proofs.Lives.HandedEffects.{NoneHands, retired_back}
 use Rattle.run_waiting.proofs.Lives.HandedOver.{came_listed, users_over}
 use Rattle.run_waiting.proofs.Lives.Makings.{apart, role_kept}
@@ -124,7 +124,7 @@ module _ (map : ℕ) (known : Known) where
   making_none (changed.Roomed bucket had) spares = either _ [] (Asked ABucket ∷ []) tt (λ z. z, tt)
 
 module _ {K V : Type 0} (same : K → K → Bool) (hash : ℕ → K → ℕ) (name : ℕ → List ℕ) (m : Moment K V) (known : Known) (s : Scene K V) (old new : Held K V) (at : IsAt same hash old s)
-    (whole : ShowsWhole same name m known s) (shows : ShowsHanded m known s) (i : ℕ) (said : Advance Setting) (leads : MakingLeads same hash i said s old new) (b : Beginning K)
+    (whole : RefinesWhole same name m known s) (shows : RefinesHanded m known s) (i : ℕ) (said : Advance Setting) (leads : MakingLeads same hash i said s old new) (b : Beginning K)
     (here : s.makers i ≡ Some b) (of : Option ℕ) (was_new : WasNew b.map said m) where
   abbrev w : World (Node K V)
   w = s.world
@@ -175,7 +175,7 @@ module _ {K V : Type 0} (same : K → K → Bool) (hash : ℕ → K → ℕ) (na
       let step = (leads b here).2.step in
       inr (inr (due.0, due.1, subst (IsToHand x) (sym (ap (λ (f : ℕ → Row). f due.0) (events_rows old.batch_size step.events w w2 step.users step.runs))) due.2))
 
-  pub making_handed : ShowsHanded v known2 s2
+  pub making_handed : RefinesHanded v known2 s2
   making_handed =
       let step = (leads b here).2.step in
       let came = at.together.makings.standing.came in
@@ -193,6 +193,6 @@ module _ {K V : Type 0} (same : K → K → Bool) (hash : ℕ → K → ℕ) (na
             (one.0, one.1, role_on one.0 (role.Table t one.1) one.2 tt, over one.0 one.3);
       }
 
-pub makings_keep_handed : (K V : Type 0) (same : K → K → Bool) (hash : ℕ → K → ℕ) → MakingsKeepHanded K V same hash
+pub makings_keep_handed : (K V : Type 0) (same : K → K → Bool) (hash : ℕ → K → ℕ) → MakingsPreserveHanded K V same hash
 makings_keep_handed K V same hash name m known s old new at whole shows i told leads b here of was_new =
     making_handed same hash name m known s old new at whole shows i told leads b here of was_new

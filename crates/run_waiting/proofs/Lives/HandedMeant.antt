@@ -39,18 +39,18 @@ use Rattle.run_debts.specs.Given.RuleWords.{Blocks}
 use Rattle.run_debts.specs.Given.CallersRows.{row_of, row_of_disposal, row_of_copier}
 use Rattle.run_debts.specs.Given.CallersRooms.{row_of_room}
 use Rattle.run_debts.specs.Given.CallersOverAll.{row_of_sweep}
-use Rattle.run_debts.specs.Given.CallersTogether.{UnderWay, OnKey, ForRoom, Counting, OverAll, Stands}
+use Rattle.run_debts.specs.Given.CallersTogether.{UnderWay, OnKey, ForRoom, Counting, OverAll, IsAtPoint}
 use Rattle.run_debts.specs.Given.FinishesMachines.{machine_of}
 use Rattle.run_debts.specs.Due.{due_in_settle, due_in_defer, due_in_disposing, due_in_copying, due_in_calling, due_in_reserving, due_in_sweeping, due_in_row}
 use Rattle.run_waiting.specs.Lives.Handed.{IsMeant, IsToHand}
-use Rattle.run_waiting.specs.Lives.Retired.{IsDue, IsToRetire}
+use Rattle.run_waiting.specs.Lives.Retired.{IsPendingRetirement, IsToRetire}
 use Rattle.run_waiting.proofs.Lives.Reclaimed.{none_to_retire}
 use Rattle.run_waiting.proofs.Lives.Rows.{on_the_way}
 use Rattle.run_waiting.proofs.Lives.Worlds.{Kept}
 use Rattle.run_debts.specs.Given.ScenesScene.{slot_of}
 
 -- a settling row retires what it is meant to hand over
-pub settle_due : (b : ℕ) (c : Settle) (p : Settling) → IsMeant b (due_in_settle c p) → IsDue b (due_in_settle c p)
+pub settle_due : (b : ℕ) (c : Settle) (p : Settling) → IsMeant b (due_in_settle c p) → IsPendingRetirement b (due_in_settle c p)
 settle_due b c settling.Sees meant = meant
 settle_due b c settling.Holds meant = meant
 settle_due b c settling.Pops meant = meant
@@ -141,7 +141,7 @@ module _ (b slot : ℕ) where
 
 module _ {K V : Type 0} (same : K → K → Bool) (hash : K → ℕ) (setting : Setting) (w : World (Node K V)) (c : Chart K) (blocks : Blocks) (i b : ℕ) where
   abbrev StandsAt : UnderWay K V K → Type 0
-  StandsAt u = Stands V same hash same setting slot_of w c blocks i u
+  StandsAt u = IsAtPoint V same hash same setting slot_of w c blocks i u
 
   -- by its row
   pub meant_of : (u : UnderWay K V K) → StandsAt u → IsToHand b (w.row i) → IsMeant b (due_in_row (machine_of u))
@@ -191,7 +191,7 @@ module _ {T : Type 0} (defers : T → Option ℕ) (size i : ℕ) (w v w2 : World
 pub retire_meant : (b : ℕ) (row : Row) → IsToRetire b row → IsToHand b row
 retire_meant b (Settles c) due = by c.stands due
   where
-    by : (p : Settling) → IsDue b (due_in_settle c p) → IsMeant b (due_in_settle c p)
+    by : (p : Settling) → IsPendingRetirement b (due_in_settle c p) → IsMeant b (due_in_settle c p)
     by settling.Sees due = due
     by settling.Holds due = due
     by settling.Pops due = due

@@ -33,10 +33,10 @@ use Rattle.run_debts.specs.Given.ScenesDeclared.row.RowTold.{RowTold}
 use Rattle.run_debts.specs.Given.ScenesDeclared.row.SlotRow.{SlotRow}
 use Rattle.run_debts.proofs.Given.FollowsOperations.{LeavesBy}
 use Rattle.run_debts.proofs.Given.OthersRowPlans.{TellsRow, row_tells}
-use Rattle.run_debts.specs.Given.MomentsWhole.{ShowsWhole}
+use Rattle.run_debts.specs.Given.MomentsWhole.{RefinesWhole}
 use Rattle.run_debts.proofs.Given.MomentsOnSlots.{begun_hands}
-use Rattle.run_waiting.specs.Lives.Behind.{IsLeft, LiesBehind, ShowsWaiting}
-use Rattle.run_waiting.specs.Lives.Handed.{IsToHand, IsHandedOver, HasGone, is_deferred, ShowsHanded, HadHanded, HandedBegins, OthersLeaveHanded, EndingsBeginHanded, HandedAtRest, RowsBeginHanded, RowsKeepHanded, RowsFindHanded}
+use Rattle.run_waiting.specs.Lives.Behind.{IsLeft, IsDeferredTo, RefinesWaiting}
+use Rattle.run_waiting.specs.Lives.Handed.{IsToHand, IsHandedOver, HasGone, is_deferred, RefinesHanded, HadHanded, HandedBegins, OthersLeaveHanded, EndingsBeginHanded, HandedAtQuiescence, RowsBeginHanded, RowsPreserveHanded, RowsFindHanded}
 use Rattle.run_waiting.specs.Lives.Waiting.{waits_behind}
 use Rattle.run_waiting.proofs.Lives.Each.{WaitsAt, found}
 use Rattle.run_waiting.proofs.Lives.HandedEffects.{deferred_at}
@@ -56,7 +56,7 @@ use Rattle.run_debts.specs.Given.ScenesOnSlots.{RowLeads}
 use Rattle.run_debts.specs.Given.ScenesScene.{HasCall, IsOnSlot, Scene, slot_of}
 
 module _ {K V : Type 0} (same : K → K → Bool) (hash : ℕ → K → ℕ) (name : ℕ → List ℕ) (m : Moment K V) (known : Known) (s : Scene K V) (old new : Held K V) (at : IsAt same hash old s)
-    (whole : ShowsWhole same name m known s) (waiting : ShowsWaiting m known s.world) (shows : ShowsHanded m known s) (i : ℕ) (said : RowTold (Node K V)) (leads : RowLeads same hash i said s old new)
+    (whole : RefinesWhole same name m known s) (waiting : RefinesWaiting m known s.world) (shows : RefinesHanded m known s) (i : ℕ) (said : RowTold (Node K V)) (leads : RowLeads same hash i said s old new)
     (row : SlotRow) (here : IsOnSlot s i row) where
   abbrev w : World (Node K V)
   w = s.world
@@ -125,7 +125,7 @@ module _ {K V : Type 0} (same : K → K → Bool) (hash : ℕ → K → ℕ) (na
   not_left x len t is table over =
       (let none = left_unretired size w came there i w2 (leads row here).2.1 x over in let some = told_retired size w came there i w2 (leads row here).2.1 told leaves x is in cc (some, none))
 
-  pub keeps : ShowsHanded (with_effects None None (effects_of Row known told) m) (known_after Row told known) s2
+  pub keeps : RefinesHanded (with_effects None None (effects_of Row known told) m) (known_after Row told known) s2
   keeps = taking_keeps same name m known s s2 whole waiting shows told tells leaves had over_on freed_on not_left due_then
 
   -- a pair that is reclaimed was handed over
@@ -144,11 +144,11 @@ module _ {K V : Type 0} (same : K → K → Bool) (hash : ℕ → K → ℕ) (na
       no_wait : (t : TableId) → is_among n (behind t m.deferred) ≡ true → ⊥
       no_wait t among = at_table l.waits
         where
-          a : WaitsAt (λ k u. (m.place k ≡ Behind) × LiesBehind known w k u) n t
-          a = found (λ k u. (m.place k ≡ Behind) × LiesBehind known w k u) n t m.deferred waiting among
+          a : WaitsAt (λ k u. (m.place k ≡ Behind) × IsDeferredTo known w k u) n t
+          a = found (λ k u. (m.place k ≡ Behind) × IsDeferredTo known w k u) n t m.deferred waiting among
 
-          l : LiesBehind known w n a.one.behind
-          l = subst (λ (k : ℕ). LiesBehind known w k a.one.behind) a.number a.so.1
+          l : IsDeferredTo known w n a.one.behind
+          l = subst (λ (k : ℕ). IsDeferredTo known w k a.one.behind) a.number a.so.1
 
           same_pair : l.pair ≡ x
           same_pair = whole.all.shown.blocks.once l.pair x n l.is_pair its_role
@@ -216,7 +216,7 @@ others_leave_handed K V m v known s t shows place deferred tables world stay = r
 pub endings_begin_handed : (K V : Type 0) → EndingsBeginHanded K V
 endings_begin_handed K V m known s shows map i standing = record { pairs = shows.pairs; handed = shows.handed; tables = shows.tables }
 
-pub handed_at_rest : (K V : Type 0) → HandedAtRest K V
+pub handed_at_rest : (K V : Type 0) → HandedAtQuiescence K V
 handed_at_rest K V size m known s came shows rests = (
   λ n is. let one = shows.handed n is in (one.0, one.1, retired_at_rest deferred_word size s.world (came_listed size s.world came) rests one.0 one.2.0 one.2.1),
   λ t is. let one = shows.tables t is in (one.0, one.1, one.2, retired_at_rest deferred_word size s.world (came_listed size s.world came) rests one.0 one.3.0 one.3.1),
@@ -249,7 +249,7 @@ module _ (K V : Type 0) (same : K → K → Bool) (hash : ℕ → K → ℕ) whe
           let other : due.0 ≡ i → ⊥ = (λ e. subst (IsToHand b) (ap s.world.row e ∙ leads.2.1.0) due.2) in
           inr (inr (due.0, due.1, subst (IsToHand b) (sym (begun_rows old.batch_size (slot_of i) i s.world leads.2.0 called leads.2.1.1 due.0 other)) due.2))
 
-  pub rows_keep_handed : RowsKeepHanded K V same hash
+  pub rows_keep_handed : RowsPreserveHanded K V same hash
   rows_keep_handed name m known s old new at whole waiting shows i told leads row here =
       keeps same hash name m known s old new at whole waiting shows i told leads row here
 

@@ -29,17 +29,17 @@ use Rattle.run_debts.proofs.Given.FollowsOperations.{LeavesBy}
 use Rattle.run_debts.proofs.Given.FollowsTold.{roomed_as_many}
 use Rattle.run_debts.proofs.Given.OthersRowPlans.{TellsRow}
 use Rattle.run_debts.proofs.Given.SpotsUnreclaimed.{table_is}
-use Rattle.run_debts.specs.Given.MomentsWhole.{ShowsWhole}
-use Rattle.run_waiting.specs.Lives.Behind.{IsLeft, LiesBehind, ShowsWaiting}
-use Rattle.run_waiting.specs.Lives.Handed.{IsToHand, IsHandedOver, HasGone, is_deferred, ShowsHanded}
+use Rattle.run_debts.specs.Given.MomentsWhole.{RefinesWhole}
+use Rattle.run_waiting.specs.Lives.Behind.{IsLeft, IsDeferredTo, RefinesWaiting}
+use Rattle.run_waiting.specs.Lives.Handed.{IsToHand, IsHandedOver, HasGone, is_deferred, RefinesHanded}
 use Rattle.run_waiting.specs.Lives.Waiting.{waits_behind}
 use Rattle.run_waiting.proofs.Lives.Each.{WaitsAt, found}
 use Rattle.run_waiting.proofs.Lives.HandedEffects.{deferred_split, handed_back, reclaimed_back, reclaimed_not}
 use Rattle.run_waiting.proofs.Lives.Taken.{there_still}
 use Rattle.run_debts.specs.Given.ScenesScene.{HasCall, Scene}
 
-module _ {K V : Type 0} (same : K → K → Bool) (name : ℕ → List ℕ) (m : Moment K V) (known : Known) (s s2 : Scene K V) (whole : ShowsWhole same name m known s) (waiting : ShowsWaiting m known s.world)
-    (shows : ShowsHanded m known s) (told : Changed) (tells : TellsRow told) (leaves : LeavesBy s.world.memory s2.world.memory told)
+module _ {K V : Type 0} (same : K → K → Bool) (name : ℕ → List ℕ) (m : Moment K V) (known : Known) (s s2 : Scene K V) (whole : RefinesWhole same name m known s) (waiting : RefinesWaiting m known s.world)
+    (shows : RefinesHanded m known s) (told : Changed) (tells : TellsRow told) (leaves : LeavesBy s.world.memory s2.world.memory told)
     (had : (b : ℕ) → s2.world.hand b ≡ Handed → s.world.hand b ≡ Handed)
     (over_on : (b : ℕ) → IsSome (value_at s2.world.memory b) → IsHandedOver s.world b → IsHandedOver s2.world b)
     (freed_on : (x b : ℕ) → told ≡ changed.Took x → IsSome (value_at s2.world.memory b) → waits_behind b s.world.log ≡ Some x → IsHandedOver s2.world b)
@@ -69,7 +69,7 @@ module _ {K V : Type 0} (same : K → K → Bool) (name : ℕ → List ℕ) (m :
   gone_then v b n handed waits (inr (inr due)) = inr (inr (due_then b due))
 
   -- where no block is told to be taken, and no pair and no table changes
-  calm : (v : Moment K V) (known2 : Known) → v.place ≡ m.place → v.deferred ≡ m.deferred → v.tables ≡ m.tables → known2.roles ≡ known.roles → ((x : ℕ) → told ≡ changed.Took x → ⊥) → ShowsHanded v known2 s2
+  calm : (v : Moment K V) (known2 : Known) → v.place ≡ m.place → v.deferred ≡ m.deferred → v.tables ≡ m.tables → known2.roles ≡ known.roles → ((x : ℕ) → told ≡ changed.Took x → ⊥) → RefinesHanded v known2 s2
   calm v known2 place deferred tables roles none = record {
     pairs = λ b n is handed.
         gone_then v b n (λ so. inl (ap (λ (f : ℕ → Place). is_handed (f n)) place ∙ so)) (λ so. inr (inl (ap (is_deferred n) deferred ∙ so)))
@@ -115,7 +115,7 @@ module _ {K V : Type 0} (same : K → K → Bool) (name : ℕ → List ℕ) (m :
 
     -- that of nothing of a map
     took_other : (r : Role) → known.roles x ≡ r → ((n : ℕ) → r ≡ role.Pair n → ⊥) → ((t : TableId) (len : ℕ) → r ≡ role.Table t len → ⊥)
-        → (v : Moment K V) → v.place ≡ m.place → v.deferred ≡ m.deferred → v.tables ≡ m.tables → ShowsHanded v known2 s2
+        → (v : Moment K V) → v.place ≡ m.place → v.deferred ≡ m.deferred → v.tables ≡ m.tables → RefinesHanded v known2 s2
     took_other r e no_pair no_table v place deferred tables = record {
       pairs = λ b n its_role handed.
           gone_then v b n (λ so. inl (ap (λ (f : ℕ → Place). is_handed (f n)) place ∙ so)) (λ so. inr (inl (ap (is_deferred n) deferred ∙ so)))
@@ -127,7 +127,7 @@ module _ {K V : Type 0} (same : K → K → Bool) (name : ℕ → List ℕ) (m :
     }
 
     -- that of a pair
-    took_a_pair : (k : ℕ) → known.roles x ≡ role.Pair k → ShowsHanded (with_effects None None (Reclaimed (APair k) ∷ []) m) known2 s2
+    took_a_pair : (k : ℕ) → known.roles x ≡ role.Pair k → RefinesHanded (with_effects None None (Reclaimed (APair k) ∷ []) m) known2 s2
     took_a_pair k e = record {
       pairs = λ b n its_role handed.
           let ne : n ≡ k → ⊥ = λ z. not_free b n its_role (whole.all.shown.blocks.once b x n (was_pair b n its_role) (e ∙ ap role.Pair (sym z))) in
@@ -148,7 +148,7 @@ module _ {K V : Type 0} (same : K → K → Bool) (name : ℕ → List ℕ) (m :
       then_m = with_effects None None (Reclaimed (ATable u) ∷ []) m
 
       abbrev Waited : ℕ → TableId → Type 0
-      Waited n t = (m.place n ≡ Behind) × LiesBehind known w n t
+      Waited n t = (m.place n ≡ Behind) × IsDeferredTo known w n t
 
       no_pair : (b n : ℕ) → known.roles b ≡ role.Pair n → b ≡ x → ⊥
       no_pair b n its_role z = (let two : role.Table u len ≡ role.Pair n = sym e ∙ ap known.roles (sym z) ∙ its_role in cc two)
@@ -159,8 +159,8 @@ module _ {K V : Type 0} (same : K → K → Bool) (name : ℕ → List ℕ) (m :
           a : WaitsAt Waited n u
           a = found Waited n u m.deferred waiting among
 
-          l : LiesBehind known w n u
-          l = subst (LiesBehind known w n) (table_is a.one.behind u a.its) (subst (λ (k : ℕ). LiesBehind known w k a.one.behind) a.number a.so.1)
+          l : IsDeferredTo known w n u
+          l = subst (IsDeferredTo known w n) (table_is a.one.behind u a.its) (subst (λ (k : ℕ). IsDeferredTo known w k a.one.behind) a.number a.so.1)
 
           its_table : l.table ≡ x
           its_table = whole.blocks.tables_once l.table x l.len len u l.is_table e
@@ -181,7 +181,7 @@ module _ {K V : Type 0} (same : K → K → Bool) (name : ℕ → List ℕ) (m :
       waited b n (inl among) = inl (ap (λ (q : Bool). is_handed (if q then IsHanded else m.place n)) among)
       waited b n (inr other) = inr (inl other)
 
-      took_a_table : ShowsHanded then_m known2 s2
+      took_a_table : RefinesHanded then_m known2 s2
       took_a_table = record {
         pairs = λ b n its_role handed.
             gone_then then_m b n (λ so. inl (still n (is_among n (behind u m.deferred)) so)) (λ so. waited b n (deferred_split n u m.deferred so))
@@ -194,7 +194,7 @@ module _ {K V : Type 0} (same : K → K → Bool) (name : ℕ → List ℕ) (m :
             reclaimed_not None None u m (subst (λ (y : TableId). is_stage is_retired y then_m ≡ true) one so));
       }
 
-    took : (r : Role) → known.roles x ≡ r → ShowsHanded (with_effects None None (taken_by Row r) m) known2 s2
+    took : (r : Role) → known.roles x ≡ r → RefinesHanded (with_effects None None (taken_by Row r) m) known2 s2
     took role.Free e = took_other role.Free e (λ n z. cc z) (λ t len z. cc z) m refl refl refl
     took (role.OwnPair j) e = took_other (role.OwnPair j) e (λ n z. cc z) (λ t len z. cc z) (with_effects None None (taken_by Row (role.OwnPair j)) m) refl refl refl
     took (role.OwnTable turn shape) e = took_other (role.OwnTable turn shape) e (λ n z. cc z) (λ t len z. cc z) (with_effects None None (taken_by Row (role.OwnTable turn shape)) m) refl refl refl
@@ -203,14 +203,14 @@ module _ {K V : Type 0} (same : K → K → Bool) (name : ℕ → List ℕ) (m :
     took (role.Table u len) e = took_a_table u len e
 
   abbrev Then : Changed → Type 0
-  Then x = ShowsHanded (with_effects None None (effects_of Row known x) m) (known_after Row x known) s2
+  Then x = RefinesHanded (with_effects None None (effects_of Row known x) m) (known_after Row x known) s2
 
   by_told : (x : Changed) → told ≡ x → TellsRow x → Then x
   by_told changed.Nothing e is = calm m known refl refl refl refl (λ x z. let two = sym e ∙ z in cc two)
   by_told (changed.Wrote (Slot t field) before after) e is = calm m known refl refl refl refl (λ x z. let two = sym e ∙ z in cc two)
   by_told (changed.Wrote (Entry b field) before after) e is = by (names_same before after)
     where
-      by : (q : Bool) → ShowsHanded (with_effects None None (if q then [] else []) m) known s2
+      by : (q : Bool) → RefinesHanded (with_effects None None (if q then [] else []) m) known s2
       by true = calm m known refl refl refl refl (λ x z. let two = sym e ∙ z in cc two)
       by false = calm m known refl refl refl refl (λ x z. let two = sym e ∙ z in cc two)
   by_told (changed.Wrote (Root r) before after) e is = absurd is
@@ -224,7 +224,7 @@ module _ {K V : Type 0} (same : K → K → Bool) (name : ℕ → List ℕ) (m :
       known3 : Known
       known3 = known_after Row (changed.Roomed bucket had_room) known
 
-      by : (q : Bool) → ShowsHanded (with_effects None None (if q then [] else Asked ABucket ∷ []) m) known3 s2
+      by : (q : Bool) → RefinesHanded (with_effects None None (if q then [] else Asked ABucket ∷ []) m) known3 s2
       by true = calm m known3 refl refl refl (roomed_as_many Row known bucket had_room).0 (λ x z. let two = sym e ∙ z in cc two)
       by false = calm (with_effects None None (Asked ABucket ∷ []) m) known3 refl refl refl (roomed_as_many Row known bucket had_room).0 (λ x z. let two = sym e ∙ z in cc two)
 

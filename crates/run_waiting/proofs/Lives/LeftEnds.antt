@@ -31,22 +31,22 @@ use Rattle.run_debts.proofs.Given.FinishesEnds.OrdersOn.{table_later}
 use Rattle.run_debts.specs.Given.FollowsBlocks.{HasRole}
 use Rattle.run_debts.proofs.Given.FollowsOnward.{IsOfMap}
 use Rattle.run_debts.specs.Given.OthersEndings.{ending_after}
-use Rattle.run_debts.specs.Given.MomentsWhole.{ShowsWhole}
+use Rattle.run_debts.specs.Given.MomentsWhole.{RefinesWhole}
 use Rattle.run_debts.proofs.Given.MomentsEnds.{end_keeps}
 use Rattle.run_debts.proofs.Given.MomentsOnSlots.{none_some}
 use Rattle.run_waiting.specs.Lives.Behind.{IsLeft}
-use Rattle.run_waiting.specs.Lives.LeftTables.{IsToTake, ShowsLeft, EndingsKeepLeft}
+use Rattle.run_waiting.specs.Lives.LeftTables.{IsToTake, RefinesLeft, EndingsPreserveLeft}
 use Rattle.run_waiting.proofs.Lives.Users.{left_lives}
-use Rattle.run_debts.specs.Given.ScenesEnding.{EndingComesTo, EndingStepsFrom, ending_goes}
+use Rattle.run_debts.specs.Given.ScenesEnding.{EndingHasOutcome, EndingStepsFrom, ending_goes}
 use Rattle.run_debts.specs.Given.ScenesHeld.{Held, IsAt}
 use Rattle.run_debts.specs.Given.ScenesScene.{Scene, slot_of}
 use Rattle.run_debts.proofs.Given.General.{none_less as none_of}
 
 module _ {K V : Type 0} (same : K → K → Bool) (hash : ℕ → K → ℕ) (name : ℕ → List ℕ) (m : Moment K V) (known : Known) (s : Scene K V) (old new : Held K V) (at : IsAt same hash old s)
-    (whole : ShowsWhole same name m known s) (shows : ShowsLeft known s) (i : ℕ) (f : Finishing K V) (here : s.enders i ≡ Some f) (end : EndMap) (said : Settled (Node K V))
+    (whole : RefinesWhole same name m known s) (shows : RefinesLeft known s) (i : ℕ) (f : Finishing K V) (here : s.enders i ≡ Some f) (end : EndMap) (said : Settled (Node K V))
     (steps : EndingStepsFrom f.machine old new end said)
     (did : StepsOfEnding V same same old.batch_size old.roots slot_of s.world s.maps s.calls s.makers s.enders i f new.memory (end, said))
-    (of : ℕ) (not_there : s.maps of ≡ None) (comes : EndingComesTo same hash s new i f end did.w2 did.deed said) where
+    (of : ℕ) (not_there : s.maps of ≡ None) (comes : EndingHasOutcome same hash s new i f end did.w2 did.deed said) where
   abbrev known2 : Known
   known2 = known_after (Ending of) new.changed known
 
@@ -114,7 +114,7 @@ module _ {K V : Type 0} (same : K → K → Bool) (hash : ℕ → K → ℕ) (na
       | inr ne ↦ record { f = k.f; ends = at_other s.enders i (Some next) j ne ∙ k.ends; fresh = k.fresh; turn = k.turn; from = k.from; made = k.made; is = k.is }
     ]
 
-    left_on : ShowsLeft known2 led
+    left_on : RefinesLeft known2 led
     left_on b len t j is left = elim (either b len t j is left) as (λ _. IsToTake led j b) [
       | inl k ↦ goes_on j b (untaken b j left) k
       | inr its ↦ record {
@@ -139,7 +139,7 @@ module _ {K V : Type 0} (same : K → K → Bool) (hash : ℕ → K → ℕ) (na
     none_left : (b u : ℕ) → times b f.back ≡ 0 → f.chart.first ≤ u → u < f.chart.past → b ≡ f.blocks.table u → ⊥
     none_left b u fresh from made is = (let some = all_back u from made in let none = subst (λ (x : ℕ). times x f.back ≡ 0) is fresh in omega (arith, some, none))
 
-    left_over : ShowsLeft known2 (record s { world = did.w2; enders = with_at s.enders i None })
+    left_over : RefinesLeft known2 (record s { world = did.w2; enders = with_at s.enders i None })
     left_over b len t j is left = elim (either b len t j is left) as (λ _. IsToTake (record s { world = did.w2; enders = with_at s.enders i None }) j b) [
       | inl k ↦ elim (cases_eq j i) as (λ _. IsToTake (record s { world = did.w2; enders = with_at s.enders i None }) j b) [
         | inl e ↦
@@ -151,13 +151,13 @@ module _ {K V : Type 0} (same : K → K → Bool) (hash : ℕ → K → ℕ) (na
       | inr its ↦ absurd (none_left b its.2.0 its.1 its.2.1 its.2.2 its.2.3)
     ]
 
-  pub left_after : (x : Settled (Node K V)) (it : EndingComesTo same hash s new i f end did.w2 did.deed x) → ShowsLeft known2 (ending_after same hash s new i f end did.w2 did.deed x it)
+  pub left_after : (x : Settled (Node K V)) (it : EndingHasOutcome same hash s new i f end did.w2 did.deed x) → RefinesLeft known2 (ending_after same hash s new i f end did.w2 did.deed x it)
   left_after settled.Goes it = left_on f.back (λ b none fresh. fresh)
   left_after settled.Waits it = absurd it
   left_after (settled.Gave value) it = left_on (f.back ++ it.0 ∷ []) (λ b none fresh.
       (let count = times-append b f.back (it.0 ∷ []) in let its : times b (it.0 ∷ []) ≡ 0 = sym (ap (times b) it.2) ∙ none in omega (arith, count, its, fresh)))
   left_after settled.Done it = left_over it.1
 
-pub endings_keep_left : (K V : Type 0) (same : K → K → Bool) (hash : ℕ → K → ℕ) → EndingsKeepLeft K V same hash
+pub endings_keep_left : (K V : Type 0) (same : K → K → Bool) (hash : ℕ → K → ℕ) → EndingsPreserveLeft K V same hash
 endings_keep_left K V same hash name m known s old new at whole shows i told leads f here of not_there =
     let to = leads f here in left_after same hash name m known s old new at whole shows i f here to.0 told to.1 to.2 of not_there to.3 told to.3

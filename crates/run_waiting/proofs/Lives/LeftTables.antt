@@ -26,11 +26,11 @@ use Rattle.run_debts.specs.Given.EffectsDeclared.role.Role.TheVariants as role
 use Rattle.run_debts.specs.Given.FinishesEndings.{Finishing, finishing_of}
 use Rattle.run_debts.proofs.Given.FollowsSteps.{WentTo, went_to, DidSo}
 use Rattle.run_debts.proofs.Given.OthersRowPlans.{row_tells}
-use Rattle.run_debts.specs.Given.MomentsWhole.{ShowsWhole}
+use Rattle.run_debts.specs.Given.MomentsWhole.{RefinesWhole}
 use Rattle.run_debts.proofs.Given.MomentsOnSlots.{begun_hands}
 use Rattle.run_debts.specs.Due.{OwnAreMade}
 use Rattle.run_waiting.specs.Lives.Behind.{IsLeft}
-use Rattle.run_waiting.specs.Lives.LeftTables.{IsToTake, ShowsLeft, LeftBegins, OthersKeepLeft, EndingsBeginLeft, NoneIsLeftTo, NoneIsLeft, WhereNoneIsLeft, RowsBeginLeft, RowsKeepLeft, MakingsKeepLeft, CallsKeepLeft}
+use Rattle.run_waiting.specs.Lives.LeftTables.{IsToTake, RefinesLeft, LeftBegins, OthersPreserveLeft, EndingsBeginLeft, NoneIsLeftTo, NoneIsLeft, WhereNoneIsLeft, RowsBeginLeft, RowsPreserveLeft, MakingsPreserveLeft, CallsPreserveLeft}
 use Rattle.run_waiting.proofs.Lives.Reclaimed.{stays_so}
 use Rattle.run_waiting.proofs.Lives.Stages.{WasTable, role_back}
 use Rattle.run_debts.specs.Given.ScenesEnding.{ending_begun}
@@ -110,18 +110,18 @@ one_back setting i b j w w2 r (inr (request, begun, over, begins, step)) left =
     begun_back deferred_word setting.batch_size b j i request w begun begins.1
     (step_back deferred_word setting.batch_size b j i begun w2 (happens_reached deferred_word setting.batch_size (Begin i request) w begun r begins) step left)
 
-module _ {K V : Type 0} (known known2 : Known) (s t : Scene K V) (enders : t.enders ≡ s.enders) (shows : ShowsLeft known s) where
+module _ {K V : Type 0} (known known2 : Known) (s t : Scene K V) (enders : t.enders ≡ s.enders) (shows : RefinesLeft known s) where
   -- the same end is to reclaim it
   taken_as : (i b : ℕ) → IsToTake s i b → IsToTake t i b
   taken_as i b k = record { f = k.f; ends = ap (λ (g : ℕ → Option (Finishing K V)). g i) enders ∙ k.ends; fresh = k.fresh; turn = k.turn; from = k.from; made = k.made; is = k.is }
 
   -- by the same notes
-  pub left_as : ((b len : ℕ) (x : TableId) → known2.roles b ≡ role.Table x len → known.roles b ≡ role.Table x len) → ((b j : ℕ) → t.world.hand b ≡ LeftTo j → s.world.hand b ≡ LeftTo j) → ShowsLeft known2 t
+  pub left_as : ((b len : ℕ) (x : TableId) → known2.roles b ≡ role.Table x len → known.roles b ≡ role.Table x len) → ((b j : ℕ) → t.world.hand b ≡ LeftTo j → s.world.hand b ≡ LeftTo j) → RefinesLeft known2 t
   left_as was back b len x j is left = taken_as j b (shows b len x j (was b len x is) (back b j left))
 
   -- and where somebody's own table may have been linked
   left_then : OwnAreMade known s.world → ((b len : ℕ) (x : TableId) → known2.roles b ≡ role.Table x len → WasTable known b x len)
-      → ((b j : ℕ) → t.world.hand b ≡ LeftTo j → s.world.hand b ≡ LeftTo j) → ShowsLeft known2 t
+      → ((b j : ℕ) → t.world.hand b ≡ LeftTo j → s.world.hand b ≡ LeftTo j) → RefinesLeft known2 t
   left_then owning was back b len x j is left = by (was b len x is) (back b j left)
     where
       by : WasTable known b x len → s.world.hand b ≡ LeftTo j → IsToTake t j b
@@ -131,7 +131,7 @@ module _ {K V : Type 0} (known known2 : Known) (s t : Scene K V) (enders : t.end
 pub left_begins : (K V : Type 0) → LeftBegins K V
 left_begins K V roots b len t i is left = absurd (cc is)
 
-pub others_keep_left : (K V : Type 0) → OthersKeepLeft K V
+pub others_keep_left : (K V : Type 0) → OthersPreserveLeft K V
 others_keep_left K V known s t shows world enders =
     left_as known known s t enders shows (λ b len x is. is) (λ b j left. sym (ap (λ (z : World (Node K V)). z.hand b) world) ∙ left)
 
@@ -169,20 +169,20 @@ module _ (K V : Type 0) (same : K → K → Bool) (hash : ℕ → K → ℕ) whe
       let hands = begun_hands old.batch_size (slot_of i) i s.world to.0 called to.1.1 in
       left_as known known s (record s { world = to.0; maps = to.2 }) refl shows (λ b len x is. is) (λ b j left. sym (ap (λ (h : ℕ → Hand). h b) hands) ∙ left)
 
-  pub rows_keep_left : RowsKeepLeft K V same hash
+  pub rows_keep_left : RowsPreserveLeft K V same hash
   rows_keep_left name m known s old new at whole shows i told leads row here =
       let to = leads row here in
       let tells = row_tells old.memory new.memory new.changed (to.0, told) row to.1 in
       left_as known (known_after Row new.changed known) s (record s { world = to.2.0; maps = to.2.2 }) refl shows (λ b len x is. (stays_so m known whole.blocks new.changed tells b len x is).0)
       (λ b j left. step_back deferred_word old.batch_size b j i s.world to.2.0 (came_reached old.batch_size s.world at.together.makings.standing.came) to.2.1 left)
 
-  pub makings_keep_left : MakingsKeepLeft K V same hash
+  pub makings_keep_left : MakingsPreserveLeft K V same hash
   makings_keep_left known s old new owning shows i told leads d here =
       let step = (leads d here).2.step in
       left_then known (known_after (Making d.map) new.changed known) s (record s { world = step.w2 }) refl shows owning (λ b len x is. role_back (Making d.map) known b len x new.changed is)
       (λ b j left. users_back deferred_word old.batch_size b j step.events step.users s.world step.w2 step.runs left)
 
-  module _ (name : ℕ → List ℕ) (m : Moment K V) (known : Known) (s : Scene K V) (old new : Held K V) (at : IsAt same hash old s) (whole : ShowsWhole same name m known s) (map i : ℕ)
+  module _ (name : ℕ → List ℕ) (m : Moment K V) (known : Known) (s : Scene K V) (old new : Held K V) (at : IsAt same hash old s) (whole : RefinesWhole same name m known s) (map i : ℕ)
       (u : UnderWay K V K) (here : s.calls map i ≡ Some u) (said : Progress (Node K V)) (leads : StepLeads same hash i said s old new) (b j : ℕ) where
     abbrev to : WentTo same hash name m known s old new at whole.all.shown map i u here said leads
     to = went_to same hash name m known s old new at whole.all.shown map i u here said leads
@@ -211,7 +211,7 @@ module _ (K V : Type 0) (same : K → K → Bool) (hash : ℕ → K → ℕ) whe
         by (OverAll x) (p2, end, machine_is, told_is, inl (step, moved)) = by_events step.step.went.w2 moved.0 step.step.went.events step.step.went.users step.step.went.runs
         by (OverAll x) (p2, end, machine_is, told_is, inr (row, stayed)) = by_step row.step.w2 stayed.0 row.step.happened
 
-  pub calls_keep_left : CallsKeepLeft K V same hash
+  pub calls_keep_left : CallsPreserveLeft K V same hash
   calls_keep_left name m known s old new at whole owning shows map i u here told leads =
       let to = leads map u here in
       left_then known (known_after (Call i map) new.changed known) s (scene_after same s old new map i to.0 u to.1 told to.4) refl shows owning (λ b len x is. role_back (Call i map) known b len x new.changed is)

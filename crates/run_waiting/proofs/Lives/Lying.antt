@@ -37,8 +37,8 @@ use Rattle.run_debts.proofs.Given.FollowsOperations.{LeavesBy}
 use Rattle.run_debts.proofs.Given.FollowsTold.{roomed_as_many}
 use Rattle.run_debts.proofs.Given.OthersRowPlans.{TellsRow, row_tells}
 use Rattle.run_debts.proofs.Given.SpotsUnreclaimed.{table_is, same_itself}
-use Rattle.run_debts.specs.Given.MomentsWhole.{ShowsWhole}
-use Rattle.run_waiting.specs.Lives.Lying.{IsToldBehind, IsPutThere, ShowsLying, LyingBegins, OthersLeaveLying, EndingsBeginLying, RowsBeginLying, RowsKeepLying, MakingsKeepLying}
+use Rattle.run_debts.specs.Given.MomentsWhole.{RefinesWhole}
+use Rattle.run_waiting.specs.Lives.Lying.{IsNotedDeferred, IsPutThere, RefinesLying, LyingBegins, OthersLeaveLying, EndingsBeginLying, RowsBeginLying, RowsPreserveLying, MakingsPreserveLying}
 use Rattle.run_waiting.specs.Lives.Waiting.{IsPutting}
 use Rattle.run_waiting.proofs.Lives.Makings.{role_kept, apart}
 use Rattle.run_waiting.proofs.Lives.Reclaimed.{begun_rows, stays_so}
@@ -85,14 +85,14 @@ now_among n t ds =
     ∙ ap (λ (q : Bool). q || is_among n (behind t ds)) (eq-eqb n n refl)
 
 -- where what lies behind a table did so before
-module _ {K V : Type 0} (m v : Moment K V) (known known2 : Known) (w w2 : World (Node K V)) (shows : ShowsLying m known w) where
+module _ {K V : Type 0} (m v : Moment K V) (known known2 : Known) (w w2 : World (Node K V)) (shows : RefinesLying m known w) where
   pub lying_on : ((b c : ℕ) → where_is b w2.log ≡ With c → where_is b w.log ≡ With c)
       → ((b c len : ℕ) (t : TableId) → where_is b w.log ≡ With c → known2.roles c ≡ role.Table t len → known.roles c ≡ role.Table t len)
       → ((b c n : ℕ) → where_is b w2.log ≡ With c → known.roles b ≡ role.Pair n → known2.roles b ≡ role.Pair n)
       → ((c len n : ℕ) (t : TableId) → known2.roles c ≡ role.Table t len → known.roles c ≡ role.Table t len → is_among n (behind t m.deferred) ≡ true → is_among n (behind t v.deferred) ≡ true)
       → ((i b c : ℕ) → IsPutting b c (w.row i) → IsPutting b c (w2.row i))
-      → ShowsLying v known2 w2
-  lying_on back tables pairs among puts b c len t is at = elim (shows b c len t was (back b c at)) as (λ _. IsToldBehind v known2 b t ⊎ IsPutThere w2 b c) [
+      → RefinesLying v known2 w2
+  lying_on back tables pairs among puts b c len t is at = elim (shows b c len t was (back b c at)) as (λ _. IsNotedDeferred v known2 b t ⊎ IsPutThere w2 b c) [
     | inl its ↦ inl (its.0, pairs b c its.0 at its.1, among c len its.0 t is was its.2)
     | inr row ↦ inr (row.0, puts row.0 b c row.1)
   ]
@@ -175,10 +175,10 @@ module _ {K V : Type 0} (known : Known) (w w2 : World (Node K V)) where
   row_pair b n noted there (changed.Roomed bucket had) is l = ap (λ (f : ℕ → Role). f b) (roomed_as_many Row known bucket had).0 ∙ noted
 
 -- by a step of a row on a slot
-module _ {K V : Type 0} (same : K → K → Bool) (name : ℕ → List ℕ) (size : ℕ) (m : Moment K V) (known : Known) (s : Scene K V) (whole : ShowsWhole same name m known s)
-    (shows : ShowsLying m known s.world) (r : Reached deferred_word size s.world) (i : ℕ) (none : (b c : ℕ) → IsPutting b c (s.world.row i) → ⊥) where
+module _ {K V : Type 0} (same : K → K → Bool) (name : ℕ → List ℕ) (size : ℕ) (m : Moment K V) (known : Known) (s : Scene K V) (whole : RefinesWhole same name m known s)
+    (shows : RefinesLying m known s.world) (r : Reached deferred_word size s.world) (i : ℕ) (none : (b c : ℕ) → IsPutting b c (s.world.row i) → ⊥) where
   pub row_lies : (w2 : World (Node K V)) → Steps' deferred_word i (s.world.row i) s.world w2 → (told : Changed) → TellsRow told → LeavesBy s.world.memory w2.memory told
-      → ShowsLying (with_effects None None (effects_of Row known told) m) (known_after Row told known) w2
+      → RefinesLying (with_effects None None (effects_of Row known told) m) (known_after Row told known) w2
   row_lies w2 step told tells leaves =
       lying_on m (with_effects None None (effects_of Row known told) m) known (known_after Row told known) s.world w2 shows
       (λ b c at. (row_back deferred_word size b c s.world w2 r i step at).0)
@@ -211,7 +211,7 @@ module _ (K V : Type 0) (same : K → K → Bool) (hash : ℕ → K → ℕ) whe
       let other : j ≡ i → ⊥ = (λ e. subst (IsPutting b c) (ap s.world.row e ∙ to.1.0) its) in
       subst (IsPutting b c) (sym (begun_rows old.batch_size (slot_of i) i s.world to.0 called to.1.1 j other)) its)
 
-  pub rows_keep_lying : RowsKeepLying K V same hash
+  pub rows_keep_lying : RowsPreserveLying K V same hash
   rows_keep_lying name m known s old new at whole shows i told leads row here =
       let to = leads row here in
       row_lies same name old.batch_size m known s whole shows (reached K V same hash s old new at i row here (to.0, told) to.1 to.2) i
@@ -222,7 +222,7 @@ module _ (K V : Type 0) (same : K → K → Bool) (hash : ℕ → K → ℕ) whe
       on_slot : s.world.row i ≡ row_of row
       on_slot = here.1
 
-  pub makings_keep_lying : MakingsKeepLying K V same hash
+  pub makings_keep_lying : MakingsPreserveLying K V same hash
   makings_keep_lying name m known s old new at whole owning shows i told leads b here of was_new =
       let step = (leads b here).2.step in
       lying_on m v known known2 s.world step.w2 shows

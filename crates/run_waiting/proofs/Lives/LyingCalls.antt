@@ -34,20 +34,20 @@ use Rattle.run_debts.specs.Given.EffectsKnown.{Known}
 use Rattle.run_debts.specs.Given.EffectsDeclared.acting.Acting.TheVariants.{Call}
 use Rattle.run_debts.specs.Given.EffectsDeclared.role.Role.{Role}
 use Rattle.run_debts.specs.Given.EffectsDeclared.role.Role.TheVariants as role
-use Rattle.run_debts.specs.Given.FinishesMachines.{machine_of, GoesOnAs}
+use Rattle.run_debts.specs.Given.FinishesMachines.{machine_of, ContinuesAs}
 use Rattle.run_debts.specs.Given.FinishesMaps.{Standing}
 use Rattle.run_debts.proofs.Given.FollowsOnward.{IsLasting, KeepsRoles}
 use Rattle.run_debts.proofs.Given.FollowsRowSteps.{row_step_shown}
 use Rattle.run_debts.proofs.Given.FollowsSteps.{WentTo, went_to, DidSo, OfNoRow, step_shown}
 use Rattle.run_debts.proofs.Given.HandsRowSteps.{rows_hand_theirs}
 use Rattle.run_debts.proofs.Given.HandsSteps.{calls_store_theirs}
-use Rattle.run_debts.specs.Given.MomentsWhole.{ShowsWhole}
-use Rattle.run_debts.specs.Due.{ToPut, due_in_row, told_retired, RowTells, TellsNone, TellsRetired, TellsDeferred, OwnAreMade}
-use Rattle.run_debts.specs.Entries.{ShowsEntries}
-use Rattle.run_debts.specs.Hand.{IsPairRole, ShowsOwed}
+use Rattle.run_debts.specs.Given.MomentsWhole.{RefinesWhole}
+use Rattle.run_debts.specs.Due.{ToPut, due_in_row, retired_effects, RowTells, TellsNone, TellsRetired, TellsDeferred, OwnAreMade}
+use Rattle.run_debts.specs.Entries.{EntriesAreBlank}
+use Rattle.run_debts.specs.Hand.{IsPairRole, RefinesObligations}
 use Rattle.run_debts.proofs.DueCalls.{rows_tell_due}
 use Rattle.run_debts.proofs.Hand.All.{own_or_row}
-use Rattle.run_waiting.specs.Lives.Lying.{IsToldBehind, IsPutThere, ShowsLying, CallsKeepLying}
+use Rattle.run_waiting.specs.Lives.Lying.{IsNotedDeferred, IsPutThere, RefinesLying, CallsPreserveLying}
 use Rattle.run_waiting.specs.Lives.Waiting.{IsPutting}
 use Rattle.run_waiting.proofs.Lives.Calls.{calls_keep_list}
 use Rattle.run_waiting.proofs.Lives.Lying.{lying_on, now_among}
@@ -70,7 +70,7 @@ put_busy (Leaves c) over is = over
 put_busy (Frees c) over is = over
 
 module _ {K V : Type 0} (same : K → K → Bool) (hash : ℕ → K → ℕ) (name : ℕ → List ℕ) (m : Moment K V) (known : Known) (s : Scene K V) (old new : Held K V) (at : IsAt same hash old s)
-    (whole : ShowsWhole same name m known s) (owning : OwnAreMade known s.world) (shows : ShowsLying m known s.world) (map i : ℕ) (u : UnderWay K V K) (here : s.calls map i ≡ Some u)
+    (whole : RefinesWhole same name m known s) (owning : OwnAreMade known s.world) (shows : RefinesLying m known s.world) (map i : ℕ) (u : UnderWay K V K) (here : s.calls map i ≡ Some u)
     (said : Progress (Node K V)) (leads : StepLeads same hash i said s old new) where
   abbrev to : WentTo same hash name m known s old new at whole.all.shown map i u here said leads
   to = went_to same hash name m known s old new at whole.all.shown map i u here said leads
@@ -111,9 +111,9 @@ module _ {K V : Type 0} (same : K → K → Bool) (hash : ℕ → K → ℕ) (na
         let stores = (calls_store_theirs K V same hash name m known s old new at whole.all map i u here said leads own).0 in
         (step_shown same hash name m known s old new at whole.all.shown map i u here said leads own stores).1.keeps
 
-    by_events : (w2 : World (Node K V)) → to.4.w2 ≡ w2 → (events : List (Event (Node K V))) → AllUsers events → Runs deferred_word size events w w2 → ShowsLying v known2 to.4.w2
+    by_events : (w2 : World (Node K V)) → to.4.w2 ≡ w2 → (events : List (Event (Node K V))) → AllUsers events → Runs deferred_word size events w w2 → RefinesLying v known2 to.4.w2
     by_events w2 is events users runs =
-        subst (ShowsLying v known2) (sym is)
+        subst (RefinesLying v known2) (sym is)
         (lying_on m v known known2 w w2 shows
         (λ b c lies. (events_back deferred_word size b c events w w2 reached users runs lies).0)
         was_table
@@ -122,11 +122,11 @@ module _ {K V : Type 0} (same : K → K → Bool) (hash : ℕ → K → ℕ) (na
         ap (λ (ds : List Deferral). is_among n (behind t ds)) (calls_keep_list same hash name m known s old new at whole map i u here said leads own) ∙ among)
         (λ j b c its. subst (λ (f : ℕ → Row). IsPutting b c (f j)) (sym (events_rows size events w w2 users runs)) its))
 
-    pub own_lies : ShowsLying v known2 to.4.w2
+    pub own_lies : RefinesLying v known2 to.4.w2
     own_lies = by u to.4.did own
       where
         by : (x : UnderWay K V K) (step : DidSo same hash name m known s old new at whole.all.shown map i u here said leads x)
-            → OfNoRow same hash name m known s old new at whole.all.shown map i u here said leads x step → ShowsLying v known2 to.4.w2
+            → OfNoRow same hash name m known s old new at whole.all.shown map i u here said leads x step → RefinesLying v known2 to.4.w2
         by (OnKey x) (p2, end, machine_is, told_is, inl (step, moved)) none = by_events step.step.went.w2 moved.0 step.step.went.events step.step.went.users step.step.went.runs
         by (OnKey x) (p2, end, machine_is, told_is, inr (row, stayed)) none = absurd none
         by (ForRoom x) (p2, end, machine_is, told_is, inl (step, moved)) none = by_events step.step.went.w2 moved.0 step.step.went.events step.step.went.users step.step.went.runs
@@ -136,7 +136,7 @@ module _ {K V : Type 0} (same : K → K → Bool) (hash : ℕ → K → ℕ) (na
         by (OverAll x) (p2, end, machine_is, told_is, inr (row, stayed)) none = absurd none
 
   -- of a row
-  module _ (entries : ShowsEntries s) (owed : ShowsOwed name m known s)
+  module _ (entries : EntriesAreBlank s) (owed : RefinesObligations name m known s)
       (other : OfNoRow same hash name m known s old new at whole.all.shown map i u here said leads u (leads map u here).4.did → ⊥) where
     abbrev Tells : Type 0
     Tells = RowTells i map known effects (due_in_row (machine_of u)) (due_in_row to.1)
@@ -153,13 +153,13 @@ module _ {K V : Type 0} (same : K → K → Bool) (hash : ℕ → K → ℕ) (na
     deferred_then fs = (with_effects (Some (name i)) (Some map) fs m).deferred
 
     abbrev Lies : ℕ → ℕ → TableId → Type 0
-    Lies b c t = IsToldBehind v known2 b t ⊎ IsPutThere to.4.w2 b c
+    Lies b c t = IsNotedDeferred v known2 b t ⊎ IsPutThere to.4.w2 b c
 
     -- what waited does so still
     still_among : (n : ℕ) (t : TableId) → is_among n (behind t m.deferred) ≡ true → is_among n (behind t v.deferred) ≡ true
     still_among n t among = by tells
       where
-        retired : (r : Role) → is_among n (behind t (deferred_then (told_retired r))) ≡ true
+        retired : (r : Role) → is_among n (behind t (deferred_then (retired_effects r))) ≡ true
         retired (role.Pair k) = among
         retired (role.Table x len) = among
         retired role.Free = among
@@ -180,10 +180,10 @@ module _ {K V : Type 0} (same : K → K → Bool) (hash : ℕ → K → ℕ) (na
 
         by : Tells → is_among n (behind t v.deferred) ≡ true
         by (TellsNone none alike) = as_told [] none among
-        by (TellsRetired word due gone are) = as_told (told_retired (known.roles (block_in word))) are (retired (known.roles (block_in word)))
+        by (TellsRetired word due gone are) = as_told (retired_effects (known.roles (block_in word))) are (retired (known.roles (block_in word)))
         by (TellsDeferred word block place x len due its gone noted are) = as_told (carried x (named known word)) are (put_more x (named known word))
 
-    still_told : (b : ℕ) (t : TableId) → IsToldBehind m known b t → IsToldBehind v known2 b t
+    still_told : (b : ℕ) (t : TableId) → IsNotedDeferred m known b t → IsNotedDeferred v known2 b t
     still_told b t (n, noted, among) = (n, role_kept b (role.Pair n) noted tt, still_among n t among)
 
     still_put : (j b c : ℕ) → j ≢ i → IsPutting b c (w.row j) → IsPutThere to.4.w2 b c
@@ -193,7 +193,7 @@ module _ {K V : Type 0} (same : K → K → Bool) (hash : ℕ → K → ℕ) (na
     goes_on : (to.4.w2.row i ≡ Rests → ⊥) → (u2 : UnderWay K V K) × (to.4.next ≡ Some u2) × (machine_of u2 ≡ to.1)
     goes_on on = by said to.4.goes_on
       where
-        by : (x : Progress (Node K V)) → GoesOnAs to.1 x to.4.next → (u2 : UnderWay K V K) × (to.4.next ≡ Some u2) × (machine_of u2 ≡ to.1)
+        by : (x : Progress (Node K V)) → ContinuesAs to.1 x to.4.next → (u2 : UnderWay K V K) × (to.4.next ≡ Some u2) × (machine_of u2 ≡ to.1)
         by (progress.Done answer) none = absurd (on (to.4.rests none))
         by (progress.Refused fault) none = absurd (on (to.4.rests none))
         by _ goes = goes
@@ -227,7 +227,7 @@ module _ {K V : Type 0} (same : K → K → Bool) (hash : ℕ → K → ℕ) (na
         cc (due2, gone)
 
     -- it tells that it has put it there
-    told_put : (b c len : ℕ) (t : TableId) → known.roles c ≡ role.Table t len → IsPutting b c (w.row i) → HasPut (to.4.w2.row i) → IsToldBehind v known2 b t
+    told_put : (b c len : ℕ) (t : TableId) → known.roles c ≡ role.Table t len → IsPutting b c (w.row i) → HasPut (to.4.w2.row i) → IsNotedDeferred v known2 b t
     told_put b c len t table puts over = by tells
       where
         its : PutsSo b c (w.row i)
@@ -240,7 +240,7 @@ module _ {K V : Type 0} (same : K → K → Bool) (hash : ℕ → K → ℕ) (na
         names = ap block_in its.block ∙ link-block b
 
         put_now : (word block : ℕ) (place : At) (x : TableId) (k : ℕ) (r : Role) → due_in_row (machine_of u) ≡ Some (ToPut word place) → IsWordOf block place → known.roles block ≡ role.Table x k
-            → named known word ≡ r → IsPairRole r → effects ≡ carried x r → IsToldBehind v known2 b t
+            → named known word ≡ r → IsPairRole r → effects ≡ carried x r → IsNotedDeferred v known2 b t
         put_now word block place x k (role.Pair n) due one noted is pair are =
             let alike : Some (ToPut word place) ≡ Some (ToPut its.word its.place) = sym due ∙ due_is in
             let words : word ≡ its.word = cc alike in
@@ -260,7 +260,7 @@ module _ {K V : Type 0} (same : K → K → Bool) (hash : ℕ → K → ℕ) (na
         put_now word block place x k (role.Table y many) due one noted is pair are = absurd pair
         put_now word block place x k (role.Counter of) due one noted is pair are = absurd pair
 
-        by : Tells → IsToldBehind v known2 b t
+        by : Tells → IsNotedDeferred v known2 b t
         by (TellsNone none alike) = absurd (none_after its.word its.place over (alike ∙ due_is))
         by (TellsRetired word due gone are) = absurd (let both = sym due ∙ due_is in cc both)
         by (TellsDeferred word block place x k due one gone noted are) =
@@ -329,16 +329,16 @@ module _ {K V : Type 0} (same : K → K → Bool) (hash : ℕ → K → ℕ) (na
         began (Unregister' slot) e over h = absurd over
         began (Flush slot) e over h = absurd over
 
-      one_lies : IsOneStep to.0.setting i w w3 → ShowsLying v known2 to.4.w2
+      one_lies : IsOneStep to.0.setting i w w3 → RefinesLying v known2 to.4.w2
       one_lies (inl step) b c len t noted lies = stepped step b c len t noted (sym (ap (λ (z : World (Node K V)). where_is b z.log) is) ∙ lies)
       one_lies (inr (request, begun, over, begins, step)) b c len t noted lies =
           began request begun begins step b c len t noted (sym (ap (λ (z : World (Node K V)). where_is b z.log) is) ∙ lies) request refl over begins.1
 
-    pub row_lies : ShowsLying v known2 to.4.w2
+    pub row_lies : RefinesLying v known2 to.4.w2
     row_lies = by u to.4.did other
       where
         by : (x : UnderWay K V K) (step : DidSo same hash name m known s old new at whole.all.shown map i u here said leads x)
-            → (OfNoRow same hash name m known s old new at whole.all.shown map i u here said leads x step → ⊥) → ShowsLying v known2 to.4.w2
+            → (OfNoRow same hash name m known s old new at whole.all.shown map i u here said leads x step → ⊥) → RefinesLying v known2 to.4.w2
         by (OnKey x) (p2, end, machine_is, told_is, inl step) none = absurd (none tt)
         by (OnKey x) (p2, end, machine_is, told_is, inr (row, stayed)) none = one_lies row.step.w2 stayed.0 row.step.happened
         by (ForRoom x) (p2, end, machine_is, told_is, inl step) none = absurd (none tt)
@@ -347,10 +347,10 @@ module _ {K V : Type 0} (same : K → K → Bool) (hash : ℕ → K → ℕ) (na
         by (OverAll x) (p2, end, machine_is, told_is, inl step) none = absurd (none tt)
         by (OverAll x) (p2, end, machine_is, told_is, inr (row, stayed)) none = one_lies row.step.w2 stayed.0 row.step.happened
 
-pub calls_keep_lying : (K V : Type 0) (same : K → K → Bool) (hash : ℕ → K → ℕ) → CallsKeepLying K V same hash
+pub calls_keep_lying : (K V : Type 0) (same : K → K → Bool) (hash : ℕ → K → ℕ) → CallsPreserveLying K V same hash
 calls_keep_lying K V same hash name m known s old new at whole entries owning owed shows map i u here said leads =
     elim (own_or_row same hash name m known s old new at whole.all.shown map i u here said leads u (went_to same hash name m known s old new at whole.all.shown map i u here said leads).4.did)
-    as (λ _. ShowsLying (with_effects (Some (name i)) (Some map) (effects_of (Call i map) known new.changed) m) (known_after (Call i map) new.changed known) (leads map u here).4.w2) [
+    as (λ _. RefinesLying (with_effects (Some (name i)) (Some map) (effects_of (Call i map) known new.changed) m) (known_after (Call i map) new.changed known) (leads map u here).4.w2) [
       | inl own ↦ own_lies same hash name m known s old new at whole owning shows map i u here said leads own
       | inr other ↦ row_lies same hash name m known s old new at whole owning shows map i u here said leads entries owed other
     ]

@@ -29,21 +29,21 @@ use Rattle.run_debts.specs.Given.FinishesFactsEnds.{events_of}
 use Rattle.run_debts.proofs.Given.FollowsAlike.{put_here}
 use Rattle.run_debts.proofs.Given.FollowsOnward.{IsOfMap}
 use Rattle.run_debts.specs.Given.OthersEndings.{ending_after}
-use Rattle.run_debts.specs.Given.MomentsWhole.{ShowsWhole}
+use Rattle.run_debts.specs.Given.MomentsWhole.{RefinesWhole}
 use Rattle.run_debts.proofs.Given.MomentsEnds.{says, end_keeps}
-use Rattle.run_waiting.specs.Lives.Lying.{ShowsLying, EndingsKeepLying}
+use Rattle.run_waiting.specs.Lives.Lying.{RefinesLying, EndingsPreserveLying}
 use Rattle.run_waiting.specs.Lives.Waiting.{IsPutting}
 use Rattle.run_waiting.proofs.Lives.Lying.{behind_other, lying_on}
 use Rattle.run_waiting.proofs.Lives.WaitingEnds.{calm_deferred}
-use Rattle.run_debts.specs.Given.ScenesEnding.{EndingComesTo, EndingStepsFrom}
+use Rattle.run_debts.specs.Given.ScenesEnding.{EndingHasOutcome, EndingStepsFrom}
 use Rattle.run_debts.specs.Given.ScenesHeld.{Held, IsAt}
 use Rattle.run_debts.specs.Given.ScenesScene.{Scene, slot_of}
 
 module _ {K V : Type 0} (same : K → K → Bool) (hash : ℕ → K → ℕ) (name : ℕ → List ℕ) (m : Moment K V) (known : Known) (s : Scene K V) (old new : Held K V) (at : IsAt same hash old s)
-    (whole : ShowsWhole same name m known s) (shows : ShowsLying m known s.world) (i : ℕ) (f : Finishing K V) (here : s.enders i ≡ Some f) (end : EndMap) (said : Settled (Node K V))
+    (whole : RefinesWhole same name m known s) (shows : RefinesLying m known s.world) (i : ℕ) (f : Finishing K V) (here : s.enders i ≡ Some f) (end : EndMap) (said : Settled (Node K V))
     (steps : EndingStepsFrom f.machine old new end said)
     (did : StepsOfEnding V same same old.batch_size old.roots slot_of s.world s.maps s.calls s.makers s.enders i f new.memory (end, said))
-    (map : ℕ) (not_there : s.maps map ≡ None) (comes : EndingComesTo same hash s new i f end did.w2 did.deed said) where
+    (map : ℕ) (not_there : s.maps map ≡ None) (comes : EndingHasOutcome same hash s new i f end did.w2 did.deed said) where
   abbrev told : Changed
   told = new.changed
 
@@ -91,17 +91,17 @@ module _ {K V : Type 0} (same : K → K → Bool) (hash : ℕ → K → ℕ) (na
           subst (λ (x : Changed). is_among n (behind t (with_effects None (Some map) (effects_of (Ending map) known x) m).deferred) ≡ true) (sym it.1) (taken_among it.0 it.1 (known.roles it.0) refl)
     ]
 
-  lies_then : ShowsLying v known2 did.w2
+  lies_then : RefinesLying v known2 did.w2
   lies_then =
       lying_on m v known known2 s.world did.w2 shows (λ b c lies. did.spares.behind b c lies) (λ b c len t lies is. was_table c len t is) still_pair
       (λ c len n t is was among. still_among c len n t is was among) (λ j b c puts. subst (λ (g : ℕ → Row). IsPutting b c (g j)) (sym did.spares.rows) puts)
 
-  pub lying_then : (x : Settled (Node K V)) (it : EndingComesTo same hash s new i f end did.w2 did.deed x) → ShowsLying v known2 (ending_after same hash s new i f end did.w2 did.deed x it).world
+  pub lying_then : (x : Settled (Node K V)) (it : EndingHasOutcome same hash s new i f end did.w2 did.deed x) → RefinesLying v known2 (ending_after same hash s new i f end did.w2 did.deed x it).world
   lying_then settled.Goes it = lies_then
   lying_then settled.Waits it = absurd it
   lying_then (settled.Gave value) it = lies_then
   lying_then settled.Done it = lies_then
 
-pub endings_keep_lying : (K V : Type 0) (same : K → K → Bool) (hash : ℕ → K → ℕ) → EndingsKeepLying K V same hash
+pub endings_keep_lying : (K V : Type 0) (same : K → K → Bool) (hash : ℕ → K → ℕ) → EndingsPreserveLying K V same hash
 endings_keep_lying K V same hash name m known s old new at whole shows i told leads f here map not_there =
     let to = leads f here in lying_then same hash name m known s old new at whole shows i f here to.0 told to.1 to.2 map not_there to.3 told to.3

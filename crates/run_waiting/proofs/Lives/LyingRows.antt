@@ -34,12 +34,12 @@ use Rattle.run_debts.specs.Given.RuleWords.{Blocks}
 use Rattle.run_debts.specs.Given.CallersRows.{row_of, row_of_disposal, row_of_copier}
 use Rattle.run_debts.specs.Given.CallersRooms.{row_of_room}
 use Rattle.run_debts.specs.Given.CallersOverAll.{row_of_sweep}
-use Rattle.run_debts.specs.Given.CallersTogether.{UnderWay, OnKey, ForRoom, Counting, OverAll, Stands}
+use Rattle.run_debts.specs.Given.CallersTogether.{UnderWay, OnKey, ForRoom, Counting, OverAll, IsAtPoint}
 use Rattle.run_debts.specs.Given.EffectsEffects.{named}
 use Rattle.run_debts.specs.Given.EffectsKnown.{Known}
 use Rattle.run_debts.specs.Given.FinishesMachines.{machine_of}
 use Rattle.run_debts.specs.Due.{ToPut, due_in_defer, due_in_disposing, due_in_copying, due_in_calling, due_in_reserving, due_in_sweeping, due_in_row}
-use Rattle.run_debts.specs.Hand.{IsPairRole, NotesInHand}
+use Rattle.run_debts.specs.Hand.{IsPairRole, NotesPending}
 use Rattle.run_debts.proofs.Hand.Behind.{key_puts, room_puts, sweep_puts}
 use Rattle.run_waiting.specs.Lives.Waiting.{IsPutting}
 use Rattle.run_waiting.proofs.Lives.Putting.{not_over}
@@ -167,7 +167,7 @@ module _ (word : ℕ) (place : At) (slot : ℕ) where
   sweeping_put _ due = absurd due
 
 module _ {K V : Type 0} (same : K → K → Bool) (hash : K → ℕ) (setting : Setting) (w : World (Node K V)) (c : Chart K) (blocks : Blocks) (i word : ℕ) (place : At) where
-  pub put_due : (u : UnderWay K V K) → Stands V same hash same setting slot_of w c blocks i u → IsToPut word place (w.row i) → due_in_row (machine_of u) ≡ Some (ToPut word place)
+  pub put_due : (u : UnderWay K V K) → IsAtPoint V same hash same setting slot_of w c blocks i u → IsToPut word place (w.row i) → due_in_row (machine_of u) ≡ Some (ToPut word place)
   put_due (OnKey x) (inl (rests, knows)) due = absurd (subst (IsToPut word place) rests due)
   put_due (OnKey x) (inr (row, is_row, knows)) due = calling_put word place (slot_of i) x.call.stands (subst (IsToPut word place) row due)
   put_due (ForRoom r) (inl (rests, knows)) due = absurd (subst (IsToPut word place) rests due)
@@ -177,7 +177,7 @@ module _ {K V : Type 0} (same : K → K → Bool) (hash : K → ℕ) (setting : 
   put_due (OverAll o) (inr (row, is_row, knows)) due = sweeping_put word place (slot_of i) o.sweep.stands (subst (IsToPut word place) row due)
 
 -- what is put behind another block is noted as a pair
-pub puts_pair : {K V : Type 0} (known : Known) (p : Machine K V K) → NotesInHand known p → (word : ℕ) (place : At) → due_in_row p ≡ Some (ToPut word place) → IsPairRole (named known word)
+pub puts_pair : {K V : Type 0} (known : Known) (p : Machine K V K) → NotesPending known p → (word : ℕ) (place : At) → due_in_row p ≡ Some (ToPut word place) → IsPairRole (named known word)
 puts_pair known (kinds.Key x) notes word place e = key_puts known x.stands notes word place e
 puts_pair known (kinds.Reserve r) notes word place e = absurd (room_puts r.stands word place e)
 puts_pair known (kinds.Sweep c) notes word place e = sweep_puts known c.stands notes word place e

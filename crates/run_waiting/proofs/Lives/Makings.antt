@@ -34,14 +34,14 @@ use Rattle.run_debts.proofs.Given.FollowsWrites.{nothing_free}
 use Rattle.run_debts.specs.Given.OthersMakings.{making_after, WasNew}
 use Rattle.run_debts.proofs.Given.OthersMakingPlans.{TellsMaking}
 use Rattle.run_debts.proofs.Given.OthersMakes.{tells, left, linked_stays, no_table_word}
-use Rattle.run_debts.specs.Given.MomentsWhole.{ShowsWhole}
+use Rattle.run_debts.specs.Given.MomentsWhole.{RefinesWhole}
 use Rattle.run_debts.proofs.Given.MomentsMakingSteps.{makings_go_beside}
-use Rattle.run_waiting.specs.Lives.Behind.{ShowsWaiting}
-use Rattle.run_waiting.specs.Lives.Steps.{MakingsKeepWaiting}
+use Rattle.run_waiting.specs.Lives.Behind.{RefinesWaiting}
+use Rattle.run_waiting.specs.Lives.Steps.{MakingsPreserveWaiting}
 use Rattle.run_waiting.proofs.Lives.Stages.{NoneEnds}
 use Rattle.run_waiting.proofs.Lives.Users.{users_keep_waiting}
 use Rattle.run_debts.specs.Given.ScenesHeld.{Held, IsAt}
-use Rattle.run_debts.specs.Given.ScenesMaking.{MakingComesTo, MakingLeads}
+use Rattle.run_debts.specs.Given.ScenesMaking.{MakingHasOutcome, MakingLeads}
 use Rattle.run_debts.specs.Given.ScenesScene.{Scene}
 
 module _ {K V : Type 0} (map : ℕ) (of : Option ℕ) (m : Moment K V) (known : Known) where
@@ -111,14 +111,14 @@ module _ {K V : Type 0} (map : ℕ) (of : Option ℕ) (m : Moment K V) (known : 
 
 -- the world that a step of a making leads to
 module _ {K V : Type 0} (same : K → K → Bool) (hash : ℕ → K → ℕ) (s : Scene K V) (old new : Held K V) (i : ℕ) (b : Beginning K) (opening : NewMap) (w2 : World (Node K V)) where
-  pub world_then : (told : Advance Setting) (comes : MakingComesTo same hash s old new i b opening w2 told) → (making_after same hash s old new i b opening w2 told comes).world ≡ w2
+  pub world_then : (told : Advance Setting) (comes : MakingHasOutcome same hash s old new i b opening w2 told) → (making_after same hash s old new i b opening w2 told comes).world ≡ w2
   world_then progress.Goes comes = refl
   world_then progress.Waits comes = absurd comes
   world_then (progress.Done setting) comes = refl
   world_then (progress.Refused fault) comes = refl
 
 module _ {K V : Type 0} (same : K → K → Bool) (hash : ℕ → K → ℕ) (name : ℕ → List ℕ) (m : Moment K V) (known : Known) (s : Scene K V) (old new : Held K V) (at : IsAt same hash old s)
-    (whole : ShowsWhole same name m known s) (i : ℕ) (told : Advance Setting) (leads : MakingLeads same hash i told s old new) (b : Beginning K) (here : s.makers i ≡ Some b) (of : Option ℕ)
+    (whole : RefinesWhole same name m known s) (i : ℕ) (told : Advance Setting) (leads : MakingLeads same hash i told s old new) (b : Beginning K) (here : s.makers i ≡ Some b) (of : Option ℕ)
     (was_new : WasNew b.map told m) where
   abbrev w2 : World (Node K V)
   w2 = (leads b here).2.step.w2
@@ -159,12 +159,12 @@ module _ {K V : Type 0} (same : K → K → Bool) (hash : ℕ → K → ℕ) (na
       (λ x its. of_map_there x (known.roles x) refl its)
       new.changed (tells same hash name m known s old new at whole.all.shown i b here to.0 told to.1 to.2 of) (left same hash name m known s old new at whole.all.shown i b here to.0 told to.1 to.2 of)
 
-  making_waiting : ShowsWaiting m known s.world → ShowsWaiting (with_effects None of (effects_of (Making b.map) known new.changed) m) known2 w2
+  making_waiting : RefinesWaiting m known s.world → RefinesWaiting (with_effects None of (effects_of (Making b.map) known new.changed) m) known2 w2
   making_waiting waiting =
       let to = leads b here in
       users_keep_waiting K V old.batch_size m (with_effects None of (effects_of (Making b.map) known new.changed) m) known known2 s.world w2 at.together.makings.standing.came waiting
       to.2.step.events to.2.step.users to.2.step.runs apart.0 (λ n t l is. ap (λ (f : ℕ → Place). f n) apart.1 ∙ is) (λ x n e. role_kept x (role.Pair n) e tt) (λ x len t e. role_kept x (role.Table t len) e tt)
 
-pub makings_keep_waiting : (K V : Type 0) (same : K → K → Bool) (hash : ℕ → K → ℕ) → MakingsKeepWaiting K V same hash
+pub makings_keep_waiting : (K V : Type 0) (same : K → K → Bool) (hash : ℕ → K → ℕ) → MakingsPreserveWaiting K V same hash
 makings_keep_waiting K V same hash name m known s old new at whole waiting i told leads b here of was_new =
     making_waiting same hash name m known s old new at whole i told leads b here of was_new waiting

@@ -30,14 +30,14 @@ use Rattle.run_debts.specs.Given.EffectsDeclared.acting.Acting.TheVariants.{Row}
 use Rattle.run_debts.specs.Given.EffectsDeclared.role.Role.{Role}
 use Rattle.run_debts.specs.Given.EffectsDeclared.role.Role.TheVariants as role
 use Rattle.run_debts.specs.Given.FollowsBlocks.{HasRole}
-use Rattle.run_debts.specs.Given.FollowsShows.{Shows}
+use Rattle.run_debts.specs.Given.FollowsShows.{Refines}
 use Rattle.run_debts.proofs.Given.FollowsAlike.{put_elsewhere}
 use Rattle.run_debts.proofs.Given.FollowsOperations.{LeavesBy}
 use Rattle.run_debts.proofs.Given.FollowsTold.{roomed_as_many}
 use Rattle.run_debts.proofs.Given.OthersRowPlans.{TellsRow}
-use Rattle.run_debts.specs.Given.SpotsUnreclaimed.{ShowsUnreclaimed}
+use Rattle.run_debts.specs.Given.SpotsUnreclaimed.{RefinesUnreclaimed}
 use Rattle.run_debts.proofs.Given.SpotsUnreclaimed.{table_is, same_itself}
-use Rattle.run_waiting.specs.Lives.Behind.{IsLeft, LiesBehind, EachWaits, ShowsWaiting}
+use Rattle.run_waiting.specs.Lives.Behind.{IsLeft, IsDeferredTo, EachWaits, RefinesWaiting}
 use Rattle.run_waiting.specs.Lives.Waiting.{waits_behind}
 use Rattle.run_waiting.proofs.Lives.Each.{WaitsAt, each_on, each_kept, found}
 use Rattle.run_waiting.proofs.Lives.Logs.{waits_on}
@@ -49,8 +49,8 @@ use Rattle.run_debts.specs.Given.ScenesScene.{Scene}
 left_no_handed : (h : Hand) → IsLeft h → h ≡ Handed → ⊥
 left_no_handed h left is = subst IsLeft is left
 
-module _ {K V : Type 0} (same : K → K → Bool) (name : ℕ → List ℕ) (size : ℕ) (m : Moment K V) (known : Known) (s : Scene K V) (shown : Shows same name m known s) (blocks : ShowsUnreclaimed m known)
-    (waiting : ShowsWaiting m known s.world) (came : CameAbout size s.world) (reached : Reached deferred_word size s.world) (i : ℕ) (w2 : World (Node K V)) (step : Steps' deferred_word i (s.world.row i) s.world w2)
+module _ {K V : Type 0} (same : K → K → Bool) (name : ℕ → List ℕ) (size : ℕ) (m : Moment K V) (known : Known) (s : Scene K V) (shown : Refines same name m known s) (blocks : RefinesUnreclaimed m known)
+    (waiting : RefinesWaiting m known s.world) (came : CameAbout size s.world) (reached : Reached deferred_word size s.world) (i : ℕ) (w2 : World (Node K V)) (step : Steps' deferred_word i (s.world.row i) s.world w2)
     (told : Changed) (tells : TellsRow told) (left : LeavesBy s.world.memory w2.memory told) where
   abbrev w : World (Node K V)
   w = s.world
@@ -72,25 +72,25 @@ module _ {K V : Type 0} (same : K → K → Bool) (name : ℕ → List ℕ) (siz
   left_is = left_unretired size w came reached i w2 step
 
   -- the block of what waits was not
-  pair_unretired : (n : ℕ) (t : TableId) (l : LiesBehind known w n t) → is_retired l.pair w.log ≡ false
+  pair_unretired : (n : ℕ) (t : TableId) (l : IsDeferredTo known w n t) → is_retired l.pair w.log ≡ false
   pair_unretired n t l = by l.waits
     where
       by : (waits_behind l.pair w.log ≡ Some l.table) ⊎ (IsLeft (w.hand l.pair) × IsLeft (w.hand l.table)) → is_retired l.pair w.log ≡ false
       by (inl waits) = unretired deferred_word size w kept l.pair l.table waits
       by (inr both) = left_is l.pair both.0
 
-  pair_stays : (n : ℕ) (t : TableId) (l : LiesBehind known w n t) → told ≡ changed.Took l.pair → ⊥
+  pair_stays : (n : ℕ) (t : TableId) (l : IsDeferredTo known w n t) → told ≡ changed.Took l.pair → ⊥
   pair_stays n t l is = (let yes = was_retired l.pair is in let no = pair_unretired n t l in cc (yes, no))
 
-  value_of_pair : (n : ℕ) (t : TableId) (l : LiesBehind known w n t) → (value : Node K V) × (value_at w.memory l.pair ≡ Some value)
+  value_of_pair : (n : ℕ) (t : TableId) (l : IsDeferredTo known w n t) → (value : Node K V) × (value_at w.memory l.pair ≡ Some value)
   value_of_pair n t l = (let has = subst (λ (r : Role). HasRole w m.stored l.pair r) l.is_pair (shown.blocks.roles l.pair) in (_, has.3))
 
-  value_of_table : (n : ℕ) (t : TableId) (l : LiesBehind known w n t) → (value : Node K V) × (value_at w.memory l.table ≡ Some value)
+  value_of_table : (n : ℕ) (t : TableId) (l : IsDeferredTo known w n t) → (value : Node K V) × (value_at w.memory l.table ≡ Some value)
   value_of_table n t l = (let has = subst (λ (r : Role). HasRole w m.stored l.table r) l.is_table (shown.blocks.roles l.table) in (_, has.1))
 
   -- where neither its block nor the table's is taken, it lies behind it still
-  lies_still : (known2 : Known) (n : ℕ) (t : TableId) (l : LiesBehind known w n t) → known2.roles l.pair ≡ known.roles l.pair → known2.roles l.table ≡ known.roles l.table
-      → (told ≡ changed.Took l.table → ⊥) → LiesBehind known2 w2 n t
+  lies_still : (known2 : Known) (n : ℕ) (t : TableId) (l : IsDeferredTo known w n t) → known2.roles l.pair ≡ known.roles l.pair → known2.roles l.table ≡ known.roles l.table
+      → (told ≡ changed.Took l.table → ⊥) → IsDeferredTo known2 w2 n t
   lies_still known2 n t l pair_same table_same apart = record {
     pair = l.pair;
     is_pair = pair_same ∙ l.is_pair;
@@ -121,23 +121,23 @@ module _ {K V : Type 0} (same : K → K → Bool) (name : ℕ → List ℕ) (siz
       by (inr both) = inr (subst IsLeft (sym (hand_same l.pair pair_kept)) both.0, subst IsLeft (sym (hand_same l.table table_kept)) both.1)
 
   abbrev Waits : Moment K V → Known → World (Node K V) → ℕ → TableId → Type 0
-  Waits v known2 x n t = (v.place n ≡ Behind) × LiesBehind known2 x n t
+  Waits v known2 x n t = (v.place n ≡ Behind) × IsDeferredTo known2 x n t
 
   -- a table that is taken is none of theirs
-  other_table : (x : ℕ) → told ≡ changed.Took x → (n : ℕ) (t : TableId) (l : LiesBehind known w n t) → (l.table ≡ x → ⊥) → told ≡ changed.Took l.table → ⊥
+  other_table : (x : ℕ) → told ≡ changed.Took x → (n : ℕ) (t : TableId) (l : IsDeferredTo known w n t) → (l.table ≡ x → ⊥) → told ≡ changed.Took l.table → ⊥
   other_table x is n t l ne its = ne (let one : changed.Took l.table ≡ changed.Took x = sym its ∙ is in cc one)
 
   -- where nothing else is told than a block that was none of a map
   none_moved : (v : Moment K V) (known2 : Known) → v.place ≡ m.place → v.deferred ≡ m.deferred
-      → ((n : ℕ) (t : TableId) (l : LiesBehind known w n t) → (known2.roles l.pair ≡ known.roles l.pair) × (known2.roles l.table ≡ known.roles l.table) × (told ≡ changed.Took l.table → ⊥))
-      → ShowsWaiting v known2 w2
+      → ((n : ℕ) (t : TableId) (l : IsDeferredTo known w n t) → (known2.roles l.pair ≡ known.roles l.pair) × (known2.roles l.table ≡ known.roles l.table) × (told ≡ changed.Took l.table → ⊥))
+      → RefinesWaiting v known2 w2
   none_moved v known2 place deferred roles =
       subst (EachWaits (Waits v known2 w2)) (sym deferred)
       (each_on (Waits m known w) (Waits v known2 w2)
       (λ n t p. let k = roles n t p.1 in (ap (λ (f : ℕ → Place). f n) place ∙ p.0, lies_still known2 n t p.1 k.0 k.1 k.2)) m.deferred waiting)
 
   -- no block is told to be taken
-  pub quiet : (v : Moment K V) (known2 : Known) → v.place ≡ m.place → v.deferred ≡ m.deferred → known2.roles ≡ known.roles → ((x : ℕ) → told ≡ changed.Took x → ⊥) → ShowsWaiting v known2 w2
+  pub quiet : (v : Moment K V) (known2 : Known) → v.place ≡ m.place → v.deferred ≡ m.deferred → known2.roles ≡ known.roles → ((x : ℕ) → told ≡ changed.Took x → ⊥) → RefinesWaiting v known2 w2
   quiet v known2 place deferred roles none =
       none_moved v known2 place deferred (λ n t l. (ap (λ (f : ℕ → Role). f l.pair) roles, ap (λ (f : ℕ → Role). f l.table) roles, none l.table))
 
@@ -149,18 +149,18 @@ module _ {K V : Type 0} (same : K → K → Bool) (name : ℕ → List ℕ) (siz
     role_same : (b : ℕ) → (b ≡ x → ⊥) → known2.roles b ≡ known.roles b
     role_same b ne = put_elsewhere x role.Free known.roles b ne
 
-    took_pair : (n : ℕ) (t : TableId) (l : LiesBehind known w n t) → l.pair ≡ x → ⊥
+    took_pair : (n : ℕ) (t : TableId) (l : IsDeferredTo known w n t) → l.pair ≡ x → ⊥
     took_pair n t l e = pair_stays n t l (is ∙ ap changed.Took (sym e))
 
     -- that of nothing of a map
-    took_other : (r : Role) → known.roles x ≡ r → ((t : TableId) (len : ℕ) → r ≡ role.Table t len → ⊥) → (v : Moment K V) → v.place ≡ m.place → v.deferred ≡ m.deferred → ShowsWaiting v known2 w2
+    took_other : (r : Role) → known.roles x ≡ r → ((t : TableId) (len : ℕ) → r ≡ role.Table t len → ⊥) → (v : Moment K V) → v.place ≡ m.place → v.deferred ≡ m.deferred → RefinesWaiting v known2 w2
     took_other r e never v place deferred =
         none_moved v known2 place deferred
         (λ n t l. let apart : l.table ≡ x → ⊥ = (λ z. never t l.len (sym e ∙ ap known.roles (sym z) ∙ l.is_table)) in
         (role_same l.pair (took_pair n t l), role_same l.table apart, other_table x is n t l apart))
 
     -- that of a pair
-    took_a_pair : (k : ℕ) → known.roles x ≡ role.Pair k → (v : Moment K V) → v.place ≡ put k GivenBack m.place → v.deferred ≡ m.deferred → ShowsWaiting v known2 w2
+    took_a_pair : (k : ℕ) → known.roles x ≡ role.Pair k → (v : Moment K V) → v.place ≡ put k GivenBack m.place → v.deferred ≡ m.deferred → RefinesWaiting v known2 w2
     took_a_pair k e v place deferred =
         subst (EachWaits (Waits v known2 w2)) (sym deferred)
         (each_on (Waits m known w) (Waits v known2 w2)
@@ -173,13 +173,13 @@ module _ {K V : Type 0} (same : K → K → Bool) (name : ℕ → List ℕ) (siz
 
     -- that of a table
     took_a_table : (u : TableId) (len : ℕ) → known.roles x ≡ role.Table u len → (v : Moment K V) → v.place ≡ all_at IsHanded (behind u m.deferred) m.place
-        → v.deferred ≡ filter (λ (d : Deferral). not (same_table d.behind u)) m.deferred → ShowsWaiting v known2 w2
+        → v.deferred ≡ filter (λ (d : Deferral). not (same_table d.behind u)) m.deferred → RefinesWaiting v known2 w2
     took_a_table u len e v place deferred =
         subst (EachWaits (Waits v known2 w2)) (sym deferred)
         (each_kept (Waits m known w) (Waits v known2 w2) (λ d. not (same_table d.behind u)) (λ d other p. kept_one d.pair d.behind other p) m.deferred waiting)
       where
         -- the table of what stays is another one
-        apart : (n : ℕ) (t : TableId) → not (same_table t u) ≡ true → (l : LiesBehind known w n t) → l.table ≡ x → ⊥
+        apart : (n : ℕ) (t : TableId) → not (same_table t u) ≡ true → (l : IsDeferredTo known w n t) → l.table ≡ x → ⊥
         apart n t other l z =
             let one : role.Table t l.len ≡ role.Table u len = sym l.is_table ∙ ap known.roles z ∙ e in
             let t_is : t ≡ u = cc one in
@@ -188,11 +188,11 @@ module _ {K V : Type 0} (same : K → K → Bool) (name : ℕ → List ℕ) (siz
             cc (other, none)
 
         -- so it does not wait behind this one, too
-        not_both : (n : ℕ) (t : TableId) → not (same_table t u) ≡ true → (l : LiesBehind known w n t) → WaitsAt (Waits m known w) n u → ⊥
+        not_both : (n : ℕ) (t : TableId) → not (same_table t u) ≡ true → (l : IsDeferredTo known w n t) → WaitsAt (Waits m known w) n u → ⊥
         not_both n t other l a = clash l.waits b.waits
           where
-            b : LiesBehind known w n u
-            b = subst (LiesBehind known w n) (table_is a.one.behind u a.its) (subst (λ (k : ℕ). LiesBehind known w k a.one.behind) a.number a.so.1)
+            b : IsDeferredTo known w n u
+            b = subst (IsDeferredTo known w n) (table_is a.one.behind u a.its) (subst (λ (k : ℕ). IsDeferredTo known w k a.one.behind) a.number a.so.1)
 
             same_pair : l.pair ≡ b.pair
             same_pair = shown.blocks.once l.pair b.pair n l.is_pair b.is_pair
@@ -210,7 +210,7 @@ module _ {K V : Type 0} (same : K → K → Bool) (name : ℕ → List ℕ) (siz
             clash (inr first) (inl second) =
                 left_no_handed (w.hand l.pair) first.0 (ap w.hand same_pair ∙ has_it deferred_word size w kept b.pair b.table second)
 
-        place_kept : (n : ℕ) (t : TableId) → not (same_table t u) ≡ true → (l : LiesBehind known w n t) → m.place n ≡ Behind → all_at IsHanded (behind u m.deferred) m.place n ≡ Behind
+        place_kept : (n : ℕ) (t : TableId) → not (same_table t u) ≡ true → (l : IsDeferredTo known w n t) → m.place n ≡ Behind → all_at IsHanded (behind u m.deferred) m.place n ≡ Behind
         place_kept n t other l was = by (is_among n (behind u m.deferred)) refl
           where
             by : (q : Bool) → is_among n (behind u m.deferred) ≡ q → (if q then IsHanded else m.place n) ≡ Behind
@@ -224,7 +224,7 @@ module _ {K V : Type 0} (same : K → K → Bool) (name : ℕ → List ℕ) (siz
               lies_still known2 n t l (role_same l.pair (took_pair n t l)) (role_same l.table (apart n t other l)) (other_table x is n t l (apart n t other l)),
             )
 
-    took : (r : Role) → known.roles x ≡ r → ShowsWaiting (with_effects None None (taken_by Row r) m) known2 w2
+    took : (r : Role) → known.roles x ≡ r → RefinesWaiting (with_effects None None (taken_by Row r) m) known2 w2
     took role.Free e = took_other role.Free e (λ t len z. cc z) m refl refl
     took (role.OwnPair j) e = took_other (role.OwnPair j) e (λ t len z. cc z) (with_effects None None (taken_by Row (role.OwnPair j)) m) refl refl
     took (role.OwnTable turn shape) e = took_other (role.OwnTable turn shape) e (λ t len z. cc z) (with_effects None None (taken_by Row (role.OwnTable turn shape)) m) refl refl
@@ -233,10 +233,10 @@ module _ {K V : Type 0} (same : K → K → Bool) (name : ℕ → List ℕ) (siz
     took (role.Table u len) e = took_a_table u len e (with_effects None None (taken_by Row (role.Table u len)) m) refl refl
 
 -- by what it tells
-module _ {K V : Type 0} (same : K → K → Bool) (name : ℕ → List ℕ) (size : ℕ) (m : Moment K V) (known : Known) (s : Scene K V) (shown : Shows same name m known s) (blocks : ShowsUnreclaimed m known)
-    (waiting : ShowsWaiting m known s.world) (came : CameAbout size s.world) (reached : Reached deferred_word size s.world) (i : ℕ) (w2 : World (Node K V)) (step : Steps' deferred_word i (s.world.row i) s.world w2) where
+module _ {K V : Type 0} (same : K → K → Bool) (name : ℕ → List ℕ) (size : ℕ) (m : Moment K V) (known : Known) (s : Scene K V) (shown : Refines same name m known s) (blocks : RefinesUnreclaimed m known)
+    (waiting : RefinesWaiting m known s.world) (came : CameAbout size s.world) (reached : Reached deferred_word size s.world) (i : ℕ) (w2 : World (Node K V)) (step : Steps' deferred_word i (s.world.row i) s.world w2) where
   abbrev Then : Changed → Type 0
-  Then told = ShowsWaiting (with_effects None None (effects_of Row known told) m) (known_after Row told known) w2
+  Then told = RefinesWaiting (with_effects None None (effects_of Row known told) m) (known_after Row told known) w2
 
   pub row_waiting : (told : Changed) → TellsRow told → LeavesBy s.world.memory w2.memory told → Then told
   row_waiting changed.Nothing is l = quiet same name size m known s shown blocks waiting came reached i w2 step changed.Nothing is l m known refl refl refl (λ x e. cc e)
@@ -244,7 +244,7 @@ module _ {K V : Type 0} (same : K → K → Bool) (name : ℕ → List ℕ) (siz
       quiet same name size m known s shown blocks waiting came reached i w2 step (changed.Wrote (Slot t field) old new) is l m known refl refl refl (λ x e. cc e)
   row_waiting (changed.Wrote (Entry b field) old new) is l = by (names_same old new)
     where
-      by : (q : Bool) → ShowsWaiting (with_effects None None (if q then [] else []) m) known w2
+      by : (q : Bool) → RefinesWaiting (with_effects None None (if q then [] else []) m) known w2
       by true = quiet same name size m known s shown blocks waiting came reached i w2 step (changed.Wrote (Entry b field) old new) is l m known refl refl refl (λ x e. cc e)
       by false = quiet same name size m known s shown blocks waiting came reached i w2 step (changed.Wrote (Entry b field) old new) is l m known refl refl refl (λ x e. cc e)
   row_waiting (changed.Wrote (Root r) old new) is l = absurd is
@@ -258,6 +258,6 @@ module _ {K V : Type 0} (same : K → K → Bool) (name : ℕ → List ℕ) (siz
       known2 : Known
       known2 = known_after Row (changed.Roomed bucket had) known
 
-      by : (q : Bool) → ShowsWaiting (with_effects None None (if q then [] else Asked ABucket ∷ []) m) known2 w2
+      by : (q : Bool) → RefinesWaiting (with_effects None None (if q then [] else Asked ABucket ∷ []) m) known2 w2
       by true = quiet same name size m known s shown blocks waiting came reached i w2 step (changed.Roomed bucket had) is l m known2 refl refl (roomed_as_many Row known bucket had).0 (λ x e. cc e)
       by false = quiet same name size m known s shown blocks waiting came reached i w2 step (changed.Roomed bucket had) is l (with_effects None None (Asked ABucket ∷ []) m) known2 refl refl (roomed_as_many Row known bucket had).0 (λ x e. cc e)

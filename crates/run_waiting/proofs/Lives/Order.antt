@@ -34,11 +34,11 @@ use Rattle.run_debts.proofs.Given.FollowsOnward.{IsOfMap}
 use Rattle.run_debts.proofs.Given.FollowsOperations.{LeavesBy}
 use Rattle.run_debts.proofs.Given.OthersRowPlans.{TellsRow, row_tells}
 use Rattle.run_debts.proofs.Given.SpotsUnreclaimed.{table_is}
-use Rattle.run_debts.specs.Given.MomentsWhole.{ShowsWhole}
+use Rattle.run_debts.specs.Given.MomentsWhole.{RefinesWhole}
 use Rattle.run_debts.proofs.Given.MomentsMakings.{makings_keep_blocks}
 use Rattle.run_debts.specs.Due.{OwnAreMade}
-use Rattle.run_waiting.specs.Lives.Behind.{LiesBehind, EachWaits, ShowsWaiting}
-use Rattle.run_waiting.specs.Lives.Order.{ShowsOrder, OrderBegins, OthersLeaveOrder, EndingsBeginOrder, RowsBeginOrder, RowsKeepOrder, MakingsKeepOrder}
+use Rattle.run_waiting.specs.Lives.Behind.{IsDeferredTo, EachWaits, RefinesWaiting}
+use Rattle.run_waiting.specs.Lives.Order.{RefinesOrder, OrderBegins, OthersLeaveOrder, EndingsBeginOrder, RowsBeginOrder, RowsPreserveOrder, MakingsPreserveOrder}
 use Rattle.run_waiting.specs.Lives.Waiting.{IsPutting}
 use Rattle.run_waiting.proofs.Lives.Each.{each_on}
 use Rattle.run_waiting.proofs.Lives.InUse.{listed_there, step_goes, used_then, users_leave_list, users_make_none}
@@ -103,7 +103,7 @@ pub endings_begin_order : (K V : Type 0) → EndingsBeginOrder K V
 endings_begin_order K V m known s shows map i standing c len o t blocks is used are = shows c len o t blocks is used are
 
 -- where a table has the list that it had, its pairs are noted as they were, and the same ones wait behind it
-module _ {K V : Type 0} (m v : Moment K V) (known known2 : Known) (w : World (Node K V)) (shows : ShowsOrder m known w) where
+module _ {K V : Type 0} (m v : Moment K V) (known known2 : Known) (w : World (Node K V)) (shows : RefinesOrder m known w) where
   pub order_as : (c len o : ℕ) (t : TableId) (blocks : List ℕ) → known.roles c ≡ role.Table t len → w.hand c ≡ InUse o → FurtherAre deferred_word w.memory c blocks
       → ((b n : ℕ) → 0 < times b blocks → known.roles b ≡ role.Pair n → known2.roles b ≡ role.Pair n) → behind t v.deferred ≡ behind t m.deferred
       → map known2.roles blocks ≡ map role.Pair (behind t v.deferred)
@@ -111,7 +111,7 @@ module _ {K V : Type 0} (m v : Moment K V) (known known2 : Known) (w : World (No
       noted_still known known2 blocks (behind t v.deferred) (shows c len o t blocks is used are ∙ ap (λ (ns : List ℕ). map role.Pair ns) (sym same)) still
 
 -- what users do leaves it, where they put nothing behind a table: one that they link is a new one
-module _ {K V : Type 0} (size : ℕ) (m v : Moment K V) (known known2 : Known) (w w2 : World (Node K V)) (r : Reached deferred_word size w) (shows : ShowsOrder m known w) (waiting : ShowsWaiting m known w)
+module _ {K V : Type 0} (size : ℕ) (m v : Moment K V) (known known2 : Known) (w w2 : World (Node K V)) (r : Reached deferred_word size w) (shows : RefinesOrder m known w) (waiting : RefinesWaiting m known w)
     (roles : (b : ℕ) → HasRole w m.stored b (known.roles b)) (owning : OwnAreMade known w) (events : List (Event (Node K V))) (users : AllUsers events) (runs : Runs deferred_word size events w w2)
     (tables : (c len : ℕ) (t : TableId) → known2.roles c ≡ role.Table t len → WasTable known c t len)
     (keeps : (b : ℕ) (x : Role) → known.roles b ≡ x → IsOfMap x → known2.roles b ≡ x)
@@ -121,14 +121,14 @@ module _ {K V : Type 0} (size : ℕ) (m v : Moment K V) (known known2 : Known) (
   new_behind : (c len turn : ℕ) (shape : TableShape) (t : TableId) → known2.roles c ≡ role.Table t len → known.roles c ≡ role.OwnTable turn shape → behind t v.deferred ≡ []
   new_behind c len turn shape t is own =
       ap (behind t) list
-      ∙ none_behind t m.deferred (each_on (λ n u. (m.place n ≡ Behind) × LiesBehind known w n u) (λ n u. u ≡ t → ⊥) (λ n u p e.
+      ∙ none_behind t m.deferred (each_on (λ n u. (m.place n ≡ Behind) × IsDeferredTo known w n u) (λ n u. u ≡ t → ⊥) (λ n u p e.
       (let l = p.1 in
       let there : known.roles l.table ≡ role.Table t l.len = l.is_table ∙ ap (λ (x : TableId). role.Table x l.len) e in
       let one = once l.table c l.len len t (keeps l.table (role.Table t l.len) there tt) is in
       let both : role.Table t l.len ≡ role.OwnTable turn shape = sym there ∙ ap known.roles one ∙ own in
       cc both)) m.deferred waiting)
 
-  pub users_keep_order : ShowsOrder v known2 w2
+  pub users_keep_order : RefinesOrder v known2 w2
   users_keep_order c len o t blocks is used are = by (tables c len t is)
     where
       by : WasTable known c t len → map known2.roles blocks ≡ map role.Pair (behind t v.deferred)
@@ -181,10 +181,10 @@ module _ {K V : Type 0} (m : Moment K V) (known : Known) (once : (b c len n : �
   row_behind (changed.Roomed bucket had) is e = roomed_behind (had && nat_lt bucket known.buckets)
 
 -- by a step of a row on a slot
-module _ {K V : Type 0} (same : K → K → Bool) (name : ℕ → List ℕ) (size : ℕ) (m : Moment K V) (known : Known) (s : Scene K V) (whole : ShowsWhole same name m known s)
-    (shows : ShowsOrder m known s.world) (r : Reached deferred_word size s.world) (i : ℕ) (none : (b c : ℕ) → IsPutting b c (s.world.row i) → ⊥) where
+module _ {K V : Type 0} (same : K → K → Bool) (name : ℕ → List ℕ) (size : ℕ) (m : Moment K V) (known : Known) (s : Scene K V) (whole : RefinesWhole same name m known s)
+    (shows : RefinesOrder m known s.world) (r : Reached deferred_word size s.world) (i : ℕ) (none : (b c : ℕ) → IsPutting b c (s.world.row i) → ⊥) where
   pub row_order : (w2 : World (Node K V)) → Steps' deferred_word i (s.world.row i) s.world w2 → (told : Changed) → TellsRow told → LeavesBy s.world.memory w2.memory told
-      → ShowsOrder (with_effects None None (effects_of Row known told) m) (known_after Row told known) w2
+      → RefinesOrder (with_effects None None (effects_of Row known told) m) (known_after Row told known) w2
   row_order w2 step told tells leaves c len o t blocks is used are =
       elim (step_goes deferred_word size i s.world w2 r step c o used blocks are) as (λ _. map (known_after Row told known).roles blocks ≡ map role.Pair (behind t v.deferred)) [
         | inl same_list ↦
@@ -218,7 +218,7 @@ begun_same size slot i w v calls.Flush h = (ap (λ (x : World (Node _ _)). x.mem
 begun_same size slot i w v calls.Unregister h = (ap (λ (x : World (Node _ _)). x.memory) h.1, ap (λ (x : World (Node _ _)). x.hand) h.1)
 
 -- where the memory is the same, and who has what
-pub order_in : {K V : Type 0} (m : Moment K V) (known : Known) (w w2 : World (Node K V)) → w2.memory ≡ w.memory → w2.hand ≡ w.hand → ShowsOrder m known w → ShowsOrder m known w2
+pub order_in : {K V : Type 0} (m : Moment K V) (known : Known) (w w2 : World (Node K V)) → w2.memory ≡ w.memory → w2.hand ≡ w.hand → RefinesOrder m known w → RefinesOrder m known w2
 order_in {K} {V} m known w w2 memory hands shows c len o t blocks is used are =
     shows c len o t blocks is (ap (λ (h : ℕ → Hand). h c) (sym hands) ∙ used) (subst (λ (x : Mem (Node K V)). FurtherAre deferred_word x c blocks) memory are)
 
@@ -229,7 +229,7 @@ module _ (K V : Type 0) (same : K → K → Bool) (hash : ℕ → K → ℕ) whe
       let it = begun_same old.batch_size (slot_of i) i s.world to.0 called to.1.1 in
       order_in m known s.world to.0 it.0 it.1 shows
 
-  pub rows_keep_order : RowsKeepOrder K V same hash
+  pub rows_keep_order : RowsPreserveOrder K V same hash
   rows_keep_order name m known s old new at whole shows i told leads row here =
       let to = leads row here in
       row_order same name old.batch_size m known s whole shows (reached K V same hash s old new at i row here (to.0, told) to.1 to.2) i
@@ -240,7 +240,7 @@ module _ (K V : Type 0) (same : K → K → Bool) (hash : ℕ → K → ℕ) whe
       on_slot : s.world.row i ≡ row_of row
       on_slot = here.1
 
-  pub makings_keep_order : MakingsKeepOrder K V same hash
+  pub makings_keep_order : MakingsPreserveOrder K V same hash
   makings_keep_order name m known s old new at whole owning waiting shows i told leads b here of was_new =
       let step = (leads b here).2.step in
       users_keep_order old.batch_size m (with_effects None of (effects_of (OfMaking b.map) known new.changed) m) known (known_after (OfMaking b.map) new.changed known) s.world step.w2

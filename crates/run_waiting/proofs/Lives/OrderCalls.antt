@@ -35,16 +35,16 @@ use Rattle.run_debts.proofs.Given.FollowsOnward.{IsLasting, KeepsRoles}
 use Rattle.run_debts.proofs.Given.FollowsSteps.{WentTo, went_to, DidSo, OfNoRow, step_shown}
 use Rattle.run_debts.proofs.Given.HandsSteps.{calls_store_theirs}
 use Rattle.run_debts.proofs.Given.SpotsUnreclaimed.{table_is, same_itself, of_map_lasts as lasting_of}
-use Rattle.run_debts.specs.Given.MomentsWhole.{ShowsWhole}
+use Rattle.run_debts.specs.Given.MomentsWhole.{RefinesWhole}
 use Rattle.run_debts.proofs.Given.MomentsCalls.{calls_keep_whole}
-use Rattle.run_debts.specs.Due.{ToPut, due_in_row, told_retired, RowTells, TellsNone, TellsRetired, TellsDeferred, OwnAreMade}
-use Rattle.run_debts.specs.Entries.{ShowsEntries}
-use Rattle.run_debts.specs.Hand.{IsPairRole, ShowsOwed}
+use Rattle.run_debts.specs.Due.{ToPut, due_in_row, retired_effects, RowTells, TellsNone, TellsRetired, TellsDeferred, OwnAreMade}
+use Rattle.run_debts.specs.Entries.{EntriesAreBlank}
+use Rattle.run_debts.specs.Hand.{IsPairRole, RefinesObligations}
 use Rattle.run_debts.proofs.DueCalls.{rows_tell_due}
 use Rattle.run_debts.proofs.Hand.All.{own_or_row}
-use Rattle.run_waiting.specs.Lives.Behind.{ShowsWaiting}
-use Rattle.run_waiting.specs.Lives.Lying.{ShowsLying}
-use Rattle.run_waiting.specs.Lives.Order.{ShowsOrder, CallsKeepOrder}
+use Rattle.run_waiting.specs.Lives.Behind.{RefinesWaiting}
+use Rattle.run_waiting.specs.Lives.Lying.{RefinesLying}
+use Rattle.run_waiting.specs.Lives.Order.{RefinesOrder, CallsPreserveOrder}
 use Rattle.run_waiting.specs.Lives.Waiting.{IsPutting}
 use Rattle.run_waiting.proofs.Lives.CallRows.{looked, puts_it, retired_list, role_kept, under_way}
 use Rattle.run_waiting.proofs.Lives.Calls.{calls_keep_list}
@@ -72,7 +72,7 @@ no_more_behind n t x ds other = by (same_table x t) refl
     by false is = refl
 
 module _ {K V : Type 0} (same : K → K → Bool) (hash : ℕ → K → ℕ) (name : ℕ → List ℕ) (m : Moment K V) (known : Known) (s : Scene K V) (old new : Held K V) (at : IsAt same hash old s)
-    (whole : ShowsWhole same name m known s) (owning : OwnAreMade known s.world) (waiting : ShowsWaiting m known s.world) (lying : ShowsLying m known s.world) (shows : ShowsOrder m known s.world)
+    (whole : RefinesWhole same name m known s) (owning : OwnAreMade known s.world) (waiting : RefinesWaiting m known s.world) (lying : RefinesLying m known s.world) (shows : RefinesOrder m known s.world)
     (map i : ℕ) (u : UnderWay K V K) (here : s.calls map i ≡ Some u) (said : Progress (Node K V)) (leads : StepLeads same hash i said s old new) where
   abbrev to : WentTo same hash name m known s old new at whole.all.shown map i u here said leads
   to = went_to same hash name m known s old new at whole.all.shown map i u here said leads
@@ -105,20 +105,20 @@ module _ {K V : Type 0} (same : K → K → Bool) (hash : ℕ → K → ℕ) (na
         let stores = (calls_store_theirs K V same hash name m known s old new at whole.all map i u here said leads own).0 in
         (step_shown same hash name m known s old new at whole.all.shown map i u here said leads own stores).1.keeps
 
-    by_events : (w2 : World (Node K V)) → to.4.w2 ≡ w2 → (events : List (Event (Node K V))) → AllUsers events → Runs deferred_word size events w w2 → ShowsOrder v known2 to.4.w2
+    by_events : (w2 : World (Node K V)) → to.4.w2 ≡ w2 → (events : List (Event (Node K V))) → AllUsers events → Runs deferred_word size events w w2 → RefinesOrder v known2 to.4.w2
     by_events w2 is events users runs =
-        subst (ShowsOrder v known2) (sym is)
+        subst (RefinesOrder v known2) (sym is)
         (users_keep_order size m v known known2 w w2 reached shows waiting whole.all.shown.blocks.roles owning events users runs
         (λ c len t noted. role_back (Call i map) known c len t new.changed noted)
         (λ b r noted its. keeps b (subst IsLasting (sym noted) (lasting_of r its)) ∙ noted)
         (calls_keep_whole K V same hash name m known s old new at whole map i u here said leads).blocks.tables_once
         (calls_keep_list same hash name m known s old new at whole map i u here said leads own))
 
-    pub own_order : ShowsOrder v known2 to.4.w2
+    pub own_order : RefinesOrder v known2 to.4.w2
     own_order = by u to.4.did own
       where
         by : (x : UnderWay K V K) (step : DidSo same hash name m known s old new at whole.all.shown map i u here said leads x)
-            → OfNoRow same hash name m known s old new at whole.all.shown map i u here said leads x step → ShowsOrder v known2 to.4.w2
+            → OfNoRow same hash name m known s old new at whole.all.shown map i u here said leads x step → RefinesOrder v known2 to.4.w2
         by (OnKey x) (p2, end, machine_is, told_is, inl (step, moved)) none = by_events step.step.went.w2 moved.0 step.step.went.events step.step.went.users step.step.went.runs
         by (OnKey x) (p2, end, machine_is, told_is, inr (row, stayed)) none = absurd none
         by (ForRoom x) (p2, end, machine_is, told_is, inl (step, moved)) none = by_events step.step.went.w2 moved.0 step.step.went.events step.step.went.users step.step.went.runs
@@ -128,7 +128,7 @@ module _ {K V : Type 0} (same : K → K → Bool) (hash : ℕ → K → ℕ) (na
         by (OverAll x) (p2, end, machine_is, told_is, inr (row, stayed)) none = absurd none
 
   -- of a row
-  module _ (entries : ShowsEntries s) (owed : ShowsOwed name m known s)
+  module _ (entries : EntriesAreBlank s) (owed : RefinesObligations name m known s)
       (other : OfNoRow same hash name m known s old new at whole.all.shown map i u here said leads u (leads map u here).4.did → ⊥) where
     abbrev Tells : Type 0
     Tells = RowTells i map known effects (due_in_row (machine_of u)) (due_in_row to.1)
@@ -181,7 +181,7 @@ module _ {K V : Type 0} (same : K → K → Bool) (hash : ℕ → K → ℕ) (na
 
           by : Tells → Told
           by (TellsNone none alike) = as_told [] none (behind t m.deferred) refl
-          by (TellsRetired word due gone told) = as_told (told_retired (known.roles (block_in word))) told (behind t m.deferred) (ap (behind t) (retired_list same hash name m known s old new at whole entries owning waiting map i u here said leads other w3 is (known.roles (block_in word))))
+          by (TellsRetired word due gone told) = as_told (retired_effects (known.roles (block_in word))) told (behind t m.deferred) (ap (behind t) (retired_list same hash name m known s old new at whole entries owning waiting map i u here said leads other w3 is (known.roles (block_in word))))
           by (TellsDeferred word block place x k due its gone table told) = put_more word block place x k (named known word) due its gone table told
 
       -- it takes a step
@@ -301,15 +301,15 @@ module _ {K V : Type 0} (same : K → K → Bool) (hash : ℕ → K → ℕ) (na
       one_lies (inl step) = stepped step
       one_lies (inr (request, begun, over, begins, step)) = began request begun over begins step
 
-    row_lies : (w3 : World (Node K V)) → to.4.w2 ≡ w3 → w3.memory ≡ new.memory → IsOneStep to.0.setting i w w3 → ShowsOrder v known2 to.4.w2
+    row_lies : (w3 : World (Node K V)) → to.4.w2 ≡ w3 → w3.memory ≡ new.memory → IsOneStep to.0.setting i w w3 → RefinesOrder v known2 to.4.w2
     row_lies w3 is memory step c len o t blocks table2 used are =
         one_lies w3 is memory c len o t blocks table2 (ap (λ (z : World (Node K V)). z.hand c) (sym is) ∙ used) (subst (λ (z : World (Node K V)). FurtherAre deferred_word z.memory c blocks) is are) step
 
-    pub row_order : ShowsOrder v known2 to.4.w2
+    pub row_order : RefinesOrder v known2 to.4.w2
     row_order = by u to.4.did other
       where
         by : (x : UnderWay K V K) (step : DidSo same hash name m known s old new at whole.all.shown map i u here said leads x)
-            → (OfNoRow same hash name m known s old new at whole.all.shown map i u here said leads x step → ⊥) → ShowsOrder v known2 to.4.w2
+            → (OfNoRow same hash name m known s old new at whole.all.shown map i u here said leads x step → ⊥) → RefinesOrder v known2 to.4.w2
         by (OnKey x) (p2, end, machine_is, told_is, inl step) none = absurd (none tt)
         by (OnKey x) (p2, end, machine_is, told_is, inr (row, stayed)) none = row_lies row.step.w2 stayed.0 row.step.memory row.step.happened
         by (ForRoom x) (p2, end, machine_is, told_is, inl step) none = absurd (none tt)
@@ -318,10 +318,10 @@ module _ {K V : Type 0} (same : K → K → Bool) (hash : ℕ → K → ℕ) (na
         by (OverAll x) (p2, end, machine_is, told_is, inl step) none = absurd (none tt)
         by (OverAll x) (p2, end, machine_is, told_is, inr (row, stayed)) none = row_lies row.step.w2 stayed.0 row.step.memory row.step.happened
 
-pub calls_keep_order : (K V : Type 0) (same : K → K → Bool) (hash : ℕ → K → ℕ) → CallsKeepOrder K V same hash
+pub calls_keep_order : (K V : Type 0) (same : K → K → Bool) (hash : ℕ → K → ℕ) → CallsPreserveOrder K V same hash
 calls_keep_order K V same hash name m known s old new at whole entries owning owed waiting lying shows map i u here said leads =
     elim (own_or_row same hash name m known s old new at whole.all.shown map i u here said leads u (went_to same hash name m known s old new at whole.all.shown map i u here said leads).4.did)
-    as (λ _. ShowsOrder (with_effects (Some (name i)) (Some map) (effects_of (Call i map) known new.changed) m) (known_after (Call i map) new.changed known) (leads map u here).4.w2) [
+    as (λ _. RefinesOrder (with_effects (Some (name i)) (Some map) (effects_of (Call i map) known new.changed) m) (known_after (Call i map) new.changed known) (leads map u here).4.w2) [
       | inl own ↦ own_order same hash name m known s old new at whole owning waiting lying shows map i u here said leads own
       | inr other ↦ row_order same hash name m known s old new at whole owning waiting lying shows map i u here said leads entries owed other
     ]

@@ -34,13 +34,13 @@ use Rattle.run_debts.proofs.Given.FinishesEnds.CountedBlocks.{some_here}
 use Rattle.run_debts.proofs.Given.FollowsAlike.{put_here}
 use Rattle.run_debts.proofs.Given.FollowsOnward.{IsOfMap}
 use Rattle.run_debts.specs.Given.OthersEndings.{ending_after}
-use Rattle.run_debts.specs.Given.MomentsWhole.{ShowsWhole}
+use Rattle.run_debts.specs.Given.MomentsWhole.{RefinesWhole}
 use Rattle.run_debts.proofs.Given.MomentsEnds.{says, end_keeps}
-use Rattle.run_waiting.specs.Lives.Order.{ShowsOrder, EndingsKeepOrder}
+use Rattle.run_waiting.specs.Lives.Order.{RefinesOrder, EndingsPreserveOrder}
 use Rattle.run_waiting.proofs.Lives.InUse.{its_list, list_is, listed_there, still_lists, used_there}
 use Rattle.run_waiting.proofs.Lives.Order.{behind_apart, order_as}
 use Rattle.run_waiting.proofs.Lives.WaitingEnds.{calm_deferred}
-use Rattle.run_debts.specs.Given.ScenesEnding.{EndingComesTo, EndingStepsFrom}
+use Rattle.run_debts.specs.Given.ScenesEnding.{EndingHasOutcome, EndingStepsFrom}
 use Rattle.run_debts.specs.Given.ScenesHeld.{Held, IsAt}
 use Rattle.run_debts.specs.Given.ScenesScene.{Scene, slot_of}
 
@@ -77,10 +77,10 @@ module _ {T : Type 0} (defers : T → Option ℕ) (size i : ℕ) (w w2 : World T
   deed_leaves (WritesRoot place word) runs left = as_still (still_lists defers size (events_of i (WritesRoot place word)) w w2 r (tt, tt) runs)
 
 module _ {K V : Type 0} (same : K → K → Bool) (hash : ℕ → K → ℕ) (name : ℕ → List ℕ) (m : Moment K V) (known : Known) (s : Scene K V) (old new : Held K V) (at : IsAt same hash old s)
-    (whole : ShowsWhole same name m known s) (shows : ShowsOrder m known s.world) (i : ℕ) (f : Finishing K V) (here : s.enders i ≡ Some f) (end : EndMap) (said : Settled (Node K V))
+    (whole : RefinesWhole same name m known s) (shows : RefinesOrder m known s.world) (i : ℕ) (f : Finishing K V) (here : s.enders i ≡ Some f) (end : EndMap) (said : Settled (Node K V))
     (steps : EndingStepsFrom f.machine old new end said)
     (did : StepsOfEnding V same same old.batch_size old.roots slot_of s.world s.maps s.calls s.makers s.enders i f new.memory (end, said))
-    (map : ℕ) (not_there : s.maps map ≡ None) (comes : EndingComesTo same hash s new i f end did.w2 did.deed said) where
+    (map : ℕ) (not_there : s.maps map ≡ None) (comes : EndingHasOutcome same hash s new i f end did.w2 did.deed said) where
   abbrev told : Changed
   told = new.changed
 
@@ -141,7 +141,7 @@ module _ {K V : Type 0} (same : K → K → Bool) (hash : ℕ → K → ℕ) (na
       by (suc j) some zero not_left = absurd (gone_unused c o (omega (arith, some)) used)
       by j some (suc k) over = absurd (let left = did.spares.left c (omega (arith, over)) in cc (left, used))
 
-  order_then : ShowsOrder v known2 did.w2
+  order_then : RefinesOrder v known2 did.w2
   order_then c len o t blocks is used are =
       order_as m v known known2 s.world shows c len o t blocks (was_table c len t is) was same_list
       (λ b n some noted. still_pair b n (listed_there deferred_word did.w2 after.0.good c o used blocks are b some) noted) (same_behind c len t is)
@@ -157,12 +157,12 @@ module _ {K V : Type 0} (same : K → K → Bool) (hash : ℕ → K → ℕ) (na
           subst (FurtherAre deferred_word s.world.memory c) (sym (list_is deferred_word did.w2 after.0.good c o used blocks are ∙ after.1))
           (its_list deferred_word s.world first.good c o was)
 
-  pub ordered_then : (x : Settled (Node K V)) (it : EndingComesTo same hash s new i f end did.w2 did.deed x) → ShowsOrder v known2 (ending_after same hash s new i f end did.w2 did.deed x it).world
+  pub ordered_then : (x : Settled (Node K V)) (it : EndingHasOutcome same hash s new i f end did.w2 did.deed x) → RefinesOrder v known2 (ending_after same hash s new i f end did.w2 did.deed x it).world
   ordered_then settled.Goes it = order_then
   ordered_then settled.Waits it = absurd it
   ordered_then (settled.Gave value) it = order_then
   ordered_then settled.Done it = order_then
 
-pub endings_keep_order : (K V : Type 0) (same : K → K → Bool) (hash : ℕ → K → ℕ) → EndingsKeepOrder K V same hash
+pub endings_keep_order : (K V : Type 0) (same : K → K → Bool) (hash : ℕ → K → ℕ) → EndingsPreserveOrder K V same hash
 endings_keep_order K V same hash name m known s old new at whole shows i told leads f here map not_there =
     let to = leads f here in ordered_then same hash name m known s old new at whole shows i f here to.0 told to.1 to.2 map not_there to.3 told to.3

@@ -26,7 +26,7 @@ use Rattle.run_debts.specs.Given.RuleChart.{Chart}
 use Rattle.run_debts.specs.Given.RuleWords.{Blocks}
 use Rattle.run_debts.specs.Given.CallersRows.{row_of, row_of_disposal}
 use Rattle.run_debts.specs.Given.CallersOverAll.{row_of_sweep}
-use Rattle.run_debts.specs.Given.CallersTogether.{UnderWay, OnKey, ForRoom, Counting, OverAll, Stands}
+use Rattle.run_debts.specs.Given.CallersTogether.{UnderWay, OnKey, ForRoom, Counting, OverAll, IsAtPoint}
 use Rattle.run_debts.specs.Given.FinishesMachines.{machine_of}
 use Rattle.run_debts.specs.Due.{ToPut, due_in_defer, due_in_disposing, due_in_calling, due_in_sweeping, due_in_row}
 use Rattle.run_debts.proofs.Hand.Behind.{settle_puts, copying_puts, room_puts}
@@ -61,7 +61,7 @@ module _ (word : ℕ) (place : At) (slot : ℕ) where
 
 -- unless it has no row under way
 module _ {K V : Type 0} (same : K → K → Bool) (hash : K → ℕ) (setting : Setting) (w : World (Node K V)) (c : Chart K) (blocks : Blocks) (i word : ℕ) (place : At) where
-  pub to_put : (u : UnderWay K V K) → Stands V same hash same setting slot_of w c blocks i u → (w.row i ≡ Rests → ⊥) → due_in_row (machine_of u) ≡ Some (ToPut word place) → IsToPut word place (w.row i)
+  pub to_put : (u : UnderWay K V K) → IsAtPoint V same hash same setting slot_of w c blocks i u → (w.row i ≡ Rests → ⊥) → due_in_row (machine_of u) ≡ Some (ToPut word place) → IsToPut word place (w.row i)
   to_put (OnKey x) (inl (rests, knows)) goes due = absurd (goes rests)
   to_put (OnKey x) (inr (row, is_row, knows)) goes due = subst (IsToPut word place) (sym row) (row_calling word place (slot_of i) x.call.stands due)
   to_put (ForRoom r) stands goes due = absurd (room_puts r.reserve.stands word place due)

@@ -37,12 +37,12 @@ use Rattle.run_debts.proofs.Given.FollowsOnward.{IsOfMap}
 use Rattle.run_debts.proofs.Given.FollowsOperations.{LeavesBy}
 use Rattle.run_debts.proofs.Given.FollowsTold.{roomed_as_many}
 use Rattle.run_debts.proofs.Given.OthersRowPlans.{TellsRow, row_tells}
-use Rattle.run_debts.specs.Given.SpotsUnreclaimed.{ShowsUnreclaimed}
+use Rattle.run_debts.specs.Given.SpotsUnreclaimed.{RefinesUnreclaimed}
 use Rattle.run_debts.proofs.Given.SpotsCalm.{put_back}
 use Rattle.run_debts.specs.Given.MomentsOnSlots.{HadRetired}
-use Rattle.run_debts.specs.Given.MomentsWhole.{ShowsWhole}
+use Rattle.run_debts.specs.Given.MomentsWhole.{RefinesWhole}
 use Rattle.run_debts.proofs.Given.MomentsOnSlots.{begun_hands}
-use Rattle.run_waiting.specs.Lives.Retired.{IsToRetire, ShowsRetired, RetiredBegins, OthersLeaveRetired, EndingsBeginRetired, RowsBeginRetired, RowsKeepRetired, RowsFindRetired}
+use Rattle.run_waiting.specs.Lives.Retired.{IsToRetire, RefinesRetiredTables, RetiredBegins, OthersLeaveRetired, EndingsBeginRetired, RowsBeginRetired, RowsPreserveRetired, RowsFindRetired}
 use Rattle.run_waiting.proofs.Lives.Retires.{row_life, given_hand, handed_before}
 use Rattle.run_waiting.proofs.Lives.Stages.{NoneEnds, still_retired, taken_ends}
 use Rattle.run_waiting.proofs.Lives.Taken.{kept, it, told_retired}
@@ -69,7 +69,7 @@ none_to_retire defers size w k j b retired due =
     cc (given, not_given)
 
 -- what a row tells leaves tables
-module _ {K V : Type 0} (m : Moment K V) (known : Known) (blocks : ShowsUnreclaimed m known) where
+module _ {K V : Type 0} (m : Moment K V) (known : Known) (blocks : RefinesUnreclaimed m known) where
   -- A table was one before, and none that is reclaimed.
   abbrev pub StaysSo : Changed → Type 0
   StaysSo x =
@@ -108,7 +108,7 @@ module _ {K V : Type 0} (m : Moment K V) (known : Known) (blocks : ShowsUnreclai
       (roomed_ends (had && nat_lt bucket known.buckets))
 
 module _ {K V : Type 0} (same : K → K → Bool) (hash : ℕ → K → ℕ) (name : ℕ → List ℕ) (m : Moment K V) (known : Known) (s : Scene K V) (old new : Held K V) (at : IsAt same hash old s)
-    (whole : ShowsWhole same name m known s) (shows : ShowsRetired m known s) (i : ℕ) (said : RowTold (Node K V)) (leads : RowLeads same hash i said s old new) (row : SlotRow)
+    (whole : RefinesWhole same name m known s) (shows : RefinesRetiredTables m known s) (i : ℕ) (said : RowTold (Node K V)) (leads : RowLeads same hash i said s old new) (row : SlotRow)
     (here : IsOnSlot s i row) where
   abbrev w : World (Node K V)
   w = s.world
@@ -179,7 +179,7 @@ module _ {K V : Type 0} (same : K → K → Bool) (hash : ℕ → K → ℕ) (na
   finds (changed.Took x) e is = taken_finds x (known.roles x) e refl
   finds (changed.Roomed bucket had) e is = roomed_finds (had && nat_lt bucket known.buckets)
 
-  pub keeps : ShowsRetired v known2 (record s { world = w2; maps = (leads row here).2.2 })
+  pub keeps : RefinesRetiredTables v known2 (record s { world = w2; maps = (leads row here).2.2 })
   keeps = record {
     tables = λ b len t e handed.
         let was = stays_so m known whole.blocks told tells b len t e in
@@ -244,7 +244,7 @@ module _ (K V : Type 0) (same : K → K → Bool) (hash : ℕ → K → ℕ) whe
     lengths = shows.lengths;
   }
 
-  pub rows_keep_retired : RowsKeepRetired K V same hash
+  pub rows_keep_retired : RowsPreserveRetired K V same hash
   rows_keep_retired name m known s old new at whole shows i told leads row here = keeps same hash name m known s old new at whole shows i told leads row here
 
   pub rows_find_retired : RowsFindRetired K V same hash

@@ -44,7 +44,7 @@ use Rattle.run_debts.specs.Given.CallersRows.{row_of, row_of_disposal, row_of_co
 use Rattle.run_debts.specs.Given.CallersRooms.{row_of_room}
 use Rattle.run_debts.specs.Given.CallersOverAll.{row_of_sweep}
 use Rattle.run_debts.specs.Given.CallersSights.{seen_by}
-use Rattle.run_debts.specs.Given.CallersTogether.{UnderWay, OnKey, ForRoom, Counting, OverAll, Stands, Together, IsOneStep}
+use Rattle.run_debts.specs.Given.CallersTogether.{UnderWay, OnKey, ForRoom, Counting, OverAll, IsAtPoint, Together, IsOneStep}
 use Rattle.run_debts.proofs.Given.CallersRows.Users.{events_not_handed, own_not_handed}
 use Rattle.run_debts.proofs.Given.CallersTogether.At.{at_same, at_other}
 use Rattle.run_debts.proofs.Given.CallersTogether.Came.{came_reached}
@@ -55,7 +55,7 @@ use Rattle.run_debts.specs.Given.EffectsDeclared.acting.Acting.{Acting}
 use Rattle.run_debts.specs.Given.EffectsDeclared.acting.Acting.TheVariants as acts
 use Rattle.run_debts.specs.Given.EffectsDeclared.role.Role.{Role}
 use Rattle.run_debts.specs.Given.EffectsDeclared.role.Role.TheVariants as role
-use Rattle.run_debts.specs.Given.FinishesMachines.{machine_of, GoesOnAs}
+use Rattle.run_debts.specs.Given.FinishesMachines.{machine_of, ContinuesAs}
 use Rattle.run_debts.specs.Given.FinishesMakings.{Beginning}
 use Rattle.run_debts.specs.Given.FinishesMaps.{Standing}
 use Rattle.run_debts.specs.Given.FollowsBlocks.{HasRole}
@@ -63,11 +63,11 @@ use Rattle.run_debts.proofs.Given.FollowsSteps.{WentTo, went_to, DidSo, OfNoRow}
 use Rattle.run_debts.specs.Given.OthersMakings.{WasNew}
 use Rattle.run_debts.proofs.Given.SpotsHanding.{HandsNothing, AllHandNothing}
 use Rattle.run_debts.proofs.Given.SpotsSteps.{hands_nothing}
-use Rattle.run_debts.specs.Given.MomentsWhole.{ShowsWhole}
-use Rattle.run_debts.specs.Due.{Due, due_in_defer, due_in_disposing, due_in_copying, due_in_calling, due_in_reserving, due_in_sweeping, due_in_row, told_retired, RowTells, TellsNone, TellsRetired, TellsDeferred, OwnAreMade}
-use Rattle.run_debts.specs.Entries.{ShowsEntries}
+use Rattle.run_debts.specs.Given.MomentsWhole.{RefinesWhole}
+use Rattle.run_debts.specs.Due.{RowObligation, due_in_defer, due_in_disposing, due_in_copying, due_in_calling, due_in_reserving, due_in_sweeping, due_in_row, retired_effects, RowTells, TellsNone, TellsRetired, TellsDeferred, OwnAreMade}
+use Rattle.run_debts.specs.Entries.{EntriesAreBlank}
 use Rattle.run_debts.proofs.DueCalls.{rows_tell_due}
-use Rattle.run_waiting.specs.Lives.Retired.{IsDue, IsToRetire, ShowsRetired, CallsStay, MakingsKeepRetired, CallsKeepRetired}
+use Rattle.run_waiting.specs.Lives.Retired.{IsPendingRetirement, IsToRetire, RefinesRetiredTables, CallsStay, MakingsPreserveRetired, CallsPreserveRetired}
 use Rattle.run_waiting.proofs.Lives.Makings.{apart}
 use Rattle.run_waiting.proofs.Lives.Retires.{HandedBy, Retires, PutsBehind, HadIt, begun_due, begun_handed, handed_before, not_over}
 use Rattle.run_waiting.proofs.Lives.Stages.{EndsIt, NoneEnds, now_retired, still_retired, WasTable, role_back}
@@ -105,7 +105,7 @@ module _ (t : TableId) where
   none_end [] all = tt
   none_end (f ∷ effects) all = (hands_none f all.0, none_end effects all.1)
 
-  retired_ends : (r : Role) → NoneEnds t (told_retired r)
+  retired_ends : (r : Role) → NoneEnds t (retired_effects r)
   retired_ends (role.Pair n) = (λ z. z, tt)
   retired_ends (role.Table u len) = (λ z. z, tt)
   retired_ends role.Free = tt
@@ -121,27 +121,27 @@ module _ (t : TableId) where
   carried_ends u (role.Table x len) = tt
   carried_ends u (role.Counter of) = tt
 
-  row_ends : (caller map : ℕ) (known : Known) (effects : List Effect) (before after : Option Due) → RowTells caller map known effects before after → NoneEnds t effects
+  row_ends : (caller map : ℕ) (known : Known) (effects : List Effect) (before after : Option RowObligation) → RowTells caller map known effects before after → NoneEnds t effects
   row_ends caller map known effects before after (TellsNone none same) = subst (NoneEnds t) (sym none) tt
   row_ends caller map known effects before after (TellsRetired word was gone are) = subst (NoneEnds t) (sym are) (retired_ends (known.roles (block_in word)))
   row_ends caller map known effects before after (TellsDeferred word block place u len was its gone table are) = subst (NoneEnds t) (sym are) (carried_ends u (named known word))
 
 -- what a call's machine has to retire is what its row has
 module _ (b slot : ℕ) where
-  disposing_due : (p : Disposing) → IsToRetire b (row_of_disposal slot p) → IsDue b (due_in_disposing p)
+  disposing_due : (p : Disposing) → IsToRetire b (row_of_disposal slot p) → IsPendingRetirement b (due_in_disposing p)
   disposing_due (disposing.Settles settle) due = due
   disposing_due (disposing.Defers defer) due = absurd due
   disposing_due _ due = absurd due
 
-  copying_due : (p : Copying) → IsToRetire b (row_of_copier p) → IsDue b (due_in_copying p)
+  copying_due : (p : Copying) → IsToRetire b (row_of_copier p) → IsPendingRetirement b (due_in_copying p)
   copying_due (copying.Retires settle rest) due = due
   copying_due _ due = absurd due
 
-  row_disposing : (p : Disposing) → IsDue b (due_in_disposing p) → IsToRetire b (row_of_disposal slot p)
+  row_disposing : (p : Disposing) → IsPendingRetirement b (due_in_disposing p) → IsToRetire b (row_of_disposal slot p)
   row_disposing (disposing.Settles settle) due = due
   row_disposing (disposing.Defers defer) due = absurd (put_none defer.stands due)
     where
-      put_none : (p : Deferring) → IsDue b (due_in_defer defer p) → ⊥
+      put_none : (p : Deferring) → IsPendingRetirement b (due_in_defer defer p) → ⊥
       put_none deferring.Over due = due
       put_none deferring.Reads due = due
       put_none (deferring.Links head) due = due
@@ -150,46 +150,46 @@ module _ (b slot : ℕ) where
   row_disposing (disposing.Walks table) due = absurd due
   row_disposing disposing.Over due = absurd due
 
-  row_copying : (p : Copying) → IsDue b (due_in_copying p) → IsToRetire b (row_of_copier p)
+  row_copying : (p : Copying) → IsPendingRetirement b (due_in_copying p) → IsToRetire b (row_of_copier p)
   row_copying (copying.Retires settle rest) due = due
   row_copying _ due = absurd due
 
-  calling_due : (p : Calling) → IsToRetire b (row_of slot p) → IsDue b (due_in_calling p)
+  calling_due : (p : Calling) → IsToRetire b (row_of slot p) → IsPendingRetirement b (due_in_calling p)
   calling_due (calling.Disposes dispose answer) due = disposing_due dispose.stands due
   calling_due (calling.Helps copier goal) due = copying_due copier.stands due
   calling_due (calling.Copies copier) due = copying_due copier.stands due
   calling_due _ due = absurd due
 
-  row_calling : (p : Calling) → IsDue b (due_in_calling p) → IsToRetire b (row_of slot p)
+  row_calling : (p : Calling) → IsPendingRetirement b (due_in_calling p) → IsToRetire b (row_of slot p)
   row_calling (calling.Disposes dispose answer) due = row_disposing dispose.stands due
   row_calling (calling.Helps copier goal) due = row_copying copier.stands due
   row_calling (calling.Copies copier) due = row_copying copier.stands due
   row_calling _ due = absurd due
 
-  reserving_due : (p : Reserving) → IsToRetire b (row_of_room p) → IsDue b (due_in_reserving p)
+  reserving_due : (p : Reserving) → IsToRetire b (row_of_room p) → IsPendingRetirement b (due_in_reserving p)
   reserving_due (reserving.Copies copier) due = copying_due copier.stands due
   reserving_due _ due = absurd due
 
-  row_reserving : (p : Reserving) → IsDue b (due_in_reserving p) → IsToRetire b (row_of_room p)
+  row_reserving : (p : Reserving) → IsPendingRetirement b (due_in_reserving p) → IsToRetire b (row_of_room p)
   row_reserving (reserving.Copies copier) due = row_copying copier.stands due
   row_reserving _ due = absurd due
 
-  sweeping_due : (p : Sweeping) → IsToRetire b (row_of_sweep slot p) → IsDue b (due_in_sweeping p)
+  sweeping_due : (p : Sweeping) → IsToRetire b (row_of_sweep slot p) → IsPendingRetirement b (due_in_sweeping p)
   sweeping_due (sweeping.Copies copier) due = copying_due copier.stands due
   sweeping_due (sweeping.Disposes dispose) due = disposing_due dispose.stands due
   sweeping_due _ due = absurd due
 
-  row_sweeping : (p : Sweeping) → IsDue b (due_in_sweeping p) → IsToRetire b (row_of_sweep slot p)
+  row_sweeping : (p : Sweeping) → IsPendingRetirement b (due_in_sweeping p) → IsToRetire b (row_of_sweep slot p)
   row_sweeping (sweeping.Copies copier) due = row_copying copier.stands due
   row_sweeping (sweeping.Disposes dispose) due = row_disposing dispose.stands due
   row_sweeping _ due = absurd due
 
 module _ {K V : Type 0} (same : K → K → Bool) (hash : K → ℕ) (setting : Setting) (w : World (Node K V)) (c : Chart K) (blocks : Blocks) (i b : ℕ) where
   abbrev StandsAt : UnderWay K V K → Type 0
-  StandsAt u = Stands V same hash same setting slot_of w c blocks i u
+  StandsAt u = IsAtPoint V same hash same setting slot_of w c blocks i u
 
   -- by its row
-  pub due_of : (u : UnderWay K V K) → StandsAt u → IsToRetire b (w.row i) → IsDue b (due_in_row (machine_of u))
+  pub due_of : (u : UnderWay K V K) → StandsAt u → IsToRetire b (w.row i) → IsPendingRetirement b (due_in_row (machine_of u))
   due_of (OnKey x) (inl (rests, knows)) due = absurd (subst (IsToRetire b) rests due)
   due_of (OnKey x) (inr (row, is_row, knows)) due = calling_due b (slot_of i) x.call.stands (subst (IsToRetire b) row due)
   due_of (ForRoom r) (inl (rests, knows)) due = absurd (subst (IsToRetire b) rests due)
@@ -199,7 +199,7 @@ module _ {K V : Type 0} (same : K → K → Bool) (hash : K → ℕ) (setting : 
   due_of (OverAll o) (inr (row, is_row, knows)) due = sweeping_due b (slot_of i) o.sweep.stands (subst (IsToRetire b) row due)
 
   -- by its machine, unless it has no row under way
-  pub to_retire : (u : UnderWay K V K) → StandsAt u → (w.row i ≡ Rests → ⊥) → IsDue b (due_in_row (machine_of u)) → IsToRetire b (w.row i)
+  pub to_retire : (u : UnderWay K V K) → StandsAt u → (w.row i ≡ Rests → ⊥) → IsPendingRetirement b (due_in_row (machine_of u)) → IsToRetire b (w.row i)
   to_retire (OnKey x) (inl (rests, knows)) goes due = absurd (goes rests)
   to_retire (OnKey x) (inr (row, is_row, knows)) goes due = subst (IsToRetire b) (sym row) (row_calling b (slot_of i) x.call.stands due)
   to_retire (ForRoom r) (inl (rests, knows)) goes due = absurd (goes rests)
@@ -209,7 +209,7 @@ module _ {K V : Type 0} (same : K → K → Bool) (hash : K → ℕ) (setting : 
   to_retire (OverAll o) (inr (row, is_row, knows)) goes due = subst (IsToRetire b) (sym row) (row_sweeping b (slot_of i) o.sweep.stands due)
 
 -- what becomes of the tables
-module _ {K V : Type 0} (size : ℕ) (m v : Moment K V) (known : Known) (s t : Scene K V) (shows : ShowsRetired m known s) (roles : (b : ℕ) → HasRole s.world m.stored b (known.roles b))
+module _ {K V : Type 0} (size : ℕ) (m v : Moment K V) (known : Known) (s t : Scene K V) (shows : RefinesRetiredTables m known s) (roles : (b : ℕ) → HasRole s.world m.stored b (known.roles b))
     (owning : OwnAreMade known s.world) (reached : Reached deferred_word size s.world) where
   abbrev Then : ℕ → TableId → Type 0
   Then b x = (is_stage is_retired x v ≡ true) ⊎ ((j : ℕ) × HasCall t j × IsToRetire b (t.world.row j))
@@ -235,7 +235,7 @@ module _ {K V : Type 0} (size : ℕ) (m v : Moment K V) (known : Known) (s t : S
 
   -- by users
   pub users_retired : (acting : Acting) (told : Changed) (events : List (Event (Node K V))) → AllUsers events → Runs deferred_word size events s.world t.world → CallsStay s t
-      → ((x : TableId) → is_stage is_retired x m ≡ true → is_stage is_retired x v ≡ true) → ShowsRetired v (known_after acting told known) t
+      → ((x : TableId) → is_stage is_retired x m ≡ true → is_stage is_retired x v ≡ true) → RefinesRetiredTables v (known_after acting told known) t
   users_retired acting told events users runs stay still = record {
     tables = λ b len x is handed.
         let was = role_back acting known b len x told is in
@@ -251,7 +251,7 @@ module _ {K V : Type 0} (size : ℕ) (m v : Moment K V) (known : Known) (s t : S
   }
 
 module _ {K V : Type 0} (same : K → K → Bool) (hash : ℕ → K → ℕ) (name : ℕ → List ℕ) (m : Moment K V) (known : Known) (s : Scene K V) (old new : Held K V) (at : IsAt same hash old s)
-    (whole : ShowsWhole same name m known s) (entries : ShowsEntries s) (owning : OwnAreMade known s.world) (shows : ShowsRetired m known s) (map i : ℕ) (u : UnderWay K V K)
+    (whole : RefinesWhole same name m known s) (entries : EntriesAreBlank s) (owning : OwnAreMade known s.world) (shows : RefinesRetiredTables m known s) (map i : ℕ) (u : UnderWay K V K)
     (here : s.calls map i ≡ Some u) (said : CallTold (Node K V)) (leads : StepLeads same hash i said s old new) where
   abbrev to : WentTo same hash name m known s old new at whole.all.shown map i u here said leads
   to = went_to same hash name m known s old new at whole.all.shown map i u here said leads
@@ -306,7 +306,7 @@ module _ {K V : Type 0} (same : K → K → Bool) (hash : ℕ → K → ℕ) (na
   pub goes_on : (to.4.w2.row i ≡ Rests → ⊥) → (u2 : UnderWay K V K) × (to.4.next ≡ Some u2) × (machine_of u2 ≡ to.1)
   goes_on on = by said to.4.goes_on
     where
-      by : (x : CallTold (Node K V)) → GoesOnAs to.1 x to.4.next → (u2 : UnderWay K V K) × (to.4.next ≡ Some u2) × (machine_of u2 ≡ to.1)
+      by : (x : CallTold (Node K V)) → ContinuesAs to.1 x to.4.next → (u2 : UnderWay K V K) × (to.4.next ≡ Some u2) × (machine_of u2 ≡ to.1)
       by (progress.Done answer) none = absurd (on (to.4.rests none))
       by (progress.Refused fault) none = absurd (on (to.4.rests none))
       by _ goes = goes
@@ -328,7 +328,7 @@ module _ {K V : Type 0} (same : K → K → Bool) (hash : ℕ → K → ℕ) (na
 
   -- none of a row
   by_events : (w2 : World (Node K V)) → to.4.w2 ≡ w2 → (events : List (Event (Node K V))) → AllUsers events → Runs deferred_word size events s.world w2
-      → OfNoRow same hash name m known s old new at whole.all.shown map i u here said leads u to.4.did → ShowsRetired v known2 s2
+      → OfNoRow same hash name m known s old new at whole.all.shown map i u here said leads u to.4.did → RefinesRetiredTables v known2 s2
   by_events w2 is events users runs own =
       users_retired size m v known s s2 shows whole.all.shown.blocks.roles owning reached (acts.Call i map) told events users
       (subst (λ (z : World (Node K V)). Runs deferred_word size events s.world z) (sym is) runs) stay
@@ -343,7 +343,7 @@ module _ {K V : Type 0} (same : K → K → Bool) (hash : ℕ → K → ℕ) (na
     still x so = still_retired x (Some (name i)) (Some map) effects m (row_ends x i map known effects (due_in_row (machine_of u)) (due_in_row to.1) tells) so
 
     -- what its row is to retire
-    its_due : (b len : ℕ) (x : TableId) → known.roles b ≡ role.Table x len → IsDue b (due_in_row (machine_of u)) → (to.4.w2.row i ≡ Rests → ⊥) → Result b x
+    its_due : (b len : ℕ) (x : TableId) → known.roles b ≡ role.Table x len → IsPendingRetirement b (due_in_row (machine_of u)) → (to.4.w2.row i ≡ Rests → ⊥) → Result b x
     its_due b len x table due on = by tells
       where
         by : RowTells i map known effects (due_in_row (machine_of u)) (due_in_row to.1) → Result b x
@@ -351,13 +351,13 @@ module _ {K V : Type 0} (same : K → K → Bool) (hash : ℕ → K → ℕ) (na
             let next = goes_on on in
             let st2 : Standing K = record to.0 { chart = to.4.its_map.0; blocks = to.4.its_map.1; sights = to.4.its_map.2 } in
             let stands = (to.4.together.makings.standing.each map st2 to.4.its_map.4).stand i next.0 (its_call next.0 next.1) in
-            let due2 = subst (λ (z : Machine K V K). IsDue b (due_in_row z)) (sym next.2) (subst (IsDue b) (sym alike) due) in
+            let due2 = subst (λ (z : Machine K V K). IsPendingRetirement b (due_in_row z)) (sym next.2) (subst (IsPendingRetirement b) (sym alike) due) in
             inr (i, (map, next.0, its_call next.0 next.1), to_retire same to.0.hash to.0.setting to.4.w2 st2.chart (seen_by st2.blocks (st2.sights (slot_of i))) i b next.0 stands on due2)
         by (TellsRetired word was gone are) =
-            let names : block_in word ≡ b = subst (IsDue b) was due in
-            let alone = are ∙ ap (λ (k : ℕ). told_retired (known.roles k)) names ∙ ap told_retired table in
+            let names : block_in word ≡ b = subst (IsPendingRetirement b) was due in
+            let alone = are ∙ ap (λ (k : ℕ). retired_effects (known.roles k)) names ∙ ap retired_effects table in
             inl (subst (λ (fs : List Effect). is_stage is_retired x (with_effects (Some (name i)) (Some map) fs m) ≡ true) (sym alone) (now_retired x m.tables (whole.blocks.tables b len x table)))
-        by (TellsDeferred word block place y n was its gone noted are) = absurd (subst (IsDue b) was due)
+        by (TellsDeferred word block place y n was its gone noted are) = absurd (subst (IsPendingRetirement b) was due)
 
     module _ (w3 : World (Node K V)) (is : to.4.w2 ≡ w3) where
       goes_in : (b : ℕ) → IsToRetire b (w3.row i) → to.4.w2.row i ≡ Rests → ⊥
@@ -367,7 +367,7 @@ module _ {K V : Type 0} (same : K → K → Bool) (hash : ℕ → K → ℕ) (na
       in_w3 b handed = sym (ap (λ (z : World (Node K V)). z.hand b) is) ∙ handed
 
       -- it takes a step
-      stepped : Steps' deferred_word i (s.world.row i) s.world w3 → ShowsRetired v known2 s2
+      stepped : Steps' deferred_word i (s.world.row i) s.world w3 → RefinesRetiredTables v known2 s2
       stepped step = record {
         tables = λ b len x noted handed.
             let was = role_back (acts.Call i map) known b len x told noted in
@@ -386,7 +386,7 @@ module _ {K V : Type 0} (same : K → K → Bool) (hash : ℕ → K → ℕ) (na
       }
 
       -- it begins with it
-      began : (request : Request) (begun : World (Node K V)) → Happens deferred_word size (Begin i request) s.world begun → Happens deferred_word size (Step i) begun w3 → ShowsRetired v known2 s2
+      began : (request : Request) (begun : World (Node K V)) → Happens deferred_word size (Begin i request) s.world begun → Happens deferred_word size (Step i) begun w3 → RefinesRetiredTables v known2 s2
       began request begun begin step = record { tables = λ b len x noted handed. by b len x (role_back (acts.Call i map) known b len x told noted) (hands b handed); lengths = then_long }
         where
           hands : (b : ℕ) → s2.world.hand b ≡ Handed → HandedBy deferred_word s.world request b
@@ -409,18 +409,18 @@ module _ {K V : Type 0} (same : K → K → Bool) (hash : ℕ → K → ℕ) (na
               had size m v known s s2 shows whole.all.shown.blocks.roles owning reached b len x was before (still x) (λ j call due.
               others_due b x j call (λ e. subst (IsToRetire b) (ap s.world.row e ∙ begin.0) due) due)
 
-      one_step : IsOneStep to.0.setting i s.world w3 → ShowsRetired v known2 s2
+      one_step : IsOneStep to.0.setting i s.world w3 → RefinesRetiredTables v known2 s2
       one_step (inl step) = stepped step
       one_step (inr (request, begun, over, begin, step)) = began request begun begin step
 
-  pub kept_retired : ShowsRetired v known2 s2
+  pub kept_retired : RefinesRetiredTables v known2 s2
   kept_retired = by u to.4.did (λ own. own) (λ none. none)
     where
       Own : (x : UnderWay K V K) → DidSo same hash name m known s old new at whole.all.shown map i u here said leads x → Type 0
       Own x step = OfNoRow same hash name m known s old new at whole.all.shown map i u here said leads x step
 
       by : (x : UnderWay K V K) (step : DidSo same hash name m known s old new at whole.all.shown map i u here said leads x) → (Own x step → Own u to.4.did)
-          → ((Own x step → ⊥) → Own u to.4.did → ⊥) → ShowsRetired v known2 s2
+          → ((Own x step → ⊥) → Own u to.4.did → ⊥) → RefinesRetiredTables v known2 s2
       by (OnKey x) (p2, end, machine_is, told_is, inl (step, moved)) own no_own = by_events step.step.went.w2 moved.0 step.step.went.events step.step.went.users step.step.went.runs (own tt)
       by (OnKey x) (p2, end, machine_is, told_is, inr (row, stayed)) own no_own = one_step (no_own (λ z. z)) row.step.w2 stayed.0 row.step.happened
       by (ForRoom x) (p2, end, machine_is, told_is, inl (step, moved)) own no_own = by_events step.step.went.w2 moved.0 step.step.went.events step.step.went.users step.step.went.runs (own tt)
@@ -431,19 +431,19 @@ module _ {K V : Type 0} (same : K → K → Bool) (hash : ℕ → K → ℕ) (na
 
 -- A making steps as users do, and ends no table.
 module _ {K V : Type 0} (same : K → K → Bool) (hash : ℕ → K → ℕ) (name : ℕ → List ℕ) (m : Moment K V) (known : Known) (s : Scene K V) (old new : Held K V) (at : IsAt same hash old s)
-    (whole : ShowsWhole same name m known s) (owning : OwnAreMade known s.world) (shows : ShowsRetired m known s) (i : ℕ) (said : Advance Setting) (leads : MakingLeads same hash i said s old new)
+    (whole : RefinesWhole same name m known s) (owning : OwnAreMade known s.world) (shows : RefinesRetiredTables m known s) (i : ℕ) (said : Advance Setting) (leads : MakingLeads same hash i said s old new)
     (b : Beginning K) (here : s.makers i ≡ Some b) (of : Option ℕ) (was_new : WasNew b.map said m) where
-  pub making_retired : ShowsRetired (with_effects None of (effects_of (acts.Making b.map) known new.changed) m) (known_after (acts.Making b.map) new.changed known) (record s { world = (leads b here).2.step.w2 })
+  pub making_retired : RefinesRetiredTables (with_effects None of (effects_of (acts.Making b.map) known new.changed) m) (known_after (acts.Making b.map) new.changed known) (record s { world = (leads b here).2.step.w2 })
   making_retired =
       let step = (leads b here).2.step in
       users_retired old.batch_size m (with_effects None of (effects_of (acts.Making b.map) known new.changed) m) known s (record s { world = step.w2 }) shows whole.all.shown.blocks.roles owning
       (came_reached old.batch_size s.world at.together.makings.standing.came) (acts.Making b.map) new.changed step.events step.users step.runs (λ j has. inl has)
       (λ x so. still_retired x None of (effects_of (acts.Making b.map) known new.changed) m ((apart same hash name m known s old new at whole i said leads b here of was_new).2 x) so)
 
-pub calls_keep_retired : (K V : Type 0) (same : K → K → Bool) (hash : ℕ → K → ℕ) → CallsKeepRetired K V same hash
+pub calls_keep_retired : (K V : Type 0) (same : K → K → Bool) (hash : ℕ → K → ℕ) → CallsPreserveRetired K V same hash
 calls_keep_retired K V same hash name m known s old new at whole entries owning shows map i u here told leads =
     kept_retired same hash name m known s old new at whole entries owning shows map i u here told leads
 
-pub makings_keep_retired : (K V : Type 0) (same : K → K → Bool) (hash : ℕ → K → ℕ) → MakingsKeepRetired K V same hash
+pub makings_keep_retired : (K V : Type 0) (same : K → K → Bool) (hash : ℕ → K → ℕ) → MakingsPreserveRetired K V same hash
 makings_keep_retired K V same hash name m known s old new at whole owning shows i told leads b here of was_new =
     making_retired same hash name m known s old new at whole owning shows i told leads b here of was_new

@@ -33,13 +33,13 @@ use Rattle.run_debts.specs.Given.FinishesFactsEnds.{events_of, taken_by as taken
 use Rattle.run_debts.proofs.Given.FollowsAlike.{is_calm, AllCalm, put_here}
 use Rattle.run_debts.proofs.Given.FollowsOnward.{IsOfMap}
 use Rattle.run_debts.specs.Given.OthersEndings.{ending_after}
-use Rattle.run_debts.specs.Given.MomentsWhole.{ShowsWhole}
+use Rattle.run_debts.specs.Given.MomentsWhole.{RefinesWhole}
 use Rattle.run_debts.proofs.Given.MomentsEnds.{says, end_keeps}
 use Rattle.run_debts.proofs.Given.MomentsOnSlots.{none_some}
-use Rattle.run_waiting.specs.Lives.Retired.{IsToRetire, ShowsRetired, EndingsKeepRetired}
+use Rattle.run_waiting.specs.Lives.Retired.{IsToRetire, RefinesRetiredTables, EndingsPreserveRetired}
 use Rattle.run_waiting.proofs.Lives.Stages.{EndsIt, NoneEnds, still_retired, taken_ends}
 use Rattle.run_debts.proofs.Given.ScenesBetween.{deed_between}
-use Rattle.run_debts.specs.Given.ScenesEnding.{EndingComesTo, EndingStepsFrom}
+use Rattle.run_debts.specs.Given.ScenesEnding.{EndingHasOutcome, EndingStepsFrom}
 use Rattle.run_debts.specs.Given.ScenesHeld.{Held, IsAt}
 use Rattle.run_debts.specs.Given.ScenesScene.{HasCall, Scene, slot_of}
 use Rattle.run_debts.proofs.Given.FinishesBeside.Makings.Outs.{handed_lives}
@@ -55,10 +55,10 @@ calm_end t [] all = tt
 calm_end t (f ∷ effects) all = (calm_ends t f all.0, calm_end t effects all.1)
 
 module _ {K V : Type 0} (same : K → K → Bool) (hash : ℕ → K → ℕ) (name : ℕ → List ℕ) (m : Moment K V) (known : Known) (s : Scene K V) (old new : Held K V) (at : IsAt same hash old s)
-    (whole : ShowsWhole same name m known s) (shows : ShowsRetired m known s) (i : ℕ) (f : Finishing K V) (here : s.enders i ≡ Some f) (end : EndMap) (said : Settled (Node K V))
+    (whole : RefinesWhole same name m known s) (shows : RefinesRetiredTables m known s) (i : ℕ) (f : Finishing K V) (here : s.enders i ≡ Some f) (end : EndMap) (said : Settled (Node K V))
     (steps : EndingStepsFrom f.machine old new end said)
     (did : StepsOfEnding V same same old.batch_size old.roots slot_of s.world s.maps s.calls s.makers s.enders i f new.memory (end, said))
-    (map : ℕ) (not_there : s.maps map ≡ None) (comes : EndingComesTo same hash s new i f end did.w2 did.deed said) where
+    (map : ℕ) (not_there : s.maps map ≡ None) (comes : EndingHasOutcome same hash s new i f end did.w2 did.deed said) where
   abbrev told : Changed
   told = new.changed
 
@@ -101,7 +101,7 @@ module _ {K V : Type 0} (same : K → K → Bool) (hash : ℕ → K → ℕ) (na
         subst IsOfMap (put_here it.0 role.Free known.roles b same_one) (subst IsOfMap (sym gone) tt)))
   ]
 
-  shown_then : (s2 : Scene K V) → s2.world ≡ did.w2 → s2.calls ≡ s.calls → ShowsRetired v known2 s2
+  shown_then : (s2 : Scene K V) → s2.world ≡ did.w2 → s2.calls ≡ s.calls → RefinesRetiredTables v known2 s2
   shown_then s2 world calls = record {
     tables = λ b len t is handed.
         let before = handed_before b (sym (ap (λ (z : World (Node K V)). z.hand b) world) ∙ handed) in
@@ -115,12 +115,12 @@ module _ {K V : Type 0} (same : K → K → Bool) (hash : ℕ → K → ℕ) (na
     lengths = λ b len t is. shows.lengths b len t (was_table b len t is);
   }
 
-  pub retired_then : (x : Settled (Node K V)) (it : EndingComesTo same hash s new i f end did.w2 did.deed x) → ShowsRetired v known2 (ending_after same hash s new i f end did.w2 did.deed x it)
+  pub retired_then : (x : Settled (Node K V)) (it : EndingHasOutcome same hash s new i f end did.w2 did.deed x) → RefinesRetiredTables v known2 (ending_after same hash s new i f end did.w2 did.deed x it)
   retired_then settled.Goes it = shown_then _ refl refl
   retired_then settled.Waits it = absurd it
   retired_then (settled.Gave value) it = shown_then _ refl refl
   retired_then settled.Done it = shown_then _ refl refl
 
-pub endings_keep_retired : (K V : Type 0) (same : K → K → Bool) (hash : ℕ → K → ℕ) → EndingsKeepRetired K V same hash
+pub endings_keep_retired : (K V : Type 0) (same : K → K → Bool) (hash : ℕ → K → ℕ) → EndingsPreserveRetired K V same hash
 endings_keep_retired K V same hash name m known s old new at whole shows i told leads f here map not_there =
     let to = leads f here in retired_then same hash name m known s old new at whole shows i f here to.0 told to.1 to.2 map not_there to.3 told to.3

@@ -30,7 +30,7 @@ use Rattle.run_debts.proofs.Given.SeizeMemoryWords.View.{View}
 use Rattle.run_debts.proofs.Given.SeizeRuleWorld.Kept.{steps_next}
 use Rattle.run_debts.proofs.Given.SeizeAloneHistories.Reached.{Reached}
 use Rattle.run_debts.specs.Due.{due_in_settle}
-use Rattle.run_waiting.specs.Lives.Retired.{IsDue, IsToRetire}
+use Rattle.run_waiting.specs.Lives.Retired.{IsPendingRetirement, IsToRetire}
 
 module _ (n i : ℕ) (f : View) (m : State) (x : Extra) (inv : Inv n m) (shows : Shows n f m x) (b : ℕ) (some : 0 < b) where
   -- the first of those that are pending
@@ -48,7 +48,7 @@ module _ (n i : ℕ) (f : View) (m : State) (x : Extra) (inv : Inv n m) (shows :
   popped_life : (block c : ℕ) (cs : List ℕ) → block_in block ≡ b → block ≡ link c → m.pending i ≡ c ∷ cs → m.life b ≡ IsPending i
   popped_life block c cs is names pending = ap m.life (sym is ∙ ap block_in names ∙ link-block c) ∙ first_pending n i m c cs inv pending
 
-  due_life : (c : Settle) (p : Settling) → FitsAt n i f m x (bare c) p → IsDue b (due_in_settle c p) → m.life b ≡ IsPending i
+  due_life : (c : Settle) (p : Settling) → FitsAt n i f m x (bare c) p → IsPendingRetirement b (due_in_settle c p) → m.life b ≡ IsPending i
   due_life c at.Sees fits due = first_life c.pending due fits.retiring.rest.common.pends fits.retiring.rest.popped
   due_life c at.Holds fits due = first_life c.pending due fits.retiring.rest.common.pends fits.retiring.rest.popped
   due_life c at.Pops fits due = first_life c.pending due fits.retiring.rest.common.pends fits.retiring.rest.popped
@@ -106,7 +106,7 @@ module _ {T : Type 0} (defers : T → Option ℕ) (size i : ℕ) (w v w2 : World
       DueIn : Settle × Settled T → Type 0
       DueIn e = IsToRetire b ((settles_on v i c v.memory e).row i)
 
-      goes_on : (e : Settle) → IsDue b (due_in_settle e e.stands) → IsToRetire b (with_at v.row i (Settles e) i)
+      goes_on : (e : Settle) → IsPendingRetirement b (due_in_settle e e.stands) → IsToRetire b (with_at v.row i (Settles e) i)
       goes_on e due = subst (IsToRetire b) (sym (here v.row (Settles e))) due
 
       after : (word : ℕ) (q : Bool) (m2 : Mem T) (end : Settle × Settled T) → Ends (value_at m2) (if q then Now (c, settled.Waits) else plans.to (record c { last = word; stands = at.Holds })) end
@@ -168,7 +168,7 @@ module _ {T : Type 0} (defers : T → Option ℕ) (size : ℕ) (w w2 : World T) 
     where
       by : {m2 : State} → RowTold (LAST_SLOT + 1) i (w.row i) r.good.state w.uses (w2.row i) m2 w2.uses → ⊥
       by (SettleGoes c c2 is is2 slot goes) = (let both : Settles c2 ≡ Rests = sym is2 ∙ over in cc both)
-      by (SettleEnds c is is2 stands e) = subst (λ (p : Settling). IsDue b (due_in_settle c p)) stands (its (Settles c) is)
+      by (SettleEnds c is is2 stands e) = subst (λ (p : Settling). IsPendingRetirement b (due_in_settle c p)) stands (its (Settles c) is)
       by (LeaveSwaps c again es p is is2 stands lt becomes head e behind) = its (Leaves c) is
       by (LeaveGoes c settle settle2 is is2 stands slot goes) = its (Leaves c) is
       by (LeaveSettled c settle is stands over settled e) = its (Leaves c) is

@@ -15,8 +15,8 @@ use Rattle.run_debts.specs.Given.RunsDeclared.effect.TableId.{TableId}
 use Rattle.run_debts.specs.Given.SchedulesMoment.{Behind}
 use Rattle.run_debts.specs.Given.RuleInWorld.{AllUsers}
 use Rattle.run_debts.proofs.Given.RuleWorld.Hands.{at_cases}
-use Rattle.run_waiting.specs.Lives.Behind.{IsLeft, LiesBehind, EachWaits}
-use Rattle.run_waiting.specs.Lives.Steps.{UsersKeepWaiting}
+use Rattle.run_waiting.specs.Lives.Behind.{IsLeft, IsDeferredTo, EachWaits}
+use Rattle.run_waiting.specs.Lives.Steps.{UsersPreserveWaiting}
 use Rattle.run_waiting.specs.Lives.Waiting.{waits_behind}
 use Rattle.run_waiting.proofs.Lives.Each.{each_on}
 use Rattle.run_waiting.proofs.Lives.Worlds.{Kept, IsAside, log_back, happens_kept, runs_kept, start_kept}
@@ -116,15 +116,15 @@ module _ {T : Type 0} (defers : T → Option ℕ) (size : ℕ) where
         left = λ x its. rest.left x (event_left defers size w v k x its e u.0 runs.1);
       }
 
-pub users_keep_waiting : (K V : Type 0) → UsersKeepWaiting K V
+pub users_keep_waiting : (K V : Type 0) → UsersPreserveWaiting K V
 users_keep_waiting K V size m v known known2 w w2 came waiting events users runs deferred places pairs tables =
-    subst (EachWaits (λ n t. (v.place n ≡ Behind) × LiesBehind known2 w2 n t)) (sym deferred)
-    (each_on (λ n t. (m.place n ≡ Behind) × LiesBehind known w n t) (λ n t. (v.place n ≡ Behind) × LiesBehind known2 w2 n t) (λ n t p. (places n t p.1 p.0, lies n t p.1)) m.deferred waiting)
+    subst (EachWaits (λ n t. (v.place n ≡ Behind) × IsDeferredTo known2 w2 n t)) (sym deferred)
+    (each_on (λ n t. (m.place n ≡ Behind) × IsDeferredTo known w n t) (λ n t. (v.place n ≡ Behind) × IsDeferredTo known2 w2 n t) (λ n t p. (places n t p.1 p.0, lies n t p.1)) m.deferred waiting)
   where
     after : After deferred_word size w w2
     after = all_after deferred_word size events w w2 (runs_kept deferred_word size came.1 _ w (start_kept deferred_word size came.0) came.2) users runs
 
-    lies : (n : ℕ) (t : TableId) → LiesBehind known w n t → LiesBehind known2 w2 n t
+    lies : (n : ℕ) (t : TableId) → IsDeferredTo known w n t → IsDeferredTo known2 w2 n t
     lies n t l = record { pair = l.pair; is_pair = pairs l.pair n l.is_pair; table = l.table; len = l.len; is_table = tables l.table l.len t l.is_table; waits = by l.waits }
       where
         by : (waits_behind l.pair w.log ≡ Some l.table) ⊎ (IsLeft (w.hand l.pair) × IsLeft (w.hand l.table))

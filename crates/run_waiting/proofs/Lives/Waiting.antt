@@ -33,8 +33,8 @@ use Rattle.run_debts.specs.Given.SpotsOnSlots.{WaitUnreclaimed}
 use Rattle.run_debts.specs.Given.SpotsUnreclaimed.{is_unreclaimed}
 use Rattle.run_debts.specs.Given.MomentsEndings.{WaitsOn}
 use Rattle.run_debts.proofs.Given.MomentsOnSlots.{begun_hands}
-use Rattle.run_waiting.specs.Lives.Behind.{IsLeft, LiesBehind, EachWaits, ShowsWaiting, WaitingIsThere}
-use Rattle.run_waiting.specs.Lives.Steps.{WaitingBegins, OthersLeaveWaiting, EndingsBeginWaiting, EffectsFindWaiting, RowsBeginWaiting, RowsKeepWaiting, RowsFindWaiting}
+use Rattle.run_waiting.specs.Lives.Behind.{IsLeft, IsDeferredTo, EachWaits, RefinesWaiting, WaitingIsThere}
+use Rattle.run_waiting.specs.Lives.Steps.{WaitingBegins, OthersLeaveWaiting, EndingsBeginWaiting, EffectsFindWaiting, RowsBeginWaiting, RowsPreserveWaiting, RowsFindWaiting}
 use Rattle.run_waiting.specs.Lives.Waiting.{waits_behind}
 use Rattle.run_waiting.proofs.Lives.Each.{each_on, found}
 use Rattle.run_waiting.proofs.Lives.OnSlots.{row_waiting}
@@ -47,7 +47,7 @@ use Rattle.run_debts.specs.Given.ScenesScene.{IsOnSlot, Scene, slot_of}
 
 -- by the same log, with the same hands
 module _ {K V : Type 0} (known : Known) (w w2 : World (Node K V)) (waits : (b : ℕ) → waits_behind b w2.log ≡ waits_behind b w.log) (hands : w2.hand ≡ w.hand) where
-  lies_as : (n : ℕ) (t : TableId) → LiesBehind known w n t → LiesBehind known w2 n t
+  lies_as : (n : ℕ) (t : TableId) → IsDeferredTo known w n t → IsDeferredTo known w2 n t
   lies_as n t l = record { pair = l.pair; is_pair = l.is_pair; table = l.table; len = l.len; is_table = l.is_table; waits = by l.waits }
     where
       by : (waits_behind l.pair w.log ≡ Some l.table) ⊎ (IsLeft (w.hand l.pair) × IsLeft (w.hand l.table))
@@ -55,27 +55,27 @@ module _ {K V : Type 0} (known : Known) (w w2 : World (Node K V)) (waits : (b : 
       by (inl is) = inl (waits l.pair ∙ is)
       by (inr both) = inr (subst (λ (h : ℕ → Hand). IsLeft (h l.pair)) (sym hands) both.0, subst (λ (h : ℕ → Hand). IsLeft (h l.table)) (sym hands) both.1)
 
-  waiting_as : (m : Moment K V) → ShowsWaiting m known w → ShowsWaiting m known w2
+  waiting_as : (m : Moment K V) → RefinesWaiting m known w → RefinesWaiting m known w2
   waiting_as m each =
-      each_on (λ n t. (m.place n ≡ Behind) × LiesBehind known w n t) (λ n t. (m.place n ≡ Behind) × LiesBehind known w2 n t) (λ n t p. (p.0, lies_as n t p.1)) m.deferred each
+      each_on (λ n t. (m.place n ≡ Behind) × IsDeferredTo known w n t) (λ n t. (m.place n ≡ Behind) × IsDeferredTo known w2 n t) (λ n t p. (p.0, lies_as n t p.1)) m.deferred each
 
 pub waiting_begins : (K V : Type 0) → WaitingBegins K V
 waiting_begins K V roots = tt
 
 pub others_leave_waiting : (K V : Type 0) → OthersLeaveWaiting K V
 others_leave_waiting K V m v known w waiting deferred place =
-    subst (EachWaits (λ n t. (v.place n ≡ Behind) × LiesBehind known w n t)) (sym deferred)
-    (each_on (λ n t. (m.place n ≡ Behind) × LiesBehind known w n t) (λ n t. (v.place n ≡ Behind) × LiesBehind known w n t) (λ n t p. (ap (λ (f : ℕ → Place). f n) place ∙ p.0, p.1)) m.deferred waiting)
+    subst (EachWaits (λ n t. (v.place n ≡ Behind) × IsDeferredTo known w n t)) (sym deferred)
+    (each_on (λ n t. (m.place n ≡ Behind) × IsDeferredTo known w n t) (λ n t. (v.place n ≡ Behind) × IsDeferredTo known w n t) (λ n t p. (ap (λ (f : ℕ → Place). f n) place ∙ p.0, p.1)) m.deferred waiting)
 
 pub endings_begin_waiting : (K V : Type 0) → EndingsBeginWaiting K V
 endings_begin_waiting K V m known s waiting map i standing = waiting_as known s.world (ending_begun map i standing s).world (λ b. refl) refl m waiting
 
 pub waiting_is_there : (K V : Type 0) → WaitingIsThere K V
 waiting_is_there K V m known w waiting t n among =
-    let a = found (λ n t. (m.place n ≡ Behind) × LiesBehind known w n t) n t m.deferred waiting among in
+    let a = found (λ n t. (m.place n ≡ Behind) × IsDeferredTo known w n t) n t m.deferred waiting among in
     ap is_unreclaimed (ap m.place (sym a.number) ∙ a.so.0)
 
-module _ {K V : Type 0} (m : Moment K V) (known : Known) (w : World (Node K V)) (waiting : ShowsWaiting m known w) where
+module _ {K V : Type 0} (m : Moment K V) (known : Known) (w : World (Node K V)) (waiting : RefinesWaiting m known w) where
   unreclaimed : (f : Effect) → WaitUnreclaimed m f
   unreclaimed (Reclaimed (ATable t)) = λ n among. waiting_is_there K V m known w waiting t n among
   unreclaimed (Reclaimed (APair n)) = tt
@@ -145,7 +145,7 @@ module _ (K V : Type 0) (same : K → K → Bool) (hash : ℕ → K → ℕ) whe
     pub reached : Reached deferred_word old.batch_size s.world
     reached = came_reached old.batch_size s.world at.together.makings.standing.came
 
-  pub rows_keep_waiting : RowsKeepWaiting K V same hash
+  pub rows_keep_waiting : RowsPreserveWaiting K V same hash
   rows_keep_waiting name m known s old new at whole waiting i told leads row here =
       let to = leads row here in
       row_waiting same name old.batch_size m known s whole.all.shown whole.blocks waiting at.together.makings.standing.came

@@ -35,19 +35,19 @@ use Rattle.run_debts.specs.Given.FollowsBlocks.{HasRole}
 use Rattle.run_debts.specs.Given.FollowsSteps.{TakesNone}
 use Rattle.run_debts.proofs.Given.FollowsAlike.{is_calm, AllCalm, calm_still, still_all, put_elsewhere}
 use Rattle.run_debts.proofs.Given.FollowsOnward.{IsOfMap}
-use Rattle.run_debts.specs.Given.OthersEndings.{ending_after, TellsNext}
+use Rattle.run_debts.specs.Given.OthersEndings.{ending_after, ObservesNext}
 use Rattle.run_debts.proofs.Given.OthersEnds.{tells_next}
 use Rattle.run_debts.proofs.Given.SpotsUnreclaimed.{same_itself}
-use Rattle.run_debts.specs.Given.MomentsWhole.{ShowsWhole}
+use Rattle.run_debts.specs.Given.MomentsWhole.{RefinesWhole}
 use Rattle.run_debts.proofs.Given.MomentsEnds.{says, end_keeps}
-use Rattle.run_waiting.specs.Lives.Behind.{IsLeft, LiesBehind, EachWaits, ShowsWaiting, WaitsOnce}
-use Rattle.run_waiting.specs.Lives.Steps.{EndingsKeepWaiting}
+use Rattle.run_waiting.specs.Lives.Behind.{IsLeft, IsDeferredTo, EachWaits, RefinesWaiting, WaitsOnce}
+use Rattle.run_waiting.specs.Lives.Steps.{EndingsPreserveWaiting}
 use Rattle.run_waiting.specs.Lives.Waiting.{waits_behind}
 use Rattle.run_waiting.proofs.Lives.Each.{each_on, each_both, each_kept}
 use Rattle.run_waiting.proofs.Lives.LeftOver.{deed_waits, handed_untaken}
 use Rattle.run_waiting.proofs.Lives.Once.{Fewer, once_fewer}
 use Rattle.run_waiting.proofs.Lives.Worlds.{Kept, runs_kept, start_kept, has_it}
-use Rattle.run_debts.specs.Given.ScenesEnding.{EndingComesTo, EndingStepsFrom}
+use Rattle.run_debts.specs.Given.ScenesEnding.{EndingHasOutcome, EndingStepsFrom}
 use Rattle.run_debts.specs.Given.ScenesHeld.{Held, IsAt}
 use Rattle.run_debts.specs.Given.ScenesScene.{Scene, slot_of}
 use Rattle.run_debts.proofs.Given.General.{none_less as none_of}
@@ -75,10 +75,10 @@ left_not Handed none left = left
 left_not (LeftTo i) none left = none
 
 module _ {K V : Type 0} (same : K → K → Bool) (hash : ℕ → K → ℕ) (name : ℕ → List ℕ) (m : Moment K V) (known : Known) (s : Scene K V) (old new : Held K V) (at : IsAt same hash old s)
-    (whole : ShowsWhole same name m known s) (once : WaitsOnce m.deferred) (waiting : ShowsWaiting m known s.world) (i : ℕ) (f : Finishing K V) (here : s.enders i ≡ Some f) (end : EndMap)
+    (whole : RefinesWhole same name m known s) (once : WaitsOnce m.deferred) (waiting : RefinesWaiting m known s.world) (i : ℕ) (f : Finishing K V) (here : s.enders i ≡ Some f) (end : EndMap)
     (said : Settled (Node K V)) (steps : EndingStepsFrom f.machine old new end said)
     (did : StepsOfEnding V same same old.batch_size old.roots slot_of s.world s.maps s.calls s.makers s.enders i f new.memory (end, said))
-    (map : ℕ) (not_there : s.maps map ≡ None) (comes : EndingComesTo same hash s new i f end did.w2 did.deed said) where
+    (map : ℕ) (not_there : s.maps map ≡ None) (comes : EndingHasOutcome same hash s new i f end did.w2 did.deed said) where
   abbrev w : World (Node K V)
   w = s.world
 
@@ -119,7 +119,7 @@ module _ {K V : Type 0} (same : K → K → Bool) (hash : ℕ → K → ℕ) (na
       ap (value_at w.memory) is ∙ since.still.value ∙ (shows.tables t made (shows.linked t from made)).value
 
   -- the block of what waits is not taken
-  pair_untaken : (n : ℕ) (t : TableId) (l : LiesBehind known w n t) → IsTaken l.pair → ⊥
+  pair_untaken : (n : ℕ) (t : TableId) (l : IsDeferredTo known w n t) → IsTaken l.pair → ⊥
   pair_untaken n t l some = by l.waits
     where
       by : (waits_behind l.pair w.log ≡ Some l.table) ⊎ (IsLeft (w.hand l.pair) × IsLeft (w.hand l.table)) → ⊥
@@ -149,7 +149,7 @@ module _ {K V : Type 0} (same : K → K → Bool) (hash : ℕ → K → ℕ) (na
       by (suc k) e = subst IsLeft (sym (did.spares.left b (omega (arith, e)))) tt
 
   -- where the table's block is not taken, it lies behind it still
-  lies_then : (n : ℕ) (t : TableId) (l : LiesBehind known w n t) → (IsTaken l.table → ⊥) → LiesBehind known2 did.w2 n t
+  lies_then : (n : ℕ) (t : TableId) (l : IsDeferredTo known w n t) → (IsTaken l.table → ⊥) → IsDeferredTo known2 did.w2 n t
   lies_then n t l free = record {
     pair = l.pair;
     is_pair = role_there l.pair (role.Pair n) l.is_pair tt (some_there l.pair _ (pair_value l.pair n l.is_pair).2) (pair_untaken n t l);
@@ -183,10 +183,10 @@ module _ {K V : Type 0} (same : K → K → Bool) (hash : ℕ → K → ℕ) (na
       ]
 
   abbrev Waited : ℕ → TableId → Type 0
-  Waited n t = (m.place n ≡ Behind) × LiesBehind known w n t
+  Waited n t = (m.place n ≡ Behind) × IsDeferredTo known w n t
 
   abbrev WaitsThen : ℕ → TableId → Type 0
-  WaitsThen n t = (v.place n ≡ Behind) × LiesBehind known2 did.w2 n t
+  WaitsThen n t = (v.place n ≡ Behind) × IsDeferredTo known2 did.w2 n t
 
   -- it takes no block
   quiet : taken_of did.deed ≡ [] → TakesNone told → EachWaits WaitsThen v.deferred
@@ -212,7 +212,7 @@ module _ {K V : Type 0} (same : K → K → Bool) (hash : ℕ → K → ℕ) (na
         let count : times x (taken_of did.deed) ≡ times x (x ∷ []) = ap (times x) taken_is in
         subst IsTaken (sym e) (omega (arith, one, count))
 
-    took_pair : (n : ℕ) (t : TableId) (l : LiesBehind known w n t) → l.pair ≡ x → ⊥
+    took_pair : (n : ℕ) (t : TableId) (l : IsDeferredTo known w n t) → l.pair ≡ x → ⊥
     took_pair n t l e = pair_untaken n t l (this_one l.pair e)
 
     are : (r : Role) → known.roles x ≡ r → effects ≡ taken_by (Ending map) r
@@ -222,11 +222,11 @@ module _ {K V : Type 0} (same : K → K → Bool) (hash : ℕ → K → ℕ) (na
     then_at fs = with_effects None (Some map) fs m
 
     -- the block of no table
-    no_table : (r : Role) → known.roles x ≡ r → ((t : TableId) (len : ℕ) → r ≡ role.Table t len → ⊥) → (n : ℕ) (t : TableId) (l : LiesBehind known w n t) → l.table ≡ x → ⊥
+    no_table : (r : Role) → known.roles x ≡ r → ((t : TableId) (len : ℕ) → r ≡ role.Table t len → ⊥) → (n : ℕ) (t : TableId) (l : IsDeferredTo known w n t) → l.table ≡ x → ⊥
     no_table r e never n t l z = never t l.len (sym e ∙ ap known.roles (sym z) ∙ l.is_table)
 
-    all_wait : (fs : List Effect) → effects ≡ fs → (then_at fs).deferred ≡ m.deferred → ((n : ℕ) (t : TableId) → LiesBehind known w n t → m.place n ≡ Behind → (then_at fs).place n ≡ Behind)
-        → ((n : ℕ) (t : TableId) (l : LiesBehind known w n t) → l.table ≡ x → ⊥) → EachWaits WaitsThen v.deferred
+    all_wait : (fs : List Effect) → effects ≡ fs → (then_at fs).deferred ≡ m.deferred → ((n : ℕ) (t : TableId) → IsDeferredTo known w n t → m.place n ≡ Behind → (then_at fs).place n ≡ Behind)
+        → ((n : ℕ) (t : TableId) (l : IsDeferredTo known w n t) → l.table ≡ x → ⊥) → EachWaits WaitsThen v.deferred
     all_wait fs they deferred place apart =
         subst (EachWaits WaitsThen) (sym (ap (λ (gs : List Effect). (then_at gs).deferred) they ∙ deferred))
         (each_on Waited WaitsThen
@@ -244,7 +244,7 @@ module _ {K V : Type 0} (same : K → K → Bool) (hash : ℕ → K → ℕ) (na
         Alone n t = (y : TableId) → is_among n (behind y m.deferred) ≡ true → same_table t y ≡ true
 
         -- the table of what stays is another one
-        apart : (n : ℕ) (t : TableId) → not (same_table t u) ≡ true → (l : LiesBehind known w n t) → l.table ≡ x → ⊥
+        apart : (n : ℕ) (t : TableId) → not (same_table t u) ≡ true → (l : IsDeferredTo known w n t) → l.table ≡ x → ⊥
         apart n t other l z =
             let one : role.Table t l.len ≡ role.Table u len = sym l.is_table ∙ ap known.roles z ∙ e in
             let t_is : t ≡ u = cc one in
@@ -278,14 +278,14 @@ module _ {K V : Type 0} (same : K → K → Bool) (hash : ℕ → K → ℕ) (na
     took (role.Table u len) e = took_a_table u len e
 
   -- by what it says
-  then_waits : (x : Settled (Node K V)) (it : EndingComesTo same hash s new i f end did.w2 did.deed x) → TellsNext same hash s new i f end did.w2 did.deed x it told
-      → ShowsWaiting v known2 (ending_after same hash s new i f end did.w2 did.deed x it).world
+  then_waits : (x : Settled (Node K V)) (it : EndingHasOutcome same hash s new i f end did.w2 did.deed x) → ObservesNext same hash s new i f end did.w2 did.deed x it told
+      → RefinesWaiting v known2 (ending_after same hash s new i f end did.w2 did.deed x it).world
   then_waits settled.Goes it tells = quiet it.0 tells
   then_waits settled.Waits it tells = absurd it
   then_waits (settled.Gave value) it tells = took it.0 tells it.2 (known.roles it.0) refl
   then_waits settled.Done it tells = quiet it.0 tells
 
-pub endings_keep_waiting : (K V : Type 0) (same : K → K → Bool) (hash : ℕ → K → ℕ) → EndingsKeepWaiting K V same hash
+pub endings_keep_waiting : (K V : Type 0) (same : K → K → Bool) (hash : ℕ → K → ℕ) → EndingsPreserveWaiting K V same hash
 endings_keep_waiting K V same hash name m known s old new at whole once waiting i told leads f here map not_there =
     let to = leads f here in
     then_waits same hash name m known s old new at whole once waiting i f here to.0 told to.1 to.2 map not_there to.3 told to.3

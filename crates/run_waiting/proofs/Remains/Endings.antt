@@ -21,15 +21,15 @@ use Rattle.run_debts.specs.Given.EffectsDeclared.role.Role.TheVariants as role
 use Rattle.run_debts.specs.Given.FinishesEndings.{Finishing, StepsOfEnding, finishing_of, waiting_by}
 use Rattle.run_debts.specs.Given.FinishesFactsEnds.{taken_by}
 use Rattle.run_debts.specs.Given.OthersEndings.{ending_after}
-use Rattle.run_debts.specs.Given.ReclaimsLeft.{LeftAmong}
+use Rattle.run_debts.specs.Given.ReclaimsLeft.{LeftWithEndings}
 use Rattle.run_debts.proofs.Given.ReclaimsBehind.Kept.{in_all}
 use Rattle.run_debts.proofs.Given.ReclaimsLeft.Endings.{endings_begin_and_leave_it, endings_leave_it}
-use Rattle.run_waiting.specs.Remains.Remains.{AscendFrom, LeftNoted, ShowsRemains, has_some, left_at, map_roots}
+use Rattle.run_waiting.specs.Remains.Remains.{AscendFrom, LeftNoted, RefinesRemains, has_some, left_at, map_roots}
 use Rattle.run_waiting.proofs.Lives.Order.{noted_still}
-use Rattle.run_waiting.specs.Remains.Steps.{EndingsBeginRemain, EndingsKeepRemains}
+use Rattle.run_waiting.specs.Remains.Steps.{EndingsBeginRemain, EndingsPreserveRemains}
 use Rattle.run_waiting.proofs.Remains.Lists.{found_among}
 use Rattle.run_waiting.proofs.Remains.Stays.{goes_on, remains_stay, roots_stay, used_then}
-use Rattle.run_debts.specs.Given.ScenesEnding.{EndingComesTo, ending_begun}
+use Rattle.run_debts.specs.Given.ScenesEnding.{EndingHasOutcome, ending_begun}
 use Rattle.run_debts.specs.Given.ScenesHeld.{Held, IsAt}
 use Rattle.run_debts.specs.Given.ScenesScene.{Scene, slot_of}
 
@@ -63,7 +63,7 @@ module _ (K V : Type 0) (same : K → K → Bool) (hash : ℕ → K → ℕ) whe
       (let there = (shown.maps map standing stands).there in
       subst (λ (r : ℕ). is_among r (map_roots m) ≡ true) there.root (found_among (λ f. f.number == map) (λ f. f.root) m.maps there.there there.is)))
 
-  module _ (m : Moment K V) (known known2 : Known) (s : Scene K V) (old new : Held K V) (at : IsAt same hash old s) (shows : ShowsRemains old.roots m known s) (i : ℕ) (f : Finishing K V) (here : s.enders i ≡ Some f)
+  module _ (m : Moment K V) (known known2 : Known) (s : Scene K V) (old new : Held K V) (at : IsAt same hash old s) (shows : RefinesRemains old.roots m known s) (i : ℕ) (f : Finishing K V) (here : s.enders i ≡ Some f)
       (caller : Option (List ℕ)) (acted : Option ℕ) (effects : List Effect) where
     abbrev v : Moment K V
     v = with_effects caller acted effects m
@@ -73,7 +73,7 @@ module _ (K V : Type 0) (same : K → K → Bool) (hash : ℕ → K → ℕ) whe
 
     -- it goes on, with what it has reclaimed by now
     goes_so : (ending : EndMap) (said : Settled (Node K V)) (did : Did ending said) (back : List ℕ) → LeftNoted known known2 s.world did.w2 → back ≡ f.back ++ taken_by did.deed
-        → ShowsRemains old.roots v known2 (record s { world = did.w2; enders = with_at s.enders i (Some (record f { machine = ending; back = back; waits = f.waits ++ waiting_by did.deed })) })
+        → RefinesRemains old.roots v known2 (record s { world = did.w2; enders = with_at s.enders i (Some (record f { machine = ending; back = back; waits = f.waits ++ waiting_by did.deed })) })
     goes_so ending said did back noted is =
         let f2 : Finishing K V = record f { machine = ending; back = back; waits = f.waits ++ waiting_by did.deed } in
         goes_on old.roots m v known known2 s (record s { world = did.w2; enders = with_at s.enders i (Some f2) }) shows noted (roots_stay caller acted effects m) (remains_stay caller acted effects m)
@@ -86,8 +86,8 @@ module _ (K V : Type 0) (same : K → K → Bool) (hash : ℕ → K → ℕ) whe
 
     -- or it is over: what it has left over is behind its root, which is that of a map that is there still
     over_so : (ending : EndMap) (did : Did ending settled.Done) → LeftNoted known known2 s.world did.w2
-        → LeftAmong old.roots did.w2 s.maps s.makers (with_at s.enders i None) (with_at shows.lists f.setting.root f.waits)
-        → ShowsRemains old.roots v known2 (record s { world = did.w2; enders = with_at s.enders i None })
+        → LeftWithEndings old.roots did.w2 s.maps s.makers (with_at s.enders i None) (with_at shows.lists f.setting.root f.waits)
+        → RefinesRemains old.roots v known2 (record s { world = did.w2; enders = with_at s.enders i None })
     over_so ending did noted left = record {
       lists = with_at shows.lists f.setting.root f.waits;
       left = left;
@@ -118,9 +118,9 @@ module _ (K V : Type 0) (same : K → K → Bool) (hash : ℕ → K → ℕ) whe
         same_list : (r : ℕ) → is_among r (map_roots m) ≡ false → with_at shows.lists f.setting.root f.waits r ≡ shows.lists r
         same_list r none = at_other shows.lists f.setting.root f.waits r (not_its r none)
 
-    then_so : (ending : EndMap) (said : Settled (Node K V)) (did : Did ending said) (comes : EndingComesTo same hash s new i f ending did.w2 did.deed said)
+    then_so : (ending : EndMap) (said : Settled (Node K V)) (did : Did ending said) (comes : EndingHasOutcome same hash s new i f ending did.w2 did.deed said)
         → LeftNoted known known2 s.world (ending_after same hash s new i f ending did.w2 did.deed said comes).world
-        → ShowsRemains old.roots v known2 (ending_after same hash s new i f ending did.w2 did.deed said comes)
+        → RefinesRemains old.roots v known2 (ending_after same hash s new i f ending did.w2 did.deed said comes)
     then_so ending settled.Goes did comes noted = goes_so ending settled.Goes did f.back noted (sym (ap (λ (l : List ℕ). f.back ++ l) comes.0 ∙ append-nil f.back))
     then_so ending settled.Waits did comes noted = absurd comes
     then_so ending (settled.Gave value) did comes noted = goes_so ending (settled.Gave value) did (f.back ++ comes.0 ∷ []) noted (ap (λ (l : List ℕ). f.back ++ l) (sym comes.2))
@@ -128,6 +128,6 @@ module _ (K V : Type 0) (same : K → K → Bool) (hash : ℕ → K → ℕ) whe
         over_so ending did noted
         ((endings_leave_it V same same old.batch_size old.roots slot_of s.world s.maps s.calls s.makers s.enders shows.lists at.together shows.left i f here new.memory (ending, settled.Done) did).1 comes.1)
 
-  pub endings_keep_remains : EndingsKeepRemains K V same hash
+  pub endings_keep_remains : EndingsPreserveRemains K V same hash
   endings_keep_remains m known known2 s old new at shows i said leads f here caller acted effects noted =
       let to = leads f here in then_so m known known2 s old new at shows i f here caller acted effects to.0 said to.2 to.3 noted

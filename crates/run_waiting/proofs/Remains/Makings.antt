@@ -15,20 +15,20 @@ use Rattle.run_debts.specs.Given.SchedulesEffects.{with_effects}
 use Rattle.run_debts.specs.Given.SchedulesMoment.{Moment}
 use Rattle.run_debts.proofs.Given.CallersTogether.At.{at_other, at_same}
 use Rattle.run_debts.specs.Given.EffectsKnown.{Known}
-use Rattle.run_debts.specs.Given.FinishesEndings.{EndingsTogether, MakingStepsAmong}
+use Rattle.run_debts.specs.Given.FinishesEndings.{EndingsTogether, MakingStepsWithEndings}
 use Rattle.run_debts.specs.Given.FinishesMakings.{Beginning}
 use Rattle.run_debts.specs.Given.FinishesMaps.{Standing}
 use Rattle.run_debts.specs.Given.OthersMakings.{making_after}
-use Rattle.run_debts.specs.Given.ReclaimsLeft.{LeftAmong, MakingLeft}
+use Rattle.run_debts.specs.Given.ReclaimsLeft.{LeftWithEndings, MakingLeft}
 use Rattle.run_debts.specs.Given.ReclaimsReclaims.{IsRootOf}
 use Rattle.run_debts.proofs.Given.ReclaimsBehind.Kept.{keeps_still}
 use Rattle.run_debts.proofs.Given.ReclaimsLeft.Makings.{makings_begin_and_leave_it, makings_leave_it}
 use Rattle.run_debts.proofs.Given.ReclaimsLeft.Stays.{left_stays}
-use Rattle.run_waiting.specs.Remains.Remains.{LeftNoted, ShowsRemains}
-use Rattle.run_waiting.specs.Remains.Steps.{MakingsBeginRemain, MakingsKeepRemains}
+use Rattle.run_waiting.specs.Remains.Remains.{LeftNoted, RefinesRemains}
+use Rattle.run_waiting.specs.Remains.Steps.{MakingsBeginRemain, MakingsPreserveRemains}
 use Rattle.run_waiting.proofs.Remains.Stays.{goes_on, remains_stay, roots_stay}
 use Rattle.run_debts.specs.Given.ScenesHeld.{Held, IsAt}
-use Rattle.run_debts.specs.Given.ScenesMaking.{MakingComesTo}
+use Rattle.run_debts.specs.Given.ScenesMaking.{MakingHasOutcome}
 use Rattle.run_debts.specs.Given.ScenesScene.{Scene, slot_of}
 
 -- maps with the same settings have the same roots
@@ -61,13 +61,13 @@ makings_begin_remain K V roots m known s shows i b none untaken =
     (makings_begin_and_leave_it V (λ (k l : K). true) (λ (k l : K). true) 0 roots slot_of s.world s.maps s.calls s.makers s.enders shows.lists shows.left i none b untaken) shows.ending
 
 module _ (K V : Type 0) (same : K → K → Bool) (hash : ℕ → K → ℕ) where
-  module _ (m : Moment K V) (known known2 : Known) (s : Scene K V) (old new : Held K V) (at : IsAt same hash old s) (shows : ShowsRemains old.roots m known s) (i : ℕ) (b : Beginning K) (here : s.makers i ≡ Some b)
+  module _ (m : Moment K V) (known known2 : Known) (s : Scene K V) (old new : Held K V) (at : IsAt same hash old s) (shows : RefinesRemains old.roots m known s) (i : ℕ) (b : Beginning K) (here : s.makers i ≡ Some b)
       (caller : Option (List ℕ)) (acted : Option ℕ) (effects : List Effect) where
     abbrev v : Moment K V
     v = with_effects caller acted effects m
 
     abbrev Did : NewMap → Advance Setting → Type 0
-    Did opening said = MakingStepsAmong V same same old.batch_size old.roots slot_of s.world s.maps s.calls s.makers s.enders i b new.memory (opening, said)
+    Did opening said = MakingStepsWithEndings V same same old.batch_size old.roots slot_of s.world s.maps s.calls s.makers s.enders i b new.memory (opening, said)
 
     left_then : (opening : NewMap) (said : Advance Setting) (did : Did opening said)
         → MakingLeft V same same old.batch_size old.roots slot_of s.world s.maps s.calls s.makers s.enders shows.lists i b did.step.w2 (opening, said) did.told
@@ -76,8 +76,8 @@ module _ (K V : Type 0) (same : K → K → Bool) (hash : ℕ → K → ℕ) whe
 
     -- the map that came, as it stands
     comes_so : (w2 : World (Node K V)) (st t : Standing K) → EndingsTogether V same same old.batch_size old.roots slot_of w2 (with_at s.maps b.map (Some st)) s.calls (with_at s.makers i None) s.enders
-        → st.setting ≡ t.setting → LeftAmong old.roots w2 (with_at s.maps b.map (Some st)) (with_at s.makers i None) s.enders shows.lists
-        → LeftAmong old.roots w2 (with_at s.maps b.map (Some t)) (with_at s.makers i None) s.enders shows.lists
+        → st.setting ≡ t.setting → LeftWithEndings old.roots w2 (with_at s.maps b.map (Some st)) (with_at s.makers i None) s.enders shows.lists
+        → LeftWithEndings old.roots w2 (with_at s.maps b.map (Some t)) (with_at s.makers i None) s.enders shows.lists
     comes_so w2 st t together e left =
         left_stays old.roots shows.lists w2 w2 (with_at s.maps b.map (Some st)) (with_at s.maps b.map (Some t)) (with_at s.makers i None) s.enders left
         (keeps_still (IsRootOf (with_at s.maps b.map (Some st))) w2)
@@ -85,9 +85,9 @@ module _ (K V : Type 0) (same : K → K → Bool) (hash : ℕ → K → ℕ) whe
         (root_alike (with_at s.maps b.map (Some st)) (with_at s.maps b.map (Some t)) (with_setting s.maps b.map st t e))
         (λ r its. subst (λ (x : ℕ). word_at w2.memory (Used x) ≡ Some 1) its.3 (together.makings.used its.0 its.1 its.2))
 
-    then_so : (opening : NewMap) (said : Advance Setting) (did : Did opening said) (comes : MakingComesTo same hash s old new i b opening did.step.w2 said)
+    then_so : (opening : NewMap) (said : Advance Setting) (did : Did opening said) (comes : MakingHasOutcome same hash s old new i b opening did.step.w2 said)
         → LeftNoted known known2 s.world (making_after same hash s old new i b opening did.step.w2 said comes).world
-        → ShowsRemains old.roots v known2 (making_after same hash s old new i b opening did.step.w2 said comes)
+        → RefinesRemains old.roots v known2 (making_after same hash s old new i b opening did.step.w2 said comes)
     then_so opening progress.Goes did comes noted =
         goes_on old.roots m v known known2 s (making_after same hash s old new i b opening did.step.w2 progress.Goes comes) shows noted (roots_stay caller acted effects m) (remains_stay caller acted effects m)
         (left_then opening progress.Goes did) shows.ending
@@ -99,6 +99,6 @@ module _ (K V : Type 0) (same : K → K → Bool) (hash : ℕ → K → ℕ) whe
         goes_on old.roots m v known known2 s (making_after same hash s old new i b opening did.step.w2 (progress.Refused fault) comes) shows noted (roots_stay caller acted effects m) (remains_stay caller acted effects m)
         (left_then opening (progress.Refused fault) did) shows.ending
 
-  pub makings_keep_remains : MakingsKeepRemains K V same hash
+  pub makings_keep_remains : MakingsPreserveRemains K V same hash
   makings_keep_remains m known known2 s old new at shows i said leads b here caller acted effects noted =
       let to = leads b here in then_so m known known2 s old new at shows i b here caller acted effects to.0 said to.2 to.3 noted

@@ -17,7 +17,7 @@ use Rattle.run_debts.specs.Given.FinishesMakings.{IsFreeRoot}
 use Rattle.run_debts.specs.Given.OthersEndings.{without_map}
 use Rattle.run_debts.specs.Given.ReclaimsLeft.{IsSomebodys}
 use Rattle.run_debts.proofs.Given.ReclaimsLeft.Stays.{nothing_is_left}
-use Rattle.run_waiting.specs.Remains.Remains.{AscendFrom, ShowsRemains, has_some, left_at, left_roots, map_roots}
+use Rattle.run_waiting.specs.Remains.Remains.{AscendFrom, RefinesRemains, has_some, left_at, left_roots, map_roots}
 use Rattle.run_waiting.specs.Remains.Steps.{MapsComeRemain, MapsGoRemain, ReclaimedRemain}
 use Rattle.run_waiting.proofs.Remains.Lists.{among_append, among_remains, ascends, either, left_new, left_none, left_other, none_times, not_among, some_noted, some_times, taken_out, times_remains}
 use Rattle.run_debts.specs.Given.ScenesScene.{Scene}
@@ -77,7 +77,7 @@ module _ (K V : Type 0) where
               old true b used = refl
               old false b used = used
 
-  module _ (roots : ℕ) (m : Moment K V) (known : Known) (s : Scene K V) (shows : ShowsRemains roots m known s) (own : List ℕ) (f : MapThere) (found : map_of own m ≡ Some f)
+  module _ (roots : ℕ) (m : Moment K V) (known : Known) (s : Scene K V) (shows : RefinesRemains roots m known s) (own : List ℕ) (f : MapThere) (found : map_of own m ≡ Some f)
       (alone : length (filter (λ g. is_same g.name own) m.maps) ≤ 1) where
     abbrev kept : List ℕ
     kept = map (λ g. g.root) (filter (λ g. not (is_same g.name own)) m.maps)
@@ -115,7 +115,7 @@ module _ (K V : Type 0) where
       goes_with : (remains : List Remains) → ((r : ℕ) → r < roots → is_among r kept ≡ false → is_among r (map (λ x. x.root) remains) ≡ has_some (shows.lists r))
           → ((r : ℕ) → r < roots → is_among r kept ≡ false → map known.roles (shows.lists r) ≡ map role.Pair (left_at r remains)) → AscendFrom 0 remains
           → ((r : ℕ) → times r (map (λ x. x.root) remains) ≤ times r (left_roots m) + (if r == f.root then 1 else 0))
-          → ((r : ℕ) → is_among r (map (λ x. x.root) remains) ≡ true → r < roots) → ShowsRemains roots (without_map own remains m) known s
+          → ((r : ℕ) → is_among r (map (λ x. x.root) remains) ≡ true → r < roots) → RefinesRemains roots (without_map own remains m) known s
       goes_with remains told pairs ascending few below = record {
         lists = shows.lists;
         left = shows.left;
@@ -148,7 +148,7 @@ module _ (K V : Type 0) where
               by true e = e
               by false e = absurd (let none = none_times f.root (map_roots m) e in let its = its_root in omega (arith, none, its))
 
-      goes : (pairs : List ℕ) → map known.roles (shows.lists f.root) ≡ map role.Pair pairs → ShowsRemains roots (without_map own (if_any f.root pairs m.remains) m) known s
+      goes : (pairs : List ℕ) → map known.roles (shows.lists f.root) ≡ map role.Pair pairs → RefinesRemains roots (without_map own (if_any f.root pairs m.remains) m) known s
       goes [] none =
           goes_with m.remains told left shows.ascending (λ r. omega arith) (λ r is. shows.below r (used_among m r ∙ or_true (is_among r (map_roots m)) (is_among r (left_roots m)) is))
         where

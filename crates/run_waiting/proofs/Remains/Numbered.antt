@@ -21,7 +21,7 @@ use Rattle.run_debts.specs.Given.EffectsDeclared.role.Role.TheVariants as role
 use Rattle.run_debts.proofs.Given.OthersRowPlans.{TellsRow}
 use Rattle.run_debts.specs.Given.MomentsNumbers.{NumbersMaps}
 use Rattle.run_debts.proofs.Given.MomentsNumbers.{rows_keep_numbers, steps_keep_numbers}
-use Rattle.run_waiting.specs.Remains.Numbered.{CallsKeepCount, EndsKeepCount, MakingsKeepCount, MoreAreCounted, NumbersUpTo, RowsKeepCount}
+use Rattle.run_waiting.specs.Remains.Numbered.{CallsPreserveCount, EndsPreserveCount, MakingsPreserveCount, MoreAreCounted, NumbersUpTo, RowsPreserveCount}
 
 module _ {K V : Type 0} (caller : Option (List ℕ)) (acted : Option ℕ) where
   -- of maps and tables effects look at these alone, and they leave the count
@@ -46,18 +46,18 @@ module _ {K V : Type 0} (caller : Option (List ℕ)) (acted : Option ℕ) where
       }
 
 module _ (K V : Type 0) (same : K → K → Bool) (hash : ℕ → K → ℕ) where
-  pub calls_keep_count : CallsKeepCount K V same hash
+  pub calls_keep_count : CallsPreserveCount K V same hash
   calls_keep_count m known s old new count below numbers map i u here said leads caller acted =
       to_count caller acted (effects_of (acts.Call i map) known new.changed) m count
       (steps_keep_numbers K V (record m { made = count }) numbers caller acted (acts.Call i map) known new.changed
       (below.standing map (leads map u here).0 (leads map u here).2))
 
-  pub rows_keep_count : RowsKeepCount K V same hash
+  pub rows_keep_count : RowsPreserveCount K V same hash
   rows_keep_count m known s old new count numbers i said leads row here =
       to_count None None (effects_of acts.Row known new.changed) m count
       (rows_keep_numbers K V same hash (record m { made = count }) numbers known s old new i said leads row here)
 
-  pub makings_keep_count : MakingsKeepCount K V same hash
+  pub makings_keep_count : MakingsPreserveCount K V same hash
   makings_keep_count m known s new count below numbers i b here caller acted =
       to_count caller acted (effects_of (acts.Making b.map) known new.changed) m count
       (steps_keep_numbers K V (record m { made = count }) numbers caller acted (acts.Making b.map) known new.changed (below.made i b here))
@@ -114,7 +114,7 @@ abbrev all_are : TableId → ℕ → Known
 all_are t len = record { roles = λ b. role.Table t len; stored = 0; buckets = 0 }
 
 -- What ends is told of the map's number alone where it is a table that was not linked: there the number does not matter.
-pub ends_keep_count : (K V : Type 0) → EndsKeepCount K V
+pub ends_keep_count : (K V : Type 0) → EndsPreserveCount K V
 ends_keep_count K V m count numbers map role.Free caller acted = numbers
 ends_keep_count K V m count numbers map (role.OwnPair i) caller acted = record { found = numbers.found; below = numbers.below; tables = numbers.tables }
 ends_keep_count K V m count numbers map (role.OwnTable turn shape) caller acted = record { found = numbers.found; below = numbers.below; tables = numbers.tables }

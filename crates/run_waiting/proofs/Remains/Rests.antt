@@ -12,14 +12,14 @@ use Rattle.run_debts.specs.Given.SchedulesViews.{map_at}
 use Rattle.run_debts.specs.Given.EffectsKnown.{Known}
 use Rattle.run_debts.specs.Given.EffectsDeclared.role.Role.TheVariants as role
 use Rattle.run_debts.specs.Given.FinishesMaps.{Standing}
-use Rattle.run_debts.specs.Given.FollowsShows.{Shows}
+use Rattle.run_debts.specs.Given.FollowsShows.{Refines}
 use Rattle.run_debts.proofs.Given.RunsPairs.Held.{times-append}
 use Rattle.run_debts.specs.Given.MomentsNumbers.{AreFound}
 use Rattle.run_debts.specs.Given.ReclaimsLeft.{IsSomebodys}
 use Rattle.run_debts.specs.Given.ReclaimsReclaims.{IsRootOf, RootLeads}
 use Rattle.run_debts.proofs.Given.ReclaimsLeft.Stays.{left_is_left_behind}
-use Rattle.run_waiting.specs.Remains.Remains.{AllStand, RootsAreTaken, ShowsRemains, has_some, left_at, left_roots, map_roots}
-use Rattle.run_waiting.specs.Remains.Steps.{RestsNoted, RestsRemain}
+use Rattle.run_waiting.specs.Remains.Remains.{AllStand, RootsAreTaken, RefinesRemains, has_some, left_at, left_roots, map_roots}
+use Rattle.run_waiting.specs.Remains.Steps.{QuiescentAreNoted, QuiescentRemain}
 use Rattle.run_waiting.proofs.Remains.Lists.{among_append, found_among, left_none, not_among, some_times}
 use Rattle.run_debts.specs.Given.ScenesHeld.{Held, IsAt}
 use Rattle.run_debts.specs.Given.ScenesScene.{Scene}
@@ -35,7 +35,7 @@ root_there P Q r (f ∷ fs) e all each = by (r == f.root) refl e (λ later. root
     by false other is ih = ih is
 
 module _ {K V : Type 0} (same : K → K → Bool) (hash : ℕ → K → ℕ) (name : ℕ → List ℕ) (m : Moment K V) (known : Known) (s : Scene K V) (e : Held K V) (at : IsAt same hash e s)
-    (shown : Shows same name m known s) (shows : ShowsRemains e.roots m known s) (found : AreFound m) (stand : AllStand m s) (no_makers : (j : ℕ) → s.makers j ≡ None) (no_enders : (j : ℕ) → s.enders j ≡ None) where
+    (shown : Refines same name m known s) (shows : RefinesRemains e.roots m known s) (found : AreFound m) (stand : AllStand m s) (no_makers : (j : ℕ) → s.makers j ≡ None) (no_enders : (j : ℕ) → s.enders j ≡ None) where
   -- roots of maps that are there are those of maps that stand
   stands_there : (r : ℕ) → is_among r (map_roots m) ≡ true → IsRootOf s.maps r
   stands_there r is =
@@ -94,14 +94,14 @@ module _ {K V : Type 0} (same : K → K → Bool) (hash : ℕ → K → ℕ) (na
   in_memory : RootsAreTaken e.roots m e.memory
   in_memory r below = subst (λ (x : Mem (Node K V)). word_at x (Used r) ≡ Some (if is_among r (used_roots m) then 1 else 0)) at.memory (taken r below)
 
-pub rests_remain : (K V : Type 0) (same : K → K → Bool) (hash : ℕ → K → ℕ) → RestsRemain K V same hash
+pub rests_remain : (K V : Type 0) (same : K → K → Bool) (hash : ℕ → K → ℕ) → QuiescentRemain K V same hash
 rests_remain K V same hash name m known s e at shown shows found stand no_makers no_enders = (
   in_memory same hash name m known s e at shown shows found stand no_makers no_enders,
   (left_is_left_behind K V e.roots s.world s.maps s.makers s.enders shows.lists no_makers no_enders).0 shows.left,
 )
 
 -- And what is behind each root then, also behind that of a map, is noted as what is told.
-pub each_noted : (K V : Type 0) (same : K → K → Bool) (hash : ℕ → K → ℕ) → RestsNoted K V same hash
+pub each_noted : (K V : Type 0) (same : K → K → Bool) (hash : ℕ → K → ℕ) → QuiescentAreNoted K V same hash
 each_noted K V same hash name m known s e at shown shows found stand no_makers no_enders r below = by (is_among r (map_roots m)) refl
   where
     none_told : is_among r (map_roots m) ≡ true → is_among r (left_roots m) ≡ false

@@ -20,7 +20,7 @@ use Rattle.run_debts.specs.Given.TablesDeclared.table_words.TheConstants.{NEXT}
 use Rattle.run_debts.specs.Given.RawEndMap.{end_map_plan}
 use Rattle.run_debts.specs.Given.RawMachine.{machine_plan}
 use Rattle.run_debts.specs.Given.ResizeNewMap.{new_map_plan}
-use Rattle.run_debts.specs.Given.TellerTells.{told_of}
+use Rattle.run_debts.specs.Given.TellerTells.{observed_of}
 use Rattle.run_debts.specs.Given.EffectsDeclared.changed.Changed.{Changed}
 use Rattle.run_debts.specs.Given.EffectsDeclared.changed.Changed.TheVariants as changed
 use Rattle.run_debts.specs.Given.TellsSeen.{seen_of}
@@ -195,7 +195,7 @@ module _ (bucket : ℕ) (known : Known) where
   }
 
 module _ {K V : Type 0} where
-  pub no_room_told : (m : Mem (Node K V)) (op : Op (Node K V)) (out : Out (Node K V)) → IsOther op out → IsNoRoom (told_of op out (seen_of m op out))
+  pub no_room_told : (m : Mem (Node K V)) (op : Op (Node K V)) (out : Out (Node K V)) → IsOther op out → IsNoRoom (observed_of op out (seen_of m op out))
   no_room_told m (Load at) out other = tt
   no_room_told m (Store at w) out other = tt
   no_room_told m (Swap at w) (Found before) other = tt
@@ -221,20 +221,20 @@ module _ {K V : Type 0} where
       subst (λ (c : Changed). SlotsNoted (known_after acting c known) m2) (sym is) (subst (λ (x : Mem (Node K V)). SlotsNoted known x) (sym stays) noted)
   operation_notes acting known m m2 told (inr made) noted =
       subst (λ (c : Changed). SlotsNoted (known_after acting c known) m2) (sym made.is)
-      (subst (λ (x : Mem (Node K V)). SlotsNoted (known_after acting (told_of made.op made.out (seen_of m made.op made.out)) known) x) (sym made.took.1) (by made.op made.out made.can (either_way made.op made.out)))
+      (subst (λ (x : Mem (Node K V)). SlotsNoted (known_after acting (observed_of made.op made.out (seen_of m made.op made.out)) known) x) (sym made.took.1) (by made.op made.out made.can (either_way made.op made.out)))
     where
-      by : (op : Op (Node K V)) (out : Out (Node K V)) → Can m op → IsOther op out ⊎ MakesRoom op out → SlotsNoted (known_after acting (told_of op out (seen_of m op out)) known) (after m op out)
+      by : (op : Op (Node K V)) (out : Out (Node K V)) → Can m op → IsOther op out ⊎ MakesRoom op out → SlotsNoted (known_after acting (observed_of op out (seen_of m op out)) known) (after m op out)
       by op out can (inl other) =
           let keeps = other_keeps m op out can other in
-          let as_many = buckets_stay acting (told_of op out (seen_of m op out)) known (no_room_told m op out other) in
+          let as_many = buckets_stay acting (observed_of op out (seen_of m op out)) known (no_room_told m op out other) in
           record {
             some = λ l. keeps.0 (noted.some (omega (arith, l, as_many)));
             none = λ e. keeps.1 (noted.none (sym as_many ∙ e));
             whole = ap (λ (n : ℕ). n + 32) keeps.2 ∙ noted.whole ∙ ap capacity (sym as_many);
           }
       by op out can (inr (bucket, is_room, is_made)) =
-          subst (λ (x : Op (Node K V)). SlotsNoted (known_after acting (told_of x out (seen_of m x out)) known) (after m x out)) (sym is_room)
-          (subst (λ (x : Out (Node K V)). SlotsNoted (known_after acting (told_of (Room bucket) x (seen_of m (Room bucket) x)) known) (after m (Room bucket) x)) (sym is_made)
+          subst (λ (x : Op (Node K V)). SlotsNoted (known_after acting (observed_of x out (seen_of m x out)) known) (after m x out)) (sym is_room)
+          (subst (λ (x : Out (Node K V)). SlotsNoted (known_after acting (observed_of (Room bucket) x (seen_of m (Room bucket) x)) known) (after m (Room bucket) x)) (sym is_made)
           (room_noted bucket known m (subst (Can m) is_room can) noted))
 
 pub slots_begin : (K V : Type 0) → SlotsBegin K V

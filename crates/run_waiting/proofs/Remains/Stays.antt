@@ -18,10 +18,10 @@ use Rattle.run_debts.specs.Given.EffectsDeclared.role.Role.TheVariants as role
 use Rattle.run_debts.specs.Given.FinishesEndings.{Finishing}
 use Rattle.run_debts.specs.Given.FinishesMakings.{Beginning}
 use Rattle.run_debts.specs.Given.FinishesMaps.{Standing}
-use Rattle.run_debts.specs.Given.ReclaimsLeft.{LeftAmong}
+use Rattle.run_debts.specs.Given.ReclaimsLeft.{LeftWithEndings}
 use Rattle.run_debts.proofs.Given.ReclaimsBehind.Kept.{in_all}
 use Rattle.run_debts.proofs.Given.ReclaimsLeft.Stays.{nothing_is_left}
-use Rattle.run_waiting.specs.Remains.Remains.{AscendFrom, LeftNoted, ShowsRemains, left_at, map_roots}
+use Rattle.run_waiting.specs.Remains.Remains.{AscendFrom, LeftNoted, RefinesRemains, left_at, map_roots}
 use Rattle.run_waiting.specs.Remains.Steps.{BeginsRemain, StaysRemain}
 use Rattle.run_waiting.proofs.Lives.Order.{noted_still}
 use Rattle.run_debts.specs.Given.ScenesScene.{Scene, at_first}
@@ -55,9 +55,9 @@ module _ {K V : Type 0} where
   used_then m v maps remains = ap (λ (rs : List ℕ). rs ++ map (λ x. x.root) v.remains) maps ∙ ap (λ (xs : List Remains). map_roots m ++ map (λ x. x.root) xs) remains
 
   -- where the same lists are behind the roots still
-  pub goes_on : (roots : ℕ) (m v : Moment K V) (known known2 : Known) (s t : Scene K V) (shows : ShowsRemains roots m known s) → LeftNoted known known2 s.world t.world → map_roots v ≡ map_roots m
-      → v.remains ≡ m.remains → LeftAmong roots t.world t.maps t.makers t.enders shows.lists → ((j : ℕ) (f : Finishing K V) → t.enders j ≡ Some f → is_among f.setting.root (map_roots m) ≡ true)
-      → ShowsRemains roots v known2 t
+  pub goes_on : (roots : ℕ) (m v : Moment K V) (known known2 : Known) (s t : Scene K V) (shows : RefinesRemains roots m known s) → LeftNoted known known2 s.world t.world → map_roots v ≡ map_roots m
+      → v.remains ≡ m.remains → LeftWithEndings roots t.world t.maps t.makers t.enders shows.lists → ((j : ℕ) (f : Finishing K V) → t.enders j ≡ Some f → is_among f.setting.root (map_roots m) ≡ true)
+      → RefinesRemains roots v known2 t
   goes_on roots m v known known2 s t shows noted maps remains left ending = record {
     lists = shows.lists;
     left = left;
@@ -93,8 +93,8 @@ begins_remain K V roots = record {
 pub stays_remain : (K V : Type 0) → StaysRemain K V
 stays_remain K V roots m v known s t shows maps remains world standing makers enders =
     goes_on roots m v known known s t shows (λ b n is before after. is) maps remains
-    (subst (λ (x : World (Node K V)). LeftAmong roots x t.maps t.makers t.enders shows.lists) (sym world)
-    (subst (λ (x : ℕ → Option (Standing K)). LeftAmong roots s.world x t.makers t.enders shows.lists) (sym standing)
-    (subst (λ (x : ℕ → Option (Beginning K)). LeftAmong roots s.world s.maps x t.enders shows.lists) (sym makers)
-    (subst (λ (x : ℕ → Option (Finishing K V)). LeftAmong roots s.world s.maps s.makers x shows.lists) (sym enders) shows.left))))
+    (subst (λ (x : World (Node K V)). LeftWithEndings roots x t.maps t.makers t.enders shows.lists) (sym world)
+    (subst (λ (x : ℕ → Option (Standing K)). LeftWithEndings roots s.world x t.makers t.enders shows.lists) (sym standing)
+    (subst (λ (x : ℕ → Option (Beginning K)). LeftWithEndings roots s.world s.maps x t.enders shows.lists) (sym makers)
+    (subst (λ (x : ℕ → Option (Finishing K V)). LeftWithEndings roots s.world s.maps s.makers x shows.lists) (sym enders) shows.left))))
     (λ j f is. shows.ending j f (ap (λ (g : ℕ → Option (Finishing K V)). g j) (sym enders) ∙ is))

@@ -8,7 +8,7 @@ use Rattle.run_debts.specs.Given.ScenesDeclared.row.SlotCall.{SlotCall}
 use Rattle.run_debts.specs.Given.ScenesDeclared.row.SlotCall.TheVariants as call
 use Rattle.run_debts.specs.Given.OthersRows.{scene_then}
 use Rattle.run_debts.proofs.Given.ReclaimsLeft.Calls.{guards_leave_it, machines_leave_it}
-use Rattle.run_waiting.specs.Remains.Steps.{CallsKeepRemains, RowsBeginRemain, RowsKeepRemains}
+use Rattle.run_waiting.specs.Remains.Steps.{CallsPreserveRemains, RowsBeginRemain, RowsPreserveRemains}
 use Rattle.run_waiting.proofs.Remains.Stays.{goes_on, remains_stay, roots_stay}
 use Rattle.run_debts.specs.Given.ScenesRows.{request_of}
 use Rattle.run_debts.specs.Given.ScenesScene.{slot_of}
@@ -25,7 +25,7 @@ is_of_slots slot call.Flush = tt
 is_of_slots slot call.Unregister = tt
 
 module _ (K V : Type 0) (same : K → K → Bool) (hash : ℕ → K → ℕ) where
-  pub calls_keep_remains : CallsKeepRemains K V same hash
+  pub calls_keep_remains : CallsPreserveRemains K V same hash
   calls_keep_remains m known known2 s old new at shows map i u here said leads caller acted effects noted =
       let to = leads map u here in
       goes_on old.roots m (with_effects caller acted effects m) known known2 s (scene_after same s old new map i to.0 u to.1 said to.4) shows noted (roots_stay caller acted effects m) (remains_stay caller acted effects m)
@@ -40,7 +40,7 @@ module _ (K V : Type 0) (same : K → K → Bool) (hash : ℕ → K → ℕ) whe
       (request_of (slot_of i) called) (is_of_slots (slot_of i) called) happened.1)
       shows.ending
 
-  pub rows_keep_remains : RowsKeepRemains K V same hash
+  pub rows_keep_remains : RowsPreserveRemains K V same hash
   rows_keep_remains m known known2 s old new at shows i said leads row here caller acted effects noted =
       let happened = (leads row here).2 in
       goes_on old.roots m (with_effects caller acted effects m) known known2 s (scene_then same hash (Step i) s old new happened) shows noted (roots_stay caller acted effects m) (remains_stay caller acted effects m)

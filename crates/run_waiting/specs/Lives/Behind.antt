@@ -22,7 +22,7 @@ abbrev pub NoTableLeft : {K V : Type 0} → Known → World (Node K V) → Type 
 NoTableLeft known w = (b len : ℕ) (t : TableId) → known.roles b ≡ role.Table t len → IsLeft (w.hand b) → ⊥
 
 -- The pair has a block, and so has the table. That one waits behind this one; or both are left over, since their map ends.
-pub record LiesBehind {K V : Type 0} (known : Known) (w : World (Node K V)) (n : ℕ) (t : TableId) : Type 0 where
+pub record IsDeferredTo {K V : Type 0} (known : Known) (w : World (Node K V)) (n : ℕ) (t : TableId) : Type 0 where
   pub pair : ℕ
   pub is_pair : known.roles pair ≡ role.Pair n
   pub table : ℕ
@@ -37,13 +37,13 @@ EachWaits P (d ∷ deferred) = P d.pair d.behind × EachWaits P deferred
 
 module _ {K V : Type 0} where
   -- each pair that waits behind a table is told to be behind one, and its block lies behind that of this table
-  abbrev pub ShowsWaiting : Moment K V → Known → World (Node K V) → Type 0
-  ShowsWaiting m known w = EachWaits (λ n t. (m.place n ≡ Behind) × LiesBehind known w n t) m.deferred
+  abbrev pub RefinesWaiting : Moment K V → Known → World (Node K V) → Type 0
+  RefinesWaiting m known w = EachWaits (λ n t. (m.place n ≡ Behind) × IsDeferredTo known w n t) m.deferred
 
 -- The promise: so nothing is reclaimed that waits behind a table.
 abbrev pub WaitingIsThere : Type 0 → Type 0 → Type 0
 WaitingIsThere K V =
-    (m : Moment K V) (known : Known) (w : World (Node K V)) → ShowsWaiting m known w → (t : TableId) (n : ℕ) → is_among n (behind t m.deferred) ≡ true → is_unreclaimed (m.place n) ≡ true
+    (m : Moment K V) (known : Known) (w : World (Node K V)) → RefinesWaiting m known w → (t : TableId) (n : ℕ) → is_among n (behind t m.deferred) ≡ true → is_unreclaimed (m.place n) ≡ true
 
 -- each pair that waits is told to be behind one table
 abbrev pub WaitsOnce : List Deferral → Type 0

@@ -32,11 +32,11 @@ use Rattle.run_debts.specs.Given.FinishesMaps.{Standing}
 use Rattle.run_debts.specs.Given.OthersEndings.{ending_after}
 use Rattle.run_debts.specs.Given.OthersMakings.{WasNew}
 use Rattle.run_debts.specs.Given.OthersRows.{scene_then}
-use Rattle.run_debts.specs.Given.MomentsWhole.{ShowsWhole}
-use Rattle.run_debts.specs.Due.{Due, ToRetire, ToPut, due_in_settle, due_in_defer, OwnAreMade}
-use Rattle.run_debts.specs.Entries.{ShowsEntries}
-use Rattle.run_waiting.specs.Lives.Behind.{ShowsWaiting}
-use Rattle.run_waiting.specs.Lives.Retired.{ShowsRetired, CallsStay}
+use Rattle.run_debts.specs.Given.MomentsWhole.{RefinesWhole}
+use Rattle.run_debts.specs.Due.{RowObligation, ToRetire, ToPut, due_in_settle, due_in_defer, OwnAreMade}
+use Rattle.run_debts.specs.Entries.{EntriesAreBlank}
+use Rattle.run_waiting.specs.Lives.Behind.{RefinesWaiting}
+use Rattle.run_waiting.specs.Lives.Retired.{RefinesRetiredTables, CallsStay}
 use Rattle.run_waiting.specs.Lives.Waiting.{waits_behind}
 use Rattle.run_debts.specs.Given.ScenesEnding.{EndingLeads, ending_begun}
 use Rattle.run_debts.specs.Given.ScenesHeld.{Held, IsAt}
@@ -47,7 +47,7 @@ use Rattle.run_debts.specs.Given.ScenesScene.{HasCall, IsOnSlot, Scene, at_first
 use Rattle.run_debts.specs.Given.ScenesStepping.{StepLeads, scene_after}
 
 -- the block is the one to be retired, or to be put behind another one
-abbrev pub IsMeant : ℕ → Option Due → Type 0
+abbrev pub IsMeant : ℕ → Option RowObligation → Type 0
 IsMeant b (Some (ToRetire word)) = block_in word ≡ b
 IsMeant b (Some (ToPut word place)) = block_in word ≡ b
 IsMeant b None = ⊥
@@ -70,7 +70,7 @@ is_deferred n deferred = is_among n (map (λ d. d.pair) deferred)
 abbrev pub HasGone : {K V : Type 0} → Moment K V → Scene K V → (b n : ℕ) → Type 0
 HasGone m s b n = (is_handed (m.place n) ≡ true) ⊎ (is_deferred n m.deferred ≡ true) ⊎ ((i : ℕ) × HasCall s i × IsToHand b (s.world.row i))
 
-pub record ShowsHanded {K V : Type 0} (m : Moment K V) (known : Known) (s : Scene K V) : Type 0 where
+pub record RefinesHanded {K V : Type 0} (m : Moment K V) (known : Known) (s : Scene K V) : Type 0 where
   -- so it is of each pair whose block the collector has
   pub pairs : (b n : ℕ) → known.roles b ≡ role.Pair n → s.world.hand b ≡ Handed → HasGone m s b n
   -- a pair that is told to be handed over, and a table that is told to be retired, the collector has, and it waits behind nothing
@@ -84,22 +84,22 @@ HadHanded m _ = Unit {0}
 
 -- The promises: the collector has nothing before all events,
 abbrev pub HandedBegins : Type 0 → Type 0 → Type 0
-HandedBegins K V = (roots : ℕ) → ShowsHanded {K = K} {V = V} start nothing_known (at_first roots)
+HandedBegins K V = (roots : ℕ) → RefinesHanded {K = K} {V = V} start nothing_known (at_first roots)
 
 -- it is as it was where no pair, no table and no block changes, as where a call begins, is told something or comes to an outcome, and where a map comes or is there no more,
 abbrev pub OthersLeaveHanded : Type 0 → Type 0 → Type 0
 OthersLeaveHanded K V =
-    (m v : Moment K V) (known : Known) (s t : Scene K V) → ShowsHanded m known s → v.place ≡ m.place → v.deferred ≡ m.deferred → v.tables ≡ m.tables → t.world ≡ s.world → CallsStay s t
-    → ShowsHanded v known t
+    (m v : Moment K V) (known : Known) (s t : Scene K V) → RefinesHanded m known s → v.place ≡ m.place → v.deferred ≡ m.deferred → v.tables ≡ m.tables → t.world ≡ s.world → CallsStay s t
+    → RefinesHanded v known t
 
 -- and where the end of a map begins.
 abbrev pub EndingsBeginHanded : Type 0 → Type 0 → Type 0
-EndingsBeginHanded K V = (m : Moment K V) (known : Known) (s : Scene K V) → ShowsHanded m known s → (map i : ℕ) (standing : Standing K) → ShowsHanded m known (ending_begun map i standing s)
+EndingsBeginHanded K V = (m : Moment K V) (known : Known) (s : Scene K V) → RefinesHanded m known s → (map i : ℕ) (standing : Standing K) → RefinesHanded m known (ending_begun map i standing s)
 
 -- And while no row is under way, what is told to be handed over was retired.
-abbrev pub HandedAtRest : Type 0 → Type 0 → Type 0
-HandedAtRest K V =
-    (batch_size : ℕ) (m : Moment K V) (known : Known) (s : Scene K V) → CameAbout batch_size s.world → ShowsHanded m known s → ((i : ℕ) → s.world.row i ≡ Rests)
+abbrev pub HandedAtQuiescence : Type 0 → Type 0 → Type 0
+HandedAtQuiescence K V =
+    (batch_size : ℕ) (m : Moment K V) (known : Known) (s : Scene K V) → CameAbout batch_size s.world → RefinesHanded m known s → ((i : ℕ) → s.world.row i ≡ Rests)
     → ((n : ℕ) → is_handed (m.place n) ≡ true → (b : ℕ) × (known.roles b ≡ role.Pair n) × (was_retired b s.world.log ≡ true))
     × ((t : TableId) → is_stage is_retired t m ≡ true → (b : ℕ) × (len : ℕ) × (known.roles b ≡ role.Table t len) × (was_retired b s.world.log ≡ true))
 
@@ -107,49 +107,49 @@ module _ (K V : Type 0) (same : K → K → Bool) (hash : ℕ → K → ℕ) whe
   -- So it is where a row begins on a slot,
   abbrev pub RowsBeginHanded : Type 0
   RowsBeginHanded =
-      (m : Moment K V) (known : Known) (s : Scene K V) (old new : Held K V) → IsAt same hash old s → ShowsHanded m known s
+      (m : Moment K V) (known : Known) (s : Scene K V) (old new : Held K V) → IsAt same hash old s → RefinesHanded m known s
       → (called : SlotCall) (i : ℕ) (leads : RowBegins same hash called i s old new)
-      → ShowsHanded m known (scene_then same hash (Begin i (request_of (slot_of i) called)) s old new leads.2)
+      → RefinesHanded m known (scene_then same hash (Begin i (request_of (slot_of i) called)) s old new leads.2)
 
   -- and after a step of it: what waited behind a table that it reclaims is handed over then.
-  abbrev pub RowsKeepHanded : Type 0
-  RowsKeepHanded =
-      (name : ℕ → List ℕ) (m : Moment K V) (known : Known) (s : Scene K V) (old new : Held K V) → IsAt same hash old s → ShowsWhole same name m known s → ShowsWaiting m known s.world
-      → ShowsHanded m known s
+  abbrev pub RowsPreserveHanded : Type 0
+  RowsPreserveHanded =
+      (name : ℕ → List ℕ) (m : Moment K V) (known : Known) (s : Scene K V) (old new : Held K V) → IsAt same hash old s → RefinesWhole same name m known s → RefinesWaiting m known s.world
+      → RefinesHanded m known s
       → (i : ℕ) (told : RowTold (Node K V)) (leads : RowLeads same hash i told s old new) (row : SlotRow) (here : IsOnSlot s i row)
-      → ShowsHanded (with_effects None None (effects_of OfRow known new.changed) m) (known_after OfRow new.changed known) (scene_then same hash (Step i) s old new (leads row here).2)
+      → RefinesHanded (with_effects None None (effects_of OfRow known new.changed) m) (known_after OfRow new.changed known) (scene_then same hash (Step i) s old new (leads row here).2)
 
   -- A pair that it reclaims was handed over.
   abbrev pub RowsFindHanded : Type 0
   RowsFindHanded =
-      (name : ℕ → List ℕ) (m : Moment K V) (known : Known) (s : Scene K V) (old new : Held K V) → IsAt same hash old s → ShowsWhole same name m known s → ShowsWaiting m known s.world
-      → ShowsHanded m known s
+      (name : ℕ → List ℕ) (m : Moment K V) (known : Known) (s : Scene K V) (old new : Held K V) → IsAt same hash old s → RefinesWhole same name m known s → RefinesWaiting m known s.world
+      → RefinesHanded m known s
       → (i : ℕ) (told : RowTold (Node K V)) → RowLeads same hash i told s old new → (row : SlotRow) → IsOnSlot s i row
       → AtEachEffect HadHanded None None (effects_of OfRow known new.changed) m
 
   -- And it is so after each step of the making of a map,
-  abbrev pub MakingsKeepHanded : Type 0
-  MakingsKeepHanded =
-      (name : ℕ → List ℕ) (m : Moment K V) (known : Known) (s : Scene K V) (old new : Held K V) → IsAt same hash old s → ShowsWhole same name m known s → ShowsHanded m known s
+  abbrev pub MakingsPreserveHanded : Type 0
+  MakingsPreserveHanded =
+      (name : ℕ → List ℕ) (m : Moment K V) (known : Known) (s : Scene K V) (old new : Held K V) → IsAt same hash old s → RefinesWhole same name m known s → RefinesHanded m known s
       → (i : ℕ) (told : Advance Setting) (leads : MakingLeads same hash i told s old new) (b : Beginning K) (here : s.makers i ≡ Some b) (of : Option ℕ) → WasNew b.map told m
-      → ShowsHanded (with_effects None of (effects_of (Making b.map) known new.changed) m) (known_after (Making b.map) new.changed known) (record s { world = (leads b here).2.step.w2 })
+      → RefinesHanded (with_effects None of (effects_of (Making b.map) known new.changed) m) (known_after (Making b.map) new.changed known) (record s { world = (leads b here).2.step.w2 })
 
   -- and of a call, of its row, too.
-  abbrev pub CallsKeepHanded : Type 0
-  CallsKeepHanded =
-      (name : ℕ → List ℕ) (m : Moment K V) (known : Known) (s : Scene K V) (old new : Held K V) → IsAt same hash old s → ShowsWhole same name m known s
-      → ShowsEntries s → OwnAreMade known s.world → ShowsWaiting m known s.world → ShowsRetired m known s → ShowsHanded m known s
+  abbrev pub CallsPreserveHanded : Type 0
+  CallsPreserveHanded =
+      (name : ℕ → List ℕ) (m : Moment K V) (known : Known) (s : Scene K V) (old new : Held K V) → IsAt same hash old s → RefinesWhole same name m known s
+      → EntriesAreBlank s → OwnAreMade known s.world → RefinesWaiting m known s.world → RefinesRetiredTables m known s → RefinesHanded m known s
       → (map i : ℕ) (u : UnderWay K V K) (here : s.calls map i ≡ Some u) (told : CallTold (Node K V)) (leads : StepLeads same hash i told s old new)
       → (let to = leads map u here in
-      ShowsHanded (with_effects (Some (name i)) (Some map) (effects_of (Call i map) known new.changed) m) (known_after (Call i map) new.changed known)
+      RefinesHanded (with_effects (Some (name i)) (Some map) (effects_of (Call i map) known new.changed) m) (known_after (Call i map) new.changed known)
       (scene_after same s old new map i to.0 u to.1 told to.4))
 
   -- And of the end of a map, which does not stand then.
-  abbrev pub EndingsKeepHanded : Type 0
-  EndingsKeepHanded =
-      (name : ℕ → List ℕ) (m : Moment K V) (known : Known) (s : Scene K V) (old new : Held K V) → IsAt same hash old s → ShowsWhole same name m known s → ShowsWaiting m known s.world
-      → ShowsRetired m known s → ShowsHanded m known s
+  abbrev pub EndingsPreserveHanded : Type 0
+  EndingsPreserveHanded =
+      (name : ℕ → List ℕ) (m : Moment K V) (known : Known) (s : Scene K V) (old new : Held K V) → IsAt same hash old s → RefinesWhole same name m known s → RefinesWaiting m known s.world
+      → RefinesRetiredTables m known s → RefinesHanded m known s
       → (i : ℕ) (told : Settled (Node K V)) (leads : EndingLeads same hash i told s old new) (f : Finishing K V) (here : s.enders i ≡ Some f) (map : ℕ) → s.maps map ≡ None
       → (let to = leads f here in
-      ShowsHanded (with_effects None (Some map) (effects_of (Ending map) known new.changed) m) (known_after (Ending map) new.changed known)
+      RefinesHanded (with_effects None (Some map) (effects_of (Ending map) known new.changed) m) (known_after (Ending map) new.changed known)
       (ending_after same hash s new i f to.0 to.2.w2 to.2.deed told to.3))

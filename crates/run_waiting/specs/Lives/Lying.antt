@@ -26,10 +26,10 @@ use Rattle.run_debts.specs.Given.FinishesMaps.{Standing}
 use Rattle.run_debts.specs.Given.OthersEndings.{ending_after}
 use Rattle.run_debts.specs.Given.OthersMakings.{WasNew}
 use Rattle.run_debts.specs.Given.OthersRows.{scene_then}
-use Rattle.run_debts.specs.Given.MomentsWhole.{ShowsWhole}
+use Rattle.run_debts.specs.Given.MomentsWhole.{RefinesWhole}
 use Rattle.run_debts.specs.Due.{OwnAreMade}
-use Rattle.run_debts.specs.Entries.{ShowsEntries}
-use Rattle.run_debts.specs.Hand.{ShowsOwed}
+use Rattle.run_debts.specs.Entries.{EntriesAreBlank}
+use Rattle.run_debts.specs.Hand.{RefinesObligations}
 use Rattle.run_waiting.specs.Lives.Waiting.{IsPutting}
 use Rattle.run_debts.specs.Given.ScenesEnding.{EndingLeads, ending_begun}
 use Rattle.run_debts.specs.Given.ScenesHeld.{Held, IsAt}
@@ -41,66 +41,66 @@ use Rattle.run_debts.specs.Given.ScenesStepping.{StepLeads}
 
 module _ {K V : Type 0} where
   -- the block is noted as a pair that is told to wait behind this table
-  abbrev pub IsToldBehind : Moment K V → Known → ℕ → TableId → Type 0
-  IsToldBehind m known b t = (n : ℕ) × (known.roles b ≡ role.Pair n) × (is_among n (behind t m.deferred) ≡ true)
+  abbrev pub IsNotedDeferred : Moment K V → Known → ℕ → TableId → Type 0
+  IsNotedDeferred m known b t = (n : ℕ) × (known.roles b ≡ role.Pair n) × (is_among n (behind t m.deferred) ≡ true)
 
   -- somebody's row is putting it behind the table's block
   abbrev pub IsPutThere : World (Node K V) → ℕ → ℕ → Type 0
   IsPutThere w b c = (i : ℕ) × IsPutting b c (w.row i)
 
   -- each block that can be reached through one that is noted as a table, and through that alone, is told to wait behind it, or a row is putting it there
-  abbrev pub ShowsLying : Moment K V → Known → World (Node K V) → Type 0
-  ShowsLying m known w =
-      (b c len : ℕ) (t : TableId) → known.roles c ≡ role.Table t len → where_is b w.log ≡ With c → IsToldBehind m known b t ⊎ IsPutThere w b c
+  abbrev pub RefinesLying : Moment K V → Known → World (Node K V) → Type 0
+  RefinesLying m known w =
+      (b c len : ℕ) (t : TableId) → known.roles c ≡ role.Table t len → where_is b w.log ≡ With c → IsNotedDeferred m known b t ⊎ IsPutThere w b c
 
 -- The promises: nothing lies behind a table before all events,
 abbrev pub LyingBegins : Type 0 → Type 0 → Type 0
-LyingBegins K V = (roots : ℕ) → ShowsLying {K = K} {V = V} start nothing_known (at_first {K = K} {V = V} roots).world
+LyingBegins K V = (roots : ℕ) → RefinesLying {K = K} {V = V} start nothing_known (at_first {K = K} {V = V} roots).world
 
 -- it is as it was in the same world where the same pairs wait,
 abbrev pub OthersLeaveLying : Type 0 → Type 0 → Type 0
-OthersLeaveLying K V = (m v : Moment K V) (known : Known) (w : World (Node K V)) → ShowsLying m known w → v.deferred ≡ m.deferred → ShowsLying v known w
+OthersLeaveLying K V = (m v : Moment K V) (known : Known) (w : World (Node K V)) → RefinesLying m known w → v.deferred ≡ m.deferred → RefinesLying v known w
 
 -- and where the end of a map begins.
 abbrev pub EndingsBeginLying : Type 0 → Type 0 → Type 0
 EndingsBeginLying K V =
-    (m : Moment K V) (known : Known) (s : Scene K V) → ShowsLying m known s.world → (map i : ℕ) (standing : Standing K) → ShowsLying m known (ending_begun map i standing s).world
+    (m : Moment K V) (known : Known) (s : Scene K V) → RefinesLying m known s.world → (map i : ℕ) (standing : Standing K) → RefinesLying m known (ending_begun map i standing s).world
 
 module _ (K V : Type 0) (same : K → K → Bool) (hash : ℕ → K → ℕ) where
   -- So it is where a row begins on a slot, and after a step of it,
   abbrev pub RowsBeginLying : Type 0
   RowsBeginLying =
-      (m : Moment K V) (known : Known) (s : Scene K V) (old new : Held K V) → ShowsLying m known s.world
+      (m : Moment K V) (known : Known) (s : Scene K V) (old new : Held K V) → RefinesLying m known s.world
       → (called : SlotCall) (i : ℕ) (leads : RowBegins same hash called i s old new)
-      → ShowsLying m known (scene_then same hash (Begin i (request_of (slot_of i) called)) s old new leads.2).world
+      → RefinesLying m known (scene_then same hash (Begin i (request_of (slot_of i) called)) s old new leads.2).world
 
-  abbrev pub RowsKeepLying : Type 0
-  RowsKeepLying =
-      (name : ℕ → List ℕ) (m : Moment K V) (known : Known) (s : Scene K V) (old new : Held K V) → IsAt same hash old s → ShowsWhole same name m known s → ShowsLying m known s.world
+  abbrev pub RowsPreserveLying : Type 0
+  RowsPreserveLying =
+      (name : ℕ → List ℕ) (m : Moment K V) (known : Known) (s : Scene K V) (old new : Held K V) → IsAt same hash old s → RefinesWhole same name m known s → RefinesLying m known s.world
       → (i : ℕ) (told : RowTold (Node K V)) (leads : RowLeads same hash i told s old new) (row : SlotRow) (here : IsOnSlot s i row)
-      → ShowsLying (with_effects None None (effects_of Row known new.changed) m) (known_after Row new.changed known) (scene_then same hash (Step i) s old new (leads row here).2).world
+      → RefinesLying (with_effects None None (effects_of Row known new.changed) m) (known_after Row new.changed known) (scene_then same hash (Step i) s old new (leads row here).2).world
 
   -- after a step of the making of a map,
-  abbrev pub MakingsKeepLying : Type 0
-  MakingsKeepLying =
-      (name : ℕ → List ℕ) (m : Moment K V) (known : Known) (s : Scene K V) (old new : Held K V) → IsAt same hash old s → ShowsWhole same name m known s → OwnAreMade known s.world
-      → ShowsLying m known s.world
+  abbrev pub MakingsPreserveLying : Type 0
+  MakingsPreserveLying =
+      (name : ℕ → List ℕ) (m : Moment K V) (known : Known) (s : Scene K V) (old new : Held K V) → IsAt same hash old s → RefinesWhole same name m known s → OwnAreMade known s.world
+      → RefinesLying m known s.world
       → (i : ℕ) (told : Advance Setting) (leads : MakingLeads same hash i told s old new) (b : Beginning K) (here : s.makers i ≡ Some b) (of : Option ℕ) → WasNew b.map told m
-      → ShowsLying (with_effects None of (effects_of (Making b.map) known new.changed) m) (known_after (Making b.map) new.changed known) (leads b here).2.step.w2
+      → RefinesLying (with_effects None of (effects_of (Making b.map) known new.changed) m) (known_after (Making b.map) new.changed known) (leads b here).2.step.w2
 
   -- of a call, whoever's row it is, where calls owe what they have in hand,
-  abbrev pub CallsKeepLying : Type 0
-  CallsKeepLying =
-      (name : ℕ → List ℕ) (m : Moment K V) (known : Known) (s : Scene K V) (old new : Held K V) → IsAt same hash old s → ShowsWhole same name m known s
-      → ShowsEntries s → OwnAreMade known s.world → ShowsOwed name m known s → ShowsLying m known s.world
+  abbrev pub CallsPreserveLying : Type 0
+  CallsPreserveLying =
+      (name : ℕ → List ℕ) (m : Moment K V) (known : Known) (s : Scene K V) (old new : Held K V) → IsAt same hash old s → RefinesWhole same name m known s
+      → EntriesAreBlank s → OwnAreMade known s.world → RefinesObligations name m known s → RefinesLying m known s.world
       → (map i : ℕ) (u : UnderWay K V K) (here : s.calls map i ≡ Some u) (told : CallTold (Node K V)) (leads : StepLeads same hash i told s old new)
-      → ShowsLying (with_effects (Some (name i)) (Some map) (effects_of (Call i map) known new.changed) m) (known_after (Call i map) new.changed known) (leads map u here).4.w2
+      → RefinesLying (with_effects (Some (name i)) (Some map) (effects_of (Call i map) known new.changed) m) (known_after (Call i map) new.changed known) (leads map u here).4.w2
 
   -- and of the end of a map.
-  abbrev pub EndingsKeepLying : Type 0
-  EndingsKeepLying =
-      (name : ℕ → List ℕ) (m : Moment K V) (known : Known) (s : Scene K V) (old new : Held K V) → IsAt same hash old s → ShowsWhole same name m known s → ShowsLying m known s.world
+  abbrev pub EndingsPreserveLying : Type 0
+  EndingsPreserveLying =
+      (name : ℕ → List ℕ) (m : Moment K V) (known : Known) (s : Scene K V) (old new : Held K V) → IsAt same hash old s → RefinesWhole same name m known s → RefinesLying m known s.world
       → (i : ℕ) (told : Settled (Node K V)) (leads : EndingLeads same hash i told s old new) (f : Finishing K V) (here : s.enders i ≡ Some f) (map : ℕ) → s.maps map ≡ None
       → (let to = leads f here in
-      ShowsLying (with_effects None (Some map) (effects_of (Ending map) known new.changed) m) (known_after (Ending map) new.changed known)
+      RefinesLying (with_effects None (Some map) (effects_of (Ending map) known new.changed) m) (known_after (Ending map) new.changed known)
       (ending_after same hash s new i f to.0 to.2.w2 to.2.deed told to.3).world)

@@ -26,12 +26,12 @@ use Rattle.run_debts.specs.Given.FinishesMaps.{Standing}
 use Rattle.run_debts.specs.Given.OthersEndings.{ending_after}
 use Rattle.run_debts.specs.Given.OthersMakings.{WasNew}
 use Rattle.run_debts.specs.Given.OthersRows.{scene_then}
-use Rattle.run_debts.specs.Given.MomentsWhole.{ShowsWhole}
+use Rattle.run_debts.specs.Given.MomentsWhole.{RefinesWhole}
 use Rattle.run_debts.specs.Due.{OwnAreMade}
-use Rattle.run_debts.specs.Entries.{ShowsEntries}
-use Rattle.run_debts.specs.Hand.{ShowsOwed}
-use Rattle.run_waiting.specs.Lives.Behind.{ShowsWaiting}
-use Rattle.run_waiting.specs.Lives.Lying.{ShowsLying}
+use Rattle.run_debts.specs.Entries.{EntriesAreBlank}
+use Rattle.run_debts.specs.Hand.{RefinesObligations}
+use Rattle.run_waiting.specs.Lives.Behind.{RefinesWaiting}
+use Rattle.run_waiting.specs.Lives.Lying.{RefinesLying}
 use Rattle.run_debts.specs.Given.ScenesEnding.{EndingLeads, ending_begun}
 use Rattle.run_debts.specs.Given.ScenesHeld.{Held, IsAt}
 use Rattle.run_debts.specs.Given.ScenesMaking.{MakingLeads}
@@ -41,59 +41,59 @@ use Rattle.run_debts.specs.Given.ScenesScene.{IsOnSlot, Scene, at_first, slot_of
 use Rattle.run_debts.specs.Given.ScenesStepping.{StepLeads}
 
 -- the blocks on the list of a table in use are noted, in their order, as the pairs that the moment says wait behind it
-abbrev pub ShowsOrder : {K V : Type 0} → Moment K V → Known → World (Node K V) → Type 0
-ShowsOrder m known w =
+abbrev pub RefinesOrder : {K V : Type 0} → Moment K V → Known → World (Node K V) → Type 0
+RefinesOrder m known w =
     (c len owner : ℕ) (t : TableId) (blocks : List ℕ) → known.roles c ≡ role.Table t len → w.hand c ≡ InUse owner → FurtherAre deferred_word w.memory c blocks
     → map known.roles blocks ≡ map role.Pair (behind t m.deferred)
 
 -- The promises: so it is before all events,
 abbrev pub OrderBegins : Type 0 → Type 0 → Type 0
-OrderBegins K V = (roots : ℕ) → ShowsOrder {K = K} {V = V} start nothing_known (at_first {K = K} {V = V} roots).world
+OrderBegins K V = (roots : ℕ) → RefinesOrder {K = K} {V = V} start nothing_known (at_first {K = K} {V = V} roots).world
 
 -- in the same world where the same pairs wait,
 abbrev pub OthersLeaveOrder : Type 0 → Type 0 → Type 0
-OthersLeaveOrder K V = (m v : Moment K V) (known : Known) (w : World (Node K V)) → ShowsOrder m known w → v.deferred ≡ m.deferred → ShowsOrder v known w
+OthersLeaveOrder K V = (m v : Moment K V) (known : Known) (w : World (Node K V)) → RefinesOrder m known w → v.deferred ≡ m.deferred → RefinesOrder v known w
 
 -- and where the end of a map begins.
 abbrev pub EndingsBeginOrder : Type 0 → Type 0 → Type 0
 EndingsBeginOrder K V =
-    (m : Moment K V) (known : Known) (s : Scene K V) → ShowsOrder m known s.world → (map i : ℕ) (standing : Standing K) → ShowsOrder m known (ending_begun map i standing s).world
+    (m : Moment K V) (known : Known) (s : Scene K V) → RefinesOrder m known s.world → (map i : ℕ) (standing : Standing K) → RefinesOrder m known (ending_begun map i standing s).world
 
 module _ (K V : Type 0) (same : K → K → Bool) (hash : ℕ → K → ℕ) where
   -- So it is where a row begins on a slot, and after a step of it,
   abbrev pub RowsBeginOrder : Type 0
   RowsBeginOrder =
-      (m : Moment K V) (known : Known) (s : Scene K V) (old new : Held K V) → ShowsOrder m known s.world
+      (m : Moment K V) (known : Known) (s : Scene K V) (old new : Held K V) → RefinesOrder m known s.world
       → (called : SlotCall) (i : ℕ) (leads : RowBegins same hash called i s old new)
-      → ShowsOrder m known (scene_then same hash (Begin i (request_of (slot_of i) called)) s old new leads.2).world
+      → RefinesOrder m known (scene_then same hash (Begin i (request_of (slot_of i) called)) s old new leads.2).world
 
-  abbrev pub RowsKeepOrder : Type 0
-  RowsKeepOrder =
-      (name : ℕ → List ℕ) (m : Moment K V) (known : Known) (s : Scene K V) (old new : Held K V) → IsAt same hash old s → ShowsWhole same name m known s → ShowsOrder m known s.world
+  abbrev pub RowsPreserveOrder : Type 0
+  RowsPreserveOrder =
+      (name : ℕ → List ℕ) (m : Moment K V) (known : Known) (s : Scene K V) (old new : Held K V) → IsAt same hash old s → RefinesWhole same name m known s → RefinesOrder m known s.world
       → (i : ℕ) (told : RowTold (Node K V)) (leads : RowLeads same hash i told s old new) (row : SlotRow) (here : IsOnSlot s i row)
-      → ShowsOrder (with_effects None None (effects_of Row known new.changed) m) (known_after Row new.changed known) (scene_then same hash (Step i) s old new (leads row here).2).world
+      → RefinesOrder (with_effects None None (effects_of Row known new.changed) m) (known_after Row new.changed known) (scene_then same hash (Step i) s old new (leads row here).2).world
 
   -- after a step of the making of a map, whose table is a new one,
-  abbrev pub MakingsKeepOrder : Type 0
-  MakingsKeepOrder =
-      (name : ℕ → List ℕ) (m : Moment K V) (known : Known) (s : Scene K V) (old new : Held K V) → IsAt same hash old s → ShowsWhole same name m known s → OwnAreMade known s.world
-      → ShowsWaiting m known s.world → ShowsOrder m known s.world
+  abbrev pub MakingsPreserveOrder : Type 0
+  MakingsPreserveOrder =
+      (name : ℕ → List ℕ) (m : Moment K V) (known : Known) (s : Scene K V) (old new : Held K V) → IsAt same hash old s → RefinesWhole same name m known s → OwnAreMade known s.world
+      → RefinesWaiting m known s.world → RefinesOrder m known s.world
       → (i : ℕ) (told : Advance Setting) (leads : MakingLeads same hash i told s old new) (b : Beginning K) (here : s.makers i ≡ Some b) (of : Option ℕ) → WasNew b.map told m
-      → ShowsOrder (with_effects None of (effects_of (Making b.map) known new.changed) m) (known_after (Making b.map) new.changed known) (leads b here).2.step.w2
+      → RefinesOrder (with_effects None of (effects_of (Making b.map) known new.changed) m) (known_after (Making b.map) new.changed known) (leads b here).2.step.w2
 
   -- of a call, whoever's row it is,
-  abbrev pub CallsKeepOrder : Type 0
-  CallsKeepOrder =
-      (name : ℕ → List ℕ) (m : Moment K V) (known : Known) (s : Scene K V) (old new : Held K V) → IsAt same hash old s → ShowsWhole same name m known s
-      → ShowsEntries s → OwnAreMade known s.world → ShowsOwed name m known s → ShowsWaiting m known s.world → ShowsLying m known s.world → ShowsOrder m known s.world
+  abbrev pub CallsPreserveOrder : Type 0
+  CallsPreserveOrder =
+      (name : ℕ → List ℕ) (m : Moment K V) (known : Known) (s : Scene K V) (old new : Held K V) → IsAt same hash old s → RefinesWhole same name m known s
+      → EntriesAreBlank s → OwnAreMade known s.world → RefinesObligations name m known s → RefinesWaiting m known s.world → RefinesLying m known s.world → RefinesOrder m known s.world
       → (map i : ℕ) (u : UnderWay K V K) (here : s.calls map i ≡ Some u) (told : CallTold (Node K V)) (leads : StepLeads same hash i told s old new)
-      → ShowsOrder (with_effects (Some (name i)) (Some map) (effects_of (Call i map) known new.changed) m) (known_after (Call i map) new.changed known) (leads map u here).4.w2
+      → RefinesOrder (with_effects (Some (name i)) (Some map) (effects_of (Call i map) known new.changed) m) (known_after (Call i map) new.changed known) (leads map u here).4.w2
 
   -- and of the end of a map.
-  abbrev pub EndingsKeepOrder : Type 0
-  EndingsKeepOrder =
-      (name : ℕ → List ℕ) (m : Moment K V) (known : Known) (s : Scene K V) (old new : Held K V) → IsAt same hash old s → ShowsWhole same name m known s → ShowsOrder m known s.world
+  abbrev pub EndingsPreserveOrder : Type 0
+  EndingsPreserveOrder =
+      (name : ℕ → List ℕ) (m : Moment K V) (known : Known) (s : Scene K V) (old new : Held K V) → IsAt same hash old s → RefinesWhole same name m known s → RefinesOrder m known s.world
       → (i : ℕ) (told : Settled (Node K V)) (leads : EndingLeads same hash i told s old new) (f : Finishing K V) (here : s.enders i ≡ Some f) (map : ℕ) → s.maps map ≡ None
       → (let to = leads f here in
-      ShowsOrder (with_effects None (Some map) (effects_of (Ending map) known new.changed) m) (known_after (Ending map) new.changed known)
+      RefinesOrder (with_effects None (Some map) (effects_of (Ending map) known new.changed) m) (known_after (Ending map) new.changed known)
       (ending_after same hash s new i f to.0 to.2.w2 to.2.deed told to.3).world)

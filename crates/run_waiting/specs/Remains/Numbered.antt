@@ -24,30 +24,30 @@ NumbersUpTo count m = NumbersMaps (record m { made = count })
 
 module _ (K V : Type 0) (same : K → K → Bool) (hash : ℕ → K → ℕ) where
   -- The promises: so it is after each step of a call,
-  abbrev pub CallsKeepCount : Type 0
-  CallsKeepCount =
+  abbrev pub CallsPreserveCount : Type 0
+  CallsPreserveCount =
       (m : Moment K V) (known : Known) (s : Scene K V) (old new : Held K V) → (count : ℕ) → MapsAreBelow count s → NumbersUpTo count m
       → (map i : ℕ) (u : UnderWay K V K) → s.calls map i ≡ Some u → (said : CallTold (Node K V)) → StepLeads same hash i said s old new
       → (caller : Option (List ℕ)) (acted : Option ℕ) → NumbersUpTo count (with_effects caller acted (effects_of (acts.Call i map) known new.changed) m)
 
   -- of a row on a slot,
-  abbrev pub RowsKeepCount : Type 0
-  RowsKeepCount =
+  abbrev pub RowsPreserveCount : Type 0
+  RowsPreserveCount =
       (m : Moment K V) (known : Known) (s : Scene K V) (old new : Held K V) → (count : ℕ) → NumbersUpTo count m
       → (i : ℕ) (said : RowTold (Node K V)) → RowLeads same hash i said s old new → (row : SlotRow) → IsOnSlot s i row
       → NumbersUpTo count (with_effects None None (effects_of acts.Row known new.changed) m)
 
   -- of the making of a map,
-  abbrev pub MakingsKeepCount : Type 0
-  MakingsKeepCount =
+  abbrev pub MakingsPreserveCount : Type 0
+  MakingsPreserveCount =
       (m : Moment K V) (known : Known) (s : Scene K V) (new : Held K V) (count : ℕ) → MapsAreBelow count s → NumbersUpTo count m
       → (i : ℕ) (b : Beginning K) → s.makers i ≡ Some b → (caller : Option (List ℕ)) (acted : Option ℕ)
       → NumbersUpTo count (with_effects caller acted (effects_of (acts.Making b.map) known new.changed) m)
 
 module _ (K V : Type 0) where
   -- and where what a block was ends with its map;
-  abbrev pub EndsKeepCount : Type 0
-  EndsKeepCount =
+  abbrev pub EndsPreserveCount : Type 0
+  EndsPreserveCount =
       (m : Moment K V) (count : ℕ) → NumbersUpTo count m → (map : ℕ) (was : Role) (caller : Option (List ℕ)) (acted : Option ℕ)
       → NumbersUpTo count (with_effects caller acted (taken_by (acts.Ending map) was) m)
 

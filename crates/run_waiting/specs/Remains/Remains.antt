@@ -13,7 +13,7 @@ use Rattle.run_debts.specs.Given.EffectsKnown.{Known}
 use Rattle.run_debts.specs.Given.EffectsDeclared.role.Role.TheVariants as role
 use Rattle.run_debts.specs.Given.FinishesEndings.{Finishing}
 use Rattle.run_debts.specs.Given.FinishesMaps.{Standing}
-use Rattle.run_debts.specs.Given.ReclaimsLeft.{LeftAmong}
+use Rattle.run_debts.specs.Given.ReclaimsLeft.{LeftWithEndings}
 use Rattle.run_debts.specs.Given.ScenesScene.{Scene}
 
 -- there is something in the list
@@ -46,9 +46,9 @@ LeftNoted known known2 w w2 =
 
 -- These lists are behind the roots that are nobody's, and the moment tells a root, if no map has it that is there, just where something is behind it: the blocks there are noted, in their order, as the
 -- pairs that it tells to be left over behind that root. It tells each of so many roots once, by ascending root. The root of a map that ends is that of one that is there until its event is over.
-pub record ShowsRemains {K V : Type 0} (roots : ℕ) (m : Moment K V) (known : Known) (s : Scene K V) : Type 0 where
+pub record RefinesRemains {K V : Type 0} (roots : ℕ) (m : Moment K V) (known : Known) (s : Scene K V) : Type 0 where
   pub lists : ℕ → List ℕ
-  pub left : LeftAmong roots s.world s.maps s.makers s.enders lists
+  pub left : LeftWithEndings roots s.world s.maps s.makers s.enders lists
   pub told : (r : ℕ) → r < roots → is_among r (map_roots m) ≡ false → is_among r (left_roots m) ≡ has_some (lists r)
   pub pairs : (r : ℕ) → r < roots → is_among r (map_roots m) ≡ false → map known.roles (lists r) ≡ map role.Pair (left_at r m.remains)
   pub ascending : AscendFrom 0 m.remains

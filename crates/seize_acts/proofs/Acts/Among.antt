@@ -35,7 +35,7 @@ use Rattle.seize_model.proofs.Ends.Rows.Leaving.{leave_steps_left}
 use Rattle.seize_model.proofs.Ends.Rows.Register.{register_to_go, register_ends}
 use Rattle.seize_model.proofs.Ends.Settling.Most.{goes_further, settle_steps_left}
 use Rattle.seize_model.proofs.Alone.Histories.Reached.{runs_reached}
-use Rattle.seize_acts.specs.Acts.Ends.{RestsOrWaitsWithin, RowsRestOrWait, RowsFall}
+use Rattle.seize_acts.specs.Acts.Ends.{IdleOrWaitsWithin, RowsRestOrWait, RowsFall}
 use Rattle.seize_acts.proofs.Acts.Waits.{leave_waits}
 
 module _ {T : Type 0} (defers : T → Option ℕ) where
@@ -125,12 +125,12 @@ module _ {T : Type 0} (defers : T → Option ℕ) where
       sized = happens_sized defers size w v came.sized (world.Step i) st;
     }
 
-    rests_or_waits : (k : ℕ) (w : World T) → Came defers size i w → row_steps_left defers w.memory (w.row i) ≤ k → RestsOrWaitsWithin defers k i w
+    rests_or_waits : (k : ℕ) (w : World T) → Came defers size i w → row_steps_left defers w.memory (w.row i) ≤ k → IdleOrWaitsWithin defers k i w
     rests_or_waits zero w came le = none_left w.memory (w.row i) le
     rests_or_waits (suc k) w came le = λ v st. by v (step_further w came (w.row i) v refl st) (rests_or_waits k v (came_on w v came st))
       where
-        by : (v : World T) → Further (w.row i) w v → (row_steps_left defers v.memory (v.row i) ≤ k → RestsOrWaitsWithin defers k i v)
-            → ((v.row i ≡ w.row i) × (v.memory ≡ w.memory)) ⊎ RestsOrWaitsWithin defers k i v
+        by : (v : World T) → Further (w.row i) w v → (row_steps_left defers v.memory (v.row i) ≤ k → IdleOrWaitsWithin defers k i v)
+            → ((v.row i ≡ w.row i) × (v.memory ≡ w.memory)) ⊎ IdleOrWaitsWithin defers k i v
         by v (inl waits) later = inl waits
         by v (inr less) later = inr (later (omega (arith, le, less)))
 

@@ -35,7 +35,7 @@ use Rattle.seize_model.proofs.Ends.Settling.Most.{settle_to_go}
 use Rattle.seize_model.proofs.Alone.Histories.Reached.{runs_reached}
 use Rattle.seize_acts.specs.Acts.Answers.{Grant, then_on, exchanged, compared, taken, found, stored, answer, ends, stepped}
 use Rattle.seize_acts.specs.Acts.Acts.{Step, became, row_steps, turns, turned, rests}
-use Rattle.seize_acts.specs.Acts.Ends.{RestsWithin, LoneRowsEnd}
+use Rattle.seize_acts.specs.Acts.Ends.{IdleWithin, LoneRowsEnd}
 use Rattle.seize_acts.proofs.Acts.Answers.{some, answer_gives}
 use Rattle.seize_acts.proofs.Acts.Begun.{rests_is}
 use Rattle.seize_acts.proofs.Acts.Fine.{all_fine, row_stepped}
@@ -228,11 +228,11 @@ module _ {T : Type 0} (defers : T → Option ℕ) (size i : ℕ) where
       let less = step_less w a.lone a.held (w.row i) s.0 refl st in
       (t.0, (let le = t.1 in omega (arith, le, less)))
 
-  rests_within : (k : ℕ) (w : World T) → Alone w → to_go w ≤ k → RestsWithin defers size k i w
+  rests_within : (k : ℕ) (w : World T) → Alone w → to_go w ≤ k → IdleWithin defers size k i w
   rests_within zero w a le = none_to_go w.memory (w.row i) le
   rests_within (suc k) w a le = by (rests (w.row i)) refl (λ n b less. rests_within k n b less)
     where
-      by : (y : Bool) → rests (w.row i) ≡ y → ((n : World T) → Alone n → to_go n ≤ k → RestsWithin defers size k i n) → RestsWithin defers size (suc k) i w
+      by : (y : Bool) → rests (w.row i) ≡ y → ((n : World T) → Alone n → to_go n ≤ k → IdleWithin defers size k i n) → IdleWithin defers size (suc k) i w
       by true e later = inl (rests_is (w.row i) e)
       by false e later = inr (next_there w a e, (λ g n made. let t = step_on g w n a made in later n t.0 (let less = t.1 in omega (arith, le, less))))
 

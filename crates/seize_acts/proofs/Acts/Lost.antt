@@ -8,8 +8,8 @@ use Rattle.seize.specs.Law.{is_retired}
 use Rattle.seize.specs.WaitingSets.{is_one_of}
 use Rattle.seize.specs.Further.{FurtherFrom, FurtherAre}
 use Rattle.seize.specs.World.{World, Row, Rests, Hand, NoBlock, Making, InUse, Parting, Cutting, Handed, LeftTo, at_start}
-use Rattle.seize_acts.specs.Acts.Laws.{IsPutBehind, NothingIsLost}
-use Rattle.seize_acts.specs.Acts.Reclaimed.{IsStillHad, IsPutBehindOthers}
+use Rattle.seize_acts.specs.Acts.Laws.{IsDeferredOn, NothingIsLost}
+use Rattle.seize_acts.specs.Acts.Reclaimed.{IsStillHad, IsDeferredOnOthers}
 use Rattle.seize_model.proofs.Given.SeizeMovesState.Ghost.{Life, IsFree, IsOwned, IsLinked, IsUnlinked, IsDeferring, IsDeferred, IsPending, IsIn, IsDoomed, IsLeft, State, lies_with, can_carry}
 use Rattle.seize_model.proofs.Given.SeizeRulePoints.Aside.{HandFits}
 use Rattle.seize_model.proofs.Given.SeizeMemoryWords.Chains.{Chain}
@@ -110,15 +110,15 @@ module _ {T : Type 0} {size : ℕ} (defers : T → Option ℕ) (w : World T) (go
       by (IsIn x) e f = inl (ap (is_retired b) (sym good.logged) ∙ grind (arith, good.inv.logged.given b, e))
       by (IsDoomed i) e f = inl (ap (is_retired b) (sym good.logged) ∙ grind (arith, good.inv.logged.given b, e))
 
-  pub none_lost : (b : ℕ) → w.hand b ≡ Handed → (is_retired b w.log ≡ true) ⊎ IsPutBehind defers w b
-  none_lost b h = elim (waits_so b h) as (λ _. (is_retired b w.log ≡ true) ⊎ IsPutBehind defers w b) [
+  pub none_lost : (b : ℕ) → w.hand b ≡ Handed → (is_retired b w.log ≡ true) ⊎ IsDeferredOn defers w b
+  none_lost b h = elim (waits_so b h) as (λ _. (is_retired b w.log ≡ true) ⊎ IsDeferredOn defers w b) [
     | inl is ↦ inl is
     | inr (t, e) ↦ inr (t, m.deferred t, (carried b t e).0, (carried b t e).1)
   ]
 
   -- where nothing is retired, that one is not the collector's
-  pub behind_others : ((b : ℕ) → is_retired b w.log ≡ false) → (b : ℕ) → w.hand b ≡ Handed → IsPutBehindOthers defers w b
-  behind_others none b h = elim (waits_so b h) as (λ _. IsPutBehindOthers defers w b) [
+  pub behind_others : ((b : ℕ) → is_retired b w.log ≡ false) → (b : ℕ) → w.hand b ≡ Handed → IsDeferredOnOthers defers w b
+  behind_others none b h = elim (waits_so b h) as (λ _. IsDeferredOnOthers defers w b) [
     | inl is ↦ absurd (let none_now = none b in cc (is, none_now))
     | inr (t, e) ↦ (t, m.deferred t, had t (w.hand t) refl (good.hands t) (carries b t e).1, (carried b t e).0, (carried b t e).1)
   ]

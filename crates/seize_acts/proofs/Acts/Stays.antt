@@ -16,7 +16,7 @@ use Rattle.seize_model.proofs.Given.SeizeRuleWorld.Start.{start_good}
 use Rattle.seize_model.proofs.Ends.Batches.Rows.{begins_memory, made_memory}
 use Rattle.seize_model.proofs.Alone.Histories.Reached.{Reached, happens_reached, runs_reached}
 use Rattle.seize_model.proofs.Alone.Histories.NotTaken.{IsHeld, kept_there, kept_value, did}
-use Rattle.seize_acts.specs.Acts.Stays.{how_many, is_end_of, is_end_of_owner, is_making_of, HeldAreThere, HeldStay, GoesOn}
+use Rattle.seize_acts.specs.Acts.Stays.{how_many, is_end_of, is_end_of_owner, is_making_of, HeldAreThere, HeldStay, SectionContinues}
 use Rattle.seize_acts.proofs.Acts.Fine.{all_fine}
 use Rattle.seize_acts.proofs.Acts.Stays.Log.{Stays, Adds, how_many_grows, adds_stays, row_adds}
 use Rattle.seize_model.proofs.Given.SeizeRuleWorld.Values.{own_op_value, taken_value, made_value, rewritten_value}
@@ -116,7 +116,7 @@ module _ {T : Type 0} (defers : T → Option ℕ) (size : ℕ) where
     pub logged : Stays s b w.log n.log
     pub value : value_at n.memory b ≡ value_at w.memory b
 
-  pub run_stays : (events : List (Event T)) (w n : World T) (s b : ℕ) → Reached defers size w → holds s b w.log ≡ true → is_over b w.log ≡ false → GoesOn defers s b w n → Runs defers size events w n
+  pub run_stays : (events : List (Event T)) (w n : World T) (s b : ℕ) → Reached defers size w → holds s b w.log ≡ true → is_over b w.log ≡ false → SectionContinues defers s b w n → Runs defers size events w n
       → StaysIn s b w n
   run_stays [] w n s b r held over on h =
       subst (λ (v : World T). StaysIn s b w v) (sym h) (record { logged = record { held = held; not_over = over; owner = refl; made = refl }; value = refl })

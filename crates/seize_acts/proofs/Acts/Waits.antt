@@ -157,7 +157,7 @@ module _ (T : Type 0) where
   head_goes c (Found head) = tt
   head_goes c _ = tt
 
-  push_goes : (c : Defer) (out : Out T) → Outcomes NoWait (defer.push_told c out)
+  push_goes : (c : Defer) (out : Out T) → Outcomes NoWait (defer.after_push c out)
   push_goes c (Exchanged (Ok found)) = tt
   push_goes c (Exchanged (Err head)) = tt
   push_goes c _ = tt

@@ -1,7 +1,7 @@
 -- What the laws promise, clause by clause: the one file of lemmas that other crates cite.
 use Rattle.std.specs.Prelude.{Option}
 use Rattle.std.proofs.Common.{ℕ, Bool}
-use Rattle.seize_acts.specs.Reclaims.Laws.{ReclaimingEnds, ReclaimedInOrder, ListsStay, OneListARoot, ClearingIsQuiet}
+use Rattle.seize_acts.specs.Reclaims.Laws.{ReclaimingEnds, ReclaimedInOrder, ListsStay, OneListARoot, ClearingLeavesSetsAndSlots}
 use Rattle.seize_acts.proofs.Reclaims.AllReclaimed.Ends.{left_now}
 use Rattle.seize_acts.proofs.Reclaims.AllReclaimed.Rest.{ends_with_all, values_of_all}
 use Rattle.seize_acts.proofs.Reclaims.Roots.Given.{cleared_before, cleared_uses}
@@ -22,5 +22,5 @@ module _ {T : Type 0} (defers : T → Option ℕ) (left_over : T → Bool) (batc
   pub lists_stay : ListsStay T defers left_over batch_size
   lists_stay = left_now defers left_over batch_size
 
-pub clearing_is_quiet : ClearingIsQuiet
+pub clearing_is_quiet : ClearingLeavesSetsAndSlots
 clearing_is_quiet back h = (cleared_before back h, cleared_uses back h, λ b none. cleared_hand back b h none)

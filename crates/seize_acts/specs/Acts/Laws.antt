@@ -28,12 +28,12 @@ module _ {T : Type 0} (defers : T → Option ℕ) where
       → (g : Grant) × (v : World T) × (row_steps defers i (w.row i) g w ≡ Some n) × (turned defers 2 i n ≡ Some v) × (became defers batch_size (Step i g) w ≡ Some v)
 
   -- the block stands on the list of a block that is there
-  abbrev pub IsPutBehind : World T → ℕ → Type 0
-  IsPutBehind w b = (t : ℕ) × (further : List ℕ) × FurtherAre defers w.memory t further × (is_one_of b further ≡ true)
+  abbrev pub IsDeferredOn : World T → ℕ → Type 0
+  IsDeferredOn w b = (t : ℕ) × (further : List ℕ) × FurtherAre defers w.memory t further × (is_one_of b further ≡ true)
 
   -- the block is retired and not reclaimed since, or it is deferred until another one is, which is there
   abbrev pub IsNotLost : World T → ℕ → Type 0
-  IsNotLost w b = (is_retired b w.log ≡ true) ⊎ IsPutBehind w b
+  IsNotLost w b = (is_retired b w.log ≡ true) ⊎ IsDeferredOn w b
 
   -- Nothing that was handed over is lost: where no row is under way, this is so of each block that the collector has.
   abbrev pub NothingIsLost : Type 0

@@ -32,15 +32,15 @@ IsStillHad _ = ⊥
 
 module _ {T : Type 0} (defers : T → Option ℕ) where
   -- the block stands on the list of a block that the collector does not have
-  abbrev pub IsPutBehindOthers : World T → ℕ → Type 0
-  IsPutBehindOthers w b = (t : ℕ) × (further : List ℕ) × IsStillHad (w.hand t) × FurtherAre defers w.memory t further × (is_one_of b further ≡ true)
+  abbrev pub IsDeferredOnOthers : World T → ℕ → Type 0
+  IsDeferredOnOthers w b = (t : ℕ) × (further : List ℕ) × IsStillHad (w.hand t) × FurtherAre defers w.memory t further × (is_one_of b further ≡ true)
 
   -- No row is under way, no block is retired still, no slot is in use, and none has a batch. What the collector has is put behind a block that
   -- it does not have.
   abbrev pub HasNothingLeft : World T → Type 0
   HasNothingLeft w =
       ((i : ℕ) → w.row i ≡ Rests) × ((b : ℕ) → is_retired b w.log ≡ false) × ((s : ℕ) → w.uses s ≡ Vacant)
-      × ((s word : ℕ) → s ≤ LAST_SLOT → word_at w.memory (Slot s BATCH) ≡ Some word → word ≡ 0) × ((b : ℕ) → w.hand b ≡ Handed → IsPutBehindOthers w b)
+      × ((s word : ℕ) → s ≤ LAST_SLOT → word_at w.memory (Slot s BATCH) ≡ Some word → word ≡ 0) × ((b : ℕ) → w.hand b ≡ Handed → IsDeferredOnOthers w b)
 
   -- After any acts at whose end no row is under way, any caller can reclaim everything, by acts of its own: by whole rows, one after another.
   abbrev pub EverythingCanBeReclaimed : Type 0

@@ -33,8 +33,8 @@ module _ {T : Type 0} (defers : T → Option ℕ) where
       → (s b : ℕ) → holds s b w.log ≡ true → IsSome (value_at w.memory b)
 
   -- Between the first world and the second one no section of the slot ends, nor the owner of the block.
-  abbrev pub GoesOn : ℕ → ℕ → World T → World T → Type 0
-  GoesOn s b w n =
+  abbrev pub SectionContinues : ℕ → ℕ → World T → World T → Type 0
+  SectionContinues s b w n =
       (how_many (is_end_of s) n.log ≡ how_many (is_end_of s) w.log)
       × (how_many (is_end_of_owner (owner_of b w.log)) n.log ≡ how_many (is_end_of_owner (owner_of b w.log)) w.log)
 
@@ -42,5 +42,5 @@ module _ {T : Type 0} (defers : T → Option ℕ) where
   abbrev pub HeldStay : Type 0
   HeldStay =
       (batch_size roots : ℕ) (before acts : List (Act T)) (w n : World T) → AllDid defers batch_size before (at_start defers roots) w → AllDid defers batch_size acts w n
-      → (s b : ℕ) → holds s b w.log ≡ true → is_over b w.log ≡ false → GoesOn s b w n
+      → (s b : ℕ) → holds s b w.log ≡ true → is_over b w.log ≡ false → SectionContinues s b w n
       → (holds s b n.log ≡ true) × (value_at n.memory b ≡ value_at w.memory b) × (how_many (is_making_of b) n.log ≡ how_many (is_making_of b) w.log)

@@ -11,7 +11,7 @@ use Rattle.seize.specs.declared.rows.reclaim_all.Reclaiming.TheVariants as at
 use Rattle.seize.specs.ReclaimAll.{reclaiming_all, reclaim_all_plan}
 use Rattle.seize.specs.World.{World}
 use Rattle.seize_acts.specs.Acts.Reclaimed.{HasNothingLeft}
-use Rattle.seize_acts.specs.Quiet.Slots.{AllRest, IsQuiet, Came, Stage, Led}
+use Rattle.seize_acts.specs.Quiet.Slots.{AllRest, IsQuiescent, Came, Stage, Led}
 
 -- it works on slots
 abbrev pub IsOnSlots : Reclaiming → Type 0
@@ -30,11 +30,11 @@ module _ {T : Type 0} (defers : T → Option ℕ) where
   SlotsBegin =
       (batch_size roots i : ℕ) (w : World T) → batch_size < 2 ^ 64 → Came defers batch_size w → AllRest w
       → (IsSome (word_at w.memory (Slot 0 HEAD)) → Stage defers batch_size i roots (reclaiming_all batch_size roots) w)
-      × (word_at w.memory (Slot 0 HEAD) ≡ None → IsQuiet w)
+      × (word_at w.memory (Slot 0 HEAD) ≡ None → IsQuiescent w)
 
   -- where no slot is in use, and none has a batch, nothing is left that waits, but what is put behind blocks that the collector does not have
   abbrev pub NothingWaits : Type 0
-  NothingWaits = (batch_size : ℕ) (w : World T) → batch_size < 2 ^ 64 → Came defers batch_size w → IsQuiet w → HasNothingLeft defers w
+  NothingWaits = (batch_size : ℕ) (w : World T) → batch_size < 2 ^ 64 → Came defers batch_size w → IsQuiescent w → HasNothingLeft defers w
 
   module _ (left_over : T → Bool) where
     -- whichever step of its work on slots the caller takes, it may take it

@@ -39,7 +39,7 @@ module _ {T : Type 0} where
   HasNoBatch w s = (word : ℕ) → word_at w.memory (Slot s BATCH) ≡ Some word → word ≡ 0
 
   -- Nothing is left of what slots had: no row is under way, no slot is in use, and none has a batch.
-  pub record IsQuiet (w : World T) : Type 0 where
+  pub record IsQuiescent (w : World T) : Type 0 where
     pub rests : AllRest w
     pub vacant : (s : ℕ) → w.uses s ≡ Vacant
     pub none : (s : ℕ) → s ≤ LAST_SLOT → HasNoBatch w s
@@ -68,12 +68,12 @@ module _ {T : Type 0} where
     pub none : (t : ℕ) → t ≤ LAST_SLOT → HasNoBatch w t
 
   -- A step has taken no block away; or it has taken one that was retired, whose value it hands out. It never waits.
-  abbrev pub SlotsTold : World T → World T → Settled T → Type 0
-  SlotsTold w w2 settled.Goes = taken_in w2.log ≡ taken_in w.log
-  SlotsTold w w2 settled.Waits = ⊥
-  SlotsTold w w2 (settled.Gave value) =
+  abbrev pub SlotsOutcome : World T → World T → Settled T → Type 0
+  SlotsOutcome w w2 settled.Goes = taken_in w2.log ≡ taken_in w.log
+  SlotsOutcome w w2 settled.Waits = ⊥
+  SlotsOutcome w w2 (settled.Gave value) =
       (b : ℕ) × (value_at w.memory b ≡ Some value) × (is_retired b w.log ≡ true) × (value_at w2.memory b ≡ None) × (taken_in w2.log ≡ taken_in w.log ++ b ∷ [])
-  SlotsTold w w2 settled.Done = ⊥
+  SlotsOutcome w w2 settled.Done = ⊥
 
 module _ {T : Type 0} (defers : T → Option ℕ) (batch_size : ℕ) where
   -- the world came about from the start
@@ -104,8 +104,8 @@ module _ {T : Type 0} (defers : T → Option ℕ) (batch_size : ℕ) where
 
     -- it works on slots, or has come to the first root, if there is one, and nothing is left of what slots had
     abbrev pub StageAt : ReclaimAll → World T → Reclaiming → Type 0
-    StageAt c w (at.Roots root) = (root ≡ 0) × (0 < c.roots) × IsQuiet w
-    StageAt c w at.Over = (c.roots ≡ 0) × IsQuiet w
+    StageAt c w (at.Roots root) = (root ≡ 0) × (0 < c.roots) × IsQuiescent w
+    StageAt c w at.Over = (c.roots ≡ 0) × IsQuiescent w
     StageAt c w p = OnSlotsAt c w p
 
     pub record Stage (roots : ℕ) (c : ReclaimAll) (w : World T) : Type 0 where
@@ -138,5 +138,5 @@ module _ {T : Type 0} (defers : T → Option ℕ) (batch_size : ℕ) where
       pub runs : Runs defers batch_size events w w2
       pub does : DoesAt events w w2 point c2.stands
       pub memory : w2.memory ≡ m2
-      pub told : SlotsTold w w2 progress
+      pub told : SlotsOutcome w w2 progress
       pub stage : Stage roots c2 w2

@@ -90,18 +90,18 @@ module _ {T : Type 0} (defers : T → Option ℕ) (left_over : T → Bool) (batc
         ⊎ ((c ≡ clearing roots) × ((s : ℕ) → h.uses s ≡ Vacant) × ((s : ℕ) → (sets_in batch_size h).open_batch s ≡ []))
 
     -- what was given back, before a step that told this and after it
-    abbrev pub Tells : List T → Settled T → List T → Type 0
-    Tells given Goes given2 = given2 ≡ given
-    Tells given Waits given2 = given2 ≡ given
-    Tells given (Gave value) given2 = given2 ≡ given ++ value ∷ []
-    Tells given Done given2 = ⊥
+    abbrev pub GivesBack : List T → Settled T → List T → Type 0
+    GivesBack given Goes given2 = given2 ≡ given
+    GivesBack given Waits given2 = given2 ≡ given
+    GivesBack given (Gave value) given2 = given2 ≡ given ++ value ∷ []
+    GivesBack given Done given2 = ⊥
 
     -- it has taken so many steps, which have given these values back, and stands here
     abbrev pub HasCome : ℕ → ReclaimAll → Mem T → List T → Type 0
     HasCome zero c m2 given = Starts c × (m2 ≡ m) × (given ≡ [])
     HasCome (suc steps) c m2 given =
         (c1 : ReclaimAll) × (m1 : Mem T) × (given1 : List T) × (progress : Settled T) × HasCome steps c1 m1 given1
-        × Steps Took value_at m1 (reclaim_all_plan defers left_over c1) m2 (c, progress) × Tells given1 progress given
+        × Steps Took value_at m1 (reclaim_all_plan defers left_over c1) m2 (c, progress) × GivesBack given1 progress given
 
     -- It was begun on the memory m, with this history. Now it stands here, the memory is m2, and it has given these values back.
     pub record IsReclaiming (c : ReclaimAll) (m2 : Mem T) (given : List T) : Type 0 where

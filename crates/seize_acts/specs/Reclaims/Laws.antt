@@ -1,4 +1,4 @@
--- What is promised where all that waits is reclaimed, beside the call itself: that it comes to its end, what it reclaims, and the lists behind the roots.
+-- What is promised where all that waits is reclaimed, beside the call itself: that it terminates, what it reclaims, and the lists behind the roots.
 use Rattle.std.specs.Prelude.{◌≡◌, ℕ, ◌<◌, Bool, List, ◌++◌, Option}
 use Rattle.seize_words.specs.OneMemory.Mem.{Mem}
 use Rattle.seize.specs.World.{times}
@@ -35,7 +35,7 @@ OneListARoot T left_over =
     → (r : ℕ) → r < roots → lists r ≡ lists2 r
 
 -- where blocks were taken away from roots, the sets and the slots are as they were, and each other block is whose it was
-abbrev pub ClearingIsQuiet : Type 0
-ClearingIsQuiet =
+abbrev pub ClearingLeavesSetsAndSlots : Type 0
+ClearingLeavesSetsAndSlots =
     (back : List ℕ) (h : History)
     → ((all_cleared back h).before ≡ h.before) × ((all_cleared back h).uses ≡ h.uses) × ((b : ℕ) → times b back ≡ 0 → (all_cleared back h).hand b ≡ h.hand b)

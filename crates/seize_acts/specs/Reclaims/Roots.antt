@@ -85,15 +85,15 @@ pub record IsPast (lists : ℕ → List ℕ) (roots r : ℕ) (back : List ℕ) :
   pub list : lists r ≡ first ∷ rest
 
 -- what was reclaimed at each point
-abbrev pub StandsAt : {T : Type 0} → Mem T → (ℕ → List ℕ) → ℕ → Reclaiming → List ℕ → Type 0
-StandsAt m lists roots (at.Roots root) back = (root < roots) × (back ≡ all_lists lists root)
-StandsAt m lists roots (at.Nexts root block) back = (b : ℕ) × (rest : List ℕ) × IsIn lists roots root b rest back × ListFrom m block (b ∷ rest)
-StandsAt m lists roots (at.Takes root block next) back =
+abbrev pub ReclaimedAtPoint : {T : Type 0} → Mem T → (ℕ → List ℕ) → ℕ → Reclaiming → List ℕ → Type 0
+ReclaimedAtPoint m lists roots (at.Roots root) back = (root < roots) × (back ≡ all_lists lists root)
+ReclaimedAtPoint m lists roots (at.Nexts root block) back = (b : ℕ) × (rest : List ℕ) × IsIn lists roots root b rest back × ListFrom m block (b ∷ rest)
+ReclaimedAtPoint m lists roots (at.Takes root block next) back =
     (b : ℕ) × (rest : List ℕ) × IsIn lists roots root b rest back × (block ≡ link_to b) × (word_at m (Entry b NEXT) ≡ Some next) × ListFrom m next rest
-StandsAt m lists roots (at.Empties root) back = IsPast lists roots root back
-StandsAt m lists roots (at.Unuses root) back = IsPast lists roots root back
-StandsAt m lists roots at.Over back = back ≡ all_lists lists roots
-StandsAt m lists roots _ back = ⊥
+ReclaimedAtPoint m lists roots (at.Empties root) back = IsPast lists roots root back
+ReclaimedAtPoint m lists roots (at.Unuses root) back = IsPast lists roots root back
+ReclaimedAtPoint m lists roots at.Over back = back ≡ all_lists lists roots
+ReclaimedAtPoint m lists roots _ back = ⊥
 
 module _ {T : Type 0} (defers : T → Option ℕ) (left_over : T → Bool) (batch_size roots : ℕ) (m : Mem T) (h : History) (lists : ℕ → List ℕ) where
   -- It was begun on the memory m, with this history and these lists, while no slot was in use. Now it stands here, the memory is m2, and it has given these values back.
@@ -103,7 +103,7 @@ module _ {T : Type 0} (defers : T → Option ℕ) (left_over : T → Bool) (batc
     pub vacant : (s : ℕ) → h.uses s ≡ Vacant
     pub roots_are : c.roots ≡ roots
     pub back : List ℕ
-    pub stands : StandsAt m lists roots c.stands back
+    pub stands : ReclaimedAtPoint m lists roots c.stands back
     pub now : IsHistory defers batch_size roots m2 (all_cleared back h)
     pub values : AreValues defers batch_size roots m back given
     pub frees : Frees lists (named_at c.stands roots) (unused_at c.stands roots) m m2 back

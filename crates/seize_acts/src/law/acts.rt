@@ -7,11 +7,10 @@ ghost use Rattle.seize_acts.specs.Acts.Refused.{UsedUpIfAllAreHad, NoMemoryIfNoR
 ghost use Rattle.seize_acts.specs.Acts.Stays.{HeldAreThere, HeldStay};
 ghost use Rattle.seize_acts.specs.Acts.Waits.{RowsWaitForAHolder, SettlingWaitsForAHolder, DeferringNeverWaits};
 
-/// Any number of callers make acts, one after another in any order: each is one operation on the memory, of a row of the collector or of a
-/// user, and determines the world after it. A block is retired once and only while it can't be reached; it is reclaimed once, after that,
-/// and only when no critical section that could reach it is open, and what it is of has not ended. No row asks for a word that isn't
-/// there, and no step that a row can take is left out. The slots taken at some time are the first ones, and where all is at rest what is
-/// retired and not yet reclaimed is bounded by their number.
+/// Any number of callers make acts, one after another in any order: each is one operation on the memory, of a row of the collector or of a user, and determines
+/// the world after it. A block is retired once and only while it can't be reached; it is reclaimed once, after that, and only when no critical section that
+/// could reach it is open, and what it is of has not ended. No row asks for a word that isn't there, and no step that a row can take is left out. The slots
+/// taken at some time are the first ones, and where all is quiescent what is retired and not yet reclaimed is bounded by their number.
 pub fn acts_are_sound<T>()
     ensures sound { (defers : T → Option ℕ) → ActsAreSound defers }
     ensures may { (defers : T → Option ℕ) → ActsMayStep defers }
@@ -51,8 +50,7 @@ pub fn registrations_are_refused_for_a_reason<T>()
     ensures no_memory { (defers : T → Option ℕ) → NoMemoryIfNoRoom defers }
 {}
 
-/// A row that is alone under way comes to its end, after any acts: it has a next step until then, and rests after so many of them, whatever
-/// the memory chooses.
+/// A row that is alone under way terminates, after any acts: it has a next step until then, and rests after so many of them, whatever the memory chooses.
 pub fn lone_rows_end<T>()
     ensures ends { (defers : T → Option ℕ) → LoneRowsEnd defers }
 {}

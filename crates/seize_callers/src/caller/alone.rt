@@ -6,10 +6,16 @@ ghost use Rattle.seize_views.specs.Views.Notes.{NotedHolds};
 ghost use Rattle.seize_callers.specs.Owning.{borne_by, brought_by};
 ghost use Rattle.seize_views.specs.Views.Told.{alone_with, cut_in};
 ghost use Rattle.seize_views.specs.declared.view.Deed.TheVariants.{Looked, Wrote};
-ghost use Rattle.seize_views.specs.declared.view.SlotView.TheVariants.{Brings, Rests};
+ghost use Rattle.seize_views.specs.Views.Promises.{IsLooking, IsTaker};
+ghost use Rattle.seize_views.specs.declared.view.Has.{Has};
+ghost use Rattle.seize_views.specs.declared.view.Has.TheVariants.{Cut};
+ghost use Rattle.seize_views.specs.declared.view.SlotView.TheVariants.{Brings, Inside, Outside, Owes, Rests};
 
 use crate::caller::{Caller, words_for};
 use seize::rows::Defers;
+use seize_blocks::Seat;
+use seize_views::OfRows;
+use seize_views::turns::Handing;
 use seize_words::{At, Link};
 
 /// The word that links to a block, with these marks.
@@ -113,6 +119,24 @@ impl<'a, T: Defers> Caller<'a, T> {
         ensures { IsValueOf (NotedHolds T.defers self.now.blocks.now.words.fixed) self.now.seat.id self.now.seat.view block result.now }
     {
         self.blocks.value(&self.seat, block)
+    }
+
+    /// Hands the block that it has unlinked on, to a seat of the same memory that has a slot, and no block in its hand: what that one has seen it doesn't know
+    /// any more.
+    pub(crate) fn hands_on(&mut self, _block: u64, _slot: u64, taker: &mut Seat<T, OfRows>)
+        requires own { taker.old.base ≡ self.old.blocks.now.words.id.views_name }
+        requires bears { borne_by self.old.seat.view.knows ≡ Some _block }
+        requires takes { IsTaker taker.old.view.knows }
+        ensures outside { taker.old.view.knows ≡ Outside _slot → taker.new.view.knows ≡ Owes _slot _block }
+        ensures inside { (has : Has T) → IsLooking has → taker.old.view.knows ≡ Inside _slot has
+            → taker.new.view.knows ≡ Inside _slot (Cut _block) }
+        ensures did { taker.new.view.did ≡ taker.old.view.did }
+        ensures guards { taker.new.view.guards ≡ taker.old.view.guards }
+        ensures same { (taker.new.base ≡ taker.old.base) × (taker.new.away ≡ taker.old.away) }
+        ensures rests { self.new.seat.view.knows ≡ Rests }
+        ensures blocks { self.new.blocks ≡ self.old.blocks }
+    {
+        self.blocks.meet::<Handing>(&mut self.seat, taker);
     }
 
     /// Lets the block be that it has unlinked: nobody retires it, and it is there until the memory ends.

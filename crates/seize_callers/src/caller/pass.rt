@@ -9,6 +9,8 @@ ghost use Rattle.seize_views.specs.Views.Watched.{open_at};
 ghost use Rattle.seize_views.specs.declared.view.Deed.TheVariants.{Looked, Marked};
 ghost use Rattle.seize_views.specs.declared.view.SlotView.TheVariants.{Rests, Under};
 
+mod retiring;
+
 use crate::caller::{Caller, named};
 use seize::rows::Defers;
 use seize_blocks::{Blocks, ErrandWith, Seat};

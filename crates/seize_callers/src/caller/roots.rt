@@ -12,7 +12,6 @@ ghost use Rattle.seize_views.specs.declared.view.Has.TheVariants.{Nothing, Made,
 
 use crate::caller::{Caller, named, words_for};
 use seize::rows::Defers;
-use seize_views::turns::Handing;
 use seize_words::{At, Link};
 
 impl<'a, T: Defers> Caller<'a, T> {
@@ -155,8 +154,7 @@ impl<'a, T: Defers> Caller<'a, T> {
         ensures blocks { self.new.blocks ≡ self.old.blocks }
         ensures guards { self.new.seat.view.guards ≡ self.old.seat.view.guards }
     {
-        self.blocks
-            .meet::<Handing>(&mut bearer.seat, &mut self.seat);
+        bearer.hands_on(_block, _slot, &mut self.seat);
     }
 
     /// Sees which block is at a root. Its section holds it from now on. What it has seen before it doesn't know any more.

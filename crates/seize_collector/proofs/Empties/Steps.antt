@@ -26,7 +26,7 @@ use Rattle.seize_views.specs.Views.Promises.{op_in}
 use Rattle.seize_views.specs.Views.Told.{FollowsBy, shown_by}
 use Rattle.seize_views.proofs.Views.Looks.{IsNow, LooksOnce, rest_of, once}
 use Rattle.seize_views.proofs.Views.Makes.{IsDo, IsNoRewrite, may_by, was_made}
-use Rattle.seize_collector.specs.Renews.One.{op_of_one, one_told, shown_to_one, Passes, OneGoesOn}
+use Rattle.seize_collector.specs.Renews.One.{op_of_one, one_observed, shown_to_one, Passes, OneContinues}
 use Rattle.seize_collector.specs.Renews.Rule.{ReclaimsOn}
 use Rattle.seize_collector.specs.declared.alone.Alone.{Alone}
 use Rattle.seize_collector.specs.declared.alone.Alone.TheVariants.{Registers, Reclaims}
@@ -249,12 +249,12 @@ module _ {T : Type 0} (defers : T → Option ℕ) (left_over : T → Bool) where
   has_alone m (Room b) e = tt
 
   -- his next operation he may make
-  pub can_make : OneGoesOn defers left_over → (m : M) (op : Op T) → op_of_one defers left_over (view m) ≡ Some op → CanOne m op
+  pub can_make : OneContinues defers left_over → (m : M) (op : Op T) → op_of_one defers left_over (view m) ≡ Some op → CanOne m op
   can_make law m op e = record { alone = has_alone m op e; may = law m.blocks.now.words.fixed m.seat.id (view m) op m.sized e }
 
-  module _ (law : OneGoesOn defers left_over) (m : M) (c : ReclaimAll) (under : IsUnderWay c (view m)) (does : IsDo (plan c)) where
+  module _ (law : OneContinues defers left_over) (m : M) (c : ReclaimAll) (under : IsUnderWay c (view m)) (does : IsDo (plan c)) where
     tells : (op : Op T) (out : Out T) (n : M) → HasOne m op out n → ReclaimsOn defers left_over c under.1 out (view n)
-    tells op out n made = subst (λ (v : Alone T). one_told defers left_over v op out (view n)) under.2 made.1
+    tells op out n made = subst (λ (v : Alone T). one_observed defers left_over v op out (view n)) under.2 made.1
 
     follows : (op : Op T) (out : Out T) (n : M) (made : HasOne m op out n) → FollowsBy (shown n) (plan c) out (tells op out n made).end
     follows op out n made =

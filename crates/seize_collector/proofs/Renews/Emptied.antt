@@ -6,7 +6,7 @@ use Rattle.seize_words.specs.declared.at.At.TheVariants.{Slot}
 use Rattle.seize.specs.declared.states.TheConstants.{HEAD, NEVER, FREE, LAST_SLOT}
 use Rattle.seize.specs.World.{World, Use}
 use Rattle.seize_model.proofs.Sets.Turns.Heads.{WordOf, word_says}
-use Rattle.seize_acts.specs.Quiet.Slots.{IsQuiet}
+use Rattle.seize_acts.specs.Quiet.Slots.{IsQuiescent}
 use Rattle.seize_acts.proofs.Quiet.Slots.Facts.{rested_by}
 use Rattle.seize_views.specs.Views.Rows.{IsFound, RootsNameLinked, Came}
 use Rattle.seize_views.specs.declared.view.Fixed.{Fixed}
@@ -22,7 +22,7 @@ free_head (suc zero) l = inr refl
 free_head (suc (suc n)) l = absurd (omega (arith, l))
 
 module _ {T : Type 0} (defers : T → Option ℕ) where
-  are_free : (fixed : Fixed) (w : World T) → Came defers fixed w → IsQuiet w → AreFree w.memory
+  are_free : (fixed : Fixed) (w : World T) → Came defers fixed w → IsQuiescent w → AreFree w.memory
   are_free fixed w came quiet = record { head = head; batch = λ s word le is. quiet.none s le word is }
     where
       head : (s word : ℕ) → word_at w.memory (Slot s HEAD) ≡ Some word → (word ≡ NEVER) ⊎ (word ≡ FREE)

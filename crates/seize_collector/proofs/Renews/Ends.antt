@@ -10,16 +10,16 @@ use Rattle.seize.specs.World.{World, Begin, Register', with_row}
 use Rattle.seize.specs.World as world
 use Rattle.seize_rule.proofs.Rows.Others.{with_here, with_other}
 use Rattle.seize_seats.specs.Seats.State.{State, view_of}
-use Rattle.seize_seats.specs.Seats.Lendings.{Shown}
-use Rattle.seize_acts.specs.Quiet.Slots.{IsQuiet, StageAt}
+use Rattle.seize_seats.specs.Seats.Lendings.{VisibleTo}
+use Rattle.seize_acts.specs.Quiet.Slots.{IsQuiescent, StageAt}
 use Rattle.seize_acts.proofs.Quiet.Promised.{nothing_waits}
 use Rattle.seize_views.specs.declared.view.SlotView.{SlotView}
 use Rattle.seize_views.specs.declared.view.Fixed.{Fixed}
 use Rattle.seize_views.specs.Views.Rows.{IsInSomeHand}
 use Rattle.seize_views.proofs.Views.Came.{came_then}
 use Rattle.seize_views.proofs.Views.Found.{found_at, found_as}
-use Rattle.seize_collector.specs.Renews.Rule.{Stands, HoldsAlone}
-use Rattle.seize_collector.specs.Renews.Promises.{first_of, IdleRenew, LookedIsShown, OverIsQuiet, OverRenews}
+use Rattle.seize_collector.specs.Renews.Rule.{IsAtPoint, HoldsAlone}
+use Rattle.seize_collector.specs.Renews.Promises.{first_of, IdleRenew, LookedIsShown, OverIsQuiescent, OverRenews}
 use Rattle.seize_collector.specs.declared.alone.Alone.{Alone}
 use Rattle.seize_collector.specs.declared.alone.Alone.TheVariants.{Reclaims}
 use Rattle.seize_collector.proofs.Renews.Roots.{came_quiet}
@@ -54,9 +54,9 @@ module _ {T : Type 0} (defers : T → Option ℕ) (left_over : T → Bool) where
       first zero v e = refl
       first (suc j) v e = absurd (cc e)
 
-      seats_there : (j : ℕ) (v : Alone T) → slice_get (first_of defers left_over fixed ∷ []) j ≡ Some v → Stands defers left_over fixed n j v
+      seats_there : (j : ℕ) (v : Alone T) → slice_get (first_of defers left_over fixed ∷ []) j ≡ Some v → IsAtPoint defers left_over fixed n j v
       seats_there zero v e =
-          subst (λ (a : Alone T). Stands defers left_over fixed n 0 a) (same_some (first_of defers left_over fixed) v e)
+          subst (λ (a : Alone T). IsAtPoint defers left_over fixed n 0 a) (same_some (first_of defers left_over fixed) v e)
           (refl, with_here s.world.row 0 _, (λ k ne. with_other s.world.row 0 k _ ne ∙ rests k), refl, tt, refl)
       seats_there (suc j) v e = absurd (cc e)
 
@@ -66,16 +66,16 @@ module _ {T : Type 0} (defers : T → Option ℕ) (left_over : T → Bool) where
       here : (t : State T (Alone T) (World T)) → HoldsAlone defers left_over fixed t → view_of t id ≡ Some (Reclaims c (Some (b, x)) left) → value_at t.memory b ≡ Some x
       here t h at_id = ap (λ (m : Mem T). value_at m b) h.memory ∙ (h.seats id (Reclaims c (Some (b, x)) left) at_id).2
 
-      there : Shown (HoldsAlone defers left_over fixed) id (Reclaims c (Some (b, x)) left) b
+      there : VisibleTo (HoldsAlone defers left_over fixed) id (Reclaims c (Some (b, x)) left) b
       there t h at_id = subst IsSome (sym (here t h at_id)) refl
 
   quiet_at : (fixed : Fixed) (id : ℕ) (c : ReclaimAll) (seen : Option (ℕ × T)) (left : ℕ) → c.stands ≡ at.Over
-      → (s : State T (Alone T) (World T)) → HoldsAlone defers left_over fixed s → view_of s id ≡ Some (Reclaims c seen left) → IsQuiet s.world
+      → (s : State T (Alone T) (World T)) → HoldsAlone defers left_over fixed s → view_of s id ≡ Some (Reclaims c seen left) → IsQuiescent s.world
   quiet_at fixed id c seen left over s h at_id =
       let st = (h.seats id (Reclaims c seen left) at_id).0 in
       (subst (λ (p : Reclaiming). StageAt defers fixed.batch_size id c s.world p) over st.here).1
 
-  pub over_is_quiet : OverIsQuiet defers left_over
+  pub over_is_quiet : OverIsQuiescent defers left_over
   over_is_quiet fixed id c seen left word over s h at_id =
       let quiet = quiet_at fixed id c seen left over s h at_id in
       (quiet, nothing_waits defers fixed.batch_size s.world word (came_quiet defers fixed s.world h.came) quiet)

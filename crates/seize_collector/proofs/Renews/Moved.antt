@@ -8,14 +8,14 @@ use Rattle.seize_seats.specs.Seats.State.{State, view_of, Goes}
 use Rattle.seize_views.specs.Views.Rows.{IsFound, RootsNameLinked, Came}
 use Rattle.seize_views.specs.declared.view.Fixed.{Fixed}
 use Rattle.seize_views.proofs.Views.Lists.{there, elsewhere}
-use Rattle.seize_collector.specs.Renews.Rule.{Stands, HoldsAlone, KeepsNone}
+use Rattle.seize_collector.specs.Renews.Rule.{IsAtPoint, HoldsAlone, KeepsNone}
 use Rattle.seize_collector.specs.declared.alone.Alone.{Alone}
 use Rattle.seize_collector.proofs.Renews.Roots.{RootsStay, roots_still, found_still}
 use Rattle.seize_words.proofs.General.{same_some}
 
 module _ {T : Type 0} (defers : T → Option ℕ) (left_over : T → Bool) (fixed : Fixed) (s : State T (Alone T) (World T)) (id : ℕ) (v u : Alone T)
     (h : HoldsAlone defers left_over fixed s) (at_id : view_of s id ≡ Some v) (m2 : Mem T) (n : World T) (came : Came defers fixed n) (memory : n.memory ≡ m2)
-    (stay : RootsStay defers fixed s.world n) (own : Stands defers left_over fixed n id u) where
+    (stay : RootsStay defers fixed s.world n) (own : IsAtPoint defers left_over fixed n id u) where
   abbrev views2 : List (Alone T)
   views2 = slice_set s.views id u
 
@@ -28,9 +28,9 @@ module _ {T : Type 0} (defers : T → Option ℕ) (left_over : T → Bool) (fixe
     | inr ne ↦ inr (ne, sym (elsewhere s.views id j u ne) ∙ e)
   ]
 
-  stands_there : (j : ℕ) (x : Alone T) → slice_get views2 j ≡ Some x → Stands defers left_over fixed n j x
-  stands_there j x e = elim (who j x e) as (λ _. Stands defers left_over fixed n j x) [
-    | inl (same, is) ↦ subst (λ (a : Alone T). Stands defers left_over fixed n j a) (sym is) (subst (λ (k : ℕ). Stands defers left_over fixed n k u) (sym same) own)
+  stands_there : (j : ℕ) (x : Alone T) → slice_get views2 j ≡ Some x → IsAtPoint defers left_over fixed n j x
+  stands_there j x e = elim (who j x e) as (λ _. IsAtPoint defers left_over fixed n j x) [
+    | inl (same, is) ↦ subst (λ (a : Alone T). IsAtPoint defers left_over fixed n j a) (sym is) (subst (λ (k : ℕ). IsAtPoint defers left_over fixed n k u) (sym same) own)
     | inr (ne, was) ↦ absurd (ne (h.one j id x v was at_id))
   ]
 

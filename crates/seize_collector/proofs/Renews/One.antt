@@ -8,21 +8,21 @@ use Rattle.seize.specs.declared.rows.reclaim_all.Reclaiming.TheVariants as at
 use Rattle.seize.specs.ReclaimAll.{plan_at}
 use Rattle.seize.specs.World.{World}
 use Rattle.seize.specs.World as world
-use Rattle.seize_seats.specs.Seats.Lendings.{Shown, IsValueOf}
+use Rattle.seize_seats.specs.Seats.Lendings.{VisibleTo, IsValueOf}
 use Rattle.seize_seats.specs.Seats.State.{State, view_of}
 use Rattle.seize_seats.proofs.Seats.Stepping.Errands.{mapped_at}
 use Rattle.seize_acts.specs.Quiet.Slots.{StageAt}
 use Rattle.seize_acts.specs.Quiet.Promises.{IsOnSlots}
 use Rattle.seize_views.specs.Views.Notes.{as_known}
 use Rattle.seize_views.specs.Views.Promises.{op_in}
-use Rattle.seize_views.specs.Views.Rows.{row_of, IsAtRest}
+use Rattle.seize_views.specs.Views.Rows.{row_of, IsQuiescent}
 use Rattle.seize_views.specs.Views.Watched.{known_by}
 use Rattle.seize_views.specs.declared.view.Fixed.{Fixed}
 use Rattle.seize_views.specs.declared.view.Noted.{Noted}
 use Rattle.seize_views.specs.declared.view.SlotView.{SlotView}
 use Rattle.seize_views.specs.declared.view.SlotView.TheVariants as view
-use Rattle.seize_collector.specs.Renews.One.{HoldsOne, OneBegins, OneGoesOn, OneTurns, OneIsShown, OneEnds}
-use Rattle.seize_collector.specs.Renews.Rule.{Stands}
+use Rattle.seize_collector.specs.Renews.One.{HoldsOne, OneBegins, OneContinues, OneTurns, OneIsShown, OneEnds}
+use Rattle.seize_collector.specs.Renews.Rule.{IsAtPoint}
 use Rattle.seize_collector.specs.declared.alone.Alone.{Alone}
 use Rattle.seize_collector.specs.declared.alone.Alone.TheVariants.{Registers, Reclaims}
 use Rattle.seize_collector.proofs.Renews.Ends.{idle_renew, looked_is_shown, over_renews}
@@ -30,7 +30,7 @@ use Rattle.seize_collector.proofs.Renews.Registering.{registering_goes_on}
 use Rattle.seize_collector.proofs.Renews.Steps.{reclaiming_goes_on, reclaiming_turns}
 
 -- who has nothing under way has no row
-no_row : {T : Type 0} (v : SlotView T) → IsAtRest v → row_of v ≡ world.Rests
+no_row : {T : Type 0} (v : SlotView T) → IsQuiescent v → row_of v ≡ world.Rests
 no_row view.Rests r = refl
 no_row (view.Registers c) r = absurd r
 no_row (view.Outside t) r = refl
@@ -52,7 +52,7 @@ module _ {T : Type 0} (defers : T → Option ℕ) (left_over : T → Bool) where
   one_begins fixed s h idle = idle_renew defers left_over fixed (as_known s) h.0 (λ j v at. rest j v (mapped_at known_by s.views j v at))
     where
       rest : (j : ℕ) (v : SlotView T) → (u : Noted T) × (slice_get s.views j ≡ Some u) × (u.knows ≡ v) → row_of v ≡ world.Rests
-      rest j v u = no_row v (subst IsAtRest u.2 (idle j u.0 u.1))
+      rest j v u = no_row v (subst IsQuiescent u.2 (idle j u.0 u.1))
 
   abbrev Hold : Fixed → State T (Alone T) (World T) → Type 0
   Hold fixed = HoldsOne defers left_over fixed
@@ -60,7 +60,7 @@ module _ {T : Type 0} (defers : T → Option ℕ) (left_over : T → Bool) where
   -- its machine is not over, and works on slots
   module _ (fixed : Fixed) (id : ℕ) (c : ReclaimAll) (seen : Option (ℕ × T)) (left : ℕ) (s : State T (Alone T) (World T)) (h : Hold fixed s)
       (at_id : view_of s id ≡ Some (Reclaims c seen left)) where
-    stands : Stands defers left_over fixed s.world id (Reclaims c seen left)
+    stands : IsAtPoint defers left_over fixed s.world id (Reclaims c seen left)
     stands = h.seats id (Reclaims c seen left) at_id
 
     on_slots : (p : Reclaiming) → StageAt defers fixed.batch_size id c s.world p → (p ≡ at.Over → ⊥) → IsOnSlots p
@@ -84,7 +84,7 @@ module _ {T : Type 0} (defers : T → Option ℕ) (left_over : T → Bool) where
   not_over : (c : ReclaimAll) (op : Op T) (p : Reclaiming) → op_in (plan_at defers left_over c p) ≡ Some op → p ≡ at.Over → ⊥
   not_over c op p e over = let none : op_in (plan_at defers left_over c at.Over) ≡ Some op = subst (λ (q : Reclaiming). op_in (plan_at defers left_over c q) ≡ Some op) over e in absurd (cc none)
 
-  pub one_goes_on : OneGoesOn defers left_over
+  pub one_goes_on : OneContinues defers left_over
   one_goes_on fixed id (Registers c size) op word is = registering_goes_on defers left_over fixed id c size op word is
   one_goes_on fixed id (Reclaims c seen left) op word is =
       λ s h at_id. reclaiming_goes_on defers left_over fixed id c seen left op word (on fixed id c seen left s h at_id (not_over c op c.stands is)) is s h at_id
@@ -103,7 +103,7 @@ module _ {T : Type 0} (defers : T → Option ℕ) (left_over : T → Bool) where
   one_is_shown fixed id (Reclaims c None left) b x is = absurd (cc is)
   one_is_shown fixed id (Reclaims c (Some (a, z)) left) b x is =
       let k = some_same (b == a) z x is in let e : a ≡ b = sym (eqb-true b a k.0) in let l = looked_is_shown defers left_over fixed id c a left z in (
-        subst (λ (n : ℕ). Shown (Hold fixed) id (Reclaims c (Some (a, z)) left) n) e l.0,
+        subst (λ (n : ℕ). VisibleTo (Hold fixed) id (Reclaims c (Some (a, z)) left) n) e l.0,
         λ y of. l.1 y (subst (λ (n : ℕ). IsValueOf (Hold fixed) id (Reclaims c (Some (a, z)) left) n y) (sym e) of) ∙ k.1,
       )
 

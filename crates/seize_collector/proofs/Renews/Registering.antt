@@ -23,16 +23,16 @@ use Rattle.seize_rule.proofs.Rows.Others.{with_here, with_other}
 use Rattle.seize_rule.proofs.Given.SeizeMemoryWords.Room.{first_there, slots_grow, slot_there}
 use Rattle.seize_rule.proofs.World.Kept.{row_may}
 use Rattle.seize_seats.specs.Seats.State.{State, view_of, Goes}
-use Rattle.seize_acts.specs.Quiet.Slots.{IsQuiet, Stage}
+use Rattle.seize_acts.specs.Quiet.Slots.{IsQuiescent, Stage}
 use Rattle.seize_acts.proofs.Quiet.Ends.Counted.{slots_end}
 use Rattle.seize_acts.proofs.Quiet.Promised.{slots_begin}
 use Rattle.seize_views.specs.Views.Promises.{op_in}
 use Rattle.seize_views.specs.Views.Rows.{IsSeeking, Came}
-use Rattle.seize_views.specs.Views.Told.{ComesTo}
+use Rattle.seize_views.specs.Views.Told.{HasOutcome}
 use Rattle.seize_views.specs.declared.view.Fixed.{Fixed}
 use Rattle.seize_views.proofs.Views.Came.{reached, came_then}
-use Rattle.seize_collector.specs.Renews.Rule.{SeeksAt, all_of, over_of, Stands, HoldsAlone, KeepsNone, told}
-use Rattle.seize_collector.specs.Renews.Promises.{RegisteringGoesOn}
+use Rattle.seize_collector.specs.Renews.Rule.{SeeksAt, all_of, over_of, IsAtPoint, HoldsAlone, KeepsNone, told}
+use Rattle.seize_collector.specs.Renews.Promises.{RegisteringContinues}
 use Rattle.seize_collector.specs.declared.alone.Alone.{Alone}
 use Rattle.seize_collector.specs.declared.alone.Alone.TheVariants.{Registers, Reclaims}
 use Rattle.seize_collector.proofs.Renews.Moved.{moved}
@@ -74,7 +74,7 @@ module _ {T : Type 0} (defers : T → Option ℕ) (left_over : T → Bool) (fixe
   abbrev w : World T
   w = s.world
 
-  stands : Stands defers left_over fixed w id (Registers c size)
+  stands : IsAtPoint defers left_over fixed w id (Registers c size)
   stands = h.seats id (Registers c size) at_id
 
   abbrev Gone : Op T → Out T → Mem T → Type 0
@@ -94,13 +94,13 @@ module _ {T : Type 0} (defers : T → Option ℕ) (left_over : T → Bool) (fixe
     memory : n.memory ≡ m
     memory = registers_memory w id m c d o
 
-    goes_to : (u : Alone T) → Stands defers left_over fixed n id u → (so : Alone T → Type 0) → so u → Goes (HoldsAlone defers left_over fixed) KeepsNone s m id so
+    goes_to : (u : Alone T) → IsAtPoint defers left_over fixed n id u → (so : Alone T → Type 0) → so u → Goes (HoldsAlone defers left_over fixed) KeepsNone s m id so
     goes_to u own so is =
         moved defers left_over fixed s id (Registers c size) u h at_id m n came memory (step_stays defers fixed id w n h.came step) own so is
 
     -- with so many steps before it
     abbrev Begins : ReclaimAll → Type 0
-    Begins k = (left : ℕ) × Stands defers left_over fixed n id (Reclaims k None left)
+    Begins k = (left : ℕ) × IsAtPoint defers left_over fixed n id (Reclaims k None left)
 
     counted : (k : ReclaimAll) → Stage defers fixed.batch_size id 0 k n → Begins k
     counted k stage = let e = slots_end defers left_over fixed.batch_size 0 id k n word (came_quiet defers fixed n came) stage in (e.0, (stage, e.1, tt))
@@ -112,10 +112,10 @@ module _ {T : Type 0} (defers : T → Option ℕ) (left_over : T → Bool) (fixe
           subst (λ (x : ℕ). Begins (all_of x)) (sym stands.0)
           (counted (all_of fixed.batch_size) ((slots_begin defers fixed.batch_size 0 id n word (came_quiet defers fixed n came) rests).0 there))
 
-      quiet_if : word_at n.memory (Slot 0 HEAD) ≡ None → IsQuiet n
+      quiet_if : word_at n.memory (Slot 0 HEAD) ≡ None → IsQuiescent n
       quiet_if none = (slots_begin defers fixed.batch_size 0 id n word (came_quiet defers fixed n came) rests).1 none
 
-      over_may : IsQuiet n → Begins (over_of size)
+      over_may : IsQuiescent n → Begins (over_of size)
       over_may quiet = subst (λ (x : ℕ). Begins (over_of x)) (sym stands.0) (counted (over_of fixed.batch_size) (record { size_is = refl; roots_are = refl; here = (refl, quiet) }))
 
       words_there : 0 < length m.slots → IsSome (word_at n.memory (Slot 0 HEAD))
@@ -156,7 +156,7 @@ module _ {T : Type 0} (defers : T → Option ℕ) (left_over : T → Bool) (fixe
           let used = with_here w.uses t (registered_as c) ∙ outside c.stands stands.4 in
           absurd (cc (vacant, used))
 
-  goes : (op : Op T) (out : Out T) (m : Mem T) (d : Register) (o : Advance ℕ) → Steps Took value_at w.memory (register_plan c) m (d, o) → ComesTo (register_plan {T = T} c) out (d, o)
+  goes : (op : Op T) (out : Out T) (m : Mem T) (d : Register) (o : Advance ℕ) → Steps Took value_at w.memory (register_plan c) m (d, o) → HasOutcome (register_plan {T = T} c) out (d, o)
       → IsWell m (d, o) → Goes (HoldsAlone defers left_over fixed) KeepsNone s m id (told defers left_over (Registers c size) op out)
   goes op out m d progress.Goes steps comes well =
       goes_to m d progress.Goes steps well (Registers d size)
@@ -172,7 +172,7 @@ module _ {T : Type 0} (defers : T → Option ℕ) (left_over : T → Bool) (fixe
   goes op out m d (progress.Refused fault) steps comes well = by (d.slot == 0) (eqb-true d.slot 0) (eqb-false d.slot 0) refl
     where
       behind : (k : ReclaimAll) → k ≡ (if d.slot == 0 then over_of size else all_of size)
-          → (left : ℕ) × Stands defers left_over fixed (registers_on w id c m (d, progress.Refused fault)) id (Reclaims k None left)
+          → (left : ℕ) × IsAtPoint defers left_over fixed (registers_on w id c m (d, progress.Refused fault)) id (Reclaims k None left)
           → Goes (HoldsAlone defers left_over fixed) KeepsNone s m id (told defers left_over (Registers c size) op out)
       behind k is b =
           goes_to m d (progress.Refused fault) steps well (Reclaims k None b.0) b.1 (told defers left_over (Registers c size) op out)
@@ -183,11 +183,11 @@ module _ {T : Type 0} (defers : T → Option ℕ) (left_over : T → Bool) (fixe
 
       by : (b : Bool) → (b ≡ true → d.slot ≡ 0) → (b ≡ false → d.slot ≡ 0 → ⊥) → d.slot == 0 ≡ b
           → Goes (HoldsAlone defers left_over fixed) KeepsNone s m id (told defers left_over (Registers c size) op out)
-      by true z ne e = behind (over_of size) (ap (λ (b : Bool). if b then over_of size else all_of size) (sym e)) (elim well as (λ _. (left : ℕ) × Stands defers left_over fixed (registers_on w id c m (d, progress.Refused fault)) id (Reclaims (over_of size) None left)) [
+      by true z ne e = behind (over_of size) (ap (λ (b : Bool). if b then over_of size else all_of size) (sym e)) (elim well as (λ _. (left : ℕ) × IsAtPoint defers left_over fixed (registers_on w id c m (d, progress.Refused fault)) id (Reclaims (over_of size) None left)) [
         | inl (first, none) ↦ over_may m d (progress.Refused fault) steps well (rests_refused m d fault) (quiet_if m d (progress.Refused fault) steps well (rests_refused m d fault) (ap (λ (x : Mem T). word_at x (Slot 0 HEAD)) (registers_memory w id m c d (progress.Refused fault)) ∙ none_at none))
         | inr (other, some) ↦ absurd (other (z refl))
       ])
-      by false z ne e = behind (all_of size) (ap (λ (b : Bool). if b then over_of size else all_of size) (sym e)) (elim well as (λ _. (left : ℕ) × Stands defers left_over fixed (registers_on w id c m (d, progress.Refused fault)) id (Reclaims (all_of size) None left)) [
+      by false z ne e = behind (all_of size) (ap (λ (b : Bool). if b then over_of size else all_of size) (sym e)) (elim well as (λ _. (left : ℕ) × IsAtPoint defers left_over fixed (registers_on w id c m (d, progress.Refused fault)) id (Reclaims (all_of size) None left)) [
         | inl (first, none) ↦ absurd (ne refl first)
         | inr (other, some) ↦ all_may m d (progress.Refused fault) steps well (rests_refused m d fault) (words_there m d (progress.Refused fault) steps well (rests_refused m d fault) some)
       ])
@@ -209,7 +209,7 @@ module _ {T : Type 0} (defers : T → Option ℕ) (left_over : T → Bool) (fixe
         goes op out m end.0 end.1
         (subst (λ (q : Plan T (Register × Advance ℕ)). Steps Took value_at w.memory q m end) (sym plan_is)
         (out, subst (λ (x : Mem T). Took x op out m) h.memory took, ends (value_at m)))
-        (subst (λ (q : Plan T (Register × Advance ℕ)). ComesTo q out end) (sym plan_is) (s.memory, m, took, ends (value_at m))) well
+        (subst (λ (q : Plan T (Register × Advance ℕ)). HasOutcome q out end) (sym plan_is) (s.memory, m, took, ends (value_at m))) well
       where
         plan_is : register_plan {T = T} c ≡ Do op rest
         plan_is = ap (plan_at {T = T} c) is ∙ plan
@@ -297,5 +297,5 @@ module _ {T : Type 0} (defers : T → Option ℕ) (left_over : T → Bool) (fixe
   pub registers : (op : Op T) → op_in (register_plan {T = T} c) ≡ Some op → Allowed op
   registers op is = by c.stands refl op is
 
-pub registering_goes_on : {T : Type 0} (defers : T → Option ℕ) (left_over : T → Bool) → RegisteringGoesOn defers left_over
+pub registering_goes_on : {T : Type 0} (defers : T → Option ℕ) (left_over : T → Bool) → RegisteringContinues defers left_over
 registering_goes_on defers left_over fixed id c size op word is s h at_id = registers defers left_over fixed word s id c size h at_id op is

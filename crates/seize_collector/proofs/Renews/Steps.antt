@@ -10,7 +10,7 @@ use Rattle.seize.specs.declared.rows.settle.Settled.TheVariants as settled
 use Rattle.seize.specs.ReclaimAll.{reclaim_all_plan}
 use Rattle.seize.specs.World.{World}
 use Rattle.seize_seats.specs.Seats.State.{State, view_of, Goes}
-use Rattle.seize_acts.specs.Quiet.Slots.{Led, SlotsTold}
+use Rattle.seize_acts.specs.Quiet.Slots.{Led, SlotsOutcome}
 use Rattle.seize_acts.specs.Quiet.Promises.{IsOnSlots, DoneWithin}
 use Rattle.seize_acts.proofs.Quiet.Promised.{slots_lead}
 use Rattle.seize_views.specs.Views.Promises.{op_in}
@@ -18,8 +18,8 @@ use Rattle.seize_views.specs.Views.Rows.{Came}
 use Rattle.seize_views.specs.Views.Told.{FollowsBy, shown_by}
 use Rattle.seize_views.specs.declared.view.Fixed.{Fixed}
 use Rattle.seize_views.proofs.Views.Looks.{rest_of}
-use Rattle.seize_collector.specs.Renews.Rule.{IsShown, HasGone, Stands, HoldsAlone, KeepsNone, told}
-use Rattle.seize_collector.specs.Renews.Promises.{ReclaimingGoesOn, ReclaimingTurns}
+use Rattle.seize_collector.specs.Renews.Rule.{IsShown, HasGone, IsAtPoint, HoldsAlone, KeepsNone, told}
+use Rattle.seize_collector.specs.Renews.Promises.{ReclaimingContinues, ReclaimingTurns}
 use Rattle.seize_collector.specs.declared.alone.Alone.{Alone}
 use Rattle.seize_collector.specs.declared.alone.Alone.TheVariants.{Reclaims}
 use Rattle.seize_collector.proofs.Renews.Looks.{may_end, reclaim_looked}
@@ -28,7 +28,7 @@ use Rattle.seize_collector.proofs.Renews.Roots.{came_quiet, rows_stay, RootsStay
 use Rattle.seize_words.proofs.General.{same_some}
 
 -- what one that works on slots tells
-goes_on : {T : Type 0} (w w2 : World T) (o : Settled T) → SlotsTold w w2 o → HasGone o
+goes_on : {T : Type 0} (w w2 : World T) (o : Settled T) → SlotsOutcome w w2 o → HasGone o
 goes_on w w2 settled.Goes h = tt
 goes_on w w2 settled.Waits h = h
 goes_on w w2 (settled.Gave value) h = tt
@@ -47,7 +47,7 @@ module _ {T : Type 0} (defers : T → Option ℕ) (left_over : T → Bool) (fixe
   abbrev P : Plan T (ReclaimAll × Settled T)
   P = reclaim_all_plan defers left_over c
 
-  stands : Stands defers left_over fixed w id (Reclaims c seen left)
+  stands : IsAtPoint defers left_over fixed w id (Reclaims c seen left)
   stands = h.seats id (Reclaims c seen left) at_id
 
   leads : May Can Took value_at w.memory P
@@ -121,7 +121,7 @@ module _ {T : Type 0} (defers : T → Option ℕ) (left_over : T → Bool) (fixe
       goes s.memory c2 o st None tt _ ((less s.memory c2 o st None tt).0, (less s.memory c2 o st None tt).1, refl)
 
 module _ {T : Type 0} (defers : T → Option ℕ) (left_over : T → Bool) where
-  pub reclaiming_goes_on : ReclaimingGoesOn defers left_over
+  pub reclaiming_goes_on : ReclaimingContinues defers left_over
   reclaiming_goes_on fixed id c seen left op word on is s h at_id = after_op defers left_over fixed word s id c seen left on h at_id op is
 
   pub reclaiming_turns : ReclaimingTurns defers left_over

@@ -3,7 +3,7 @@ use Rattle.std.specs.Prelude.{◌≡◌, ℕ, Bool, Option}
 use Rattle.seize_words.specs.OneMemory.Op.{Op, Out, Rewrite}
 use Rattle.seize.specs.World.{World}
 use Rattle.seize_seats.specs.Seats.State.{State, Allows, Owns}
-use Rattle.seize_collector.specs.Renews.One.{HoldsOne, one_told, shown_to_one}
+use Rattle.seize_collector.specs.Renews.One.{HoldsOne, one_observed, shown_to_one}
 use Rattle.seize_collector.specs.Renews.Rule.{KeepsNone}
 use Rattle.seize_collector.specs.declared.alone.Alone.{Alone}
 use Rattle.seize_collector.specs.declared.sole.Sole.{Sole}
@@ -20,11 +20,11 @@ module _ {T : Type 0} (defers : T → Option ℕ) (left_over : T → Bool) where
   -- the rule allows him this operation
   pub record Can (m : Sole T) (op : Op T) : Type 0 where
     pub alone : HasAlone m op
-    pub may : Allows (Hold m) KeepsNone m.seat.id m.seat.view op (one_told defers left_over m.seat.view op)
+    pub may : Allows (Hold m) KeepsNone m.seat.id m.seat.view op (one_observed defers left_over m.seat.view op)
 
   -- he has made it, and knows what it told
   abbrev pub Has : Sole T → Op T → Out T → Sole T → Type 0
-  Has m op out n = (n.blocks ≡ m.blocks) × one_told defers left_over m.seat.view op out n.seat.view
+  Has m op out n = (n.blocks ≡ m.blocks) × one_observed defers left_over m.seat.view op out n.seat.view
 
   abbrev pub shown_of : Sole T → ℕ → Option T
   shown_of m b = shown_to_one defers left_over m.seat.view b

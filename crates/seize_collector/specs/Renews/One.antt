@@ -11,13 +11,13 @@ use Rattle.seize.specs.Register.{register_plan}
 use Rattle.seize.specs.ReclaimAll.{reclaim_all_plan}
 use Rattle.seize.specs.World.{World}
 use Rattle.seize_seats.specs.Seats.Errands.{RenewsTo, RenewsFrom}
-use Rattle.seize_seats.specs.Seats.Lendings.{Shown, IsValueOf}
+use Rattle.seize_seats.specs.Seats.Lendings.{VisibleTo, IsValueOf}
 use Rattle.seize_seats.specs.Seats.Start.{WasKnown}
 use Rattle.seize_seats.specs.Seats.State.{State, Allows, Turns}
 use Rattle.seize_views.specs.Views.Begun.{seeker_at}
 use Rattle.seize_views.specs.Views.Notes.{NotedHolds}
 use Rattle.seize_views.specs.Views.Promises.{op_in}
-use Rattle.seize_views.specs.Views.Rows.{IsAtRest}
+use Rattle.seize_views.specs.Views.Rows.{IsQuiescent}
 use Rattle.seize_views.specs.Views.Told.{shown_by}
 use Rattle.seize_views.specs.declared.view.Fixed.{Fixed}
 use Rattle.seize_views.specs.declared.view.Noted.{Noted}
@@ -32,14 +32,14 @@ one_first fixed = Registers (seeker_at 0 register_at.Begin) fixed.batch_size
 
 -- a seat that notes so has nothing under way
 abbrev pub NotedRests : {T : Type 0} → Noted T → Type 0
-NotedRests v = IsAtRest v.knows
+NotedRests v = IsQuiescent v.knows
 
 module _ {T : Type 0} (defers : T → Option ℕ) (left_over : T → Bool) where
   abbrev pub HoldsOne : Fixed → State T (Alone T) (World T) → Type 0
   HoldsOne fixed = HoldsAlone defers left_over fixed
 
-  abbrev pub one_told : Alone T → Op T → Out T → Alone T → Type 0
-  one_told v op out w = told defers left_over v op out w
+  abbrev pub one_observed : Alone T → Op T → Out T → Alone T → Type 0
+  one_observed v op out w = told defers left_over v op out w
 
   -- its next operation, if its next step makes one
   abbrev pub op_of_one : Alone T → Option (Op T)
@@ -63,10 +63,10 @@ module _ {T : Type 0} (defers : T → Option ℕ) (left_over : T → Bool) where
   OneBegins = (fixed : Fixed) → RenewsTo NotedRests (NotedHolds defers fixed) (HoldsOne fixed) (one_first fixed ∷ [])
 
   -- the next operation of the one that acts may be made
-  abbrev pub OneGoesOn : Type 0
-  OneGoesOn =
+  abbrev pub OneContinues : Type 0
+  OneContinues =
       (fixed : Fixed) (id : ℕ) (v : Alone T) (op : Op T) → fixed.batch_size < 2 ^ 64 → op_of_one v ≡ Some op
-      → Allows (HoldsOne fixed) KeepsNone id v op (one_told v op)
+      → Allows (HoldsOne fixed) KeepsNone id v op (one_observed v op)
 
   -- a step of its machine that makes none is a turn
   abbrev pub OneTurns : Type 0
@@ -79,7 +79,7 @@ module _ {T : Type 0} (defers : T → Option ℕ) (left_over : T → Bool) where
   abbrev pub OneIsShown : Type 0
   OneIsShown =
       (fixed : Fixed) (id : ℕ) (v : Alone T) (b : ℕ) (x : T) → shown_to_one v b ≡ Some x
-      → Shown (HoldsOne fixed) id v b × ((y : T) → IsValueOf (HoldsOne fixed) id v b y → y ≡ x)
+      → VisibleTo (HoldsOne fixed) id v b × ((y : T) → IsValueOf (HoldsOne fixed) id v b y → y ≡ x)
 
   -- and where its machine is over the memory goes back
   abbrev pub OneEnds : Type 0

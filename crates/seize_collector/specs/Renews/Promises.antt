@@ -11,10 +11,10 @@ use Rattle.seize.specs.Register.{register_plan}
 use Rattle.seize.specs.ReclaimAll.{reclaim_all_plan}
 use Rattle.seize.specs.World.{World}
 use Rattle.seize.specs.World as world
-use Rattle.seize_seats.specs.Seats.Lendings.{Shown, IsValueOf}
+use Rattle.seize_seats.specs.Seats.Lendings.{VisibleTo, IsValueOf}
 use Rattle.seize_seats.specs.Seats.State.{State, view_of, Allows, Turns}
 use Rattle.seize_acts.specs.Acts.Reclaimed.{HasNothingLeft}
-use Rattle.seize_acts.specs.Quiet.Slots.{IsQuiet}
+use Rattle.seize_acts.specs.Quiet.Slots.{IsQuiescent}
 use Rattle.seize_acts.specs.Quiet.Promises.{IsOnSlots}
 use Rattle.seize_views.specs.Views.Begun.{seeker_at}
 use Rattle.seize_views.specs.Views.Promises.{op_in}
@@ -26,7 +26,7 @@ use Rattle.seize_collector.specs.declared.alone.Alone.{Alone}
 use Rattle.seize_collector.specs.declared.alone.Alone.TheVariants.{Registers, Reclaims}
 
 module _ {T : Type 0} (defers : T → Option ℕ) (left_over : T → Bool) where
-  -- Where each seat is at rest, one may act alone: it is the only one then, and begins to take a slot.
+  -- Where each seat is quiescent, one may act alone: it is the only one then, and begins to take a slot.
   abbrev pub AreIdle : State T (SlotView T) (World T) → Type 0
   AreIdle s = (j : ℕ) (v : SlotView T) → view_of s j ≡ Some v → row_of v ≡ world.Rests
 
@@ -39,14 +39,14 @@ module _ {T : Type 0} (defers : T → Option ℕ) (left_over : T → Bool) where
       → (w : World T) × HoldsAlone defers left_over fixed record { memory = s.memory; views = (first_of fixed) ∷ []; world = w }
 
   -- it may make its next operation
-  abbrev pub RegisteringGoesOn : Type 0
-  RegisteringGoesOn =
+  abbrev pub RegisteringContinues : Type 0
+  RegisteringContinues =
       (fixed : Fixed) (id : ℕ) (c : Register) (size : ℕ) (op : Op T) → fixed.batch_size < 2 ^ 64 → op_in (register_plan {T = T} c) ≡ Some op
       → Allows (HoldsAlone defers left_over fixed) KeepsNone id (Registers c size) op (told defers left_over (Registers c size) op)
 
   -- the next operation on slots may be made
-  abbrev pub ReclaimingGoesOn : Type 0
-  ReclaimingGoesOn =
+  abbrev pub ReclaimingContinues : Type 0
+  ReclaimingContinues =
       (fixed : Fixed) (id : ℕ) (c : ReclaimAll) (seen : Option (ℕ × T)) (left : ℕ) (op : Op T) → fixed.batch_size < 2 ^ 64 → IsOnSlots c.stands
       → op_in (reclaim_all_plan defers left_over c) ≡ Some op
       → Allows (HoldsAlone defers left_over fixed) KeepsNone id (Reclaims c seen left) op (told defers left_over (Reclaims c seen left) op)
@@ -61,15 +61,15 @@ module _ {T : Type 0} (defers : T → Option ℕ) (left_over : T → Bool) where
   -- what it is about to look at is there, with the value that was told
   abbrev pub LookedIsShown : Type 0
   LookedIsShown =
-      (fixed : Fixed) (id : ℕ) (c : ReclaimAll) (b left : ℕ) (x : T) → Shown (HoldsAlone defers left_over fixed) id (Reclaims c (Some (b, x)) left) b
+      (fixed : Fixed) (id : ℕ) (c : ReclaimAll) (b left : ℕ) (x : T) → VisibleTo (HoldsAlone defers left_over fixed) id (Reclaims c (Some (b, x)) left) b
       × ((y : T) → IsValueOf (HoldsAlone defers left_over fixed) id (Reclaims c (Some (b, x)) left) b y → y ≡ x)
 
   -- Where its machine is over nothing is left: no row is under way, no block is retired, no slot is in use, and none has a batch.
-  abbrev pub OverIsQuiet : Type 0
-  OverIsQuiet =
+  abbrev pub OverIsQuiescent : Type 0
+  OverIsQuiescent =
       (fixed : Fixed) (id : ℕ) (c : ReclaimAll) (seen : Option (ℕ × T)) (left : ℕ) → fixed.batch_size < 2 ^ 64 → c.stands ≡ at.Over
       → (s : State T (Alone T) (World T)) → HoldsAlone defers left_over fixed s → view_of s id ≡ Some (Reclaims c seen left)
-      → IsQuiet s.world × HasNothingLeft defers s.world
+      → IsQuiescent s.world × HasNothingLeft defers s.world
 
   -- and the rule of all holds again, with no seat
   abbrev pub OverRenews : Type 0

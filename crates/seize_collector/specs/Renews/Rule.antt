@@ -20,7 +20,7 @@ use Rattle.seize_seats.specs.Seats.State.{State, view_of}
 use Rattle.seize_acts.specs.Quiet.Slots.{Stage}
 use Rattle.seize_acts.specs.Quiet.Promises.{DoneWithin}
 use Rattle.seize_views.specs.Views.Rows.{IsSeeking, IsFound, RootsNameLinked, Came}
-use Rattle.seize_views.specs.Views.Told.{ComesTo, FollowsBy, shown_by}
+use Rattle.seize_views.specs.Views.Told.{HasOutcome, FollowsBy, shown_by}
 use Rattle.seize_views.specs.declared.view.Fixed.{Fixed}
 use Rattle.seize_collector.specs.declared.alone.Alone.{Alone}
 use Rattle.seize_collector.specs.declared.alone.Alone.TheVariants.{Registers, Reclaims}
@@ -70,21 +70,21 @@ module _ {T : Type 0} (defers : T → Option ℕ) (left_over : T → Bool) where
 
   -- what an operation tells the seat that makes it
   abbrev pub told : Alone T → Op T → Out T → Alone T → Type 0
-  told (Registers c size) op out w = (end : Register × Advance ℕ) × ComesTo (register_plan {T = T} c) out end × begun_by size end w
+  told (Registers c size) op out w = (end : Register × Advance ℕ) × HasOutcome (register_plan {T = T} c) out end × begun_by size end w
   told (Reclaims c seen left) op out w = ReclaimsOn c left out w
 
   module _ (fixed : Fixed) where
     -- where a seat stands
-    abbrev pub Stands : World T → ℕ → Alone T → Type 0
-    Stands w j (Registers c size) =
+    abbrev pub IsAtPoint : World T → ℕ → Alone T → Type 0
+    IsAtPoint w j (Registers c size) =
         (size ≡ fixed.batch_size) × (w.row j ≡ world.Registers c) × ((k : ℕ) → k ≢ j → w.row k ≡ world.Rests)
         × (c.enters ≡ false) × IsSeeking c.stands × SeeksAt w.memory c c.stands
-    Stands w j (Reclaims c seen left) = Stage defers fixed.batch_size j 0 c w × DoneWithin defers left_over left w.memory c × IsShown w.memory seen
+    IsAtPoint w j (Reclaims c seen left) = Stage defers fixed.batch_size j 0 c w × DoneWithin defers left_over left w.memory c × IsShown w.memory seen
 
     pub record HoldsAlone (s : State T (Alone T) (World T)) : Type 0 where
       pub came : Came defers fixed s.world
       pub memory : s.memory ≡ s.world.memory
-      pub seats : (j : ℕ) (v : Alone T) → view_of s j ≡ Some v → Stands s.world j v
+      pub seats : (j : ℕ) (v : Alone T) → view_of s j ≡ Some v → IsAtPoint s.world j v
       pub one : (j k : ℕ) (a b : Alone T) → view_of s j ≡ Some a → view_of s k ≡ Some b → j ≡ k
       pub roots : RootsNameLinked s.memory s.world.hand
       pub found : (b : ℕ) → IsFound s.memory b (λ k. Unit {0}) (s.world.hand b)

@@ -168,9 +168,9 @@ module _ {T : Type 0} (defers : T → Option ℕ) where
     SlotsAre m uses = (h : History) × IsHistory m h × (h.uses ≡ uses)
 
     -- what registering tells
-    abbrev pub TellsSlot : Mem T → Bool → History → Result ℕ Fault → Type 0
-    TellsSlot m enters h (Ok s) = (new_slot h.uses ≡ Some s) × IsHistory m (registered enters s h)
-    TellsSlot m enters h (Err fault) = IsRefusal m h.uses fault × IsHistory m h
+    abbrev pub RegisteringAnswers : Mem T → Bool → History → Result ℕ Fault → Type 0
+    RegisteringAnswers m enters h (Ok s) = (new_slot h.uses ≡ Some s) × IsHistory m (registered enters s h)
+    RegisteringAnswers m enters h (Err fault) = IsRefusal m h.uses fault × IsHistory m h
 
     -- These are the values of the blocks, which were reclaimed since the memory was this one.
     abbrev pub AreValues : Mem T → List ℕ → List T → Type 0
@@ -200,6 +200,6 @@ module _ {T : Type 0} (defers : T → Option ℕ) where
         × (taken_in effects ≡ given_back batch_size request h) × AreValues m (given_back batch_size request h) given × Spares m m2 (given_back batch_size request h)
 
     -- it goes on with a value more, or it has ended
-    abbrev pub GoesOn : Mem T → History → Request → List T → Row → Mem T → Option T → Type 0
-    GoesOn m h request given row m2 (Some value) = IsMidway m h request row m2 (given ++ value ∷ [])
-    GoesOn m h request given row m2 None = IsEnded m h request given m2
+    abbrev pub Continues : Mem T → History → Request → List T → Row → Mem T → Option T → Type 0
+    Continues m h request given row m2 (Some value) = IsMidway m h request row m2 (given ++ value ∷ [])
+    Continues m h request given row m2 None = IsEnded m h request given m2

@@ -2,7 +2,7 @@
 use Rattle.std.proofs.Common.{ℕ, suc, [], ◌∷◌, refl}
 use Rattle.seize.specs.WaitingSets.{Enters, Leaves, Refreshes, Retires, Flushes, Defers, Ends, ReclaimsAll, size}
 use Rattle.seize_moves.specs.Waiting.Laws.{TidyAtStart, OpenIsHeld, ChangesKeep, ChangesFollow, OthersAreLeftAlone, ActiveSlotsWait, RoundsTakeAway, NothingIsLeft, EndsLeave}
-use Rattle.seize_moves.specs.Waiting.Lists.{ListsAddUp, UncountedIsNotThere, AgreeOnLists, SlotsCome, SlotsGo, KeptAreBehindOthers, EachIsListed}
+use Rattle.seize_moves.specs.Waiting.Lists.{ListsAddUp, UncountedIsNotThere, AgreeOnLists, SlotsCome, SlotsGo, KeptAreDeferredOnOthers, EachIsListed}
 use Rattle.seize_moves.proofs.Waiting.Behind.{behind_others, each_listed}
 use Rattle.seize_moves.proofs.Waiting.Counts.{count-append, not_one, map_same}
 use Rattle.seize_moves.proofs.Waiting.Emptied.{size_falls, all_reclaimed_empty}
@@ -63,7 +63,7 @@ slots_come = slot_counted
 pub slots_go : SlotsGo
 slots_go = without_counted
 
-pub kept_are_behind_others : KeptAreBehindOthers
+pub kept_are_behind_others : KeptAreDeferredOnOthers
 kept_are_behind_others = behind_others
 
 pub each_is_listed : EachIsListed

@@ -25,8 +25,8 @@ abbrev pub SlotsGo : Type 0
 SlotsGo = (s t : ℕ) (slots : List ℕ) → count t (without s slots) ≡ cond (eqb t s) 0 (count t slots)
 
 -- what isn't kept is behind these numbers, and what is kept isn't
-abbrev pub KeptAreBehindOthers : Type 0
-KeptAreBehindOthers = (numbers : List ℕ) (after before : List Further) → after ≡ kept numbers before → Every (λ f. count f.behind numbers ≡ 0) after
+abbrev pub KeptAreDeferredOnOthers : Type 0
+KeptAreDeferredOnOthers = (numbers : List ℕ) (after before : List Further) → after ≡ kept numbers before → Every (λ f. count f.behind numbers ≡ 0) after
 
 -- each that waits behind others is listed behind its own
 abbrev pub EachIsListed : Type 0

@@ -200,7 +200,7 @@ module _ {T : Type 0} (defers : T → Option ℕ) (n i : ℕ) (mem : Mem T) (m :
       may_store mem (λ out. plans.goes c (at.Pushes block left pushed slot head)) (Entry (block / 2048) LINK) head
       (entry_at block r.reads.d LINK r.reads.block_is (omega arith) (shut_lives r.reads.y r.reads.shuts.stage r.reads.before r.reads.rs r.reads.d r.reads.blocks)) tt
   may_at (at.Pushes block left pushed slot head) r =
-      may_exchange mem (plans.push_told c block left pushed slot) (Slot slot HEAD) head block
+      may_exchange mem (plans.after_push c block left pushed slot) (Slot slot HEAD) head block
       (words.slots slot HEAD (omega arith) (subst (λ (t : ℕ). is_never (m.head t) ≡ false) (sym r.links.slot_is) (taken_in m.head r.links.reads.t r.links.reads.ts r.links.reads.shuts.active)))
       (λ w e. tt) (λ w e. see_if (value_at mem) (plans.needs_none c w) _ _ tt tt)
   may_at (at.Pushed block left pushed) r =

@@ -10,7 +10,7 @@ use Rattle.seize.specs.declared.rows.settle.Settle.{Settle}
 use Rattle.seize.specs.declared.rows.settle.Settled.{Settled}
 use Rattle.seize.specs.declared.rows.settle.Settled.TheVariants.{Goes}
 use Rattle.seize.specs.declared.rows.settle.Settling.TheVariants as at
-use Rattle.seize.specs.Settle.{standing, to, goes, push_told, pushes, pushed_of}
+use Rattle.seize.specs.Settle.{standing, to, goes, after_push, pushes, pushed_of}
 use Rattle.seize_moves.proofs.Moves.State.Ghost.{put, Head, Never, Free, Idle, Active, Entry, Debt, Unscanned, Marked as MarkedDebt, Gone, Skipped, Owing, Loose, Counted, State, list_of, is_active, is_marked, is_never, was_put, total}
 use Rattle.seize_moves.proofs.Moves.State.Rule.{Inv, HasLeft}
 use Rattle.seize_moves.proofs.Moves.State.Sums.{total-put, put_le}
@@ -283,7 +283,7 @@ module _ {T : Type 0} (defers : T → Option ℕ) (n i : ℕ) (mem mem2 : Mem T)
   pub pushes_steps : (block left k slot head : ℕ) → Pushes n i (view defers mem) m x (bare c) block left k slot head
       → Steps Took value_at mem (pushes c block left k slot head) mem2 end → Went defers n i c Pushing mem m x [] mem2 end
   pushes_steps block left k slot head r st =
-      elim (exchanged mem (push_told c block left k slot) (Slot slot HEAD) head block mem2 end st) as (λ _. Went defers n i c Pushing mem m x [] mem2 end) [
+      elim (exchanged mem (after_push c block left k slot) (Slot slot HEAD) head block mem2 end st) as (λ _. Went defers n i c Pushing mem m x [] mem2 end) [
         | inl a ↦ push_done block left k slot head a.0 r a.1.0 a.1.1 a.2 a.3
         | inr b ↦ push_failed block left k slot head b.0 r b.1.0 b.1.1 b.2 (nat_lt b.0 ACTIVE) (nat_lt c.lost MOST_LOST) refl refl b.3
       ]

@@ -14,7 +14,7 @@ use Rattle.seize.specs.declared.advance.Advance.TheVariants.{Goes}
 use Rattle.seize.specs.declared.rows.defer.Defer.{Defer}
 use Rattle.seize.specs.declared.rows.defer.Deferring.{Deferring}
 use Rattle.seize.specs.declared.rows.defer.Deferring.TheVariants as at
-use Rattle.seize.specs.Defer.{standing, goes, head_read, push_told}
+use Rattle.seize.specs.Defer.{standing, goes, head_read, after_push}
 use Rattle.seize_moves.proofs.Moves.State.Ghost.{put, Life, IsDeferring, IsDeferred, State, IsLeft, can_carry}
 use Rattle.seize_moves.proofs.Moves.State.Rule.{Inv, IsGuarded, Moved, Pending}
 use Rattle.seize_moves.proofs.Moves.State.Together.{stays}
@@ -188,10 +188,10 @@ module _ {T : Type 0} (defers : T → Option ℕ) (n i s : ℕ) (mem mem2 : Mem 
       )
 
   -- a list that has changed is linked anew
-  pub defer_pushes : (head : ℕ) → Linked_to n i (view defers mem) m x s c.block c.table_word head → Steps Took value_at mem (Do (Exchange c.table_word head c.block) (push_told c)) mem2 end
+  pub defer_pushes : (head : ℕ) → Linked_to n i (view defers mem) m x s c.block c.table_word head → Steps Took value_at mem (Do (Exchange c.table_word head c.block) (after_push c)) mem2 end
       → DeferWent
   defer_pushes head r st =
-      elim (exchanged mem (push_told c) c.table_word head c.block mem2 end st) as (λ _. DeferWent) [
+      elim (exchanged mem (after_push c) c.table_word head c.block mem2 end st) as (λ _. DeferWent) [
         | inl a ↦ push_done head a.0 r a.1.0 a.1.1 a.2 a.3
         | inr b ↦ still (at.Links b.0) tt r.on b.2 b.3
       ]

@@ -12,7 +12,7 @@ use Rattle.seize.specs.declared.advance.Advance.TheVariants.{Goes, Waits, Done, 
 use Rattle.seize.specs.declared.rows.defer.Defer.{Defer}
 use Rattle.seize.specs.declared.rows.defer.Deferring.{Deferring}
 use Rattle.seize.specs.declared.rows.defer.Deferring.TheVariants as at
-use Rattle.seize.specs.Defer.{defer_plan, plan_at, head_read, push_told, goes}
+use Rattle.seize.specs.Defer.{defer_plan, plan_at, head_read, after_push, goes}
 use Rattle.seize.specs.Law.{is_open}
 use Rattle.seize.specs.World.{World, Row, Rests, Defers, one_less, with_at, after_step, defers_on}
 use Rattle.seize_moves.proofs.Moves.State.Ghost.{Head, State, emptied}
@@ -55,7 +55,7 @@ module _ {T : Type 0} {size : ℕ} (defers : T → Option ℕ) (n : ℕ) (w : Wo
   may_at : (p : Deferring) → c.stands ≡ p → May Can Took value_at w.memory (plan_at c p)
   may_at at.Reads e = may_load w.memory (head_read c) c.table_word (list_there (at_point at.Reads e)) (λ a found. tt)
   may_at (at.Links head) e = may_store w.memory (λ out. goes c (at.Pushes head)) (Entry (c.block / 2048) NEXT) head (next_there (at_point (at.Links head) e)) tt
-  may_at (at.Pushes head) e = may_exchange w.memory (push_told c) c.table_word head c.block (list_there (at_point (at.Pushes head) e).on) (λ a found. tt) (λ a found. tt)
+  may_at (at.Pushes head) e = may_exchange w.memory (after_push c) c.table_word head c.block (list_there (at_point (at.Pushes head) e).on) (λ a found. tt) (λ a found. tt)
   may_at at.Over e = tt
 
   pub defers_may : May Can Took value_at w.memory (defer_plan c)

@@ -163,7 +163,7 @@ module _ {T : Type 0} where
   slot_read_of c block left pushed (Taken x) = refl
   slot_read_of c block left pushed (Roomed r) = refl
 
-  push_told_of : (c : Settle) (block left pushed slot : ℕ) (out : Out T) → AllOf c.batch_size (plans.push_told c block left pushed slot out)
+  push_told_of : (c : Settle) (block left pushed slot : ℕ) (out : Out T) → AllOf c.batch_size (plans.after_push c block left pushed slot out)
   push_told_of c block left pushed slot (Found w) = refl
   push_told_of c block left pushed slot Stored = refl
   push_told_of c block left pushed slot (Exchanged (Ok w)) = refl

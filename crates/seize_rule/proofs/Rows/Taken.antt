@@ -72,7 +72,7 @@ module _ {T : Type 0} (defers : T → Option ℕ) (mem mem2 : Mem T) (c : Settle
 
   pushes_silent : (block left pushed slot head : ℕ) → Steps Took value_at mem (plans.pushes c block left pushed slot head) mem2 end → IsSilent end.1
   pushes_silent block left pushed slot head st =
-      elim (exchanged mem (plans.push_told c block left pushed slot) (Slot slot HEAD) head block mem2 end st) as (λ _. IsSilent end.1) [
+      elim (exchanged mem (plans.after_push c block left pushed slot) (Slot slot HEAD) head block mem2 end st) as (λ _. IsSilent end.1) [
         | inl d ↦ goes _ d.3
         | inr d ↦ either (value_at mem) (plans.needs_none c d.0) _ _ (goes _) (goes _) d.3
       ]

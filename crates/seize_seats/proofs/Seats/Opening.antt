@@ -17,7 +17,7 @@ use denote.RawPtr.{Ptr, null_ptr, block_of, count_of}
 use denote.Steps.{nothing}
 use Rattle.core.specs.Sync.RawAtomic.{word}
 use Rattle.seize_words.specs.declared.block.Block.{Block}
-use Rattle.seize_seats.specs.Seats.Errands.{Sight}
+use Rattle.seize_seats.specs.Seats.Errands.{ViewCode}
 use Rattle.seize_seats.specs.Seats.State.{State, Starts}
 use Rattle.seize_seats.specs.Seats.Cells.{Body, Cell, Free, Claimed, Out, Has, Held, block_in, cell_at, sign_of}
 use Rattle.seize_seats.specs.Seats.Lines.{Parts, column, long, whole, memory_of, AreLaid}
@@ -267,7 +267,7 @@ zeros_are zero m ws l none = fives_are m ws (omega (arith, l)) none
 zeros_are (suc n) m [] l none = absurd (omega (arith, l))
 zeros_are (suc n) m (a ∷ ws) l none = let first : a ≡ 0 = none 0 in let rest = zeros_are n m ws (omega (arith, l)) (λ k. none (suc k)) in cc (first, rest)
 
-module _ {M : Type 1} {𝓤 : Ura M} (𝓛 : Logic 𝓤) (R : RattleType) (own : Pieces R.Denot) {V W : Type 0} (cv : Sight V) (holds : State R.Denot V W → Type 0) (p pv dp : Ptr) where
+module _ {M : Type 1} {𝓤 : Ura M} (𝓛 : Logic 𝓤) (R : RattleType) (own : Pieces R.Denot) {V W : Type 0} (cv : ViewCode V) (holds : State R.Denot V W → Type 0) (p pv dp : Ptr) where
   open 𝓛 use {H, A}
 
   abbrev ⟦◌⟧ : Fml → SProp 𝓤

@@ -15,7 +15,7 @@ use denote.RawPtr.{Ptr, block_of, count_of}
 use denote.Shares.{Shares}
 use denote.Steps.{nothing}
 use Rattle.core.specs.contracts.option.Option.{the_row as OptionOf}
-use Rattle.seize_seats.specs.Seats.Errands.{Sight, Away, AreAllBack}
+use Rattle.seize_seats.specs.Seats.Errands.{ViewCode, Away, AreAllBack}
 use Rattle.seize_seats.specs.Seats.State.{State}
 use Rattle.seize_seats.specs.Seats.Cells.{Body, Cell, Free, Claimed, Out, Has as Hold, Held}
 use Rattle.seize_seats.specs.Seats.Seen.{seen}
@@ -32,7 +32,7 @@ use Rattle.seize_seats.proofs.Seats.Opening as Opening
 abbrev pub WasFound : {T V W : Type 0} → (V → Away) → (State T V W → Type 0) → (List V → Type 0) → State T V W → Type 0
 WasFound away holds Knows s = holds s × AreAllBack away s.views × Knows s.views
 
-module _ {M : Type 1} {𝓤 : Ura M} (𝓛 : Logic 𝓤) (R : RattleType) (own : Pieces R.Denot) {V W V' W' : Type 0} (cv : Sight V) (cv' : Sight V') (holds : State R.Denot V W → Type 0) (after : State R.Denot V W → State R.Denot V' W' → Type 0) (p : Ptr) (z : BaseId) where
+module _ {M : Type 1} {𝓤 : Ura M} (𝓛 : Logic 𝓤) (R : RattleType) (own : Pieces R.Denot) {V W V' W' : Type 0} (cv : ViewCode V) (cv' : ViewCode V') (holds : State R.Denot V W → Type 0) (after : State R.Denot V W → State R.Denot V' W' → Type 0) (p : Ptr) (z : BaseId) where
   open 𝓛 use {H, A}
 
   abbrev Pr : Type 2
@@ -223,7 +223,7 @@ module _ {M : Type 1} {𝓤 : Ura M} (𝓛 : Logic 𝓤) (R : RattleType) (own :
   pub shows_nothing : (d : V) (vs : List V) → ⟦ sitting α cv z.views_name d vs ⟧ ∗ ⟦ ftrue ⟧ ⊢ guard 𝓤 (Unit {0}) (⟦ sitting α cv z.views_name d vs ⟧ ∗ ⟦ ftrue ⟧)
   shows_nothing d vs = qed 𝓛 (‵ (sitting α cv z.views_name d vs) ∷ ‵ ftrue ∷ []) ∵ check ! tt $ done !
 
-module _ {M : Type 1} {𝓤 : Ura M} (𝓛 : Logic 𝓤) (R : RattleType) (own : Pieces R.Denot) {V W : Type 0} (cv : Sight V) (holds : State R.Denot V W → Type 0) (after : State R.Denot V W → State R.Denot V W → Type 0) (p : Ptr) (z : BaseId) where
+module _ {M : Type 1} {𝓤 : Ura M} (𝓛 : Logic 𝓤) (R : RattleType) (own : Pieces R.Denot) {V W : Type 0} (cv : ViewCode V) (holds : State R.Denot V W → Type 0) (after : State R.Denot V W → State R.Denot V W → Type 0) (p : Ptr) (z : BaseId) where
   open 𝓛 use {H, A}
 
   abbrev Knows : List V → Type 0

@@ -83,16 +83,16 @@ abbrev pub away_coded : Coded Away
 away_coded = coded_via (coded_list (coded× coded_share (coded_list (coded_option (coded× coded_ℕ (coded× itself coded_share)))))) parts_left parts_left_inj
 
 -- How what a seat knows is kept, and what of it tells whether the seat is on an errand.
-pub record Sight (V : Type 0) : Type 0 where
+pub record ViewCode (V : Type 0) : Type 0 where
   pub code : V → Gv
   pub inj : (x y : V) → code x ≡ code y → x ≡ y
   pub away : V → Away
 
-abbrev pub coded_of : {V : Type 0} → Sight V → Coded V
+abbrev pub coded_of : {V : Type 0} → ViewCode V → Coded V
 coded_of c = record { code = c.code; inj = c.inj }
 
 -- of what a seat knows beside it
-abbrev pub with_away : {V : Type 0} → Coded V → Sight (V × Away)
+abbrev pub with_away : {V : Type 0} → Coded V → ViewCode (V × Away)
 with_away c = record { code = (coded× c away_coded).code; inj = (coded× c away_coded).inj; away = λ u. u.1 }
 
 -- what is left of the view of a seat that is lent, in a ledger of this name

@@ -13,7 +13,7 @@ use Rattle.core.specs.contracts.option.Option.{the_row as OptionOf}
 use Rattle.seize_words.specs.OneMemory.Mem.{value_at}
 use Rattle.seize_seats.specs.Seats.State.{State, view_of}
 use Rattle.seize_seats.specs.Seats.Seen.{fact, itself, seen, number_share_coded}
-use Rattle.seize_seats.specs.Seats.Stretches.{stretch_told}
+use Rattle.seize_seats.specs.Seats.Stretches.{stretch_shared}
 
 -- A lending begins with a part of the stretch's token in place of what is due, and lasts once the right to the part of the value's token is there.
 pub data Phase : Type 0 where
@@ -74,17 +74,17 @@ Left q [] r = q ≡ r
 Left q (l ∷ ls) r = (q' : Share) × Left q ls q' × (q' ∈ Share.op l.part r)
 
 -- as long as the seat has this view the block is there
-abbrev pub Shown : {T V W : Type 0} → (State T V W → Type 0) → ℕ → V → ℕ → Type 0
-Shown {T} {V} {W} holds id v b = (t : State T V W) → holds t → view_of t id ≡ Some v → IsSome (value_at t.memory b)
+abbrev pub VisibleTo : {T V W : Type 0} → (State T V W → Type 0) → ℕ → V → ℕ → Type 0
+VisibleTo {T} {V} {W} holds id v b = (t : State T V W) → holds t → view_of t id ≡ Some v → IsSome (value_at t.memory b)
 
 -- as long as the one seat has this view and the other one that
-abbrev pub ShownToBoth : {T V W : Type 0} → (State T V W → Type 0) → ℕ → V → ℕ → V → ℕ → Type 0
-ShownToBoth {T} {V} {W} holds i v j u b =
+abbrev pub VisibleToBoth : {T V W : Type 0} → (State T V W → Type 0) → ℕ → V → ℕ → V → ℕ → Type 0
+VisibleToBoth {T} {V} {W} holds i v j u b =
     (t : State T V W) → holds t → view_of t i ≡ Some v → view_of t j ≡ Some u → IsSome (value_at t.memory b)
 
 -- as long as three have these
-abbrev pub ShownToAll : {T V W : Type 0} → (State T V W → Type 0) → ℕ → V → ℕ → V → ℕ → V → ℕ → Type 0
-ShownToAll {T} {V} {W} holds i v j u k o b =
+abbrev pub VisibleToThree : {T V W : Type 0} → (State T V W → Type 0) → ℕ → V → ℕ → V → ℕ → V → ℕ → Type 0
+VisibleToThree {T} {V} {W} holds i v j u k o b =
     (t : State T V W) → holds t → view_of t i ≡ Some v → view_of t j ≡ Some u → view_of t k ≡ Some o → IsSome (value_at t.memory b)
 
 -- the witness, if there is one, is among these views
@@ -98,15 +98,15 @@ IsAside id None = Unit {0}
 IsAside id (Some w) = w.0 ≢ id
 
 -- as long as the one seat has this view and the other one that, by what the witness says
-abbrev pub ShownBy : {T V W : Type 0} → (State T V W → Type 0) → ℕ → V → ℕ → V → Witness V → ℕ → Type 0
-ShownBy {T} {V} {W} holds i v j u x b =
+abbrev pub VisibleByWitness : {T V W : Type 0} → (State T V W → Type 0) → ℕ → V → ℕ → V → Witness V → ℕ → Type 0
+VisibleByWitness {T} {V} {W} holds i v j u x b =
     (t : State T V W) → holds t → view_of t i ≡ Some v → view_of t j ≡ Some u → Bears t.views x → IsSome (value_at t.memory b)
 
 -- as long as the seat has this view no other ones have views that show the block, by whichever witness
 abbrev pub Alone : {T V W : Type 0} → (State T V W → Type 0) → ℕ → V → ℕ → Type 0
 Alone {T} {V} {W} holds id v b =
     (t : State T V W) (i : ℕ) (w : V) (j : ℕ) (u : V) (x : Witness V) → holds t → view_of t id ≡ Some v → i ≢ id → j ≢ id → IsAside id x
-    → view_of t i ≡ Some w → view_of t j ≡ Some u → Bears t.views x → ShownBy holds i w j u x b → ⊥
+    → view_of t i ≡ Some w → view_of t j ≡ Some u → Bears t.views x → VisibleByWitness holds i w j u x b → ⊥
 
 -- it is the value of the block in a state in which the seat has this view
 abbrev pub IsValueOf : {T V W : Type 0} → (State T V W → Type 0) → ℕ → V → ℕ → T → Type 0
@@ -130,7 +130,7 @@ module _ (R : RattleType) (α : Lft) {V W : Type 0} (c : V → Gv) (γ : ℕ) (h
   -- both views show the block, by what the witness says, and the seats are two, or one with one view
   abbrev pub AreShown : ℕ → Holder V → Holder V → Witness V → Type 0
   AreShown i g o x =
-      ShownBy holds g.seat g.view o.seat o.view x (suc i) × ((g.seat ≢ o.seat) ⊎ ((g.seat ≡ o.seat) × (g.view ≡ o.view)))
+      VisibleByWitness holds g.seat g.view o.seat o.view x (suc i) × ((g.seat ≢ o.seat) ⊎ ((g.seat ≡ o.seat) × (g.view ≡ o.view)))
 
   -- what the witness has of its view, which stays as it is
   abbrev pub witnessed : Witness V → Fml
@@ -138,7 +138,7 @@ module _ (R : RattleType) (α : Lft) {V W : Type 0} (c : V → Gv) (γ : ℕ) (h
   witnessed (Some w) = seen c γ three_quarters w.0 w.1
 
   abbrev pub told : Holder V → Fml
-  told h = stretch_told c γ h.seat h.view h.stretch h.mark
+  told h = stretch_shared c γ h.seat h.view h.stretch h.mark
 
   -- what stands with the block of one lending: whose it is, and that the seats' views show the block as long as their stretches last
   abbrev pub lending : ℕ → ℕ → Lending V → Fml

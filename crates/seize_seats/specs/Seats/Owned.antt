@@ -17,7 +17,7 @@ use Rattle.core.specs.Sync.RawAtomic.{word}
 pub use Rattle.seize_seats.specs.Seats.Seen.{fact, itself, shared_view, seen, number_share_coded}
 use Rattle.seize_seats.specs.Seats.Lendings.{lendable, in_hand}
 use Rattle.seize_seats.specs.Seats.State.{State}
-use Rattle.seize_seats.specs.Seats.Errands.{Sight, stakes}
+use Rattle.seize_seats.specs.Seats.Errands.{ViewCode, stakes}
 use Rattle.seize_seats.specs.Seats.Stretches.{IsEven, invariant}
 use Rattle.seize_seats.specs.Seats.Cells.{Body, Cell, Free, Claimed, Out, Has, Held, sign_of}
 use Rattle.seize_seats.specs.Seats.Lines.{Parts, long, place_of, memory_of, AreLaid}
@@ -82,7 +82,7 @@ abbrev pub bucket_pieces : Pieces Strip
 bucket_pieces = pieces_at (λ s. s.words) (λ s. s.size * 16)
 
 -- of seats that may be on errands: α: the lifetime of the memory
-abbrev pub sitting : {V : Type 0} → Lft → Sight V → ℕ → V → List V → Fml
+abbrev pub sitting : {V : Type 0} → Lft → ViewCode V → ℕ → V → List V → Fml
 sitting α c γ blank vs = fsep (ledger c.code γ blank vs) (stakes α γ c.away vs)
 
 -- Who has a number: 0, or 1 where a call has its place in its hand, or two more than the name under which it is noted whose call has its value in the hand. The
@@ -347,7 +347,7 @@ abbrev pub IsPlaced : RattleType → Ptr → BaseId → Type 0
 IsPlaced R p z = InBlock p × ((z.skip + z.size * 5) * 8 < 2 ^ 63) × InBlock z.values × (z.size * stride R < 2 ^ 63) × InBlock z.doors
 
 -- the invariant, where this is known of the list of the strips
-module _ (R : RattleType) (own : Pieces R.Denot) {V W : Type 0} (c : Sight V) (holds : State R.Denot V W → Type 0) (k : Core) (Known : List Strip → Type 0) where
+module _ (R : RattleType) (own : Pieces R.Denot) {V W : Type 0} (c : ViewCode V) (holds : State R.Denot V W → Type 0) (k : Core) (Known : List Strip → Type 0) where
   -- the own words of a block, and its value, at a place
   abbrev pub lent_in : ℕ → Body R.Denot → ℕ → ℕ → Fml
   lent_in i x b o = fsep (piece own x) (lendable R (k.atom ∷ []) c.code k.views_name holds i x.0 b o)
@@ -369,28 +369,28 @@ abbrev pub IsListed : Ptr → BaseId → List Strip → Type 0
 IsListed p z ss = slice_get ss z.place ≡ Some (strip_of p z)
 
 -- that a bucket is there, if it isn't the first
-abbrev pub bucket_told : ℕ → ℕ → Strip → Fml
-bucket_told σ zero s = ftrue
-bucket_told σ (suc k) s = fsep (fact (IsBucket k s)) (stays σ (suc k) s)
+abbrev pub bucket_known : ℕ → ℕ → Strip → Fml
+bucket_known σ zero s = ftrue
+bucket_known σ (suc k) s = fsep (fact (IsBucket k s)) (stays σ (suc k) s)
 
 -- and stays so: a share of its place in the list, which can be cut again and again; with what is known of a bucket of slots
 abbrev pub is_listed : Ptr → BaseId → Fml
-is_listed p z = fsep (stays z.strips_name z.place (strip_of p z)) (bucket_told z.slots_name z.bucket z.slots)
+is_listed p z = fsep (stays z.strips_name z.place (strip_of p z)) (bucket_known z.slots_name z.bucket z.slots)
 
 -- what shows that a strip is one of a memory's
 abbrev pub strip_there : RattleType → Ptr → BaseId → Fml
 strip_there R p z = fsep (fact (IsPlaced R p z)) (is_listed p z)
 
 -- where there is an address
-abbrev pub strip_told : RattleType → Ptr → BaseId → Fml
-strip_told R null_ptr z = ftrue
-strip_told R (block_ptr b o) z = strip_there R (block_ptr b o) z
+abbrev pub strip_known : RattleType → Ptr → BaseId → Fml
+strip_known R null_ptr z = ftrue
+strip_known R (block_ptr b o) z = strip_there R (block_ptr b o) z
 
 -- what is told to all, and nothing that it keeps for itself
 abbrev pub strip_owns : RattleType → Ptr → BaseId → Fml
-strip_owns R p z = fsep (strip_told R p z) ftrue
+strip_owns R p z = fsep (strip_known R p z) ftrue
 
-module _ (R : RattleType) (own : Pieces R.Denot) {V W : Type 0} (c : Sight V) (holds : State R.Denot V W → Type 0) where
+module _ (R : RattleType) (own : Pieces R.Denot) {V W : Type 0} (c : ViewCode V) (holds : State R.Denot V W → Type 0) where
   -- the invariant itself
   abbrev pub everything : Core → Fml
   everything k = inner_in R own c holds k (λ _. Unit {0})

@@ -46,13 +46,13 @@ module _ {T V W : Type 0} where
   -- owns lasts.
   module _ (holds : State T V W → Type 0) (keeps : V → V → W → ℕ → Type 0) where
     -- what others keep stays kept
-    abbrev pub KeepsOthers : State T V W → ℕ → W → Type 0
-    KeepsOthers s id w =
+    abbrev pub PreservesKept : State T V W → ℕ → W → Type 0
+    PreservesKept s id w =
         (j k b : ℕ) (u o : V) → j ≢ id → k ≢ id → view_of s j ≡ Some u → view_of s k ≡ Some o → keeps u o s.world b → keeps u o w b
 
     -- with this memory the seat has a view, and there is a world, by which the rule holds again
     abbrev pub Goes : State T V W → Mem T → ℕ → (V → Type 0) → Type 0
-    Goes s m id so = (v : V) × (w : W) × holds (after s m id v w) × KeepsOthers s id w × so v
+    Goes s m id so = (v : V) × (w : W) × holds (after s m id v w) × PreservesKept s id w × so v
 
     -- Whatever the state is, the seat may make the operation, and whatever it answers the rule holds again.
     abbrev pub Allows : ℕ → V → Op T → (Out T → V → Type 0) → Type 0
@@ -72,8 +72,8 @@ module _ {T V W : Type 0} where
     Learns i v j u so = (s : State T V W) → holds s → view_of s i ≡ Some v → view_of s j ≡ Some u → i ≢ j → Goes s s.memory i so
 
     -- What three seats know shows that two of them keep the block.
-    abbrev pub ShowsKept : ℕ → V → ℕ → V → ℕ → V → ℕ → Type 0
-    ShowsKept i v j u k o b =
+    abbrev pub KeptByTwo : ℕ → V → ℕ → V → ℕ → V → ℕ → Type 0
+    KeptByTwo i v j u k o b =
         (s : State T V W) → holds s → view_of s i ≡ Some v → view_of s j ≡ Some u → view_of s k ≡ Some o → keeps u o s.world b
 
     -- What seats keep is there.

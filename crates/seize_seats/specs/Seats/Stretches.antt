@@ -47,12 +47,12 @@ module _ {V : Type 0} (c : V → Gv) (γ id : ℕ) (v : V) (σ θ : ℕ) where
   stretch = fex Bool lasting
 
   -- what may be told to all
-  abbrev pub stretch_told : Fml
-  stretch_told = invariant (IsOfSeat id) stretch
+  abbrev pub stretch_shared : Fml
+  stretch_shared = invariant (IsOfSeat id) stretch
 
   abbrev pub seat_owns : Fml
-  seat_owns = fsep (flft (σ ∷ []) full_share) (fsep (seen c γ seats_part id v) (fsep stretch_told (ticket θ 0)))
+  seat_owns = fsep (flft (σ ∷ []) full_share) (fsep (seen c γ seats_part id v) (fsep stretch_shared (ticket θ 0)))
 
   -- what a `&` to the seat shows for as long as it lasts: that the stretch does, and the view
   abbrev pub seat_shares : Lft → Fml
-  seat_shares κ = fsep (fshr_bor κ (λ q. flft (σ ∷ []) q)) (fsep (fshr_bor κ (λ q. seen c γ q id v)) stretch_told)
+  seat_shares κ = fsep (fshr_bor κ (λ q. flft (σ ∷ []) q)) (fsep (fshr_bor κ (λ q. seen c γ q id v)) stretch_shared)

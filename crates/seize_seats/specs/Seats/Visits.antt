@@ -7,7 +7,7 @@ use Rattle.seize_words.specs.OneMemory.Mem.{Mem, value_at}
 use Rattle.seize_words.specs.OneMemory.Op.{Op, Out, Load, Store, Swap, Add, Or, Exchange, Make, Take, Rewrite, Room, Found, Stored, Exchanged, Made, Taken, Roomed}
 use Rattle.seize_words.specs.declared.block.Block.{Block}
 use Rattle.seize_seats.specs.Seats.State.{State, view_of}
-use Rattle.seize_seats.specs.Seats.Lendings.{Shown}
+use Rattle.seize_seats.specs.Seats.Lendings.{VisibleTo}
 
 -- where words of a block's own lie, and how many they are
 abbrev pub Spot : Type 0
@@ -87,7 +87,7 @@ module _ {D T : Type 0} (value : D → T) where
     abbrev pub AreFound : (D → Spot) → (State T V W → Type 0) → State D (V × Visit) W → Type 0
     AreFound own holds s =
         (id : ℕ) (u : V × Visit) (b : ℕ) (p : Spot) → view_of s id ≡ Some u → u.1.spot ≡ Some (b, p)
-        → Shown holds id u.0 b × ((x : D) → value_at s.memory b ≡ Some x → own x ≡ p)
+        → VisibleTo holds id u.0 b × ((x : D) → value_at s.memory b ≡ Some x → own x ≡ p)
 
     -- what holds between any two steps, where a rule does
     abbrev pub HoldsKept : (D → Spot) → (State T V W → Type 0) → State D (V × Visit) W → Type 0

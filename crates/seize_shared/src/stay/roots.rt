@@ -281,7 +281,7 @@ impl<'a, T: Defers + Drop> Stay<'a, T> {
     }
 
     /// Retires a block that another caller has unlinked, who has no slot, whether a section is open or not. What was seen before is not known any more.
-    pub(crate) fn takes_over<'b>(&mut self, bearer: &mut Caller<'b, T>, block: u64)
+    pub fn takes_over<'b>(&mut self, bearer: &mut Caller<'b, T>, block: u64)
         requires home { bearer.old.blocks.now.words.id.views_name ≡ self.old.caller.blocks.now.words.id.views_name }
         requires bears { borne_by bearer.old.seat.view.knows ≡ Some block }
         requires fits { block < 2 ^ 53 }
@@ -305,7 +305,7 @@ impl<'a, T: Defers + Drop> Stay<'a, T> {
     }
 
     /// A seat begins to watch the section that is open.
-    pub(crate) fn admits(&mut self, seat: &mut Seat<T, OfRows>)
+    pub fn admits(&mut self, seat: &mut Seat<T, OfRows>)
         requires own { seat.old.base ≡ self.old.caller.blocks.now.words.id.views_name }
         requires rests { seat.old.view.knows ≡ Rests }
         requires inside { self.old.inside ≡ true }
@@ -322,7 +322,7 @@ impl<'a, T: Defers + Drop> Stay<'a, T> {
     }
 
     /// A seat watches it no longer.
-    pub(crate) fn excuses(&mut self, seat: &mut Seat<T, OfRows>)
+    pub fn excuses(&mut self, seat: &mut Seat<T, OfRows>)
         requires own { seat.old.base ≡ self.old.caller.blocks.now.words.id.views_name }
         requires watches { (block : ℕ) × (seat.old.view.knows ≡ Watches self.old.slot block) }
         requires inside { self.old.inside ≡ true }

@@ -6,9 +6,9 @@ use Rattle.seize_words.specs.OneMemory.Mem.{Mem, Took, block_of, value_in, value
 use Rattle.seize_words.specs.OneMemory.Op.{Out, Make, Take, Rewrite, Found, Stored, Exchanged, Made, Taken, Roomed}
 use Rattle.seize_words.specs.declared.block.Block.{Block}
 use Rattle.seize_words.proofs.OneMemory.OneOwner.AfterWrites.{block_of-with_block, block_of-made}
-use Rattle.seize_seats.specs.Seats.State.{State, Goes, Allows, Owns, ShowsKept, AreThere, Comes, view_of}
+use Rattle.seize_seats.specs.Seats.State.{State, Goes, Allows, Owns, KeptByTwo, AreThere, Comes, view_of}
 use Rattle.seize_seats.specs.Seats.State as State
-use Rattle.seize_seats.specs.Seats.Lendings.{Shown, ShownToBoth}
+use Rattle.seize_seats.specs.Seats.Lendings.{VisibleTo, VisibleToBoth}
 use Rattle.seize_tests.specs.BlocksTests.Theirs.{Own, has as has_block, keeps_own, AreTheirs, tells}
 
 module _ {A : Type 0} where
@@ -198,13 +198,13 @@ rewrites id n x y v is s has at = (subst IsSome (sym there) refl, λ out m took.
     told (Roomed r) m took = absurd took.0
 
 -- as long as a seat has a block it is there, and what is seen is the value that the seat has
-pub shows : (id n x : ℕ) (v : Own) → v ≡ Some (n, x) → Shown AreTheirs id v n
+pub shows : (id n x : ℕ) (v : Own) → v ≡ Some (n, x) → VisibleTo AreTheirs id v n
 shows id n x v is s has at = subst IsSome (sym (has.there id n x (at ∙ ap Some is))) refl
 
-pub shows_to_both : (i : ℕ) (w : Own) (id n x : ℕ) (v : Own) → v ≡ Some (n, x) → ShownToBoth AreTheirs i w id v n
+pub shows_to_both : (i : ℕ) (w : Own) (id n x : ℕ) (v : Own) → v ≡ Some (n, x) → VisibleToBoth AreTheirs i w id v n
 shows_to_both i w id n x v is s has _ at = shows id n x v is s has at
 
-pub shows_kept : (i : ℕ) (w : Own) (j : ℕ) (u : Own) (id n x : ℕ) (v : Own) → v ≡ Some (n, x) → ShowsKept AreTheirs keeps_own i w j u id v n
+pub shows_kept : (i : ℕ) (w : Own) (j : ℕ) (u : Own) (id n x : ℕ) (v : Own) → v ≡ Some (n, x) → KeptByTwo AreTheirs keeps_own i w j u id v n
 shows_kept i w j u id n x v e s so at_i at_j at = subst (λ (o : Own). has_block o n) (sym e) refl
 
 pub are_there : AreThere AreTheirs keeps_own

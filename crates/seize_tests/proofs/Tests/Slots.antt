@@ -5,7 +5,7 @@ use Rattle.seize_words.specs.declared.fault.Fault.{Fault}
 use Rattle.seize_words.specs.OneMemory.Mem.{Mem, Took}
 use Rattle.seize_words.specs.OneMemory.Op.{Make, Made}
 use Rattle.seize.specs.World.{Use, Inside, Cutting, IsTaken, HasListWord}
-use Rattle.seize_model.specs.Alone.Alone.{History, IsHistory, SlotsAre, TellsSlot, nothing_yet, registered, made, linked, unlinked}
+use Rattle.seize_model.specs.Alone.Alone.{History, IsHistory, SlotsAre, RegisteringAnswers, nothing_yet, registered, made, linked, unlinked}
 use Rattle.seize_model.proofs.Given.SeizeRuleRows.Others.{with_here}
 use Rattle.seize_model.proofs.Alone.Histories.Users.{made_history, linked_history, unlinked_history, start_history}
 use Rattle.seize_tests.specs.Tests.Section.{IsInside}
@@ -17,7 +17,7 @@ module _ {T : Type 0} (defers : T → Option ℕ) (size roots : ℕ) where
   started m e = subst (λ (n : Mem T). IsHistory defers size roots n nothing_yet) (sym e) (start_history defers size roots)
 
   -- something has happened, whatever registering tells
-  pub told_still : (m : Mem T) (enters : Bool) (h : History) (told : Result ℕ Fault) → TellsSlot defers size roots m enters h told
+  pub told_still : (m : Mem T) (enters : Bool) (h : History) (told : Result ℕ Fault) → RegisteringAnswers defers size roots m enters h told
       → (h2 : History) × IsHistory defers size roots m h2
   told_still m enters h (Ok s) t = (registered enters s h, t.1)
   told_still m enters h (Err fault) t = (h, t.1)

@@ -2,10 +2,10 @@
 use Rattle.std.specs.Prelude.{Option, Some}
 use Rattle.std.proofs.Common.{◌≡◌, ℕ, inl, inr, refl, sym, subst, ap, ◌∙◌}
 use Rattle.seize_words.specs.OneMemory.Op.{Op}
-use Rattle.seize_seats.specs.Seats.Lendings.{Shown, IsValueOf}
+use Rattle.seize_seats.specs.Seats.Lendings.{VisibleTo, IsValueOf}
 use Rattle.seize_views.specs.Views.Begun.{left_with}
-use Rattle.seize_views.specs.Views.Content.{SeatsComeIn, RowsGoOnIn, RowsTurnIn, SettlingsBeginIn, LookedAreShownIn, RowsAreTold}
-use Rattle.seize_views.specs.Views.Notes.{noted, newcomer, NotedHolds, NotedKeeps, noted_told}
+use Rattle.seize_views.specs.Views.Content.{SeatsComeIn, RowsContinueIn, RowsTurnIn, SettlingsBeginIn, LookedAreShownIn, RowsAreObserved}
+use Rattle.seize_views.specs.Views.Notes.{noted, newcomer, NotedHolds, NotedKeeps, noted_observed}
 use Rattle.seize_views.specs.Views.Promises.{op_of, IsNext, IsFree}
 use Rattle.seize_views.specs.Views.Rows.{Holds}
 use Rattle.seize_views.specs.Views.Watched.{Leans, IsOwn}
@@ -79,10 +79,10 @@ module _ (T : Type 0) (defers : T → Option ℕ) where
   pub seats_come_in : SeatsComeIn (NotedHolds defers) NotedKeeps whole none (λ _. newcomer)
   seats_come_in fixed = (comings_are_noted T defers fixed, refl)
 
-  pub rows_go_on_in : RowsGoOnIn (NotedHolds defers) NotedKeeps whole none defers (noted_told defers)
+  pub rows_go_on_in : RowsContinueIn (NotedHolds defers) NotedKeeps whole none defers (noted_observed defers)
   rows_go_on_in fixed id v op is = steps_are_noted T defers fixed id v op (own_by_op defers v.knows op is) (rows_go_on T defers fixed id v.knows op is)
 
-  pub rows_are_told : RowsAreTold whole none defers (noted_told defers)
+  pub rows_are_told : RowsAreObserved whole none defers (noted_observed defers)
   rows_are_told v w op out is told = (told, refl)
 
   pub rows_turn_in : RowsTurnIn (NotedHolds defers) NotedKeeps whole none Leans
@@ -99,6 +99,6 @@ module _ (T : Type 0) (defers : T → Option ℕ) where
   pub looked_are_shown_in : LookedAreShownIn (NotedHolds defers) NotedKeeps whole none
   looked_are_shown_in fixed id v c why b left x is =
       let k = looked_are_shown T defers fixed id c why b left x in let n = looks_are_noted T defers fixed id v b in (
-        n.0 (subst (λ (y : SlotView T). Shown (Holds defers fixed) id y b) (sym is) k.0),
+        n.0 (subst (λ (y : SlotView T). VisibleTo (Holds defers fixed) id y b) (sym is) k.0),
         λ y of. k.1 y (subst (λ (z : SlotView T). IsValueOf (Holds defers fixed) id z b y) is (n.1 y of)),
       )

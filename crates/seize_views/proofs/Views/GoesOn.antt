@@ -7,7 +7,7 @@ use Rattle.seize.specs.declared.states.TheConstants.{HEAD, FREE, ACTIVE}
 use Rattle.seize.specs.World.{World, Use}
 use Rattle.seize_views.specs.Views.Rows.{head_of}
 use Rattle.seize_views.specs.Views.Told.{told}
-use Rattle.seize_views.specs.Views.Promises.{op_of, RowsGoOn}
+use Rattle.seize_views.specs.Views.Promises.{op_of, RowsContinue}
 use Rattle.seize_views.specs.declared.view.SlotView.{SlotView}
 use Rattle.seize_views.specs.declared.view.SlotView.TheVariants.{Rests, Registers, Outside, Owes, Enters, Inside, Settles, Leaves, Left, Frees, Brings, Bears, Watches, Under, Busy}
 use Rattle.seize_views.specs.declared.view.Fixed.{Fixed}
@@ -42,6 +42,6 @@ module _ {T : Type 0} (defers : T → Option ℕ) (fixed : Fixed) (Is : Use → 
   goes_on (Frees t) op h e = subst (May (Frees t)) (same_some (Store (Slot t HEAD) FREE) op e) (frees defers fixed Is like w i t h)
 
 module _ (T : Type 0) (defers : T → Option ℕ) where
-  pub rows_go_on : RowsGoOn T defers
+  pub rows_go_on : RowsContinue T defers
   rows_go_on fixed id v op e s h at_id =
       makes defers fixed s id v h at_id op (told defers v op) (goes_on defers fixed IsJustSo just_so s.world id v op (has_row defers fixed s id v h at_id) e)

@@ -11,11 +11,11 @@ use Rattle.seize.specs.World.{World}
 use Rattle.seize.specs.World as world
 use Rattle.seize_acts.proofs.Given.SeizeAloneHistories.NotTaken.{IsHeld, kept_there}
 use Rattle.seize_seats.specs.Seats.State.{State, view_of, Allows}
-use Rattle.seize_seats.specs.Seats.Lendings.{Shown}
+use Rattle.seize_seats.specs.Seats.Lendings.{VisibleTo}
 use Rattle.seize_views.specs.Views.Rows.{Leads, RootsNameLinked, Holds, row_of, use_of, hand_of, IsShort, IsKnown, IsBounded}
 use Rattle.seize_views.specs.Views.Told.{told}
 use Rattle.seize_views.specs.Views.Watched.{one, open_at, is_watching, LeansOn, watchers, watching, known_by}
-use Rattle.seize_views.specs.Views.Notes.{noted, as_known, deed, NotedHolds, NotedKeeps, noted_told, Begins, Ends, WatchesBegin, WatchesEnd, WatchersSee, WatchedAreShown}
+use Rattle.seize_views.specs.Views.Notes.{noted, as_known, deed, NotedHolds, NotedKeeps, noted_observed, Begins, Ends, WatchesBegin, WatchesEnd, WatchersSee, WatchedAreShown}
 use Rattle.seize_views.specs.declared.view.Noted.{Noted}
 use Rattle.seize_views.specs.declared.view.Began.{Began}
 use Rattle.seize_views.specs.declared.view.Deed.{Deed}
@@ -156,7 +156,7 @@ module _ {T : Type 0} (defers : T → Option ℕ) (fixed : Fixed) where
     seen_held s h at (Taken y) m took u is x c e some = absurd is
     seen_held s h at (Roomed y) m took u is x c e some = absurd is
 
-    may_see : r < fixed.roots → Allows N NotedKeeps id me load (noted_told defers me load)
+    may_see : r < fixed.roots → Allows N NotedKeeps id me load (noted_observed defers me load)
     may_see lt s h at =
         let here = seen_at defers fixed s id me at in (
           root_can defers fixed (as_known s) id (Watches t b) h.0 here r lt,
@@ -171,7 +171,7 @@ module _ {T : Type 0} (defers : T → Option ℕ) (fixed : Fixed) where
               (λ n x c e. absurd (no_leaning out g.0 g.5 n (subst (λ (y : SlotView T). LeansOn y n) (sym e) refl))) (inr (inl refl)),
         )
 
-  watched_shown : (id t b : ℕ) (v : Noted T) → v.knows ≡ Watches t b → b ≢ 0 → Shown N id v b
+  watched_shown : (id t b : ℕ) (v : Noted T) → v.knows ≡ Watches t b → b ≢ 0 → VisibleTo N id v b
   watched_shown id t b v is some s h at =
       let held = h.1.held id t b (seen_at defers fixed s id v at ∙ ap Some is) some in
       subst (λ (m : Mem T). IsSome (value_at m b)) (sym h.0.memory)
@@ -256,7 +256,7 @@ module _ (T : Type 0) (defers : T → Option ℕ) where
   pub watchers_see : WatchersSee T defers
   watchers_see fixed id t b r v is lt =
       subst (λ (x : SlotView T). Allows (NotedHolds defers fixed) NotedKeeps id (noted x v.did v.began v.guards) (Load (Root r))
-      (noted_told defers (noted x v.did v.began v.guards) (Load (Root r)))) (sym is)
+      (noted_observed defers (noted x v.did v.began v.guards) (Load (Root r)))) (sym is)
       (may_see defers fixed id t b r v.did v.began v.guards lt)
 
   pub watched_are_shown : WatchedAreShown T defers

@@ -16,7 +16,7 @@ use Rattle.seize.specs.Settle as settle
 use Rattle.seize.specs.Settle.{settle_plan, plan_at, standing, drained_first}
 use Rattle.seize.specs.World.{World}
 use Rattle.seize_seats.specs.Seats.State.{State, view_of}
-use Rattle.seize_seats.specs.Seats.Lendings.{Shown}
+use Rattle.seize_seats.specs.Seats.Lendings.{VisibleTo}
 use Rattle.seize_views.specs.Views.Promises.{LookedAreShown}
 use Rattle.seize_views.specs.Views.Rows.{IsReclaiming, IsLooked, Holds}
 use Rattle.seize_views.specs.Views.Told.{shown_by}
@@ -112,9 +112,9 @@ module _ {T : Type 0} (defers : T → Option ℕ) (c : Settle) where
   none_seen (at.Reads block left pushed) ne out = found (settle.slot_read c block left pushed) (λ w. tt) tt (λ x. tt) (λ r. tt) (λ r. tt) (λ r. tt) out
   none_seen (at.Links block left pushed slot head) ne out = tt
   none_seen (at.Pushes block left pushed slot head) ne out =
-      found (settle.push_told c block left pushed slot) (λ w. tt) tt (λ x. tt) (λ r. by r) (λ r. tt) (λ r. tt) out
+      found (settle.after_push c block left pushed slot) (λ w. tt) tt (λ x. tt) (λ r. by r) (λ r. tt) (λ r. tt) out
     where
-      by : (r : Result ℕ ℕ) → IsNow (settle.push_told {T = T} c block left pushed slot (Exchanged r))
+      by : (r : Result ℕ ℕ) → IsNow (settle.after_push {T = T} c block left pushed slot (Exchanged r))
       by (Ok x) = tt
       by (Err x) = either (settle.needs_none c x) _ _ tt tt
   none_seen (at.Pushed block left pushed) ne out = found (settle.next_pushed c left pushed) (λ w. tt) tt (λ x. tt) (λ r. tt) (λ r. tt) (λ r. tt) out
@@ -202,5 +202,5 @@ module _ (T : Type 0) (defers : T → Option ℕ) where
       here : (t : State T (SlotView T) (World T)) → Holds defers fixed t → view_of t id ≡ Some (Settles c why (Some (b, x)) left) → value_at t.memory b ≡ Some x
       here t h at = ap (λ (m : Mem T). value_at m b) h.memory ∙ (h.seats id (Settles c why (Some (b, x)) left) at).known.2
 
-      there : Shown (Holds defers fixed) id (Settles c why (Some (b, x)) left) b
+      there : VisibleTo (Holds defers fixed) id (Settles c why (Some (b, x)) left) b
       there t h at = subst IsSome (sym (here t h at)) refl

@@ -8,14 +8,14 @@ use Rattle.seize_words.specs.OneMemory.Op.{Op}
 use Rattle.seize.specs.World.{World}
 use Rattle.seize_seats.specs.Seats.Errands.{TurnsUnlent}
 use Rattle.seize_seats.specs.Seats.State.{State, view_of, Starts, Comes, Allows, Goes}
-use Rattle.seize_seats.specs.Seats.Lendings.{Shown, IsValueOf}
+use Rattle.seize_seats.specs.Seats.Lendings.{VisibleTo, IsValueOf}
 use Rattle.seize_views.specs.Views.Rows.{Leads, TurnsTo, Permits, Holds}
-use Rattle.seize_views.specs.Views.Notes.{noted, newcomer, as_known, deed, NotedHolds, NotedKeeps, noted_told, StartsAreNoted, ComingsAreNoted, StepsAreNoted, TurnsAreNoted, SettlingsAreNoted, MeetingsAreNoted, LooksAreNoted}
+use Rattle.seize_views.specs.Views.Notes.{noted, newcomer, as_known, deed, NotedHolds, NotedKeeps, noted_observed, StartsAreNoted, ComingsAreNoted, StepsAreNoted, TurnsAreNoted, SettlingsAreNoted, MeetingsAreNoted, LooksAreNoted}
 use Rattle.seize_views.specs.Views.Promises.{IsToSettle, IsTaker}
 use Rattle.seize_views.specs.Views.Watched.{one, open_at, is_watching, Leans, IsOwn, Stays, known_by, IsBase, Upholds, AreWatched}
 use Rattle.seize_views.proofs.Views.Beginnings as beginnings
 use Rattle.seize_views.proofs.Views.Beginnings.{seats_join}
-use Rattle.seize_views.specs.Views.Stays.{Still, told_still}
+use Rattle.seize_views.specs.Views.Stays.{Still, observed_still}
 use Rattle.seize_views.specs.Views.Resting.{own_leans}
 use Rattle.seize_views.proofs.Views.Leaned.{own_under}
 use Rattle.seize_views.proofs.Views.Watched.{open_inside, own_watches, own_not, steps_watched, joins_watched, Counted, meets_watched}
@@ -81,13 +81,13 @@ module _ {T : Type 0} (defers : T → Option ℕ) (fixed : Fixed) where
   own_same v u a b t = own_watches u t b ∙ sym (own_watches v t a)
 
   pub allows : (id : ℕ) (v : Noted T) (op : Op T) → IsOwn v.knows → Permits defers fixed id v.knows op (told defers v.knows op)
-      → Allows N NotedKeeps id v op (noted_told defers v op)
+      → Allows N NotedKeeps id v op (noted_observed defers v op)
   allows id v op own may s h at =
       let k = may (as_known s) h.0 (seen_at s id v at) in (
         k.0,
         λ out m took.
             let g = k.1 out m took in
-            let still : (u : SlotView T) → told defers v.knows op out u → Still v.knows u = λ u is. told_still defers v.knows op out u own is in
+            let still : (u : SlotView T) → told defers v.knows op out u → Still v.knows u = λ u is. observed_still defers v.knows op out u own is in
             goes s h m id v at (told defers v.knows op out) (deed v.knows v.did op out) v.began (λ u is. own_same v.knows u own (still u is).own)
             (λ u is. as_stays v.guards v.knows u (still u is).section) g (λ t b e some. absurd (own_not g.0 t b (still g.0 g.5).own e))
             (λ n t b e. absurd (own_under g.0 n t b (still g.0 g.5).own e)) (as_upheld s.views v.knows g.0 (still g.0 g.5).section),
@@ -133,7 +133,7 @@ module _ {T : Type 0} (defers : T → Option ℕ) (fixed : Fixed) where
       subst (both s.memory s.world (slice_set (slice_set s.views i p) j q)) (sym same)
       (known, meets_watched defers fixed s.views (as_known s) h.0 h.1 i j v u p q ne at_i at_j (seen_at s i v at_i) (seen_at s j u at_j) (seen_at s) c)
 
-  pub shown : (id : ℕ) (v : Noted T) (b : ℕ) → Shown H id v.knows b → Shown N id v b
+  pub shown : (id : ℕ) (v : Noted T) (b : ℕ) → VisibleTo H id v.knows b → VisibleTo N id v b
   shown id v b is t h at = is (as_known t) h.0 (seen_at t id v at)
 
   pub value_of : (id : ℕ) (v : Noted T) (b : ℕ) (x : T) → IsValueOf N id v b x → IsValueOf H id v.knows b x

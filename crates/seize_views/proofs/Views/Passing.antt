@@ -13,7 +13,7 @@ use Rattle.seize_seats.specs.Seats.State.{State, view_of, Allows, Goes}
 use Rattle.seize_views.specs.Views.Rows.{Leads, Holds}
 use Rattle.seize_views.specs.Views.Told.{told}
 use Rattle.seize_views.specs.Views.Watched.{open_at, is_watching, IsBase}
-use Rattle.seize_views.specs.Views.Notes.{noted, as_known, deed, NotedHolds, NotedKeeps, noted_told, SameNotes, LeaningsBegin, LeaningsSee, LeaningsMark, LeaningsEnd, LeaningsKeep, KeptAreThere}
+use Rattle.seize_views.specs.Views.Notes.{noted, as_known, deed, NotedHolds, NotedKeeps, noted_observed, SameNotes, LeaningsBegin, LeaningsSee, LeaningsMark, LeaningsEnd, LeaningsKeep, KeptAreThere}
 use Rattle.seize_views.specs.declared.view.Noted.{Noted}
 use Rattle.seize_views.specs.declared.view.Began.{Began}
 use Rattle.seize_views.specs.declared.view.Deed.{Deed}
@@ -154,7 +154,7 @@ module _ {T : Type 0} (defers : T → Option ℕ) (fixed : Fixed) where
               (ne_eqb (block_in k.0) 0 some);
         }
 
-    may_see : r < fixed.roots → Allows N NotedKeeps id me op (noted_told defers me op)
+    may_see : r < fixed.roots → Allows N NotedKeeps id me op (noted_observed defers me op)
     may_see lt s h at =
         let here = seen_at defers fixed s id me at in let base = h.1.leaned.based id n t b me at refl in (
           by.can s.memory (root_can defers fixed (as_known s) id (Under n t b) h.0 here r lt),
@@ -216,13 +216,13 @@ module _ (T : Type 0) (defers : T → Option ℕ) where
   pub leanings_see : LeaningsSee T defers
   leanings_see fixed id n t b r v is lt =
       subst (λ (x : SlotView T). Allows (NotedHolds defers fixed) NotedKeeps id (noted x v.did v.began v.guards) (Load (Root r))
-      (noted_told defers (noted x v.did v.began v.guards) (Load (Root r)))) (sym is)
+      (noted_observed defers (noted x v.did v.began v.guards) (Load (Root r)))) (sym is)
       (may_see defers fixed id n t b r (Load (Root r)) (by_load defers fixed id n t b r) v.did v.began v.guards lt)
 
   pub leanings_mark : LeaningsMark T defers
   leanings_mark fixed id n t b r bits v is small lt =
       subst (λ (x : SlotView T). Allows (NotedHolds defers fixed) NotedKeeps id (noted x v.did v.began v.guards) (Or (Root r) bits)
-      (noted_told defers (noted x v.did v.began v.guards) (Or (Root r) bits))) (sym is)
+      (noted_observed defers (noted x v.did v.began v.guards) (Or (Root r) bits))) (sym is)
       (may_see defers fixed id n t b r (Or (Root r) bits) (by_or defers fixed id n t b r bits small) v.did v.began v.guards lt)
 
   pub leanings_end : LeaningsEnd T defers

@@ -22,7 +22,7 @@ use Rattle.seize_acts.proofs.Given.SeizeRuleRows.Known.{FitsRow, FitsRegister}
 use Rattle.seize_acts.proofs.Given.SeizeRuleRows.Register.{taken_use}
 use Rattle.seize_acts.proofs.Given.SeizeAloneHistories.Reached.{Reached}
 use Rattle.seize_views.specs.Views.Rows.{hand_of, use_of, row_of, IsSeeking, IsPlain, IsShort, IsKnown, IsBounded}
-use Rattle.seize_views.specs.Views.Told.{left_by, ComesTo, told}
+use Rattle.seize_views.specs.Views.Told.{left_by, HasOutcome, told}
 use Rattle.seize_views.specs.Views.Promises.{op_in}
 use Rattle.seize_views.specs.declared.view.SlotView.TheVariants.{Registers}
 use Rattle.seize_views.specs.declared.view.Fixed.{Fixed}
@@ -121,7 +121,7 @@ module _ {T : Type 0} (defers : T → Option ℕ) (fixed : Fixed) (Is : Use → 
 
   -- a step of its plan that ends so
   goes : (op : Op T) (out : Out T) (m : Mem T) (end : Register × Advance ℕ) → Steps Took value_at w.memory (register_plan c) m end
-      → ComesTo (register_plan {T = T} c) out end → IsWell w.uses end → GoesTo defers fixed Is w i (Registers c) m (told defers (Registers c) op out)
+      → HasOutcome (register_plan {T = T} c) out end → IsWell w.uses end → GoesTo defers fixed Is w i (Registers c) m (told defers (Registers c) op out)
   goes op out m end steps comes well = (
     left_by end,
     n m end,
@@ -157,7 +157,7 @@ module _ {T : Type 0} (defers : T → Option ℕ) (fixed : Fixed) (Is : Use → 
         goes op out m end
         (subst (λ (q : Plan T (Register × Advance ℕ)). Steps Took value_at w.memory q m end) (sym plan_is)
         (out, took, ends (value_at m)))
-        (subst (λ (q : Plan T (Register × Advance ℕ)). ComesTo q out end) (sym plan_is) (w.memory, m, took, ends (value_at m))) well
+        (subst (λ (q : Plan T (Register × Advance ℕ)). HasOutcome q out end) (sym plan_is) (w.memory, m, took, ends (value_at m))) well
       where
         plan_is : register_plan {T = T} c ≡ Do op rest
         plan_is = ap (plan_at {T = T} c) stands ∙ is

@@ -2,13 +2,13 @@
 use Rattle.std.specs.Prelude.{◌≡◌, ℕ, Option, Some}
 use Rattle.seize_words.specs.OneMemory.Op.{Op, Out}
 use Rattle.seize.specs.declared.rows.settle.Settle.{Settle}
-use Rattle.seize_seats.specs.Seats.Lendings.{Shown, IsValueOf}
+use Rattle.seize_seats.specs.Seats.Lendings.{VisibleTo, IsValueOf}
 use Rattle.seize_seats.specs.Seats.State.{State, Comes, Allows}
 use Rattle.seize_seats.specs.Seats.Errands.{TurnsUnlent}
 use Rattle.seize_views.specs.Views.Begun.{IsBegun}
-use Rattle.seize_views.specs.Views.Notes.{newcomer, noted_told}
+use Rattle.seize_views.specs.Views.Notes.{newcomer, noted_observed}
 use Rattle.seize_views.specs.Views.Promises.{op_of, IsNext, IsToSettle}
-use Rattle.seize_views.specs.Views.Rows.{IsAtRest}
+use Rattle.seize_views.specs.Views.Rows.{IsQuiescent}
 use Rattle.seize_views.specs.Views.Watched.{IsOfRows, Stays}
 use Rattle.seize_views.specs.declared.view.Began.{Began}
 use Rattle.seize_views.specs.declared.view.Becomes.{Becomes}
@@ -36,8 +36,8 @@ module _ {T V W B : Type 0} (holds : Fixed → State T V W → Type 0) (keeps : 
   SeatsComeIn come = (fixed : Fixed) → Comes (holds fixed) keeps (come fixed) × (notes (come fixed) ≡ newcomer)
 
   -- the next operation of the row of a seat may be made at any moment
-  abbrev pub RowsGoOnIn : (T → Option ℕ) → (V → Op T → Out T → V → Type 0) → Type 0
-  RowsGoOnIn defers then = (fixed : Fixed) (id : ℕ) (v : V) (op : Op T) → op_of defers (notes v).knows ≡ Some op → Allows (holds fixed) keeps id v op (then v op)
+  abbrev pub RowsContinueIn : (T → Option ℕ) → (V → Op T → Out T → V → Type 0) → Type 0
+  RowsContinueIn defers then = (fixed : Fixed) (id : ℕ) (v : V) (op : Op T) → op_of defers (notes v).knows ≡ Some op → Allows (holds fixed) keeps id v op (then v op)
 
   -- and rows begin and end, where nobody leans on the seat
   abbrev pub RowsTurnIn : (V → ℕ → Type 0) → Type 0
@@ -55,19 +55,19 @@ module _ {T V W B : Type 0} (holds : Fixed → State T V W → Type 0) (keeps : 
   abbrev pub LookedAreShownIn : Type 0
   LookedAreShownIn =
       (fixed : Fixed) (id : ℕ) (v : V) (c : Settle) (why : Why) (b left : ℕ) (x : T) → (notes v).knows ≡ Settles c why (Some (b, x)) left
-      → Shown (holds fixed) id v b × ((y : T) → IsValueOf (holds fixed) id v b y → y ≡ x)
+      → VisibleTo (holds fixed) id v b × ((y : T) → IsValueOf (holds fixed) id v b y → y ≡ x)
 
 module _ {T V B : Type 0} (notes : V → Noted T) (beside : V → B) where
   -- what the operation of a row tells its seat is what it tells by the notes, and changes nothing beside them
-  abbrev pub RowsAreTold : (T → Option ℕ) → (V → Op T → Out T → V → Type 0) → Type 0
-  RowsAreTold defers then =
+  abbrev pub RowsAreObserved : (T → Option ℕ) → (V → Op T → Out T → V → Type 0) → Type 0
+  RowsAreObserved defers then =
       (v w : V) (op : Op T) (out : Out T) → op_of defers (notes v).knows ≡ Some op → then v op out w
-      → noted_told defers (notes v) op out (notes w) × (beside w ≡ beside v)
+      → noted_observed defers (notes v) op out (notes w) × (beside w ≡ beside v)
 
 -- who has nothing but a row under way leans on whom it does by what it knows beside its notes
-abbrev pub LeansBeside : {T V B : Type 0} → (V → ℕ → Type 0) → (V → Noted T) → (V → B) → Type 0
-LeansBeside {T} {V} leans notes beside = (v w : V) (n : ℕ) → IsOfRows (notes w).knows → beside w ≡ beside v → leans w n → leans v n
+abbrev pub LeansByTheRest : {T V B : Type 0} → (V → ℕ → Type 0) → (V → Noted T) → (V → B) → Type 0
+LeansByTheRest {T} {V} leans notes beside = (v w : V) (n : ℕ) → IsOfRows (notes w).knows → beside w ≡ beside v → leans w n → leans v n
 
 -- who has nothing under way by its notes is in the midst of nothing
 abbrev pub RestWithNothing : {T V : Type 0} → (V → Type 0) → (V → Noted T) → Type 0
-RestWithNothing {T} {V} rests notes = (v : V) → IsAtRest (notes v).knows → rests v
+RestWithNothing {T} {V} rests notes = (v : V) → IsQuiescent (notes v).knows → rests v

@@ -7,8 +7,8 @@ use Rattle.seize.specs.declared.rows.settle.Settle.{Settle}
 use Rattle.seize.specs.Law.{holds}
 use Rattle.seize.specs.World.{World}
 use Rattle.seize_seats.specs.Seats.Errands.{TurnsUnlent}
-use Rattle.seize_seats.specs.Seats.State.{State, Starts, Comes, Allows, Turns, Learns, Meets, ShowsKept, AreThere}
-use Rattle.seize_seats.specs.Seats.Lendings.{Shown, IsValueOf}
+use Rattle.seize_seats.specs.Seats.State.{State, Starts, Comes, Allows, Turns, Learns, Meets, KeptByTwo, AreThere}
+use Rattle.seize_seats.specs.Seats.Lendings.{VisibleTo, IsValueOf}
 use Rattle.seize_views.specs.Views.Rows.{TurnsTo, Permits, Holds}
 use Rattle.seize_views.specs.Views.Begun.{IsBegun, Hands}
 use Rattle.seize_views.specs.Views.Told.{told}
@@ -102,15 +102,15 @@ module _ {T : Type 0} where
   BeginsUnder v n u w = (t : ℕ) → open_at u.knows ≡ Some t → (w.knows ≡ Under n t 0) × SameNotes v w
 
   -- or knows nothing any more
-  abbrev pub ComesBack : Noted T → Noted T → Type 0
-  ComesBack v w = (w.knows ≡ Rests) × SameNotes v w
+  abbrev pub ReturnsToRest : Noted T → Noted T → Type 0
+  ReturnsToRest v w = (w.knows ≡ Rests) × SameNotes v w
 
 module _ {T : Type 0} (defers : T → Option ℕ) where
   abbrev pub NotedHolds : Fixed → State T (Noted T) (World T) → Type 0
   NotedHolds fixed s = Holds defers fixed (as_known s) × AreGuarded s
 
-  abbrev pub noted_told : Noted T → Op T → Out T → Noted T → Type 0
-  noted_told v op out w = told defers v.knows op out w.knows × (w.did ≡ deed v.knows v.did op out) × (w.began ≡ v.began) × (w.guards ≡ v.guards)
+  abbrev pub noted_observed : Noted T → Op T → Out T → Noted T → Type 0
+  noted_observed v op out w = told defers v.knows op out w.knows × (w.did ≡ deed v.knows v.did op out) × (w.began ≡ v.began) × (w.guards ≡ v.guards)
 
 module _ (T : Type 0) (defers : T → Option ℕ) where
   -- The promise: what starts, comes, and may be done by what is known does so with notes.
@@ -123,7 +123,7 @@ module _ (T : Type 0) (defers : T → Option ℕ) where
   abbrev pub StepsAreNoted : Type 0
   StepsAreNoted =
       (fixed : Fixed) (id : ℕ) (v : Noted T) (op : Op T) → IsOwn v.knows → Permits defers fixed id v.knows op (told defers v.knows op)
-      → Allows (NotedHolds defers fixed) NotedKeeps id v op (noted_told defers v op)
+      → Allows (NotedHolds defers fixed) NotedKeeps id v op (noted_observed defers v op)
 
   -- a turn that ends no section which is watched may note anything, where nobody leans on the seat
   abbrev pub TurnsAreNoted : Type 0
@@ -148,7 +148,7 @@ module _ (T : Type 0) (defers : T → Option ℕ) where
   -- and a block that is shown by what is known is shown, with a value that is its value by that
   abbrev pub LooksAreNoted : Type 0
   LooksAreNoted =
-      (fixed : Fixed) (id : ℕ) (v : Noted T) (b : ℕ) → (Shown (Holds defers fixed) id v.knows b → Shown (NotedHolds defers fixed) id v b)
+      (fixed : Fixed) (id : ℕ) (v : Noted T) (b : ℕ) → (VisibleTo (Holds defers fixed) id v.knows b → VisibleTo (NotedHolds defers fixed) id v b)
       × ((x : T) → IsValueOf (NotedHolds defers fixed) id v b x → IsValueOf (Holds defers fixed) id v.knows b x)
 
   -- A seat may begin to watch an open section, and end, by meeting the seat that has it open.
@@ -165,10 +165,10 @@ module _ (T : Type 0) (defers : T → Option ℕ) where
   abbrev pub WatchersSee : Type 0
   WatchersSee =
       (fixed : Fixed) (id t b r : ℕ) (v : Noted T) → v.knows ≡ Watches t b → r < fixed.roots
-      → Allows (NotedHolds defers fixed) NotedKeeps id v (Load (Root r)) (noted_told defers v (Load (Root r)))
+      → Allows (NotedHolds defers fixed) NotedKeeps id v (Load (Root r)) (noted_observed defers v (Load (Root r)))
 
   abbrev pub WatchedAreShown : Type 0
-  WatchedAreShown = (fixed : Fixed) (id t b : ℕ) (v : Noted T) → v.knows ≡ Watches t b → b ≢ 0 → Shown (NotedHolds defers fixed) id v b
+  WatchedAreShown = (fixed : Fixed) (id t b : ℕ) (v : Noted T) → v.knows ≡ Watches t b → b ≢ 0 → VisibleTo (NotedHolds defers fixed) id v b
 
   -- A seat may come to lean on one that has a section open,
   abbrev pub LeaningsBegin : Type 0
@@ -180,23 +180,23 @@ module _ (T : Type 0) (defers : T → Option ℕ) where
   abbrev pub LeaningsSee : Type 0
   LeaningsSee =
       (fixed : Fixed) (id n t b r : ℕ) (v : Noted T) → v.knows ≡ Under n t b → r < fixed.roots
-      → Allows (NotedHolds defers fixed) NotedKeeps id v (Load (Root r)) (noted_told defers v (Load (Root r)))
+      → Allows (NotedHolds defers fixed) NotedKeeps id v (Load (Root r)) (noted_observed defers v (Load (Root r)))
 
   -- or set bits of the tag of the word there, which it sees,
   abbrev pub LeaningsMark : Type 0
   LeaningsMark =
       (fixed : Fixed) (id n t b r bits : ℕ) (v : Noted T) → v.knows ≡ Under n t b → bits < 2 ^ 11 → r < fixed.roots
-      → Allows (NotedHolds defers fixed) NotedKeeps id v (Or (Root r) bits) (noted_told defers v (Or (Root r) bits))
+      → Allows (NotedHolds defers fixed) NotedKeeps id v (Or (Root r) bits) (noted_observed defers v (Or (Root r) bits))
 
   -- and rest again; what it has seen that one keeps
   abbrev pub LeaningsEnd : Type 0
   LeaningsEnd =
       (fixed : Fixed) (id n t b : ℕ) (v : Noted T) → v.knows ≡ Under n t b
-      → Turns (NotedHolds defers fixed) NotedKeeps id v (ComesBack v)
+      → Turns (NotedHolds defers fixed) NotedKeeps id v (ReturnsToRest v)
 
   abbrev pub LeaningsKeep : Type 0
   LeaningsKeep =
-      (fixed : Fixed) (i n t b : ℕ) (v u : Noted T) → v.knows ≡ Under n t b → b ≢ 0 → ShowsKept (NotedHolds defers fixed) NotedKeeps i v n u n u b
+      (fixed : Fixed) (i n t b : ℕ) (v u : Noted T) → v.knows ≡ Under n t b → b ≢ 0 → KeptByTwo (NotedHolds defers fixed) NotedKeeps i v n u n u b
 
   abbrev pub KeptAreThere : Type 0
   KeptAreThere = (fixed : Fixed) → AreThere (NotedHolds defers fixed) NotedKeeps

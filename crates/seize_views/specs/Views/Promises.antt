@@ -12,7 +12,7 @@ use Rattle.seize.specs.declared.rows.settle.Settle.{Settle}
 use Rattle.seize.specs.Register.{register_plan}
 use Rattle.seize.specs.Settle.{retiring, flushing, settle_plan}
 use Rattle.seize.specs.World.{HasListWord}
-use Rattle.seize_seats.specs.Seats.Lendings.{Shown, IsValueOf}
+use Rattle.seize_seats.specs.Seats.Lendings.{VisibleTo, IsValueOf}
 use Rattle.seize_seats.specs.Seats.State.{Starts, Comes, Meets}
 use Rattle.seize_views.specs.Views.Rows.{TurnsTo, Permits, head_of, Holds, Keeps}
 use Rattle.seize_views.specs.Views.Begun.{IsBegun, Hands, left_with, seeker_at}
@@ -102,8 +102,8 @@ module _ (T : Type 0) (defers : T → Option ℕ) where
   SeatsCome = (fixed : Fixed) → Comes (Holds defers fixed) Keeps Rests
 
   -- the next operation of the row of a seat may be made at any moment
-  abbrev pub RowsGoOn : Type 0
-  RowsGoOn = (fixed : Fixed) (id : ℕ) (v : SlotView T) (op : Op T) → op_of defers v ≡ Some op → Permits defers fixed id v op (told defers v op)
+  abbrev pub RowsContinue : Type 0
+  RowsContinue = (fixed : Fixed) (id : ℕ) (v : SlotView T) (op : Op T) → op_of defers v ≡ Some op → Permits defers fixed id v op (told defers v op)
 
   -- and rows begin and end
   abbrev pub RowsTurn : Type 0
@@ -187,11 +187,11 @@ module _ (T : Type 0) (defers : T → Option ℕ) where
   -- the block that it has is there, with the value that it was made of; or it was unlinked, and is there, too
   abbrev pub OwnAreShown : Type 0
   OwnAreShown =
-      (fixed : Fixed) (id b : ℕ) (x : T) → Shown (Holds defers fixed) id (Brings b x) b
+      (fixed : Fixed) (id b : ℕ) (x : T) → VisibleTo (Holds defers fixed) id (Brings b x) b
       × ((y : T) → IsValueOf (Holds defers fixed) id (Brings b x) b y → y ≡ x)
 
   abbrev pub BorneAreShown : Type 0
-  BorneAreShown = (fixed : Fixed) (id b : ℕ) → Shown (Holds defers fixed) id (Bears b) b
+  BorneAreShown = (fixed : Fixed) (id b : ℕ) → VisibleTo (Holds defers fixed) id (Bears b) b
 
   -- which it may hand on, to a seat that has a slot, and no block in its hand
   abbrev pub BorneAreHandedOn : Type 0
@@ -199,10 +199,10 @@ module _ (T : Type 0) (defers : T → Option ℕ) where
 
   -- and the block that a seat knows of is there
   abbrev pub KnownAreShown : Type 0
-  KnownAreShown = (has : Has T) (b : ℕ) (fixed : Fixed) (id t : ℕ) → Names has b → Shown (Holds defers fixed) id (Inside t has) b
+  KnownAreShown = (has : Has T) (b : ℕ) (fixed : Fixed) (id t : ℕ) → Names has b → VisibleTo (Holds defers fixed) id (Inside t has) b
 
   -- as is the one that a settling is to look at, with the value that was told
   abbrev pub LookedAreShown : Type 0
   LookedAreShown =
-      (fixed : Fixed) (id : ℕ) (c : Settle) (why : Why) (b left : ℕ) (x : T) → Shown (Holds defers fixed) id (Settles c why (Some (b, x)) left) b
+      (fixed : Fixed) (id : ℕ) (c : Settle) (why : Why) (b left : ℕ) (x : T) → VisibleTo (Holds defers fixed) id (Settles c why (Some (b, x)) left) b
       × ((y : T) → IsValueOf (Holds defers fixed) id (Settles c why (Some (b, x)) left) b y → y ≡ x)

@@ -16,7 +16,7 @@ use Rattle.seize.specs.Leave.{leaving, standing}
 use Rattle.seize.specs.Law.{holds, is_over}
 use Rattle.seize.specs.World.{World, Row, Hand, Event, Use, Runs, IsInside, at_start}
 use Rattle.seize.specs.World as world
-use Rattle.seize_seats.specs.Seats.State.{State, view_of, after, KeepsOthers}
+use Rattle.seize_seats.specs.Seats.State.{State, view_of, after, PreservesKept}
 use Rattle.seize_words.specs.OneMemory.Op.{Op, Out}
 use Rattle.seize_acts.specs.Bounds.Bounds.{SettlesWithin, TriesWithin}
 use Rattle.seize_views.specs.declared.view.SlotView.{SlotView}
@@ -71,16 +71,16 @@ row_of (Under n t b) = world.Rests
 row_of (Busy t) = world.Rests
 
 -- it has nothing under way: no row, and nothing beside rows
-abbrev pub IsAtRest : {T : Type 0} → SlotView T → Type 0
-IsAtRest (Registers c) = ⊥
-IsAtRest (Enters t) = ⊥
-IsAtRest (Settles c why seen left) = ⊥
-IsAtRest (Leaves t size way) = ⊥
-IsAtRest (Left t size way) = ⊥
-IsAtRest (Frees t) = ⊥
-IsAtRest (Under n t b) = ⊥
-IsAtRest (Busy t) = ⊥
-IsAtRest _ = Unit {0}
+abbrev pub IsQuiescent : {T : Type 0} → SlotView T → Type 0
+IsQuiescent (Registers c) = ⊥
+IsQuiescent (Enters t) = ⊥
+IsQuiescent (Settles c why seen left) = ⊥
+IsQuiescent (Leaves t size way) = ⊥
+IsQuiescent (Left t size way) = ⊥
+IsQuiescent (Frees t) = ⊥
+IsQuiescent (Under n t b) = ⊥
+IsQuiescent (Busy t) = ⊥
+IsQuiescent _ = Unit {0}
 
 -- the slot that it holds, if it holds one, and how that is used
 abbrev pub use_of : {T : Type 0} → SlotView T → Option (ℕ × Use)
@@ -269,7 +269,7 @@ module _ {T : Type 0} (defers : T → Option ℕ) (fixed : Fixed) where
   -- open sections hold, its own too, they hold still.
   abbrev pub Leads : State T (SlotView T) (World T) → Mem T → ℕ → (SlotView T → Type 0) → Type 0
   Leads s m id so =
-      (v : SlotView T) × (w : World T) × Holds defers fixed (after s m id v w) × KeepsOthers (Holds defers fixed) Keeps s id w × HeldStay s.world w × so v
+      (v : SlotView T) × (w : World T) × Holds defers fixed (after s m id v w) × PreservesKept (Holds defers fixed) Keeps s id w × HeldStay s.world w × so v
 
   -- the seat may make the operation, in each state in which it knows this, and whatever it answers
   abbrev pub Permits : ℕ → SlotView T → Op T → (Out T → SlotView T → Type 0) → Type 0

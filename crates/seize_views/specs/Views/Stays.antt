@@ -81,24 +81,24 @@ module _ {T : Type 0} where
     swapped t size way op (Taken x) w is = absurd is
     swapped t size way op (Roomed x) w is = absurd is
 
-    pub told_still : (v : SlotView T) (op : Op T) (out : Out T) (w : SlotView T) → IsOwn v → told defers v op out w → Still v w
-    told_still Rests op out w own is = at_own Rests w (alone_with is.0) is.2 (alone_own is.0) (inr refl)
-    told_still (Registers c) op out w own is = at_own (Registers c) w (left_by is.0) is.2 (left_own T is.0) (inr refl)
-    told_still (Outside t) op out w own is = withdrawn t op out w is
-    told_still (Owes t b) op out w own is = absurd is
-    told_still (Enters t) op out w own is = at_own (Enters t) w (Inside t Nothing) is tt (inr refl)
-    told_still (Inside t has) op out w own is = at_own (Inside t has) w (Inside t is.0) is.2 tt (inl refl)
-    told_still (Settles c (Retiring Active) seen left) op out w own is =
+    pub observed_still : (v : SlotView T) (op : Op T) (out : Out T) (w : SlotView T) → IsOwn v → told defers v op out w → Still v w
+    observed_still Rests op out w own is = at_own Rests w (alone_with is.0) is.2 (alone_own is.0) (inr refl)
+    observed_still (Registers c) op out w own is = at_own (Registers c) w (left_by is.0) is.2 (left_own T is.0) (inr refl)
+    observed_still (Outside t) op out w own is = withdrawn t op out w is
+    observed_still (Owes t b) op out w own is = absurd is
+    observed_still (Enters t) op out w own is = at_own (Enters t) w (Inside t Nothing) is tt (inr refl)
+    observed_still (Inside t has) op out w own is = at_own (Inside t has) w (Inside t is.0) is.2 tt (inl refl)
+    observed_still (Settles c (Retiring Active) seen left) op out w own is =
         at_own (Settles c (Retiring Active) seen left) w (Settles is.end.0 (Retiring Active) is.seen is.now) is.view tt (inl (ap Some is.slot))
-    told_still (Settles c (Retiring Idle) seen left) op out w own is =
+    observed_still (Settles c (Retiring Idle) seen left) op out w own is =
         at_own (Settles c (Retiring Idle) seen left) w (Settles is.end.0 (Retiring Idle) is.seen is.now) is.view tt (inr refl)
-    told_still (Settles c (Ending size way) seen left) op out w own is =
+    observed_still (Settles c (Ending size way) seen left) op out w own is =
         at_own (Settles c (Ending size way) seen left) w (Settles is.end.0 (Ending size way) is.seen is.now) is.view tt (inr refl)
-    told_still (Leaves t size way) op out w own is = swapped t size way op out w is
-    told_still (Left t size way) op out w own is = absurd is
-    told_still (Frees t) op out w own is = at_own (Frees t) w Rests is tt (inr refl)
-    told_still (Brings b x) op out w own is = at_own (Brings b x) w (alone_with is.0) is.2 (alone_own is.0) (inr refl)
-    told_still (Bears b) op out w own is = absurd is
-    told_still (Watches t b) op out w own is = absurd own
-    told_still (Under n t b) op out w own is = absurd own
-    told_still (Busy t) op out w own is = absurd is
+    observed_still (Leaves t size way) op out w own is = swapped t size way op out w is
+    observed_still (Left t size way) op out w own is = absurd is
+    observed_still (Frees t) op out w own is = at_own (Frees t) w Rests is tt (inr refl)
+    observed_still (Brings b x) op out w own is = at_own (Brings b x) w (alone_with is.0) is.2 (alone_own is.0) (inr refl)
+    observed_still (Bears b) op out w own is = absurd is
+    observed_still (Watches t b) op out w own is = absurd own
+    observed_still (Under n t b) op out w own is = absurd own
+    observed_still (Busy t) op out w own is = absurd is

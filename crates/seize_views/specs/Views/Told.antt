@@ -42,25 +42,25 @@ cut_in word = cut_as (block_in word)
 
 -- what a seat within a section comes to know: it makes a block, takes it away again, gives it another value, or puts it at a root, whatever is there or only in
 -- place of this word; sees what a root names, marks that or not, or takes it from there
-abbrev pub has_told : {T : Type 0} → Has T → Op T → Out T → Has T → Type 0
-has_told Nothing (Make value words) (OutMade (Ok b)) after = (b < 2 ^ 53) × (after ≡ Made b value)
-has_told Nothing (Make value words) (OutMade (Err back)) after = (back ≡ value) × (after ≡ Nothing)
-has_told (Seen a) (Make value words) (OutMade (Ok b)) after = (b < 2 ^ 53) × (after ≡ Both b value a)
-has_told (Seen a) (Make value words) (OutMade (Err back)) after = (back ≡ value) × (after ≡ Seen a)
-has_told (Made b x) (Take c) (Taken value) after = (value ≡ x) × (after ≡ Nothing)
-has_told (Both b x a) (Take c) (Taken value) after = (value ≡ x) × (after ≡ Seen a)
-has_told (Made b x) (Rewrite c y) (Taken value) after = (value ≡ x) × (after ≡ Made b y)
-has_told (Made b x) (Swap (Root r) word) (Found old) after = after ≡ cut_in old
-has_told Nothing (Swap (Root r) word) (Found old) after = after ≡ cut_in old
-has_told (Made b x) (Exchange (Root r) old new) (Exchanged (Ok was)) after = after ≡ cut_in old
-has_told (Made b x) (Exchange (Root r) old new) (Exchanged (Err word)) after = (word ≢ old) × (after ≡ made_beside b x (block_in word))
-has_told (Both b x a) (Exchange (Root r) old new) (Exchanged (Ok was)) after = after ≡ cut_in old
-has_told (Both b x a) (Exchange (Root r) old new) (Exchanged (Err word)) after = (word ≢ old) × (after ≡ made_beside b x (block_in word))
-has_told Nothing (Load (Root r)) (Found word) after = after ≡ seen_in word
-has_told (Seen b) (Load (Root r)) (Found word) after = after ≡ seen_in word
-has_told Nothing (Or (Root r) bits) (Found word) after = after ≡ seen_in word
-has_told (Seen b) (Or (Root r) bits) (Found word) after = after ≡ seen_in word
-has_told _ op out after = ⊥
+abbrev pub has_observed : {T : Type 0} → Has T → Op T → Out T → Has T → Type 0
+has_observed Nothing (Make value words) (OutMade (Ok b)) after = (b < 2 ^ 53) × (after ≡ Made b value)
+has_observed Nothing (Make value words) (OutMade (Err back)) after = (back ≡ value) × (after ≡ Nothing)
+has_observed (Seen a) (Make value words) (OutMade (Ok b)) after = (b < 2 ^ 53) × (after ≡ Both b value a)
+has_observed (Seen a) (Make value words) (OutMade (Err back)) after = (back ≡ value) × (after ≡ Seen a)
+has_observed (Made b x) (Take c) (Taken value) after = (value ≡ x) × (after ≡ Nothing)
+has_observed (Both b x a) (Take c) (Taken value) after = (value ≡ x) × (after ≡ Seen a)
+has_observed (Made b x) (Rewrite c y) (Taken value) after = (value ≡ x) × (after ≡ Made b y)
+has_observed (Made b x) (Swap (Root r) word) (Found old) after = after ≡ cut_in old
+has_observed Nothing (Swap (Root r) word) (Found old) after = after ≡ cut_in old
+has_observed (Made b x) (Exchange (Root r) old new) (Exchanged (Ok was)) after = after ≡ cut_in old
+has_observed (Made b x) (Exchange (Root r) old new) (Exchanged (Err word)) after = (word ≢ old) × (after ≡ made_beside b x (block_in word))
+has_observed (Both b x a) (Exchange (Root r) old new) (Exchanged (Ok was)) after = after ≡ cut_in old
+has_observed (Both b x a) (Exchange (Root r) old new) (Exchanged (Err word)) after = (word ≢ old) × (after ≡ made_beside b x (block_in word))
+has_observed Nothing (Load (Root r)) (Found word) after = after ≡ seen_in word
+has_observed (Seen b) (Load (Root r)) (Found word) after = after ≡ seen_in word
+has_observed Nothing (Or (Root r) bits) (Found word) after = after ≡ seen_in word
+has_observed (Seen b) (Or (Root r) bits) (Found word) after = after ≡ seen_in word
+has_observed _ op out after = ⊥
 
 -- how a seat stands that has no slot, and knows so of a block
 abbrev pub alone_with : {T : Type 0} → Has T → SlotView T
@@ -81,9 +81,9 @@ shown_by (Some seen) b = if b == seen.0 then Some seen.1 else None
 
 module _ {T R : Type 0} where
   -- the step that makes an operation comes, in some memory, to this outcome after this answer
-  abbrev pub ComesTo : Plan T R → Out T → R → Type 0
-  ComesTo (Turn rest) out end = ⊥
-  ComesTo (Do op rest) out end = (m n : Mem T) × Took m op out n × Ends (value_at n) (rest out) end
+  abbrev pub HasOutcome : Plan T R → Out T → R → Type 0
+  HasOutcome (Turn rest) out end = ⊥
+  HasOutcome (Do op rest) out end = (m n : Mem T) × Took m op out n × Ends (value_at n) (rest out) end
 
   -- or by what it looked at
   abbrev pub FollowsBy : (ℕ → Option T) → Plan T R → Out T → R → Type 0
@@ -102,7 +102,7 @@ list_taken t size way head left = if nat_lt ACTIVE head then Settles (counting_d
 
 module _ {T : Type 0} (defers : T → Option ℕ) where
   -- a settling goes on, further steps are needed, with the same slot, and fewer are left
-  pub record GoesOn (c : Settle) (why : Why) (left : ℕ) (out : Out T) (w : SlotView T) : Type 0 where
+  pub record Continues (c : Settle) (why : Why) (left : ℕ) (out : Out T) (w : SlotView T) : Type 0 where
     pub end : Settle × Settled T
     pub seen : Option (ℕ × T)
     pub now : ℕ
@@ -113,13 +113,13 @@ module _ {T : Type 0} (defers : T → Option ℕ) where
     pub view : w ≡ Settles end.0 why seen now
 
   abbrev pub told : SlotView T → Op T → Out T → SlotView T → Type 0
-  told (Registers c) op out w = (end : Register × Advance ℕ) × ComesTo (register_plan {T = T} c) out end × (w ≡ left_by end) × IsShort w
+  told (Registers c) op out w = (end : Register × Advance ℕ) × HasOutcome (register_plan {T = T} c) out end × (w ≡ left_by end) × IsShort w
   told (Outside t) (Swap (Root r) word) (Found old) w = w ≡ owes_in t old
   told (Enters t) op out w = w ≡ Inside t Nothing
-  told Rests op out w = (after : Has T) × has_told Nothing op out after × (w ≡ alone_with after)
-  told (Brings b x) op out w = (after : Has T) × has_told (Made b x) op out after × (w ≡ alone_with after)
-  told (Inside t has) op out w = (after : Has T) × has_told has op out after × (w ≡ Inside t after)
-  told (Settles c why seen left) op out w = GoesOn c why left out w
+  told Rests op out w = (after : Has T) × has_observed Nothing op out after × (w ≡ alone_with after)
+  told (Brings b x) op out w = (after : Has T) × has_observed (Made b x) op out after × (w ≡ alone_with after)
+  told (Inside t has) op out w = (after : Has T) × has_observed has op out after × (w ≡ Inside t after)
+  told (Settles c why seen left) op out w = Continues c why left out w
   told (Leaves t size way) op (Found head) w = (left : ℕ) × (w ≡ list_taken t size way head left)
   told (Frees t) op out w = w ≡ Rests
   told (Watches t b) (Load (Root r)) (Found word) w = w ≡ Watches t (block_in word)

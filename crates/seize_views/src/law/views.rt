@@ -1,5 +1,5 @@
 //! What is promised of the rule of the collector's rows.
-ghost use Rattle.seize_views.specs.Views.Promises.{RulesStart, SeatsCome, RowsGoOn, RowsTurn, SettlingsBegin, LookedAreShown};
+ghost use Rattle.seize_views.specs.Views.Promises.{RulesStart, SeatsCome, RowsContinue, RowsTurn, SettlingsBegin, LookedAreShown};
 ghost use Rattle.seize_views.specs.Views.Promises.{BlocksAreMade, MadeAreTaken, MadeAreLinked, MadeAreExchanged, KnownAreShown};
 ghost use Rattle.seize_views.specs.Views.Promises.{RootsAreSeen, RootsAreMarked, RootsAreCleared, RootsAreWithdrawn};
 ghost use Rattle.seize_views.specs.Views.Notes.{StartsAreNoted, ComingsAreNoted, StepsAreNoted, TurnsAreNoted, SettlingsAreNoted, MeetingsAreNoted, LooksAreNoted};
@@ -14,7 +14,7 @@ use seize::rows::Defers;
 pub fn rows_go_on<T: Defers>()
     ensures starts { RulesStart T T.defers }
     ensures come { SeatsCome T T.defers }
-    ensures on { RowsGoOn T T.defers }
+    ensures on { RowsContinue T T.defers }
     ensures turn { RowsTurn T T.defers }
     ensures settle { SettlingsBegin T T.defers }
     ensures looked { LookedAreShown T T.defers }

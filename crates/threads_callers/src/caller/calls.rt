@@ -1,11 +1,12 @@
-//! A caller is sent to make a map, to look a key up, and to run a call on one key.
-ghost use Rattle.std.specs.Prelude.{◌≡◌, IsSome, Some, false};
+//! A caller is sent to make a map, to look a key up, to run a call, and to count the pairs of a map.
+ghost use Rattle.std.specs.Prelude.{◌≡◌, IfOk, IsSome, Some, false};
 ghost use Rattle.std.specs.Fn.{FnOnceReturns};
 ghost use Rattle.threads_errands.specs.Asking.{HasAnswered, MakingSays, MayTest, TestSays, makes_pair as kind_that_makes, removes_if as kind_that_tests};
-ghost use Rattle.threads_rule.specs.Errands.Calling.{HasCalled, MayCall, MayDo, wanted_of};
+ghost use Rattle.threads_rule.specs.Errands.Calling.{HasCalled, IsAnswerBy, MayCall, MayDoAs, wanted_of};
+ghost use Rattle.threads_rule.specs.Errands.Counting.{HasCounted, MayCount};
 ghost use Rattle.threads_rule.specs.CallKinds.Kinds.{Stage};
 ghost use Rattle.threads_rule.specs.Errands.Looking.{HasFound, MayLook};
-ghost use Rattle.threads_rule.specs.Errands.Making.{CameTo, MayBegin};
+ghost use Rattle.threads_rule.specs.Errands.Making.{HasOutcome, MayBegin};
 ghost use Rattle.threads_rule.specs.Views.Looks.{shown_in};
 ghost use Rattle.threads_rule.specs.Views.Rule.{Holds};
 ghost use Rattle.threads_rule.specs.declared.view.SeatWork.TheVariants.{Nothing as NoWork};
@@ -19,7 +20,7 @@ use papaya_raw::machines::Machine;
 use seize_words::Fault;
 use std::hash::Hash;
 use std::sync::Wait;
-use threads_errands::{Does, Finds, Makes, MakesPair, Ran, RemovesIf};
+use threads_errands::{Counts, Does, Finds, Makes, MakesPair, Ran, RemovesIf};
 
 impl<'a, K: Eq + Drop, V: Drop, S: Hashes<K>> MapCaller<'a, K, V, S> {
     /// Makes a map of no table by this machine, with this hasher, and knows it then. Where no root is free, or memory is refused, there is none, and it knows what it
@@ -28,7 +29,7 @@ impl<'a, K: Eq + Drop, V: Drop, S: Hashes<K>> MapCaller<'a, K, V, S> {
         requires may { MayBegin self.old.blocks.now.words.fixed opening }
         requires rests { self.old.seat.view.slot ≡ Rests }
         requires free { self.old.seat.view.work ≡ NoWork }
-        ensures made { CameTo hasher.now opening result self.old.seat.view self.new.seat.view }
+        ensures made { HasOutcome hasher.now opening result self.old.seat.view self.new.seat.view }
         ensures blocks { self.new.blocks ≡ self.old.blocks }
     {
         self.blocks
@@ -53,6 +54,7 @@ impl<'a, K: Eq + Hash + Drop, V: Drop, S: Hashes<K>> MapCaller<'a, K, V, S> {
     pub fn does<R: Wait>(&mut self, rt: &R, hasher: &S, machine: Machine<K, V>) -> Ran<K, V>
         requires may { MayCall K.eq S.hash hasher.now machine self.old.seat.view }
         ensures called { HasCalled K.eq S.hash (wanted_of machine) result.told result.unstored self.old.seat.view self.new.seat.view }
+        ensures fits { IfOk result.told (IsAnswerBy machine) }
         ensures blocks { self.new.blocks ≡ self.old.blocks }
     {
         let mut machine = machine;
@@ -68,6 +70,22 @@ impl<'a, K: Eq + Hash + Drop, V: Drop, S: Hashes<K>> MapCaller<'a, K, V, S> {
         self.near = ran.near;
         ran
     }
+
+    /// Counts the pairs of the map that it knows, within its section, by this machine.
+    pub fn counts(&mut self, hasher: &S, machine: Machine<K, V>) -> u64
+        requires may { MayCount K.eq S.hash hasher.now machine self.old.seat.view }
+        ensures counted { HasCounted K.eq S.hash result self.old.seat.view self.new.seat.view }
+        ensures blocks { self.new.blocks ≡ self.old.blocks }
+    {
+        let mut machine = machine;
+        self.blocks.errand(
+            &mut self.seat,
+            Counts {
+                hasher,
+                machine: &mut machine,
+            },
+        )
+    }
 }
 
 impl<'a, K: Eq + Hash + Drop, V: Drop, S: Hashes<K>> MapCaller<'a, K, V, S> {
@@ -79,7 +97,7 @@ impl<'a, K: Eq + Hash + Drop, V: Drop, S: Hashes<K>> MapCaller<'a, K, V, S> {
         machine: Machine<K, V>,
         make: F,
     ) -> Ran<K, V>
-        requires may { (s : Stage) × (s.told ≡ false) × MayDo K.eq S.hash kind_that_makes s hasher.now machine self.old.seat.view }
+        requires may { (s : Stage) × (s.told ≡ false) × MayDoAs K.eq S.hash kind_that_makes s hasher.now machine self.old.seat.view }
         requires callable { F.pre make }
         ensures answered { HasAnswered K.eq S.hash (MakingSays (FnOnceReturns F.FnOnce make tt)) (wanted_of machine) result.told self.old.seat.view self.new.seat.view }
         ensures blocks { self.new.blocks ≡ self.old.blocks }
@@ -107,7 +125,7 @@ impl<'a, K: Eq + Hash + Drop, V: Drop, S: Hashes<K>> MapCaller<'a, K, V, S> {
         machine: Machine<K, V>,
         test: &F,
     ) -> Ran<K, V>
-        requires may { (s : Stage) × MayDo K.eq S.hash kind_that_tests s hasher.now machine self.old.seat.view }
+        requires may { (s : Stage) × MayDoAs K.eq S.hash kind_that_tests s hasher.now machine self.old.seat.view }
         requires callable { F.IsAlwaysCallable test.now }
         ensures answered { HasAnswered K.eq S.hash (TestSays (MayTest F.Fn test.now)) (wanted_of machine) result.told self.old.seat.view self.new.seat.view }
         ensures blocks { self.new.blocks ≡ self.old.blocks }

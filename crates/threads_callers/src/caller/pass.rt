@@ -1,6 +1,6 @@
 //! A seat that looks keys up under a caller, who is within its section and is lent for that.
 ghost use Rattle.std.specs.Prelude.{◌≡◌, ℕ, [], IsSome, Some, None, true, IfNone, IfSome};
-ghost use Rattle.threads_rule.specs.Errands.Looking.{HasLooked, MayLook, Shows, found_of};
+ghost use Rattle.threads_rule.specs.Errands.Looking.{HasLooked, MayLook, HasLookedAt, found_of};
 ghost use Rattle.threads_callers.specs.Passing.{HasFoundUnder, HasRunUnder, IsBack, IsLentBy};
 ghost use Rattle.threads_rule.specs.Given.ActsActs.{Get};
 ghost use Rattle.seize_seats.specs.Seats.Lendings.{IsValueBy};
@@ -35,9 +35,9 @@ impl<K, V, S> Lesson<Fixed, View<K, V, S>> for Resorting {
 pub struct MapReturning;
 
 impl<K, V, S> Turn<Fixed, View<K, V, S>> for MapReturning {
-    ghost use Rattle.threads_callers.specs.Passing.{ComesBack};
+    ghost use Rattle.threads_callers.specs.Passing.{LeansNoMore};
 
-    ghost to = { λ _. ComesBack };
+    ghost to = { λ _. LeansNoMore };
 }
 
 /// A seat that looks keys up under one that is within its section, and that is lent for that: any number of passes may do so at a time. Between two calls it rests.
@@ -53,7 +53,7 @@ impl<K: Eq, V, S: Hashes<K>> Drop for MapPassSeat<K, V, S> {
     }
 }
 
-/// The pair that a seat shows while it leans on the guard's.
+/// Returns the pair that a seat shows while it leans on the guard's.
 fn pair_by<'g, K: Eq, V, S: Hashes<K>>(
     blocks: &'g Blocks<Node<K, V>, OfMaps<S>>,
     seat: &Seat<Node<K, V>, OfMaps<S>>,
@@ -71,7 +71,7 @@ fn pair_by<'g, K: Eq, V, S: Hashes<K>>(
     blocks.value_by(seat, guard, guard, block)
 }
 
-/// The value of the pair of this word, which a seat shows while it leans on the guard's.
+/// Returns the value of the pair of this word, which a seat shows while it leans on the guard's.
 fn value_by<'g, K: Eq, V, S: Hashes<K>>(
     blocks: &'g Blocks<Node<K, V>, OfMaps<S>>,
     seat: &Seat<Node<K, V>, OfMaps<S>>,
@@ -81,7 +81,7 @@ fn value_by<'g, K: Eq, V, S: Hashes<K>>(
     requires own { (seat.now.base ≡ blocks.now.words.id.views_name) × (guard.now.base ≡ blocks.now.words.id.views_name) }
     requires under { (t : ℕ) × (seat.now.view.under ≡ Some (guard.now.id, t)) }
     requires free { seat.now.view.work ≡ NoWork }
-    requires shown { (key : K) × Shows K.eq key seat.now.view word }
+    requires shown { (key : K) × HasLookedAt K.eq key seat.now.view word }
     ensures { IsLentBy K.eq S.hash blocks.now.words.fixed seat.now.id seat.now.view guard.now.id guard.now.view word result.now }
 {
     match pair_by(blocks, seat, guard, Link::block_of(word)) {
@@ -90,7 +90,7 @@ fn value_by<'g, K: Eq, V, S: Hashes<K>>(
     }
 }
 
-/// The value of the pair that a seat has found of this key while it leans on the guard's, if it has found one.
+/// Returns the value of the pair that a seat has found of this key while it leans on the guard's, if it has found one.
 fn lent<'g, K: Eq, V, S: Hashes<K>>(
     blocks: &'g Blocks<Node<K, V>, OfMaps<S>>,
     seat: &Seat<Node<K, V>, OfMaps<S>>,

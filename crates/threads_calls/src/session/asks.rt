@@ -19,7 +19,7 @@ use std::hash::Hash;
 use std::sync::Wait;
 use threads_errands::Ran;
 
-/// What a call has told last.
+/// Returns what a call has told last.
 fn told_of<K: Drop, V: Drop>(ran: Ran<K, V>) -> Result<Answer, Fault>
     ensures { result ≡ ran.told }
 {

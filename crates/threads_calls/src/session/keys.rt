@@ -43,7 +43,7 @@ pub(super) fn is_removed(answer: &Answer) -> bool
     matches!(answer, Answer::Key(KeyAnswer::Removed(_)))
 }
 
-/// The key and the value of a pair that was not stored.
+/// Returns the key and the value of a pair that was not stored.
 fn pair_of<K: Drop, V: Drop>(unstored: Option<Node<K, V>>) -> (K, V)
     requires back { (key : K) × (value : V) × (unstored ≡ Some (Pair key value)) }
     ensures { unstored ≡ Some (Pair result.0 result.1) }
@@ -54,7 +54,7 @@ fn pair_of<K: Drop, V: Drop>(unstored: Option<Node<K, V>>) -> (K, V)
     }
 }
 
-/// What came of it, by what its call has answered.
+/// Returns what came of it, by what its call has answered.
 fn came_of<K: Drop, V: Drop>(answer: &Answer, unstored: Option<Node<K, V>>) -> Attempt<K, V>
     requires back { (key : K) × (value : V) × IsBack (Pair key value) (Ok answer.now) unstored }
     ensures stored { has_stored result ≡ puts answer.now }

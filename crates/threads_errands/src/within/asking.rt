@@ -1,12 +1,12 @@
 //! A seat on an errand runs a call on one key that asks.
 ghost use Rattle.std.specs.Prelude.{◌≡◌, ℕ, Some, Ok, Result, IfNone, IfSome, false};
 ghost use Rattle.std.specs.Fn.{FnOnceReturns};
-ghost use Rattle.threads_errands.specs.Asking.{HasAnswered, HasGone, IsOfCall, MakingSays, MayTest, NoneSaid, PausedSo, TestSays, WasTold, makes_pair as kind_that_makes, removes_if as kind_that_tests, reply_of, told_at};
-ghost use Rattle.threads_rule.specs.Errands.Calling.{HasEnded, IsAsking, IsGoing, IsNoQuestion, IsUnderWay, MayDo, wanted_of};
-ghost use Rattle.threads_rule.specs.CallKinds.Kinds.{Kind, Stage, IsFit, ShowsPair, stage_after};
+ghost use Rattle.threads_errands.specs.Asking.{HasAnswered, HasGone, IsOfCall, MakingSays, MayTest, NoneSaid, PausedSo, TestSays, WasReplied, makes_pair as kind_that_makes, removes_if as kind_that_tests, reply_of, progress_at};
+ghost use Rattle.threads_rule.specs.Errands.Calling.{HasEnded, IsAsking, IsGoing, IsNoQuestion, IsUnderWay, MayDoAs, wanted_of};
+ghost use Rattle.threads_rule.specs.CallKinds.Kinds.{Kind, Stage, IsFit, PairIsVisible, stage_after};
 ghost use Rattle.threads_rule.specs.Errands.Looking.{IsOfThem, StaysThere};
 ghost use Rattle.threads_errands.specs.Made.{IsSameSeat};
-ghost use Rattle.threads_errands.specs.declared.within.asking.Pause.TheVariants.{Ended};
+ghost use Rattle.threads_errands.specs.declared.within.asking.Halt.TheVariants.{Ended};
 ghost use Rattle.seize_words.specs.declared.fault.Fault.{Fault as AFault};
 ghost use Rattle.papaya_raw.specs.declared.machines.progress.Answer.{Answer as AnAnswer};
 ghost use Rattle.seize_words.specs.OneMemory.Word.{block_in};
@@ -26,7 +26,7 @@ use std::marker::Brand;
 use std::sync::Wait;
 
 /// How far a call has come that was run on.
-pub(super) enum Pause {
+pub enum Halt {
     /// It asks what to do with the pair of this word, or where the key is missing.
     Asks(Option<u64>),
     /// It has ended so.
@@ -34,33 +34,33 @@ pub(super) enum Pause {
 }
 
 /// Where a call pauses, if it does, by what its step tells. What that hands back is dropped.
-fn paused<T: Drop>(told: Progress<T>) -> Option<Pause>
+fn paused<T: Drop>(told: Progress<T>) -> Option<Halt>
     requires plain { IsOfCall told }
-    ensures paused { IfSome result (λ pause. told ≡ told_at pause) }
+    ensures paused { IfSome result (λ pause. told ≡ progress_at pause) }
     ensures goes { IfNone result (IsGoing told × IsNoQuestion told) }
 {
     match told {
         Progress::Goes | Progress::Waits | Progress::Gave(_) | Progress::Unstored(_) => None,
-        Progress::Asks(pair) => Some(Pause::Asks(pair)),
-        Progress::Done(answer) => Some(Pause::Ended(Ok(answer))),
-        Progress::Refused(fault) => Some(Pause::Ended(Err(fault))),
+        Progress::Asks(pair) => Some(Halt::Asks(pair)),
+        Progress::Done(answer) => Some(Halt::Ended(Ok(answer))),
+        Progress::Refused(fault) => Some(Halt::Ended(Err(fault))),
         Progress::Ready | Progress::Pair(_) => unreachable!(),
     }
 }
 
-/// How a call has ended that does not ask again.
-fn outcome(pause: Pause) -> Result<Answer, Fault>
+/// Returns how a call has ended that does not ask again.
+fn outcome(pause: Halt) -> Result<Answer, Fault>
     requires ended { (answer : Result AnAnswer AFault) × (pause ≡ Ended answer) }
     ensures { pause ≡ Ended result }
 {
     match pause {
-        Pause::Ended(told) => told,
-        Pause::Asks(_) => unreachable!(),
+        Halt::Ended(told) => told,
+        Halt::Asks(_) => unreachable!(),
     }
 }
 
 /// A reply was taken.
-fn taken<V: Drop>(back: Result<(), MachineReply<V>>)
+pub(super) fn taken<V: Drop>(back: Result<(), MachineReply<V>>)
     requires taken { back ≡ Ok tt }
 {
     match back {
@@ -70,7 +70,7 @@ fn taken<V: Drop>(back: Result<(), MachineReply<V>>)
 }
 
 /// What a call is told by the answer of a test.
-fn said<V>(yes: bool) -> MachineReply<V>
+pub(super) fn said<V>(yes: bool) -> MachineReply<V>
     ensures { result ≡ reply_of yes }
 {
     if yes {
@@ -80,7 +80,7 @@ fn said<V>(yes: bool) -> MachineReply<V>
     }
 }
 
-/// The word of the pair that a call asks with.
+/// Returns the word of the pair that a call asks with.
 fn word_of(pair: Option<u64>) -> u64
     requires there { (word : ℕ) × (pair ≡ Some word) }
     ensures { pair ≡ Some result }
@@ -93,7 +93,11 @@ fn word_of(pair: Option<u64>) -> u64
 
 impl<'a, K: Eq + Hash + Drop, V: Drop, S: Hashes<K>> Within<'a, K, V, S> {
     /// Tells its call this, as it is picked.
-    fn tells_as<B: Says<K, V>>(&mut self, _machine: &Machine<K, V>, _reply: &MachineReply<V>)
+    pub(super) fn tells_as<B: Says<K, V>>(
+        &mut self,
+        _machine: &Machine<K, V>,
+        _reply: &MachineReply<V>,
+    )
         requires machine { B.machine ≡ _machine.now }
         requires reply { B.reply ≡ _reply.now }
         requires knows { (map : Map S) × (self.old.seat.now.view.map ≡ Some map) }
@@ -105,7 +109,7 @@ impl<'a, K: Eq + Hash + Drop, V: Drop, S: Hashes<K>> Within<'a, K, V, S> {
     }
 
     /// Tells its call, which asks, something that fits.
-    fn tells(
+    pub fn tells(
         &mut self,
         _hasher: &S,
         machine: &mut Machine<K, V>,
@@ -123,7 +127,7 @@ impl<'a, K: Eq + Hash + Drop, V: Drop, S: Hashes<K>> Within<'a, K, V, S> {
     }
 
     /// Takes the steps of its call until that asks, or has ended. How many it takes is up to the others.
-    fn runs_on<R: Wait>(&mut self, rt: &R, hasher: &S, machine: &mut Machine<K, V>) -> Pause
+    pub fn runs_on<R: Wait>(&mut self, rt: &R, hasher: &S, machine: &mut Machine<K, V>) -> Halt
         requires calls { (k : Kind) × (s : Stage) × IsUnderWay k s hasher.now machine.old self.old.seat.now.view }
         ensures paused { (k : Kind) (s : Stage) → IsUnderWay k s hasher.now machine.old self.old.seat.now.view → PausedSo k s hasher.now machine.new result self.old.seat.now.view self.new.seat.now.view }
         ensures gone { (n : ℕ) × HasGone K.eq S.hash NoneSaid n self.old.seat.now.view self.new.seat.now.view }
@@ -169,25 +173,25 @@ impl<'a, K: Eq + Hash + Drop, V: Drop, S: Hashes<K>> Within<'a, K, V, S> {
         machine: &mut Machine<K, V>,
         make: F,
     ) -> Ran<K, V>
-        requires may { (s : Stage) × (s.told ≡ false) × MayDo K.eq S.hash kind_that_makes s hasher.now machine.old self.old.seat.now.view }
+        requires may { (s : Stage) × (s.told ≡ false) × MayDoAs K.eq S.hash kind_that_makes s hasher.now machine.old self.old.seat.now.view }
         requires callable { F.pre make }
         ensures answered { HasAnswered K.eq S.hash (MakingSays (FnOnceReturns F.FnOnce make tt)) (wanted_of machine.old) result.told self.old.seat.now.view self.new.seat.now.view }
         ensures same { IsSameSeat self.old self.new }
     {
         self.begins(machine);
         match self.runs_on(rt, hasher, machine) {
-            Pause::Ended(told) => self.ran(told, None),
-            Pause::Asks(pair) => {
+            Halt::Ended(told) => self.ran(told, None),
+            Halt::Asks(pair) => {
                 let value = make();
                 self.stores_made(rt, hasher, machine, pair, value)
             }
         }
     }
 
-    /// What a test says of the pair of a word that it shows.
+    /// Returns what a test says of the pair of a word that it shows.
     fn tested<F: Fn(&K, &V) -> bool>(&self, word: u64, test: &F) -> bool
         requires callable { F.IsAlwaysCallable test.now }
-        requires shown { ShowsPair (shown_in self.now.seat.now.view.held) word }
+        requires shown { PairIsVisible (shown_in self.now.seat.now.view.held) word }
         ensures tests { (key : K) (value : V) → shown_in self.now.seat.now.view.held (block_in word) ≡ Some (Pair key value) → MayTest F.Fn test.now key value result }
     {
         match self.value(Link::block_of(word)) {
@@ -207,7 +211,7 @@ impl<'a, K: Eq + Hash + Drop, V: Drop, S: Hashes<K>> Within<'a, K, V, S> {
         requires asks { (s : Stage) × IsAsking kind_that_tests s hasher.now pair machine.old self.old.seat.now.view }
         requires callable { F.IsAlwaysCallable test.now }
         ensures goes { (s : Stage) → IsAsking kind_that_tests s hasher.now pair machine.old self.old.seat.now.view → IsUnderWay kind_that_tests s hasher.now machine.new self.new.seat.now.view }
-        ensures told { WasTold (TestSays (MayTest F.Fn test.now)) self.old.seat.now.view self.new.seat.now.view }
+        ensures told { WasReplied (TestSays (MayTest F.Fn test.now)) self.old.seat.now.view self.new.seat.now.view }
         ensures same { IsSameSeat self.old self.new }
     {
         let word = word_of(pair);
@@ -223,7 +227,7 @@ impl<'a, K: Eq + Hash + Drop, V: Drop, S: Hashes<K>> Within<'a, K, V, S> {
         machine: &mut Machine<K, V>,
         test: &F,
     ) -> Ran<K, V>
-        requires may { (s : Stage) × MayDo K.eq S.hash kind_that_tests s hasher.now machine.old self.old.seat.now.view }
+        requires may { (s : Stage) × MayDoAs K.eq S.hash kind_that_tests s hasher.now machine.old self.old.seat.now.view }
         requires callable { F.IsAlwaysCallable test.now }
         ensures answered { HasAnswered K.eq S.hash (TestSays (MayTest F.Fn test.now)) (wanted_of machine.old) result.told self.old.seat.now.view self.new.seat.now.view }
         ensures same { IsSameSeat self.old self.new }
@@ -231,8 +235,8 @@ impl<'a, K: Eq + Hash + Drop, V: Drop, S: Hashes<K>> Within<'a, K, V, S> {
         self.begins(machine);
         for _ in rt.forever() {
             match self.runs_on(rt, hasher, machine) {
-                Pause::Ended(told) => return self.ran(told, None),
-                Pause::Asks(pair) => self.says(hasher, machine, pair, test),
+                Halt::Ended(told) => return self.ran(told, None),
+                Halt::Asks(pair) => self.says(hasher, machine, pair, test),
             }
         }
         unreachable!()

@@ -1,14 +1,12 @@
-//! A seat on an errand runs a call on one key.
-ghost use Rattle.std.specs.Prelude.{◌≡◌, ℕ, true, false, Some, IfNone, IfSome};
-ghost use Rattle.threads_rule.specs.Errands.Calling.{CalledSo, HasCalled, HasEnded, IsBack, IsCalling, IsGoing, IsNoQuestion, IsUnderWay, MachineStores, MayCall, TellsSo, handed_by, outcome_of, wanted_of};
-ghost use Rattle.threads_rule.specs.CallKinds.Kinds.{Kind, Stage};
-ghost use Rattle.threads_errands.specs.Steps.{HasStepped};
-ghost use Rattle.threads_rule.specs.Errands.Looking.{Begins, HasTold, StaysThere};
+//! A seat on an errand runs a call, whichever it is.
+ghost use Rattle.std.specs.Prelude.{◌≡◌, ℕ, true, false, Some, IfNone, IfOk, IfSome};
+ghost use Rattle.threads_rule.specs.Errands.Calling.{CalledSo, HasCalled, HasEnded, IsAnswerBy, IsBack, IsCalling, IsGoing, IsNoQuestion, MachineStores, MayCall, MayStep, StepsTo, handed_by, outcome_of, sort_of, wanted_of};
+ghost use Rattle.threads_rule.specs.Errands.Looking.{Begins, StaysThere};
 ghost use Rattle.threads_errands.specs.Made.{IsSameSeat};
+ghost use Rattle.threads_errands.specs.Steps.{HasStepped};
 ghost use Rattle.map_tables.specs.Chunks.{is_incremental};
-ghost use Rattle.papaya_raw.specs.Machine.{machine_plan};
 ghost use Rattle.map_tables.specs.declared.node.Node.{Node};
-ghost use Rattle.threads_rule.specs.Views.Told.{HandsBack, MayCome, pair_in};
+ghost use Rattle.threads_rule.specs.Views.Told.{pair_in};
 ghost use Rattle.threads_rule.specs.Views.Rule.{section_of};
 ghost use Rattle.threads_rule.specs.declared.view.Map.{Map};
 ghost use Rattle.threads_rule.specs.declared.view.SeatWork.TheVariants.{Nothing as NoWork};
@@ -32,7 +30,7 @@ pub struct Ran<K, V> {
     pub near: u64,
 }
 
-/// How a call has ended, if it has, by what its step tells. What that hands back is kept.
+/// Returns how a call has ended, if it has, by what its step tells. What that hands back is kept.
 fn ended<T: Drop>(told: Progress<T>, unstored: &mut Option<T>) -> Option<Result<Answer, Fault>>
     requires plain { IsNoQuestion told }
     ensures ended { IfSome result (λ answer. told ≡ outcome_of answer) }
@@ -52,7 +50,7 @@ fn ended<T: Drop>(told: Progress<T>, unstored: &mut Option<T>) -> Option<Result<
 }
 
 impl<'a, K: Eq + Hash + Drop, V: Drop, S: Hashes<K>> Within<'a, K, V, S> {
-    /// A step begins, and no operation was made yet.
+    /// Begins a step: no operation was made yet.
     fn begins_step(&mut self)
         ensures none { self.new.made ≡ false }
         ensures view { self.new.seat.now.view ≡ self.old.seat.now.view }
@@ -61,15 +59,11 @@ impl<'a, K: Eq + Hash + Drop, V: Drop, S: Hashes<K>> Within<'a, K, V, S> {
         self.made = false;
     }
 
-    /// Takes the next step of its call.
-    pub(super) fn steps(&mut self, machine: &mut Machine<K, V>, hasher: &S) -> Progress<Node<K, V>>
-        requires calls { (k : Kind) × (s : Stage) × IsUnderWay k s hasher.now machine.old self.old.seat.now.view }
+    /// Takes the next step of its call, whichever that is.
+    pub fn steps(&mut self, machine: &mut Machine<K, V>, hasher: &S) -> Progress<Node<K, V>>
+        requires may { MayStep hasher.now machine.old self.old.seat.now.view }
         ensures by { HasStepped K.eq S.hash self.old.seat.now.view self.new.seat.now.view }
-        ensures told { (k : Kind) (s : Stage) → IsUnderWay k s hasher.now machine.old self.old.seat.now.view → TellsSo k s hasher.now machine.new result self.new.seat.now.view }
-        ensures calls { HasTold result self.old.seat.now.view self.new.seat.now.view }
-        ensures step { MayCome (machine_plan K.eq K.eq (S.hash hasher.now) machine.old) (machine.new, result) }
-        ensures hands { HandsBack self.old.seat.now.view.calls result }
-        ensures stays { StaysThere self.old.seat.now.view self.new.seat.now.view }
+        ensures stepped { StepsTo K.eq S.hash hasher.now machine.old machine.new result self.old.seat.now.view self.new.seat.now.view }
         ensures same { IsSameSeat self.old self.new }
     {
         self.begins_step();
@@ -85,10 +79,8 @@ impl<'a, K: Eq + Hash + Drop, V: Drop, S: Hashes<K>> Within<'a, K, V, S> {
     fn calls(&mut self, machine: &mut Machine<K, V>, hasher: &S) -> Progress<Node<K, V>>
         requires calls { IsCalling hasher.now machine.old self.old.seat.now.view }
         ensures told { CalledSo hasher.now machine.new result self.new.seat.now.view }
-        ensures calls { HasTold result self.old.seat.now.view self.new.seat.now.view }
-        ensures step { MayCome (machine_plan K.eq K.eq (S.hash hasher.now) machine.old) (machine.new, result) }
-        ensures hands { HandsBack self.old.seat.now.view.calls result }
-        ensures stays { StaysThere self.old.seat.now.view self.new.seat.now.view }
+        ensures like { sort_of machine.new ≡ sort_of machine.old }
+        ensures stepped { StepsTo K.eq S.hash hasher.now machine.old machine.new result self.old.seat.now.view self.new.seat.now.view }
         ensures same { IsSameSeat self.old self.new }
     {
         self.steps(machine, hasher)
@@ -110,6 +102,7 @@ impl<'a, K: Eq + Hash + Drop, V: Drop, S: Hashes<K>> Within<'a, K, V, S> {
     fn runs<R: Wait>(&mut self, rt: &R, hasher: &S, machine: &mut Machine<K, V>) -> Ran<K, V>
         requires calls { IsCalling hasher.now machine.old self.old.seat.now.view }
         ensures ended { HasEnded result.told self.old.seat.now.view self.new.seat.now.view }
+        ensures fits { IfOk result.told (IsAnswerBy machine.old) }
         ensures back { (pair : Node K V) → MachineStores pair machine.old → pair_in self.old.seat.now.view.calls ≡ Some pair → IsBack pair result.told result.unstored }
         ensures stays { StaysThere self.old.seat.now.view self.new.seat.now.view }
         ensures same { IsSameSeat self.old self.new }
@@ -137,7 +130,7 @@ impl<'a, K: Eq + Hash + Drop, V: Drop, S: Hashes<K>> Within<'a, K, V, S> {
     }
 
     /// Begins this call on the map that it knows, which is in incremental mode, within its section.
-    pub(super) fn begins(&mut self, machine: &Machine<K, V>)
+    pub fn begins(&mut self, machine: &Machine<K, V>)
         requires inside { (t : ℕ) × (section_of self.old.seat.now.view.under self.old.seat.now.view.slot ≡ Some t) }
         requires knows { (map : Map S) × (self.old.seat.now.view.map ≡ Some map) × (is_incremental map.setting.mode ≡ true) }
         requires free { self.old.seat.now.view.work ≡ NoWork }
@@ -156,6 +149,7 @@ impl<'a, K: Eq + Hash + Drop, V: Drop, S: Hashes<K>> Within<'a, K, V, S> {
     ) -> Ran<K, V>
         requires may { MayCall K.eq S.hash hasher.now machine.old self.old.seat.now.view }
         ensures called { HasCalled K.eq S.hash (wanted_of machine.old) result.told result.unstored self.old.seat.now.view self.new.seat.now.view }
+        ensures fits { IfOk result.told (IsAnswerBy machine.old) }
         ensures same { IsSameSeat self.old self.new }
     {
         self.begins(machine);

@@ -1,7 +1,7 @@
 //! A seat on an errand looks a key up.
 ghost use Rattle.std.specs.Prelude.{◌≡◌, ℕ, true, Some};
 ghost use Rattle.threads_rule.specs.Given.ActsActs.{Get};
-ghost use Rattle.threads_rule.specs.Errands.Looking.{Begins, HasCome, HasLooked, HasSeen, HasTold, LookedSo, LooksFor, MayLook, StaysThere, found_of, looking_told};
+ghost use Rattle.threads_rule.specs.Errands.Looking.{Begins, HasCome, HasLooked, HasSeen, HasProgressed, LookedSo, LooksFor, MayLook, StaysThere, found_of, progress_of_lookup};
 ghost use Rattle.threads_errands.specs.Made.{IsSameSeat};
 ghost use Rattle.map_machines.specs.Lookup.{looking};
 ghost use Rattle.map_tables.specs.Chunks.{is_incremental};
@@ -49,7 +49,7 @@ impl<'a, K: Eq + Hash, V, S: Hashes<K>> Within<'a, K, V, S> {
     fn looks(&mut self, lookup: &mut Lookup, key: &K) -> Advance<Option<u64>>
         requires looks { LooksFor key.now lookup.old self.old.seat.now.view }
         ensures told { LookedSo K.eq key.now lookup.new result self.new.seat.now.view }
-        ensures calls { HasTold (looking_told result) self.old.seat.now.view self.new.seat.now.view }
+        ensures calls { HasProgressed (progress_of_lookup result) self.old.seat.now.view self.new.seat.now.view }
         ensures stays { StaysThere self.old.seat.now.view self.new.seat.now.view }
         ensures same { IsSameSeat self.old self.new }
     {
@@ -60,7 +60,7 @@ impl<'a, K: Eq + Hash, V, S: Hashes<K>> Within<'a, K, V, S> {
     pub(crate) fn goes_through<R: Wait>(&mut self, rt: &R, lookup: Lookup, key: &K) -> Option<u64>
         requires looks { LooksFor key.now lookup self.old.seat.now.view }
         ensures looked { HasLooked K.eq key.now result self.new.seat.now.view }
-        ensures told { HasTold (found_of result) self.old.seat.now.view self.new.seat.now.view }
+        ensures told { HasProgressed (found_of result) self.old.seat.now.view self.new.seat.now.view }
         ensures stays { StaysThere self.old.seat.now.view self.new.seat.now.view }
         ensures same { IsSameSeat self.old self.new }
     {

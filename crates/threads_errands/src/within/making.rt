@@ -1,7 +1,7 @@
 //! A seat on an errand makes a map of no table.
 ghost use Rattle.std.specs.Prelude.{◌≡◌};
 ghost use Rattle.threads_errands.specs.Made.{IsSameSeat};
-ghost use Rattle.threads_rule.specs.Errands.Making.{BeginsMaking, CameTo, GetsOn, IsThis, KnowsStill, MadeSo, MakesMap, MayBegin, PlansJust, StaysChosen};
+ghost use Rattle.threads_rule.specs.Errands.Making.{BeginsMaking, HasOutcome, GetsOn, IsThis, KnowsStill, MadeSo, MakesMap, MayBegin, PlansJust, StaysChosen};
 ghost use Rattle.threads_rule.specs.Views.Rule.{stand_of};
 ghost use Rattle.threads_rule.specs.declared.view.SeatWork.TheVariants.{Nothing as NoWork};
 ghost use Rattle.seize_views.specs.declared.view.SlotView.TheVariants.{Rests};
@@ -57,7 +57,7 @@ impl<'a, K: Eq + Drop, V: Drop, S: Hashes<K>> Within<'a, K, V, S> {
     /// Takes the steps of the making until it has ended.
     fn goes_on(&mut self, _hasher: &S, opening: NewMap) -> Result<Setting, Fault>
         requires makes { MakesMap _hasher.now opening self.old.seat.now.view }
-        ensures made { CameTo _hasher.now opening result self.old.seat.now.view self.new.seat.now.view }
+        ensures made { HasOutcome _hasher.now opening result self.old.seat.now.view self.new.seat.now.view }
         ensures same { IsSameSeat self.old self.new }
     {
         let mut opening = opening;
@@ -77,7 +77,7 @@ impl<'a, K: Eq + Drop, V: Drop, S: Hashes<K>> Within<'a, K, V, S> {
         requires may { MayBegin self.old.blocks.now.words.fixed opening }
         requires rests { self.old.seat.now.view.slot ≡ Rests }
         requires free { self.old.seat.now.view.work ≡ NoWork }
-        ensures made { CameTo hasher.now opening result self.old.seat.now.view self.new.seat.now.view }
+        ensures made { HasOutcome hasher.now opening result self.old.seat.now.view self.new.seat.now.view }
         ensures same { IsSameSeat self.old self.new }
     {
         self.begins_to_make(hasher, &opening);

@@ -20,7 +20,7 @@ use Rattle.papaya_raw.specs.declared.machines.asking.Told.TheVariants as tells
 use Rattle.papaya_raw.specs.declared.machines.call.Calling.{Calling}
 use Rattle.papaya_raw.specs.declared.machines.call.Calling.TheVariants as at
 use Rattle.papaya_raw.specs.declared.machines.call.KeyCall.{KeyCall}
-use Rattle.threads_rule.specs.CallKinds.Kinds.{Kind, Stage, IsUntold, IsTold, IsNoValue, IsOneValue, IsOfGap, IsFresh, HoldsBy, StandsSo, ShowsPair, IsSo, GoesOn, SaysSo}
+use Rattle.threads_rule.specs.CallKinds.Kinds.{Kind, Stage, IsUntold, IsReplied, IsNoValue, IsOneValue, IsOfGap, IsFresh, HoldsBy, IsAtPointSo, PairIsVisible, IsSo, Continues, SaysSo}
 
 module _ {K V : Type 0} where
   -- a value that has still to be put into a block is that of a call that has none
@@ -86,7 +86,7 @@ module _ {K V Q : Type 0} (k : Kind) (s : Stage) (shown : ℕ → Option (Node K
   pub so_at : (stands : Calling) → IsSo k s (standing c stands)
   so_at stands = record { kind = is.kind; holds = is.holds; gap = is.gap }
 
-  pub goes_at : (stands : Calling) → StandsSo s.told c.replies c.own stands → GoesOn k s (standing c stands)
+  pub goes_at : (stands : Calling) → IsAtPointSo s.told c.replies c.own stands → Continues k s (standing c stands)
   goes_at stands here = record { so = so_at stands; here = here }
 
   pub over_says : (end : End) → Says (over c end)
@@ -101,7 +101,7 @@ module _ {K V Q : Type 0} (k : Kind) (s : Stage) (shown : ℕ → Option (Node K
       by false = goes_at (at.Drops end) tt
 
   -- it puts its own block there, once that has its value
-  storing_says : (t : Told V) → (told : Bool) → s.told ≡ told → IsToPut t c.replies c.own → IsTold t → IsOfGap t → (word : ℕ) → Says (storing t c word)
+  storing_says : (t : Told V) → (told : Bool) → s.told ≡ told → IsToPut t c.replies c.own → IsReplied t → IsOfGap t → (word : ℕ) → Says (storing t c word)
   storing_says tells.Own told e put is_told gap word = goes_at (at.Tries word c.own) tt
   storing_says (tells.Value value) told e put is_told gap word = goes_at (at.Asks (asking.Fills word)) put
   storing_says tells.Nothing told e put is_told gap word = absurd is_told
@@ -115,7 +115,7 @@ module _ {K V Q : Type 0} (k : Kind) (s : Stage) (shown : ℕ → Option (Node K
       by false e = goes_at (at.Asks (asking.GivesUp word)) (none_left c.replies c.own s.told is.holds e)
 
   -- where the key is missing
-  pub at_gap_says : IsTold c.replies.absent → (gap : Gap) → Says (at_gap gap c)
+  pub at_gap_says : IsReplied c.replies.absent → (gap : Gap) → Says (at_gap gap c)
   at_gap_says told gaps.NoTable = record { so = record { kind = is.kind; holds = is.holds; gap = is.gap }; here = tt }
   at_gap_says told gaps.Free =
       storing_says c.replies.absent s.told refl (absent_by c.replies c.own s.told is.holds c.replies.absent refl) told (of_gap c.replies c.own s.told is.holds) 0
@@ -127,15 +127,15 @@ module _ {K V Q : Type 0} (k : Kind) (s : Stage) (shown : ℕ → Option (Node K
     where
       by : (t : Told V) → c.replies.absent ≡ t → Says (gap_by t gap c)
       by tells.Nothing e = (so_at (at.Asks (asking.Absent gap)), record { gap = gap; asks = asks; here = refl; untold = subst IsUntold (sym e) tt })
-      by tells.Own e = at_gap_says (subst IsTold (sym e) tt) gap
-      by (tells.Value value) e = at_gap_says (subst IsTold (sym e) tt) gap
-      by tells.Removes e = at_gap_says (subst IsTold (sym e) tt) gap
+      by tells.Own e = at_gap_says (subst IsReplied (sym e) tt) gap
+      by (tells.Value value) e = at_gap_says (subst IsReplied (sym e) tt) gap
+      by tells.Removes e = at_gap_says (subst IsReplied (sym e) tt) gap
 
   pub gap_says : c.missing ≡ missing.Asks → (gap : Gap) → Says (asking_at gap c)
   gap_says asks gap = asking_says (sym (ap (λ (x : Kind). x.absent) is.kind) ∙ asks) gap
 
   -- where it is there
-  pub pair_says : c.there ≡ there.Asks → (word : ℕ) → ShowsPair shown word → Says (asking_of c word)
+  pub pair_says : c.there ≡ there.Asks → (word : ℕ) → PairIsVisible shown word → Says (asking_of c word)
   pair_says asks word shows = choose (block_in word == c.replies.pair)
     where
       by : (t : Told V) → IsToPut t c.replies c.own → Says (pair_by t c word)

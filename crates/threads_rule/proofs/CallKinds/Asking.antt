@@ -38,7 +38,7 @@ use Rattle.papaya_raw.specs.Answers.{ended}
 use Rattle.papaya_raw.specs.CallFills.{asks_at, putting_by, fill_by, fills_with}
 use Rattle.papaya_raw.specs.Replies.{value_for, as_own}
 use Rattle.papaya_raw.specs.Call.{makes_of, root_read, root_found, next_read, next_found, dropped, key_read, pair_read, word_read, word_found, tried, looked, looks_for, first_made, next_made, disposed, helped, copied, plan_at, call_plan, have_one_key}
-use Rattle.papaya_raw.specs.CallPoints.{aim_of, going, over, ending, answering, tableless, at_free, at_end, beyond, at_last, at_pair, following_made, asking_at, having_met, passed, halted, told_of, told, entering, went_on, changed, counted}
+use Rattle.papaya_raw.specs.CallPoints.{aim_of, going, over, ending, answering, tableless, at_free, at_end, beyond, at_last, at_pair, following_made, asking_at, having_met, passed, halted, after_finding, told, entering, continued_in, changed, counted}
 use Rattle.papaya_raw.specs.declared.machines.answer.Called.{Called}
 use Rattle.papaya_raw.specs.declared.machines.answer.End.{End}
 use Rattle.papaya_raw.specs.declared.machines.answer.End.TheVariants as ends
@@ -55,11 +55,12 @@ use Rattle.papaya_raw.specs.declared.machines.call.Calling.{Calling}
 use Rattle.papaya_raw.specs.declared.machines.call.Calling.TheVariants as at
 use Rattle.papaya_raw.specs.declared.machines.call.KeyCall.{KeyCall}
 use Rattle.threads_rule.specs.CallKinds.Answers.{IsAnswer}
-use Rattle.threads_rule.specs.CallKinds.Kinds.{Kind, Stage, IsFresh, HoldsBy, StandsSo, ShowsPair, IsSo, GoesOn, SaysSo}
+use Rattle.threads_rule.specs.CallKinds.Leads.{Leads}
+use Rattle.threads_rule.specs.CallKinds.Kinds.{Kind, Stage, IsFresh, HoldsBy, IsAtPointSo, PairIsVisible, IsSo, Continues, SaysSo}
 use Rattle.threads_rule.proofs.CallKinds.Asked.{of_gap, holds_none, over_says, ending_says, gap_says, pair_says}
 use Rattle.threads_rule.proofs.CallKinds.Filled.{fills_say, gives_say}
 use Rattle.threads_rule.proofs.CallKinds.Pairs.{there_same, pair_named, one_key_named}
-use Rattle.threads_rule.proofs.CallKinds.Leads.{Leads, leads_as}
+use Rattle.threads_rule.proofs.CallKinds.Leads.{leads_as}
 use Rattle.threads_rule.proofs.CallKinds.Quiet.{IsQuiet, quiet_as, table_is, dispose_is, copier_is, lookup_is}
 
 module _ {K V Q : Type 0} (k : Kind) (s : Stage) (shown : ℕ → Option (Node K V)) where
@@ -108,7 +109,7 @@ module _ {K V Q : Type 0} (k : Kind) (s : Stage) (shown : ℕ → Option (Node K
         by true = gap_says k s shown c is e gaps.Last
         by false = record { so = record { kind = is.kind; holds = is.holds; gap = is.gap }; here = tt }
 
-    there_says : (t : There) → c.there ≡ t → (word : ℕ) → ShowsPair shown word → Says (at_pair t c word)
+    there_says : (t : There) → c.there ≡ t → (word : ℕ) → PairIsVisible shown word → Says (at_pair t c word)
     there_says there.Answers e word shows = ends_so (ends.Answered (answers.Found word))
     there_says there.Puts e word shows = record { so = record { kind = is.kind; holds = is.holds; gap = is.gap }; here = tt }
     there_says there.Removes e word shows = record { so = record { kind = is.kind; holds = is.holds; gap = is.gap }; here = tt }
@@ -122,7 +123,7 @@ module _ {K V Q : Type 0} (k : Kind) (s : Stage) (shown : ℕ → Option (Node K
     halted_says true = record { so = record { kind = is.kind; holds = is.holds; gap = is.gap }; here = tt }
     halted_says false = record { so = record { kind = is.kind; holds = is.holds; gap = is.gap }; here = tt }
 
-    went_says : (table : Table) → Says (went_on c table)
+    went_says : (table : Table) → Says (continued_in c table)
     went_says table = by (is_incremental c.setting.mode) c.helped
       where
         by : (b h : Bool) → Says (if b then (if h then entering c table else going (record c { helped = true }) (at.Helps (helping c.setting) table)) else going c (at.Copies (copying_all c.setting c.trial.table table)))
@@ -188,14 +189,14 @@ module _ {K V Q : Type 0} (k : Kind) (s : Stage) (shown : ℕ → Option (Node K
   met : (c : KeyCall K V Q) (word : ℕ) → IsSo k s c → IsSo k s (having_met c word)
   met c word is = record { kind = is.kind; holds = is.holds; gap = is.gap }
 
-  told_says : (c : KeyCall K V Q) → IsSo k s c → (loaded : Bool) (word : ℕ) (f : Finding) → (f ≡ found.There → ShowsPair shown word) → Says (told_of loaded c word f)
+  told_says : (c : KeyCall K V Q) → IsSo k s c → (loaded : Bool) (word : ℕ) (f : Finding) → (f ≡ found.There → PairIsVisible shown word) → Says (after_finding loaded c word f)
   told_says c is loaded word found.Free sees = free_says c is c.missing refl
   told_says c is loaded word found.Passed sees = passed_says (having_met c word) (met c word is) (next_trial (with_met c.trial word))
   told_says c is loaded word found.Moved sees = record { so = record { kind = is.kind; holds = is.holds; gap = is.gap }; here = tt }
   told_says c is loaded word found.Copying sees = halted_says c is loaded
   told_says c is loaded word found.There sees = there_says c is c.there refl word (sees refl)
 
-module _ {K V Q : Type 0} (k : Kind) (s : Stage) (asks : Q → K → Bool) (eq : K → K → Bool) (hashes : K → ℕ) (c : KeyCall K V Q) (goes : GoesOn k s c) where
+module _ {K V Q : Type 0} (k : Kind) (s : Stage) (asks : Q → K → Bool) (eq : K → K → Bool) (hashes : K → ℕ) (c : KeyCall K V Q) (goes : Continues k s c) where
   abbrev its : IsSo k s c
   its = goes.so
 
@@ -213,13 +214,13 @@ module _ {K V Q : Type 0} (k : Kind) (s : Stage) (asks : Q → K → Bool) (eq :
       by None = tt
       by (Some value) = puts _ fresh.0 value (c.own == 0) (eq-eqb c.own 0 fresh.2)
 
-  asks_quiet : (asking : Asking) → StandsSo s.told c.replies c.own (at.Asks asking) → IsQuiet (asks_at c asking)
+  asks_quiet : (asking : Asking) → IsAtPointSo s.told c.replies c.own (at.Asks asking) → IsQuiet (asks_at c asking)
   asks_quiet (asking.Absent gap) here = absurd here
   asks_quiet (asking.Present word) here = absurd here
   asks_quiet (asking.Fills word) here = fills_quiet word here
   asks_quiet (asking.GivesUp word) here = tt
 
-  quiet_at : (p : Calling) → StandsSo s.told c.replies c.own p → IsQuiet (plan_at asks eq hashes c p)
+  quiet_at : (p : Calling) → IsAtPointSo s.told c.replies c.own p → IsQuiet (plan_at asks eq hashes c p)
   quiet_at at.Makes here = by c.unmade
     where
       by : (o : Option (Node K V)) → IsQuiet (makes_of c o)
@@ -261,10 +262,10 @@ module _ {K V Q : Type 0} (k : Kind) (s : Stage) (asks : Q → K → Bool) (eq :
     abbrev To : KeyCall K V Q × Called (Node K V) → Type 0
     To e = SaysSo k s shown e
 
-    made_so : StandsSo s.told c.replies c.own at.Makes → (own : ℕ) → HoldsBy s.told c.replies own
+    made_so : IsAtPointSo s.told c.replies c.own at.Makes → (own : ℕ) → HoldsBy s.told c.replies own
     made_so here own = subst (λ (b : Bool). HoldsBy b c.replies own) (sym here.0) (of_gap c.replies c.own s.told its.holds, inr (here.1, here.2))
 
-    makes_say : StandsSo s.told c.replies c.own at.Makes → (o : Option (Node K V)) → Leads shown (makes_of c o) end → To end
+    makes_say : IsAtPointSo s.told c.replies c.own at.Makes → (o : Option (Node K V)) → Leads shown (makes_of c o) end → To end
     makes_say here None e = subst To (sym e) record { so = record { kind = its.kind; holds = its.holds; gap = its.gap }; here = tt }
     makes_say here (Some node) (Made (Ok block), fits, e) = subst To (sym e) record { so = record { kind = its.kind; holds = made_so here _; gap = its.gap }; here = tt }
     makes_say here (Some node) (Made (Err back), fits, e) = subst To (sym e) record { so = record { kind = its.kind; holds = its.holds; gap = its.gap }; here = tt }
@@ -296,7 +297,7 @@ module _ {K V Q : Type 0} (k : Kind) (s : Stage) (asks : Q → K → Bool) (eq :
     next_say : (link : ℕ) → Ends shown (next_read c link) end → To end
     next_say link = by (link == 0)
       where
-        by : (b : Bool) → Ends shown (if b then Now (at_last c.missing c) else Seeing (block_in link) (λ value. Now (went_on c (table_seen link value)))) end → To end
+        by : (b : Bool) → Ends shown (if b then Now (at_last c.missing c) else Seeing (block_in link) (λ value. Now (continued_in c (table_seen link value)))) end → To end
         by true e = subst To (sym e) (last_says k s shown c its c.missing refl)
         by false e = subst To (sym e.2) (went_says k s shown c its (table_seen link e.0))
 
@@ -308,7 +309,7 @@ module _ {K V Q : Type 0} (k : Kind) (s : Stage) (asks : Q → K → Bool) (eq :
     nexts_say (Taken x) fits e = absurd fits
     nexts_say (Roomed x) fits e = absurd fits
 
-    said : (loaded : Bool) (word : ℕ) (same : Bool) → (same ≡ true → ShowsPair shown word) → end ≡ told loaded c word same → To end
+    said : (loaded : Bool) (word : ℕ) (same : Bool) → (same ≡ true → PairIsVisible shown word) → end ≡ told loaded c word same → To end
     said loaded word same sees e =
         subst To (sym e) (told_says k s shown c its loaded word (finding c.setting.mode (aim_of c.missing) word same)
         (λ there. sees (there_same c.setting.mode (aim_of c.missing) word same there)))
@@ -354,7 +355,7 @@ module _ {K V Q : Type 0} (k : Kind) (s : Stage) (asks : Q → K → Bool) (eq :
     drops_say last (Made x) fits e = absurd fits
     drops_say last (Roomed x) fits e = absurd fits
 
-    asks_say : (asking : Asking) → StandsSo s.told c.replies c.own (at.Asks asking) → Leads shown (asks_at c asking) end → To end
+    asks_say : (asking : Asking) → IsAtPointSo s.told c.replies c.own (at.Asks asking) → Leads shown (asks_at c asking) end → To end
     asks_say (asking.Absent gap) here e = absurd here
     asks_say (asking.Present word) here e = absurd here
     asks_say (asking.Fills word) here e = fills_say k s shown c its end word here e
@@ -364,7 +365,7 @@ module _ {K V Q : Type 0} (k : Kind) (s : Stage) (asks : Q → K → Bool) (eq :
     over_stays (ends.Answered answer) = goes
     over_stays (ends.Refused fault) = goes
 
-    say_at : (p : Calling) → StandsSo s.told c.replies c.own p → Leads shown (plan_at asks eq hashes c p) end → To end
+    say_at : (p : Calling) → IsAtPointSo s.told c.replies c.own p → Leads shown (plan_at asks eq hashes c p) end → To end
     say_at at.Makes here e = makes_say here c.unmade e
     say_at (at.Looks lookup) here e = looks_say lookup c.asked e
     say_at at.Roots here e = roots_say e.0 e.1 e.2

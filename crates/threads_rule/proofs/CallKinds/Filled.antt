@@ -6,7 +6,7 @@ use Rattle.seize_words.specs.OneMemory.Op.{Found, Stored, Exchanged, Made, Taken
 use Rattle.map_tables.specs.declared.node.Node.{Node}
 use Rattle.map_tables.specs.declared.node.Node.TheVariants as nodes
 use Rattle.papaya_raw.specs.CallFills.{putting_by, fill_by, fills_with, fills, gives_up}
-use Rattle.papaya_raw.specs.Replies.{value_told, owned, value_for, back, back_present}
+use Rattle.papaya_raw.specs.Replies.{value_replied, owned, value_for, back, back_present}
 use Rattle.papaya_raw.specs.declared.machines.answer.Called.{Called}
 use Rattle.papaya_raw.specs.declared.machines.asking.Asking.TheVariants as asking
 use Rattle.papaya_raw.specs.declared.machines.asking.Replies.{Replies}
@@ -15,18 +15,18 @@ use Rattle.papaya_raw.specs.declared.machines.asking.Told.TheVariants as tells
 use Rattle.papaya_raw.specs.declared.machines.call.Calling.{Calling}
 use Rattle.papaya_raw.specs.declared.machines.call.Calling.TheVariants as at
 use Rattle.papaya_raw.specs.declared.machines.call.KeyCall.{KeyCall}
-use Rattle.threads_rule.specs.CallKinds.Kinds.{Kind, Stage, IsUntold, IsNoValue, IsOneValue, IsOfGap, IsGapTold, IsFresh, HoldsBy, StandsSo, IsSo, SaysSo}
+use Rattle.threads_rule.specs.CallKinds.Kinds.{Kind, Stage, IsUntold, IsNoValue, IsOneValue, IsOfGap, IsGapReplied, IsFresh, HoldsBy, IsAtPointSo, IsSo, SaysSo}
 use Rattle.threads_rule.proofs.CallKinds.Asked.{of_gap}
-use Rattle.threads_rule.proofs.CallKinds.Leads.{Leads}
+use Rattle.threads_rule.specs.CallKinds.Leads.{Leads}
 
 module _ {V : Type 0} where
-  untold_none : (t : Told V) (v : V) → IsUntold t → value_told t ≡ Some v → ⊥
+  untold_none : (t : Told V) (v : V) → IsUntold t → value_replied t ≡ Some v → ⊥
   untold_none tells.Nothing v is e = cc e
   untold_none tells.Own v is e = absurd is
   untold_none (tells.Value value) v is e = absurd is
   untold_none tells.Removes v is e = absurd is
 
-  no_value : (t : Told V) (v : V) → IsNoValue t → value_told t ≡ Some v → ⊥
+  no_value : (t : Told V) (v : V) → IsNoValue t → value_replied t ≡ Some v → ⊥
   no_value tells.Nothing v is e = cc e
   no_value tells.Own v is e = cc e
   no_value (tells.Value value) v is e = absurd is
@@ -44,19 +44,19 @@ module _ {V : Type 0} where
   owned_gap (tells.Value value) is = tt
   owned_gap tells.Removes is = absurd is
 
-  owned_told : (gap : Bool) (t : Told V) → IsGapTold gap t → IsGapTold gap (owned t)
+  owned_told : (gap : Bool) (t : Told V) → IsGapReplied gap t → IsGapReplied gap (owned t)
   owned_told false t is = tt
   owned_told true tells.Nothing is = absurd is
   owned_told true tells.Own is = tt
   owned_told true (tells.Value value) is = tt
   owned_told true tells.Removes is = tt
 
-  value_told_so : (gap : Bool) (value : V) → IsGapTold gap (tells.Value value)
+  value_told_so : (gap : Bool) (value : V) → IsGapReplied gap (tells.Value value)
   value_told_so true value = tt
   value_told_so false value = tt
 
   -- where one of two is the value, the other is none
-  after_first : (t u : Told V) (v : V) → IsOneValue t u → value_told t ≡ Some v → IsNoValue u
+  after_first : (t u : Told V) (v : V) → IsOneValue t u → value_replied t ≡ Some v → IsNoValue u
   after_first t tells.Nothing v one e = tt
   after_first t tells.Own v one e = tt
   after_first t tells.Removes v one e = tt
@@ -65,7 +65,7 @@ module _ {V : Type 0} where
   after_first tells.Own (tells.Value y) v one e = absurd (cc e)
   after_first tells.Removes (tells.Value y) v one e = absurd (cc e)
 
-  after_second : (t u : Told V) (v : V) → IsOneValue t u → value_told u ≡ Some v → IsNoValue t
+  after_second : (t u : Told V) (v : V) → IsOneValue t u → value_replied u ≡ Some v → IsNoValue t
   after_second tells.Nothing u v one e = tt
   after_second tells.Own u v one e = tt
   after_second tells.Removes u v one e = tt
@@ -91,7 +91,7 @@ module _ {V : Type 0} where
 
 module _ {K V : Type 0} (r : Replies K V) (own next : ℕ) (v : V) where
   -- the value that it was told is in its own block
-  absent_owned : (told : Bool) → HoldsBy told r own → value_told r.absent ≡ Some v → HoldsBy told (record r { absent = owned r.absent; key = None }) next
+  absent_owned : (told : Bool) → HoldsBy told r own → value_replied r.absent ≡ Some v → HoldsBy told (record r { absent = owned r.absent; key = None }) next
   absent_owned false h some = absurd (untold_none r.absent v h.1 some)
   absent_owned true h some = (
     owned_gap r.absent h.0,
@@ -104,7 +104,7 @@ module _ {K V : Type 0} (r : Replies K V) (own next : ℕ) (v : V) where
     ),
   )
 
-  present_owned : (told : Bool) → HoldsBy told r own → value_told r.present ≡ Some v → HoldsBy told (record r { present = owned r.present; key = None }) next
+  present_owned : (told : Bool) → HoldsBy told r own → value_replied r.present ≡ Some v → HoldsBy told (record r { present = owned r.present; key = None }) next
   present_owned false h some = absurd (no_value r.present v h.2 some)
   present_owned true h some = (
     h.0,
@@ -119,17 +119,17 @@ module _ {K V : Type 0} (r : Replies K V) (own next : ℕ) (v : V) where
 
 module _ {K V : Type 0} (r : Replies K V) where
   -- where there is no value for a word, nothing changes
-  unowned : (b : Bool) → value_told (if b then r.absent else r.present) ≡ None → (if b then record r { absent = owned r.absent } else record r { present = owned r.present }) ≡ r
+  unowned : (b : Bool) → value_replied (if b then r.absent else r.present) ≡ None → (if b then record r { absent = owned r.absent } else record r { present = owned r.present }) ≡ r
   unowned true none = ap (λ (t : Told V). record r { absent = t }) (by r.absent none)
     where
-      by : (t : Told V) → value_told t ≡ None → owned t ≡ t
+      by : (t : Told V) → value_replied t ≡ None → owned t ≡ t
       by tells.Nothing e = refl
       by tells.Own e = refl
       by (tells.Value value) e = absurd (cc e)
       by tells.Removes e = refl
   unowned false none = ap (λ (t : Told V). record r { present = t }) (by r.present none)
     where
-      by : (t : Told V) → value_told t ≡ None → owned t ≡ t
+      by : (t : Told V) → value_replied t ≡ None → owned t ≡ t
       by tells.Nothing e = refl
       by tells.Own e = refl
       by (tells.Value value) e = absurd (cc e)
@@ -140,7 +140,7 @@ module _ {K V Q : Type 0} (k : Kind) (s : Stage) (shown : ℕ → Option (Node K
   abbrev owned_by : Bool → Replies K V
   owned_by b = if b then record c.replies { absent = owned c.replies.absent } else record c.replies { present = owned c.replies.present }
 
-  owned_so : (b : Bool) (v : V) → value_told (if b then c.replies.absent else c.replies.present) ≡ Some v → (next : ℕ) (stands : Calling)
+  owned_so : (b : Bool) (v : V) → value_replied (if b then c.replies.absent else c.replies.present) ≡ Some v → (next : ℕ) (stands : Calling)
       → IsSo k s (record c { replies = record (owned_by b) { key = None }; own = next; stands = stands })
   owned_so true v some next stands = record {
     kind = is.kind;
@@ -150,7 +150,7 @@ module _ {K V Q : Type 0} (k : Kind) (s : Stage) (shown : ℕ → Option (Node K
   owned_so false v some next stands = record { kind = is.kind; holds = present_owned c.replies c.own next v s.told is.holds some; gap = is.gap }
 
   -- a value is put into a block that is made
-  fill : (word : ℕ) (key : K) → c.own ≡ 0 → (b : Bool) (o : Option V) → value_told (if b then c.replies.absent else c.replies.present) ≡ o
+  fill : (word : ℕ) (key : K) → c.own ≡ 0 → (b : Bool) (o : Option V) → value_replied (if b then c.replies.absent else c.replies.present) ≡ o
       → Leads shown (fill_by o (record c { replies = owned_by b }) word key) end → SaysSo k s shown end
   fill word key none b None is_none e =
       let same = unowned c.replies b is_none in
@@ -177,7 +177,7 @@ module _ {K V Q : Type 0} (k : Kind) (s : Stage) (shown : ℕ → Option (Node K
   abbrev given : K → V → Told V → Replies K V
   given key value t = back t (record c.replies { key = Some key }) value
 
-  as_it_was : (key : K) → StandsSo s.told c.replies c.own (at.Asks (asking.GivesUp 0)) → (stands : Calling)
+  as_it_was : (key : K) → IsAtPointSo s.told c.replies c.own (at.Asks (asking.GivesUp 0)) → (stands : Calling)
       → IsSo k s (record c { replies = record c.replies { key = Some key }; own = 0; stands = stands })
   as_it_was key here stands = record {
     kind = is.kind;
@@ -185,7 +185,7 @@ module _ {K V Q : Type 0} (k : Kind) (s : Stage) (shown : ℕ → Option (Node K
     gap = is.gap;
   }
 
-  kept_so : (key : K) (value : V) → StandsSo s.told c.replies c.own (at.Asks (asking.GivesUp 0)) → (stands : Calling) (u : Told V) → c.replies.present ≡ u
+  kept_so : (key : K) (value : V) → IsAtPointSo s.told c.replies c.own (at.Asks (asking.GivesUp 0)) → (stands : Calling) (u : Told V) → c.replies.present ≡ u
       → IsSo k s (record c { replies = back_present u (record c.replies { key = Some key }) value; own = 0; stands = stands })
   kept_so key value here stands tells.Own e = record {
     kind = is.kind;
@@ -198,7 +198,7 @@ module _ {K V Q : Type 0} (k : Kind) (s : Stage) (shown : ℕ → Option (Node K
   kept_so key value here stands (tells.Value x) e = as_it_was key here stands
   kept_so key value here stands tells.Removes e = as_it_was key here stands
 
-  given_so : (key : K) (value : V) → StandsSo s.told c.replies c.own (at.Asks (asking.GivesUp 0)) → (t : Told V) → c.replies.absent ≡ t → (stands : Calling)
+  given_so : (key : K) (value : V) → IsAtPointSo s.told c.replies c.own (at.Asks (asking.GivesUp 0)) → (t : Told V) → c.replies.absent ≡ t → (stands : Calling)
       → IsSo k s (record c { replies = given key value t; own = 0; stands = stands })
   given_so key value here tells.Own e stands = record {
     kind = is.kind;
@@ -210,14 +210,14 @@ module _ {K V Q : Type 0} (k : Kind) (s : Stage) (shown : ℕ → Option (Node K
   given_so key value here (tells.Value x) e stands = kept_so key value here stands c.replies.present refl
   given_so key value here tells.Removes e stands = kept_so key value here stands c.replies.present refl
 
-  gone_so : StandsSo s.told c.replies c.own (at.Asks (asking.GivesUp 0)) → (stands : Calling) → IsSo k s (record c { own = 0; stands = stands })
+  gone_so : IsAtPointSo s.told c.replies c.own (at.Asks (asking.GivesUp 0)) → (stands : Calling) → IsSo k s (record c { own = 0; stands = stands })
   gone_so here stands = record {
     kind = is.kind;
     holds = subst (λ (b : Bool). HoldsBy b c.replies 0) (sym here.0) (of_gap c.replies c.own s.told is.holds, inr (here.1, here.2));
     gap = is.gap;
   }
 
-  pub gives_say : (word : ℕ) → StandsSo s.told c.replies c.own (at.Asks (asking.GivesUp 0)) → Leads shown (gives_up c word) end → SaysSo k s shown end
+  pub gives_say : (word : ℕ) → IsAtPointSo s.told c.replies c.own (at.Asks (asking.GivesUp 0)) → Leads shown (gives_up c word) end → SaysSo k s shown end
   gives_say word here (Taken (nodes.Pair key value), fits, e) = subst (SaysSo k s shown) (sym e) record { so = given_so key value here c.replies.absent refl _; here = tt }
   gives_say word here (Taken (nodes.Table len limit turn), fits, e) = subst (SaysSo k s shown) (sym e) record { so = gone_so here _; here = tt }
   gives_say word here (Taken nodes.Shards, fits, e) = subst (SaysSo k s shown) (sym e) record { so = gone_so here _; here = tt }

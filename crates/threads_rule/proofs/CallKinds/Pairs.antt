@@ -13,7 +13,7 @@ use Rattle.map_tables.specs.declared.node.Node.TheVariants as nodes
 use Rattle.map_tables.specs.declared.resize_mode.ResizeMode.{ResizeMode}
 use Rattle.papaya_raw.specs.Call.{have_one_key}
 use Rattle.map_machines.specs.Lookup.{names_pair}
-use Rattle.threads_rule.specs.CallKinds.Kinds.{ShowsPair}
+use Rattle.threads_rule.specs.CallKinds.Kinds.{PairIsVisible}
 
 -- a word that names no pair says not that the key is there
 shut_not : (aim : Aim) → shut aim ≡ found.There → ⊥
@@ -41,13 +41,13 @@ there_same mode aim word false e = absurd (by (block_in word == 0) e)
 module _ {K V : Type 0} where
   -- a node that names a pair is one
   pub pair_named : (keys : K → Bool) (shown : ℕ → Option (Node K V)) (word : ℕ) (value : Node K V) → shown (block_in word) ≡ Some value → names_pair keys value ≡ true
-      → ShowsPair shown word
+      → PairIsVisible shown word
   pair_named keys shown word (nodes.Pair k v) e is = (k, v, e)
   pair_named keys shown word (nodes.Table len limit turn) e is = absurd (cc is)
   pair_named keys shown word nodes.Shards e is = absurd (cc is)
 
   pub one_key_named : (eq : K → K → Bool) (shown : ℕ → Option (Node K V)) (word : ℕ) (own value : Node K V) → shown (block_in word) ≡ Some value → have_one_key eq own value ≡ true
-      → ShowsPair shown word
+      → PairIsVisible shown word
   one_key_named eq shown word (nodes.Pair k v) value e is = pair_named (eq k) shown word value e is
   one_key_named eq shown word (nodes.Table len limit turn) value e is = absurd (cc is)
   one_key_named eq shown word nodes.Shards value e is = absurd (cc is)

@@ -40,6 +40,16 @@ use Rattle.map_machines.specs.declared.new_table.Making.TheVariants as makes
 use Rattle.map_machines.specs.declared.sum.Sum.{Sum}
 use Rattle.map_machines.specs.declared.sum.Summing.{Summing}
 use Rattle.map_machines.specs.declared.sum.Summing.TheVariants as sums
+use Rattle.papaya_raw.specs.Given.ReservesDeclared.reserve.Reserve.{Reserve}
+use Rattle.papaya_raw.specs.Given.ReservesDeclared.reserve.Reserving.{Reserving}
+use Rattle.papaya_raw.specs.Given.ReservesDeclared.reserve.Reserving.TheVariants as reserves
+use Rattle.papaya_raw.specs.Given.ReservesReserve as reserve
+use Rattle.papaya_raw.specs.Given.ReservesReserve.{reserve_plan}
+use Rattle.papaya_raw.specs.Given.ReservesDeclared.sweep.Sweep.{Sweep}
+use Rattle.papaya_raw.specs.Given.ReservesDeclared.sweep.Sweeping.{Sweeping}
+use Rattle.papaya_raw.specs.Given.ReservesDeclared.sweep.Sweeping.TheVariants as sweeps
+use Rattle.papaya_raw.specs.Given.SweepsSweep as sweep
+use Rattle.papaya_raw.specs.Given.SweepsSweep.{sweep_plan}
 use Rattle.seize_views.proofs.Views.Looks.{IsNow}
 use Rattle.threads_rule.proofs.CallKinds.Plans.{ReplacesNone}
 
@@ -159,3 +169,35 @@ module _ (K V : Type 0) where
 
   pub lookup_is : (keys : K → Bool) (c : Lookup) → IsQuiet (lookup_plan {V = V} keys c)
   lookup_is keys c = lookup_at keys c c.stands
+
+  reserve_at : (hashes : K → ℕ) (c : Reserve) (p : Reserving) → IsQuiet (reserve.plan_at {V = V} hashes c p)
+  reserve_at hashes c reserves.Reads = tt
+  reserve_at hashes c (reserves.Makes making) = quiet_as (reserve.made c) (new_table_plan making) (table_at making making.stands)
+  reserve_at hashes c (reserves.Sums table s) = quiet_as (reserve.summed c table) (sum_plan s) (sum_at (Node K V) s s.stands)
+  reserve_at hashes c (reserves.Follows table need) = tt
+  reserve_at hashes c (reserves.Grows table making) = quiet_as (reserve.grown c table) (new_table_plan making) (table_at making making.stands)
+  reserve_at hashes c (reserves.Copies copier) = quiet_as (reserve.copied c) (copier_plan hashes copier) (copier_at hashes copier copier.stands)
+  reserve_at hashes c reserves.Over = tt
+  reserve_at hashes c (reserves.Refused fault) = tt
+
+  sweep_at : (hashes : K → ℕ) (c : Sweep) (p : Sweeping) → IsQuiet (sweep.plan_at {V = V} hashes c p)
+  sweep_at hashes c sweeps.Reads = tt
+  sweep_at hashes c sweeps.Follows = tt
+  sweep_at hashes c (sweeps.Copies copier) = quiet_as (sweep.copied c) (copier_plan hashes copier) (copier_at hashes copier copier.stands)
+  sweep_at hashes c sweeps.Words = tt
+  sweep_at hashes c (sweeps.Tries word) = tt
+  sweep_at hashes c (sweeps.Counts removed) = tt
+  sweep_at hashes c (sweeps.Disposes dispose) = quiet_as (sweep.disposed c) (dispose_plan dispose) (dispose_at dispose dispose.stands)
+  sweep_at hashes c sweeps.Ready = tt
+  sweep_at hashes c (sweeps.Asks word) = tt
+  sweep_at hashes c sweeps.Over = tt
+  sweep_at hashes c (sweeps.Refused fault) = tt
+
+  pub sum_is : (c : Sum) → IsQuiet (sum_plan {T = Node K V} c)
+  sum_is c = sum_at (Node K V) c c.stands
+
+  pub reserve_is : (hashes : K → ℕ) (c : Reserve) → IsQuiet (reserve_plan {V = V} hashes c)
+  reserve_is hashes c = reserve_at hashes c c.stands
+
+  pub sweep_is : (hashes : K → ℕ) (c : Sweep) → IsQuiet (sweep_plan {V = V} hashes c)
+  sweep_is hashes c = sweep_at hashes c c.stands

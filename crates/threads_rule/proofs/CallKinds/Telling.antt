@@ -1,11 +1,11 @@
 -- A call on one key that asks is told something that fits: it takes that, and goes on.
 use Rattle.std.specs.Prelude.{◌==◌, if◌then◌else◌, Option, Some, None, Result, Ok}
-use Rattle.std.proofs.Common.{◌≡◌, ◌⊎◌, ℕ, Bool, true, false, inl, inr, refl, sym, subst, ap, ◌∙◌}
+use Rattle.std.proofs.Common.{◌≡◌, ◌⊎◌, ℕ, Bool, true, false, inl, inr, refl, sym, subst}
 use Rattle.seize_words.specs.OneMemory.Word.{block_in}
 use Rattle.seize_words.specs.declared.fault.Fault.TheVariants.{RemoveNothing}
 use Rattle.map_tables.specs.declared.marks.TheConstants.{TOMBSTONE}
 use Rattle.map_tables.specs.declared.node.Node.{Node}
-use Rattle.papaya_raw.specs.CallAsks.{with_absent, with_present, absent_told, present_told, told_at, replied}
+use Rattle.papaya_raw.specs.CallAsks.{with_absent, with_present, absent_replied, present_replied, replied_at, replied}
 use Rattle.papaya_raw.specs.CallPoints.{standing, going, over, ending, burying, at_gap}
 use Rattle.papaya_raw.specs.declared.machines.answer.End.{End}
 use Rattle.papaya_raw.specs.declared.machines.answer.End.TheVariants as ends
@@ -23,22 +23,22 @@ use Rattle.papaya_raw.specs.declared.machines.asking.Told.TheVariants as tells
 use Rattle.papaya_raw.specs.declared.machines.call.Calling.{Calling}
 use Rattle.papaya_raw.specs.declared.machines.call.Calling.TheVariants as at
 use Rattle.papaya_raw.specs.declared.machines.call.KeyCall.{KeyCall}
-use Rattle.threads_rule.specs.CallKinds.Kinds.{Kind, Stage, IsUntold, IsNoValue, IsGapTold, IsOfGap, IsOneValue, IsFresh, HoldsBy, AsksSo, IsFit, IsSo, GoesOn, stage_after}
+use Rattle.threads_rule.specs.CallKinds.Kinds.{Kind, Stage, IsUntold, IsNoValue, IsOfGap, IsOneValue, IsFresh, HoldsBy, AsksSo, IsFit, IsSo, Continues, stage_after}
 use Rattle.threads_rule.proofs.CallKinds.Asked.{at_gap_says, none_left}
-use Rattle.threads_rule.proofs.CallKinds.Filled.{one_of_first, one_of_second}
+use Rattle.threads_rule.proofs.CallKinds.Filled.{one_of_first}
 
 module _ {K V Q : Type 0} (k : Kind) (s : Stage) (c : KeyCall K V Q) (is : IsSo k s c) where
-  pub ending_goes : (end : End) → GoesOn k s (ending c end).0
+  pub ending_goes : (end : End) → Continues k s (ending c end).0
   ending_goes end = by (c.own == 0)
     where
-      by : (b : Bool) → GoesOn k s (if b then over c end else going c (at.Drops end)).0
+      by : (b : Bool) → Continues k s (if b then over c end else going c (at.Drops end)).0
       by true = record { so = record { kind = is.kind; holds = is.holds; gap = is.gap }; here = tt }
       by false = record { so = record { kind = is.kind; holds = is.holds; gap = is.gap }; here = tt }
 
-  pub burying_goes : (word : ℕ) → GoesOn k s (burying c word).0
+  pub burying_goes : (word : ℕ) → Continues k s (burying c word).0
   burying_goes word = by (c.own == 0) refl
     where
-      by : (b : Bool) → (c.own == 0) ≡ b → GoesOn k s (if b then going c (at.Tries word TOMBSTONE) else going c (at.Asks (asking.GivesUp word))).0
+      by : (b : Bool) → (c.own == 0) ≡ b → Continues k s (if b then going c (at.Tries word TOMBSTONE) else going c (at.Asks (asking.GivesUp word))).0
       by true e = record { so = record { kind = is.kind; holds = is.holds; gap = is.gap }; here = tt }
       by false e = record { so = record { kind = is.kind; holds = is.holds; gap = is.gap }; here = none_left c.replies c.own s.told is.holds e }
 
@@ -85,21 +85,21 @@ module _ {K V : Type 0} (r : Replies K V) (own : ℕ) where
 module _ {K V Q : Type 0} (k : Kind) (s : Stage) (c : KeyCall K V Q) (is : IsSo k s c) where
   -- it takes the reply, and goes on
   abbrev pub IsTaken : Stage → KeyCall K V Q × Result Unit (MachineReply V) → Type 0
-  IsTaken next end = GoesOn k next end.0 × (end.1 ≡ Ok tt)
+  IsTaken next end = Continues k next end.0 × (end.1 ≡ Ok tt)
 
-  gap_value : (gap : Gap) (value : V) → s.told ≡ false → GoesOn k record { told = true; gap = true } (at_gap gap (with_absent c value)).0
+  gap_value : (gap : Gap) (value : V) → s.told ≡ false → Continues k record { told = true; gap = true } (at_gap gap (with_absent c value)).0
   gap_value gap value e = by gap
     where
       so : IsSo k record { told = true; gap = true } (with_absent c value)
       so = record { kind = is.kind; holds = absent_value c.replies c.own s.told e is.holds value; gap = tt }
 
-      by : (gap : Gap) → GoesOn k record { told = true; gap = true } (at_gap gap (with_absent c value)).0
+      by : (gap : Gap) → Continues k record { told = true; gap = true } (at_gap gap (with_absent c value)).0
       by gaps.NoTable = at_gap_says k record { told = true; gap = true } (λ b. None) (with_absent c value) so tt gaps.NoTable
       by gaps.Free = at_gap_says k record { told = true; gap = true } (λ b. None) (with_absent c value) so tt gaps.Free
       by gaps.Past = at_gap_says k record { told = true; gap = true } (λ b. None) (with_absent c value) so tt gaps.Past
       by gaps.Last = at_gap_says k record { told = true; gap = true } (λ b. None) (with_absent c value) so tt gaps.Last
 
-  absent_taken : (gap : Gap) (t : Takes) (told : MachineReply V) → IsFit t s.told None told → IsTaken (stage_after s None told) (absent_told t c gap told)
+  absent_taken : (gap : Gap) (t : Takes) (told : MachineReply V) → IsFit t s.told None told → IsTaken (stage_after s None told) (absent_replied t c gap told)
   absent_taken gap takes.Values (reply.Insert value) fit = (gap_value gap value fit.1, refl)
   absent_taken gap takes.Changes (reply.Insert value) fit = (gap_value gap value fit.1, refl)
   absent_taken gap takes.Nothing (reply.Insert value) fit = absurd fit.0
@@ -115,7 +115,7 @@ module _ {K V Q : Type 0} (k : Kind) (s : Stage) (c : KeyCall K V Q) (is : IsSo 
   absent_taken gap t reply.Yes fit = absurd fit
   absent_taken gap t reply.No fit = absurd fit
 
-  present_filled : (word : ℕ) (value : V) → s.told ≡ false → GoesOn k record { told = true; gap = s.gap } (standing (with_present c word (tells.Value value)) (at.Asks (asking.Fills word)))
+  present_filled : (word : ℕ) (value : V) → s.told ≡ false → Continues k record { told = true; gap = s.gap } (standing (with_present c word (tells.Value value)) (at.Asks (asking.Fills word)))
   present_filled word value e = record {
     so = record { kind = is.kind; holds = present_value c.replies c.own s.told e is.holds (block_in word) value; gap = is.gap };
     here = fresh s.told e is.holds;
@@ -125,10 +125,10 @@ module _ {K V Q : Type 0} (k : Kind) (s : Stage) (c : KeyCall K V Q) (is : IsSo 
       fresh false e h = h.0
       fresh true e h = absurd (cc e)
 
-  removed : (word : ℕ) → GoesOn k s (burying (with_present c word tells.Removes) word).0
+  removed : (word : ℕ) → Continues k s (burying (with_present c word tells.Removes) word).0
   removed word = burying_goes k s (with_present c word tells.Removes) (record { kind = is.kind; holds = present_removed c.replies c.own s.told is.holds (block_in word); gap = is.gap }) word
 
-  present_taken : (word : ℕ) (t : Takes) (told : MachineReply V) → IsFit t s.told (Some word) told → IsTaken (stage_after s (Some word) told) (present_told t c word told)
+  present_taken : (word : ℕ) (t : Takes) (told : MachineReply V) → IsFit t s.told (Some word) told → IsTaken (stage_after s (Some word) told) (present_replied t c word told)
   present_taken word takes.Values (reply.Insert value) fit = (present_filled word value fit.1, refl)
   present_taken word takes.Changes (reply.Insert value) fit = (present_filled word value fit.1, refl)
   present_taken word takes.Nothing (reply.Insert value) fit = absurd fit.0
@@ -154,10 +154,10 @@ module _ {K V Q : Type 0} (k : Kind) (s : Stage) (shown : ℕ → Option (Node K
   its_takes : IsSo k s c → (pair : Option ℕ) → IsFit k.takes s.told pair told → IsFit c.replies.takes s.told pair told
   its_takes is pair fit = subst (λ (x : Kind). IsFit x.takes s.told pair told) (sym is.kind) fit
 
-  pub taken : (pair : Option ℕ) → AsksSo k s shown pair c → IsFit k.takes s.told pair told → GoesOn k (stage_after s pair told) (replied c told).0 × ((replied c told).1 ≡ Ok tt)
+  pub taken : (pair : Option ℕ) → AsksSo k s shown pair c → IsFit k.takes s.told pair told → Continues k (stage_after s pair told) (replied c told).0 × ((replied c told).1 ≡ Ok tt)
   taken None asks fit =
-      subst (λ (p : Calling). IsTaken k s c asks.0 (stage_after s None told) (told_at p c told)) (sym asks.1.here)
+      subst (λ (p : Calling). IsTaken k s c asks.0 (stage_after s None told) (replied_at p c told)) (sym asks.1.here)
       (absent_taken k s c asks.0 asks.1.gap c.replies.takes told (its_takes asks.0 None fit))
   taken (Some word) asks fit =
-      subst (λ (p : Calling). IsTaken k s c asks.0 (stage_after s (Some word) told) (told_at p c told)) (sym asks.1.here)
+      subst (λ (p : Calling). IsTaken k s c asks.0 (stage_after s (Some word) told) (replied_at p c told)) (sym asks.1.here)
       (present_taken k s c asks.0 word c.replies.takes told (its_takes asks.0 (Some word) fit))

@@ -18,18 +18,18 @@ use Rattle.papaya_raw.specs.declared.machines.machine.Machine.TheVariants.{Key}
 use Rattle.many_acts.specs.Acts.Acts.{Wanted, Get}
 use Rattle.seize_views.specs.declared.view.Fixed.{Fixed}
 use Rattle.seize_views.specs.declared.view.SlotView.TheVariants.{Rests}
-use Rattle.threads_rule.specs.Views.Begun.{machine_for, making, replied}
+use Rattle.threads_rule.specs.Views.Begun.{machine_for, asked, making, replied}
 use Rattle.threads_rule.specs.Views.Rule.{Holds, KeepsFor, Leans, LeansOn, section_of, stand_of}
 use Rattle.threads_rule.specs.Views.Told.{turned, turned_by}
 use Rattle.threads_rule.specs.declared.view.Map.{Map}
 use Rattle.threads_rule.specs.declared.view.View.{View}
 use Rattle.threads_rule.specs.declared.view.SeatWork.{SeatWork}
 use Rattle.threads_rule.specs.declared.view.SeatWork.TheVariants.{Nothing, Calls, Makes}
-use Rattle.threads_rule.proofs.Views.Laws.{calls_are_told, calls_begin, makings_begin}
-use Rattle.threads_rule.specs.Errands.Calling.{IsUnderWay, MayDo, wanted_of}
+use Rattle.threads_rule.proofs.Views.Laws.{calls_are_asked, calls_are_told, calls_begin, makings_begin}
+use Rattle.threads_rule.specs.Errands.Calling.{IsUnderWay, MayDo, MayDoAs, Works, wanted_of}
 use Rattle.threads_rule.specs.CallKinds.Kinds.{Kind, Stage}
 use Rattle.threads_rule.specs.Errands.Looking.{Begins, IsOn, LooksFor, MayLook, StaysThere}
-use Rattle.threads_rule.specs.Errands.Making.{BeginsMaking, CameTo, MayBegin, PlansJust}
+use Rattle.threads_rule.specs.Errands.Making.{BeginsMaking, HasOutcome, MayBegin, PlansJust}
 use Rattle.seize_words.proofs.General.{same_some}
 
 module _ {K V S : Type 0} (same : K → K → Bool) (hash : S → K → ℕ) (fixed : Fixed) (id : ℕ) (v : View K V S) where
@@ -58,7 +58,7 @@ module _ {K V S : Type 0} (plans : S → NewMap → Type 0) (hasher : S) (openin
   refused_there (Ok setting) is = tt
   refused_there (Err fault) is = (is.0, is.1 ∙ ap (λ (x : View K V S). x.map) begins.4)
 
-  pub came_from : (answer : Result Setting Fault) → CameTo hasher opening answer v w → CameTo hasher opening answer u w
+  pub came_from : (answer : Result Setting Fault) → HasOutcome hasher opening answer v w → HasOutcome hasher opening answer u w
   came_from answer came = record {
     made = came.made;
     refused = refused_there answer came.refused;
@@ -67,11 +67,17 @@ module _ {K V S : Type 0} (plans : S → NewMap → Type 0) (hasher : S) (openin
   }
 
 module _ {K V S : Type 0} (same : K → K → Bool) (hash : S → K → ℕ) (fixed : Fixed) (id : ℕ) (v : View K V S) where
-  -- its call may be told this
+  -- its call may be told this,
   pub may_tell : (map : Map S) (machine : Machine K V K) (reply : MachineReply V) → v.map ≡ Some map → v.work ≡ Calls machine
       → Turns (Holds same hash fixed) KeepsFor id v (λ w. (v.work ≡ Calls machine) × (w ≡ replied v machine reply))
   may_tell map machine reply knows works =
       turns_to same hash fixed id v _ (λ w. (v.work ≡ Calls machine) × (w ≡ replied v machine reply)) (λ w e. (works, e)) (calls_are_told V same hash fixed id v map machine reply knows works)
+
+  -- or asked for its next pair
+  pub may_ask : (map : Map S) (machine : Machine K V K) → v.map ≡ Some map → v.work ≡ Calls machine
+      → Turns (Holds same hash fixed) KeepsFor id v (λ w. (v.work ≡ Calls machine) × (w ≡ asked v machine))
+  may_ask map machine knows works =
+      turns_to same hash fixed id v _ (λ w. (v.work ≡ Calls machine) × (w ≡ asked v machine)) (λ w e. (works, e)) (calls_are_asked V same hash fixed id v map machine knows works)
 
 module _ {K V S : Type 0} (same : K → K → Bool) (hash : S → K → ℕ) (key : K) where
   -- what has begun is a lookup of this key
@@ -102,24 +108,23 @@ stays_begun {K} {V} {S} same hash wanted v w begins =
 
 module _ {K V S : Type 0} (same : K → K → Bool) (hash : S → K → ℕ) where
   -- what has begun is this call
-  pub is_begun : (k : Kind) (s : Stage) (hasher : S) (machine : Machine K V K) (v w : View K V S) → MayDo same hash k s hasher machine v → Begins same hash (wanted_of machine) v w
-      → IsUnderWay k s hasher machine w
-  is_begun k s hasher machine v w may begins =
+  pub is_begun : (hasher : S) (machine : Machine K V K) (v w : View K V S) → MayDo same hash hasher machine v → Begins same hash (wanted_of machine) v w → Works hasher machine w
+  is_begun hasher machine v w may begins =
       let map : Map S = begins.0 in
       let one : may.map ≡ map = same_some may.map map (sym may.knows ∙ begins.2) in
       let slot : may.slot ≡ begins.1 = same_some may.slot begins.1 (sym may.inside ∙ begins.3) in
       let its : machine ≡ machine_for same hash map begins.1 (wanted_of machine) =
       may.begins ∙ ap (λ (m : Map S). machine_for same hash m may.slot (wanted_of machine)) one ∙ ap (λ (t : ℕ). machine_for same hash map t (wanted_of machine)) slot in record {
-        at =
-            record {
-              map = map;
-              knows = ap (λ (u : View K V S). u.map) begins.4 ∙ begins.2;
-              hashes = ap (λ (m : Map S). m.hasher) (sym one) ∙ may.hashes;
-              incremental = ap (λ (m : Map S). is_incremental m.setting.mode) (sym one) ∙ may.incremental;
-              works = ap (λ (u : View K V S). u.work) begins.4 ∙ ap (λ (x : Machine K V K). Calls x) (sym its);
-            };
-        goes = may.goes;
+        map = map;
+        knows = ap (λ (u : View K V S). u.map) begins.4 ∙ begins.2;
+        hashes = ap (λ (m : Map S). m.hasher) (sym one) ∙ may.hashes;
+        incremental = ap (λ (m : Map S). is_incremental m.setting.mode) (sym one) ∙ may.incremental;
+        works = ap (λ (u : View K V S). u.work) begins.4 ∙ ap (λ (x : Machine K V K). Calls x) (sym its);
       }
+
+  pub begun_as : (k : Kind) (s : Stage) (hasher : S) (machine : Machine K V K) (v w : View K V S) → MayDoAs same hash k s hasher machine v → Begins same hash (wanted_of machine) v w
+      → IsUnderWay k s hasher machine w
+  begun_as k s hasher machine v w may begins = record { at = is_begun hasher machine v w may.may begins; goes = may.goes }
 
 -- what stays in one course stays in both
 pub stays_on : {K V S : Type 0} (u v w : View K V S) → StaysThere u v → StaysThere v w → StaysThere u w
@@ -138,6 +143,9 @@ module _ {K V S : Type 0} where
 
   pub told_leans : (machine : Machine K V K) (reply : MachineReply V) (v w : View K V S) (n : ℕ) {X : Type 0} → w ≡ replied v machine reply → Leans w n → Leans v n ⊎ X
   told_leans machine reply v w n {X} told leans = leans_still v w n X (ap (λ (u : View K V S). u.under) told) leans
+
+  pub asked_leans : (machine : Machine K V K) (v w : View K V S) (n : ℕ) {X : Type 0} → w ≡ asked v machine → Leans w n → Leans v n ⊎ X
+  asked_leans machine v w n {X} was leans = leans_still v w n X (ap (λ (u : View K V S). u.under) was) leans
 
   pub turned_leans : (same : K → K → Bool) (hash : S → K → ℕ) (v w : View K V S) (n : ℕ) {X : Type 0} → turned same hash v w → Leans w n → Leans v n ⊎ X
   turned_leans same hash v w n {X} turns leans = leans_still v w n X (by v.map v.work turns) leans

@@ -19,7 +19,7 @@ use Rattle.map_tables.specs.declared.node.Node.TheVariants.{Pair, Table as OfTab
 use Rattle.map_tables.specs.declared.resize_mode.ResizeMode.{ResizeMode}
 use Rattle.map_tables.specs.declared.table.Table.{Table}
 use Rattle.map_tables.specs.declared.trial.Trial.{Trial}
-use Rattle.map_machines.specs.Lookup.{going, answered, passed, told_of, told, names_pair, table_read, word_read, plan_at, lookup_plan}
+use Rattle.map_machines.specs.Lookup.{going, answered, passed, after_finding, told, names_pair, table_read, word_read, plan_at, lookup_plan}
 use Rattle.map_machines.specs.declared.lookup.Lookup.{Lookup}
 use Rattle.map_machines.specs.declared.lookup.Looking.{Looking}
 use Rattle.map_machines.specs.declared.lookup.Looking.TheVariants as at
@@ -70,7 +70,7 @@ module _ {K V : Type 0} (keys : K → Bool) where
     passed_tells table (Some trial) = tt
     passed_tells table None = beyond_tells table (is_incremental c.mode)
 
-    told_tells : (trial : Trial) (word : ℕ) (f : Finding) → (IsThere f → ShowsPair shown word) → TellsSo shown (told_of c trial word f)
+    told_tells : (trial : Trial) (word : ℕ) (f : Finding) → (IsThere f → ShowsPair shown word) → TellsSo shown (after_finding c trial word f)
     told_tells trial word is.Free there = tt
     told_tells trial word is.Passed there = passed_tells trial.table (next_trial trial)
     told_tells trial word is.Moved there = tt

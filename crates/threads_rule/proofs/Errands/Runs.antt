@@ -8,32 +8,32 @@ use Rattle.papaya_raw.specs.declared.machines.machine.Machine.{Machine}
 use Rattle.papaya_raw.specs.declared.machines.progress.Progress.{Progress}
 use Rattle.papaya_raw.specs.declared.machines.progress.Progress.TheVariants as progress
 use Rattle.map_tables.specs.declared.node.Node.{Node}
-use Rattle.threads_rule.specs.Views.Told.{newest_told, pair_in, untold}
+use Rattle.threads_rule.specs.Views.Told.{newest_progress, pair_in, untold}
 use Rattle.threads_rule.specs.declared.view.BegunCall.{BegunCall}
 use Rattle.threads_rule.specs.declared.view.View.{View}
 use Rattle.threads_rule.specs.declared.view.SeatWork.TheVariants.{Nothing}
 use Rattle.threads_rule.proofs.Views.Pairs.{newest_pair}
-use Rattle.threads_rule.specs.Errands.Calling.{CalledSo, ComesBack, HasEnded, IsBack, IsCalling, IsGoing, IsNoQuestion, outcome_of, pair_wanted}
-use Rattle.threads_rule.specs.Errands.Looking.{Begins, HasRun, HasTold, IsOfThem}
+use Rattle.threads_rule.specs.Errands.Calling.{CalledSo, IsReturned, HasEnded, IsBack, IsCalling, IsGoing, IsNoQuestion, outcome_of, pair_wanted}
+use Rattle.threads_rule.specs.Errands.Looking.{Begins, HasRun, HasProgressed, IsOfThem}
 
-retold : {K V : Type 0} (told before : Progress (Node K V)) (runs : List (BegunCall K V)) → newest_told told (newest_told before runs) ≡ newest_told told runs
+retold : {K V : Type 0} (told before : Progress (Node K V)) (runs : List (BegunCall K V)) → newest_progress told (newest_progress before runs) ≡ newest_progress told runs
 retold told before [] = refl
 retold told before (run ∷ runs) = refl
 
 module _ {K V S : Type 0} where
   -- its calls are the same after a step,
-  pub of_them : (u v w : View K V S) (told : Progress (Node K V)) → IsOfThem u v → HasTold told v w → IsOfThem u w
-  of_them u v w told is has other = ap (newest_told other) has ∙ retold other told v.calls ∙ is other
+  pub of_them : (u v w : View K V S) (told : Progress (Node K V)) → IsOfThem u v → HasProgressed told v w → IsOfThem u w
+  of_them u v w told is has other = ap (newest_progress other) has ∙ retold other told v.calls ∙ is other
 
   -- the last of which says what it has told
-  pub told_last : (u v w : View K V S) (told : Progress (Node K V)) → IsOfThem u v → HasTold told v w → HasTold told u w
+  pub told_last : (u v w : View K V S) (told : Progress (Node K V)) → IsOfThem u v → HasProgressed told v w → HasProgressed told u w
   told_last u v w told is has = has ∙ is told
 
   -- whose call has begun, and has told this last, has run one call more
-  pub has_run : (same : K → K → Bool) (hash : S → K → ℕ) (wanted : Wanted K V) (told : Progress (Node K V)) (u v w : View K V S) → Begins same hash wanted u v → HasTold told v w
+  pub has_run : (same : K → K → Bool) (hash : S → K → ℕ) (wanted : Wanted K V) (told : Progress (Node K V)) (u v w : View K V S) → Begins same hash wanted u v → HasProgressed told v w
       → HasRun same hash wanted told u w
   has_run same hash wanted told u v w begins has =
-      (begins.0, begins.1, begins.2, begins.3, has ∙ ap (λ (x : View K V S). newest_told told x.calls) begins.4)
+      (begins.0, begins.1, begins.2, begins.3, has ∙ ap (λ (x : View K V S). newest_progress told x.calls) begins.4)
 
   -- a call that was to store a pair began with it
   stores_it : (same : K → K → Bool) (hash : S → K → ℕ) (wanted : Wanted K V) (pair : Node K V) (u v : View K V S) → pair_wanted wanted ≡ Some pair → Begins same hash wanted u v
@@ -58,7 +58,7 @@ module _ {K V S : Type 0} where
 
   -- so that is what has come back
   pub comes_back : (same : K → K → Bool) (hash : S → K → ℕ) (wanted : Wanted K V) (told : Result Answer Fault) (back : Option (Node K V)) (u v : View K V S) → Begins same hash wanted u v
-      → ((pair : Node K V) → pair_wanted wanted ≡ Some pair → pair_in v.calls ≡ Some pair → IsBack pair told back) → ComesBack wanted told back
+      → ((pair : Node K V) → pair_wanted wanted ≡ Some pair → pair_in v.calls ≡ Some pair → IsBack pair told back) → IsReturned wanted told back
   comes_back same hash wanted told back u v begins is = λ pair its. is pair its (stores_it same hash wanted pair u v its begins)
 
   -- the pair that the newest call began with is the same, whatever that has told
@@ -67,16 +67,16 @@ module _ {K V S : Type 0} where
 
   -- a call that has told its outcome has ended
   free_then : (hasher : S) (machine : Machine K V K) (answer : Result Answer Fault) (w : View K V S) → CalledSo hasher machine (outcome_of answer) w → w.work ≡ Nothing
-  free_then hasher machine (Ok answer) w is = is
+  free_then hasher machine (Ok answer) w is = is.0
   free_then hasher machine (Err fault) w is = is
 
   pub ended_so : (hasher : S) (machine : Machine K V K) (told : Progress (Node K V)) (answer so : Result Answer Fault) (u v w : View K V S) → told ≡ outcome_of answer → so ≡ answer
-      → CalledSo hasher machine told w → IsOfThem u v → HasTold told v w → HasEnded so u w
+      → CalledSo hasher machine told w → IsOfThem u v → HasProgressed told v w → HasEnded so u w
   ended_so hasher machine told answer so u v w is same called them has =
       subst (λ (r : Result Answer Fault). HasEnded r u w) (sym same)
       (record {
         free = free_then hasher machine answer w (subst (λ (t : Progress (Node K V)). CalledSo hasher machine t w) is called);
-        told = told_last u v w (outcome_of answer) them (subst (λ (t : Progress (Node K V)). HasTold t v w) is has);
+        told = told_last u v w (outcome_of answer) them (subst (λ (t : Progress (Node K V)). HasProgressed t v w) is has);
       })
 
   -- a call that asks nothing tells no question,

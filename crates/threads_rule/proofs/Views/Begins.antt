@@ -1,30 +1,30 @@
--- A call begins, or is told something; and a map is handed on.
+-- A call begins, is told something, or is asked for its next pair; and a map is handed on.
 use Rattle.std.specs.Prelude.{◌++◌, List, [], ◌∷◌, Option, Some, None, if◌then◌else◌}
 use Rattle.std.specs.Option.{is_none}
 use Rattle.std.proofs.Common.{◌≡◌, ℕ, Bool, true, inl, refl, sym, subst, ap, ◌∙◌}
 use Rattle.map_tables.specs.Chunks.{is_incremental}
 use Rattle.map_tables.specs.declared.node.Node.{Node}
 use Rattle.map_tables.specs.declared.setting.Setting.{Setting}
-use Rattle.papaya_raw.specs.Machine.{machine_replied}
+use Rattle.papaya_raw.specs.Machine.{machine_asked, machine_replied}
 use Rattle.papaya_raw.specs.declared.machines.asking.MachineReply.{MachineReply}
 use Rattle.papaya_raw.specs.declared.machines.machine.Machine.{Machine}
 use Rattle.many_acts.specs.Given.CallersRows.{IsRowOn}
-use Rattle.owner_calls.specs.Given.CallersTogether.{UnderWay}
+use Rattle.owner_calls.specs.Given.CallersTogether.{UnderWay, OnKey, ForRoom, Counting, OverAll}
 use Rattle.seize.specs.World.{Row, Rests, Use, Vacant, Outside, Inside, Changing, IsInside}
 use Rattle.seize_views.specs.Views.Rows.{row_of}
 use Rattle.many_acts.specs.Given.FinishesMachines.{machine_of}
 use Rattle.many_acts.specs.Given.FinishesMaps.{Standing, new_map, with_call}
 use Rattle.many_acts.specs.Given.ScenesScene.{Scene, slot_of}
-use Rattle.many_acts.specs.Acts.Acts.{Act, Wanted, Get, Count, UnlessToCount, BeginsCall, TellsCall, begun}
+use Rattle.many_acts.specs.Acts.Acts.{Act, Wanted, Get, Count, UnlessToCount, AsksCall, BeginsCall, TellsCall, begun}
 use Rattle.many_acts.specs.Acts.Doings.{Does, MayDo}
-use Rattle.many_acts.specs.Acts.Leads.{AreFewWith, Led}
+use Rattle.many_acts.specs.Acts.Leads.{AreFewWith, Led, asked_on}
 use Rattle.seize_acts.specs.Acts.Acts.{rests, is_within}
 use Rattle.seize_seats.specs.Seats.State.{State, view_of, Goes}
 use Rattle.seize_views.specs.declared.view.Fixed.{Fixed}
 use Rattle.seize_views.specs.declared.view.SlotView.{SlotView}
-use Rattle.threads_rule.specs.Views.Begun.{machine_for, calling, replied}
+use Rattle.threads_rule.specs.Views.Begun.{machine_for, asked, calling, replied}
 use Rattle.threads_rule.specs.Views.Told.{begun_with, pair_in, untold}
-use Rattle.threads_rule.specs.Views.Promises.{CallsBegin, CallsAreTold}
+use Rattle.threads_rule.specs.Views.Promises.{CallsBegin, CallsAreAsked, CallsAreReplied}
 use Rattle.threads_rule.specs.Views.Listed.{Called, calls_of, plain, AreNumbered, IsNewest}
 use Rattle.threads_rule.specs.Views.Rule.{MapsWorld, HasRow, DoesSo, KnowsMap, KnowsPair, IsRun, AreRuns, Fits, Holds, KeepsFor, caller_at, pair_of, IsAside, acts_in, section_of}
 use Rattle.threads_rule.specs.declared.view.Map.{Map}
@@ -40,6 +40,19 @@ use Rattle.threads_rule.proofs.Views.Numbers.{slot_at}
 use Rattle.threads_rule.proofs.Views.Pairs.{begun_pair, told_pair}
 use Rattle.threads_rule.proofs.Views.UnderWay.{called_at, does as way_does, section_is as way_section, on_row as way_on}
 use Rattle.seize_words.proofs.General.{same_some}
+
+-- what is under way once it was asked: the machine that was, with the pair that it began with
+asks_on : {K V : Type 0} (u : UnderWay K V K) → machine_of (asked_on u) ≡ (machine_asked (machine_of u)).0
+asks_on (OnKey u) = refl
+asks_on (ForRoom r) = refl
+asks_on (Counting sum) = refl
+asks_on (OverAll o) = refl
+
+pair_asked : {K V : Type 0} (u : UnderWay K V K) → pair_of (asked_on u) ≡ pair_of u
+pair_asked (OnKey u) = refl
+pair_asked (ForRoom r) = refl
+pair_asked (Counting sum) = refl
+pair_asked (OverAll o) = refl
 
 -- but for a counting
 unless : {K V : Type 0} (wanted : Wanted K V) (A : Type 0) → A → UnlessToCount wanted A
@@ -255,11 +268,46 @@ module _ {K V S : Type 0} (same : K → K → Bool) (hash : S → K → ℕ) (fi
         (numbered_on s.world.doings (Does (TellsCall i map.number reply) ∷ []) 0 fresh.0 fresh.0 fresh.2 refl) its_pair)
         (record { own = ((λ m k. 0), tt); others = λ j ne theirs. refl; its = λ are. are; newest = λ other on. h.newest id v machine at_id works; aside = λ j ne theirs. refl; seen = λ before b x none. absurd (cc none) }) (λ x. x ≡ replied v machine reply) refl
 
+  -- its call is asked for its next pair
+  module _ (machine : Machine K V K) (works : v.work ≡ Calls machine) where
+    asked_may : MayDo V same hash fixed.batch_size fixed.roots slot_of (Does (AsksCall i map.number)) h.reached.0
+    asked_may = (ap is_none h.nobody, ap is_none (called_at same hash fixed s h id v at_id map machine knows works))
+
+    asked_led : Led same hash fixed.batch_size fixed.roots slot_of (AsksCall i map.number) scene (h.course.told h.reached.0 (Does (AsksCall i map.number)) asked_may)
+        (h.course.next h.reached.0 (Does (AsksCall i map.number)) asked_may).0
+    asked_led = (h.course.leads h.reached.0 (Does (AsksCall i map.number)) asked_may).0
+
+    asked_is : machine_of (asked_on asked_led.0) ≡ (machine_asked machine).0
+    asked_is =
+        let call = (way_does same hash fixed s h id v at_id map machine knows works).3 in
+        asks_on asked_led.0 ∙ ap (λ (x : UnderWay K V K). (machine_asked (machine_of x)).0) (same_some asked_led.0 call.call (sym asked_led.1 ∙ call.here))
+        ∙ ap (λ (x : Machine K V K). (machine_asked x).0) call.is
+
+    asked_pair : pair_of (asked_on asked_led.0) ≡ pair_in v.calls
+    asked_pair =
+        let knows_pair =
+        subst (λ (x : SeatWork K V S). KnowsPair same hash scene i (Some map) x v.calls) works
+        (subst (λ (x : Option (Map S)). KnowsPair same hash scene i x v.work v.calls) knows fits.pair) in
+        pair_asked asked_led.0 ∙ knows_pair asked_led.0 asked_led.1
+
+    asks : Goes (Holds same hash fixed) KeepsFor s s.memory id (λ x. x ≡ asked v machine)
+    asks =
+        let is = way_section same hash fixed s h id v at_id map machine knows works in
+        let on = way_on same hash fixed s h id v at_id map machine knows works in
+        let fresh = (are_so same hash fixed s h).fresh in
+        moved same hash fixed s h id v at_id (AsksCall i map.number) asked_may (n place is (asked_on asked_led.0) (machine_asked machine).0 asked_is on) asked_led.3 s.memory (asked v machine)
+        (go place is (asked_on asked_led.0) (machine_asked machine).0 asked_is on (AsksCall i map.number) v.calls
+        (numbered_on s.world.doings (Does (AsksCall i map.number) ∷ []) 0 fresh.0 fresh.0 fresh.2 refl) asked_pair)
+        (record { own = ((λ m k. 0), tt); others = λ j ne theirs. refl; its = λ are. are; newest = λ other on. h.newest id v machine at_id works; aside = λ j ne theirs. refl; seen = λ before b x none. absurd (cc none) }) (λ x. x ≡ asked v machine) refl
+
 module _ {K S : Type 0} (V : Type 0) (same : K → K → Bool) (hash : S → K → ℕ) where
   pub calls_begin : CallsBegin V same hash
   calls_begin fixed id t v map wanted section knows free incremental s h at_id =
       subst (λ (machine : Machine K V K). Goes (Holds same hash fixed) KeepsFor s s.memory id (λ x. x ≡ calling v machine)) (begins_plainly same hash map t wanted)
       (begins same hash fixed s h id v at_id map knows t section free incremental (plain wanted) (plain_already wanted))
 
-  pub calls_are_told : CallsAreTold V same hash
+  pub calls_are_told : CallsAreReplied V same hash
   calls_are_told fixed id v map machine reply knows works s h at_id = tells same hash fixed s h id v at_id map knows machine works reply
+
+  pub calls_are_asked : CallsAreAsked V same hash
+  calls_are_asked fixed id v map machine knows works s h at_id = asks same hash fixed s h id v at_id map knows machine works

@@ -5,7 +5,7 @@ use Rattle.seize_words.specs.OneMemory.Op.{Op, Out}
 use Rattle.seize.specs.declared.rows.settle.Settle.{Settle}
 use Rattle.map_tables.specs.Nodes.{deferred_word}
 use Rattle.map_tables.specs.declared.node.Node.{Node}
-use Rattle.seize_views.specs.Views.Content.{SeatsComeIn, RowsGoOnIn, RowsAreTold, RowsTurnIn, SettlingsBeginIn, LookedAreShownIn, LeansBeside}
+use Rattle.seize_views.specs.Views.Content.{SeatsComeIn, RowsContinueIn, RowsAreObserved, RowsTurnIn, SettlingsBeginIn, LookedAreShownIn, LeansByTheRest}
 use Rattle.seize_views.specs.Views.Notes.{noted, deed}
 use Rattle.seize_views.specs.Views.Promises.{op_of, IsNext, IsToSettle}
 use Rattle.seize_views.specs.Views.Told.{told as row_told}
@@ -22,7 +22,7 @@ use Rattle.seize_views.specs.declared.view.Why.TheVariants.{Retiring}
 use Rattle.threads_rule.specs.Views.Begun.{with_slot}
 use Rattle.threads_rule.specs.Views.Notes.{beside_of, busy, row_known, notes_of}
 use Rattle.threads_rule.specs.Views.Rule.{Holds, KeepsFor, LeansOn, Leans, at_rest}
-use Rattle.threads_rule.specs.Views.Told.{told, told_by}
+use Rattle.threads_rule.specs.Views.Told.{told, observed_by}
 use Rattle.threads_rule.specs.declared.view.Map.{Map}
 use Rattle.threads_rule.specs.declared.view.BegunCall.{BegunCall}
 use Rattle.threads_rule.specs.declared.view.View.{View}
@@ -90,7 +90,7 @@ module _ {K V S : Type 0} where
       not_busy _ is = is
 
   -- who has a row leans on nobody
-  pub leans_beside : LeansBeside {V = View K V S} Leans notes_of beside_of
+  pub leans_beside : LeansByTheRest {V = View K V S} Leans notes_of beside_of
   leans_beside v w n rows same_beside leans = by w.under rows leans
     where
       by : (under : Option (ℕ × ℕ)) → IsOfRows (row_known under w.slot w.work) → LeansOn under n → Leans v n
@@ -104,14 +104,14 @@ module _ {K S : Type 0} (V : Type 0) (same : K → K → Bool) (hash : S → K �
   pub seats_come_in : SeatsComeIn (Holds {V = V} same hash) KeepsFor notes_of (its V) (λ _. at_rest)
   seats_come_in fixed = (seats_come V same hash fixed, refl)
 
-  pub rows_go_on_in : RowsGoOnIn (Holds {V = V} same hash) KeepsFor notes_of (its V) deferred_word (told same hash)
+  pub rows_go_on_in : RowsContinueIn (Holds {V = V} same hash) KeepsFor notes_of (its V) deferred_word (told same hash)
   rows_go_on_in fixed id v op is =
       let k = free_by (λ x. op_of deferred_word x ≡ Some op) (λ x e. busy_op deferred_word x op e) (λ e. cc e) v is in rows_go_on V same hash fixed id v op k.0 k.1 k.2
 
-  pub rows_are_told : RowsAreTold {T = Node K V} notes_of (its V) deferred_word (told same hash)
+  pub rows_are_told : RowsAreObserved {T = Node K V} notes_of (its V) deferred_word (told same hash)
   rows_are_told v w op out is tells =
       let k = free_by (λ x. op_of deferred_word x ≡ Some op) (λ x e. busy_op deferred_word x op e) (λ e. cc e) v is in
-      let so = subst (λ (x : SeatWork K V S). told_by same hash v v.map x op out w) k.1 tells in
+      let so = subst (λ (x : SeatWork K V S). observed_by same hash v v.map x op out w) k.1 tells in
       let knows : v.slot ≡ row_known v.under v.slot v.work =
       ap (λ (x : SeatWork K V S). row_known None v.slot x) (sym k.1) ∙ ap (λ (o : Option (ℕ × ℕ)). row_known o v.slot v.work) (sym k.0) in
       let then_ : (notes_of w).knows ≡ so.0 = ap (λ (x : View K V S). (notes_of x).knows) so.2 ∙ ap (λ (o : Option (ℕ × ℕ)). row_known {S = S} o so.0 Nothing) k.0 in (

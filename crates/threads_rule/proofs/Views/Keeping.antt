@@ -8,14 +8,12 @@ use Rattle.map_tables.specs.declared.node.Node.{Node}
 use Rattle.owner_calls.proofs.Given.CallersTogether.Came.{came_reached}
 use Rattle.many_acts.specs.Given.ScenesScene.{Scene}
 use Rattle.seize_model.proofs.Alone.Histories.NotTaken.{IsHeld as IsHeldBy, kept_there}
-use Rattle.seize_seats.specs.Seats.State.{State, view_of}
 use Rattle.seize_views.specs.declared.view.Has.TheVariants.{Nothing as NoBlock}
 use Rattle.seize_views.specs.declared.view.SlotView.TheVariants.{Inside}
 use Rattle.threads_rule.specs.Views.Promises.{HeldAreKept, KeptAreThere}
-use Rattle.threads_rule.specs.Views.Rule.{MapsWorld, IsInSection, IsOfCall, KeepsFor, Holds, section_of}
+use Rattle.threads_rule.specs.Views.Rule.{IsInSection, IsOfCall, KeepsFor, section_of}
 use Rattle.threads_rule.specs.declared.view.View.{View}
 use Rattle.threads_rule.specs.declared.view.SeatWork.{SeatWork}
-use Rattle.threads_rule.specs.declared.view.SeatWork.TheVariants.{Nothing}
 use Rattle.threads_rule.proofs.Views.Held.{held_of}
 use Rattle.threads_rule.proofs.Views.Moved.{all_stand}
 use Rattle.seize_words.proofs.General.{same_some}

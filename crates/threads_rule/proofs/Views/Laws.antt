@@ -1,6 +1,6 @@
 -- What is promised of the rule of maps, as lemmas.
 use Rattle.std.specs.Prelude.{ℕ, Bool}
-use Rattle.threads_rule.specs.Views.Promises.{RulesStart, SeatsCome, CallsGoOn, CallsTurn, HeldAreShown, CallsBegin, CallsAreTold, MapsAreHandedOn, MakingsBegin, MakingsGoOn}
+use Rattle.threads_rule.specs.Views.Promises.{RulesStart, SeatsCome, CallsContinue, CallsTurn, HeldAreShown, CallsBegin, CallsAreAsked, CallsAreReplied, MapsAreHandedOn, MakingsBegin, MakingsContinue}
 use Rattle.threads_rule.proofs.Views.Starts as starts
 use Rattle.threads_rule.proofs.Views.Calls as calls
 use Rattle.threads_rule.proofs.Views.Held as held
@@ -15,7 +15,7 @@ module _ {K S : Type 0} (V : Type 0) (same : K → K → Bool) (hash : S → K �
   pub seats_come : SeatsCome V same hash
   seats_come = starts.seats_come V same hash
 
-  pub calls_go_on : CallsGoOn V same hash
+  pub calls_go_on : CallsContinue V same hash
   calls_go_on = calls.calls_go_on V same hash
 
   pub calls_turn : CallsTurn V same hash
@@ -27,8 +27,11 @@ module _ {K S : Type 0} (V : Type 0) (same : K → K → Bool) (hash : S → K �
   pub calls_begin : CallsBegin V same hash
   calls_begin = begins.calls_begin V same hash
 
-  pub calls_are_told : CallsAreTold V same hash
+  pub calls_are_told : CallsAreReplied V same hash
   calls_are_told = begins.calls_are_told V same hash
+
+  pub calls_are_asked : CallsAreAsked V same hash
+  calls_are_asked = begins.calls_are_asked V same hash
 
   pub maps_are_handed_on : MapsAreHandedOn V same hash
   maps_are_handed_on = handing.maps_are_handed_on V same hash
@@ -36,5 +39,5 @@ module _ {K S : Type 0} (V : Type 0) (same : K → K → Bool) (hash : S → K �
   pub makings_begin : MakingsBegin V same hash
   makings_begin = makings.makings_begin V same hash
 
-  pub makings_go_on : MakingsGoOn V same hash
+  pub makings_go_on : MakingsContinue V same hash
   makings_go_on = makings.makings_go_on V same hash

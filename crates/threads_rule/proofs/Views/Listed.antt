@@ -10,11 +10,11 @@ use Rattle.many_acts.specs.Given.ScenesScene.{Scene}
 use Rattle.many_acts.specs.Acts.Acts.{Answer, BeginsCall, StepsCall, TellsCall, AsksCall, StopsCall, BeginsMaking, StepsMaking, BeginsEnding, StepsEnding, BeginsRow, StepsRow}
 use Rattle.many_acts.specs.Acts.Doings.{Doing, Does, BeginsReclaiming, BeginsClearing, StepsReclaiming, Chooses, MayDo}
 use Rattle.many_acts.specs.Acts.Lists.{Course, Reached, LedOn, LedTo, nothing_done, on_by}
-use Rattle.threads_rule.specs.Views.Listed.{Called, calls_then, calls_of, has_told, seen_then, seen_of, AreNumbered, IsNewest, seat_of}
+use Rattle.threads_rule.specs.Views.Listed.{Called, calls_then, calls_of, has_progressed, seen_then, seen_of, AreNumbered, IsNewest, seat_of}
 use Rattle.threads_rule.specs.Views.Rule.{IsSlot, IsRun, AreRuns, caller_at}
-use Rattle.threads_rule.specs.Views.Told.{newest_told}
+use Rattle.threads_rule.specs.Views.Told.{newest_progress}
 use Rattle.threads_rule.specs.declared.view.BegunCall.{BegunCall}
-use Rattle.seize_words.proofs.General.{all_and_one as all_more, nothing_and as none_before}
+use Rattle.seize_words.proofs.General.{nothing_and as none_before}
 
 -- a seat is that of its callers, and of no other seat's
 pub its_seat : (seat t : ℕ) → IsSlot t → seat_of (caller_at seat t) ≡ seat
@@ -117,15 +117,15 @@ module _ {K V S : Type 0} (same : K → K → Bool) (hash : S → K → ℕ) (s 
 
 module _ {K V S : Type 0} (same : K → K → Bool) (hash : S → K → ℕ) (s : Scene K V) (i : ℕ) (told : Progress (Node K V)) where
   -- where the newest one, which is this caller's, has told this
-  pub newest_runs : (calls : List (Called K V)) (runs : List (BegunCall K V)) → IsNewest i calls → AreRuns same hash s calls runs → AreRuns same hash s (has_told i told calls) (newest_told told runs)
+  pub newest_runs : (calls : List (Called K V)) (runs : List (BegunCall K V)) → IsNewest i calls → AreRuns same hash s calls runs → AreRuns same hash s (has_progressed i told calls) (newest_progress told runs)
   newest_runs [] runs newest are = absurd newest
   newest_runs (call ∷ calls) [] newest are = absurd are
   newest_runs (call ∷ calls) (run ∷ runs) newest are =
-      subst (λ (q : Bool). AreRuns same hash s (if q then record call { told = told } ∷ calls else call ∷ has_told i told calls) (record run { told = told } ∷ runs)) (sym (eq-eqb call.caller i newest))
+      subst (λ (q : Bool). AreRuns same hash s (if q then record call { told = told } ∷ calls else call ∷ has_progressed i told calls) (record run { told = told } ∷ runs)) (sym (eq-eqb call.caller i newest))
       (record { map = are.0.map; stands = are.0.stands; number = are.0.number; plainly = are.0.plainly; began = are.0.began; told = refl }, are.1)
 
 -- the newest one is on that caller's
-pub newest_on : {K V : Type 0} (i : ℕ) (told : Progress (Node K V)) (calls : List (Called K V)) → IsNewest i calls → IsNewest i (has_told i told calls)
+pub newest_on : {K V : Type 0} (i : ℕ) (told : Progress (Node K V)) (calls : List (Called K V)) → IsNewest i calls → IsNewest i (has_progressed i told calls)
 newest_on i told [] newest = newest
 newest_on i told (call ∷ calls) newest =
-    subst (λ (q : Bool). IsNewest i (if q then record call { told = told } ∷ calls else call ∷ has_told i told calls)) (sym (eq-eqb call.caller i newest)) newest
+    subst (λ (q : Bool). IsNewest i (if q then record call { told = told } ∷ calls else call ∷ has_progressed i told calls)) (sym (eq-eqb call.caller i newest)) newest

@@ -9,14 +9,14 @@ use Rattle.seize_acts.proofs.Acts.Answers.{ended}
 use Rattle.seize_acts.proofs.Acts.Steps.{sees_end}
 use Rattle.seize_views.specs.Views.Promises.{op_in}
 use Rattle.seize_views.specs.Views.Told.{FollowsBy}
-use Rattle.many_acts.specs.Looks.Blocks.{Sees}
+use Rattle.many_acts.specs.Looks.Blocks.{MayLookAt}
 use Rattle.many_acts.specs.Looks.Sees.{HasSeen}
 use Rattle.threads_rule.specs.Views.Looks.{shown_in, TurnsTo, MayFollow}
 use Rattle.seize_words.proofs.General.{same_some}
 
 module _ {T : Type 0} where
   -- what the list shows is so
-  abbrev IsSo : (ℕ → Option T) → List (ℕ × T) → Type 0
+  abbrev pub IsSo : (ℕ → Option T) → List (ℕ × T) → Type 0
   IsSo shown looks = (b : ℕ) (x : T) → shown_in looks b ≡ Some x → shown b ≡ Some x
 
   -- one block more
@@ -63,7 +63,7 @@ module _ {T R : Type 0} where
   -- the rest looks at each of these blocks, which has this value
   abbrev AllSeen : (ℕ → Option T) → Then T R → List (ℕ × T) → Type 0
   AllSeen shown rest [] = Unit {0}
-  AllSeen shown rest (look ∷ looks) = Sees look.0 shown rest × (shown look.0 ≡ Some look.1) × AllSeen shown rest looks
+  AllSeen shown rest (look ∷ looks) = MayLookAt look.0 shown rest × (shown look.0 ≡ Some look.1) × AllSeen shown rest looks
 
   seen_on : (shown : ℕ → Option T) (block : ℕ) (rest : T → Then T R) (value : T) → shown block ≡ Some value → (looks : List (ℕ × T)) → AllSeen shown (rest value) looks
       → AllSeen shown (Seeing block rest) looks
@@ -99,6 +99,15 @@ module _ {T R : Type 0} where
   AllLooked m plan n end [] = Unit {0}
   AllLooked m plan n end (look ∷ looks) = HasSeen look.0 m plan n end × (value_at n look.0 ≡ Some look.1) × AllLooked m plan n end looks
 
+  -- or what else is known of the block is told by this
+  abbrev pub AllKnown : (ℕ → Type 0) → Mem T → Plan T R → Mem T → R → List (ℕ × T) → Type 0
+  AllKnown told m plan n end [] = Unit {0}
+  AllKnown told m plan n end (look ∷ looks) = (HasSeen look.0 m plan n end ⊎ told look.0) × (value_at n look.0 ≡ Some look.1) × AllKnown told m plan n end looks
+
+  pub all_known : (told : ℕ → Type 0) (m : Mem T) (plan : Plan T R) (n : Mem T) (end : R) (looks : List (ℕ × T)) → AllLooked m plan n end looks → AllKnown told m plan n end looks
+  all_known told m plan n end [] seen = tt
+  all_known told m plan n end (look ∷ looks) seen = (inl seen.0, seen.1, all_known told m plan n end looks seen.2)
+
   looked_op : (m n : Mem T) (op : Op T) (rest : Out T → Then T R) (out : Out T) (end : R) → Took m op out n → Ends (value_at n) (rest out) end → (looks : List (ℕ × T))
       → AllSeen (value_at n) (rest out) looks → AllLooked m (Do op rest) n end looks
   looked_op m n op rest out end took ends [] seen = tt
@@ -113,6 +122,7 @@ module _ {T R : Type 0} where
     pub end : R
     pub steps : Steps Took value_at m plan n end
     pub looks : List (ℕ × T)
+    pub so : IsSo (value_at n) looks
     pub seen : AllLooked m plan n end looks
     pub follows : FollowsBy (shown_in looks) plan out end
     pub may : MayFollow (shown_in looks) plan out
@@ -127,17 +137,33 @@ module _ {T R : Type 0} where
             let s = sees_end (value_at n) (rest out) (may.1 out n took) in
             let ends = ended (value_at n) (rest out) s.0 s.1 in
             let l = looked (value_at n) (rest out) s.0 ends (may.1 out n took) in
-            record { end = s.0; steps = (out, took, ends); looks = l.0; seen = looked_op m n o rest out s.0 took ends l.0 l.3; follows = l.2; may = l.4 },
+            record { end = s.0; steps = (out, took, ends); looks = l.0; so = l.1; seen = looked_op m n o rest out s.0 took ends l.0 l.3; follows = l.2; may = l.4 },
       )
 
   -- a step that makes no operation leaves the memory as it is
   pub may_turn : (m : Mem T) (plan : Plan T R) (rest : Then T R) → plan ≡ Turn rest → May Can Took value_at m plan
-      → (end : R) × Steps Took value_at m plan m end × (looks : List (ℕ × T)) × AllLooked m plan m end looks × TurnsTo (shown_in looks) plan end
+      → (end : R) × Steps Took value_at m plan m end × (looks : List (ℕ × T)) × AllLooked m plan m end looks × TurnsTo (shown_in looks) plan end × IsSo (value_at m) looks
   may_turn m plan rest turns may =
       subst (λ (p : Plan T R). May Can Took value_at m p
-      → (end : R) × Steps Took value_at m p m end × (looks : List (ℕ × T)) × AllLooked m p m end looks × TurnsTo (shown_in looks) p end) (sym turns)
+      → (end : R) × Steps Took value_at m p m end × (looks : List (ℕ × T)) × AllLooked m p m end looks × TurnsTo (shown_in looks) p end × IsSo (value_at m) looks) (sym turns)
       (λ see.
       let s = sees_end (value_at m) rest see in
       let ends = ended (value_at m) rest s.0 s.1 in
-      let l = looked (value_at m) rest s.0 ends see in (s.0, (refl, ends), l.0, looked_turn m rest s.0 ends l.0 l.3, l.2))
+      let l = looked (value_at m) rest s.0 ends see in (s.0, (refl, ends), l.0, looked_turn m rest s.0 ends l.0 l.3, l.2, l.1))
       may
+
+  -- with one block more the step comes to the same, and may look at what it looks at
+  pub follows_more : (m : Mem T) (plan : Plan T R) (out : Out T) (end : R) (looks : List (ℕ × T)) (b : ℕ) (x : T) → value_at m b ≡ Some x → IsSo (value_at m) looks
+      → FollowsBy (shown_in looks) plan out end → FollowsBy (shown_in ((b, x) ∷ looks)) plan out end
+  follows_more m (Turn rest) out end looks b x is so f = f
+  follows_more m (Do op rest) out end looks b x is so f = ends_on (shown_in looks) (shown_in ((b, x) ∷ looks)) (shown_on (value_at m) looks b x is so) (rest out) end f
+
+  pub may_more : (m : Mem T) (plan : Plan T R) (out : Out T) (looks : List (ℕ × T)) (b : ℕ) (x : T) → value_at m b ≡ Some x → IsSo (value_at m) looks → MayFollow (shown_in looks) plan out
+      → MayFollow (shown_in ((b, x) ∷ looks)) plan out
+  may_more m (Turn rest) out looks b x is so f = f
+  may_more m (Do op rest) out looks b x is so f = may_on (shown_in looks) (shown_in ((b, x) ∷ looks)) (shown_on (value_at m) looks b x is so) (rest out) f
+
+  pub turns_more : (m : Mem T) (plan : Plan T R) (end : R) (looks : List (ℕ × T)) (b : ℕ) (x : T) → value_at m b ≡ Some x → IsSo (value_at m) looks → TurnsTo (shown_in looks) plan end
+      → TurnsTo (shown_in ((b, x) ∷ looks)) plan end
+  turns_more m (Turn rest) end looks b x is so f = ends_on (shown_in looks) (shown_in ((b, x) ∷ looks)) (shown_on (value_at m) looks b x is so) rest end f
+  turns_more m (Do op rest) end looks b x is so f = f

@@ -13,12 +13,12 @@ use Rattle.map_machines.specs.NewMap.{new_map_plan}
 use Rattle.map_machines.specs.declared.new_map.NewMap.{NewMap}
 use Rattle.papaya_raw.specs.declared.machines.machine.Machine.{Machine}
 use Rattle.papaya_raw.specs.declared.machines.progress.Progress.{Progress}
-use Rattle.map_straight.specs.Given.RuleInWorld.{IsHeldBy, KeepsBlocks}
+use Rattle.map_straight.specs.Given.RuleInWorld.{IsHeldBy, PreservesBlocks}
 use Rattle.map_straight.proofs.Given.RuleWorld.OthersSpared.{held_once, keeps_same, keeps_then, keeps_handed}
 use Rattle.owner_calls.specs.Given.CallersTogether.{UnderWay, OnKey, ForRoom, Counting, OverAll, IsOneStep, HandsOver}
 use Rattle.many_acts.proofs.Given.CallersRows.Beside.{row_keeps_blocks}
 use Rattle.owner_calls.proofs.Given.CallersTogether.Came.{came_reached}
-use Rattle.many_acts.specs.Given.FinishesMachines.{MachineStepsAmong, DidOfKind}
+use Rattle.many_acts.specs.Given.FinishesMachines.{MachineStepsWithEndings, DidOfKind}
 use Rattle.many_acts.specs.Given.FinishesMakings.{Beginning}
 use Rattle.many_acts.specs.Given.FinishesMaps.{Standing}
 use Rattle.many_acts.proofs.Given.FinishesBeside.Makings.Promised.{makings_went}
@@ -37,7 +37,7 @@ module _ {K V : Type 0} where
   abbrev pub KeepsMade : World (Node K V) → World (Node K V) → ℕ → Type 0
   KeepsMade w v k = (b : ℕ) (x : Node K V) → w.hand b ≡ Making k → value_at w.memory b ≡ Some x → x ≢ Shards → value_at v.memory b ≡ Some x
 
-  pub made_kept : (w : World (Node K V)) (m2 : Mem (Node K V)) (hand2 : ℕ → Hand) (k : ℕ) → KeepsBlocks k w.memory w.hand m2 hand2 → (b : ℕ) (x : Node K V) → w.hand b ≡ Making k
+  pub made_kept : (w : World (Node K V)) (m2 : Mem (Node K V)) (hand2 : ℕ → Hand) (k : ℕ) → PreservesBlocks k w.memory w.hand m2 hand2 → (b : ℕ) (x : Node K V) → w.hand b ≡ Making k
       → value_at w.memory b ≡ Some x → x ≢ Shards → value_at m2 b ≡ Some x
   made_kept w m2 hand2 k keeps b x made is other = (keeps.blocks b x is other (subst (IsHeldBy k) (sym made) refl)).1
 
@@ -47,12 +47,12 @@ module _ {K V : Type 0} where
 
   module _ (setting : Setting) (i : ℕ) (w v : World (Node K V)) (r : Reached deferred_word setting.batch_size w) (k : ℕ) (ne : k ≢ i) where
     begun_keeps : (request : Request) (begun : World (Node K V)) → HandsOver setting i w request → Happens deferred_word setting.batch_size (Begin i request) w begun
-        → KeepsBlocks k w.memory w.hand begun.memory begun.hand
+        → PreservesBlocks k w.memory w.hand begun.memory begun.hand
     begun_keeps (Retire s b) begun hands h =
-        subst (λ (x : World (Node K V)). KeepsBlocks k w.memory w.hand x.memory x.hand) (sym h.1.2)
+        subst (λ (x : World (Node K V)). PreservesBlocks k w.memory w.hand x.memory x.hand) (sym h.1.2)
         (keeps_handed k w.memory w.hand b Handed (λ theirs. ne (held_once k i (w.hand b) theirs hands.1)))
     begun_keeps (Defer' s b t) begun hands h =
-        subst (λ (x : World (Node K V)). KeepsBlocks k w.memory w.hand x.memory x.hand) (sym h.1.7)
+        subst (λ (x : World (Node K V)). PreservesBlocks k w.memory w.hand x.memory x.hand) (sym h.1.7)
         (keeps_handed k w.memory w.hand b Handed (λ theirs. ne (held_once k i (w.hand b) theirs hands.1)))
     begun_keeps (Register' enters) begun hands h = absurd hands
     begun_keeps (Enter' s) begun hands h = absurd hands
@@ -62,7 +62,7 @@ module _ {K V : Type 0} where
     begun_keeps (Unregister' s) begun hands h = absurd hands
     begun_keeps (Flush s) begun hands h = absurd hands
 
-    within_keeps : IsOneStep setting i w v → KeepsBlocks k w.memory w.hand v.memory v.hand
+    within_keeps : IsOneStep setting i w v → PreservesBlocks k w.memory w.hand v.memory v.hand
     within_keeps (inl step) = row_keeps_blocks setting.batch_size w r i v step k
     within_keeps (inr (request, begun, hands, first, after)) =
         keeps_then k w.memory begun.memory v.memory w.hand begun.hand v.hand (begun_keeps request begun hands first)
@@ -74,17 +74,17 @@ module _ {K V S : Type 0} (same : K → K → Bool) (hash : S → K → ℕ) (ba
 
   -- through a step of another one's call
   module _ (m : ℕ) (it : Standing K) (stands : s.maps m ≡ Some it) (i : ℕ) (u : UnderWay K V K) (m2 : Mem (Node K V)) (machine : Machine K V K) (told : Progress (Node K V))
-      (did : MachineStepsAmong V same same batch_size roots slot_of s.world s.maps s.calls s.makers s.enders m it i m2 u machine told) (k : ℕ) (ne : k ≢ i) where
+      (did : MachineStepsWithEndings V same same batch_size roots slot_of s.world s.maps s.calls s.makers s.enders m it i m2 u machine told) (k : ℕ) (ne : k ≢ i) where
     reached : Reached deferred_word it.setting.batch_size w
     reached =
         let came = all.makings.standing.came in
         subst (λ (n : ℕ). Reached deferred_word n w) (sym (all.makings.standing.fit m it stands).2) (came_reached batch_size w came)
 
-    come : (v : World (Node K V)) → did.w2 ≡ v → KeepsBlocks k w.memory w.hand v.memory v.hand → KeepsBlocks k w.memory w.hand did.w2.memory did.w2.hand
-    come v is keeps = subst (λ (x : World (Node K V)). KeepsBlocks k w.memory w.hand x.memory x.hand) (sym is) keeps
+    come : (v : World (Node K V)) → did.w2 ≡ v → PreservesBlocks k w.memory w.hand v.memory v.hand → PreservesBlocks k w.memory w.hand did.w2.memory did.w2.hand
+    come v is keeps = subst (λ (x : World (Node K V)). PreservesBlocks k w.memory w.hand x.memory x.hand) (sym is) keeps
 
     by : (u : UnderWay K V K) → DidOfKind V same same batch_size roots slot_of w s.maps s.calls s.makers s.enders m it i m2 did.w2 did.maps2 did.next u machine told
-        → KeepsBlocks k w.memory w.hand did.w2.memory did.w2.hand
+        → PreservesBlocks k w.memory w.hand did.w2.memory did.w2.hand
     by (OnKey c) (p2, end, e, f, inl (to, moved)) = come to.step.went.w2 moved.0 (to.step.went.spares k ne)
     by (OnKey c) (p2, end, e, f, inr (to, stayed)) = come to.step.w2 stayed.0 (within_keeps it.setting i w to.step.w2 reached k ne to.step.happened)
     by (ForRoom c) (p2, end, e, f, inl (to, moved)) = come to.step.went.w2 moved.0 (to.step.went.spares k ne)

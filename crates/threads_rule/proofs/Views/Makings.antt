@@ -18,7 +18,7 @@ use Rattle.papaya_raw.specs.declared.machines.machine.Machine.{Machine}
 use Rattle.map_machines.specs.NewMap.{new_map_plan, opening}
 use Rattle.map_machines.specs.declared.new_map.NewMap.{NewMap}
 use Rattle.many_acts.specs.Given.CallersRows.{IsUsedAlike}
-use Rattle.many_acts.specs.Given.FinishesEndings.{Finishing, MakingStepsAmong}
+use Rattle.many_acts.specs.Given.FinishesEndings.{Finishing, MakingStepsWithEndings}
 use Rattle.many_acts.specs.Given.FinishesMakings.{Beginning}
 use Rattle.many_acts.specs.Given.FinishesMaps.{Standing}
 use Rattle.owner_calls.proofs.Given.CallersTogether.At.{at_same, at_other}
@@ -40,10 +40,10 @@ use Rattle.seize_views.specs.declared.view.SlotView.{SlotView}
 use Rattle.seize_views.specs.declared.view.SlotView.TheVariants as slot_view
 use Rattle.threads_rule.specs.Views.Begun.{making}
 use Rattle.threads_rule.specs.Views.Looks.{shown_in}
-use Rattle.threads_rule.specs.Views.Promises.{MakingsBegin, MakingsGoOn}
+use Rattle.threads_rule.specs.Views.Promises.{MakingsBegin, MakingsContinue}
 use Rattle.threads_rule.specs.Views.Listed.{calls_of}
 use Rattle.threads_rule.specs.Views.Rule.{MapsWorld, IsSlot, IsIdle, HasRow, HasMaking, DoesSo, KnowsMap, AreRuns, Fits, AreSo, Holds, KeepsFor, caller_at, acts_in}
-use Rattle.threads_rule.specs.Views.Told.{told, told_by, made_after}
+use Rattle.threads_rule.specs.Views.Told.{told, observed_by, made_after}
 use Rattle.threads_rule.specs.declared.view.BegunCall.{BegunCall}
 use Rattle.threads_rule.specs.declared.view.View.{View}
 use Rattle.threads_rule.specs.declared.view.SeatWork.{SeatWork}
@@ -222,7 +222,7 @@ module _ {K V S : Type 0} (same : K → K → Bool) (hash : S → K → ℕ) (fi
       end_is : made.end ≡ (led.3, led.4)
       end_is = ap (λ (p : Mem (Node K V) × (NewMap × Advance Setting)). p.1) both
 
-      abbrev did : MakingStepsAmong V same same fixed.batch_size fixed.roots slot_of scene.world scene.maps scene.calls scene.makers scene.enders i d led.2 (led.3, led.4)
+      abbrev did : MakingStepsWithEndings V same same fixed.batch_size fixed.roots slot_of scene.world scene.maps scene.calls scene.makers scene.enders i d led.2 (led.3, led.4)
       did = led.7
 
       abbrev w2 : World (Node K V)
@@ -389,7 +389,7 @@ module _ {K V S : Type 0} (same : K → K → Bool) (hash : S → K → ℕ) (fi
       goes : (op : Op (Node K V)) → Goes (Holds same hash fixed) KeepsFor s m2 id (told same hash v op out)
       goes op =
           by (told same hash v op out) led.4
-          (subst (λ (k : SeatWork K V S). told_by same hash v v.map k op out (made_after v m hasher made.looks led.3 led.4)) (sym works) (
+          (subst (λ (k : SeatWork K V S). observed_by same hash v v.map k op out (made_after v m hasher made.looks led.3 led.4)) (sym works) (
             (led.3, led.4),
             subst (λ (l : List (ℕ × Node K V)). FollowsBy (shown_in l) (new_map_plan {K = K} {V = V} machine) out (led.3, led.4)) (sym (looks_same led.4))
                 (subst (λ (e : NewMap × Advance Setting). FollowsBy (shown_in made.looks) (new_map_plan {K = K} {V = V} machine) out e) end_is made.follows),
@@ -401,7 +401,7 @@ module _ {K S : Type 0} (V : Type 0) (same : K → K → Bool) (hash : S → K �
   makings_begin fixed id v hasher given places rests free sized masked rooted initial fit s h at_id =
       begins same hash fixed s h id v at_id hasher given places rests free sized masked rooted initial fit
 
-  pub makings_go_on : MakingsGoOn V same hash
+  pub makings_go_on : MakingsContinue V same hash
   makings_go_on fixed id m v hasher machine op works makes s h at_id =
       let step = may_op (scene same hash fixed s h id v at_id).world.memory (new_map_plan machine) op makes (may_step same hash fixed s h id v at_id m hasher machine works) in
       let is = (so same hash fixed s h id v at_id).memory in (

@@ -12,7 +12,7 @@ use Rattle.papaya_raw.specs.declared.machines.progress.Progress.TheVariants as p
 use Rattle.many_acts.specs.Given.CallersRows.{IsRowOn}
 use Rattle.owner_calls.specs.Given.CallersTogether.{UnderWay}
 use Rattle.many_acts.specs.Given.FinishesEndings.{Finishing}
-use Rattle.many_acts.specs.Given.FinishesMachines.{machine_of, MachineStepsAmong, GoesOnAs}
+use Rattle.many_acts.specs.Given.FinishesMachines.{machine_of, MachineStepsWithEndings, ContinuesAs}
 use Rattle.many_acts.specs.Given.FinishesMakings.{Beginning}
 use Rattle.many_acts.specs.Given.FinishesMaps.{Standing, IsSameMap, with_call}
 use Rattle.many_acts.specs.Given.ScenesScene.{Scene, slot_of}
@@ -52,7 +52,7 @@ module _ {K V S : Type 0} (same : K → K → Bool) (hash : S → K → ℕ) (ba
   only n ne (Some x) e = absurd (ne (all.makings.standing.once n m i (λ none. cc (none, e)) (λ none. cc (none, here))))
 
   module _ (inside : IsInside (s.world.uses t)) (on_row : IsRowOn t (s.world.row i)) (m2 : Mem (Node K V)) (machine : Machine K V K) (told : Progress (Node K V))
-      (did : MachineStepsAmong V same same batch_size roots slot_of s.world s.maps s.calls s.makers s.enders m it (caller_at id t) m2 u machine told) where
+      (did : MachineStepsWithEndings V same same batch_size roots slot_of s.world s.maps s.calls s.makers s.enders m it (caller_at id t) m2 u machine told) where
     abbrev pub after : Scene K V
     after = record { world = did.w2; maps = did.maps2; calls = with_call s.calls m i did.next; makers = s.makers; enders = s.enders }
 
@@ -134,7 +134,7 @@ module _ {K V S : Type 0} (same : K → K → Bool) (hash : S → K → ℕ) (ba
         subst (λ (a : ℕ). IsRowOn a (did.w2.row i)) at_slot (did.slots.on_slot (subst (λ (a : ℕ). IsRowOn a (s.world.row i)) (sym at_slot) on_row)),
       )
 
-      pub own_does : (map : Map S) → map.number ≡ m → (end : Progress (Node K V)) → GoesOnAs machine end did.next
+      pub own_does : (map : Map S) → map.number ≡ m → (end : Progress (Node K V)) → ContinuesAs machine end did.next
           → DoesSo same hash after i under slot (Some map) (call_after machine end)
       own_does map number (progress.Done answer) on = ended on
       own_does map number (progress.Refused fault) on = ended on

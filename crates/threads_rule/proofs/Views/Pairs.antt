@@ -17,17 +17,16 @@ use Rattle.papaya_raw.specs.declared.machines.answer.Called.TheVariants as tells
 use Rattle.papaya_raw.specs.declared.machines.asking.MachineReply.{MachineReply}
 use Rattle.papaya_raw.specs.declared.machines.machine.Machine.{Machine}
 use Rattle.papaya_raw.specs.declared.machines.progress.Progress.{Progress}
-use Rattle.papaya_raw.specs.declared.machines.progress.Progress.TheVariants as progress
 use Rattle.many_acts.specs.Acts.Acts.{Wanted, Get, begun}
 use Rattle.many_acts.specs.Given.ScenesScene.{Scene, slot_of}
-use Rattle.owner_calls.specs.Given.CallersPairs.{Given, Begun, IsTold, and_told, HandsBack as HandsGiven}
+use Rattle.owner_calls.specs.Given.CallersPairs.{Given, Begun, IsTold, with_reply, HandsBack as HandsGiven}
 use Rattle.owner_calls.specs.Given.CallersTogether.{CallOnKey, UnderWay, OnKey, ForRoom, Counting as Counts, OverAll, next_of, next_for_room, next_of_counting, next_over_all}
 use Rattle.owner_calls.specs.Given.CallersOverAll.{CallOverAll}
 use Rattle.many_acts.specs.Given.CallersRooms.{CallForRoom}
-use Rattle.many_acts.specs.Given.FinishesMachines.{machine_of, DidOfKind, MachineStepsAmong, ToldOfKind}
+use Rattle.many_acts.specs.Given.FinishesMachines.{machine_of, DidOfKind, MachineStepsWithEndings, RepliedOfKind}
 use Rattle.many_acts.specs.Given.FinishesMaps.{Standing}
 use Rattle.threads_rule.specs.Views.Rule.{given_pair, pair_of}
-use Rattle.threads_rule.specs.Views.Told.{HandsBack, begun_with, newest_told, pair_in}
+use Rattle.threads_rule.specs.Views.Told.{HandsBack, begun_with, newest_progress, pair_in}
 use Rattle.threads_rule.specs.declared.view.BegunCall.{BegunCall}
 use Rattle.seize_words.proofs.General.{same_some}
 
@@ -37,18 +36,18 @@ module _ {K V : Type 0} where
   begun_pair same slot s i (Get key) = refl
   begun_pair same slot s i _ = refl
 
-  pub newest_pair : (told : Progress (Node K V)) (runs : List (BegunCall K V)) → pair_in (newest_told told runs) ≡ pair_in runs
+  pub newest_pair : (told : Progress (Node K V)) (runs : List (BegunCall K V)) → pair_in (newest_progress told runs) ≡ pair_in runs
   newest_pair told [] = refl
   newest_pair told (run ∷ before) = refl
 
   -- what it is told changes nothing of that,
-  told_given : (given : Given K V) (about : Option ℕ) (told : MachineReply V) (taken : Result Unit (MachineReply V)) → given_pair (and_told given about told taken) ≡ given_pair given
+  told_given : (given : Given K V) (about : Option ℕ) (told : MachineReply V) (taken : Result Unit (MachineReply V)) → given_pair (with_reply given about told taken) ≡ given_pair given
   told_given (Begun kind pair) about told taken = refl
   told_given (IsTold kind its asked) about told (Ok u) = refl
   told_given (IsTold kind its asked) about told (Err back) = refl
 
   pub told_pair : (same : K → K → Bool) (batch_size roots : ℕ) (slot : ℕ → ℕ) (s : Standing K) (i : ℕ) (u : UnderWay K V K) (told : MachineReply V) (next : UnderWay K V K)
-      → ToldOfKind V same same batch_size roots slot s i u told next → pair_of next ≡ pair_of u
+      → RepliedOfKind V same same batch_size roots slot s i u told next → pair_of next ≡ pair_of u
   told_pair same batch_size roots slot s i (OnKey u) told next (inl (asks_at, about, at, asks, is)) = ap pair_of is ∙ told_given u.pair about told (replied u.call told).1
   told_pair same batch_size roots slot s i (OnKey u) told next (inr is) = ap pair_of is
   told_pair same batch_size roots slot s i (ForRoom r) told next is = ap pair_of is
@@ -129,7 +128,7 @@ module _ {K V : Type 0} where
   over_hands runs (swept.Refused fault) = tt
 
 module _ {K V : Type 0} (same : K → K → Bool) (batch_size roots : ℕ) (s : Scene K V) (m : ℕ) (it : Standing K) (i : ℕ) (u : UnderWay K V K) (m2 : Mem (Node K V)) (machine : Machine K V K)
-    (told : Progress (Node K V)) (did : MachineStepsAmong V same same batch_size roots slot_of s.world s.maps s.calls s.makers s.enders m it i m2 u machine told) where
+    (told : Progress (Node K V)) (did : MachineStepsWithEndings V same same batch_size roots slot_of s.world s.maps s.calls s.makers s.enders m it i m2 u machine told) where
   abbrev Did : UnderWay K V K → Type 0
   Did u = DidOfKind V same same batch_size roots slot_of s.world s.maps s.calls s.makers s.enders m it i m2 did.w2 did.maps2 did.next u machine told
 

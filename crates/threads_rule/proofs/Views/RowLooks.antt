@@ -51,7 +51,7 @@ use Rattle.papaya_raw.specs.declared.machines.call.KeyCall.{KeyCall}
 use Rattle.papaya_raw.specs.declared.machines.machine.Machine.{Machine}
 use Rattle.papaya_raw.specs.declared.machines.machine.Machine.TheVariants as kinds
 use Rattle.papaya_raw.specs.declared.machines.progress.Progress.{Progress}
-use Rattle.many_acts.specs.Looks.Sees.{HasSeen, GoesOn}
+use Rattle.many_acts.specs.Looks.Sees.{HasSeen, Continues}
 use Rattle.many_acts.proofs.Looks.Sees.Operations.{loads, exchanges}
 use Rattle.many_acts.proofs.Looks.Sees.Plans.{seen_as}
 use Rattle.threads_rule.specs.Views.Reclaims.{copies_at_row, disposes_at_row, calls_at_row, reserves_at_row, sweeps_at_row, is_at_row, IsToReclaim, DisposesNext, CopiesNext, CallsNext, ReservesNext, SweepsNext, IsNextOf}
@@ -62,7 +62,7 @@ module _ {K V : Type 0} (b : ℕ) (m n : Mem (Node K V)) where
   defers_none : (d : Defer) (end : Defer × Told Unit) (stands : Deferring) → HasSeen b m (defer.plan_at d stands) n end → ⊥
   defers_none d end deferring.Reads saw = let l = loads b m n d.table_word end (defer.head_read d) saw in l.3.1
   defers_none d end (deferring.Links head) saw = saw.3
-  defers_none d end (deferring.Pushes head) saw = elim (exchanges b m n d.table_word end (defer.push_told d) head d.block saw) as (λ _. ⊥) [
+  defers_none d end (deferring.Pushes head) saw = elim (exchanges b m n d.table_word end (defer.after_push d) head d.block saw) as (λ _. ⊥) [
     | inl made ↦ made.1.1
     | inr found ↦ found.3.1
   ]
@@ -165,16 +165,16 @@ module _ {K V : Type 0} (b : ℕ) (m n : Mem (Node K V)) where
 
   -- whichever call it is
   pub row_sees : (same : K → K → Bool) (hash : K → ℕ) (machine : Machine K V K) → is_at_row machine ≡ true → (next : Machine K V K) (told : Progress (Node K V))
-      → HasSeen b m (machine_plan same same hash machine) n (next, told) → IsNextOf next b × GoesOn told
+      → HasSeen b m (machine_plan same same hash machine) n (next, told) → IsNextOf next b × Continues told
   row_sees same hash machine row next told saw = by machine row saw
     where
-      on : (to : Machine K V K × Progress (Node K V)) → (next, told) ≡ to → IsNextOf to.0 b → GoesOn to.1 → IsNextOf next b × GoesOn told
+      on : (to : Machine K V K × Progress (Node K V)) → (next, told) ≡ to → IsNextOf to.0 b → Continues to.1 → IsNextOf next b × Continues told
       on to is its goes = (
         subst (λ (x : Machine K V K × Progress (Node K V)). IsNextOf x.0 b) (sym is) its,
-        subst (λ (x : Machine K V K × Progress (Node K V)). GoesOn x.1) (sym is) goes,
+        subst (λ (x : Machine K V K × Progress (Node K V)). Continues x.1) (sym is) goes,
       )
 
-      by : (x : Machine K V K) → is_at_row x ≡ true → HasSeen b m (machine_plan same same hash x) n (next, told) → IsNextOf next b × GoesOn told
+      by : (x : Machine K V K) → is_at_row x ≡ true → HasSeen b m (machine_plan same same hash x) n (next, told) → IsNextOf next b × Continues told
       by (kinds.Key c) r s =
           let f = seen_as machines.called b m (call_plan same same hash c) n (next, told) s in
           let k = calls_at same same hash c f.0 c.stands r f.2 in

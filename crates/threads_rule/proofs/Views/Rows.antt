@@ -31,10 +31,10 @@ use Rattle.seize_views.proofs.Views.GoesOn.{goes_on}
 use Rattle.seize_views.proofs.Views.Lists.{there, elsewhere}
 use Rattle.seize_views.proofs.Views.Turning.{Turning, turning}
 use Rattle.threads_rule.specs.Views.Begun.{with_slot}
-use Rattle.threads_rule.specs.Views.Promises.{RowsGoOn, RowsTurn, SettlingsBegin, LookedAreShown}
+use Rattle.threads_rule.specs.Views.Promises.{RowsContinue, RowsTurn, SettlingsBegin, LookedAreShown}
 use Rattle.threads_rule.specs.Views.Looks.{shown_in}
 use Rattle.threads_rule.specs.Views.Rule.{MapsWorld, Fits, Holds, KeepsFor, LeansOn, Leans}
-use Rattle.threads_rule.specs.Views.Told.{told, told_by}
+use Rattle.threads_rule.specs.Views.Told.{told, observed_by}
 use Rattle.threads_rule.specs.declared.view.View.{View}
 use Rattle.threads_rule.specs.declared.view.SeatWork.{SeatWork}
 use Rattle.threads_rule.specs.declared.view.SeatWork.TheVariants.{Nothing}
@@ -159,7 +159,7 @@ unlent_within {K} {V} {S} same hash fixed s h id v at_id op makes j x at leans =
         let some : op_of deferred_word base.0.slot ≡ Some op = ap (λ (y : View K V S). op_of deferred_word y.slot) same_view ∙ makes in cc (none, some)
 
 module _ {K S : Type 0} (V : Type 0) (same : K → K → Bool) (hash : S → K → ℕ) where
-  pub rows_go_on : RowsGoOn V same hash
+  pub rows_go_on : RowsContinue V same hash
   rows_go_on fixed id v op own free makes s h at_id =
       let now = (scene same hash fixed s h id v at_id own).world in
       let is = (so same hash fixed s h id v at_id own).memory in
@@ -169,7 +169,7 @@ module _ {K S : Type 0} (V : Type 0) (same : K → K → Bool) (hash : S → K �
             steps_to same hash fixed s h id v at_id own free (unlent_within same hash fixed s h id v at_id op makes) m v.began (row_told deferred_word v.slot op out) (told same hash v op out)
             (k.1 out m (subst (λ (x : Mem (Node K V)). Took x op out m) is took))
             (λ u tells.
-            subst (λ (x : SeatWork K V S). told_by same hash v v.map x op out record { slot = u; under = None; map = v.map; work = Nothing; looks = []; held = []; began = v.began; calls = v.calls }) (sym free)
+            subst (λ (x : SeatWork K V S). observed_by same hash v v.map x op out record { slot = u; under = None; map = v.map; work = Nothing; looks = []; held = []; began = v.began; calls = v.calls }) (sym free)
             (u, tells, ap (λ (o : Option (ℕ × ℕ)). record { slot = u; under = o; map = v.map; work = Nothing; looks = []; held = []; began = v.began; calls = v.calls }) (sym own))),
       )
 

@@ -10,7 +10,7 @@ use Rattle.papaya_raw.specs.declared.machines.machine.Machine.{Machine}
 use Rattle.papaya_raw.specs.declared.machines.progress.Progress.{Progress}
 use Rattle.map_straight.specs.Given.RuleInWorld.{AllUsers}
 use Rattle.owner_calls.specs.Given.CallersTogether.{UnderWay, OnKey, ForRoom, Counting, OverAll, IsOneStep, HandsOver}
-use Rattle.many_acts.specs.Given.FinishesMachines.{MachineStepsAmong, DidOfKind}
+use Rattle.many_acts.specs.Given.FinishesMachines.{MachineStepsWithEndings, DidOfKind}
 use Rattle.many_acts.specs.Given.FinishesMaps.{Standing}
 use Rattle.many_acts.specs.Given.ScenesScene.{Scene}
 use Rattle.many_acts.specs.Acts.Leads.{AllStand}
@@ -43,7 +43,7 @@ module _ {K V S : Type 0} (same : K → K → Bool) (hash : S → K → ℕ) (ba
   -- what has happened as a call took a step
   pub calls_ran : (s : Scene K V) → AllStand same hash batch_size roots slot s → (m : ℕ) (it : Standing K) → s.maps m ≡ Some it → (i : ℕ) (u : UnderWay K V K)
       → (m2 : Mem (Node K V)) (machine : Machine K V K) (told : Progress (Node K V))
-      → (did : MachineStepsAmong V same same batch_size roots slot s.world s.maps s.calls s.makers s.enders m it i m2 u machine told)
+      → (did : MachineStepsWithEndings V same same batch_size roots slot s.world s.maps s.calls s.makers s.enders m it i m2 u machine told)
       → Ran (deferred_word {K = K} {V = V}) batch_size i s.world did.w2
   calls_ran s all m it stands i u m2 machine told did = subst (λ (n : ℕ). Ran deferred_word n i s.world did.w2) (all.makings.standing.fit m it stands).2 (by u did.did)
     where

@@ -14,7 +14,7 @@ use Rattle.seize.specs.declared.rows.settle.Settled.{Settled}
 use Rattle.seize.specs.declared.rows.settle.Settled.TheVariants.{Goes}
 use Rattle.seize.specs.Settle as settle
 use Rattle.seize.specs.Settle.{settle_plan, plan_at}
-use Rattle.many_acts.specs.Looks.Blocks.{Sees}
+use Rattle.many_acts.specs.Looks.Blocks.{MayLookAt}
 use Rattle.many_acts.specs.Looks.Sees.{HasSeen}
 use Rattle.many_acts.proofs.Looks.Sees.Operations.{none_if, loads, adds, exchanges, takes}
 use Rattle.threads_rule.specs.Views.Reclaims.{IsToReclaim}
@@ -42,11 +42,11 @@ module _ {T : Type 0} (defers : T → Option ℕ) (b : ℕ) (m n : Mem T) (c : S
   )
       )
 
-  drained_none : (next : ℕ) (o : Option ℕ) → Sees b shown (settle.drained_first {T = T} c next o) → ⊥
+  drained_none : (next : ℕ) (o : Option ℕ) → MayLookAt b shown (settle.drained_first {T = T} c next o) → ⊥
   drained_none next (Some word) sees = sees
   drained_none next None sees = sees
 
-  nexts : (next : ℕ) → Ends shown (settle.next_read defers c (Found next)) end → Sees b shown (settle.next_read defers c (Found next)) → Reclaims
+  nexts : (next : ℕ) → Ends shown (settle.next_read defers c (Found next)) end → MayLookAt b shown (settle.next_read defers c (Found next)) → Reclaims
   nexts next (value, is, ends) (inl same) = drained_next next (defers value) ends same
   nexts next ends (inr (value, is, sees)) = absurd (drained_none next (defers value) sees)
 
@@ -75,7 +75,7 @@ module _ {T : Type 0} (defers : T → Option ℕ) (b : ℕ) (m n : Mem T) (c : S
   by_point (at.Closes marks) saw = absurd saw.3
   by_point (at.Reads block left pushed) saw = let l = loads b m n (Entry (block_in block) LINK) end (settle.slot_read c block left pushed) saw in absurd l.3.1
   by_point (at.Links block left pushed slot head) saw = absurd saw.3
-  by_point (at.Pushes block left pushed slot head) saw = elim (exchanges b m n (Slot slot HEAD) end (settle.push_told c block left pushed slot) head block saw) as (λ _. Reclaims) [
+  by_point (at.Pushes block left pushed slot head) saw = elim (exchanges b m n (Slot slot HEAD) end (settle.after_push c block left pushed slot) head block saw) as (λ _. Reclaims) [
     | inl made ↦ absurd made.1.1
     | inr found ↦ absurd (none_if b shown (settle.needs_none c found.0) _ _ none none found.3.1)
   ]

@@ -1,13 +1,17 @@
 -- What is so of a seat that has a call under way: the next step of it may be taken, and is that of an act.
 use Rattle.std.specs.Prelude.{Option, Some, None, if◌then◌else◌}
 use Rattle.std.specs.Option.{is_none}
+use Rattle.std.proofs.lemmas.Bool.{eq-eqb}
 use Rattle.std.proofs.Common.{◌≡◌, ℕ, Bool, List, ◌⊎◌, inl, inr, sym, subst, ap, ◌∙◌, refl, true, false, [], ◌∷◌}
 use Rattle.seize_words.specs.OneMemory.Mem.{Mem, Can, Took, value_at}
+use Rattle.seize_words.specs.OneMemory.Op.{Out}
 use Rattle.seize_words.specs.OneMemory.Plan.{Plan, Steps, May}
+use Rattle.seize_words.specs.OneMemory.Word.{block_in}
 use Rattle.seize.specs.Law.{holds}
 use Rattle.seize.specs.World.{IsInside}
 use Rattle.map_tables.specs.Chunks.{is_incremental}
 use Rattle.map_tables.specs.declared.node.Node.{Node}
+use Rattle.map_tables.specs.declared.node.Node.TheVariants.{Pair}
 use Rattle.map_tables.specs.declared.setting.Setting.{Setting}
 use Rattle.map_machines.specs.declared.copier.Copying.{Copying}
 use Rattle.map_machines.specs.declared.copier.Copying.TheVariants as copies
@@ -32,7 +36,7 @@ use Rattle.many_acts.specs.Given.FinishesMachines.{machine_of}
 use Rattle.many_acts.specs.Given.FinishesMaps.{Standing}
 use Rattle.many_acts.specs.Given.ScenesScene.{Scene, slot_of}
 use Rattle.many_acts.specs.Looks.Looks.{IsAtRow}
-use Rattle.many_acts.specs.Looks.Sees.{HasSeen, GoesOn, IsOwnOf}
+use Rattle.many_acts.specs.Looks.Sees.{HasSeen, Continues, IsOwnOf}
 use Rattle.many_acts.proofs.Looks.Sees.Promised.{steps_see}
 use Rattle.many_acts.specs.Acts.Acts.{Act, Answer, StepsCall}
 use Rattle.many_acts.specs.Acts.Doings.{Does, MayDo}
@@ -42,10 +46,10 @@ use Rattle.many_acts.proofs.Acts.Lists.{steps_are_acts}
 use Rattle.seize_acts.specs.Acts.Answers.{Grant, then_on}
 use Rattle.seize_seats.specs.Seats.State.{State, view_of, Goes}
 use Rattle.seize_views.specs.declared.view.Fixed.{Fixed}
-use Rattle.threads_rule.specs.Views.Listed.{Called, calls_of, calls_then, has_told, IsNewest}
+use Rattle.threads_rule.specs.Views.Listed.{Called, calls_of, calls_then, has_progressed, IsNewest}
 use Rattle.threads_rule.specs.Views.Rule.{MapsWorld, DoesSo, KnowsMap, KnowsPair, AreRuns, Fits, AreSo, Holds, KeepsFor, caller_at, acts_in, section_of, IsInSection, IsOfCall, AllHeld}
 use Rattle.threads_rule.specs.Views.Reclaims.{IsNextOf, copies_at_row, disposes_at_row, calls_at_row, reserves_at_row, sweeps_at_row, is_at_row}
-use Rattle.threads_rule.specs.Views.Told.{HandsBack, call_after, called, newest_told}
+use Rattle.threads_rule.specs.Views.Told.{HandsBack, call_after, called, newest_progress}
 use Rattle.threads_rule.specs.declared.view.Map.{Map}
 use Rattle.threads_rule.specs.declared.view.View.{View}
 use Rattle.threads_rule.specs.declared.view.SeatWork.{SeatWork}
@@ -56,7 +60,11 @@ use Rattle.threads_rule.proofs.Views.Held.{value_of}
 use Rattle.threads_rule.proofs.Views.Listed.{is_its, is_other, newest_on, newest_runs, numbered_on}
 use Rattle.threads_rule.proofs.Views.Moved.{scene_of, all_stand, are_so, Moved, Adds, same_slot, moved}
 use Rattle.threads_rule.proofs.Views.Next.{after, step_leaves, step_fresh, own_does}
-use Rattle.threads_rule.proofs.Views.Looked.{AllLooked}
+use Rattle.threads_rule.proofs.Views.Looked.{AllKnown, AllLooked, IsSo, all_known, follows_more, may_more, turns_more}
+use Rattle.threads_rule.proofs.Views.Shown.{is_read, pair_told, read_word, was_read}
+use Rattle.threads_rule.specs.CallKinds.Shows.{ReadsPlaces, ReadPairIsVisible, ProgressNamesPair}
+use Rattle.threads_rule.specs.Views.Looks.{shown_in, MayFollow, TurnsTo}
+use Rattle.seize_views.specs.Views.Told.{FollowsBy}
 use Rattle.threads_rule.proofs.Views.RowLooks.{row_sees}
 use Rattle.threads_rule.proofs.Views.Numbers.{slot_at}
 use Rattle.threads_rule.proofs.Views.Pairs.{newest_pair, step_hands, step_pair}
@@ -161,24 +169,23 @@ module _ {K V S : Type 0} (same : K → K → Bool) (hash : S → K → ℕ) (fi
 
   -- what a step has seen the section of its slot holds, or its call has it, and goes on
   seen_lasts : is_incremental map.setting.mode ≡ true → (m2 : Mem (Node K V)) (next : Machine K V K) (told : Progress (Node K V)) (b : ℕ)
-      → HasSeen b scene.world.memory step_plan m2 (next, told) → (holds place b scene.world.log ≡ true) ⊎ ((IsOwnOf next b ⊎ IsNextOf next b) × GoesOn told)
+      → HasSeen b scene.world.memory step_plan m2 (next, told) → (holds place b scene.world.log ≡ true) ⊎ ((IsOwnOf next b ⊎ IsNextOf next b) × Continues told)
   seen_lasts incremental m2 next told b saw = by (is_at_row {K = K} {V = V} machine) refl
     where
-      by : (x : Bool) → is_at_row {K = K} {V = V} machine ≡ x → (holds place b scene.world.log ≡ true) ⊎ ((IsOwnOf next b ⊎ IsNextOf next b) × GoesOn told)
+      by : (x : Bool) → is_at_row {K = K} {V = V} machine ≡ x → (holds place b scene.world.log ≡ true) ⊎ ((IsOwnOf next b ⊎ IsNextOf next b) × Continues told)
       by true row = let r = row_sees b scene.world.memory m2 same (hash map.hasher) machine row next told saw in inr (inr r.0, r.1)
       by false none =
           elim (steps_see V same same fixed.batch_size fixed.roots slot_of scene.world scene.maps scene.calls scene.makers scene.enders all map.number it.0 it.1
           (ap (λ (x : Setting). is_incremental x.mode) it.2 ∙ incremental) i does.3.call does.3.here
           (none_at does.3.call (ap is_at_row does.3.is ∙ none)) m2 next told b
           (plan_was (λ (f : K → ℕ) (x : Machine K V K). HasSeen b scene.world.memory (machine_plan same same f x) m2 (next, told)) saw))
-          as (λ _. (holds place b scene.world.log ≡ true) ⊎ ((IsOwnOf next b ⊎ IsNextOf next b) × GoesOn told)) [
+          as (λ _. (holds place b scene.world.log ≡ true) ⊎ ((IsOwnOf next b ⊎ IsNextOf next b) × Continues told)) [
             | inl held ↦ inl (subst (λ (a : ℕ). holds a b scene.world.log ≡ true) (slot_at id place fits.slot) held)
             | inr own ↦ inr (inl own.0, own.1)
           ]
 
   -- what the memory took as a step is an act, which leads on
-  module _ (m2 : Mem (Node K V)) (end : Machine K V K × Progress (Node K V)) (steps : Steps Took value_at scene.world.memory step_plan m2 end) (looks : List (ℕ × Node K V))
-      (seen : AllLooked scene.world.memory step_plan m2 end looks) where
+  module _ (m2 : Mem (Node K V)) (end : Machine K V K × Progress (Node K V)) (steps : Steps Took value_at scene.world.memory step_plan m2 end) where
     granted : (g : Grant) × (call_steps same hash fixed.batch_size fixed.roots slot_of scene g (it.0, does.3.call) ≡ Some (m2, end))
     granted =
         acts.1.calls map.number i it.0 does.3.call it.1 does.3.here m2 end
@@ -221,45 +228,10 @@ module _ {K V S : Type 0} (same : K → K → Bool) (hash : S → K → ℕ) (fi
         step_leaves same hash fixed.batch_size fixed.roots scene all id place map.number fits.slot came.standing came.stands came.call came.here inside on_row came.memory came.machine came.progress
         came.did
 
-    abbrev w : View K V S
-    w = called v map machine (came.machine, came.progress) looks
-
-    -- of what was seen each block is held, and has its value
-    of_on : (next : Machine K V K) (told : Progress (Node K V)) (b : ℕ) → IsOwnOf next b ⊎ IsNextOf next b → GoesOn told → IsOfCall same hash (call_after {S = S} next told) b
-    of_on next (progress.Done answer) b of on = absurd on
-    of_on next (progress.Refused fault) b of on = absurd on
-    of_on next _ b of on = of
-
-    looked_held : is_incremental map.setting.mode ≡ true → (more : List (ℕ × Node K V)) → AllLooked scene.world.memory step_plan m2 (came.machine, came.progress) more
-        → AllHeld same hash n v.under v.slot (call_after came.machine came.progress) more
-    looked_held incremental [] each = tt
-    looked_held incremental (look ∷ more) each = ((there, why (seen_lasts incremental m2 came.machine came.progress look.0 each.0)), looked_held incremental more each.2)
-      where
-        there : value_at n.world.memory look.0 ≡ Some look.1
-        there = ap (λ (x : Mem (Node K V)). value_at x look.0) (came.did.memory ∙ sym memory_is) ∙ each.1
-
-        why : (holds place look.0 scene.world.log ≡ true) ⊎ ((IsOwnOf came.machine look.0 ⊎ IsNextOf came.machine look.0) × GoesOn came.progress)
-            → IsInSection same hash n v.under v.slot look.0 ⊎ IsOfCall same hash (call_after {S = S} came.machine came.progress) look.0
-        why (inl held) = let g = leaves.held place look.0 (λ a e. cc e) inside held (none_over scene.world.log so.unended look.0) in inl (place, section_is, g.0, g.1)
-        why (inr (of, on)) = inr (of_on came.machine came.progress look.0 of on)
-
-    held_then : (a : Bool) → is_incremental map.setting.mode ≡ a → AllHeld same hash n v.under v.slot (call_after came.machine came.progress) (if a then looks else [])
-    held_then true incremental =
-        looked_held incremental looks (subst (λ (e : Machine K V K × Progress (Node K V)). AllLooked scene.world.memory step_plan m2 e looks) end_is seen)
-    held_then false incremental = tt
-
     knows_pair : KnowsPair same hash scene i (Some map) (Calls machine) v.calls
     knows_pair =
         subst (λ (x : SeatWork K V S). KnowsPair same hash scene i (Some map) x v.calls) works
         (subst (λ (x : Option (Map S)). KnowsPair same hash scene i x v.work v.calls) knows fits.pair)
-
-    -- the call that goes on was begun with the pair that it was begun with
-    pair_then : (told : Progress (Node K V)) → KnowsPair same hash n i (Some map) (call_after came.machine told) (newest_told came.progress v.calls)
-    pair_then (progress.Done answer) = tt
-    pair_then (progress.Refused fault) = tt
-    pair_then _ = λ x here.
-        step_pair same fixed.batch_size fixed.roots scene map.number came.standing i came.call came.memory came.machine came.progress came.did x
-        (sym (call_here scene.calls map.number i came.did.next) ∙ here) ∙ knows_pair came.call came.here ∙ sym (newest_pair came.progress v.calls)
 
     -- and it is what is handed back
     pub hands : HandsBack v.calls end.1
@@ -267,74 +239,171 @@ module _ {K V S : Type 0} (same : K → K → Bool) (hash : S → K → ℕ) (fi
         subst (λ (e : Machine K V K × Progress (Node K V)). HandsBack v.calls e.1) (sym end_is)
         (step_hands same fixed.batch_size fixed.roots scene map.number came.standing i came.call came.memory came.machine came.progress came.did v.calls (knows_pair came.call came.here))
 
-    own : Fits same hash n id w
-    own = record {
-      slot = fits.slot;
-      does =
-          subst (λ (x : Option (Map S)). DoesSo same hash n i v.under v.slot x (call_after came.machine came.progress)) (sym knows)
-          (own_does same hash fixed.batch_size fixed.roots scene all id place map.number fits.slot came.standing came.stands came.call came.here inside on_row came.memory came.machine came.progress
-          came.did v.under v.slot fits.aside section_is map refl came.progress came.did.goes_on);
-      aside = fits.aside;
-      map = map_on same hash scene n id place fits.slot fixed.batch_size None leaves v.map fits.map;
-      held = held_then (is_incremental map.setting.mode) refl;
-      pair = subst (λ (x : Option (Map S)). KnowsPair same hash n i x (call_after came.machine came.progress) (newest_told came.progress v.calls)) (sym knows) (pair_then came.progress);
-      idle = own_idle same hash scene n id place fits.slot fixed.batch_size None leaves fits.idle;
-    }
+    -- the pair that a sweep has read, and tells, is there, and its section holds it
+    told_there : ReadsPlaces machine → (word : ℕ) → ProgressNamesPair end.1 word
+        → (key : K) × (value : V) × (value_at m2 (block_in word) ≡ Some (Pair key value)) × (holds place (block_in word) scene.world.log ≡ true)
+    told_there reads word tells =
+        let its = subst (λ (x : UnderWay K V K). ReadsPlaces (machine_of x)) (same_some does.3.call came.call (sym does.3.here ∙ came.here))
+        (subst (λ (x : Machine K V K). ReadsPlaces x) (sym does.3.is) reads) in
+        let t = pair_told same fixed.batch_size fixed.roots scene all map.number came.standing came.stands i came.call came.here came.memory came.machine came.progress came.did its word
+        (subst (λ (e : Machine K V K × Progress (Node K V)). ProgressNamesPair e.1 word) end_is tells) in (
+          t.0,
+          t.1,
+          ap (λ (x : Mem (Node K V)). value_at x (block_in word)) memory_is ∙ t.2,
+          subst (λ (a : ℕ). holds a (block_in word) scene.world.log ≡ true) (slot_at id place fits.slot) t.3,
+        )
 
-    abbrev act : Act K V S
-    act = StepsCall i map.number granted.0
+    abbrev pub IsTold : ℕ → Type 0
+    IsTold b = (word : ℕ) × ReadsPlaces machine × ProgressNamesPair end.1 word × (b ≡ block_in word)
 
-    go : Moved same hash fixed s h id act m2 w n
-    go = record {
-      memory = memory_is ∙ sym came.did.memory;
-      own = own;
-      place = place;
-      its_slot = fits.slot;
-      mine = None;
-      leaves = leaves;
-      theirs = λ j t a b x ne at uses e. cc e;
-      alone = same_slot same hash fixed s h id v w at_id refl;
-      under = λ x at. ap (λ (y : View K V S). y.under) (same_some v x (sym at_id ∙ at));
-      leant = inl (refl, λ x at. ap (λ (y : View K V S). y.slot) (same_some v x (sym at_id ∙ at)));
-      fresh = (
-        so.fresh.0,
-        step_fresh same hash fixed.batch_size fixed.roots scene all id place map.number fits.slot came.standing came.stands came.call came.here inside on_row came.memory came.machine came.progress
-            came.did so.fresh.0 so.fresh.1,
-        numbered_on s.world.doings (Does act ∷ []) 0 so.fresh.0 so.fresh.0 so.fresh.2 refl,
-      );
-      row = knows_within fixed n id place v.under v.slot fits.aside section_is;
-    }
+    -- What was looked at, with that pair: by it the step comes to the same.
+    pub record Known (looks : List (ℕ × Node K V)) : Type 0 where
+      pub more : List (ℕ × Node K V)
+      pub seen : AllKnown IsTold scene.world.memory step_plan m2 end more
+      pub shows : ReadPairIsVisible machine end.1 (shown_in more)
+      pub follows : (out : Out (Node K V)) → FollowsBy (shown_in looks) step_plan out end → FollowsBy (shown_in more) step_plan out end
+      pub may_follow : (out : Out (Node K V)) → MayFollow (shown_in looks) step_plan out → MayFollow (shown_in more) step_plan out
+      pub turns : TurnsTo (shown_in looks) step_plan end → TurnsTo (shown_in more) step_plan end
 
-    -- what the step has told is what the call has told last
-    abbrev calls : List (Called K V)
-    calls = calls_of id s.world.doings h.reached.1 []
+    pub known : (looks : List (ℕ × Node K V)) → IsSo (value_at m2) looks → AllLooked scene.world.memory step_plan m2 end looks → Known looks
+    known looks so_looks seen = by (read_word machine end.1) refl
+      where
+        by : (o : Option ℕ) → read_word machine end.1 ≡ o → Known looks
+        by None none = record {
+          more = looks;
+          seen = all_known IsTold scene.world.memory step_plan m2 end looks seen;
+          shows = λ reads word tells. absurd (let some = is_read machine end.1 reads word tells in cc (some, none));
+          follows = λ out f. f;
+          may_follow = λ out f. f;
+          turns = λ f. f;
+        }
+        by (Some word) is =
+            let reads = was_read machine end.1 word is in
+            let there = told_there reads.0 word reads.1 in
+            let pair : Node K V = Pair there.0 there.1 in record {
+              more = (block_in word, pair) ∷ looks;
+              seen = (inr (word, reads.0, reads.1, refl), there.2, all_known IsTold scene.world.memory step_plan m2 end looks seen);
+              shows = λ reads_it other tells.
+                  let one : word ≡ other = same_some word other (sym is ∙ is_read machine end.1 reads_it other tells) in (
+                    there.0,
+                    there.1,
+                    ap (λ (k : Bool). if k then Some pair else shown_in looks (block_in other)) (eq-eqb (block_in other) (block_in word) (ap block_in (sym one))),
+                  );
+              follows = λ out f. follows_more m2 step_plan out end looks (block_in word) pair there.2 so_looks f;
+              may_follow = λ out f. may_more m2 step_plan out looks (block_in word) pair there.2 so_looks f;
+              turns = λ f. turns_more m2 step_plan end looks (block_in word) pair there.2 so_looks f;
+            }
 
-    its_newest : IsNewest i (calls_then id (Does act) (h.course.told h.reached.0 (Does act) may_do) calls)
-    its_newest =
-        subst (λ (told : Answer K V). IsNewest i (calls_then id (Does act) told calls)) (sym came.tells)
-        (subst (λ (q : Bool). IsNewest i (if q then has_told i came.progress calls else calls)) (sym (is_its id place fits.slot))
-        (newest_on i came.progress calls (h.newest id v machine at_id works)))
+    -- with what is known of the blocks that it has looked at
+    module _ (looks : List (ℕ × Node K V)) (seen : AllKnown IsTold scene.world.memory step_plan m2 end looks) where
+      abbrev w : View K V S
+      w = called v map machine (came.machine, came.progress) looks
 
-    adds : Adds same hash fixed s h id act (h.course.told h.reached.0 (Does act) may_do) v w n calls
-    adds = record {
-      own = ((λ a k. 0), tt);
-      others = λ j ne theirs.
-          ap (λ (told : Answer K V). calls_then j (Does act) told theirs) came.tells ∙ ap (λ (q : Bool). if q then has_told i came.progress theirs else theirs) (is_other j id place fits.slot ne);
-      its = λ are.
-          subst (λ (told : Answer K V). AreRuns same hash n (calls_then id (Does act) told calls) w.calls) (sym came.tells)
-          (subst (λ (q : Bool). AreRuns same hash n (if q then has_told i came.progress calls else calls) w.calls) (sym (is_its id place fits.slot))
-          (newest_runs same hash n i came.progress calls v.calls (h.newest id v machine at_id works) are));
-      newest = λ other on. its_newest;
-      aside = λ j ne theirs. ap (λ (q : Bool). if q then Some (i, n.world.memory) else theirs) (is_other j id place fits.slot ne);
-      seen = λ before b x shown. (
-        n.world.memory,
-        ap (λ (q : Bool). if q then Some (i, n.world.memory) else before) (is_its id place fits.slot),
-        its_newest,
-        value_of same hash n w.under w.slot w.work b x w.held own.held shown,
-      );
-    }
+      -- of what was seen each block is held, and has its value
+      of_on : (next : Machine K V K) (told : Progress (Node K V)) (b : ℕ) → IsOwnOf next b ⊎ IsNextOf next b → Continues told → IsOfCall same hash (call_after {S = S} next told) b
+      of_on next (progress.Done answer) b of on = absurd on
+      of_on next (progress.Refused fault) b of on = absurd on
+      of_on next _ b of on = of
 
-    pub goes : (so : View K V S → Type 0) → so (called v map machine end looks) → Goes (Holds same hash fixed) KeepsFor s m2 id so
-    goes so is =
-        moved same hash fixed s h id v at_id act may_do n came.comes m2 w go adds so
-        (subst (λ (e : Machine K V K × Progress (Node K V)). so (called v map machine e looks)) end_is is)
+      looked_held : is_incremental map.setting.mode ≡ true → (more : List (ℕ × Node K V)) → AllKnown IsTold scene.world.memory step_plan m2 (came.machine, came.progress) more
+          → AllHeld same hash n v.under v.slot (call_after came.machine came.progress) more
+      looked_held incremental [] each = tt
+      looked_held incremental (look ∷ more) each = ((there, by each.0), looked_held incremental more each.2)
+        where
+          there : value_at n.world.memory look.0 ≡ Some look.1
+          there = ap (λ (x : Mem (Node K V)). value_at x look.0) (came.did.memory ∙ sym memory_is) ∙ each.1
+
+          why : (holds place look.0 scene.world.log ≡ true) ⊎ ((IsOwnOf came.machine look.0 ⊎ IsNextOf came.machine look.0) × Continues came.progress)
+              → IsInSection same hash n v.under v.slot look.0 ⊎ IsOfCall same hash (call_after {S = S} came.machine came.progress) look.0
+          why (inl held) = let g = leaves.held place look.0 (λ a e. cc e) inside held (none_over scene.world.log so.unended look.0) in inl (place, section_is, g.0, g.1)
+          why (inr (of, on)) = inr (of_on came.machine came.progress look.0 of on)
+
+          by : HasSeen look.0 scene.world.memory step_plan m2 (came.machine, came.progress) ⊎ IsTold look.0
+              → IsInSection same hash n v.under v.slot look.0 ⊎ IsOfCall same hash (call_after {S = S} came.machine came.progress) look.0
+          by (inl saw) = why (seen_lasts incremental m2 came.machine came.progress look.0 saw)
+          by (inr (word, reads, tells, is)) = why (inl (ap (λ (b : ℕ). holds place b scene.world.log) is ∙ (told_there reads word tells).3))
+
+      held_then : (a : Bool) → is_incremental map.setting.mode ≡ a → AllHeld same hash n v.under v.slot (call_after came.machine came.progress) (if a then looks else [])
+      held_then true incremental =
+          looked_held incremental looks (subst (λ (e : Machine K V K × Progress (Node K V)). AllKnown IsTold scene.world.memory step_plan m2 e looks) end_is seen)
+      held_then false incremental = tt
+
+      -- the call that goes on was begun with the pair that it was begun with
+      pair_then : (told : Progress (Node K V)) → KnowsPair same hash n i (Some map) (call_after came.machine told) (newest_progress came.progress v.calls)
+      pair_then (progress.Done answer) = tt
+      pair_then (progress.Refused fault) = tt
+      pair_then _ = λ x here.
+          step_pair same fixed.batch_size fixed.roots scene map.number came.standing i came.call came.memory came.machine came.progress came.did x
+          (sym (call_here scene.calls map.number i came.did.next) ∙ here) ∙ knows_pair came.call came.here ∙ sym (newest_pair came.progress v.calls)
+
+      own : Fits same hash n id w
+      own = record {
+        slot = fits.slot;
+        does =
+            subst (λ (x : Option (Map S)). DoesSo same hash n i v.under v.slot x (call_after came.machine came.progress)) (sym knows)
+            (own_does same hash fixed.batch_size fixed.roots scene all id place map.number fits.slot came.standing came.stands came.call came.here inside on_row came.memory came.machine came.progress
+            came.did v.under v.slot fits.aside section_is map refl came.progress came.did.goes_on);
+        aside = fits.aside;
+        map = map_on same hash scene n id place fits.slot fixed.batch_size None leaves v.map fits.map;
+        held = held_then (is_incremental map.setting.mode) refl;
+        pair = subst (λ (x : Option (Map S)). KnowsPair same hash n i x (call_after came.machine came.progress) (newest_progress came.progress v.calls)) (sym knows) (pair_then came.progress);
+        idle = own_idle same hash scene n id place fits.slot fixed.batch_size None leaves fits.idle;
+      }
+
+      abbrev act : Act K V S
+      act = StepsCall i map.number granted.0
+
+      go : Moved same hash fixed s h id act m2 w n
+      go = record {
+        memory = memory_is ∙ sym came.did.memory;
+        own = own;
+        place = place;
+        its_slot = fits.slot;
+        mine = None;
+        leaves = leaves;
+        theirs = λ j t a b x ne at uses e. cc e;
+        alone = same_slot same hash fixed s h id v w at_id refl;
+        under = λ x at. ap (λ (y : View K V S). y.under) (same_some v x (sym at_id ∙ at));
+        leant = inl (refl, λ x at. ap (λ (y : View K V S). y.slot) (same_some v x (sym at_id ∙ at)));
+        fresh = (
+          so.fresh.0,
+          step_fresh same hash fixed.batch_size fixed.roots scene all id place map.number fits.slot came.standing came.stands came.call came.here inside on_row came.memory came.machine came.progress
+              came.did so.fresh.0 so.fresh.1,
+          numbered_on s.world.doings (Does act ∷ []) 0 so.fresh.0 so.fresh.0 so.fresh.2 refl,
+        );
+        row = knows_within fixed n id place v.under v.slot fits.aside section_is;
+      }
+
+      -- what the step has told is what the call has told last
+      abbrev calls : List (Called K V)
+      calls = calls_of id s.world.doings h.reached.1 []
+
+      its_newest : IsNewest i (calls_then id (Does act) (h.course.told h.reached.0 (Does act) may_do) calls)
+      its_newest =
+          subst (λ (told : Answer K V). IsNewest i (calls_then id (Does act) told calls)) (sym came.tells)
+          (subst (λ (q : Bool). IsNewest i (if q then has_progressed i came.progress calls else calls)) (sym (is_its id place fits.slot))
+          (newest_on i came.progress calls (h.newest id v machine at_id works)))
+
+      adds : Adds same hash fixed s h id act (h.course.told h.reached.0 (Does act) may_do) v w n calls
+      adds = record {
+        own = ((λ a k. 0), tt);
+        others = λ j ne theirs.
+            ap (λ (told : Answer K V). calls_then j (Does act) told theirs) came.tells ∙ ap (λ (q : Bool). if q then has_progressed i came.progress theirs else theirs) (is_other j id place fits.slot ne);
+        its = λ are.
+            subst (λ (told : Answer K V). AreRuns same hash n (calls_then id (Does act) told calls) w.calls) (sym came.tells)
+            (subst (λ (q : Bool). AreRuns same hash n (if q then has_progressed i came.progress calls else calls) w.calls) (sym (is_its id place fits.slot))
+            (newest_runs same hash n i came.progress calls v.calls (h.newest id v machine at_id works) are));
+        newest = λ other on. its_newest;
+        aside = λ j ne theirs. ap (λ (q : Bool). if q then Some (i, n.world.memory) else theirs) (is_other j id place fits.slot ne);
+        seen = λ before b x shown. (
+          n.world.memory,
+          ap (λ (q : Bool). if q then Some (i, n.world.memory) else before) (is_its id place fits.slot),
+          its_newest,
+          value_of same hash n w.under w.slot w.work b x w.held own.held shown,
+        );
+      }
+
+      pub goes : (so : View K V S → Type 0) → so (called v map machine end looks) → Goes (Holds same hash fixed) KeepsFor s m2 id so
+      goes so is =
+          moved same hash fixed s h id v at_id act may_do n came.comes m2 w go adds so
+          (subst (λ (e : Machine K V K × Progress (Node K V)). so (called v map machine e looks)) end_is is)

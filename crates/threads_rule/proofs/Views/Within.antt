@@ -28,14 +28,14 @@ use Rattle.many_acts.specs.Given.PointsFactsCopiesBlocking.{CopyingFactsBlocking
 use Rattle.many_acts.specs.Given.PointsFactsDisposes.{IsToRetire, DisposingFacts, DisposeFacts}
 use Rattle.many_acts.specs.Given.LateFactsReserves.{IsEnding, CopiesWhole, ReservingFacts}
 use Rattle.owner_calls.specs.Given.LateFactsSweeps.{CopiesTable, SweepingFacts}
-use Rattle.many_acts.specs.Given.LateLateCalls.{LateCalling}
-use Rattle.many_acts.specs.Given.LateLateCopies.{LateCopying}
-use Rattle.many_acts.specs.Given.LateLateReserves.{LateReserving}
+use Rattle.many_acts.specs.Given.LateLateCalls.{SupersededCalling}
+use Rattle.many_acts.specs.Given.LateLateCopies.{SupersededCopying}
+use Rattle.many_acts.specs.Given.LateLateReserves.{SupersededReserving}
 use Rattle.owner_calls.specs.Given.CallersOverAll.{row_of_sweep}
 use Rattle.many_acts.specs.Given.CallersRooms.{row_of_room}
 use Rattle.many_acts.specs.Given.CallersRows.{row_of_disposal, row_of_copier, row_of}
 use Rattle.owner_calls.specs.Given.CallersSights.{seen_by}
-use Rattle.owner_calls.specs.Given.CallersTogether.{UnderWay, OnKey, ForRoom, Counting, OverAll, Together, Stands, in_slot}
+use Rattle.owner_calls.specs.Given.CallersTogether.{UnderWay, OnKey, ForRoom, Counting, OverAll, Together, IsAtPoint, in_slot}
 use Rattle.many_acts.specs.Given.FinishesMachines.{machine_of}
 use Rattle.many_acts.specs.Given.FinishesMaps.{Standing}
 use Rattle.many_acts.specs.Given.ScenesScene.{Scene, slot_of}
@@ -94,7 +94,7 @@ module _ {K V : Type 0} (same : K → K → Bool) (hash : K → ℕ) (w : World 
   blocking_begun p (copies.Retires settle rest) (s, unlinked, to_retire, further) next = retire_begun settle (blocks.table s) to_retire next
   blocking_begun p _ point next = next
 
-  late_begun : (began : ℕ) (p : Copier) (stands : Copying) → LateCopying same hash w caller setting c blocks began p stands → CopiesNext stands b → ⊥
+  late_begun : (began : ℕ) (p : Copier) (stands : Copying) → SupersededCopying same hash w caller setting c blocks began p stands → CopiesNext stands b → ⊥
   late_begun began p (copies.Retires settle rest) (s, t, unlinked, to_retire, further) next = retire_begun settle (blocks.table s) to_retire next
   late_begun began p _ point next = next
 
@@ -113,7 +113,7 @@ module _ {K V : Type 0} (same : K → K → Bool) (hash : K → ℕ) (w : World 
     calling_begun (at.Copies copier) (its, blocking, facts) next = blocking_begun copier copier.stands facts.point next
     calling_begun _ point next = next
 
-    late_calling_begun : (stands : Calling) → LateCalling same hash asks w caller setting c blocks keys began p stands → CallsNext stands b → ⊥
+    late_calling_begun : (stands : Calling) → SupersededCalling same hash asks w caller setting c blocks keys began p stands → CallsNext stands b → ⊥
     late_calling_begun (at.Copies copier) (its, facts) next = late_begun began copier copier.stands facts.point next
     late_calling_begun (at.Disposes dispose answer) point next = point
     late_calling_begun (at.Helps copier goal) point next = point
@@ -123,7 +123,7 @@ module _ {K V : Type 0} (same : K → K → Bool) (hash : K → ℕ) (w : World 
   reserving_begun (reserving.Copies copier) point next = whole_begun copier point next
   reserving_begun _ point next = next
 
-  late_reserving_begun : (began : ℕ) (stands : Reserving) → LateReserving same hash w caller setting c blocks began stands → ReservesNext stands b → ⊥
+  late_reserving_begun : (began : ℕ) (stands : Reserving) → SupersededReserving same hash w caller setting c blocks began stands → ReservesNext stands b → ⊥
   late_reserving_begun began (reserving.Copies copier) point next = late_begun began copier copier.stands point.point next
   late_reserving_begun began _ point next = next
 
@@ -154,7 +154,7 @@ module _ {K V S : Type 0} (same : K → K → Bool) (hash : S → K → ℕ) (ba
   pub row_reclaims : (u : UnderWay K V K) → scene.calls m i ≡ Some u → IsNextOf (machine_of u) b → RowReclaims w i b
   row_reclaims (OnKey u) has next = by (together.stand i (OnKey u) has)
     where
-      by : Stands V same s.hash same s.setting slot_of w s.chart seen i (OnKey u) → RowReclaims w i b
+      by : IsAtPoint V same s.hash same s.setting slot_of w s.chart seen i (OnKey u) → RowReclaims w i b
       by (inl (rests, knows)) = elim knows.facts as (λ _. RowReclaims w i b) [
         | inl facts ↦ absurd (calling_begun same s.hash w i here s.chart seen b same u.keys u.change u.began u.call u.call.stands facts.point next)
         | inr late ↦ absurd (late_calling_begun same s.hash w i here s.chart seen b same u.keys u.change u.began u.call u.call.stands late.1.point next)
@@ -162,7 +162,7 @@ module _ {K V S : Type 0} (same : K → K → Bool) (hash : S → K → ℕ) (ba
       by (inr (row, is_row, knows)) = let r = call_row (slot_of i) b u.call.stands next in (r.0, row ∙ r.1, r.2)
   row_reclaims (ForRoom r) has next = by (together.stand i (ForRoom r) has)
     where
-      by : Stands V same s.hash same s.setting slot_of w s.chart seen i (ForRoom r) → RowReclaims w i b
+      by : IsAtPoint V same s.hash same s.setting slot_of w s.chart seen i (ForRoom r) → RowReclaims w i b
       by (inl (rests, knows)) = elim knows.facts as (λ _. RowReclaims w i b) [
         | inl facts ↦ absurd (reserving_begun same s.hash w i here s.chart seen b r.reserve.stands facts.point next)
         | inr late ↦ absurd (late_reserving_begun same s.hash w i here s.chart seen b r.began r.reserve.stands late.point next)
@@ -171,6 +171,6 @@ module _ {K V S : Type 0} (same : K → K → Bool) (hash : S → K → ℕ) (ba
   row_reclaims (Counting sum) has next = absurd next
   row_reclaims (OverAll o) has next = by (together.stand i (OverAll o) has)
     where
-      by : Stands V same s.hash same s.setting slot_of w s.chart seen i (OverAll o) → RowReclaims w i b
+      by : IsAtPoint V same s.hash same s.setting slot_of w s.chart seen i (OverAll o) → RowReclaims w i b
       by (inl (rests, knows)) = absurd (sweeping_begun same s.hash w i here s.chart seen b o.began o.sweep o.sweep.stands knows.facts.point next)
       by (inr (row, is_row, knows)) = let x = sweep_row (slot_of i) b o.sweep.stands next in (x.0, row ∙ x.1, x.2)

@@ -43,9 +43,9 @@ module _ {V : Type 0} where
   IsUntold _ = ⊥
 
   -- or something,
-  abbrev pub IsTold : Told V → Type 0
-  IsTold tells.Nothing = ⊥
-  IsTold _ = Unit {0}
+  abbrev pub IsReplied : Told V → Type 0
+  IsReplied tells.Nothing = ⊥
+  IsReplied _ = Unit {0}
 
   -- or what is no value that it has still to put into its own block
   abbrev pub IsNoValue : Told V → Type 0
@@ -62,9 +62,9 @@ module _ {V : Type 0} where
   IsOfGap tells.Removes = ⊥
   IsOfGap _ = Unit {0}
 
-  abbrev pub IsGapTold : Bool → Told V → Type 0
-  IsGapTold true told = IsTold told
-  IsGapTold false told = Unit {0}
+  abbrev pub IsGapReplied : Bool → Told V → Type 0
+  IsGapReplied true told = IsReplied told
+  IsGapReplied false told = Unit {0}
 
 -- it has its key, and no block of its own
 abbrev pub IsFresh : {K : Type 0} → Option K → ℕ → Type 0
@@ -77,17 +77,17 @@ module _ {K V : Type 0} where
   HoldsBy true r own = IsOfGap r.absent × ((IsFresh r.key own × IsOneValue r.absent r.present) ⊎ (IsNoValue r.absent × IsNoValue r.present))
 
   -- It stands where it does not ask: its own block is made, or given up, where no value is left; and a value is put into one where it has none.
-  abbrev pub StandsSo : Bool → Replies K V → ℕ → Calling → Type 0
-  StandsSo told r own at.Makes = (told ≡ true) × IsNoValue r.absent × IsNoValue r.present
-  StandsSo told r own (at.Asks (asking.Absent gap)) = ⊥
-  StandsSo told r own (at.Asks (asking.Present word)) = ⊥
-  StandsSo told r own (at.Asks (asking.Fills word)) = IsFresh r.key own
-  StandsSo told r own (at.Asks (asking.GivesUp word)) = (told ≡ true) × IsNoValue r.absent × IsNoValue r.present
-  StandsSo told r own _ = Unit {0}
+  abbrev pub IsAtPointSo : Bool → Replies K V → ℕ → Calling → Type 0
+  IsAtPointSo told r own at.Makes = (told ≡ true) × IsNoValue r.absent × IsNoValue r.present
+  IsAtPointSo told r own (at.Asks (asking.Absent gap)) = ⊥
+  IsAtPointSo told r own (at.Asks (asking.Present word)) = ⊥
+  IsAtPointSo told r own (at.Asks (asking.Fills word)) = IsFresh r.key own
+  IsAtPointSo told r own (at.Asks (asking.GivesUp word)) = (told ≡ true) × IsNoValue r.absent × IsNoValue r.present
+  IsAtPointSo told r own _ = Unit {0}
 
   -- the pair of a word is shown
-  abbrev pub ShowsPair : (ℕ → Option (Node K V)) → ℕ → Type 0
-  ShowsPair shown word = (key : K) × (value : V) × (shown (block_in word) ≡ Some (Pair key value))
+  abbrev pub PairIsVisible : (ℕ → Option (Node K V)) → ℕ → Type 0
+  PairIsVisible shown word = (key : K) × (value : V) × (shown (block_in word) ≡ Some (Pair key value))
 
 module _ {K V Q : Type 0} where
   -- it asks what to do where the key is missing,
@@ -101,18 +101,18 @@ module _ {K V Q : Type 0} where
   pub record AsksPresent (k : Kind) (shown : ℕ → Option (Node K V)) (word : ℕ) (c : KeyCall K V Q) : Type 0 where
     pub asks : k.present ≡ there.Asks
     pub here : c.stands ≡ at.Asks (asking.Present word)
-    pub shows : ShowsPair shown word
+    pub shows : PairIsVisible shown word
 
   -- wherever it stands, it is a call of this kind, and has come so far
   pub record IsSo (k : Kind) (s : Stage) (c : KeyCall K V Q) : Type 0 where
     pub kind : kind_of c ≡ k
     pub holds : HoldsBy s.told c.replies c.own
-    pub gap : IsGapTold s.gap c.replies.absent
+    pub gap : IsGapReplied s.gap c.replies.absent
 
   -- and its next step goes on
-  pub record GoesOn (k : Kind) (s : Stage) (c : KeyCall K V Q) : Type 0 where
+  pub record Continues (k : Kind) (s : Stage) (c : KeyCall K V Q) : Type 0 where
     pub so : IsSo k s c
-    pub here : StandsSo s.told c.replies c.own c.stands
+    pub here : IsAtPointSo s.told c.replies c.own c.stands
 
   -- or it asks
   abbrev pub AsksSo : Kind → Stage → (ℕ → Option (Node K V)) → Option ℕ → KeyCall K V Q → Type 0
@@ -122,7 +122,7 @@ module _ {K V Q : Type 0} where
   -- what a step of it tells
   abbrev pub SaysSo : Kind → Stage → (ℕ → Option (Node K V)) → KeyCall K V Q × Called (Node K V) → Type 0
   SaysSo k s shown (c, Asks pair) = AsksSo k s shown pair c
-  SaysSo k s shown (c, told) = GoesOn k s c
+  SaysSo k s shown (c, told) = Continues k s c
 
 -- it takes a value,
 abbrev pub TakesValues : Takes → Type 0

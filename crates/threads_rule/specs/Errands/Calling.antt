@@ -1,4 +1,4 @@
--- What a seat knows while a call on one key is under way, and once it has ended.
+-- What a seat knows while a call is under way, step by step, and once it has ended.
 use Rattle.std.specs.Prelude.{◌≡◌, ◌<◌, ◌^◌, ℕ, Bool, true, false, Option, Some, None, Result, Ok, Err}
 use Rattle.seize_words.specs.declared.fault.Fault.{Fault}
 use Rattle.map_tables.specs.Chunks.{is_incremental}
@@ -14,20 +14,28 @@ use Rattle.papaya_raw.specs.declared.machines.call.KeyCall.{KeyCall}
 use Rattle.papaya_raw.specs.declared.machines.asking.Takes.{Takes}
 use Rattle.papaya_raw.specs.declared.machines.asking.Takes.TheVariants as takes
 use Rattle.papaya_raw.specs.declared.machines.machine.Machine.{Machine}
+use Rattle.papaya_raw.specs.Machine.{machine_plan}
+use Rattle.papaya_raw.specs.Given.ReservesDeclared.sweep.Purpose.TheVariants.{Clears}
 use Rattle.papaya_raw.specs.declared.machines.machine.Machine.TheVariants.{Key}
+use Rattle.papaya_raw.specs.declared.machines.machine.Machine.TheVariants as kinds
 use Rattle.papaya_raw.specs.declared.machines.progress.Answer.{Answer}
 use Rattle.papaya_raw.specs.declared.machines.progress.Answer.TheVariants.{Key as OfKey}
+use Rattle.papaya_raw.specs.declared.machines.progress.Answer.TheVariants as said
 use Rattle.papaya_raw.specs.declared.machines.progress.Progress.{Progress}
 use Rattle.papaya_raw.specs.declared.machines.progress.Progress.TheVariants as progress
-use Rattle.many_acts.specs.Acts.Acts.{Wanted, Get, Remove, Insert, TryToInsert, Compute, Update, TryToInsertWith, RemoveIf, Count}
+use Rattle.many_acts.specs.Acts.Acts.{Wanted, Get, Remove, Insert, TryToInsert, Compute, Update, TryToInsertWith, RemoveIf, MakeRoom, Count, GoOver}
 use Rattle.threads_rule.specs.Views.Begun.{machine_for}
 use Rattle.threads_rule.specs.Views.Looks.{shown_in}
 use Rattle.threads_rule.specs.Views.Rule.{section_of}
+use Rattle.threads_rule.specs.Views.Told.{HandsBack, MayCome, call_after}
 use Rattle.threads_rule.specs.declared.view.Map.{Map}
 use Rattle.threads_rule.specs.declared.view.View.{View}
 use Rattle.threads_rule.specs.declared.view.SeatWork.TheVariants.{Nothing, Calls}
-use Rattle.threads_rule.specs.CallKinds.Kinds.{Kind, Stage, AsksSo, GoesOn}
-use Rattle.threads_rule.specs.Errands.Looking.{HasRun, HasTold, StaysThere}
+use Rattle.threads_rule.specs.CallKinds.Kinds.{Kind, Stage, AsksSo, Continues}
+use Rattle.threads_rule.specs.CallKinds.Leads.{Leads}
+use Rattle.threads_rule.specs.CallKinds.Shows.{ReadPairIsVisible}
+use Rattle.threads_rule.specs.CallKinds.Sweeps.{IsFor}
+use Rattle.threads_rule.specs.Errands.Looking.{HasRun, HasProgressed, StaysThere}
 
 -- a call of this kind asks nothing where the key is there,
 abbrev pub IsKnownThere : There → Type 0
@@ -43,11 +51,48 @@ pub record AsksNothing (k : Kind) : Type 0 where
   pub present : IsKnownThere k.present
   pub absent : IsKnownMissing k.absent
 
+-- what a call is about: a key, room for further pairs, all pairs, or how many there are
+pub data Sort : Type 0 where
+  OnKey : Sort
+  ForRoom : Sort
+  OverAll : Sort
+  OfCount : Sort
+
+-- what may be answered to it
+abbrev pub IsAnswerTo : Sort → Answer → Type 0
+IsAnswerTo OnKey (OfKey answer) = Unit {0}
+IsAnswerTo ForRoom said.Reserved = Unit {0}
+IsAnswerTo OverAll said.Swept = Unit {0}
+IsAnswerTo OfCount (said.Count n) = Unit {0}
+IsAnswerTo sort answer = ⊥
+
 module _ {K V Q : Type 0} where
+  -- The next step of a call replaces no value, and looks at nothing where it makes no operation. That is so of all but of calls on one key, and of those of a kind that go on.
+  abbrev pub IsSteady : Machine K V Q → Type 0
+  IsSteady (Key c) = (k : Kind) × (s : Stage) × Continues k s c
+  IsSteady machine = Unit {0}
+
+  -- A call asks nothing, and is not to be asked: one on one key of a kind that asks nothing, a reservation, a removal of all pairs, or a counting.
+  abbrev pub AsksNone : Machine K V Q → Type 0
+  AsksNone (Key c) = (k : Kind) × (s : Stage) × AsksNothing k × Continues k s c
+  AsksNone (kinds.Reserve c) = Unit {0}
+  AsksNone (kinds.Sweep c) = IsFor Clears c
+  AsksNone (kinds.Count c) = Unit {0}
+
+  abbrev pub sort_of : Machine K V Q → Sort
+  sort_of (Key c) = OnKey
+  sort_of (kinds.Reserve c) = ForRoom
+  sort_of (kinds.Sweep c) = OverAll
+  sort_of (kinds.Count c) = OfCount
+
+  -- it is an answer to such a call
+  abbrev pub IsAnswerBy : Machine K V Q → Answer → Type 0
+  IsAnswerBy machine answer = IsAnswerTo (sort_of machine) answer
+
   -- it is a call on one key of this kind that has come so far, and its next step goes on,
-  abbrev pub MachineGoesOn : Kind → Stage → Machine K V Q → Type 0
-  MachineGoesOn k s (Key c) = GoesOn k s c
-  MachineGoesOn k s _ = ⊥
+  abbrev pub MachineContinues : Kind → Stage → Machine K V Q → Type 0
+  MachineContinues k s (Key c) = Continues k s c
+  MachineContinues k s _ = ⊥
 
   -- or it asks, with a pair that is shown, or where the key is missing
   abbrev pub MachineAsks : Kind → Stage → (ℕ → Option (Node K V)) → Option ℕ → Machine K V Q → Type 0
@@ -91,8 +136,8 @@ IsBack pair (Ok answer) back = is_put answer ≡ false → back ≡ Some pair
 IsBack pair (Err fault) back = back ≡ Some pair
 
 -- that is so of a pair that a call was to store
-abbrev pub ComesBack : {K V : Type 0} → Wanted K V → Result Answer Fault → Option (Node K V) → Type 0
-ComesBack {K} {V} wanted answer back = (pair : Node K V) → pair_wanted wanted ≡ Some pair → IsBack pair answer back
+abbrev pub IsReturned : {K V : Type 0} → Wanted K V → Result Answer Fault → Option (Node K V) → Type 0
+IsReturned {K} {V} wanted answer back = (pair : Node K V) → pair_wanted wanted ≡ Some pair → IsBack pair answer back
 
 -- what a call that has ended has told
 abbrev pub outcome_of : {T : Type 0} → Result Answer Fault → Progress T
@@ -113,7 +158,9 @@ wanted_by present absent kind unmade asked own = Count
 
 abbrev pub wanted_of : {K V : Type 0} → Machine K V K → Wanted K V
 wanted_of (Key c) = wanted_by c.there c.missing c.replies.takes c.unmade c.asked c.replies.key
-wanted_of _ = Count
+wanted_of (kinds.Reserve c) = MakeRoom c.additional
+wanted_of (kinds.Sweep c) = GoOver c.purpose
+wanted_of (kinds.Count c) = Count
 
 -- a step tells that the call goes on,
 abbrev pub IsGoing : {T : Type 0} → Progress T → Type 0
@@ -145,7 +192,7 @@ module _ {K V S : Type 0} where
   -- it is of this kind, has come so far, and goes on,
   pub record IsUnderWay (k : Kind) (s : Stage) (hasher : S) (machine : Machine K V K) (v : View K V S) : Type 0 where
     pub at : Works hasher machine v
-    pub goes : MachineGoesOn k s machine
+    pub goes : MachineContinues k s machine
 
   -- or asks, and the pair that it asks with is shown
   pub record IsAsking (k : Kind) (s : Stage) (hasher : S) (pair : Option ℕ) (machine : Machine K V K) (v : View K V S) : Type 0 where
@@ -155,35 +202,48 @@ module _ {K V S : Type 0} where
   -- it has nothing under way, and its call has told this last
   pub record HasEnded (answer : Result Answer Fault) (v w : View K V S) : Type 0 where
     pub free : w.work ≡ Nothing
-    pub told : HasTold (outcome_of answer) v w
+    pub told : HasProgressed (outcome_of answer) v w
 
   -- what a step of it tells: it goes on, asks, or has ended
-  abbrev pub TellsSo : Kind → Stage → S → Machine K V K → Progress (Node K V) → View K V S → Type 0
-  TellsSo k s hasher machine (progress.Asks pair) v = IsAsking k s hasher pair machine v
-  TellsSo k s hasher machine progress.Ready v = ⊥
-  TellsSo k s hasher machine (progress.Pair pair) v = ⊥
-  TellsSo k s hasher machine (progress.Done answer) v = v.work ≡ Nothing
-  TellsSo k s hasher machine (progress.Refused fault) v = v.work ≡ Nothing
-  TellsSo k s hasher machine told v = IsUnderWay k s hasher machine v
+  abbrev pub StepOutcome : Kind → Stage → S → Machine K V K → Progress (Node K V) → View K V S → Type 0
+  StepOutcome k s hasher machine (progress.Asks pair) v = IsAsking k s hasher pair machine v
+  StepOutcome k s hasher machine progress.Ready v = ⊥
+  StepOutcome k s hasher machine (progress.Pair pair) v = ⊥
+  StepOutcome k s hasher machine (progress.Done answer) v = v.work ≡ Nothing
+  StepOutcome k s hasher machine (progress.Refused fault) v = v.work ≡ Nothing
+  StepOutcome k s hasher machine told v = IsUnderWay k s hasher machine v
 
-  -- a call is under way that asks nothing
+  -- a call is under way whose next step may be taken
+  pub record MayStep (hasher : S) (machine : Machine K V K) (v : View K V S) : Type 0 where
+    pub at : Works hasher machine v
+    pub steady : IsSteady machine
+
+  -- one is under way that asks nothing
   pub record IsCalling (hasher : S) (machine : Machine K V K) (v : View K V S) : Type 0 where
-    pub kind : Kind
-    pub stage : Stage
-    pub none : AsksNothing kind
-    pub goes : IsUnderWay kind stage hasher machine v
+    pub at : Works hasher machine v
+    pub none : AsksNone machine
 
-  -- what a step of that tells: it goes on, or has ended
+  -- what a step of that tells: it goes on, or has ended with an answer of its kind, or without one
   abbrev pub CalledSo : S → Machine K V K → Progress (Node K V) → View K V S → Type 0
   CalledSo hasher machine (progress.Asks pair) v = ⊥
   CalledSo hasher machine progress.Ready v = ⊥
   CalledSo hasher machine (progress.Pair pair) v = ⊥
-  CalledSo hasher machine (progress.Done answer) v = v.work ≡ Nothing
+  CalledSo hasher machine (progress.Done answer) v = (v.work ≡ Nothing) × IsAnswerBy machine answer
   CalledSo hasher machine (progress.Refused fault) v = v.work ≡ Nothing
   CalledSo hasher machine _ v = IsCalling hasher machine v
 
-  -- Within a section, its own or that of the seat that it leans on, with nothing else under way, it may begin this call, which is of this kind, in the map that it knows, which is in incremental mode.
-  pub record MayDo (same : K → K → Bool) (hash : S → K → ℕ) (k : Kind) (s : Stage) (hasher : S) (machine : Machine K V K) (v : View K V S) : Type 0 where
+  -- Its step has come to this: how it goes on, and what it has told, by the plan of its machine, with what is shown since.
+  pub record StepsTo (same : K → K → Bool) (hash : S → K → ℕ) (hasher : S) (machine next : Machine K V K) (told : Progress (Node K V)) (v w : View K V S) : Type 0 where
+    pub work : w.work ≡ call_after next told
+    pub stays : StaysThere v w
+    pub calls : HasProgressed told v w
+    pub leads : Leads (shown_in w.held) (machine_plan same same (hash hasher) machine) (next, told)
+    pub came : MayCome (machine_plan same same (hash hasher) machine) (next, told)
+    pub hands : HandsBack v.calls told
+    pub shows : ReadPairIsVisible machine told (shown_in w.held)
+
+  -- Within a section, its own or that of the seat that it leans on, with nothing else under way, it may begin this call, in the map that it knows, which is in incremental mode.
+  pub record MayDo (same : K → K → Bool) (hash : S → K → ℕ) (hasher : S) (machine : Machine K V K) (v : View K V S) : Type 0 where
     pub slot : ℕ
     pub map : Map S
     pub inside : section_of v.under v.slot ≡ Some slot
@@ -192,14 +252,16 @@ module _ {K V S : Type 0} where
     pub incremental : is_incremental map.setting.mode ≡ true
     pub free : v.work ≡ Nothing
     pub begins : machine ≡ machine_for same hash map slot (wanted_of machine)
-    pub goes : MachineGoesOn k s machine
 
-  -- it asks nothing
+  -- it is of this kind, and has come so far
+  pub record MayDoAs (same : K → K → Bool) (hash : S → K → ℕ) (k : Kind) (s : Stage) (hasher : S) (machine : Machine K V K) (v : View K V S) : Type 0 where
+    pub may : MayDo same hash hasher machine v
+    pub goes : MachineContinues k s machine
+
+  -- or it asks nothing
   pub record MayCall (same : K → K → Bool) (hash : S → K → ℕ) (hasher : S) (machine : Machine K V K) (v : View K V S) : Type 0 where
-    pub kind : Kind
-    pub stage : Stage
-    pub none : AsksNothing kind
-    pub may : MayDo same hash kind stage hasher machine v
+    pub may : MayDo same hash hasher machine v
+    pub none : AsksNone machine
     pub stores : (pair : Node K V) → pair_wanted (wanted_of machine) ≡ Some pair → MachineStores pair machine
 
   -- what a call has come to that wanted this
@@ -207,4 +269,4 @@ module _ {K V S : Type 0} where
     pub free : w.work ≡ Nothing
     pub stays : StaysThere v w
     pub ran : HasRun same hash wanted (outcome_of answer) v w
-    pub back : ComesBack wanted answer unstored
+    pub back : IsReturned wanted answer unstored

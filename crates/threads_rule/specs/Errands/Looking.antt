@@ -21,7 +21,7 @@ use Rattle.papaya_raw.specs.declared.machines.progress.Progress.{Progress}
 use Rattle.papaya_raw.specs.declared.machines.progress.Progress.TheVariants as progress
 use Rattle.many_acts.specs.Acts.Acts.{Wanted, Get}
 use Rattle.threads_rule.specs.Views.Begun.{machine_for, calling}
-use Rattle.threads_rule.specs.Views.Told.{newest_told}
+use Rattle.threads_rule.specs.Views.Told.{newest_progress}
 use Rattle.threads_rule.specs.Views.Looks.{shown_in}
 use Rattle.threads_rule.specs.Views.Rule.{section_of, stand_of}
 use Rattle.threads_rule.specs.declared.view.Map.{Map}
@@ -47,11 +47,11 @@ abbrev pub found_of : {T : Type 0} → Option ℕ → Progress T
 found_of found = progress.Done (OfKey (answer_of found))
 
 -- what a call tells whose lookup tells this
-abbrev pub looking_told : {T : Type 0} → Told (Option ℕ) → Progress T
-looking_told told_as.Goes = progress.Goes
-looking_told told_as.Waits = progress.Waits
-looking_told (told_as.Done found) = found_of found
-looking_told (told_as.Refused fault) = progress.Refused fault
+abbrev pub progress_of_lookup : {T : Type 0} → Told (Option ℕ) → Progress T
+progress_of_lookup told_as.Goes = progress.Goes
+progress_of_lookup told_as.Waits = progress.Waits
+progress_of_lookup (told_as.Done found) = found_of found
+progress_of_lookup (told_as.Refused fault) = progress.Refused fault
 
 module _ {K V S : Type 0} where
   -- within its section, or that of the seat that it leans on, it begins to do this with the map that it knows
@@ -69,24 +69,24 @@ module _ {K V S : Type 0} where
     pub on : IsOn lookup.stands
 
   -- it has nothing under way, and its last step has looked at the pair of this word, of a key that is equal
-  abbrev pub Shows : (K → K → Bool) → K → View K V S → ℕ → Type 0
-  Shows same key v word = (found : K) × (value : V) × (same key found ≡ true) × (shown_in v.held (block_in word) ≡ Some (Pair found value))
+  abbrev pub HasLookedAt : (K → K → Bool) → K → View K V S → ℕ → Type 0
+  HasLookedAt same key v word = (found : K) × (value : V) × (same key found ≡ true) × (shown_in v.held (block_in word) ≡ Some (Pair found value))
 
   pub record HasLooked (same : K → K → Bool) (key : K) (found : Option ℕ) (v : View K V S) : Type 0 where
     pub free : v.work ≡ Nothing
-    pub shows : IfSome found (Shows same key v)
+    pub shows : IfSome found (HasLookedAt same key v)
 
   -- its calls are those of before, of which the newest has told this last
-  abbrev pub HasTold : Progress (Node K V) → View K V S → View K V S → Type 0
-  HasTold told v w = w.calls ≡ newest_told told v.calls
+  abbrev pub HasProgressed : Progress (Node K V) → View K V S → View K V S → Type 0
+  HasProgressed told v w = w.calls ≡ newest_progress told v.calls
 
   -- its calls are those of before, whatever the newest has told last
   abbrev pub IsOfThem : View K V S → View K V S → Type 0
-  IsOfThem v w = (told : Progress (Node K V)) → newest_told told w.calls ≡ newest_told told v.calls
+  IsOfThem v w = (told : Progress (Node K V)) → newest_progress told w.calls ≡ newest_progress told v.calls
 
   -- straight code for the lookup of its call has come to this: its call has ended, or its lookup stands there
   abbrev pub HasCome : (K → K → Bool) → K → ℕ → ResizeMode → ℕ → Sight → View K V S → View K V S → Type 0
-  HasCome same key root mode hashed (sight.Ends found) v w = HasLooked same key found w × HasTold (found_of found) v w
+  HasCome same key root mode hashed (sight.Ends found) v w = HasLooked same key found w × HasProgressed (found_of found) v w
   HasCome same key root mode hashed (sight.Stands stands) v w = LooksFor key (looks root mode hashed stands) w × IsOfThem v w
 
   -- It has begun one call more, within its section: to do this with the map that it knows. That has told this last.

@@ -78,7 +78,7 @@ module _ {K V S : Type 0} where
   MadeSo hasher c (progress.Refused fault) v = v.work ≡ Nothing
 
   -- What a making has come to: the map is there, with what was chosen, or nothing was made, and the seat knows what it has known. No call has begun.
-  pub record CameTo (hasher : S) (opening : NewMap) (answer : Result Setting Fault) (v w : View K V S) : Type 0 where
+  pub record HasOutcome (hasher : S) (opening : NewMap) (answer : Result Setting Fault) (v w : View K V S) : Type 0 where
     pub made : IfOk answer (λ setting. HasMap hasher setting w × (chosen_of setting ≡ chosen_of opening.setting))
     pub refused : IfErr answer (λ fault. (w.work ≡ Nothing) × (w.map ≡ v.map))
     pub slot : stand_of w ≡ stand_of v

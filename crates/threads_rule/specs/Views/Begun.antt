@@ -1,7 +1,7 @@
 -- What a seat knows once a row has begun or ended, or a call has begun, or was told something, or a map was handed on to it, or it has come to lean on another.
 use Rattle.std.specs.Prelude.{ℕ, Bool, Option, [], ◌∷◌, Some}
 use Rattle.map_machines.specs.declared.new_map.NewMap.{NewMap}
-use Rattle.papaya_raw.specs.Machine.{machine_replied}
+use Rattle.papaya_raw.specs.Machine.{machine_asked, machine_replied}
 use Rattle.papaya_raw.specs.declared.machines.asking.MachineReply.{MachineReply}
 use Rattle.papaya_raw.specs.declared.machines.machine.Machine.{Machine}
 use Rattle.many_acts.specs.Given.FinishesMachines.{machine_of}
@@ -28,6 +28,10 @@ module _ {K V S : Type 0} where
   -- its call was told this
   abbrev pub replied : View K V S → Machine K V K → MachineReply V → View K V S
   replied v machine reply = record { slot = v.slot; under = v.under; map = v.map; work = Calls (machine_replied machine reply).0; looks = []; held = []; began = v.began; calls = v.calls }
+
+  -- its call was asked for its next pair
+  abbrev pub asked : View K V S → Machine K V K → View K V S
+  asked v machine = record { slot = v.slot; under = v.under; map = v.map; work = Calls (machine_asked machine).0; looks = []; held = []; began = v.began; calls = v.calls }
 
   -- it knows this map
   abbrev pub shown_map : View K V S → Map S → View K V S

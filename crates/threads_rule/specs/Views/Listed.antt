@@ -33,9 +33,9 @@ module _ {K V : Type 0} where
   plain wanted = wanted
 
   -- of these calls the newest one of a caller has told this last
-  abbrev pub has_told : ℕ → Progress (Node K V) → List (Called K V) → List (Called K V)
-  has_told i told [] = []
-  has_told i told (call ∷ before) = if call.caller == i then record call { told = told } ∷ before else call ∷ has_told i told before
+  abbrev pub has_progressed : ℕ → Progress (Node K V) → List (Called K V) → List (Called K V)
+  has_progressed i told [] = []
+  has_progressed i told (call ∷ before) = if call.caller == i then record call { told = told } ∷ before else call ∷ has_progressed i told before
 
   -- the newest one is this caller's
   abbrev pub IsNewest : ℕ → List (Called K V) → Type 0
@@ -47,7 +47,7 @@ module _ {K V S : Type 0} where
   abbrev pub calls_then : ℕ → Doing K V S → Answer K V → List (Called K V) → List (Called K V)
   calls_then seat (Does (BeginsCall i m wanted)) told calls =
       if seat == seat_of i then record { caller = i; map = m; wanted = wanted; told = untold } ∷ calls else calls
-  calls_then seat (Does (StepsCall i m g)) (OfCall told) calls = if seat == seat_of i then has_told i told calls else calls
+  calls_then seat (Does (StepsCall i m g)) (OfCall told) calls = if seat == seat_of i then has_progressed i told calls else calls
   calls_then seat doing told calls = calls
 
   -- those that it has begun in a list of acts, each of which has told this, beside these

@@ -2,7 +2,7 @@
 use Rattle.std.specs.Prelude.{ℕ, List, Option, Some, None}
 use Rattle.map_tables.specs.declared.node.Node.{Node}
 use Rattle.seize_views.specs.Views.Notes.{noted}
-use Rattle.seize_views.specs.Views.Rows.{IsAtRest}
+use Rattle.seize_views.specs.Views.Rows.{IsQuiescent}
 use Rattle.seize_views.specs.declared.view.Deed.TheVariants.{NoneYet}
 use Rattle.seize_views.specs.declared.view.Noted.{Noted}
 use Rattle.seize_views.specs.declared.view.SlotView.{SlotView}
@@ -34,5 +34,5 @@ module _ {K V S : Type 0} where
   beside_of v = (v.map, v.calls)
 
   -- it has nothing under way
-  abbrev pub IsResting : View K V S → Type 0
-  IsResting v = IsAtRest (notes_of v).knows
+  abbrev pub SeatIsQuiescent : View K V S → Type 0
+  SeatIsQuiescent v = IsQuiescent (notes_of v).knows

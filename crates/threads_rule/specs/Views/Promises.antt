@@ -15,9 +15,9 @@ use Rattle.papaya_raw.specs.declared.machines.machine.Machine.{Machine}
 use Rattle.papaya_raw.specs.declared.machines.progress.Progress.{Progress}
 use Rattle.owner_calls.specs.Given.PointsSteps.{AreLawful}
 use Rattle.many_acts.specs.Acts.Acts.{Wanted}
-use Rattle.seize_seats.specs.Seats.Lendings.{Shown, IsValueOf}
+use Rattle.seize_seats.specs.Seats.Lendings.{VisibleTo, IsValueOf}
 use Rattle.seize_seats.specs.Seats.Errands.{TurnsUnlent}
-use Rattle.seize_seats.specs.Seats.State.{Starts, Comes, Allows, Turns, Learns, Meets, ShowsKept, AreThere}
+use Rattle.seize_seats.specs.Seats.State.{Starts, Comes, Allows, Turns, Learns, Meets, KeptByTwo, AreThere}
 use Rattle.seize.specs.declared.rows.settle.Settle.{Settle}
 use Rattle.map_tables.specs.Nodes.{deferred_word}
 use Rattle.seize_views.specs.Views.Promises.{op_in, op_of, IsNext, IsToSettle}
@@ -29,7 +29,7 @@ use Rattle.seize_views.specs.declared.view.SlotView.{SlotView}
 use Rattle.seize_views.specs.declared.view.SlotView.TheVariants.{Rests, Inside, Settles}
 use Rattle.seize_views.specs.declared.view.Why.{Why}
 use Rattle.seize_views.specs.declared.view.Why.TheVariants.{Retiring}
-use Rattle.threads_rule.specs.Views.Begun.{machine_for, calling, replied, shown_map, leaning, making, with_slot}
+use Rattle.threads_rule.specs.Views.Begun.{machine_for, asked, calling, replied, shown_map, leaning, making, with_slot}
 use Rattle.threads_rule.specs.Views.Looks.{shown_in}
 use Rattle.threads_rule.specs.Views.Rule.{Holds, KeepsFor, Leans, section_of, at_rest}
 use Rattle.threads_rule.specs.Views.Told.{told, turned}
@@ -47,8 +47,8 @@ module _ {K S : Type 0} (V : Type 0) (same : K → K → Bool) (hash : S → K �
   SeatsCome = (fixed : Fixed) → Comes (Holds {V = V} same hash fixed) KeepsFor at_rest
 
   -- the next operation of a call that is under way may be made at any moment
-  abbrev pub CallsGoOn : Type 0
-  CallsGoOn =
+  abbrev pub CallsContinue : Type 0
+  CallsContinue =
       (fixed : Fixed) (id : ℕ) (v : View K V S) (map : Map S) (machine : Machine K V K) (op : Op (Node K V))
       → v.map ≡ Some map → v.work ≡ Calls machine → op_in (machine_plan same same (hash map.hasher) machine) ≡ Some op
       → Allows (Holds same hash fixed) KeepsFor id v op (told same hash v op)
@@ -64,7 +64,7 @@ module _ {K S : Type 0} (V : Type 0) (same : K → K → Bool) (hash : S → K �
   abbrev pub HeldAreShown : Type 0
   HeldAreShown =
       (fixed : Fixed) (id b : ℕ) (v : View K V S) (x : Node K V) → shown_in v.held b ≡ Some x
-      → Shown (Holds same hash fixed) id v b × ((y : Node K V) → IsValueOf (Holds same hash fixed) id v b y → y ≡ x)
+      → VisibleTo (Holds same hash fixed) id v b × ((y : Node K V) → IsValueOf (Holds same hash fixed) id v b y → y ≡ x)
 
   -- Within its section, or that of a seat that it leans on, a seat that knows a map in incremental mode, and has nothing under way, may begin to do anything with it.
   abbrev pub CallsBegin : Type 0
@@ -73,10 +73,16 @@ module _ {K S : Type 0} (V : Type 0) (same : K → K → Bool) (hash : S → K �
       → is_incremental map.setting.mode ≡ true → Turns (Holds same hash fixed) KeepsFor id v (λ w. w ≡ calling v (machine_for same hash map t wanted))
 
   -- what it has under way may be told anything
-  abbrev pub CallsAreTold : Type 0
-  CallsAreTold =
+  abbrev pub CallsAreReplied : Type 0
+  CallsAreReplied =
       (fixed : Fixed) (id : ℕ) (v : View K V S) (map : Map S) (machine : Machine K V K) (reply : MachineReply V) → v.map ≡ Some map → v.work ≡ Calls machine
       → Turns (Holds same hash fixed) KeepsFor id v (λ w. w ≡ replied v machine reply)
+
+  -- or asked for its next pair
+  abbrev pub CallsAreAsked : Type 0
+  CallsAreAsked =
+      (fixed : Fixed) (id : ℕ) (v : View K V S) (map : Map S) (machine : Machine K V K) → v.map ≡ Some map → v.work ≡ Calls machine
+      → Turns (Holds same hash fixed) KeepsFor id v (λ w. w ≡ asked v machine)
 
   -- and a map that one seat knows may be handed on to another one that has nothing under way
   abbrev pub MapsAreHandedOn : Type 0
@@ -88,7 +94,7 @@ module _ {K S : Type 0} (V : Type 0) (same : K → K → Bool) (hash : S → K �
   abbrev pub HeldAreKept : Type 0
   HeldAreKept =
       (fixed : Fixed) (i n t k b : ℕ) (v u o : View K V S) (x : Node K V) → v.under ≡ Some (n, t) → v.work ≡ Nothing → shown_in v.held b ≡ Some x
-      → ShowsKept (Holds same hash fixed) KeepsFor i v n u k o b
+      → KeptByTwo (Holds same hash fixed) KeepsFor i v n u k o b
 
   -- and what seats keep is there.
   abbrev pub KeptAreThere : Type 0
@@ -112,14 +118,14 @@ module _ {K S : Type 0} (V : Type 0) (same : K → K → Bool) (hash : S → K �
       → Turns (Holds same hash fixed) KeepsFor id v (λ w. (m : ℕ) × (w ≡ making v m hasher (opening given fixed.roots places)))
 
   -- and the next operation of a making may be made at any moment
-  abbrev pub MakingsGoOn : Type 0
-  MakingsGoOn =
+  abbrev pub MakingsContinue : Type 0
+  MakingsContinue =
       (fixed : Fixed) (id m : ℕ) (v : View K V S) (hasher : S) (machine : NewMap) (op : Op (Node K V))
       → v.work ≡ Makes m hasher machine → op_in (new_map_plan machine) ≡ Some op → Allows (Holds same hash fixed) KeepsFor id v op (told same hash v op)
 
   -- The next operation of a row that a seat has under way may be made at any moment,
-  abbrev pub RowsGoOn : Type 0
-  RowsGoOn =
+  abbrev pub RowsContinue : Type 0
+  RowsContinue =
       (fixed : Fixed) (id : ℕ) (v : View K V S) (op : Op (Node K V)) → v.under ≡ None → v.work ≡ Nothing → op_of deferred_word v.slot ≡ Some op
       → Allows (Holds same hash fixed) KeepsFor id v op (told same hash v op)
 
@@ -139,4 +145,4 @@ module _ {K S : Type 0} (V : Type 0) (same : K → K → Bool) (hash : S → K �
   abbrev pub LookedAreShown : Type 0
   LookedAreShown =
       (fixed : Fixed) (id : ℕ) (v : View K V S) (c : Settle) (why : Why) (b left : ℕ) (x : Node K V) → v.slot ≡ Settles c why (Some (b, x)) left
-      → Shown (Holds same hash fixed) id v b × ((y : Node K V) → IsValueOf (Holds same hash fixed) id v b y → y ≡ x)
+      → VisibleTo (Holds same hash fixed) id v b × ((y : Node K V) → IsValueOf (Holds same hash fixed) id v b y → y ≡ x)

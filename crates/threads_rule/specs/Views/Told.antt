@@ -18,6 +18,7 @@ use Rattle.papaya_raw.specs.declared.machines.progress.Progress.{Progress}
 use Rattle.papaya_raw.specs.declared.machines.progress.Progress.TheVariants as progress
 use Rattle.seize_views.specs.Views.Told.{FollowsBy, told as row_told}
 use Rattle.seize_views.specs.declared.view.SlotView.{SlotView}
+use Rattle.threads_rule.specs.CallKinds.Shows.{ReadPairIsVisible}
 use Rattle.threads_rule.specs.Views.Looks.{shown_in, TurnsTo, MayFollow}
 use Rattle.threads_rule.specs.declared.view.Map.{Map}
 use Rattle.threads_rule.specs.declared.view.BegunCall.{BegunCall}
@@ -50,9 +51,9 @@ module _ {K V : Type 0} where
   HandsBack runs told = Unit {0}
 
   -- the calls of a seat, where the newest one has told this last
-  abbrev pub newest_told : Progress (Node K V) → List (BegunCall K V) → List (BegunCall K V)
-  newest_told told [] = []
-  newest_told told (run ∷ before) = record run { told = told } ∷ before
+  abbrev pub newest_progress : Progress (Node K V) → List (BegunCall K V) → List (BegunCall K V)
+  newest_progress told [] = []
+  newest_progress told (run ∷ before) = record run { told = told } ∷ before
 
 module _ {K V S : Type 0} where
   -- a call that has come so far: it goes on, or has ended
@@ -67,7 +68,7 @@ module _ {K V S : Type 0} where
 
   -- what a seat knows once its call, which was this one, has come so far, and has looked at these blocks
   abbrev pub called : View K V S → Map S → Machine K V K → Machine K V K × Progress (Node K V) → List (ℕ × Node K V) → View K V S
-  called v map machine end looks = record { slot = v.slot; under = v.under; map = v.map; work = call_after end.0 end.1; looks = looks; held = held_of map looks; began = v.began; calls = newest_told end.1 v.calls }
+  called v map machine end looks = record { slot = v.slot; under = v.under; map = v.map; work = call_after end.0 end.1; looks = looks; held = held_of map looks; began = v.began; calls = newest_progress end.1 v.calls }
 
   -- and once the making of a map has
   abbrev pub made_after : View K V S → ℕ → S → List (ℕ × Node K V) → NewMap → Told Setting → View K V S
@@ -77,25 +78,25 @@ module _ {K V S : Type 0} where
   made_after v m hasher looks opening told = record { slot = v.slot; under = v.under; map = v.map; work = Makes m hasher opening; looks = looks; held = []; began = v.began; calls = v.calls }
 
 module _ {K V S : Type 0} (same : K → K → Bool) (hash : S → K → ℕ) where
-  abbrev pub told_by : View K V S → Option (Map S) → SeatWork K V S → Op (Node K V) → Out (Node K V) → View K V S → Type 0
-  told_by v map Nothing op out w =
+  abbrev pub observed_by : View K V S → Option (Map S) → SeatWork K V S → Op (Node K V) → Out (Node K V) → View K V S → Type 0
+  observed_by v map Nothing op out w =
       (slot : SlotView (Node K V)) × row_told deferred_word v.slot op out slot × (w ≡ record { slot = slot; under = v.under; map = v.map; work = Nothing; looks = []; held = []; began = v.began; calls = v.calls })
-  told_by v (Some map) (Calls machine) op out w =
+  observed_by v (Some map) (Calls machine) op out w =
       (end : Machine K V K × Progress (Node K V)) × FollowsBy (shown_in w.looks) (machine_plan same same (hash map.hasher) machine) out end
       × (w ≡ called v map machine end w.looks) × MayFollow (shown_in w.looks) (machine_plan same same (hash map.hasher) machine) out
-      × MayCome (machine_plan same same (hash map.hasher) machine) end × HandsBack v.calls end.1
-  told_by v None (Calls machine) op out w = ⊥
-  told_by v map (Makes m hasher opening) op out w =
+      × MayCome (machine_plan same same (hash map.hasher) machine) end × HandsBack v.calls end.1 × ReadPairIsVisible machine end.1 (shown_in w.looks)
+  observed_by v None (Calls machine) op out w = ⊥
+  observed_by v map (Makes m hasher opening) op out w =
       (end : NewMap × Told Setting) × FollowsBy (shown_in w.looks) (new_map_plan opening) out end × (w ≡ made_after v m hasher w.looks end.0 end.1)
 
   abbrev pub told : View K V S → Op (Node K V) → Out (Node K V) → View K V S → Type 0
-  told v op out w = told_by v v.map v.work op out w
+  told v op out w = observed_by v v.map v.work op out w
 
   -- what a seat knows once its call has taken a step without an operation
   abbrev pub turned_by : View K V S → Option (Map S) → SeatWork K V S → View K V S → Type 0
   turned_by v (Some map) (Calls machine) w =
       (end : Machine K V K × Progress (Node K V)) × TurnsTo (shown_in w.looks) (machine_plan same same (hash map.hasher) machine) end × (w ≡ called v map machine end w.looks)
-      × MayCome (machine_plan same same (hash map.hasher) machine) end × HandsBack v.calls end.1
+      × MayCome (machine_plan same same (hash map.hasher) machine) end × HandsBack v.calls end.1 × ReadPairIsVisible machine end.1 (shown_in w.looks)
   turned_by v map work w = ⊥
 
   abbrev pub turned : View K V S → View K V S → Type 0

@@ -15,7 +15,7 @@ use Rattle.run_shows.specs.Given.EffectsDeclared.changed.Changed.{Changed}
 use Rattle.run_shows.specs.Given.EffectsDeclared.changed.Changed.TheVariants.{Nothing as NoChange}
 use Rattle.owner_facts.specs.Given.CallersTogether.{UnderWay}
 use Rattle.owner_facts.specs.Given.CallersTogether as begins
-use Rattle.owner_facts.specs.Given.FinishesMachines.{machine_of, MachineStepsAmong, ToldOfKind}
+use Rattle.owner_facts.specs.Given.FinishesMachines.{machine_of, MachineStepsWithEndings, RepliedOfKind}
 use Rattle.owner_facts.specs.Given.FinishesMaps.{Standing, with_call}
 use Rattle.many_acts.specs.Acts.Acts.{Answer, Wanted, Get, Remove, Insert, TryToInsert, Compute, Update, UpdateOrInsert, TryToInsertWith, RemoveIf, GetKeyValue, ContainsKey, GetOrInsert, GetOrInsertWith, RemoveEntry, MakeRoom, Count, GoOver, begun, Act, BeginsCall, StepsCall, TellsCall, AsksCall, StopsCall}
 use Rattle.many_acts.specs.Acts.AsSteps.{LeadsAs, changed_by, changed_of, held_in}
@@ -118,7 +118,7 @@ module _ {K V S : Type 0} (same : K → K → Bool) (by_hasher : S → K → ℕ
     abbrev Goes : ℕ → UnderWay K V K → Type 0
     Goes k u =
         (standing : Standing K) × (machine : Machine K V K) × (s.maps k ≡ Some standing) × StepsFrom same standing.hash (machine_of u) old new machine came.progress
-        × (did : MachineStepsAmong V same same batch_size roots slot_of s.world s.maps s.calls s.makers s.enders k standing i came.memory u machine came.progress)
+        × (did : MachineStepsWithEndings V same same batch_size roots slot_of s.world s.maps s.calls s.makers s.enders k standing i came.memory u machine came.progress)
         × IsAt same hash new (scene_after same s old new k i standing u machine came.progress did)
 
     -- there the scene is this
@@ -141,7 +141,7 @@ module _ {K V S : Type 0} (same : K → K → Bool) (by_hasher : S → K → ℕ
   abbrev Replied : MachineReply V → Result Unit (MachineReply V) → ℕ → UnderWay K V K → Type 0
   Replied reply result k u =
       (standing : Standing K) × (next : UnderWay K V K) × (s.maps k ≡ Some standing) × (machine_of next ≡ (machine_replied (machine_of u) reply).0)
-      × (result ≡ (machine_replied (machine_of u) reply).1) × ToldOfKind V same same batch_size roots slot_of standing i u reply next
+      × (result ≡ (machine_replied (machine_of u) reply).1) × RepliedOfKind V same same batch_size roots slot_of standing i u reply next
       × (s.world.memory ≡ s.world.memory) × IsAt same hash (held_in batch_size roots NoChange s) (scene_with k i next s)
 
   abbrev RepliedTo : UnderWay K V K → MachineReply V → Result Unit (MachineReply V) → ℕ → UnderWay K V K → Type 0

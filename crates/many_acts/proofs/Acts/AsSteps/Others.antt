@@ -19,13 +19,13 @@ use Rattle.run_shows.specs.Given.ResizeNewMap.{new_map_plan}
 use Rattle.run_shows.specs.Given.ResizeDeclared.new_map.NewMap.{NewMap}
 use Rattle.run_shows.specs.Given.RawEndMap.{end_map_plan}
 use Rattle.run_shows.specs.Given.RawDeclared.machines.end_map.EndMap.{EndMap}
-use Rattle.run_shows.specs.Given.TellerTells.{StepsTold}
+use Rattle.run_shows.specs.Given.TellerTells.{StepsObserved}
 use Rattle.run_shows.specs.Given.EffectsDeclared.changed.Changed.{Changed}
 use Rattle.run_shows.specs.Given.EffectsDeclared.changed.Changed.TheVariants.{Nothing as NoChange}
 use Rattle.owner_facts.specs.Given.CallersRows.{IsRowOn}
 use Rattle.owner_facts.proofs.Given.CallersTogether.At.{at_same, at_other}
 use Rattle.owner_facts.proofs.Given.CallersTogether.Slots.{all_between, between_rows}
-use Rattle.owner_facts.specs.Given.FinishesEndings.{AllPairsOnce, Finishing, StepsOfEnding, MakingStepsAmong, waiting_by}
+use Rattle.owner_facts.specs.Given.FinishesEndings.{AllPairsOnce, Finishing, StepsOfEnding, MakingStepsWithEndings, waiting_by}
 use Rattle.owner_facts.specs.Given.FinishesFactsEnds.{events_of}
 use Rattle.owner_facts.specs.Given.FinishesMakings.{Beginning}
 use Rattle.owner_facts.specs.Given.FinishesMaps.{Standing}
@@ -37,9 +37,9 @@ use Rattle.many_acts.proofs.Acts.AsSteps.There.{OnSlots, Stand, held_as, one_mad
 use Rattle.many_acts.proofs.Acts.AsSteps.Told.{of_some, was_told}
 use Rattle.run_shows.proofs.Scenes.Between.{deed_between}
 use Rattle.run_shows.proofs.Scenes.NoCall.{none_is}
-use Rattle.run_shows.specs.Scenes.Ending.{EndingComesToThere, ending_begun}
+use Rattle.run_shows.specs.Scenes.Ending.{EndingOutcomeHolds, ending_begun}
 use Rattle.run_shows.specs.Scenes.Held.{Held, IsAt}
-use Rattle.run_shows.specs.Scenes.Making.{MakingComesToThere, making_begun, scene_making}
+use Rattle.run_shows.specs.Scenes.Making.{MakingOutcomeHolds, making_begun, scene_making}
 use Rattle.run_shows.specs.Scenes.Scene.{Scene, slot_of}
 use Rattle.run_shows.proofs.Given.General.{same_some}
 
@@ -86,7 +86,7 @@ module _ {K V S : Type 0} (same : K → K → Bool) (by_hasher : S → K → ℕ
     abbrev new : Held K V
     new = record { memory = m2; changed = changed_of s.world.memory g making; batch_size = batch_size; roots = roots }
 
-    module _ (told : Advance Setting) (did : MakingStepsAmong V same same batch_size roots slot_of s.world s.maps s.calls s.makers s.enders i b m2 (machine, told)) where
+    module _ (told : Advance Setting) (did : MakingStepsWithEndings V same same batch_size roots slot_of s.world s.maps s.calls s.makers s.enders i b m2 (machine, told)) where
       on_slots : OnSlots same hash batch_size roots s before at did.step.w2
       on_slots j =
           subst (λ (f : ℕ → Row). IsRowOn (slot_of j) (f j))
@@ -105,12 +105,12 @@ module _ {K V S : Type 0} (same : K → K → Bool) (by_hasher : S → K → ℕ
       }
 
     -- where it has come
-    abbrev Made : (told : Advance Setting) → MakingStepsAmong V same same batch_size roots slot_of s.world s.maps s.calls s.makers s.enders i b m2 (machine, told) → Scene K V → Type 0
+    abbrev Made : (told : Advance Setting) → MakingStepsWithEndings V same same batch_size roots slot_of s.world s.maps s.calls s.makers s.enders i b m2 (machine, told) → Scene K V → Type 0
     Made told did x =
-        (x.world.memory ≡ m2) × ((comes : MakingComesToThere same (IsAt same hash new) s old i b machine did.step.w2 told) × MadeTo same hash s old new i b machine did.step.w2 told comes x)
+        (x.world.memory ≡ m2) × ((comes : MakingOutcomeHolds same (IsAt same hash new) s old i b machine did.step.w2 told) × MadeTo same hash s old new i b machine did.step.w2 told comes x)
         × IsAt same hash new x
 
-    made : (told : Advance Setting) (did : MakingStepsAmong V same same batch_size roots slot_of s.world s.maps s.calls s.makers s.enders i b m2 (machine, told))
+    made : (told : Advance Setting) (did : MakingStepsWithEndings V same same batch_size roots slot_of s.world s.maps s.calls s.makers s.enders i b m2 (machine, told))
         → MakingCame same by_hasher batch_size roots slot_of s i b did.step.w2 machine n told → Made told did n
     made progress.Goes did is =
         onto (Made progress.Goes did) (record s { world = did.step.w2; makers = with_at s.makers i (Some (record b { machine = machine })) }) is
@@ -134,13 +134,13 @@ module _ {K V S : Type 0} (same : K → K → Bool) (by_hasher : S → K → ℕ
         (λ stand. let there = made_there (progress.Refused fault) did s.maps None at.hashes (λ c is. absurd (cc is)) stand in (did.step.memory, (there, refl), there))
 
     module _ (told : Advance Setting) (computed : making_steps same by_hasher batch_size roots slot_of s g b ≡ Some (m2, (machine, told)))
-        (did : MakingStepsAmong V same same batch_size roots slot_of s.world s.maps s.calls s.makers s.enders i b m2 (machine, told))
+        (did : MakingStepsWithEndings V same same batch_size roots slot_of s.world s.maps s.calls s.makers s.enders i b m2 (machine, told))
         (came : MakingCame same by_hasher batch_size roots slot_of s i b did.step.w2 machine n told) where
       abbrev Goes : Beginning K → Type 0
       Goes c =
-          (opening : NewMap) × StepsTold K V (NewMap × Advance Setting) s.world.memory NoChange (new_map_plan c.machine) m2 new.changed (opening, told)
-          × (did : MakingStepsAmong V same same batch_size roots slot_of s.world s.maps s.calls s.makers s.enders i c m2 (opening, told))
-          × MakingComesToThere same (IsAt same hash new) s old i c opening did.step.w2 told
+          (opening : NewMap) × StepsObserved K V (NewMap × Advance Setting) s.world.memory NoChange (new_map_plan c.machine) m2 new.changed (opening, told)
+          × (did : MakingStepsWithEndings V same same batch_size roots slot_of s.world s.maps s.calls s.makers s.enders i c m2 (opening, told))
+          × MakingOutcomeHolds same (IsAt same hash new) s old i c opening did.step.w2 told
 
       abbrev GoesTo : Beginning K → Type 0
       GoesTo c = (so : Goes c) × MadeTo same hash s old new i c so.0 so.2.step.w2 told so.3 n
@@ -198,7 +198,7 @@ module _ {K V S : Type 0} (same : K → K → Bool) (by_hasher : S → K → ℕ
 
     abbrev Gone : (told : Settled (Node K V)) → StepsOfEnding V same same batch_size roots slot_of s.world s.maps s.calls s.makers s.enders i f m2 (machine, told) → Scene K V → Type 0
     Gone told did x =
-        (x.world.memory ≡ m2) × ((comes : EndingComesToThere same (IsAt same hash newer) s i f machine did.w2 did.deed told) × EndedTo same hash s newer i f machine did.w2 did.deed told comes x)
+        (x.world.memory ≡ m2) × ((comes : EndingOutcomeHolds same (IsAt same hash newer) s i f machine did.w2 did.deed told) × EndedTo same hash s newer i f machine did.w2 did.deed told comes x)
         × IsAt same hash newer x
 
     gone : (told : Settled (Node K V)) (did : StepsOfEnding V same same batch_size roots slot_of s.world s.maps s.calls s.makers s.enders i f m2 (machine, told))
@@ -221,9 +221,9 @@ module _ {K V S : Type 0} (same : K → K → Bool) (by_hasher : S → K → ℕ
         (came : EndingCame same by_hasher batch_size roots slot_of s i f did.w2 did.deed machine n told) where
       abbrev Ends : Finishing K V → Type 0
       Ends c =
-          (ending : EndMap) × StepsTold K V (EndMap × Settled (Node K V)) s.world.memory NoChange (end_map_plan c.machine) m2 newer.changed (ending, told)
+          (ending : EndMap) × StepsObserved K V (EndMap × Settled (Node K V)) s.world.memory NoChange (end_map_plan c.machine) m2 newer.changed (ending, told)
           × (did : StepsOfEnding V same same batch_size roots slot_of s.world s.maps s.calls s.makers s.enders i c m2 (ending, told))
-          × EndingComesToThere same (IsAt same hash newer) s i c ending did.w2 did.deed told
+          × EndingOutcomeHolds same (IsAt same hash newer) s i c ending did.w2 did.deed told
 
       abbrev EndsTo : Finishing K V → Type 0
       EndsTo c = (so : Ends c) × EndedTo same hash s newer i c so.0 so.2.w2 so.2.deed told so.3 n

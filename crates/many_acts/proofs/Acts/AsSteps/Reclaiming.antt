@@ -18,7 +18,7 @@ use Rattle.many_acts.proofs.Acts.AsSteps.There.{held_as}
 use Rattle.many_acts.proofs.Acts.AsSteps.Told.{was_told}
 use Rattle.run_shows.proofs.Scenes.Goes.{same_map_keeps}
 use Rattle.run_shows.specs.Scenes.Held.{Held, IsAt}
-use Rattle.run_shows.specs.Scenes.Reclaiming.{IsReclaiming, ReclaimingComesTo, ReclaimingLeads}
+use Rattle.run_shows.specs.Scenes.Reclaiming.{IsReclaiming, ReclaimingHasOutcome, ReclaimingLeads}
 use Rattle.run_shows.specs.Scenes.Scene.{Scene, slot_of}
 
 module _ {K V : Type 0} (same : K → K → Bool) (hash : ℕ → K → ℕ) (batch_size roots : ℕ) (s n : Scene K V) (before : Changed) (i : ℕ) (lists : ℕ → List ℕ) (c : ReclaimAll)
@@ -49,7 +49,7 @@ module _ {K V : Type 0} (same : K → K → Bool) (hash : ℕ → K → ℕ) (ba
     small = at.small;
   }
 
-  comes : (told : Settled (Node K V)) → end ≡ told → ReclaimingComesTo same hash s i lists (held_in batch_size roots before s) new after on.did.lists2 c2 told
+  comes : (told : Settled (Node K V)) → end ≡ told → ReclaimingHasOutcome same hash s i lists (held_in batch_size roots before s) new after on.did.lists2 c2 told
   comes settled.Goes is = goes
   comes settled.Waits is = goes
   comes (settled.Gave value) is = goes

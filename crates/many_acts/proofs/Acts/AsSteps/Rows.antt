@@ -27,7 +27,7 @@ use Rattle.seize_acts.proofs.Given.SeizeRuleRows.Teams.{shares}
 use Rattle.seize_acts.proofs.Given.SeizeEndsBatches.Rows.{begins_memory}
 use Rattle.run_shows.specs.Given.TablesNodes.{deferred_word}
 use Rattle.run_shows.specs.Given.TablesDeclared.node.Node.{Node}
-use Rattle.run_shows.specs.Given.TellerTells.{StepsTold}
+use Rattle.run_shows.specs.Given.TellerTells.{StepsObserved}
 use Rattle.run_shows.specs.Given.EffectsDeclared.changed.Changed.{Changed}
 use Rattle.run_shows.specs.Given.EffectsDeclared.changed.Changed.TheVariants.{Nothing as NoChange}
 use Rattle.owner_facts.specs.Given.CallersRows.{IsRowOn}
@@ -36,7 +36,7 @@ use Rattle.owner_facts.proofs.Given.CallersTogether.Came.{came_reached}
 use Rattle.owner_facts.proofs.Given.CallersTogether.Slots.{step_leaves}
 use Rattle.owner_facts.specs.Given.FinishesMaps.{Standing, IsSameMap}
 use Rattle.many_acts.specs.Acts.Acts.{Act, Answer, BeginsRow, StepsRow}
-use Rattle.many_acts.specs.Acts.AsSteps.{LeadsAs, changed_by, changed_of, held_in, row_changed, row_told}
+use Rattle.many_acts.specs.Acts.AsSteps.{LeadsAs, changed_by, changed_of, held_in, row_changed, outcome_of_row_step}
 use Rattle.many_acts.specs.Acts.Leads.{AllStand, Led, MayBe}
 use Rattle.many_acts.proofs.Acts.AsSteps.There.{Stand, one_on_slot, same_hashed}
 use Rattle.many_acts.proofs.Acts.AsSteps.Told.{of_some, was_told}
@@ -123,7 +123,7 @@ module _ {K V : Type 0} (w : World (Node K V)) (i : ℕ) (g : Grant) where
       after = rows.Flushes c2;
       steps = (
         (c2, p),
-        subst (λ (x : Mem (Node K V)). StepsTold K V (Settle × Settled (Node K V)) w.memory NoChange (settle_plan deferred_word c) x
+        subst (λ (x : Mem (Node K V)). StepsObserved K V (Settle × Settled (Node K V)) w.memory NoChange (settle_plan deferred_word c) x
             (changed_of w.memory g (settle_plan deferred_word c)) (c2, p)) (sym (by_memory p)) (was_told w.memory g (settle_plan deferred_word c) (m2, (c2, p)) e),
         refl,
       );
@@ -180,7 +180,7 @@ module _ {K V : Type 0} (w : World (Node K V)) (i : ℕ) (g : Grant) where
 
   -- whichever row it is
   goes : (size : ℕ) → CameAbout size w → (w2 : World (Node K V)) (row : SlotRow) → w.row i ≡ row_of row → row_steps deferred_word i (row_of row) g w ≡ Some w2
-      → Goes row (row_changed (row_of row) g w.memory) w2 (row_told (row_of row) g w.memory)
+      → Goes row (row_changed (row_of row) g w.memory) w2 (outcome_of_row_step (row_of row) g w.memory)
   goes size from w2 (rows.Registers c) is e =
       came (register_plan c) (λ p. registers_on w i c p.0 p.1) (λ end. of_registering end.1) w2 e (Goes (rows.Registers c) (changed_of w.memory g (register_plan c)))
       (λ p so. registers_go p.0 c p.1.0 p.1.1 so)
@@ -257,8 +257,8 @@ module _ {K V S : Type 0} (same : K → K → Bool) (by_hasher : S → K → ℕ
     -- where a row leads, and to which scene
     abbrev RowGoes : SlotRow → Row → Type 0
     RowGoes row r =
-        (so : (after : SlotRow) × RowSteps K V row s.world.memory w2.memory (row_changed r g s.world.memory) (after, row_told r g s.world.memory)
-        × (did : HappensTo (IsAt same hash held_then) (Step i) s old) × (did.0.row i ≡ row_then after (row_told r g s.world.memory)))
+        (so : (after : SlotRow) × RowSteps K V row s.world.memory w2.memory (row_changed r g s.world.memory) (after, outcome_of_row_step r g s.world.memory)
+        × (did : HappensTo (IsAt same hash held_then) (Step i) s old) × (did.0.row i ≡ row_then after (outcome_of_row_step r g s.world.memory)))
         × (record s { world = w2; maps = maps2 } ≡ record s { world = so.2.0; maps = so.2.2 })
 
   pub row_steps_as : (g : Grant) → (told : Answer K V) → Led same by_hasher batch_size roots slot_of (StepsRow i g) s told n → Leads (StepsRow i g) told (changed_by {S = S} same (StepsRow i g) s) n

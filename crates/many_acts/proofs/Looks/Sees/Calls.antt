@@ -24,7 +24,7 @@ use Rattle.run_shows.specs.Given.ResizeDeclared.lookup.Lookup.{Lookup}
 use Rattle.run_shows.specs.Given.RawCall as call
 use Rattle.run_shows.specs.Given.RawCall.{call_plan, plan_at, pair_read, key_read, word_read}
 use Rattle.run_shows.specs.Given.RawCallFills as fills
-use Rattle.run_shows.specs.Given.RawCallPoints.{entering, went_on, told, tableless, at_last}
+use Rattle.run_shows.specs.Given.RawCallPoints.{entering, continued_in, told, tableless, at_last}
 use Rattle.run_shows.specs.Given.RawReplies.{value_for, as_own}
 use Rattle.run_shows.specs.Given.RawDeclared.machines.answer.Called.{Called}
 use Rattle.run_shows.specs.Given.RawDeclared.machines.asking.Asking.{Asking}
@@ -42,7 +42,7 @@ use Rattle.run_shows.proofs.Given.RuleWords.TablesSeen.{place_there}
 use Rattle.owner_facts.specs.Given.PointsFactsCalls.{Change, Holding, Apart, InBlock, ByReply, holding, HasOwn, IsOwnPair, CallingFacts, CallFacts}
 use Rattle.owner_facts.specs.Given.PointsTold.{IsRowOfCall}
 use Rattle.owner_facts.specs.Given.CallersKept.{IsWithin}
-use Rattle.many_acts.specs.Looks.Blocks.{Sees}
+use Rattle.many_acts.specs.Looks.Blocks.{MayLookAt}
 use Rattle.many_acts.specs.Looks.Sees.{HasSeen}
 use Rattle.many_acts.proofs.Looks.Sees.Copiers.{root_link, next_link, copier_sees}
 use Rattle.many_acts.proofs.Looks.Sees.Disposals.{dispose_sees}
@@ -75,7 +75,7 @@ module _ {K V Q : Type 0} (same : K → K → Bool) (hash : K → ℕ) (asks : Q
 
     -- it ends so, and has seen the block
     abbrev EndsSeeing : Then (Node K V) (KeyCall K V Q × Called (Node K V)) → Type 0
-    EndsSeeing rest = Ends shown rest end × Sees b shown rest
+    EndsSeeing rest = Ends shown rest end × MayLookAt b shown rest
 
     own_some : IsOwnPair same hash asks w caller setting c seen keys change p.own p.hash → (p.own == 0) ≡ false
     own_some own =
@@ -154,12 +154,12 @@ module _ {K V Q : Type 0} (same : K → K → Bool) (hash : K → ℕ) (asks : Q
       | inr back ↦ back.1.1
     ]
 
-    none_emptied : (word : ℕ) (value : Node K V) → Sees b shown (fills.emptied p word (Taken value)) → ⊥
+    none_emptied : (word : ℕ) (value : Node K V) → MayLookAt b shown (fills.emptied p word (Taken value)) → ⊥
     none_emptied word (node.Pair key value) sees = sees
     none_emptied word (node.Table len limit turn) sees = sees
     none_emptied word node.Shards sees = sees
 
-    none_given : (word : ℕ) (value : Node K V) → Sees b shown (fills.given_up p word (Taken value)) → ⊥
+    none_given : (word : ℕ) (value : Node K V) → MayLookAt b shown (fills.given_up p word (Taken value)) → ⊥
     none_given word (node.Pair key value) sees = sees
     none_given word (node.Table len limit turn) sees = sees
     none_given word node.Shards sees = sees
@@ -204,7 +204,7 @@ module _ {K V Q : Type 0} (same : K → K → Bool) (hash : K → ℕ) (asks : Q
     lasts_at at.Nexts (its, t, (entered, shut)) none looks saw =
         let l = loads b w.memory n (at_word p.trial.table NEXT) end (call.next_found p) saw in
         inl (sees_link w slot c seen within_setting within shown l.0 (suc t) (next_link same hash fits w slot caller c seen setting within_setting within map p.trial.table t entered l.0 l.1)
-        (at_last p.missing p) (λ value. went_on p (table_seen l.0 value)) b l.3.1)
+        (at_last p.missing p) (λ value. continued_in p (table_seen l.0 value)) b l.3.1)
     lasts_at (at.Firsts making) (its, stores, making_facts) none looks saw =
         let s = seen_as (call.first_made p) b w.memory (new_table_plan making) n end saw in
         inl (new_table_sees w slot caller c seen setting within_setting within (Root setting.root) 0 making b n s.0 making_facts s.2)

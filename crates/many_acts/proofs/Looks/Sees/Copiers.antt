@@ -129,7 +129,7 @@ module _ {K V : Type 0} (same : K → K → Bool) (hash : K → ℕ) (fits : (k 
 
     put : (word code : ℕ) (table : Table) (at_probe : Probe) → Saw (at.Puts word code table at_probe) → IsHeld
     put word code table at_probe saw =
-        elim (exchanges b w.memory n (at_place table at_probe.i) end (places.put_told p word code table at_probe) 0 (places.copied_word p word) saw) as (λ _. IsHeld) [
+        elim (exchanges b w.memory n (at_place table at_probe.i) end (places.after_put p word code table at_probe) 0 (places.copied_word p word) saw) as (λ _. IsHeld) [
           | inl made ↦ absurd made.1.1
           | inr found ↦ absurd found.3.1
         ]

@@ -23,7 +23,7 @@ use Rattle.run_shows.specs.Given.RuleInWorld.{IsMapIn}
 use Rattle.owner_facts.specs.Given.PointsFactsDisposes.{DisposeFacts}
 use Rattle.owner_facts.specs.Given.PointsTold.{IsRowOf}
 use Rattle.owner_facts.specs.Given.CallersKept.{IsWithin}
-use Rattle.many_acts.specs.Looks.Blocks.{Sees}
+use Rattle.many_acts.specs.Looks.Blocks.{MayLookAt}
 use Rattle.many_acts.specs.Looks.Sees.{HasSeen}
 use Rattle.many_acts.proofs.Looks.Sees.Copiers.{root_held}
 use Rattle.many_acts.proofs.Looks.Sees.Operations.{none_if, loads}
@@ -35,10 +35,10 @@ module _ {K V : Type 0} (same : K → K → Bool) (hash : K → ℕ) (fits : (k 
   IsHeld = holds slot b w.log ≡ true
 
   -- by the root's table nothing further is seen
-  compared_none : (root : ℕ) (table : Table) → Sees b (value_at n) (dispose.compared {K = K} {V = V} p root table) → ⊥
+  compared_none : (root : ℕ) (table : Table) → MayLookAt b (value_at n) (dispose.compared {K = K} {V = V} p root table) → ⊥
   compared_none root table sees = none_if b (value_at n) (nat_lt table.turn p.table.turn) _ _ (λ x. x) (λ x. x) sees
 
-  root_seen : (root : ℕ) → word_at w.memory (Root setting.root) ≡ Some root → Sees b (value_at n) (dispose.root_read {K = K} {V = V} p (Found root)) → IsHeld
+  root_seen : (root : ℕ) → word_at w.memory (Root setting.root) ≡ Some root → MayLookAt b (value_at n) (dispose.root_read {K = K} {V = V} p (Found root)) → IsHeld
   root_seen root read (inl is) =
       let made = facts.table.made in
       subst (λ (x : ℕ). holds slot x w.log ≡ true) (sym is)

@@ -12,12 +12,12 @@ use Rattle.run_shows.specs.Given.TablesDeclared.node.Node.{Node}
 use Rattle.run_shows.specs.Given.TablesDeclared.setting.Setting.{Setting}
 use Rattle.run_shows.specs.Given.RuleChart.{Place, Chart}
 use Rattle.run_shows.specs.Given.RuleLinks.{LeadsTo, IsLinkTo}
-use Rattle.run_shows.specs.Given.RuleWords.{Blocks, Shows, place_word, byte_of}
+use Rattle.run_shows.specs.Given.RuleWords.{Blocks, Represents, place_word, byte_of}
 use Rattle.run_shows.proofs.Given.RuleWords.PlaceWords.{pair_block}
 use Rattle.run_shows.proofs.Given.RuleWords.PlaceWordsRead.{word-pair}
 use Rattle.run_shows.proofs.Given.RuleWords.PlacesShown.{AreStored, byte_of-few}
 use Rattle.owner_facts.specs.Given.CallersKept.{IsWithin}
-use Rattle.many_acts.specs.Looks.Blocks.{Sees}
+use Rattle.many_acts.specs.Looks.Blocks.{MayLookAt}
 use Rattle.many_acts.proofs.Looks.Sees.Plans.{sees_if, sees_one}
 
 module _ {K V : Type 0} (w : World (Node K V)) (slot : ℕ) (c : Chart K) (seen : Blocks) (setting : Setting) (within : IsWithin w slot c seen setting) where
@@ -35,14 +35,14 @@ module _ {K V : Type 0} (w : World (Node K V)) (slot : ℕ) (c : Chart K) (seen 
 
   -- what is seen by a link that was read
   pub sees_link : {R : Type 0} (shown : ℕ → Option (Node K V)) (link u : ℕ) → LeadsTo c seen link u → (empty : R) (on : Node K V → R) (b : ℕ)
-      → Sees b shown (if link == 0 then Now empty else Seeing (link / 2048) (λ value. Now (on value))) → IsHeld b
+      → MayLookAt b shown (if link == 0 then Now empty else Seeing (link / 2048) (λ value. Now (on value))) → IsHeld b
   sees_link shown link u leads empty on b sees = by (sees_if b shown (link == 0) (Now empty) (Seeing (link / 2048) (λ value. Now (on value))) sees)
     where
-      by : (((link == 0) ≡ true) × Sees b shown (Now empty)) ⊎ (((link == 0) ≡ false) × Sees b shown (Seeing (link / 2048) (λ value. Now (on value)))) → IsHeld b
+      by : (((link == 0) ≡ true) × MayLookAt b shown (Now empty)) ⊎ (((link == 0) ≡ false) × MayLookAt b shown (Seeing (link / 2048) (λ value. Now (on value)))) → IsHeld b
       by (inl none) = absurd none.1
       by (inr some) = subst (λ (x : ℕ). IsHeld x) (sym (sees_one b (link / 2048) shown on some.1)) (link_held link u leads some.0)
 
-  module _ (hash : K → ℕ) (fits : (k : K) → hash k < 2 ^ 64) (root : ℕ) (m : Mem (Node K V)) (shows : Shows hash m c seen root) (stored : AreStored c)
+  module _ (hash : K → ℕ) (fits : (k : K) → hash k < 2 ^ 64) (root : ℕ) (m : Mem (Node K V)) (shows : Represents hash m c seen root) (stored : AreStored c)
       (t i : ℕ) (made : t < c.past) (known : seen.table_known t ≡ true) where
     abbrev word : ℕ
     word = place_word hash c seen (c.place t i)

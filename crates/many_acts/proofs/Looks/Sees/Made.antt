@@ -8,7 +8,7 @@ use Rattle.run_shows.specs.Given.TablesDeclared.node.Node.TheVariants.{Shards}
 use Rattle.run_shows.specs.Given.TablesDeclared.setting.Setting.{Setting}
 use Rattle.run_shows.specs.Given.RuleWords.{Blocks}
 use Rattle.owner_facts.specs.Given.CallersSights.{seen_by}
-use Rattle.owner_facts.specs.Given.CallersTogether.{UnderWay, OnKey, ForRoom, Counting, OverAll, Together, Stands, in_slot}
+use Rattle.owner_facts.specs.Given.CallersTogether.{UnderWay, OnKey, ForRoom, Counting, OverAll, Together, IsAtPoint, in_slot}
 use Rattle.owner_facts.specs.Given.FinishesEndings.{Finishing, EndingsTogether}
 use Rattle.owner_facts.specs.Given.FinishesMachines.{machine_of}
 use Rattle.owner_facts.specs.Given.FinishesMakings.{Beginning}
@@ -35,7 +35,7 @@ module _ {K Q : Type 0} (V : Type 0) (same : K → K → Bool) (asks : Q → K �
     own_made : (u : UnderWay K V Q) → calls m i ≡ Some u → IsOwnOf (machine_of u) b → IsMade b
     own_made (OnKey u) has (to_store, some, is) = subst IsMade (sym is) (by (together.stand i (OnKey u) has))
       where
-        by : Stands V same s.hash asks s.setting slot w s.chart its_seen i (OnKey u) → IsMade (u.call.own / 2048)
+        by : IsAtPoint V same s.hash asks s.setting slot w s.chart its_seen i (OnKey u) → IsMade (u.call.own / 2048)
         by (inl (rests, knows)) = elim knows.facts as (λ _. IsMade (u.call.own / 2048)) [
           | inl facts ↦ mine_at same s.hash asks w i here s.chart its_seen u.keys u.change u.call facts.code some u.call.stands to_store facts.point
           | inr late ↦ late_mine same s.hash asks w i here s.chart its_seen u.keys u.change u.call late.1.code some u.began u.call.stands to_store late.1.point late.0

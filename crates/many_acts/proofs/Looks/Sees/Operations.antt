@@ -5,19 +5,19 @@ use Rattle.run_shows.specs.Given.SeizeWordsDeclared.at.At.{At}
 use Rattle.run_shows.specs.Given.SeizeWordsMem.{Mem, value_at, word_at}
 use Rattle.run_shows.specs.Given.SeizeWordsOp.{Out, Load, Add, Or, Exchange, Make, Take, Rewrite, Found, Stored, Exchanged, Made, Taken, Roomed}
 use Rattle.run_shows.specs.Given.SeizeWordsPlan.{Then, Do, Ends}
-use Rattle.many_acts.specs.Looks.Blocks.{Sees}
+use Rattle.many_acts.specs.Looks.Blocks.{MayLookAt}
 use Rattle.many_acts.specs.Looks.Sees.{HasSeen}
 
 module _ {T R : Type 0} (b : ℕ) where
   -- neither of two ways sees it
-  pub none_if : (shown : ℕ → Option T) (x : Bool) (first other : Then T R) → (Sees b shown first → ⊥) → (Sees b shown other → ⊥) → Sees b shown (if x then first else other) → ⊥
+  pub none_if : (shown : ℕ → Option T) (x : Bool) (first other : Then T R) → (MayLookAt b shown first → ⊥) → (MayLookAt b shown other → ⊥) → MayLookAt b shown (if x then first else other) → ⊥
   none_if shown true first other f g sees = f sees
   none_if shown false first other f g sees = g sees
 
   module _ (m n : Mem T) (at : At) (end : R) (rest : Out T → Then T R) where
     -- what is left once this was answered has seen it, and comes to this end
     abbrev SeenBy : Out T → Type 0
-    SeenBy out = Ends (value_at n) (rest out) end × Sees b (value_at n) (rest out)
+    SeenBy out = Ends (value_at n) (rest out) end × MayLookAt b (value_at n) (rest out)
 
     pub loads : HasSeen b m (Do (Load at) rest) n end → (word : ℕ) × (word_at m at ≡ Some word) × (n ≡ m) × SeenBy (Found word)
     loads (Found word, took, ends, sees) = (word, took.0, took.1, (ends, sees))
@@ -56,7 +56,7 @@ module _ {T R : Type 0} (b : ℕ) where
 
   module _ (m n : Mem T) (end : R) (rest : Out T → Then T R) where
     abbrev SeenAs : Out T → Type 0
-    SeenAs out = Ends (value_at n) (rest out) end × Sees b (value_at n) (rest out)
+    SeenAs out = Ends (value_at n) (rest out) end × MayLookAt b (value_at n) (rest out)
 
     pub makes : (value : T) (words : ℕ) → HasSeen b m (Do (Make value words) rest) n end → ((block : ℕ) × SeenAs (Made (Ok block))) ⊎ ((back : T) × SeenAs (Made (Err back)))
     makes value words (Found word, took, ends, sees) = absurd took.0

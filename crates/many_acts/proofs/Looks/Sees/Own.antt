@@ -15,7 +15,7 @@ use Rattle.run_shows.specs.Given.TablesDeclared.node.Node.{Node}
 use Rattle.run_shows.specs.Given.TablesDeclared.node.Node.TheVariants.{Pair, Shards}
 use Rattle.run_shows.specs.Given.TablesDeclared.setting.Setting.{Setting}
 use Rattle.run_shows.specs.Given.TablesDeclared.trial.Trial.{Trial}
-use Rattle.run_shows.specs.Given.RawCallPoints.{going, over, ending, storing, burying, at_gap, gap_by, pair_by, at_free, at_end, beyond, at_pair, having_met, passed, halted, told_of, told, aim_of}
+use Rattle.run_shows.specs.Given.RawCallPoints.{going, over, ending, storing, burying, at_gap, gap_by, pair_by, at_free, at_end, beyond, at_pair, having_met, passed, halted, after_finding, told, aim_of}
 use Rattle.run_shows.specs.Given.RawDeclared.machines.answer.Called.{Called}
 use Rattle.run_shows.specs.Given.RawDeclared.machines.answer.Called.TheVariants as called
 use Rattle.run_shows.specs.Given.RawDeclared.machines.answer.End.{End}
@@ -38,7 +38,7 @@ use Rattle.run_shows.specs.Given.RuleChart.{Chart}
 use Rattle.run_shows.specs.Given.RuleWords.{Blocks}
 use Rattle.owner_facts.specs.Given.PointsFactsCalls.{Change, Unchanged, Holding, Apart, InBlock, ByReply, holding, HasOwn, HasIts, IsOwnPair, IsVacant, CallingFacts, AskingFacts}
 use Rattle.owner_facts.specs.Given.PointsTold.{IsRowOfCall}
-use Rattle.owner_facts.specs.Given.LateLateCalls.{LateAsking, LateCalling}
+use Rattle.owner_facts.specs.Given.LateLateCalls.{SupersededAsking, SupersededCalling}
 use Rattle.owner_facts.proofs.Given.PointsCalls.Probes.{own_block}
 use Rattle.many_acts.specs.Looks.Sees.{IsToStore}
 
@@ -126,7 +126,7 @@ module _ {K V Q : Type 0} where
     halted_keeps true = (refl, tt, tt)
     halted_keeps false = (refl, tt, tt)
 
-  told_of_keeps : (p : KeyCall K V Q) → (p.own == 0) ≡ false → (loaded : Bool) (word : ℕ) (found : Finding) → KeepsIt p.own (told_of loaded p word found)
+  told_of_keeps : (p : KeyCall K V Q) → (p.own == 0) ≡ false → (loaded : Bool) (word : ℕ) (found : Finding) → KeepsIt p.own (after_finding loaded p word found)
   told_of_keeps p some loaded word is.Free = free_keeps p some p.missing
   told_of_keeps p some loaded word is.Passed = passed_keeps (having_met p word) some (next_trial (with_met p.trial word))
   told_of_keeps p some loaded word is.Moved = (refl, tt, tt)
@@ -194,7 +194,7 @@ module _ {K V Q : Type 0} (same : K → K → Bool) (hash : K → ℕ) (asks : Q
   mine_at (at.Over end) has point = absurd has
 
   -- and so it is in a table that the root has left
-  late_asking : (began : ℕ) (stands : Asking) → LateAsking same hash asks w caller setting c blocks keys began p stands → change ≡ Unchanged → IsMine
+  late_asking : (began : ℕ) (stands : Asking) → SupersededAsking same hash asks w caller setting c blocks keys began p stands → change ≡ Unchanged → IsMine
   late_asking began (asking.Absent gap) (its, missing_is, gap_facts) e = late_its its e
   late_asking began (asking.Present word) (its, there_is, names, trial) e = late_its its e
   late_asking began (asking.Fills word) (inl its, by_reply, is_told, may, trial) e = late_its its e
@@ -202,7 +202,7 @@ module _ {K V Q : Type 0} (same : K → K → Bool) (hash : K → ℕ) (asks : Q
       vacant_mine (subst (λ (x : Change). IsVacant same hash asks w caller setting c blocks keys x p.own p.hash) (sym e) own)
   late_asking began (asking.GivesUp word) (its, by_reply, has_own, names, trial) e = late_its its e
 
-  pub late_mine : (began : ℕ) (stands : Calling) → IsToStore stands → LateCalling same hash asks w caller setting c blocks keys began p stands → change ≡ Unchanged → IsMine
+  pub late_mine : (began : ℕ) (stands : Calling) → IsToStore stands → SupersededCalling same hash asks w caller setting c blocks keys began p stands → change ≡ Unchanged → IsMine
   late_mine began at.Makes has point e = absurd has
   late_mine began (at.Looks lookup) has point e = absurd has
   late_mine began at.Roots has point e = absurd has

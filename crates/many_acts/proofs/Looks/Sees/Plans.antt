@@ -3,11 +3,11 @@ use Rattle.std.specs.Prelude.{Option, if◌then◌else◌}
 use Rattle.std.proofs.Common.{◌≡◌, ℕ, Bool, true, false, ◌⊎◌, inl, inr, refl}
 use Rattle.run_shows.specs.Given.SeizeWordsMem.{Mem, value_at}
 use Rattle.run_shows.specs.Given.SeizeWordsPlan.{Plan, Then, Turn, Do, Now, Seeing, Sure, Ends, plan_as, then_as}
-use Rattle.many_acts.specs.Looks.Blocks.{Sees}
+use Rattle.many_acts.specs.Looks.Blocks.{MayLookAt}
 use Rattle.many_acts.specs.Looks.Sees.{HasSeen}
 
 module _ {T A B : Type 0} (f : A → B) where
-  sees_as : (b : ℕ) (shown : ℕ → Option T) (rest : Then T A) → Sees b shown (then_as f rest) → Sees b shown rest
+  sees_as : (b : ℕ) (shown : ℕ → Option T) (rest : Then T A) → MayLookAt b shown (then_as f rest) → MayLookAt b shown rest
   sees_as b shown (Now end) sees = absurd sees
   sees_as b shown (Seeing block rest) (inl is) = inl is
   sees_as b shown (Seeing block rest) (inr (value, is, sees)) = inr (value, is, sees_as b shown (rest value) sees)
@@ -26,12 +26,12 @@ module _ {T A B : Type 0} (f : A → B) where
 
 module _ {T R : Type 0} where
   -- it is seen on one of two ways
-  pub sees_if : (b : ℕ) (shown : ℕ → Option T) (x : Bool) (first other : Then T R) → Sees b shown (if x then first else other)
-      → ((x ≡ true) × Sees b shown first) ⊎ ((x ≡ false) × Sees b shown other)
+  pub sees_if : (b : ℕ) (shown : ℕ → Option T) (x : Bool) (first other : Then T R) → MayLookAt b shown (if x then first else other)
+      → ((x ≡ true) × MayLookAt b shown first) ⊎ ((x ≡ false) × MayLookAt b shown other)
   sees_if b shown true first other sees = inl (refl, sees)
   sees_if b shown false first other sees = inr (refl, sees)
 
   -- nothing but one block is seen
-  pub sees_one : (b block : ℕ) (shown : ℕ → Option T) (on : T → R) → Sees b shown (Seeing block (λ value. Now (on value))) → b ≡ block
+  pub sees_one : (b block : ℕ) (shown : ℕ → Option T) (on : T → R) → MayLookAt b shown (Seeing block (λ value. Now (on value))) → b ≡ block
   sees_one b block shown on (inl is) = is
   sees_one b block shown on (inr (value, is, none)) = absurd none

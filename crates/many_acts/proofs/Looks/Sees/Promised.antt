@@ -34,14 +34,14 @@ use Rattle.owner_facts.specs.Given.CallersKept.{IsWithin}
 use Rattle.owner_facts.specs.Given.CallersOverAll.{CallOverAll}
 use Rattle.owner_facts.specs.Given.CallersRooms.{CallForRoom}
 use Rattle.owner_facts.specs.Given.CallersSights.{seen_by}
-use Rattle.owner_facts.specs.Given.CallersTogether.{UnderWay, CallOnKey, OnKey, ForRoom, Counting, OverAll, Together, Stands, in_slot}
+use Rattle.owner_facts.specs.Given.CallersTogether.{UnderWay, CallOnKey, OnKey, ForRoom, Counting, OverAll, Together, IsAtPoint, in_slot}
 use Rattle.owner_facts.specs.Given.FinishesEndings.{Finishing, EndingsTogether}
 use Rattle.owner_facts.specs.Given.FinishesMachines.{machine_of}
 use Rattle.owner_facts.specs.Given.FinishesMakings.{Beginning}
 use Rattle.owner_facts.specs.Given.FinishesMaps.{Standing}
 use Rattle.many_acts.specs.Looks.Blocks.{LooksAt}
 use Rattle.many_acts.specs.Looks.Looks.{IsAtRow}
-use Rattle.many_acts.specs.Looks.Sees.{HasSeen, GoesOn, IsOwnOf, StepsSeeWhatLasts}
+use Rattle.many_acts.specs.Looks.Sees.{HasSeen, Continues, IsOwnOf, StepsSeeWhatLasts}
 use Rattle.many_acts.proofs.Looks.Lookups.{within, map, lookups_look}
 use Rattle.many_acts.proofs.Looks.Sees.Calls.{SawOwn, call_lasts}
 use Rattle.many_acts.proofs.Looks.Sees.Own.{IsOn}
@@ -55,7 +55,7 @@ seen_looks b m (Turn rest) n end saw = let is = saw.0 in subst (λ (x : Mem _). 
 seen_looks b m (Do op rest) n end (out, took, ends, sees) = inr (out, n, took, sees)
 
 -- a call on a key goes on as is told
-goes_on : {K V : Type 0} (end : Called (Node K V)) → IsOn end → GoesOn (of_called end)
+goes_on : {K V : Type 0} (end : Called (Node K V)) → IsOn end → Continues (of_called end)
 goes_on called.Goes on = tt
 goes_on called.Waits on = tt
 goes_on (called.Asks pair) on = tt
@@ -75,7 +75,7 @@ module _ {K Q : Type 0} (V : Type 0) (same : K → K → Bool) (asks : Q → K �
     lawful = (all.makings.standing.fit m s stands).0
 
     abbrev Lasts : Type 0
-    Lasts = (holds (slot i) b w.log ≡ true) ⊎ (IsOwnOf machine b × GoesOn told)
+    Lasts = (holds (slot i) b w.log ≡ true) ⊎ (IsOwnOf machine b × Continues told)
 
     abbrev here : Setting
     here = in_slot s.setting (slot i)
@@ -102,11 +102,11 @@ module _ {K Q : Type 0} (V : Type 0) (same : K → K → Bool) (asks : Q → K �
 
         -- where the call has come to with its own pair
         own_lasts : (facts : Facts) (first : KeyCall K V Q × Called (Node K V)) → machine ≡ kinds.Key first.0 → told ≡ of_called first.1
-            → SawOwn same s.hash asks (lawful.fits) w (slot i) i s.chart its_seen here s.setting incremental its_within its_map u.keys u.change u.call facts b m2 first → IsOwnOf machine b × GoesOn told
+            → SawOwn same s.hash asks (lawful.fits) w (slot i) i s.chart its_seen here s.setting incremental its_within its_map u.keys u.change u.call facts b m2 first → IsOwnOf machine b × Continues told
         own_lasts facts first is_machine is_told own =
             let keeps = own.keeps in (
               subst (λ (x : Machine K V Q). IsOwnOf x b) (sym is_machine) (keeps.1, ap (λ (x : ℕ). x == 0) keeps.0 ∙ own.some, own.block ∙ ap (λ (x : ℕ). x / 2048) (sym keeps.0)),
-              subst (λ (x : Progress (Node K V)). GoesOn x) (sym is_told) (goes_on first.1 keeps.2),
+              subst (λ (x : Progress (Node K V)). Continues x) (sym is_told) (goes_on first.1 keeps.2),
             )
 
         key_lasts : Facts → HasSeen b w.memory (machine_plan asks same s.hash (kinds.Key u.call)) m2 (machine, told) → Lasts
@@ -118,7 +118,7 @@ module _ {K Q : Type 0} (V : Type 0) (same : K → K → Bool) (asks : Q → K �
               | inr own ↦ inr (own_lasts facts first.0 (ap (λ (x : Machine K V Q × Progress (Node K V)). x.0) first.1) (ap (λ (x : Machine K V Q × Progress (Node K V)). x.1) first.1) own)
             ]
 
-        key_stands : Stands V same s.hash asks s.setting slot w s.chart its_seen i (OnKey u) → HasSeen b w.memory (machine_plan asks same s.hash (kinds.Key u.call)) m2 (machine, told)
+        key_stands : IsAtPoint V same s.hash asks s.setting slot w s.chart its_seen i (OnKey u) → HasSeen b w.memory (machine_plan asks same s.hash (kinds.Key u.call)) m2 (machine, told)
             → Lasts
         key_stands (inl (rests, knows)) saw = elim knows.facts as (λ _. Lasts) [
           | inl facts ↦ key_lasts facts saw
@@ -126,7 +126,7 @@ module _ {K Q : Type 0} (V : Type 0) (same : K → K → Bool) (asks : Q → K �
         ]
         key_stands (inr (row, is_row, knows)) saw = absurd (none is_row)
 
-      room_held : (r : CallForRoom) → (IsRowOfReserve r.reserve.stands → ⊥) → Stands V same s.hash asks s.setting slot w s.chart its_seen i (ForRoom r)
+      room_held : (r : CallForRoom) → (IsRowOfReserve r.reserve.stands → ⊥) → IsAtPoint V same s.hash asks s.setting slot w s.chart its_seen i (ForRoom r)
           → HasSeen b w.memory (machine_plan asks same s.hash (kinds.Reserve r.reserve)) m2 (machine, told) → holds (slot i) b w.log ≡ true
       room_held r none (inl (rests, knows)) saw =
           let first = seen_as machines.reserved b w.memory (reserve_plan s.hash r.reserve) m2 (machine, told) saw in
@@ -136,7 +136,7 @@ module _ {K Q : Type 0} (V : Type 0) (same : K → K → Bool) (asks : Q → K �
           ]
       room_held r none (inr (row, is_row, knows)) saw = absurd (none is_row)
 
-      sweep_held : (o : CallOverAll) → (IsRowOfSweep o.sweep.stands → ⊥) → Stands V same s.hash asks s.setting slot w s.chart its_seen i (OverAll o)
+      sweep_held : (o : CallOverAll) → (IsRowOfSweep o.sweep.stands → ⊥) → IsAtPoint V same s.hash asks s.setting slot w s.chart its_seen i (OverAll o)
           → HasSeen b w.memory (machine_plan asks same s.hash (kinds.Sweep o.sweep)) m2 (machine, told) → holds (slot i) b w.log ≡ true
       sweep_held o none (inl (rests, knows)) saw =
           let first = seen_as machines.swept b w.memory (sweep_plan s.hash o.sweep) m2 (machine, told) saw in

@@ -10,7 +10,7 @@ use Rattle.many_calls.proofs.Given.SeizeAloneHistories.Further.{none_behind}
 use Rattle.many_calls.specs.Given.TablesNodes.{deferred_word}
 use Rattle.many_calls.specs.Given.TablesDeclared.node.Node.{Node}
 use Rattle.many_calls.specs.Given.TablesDeclared.node.Node.TheVariants as node
-use Rattle.many_calls.specs.Given.RuleInWorld.{IsHeldBy, KeepsBlocks}
+use Rattle.many_calls.specs.Given.RuleInWorld.{IsHeldBy, PreservesBlocks}
 use Rattle.many_calls.specs.Kept.{IsMaking}
 use Rattle.many_calls.specs.Together.{CameAbout}
 use Rattle.many_calls.proofs.Rows.Behind.{behind_handed}
@@ -171,7 +171,7 @@ module _ {K V : Type 0} (same : K → K → Bool) (batch_size : ℕ) (w : World 
         same_value e = cc e
 
     -- each holder keeps what it has
-    pub keeps_all : (j : ℕ) → KeepsBlocks j w.memory w.hand w2.memory w2.hand
+    pub keeps_all : (j : ℕ) → PreservesBlocks j w.memory w.hand w2.memory w2.hand
     keeps_all j = record {
       blocks = λ b value is unlike held. let k = as_before b (held_apart w i f b j held (not_shards b value is unlike)) in (k.hand, k.value ∙ is);
       words = λ b field value is unlike making. (as_before b (held_apart w i f b j (subst (IsHeldBy j) (sym making) refl) (not_shards b value is unlike))).words field;

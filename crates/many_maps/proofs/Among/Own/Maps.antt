@@ -10,7 +10,7 @@ use Rattle.many_calls.specs.Given.RuleWords.{Blocks}
 use Rattle.many_calls.specs.Given.RuleInWorld.{IsOut, IsKnownBlock}
 use Rattle.many_calls.specs.Given.PointsSteps.{AreLawful}
 use Rattle.many_calls.specs.Kept.{IsUsersOwn, IsKeptBy}
-use Rattle.many_calls.specs.Sights.{Sight}
+use Rattle.many_calls.specs.Sights.{Visible}
 use Rattle.many_calls.specs.Together.{UnderWay, CameAbout, Together}
 use Rattle.many_maps.proofs.Beside.Maps.Left.{IsLeft, Leaves, left_spared}
 use Rattle.many_maps.proofs.Beside.Maps.OtherSteps.{making_not_out, known_out, known_owner}
@@ -27,7 +27,7 @@ module _ {K V : Type 0} (same : K → K → Bool) (batch_size : ℕ) (w : World 
   kept_then b k (inr (s, inside, held)) = inr (s, subst (λ (u : ℕ → Use). IsInside (u s)) (sym did.spares.uses) inside, k.held s ∙ held)
 
   module _ {Q : Type 0} (hash : K → ℕ) (asks : Q → K → Bool) (setting : Setting) (slot : ℕ → ℕ) (lawful : AreLawful same hash) (size : setting.batch_size ≡ batch_size)
-      (c : Chart K) (blocks : Blocks) (sights : ℕ → Sight) (calls : ℕ → Option (UnderWay K V Q)) (s : Together V same hash asks setting slot w c blocks sights calls)
+      (c : Chart K) (blocks : Blocks) (sights : ℕ → Visible) (calls : ℕ → Option (UnderWay K V Q)) (s : Together V same hash asks setting slot w c blocks sights calls)
       (roots : f.setting.root ≢ setting.root) (counters : HasCounter f → f.setting.counter ≢ setting.counter) where
     -- a block of the map is apart
     known_apart : (b : ℕ) → IsKnownBlock c blocks b → IsApart w i f b

@@ -19,8 +19,8 @@ use Rattle.many_maps.specs.Makings.{Beginning}
 use Rattle.many_maps.specs.Maps.{Standing}
 use Rattle.many_calls.specs.Together.{UnderWay}
 use Rattle.many_calls.proofs.Together.Came.{came_reached, came_on}
-use Rattle.many_maps.specs.Endings.{IsDoneTo, Finishing, HasCounter, FinishingFacts, HasFinished, EndingsTogether, FinishingTold, EndingsStand, waiting_by}
-use Rattle.many_maps.specs.FactsEnds.{Deed, Looks, TakesPair, LeavesTable, JoinsPair, TakesLeft, TakesCounter, WritesRoot, events_of, RootIs, RootAt, EndingFacts, EndFacts, HasEnded, EndTold, EndWent, back_of, from_table, wait_before}
+use Rattle.many_maps.specs.Endings.{IsDoneTo, Finishing, HasCounter, FinishingFacts, HasFinished, EndingsTogether, FinishingOutcome, EndingsStand, waiting_by}
+use Rattle.many_maps.specs.FactsEnds.{Deed, Looks, TakesPair, LeavesTable, JoinsPair, TakesLeft, TakesCounter, WritesRoot, events_of, RootIs, RootAt, EndingFacts, EndFacts, HasEnded, EndOutcome, EndStepSpec, back_of, from_table, wait_before}
 use Rattle.many_maps.specs.Orders.{pairs_of}
 use Rattle.many_maps.proofs.Among.Own.Apart.{DoesNew, DoesIts, Did}
 use Rattle.many_maps.proofs.Among.Own.Makings.{IsRoot}
@@ -186,7 +186,7 @@ module _ {K Q : Type 0} (V : Type 0) (same : K → K → Bool) (asks : Q → K �
 module _ {K Q : Type 0} (V : Type 0) (same : K → K → Bool) (asks : Q → K → Bool) (batch_size roots : ℕ) (slot : ℕ → ℕ) where
   module _ (w : World (Node K V)) (maps : ℕ → Option (Standing K)) (calls : ℕ → ℕ → Option (UnderWay K V Q)) (makers : ℕ → Option (Beginning K)) (enders : ℕ → Option (Finishing K V))
       (all : EndingsTogether V same asks batch_size roots slot w maps calls makers enders) (i : ℕ) (f : Finishing K V) (is : enders i ≡ Some f) (m2 : Mem (Node K V)) (end : EndMap × Settled (Node K V))
-      (went : EndWent f.setting f.chart f.blocks (all.facts i f is).lists false i f.hash f.began w (all.facts i f is).past f.back m2 end) where
+      (went : EndStepSpec f.setting f.chart f.blocks (all.facts i f is).lists false i f.hash f.began w (all.facts i f is).past f.back m2 end) where
     its_runs : Runs deferred_word batch_size (events_of i went.deed) w went.w2
     its_runs = subst (λ (n : ℕ). Runs deferred_word n (events_of i went.deed) w went.w2) (all.facts i f is).batches went.runs
 
@@ -215,8 +215,8 @@ module _ {K Q : Type 0} (V : Type 0) (same : K → K → Bool) (asks : Q → K �
           same_end : (x y : Finishing K V) → ◌≡◌ {A = Option (Finishing K V)} (Some x) (Some y) → x ≡ y
           same_end x y e = cc e
 
-    told_at : (end : EndMap × Settled (Node K V)) → EndTold f.setting f.chart f.blocks (all.facts i f is).lists false i f.hash f.began w went.w2 went.deed went.past2 f.back end
-        → FinishingTold V same asks batch_size roots slot w maps calls makers enders i f went.w2 went.deed end
+    told_at : (end : EndMap × Settled (Node K V)) → EndOutcome f.setting f.chart f.blocks (all.facts i f is).lists false i f.hash f.began w went.w2 went.deed went.past2 f.back end
+        → FinishingOutcome V same asks batch_size roots slot w maps calls makers enders i f went.w2 went.deed end
     told_at (e, settled.Goes) (none, h) = (none, goes_on e f.back h (λ counter. counter))
     told_at (e, settled.Waits) h = h
     told_at (e, settled.Gave value) (b, taken, there, h) = (b, there, taken, goes_on e (f.back ++ b ∷ []) h (λ counter. (none_before f.setting.counter b f.back counter).0))

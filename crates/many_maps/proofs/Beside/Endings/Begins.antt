@@ -13,7 +13,7 @@ use Rattle.many_calls.proofs.Given.RuleWorld.OthersSpared.{keeps_same}
 use Rattle.many_calls.specs.Given.PointsSteps.{AreLawful}
 use Rattle.many_maps.specs.Makings.{Beginning, MakingsTogether}
 use Rattle.many_maps.specs.Maps.{Standing, MapsTogether}
-use Rattle.many_calls.specs.Sights.{Sight}
+use Rattle.many_calls.specs.Sights.{Visible}
 use Rattle.many_calls.specs.Together.{UnderWay, CameAbout, Together}
 use Rattle.many_maps.proofs.Beside.Makings.Beside.{makings_on}
 use Rattle.many_maps.proofs.Beside.Makings.RowSteps.{left_untouched}
@@ -23,7 +23,7 @@ use Rattle.many_calls.proofs.Together.At.{at_other, at_same}
 use Rattle.many_calls.proofs.Together.Came.{came_next}
 
 module _ {K V Q : Type 0} (same : K → K → Bool) (hash : K → ℕ) (asks : Q → K → Bool) (setting : Setting) (slot : ℕ → ℕ) (lawful : AreLawful same hash)
-    (w : World (Node K V)) (c : Chart K) (blocks : Blocks) (sights : ℕ → Sight) (calls : ℕ → Option (UnderWay K V Q)) (s : Together V same hash asks setting slot w c blocks sights calls)
+    (w : World (Node K V)) (c : Chart K) (blocks : Blocks) (sights : ℕ → Visible) (calls : ℕ → Option (UnderWay K V Q)) (s : Together V same hash asks setting slot w c blocks sights calls)
     (o : ℕ) (came : CameAbout setting.batch_size (with_effect w (Ended o))) where
   spared : Spared setting w c blocks calls same hash (with_effect w (Ended o))
   spared = record {

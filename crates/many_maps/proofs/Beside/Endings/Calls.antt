@@ -14,7 +14,7 @@ use Rattle.many_calls.specs.Given.TablesDeclared.setting.Setting.{Setting}
 use Rattle.many_calls.specs.Given.RuleBeside.{KeptBeside}
 use Rattle.many_calls.specs.Given.RuleChart.{Chart}
 use Rattle.many_calls.specs.Given.RuleWords.{Blocks}
-use Rattle.many_calls.specs.Given.RuleInWorld.{IsOut, IsKnownBlock, IsIts, InFootprint, Went}
+use Rattle.many_calls.specs.Given.RuleInWorld.{IsOut, IsKnownBlock, IsIts, InFootprint, StepSpec}
 use Rattle.many_calls.proofs.Given.RuleWorld.BesideKept.{steps_spare_others}
 use Rattle.many_calls.proofs.Given.RuleWorld.WentTold.{went_as}
 use Rattle.many_calls.specs.Kept.{IsMaking}
@@ -26,7 +26,7 @@ use Rattle.many_calls.proofs.Together.Came.{came_reached, came_on}
 use Rattle.many_calls.proofs.Together.Users.{events_rows}
 
 module _ {K V : Type 0} (same : K → K → Bool) (hash : K → ℕ) (other : Setting) (i : ℕ) (w : World (Node K V)) (c : Chart K) (blocks : Blocks)
-    (m2 : Mem (Node K V)) (Told : World (Node K V) → Chart K → Blocks → Type 0) (went : Went same hash other i w c blocks m2 Told) (came : CameAbout other.batch_size w)
+    (m2 : Mem (Node K V)) (Told : World (Node K V) → Chart K → Blocks → Type 0) (went : StepSpec same hash other i w c blocks m2 Told) (came : CameAbout other.batch_size w)
     (its_counter : IsMaking (w.hand other.counter)) (its_out : (b : ℕ) → IsKnownBlock c blocks b → IsOut (w.hand b)) (its_own : (b : ℕ) → IsKnownBlock c blocks b → owner_of b w.log ≡ other.counter)
     (owner root ender : ℕ) (counters : owner ≢ other.counter) (roots : root ≢ other.root) where
   -- such a block is none of the step

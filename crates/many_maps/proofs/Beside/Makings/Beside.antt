@@ -6,7 +6,7 @@ use Rattle.many_calls.specs.Given.SeizeWordsMem.{word_at}
 use Rattle.many_calls.specs.Given.SeizeWorld.{World}
 use Rattle.many_calls.specs.Given.TablesDeclared.node.Node.{Node}
 use Rattle.many_calls.specs.Given.TablesDeclared.setting.Setting.{Setting}
-use Rattle.many_calls.specs.Given.RuleInWorld.{KeepsBlocks}
+use Rattle.many_calls.specs.Given.RuleInWorld.{PreservesBlocks}
 use Rattle.many_maps.specs.Makings.{Beginning, HasTaken, HasMade, HasRoots, HasOwnCounter, MakingsTogether}
 use Rattle.many_maps.specs.Maps.{Standing, MapsTogether}
 use Rattle.many_calls.specs.Together.{UnderWay}
@@ -22,7 +22,7 @@ module _ {K Q : Type 0} (V : Type 0) (same : K → K → Bool) (asks : Q → K �
     pub record LeavesMakings (w2 : World (Node K V)) : Type 0 where
       pub used : (r word : ℕ) → word_at w.memory (Used r) ≡ Some word → word_at w2.memory (Used r) ≡ Some word
       pub root : (r word : ℕ) → word_at w.memory (Root r) ≡ Some word → (IsMapsRoot r → ⊥) → word_at w2.memory (Root r) ≡ Some word
-      pub own : (j : ℕ) (b : Beginning K) → makers j ≡ Some b → KeepsBlocks j w.memory w.hand w2.memory w2.hand
+      pub own : (j : ℕ) (b : Beginning K) → makers j ≡ Some b → PreservesBlocks j w.memory w.hand w2.memory w2.hand
       pub counter : (j : ℕ) (b : Beginning K) → makers j ≡ Some b → HasMade b.machine.stands → HasOwnCounter w j b.machine.setting → HasOwnCounter w2 j b.machine.setting
 
   module _ (w : World (Node K V)) (maps : ℕ → Option (Standing K)) (calls : ℕ → ℕ → Option (UnderWay K V Q)) (makers : ℕ → Option (Beginning K))

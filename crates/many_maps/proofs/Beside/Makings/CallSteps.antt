@@ -11,12 +11,12 @@ use Rattle.many_calls.specs.Given.TablesDeclared.setting.Setting.{Setting}
 use Rattle.many_calls.specs.Given.RuleBeside.{KeptBeside}
 use Rattle.many_calls.specs.Given.RuleChart.{Chart}
 use Rattle.many_calls.specs.Given.RuleWords.{Blocks}
-use Rattle.many_calls.specs.Given.RuleInWorld.{IsOut, IsKnownBlock, IsIts, InFootprint, Went}
+use Rattle.many_calls.specs.Given.RuleInWorld.{IsOut, IsKnownBlock, IsIts, InFootprint, StepSpec}
 use Rattle.many_calls.proofs.Given.RuleWorld.BesideKept.{steps_spare_others}
 use Rattle.many_calls.proofs.Given.RuleWorld.WentTold.{went_as}
-use Rattle.many_maps.specs.Makings.{Beginning, HasMade, HasOwnCounter, MakingsTogether, CallsStandBeside, RepliesStandBeside, CallsBeginBeside}
+use Rattle.many_maps.specs.Makings.{Beginning, HasMade, HasOwnCounter, MakingsTogether, CallsPreserveWithMakings, RepliesPreserveWithMakings, CallsBeginWithMakings}
 use Rattle.many_maps.specs.Maps.{Standing, with_call, MapsTogether}
-use Rattle.many_calls.specs.Sights.{Sight, seen_by}
+use Rattle.many_calls.specs.Sights.{Visible, seen_by}
 use Rattle.many_calls.specs.Together.{OnKey, UnderWay, in_slot}
 use Rattle.many_maps.proofs.Beside.Makings.Beside.{LeavesMakings, makings_on}
 use Rattle.many_maps.proofs.Beside.Makings.Lasts.{counter_on}
@@ -68,7 +68,7 @@ module _ {K Q : Type 0} (V : Type 0) (same : K → K → Bool) (asks : Q → K �
     its = in_slot s.setting (slot i)
 
     module _ (in_it : IsInside (w.uses (slot i))) (m2 : Mem (Node K V)) (Told : World (Node K V) → Chart K → Blocks → Type 0)
-        (went : Went same s.hash (in_slot s.setting (slot i)) i w s.chart (seen_by s.blocks (s.sights (slot i))) m2 Told) where
+        (went : StepSpec same s.hash (in_slot s.setting (slot i)) i w s.chart (seen_by s.blocks (s.sights (slot i))) m2 Told) where
       word_stays : (at : At) (word : ℕ) → word_at w.memory at ≡ Some word → (InFootprint its i w s.chart seen at → ⊥) → word_at went.w2.memory at ≡ Some word
       word_stays at word is apart = ap (λ (x : Mem (Node K V)). word_at x at) went.memory ∙ went.frame.words at word is apart
 
@@ -102,7 +102,7 @@ module _ {K Q : Type 0} (V : Type 0) (same : K → K → Bool) (asks : Q → K �
       }
 
     -- what the step leads to
-    module _ (c2 : Chart K) (blocks2 : Blocks) (sights2 : ℕ → Sight) where
+    module _ (c2 : Chart K) (blocks2 : Blocks) (sights2 : ℕ → Visible) where
       abbrev after : Standing K
       after = record s { chart = c2; blocks = blocks2; sights = sights2 }
 
@@ -113,7 +113,7 @@ module _ {K Q : Type 0} (V : Type 0) (same : K → K → Bool) (asks : Q → K �
       nones n none = at_other maps m (Some after) n (λ e. absurd (let at = ap maps (sym e) ∙ none in cc (at, here))) ∙ none
 
 module _ {K Q : Type 0} (V : Type 0) (same : K → K → Bool) (asks : Q → K → Bool) (batch_size roots : ℕ) (slot : ℕ → ℕ) where
-  pub calls_stand_beside : CallsStandBeside V same asks batch_size roots slot
+  pub calls_stand_beside : CallsPreserveWithMakings V same asks batch_size roots slot
   calls_stand_beside w maps calls makers all m s here i u has none =
       let leads = calls_stand_in_maps V same asks batch_size slot w maps calls all.standing m s here i u has none in (
         leads.0,
@@ -129,7 +129,7 @@ module _ {K Q : Type 0} (V : Type 0) (same : K → K → Bool) (asks : Q → K �
             },
       )
 
-  pub replies_stand_beside : RepliesStandBeside V same asks batch_size roots slot
+  pub replies_stand_beside : RepliesPreserveWithMakings V same asks batch_size roots slot
   replies_stand_beside w maps calls makers all m s here i u has asks_at asks_it =
       let taken = replies_stand_in_maps V same asks batch_size slot w maps calls all.standing m s here i u has asks_at asks_it in (
         taken.0,
@@ -139,7 +139,7 @@ module _ {K Q : Type 0} (V : Type 0) (same : K → K → Bool) (asks : Q → K �
             makings_with_call V same asks batch_size roots slot w maps calls makers all m i _ (no_maker V same asks batch_size roots slot w maps calls makers all m i (OnKey u) has) (taken.3 about is reply),
       )
 
-  pub calls_begin_beside : CallsBeginBeside V same asks batch_size roots slot
+  pub calls_begin_beside : CallsBeginWithMakings V same asks batch_size roots slot
   calls_begin_beside w maps calls makers all i free alone rests inside m s here few keys pair call begun =
       makings_with_call V same asks batch_size roots slot w maps calls makers all m i _ (λ j b makes e. (let none = ap makers (sym e) ∙ makes in cc (none, free)))
       (calls_begin_in_maps V same asks batch_size slot w maps calls all.standing i alone rests inside m s here few keys pair call begun)

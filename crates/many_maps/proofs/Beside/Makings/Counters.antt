@@ -29,7 +29,7 @@ use Rattle.many_calls.specs.Given.RuleInWorld.{IsOut}
 use Rattle.many_calls.specs.Given.RuleRule.{no_table}
 use Rattle.many_calls.proofs.Given.PointsMaking.OwnTables.{zero_at}
 use Rattle.many_calls.specs.Kept.{IsMaking}
-use Rattle.many_maps.specs.Makings.{Beginning, HasTaken, HasMade, HasRoots, HasOwnCounter, OpeningFacts, MakingFacts, KeepsIts}
+use Rattle.many_maps.specs.Makings.{Beginning, HasTaken, HasMade, HasRoots, HasOwnCounter, OpeningFacts, MakingFacts, PreservesItsOwn}
 use Rattle.many_maps.specs.Maps.{new_map}
 use Rattle.many_calls.specs.Together.{CameAbout, no_blocks}
 use Rattle.many_calls.proofs.Given.LateRooms.Making.FirstBegins.{first_table_begins}
@@ -135,10 +135,10 @@ module _ {K Q : Type 0} (V : Type 0) (same : K → K → Bool) (asks : Q → K �
             λ has. inr (ap value_in is.0.0),
           )
 
-      shards_keep : KeepsIts V same asks batch_size roots slot w w2 b.machine (with_shards begun)
+      shards_keep : PreservesItsOwn V same asks batch_size roots slot w w2 b.machine (with_shards begun)
       shards_keep = by (b.machine.len == 0)
         where
-          by : (q : Bool) → KeepsIts V same asks batch_size roots slot w w2 b.machine (if q then done begun else goes begun (at.Tables (first_table (with_counter b.machine.setting x) b.machine.len)))
+          by : (q : Bool) → PreservesItsOwn V same asks batch_size roots slot w w2 b.machine (if q then done begun else goes begun (at.Tables (first_table (with_counter b.machine.setting x) b.machine.len)))
           by true = (λ has. refl, λ has. absurd (subst HasMade here has))
           by false = (λ has. (tt, refl), λ has. absurd (subst HasMade here has))
 
@@ -152,7 +152,7 @@ module _ {K Q : Type 0} (V : Type 0) (same : K → K → Bool) (asks : Q → K �
             w2 = w2 d.0 d.1;
             memory = sym d.2;
             left = left d.0 d.1;
-            keeps = subst (KeepsIts V same asks batch_size roots slot w (w2 d.0 d.1) b.machine) (sym d.3) (shards_keep d.0 d.1);
+            keeps = subst (PreservesItsOwn V same asks batch_size roots slot w (w2 d.0 d.1) b.machine) (sym d.3) (shards_keep d.0 d.1);
             unused = λ r is. inl is;
             links = λ y out. inl (not_new d.0 y out);
             told = subst (Told (w2 d.0 d.1)) (sym d.3) (shards_told d.0 d.1);
@@ -215,7 +215,7 @@ module _ {K Q : Type 0} (V : Type 0) (same : K → K → Bool) (asks : Q → K �
           w2 = gone;
           memory = sym d.2;
           left = left_gone;
-          keeps = subst (KeepsIts V same asks batch_size roots slot w gone b.machine) (sym d.3) (λ has. (tt, refl), λ has. inr taken_away);
+          keeps = subst (PreservesItsOwn V same asks batch_size roots slot w gone b.machine) (sym d.3) (λ has. (tt, refl), λ has. inr taken_away);
           unused = λ r is. inl is;
           links = λ y out. inl (at_cases (λ (h : Hand). IsOut h → IsOut (w.hand y)) w.hand x NoBlock y (λ e none. absurd none) (λ ne is. is) out);
           told = subst (Told gone) (sym d.3) (

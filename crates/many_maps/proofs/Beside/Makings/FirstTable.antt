@@ -24,7 +24,7 @@ use Rattle.many_calls.specs.Given.PointsFactsCopies.{HasDone, ClaimsNone}
 use Rattle.many_calls.specs.Given.PointsFactsCopiesBlocking.{HasNoShares}
 use Rattle.many_calls.specs.Claims.{AreFew, ClaimsFit}
 use Rattle.many_calls.specs.Kept.{IsUsersOwn, IsMaking, IsKeptBy, IsWithin}
-use Rattle.many_calls.specs.Sights.{SeesSources, IsSight}
+use Rattle.many_calls.specs.Sights.{SourcesAreVisible, IsVisibility}
 use Rattle.many_calls.specs.Together.{UnderWay, HasCall, ToClaim, CameAbout, in_slot, Together}
 use Rattle.many_calls.proofs.Rows.Defers.{used_stands}
 use Rattle.many_calls.proofs.Together.Came.{came_reached}
@@ -60,10 +60,10 @@ module _ {K V Q : Type 0} (same : K → K → Bool) (hash : K → ℕ) (asks : Q
     kept : IsKeptBy w (blocks.table 0)
     kept = inl (inl (subst IsUsersOwn (sym used) tt))
 
-    sources : SeesSources first blocks.table_known
+    sources : SourcesAreVisible first blocks.table_known
     sources = at_first (λ t. blocks.table_known t ≡ true → first.status t ≡ ABORTED → blocks.table_known (first.from t) ≡ true) (λ known aborted. known)
 
-    sight : IsSight first blocks (record { tables = blocks.table_known; pairs = blocks.pair_known })
+    sight : IsVisibility first blocks (record { tables = blocks.table_known; pairs = blocks.pair_known })
     sight = record {
       tables = λ t made known. known;
       pairs = λ n was known. known;

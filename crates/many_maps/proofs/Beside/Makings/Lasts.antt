@@ -13,7 +13,7 @@ use Rattle.many_calls.specs.Given.ResizeDeclared.new_map.Opening.TheVariants as 
 use Rattle.many_calls.specs.Given.ResizeDeclared.new_table.NewTable.{NewTable}
 use Rattle.many_calls.specs.Given.ResizeDeclared.new_table.Making.{Making as Point}
 use Rattle.many_calls.specs.Given.ResizeDeclared.new_table.Making.TheVariants as makes
-use Rattle.many_calls.specs.Given.RuleInWorld.{KeepsBlocks}
+use Rattle.many_calls.specs.Given.RuleInWorld.{PreservesBlocks}
 use Rattle.many_calls.specs.Given.RuleMaps.{spot_of}
 use Rattle.many_calls.specs.Given.RuleRule.{no_table}
 use Rattle.many_calls.proofs.Given.RuleHistory.LeavingOn.{leaves_same}
@@ -28,11 +28,11 @@ module _ {K V : Type 0} (same : K → K → Bool) (j : ℕ) (w w2 : World (Node 
   pub record IsLeftTo (n : NewMap) : Type 0 where
     pub used : HasTaken n.stands → word_at w.memory (Used n.setting.root) ≡ Some 1 → word_at w2.memory (Used n.setting.root) ≡ Some 1
     pub root : HasTaken n.stands → word_at w.memory (Root n.setting.root) ≡ Some 0 → word_at w2.memory (Root n.setting.root) ≡ Some 0
-    pub own : KeepsBlocks j w.memory w.hand w2.memory w2.hand
+    pub own : PreservesBlocks j w.memory w.hand w2.memory w2.hand
     pub counter : HasMade n.stands → HasOwnCounter w j n.setting → HasOwnCounter w2 j n.setting
 
   -- the making of its table: no other table is there
-  module _ (hash : K → ℕ) (setting : Setting) (own : KeepsBlocks j w.memory w.hand w2.memory w2.hand) where
+  module _ (hash : K → ℕ) (setting : Setting) (own : PreservesBlocks j w.memory w.hand w2.memory w2.hand) where
     others : OthersStep same hash setting j w no_table no_blocks w2 no_table no_blocks
     others = record {
       leaves = leaves_same same (spot_of hash) (is_incremental setting.mode) j no_table;

@@ -11,7 +11,7 @@ use Rattle.many_calls.specs.Given.TablesNodes.{deferred_word}
 use Rattle.many_calls.specs.Given.TablesDeclared.node.Node.{Node}
 use Rattle.many_calls.specs.Given.TablesDeclared.node.Node.TheVariants as node
 use Rattle.many_calls.specs.Given.ResizeDeclared.new_map.NewMap.{NewMap}
-use Rattle.many_calls.specs.Given.RuleInWorld.{AllUsers, KeepsBlocks}
+use Rattle.many_calls.specs.Given.RuleInWorld.{AllUsers, PreservesBlocks}
 use Rattle.many_calls.specs.Kept.{IsUsersOwn, IsKeptBy}
 use Rattle.many_maps.specs.Makings.{HasTaken, HasMade, HasRoots}
 use Rattle.many_calls.specs.Together.{CameAbout}
@@ -49,7 +49,7 @@ module _ {K V : Type 0} (i : ℕ) (n : NewMap) (w : World (Node K V)) where
       pub root : (r word : ℕ) → word_at w.memory (Root r) ≡ Some word → (IsItsRoot r → ⊥) → word_at w2.memory (Root r) ≡ Some word
       pub used : (r : ℕ) → word_at w.memory (Used r) ≡ Some 1 → (IsItsRoot r → ⊥) → word_at w2.memory (Used r) ≡ Some 1
       pub free : HasRoots w2 roots
-      pub own : (j : ℕ) → j ≢ i → KeepsBlocks j w.memory w.hand w2.memory w2.hand
+      pub own : (j : ℕ) → j ≢ i → PreservesBlocks j w.memory w.hand w2.memory w2.hand
 
 -- what follows of sections, of rows, and of what is kept
 module _ {K V : Type 0} (size roots i : ℕ) (n : NewMap) (w w2 : World (Node K V)) (came : CameAbout size w) (left : LeavesOthers i n w w2 size roots) where

@@ -12,7 +12,7 @@ use Rattle.many_calls.specs.Given.RuleWords.{Blocks}
 use Rattle.many_calls.specs.Given.RuleInWorld.{IsOut, IsKnownBlock}
 use Rattle.many_calls.specs.Given.PointsSteps.{AreLawful}
 use Rattle.many_maps.specs.Makings.{HasMade}
-use Rattle.many_calls.specs.Sights.{Sight}
+use Rattle.many_calls.specs.Sights.{Visible}
 use Rattle.many_calls.specs.Together.{UnderWay, Together}
 use Rattle.many_maps.proofs.Beside.Makings.Leaves.{IsItsBlock, IsItsRoot, IsAsItWas, LeavesOthers, came_then, rows_same, still_inside, was_inside, goes_on_holding, kept_then}
 use Rattle.many_maps.proofs.Beside.Maps.Left.{Leaves, left_spared}
@@ -22,7 +22,7 @@ use Rattle.many_calls.proofs.Rows.Behind.{events_back}
 use Rattle.many_calls.proofs.Together.Came.{came_reached}
 
 module _ {K V Q : Type 0} (same : K → K → Bool) (hash : K → ℕ) (asks : Q → K → Bool) (setting : Setting) (slot : ℕ → ℕ) (lawful : AreLawful same hash)
-    (w : World (Node K V)) (c : Chart K) (blocks : Blocks) (sights : ℕ → Sight) (calls : ℕ → Option (UnderWay K V Q)) (s : Together V same hash asks setting slot w c blocks sights calls)
+    (w : World (Node K V)) (c : Chart K) (blocks : Blocks) (sights : ℕ → Visible) (calls : ℕ → Option (UnderWay K V Q)) (s : Together V same hash asks setting slot w c blocks sights calls)
     (roots i : ℕ) (n : NewMap) (none : calls i ≡ None) (w2 : World (Node K V)) (left : LeavesOthers i n w w2 setting.batch_size roots)
     (root : IsItsRoot i n w setting.root → ⊥) (counter : HasMade n.stands → n.setting.counter ≢ setting.counter) where
   not_its : (b : ℕ) → IsKnownBlock c blocks b → IsItsBlock i n w b → ⊥

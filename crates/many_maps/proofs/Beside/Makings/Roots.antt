@@ -21,7 +21,7 @@ use Rattle.many_calls.specs.Given.ResizeDeclared.new_map.NewMap.{NewMap}
 use Rattle.many_calls.specs.Given.ResizeDeclared.new_map.Opening.{Opening}
 use Rattle.many_calls.specs.Given.ResizeDeclared.new_map.Opening.TheVariants as at
 use Rattle.many_calls.proofs.Given.RuleWorld.OthersSpared.{keeps_written}
-use Rattle.many_maps.specs.Makings.{Beginning, HasTaken, HasMade, HasRoots, OpeningFacts, MakingFacts, KeepsIts, HasComeTo}
+use Rattle.many_maps.specs.Makings.{Beginning, HasTaken, HasMade, HasRoots, OpeningFacts, MakingFacts, PreservesItsOwn, HasComeTo}
 use Rattle.many_maps.proofs.Beside.Makings.Leaves.{IsItsRoot, LeavesOthers}
 use Rattle.many_maps.proofs.Beside.Makings.Went.{GoesTo, MakingWent, facts_at, still}
 use Rattle.many_calls.proofs.Given.General.{some_is as is_some_of}
@@ -105,10 +105,10 @@ module _ {K Q : Type 0} (V : Type 0) (same : K → K → Bool) (asks : Q → K �
     not_made : HasMade b.machine.stands → ⊥
     not_made made = subst HasMade here made
 
-    next_keeps : KeepsIts V same asks batch_size roots slot w w b.machine (next_root b.machine)
+    next_keeps : PreservesItsOwn V same asks batch_size roots slot w w b.machine (next_root b.machine)
     next_keeps = by (nat_lt root (b.machine.roots - 1))
       where
-        by : (q : Bool) → KeepsIts V same asks batch_size roots slot w w b.machine
+        by : (q : Bool) → PreservesItsOwn V same asks batch_size roots slot w w b.machine
             (if q then (record b.machine { setting = at_root b.machine.setting (b.machine.setting.root + 1) }, progress.Goes) else refused b.machine RootsUsedUp)
         by true = (λ has. absurd (not_taken has), λ made. absurd (not_made made))
         by false = (λ has. absurd (not_taken has), λ made. absurd (not_made made), λ none. refl)
@@ -123,7 +123,7 @@ module _ {K Q : Type 0} (V : Type 0) (same : K → K → Bool) (asks : Q → K �
             w2 = written 1 there;
             memory = sym d.2;
             left = left_written 1 there (Exchange (Used root) 0 1) (Exchanged (Ok d.0)) tt (d.1, refl) (λ e. absurd (omega (arith, e))) (λ was other. refl);
-            keeps = subst (KeepsIts V same asks batch_size roots slot w (written 1 there) b.machine) (sym d.3) (λ has. absurd (not_taken has), λ made. absurd (not_made made));
+            keeps = subst (PreservesItsOwn V same asks batch_size roots slot w (written 1 there) b.machine) (sym d.3) (λ has. absurd (not_taken has), λ made. absurd (not_made made));
             unused = λ r is. (elim (cases_eq r b.machine.setting.root) as (λ _. (word_at (written 1 there).memory (Used r) ≡ Some 0) ⊎ HasComeTo {Q = Q} V same asks batch_size roots slot end r) [
               | inl e ↦ inr (subst (λ (x : NewMap × Advance Setting). HasComeTo {Q = Q} V same asks batch_size roots slot x r) (sym d.3) (tt, sym e))
               | inr ne ↦ inl (used_kept 1 there r ne ∙ is)
@@ -153,7 +153,7 @@ module _ {K Q : Type 0} (V : Type 0) (same : K → K → Bool) (asks : Q → K �
           w2 = written 0 taken_there;
           memory = sym d.0;
           left = left_written 0 taken_there (Store (Used root) 0) Stored tt (tt, refl) (λ e. point.1) (λ was other. absurd (other (subst HasTaken (sym here) tt, refl)));
-          keeps = subst (KeepsIts V same asks batch_size roots slot w (written 0 taken_there) b.machine) (sym d.1)
+          keeps = subst (PreservesItsOwn V same asks batch_size roots slot w (written 0 taken_there) b.machine) (sym d.1)
               (λ has. (used_written 0 taken_there, point.1), λ made. absurd (subst HasMade here made), λ none. absurd (none (subst HasTaken (sym here) tt)));
           unused = λ r is. (elim (cases_eq r b.machine.setting.root) as (λ _. (word_at (written 0 taken_there).memory (Used r) ≡ Some 0) ⊎ HasComeTo {Q = Q} V same asks batch_size roots slot end r) [
             | inl e ↦ inl (subst (λ (x : ℕ). word_at (written 0 taken_there).memory (Used x) ≡ Some 0) (sym e) (used_written 0 taken_there))

@@ -9,11 +9,11 @@ use Rattle.many_calls.proofs.Given.SeizeAloneHistories.Reached.{Reached}
 use Rattle.many_calls.specs.Given.TablesNodes.{deferred_word}
 use Rattle.many_calls.specs.Given.TablesDeclared.node.Node.{Node}
 use Rattle.many_calls.specs.Given.TablesDeclared.setting.Setting.{Setting}
-use Rattle.many_calls.specs.Given.RuleInWorld.{IsHeldBy, KeepsBlocks}
+use Rattle.many_calls.specs.Given.RuleInWorld.{IsHeldBy, PreservesBlocks}
 use Rattle.many_calls.proofs.Given.RuleWorld.Hands.{hand_kept}
 use Rattle.many_calls.proofs.Given.RuleWorld.OthersSpared.{held_once, keeps_same, keeps_then, keeps_handed}
 use Rattle.many_calls.specs.Kept.{IsUsersOwn}
-use Rattle.many_maps.specs.Makings.{Beginning, HasOwnCounter, MakingsTogether, AllMakingsStand, RowsStandBeside, GuardsStandBeside}
+use Rattle.many_maps.specs.Makings.{Beginning, HasOwnCounter, MakingsTogether, AllMakingsStand, RowsPreserveWithMakings, GuardsPreserveWithMakings}
 use Rattle.many_maps.specs.Maps.{Standing, IsSameMap, AllMapsStand}
 use Rattle.many_calls.specs.Together.{OnKey, UnderWay, CameAbout, HandsOver, IsOneStep, IsOfSlots}
 use Rattle.many_maps.proofs.Beside.Makings.Beside.{LeavesMakings, makings_on}
@@ -62,12 +62,12 @@ module _ {K Q : Type 0} (V : Type 0) (same : K → K → Bool) (asks : Q → K �
     same_word : (P : Mem (Node K V) → Type 0) → P w.memory → P w2.memory
     same_word P h = subst P (sym memory) h
 
-    left_by : (hands : (j : ℕ) (b : Beginning K) → makers j ≡ Some b → KeepsBlocks j w.memory w.hand w.memory w2.hand)
+    left_by : (hands : (j : ℕ) (b : Beginning K) → makers j ≡ Some b → PreservesBlocks j w.memory w.hand w.memory w2.hand)
         → (counters : (j : ℕ) (b : Beginning K) → makers j ≡ Some b → HasOwnCounter w j b.machine.setting → w2.hand b.machine.setting.counter ≡ w.hand b.machine.setting.counter) → Left w w2
     left_by hands counters = record {
       used = λ r word is. same_word (λ m. word_at m (Used r) ≡ Some word) is;
       root = λ r word is apart. same_word (λ m. word_at m (Root r) ≡ Some word) is;
-      own = λ j b makes. same_word (λ m. KeepsBlocks j w.memory w.hand m w2.hand) (hands j b makes);
+      own = λ j b makes. same_word (λ m. PreservesBlocks j w.memory w.hand m w2.hand) (hands j b makes);
       counter = λ j b makes made h. counter_on same j w w2 b.machine.setting (ap (λ (m : Mem (Node K V)). value_at m b.machine.setting.counter) memory) (counters j b makes h)
           (λ field word is. same_word (λ m. word_at m (Word b.machine.setting.counter field) ≡ Some word) is) h;
     }
@@ -75,13 +75,13 @@ module _ {K Q : Type 0} (V : Type 0) (same : K → K → Bool) (asks : Q → K �
     -- none did
     pub left_untouched : w2.hand ≡ w.hand → Left w w2
     left_untouched hands =
-        left_by (λ j b makes. subst (λ (h : ℕ → Hand). KeepsBlocks j w.memory w.hand w.memory h) (sym hands) (keeps_same j w.memory w.hand)) (λ j b makes h. ap (λ (f : ℕ → Hand). f b.machine.setting.counter) hands)
+        left_by (λ j b makes. subst (λ (h : ℕ → Hand). PreservesBlocks j w.memory w.hand w.memory h) (sym hands) (keeps_same j w.memory w.hand)) (λ j b makes h. ap (λ (f : ℕ → Hand). f b.machine.setting.counter) hands)
 
     -- one that this caller has was handed to the collector
     left_handed : (i x : ℕ) → IsHeldBy i (w.hand x) → w2.hand ≡ with_at w.hand x Handed → ((j : ℕ) (b : Beginning K) → makers j ≡ Some b → j ≢ i) → Left w w2
     left_handed i x held hands other =
         left_by
-        (λ j b makes. subst (λ (h : ℕ → Hand). KeepsBlocks j w.memory w.hand w.memory h) (sym hands) (keeps_handed j w.memory w.hand x Handed (λ theirs. other j b makes (held_once j i (w.hand x) theirs held))))
+        (λ j b makes. subst (λ (h : ℕ → Hand). PreservesBlocks j w.memory w.hand w.memory h) (sym hands) (keeps_handed j w.memory w.hand x Handed (λ theirs. other j b makes (held_once j i (w.hand x) theirs held))))
         (λ j b makes h. ap (λ (f : ℕ → Hand). f b.machine.setting.counter) hands ∙ hand_kept w.hand x Handed (w.hand b.machine.setting.counter) b.machine.setting.counter (apart j b makes h) refl)
       where
         apart : (j : ℕ) (b : Beginning K) → makers j ≡ Some b → HasOwnCounter w j b.machine.setting → b.machine.setting.counter ≢ x
@@ -136,7 +136,7 @@ module _ {K Q : Type 0} (V : Type 0) (same : K → K → Bool) (asks : Q → K �
   )
 
 module _ {K Q : Type 0} (V : Type 0) (same : K → K → Bool) (asks : Q → K → Bool) (batch_size roots : ℕ) (slot : ℕ → ℕ) where
-  pub rows_stand_beside : RowsStandBeside V same asks batch_size roots slot
+  pub rows_stand_beside : RowsPreserveWithMakings V same asks batch_size roots slot
   rows_stand_beside w maps calls makers all m s here i u has is_row =
       let leads = rows_stand_in_maps V same asks batch_size slot w maps calls all.standing m s here i u has is_row in
       let other = no_maker V same asks batch_size roots slot w maps calls makers all m i (OnKey u) has in (
@@ -151,7 +151,7 @@ module _ {K Q : Type 0} (V : Type 0) (same : K → K → Bool) (asks : Q → K �
             },
       )
 
-  pub guards_stand_beside : GuardsStandBeside V same asks batch_size roots slot
+  pub guards_stand_beside : GuardsPreserveWithMakings V same asks batch_size roots slot
   guards_stand_beside w maps calls makers all i alone =
       let guards = guards_stand_in_maps V same asks batch_size slot w maps calls all.standing i alone in (
         λ request of apart w2 h. all_on V same asks batch_size roots slot w maps calls makers all w2 (slots_leave V same asks batch_size roots slot maps makers w w2 i request of h) calls all.alone (guards.0 request of apart w2 h),

@@ -14,7 +14,7 @@ use Rattle.many_calls.specs.Given.TablesDeclared.setting.Setting.{Setting}
 use Rattle.many_calls.specs.Given.ResizeDeclared.new_map.NewMap.{NewMap}
 use Rattle.many_calls.specs.Given.PointsSteps.{AreLawful}
 use Rattle.many_calls.specs.Given.RuleInWorld.{IsOut}
-use Rattle.many_maps.specs.Makings.{Beginning, HasTaken, HasMade, HasOwnCounter, MakingFacts, MakingsTogether, MakingTold, StepsOfMaking, LeavesRest}
+use Rattle.many_maps.specs.Makings.{Beginning, HasTaken, HasMade, HasOwnCounter, MakingFacts, MakingsTogether, MakingOutcome, StepsOfMaking, LeavesRest}
 use Rattle.many_maps.specs.Maps.{Standing, MapsTogether}
 use Rattle.many_calls.specs.Together.{UnderWay, CameAbout}
 use Rattle.many_maps.proofs.Beside.Makings.Lasts.{facts_last, taken_root, made_counter}
@@ -193,7 +193,7 @@ module _ {K Q : Type 0} (V : Type 0) (same : K → K → Bool) (asks : Q → K �
     (w : World (Node K V)) (maps : ℕ → Option (Standing K)) (calls : ℕ → ℕ → Option (UnderWay K V Q)) (makers : ℕ → Option (Beginning K))
     (all : MakingsTogether V same asks batch_size roots slot w maps calls makers) (i : ℕ) (b : Beginning K) (makes : makers i ≡ Some b) where
   pub told : (w2 : World (Node K V)) → LeavesOthers i b.machine w w2 batch_size roots → (end : NewMap × Advance Setting) → GoesTo V same asks batch_size roots slot w i b w2 end
-      → MakingTold V same asks batch_size roots slot w maps calls makers i b w2 end
+      → MakingOutcome V same asks batch_size roots slot w maps calls makers i b w2 end
   told w2 left (n, progress.Goes) t =
       goes_together V same asks batch_size roots slot w maps calls makers all i b makes w2 left (Some (record b { machine = n }))
       (λ d is. subst (λ (x : Beginning K). MakingFacts w2 same batch_size roots i x × (x.map ≡ b.map) × (HasTaken x.machine.stands → IsOwnRoot V same asks batch_size roots slot w i b x.machine.setting.root)

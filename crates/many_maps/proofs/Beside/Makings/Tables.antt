@@ -27,7 +27,7 @@ use Rattle.many_calls.specs.Given.ResizeDeclared.new_table.Making.{Making as Poi
 use Rattle.many_calls.specs.Given.ResizeDeclared.new_table.Making.TheVariants as makes
 use Rattle.many_calls.specs.Given.RuleBeside.{KeptBeside, IsBeside}
 use Rattle.many_calls.specs.Given.RuleChart.{Chart}
-use Rattle.many_calls.specs.Given.RuleInWorld.{IsOut, IsIts, IsKnownBlock, InFootprint, IsMapIn, Went}
+use Rattle.many_calls.specs.Given.RuleInWorld.{IsOut, IsIts, IsKnownBlock, InFootprint, IsMapIn, StepSpec}
 use Rattle.many_calls.specs.Given.RuleMaps.{spot_of}
 use Rattle.many_calls.specs.Given.RuleMoments.{Moments}
 use Rattle.many_calls.specs.Given.RuleMoves.{Links, after}
@@ -38,11 +38,11 @@ use Rattle.many_calls.proofs.Given.RuleWorld.BesideKept.{steps_spare_others}
 use Rattle.many_calls.proofs.Given.RuleWorld.CounterSpared.{spares_counter}
 use Rattle.many_calls.proofs.Given.RuleWorld.WentTold.{went_as}
 use Rattle.many_calls.specs.Given.PointsFactsTables.{MakingFacts as TableFacts, NewTableFacts}
-use Rattle.many_calls.specs.Given.PointsTold.{NewTableTold, LinksLast}
+use Rattle.many_calls.specs.Given.PointsTold.{NewTableOutcome, LinksLast}
 use Rattle.many_calls.proofs.Given.LateKnown.Steps.{moments_on}
 use Rattle.many_calls.proofs.Given.PointsMaking.NewTable.{may_new_table, went_new_table_lowers}
 use Rattle.many_calls.specs.Kept.{IsMaking}
-use Rattle.many_maps.specs.Makings.{Beginning, HasTaken, HasMade, HasRoots, IsTakenRoot, HasOwnCounter, OpeningFacts, MakingFacts, IsFirstTable, KeepsIts}
+use Rattle.many_maps.specs.Makings.{Beginning, HasTaken, HasMade, HasRoots, IsTakenRoot, HasOwnCounter, OpeningFacts, MakingFacts, IsFirstTable, PreservesItsOwn}
 use Rattle.many_calls.specs.Together.{CameAbout, no_blocks}
 use Rattle.many_calls.proofs.MapBegins.{map_begins}
 use Rattle.many_maps.proofs.Beside.Makings.FirstLengths.{LensTo, lens_told}
@@ -99,7 +99,7 @@ module _ {K Q : Type 0} (V : Type 0) (same : K → K → Bool) (asks : Q → K �
   its_block x (inr (inl (t, l, known, is))) = absurd (cc known)
   its_block x (inr (inr (p, l, known, is))) = absurd (cc known)
 
-  module _ (m2 : Mem (Node K V)) (Told : World (Node K V) → Chart K → Blocks → Type 0) (went : Went same b.hash b.machine.setting i w no_table no_blocks m2 Told) where
+  module _ (m2 : Mem (Node K V)) (Told : World (Node K V) → Chart K → Blocks → Type 0) (went : StepSpec same b.hash b.machine.setting i w no_table no_blocks m2 Told) where
     beside : (x : ℕ) (value : Node K V) → value_at w.memory x ≡ Some value → (IsItsBlock i b.machine w x → ⊥) → KeptBeside i w (no_table {K = K}) no_blocks x w went.w2
     beside x value there other = steps_spare_others V same b.hash its i w no_table no_blocks m2
         (went_as same b.hash its i w no_table no_blocks m2 Told (λ w3 c3 b3. Unit {0}) (λ w3 c3 b3 map moved blocks_same told. tt) went) x value there (λ own. other (its_block x own))
@@ -201,7 +201,7 @@ module _ {K Q : Type 0} (V : Type 0) (same : K → K → Bool) (asks : Q → K �
         owned3 : owner_of (went.blocks2.table 0) went.w2.log ≡ b.machine.setting.counter
         owned3 = owned2 0 (subst (λ (x : Chart K). 0 < x.past) (sym is) (omega arith)) (subst IsOut (sym (map2.tables 0 (omega arith) (omega arith))) tt)
 
-    goes_to : (end : NewTable × Advance Table) → LensTo (max b.machine.len 8) end → LinksLast b.hash b.machine.setting.mode 0 no_table went.c2 end → NewTableTold went.w2 i b.machine.setting went.c2 went.blocks2 (Root b.machine.setting.root) 0 end
+    goes_to : (end : NewTable × Advance Table) → LensTo (max b.machine.len 8) end → LinksLast b.hash b.machine.setting.mode 0 no_table went.c2 end → NewTableOutcome went.w2 i b.machine.setting went.c2 went.blocks2 (Root b.machine.setting.root) 0 end
         → GoesTo V same asks batch_size roots slot w i b went.w2 (opened b.machine end)
     goes_to (making2, progress.Goes) lens links told = (
       facts_at V same asks batch_size roots slot w i b f free went.w2 (record b.machine { stands = at.Tables making2 }) f.setting_is refl refl
@@ -235,8 +235,8 @@ module _ {K Q : Type 0} (V : Type 0) (same : K → K → Bool) (asks : Q → K �
           | inr l ↦ absurd (let is = l.2 in cc is)
         ]
 
-    keeps_to : (end : NewTable × Advance Table) → NewTableTold went.w2 i b.machine.setting went.c2 went.blocks2 (Root b.machine.setting.root) 0 end
-        → KeepsIts V same asks batch_size roots slot w went.w2 b.machine (opened b.machine end)
+    keeps_to : (end : NewTable × Advance Table) → NewTableOutcome went.w2 i b.machine.setting went.c2 went.blocks2 (Root b.machine.setting.root) 0 end
+        → PreservesItsOwn V same asks batch_size roots slot w went.w2 b.machine (opened b.machine end)
     keeps_to (making2, progress.Goes) told = (λ has. (tt, refl), λ has. inl (tt, refl))
     keeps_to (making2, progress.Waits) told = told
     keeps_to (making2, progress.Done table) told = (λ has. refl, λ has. refl)
@@ -284,7 +284,7 @@ module _ {K Q : Type 0} (V : Type 0) (same : K → K → Bool) (asks : Q → K �
         w2 = went.w2;
         memory = went.memory;
         left = left m2 _ went;
-        keeps = subst (KeepsIts V same asks batch_size roots slot w went.w2 b.machine) (sym back.2) (keeps_to m2 _ went back.0 went.told.2);
+        keeps = subst (PreservesItsOwn V same asks batch_size roots slot w went.w2 b.machine) (sym back.2) (keeps_to m2 _ went back.0 went.told.2);
         unused = λ r is. inl (used_stays m2 _ went r 0 is);
         links = λ x out. subst (λ (e : NewMap × Advance Setting). IsOut (w.hand x) ⊎ IsFirstTable went.w2 e x) (sym back.2) (links_its m2 _ went x back.0 went.told.1 out);
         told = subst (GoesTo V same asks batch_size roots slot w i b went.w2) (sym back.2) (goes_to m2 _ went back.0 (lens_told w i its no_blocks w.memory making (max b.machine.len 8) point.2 point.4 m2 back.0 back.1) went.told.1 went.told.2);

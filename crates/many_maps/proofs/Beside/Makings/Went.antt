@@ -13,7 +13,7 @@ use Rattle.many_calls.specs.Given.ResizeNewMap.{at_root, with_counter}
 use Rattle.many_calls.specs.Given.ResizeDeclared.new_map.NewMap.{NewMap}
 use Rattle.many_calls.specs.Given.RuleInWorld.{IsOut}
 use Rattle.many_calls.proofs.Given.RuleWorld.OthersSpared.{keeps_same}
-use Rattle.many_maps.specs.Makings.{Beginning, HasTaken, HasMade, HasRoots, OpeningFacts, MakingFacts, IsMade, IsFirstTable, KeepsIts, HasComeTo}
+use Rattle.many_maps.specs.Makings.{Beginning, HasTaken, HasMade, HasRoots, OpeningFacts, MakingFacts, IsMade, IsFirstTable, PreservesItsOwn, HasComeTo}
 use Rattle.many_maps.specs.Maps.{Standing}
 use Rattle.many_calls.specs.Together.{UnderWay, Together}
 use Rattle.many_maps.proofs.Beside.Makings.Leaves.{IsItsRoot, LeavesOthers}
@@ -49,7 +49,7 @@ module _ {K Q : Type 0} (V : Type 0) (same : K → K → Bool) (asks : Q → K �
     pub w2 : World (Node K V)
     pub memory : w2.memory ≡ m2
     pub left : LeavesOthers i b.machine w w2 batch_size roots
-    pub keeps : KeepsIts V same asks batch_size roots slot w w2 b.machine end
+    pub keeps : PreservesItsOwn V same asks batch_size roots slot w w2 b.machine end
     pub unused : (r : ℕ) → word_at w.memory (Used r) ≡ Some 0 → (word_at w2.memory (Used r) ≡ Some 0) ⊎ HasComeTo {Q = Q} V same asks batch_size roots slot end r
     pub links : (x : ℕ) → IsOut (w2.hand x) → IsOut (w.hand x) ⊎ IsFirstTable w2 end x
     pub told : GoesTo w2 end
@@ -83,12 +83,12 @@ module _ {K Q : Type 0} (V : Type 0) (same : K → K → Bool) (asks : Q → K �
     }
 
     -- the step changed nothing
-    pub still : (m2 : Mem (Node K V)) → m2 ≡ w.memory → (end other : NewMap × Advance Setting) → end ≡ other → KeepsIts V same asks batch_size roots slot w w b.machine other → GoesTo w other → MakingWent m2 end
+    pub still : (m2 : Mem (Node K V)) → m2 ≡ w.memory → (end other : NewMap × Advance Setting) → end ≡ other → PreservesItsOwn V same asks batch_size roots slot w w b.machine other → GoesTo w other → MakingWent m2 end
     still m2 is end other e keeps told = record {
       w2 = w;
       memory = sym is;
       left = left_same;
-      keeps = subst (KeepsIts V same asks batch_size roots slot w w b.machine) (sym e) keeps;
+      keeps = subst (PreservesItsOwn V same asks batch_size roots slot w w b.machine) (sym e) keeps;
       unused = λ r is. inl is;
       links = λ x out. inl out;
       told = subst (GoesTo w) (sym e) told;

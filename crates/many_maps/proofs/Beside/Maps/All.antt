@@ -8,7 +8,7 @@ use Rattle.many_calls.specs.Given.TablesDeclared.node.Node.{Node}
 use Rattle.many_calls.specs.Given.RuleWords.{Blocks}
 use Rattle.many_calls.specs.Given.PointsSteps.{AreLawful}
 use Rattle.many_maps.specs.Maps.{Standing, IsSameMap, with_call, MapsTogether, AllMapsStand}
-use Rattle.many_calls.specs.Sights.{Sight, IsPartOf}
+use Rattle.many_calls.specs.Sights.{Visible, IsPartOf}
 use Rattle.many_calls.specs.Together.{UnderWay, HasCall, CameAbout, Together}
 use Rattle.many_calls.proofs.Together.At.{at_other, at_same}
 use Rattle.many_calls.proofs.Given.General.{same_some as one_of}
@@ -22,7 +22,7 @@ module _ {K Q : Type 0} (V : Type 0) (same : K → K → Bool) (asks : Q → K �
   StandsSo w s calls = Together V same s.hash asks s.setting slot w s.chart s.blocks s.sights calls
 
   abbrev pub StandsSomehow : World (Node K V) → Standing K → (ℕ → Option (UnderWay K V Q)) → Type 0
-  StandsSomehow w s calls = (blocks : Blocks) × (sights : ℕ → Sight) × Together V same s.hash asks s.setting slot w s.chart blocks sights calls × IsPartOf s.chart blocks s.blocks
+  StandsSomehow w s calls = (blocks : Blocks) × (sights : ℕ → Visible) × Together V same s.hash asks s.setting slot w s.chart blocks sights calls × IsPartOf s.chart blocks s.blocks
 
   -- from such maps, in another world, and with other calls
   module _ (w : World (Node K V)) (maps : ℕ → Option (Standing K)) (calls : ℕ → ℕ → Option (UnderWay K V Q)) (all : MapsTogether V same asks size slot w maps calls)

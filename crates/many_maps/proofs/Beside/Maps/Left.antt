@@ -9,13 +9,13 @@ use Rattle.many_calls.specs.Given.TablesDeclared.node.Node.{Node}
 use Rattle.many_calls.specs.Given.TablesDeclared.setting.Setting.{Setting}
 use Rattle.many_calls.specs.Given.RuleChart.{Chart}
 use Rattle.many_calls.specs.Given.RuleWords.{Blocks}
-use Rattle.many_calls.specs.Given.RuleInWorld.{IsOut, StandsIn, IsReached, IsKnownBlock, KeepsBlocks, IsMapIn}
+use Rattle.many_calls.specs.Given.RuleInWorld.{IsOut, StandsIn, IsReached, IsKnownBlock, PreservesBlocks, IsMapIn}
 use Rattle.many_calls.proofs.Given.RuleLaws.{current_is_known}
 use Rattle.many_calls.proofs.Given.RuleWorld.Framed.{Keeps, shows_kept}
 use Rattle.many_calls.proofs.Given.RuleWorld.Hands.{Hands}
 use Rattle.many_calls.proofs.Given.RuleWorld.WentWrote.{HasCounter, map_in}
 use Rattle.many_calls.specs.Kept.{IsMaking, IsKeptBy}
-use Rattle.many_calls.specs.Sights.{Sight}
+use Rattle.many_calls.specs.Sights.{Visible}
 use Rattle.many_calls.specs.Together.{UnderWay, CameAbout, Together}
 use Rattle.many_maps.proofs.Beside.Maps.Stays.{Spared}
 use Rattle.many_calls.proofs.Rows.Behind.{LaySo}
@@ -45,10 +45,10 @@ module _ {K V Q : Type 0} (setting : Setting) (w : World (Node K V)) (c : Chart 
     pub inside : (r : ℕ) → IsInside (w.uses r) → IsInside (w2.uses r)
     pub inside_before : (r : ℕ) → IsInside (w2.uses r) → IsInside (w.uses r)
     pub rows : (j : ℕ) (u : UnderWay K V Q) → calls j ≡ Some u → w2.row j ≡ w.row j
-    pub own : (j : ℕ) (u : UnderWay K V Q) → calls j ≡ Some u → KeepsBlocks j w.memory w.hand w2.memory w2.hand
+    pub own : (j : ℕ) (u : UnderWay K V Q) → calls j ≡ Some u → PreservesBlocks j w.memory w.hand w2.memory w2.hand
 
 module _ {K V Q : Type 0} (same : K → K → Bool) (hash : K → ℕ) (asks : Q → K → Bool) (setting : Setting) (slot : ℕ → ℕ)
-    (w : World (Node K V)) (c : Chart K) (blocks : Blocks) (sights : ℕ → Sight) (calls : ℕ → Option (UnderWay K V Q)) (s : Together V same hash asks setting slot w c blocks sights calls)
+    (w : World (Node K V)) (c : Chart K) (blocks : Blocks) (sights : ℕ → Visible) (calls : ℕ → Option (UnderWay K V Q)) (s : Together V same hash asks setting slot w c blocks sights calls)
     (w2 : World (Node K V)) (left : Leaves setting w c blocks calls w2) where
   table_known : (t : ℕ) → t < c.past → blocks.table_known t ≡ true → IsKnownBlock c blocks (blocks.table t)
   table_known t made known = inl (t, made, known, refl)

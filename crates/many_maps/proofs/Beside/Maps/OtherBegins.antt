@@ -18,7 +18,7 @@ use Rattle.many_calls.proofs.Given.RuleWorld.OthersSpared.{held_once, keeps_hand
 use Rattle.many_calls.proofs.Given.RuleWorld.WentWrote.{counter_of, map_in}
 use Rattle.many_calls.specs.Given.PointsSteps.{AreLawful}
 use Rattle.many_calls.specs.Kept.{IsUsersOwn, IsMaking, IsKeptBy}
-use Rattle.many_calls.specs.Sights.{Sight}
+use Rattle.many_calls.specs.Sights.{Visible}
 use Rattle.many_calls.specs.Together.{UnderWay, CameAbout, HandsOver, Together}
 use Rattle.many_maps.proofs.Beside.Maps.Stays.{Spared, stays}
 use Rattle.many_maps.proofs.Beside.Maps.OtherSteps.{known_owner}
@@ -27,7 +27,7 @@ use Rattle.many_calls.proofs.Together.Came.{came_next}
 use Rattle.many_calls.proofs.Together.Handed.{inside_on, inside_back}
 
 module _ {K V Q : Type 0} (same : K → K → Bool) (hash : K → ℕ) (asks : Q → K → Bool) (setting : Setting) (slot : ℕ → ℕ)
-    (w : World (Node K V)) (c : Chart K) (blocks : Blocks) (sights : ℕ → Sight) (calls : ℕ → Option (UnderWay K V Q)) (s : Together V same hash asks setting slot w c blocks sights calls)
+    (w : World (Node K V)) (c : Chart K) (blocks : Blocks) (sights : ℕ → Visible) (calls : ℕ → Option (UnderWay K V Q)) (s : Together V same hash asks setting slot w c blocks sights calls)
     (i : ℕ) (none : calls i ≡ None) (b t : ℕ) (row : Row) (log : List Effect) where
   -- a row has begun within the section of slot t that has this block
   abbrev handed : World (Node K V)
@@ -136,7 +136,7 @@ cut_not_making i Handed cut making = making
 cut_not_making i (LeftTo j) cut making = making
 
 module _ {K V Q : Type 0} (same : K → K → Bool) (hash : K → ℕ) (asks : Q → K → Bool) (setting : Setting) (slot : ℕ → ℕ) (lawful : AreLawful same hash)
-    (w : World (Node K V)) (c : Chart K) (blocks : Blocks) (sights : ℕ → Sight) (calls : ℕ → Option (UnderWay K V Q)) (s : Together V same hash asks setting slot w c blocks sights calls)
+    (w : World (Node K V)) (c : Chart K) (blocks : Blocks) (sights : ℕ → Visible) (calls : ℕ → Option (UnderWay K V Q)) (s : Together V same hash asks setting slot w c blocks sights calls)
     (i : ℕ) (none : calls i ≡ None) (other : Setting) (counters : setting.counter ≢ other.counter) (w2 : World (Node K V)) where
   spared : (request : Request) → HandsOver other i w request → Happens deferred_word setting.batch_size (Begin i request) w w2 → Spared setting w c blocks calls same hash w2
   spared (Retire t b) hands h =

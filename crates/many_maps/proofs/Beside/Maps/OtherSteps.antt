@@ -14,10 +14,10 @@ use Rattle.many_calls.specs.Given.TablesDeclared.setting.Setting.{Setting}
 use Rattle.many_calls.specs.Given.RuleBeside.{KeptBeside}
 use Rattle.many_calls.specs.Given.RuleChart.{Chart}
 use Rattle.many_calls.specs.Given.RuleWords.{Blocks}
-use Rattle.many_calls.specs.Given.RuleInWorld.{IsOut, IsKnownBlock, IsIts, InFootprint, Went}
+use Rattle.many_calls.specs.Given.RuleInWorld.{IsOut, IsKnownBlock, IsIts, InFootprint, StepSpec}
 use Rattle.many_calls.proofs.Given.RuleWorld.BesideKept.{steps_spare_others}
 use Rattle.many_calls.specs.Kept.{IsMaking, IsKeptBy}
-use Rattle.many_calls.specs.Sights.{Sight}
+use Rattle.many_calls.specs.Sights.{Visible}
 use Rattle.many_calls.specs.Together.{UnderWay, Together}
 use Rattle.many_maps.proofs.Beside.Maps.Left.{Leaves, left_spared}
 use Rattle.many_maps.proofs.Beside.Maps.Stays.{Spared}
@@ -37,7 +37,7 @@ making_not_out Handed making out = making
 making_not_out (LeftTo i) making out = making
 
 module _ {K V Q : Type 0} (same : K → K → Bool) (hash : K → ℕ) (asks : Q → K → Bool) (setting : Setting) (slot : ℕ → ℕ)
-    (w : World (Node K V)) (c : Chart K) (blocks : Blocks) (sights : ℕ → Sight) (calls : ℕ → Option (UnderWay K V Q)) (s : Together V same hash asks setting slot w c blocks sights calls) where
+    (w : World (Node K V)) (c : Chart K) (blocks : Blocks) (sights : ℕ → Visible) (calls : ℕ → Option (UnderWay K V Q)) (s : Together V same hash asks setting slot w c blocks sights calls) where
   -- a block of the map that may be looked at: what is there, who has it, and whose it is
   pub known_out : (b : ℕ) → IsKnownBlock c blocks b → IsOut (w.hand b)
   known_out b (inl (t, made, known, is)) = subst (λ (x : ℕ). IsOut (w.hand x)) (sym is) (s.ground.map.tables_out t made known)
@@ -52,13 +52,13 @@ module _ {K V Q : Type 0} (same : K → K → Bool) (hash : K → ℕ) (asks : Q
   known_there b (inr (n, was, known, is)) = let p = s.ground.map.map.shows.pairs n was known in (node.Pair p.0 p.1, ap (value_at w.memory) is ∙ p.2)
 
 module _ {K V Q : Type 0} (same : K → K → Bool) (hash : K → ℕ) (asks : Q → K → Bool) (setting : Setting) (slot : ℕ → ℕ)
-    (w : World (Node K V)) (c : Chart K) (blocks : Blocks) (sights : ℕ → Sight) (calls : ℕ → Option (UnderWay K V Q)) (s : Together V same hash asks setting slot w c blocks sights calls) where
+    (w : World (Node K V)) (c : Chart K) (blocks : Blocks) (sights : ℕ → Visible) (calls : ℕ → Option (UnderWay K V Q)) (s : Together V same hash asks setting slot w c blocks sights calls) where
   -- a caller that has no call on the map takes a step on another one, with another root and another counter
   module _ (hash2 : K → ℕ) (other : Setting) (i : ℕ) (none : calls i ≡ None) (c2 : Chart K) (blocks2 : Blocks) (m2 : Mem (Node K V))
       (roots : setting.root ≢ other.root) (counters : setting.counter ≢ other.counter) (size : other.batch_size ≡ setting.batch_size)
       (its_counter : IsMaking (w.hand other.counter)) (its_out : (b : ℕ) → IsKnownBlock c2 blocks2 b → IsOut (w.hand b)) (its_own : (b : ℕ) → IsKnownBlock c2 blocks2 b → owner_of b w.log ≡ other.counter)
       (r : ℕ) (inside : IsInside (w.uses r))
-      (went : Went same hash2 other i w c2 blocks2 m2 (λ w3 c3 blocks3. Unit {0})) where
+      (went : StepSpec same hash2 other i w c2 blocks2 m2 (λ w3 c3 blocks3. Unit {0})) where
     reached : Reached deferred_word setting.batch_size w
     reached = came_reached setting.batch_size w s.ground.came
 

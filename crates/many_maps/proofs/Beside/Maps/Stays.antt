@@ -10,14 +10,14 @@ use Rattle.many_calls.specs.Given.TablesDeclared.setting.Setting.{Setting}
 use Rattle.many_calls.specs.Given.RuleChart.{Chart}
 use Rattle.many_calls.specs.Given.RuleWords.{Blocks}
 use Rattle.many_calls.specs.Given.RuleMaps.{spot_of}
-use Rattle.many_calls.specs.Given.RuleInWorld.{KeepsBlocks, IsKnownBlock, IsMapIn}
+use Rattle.many_calls.specs.Given.RuleInWorld.{PreservesBlocks, IsKnownBlock, IsMapIn}
 use Rattle.many_calls.proofs.Given.RuleHistory.LeavingOn.{leaves_same}
 use Rattle.many_calls.specs.Given.PointsFactsIdle.{IsIdle}
 use Rattle.many_calls.specs.Given.PointsOthers.{OthersStep}
 use Rattle.many_calls.specs.Given.PointsSteps.{AreLawful}
 use Rattle.many_calls.specs.Kept.{IsMaking, IsKeptBy, IsWithin}
-use Rattle.many_calls.specs.Sights.{Sight, seen_by}
-use Rattle.many_calls.specs.Together.{UnderWay, in_slot, CameAbout, Ground, Stands, Together}
+use Rattle.many_calls.specs.Sights.{Visible, seen_by}
+use Rattle.many_calls.specs.Together.{UnderWay, in_slot, CameAbout, Ground, IsAtPoint, Together}
 use Rattle.many_calls.proofs.Rows.Behind.{LaySo, pair_on}
 use Rattle.many_calls.proofs.Sights.Seen.{map_seen}
 use Rattle.many_calls.proofs.Together.FactsOn.{idle_on}
@@ -39,10 +39,10 @@ module _ {K V Q : Type 0} (setting : Setting) (w : World (Node K V)) (c : Chart 
     pub inside : (r : ℕ) → IsInside (w.uses r) → IsInside (w2.uses r)
     pub inside_before : (r : ℕ) → IsInside (w2.uses r) → IsInside (w.uses r)
     pub rows : (j : ℕ) (u : UnderWay K V Q) → calls j ≡ Some u → w2.row j ≡ w.row j
-    pub own : (j : ℕ) (u : UnderWay K V Q) → calls j ≡ Some u → KeepsBlocks j w.memory w.hand w2.memory w2.hand
+    pub own : (j : ℕ) (u : UnderWay K V Q) → calls j ≡ Some u → PreservesBlocks j w.memory w.hand w2.memory w2.hand
 
 module _ {K V Q : Type 0} (same : K → K → Bool) (hash : K → ℕ) (asks : Q → K → Bool) (setting : Setting) (slot : ℕ → ℕ) (lawful : AreLawful same hash)
-    (w : World (Node K V)) (c : Chart K) (blocks : Blocks) (sights : ℕ → Sight) (calls : ℕ → Option (UnderWay K V Q)) (s : Together V same hash asks setting slot w c blocks sights calls)
+    (w : World (Node K V)) (c : Chart K) (blocks : Blocks) (sights : ℕ → Visible) (calls : ℕ → Option (UnderWay K V Q)) (s : Together V same hash asks setting slot w c blocks sights calls)
     (w2 : World (Node K V)) (spared : Spared setting w c blocks calls same hash w2) where
   table_known : (t : ℕ) → t < c.past → blocks.table_known t ≡ true → IsKnownBlock c blocks (blocks.table t)
   table_known t made known = inl (t, made, known, refl)
@@ -79,7 +79,7 @@ module _ {K V Q : Type 0} (same : K → K → Bool) (hash : K → ℕ) (asks : Q
     sight = λ r in_it. ((s.ground.sight r (spared.inside_before r in_it)).0, within r (spared.inside_before r in_it));
   }
 
-  step : (j : ℕ) (u : UnderWay K V Q) → calls j ≡ Some u → (sight : Sight) → ((n : ℕ) → n < c.stored → sight.pairs n ≡ true → blocks.pair_known n ≡ true)
+  step : (j : ℕ) (u : UnderWay K V Q) → calls j ≡ Some u → (sight : Visible) → ((n : ℕ) → n < c.stored → sight.pairs n ≡ true → blocks.pair_known n ≡ true)
       → OthersStep same hash (in_slot setting (slot j)) j w c (seen_by blocks sight) w2 c (seen_by blocks sight)
   step j u has sight sees = record {
     leaves = leaves_same same (spot_of hash) (is_incremental setting.mode) j c;
@@ -98,7 +98,7 @@ module _ {K V Q : Type 0} (same : K → K → Bool) (hash : K → ℕ) (asks : Q
       (map_in_slot same hash setting w2 c blocks (slot j) spared.map) s.ground.moments (step j u has (record { tables = blocks.table_known; pairs = blocks.pair_known }) (λ n was known. known))
       (λ blocking t made l. l)
 
-  stand : (j : ℕ) (u : UnderWay K V Q) → calls j ≡ Some u → Stands V same hash asks setting slot w2 c (seen_by blocks (sights (slot j))) j u
+  stand : (j : ℕ) (u : UnderWay K V Q) → calls j ≡ Some u → IsAtPoint V same hash asks setting slot w2 c (seen_by blocks (sights (slot j))) j u
   stand j u has =
       stands_of same hash asks setting slot (w.uses (slot j)) j w w2 c c blocks blocks (sights (slot j)) (sights (slot j)) (spared.rows j u has) (idle j u has) u (s.inside j u has)
       (λ in_it. stands_on same hash asks setting slot lawful j w w2 c c (seen_by blocks (sights (slot j))) (seen_by blocks (sights (slot j))) (part w j s.ground.map in_it) (part w2 j spared.map in_it)

@@ -9,12 +9,12 @@ use Rattle.many_calls.specs.Given.RawDeclared.machines.answer.Called.{Called}
 use Rattle.many_calls.specs.Given.RawDeclared.machines.call.KeyCall.{KeyCall}
 use Rattle.many_calls.specs.Given.RuleChart.{Chart}
 use Rattle.many_calls.specs.Given.RuleWords.{Blocks}
-use Rattle.many_calls.specs.Given.RuleInWorld.{IsKnownBlock, Went}
+use Rattle.many_calls.specs.Given.RuleInWorld.{IsKnownBlock, StepSpec}
 use Rattle.many_calls.proofs.Given.RuleWorld.WentTold.{went_as}
 use Rattle.many_calls.specs.Given.PointsSteps.{AreLawful}
 use Rattle.many_maps.specs.Maps.{Standing, with_call, MapsTogether, StepsInMaps, CallsStandInMaps, RepliesStandInMaps}
-use Rattle.many_calls.specs.Sights.{Sight, seen_by}
-use Rattle.many_calls.specs.Together.{OnKey, CallOnKey, UnderWay, CameAbout, in_slot, next_of, change_told, StepsTogether}
+use Rattle.many_calls.specs.Sights.{Visible, seen_by}
+use Rattle.many_calls.specs.Together.{OnKey, CallOnKey, UnderWay, CameAbout, in_slot, next_of, change_observed, StepsTogether}
 use Rattle.many_maps.proofs.Beside.Maps.All.{not_none, StandsSo, calls_only, calls_once, its_calls, others_calls, maps_with_call}
 use Rattle.many_maps.proofs.Beside.Maps.Comes.{each_at, two_at, none_at}
 use Rattle.many_maps.proofs.Beside.Maps.OtherSteps.{known_out, known_owner, other_spared}
@@ -40,7 +40,7 @@ module _ {K Q : Type 0} (V : Type 0) (same : K → K → Bool) (asks : Q → K �
 
   -- each other map stands on
   module _ (in_it : IsInside (w.uses (slot i))) (m2 : Mem (Node K V)) (Told : World (Node K V) → Chart K → Blocks → Type 0)
-      (went : Went same s.hash (in_slot s.setting (slot i)) i w s.chart (seen_by s.blocks (s.sights (slot i))) m2 Told) where
+      (went : StepSpec same s.hash (in_slot s.setting (slot i)) i w s.chart (seen_by s.blocks (s.sights (slot i))) m2 Told) where
     pub others_stand : (n : ℕ) (r : Standing K) → n ≢ m → maps n ≡ Some r → StandsSo V same asks size slot went.w2 r (calls n)
     others_stand n r ne is =
         stays same r.hash asks r.setting slot (all.fit n r is).0 w r.chart r.blocks r.sights (calls n) (all.each n r is) went.w2
@@ -53,7 +53,7 @@ module _ {K Q : Type 0} (V : Type 0) (same : K → K → Bool) (asks : Q → K �
         (went_as same s.hash (in_slot s.setting (slot i)) i w s.chart (seen_by s.blocks (s.sights (slot i))) m2 Told (λ w3 c3 b3. Unit {0}) (λ w3 c3 b3 map moved blocks_same told. tt) went))
 
   -- where its own map stands after it, and the others do, all maps stand
-  module _ (w2 : World (Node K V)) (c2 : Chart K) (blocks2 : Blocks) (sights2 : ℕ → Sight) (goes_on : Option (UnderWay K V Q)) where
+  module _ (w2 : World (Node K V)) (c2 : Chart K) (blocks2 : Blocks) (sights2 : ℕ → Visible) (goes_on : Option (UnderWay K V Q)) where
     abbrev pub after : Standing K
     after = record s { chart = c2; blocks = blocks2; sights = sights2 }
 
@@ -82,7 +82,7 @@ module _ {K Q : Type 0} (V : Type 0) (same : K → K → Bool) (asks : Q → K �
   in_maps m2 p2 progress step = record {
     step = step;
     together = all_together V same asks size slot w maps calls all m s here i (OnKey u) has step.went.w2 step.went.c2 step.blocks2 step.sights2
-        (next_of (record { keys = u.keys; pair = u.pair; began = u.began; change = change_told V same s.hash asks s.setting slot step.went.told; call = p2 }) progress)
+        (next_of (record { keys = u.keys; pair = u.pair; began = u.began; change = change_observed V same s.hash asks s.setting slot step.went.told; call = p2 }) progress)
         step.together (others_stand V same asks size slot w maps calls all m s here i (OnKey u) has ((all.each m s here).inside i (OnKey u) has) m2 _ step.went);
   }
 

@@ -12,7 +12,7 @@ use Rattle.map_facts.specs.Given.SeizeDeclared.rows.settle.Settled.TheVariants a
 use Rattle.map_facts.proofs.Given.SeizeRuleRows.Leaving.{steps_back}
 use Rattle.map_facts.specs.Given.RawAnswers.{ended}
 use Rattle.map_facts.specs.Given.RawCall.{made, makes_of, root_found, next_found, dropped, key_read, pair_read, word_read, word_found, tried, looked, looks_for, first_made, next_made, disposed, helped, copied, plan_at}
-use Rattle.map_facts.specs.Given.RawCallPoints.{aim_of, told, going, standing, over, ending, tableless, at_free, following_made, asking_at, at_last, at_pair, told_of, entering, went_on, changed, counted, having_met}
+use Rattle.map_facts.specs.Given.RawCallPoints.{aim_of, told, going, standing, over, ending, tableless, at_free, following_made, asking_at, at_last, at_pair, after_finding, entering, continued_in, changed, counted, having_met}
 use Rattle.map_facts.specs.Given.TablesChunks.{is_incremental}
 use Rattle.map_facts.specs.Given.ResizeCopier.{copier_plan}
 use Rattle.map_facts.specs.Given.ResizeCopierStates.{copying_all, resting}
@@ -64,7 +64,7 @@ use Rattle.map_facts.specs.Given.TablesDeclared.trial.Trial.{Trial}
 use Rattle.map_facts.proofs.Calls.Asked.{passed_so}
 use Rattle.map_facts.proofs.Given.RuleKeys.Always.{Always, AlwaysOf, always_if, always_plan_as, always_steps}
 use Rattle.map_facts_late.specs.Faults.{RoomInCopying}
-use Rattle.map_facts_late.specs.Kinds.{ToldFits, IsMore, Fits, FitsStore, FitsExchange, FitsCount, OverFits, FitsAt, TellsFit, IsFit, ComesFit, KindsBegin, AskingKindsBegin, CallsKeepTheirKind}
+use Rattle.map_facts_late.specs.Kinds.{RepliesFit, IsMore, Fits, FitsStore, FitsExchange, FitsCount, OverFits, FitsAt, OutcomeFits, IsFit, StepFits, KindsBegin, AskingKindsBegin, CallsPreserveTheirKind}
 use Rattle.map_facts_late.proofs.KindsKept.Calls.Asked.{word_no_tombstone, either, fit_over, fit_ending, fit_puts, fit_removes, fit_following, fit_asking, fit_asking_of, on_asks}
 use Rattle.map_facts_late.proofs.KindsKept.Rooms.Copying.{CopiesRoom, copier_rooms}
 use Rattle.map_facts_late.proofs.KindsKept.Rooms.Making.{MakesRoom, new_table_rooms, first_table_room}
@@ -83,7 +83,7 @@ module _ (l : Lookup) where
   on_passed table (Some trial) = tt
   on_passed table None = either_on (is_incremental l.mode) _ _ tt tt
 
-  on_told : (trial : Trial) (word : ℕ) (found : Finding) → LooksOn (lookups.told_of l trial word found)
+  on_told : (trial : Trial) (word : ℕ) (found : Finding) → LooksOn (lookups.after_finding l trial word found)
   on_told trial word finds.Free = tt
   on_told trial word finds.Passed = on_passed trial.table (next_trial trial)
   on_told trial word finds.Moved = tt
@@ -130,20 +130,20 @@ copying_room setting source target = by (is_incremental setting.mode)
 
 module _ {K V Q : Type 0} (present : There) (absent : Missing) (takes : Takes) where
   abbrev Fit : Then (Node K V) (KeyCall K V Q × Called (Node K V)) → Type 0
-  Fit rest = Always (ComesFit present absent takes) rest
+  Fit rest = Always (StepFits present absent takes) rest
 
   -- where it goes on from a point
-  module _ (p : KeyCall K V Q) (is_there : p.there ≡ present) (is_missing : p.missing ≡ absent) (is_told : ToldFits takes p.replies) (is_own : p.own ≢ TOMBSTONE) where
-    ended_fits : (end : End) → OverFits present absent takes end → ComesFit present absent takes (over p end)
+  module _ (p : KeyCall K V Q) (is_there : p.there ≡ present) (is_missing : p.missing ≡ absent) (is_told : RepliesFit takes p.replies) (is_own : p.own ≢ TOMBSTONE) where
+    ended_fits : (end : End) → OverFits present absent takes end → StepFits present absent takes (over p end)
     ended_fits end fits = fit_over present absent takes p is_there is_missing is_told is_own end fits
 
-    ending_fits : (end : End) → OverFits present absent takes end → ComesFit present absent takes (ending p end)
+    ending_fits : (end : End) → OverFits present absent takes end → StepFits present absent takes (ending p end)
     ending_fits end fits = fit_ending present absent takes p is_there is_missing is_told is_own end fits
 
-    fit_absent : p.missing ≡ missing.Answers → ComesFit present absent takes (ending p (ends.Answered answers.Absent))
+    fit_absent : p.missing ≡ missing.Answers → StepFits present absent takes (ending p (ends.Answered answers.Absent))
     fit_absent e = ending_fits (ends.Answered answers.Absent) (inl (sym is_missing ∙ e))
 
-    fit_changed : (word new : ℕ) → FitsExchange present absent takes word new → ComesFit present absent takes (changed p word new)
+    fit_changed : (word new : ℕ) → FitsExchange present absent takes word new → StepFits present absent takes (changed p word new)
     fit_changed word new fits =
         either present absent takes (new == TOMBSTONE) (going p (at.Counts word)) _
         (λ e. let t = fits.0 (eqb-true new TOMBSTONE e) in ((is_there, is_missing, is_told, is_own, ((λ z. absurd (t.0 z)), (λ n. t.1))), tt))
@@ -152,19 +152,19 @@ module _ {K V Q : Type 0} (present : There) (absent : Missing) (takes : Takes) w
         (λ z. ((is_there, is_missing, is_told, is_own, ((λ q. o.0 (eqb-true word 0 z)), (λ n. absurd (n refl)))), tt))
         (λ z. ((is_there, is_missing, is_told, is_own, o.1 (eqb-false word 0 z)), tt)))
 
-    fit_counted : (removed : ℕ) → FitsCount present absent takes removed → ComesFit present absent takes (counted p removed)
+    fit_counted : (removed : ℕ) → FitsCount present absent takes removed → StepFits present absent takes (counted p removed)
     fit_counted removed fits =
         either present absent takes (removed == 0) (over p (ends.Answered (answers.Stored p.own))) (going p (at.Disposes (disposing p.setting removed p.trial.table) (answers.Removed removed)))
         (λ z. let f = fits.0 (eqb-true removed 0 z) in ((is_there, is_missing, is_told, is_own, f), f)) (λ z. ((is_there, is_missing, is_told, is_own, fits.1 (eqb-false removed 0 z)), tt))
 
-    fit_looked : (present ≡ there.Answers) × (absent ≡ missing.Answers) → (end : Lookup × Advance (Option ℕ)) → LooksOn end → ComesFit present absent takes (looked p end)
+    fit_looked : (present ≡ there.Answers) × (absent ≡ missing.Answers) → (end : Lookup × Advance (Option ℕ)) → LooksOn end → StepFits present absent takes (looked p end)
     fit_looked fits (l, progress.Goes) on = ((is_there, is_missing, is_told, is_own, fits), tt)
     fit_looked fits (l, progress.Waits) on = ((is_there, is_missing, is_told, is_own, fits), tt)
     fit_looked fits (l, progress.Done (Some found)) on = ended_fits (ends.Answered (answers.Found found)) (inl fits.0)
     fit_looked fits (l, progress.Done None) on = ended_fits (ends.Answered answers.Absent) (inl fits.1)
     fit_looked fits (l, progress.Refused fault) on = absurd on
 
-    fit_disposed : (answer : KeyAnswer) → Fits present absent takes answer → (end : Dispose × Settled (Node K V)) → ComesFit present absent takes (disposed p answer end)
+    fit_disposed : (answer : KeyAnswer) → Fits present absent takes answer → (end : Dispose × Settled (Node K V)) → StepFits present absent takes (disposed p answer end)
     fit_disposed answer fits (d, settled.Goes) = ((is_there, is_missing, is_told, is_own, fits), tt)
     fit_disposed answer fits (d, settled.Waits) = ((is_there, is_missing, is_told, is_own, fits), tt)
     fit_disposed answer fits (d, settled.Gave value) = ((is_there, is_missing, is_told, is_own, fits), tt)
@@ -172,44 +172,44 @@ module _ {K V Q : Type 0} (present : There) (absent : Missing) (takes : Takes) w
 
     -- one that is more than a lookup
     module _ (more : IsMore present absent takes) where
-      asking_fits : p.missing ≡ missing.Asks → (gap : Gap) → ComesFit present absent takes (asking_at gap p)
+      asking_fits : p.missing ≡ missing.Asks → (gap : Gap) → StepFits present absent takes (asking_at gap p)
       asking_fits e gap = fit_asking present absent takes p is_there is_missing is_told is_own (sym is_missing ∙ e) gap
 
-      following_fits : ComesFit present absent takes (following_made p)
+      following_fits : StepFits present absent takes (following_made p)
       following_fits = fit_following present absent takes p is_there is_missing is_told is_own more
 
-      puts_fit : (word : ℕ) → FitsStore present absent takes word → ComesFit present absent takes (going p (at.Tries word p.own))
+      puts_fit : (word : ℕ) → FitsStore present absent takes word → StepFits present absent takes (going p (at.Tries word p.own))
       puts_fit word fits = fit_puts present absent takes p is_there is_missing is_told is_own more word fits
 
-      fit_tableless : (m : Missing) → p.missing ≡ m → ComesFit present absent takes (tableless m p)
+      fit_tableless : (m : Missing) → p.missing ≡ m → StepFits present absent takes (tableless m p)
       fit_tableless missing.Answers e = fit_absent e
       fit_tableless missing.Puts e = ((is_there, is_missing, is_told, is_own, (more, first_table_room p.setting FIRST_LEN)), tt)
       fit_tableless missing.Asks e = asking_fits e gaps.NoTable
 
-      fit_free : (m : Missing) → p.missing ≡ m → ComesFit present absent takes (at_free m p)
+      fit_free : (m : Missing) → p.missing ≡ m → StepFits present absent takes (at_free m p)
       fit_free missing.Answers e = fit_absent e
       fit_free missing.Puts e = puts_fit 0 ((λ z. inl (sym is_missing ∙ e)), (λ n. absurd (n refl)))
       fit_free missing.Asks e = asking_fits e gaps.Free
 
-      fit_last : (m : Missing) → p.missing ≡ m → ComesFit present absent takes (at_last m p)
+      fit_last : (m : Missing) → p.missing ≡ m → StepFits present absent takes (at_last m p)
       fit_last missing.Answers e =
           either present absent takes (is_incremental p.setting.mode) (ending p (ends.Answered answers.Absent)) (following_made p) (λ i. fit_absent e) (λ i. following_fits)
       fit_last missing.Puts e = following_fits
       fit_last missing.Asks e = either present absent takes (is_incremental p.setting.mode) (asking_at gaps.Last p) (following_made p) (λ i. asking_fits e gaps.Last) (λ i. following_fits)
 
-      fit_pair : (t : There) → p.there ≡ t → (word : ℕ) → word ≢ 0 → ComesFit present absent takes (at_pair t p word)
+      fit_pair : (t : There) → p.there ≡ t → (word : ℕ) → word ≢ 0 → StepFits present absent takes (at_pair t p word)
       fit_pair there.Answers e word some = ending_fits (ends.Answered (answers.Found word)) (inl (sym is_there ∙ e))
       fit_pair there.Puts e word some = puts_fit word ((λ z. absurd (some z)), (λ n. inl (sym is_there ∙ e)))
       fit_pair there.Removes e word some = fit_removes present absent takes p is_there is_missing is_told is_own more word some (inl (sym is_there ∙ e))
       fit_pair there.Asks e word some = fit_asking_of present absent takes p is_there is_missing is_told is_own (sym is_there ∙ e) word some
 
-      fit_told : (loaded : Bool) (word : ℕ) (named : Bool) → ComesFit present absent takes (told loaded p word named)
+      fit_told : (loaded : Bool) (word : ℕ) (named : Bool) → StepFits present absent takes (told loaded p word named)
       fit_told loaded word named = by (finding p.setting.mode (aim_of p.missing) word named) refl
         where
-          by : (found : Finding) → finding p.setting.mode (aim_of p.missing) word named ≡ found → ComesFit present absent takes (told_of loaded p word found)
+          by : (found : Finding) → finding p.setting.mode (aim_of p.missing) word named ≡ found → StepFits present absent takes (after_finding loaded p word found)
           by finds.Free e = fit_free p.missing refl
           by finds.Passed e =
-              passed_so (ComesFit present absent takes) (having_met p word) (λ next. ((is_there, is_missing, is_told, is_own, more), tt)) ((is_there, is_missing, is_told, is_own, more), tt)
+              passed_so (StepFits present absent takes) (having_met p word) (λ next. ((is_there, is_missing, is_told, is_own, more), tt)) ((is_there, is_missing, is_told, is_own, more), tt)
               (λ none. fit_ending present absent takes (having_met p word) is_there is_missing is_told is_own (ends.Answered answers.Absent) (inl (sym is_missing ∙ none)))
               (λ asks untold. ((is_there, is_missing, is_told, is_own, sym is_missing ∙ asks), sym is_missing ∙ asks)) (next_trial (with_met p.trial word))
           by finds.Moved e = ((is_there, is_missing, is_told, is_own, more), tt)
@@ -217,33 +217,33 @@ module _ {K V Q : Type 0} (present : There) (absent : Missing) (takes : Takes) w
               either present absent takes loaded (standing p at.Probes, called.Waits) (going p at.Probes) (λ q. ((is_there, is_missing, is_told, is_own, more), tt)) (λ q. ((is_there, is_missing, is_told, is_own, more), tt))
           by finds.There e = fit_pair p.there refl word (there_names p.setting.mode (aim_of p.missing) word named e)
 
-      fit_on : (table : Table) → ComesFit present absent takes (went_on p table)
+      fit_on : (table : Table) → StepFits present absent takes (continued_in p table)
       fit_on table =
           either present absent takes (is_incremental p.setting.mode) _ (going p (at.Copies (copying_all p.setting p.trial.table table)))
           (λ e. either present absent takes p.helped (entering p table) _ (λ h. ((is_there, is_missing, is_told, is_own, more), tt)) (λ h. ((is_there, is_missing, is_told, is_own, (more, tt)), tt)))
           (λ e. ((is_there, is_missing, is_told, is_own, (more, copying_room p.setting p.trial.table table)), tt))
 
       -- what machines within it tell
-      fit_first : (end : NewTable × Advance Table) → MakesRoom end → ComesFit present absent takes (first_made p end)
+      fit_first : (end : NewTable × Advance Table) → MakesRoom end → StepFits present absent takes (first_made p end)
       fit_first (n, progress.Goes) room = ((is_there, is_missing, is_told, is_own, (more, room)), tt)
       fit_first (n, progress.Waits) room = ((is_there, is_missing, is_told, is_own, (more, room)), tt)
       fit_first (n, progress.Done table) room = ((is_there, is_missing, is_told, is_own, more), tt)
       fit_first (n, progress.Refused fault) room = ending_fits (ends.Refused fault) (inl (more, room.1))
 
-      fit_next : (end : NewTable × Advance Table) → MakesRoom end → ComesFit present absent takes (next_made p end)
+      fit_next : (end : NewTable × Advance Table) → MakesRoom end → StepFits present absent takes (next_made p end)
       fit_next (n, progress.Goes) room = ((is_there, is_missing, is_told, is_own, (more, room)), tt)
       fit_next (n, progress.Waits) room = ((is_there, is_missing, is_told, is_own, (more, room)), tt)
       fit_next (n, progress.Done table) room = fit_on table
       fit_next (n, progress.Refused fault) room = ending_fits (ends.Refused fault) (inl (more, room.1))
 
-      fit_helped : (goal : Table) (end : Copier × Yielding (Node K V) Table) → CopiesRoom end → ComesFit present absent takes (helped p goal end)
+      fit_helped : (goal : Table) (end : Copier × Yielding (Node K V) Table) → CopiesRoom end → StepFits present absent takes (helped p goal end)
       fit_helped goal (copier, outcome.Goes) room = ((is_there, is_missing, is_told, is_own, (more, room.0)), tt)
       fit_helped goal (copier, outcome.Waits) room = ((is_there, is_missing, is_told, is_own, (more, room.0)), tt)
       fit_helped goal (copier, outcome.Gave value) room = ((is_there, is_missing, is_told, is_own, (more, room.0)), tt)
       fit_helped goal (copier, outcome.Done table) room = ((is_there, is_missing, is_told, is_own, more), tt)
       fit_helped goal (copier, outcome.Refused fault) room = ending_fits (ends.Refused fault) (inl (more, room.1))
 
-      fit_copied : (end : Copier × Yielding (Node K V) Table) → CopiesRoom end → ComesFit present absent takes (copied p end)
+      fit_copied : (end : Copier × Yielding (Node K V) Table) → CopiesRoom end → StepFits present absent takes (copied p end)
       fit_copied (copier, outcome.Goes) room = ((is_there, is_missing, is_told, is_own, (more, room.0)), tt)
       fit_copied (copier, outcome.Waits) room = ((is_there, is_missing, is_told, is_own, (more, room.0)), tt)
       fit_copied (copier, outcome.Gave value) room = ((is_there, is_missing, is_told, is_own, (more, room.0)), tt)
@@ -252,7 +252,7 @@ module _ {K V Q : Type 0} (present : There) (absent : Missing) (takes : Takes) w
 
   -- what each operation's answer leads to
   module _ (asks : Q → K → Bool) (same : K → K → Bool) (hash : K → ℕ) (p : KeyCall K V Q) (is : IsFit present absent takes p) where
-    stays : ComesFit present absent takes (p, called.Goes)
+    stays : StepFits present absent takes (p, called.Goes)
     stays = (is, tt)
 
     on_dropped : (end : End) → OverFits present absent takes end → (out : Out (Node K V)) → Fit (dropped p end out)
@@ -263,12 +263,12 @@ module _ {K V Q : Type 0} (present : There) (absent : Missing) (takes : Takes) w
     on_dropped end fits (Made r) = stays
     on_dropped end fits (Roomed r) = stays
 
-    on_over : (end : End) → OverFits present absent takes end → TellsFit present absent takes {T = Node K V} (ended end)
+    on_over : (end : End) → OverFits present absent takes end → OutcomeFits present absent takes {T = Node K V} (ended end)
     on_over (ends.Answered answer) fits = fits
     on_over (ends.Refused fault) fits = fits
 
     module _ (more : IsMore present absent takes) where
-      on_made : (node : Option (Node K V)) → AlwaysOf (ComesFit present absent takes) (makes_of p node)
+      on_made : (node : Option (Node K V)) → AlwaysOf (StepFits present absent takes) (makes_of p node)
       on_made None = ((is.0, is.1, is.2, is.3, more), tt)
       on_made (Some node) = by
         where
@@ -282,7 +282,7 @@ module _ {K V Q : Type 0} (present : There) (absent : Missing) (takes : Takes) w
           by (Roomed r) = stays
 
       on_root : (out : Out (Node K V)) → Fit (root_found p out)
-      on_root (Found link) = always_if (ComesFit present absent takes) (link == 0) _ _ (fit_tableless p is.0 is.1 is.2 is.3 more p.missing refl) (λ value. ((is.0, is.1, is.2, is.3, more), tt))
+      on_root (Found link) = always_if (StepFits present absent takes) (link == 0) _ _ (fit_tableless p is.0 is.1 is.2 is.3 more p.missing refl) (λ value. ((is.0, is.1, is.2, is.3, more), tt))
       on_root Stored = stays
       on_root (Exchanged r) = stays
       on_root (Made r) = stays
@@ -290,7 +290,7 @@ module _ {K V Q : Type 0} (present : There) (absent : Missing) (takes : Takes) w
       on_root (Roomed r) = stays
 
       on_next : (out : Out (Node K V)) → Fit (next_found p out)
-      on_next (Found link) = always_if (ComesFit present absent takes) (link == 0) _ _ (fit_last p is.0 is.1 is.2 is.3 more p.missing refl) (λ value. fit_on p is.0 is.1 is.2 is.3 more _)
+      on_next (Found link) = always_if (StepFits present absent takes) (link == 0) _ _ (fit_last p is.0 is.1 is.2 is.3 more p.missing refl) (λ value. fit_on p is.0 is.1 is.2 is.3 more _)
       on_next Stored = stays
       on_next (Exchanged r) = stays
       on_next (Made r) = stays
@@ -306,7 +306,7 @@ module _ {K V Q : Type 0} (present : There) (absent : Missing) (takes : Takes) w
       on_pair loaded word None = on_key loaded word p.replies.key
 
       on_word : (loaded : Bool) (word : ℕ) → Fit (word_read asks same loaded p word)
-      on_word loaded word = always_if (ComesFit present absent takes) (may_name p.hash word) _ _ (on_pair loaded word p.asked) (fit_told p is.0 is.1 is.2 is.3 more loaded word false)
+      on_word loaded word = always_if (StepFits present absent takes) (may_name p.hash word) _ _ (on_pair loaded word p.asked) (fit_told p is.0 is.1 is.2 is.3 more loaded word false)
 
       on_found : (out : Out (Node K V)) → Fit (word_found asks same p out)
       on_found (Found word) = on_word true word
@@ -326,17 +326,17 @@ module _ {K V Q : Type 0} (present : There) (absent : Missing) (takes : Takes) w
       on_tried word new fits (Roomed r) = stays
 
     module _ (m m2 : Mem (Node K V)) (end : KeyCall K V Q × Called (Node K V)) where
-      on_looks : (present ≡ there.Answers) × (absent ≡ missing.Answers) → (l : Lookup) (asked : Option Q) → Steps Took value_at m (looks_for asks p l asked) m2 end → ComesFit present absent takes end
+      on_looks : (present ≡ there.Answers) × (absent ≡ missing.Answers) → (l : Lookup) (asked : Option Q) → Steps Took value_at m (looks_for asks p l asked) m2 end → StepFits present absent takes end
       on_looks fits l (Some q) s =
           let d = steps_back (looked p) m m2 (lookup_plan (asks q) l) end s in
-          subst (ComesFit present absent takes) (sym d.2) (fit_looked p is.0 is.1 is.2 is.3 fits d.0 (looks_on l (asks q) m m2 d.0 d.1))
-      on_looks fits l None s = subst (ComesFit present absent takes) (sym s.1) (ended_fits p is.0 is.1 is.2 is.3 (ends.Answered answers.Absent) (inl fits.1))
+          subst (StepFits present absent takes) (sym d.2) (fit_looked p is.0 is.1 is.2 is.3 fits d.0 (looks_on l (asks q) m m2 d.0 d.1))
+      on_looks fits l None s = subst (StepFits present absent takes) (sym s.1) (ended_fits p is.0 is.1 is.2 is.3 (ends.Answered answers.Absent) (inl fits.1))
 
-      always_at : (stands : Calling) → AlwaysOf (ComesFit present absent takes) (plan_at asks same hash p stands) → Steps Took value_at m (plan_at asks same hash p stands) m2 end → ComesFit present absent takes end
-      always_at stands all s = always_steps (ComesFit present absent takes) m m2 (plan_at asks same hash p stands) end all s
+      always_at : (stands : Calling) → AlwaysOf (StepFits present absent takes) (plan_at asks same hash p stands) → Steps Took value_at m (plan_at asks same hash p stands) m2 end → StepFits present absent takes end
+      always_at stands all s = always_steps (StepFits present absent takes) m m2 (plan_at asks same hash p stands) end all s
 
       -- whatever its step comes to
-      fits_from : (stands : Calling) → FitsAt present absent takes stands → Steps Took value_at m (plan_at asks same hash p stands) m2 end → ComesFit present absent takes end
+      fits_from : (stands : Calling) → FitsAt present absent takes stands → Steps Took value_at m (plan_at asks same hash p stands) m2 end → StepFits present absent takes end
       fits_from at.Makes fits s = always_at at.Makes (on_made fits p.unmade) s
       fits_from (at.Looks l) fits s = on_looks fits l p.asked s
       fits_from at.Roots fits s = always_at at.Roots (on_root fits) s
@@ -346,27 +346,27 @@ module _ {K V Q : Type 0} (present : There) (absent : Missing) (takes : Takes) w
       fits_from at.Nexts fits s = always_at at.Nexts (on_next fits) s
       fits_from (at.Firsts making) fits s =
           let d = steps_back (first_made p) m m2 (new_table_plan making) end s in
-          subst (ComesFit present absent takes) (sym d.2) (fit_first p is.0 is.1 is.2 is.3 fits.0 d.0 (new_table_rooms making fits.1 m m2 d.0 d.1))
+          subst (StepFits present absent takes) (sym d.2) (fit_first p is.0 is.1 is.2 is.3 fits.0 d.0 (new_table_rooms making fits.1 m m2 d.0 d.1))
       fits_from (at.Allocs making) fits s =
           let d = steps_back (next_made p) m m2 (new_table_plan making) end s in
-          subst (ComesFit present absent takes) (sym d.2) (fit_next p is.0 is.1 is.2 is.3 fits.0 d.0 (new_table_rooms making fits.1 m m2 d.0 d.1))
+          subst (StepFits present absent takes) (sym d.2) (fit_next p is.0 is.1 is.2 is.3 fits.0 d.0 (new_table_rooms making fits.1 m m2 d.0 d.1))
       fits_from (at.Helps copier goal) fits s =
           let d = steps_back (helped p goal) m m2 (copier_plan hash copier) end s in
-          subst (ComesFit present absent takes) (sym d.2) (fit_helped p is.0 is.1 is.2 is.3 fits.0 goal d.0 (copier_rooms K V hash copier fits.1 m m2 d.0 d.1))
+          subst (StepFits present absent takes) (sym d.2) (fit_helped p is.0 is.1 is.2 is.3 fits.0 goal d.0 (copier_rooms K V hash copier fits.1 m m2 d.0 d.1))
       fits_from (at.Copies copier) fits s =
           let d = steps_back (copied p) m m2 (copier_plan hash copier) end s in
-          subst (ComesFit present absent takes) (sym d.2) (fit_copied p is.0 is.1 is.2 is.3 fits.0 d.0 (copier_rooms K V hash copier fits.1 m m2 d.0 d.1))
+          subst (StepFits present absent takes) (sym d.2) (fit_copied p is.0 is.1 is.2 is.3 fits.0 d.0 (copier_rooms K V hash copier fits.1 m m2 d.0 d.1))
       fits_from (at.Asks asking) fits s = always_at (at.Asks asking) (on_asks present absent takes p is asking fits) s
       fits_from (at.Disposes dispose answer) fits s =
-          always_at (at.Disposes dispose answer) (always_plan_as (ComesFit present absent takes) (disposed p answer) (fit_disposed p is.0 is.1 is.2 is.3 answer fits) (dispose_plan dispose)) s
+          always_at (at.Disposes dispose answer) (always_plan_as (StepFits present absent takes) (disposed p answer) (fit_disposed p is.0 is.1 is.2 is.3 answer fits) (dispose_plan dispose)) s
       fits_from (at.Drops last) fits s = always_at (at.Drops last) (on_dropped last fits) s
       fits_from (at.Over last) fits s = always_at (at.Over last) (is, on_over last fits) s
 
-    pub call_fits : (m m2 : Mem (Node K V)) (end : KeyCall K V Q × Called (Node K V)) → Steps Took value_at m (plan_at asks same hash p p.stands) m2 end → ComesFit present absent takes end
+    pub call_fits : (m m2 : Mem (Node K V)) (end : KeyCall K V Q × Called (Node K V)) → Steps Took value_at m (plan_at asks same hash p p.stands) m2 end → StepFits present absent takes end
     call_fits m m2 end s = fits_from m m2 end p.stands is.4 s
 
 -- nothing was told of a pair yet
-pub untold_fits : {K V : Type 0} (kind : Takes) (key : Option K) (absent : Told V) → ToldFits kind (untold kind key absent)
+pub untold_fits : {K V : Type 0} (kind : Takes) (key : Option K) (absent : Told V) → RepliesFit kind (untold kind key absent)
 untold_fits kind key absent = record { takes_is = refl; removes = λ e. cc e; choices = λ e. refl }
 
 -- the four kinds that never ask
@@ -388,5 +388,5 @@ asking_kinds_begin K V Q setting code q key absent = (
   (refl, refl, untold_fits kinds.Choices None tells.Nothing, (λ e. absurd (cc e)), (λ present absent. cc present)),
 )
 
-pub kinds_kept : (K V Q : Type 0) → CallsKeepTheirKind K V Q
+pub kinds_kept : (K V Q : Type 0) → CallsPreserveTheirKind K V Q
 kinds_kept K V Q asks same hash present absent takes p is m m2 end s = call_fits present absent takes asks same hash p is m m2 end s

@@ -15,7 +15,7 @@ use Rattle.map_facts.specs.Given.RawDeclared.machines.call.Calling.{Calling}
 use Rattle.map_facts.specs.Given.RawDeclared.machines.call.Calling.TheVariants as calls
 use Rattle.map_facts.specs.Given.ReservesDeclared.sweep.Sweeping.{Sweeping}
 use Rattle.map_facts.specs.Given.ReservesDeclared.sweep.Sweeping.TheVariants as sweeps
-use Rattle.map_facts_late.specs.Faults.{StandsInMaking, StandsInCopying, StandsInReserving, StandsInSweeping, StandsInCalling}
+use Rattle.map_facts_late.specs.Faults.{HoldsInMaking, HoldsInCopying, HoldsInReserving, HoldsInSweeping, HoldsInCalling}
 
 -- it stands so that a fault is known, or a table behind which another one is to be put
 abbrev pub BoundMaking : Making → Type 0
@@ -59,12 +59,12 @@ module _ (Is Is2 : Fault → Type 0) (Last Last2 : Table → Reason → Type 0) 
   abbrev pub Keeps : Type 0
   Keeps = ((fault : Fault) → Is fault → Is2 fault) × ((before : Table) (reason : Reason) → Last before reason → Last2 before reason)
 
-  pub making_on : (stage : Making) → (BoundMaking stage → Keeps) → StandsInMaking Is Last stage → StandsInMaking Is2 Last2 stage
+  pub making_on : (stage : Making) → (BoundMaking stage → Keeps) → HoldsInMaking Is Last stage → HoldsInMaking Is2 Last2 stage
   making_on (makes.Sums before reason sum) keeps so = (keeps tt).1 before reason so
   making_on (makes.Refused fault) keeps so = (keeps tt).0 fault so
   making_on _ keeps so = tt
 
-  pub copying_on : (stage : Copying) → (BoundCopying stage → Keeps) → StandsInCopying Is Last stage → StandsInCopying Is2 Last2 stage
+  pub copying_on : (stage : Copying) → (BoundCopying stage → Keeps) → HoldsInCopying Is Last stage → HoldsInCopying Is2 Last2 stage
   copying_on (copies.Grows word code making) keeps so = making_on making.stands keeps so
   copying_on (copies.Remakes making) keeps so = making_on making.stands keeps so
   copying_on (copies.Tallies word fault) keeps so = (keeps tt).0 fault so
@@ -73,7 +73,7 @@ module _ (Is Is2 : Fault → Type 0) (Last Last2 : Table → Reason → Type 0) 
   copying_on (copies.Refused fault) keeps so = (keeps tt).0 fault so
   copying_on _ keeps so = tt
 
-  pub reserving_on : (stage : Reserving) → (BoundReserving stage → Keeps) → StandsInReserving Is Last stage → StandsInReserving Is2 Last2 stage
+  pub reserving_on : (stage : Reserving) → (BoundReserving stage → Keeps) → HoldsInReserving Is Last stage → HoldsInReserving Is2 Last2 stage
   reserving_on (reserves.Makes making) keeps so = making_on making.stands keeps so
   reserving_on (reserves.Follows table need) keeps so = so
   reserving_on (reserves.Grows table making) keeps so = making_on making.stands keeps so
@@ -81,12 +81,12 @@ module _ (Is Is2 : Fault → Type 0) (Last Last2 : Table → Reason → Type 0) 
   reserving_on (reserves.Refused fault) keeps so = (keeps tt).0 fault so
   reserving_on _ keeps so = tt
 
-  pub sweeping_on : (stage : Sweeping) → (BoundSweeping stage → Keeps) → StandsInSweeping Is Last stage → StandsInSweeping Is2 Last2 stage
+  pub sweeping_on : (stage : Sweeping) → (BoundSweeping stage → Keeps) → HoldsInSweeping Is Last stage → HoldsInSweeping Is2 Last2 stage
   sweeping_on (sweeps.Copies copier) keeps so = copying_on copier.stands keeps so
   sweeping_on (sweeps.Refused fault) keeps so = (keeps tt).0 fault so
   sweeping_on _ keeps so = tt
 
-  pub calling_on : (table : Table) (stage : Calling) → (BoundCalling stage → Keeps) → StandsInCalling Is Last table stage → StandsInCalling Is2 Last2 table stage
+  pub calling_on : (table : Table) (stage : Calling) → (BoundCalling stage → Keeps) → HoldsInCalling Is Last table stage → HoldsInCalling Is2 Last2 table stage
   calling_on table (calls.Firsts making) keeps so = making_on making.stands keeps so
   calling_on table (calls.Allocs making) keeps so = making_on making.stands keeps so
   calling_on table (calls.Helps copier goal) keeps so = copying_on copier.stands keeps so

@@ -39,9 +39,9 @@ use Rattle.map_facts.specs.Given.ResizeDeclared.yielding.Yielding.{Yielding}
 use Rattle.map_facts.specs.Given.ResizeDeclared.yielding.Yielding.TheVariants as outcome
 use Rattle.map_facts.specs.Given.RawCall.{call_plan, made, makes_of, root_found, next_found, dropped, key_read, pair_read, word_read, word_found, tried, looked, looks_for, first_made, next_made, disposed, helped, copied}
 use Rattle.map_facts.specs.Given.RawCall as calls
-use Rattle.map_facts.specs.Given.RawCallAsks.{absent_told, present_told, told_at, with_absent, with_present}
+use Rattle.map_facts.specs.Given.RawCallAsks.{absent_replied, present_replied, replied_at, with_absent, with_present}
 use Rattle.map_facts.specs.Given.RawCallFills.{emptied, fill_by, filled, fills_with, given_up, putting_by}
-use Rattle.map_facts.specs.Given.RawCallPoints.{aim_of, asking_at, asking_of, at_free, at_gap, at_last, at_pair, burying, changed, counted, ending, entering, full_for, following_made, gap_by, going, having_met, over, pair_by, standing, storing, tableless, told, told_of, went_on}
+use Rattle.map_facts.specs.Given.RawCallPoints.{aim_of, asking_at, asking_of, at_free, at_gap, at_last, at_pair, burying, changed, counted, ending, entering, full_for, following_made, gap_by, going, having_met, over, pair_by, standing, storing, tableless, told, after_finding, continued_in}
 use Rattle.map_facts.specs.Given.RawReplies.{as_own, value_for}
 use Rattle.map_facts.specs.Given.RawDeclared.machines.answer.Called.{Called}
 use Rattle.map_facts.specs.Given.RawDeclared.machines.answer.Called.TheVariants as called
@@ -68,7 +68,7 @@ use Rattle.map_facts.specs.Given.RawDeclared.machines.call.KeyCall.{KeyCall}
 use Rattle.map_facts.proofs.Calls.Asked.{passed_so}
 use Rattle.map_facts.proofs.Given.RuleKeys.Always.{Always, AlwaysOf, always_ends, always_if, always_steps}
 use Rattle.map_facts_late.specs.Ends.{IsLastFor, EndsInCalling}
-use Rattle.map_facts_late.specs.Faults.{AnyTable, CallRefusesSo, SoInCalling, StandsInCalling, StandsInMaking}
+use Rattle.map_facts_late.specs.Faults.{AnyTable, CallRefusesSo, SoInCalling, HoldsInCalling, HoldsInMaking}
 use Rattle.map_facts_late.proofs.KindsKept.Calls.Kept.{LooksOn, looks_on}
 use Rattle.map_facts_late.proofs.KindsKept.Rooms.Copying.{CopiesAs, copier_as}
 use Rattle.map_facts_late.proofs.KindsKept.Rooms.Making.{MakesAs, always_where, first_table_as, new_table_as, table_full_as}
@@ -77,7 +77,7 @@ use Rattle.map_facts_late.proofs.KindsKept.Rooms.Reserving.{copying_as}
 -- where a call stands, in the table of its try
 module _ (Is : Fault → Type 0) (Last : Table → Reason → Type 0) where
   abbrev pub IsSoAt : {K V Q : Type 0} → KeyCall K V Q → Type 0
-  IsSoAt p = StandsInCalling Is Last p.trial.table p.stands
+  IsSoAt p = HoldsInCalling Is Last p.trial.table p.stands
 
   -- it is so, and what it tells
   abbrev pub CallsAs : {K V Q : Type 0} → KeyCall K V Q × Called (Node K V) → Type 0
@@ -88,13 +88,13 @@ module _ (Is : Fault → Type 0) (Last : Table → Reason → Type 0) where
   GapSo table gaps.Last = IsLastFor Is Last table
   GapSo table _ = Unit {0}
 
-  gap_stands : (table : Table) (gap : Gap) → StandsInCalling Is Last table (at.Asks (asking.Absent gap)) → GapSo table gap
+  gap_stands : (table : Table) (gap : Gap) → HoldsInCalling Is Last table (at.Asks (asking.Absent gap)) → GapSo table gap
   gap_stands table gaps.NoTable so = tt
   gap_stands table gaps.Free so = tt
   gap_stands table gaps.Past so = tt
   gap_stands table gaps.Last so = so
 
-  stands_gap : (table : Table) (gap : Gap) → GapSo table gap → StandsInCalling Is Last table (at.Asks (asking.Absent gap))
+  stands_gap : (table : Table) (gap : Gap) → GapSo table gap → HoldsInCalling Is Last table (at.Asks (asking.Absent gap))
   stands_gap table gaps.NoTable so = tt
   stands_gap table gaps.Free so = tt
   stands_gap table gaps.Past so = tt
@@ -128,7 +128,7 @@ module _ (Is : Fault → Type 0) (Last : Table → Reason → Type 0) where
     following_as last = (table_full_as Is Last p.setting p.trial.table p.trial.met (found_full p.trial).most (last (full_for p.trial) tt), tt)
 
     -- its first table is not too long
-    firsts_as : StandsInMaking Is Last (first_table p.setting FIRST_LEN).stands
+    firsts_as : HoldsInMaking Is Last (first_table p.setting FIRST_LEN).stands
     firsts_as = first_table_as Is Last p.setting FIRST_LEN (λ more. absurd (omega (arith, more)))
 
     storing_as : (t : Told V) (word : ℕ) → So (storing t p word)
@@ -189,7 +189,7 @@ module _ (Is : Fault → Type 0) (Last : Table → Reason → Type 0) where
     told_as : (loaded : Bool) (word : ℕ) (named : Bool) → So (told loaded p word named)
     told_as loaded word named = by (finding p.setting.mode (aim_of p.missing) word named)
       where
-        by : (found : Finding) → So (told_of loaded p word found)
+        by : (found : Finding) → So (after_finding loaded p word found)
         by finds.Free = free_as p.missing
         by finds.Passed =
             passed_so So (having_met p word) (λ next. (tt, tt)) (tt, tt)
@@ -199,7 +199,7 @@ module _ (Is : Fault → Type 0) (Last : Table → Reason → Type 0) where
         by finds.Copying = either loaded (standing p at.Probes, called.Waits) (going p at.Probes) (tt, tt) (tt, tt)
         by finds.There = pair_as p.there word
 
-    on_as : (table : Table) → So (went_on p table)
+    on_as : (table : Table) → So (continued_in p table)
     on_as table =
         either (is_incremental p.setting.mode) _ (going p (at.Copies (copying_all p.setting p.trial.table table))) (either p.helped (entering p table) _ (tt, tt) (tt, tt))
         (copying_as Is Last p.setting p.trial.table table, tt)
@@ -352,7 +352,7 @@ module _ (Is : Fault → Type 0) (Last : Table → Reason → Type 0) where
 
 -- of a call that goes on with what it was told
 module _ (Is : Fault → Type 0) (Last : Table → Reason → Type 0) (nothing : Is RemoveNothing) {K V Q : Type 0} where
-  absent_told_as : (t : Takes) (p : KeyCall K V Q) → IsSoAt Is Last p → (gap : Gap) → GapSo Is Last p.trial.table gap → (r : MachineReply V) → IsSoAt Is Last (absent_told t p gap r).0
+  absent_told_as : (t : Takes) (p : KeyCall K V Q) → IsSoAt Is Last p → (gap : Gap) → GapSo Is Last p.trial.table gap → (r : MachineReply V) → IsSoAt Is Last (absent_replied t p gap r).0
   absent_told_as takes.Values p here gap so (reply.Insert value) = (gap_as Is Last (with_absent p value) gap so).0
   absent_told_as takes.Changes p here gap so (reply.Insert value) = (gap_as Is Last (with_absent p value) gap so).0
   absent_told_as takes.Changes p here gap so reply.Remove = (ending_as Is Last p (ends.Refused RemoveNothing) nothing).0
@@ -366,7 +366,7 @@ module _ (Is : Fault → Type 0) (Last : Table → Reason → Type 0) (nothing :
   absent_told_as takes.Nothing p here gap so r = here
   absent_told_as takes.Choices p here gap so r = here
 
-  present_told_as : (t : Takes) (p : KeyCall K V Q) → IsSoAt Is Last p → (word : ℕ) (r : MachineReply V) → IsSoAt Is Last (present_told t p word r).0
+  present_told_as : (t : Takes) (p : KeyCall K V Q) → IsSoAt Is Last p → (word : ℕ) (r : MachineReply V) → IsSoAt Is Last (present_replied t p word r).0
   present_told_as takes.Values p here word (reply.Insert value) = tt
   present_told_as takes.Changes p here word (reply.Insert value) = tt
   present_told_as takes.Changes p here word reply.Remove = (burying_as Is Last (with_present p word tells.Removes) word).0
@@ -384,12 +384,12 @@ module _ (Is : Fault → Type 0) (Last : Table → Reason → Type 0) (nothing :
   present_told_as takes.Choices p here word reply.Abort = here
   present_told_as takes.Nothing p here word r = here
 
-  told_at_as : (stands : Calling) (p : KeyCall K V Q) → IsSoAt Is Last p → StandsInCalling Is Last p.trial.table stands → (r : MachineReply V) → IsSoAt Is Last (told_at stands p r).0
+  told_at_as : (stands : Calling) (p : KeyCall K V Q) → IsSoAt Is Last p → HoldsInCalling Is Last p.trial.table stands → (r : MachineReply V) → IsSoAt Is Last (replied_at stands p r).0
   told_at_as (at.Asks (asking.Absent gap)) p here so r = absent_told_as p.replies.takes p here gap (gap_stands Is Last p.trial.table gap so) r
   told_at_as (at.Asks (asking.Present word)) p here so r = present_told_as p.replies.takes p here word r
   told_at_as _ p here so r = here
 
-  pub key_told_as : (p : KeyCall K V Q) → IsSoAt Is Last p → (r : MachineReply V) → IsSoAt Is Last (told_at p.stands p r).0
+  pub key_told_as : (p : KeyCall K V Q) → IsSoAt Is Last p → (r : MachineReply V) → IsSoAt Is Last (replied_at p.stands p r).0
   key_told_as p here r = told_at_as p.stands p here here r
 
 -- The promise: each step leads to a point that is so, and a refusal is so.
@@ -423,7 +423,7 @@ module _ (Is : Fault → Type 0) (Last : Table → Reason → Type 0) (short : I
   fills_as (Some key) word = fill_as (value_for p.replies word) (record p { replies = as_own p.replies word }) here word key
   fills_as None word = λ out. on_emptied Is Last p asks same here word out
 
-  from : (stands : Calling) → StandsInCalling Is Last p.trial.table stands → EndsInCalling Is Last m p.trial.table stands → Steps Took value_at m (calls.plan_at asks same hash p stands) m2 end → Comes end
+  from : (stands : Calling) → HoldsInCalling Is Last p.trial.table stands → EndsInCalling Is Last m p.trial.table stands → Steps Took value_at m (calls.plan_at asks same hash p stands) m2 end → Comes end
   from at.Makes so bounds s = so_of at.Makes (makes_as p.unmade) s
   from (at.Looks lookup) so bounds s = looks_as lookup p.asked s
   from at.Roots so bounds s = so_of at.Roots (on_root Is Last p asks same here) s
@@ -460,7 +460,7 @@ module _ (Is : Fault → Type 0) (Last : Table → Reason → Type 0) (short : I
 
 -- where any table is one of these
 module _ (Is : Fault → Type 0) where
-  pub so_of_stands : (table : Table) (stands : Calling) → StandsInCalling Is AnyTable table stands → SoInCalling Is stands
+  pub so_of_stands : (table : Table) (stands : Calling) → HoldsInCalling Is AnyTable table stands → SoInCalling Is stands
   so_of_stands table (at.Firsts making) so = so
   so_of_stands table (at.Allocs making) so = so
   so_of_stands table (at.Helps copier goal) so = so
@@ -469,7 +469,7 @@ module _ (Is : Fault → Type 0) where
   so_of_stands table (at.Over (ends.Refused fault)) so = so
   so_of_stands table _ so = tt
 
-  pub stands_of_so : (table : Table) (stands : Calling) → SoInCalling Is stands → StandsInCalling Is AnyTable table stands
+  pub stands_of_so : (table : Table) (stands : Calling) → SoInCalling Is stands → HoldsInCalling Is AnyTable table stands
   stands_of_so table (at.Firsts making) so = so
   stands_of_so table (at.Allocs making) so = so
   stands_of_so table (at.Helps copier goal) so = so

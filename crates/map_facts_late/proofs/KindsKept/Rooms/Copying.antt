@@ -20,7 +20,7 @@ use Rattle.map_facts.specs.Given.ResizeCopierClaims.{root_read, next_read, statu
 use Rattle.map_facts.specs.Given.ResizeCopierCounts.{refusing, counted}
 use Rattle.map_facts.specs.Given.ResizeCopierFurther.{further_read, replacement_read, grown, remade}
 use Rattle.map_facts.specs.Given.ResizeCopierMarks.{is_mine, is_awaited, marked}
-use Rattle.map_facts.specs.Given.ResizeCopierPlaces.{next_try, pair_put, place_read, put_told}
+use Rattle.map_facts.specs.Given.ResizeCopierPlaces.{next_try, pair_put, place_read, after_put}
 use Rattle.map_facts.specs.Given.ResizeCopierPromotes.{table_retired, promoted, successor_read, retired}
 use Rattle.map_facts.specs.Given.ResizeCopierStates.{standing, behind, none_left, next_place, place_done}
 use Rattle.map_facts.specs.Given.ResizeNewTable.{new_table_plan}
@@ -42,13 +42,13 @@ use Rattle.map_facts.specs.Given.ResizeDeclared.copier.Copying.TheVariants as at
 use Rattle.map_facts.specs.Given.ResizeDeclared.new_table.NewTable.{NewTable}
 use Rattle.map_facts.proofs.Given.RuleKeys.Always.{Always, AlwaysOf, always_ends, always_if, always_steps}
 use Rattle.map_facts_late.specs.Ends.{EndsSo, IsLastFor, EndsInCopying}
-use Rattle.map_facts_late.specs.Faults.{AnyTable, IsRoom, RoomInCopying, RefusesSo, SoInCopying, StandsInCopying}
+use Rattle.map_facts_late.specs.Faults.{AnyTable, IsRoom, RoomInCopying, RefusesSo, SoInCopying, HoldsInCopying}
 use Rattle.map_facts_late.proofs.KindsKept.Rooms.Making.{MakesAs, MakesFor, always_long, always_where, new_table_as, table_after_as}
 
 -- a fault that it has to tell is such a one, and a refusal is one for it
 module _ (Is : Fault → Type 0) (Last : Table → Reason → Type 0) where
   abbrev pub CopiesAs : {T : Type 0} → Copier × Yielding T Table → Type 0
-  CopiesAs (p, told) = StandsInCopying Is Last p.stands × RefusesSo Is told
+  CopiesAs (p, told) = HoldsInCopying Is Last p.stands × RefusesSo Is told
 
 -- it goes on with no machine within it
 abbrev pub IsOwn : Copying → Type 0
@@ -59,63 +59,63 @@ IsOwn _ = Unit {0}
 
 module _ (Is : Fault → Type 0) (Last : Table → Reason → Type 0) where
   -- where it goes on after a piece of work
-  behind_so : (p : Copier) → StandsInCopying Is Last (behind p).stands
+  behind_so : (p : Copier) → HoldsInCopying Is Last (behind p).stands
   behind_so p = by p.whole
     where
-      by : (b : Bool) → StandsInCopying Is Last (if b then record p { place = 0; end = 0; spent = is_incremental p.setting.mode; stands = at.Asks } else standing p at.Over).stands
+      by : (b : Bool) → HoldsInCopying Is Last (if b then record p { place = 0; end = 0; spent = is_incremental p.setting.mode; stands = at.Asks } else standing p at.Over).stands
       by true = tt
       by false = tt
 
-  none_left_so : (p : Copier) → StandsInCopying Is Last (none_left p).stands
+  none_left_so : (p : Copier) → HoldsInCopying Is Last (none_left p).stands
   none_left_so p = by p.whole
     where
-      by : (b : Bool) → StandsInCopying Is Last (if b then record p { spent = true; stands = at.Asks } else standing p at.Over).stands
+      by : (b : Bool) → HoldsInCopying Is Last (if b then record p { spent = true; stands = at.Asks } else standing p at.Over).stands
       by true = tt
       by false = tt
 
-  next_so : (p : Copier) → StandsInCopying Is Last (next_place p).stands
+  next_so : (p : Copier) → HoldsInCopying Is Last (next_place p).stands
   next_so p = by (nat_lt p.place (p.end - 1)) (p.done == 0)
     where
-      ends : (b : Bool) → StandsInCopying Is Last (if b then behind p else standing p at.Counts).stands
+      ends : (b : Bool) → HoldsInCopying Is Last (if b then behind p else standing p at.Counts).stands
       ends true = behind_so p
       ends false = tt
 
-      by : (a b : Bool) → StandsInCopying Is Last (if a then record p { place = p.place + 1; stands = at.Marks } else (if b then behind p else standing p at.Counts)).stands
+      by : (a b : Bool) → HoldsInCopying Is Last (if a then record p { place = p.place + 1; stands = at.Marks } else (if b then behind p else standing p at.Counts)).stands
       by true b = tt
       by false b = ends b
 
-  done_so : (p : Copier) → StandsInCopying Is Last (place_done p).stands
+  done_so : (p : Copier) → HoldsInCopying Is Last (place_done p).stands
   done_so p = next_so (record p { done = (p.done + 1) % 2 ^ 64 })
 
-  next_try_so : (p : Copier) (word code : ℕ) (table : Table) (probe : Probe) → StandsInCopying Is Last (next_try p word code table probe).stands
+  next_try_so : (p : Copier) (word code : ℕ) (table : Table) (probe : Probe) → HoldsInCopying Is Last (next_try p word code table probe).stands
   next_try_so p word code table probe = by (nat_lt probe.len table.limit) (is_incremental p.setting.mode)
     where
-      ends : (b : Bool) → StandsInCopying Is Last (if b then standing p (at.Passes word code table) else record p { place = 0; end = 0; done = 0; stands = at.Aborts }).stands
+      ends : (b : Bool) → HoldsInCopying Is Last (if b then standing p (at.Passes word code table) else record p { place = 0; end = 0; done = 0; stands = at.Aborts }).stands
       ends true = tt
       ends false = tt
 
-      by : (a b : Bool) → StandsInCopying Is Last (if a then standing p (at.Probes word code table (probe_after probe (table.len - 1))) else (if b then standing p (at.Passes word code table) else record p { place = 0; end = 0; done = 0; stands = at.Aborts })).stands
+      by : (a b : Bool) → HoldsInCopying Is Last (if a then standing p (at.Probes word code table (probe_after probe (table.len - 1))) else (if b then standing p (at.Passes word code table) else record p { place = 0; end = 0; done = 0; stands = at.Aborts })).stands
       by true b = tt
       by false b = ends b
 
-  pair_put_so : (p : Copier) (word : ℕ) → StandsInCopying Is Last (pair_put p word).stands
+  pair_put_so : (p : Copier) (word : ℕ) → HoldsInCopying Is Last (pair_put p word).stands
   pair_put_so p word = by (is_incremental p.setting.mode)
     where
-      by : (b : Bool) → StandsInCopying Is Last (if b then standing p (at.Covers word) else place_done p).stands
+      by : (b : Bool) → HoldsInCopying Is Last (if b then standing p (at.Covers word) else place_done p).stands
       by true = tt
       by false = done_so p
 
-  refusing_so : (p : Copier) (word : ℕ) (fault : Fault) → Is fault → StandsInCopying Is Last (refusing p word fault).stands
+  refusing_so : (p : Copier) (word : ℕ) (fault : Fault) → Is fault → HoldsInCopying Is Last (refusing p word fault).stands
   refusing_so p word fault room = by (p.done == 0)
     where
-      by : (b : Bool) → StandsInCopying Is Last (if b then standing p (at.Unmarks word fault) else standing p (at.Tallies word fault)).stands
+      by : (b : Bool) → HoldsInCopying Is Last (if b then standing p (at.Unmarks word fault) else standing p (at.Tallies word fault)).stands
       by true = room
       by false = room
 
-  retired_so : (p : Copier) (rest : ℕ) → StandsInCopying Is Last (table_retired p rest).stands
+  retired_so : (p : Copier) (rest : ℕ) → HoldsInCopying Is Last (table_retired p rest).stands
   retired_so p rest = by (rest == 0)
     where
-      by : (b : Bool) → StandsInCopying Is Last (if b then standing p at.Over else standing p (at.Succeeds rest)).stands
+      by : (b : Bool) → HoldsInCopying Is Last (if b then standing p at.Over else standing p (at.Succeeds rest)).stands
       by true = tt
       by false = tt
 
@@ -147,7 +147,7 @@ module _ (Is : Fault → Type 0) (Last : Table → Reason → Type 0) where
     EndsOwn at.Replaces = EndsSo Is Last p.setting × ((out : Out (Node K V)) → out ≡ Found 0 → IsLastFor Is Last p.target)
     EndsOwn _ = Unit {0}
 
-    module _ (here : StandsInCopying Is Last p.stands) where
+    module _ (here : HoldsInCopying Is Last p.stands) where
       stays : Rooms (p, outcome.Goes)
       stays = (here, tt)
 
@@ -210,7 +210,7 @@ module _ (Is : Fault → Type 0) (Last : Table → Reason → Type 0) where
       place_so word code table probe (Taken value) = stays
       place_so word code table probe (Roomed r) = stays
 
-      put_so : (word code : ℕ) (table : Table) (probe : Probe) (out : Out (Node K V)) → Always Rooms (put_told p word code table probe out)
+      put_so : (word code : ℕ) (table : Table) (probe : Probe) (out : Out (Node K V)) → Always Rooms (after_put p word code table probe out)
       put_so word code table probe (Exchanged (Ok found)) = (pair_put_so p word, tt)
       put_so word code table probe (Exchanged (Err found)) = (next_try_so p word code table probe, tt)
       put_so word code table probe (Found found) = stays
@@ -263,7 +263,7 @@ module _ (Is : Fault → Type 0) (Last : Table → Reason → Type 0) where
       successor_so table (Roomed r) = stays
 
       -- each step leads to a point that is so, and a refusal is so
-      pub own_as : (stage : Copying) → IsOwn stage → StandsInCopying Is Last stage → EndsOwn stage → AlwaysOf Rooms (plan_at hash p stage)
+      pub own_as : (stage : Copying) → IsOwn stage → HoldsInCopying Is Last stage → EndsOwn stage → AlwaysOf Rooms (plan_at hash p stage)
       own_as at.Begins own room ends = root_so
       own_as at.Follows own room ends = follows_so
       own_as at.Asks own room ends = status_so
@@ -299,7 +299,7 @@ module _ (Is : Fault → Type 0) (long : Is Capacity) where
   copying_ends m p _ = tt
 
 -- The promise: each step leads to a point that is so, and a refusal is so.
-module _ (Is : Fault → Type 0) (Last : Table → Reason → Type 0) (short : Is Memory) (K V : Type 0) (hash : K → ℕ) (p : Copier) (here : StandsInCopying Is Last p.stands) where
+module _ (Is : Fault → Type 0) (Last : Table → Reason → Type 0) (short : Is Memory) (K V : Type 0) (hash : K → ℕ) (p : Copier) (here : HoldsInCopying Is Last p.stands) where
   abbrev CopiesHere : Copier × Yielding (Node K V) Table → Type 0
   CopiesHere end = CopiesAs Is Last end
 
@@ -309,7 +309,7 @@ module _ (Is : Fault → Type 0) (Last : Table → Reason → Type 0) (short : I
       told : (stage : Copying) → AlwaysOf CopiesHere (plan_at hash p stage) → Steps Took value_at m (plan_at hash p stage) m2 end → CopiesHere end
       told stage always s = always_steps CopiesHere m m2 (plan_at hash p stage) end always s
 
-      by : (stage : Copying) → StandsInCopying Is Last stage → EndsInCopying Is Last m p stage → Steps Took value_at m (plan_at hash p stage) m2 end → CopiesHere end
+      by : (stage : Copying) → HoldsInCopying Is Last stage → EndsInCopying Is Last m p stage → Steps Took value_at m (plan_at hash p stage) m2 end → CopiesHere end
       by (at.Grows word code making) so ends s =
           let d = steps_back (grown p word code) m m2 (new_table_plan making) end s in
           subst CopiesHere (sym d.2) (grown_as Is Last K V hash p word code d.0 (new_table_as Is Last short making ends so m m2 d.0 d.1))

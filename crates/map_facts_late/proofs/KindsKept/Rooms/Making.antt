@@ -31,7 +31,7 @@ use Rattle.map_facts.proofs.Given.SeizeRuleRows.Leaving.{steps_back}
 use Rattle.map_facts.proofs.Given.TablesEnds.{next_few}
 use Rattle.map_facts.proofs.Given.RuleKeys.Always.{Always, AlwaysOf, always_if, always_steps}
 use Rattle.map_facts_late.specs.Ends.{EndsSo}
-use Rattle.map_facts_late.specs.Faults.{AnyTable, IsRoom, RoomInMaking, SoInMaking, StandsInMaking}
+use Rattle.map_facts_late.specs.Faults.{AnyTable, IsRoom, RoomInMaking, SoInMaking, HoldsInMaking}
 use Rattle.map_facts.proofs.Given.General.{less_not as at_least}
 
 -- a length that can't be had is too long
@@ -67,23 +67,23 @@ module _ {T R : Type 0} (P : R → Type 0) where
 
 -- What is begun: where a length is too long, or the table before has the last turn, the fault is such a one.
 module _ (Is : Fault → Type 0) (Last : Table → Reason → Type 0) where
-  chosen : (b : Bool) (x y : Making) → StandsInMaking Is Last x → (b ≡ false → StandsInMaking Is Last y) → StandsInMaking Is Last (if b then x else y)
+  chosen : (b : Bool) (x y : Making) → HoldsInMaking Is Last x → (b ≡ false → HoldsInMaking Is Last y) → HoldsInMaking Is Last (if b then x else y)
   chosen true x y f g = f
   chosen false x y f g = g refl
 
-  first_as : (len : ℕ) → (2 ^ 48 < len → Is Capacity) → StandsInMaking Is Last (making_first len)
+  first_as : (len : ℕ) → (2 ^ 48 < len → Is Capacity) → HoldsInMaking Is Last (making_first len)
   first_as len long = chosen (nat_le len (2 ^ 48)) (makes.Makes (planned len (limit_of len) 0)) (makes.Refused Capacity) tt (λ many. long (above len (2 ^ 48) many))
 
-  following_as : (r : Reason) (before : Table) (len : ℕ) → (2 ^ 48 < len → Is Capacity) → (2 ^ 63 ≤ before.turn → Is Capacity) → StandsInMaking Is Last (following r before len (next_turn before.turn))
+  following_as : (r : Reason) (before : Table) (len : ℕ) → (2 ^ 48 < len → Is Capacity) → (2 ^ 63 ≤ before.turn → Is Capacity) → HoldsInMaking Is Last (following r before len (next_turn before.turn))
   following_as r before len long late = by (nat_lt before.turn (2 ^ 63)) refl
     where
-      by : (b : Bool) → nat_lt before.turn (2 ^ 63) ≡ b → StandsInMaking Is Last (following r before len (if b then Ok (before.turn + 1) else Err Capacity))
+      by : (b : Bool) → nat_lt before.turn (2 ^ 63) ≡ b → HoldsInMaking Is Last (following r before len (if b then Ok (before.turn + 1) else Err Capacity))
       by true e =
           chosen (nat_le len (2 ^ 48)) (makes.Makes (planned len (next_limit r before.len before.limit len) (before.turn + 1))) (makes.Refused Capacity) tt (λ many. long (above len (2 ^ 48) many))
       by false e = late (at_least before.turn (2 ^ 63) e)
 
   making_as : (r : Reason) (before : Table) (len : Result ℕ Fault) → IsLong len → IfOk len (λ x. 2 ^ 48 < x → Is Capacity) → (len ≡ Err Capacity → Is Capacity) → (2 ^ 63 ≤ before.turn → Is Capacity)
-      → StandsInMaking Is Last (making_of r before len)
+      → HoldsInMaking Is Last (making_of r before len)
   making_as r before (Ok len) fails long none late = following_as r before (max len 8) (λ more. long (omega (arith, more))) late
   making_as r before (Err fault) fails long none late = subst Is (sym fails) (none (ap (λ (x : Fault). Err x) fails))
 
@@ -93,27 +93,27 @@ module _ (Is : Fault → Type 0) (Last : Table → Reason → Type 0) where
 
   -- the table after another one, by a count
   after_as : (r : Reason) (before : Table) (count initial : ℕ) → (NoneFollows r before.len before.turn count initial → Is Capacity)
-      → StandsInMaking Is Last (making_of r before (next_len r before.len count initial))
+      → HoldsInMaking Is Last (making_of r before (next_len r before.len count initial))
   after_as r before count initial ends =
       making_as r before (next_len r before.len count initial) (len_long r before.len count initial) (fitting (next_len r before.len count initial) (next_few r before.len count initial))
       (λ none. ends (inl none)) (λ late. ends (inr late))
 
-  begun_as : (setting : Setting) (before : Table) (r : Reason) → Last before r → EndsSo Is Last setting → StandsInMaking Is Last (begun_for setting before r)
+  begun_as : (setting : Setting) (before : Table) (r : Reason) → Last before r → EndsSo Is Last setting → HoldsInMaking Is Last (begun_for setting before r)
   begun_as setting before reason.NoPlace last ends = after_as reason.NoPlace before 0 setting.initial (ends before reason.NoPlace 0 last)
   begun_as setting before (reason.Reserved additional) last ends = last
   begun_as setting before (reason.Full met most) last ends = last
 
-  pub first_table_as : (setting : Setting) (len : ℕ) → (2 ^ 48 < len → Is Capacity) → StandsInMaking Is Last (first_table setting len).stands
+  pub first_table_as : (setting : Setting) (len : ℕ) → (2 ^ 48 < len → Is Capacity) → HoldsInMaking Is Last (first_table setting len).stands
   first_table_as setting len long = first_as (max len 8) (λ more. long (omega (arith, more)))
 
-  pub table_after_as : (setting : Setting) (before : Table) (r : Reason) → Last before r → EndsSo Is Last setting → StandsInMaking Is Last (table_after setting before r).stands
+  pub table_after_as : (setting : Setting) (before : Table) (r : Reason) → Last before r → EndsSo Is Last setting → HoldsInMaking Is Last (table_after setting before r).stands
   table_after_as setting before r last ends = begun_as setting before r last ends
 
-  pub table_full_as : (setting : Setting) (before : Table) (met most : ℕ) → Last before (reason.Full met most) → StandsInMaking Is Last (table_after setting before (reason.Full met most)).stands
+  pub table_full_as : (setting : Setting) (before : Table) (met most : ℕ) → Last before (reason.Full met most) → HoldsInMaking Is Last (table_after setting before (reason.Full met most)).stands
   table_full_as setting before met most last = last
 
   pub table_reserved_as : (setting : Setting) (before : Table) (len : ℕ) → (2 ^ 48 < len → Is Capacity) → (2 ^ 63 ≤ before.turn → Is Capacity)
-      → StandsInMaking Is Last (table_reserved setting before len).stands
+      → HoldsInMaking Is Last (table_reserved setting before len).stands
   table_reserved_as setting before len long late = making_as (reason.Reserved 0) before (Ok len) tt long (λ none. absurd (cc none)) late
 
 -- where the fault is such a one in any case
@@ -163,8 +163,8 @@ IsPlain _ = Unit {0}
 module _ (Is : Fault → Type 0) (Last : Table → Reason → Type 0) where
   -- each step leads to a point that is so, and a refusal is so
   abbrev pub MakesAs : NewTable × Advance Table → Type 0
-  MakesAs (n, progress.Refused fault) = StandsInMaking Is Last n.stands × Is fault
-  MakesAs (n, _) = StandsInMaking Is Last n.stands
+  MakesAs (n, progress.Refused fault) = HoldsInMaking Is Last n.stands × Is fault
+  MakesAs (n, _) = HoldsInMaking Is Last n.stands
 
   module _ (n : NewTable) where
     pub counted_as : EndsSo Is Last n.setting → (before : Table) (r : Reason) → Last before r → (end : Sum × Advance ℕ) → CountsOn end → MakesAs (counted n before r end)
@@ -173,12 +173,12 @@ module _ (Is : Fault → Type 0) (Last : Table → Reason → Type 0) where
     counted_as ends before r last (sum, progress.Done count) on = after_as Is Last r before count n.setting.initial (ends before r count last)
     counted_as ends before r last (sum, progress.Refused fault) on = absurd on
 
-    module _ {K V : Type 0} (here : StandsInMaking Is Last n.stands) where
+    module _ {K V : Type 0} (here : HoldsInMaking Is Last n.stands) where
       -- it is refused for memory where its block is
       pub made_as : (table : Table) (out : Out (Node K V)) → ((value : Node K V) → out ≡ Made (Err value) → Is Memory) → Always MakesAs (made n table out)
       made_as table (Made (Ok block)) short = by n.link
         where
-          by : (link : At) → StandsInMaking Is Last (after_making link (with_block table block))
+          by : (link : At) → HoldsInMaking Is Last (after_making link (with_block table block))
           by (name.Root r) = tt
           by (name.Used r) = tt
           by (name.Slot s i) = tt
@@ -201,8 +201,8 @@ module _ (Is : Fault → Type 0) (Last : Table → Reason → Type 0) where
       linked_as table (Roomed r) = here
 
     -- each step of its own leads to a point that is so, and a refusal is so
-    module _ (K V : Type 0) (here : StandsInMaking Is Last n.stands) where
-      pub plain_as : (stage : Making) → IsPlain stage → StandsInMaking Is Last stage → AlwaysOf MakesAs (plan_at {K = K} {V = V} n stage)
+    module _ (K V : Type 0) (here : HoldsInMaking Is Last n.stands) where
+      pub plain_as : (stage : Making) → IsPlain stage → HoldsInMaking Is Last stage → AlwaysOf MakesAs (plan_at {K = K} {V = V} n stage)
       plain_as (makes.Sums before r sum) plain so = absurd plain
       plain_as (makes.Makes table) plain so = absurd plain
       plain_as (makes.Promotes table) plain so = λ out. tt
@@ -212,14 +212,14 @@ module _ (Is : Fault → Type 0) (Last : Table → Reason → Type 0) where
       plain_as (makes.Refused fault) plain so = (here, so)
 
 -- The promise: each step leads to a point that is so, and a refusal is so, for memory where its block is refused.
-module _ (Is : Fault → Type 0) (Last : Table → Reason → Type 0) (short : Is Memory) {K V : Type 0} (n : NewTable) (ends : EndsSo Is Last n.setting) (here : StandsInMaking Is Last n.stands) where
+module _ (Is : Fault → Type 0) (Last : Table → Reason → Type 0) (short : Is Memory) {K V : Type 0} (n : NewTable) (ends : EndsSo Is Last n.setting) (here : HoldsInMaking Is Last n.stands) where
   pub new_table_as : (m m2 : Mem (Node K V)) (end : NewTable × Advance Table) → Steps Took value_at m (new_table_plan n) m2 end → MakesAs Is Last end
   new_table_as m m2 end s = by n.stands here s
     where
       told : (stage : Making) → AlwaysOf (MakesAs Is Last) (plan_at {K = K} {V = V} n stage) → Steps Took value_at m (plan_at {K = K} {V = V} n stage) m2 end → MakesAs Is Last end
       told stage always s = always_steps (MakesAs Is Last) m m2 (plan_at {K = K} {V = V} n stage) end always s
 
-      by : (stage : Making) → StandsInMaking Is Last stage → Steps Took value_at m (plan_at {K = K} {V = V} n stage) m2 end → MakesAs Is Last end
+      by : (stage : Making) → HoldsInMaking Is Last stage → Steps Took value_at m (plan_at {K = K} {V = V} n stage) m2 end → MakesAs Is Last end
       by (makes.Sums before r sum) so s =
           let d = steps_back (counted n before r) m m2 (sum_plan sum) end s in
           subst (MakesAs Is Last) (sym d.2) (counted_as Is Last n ends before r so d.0 (always_steps CountsOn m m2 (sum_plan sum) d.0 (sum_counts (Node K V) sum) d.1))

@@ -35,7 +35,7 @@ use Rattle.map_facts.specs.Given.ReservesDeclared.reserve.Reserving.TheVariants 
 use Rattle.map_facts.specs.Given.ResizeDeclared.sum.Sum.{Sum}
 use Rattle.map_facts.proofs.Given.RuleKeys.Always.{Always, AlwaysOf, always_ends, always_steps}
 use Rattle.map_facts_late.specs.Ends.{EndsInReserving}
-use Rattle.map_facts_late.specs.Faults.{AnyTable, IsRoom, RoomInReserving, RefusesSo, SoInReserving, StandsInCopying, StandsInReserving}
+use Rattle.map_facts_late.specs.Faults.{AnyTable, IsRoom, RoomInReserving, RefusesSo, SoInReserving, HoldsInCopying, HoldsInReserving}
 use Rattle.map_facts_late.proofs.KindsKept.Rooms.Copying.{CopiesAs, CopiesFor, copier_as, copying_ends}
 use Rattle.map_facts_late.proofs.KindsKept.Rooms.Making.{CountsOn, sum_counts, MakesAs, MakesFor, always_long, always_where, new_table_as, first_table_as, table_reserved_as}
 use Rattle.map_facts.proofs.Given.General.{less_not as at_least}
@@ -43,13 +43,13 @@ use Rattle.map_facts.proofs.Given.General.{less_not as at_least}
 -- a fault that it has to tell is such a one, and a refusal is one for it
 module _ (Is : Fault → Type 0) (Last : Table → Reason → Type 0) where
   abbrev pub ReservesAs : {T : Type 0} → Reserve × Yielding T Unit → Type 0
-  ReservesAs (p, told) = StandsInReserving Is Last p.stands × RefusesSo Is told
+  ReservesAs (p, told) = HoldsInReserving Is Last p.stands × RefusesSo Is told
 
   -- a copying that begins
-  pub copying_as : (setting : Setting) (source target : Table) → StandsInCopying Is Last (copying_all setting source target).stands
+  pub copying_as : (setting : Setting) (source target : Table) → HoldsInCopying Is Last (copying_all setting source target).stands
   copying_as setting source target = by (is_incremental setting.mode)
     where
-      by : (b : Bool) → StandsInCopying Is Last (if b then record (resting setting true source target copies.Marks) { end = source.len } else resting setting true source target copies.Asks).stands
+      by : (b : Bool) → HoldsInCopying Is Last (if b then record (resting setting true source target copies.Marks) { end = source.len } else resting setting true source target copies.Asks).stands
       by true = tt
       by false = tt
 
@@ -107,7 +107,7 @@ module _ (Is : Fault → Type 0) (Last : Table → Reason → Type 0) where
     EndsOwn (at.Follows table need) = (out : Out (Node K V)) → out ≡ Found 0 → 2 ^ 63 ≤ table.turn → Is Capacity
     EndsOwn _ = Unit {0}
 
-    module _ (here : StandsInReserving Is Last p.stands) where
+    module _ (here : HoldsInReserving Is Last p.stands) where
       stays : Rooms (p, outcome.Goes)
       stays = (here, tt)
 
@@ -132,7 +132,7 @@ module _ (Is : Fault → Type 0) (Last : Table → Reason → Type 0) where
       follows_as table need few (Roomed r) late = stays
 
       -- each step leads to a point that is so, and a refusal is so
-      pub own_as : (stage : Reserving) → IsOwn stage → StandsInReserving Is Last stage → EndsOwn stage → AlwaysOf Rooms (plan_at hash p stage)
+      pub own_as : (stage : Reserving) → IsOwn stage → HoldsInReserving Is Last stage → EndsOwn stage → AlwaysOf Rooms (plan_at hash p stage)
       own_as at.Reads own room ends = λ out. root_as out (ends out)
       own_as (at.Follows table need) own room ends = λ out. follows_as table need room out (ends out)
       own_as at.Over own room ends = (here, tt)
@@ -155,14 +155,14 @@ module _ (Is : Fault → Type 0) (long : Is Capacity) where
   reserving_ends m m2 p (at.Refused fault) = tt
 
 -- The promise: each step leads to a point that is so, and a refusal is so.
-module _ (Is : Fault → Type 0) (Last : Table → Reason → Type 0) (short : Is Memory) (K V : Type 0) (hash : K → ℕ) (p : Reserve) (here : StandsInReserving Is Last p.stands) where
+module _ (Is : Fault → Type 0) (Last : Table → Reason → Type 0) (short : Is Memory) (K V : Type 0) (hash : K → ℕ) (p : Reserve) (here : HoldsInReserving Is Last p.stands) where
   abbrev ReservesHere : Reserve × Yielding (Node K V) Unit → Type 0
   ReservesHere end = ReservesAs Is Last end
 
   pub reserve_as : (m m2 : Mem (Node K V)) (end : Reserve × Yielding (Node K V) Unit) → EndsInReserving Is Last m m2 p p.stands → Steps Took value_at m (reserve_plan hash p) m2 end → ReservesAs Is Last end
   reserve_as m m2 end ends s = by p.stands here ends s
     where
-      by : (stage : Reserving) → StandsInReserving Is Last stage → EndsInReserving Is Last m m2 p stage → Steps Took value_at m (plan_at hash p stage) m2 end → ReservesHere end
+      by : (stage : Reserving) → HoldsInReserving Is Last stage → EndsInReserving Is Last m m2 p stage → Steps Took value_at m (plan_at hash p stage) m2 end → ReservesHere end
       by at.Reads so ends s =
           let d = loaded m (root_read p) (Root p.setting.root) m2 end s in
           always_ends ReservesHere (value_at m) (root_read p (Found d.0)) end

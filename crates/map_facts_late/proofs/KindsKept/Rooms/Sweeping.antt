@@ -33,7 +33,7 @@ use Rattle.map_facts.specs.Given.ReservesDeclared.sweep.Swept.{Swept}
 use Rattle.map_facts.specs.Given.ReservesDeclared.sweep.Swept.TheVariants.{Goes}
 use Rattle.map_facts.proofs.Given.RuleKeys.Always.{Always, AlwaysOf, always_if, always_steps}
 use Rattle.map_facts_late.specs.Ends.{EndsInSweeping}
-use Rattle.map_facts_late.specs.Faults.{AnyTable, IsRoom, RoomInSweeping, SoInSweeping, StandsInSweeping, SweepRefusesSo}
+use Rattle.map_facts_late.specs.Faults.{AnyTable, IsRoom, RoomInSweeping, SoInSweeping, HoldsInSweeping, SweepRefusesSo}
 use Rattle.map_facts_late.proofs.KindsKept.Rooms.Copying.{CopiesAs, CopiesFor, copier_as, copying_ends}
 use Rattle.map_facts_late.proofs.KindsKept.Rooms.Reserving.{copying_as}
 
@@ -46,44 +46,44 @@ IsOwn _ = Unit {0}
 -- a fault that it has to tell is such a one, and a refusal is one for it
 module _ (Is : Fault → Type 0) (Last : Table → Reason → Type 0) where
   abbrev pub SweepsAs : {T : Type 0} → Sweep × Swept T → Type 0
-  SweepsAs (c, told) = StandsInSweeping Is Last c.stands × SweepRefusesSo Is told
+  SweepsAs (c, told) = HoldsInSweeping Is Last c.stands × SweepRefusesSo Is told
 
   -- one of two points
-  if_so : (b : Bool) (x y : Sweeping) → StandsInSweeping Is Last x → StandsInSweeping Is Last y → StandsInSweeping Is Last (if b then x else y)
+  if_so : (b : Bool) (x y : Sweeping) → HoldsInSweeping Is Last x → HoldsInSweeping Is Last y → HoldsInSweeping Is Last (if b then x else y)
   if_so true x y p q = p
   if_so false x y p q = q
 
-  further_so : (c : Sweep) → StandsInSweeping Is Last (further c).stands
+  further_so : (c : Sweep) → HoldsInSweeping Is Last (further c).stands
   further_so c = if_so (nat_lt (past c).place c.table.len) at.Words (at_end c) tt (if_so (removes c.purpose && c.met) at.Follows at.Over tt tt)
 
-  next_so : (c : Sweep) → StandsInSweeping Is Last c.stands → (stands : Sweeping) → StandsInSweeping Is Last (next_at stands c).stands
+  next_so : (c : Sweep) → HoldsInSweeping Is Last c.stands → (stands : Sweeping) → HoldsInSweeping Is Last (next_at stands c).stands
   next_so c room at.Ready = if_so (nat_lt c.place c.table.len) at.Words at.Over tt tt
   next_so c room _ = room
 
-  reply_so : (c : Sweep) → StandsInSweeping Is Last c.stands → (keeps : Bool) (stands : Sweeping) → StandsInSweeping Is Last (reply_at stands c keeps).stands
+  reply_so : (c : Sweep) → HoldsInSweeping Is Last c.stands → (keeps : Bool) (stands : Sweeping) → HoldsInSweeping Is Last (reply_at stands c keeps).stands
   reply_so c room true (at.Asks word) = further_so c
   reply_so c room false (at.Asks word) = tt
   reply_so c room keeps _ = room
 
   -- Asked for the next pair, or told whether to keep one, it goes on so.
-  pub told_as_on : (c : Sweep) → StandsInSweeping Is Last c.stands → StandsInSweeping Is Last (after_next c).stands × ((keeps : Bool) → StandsInSweeping Is Last (after_reply c keeps).stands)
+  pub told_as_on : (c : Sweep) → HoldsInSweeping Is Last c.stands → HoldsInSweeping Is Last (after_next c).stands × ((keeps : Bool) → HoldsInSweeping Is Last (after_reply c keeps).stands)
   told_as_on c room = (next_so c room c.stands, λ keeps. reply_so c room keeps c.stands)
 
   module _ (K V : Type 0) (hash : K → ℕ) (c : Sweep) where
     abbrev Rooms : Sweep × Swept (Node K V) → Type 0
     Rooms end = SweepsAs end
 
-    told_so : (stands : Sweeping) → StandsInSweeping Is Last stands → SweepRefusesSo Is (told {T = Node K V} stands)
+    told_so : (stands : Sweeping) → HoldsInSweeping Is Last stands → SweepRefusesSo Is (told {T = Node K V} stands)
     told_so (at.Refused fault) room = room
     told_so _ room = tt
 
-    telling_so : (p : Sweep) → StandsInSweeping Is Last p.stands → Rooms (telling p)
+    telling_so : (p : Sweep) → HoldsInSweeping Is Last p.stands → Rooms (telling p)
     telling_so p room = (room, told_so p.stands room)
 
-    entering_so : (table : Table) → StandsInSweeping Is Last (entering c table).stands
+    entering_so : (table : Table) → HoldsInSweeping Is Last (entering c table).stands
     entering_so table = by (is_incremental c.setting.mode) (removes c.purpose)
       where
-        by : (b r : Bool) → StandsInSweeping Is Last (if b then record c { table = table; stands = at.Follows } else record c { table = table; place = 0; met = false; stands = if r then at.Words else at.Ready }).stands
+        by : (b r : Bool) → HoldsInSweeping Is Last (if b then record c { table = table; stands = at.Follows } else record c { table = table; place = 0; met = false; stands = if r then at.Words else at.Ready }).stands
         by true r = tt
         by false true = tt
         by false false = tt
@@ -114,7 +114,7 @@ module _ (Is : Fault → Type 0) (Last : Table → Reason → Type 0) where
     disposed_as (dispose, settled.Gave value) = (tt, tt)
     disposed_as (dispose, settled.Done) = telling_so (further c) (further_so c)
 
-    module _ (here : StandsInSweeping Is Last c.stands) where
+    module _ (here : HoldsInSweeping Is Last c.stands) where
       stays : Rooms (c, Goes)
       stays = (here, tt)
 
@@ -154,7 +154,7 @@ module _ (Is : Fault → Type 0) (Last : Table → Reason → Type 0) where
       tried_so word (Roomed r) = stays
 
       -- each step leads to a point that is so, and a refusal is so
-      pub own_as : (stage : Sweeping) → IsOwn stage → StandsInSweeping Is Last stage → AlwaysOf Rooms (plan_at hash c stage)
+      pub own_as : (stage : Sweeping) → IsOwn stage → HoldsInSweeping Is Last stage → AlwaysOf Rooms (plan_at hash c stage)
       own_as at.Reads own room = root_so
       own_as at.Follows own room = follows_so
       own_as (at.Copies copier) own room = absurd own
@@ -168,14 +168,14 @@ module _ (Is : Fault → Type 0) (Last : Table → Reason → Type 0) where
       own_as (at.Refused fault) own room = (here, room)
 
 -- The promise: each step leads to a point that is so, and a refusal is so.
-module _ (Is : Fault → Type 0) (Last : Table → Reason → Type 0) (short : Is Memory) (K V : Type 0) (hash : K → ℕ) (c : Sweep) (here : StandsInSweeping Is Last c.stands) where
+module _ (Is : Fault → Type 0) (Last : Table → Reason → Type 0) (short : Is Memory) (K V : Type 0) (hash : K → ℕ) (c : Sweep) (here : HoldsInSweeping Is Last c.stands) where
   abbrev SweepsHere : Sweep × Swept (Node K V) → Type 0
   SweepsHere end = SweepsAs Is Last end
 
   pub sweep_as : (m m2 : Mem (Node K V)) (end : Sweep × Swept (Node K V)) → EndsInSweeping Is Last m c.stands → Steps Took value_at m (sweep_plan hash c) m2 end → SweepsAs Is Last end
   sweep_as m m2 end ends s = by c.stands here ends s
     where
-      by : (stage : Sweeping) → StandsInSweeping Is Last stage → EndsInSweeping Is Last m stage → Steps Took value_at m (plan_at hash c stage) m2 end → SweepsHere end
+      by : (stage : Sweeping) → HoldsInSweeping Is Last stage → EndsInSweeping Is Last m stage → Steps Took value_at m (plan_at hash c stage) m2 end → SweepsHere end
       by (at.Copies copier) so ends s =
           let d = steps_back (copied c) m m2 (copier_plan hash copier) end s in
           subst SweepsHere (sym d.2) (copied_as Is Last K V hash c d.0 (copier_as Is Last short K V hash copier so m m2 d.0 ends d.1))

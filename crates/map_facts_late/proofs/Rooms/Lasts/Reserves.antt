@@ -32,7 +32,7 @@ use Rattle.map_facts_late.proofs.Lasts.Tables.{left_on, left_now, first_table_on
 use Rattle.map_facts_late.proofs.Lasts.Tables as blocking_tables
 use Rattle.map_facts.specs.Steps.{AreLawful}
 use Rattle.map_facts_late.specs.FactsReserves.{CopiesPairs, IsRoot, IsEnding, CopiesWhole, ReservingFacts, ReserveFacts}
-use Rattle.map_facts_late.specs.LateReserves.{IsLeftTable, LateReserving, LateReserveFacts}
+use Rattle.map_facts_late.specs.LateReserves.{IsLeftTable, SupersededReserving, SupersededReserveFacts}
 use Rattle.map_facts_late.specs.LastsReserves.{ReservesKnowOn}
 use Rattle.map_facts_late.proofs.Rooms.Late.Copies.{whole_blocking}
 use Rattle.map_facts_late.proofs.Rooms.Late.LatesOn.{none_in}
@@ -107,7 +107,7 @@ module _ {K V : Type 0} (same : K → K → Bool) (hash : K → ℕ) (setting : 
     Fresh stage = ReservingFacts same hash w2 caller setting c2 blocks2 stage
 
     abbrev Late : Reserving → Type 0
-    Late stage = LateReserving same hash w2 caller setting c2 blocks2 began stage
+    Late stage = SupersededReserving same hash w2 caller setting c2 blocks2 began stage
 
     none_then : HasNoShares same hash w caller setting c blocks → HasNoShares same hash w2 caller setting c2 blocks2
     none_then = blocking_mode.idle_on same hash setting blocking caller w w2 c c2 blocks blocks2 map moments others began since
@@ -160,14 +160,14 @@ module _ {K V : Type 0} (same : K → K → Bool) (hash : K → ℕ) (setting : 
     late_idle _ idle h = none_then (none_in same hash caller setting blocking w c blocks (idle (λ z. z)))
 
     pub knows_blocking : ClaimsStayFew c c2 → (p : Reserve) → ReserveFacts same hash w caller setting c blocks p
-        → ReserveFacts same hash w2 caller setting c2 blocks2 p ⊎ LateReserveFacts same hash w2 caller setting c2 blocks2 began p
+        → ReserveFacts same hash w2 caller setting c2 blocks2 p ⊎ SupersededReserveFacts same hash w2 caller setting c2 blocks2 began p
     knows_blocking few p h = elim (reserving_on few p.stands h.point) [
       | inl fresh ↦ inl (record { setting_is = h.setting_is; idle = λ other. idle_out (none_then (none_in same hash caller setting blocking w c blocks (h.idle other))); point = fresh })
       | inr late ↦ inr (record { blocking = blocking; setting_is = h.setting_is; idle = late_idle p.stands h.idle late; point = late })
     ]
 
     -- and that it knows on
-    late_reserving : (stage : Reserving) → LateReserving same hash w caller setting c blocks began stage → Late stage
+    late_reserving : (stage : Reserving) → SupersededReserving same hash w caller setting c blocks began stage → Late stage
     late_reserving (at.Makes making) h = late_first_on same hash setting blocking caller w w2 c c2 blocks blocks2 others began making h
     late_reserving (at.Sums table sum) (left, facts) = (left_then table left, facts)
     late_reserving (at.Follows table need) left = left_then table left
@@ -182,7 +182,7 @@ module _ {K V : Type 0} (same : K → K → Bool) (hash : K → ℕ) (setting : 
     late_reserving at.Over h = absurd h
     late_reserving (at.Refused fault) h = absurd h
 
-    pub knows_late : (p : Reserve) → LateReserveFacts same hash w caller setting c blocks began p → LateReserveFacts same hash w2 caller setting c2 blocks2 began p
+    pub knows_late : (p : Reserve) → SupersededReserveFacts same hash w caller setting c blocks began p → SupersededReserveFacts same hash w2 caller setting c2 blocks2 began p
     knows_late p h = record { blocking = blocking; setting_is = h.setting_is; idle = none_then h.idle; point = late_reserving p.stands h.point }
 
 -- the promise, by the mode of the map, where claims stay few if they were
@@ -190,13 +190,13 @@ module _ {K : Type 0} (V : Type 0) (same : K → K → Bool) (hash : K → ℕ) 
   pub reserves_on : AreLawful same hash → (setting : Setting) (caller : ℕ) (w w2 : World (Node K V)) (c c2 : Chart K) (blocks blocks2 : Blocks)
       → IsMapIn same hash setting w c blocks → IsMapIn same hash setting w2 c2 blocks2 → Moments (is_incremental setting.mode) c → OthersStep same hash setting caller w c blocks w2 c2 blocks2
       → (is_incremental setting.mode ≡ false → ClaimsStayFew c c2) → (began : ℕ) → began ≤ c.now → (p : Reserve)
-      → (ReserveFacts same hash w caller setting c blocks p → ReserveFacts same hash w2 caller setting c2 blocks2 p ⊎ LateReserveFacts same hash w2 caller setting c2 blocks2 began p)
-      × (LateReserveFacts same hash w caller setting c blocks began p → LateReserveFacts same hash w2 caller setting c2 blocks2 began p)
+      → (ReserveFacts same hash w caller setting c blocks p → ReserveFacts same hash w2 caller setting c2 blocks2 p ⊎ SupersededReserveFacts same hash w2 caller setting c2 blocks2 began p)
+      × (SupersededReserveFacts same hash w caller setting c blocks began p → SupersededReserveFacts same hash w2 caller setting c2 blocks2 began p)
   reserves_on are setting caller w w2 c c2 blocks blocks2 map map2 moments others few began since p = by (is_incremental setting.mode) refl
     where
       by : (b : Bool) → is_incremental setting.mode ≡ b
-          → (ReserveFacts same hash w caller setting c blocks p → ReserveFacts same hash w2 caller setting c2 blocks2 p ⊎ LateReserveFacts same hash w2 caller setting c2 blocks2 began p)
-          × (LateReserveFacts same hash w caller setting c blocks began p → LateReserveFacts same hash w2 caller setting c2 blocks2 began p)
+          → (ReserveFacts same hash w caller setting c blocks p → ReserveFacts same hash w2 caller setting c2 blocks2 p ⊎ SupersededReserveFacts same hash w2 caller setting c2 blocks2 began p)
+          × (SupersededReserveFacts same hash w caller setting c blocks began p → SupersededReserveFacts same hash w2 caller setting c2 blocks2 began p)
       by true bits = (
         λ facts. inl (knows_incremental same hash setting caller w w2 c c2 blocks blocks2 map map2 others are.lawful bits p facts),
         λ late. absurd (let e = late.blocking in cc (bits, e)),

@@ -20,9 +20,9 @@ use Rattle.map_facts.specs.Given.RuleInWorld.{IsMapIn, SparesPairs}
 use Rattle.map_facts.proofs.Given.RuleWorld.WentTold.{went_as}
 use Rattle.map_facts.specs.Steps.{AreLawful}
 use Rattle.map_facts_late.specs.Left.{ClaimsAreFew}
-use Rattle.map_facts_late.specs.LateReserves.{LateReserving, LateReserveFacts}
-use Rattle.map_facts_late.specs.LateToldReserves.{LateReserveTold}
-use Rattle.map_facts_late.specs.LastsReserves.{LateReservesKeepTheMap}
+use Rattle.map_facts_late.specs.LateReserves.{SupersededReserving, SupersededReserveFacts}
+use Rattle.map_facts_late.specs.LateToldReserves.{SupersededReserveOutcome}
+use Rattle.map_facts_late.specs.LastsReserves.{SupersededReservesPreserveTheMap}
 use Rattle.map_facts_late.specs.ToldReserves.{IsRowOfReserve}
 use Rattle.map_facts_late.proofs.Rooms.Reserves.Mays.{may_sums, may_follows, may_grows}
 use Rattle.map_facts_late.proofs.Rooms.Late.LatesOn.{LateTells, LateWent}
@@ -31,8 +31,8 @@ use Rattle.map_facts_late.proofs.Rooms.Late.Copies.{may_copies, went_copies}
 
 module _ {K V : Type 0} (same : K → K → Bool) (hash : K → ℕ) (are : AreLawful same hash) (caller : ℕ) (setting : Setting) (blocking : is_incremental setting.mode ≡ false)
     (initial_is : IsPowerOfTwo setting.initial) (began : ℕ) (w : World (Node K V)) (c : Chart K) (blocks : Blocks) (map : IsMapIn same hash setting w c blocks) (moments : Moments false c)
-    (few : ClaimsAreFew c) (p : Reserve) (f : LateReserveFacts same hash w caller setting c blocks began p) where
-  may_at : (stage : Reserving) → LateReserving same hash w caller setting c blocks began stage → (IsRowOfReserve stage → ⊥) → May Can Took value_at w.memory (plan_at hash p stage)
+    (few : ClaimsAreFew c) (p : Reserve) (f : SupersededReserveFacts same hash w caller setting c blocks began p) where
+  may_at : (stage : Reserving) → SupersededReserving same hash w caller setting c blocks began stage → (IsRowOfReserve stage → ⊥) → May Can Took value_at w.memory (plan_at hash p stage)
   may_at (at.Makes making) facts none = may_makes same hash caller setting blocking began are.lawful w c blocks map p f.setting_is f.idle making facts
   may_at (at.Sums table sum) (left, facts) none = may_sums same hash setting w c blocks map p table sum facts
   may_at (at.Follows table need) (t, entered, left) none = may_follows same hash setting w c blocks map p table t entered need
@@ -42,7 +42,7 @@ module _ {K V : Type 0} (same : K → K → Bool) (hash : K → ℕ) (are : AreL
   may_at at.Over point none = absurd point
   may_at (at.Refused fault) point none = absurd point
 
-  went_at : (m2 : Mem (Node K V)) (end : Reserve × Yielding (Node K V) Unit) (stage : Reserving) → LateReserving same hash w caller setting c blocks began stage → (IsRowOfReserve stage → ⊥)
+  went_at : (m2 : Mem (Node K V)) (end : Reserve × Yielding (Node K V) Unit) (stage : Reserving) → SupersededReserving same hash w caller setting c blocks began stage → (IsRowOfReserve stage → ⊥)
       → Steps Took value_at w.memory (plan_at hash p stage) m2 end → LateWent same hash caller setting blocking began w c blocks m2 stage end
   went_at m2 end (at.Makes making) facts none s = went_makes same hash caller setting blocking began are.lawful w c blocks map p f.setting_is f.idle m2 end making facts s
   went_at m2 end (at.Sums table sum) ((t, entered, left), facts) none s =
@@ -65,12 +65,12 @@ module _ {K V : Type 0} (same : K → K → Bool) (hash : K → ℕ) (are : AreL
   went_late none m2 end s = went_at m2 end p.stands f.point none s
 
 -- the promise
-pub late_reserves_keep_the_map : {K : Type 0} (V : Type 0) (same : K → K → Bool) (hash : K → ℕ) → LateReservesKeepTheMap V same hash
+pub late_reserves_keep_the_map : {K : Type 0} (V : Type 0) (same : K → K → Bool) (hash : K → ℕ) → SupersededReservesPreserveTheMap V same hash
 late_reserves_keep_the_map V same hash are setting initial_is w caller c blocks began p map moments few f none =
     let m : Moments false c = subst (λ (b : Bool). Moments b c) f.blocking moments in (
       may_late same hash are caller setting f.blocking initial_is began w c blocks map m few p f none,
       λ m2 p2 outcome s. went_as same hash setting caller w c blocks m2 (LateTells same hash caller setting f.blocking began w c p.stands (p2, outcome))
-          (λ w2 c2 blocks2. SparesPairs w w2 × LateReserveTold same hash caller setting began c p w2 c2 blocks2 p2 outcome)
+          (λ w2 c2 blocks2. SparesPairs w w2 × SupersededReserveOutcome same hash caller setting began c p w2 c2 blocks2 p2 outcome)
           (λ w2 c2 blocks2 map2 moved same_blocks told. (told.0, record { facts = told.2; same_pairs = told.1; beside = told.3 }))
           (went_late same hash are caller setting f.blocking initial_is began w c blocks map m few p f none m2 (p2, outcome) s),
     )

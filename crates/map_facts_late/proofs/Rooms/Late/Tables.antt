@@ -38,15 +38,15 @@ use Rattle.map_facts.proofs.Given.RuleWorld.WentTold.{went_as}
 use Rattle.map_facts.proofs.Given.RuleWorld.WentWrote.{counter_of}
 use Rattle.map_facts.specs.FactsCopiesBlocking.{HasNoShares}
 use Rattle.map_facts.specs.FactsTables.{SumFacts, NewTableFacts}
-use Rattle.map_facts.specs.Told.{SumTold, NewTableTold, OnlyLinks}
+use Rattle.map_facts.specs.Told.{SumOutcome, NewTableOutcome, OnlyLinks}
 use Rattle.map_facts.proofs.MovedLasts.{moved_lasts, links_same, idle_in, idle_linked}
 use Rattle.map_facts.proofs.Making.NewTable.{went_new_table}
 use Rattle.map_facts.proofs.Making.Sum.{told_sum}
 use Rattle.map_facts_late.specs.Left.{Left}
-use Rattle.map_facts_late.specs.LateCalls.{LateFirstFacts}
+use Rattle.map_facts_late.specs.LateCalls.{SupersededFirstFacts}
 use Rattle.map_facts_late.proofs.Copiers.LateBegins.{behind_left}
 use Rattle.map_facts_late.proofs.Firsts.{FirstTells, left_linked, from_linked, may_first, went_first}
-use Rattle.map_facts_late.specs.LateToldReserves.{LateReserveAfter}
+use Rattle.map_facts_late.specs.LateToldReserves.{SupersededReserveAfter}
 use Rattle.map_facts_late.proofs.Rooms.Reserves.Mays.{growing, copied_into}
 use Rattle.map_facts_late.proofs.Rooms.Late.LatesOn.{LateTells, LateWent, none_in, late_still, late_at, counts_in, compared_late, copies_late}
 
@@ -55,7 +55,7 @@ module _ {K V : Type 0} (same : K → K → Bool) (hash : K → ℕ) (caller : �
     (idle : HasNoShares same hash w caller setting c blocks) where
   -- where it comes to, here and once a table was linked
   abbrev Comes : Reserve × Yielding (Node K V) Unit → Type 0
-  Comes end = LateReserveAfter same hash caller setting began w c blocks end
+  Comes end = SupersededReserveAfter same hash caller setting began w c blocks end
 
   idle_then : (w2 : World (Node K V)) (c2 : Chart K) (blocks2 : Blocks) → OnlyLinks hash setting.mode c c2 → HasNoShares same hash w2 caller setting c2 blocks2
   idle_then w2 c2 blocks2 links =
@@ -64,7 +64,7 @@ module _ {K V : Type 0} (same : K → K → Bool) (hash : K → ℕ) (caller : �
   module _ (m2 : Mem (Node K V)) (end : Reserve × Yielding (Node K V) Unit) where
     module _ (table : Table) (t : ℕ) (entered : IsTable c blocks table t) (left : Left c began t) where
       -- the pairs are counted
-      summed_late : (end : Sum × Advance ℕ) → SumTold setting end → Comes (summed {T = Node K V} p table end)
+      summed_late : (end : Sum × Advance ℕ) → SumOutcome setting end → Comes (summed {T = Node K V} p table end)
       summed_late (next, progress.Goes) told = inr (late_at same hash caller setting blocking began w c blocks map p setting_is idle (at.Sums table next) ((t, entered, left), told))
       summed_late (next, progress.Waits) told = absurd told
       summed_late (next, progress.Done count) told = compared_late same hash caller setting blocking began w c blocks map p setting_is idle table (t, entered, left) count
@@ -97,7 +97,7 @@ module _ {K V : Type 0} (same : K → K → Bool) (hash : K → ℕ) (caller : �
         -- a table is made behind it
         grown_late : (w2 : World (Node K V)) (c2 : Chart K) (blocks2 : Blocks) → IsMapIn same hash setting w2 c2 blocks2 → HasNoShares same hash w2 caller setting c2 blocks2
             → IsTable c2 blocks2 table t → Left c2 began t → c2.from (suc t) ≡ t → (end : NewTable × Advance Table)
-            → NewTableTold w2 caller setting c2 blocks2 (Word (blocks2.table t) NEXT) (suc t) end → LateReserveAfter same hash caller setting began w2 c2 blocks2 (grown p table end)
+            → NewTableOutcome w2 caller setting c2 blocks2 (Word (blocks2.table t) NEXT) (suc t) end → SupersededReserveAfter same hash caller setting began w2 c2 blocks2 (grown p table end)
         grown_late w2 c2 blocks2 map2 idle2 entered2 left2 from (next, progress.Goes) told =
             inr (late_at same hash caller setting blocking began w2 c2 blocks2 map2 p setting_is idle2 (at.Grows table next) (t, entered2, left2, told))
         grown_late w2 c2 blocks2 map2 idle2 entered2 left2 from (next, progress.Waits) told = absurd told
@@ -110,17 +110,17 @@ module _ {K V : Type 0} (same : K → K → Bool) (hash : K → ℕ) (caller : �
         went_grows initial_is making facts s =
             let b = steps_back (grown p table) w.memory m2 (new_table_plan making) end s in
             went_as same hash setting caller w c blocks m2
-            (λ w2 c2 blocks2. SparesPairs w w2 × OnlyLinks hash setting.mode c c2 × NewTableTold w2 caller setting c2 blocks2 (Word (blocks.table t) NEXT) (suc t) b.0)
+            (λ w2 c2 blocks2. SparesPairs w w2 × OnlyLinks hash setting.mode c c2 × NewTableOutcome w2 caller setting c2 blocks2 (Word (blocks.table t) NEXT) (suc t) b.0)
             (LateTells same hash caller setting blocking began w c (at.Grows table making) end)
             (λ w2 c2 blocks2 map2 moved same_blocks told. (
               told.0,
               (links_same same hash caller setting lawful w c blocks map c2 told.1).0,
-              subst (λ (e : Reserve × Yielding (Node K V) Unit). LateReserveAfter same hash caller setting began w2 c2 blocks2 e) (sym b.2)
+              subst (λ (e : Reserve × Yielding (Node K V) Unit). SupersededReserveAfter same hash caller setting began w2 c2 blocks2 e) (sym b.2)
                   (grown_late w2 c2 blocks2 map2 (idle_then w2 c2 blocks2 told.1)
                   (table_lasts same hash (is_incremental setting.mode) c c2 (moved_lasts same hash setting lawful w c c2 blocks map moved) blocks blocks2 same_blocks table t entered)
                   (left_linked hash setting c c2 began t told.1 entered.made left)
                   (from_linked hash setting c c2 began (suc t) told.1 next_made ∙ moments.next_from refl t next_made left.was_root) b.0
-                  (subst (λ (x : ℕ). NewTableTold w2 caller setting c2 blocks2 (Word x NEXT) (suc t) b.0) (sym (same_blocks.tables t entered.made entered.known).0) told.2)),
+                  (subst (λ (x : ℕ). NewTableOutcome w2 caller setting c2 blocks2 (Word x NEXT) (suc t) b.0) (sym (same_blocks.tables t entered.made entered.known).0) told.2)),
               λ other. told.1,
             ))
             (went_new_table same hash w setting c blocks map caller (Word (blocks.table t) NEXT) (suc t) initial_is lawful making facts m2 b.0 b.1)
@@ -128,12 +128,12 @@ module _ {K V : Type 0} (same : K → K → Bool) (hash : K → ℕ) (caller : �
     -- a first table was made too late
     made_late : (w2 : World (Node K V)) (c2 : Chart K) (blocks2 : Blocks) → IsMapIn same hash setting w2 c2 blocks2 → HasNoShares same hash w2 caller setting c2 blocks2
         → (table : Table) (u : ℕ) → IsTable c2 blocks2 table u → Left c2 began u → (end : NewTable × Advance Table) → end.1 ≡ progress.Done table
-        → LateReserveAfter same hash caller setting began w2 c2 blocks2 (made p end)
+        → SupersededReserveAfter same hash caller setting began w2 c2 blocks2 (made p end)
     made_late w2 c2 blocks2 map2 idle2 table u entered left (next, progress) is =
-        subst (λ (x : Advance Table). LateReserveAfter same hash caller setting began w2 c2 blocks2 (made p (next, x))) (sym is)
+        subst (λ (x : Advance Table). SupersededReserveAfter same hash caller setting began w2 c2 blocks2 (made p (next, x))) (sym is)
         (counts_in same hash caller setting blocking began w2 c2 blocks2 map2 p setting_is idle2 table u entered (inr left))
 
-    pub went_makes : (making : NewTable) → LateFirstFacts w caller setting c blocks began making → Steps Took value_at w.memory (plan_at hash p (at.Makes making)) m2 end
+    pub went_makes : (making : NewTable) → SupersededFirstFacts w caller setting c blocks began making → Steps Took value_at w.memory (plan_at hash p (at.Makes making)) m2 end
         → LateWent same hash caller setting blocking began w c blocks m2 (at.Makes making) end
     went_makes making facts s =
         let b = steps_back (made p) w.memory m2 (new_table_plan making) end s in
@@ -142,11 +142,11 @@ module _ {K V : Type 0} (same : K → K → Bool) (hash : K → ℕ) (caller : �
         (λ w2 c2 blocks2 map2 moved same_blocks told. (
           told.0,
           ap (λ (x : Chart K). x.current) told.1,
-          subst (λ (e : Reserve × Yielding (Node K V) Unit). LateReserveAfter same hash caller setting began w2 c2 blocks2 e) (sym b.2)
+          subst (λ (e : Reserve × Yielding (Node K V) Unit). SupersededReserveAfter same hash caller setting began w2 c2 blocks2 e) (sym b.2)
               (made_late w2 c2 blocks2 map2 (idle_then w2 c2 blocks2 (inl told.1)) told.2 told.3 told.4 told.5 b.0 told.6),
           λ other. inl told.1,
         ))
         (went_first same hash caller setting began w c blocks map making facts m2 b.0 b.1)
 
-  pub may_makes : (making : NewTable) → LateFirstFacts w caller setting c blocks began making → May Can Took value_at w.memory (plan_at hash p (at.Makes making))
+  pub may_makes : (making : NewTable) → SupersededFirstFacts w caller setting c blocks began making → May Can Took value_at w.memory (plan_at hash p (at.Makes making))
   may_makes making facts = as_may (made p) Can Took value_at w.memory (new_table_plan making) (may_first same hash caller setting began w c blocks map making facts)

@@ -22,13 +22,13 @@ use Rattle.map_facts.specs.Given.RuleChart.{Chart}
 use Rattle.map_facts.specs.Given.RuleRule.{IsLawful}
 use Rattle.map_facts.specs.Given.RuleWords.{Blocks}
 use Rattle.map_facts.specs.Given.RuleMaps.{spot_of}
-use Rattle.map_facts.specs.Given.RuleInWorld.{IsMapIn, Went, SparesPairs}
+use Rattle.map_facts.specs.Given.RuleInWorld.{IsMapIn, StepSpec, SparesPairs}
 use Rattle.map_facts.specs.FactsCopies.{CopierFacts}
 use Rattle.map_facts.specs.FactsCopiesBlocking.{CopierFactsBlocking}
 use Rattle.map_facts.specs.FactsAloneBlocking.{AloneBlocking, LeadsAlone}
 use Rattle.map_facts.specs.Measures.{OthersIdle}
 use Rattle.map_facts.specs.ToldMoves.{MovedAt}
-use Rattle.map_facts.specs.Told.{IsRowOfCopier, CopierTold, CopierToldBlocking}
+use Rattle.map_facts.specs.Told.{IsRowOfCopier, CopierOutcome, CopierOutcomeBlocking}
 use Rattle.map_facts.proofs.MovedLasts.{moved_lasts, idle_in}
 use Rattle.map_facts.proofs.Given.RuleWorld.WentTold.{went_as}
 use Rattle.map_facts.proofs.Copiers.CopiersWhole.{whole_stays}
@@ -37,7 +37,7 @@ use Rattle.map_facts.proofs.Copiers.Points.{may_copier, went_copier_moved}
 use Rattle.map_facts.proofs.Blocking.Points.{may_copier_blocking, went_copier_blocking_alone}
 use Rattle.map_facts.proofs.Given.RuleKeys.TriesLast.{table_lasts}
 use Rattle.map_facts_late.specs.FactsReserves.{IsRoot, IsEnding, CopiesWhole, ReserveFacts}
-use Rattle.map_facts_late.specs.ToldReserves.{EndsAtRoot, WholeTold, ReserveAfter}
+use Rattle.map_facts_late.specs.ToldReserves.{EndsAtRoot, WholeCopyOutcome, ReserveAfter}
 use Rattle.map_facts_late.proofs.Rooms.Reserves.WholeCopies.{comes_to_root}
 use Rattle.map_facts_late.proofs.Rooms.Reserves.Moved.{CopierMoves}
 use Rattle.map_facts_late.proofs.Rooms.Reserves.On.{ReserveTells, ReserveWent, counts}
@@ -52,8 +52,8 @@ module _ {K V : Type 0} (same : K → K → Bool) (hash : K → ℕ) (caller : �
 
   abbrev ToldIn : World (Node K V) → Chart K → Blocks → Bool → Copier × Yielding (Node K V) Table → Type 0
   ToldIn w c blocks b end =
-      cond b (CopierTold w caller setting c blocks same hash end × (end.0.whole ≡ true) × EndsAtRoot w caller setting c blocks same hash end)
-      (CopierToldBlocking w caller setting c blocks same hash end)
+      cond b (CopierOutcome w caller setting c blocks same hash end × (end.0.whole ≡ true) × EndsAtRoot w caller setting c blocks same hash end)
+      (CopierOutcomeBlocking w caller setting c blocks same hash end)
 
   module _ (w : World (Node K V)) (c : Chart K) (blocks : Blocks) (map : IsMapIn same hash setting w c blocks) where
     module _ (copier : Copier) (none : IsRowOfCopier copier.stands → ⊥) where
@@ -72,19 +72,19 @@ module _ {K V : Type 0} (same : K → K → Bool) (hash : K → ℕ) (caller : �
 
       abbrev StepOf : Copier × Yielding (Node K V) Table → World (Node K V) → Chart K → Blocks → Type 0
       StepOf end w2 c2 blocks2 =
-          SparesPairs w w2 × (c2.current ≡ c.current) × WholeTold w2 caller setting c2 blocks2 same hash end × CopierMoves same hash caller setting w c copier end c2
+          SparesPairs w w2 × (c2.current ≡ c.current) × WholeCopyOutcome w2 caller setting c2 blocks2 same hash end × CopierMoves same hash caller setting w c copier end c2
 
       pub went_whole : CopiesWhole same hash w caller setting c blocks copier → (m2 : Mem (Node K V)) (end : Copier × Yielding (Node K V) Table)
-          → Steps Took value_at w.memory (copier_plan hash copier) m2 end → Went same hash setting caller w c blocks m2 (StepOf end)
+          → Steps Took value_at w.memory (copier_plan hash copier) m2 end → StepSpec same hash setting caller w c blocks m2 (StepOf end)
       went_whole facts m2 end s = by (is_incremental setting.mode) refl facts
         where
-          in_mode : (b : Bool) → is_incremental setting.mode ≡ b → Went same hash setting caller w c blocks m2 (StepIn end b) → Went same hash setting caller w c blocks m2 (StepOf end)
-          in_mode b mode went = subst (λ (x : Bool). Went same hash setting caller w c blocks m2 (StepIn end x)) (sym mode) went
+          in_mode : (b : Bool) → is_incremental setting.mode ≡ b → StepSpec same hash setting caller w c blocks m2 (StepIn end b) → StepSpec same hash setting caller w c blocks m2 (StepOf end)
+          in_mode b mode went = subst (λ (x : Bool). StepSpec same hash setting caller w c blocks m2 (StepIn end x)) (sym mode) went
 
-          by : (b : Bool) → is_incremental setting.mode ≡ b → CopiesIn w c blocks b copier → Went same hash setting caller w c blocks m2 (StepOf end)
+          by : (b : Bool) → is_incremental setting.mode ≡ b → CopiesIn w c blocks b copier → StepSpec same hash setting caller w c blocks m2 (StepOf end)
           by true bits f = in_mode true bits
               (went_as same hash setting caller w c blocks m2
-              (λ w2 c2 blocks2. SparesPairs w w2 × (c2.current ≡ c.current) × CopierTold w2 caller setting c2 blocks2 same hash end × MovedAt hash caller c copier copier.stands end c2)
+              (λ w2 c2 blocks2. SparesPairs w w2 × (c2.current ≡ c.current) × CopierOutcome w2 caller setting c2 blocks2 same hash end × MovedAt hash caller c copier copier.stands end c2)
               (StepIn end true)
               (λ w2 c2 blocks2 map2 moved same_blocks told.
               let lasts = moved_lasts same hash setting lawful w c c2 blocks map moved in
@@ -125,7 +125,7 @@ module _ {K V : Type 0} (same : K → K → Bool) (hash : K → ℕ) (caller : �
               counts same hash caller setting w c blocks map p setting_is (idle_in same hash w caller setting c blocks false mode told.1) root c.first told.0 (root_in false mode c.first refl)
           by false mode (next, outcome.Refused fault) told = idle_in same hash w caller setting c blocks false mode told
 
-      pub copied_told : (end : Copier × Yielding (Node K V) Table) → WholeTold w caller setting c blocks same hash end → ReserveAfter w caller setting c blocks same hash (copied p end)
+      pub copied_told : (end : Copier × Yielding (Node K V) Table) → WholeCopyOutcome w caller setting c blocks same hash end → ReserveAfter w caller setting c blocks same hash (copied p end)
       copied_told end told = copied_in (is_incremental setting.mode) refl end told
 
   module _ (w : World (Node K V)) (c : Chart K) (blocks : Blocks) (map : IsMapIn same hash setting w c blocks) (p : Reserve) (setting_is : p.setting ≡ setting)
@@ -138,7 +138,7 @@ module _ {K V : Type 0} (same : K → K → Bool) (hash : K → ℕ) (caller : �
     went_copies m2 end s =
         let b = steps_back (copied p) w.memory m2 (copier_plan hash copier) end s in
         went_as same hash setting caller w c blocks m2
-        (λ w2 c2 blocks2. SparesPairs w w2 × (c2.current ≡ c.current) × WholeTold w2 caller setting c2 blocks2 same hash b.0 × CopierMoves same hash caller setting w c copier b.0 c2)
+        (λ w2 c2 blocks2. SparesPairs w w2 × (c2.current ≡ c.current) × WholeCopyOutcome w2 caller setting c2 blocks2 same hash b.0 × CopierMoves same hash caller setting w c copier b.0 c2)
         (ReserveTells same hash caller setting w c m2 (at.Copies copier) end)
         (λ w2 c2 blocks2 map2 moved same_blocks told. (
           told.0,

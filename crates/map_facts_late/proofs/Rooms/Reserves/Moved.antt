@@ -22,7 +22,7 @@ use Rattle.map_facts.specs.FactsAloneBlocking.{AloneBlocking, LeadsAlone}
 use Rattle.map_facts.specs.Measures.{OthersIdle}
 use Rattle.map_facts.specs.Told.{OnlyLinks}
 use Rattle.map_facts.specs.ToldMoves.{MovedAt}
-use Rattle.map_facts_late.specs.ToldReserves.{WholeTold}
+use Rattle.map_facts_late.specs.ToldReserves.{WholeCopyOutcome}
 
 -- where it copies, it begins to
 abbrev pub IsFresh : Setting → Reserving → Type 0
@@ -47,5 +47,5 @@ module _ {K V : Type 0} (same : K → K → Bool) (hash : K → ℕ) (caller : �
   abbrev pub ReserveMoves : Mem (Node K V) → Reserving → Reserve × Yielding (Node K V) Unit → World (Node K V) → Chart K → Blocks → Type 0
   ReserveMoves m2 (at.Copies copier) end w2 c2 blocks2 =
       (b : Copier × Yielding (Node K V) Table) × Steps Took value_at w.memory (copier_plan hash copier) m2 b × ((p : Reserve) × (end ≡ copied p b))
-      × WholeTold w2 caller setting c2 blocks2 same hash b × CopierMoves copier b c2
+      × WholeCopyOutcome w2 caller setting c2 blocks2 same hash b × CopierMoves copier b c2
   ReserveMoves m2 _ end w2 c2 blocks2 = OnlyLinks hash setting.mode c c2 × Proceeds setting end

@@ -17,7 +17,7 @@ use Rattle.map_facts.specs.Given.ReservesDeclared.reserve.Reserving.TheVariants 
 use Rattle.map_facts.specs.Given.RuleChart.{Chart}
 use Rattle.map_facts.specs.Given.RuleWords.{Blocks}
 use Rattle.map_facts.specs.Given.RuleMaps.{IsTable}
-use Rattle.map_facts.specs.Given.RuleInWorld.{IsMapIn, Went, SparesPairs}
+use Rattle.map_facts.specs.Given.RuleInWorld.{IsMapIn, StepSpec, SparesPairs}
 use Rattle.map_facts.specs.FactsIdle.{IsIdle}
 use Rattle.map_facts.specs.Told.{OnlyLinks}
 use Rattle.map_facts.proofs.Given.RuleWorld.WentStill.{went_still, spares_same}
@@ -34,7 +34,7 @@ module _ {K V : Type 0} (same : K → K → Bool) (hash : K → ℕ) (caller : �
       SparesPairs w w2 × (c2.current ≡ c.current) × ReserveAfter w2 caller setting c2 blocks2 same hash end × ReserveMoves same hash caller setting w c m2 stage end w2 c2 blocks2
 
   abbrev pub ReserveWent : World (Node K V) → Chart K → Blocks → Mem (Node K V) → Reserving → Reserve × Yielding (Node K V) Unit → Type 0
-  ReserveWent w c blocks m2 stage end = Went same hash setting caller w c blocks m2 (ReserveTells w c m2 stage end)
+  ReserveWent w c blocks m2 stage end = StepSpec same hash setting caller w c blocks m2 (ReserveTells w c m2 stage end)
 
   -- how the map moves beside the copying
   moves_beside : (w w2 : World (Node K V)) (c c2 : Chart K) (blocks2 : Blocks) (m2 : Mem (Node K V)) (stage : Reserving) → (CopiesPairs stage → ⊥) → (end : Reserve × Yielding (Node K V) Unit)

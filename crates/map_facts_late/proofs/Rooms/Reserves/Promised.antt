@@ -15,8 +15,8 @@ use Rattle.map_facts.specs.Given.RuleInWorld.{SparesPairs}
 use Rattle.map_facts.proofs.Given.RuleWorld.WentTold.{went_as}
 use Rattle.map_facts.specs.Told.{OnlyLinks}
 use Rattle.map_facts_late.specs.FactsReserves.{CopiesPairs}
-use Rattle.map_facts_late.specs.ToldReserves.{ReserveTold}
-use Rattle.map_facts_late.specs.StepsReserves.{ReservesBegin, ReservesKeepTheMap}
+use Rattle.map_facts_late.specs.ToldReserves.{ReserveOutcome}
+use Rattle.map_facts_late.specs.StepsReserves.{ReservesBegin, ReservesPreserveTheMap}
 use Rattle.map_facts_late.proofs.Rooms.Reserves.Moved.{ReserveMoves}
 use Rattle.map_facts_late.proofs.Rooms.Reserves.On.{ReserveTells}
 use Rattle.map_facts_late.proofs.Rooms.Reserves.Points.{may_reserve, went_reserve}
@@ -30,11 +30,11 @@ module _ {K : Type 0} (V : Type 0) (same : K → K → Bool) (hash : K → ℕ) 
   only_links caller setting w w2 c c2 blocks2 m2 (at.Copies copier) end moves other = absurd (other tt)
   only_links caller setting w w2 c c2 blocks2 m2 _ end moves other = moves.0
 
-  pub reserves_keep_the_map : ReservesKeepTheMap V same hash
+  pub reserves_keep_the_map : ReservesPreserveTheMap V same hash
   reserves_keep_the_map are setting initial_is w caller c blocks p map facts none = (
     may_reserve same hash caller setting are.lawful are.fits initial_is w c blocks map p facts none,
     λ m2 p2 outcome s. went_as same hash setting caller w c blocks m2 (ReserveTells same hash caller setting w c m2 p.stands (p2, outcome))
-        (λ w2 c2 blocks2. SparesPairs w w2 × ReserveTold same hash caller setting c p w2 c2 blocks2 p2 outcome)
+        (λ w2 c2 blocks2. SparesPairs w w2 × ReserveOutcome same hash caller setting c p w2 c2 blocks2 p2 outcome)
         (λ w2 c2 blocks2 map2 moved same_blocks told. (
           told.0,
           record { facts = told.2; same_pairs = told.1; beside = only_links caller setting w w2 c c2 blocks2 m2 p.stands (p2, outcome) told.3 },

@@ -33,7 +33,7 @@ use Rattle.map_facts.specs.Given.RuleWords.{Blocks}
 use Rattle.map_facts.specs.Given.RuleMaps.{spot_of, IsTable}
 use Rattle.map_facts.specs.Given.RuleInWorld.{IsMapIn, SparesPairs}
 use Rattle.map_facts.specs.FactsTables.{SumFacts, NewTableFacts}
-use Rattle.map_facts.specs.Told.{SumTold, NewTableTold, OnlyLinks}
+use Rattle.map_facts.specs.Told.{SumOutcome, NewTableOutcome, OnlyLinks}
 use Rattle.map_facts.specs.FactsIdle.{IsIdle}
 use Rattle.map_facts.proofs.MovedLasts.{moved_lasts, links_same, idle_linked}
 use Rattle.map_facts.proofs.Given.RuleWorld.WentTold.{went_as}
@@ -94,7 +94,7 @@ module _ {K V : Type 0} (same : K → K → Bool) (hash : K → ℕ) (caller : �
     -- the pairs are counted
     module _ (table : Table) (t : ℕ) (entered : IsTable c blocks table t) (root : IsRoot same hash w caller setting c blocks t) where
       module _ (sum : Sum) (facts : SumFacts setting sum) where
-        summed_told : IsIdle same hash w caller setting c blocks → (end : Sum × Advance ℕ) → SumTold setting end
+        summed_told : IsIdle same hash w caller setting c blocks → (end : Sum × Advance ℕ) → SumOutcome setting end
             → ReserveAfter w caller setting c blocks same hash (summed {T = Node K V} p table end) × Proceeds setting (summed {T = Node K V} p table end)
         summed_told idle (next, progress.Goes) told = (on_at same hash caller setting w c blocks map p setting_is idle (at.Sums table next) ((t, entered, root), told), tt)
         summed_told idle (next, progress.Waits) told = absurd told
@@ -137,7 +137,7 @@ module _ {K V : Type 0} (same : K → K → Bool) (hash : K → ℕ) (caller : �
       module _ (making : NewTable) (facts : NewTableFacts w caller setting c blocks (Word (blocks.table t) NEXT) (suc t) making) where
         grown_told : (w2 : World (Node K V)) (c2 : Chart K) (blocks2 : Blocks) → IsMapIn same hash setting w2 c2 blocks2 → IsIdle same hash w2 caller setting c2 blocks2
             → IsTable c2 blocks2 table t → IsRoot same hash w2 caller setting c2 blocks2 t → (end : NewTable × Advance Table)
-            → NewTableTold w2 caller setting c2 blocks2 (Word (blocks2.table t) NEXT) (suc t) end
+            → NewTableOutcome w2 caller setting c2 blocks2 (Word (blocks2.table t) NEXT) (suc t) end
             → ReserveAfter w2 caller setting c2 blocks2 same hash (grown p table end) × Proceeds setting (grown {K = K} {V = V} p table end)
         grown_told w2 c2 blocks2 map2 idle entered2 root2 (next, progress.Goes) told =
             (on_at same hash caller setting w2 c2 blocks2 map2 p setting_is idle (at.Grows table next) (t, entered2, root2, told), tt)
@@ -153,7 +153,7 @@ module _ {K V : Type 0} (same : K → K → Bool) (hash : K → ℕ) (caller : �
         went_grows idle m2 end s =
             let b = steps_back (grown p table) w.memory m2 (new_table_plan making) end s in
             went_as same hash setting caller w c blocks m2
-            (λ w2 c2 blocks2. SparesPairs w w2 × OnlyLinks hash setting.mode c c2 × NewTableTold w2 caller setting c2 blocks2 (Word (blocks.table t) NEXT) (suc t) b.0)
+            (λ w2 c2 blocks2. SparesPairs w w2 × OnlyLinks hash setting.mode c c2 × NewTableOutcome w2 caller setting c2 blocks2 (Word (blocks.table t) NEXT) (suc t) b.0)
             (ReserveTells same hash caller setting w c m2 (at.Grows table making) end)
             (λ w2 c2 blocks2 map2 moved same_blocks told.
             let same_links = links_same same hash caller setting lawful w c blocks map c2 told.1 in
@@ -161,14 +161,14 @@ module _ {K V : Type 0} (same : K → K → Bool) (hash : K → ℕ) (caller : �
             (grown_told w2 c2 blocks2 map2 (idle_linked same hash caller setting lawful w c blocks map w2 c2 blocks2 told.1 idle)
             (table_lasts same hash (is_incremental setting.mode) c c2 (moved_lasts same hash setting lawful w c c2 blocks map moved) blocks blocks2 same_blocks table t entered)
             (root_linked w2 c2 blocks2 same_links.1 t root) b.0
-            (subst (λ (x : ℕ). NewTableTold w2 caller setting c2 blocks2 (Word x NEXT) (suc t) b.0) (sym (same_blocks.tables t entered.made entered.known).0) told.2)) in
+            (subst (λ (x : ℕ). NewTableOutcome w2 caller setting c2 blocks2 (Word x NEXT) (suc t) b.0) (sym (same_blocks.tables t entered.made entered.known).0) told.2)) in
             (told.0, same_links.0, tells.0, (told.1, tells.1)))
             (went_new_table same hash w setting c blocks map caller (Word (blocks.table t) NEXT) (suc t) initial_is lawful making facts m2 b.0 b.1)
 
     -- a first table is made
     module _ (making : NewTable) (facts : NewTableFacts w caller setting c blocks (Root setting.root) 0 making) where
       made_told : (w2 : World (Node K V)) (c2 : Chart K) (blocks2 : Blocks) → IsMapIn same hash setting w2 c2 blocks2 → IsIdle same hash w2 caller setting c2 blocks2
-          → (end : NewTable × Advance Table) → NewTableTold w2 caller setting c2 blocks2 (Root setting.root) 0 end
+          → (end : NewTable × Advance Table) → NewTableOutcome w2 caller setting c2 blocks2 (Root setting.root) 0 end
           → ReserveAfter w2 caller setting c2 blocks2 same hash (made p end) × Proceeds setting (made {K = K} {V = V} p end)
       made_told w2 c2 blocks2 map2 idle (next, progress.Goes) told = (on_at same hash caller setting w2 c2 blocks2 map2 p setting_is idle (at.Makes next) told, tt)
       made_told w2 c2 blocks2 map2 idle (next, progress.Waits) told = absurd told
@@ -180,7 +180,7 @@ module _ {K V : Type 0} (same : K → K → Bool) (hash : K → ℕ) (caller : �
       went_makes idle m2 end s =
           let b = steps_back (made p) w.memory m2 (new_table_plan making) end s in
           went_as same hash setting caller w c blocks m2
-          (λ w2 c2 blocks2. SparesPairs w w2 × OnlyLinks hash setting.mode c c2 × NewTableTold w2 caller setting c2 blocks2 (Root setting.root) 0 b.0)
+          (λ w2 c2 blocks2. SparesPairs w w2 × OnlyLinks hash setting.mode c c2 × NewTableOutcome w2 caller setting c2 blocks2 (Root setting.root) 0 b.0)
           (ReserveTells same hash caller setting w c m2 (at.Makes making) end)
           (λ w2 c2 blocks2 map2 moved same_blocks told.
           let tells = subst (λ (e : Reserve × Yielding (Node K V) Unit). ReserveAfter w2 caller setting c2 blocks2 same hash e × Proceeds setting e) (sym b.2)

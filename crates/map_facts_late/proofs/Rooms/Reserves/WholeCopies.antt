@@ -23,7 +23,7 @@ use Rattle.map_facts.specs.Given.ResizeCopierCounts.{counted}
 use Rattle.map_facts.specs.Given.ResizeCopierFurther.{further_read, grown}
 use Rattle.map_facts.specs.Given.ResizeCopierMarks.{is_mine, is_awaited, without_copying, probing, key_hash, mine_marked, marked}
 use Rattle.map_facts.specs.Given.TablesNodes.{deferred_word, table_seen}
-use Rattle.map_facts.specs.Given.ResizeCopierPlaces.{copied_word, place_read, put_told, next_try, pair_put}
+use Rattle.map_facts.specs.Given.ResizeCopierPlaces.{copied_word, place_read, after_put, next_try, pair_put}
 use Rattle.map_facts.specs.Given.ResizeCopierPromotes.{promoted, successor_read, retired}
 use Rattle.map_facts.specs.Given.ResizeCopierStates.{standing, behind, next_place, place_done}
 use Rattle.map_facts.specs.Given.ResizeNewTable.{table_after, new_table_plan}
@@ -145,7 +145,7 @@ module _ {K V : Type 0} (same : K → K → Bool) (hash : K → ℕ) (caller : �
 
       at_puts : (word code : ℕ) (table : Table) (probe : Probe) → Steps Took value_at w.memory (plan_at hash p (at.Puts word code table probe)) m2 end → ComesToRoot end
       at_puts word code table probe s =
-          elim (exchanged w.memory (put_told p word code table probe) (at_place table probe.i) 0 (copied_word p word) m2 end s) as (λ _. ComesToRoot end) [
+          elim (exchanged w.memory (after_put p word code table probe) (at_place table probe.i) 0 (copied_word p word) m2 end s) as (λ _. ComesToRoot end) [
             | inl d ↦ subst ComesToRoot (sym d.3) (goes_put word)
             | inr d ↦ subst ComesToRoot (sym d.3) (goes_try word code table probe)
           ]

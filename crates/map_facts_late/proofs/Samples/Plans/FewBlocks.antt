@@ -19,7 +19,7 @@ use Rattle.map_facts.specs.Given.TablesLengths.{IsTableLen}
 use Rattle.map_facts.specs.Given.ResizeCopierStates.{standing, resting}
 use Rattle.map_facts.specs.Given.ResizeDeclared.copier.Copier.{Copier}
 use Rattle.map_facts.specs.Given.ResizeDeclared.copier.Copying.TheVariants as copies
-use Rattle.map_facts.specs.Given.RawCallPoints.{entering, inserting, told_answer}
+use Rattle.map_facts.specs.Given.RawCallPoints.{entering, inserting, answered_with}
 use Rattle.map_facts.specs.Given.RawDeclared.machines.answer.Called.{Called}
 use Rattle.map_facts.specs.Given.RawDeclared.machines.answer.KeyAnswer.TheVariants as answers
 use Rattle.map_facts.specs.Given.RawDeclared.machines.answer.Missing.TheVariants as missing
@@ -27,17 +27,17 @@ use Rattle.map_facts.specs.Given.RawDeclared.machines.answer.There.TheVariants a
 use Rattle.map_facts.specs.Given.RawDeclared.machines.asking.Takes.TheVariants as takes
 use Rattle.map_facts.specs.Given.RawDeclared.machines.call.KeyCall.{KeyCall}
 use Rattle.map_facts.specs.Given.RuleChart.{Chart, Counted}
-use Rattle.map_facts.specs.Given.RuleInWorld.{IsOut, IsMapIn, Went}
+use Rattle.map_facts.specs.Given.RuleInWorld.{IsOut, IsMapIn, StepSpec}
 use Rattle.map_facts.specs.Given.RuleMaps.{IsTable, spot_of}
 use Rattle.map_facts.specs.Given.RuleMoments.{Moments}
 use Rattle.map_facts.specs.Given.RuleMoves.{Move, Links, Marks, Counts, Promotes, Announces, Allowed, after}
 use Rattle.map_facts.specs.Given.RuleRule.{Rule, no_table}
-use Rattle.map_facts.specs.Given.RuleWords.{Blocks, Shows, ShowsTable, place_word}
+use Rattle.map_facts.specs.Given.RuleWords.{Blocks, Represents, RepresentsTable, place_word}
 use Rattle.map_facts.proofs.Given.RuleHistory.History.{history_begins, history_kept}
 use Rattle.map_facts.proofs.Given.RuleKeys.TriesSeen.{spot_inside}
 use Rattle.map_facts.proofs.Given.RuleMoves.Promised.{moves_keep}
 use Rattle.map_facts.proofs.Given.RuleMoves.RuleBegins.{rule_begins}
-use Rattle.map_facts_late.specs.Kinds.{ComesFit}
+use Rattle.map_facts_late.specs.Kinds.{StepFits}
 use Rattle.map_facts.specs.Steps.{AreLawful}
 use Rattle.map_facts_late.proofs.Samples.Plans.{answers_at_once, tries_nothing, forgets_its_pair, stores_nothing, lowers, lowers_the_root, gives_up, aborts_a_promoted}
 
@@ -142,7 +142,7 @@ both P first second zero l = first
 both P first second (suc zero) l = second
 both P first second (suc (suc t)) l = absurd (omega (arith, l))
 
-first_shown : ShowsTable hash memory chart blocks 0
+first_shown : RepresentsTable hash memory chart blocks 0
 first_shown = record {
   value = refl;
   next = refl;
@@ -152,7 +152,7 @@ first_shown = record {
   places = each (λ i. word_at memory (Word 2 (i + PLACES)) ≡ Some (place_word hash chart blocks (chart.place 0 i))) refl refl refl refl refl refl refl refl;
 }
 
-second_shown : ShowsTable hash memory chart blocks 1
+second_shown : RepresentsTable hash memory chart blocks 1
 second_shown = record {
   value = refl;
   next = refl;
@@ -162,10 +162,10 @@ second_shown = record {
   places = each (λ i. word_at memory (Word 3 (i + PLACES)) ≡ Some (place_word hash chart blocks (chart.place 1 i))) refl refl refl refl refl refl refl refl;
 }
 
-shown : Shows hash memory chart blocks 0
+shown : Represents hash memory chart blocks 0
 shown = record {
   root_there = refl;
-  tables = λ t made known. both (ShowsTable hash memory chart blocks) first_shown second_shown t made;
+  tables = λ t made known. both (RepresentsTable hash memory chart blocks) first_shown second_shown t made;
   pairs = λ n stored known. absurd (omega (arith, stored));
   sized = both (λ t. IsTableLen (chart.len t)) length_fits length_fits;
   linked = λ t from made. refl;
@@ -214,7 +214,7 @@ lowers_steps : (m : Mem (Node ℕ ℕ)) × (end : Copier × ℕ) × Steps Took v
 lowers_steps = (with_word memory (Root 0) 4096, (standing late copies.Announces, 0), (Stored, (tt, refl), refl))
 
 lowers_is_refused : (m : Mem (Node ℕ ℕ)) (end : Copier × ℕ) → Steps Took value_at memory (lowers late) m end → (Told : World (Node ℕ ℕ) → Chart ℕ → Blocks → Type 0)
-    → Went eqb hash setting 5 world chart blocks m Told → ⊥
+    → StepSpec eqb hash setting 5 world chart blocks m Told → ⊥
 lowers_is_refused m end s Told went = lowers_the_root eqb hash setting lawful 5 world chart blocks is_map stands.1 late refl m end Told went 0 old_is (omega arith) s
 
 -- It says that the second table is given up, which was promoted.
@@ -222,7 +222,7 @@ gives_up_steps : (m : Mem (Node ℕ ℕ)) × (end : Copier × ℕ) × Steps Took
 gives_up_steps = (with_word memory (Word 3 STATUS) ABORTED, (standing late copies.Aborts, 0), (Stored, (tt, refl), refl))
 
 gives_up_is_refused : (m : Mem (Node ℕ ℕ)) (end : Copier × ℕ) → Steps Took value_at memory (gives_up late) m end → (Told : World (Node ℕ ℕ) → Chart ℕ → Blocks → Type 0)
-    → Went eqb hash setting 5 world chart blocks m Told → ⊥
+    → StepSpec eqb hash setting 5 world chart blocks m Told → ⊥
 gives_up_is_refused m end s Told went = aborts_a_promoted eqb hash setting lawful 5 world chart blocks is_map stands.1 late refl m end Told went 1 new_is refl s
 
 -- An insertion is at the first place of a table, with the pair that its caller has made.
@@ -231,19 +231,19 @@ insertion table = record (entering (inserting setting 0 7 9) table).0 { own = 81
 
 -- It answers that the key was missing: at once;
 at_once_steps : (m : Mem (Node ℕ ℕ)) × (end : KeyCall ℕ ℕ ℕ × Called (Node ℕ ℕ)) × Steps Took value_at memory (answers_at_once (insertion new)) m end
-at_once_steps = (memory, told_answer (insertion new) answers.Absent, (refl, refl))
+at_once_steps = (memory, answered_with (insertion new) answers.Absent, (refl, refl))
 
-at_once_is_refused : (m : Mem (Node ℕ ℕ)) (end : KeyCall ℕ ℕ ℕ × Called (Node ℕ ℕ)) → Steps Took value_at memory (answers_at_once (insertion new)) m end → ComesFit there.Puts missing.Puts takes.Nothing end → ⊥
+at_once_is_refused : (m : Mem (Node ℕ ℕ)) (end : KeyCall ℕ ℕ ℕ × Called (Node ℕ ℕ)) → Steps Took value_at memory (answers_at_once (insertion new)) m end → StepFits there.Puts missing.Puts takes.Nothing end → ⊥
 at_once_is_refused m end s fits = tries_nothing there.Puts takes.Nothing (insertion new) memory m end s fits
 
 -- as it has lost its exchange, since its place in the first table is marked by now, so that its pair is nowhere;
 forgets_steps : (m : Mem (Node ℕ ℕ)) × (end : KeyCall ℕ ℕ ℕ × Called (Node ℕ ℕ)) × Steps Took value_at memory (forgets_its_pair (insertion old)) m end
-forgets_steps = (memory, told_answer (insertion old) answers.Absent, (Exchanged (Err 1), ((refl, λ e. cc e), refl), refl))
+forgets_steps = (memory, answered_with (insertion old) answers.Absent, (Exchanged (Err 1), ((refl, λ e. cc e), refl), refl))
 
 -- or although its pair stands in the second one now.
 hides_steps : (m : Mem (Node ℕ ℕ)) × (end : KeyCall ℕ ℕ ℕ × Called (Node ℕ ℕ)) × Steps Took value_at memory (forgets_its_pair (insertion new)) m end
-hides_steps = (with_word memory (Word 3 PLACES) 8192, told_answer (insertion new) answers.Absent, (Exchanged (Ok 0), ((refl, refl), refl), refl))
+hides_steps = (with_word memory (Word 3 PLACES) 8192, answered_with (insertion new) answers.Absent, (Exchanged (Ok 0), ((refl, refl), refl), refl))
 
 forgets_is_refused : (table : Table) (m : Mem (Node ℕ ℕ)) (end : KeyCall ℕ ℕ ℕ × Called (Node ℕ ℕ)) → Steps Took value_at memory (forgets_its_pair (insertion table)) m end
-    → ComesFit there.Puts missing.Puts takes.Nothing end → ⊥
+    → StepFits there.Puts missing.Puts takes.Nothing end → ⊥
 forgets_is_refused table m end s fits = stores_nothing there.Puts takes.Nothing (insertion table) memory m end s fits

@@ -10,15 +10,15 @@ use Rattle.map_facts.specs.Given.ReservesDeclared.sweep.Sweeping.TheVariants as 
 use Rattle.map_facts.specs.Given.ReservesDeclared.sweep.Swept.{Swept}
 use Rattle.map_facts.specs.Given.ReservesDeclared.sweep.Swept.TheVariants as swept
 use Rattle.map_facts.specs.Given.RuleChart.{Chart}
-use Rattle.map_facts.specs.Given.RuleWords.{Blocks, Shows, byte_of}
+use Rattle.map_facts.specs.Given.RuleWords.{Blocks, Represents, byte_of}
 use Rattle.map_facts.proofs.Given.RuleWords.PlaceWords.{pair_block}
 use Rattle.map_facts.proofs.Given.RuleWords.PlacesShown.{byte_of-few}
 use Rattle.map_facts_late.specs.Covers.{times, WasSince, AreShown, Came, NamesPair, CoversAt}
 use Rattle.map_facts_late.specs.CoversSweeps.{Adds, DoneAt}
-use Rattle.map_facts_late.specs.ToldSweeps.{word_told, ReadsPlace, TellsSo}
+use Rattle.map_facts_late.specs.ToldSweeps.{word_shown, ReadsPlace, OutcomeAgrees}
 use Rattle.map_facts_late.proofs.Swept.Covers.Passes.{times_new}
 
-module _ {K V : Type 0} (hash : K → ℕ) (fits : (k : K) → hash k < 2 ^ 64) (m : Mem (Node K V)) (c : Chart K) (blocks : Blocks) (root : ℕ) (shows : Shows hash m c blocks root) where
+module _ {K V : Type 0} (hash : K → ℕ) (fits : (k : K) → hash k < 2 ^ 64) (m : Mem (Node K V)) (c : Chart K) (blocks : Blocks) (root : ℕ) (shows : Represents hash m c blocks root) where
   block_of : (word n : ℕ) → NamesPair hash c blocks word n → block_in word ≡ blocks.pair n
   block_of word n (was, known, phase, borrowed, is) = ap block_in is ∙ pair_block blocks.pair (λ o. byte_of hash (c.key o)) n phase borrowed (byte_of-few hash fits (c.key n))
 
@@ -56,8 +56,8 @@ module _ {K : Type 0} (hash : K → ℕ) (c : Chart K) (blocks : Blocks) (began 
 
   -- what it tells after a step
   module _ {T : Type 0} (covers : CoversAt hash c blocks p entered done p.stands) where
-    pub shows_since : (was : Sweeping) (before : List ℕ) (entered0 : ℕ) (end : Swept T) → TellsSo was p.stands end → DoneAt hash c blocks before done entered0 entered end was
-        → (word : ℕ) → word_told end ≡ Some word → IsNamed word
+    pub shows_since : (was : Sweeping) (before : List ℕ) (entered0 : ℕ) (end : Swept T) → OutcomeAgrees was p.stands end → DoneAt hash c blocks before done entered0 entered end was
+        → (word : ℕ) → word_shown end ≡ Some word → IsNamed word
     shows_since was before entered0 (swept.Pair shown) (reads, ready) did word e =
         subst IsNamed (let same_word : shown ≡ word = cc e in same_word)
         (adds_so before shown (read_done T was before entered0 shown reads did) (shown_at (subst (CoversAt hash c blocks p entered done) ready covers)))
@@ -72,5 +72,5 @@ module _ {K : Type 0} (hash : K → ℕ) (c : Chart K) (blocks : Blocks) (began 
     shows_since was before entered0 (swept.Refused fault) tells did word e = absurd (cc e)
 
     -- and at its end
-    pub came_at_end : (was : Sweeping) (end : Swept T) → TellsSo was p.stands end → end ≡ swept.Done → Came c entered p.purpose done
-    came_at_end was end tells is = subst (CoversAt hash c blocks p entered done) (subst (TellsSo was p.stands) is tells) covers
+    pub came_at_end : (was : Sweeping) (end : Swept T) → OutcomeAgrees was p.stands end → end ≡ swept.Done → Came c entered p.purpose done
+    came_at_end was end tells is = subst (CoversAt hash c blocks p entered done) (subst (OutcomeAgrees was p.stands) is tells) covers

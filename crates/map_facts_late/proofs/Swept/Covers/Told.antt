@@ -15,7 +15,7 @@ use Rattle.map_facts.specs.Given.RuleChart.{Phase, Holds, Chart}
 use Rattle.map_facts.specs.Given.RuleWords.{Blocks}
 use Rattle.map_facts.specs.Given.RuleInWorld.{IsMapIn}
 use Rattle.map_facts_late.specs.Covers.{IsKept, Came, Covers, CoversAt}
-use Rattle.map_facts_late.specs.CoversSweeps.{DoneReplied, SweepsAreToldOn}
+use Rattle.map_facts_late.specs.CoversSweeps.{DoneReplied, SweepsAreRepliedOn}
 use Rattle.map_facts_late.specs.FactsSweeps.{GoesOver, SweepingFacts, SweepFacts}
 use Rattle.map_facts_late.proofs.Swept.Covers.On.{came_at_end, further_covers}
 use Rattle.map_facts_late.proofs.Swept.Covers.Passes.{times_new, adds}
@@ -112,6 +112,6 @@ module _ {K V : Type 0} (same : K → K → Bool) (hash : K → ℕ) (setting : 
     reply_in (at.Refused fault) point h whole keeps = same_done keeps (at.Refused fault) (λ word e. cc e) whole
 
 -- the promise
-pub sweeps_are_told_on : {K : Type 0} (V : Type 0) (same : K → K → Bool) (hash : K → ℕ) → SweepsAreToldOn V same hash
+pub sweeps_are_told_on : {K : Type 0} (V : Type 0) (same : K → K → Bool) (hash : K → ℕ) → SweepsAreRepliedOn V same hash
 sweeps_are_told_on V same hash setting w caller c blocks began p map f entered done h =
     (next_in same hash setting w caller c blocks began p map f entered done p.stands refl f.point h, reply_in same hash setting w caller c blocks began p map f entered done p.stands f.point h h)

@@ -18,7 +18,7 @@ use Rattle.map_facts.specs.Given.RuleMoments.{Moments}
 use Rattle.map_facts.specs.Given.RuleInWorld.{IsMapIn}
 use Rattle.map_facts.specs.FactsCopies.{CopierFacts}
 use Rattle.map_facts.specs.FactsCopiesBlocking.{CopierFactsBlocking}
-use Rattle.map_facts.specs.FactsDisposes.{StandsBefore, StandsNowhere, HasLeft, DisposeFacts}
+use Rattle.map_facts.specs.FactsDisposes.{LiesBefore, LiesNowhere, HasLeft, DisposeFacts}
 use Rattle.map_facts.specs.Others.{OthersStep}
 use Rattle.map_facts.specs.Steps.{AreLawful}
 use Rattle.map_facts_late.proofs.Known.Disposes as incremental
@@ -85,7 +85,7 @@ module _ {K V : Type 0} (same : K → K → Bool) (hash : K → ℕ) (are : AreL
   module _ (n : ℕ) (left : HasLeft w caller setting c blocks n) (t : ℕ) (borrowed : Bool) where
     abbrev OutIn : World (Node K V) → Chart K → Blocks → Bool → Type 0
     OutIn w c blocks b =
-        cond (cond b borrowed false) ((w.hand (blocks.pair n) ≡ Parting caller) × StandsBefore w caller setting c blocks n t) ((w.hand (blocks.pair n) ≡ Cutting caller) × StandsNowhere w caller setting c blocks n)
+        cond (cond b borrowed false) ((w.hand (blocks.pair n) ≡ Parting caller) × LiesBefore w caller setting c blocks n t) ((w.hand (blocks.pair n) ≡ Cutting caller) × LiesNowhere w caller setting c blocks n)
 
     out_then : OutIn w c blocks (is_incremental setting.mode) → OutIn w2 c2 blocks2 (is_incremental setting.mode)
     out_then h = by (is_incremental setting.mode) refl

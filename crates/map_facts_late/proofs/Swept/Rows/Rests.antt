@@ -1,6 +1,6 @@
 -- A sweep while a row of the collector disposes of the pair that it has removed, and after it.
 use Rattle.std.specs.Prelude.{ℕ, Bool, false}
-use Rattle.map_facts_late.specs.RowsSweeps.{SweepsGoOn, SweepsRestOn}
+use Rattle.map_facts_late.specs.RowsSweeps.{SweepsContinue, SweepsRestOn}
 use Rattle.map_facts_late.proofs.Known.Tables.{made_on}
 use Rattle.map_facts_late.proofs.Lasts.Promised.{calls_know_on}
 use Rattle.map_facts_late.proofs.Swept.Covers.On.{further_covers}
@@ -9,7 +9,7 @@ use Rattle.map_facts_late.proofs.Swept.Lasts.Sweeps.{place_then}
 use Rattle.map_facts_late.proofs.Swept.Sweeps.On.{goes_further}
 
 module _ {K : Type 0} (V : Type 0) (same : K → K → Bool) (hash : K → ℕ) where
-  pub sweeps_go_on : SweepsGoOn V same hash
+  pub sweeps_go_on : SweepsContinue V same hash
   sweeps_go_on setting w caller c blocks began p map r = (
     goes_further same hash caller setting began w c blocks map p r.setting_is r.idle r.turn r.place.0 r.place.1,
     λ entered done h. further_covers hash c blocks p entered (within same hash setting w caller c blocks began p map r.turn r.place.0) p.met done

@@ -30,14 +30,14 @@ use Rattle.map_facts.specs.FactsCopies.{CopierFacts}
 use Rattle.map_facts.specs.FactsCopiesBlocking.{CopierFactsBlocking}
 use Rattle.map_facts.specs.FactsIdle.{IsIdle}
 use Rattle.map_facts.specs.Steps.{AreLawful}
-use Rattle.map_facts.specs.Told.{IsRowOfCopier, CopierTold, CopierToldBlocking}
+use Rattle.map_facts.specs.Told.{IsRowOfCopier, CopierOutcome, CopierOutcomeBlocking}
 use Rattle.map_facts.proofs.MovedLasts.{idle_in}
 use Rattle.map_facts_late.specs.Left.{ClaimsAreFew}
-use Rattle.map_facts_late.specs.LateCopies.{LateCopierFacts}
-use Rattle.map_facts_late.specs.LateTold.{LateCopierAfter, LateCopierTold}
+use Rattle.map_facts_late.specs.LateCopies.{SupersededCopierFacts}
+use Rattle.map_facts_late.specs.LateTold.{SupersededCopierAfter, SupersededCopierOutcome}
 use Rattle.map_facts_late.proofs.Copiers.Points.{late_copiers_keep_the_map}
 use Rattle.map_facts_late.specs.FactsReserves.{IsEnding}
-use Rattle.map_facts_late.specs.ToldReserves.{EndsAtRoot, WholeTold}
+use Rattle.map_facts_late.specs.ToldReserves.{EndsAtRoot, WholeCopyOutcome}
 use Rattle.map_facts_late.proofs.Rooms.Late.Copies.{whole_blocking}
 use Rattle.map_facts_late.proofs.Rooms.Reserves.Copies.{may_whole, went_whole}
 use Rattle.map_facts_late.proofs.Rooms.Reserves.Moved.{CopierMoves}
@@ -64,8 +64,8 @@ module _ {K V : Type 0} (same : K → K → Bool) (hash : K → ℕ) (caller : �
     -- from the root's table, or from one that was it in incremental mode
     abbrev ToldIn : Bool → Copier × Yielding (Node K V) Table → Type 0
     ToldIn b end =
-        cond b (CopierTold w caller setting c blocks same hash end × (end.0.whole ≡ true) × EndsAtRoot w caller setting c blocks same hash end)
-        (CopierToldBlocking w caller setting c blocks same hash end)
+        cond b (CopierOutcome w caller setting c blocks same hash end × (end.0.whole ≡ true) × EndsAtRoot w caller setting c blocks same hash end)
+        (CopierOutcomeBlocking w caller setting c blocks same hash end)
 
     whole_of : (b : Bool) → is_incremental setting.mode ≡ b → (next : Copier)
         → cond b ((next.whole ≡ true) × CopierFacts same hash w caller setting c blocks next × IsEnding same hash w caller setting c blocks next next.stands) (CopierFactsBlocking same hash w caller setting c blocks next)
@@ -97,12 +97,12 @@ module _ {K V : Type 0} (same : K → K → Bool) (hash : K → ℕ) (caller : �
 
     -- from one that the root has left, in blocking mode
     module _ (blocking : is_incremental setting.mode ≡ false) where
-      late_on : (next : Copier) → CopierFactsBlocking same hash w caller setting c blocks next ⊎ LateCopierFacts same hash w caller setting c blocks began next
+      late_on : (next : Copier) → CopierFactsBlocking same hash w caller setting c blocks next ⊎ SupersededCopierFacts same hash w caller setting c blocks began next
           → CopiesTable same hash w caller setting c blocks began next
       late_on next (inl fresh) = inl (whole_blocking same hash caller setting blocking w c blocks next fresh)
       late_on next (inr late) = inr (blocking, late)
 
-      late_leads : (end : Copier × Yielding (Node K V) Table) → LateCopierAfter same hash caller setting began w c blocks end → Leads w c blocks end
+      late_leads : (end : Copier × Yielding (Node K V) Table) → SupersededCopierAfter same hash caller setting began w c blocks end → Leads w c blocks end
       late_leads (next, outcome.Goes) told = (on next (late_on next told), tt)
       late_leads (next, outcome.Waits) told = (on next (inr (blocking, told)), tt)
       late_leads (next, outcome.Gave value) told = absurd told
@@ -133,12 +133,12 @@ module _ {K V : Type 0} (same : K → K → Bool) (hash : K → ℕ) (caller : �
           → SweepWent same hash caller setting began w c blocks p m2 (at.Copies copier) end
       inner (inl whole) s =
           went_as same hash setting caller w c blocks m2
-          (λ w2 c2 blocks2. SparesPairs w w2 × (c2.current ≡ c.current) × WholeTold w2 caller setting c2 blocks2 same hash b × CopierMoves same hash caller setting w c copier b c2)
+          (λ w2 c2 blocks2. SparesPairs w w2 × (c2.current ≡ c.current) × WholeCopyOutcome w2 caller setting c2 blocks2 same hash b × CopierMoves same hash caller setting w c copier b c2)
           (SweepTells same hash caller setting began w c blocks p (at.Copies copier) end)
           (λ w2 c2 blocks2 map2 moved same_blocks told. tells w2 c2 blocks2 told.1 (whole_leads_in w2 c2 blocks2 map2 (is_incremental setting.mode) refl b told.2))
           (went_whole same hash caller setting are.lawful are.fits initial_is w c blocks map copier none whole m2 b s)
       inner (inr (blocking, late)) s =
-          went_as same hash setting caller w c blocks m2 (λ w2 c2 blocks2. SparesPairs w w2 × LateCopierTold same hash caller setting began w2 c2 blocks2 c b)
+          went_as same hash setting caller w c blocks m2 (λ w2 c2 blocks2. SparesPairs w w2 × SupersededCopierOutcome same hash caller setting began w2 c2 blocks2 c b)
           (SweepTells same hash caller setting began w c blocks p (at.Copies copier) end)
           (λ w2 c2 blocks2 map2 moved same_blocks told. tells w2 c2 blocks2 told.1.1 (late_leads w2 c2 blocks2 map2 blocking b told.1.0))
           ((late_copiers_keep_the_map same hash are setting initial_is blocking w caller c blocks began copier map (moments_of blocking) (few blocking) late none).1 m2 b s)

@@ -22,7 +22,7 @@ use Rattle.map_facts.specs.Given.RuleChart.{Still, Chart}
 use Rattle.map_facts.specs.Given.RuleMoves.{Removes, after}
 use Rattle.map_facts.specs.Given.RuleWords.{Blocks, place_word}
 use Rattle.map_facts.specs.Given.RuleMaps.{spot_of, IsTable}
-use Rattle.map_facts.specs.Given.RuleInWorld.{Went}
+use Rattle.map_facts.specs.Given.RuleInWorld.{StepSpec}
 use Rattle.map_facts.specs.Given.SeizeWordsMem.{Mem}
 use Rattle.map_facts_late.specs.FactsSweeps.{WasRoot}
 use Rattle.map_facts_late.specs.ToldSweeps.{NamesThere, SweepAfter}
@@ -66,4 +66,4 @@ module _ {K V : Type 0} (same : K → K → Bool) (hash : K → ℕ) (caller : �
   SweepTells stage end w2 c2 blocks2 = SweepAfter same hash caller setting began w2 c2 blocks2 end × SweepMoves stage end w2 c2 blocks2
 
   abbrev pub SweepWent : Mem (Node K V) → Sweeping → Sweep × Swept (Node K V) → Type 0
-  SweepWent m2 stage end = Went same hash setting caller w c blocks m2 (SweepTells stage end)
+  SweepWent m2 stage end = StepSpec same hash setting caller w c blocks m2 (SweepTells stage end)

@@ -15,8 +15,8 @@ use Rattle.map_facts.specs.Given.RuleWords.{Blocks}
 use Rattle.map_facts.specs.Given.RuleInWorld.{IsMapIn}
 use Rattle.map_facts.proofs.Given.RuleWorld.WentTold.{went_as}
 use Rattle.map_facts_late.specs.FactsSweeps.{CopiesPairs, HasNoTable, GoesOver, SweepingFacts, SweepFacts}
-use Rattle.map_facts_late.specs.StepsSweeps.{SweepsBegin, SweepsAreTold, SweepsKeepTheMap}
-use Rattle.map_facts_late.specs.ToldSweeps.{SweepTold}
+use Rattle.map_facts_late.specs.StepsSweeps.{SweepsBegin, SweepsAreReplied, SweepsPreserveTheMap}
+use Rattle.map_facts_late.specs.ToldSweeps.{SweepOutcome}
 use Rattle.map_facts_late.proofs.Swept.Sweeps.Moved.{SweepTells}
 use Rattle.map_facts_late.proofs.Swept.Sweeps.On.{goes_further}
 use Rattle.map_facts_late.proofs.Swept.Sweeps.Points.{may_sweep, went_sweep}
@@ -67,15 +67,15 @@ module _ {K : Type 0} (V : Type 0) (same : K → K → Bool) (hash : K → ℕ) 
     }
     reply_in _ is point keeps = f
 
-  pub sweeps_are_told : SweepsAreTold V same hash
+  pub sweeps_are_told : SweepsAreReplied V same hash
   sweeps_are_told setting w caller c blocks began p map f =
       (next_in setting w caller c blocks began map p f p.stands refl f.point, reply_in setting w caller c blocks began map p f p.stands refl f.point)
 
-  pub sweeps_keep_the_map : SweepsKeepTheMap V same hash
+  pub sweeps_keep_the_map : SweepsPreserveTheMap V same hash
   sweeps_keep_the_map are setting initial_is w caller c blocks began p map moments few f none = (
     may_sweep same hash are caller setting initial_is began w c blocks map moments few p f none,
     λ m2 p2 end s. went_as same hash setting caller w c blocks m2 (SweepTells same hash caller setting began w c blocks p p.stands (p2, end))
-        (λ w2 c2 blocks2. SweepTold same hash caller setting began c blocks p w2 c2 blocks2 p2 end)
+        (λ w2 c2 blocks2. SweepOutcome same hash caller setting began c blocks p w2 c2 blocks2 p2 end)
         (λ w2 c2 blocks2 map2 moved same_blocks tells. told_of same hash caller setting began w c blocks map p w2 c2 blocks2 p2 end tells)
         (went_sweep same hash are caller setting initial_is began w c blocks map moments few p f m2 (p2, end) none s),
   )

@@ -35,7 +35,7 @@ use Rattle.map_facts.proofs.Given.RuleWorld.WentStill.{went_still}
 use Rattle.map_facts.proofs.Given.RuleWorld.WentTold.{went_as}
 use Rattle.map_facts.specs.FactsDisposes.{DisposeFacts}
 use Rattle.map_facts.specs.FactsIdle.{IsIdle}
-use Rattle.map_facts.specs.Told.{IsRowOf, DisposeTold}
+use Rattle.map_facts.specs.Told.{IsRowOf, DisposeOutcome}
 use Rattle.map_facts.proofs.Disposals.DisposesBegin.{IsTakenOut, dispose_begins}
 use Rattle.map_facts.proofs.Disposals.Points.{DisposeTells, may_dispose, went_dispose}
 use Rattle.map_facts.proofs.Steps.CountsShards.{shard_some, went_counted}
@@ -178,7 +178,7 @@ module _ {K V : Type 0} (same : K → K → Bool) (hash : K → ℕ) (caller : �
             }
 
         disposed_after : (w2 : World (Node K V)) (blocks2 : Blocks) → IsMapIn same hash setting w2 c blocks2 → SameBlocks c blocks blocks2 → (b : Dispose × Settled (Node K V))
-            → DisposeTold w2 caller setting c blocks2 b → After same hash caller setting began w2 c blocks2 (disposed p b)
+            → DisposeOutcome w2 caller setting c blocks2 b → After same hash caller setting began w2 c blocks2 (disposed p b)
         disposed_after w2 blocks2 map2 same_blocks (next, settled.Goes) told =
             record { setting_is = setting_is; idle = λ rests. idle; point = (taking, t, (let o = over_then w2 blocks2 same_blocks in record { table = o.table; root = o.root; marks = o.marks }, inside), told) }
         disposed_after w2 blocks2 map2 same_blocks (next, settled.Waits) told = absurd told
@@ -196,7 +196,7 @@ module _ {K V : Type 0} (same : K → K → Bool) (hash : K → ℕ) (caller : �
               subst (After same hash caller setting began w2 c2 blocks2) (sym b.2)
                   (subst (λ (x : Chart K). After same hash caller setting began w2 x blocks2 (disposed p b.0)) (sym told.1)
                   (disposed_after w2 blocks2 (subst (λ (x : Chart K). IsMapIn same hash setting w2 x blocks2) told.1 map2) same_blocks b.0
-                  (subst (λ (x : Chart K). DisposeTold w2 caller setting x blocks2 b.0) told.1 told.2))),
+                  (subst (λ (x : Chart K). DisposeOutcome w2 caller setting x blocks2 b.0) told.1 told.2))),
               (told.1, b.0, b.2),
             ))
             (went_dispose same hash setting w caller c blocks map dispose f none m2 b.0 b.1)

@@ -29,7 +29,7 @@ use Rattle.map_facts.specs.Given.ReservesDeclared.sweep.Swept.TheVariants as swe
 use Rattle.map_facts.specs.Given.RuleChart.{Chart}
 use Rattle.map_facts.specs.Given.RuleWords.{Blocks, place_word}
 use Rattle.map_facts_late.specs.FactsSweeps.{CopiesPairs}
-use Rattle.map_facts_late.specs.ToldSweeps.{ReadsPlace, TellsSo, StandsThen}
+use Rattle.map_facts_late.specs.ToldSweeps.{ReadsPlace, OutcomeAgrees, IsAtPointThen}
 use Rattle.map_facts_late.proofs.Swept.Sweeps.Moved.{Sees, SweepMoves}
 
 -- it asks nothing there, removes nothing, and copies nothing
@@ -76,7 +76,7 @@ begins_unclaiming setting source target = by (is_incremental setting.mode)
 
 module _ (T : Type 0) where
   -- what it tells where it stands
-  tells_so : (was stands : Sweeping) → TellsSo was stands (told {T = T} stands)
+  tells_so : (was stands : Sweeping) → OutcomeAgrees was stands (told {T = T} stands)
   tells_so was at.Reads = tt
   tells_so was at.Follows = tt
   tells_so was (at.Copies copier) = tt
@@ -91,10 +91,10 @@ module _ (T : Type 0) where
 
 module _ {K V : Type 0} (p : Sweep) where
   abbrev Then : Sweep × Swept (Node K V) → Type 0
-  Then end = StandsThen {T = Node K V} p end.0 end.1
+  Then end = IsAtPointThen {T = Node K V} p end.0 end.1
 
   -- it goes on where it neither asks, nor removes, nor copies
-  quietly : (q : Sweep) → IsQuiet q.stands → q.purpose ≡ p.purpose → (end : Swept (Node K V)) → TellsSo p.stands q.stands end → StandsThen p q end
+  quietly : (q : Sweep) → IsQuiet q.stands → q.purpose ≡ p.purpose → (end : Swept (Node K V)) → OutcomeAgrees p.stands q.stands end → IsAtPointThen p q end
   quietly q quiet same_purpose end tells = record {
     purpose = same_purpose;
     tells = tells;
@@ -132,7 +132,7 @@ module _ {K V : Type 0} (p : Sweep) where
   disposed_then (next, settled.Gave value) = quietly (standing p (at.Disposes next)) tt refl (swept.Gave value) tt
   disposed_then (next, settled.Done) = telling_then (further p) (quiet_further p) refl
 
-  copying_then : (next : Table) → StandsThen {T = Node K V} p (standing p (at.Copies (copying_all p.setting p.table next))) swept.Goes
+  copying_then : (next : Table) → IsAtPointThen {T = Node K V} p (standing p (at.Copies (copying_all p.setting p.table next))) swept.Goes
   copying_then next = record {
     purpose = refl;
     tells = tt;
@@ -147,7 +147,7 @@ module _ {K V : Type 0} (p : Sweep) where
   still_then : (stage : Sweeping) → p.stands ≡ stage → ((word : ℕ) → stage ≢ at.Tries word) → ((copier : Copier) → stage ≢ at.Copies copier) → Then (p, told stage)
   still_then stage here trying copying = record {
     purpose = refl;
-    tells = subst (λ (x : Sweeping). TellsSo x x (told {T = Node K V} stage)) (sym here) (tells_so (Node K V) stage stage);
+    tells = subst (λ (x : Sweeping). OutcomeAgrees x x (told {T = Node K V} stage)) (sym here) (tells_so (Node K V) stage stage);
     tries = λ retains word e. trying word (sym here ∙ e);
     begins = λ none copier e. absurd (copying copier (sym here ∙ e));
   }
@@ -157,13 +157,13 @@ module _ {K V : Type 0} (same : K → K → Bool) (hash : K → ℕ) (caller : �
   abbrev Moves : Sweeping → Type 0
   Moves stage = SweepMoves same hash caller setting began w c blocks p stage (p2, end) w2 c2 blocks2
 
-  led : (x : Sweep × Swept (Node K V)) → ◌≡◌ {A = Sweep × Swept (Node K V)} (p2, end) x → StandsThen p x.0 x.1 → StandsThen p p2 end
-  led x e h = subst (λ (y : Sweep × Swept (Node K V)). StandsThen p y.0 y.1) (sym e) h
+  led : (x : Sweep × Swept (Node K V)) → ◌≡◌ {A = Sweep × Swept (Node K V)} (p2, end) x → IsAtPointThen p x.0 x.1 → IsAtPointThen p p2 end
+  led x e h = subst (λ (y : Sweep × Swept (Node K V)). IsAtPointThen p y.0 y.1) (sym e) h
 
-  reading : ReadsPlace p.stands → Sees same hash caller setting began w c blocks p (p2, end) → StandsThen p p2 end
+  reading : ReadsPlace p.stands → Sees same hash caller setting began w c blocks p (p2, end) → IsAtPointThen p p2 end
   reading reads (t, entered, is) = led (seen p (place_word hash c blocks (c.place t p.place))) is (seen_then p reads (place_word hash c blocks (c.place t p.place)))
 
-  stands_at : (stage : Sweeping) → p.stands ≡ stage → Moves stage → StandsThen p p2 end
+  stands_at : (stage : Sweeping) → p.stands ≡ stage → Moves stage → IsAtPointThen p p2 end
   stands_at at.Reads here (e, f, inl none) = led (telling (tableless p)) none.1 (telling_then p (tableless p) (quiet_tableless p) refl)
   stands_at at.Reads here (e, f, inr some) = led (telling (entering p some.0)) some.2 (telling_then p (entering p some.0) (quiet_entering p some.0) (entering_purpose p some.0))
   stands_at at.Follows here (e, f, t, entered, inl last) = led (telling (beginning p)) last.1 (telling_then p (beginning p) (quiet_beginning p) refl)
@@ -179,5 +179,5 @@ module _ {K V : Type 0} (same : K → K → Bool) (hash : K → ℕ) (caller : �
   stands_at at.Over here (e, is) = led (p, told at.Over) is (still_then p at.Over here (λ word e. cc e) (λ copier e. cc e))
   stands_at (at.Refused fault) here (e, is) = led (p, told (at.Refused fault)) is (still_then p (at.Refused fault) here (λ word e. cc e) (λ copier e. cc e))
 
-  pub stands_then : Moves p.stands → StandsThen p p2 end
+  pub stands_then : Moves p.stands → IsAtPointThen p p2 end
   stands_then = stands_at p.stands refl

@@ -31,12 +31,12 @@ use Rattle.map_facts.specs.Given.RuleMaps.{spot_of}
 use Rattle.map_facts.specs.Given.RuleInWorld.{IsMapIn}
 use Rattle.map_facts.proofs.Given.RuleWords.PlaceWordsRead.{word-pair}
 use Rattle.map_facts_late.specs.FactsSweeps.{CopiesPairs}
-use Rattle.map_facts_late.specs.ToldSweeps.{word_told, NamesThere, StandsThen, SweepTold}
+use Rattle.map_facts_late.specs.ToldSweeps.{word_shown, NamesThere, IsAtPointThen, SweepOutcome}
 use Rattle.map_facts_late.proofs.Swept.Sweeps.Moved.{Sees, SweepTells}
 use Rattle.map_facts_late.proofs.Swept.Sweeps.Stands.{IsQuiet, quiet_tableless, quiet_beginning, quiet_entering, quiet_further, stands_then}
 
 -- where it is quiet it names no pair
-pub quiet_tells : (T : Type 0) (stage : Sweeping) → IsQuiet stage → (word : ℕ) → word_told (told {T = T} stage) ≡ Some word → ⊥
+pub quiet_tells : (T : Type 0) (stage : Sweeping) → IsQuiet stage → (word : ℕ) → word_shown (told {T = T} stage) ≡ Some word → ⊥
 quiet_tells T at.Reads quiet word e = cc e
 quiet_tells T at.Follows quiet word e = cc e
 quiet_tells T (at.Copies copier) quiet word e = quiet
@@ -52,32 +52,32 @@ quiet_tells T (at.Refused fault) quiet word e = cc e
 module _ {K V : Type 0} (same : K → K → Bool) (hash : K → ℕ) (caller : ℕ) (setting : Setting) (began : ℕ) (w : World (Node K V)) (c : Chart K) (blocks : Blocks)
     (map : IsMapIn same hash setting w c blocks) (p : Sweep) where
   -- a word that it tells is that of the pair of its place
-  sees_names : (t : ℕ) (word : ℕ) → word_told (seen {T = Node K V} p (place_word hash c blocks (c.place t p.place))).1 ≡ Some word
+  sees_names : (t : ℕ) (word : ℕ) → word_shown (seen {T = Node K V} p (place_word hash c blocks (c.place t p.place))).1 ≡ Some word
       → (n : ℕ) × (phase : Phase) × (borrowed : Bool) × (c.place t p.place ≡ Holds n phase borrowed) × (word ≡ place_word hash c blocks (c.place t p.place))
   sees_names t word e = by (removes p.purpose && has_mark there COPYING) (block_in there == 0) refl e
     where
       there : ℕ
       there = place_word hash c blocks (c.place t p.place)
 
-      pair : (purpose : Purpose) → block_in there ≢ 0 → word_told (at_pair {T = Node K V} purpose p there).1 ≡ Some word
+      pair : (purpose : Purpose) → block_in there ≢ 0 → word_shown (at_pair {T = Node K V} purpose p there).1 ≡ Some word
           → (n : ℕ) × (phase : Phase) × (borrowed : Bool) × (c.place t p.place ≡ Holds n phase borrowed) × (word ≡ there)
       pair Walks some e = let h = word-pair blocks.pair (λ o. byte_of hash (c.key o)) (c.place t p.place) (omega (arith, some)) in (h.0, h.1, h.2, h.3, cc e)
       pair Clears some e = absurd (cc e)
       pair Retains some e = let h = word-pair blocks.pair (λ o. byte_of hash (c.key o)) (c.place t p.place) (omega (arith, some)) in (h.0, h.1, h.2, h.3, cc e)
 
-      by : (m z : Bool) → (block_in there == 0) ≡ z → word_told (if m then telling {T = Node K V} (further (record p { met = true })) else (if z then telling (further p) else at_pair p.purpose p there)).1 ≡ Some word
+      by : (m z : Bool) → (block_in there == 0) ≡ z → word_shown (if m then telling {T = Node K V} (further (record p { met = true })) else (if z then telling (further p) else at_pair p.purpose p there)).1 ≡ Some word
           → (n : ℕ) × (phase : Phase) × (borrowed : Bool) × (c.place t p.place ≡ Holds n phase borrowed) × (word ≡ there)
       by true z zero e = absurd (quiet_tells (Node K V) (further (record p { met = true })).stands (quiet_further (record p { met = true })) word e)
       by false true zero e = absurd (quiet_tells (Node K V) (further p).stands (quiet_further p) word e)
       by false false zero e = pair p.purpose (eqb-false (block_in there) 0 zero) e
 
-  names_there : (end : Sweep × Swept (Node K V)) → Sees same hash caller setting began w c blocks p end → (word : ℕ) → word_told end.1 ≡ Some word
+  names_there : (end : Sweep × Swept (Node K V)) → Sees same hash caller setting began w c blocks p end → (word : ℕ) → word_shown end.1 ≡ Some word
       → (n : ℕ) × (phase : Phase) × NamesThere hash c blocks p word n phase
   names_there end (t, entered, is) word e =
-      let h = sees_names t word (sym (ap (λ (x : Sweep × Swept (Node K V)). word_told x.1) is) ∙ e) in
+      let h = sees_names t word (sym (ap (λ (x : Sweep × Swept (Node K V)). word_shown x.1) is) ∙ e) in
       (h.0, h.1, (t, h.2, entered, h.3, h.4 ∙ ap (place_word hash c blocks) h.3))
 
-  module _ (w2 : World (Node K V)) (c2 : Chart K) (blocks2 : Blocks) (p2 : Sweep) (end : Swept (Node K V)) (stood : StandsThen p p2 end) where
+  module _ (w2 : World (Node K V)) (c2 : Chart K) (blocks2 : Blocks) (p2 : Sweep) (end : Swept (Node K V)) (stood : IsAtPointThen p p2 end) where
     abbrev Tells : Sweeping → Type 0
     Tells stage = SweepTells same hash caller setting began w c blocks p stage (p2, end) w2 c2 blocks2
 
@@ -85,7 +85,7 @@ module _ {K V : Type 0} (same : K → K → Bool) (hash : K → ℕ) (caller : �
     Led = (p2, end)
 
     abbrev IsTold : Type 0
-    IsTold = SweepTold same hash caller setting began c blocks p w2 c2 blocks2 p2 end
+    IsTold = SweepOutcome same hash caller setting began c blocks p w2 c2 blocks2 p2 end
 
     current_same : c2 ≡ c → c2.current ≡ c.current
     current_same e = ap (λ (x : Chart K). x.current) e
@@ -96,7 +96,7 @@ module _ {K V : Type 0} (same : K → K → Bool) (hash : K → ℕ) (caller : �
       facts = tells.0;
       changes = inl (current_same e);
       beside = λ other. inl e;
-      shows = λ word named fresh. absurd (quiet_tells (Node K V) q.stands quiet word (ap word_told (sym is) ∙ named));
+      shows = λ word named fresh. absurd (quiet_tells (Node K V) q.stands quiet word (ap word_shown (sym is) ∙ named));
       stands = stood;
     }
 
@@ -114,17 +114,17 @@ module _ {K V : Type 0} (same : K → K → Bool) (hash : K → ℕ) (caller : �
       stands = stood;
     }
 
-    disposing_quiet : (b : Dispose × Settled (Node K V)) → Led ≡ disposed p b → (word : ℕ) → word_told end ≡ Some word → ⊥
+    disposing_quiet : (b : Dispose × Settled (Node K V)) → Led ≡ disposed p b → (word : ℕ) → word_shown end ≡ Some word → ⊥
     disposing_quiet (next, settled.Goes) is word e = absurd (let f = end_of _ is in cc (f, e))
     disposing_quiet (next, settled.Waits) is word e = absurd (let f = end_of _ is in cc (f, e))
     disposing_quiet (next, settled.Gave value) is word e = absurd (let f = end_of _ is in cc (f, e))
-    disposing_quiet (next, settled.Done) is word e = quiet_tells (Node K V) (further p).stands (quiet_further p) word (ap word_told (sym (end_of _ is)) ∙ e)
+    disposing_quiet (next, settled.Done) is word e = quiet_tells (Node K V) (further p).stands (quiet_further p) word (ap word_shown (sym (end_of _ is)) ∙ e)
 
-    copying_quiet : (b : Copier × Yielding (Node K V) Table) → Led ≡ copied p b → (word : ℕ) → word_told end ≡ Some word → ⊥
+    copying_quiet : (b : Copier × Yielding (Node K V) Table) → Led ≡ copied p b → (word : ℕ) → word_shown end ≡ Some word → ⊥
     copying_quiet (next, outcome.Goes) is word e = absurd (let f = end_of _ is in cc (f, e))
     copying_quiet (next, outcome.Waits) is word e = absurd (let f = end_of _ is in cc (f, e))
     copying_quiet (next, outcome.Gave value) is word e = absurd (let f = end_of _ is in cc (f, e))
-    copying_quiet (next, outcome.Done table) is word e = quiet_tells (Node K V) (entering p table).stands (quiet_entering p table) word (ap word_told (sym (end_of _ is)) ∙ e)
+    copying_quiet (next, outcome.Done table) is word e = quiet_tells (Node K V) (entering p table).stands (quiet_entering p table) word (ap word_shown (sym (end_of _ is)) ∙ e)
     copying_quiet (next, outcome.Refused fault) is word e = absurd (let f = end_of _ is in cc (f, e))
 
     still : (stage : Sweeping) → p.stands ≡ stage → Tells stage → c2 ≡ c → ◌≡◌ {A = Sweep × Swept (Node K V)} (p2, end) (p, told stage) → IsTold
@@ -132,11 +132,11 @@ module _ {K V : Type 0} (same : K → K → Bool) (hash : K → ℕ) (caller : �
       facts = tells.0;
       changes = inl (current_same e);
       beside = λ other. inl e;
-      shows = λ word named fresh. absurd (by stage here (ap word_told (sym (end_of _ is)) ∙ named) fresh);
+      shows = λ word named fresh. absurd (by stage here (ap word_shown (sym (end_of _ is)) ∙ named) fresh);
       stands = stood;
     }
       where
-        by : (stage : Sweeping) → p.stands ≡ stage → {word : ℕ} → word_told (told {T = Node K V} stage) ≡ Some word → p.stands ≢ at.Asks word → ⊥
+        by : (stage : Sweeping) → p.stands ≡ stage → {word : ℕ} → word_shown (told {T = Node K V} stage) ≡ Some word → p.stands ≢ at.Asks word → ⊥
         by (at.Asks asked) here {word} e fresh = fresh (here ∙ ap at.Asks (let same_word : asked ≡ word = cc e in same_word))
         by at.Reads here e fresh = cc e
         by at.Follows here e fresh = cc e
@@ -203,6 +203,6 @@ module _ {K V : Type 0} (same : K → K → Bool) (hash : K → ℕ) (caller : �
     told_at (at.Refused fault) here (facts, (e, is)) = still (at.Refused fault) here (facts, (e, is)) e is
 
   pub told_of : (w2 : World (Node K V)) (c2 : Chart K) (blocks2 : Blocks) (p2 : Sweep) (end : Swept (Node K V)) → SweepTells same hash caller setting began w c blocks p p.stands (p2, end) w2 c2 blocks2
-      → SweepTold same hash caller setting began c blocks p w2 c2 blocks2 p2 end
+      → SweepOutcome same hash caller setting began c blocks p w2 c2 blocks2 p2 end
   told_of w2 c2 blocks2 p2 end tells =
       told_at w2 c2 blocks2 p2 end (stands_then same hash caller setting began w c blocks p w2 c2 blocks2 p2 end tells.1) p.stands refl tells

@@ -11,7 +11,7 @@ use Rattle.many_calls.specs.Given.PointsMeasures.{IsBelow}
 use Rattle.map_measures.specs.Falls.Room.{planned_in_copying, tables_to_come}
 use Rattle.map_measures.specs.Falls.Copies.{number_of_copier, number_at as incremental_at}
 use Rattle.map_measures.specs.Falls.CopiesBlocking.{number_of_copier_blocking, number_at as blocking_at}
-use Rattle.map_measures.specs.Falls.FallsWithin.{GoesFurther, CopiersFall, BlockingCopiersFall, LateCopiersFall}
+use Rattle.map_measures.specs.Falls.FallsWithin.{GoesFurther, CopiersFall, BlockingCopiersFall, SupersededCopiersFall}
 use Rattle.map_measures.proofs.Falls.Below.{at_most, no_more, fewer}
 use Rattle.map_measures.proofs.Falls.Led.{onward}
 use Rattle.map_measures.proofs.Falls.Copiers.CopierOn.{FallsTo, CopierOn}
@@ -50,7 +50,7 @@ module _ {K : Type 0} (V : Type 0) (same : K → K → Bool) (hash : K → ℕ) 
       (copied_on_blocking same hash setting w.memory c blocks m2 went.c2 went.blocks2 (onward same hash are.lawful setting w caller c blocks map m2 went) p
       (mode_is p.setting setting false facts.setting_is mode) (copying_stands_blocking w caller setting c blocks same hash p p.stands facts.point) none end s)
 
-  pub late_copiers_fall : LateCopiersFall V same hash
+  pub late_copiers_fall : SupersededCopiersFall V same hash
   late_copiers_fall are setting mode w caller c blocks began p map facts none m2 end s goes went =
       further_below V c.past went.c2.past (blocking_at c blocks p) (number_of_copier_blocking went.c2 went.blocks2) p end goes
       (copied_on_blocking same hash setting w.memory c blocks m2 went.c2 went.blocks2 (onward same hash are.lawful setting w caller c blocks map m2 went) p

@@ -14,7 +14,7 @@ use Rattle.map_tables.specs.declared.resize_mode.ResizeMode.TheVariants.{Increme
 use Rattle.map_tables.specs.declared.setting.Setting.{Setting}
 use Rattle.map_tables.specs.declared.table.Table.{Table}
 use Rattle.many_calls.specs.Given.RawCall.{looked, first_made, next_made, disposed, helped, copied}
-use Rattle.many_calls.specs.Given.RawCallPoints.{going, entering, went_on}
+use Rattle.many_calls.specs.Given.RawCallPoints.{going, entering, continued_in}
 use Rattle.many_calls.specs.Given.RawDeclared.machines.answer.End.TheVariants as ends
 use Rattle.many_calls.specs.Given.RawDeclared.machines.answer.KeyAnswer.{KeyAnswer}
 use Rattle.many_calls.specs.Given.RawDeclared.machines.answer.Called.{Called}
@@ -103,7 +103,7 @@ module _ {K V Q : Type 0} (hash : K → ℕ) (c c2 : Chart K) (blocks blocks2 : 
   entering_below table turn tables xs (inr h) goes = inr (refl, at_most (tables_to_come c2.past 0) turn h.0 (inl h.1))
 
   pub on_below : (table : Table) (turn tables : ℕ) (xs : List ℕ)
-      → (tables_to_come c2.past 0 < turn) ⊎ ((tables_to_come c2.past 0 ≤ turn) × (c2.past - table.turn < tables)) → Goal (5 ∷ turn ∷ tables ∷ xs) (went_on {V = V} p table)
+      → (tables_to_come c2.past 0 < turn) ⊎ ((tables_to_come c2.past 0 ≤ turn) × (c2.past - table.turn < tables)) → Goal (5 ∷ turn ∷ tables ∷ xs) (continued_in {V = V} p table)
   on_below table turn tables xs less = by_mode (is_incremental p.setting.mode)
     where
       helps : (tables_to_come c2.past 0 < turn) ⊎ ((tables_to_come c2.past 0 ≤ turn) × (c2.past - table.turn < tables))

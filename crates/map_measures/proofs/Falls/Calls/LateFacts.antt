@@ -22,16 +22,16 @@ use Rattle.map_machines.specs.declared.new_table.Making.TheVariants as makes
 use Rattle.many_calls.specs.Given.RuleChart.{Chart}
 use Rattle.many_calls.specs.Given.RuleWords.{Blocks}
 use Rattle.many_calls.specs.Given.PointsFactsCalls.{Unchanged}
-use Rattle.many_calls.specs.Given.LateLateCalls.{LateFirst, LateFirstFacts, LateAsking, LateCalling, LateCallFacts}
-use Rattle.many_calls.specs.Given.LateLateCopies.{LateCopying}
-use Rattle.many_calls.specs.Given.LateLateLooks.{LateLooking}
+use Rattle.many_calls.specs.Given.LateLateCalls.{SupersededFirst, SupersededFirstFacts, SupersededAsking, SupersededCalling, SupersededCallFacts}
+use Rattle.many_calls.specs.Given.LateLateCopies.{SupersededCopying}
+use Rattle.many_calls.specs.Given.LateLateLooks.{SupersededLooking}
 use Rattle.map_measures.proofs.Falls.Stands.{MakingStands, NewTableStands, LookingStands, CopyingStandsBlocking, AskingStands, CallingStands, CallStands}
 use Rattle.map_measures.proofs.Falls.Calls.MachineFacts.{new_table_stands}
 use Rattle.map_measures.proofs.Falls.Calls.Facts.{pair_inside}
 
 module _ {K V : Type 0} (same : K → K → Bool) (hash : K → ℕ) (w : World (Node K V)) (caller : ℕ) (setting : Setting) (c : Chart K) (blocks : Blocks) (began : ℕ) where
   -- the making of the first table
-  late_making : (stands : Making) → LateFirst w caller setting c blocks began stands → MakingStands setting w.memory c blocks (Root setting.root) 0 stands
+  late_making : (stands : Making) → SupersededFirst w caller setting c blocks began stands → MakingStands setting w.memory c blocks (Root setting.root) 0 stands
   late_making (makes.Sums before reason sum) f = absurd f
   late_making (makes.Makes table) f = absurd f
   late_making (makes.Promotes table) f = absurd f
@@ -40,11 +40,11 @@ module _ {K V : Type 0} (same : K → K → Bool) (hash : K → ℕ) (w : World 
   late_making (makes.Over table) f = (f.0, f.1, λ behind. absurd behind)
   late_making (makes.Refused fault) f = absurd f
 
-  pub late_first : (n : NewTable) → LateFirstFacts w caller setting c blocks began n → NewTableStands setting w.memory c blocks (Root setting.root) 0 n
+  pub late_first : (n : NewTable) → SupersededFirstFacts w caller setting c blocks began n → NewTableStands setting w.memory c blocks (Root setting.root) 0 n
   late_first n f = record { link_is = f.link_is; place = inl (refl, refl); point = late_making n.stands f.point }
 
   -- a copier
-  pub late_copying : (p : Copier) (stands : Copying) → LateCopying same hash w caller setting c blocks began p stands → CopyingStandsBlocking setting w.memory c blocks p stands
+  pub late_copying : (p : Copier) (stands : Copying) → SupersededCopying same hash w caller setting c blocks began p stands → CopyingStandsBlocking setting w.memory c blocks p stands
   late_copying p copies.Asks f = (f.1, f.2.target)
   late_copying p copies.Sees f = (f.1, f.2.target)
   late_copying p copies.Claims f = ((f.1, f.2.target), f.0, f.2.source)
@@ -73,20 +73,20 @@ module _ {K V : Type 0} (same : K → K → Bool) (hash : K → ℕ) (w : World 
 module _ {K V Q : Type 0} (same : K → K → Bool) (hash : K → ℕ) (asks : Q → K → Bool) (w : World (Node K V)) (caller : ℕ) (setting : Setting) (c : Chart K) (blocks : Blocks)
     (keys : K → Bool) (began : ℕ) where
   -- a lookup
-  late_looking : (code : ℕ) (stands : Looking) → LateLooking same hash keys code c blocks began stands → LookingStands setting w.memory c blocks code stands
+  late_looking : (code : ℕ) (stands : Looking) → SupersededLooking same hash keys code c blocks began stands → LookingStands setting w.memory c blocks code stands
   late_looking code looks.Roots f = tt
   late_looking code (looks.Probes trial) f = (f.0, f.1, f.2)
   late_looking code (looks.Nexts table) f = absurd f
   late_looking code (looks.Over found) f = tt
 
   module _ (p : KeyCall K V Q) (blocking : is_incremental setting.mode ≡ false) (few : p.hash < 2 ^ 64) where
-    late_asking : (asks_at : Asking) → LateAsking same hash asks w caller setting c blocks keys began p asks_at → AskingStands setting w.memory c blocks p asks_at
+    late_asking : (asks_at : Asking) → SupersededAsking same hash asks w caller setting c blocks keys began p asks_at → AskingStands setting w.memory c blocks p asks_at
     late_asking (asking.Absent gap) f = tt
     late_asking (asking.Present word) f = tt
     late_asking (asking.Fills word) f = ((f.4.0, f.4.1, f.4.2), f.2, pair_inside same hash asks w caller setting c blocks keys Unchanged p few f.1 f.0)
     late_asking (asking.GivesUp word) f = (f.4.0, f.4.1, f.4.2)
 
-    late_calling : (stands : Calling) → LateCalling same hash asks w caller setting c blocks keys began p stands → CallingStands setting w.memory c blocks p stands
+    late_calling : (stands : Calling) → SupersededCalling same hash asks w caller setting c blocks keys began p stands → CallingStands setting w.memory c blocks p stands
     late_calling (at.Looks lookup) f =
         subst (λ (code : ℕ). LookingStands setting w.memory c blocks code lookup.stands) (sym f.6.hash_is) (late_looking p.hash lookup.stands f.6.point)
     late_calling at.Probes f = (f.1.0, f.1.1, f.1.2)
@@ -104,5 +104,5 @@ module _ {K V Q : Type 0} (same : K → K → Bool) (hash : K → ℕ) (asks : Q
     late_calling (at.Drops end) f = absurd f
     late_calling (at.Over end) f = absurd f
 
-  pub late_call_stands : (p : KeyCall K V Q) → LateCallFacts same hash asks w caller setting c blocks keys began p → CallStands setting w.memory c blocks p
+  pub late_call_stands : (p : KeyCall K V Q) → SupersededCallFacts same hash asks w caller setting c blocks keys began p → CallStands setting w.memory c blocks p
   late_call_stands p f = record { setting_is = f.setting_is; point = late_calling p f.blocking f.code p.stands f.point }

@@ -18,7 +18,7 @@ use Rattle.map_tables.specs.declared.table.Table.{Table}
 use Rattle.map_tables.specs.declared.table_words.TheConstants.{NEXT}
 use Rattle.many_calls.specs.Given.RawAnswers.{ended}
 use Rattle.many_calls.specs.Given.RawCall.{makes_of, makes, made, root_found, roots, next_found, nexts, dropped, drops, counts, looked, looks_for, looks, first_made, next_made, disposed, helped, copied, plan_at, call_plan}
-use Rattle.many_calls.specs.Given.RawCallPoints.{going, asking_at, tableless, at_last, following_made, entering, went_on, counted, answering}
+use Rattle.many_calls.specs.Given.RawCallPoints.{going, asking_at, tableless, at_last, following_made, entering, continued_in, counted, answering}
 use Rattle.many_calls.specs.Given.RawDeclared.machines.answer.KeyAnswer.TheVariants as answers
 use Rattle.many_calls.specs.Given.RawDeclared.machines.answer.Missing.{Missing}
 use Rattle.many_calls.specs.Given.RawDeclared.machines.answer.Missing.TheVariants as missing
@@ -161,7 +161,7 @@ module _ {K V Q : Type 0} (same : K → K → Bool) (hash : K → ℕ) (asks : Q
           let d = loaded m (next_found p) (at_word p.trial.table NEXT) m2 end s in
           let past = still d.2 in
           let leads = next_leads same hash setting.mode setting.root m c blocks on.map p.trial.table t d.0 entered d.1 in
-          link_ends hash m c blocks setting.root on.map.shows d.0 (suc t) leads (at_last p.missing p) (went_on p) (Goal at.Nexts)
+          link_ends hash m c blocks setting.root on.map.shows d.0 (suc t) leads (at_last p.missing p) (continued_in p) (Goal at.Nexts)
           (λ last. last_below past)
           (λ table next. on_below hash c c2 blocks blocks2 p table (tables_to_come c.past 0) (c.past - p.trial.table.turn) (0 ∷ 0 ∷ 1 ∷ nothing_within)
           (inr (

@@ -16,7 +16,7 @@ use Rattle.map_tables.specs.declared.resize_mode.ResizeMode.TheVariants.{Increme
 use Rattle.map_tables.specs.declared.table.Table.{Table}
 use Rattle.map_tables.specs.declared.trial.Trial.{Trial}
 use Rattle.many_calls.specs.Given.RawAnswers.{ended}
-use Rattle.many_calls.specs.Given.RawCallPoints.{aim_of, going, ending, storing, burying, at_gap, gap_by, asking_at, pair_by, asking_of, told, told_of, at_free, at_end, at_pair, passed, halted}
+use Rattle.many_calls.specs.Given.RawCallPoints.{aim_of, going, ending, storing, burying, at_gap, gap_by, asking_at, pair_by, asking_of, told, after_finding, at_free, at_end, at_pair, passed, halted}
 use Rattle.many_calls.specs.Given.RawDeclared.machines.answer.KeyAnswer.TheVariants as answers
 use Rattle.many_calls.specs.Given.RawDeclared.machines.answer.There.{There}
 use Rattle.many_calls.specs.Given.RawDeclared.machines.answer.There.TheVariants as there
@@ -196,7 +196,7 @@ module _ {K V Q : Type 0} (hash : K → ℕ) (c : Chart K) (blocks : Blocks) whe
       pairs there.Removes e = tries_there word TOMBSTONE refl
       pairs there.Asks e = asks_of
 
-      by_finding : (flag : Bool) (x : Finding) → finding p.setting.mode (aim_of p.missing) (place_word hash c blocks here) flag ≡ x → Leads (told_of loaded p word x)
+      by_finding : (flag : Bool) (x : Finding) → finding p.setting.mode (aim_of p.missing) (place_word hash c blocks here) flag ≡ x → Leads (after_finding loaded p word x)
       by_finding flag is.Free e = frees p.missing refl flag e
       by_finding flag is.Passed e = passes (with_met p.trial word).met (next_trial (with_met p.trial word)) (next_met c blocks p.hash t p.trial j (with_met p.trial word).met next)
       by_finding flag is.Moved e = leaves p.trial.met

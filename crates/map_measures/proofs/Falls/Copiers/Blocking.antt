@@ -19,7 +19,7 @@ use Rattle.map_machines.specs.Copier.{plan_at, copier_plan}
 use Rattle.map_machines.specs.CopierStates.{standing, behind, none_left, next_place, place_done}
 use Rattle.map_machines.specs.CopierClaims.{asks, sees, status_read, claim_read, to}
 use Rattle.map_machines.specs.CopierMarks.{marks, marked as place_marked, mine_marked, is_mine, is_awaited, probing, without_copying, key_hash}
-use Rattle.map_machines.specs.CopierPlaces.{probes, puts, place_read, put_told, copied_word, next_try, pair_put}
+use Rattle.map_machines.specs.CopierPlaces.{probes, puts, place_read, after_put, copied_word, next_try, pair_put}
 use Rattle.map_machines.specs.CopierFurther.{aborts}
 use Rattle.map_machines.specs.CopierCounts.{counts, counted}
 use Rattle.map_machines.specs.CopierPromotes.{promotes, announces, promoted, successor_read, retiring_table, also_retired}
@@ -145,7 +145,7 @@ module _ {K V : Type 0} (same : K → K → Bool) (hash : K → ℕ) (setting : 
 
       on_puts : Steps Took value_at m (puts p word code table probe) m2 end → On (at.Puts word code table probe) end
       on_puts s =
-          elim (exchanged m (put_told p word code table probe) (at_place table probe.i) 0 (copied_word p word) m2 end s) as (λ _. On (at.Puts word code table probe) end) [
+          elim (exchanged m (after_put p word code table probe) (at_place table probe.i) 0 (copied_word p word) m2 end s) as (λ _. On (at.Puts word code table probe) end) [
             | inl d ↦ (let k = same_place same hash setting m c blocks m2 c2 blocks2 on p.target t target table probe.i _ d.2 (is_some_of _ d.0 d.1.0) low_try in
                 leads (at.Puts word code table probe) end (pair_put p word) d.3 k.0 (put_below k))
             | inr d ↦ (let k = still d.2 in

@@ -17,7 +17,7 @@ use Rattle.map_tables.specs.Nodes.{deferred_word}
 use Rattle.map_machines.specs.NewTable.{new_table_plan}
 use Rattle.map_machines.specs.Copier.{plan_at, copier_plan}
 use Rattle.map_machines.specs.CopierStates.{standing, behind, none_left, next_place, place_done}
-use Rattle.map_machines.specs.CopierPlaces.{next_try, place_read, put_told}
+use Rattle.map_machines.specs.CopierPlaces.{next_try, place_read, after_put}
 use Rattle.map_machines.specs.CopierMarks.{is_mine, is_awaited, mine_marked, marked}
 use Rattle.map_machines.specs.CopierClaims.{status_read, claim_read, claimed}
 use Rattle.map_machines.specs.CopierCounts.{refusing, counted}
@@ -134,7 +134,7 @@ module _ (target : Table) where
         on_place probe (Taken value) = here
         on_place probe (Roomed r) = here
 
-        on_put : (probe : Probe) (out : Out (Node K V)) → So (put_told p word code table probe out)
+        on_put : (probe : Probe) (out : Out (Node K V)) → So (after_put p word code table probe out)
         on_put probe (Exchanged (Ok found)) = either (is_incremental p.setting.mode) (standing p (at.Covers word)) (place_done p) here (so_place_done p here)
         on_put probe (Exchanged (Err found)) = (so_next_try probe)
         on_put probe (Found found) = here

@@ -21,7 +21,7 @@ use Rattle.map_machines.specs.Copier.{plan_at, copier_plan}
 use Rattle.map_machines.specs.CopierStates.{standing, behind, none_left, next_place, place_done}
 use Rattle.map_machines.specs.CopierClaims.{begins, follows, asks, sees, claims, root_read, next_read, status_read, claim_read, claimed, chunk, range_claimed, to}
 use Rattle.map_machines.specs.CopierMarks.{marks, covers, marked as place_marked, mine_marked, is_mine, is_awaited, probing, without_copying, key_hash}
-use Rattle.map_machines.specs.CopierPlaces.{probes, puts, place_read, put_told, copied_word, next_try, pair_put}
+use Rattle.map_machines.specs.CopierPlaces.{probes, puts, place_read, after_put, copied_word, next_try, pair_put}
 use Rattle.map_machines.specs.CopierCounts.{counts, tallies, unmarks, unclaims, counted, given_up}
 use Rattle.map_machines.specs.CopierPromotes.{promotes, announces, promoted, successor_read, retiring_table, also_retired}
 use Rattle.map_machines.specs.declared.yielding.Yielding.{Yielding}
@@ -157,7 +157,7 @@ module _ {K V : Type 0} (same : K → K → Bool) (hash : K → ℕ) (setting : 
 
       on_puts : Steps Took value_at m (puts p word code table probe) m2 end → On (at.Puts word code table probe) end
       on_puts s =
-          elim (exchanged m (put_told p word code table probe) (at_place table probe.i) 0 (copied_word p word) m2 end s) as (λ _. On (at.Puts word code table probe) end) [
+          elim (exchanged m (after_put p word code table probe) (at_place table probe.i) 0 (copied_word p word) m2 end s) as (λ _. On (at.Puts word code table probe) end) [
             | inl d ↦ leads (at.Puts word code table probe) end (pair_put p word) d.3
                 (past_place same hash setting m c blocks m2 c2 blocks2 on table probe.i _ d.2 (is_some_of _ d.0 d.1.0) low_try) put_below
             | inr d ↦ leads (at.Puts word code table probe) end (next_try p word code table probe) d.3 (still d.2)

@@ -19,7 +19,7 @@ use Rattle.many_calls.specs.Given.RuleMaps.{IsTable}
 use Rattle.many_calls.specs.Given.PointsFactsCopies.{CopyingFacts, CopierFacts}
 use Rattle.many_calls.specs.Given.PointsFactsCopiesBlocking.{CopierFactsBlocking}
 use Rattle.many_calls.specs.Given.LateFactsReserves.{IsEnding, CopiesWhole, ReservingFacts, ReserveFacts}
-use Rattle.many_calls.specs.Given.LateLateReserves.{LateReserving, LateReserveFacts}
+use Rattle.many_calls.specs.Given.LateLateReserves.{SupersededReserving, SupersededReserveFacts}
 use Rattle.map_measures.proofs.Falls.Stands.{NewTableStands, CopyingStands, CopyingStandsBlocking}
 use Rattle.map_measures.proofs.Falls.Calls.MachineFacts.{new_table_stands, copying_stands, copying_stands_blocking}
 use Rattle.map_measures.proofs.Falls.Calls.LateFacts.{late_first, late_copying}
@@ -81,13 +81,13 @@ module _ {K V : Type 0} (same : K → K → Bool) (hash : K → ℕ) (w : World 
 
   -- and once the root has left its table
   module _ (began : ℕ) where
-    late_reserving : is_incremental setting.mode ≡ false → (stage : Reserving) → LateReserving same hash w caller setting c blocks began stage → ReservingStands setting w.memory c blocks false stage
+    late_reserving : is_incremental setting.mode ≡ false → (stage : Reserving) → SupersededReserving same hash w caller setting c blocks began stage → ReservingStands setting w.memory c blocks false stage
     late_reserving blocking (at.Makes making) f = late_first same hash w caller setting c blocks began making f
     late_reserving blocking (at.Follows table need) (t, entered, left) = (t, entered)
     late_reserving blocking (at.Grows table making) (t, entered, left, f) = (t, entered, new_table_stands w caller setting c blocks (Word (blocks.table t) NEXT) (suc t) making f)
     late_reserving blocking (at.Copies copier) f = (mode_of copier.setting false f.setting_is blocking, late_copying same hash w caller setting c blocks began copier copier.stands f.point)
     late_reserving blocking _ f = tt
 
-    pub late_reserve_stands : (p : Reserve) → LateReserveFacts same hash w caller setting c blocks began p → ReserveStands setting w.memory c blocks p
+    pub late_reserve_stands : (p : Reserve) → SupersededReserveFacts same hash w caller setting c blocks began p → ReserveStands setting w.memory c blocks p
     late_reserve_stands p f =
         by_setting p f.setting_is (subst (λ (b : Bool). ReservingStands setting w.memory c blocks b p.stands) (sym f.blocking) (late_reserving f.blocking p.stands f.point))

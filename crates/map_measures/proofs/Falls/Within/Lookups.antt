@@ -21,7 +21,7 @@ use Rattle.map_tables.specs.declared.setting.Setting.{Setting}
 use Rattle.map_tables.specs.declared.table.Table.{Table}
 use Rattle.map_tables.specs.declared.table_words.TheConstants.{NEXT}
 use Rattle.map_tables.specs.declared.trial.Trial.{Trial}
-use Rattle.map_machines.specs.Lookup.{going, answered, passed, told_of, told, names_pair, link_found, word_found, plan_at, lookup_plan}
+use Rattle.map_machines.specs.Lookup.{going, answered, passed, after_finding, told, names_pair, link_found, word_found, plan_at, lookup_plan}
 use Rattle.map_machines.specs.declared.lookup.Lookup.{Lookup}
 use Rattle.map_machines.specs.declared.lookup.Looking.{Looking}
 use Rattle.map_machines.specs.declared.lookup.Looking.TheVariants as at
@@ -71,7 +71,7 @@ module _ {K V : Type 0} (same : K → K → Bool) (hash : K → ℕ) (setting : 
           let try = there.try in let try2 = is.try in let most = is.most in
           inr (omega (arith, turn, turn2, past), inl (omega (arith, limit, limit2, try, try2, most)))
 
-      by_finding : (word : ℕ) (x : Finding) → IsNext c blocks l.hash t (next_trial trial) j → Lowers (at.Probes trial) (told_of l trial word x)
+      by_finding : (word : ℕ) (x : Finding) → IsNext c blocks l.hash t (next_trial trial) j → Lowers (at.Probes trial) (after_finding l trial word x)
       by_finding word is.Free next = λ goes. absurd (cc goes)
       by_finding word is.Passed next = passes (next_trial trial) next
       by_finding word is.Moved next = leaves

@@ -3,11 +3,11 @@ use Rattle.std.proofs.Common.{sym, subst}
 use Rattle.seize_words.specs.OneMemory.Op.{Load, Found}
 use Rattle.seize_words.specs.declared.at.At.{At}
 use Rattle.map_tables.specs.declared.finding.Finding.{Finding}
-use Rattle.map_machines.specs.Lookup.{lookup_plan, told, told_of, word_read}
+use Rattle.map_machines.specs.Lookup.{lookup_plan, told, after_finding, word_read}
 use Rattle.map_machines.specs.declared.lookup.Looking.TheVariants as at
 use Rattle.map_straight.specs.Straight.Going.{LookGoes}
 use Rattle.map_straight.specs.Straight.Looking.{glance_at, looks}
-use Rattle.seize_straight.specs.Reaches.{ComesTo}
+use Rattle.seize_straight.specs.Reaches.{HasOutcome}
 use Rattle.seize_straight.proofs.Running.{begins, comes_to, next}
 use Rattle.map_straight.proofs.looking.look_at.Goals as goal
 
@@ -24,5 +24,5 @@ returns g c =
     let here = looks c.args.root c.args.mode c.args.hash (at.Probes c.args.trial) in
     comes_to LookGoes g.M.Look.took g.M.Look.shown (lookup_plan (g.Q.Equivalent.equivalent c.args.asked.now)) here c.args.memory.now c.load-word.new.self
     (word_read (g.Q.Equivalent.equivalent c.args.asked.now) here c.args.trial c.load-word.result) (glance_at c.args.root c.args.mode c.args.hash c.tell.result) (told here c.args.trial c.load-word.result c.names-same.result) c.names-same.ensures
-    (subst (λ (f : Finding). ComesTo LookGoes (told_of here c.args.trial c.load-word.result f) (glance_at c.args.root c.args.mode c.args.hash c.tell.result)) c.seen-finding.ensures c.tell.ensures)
+    (subst (λ (f : Finding). HasOutcome LookGoes (after_finding here c.args.trial c.load-word.result f) (glance_at c.args.root c.args.mode c.args.hash c.tell.result)) c.seen-finding.ensures c.tell.ensures)
     (λ end e. (Found c.load-word.result, subst (λ (a : At). g.M.Look.took c.args.memory.now (Load a) (Found c.load-word.result) c.load-word.new.self) c.at.ensures c.load-word.ensures, e))

@@ -13,7 +13,7 @@ use Rattle.papaya_raw.specs.declared.machines.asking.MachineReply.{MachineReply}
 use Rattle.papaya_raw.specs.declared.machines.asking.MachineReply.TheVariants as reply
 use Rattle.papaya_raw.specs.declared.machines.asking.Takes.TheVariants as takes
 use Rattle.owner_calls.specs.Given.CallersKind.{Kind}
-use Rattle.owner_asks.specs.Asks.Asking.{meant, IsTaken, AnswersAs, RefusedAs, Unasked, ToldThis}
+use Rattle.owner_asks.specs.Asks.Asking.{meant, IsTaken, AnswersAs, RefusedAs, Unasked, RepliedThis}
 use Rattle.owner_asks.specs.Asks.Closures.{Removing}
 use Rattle.owner_calls.specs.Owned.Owned.{NamesAPair, IsWordOf, found_by}
 
@@ -47,7 +47,7 @@ module _ {K V : Type 0} (Meant : Option (K × V) → MachineReply V → Type 0) 
 
   -- where it was told this
   pub told_as : (keys : K → Bool) (xs : List (K × V)) (said : MachineReply V) (about : Option (K × V)) → found_by keys xs ≡ about → Meant about (meant said)
-      → (other : Option (K × V)) (meaning : MachineReply V) → ToldThis keys xs said other meaning → Meant other meaning
+      → (other : Option (K × V)) (meaning : MachineReply V) → RepliedThis keys xs said other meaning → Meant other meaning
   told_as keys xs said about found is other meaning (same_about, same_meaning) =
       subst (λ (o : Option (K × V)). Meant o meaning) (sym (same_about ∙ found)) (subst (Meant about) (sym same_meaning) is)
 

@@ -16,8 +16,8 @@ use Rattle.papaya_raw.specs.declared.machines.asking.MachineReply.TheVariants as
 use Rattle.owner_calls.specs.Given.CallersKind.{Kind}
 use Rattle.owner_calls.specs.Given.LateFaults.{IsRoom}
 use Rattle.owner_calls.specs.Given.ShownChain.{CannotGrowIn}
-use Rattle.owner_asks.specs.Asks.Asking.{meant, AnswersAs, RefusedAs, EndsAs, Pauses, AsksOf, StartsAs, ToldThis, HasKeyBack}
-use Rattle.owner_asks.specs.Asks.Closures.{ComesTo, ComesToWith}
+use Rattle.owner_asks.specs.Asks.Asking.{meant, AnswersAs, RefusedAs, EndsAs, Pauses, AsksOf, StartsAs, RepliedThis, HasKeyBack}
+use Rattle.owner_asks.specs.Asks.Closures.{HasOutcome, HasOutcomeWith}
 use Rattle.owner_calls.specs.Owned.Owned.{Holds, IsWordOf, found_by}
 use Rattle.owner_calls.specs.declared.machines.OnKey.{OnKey}
 use Rattle.owner_calls.specs.declared.machines.Stop.{Stop}
@@ -48,30 +48,30 @@ module _ {K V Q S : Type 0} (asks : Q → K → Bool) (same : K → K → Bool) 
 module _ {K V S : Type 0} (same : K → K → Bool) (hashes : S → K → ℕ) (b c : Bor S) (lent : c ≡ b) (setting : Setting) (xs : List (K × V)) (m : Mem (Node K V))
     (Meant : Option (K × V) → MachineReply V → Type 0) (said : MachineReply V) (about : Option (K × V)) (is : Meant about (meant said)) where
   -- with whatever stands for its keys
-  pub ends_told : (keys : K → Bool) (its : Option K) → found_by keys xs ≡ about → (result : Result KeyAnswer Fault) → EndsAs same (hashes c.now) setting m keys xs its (ToldThis keys xs said) result
+  pub ends_told : (keys : K → Bool) (its : Option K) → found_by keys xs ≡ about → (result : Result KeyAnswer Fault) → EndsAs same (hashes c.now) setting m keys xs its (RepliedThis keys xs said) result
       → EndsAs same (hashes b.now) setting m keys xs its Meant result
   ends_told keys its found result e =
-      by result (subst (λ (z : Bor S). EndsAs same (hashes z.now) setting m keys xs its (ToldThis keys xs said) result) lent e)
+      by result (subst (λ (z : Bor S). EndsAs same (hashes z.now) setting m keys xs its (RepliedThis keys xs said) result) lent e)
     where
-      by : (result : Result KeyAnswer Fault) → EndsAs same (hashes b.now) setting m keys xs its (ToldThis keys xs said) result → EndsAs same (hashes b.now) setting m keys xs its Meant result
-      by (Ok answer) a = answers_as same (hashes b.now) setting m keys xs its (ToldThis keys xs said) Meant (told_as Meant keys xs said about found is) answer a
-      by (Err fault) r = refused_as same (hashes b.now) setting m keys xs its (ToldThis keys xs said) Meant (told_as Meant keys xs said about found is) fault r
+      by : (result : Result KeyAnswer Fault) → EndsAs same (hashes b.now) setting m keys xs its (RepliedThis keys xs said) result → EndsAs same (hashes b.now) setting m keys xs its Meant result
+      by (Ok answer) a = answers_as same (hashes b.now) setting m keys xs its (RepliedThis keys xs said) Meant (told_as Meant keys xs said about found is) answer a
+      by (Err fault) r = refused_as same (hashes b.now) setting m keys xs its (RepliedThis keys xs said) Meant (told_as Meant keys xs said about found is) fault r
 
   module _ (key : K) (found : found_by (same key) xs ≡ about) where
-    pub comes_told : (result : Result KeyAnswer (RefusedKey K)) → ComesTo same (hashes c.now) setting m key xs (ToldThis (same key) xs said) result → ComesTo same (hashes b.now) setting m key xs Meant result
-    comes_told result e = by result (subst (λ (z : Bor S). ComesTo same (hashes z.now) setting m key xs (ToldThis (same key) xs said) result) lent e)
+    pub comes_told : (result : Result KeyAnswer (RefusedKey K)) → HasOutcome same (hashes c.now) setting m key xs (RepliedThis (same key) xs said) result → HasOutcome same (hashes b.now) setting m key xs Meant result
+    comes_told result e = by result (subst (λ (z : Bor S). HasOutcome same (hashes z.now) setting m key xs (RepliedThis (same key) xs said) result) lent e)
       where
-        by : (result : Result KeyAnswer (RefusedKey K)) → ComesTo same (hashes b.now) setting m key xs (ToldThis (same key) xs said) result → ComesTo same (hashes b.now) setting m key xs Meant result
-        by (Ok answer) a = answers_as same (hashes b.now) setting m (same key) xs (Some key) (ToldThis (same key) xs said) Meant (told_as Meant (same key) xs said about found is) answer a
-        by (Err r) e = (refused_as same (hashes b.now) setting m (same key) xs (Some key) (ToldThis (same key) xs said) Meant (told_as Meant (same key) xs said about found is) r.fault e.0, e.1)
+        by : (result : Result KeyAnswer (RefusedKey K)) → HasOutcome same (hashes b.now) setting m key xs (RepliedThis (same key) xs said) result → HasOutcome same (hashes b.now) setting m key xs Meant result
+        by (Ok answer) a = answers_as same (hashes b.now) setting m (same key) xs (Some key) (RepliedThis (same key) xs said) Meant (told_as Meant (same key) xs said about found is) answer a
+        by (Err r) e = (refused_as same (hashes b.now) setting m (same key) xs (Some key) (RepliedThis (same key) xs said) Meant (told_as Meant (same key) xs said about found is) r.fault e.0, e.1)
 
-    pub comes_with : (value : V) (result : Result KeyAnswer (Refused K V)) → ComesToWith same (hashes c.now) setting m key xs value (ToldThis (same key) xs said) result
-        → ComesToWith same (hashes b.now) setting m key xs value Meant result
-    comes_with value result e = by result (subst (λ (z : Bor S). ComesToWith same (hashes z.now) setting m key xs value (ToldThis (same key) xs said) result) lent e)
+    pub comes_with : (value : V) (result : Result KeyAnswer (Refused K V)) → HasOutcomeWith same (hashes c.now) setting m key xs value (RepliedThis (same key) xs said) result
+        → HasOutcomeWith same (hashes b.now) setting m key xs value Meant result
+    comes_with value result e = by result (subst (λ (z : Bor S). HasOutcomeWith same (hashes z.now) setting m key xs value (RepliedThis (same key) xs said) result) lent e)
       where
-        by : (result : Result KeyAnswer (Refused K V)) → ComesToWith same (hashes b.now) setting m key xs value (ToldThis (same key) xs said) result → ComesToWith same (hashes b.now) setting m key xs value Meant result
-        by (Ok answer) a = answers_as same (hashes b.now) setting m (same key) xs (Some key) (ToldThis (same key) xs said) Meant (told_as Meant (same key) xs said about found is) answer a
-        by (Err r) e = (refused_as same (hashes b.now) setting m (same key) xs (Some key) (ToldThis (same key) xs said) Meant (told_as Meant (same key) xs said about found is) r.fault e.0, e.1, e.2)
+        by : (result : Result KeyAnswer (Refused K V)) → HasOutcomeWith same (hashes b.now) setting m key xs value (RepliedThis (same key) xs said) result → HasOutcomeWith same (hashes b.now) setting m key xs value Meant result
+        by (Ok answer) a = answers_as same (hashes b.now) setting m (same key) xs (Some key) (RepliedThis (same key) xs said) Meant (told_as Meant (same key) xs said about found is) answer a
+        by (Err r) e = (refused_as same (hashes b.now) setting m (same key) xs (Some key) (RepliedThis (same key) xs said) Meant (told_as Meant (same key) xs said about found is) r.fault e.0, e.1, e.2)
 
 -- nothing is answered by what it was never told
 pub never_answers : {K V : Type 0} (same : K → K → Bool) (hash : K → ℕ) (setting : Setting) (m : Mem (Node K V)) (keys : K → Bool) (xs : List (K × V)) (its : Option K) (answer : KeyAnswer)
@@ -84,20 +84,20 @@ never_answers same hash setting m keys xs its (answers.Removed word) a = a.1
 
 -- it was told to abort
 module _ {K V S : Type 0} (same : K → K → Bool) (hashes : S → K → ℕ) (b c : Bor S) (lent : c ≡ b) (setting : Setting) (xs : List (K × V)) (m : Mem (Node K V)) (key : K)
-    (result : Result KeyAnswer (RefusedKey K)) (e : ComesTo same (hashes c.now) setting m key xs (ToldThis (same key) xs reply.Abort) result) where
-  as_lent : ComesTo same (hashes b.now) setting m key xs (ToldThis (same key) xs reply.Abort) result
-  as_lent = subst (λ (z : Bor S). ComesTo same (hashes z.now) setting m key xs (ToldThis (same key) xs reply.Abort) result) lent e
+    (result : Result KeyAnswer (RefusedKey K)) (e : HasOutcome same (hashes c.now) setting m key xs (RepliedThis (same key) xs reply.Abort) result) where
+  as_lent : HasOutcome same (hashes b.now) setting m key xs (RepliedThis (same key) xs reply.Abort) result
+  as_lent = subst (λ (z : Bor S). HasOutcome same (hashes z.now) setting m key xs (RepliedThis (same key) xs reply.Abort) result) lent e
 
   pub aborted_answers : (answer : KeyAnswer) → result ≡ Ok answer → AnswersAs same (hashes b.now) setting m (same key) xs (Some key) (λ about said. said ≡ reply.Abort) answer
   aborted_answers answer is =
-      answers_as same (hashes b.now) setting m (same key) xs (Some key) (ToldThis (same key) xs reply.Abort) (λ about said. said ≡ reply.Abort) (λ about said told. told.1) answer
-      (subst (ComesTo same (hashes b.now) setting m key xs (ToldThis (same key) xs reply.Abort)) is as_lent)
+      answers_as same (hashes b.now) setting m (same key) xs (Some key) (RepliedThis (same key) xs reply.Abort) (λ about said. said ≡ reply.Abort) (λ about said told. told.1) answer
+      (subst (HasOutcome same (hashes b.now) setting m key xs (RepliedThis (same key) xs reply.Abort)) is as_lent)
 
   pub aborted_refused : (r : RefusedKey K) → result ≡ Err r → (Meant : Option (K × V) → MachineReply V → Type 0) → RefusedAs same (hashes b.now) setting m (same key) xs (Some key) Meant r.fault × (r.key ≡ key)
   aborted_refused r is Meant =
-      let f = subst (ComesTo same (hashes b.now) setting m key xs (ToldThis (same key) xs reply.Abort)) is as_lent in
+      let f = subst (HasOutcome same (hashes b.now) setting m key xs (RepliedThis (same key) xs reply.Abort)) is as_lent in
       (refused_as same (hashes b.now) setting m (same key) xs (Some key) (λ about said. ⊥) Meant (λ about said never. absurd never) r.fault (by r.fault f.0), f.1)
     where
-      by : (fault : Fault) → RefusedAs same (hashes b.now) setting m (same key) xs (Some key) (ToldThis (same key) xs reply.Abort) fault → RefusedAs same (hashes b.now) setting m (same key) xs (Some key) (λ about said. ⊥) fault
+      by : (fault : Fault) → RefusedAs same (hashes b.now) setting m (same key) xs (Some key) (RepliedThis (same key) xs reply.Abort) fault → RefusedAs same (hashes b.now) setting m (same key) xs (Some key) (λ about said. ⊥) fault
       by fault (inl room, holds, ends) = (inl room, holds, ends)
       by fault (inr (nothing, told, none), holds, ends) = absurd (let g = told.1 in cc g)

@@ -15,7 +15,7 @@ use Rattle.papaya_raw.specs.declared.machines.answer.KeyAnswer.TheVariants as an
 use Rattle.papaya_raw.specs.declared.machines.call.KeyCall.{KeyCall}
 use Rattle.papaya_raw.specs.declared.machines.call.Calling.TheVariants as at
 use Rattle.owner_calls.specs.Given.LateFaults.{IsRoom}
-use Rattle.owner_calls.specs.Given.LateKinds.{FaultFits, TellsFit}
+use Rattle.owner_calls.specs.Given.LateKinds.{FaultFits, OutcomeFits}
 use Rattle.papaya_raw.specs.declared.machines.answer.Called.TheVariants as called
 use Rattle.owner_calls.specs.Given.CallersKind.{Kind}
 use Rattle.owner_calls.specs.Given.CallersPairs.{IsTold, RemovesNone}
@@ -39,7 +39,7 @@ use Rattle.owner_asks.proofs.Asks.Asks.Undisturbed.{AsksFor}
 no_key : {K V : Type 0} (its : Option K) → (v : V) → ◌≡◌ {A = Option V} None (Some v) → (◌≡◌ {A = Option V} None (Some v)) × (k : K) × (its ≡ Some k)
 no_key its v e = absurd (cc e)
 
-asks_of : (K V : Type 0) (kind : Kind) (asked : Option ℕ) → TellsFit kind.present kind.absent kind.takes {T = Node K V} (called.Asks asked) → AsksOf kind asked
+asks_of : (K V : Type 0) (kind : Kind) (asked : Option ℕ) → OutcomeFits kind.present kind.absent kind.takes {T = Node K V} (called.Asks asked) → AsksOf kind asked
 asks_of K V kind None fit = fit
 asks_of K V kind (Some word) fit = fit
 

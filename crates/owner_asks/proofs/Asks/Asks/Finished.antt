@@ -11,7 +11,7 @@ use Rattle.papaya_raw.specs.declared.machines.asking.MachineReply.{MachineReply}
 use Rattle.papaya_raw.specs.declared.machines.asking.MachineReply.TheVariants as reply
 use Rattle.papaya_raw.specs.declared.machines.call.KeyCall.{KeyCall}
 use Rattle.owner_calls.specs.Given.CallersKind.{Kind}
-use Rattle.owner_asks.specs.Asks.Asking.{IsTaken, AnswersAs, RefusedAs, Pauses, ToldThis, HasKeyBack, HasPairBack}
+use Rattle.owner_asks.specs.Asks.Asking.{IsTaken, AnswersAs, RefusedAs, Pauses, RepliedThis, HasKeyBack, HasPairBack}
 use Rattle.owner_calls.specs.Given.StridesEnding.{Ends, RunsTo}
 use Rattle.owner_calls.specs.Owned.Machines.{on_key_plan}
 use Rattle.owner_calls.specs.declared.machines.OnKey.{OnKey}
@@ -37,7 +37,7 @@ module _ {K V Q S : Type 0} (asks : Q → K → Bool) (same : K → K → Bool) 
     runs_so result runs = subst (λ (n : KeyCall K V Q). RunsTo (on_key_plan asks same hashes) (record x { call = n }) m z m2 result) same_call runs
 
     pub finish_answered : (result : Result Stop Fault) (s : Stop) (answer : KeyAnswer) → result ≡ Ok s → s ≡ stop.Answered answer → Ran z m2 result
-        → AnswersAs same (hashes x.hasher.now) setting m2 keys xs its (ToldThis keys xs said) answer
+        → AnswersAs same (hashes x.hasher.now) setting m2 keys xs its (RepliedThis keys xs said) answer
     finish_answered result s answer e f runs =
         told_so asks same hashes setting kind its keys xs x m asked p said taken z m2 (Ok (stop.Answered answer))
         (runs_so (Ok (stop.Answered answer)) (subst (Ran z m2) (e ∙ ap (λ (t : Stop). Ok t) f) runs))
@@ -47,7 +47,7 @@ module _ {K V Q S : Type 0} (asks : Q → K → Bool) (same : K → K → Bool) 
         told_so asks same hashes setting kind its keys xs x m asked p said taken z m2 (Ok (stop.Asks again))
         (runs_so (Ok (stop.Asks again)) (subst (Ran z m2) (e ∙ ap (λ (t : Stop). Ok t) f) runs))
 
-    pub finish_refused : (result : Result Stop Fault) (fault : Fault) → result ≡ Err fault → Ran z m2 result → RefusedAs same (hashes x.hasher.now) setting m2 keys xs its (ToldThis keys xs said) fault
+    pub finish_refused : (result : Result Stop Fault) (fault : Fault) → result ≡ Err fault → Ran z m2 result → RefusedAs same (hashes x.hasher.now) setting m2 keys xs its (RepliedThis keys xs said) fault
     finish_refused result fault e runs = told_so asks same hashes setting kind its keys xs x m asked p said taken z m2 (Err fault) (runs_so (Err fault) (subst (Ran z m2) e runs))
 
     pub finish_key : (result : Result Stop Fault) (fault : Fault) → result ≡ Err fault → Ran z m2 result → (k : K) → its ≡ Some k → HasKeyBack z k

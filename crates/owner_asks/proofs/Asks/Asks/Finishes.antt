@@ -26,15 +26,15 @@ use Rattle.owner_calls.specs.Given.LateFaults.{IsRoom}
 use Rattle.owner_calls.specs.Given.LateKinds.{FaultFits, FitsAt}
 use Rattle.owner_calls.proofs.Given.LateKindsKept.Laws.{replies_keep_the_kind}
 use Rattle.owner_calls.proofs.Given.LateKindsKept.Rooms.Calling.{key_told_as}
-use Rattle.owner_calls.specs.Given.CallersAsked.{last_told}
+use Rattle.owner_calls.specs.Given.CallersAsked.{last_reply}
 use Rattle.owner_calls.specs.Given.CallersKind.{Kind}
-use Rattle.owner_calls.specs.Given.CallersPairs.{Given, IsTold, and_told}
+use Rattle.owner_calls.specs.Given.CallersPairs.{Given, IsTold, with_reply}
 use Rattle.owner_calls.specs.Given.CallersSights.{seen_by}
 use Rattle.owner_calls.specs.Given.CallersTogether.{CallOnKey, AsksAbout, RepliesTaken, OnKey as OnKeyOf}
 use Rattle.owner_calls.specs.Given.WholeLimits.{IsForTheLast, IsTheLast}
 use Rattle.owner_calls.specs.Given.WholeOwner.{IsAlone}
 use Rattle.owner_calls.proofs.Given.WholeKeys.Replies.{replies_lead_on, replies_count_nothing}
-use Rattle.owner_asks.specs.Asks.Asking.{IsTaken, AnswersAs, RefusedAs, Pauses, AsksOf, StartsAs, ToldThis, HasKeyBack, HasPairBack}
+use Rattle.owner_asks.specs.Asks.Asking.{IsTaken, AnswersAs, RefusedAs, Pauses, AsksOf, StartsAs, RepliedThis, HasKeyBack, HasPairBack}
 use Rattle.owner_calls.specs.Given.StridesEnding.{Ends, RunsTo}
 use Rattle.owner_calls.specs.Owned.Machines.{on_key_plan}
 use Rattle.owner_calls.specs.Owned.Owned.{Holds, IsWordOf, found_by}
@@ -189,7 +189,7 @@ module _ {K V Q S : Type 0} (asks : Q → K → Bool) (same : K → K → Bool) 
       sights = s.under.course.sights;
       change = s.under.course.change;
       alone = subst (λ (r : Result Unit (MachineReply V)). IsAlone same hash asks setting slot_of s.under.course.w s.under.course.c s.under.course.blocks s.under.course.sights
-          (OnKeyOf (record { keys = keys; pair = and_told given0 about said r; began = h.chart.now; change = s.under.course.change; call = (replied q said).0 })))
+          (OnKeyOf (record { keys = keys; pair = with_reply given0 about said r; began = h.chart.now; change = s.under.course.change; call = (replied q said).0 })))
           (reply_taken q said asked kind.takes takes_is taken s.asks_at s.stands for) (law.3 about law.0.1 said);
       memory = s.under.course.memory;
       runs = s.under.course.runs;
@@ -214,7 +214,7 @@ module _ {K V Q S : Type 0} (asks : Q → K → Bool) (same : K → K → Bool) 
 
   -- what it was told is so of what the map had
   as_none : found_by keys xs ≡ None → kind.absent ≡ missing.Asks → (m2 : Mem (Node K V)) (answer : KeyAnswer)
-      → by.AnswersTo same asks hashes x.hasher setting p.before xs h keys (IsTold kind its (told.only said None)) m2 answer → AnswersAs same hash setting m2 keys xs its (ToldThis keys xs said) answer
+      → by.AnswersTo same asks hashes x.hasher setting p.before xs h keys (IsTold kind its (told.only said None)) m2 answer → AnswersAs same hash setting m2 keys xs its (RepliedThis keys xs said) answer
   as_none none absent m2 answers.Absent a = ((sym none, told.leaves_none said kind.absent kind.takes absent a.1), a.0, a.2)
   as_none none absent m2 (answers.Found word) a = absurd (let e = a.1 in cc (e, none))
   as_none none absent m2 (answers.Stored word) a = (a.1, a.2, a.3.0, (sym none, told.stores_none said a.2 a.3.1), a.0, a.4, a.5)
@@ -222,20 +222,20 @@ module _ {K V Q S : Type 0} (asks : Q → K → Bool) (same : K → K → Bool) 
   as_none none absent m2 (answers.Removed word) a = absurd (let e = a.1 in cc (e, none))
 
   as_some : (y : K × V) → found_by keys xs ≡ Some y → kind.present ≡ there.Asks → (n : ℕ) (m2 : Mem (Node K V)) (answer : KeyAnswer)
-      → by.AnswersTo same asks hashes x.hasher setting p.before xs h keys (IsTold kind its (told.only said (Some n))) m2 answer → AnswersAs same hash setting m2 keys xs its (ToldThis keys xs said) answer
+      → by.AnswersTo same asks hashes x.hasher setting p.before xs h keys (IsTold kind its (told.only said (Some n))) m2 answer → AnswersAs same hash setting m2 keys xs its (RepliedThis keys xs said) answer
   as_some y some present n m2 answers.Absent a = absurd (let e = a.0 in cc (e, some))
   as_some y some present n m2 (answers.Found word) a = (a.0, (sym a.1, told.leaves_pair said n a.3 kind.present kind.takes present a.4), a.1, a.2, a.5)
   as_some y some present n m2 (answers.Stored word) a = absurd (let e = a.0 in cc (e, some))
   as_some y some present n m2 (answers.Replaced old new) a = (a.0, a.3, a.4, a.6.0, (sym a.1, told.stores_pair said n a.5 a.4 a.6.1), a.1, a.2, a.7, a.8, a.9)
   as_some y some present n m2 (answers.Removed word) a = (a.0, (sym a.1, told.removes_pair said n a.3 a.4), a.1, a.2, a.5, a.6)
 
-  refused_none : found_by keys xs ≡ None → (fault : Fault) → FaultFits kind.present kind.absent kind.takes fault → (fault ≡ RemoveNothing → last_told None (told.only said None) ≡ Some reply.Remove)
-      → IsRoom fault ⊎ ((fault ≡ RemoveNothing) × ToldThis keys xs said None reply.Remove × (found_by keys xs ≡ None))
+  refused_none : found_by keys xs ≡ None → (fault : Fault) → FaultFits kind.present kind.absent kind.takes fault → (fault ≡ RemoveNothing → last_reply None (told.only said None) ≡ Some reply.Remove)
+      → IsRoom fault ⊎ ((fault ≡ RemoveNothing) × RepliedThis keys xs said None reply.Remove × (found_by keys xs ≡ None))
   refused_none none fault (inl fits) removes = inl fits.1
   refused_none none fault (inr fits) removes = inr (fits.2, (sym none, told.removes_none said (removes fits.2)), none)
 
-  refused_some : (n : ℕ) (fault : Fault) → FaultFits kind.present kind.absent kind.takes fault → (fault ≡ RemoveNothing → last_told None (told.only said (Some n)) ≡ Some reply.Remove)
-      → IsRoom fault ⊎ ((fault ≡ RemoveNothing) × ToldThis keys xs said None reply.Remove × (found_by keys xs ≡ None))
+  refused_some : (n : ℕ) (fault : Fault) → FaultFits kind.present kind.absent kind.takes fault → (fault ≡ RemoveNothing → last_reply None (told.only said (Some n)) ≡ Some reply.Remove)
+      → IsRoom fault ⊎ ((fault ≡ RemoveNothing) × RepliedThis keys xs said None reply.Remove × (found_by keys xs ≡ None))
   refused_some n fault (inl fits) removes = inl fits.1
   refused_some n fault (inr fits) removes = absurd (told.never_none said n (removes fits.2))
 
@@ -253,9 +253,9 @@ module _ {K V Q S : Type 0} (asks : Q → K → Bool) (same : K → K → Bool) 
 
   -- what it comes to
   abbrev pub EndsSo : Mem (Node K V) → Result Stop Fault → Type 0
-  EndsSo m2 (Ok (stop.Answered answer)) = AnswersAs same hash setting m2 keys xs its (ToldThis keys xs said) answer
+  EndsSo m2 (Ok (stop.Answered answer)) = AnswersAs same hash setting m2 keys xs its (RepliedThis keys xs said) answer
   EndsSo m2 (Ok (stop.Asks again)) = ⊥
-  EndsSo m2 (Err fault) = RefusedAs same hash setting m2 keys xs its (ToldThis keys xs said) fault
+  EndsSo m2 (Err fault) = RefusedAs same hash setting m2 keys xs its (RepliedThis keys xs said) fault
 
   -- it asks no more
   never_again : (z : OnKey K V Q S) (m2 : Mem (Node K V)) (again : Option ℕ) → RunsTo (on_key_plan asks same hashes) told_call m z m2 (Ok (stop.Asks again)) → ⊥
@@ -274,15 +274,15 @@ module _ {K V Q S : Type 0} (asks : Q → K → Bool) (same : K → K → Bool) 
       apart (Some w) word is some (Some w2) none absent = cc none
 
   answers_by : (m2 : Mem (Node K V)) (answer : KeyAnswer) (o n : Option ℕ) → IsWordOf keys m xs o → AsksOf kind o → IsAlike o n
-      → by.AnswersTo same asks hashes x.hasher setting p.before xs h keys (IsTold kind its (told.only said n)) m2 answer → AnswersAs same hash setting m2 keys xs its (ToldThis keys xs said) answer
+      → by.AnswersTo same asks hashes x.hasher setting p.before xs h keys (IsTold kind its (told.only said n)) m2 answer → AnswersAs same hash setting m2 keys xs its (RepliedThis keys xs said) answer
   answers_by m2 answer None None word ask alike a = as_none word ask m2 answer a
   answers_by m2 answer (Some w) (Some n) word ask alike a = as_some (word.0, word.1) word.3 ask n m2 answer a
   answers_by m2 answer None (Some n) word ask alike a = absurd alike
   answers_by m2 answer (Some w) None word ask alike a = absurd alike
 
   refused_by : (fault : Fault) (o n : Option ℕ) → IsWordOf keys m xs o → IsAlike o n → FaultFits kind.present kind.absent kind.takes fault
-      → (fault ≡ RemoveNothing → last_told None (told.only said n) ≡ Some reply.Remove)
-      → IsRoom fault ⊎ ((fault ≡ RemoveNothing) × ToldThis keys xs said None reply.Remove × (found_by keys xs ≡ None))
+      → (fault ≡ RemoveNothing → last_reply None (told.only said n) ≡ Some reply.Remove)
+      → IsRoom fault ⊎ ((fault ≡ RemoveNothing) × RepliedThis keys xs said None reply.Remove × (found_by keys xs ≡ None))
   refused_by fault None None word alike fits removes = refused_none word fault fits removes
   refused_by fault (Some w) (Some n) word alike fits removes = refused_some n fault fits removes
   refused_by fault None (Some n) word alike fits removes = absurd alike

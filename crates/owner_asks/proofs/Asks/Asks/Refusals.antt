@@ -17,7 +17,7 @@ use Rattle.map_tables.specs.declared.setting.Setting.{Setting}
 use Rattle.owner_calls.specs.Given.ResizeDispose.{disposing, dispose_plan}
 use Rattle.owner_calls.specs.Given.ResizeDeclared.dispose.Dispose.{Dispose}
 use Rattle.papaya_raw.specs.Call.{call_plan, counts, disposed, plan_at, tries}
-use Rattle.papaya_raw.specs.CallAsks.{with_present, absent_told, present_told, told_at, replied}
+use Rattle.papaya_raw.specs.CallAsks.{with_present, absent_replied, present_replied, replied_at, replied}
 use Rattle.papaya_raw.specs.CallPoints.{going, over, ending, burying, changed, counted}
 use Rattle.papaya_raw.specs.declared.machines.answer.Called.{Called}
 use Rattle.papaya_raw.specs.declared.machines.answer.Called.TheVariants as called
@@ -39,8 +39,8 @@ use Rattle.papaya_raw.specs.declared.machines.call.Calling.TheVariants as at
 use Rattle.owner_calls.proofs.Given.RuleKeys.Always.{always_plan_as, always_steps}
 use Rattle.owner_calls.specs.Given.CallersKind.{Kind}
 use Rattle.owner_calls.specs.Given.LateFaults.{IsRoom}
-use Rattle.owner_asks.specs.Asks.Asking.{IsTaken, MayRefuse, Pauses, ToldThis, ToldCallsRefuse}
-use Rattle.owner_calls.specs.Given.StridesEnding.{GoesOn, Tells, RunsTo, stops, goes}
+use Rattle.owner_asks.specs.Asks.Asking.{IsTaken, MayRefuse, Pauses, RepliedThis, RepliedCallsRefuse}
+use Rattle.owner_calls.specs.Given.StridesEnding.{Continues, EndsWith, RunsTo, stops, goes}
 use Rattle.owner_calls.specs.Owned.Machines.{on_key_after, on_key_plan}
 use Rattle.owner_calls.specs.Owned.Owned.{found_by}
 use Rattle.owner_calls.specs.declared.machines.OnKey.{OnKey}
@@ -107,10 +107,10 @@ module _ {K V Q : Type 0} where
       on_point its _ point yet s = absurd yet
 
 -- a fault that is told at once
-tells_it : (fault : Fault) (told : Advance Stop) (result : Result Stop Fault) → told ≡ progress.Refused fault → Tells told result → IfErr result (λ f. f ≡ fault)
-tells_it fault told result is tells = by result (subst (λ (t : Advance Stop). Tells t result) is tells)
+tells_it : (fault : Fault) (told : Advance Stop) (result : Result Stop Fault) → told ≡ progress.Refused fault → EndsWith told result → IfErr result (λ f. f ≡ fault)
+tells_it fault told result is tells = by result (subst (λ (t : Advance Stop). EndsWith t result) is tells)
   where
-    by : (result : Result Stop Fault) → Tells (progress.Refused fault) result → IfErr result (λ f. f ≡ fault)
+    by : (result : Result Stop Fault) → EndsWith (progress.Refused fault) result → IfErr result (λ f. f ≡ fault)
     by (Ok end) tells = tt
     by (Err f) tells = tells
 
@@ -161,7 +161,7 @@ module _ {K V Q S : Type 0} (asks : Q → K → Bool) (same : K → K → Bool) 
     tells_fault : (x : OnKey K V Q S) (m : Mem (Node K V)) (x2 : OnKey K V Q S) (m2 : Mem (Node K V)) (result : Result Stop Fault) → RunsTo the_plan x m x2 m2 result → x.call.stands ≡ at.Over (ends.Refused fault)
         → IfErr result (λ f. f ≡ fault)
     tells_fault x m x2 m2 result (stops _ _ _ _ told _ s tells) over_now = tells_it fault told result (told_is x m m2 (x2, told) over_now s) tells
-    tells_fault x m x2 m2 result (goes _ _ x1 m1 told on s _ _ _ runs) over_now = absurd (subst (GoesOn {A = Stop}) (told_is x m m1 (x1, told) over_now s) on)
+    tells_fault x m x2 m2 result (goes _ _ x1 m1 told on s _ _ _ runs) over_now = absurd (subst (Continues {A = Stop}) (told_is x m m1 (x1, told) over_now s) on)
 
 -- where it stands once it was told
 abbrev pub StandsTold : {V : Type 0} → Option ℕ → MachineReply V → Calling → Type 0
@@ -183,7 +183,7 @@ module _ {K V Q : Type 0} (p : KeyCall K V Q) (none : p.own ≡ 0) where
   answers_at : (answer : KeyAnswer) → IsToAnswer (ending p (ends.Answered answer)).0.stands
   answers_at answer = subst IsToAnswer (sym (ends_at (ends.Answered answer))) tt
 
-  absent_at : (kinds : Takes) (told : MachineReply V) (gap : Gap) → IsTaken kinds None told → StandsTold None told (absent_told kinds p gap told).0.stands
+  absent_at : (kinds : Takes) (told : MachineReply V) (gap : Gap) → IsTaken kinds None told → StandsTold None told (absent_replied kinds p gap told).0.stands
   absent_at kinds (reply.Insert value) gap taken = tt
   absent_at takes.Changes reply.Remove gap taken = ends_at (ends.Refused RemoveNothing)
   absent_at takes.Changes reply.Abort gap taken = answers_at answers.Absent
@@ -192,7 +192,7 @@ module _ {K V Q : Type 0} (p : KeyCall K V Q) (none : p.own ≡ 0) where
   absent_at takes.Choices _ gap taken = absurd taken
   absent_at takes.Nothing _ gap taken = absurd taken
 
-  present_at : (kinds : Takes) (told : MachineReply V) (w word : ℕ) → IsTaken kinds (Some w) told → StandsTold (Some w) told (present_told kinds p word told).0.stands
+  present_at : (kinds : Takes) (told : MachineReply V) (w word : ℕ) → IsTaken kinds (Some w) told → StandsTold (Some w) told (present_replied kinds p word told).0.stands
   present_at kinds (reply.Insert value) w word taken = tt
   present_at takes.Changes reply.Remove w word taken = buries_at (with_present p word tells.Removes) none word
   present_at takes.Changes reply.Abort w word taken = answers_at (answers.Found word)
@@ -203,9 +203,9 @@ module _ {K V Q : Type 0} (p : KeyCall K V Q) (none : p.own ≡ 0) where
   present_at takes.Values _ w word taken = absurd taken
   present_at takes.Nothing _ w word taken = absurd taken
 
-  asked_at : (asked : Option ℕ) (told : MachineReply V) (kinds : Takes) → p.replies.takes ≡ kinds → IsTaken kinds asked told → (a : Asking) → AsksFor asked (at.Asks a) → StandsTold asked told (told_at (at.Asks a) p told).0.stands
-  asked_at None told kinds is taken (asking.Absent gap) for = subst (λ (t : Takes). StandsTold None told (absent_told t p gap told).0.stands) (sym is) (absent_at kinds told gap taken)
-  asked_at (Some w) told kinds is taken (asking.Present word) for = subst (λ (t : Takes). StandsTold (Some w) told (present_told t p word told).0.stands) (sym is) (present_at kinds told w word taken)
+  asked_at : (asked : Option ℕ) (told : MachineReply V) (kinds : Takes) → p.replies.takes ≡ kinds → IsTaken kinds asked told → (a : Asking) → AsksFor asked (at.Asks a) → StandsTold asked told (replied_at (at.Asks a) p told).0.stands
+  asked_at None told kinds is taken (asking.Absent gap) for = subst (λ (t : Takes). StandsTold None told (absent_replied t p gap told).0.stands) (sym is) (absent_at kinds told gap taken)
+  asked_at (Some w) told kinds is taken (asking.Present word) for = subst (λ (t : Takes). StandsTold (Some w) told (present_replied t p word told).0.stands) (sym is) (present_at kinds told w word taken)
   asked_at None told kinds is taken (asking.Present word) for = absurd for
   asked_at (Some w) told kinds is taken (asking.Absent gap) for = absurd for
   asked_at None told kinds is taken (asking.Fills word) for = absurd for
@@ -228,7 +228,7 @@ module _ {K V Q S : Type 0} (asks : Q → K → Bool) (same : K → K → Bool) 
     (x : OnKey K V Q S) (m : Mem (Node K V)) (asked : Option ℕ) (p : Pauses asks same hashes setting kind its keys xs x m asked) where
   module _ (z : OnKey K V Q S) (m2 : Mem (Node K V)) (fault : Fault) where
     abbrev Refused : MachineReply V → Type 0
-    Refused said = IsRoom fault ⊎ ((fault ≡ RemoveNothing) × ToldThis keys xs said None reply.Remove × (found_by keys xs ≡ None))
+    Refused said = IsRoom fault ⊎ ((fault ≡ RemoveNothing) × RepliedThis keys xs said None reply.Remove × (found_by keys xs ≡ None))
 
     for_room : (v : V) → Refused (reply.Insert v) → IsRoom fault
     for_room v (inl room) = room
@@ -261,7 +261,7 @@ module _ {K V Q S : Type 0} (asks : Q → K → Bool) (same : K → K → Bool) 
 
     stands_told : StandsTold asked said (replied x.call said).0.stands
     stands_told =
-        subst (λ (stands : Calling). StandsTold asked said (told_at stands x.call said).0.stands) (sym here)
+        subst (λ (stands : Calling). StandsTold asked said (replied_at stands x.call said).0.stands) (sym here)
         (asked_at x.call own_none asked said kind.takes
         (ap (λ (z : KeyCall K V Q). z.replies.takes) (call_is asks same hashes setting kind its keys xs x m asked p said taken) ∙ takes_is asks same hashes setting kind its keys xs x m asked p said taken)
         taken _ asks_it)
@@ -271,6 +271,6 @@ module _ {K V Q S : Type 0} (asks : Q → K → Bool) (same : K → K → Bool) 
         refuses z m2 fault asked said (replied x.call said).0 (undisturbed2 asks same hashes setting kind its keys xs x m asked p said taken) stands_told
         (told_so asks same hashes setting kind its keys xs x m asked p said taken z m2 (Err fault) runs).0 runs
 
-pub told_calls_refuse : (K V Q S : Type 0) → ToldCallsRefuse K V Q S
+pub told_calls_refuse : (K V Q S : Type 0) → RepliedCallsRefuse K V Q S
 told_calls_refuse K V Q S asks same hashes setting kind its keys xs x m asked p said taken z m2 fault runs =
     told_refuses asks same hashes setting kind its keys xs x m asked p said taken z m2 fault runs

@@ -6,9 +6,9 @@ use Rattle.seize_words.specs.OneMemory.Mem.{Mem}
 use Rattle.seize_words.specs.declared.fault.Fault.TheVariants.{RemoveNothing}
 use Rattle.map_tables.specs.declared.marks.TheConstants.{TOMBSTONE}
 use Rattle.map_tables.specs.declared.node.Node.{Node}
-use Rattle.papaya_raw.specs.CallAsks.{with_absent, with_present, absent_told, present_told, told_at, replied}
+use Rattle.papaya_raw.specs.CallAsks.{with_absent, with_present, absent_replied, present_replied, replied_at, replied}
 use Rattle.papaya_raw.specs.CallPoints.{over, going, ending, burying, at_gap}
-use Rattle.papaya_raw.specs.Replies.{value_told}
+use Rattle.papaya_raw.specs.Replies.{value_replied}
 use Rattle.papaya_raw.specs.declared.machines.answer.End.{End}
 use Rattle.papaya_raw.specs.declared.machines.answer.End.TheVariants as ends
 use Rattle.papaya_raw.specs.declared.machines.answer.KeyAnswer.TheVariants as answers
@@ -42,10 +42,10 @@ module _ {V : Type 0} where
 
 -- the reply is taken
 module _ {K V Q : Type 0} (p : KeyCall K V Q) (told : MachineReply V) where
-  taken_at : (asked : Option ℕ) (kinds : Takes) → p.replies.takes ≡ kinds → IsTaken kinds asked told → (a : Asking) → AsksFor asked (at.Asks a) → (told_at (at.Asks a) p told).1 ≡ Ok tt
-  taken_at asked kinds is taken (asking.Absent gap) for = subst (λ (t : Takes). (absent_told t p gap told).1 ≡ Ok tt) (sym is) (by asked kinds told taken for)
+  taken_at : (asked : Option ℕ) (kinds : Takes) → p.replies.takes ≡ kinds → IsTaken kinds asked told → (a : Asking) → AsksFor asked (at.Asks a) → (replied_at (at.Asks a) p told).1 ≡ Ok tt
+  taken_at asked kinds is taken (asking.Absent gap) for = subst (λ (t : Takes). (absent_replied t p gap told).1 ≡ Ok tt) (sym is) (by asked kinds told taken for)
     where
-      by : (asked : Option ℕ) (kinds : Takes) (told : MachineReply V) → IsTaken kinds asked told → AsksFor asked (at.Asks (asking.Absent gap)) → (absent_told kinds p gap told).1 ≡ Ok tt
+      by : (asked : Option ℕ) (kinds : Takes) (told : MachineReply V) → IsTaken kinds asked told → AsksFor asked (at.Asks (asking.Absent gap)) → (absent_replied kinds p gap told).1 ≡ Ok tt
       by None takes.Values (reply.Insert value) taken for = refl
       by None takes.Changes (reply.Insert value) taken for = refl
       by None takes.Changes reply.Remove taken for = refl
@@ -66,9 +66,9 @@ module _ {K V Q : Type 0} (p : KeyCall K V Q) (told : MachineReply V) where
           none_chosen reply.No taken = taken
       by None takes.Nothing told taken for = absurd taken
       by (Some word) kinds told taken for = absurd for
-  taken_at asked kinds is taken (asking.Present word) for = subst (λ (t : Takes). (present_told t p word told).1 ≡ Ok tt) (sym is) (by asked kinds told taken for)
+  taken_at asked kinds is taken (asking.Present word) for = subst (λ (t : Takes). (present_replied t p word told).1 ≡ Ok tt) (sym is) (by asked kinds told taken for)
     where
-      by : (asked : Option ℕ) (kinds : Takes) (told : MachineReply V) → IsTaken kinds asked told → AsksFor asked (at.Asks (asking.Present word)) → (present_told kinds p word told).1 ≡ Ok tt
+      by : (asked : Option ℕ) (kinds : Takes) (told : MachineReply V) → IsTaken kinds asked told → AsksFor asked (at.Asks (asking.Present word)) → (present_replied kinds p word told).1 ≡ Ok tt
       by (Some w) takes.Values (reply.Insert value) taken for = refl
       by (Some w) takes.Changes (reply.Insert value) taken for = refl
       by (Some w) takes.Changes reply.Remove taken for = refl
@@ -92,7 +92,7 @@ module _ {K V Q : Type 0} (p : KeyCall K V Q) (told : MachineReply V) where
   taken_at None kinds is taken (asking.GivesUp other) for = absurd for
 
   pub reply_taken : (asked : Option ℕ) (kinds : Takes) → p.replies.takes ≡ kinds → IsTaken kinds asked told → (a : Asking) → p.stands ≡ at.Asks a → AsksFor asked (at.Asks a) → (replied p told).1 ≡ Ok tt
-  reply_taken asked kinds is taken a stands for = subst (λ x. (told_at x p told).1 ≡ Ok tt) (sym stands) (taken_at asked kinds is taken a for)
+  reply_taken asked kinds is taken a stands for = subst (λ x. (replied_at x p told).1 ≡ Ok tt) (sym stands) (taken_at asked kinds is taken a for)
 
 -- it is undisturbed then
 module _ {K V Q : Type 0} (its : Option K) (m : Mem (Node K V)) (p : KeyCall K V Q) (h : Undisturbed its None None true m p) (kinds : Takes) (takes_is : p.replies.takes ≡ kinds)
@@ -136,14 +136,14 @@ module _ {K V Q : Type 0} (its : Option K) (m : Mem (Node K V)) (p : KeyCall K V
   replaces_so bare k key v word some is = record {
     present = h.present;
     absent = h.absent;
-    point = ((bare.0, k, key, bare.1 ∙ key, v, refl, ap (λ (b : Bool). value_told (if b then p.replies.absent else tells.Value v)) (ne_eqb word 0 some)), is);
+    point = ((bare.0, k, key, bare.1 ∙ key, v, refl, ap (λ (b : Bool). value_replied (if b then p.replies.absent else tells.Value v)) (ne_eqb word 0 some)), is);
   }
 
   absent_so : (told : MachineReply V) (gap : Gap) → IsTaken kinds None told → IsBare its None p → GapIs m p gap
-      → Undisturbed its (known_by None told) (value_by told) (seeks_by None told) m (absent_told kinds p gap told).0
+      → Undisturbed its (known_by None told) (value_by told) (seeks_by None told) m (absent_replied kinds p gap told).0
   absent_so told gap taken bare empty = by kinds told has_key taken
     where
-      by : (kinds : Takes) (told : MachineReply V) → (kinds ≢ takes.Choices → (k : K) × (its ≡ Some k)) → IsTaken kinds None told → Undisturbed its (known_by None told) (value_by told) (seeks_by None told) m (absent_told kinds p gap told).0
+      by : (kinds : Takes) (told : MachineReply V) → (kinds ≢ takes.Choices → (k : K) × (its ≡ Some k)) → IsTaken kinds None told → Undisturbed its (known_by None told) (value_by told) (seeks_by None told) m (absent_replied kinds p gap told).0
       by takes.Values (reply.Insert v) key taken = let k = key (λ e. cc e) in fills_so bare k.0 k.1 v gap empty
       by takes.Changes (reply.Insert v) key taken = let k = key (λ e. cc e) in fills_so bare k.0 k.1 v gap empty
       by takes.Changes reply.Remove key taken = ends_so bare (ends.Refused RemoveNothing) bare
@@ -162,10 +162,10 @@ module _ {K V Q : Type 0} (its : Option K) (m : Mem (Node K V)) (p : KeyCall K V
       by takes.Nothing told key taken = absurd taken
 
   present_so : (told : MachineReply V) (w word : ℕ) → IsTaken kinds (Some w) told → IsBare its None p → word ≢ 0 → WordIs m p word
-      → Undisturbed its (known_by (Some w) told) (value_by told) (seeks_by (Some w) told) m (present_told kinds p word told).0
+      → Undisturbed its (known_by (Some w) told) (value_by told) (seeks_by (Some w) told) m (present_replied kinds p word told).0
   present_so told w word taken bare some is = by kinds told has_key taken
     where
-      by : (kinds : Takes) (told : MachineReply V) → (kinds ≢ takes.Choices → (k : K) × (its ≡ Some k)) → IsTaken kinds (Some w) told → Undisturbed its (known_by (Some w) told) (value_by told) (seeks_by (Some w) told) m (present_told kinds p word told).0
+      by : (kinds : Takes) (told : MachineReply V) → (kinds ≢ takes.Choices → (k : K) × (its ≡ Some k)) → IsTaken kinds (Some w) told → Undisturbed its (known_by (Some w) told) (value_by told) (seeks_by (Some w) told) m (present_replied kinds p word told).0
       by takes.Values (reply.Insert v) key taken = let k = key (λ e. cc e) in replaces_so bare k.0 k.1 v word some is
       by takes.Changes (reply.Insert v) key taken = let k = key (λ e. cc e) in replaces_so bare k.0 k.1 v word some is
       by takes.Changes reply.Remove key taken = buries_so (with_present p word tells.Removes) bare.0 refl refl word is
@@ -184,11 +184,11 @@ module _ {K V Q : Type 0} (its : Option K) (m : Mem (Node K V)) (p : KeyCall K V
       by takes.Nothing told key taken = absurd taken
 
   asked_so : (told : MachineReply V) (asked : Option ℕ) → IsTaken kinds asked told → (a : Asking) → AsksFor asked (at.Asks a) → ((word : ℕ) → asked ≡ Some word → word ≢ 0) → UndisturbedAt its None None true m p (at.Asks a)
-      → Undisturbed its (known_by asked told) (value_by told) (seeks_by asked told) m (told_at (at.Asks a) p told).0
+      → Undisturbed its (known_by asked told) (value_by told) (seeks_by asked told) m (replied_at (at.Asks a) p told).0
   asked_so told None taken (asking.Absent gap) for some point =
-      subst (λ (t : Takes). Undisturbed its (known_by None told) (value_by told) (seeks_by None told) m (absent_told t p gap told).0) (sym takes_is) (absent_so told gap taken point.1 point.3)
+      subst (λ (t : Takes). Undisturbed its (known_by None told) (value_by told) (seeks_by None told) m (absent_replied t p gap told).0) (sym takes_is) (absent_so told gap taken point.1 point.3)
   asked_so told (Some w) taken (asking.Present word) for some point =
-      subst (λ (t : Takes). Undisturbed its (known_by (Some w) told) (value_by told) (seeks_by (Some w) told) m (present_told t p word told).0) (sym takes_is)
+      subst (λ (t : Takes). Undisturbed its (known_by (Some w) told) (value_by told) (seeks_by (Some w) told) m (present_replied t p word told).0) (sym takes_is)
       (present_so told w word taken point.1 (λ zero. some w refl (sym for ∙ zero)) point.2)
   asked_so told None taken (asking.Present word) for some point = absurd for
   asked_so told (Some w) taken (asking.Absent gap) for some point = absurd for
@@ -200,5 +200,5 @@ module _ {K V Q : Type 0} (its : Option K) (m : Mem (Node K V)) (p : KeyCall K V
   pub replied_undisturbed : (told : MachineReply V) (asked : Option ℕ) → IsTaken kinds asked told → (a : Asking) → p.stands ≡ at.Asks a → AsksFor asked (at.Asks a) → ((word : ℕ) → asked ≡ Some word → word ≢ 0)
       → Undisturbed its (known_by asked told) (value_by told) (seeks_by asked told) m (replied p told).0
   replied_undisturbed told asked taken a stands for some =
-      subst (λ x. Undisturbed its (known_by asked told) (value_by told) (seeks_by asked told) m (told_at x p told).0) (sym stands)
+      subst (λ x. Undisturbed its (known_by asked told) (value_by told) (seeks_by asked told) m (replied_at x p told).0) (sym stands)
       (asked_so told asked taken a for some (subst (UndisturbedAt its None None true m p) stands h.point))

@@ -9,7 +9,7 @@ use Rattle.papaya_raw.specs.declared.machines.asking.MachineReply.{MachineReply}
 use Rattle.papaya_raw.specs.declared.machines.asking.MachineReply.TheVariants as reply
 use Rattle.papaya_raw.specs.declared.machines.asking.Takes.{Takes}
 use Rattle.papaya_raw.specs.declared.machines.asking.Takes.TheVariants as takes
-use Rattle.owner_calls.specs.Given.CallersAsked.{Asked, last_told, LeavesPair, LeavesNone}
+use Rattle.owner_calls.specs.Given.CallersAsked.{Asked, last_reply, LeavesPair, LeavesNone}
 use Rattle.owner_asks.specs.Asks.Asking.{meant}
 
 -- the only thing that it was told, about this
@@ -21,23 +21,23 @@ module _ {V : Type 0} (told : MachineReply V) where
   if_told true other e = cc e
   if_told false other e = absurd (cc e)
 
-  told_pair : (n o : ℕ) (other : MachineReply V) → last_told (Some o) (only (Some n)) ≡ Some other → told ≡ other
+  told_pair : (n o : ℕ) (other : MachineReply V) → last_reply (Some o) (only (Some n)) ≡ Some other → told ≡ other
   told_pair n o other e = if_told (n == o) other e
 
-  told_none : (other : MachineReply V) → last_told None (only None) ≡ Some other → told ≡ other
+  told_none : (other : MachineReply V) → last_reply None (only None) ≡ Some other → told ≡ other
   told_none other e = cc e
 
   means : (other : MachineReply V) → told ≡ other → meant other ≡ meant told
   means other e = ap meant (sym e)
 
   -- what it has stored, removed or left, it was told so
-  pub stores_none : (v : V) → last_told None (only None) ≡ Some (reply.Insert v) → reply.Insert v ≡ meant told
+  pub stores_none : (v : V) → last_reply None (only None) ≡ Some (reply.Insert v) → reply.Insert v ≡ meant told
   stores_none v e = means (reply.Insert v) (told_none (reply.Insert v) e)
 
-  pub stores_pair : (n o : ℕ) (v : V) → last_told (Some o) (only (Some n)) ≡ Some (reply.Insert v) → reply.Insert v ≡ meant told
+  pub stores_pair : (n o : ℕ) (v : V) → last_reply (Some o) (only (Some n)) ≡ Some (reply.Insert v) → reply.Insert v ≡ meant told
   stores_pair n o v e = means (reply.Insert v) (told_pair n o (reply.Insert v) e)
 
-  pub removes_pair : (n o : ℕ) → (last_told (Some o) (only (Some n)) ≡ Some reply.Remove) ⊎ (last_told (Some o) (only (Some n)) ≡ Some reply.Yes) → reply.Remove ≡ meant told
+  pub removes_pair : (n o : ℕ) → (last_reply (Some o) (only (Some n)) ≡ Some reply.Remove) ⊎ (last_reply (Some o) (only (Some n)) ≡ Some reply.Yes) → reply.Remove ≡ meant told
   removes_pair n o (inl e) = means reply.Remove (told_pair n o reply.Remove e)
   removes_pair n o (inr e) = means reply.Yes (told_pair n o reply.Yes e)
 
@@ -60,10 +60,10 @@ module _ {V : Type 0} (told : MachineReply V) where
       by takes.Nothing e = absurd e
 
   -- it was not told to remove what is not there
-  pub never_none : (n : ℕ) → last_told None (only (Some n)) ≡ Some reply.Remove → ⊥
+  pub never_none : (n : ℕ) → last_reply None (only (Some n)) ≡ Some reply.Remove → ⊥
   never_none n e = cc e
 
-  pub removes_none : last_told None (only None) ≡ Some reply.Remove → reply.Remove ≡ meant told
+  pub removes_none : last_reply None (only None) ≡ Some reply.Remove → reply.Remove ≡ meant told
   removes_none e = means reply.Remove (told_none reply.Remove e)
 
 -- where it asks about a pair, and where about none

@@ -13,8 +13,8 @@ use Rattle.map_tables.specs.Given.SeizeDeclared.advance.Advance.TheVariants as p
 use Rattle.map_tables.specs.Given.SeizeDeclared.rows.settle.Settled.{Settled}
 use Rattle.map_tables.specs.Given.SeizeDeclared.rows.settle.Settled.TheVariants as settled
 use Rattle.papaya_raw.specs.Call.{first_made, next_made, disposed, helped, copied}
-use Rattle.papaya_raw.specs.CallPoints.{going, standing, over, ending, following_made, storing, at_gap, gap_by, asking_at, pair_by, tableless, at_free, at_last, at_pair, told_of, entering, went_on, changed, counted, having_met}
-use Rattle.papaya_raw.specs.Replies.{value_told, value_for}
+use Rattle.papaya_raw.specs.CallPoints.{going, standing, over, ending, following_made, storing, at_gap, gap_by, asking_at, pair_by, tableless, at_free, at_last, at_pair, after_finding, entering, continued_in, changed, counted, having_met}
+use Rattle.papaya_raw.specs.Replies.{value_replied, value_for}
 use Rattle.map_tables.specs.Chunks.{is_incremental}
 use Rattle.map_tables.specs.Finding.{finding, vacant, named, marked}
 use Rattle.map_tables.specs.Marks.{has_mark}
@@ -53,7 +53,7 @@ use Rattle.papaya_raw.specs.declared.machines.asking.Told.TheVariants as tells
 use Rattle.papaya_raw.specs.declared.machines.call.KeyCall.{KeyCall}
 use Rattle.papaya_raw.specs.declared.machines.call.Calling.{Calling}
 use Rattle.papaya_raw.specs.declared.machines.call.Calling.TheVariants as at
-use Rattle.owner_calls.specs.Given.PointsSteps.{told_first}
+use Rattle.owner_calls.specs.Given.PointsSteps.{first_reply}
 use Rattle.owner_calls.proofs.Given.PointsCalls.Asked.{passed_so}
 use Rattle.owner_calls.proofs.Owned.Owned.HandsBack.{IsOver}
 
@@ -104,14 +104,14 @@ free_is mode word same =
     i = is_incremental mode
 
 -- where it was told nothing to store, it knows of nothing
-none_known : {V : Type 0} (known : Option V) → told_first known ≡ tells.Nothing → known ≡ None
+none_known : {V : Type 0} (known : Option V) → first_reply known ≡ tells.Nothing → known ≡ None
 none_known None e = refl
 none_known (Some value) e = absurd (cc e)
 
 module _ {K V Q : Type 0} where
   -- it has no block of its own, its key is in hand, and this is what it knows to store where that is missing
   abbrev pub IsBare : Option K → Option V → KeyCall K V Q → Type 0
-  IsBare its known p = (p.own ≡ 0) × (p.replies.key ≡ its) × (p.replies.absent ≡ told_first known) × (p.replies.present ≡ tells.Nothing)
+  IsBare its known p = (p.own ≡ 0) × (p.replies.key ≡ its) × (p.replies.absent ≡ first_reply known) × (p.replies.present ≡ tells.Nothing)
 
   -- the word of its try
   abbrev pub WordIs : Mem (Node K V) → KeyCall K V Q → ℕ → Type 0
@@ -232,7 +232,7 @@ module _ {K V Q : Type 0} (its : Option K) (known value : Option V) (seeks : Boo
         stays_gap v is told gaps.Free empty =
             let h = has_key v is in
             subst (λ (t : Told V). So (storing t p 0)) (sym told)
-            (goes_on (at.Asks (asking.Fills 0)) ((bare.0, h.1, h.2, bare.1 ∙ h.2, v, h.0, ap value_told told), empty))
+            (goes_on (at.Asks (asking.Fills 0)) ((bare.0, h.1, h.2, bare.1 ∙ h.2, v, h.0, ap value_replied told), empty))
         stays_gap v is told gaps.Past empty = goes_on at.Nexts (seek, bare)
         stays_gap v is told gaps.Last empty = record { present = asks; absent = absent; point = (seek, bare) }
 
@@ -241,9 +241,9 @@ module _ {K V Q : Type 0} (its : Option K) (known value : Option V) (seeks : Boo
           where
             by : (o : Option V) → known ≡ o → So (asking_at gap p)
             by None is =
-                subst (λ (t : Told V). So (gap_by t gap p)) (sym (bare.2 ∙ ap told_first is)) (goes_on (at.Asks (asking.Absent gap)) (seek, bare, is, empty), tt)
+                subst (λ (t : Told V). So (gap_by t gap p)) (sym (bare.2 ∙ ap first_reply is)) (goes_on (at.Asks (asking.Absent gap)) (seek, bare, is, empty), tt)
             by (Some v) is =
-                let told : p.replies.absent ≡ tells.Value v = bare.2 ∙ ap told_first is in
+                let told : p.replies.absent ≡ tells.Value v = bare.2 ∙ ap first_reply is in
                 subst (λ (t : Told V). So (gap_by t gap p)) (sym told) (stays_gap v is told gap empty)
 
         pub stays_tableless : (x : Missing) → AsksMissing x → So (tableless x p)
@@ -274,7 +274,7 @@ module _ {K V Q : Type 0} (its : Option K) (known value : Option V) (seeks : Boo
             asks_it : So (pair_by tells.Nothing p word)
             asks_it = (goes_on (at.Asks (asking.Present word)) (seek, bare, is), refl)
 
-        pub stays_told : (word : ℕ) → WordIs m2 p word → (found : Finding) → (found ≡ finds.Free → p.missing ≡ missing.Asks → word ≡ 0) → So (told_of true p word found)
+        pub stays_told : (word : ℕ) → WordIs m2 p word → (found : Finding) → (found ≡ finds.Free → p.missing ≡ missing.Asks → word ≡ 0) → So (after_finding true p word found)
         stays_told word is finds.Free zero = stays_free p.missing absent (λ e. subst (WordIs m2 p) (zero refl e) is)
         stays_told word is finds.Passed zero =
             passed_so So (having_met p word) (λ next. record { present = asks; absent = absent; point = (seek, bare) }) (record { present = asks; absent = absent; point = (seek, bare) })
@@ -288,7 +288,7 @@ module _ {K V Q : Type 0} (its : Option K) (known value : Option V) (seeks : Boo
         pub stays_entering : (table : Table) → So (entering p table)
         stays_entering table = record { present = asks; absent = absent; point = (seek, bare) }
 
-        pub stays_on : (table : Table) → So (went_on p table)
+        pub stays_on : (table : Table) → So (continued_in p table)
         stays_on table =
             either (is_incremental p.setting.mode) _ (going p (at.Copies (copying_all p.setting p.trial.table table)))
             (either p.helped (entering p table) _ (stays_entering table) (record { present = asks; absent = absent; point = (seek, bare) }))

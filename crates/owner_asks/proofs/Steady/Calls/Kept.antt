@@ -26,7 +26,7 @@ use Rattle.owner_calls.specs.Given.RuleWords.{Blocks}
 use Rattle.owner_calls.specs.Given.PointsFactsCalls.{Change, CallingFacts, CallFacts}
 use Rattle.owner_calls.specs.Given.PointsSteps.{AreLawful}
 use Rattle.owner_calls.specs.Given.PointsTold.{IsRowOfCall}
-use Rattle.owner_calls.specs.Given.CallersSights.{Sight}
+use Rattle.owner_calls.specs.Given.CallersSights.{Visible}
 use Rattle.owner_calls.specs.Given.CallersTogether.{CallOnKey, OnKey}
 use Rattle.owner_calls.specs.Given.WholeOwner.{IsAlone}
 use Rattle.owner_calls.proofs.Given.RuleKeys.TriesSeen.{spot_inside}
@@ -84,7 +84,7 @@ module _ {K V Q : Type 0} (same : K → K → Bool) (hash : K → ℕ) (asks : Q
       (λ some. call_spares (Word (block_in link) NEXT) other_place (other_shard some) p.stands so none facts.point) may m2 end s
 
 module _ {K V Q : Type 0} (same : K → K → Bool) (hash : K → ℕ) (asks : Q → K → Bool) (setting : Setting) (slot : ℕ → ℕ) (lawful : AreLawful same hash) (initial : IsPowerOfTwo setting.initial)
-    (w : World (Node K V)) (c : Chart K) (blocks : Blocks) (sights : ℕ → Sight) (u : CallOnKey K V Q) (a : IsAlone same hash asks setting slot w c blocks sights (OnKey u)) (link : ℕ)
+    (w : World (Node K V)) (c : Chart K) (blocks : Blocks) (sights : ℕ → Visible) (u : CallOnKey K V Q) (a : IsAlone same hash asks setting slot w c blocks sights (OnKey u)) (link : ℕ)
     (linked : EndsAt setting link w.memory) (so : StandsSo setting link u.call.trial.table u.call.stands) (m2 : Mem (Node K V)) (p2 : KeyCall K V Q) (told : Called (Node K V))
     (s : Steps Took value_at w.memory (call_plan asks same hash u.call) m2 (p2, told)) where
   by_itself : (IsRowOfCall u.call.stands → ⊥) → EndsAt setting link m2

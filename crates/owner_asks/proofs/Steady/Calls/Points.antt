@@ -28,8 +28,8 @@ use Rattle.owner_calls.specs.Given.ResizeDispose.{disposing, dispose_plan}
 use Rattle.owner_calls.specs.Given.ResizeDeclared.dispose.Dispose.{Dispose}
 use Rattle.papaya_raw.specs.Call.{call_plan, disposed, disposes, key_read, next_found, next_read, pair_read, probes, root_found, root_read, tried, tries, word_found, word_read}
 use Rattle.papaya_raw.specs.Call as calls
-use Rattle.papaya_raw.specs.CallAsks.{present_told, replied, told_at}
-use Rattle.papaya_raw.specs.CallPoints.{aim_of, answering, asking_of, at_free, at_last, at_pair, beyond, burying, changed, counted, ending, entering, following_made, going, halted, having_met, over, pair_by, passed, standing, tableless, told, told_of}
+use Rattle.papaya_raw.specs.CallAsks.{present_replied, replied, replied_at}
+use Rattle.papaya_raw.specs.CallPoints.{aim_of, answering, asking_of, at_free, at_last, at_pair, beyond, burying, changed, counted, ending, entering, following_made, going, halted, having_met, over, pair_by, passed, standing, tableless, told, after_finding}
 use Rattle.papaya_raw.specs.CallPoints as points
 use Rattle.papaya_raw.specs.declared.machines.answer.Called.{Called}
 use Rattle.papaya_raw.specs.declared.machines.answer.Called.TheVariants as called
@@ -173,7 +173,7 @@ module _ (setting : Setting) (link : ℕ) where
       told_so : (from : Bool) (word : ℕ) (named : Bool) → So (told from p word named)
       told_so from word named = by (finding p.setting.mode (aim_of p.missing) word named)
         where
-          by : (found : Finding) → So (told_of from p word found)
+          by : (found : Finding) → So (after_finding from p word found)
           by finds.Free = subst (λ (m : Missing). So (at_free m p)) (sym r.answers_none) (ending_so p r answers.Absent)
           by finds.Passed = passed_so (having_met p word) r t (next_trial (with_met p.trial word)) (next_keeps (with_met p.trial word))
           by finds.Moved = ((r, t), tt)
@@ -270,7 +270,7 @@ module _ (setting : Setting) (link : ℕ) where
 
     -- whatever it is told
     module _ (p : KeyCall K V Q) (s0 : IsSteady p) where
-      chosen_so : (kind : Takes) → (kind ≡ takes.Nothing) ⊎ (kind ≡ takes.Choices) → AtTable p.trial.table → (word : ℕ) (told : MachineReply V) → IsSteady (present_told kind p word told).0
+      chosen_so : (kind : Takes) → (kind ≡ takes.Nothing) ⊎ (kind ≡ takes.Choices) → AtTable p.trial.table → (word : ℕ) (told : MachineReply V) → IsSteady (present_replied kind p word told).0
       chosen_so takes.Nothing is t word told = s0
       chosen_so takes.Choices is t word reply.Yes = (burying_so p s0.0 t word).0
       chosen_so takes.Choices is t word reply.No = (ending_so p s0.0 (answers.Found word)).0
@@ -283,7 +283,7 @@ module _ (setting : Setting) (link : ℕ) where
       pub told_steady : (told : MachineReply V) → IsSteady (replied p told).0
       told_steady told = by p.stands s0.1
         where
-          by : (stands : Calling) → StandsSo p.trial.table stands → IsSteady (told_at stands p told).0
+          by : (stands : Calling) → StandsSo p.trial.table stands → IsSteady (replied_at stands p told).0
           by (at.Asks (asking.Present word)) t = chosen_so p.replies.takes s0.0.chooses t word told
           by (at.Asks (asking.Absent gap)) t = absurd t
           by (at.Asks (asking.Fills word)) t = absurd t

@@ -26,7 +26,7 @@ use Rattle.owner_calls.specs.Given.PointsSteps.{AreLawful}
 use Rattle.owner_calls.specs.Given.LateFactsSweeps.{SweepingFacts, SweepFacts}
 use Rattle.owner_calls.specs.Given.LateToldSweeps.{IsRowOfSweep}
 use Rattle.owner_calls.specs.Given.CallersOverAll.{CallOverAll}
-use Rattle.owner_calls.specs.Given.CallersSights.{Sight}
+use Rattle.owner_calls.specs.Given.CallersSights.{Visible}
 use Rattle.owner_calls.specs.Given.CallersTogether.{OverAll}
 use Rattle.owner_calls.specs.Given.WholeOwner.{IsAlone}
 use Rattle.owner_calls.proofs.Given.RuleSpared.{PlanSpares, spares_as}
@@ -67,7 +67,7 @@ module _ {K V : Type 0} (same : K → K → Bool) (hash : K → ℕ) (setting : 
       (λ some. sweep_spares (Word (block_in link) NEXT) (λ word f. no_place same hash setting w c blocks map link p.table f.2 f.3.0.table p.place f.3.1) (other_shard some) p.stands so none facts.point) may m2 end s
 
 module _ {K V Q : Type 0} (same : K → K → Bool) (hash : K → ℕ) (asks : Q → K → Bool) (setting : Setting) (slot : ℕ → ℕ) (lawful : AreLawful same hash) (initial : IsPowerOfTwo setting.initial)
-    (w : World (Node K V)) (c : Chart K) (blocks : Blocks) (sights : ℕ → Sight) (o : CallOverAll) (a : IsAlone {Q = Q} same hash asks setting slot w c blocks sights (OverAll o)) (link : ℕ)
+    (w : World (Node K V)) (c : Chart K) (blocks : Blocks) (sights : ℕ → Visible) (o : CallOverAll) (a : IsAlone {Q = Q} same hash asks setting slot w c blocks sights (OverAll o)) (link : ℕ)
     (linked : EndsAt setting link w.memory) (so : StandsSo setting link o.sweep.table o.sweep.stands) (m2 : Mem (Node K V)) (p2 : Sweep) (told : Swept (Node K V))
     (s : Steps Took value_at w.memory (sweep_plan hash o.sweep) m2 (p2, told)) where
   by_itself : (IsRowOfSweep o.sweep.stands → ⊥) → EndsAt setting link m2

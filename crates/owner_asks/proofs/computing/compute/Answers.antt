@@ -4,7 +4,7 @@ use Rattle.std.proofs.Common.{refl, inl, subst}
 use Rattle.papaya_raw.specs.declared.machines.asking.MachineReply.TheVariants as reply
 use Rattle.owner_calls.specs.Given.CallersKind.{computes}
 use Rattle.owner_calls.specs.Given.CallersPairs.{IsTold}
-use Rattle.owner_asks.specs.Asks.Closures.{ComesTo, ComputesAs, Computing}
+use Rattle.owner_asks.specs.Asks.Closures.{HasOutcome, ComputesAs, Computing}
 use Rattle.seize_words.specs.declared.refused.RefusedKey.{RefusedKey}
 use Rattle.owner_calls.specs.Owned.Calling.{HasStopped, stop_by}
 use Rattle.owner_calls.specs.Owned.Owned.{hashed_by, found_by}
@@ -39,14 +39,14 @@ pub returns-in-Ok-clause-comes : goal.returns-in-Ok-clause-comes
 returns-in-Ok-clause-comes g c = λ xs has.
     let h = c.start.ensures.starts xs computes (Some c.args.key) (g.K.PartialEq.eq c.args.key) has (computes_so g.K.PartialEq.eq ((hashed_by g.S.Hasher.Hasher.finish g.S.Hasher.Hasher.write g.S.BuildHasher.build_hasher g.K.Hash.hash_input) c.args.hasher.now) c.args.setting c.args.key _ c.hash_of-hash.ensures _ c.compute-call.ensures) in
     let a = comes_asking g.K.PartialEq.eq g.K.PartialEq.eq (hashed_by g.S.Hasher.Hasher.finish g.S.Hasher.Hasher.write g.S.BuildHasher.build_hasher g.K.Hash.hash_input) c.args.hasher c.args.setting computes (Some c.args.key) (g.K.PartialEq.eq c.args.key) xs c.start.new.machine c.start.new.memory c.start.result h _ _ c.in-Ok-Asks.asked c.in-Ok-Asks.is c.in-Ok-Asks.field-0-is refl in
-    subst (ComesTo g.K.PartialEq.eq ((hashed_by g.S.Hasher.Hasher.finish g.S.Hasher.Hasher.write g.S.BuildHasher.build_hasher g.K.Hash.hash_input) c.args.hasher.now) c.args.setting c.replied.new.memory c.args.key xs (Computing (ComputesAs g.F.FnOnce c.args.compute))) c.in-Ok.is (comes_told g.K.PartialEq.eq (hashed_by g.S.Hasher.Hasher.finish g.S.Hasher.Hasher.write g.S.BuildHasher.build_hasher g.K.Hash.hash_input) c.args.hasher c.start.new.machine.hasher a.1 c.args.setting xs c.replied.new.memory (Computing (ComputesAs g.F.FnOnce c.args.compute)) (reply.Insert c.in-Insert.value) (found_by (g.K.PartialEq.eq c.args.key) xs)
+    subst (HasOutcome g.K.PartialEq.eq ((hashed_by g.S.Hasher.Hasher.finish g.S.Hasher.Hasher.write g.S.BuildHasher.build_hasher g.K.Hash.hash_input) c.args.hasher.now) c.args.setting c.replied.new.memory c.args.key xs (Computing (ComputesAs g.F.FnOnce c.args.compute))) c.in-Ok.is (comes_told g.K.PartialEq.eq (hashed_by g.S.Hasher.Hasher.finish g.S.Hasher.Hasher.write g.S.BuildHasher.build_hasher g.K.Hash.hash_input) c.args.hasher c.start.new.machine.hasher a.1 c.args.setting xs c.replied.new.memory (Computing (ComputesAs g.F.FnOnce c.args.compute)) (reply.Insert c.in-Insert.value) (found_by (g.K.PartialEq.eq c.args.key) xs)
     (c.shown_at.result, subst (λ o. g.F.FnOnce.post c.args.compute (c.shown_at.result, tt) o) c.in-Insert.is c.compute.ensures, shown_found c.start.new.memory (g.K.PartialEq.eq c.args.key) xs c.in-Ok-Asks.asked a.2 _ c.shown_at.ensures) c.args.key refl c.replied.result (c.replied.ensures.comes xs computes c.args.key c.in-Ok-Asks.asked a.0 tt))
 
 pub returns-in-Insert-clause-comes : goal.returns-in-Insert-clause-comes
 returns-in-Insert-clause-comes g c = λ xs has.
     let h = c.start.ensures.starts xs computes (Some c.args.key) (g.K.PartialEq.eq c.args.key) has (computes_so g.K.PartialEq.eq ((hashed_by g.S.Hasher.Hasher.finish g.S.Hasher.Hasher.write g.S.BuildHasher.build_hasher g.K.Hash.hash_input) c.args.hasher.now) c.args.setting c.args.key _ c.hash_of-hash.ensures _ c.compute-call.ensures) in
     let a = comes_asking g.K.PartialEq.eq g.K.PartialEq.eq (hashed_by g.S.Hasher.Hasher.finish g.S.Hasher.Hasher.write g.S.BuildHasher.build_hasher g.K.Hash.hash_input) c.args.hasher c.args.setting computes (Some c.args.key) (g.K.PartialEq.eq c.args.key) xs c.start.new.machine c.start.new.memory c.start.result h _ _ c.in-Ok-Asks.asked c.in-Ok-Asks.is c.in-Ok-Asks.field-0-is refl in
-    subst (ComesTo g.K.PartialEq.eq ((hashed_by g.S.Hasher.Hasher.finish g.S.Hasher.Hasher.write g.S.BuildHasher.build_hasher g.K.Hash.hash_input) c.args.hasher.now) c.args.setting c.replied.new.memory c.args.key xs (Computing (ComputesAs g.F.FnOnce c.args.compute))) c.in-Err-replied.is (comes_told g.K.PartialEq.eq (hashed_by g.S.Hasher.Hasher.finish g.S.Hasher.Hasher.write g.S.BuildHasher.build_hasher g.K.Hash.hash_input) c.args.hasher c.start.new.machine.hasher a.1 c.args.setting xs c.replied.new.memory (Computing (ComputesAs g.F.FnOnce c.args.compute)) (reply.Insert c.in-Insert.value) (found_by (g.K.PartialEq.eq c.args.key) xs)
+    subst (HasOutcome g.K.PartialEq.eq ((hashed_by g.S.Hasher.Hasher.finish g.S.Hasher.Hasher.write g.S.BuildHasher.build_hasher g.K.Hash.hash_input) c.args.hasher.now) c.args.setting c.replied.new.memory c.args.key xs (Computing (ComputesAs g.F.FnOnce c.args.compute))) c.in-Err-replied.is (comes_told g.K.PartialEq.eq (hashed_by g.S.Hasher.Hasher.finish g.S.Hasher.Hasher.write g.S.BuildHasher.build_hasher g.K.Hash.hash_input) c.args.hasher c.start.new.machine.hasher a.1 c.args.setting xs c.replied.new.memory (Computing (ComputesAs g.F.FnOnce c.args.compute)) (reply.Insert c.in-Insert.value) (found_by (g.K.PartialEq.eq c.args.key) xs)
     (c.shown_at.result, subst (λ o. g.F.FnOnce.post c.args.compute (c.shown_at.result, tt) o) c.in-Insert.is c.compute.ensures, shown_found c.start.new.memory (g.K.PartialEq.eq c.args.key) xs c.in-Ok-Asks.asked a.2 _ c.shown_at.ensures) c.args.key refl c.replied.result (c.replied.ensures.comes xs computes c.args.key c.in-Ok-Asks.asked a.0 tt))
 
 pub replied-requires-in-Remove : goal.replied-requires-in-Remove
@@ -59,14 +59,14 @@ pub returns-in-Ok-replied-clause-comes : goal.returns-in-Ok-replied-clause-comes
 returns-in-Ok-replied-clause-comes g c = λ xs has.
     let h = c.start.ensures.starts xs computes (Some c.args.key) (g.K.PartialEq.eq c.args.key) has (computes_so g.K.PartialEq.eq ((hashed_by g.S.Hasher.Hasher.finish g.S.Hasher.Hasher.write g.S.BuildHasher.build_hasher g.K.Hash.hash_input) c.args.hasher.now) c.args.setting c.args.key _ c.hash_of-hash.ensures _ c.compute-call.ensures) in
     let a = comes_asking g.K.PartialEq.eq g.K.PartialEq.eq (hashed_by g.S.Hasher.Hasher.finish g.S.Hasher.Hasher.write g.S.BuildHasher.build_hasher g.K.Hash.hash_input) c.args.hasher c.args.setting computes (Some c.args.key) (g.K.PartialEq.eq c.args.key) xs c.start.new.machine c.start.new.memory c.start.result h _ _ c.in-Ok-Asks.asked c.in-Ok-Asks.is c.in-Ok-Asks.field-0-is refl in
-    subst (ComesTo g.K.PartialEq.eq ((hashed_by g.S.Hasher.Hasher.finish g.S.Hasher.Hasher.write g.S.BuildHasher.build_hasher g.K.Hash.hash_input) c.args.hasher.now) c.args.setting c.replied-in-Remove.new.memory c.args.key xs (Computing (ComputesAs g.F.FnOnce c.args.compute))) c.in-Ok-replied.is (comes_told g.K.PartialEq.eq (hashed_by g.S.Hasher.Hasher.finish g.S.Hasher.Hasher.write g.S.BuildHasher.build_hasher g.K.Hash.hash_input) c.args.hasher c.start.new.machine.hasher a.1 c.args.setting xs c.replied-in-Remove.new.memory (Computing (ComputesAs g.F.FnOnce c.args.compute)) reply.Remove (found_by (g.K.PartialEq.eq c.args.key) xs)
+    subst (HasOutcome g.K.PartialEq.eq ((hashed_by g.S.Hasher.Hasher.finish g.S.Hasher.Hasher.write g.S.BuildHasher.build_hasher g.K.Hash.hash_input) c.args.hasher.now) c.args.setting c.replied-in-Remove.new.memory c.args.key xs (Computing (ComputesAs g.F.FnOnce c.args.compute))) c.in-Ok-replied.is (comes_told g.K.PartialEq.eq (hashed_by g.S.Hasher.Hasher.finish g.S.Hasher.Hasher.write g.S.BuildHasher.build_hasher g.K.Hash.hash_input) c.args.hasher c.start.new.machine.hasher a.1 c.args.setting xs c.replied-in-Remove.new.memory (Computing (ComputesAs g.F.FnOnce c.args.compute)) reply.Remove (found_by (g.K.PartialEq.eq c.args.key) xs)
     (c.shown_at.result, subst (λ o. g.F.FnOnce.post c.args.compute (c.shown_at.result, tt) o) c.in-Remove.is c.compute.ensures, shown_found c.start.new.memory (g.K.PartialEq.eq c.args.key) xs c.in-Ok-Asks.asked a.2 _ c.shown_at.ensures) c.args.key refl c.replied-in-Remove.result (c.replied-in-Remove.ensures.comes xs computes c.args.key c.in-Ok-Asks.asked a.0 tt))
 
 pub returns-in-Remove-clause-comes : goal.returns-in-Remove-clause-comes
 returns-in-Remove-clause-comes g c = λ xs has.
     let h = c.start.ensures.starts xs computes (Some c.args.key) (g.K.PartialEq.eq c.args.key) has (computes_so g.K.PartialEq.eq ((hashed_by g.S.Hasher.Hasher.finish g.S.Hasher.Hasher.write g.S.BuildHasher.build_hasher g.K.Hash.hash_input) c.args.hasher.now) c.args.setting c.args.key _ c.hash_of-hash.ensures _ c.compute-call.ensures) in
     let a = comes_asking g.K.PartialEq.eq g.K.PartialEq.eq (hashed_by g.S.Hasher.Hasher.finish g.S.Hasher.Hasher.write g.S.BuildHasher.build_hasher g.K.Hash.hash_input) c.args.hasher c.args.setting computes (Some c.args.key) (g.K.PartialEq.eq c.args.key) xs c.start.new.machine c.start.new.memory c.start.result h _ _ c.in-Ok-Asks.asked c.in-Ok-Asks.is c.in-Ok-Asks.field-0-is refl in
-    subst (ComesTo g.K.PartialEq.eq ((hashed_by g.S.Hasher.Hasher.finish g.S.Hasher.Hasher.write g.S.BuildHasher.build_hasher g.K.Hash.hash_input) c.args.hasher.now) c.args.setting c.replied-in-Remove.new.memory c.args.key xs (Computing (ComputesAs g.F.FnOnce c.args.compute))) c.in-Err-replied-2.is (comes_told g.K.PartialEq.eq (hashed_by g.S.Hasher.Hasher.finish g.S.Hasher.Hasher.write g.S.BuildHasher.build_hasher g.K.Hash.hash_input) c.args.hasher c.start.new.machine.hasher a.1 c.args.setting xs c.replied-in-Remove.new.memory (Computing (ComputesAs g.F.FnOnce c.args.compute)) reply.Remove (found_by (g.K.PartialEq.eq c.args.key) xs)
+    subst (HasOutcome g.K.PartialEq.eq ((hashed_by g.S.Hasher.Hasher.finish g.S.Hasher.Hasher.write g.S.BuildHasher.build_hasher g.K.Hash.hash_input) c.args.hasher.now) c.args.setting c.replied-in-Remove.new.memory c.args.key xs (Computing (ComputesAs g.F.FnOnce c.args.compute))) c.in-Err-replied-2.is (comes_told g.K.PartialEq.eq (hashed_by g.S.Hasher.Hasher.finish g.S.Hasher.Hasher.write g.S.BuildHasher.build_hasher g.K.Hash.hash_input) c.args.hasher c.start.new.machine.hasher a.1 c.args.setting xs c.replied-in-Remove.new.memory (Computing (ComputesAs g.F.FnOnce c.args.compute)) reply.Remove (found_by (g.K.PartialEq.eq c.args.key) xs)
     (c.shown_at.result, subst (λ o. g.F.FnOnce.post c.args.compute (c.shown_at.result, tt) o) c.in-Remove.is c.compute.ensures, shown_found c.start.new.memory (g.K.PartialEq.eq c.args.key) xs c.in-Ok-Asks.asked a.2 _ c.shown_at.ensures) c.args.key refl c.replied-in-Remove.result (c.replied-in-Remove.ensures.comes xs computes c.args.key c.in-Ok-Asks.asked a.0 tt))
 
 pub replied-requires-in-Abort : goal.replied-requires-in-Abort

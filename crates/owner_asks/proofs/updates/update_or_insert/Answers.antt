@@ -5,7 +5,7 @@ use Rattle.std.proofs.Common.{◌≡◌, ◌∙◌, ap, refl, inl, subst}
 use Rattle.papaya_raw.specs.declared.machines.asking.MachineReply.TheVariants as reply
 use Rattle.owner_calls.specs.Given.CallersKind.{updates_or_inserts}
 use Rattle.owner_calls.specs.Given.CallersPairs.{IsTold}
-use Rattle.owner_asks.specs.Asks.Closures.{ComesTo, UpdatingOrStoring}
+use Rattle.owner_asks.specs.Asks.Closures.{HasOutcome, UpdatingOrStoring}
 use Rattle.seize_words.specs.declared.refused.RefusedKey.{RefusedKey}
 use Rattle.owner_calls.specs.Owned.Calling.{HasStopped, stop_by}
 use Rattle.owner_calls.specs.Owned.Owned.{hashed_by}
@@ -60,7 +60,7 @@ returns-in-Ok-clause-comes g c = λ xs has.
     let h = c.start.ensures.starts xs updates_or_inserts (Some c.args.key) (g.K.PartialEq.eq c.args.key) has (updates_or_inserts_so g.K.PartialEq.eq ((hashed_by g.S.Hasher.Hasher.finish g.S.Hasher.Hasher.write g.S.BuildHasher.build_hasher g.K.Hash.hash_input) c.args.hasher.now) c.args.setting c.args.key _ c.hash_of-hash.ensures _ c.update_or_insert_with-call.ensures) in
     let a = comes_asking g.K.PartialEq.eq g.K.PartialEq.eq (hashed_by g.S.Hasher.Hasher.finish g.S.Hasher.Hasher.write g.S.BuildHasher.build_hasher g.K.Hash.hash_input) c.args.hasher c.args.setting updates_or_inserts (Some c.args.key) (g.K.PartialEq.eq c.args.key) xs c.start.new.machine c.start.new.memory c.start.result h _ _ _ c.in-Ok-Asks-Some.is c.in-Ok-Asks-Some.field-0-is c.in-Ok-Asks-Some.field-0-0-is in
     let w = a.2 in
-    subst (ComesTo g.K.PartialEq.eq ((hashed_by g.S.Hasher.Hasher.finish g.S.Hasher.Hasher.write g.S.BuildHasher.build_hasher g.K.Hash.hash_input) c.args.hasher.now) c.args.setting c.replied.new.memory c.args.key xs (UpdatingOrStoring (FnOnceReturnsAt g.F.FnOnce c.args.make) (λ value. value ≡ c.args.value))) c.in-Ok.is (comes_told g.K.PartialEq.eq (hashed_by g.S.Hasher.Hasher.finish g.S.Hasher.Hasher.write g.S.BuildHasher.build_hasher g.K.Hash.hash_input) c.args.hasher c.start.new.machine.hasher a.1 c.args.setting xs c.replied.new.memory (UpdatingOrStoring (FnOnceReturnsAt g.F.FnOnce c.args.make) (λ value. value ≡ c.args.value)) (reply.Insert c.make-new.result) (Some (w.0, w.1))
+    subst (HasOutcome g.K.PartialEq.eq ((hashed_by g.S.Hasher.Hasher.finish g.S.Hasher.Hasher.write g.S.BuildHasher.build_hasher g.K.Hash.hash_input) c.args.hasher.now) c.args.setting c.replied.new.memory c.args.key xs (UpdatingOrStoring (FnOnceReturnsAt g.F.FnOnce c.args.make) (λ value. value ≡ c.args.value))) c.in-Ok.is (comes_told g.K.PartialEq.eq (hashed_by g.S.Hasher.Hasher.finish g.S.Hasher.Hasher.write g.S.BuildHasher.build_hasher g.K.Hash.hash_input) c.args.hasher c.start.new.machine.hasher a.1 c.args.setting xs c.replied.new.memory (UpdatingOrStoring (FnOnceReturnsAt g.F.FnOnce c.args.make) (λ value. value ≡ c.args.value)) (reply.Insert c.make-new.result) (Some (w.0, w.1))
     (c.pair_at.result.1, c.make-new.ensures, (c.pair_at.ensures w.0 w.1 w.2).1) c.args.key w.3 c.replied.result (c.replied.ensures.comes xs updates_or_inserts c.args.key (Some c.in-Ok-Asks-Some.word) a.0 tt))
 
 pub returns-in-Err-replied-clause-comes : goal.returns-in-Err-replied-clause-comes
@@ -68,7 +68,7 @@ returns-in-Err-replied-clause-comes g c = λ xs has.
     let h = c.start.ensures.starts xs updates_or_inserts (Some c.args.key) (g.K.PartialEq.eq c.args.key) has (updates_or_inserts_so g.K.PartialEq.eq ((hashed_by g.S.Hasher.Hasher.finish g.S.Hasher.Hasher.write g.S.BuildHasher.build_hasher g.K.Hash.hash_input) c.args.hasher.now) c.args.setting c.args.key _ c.hash_of-hash.ensures _ c.update_or_insert_with-call.ensures) in
     let a = comes_asking g.K.PartialEq.eq g.K.PartialEq.eq (hashed_by g.S.Hasher.Hasher.finish g.S.Hasher.Hasher.write g.S.BuildHasher.build_hasher g.K.Hash.hash_input) c.args.hasher c.args.setting updates_or_inserts (Some c.args.key) (g.K.PartialEq.eq c.args.key) xs c.start.new.machine c.start.new.memory c.start.result h _ _ _ c.in-Ok-Asks-Some.is c.in-Ok-Asks-Some.field-0-is c.in-Ok-Asks-Some.field-0-0-is in
     let w = a.2 in
-    let e = subst (ComesTo g.K.PartialEq.eq ((hashed_by g.S.Hasher.Hasher.finish g.S.Hasher.Hasher.write g.S.BuildHasher.build_hasher g.K.Hash.hash_input) c.args.hasher.now) c.args.setting c.replied.new.memory c.args.key xs (UpdatingOrStoring (FnOnceReturnsAt g.F.FnOnce c.args.make) (λ value. value ≡ c.args.value))) c.in-Err-replied.is (comes_told g.K.PartialEq.eq (hashed_by g.S.Hasher.Hasher.finish g.S.Hasher.Hasher.write g.S.BuildHasher.build_hasher g.K.Hash.hash_input) c.args.hasher c.start.new.machine.hasher a.1 c.args.setting xs c.replied.new.memory (UpdatingOrStoring (FnOnceReturnsAt g.F.FnOnce c.args.make) (λ value. value ≡ c.args.value)) (reply.Insert c.make-new.result) (Some (w.0, w.1))
+    let e = subst (HasOutcome g.K.PartialEq.eq ((hashed_by g.S.Hasher.Hasher.finish g.S.Hasher.Hasher.write g.S.BuildHasher.build_hasher g.K.Hash.hash_input) c.args.hasher.now) c.args.setting c.replied.new.memory c.args.key xs (UpdatingOrStoring (FnOnceReturnsAt g.F.FnOnce c.args.make) (λ value. value ≡ c.args.value))) c.in-Err-replied.is (comes_told g.K.PartialEq.eq (hashed_by g.S.Hasher.Hasher.finish g.S.Hasher.Hasher.write g.S.BuildHasher.build_hasher g.K.Hash.hash_input) c.args.hasher c.start.new.machine.hasher a.1 c.args.setting xs c.replied.new.memory (UpdatingOrStoring (FnOnceReturnsAt g.F.FnOnce c.args.make) (λ value. value ≡ c.args.value)) (reply.Insert c.make-new.result) (Some (w.0, w.1))
     (c.pair_at.result.1, c.make-new.ensures, (c.pair_at.ensures w.0 w.1 w.2).1) c.args.key w.3 c.replied.result (c.replied.ensures.comes xs updates_or_inserts c.args.key (Some c.in-Ok-Asks-Some.word) a.0 tt)) in (e.0, e.1, refl)
 
 pub returns-in-Ok-Asks-None-clause-comes : goal.returns-in-Ok-Asks-None-clause-comes

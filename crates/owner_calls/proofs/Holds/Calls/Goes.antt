@@ -26,7 +26,7 @@ use Rattle.map_straight.specs.Given.ResizeDeclared.yielding.Yielding.{Yielding}
 use Rattle.map_straight.specs.Given.ResizeDeclared.yielding.Yielding.TheVariants as outcome
 use Rattle.papaya_raw.specs.Answers.{ended}
 use Rattle.papaya_raw.specs.Call.{root_found, next_found, key_read, pair_read, word_read, word_found, tried, looked, first_made, next_made, disposed, helped, copied}
-use Rattle.papaya_raw.specs.CallPoints.{going, standing, over, ending, following_made, storing, burying, at_gap, gap_by, asking_at, pair_by, tableless, at_free, at_last, at_pair, told_of, entering, went_on, changed, counted, having_met}
+use Rattle.papaya_raw.specs.CallPoints.{going, standing, over, ending, following_made, storing, burying, at_gap, gap_by, asking_at, pair_by, tableless, at_free, at_last, at_pair, after_finding, entering, continued_in, changed, counted, having_met}
 use Rattle.papaya_raw.specs.declared.machines.answer.KeyAnswer.{KeyAnswer}
 use Rattle.papaya_raw.specs.declared.machines.answer.KeyAnswer.TheVariants as answers
 use Rattle.papaya_raw.specs.declared.machines.answer.Called.{Called}
@@ -47,7 +47,7 @@ use Rattle.papaya_raw.specs.declared.machines.call.Calling.TheVariants as at
 use Rattle.papaya_raw.specs.declared.machines.call.KeyCall.{KeyCall}
 use Rattle.owner_whole.proofs.Given.PointsCalls.Asked.{passed_so}
 use Rattle.map_straight.proofs.Given.RuleKeys.Always.{Always, always_if}
-use Rattle.owner_calls.specs.Holds.Came.{TellsOwn, EndsOwn, OwnsAt, Owns}
+use Rattle.owner_calls.specs.Holds.Came.{AnswerNamesOwn, EndsOwn, OwnsAt, Owns}
 
 -- an end that tells nothing of its own block
 abbrev IsPlain : End → Type 0
@@ -66,7 +66,7 @@ plain_ends (ends.Refused fault) plain = refl
 module _ {K V Q : Type 0} where
   -- what it tells of its own block
   abbrev pub TellsSo : KeyCall K V Q × Called (Node K V) → Type 0
-  TellsSo (p, called.Done answer) = TellsOwn p.own answer
+  TellsSo (p, called.Done answer) = AnswerNamesOwn p.own answer
   TellsSo (p, called.Refused fault) = p.own ≡ 0
   TellsSo _ = Unit {0}
 
@@ -168,7 +168,7 @@ module _ {K V Q : Type 0} where
         either p.own (block_in word == p.replies.pair) (pair_by p.replies.present p word) (pair_by tells.Nothing p word) (pair_so (λ r. cc (e, r)) p.replies.present word)
         (pair_so (λ r. cc (e, r)) tells.Nothing word)
 
-    told_so : (loaded : Bool) (word : ℕ) (found : Finding) → GoesWith p.own (told_of loaded p word found)
+    told_so : (loaded : Bool) (word : ℕ) (found : Finding) → GoesWith p.own (after_finding loaded p word found)
     told_so loaded word finds.Free = free_so p.missing refl
     told_so loaded word finds.Passed =
         passed_so (GoesWith p.own) (having_met p word) (λ next. (record { code = o.code; live = o.live; removes = o.removes; point = tt }, tt, refl))
@@ -184,7 +184,7 @@ module _ {K V Q : Type 0} where
     pub entering_so : (table : Table) → GoesWith p.own (entering p table)
     entering_so table = (record { code = o.code; live = o.live; removes = o.removes; point = tt }, tt, refl)
 
-    on_so : (table : Table) → GoesWith p.own (went_on p table)
+    on_so : (table : Table) → GoesWith p.own (continued_in p table)
     on_so table =
         either p.own (is_incremental p.setting.mode) _ (going p (at.Copies (copying_all p.setting p.trial.table table)))
         (either p.own p.helped (entering p table) _ (entering_so table) (record { code = o.code; live = o.live; removes = o.removes; point = tt }, tt, refl))
@@ -242,7 +242,7 @@ module _ {K V Q : Type 0} where
     copied_so (c, outcome.Done table) = entering_so table
     copied_so (c, outcome.Refused fault) = ending_so (ends.Refused fault) tt
 
-    pub disposed_so : (answer : KeyAnswer) → TellsOwn p.own answer → (end : Dispose × Settled (Node K V)) → GoesWith p.own (disposed p answer end)
+    pub disposed_so : (answer : KeyAnswer) → AnswerNamesOwn p.own answer → (end : Dispose × Settled (Node K V)) → GoesWith p.own (disposed p answer end)
     disposed_so answer so (d, settled.Goes) = on_to (at.Disposes d answer) so
     disposed_so answer so (d, settled.Waits) = waiting (at.Disposes d answer) so
     disposed_so answer so (d, settled.Gave value) = giving (at.Disposes d answer) value so

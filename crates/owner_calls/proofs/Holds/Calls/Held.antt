@@ -19,7 +19,7 @@ use Rattle.map_straight.specs.Given.RuleChart.{Chart}
 use Rattle.map_straight.specs.Given.RuleWords.{Blocks}
 use Rattle.owner_whole.specs.Given.PointsFactsCalls.{Unchanged}
 use Rattle.owner_whole.specs.Given.CallersPairs.{Given}
-use Rattle.owner_whole.specs.Given.CallersSights.{Sight}
+use Rattle.owner_whole.specs.Given.CallersSights.{Visible}
 use Rattle.owner_whole.specs.Given.CallersTogether.{CallOnKey, OnKey as OnKeyOf, IsBegun, Gets, Removes, Inserts, TriesToInsert, Computes, Updates, UpdatesOrInserts, TriesToInsertWith, RemovesIf, begun_at}
 use Rattle.owner_whole.proofs.Whole.Contents.Runs.{runs_begin}
 use Rattle.owner_whole.proofs.Whole.Keys.Whole.{calls_go_on_alone}
@@ -39,7 +39,7 @@ use Rattle.owner_calls.proofs.Holds.Calls.Steps.{OwnComes, step_comes}
 use Rattle.owner_calls.proofs.Holds.Calls.Goes.{TellsSo}
 use Rattle.owner_calls.proofs.Holds.Stood.{StandsStill, still_first, stood_beside}
 use Rattle.owner_calls.specs.Holds.Calls.{CallsTakeNoneAway}
-use Rattle.owner_calls.specs.Holds.Came.{NoneCame, CameBy, TellsOwn, Owns, HasOnly, HasCome, ComesWith, stored_at, stored_by}
+use Rattle.owner_calls.specs.Holds.Came.{NoneCame, CameBy, AnswerNamesOwn, Owns, HasOnly, HasCome, HasOutcome, stored_at, stored_by}
 
 module _ {K V Q S : Type 0} (asks : Q → K → Bool) (same : K → K → Bool) (hashes : S → K → ℕ) (b : Bor S) (setting : Setting) (m0 : Mem (Node K V)) (xs : List (K × V)) (h : Holds same (hashes b.now) setting m0 xs) where
   abbrev hash : K → ℕ
@@ -48,7 +48,7 @@ module _ {K V Q S : Type 0} (asks : Q → K → Bool) (same : K → K → Bool) 
   abbrev slot_of : ℕ → ℕ
   slot_of i = setting.slot
 
-  abbrev AloneIn : World (Node K V) → Chart K → Blocks → (ℕ → Sight) → CallOnKey K V Q → Type 0
+  abbrev AloneIn : World (Node K V) → Chart K → Blocks → (ℕ → Visible) → CallOnKey K V Q → Type 0
   AloneIn w c blocks sights u = IsAlone same hash asks setting slot_of w c blocks sights (OnKeyOf u)
 
   abbrev Still : Mem (Node K V) → Type 0
@@ -79,7 +79,7 @@ module _ {K V Q S : Type 0} (asks : Q → K → Bool) (same : K → K → Bool) 
   same_word : (told word own : ℕ) → told ≡ own → ◌≡◌ {A = Option ℕ} (Some told) (Some word) → Apart own → Apart word
   same_word told word own is e apart = subst Apart (let f : told ≡ word = cc e in sym is ∙ f) apart
 
-  stores_apart : (own : ℕ) → Apart own → (answer : KeyAnswer) → TellsOwn own answer → StoresApart answer
+  stores_apart : (own : ℕ) → Apart own → (answer : KeyAnswer) → AnswerNamesOwn own answer → StoresApart answer
   stores_apart own apart answers.Absent tells word e = absurd (cc e)
   stores_apart own apart (answers.Found found) tells word e = absurd (cc e)
   stores_apart own apart (answers.Stored told) tells word e = same_word told word own tells e apart
@@ -91,7 +91,7 @@ module _ {K V Q S : Type 0} (asks : Q → K → Bool) (same : K → K → Bool) 
   Gives m (Ok answer) = CameBy m0 m answer × Still m × StoresApart answer
   Gives m (Err fault) = NoneCame m0 m × Still m
 
-  module _ (w : World (Node K V)) (c : Chart K) (blocks : Blocks) (sights : ℕ → Sight) (u : CallOnKey K V Q) (alone : AloneIn w c blocks sights u) (here : Keeps u w.memory c blocks)
+  module _ (w : World (Node K V)) (c : Chart K) (blocks : Blocks) (sights : ℕ → Visible) (u : CallOnKey K V Q) (alone : AloneIn w c blocks sights u) (here : Keeps u w.memory c blocks)
       (m2 : Mem (Node K V)) (p2 : KeyCall K V Q) (told : Called (Node K V)) (s : Steps Took value_at w.memory (call_plan asks same hash u.call) m2 (p2, told)) (l : StepLeads same hash asks setting slot_of w c blocks u m2 p2 told) where
     comes : Owns p2 × TellsSo (p2, told) × HasOnly m0 m2 p2 × OwnComes w.memory u.call.own p2.own
     comes =
@@ -166,14 +166,14 @@ module _ {K V Q S : Type 0} (asks : Q → K → Bool) (same : K → K → Bool) 
   abbrev StaysApart : Mem (Node K V) → Result Stop Fault → Type 0
   StaysApart m result = Still m × ((word : ℕ) → stored_at result ≡ Some word → Apart word)
 
-  at_stop : (x : OnKey K V Q S) (m : Mem (Node K V)) (result : Result Stop Fault) → StopsAt asks same hashes b setting m0 xs h Keeps Gives x m result → ComesWith m0 m x result × StaysApart m result
+  at_stop : (x : OnKey K V Q S) (m : Mem (Node K V)) (result : Result Stop Fault) → StopsAt asks same hashes b setting m0 xs h Keeps Gives x m result → HasOutcome m0 m x result × StaysApart m result
   at_stop x m (Ok (stop.Answered answer)) s = (s.0, (s.1, s.2))
   at_stop x m (Ok (stop.Asks about)) s =
       let k = s.under.course.kept in (subst (λ (y : OnKey K V Q S). HasCome m0 m y.call) (sym s.under.is) k.come, (k.still, λ word e. absurd (cc e)))
   at_stop x m (Err fault) s = (s.0, (s.1, λ word e. absurd (cc e)))
 
   take_none_away : (keys : K → Bool) (given : Given K V) (x : OnKey K V Q S) (m : Mem (Node K V)) → IsCalling asks same hashes b setting m0 keys given x m → (x2 : OnKey K V Q S) (m2 : Mem (Node K V)) (result : Result Stop Fault)
-      → RunsTo (on_key_plan asks same hashes) x m x2 m2 result → ComesWith m0 m2 x2 result × StaysApart m2 result
+      → RunsTo (on_key_plan asks same hashes) x m x2 m2 result → HasOutcome m0 m2 x2 result × StaysApart m2 result
   take_none_away keys given x m is x2 m2 result runs =
       at_stop x2 m2 result (kept_along asks same hashes b setting m0 xs h Keeps Gives steps replies keys given (first keys given) x m is x2 m2 result runs)
 

@@ -12,7 +12,7 @@ use Rattle.seize.specs.declared.advance.Advance.TheVariants as progress
 use Rattle.map_straight.proofs.Given.SeizeRuleRows.Leaving.{steps_back}
 use Rattle.map_tables.specs.declared.node.Node.{Node}
 use Rattle.papaya_raw.specs.Call.{call_plan}
-use Rattle.papaya_raw.specs.CallAsks.{with_absent, with_present, absent_told, present_told, replied, told_at}
+use Rattle.papaya_raw.specs.CallAsks.{with_absent, with_present, absent_replied, present_replied, replied, replied_at}
 use Rattle.papaya_raw.specs.CallPoints.{standing}
 use Rattle.papaya_raw.specs.declared.machines.answer.Called.{Called}
 use Rattle.papaya_raw.specs.declared.machines.answer.Called.TheVariants as called
@@ -32,13 +32,13 @@ use Rattle.papaya_raw.specs.declared.machines.call.Calling.TheVariants as at
 use Rattle.papaya_raw.specs.declared.machines.call.KeyCall.{KeyCall}
 use Rattle.owner_whole.specs.Given.CallersPairs.{Given}
 use Rattle.owner_whole.specs.Given.CallersTogether.{IsBegun, Gets, Removes, Inserts, TriesToInsert, Computes, Updates, UpdatesOrInserts, TriesToInsertWith, RemovesIf}
-use Rattle.owner_whole.specs.Strides.Ending.{GoesOn, Tells, Ends, RunsTo, stops, goes}
+use Rattle.owner_whole.specs.Strides.Ending.{Continues, EndsWith, Ends, RunsTo, stops, goes}
 use Rattle.owner_calls.specs.Owned.Machines.{on_key_after, on_key_plan, on_key_settled}
 use Rattle.owner_calls.specs.declared.machines.OnKey.{OnKey}
 use Rattle.owner_calls.specs.declared.machines.Stop.{Stop}
 use Rattle.owner_calls.specs.declared.machines.Stop.TheVariants as stop
 use Rattle.owner_whole.proofs.Strides.Runs.Steps.{may_step, ends_on}
-use Rattle.owner_calls.specs.Holds.Came.{StandsAt, NoneCame, CameBy, TellsOwn, OwnsAt, Owns, HasOnly, HasCome, ComesWith}
+use Rattle.owner_calls.specs.Holds.Came.{StandsAt, NoneCame, CameBy, AnswerNamesOwn, OwnsAt, Owns, HasOnly, HasCome, HasOutcome}
 use Rattle.owner_calls.specs.Holds.Promises.{CallsBegin, CallsStoreAlone, RepliesPutNone}
 use Rattle.owner_calls.proofs.Holds.Calls.Goes.{TellsSo, ending_so, burying_so, gap_so}
 use Rattle.owner_calls.proofs.Holds.Calls.Steps.{step_comes}
@@ -76,7 +76,7 @@ module _ {K V : Type 0} (m0 m : Mem (Node K V)) (own : ℕ) (only : (b : ℕ) (x
     | inr mine ↦ inr (mine.1 ∙ ap block_in (sym is))
   ]
 
-  pub answered : (answer : KeyAnswer) → TellsOwn own answer → CameBy m0 m answer
+  pub answered : (answer : KeyAnswer) → AnswerNamesOwn own answer → CameBy m0 m answer
   answered answers.Absent so = none_so so
   answered (answers.Found word) so = none_so so
   answered (answers.Stored word) so = but_so word so
@@ -100,10 +100,10 @@ module _ {K V Q S : Type 0} (m0 m : Mem (Node K V)) where
   next_by x (called.Done answer) owns so only = answered m0 m x.call.own only answer so
   next_by x (called.Refused fault) owns so only = none_so m0 m x.call.own only so
 
-  stopped : (x : OnKey K V Q S) (told : Advance Stop) (result : Result Stop Fault) → Next (x, told) → Tells told result → ComesWith m0 m x result
-  stopped x (progress.Done a) (Ok b) next tells = subst (λ (z : Stop). ComesWith m0 m x (Ok z)) (sym tells) (by a next)
+  stopped : (x : OnKey K V Q S) (told : Advance Stop) (result : Result Stop Fault) → Next (x, told) → EndsWith told result → HasOutcome m0 m x result
+  stopped x (progress.Done a) (Ok b) next tells = subst (λ (z : Stop). HasOutcome m0 m x (Ok z)) (sym tells) (by a next)
     where
-      by : (a : Stop) → Next (x, progress.Done a) → ComesWith m0 m x (Ok a)
+      by : (a : Stop) → Next (x, progress.Done a) → HasOutcome m0 m x (Ok a)
       by (stop.Answered answer) next = next
       by (stop.Asks asked) next = next
   stopped x (progress.Refused f) (Err g) next tells = next
@@ -114,7 +114,7 @@ module _ {K V Q S : Type 0} (m0 m : Mem (Node K V)) where
   stopped x progress.Waits (Ok b) next tells = absurd tells
   stopped x progress.Waits (Err g) next tells = absurd tells
 
-  goes_on : (x : OnKey K V Q S) (told : Advance Stop) → GoesOn told → Next (x, told) → HasCome m0 m x.call
+  goes_on : (x : OnKey K V Q S) (told : Advance Stop) → Continues told → Next (x, told) → HasCome m0 m x.call
   goes_on x progress.Goes on next = next
   goes_on x progress.Waits on next = next
   goes_on x (progress.Done a) on next = absurd on
@@ -130,7 +130,7 @@ module _ (K V Q S : Type 0) (asks : Q → K → Bool) (same : K → K → Bool) 
       subst (Next m0 m2) (sym d.2) (next_by m0 m2 (record x { call = d.0.0 }) d.0.1 c.0 c.1 c.2)
 
   pub calls_run : (x : OnKey K V Q S) (m : Mem (Node K V)) → HasCome m0 m x.call → Ends (on_key_plan asks same hashes) x m → (x2 : OnKey K V Q S) (m2 : Mem (Node K V)) (result : Result Stop Fault)
-      → RunsTo (on_key_plan asks same hashes) x m x2 m2 result → ComesWith m0 m2 x2 result
+      → RunsTo (on_key_plan asks same hashes) x m x2 m2 result → HasOutcome m0 m2 x2 result
   calls_run x m h last x2 m2 result (stops _ _ _ _ told _ s tells) = stopped m0 m2 x2 told result (next_of x m h last m2 (x2, told) s) tells
   calls_run x m h last x2 m2 result (goes _ _ x1 m1 told on s _ _ _ runs) =
       calls_run x1 m1 (goes_on m0 m1 x1 told on (next_of x m h last m1 (x1, told) s)) (ends_on (on_key_plan asks same hashes) x m last m1 x1 told on s) x2 m2 result runs
@@ -155,7 +155,7 @@ module _ {K V Q : Type 0} (p : KeyCall K V Q) (o : Owns p) where
       point = here r kind stands;
     }
 
-    absent_so : (t : Takes) (gap : Gap) (told : MachineReply V) → Stays (absent_told t p gap told).0
+    absent_so : (t : Takes) (gap : Gap) (told : MachineReply V) → Stays (absent_replied t p gap told).0
     absent_so takes.Values gap (reply.Insert value) = let r = with_absent p value in let g = gap_so r (with_told r refl refl refl refl) some gap in (g.0, g.2)
     absent_so takes.Changes gap (reply.Insert value) = let r = with_absent p value in let g = gap_so r (with_told r refl refl refl refl) some gap in (g.0, g.2)
     absent_so takes.Changes gap reply.Remove = let g = ending_so p o (ends.Refused RemoveNothing) tt in (g.0, g.2)
@@ -172,7 +172,7 @@ module _ {K V Q : Type 0} (p : KeyCall K V Q) (o : Owns p) where
     filling : (word : ℕ) (value : V) → Stays (standing (with_present p word (tells.Value value)) (at.Asks (asking.Fills word)))
     filling word value = (record { code = o.code; live = o.live; removes = o.removes; point = some }, refl)
 
-    present_so : (t : Takes) (word : ℕ) (told : MachineReply V) → Stays (present_told t p word told).0
+    present_so : (t : Takes) (word : ℕ) (told : MachineReply V) → Stays (present_replied t p word told).0
     present_so takes.Values word (reply.Insert value) = filling word value
     present_so takes.Changes word (reply.Insert value) = filling word value
     present_so takes.Changes word reply.Remove = let r = with_present p word tells.Removes in let g = burying_so r (with_told r refl refl refl refl) some word in (g.0, g.2)
@@ -193,7 +193,7 @@ module _ {K V Q : Type 0} (p : KeyCall K V Q) (o : Owns p) where
   asks_at : (stands : Calling) → p.stands ≡ stands → ((r : KeyCall K V Q) → r.there ≡ p.there → OwnsAt r stands) → (r : KeyCall K V Q) → r.there ≡ p.there → r.stands ≡ p.stands → OwnsAt r r.stands
   asks_at stands is so r kind here = subst (OwnsAt r) (sym (here ∙ is)) (so r kind)
 
-  pub told_so : (stands : Calling) → p.stands ≡ stands → OwnsAt p stands → (told : MachineReply V) → Stays (told_at stands p told).0
+  pub told_so : (stands : Calling) → p.stands ≡ stands → OwnsAt p stands → (told : MachineReply V) → Stays (replied_at stands p told).0
   told_so (at.Asks (asking.Absent gap)) is some told =
       absent_so some (asks_at (at.Asks (asking.Absent gap)) is (λ r kind e. some (sym kind ∙ e))) p.replies.takes gap told
   told_so (at.Asks (asking.Present word)) is some told =

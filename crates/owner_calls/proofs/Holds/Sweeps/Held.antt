@@ -15,7 +15,7 @@ use Rattle.papaya_raw.specs.Given.ReservesDeclared.sweep.Swept.{Swept}
 use Rattle.map_straight.specs.Given.RuleChart.{Chart}
 use Rattle.map_straight.specs.Given.RuleWords.{Blocks}
 use Rattle.owner_whole.specs.Given.CallersOverAll.{CallOverAll, begun_over_all}
-use Rattle.owner_whole.specs.Given.CallersSights.{Sight}
+use Rattle.owner_whole.specs.Given.CallersSights.{Visible}
 use Rattle.owner_whole.specs.Given.CallersTogether.{OverAll, in_slot}
 use Rattle.owner_whole.proofs.Whole.Sweeps.Leads.{sweeps_go_on_alone}
 use Rattle.owner_whole.specs.Whole.Owner.{IsAlone}
@@ -39,7 +39,7 @@ module _ {K V S : Type 0} (same : K → K → Bool) (hashes : S → K → ℕ) (
   abbrev slot_of : ℕ → ℕ
   slot_of i = setting.slot
 
-  abbrev AloneIn : World (Node K V) → Chart K → Blocks → (ℕ → Sight) → CallOverAll → Type 0
+  abbrev AloneIn : World (Node K V) → Chart K → Blocks → (ℕ → Visible) → CallOverAll → Type 0
   AloneIn w c blocks sights o = IsAlone {Q = K} same hash same setting slot_of w c blocks sights (OverAll o)
 
   -- no pair has come, and what could be looked at as the map rested stands still
@@ -56,7 +56,7 @@ module _ {K V S : Type 0} (same : K → K → Bool) (hashes : S → K → ℕ) (
   abbrev Refuses : Mem (Node K V) → Fault → Type 0
   Refuses m fault = Unit {0}
 
-  module _ (w : World (Node K V)) (c : Chart K) (blocks : Blocks) (sights : ℕ → Sight) (o : CallOverAll) (alone : AloneIn w c blocks sights o) (here : Keeps o w.memory c blocks)
+  module _ (w : World (Node K V)) (c : Chart K) (blocks : Blocks) (sights : ℕ → Visible) (o : CallOverAll) (alone : AloneIn w c blocks sights o) (here : Keeps o w.memory c blocks)
       (m2 : Mem (Node K V)) (p2 : Sweep) (end : Swept (Node K V)) (s : Steps Took value_at w.memory (sweep_plan hash o.sweep) m2 (p2, end)) where
     led : Led {Q = K} same hash same setting slot_of h.lawful w c blocks sights o alone m2 p2 end s
     led = led_on {Q = K} same hash same setting slot_of h.lawful w c blocks sights o alone m2 p2 end s h.initial

@@ -22,7 +22,7 @@ use Rattle.owner_whole.proofs.Given.CallersRows.Keep.{kept_block}
 use Rattle.owner_whole.proofs.Given.CallersTogether.Came.{came_reached}
 use Rattle.owner_whole.specs.Given.CallersKept.{IsKeptBy}
 use Rattle.owner_whole.specs.Given.CallersOverAll.{CallOverAll, come_to, gone_on}
-use Rattle.owner_whole.specs.Given.CallersSights.{Sight}
+use Rattle.owner_whole.specs.Given.CallersSights.{Visible}
 use Rattle.owner_whole.specs.Given.CallersTogether.{OverAll}
 use Rattle.owner_whole.proofs.Whole.Sweeps.Leads.{sweep_decided}
 use Rattle.owner_whole.proofs.Whole.Sweeps.Own as own
@@ -31,14 +31,14 @@ use Rattle.owner_whole.specs.Whole.Owner.{IsAlone}
 use Rattle.owner_whole.specs.Whole.WholeSweeps.{SweepLeads}
 
 module _ {K V Q : Type 0} (same : K → K → Bool) (hash : K → ℕ) (asks : Q → K → Bool) (setting : Setting) (slot : ℕ → ℕ) (lawful : AreLawful same hash)
-    (w : World (Node K V)) (c : Chart K) (blocks : Blocks) (sights : ℕ → Sight) (o : CallOverAll) (a : IsAlone {Q = Q} same hash asks setting slot w c blocks sights (OverAll o))
+    (w : World (Node K V)) (c : Chart K) (blocks : Blocks) (sights : ℕ → Visible) (o : CallOverAll) (a : IsAlone {Q = Q} same hash asks setting slot w c blocks sights (OverAll o))
     (m2 : Mem (Node K V)) (p2 : Sweep) (end : Swept (Node K V)) (steps : Steps Took value_at w.memory (sweep_plan hash o.sweep) m2 (p2, end)) where
   -- where a step leads: what can be looked at still can be, and stands where it stood
   pub record Led : Type 0 where
     pub w2 : World (Node K V)
     pub c2 : Chart K
     pub blocks2 : Blocks
-    pub sights2 : ℕ → Sight
+    pub sights2 : ℕ → Visible
     pub o2 : CallOverAll
     pub sweep : o2.sweep ≡ p2
     pub memory : w2.memory ≡ m2

@@ -19,7 +19,7 @@ use Rattle.map_tables.specs.declared.node.Node.{Node}
 use Rattle.map_tables.specs.declared.table.Table.{Table}
 use Rattle.map_tables.specs.declared.trial.Trial.{Trial}
 use Rattle.map_tables.specs.Probes.{probe_after}
-use Rattle.map_straight.specs.Given.ResizeLookup.{lookup_plan, names_pair, told, told_of, passed, beyond, answered, going}
+use Rattle.map_straight.specs.Given.ResizeLookup.{lookup_plan, names_pair, told, after_finding, passed, beyond, answered, going}
 use Rattle.map_straight.specs.Given.ResizeDeclared.lookup.Lookup.{Lookup}
 use Rattle.map_straight.specs.Given.ResizeDeclared.lookup.Looking.TheVariants as at
 use Rattle.map_straight.specs.Given.RuleChart.{Chart}
@@ -27,7 +27,7 @@ use Rattle.map_straight.specs.Given.RuleWords.{Blocks}
 use Rattle.owner_whole.specs.Given.PointsMeasures.{IsBelow}
 use Rattle.owner_whole.specs.Strides.Looking.{LooksIn, Finds, at_try, at_next}
 use Rattle.owner_calls.specs.Owned.Tries.{Nearer, TriesTo, tried_beyond}
-use Rattle.owner_whole.specs.Strides.Ending.{GoesOn}
+use Rattle.owner_whole.specs.Strides.Ending.{Continues}
 use Rattle.owner_whole.specs.Strides.Within.{IsLeast, within}
 use Rattle.owner_calls.specs.declared.tries.Tried.TheVariants as tried
 use Rattle.owner_whole.proofs.Strides.Lookups.Ends.{looks_tell, looks_on, not_done, below_here}
@@ -60,22 +60,22 @@ module _ {K V : Type 0} (keys : K → Bool) (m : Mem (Node K V)) (l : Lookup) (t
 
   -- it names a pair, which was looked at
   pub try_names : (f : Finding) (same : Bool) (v : Node K V) → may_name l.hash w ≡ true → value_at m (block_in w) ≡ Some v → same ≡ names_pair keys v → f ≡ finding l.mode Looks w same
-      → Steps Took value_at m (lookup_plan keys (at_try l trial)) m (told_of (at_try l trial) trial w f)
+      → Steps Took value_at m (lookup_plan keys (at_try l trial)) m (after_finding (at_try l trial) trial w f)
   try_names f same v named is by so = (
     Found w,
     (found, refl),
-    comes_then (value_at m) (may_name l.hash w) seeing passing (told_of (at_try l trial) trial w f) named
-        (v, is, ap (told_of (at_try l trial) trial w) (so ∙ ap (finding l.mode Looks w) by)),
+    comes_then (value_at m) (may_name l.hash w) seeing passing (after_finding (at_try l trial) trial w f) named
+        (v, is, ap (after_finding (at_try l trial) trial w) (so ∙ ap (finding l.mode Looks w) by)),
   )
 
   -- it names none that it may be
   pub try_passes : (f : Finding) (same : Bool) → may_name l.hash w ≡ false → same ≡ false → f ≡ finding l.mode Looks w same
-      → Steps Took value_at m (lookup_plan keys (at_try l trial)) m (told_of (at_try l trial) trial w f)
+      → Steps Took value_at m (lookup_plan keys (at_try l trial)) m (after_finding (at_try l trial) trial w f)
   try_passes f same other by so = (
     Found w,
     (found, refl),
-    comes_else (value_at m) (may_name l.hash w) seeing passing (told_of (at_try l trial) trial w f) other
-        (ap (told_of (at_try l trial) trial w) (so ∙ ap (finding l.mode Looks w) by)),
+    comes_else (value_at m) (may_name l.hash w) seeing passing (after_finding (at_try l trial) trial w f) other
+        (ap (after_finding (at_try l trial) trial w) (so ∙ ap (finding l.mode Looks w) by)),
   )
 
 abbrev is_none : Option Trial → Type 0
@@ -101,22 +101,22 @@ at_first l trial is = ap (λ s. record l { stands = s }) (sym is)
 -- of the finding of a try: how the lookup goes on
 module _ (l : Lookup) (trial : Trial) (w : ℕ) (f : Finding) where
   abbrev end : Lookup × Advance (Option ℕ)
-  end = told_of (at_try l trial) trial w f
+  end = after_finding (at_try l trial) trial w f
 
   pub on_next : (n : Trial) → f ≡ is.Passed → next_trial trial ≡ Some n → end ≡ (at_try l n, progress.Goes)
-  on_next n so next = ap (told_of (at_try l trial) trial w) so ∙ ap (passed (at_try l trial) trial.table) next
+  on_next n so next = ap (after_finding (at_try l trial) trial w) so ∙ ap (passed (at_try l trial) trial.table) next
 
   pub on_moved : f ≡ is.Moved → end ≡ (at_next l trial.table, progress.Goes)
-  on_moved so = ap (told_of (at_try l trial) trial w) so
+  on_moved so = ap (after_finding (at_try l trial) trial w) so
 
   pub on_free : f ≡ is.Free → end ≡ answered (at_try l trial) None
-  on_free so = ap (told_of (at_try l trial) trial w) so
+  on_free so = ap (after_finding (at_try l trial) trial w) so
 
   pub on_there : (f ≡ is.Copying) ⊎ (f ≡ is.There) → end ≡ answered (at_try l trial) (Some w)
-  on_there = ⊎_elim (λ so. ap (told_of (at_try l trial) trial w) so) (λ so. ap (told_of (at_try l trial) trial w) so)
+  on_there = ⊎_elim (λ so. ap (after_finding (at_try l trial) trial w) so) (λ so. ap (after_finding (at_try l trial) trial w) so)
 
   pub on_last : f ≡ is.Passed → next_trial trial ≡ None → end ≡ beyond (at_try l trial) trial.table
-  on_last so next = ap (told_of (at_try l trial) trial w) so ∙ ap (passed (at_try l trial) trial.table) next
+  on_last so next = ap (after_finding (at_try l trial) trial w) so ∙ ap (passed (at_try l trial) trial.table) next
 
 -- what follows from a try that was made, for who looks in this map
 module _ {K V : Type 0} (same : K → K → Bool) (hash : K → ℕ) (keys : K → Bool) (m : Mem (Node K V)) (c : Chart K) (blocks : Blocks) (begun l : Lookup) (trial : Trial)
@@ -176,7 +176,7 @@ same_within asks n m m0 l l0 q q0 em el eq =
 
 -- the least bound is lower after a step and the tries behind it
 pub lower_behind : {K V Q : Type 0} (asks : Q → K → Bool) (n : ℕ) (m m0 : Mem (Node K V)) (l l0 : Lookup) (q q0 : Q) → m0 ≡ m → l0 ≡ l → q0 ≡ q → IsLeast (λ k. within (asked_plan asks q0) k l0 m0) n
-    → (l2 : Lookup) (told : Advance (Option ℕ)) → GoesOn told → Steps Took value_at m (lookup_plan (asks q) l) m (l2, told)
+    → (l2 : Lookup) (told : Advance (Option ℕ)) → Continues told → Steps Took value_at m (lookup_plan (asks q) l) m (l2, told)
     → (l3 : Lookup) → ((i : ℕ) → within (asked_plan asks q) i l2 m ≡ true → (j : ℕ) × (j ≤ i) × (within (asked_plan asks q) j l3 m ≡ true))
     → (k : ℕ) (m4 : Mem (Node K V)) (l4 : Lookup) (q4 : Q) → m4 ≡ m → l4 ≡ l3 → q4 ≡ q → IsLeast (λ j. within (asked_plan asks q4) j l4 m4) k → k < n
 lower_behind asks n m m0 l l0 q q0 em el eq least l2 told on s l3 near k m4 l4 q4 em4 el4 eq4 least4 =

@@ -18,16 +18,16 @@ use Rattle.papaya_raw.specs.declared.machines.answer.KeyAnswer.TheVariants as an
 use Rattle.papaya_raw.specs.declared.machines.asking.MachineReply.TheVariants as reply
 use Rattle.papaya_raw.specs.declared.machines.call.KeyCall.{KeyCall}
 use Rattle.map_straight.specs.Given.RuleChart.{Chart, Phase, Holds as HoldsPair, Still, put}
-use Rattle.map_straight.specs.Given.RuleWords.{Blocks, Shows, place_word}
+use Rattle.map_straight.specs.Given.RuleWords.{Blocks, Represents, place_word}
 use Rattle.map_straight.specs.Given.RuleInWorld.{IsMapIn}
 use Rattle.map_straight.proofs.Given.RuleMoves.Writes.{put_here, put_elsewhere}
 use Rattle.map_straight.proofs.Given.RuleWorld.Hands.{current_known}
-use Rattle.owner_whole.specs.Given.PointsFactsCalls.{Change, Unchanged, Stored, Replaced, Removed, Tells}
+use Rattle.owner_whole.specs.Given.PointsFactsCalls.{Change, Unchanged, Stored, Replaced, Removed, AnswersChange}
 use Rattle.owner_whole.specs.Given.AloneAlone.{HasChanged}
 use Rattle.owner_whole.specs.Given.AloneCounted.{HasAdded, counted_at}
-use Rattle.owner_whole.specs.Given.LateFaults.{StandsInCalling}
+use Rattle.owner_whole.specs.Given.LateFaults.{HoldsInCalling}
 use Rattle.owner_whole.specs.Given.LateKinds.{MayPut}
-use Rattle.owner_whole.specs.Given.CallersAsked.{last_told, LeavesPair, LeavesNone}
+use Rattle.owner_whole.specs.Given.CallersAsked.{last_reply, LeavesPair, LeavesNone}
 use Rattle.owner_whole.specs.Given.CallersPairs.{Given, Begun, IsTold, kind_of, StoresGiven, LeavesGiven}
 use Rattle.owner_whole.specs.Given.CallersSince.{SoSince}
 use Rattle.owner_whole.specs.Given.CallersTogether.{IsBegun, Gets, Removes, Inserts, TriesToInsert, Computes, Updates, UpdatesOrInserts, TriesToInsertWith, RemovesIf, in_slot}
@@ -54,11 +54,11 @@ use Rattle.owner_calls.proofs.Owned.Owned.Standing.{blocks_below, none_there, st
 module _ {K V : Type 0} where
   abbrev pub PutsBy : Given K V → Option ℕ → K → V → Type 0
   PutsBy (Begun kind pair) about j v = pair ≡ Some (node.Pair j v)
-  PutsBy (IsTold kind its asked) about j v = (its ≡ Some j) × (last_told about asked ≡ Some (reply.Insert v))
+  PutsBy (IsTold kind its asked) about j v = (its ≡ Some j) × (last_reply about asked ≡ Some (reply.Insert v))
 
   abbrev pub TakesBy : Given K V → ℕ → Type 0
   TakesBy (Begun kind pair) o = Unit {0}
-  TakesBy (IsTold kind its asked) o = (last_told (Some o) asked ≡ Some reply.Remove) ⊎ (last_told (Some o) asked ≡ Some reply.Yes)
+  TakesBy (IsTold kind its asked) o = (last_reply (Some o) asked ≡ Some reply.Remove) ⊎ (last_reply (Some o) asked ≡ Some reply.Yes)
 
   abbrev pub LeavesBy : Given K V → Option ℕ → Type 0
   LeavesBy (Begun kind pair) about = Unit {0}
@@ -90,7 +90,7 @@ module _ {K V Q S : Type 0} (same : K → K → Bool) (asks : Q → K → Bool) 
 
   -- one that begins has nothing to tell
   begun_so : (Is : Fault → Type 0) (Last : Table → Reason → Type 0) (others : K → Bool) (of : Given K V) (call : KeyCall K V Q) → IsBegun V same hash asks setting slot_of 0 others of call
-      → StandsInCalling Is Last call.trial.table call.stands
+      → HoldsInCalling Is Last call.trial.table call.stands
   begun_so Is Last others of call (Gets q code few class) = tt
   begun_so Is Last others of call (Removes q code few class) = tt
   begun_so Is Last others of call (Inserts key value) = tt
@@ -199,7 +199,7 @@ module _ {K V Q S : Type 0} (same : K → K → Bool) (asks : Q → K → Bool) 
           (x : K × V) × (found_by keys xs ≡ Some x) × (value_at w.memory (block_in word) ≡ Some (node.Pair x.0 x.1))
           × (n : ℕ) × (n < c.stored) × (seen.pair_known n ≡ true) × (phase : Phase) × (borrowed : Bool) × (word ≡ place_word hash c seen (HoldsPair n phase borrowed))
 
-      pub met_so : (root : ℕ) → Shows hash w.memory c seen root → ((o : ℕ) → o < c.stored → seen.pair_known o ≡ true → seen.pair o ≡ blocks.pair o) → (word : ℕ)
+      pub met_so : (root : ℕ) → Represents hash w.memory c seen root → ((o : ℕ) → o < c.stored → seen.pair_known o ≡ true → seen.pair o ≡ blocks.pair o) → (word : ℕ)
           → SoSince hash c seen keys h.chart.now (answers.Found word) → Met word
       met_so root shows sees word (m, l, high, (n, (low, was, i, key, of), known, phase, borrowed, is)) =
           let x = in_list w c blocks map (same_pairs w.memory c blocks run) n (sym (run.still refl m n l high) ∙ was) i key of in
@@ -271,7 +271,7 @@ module _ {K V Q S : Type 0} (same : K → K → Bool) (asks : Q → K → Bool) 
           )
 
       abbrev TellsIt : Change → KeyAnswer → Type 0
-      TellsIt change it = Tells {V = V} same hash asks a.w 0 (in_slot setting setting.slot) a.c a.seen keys a.change change it
+      TellsIt change it = AnswersChange {V = V} same hash asks a.w 0 (in_slot setting setting.slot) a.c a.seen keys a.change change it
 
       was_replaced : (change : Change) → HasChanged same hash setting keys h.chart a.c change → (old new : ℕ) → TellsIt change (answers.Replaced old new) → Was old
       was_replaced (Replaced o n) changed old new t = let is = changed.changes.1 in was o is.1 is.0 is.2 is.3 t.0.0 t.0.1 old t.2 t.3
@@ -366,14 +366,14 @@ module _ {K V Q S : Type 0} (same : K → K → Bool) (asks : Q → K → Bool) 
       puts_first (Begun kind pair) n j v there s = sym s.2 ∙ there
       puts_first (IsTold kind its asked) n j v there s = pair_is s.1.0 s.1.1 (sym s.1.2 ∙ there) s.1.3 s.1.4
         where
-          pair_is : (key : K) (value : V) → Some (node.Pair key value) ≡ Some (node.Pair j v) → its ≡ Some key → last_told None asked ≡ Some (reply.Insert value) → (its ≡ Some j) × (last_told None asked ≡ Some (reply.Insert v))
+          pair_is : (key : K) (value : V) → Some (node.Pair key value) ≡ Some (node.Pair j v) → its ≡ Some key → last_reply None asked ≡ Some (reply.Insert value) → (its ≡ Some j) × (last_reply None asked ≡ Some (reply.Insert v))
           pair_is key value e is said = let k : key ≡ j = cc e in let x : value ≡ v = cc e in (is ∙ ap (λ z. Some z) k, said ∙ ap (λ z. Some (reply.Insert z)) x)
 
       puts_again : (g : Given K V) (o n : ℕ) (j : K) (v : V) → value_at a.w.memory (a.seen.pair n) ≡ Some (node.Pair j v) → StoresGiven hash a.w.memory a.c a.seen g (Replaced o n) → PutsBy g (Some o) j v
       puts_again (Begun kind pair) o n j v there s = sym s.2 ∙ there
       puts_again (IsTold kind its asked) o n j v there s = pair_is s.1.0 s.1.1 (sym s.1.2 ∙ there) s.1.3 s.1.4
         where
-          pair_is : (key : K) (value : V) → Some (node.Pair key value) ≡ Some (node.Pair j v) → its ≡ Some key → last_told (Some o) asked ≡ Some (reply.Insert value) → (its ≡ Some j) × (last_told (Some o) asked ≡ Some (reply.Insert v))
+          pair_is : (key : K) (value : V) → Some (node.Pair key value) ≡ Some (node.Pair j v) → its ≡ Some key → last_reply (Some o) asked ≡ Some (reply.Insert value) → (its ≡ Some j) × (last_reply (Some o) asked ≡ Some (reply.Insert v))
           pair_is key value e is said = let k : key ≡ j = cc e in let x : value ≡ v = cc e in (is ∙ ap (λ z. Some z) k, said ∙ ap (λ z. Some (reply.Insert z)) x)
 
       takes : (g : Given K V) (o : ℕ) → StoresGiven hash a.w.memory a.c a.seen g (Removed o) → TakesBy g o

@@ -10,7 +10,7 @@ use Rattle.map_tables.specs.declared.node.Node.{Node}
 use Rattle.map_straight.specs.Given.RuleChart.{Chart, Phase, Place, Empty, Holds}
 use Rattle.map_straight.specs.Given.RuleMaps.{spot_of}
 use Rattle.map_straight.specs.Given.RuleRule.{Rule}
-use Rattle.map_straight.specs.Given.RuleWords.{Blocks, Shows, place_word}
+use Rattle.map_straight.specs.Given.RuleWords.{Blocks, Represents, place_word}
 use Rattle.owner_whole.proofs.Given.CallersAsked.By.{block_of_word}
 use Rattle.seize_words.proofs.General.{same_some as same_word}
 
@@ -25,7 +25,7 @@ home_from true first t h = h
 home_from false first t h = omega (arith, h)
 
 module _ {K V : Type 0} (same : K → K → Bool) (hash : K → ℕ) (fits : (k : K) → hash k < 2 ^ 64) (incremental : Bool) (m : Mem (Node K V)) (root : ℕ) (c : Chart K) (blocks blocks2 : Blocks)
-    (rule : Rule same (spot_of hash) incremental c) (a : Shows hash m c blocks root) (b : Shows hash m c blocks2 root) where
+    (rule : Rule same (spot_of hash) incremental c) (a : Represents hash m c blocks root) (b : Represents hash m c blocks2 root) where
   cond_so : (x : Bool) (p q r : ℕ) → x ≡ true → cond x p r ≡ cond x q r → p ≡ q
   cond_so true p q r is e = e
   cond_so false p q r is e = absurd (cc is)

@@ -28,7 +28,7 @@ use Rattle.owner_whole.specs.Given.CallersKind.{Kind}
 use Rattle.owner_whole.specs.Given.CallersPairs.{Begun}
 use Rattle.owner_whole.specs.Strides.Ending.{RunsTo}
 use Rattle.owner_calls.specs.Owned.Machines.{on_key_settled, on_key_plan}
-use Rattle.owner_calls.specs.Owned.Owned.{ComesBack}
+use Rattle.owner_calls.specs.Owned.Owned.{IsReturned}
 use Rattle.owner_calls.specs.declared.machines.OnKey.{OnKey}
 use Rattle.owner_calls.specs.declared.machines.Stop.{Stop}
 use Rattle.owner_calls.proofs.Owned.Owned.HandsBack.{HasPair, KeepsPair, IsOver, pair_kept}
@@ -85,7 +85,7 @@ module _ {K V Q S : Type 0} (same : K → K → Bool) (asks : Q → K → Bool) 
   HasStill x = ((x.unstored ≡ pair) × IsOver x.call.stands) ⊎ HasPair x.call
 
   abbrev ComesSo : OnKey K V Q S → Result Stop Fault → Type 0
-  ComesSo x result = ComesBack pair result x.unstored
+  ComesSo x result = IsReturned pair result x.unstored
 
   -- where a step leads, by what the machine tells
   abbrev HasNext : OnKey K V Q S → Mem (Node K V) → Advance Stop → Type 0
@@ -128,7 +128,7 @@ module _ {K V Q S : Type 0} (same : K → K → Bool) (asks : Q → K → Bool) 
       subst (λ (y : OnKey K V Q S × Advance Stop). HasNext y.0 m2 y.1) (sym k.2) (has_step u.p u.unstored m m2 u.course k.0 k.1 (subst HasStill u.is has))
 
   pub comes_back : (x : OnKey K V Q S) (m : Mem (Node K V)) (x2 : OnKey K V Q S) (m2 : Mem (Node K V)) (result : Result Stop Fault) → RunsTo the_plan x m x2 m2 result → UnderIt x m → HasStill x
-      → ComesBack pair result x2.unstored
+      → IsReturned pair result x2.unstored
   comes_back x m x2 m2 result runs u has =
       (run_comes (λ y n. UnderIt y n × HasStill y) (λ y n r. StopsIt y n r × ComesSo y r) the_plan
       (λ y n h n2 end s. next_both UnderIt (λ z k. HasStill z) StopsIt (λ z k r. ComesSo z r) end.0 n2 end.1

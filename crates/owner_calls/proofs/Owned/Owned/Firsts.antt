@@ -7,7 +7,7 @@ use Rattle.seize_words.specs.declared.at.At.TheVariants.{Root}
 use Rattle.map_tables.specs.declared.node.Node.{Node}
 use Rattle.map_tables.specs.declared.setting.Setting.{Setting}
 use Rattle.map_straight.specs.Shown.Chain.{CountsTables, behind, shape_of, shapes_on, word_or_none}
-use Rattle.map_straight.specs.Shown.Shown.{Stands}
+use Rattle.map_straight.specs.Shown.Shown.{HasMap}
 use Rattle.map_straight.proofs.Shown.Chains.{behind_leads}
 use Rattle.map_straight.proofs.Shown.Links.{root_leads_on}
 use Rattle.map_straight.specs.Given.RuleChart.{Chart}
@@ -16,7 +16,7 @@ use Rattle.map_straight.specs.Given.RuleWords.{Blocks, root_word}
 use Rattle.map_straight.proofs.Given.RuleLaws.{links_have_tables}
 use Rattle.owner_whole.specs.Given.FinishesMakings.{IsNewChart}
 use Rattle.owner_calls.specs.Owned.Owned.{Holds}
-use Rattle.owner_calls.specs.Owned.Rooms.{ShowTables, tables_with}
+use Rattle.owner_calls.specs.Owned.Rooms.{RepresentTables, tables_with}
 use Rattle.owner_calls.proofs.Owned.Walks.{holds_stands}
 
 -- at a link there are tables of these places and turns
@@ -26,7 +26,7 @@ AreAt m link shapes = (tables : CountsTables m link) × (shapes_on m tables.0 li
 shape_as : (a b x y : ℕ) (shape : ℕ × ℕ) → shape ≡ (a, b) → a ≡ x → b ≡ y → shape ≡ (x, y)
 shape_as a b x y shape is first second = subst (λ (u : ℕ). shape ≡ (x, u)) second (subst (λ (u : ℕ). shape ≡ (u, b)) first is)
 
-module _ {K V : Type 0} (same : K → K → Bool) (hash : K → ℕ) (m : Mem (Node K V)) (setting : Setting) (c : Chart K) (blocks : Blocks) (stands : Stands same hash m setting c blocks) where
+module _ {K V : Type 0} (same : K → K → Bool) (hash : K → ℕ) (m : Mem (Node K V)) (setting : Setting) (c : Chart K) (blocks : Blocks) (stands : HasMap same hash m setting c blocks) where
   -- a link leads nowhere behind the last table
   ends_at : (link t : ℕ) → LeadsTo c blocks link t → c.past ≤ t → link ≡ 0
   ends_at link t (inl nowhere) last = nowhere.0
@@ -43,7 +43,7 @@ module _ {K V : Type 0} (same : K → K → Bool) (hash : K → ℕ) (m : Mem (N
       )
 
 module _ {K V : Type 0} (same : K → K → Bool) (hash : K → ℕ) (setting : Setting) (m : Mem (Node K V)) (xs : List (K × V)) (h : Holds same hash setting m xs) (places : ℕ) where
-  stands : Stands same hash m setting h.chart h.blocks
+  stands : HasMap same hash m setting h.chart h.blocks
   stands = holds_stands same hash setting m xs h
 
   root_there : word_at m (Root setting.root) ≡ Some (root_word hash h.chart h.blocks)
@@ -70,5 +70,5 @@ module _ {K V : Type 0} (same : K → K → Bool) (hash : K → ℕ) (setting : 
       (one_at same hash m setting h.chart h.blocks stands (root_word hash h.chart h.blocks) (max places 8) leads
       (ap (λ (c : Chart K). c.past) some.2) (ap (λ (c : Chart K). c.first) some.2) (ap (λ (c : Chart K). c.len 0) some.2))
 
-  pub first_shown : IsNewChart hash setting places h.chart → ShowTables setting m (tables_with places)
+  pub first_shown : IsNewChart hash setting places h.chart → RepresentTables setting m (tables_with places)
   first_shown new = subst (λ (link : ℕ). AreAt m link (tables_with places)) (sym (ap word_or_none root_there)) (at_root new)

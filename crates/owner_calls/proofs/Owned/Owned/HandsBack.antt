@@ -11,7 +11,7 @@ use Rattle.seize.specs.declared.rows.settle.Settled.{Settled}
 use Rattle.seize.specs.declared.rows.settle.Settled.TheVariants as settled
 use Rattle.papaya_raw.specs.Answers.{ended}
 use Rattle.papaya_raw.specs.Call.{makes_of, root_found, next_found, dropped, key_read, pair_read, word_read, word_found, tried, first_made, next_made, disposed, helped, copied, plan_at}
-use Rattle.papaya_raw.specs.CallPoints.{word_to, going, standing, over, ending, tableless, at_free, at_last, at_pair, told_of, entering, went_on, changed, counted, having_met}
+use Rattle.papaya_raw.specs.CallPoints.{word_to, going, standing, over, ending, tableless, at_free, at_last, at_pair, after_finding, entering, continued_in, changed, counted, having_met}
 use Rattle.map_tables.specs.Chunks.{is_incremental}
 use Rattle.map_straight.specs.Given.ResizeCopier.{copier_plan}
 use Rattle.map_straight.specs.Given.ResizeCopierStates.{copying_all}
@@ -155,7 +155,7 @@ module _ {K V Q : Type 0} where
       keeps_pair there.Removes so word = absurd so
       keeps_pair there.Asks so word = absurd so
 
-      keeps_told : (loaded : Bool) (word : ℕ) (found : Finding) → KeepsPair (told_of loaded p word found)
+      keeps_told : (loaded : Bool) (word : ℕ) (found : Finding) → KeepsPair (after_finding loaded p word found)
       keeps_told loaded word finds.Free = keeps_free
       keeps_told loaded word finds.Passed =
           passed_so KeepsPair (having_met p word) (λ next. record { absent = absent; present = present; own = no_tombstone; pair = some })
@@ -169,7 +169,7 @@ module _ {K V Q : Type 0} where
       keeps_entering : (table : Table) → KeepsPair (entering p table)
       keeps_entering table = record { absent = absent; present = present; own = no_tombstone; pair = some }
 
-      keeps_on : (table : Table) → KeepsPair (went_on p table)
+      keeps_on : (table : Table) → KeepsPair (continued_in p table)
       keeps_on table =
           either (is_incremental p.setting.mode) _ (going p (at.Copies (copying_all p.setting p.trial.table table)))
           (either p.helped (entering p table) _ (keeps_entering table) (record { absent = absent; present = present; own = no_tombstone; pair = some }))

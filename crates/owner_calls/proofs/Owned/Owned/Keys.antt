@@ -30,19 +30,19 @@ use Rattle.owner_whole.specs.Given.PointsSteps.{AreLawful}
 use Rattle.owner_whole.specs.Given.AloneCounted.{HasAdded, counted_at, counted_for}
 use Rattle.owner_whole.specs.Given.AloneEndings.{RunsEnd, runs_end}
 use Rattle.owner_whole.specs.Given.CallersPairs.{Given, RemovesNone, kind_of}
-use Rattle.owner_whole.specs.Given.LateFaults.{StandsInCalling}
-use Rattle.owner_whole.specs.Given.LateKinds.{IsFit, ComesFit, FaultFits, TellsFit}
+use Rattle.owner_whole.specs.Given.LateFaults.{HoldsInCalling}
+use Rattle.owner_whole.specs.Given.LateKinds.{IsFit, StepFits, FaultFits, OutcomeFits}
 use Rattle.owner_whole.proofs.Given.LateKindsKept.Laws.{calls_keep_their_kind}
-use Rattle.owner_whole.specs.Given.CallersSights.{Sight}
+use Rattle.owner_whole.specs.Given.CallersSights.{Visible}
 use Rattle.owner_whole.specs.Given.CallersTogether.{CallOnKey, OnKey as OnKeyOf, AnswersOnce, in_slot}
 use Rattle.map_straight.specs.Given.RuleInWorld.{IsMapIn}
 use Rattle.owner_whole.specs.Whole.Contents.{HasRun}
 use Rattle.owner_whole.specs.Whole.Limits.{IsForTheLast, IsTheLast}
-use Rattle.owner_whole.specs.Whole.Owner.{AtRest, IsAlone}
-use Rattle.owner_whole.specs.Whole.Whole.{GoesOn as CallGoesOn, StepsOn, StepLeads}
+use Rattle.owner_whole.specs.Whole.Owner.{IsQuiescent, IsAlone}
+use Rattle.owner_whole.specs.Whole.Whole.{Continues as CallGoesOn, StepsOn, StepLeads}
 use Rattle.owner_whole.proofs.Whole.Keys.Whole.{calls_go_on_alone}
 use Rattle.owner_whole.proofs.Whole.Keys.Ends.{calls_come_to_an_end}
-use Rattle.owner_whole.specs.Strides.Ending.{GoesOn, Ends, all_end, RunsTo}
+use Rattle.owner_whole.specs.Strides.Ending.{Continues, Ends, all_end, RunsTo}
 use Rattle.owner_calls.specs.Owned.Machines.{on_key_settled, on_key_after, on_key_plan}
 use Rattle.owner_calls.specs.declared.machines.OnKey.{OnKey}
 use Rattle.owner_calls.specs.declared.machines.Stop.{Stop}
@@ -85,14 +85,14 @@ module _ {K V Q S : Type 0} (same : K → K → Bool) (asks : Q → K → Bool) 
 
   -- where it has to tell that a table would be too long, none can follow the last one
   abbrev pub EndsAtLast : Chart K → KeyCall K V Q → Type 0
-  EndsAtLast c p = is_incremental setting.mode ≡ true → setting.initial ≤ 2 ^ 48 → StandsInCalling (IsForTheLast c) (IsTheLast c) p.trial.table p.stands
+  EndsAtLast c p = is_incremental setting.mode ≡ true → setting.initial ≤ 2 ^ 48 → HoldsInCalling (IsForTheLast c) (IsTheLast c) p.trial.table p.stands
 
   -- it is under way, and alone, since the map rested
   pub record Course (p : KeyCall K V Q) (m : Mem (Node K V)) : Type 0 where
     pub w : World (Node K V)
     pub c : Chart K
     pub blocks : Blocks
-    pub sights : ℕ → Sight
+    pub sights : ℕ → Visible
     pub change : Change
     pub alone : IsAlone same hash asks setting slot_of w c blocks sights (OnKeyOf (going change p))
     pub memory : w.memory ≡ m
@@ -107,10 +107,10 @@ module _ {K V Q S : Type 0} (same : K → K → Bool) (asks : Q → K → Bool) 
     pub w : World (Node K V)
     pub c : Chart K
     pub blocks : Blocks
-    pub sights : ℕ → Sight
+    pub sights : ℕ → Visible
     pub change : Change
     pub call : KeyCall K V Q
-    pub rests : AtRest {K = K} {V = V} {Q = Q} same hash asks setting slot_of w c blocks sights
+    pub rests : IsQuiescent {K = K} {V = V} {Q = Q} same hash asks setting slot_of w c blocks sights
     pub memory : w.memory ≡ m
     pub seen : Blocks
     pub seen_map : IsMapIn same hash (in_slot setting setting.slot) w c seen
@@ -125,8 +125,8 @@ module _ {K V Q S : Type 0} (same : K → K → Bool) (asks : Q → K → Bool) 
     pub w : World (Node K V)
     pub c : Chart K
     pub blocks : Blocks
-    pub sights : ℕ → Sight
-    pub rests : AtRest {K = K} {V = V} {Q = Q} same hash asks setting slot_of w c blocks sights
+    pub sights : ℕ → Visible
+    pub rests : IsQuiescent {K = K} {V = V} {Q = Q} same hash asks setting slot_of w c blocks sights
     pub memory : w.memory ≡ m
     pub runs : HasRun same hash setting keys m0 c0 blocks0 Unchanged w.memory c blocks
     pub counts : HasAdded setting m0 0 w.memory
@@ -140,7 +140,7 @@ module _ {K V Q S : Type 0} (same : K → K → Bool) (asks : Q → K → Bool) 
   abbrev pub CourseTo : KeyCall K V Q → Mem (Node K V) → Called (Node K V) → Type 0
   CourseTo p m called.Waits = ⊥
   CourseTo p m (called.Asks asked) =
-      Course p m × TellsFit (kind_of given).present (kind_of given).absent (kind_of given).takes {T = Node K V} (called.Asks asked) × (asks_at : Asking) × (p.stands ≡ points.Asks asks_at)
+      Course p m × OutcomeFits (kind_of given).present (kind_of given).absent (kind_of given).takes {T = Node K V} (called.Asks asked) × (asks_at : Asking) × (p.stands ≡ points.Asks asks_at)
   CourseTo p m (called.Done answer) = Answered m answer
   CourseTo p m (called.Refused fault) = IsRefused m fault × RefusalFits fault
   CourseTo p m _ = Course p m
@@ -160,7 +160,7 @@ module _ {K V Q S : Type 0} (same : K → K → Bool) (asks : Q → K → Bool) 
         (subst (λ (x : Mem (Node K V)). Steps Took value_at x (call_plan asks same hash p) m2 (p2, told)) (sym at.memory) s)
 
     fits : (m2 : Mem (Node K V)) (p2 : KeyCall K V Q) (told : Called (Node K V)) → Steps Took value_at m (call_plan asks same hash p) m2 (p2, told)
-        → ComesFit (kind_of given).present (kind_of given).absent (kind_of given).takes (p2, told)
+        → StepFits (kind_of given).present (kind_of given).absent (kind_of given).takes (p2, told)
     fits m2 p2 told s = calls_keep_their_kind asks same hash (kind_of given).present (kind_of given).absent (kind_of given).takes p at.fit m m2 (p2, told) s
 
     looks_on : (m2 : Mem (Node K V)) (p2 : KeyCall K V Q) (told : Called (Node K V)) → (l : Leading m2 p2 told) → StillLooked l.w2.memory l.blocks2
@@ -185,7 +185,7 @@ module _ {K V Q S : Type 0} (same : K → K → Bool) (asks : Q → K → Bool) 
       ends = λ bits few. (l.ends bits few (at.ends bits few)).0;
     }
 
-    course_by : (m2 : Mem (Node K V)) (p2 : KeyCall K V Q) (told : Called (Node K V)) → Leading m2 p2 told → ComesFit (kind_of given).present (kind_of given).absent (kind_of given).takes (p2, told) → CourseTo p2 m2 told
+    course_by : (m2 : Mem (Node K V)) (p2 : KeyCall K V Q) (told : Called (Node K V)) → Leading m2 p2 told → StepFits (kind_of given).present (kind_of given).absent (kind_of given).takes (p2, told) → CourseTo p2 m2 told
     course_by m2 p2 called.Goes l f = course_of m2 p2 called.Goes l l.leads f.0
     course_by m2 p2 called.Waits l f = l.leads
     course_by m2 p2 (called.Gave value) l f = course_of m2 p2 (called.Gave value) l l.leads.0 f.0
@@ -241,7 +241,7 @@ module _ {K V Q S : Type 0} (same : K → K → Bool) (asks : Q → K → Bool) 
   -- it has come to a question
   pub record AsksAt (x : OnKey K V Q S) (m : Mem (Node K V)) (asked : Option ℕ) : Type 0 where
     pub under : Under x m
-    pub fit : TellsFit (kind_of given).present (kind_of given).absent (kind_of given).takes {T = Node K V} (called.Asks asked)
+    pub fit : OutcomeFits (kind_of given).present (kind_of given).absent (kind_of given).takes {T = Node K V} (called.Asks asked)
     pub asks_at : Asking
     pub stands : under.p.stands ≡ points.Asks asks_at
 
@@ -286,7 +286,7 @@ module _ {K V Q S : Type 0} (same : K → K → Bool) (asks : Q → K → Bool) 
   OnTo : KeyCall K V Q → Option (Node K V) → Mem (Node K V) → Called (Node K V) → Type 0
   OnTo p2 o m2 cl = CallGoesOn cl × (v : Under (on_key_settled (it p2 o) cl).0 m2) × (v.p ≡ p2)
 
-  on_called : (p2 : KeyCall K V Q) (o : Option (Node K V)) (m2 : Mem (Node K V)) (cl : Called (Node K V)) → CourseTo p2 m2 cl → GoesOn (on_key_settled (it p2 o) cl).1 → OnTo p2 o m2 cl
+  on_called : (p2 : KeyCall K V Q) (o : Option (Node K V)) (m2 : Mem (Node K V)) (cl : Called (Node K V)) → CourseTo p2 m2 cl → Continues (on_key_settled (it p2 o) cl).1 → OnTo p2 o m2 cl
   unfolding OnTo
   on_called p2 o m2 called.Goes c on = (tt, record { p = p2; unstored = o; is = refl; course = c }, refl)
   on_called p2 o m2 called.Waits c on = absurd c
@@ -301,7 +301,7 @@ module _ {K V Q S : Type 0} (same : K → K → Bool) (asks : Q → K → Bool) 
   ends_from y (runs_end _ next) x u e =
       all_end x y.1 (under_may x y.1 u) (λ m2 x2 told on s.
       let k = under_back x y.1 u m2 (x2, told) s in
-      let g = on_called k.0.0 u.unstored m2 k.0.1 (course_step u.p y.1 u.course m2 k.0.0 k.0.1 k.1) (subst (GoesOn {A = Stop}) (ap (λ z. z.1) k.2) on) in
+      let g = on_called k.0.0 u.unstored m2 k.0.1 (course_step u.p y.1 u.course m2 k.0.0 k.0.1 k.1) (subst (Continues {A = Stop}) (ap (λ z. z.1) k.2) on) in
       subst (λ z. Ends the_plan z m2) (sym (ap (λ z. z.0) k.2))
       (ends_from (k.0.0, m2) (next (k.0.0, m2) (k.0.1, g.0, subst (λ p. Steps Took value_at y.1 (call_plan asks same hash p) m2 (k.0.0, k.0.1)) e k.1))
       (on_key_settled (it k.0.0 u.unstored) k.0.1).0 g.1 g.2))
@@ -313,7 +313,7 @@ module _ {K V Q S : Type 0} (same : K → K → Bool) (asks : Q → K → Bool) 
   -- what it comes to, but for the machine
   abbrev pub ComesTo : Mem (Node K V) → Result Stop Fault → Type 0
   ComesTo m (Ok (stop.Answered answer)) = Answered m answer
-  ComesTo m (Ok (stop.Asks asked)) = TellsFit (kind_of given).present (kind_of given).absent (kind_of given).takes {T = Node K V} (called.Asks asked)
+  ComesTo m (Ok (stop.Asks asked)) = OutcomeFits (kind_of given).present (kind_of given).absent (kind_of given).takes {T = Node K V} (called.Asks asked)
   ComesTo m (Err fault) = IsRefused m fault × FaultFits (kind_of given).present (kind_of given).absent (kind_of given).takes fault
 
   pub stops_at : (x : OnKey K V Q S) (m : Mem (Node K V)) (x2 : OnKey K V Q S) (m2 : Mem (Node K V)) (result : Result Stop Fault) → RunsTo the_plan x m x2 m2 result → Under x m → StopsAt x2 m2 result

@@ -6,7 +6,7 @@ use Rattle.seize.specs.World.{World}
 use Rattle.map_tables.specs.declared.node.Node.{Node}
 use Rattle.map_tables.specs.declared.setting.Setting.{Setting}
 use Rattle.map_straight.specs.Shown.Chain.{CannotGrowIn}
-use Rattle.map_straight.specs.Shown.Shown.{Stands}
+use Rattle.map_straight.specs.Shown.Shown.{HasMap}
 use Rattle.map_straight.proofs.Shown.Shapes.{grows_no_more}
 use Rattle.map_straight.specs.Given.RuleChart.{Chart}
 use Rattle.map_straight.specs.Given.RuleWords.{Blocks, root_word}
@@ -17,7 +17,7 @@ use Rattle.owner_whole.specs.Whole.Limits.{LastEnds}
 
 module _ {K V : Type 0} (same : K → K → Bool) (hash : K → ℕ) (lawful : AreLawful same hash) (setting : Setting) (w : World (Node K V)) (c : Chart K) (blocks : Blocks)
     (map : IsMapIn same hash setting w c blocks) (m : Mem (Node K V)) (memory : w.memory ≡ m) (last : LastEnds c) where
-  stands : Stands same hash m setting c blocks
+  stands : HasMap same hash m setting c blocks
   stands = record {
     map = subst (λ (x : Mem (Node K V)). IsMap same hash setting.mode setting.root x c blocks) memory map.map;
     classes = lawful.lawful.classes;

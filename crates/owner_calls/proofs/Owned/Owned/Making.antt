@@ -26,10 +26,10 @@ use Rattle.map_straight.proofs.Given.RuleMoves.Totals.{total_none}
 use Rattle.owner_whole.specs.Given.PointsSteps.{AreLawful}
 use Rattle.owner_whole.proofs.Given.PointsMaking.NewTable.{links_current}
 use Rattle.owner_whole.specs.Given.AloneCounting.{IsCounted, one_if, pairs_in}
-use Rattle.owner_whole.specs.Given.AloneFactsAloneCalls.{RestsAlone}
+use Rattle.owner_whole.specs.Given.AloneFactsAloneCalls.{AloneBetweenCalls}
 use Rattle.owner_whole.proofs.Given.AloneLone.Beside.{rests_linked}
 use Rattle.owner_whole.specs.Given.CallersTogether.{CameAbout, Together}
-use Rattle.owner_whole.specs.Given.CallersSights.{Sight}
+use Rattle.owner_whole.specs.Given.CallersSights.{Visible}
 use Rattle.map_straight.specs.Given.RuleWords.{Blocks}
 use Rattle.owner_whole.specs.Given.PointsTold.{OnlyLinks}
 use Rattle.owner_whole.proofs.Whole.Contents.Below.{none_last}
@@ -43,10 +43,10 @@ use Rattle.owner_whole.specs.Given.MapsFaultsBegins.{NeedsMemoryAlone, NeedsOn}
 use Rattle.owner_whole.specs.Given.MapsMeasuresBegins.{new_map_left}
 use Rattle.owner_whole.proofs.Given.MapsLaws.{maps_may_begin, maps_go_on, beginnings_come_nearer, free_roots_are_enough, only_memory_is_refused}
 use Rattle.owner_whole.specs.Whole.Contents.{ContentsBelow}
-use Rattle.owner_whole.specs.Whole.Owner.{AtRest}
-use Rattle.owner_whole.specs.Strides.Ending.{GoesOn, Tells, Ends, all_end, RunsTo, stops, goes}
+use Rattle.owner_whole.specs.Whole.Owner.{IsQuiescent}
+use Rattle.owner_whole.specs.Strides.Ending.{Continues, EndsWith, Ends, all_end, RunsTo, stops, goes}
 use Rattle.owner_calls.specs.Owned.Owned.{Holds}
-use Rattle.owner_calls.specs.Owned.Rooms.{ShowTables, tables_with}
+use Rattle.owner_calls.specs.Owned.Rooms.{RepresentTables, tables_with}
 use Rattle.owner_calls.proofs.Owned.Owned.Firsts.{first_shown}
 
 -- what has happened to a memory has happened from the start
@@ -111,7 +111,7 @@ module _ {K V : Type 0} (same : K → K → Bool) (hash : K → ℕ) (lawful : A
         → StepsOfMaking {Q = K} V same same setting.batch_size 1 slot_of o.w (λ m. None) (λ m i. None) o.makers 0 (making_at n) m2 (n2, told)
     leads m2 n2 told s = (makings_stand {Q = K} V same same setting.batch_size 1 slot_of o.w (λ m. None) (λ m i. None) o.makers o.together 0 (making_at n) o.its).1 m2 (n2, told) (steps_at m2 (n2, told) s)
 
-    pub opens_on : (m2 : Mem (Node K V)) (n2 : NewMap) (told : Advance Setting) → GoesOn told → Steps Took value_at m (new_map_plan n) m2 (n2, told) → Opens n2 m2 × (new_map_left n2 < new_map_left n)
+    pub opens_on : (m2 : Mem (Node K V)) (n2 : NewMap) (told : Advance Setting) → Continues told → Steps Took value_at m (new_map_plan n) m2 (n2, told) → Opens n2 m2 × (new_map_left n2 < new_map_left n)
     opens_on m2 n2 progress.Goes on s =
         let l = leads m2 n2 progress.Goes s in let to = opens_to m2 n2 progress.Goes s in (
           record {
@@ -141,13 +141,13 @@ module _ {K V : Type 0} (same : K → K → Bool) (hash : K → ℕ) (lawful : A
   opens_end n m o = ends_below (suc (new_map_left n)) n m o (omega arith)
 
   -- where it needs memory alone, it goes on so, and is refused for want of memory
-  needs_on : (n n2 : NewMap) (m m2 : Mem (Node K V)) → Opens n m → (told : Advance Setting) → GoesOn told → Steps Took value_at m (new_map_plan n) m2 (n2, told) → NeedsOn m2 (n2, told) → NeedsMemoryAlone m2 n2 n2.stands
+  needs_on : (n n2 : NewMap) (m m2 : Mem (Node K V)) → Opens n m → (told : Advance Setting) → Continues told → Steps Took value_at m (new_map_plan n) m2 (n2, told) → NeedsOn m2 (n2, told) → NeedsMemoryAlone m2 n2 n2.stands
   needs_on n n2 m m2 o progress.Goes on s needs = needs
   needs_on n n2 m m2 o progress.Waits on s needs = absurd (opens_to n m o m2 n2 progress.Waits s)
   needs_on n n2 m m2 o (progress.Done begun) on s needs = absurd on
   needs_on n n2 m m2 o (progress.Refused fault) on s needs = absurd on
 
-  refused_so : (n : NewMap) (m : Mem (Node K V)) (told : Advance Setting) (result : Result Setting Fault) → NeedsOn m (n, told) → Tells told result → IfErr result (λ fault. fault ≡ Memory)
+  refused_so : (n : NewMap) (m : Mem (Node K V)) (told : Advance Setting) (result : Result Setting Fault) → NeedsOn m (n, told) → EndsWith told result → IfErr result (λ fault. fault ≡ Memory)
   refused_so n m told (Ok begun) needs tells = tt
   refused_so n m (progress.Refused fault) (Err f) needs tells = tells ∙ needs
   refused_so n m (progress.Done begun) (Err f) needs tells = absurd tells
@@ -174,7 +174,7 @@ module _ {K V : Type 0} (same : K → K → Bool) (hash : K → ℕ) (lawful : A
     no_pairs c empty = total_none one_if c.current c.stored (λ n l. ap one_if (empty n))
 
     module _ (w : World (Node K V)) (m : Mem (Node K V)) (memory : w.memory ≡ m) (rows : (i : ℕ) → w.row i ≡ Rests) (inside : IsInside (w.uses setting.slot))
-        (begun : Setting) (answer_is : begun ≡ with_counter (at_root setting begun.root) begun.counter) (c : Chart K) (blocks : Blocks) (sights : ℕ → Sight)
+        (begun : Setting) (answer_is : begun ≡ with_counter (at_root setting begun.root) begun.counter) (c : Chart K) (blocks : Blocks) (sights : ℕ → Visible)
         (together : Together V same hash same begun slot_of w c blocks sights (λ i. None)) (new : IsNewChart hash begun places c) (c0 : Chart K) (empty0 : (n : ℕ) → c0.current n ≡ false)
         (counted0 : IsCounted begun m c0) where
       only : OnlyLinks hash begun.mode no_table c
@@ -183,10 +183,10 @@ module _ {K V : Type 0} (same : K → K → Bool) (hash : K → ℕ) (lawful : A
       empty : (n : ℕ) → c.current n ≡ false
       empty n = ap (λ g. g n) (links_current hash begun.mode no_table c only)
 
-      alone : RestsAlone (is_incremental begun.mode) 0 c
+      alone : AloneBetweenCalls (is_incremental begun.mode) 0 c
       alone = rests_linked same hash 0 begun.mode c together.ground.map.map.rule only
 
-      rests_there : AtRest {K = K} {V = V} {Q = K} same hash same begun slot_of w c blocks sights
+      rests_there : IsQuiescent {K = K} {V = V} {Q = K} same hash same begun slot_of w c blocks sights
       rests_there = record { calls = λ i. None; none = λ i. refl; together = together; rows = rows; inside = inside; alone = alone }
 
       slot_is : setting.slot ≡ begun.slot
@@ -206,7 +206,7 @@ module _ {K V : Type 0} (same : K → K → Bool) (hash : K → ℕ) (lawful : A
           blocks = blocks;
           sights = sights;
           memory = memory;
-          rests = subst (λ x. AtRest {K = K} {V = V} {Q = K} same hash same begun (λ i. x) w c blocks sights) slot_is rests_there;
+          rests = subst (λ x. IsQuiescent {K = K} {V = V} {Q = K} same hash same begun (λ i. x) w c blocks sights) slot_is rests_there;
           counted = subst (λ (x : Mem (Node K V)). IsCounted begun x c) (sym memory) (counted0 ∙ no_pairs c0 empty0 ∙ sym (no_pairs c empty));
           are = no_contents w.memory c blocks empty c.stored;
         },
@@ -226,7 +226,7 @@ module _ {K V : Type 0} (same : K → K → Bool) (hash : K → ℕ) (lawful : A
 
     -- By its result: the map rests, with no pair, and its words show the tables that it was made with.
     abbrev pub Made : Mem (Node K V) → Result Setting Fault → Type 0
-    Made m (Ok begun) = Holds same hash begun m [] × ShowTables begun m (tables_with places)
+    Made m (Ok begun) = Holds same hash begun m [] × RepresentTables begun m (tables_with places)
     Made m (Err fault) = Unit {0}
 
     shows_made : (begun : Setting) (m : Mem (Node K V)) → HoldsNew begun m → Made m (Ok begun)
@@ -235,7 +235,7 @@ module _ {K V : Type 0} (same : K → K → Bool) (hash : K → ℕ) (lawful : A
     pub runs_made : (n : NewMap) (m : Mem (Node K V)) (n2 : NewMap) (m2 : Mem (Node K V)) (result : Result Setting Fault) → RunsTo (new_map_plan {K = K} {V = V}) n m n2 m2 result → Opens n m → Made m2 result
     runs_made n m n2 m2 result (stops _ _ _ _ told _ s tells) o = by_told told result s tells
       where
-        by_told : (told : Advance Setting) (result : Result Setting Fault) → Steps Took value_at m (new_map_plan n) m2 (n2, told) → Tells told result → Made m2 result
+        by_told : (told : Advance Setting) (result : Result Setting Fault) → Steps Took value_at m (new_map_plan n) m2 (n2, told) → EndsWith told result → Made m2 result
         by_told (progress.Done begun) (Ok b) s tells = shows_made b m2 (subst (λ (x : Setting). HoldsNew x m2) (sym tells) (done_holds n m o m2 n2 begun s))
         by_told (progress.Done begun) (Err f) s tells = absurd tells
         by_told told (Err f) s tells = tt

@@ -39,7 +39,7 @@ use Rattle.map_straight.specs.Given.RuleInWorld.{IsMapIn}
 use Rattle.map_straight.specs.Given.RuleWords.{Blocks}
 use Rattle.owner_whole.specs.Given.AloneCounted.{HasAdded}
 use Rattle.owner_whole.specs.Given.AloneCounting.{IsCounted}
-use Rattle.owner_whole.specs.Given.CallersSights.{Sight}
+use Rattle.owner_whole.specs.Given.CallersSights.{Visible}
 use Rattle.owner_whole.specs.Given.CallersTogether.{Together, AllStand}
 use Rattle.owner_whole.proofs.Given.CallersRows.Keep.{kept_block, used_kept}
 use Rattle.owner_whole.proofs.Given.CallersTogether.Came.{came_reached}
@@ -114,14 +114,14 @@ module _ {K V : Type 0} (same : K → K → Bool) (hash : K → ℕ) (setting : 
   abbrev slot_of : ℕ → ℕ
   slot_of i = setting.slot
 
-  abbrev TogetherIn : World (Node K V) → Blocks → (ℕ → Sight) → Type 0
+  abbrev TogetherIn : World (Node K V) → Blocks → (ℕ → Visible) → Type 0
   TogetherIn w blocks sights = Together {K = K} {Q = K} V same hash same setting slot_of w h.chart blocks sights (λ i. None)
 
   -- it is under way
   pub record Refreshing (r : OwnerRefresh) (m : Mem (Node K V)) : Type 0 where
     pub w : World (Node K V)
     pub blocks : Blocks
-    pub sights : ℕ → Sight
+    pub sights : ℕ → Visible
     pub together : TogetherIn w blocks sights
     pub memory : w.memory ≡ m
     pub row : w.row 0 ≡ Leaves r.leave

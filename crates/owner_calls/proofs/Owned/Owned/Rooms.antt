@@ -26,23 +26,23 @@ use Rattle.owner_whole.specs.Given.PointsFactsCalls.{Unchanged}
 use Rattle.owner_whole.specs.Given.AloneCounted.{HasAdded}
 use Rattle.owner_whole.specs.Given.AloneCounting.{IsCounted, shards_sum}
 use Rattle.owner_whole.specs.Given.AloneEndings.{RunsEnd, runs_end}
-use Rattle.owner_whole.specs.Given.LateFaults.{IsRoom, RoomInReserving, RefusesRoom, RefusesSo, StandsInReserving}
+use Rattle.owner_whole.specs.Given.LateFaults.{IsRoom, RoomInReserving, RefusesRoom, RefusesSo, HoldsInReserving}
 use Rattle.owner_whole.proofs.Given.LateKindsKept.Laws.{reserves_refuse_room, reserves_ask_on}
 use Rattle.owner_whole.specs.Given.MapsAloneReserves.{LooksAtRoot, SumsUp, RootHasPlaces}
 use Rattle.owner_whole.specs.Given.MapsEndingsReserves.{HasMore, StepsOn}
-use Rattle.owner_whole.specs.Given.CallersSights.{Sight}
+use Rattle.owner_whole.specs.Given.CallersSights.{Visible}
 use Rattle.owner_whole.specs.Given.CallersTogether.{ForRoom as ForRoomOf, in_slot}
 use Rattle.owner_whole.specs.Given.CallersRooms.{CallForRoom}
 use Rattle.owner_whole.specs.Whole.Contents.{AreContents, ContentsBelow, HasRun}
 use Rattle.owner_whole.specs.Whole.Limits.{LastEnds, IsForRoom, IsTheLast}
-use Rattle.owner_whole.specs.Whole.Owner.{AtRest, IsAlone}
+use Rattle.owner_whole.specs.Whole.Owner.{IsQuiescent, IsAlone}
 use Rattle.owner_whole.specs.Whole.WholeRooms.{RoomStepLeads}
 use Rattle.owner_whole.proofs.Whole.Contents.Below.{below_stays}
 use Rattle.owner_whole.proofs.Whole.Contents.Length.{countings_come_to}
 use Rattle.owner_whole.proofs.Whole.Contents.Runs.{runs_begin}
 use Rattle.owner_whole.proofs.Whole.Keys.AtEnds.{counts_where_unchanged}
 use Rattle.owner_whole.proofs.Whole.Rooms.Whole.{rooms_begin_alone, rooms_go_on_alone, rooms_come_to_an_end}
-use Rattle.owner_whole.specs.Strides.Ending.{GoesOn, Ends, all_end, RunsTo}
+use Rattle.owner_whole.specs.Strides.Ending.{Continues, Ends, all_end, RunsTo}
 use Rattle.owner_calls.specs.Owned.Machines.{for_room_settled, for_room_after, for_room_plan}
 use Rattle.owner_calls.specs.Owned.Owned.{Holds}
 use Rattle.owner_calls.specs.Owned.Rooms.{CannotMakeRoom, HasRoomFor, NeedTooMany, RoomBy}
@@ -94,7 +94,7 @@ module _ {K V S : Type 0} (same : K → K → Bool) (hashes : S → K → ℕ) (
     pub w : World (Node K V)
     pub c : Chart K
     pub blocks : Blocks
-    pub sights : ℕ → Sight
+    pub sights : ℕ → Visible
     pub began : ℕ
     pub alone : IsAlone {Q = K} same hash same setting slot_of w c blocks sights (ForRoomOf (since began p))
     pub memory : w.memory ≡ m
@@ -104,15 +104,15 @@ module _ {K V S : Type 0} (same : K → K → Bool) (hashes : S → K → ℕ) (
     pub sums : SumsUp setting w.memory p.stands
     pub room : RoomInReserving p.stands
     pub more : p.additional ≡ additional
-    pub ends : StandsInReserving (IsForRoom c additional (length xs)) (IsTheLast c) p.stands
+    pub ends : HoldsInReserving (IsForRoom c additional (length xs)) (IsTheLast c) p.stands
 
   -- it has ended, and the map rests
   pub record HasEnded (m : Mem (Node K V)) : Type 0 where
     pub w : World (Node K V)
     pub c : Chart K
     pub blocks : Blocks
-    pub sights : ℕ → Sight
-    pub rests : AtRest {K = K} {V = V} {Q = K} same hash same setting slot_of w c blocks sights
+    pub sights : ℕ → Visible
+    pub rests : IsQuiescent {K = K} {V = V} {Q = K} same hash same setting slot_of w c blocks sights
     pub memory : w.memory ≡ m
     pub runs : RunsIt w.memory c blocks
     pub counts : HasAdded setting h.world.memory 0 w.memory
@@ -155,11 +155,11 @@ module _ {K V S : Type 0} (same : K → K → Bool) (hashes : S → K → ℕ) (
       more_then = reserves_ask_on {K = K} {V = V} hash p m m2 (p2, told) s ∙ here.more
 
       ends_of : (l : Leading m2 p2 told)
-          → StandsInReserving (IsForRoom l.c2 additional (length xs)) (IsTheLast l.c2) p2.stands × RefusesSo (IsForRoom l.c2 additional (length xs)) told
+          → HoldsInReserving (IsForRoom l.c2 additional (length xs)) (IsTheLast l.c2) p2.stands × RefusesSo (IsForRoom l.c2 additional (length xs)) told
       ends_of l =
-          subst (λ (a : ℕ). StandsInReserving (IsForRoom l.c2 a (length xs)) (IsTheLast l.c2) p2.stands × RefusesSo (IsForRoom l.c2 a (length xs)) told) here.more
+          subst (λ (a : ℕ). HoldsInReserving (IsForRoom l.c2 a (length xs)) (IsTheLast l.c2) p2.stands × RefusesSo (IsForRoom l.c2 a (length xs)) told) here.more
           (l.ends h.incremental h.few here.sums (length xs) (said_still here.w.memory here.counts)
-          (subst (λ (a : ℕ). StandsInReserving (IsForRoom here.c a (length xs)) (IsTheLast here.c) p.stands) (sym here.more) here.ends))
+          (subst (λ (a : ℕ). HoldsInReserving (IsForRoom here.c a (length xs)) (IsTheLast here.c) p.stands) (sym here.more) here.ends))
 
       course_of : (l : Leading m2 p2 told) → IsAlone {Q = K} same hash same setting slot_of l.w2 l.c2 l.blocks2 l.sights2 (ForRoomOf (since here.began p2)) → LooksAtRoot l.c2 p2.stands × SumsUp setting l.w2.memory p2.stands
           → Course p2 m2
@@ -180,7 +180,7 @@ module _ {K V S : Type 0} (same : K → K → Bool) (hashes : S → K → ℕ) (
         ends = (ends_of l).0;
       }
 
-      ended_of : (l : Leading m2 p2 told) → AtRest {K = K} {V = V} {Q = K} same hash same setting slot_of l.w2 l.c2 l.blocks2 l.sights2 → HasEnded m2
+      ended_of : (l : Leading m2 p2 told) → IsQuiescent {K = K} {V = V} {Q = K} same hash same setting slot_of l.w2 l.c2 l.blocks2 l.sights2 → HasEnded m2
       ended_of l rests = record {
         w = l.w2;
         c = l.c2;
@@ -258,7 +258,7 @@ module _ {K V S : Type 0} (same : K → K → Bool) (hashes : S → K → ℕ) (
   OnTo : Reserve → Mem (Node K V) → Yielding (Node K V) Unit → Type 0
   OnTo p2 m2 told = HasMore told × (v : Under (for_room_settled (it p2) told).0 m2) × (v.p ≡ p2)
 
-  on_told : (p2 : Reserve) (m2 : Mem (Node K V)) (told : Yielding (Node K V) Unit) → CourseTo p2 m2 told → GoesOn (for_room_settled (it p2) told).1 → OnTo p2 m2 told
+  on_told : (p2 : Reserve) (m2 : Mem (Node K V)) (told : Yielding (Node K V) Unit) → CourseTo p2 m2 told → Continues (for_room_settled (it p2) told).1 → OnTo p2 m2 told
   unfolding OnTo
   on_told p2 m2 outcome.Goes c on = (tt, record { p = p2; is = refl; course = c }, refl)
   on_told p2 m2 outcome.Waits c on = absurd c
@@ -271,7 +271,7 @@ module _ {K V S : Type 0} (same : K → K → Bool) (hashes : S → K → ℕ) (
   ends_from y (runs_end _ next) x u e =
       all_end x y.1 (under_may x y.1 u) (λ m2 x2 told on s.
       let k = under_back x y.1 u m2 (x2, told) s in
-      let g = on_told k.0.0 m2 k.0.1 (course_step u.p y.1 u.course m2 k.0.0 k.0.1 k.1) (subst (GoesOn {A = Unit}) (ap (λ z. z.1) k.2) on) in
+      let g = on_told k.0.0 m2 k.0.1 (course_step u.p y.1 u.course m2 k.0.0 k.0.1 k.1) (subst (Continues {A = Unit}) (ap (λ z. z.1) k.2) on) in
       subst (λ z. Ends the_plan z m2) (sym (ap (λ z. z.0) k.2))
       (ends_from (k.0.0, m2) (next (k.0.0, m2) (k.0.1, g.0, subst (λ p. Steps Took value_at y.1 (reserve_plan hash p) m2 (k.0.0, k.0.1)) e k.1))
       (for_room_settled (it k.0.0) k.0.1).0 g.1 g.2))

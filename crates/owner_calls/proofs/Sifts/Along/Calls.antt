@@ -21,8 +21,8 @@ use Rattle.papaya_raw.specs.declared.machines.call.KeyCall.{KeyCall}
 use Rattle.map_straight.specs.Given.RuleChart.{Chart}
 use Rattle.map_straight.specs.Given.RuleWords.{Blocks}
 use Rattle.owner_whole.specs.Given.CallersPairs.{Given}
-use Rattle.owner_whole.specs.Given.CallersSights.{Sight}
-use Rattle.owner_whole.specs.Given.CallersTogether.{CallOnKey, OnKey as OnKeyOf, IsBegun, begun_at, told_about}
+use Rattle.owner_whole.specs.Given.CallersSights.{Visible}
+use Rattle.owner_whole.specs.Given.CallersTogether.{CallOnKey, OnKey as OnKeyOf, IsBegun, begun_at, replied_about}
 use Rattle.owner_whole.proofs.Whole.Keys.Begins.{calls_begin_alone}
 use Rattle.owner_whole.proofs.Whole.Keys.Replies.{replies_lead_on}
 use Rattle.owner_whole.proofs.Whole.Keys.Whole.{calls_go_on_alone}
@@ -48,7 +48,7 @@ module _ {K V Q S : Type 0} (asks : Q → K → Bool) (same : K → K → Bool) 
   abbrev it : KeyCall K V Q → Option (Node K V) → OnKey K V Q S
   it p unstored = record { call = p; hasher = b; unstored = unstored }
 
-  abbrev pub AloneIn : World (Node K V) → Chart K → Blocks → (ℕ → Sight) → CallOnKey K V Q → Type 0
+  abbrev pub AloneIn : World (Node K V) → Chart K → Blocks → (ℕ → Visible) → CallOnKey K V Q → Type 0
   AloneIn w c blocks sights u = IsAlone same hash asks setting slot_of w c blocks sights (OnKeyOf u)
 
   -- by what is kept of a call, of the memory and of its map, and by what the call gives with its answer, or with its refusal
@@ -60,20 +60,20 @@ module _ {K V Q S : Type 0} (asks : Q → K → Bool) (same : K → K → Bool) 
     -- Each step keeps it, and gives what it is to give.
     abbrev pub StepsKeep : Type 0
     StepsKeep =
-        (w : World (Node K V)) (c : Chart K) (blocks : Blocks) (sights : ℕ → Sight) (u : CallOnKey K V Q) → AloneIn w c blocks sights u → Keeps u w.memory c blocks
+        (w : World (Node K V)) (c : Chart K) (blocks : Blocks) (sights : ℕ → Visible) (u : CallOnKey K V Q) → AloneIn w c blocks sights u → Keeps u w.memory c blocks
         → (m2 : Mem (Node K V)) (p2 : KeyCall K V Q) (told : Called (Node K V)) → Steps Took value_at w.memory (call_plan asks same hash u.call) m2 (p2, told)
         → (l : StepLeads same hash asks setting slot_of w c blocks u m2 p2 told) → Keeps (then_so u l.change2 p2) m2 l.c2 l.blocks2 × GivesTold m2 told
 
     -- So does each reply.
     abbrev pub RepliesKeep : Type 0
-    RepliesKeep = (m : Mem (Node K V)) (c : Chart K) (blocks : Blocks) (u : CallOnKey K V Q) → Keeps u m c blocks → (about : Option ℕ) (told : MachineReply V) → Keeps (told_about u about told) m c blocks
+    RepliesKeep = (m : Mem (Node K V)) (c : Chart K) (blocks : Blocks) (u : CallOnKey K V Q) → Keeps u m c blocks → (about : Option ℕ) (told : MachineReply V) → Keeps (replied_about u about told) m c blocks
 
     -- it is under way, and alone, and that is so
     pub record Course (u : CallOnKey K V Q) (m : Mem (Node K V)) : Type 0 where
       pub w : World (Node K V)
       pub c : Chart K
       pub blocks : Blocks
-      pub sights : ℕ → Sight
+      pub sights : ℕ → Visible
       pub alone : AloneIn w c blocks sights u
       pub memory : w.memory ≡ m
       pub kept : Keeps u m c blocks
@@ -153,7 +153,7 @@ module _ {K V Q S : Type 0} (asks : Q → K → Bool) (same : K → K → Bool) 
           let c = v.course in
           let law = replies_lead_on same hash asks setting slot_of h.lawful h.initial c.w c.c c.blocks c.sights v.u c.alone a.asks_at a.stands in
           record {
-            u = told_about v.u law.0.0 told;
+            u = replied_about v.u law.0.0 told;
             unstored = v.unstored;
             is = ap (λ (y : OnKey K V Q S). record y { call = (replied y.call told).0 }) v.is;
             course = record {

@@ -18,8 +18,8 @@ use Rattle.papaya_raw.specs.Given.ReservesDeclared.sweep.Swept.{Swept}
 use Rattle.papaya_raw.specs.Given.ReservesDeclared.sweep.Swept.TheVariants as swept
 use Rattle.map_straight.specs.Given.RuleChart.{Chart}
 use Rattle.map_straight.specs.Given.RuleWords.{Blocks}
-use Rattle.owner_whole.specs.Given.CallersOverAll.{CallOverAll, begun_over_all, told_of}
-use Rattle.owner_whole.specs.Given.CallersSights.{Sight}
+use Rattle.owner_whole.specs.Given.CallersOverAll.{CallOverAll, begun_over_all, with_verdict}
+use Rattle.owner_whole.specs.Given.CallersSights.{Visible}
 use Rattle.owner_whole.specs.Given.CallersTogether.{OverAll, in_slot}
 use Rattle.owner_whole.proofs.Whole.Sweeps.Begins.{sweeps_begin_alone}
 use Rattle.owner_whole.proofs.Whole.Sweeps.ToldOn.{sweeps_told_alone}
@@ -43,7 +43,7 @@ module _ {K V S : Type 0} (same : K → K → Bool) (hashes : S → K → ℕ) (
   abbrev it : Sweep → OverPairs S
   it p = record { sweep = p; hasher = b }
 
-  abbrev pub AloneIn : World (Node K V) → Chart K → Blocks → (ℕ → Sight) → CallOverAll → Type 0
+  abbrev pub AloneIn : World (Node K V) → Chart K → Blocks → (ℕ → Visible) → CallOverAll → Type 0
   AloneIn w c blocks sights o = IsAlone {Q = K} same hash same setting slot_of w c blocks sights (OverAll o)
 
   -- by what is kept of a sweep, of the memory and of its map, and by what is so where the sweep is refused
@@ -56,7 +56,7 @@ module _ {K V S : Type 0} (same : K → K → Bool) (hashes : S → K → ℕ) (
       pub w2 : World (Node K V)
       pub c2 : Chart K
       pub blocks2 : Blocks
-      pub sights2 : ℕ → Sight
+      pub sights2 : ℕ → Visible
       pub o2 : CallOverAll
       pub sweep : o2.sweep ≡ p2
       pub memory : w2.memory ≡ m2
@@ -67,19 +67,19 @@ module _ {K V S : Type 0} (same : K → K → Bool) (hashes : S → K → ℕ) (
     -- Each step leads so.
     abbrev pub StepsKeep : Type 0
     StepsKeep =
-        (w : World (Node K V)) (c : Chart K) (blocks : Blocks) (sights : ℕ → Sight) (o : CallOverAll) → AloneIn w c blocks sights o → Keeps o w.memory c blocks
+        (w : World (Node K V)) (c : Chart K) (blocks : Blocks) (sights : ℕ → Visible) (o : CallOverAll) → AloneIn w c blocks sights o → Keeps o w.memory c blocks
         → (m2 : Mem (Node K V)) (p2 : Sweep) (end : Swept (Node K V)) → Steps Took value_at w.memory (sweep_plan hash o.sweep) m2 (p2, end) → Led w m2 p2 end
 
     -- Each reply keeps it.
     abbrev pub RepliesKeep : Type 0
-    RepliesKeep = (m : Mem (Node K V)) (c : Chart K) (blocks : Blocks) (o : CallOverAll) → Keeps o m c blocks → (n : ℕ) (keeps : Bool) → Keeps (told_of o n keeps) m c blocks
+    RepliesKeep = (m : Mem (Node K V)) (c : Chart K) (blocks : Blocks) (o : CallOverAll) → Keeps o m c blocks → (n : ℕ) (keeps : Bool) → Keeps (with_verdict o n keeps) m c blocks
 
     -- it is under way, and alone, and that is so
     pub record Course (o : CallOverAll) (m : Mem (Node K V)) : Type 0 where
       pub w : World (Node K V)
       pub c : Chart K
       pub blocks : Blocks
-      pub sights : ℕ → Sight
+      pub sights : ℕ → Visible
       pub alone : AloneIn w c blocks sights o
       pub memory : w.memory ≡ m
       pub kept : Keeps o m c blocks
@@ -145,7 +145,7 @@ module _ {K V S : Type 0} (same : K → K → Bool) (hashes : S → K → ℕ) (
           let here : u.o.sweep.stands ≡ at.Asks word = ap (λ (y : OverPairs S). y.sweep.stands) (sym u.is) ∙ asks in
           let about = t.asks_about word here in
           record {
-            o = told_of u.o about.0 keeps;
+            o = with_verdict u.o about.0 keeps;
             is = ap (λ (y : OverPairs S). record y { sweep = after_reply y.sweep keeps }) u.is;
             course = record {
               w = c.w;

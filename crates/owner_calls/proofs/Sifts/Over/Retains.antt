@@ -19,10 +19,10 @@ use Rattle.map_straight.specs.Given.RuleChart.{Chart}
 use Rattle.map_straight.specs.Given.RuleWords.{Blocks}
 use Rattle.owner_whole.specs.Given.LateCovers.{times}
 use Rattle.owner_whole.specs.Given.AloneCounting.{pairs_in}
-use Rattle.owner_whole.specs.Given.CallersOverAll.{CallOverAll, told_of}
+use Rattle.owner_whole.specs.Given.CallersOverAll.{CallOverAll, with_verdict}
 use Rattle.owner_whole.specs.Whole.Limits.{IsForTheLast, IsTheLast}
 use Rattle.owner_whole.specs.Whole.SweptPairs.{AreNumbered, NumberedBelow, pairs_of, those, is_done, left_by}
-use Rattle.owner_whole.specs.Whole.WholeSweeps.{NamesNew, IsTold}
+use Rattle.owner_whole.specs.Whole.WholeSweeps.{NamesNew, IsReplied}
 use Rattle.owner_whole.proofs.Given.LateKindsKept.Rooms.Sweeping.{told_as_on}
 use Rattle.owner_whole.proofs.Whole.Contents.KeptBy.{times_here, times_other}
 use Rattle.owner_whole.proofs.Whole.Contents.Numbered.{NumberedLast, numbered_last, numbered_before, numbers_are, numbers_go}
@@ -185,7 +185,7 @@ module _ {K V S : Type 0} (same : K → K → Bool) (hashes : S → K → ℕ) (
     pub fewer : suc (unasked (number ∷ said.asked) numbered.0) ≡ unasked said.asked numbered.0
 
   module _ (said : Said) (x : OverPairs S) (m : Mem (Node K V)) (word : ℕ) (u : AsksIt said x m word) where
-    is_told : IsTold {Q = K} V same hash same setting slot_of u.asking.course.w u.asking.course.c u.asking.course.blocks u.asking.course.sights u.o
+    is_told : IsReplied {Q = K} V same hash same setting slot_of u.asking.course.w u.asking.course.c u.asking.course.blocks u.asking.course.sights u.o
     is_told =
         let c = u.asking.course in sweeps_told_alone same hash same setting slot_of h.lawful c.w c.c c.blocks c.sights u.o c.alone
 
@@ -219,7 +219,7 @@ module _ {K V S : Type 0} (same : K → K → Bool) (hashes : S → K → ℕ) (
     told keeps =
         let c = u.asking.course in let replied = is_told.replied word about.0 about.1 about.2 u.asking.asks about.3.0 keeps in
         record {
-          o = told_of u.o about.0 keeps;
+          o = with_verdict u.o about.0 keeps;
           is = ap (λ (y : OverPairs S). record y { sweep = after_reply y.sweep keeps }) u.is;
           course = record {
             w = c.w;

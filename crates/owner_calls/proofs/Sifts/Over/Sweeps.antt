@@ -28,18 +28,18 @@ use Rattle.owner_whole.specs.Given.AloneCounting.{IsCounted}
 use Rattle.owner_whole.specs.Given.AloneEndings.{RunsEnd, runs_end}
 use Rattle.owner_whole.specs.Given.LateCovers.{Came}
 use Rattle.owner_whole.specs.Given.LateFactsSweeps.{SweepingFacts}
-use Rattle.owner_whole.specs.Given.LateFaults.{StandsInSweeping}
+use Rattle.owner_whole.specs.Given.LateFaults.{HoldsInSweeping}
 use Rattle.owner_whole.specs.Given.LateToldSweeps.{IsRowOfSweep}
 use Rattle.owner_whole.specs.Given.CallersOverAll.{CallOverAll, begun_over_all, come_to}
-use Rattle.owner_whole.specs.Given.CallersSights.{Sight}
+use Rattle.owner_whole.specs.Given.CallersSights.{Visible}
 use Rattle.owner_whole.specs.Given.CallersTogether.{OverAll, in_slot}
 use Rattle.map_straight.specs.Shown.Chain.{CannotGrowIn}
 use Rattle.owner_whole.specs.Whole.Contents.{AreContents}
 use Rattle.owner_whole.specs.Whole.Limits.{IsForTheLast, IsTheLast}
 use Rattle.owner_whole.specs.Whole.LoneSweeps.{goes_once}
-use Rattle.owner_whole.specs.Whole.Owner.{AtRest, IsAlone}
+use Rattle.owner_whole.specs.Whole.Owner.{IsQuiescent, IsAlone}
 use Rattle.owner_whole.specs.Whole.SweptPairs.{HasSwept, AreNumbered, pairs_of, left_by}
-use Rattle.owner_whole.specs.Whole.WholeSweeps.{SweepsOn, SweepStepLeads, IsCountedBut, ComesOn}
+use Rattle.owner_whole.specs.Whole.WholeSweeps.{SweepsOn, SweepStepLeads, IsCountedBut, AdvancesFrom}
 use Rattle.owner_whole.proofs.Whole.Contents.Numbered.{numbers_are, numbers_go}
 use Rattle.owner_whole.proofs.Whole.Contents.Swept.{swept_begins, refused, sweeps_leave}
 use Rattle.owner_whole.proofs.Whole.Sweeps.Begins.{sweeps_begin_alone}
@@ -47,7 +47,7 @@ use Rattle.owner_whole.proofs.Whole.Sweeps.Counting.{swept_pairs_counted}
 use Rattle.owner_whole.proofs.Whole.Sweeps.Ends.{sweeps_come_to_an_end}
 use Rattle.owner_whole.proofs.Whole.Sweeps.Leads.{sweeps_go_on_alone}
 use Rattle.owner_whole.proofs.Whole.Sweeps.Own as own
-use Rattle.owner_whole.specs.Strides.Ending.{GoesOn, Ends, all_end, RunsTo}
+use Rattle.owner_whole.specs.Strides.Ending.{Continues, Ends, all_end, RunsTo}
 use Rattle.owner_calls.specs.Owned.Owned.{Holds}
 use Rattle.owner_calls.specs.Sifts.Sweeping.{over_pairs_plan, over_pairs_after, over_pairs_settled}
 use Rattle.owner_calls.specs.declared.sweeping.OverPairs.{OverPairs}
@@ -59,7 +59,7 @@ use Rattle.owner_whole.proofs.Strides.Runs.Comes.{NextOf, run_comes}
 
 -- only a walk is ready for the next pair, and only a retaining asks
 module _ {K V Q : Type 0} (same : K → K → Bool) (hash : K → ℕ) (asks : Q → K → Bool) (setting : Setting) (slot : ℕ → ℕ) (lawful : AreLawful same hash)
-    (w : World (Node K V)) (c : Chart K) (blocks : Blocks) (sights : ℕ → Sight) (o : CallOverAll) (a : IsAlone {Q = Q} same hash asks setting slot w c blocks sights (OverAll o)) where
+    (w : World (Node K V)) (c : Chart K) (blocks : Blocks) (sights : ℕ → Visible) (o : CallOverAll) (a : IsAlone {Q = Q} same hash asks setting slot w c blocks sights (OverAll o)) where
   facts_at : (x : Sweeping) → o.sweep.stands ≡ x → (IsRowOfSweep x → ⊥)
       → SweepingFacts same hash w 0 (in_slot setting (slot 0)) c (own.seen same hash asks setting slot lawful w c blocks sights o a) o.began o.sweep x
   facts_at x is none =
@@ -93,11 +93,11 @@ module _ {K V S : Type 0} (same : K → K → Bool) (hashes : S → K → ℕ) (
   abbrev pub it : Sweep → OverPairs S
   it p = record { sweep = p; hasher = b }
 
-  abbrev AloneIn : World (Node K V) → Chart K → Blocks → (ℕ → Sight) → CallOverAll → Type 0
+  abbrev AloneIn : World (Node K V) → Chart K → Blocks → (ℕ → Visible) → CallOverAll → Type 0
   AloneIn w c blocks sights o = IsAlone {Q = K} same hash same setting slot_of w c blocks sights (OverAll o)
 
-  abbrev RestsIn : World (Node K V) → Chart K → Blocks → (ℕ → Sight) → Type 0
-  RestsIn w c blocks sights = AtRest {K = K} {V = V} {Q = K} same hash same setting slot_of w c blocks sights
+  abbrev RestsIn : World (Node K V) → Chart K → Blocks → (ℕ → Visible) → Type 0
+  RestsIn w c blocks sights = IsQuiescent {K = K} {V = V} {Q = K} same hash same setting slot_of w c blocks sights
 
   abbrev Since : Said → CallOverAll → Mem (Node K V) → Chart K → Blocks → Type 0
   Since said o m c blocks = HasSwept (is_incremental setting.mode) h.world.memory h.chart h.blocks said.asked o m c blocks
@@ -107,21 +107,21 @@ module _ {K V S : Type 0} (same : K → K → Bool) (hashes : S → K → ℕ) (
     pub w : World (Node K V)
     pub c : Chart K
     pub blocks : Blocks
-    pub sights : ℕ → Sight
+    pub sights : ℕ → Visible
     pub alone : AloneIn w c blocks sights o
     pub memory : w.memory ≡ m
     pub runs : Since said o w.memory c blocks
     pub done_is : o.done ≡ said.done
     pub counts : IsCountedBut setting w.memory c o.sweep.stands
     pub purpose_is : o.sweep.purpose ≡ purpose
-    pub ends : StandsInSweeping (IsForTheLast c) (IsTheLast c) o.sweep.stands
+    pub ends : HoldsInSweeping (IsForTheLast c) (IsTheLast c) o.sweep.stands
 
   -- it has ended, and the map rests
   pub record HasEnded (said : Said) (o : CallOverAll) (m : Mem (Node K V)) : Type 0 where
     pub w : World (Node K V)
     pub c : Chart K
     pub blocks : Blocks
-    pub sights : ℕ → Sight
+    pub sights : ℕ → Visible
     pub rests : RestsIn w c blocks sights
     pub memory : w.memory ≡ m
     pub runs : Since said o w.memory c blocks
@@ -299,10 +299,10 @@ module _ {K V S : Type 0} (same : K → K → Bool) (hashes : S → K → ℕ) (
         subst (λ y. Next said y.0 m2 y.1) (sym k.2) (subst (λ p. Next said (over_pairs_settled (it p) k.0.1).0 m2 (over_pairs_settled (it p) k.0.1).1) d.1 (next_by said d.0 m2 k.0.1 d.2))
 
   OnTo : Said → Sweep → Mem (Node K V) → Sweeping → Swept (Node K V) → Type 0
-  OnTo said p2 m2 stands told = ComesOn stands told × (v : Under said (over_pairs_settled (it p2) told).0 m2) × (v.o.sweep ≡ p2)
+  OnTo said p2 m2 stands told = AdvancesFrom stands told × (v : Under said (over_pairs_settled (it p2) told).0 m2) × (v.o.sweep ≡ p2)
 
   on_told : (said : Said) (o : CallOverAll) (p2 : Sweep) → o.sweep ≡ p2 → (m2 : Mem (Node K V)) (stands : Sweeping) (told : Swept (Node K V)) → CourseTo said o m2 told
-      → GoesOn (over_pairs_settled (it p2) told).1 → OnTo said p2 m2 stands told
+      → Continues (over_pairs_settled (it p2) told).1 → OnTo said p2 m2 stands told
   unfolding OnTo
   on_told said o p2 e m2 stands swept.Goes c on = (tt, record { o = o; is = ap it (sym e); course = c }, e)
   on_told said o p2 e m2 stands swept.Waits c on = absurd c
@@ -319,7 +319,7 @@ module _ {K V S : Type 0} (same : K → K → Bool) (hashes : S → K → ℕ) (
       all_end x y.1 (under_may said x y.1 u) (λ m2 x2 told on s.
       let k = under_back said x y.1 u m2 (x2, told) s in
       let d = course_step said u.o y.1 u.course m2 k.0.0 k.0.1 k.1 in
-      let g = on_told said d.0 k.0.0 d.1 m2 y.0.stands k.0.1 d.2 (subst (GoesOn {A = Pause}) (ap (λ z. z.1) k.2) on) in
+      let g = on_told said d.0 k.0.0 d.1 m2 y.0.stands k.0.1 d.2 (subst (Continues {A = Pause}) (ap (λ z. z.1) k.2) on) in
       subst (λ z. Ends the_plan z m2) (sym (ap (λ z. z.0) k.2))
       (ends_from said (k.0.0, m2) (next (k.0.0, m2) (inl (k.0.1, g.0, subst (λ p. Steps Took value_at y.1 (sweep_plan hash p) m2 (k.0.0, k.0.1)) e k.1)))
       (over_pairs_settled (it k.0.0) k.0.1).0 g.1 g.2))

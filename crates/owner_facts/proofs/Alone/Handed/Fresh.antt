@@ -9,7 +9,7 @@ use Rattle.many_maps.specs.Given.SeizeDeclared.advance.Advance.{Advance}
 use Rattle.many_maps.specs.Given.SeizeDeclared.advance.Advance.TheVariants as progress
 use Rattle.many_maps.specs.Given.RawAnswers.{ended}
 use Rattle.many_maps.specs.Given.RawCall.{made, makes_of, root_found, next_found, dropped, key_read, pair_read, word_read, word_found, tried, looked, looks_for, first_made, next_made, helped, copied, plan_at}
-use Rattle.many_maps.specs.Given.RawCallPoints.{going, standing, over, ending, tableless, at_free, following_made, asking_at, at_last, at_pair, told_of, entering, went_on, changed, counted, having_met}
+use Rattle.many_maps.specs.Given.RawCallPoints.{going, standing, over, ending, tableless, at_free, following_made, asking_at, at_last, at_pair, after_finding, entering, continued_in, changed, counted, having_met}
 use Rattle.many_maps.specs.Given.TablesChunks.{is_incremental}
 use Rattle.many_maps.specs.Given.ResizeCopier.{copier_plan}
 use Rattle.many_maps.specs.Given.ResizeCopierStates.{copying_all}
@@ -113,7 +113,7 @@ module _ {K V Q : Type 0} where
     fresh_pair there.Removes word = (refl, tt)
     fresh_pair there.Asks word = asking_of_so IsFresh p (λ word new. (refl, tt)) (λ asking. (refl, tt)) (λ asking asked. (refl, tt)) word
 
-    fresh_told : (loaded : Bool) (word : ℕ) (found : Finding) → IsFresh (told_of loaded p word found)
+    fresh_told : (loaded : Bool) (word : ℕ) (found : Finding) → IsFresh (after_finding loaded p word found)
     fresh_told loaded word finds.Free = fresh_free p.missing
     fresh_told loaded word finds.Passed =
         passed_so IsFresh (having_met p word) (λ next. (refl, tt)) (refl, tt) (λ e. fresh_ending (having_met p word) (ends.Answered answers.Absent) tt) (λ e untold. (refl, tt))
@@ -122,7 +122,7 @@ module _ {K V Q : Type 0} where
     fresh_told loaded word finds.Copying = either loaded (standing p at.Probes, called.Waits) (going p at.Probes) (refl, tt) (refl, tt)
     fresh_told loaded word finds.There = fresh_pair p.there word
 
-    fresh_on : (table : Table) → IsFresh (went_on p table)
+    fresh_on : (table : Table) → IsFresh (continued_in p table)
     fresh_on table =
         either (is_incremental p.setting.mode) _ (going p (at.Copies (copying_all p.setting p.trial.table table)))
         (either p.helped (entering p table) _ (refl, tt) (refl, tt)) (copying (is_incremental p.setting.mode) _ _ refl refl, tt)

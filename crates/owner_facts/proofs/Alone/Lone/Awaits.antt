@@ -1,7 +1,7 @@
 -- What a call waits for: a pair that is being copied, and what a machine within it waits for. And where it begins to copy.
 use Rattle.many_maps.specs.Given.RawAnswers.{ended}
 use Rattle.many_maps.specs.Given.RawCall.{copied, disposed, first_made, helped, looked, next_made}
-use Rattle.many_maps.specs.Given.RawCallPoints.{answering, asking_at, at_free, at_last, at_pair, changed, counted, ending, entering, following_made, going, passed, standing, tableless, told_of, went_on, having_met}
+use Rattle.many_maps.specs.Given.RawCallPoints.{answering, asking_at, at_free, at_last, at_pair, changed, counted, ending, entering, following_made, going, passed, standing, tableless, after_finding, continued_in, having_met}
 use Rattle.many_maps.specs.Given.TablesChunks.{is_incremental}
 use Rattle.many_maps.specs.Given.ResizeCopierStates.{copying_all, helping}
 use Rattle.many_maps.specs.Given.ResizeDispose.{disposing}
@@ -137,7 +137,7 @@ module _ {K V Q : Type 0} (p : KeyCall K V Q) where
       by_mode true = gap_on gaps.Last
       by_mode false = (tt, tt)
 
-  pub following_on : (table : Table) → On (went_on p table)
+  pub following_on : (table : Table) → On (continued_in p table)
   following_on table = by (is_incremental p.setting.mode) p.helped refl
     where
       by : (b h : Bool) → is_incremental p.setting.mode ≡ b → On (if b then (if h then entering p table else going (record p { helped = true }) (at.Helps (helping p.setting) table))
@@ -167,7 +167,7 @@ module _ {K V Q : Type 0} (p : KeyCall K V Q) where
   goes end on = (λ other. on.0, on.1)
 
   -- only a pair that is being copied is waited for
-  pub told_on : (loaded : Bool) (word : ℕ) (x : Finding) → (x ≢ is.Copying → Proceeds (told_of {V = V} loaded p word x)) × IsFresh p.setting (told_of loaded p word x).0.stands
+  pub told_on : (loaded : Bool) (word : ℕ) (x : Finding) → (x ≢ is.Copying → Proceeds (after_finding {V = V} loaded p word x)) × IsFresh p.setting (after_finding loaded p word x).0.stands
   told_on loaded word is.Copying = (λ other. absurd (other refl), halts loaded)
     where
       halts : (b : Bool) → IsFresh p.setting (if b then (standing p at.Probes, let w : Called (Node K V) = Waits in w) else going p at.Probes).0.stands

@@ -16,18 +16,18 @@ use Rattle.many_maps.specs.Given.RuleMaps.{spot_of}
 use Rattle.many_maps.specs.Given.PointsFactsAloneBlocking.{AllAborted, AllUncounted, AloneBlocking}
 use Rattle.many_maps.specs.Given.PointsFactsCalls.{IsCopying}
 use Rattle.many_maps.specs.Given.PointsMeasures.{OthersIdle}
-use Rattle.many_maps.specs.Given.PointsTold.{IsBeside, MovedBeside, OnlyLinks}
+use Rattle.many_maps.specs.Given.PointsTold.{IsBesideCopying, MovedBesideCopying, OnlyLinks}
 use Rattle.many_maps.proofs.Given.PointsSteps.AloneCharts.{aborted_begins, uncounted_begins, idle_after, links_alone}
 use Rattle.many_maps.proofs.Given.PointsCalls.Making.{links_beside}
 use Rattle.many_maps.proofs.Given.RuleMoves.RuleBegins.{rule_begins}
 use Rattle.owner_facts.specs.Alone.FactsAlone.{AloneAt}
-use Rattle.owner_facts.specs.Alone.FactsAloneCalls.{TablesAlone, StandsAlone, RestsAlone}
+use Rattle.owner_facts.specs.Alone.FactsAloneCalls.{TablesAlone, AloneAtPoint, AloneBetweenCalls}
 use Rattle.owner_facts.proofs.Alone.Lone.Moves.{alone_before, idle_kept, plain_kept, first_kept}
 use Rattle.owner_facts.proofs.Alone.Lone.Awaits.{IsFresh}
 
 module _ {K : Type 0} (same : K → K → Bool) (hash : K → ℕ) (caller : ℕ) (c : Chart K) where
   -- such a move is none for the places that a caller copies
-  beside_none : (move : Move K) → IsBeside move → (i : ℕ) → IsBy i move → ⊥
+  beside_none : (move : Move K) → IsBesideCopying move → (i : ℕ) → IsBy i move → ⊥
   beside_none (Links len limit) beside i by = by
   beside_none (Stores t k j) beside i by = by
   beside_none (Replaces t place k) beside i by = by
@@ -47,11 +47,11 @@ module _ {K : Type 0} (same : K → K → Bool) (hash : K → ℕ) (caller : ℕ
   beside_none (Promotes t) beside i by = beside
   beside_none (Announces t) beside i by = beside
 
-  idle_moved : (b : Bool) (move : Move K) → IsBeside move → OthersIdle caller c → OthersIdle caller (after (spot_of hash) b move c)
+  idle_moved : (b : Bool) (move : Move K) → IsBesideCopying move → OthersIdle caller c → OthersIdle caller (after (spot_of hash) b move c)
   idle_moved true move beside = idle_kept same hash caller c move (λ i other. beside_none move beside i)
   idle_moved false move beside = idle_after same (spot_of hash) caller move c (λ i other. beside_none move beside i)
 
-  tables_moved : (b : Bool) (move : Move K) → IsBeside move → Rule same (spot_of hash) b c → Rule same (spot_of hash) b (after (spot_of hash) b move c)
+  tables_moved : (b : Bool) (move : Move K) → IsBesideCopying move → Rule same (spot_of hash) b c → Rule same (spot_of hash) b (after (spot_of hash) b move c)
       → TablesAlone b c → TablesAlone b (after (spot_of hash) b move c)
   tables_moved true (Links len limit) beside rule rule2 tables = by c.past refl
     where
@@ -84,11 +84,11 @@ module _ {K : Type 0} (same : K → K → Bool) (hash : K → ℕ) (caller : ℕ
   tables_moved b (Announces t) beside rule rule2 tables = absurd beside
 
   module _ (mode : ResizeMode) (c2 : Chart K) where
-    pub beside_idle : MovedBeside hash mode c c2 → OthersIdle caller c → OthersIdle caller c2
+    pub beside_idle : MovedBesideCopying hash mode c c2 → OthersIdle caller c → OthersIdle caller c2
     beside_idle (inl e) idle = subst (OthersIdle caller) (sym e) idle
     beside_idle (inr (move, beside, e)) idle = subst (OthersIdle caller) (sym e) (idle_moved (is_incremental mode) move beside idle)
 
-    pub beside_tables : Rule same (spot_of hash) (is_incremental mode) c → Rule same (spot_of hash) (is_incremental mode) c2 → MovedBeside hash mode c c2
+    pub beside_tables : Rule same (spot_of hash) (is_incremental mode) c → Rule same (spot_of hash) (is_incremental mode) c2 → MovedBesideCopying hash mode c c2
         → TablesAlone (is_incremental mode) c → TablesAlone (is_incremental mode) c2
     beside_tables rule rule2 (inl e) tables = subst (TablesAlone (is_incremental mode)) (sym e) tables
     beside_tables rule rule2 (inr (move, beside, e)) tables =
@@ -96,13 +96,13 @@ module _ {K : Type 0} (same : K → K → Bool) (hash : K → ℕ) (caller : ℕ
         (tables_moved (is_incremental mode) move beside rule (subst (Rule same (spot_of hash) (is_incremental mode)) e rule2) tables)
 
 -- before a map has a table
-pub rests_first : (K : Type 0) (b : Bool) (caller : ℕ) → RestsAlone {K = K} b caller no_table
+pub rests_first : (K : Type 0) (b : Bool) (caller : ℕ) → AloneBetweenCalls {K = K} b caller no_table
 rests_first K true caller = record { idle = λ i t j other. refl; tables = alone_before K }
 rests_first K false caller = record { idle = λ i t j other. refl; tables = (aborted_begins K, uncounted_begins K) }
 
 -- and once it has its first
 pub rests_linked : {K : Type 0} (same : K → K → Bool) (hash : K → ℕ) (caller : ℕ) (mode : ResizeMode) (c2 : Chart K) → Rule same (spot_of hash) (is_incremental mode) c2
-    → OnlyLinks hash mode no_table c2 → RestsAlone (is_incremental mode) caller c2
+    → OnlyLinks hash mode no_table c2 → AloneBetweenCalls (is_incremental mode) caller c2
 rests_linked {K} same hash caller mode c2 rule2 links =
     let first = rests_first K (is_incremental mode) caller in
     let beside = links_beside hash mode no_table c2 links in record {
@@ -112,7 +112,7 @@ rests_linked {K} same hash caller mode c2 rule2 links =
 
 -- where a call copies nothing
 module _ {K : Type 0} (b : Bool) (c : Chart K) where
-  beside_is : (stands : Calling) → (IsCopying stands → ⊥) → StandsAlone b c stands ≡ TablesAlone b c
+  beside_is : (stands : Calling) → (IsCopying stands → ⊥) → AloneAtPoint b c stands ≡ TablesAlone b c
   beside_is at.Makes other = refl
   beside_is (at.Looks lookup) other = refl
   beside_is at.Roots other = refl
@@ -129,7 +129,7 @@ module _ {K : Type 0} (b : Bool) (c : Chart K) where
   beside_is (at.Drops end) other = refl
   beside_is (at.Over end) other = refl
 
-  pub tables_of : (stands : Calling) → (IsCopying stands → ⊥) → StandsAlone b c stands → TablesAlone b c
+  pub tables_of : (stands : Calling) → (IsCopying stands → ⊥) → AloneAtPoint b c stands → TablesAlone b c
   tables_of stands other alone = subst (λ (X : Type 0). X) (beside_is stands other) alone
 
 -- a copier that is alone begins
@@ -147,7 +147,7 @@ module _ {K : Type 0} (c : Chart K) (setting : Setting) (tables : TablesAlone (i
       let known = subst (λ (b : Bool). TablesAlone b c) blocking tables in
       subst (λ (x : Copier). AloneBlocking c x x.stands) (sym is) (alone_begins c setting source target blocking known.0 known.1)
 
-  pub fresh_alone : (stands : Calling) → IsFresh setting stands → StandsAlone (is_incremental setting.mode) c stands
+  pub fresh_alone : (stands : Calling) → IsFresh setting stands → AloneAtPoint (is_incremental setting.mode) c stands
   fresh_alone (at.Helps copier goal) fresh = begins_helping copier fresh.0 fresh.1
   fresh_alone (at.Copies copier) fresh = begins_copying copier fresh.0 fresh.1 fresh.2 fresh.3
   fresh_alone at.Makes fresh = tables

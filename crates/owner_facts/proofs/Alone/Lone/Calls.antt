@@ -2,7 +2,7 @@
 use Rattle.many_maps.specs.Given.TablesCounts.{count_change}
 use Rattle.many_maps.specs.Given.RawAnswers.{ended}
 use Rattle.many_maps.specs.Given.RawCall.{call_plan, copied, disposed, dropped, first_made, have_one_key, helped, looked, looks_for, key_read, made, makes_of, next_found, next_made, pair_read, plan_at, root_found, tried, word_found, word_read}
-use Rattle.many_maps.specs.Given.RawCallPoints.{aim_of, at_last, changed, counted, entering, tableless, told, went_on}
+use Rattle.many_maps.specs.Given.RawCallPoints.{aim_of, at_last, changed, counted, entering, tableless, told, continued_in}
 use Rattle.many_maps.specs.Given.TablesChunks.{is_incremental}
 use Rattle.many_maps.specs.Given.ResizeCopier.{copier_plan}
 use Rattle.many_maps.specs.Given.ResizeDispose.{dispose_plan}
@@ -41,12 +41,12 @@ use Rattle.many_maps.specs.Given.RuleInWorld.{IsMapIn}
 use Rattle.many_maps.specs.Given.RuleMaps.{IsTrial, spot_at, spot_of}
 use Rattle.many_maps.specs.Given.PointsMeasures.{OthersIdle}
 use Rattle.many_maps.specs.Given.RuleRule.{Agrees, IsLawful, Rule}
-use Rattle.many_maps.specs.Given.PointsTold.{DisposeTold, IsRowOfCall, LookupTold, NewTableTold}
+use Rattle.many_maps.specs.Given.PointsTold.{DisposeOutcome, IsRowOfCall, LookupOutcome, NewTableOutcome}
 use Rattle.many_maps.specs.Given.RuleWords.{Blocks, byte_of, place_word}
 use Rattle.owner_facts.proofs.Alone.Lone.Copier.{helper_goes}
 use Rattle.owner_facts.proofs.Alone.Lone.Copies.{settled_or_own}
 use Rattle.many_maps.proofs.Given.PointsLookups.Points.{went_lookup}
-use Rattle.owner_facts.specs.Alone.FactsAloneCalls.{StandsAlone}
+use Rattle.owner_facts.specs.Alone.FactsAloneCalls.{AloneAtPoint}
 use Rattle.many_maps.proofs.Given.SeizeRuleRows.Leaving.{steps_back}
 use Rattle.many_maps.specs.Given.SeizeWorld.{World}
 use Rattle.many_maps.specs.Given.SeizeDeclared.advance.Advance.{Advance}
@@ -154,13 +154,13 @@ module _ {K V Q : Type 0} (same : K → K → Bool) (hash : K → ℕ) (asks : Q
         ]
 
     -- what machines within it tell
-    lookup_on : (keys : K → Bool) (out : Lookup × Advance (Option ℕ)) → LookupTold same hash setting.mode setting.root keys p.hash c blocks out → out.1 ≢ progress.Waits
+    lookup_on : (keys : K → Bool) (out : Lookup × Advance (Option ℕ)) → LookupOutcome same hash setting.mode setting.root keys p.hash c blocks out → out.1 ≢ progress.Waits
     lookup_on keys (next, progress.Goes) told e = cc
     lookup_on keys (next, progress.Waits) told e = told
     lookup_on keys (next, progress.Done found) told e = cc
     lookup_on keys (next, progress.Refused fault) told e = cc
 
-    new_table_on : (w2 : World (Node K V)) (c2 : Chart K) (blocks2 : Blocks) (link : At) (turn : ℕ) (out : NewTable × Advance Table) → NewTableTold w2 caller setting c2 blocks2 link turn out → out.1 ≢ progress.Waits
+    new_table_on : (w2 : World (Node K V)) (c2 : Chart K) (blocks2 : Blocks) (link : At) (turn : ℕ) (out : NewTable × Advance Table) → NewTableOutcome w2 caller setting c2 blocks2 link turn out → out.1 ≢ progress.Waits
     new_table_on w2 c2 blocks2 link turn (next, progress.Goes) told e = cc
     new_table_on w2 c2 blocks2 link turn (next, progress.Waits) told e = told
     new_table_on w2 c2 blocks2 link turn (next, progress.Done table) told e = cc
@@ -173,7 +173,7 @@ module _ {K V Q : Type 0} (same : K → K → Bool) (hash : K → ℕ) (asks : Q
     copier_on c2 (next, outcome.Done table) told e = cc
     copier_on c2 (next, outcome.Refused fault) told e = cc
 
-    dispose_on : (w2 : World (Node K V)) (c2 : Chart K) (blocks2 : Blocks) (out : Dispose × Settled (Node K V)) → DisposeTold w2 caller setting c2 blocks2 out → out.1 ≢ settled.Waits
+    dispose_on : (w2 : World (Node K V)) (c2 : Chart K) (blocks2 : Blocks) (out : Dispose × Settled (Node K V)) → DisposeOutcome w2 caller setting c2 blocks2 out → out.1 ≢ settled.Waits
     dispose_on w2 c2 blocks2 (next, settled.Goes) told e = cc
     dispose_on w2 c2 blocks2 (next, settled.Waits) told e = told
     dispose_on w2 c2 blocks2 (next, settled.Gave value) told e = cc
@@ -197,7 +197,7 @@ module _ {K V Q : Type 0} (same : K → K → Bool) (hash : K → ℕ) (asks : Q
 
     -- until it has changed something
     seek_on : change ≡ Unchanged → (stands : Calling) → p.stands ≡ stands → Seeks same hash asks w caller setting c blocks keys Unchanged stands → Point Unchanged stands
-        → ((IsCopying stands → ⊥) → Idle Unchanged) → ((IsCopying stands → ⊥) → Idle change) → (IsRowOfCall stands → ⊥) → StandsAlone (is_incremental setting.mode) c stands
+        → ((IsCopying stands → ⊥) → Idle Unchanged) → ((IsCopying stands → ⊥) → Idle change) → (IsRowOfCall stands → ⊥) → AloneAtPoint (is_incremental setting.mode) c stands
         → Steps Took value_at w.memory (plan_at asks same hash p stands) m2 end → Goes stands
     seek_on e at.Makes here so point idle idle2 none alone s =
         goes at.Makes
@@ -228,7 +228,7 @@ module _ {K V Q : Type 0} (same : K → K → Bool) (hash : K → ℕ) (asks : Q
         ])
     seek_on e at.Nexts here so point idle idle2 none alone s =
         let d = loaded w.memory (next_found p) (at_word p.trial.table NEXT) m2 end s in
-        goes at.Nexts (link_on d.0 (at_last p.missing p) (went_on p) (last_on p p.missing) (λ table. following_on p table) d.3)
+        goes at.Nexts (link_on d.0 (at_last p.missing p) (continued_in p) (last_on p p.missing) (λ table. following_on p table) d.3)
     seek_on e (at.Firsts making) here so point idle idle2 none alone s =
         let d = steps_back (first_made p) w.memory m2 (new_table_plan making) end s in
         let went = went_new_table_lowers same hash w setting c blocks map caller (Root setting.root) 0 initial_is lawful making point.2 m2 d.0 d.1 in
@@ -254,13 +254,13 @@ module _ {K V Q : Type 0} (same : K → K → Bool) (hash : K → ℕ) (asks : Q
     seek_on e (at.Over over) here so point idle idle2 none alone s = absurd so
 
     unchanged_on : (stands : Calling) → p.stands ≡ stands → Seeks same hash asks w caller setting c blocks keys Unchanged stands → Seeks same hash asks w caller setting c blocks keys change stands
-        → Point change stands → ((IsCopying stands → ⊥) → Idle change) → (IsRowOfCall stands → ⊥) → StandsAlone (is_incremental setting.mode) c stands
+        → Point change stands → ((IsCopying stands → ⊥) → Idle change) → (IsRowOfCall stands → ⊥) → AloneAtPoint (is_incremental setting.mode) c stands
         → Steps Took value_at w.memory (plan_at asks same hash p stands) m2 end → Goes stands
     unchanged_on stands here so so2 point idle none alone s =
         let e = f.unchanged (subst (λ (x : Calling). Seeks same hash asks w caller setting c blocks keys change x) (sym here) so2) in
         seek_on e stands here so (subst (λ (x : Change). Point x stands) e point) (subst (λ (x : Change). (IsCopying stands → ⊥) → Idle x) e idle) idle none alone s
 
-    goes_at : (stands : Calling) → p.stands ≡ stands → Point change stands → ((IsCopying stands → ⊥) → Idle change) → (IsRowOfCall stands → ⊥) → StandsAlone (is_incremental setting.mode) c stands
+    goes_at : (stands : Calling) → p.stands ≡ stands → Point change stands → ((IsCopying stands → ⊥) → Idle change) → (IsRowOfCall stands → ⊥) → AloneAtPoint (is_incremental setting.mode) c stands
         → Steps Took value_at w.memory (plan_at asks same hash p stands) m2 end → Goes stands
     goes_at at.Makes here point idle none alone s = unchanged_on at.Makes here tt tt point idle none alone s
     goes_at (at.Looks l) here point idle none alone s = unchanged_on (at.Looks l) here tt tt point idle none alone s
@@ -284,5 +284,5 @@ module _ {K V Q : Type 0} (same : K → K → Bool) (hash : K → ℕ) (asks : Q
     goes_at (at.Over over) here point idle none alone s = goes (at.Over over) (on_as (p, ended over) s.1 (ended_on p p over, subst (IsFresh p.setting) (sym here) tt))
 
     -- a call that is alone goes on, or ends
-    pub call_goes : (IsRowOfCall p.stands → ⊥) → StandsAlone (is_incremental setting.mode) c p.stands → Steps Took value_at w.memory (call_plan asks same hash p) m2 end → Goes p.stands
+    pub call_goes : (IsRowOfCall p.stands → ⊥) → AloneAtPoint (is_incremental setting.mode) c p.stands → Steps Took value_at w.memory (call_plan asks same hash p) m2 end → Goes p.stands
     call_goes none alone s = goes_at p.stands refl f.point f.idle none alone s

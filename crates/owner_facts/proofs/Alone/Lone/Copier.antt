@@ -9,7 +9,7 @@ use Rattle.many_maps.specs.Given.SeizeDeclared.advance.Advance.{Advance}
 use Rattle.many_maps.specs.Given.SeizeDeclared.advance.Advance.TheVariants as progress
 use Rattle.many_maps.specs.Given.TablesChunks.{is_incremental}
 use Rattle.many_maps.specs.Given.ResizeCopier.{plan_at, copier_plan}
-use Rattle.many_maps.specs.Given.ResizeCopierPlaces.{put_told, copied_word, next_try, pair_put}
+use Rattle.many_maps.specs.Given.ResizeCopierPlaces.{after_put, copied_word, next_try, pair_put}
 use Rattle.many_maps.specs.Given.ResizeCopierFurther.{grown}
 use Rattle.many_maps.specs.Given.ResizeCopierCounts.{refusing}
 use Rattle.many_maps.specs.Given.ResizeCopierMarks.{probing}
@@ -32,7 +32,7 @@ use Rattle.many_maps.specs.Given.RuleWords.{Blocks}
 use Rattle.many_maps.specs.Given.RuleMaps.{spot_of}
 use Rattle.many_maps.specs.Given.RuleInWorld.{IsMapIn}
 use Rattle.many_maps.specs.Given.PointsFactsCopies.{CopyingFacts, CopierFacts}
-use Rattle.many_maps.specs.Given.PointsTold.{NewTableTold, IsRowOfCopier}
+use Rattle.many_maps.specs.Given.PointsTold.{NewTableOutcome, IsRowOfCopier}
 use Rattle.many_maps.specs.Given.PointsMeasures.{OthersIdle}
 use Rattle.many_maps.proofs.Given.PointsCopiers.Grows.{went_grown}
 use Rattle.many_maps.proofs.Given.PointsCopiers.Marks.{awaited_whole}
@@ -64,7 +64,7 @@ module _ {K V : Type 0} (same : K → K → Bool) (hash : K → ℕ) (setting : 
 
   -- a making of a table never waits
   grown_waits : (word code : ℕ) (w2 : World (Node K V)) (c2 : Chart K) (blocks2 : Blocks) (b t : ℕ) (made : NewTable × Advance Table) → end ≡ grown p word code made
-      → NewTableTold w2 caller setting c2 blocks2 (Word b NEXT) (suc t) made → end.1 ≡ Waits → ⊥
+      → NewTableOutcome w2 caller setting c2 blocks2 (Word b NEXT) (suc t) made → end.1 ≡ Waits → ⊥
   grown_waits word code w2 c2 blocks2 b t (making, progress.Goes) ends told = waiting (standing p (at.Grows word code making)) ends
   grown_waits word code w2 c2 blocks2 b t (making, progress.Waits) ends told = absurd told
   grown_waits word code w2 c2 blocks2 b t (making, progress.Done table) ends told = waiting (probing p word code table) ends
@@ -82,7 +82,7 @@ module _ {K V : Type 0} (same : K → K → Bool) (hash : K → ℕ) (setting : 
     awaits_at (at.Probes word code table probe) f none s =
         let h = comes_probes same hash setting w caller c blocks map p word code table probe f is bits m2 end s in waiting h.1 h.2
     awaits_at (at.Puts word code table probe) f none s =
-        elim (exchanged w.memory (put_told p word code table probe) (at_place table probe.i) 0 (copied_word p word) m2 end s) as (λ _. end.1 ≡ Waits → ⊥) [
+        elim (exchanged w.memory (after_put p word code table probe) (at_place table probe.i) 0 (copied_word p word) m2 end s) as (λ _. end.1 ≡ Waits → ⊥) [
           | inl d ↦ waiting (pair_put p word) d.3
           | inr d ↦ waiting (next_try p word code table probe) d.3
         ]

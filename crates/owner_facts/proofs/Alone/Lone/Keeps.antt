@@ -10,7 +10,7 @@ use Rattle.many_maps.specs.Given.TablesChunks.{is_incremental}
 use Rattle.many_maps.specs.Given.ResizeCopier.{plan_at}
 use Rattle.many_maps.specs.Given.ResizeCopierFurther.{grown}
 use Rattle.many_maps.specs.Given.ResizeCopierMarks.{probing}
-use Rattle.many_maps.specs.Given.ResizeCopierPlaces.{put_told, copied_word, next_try, pair_put}
+use Rattle.many_maps.specs.Given.ResizeCopierPlaces.{after_put, copied_word, next_try, pair_put}
 use Rattle.many_maps.specs.Given.ResizeCopierStates.{standing}
 use Rattle.many_maps.specs.Given.ResizeNewTable.{table_after, new_table_plan}
 use Rattle.many_maps.specs.Given.TablesTablePlaces.{at_place}
@@ -30,7 +30,7 @@ use Rattle.many_maps.specs.Given.RuleMaps.{IsTable}
 use Rattle.many_maps.specs.Given.RuleInWorld.{IsMapIn}
 use Rattle.many_maps.specs.Given.PointsFactsCopies.{CopyingFacts}
 use Rattle.many_maps.specs.Given.PointsMeasures.{OthersIdle}
-use Rattle.many_maps.specs.Given.PointsTold.{CopierTold, IsRowOfCopier}
+use Rattle.many_maps.specs.Given.PointsTold.{CopierOutcome, IsRowOfCopier}
 use Rattle.many_maps.specs.Given.PointsToldMoves.{MovedPlain, MovedAt}
 use Rattle.many_maps.proofs.Given.PointsCopiers.Passes.{comes_passes}
 use Rattle.many_maps.proofs.Given.PointsCopiers.Probes.{place_here, comes_probes}
@@ -66,7 +66,7 @@ module _ {K V : Type 0} (same : K → K → Bool) (hash : K → ℕ) (setting : 
   )
 
   pub kept_at : (stands : Point) → p.stands ≡ stands → CopyingFacts same hash w caller setting c blocks p stands → (IsRowOfCopier stands → ⊥)
-      → Steps Took value_at w.memory (plan_at hash p stands) m2 end → AloneAt c p stands → CopierTold w2 caller setting c2 blocks2 same hash end
+      → Steps Took value_at w.memory (plan_at hash p stands) m2 end → AloneAt c p stands → CopierOutcome w2 caller setting c2 blocks2 same hash end
       → MovedAt hash caller c p stands end c2 → Kept
   kept_at at.Begins here f none s alone told moved =
       let h = leads_begins p w.memory m2 end s in plain (goes h.0 h.1 h.2) f.0 alone moved
@@ -92,7 +92,7 @@ module _ {K V : Type 0} (same : K → K → Bool) (hash : K → ℕ) (setting : 
       either q (inr e) = subst (λ (x : Copier). IsQuiet x.stands) (sym e.1) (quiet_next_try p word code table probe)
   kept_at (at.Puts word code table probe) here f none s alone told moved =
       plain
-      (elim (exchanged w.memory (put_told p word code table probe) (at_place table probe.i) 0 (copied_word p word) m2 end s) as (λ _. IsQuiet end.0.stands) [
+      (elim (exchanged w.memory (after_put p word code table probe) (at_place table probe.i) 0 (copied_word p word) m2 end s) as (λ _. IsQuiet end.0.stands) [
         | inl d ↦ goes (pair_put p word) d.3 (quiet_pair_put p word)
         | inr d ↦ goes (next_try p word code table probe) d.3 (quiet_next_try p word code table probe)
       ])

@@ -27,11 +27,11 @@ use Rattle.many_maps.specs.Given.RuleChart.{Chart}
 use Rattle.many_maps.specs.Given.RuleRule.{IsLawful}
 use Rattle.many_maps.specs.Given.RuleWords.{Blocks}
 use Rattle.many_maps.specs.Given.RuleMaps.{spot_of}
-use Rattle.many_maps.specs.Given.RuleInWorld.{IsMapIn, Went, SparesPairs}
+use Rattle.many_maps.specs.Given.RuleInWorld.{IsMapIn, StepSpec, SparesPairs}
 use Rattle.many_maps.specs.Given.PointsFactsAloneBlocking.{AloneBlocking, LeadsAlone}
 use Rattle.many_maps.specs.Given.PointsMeasures.{OthersIdle}
 use Rattle.many_maps.specs.Given.PointsFactsCalls.{Unchanged, Change, IsCopying, Seeks, CallingFacts, CallFacts}
-use Rattle.many_maps.specs.Given.PointsTold.{CopierTold, IsRowOfCall, CallTold}
+use Rattle.many_maps.specs.Given.PointsTold.{CopierOutcome, IsRowOfCall, CallOutcome}
 use Rattle.many_maps.specs.Given.PointsToldMoves.{MovedAt}
 use Rattle.many_maps.proofs.Given.PointsCopiers.CopiersWhole.{whole_stays}
 use Rattle.many_maps.proofs.Given.PointsCopiers.CopierWent.{CopierTells}
@@ -41,7 +41,7 @@ use Rattle.many_maps.proofs.Given.PointsCopiers.Points.{went_copier_moved}
 use Rattle.many_maps.proofs.Given.PointsBlocking.Points.{went_copier_blocking_alone}
 use Rattle.many_maps.proofs.Given.RuleWorld.WentTold.{went_as}
 use Rattle.owner_facts.specs.Alone.FactsAlone.{FactsAlone}
-use Rattle.owner_facts.specs.Alone.FactsAloneCalls.{TablesAlone, StandsAlone, IsLone, RestsAlone, LeadsLone}
+use Rattle.owner_facts.specs.Alone.FactsAloneCalls.{TablesAlone, AloneAtPoint, IsLone, AloneBetweenCalls, LeadsLone}
 use Rattle.owner_facts.proofs.Alone.Lone.Copier.{helper_goes}
 use Rattle.owner_facts.proofs.Alone.Lone.Calls.{call_goes}
 use Rattle.owner_facts.proofs.Alone.Lone.Keeps.{kept_at}
@@ -77,7 +77,7 @@ module _ {K V Q : Type 0} (b : Bool) (caller : ℕ) (c : Chart K) (p : KeyCall K
   abbrev Leads : KeyCall K V Q × Called (Node K V) → Type 0
   Leads end = LeadsLone b caller c end
 
-  ending_lone : (end : End) → RestsAlone b caller c → Leads (ending p end)
+  ending_lone : (end : End) → AloneBetweenCalls b caller c → Leads (ending p end)
   ending_lone end rests = by (p.own == 0) end
     where
       by : (x : Bool) (end : End) → Leads (if x then over p end else going p (at.Drops end))
@@ -114,7 +114,7 @@ module _ {K V Q : Type 0} (b : Bool) (caller : ℕ) (c : Chart K) (p : KeyCall K
       lone : IsLone b caller c q.stands
       lone = record {
         idle = idle;
-        point = subst (λ (x : Bool). StandsAlone x c q.stands) (sym mode) (fresh_alone c setting (subst (λ (x : Bool). TablesAlone x c) mode tables) q.stands fresh);
+        point = subst (λ (x : Bool). AloneAtPoint x c q.stands) (sym mode) (fresh_alone c setting (subst (λ (x : Bool). TablesAlone x c) mode tables) q.stands fresh);
       }
 
       by : (progress : Called (Node K V)) → Proceeds (q, progress) → Leads (q, progress)
@@ -135,17 +135,17 @@ module _ {K V Q : Type 0} (same : K → K → Bool) (hash : K → ℕ) (asks : Q
   -- what a step tells: what is told of each, and that one that is alone stays so
   abbrev pub LoneTold : Calling → KeyCall K V Q × Called (Node K V) → World (Node K V) → Chart K → Blocks → Type 0
   LoneTold stands end w2 c2 blocks2 =
-      CallTold same hash asks caller setting keys c change p w2 c2 blocks2 end.0 end.1 × (Lone c stands → LeadsLone (is_incremental setting.mode) caller c2 end)
+      CallOutcome same hash asks caller setting keys c change p w2 c2 blocks2 end.0 end.1 × (Lone c stands → LeadsLone (is_incremental setting.mode) caller c2 end)
 
   abbrev pub LoneWent : Calling → KeyCall K V Q × Called (Node K V) → Type 0
-  LoneWent stands end = Went same hash setting caller w c blocks m2 (LoneTold stands end)
+  LoneWent stands end = StepSpec same hash setting caller w c blocks m2 (LoneTold stands end)
 
   module _ (end : KeyCall K V Q × Called (Node K V)) where
     -- beside its copying
     beside_lone : (IsCopying p.stands → ⊥) → (IsRowOfCall p.stands → ⊥) → Steps Took value_at w.memory (call_plan asks same hash p) m2 end → LoneWent p.stands end
     beside_lone other none s =
         went_as same hash setting caller w c blocks m2
-        (λ w2 c2 blocks2. CallTold same hash asks caller setting keys c change p w2 c2 blocks2 end.0 end.1)
+        (λ w2 c2 blocks2. CallOutcome same hash asks caller setting keys c change p w2 c2 blocks2 end.0 end.1)
         (LoneTold p.stands end)
         (λ w2 c2 blocks2 map2 moved same_blocks told. (
           told,
@@ -164,7 +164,7 @@ module _ {K V Q : Type 0} (same : K → K → Bool) (hash : K → ℕ) (asks : Q
         let d = steps_back (helped p goal) w.memory m2 (copier_plan hash copier) end s in
         subst (LoneWent (at.Helps copier goal)) (sym d.2)
         (went_as same hash setting caller w c blocks m2
-        (λ w2 c2 blocks2. SparesPairs w w2 × (c2.current ≡ c.current) × CopierTold w2 caller setting c2 blocks2 same hash d.0 × MovedAt hash caller c copier copier.stands d.0 c2)
+        (λ w2 c2 blocks2. SparesPairs w w2 × (c2.current ≡ c.current) × CopierOutcome w2 caller setting c2 blocks2 same hash d.0 × MovedAt hash caller c copier copier.stands d.0 c2)
         (LoneTold (at.Helps copier goal) (helped p goal d.0))
         (λ w2 c2 blocks2 map2 moved same_blocks told. (
           helped_told same hash asks caller setting keys lawful w c blocks map change p f unchanged own copier (subst IsCopying (sym here) tt) bits goal t (let made = entered.made in omega (arith, made)) entered shut

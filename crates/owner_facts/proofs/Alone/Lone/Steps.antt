@@ -36,7 +36,7 @@ use Rattle.many_maps.specs.Given.RuleMaps.{spot_of}
 use Rattle.many_maps.specs.Given.RuleInWorld.{IsMapIn}
 use Rattle.many_maps.specs.Given.PointsFactsCopies.{CopyingFacts, CopierFacts}
 use Rattle.many_maps.specs.Given.PointsMeasures.{OthersIdle}
-use Rattle.many_maps.specs.Given.PointsTold.{CopierTold}
+use Rattle.many_maps.specs.Given.PointsTold.{CopierOutcome}
 use Rattle.many_maps.specs.Given.PointsToldMoves.{MovedPlain, MovedCounts, MovedPromotes, MovedAnnounces}
 use Rattle.many_maps.proofs.Given.PointsCopiers.CopiersCounted.{copied_word as count_there, count_fits, no_wrap}
 use Rattle.many_maps.proofs.Given.RuleWords.TablesSeen.{len_is}
@@ -131,14 +131,14 @@ module _ {K V : Type 0} (same : K → K → Bool) (hash : K → ℕ) (setting : 
               omega (arith, fits, len, sum, other, here, more)
 
   pub tallies_kept : (word : ℕ) (fault : Fault) → CopyingFacts same hash w caller setting c blocks p (at.Tallies word fault) → AllAnnounced c → MovedCounts hash caller c p c2
-      → CopierTold w2 caller setting c2 blocks2 same hash end → Steps Took value_at w.memory (tallies p word fault) m2 end → FactsAlone c2 caller end.0
+      → CopierOutcome w2 caller setting c2 blocks2 same hash end → Steps Took value_at w.memory (tallies p word fault) m2 end → FactsAlone c2 caller end.0
   tallies_kept word fault f announced e told s =
       let l = added w.memory (λ out. to (record p { done = 0; stands = at.Unmarks word fault })) (at_word p.target COPIED) p.done m2 end s in
       record {
         idle = subst (OthersIdle caller) (sym e) (idle_kept same hash caller c (Counts caller (suc c.first) p.done) (λ i other by. other (sym by)) idle);
         point = subst (λ (x : Copier × Yielding (Node K V) Table). AloneAt c2 x.0 x.0.stands) (sym l.3) (
           subst AllAnnounced (sym e) announced,
-          few (subst (λ (x : Copier × Yielding (Node K V) Table). CopierTold w2 caller setting c2 blocks2 same hash x) l.3 told),
+          few (subst (λ (x : Copier × Yielding (Node K V) Table). CopierOutcome w2 caller setting c2 blocks2 same hash x) l.3 told),
         );
       }
     where

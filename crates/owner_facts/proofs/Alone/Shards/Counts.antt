@@ -11,7 +11,7 @@ use Rattle.many_maps.specs.Given.SeizeDeclared.rows.settle.Settled.TheVariants a
 use Rattle.many_maps.specs.Given.TablesCounts.{count_change}
 use Rattle.many_maps.specs.Given.RawAnswers.{ended}
 use Rattle.many_maps.specs.Given.RawCall.{made, makes_of, root_found, next_found, dropped, key_read, pair_read, word_read, word_found, tried, looked, looks_for, first_made, next_made, disposed, helped, copied, plan_at}
-use Rattle.many_maps.specs.Given.RawCallPoints.{going, standing, over, ending, tableless, at_free, following_made, asking_at, at_last, at_pair, told_of, entering, went_on, changed, counted, having_met}
+use Rattle.many_maps.specs.Given.RawCallPoints.{going, standing, over, ending, tableless, at_free, following_made, asking_at, at_last, at_pair, after_finding, entering, continued_in, changed, counted, having_met}
 use Rattle.many_maps.specs.Given.TablesChunks.{is_incremental}
 use Rattle.many_maps.specs.Given.ResizeCopier.{copier_plan}
 use Rattle.many_maps.specs.Given.ResizeCopierStates.{copying_all}
@@ -120,7 +120,7 @@ module _ {K V Q : Type 0} where
     says_pair there.Removes word = (refl, tt)
     says_pair there.Asks word = asking_of_so SaysNone p (λ word new. (refl, tt)) (λ asking. (refl, tt)) (λ asking asked. (refl, tt)) word
 
-    says_told : (loaded : Bool) (word : ℕ) (found : Finding) → SaysNone (told_of loaded p word found)
+    says_told : (loaded : Bool) (word : ℕ) (found : Finding) → SaysNone (after_finding loaded p word found)
     says_told loaded word finds.Free = says_free p.missing
     says_told loaded word finds.Passed =
         passed_so SaysNone (having_met p word) (λ next. (refl, tt)) (refl, tt) (λ e. says_ending (having_met p word) (ends.Answered answers.Absent) refl) (λ e untold. (refl, tt))
@@ -129,7 +129,7 @@ module _ {K V Q : Type 0} where
     says_told loaded word finds.Copying = either 0 loaded (standing p at.Probes, called.Waits) (going p at.Probes) (refl, tt) (refl, tt)
     says_told loaded word finds.There = says_pair p.there word
 
-    says_on : (table : Table) → SaysNone (went_on p table)
+    says_on : (table : Table) → SaysNone (continued_in p table)
     says_on table =
         either 0 (is_incremental p.setting.mode) _ (going p (at.Copies (copying_all p.setting p.trial.table table)))
         (either 0 p.helped (entering p table) _ (refl, tt) (refl, tt)) (refl, tt)

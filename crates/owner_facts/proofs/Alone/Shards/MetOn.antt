@@ -49,7 +49,7 @@ use Rattle.many_maps.specs.Given.ResizeDeclared.sum.Sum.{Sum}
 use Rattle.many_maps.specs.Given.ResizeDeclared.sum.Summing.{Summing}
 use Rattle.many_maps.specs.Given.ResizeDeclared.sum.Summing.TheVariants as sums
 use Rattle.many_maps.specs.Given.RawCall.{made, makes_of, root_found, next_read, next_found, dropped, key_read, pair_read, word_read, word_found, tried, looked, looks_for, first_made, next_made, disposed, helped, copied, plan_at}
-use Rattle.many_maps.specs.Given.RawCallPoints.{going, standing, over, ending, tableless, at_free, following_made, asking_at, gap_by, at_last, at_pair, passed, halted, told_of, entering, went_on, changed, counted, having_met}
+use Rattle.many_maps.specs.Given.RawCallPoints.{going, standing, over, ending, tableless, at_free, following_made, asking_at, gap_by, at_last, at_pair, passed, halted, after_finding, entering, continued_in, changed, counted, having_met}
 use Rattle.many_maps.specs.Given.RawDeclared.machines.answer.Called.{Called}
 use Rattle.many_maps.specs.Given.RawDeclared.machines.answer.Called.TheVariants as called
 use Rattle.many_maps.specs.Given.RawDeclared.machines.answer.End.{End}
@@ -95,7 +95,7 @@ module _ {K V Q : Type 0} (m : Mem (Node K V)) where
   entering_met : (q : KeyCall K V Q) (table : Table) → On (entering q table)
   entering_met q table = let none : 0 ≤ words_met m table q.hash 0 = omega arith in none
 
-  on_met : (q : KeyCall K V Q) (table : Table) → On (went_on q table)
+  on_met : (q : KeyCall K V Q) (table : Table) → On (continued_in q table)
   on_met q table =
       either (is_incremental q.setting.mode) (if q.helped then entering q table else going (record q { helped = true }) (at.Helps (helping q.setting) table))
       (going q (at.Copies (copying_all q.setting q.trial.table table)))
@@ -225,7 +225,7 @@ module _ {K V Q : Type 0} (m : Mem (Node K V)) where
           next = let below = ltb-true q.trial.probe.len q.trial.table.limit e in let few = tries.2 in omega (arith, below, few)
       passed_met false e = beyond_so On (having_met q word) all_with_this (λ none. ending_met (having_met q word) (ends.Answered answers.Absent)) (λ asks untold. tt)
 
-      told_met : (loaded : Bool) (found : Finding) → On (told_of loaded q word found)
+      told_met : (loaded : Bool) (found : Finding) → On (after_finding loaded q word found)
       told_met loaded finds.Free = free_met q.missing
       told_met loaded finds.Passed = passed_met (nat_lt q.trial.probe.len q.trial.table.limit) refl
       told_met loaded finds.Moved = all_met

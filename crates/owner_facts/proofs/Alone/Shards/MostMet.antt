@@ -27,7 +27,7 @@ use Rattle.many_maps.specs.Given.ResizeDeclared.new_table.NewTable.{NewTable}
 use Rattle.many_maps.specs.Given.ResizeDeclared.yielding.Yielding.{Yielding}
 use Rattle.many_maps.specs.Given.ResizeDeclared.yielding.Yielding.TheVariants as outcome
 use Rattle.many_maps.specs.Given.RawCall.{made, makes_of, root_found, next_found, dropped, key_read, pair_read, word_read, word_found, tried, looked, looks_for, first_made, next_made, disposed, helped, copied, plan_at, call_plan}
-use Rattle.many_maps.specs.Given.RawCallPoints.{going, standing, over, ending, tableless, storing, at_gap, gap_by, at_free, following_made, at_last, at_pair, passed, told_of, entering, went_on, changed, counted, having_met}
+use Rattle.many_maps.specs.Given.RawCallPoints.{going, standing, over, ending, tableless, storing, at_gap, gap_by, at_free, following_made, at_last, at_pair, passed, after_finding, entering, continued_in, changed, counted, having_met}
 use Rattle.many_maps.specs.Given.RawDeclared.machines.answer.Called.{Called}
 use Rattle.many_maps.specs.Given.RawDeclared.machines.answer.Called.TheVariants as called
 use Rattle.many_maps.specs.Given.RawDeclared.machines.answer.End.{End}
@@ -48,7 +48,7 @@ use Rattle.many_maps.specs.Given.RawDeclared.machines.call.Calling.{Calling}
 use Rattle.many_maps.specs.Given.RawDeclared.machines.call.Calling.TheVariants as at
 use Rattle.many_maps.proofs.Given.PointsCalls.Asked.{asking_of_so, beyond_so}
 use Rattle.many_maps.proofs.Given.RuleKeys.Always.{Always, AlwaysOf, always_if, always_plan_as, always_steps}
-use Rattle.owner_facts.specs.Alone.Met.{CallsKeepMost}
+use Rattle.owner_facts.specs.Alone.Met.{CallsPreserveMost}
 
 module _ {K V Q : Type 0} (n : ℕ) where
   abbrev pub Few : KeyCall K V Q × Called (Node K V) → Type 0
@@ -107,7 +107,7 @@ module _ {K V Q : Type 0} (n : ℕ) where
     pair_few there.Removes word = few
     pair_few there.Asks word = asking_of_so Few p (λ other new. few) (λ asks_at. few) (λ asks_at asked. few) word
 
-    on_few : (table : Table) → Few (went_on p table)
+    on_few : (table : Table) → Few (continued_in p table)
     on_few table =
         either (is_incremental p.setting.mode) (if p.helped then entering p table else going (record p { helped = true }) (at.Helps (helping p.setting) table))
         (going p (at.Copies (copying_all p.setting p.trial.table table)))
@@ -169,7 +169,7 @@ module _ {K V Q : Type 0} (n : ℕ) where
     passed_few word true = few
     passed_few word false = beyond_so Few (having_met p word) few (λ none. ending_few (having_met p word) few (ends.Answered answers.Absent)) (λ asks untold. few)
 
-    told_few : (loaded : Bool) (word : ℕ) (found : Finding) → Few (told_of loaded p word found)
+    told_few : (loaded : Bool) (word : ℕ) (found : Finding) → Few (after_finding loaded p word found)
     told_few loaded word finds.Free = free_few p few p.missing
     told_few loaded word finds.Passed = passed_few word (nat_lt p.trial.probe.len p.trial.table.limit)
     told_few loaded word finds.Moved = few
@@ -264,6 +264,6 @@ module _ {K V Q : Type 0} (n : ℕ) where
     plan_few (at.Drops over) is met never = on_dropped over
     plan_few (at.Over over) is met never = few
 
-pub calls_keep_most : {K Q : Type 0} (V : Type 0) (same : K → K → Bool) (hash : K → ℕ) (asks : Q → K → Bool) → CallsKeepMost V same hash asks
+pub calls_keep_most : {K Q : Type 0} (V : Type 0) (same : K → K → Bool) (hash : K → ℕ) (asks : Q → K → Bool) → CallsPreserveMost V same hash asks
 calls_keep_most V same hash asks m m2 p end n few met never s =
     always_steps (Few n) m m2 (call_plan asks same hash p) end (plan_few n asks same hash p few p.stands refl met never) s

@@ -14,7 +14,7 @@ use Rattle.many_maps.specs.Given.RuleRule.{Rule, total}
 use Rattle.many_maps.specs.Given.RuleWords.{Blocks}
 use Rattle.many_maps.specs.Given.RuleMaps.{spot_of}
 use Rattle.many_maps.specs.Given.RuleInWorld.{IsMapIn}
-use Rattle.many_maps.specs.Given.PointsFactsCalls.{Change, Unchanged, Stored, Replaced, Removed, AnswersOf, Tells, Changes}
+use Rattle.many_maps.specs.Given.PointsFactsCalls.{Change, Unchanged, Stored, Replaced, Removed, AnswersOf, AnswersChange, Changes}
 use Rattle.many_maps.proofs.Given.RuleWorld.Hands.{current_known}
 use Rattle.many_maps.proofs.Given.RuleMoves.Totals.{total_same}
 use Rattle.owner_facts.specs.Alone.Counting.{one_if, pairs_in, shards_sum, IsCounted}
@@ -125,7 +125,7 @@ module _ {K V Q : Type 0} (same : K → K → Bool) (hash : K → ℕ) (setting 
 
   -- A call has counted what it answers, and has changed what it answers: the shards say how many pairs the map has, where they did.
   pub counted_then : (change : Change) (answer : KeyAnswer) → HasChanged same hash setting keys c0 c change
-      → ((change ≡ Unchanged) × AnswersOf same hash asks w 0 setting c blocks keys change answer) ⊎ Tells same hash asks w 0 setting c blocks keys change change answer
+      → ((change ≡ Unchanged) × AnswersOf same hash asks w 0 setting c blocks keys change answer) ⊎ AnswersChange same hash asks w 0 setting c blocks keys change change answer
       → HasAdded setting m0 (counted_for answer) w.memory → Now
   counted_then change answer changed (inl told) added = looked answer (subst (HasChanged same hash setting keys c0 c) told.0 changed) told.1 added
     where
@@ -137,7 +137,7 @@ module _ {K V Q : Type 0} (same : K → K → Bool) (hash : K → ℕ) (setting 
       looked (answers.Removed word) h t k = absurd t
   counted_then change answer changed (inr told) added = by change answer changed told added
     where
-      by : (x : Change) (a : KeyAnswer) → HasChanged same hash setting keys c0 c x → Tells same hash asks w 0 setting c blocks keys change x a → HasAdded setting m0 (counted_for a) w.memory → Now
+      by : (x : Change) (a : KeyAnswer) → HasChanged same hash setting keys c0 c x → AnswersChange same hash asks w 0 setting c blocks keys change x a → HasAdded setting m0 (counted_for a) w.memory → Now
       by Unchanged answers.Absent h t k = absurd t
       by Unchanged (answers.Found word) h t k = absurd t
       by Unchanged (answers.Stored word) h t k = absurd t

@@ -16,7 +16,7 @@ use Rattle.many_maps.specs.Given.ResizeDeclared.new_map.Opening.TheVariants as a
 use Rattle.many_maps.specs.Given.RuleRule.{IsLawful}
 use Rattle.many_maps.specs.Given.RuleMaps.{spot_of}
 use Rattle.many_maps.specs.Makings.{HasRoots}
-use Rattle.owner_facts.specs.Maps.FactsBegins.{OpeningFacts, BeginFacts, BeginTold, BeginWent}
+use Rattle.owner_facts.specs.Maps.FactsBegins.{OpeningFacts, BeginFacts, BeginOutcome, BeginStepSpec}
 use Rattle.owner_facts.proofs.Maps.Begins.Roots.{begin_still, may_takes, went_takes, may_frees, went_frees}
 use Rattle.owner_facts.proofs.Maps.Begins.Tables.{may_shards, went_shards, may_tables, went_tables, may_unmakes, went_unmakes}
 
@@ -38,7 +38,7 @@ module _ {K V : Type 0} (same : K → K → Bool) (hash : K → ℕ) (caller : �
       may_at (at.Refused fault) here point = tt
 
       went_at : (stage : Opening) → n.stands ≡ stage → OpeningFacts same hash caller w setting n stage → (m2 : Mem (Node K V)) (end : NewMap × Advance Setting)
-          → Steps Took value_at w.memory (plan_at n stage) m2 end → BeginWent same hash caller setting stage w n.setting.root m2 end
+          → Steps Took value_at w.memory (plan_at n stage) m2 end → BeginStepSpec same hash caller setting stage w n.setting.root m2 end
       went_at at.Takes here point m2 end s = went_takes same hash caller setting w n f here point m2 end s
       went_at at.Shards here point m2 end s = went_shards same hash caller setting w n f mask_fits point m2 end s
       went_at (at.Tables making) here point m2 end s = went_tables same hash caller setting w n f lawful initial_is making point m2 end s
@@ -46,14 +46,14 @@ module _ {K V : Type 0} (same : K → K → Bool) (hash : K → ℕ) (caller : �
       went_at (at.Frees fault) here point m2 end s = went_frees same hash caller setting w n f fault point m2 end s
       went_at at.Over here point m2 end s =
           begin_still same hash caller setting w at.Over n.setting.root m2 s.0 end
-          (subst (λ (e : NewMap × Advance Setting). BeginTold same hash caller setting at.Over w w e) (sym s.1) (refl, f.setting_is, point))
+          (subst (λ (e : NewMap × Advance Setting). BeginOutcome same hash caller setting at.Over w w e) (sym s.1) (refl, f.setting_is, point))
       went_at (at.Refused fault) here point m2 end s =
           begin_still same hash caller setting w (at.Refused fault) n.setting.root m2 s.0 end
-          (subst (λ (e : NewMap × Advance Setting). BeginTold same hash caller setting (at.Refused fault) w w e) (sym s.1) refl)
+          (subst (λ (e : NewMap × Advance Setting). BeginOutcome same hash caller setting (at.Refused fault) w w e) (sym s.1) refl)
 
     pub may_new_map : (n : NewMap) → BeginFacts same hash caller w setting n → May Can Took value_at w.memory (new_map_plan n)
     may_new_map n f = may_at n f n.stands refl f.point
 
     pub went_new_map : (n : NewMap) → BeginFacts same hash caller w setting n → (m2 : Mem (Node K V)) (end : NewMap × Advance Setting)
-        → Steps Took value_at w.memory (new_map_plan n) m2 end → BeginWent same hash caller setting n.stands w n.setting.root m2 end
+        → Steps Took value_at w.memory (new_map_plan n) m2 end → BeginStepSpec same hash caller setting n.stands w n.setting.root m2 end
     went_new_map n f m2 end s = went_at n f n.stands refl f.point m2 end s

@@ -21,13 +21,13 @@ use Rattle.many_maps.specs.Given.ResizeDeclared.new_map.NewMap.{NewMap}
 use Rattle.many_maps.specs.Given.ResizeDeclared.new_map.Opening.{Opening}
 use Rattle.many_maps.specs.Given.ResizeDeclared.new_map.Opening.TheVariants as at
 use Rattle.many_maps.proofs.Given.RuleWorld.WentStill.{spares_same, spares_written}
-use Rattle.owner_facts.specs.Maps.FactsBegins.{OpeningFacts, BeginFacts, LeavesRoots, BeginTold, BeginWent}
+use Rattle.owner_facts.specs.Maps.FactsBegins.{OpeningFacts, BeginFacts, LeavesRoots, BeginOutcome, BeginStepSpec}
 use Rattle.many_maps.proofs.Given.General.{some_is as is_some_of}
 
 module _ {K V : Type 0} (same : K → K → Bool) (hash : K → ℕ) (caller : ℕ) (setting : Setting) (w : World (Node K V)) where
   -- a step that changed nothing
-  pub begin_still : (stage : Opening) (root : ℕ) (m2 : Mem (Node K V)) → m2 ≡ w.memory → (end : NewMap × Advance Setting) → BeginTold same hash caller setting stage w w end
-      → BeginWent same hash caller setting stage w root m2 end
+  pub begin_still : (stage : Opening) (root : ℕ) (m2 : Mem (Node K V)) → m2 ≡ w.memory → (end : NewMap × Advance Setting) → BeginOutcome same hash caller setting stage w w end
+      → BeginStepSpec same hash caller setting stage w root m2 end
   begin_still stage root m2 is end told = record {
     w2 = w;
     events = [];
@@ -57,7 +57,7 @@ module _ {K V : Type 0} (same : K → K → Bool) (hash : K → ℕ) (caller : �
     -- an operation wrote whether the root is taken
     begin_wrote : (stage : Opening) (op : Op (Node K V)) (out : Out (Node K V)) → IsOwnOp deferred_word w.memory op → Took w.memory op out (with_word w.memory (Used root) new)
         → (m2 : Mem (Node K V)) → m2 ≡ with_word w.memory (Used root) new → (end : NewMap × Advance Setting)
-        → BeginTold same hash caller setting stage w (record w { memory = with_word w.memory (Used root) new }) end → BeginWent same hash caller setting stage w root m2 end
+        → BeginOutcome same hash caller setting stage w (record w { memory = with_word w.memory (Used root) new }) end → BeginStepSpec same hash caller setting stage w root m2 end
     begin_wrote stage op out own took m2 is end told = record {
       w2 = record w { memory = with_word w.memory (Used root) new };
       events = Operates op ∷ [];
@@ -78,14 +78,14 @@ module _ {K V : Type 0} (same : K → K → Bool) (hash : K → ℕ) (caller : �
       pub may_takes : May Can Took value_at w.memory (takes n)
       may_takes = may_exchange w.memory (taken n) (Used n.setting.root) 0 1 there (λ x is. tt) (λ x is. tt)
 
-      next_told : BeginTold same hash caller setting at.Takes w w (next_root n)
+      next_told : BeginOutcome same hash caller setting at.Takes w w (next_root n)
       next_told = by (nat_lt n.setting.root (n.roots - 1)) refl
         where
           below : (r roots : ℕ) → nat_lt r (roots - 1) ≡ true → r + 1 < roots
           below r roots e = grind arith
 
           by : (b : Bool) → nat_lt n.setting.root (n.roots - 1) ≡ b
-              → BeginTold same hash caller setting at.Takes w w
+              → BeginOutcome same hash caller setting at.Takes w w
               (if b then (record n { setting = at_root n.setting (n.setting.root + 1) }, progress.Goes) else refused n RootsUsedUp)
           by true e = record {
             setting_is = ap (λ (s : Setting). at_root s (n.setting.root + 1)) f.setting_is;
@@ -103,15 +103,15 @@ module _ {K V : Type 0} (same : K → K → Bool) (hash : K → ℕ) (caller : �
           by (used, is, free) = free (cc)
 
       pub went_takes : (m2 : Mem (Node K V)) (end : NewMap × Advance Setting) → Steps Took value_at w.memory (takes n) m2 end
-          → BeginWent same hash caller setting at.Takes w n.setting.root m2 end
+          → BeginStepSpec same hash caller setting at.Takes w n.setting.root m2 end
       went_takes m2 end s =
-          elim (exchanged w.memory (taken n) (Used n.setting.root) 0 1 m2 end s) as (λ _. BeginWent same hash caller setting at.Takes w n.setting.root m2 end) [
+          elim (exchanged w.memory (taken n) (Used n.setting.root) 0 1 m2 end s) as (λ _. BeginStepSpec same hash caller setting at.Takes w n.setting.root m2 end) [
             | inl d ↦ (let free : word_at w.memory (Used n.setting.root) ≡ Some 0 = d.1.0 ∙ ap Some d.1.1 in
                 begin_wrote n.setting.root 1 there at.Takes (Exchange (Used n.setting.root) 0 1) (Exchanged (Ok d.0)) tt (d.1, refl) m2 d.2 end
-                (subst (λ (e : NewMap × Advance Setting). BeginTold same hash caller setting at.Takes w (record w { memory = with_word w.memory (Used n.setting.root) 1 }) e) (sym d.3)
+                (subst (λ (e : NewMap × Advance Setting). BeginOutcome same hash caller setting at.Takes w (record w { memory = with_word w.memory (Used n.setting.root) 1 }) e) (sym d.3)
                 (begin_at (record w { memory = with_word w.memory (Used n.setting.root) 1 }) n at.Shards f
                 (point.0, (used_written n.setting.root 1 there, free_root free)))))
-            | inr d ↦ begin_still at.Takes n.setting.root m2 d.2 end (subst (λ (e : NewMap × Advance Setting). BeginTold same hash caller setting at.Takes w w e) (sym d.3) next_told)
+            | inr d ↦ begin_still at.Takes n.setting.root m2 d.2 end (subst (λ (e : NewMap × Advance Setting). BeginOutcome same hash caller setting at.Takes w w e) (sym d.3) next_told)
           ]
 
     -- the root is given up
@@ -123,9 +123,9 @@ module _ {K V : Type 0} (same : K → K → Bool) (hash : K → ℕ) (caller : �
       may_frees = may_store w.memory (λ out. Now (refused n fault)) (Used n.setting.root) 0 taken_there tt
 
       pub went_frees : (m2 : Mem (Node K V)) (end : NewMap × Advance Setting) → Steps Took value_at w.memory (frees n fault) m2 end
-          → BeginWent same hash caller setting (at.Frees fault) w n.setting.root m2 end
+          → BeginStepSpec same hash caller setting (at.Frees fault) w n.setting.root m2 end
       went_frees m2 end s =
           let d = stored w.memory (λ out. Now (refused n fault)) (Used n.setting.root) 0 m2 end s in
           begin_wrote n.setting.root 0 taken_there (at.Frees fault) (Store (Used n.setting.root) 0) Stored tt (tt, refl) m2 d.0 end
-          (subst (λ (e : NewMap × Advance Setting). BeginTold same hash caller setting (at.Frees fault) w (record w { memory = with_word w.memory (Used n.setting.root) 0 }) e) (sym d.1)
+          (subst (λ (e : NewMap × Advance Setting). BeginOutcome same hash caller setting (at.Frees fault) w (record w { memory = with_word w.memory (Used n.setting.root) 0 }) e) (sym d.1)
           (used_written n.setting.root 0 taken_there, point.0.1))

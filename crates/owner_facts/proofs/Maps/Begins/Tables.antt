@@ -35,13 +35,13 @@ use Rattle.many_maps.specs.Given.RuleWords.{Blocks}
 use Rattle.many_maps.specs.Given.RuleMaps.{spot_of}
 use Rattle.many_maps.specs.Given.RuleInWorld.{IsMapIn}
 use Rattle.many_maps.specs.Given.PointsFactsTables.{NewTableFacts}
-use Rattle.many_maps.specs.Given.PointsTold.{NewTableTold, LinksLast}
+use Rattle.many_maps.specs.Given.PointsTold.{NewTableOutcome, LinksLast}
 use Rattle.many_maps.proofs.Given.RuleWorld.CounterSpared.{spares_counter}
 use Rattle.many_maps.proofs.Given.RuleWorld.Hands.{at_cases}
 use Rattle.many_maps.proofs.Given.PointsMaking.OwnTables.{zero_at}
 use Rattle.many_maps.proofs.Given.PointsMaking.NewTable.{links_current, only_links, may_new_table, went_new_table_lowers}
 use Rattle.many_maps.proofs.Given.RuleWorld.WentStill.{spares_made, spares_taken}
-use Rattle.owner_facts.specs.Maps.FactsBegins.{IsNew, OpeningFacts, BeginFacts, BeginTold, BeginWent}
+use Rattle.owner_facts.specs.Maps.FactsBegins.{IsNew, OpeningFacts, BeginFacts, BeginOutcome, BeginStepSpec}
 use Rattle.owner_facts.proofs.Alone.Lone.Beside.{rests_first, rests_linked}
 use Rattle.many_maps.proofs.Given.CallersMapBegins.{map_begins}
 use Rattle.many_maps.specs.Given.CallersTogether.{no_blocks}
@@ -89,10 +89,10 @@ module _ {K V : Type 0} (same : K → K → Bool) (hash : K → ℕ) where
         setting_begun : with_counter n.setting b ≡ with_counter (at_root setting n.setting.root) b
         setting_begun = ap (λ (s : Setting). with_counter s b) f.setting_is
 
-        shards_told : BeginTold same hash caller setting at.Shards w w2 (with_shards begun)
+        shards_told : BeginOutcome same hash caller setting at.Shards w w2 (with_shards begun)
         shards_told = by (n.len == 0) refl
           where
-            by : (x : Bool) → (n.len == 0) ≡ x → BeginTold same hash caller setting at.Shards w w2 (if x then done begun else goes begun (at.Tables (first_table (with_counter n.setting b) n.len)))
+            by : (x : Bool) → (n.len == 0) ≡ x → BeginOutcome same hash caller setting at.Shards w w2 (if x then done begun else goes begun (at.Tables (first_table (with_counter n.setting b) n.len)))
             by true e = (refl, setting_begun, record { chart = no_table; blocks = no_blocks; map = there; new = inl (eqb-true n.len 0 e, refl); empty = λ p. refl; alone = rests_first K (is_incremental n.setting.mode) caller; used = point.1.0; counter = hand_is })
             by false e = record {
               setting_is = setting_begun;
@@ -101,9 +101,9 @@ module _ {K V : Type 0} (same : K → K → Bool) (hash : K → ℕ) where
             }
 
       pub went_shards : (m2 : Mem (Node K V)) (end : NewMap × Advance Setting) → Steps Took value_at w.memory (shards n) m2 end
-          → BeginWent same hash caller setting at.Shards w n.setting.root m2 end
+          → BeginStepSpec same hash caller setting at.Shards w n.setting.root m2 end
       went_shards mem end s =
-          elim (make_made w.memory (made n) node.Shards ((n.setting.mask + 1) % 2 ^ 64) mem end s) as (λ _. BeginWent same hash caller setting at.Shards w n.setting.root mem end) [
+          elim (make_made w.memory (made n) node.Shards ((n.setting.mask + 1) % 2 ^ 64) mem end s) as (λ _. BeginStepSpec same hash caller setting at.Shards w n.setting.root mem end) [
             | inl d ↦ record {
               w2 = w2 d.0 d.1;
               events = Makes caller node.Shards ((n.setting.mask + 1) % 2 ^ 64) ∷ [];
@@ -112,10 +112,10 @@ module _ {K V : Type 0} (same : K → K → Bool) (hash : K → ℕ) where
               memory = sym d.2;
               others = λ r other. (refl, refl);
               spares = spares_made w caller node.Shards ((n.setting.mask + 1) % 2 ^ 64) d.0 d.1.0;
-              told = subst (λ (e : NewMap × Advance Setting). BeginTold same hash caller setting at.Shards w (w2 d.0 d.1) e) (sym d.3) (shards_told d.0 d.1);
+              told = subst (λ (e : NewMap × Advance Setting). BeginOutcome same hash caller setting at.Shards w (w2 d.0 d.1) e) (sym d.3) (shards_told d.0 d.1);
             }
             | inr d ↦ begin_still same hash caller setting w at.Shards n.setting.root mem d.2 end
-                (subst (λ (e : NewMap × Advance Setting). BeginTold same hash caller setting at.Shards w w e) (sym d.3)
+                (subst (λ (e : NewMap × Advance Setting). BeginOutcome same hash caller setting at.Shards w w e) (sym d.3)
                 (begin_at same hash caller setting w w n (at.Frees Memory) f (point.1, inl point.0)))
           ]
 
@@ -134,7 +134,7 @@ module _ {K V : Type 0} (same : K → K → Bool) (hash : K → ℕ) where
       dropped = at_cases (λ (h : Hand). h ≢ Making caller) w.hand n.setting.counter NoBlock n.setting.counter (λ e is. absurd (cc)) (λ ne. absurd (ne refl))
 
       pub went_unmakes : (m2 : Mem (Node K V)) (end : NewMap × Advance Setting) → Steps Took value_at w.memory (unmakes n fault) m2 end
-          → BeginWent same hash caller setting (at.Unmakes fault) w n.setting.root m2 end
+          → BeginStepSpec same hash caller setting (at.Unmakes fault) w n.setting.root m2 end
       went_unmakes m2 end s =
           let d = taken w.memory (λ out. Now (goes n (at.Frees fault))) n.setting.counter m2 end s in
           record {
@@ -145,7 +145,7 @@ module _ {K V : Type 0} (same : K → K → Bool) (hash : K → ℕ) where
             memory = sym d.2;
             others = λ r other. (refl, refl);
             spares = spares_taken w n.setting.counter NoBlock (Dropped n.setting.counter ∷ w.log) counter_there (λ k v is. let shards = point.2 in absurd (cc));
-            told = subst (λ (e : NewMap × Advance Setting). BeginTold same hash caller setting (at.Unmakes fault) w left e) (sym d.3)
+            told = subst (λ (e : NewMap × Advance Setting). BeginOutcome same hash caller setting (at.Unmakes fault) w left e) (sym d.3)
                 (begin_at same hash caller setting w left n (at.Frees fault) f (point.0, inr dropped));
           }
 
@@ -169,7 +169,7 @@ module _ {K V : Type 0} (same : K → K → Bool) (hash : K → ℕ) where
         unlinked end (inr (last, table, is, e)) other = absurd (other table is)
 
         new_then : (making2 : NewTable) (table : Table) → LinksLast hash n.setting.mode 0 no_table c2 (making2, progress.Done table)
-            → NewTableTold w2 caller n.setting c2 blocks2 (Root n.setting.root) 0 (making2, progress.Done table) → table.len ≡ max n.len 8 → IsNew hash n.setting n.len c2
+            → NewTableOutcome w2 caller n.setting c2 blocks2 (Root n.setting.root) 0 (making2, progress.Done table) → table.len ≡ max n.len 8 → IsNew hash n.setting n.len c2
         new_then making2 table (inl e) told len_is = absurd (let made = told.2.made in let past = ap (λ (x : Chart K). x.past) e in omega (arith, made, past))
         new_then making2 table (inr (last, other, is, e)) told len_is =
             inr (other.limit, e ∙ ap (λ (x : ℕ). chart_after (spot_of hash) (is_incremental n.setting.mode) (Links x other.limit) no_table) (ap (λ (x : Table). x.len) same_table ∙ len_is))
@@ -177,8 +177,8 @@ module _ {K V : Type 0} (same : K → K → Bool) (hash : K → ℕ) where
             same_table : other ≡ table
             same_table = cc is
 
-        opened_told : (end : NewTable × Advance Table) → LinksLast hash n.setting.mode 0 no_table c2 end → NewTableTold w2 caller n.setting c2 blocks2 (Root n.setting.root) 0 end → LensTo (max n.len 8) end
-            → BeginTold same hash caller setting (at.Tables making) w w2 (opened n end)
+        opened_told : (end : NewTable × Advance Table) → LinksLast hash n.setting.mode 0 no_table c2 end → NewTableOutcome w2 caller n.setting c2 blocks2 (Root n.setting.root) 0 end → LensTo (max n.len 8) end
+            → BeginOutcome same hash caller setting (at.Tables making) w w2 (opened n end)
         opened_told (making2, progress.Goes) links told lens =
             let same_chart : c2 ≡ no_table = unlinked (making2, progress.Goes) links (λ table is. absurd (cc is)) in
             begin_at same hash caller setting w w2 n (at.Tables making2) f (
@@ -210,7 +210,7 @@ module _ {K V : Type 0} (same : K → K → Bool) (hash : K → ℕ) where
             ((used, (subst (λ (x : Chart K). IsMapIn same hash n.setting w2 x blocks2) same_chart map2).map.shows.root_there), hand, map2.counter)
 
       pub went_tables : (m2 : Mem (Node K V)) (end : NewMap × Advance Setting) → Steps Took value_at w.memory (plan_as (opened n) (new_table_plan making)) m2 end
-          → BeginWent same hash caller setting (at.Tables making) w n.setting.root m2 end
+          → BeginStepSpec same hash caller setting (at.Tables making) w n.setting.root m2 end
       went_tables m2 end s =
           let b = steps_back (opened n) w.memory m2 (new_table_plan making) end s in
           let g = went_new_table_lowers same hash w n.setting no_table point.2 point.3 caller (Root n.setting.root) 0 power lawful making point.4 m2 b.0 b.1 in
@@ -225,7 +225,7 @@ module _ {K V : Type 0} (same : K → K → Bool) (hash : K → ℕ) where
             memory = g.memory;
             others = λ r other. (leaves.others r other, leaves.used r);
             spares = g.told.0;
-            told = subst (λ (e : NewMap × Advance Setting). BeginTold same hash caller setting (at.Tables making) w g.w2 e) (sym b.2)
+            told = subst (λ (e : NewMap × Advance Setting). BeginOutcome same hash caller setting (at.Tables making) w g.w2 e) (sym b.2)
                 (opened_told g.w2 g.c2 g.blocks2 g.map (leaves.used n.setting.root ∙ point.0) (spares_counter same hash n.setting w no_table point.2 point.3 caller m2 _ g caller point.1) b.0 g.told.1 g.told.2
                 (lens_told w caller n.setting point.2 w.memory making (max n.len 8) point.4 point.5 m2 b.0 b.1));
           }

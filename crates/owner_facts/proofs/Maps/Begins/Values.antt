@@ -25,7 +25,7 @@ use Rattle.many_maps.specs.Given.ResizeDeclared.new_table.NewTable.{NewTable}
 use Rattle.many_maps.specs.Given.RuleRule.{no_table}
 use Rattle.many_maps.specs.Given.RuleWords.{Blocks}
 use Rattle.many_maps.specs.Given.PointsFactsTables.{IsLinkOf, NewTableFacts}
-use Rattle.owner_facts.specs.Maps.FactsBegins.{OpeningFacts, BeginFacts, BeginTold}
+use Rattle.owner_facts.specs.Maps.FactsBegins.{OpeningFacts, BeginFacts, BeginOutcome}
 use Rattle.many_maps.specs.Given.PointsMade.{IsMadeBy}
 use Rattle.owner_facts.specs.Alone.Values.{IsComing, IsMadeByOpening}
 use Rattle.owner_facts.specs.Maps.AloneBegins.{HasSameValues, IsAtRoot, HasLinked}
@@ -102,7 +102,7 @@ module _ {K V : Type 0} (same : K → K → Bool) (hash : K → ℕ) (setting : 
 
     opened_with : (b : NewTable × Advance Table) → IsComing m0 w.memory (λ b. ⊥) (λ b. (b ≡ n.setting.counter) ⊎ IsMadeBy making.stands b)
         → Leaves w.memory w2.memory (IsMadeBy making.stands) (MadeAfter b) (IsLinkedNow w 0 n.setting no_table blocks w2.memory)
-        → BeginTold same hash 0 setting (at.Tables making) w w2 (opened n b) → OpensWith m0 w2.memory (opened n b)
+        → BeginOutcome same hash 0 setting (at.Tables making) w w2 (opened n b) → OpensWith m0 w2.memory (opened n b)
     opened_with (next, progress.Goes) holds l told =
         comes_on m0 w.memory (λ b. ⊥) (λ b. (b ≡ n.setting.counter) ⊎ IsMadeBy making.stands b) holds w2.memory (λ b. ⊥) (λ b. (b ≡ n.setting.counter) ⊎ IsMadeBy next.stands b)
         (IsLinkedNow w 0 n.setting no_table blocks w2.memory) (λ b k. k) (not_yet told.point.3.map.shows.root_there)
@@ -128,7 +128,7 @@ module _ {K V : Type 0} (same : K → K → Bool) (hash : K → ℕ) (setting : 
         ]) (λ b k. inl k)
 
   at_point : (stage : Opening) → n.stands ≡ stage → OpeningFacts same hash 0 w setting n stage → IsComing m0 w.memory (HasLinked w.memory n.setting.root stage) (IsMadeByOpening n.setting.counter stage)
-      → BeginTold same hash 0 setting stage w w2 end → May Can Took value_at w.memory (plan_at n stage) → Steps Took value_at w.memory (plan_at n stage) w2.memory end → OpensWith m0 w2.memory end
+      → BeginOutcome same hash 0 setting stage w w2 end → May Can Took value_at w.memory (plan_at n stage) → Steps Took value_at w.memory (plan_at n stage) w2.memory end → OpensWith m0 w2.memory end
   at_point at.Takes here f holds told may s =
       let now = stays (λ b. ⊥) (λ b. ⊥) holds (plain_keeps w.memory w2.memory (plan_at n at.Takes) end tt may s) (λ b. ⊥) (λ b. ⊥) (λ b k. k) (λ b k. k) (λ b k. k) in
       elim (exchanged w.memory (root_taken n) (Used n.setting.root) 0 1 w2.memory end s) as (λ _. OpensWith m0 w2.memory end) [
@@ -150,7 +150,7 @@ module _ {K V : Type 0} (same : K → K → Bool) (hash : K → ℕ) (setting : 
       on_as (opened n b.0) b.2
       (opened_with making f.2 f.4 b.0 holds
       (making_leaves w 0 n.setting no_table f.2 w2.memory (Root n.setting.root) 0 making f.4 b.0 (may_as (opened n) Can Took value_at w.memory (new_table_plan making) may) b.1)
-      (subst (BeginTold same hash 0 setting (at.Tables making) w w2) b.2 told))
+      (subst (BeginOutcome same hash 0 setting (at.Tables making) w w2) b.2 told))
   at_point (at.Unmakes fault) here f holds told may s =
       let d = taken w.memory (λ out. Now (goes n (at.Frees fault))) n.setting.counter w2.memory end s in
       on_as (goes n (at.Frees fault)) d.3
@@ -170,6 +170,6 @@ module _ {K V : Type 0} (same : K → K → Bool) (hash : K → ℕ) (setting : 
       (none_left m0 w2.memory
       (stays (λ b. ⊥) (λ b. ⊥) holds (λ b. ap (λ (x : Mem (Node K V)). value_at x b) s.0) (λ b. ⊥) (λ b. ⊥) (λ b k. k) (λ b k. k) (λ b k. k)))
 
-  pub opens_with : IsComing m0 w.memory (HasLinked w.memory n.setting.root n.stands) (IsMadeByOpening n.setting.counter n.stands) → BeginTold same hash 0 setting n.stands w w2 end
+  pub opens_with : IsComing m0 w.memory (HasLinked w.memory n.setting.root n.stands) (IsMadeByOpening n.setting.counter n.stands) → BeginOutcome same hash 0 setting n.stands w w2 end
       → May Can Took value_at w.memory (new_map_plan n) → Steps Took value_at w.memory (new_map_plan n) w2.memory end → OpensWith m0 w2.memory end
   opens_with holds told may s = at_point n.stands refl facts.point holds told may s

@@ -38,12 +38,12 @@ use Rattle.many_maps.specs.Given.PointsSteps.{AreLawful}
 use Rattle.many_maps.proofs.Given.RuleKeys.Always.{always_steps}
 use Rattle.many_maps.proofs.Given.RuleMoves.Totals.{total_none}
 use Rattle.many_maps.proofs.Given.RuleWords.LinksSeen.{link_some, root_leads}
-use Rattle.owner_facts.specs.Maps.FactsBegins.{IsNew, HasBegun, LeavesRoots, OpeningFacts, BeginTold, BeginWent}
+use Rattle.owner_facts.specs.Maps.FactsBegins.{IsNew, HasBegun, LeavesRoots, OpeningFacts, BeginOutcome, BeginStepSpec}
 use Rattle.many_maps.specs.Given.CallersKept.{IsMaking}
 use Rattle.owner_facts.specs.Alone.Alone.{IsIdleNow}
 use Rattle.owner_facts.specs.Maps.AloneBegins.{HasSameRoots, HasTaken, RootsAt, IsAtRoot, IsUncounted, IsOpening, HasOpened, OpensTo}
 use Rattle.owner_facts.specs.Alone.Values.{IsComing, IsLinkedSince}
-use Rattle.owner_facts.specs.Maps.WholeBegins.{MapsBeginAlone, MapsGoOnAlone}
+use Rattle.owner_facts.specs.Maps.WholeBegins.{MapsBeginAlone, MapsContinueAlone}
 use Rattle.owner_facts.proofs.Maps.Begins.Length.{keeps_len}
 use Rattle.owner_facts.proofs.Maps.Begins.Uncounted.{UncountedTo, uncounted_none, opens_uncounted}
 use Rattle.owner_facts.proofs.Alone.Calls.Rests.{reached_on, reached_in, tables_reached, pairs_reached}
@@ -115,7 +115,7 @@ module _ {K V : Type 0} (same : K → K → Bool) (hash : K → ℕ) (are : AreL
   opening_may = may_new_map same hash 0 setting are.lawful initial_is mask_fits (at_rest deferred_word m h) n now.facts
 
   module _ (m2 : Mem (Node K V)) (n2 : NewMap) (end : Advance Setting) (steps : Steps Took value_at m (new_map_plan n) m2 (n2, end)) where
-    went : BeginWent same hash 0 setting n.stands (at_rest deferred_word m h) n.setting.root m2 (n2, end)
+    went : BeginStepSpec same hash 0 setting n.stands (at_rest deferred_word m h) n.setting.root m2 (n2, end)
     went = went_new_map same hash 0 setting are.lawful initial_is mask_fits (at_rest deferred_word m h) n now.facts m2 (n2, end) steps
 
     abbrev h2 : History
@@ -134,14 +134,14 @@ module _ {K V : Type 0} (same : K → K → Bool) (hash : K → ℕ) (are : AreL
     leaves : LeavesRoots same hash 0 m m2 n.setting.root
     leaves = subst (λ (x : Mem (Node K V)). LeavesRoots same hash 0 m x n.setting.root) went.memory went.others
 
-    told : BeginTold same hash 0 setting n.stands (at_rest deferred_word m h) (at_rest deferred_word m2 h2) (n2, end)
-    told = subst (λ (v : World (Node K V)). BeginTold same hash 0 setting n.stands (at_rest deferred_word m h) v (n2, end)) there went.told
+    told : BeginOutcome same hash 0 setting n.stands (at_rest deferred_word m h) (at_rest deferred_word m2 h2) (n2, end)
+    told = subst (λ (v : World (Node K V)). BeginOutcome same hash 0 setting n.stands (at_rest deferred_word m h) v (n2, end)) there went.told
 
     on_as : (other : NewMap × Advance Setting) → (n2, end) ≡ other → RootsTo same hash m0 m m2 other → RootsTo same hash m0 m m2 (n2, end)
     on_as other is r = subst (RootsTo same hash m0 m m2) (sym is) r
 
     roots_at : (stage : Opening) → n.stands ≡ stage → RootsAt m0 same hash m n.setting.root stage → Steps Took value_at m (plan_at n stage) m2 (n2, end)
-        → BeginTold same hash 0 setting stage (at_rest deferred_word m h) (at_rest deferred_word m2 h2) (n2, end) → RootsTo same hash m0 m m2 (n2, end)
+        → BeginOutcome same hash 0 setting stage (at_rest deferred_word m h) (at_rest deferred_word m2 h2) (n2, end) → RootsTo same hash m0 m m2 (n2, end)
     roots_at at.Takes here r s told2 =
         elim (exchanged m (root_taken n) (Used n.setting.root) 0 1 m2 (n2, end) s) as (λ _. RootsTo same hash m0 m m2 (n2, end)) [
           | inl d ↦ (let free : word_at m (Used n.setting.root) ≡ Some 0 = d.1.0 ∙ ap Some d.1.1 in
@@ -171,7 +171,7 @@ module _ {K V : Type 0} (same : K → K → Bool) (hash : K → ℕ) (are : AreL
         on_as (goes n (at.Frees fault)) d.3 (taken_on same hash m0 m m2 n.setting.root r leaves)
     roots_at (at.Frees fault) here r s told2 =
         let d = stored m (λ out. Now (refused n fault)) (Used n.setting.root) 0 m2 (n2, end) s in
-        let free = subst (λ (x : NewMap × Advance Setting). BeginTold same hash 0 setting (at.Frees fault) (at_rest deferred_word m h) (at_rest deferred_word m2 h2) x) d.1 told2 in
+        let free = subst (λ (x : NewMap × Advance Setting). BeginOutcome same hash 0 setting (at.Frees fault) (at_rest deferred_word m h) (at_rest deferred_word m2 h2) x) d.1 told2 in
         on_as (refused n fault) d.1 (given_up same hash m0 m m2 n.setting.root r leaves free.0 free.1)
     roots_at at.Over here r s told2 = on_as (n, progress.Done n.setting) s.1 (taken_on same hash m0 m m2 n.setting.root r leaves)
     roots_at (at.Refused fault) here r s told2 = on_as (n, progress.Refused fault) s.1 (same_on same hash m0 m m2 s.0 r)
@@ -241,7 +241,7 @@ module _ {K V : Type 0} (same : K → K → Bool) (hash : K → ℕ) (are : AreL
     opening_told : OpensTo same hash setting roots len m0 h0 n2 m2 end
     opening_told = by end told roots2 holds2 uncounted2
       where
-        by : (q : Advance Setting) → BeginTold same hash 0 setting n.stands (at_rest deferred_word m h) (at_rest deferred_word m2 h2) (n2, q) → RootsTo same hash m0 m m2 (n2, q)
+        by : (q : Advance Setting) → BeginOutcome same hash 0 setting n.stands (at_rest deferred_word m h) (at_rest deferred_word m2 h2) (n2, q) → RootsTo same hash m0 m m2 (n2, q)
             → OpensWith m0 m2 (n2, q) → UncountedTo m2 (n2, q) → OpensTo same hash setting roots len m0 h0 n2 m2 q
         by progress.Goes f r k u = (h2, record { history = history2; facts = f; len_is = len2; roots_are = r; holds = k; uncounted = u; handed = now.handed })
         by progress.Waits f r k u = f
@@ -260,7 +260,7 @@ module _ {K : Type 0} (V : Type 0) (same : K → K → Bool) (hash : K → ℕ) 
     handed = (refl, refl);
   }
 
-  pub maps_go_on_alone : MapsGoOnAlone V same hash
+  pub maps_go_on_alone : MapsContinueAlone V same hash
   maps_go_on_alone are setting initial_is mask_fits roots len m0 h0 n m h now = (
     opening_may same hash are setting initial_is mask_fits roots len m0 h0 n m h now,
     λ m2 n2 end steps. opening_told same hash are setting initial_is mask_fits roots len m0 h0 n m h now m2 n2 end steps,

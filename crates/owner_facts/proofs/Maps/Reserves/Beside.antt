@@ -28,14 +28,14 @@ use Rattle.many_maps.specs.Given.PointsFactsCopies.{CopierFacts}
 use Rattle.many_maps.specs.Given.PointsFactsCopiesBlocking.{CopierFactsBlocking}
 use Rattle.many_maps.specs.Given.PointsMeasures.{OthersIdle}
 use Rattle.many_maps.specs.Given.PointsFactsAloneBlocking.{AloneBlocking, LeadsAlone}
-use Rattle.many_maps.specs.Given.PointsTold.{IsRowOfCopier, CopierTold, CopierToldBlocking, OnlyLinks}
+use Rattle.many_maps.specs.Given.PointsTold.{IsRowOfCopier, CopierOutcome, CopierOutcomeBlocking, OnlyLinks}
 use Rattle.many_maps.specs.Given.PointsToldMoves.{MovedAt}
 use Rattle.many_maps.proofs.Given.PointsCalls.Making.{links_beside}
 use Rattle.many_maps.specs.Given.LateFactsReserves.{CopiesPairs, IsEnding, CopiesWhole, ReservingFacts}
-use Rattle.many_maps.specs.Given.LateToldReserves.{EndsAtRoot, WholeTold, IsRowOfReserve}
+use Rattle.many_maps.specs.Given.LateToldReserves.{EndsAtRoot, WholeCopyOutcome, IsRowOfReserve}
 use Rattle.many_maps.proofs.Given.LateRooms.Reserves.Moved.{IsFresh, Proceeds, CopierMoves, ReserveMoves}
 use Rattle.owner_facts.specs.Alone.FactsAlone.{FactsAlone}
-use Rattle.owner_facts.specs.Alone.FactsAloneCalls.{TablesAlone, RestsAlone}
+use Rattle.owner_facts.specs.Alone.FactsAloneCalls.{TablesAlone, AloneBetweenCalls}
 use Rattle.owner_facts.proofs.Alone.Lone.Beside.{alone_begins, beside_idle, beside_tables}
 use Rattle.owner_facts.proofs.Alone.Lone.Copier.{alone_goes}
 use Rattle.owner_facts.proofs.Alone.Lone.Keeps.{kept_at}
@@ -47,8 +47,8 @@ abbrev pub CopierLeads : {K T : Type 0} → Bool → ℕ → Chart K → Copier 
 CopierLeads b caller c (p, outcome.Goes) = OthersIdle caller c × CopierAlone b c p
 CopierLeads b caller c (p, outcome.Waits) = ⊥
 CopierLeads b caller c (p, outcome.Gave value) = ⊥
-CopierLeads b caller c (p, outcome.Done table) = RestsAlone b caller c
-CopierLeads b caller c (p, outcome.Refused fault) = RestsAlone b caller c
+CopierLeads b caller c (p, outcome.Done table) = AloneBetweenCalls b caller c
+CopierLeads b caller c (p, outcome.Refused fault) = AloneBetweenCalls b caller c
 
 module _ {K : Type 0} (b : Bool) (c : Chart K) where
   beside_is : (stands : Reserving) → (CopiesPairs stands → ⊥) → ReservesAlone b c stands ≡ TablesAlone b c
@@ -107,7 +107,7 @@ module _ {K V : Type 0} (b : Bool) (caller : ℕ) (c : Chart K) where
       → FactsAlone c caller end.0 × (end.1 ≢ outcome.Goes → IsQuiet end.0.stands) → CopierLeads b caller c end
   led_incremental bits end goes none kept = subst (λ (x : Bool). CopierLeads x caller c end) (sym bits) (by end goes none kept)
     where
-      rests : (p : Copier) → IsQuiet p.stands → FactsAlone c caller p → RestsAlone true caller c
+      rests : (p : Copier) → IsQuiet p.stands → FactsAlone c caller p → AloneBetweenCalls true caller c
       rests p quiet alone = record { idle = alone.idle; tables = quiet_alone c p p.stands quiet alone.point }
 
       by : (end : Copier × Yielding (Node K V) Table) → end.1 ≢ outcome.Waits → ((value : Node K V) → end.1 ≢ outcome.Gave value)
@@ -139,7 +139,7 @@ module _ {K V : Type 0} (b : Bool) (caller : ℕ) (c : Chart K) where
 module _ {K V : Type 0} (same : K → K → Bool) (hash : K → ℕ) (caller : ℕ) (setting : Setting) (lawful : IsLawful same (spot_of hash)) (fits : (k : K) → hash k < 2 ^ 64)
     (initial_is : IsPowerOfTwo setting.initial) (w w2 : World (Node K V)) (c c2 : Chart K) (blocks blocks2 : Blocks) (map : IsMapIn same hash setting w c blocks)
     (map2 : IsMapIn same hash setting w2 c2 blocks2) (m2 : Mem (Node K V)) where
-  gives_none : (end : Copier × Yielding (Node K V) Table) → CopierTold w2 caller setting c2 blocks2 same hash end → (value : Node K V) → end.1 ≢ outcome.Gave value
+  gives_none : (end : Copier × Yielding (Node K V) Table) → CopierOutcome w2 caller setting c2 blocks2 same hash end → (value : Node K V) → end.1 ≢ outcome.Gave value
   gives_none (p, outcome.Goes) told value e = absurd (cc e)
   gives_none (p, outcome.Waits) told value e = absurd (cc e)
   gives_none (p, outcome.Gave other) told value e = told
@@ -153,8 +153,8 @@ module _ {K V : Type 0} (same : K → K → Bool) (hash : K → ℕ) (caller : �
 
   abbrev ToldIn : Copier × Yielding (Node K V) Table → Bool → Type 0
   ToldIn end b =
-      cond b (CopierTold w2 caller setting c2 blocks2 same hash end × (end.0.whole ≡ true) × EndsAtRoot w2 caller setting c2 blocks2 same hash end)
-      (CopierToldBlocking w2 caller setting c2 blocks2 same hash end)
+      cond b (CopierOutcome w2 caller setting c2 blocks2 same hash end × (end.0.whole ≡ true) × EndsAtRoot w2 caller setting c2 blocks2 same hash end)
+      (CopierOutcomeBlocking w2 caller setting c2 blocks2 same hash end)
 
   abbrev MovedIn : Copier → Copier × Yielding (Node K V) Table → Bool → Type 0
   MovedIn copier end b =
@@ -162,7 +162,7 @@ module _ {K V : Type 0} (same : K → K → Bool) (hash : K → ℕ) (caller : �
 
   -- a step of its copier, by the mode of the map
   pub copier_leads : (b : Bool) → is_incremental setting.mode ≡ b → (copier : Copier) → (IsRowOfCopier copier.stands → ⊥) → CopiesWhole same hash w caller setting c blocks copier
-      → (end : Copier × Yielding (Node K V) Table) → Steps Took value_at w.memory (copier_plan hash copier) m2 end → WholeTold w2 caller setting c2 blocks2 same hash end
+      → (end : Copier × Yielding (Node K V) Table) → Steps Took value_at w.memory (copier_plan hash copier) m2 end → WholeCopyOutcome w2 caller setting c2 blocks2 same hash end
       → CopierMoves same hash caller setting w c copier end c2 → OthersIdle caller c → CopierAlone b c copier → CopierLeads b caller c2 end
   copier_leads true bits copier none facts end s told moves idle alone =
       let f = subst (KnowsIn copier) bits facts in

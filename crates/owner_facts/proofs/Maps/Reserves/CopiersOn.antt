@@ -12,7 +12,7 @@ use Rattle.many_maps.specs.Given.ResizeNewTable.{new_table_plan}
 use Rattle.many_maps.specs.Given.TablesProbes.{probe_after}
 use Rattle.many_maps.specs.Given.ResizeCopier.{plan_at}
 use Rattle.many_maps.specs.Given.ResizeCopierStates.{standing, behind, none_left, next_place, place_done}
-use Rattle.many_maps.specs.Given.ResizeCopierPlaces.{next_try, place_read, put_told}
+use Rattle.many_maps.specs.Given.ResizeCopierPlaces.{next_try, place_read, after_put}
 use Rattle.many_maps.specs.Given.ResizeCopierMarks.{is_mine, is_awaited, mine_marked, marked}
 use Rattle.many_maps.specs.Given.ResizeCopierClaims.{root_read, next_read, status_read, claim_read, claimed}
 use Rattle.many_maps.specs.Given.ResizeCopierCounts.{refusing, counted}
@@ -149,7 +149,7 @@ module _ (Fits : Table → Type 0) where
       on_place probe (Taken value) = ((here, fits), tt)
       on_place probe (Roomed r) = ((here, fits), tt)
 
-      on_put : (probe : Probe) (out : Out (Node K V)) → On (put_told p word code table probe out)
+      on_put : (probe : Probe) (out : Out (Node K V)) → On (after_put p word code table probe out)
       on_put probe (Exchanged (Ok found)) = (either (is_incremental p.setting.mode) (standing p (at.Covers word)) (place_done p) (tt, fits) (on_place_done p fits), tt)
       on_put probe (Exchanged (Err found)) = (on_next_try probe, tt)
       on_put probe (Found found) = ((here, fits), tt)

@@ -29,7 +29,7 @@ use Rattle.many_maps.specs.Given.ReservesDeclared.reserve.Reserving.TheVariants 
 use Rattle.many_maps.specs.Given.RuleChart.{Chart}
 use Rattle.many_maps.specs.Given.RuleWords.{Blocks}
 use Rattle.many_maps.specs.Given.RuleInWorld.{IsMapIn}
-use Rattle.many_maps.specs.Given.PointsTold.{SumTold}
+use Rattle.many_maps.specs.Given.PointsTold.{SumOutcome}
 use Rattle.many_maps.proofs.Given.RuleKeys.Always.{Always, AlwaysOf, always_if, always_plan_as, always_steps}
 use Rattle.many_maps.proofs.Given.PointsMaking.Sum.{told_sum}
 use Rattle.many_maps.proofs.Given.RuleWorld.WentWrote.{counter_of}
@@ -137,7 +137,7 @@ module _ {K V : Type 0} (same : K → K → Bool) (hash : K → ℕ) (setting : 
         let is : point.0.0 ≡ c.first = sym (ap (λ (x : Table). x.turn) entered.is) ∙ turn in
         (ap (λ (x : Table). x.len) entered.is ∙ ap c.len is, subst (λ (u : ℕ). u < c.past) is entered.made)
 
-    summed_on : m2 ≡ w.memory → (b : Sum × Advance ℕ) → SumTold setting b → Ahead setting w.memory sum point.1.0 sum.stands b → SumsTo (summed p table b)
+    summed_on : m2 ≡ w.memory → (b : Sum × Advance ℕ) → SumOutcome setting b → Ahead setting w.memory sum point.1.0 sum.stands b → SumsTo (summed p table b)
     summed_on is (next, progress.Goes) told ahead = subst (λ (m : Mem (Node K V)). count_ahead setting m next.stands ≡ said m) (sym is) (ahead ∙ had)
     summed_on is (next, progress.Waits) told ahead = absurd told
     summed_on is (next, progress.Refused fault) told ahead = absurd told

@@ -1,6 +1,6 @@
 -- It comes to its end, what it comes to, and what comes back.
 use Rattle.std.proofs.Common.{subst}
-use Rattle.owner_calls.specs.Owned.Owned.{ComesBack, hashed_by}
+use Rattle.owner_calls.specs.Owned.Owned.{IsReturned, hashed_by}
 use Rattle.std.specs.Prelude.{Some}
 use Rattle.map_tables.specs.declared.node.Node.TheVariants as node
 use Rattle.owner_rests.proofs.Rests.Stores.{insertion_ends, insertion_by, insertion_back, insertion_ran}
@@ -19,7 +19,7 @@ returns-clause-ends g c = λ xs kind key value has stores.
 
 pub returns-clause-back : goal.returns-clause-back
 returns-clause-back g c = λ xs kind key value has stores.
-    subst (ComesBack (Some (node.Pair key value)) c.store.result.0) c.store.ensures.2
+    subst (IsReturned (Some (node.Pair key value)) c.store.result.0) c.store.ensures.2
     (insertion_back g.K.PartialEq.eq (hashed_by g.S.Hasher.Hasher.finish g.S.Hasher.Hasher.write g.S.BuildHasher.build_hasher g.K.Hash.hash_input) c.args.hasher c.args.setting _ xs has key value kind
     _ stores _ _ _ c.store.ensures.1)
 

@@ -29,13 +29,13 @@ use Rattle.map_tables.specs.Chunks.{is_incremental}
 use Rattle.map_measures.specs.Given.PointsFactsLooks.{LookingFacts}
 use Rattle.map_measures.specs.Given.PointsMeasures.{IsBelow, EndsFrom, ends}
 use Rattle.map_measures.specs.Given.PointsMeasuresLooks.{number_of_lookup, number_at_looking}
-use Rattle.owner_facts.specs.Given.PointsTold.{LookupTold}
+use Rattle.owner_facts.specs.Given.PointsTold.{LookupOutcome}
 use Rattle.owner_facts.proofs.Given.PointsCalls.StepsTold.{lookups_tell}
 use Rattle.map_measures.proofs.Given.PointsDescents.{descents_end}
 use Rattle.map_measures.proofs.Falls.Onward.{Onward}
 use Rattle.map_measures.proofs.Falls.Stands.{LookingStands}
 use Rattle.map_measures.proofs.Falls.Within.Lookups.{looked_on}
-use Rattle.owner_whole.specs.Strides.Ending.{GoesOn, Ends, all_end}
+use Rattle.owner_whole.specs.Strides.Ending.{Continues, Ends, all_end}
 use Rattle.owner_whole.specs.Strides.Looking.{LooksIn}
 use Rattle.owner_whole.specs.Strides.Within.{IsLeast, within}
 use Rattle.owner_whole.proofs.Strides.Runs.Steps.{less}
@@ -67,7 +67,7 @@ module _ {K V : Type 0} (same : K → K → Bool) (hash : K → ℕ) (keys : K �
   LooksHere l = LooksIn same hash keys m c blocks begun l
 
   abbrev TellsHere : Lookup × Advance (Option ℕ) → Type 0
-  TellsHere = LookupTold same hash begun.mode begun.root keys begun.hash c blocks
+  TellsHere = LookupOutcome same hash begun.mode begun.root keys begun.hash c blocks
 
   pub looks_may : (l : Lookup) → LooksHere l → May Can Took value_at m (lookup_plan keys l)
   looks_may l h = (lookups_tell V same hash h.lawful begun.mode begun.root keys begun.hash m c blocks l h.class h.map h.facts).0
@@ -101,7 +101,7 @@ module _ {K V : Type 0} (same : K → K → Bool) (hash : K → ℕ) (keys : K �
       two (at.Nexts table) = refl
       two (at.Over found) = refl
 
-  goes_here : (l l2 : Lookup) → LooksHere l → (told : Advance (Option ℕ)) → GoesOn told → (m2 : Mem (Node K V)) → m2 ≡ m → TellsHere (l2, told)
+  goes_here : (l l2 : Lookup) → LooksHere l → (told : Advance (Option ℕ)) → Continues told → (m2 : Mem (Node K V)) → m2 ≡ m → TellsHere (l2, told)
       → Steps Took value_at m (lookup_plan keys l) m2 (l2, told) → LooksHere l2 × IsBelow (number_of_lookup c l2) (number_of_lookup c l)
   goes_here l l2 h progress.Goes on m2 is tells s =
       (on_here l h l2 tells, below_here l h (l2, progress.Goes) (subst (λ (x : Mem (Node K V)). Steps Took value_at m (lookup_plan keys l) x (l2, progress.Goes)) is s) refl)
@@ -123,10 +123,10 @@ module _ {K V : Type 0} (same : K → K → Bool) (hash : K → ℕ) (keys : K �
 
   -- it never waits, and is never refused
   pub looks_on : (l l2 : Lookup) → LooksHere l → (told : Advance (Option ℕ)) → ((found : Option ℕ) → told ≢ progress.Done found)
-      → Steps Took value_at m (lookup_plan keys l) m (l2, told) → LooksHere l2 × GoesOn told
+      → Steps Took value_at m (lookup_plan keys l) m (l2, told) → LooksHere l2 × Continues told
   looks_on l l2 h told more s = by_told told more (looks_tell l h m (l2, told) s).1
     where
-      by_told : (told : Advance (Option ℕ)) → ((found : Option ℕ) → told ≢ progress.Done found) → TellsHere (l2, told) → LooksHere l2 × GoesOn told
+      by_told : (told : Advance (Option ℕ)) → ((found : Option ℕ) → told ≢ progress.Done found) → TellsHere (l2, told) → LooksHere l2 × Continues told
       by_told progress.Goes more tells = (on_here l h l2 tells, tt)
       by_told progress.Waits more tells = absurd tells
       by_told (progress.Done found) more tells = absurd (more found refl)
@@ -194,7 +194,7 @@ not_done {A} told more a is = subst (goes_so {A = A}) is (by_more more)
 -- the least bound is lower after a step
 pub lower_asked : {K V Q : Type 0} (asks : Q → K → Bool) (n : ℕ) (m m0 : Mem (Node K V)) (l l0 : Lookup) (q q0 : Q) → m0 ≡ m → l0 ≡ l → q0 ≡ q → IsLeast (λ k. within (lookup_plan (asks q0)) k l0 m0) n
     → (k : ℕ) (m3 : Mem (Node K V)) (l2 l3 : Lookup) (q3 : Q) → m3 ≡ m → l3 ≡ l2 → q3 ≡ q → IsLeast (λ k. within (lookup_plan (asks q3)) k l3 m3) k
-    → (told : Advance (Option ℕ)) → GoesOn told → Steps Took value_at m (lookup_plan (asks q) l) m (l2, told) → k < n
+    → (told : Advance (Option ℕ)) → Continues told → Steps Took value_at m (lookup_plan (asks q) l) m (l2, told) → k < n
 lower_asked asks n m m0 l l0 q q0 em el eq least k m3 l2 l3 q3 em2 el2 eq2 least2 told on s =
     less (lookup_plan (asks q)) n l l0 m m0 el em (subst (λ x. IsLeast (λ j. within (lookup_plan (asks x)) j l0 m0) n) eq least)
     k l2 l3 m m3 el2 em2 (subst (λ x. IsLeast (λ j. within (lookup_plan (asks x)) j l3 m3) k) eq2 least2) told on s

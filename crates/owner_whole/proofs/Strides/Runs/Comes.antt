@@ -7,7 +7,7 @@ use Rattle.seize_words.specs.declared.fault.Fault.{Fault}
 use Rattle.seize.specs.declared.advance.Advance.{Advance}
 use Rattle.seize.specs.declared.advance.Advance.TheVariants as progress
 use Rattle.map_measures.proofs.Given.SeizeRuleRows.Leaving.{steps_back}
-use Rattle.owner_whole.specs.Strides.Ending.{GoesOn, Tells, RunsTo, stops, goes}
+use Rattle.owner_whole.specs.Strides.Ending.{Continues, EndsWith, RunsTo, stops, goes}
 
 -- by what is so of a machine that is under way, and of one that has come to this result
 module _ {T X A : Type 0} (Under : X → Mem T → Type 0) (Comes : X → Mem T → Result A Fault → Type 0) where
@@ -18,13 +18,13 @@ module _ {T X A : Type 0} (Under : X → Mem T → Type 0) (Comes : X → Mem T 
   NextOf x m (progress.Done a) = Comes x m (Ok a)
   NextOf x m (progress.Refused fault) = Comes x m (Err fault)
 
-  pub goes_on : (x : X) (m : Mem T) (told : Advance A) → GoesOn told → NextOf x m told → Under x m
+  pub goes_on : (x : X) (m : Mem T) (told : Advance A) → Continues told → NextOf x m told → Under x m
   goes_on x m progress.Goes on next = next
   goes_on x m progress.Waits on next = next
   goes_on x m (progress.Done a) on next = absurd on
   goes_on x m (progress.Refused fault) on next = absurd on
 
-  stopped : (x : X) (m : Mem T) (told : Advance A) (result : Result A Fault) → NextOf x m told → Tells told result → Comes x m result
+  stopped : (x : X) (m : Mem T) (told : Advance A) (result : Result A Fault) → NextOf x m told → EndsWith told result → Comes x m result
   stopped x m (progress.Done a) (Ok e) next tells = subst (λ (z : A). Comes x m (Ok z)) (sym tells) next
   stopped x m (progress.Refused f) (Err g) next tells = subst (λ (z : Fault). Comes x m (Err z)) (sym tells) next
   stopped x m (progress.Refused f) (Ok e) next tells = absurd tells

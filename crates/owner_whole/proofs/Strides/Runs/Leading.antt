@@ -5,7 +5,7 @@ use Rattle.seize_words.specs.OneMemory.Mem.{Mem}
 use Rattle.seize_words.specs.OneMemory.Plan.{Plan}
 use Rattle.seize_words.specs.declared.fault.Fault.{Fault}
 use Rattle.seize.specs.declared.advance.Advance.{Advance}
-use Rattle.owner_whole.specs.Strides.Ending.{Ends, GoesOn, Tells, Leads, Strides, none_taken, one_more, RunsTo, goes, stops}
+use Rattle.owner_whole.specs.Strides.Ending.{Ends, Continues, EndsWith, Leads, Strides, none_taken, one_more, RunsTo, goes, stops}
 use Rattle.owner_whole.specs.Strides.Within.{IsLeast, within}
 use Rattle.owner_whole.proofs.Strides.Runs.Steps.{ends_on, lower, within_on}
 
@@ -29,7 +29,7 @@ module _ {T X A : Type 0} (plan : X → Plan T (X × Advance A)) where
       let a = p.1 in let c = o.1 in (o.0, omega (arith, a, c), o.2)
 
   -- the least bound is lower after these and one step
-  pub less_along : (b : ℕ) (x x0 : X) (m m0 : Mem T) → x0 ≡ x → m0 ≡ m → IsLeast (λ j. within plan j x0 m0) b → (x2 x3 : X) (m2 m3 : Mem T) (told : Advance A) → GoesOn told
+  pub less_along : (b : ℕ) (x x0 : X) (m m0 : Mem T) → x0 ≡ x → m0 ≡ m → IsLeast (λ j. within plan j x0 m0) b → (x2 x3 : X) (m2 m3 : Mem T) (told : Advance A) → Continues told
       → Strides plan x m m2 (x2, told) → (k : ℕ) → x3 ≡ x2 → m3 ≡ m2 → IsLeast (λ j. within plan j x3 m3) k → k < b
   less_along b x x0 m m0 e e2 least x2 x3 m2 m3 told on (y, n, l, s) k e3 e4 least2 =
       let p = within_along x y m n l b (ap (λ z. within plan b z m) (sym e) ∙ ap (λ z. within plan b x0 z) (sym e2) ∙ least.0) in
@@ -37,12 +37,12 @@ module _ {T X A : Type 0} (plan : X → Plan T (X × Advance A)) where
       (subst (λ (z : X). IsLeast (λ j. within plan j z m2) k) e3 (subst (λ (z : Mem T). IsLeast (λ j. within plan j x3 z) k) e4 least2)) told on s in
       let a = p.1 in omega (arith, low, a)
 
-  pub strides_end : (x x2 : X) (m m2 : Mem T) (told : Advance A) → GoesOn told → Strides plan x m m2 (x2, told) → Ends plan x m → Ends plan x2 m2
+  pub strides_end : (x x2 : X) (m m2 : Mem T) (told : Advance A) → Continues told → Strides plan x m m2 (x2, told) → Ends plan x m → Ends plan x2 m2
   strides_end x x2 m m2 told on (y, n, l, s) h = ends_on plan y n (ends_along x y m n l h) m2 x2 told on s
 
-  pub strides_run : (x x2 : X) (m m2 : Mem T) (told : Advance A) → GoesOn told → Strides plan x m m2 (x2, told)
+  pub strides_run : (x x2 : X) (m m2 : Mem T) (told : Advance A) → Continues told → Strides plan x m m2 (x2, told)
       → (x3 : X) (m3 : Mem T) (result : Result A Fault) → RunsTo plan x2 m2 x3 m3 result → RunsTo plan x m x3 m3 result
   strides_run x x2 m m2 told on (y, n, l, s) x3 m3 result r = runs_along x y m n l x3 m3 result (goes y n x2 m2 told on s x3 m3 result r)
 
-  pub strides_stop : (x x2 : X) (m m2 : Mem T) (told : Advance A) (result : Result A Fault) → Strides plan x m m2 (x2, told) → Tells told result → RunsTo plan x m x2 m2 result
+  pub strides_stop : (x x2 : X) (m m2 : Mem T) (told : Advance A) (result : Result A Fault) → Strides plan x m m2 (x2, told) → EndsWith told result → RunsTo plan x m x2 m2 result
   strides_stop x x2 m m2 told result (y, n, l, s) tells = runs_along x y m n l x2 m2 result (stops y n x2 m2 told result s tells)

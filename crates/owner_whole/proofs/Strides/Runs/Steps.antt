@@ -9,7 +9,7 @@ use Rattle.seize_words.specs.OneMemory.Plan.{Plan, Turn, Do, Then, Now, Seeing, 
 use Rattle.seize_words.specs.declared.fault.Fault.TheVariants.{Memory}
 use Rattle.seize.specs.declared.advance.Advance.{Advance}
 use Rattle.seize.specs.declared.advance.Advance.TheVariants as progress
-use Rattle.owner_whole.specs.Strides.Ending.{GoesOn, Ends, all_end}
+use Rattle.owner_whole.specs.Strides.Ending.{Continues, Ends, all_end}
 use Rattle.owner_whole.specs.Strides.Within.{of_some, all_below, is_free, of_answers, of_ends, of_steps, if_goes, within, IsLeast, HasLeast}
 use Rattle.owner_whole.proofs.Strides.Runs.Bounds.{Grows, HasBound, first_so, below_up, below_so, ends_bound, ends_so, answers_bound}
 use Rattle.map_measures.proofs.Passes.Places.{second as second_so}
@@ -128,13 +128,13 @@ module _ {A : Type 0} where
   goes_up (progress.Done x) a b up e = refl
   goes_up (progress.Refused x) a b up e = refl
 
-  goes_bound : (told : Advance A) (f : ℕ → Bool) → (GoesOn told → HasBound f) → HasBound (λ n. if_goes told (f n))
+  goes_bound : (told : Advance A) (f : ℕ → Bool) → (Continues told → HasBound f) → HasBound (λ n. if_goes told (f n))
   goes_bound progress.Goes f h = h tt
   goes_bound progress.Waits f h = h tt
   goes_bound (progress.Done x) f h = (0, refl)
   goes_bound (progress.Refused x) f h = (0, refl)
 
-  goes_so : (told : Advance A) (a : Bool) → GoesOn told → if_goes told a ≡ true → a ≡ true
+  goes_so : (told : Advance A) (a : Bool) → Continues told → if_goes told a ≡ true → a ≡ true
   goes_so progress.Goes a on e = e
   goes_so progress.Waits a on e = e
   goes_so (progress.Done x) a on e = absurd on
@@ -177,11 +177,11 @@ module _ {T X A : Type 0} (plan : X → Plan T (X × Advance A)) where
   pub may_step : (x : X) (m : Mem T) → Ends plan x m → May Can Took value_at m (plan x)
   may_step x m (all_end _ _ may next) = may
 
-  pub ends_on : (x : X) (m : Mem T) → Ends plan x m → (m2 : Mem T) (x2 : X) (told : Advance A) → GoesOn told → Steps Took value_at m (plan x) m2 (x2, told) → Ends plan x2 m2
+  pub ends_on : (x : X) (m : Mem T) → Ends plan x m → (m2 : Mem T) (x2 : X) (told : Advance A) → Continues told → Steps Took value_at m (plan x) m2 (x2, told) → Ends plan x2 m2
   ends_on x m (all_end _ _ may next) = next
 
   -- a step leaves a lower number
-  pub within_on : (n : ℕ) (x : X) (m : Mem T) → within plan n x m ≡ true → (x2 : X) (m2 : Mem T) (told : Advance A) → GoesOn told → Steps Took value_at m (plan x) m2 (x2, told)
+  pub within_on : (n : ℕ) (x : X) (m : Mem T) → within plan n x m ≡ true → (x2 : X) (m2 : Mem T) (told : Advance A) → Continues told → Steps Took value_at m (plan x) m2 (x2, told)
       → (k : ℕ) × (k < n) × (within plan k x2 m2 ≡ true)
   within_on zero x m e x2 m2 told on s = absurd (false≢true e)
   within_on (suc n) x m e x2 m2 told on s =
@@ -189,7 +189,7 @@ module _ {T X A : Type 0} (plan : X → Plan T (X × Advance A)) where
 
   -- it is lower after each step
   pub lower : (n : ℕ) (x : X) (m : Mem T) → within plan n x m ≡ true → (k : ℕ) (x2 : X) (m2 : Mem T) → IsLeast (λ j. within plan j x2 m2) k
-      → (told : Advance A) → GoesOn told → Steps Took value_at m (plan x) m2 (x2, told) → k < n
+      → (told : Advance A) → Continues told → Steps Took value_at m (plan x) m2 (x2, told) → k < n
   lower zero x m e k x2 m2 least told on s = absurd (false≢true e)
   lower (suc n) x m e k x2 m2 least told on s =
       let is = goes_so told (within plan n x2 m2) on (steps_so m (plan x) (λ m2 end. if_goes end.1 (within plan n end.0 m2)) e m2 (x2, told) s) in
@@ -197,7 +197,7 @@ module _ {T X A : Type 0} (plan : X → Plan T (X × Advance A)) where
 
   pub less : (n : ℕ) (x x0 : X) (m m0 : Mem T) → x0 ≡ x → m0 ≡ m → IsLeast (λ j. within plan j x0 m0) n
       → (k : ℕ) (x2 x3 : X) (m2 m3 : Mem T) → x3 ≡ x2 → m3 ≡ m2 → IsLeast (λ j. within plan j x3 m3) k
-      → (told : Advance A) → GoesOn told → Steps Took value_at m (plan x) m2 (x2, told) → k < n
+      → (told : Advance A) → Continues told → Steps Took value_at m (plan x) m2 (x2, told) → k < n
   less n x x0 m m0 e e2 least k x2 x3 m2 m3 e3 e4 least2 told on s =
       lower n x m (ap (λ y. within plan n y m) (sym e) ∙ ap (λ y. within plan n x0 y) (sym e2) ∙ least.0) k x2 m2
       (subst (λ (y : X). IsLeast (λ j. within plan j y m2) k) e3 (subst (λ (y : Mem T). IsLeast (λ j. within plan j x3 y) k) e4 least2)) told on s
@@ -205,5 +205,5 @@ module _ {T X A : Type 0} (plan : X → Plan T (X × Advance A)) where
   pub lowest_at : (x x0 : X) (m m0 : Mem T) → x0 ≡ x → m0 ≡ m → Ends plan x m → HasLeast (λ n. within plan n x0 m0)
   lowest_at x x0 m m0 e e2 h = has_least x0 m0 (subst (λ (y : X). Ends plan y m0) (sym e) (subst (λ (y : Mem T). Ends plan x y) (sym e2) h))
 
-pub on_of : {A : Type 0} (told : Advance A) → (told ≡ progress.Goes) ⊎ (told ≡ progress.Waits) → GoesOn told
-on_of {A} told = ⊎_elim (λ e. subst (GoesOn {A = A}) (sym e) tt) (λ e. subst (GoesOn {A = A}) (sym e) tt)
+pub on_of : {A : Type 0} (told : Advance A) → (told ≡ progress.Goes) ⊎ (told ≡ progress.Waits) → Continues told
+on_of {A} told = ⊎_elim (λ e. subst (Continues {A = A}) (sym e) tt) (λ e. subst (Continues {A = A}) (sym e) tt)

@@ -10,7 +10,7 @@ use Rattle.papaya_raw.specs.declared.machines.answer.KeyAnswer.TheVariants as an
 use Rattle.map_measures.specs.Given.RuleChart.{Still, Chart, put}
 use Rattle.map_measures.specs.Given.RuleWords.{Blocks}
 use Rattle.map_measures.specs.Given.RuleInWorld.{IsMapIn}
-use Rattle.owner_facts.specs.Given.PointsFactsCalls.{Change, Unchanged, Stored, Replaced, Removed, Tells}
+use Rattle.owner_facts.specs.Given.PointsFactsCalls.{Change, Unchanged, Stored, Replaced, Removed, AnswersChange}
 use Rattle.owner_facts.specs.Given.PointsSteps.{AreLawful}
 use Rattle.map_measures.specs.Given.CallersPairs.{StoresGiven}
 use Rattle.map_measures.specs.Given.CallersSince.{SoSince}
@@ -45,7 +45,7 @@ module _ {K V Q : Type 0} (same : K → K → Bool) (hash : K → ℕ) (asks : Q
       (answers_of_pairs V same hash lawful setting w c blocks seen map sees u.keys k keys_are w0.memory c0 blocks0 run answer
       (subst (λ (m : ℕ). SoSince hash c seen u.keys m answer) began so) xs now)
 
-  pub changed : (change : Change) → Run change → (answer : KeyAnswer) → Tells same hash asks w 0 (in_slot setting (slot 0)) c seen u.keys change change answer
+  pub changed : (change : Change) → Run change → (answer : KeyAnswer) → AnswersChange same hash asks w 0 (in_slot setting (slot 0)) c seen u.keys change change answer
       → StoresGiven hash w.memory c seen u.pair change → Ended answer
   changed (Stored n) run (answers.Stored word) tells stores =
       let then = contents_follow V same hash lawful setting w0 w c0 c blocks0 blocks map0 map u.keys k keys_are (Stored n) run xs are in

@@ -12,7 +12,7 @@ use Rattle.map_measures.specs.Given.RuleChart.{Chart}
 use Rattle.map_measures.specs.Given.RuleWords.{Blocks}
 use Rattle.map_measures.specs.Given.LateCovers.{times}
 use Rattle.owner_whole.specs.Whole.Contents.{AreContents}
-use Rattle.owner_whole.specs.Whole.KeptBy.{KeptBegins, KeptTold, KeptAtEnd}
+use Rattle.owner_whole.specs.Whole.KeptBy.{KeptBegins, KeptReplied, KeptAtEnd}
 use Rattle.owner_whole.specs.Whole.SweptPairs.{NumberedBelow, AreNumbered, pairs_of, those, is_done, left_by}
 use Rattle.owner_whole.proofs.Whole.Contents.Numbered.{numbered_last, numbered_before, pairs_append, numbers_are, numbers_go}
 use Rattle.owner_whole.proofs.Whole.Contents.Swept.{sweeps_leave}
@@ -39,7 +39,7 @@ module _ {K V : Type 0} (test : K → V → Bool) (m0 : Mem (Node K V)) (blocks0
   pub kept_begins : KeptBegins test m0 blocks0
   kept_begins done n k v l block = absurd (omega (arith, l))
 
-  pub kept_told : KeptTold test m0 blocks0
+  pub kept_told : KeptReplied test m0 blocks0
   kept_told asked done kept n first fresh k v block i j x l its = elim (cases_eq i n) as (λ _. is_done (cond (test k v) (n ∷ done) done) i ≡ test j x) [
     | inl is ↦
         (let one : Some (node.Pair j x) ≡ Some (node.Pair k v) = sym its ∙ ap (λ (y : ℕ). value_at m0 (blocks0.pair y)) is ∙ block in

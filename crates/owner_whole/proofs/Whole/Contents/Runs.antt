@@ -12,7 +12,7 @@ use Rattle.map_tables.specs.declared.setting.Setting.{Setting}
 use Rattle.map_measures.specs.Given.RuleChart.{Chart, put}
 use Rattle.map_measures.specs.Given.RuleMaps.{spot_of}
 use Rattle.map_measures.specs.Given.RuleWords.{Blocks}
-use Rattle.map_measures.specs.Given.RuleInWorld.{IsMapIn, IsOut, Moved, Went}
+use Rattle.map_measures.specs.Given.RuleInWorld.{IsMapIn, IsOut, Moved, StepSpec}
 use Rattle.map_measures.specs.Given.RuleMoments.{Moments, Remembers}
 use Rattle.map_measures.specs.Given.RuleMoves.{Move, Links, Stores, Replaces, Removes, Marks, MarksBlocking, Skips, Unmarks, Puts, Covers, PutsLate, Claims, Reclaims, Counts, GivesUp, Aborts, Promotes, Announces, after}
 use Rattle.map_tables.specs.declared.resize_mode.ResizeMode.{ResizeMode}
@@ -65,7 +65,7 @@ module _ {K V : Type 0} (same : K → K → Bool) (hash : K → ℕ) (lawful : A
     (map : IsMapIn same hash setting w c blocks) where
   -- a step of the caller's own
   module _ (here : Setting) (caller : ℕ) (seen : Blocks) (m2 : Mem (Node K V)) (Told : World (Node K V) → Chart K → Blocks → Type 0)
-      (went : Went same hash here caller w c seen m2 Told) (blocks2 : Blocks) (blocks_same : (o : ℕ) → o < c.stored → blocks2.pair o ≡ blocks.pair o)
+      (went : StepSpec same hash here caller w c seen m2 Told) (blocks2 : Blocks) (blocks_same : (o : ℕ) → o < c.stored → blocks2.pair o ≡ blocks.pair o)
       (sees : IsMapIn same hash here w c seen) where
     pub went_keeps : ((o : ℕ) → o < c.stored → went.c2.current o ≡ true → c.current o ≡ true) → KeepsPairs w.memory c blocks went.w2.memory went.c2 blocks2
     went_keeps were = record {

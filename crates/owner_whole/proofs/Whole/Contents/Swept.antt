@@ -14,7 +14,7 @@ use Rattle.map_measures.specs.Given.RuleWords.{Blocks}
 use Rattle.map_measures.specs.Given.LateCovers.{times, IsKept, Came}
 use Rattle.owner_facts.specs.Given.CallersOverAll.{CallOverAll}
 use Rattle.owner_whole.specs.Whole.LoneSweeps.{IsBefore, goes_once}
-use Rattle.owner_whole.specs.Whole.SweptPairs.{about_to_go, gone_since, HasSwept, NumberedBelow, AreNumbered, those, is_done, left_by, SweptBegins, ContentsBetween, ShownIsInIt, AsksOnce, RefusedKeepsAll, SweepsLeave}
+use Rattle.owner_whole.specs.Whole.SweptPairs.{about_to_go, gone_since, HasSwept, NumberedBelow, AreNumbered, those, is_done, left_by, SweptBegins, ContentsBetween, ShownIsInIt, AsksOnce, RefusedPreservesAll, SweepsLeave}
 use Rattle.owner_whole.proofs.Whole.Contents.Numbered.{pairs_are_in_it, all_those, none_those, numbered_those}
 use Rattle.seize_words.proofs.General.{true_or_false as decided}
 
@@ -138,7 +138,7 @@ module _ {K V : Type 0} (incremental : Bool) (m0 m : Mem (Node K V)) (c0 c : Cha
       by true = refl
       by false = refl
 
-  pub refused : RefusedKeepsAll K V incremental m0 m c0 c blocks0 blocks asked o
+  pub refused : RefusedPreservesAll K V incremental m0 m c0 c blocks0 blocks asked o
   refused swept once fault is ns are = refused_keeps_all incremental m0 m c0 c blocks0 blocks asked o swept ns are once (subst IsBefore (sym is) tt)
 
   pub sweeps_leave : SweepsLeave K V incremental m0 m c0 c blocks0 blocks asked o

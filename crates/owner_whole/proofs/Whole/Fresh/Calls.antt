@@ -32,9 +32,9 @@ use Rattle.map_measures.specs.Given.PointsFactsLooks.{LookingFacts}
 use Rattle.owner_facts.specs.Given.PointsFactsCopiesBlocking.{CopiesInto, CopyingFactsBlocking}
 use Rattle.owner_facts.specs.Given.PointsFactsCalls.{Change, AtTry, ShutUpTo, GapFacts, AskingFacts, CallingFacts, CallFacts}
 use Rattle.owner_facts.specs.Given.LateLeft.{Left}
-use Rattle.map_measures.specs.Given.LateLateLooks.{IsLateTrial, LateLooking}
-use Rattle.map_measures.specs.Given.LateLateCopies.{CopiesLate, LateCopying}
-use Rattle.owner_facts.specs.Given.LateLateCalls.{LateFirst, LateGap, LateAsking, LateCalling, LateCallFacts}
+use Rattle.map_measures.specs.Given.LateLateLooks.{IsSupersededTrial, SupersededLooking}
+use Rattle.map_measures.specs.Given.LateLateCopies.{CopiesSuperseded, SupersededCopying}
+use Rattle.owner_facts.specs.Given.LateLateCalls.{SupersededFirst, SupersededGap, SupersededAsking, SupersededCalling, SupersededCallFacts}
 
 -- the same tables, by what may be looked at in two ways
 module _ {K V : Type 0} (same : K → K → Bool) (hash : K → ℕ) (setting : Setting) (blocking : is_incremental setting.mode ≡ false) (w : World (Node K V)) (caller : ℕ) (c : Chart K)
@@ -49,10 +49,10 @@ module _ {K V : Type 0} (same : K → K → Bool) (hash : K → ℕ) (setting : 
   pub table_none : (table : Table) (t u : ℕ) → t ≡ c.first → IsTable c blocks table t → IsTable c seen table u → Left c began u → ⊥
   table_none table t u root a b left = none_left t u root (one_turn table t u a b) left
 
-  source_none : (p : Copier) (t u v : ℕ) → CopiesInto same hash w caller setting c blocks p t → CopiesLate same hash w caller setting c seen began p u v → ⊥
+  source_none : (p : Copier) (t u v : ℕ) → CopiesInto same hash w caller setting c blocks p t → CopiesSuperseded same hash w caller setting c seen began p u v → ⊥
   source_none p t u v into late = table_none p.source c.first u refl into.0 late.source late.left
 
-  pub copying_none : (p : Copier) (stands : Copying) → CopyingFactsBlocking same hash w caller setting c blocks p stands → LateCopying same hash w caller setting c seen began p stands → ⊥
+  pub copying_none : (p : Copier) (stands : Copying) → CopyingFactsBlocking same hash w caller setting c blocks p stands → SupersededCopying same hash w caller setting c seen began p stands → ⊥
   copying_none p copies.Asks f late = source_none p f.0 late.0 late.1 f.1.0 late.2
   copying_none p copies.Sees f late = source_none p f.0 late.0 late.1 f.1.0 late.2
   copying_none p copies.Claims f late = source_none p f.0 late.0 late.1 f.1.0 late.2
@@ -87,7 +87,7 @@ module _ {K V : Type 0} (same : K → K → Bool) (hash : K → ℕ) (setting : 
       let a = map.map.shows.root_there in let b = sees.map.shows.root_there in
       let e : root_word hash c blocks ≡ root_word hash c seen = cc (a, b) in sym (root_of blocks some) ∙ e ∙ root_of seen some
 
-  pub making_none : (stands : Making) → MakingFacts w caller setting c blocks (Root setting.root) 0 stands → LateFirst w caller setting c seen began stands → ⊥
+  pub making_none : (stands : Making) → MakingFacts w caller setting c blocks (Root setting.root) 0 stands → SupersededFirst w caller setting c seen began stands → ⊥
   making_none (makes.Drops table found) (owned, u, stands, made, known, is, planned) (own, plan, v, left, there, looked, here) =
       let root : u ≡ c.first = subst (λ (x : Bool). cond x (u ≤ c.first) (u ≡ c.first)) blocking stands in
       let some : 0 < c.past = omega (arith, made) in
@@ -112,28 +112,28 @@ module _ {K V Q : Type 0} (same : K → K → Bool) (hash : K → ℕ) (asks : Q
     is_root : (t : ℕ) → ShutUpTo same hash asks w caller setting c blocks keys change t → t ≡ c.first
     is_root t h = subst (λ (x : Bool). cond x ((k : K) → keys k ≡ true → ShutBefore same (spot_of hash) true c (suc t) k) (t ≡ c.first)) blocking h
 
-    trial_none : AtTry same hash asks w caller setting c blocks keys change p → IsLateTrial same hash keys p.hash c seen began p.trial → ⊥
+    trial_none : AtTry same hash asks w caller setting c blocks keys change p → IsSupersededTrial same hash keys p.hash c seen began p.trial → ⊥
     trial_none (t, j, there, none, root) (u, i, late, passed, left) = none_at p.trial.table t u (root blocking) there.table late.table left
 
-    looking_none : (code : ℕ) (stands : Looking) → LookingFacts same hash setting.mode setting.root keys code c blocks stands → LateLooking same hash keys code c seen began stands → ⊥
+    looking_none : (code : ℕ) (stands : Looking) → LookingFacts same hash setting.mode setting.root keys code c blocks stands → SupersededLooking same hash keys code c seen began stands → ⊥
     looking_none code (looks.Probes trial) (t, j, there, none, root) (u, i, late, passed, left) = none_at trial.table t u (root blocking) there.table late.table left
     looking_none code looks.Roots f late = late
     looking_none code (looks.Nexts table) f late = late
     looking_none code (looks.Over found) f late = late
 
-    gap_none : (gap : Gap) → GapFacts same hash asks w caller setting c blocks keys change p gap → LateGap same hash asks w caller setting c seen keys began p gap → ⊥
+    gap_none : (gap : Gap) → GapFacts same hash asks w caller setting c blocks keys change p gap → SupersededGap same hash asks w caller setting c seen keys began p gap → ⊥
     gap_none gaps.NoTable f late = late
     gap_none gaps.Free f late = trial_none f late
     gap_none gaps.Past (t, (there, shut)) (u, late, left) = none_at p.trial.table t u (is_root t shut) there late left
     gap_none gaps.Last f late = late
 
-    asking_none : (asks_at : Asking) → AskingFacts same hash asks w caller setting c blocks keys change p asks_at → LateAsking same hash asks w caller setting c seen keys began p asks_at → ⊥
+    asking_none : (asks_at : Asking) → AskingFacts same hash asks w caller setting c blocks keys change p asks_at → SupersededAsking same hash asks w caller setting c seen keys began p asks_at → ⊥
     asking_none (asking.Absent gap) (own, is, f) (its, here, late) = gap_none gap f late
     asking_none (asking.Present word) (own, is, names, try) (its, here, named, late) = trial_none try late
     asking_none (asking.Fills word) (own, is, told, may, try) (its, here, value, replaces, late) = trial_none try late
     asking_none (asking.GivesUp word) (own, is, some, names, try) (its, here, had, named, late) = trial_none try late
 
-    calling_none : (stands : Calling) → CallingFacts same hash asks w caller setting c blocks keys change p stands → LateCalling same hash asks w caller setting c seen keys began p stands → ⊥
+    calling_none : (stands : Calling) → CallingFacts same hash asks w caller setting c blocks keys change p stands → SupersededCalling same hash asks w caller setting c seen keys began p stands → ⊥
     calling_none (at.Looks lookup) (own, missing_is, there_is, q, asked, alike, f) (its, missing, there, q2, asked2, alike2, late) = looking_none p.hash lookup.stands f.point late.point
     calling_none at.Probes (own, try) (its, late) = trial_none try late
     calling_none (at.Tries word new) (own, may, try) (its, late, mays) = trial_none try late
@@ -151,5 +151,5 @@ module _ {K V Q : Type 0} (same : K → K → Bool) (hash : K → ℕ) (asks : Q
     calling_none (at.Drops end) f late = late
     calling_none (at.Over end) f late = late
 
-  pub never_both : (p : KeyCall K V Q) → CallFacts same hash asks w caller setting c blocks keys change p → LateCallFacts same hash asks w caller setting c seen keys began p → ⊥
+  pub never_both : (p : KeyCall K V Q) → CallFacts same hash asks w caller setting c blocks keys change p → SupersededCallFacts same hash asks w caller setting c seen keys began p → ⊥
   never_both p facts late = calling_none late.blocking p p.stands facts.point late.point

@@ -15,7 +15,7 @@ use Rattle.map_measures.specs.Given.RuleInWorld.{IsMapIn}
 use Rattle.owner_facts.specs.Given.PointsFactsCopies.{CopierFacts}
 use Rattle.owner_facts.specs.Given.PointsFactsCopiesBlocking.{CopierFactsBlocking}
 use Rattle.owner_facts.specs.Given.LateFactsReserves.{IsRoot, IsEnding, CopiesWhole, ReservingFacts, ReserveFacts}
-use Rattle.owner_facts.specs.Given.LateLateReserves.{LateReserving, LateReserveFacts}
+use Rattle.owner_facts.specs.Given.LateLateReserves.{SupersededReserving, SupersededReserveFacts}
 use Rattle.owner_whole.proofs.Whole.Fresh.Calls.{table_none, copying_none, making_none}
 
 module _ {K V : Type 0} (same : K → K → Bool) (hash : K → ℕ) (setting : Setting) (w : World (Node K V)) (caller : ℕ) (c : Chart K) (blocks : Blocks) where
@@ -27,7 +27,7 @@ module _ {K V : Type 0} (same : K → K → Bool) (hash : K → ℕ) (setting : 
       (CopierFactsBlocking same hash w caller setting c blocks copier)) blocking h
 
   module _ (seen : Blocks) (map : IsMapIn same hash setting w c blocks) (sees : IsMapIn same hash setting w c seen) (began : ℕ) (blocking : is_incremental setting.mode ≡ false) where
-    reserving_none : (stands : Reserving) → ReservingFacts same hash w caller setting c blocks stands → LateReserving same hash w caller setting c seen began stands → ⊥
+    reserving_none : (stands : Reserving) → ReservingFacts same hash w caller setting c blocks stands → SupersededReserving same hash w caller setting c seen began stands → ⊥
     reserving_none (at.Makes making) f late = making_none same hash setting blocking w caller c blocks seen map sees began making.stands f.point late.point
     reserving_none (at.Sums table sum) ((t, there, root), facts) ((u, late, left), more) =
         table_none same hash setting blocking w caller c blocks seen map sees began table t u (root_blocking blocking t root) there late left
@@ -42,5 +42,5 @@ module _ {K V : Type 0} (same : K → K → Bool) (hash : K → ℕ) (setting : 
     reserving_none (at.Refused fault) f late = late
 
   pub never_both_rooms : (seen : Blocks) → IsMapIn same hash setting w c blocks → IsMapIn same hash setting w c seen → (began : ℕ) (p : Reserve)
-      → ReserveFacts same hash w caller setting c blocks p → LateReserveFacts same hash w caller setting c seen began p → ⊥
+      → ReserveFacts same hash w caller setting c blocks p → SupersededReserveFacts same hash w caller setting c seen began p → ⊥
   never_both_rooms seen map sees began p facts late = reserving_none seen map sees began late.blocking p.stands facts.point late.point

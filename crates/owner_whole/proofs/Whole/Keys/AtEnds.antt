@@ -15,7 +15,7 @@ use Rattle.owner_facts.proofs.Alone.Shards.PairsChanged.{counted_then, counted_u
 use Rattle.map_measures.specs.Given.CallersSince.{WasSo}
 use Rattle.owner_facts.specs.Given.CallersTogether.{in_slot}
 use Rattle.owner_facts.proofs.Given.CallersTogether.MapStands.{map_begins_together}
-use Rattle.owner_whole.specs.Whole.Whole.{MapBeginsAtRest, CountsAtEnd, CountsWhereUnchanged}
+use Rattle.owner_whole.specs.Whole.Whole.{MapBeginsQuiescent, CountsAtEnd, CountsWhereUnchanged}
 
 -- an answer that was so at a moment counts nothing
 looks : {K : Type 0} (hash : K → ℕ) (c : Chart K) (seen : Blocks) (keys : K → Bool) (m : ℕ) (answer : KeyAnswer) → WasSo hash c seen keys m answer → counted_for answer ≡ 0
@@ -30,7 +30,7 @@ changed_here : {K : Type 0} (same : K → K → Bool) (hash : K → ℕ) (settin
 changed_here same hash setting slot keys c0 c change h = record { changes = h.changes; lasts = h.lasts; stored = h.stored }
 
 module _ {K V Q : Type 0} (same : K → K → Bool) (hash : K → ℕ) (asks : Q → K → Bool) (setting : Setting) (slot : ℕ → ℕ) where
-  pub map_begins_at_rest : MapBeginsAtRest V same hash asks setting slot
+  pub map_begins_at_rest : MapBeginsQuiescent V same hash asks setting slot
   map_begins_at_rest w came root counter shards making rows inside = record {
     calls = λ i. None;
     none = λ i. refl;

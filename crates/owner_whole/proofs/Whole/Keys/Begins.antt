@@ -10,17 +10,17 @@ use Rattle.papaya_raw.specs.declared.machines.call.KeyCall.{KeyCall}
 use Rattle.map_measures.specs.Given.RuleChart.{Chart}
 use Rattle.map_measures.specs.Given.RuleWords.{Blocks}
 use Rattle.owner_facts.specs.Given.PointsSteps.{AreLawful}
-use Rattle.owner_facts.specs.Given.LateLateCalls.{LateCallFacts}
-use Rattle.owner_facts.specs.Alone.FactsAloneCalls.{TablesAlone, StandsAlone}
+use Rattle.owner_facts.specs.Given.LateLateCalls.{SupersededCallFacts}
+use Rattle.owner_facts.specs.Alone.FactsAloneCalls.{TablesAlone, AloneAtPoint}
 use Rattle.map_measures.specs.Given.CallersClaims.{AreFew}
 use Rattle.map_measures.specs.Given.CallersPairs.{Given}
 use Rattle.map_measures.specs.Given.CallersRows.{row_of}
-use Rattle.owner_facts.specs.Given.CallersSights.{Sight, seen_by}
-use Rattle.owner_facts.specs.Given.CallersTogether.{UnderWay, CallOnKey, OnKey, HasCall, IsBegun, Gets, Removes, Inserts, TriesToInsert, Computes, Updates, UpdatesOrInserts, TriesToInsertWith, RemovesIf, begun_at, in_slot, Stands, Together}
+use Rattle.owner_facts.specs.Given.CallersSights.{Visible, seen_by}
+use Rattle.owner_facts.specs.Given.CallersTogether.{UnderWay, CallOnKey, OnKey, HasCall, IsBegun, Gets, Removes, Inserts, TriesToInsert, Computes, Updates, UpdatesOrInserts, TriesToInsertWith, RemovesIf, begun_at, in_slot, IsAtPoint, Together}
 use Rattle.owner_facts.proofs.Given.CallersTogether.At.{at_other, at_same}
 use Rattle.owner_facts.proofs.Given.CallersTogether.Begins.{begins_together}
 use Rattle.owner_facts.proofs.Given.CallersTogether.FactsOn.{KnowsOfCall}
-use Rattle.owner_whole.specs.Whole.Owner.{IsFirst, IsOfRoot, AtRest, IsAlone}
+use Rattle.owner_whole.specs.Whole.Owner.{IsFirst, IsOfRoot, IsQuiescent, IsAlone}
 use Rattle.owner_whole.specs.Whole.Whole.{CallsBeginAlone}
 use Rattle.owner_whole.proofs.Whole.Rows.Standing.{no_row_rests}
 
@@ -41,7 +41,7 @@ one_few calls none callers apart all = by (cases_lt 1 (length callers))
 module _ {K V Q : Type 0} (same : K → K → Bool) (hash : K → ℕ) (asks : Q → K → Bool) (setting : Setting) (slot : ℕ → ℕ) where
   -- a call that begins copies nothing yet
   begun_lone : (incremental : Bool) (c : Chart K) → TablesAlone incremental c → (keys : K → Bool) (pair : Given K V) (call : KeyCall K V Q) → IsBegun V same hash asks setting slot 0 keys pair call
-      → StandsAlone incremental c call.stands
+      → AloneAtPoint incremental c call.stands
   begun_lone incremental c tables _ _ _ (Gets q code fits class) = tables
   begun_lone incremental c tables _ _ _ (Removes q code fits class) = tables
   begun_lone incremental c tables _ _ _ (Inserts key value) = tables
@@ -55,7 +55,7 @@ module _ {K V Q : Type 0} (same : K → K → Bool) (hash : K → ℕ) (asks : Q
   -- it has entered no table, so it has none that the root has left
   module _ (w : World (Node K V)) (c : Chart K) (seen : Blocks) (began : ℕ) where
     abbrev Late : (K → Bool) → KeyCall K V Q → Type 0
-    Late keys call = LateCallFacts same hash asks w 0 (in_slot setting (slot 0)) c seen keys began call
+    Late keys call = SupersededCallFacts same hash asks w 0 (in_slot setting (slot 0)) c seen keys began call
 
     begun_late : (keys : K → Bool) (pair : Given K V) (call : KeyCall K V Q) → IsBegun V same hash asks setting slot 0 keys pair call → Late keys call → ⊥
     begun_late _ _ _ (Gets q code fits class) late = late.point.6.point
@@ -80,7 +80,7 @@ module _ {K V Q : Type 0} (same : K → K → Bool) (hash : K → ℕ) (asks : Q
   begun_row s _ _ _ (TriesToInsertWith key) = refl
   begun_row s _ _ _ (RemovesIf q code fits class) = refl
 
-  module _ (lawful : AreLawful same hash) (w : World (Node K V)) (c : Chart K) (blocks : Blocks) (sights : ℕ → Sight) (a : AtRest {Q = Q} same hash asks setting slot w c blocks sights)
+  module _ (lawful : AreLawful same hash) (w : World (Node K V)) (c : Chart K) (blocks : Blocks) (sights : ℕ → Visible) (a : IsQuiescent {Q = Q} same hash asks setting slot w c blocks sights)
       (keys : K → Bool) (pair : Given K V) (call : KeyCall K V Q) (begun : IsBegun V same hash asks setting slot 0 keys pair call) where
     abbrev it : CallOnKey K V Q
     it = begun_at V same hash asks setting slot c keys pair call
@@ -101,7 +101,7 @@ module _ {K V Q : Type 0} (same : K → K → Bool) (hash : K → ℕ) (asks : Q
     first (inl facts) = tt
     first (inr (none, late)) = begun_late w c seen c.now keys pair call begun late
 
-    of_root : (x : Stands V same hash asks setting slot w c seen 0 (OnKey it)) → IsOfRoot same hash asks setting slot w c seen (OnKey it) x
+    of_root : (x : IsAtPoint V same hash asks setting slot w c seen 0 (OnKey it)) → IsOfRoot same hash asks setting slot w c seen (OnKey it) x
     of_root (inl (rests, knows)) = first knows.facts
     of_root (inr (row, at_row, knows)) = absurd (no_row_rests (slot 0) call.stands at_row (sym (begun_row (slot 0) keys pair call begun)))
 

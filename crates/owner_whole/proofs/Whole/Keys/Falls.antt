@@ -20,7 +20,7 @@ use Rattle.papaya_raw.specs.declared.machines.call.Calling.{Calling}
 use Rattle.papaya_raw.specs.declared.machines.call.Calling.TheVariants as at
 use Rattle.map_measures.specs.Given.RuleChart.{Chart}
 use Rattle.map_measures.specs.Given.RuleWords.{Blocks}
-use Rattle.map_measures.specs.Given.RuleInWorld.{Went}
+use Rattle.map_measures.specs.Given.RuleInWorld.{StepSpec}
 use Rattle.owner_facts.specs.Given.PointsFactsCalls.{Change}
 use Rattle.map_measures.specs.Given.PointsMeasures.{IsBelow}
 use Rattle.owner_facts.specs.Given.PointsSteps.{AreLawful}
@@ -29,10 +29,10 @@ use Rattle.owner_facts.specs.Alone.Endings.{runs_end}
 use Rattle.map_measures.specs.Falls.Calls.{number_of_call}
 use Rattle.map_measures.proofs.Falls.Laws.{calls_fall}
 use Rattle.map_measures.specs.Given.CallersRows.{row_of}
-use Rattle.owner_facts.specs.Given.CallersSights.{Sight, seen_by}
+use Rattle.owner_facts.specs.Given.CallersSights.{Visible, seen_by}
 use Rattle.owner_facts.specs.Given.CallersTogether.{CallOnKey, OnKey}
 use Rattle.owner_whole.specs.Whole.Owner.{IsAlone}
-use Rattle.owner_whole.specs.Whole.Whole.{then_so, GoesOn, ComesToAnEnd}
+use Rattle.owner_whole.specs.Whole.Whole.{then_so, Continues, Terminates}
 use Rattle.owner_whole.proofs.Whole.Joined.{same_joined, links_joined}
 use Rattle.owner_whole.proofs.Whole.Keys.Own as own
 use Rattle.map_measures.proofs.Falls.Below.{below_followed as lower_more}
@@ -57,23 +57,23 @@ lower_last [] a b l = inl l
 lower_last (x ∷ xs) a b l = inr (refl, lower_last xs a b l)
 
 -- a call that is over has no step left but the last
-pub over_ends : {K V Q : Type 0} (same : K → K → Bool) (hash : K → ℕ) (asks : Q → K → Bool) (p : KeyCall K V Q) (m : Mem (Node K V)) (end : End) → p.stands ≡ at.Over end → ComesToAnEnd same hash asks p m
+pub over_ends : {K V Q : Type 0} (same : K → K → Bool) (hash : K → ℕ) (asks : Q → K → Bool) (p : KeyCall K V Q) (m : Mem (Node K V)) (end : End) → p.stands ≡ at.Over end → Terminates same hash asks p m
 over_ends {K} {V} {Q} same hash asks p m end is =
     runs_end (p, m) (λ y s. absurd (none s.0 s.1 end (subst (λ (x : Calling). Steps Took value_at m (plan_at asks same hash p x) y.1 (y.0, s.0)) is s.2)))
   where
-    none : {m2 : Mem (Node K V)} {p2 : KeyCall K V Q} (told : Called (Node K V)) → GoesOn told → (end : End) → Steps Took value_at m (plan_at asks same hash p (at.Over end)) m2 (p2, told) → ⊥
-    none told more (over.Answered answer) s = subst GoesOn (ap (λ (x : KeyCall K V Q × Called (Node K V)). x.1) s.1) more
-    none told more (over.Refused fault) s = subst GoesOn (ap (λ (x : KeyCall K V Q × Called (Node K V)). x.1) s.1) more
+    none : {m2 : Mem (Node K V)} {p2 : KeyCall K V Q} (told : Called (Node K V)) → Continues told → (end : End) → Steps Took value_at m (plan_at asks same hash p (at.Over end)) m2 (p2, told) → ⊥
+    none told more (over.Answered answer) s = subst Continues (ap (λ (x : KeyCall K V Q × Called (Node K V)). x.1) s.1) more
+    none told more (over.Refused fault) s = subst Continues (ap (λ (x : KeyCall K V Q × Called (Node K V)). x.1) s.1) more
 
 module _ {K V Q : Type 0} (same : K → K → Bool) (hash : K → ℕ) (asks : Q → K → Bool) (setting : Setting) (slot : ℕ → ℕ) (lawful : AreLawful same hash)
-    (w : World (Node K V)) (c : Chart K) (blocks : Blocks) (sights : ℕ → Sight) (u : CallOnKey K V Q) (a : IsAlone same hash asks setting slot w c blocks sights (OnKey u))
+    (w : World (Node K V)) (c : Chart K) (blocks : Blocks) (sights : ℕ → Visible) (u : CallOnKey K V Q) (a : IsAlone same hash asks setting slot w c blocks sights (OnKey u))
     (none : IsRowOfCall u.call.stands → ⊥) (initial : IsPowerOfTwo setting.initial) (m2 : Mem (Node K V)) (p2 : KeyCall K V Q) where
   -- where a step of its own goes on, it is alone, with lower numbers
   pub record OwnFalls : Type 0 where
     pub w2 : World (Node K V)
     pub c2 : Chart K
     pub blocks2 : Blocks
-    pub sights2 : ℕ → Sight
+    pub sights2 : ℕ → Visible
     pub change2 : Change
     pub memory : w2.memory ≡ m2
     pub alone : IsAlone same hash asks setting slot w2 c2 blocks2 sights2 (OnKey (then_so u change2 p2))
@@ -87,7 +87,7 @@ module _ {K V Q : Type 0} (same : K → K → Bool) (hash : K → ℕ) (asks : Q
     seen2 = own.seen2 same hash asks setting slot lawful w c blocks sights u a none initial m2 p2 called.Goes st
 
     -- the same step, by all that is seen then
-    abbrev to : Went same hash (own.here same hash asks setting slot lawful w c blocks sights u a) 0 w c (own.seen same hash asks setting slot lawful w c blocks sights u a) m2 (λ w2 c2 blocks2. Unit {0})
+    abbrev to : StepSpec same hash (own.here same hash asks setting slot lawful w c blocks sights u a) 0 w c (own.seen same hash asks setting slot lawful w c blocks sights u a) m2 (λ w2 c2 blocks2. Unit {0})
     to = record {
       w2 = lone.w2;
       c2 = lone.c2;

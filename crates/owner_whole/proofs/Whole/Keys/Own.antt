@@ -17,16 +17,16 @@ use Rattle.papaya_raw.specs.declared.machines.answer.Called.TheVariants as calle
 use Rattle.papaya_raw.specs.declared.machines.call.KeyCall.{KeyCall}
 use Rattle.map_measures.specs.Given.RuleChart.{Chart}
 use Rattle.map_measures.specs.Given.RuleWords.{Blocks}
-use Rattle.map_measures.specs.Given.RuleInWorld.{IsMapIn, IsOut, Went}
+use Rattle.map_measures.specs.Given.RuleInWorld.{IsMapIn, IsOut, StepSpec}
 use Rattle.map_measures.proofs.Given.RuleWorld.WentTold.{went_as}
 use Rattle.owner_facts.specs.Given.PointsFactsCalls.{CallFacts}
 use Rattle.owner_facts.specs.Given.PointsSteps.{AreLawful}
-use Rattle.owner_facts.specs.Given.PointsTold.{IsRowOfCall, CallFactsAfter, CallTold}
+use Rattle.owner_facts.specs.Given.PointsTold.{IsRowOfCall, CallFactsAfter, CallOutcome}
 use Rattle.owner_facts.proofs.Given.PointsCalls.StepsTold.{calls_keep_the_map}
-use Rattle.owner_facts.specs.Alone.FactsAloneCalls.{IsLone, RestsAlone, LeadsLone}
+use Rattle.owner_facts.specs.Alone.FactsAloneCalls.{IsLone, AloneBetweenCalls, LeadsLone}
 use Rattle.owner_facts.proofs.Alone.Lone.Stays.{LoneWent, went_call_lone}
-use Rattle.owner_facts.specs.Given.CallersSights.{Sight, seen_by}
-use Rattle.owner_facts.specs.Given.CallersTogether.{UnderWay, CallOnKey, OnKey, next_of, in_slot, Knows, Stands, Together, StepsTogether}
+use Rattle.owner_facts.specs.Given.CallersSights.{Visible, seen_by}
+use Rattle.owner_facts.specs.Given.CallersTogether.{UnderWay, CallOnKey, OnKey, next_of, in_slot, Knows, IsAtPoint, Together, StepsTogether}
 use Rattle.owner_facts.proofs.Given.CallersSights.Seen.{map_seen}
 use Rattle.owner_facts.proofs.Given.CallersTogether.At.{at_other, at_same}
 use Rattle.owner_facts.proofs.Given.CallersTogether.Came.{came_reached}
@@ -34,7 +34,7 @@ use Rattle.owner_facts.proofs.Given.CallersTogether.FactsOn.{KnowsOfCall}
 use Rattle.owner_facts.proofs.Given.CallersTogether.Fits.{map_in_slot}
 use Rattle.owner_facts.proofs.Given.CallersTogether.Stand.{fresh_leads}
 use Rattle.owner_facts.proofs.Given.CallersTogether.Users.{events_rows, inside_on}
-use Rattle.owner_whole.specs.Whole.Owner.{IsFirst, IsOfRoot, AtRest, IsAlone}
+use Rattle.owner_whole.specs.Whole.Owner.{IsFirst, IsOfRoot, IsQuiescent, IsAlone}
 use Rattle.owner_whole.specs.Whole.Whole.{then_so, Leads, StepLeads}
 use Rattle.map_measures.proofs.Given.PointsMovedLasts.{moved_lasts}
 use Rattle.owner_facts.proofs.Alone.Calls.Changes.{changed_on}
@@ -49,7 +49,7 @@ use Rattle.owner_whole.proofs.Whole.Limits.Keys.{call_ends}
 use Rattle.owner_whole.proofs.Whole.Rows.Standing.{no_row_rests}
 
 module _ {K V Q : Type 0} (same : K → K → Bool) (hash : K → ℕ) (asks : Q → K → Bool) (setting : Setting) (slot : ℕ → ℕ) (lawful : AreLawful same hash)
-    (w : World (Node K V)) (c : Chart K) (blocks : Blocks) (sights : ℕ → Sight) (u : CallOnKey K V Q) (a : IsAlone same hash asks setting slot w c blocks sights (OnKey u)) where
+    (w : World (Node K V)) (c : Chart K) (blocks : Blocks) (sights : ℕ → Visible) (u : CallOnKey K V Q) (a : IsAlone same hash asks setting slot w c blocks sights (OnKey u)) where
   abbrev pub here : Setting
   here = in_slot setting (slot 0)
 
@@ -74,7 +74,7 @@ module _ {K V Q : Type 0} (same : K → K → Bool) (hash : K → ℕ) (asks : Q
     pub knows_here : KnowsHere
     knows_here = by (a.together.stand 0 (OnKey u) a.has) a.of_root
       where
-        by : (x : Stands V same hash asks setting slot w c seen 0 (OnKey u)) → IsOfRoot same hash asks setting slot w c seen (OnKey u) x → KnowsHere
+        by : (x : IsAtPoint V same hash asks setting slot w c seen 0 (OnKey u)) → IsOfRoot same hash asks setting slot w c seen (OnKey u) x → KnowsHere
         by (inl (rests, knows)) first = (rests, knows, first_of u.call knows.facts first)
         by (inr (row, is_row, knows)) first = absurd (none is_row)
 
@@ -90,8 +90,8 @@ module _ {K V Q : Type 0} (same : K → K → Bool) (hash : K → ℕ) (asks : Q
         pub lone : LoneHere m2 p2 progress
         lone = went_call_lone same hash asks lawful.lawful lawful.fits here initial w 0 c seen u.keys map u.change u.call knows_here.2 m2 (p2, progress) none steps
 
-        abbrev pub fresh : Went same hash here 0 w c seen m2 (λ w2 c2 blocks2. CallTold same hash asks 0 here u.keys c u.change u.call w2 c2 blocks2 p2 progress)
-        fresh = went_as same hash here 0 w c seen m2 _ (λ w2 c2 blocks2. CallTold same hash asks 0 here u.keys c u.change u.call w2 c2 blocks2 p2 progress)
+        abbrev pub fresh : StepSpec same hash here 0 w c seen m2 (λ w2 c2 blocks2. CallOutcome same hash asks 0 here u.keys c u.change u.call w2 c2 blocks2 p2 progress)
+        fresh = went_as same hash here 0 w c seen m2 _ (λ w2 c2 blocks2. CallOutcome same hash asks 0 here u.keys c u.change u.call w2 c2 blocks2 p2 progress)
             (λ w2 c2 blocks2 map2 moved blocks_same told. told.0) lone
 
         abbrev pub stepped : StepsTogether V same hash asks setting slot w c blocks sights a.calls 0 u m2 p2 progress
@@ -132,7 +132,7 @@ module _ {K V Q : Type 0} (same : K → K → Bool) (hash : K → ℕ) (asks : Q
           first_then (inl known) = tt
           first_then (inr (none, late)) = never_both same hash asks here lone.w2 0 lone.c2 lone.blocks2 seen2 lone.map map2 u.keys lone.told.0.change2 u.began p2 facts late
 
-          of_root_then : (x : Stands V same hash asks setting slot lone.w2 lone.c2 seen2 0 (OnKey after)) → IsOfRoot same hash asks setting slot lone.w2 lone.c2 seen2 (OnKey after) x
+          of_root_then : (x : IsAtPoint V same hash asks setting slot lone.w2 lone.c2 seen2 0 (OnKey after)) → IsOfRoot same hash asks setting slot lone.w2 lone.c2 seen2 (OnKey after) x
           of_root_then (inl (rests, knows)) = first_then knows.facts
           of_root_then (inr (row, is_row, knows)) = absurd (no_row_rests (slot 0) p2.stands is_row (sym knows_here.0 ∙ sym (row_same 0) ∙ row))
 
@@ -168,7 +168,7 @@ module _ {K V Q : Type 0} (same : K → K → Bool) (hash : K → ℕ) (asks : Q
             ∙ lone.frame.values (blocks.pair o) _ is (λ making. subst IsOut making.0 (whole.pairs_out o low known)) ∙ sym is
 
         -- where it has ended, the owner rests
-        at_rest : RestsAlone (is_incremental setting.mode) 0 lone.c2 → next_of after progress ≡ None → AtRest {Q = Q} same hash asks setting slot lone.w2 lone.c2 stepped.blocks2 stepped.sights2
+        at_rest : AloneBetweenCalls (is_incremental setting.mode) 0 lone.c2 → next_of after progress ≡ None → IsQuiescent {Q = Q} same hash asks setting slot lone.w2 lone.c2 stepped.blocks2 stepped.sights2
         at_rest alone ends = record {
           calls = calls2;
           none = λ i. elim (cases_eq i 0) as (λ _. calls2 i ≡ None) [

@@ -8,7 +8,7 @@ use Rattle.map_tables.specs.declared.marks.TheConstants.{TOMBSTONE}
 use Rattle.map_tables.specs.declared.node.Node.{Node}
 use Rattle.map_tables.specs.declared.setting.Setting.{Setting}
 use Rattle.seize_words.specs.declared.fault.Fault.TheVariants.{RemoveNothing}
-use Rattle.papaya_raw.specs.CallAsks.{with_absent, with_present, absent_told, present_told, told_at, replied}
+use Rattle.papaya_raw.specs.CallAsks.{with_absent, with_present, absent_replied, present_replied, replied_at, replied}
 use Rattle.papaya_raw.specs.CallPoints.{over, going, ending, storing, burying, at_gap}
 use Rattle.papaya_raw.specs.declared.machines.answer.End.{End}
 use Rattle.papaya_raw.specs.declared.machines.answer.End.TheVariants as ends
@@ -34,9 +34,9 @@ use Rattle.owner_facts.specs.Given.PointsSteps.{AreLawful}
 use Rattle.owner_facts.specs.Given.PointsTold.{IsRowOfCall}
 use Rattle.owner_facts.proofs.Given.PointsCalls.RepliesKnow.{replies_are_taken}
 use Rattle.owner_facts.specs.Alone.Counted.{counted_end, counted_at}
-use Rattle.owner_facts.specs.Alone.FactsAloneCalls.{TablesAlone, StandsAlone}
-use Rattle.owner_facts.specs.Given.CallersSights.{Sight, seen_by}
-use Rattle.owner_facts.specs.Given.CallersTogether.{CallOnKey, OnKey, told_about, in_slot, Stands, Together}
+use Rattle.owner_facts.specs.Alone.FactsAloneCalls.{TablesAlone, AloneAtPoint}
+use Rattle.owner_facts.specs.Given.CallersSights.{Visible, seen_by}
+use Rattle.owner_facts.specs.Given.CallersTogether.{CallOnKey, OnKey, replied_about, in_slot, IsAtPoint, Together}
 use Rattle.owner_facts.proofs.Given.CallersTogether.At.{at_other, at_same}
 use Rattle.owner_facts.proofs.Given.CallersTogether.FactsOn.{KnowsOfCall}
 use Rattle.owner_facts.proofs.Given.CallersTogether.Replies.{replies_stand_together}
@@ -76,7 +76,7 @@ module _ {K V Q : Type 0} (So : Calling → Type 0) (asks : (asks_at : Asking) �
       by true = tries word TOMBSTONE
       by false = asks (asking.GivesUp word)
 
-  absent_so : (kind : Takes) (c : KeyCall K V Q) (gap : Gap) (told : MachineReply V) → So c.stands → So (absent_told kind c gap told).0.stands
+  absent_so : (kind : Takes) (c : KeyCall K V Q) (gap : Gap) (told : MachineReply V) → So c.stands → So (absent_replied kind c gap told).0.stands
   absent_so takes.Values c gap (reply.Insert value) h = gap_so gap (with_absent c value)
   absent_so takes.Changes c gap (reply.Insert value) h = gap_so gap (with_absent c value)
   absent_so takes.Changes c gap reply.Remove h = ending_so c (ends.Refused RemoveNothing) refl
@@ -90,7 +90,7 @@ module _ {K V Q : Type 0} (So : Calling → Type 0) (asks : (asks_at : Asking) �
   absent_so takes.Nothing c gap told h = h
   absent_so takes.Choices c gap told h = h
 
-  present_so : (kind : Takes) (c : KeyCall K V Q) (word : ℕ) (told : MachineReply V) → So c.stands → So (present_told kind c word told).0.stands
+  present_so : (kind : Takes) (c : KeyCall K V Q) (word : ℕ) (told : MachineReply V) → So c.stands → So (present_replied kind c word told).0.stands
   present_so takes.Values c word (reply.Insert value) h = asks (asking.Fills word)
   present_so takes.Changes c word (reply.Insert value) h = asks (asking.Fills word)
   present_so takes.Changes c word reply.Remove h = burying_so (with_present c word tells.Removes) word
@@ -109,19 +109,19 @@ module _ {K V Q : Type 0} (So : Calling → Type 0) (asks : (asks_at : Asking) �
   present_so takes.Nothing c word told h = h
 
   pub replied_so : (p : KeyCall K V Q) (asks_at : Asking) → p.stands ≡ at.Asks asks_at → (told : MachineReply V) → So (replied p told).0.stands
-  replied_so p asks_at here told = subst (λ (x : Calling). So (told_at x p told).0.stands) (sym here) (by asks_at)
+  replied_so p asks_at here told = subst (λ (x : Calling). So (replied_at x p told).0.stands) (sym here) (by asks_at)
     where
       stands : So p.stands
       stands = subst So (sym here) (asks asks_at)
 
-      by : (a : Asking) → So (told_at (at.Asks a) p told).0.stands
+      by : (a : Asking) → So (replied_at (at.Asks a) p told).0.stands
       by (asking.Absent gap) = absent_so p.replies.takes p gap told stands
       by (asking.Present word) = present_so p.replies.takes p word told stands
       by (asking.Fills word) = stands
       by (asking.GivesUp word) = stands
 
 module _ {K V Q : Type 0} (same : K → K → Bool) (hash : K → ℕ) (asks : Q → K → Bool) (setting : Setting) (slot : ℕ → ℕ) (lawful : AreLawful same hash) (initial : IsPowerOfTwo setting.initial)
-    (w : World (Node K V)) (c : Chart K) (blocks : Blocks) (sights : ℕ → Sight) (u : CallOnKey K V Q) (a : IsAlone same hash asks setting slot w c blocks sights (OnKey u))
+    (w : World (Node K V)) (c : Chart K) (blocks : Blocks) (sights : ℕ → Visible) (u : CallOnKey K V Q) (a : IsAlone same hash asks setting slot w c blocks sights (OnKey u))
     (asks_at : Asking) (is : u.call.stands ≡ at.Asks asks_at) where
   abbrev here : Setting
   here = in_slot setting (slot 0)
@@ -139,11 +139,11 @@ module _ {K V Q : Type 0} (same : K → K → Bool) (hash : K → ℕ) (asks : Q
   map = own.map same hash asks setting slot lawful w c blocks sights u a
 
   tables : TablesAlone (is_incremental setting.mode) c
-  tables = subst (StandsAlone (is_incremental setting.mode) c) is a.lone.point
+  tables = subst (AloneAtPoint (is_incremental setting.mode) c) is a.lone.point
 
-  module _ (about : Option ℕ) (told : MachineReply V) (together2 : Together V same hash asks setting slot w c blocks sights (with_at a.calls 0 (Some (OnKey (told_about u about told))))) where
+  module _ (about : Option ℕ) (told : MachineReply V) (together2 : Together V same hash asks setting slot w c blocks sights (with_at a.calls 0 (Some (OnKey (replied_about u about told))))) where
     abbrev after : CallOnKey K V Q
-    after = told_about u about told
+    after = replied_about u about told
 
     has2 : with_at a.calls 0 (Some (OnKey after)) 0 ≡ Some (OnKey after)
     has2 = at_same a.calls 0 (Some (OnKey after)) 0 refl
@@ -155,7 +155,7 @@ module _ {K V Q : Type 0} (same : K → K → Bool) (hash : K → ℕ) (asks : Q
     first (inl f) = tt
     first (inr (unchanged, late)) = never_both same hash asks here w 0 c seen seen map map u.keys u.change u.began (replied u.call told).0 facts late
 
-    of_root : (x : Stands V same hash asks setting slot w c seen 0 (OnKey after)) → IsOfRoot same hash asks setting slot w c seen (OnKey after) x
+    of_root : (x : IsAtPoint V same hash asks setting slot w c seen 0 (OnKey after)) → IsOfRoot same hash asks setting slot w c seen (OnKey after) x
     of_root (inl (rests, knows)) = first knows.facts
     of_root (inr (row, at_row, knows)) = absurd (no_row_rests (slot 0) (replied u.call told).0.stands at_row (sym known.0 ∙ row))
 
@@ -168,7 +168,7 @@ module _ {K V Q : Type 0} (same : K → K → Bool) (hash : K → ℕ) (asks : Q
       rows = a.rows;
       lone = record {
         idle = a.lone.idle;
-        point = replied_so (StandsAlone (is_incremental setting.mode) c) (λ x. tables) (λ word new. tables) tables (λ p. tables) (λ p. tables) (λ end none. tables) (λ end none. tables) u.call asks_at is told;
+        point = replied_so (AloneAtPoint (is_incremental setting.mode) c) (λ x. tables) (λ word new. tables) tables (λ p. tables) (λ p. tables) (λ end none. tables) (λ end none. tables) u.call asks_at is told;
       };
       inside = together2.inside 0 (OnKey after) has2;
       of_root = of_root (together2.stand 0 (OnKey after) has2);

@@ -31,7 +31,7 @@ use Rattle.map_measures.specs.Given.RuleInWorld.{IsMapIn, SameBlocks}
 use Rattle.owner_facts.specs.Given.PointsFactsCalls.{Change, IsOwnPair, CallingFacts, CallFacts}
 use Rattle.owner_facts.specs.Given.PointsTold.{IsRowOfCall}
 use Rattle.map_measures.specs.Given.LateEnds.{EndsInCalling}
-use Rattle.map_measures.specs.Given.LateFaults.{CallRefusesSo, StandsInCalling}
+use Rattle.map_measures.specs.Given.LateFaults.{CallRefusesSo, HoldsInCalling}
 use Rattle.map_measures.proofs.Given.RuleSpared.{PlanSpares, spares_as, step_spares}
 use Rattle.owner_facts.proofs.Given.PointsCalls.Probes.{own_block}
 use Rattle.map_measures.proofs.Given.LateKindsKept.Rooms.Bound.{BoundCalling, Keeps, calling_on}
@@ -107,8 +107,8 @@ module _ {K V Q : Type 0} (same : K → K → Bool) (hash : K → ℕ) (asks : Q
   stays stands is f bound = keeps_where same hash (is_incremental setting.mode) c c2 lasts (same_then (subst Reads (sym is) bound))
 
   -- The promise: so it is then.
-  pub call_ends : StandsInCalling (IsForTheLast c) (IsTheLast c) p.trial.table p.stands
-      → StandsInCalling (IsForTheLast c2) (IsTheLast c2) end.0.trial.table end.0.stands × CallRefusesSo (IsForTheLast c2) end.1
+  pub call_ends : HoldsInCalling (IsForTheLast c) (IsTheLast c) p.trial.table p.stands
+      → HoldsInCalling (IsForTheLast c2) (IsTheLast c2) end.0.trial.table end.0.stands × CallRefusesSo (IsForTheLast c2) end.1
   call_ends so =
       key_as (IsForTheLast c2) (IsTheLast c2) (memory_is_other c2) asks same hash p
       (calling_on (IsForTheLast c) (IsForTheLast c2) (IsTheLast c) (IsTheLast c2) p.trial.table p.stands (stays p.stands refl facts.point) so)
@@ -123,6 +123,6 @@ module _ {K V Q : Type 0} (same : K → K → Bool) (hash : K → ℕ) (asks : Q
   row_bounds m _ row = absurd row
 
   pub row_call_ends : (m m2 : Mem (Node K V)) (end : KeyCall K V Q × Called (Node K V)) → Steps Took value_at m (call_plan asks same hash p) m2 end
-      → StandsInCalling (IsForTheLast c) (IsTheLast c) p.trial.table p.stands
-      → StandsInCalling (IsForTheLast c) (IsTheLast c) end.0.trial.table end.0.stands × CallRefusesSo (IsForTheLast c) end.1
+      → HoldsInCalling (IsForTheLast c) (IsTheLast c) p.trial.table p.stands
+      → HoldsInCalling (IsForTheLast c) (IsTheLast c) end.0.trial.table end.0.stands × CallRefusesSo (IsForTheLast c) end.1
   row_call_ends m m2 end s so = key_as (IsForTheLast c) (IsTheLast c) (memory_is_other c) asks same hash p so m m2 end (row_bounds m p.stands is_row) s

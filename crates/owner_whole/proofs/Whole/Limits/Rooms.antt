@@ -34,7 +34,7 @@ use Rattle.owner_facts.specs.Given.PointsFactsCopiesBlocking.{CopierFactsBlockin
 use Rattle.owner_facts.specs.Alone.Counting.{shards_sum}
 use Rattle.map_measures.specs.Given.LateEnds.{EndsSo, EndsInCopying, EndsInReserving}
 use Rattle.owner_facts.specs.Given.LateFactsReserves.{CopiesWhole, IsEnding, ReservingFacts, ReserveFacts}
-use Rattle.map_measures.specs.Given.LateFaults.{StandsInReserving}
+use Rattle.map_measures.specs.Given.LateFaults.{HoldsInReserving}
 use Rattle.owner_facts.specs.Given.LateToldReserves.{IsRowOfReserve}
 use Rattle.owner_facts.specs.Maps.AloneReserves.{SumsUp}
 use Rattle.map_measures.proofs.Given.RuleSpared.{PlanSpares, spares_as, step_spares}
@@ -127,7 +127,7 @@ module _ {K V : Type 0} (same : K → K → Bool) (hash : K → ℕ) (setting : 
   stays _ is f bound = absurd bound
 
   -- The promise: so it is then.
-  pub reserve_ends : StandsInReserving (IsForRoom c p.additional count) (IsTheLast c) p.stands → ReservesAs (IsForRoom c2 p.additional count) (IsTheLast c2) end
+  pub reserve_ends : HoldsInReserving (IsForRoom c p.additional count) (IsTheLast c) p.stands → ReservesAs (IsForRoom c2 p.additional count) (IsTheLast c2) end
   reserve_ends so =
       reserve_as (IsForRoom c2 p.additional count) (IsTheLast c2) (for_room c2 p.additional count Memory (memory_is_other c2)) K V hash p
       (reserving_on (IsForRoom c p.additional count) (IsForRoom c2 p.additional count) (IsTheLast c) (IsTheLast c2) p.stands
@@ -142,6 +142,6 @@ row_bounds c p count m m2 _ row = absurd row
 
 module _ {K V : Type 0} (hash : K → ℕ) (c : Chart K) (p : Reserve) (is_row : IsRowOfReserve p.stands) (count : ℕ) where
   pub row_reserve_ends : (m m2 : Mem (Node K V)) (end : Reserve × Yielding (Node K V) Unit) → Steps Took value_at m (reserve_plan hash p) m2 end
-      → StandsInReserving (IsForRoom c p.additional count) (IsTheLast c) p.stands → ReservesAs (IsForRoom c p.additional count) (IsTheLast c) end
+      → HoldsInReserving (IsForRoom c p.additional count) (IsTheLast c) p.stands → ReservesAs (IsForRoom c p.additional count) (IsTheLast c) end
   row_reserve_ends m m2 end s so =
       reserve_as (IsForRoom c p.additional count) (IsTheLast c) (for_room c p.additional count Memory (memory_is_other c)) K V hash p so m m2 end (row_bounds c p count m m2 p.stands is_row) s

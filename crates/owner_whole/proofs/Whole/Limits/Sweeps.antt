@@ -25,7 +25,7 @@ use Rattle.owner_facts.specs.Given.PointsFactsCopies.{CopierFacts}
 use Rattle.owner_facts.specs.Given.PointsFactsCopiesBlocking.{CopierFactsBlocking}
 use Rattle.map_measures.specs.Given.LateEnds.{EndsInSweeping}
 use Rattle.owner_facts.specs.Given.LateFactsReserves.{IsEnding}
-use Rattle.map_measures.specs.Given.LateFaults.{StandsInSweeping, SweepRefusesSo}
+use Rattle.map_measures.specs.Given.LateFaults.{HoldsInSweeping, SweepRefusesSo}
 use Rattle.owner_facts.specs.Given.LateToldSweeps.{IsRowOfSweep}
 use Rattle.map_measures.proofs.Given.RuleSpared.{PlanSpares, spares_as, step_spares}
 use Rattle.map_measures.proofs.Given.LateKindsKept.Rooms.Bound.{BoundSweeping, Keeps, sweeping_on}
@@ -69,8 +69,8 @@ module _ {K V : Type 0} (same : K → K → Bool) (hash : K → ℕ) (setting : 
   stays _ is f bound = absurd bound
 
   -- The promise: so it is then.
-  pub sweep_ends : StandsInSweeping (IsForTheLast c) (IsTheLast c) o.stands
-      → StandsInSweeping (IsForTheLast c2) (IsTheLast c2) end.0.stands × SweepRefusesSo (IsForTheLast c2) end.1
+  pub sweep_ends : HoldsInSweeping (IsForTheLast c) (IsTheLast c) o.stands
+      → HoldsInSweeping (IsForTheLast c2) (IsTheLast c2) end.0.stands × SweepRefusesSo (IsForTheLast c2) end.1
   sweep_ends so =
       sweep_as (IsForTheLast c2) (IsTheLast c2) (memory_is_other c2) K V hash o
       (sweeping_on (IsForTheLast c) (IsForTheLast c2) (IsTheLast c) (IsTheLast c2) o.stands (stays o.stands refl whole) so) w.memory w2.memory end (bounds o.stands refl whole) s
@@ -82,5 +82,5 @@ row_bounds c m _ row = tt
 
 module _ {K V : Type 0} (hash : K → ℕ) (c : Chart K) (o : Sweep) (is_row : IsRowOfSweep o.stands) where
   pub row_sweep_ends : (m m2 : Mem (Node K V)) (end : Sweep × Swept (Node K V)) → Steps Took value_at m (sweep_plan hash o) m2 end
-      → StandsInSweeping (IsForTheLast c) (IsTheLast c) o.stands → StandsInSweeping (IsForTheLast c) (IsTheLast c) end.0.stands × SweepRefusesSo (IsForTheLast c) end.1
+      → HoldsInSweeping (IsForTheLast c) (IsTheLast c) o.stands → HoldsInSweeping (IsForTheLast c) (IsTheLast c) end.0.stands × SweepRefusesSo (IsForTheLast c) end.1
   row_sweep_ends m m2 end s so = sweep_as (IsForTheLast c) (IsTheLast c) (memory_is_other c) K V hash o so m m2 end (row_bounds c m o.stands is_row) s

@@ -30,7 +30,7 @@ use Rattle.map_measures.specs.Given.RuleChart.{Chart}
 use Rattle.map_measures.specs.Given.RuleWords.{Blocks}
 use Rattle.owner_facts.specs.Given.PointsTold.{IsRowOfCopier}
 use Rattle.owner_facts.specs.Given.LateFactsReserves.{ReservingFacts}
-use Rattle.owner_facts.specs.Given.LateLateReserves.{LateReserving}
+use Rattle.owner_facts.specs.Given.LateLateReserves.{SupersededReserving}
 use Rattle.owner_facts.specs.Given.LateToldReserves.{IsRowOfReserve}
 use Rattle.owner_facts.specs.Maps.AloneReserves.{LooksAtRoot, SumsUp}
 use Rattle.owner_facts.specs.Maps.FactsAloneReserves.{CopierAlone, ReservesAlone}
@@ -183,7 +183,7 @@ module _ {K V : Type 0} (same : K → K → Bool) (hash : K → ℕ) (setting : 
   -- it is not late then
   module _ (began : ℕ) where
     abbrev Lately : Reserving → Type 0
-    Lately x = LateReserving same hash w caller setting c seen began x
+    Lately x = SupersededReserving same hash w caller setting c seen began x
 
     pub room_never_late_at : (x : Reserving) → IsRowOfReserve x → RoomTargetIs c.first x → Lately x → ⊥
     room_never_late_at = at_room_row (λ x. RoomTargetIs c.first x → Lately x → ⊥) (λ p row root late. late_now same hash setting w caller c seen p began root p.stands row late.point)

@@ -12,19 +12,19 @@ use Rattle.map_measures.specs.Given.ResizeSum.{summing}
 use Rattle.map_measures.specs.Given.ResizeDeclared.sum.Sum.{Sum}
 use Rattle.map_measures.specs.Given.RuleChart.{Chart}
 use Rattle.map_measures.specs.Given.RuleWords.{Blocks}
-use Rattle.owner_facts.specs.Given.CallersSights.{Sight, seen_by}
-use Rattle.owner_facts.specs.Given.CallersTogether.{Counting, next_of_counting, in_slot, Stands, Together}
+use Rattle.owner_facts.specs.Given.CallersSights.{Visible, seen_by}
+use Rattle.owner_facts.specs.Given.CallersTogether.{Counting, next_of_counting, in_slot, IsAtPoint, Together}
 use Rattle.owner_facts.proofs.Given.CallersTogether.At.{at_other, at_same}
 use Rattle.owner_facts.proofs.Given.CallersTogether.Countings.{countings_begin_together, countings_stand_together}
-use Rattle.owner_whole.specs.Whole.Owner.{IsOfRoot, AtRest, IsAlone}
+use Rattle.owner_whole.specs.Whole.Owner.{IsOfRoot, IsQuiescent, IsAlone}
 use Rattle.owner_facts.specs.Given.PointsFactsTables.{SumFacts}
 use Rattle.owner_facts.proofs.Maps.Reserves.Sums.{Ahead, sum_ahead}
-use Rattle.owner_whole.specs.Whole.WholeRooms.{CountLeads, ComesTo, CountingsBeginAlone, CountingsGoOnAlone}
+use Rattle.owner_whole.specs.Whole.WholeRooms.{CountLeads, HasOutcome, CountingsBeginAlone, CountingsContinueAlone}
 use Rattle.owner_whole.proofs.Whole.Keys.Begins.{one_few}
 
 module _ {K V Q : Type 0} (same : K → K → Bool) (hash : K → ℕ) (asks : Q → K → Bool) (setting : Setting) (slot : ℕ → ℕ) where
   -- what a counting knows is of no table
-  of_none : (w : World (Node K V)) (c : Chart K) (seen : Blocks) (sum : Sum) (x : Stands V same hash asks setting slot w c seen 0 (Counting sum)) → IsOfRoot same hash asks setting slot w c seen (Counting sum) x
+  of_none : (w : World (Node K V)) (c : Chart K) (seen : Blocks) (sum : Sum) (x : IsAtPoint V same hash asks setting slot w c seen 0 (Counting sum)) → IsOfRoot same hash asks setting slot w c seen (Counting sum) x
   of_none w c seen sum x = tt
 
   pub countings_begin_alone : CountingsBeginAlone V same hash asks setting slot
@@ -43,7 +43,7 @@ module _ {K V Q : Type 0} (same : K → K → Bool) (hash : K → ℕ) (asks : Q
         of_root = of_none w c (seen_by blocks (sights (slot 0))) it (together2.stand 0 (Counting it) has2);
       }
 
-  module _ (w : World (Node K V)) (c : Chart K) (blocks : Blocks) (sights : ℕ → Sight) (sum : Sum) (a : IsAlone {Q = Q} same hash asks setting slot w c blocks sights (Counting sum)) where
+  module _ (w : World (Node K V)) (c : Chart K) (blocks : Blocks) (sights : ℕ → Visible) (sum : Sum) (a : IsAlone {Q = Q} same hash asks setting slot w c blocks sights (Counting sum)) where
     rests : w.row 0 ≡ Rests
     rests = (a.together.stand 0 (Counting sum) a.has).0
 
@@ -62,7 +62,7 @@ module _ {K V Q : Type 0} (same : K → K → Bool) (hash : K → ℕ) (asks : Q
             of_root = of_none w c (seen_by blocks (sights (slot 0))) sum2 (together2.stand 0 (Counting sum2) has2);
           }
 
-      ended : next_of_counting {K = K} {V = V} {Q = Q} sum2 end ≡ None → AtRest {Q = Q} same hash asks setting slot w c blocks sights
+      ended : next_of_counting {K = K} {V = V} {Q = Q} sum2 end ≡ None → IsQuiescent {Q = Q} same hash asks setting slot w c blocks sights
       ended ends = record {
         calls = with_at a.calls 0 (next_of_counting sum2 end);
         none = λ i. elim (cases_eq i 0) as (λ _. with_at a.calls 0 (next_of_counting sum2 end) i ≡ None) [
@@ -85,13 +85,13 @@ module _ {K V Q : Type 0} (same : K → K → Bool) (hash : K → ℕ) (asks : Q
       leads (progress.Refused fault) is waits refused = absurd (refused fault refl)
 
   comes_to : (w : World (Node K V)) (sum : Sum) (facts : SumFacts (in_slot setting (slot 0)) sum) (sum2 : Sum) (end : Advance ℕ) → end ≢ progress.Waits → ((fault : Fault) → end ≢ progress.Refused fault)
-      → Ahead (in_slot setting (slot 0)) w.memory sum facts.0 sum.stands (sum2, end) → ComesTo setting w.memory sum (sum2, end)
+      → Ahead (in_slot setting (slot 0)) w.memory sum facts.0 sum.stands (sum2, end) → HasOutcome setting w.memory sum (sum2, end)
   comes_to w sum facts sum2 progress.Goes waits refused ahead = ahead
   comes_to w sum facts sum2 progress.Waits waits refused ahead = waits refl
   comes_to w sum facts sum2 (progress.Done count) waits refused ahead = ahead
   comes_to w sum facts sum2 (progress.Refused fault) waits refused ahead = refused fault refl
 
-  pub countings_go_on_alone : CountingsGoOnAlone V same hash asks setting slot
+  pub countings_go_on_alone : CountingsContinueAlone V same hash asks setting slot
   countings_go_on_alone w c blocks sights sum a =
       let law = countings_stand_together same hash asks setting slot w c blocks sights a.calls a.together 0 sum a.has in
       let facts = (a.together.stand 0 (Counting sum) a.has).1 in (

@@ -17,26 +17,26 @@ use Rattle.papaya_raw.specs.Given.ReservesDeclared.reserve.Reserving.{Reserving}
 use Rattle.papaya_raw.specs.Given.ReservesDeclared.reserve.Reserving.TheVariants as at
 use Rattle.map_measures.specs.Given.RuleChart.{Chart}
 use Rattle.map_measures.specs.Given.RuleWords.{Blocks}
-use Rattle.map_measures.specs.Given.RuleInWorld.{IsMapIn, Went}
+use Rattle.map_measures.specs.Given.RuleInWorld.{IsMapIn, StepSpec}
 use Rattle.map_measures.specs.Given.PointsMeasures.{IsBelow}
 use Rattle.owner_facts.specs.Given.PointsSteps.{AreLawful}
 use Rattle.owner_facts.specs.Given.PointsTold.{OnlyLinks}
 use Rattle.owner_facts.specs.Given.LateFactsReserves.{CopiesPairs, ReserveFacts}
-use Rattle.owner_facts.specs.Given.LateLateReserves.{LateReserveFacts}
-use Rattle.owner_facts.specs.Given.LateToldReserves.{ReserveTold, ReserveAfter, IsRowOfReserve}
+use Rattle.owner_facts.specs.Given.LateLateReserves.{SupersededReserveFacts}
+use Rattle.owner_facts.specs.Given.LateToldReserves.{ReserveOutcome, ReserveAfter, IsRowOfReserve}
 use Rattle.owner_facts.proofs.Given.LateRooms.Laws.{reserves_keep_the_map}
 use Rattle.owner_facts.proofs.Given.LateRooms.Reserves.Moved.{ReserveMoves}
 use Rattle.owner_facts.proofs.Given.LateRooms.Reserves.On.{ReserveWent}
 use Rattle.owner_facts.proofs.Given.LateRooms.Reserves.Points.{went_reserve}
-use Rattle.owner_facts.specs.Alone.FactsAloneCalls.{RestsAlone}
+use Rattle.owner_facts.specs.Alone.FactsAloneCalls.{AloneBetweenCalls}
 use Rattle.owner_facts.specs.Maps.FactsAloneReserves.{IsLoneReserve, LeadsReserve}
 use Rattle.owner_facts.proofs.Maps.Reserves.AtRoot.{keeps_to_root}
 use Rattle.owner_facts.proofs.Maps.Reserves.Beside.{reserve_leads}
 use Rattle.map_measures.specs.Falls.Reserves.{number_of_reserve}
 use Rattle.map_measures.proofs.Falls.Laws.{reserves_fall}
 use Rattle.owner_facts.specs.Given.CallersRooms.{CallForRoom}
-use Rattle.owner_facts.specs.Given.CallersSights.{Sight, seen_by}
-use Rattle.owner_facts.specs.Given.CallersTogether.{UnderWay, ForRoom, next_for_room, in_slot, KnowsRoom, Stands, Together, RoomTold, FreshRoom, RoomStepsTogether}
+use Rattle.owner_facts.specs.Given.CallersSights.{Visible, seen_by}
+use Rattle.owner_facts.specs.Given.CallersTogether.{UnderWay, ForRoom, next_for_room, in_slot, KnowsRoom, IsAtPoint, Together, RoomOutcome, FreshRoom, RoomStepsTogether}
 use Rattle.owner_facts.proofs.Given.CallersSights.Seen.{map_seen}
 use Rattle.owner_facts.proofs.Given.CallersSights.Sources.{below}
 use Rattle.owner_facts.proofs.Given.CallersTogether.At.{at_other, at_same}
@@ -51,7 +51,7 @@ use Rattle.owner_whole.proofs.Whole.Contents.Runs.{went_keeps, run_on, still_on}
 use Rattle.owner_facts.specs.Alone.Counting.{shards_sum}
 use Rattle.owner_facts.proofs.Alone.Shards.Sums.{added_same}
 use Rattle.owner_facts.proofs.Maps.Reserves.Counted.{reserve_counts_none}
-use Rattle.owner_whole.specs.Whole.Owner.{IsFirst, IsOfRoot, AtRest, IsAlone}
+use Rattle.owner_whole.specs.Whole.Owner.{IsFirst, IsOfRoot, IsQuiescent, IsAlone}
 use Rattle.owner_whole.specs.Whole.WholeRooms.{room_so, RoomLeads, RoomStepLeads}
 use Rattle.owner_whole.proofs.Whole.Joined.{same_joined, links_joined}
 use Rattle.owner_whole.proofs.Whole.Fresh.Rooms.{never_both_rooms}
@@ -59,7 +59,7 @@ use Rattle.owner_whole.proofs.Whole.Limits.Rooms.{reserve_ends}
 use Rattle.owner_whole.proofs.Whole.Rooms.Account.{no_room_row_rests}
 
 module _ {K V Q : Type 0} (same : K → K → Bool) (hash : K → ℕ) (asks : Q → K → Bool) (setting : Setting) (slot : ℕ → ℕ) (lawful : AreLawful same hash)
-    (w : World (Node K V)) (c : Chart K) (blocks : Blocks) (sights : ℕ → Sight) (r : CallForRoom) (a : IsAlone {Q = Q} same hash asks setting slot w c blocks sights (ForRoom r)) where
+    (w : World (Node K V)) (c : Chart K) (blocks : Blocks) (sights : ℕ → Visible) (r : CallForRoom) (a : IsAlone {Q = Q} same hash asks setting slot w c blocks sights (ForRoom r)) where
   abbrev pub here : Setting
   here = in_slot setting (slot 0)
 
@@ -68,7 +68,7 @@ module _ {K V Q : Type 0} (same : K → K → Bool) (hash : K → ℕ) (asks : Q
 
   -- what it knows in the root's table, or in one that the root has left
   abbrev KnowsOf : World (Node K V) → Chart K → Blocks → Reserve → Type 0
-  KnowsOf v d b p = ReserveFacts same hash v 0 here d b p ⊎ LateReserveFacts same hash v 0 here d b r.began p
+  KnowsOf v d b p = ReserveFacts same hash v 0 here d b p ⊎ SupersededReserveFacts same hash v 0 here d b r.began p
 
   pub inside : IsInside (w.uses (slot 0))
   inside = a.together.inside 0 (ForRoom r) a.has
@@ -88,7 +88,7 @@ module _ {K V Q : Type 0} (same : K → K → Bool) (hash : K → ℕ) (asks : Q
     pub knows_here : KnowsHere
     knows_here = by (a.together.stand 0 (ForRoom r) a.has) a.of_root
       where
-        by : (x : Stands V same hash asks setting slot w c seen 0 (ForRoom r)) → IsOfRoot same hash asks setting slot w c seen (ForRoom r) x → KnowsHere
+        by : (x : IsAtPoint V same hash asks setting slot w c seen 0 (ForRoom r)) → IsOfRoot same hash asks setting slot w c seen (ForRoom r) x → KnowsHere
         by (inl (rests, knows)) first = (rests, knows, first_of r.reserve knows.facts first)
         by (inr (row, is_row, knows)) first = absurd (none is_row)
 
@@ -110,10 +110,10 @@ module _ {K V Q : Type 0} (same : K → K → Bool) (hash : K → ℕ) (asks : Q
         only_links at.Over moves other = moves.0
         only_links (at.Refused fault) moves other = moves.0
 
-        pub tells : ReserveTold same hash 0 here c r.reserve went.w2 went.c2 went.blocks2 p2 end
+        pub tells : ReserveOutcome same hash 0 here c r.reserve went.w2 went.c2 went.blocks2 p2 end
         tells = record { facts = went.told.2; same_pairs = went.told.1; beside = only_links r.reserve.stands went.told.3 }
 
-        abbrev pub fresh : Went same hash here 0 w c seen m2 (RoomTold V same hash asks setting slot c 0 r p2 end)
+        abbrev pub fresh : StepSpec same hash here 0 w c seen m2 (RoomOutcome V same hash asks setting slot c 0 r p2 end)
         fresh = record {
           w2 = went.w2;
           c2 = went.c2;
@@ -170,7 +170,7 @@ module _ {K V Q : Type 0} (same : K → K → Bool) (hash : K → ℕ) (asks : Q
           first_then (inl known) = tt
           first_then (inr late) = never_both_rooms same hash here went.w2 0 went.c2 went.blocks2 seen2 went.map map2 r.began p2 facts late
 
-          of_root_then : (x : Stands V same hash asks setting slot went.w2 went.c2 seen2 0 (ForRoom after)) → IsOfRoot same hash asks setting slot went.w2 went.c2 seen2 (ForRoom after) x
+          of_root_then : (x : IsAtPoint V same hash asks setting slot went.w2 went.c2 seen2 0 (ForRoom after)) → IsOfRoot same hash asks setting slot went.w2 went.c2 seen2 (ForRoom after) x
           of_root_then (inl (rests, knows)) = first_then knows.facts
           of_root_then (inr (row, is_row, knows)) = absurd (no_room_row_rests p2.stands is_row (sym knows_here.0 ∙ sym (row_same 0) ∙ row))
 
@@ -190,7 +190,7 @@ module _ {K V Q : Type 0} (same : K → K → Bool) (hash : K → ℕ) (asks : Q
               }
 
         -- where it has ended, the owner rests
-        at_rest : RestsAlone (is_incremental setting.mode) 0 went.c2 → next_for_room {Q = Q} after end ≡ None → AtRest {Q = Q} same hash asks setting slot went.w2 went.c2 stepped.blocks2 stepped.sights2
+        at_rest : AloneBetweenCalls (is_incremental setting.mode) 0 went.c2 → next_for_room {Q = Q} after end ≡ None → IsQuiescent {Q = Q} same hash asks setting slot went.w2 went.c2 stepped.blocks2 stepped.sights2
         at_rest alone ends = record {
           calls = calls2;
           none = λ i. elim (cases_eq i 0) as (λ _. calls2 i ≡ None) [
@@ -246,7 +246,7 @@ module _ {K V Q : Type 0} (same : K → K → Bool) (hash : K → ℕ) (asks : Q
             by (outcome.Refused fault) is facts alone = at_rest alone (ap (next_for_room after) is)
 
         -- the same step, by all that is seen then: where it goes on, its numbers are lower
-        abbrev to : Went same hash here 0 w c seen m2 (λ w2 c2 blocks2. Unit {0})
+        abbrev to : StepSpec same hash here 0 w c seen m2 (λ w2 c2 blocks2. Unit {0})
         to = record {
           w2 = went.w2;
           c2 = went.c2;

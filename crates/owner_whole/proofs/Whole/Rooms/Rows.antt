@@ -23,15 +23,15 @@ use Rattle.map_measures.specs.Given.RuleWords.{Blocks}
 use Rattle.map_measures.specs.Given.PointsMeasures.{IsBelow}
 use Rattle.owner_facts.specs.Given.PointsSteps.{AreLawful}
 use Rattle.owner_facts.specs.Given.LateFactsReserves.{ReserveFacts}
-use Rattle.owner_facts.specs.Given.LateLateReserves.{LateReserveFacts}
+use Rattle.owner_facts.specs.Given.LateLateReserves.{SupersededReserveFacts}
 use Rattle.owner_facts.specs.Given.LateToldReserves.{IsRowOfReserve}
 use Rattle.owner_facts.specs.Maps.AloneReserves.{LooksAtRoot, SumsUp, KeepsToRoot}
 use Rattle.owner_facts.specs.Maps.EndingsReserves.{HasMore}
 use Rattle.owner_facts.specs.Maps.FactsAloneReserves.{IsLoneReserve, ReservesAlone}
 use Rattle.map_measures.specs.Falls.Reserves.{number_of_reserve}
 use Rattle.owner_facts.specs.Given.CallersRooms.{CallForRoom, row_of_room, room_once_over}
-use Rattle.owner_facts.specs.Given.CallersSights.{Sight, seen_by}
-use Rattle.owner_facts.specs.Given.CallersTogether.{UnderWay, ForRoom, next_for_room, in_slot, IsReclaimed, Stands, Together, RoomRowsTogether}
+use Rattle.owner_facts.specs.Given.CallersSights.{Visible, seen_by}
+use Rattle.owner_facts.specs.Given.CallersTogether.{UnderWay, ForRoom, next_for_room, in_slot, IsReclaimed, IsAtPoint, Together, RoomRowsTogether}
 use Rattle.owner_facts.proofs.Given.CallersTogether.At.{at_other, at_same}
 use Rattle.owner_facts.proofs.Given.CallersTogether.Begun as begun
 use Rattle.owner_facts.proofs.Given.CallersTogether.Few.{room_row_claims_none}
@@ -55,7 +55,7 @@ abbrev pub room_numbers : {K V : Type 0} → Chart K → Blocks → Reserve → 
 room_numbers c blocks p m = number_of_reserve c blocks p ++ (row_left (row_of_room p.stands) m ∷ [])
 
 module _ {K V Q : Type 0} (same : K → K → Bool) (hash : K → ℕ) (asks : Q → K → Bool) (setting : Setting) (slot : ℕ → ℕ) (lawful : AreLawful same hash)
-    (w : World (Node K V)) (c : Chart K) (blocks : Blocks) (sights : ℕ → Sight) (r : CallForRoom) (a : IsAlone {Q = Q} same hash asks setting slot w c blocks sights (ForRoom r))
+    (w : World (Node K V)) (c : Chart K) (blocks : Blocks) (sights : ℕ → Visible) (r : CallForRoom) (a : IsAlone {Q = Q} same hash asks setting slot w c blocks sights (ForRoom r))
     (is_row : IsRowOfReserve r.reserve.stands) where
   abbrev here : Setting
   here = in_slot setting (slot 0)
@@ -64,7 +64,7 @@ module _ {K V Q : Type 0} (same : K → K → Bool) (hash : K → ℕ) (asks : Q
   seen = seen_by blocks (sights (slot 0))
 
   abbrev KnowsOf : World (Node K V) → Reserve → Type 0
-  KnowsOf v p = ReserveFacts same hash v 0 here c seen p ⊎ LateReserveFacts same hash v 0 here c seen r.began p
+  KnowsOf v p = ReserveFacts same hash v 0 here c seen p ⊎ SupersededReserveFacts same hash v 0 here c seen r.began p
 
   -- it is within the row, in a world with the same memory
   pub record IsWithinRow : Type 0 where
@@ -90,7 +90,7 @@ module _ {K V Q : Type 0} (same : K → K → Bool) (hash : K → ℕ) (asks : Q
   pub now : IsWithinRow
   now = by (a.together.stand 0 (ForRoom r) a.has) a.of_root
     where
-      by : (x : Stands V same hash asks setting slot w c seen 0 (ForRoom r)) → IsOfRoot same hash asks setting slot w c seen (ForRoom r) x → IsWithinRow
+      by : (x : IsAtPoint V same hash asks setting slot w c seen 0 (ForRoom r)) → IsOfRoot same hash asks setting slot w c seen (ForRoom r) x → IsWithinRow
       by (inr (row, at_row, knows)) first = record {
         v = w;
         memory = refl;
@@ -141,7 +141,7 @@ module _ {K V Q : Type 0} (same : K → K → Bool) (hash : K → ℕ) (asks : Q
     ]
 
     goes_on : IsLoneReserve (is_incremental setting.mode) 0 c p2.stands
-        → ((x : Stands V same hash asks setting slot led.w2 c seen 0 (ForRoom after)) → IsOfRoot same hash asks setting slot led.w2 c seen (ForRoom after) x)
+        → ((x : IsAtPoint V same hash asks setting slot led.w2 c seen 0 (ForRoom after)) → IsOfRoot same hash asks setting slot led.w2 c seen (ForRoom after) x)
         → next_for_room {Q = Q} after end ≡ Some (ForRoom after) → IsAlone {Q = Q} same hash asks setting slot led.w2 c blocks sights (ForRoom after)
     goes_on alone of_root goes =
         let has2 : calls2 0 ≡ Some (ForRoom after) = at_same a.calls 0 (next_for_room after end) 0 refl ∙ goes in
@@ -167,7 +167,7 @@ module _ {K V Q : Type 0} (same : K → K → Bool) (hash : K → ℕ) (asks : Q
     still_past s (inl facts) = tt
     still_past s (inr late) = room_never_late_past same hash here led.w2 0 c seen late.blocking r.began p2.stands s.is_row (s.target c.first (now.target late.blocking)) late.point
 
-    still_of_root : IsStill p2 → (x : Stands V same hash asks setting slot led.w2 c seen 0 (ForRoom after)) → IsOfRoot same hash asks setting slot led.w2 c seen (ForRoom after) x
+    still_of_root : IsStill p2 → (x : IsAtPoint V same hash asks setting slot led.w2 c seen 0 (ForRoom after)) → IsOfRoot same hash asks setting slot led.w2 c seen (ForRoom after) x
     still_of_root s (inl (rests, knows)) = still_at s knows.facts
     still_of_root s (inr (row, at_row, knows)) = still_past s knows.facts
 
@@ -177,11 +177,11 @@ module _ {K V Q : Type 0} (same : K → K → Bool) (hash : K → ℕ) (asks : Q
     over_first : p2 ≡ room_once_over r.reserve → (x : KnowsOf led.w2 p2) → IsFirst x
     over_first past (inl facts) = tt
     over_first past (inr late) =
-        let now_late = subst (LateReserveFacts same hash led.w2 0 here c seen r.began) past late in
+        let now_late = subst (SupersededReserveFacts same hash led.w2 0 here c seen r.began) past late in
         room_never_late_past same hash here led.w2 0 c seen late.blocking r.began r.reserve.stands is_row (now.target late.blocking) now_late.point
 
     over_of_root : (IsRowOfReserve p2.stands → ⊥) → p2 ≡ room_once_over r.reserve
-        → (x : Stands V same hash asks setting slot led.w2 c seen 0 (ForRoom after)) → IsOfRoot same hash asks setting slot led.w2 c seen (ForRoom after) x
+        → (x : IsAtPoint V same hash asks setting slot led.w2 c seen 0 (ForRoom after)) → IsOfRoot same hash asks setting slot led.w2 c seen (ForRoom after) x
     over_of_root none past (inl (rests, knows)) = over_first past knows.facts
     over_of_root none past (inr (row, at_row, knows)) = absurd (none at_row)
 

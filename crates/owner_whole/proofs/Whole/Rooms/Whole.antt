@@ -18,17 +18,17 @@ use Rattle.owner_facts.specs.Given.PointsSteps.{AreLawful}
 use Rattle.map_measures.proofs.Given.PointsDescents.{descents_end}
 use Rattle.owner_facts.specs.Alone.Endings.{runs_end}
 use Rattle.owner_facts.specs.Given.LateFactsReserves.{ReserveFacts}
-use Rattle.owner_facts.specs.Given.LateLateReserves.{LateReserveFacts}
+use Rattle.owner_facts.specs.Given.LateLateReserves.{SupersededReserveFacts}
 use Rattle.owner_facts.specs.Given.LateToldReserves.{IsRowOfReserve}
-use Rattle.owner_facts.specs.Maps.EndingsReserves.{HasMore, ComesToAnEnd}
+use Rattle.owner_facts.specs.Maps.EndingsReserves.{HasMore, Terminates}
 use Rattle.map_measures.specs.Falls.Reserves.{number_of_reserve}
 use Rattle.owner_facts.specs.Given.CallersRooms.{CallForRoom, row_of_room}
-use Rattle.owner_facts.specs.Given.CallersSights.{Sight, seen_by}
-use Rattle.owner_facts.specs.Given.CallersTogether.{UnderWay, ForRoom, in_slot, Stands, Together}
+use Rattle.owner_facts.specs.Given.CallersSights.{Visible, seen_by}
+use Rattle.owner_facts.specs.Given.CallersTogether.{UnderWay, ForRoom, in_slot, IsAtPoint, Together}
 use Rattle.owner_facts.proofs.Given.CallersTogether.At.{at_other, at_same}
 use Rattle.owner_facts.proofs.Given.CallersTogether.Rooms.{rooms_begin_together}
-use Rattle.owner_whole.specs.Whole.Owner.{IsFirst, IsOfRoot, AtRest, IsAlone}
-use Rattle.owner_whole.specs.Whole.WholeRooms.{room_so, RoomLeads, RoomStepLeads, RoomsBeginAlone, RoomsGoOnAlone, RoomsComeToAnEnd}
+use Rattle.owner_whole.specs.Whole.Owner.{IsFirst, IsOfRoot, IsQuiescent, IsAlone}
+use Rattle.owner_whole.specs.Whole.WholeRooms.{room_so, RoomLeads, RoomStepLeads, RoomsBeginAlone, RoomsContinueAlone, RoomsComeToAnEnd}
 use Rattle.owner_whole.proofs.Whole.Keys.Begins.{one_few}
 use Rattle.owner_whole.proofs.Whole.Keys.Falls.{row_left}
 use Rattle.owner_whole.proofs.Whole.Rooms.Own as own
@@ -39,7 +39,7 @@ use Rattle.map_measures.proofs.Falls.Reserves.Lengths.{reserve_numbers_are_as_ma
 use Rattle.owner_whole.proofs.Lowers.Waits.{room_decided}
 
 module _ {K V Q : Type 0} (same : K → K → Bool) (hash : K → ℕ) (asks : Q → K → Bool) (setting : Setting) (slot : ℕ → ℕ) where
-  module _ (w : World (Node K V)) (c : Chart K) (blocks : Blocks) (sights : ℕ → Sight) (a : AtRest {Q = Q} same hash asks setting slot w c blocks sights) (additional : ℕ) where
+  module _ (w : World (Node K V)) (c : Chart K) (blocks : Blocks) (sights : ℕ → Visible) (a : IsQuiescent {Q = Q} same hash asks setting slot w c blocks sights) (additional : ℕ) where
     abbrev it : CallForRoom
     it = record { began = c.now; reserve = reserving (in_slot setting (slot 0)) additional }
 
@@ -55,11 +55,11 @@ module _ {K V Q : Type 0} (same : K → K → Bool) (hash : K → ℕ) (asks : Q
     together2 : Together V same hash asks setting slot w c blocks sights calls2
     together2 = rooms_begin_together same hash asks setting slot w c blocks sights a.calls 0 a.together (a.none 0) (a.rows 0) a.inside (λ blocking. one_few a.calls a.none) additional
 
-    first : (x : ReserveFacts same hash w 0 (in_slot setting (slot 0)) c seen it.reserve ⊎ LateReserveFacts same hash w 0 (in_slot setting (slot 0)) c seen c.now it.reserve) → IsFirst x
+    first : (x : ReserveFacts same hash w 0 (in_slot setting (slot 0)) c seen it.reserve ⊎ SupersededReserveFacts same hash w 0 (in_slot setting (slot 0)) c seen c.now it.reserve) → IsFirst x
     first (inl facts) = tt
     first (inr late) = absurd late.point
 
-    of_root : (x : Stands V same hash asks setting slot w c seen 0 (ForRoom it)) → IsOfRoot same hash asks setting slot w c seen (ForRoom it) x
+    of_root : (x : IsAtPoint V same hash asks setting slot w c seen 0 (ForRoom it)) → IsOfRoot same hash asks setting slot w c seen (ForRoom it) x
     of_root (inl (rests, knows)) = first knows.facts
     of_root (inr (row, at_row, knows)) = absurd at_row
 
@@ -78,7 +78,7 @@ module _ {K V Q : Type 0} (same : K → K → Bool) (hash : K → ℕ) (asks : Q
   pub rooms_begin_alone : RoomsBeginAlone V same hash asks setting slot
   rooms_begin_alone = room_begun
 
-  pub rooms_go_on_alone : RoomsGoOnAlone V same hash asks setting slot
+  pub rooms_go_on_alone : RoomsContinueAlone V same hash asks setting slot
   rooms_go_on_alone lawful initial w c blocks sights r a = elim (room_decided r.reserve.stands) as (λ _. May Can Took value_at w.memory (reserve_plan hash r.reserve)
       × ((m2 : Mem (Node K V)) (p2 : Reserve) (end : Yielding (Node K V) Unit) → Steps Took value_at w.memory (reserve_plan hash r.reserve) m2 (p2, end)
       → RoomStepLeads {Q = Q} same hash asks setting slot w c blocks r m2 p2 end)) [
@@ -87,24 +87,24 @@ module _ {K V Q : Type 0} (same : K → K → Bool) (hash : K → ℕ) (asks : Q
       ]
 
   module _ (lawful : AreLawful same hash) (initial : IsPowerOfTwo setting.initial) where
-    abbrev Alone : World (Node K V) → Chart K → Blocks → (ℕ → Sight) → CallForRoom → Type 0
+    abbrev Alone : World (Node K V) → Chart K → Blocks → (ℕ → Visible) → CallForRoom → Type 0
     Alone w c blocks sights r = IsAlone {Q = Q} same hash asks setting slot w c blocks sights (ForRoom r)
 
     abbrev Ends : Reserve → Mem (Node K V) → Type 0
-    Ends = ComesToAnEnd {V = V} hash
+    Ends = Terminates {V = V} hash
 
-    abbrev numbers : World (Node K V) → Chart K → Blocks → (ℕ → Sight) → CallForRoom → List ℕ
+    abbrev numbers : World (Node K V) → Chart K → Blocks → (ℕ → Visible) → CallForRoom → List ℕ
     numbers w c blocks sights r = room_numbers c (seen_by blocks (sights (slot 0))) r.reserve w.memory
 
     all_as_many : (c : Chart K) (b : Blocks) (p : Reserve) (m : Mem (Node K V)) → length (room_numbers c b p m) ≡ 12
     all_as_many c b p m = length-append (number_of_reserve c b p) (row_left (row_of_room p.stands) m ∷ []) ∙ ap (λ (x : ℕ). x + 1) (reserve_numbers_are_as_many c b p)
 
-    abbrev OnBelow : World (Node K V) → Chart K → Blocks → (ℕ → Sight) → CallForRoom → Type 0
+    abbrev OnBelow : World (Node K V) → Chart K → Blocks → (ℕ → Visible) → CallForRoom → Type 0
     OnBelow w0 c0 blocks0 sights0 r0 =
-        (w : World (Node K V)) (c : Chart K) (blocks : Blocks) (sights : ℕ → Sight) (r : CallForRoom) → Alone w c blocks sights r
+        (w : World (Node K V)) (c : Chart K) (blocks : Blocks) (sights : ℕ → Visible) (r : CallForRoom) → Alone w c blocks sights r
         → IsBelow (numbers w c blocks sights r) (numbers w0 c0 blocks0 sights0 r0) → Ends r.reserve w.memory
 
-    module _ (w : World (Node K V)) (c : Chart K) (blocks : Blocks) (sights : ℕ → Sight) (r : CallForRoom) (a : Alone w c blocks sights r) (on : OnBelow w c blocks sights r)
+    module _ (w : World (Node K V)) (c : Chart K) (blocks : Blocks) (sights : ℕ → Visible) (r : CallForRoom) (a : Alone w c blocks sights r) (on : OnBelow w c blocks sights r)
         (m2 : Mem (Node K V)) (p2 : Reserve) where
       own_ends : (none : IsRowOfReserve r.reserve.stands → ⊥) (end : Yielding (Node K V) Unit) → HasMore end → Steps Took value_at w.memory (reserve_plan hash r.reserve) m2 (p2, end) → Ends p2 m2
       own_ends none outcome.Goes more st =
@@ -144,7 +144,7 @@ module _ {K V Q : Type 0} (same : K → K → Bool) (hash : K → ℕ) (asks : Q
       ]
 
     -- by the descent of its numbers
-    from : (w : World (Node K V)) (c : Chart K) (blocks : Blocks) (sights : ℕ → Sight) (r : CallForRoom) → Alone w c blocks sights r → (xs : List ℕ) → numbers w c blocks sights r ≡ xs → EndsFrom xs
+    from : (w : World (Node K V)) (c : Chart K) (blocks : Blocks) (sights : ℕ → Visible) (r : CallForRoom) → Alone w c blocks sights r → (xs : List ℕ) → numbers w c blocks sights r ≡ xs → EndsFrom xs
         → Ends r.reserve w.memory
     from w c blocks sights r a xs is (ends _ below) =
         runs_end (r.reserve, w.memory) (λ y s.

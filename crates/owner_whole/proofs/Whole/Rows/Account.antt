@@ -38,7 +38,7 @@ use Rattle.map_measures.specs.Given.RuleChart.{Chart}
 use Rattle.map_measures.specs.Given.RuleWords.{Blocks}
 use Rattle.owner_facts.specs.Given.PointsTold.{IsRowOf, IsRowOfCopier, IsRowOfCall}
 use Rattle.owner_facts.specs.Alone.Counted.{counted_for, counted_at}
-use Rattle.owner_facts.specs.Alone.FactsAloneCalls.{TablesAlone, StandsAlone}
+use Rattle.owner_facts.specs.Alone.FactsAloneCalls.{TablesAlone, AloneAtPoint}
 use Rattle.map_measures.specs.Given.CallersRows.{row_of_disposal, row_of_copier, row_of, past_copying, past_row, once_over}
 use Rattle.owner_facts.proofs.Given.CallersTogether.RowSteps.{never_refused}
 use Rattle.owner_facts.proofs.Given.CallersTogether.RowsOfCopiers.{at_retirement}
@@ -63,7 +63,7 @@ module _ {K V Q : Type 0} (same : K → K → Bool) (hash : K → ℕ) (asks : Q
     pub is_row : IsRowOfCall q.stands
     pub past : once_over q ≡ once_over p
     pub number : (c : Chart K) (blocks : Blocks) → number_of_call hash c blocks q ≡ number_of_call hash c blocks p
-    pub alone : (incremental : Bool) (c : Chart K) → StandsAlone incremental c p.stands → StandsAlone incremental c q.stands
+    pub alone : (incremental : Bool) (c : Chart K) → AloneAtPoint incremental c p.stands → AloneAtPoint incremental c q.stands
     pub target : (first : ℕ) → TargetIs first p.stands → TargetIs first q.stands
 
   -- what the step is
@@ -73,9 +73,9 @@ module _ {K V Q : Type 0} (same : K → K → Bool) (hash : K → ℕ) (asks : Q
     Deferring : (x y : Defer) (o : Advance Unit) (end : KeyCall K V Q × Called (Node K V)) → row_of slot p.stands ≡ Defers slot x → Steps Took value_at m (defer_plan x) m2 (y, o)
         → o ≢ progress.Done tt → (o ≡ progress.Goes → end.1 ≡ called.Goes) → row_of slot end.0.stands ≡ Defers slot y → Still end.0 → Account end
     Over : (end : KeyCall K V Q × Called (Node K V)) → end.1 ≡ called.Goes → (IsRowOfCall end.0.stands → ⊥) → end.0 ≡ once_over p
-        → ((incremental : Bool) (c : Chart K) → StandsAlone incremental c p.stands → StandsAlone incremental c end.0.stands) → Account end
+        → ((incremental : Bool) (c : Chart K) → AloneAtPoint incremental c p.stands → AloneAtPoint incremental c end.0.stands) → Account end
     Ends : (answer : KeyAnswer) (end : KeyCall K V Q × Called (Node K V)) → end.1 ≡ called.Done answer → (IsRowOfCall end.0.stands → ⊥) → (counted_at end.0.stands ≡ counted_at p.stands) × (counted_at end.0.stands ≡ counted_for answer)
-        → ((incremental : Bool) (c : Chart K) → StandsAlone incremental c p.stands → TablesAlone incremental c) → Account end
+        → ((incremental : Bool) (c : Chart K) → AloneAtPoint incremental c p.stands → TablesAlone incremental c) → Account end
 
   account_of : (q end : KeyCall K V Q × Called (Node K V)) → end ≡ q → Account q → Account end
   account_of q end is a = subst Account (sym is) a
@@ -91,7 +91,7 @@ module _ {K V Q : Type 0} (same : K → K → Bool) (hash : K → ℕ) (asks : Q
       is_row = row;
       past = ap (λ (z : Calling). points.standing p (past_row z)) (sym is);
       number = λ c blocks. number c blocks ∙ ap (λ (z : Disposing). number_of_call hash c blocks (disposing z)) (sym e) ∙ ap (λ (z : Calling). number_of_call hash c blocks (points.standing p z)) (sym is);
-      alone = λ incremental c h. subst (StandsAlone incremental c) is h;
+      alone = λ incremental c h. subst (AloneAtPoint incremental c) is h;
       target = λ first h. tt;
     }
 
@@ -109,7 +109,7 @@ module _ {K V Q : Type 0} (same : K → K → Bool) (hash : K → ℕ) (asks : Q
     settles x e y (settled.Gave value) st =
         Settling x y (settled.Gave value) (disposing (disposes.Settles y), called.Gave value) (disposing_row (disposes.Settles x) e) st refl refl refl
         (still_disposes (disposes.Settles x) (disposes.Settles y) e tt (λ c blocks. refl))
-    settles x e y settled.Done st = Ends answer (points.told_answer p answer) refl (λ h. h) (ap counted_at (sym is), refl) (λ incremental c h. subst (StandsAlone incremental c) is h)
+    settles x e y settled.Done st = Ends answer (points.answered_with p answer) refl (λ h. h) (ap counted_at (sym is), refl) (λ incremental c h. subst (AloneAtPoint incremental c) is h)
 
     defers : (x : Defer) → d.stands ≡ disposes.Defers x → (y : Defer) (o : Advance Unit) → Steps Took value_at m (defer_plan x) m2 (y, o)
         → Account (disposed p answer (dispose.deferred d (y, o)))
@@ -119,7 +119,7 @@ module _ {K V Q : Type 0} (same : K → K → Bool) (hash : K → ℕ) (asks : Q
     defers x e y progress.Waits st =
         Deferring x y progress.Waits (disposing (disposes.Defers y), called.Waits) (disposing_row (disposes.Defers x) e) st (λ z. cc z) (λ z. absurd (cc z)) refl
         (still_disposes (disposes.Defers x) (disposes.Defers y) e tt (λ c blocks. refl))
-    defers x e y (progress.Done end) st = Ends answer (points.told_answer p answer) refl (λ h. h) (ap counted_at (sym is), refl) (λ incremental c h. subst (StandsAlone incremental c) is h)
+    defers x e y (progress.Done end) st = Ends answer (points.answered_with p answer) refl (λ h. h) (ap counted_at (sym is), refl) (λ incremental c h. subst (AloneAtPoint incremental c) is h)
     defers x e y (progress.Refused fault) st = absurd (never_refused m m2 x y fault st)
 
     by_disposal : (x : Disposing) → d.stands ≡ x → IsRowOf x → (end : KeyCall K V Q × Called (Node K V)) → Steps Took value_at m (plan_as (disposed p answer) (dispose.plan_at d x)) m2 end → Account end
@@ -156,20 +156,20 @@ module _ {K V Q : Type 0} (same : K → K → Bool) (hash : K → ℕ) (asks : Q
       is_row = tt;
       past = helping_past x rest e;
       number = λ c blocks. ap (λ (z : Copying). number_of_call hash c blocks (helping (copiers.standing copy z))) (sym e) ∙ ap (λ (z : Calling). number_of_call hash c blocks (points.standing p z)) (sym is);
-      alone = λ incremental c h. subst (λ (z : Copying). StandsAlone incremental c (at.Helps (copiers.standing copy z) goal)) e (subst (StandsAlone incremental c) is h);
+      alone = λ incremental c h. subst (λ (z : Copying). AloneAtPoint incremental c (at.Helps (copiers.standing copy z) goal)) e (subst (AloneAtPoint incremental c) is h);
       target = λ first h. tt;
     }
 
     helping_row : (x : Settle) (rest : ℕ) → copy.stands ≡ copies.Retires x rest → row_of slot p.stands ≡ Settles x
     helping_row x rest e = ap (row_of slot) is ∙ ap (λ (v : Copying). row_of_copier v) e
 
-    helping_over : (x : Settle) (rest : ℕ) → copy.stands ≡ copies.Retires x rest → (incremental : Bool) (c : Chart K) → StandsAlone incremental c p.stands
-        → StandsAlone incremental c (at.Helps (retiring.table_retired copy rest) goal)
+    helping_over : (x : Settle) (rest : ℕ) → copy.stands ≡ copies.Retires x rest → (incremental : Bool) (c : Chart K) → AloneAtPoint incremental c p.stands
+        → AloneAtPoint incremental c (at.Helps (retiring.table_retired copy rest) goal)
     helping_over x rest e incremental c h =
-        by (rest == 0) (subst (λ (z : Copying). StandsAlone incremental c (at.Helps (copiers.standing copy z) goal)) e (subst (StandsAlone incremental c) is h))
+        by (rest == 0) (subst (λ (z : Copying). AloneAtPoint incremental c (at.Helps (copiers.standing copy z) goal)) e (subst (AloneAtPoint incremental c) is h))
       where
-        by : (b : Bool) → StandsAlone incremental c (at.Helps (copiers.standing copy (copies.Retires x rest)) goal)
-            → StandsAlone incremental c (at.Helps (if b then copiers.standing copy copies.Over else copiers.standing copy (copies.Succeeds rest)) goal)
+        by : (b : Bool) → AloneAtPoint incremental c (at.Helps (copiers.standing copy (copies.Retires x rest)) goal)
+            → AloneAtPoint incremental c (at.Helps (if b then copiers.standing copy copies.Over else copiers.standing copy (copies.Succeeds rest)) goal)
         by true f = f
         by false f = f
 
@@ -205,20 +205,20 @@ module _ {K V Q : Type 0} (same : K → K → Bool) (hash : K → ℕ) (asks : Q
       is_row = tt;
       past = copying_past x rest e;
       number = λ c blocks. ap (λ (z : Copying). number_of_call hash c blocks (copying (copiers.standing copy z))) (sym e) ∙ ap (λ (z : Calling). number_of_call hash c blocks (points.standing p z)) (sym is);
-      alone = λ incremental c h. subst (λ (z : Copying). StandsAlone incremental c (at.Copies (copiers.standing copy z))) e (subst (StandsAlone incremental c) is h);
+      alone = λ incremental c h. subst (λ (z : Copying). AloneAtPoint incremental c (at.Copies (copiers.standing copy z))) e (subst (AloneAtPoint incremental c) is h);
       target = λ first h. subst (TargetIs first) is h;
     }
 
     copying_row : (x : Settle) (rest : ℕ) → copy.stands ≡ copies.Retires x rest → row_of slot p.stands ≡ Settles x
     copying_row x rest e = ap (row_of slot) is ∙ ap (λ (v : Copying). row_of_copier v) e
 
-    copying_over : (x : Settle) (rest : ℕ) → copy.stands ≡ copies.Retires x rest → (incremental : Bool) (c : Chart K) → StandsAlone incremental c p.stands
-        → StandsAlone incremental c (at.Copies (retiring.table_retired copy rest))
+    copying_over : (x : Settle) (rest : ℕ) → copy.stands ≡ copies.Retires x rest → (incremental : Bool) (c : Chart K) → AloneAtPoint incremental c p.stands
+        → AloneAtPoint incremental c (at.Copies (retiring.table_retired copy rest))
     copying_over x rest e incremental c h =
-        by (rest == 0) (subst (λ (z : Copying). StandsAlone incremental c (at.Copies (copiers.standing copy z))) e (subst (StandsAlone incremental c) is h))
+        by (rest == 0) (subst (λ (z : Copying). AloneAtPoint incremental c (at.Copies (copiers.standing copy z))) e (subst (AloneAtPoint incremental c) is h))
       where
-        by : (b : Bool) → StandsAlone incremental c (at.Copies (copiers.standing copy (copies.Retires x rest)))
-            → StandsAlone incremental c (at.Copies (if b then copiers.standing copy copies.Over else copiers.standing copy (copies.Succeeds rest)))
+        by : (b : Bool) → AloneAtPoint incremental c (at.Copies (copiers.standing copy (copies.Retires x rest)))
+            → AloneAtPoint incremental c (at.Copies (if b then copiers.standing copy copies.Over else copiers.standing copy (copies.Succeeds rest)))
         by true f = f
         by false f = f
 

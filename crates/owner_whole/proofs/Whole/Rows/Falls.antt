@@ -18,10 +18,10 @@ use Rattle.owner_facts.specs.Given.PointsTold.{IsRowOfCall}
 use Rattle.map_measures.specs.Falls.Calls.{number_of_call}
 use Rattle.map_measures.proofs.Falls.Laws.{rows_fall}
 use Rattle.map_measures.specs.Given.CallersRows.{row_of}
-use Rattle.owner_facts.specs.Given.CallersSights.{Sight, seen_by}
+use Rattle.owner_facts.specs.Given.CallersSights.{Visible, seen_by}
 use Rattle.owner_facts.specs.Given.CallersTogether.{CallOnKey, OnKey}
 use Rattle.owner_whole.specs.Whole.Owner.{IsAlone}
-use Rattle.owner_whole.specs.Whole.Whole.{GoesOn}
+use Rattle.owner_whole.specs.Whole.Whole.{Continues}
 use Rattle.owner_whole.proofs.Whole.Keys.Falls.{row_left, number_all, lower_last}
 use Rattle.owner_whole.proofs.Whole.Rows.Account.{Account, Settling, Deferring, Over, Ends, account}
 use Rattle.owner_whole.proofs.Whole.Rows.Settles.{settling_lowers, deferring_lowers}
@@ -30,7 +30,7 @@ use Rattle.owner_whole.proofs.Whole.Rows.Within.{IsWithinRow}
 use Rattle.map_measures.proofs.Falls.Below.{below_followed as lower_more}
 
 module _ {K V Q : Type 0} (same : K → K → Bool) (hash : K → ℕ) (asks : Q → K → Bool) (setting : Setting) (slot : ℕ → ℕ) (lawful : AreLawful same hash)
-    (w : World (Node K V)) (c : Chart K) (blocks : Blocks) (sights : ℕ → Sight) (u : CallOnKey K V Q) (a : IsAlone same hash asks setting slot w c blocks sights (OnKey u))
+    (w : World (Node K V)) (c : Chart K) (blocks : Blocks) (sights : ℕ → Visible) (u : CallOnKey K V Q) (a : IsAlone same hash asks setting slot w c blocks sights (OnKey u))
     (is_row : IsRowOfCall u.call.stands) (m2 : Mem (Node K V)) (p2 : KeyCall K V Q) (progress : Called (Node K V))
     (steps : Steps Took value_at w.memory (call_plan asks same hash u.call) m2 (p2, progress)) where
   abbrev seen : Blocks
@@ -52,7 +52,7 @@ module _ {K V Q : Type 0} (same : K → K → Bool) (hash : K → ℕ) (asks : Q
   left_before : (x : Row) → row_of (slot 0) u.call.stands ≡ x → row_left x now.v.memory ≡ row_left (row_of (slot 0) u.call.stands) w.memory
   left_before x is = ap (row_left x) now.memory ∙ ap (λ (y : Row). row_left y w.memory) (sym is)
 
-  by_account : (end : KeyCall K V Q × Called (Node K V)) → end ≡ (p2, progress) → GoesOn progress → Account same hash asks (slot 0) u.call now.v.memory m2 end → Lower end.0
+  by_account : (end : KeyCall K V Q × Called (Node K V)) → end ≡ (p2, progress) → Continues progress → Account same hash asks (slot 0) u.call now.v.memory m2 end → Lower end.0
   by_account end is more (Settling x y o _ row st going tells row2 s) =
       let less = settling_lowers setting.batch_size now.v now.together.ground.came 0 now.rows x (now.row_is ∙ row) m2 y o st going in
       let was = left_before (Settles x) row in
@@ -74,8 +74,8 @@ module _ {K V Q : Type 0} (same : K → K → Bool) (hash : K → ℕ) (asks : Q
         | inr fallen ↦ lower_more (number_of_call hash c seen end.0) (number_of_call hash c seen u.call) _ _ fallen.1
       ]
   by_account end is more (Ends answer _ tells none same_count tables) =
-      absurd (subst GoesOn (sym (ap (λ (e : KeyCall K V Q × Called (Node K V)). e.1) is) ∙ tells) more)
+      absurd (subst Continues (sym (ap (λ (e : KeyCall K V Q × Called (Node K V)). e.1) is) ∙ tells) more)
 
-  pub row_falls : GoesOn progress → Lower p2
+  pub row_falls : Continues progress → Lower p2
   row_falls more = by_account (p2, progress) refl more (account same hash asks (slot 0) u.call now.v.memory m2 is_row (p2, progress)
       (rows.steps_now same hash asks setting slot lawful w c blocks sights u a is_row m2 p2 progress steps))

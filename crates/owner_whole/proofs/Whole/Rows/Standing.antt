@@ -24,8 +24,8 @@ use Rattle.owner_facts.specs.Given.PointsFactsCalls.{Change, CallingFacts}
 use Rattle.owner_facts.specs.Given.PointsFactsCopiesBlocking.{CopyingFactsBlocking}
 use Rattle.owner_facts.specs.Given.PointsTold.{IsRowOf, IsRowOfCopier, IsRowOfCall}
 use Rattle.owner_facts.specs.Given.LateLeft.{Left}
-use Rattle.map_measures.specs.Given.LateLateCopies.{LateCopying}
-use Rattle.owner_facts.specs.Given.LateLateCalls.{LateCalling}
+use Rattle.map_measures.specs.Given.LateLateCopies.{SupersededCopying}
+use Rattle.owner_facts.specs.Given.LateLateCalls.{SupersededCalling}
 use Rattle.map_measures.specs.Given.CallersRows.{row_of_disposal, row_of_copier, row_of, past_copying, past_row}
 use Rattle.owner_facts.proofs.Given.CallersTogether.RowsOfCopiers.{at_retirement}
 use Rattle.owner_whole.proofs.Whole.Rows.Account.{TargetIs}
@@ -91,7 +91,7 @@ module _ {K V : Type 0} (same : K → K → Bool) (hash : K → ℕ) (setting : 
   -- and so it is not late
   module _ (began : ℕ) (root : p.target.turn ≡ c.first) where
     abbrev Late : Copier → Copying → Type 0
-    Late q z = LateCopying same hash w caller setting c seen began q z
+    Late q z = SupersededCopying same hash w caller setting c seen began q z
 
     left_none : (t : ℕ) → IsTable c seen p.target t → Left c began t → ⊥
     left_none t there left = let l = left.behind in let e = turn_is t there in omega (arith, l, e, root)
@@ -125,7 +125,7 @@ module _ {K V Q : Type 0} (same : K → K → Bool) (hash : K → ℕ) (asks : Q
   -- it is not late then
   module _ (began : ℕ) where
     abbrev Lately : Calling → Type 0
-    Lately x = LateCalling same hash asks w caller setting c seen keys began p x
+    Lately x = SupersededCalling same hash asks w caller setting c seen keys began p x
 
     pub never_late_at : (x : Calling) → IsRowOfCall x → TargetIs c.first x → Lately x → ⊥
     never_late_at = at_row (λ x. TargetIs c.first x → Lately x → ⊥) (λ d answer row root late. late) (λ copier goal row root late. late)

@@ -31,12 +31,12 @@ use Rattle.map_measures.specs.Given.RuleInWorld.{IsMapIn}
 use Rattle.map_measures.specs.Given.RuleWords.{Blocks}
 use Rattle.owner_facts.specs.Given.PointsSteps.{AreLawful}
 use Rattle.owner_facts.specs.Given.PointsTold.{IsRowOfCall}
-use Rattle.owner_facts.specs.Alone.FactsAloneCalls.{TablesAlone, StandsAlone, IsLone}
-use Rattle.owner_facts.specs.Given.LateLateCalls.{LateCallFacts}
+use Rattle.owner_facts.specs.Alone.FactsAloneCalls.{TablesAlone, AloneAtPoint, IsLone}
+use Rattle.owner_facts.specs.Given.LateLateCalls.{SupersededCallFacts}
 use Rattle.owner_facts.specs.Given.CallersKept.{IsKeptBy}
 use Rattle.map_measures.specs.Given.CallersRows.{past_row, once_over}
-use Rattle.owner_facts.specs.Given.CallersSights.{Sight, seen_by}
-use Rattle.owner_facts.specs.Given.CallersTogether.{UnderWay, CallOnKey, OnKey, HasCall, next_of, in_slot, Stands}
+use Rattle.owner_facts.specs.Given.CallersSights.{Visible, seen_by}
+use Rattle.owner_facts.specs.Given.CallersTogether.{UnderWay, CallOnKey, OnKey, HasCall, next_of, in_slot, IsAtPoint}
 use Rattle.owner_facts.proofs.Given.CallersTogether.At.{at_other, at_same}
 use Rattle.map_measures.proofs.Given.CallersRows.Keep.{kept_block}
 use Rattle.owner_facts.proofs.Given.CallersSights.Seen.{map_seen}
@@ -51,7 +51,7 @@ use Rattle.papaya_raw.specs.declared.machines.call.Calling.TheVariants as at
 use Rattle.owner_whole.proofs.Whole.Rows.Shards.{row_shards}
 use Rattle.owner_whole.specs.Whole.Contents.{KeepsPairs}
 use Rattle.owner_whole.proofs.Whole.Contents.Runs.{row_keeps, run_on}
-use Rattle.owner_whole.specs.Whole.Owner.{IsFirst, IsOfRoot, AtRest, IsAlone}
+use Rattle.owner_whole.specs.Whole.Owner.{IsFirst, IsOfRoot, IsQuiescent, IsAlone}
 use Rattle.owner_whole.specs.Whole.Whole.{then_so, Leads, StepLeads}
 use Rattle.owner_whole.proofs.Whole.Limits.Keys.{row_call_ends}
 use Rattle.owner_whole.proofs.Whole.Rows.Account.{told_by, Still, Account, Settling, Deferring, Over, Ends, account}
@@ -65,7 +65,7 @@ counted_by (called.Done answer) = counted_for answer
 counted_by _ = 0
 
 module _ {K V Q : Type 0} (same : K → K → Bool) (hash : K → ℕ) (asks : Q → K → Bool) (setting : Setting) (slot : ℕ → ℕ) (lawful : AreLawful same hash)
-    (w : World (Node K V)) (c : Chart K) (blocks : Blocks) (sights : ℕ → Sight) (u : CallOnKey K V Q) (a : IsAlone same hash asks setting slot w c blocks sights (OnKey u))
+    (w : World (Node K V)) (c : Chart K) (blocks : Blocks) (sights : ℕ → Visible) (u : CallOnKey K V Q) (a : IsAlone same hash asks setting slot w c blocks sights (OnKey u))
     (is_row : IsRowOfCall u.call.stands) where
   abbrev pub here : Setting
   here = in_slot setting (slot 0)
@@ -106,7 +106,7 @@ module _ {K V Q : Type 0} (same : K → K → Bool) (hash : K → ℕ) (asks : Q
 
     -- it goes on: alone, and not late
     goes_on : IsLone (is_incremental setting.mode) 0 c p2.stands
-        → ((x : Stands V same hash asks setting slot led.w2 c seen 0 (OnKey after)) → IsOfRoot same hash asks setting slot led.w2 c seen (OnKey after) x)
+        → ((x : IsAtPoint V same hash asks setting slot led.w2 c seen 0 (OnKey after)) → IsOfRoot same hash asks setting slot led.w2 c seen (OnKey after) x)
         → next_of after progress ≡ Some (OnKey after) → IsAlone same hash asks setting slot led.w2 c blocks sights (OnKey after)
     goes_on alone of_root goes =
         let has2 : calls2 0 ≡ Some (OnKey after) = at_same a.calls 0 (next_of after progress) 0 refl ∙ goes in
@@ -132,7 +132,7 @@ module _ {K V Q : Type 0} (same : K → K → Bool) (hash : K → ℕ) (asks : Q
     still_at s (inr (none, late)) = never_late_at same hash asks here led.w2 0 c seen u.keys u.change p2 u.began p2.stands s.is_row (s.target c.first now.target) late.point
 
     still_of_root : Still same hash asks (slot 0) u.call now.v.memory m2 p2
-        → (x : Stands V same hash asks setting slot led.w2 c seen 0 (OnKey after)) → IsOfRoot same hash asks setting slot led.w2 c seen (OnKey after) x
+        → (x : IsAtPoint V same hash asks setting slot led.w2 c seen 0 (OnKey after)) → IsOfRoot same hash asks setting slot led.w2 c seen (OnKey after) x
     still_of_root s (inl (rests, knows)) = still_at s knows.facts
     still_of_root s (inr (row, at_row, knows)) = still_first s knows.facts
 
@@ -147,10 +147,10 @@ module _ {K V Q : Type 0} (same : K → K → Bool) (hash : K → ℕ) (asks : Q
     over_first past (inl facts) = tt
     over_first past (inr (none, late)) =
         never_late_past same hash asks here led.w2 0 c seen u.keys u.change (once_over u.call) u.began u.call.stands is_row now.target
-        (subst (λ (q : KeyCall K V Q). LateCallFacts same hash asks led.w2 0 here c seen u.keys u.began q) past late).point
+        (subst (λ (q : KeyCall K V Q). SupersededCallFacts same hash asks led.w2 0 here c seen u.keys u.began q) past late).point
 
     over_of_root : (IsRowOfCall p2.stands → ⊥) → p2 ≡ once_over u.call
-        → (x : Stands V same hash asks setting slot led.w2 c seen 0 (OnKey after)) → IsOfRoot same hash asks setting slot led.w2 c seen (OnKey after) x
+        → (x : IsAtPoint V same hash asks setting slot led.w2 c seen 0 (OnKey after)) → IsOfRoot same hash asks setting slot led.w2 c seen (OnKey after) x
     over_of_root none past (inl (rests, knows)) = over_first past knows.facts
     over_of_root none past (inr (row, at_row, knows)) = absurd (none at_row)
 
@@ -179,8 +179,8 @@ module _ {K V Q : Type 0} (same : K → K → Bool) (hash : K → ℕ) (asks : Q
     inside_then : IsInside (led.w2.uses (slot 0))
     inside_then = inside_kept deferred_word setting.batch_size now.v (came_reached setting.batch_size now.v now.together.ground.came) 0 led.w2 led.happened (slot 0) inside
 
-    ended : (is : next_of after progress ≡ None) → (IsRowOfCall p2.stands → ⊥) → ((incremental : Bool) (x : Chart K) → StandsAlone incremental x u.call.stands → TablesAlone incremental x)
-        → AtRest {Q = Q} same hash asks setting slot led.w2 c blocks sights
+    ended : (is : next_of after progress ≡ None) → (IsRowOfCall p2.stands → ⊥) → ((incremental : Bool) (x : Chart K) → AloneAtPoint incremental x u.call.stands → TablesAlone incremental x)
+        → IsQuiescent {Q = Q} same hash asks setting slot led.w2 c blocks sights
     ended is none tables = record {
       calls = calls2;
       none = λ i. elim (cases_eq i 0) as (λ _. calls2 i ≡ None) [
@@ -210,7 +210,7 @@ module _ {K V Q : Type 0} (same : K → K → Bool) (hash : K → ℕ) (asks : Q
         let e = ap (λ (e : KeyCall K V Q × Called (Node K V)). e.0) is in
         let goes = sym (ap (λ (e : KeyCall K V Q × Called (Node K V)). e.1) is) ∙ tells in
         as_told called.Goes goes
-        (goes_on (record { idle = a.lone.idle; point = subst (λ (q : KeyCall K V Q). StandsAlone (is_incremental setting.mode) c q.stands) e (alone (is_incremental setting.mode) c a.lone.point) })
+        (goes_on (record { idle = a.lone.idle; point = subst (λ (q : KeyCall K V Q). AloneAtPoint (is_incremental setting.mode) c q.stands) e (alone (is_incremental setting.mode) c a.lone.point) })
         (over_of_root (subst (λ (q : KeyCall K V Q). IsRowOfCall q.stands → ⊥) e none) (sym e ∙ past)) (ap (next_of after) goes))
     by_account end is (Ends answer _ tells none same_count tables) =
         let e = ap (λ (e : KeyCall K V Q × Called (Node K V)). e.0) is in

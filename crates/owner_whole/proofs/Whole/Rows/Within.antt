@@ -9,8 +9,8 @@ use Rattle.map_measures.specs.Given.RuleWords.{Blocks}
 use Rattle.owner_facts.specs.Given.PointsSteps.{AreLawful}
 use Rattle.owner_facts.specs.Given.PointsTold.{IsRowOfCall}
 use Rattle.map_measures.specs.Given.CallersRows.{row_of, once_over}
-use Rattle.owner_facts.specs.Given.CallersSights.{Sight, seen_by}
-use Rattle.owner_facts.specs.Given.CallersTogether.{CallOnKey, OnKey, in_slot, IsReclaimed, Knows, Stands, Together}
+use Rattle.owner_facts.specs.Given.CallersSights.{Visible, seen_by}
+use Rattle.owner_facts.specs.Given.CallersTogether.{CallOnKey, OnKey, in_slot, IsReclaimed, Knows, IsAtPoint, Together}
 use Rattle.owner_facts.proofs.Given.CallersTogether.Begun as begun
 use Rattle.owner_facts.proofs.Given.CallersTogether.BeginsRows.{begun_row, begun_together}
 use Rattle.owner_facts.proofs.Given.CallersTogether.FactsOn.{KnowsOfCall}
@@ -19,7 +19,7 @@ use Rattle.owner_whole.proofs.Whole.Rows.Account.{TargetIs}
 use Rattle.owner_whole.proofs.Whole.Rows.Standing.{target_at, target_past}
 
 module _ {K V Q : Type 0} (same : K → K → Bool) (hash : K → ℕ) (asks : Q → K → Bool) (setting : Setting) (slot : ℕ → ℕ) (lawful : AreLawful same hash)
-    (w : World (Node K V)) (c : Chart K) (blocks : Blocks) (sights : ℕ → Sight) (u : CallOnKey K V Q) (a : IsAlone same hash asks setting slot w c blocks sights (OnKey u))
+    (w : World (Node K V)) (c : Chart K) (blocks : Blocks) (sights : ℕ → Visible) (u : CallOnKey K V Q) (a : IsAlone same hash asks setting slot w c blocks sights (OnKey u))
     (is_row : IsRowOfCall u.call.stands) where
   abbrev here : Setting
   here = in_slot setting (slot 0)
@@ -54,7 +54,7 @@ module _ {K V Q : Type 0} (same : K → K → Bool) (hash : K → ℕ) (asks : Q
       inside : IsInside (w.uses (slot 0))
       inside = a.together.inside 0 (OnKey u) a.has
 
-      by : (x : Stands V same hash asks setting slot w c seen 0 (OnKey u)) → IsOfRoot same hash asks setting slot w c seen (OnKey u) x → IsWithinRow
+      by : (x : IsAtPoint V same hash asks setting slot w c seen 0 (OnKey u)) → IsOfRoot same hash asks setting slot w c seen (OnKey u) x → IsWithinRow
       by (inr (row, at_row, knows)) first = record {
         v = w;
         memory = refl;

@@ -8,16 +8,16 @@ use Rattle.papaya_raw.specs.Given.ReservesDeclared.sweep.Purpose.{Purpose}
 use Rattle.map_measures.specs.Given.RuleChart.{Chart}
 use Rattle.map_measures.specs.Given.RuleWords.{Blocks}
 use Rattle.owner_facts.specs.Given.CallersOverAll.{CallOverAll, begun_over_all}
-use Rattle.owner_facts.specs.Given.CallersSights.{Sight, seen_by}
-use Rattle.owner_facts.specs.Given.CallersTogether.{UnderWay, OverAll, in_slot, Stands, Together}
+use Rattle.owner_facts.specs.Given.CallersSights.{Visible, seen_by}
+use Rattle.owner_facts.specs.Given.CallersTogether.{UnderWay, OverAll, in_slot, IsAtPoint, Together}
 use Rattle.owner_facts.proofs.Given.CallersTogether.At.{at_other, at_same}
 use Rattle.owner_facts.proofs.Given.CallersTogether.Sweeps.{sweeps_begin_together}
-use Rattle.owner_whole.specs.Whole.Owner.{IsOfRoot, AtRest, IsAlone}
+use Rattle.owner_whole.specs.Whole.Owner.{IsOfRoot, IsQuiescent, IsAlone}
 use Rattle.owner_whole.specs.Whole.WholeSweeps.{SweepsBeginAlone}
 use Rattle.owner_whole.proofs.Whole.Keys.Begins.{one_few}
 
 module _ {K V Q : Type 0} (same : K → K → Bool) (hash : K → ℕ) (asks : Q → K → Bool) (setting : Setting) (slot : ℕ → ℕ) where
-  module _ (w : World (Node K V)) (c : Chart K) (blocks : Blocks) (sights : ℕ → Sight) (a : AtRest {Q = Q} same hash asks setting slot w c blocks sights) (purpose : Purpose) where
+  module _ (w : World (Node K V)) (c : Chart K) (blocks : Blocks) (sights : ℕ → Visible) (a : IsQuiescent {Q = Q} same hash asks setting slot w c blocks sights) (purpose : Purpose) where
     abbrev it : CallOverAll
     it = begun_over_all c.now (in_slot setting (slot 0)) purpose
 
@@ -33,7 +33,7 @@ module _ {K V Q : Type 0} (same : K → K → Bool) (hash : K → ℕ) (asks : Q
     together2 : Together V same hash asks setting slot w c blocks sights calls2
     together2 = sweeps_begin_together same hash asks setting slot w c blocks sights a.calls 0 a.together (a.none 0) (a.rows 0) a.inside (λ blocking. one_few a.calls a.none) purpose
 
-    of_root : (x : Stands V same hash asks setting slot w c seen 0 (OverAll it)) → IsOfRoot same hash asks setting slot w c seen (OverAll it) x
+    of_root : (x : IsAtPoint V same hash asks setting slot w c seen 0 (OverAll it)) → IsOfRoot same hash asks setting slot w c seen (OverAll it) x
     of_root (inl (rests, knows)) = (tt, record { table = tt; before = λ once before. refl })
     of_root (inr (row, at_row, knows)) = absurd at_row
 

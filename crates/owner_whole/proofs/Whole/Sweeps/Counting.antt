@@ -53,7 +53,7 @@ use Rattle.owner_facts.specs.Given.LateFactsSweeps.{HasTaken, SweepingFacts, Swe
 use Rattle.owner_facts.specs.Given.LateToldSweeps.{IsRowOfSweep}
 use Rattle.owner_facts.proofs.Given.LateSwept.Sweeps.Moved.{Removing, SweepMoves}
 use Rattle.owner_facts.proofs.Maps.Reserves.Counted.{whole_spares}
-use Rattle.owner_whole.specs.Whole.WholeSweeps.{uncounted, IsCountedBut, SweptPairsCounted, TellingCountsNothing, TellingKeepsThePurpose}
+use Rattle.owner_whole.specs.Whole.WholeSweeps.{uncounted, IsCountedBut, SweptPairsCounted, TellingCountsNothing, RepliesPreserveThePurpose}
 use Rattle.owner_whole.proofs.Whole.Fresh.Sweeps.{CopiesRoot}
 use Rattle.owner_whole.proofs.Whole.Sweeps.Over.{further_by}
 
@@ -241,7 +241,7 @@ telling_counts_nothing p = (next_none p.stands refl, λ keeps. reply_none p.stan
     reply_none _ is keeps = refl
 
 -- nor does it change the purpose
-pub telling_keeps_the_purpose : TellingKeepsThePurpose
+pub telling_keeps_the_purpose : RepliesPreserveThePurpose
 telling_keeps_the_purpose p = (next_kept p.stands, reply_kept p.stands)
   where
     next_kept : (stage : Sweeping) → (next_at stage p).purpose ≡ p.purpose

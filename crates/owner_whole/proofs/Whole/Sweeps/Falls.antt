@@ -19,15 +19,15 @@ use Rattle.map_measures.specs.Given.RuleWords.{Blocks}
 use Rattle.map_measures.specs.Given.PointsMeasures.{IsBelow}
 use Rattle.owner_facts.specs.Given.PointsSteps.{AreLawful}
 use Rattle.owner_facts.specs.Given.LateFactsSweeps.{CopiesPairs, SweepingFacts}
-use Rattle.map_measures.specs.Given.LateRowsSweeps.{Rests}
+use Rattle.map_measures.specs.Given.LateRowsSweeps.{KnowsInRow}
 use Rattle.owner_facts.specs.Given.LateToldSweeps.{IsRowOfSweep}
 use Rattle.map_measures.specs.Passes.Sweeps.{number_of_sweep}
 use Rattle.map_measures.proofs.Passes.Laws.{sweep_rows_fall}
 use Rattle.owner_facts.specs.Given.CallersOverAll.{CallOverAll, row_of_sweep, past_sweeping, sweep_once_over}
-use Rattle.owner_facts.specs.Given.CallersSights.{Sight, seen_by}
+use Rattle.owner_facts.specs.Given.CallersSights.{Visible, seen_by}
 use Rattle.owner_facts.specs.Given.CallersTogether.{OverAll}
 use Rattle.owner_whole.specs.Whole.Owner.{IsAlone}
-use Rattle.map_measures.specs.Passes.FallsSweeps.{ComesOn}
+use Rattle.map_measures.specs.Passes.FallsSweeps.{AdvancesFrom}
 use Rattle.owner_whole.proofs.Whole.Keys.Falls.{row_left, lower_last}
 use Rattle.owner_whole.proofs.Whole.Rows.Settles.{settling_lowers, deferring_lowers}
 use Rattle.owner_whole.proofs.Whole.Sweeps.Account.{SweepAccount, SweepSettling, SweepDeferring, TableOver, PairOver}
@@ -41,7 +41,7 @@ abbrev pub sweep_numbers : {K V : Type 0} → (K → ℕ) → ℕ → Chart K �
 sweep_numbers hash slot c blocks p m = number_of_sweep hash c blocks p ++ (row_left (row_of_sweep slot p.stands) m ∷ [])
 
 module _ {K V Q : Type 0} (same : K → K → Bool) (hash : K → ℕ) (asks : Q → K → Bool) (setting : Setting) (slot : ℕ → ℕ) (lawful : AreLawful same hash)
-    (w : World (Node K V)) (c : Chart K) (blocks : Blocks) (sights : ℕ → Sight) (o : CallOverAll) (a : IsAlone {Q = Q} same hash asks setting slot w c blocks sights (OverAll o))
+    (w : World (Node K V)) (c : Chart K) (blocks : Blocks) (sights : ℕ → Visible) (o : CallOverAll) (a : IsAlone {Q = Q} same hash asks setting slot w c blocks sights (OverAll o))
     (is_row : IsRowOfSweep o.sweep.stands) (m2 : Mem (Node K V)) (p2 : Sweep) (end : Swept (Node K V)) (steps : Steps Took value_at w.memory (sweep_plan hash o.sweep) m2 (p2, end)) where
   abbrev seen : Blocks
   seen = seen_by blocks (sights (slot 0))
@@ -66,7 +66,7 @@ module _ {K V Q : Type 0} (same : K → K → Bool) (hash : K → ℕ) (asks : Q
   left_before x is = ap (row_left x) now.memory ∙ ap (λ (y : Row). row_left y w.memory) (sym is)
 
   -- the row is over, and the sweep goes on
-  over_lower : (q : Sweep) → ◌≡◌ {A = Sweep × Swept (Node K V)} (p2, end) (q, swept.Goes) → (IsRowOfSweep q.stands → ⊥) → ((CopiesPairs o.sweep.stands → ⊥) → Rests same hash now.v 0 here c seen o.began o.sweep) → Lower q
+  over_lower : (q : Sweep) → ◌≡◌ {A = Sweep × Swept (Node K V)} (p2, end) (q, swept.Goes) → (IsRowOfSweep q.stands → ⊥) → ((CopiesPairs o.sweep.stands → ⊥) → KnowsInRow same hash now.v 0 here c seen o.began o.sweep) → Lower q
   over_lower q is none knows =
       elim (sweep_rows_fall V same hash here now.v 0 c seen o.began o.sweep (rows.map_now same hash asks setting slot lawful w c blocks sights o a is_row) is_row knows m2 (q, swept.Goes)
       (subst (λ (x : Sweep × Swept (Node K V)). Steps Took value_at now.v.memory (sweep_plan hash o.sweep) m2 x) is
@@ -75,7 +75,7 @@ module _ {K V Q : Type 0} (same : K → K → Bool) (hash : K → ℕ) (asks : Q
         | inr fallen ↦ lower_more (number_of_sweep hash c seen q) (number_of_sweep hash c seen o.sweep) _ _ fallen.1
       ]
 
-  pair_lower : (d : Dispose) → o.sweep.stands ≡ at.Disposes d → ◌≡◌ {A = Sweep × Swept (Node K V)} (p2, end) (telling (further o.sweep)) → ComesOn o.sweep.stands end → Lower p2
+  pair_lower : (d : Dispose) → o.sweep.stands ≡ at.Disposes d → ◌≡◌ {A = Sweep × Swept (Node K V)} (p2, end) (telling (further o.sweep)) → AdvancesFrom o.sweep.stands end → Lower p2
   pair_lower d is e more = over_lower p2 (ap (λ (x : Swept (Node K V)). (p2, x)) (further_by (λ x. (further o.sweep).stands ≡ x → end ≡ swept.Goes) o.sweep on on over refl)) none (λ copies. record {
     setting_is = now.knows.facts.setting_is;
     taking = point.0;
@@ -97,9 +97,9 @@ module _ {K V Q : Type 0} (same : K → K → Bool) (hash : K → ℕ) (asks : Q
       on is = end_is ∙ ap told is
 
       over : (further o.sweep).stands ≡ at.Over → end ≡ swept.Goes
-      over is = absurd (subst (ComesOn o.sweep.stands) (end_is ∙ ap told is) more)
+      over is = absurd (subst (AdvancesFrom o.sweep.stands) (end_is ∙ ap told is) more)
 
-  by_account : (x : Sweep × Swept (Node K V)) → x ≡ (p2, end) → ComesOn o.sweep.stands end → SweepAccount hash (slot 0) o.sweep now.v.memory m2 x → Lower x.0
+  by_account : (x : Sweep × Swept (Node K V)) → x ≡ (p2, end) → AdvancesFrom o.sweep.stands end → SweepAccount hash (slot 0) o.sweep now.v.memory m2 x → Lower x.0
   by_account x is more (SweepSettling y z e _ row st going tells row2 s) =
       let less = settling_lowers setting.batch_size now.v now.together.ground.came 0 now.rows y (now.row_is ∙ row) m2 z e st going in
       let was = left_before (Settles y) row in
@@ -116,5 +116,5 @@ module _ {K V Q : Type 0} (same : K → K → Bool) (hash : K → ℕ) (asks : Q
       over_lower x.0 (sym is ∙ ap (λ (y : Swept (Node K V)). (x.0, y)) tells) r.none (λ copies. absurd (copies (subst CopiesPairs (sym r.was) tt)))
   by_account x is more (PairOver _ d disposes e) = subst (λ (y : Sweep × Swept (Node K V)). Lower y.0) (sym is) (pair_lower d disposes (sym is ∙ e) more)
 
-  pub row_lower : ComesOn o.sweep.stands end → Lower p2
+  pub row_lower : AdvancesFrom o.sweep.stands end → Lower p2
   row_lower more = by_account (p2, end) refl more (rows.its_account same hash asks setting slot lawful w c blocks sights o a is_row m2 p2 end steps)

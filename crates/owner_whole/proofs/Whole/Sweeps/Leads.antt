@@ -25,15 +25,15 @@ use Rattle.owner_facts.specs.Alone.Counted.{HasAdded}
 use Rattle.owner_facts.proofs.Alone.Calls.Changes.{none_stored}
 use Rattle.owner_facts.proofs.Alone.Shards.Sums.{added_none}
 use Rattle.map_measures.specs.Given.LateCovers.{Came}
-use Rattle.owner_facts.specs.Given.LateToldSweeps.{word_told, IsRowOfSweep}
+use Rattle.owner_facts.specs.Given.LateToldSweeps.{word_shown, IsRowOfSweep}
 use Rattle.owner_facts.specs.Given.CallersOverAll.{CallOverAll}
-use Rattle.owner_facts.specs.Given.CallersSights.{Sight}
+use Rattle.owner_facts.specs.Given.CallersSights.{Visible}
 use Rattle.owner_facts.specs.Given.CallersTogether.{OverAll}
 use Rattle.owner_facts.proofs.Given.CallersSights.Sources.{below}
 use Rattle.owner_whole.specs.Whole.Contents.{KeepsPairs}
 use Rattle.owner_whole.specs.Whole.LoneSweeps.{goes_once}
 use Rattle.owner_whole.specs.Whole.Owner.{IsAlone}
-use Rattle.owner_whole.specs.Whole.WholeSweeps.{uncounted, IsCountedBut, TellsNew, SweepStepLeads, SweepsGoOnAlone}
+use Rattle.owner_whole.specs.Whole.WholeSweeps.{uncounted, IsCountedBut, ShowsNew, SweepStepLeads, SweepsContinueAlone}
 use Rattle.owner_whole.proofs.Whole.Contents.Runs.{went_keeps, row_keeps}
 use Rattle.owner_whole.proofs.Whole.Limits.Sweeps.{row_sweep_ends, sweep_ends}
 use Rattle.owner_whole.proofs.Whole.Rows.Kinds.{copier_decided, disposal_decided}
@@ -59,7 +59,7 @@ sweep_decided at.Over = inr (λ h. h)
 sweep_decided (at.Refused fault) = inr (λ h. h)
 
 -- a step that shows nothing
-silent_tells : {K V : Type 0} (hash : K → ℕ) (m : Mem (Node K V)) (c : Chart K) (blocks : Blocks) (once : Bool) (done : List ℕ) (end : Swept (Node K V)) → word_told end ≡ None → TellsNew hash m c blocks once done done end
+silent_tells : {K V : Type 0} (hash : K → ℕ) (m : Mem (Node K V)) (c : Chart K) (blocks : Blocks) (once : Bool) (done : List ℕ) (end : Swept (Node K V)) → word_shown end ≡ None → ShowsNew hash m c blocks once done done end
 silent_tells hash m c blocks once done (swept.Pair word) silent = absurd (cc silent)
 silent_tells hash m c blocks once done (swept.Asks word) silent = absurd (cc silent)
 silent_tells hash m c blocks once done swept.Goes silent = λ same. refl
@@ -73,7 +73,7 @@ row_sum : (s2 s p u2 u : ℕ) → s2 % 2 ^ 64 ≡ (s + 0) % 2 ^ 64 → u2 ≡ u 
 row_sum s2 s p u2 u e same was = omega (arith, e, same, was)
 
 module _ {K V Q : Type 0} (same : K → K → Bool) (hash : K → ℕ) (asks : Q → K → Bool) (setting : Setting) (slot : ℕ → ℕ) (lawful : AreLawful same hash)
-    (w : World (Node K V)) (c : Chart K) (blocks : Blocks) (sights : ℕ → Sight) (o : CallOverAll) (a : IsAlone {Q = Q} same hash asks setting slot w c blocks sights (OverAll o)) where
+    (w : World (Node K V)) (c : Chart K) (blocks : Blocks) (sights : ℕ → Visible) (o : CallOverAll) (a : IsAlone {Q = Q} same hash asks setting slot w c blocks sights (OverAll o)) where
   abbrev b : Bool
   b = is_incremental setting.mode
 
@@ -159,7 +159,7 @@ module _ {K V Q : Type 0} (same : K → K → Bool) (hash : K → ℕ) (asks : Q
         }
 
 module _ {K V Q : Type 0} (same : K → K → Bool) (hash : K → ℕ) (asks : Q → K → Bool) (setting : Setting) (slot : ℕ → ℕ) where
-  pub sweeps_go_on_alone : SweepsGoOnAlone V same hash asks setting slot
+  pub sweeps_go_on_alone : SweepsContinueAlone V same hash asks setting slot
   sweeps_go_on_alone lawful initial w c blocks sights o a = elim (sweep_decided o.sweep.stands) as (λ _. May Can Took value_at w.memory (sweep_plan hash o.sweep)
       × ((m2 : Mem (Node K V)) (p2 : Sweep) (end : Swept (Node K V)) → Steps Took value_at w.memory (sweep_plan hash o.sweep) m2 (p2, end)
       → SweepStepLeads {Q = Q} same hash asks setting slot w c blocks o m2 p2 end)) [

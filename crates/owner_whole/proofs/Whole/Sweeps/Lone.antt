@@ -13,7 +13,7 @@ use Rattle.papaya_raw.specs.Given.ReservesDeclared.sweep.Sweeping.TheVariants as
 use Rattle.papaya_raw.specs.Given.ReservesDeclared.sweep.Swept.{Swept}
 use Rattle.papaya_raw.specs.Given.ReservesDeclared.sweep.Swept.TheVariants as swept
 use Rattle.map_measures.specs.Given.RuleChart.{Chart}
-use Rattle.owner_facts.specs.Alone.FactsAloneCalls.{TablesAlone, RestsAlone}
+use Rattle.owner_facts.specs.Alone.FactsAloneCalls.{TablesAlone, AloneBetweenCalls}
 use Rattle.owner_facts.specs.Given.LateFactsSweeps.{CopiesPairs}
 use Rattle.owner_facts.proofs.Given.LateSwept.Sweeps.Stands.{IsQuiet, quiet_further}
 use Rattle.owner_whole.specs.Whole.LoneSweeps.{SweepsAlone, IsLoneSweep}
@@ -99,8 +99,8 @@ module _ {K : Type 0} (b : Bool) (c : Chart K) where
 abbrev pub LeadsSweep : {K T : Type 0} → Bool → ℕ → Chart K → Sweep × Swept T → Type 0
 LeadsSweep b caller c (p, swept.Waits) = ⊥
 LeadsSweep b caller c (p, swept.Gave value) = ⊥
-LeadsSweep b caller c (p, swept.Done) = RestsAlone b caller c
-LeadsSweep b caller c (p, swept.Refused fault) = RestsAlone b caller c
+LeadsSweep b caller c (p, swept.Done) = AloneBetweenCalls b caller c
+LeadsSweep b caller c (p, swept.Refused fault) = AloneBetweenCalls b caller c
 LeadsSweep b caller c (p, swept.Goes) = IsLoneSweep b caller c p.stands
 LeadsSweep b caller c (p, swept.Ready) = IsLoneSweep b caller c p.stands
 LeadsSweep b caller c (p, swept.Pair word) = IsLoneSweep b caller c p.stands

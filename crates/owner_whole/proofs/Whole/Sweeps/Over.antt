@@ -23,7 +23,7 @@ use Rattle.map_measures.specs.Given.PointsFactsIdle.{IsIdle}
 use Rattle.owner_facts.specs.Given.LateFactsSweeps.{GoesOver}
 use Rattle.owner_facts.proofs.Given.LateSwept.Sweeps.On.{is_pair, mark_is, still_of}
 use Rattle.owner_facts.proofs.Given.LateSwept.Sweeps.Tables.{upto, has_next}
-use Rattle.owner_whole.specs.Whole.LoneSweeps.{IsBefore, goes_once, GoesOverRoot, StandsThere, OverRoot}
+use Rattle.owner_whole.specs.Whole.LoneSweeps.{IsBefore, goes_once, GoesOverRoot, LiesThere, OverRoot}
 
 -- behind its place it reads the next word, or follows to the next table, or is over
 pub further_by : (P : Sweeping → Type 0) (q : Sweep) → P at.Words → P at.Follows → P at.Over → P (further q).stands
@@ -106,7 +106,7 @@ module _ {K V : Type 0} (same : K → K → Bool) (hash : K → ℕ) (caller : �
         by Retains once taking = none_behind once behind
 
     -- an unmarked pair stands there
-    stands_there : block_in word ≢ 0 → has_mark word COPYING ≡ false → StandsThere hash b c blocks (standing p (at.Asks word)) word
+    stands_there : block_in word ≢ 0 → has_mark word COPYING ≡ false → LiesThere hash b c blocks (standing p (at.Asks word)) word
     stands_there some unmarked =
         let pair = is_pair same hash caller setting began w c blocks map p setting_is idle t over inside word word_is some in
         let still = still_of same hash caller setting began w c blocks map p setting_is idle t over inside word word_is pair.0 pair.1 pair.2 pair.3 unmarked in

@@ -18,25 +18,25 @@ use Rattle.papaya_raw.specs.Given.ReservesDeclared.sweep.Swept.{Swept}
 use Rattle.papaya_raw.specs.Given.ReservesDeclared.sweep.Swept.TheVariants as swept
 use Rattle.map_measures.specs.Given.RuleChart.{Phase, Still, Chart}
 use Rattle.map_measures.specs.Given.RuleWords.{Blocks, mark_bits, byte_of}
-use Rattle.map_measures.specs.Given.RuleInWorld.{IsMapIn, Went}
+use Rattle.map_measures.specs.Given.RuleInWorld.{IsMapIn, StepSpec}
 use Rattle.map_measures.proofs.Given.RuleWorld.Hands.{current_known}
 use Rattle.owner_facts.specs.Given.PointsSteps.{AreLawful}
 use Rattle.map_measures.specs.Given.LateCovers.{CoversAt}
 use Rattle.map_measures.specs.Given.LateCoversSweeps.{DoneBy, DoneAt}
 use Rattle.owner_facts.specs.Given.LateLeft.{ClaimsAreFew}
-use Rattle.owner_facts.specs.Given.LateToldSweeps.{IsRowOfSweep, TellsSo, SweepTold}
+use Rattle.owner_facts.specs.Given.LateToldSweeps.{IsRowOfSweep, OutcomeAgrees, SweepOutcome}
 use Rattle.owner_facts.proofs.Given.LateSwept.Laws.{sweeps_keep_the_map}
 use Rattle.owner_facts.proofs.Given.LateSwept.Sweeps.Moved.{SweepMoves}
 use Rattle.owner_facts.proofs.Given.LateSwept.Sweeps.Tables.{still_current}
-use Rattle.owner_facts.specs.Alone.FactsAloneCalls.{RestsAlone}
+use Rattle.owner_facts.specs.Alone.FactsAloneCalls.{AloneBetweenCalls}
 use Rattle.map_measures.specs.Given.PointsMeasures.{IsBelow}
-use Rattle.map_measures.specs.Passes.FallsSweeps.{ComesOn}
+use Rattle.map_measures.specs.Passes.FallsSweeps.{AdvancesFrom}
 use Rattle.map_measures.specs.Passes.Sweeps.{number_of_sweep}
 use Rattle.map_measures.proofs.Passes.Laws.{sweeps_fall}
 use Rattle.owner_facts.specs.Given.CallersOverAll.{CallOverAll, come_to}
-use Rattle.owner_facts.specs.Given.CallersSights.{Sight, seen_by}
+use Rattle.owner_facts.specs.Given.CallersSights.{Visible, seen_by}
 use Rattle.map_measures.specs.Given.CallersSweeps.{SweepStepsTogether}
-use Rattle.owner_facts.specs.Given.CallersTogether.{UnderWay, OverAll, next_over_all, in_slot, KnowsSweep, Stands, Together}
+use Rattle.owner_facts.specs.Given.CallersTogether.{UnderWay, OverAll, next_over_all, in_slot, KnowsSweep, IsAtPoint, Together}
 use Rattle.owner_facts.proofs.Given.CallersSights.Seen.{map_seen}
 use Rattle.owner_facts.proofs.Given.CallersSights.Sources.{below, above}
 use Rattle.owner_facts.proofs.Given.CallersTogether.At.{at_other, at_same}
@@ -45,8 +45,8 @@ use Rattle.owner_facts.proofs.Given.CallersTogether.Few.{claim_few}
 use Rattle.owner_facts.proofs.Given.CallersTogether.Fits.{map_in_slot}
 use Rattle.owner_facts.proofs.Given.CallersTogether.Sweeps.{sweep_leads}
 use Rattle.owner_facts.proofs.Given.CallersTogether.Users.{events_rows, inside_on}
-use Rattle.owner_whole.specs.Whole.LoneSweeps.{IsBefore, goes_once, IsLoneSweep, GoesOverRoot, StandsThere, OverRoot, IsOverRoot}
-use Rattle.owner_whole.specs.Whole.Owner.{IsOfRoot, AtRest, IsAlone}
+use Rattle.owner_whole.specs.Whole.LoneSweeps.{IsBefore, goes_once, IsLoneSweep, GoesOverRoot, LiesThere, OverRoot, IsOverRoot}
+use Rattle.owner_whole.specs.Whole.Owner.{IsOfRoot, IsQuiescent, IsAlone}
 use Rattle.owner_whole.specs.Whole.WholeSweeps.{SweepLeads}
 use Rattle.owner_whole.proofs.Whole.Joined.{same_joined, links_joined}
 use Rattle.owner_whole.proofs.Whole.Fresh.Sweeps.{CopiesRoot, of_whole, whole_of}
@@ -56,7 +56,7 @@ use Rattle.owner_whole.proofs.Whole.Sweeps.Went.{OwnTold, own_went}
 
 -- what is so of its table is so by what may be looked at in another way
 over_on : {K : Type 0} (hash : K → ℕ) (b : Bool) (c : Chart K) (blocks blocks2 : Blocks) (p : Sweep)
-    → ((word : ℕ) → GoesOverRoot hash b c blocks p → StandsThere hash b c blocks p word → StandsThere hash b c blocks2 p word)
+    → ((word : ℕ) → GoesOverRoot hash b c blocks p → LiesThere hash b c blocks p word → LiesThere hash b c blocks2 p word)
     → (stage : Sweeping) → OverRoot hash b c blocks p stage → OverRoot hash b c blocks2 p stage
 over_on hash b c blocks blocks2 p on at.Reads over = tt
 over_on hash b c blocks blocks2 p on at.Follows over = over
@@ -84,7 +84,7 @@ before_cases (at.Disposes dispose) = inr (λ h. h)
 before_cases at.Over = inr (λ h. h)
 
 module _ {K V Q : Type 0} (same : K → K → Bool) (hash : K → ℕ) (asks : Q → K → Bool) (setting : Setting) (slot : ℕ → ℕ) (lawful : AreLawful same hash)
-    (w : World (Node K V)) (c : Chart K) (blocks : Blocks) (sights : ℕ → Sight) (o : CallOverAll) (a : IsAlone {Q = Q} same hash asks setting slot w c blocks sights (OverAll o)) where
+    (w : World (Node K V)) (c : Chart K) (blocks : Blocks) (sights : ℕ → Visible) (o : CallOverAll) (a : IsAlone {Q = Q} same hash asks setting slot w c blocks sights (OverAll o)) where
   abbrev pub here : Setting
   here = in_slot setting (slot 0)
 
@@ -114,7 +114,7 @@ module _ {K V Q : Type 0} (same : K → K → Bool) (hash : K → ℕ) (asks : Q
     pub knows_here : KnowsHere
     knows_here = by (a.together.stand 0 (OverAll o) a.has) a.of_root
       where
-        by : (x : Stands V same hash asks setting slot w c seen 0 (OverAll o)) → IsOfRoot same hash asks setting slot w c seen (OverAll o) x → KnowsHere
+        by : (x : IsAtPoint V same hash asks setting slot w c seen 0 (OverAll o)) → IsOfRoot same hash asks setting slot w c seen (OverAll o) x → KnowsHere
         by (inl (rests, knows)) (first, over) = record { rests = rests; knows = knows; whole = whole_of same hash asks setting slot w c seen o.began o.sweep o.sweep.stands knows.facts.point first; over = over }
         by (inr (row, is_row, knows)) of_root = absurd (none is_row)
 
@@ -128,12 +128,12 @@ module _ {K V Q : Type 0} (same : K → K → Bool) (hash : K → ℕ) (asks : Q
             OwnTold same hash lawful here initial o.began w c seen map a.together.ground.moments few knows_here.knows.began_before o.sweep knows_here.knows.facts knows_here.whole a.lone
             knows_here.over.table none m2 p2 end steps w2 c2 blocks2
 
-        pub went : Went same hash here 0 w c seen m2 Own
+        pub went : StepSpec same hash here 0 w c seen m2 Own
         went =
             own_went same hash lawful here initial o.began w c seen map a.together.ground.moments few knows_here.knows.began_before o.sweep knows_here.knows.facts knows_here.whole a.lone
             knows_here.over.table none m2 p2 end steps
 
-        abbrev pub fresh : Went same hash here 0 w c seen m2 (λ w2 c2 blocks2. SweepTold same hash 0 here o.began c seen o.sweep w2 c2 blocks2 p2 end)
+        abbrev pub fresh : StepSpec same hash here 0 w c seen m2 (λ w2 c2 blocks2. SweepOutcome same hash 0 here o.began c seen o.sweep w2 c2 blocks2 p2 end)
         fresh = record {
           w2 = went.w2;
           c2 = went.c2;
@@ -197,7 +197,7 @@ module _ {K V Q : Type 0} (same : K → K → Bool) (hash : K → ℕ) (asks : Q
             → link_word (went.blocks2.pair n) (byte_of hash (went.c2.key n)) (mark_bits phase borrowed) ≡ link_word (stepped.blocks2.pair n) (byte_of hash (went.c2.key n)) (mark_bits phase borrowed)
         word_seen n phase borrowed is = ap (λ (x : ℕ). link_word x (byte_of hash (went.c2.key n)) (mark_bits phase borrowed)) (pair_seen n is)
 
-        stands_seen : (word : ℕ) → GoesOverRoot hash b went.c2 went.blocks2 p2 → StandsThere hash b went.c2 went.blocks2 p2 word → StandsThere hash b went.c2 seen2 p2 word
+        stands_seen : (word : ℕ) → GoesOverRoot hash b went.c2 went.blocks2 p2 → LiesThere hash b went.c2 went.blocks2 p2 word → LiesThere hash b went.c2 seen2 p2 word
         stands_seen word over (n, borrowed, stands, is) =
             let current = still_current same hash went.c2 o.began b went.map.map.rule p2.place n borrowed (ap (λ (x : ℕ). went.c2.place x p2.place) (sym over.root) ∙ stands) in
             (n, borrowed, stands, is ∙ word_seen n Still borrowed current)
@@ -235,7 +235,7 @@ module _ {K V Q : Type 0} (same : K → K → Bool) (hash : K → ℕ) (asks : Q
             once_was : goes_once b p2.purpose ≡ true → goes_once b o.sweep.purpose ≡ true
             once_was once = sym (ap (goes_once b) went.told.told.stands.purpose) ∙ once
 
-        of_root_then : (x : Stands V same hash asks setting slot went.w2 went.c2 seen2 0 (OverAll after)) → IsOfRoot same hash asks setting slot went.w2 went.c2 seen2 (OverAll after) x
+        of_root_then : (x : IsAtPoint V same hash asks setting slot went.w2 went.c2 seen2 0 (OverAll after)) → IsOfRoot same hash asks setting slot went.w2 went.c2 seen2 (OverAll after) x
         of_root_then (inl (rests, knows)) =
             (of_whole same hash asks setting slot went.w2 went.c2 went.blocks2 seen2 went.map map2 o.began p2 p2.stands went.told.stage.whole knows.facts.point, over2)
         of_root_then (inr (row, is_row, knows)) = absurd (no_sweep_row_rests (slot 0) p2.stands is_row (sym knows_here.rests ∙ sym (row_same 0) ∙ row))
@@ -256,7 +256,7 @@ module _ {K V Q : Type 0} (same : K → K → Bool) (hash : K → ℕ) (asks : Q
             }
 
         -- where it has ended, the owner rests
-        at_rest : RestsAlone b 0 went.c2 → next_over_all {Q = Q} after end ≡ None → AtRest {Q = Q} same hash asks setting slot went.w2 went.c2 stepped.blocks2 stepped.sights2
+        at_rest : AloneBetweenCalls b 0 went.c2 → next_over_all {Q = Q} after end ≡ None → IsQuiescent {Q = Q} same hash asks setting slot went.w2 went.c2 stepped.blocks2 stepped.sights2
         at_rest alone ends = record {
           calls = calls2;
           none = λ i. elim (cases_eq i 0) as (λ _. calls2 i ≡ None) [
@@ -276,10 +276,10 @@ module _ {K V Q : Type 0} (same : K → K → Bool) (hash : K → ℕ) (asks : Q
         leads = by end refl went.told.leads
           where
             pair_ready : (word : ℕ) → end ≡ swept.Pair word → p2.stands ≡ at.Ready
-            pair_ready word is = (subst (λ (x : Swept (Node K V)). TellsSo o.sweep.stands p2.stands x) is went.told.told.stands.tells).1
+            pair_ready word is = (subst (λ (x : Swept (Node K V)). OutcomeAgrees o.sweep.stands p2.stands x) is went.told.told.stands.tells).1
 
             asks_there : (word : ℕ) → end ≡ swept.Asks word → p2.stands ≡ at.Asks word
-            asks_there word is = subst (λ (x : Swept (Node K V)). TellsSo o.sweep.stands p2.stands x) is went.told.told.stands.tells
+            asks_there word is = subst (λ (x : Swept (Node K V)). OutcomeAgrees o.sweep.stands p2.stands x) is went.told.told.stands.tells
 
             by : (x : Swept (Node K V)) → end ≡ x → LeadsSweep b 0 went.c2 (p2, x) → SweepLeads same hash asks setting slot w went.w2 went.c2 stepped.blocks2 stepped.sights2 after x
             by swept.Goes is alone = still_alone alone (ap (next_over_all after) is)
@@ -288,11 +288,11 @@ module _ {K V Q : Type 0} (same : K → K → Bool) (hash : K → ℕ) (asks : Q
             by swept.Ready is alone = (still_alone alone (ap (next_over_all after) is), went.told.stage.ready is)
             by (swept.Pair word) is alone = (still_alone alone (ap (next_over_all after) is), pair_ready word is)
             by (swept.Asks word) is alone = (still_alone alone (ap (next_over_all after) is), asks_there word is)
-            by swept.Done is alone = (at_rest alone (ap (next_over_all after) is), subst (λ (x : Swept (Node K V)). TellsSo o.sweep.stands p2.stands x) is went.told.told.stands.tells)
-            by (swept.Refused fault) is alone = (at_rest alone (ap (next_over_all after) is), subst (λ (x : Swept (Node K V)). TellsSo o.sweep.stands p2.stands x) is went.told.told.stands.tells)
+            by swept.Done is alone = (at_rest alone (ap (next_over_all after) is), subst (λ (x : Swept (Node K V)). OutcomeAgrees o.sweep.stands p2.stands x) is went.told.told.stands.tells)
+            by (swept.Refused fault) is alone = (at_rest alone (ap (next_over_all after) is), subst (λ (x : Swept (Node K V)). OutcomeAgrees o.sweep.stands p2.stands x) is went.told.told.stands.tells)
 
         -- the same step, by all that is seen then: where it comes on, its numbers are lower
-        abbrev to : Went same hash here 0 w c seen m2 (λ w2 c2 blocks2. Unit {0})
+        abbrev to : StepSpec same hash here 0 w c seen m2 (λ w2 c2 blocks2. Unit {0})
         to = record {
           w2 = went.w2;
           c2 = went.c2;
@@ -312,5 +312,5 @@ module _ {K V Q : Type 0} (same : K → K → Bool) (hash : K → ℕ) (asks : Q
           told = tt;
         }
 
-        pub own_lower : ComesOn o.sweep.stands end → IsBelow (number_of_sweep hash went.c2 seen2 p2) (number_of_sweep hash c seen o.sweep)
+        pub own_lower : AdvancesFrom o.sweep.stands end → IsBelow (number_of_sweep hash went.c2 seen2 p2) (number_of_sweep hash c seen o.sweep)
         own_lower more = sweeps_fall V same hash lawful here w 0 c seen o.began o.sweep map knows_here.knows.facts none m2 p2 end steps more to

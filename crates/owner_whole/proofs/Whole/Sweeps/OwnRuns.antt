@@ -25,13 +25,13 @@ use Rattle.map_measures.specs.Given.RuleMoments.{Moments, Remembers}
 use Rattle.map_measures.specs.Given.LateCovers.{times, CoversTo, CoversAt}
 use Rattle.map_measures.specs.Given.LateCoversSweeps.{DoneBy, DoneAt}
 use Rattle.owner_facts.specs.Given.LateFactsSweeps.{SweepingFacts, SweepFacts}
-use Rattle.owner_facts.specs.Given.LateToldSweeps.{RemovesPair, TellsSo, SweepAfter, SweepTold}
+use Rattle.owner_facts.specs.Given.LateToldSweeps.{RemovesPair, OutcomeAgrees, SweepAfter, SweepOutcome}
 use Rattle.owner_facts.proofs.Given.LateSwept.Sweeps.Moved.{SweepMoves}
-use Rattle.owner_facts.specs.Given.CallersOverAll.{CallOverAll, come_to, TriesTold, RemovesTold}
+use Rattle.owner_facts.specs.Given.CallersOverAll.{CallOverAll, come_to, TriesAsReplied, RemovesAsReplied}
 use Rattle.owner_whole.specs.Whole.Contents.{KeepsPairs}
 use Rattle.owner_whole.specs.Whole.LoneSweeps.{IsBefore, goes_once, OverRoot}
 use Rattle.owner_whole.specs.Whole.SweptPairs.{about_to_go, gone_since}
-use Rattle.owner_whole.specs.Whole.WholeSweeps.{TellsNew}
+use Rattle.owner_whole.specs.Whole.WholeSweeps.{ShowsNew}
 use Rattle.owner_whole.proofs.Whole.Contents.Runs.{out_of, now_next}
 use Rattle.owner_whole.proofs.Whole.Sweeps.Onward.{about_none, tries_cases, Counts, Onward, counts_gone}
 use Rattle.owner_whole.proofs.Whole.Sweeps.Own.{before_cases}
@@ -39,11 +39,11 @@ use Rattle.owner_whole.proofs.Whole.Sweeps.Stages.{StageTold}
 use Rattle.owner_whole.proofs.Whole.Sweeps.Tried.{tried_removes}
 
 -- the pairs that the map has after a step it had before
-pub less_pairs : {K : Type 0} (o : CallOverAll) (c c2 : Chart K) → RemovesTold o c c2 → (n : ℕ) → c2.current n ≡ true → c.current n ≡ true
+pub less_pairs : {K : Type 0} (o : CallOverAll) (c c2 : Chart K) → RemovesAsReplied o c c2 → (n : ℕ) → c2.current n ≡ true → c.current n ≡ true
 less_pairs o c c2 (inl e) n is = sym (ap (λ (f : ℕ → Bool). f n) e) ∙ is
 less_pairs o c c2 (inr (i, there, e, told)) n is = out_of c.current i n (sym (ap (λ (f : ℕ → Bool). f n) e) ∙ is)
 
-walks_same : {K : Type 0} (o : CallOverAll) (c c2 : Chart K) → RemovesTold o c c2 → o.sweep.purpose ≡ Walks → c2.current ≡ c.current
+walks_same : {K : Type 0} (o : CallOverAll) (c c2 : Chart K) → RemovesAsReplied o c c2 → o.sweep.purpose ≡ Walks → c2.current ≡ c.current
 walks_same o c c2 (inl e) walks = e
 walks_same o c c2 (inr (i, there, e, inl clears)) walks = absurd (cc (clears, walks))
 walks_same o c c2 (inr (i, there, e, inr (retains, told))) walks = absurd (cc (retains, walks))
@@ -65,13 +65,13 @@ done_cases hash c blocks done done2 entered entered2 end (at.Refused fault) h = 
 
 module _ {K V : Type 0} (same : K → K → Bool) (hash : K → ℕ) (setting : Setting) (w : World (Node K V)) (c : Chart K) (blocks seen : Blocks) (map : IsMapIn same hash setting w c seen) (o : CallOverAll)
     (f : SweepFacts same hash w 0 setting c seen o.began o.sweep) (over : OverRoot hash (is_incremental setting.mode) c seen o.sweep o.sweep.stands) (covers : CoversAt hash c seen o.sweep o.entered o.done o.sweep.stands)
-    (to_go : TriesTold hash c seen o.told o.sweep.purpose o.sweep.stands) (m2 : Mem (Node K V)) (p2 : Sweep) (end : Swept (Node K V))
+    (to_go : TriesAsReplied hash c seen o.told o.sweep.purpose o.sweep.stands) (m2 : Mem (Node K V)) (p2 : Sweep) (end : Swept (Node K V))
     (steps : Steps Took value_at w.memory (sweep_plan hash o.sweep) m2 (p2, end)) (w2 : World (Node K V)) (c2 : Chart K) (blocks2 blocks3 : Blocks)
-    (told : SweepTold same hash 0 setting o.began c seen o.sweep w2 c2 blocks2 p2 end) (stage : StageTold same hash setting w2 c2 blocks2 o.sweep (p2, end))
+    (told : SweepOutcome same hash 0 setting o.began c seen o.sweep w2 c2 blocks2 p2 end) (stage : StageTold same hash setting w2 c2 blocks2 o.sweep (p2, end))
     (moves : SweepMoves same hash 0 setting o.began w c seen o.sweep o.sweep.stands (p2, end) w2 c2 blocks2) (moved : Moved same hash setting.mode 0 c c2) (remembers : Remembers (is_incremental setting.mode) c c2)
-    (moments2 : Moments (is_incremental setting.mode) c2) (removes : RemovesTold o c c2) (entered2 : ℕ) (done2 : List ℕ) (from : o.began ≤ entered2)
+    (moments2 : Moments (is_incremental setting.mode) c2) (removes : RemovesAsReplied o c c2) (entered2 : ℕ) (done2 : List ℕ) (from : o.began ≤ entered2)
     (is_done : DoneAt hash c2 blocks2 o.done done2 o.entered entered2 end o.sweep.stands)
-    (tells : TellsNew hash w2.memory c2 blocks3 (goes_once (is_incremental setting.mode) o.sweep.purpose) o.done done2 end)
+    (tells : ShowsNew hash w2.memory c2 blocks3 (goes_once (is_incremental setting.mode) o.sweep.purpose) o.done done2 end)
     (kept : goes_once (is_incremental setting.mode) o.sweep.purpose ≡ true → ((word : ℕ) → end ≢ swept.Pair word) → done2 ≡ o.done) where
   abbrev b : Bool
   b = is_incremental setting.mode
@@ -123,7 +123,7 @@ module _ {K V : Type 0} (same : K → K → Bool) (hash : K → ℕ) (setting : 
       as_was : done2 ≡ o.done → c2.current n ≡ true
       as_was e = done_stays old n (subst (λ (xs : List ℕ). 0 < times n xs) e l)
 
-      by : (x : Swept (Node K V)) → TellsNew hash w2.memory c2 blocks3 (goes_once b o.sweep.purpose) o.done done2 x → DoneBy hash c2 blocks2 o.done done2 x → c2.current n ≡ true
+      by : (x : Swept (Node K V)) → ShowsNew hash w2.memory c2 blocks3 (goes_once b o.sweep.purpose) o.done done2 x → DoneBy hash c2 blocks2 o.done done2 x → c2.current n ≡ true
       by (swept.Pair word) (i, key, v, new, e) h = elim (cases_eq n i) as (λ _. c2.current n ≡ true) [
         | inl is ↦ ap c2.current is ∙ new.0.is_there
         | inr other ↦ done_stays old n
@@ -140,7 +140,7 @@ module _ {K V : Type 0} (same : K → K → Bool) (hash : K → ℕ) (setting : 
   -- a retaining shows no pair
   shows_none : o.sweep.purpose ≡ Retains → (word : ℕ) → end ≢ swept.Pair word
   shows_none retains word is =
-      let ready = (subst (λ (x : Swept (Node K V)). TellsSo o.sweep.stands p2.stands x) is told.stands.tells).1 in
+      let ready = (subst (λ (x : Swept (Node K V)). OutcomeAgrees o.sweep.stands p2.stands x) is told.stands.tells).1 in
       let facts : SweepFacts same hash w2 0 setting c2 blocks2 o.began p2 = subst (λ (x : Swept (Node K V)). SweepAfter same hash 0 setting o.began w2 c2 blocks2 (p2, x)) is told.facts in
       let walks : p2.purpose ≡ Walks = (subst (SweepingFacts same hash w2 0 setting c2 blocks2 o.began p2) ready facts.point).0 in
       let kind = told.stands.purpose in cc (walks, kind, retains)
@@ -184,10 +184,10 @@ module _ {K V : Type 0} (same : K → K → Bool) (hash : K → ℕ) (setting : 
           let at_try = subst (λ (x : Sweeping). SweepMoves same hash 0 setting o.began w c seen o.sweep x (p2, end) w2 c2 blocks2) is moves in
           let gone = tried_removes same hash b setting o.began w c seen map o.sweep point.2 point.3.0 point.3.1 word (root.1 retains) m2 (p2, end)
           (subst (λ (x : Sweeping). Steps Took value_at w.memory (plan_at hash o.sweep x) m2 (p2, end)) is steps) c2 at_try.1 in
-          let last = subst (TriesTold hash c seen o.told o.sweep.purpose) is to_go retains in
+          let last = subst (TriesAsReplied hash c seen o.told o.sweep.purpose) is to_go retains in
           removed is gone.0 gone.2 removes (ap (λ (d : Chart K). d.current) gone.3 ∙ ap (λ (x : Place). without (spot_of hash) b x c.current) gone.1.3)
         where
-          removed : o.sweep.stands ≡ at.Tries word → (i : ℕ) → c.current i ≡ true → RemovesTold o c c2 → c2.current ≡ put c.current i false → Counts c0 c2 asked (come_to o entered2 done2 p2)
+          removed : o.sweep.stands ≡ at.Tries word → (i : ℕ) → c.current i ≡ true → RemovesAsReplied o c c2 → c2.current ≡ put c.current i false → Counts c0 c2 asked (come_to o entered2 done2 p2)
           removed is i there (inl e) gone = absurd (let none : put c.current i false i ≡ false = ap (λ (x : Bool). cond x false (c.current i)) (eq-eqb i i refl) in let here = ap (λ (g : ℕ → Bool). g i) (sym gone ∙ e) in cc (none, here, there))
           removed is i there (inr (n, current, went, inl clears)) gone = absurd (cc (clears, retains))
           removed is i there (inr (n, current, went, inr (keeps, told_is))) gone = λ x. as_many x (about_to_go p2.stands o.told x) (gone_since c0 c2 x) (none2 x)

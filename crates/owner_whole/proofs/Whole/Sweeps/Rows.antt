@@ -36,8 +36,8 @@ use Rattle.owner_facts.specs.Given.LateFactsSweeps.{CopiesPairs, SweepingFacts}
 use Rattle.owner_facts.specs.Given.LateToldSweeps.{IsRowOfSweep}
 use Rattle.owner_facts.proofs.Given.LateSwept.Sweeps.Stands.{quiet_further}
 use Rattle.owner_facts.specs.Given.CallersOverAll.{CallOverAll, gone_on, row_of_sweep, past_sweeping, sweep_once_over}
-use Rattle.owner_facts.specs.Given.CallersSights.{Sight, seen_by}
-use Rattle.owner_facts.specs.Given.CallersTogether.{UnderWay, OverAll, HasCall, next_over_all, in_slot, IsReclaimed, KnowsSweep, Stands, Together}
+use Rattle.owner_facts.specs.Given.CallersSights.{Visible, seen_by}
+use Rattle.owner_facts.specs.Given.CallersTogether.{UnderWay, OverAll, HasCall, next_over_all, in_slot, IsReclaimed, KnowsSweep, IsAtPoint, Together}
 use Rattle.owner_facts.proofs.Given.CallersSights.Seen.{map_seen}
 use Rattle.owner_facts.proofs.Given.CallersTogether.At.{at_other, at_same}
 use Rattle.owner_facts.proofs.Given.CallersTogether.Begun as begun
@@ -48,7 +48,7 @@ use Rattle.owner_facts.proofs.Given.CallersTogether.SweepRows.{Led, within_row}
 use Rattle.owner_facts.proofs.Given.CallersTogether.SweepStepped.{begins_at}
 use Rattle.map_measures.proofs.Given.SeizeAloneHistories.Uses.{inside_kept}
 use Rattle.owner_whole.specs.Whole.LoneSweeps.{IsBefore, goes_once, IsLoneSweep, GoesOverRoot, OverRoot, IsOverRoot}
-use Rattle.owner_whole.specs.Whole.Owner.{CopiesOfRoot, IsOfRoot, AtRest, IsAlone}
+use Rattle.owner_whole.specs.Whole.Owner.{CopiesOfRoot, IsOfRoot, IsQuiescent, IsAlone}
 use Rattle.owner_whole.specs.Whole.WholeSweeps.{uncounted, SweepLeads}
 use Rattle.owner_whole.proofs.Whole.Fresh.Sweeps.{whole_of}
 use Rattle.owner_whole.proofs.Whole.Rows.Settles.{never_waits, deferring_lowers}
@@ -58,7 +58,7 @@ use Rattle.owner_whole.proofs.Whole.Sweeps.Over.{further_by, further_over, furth
 use Rattle.owner_whole.proofs.Whole.Sweeps.Targets.{sweep_target_at, sweep_target_past, of_root_at, of_root_past, of_root_none}
 
 module _ {K V Q : Type 0} (same : K → K → Bool) (hash : K → ℕ) (asks : Q → K → Bool) (setting : Setting) (slot : ℕ → ℕ) (lawful : AreLawful same hash)
-    (w : World (Node K V)) (c : Chart K) (blocks : Blocks) (sights : ℕ → Sight) (o : CallOverAll) (a : IsAlone {Q = Q} same hash asks setting slot w c blocks sights (OverAll o))
+    (w : World (Node K V)) (c : Chart K) (blocks : Blocks) (sights : ℕ → Visible) (o : CallOverAll) (a : IsAlone {Q = Q} same hash asks setting slot w c blocks sights (OverAll o))
     (is_row : IsRowOfSweep o.sweep.stands) where
   abbrev pub here : Setting
   here = in_slot setting (slot 0)
@@ -87,7 +87,7 @@ module _ {K V Q : Type 0} (same : K → K → Bool) (hash : K → ℕ) (asks : Q
   pub now : IsWithinRow
   now = by (a.together.stand 0 (OverAll o) a.has) a.of_root
     where
-      by : (x : Stands V same hash asks setting slot w c seen 0 (OverAll o)) → IsOfRoot same hash asks setting slot w c seen (OverAll o) x → IsWithinRow
+      by : (x : IsAtPoint V same hash asks setting slot w c seen 0 (OverAll o)) → IsOfRoot same hash asks setting slot w c seen (OverAll o) x → IsWithinRow
       by (inr (row, at_row, knows)) (first, over) = record {
         v = w;
         memory = refl;
@@ -151,7 +151,7 @@ module _ {K V Q : Type 0} (same : K → K → Bool) (hash : K → ℕ) (asks : Q
 
     -- where it goes on
     goes_on : IsLoneSweep b 0 c p2.stands
-        → ((x : Stands V same hash asks setting slot led.w2 c seen 0 (OverAll after)) → IsOfRoot same hash asks setting slot led.w2 c seen (OverAll after) x)
+        → ((x : IsAtPoint V same hash asks setting slot led.w2 c seen 0 (OverAll after)) → IsOfRoot same hash asks setting slot led.w2 c seen (OverAll after) x)
         → next_over_all {Q = Q} after end ≡ Some (OverAll after) → IsAlone {Q = Q} same hash asks setting slot led.w2 c blocks sights (OverAll after)
     goes_on alone of_root goes =
         let has2 : calls2 0 ≡ Some (OverAll after) = at_same a.calls 0 (next_over_all after end) 0 refl ∙ goes in
@@ -170,7 +170,7 @@ module _ {K V Q : Type 0} (same : K → K → Bool) (hash : K → ℕ) (asks : Q
     inside_then = inside_kept deferred_word setting.batch_size now.v (came_reached setting.batch_size now.v now.together.ground.came) 0 led.w2 led.happened (slot 0) inside_now
 
     -- where it has ended
-    ended : next_over_all {Q = Q} after end ≡ None → (IsRowOfSweep p2.stands → ⊥) → TablesAlone b c → AtRest {Q = Q} same hash asks setting slot led.w2 c blocks sights
+    ended : next_over_all {Q = Q} after end ≡ None → (IsRowOfSweep p2.stands → ⊥) → TablesAlone b c → IsQuiescent {Q = Q} same hash asks setting slot led.w2 c blocks sights
     ended is none tables = record {
       calls = calls2;
       none = λ i. elim (cases_eq i 0) as (λ _. calls2 i ≡ None) [
@@ -199,7 +199,7 @@ module _ {K V Q : Type 0} (same : K → K → Bool) (hash : K → ℕ) (asks : Q
     still_over : IsStill p2 → IsOverRoot hash b c seen p2 o.done
     still_over s = record { table = s.over b c seen now.over.table; before = λ once before. now.over.before (sym (ap (goes_once b) s.purpose) ∙ once) (s.before before) }
 
-    still_of_root : IsStill p2 → (x : Stands V same hash asks setting slot led.w2 c seen 0 (OverAll after)) → IsOfRoot same hash asks setting slot led.w2 c seen (OverAll after) x
+    still_of_root : IsStill p2 → (x : IsAtPoint V same hash asks setting slot led.w2 c seen 0 (OverAll after)) → IsOfRoot same hash asks setting slot led.w2 c seen (OverAll after) x
     still_of_root s (inl (rests, knows)) =
         (of_root_at same hash asks setting slot led.w2 c seen o.began p2 p2.stands s.is_row (λ blocking. s.target c.first (now.target blocking)) knows.facts.point, still_over s)
     still_of_root s (inr (row, at_row, knows)) =
@@ -230,7 +230,7 @@ module _ {K V Q : Type 0} (same : K → K → Bool) (hash : K → ℕ) (asks : Q
     retired_over : IsRetired p2 → IsOverRoot hash b c seen p2 o.done
     retired_over r = subst (λ (q : Sweep). IsOverRoot hash b c seen q o.done) (sym r.is) (record { table = tt; before = λ once before. now.over.before once (subst IsBefore (sym r.was) tt) })
 
-    retired_of_root : IsRetired p2 → (x : Stands V same hash asks setting slot led.w2 c seen 0 (OverAll after)) → IsOfRoot same hash asks setting slot led.w2 c seen (OverAll after) x
+    retired_of_root : IsRetired p2 → (x : IsAtPoint V same hash asks setting slot led.w2 c seen 0 (OverAll after)) → IsOfRoot same hash asks setting slot led.w2 c seen (OverAll after) x
     retired_of_root r (inl (rests, knows)) = (by p2 r.past knows.facts.point, retired_over r)
       where
         by : (q : Sweep) → q ≡ sweep_once_over o.sweep → (point : SweepingFacts same hash led.w2 0 here c seen o.began q q.stands) → CopiesOfRoot same hash asks setting slot led.w2 c seen o.began q q.stands point
@@ -271,7 +271,7 @@ module _ {K V Q : Type 0} (same : K → K → Bool) (hash : K → ℕ) (asks : Q
       pair_over = subst (λ (q : Sweep). IsOverRoot hash b c seen q o.done) (sym p2_is)
           (record { table = further_over hash b c seen o.sweep root; before = λ once before. absurd (further_none once before) })
 
-      pair_of_root : (x : Stands V same hash asks setting slot led.w2 c seen 0 (OverAll after)) → IsOfRoot same hash asks setting slot led.w2 c seen (OverAll after) x
+      pair_of_root : (x : IsAtPoint V same hash asks setting slot led.w2 c seen 0 (OverAll after)) → IsOfRoot same hash asks setting slot led.w2 c seen (OverAll after) x
       pair_of_root (inl (rests, knows)) = (of_root_none same hash asks setting slot led.w2 c seen o.began p2 p2.stands copies_none knows.facts.point, pair_over)
       pair_of_root (inr (row, at_row, knows)) = absurd (no_row at_row)
 

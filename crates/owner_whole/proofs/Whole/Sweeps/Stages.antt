@@ -30,14 +30,14 @@ use Rattle.owner_facts.specs.Alone.FactsAloneCalls.{TablesAlone}
 use Rattle.owner_facts.proofs.Alone.Lone.Beside.{beside_tables}
 use Rattle.owner_facts.specs.Given.LateFactsReserves.{CopiesWhole}
 use Rattle.owner_facts.specs.Given.LateFactsSweeps.{CopiesPairs, HasNoTable, WasRoot, GoesOver, CopiesTable, SweepingFacts, SweepFacts}
-use Rattle.map_measures.specs.Given.LateLateCopies.{LateCopying, LateCopierFacts}
+use Rattle.map_measures.specs.Given.LateLateCopies.{SupersededCopying, SupersededCopierFacts}
 use Rattle.owner_facts.specs.Given.LateLeft.{Left}
 use Rattle.owner_facts.specs.Given.LateToldSweeps.{SweepAfter}
 use Rattle.owner_facts.proofs.Given.LateSwept.Sweeps.Moved.{Sees, SweepMoves}
 use Rattle.owner_facts.proofs.Given.LateSwept.Sweeps.Stands.{quiet_tableless, quiet_beginning, quiet_further}
 use Rattle.owner_facts.proofs.Given.LateSwept.Sweeps.Tables.{upto}
 use Rattle.owner_facts.proofs.Maps.Reserves.Beside.{begins_copying}
-use Rattle.owner_whole.specs.Whole.LoneSweeps.{IsBefore, goes_once, SweepsAlone, GoesOverRoot, StandsThere, OverRoot}
+use Rattle.owner_whole.specs.Whole.LoneSweeps.{IsBefore, goes_once, SweepsAlone, GoesOverRoot, LiesThere, OverRoot}
 use Rattle.owner_whole.proofs.Whole.Fresh.Sweeps.{CopiesRoot}
 use Rattle.owner_whole.proofs.Whole.Sweeps.Lone.{ReadsOn, telling_on, seen_on, alone_at}
 use Rattle.owner_whole.proofs.Whole.Sweeps.Over.{Then, further_then, further_over, seen_then}
@@ -115,13 +115,13 @@ module _ {K V : Type 0} (same : K → K → Bool) (hash : K → ℕ) (setting : 
     late_none u there root left =
         let l = left.behind in let e : u ≡ p.table.turn = ap (λ (x : Table). x.turn) (sym there.is) in omega (arith, l, e, root)
 
-    begins_late : p.table.turn ≡ c.first → LateCopierFacts same hash w2 0 setting c blocks began (copying_all p.setting p.table next) → ⊥
+    begins_late : p.table.turn ≡ c.first → SupersededCopierFacts same hash w2 0 setting c blocks began (copying_all p.setting p.table next) → ⊥
     begins_late root late = by (is_incremental p.setting.mode) late.point
       where
         it : Bool → Copier
         it x = if x then record (resting p.setting true p.table next copies.Marks) { end = p.table.len } else resting p.setting true p.table next copies.Asks
 
-        by : (x : Bool) → LateCopying same hash w2 0 setting c blocks began (it x) (it x).stands → ⊥
+        by : (x : Bool) → SupersededCopying same hash w2 0 setting c blocks began (it x) (it x).stands → ⊥
         by true h = late_none h.0 h.2.0.source root h.2.0.left
         by false h = late_none h.0 h.2.source root h.2.left
 
@@ -186,7 +186,7 @@ module _ {K V : Type 0} (same : K → K → Bool) (hash : K → ℕ) (setting : 
   at_same e g after h = subst (λ (x : Chart K). ToldAt x blocks2) (sym e) (subst (ToldAt c) (sym g) (h (subst (AfterAt c) g (subst (λ (x : Chart K). AfterAt x blocks2) e after))))
 
   -- a pair that stands at a place is seen in the same block
-  stands_on : (t : ℕ) → IsTable c blocks p.table t → (word : ℕ) → StandsThere hash mode c blocks p word → StandsThere hash mode c blocks2 p word
+  stands_on : (t : ℕ) → IsTable c blocks p.table t → (word : ℕ) → LiesThere hash mode c blocks p word → LiesThere hash mode c blocks2 p word
   stands_on t there word (n, borrowed, stands, is) =
       let turn : p.table.turn ≡ t = ap (λ (x : Table). x.turn) there.is in
       let here : c.place t p.place ≡ Holds n Still borrowed = ap (λ (x : ℕ). c.place x p.place) (sym turn) ∙ stands in

@@ -21,11 +21,11 @@ use Rattle.owner_facts.specs.Given.PointsSteps.{AreLawful}
 use Rattle.map_measures.specs.Given.LateCovers.{times, NamesPair, CoversAt}
 use Rattle.map_measures.specs.Given.LateCoversSweeps.{DoneBy, DoneAt}
 use Rattle.owner_facts.specs.Given.LateFactsSweeps.{CopiesPairs}
-use Rattle.owner_facts.specs.Given.LateToldSweeps.{word_told, ReadsPlace, TellsSo, OnlyRemoves, NamesThere, SweepTold}
+use Rattle.owner_facts.specs.Given.LateToldSweeps.{word_shown, ReadsPlace, OutcomeAgrees, OnlyRemoves, NamesThere, SweepOutcome}
 use Rattle.owner_facts.proofs.Given.LateSwept.Covers.Begins.{names_current}
 use Rattle.owner_facts.proofs.Given.LateSwept.Sweeps.Tables.{still_current}
-use Rattle.owner_whole.specs.Whole.LoneSweeps.{IsBefore, goes_once, GoesOverRoot, StandsThere, OverRoot}
-use Rattle.owner_whole.specs.Whole.WholeSweeps.{NamesPairOf, TellsNew}
+use Rattle.owner_whole.specs.Whole.LoneSweeps.{IsBefore, goes_once, GoesOverRoot, LiesThere, OverRoot}
+use Rattle.owner_whole.specs.Whole.WholeSweeps.{NamesPairOf, ShowsNew}
 use Rattle.owner_whole.proofs.Whole.Sweeps.Names.{named, names_pair, one_named}
 use Rattle.owner_whole.proofs.Whole.Sweeps.Own.{before_cases}
 use Rattle.owner_whole.proofs.Whole.Sweeps.Stages.{StageTold}
@@ -104,7 +104,7 @@ root_on {K = K} hash b mode c c2 seen seen2 p (inr (t, i, e)) over = record {
 module _ {K V : Type 0} (same : K → K → Bool) (hash : K → ℕ) (lawful : AreLawful same hash) (setting its : Setting) (began : ℕ) (w : World (Node K V)) (c : Chart K) (seen : Blocks) (p : Sweep)
     (over : OverRoot hash (is_incremental setting.mode) c seen p p.stands) (w2 : World (Node K V)) (c2 : Chart K) (blocks2 blocks3 : Blocks) (map2 : IsMapIn same hash setting w2 c2 blocks2)
     (map3 : IsMapIn same hash its w2 c2 blocks3) (pair_seen : (n : ℕ) → c2.current n ≡ true → blocks2.pair n ≡ blocks3.pair n) (p2 : Sweep) (end : Swept (Node K V))
-    (told : SweepTold same hash 0 setting began c seen p w2 c2 blocks2 p2 end) (stage : StageTold same hash setting w2 c2 blocks2 p (p2, end))
+    (told : SweepOutcome same hash 0 setting began c seen p w2 c2 blocks2 p2 end) (stage : StageTold same hash setting w2 c2 blocks2 p (p2, end))
     (done done2 : List ℕ) (entered entered2 : ℕ) (covers : CoversAt hash c2 blocks2 p2 entered2 done2 p2.stands) (is_done : DoneAt hash c2 blocks2 done done2 entered entered2 end p.stands)
     (before : goes_once (is_incremental setting.mode) p.purpose ≡ true → IsBefore p.stands → (done ≡ []) × (done2 ≡ [])) where
   abbrev b : Bool
@@ -137,7 +137,7 @@ module _ {K V : Type 0} (same : K → K → Bool) (hash : K → ℕ) (lawful : A
   -- a walk shows a pair
   module _ (word : ℕ) (is : end ≡ swept.Pair word) where
     pair_tells : ReadsPlace p.stands × (p2.stands ≡ at.Ready)
-    pair_tells = subst (λ (x : Swept (Node K V)). TellsSo p.stands p2.stands x) is told.stands.tells
+    pair_tells = subst (λ (x : Swept (Node K V)). OutcomeAgrees p.stands p2.stands x) is told.stands.tells
 
     asks_none : p.stands ≢ at.Asks word
     asks_none e = subst ReadsPlace e pair_tells.0
@@ -149,7 +149,7 @@ module _ {K V : Type 0} (same : K → K → Bool) (hash : K → ℕ) (lawful : A
     root2 = root_on hash b setting.mode c c2 seen blocks2 p (told.beside (before_copies p.stands at_place)) (reads_root hash b c seen p p.stands pair_tells.0 over)
 
     shown : (n : ℕ) × (phase : Phase) × NamesThere hash c2 blocks2 p word n phase
-    shown = told.shows word (ap word_told is) asks_none
+    shown = told.shows word (ap word_shown is) asks_none
 
     turn_is : shown.2.0 ≡ c2.first
     turn_is = ap (λ (x : Table). x.turn) (sym shown.2.2.is) ∙ root2.root
@@ -171,7 +171,7 @@ module _ {K V : Type 0} (same : K → K → Bool) (hash : K → ℕ) (lawful : A
         by (inl came) = came.1.shown.1 shown.0
         by (inr in_table) = in_table.1.shown.1 shown.0
 
-    pair_new : TellsNew hash w2.memory c2 blocks3 (goes_once b p.purpose) done done2 (swept.Pair word)
+    pair_new : ShowsNew hash w2.memory c2 blocks3 (goes_once b p.purpose) done done2 (swept.Pair word)
     pair_new =
         let p = names_it word shown.0 shown.1 shown.2.1 shown_current shown.2.4 in
         (shown.0, p.0, p.1, (p.2, front_new shown.0 done done2 done_is few), done_is)
@@ -179,9 +179,9 @@ module _ {K V : Type 0} (same : K → K → Bool) (hash : K → ℕ) (lawful : A
   -- it asks about a pair
   module _ (word : ℕ) (is : end ≡ swept.Asks word) where
     asks_there : p2.stands ≡ at.Asks word
-    asks_there = subst (λ (x : Swept (Node K V)). TellsSo p.stands p2.stands x) is told.stands.tells
+    asks_there = subst (λ (x : Swept (Node K V)). OutcomeAgrees p.stands p2.stands x) is told.stands.tells
 
-    asks_over : GoesOverRoot hash b c2 blocks2 p2 × StandsThere hash b c2 blocks2 p2 word
+    asks_over : GoesOverRoot hash b c2 blocks2 p2 × LiesThere hash b c2 blocks2 p2 word
     asks_over = subst (OverRoot hash b c2 blocks2 p2) asks_there stage.table
 
     asks_current : c2.current asks_over.1.0 ≡ true
@@ -190,17 +190,17 @@ module _ {K V : Type 0} (same : K → K → Bool) (hash : K → ℕ) (lawful : A
     asks_covers : CoversAt hash c2 blocks2 p2 entered2 done2 (at.Asks word)
     asks_covers = subst (CoversAt hash c2 blocks2 p2 entered2 done2) asks_there covers
 
-    asks_new : TellsNew hash w2.memory c2 blocks3 (goes_once b p.purpose) done done2 (swept.Asks word)
+    asks_new : ShowsNew hash w2.memory c2 blocks3 (goes_once b p.purpose) done done2 (swept.Asks word)
     asks_new =
         let n = asks_over.1.0 in
         let p = names_it word n Still asks_over.1.1 asks_current asks_over.1.3 in
         let one = one_named same hash lawful setting w2 c2 blocks2 map2 word asks_covers.1 n asks_covers.2 (names_pair same hash lawful setting w2 c2 blocks2 map2 word n Still asks_over.1.1 asks_current asks_over.1.3) in
         ((n, p.0, p.1, (p.2, ap (λ (x : ℕ). times x done2) (sym one) ∙ asks_covers.3.fresh)), λ once. done_kept once (λ other e. cc (is, e)))
 
-  pub tells_new : TellsNew hash w2.memory c2 blocks3 (goes_once b p.purpose) done done2 end
+  pub tells_new : ShowsNew hash w2.memory c2 blocks3 (goes_once b p.purpose) done done2 end
   tells_new = by end refl
     where
-      by : (x : Swept (Node K V)) → end ≡ x → TellsNew hash w2.memory c2 blocks3 (goes_once b p.purpose) done done2 x
+      by : (x : Swept (Node K V)) → end ≡ x → ShowsNew hash w2.memory c2 blocks3 (goes_once b p.purpose) done done2 x
       by (swept.Pair word) e = pair_new word e
       by (swept.Asks word) e = asks_new word e
       by swept.Goes e = λ once. done_kept once (λ word q. cc (e, q))

@@ -19,13 +19,13 @@ use Rattle.owner_facts.specs.Given.LateFactsSweeps.{CopiesPairs, SweepingFacts}
 use Rattle.owner_facts.specs.Given.LateToldSweeps.{IsRowOfSweep}
 use Rattle.owner_facts.proofs.Given.LateSwept.Sweeps.Stands.{quiet_further}
 use Rattle.owner_facts.proofs.Given.LateSwept.Sweeps.Tables.{still_current}
-use Rattle.owner_facts.specs.Given.CallersOverAll.{verdict, CallOverAll, gone_on, told_of}
-use Rattle.owner_facts.specs.Given.CallersSights.{Sight, seen_by}
-use Rattle.map_measures.specs.Given.CallersSweeps.{TakesTold}
-use Rattle.owner_facts.specs.Given.CallersTogether.{OverAll, in_slot, Stands, Together}
+use Rattle.owner_facts.specs.Given.CallersOverAll.{verdict, CallOverAll, gone_on, with_verdict}
+use Rattle.owner_facts.specs.Given.CallersSights.{Visible, seen_by}
+use Rattle.map_measures.specs.Given.CallersSweeps.{TakesReply}
+use Rattle.owner_facts.specs.Given.CallersTogether.{OverAll, in_slot, IsAtPoint, Together}
 use Rattle.owner_facts.proofs.Given.CallersTogether.At.{at_other, at_same}
 use Rattle.owner_facts.proofs.Given.CallersTogether.SweepsTold.{sweeps_told_together}
-use Rattle.owner_whole.specs.Whole.LoneSweeps.{IsBefore, goes_once, GoesOverRoot, StandsThere, OverRoot, IsOverRoot}
+use Rattle.owner_whole.specs.Whole.LoneSweeps.{IsBefore, goes_once, GoesOverRoot, LiesThere, OverRoot, IsOverRoot}
 use Rattle.owner_whole.specs.Whole.Owner.{IsOfRoot, IsAlone}
 use Rattle.owner_whole.specs.Whole.WholeSweeps.{NamesPairOf, NamesNew}
 use Rattle.owner_whole.proofs.Whole.Sweeps.Lone.{quiet_copies, alone_at, tables_at}
@@ -35,7 +35,7 @@ use Rattle.owner_whole.proofs.Whole.Sweeps.Own as own
 use Rattle.owner_whole.proofs.Whole.Sweeps.Targets.{of_root_none}
 
 module _ {K V Q : Type 0} (same : K → K → Bool) (hash : K → ℕ) (asks : Q → K → Bool) (setting : Setting) (slot : ℕ → ℕ) (lawful : AreLawful same hash)
-    (w : World (Node K V)) (c : Chart K) (blocks : Blocks) (sights : ℕ → Sight) (o : CallOverAll) (a : IsAlone {Q = Q} same hash asks setting slot w c blocks sights (OverAll o)) where
+    (w : World (Node K V)) (c : Chart K) (blocks : Blocks) (sights : ℕ → Visible) (o : CallOverAll) (a : IsAlone {Q = Q} same hash asks setting slot w c blocks sights (OverAll o)) where
   abbrev here : Setting
   here = in_slot setting (slot 0)
 
@@ -48,7 +48,7 @@ module _ {K V Q : Type 0} (same : K → K → Bool) (hash : K → ℕ) (asks : Q
   map : IsMapIn same hash here w c seen
   map = own.map same hash asks setting slot lawful w c blocks sights o a
 
-  law : TakesTold hash c seen o (λ told. Together V same hash asks setting slot w c blocks sights (with_at a.calls 0 (Some (OverAll told))))
+  law : TakesReply hash c seen o (λ told. Together V same hash asks setting slot w c blocks sights (with_at a.calls 0 (Some (OverAll told))))
   law = sweeps_told_together same hash asks setting slot lawful w c blocks sights a.calls a.together 0 o a.has
 
   -- it goes on where it neither copies, nor stands at a row
@@ -67,7 +67,7 @@ module _ {K V Q : Type 0} (same : K → K → Bool) (hash : K → ℕ) (asks : Q
         of_root = of_root (together2.stand 0 (OverAll x) has2);
       }
     where
-      of_root : (y : Stands V same hash asks setting slot w c seen 0 (OverAll x)) → IsOfRoot same hash asks setting slot w c seen (OverAll x) y
+      of_root : (y : IsAtPoint V same hash asks setting slot w c seen 0 (OverAll x)) → IsOfRoot same hash asks setting slot w c seen (OverAll x) y
       of_root (inl (rests, knows)) = (of_root_none same hash asks setting slot w c seen x.began x.sweep x.sweep.stands copies knows.facts.point, over)
       of_root (inr (row, at_row, knows)) = absurd (none at_row)
 
@@ -115,7 +115,7 @@ module _ {K V Q : Type 0} (same : K → K → Bool) (hash : K → ℕ) (asks : Q
     asks_tables : TablesAlone b c
     asks_tables = tables_at b c o.sweep.stands asks_copies a.lone.point
 
-    asks_over : GoesOverRoot hash b c seen o.sweep × StandsThere hash b c seen o.sweep word
+    asks_over : GoesOverRoot hash b c seen o.sweep × LiesThere hash b c seen o.sweep word
     asks_over = subst (OverRoot hash b c seen o.sweep) is asks_here.over.table
 
     asks_covers : CoversAt hash c seen o.sweep o.entered o.done (at.Asks word)
@@ -156,7 +156,7 @@ module _ {K V Q : Type 0} (same : K → K → Bool) (hash : K → ℕ) (asks : Q
           alone_again (Told false) together2 asks_tables (λ h. h) (λ h. h)
           (record { table = (record { root = asks_over.0.root; last = asks_over.0.last }, λ retains. asks_over.1); before = λ once before. absurd before })
 
-      pub replied_on : (keeps : Bool) → IsAlone {Q = Q} same hash asks setting slot w c blocks sights (OverAll (told_of o n keeps))
+      pub replied_on : (keeps : Bool) → IsAlone {Q = Q} same hash asks setting slot w c blocks sights (OverAll (with_verdict o n keeps))
       replied_on keeps =
           subst (λ (x : Sweeping). IsAlone {Q = Q} same hash asks setting slot w c blocks sights (OverAll (record { began = o.began; entered = o.entered; done = cond keeps (n ∷ o.done) o.done; told = verdict n keeps; sweep = reply_at x o.sweep keeps })))
           (sym is)

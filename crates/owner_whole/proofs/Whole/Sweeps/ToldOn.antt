@@ -12,19 +12,19 @@ use Rattle.map_measures.specs.Given.RuleChart.{Chart}
 use Rattle.map_measures.specs.Given.RuleWords.{Blocks}
 use Rattle.map_measures.proofs.Given.RuleWorld.Hands.{current_known}
 use Rattle.owner_facts.specs.Given.PointsSteps.{AreLawful}
-use Rattle.owner_facts.specs.Given.CallersOverAll.{verdict, CallOverAll, gone_on, told_of}
-use Rattle.owner_facts.specs.Given.CallersSights.{Sight}
+use Rattle.owner_facts.specs.Given.CallersOverAll.{verdict, CallOverAll, gone_on, with_verdict}
+use Rattle.owner_facts.specs.Given.CallersSights.{Visible}
 use Rattle.owner_facts.specs.Given.CallersTogether.{OverAll}
 use Rattle.owner_whole.specs.Whole.Contents.{KeepsPairs}
 use Rattle.owner_whole.specs.Whole.Owner.{IsAlone}
 use Rattle.owner_whole.specs.Whole.SweptPairs.{about_to_go}
-use Rattle.owner_whole.specs.Whole.WholeSweeps.{NamesPairOf, IsTold, SweepsToldAlone}
+use Rattle.owner_whole.specs.Whole.WholeSweeps.{NamesPairOf, IsReplied, SweepsRepliedAlone}
 use Rattle.owner_whole.proofs.Whole.Sweeps.Onward.{Onward, onward_same, onward_kept, onward_gone, swept_on}
 use Rattle.owner_whole.proofs.Whole.Sweeps.Over.{further_by}
 use Rattle.owner_whole.proofs.Whole.Sweeps.Told.{next_on, asks_new, further_none, replied_on}
 
 module _ {K V Q : Type 0} (same : K → K → Bool) (hash : K → ℕ) (asks : Q → K → Bool) (setting : Setting) (slot : ℕ → ℕ) (lawful : AreLawful same hash)
-    (w : World (Node K V)) (c : Chart K) (blocks : Blocks) (sights : ℕ → Sight) (o : CallOverAll) (a : IsAlone {Q = Q} same hash asks setting slot w c blocks sights (OverAll o)) where
+    (w : World (Node K V)) (c : Chart K) (blocks : Blocks) (sights : ℕ → Visible) (o : CallOverAll) (a : IsAlone {Q = Q} same hash asks setting slot w c blocks sights (OverAll o)) where
   abbrev b : Bool
   b = is_incremental setting.mode
 
@@ -58,22 +58,22 @@ module _ {K V Q : Type 0} (same : K → K → Bool) (hash : K → ℕ) (asks : Q
         (λ x. further_by (λ y. y ≢ at.Tries x) o.sweep (λ e. cc e) (λ e. cc e) (λ e. cc e))
     reply_onward false = onward_gone b w.memory c blocks asked o word n is it.is_there (standing o.sweep (at.Tries word)) refl refl
 
-    told_onward : (keeps : Bool) → Onward b w.memory c blocks asked o w.memory c blocks (n ∷ asked) (told_of o n keeps)
+    told_onward : (keeps : Bool) → Onward b w.memory c blocks asked o w.memory c blocks (n ∷ asked) (with_verdict o n keeps)
     told_onward keeps =
         subst (λ (x : Sweeping). Onward b w.memory c blocks asked o w.memory c blocks (n ∷ asked)
         (record { began = o.began; entered = o.entered; done = cond keeps (n ∷ o.done) o.done; told = verdict n keeps; sweep = reply_at x o.sweep keeps })) (sym is) (reply_onward keeps)
 
-  pub told_on : IsTold V same hash asks setting slot w c blocks sights o
+  pub told_on : IsReplied V same hash asks setting slot w c blocks sights o
   told_on = record {
     next = next_on same hash asks setting slot lawful w c blocks sights o a;
     asks_about = λ word is. asks_new same hash asks setting slot lawful w c blocks sights o a word is;
     replied = λ word n k v is it keeps. (
       replied_on same hash asks setting slot lawful w c blocks sights o a word is n k v it keeps,
-      λ m0 c0 blocks0 asked. swept_on b m0 c0 blocks0 w.memory c blocks asked o w.memory c blocks (n ∷ asked) (told_of o n keeps) low (told_onward word is n k v it asked keeps),
+      λ m0 c0 blocks0 asked. swept_on b m0 c0 blocks0 w.memory c blocks asked o w.memory c blocks (n ∷ asked) (with_verdict o n keeps) low (told_onward word is n k v it asked keeps),
     );
     next_runs = λ is m0 c0 blocks0 asked. swept_on b m0 c0 blocks0 w.memory c blocks asked o w.memory c blocks asked (gone_on o (after_next o.sweep)) low (next_onward is asked);
   }
 
 module _ {K V Q : Type 0} (same : K → K → Bool) (hash : K → ℕ) (asks : Q → K → Bool) (setting : Setting) (slot : ℕ → ℕ) where
-  pub sweeps_told_alone : SweepsToldAlone V same hash asks setting slot
+  pub sweeps_told_alone : SweepsRepliedAlone V same hash asks setting slot
   sweeps_told_alone = told_on same hash asks setting slot

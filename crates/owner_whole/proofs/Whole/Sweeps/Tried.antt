@@ -25,7 +25,7 @@ use Rattle.map_measures.specs.Given.RuleInWorld.{IsMapIn}
 use Rattle.map_measures.proofs.Given.RuleWords.TablesSeen.{place_there}
 use Rattle.owner_facts.specs.Given.LateFactsSweeps.{GoesOver}
 use Rattle.owner_facts.proofs.Given.LateSwept.Sweeps.Moved.{Sees, Removing}
-use Rattle.owner_whole.specs.Whole.LoneSweeps.{StandsThere}
+use Rattle.owner_whole.specs.Whole.LoneSweeps.{LiesThere}
 use Rattle.owner_whole.proofs.Whole.Sweeps.Over.{further_by}
 
 -- a sweep that has read the word of its place is not to count
@@ -43,7 +43,7 @@ seen_counts T p word removed = by (removes p.purpose && has_mark word COPYING) (
     by false false = pair_counts p.purpose
 
 module _ {K V : Type 0} (same : K → K → Bool) (hash : K → ℕ) (b : Bool) (setting : Setting) (began : ℕ) (w : World (Node K V)) (c : Chart K) (blocks : Blocks) (map : IsMapIn same hash setting w c blocks)
-    (p : Sweep) (t : ℕ) (over : GoesOver same hash w 0 setting c blocks began p t) (inside : p.place < c.len t) (word : ℕ) (there : StandsThere hash b c blocks p word)
+    (p : Sweep) (t : ℕ) (over : GoesOver same hash w 0 setting c blocks began p t) (inside : p.place < c.len t) (word : ℕ) (there : LiesThere hash b c blocks p word)
     (m2 : Mem (Node K V)) (end : Sweep × Swept (Node K V)) (steps : Steps Took value_at w.memory (tries p word) m2 end) where
   -- the word that it expects is there
   word_there : word_at w.memory (at_place p.table p.place) ≡ Some word

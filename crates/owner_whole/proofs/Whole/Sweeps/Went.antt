@@ -25,20 +25,20 @@ use Rattle.map_measures.specs.Given.RuleChart.{Chart}
 use Rattle.map_measures.specs.Given.RuleWords.{Blocks}
 use Rattle.map_measures.specs.Given.RuleMoves.{Removes}
 use Rattle.map_measures.specs.Given.RuleMoments.{Moments}
-use Rattle.map_measures.specs.Given.RuleInWorld.{IsMapIn, SparesPairs, Moved, SameBlocks, Went}
+use Rattle.map_measures.specs.Given.RuleInWorld.{IsMapIn, SparesPairs, Moved, SameBlocks, StepSpec}
 use Rattle.map_measures.proofs.Given.RuleWorld.WentTold.{went_as}
 use Rattle.owner_facts.specs.Given.PointsFactsCopies.{CopierFacts}
 use Rattle.owner_facts.specs.Given.PointsFactsCopiesBlocking.{CopierFactsBlocking}
 use Rattle.map_measures.specs.Given.PointsMeasures.{OthersIdle}
 use Rattle.owner_facts.specs.Given.PointsSteps.{AreLawful}
-use Rattle.owner_facts.specs.Given.PointsTold.{IsRowOfCopier, CopierTold, CopierToldBlocking, MovedBeside}
+use Rattle.owner_facts.specs.Given.PointsTold.{IsRowOfCopier, CopierOutcome, CopierOutcomeBlocking, MovedBesideCopying}
 use Rattle.owner_facts.proofs.Alone.Lone.Beside.{beside_idle}
 use Rattle.map_measures.specs.Given.LateCoversSweeps.{CoversOn}
 use Rattle.owner_facts.specs.Given.LateFactsReserves.{IsEnding, CopiesWhole}
 use Rattle.owner_facts.specs.Given.LateFactsSweeps.{CopiesPairs, SweepFacts}
 use Rattle.owner_facts.specs.Given.LateLeft.{ClaimsAreFew}
-use Rattle.owner_facts.specs.Given.LateToldReserves.{EndsAtRoot, WholeTold}
-use Rattle.owner_facts.specs.Given.LateToldSweeps.{IsRowOfSweep, TellsSo, OnlyRemoves, SweepAfter, SweepTold}
+use Rattle.owner_facts.specs.Given.LateToldReserves.{EndsAtRoot, WholeCopyOutcome}
+use Rattle.owner_facts.specs.Given.LateToldSweeps.{IsRowOfSweep, OutcomeAgrees, OnlyRemoves, SweepAfter, SweepOutcome}
 use Rattle.owner_facts.proofs.Given.LateRooms.Reserves.Copies.{went_whole}
 use Rattle.owner_facts.proofs.Given.LateRooms.Reserves.Moved.{CopierMoves}
 use Rattle.owner_facts.proofs.Given.LateSwept.Covers.Steps.{covers_by}
@@ -83,7 +83,7 @@ copies_cases at.Over = inr (λ h. h)
 copies_cases (at.Refused fault) = inr (λ h. h)
 
 -- where a step leads, by what it tells
-leads_by : {K T : Type 0} (b : Bool) (c : Chart K) (was : Sweeping) (p : Sweep) (end : Swept T) → end ≢ swept.Waits → ((value : T) → end ≢ swept.Gave value) → TellsSo was p.stands end
+leads_by : {K T : Type 0} (b : Bool) (c : Chart K) (was : Sweeping) (p : Sweep) (end : Swept T) → end ≢ swept.Waits → ((value : T) → end ≢ swept.Gave value) → OutcomeAgrees was p.stands end
     → OthersIdle 0 c → SweepsAlone b c p.stands → LeadsSweep b 0 c (p, end)
 leads_by b c was p swept.Goes waits gave tells idle alone = record { idle = idle; point = alone }
 leads_by b c was p swept.Waits waits gave tells idle alone = waits refl
@@ -117,7 +117,7 @@ module _ {K V : Type 0} (same : K → K → Bool) (hash : K → ℕ) (lawful : A
 
   -- all that is told of it
   pub record OwnTold (w2 : World (Node K V)) (c2 : Chart K) (blocks2 : Blocks) : Type 0 where
-    pub told : SweepTold same hash 0 setting began c blocks p w2 c2 blocks2 p2 end
+    pub told : SweepOutcome same hash 0 setting began c blocks p w2 c2 blocks2 p2 end
     pub covers : CoversOn hash began c blocks p c2 blocks2 p2 end
     pub moves : SweepMoves same hash 0 setting began w c blocks p p.stands (p2, end) w2 c2 blocks2
     pub stage : StageTold same hash setting w2 c2 blocks2 p (p2, end)
@@ -125,7 +125,7 @@ module _ {K V : Type 0} (same : K → K → Bool) (hash : K → ℕ) (lawful : A
 
   module _ (w2 : World (Node K V)) (c2 : Chart K) (blocks2 : Blocks) (map2 : IsMapIn same hash setting w2 c2 blocks2) (moved : Moved same hash setting.mode 0 c c2)
       (same_blocks : SameBlocks c blocks blocks2) (tells : SweepTells same hash 0 setting began w c blocks p p.stands (p2, end) w2 c2 blocks2) where
-    told_then : SweepTold same hash 0 setting began c blocks p w2 c2 blocks2 p2 end
+    told_then : SweepOutcome same hash 0 setting began c blocks p w2 c2 blocks2 p2 end
     told_then = told_of same hash 0 setting began w c blocks map p w2 c2 blocks2 p2 end tells
 
     own_told : end ≢ swept.Waits → OthersIdle 0 c2 → StageTold same hash setting w2 c2 blocks2 p (p2, end) → OwnTold w2 c2 blocks2
@@ -146,11 +146,11 @@ module _ {K V : Type 0} (same : K → K → Bool) (hash : K → ℕ) (lawful : A
         (beside_idle same hash 0 c setting.mode c2 (beside_moved (told_then.beside other)) lone.idle)
         (stage_told same hash setting began w c blocks map p f w2 c2 blocks2 map2 same_blocks (p2, end) (tables_at b c p.stands other lone.point) p.stands refl f.point f.idle other over tells.1 tells.0)
       where
-        beside_moved : OnlyRemoves hash setting.mode c c2 → MovedBeside hash setting.mode c c2
+        beside_moved : OnlyRemoves hash setting.mode c c2 → MovedBesideCopying hash setting.mode c c2
         beside_moved (inl e) = inl e
         beside_moved (inr (t, i, e)) = inr (Removes t i, tt, e)
 
-  pub own_beside : (CopiesPairs p.stands → ⊥) → Went same hash setting 0 w c blocks m2 OwnTold
+  pub own_beside : (CopiesPairs p.stands → ⊥) → StepSpec same hash setting 0 w c blocks m2 OwnTold
   own_beside other =
       went_as same hash setting 0 w c blocks m2 (SweepTells same hash 0 setting began w c blocks p p.stands (p2, end)) OwnTold
       (λ w2 c2 blocks2 map2 moved same_blocks tells. beside_told w2 c2 blocks2 map2 moved same_blocks tells other)
@@ -177,8 +177,8 @@ module _ {K V : Type 0} (same : K → K → Bool) (hash : K → ℕ) (lawful : A
       -- what it tells, by the mode of the map
       abbrev ToldIn : Copier × Yielding (Node K V) Table → Bool → Type 0
       ToldIn x mode =
-          cond mode (CopierTold w2 0 setting c2 blocks2 same hash x × (x.0.whole ≡ true) × EndsAtRoot w2 0 setting c2 blocks2 same hash x)
-          (CopierToldBlocking w2 0 setting c2 blocks2 same hash x)
+          cond mode (CopierOutcome w2 0 setting c2 blocks2 same hash x × (x.0.whole ≡ true) × EndsAtRoot w2 0 setting c2 blocks2 same hash x)
+          (CopierOutcomeBlocking w2 0 setting c2 blocks2 same hash x)
 
       abbrev WholeIn : Copier → Bool → Type 0
       WholeIn next mode =
@@ -193,7 +193,7 @@ module _ {K V : Type 0} (same : K → K → Bool) (hash : K → ℕ) (lawful : A
       done_root true next table told blocking = absurd (cc blocking)
       done_root false next table told blocking = ap (λ (x : Table). x.turn) told.0.is
 
-      copied_stage : (x : Copier × Yielding (Node K V) Table) → WholeTold w2 0 setting c2 blocks2 same hash x → CopierLeads b 0 c2 x → Told x
+      copied_stage : (x : Copier × Yielding (Node K V) Table) → WholeCopyOutcome w2 0 setting c2 blocks2 same hash x → CopierLeads b 0 c2 x → Told x
       copied_stage (next, outcome.Goes) told leads = record { whole = goes_whole b next told; alone = leads.1; table = tt; none = λ once at_place. absurd (at_place before); ready = λ e. absurd (cc e) }
       copied_stage (next, outcome.Waits) told leads = absurd leads
       copied_stage (next, outcome.Gave value) told leads = absurd leads
@@ -228,7 +228,7 @@ module _ {K V : Type 0} (same : K → K → Bool) (hash : K → ℕ) (lawful : A
       copied_goes (next, outcome.Refused fault) leads e = cc e
 
       copies_told : (map2 : IsMapIn same hash setting w2 c2 blocks2) (moved : Moved same hash setting.mode 0 c c2) (same_blocks : SameBlocks c blocks blocks2)
-          → SparesPairs w w2 × (c2.current ≡ c.current) × WholeTold w2 0 setting c2 blocks2 same hash its.0 × CopierMoves same hash 0 setting w c copier its.0 c2 → OwnTold w2 c2 blocks2
+          → SparesPairs w w2 × (c2.current ≡ c.current) × WholeCopyOutcome w2 0 setting c2 blocks2 same hash its.0 × CopierMoves same hash 0 setting w c copier its.0 c2 → OwnTold w2 c2 blocks2
       copies_told map2 moved same_blocks (spares, current, told, moves) =
           let leads = copier_leads same hash 0 setting lawful.lawful lawful.fits initial w w2 c c2 blocks blocks2 map map2 m2 b refl copier no_row root its.0 its.1 told moves lone.idle
           (subst (SweepsAlone b c) is lone.point) in
@@ -241,15 +241,15 @@ module _ {K V : Type 0} (same : K → K → Bool) (hash : K → ℕ) (lawful : A
           (copied_idle its.0 leads)
           (subst (StageTold same hash setting w2 c2 blocks2 p) (sym its.2) (copied_stage its.0 told leads))
 
-    own_copies : Went same hash setting 0 w c blocks m2 OwnTold
+    own_copies : StepSpec same hash setting 0 w c blocks m2 OwnTold
     own_copies =
         went_as same hash setting 0 w c blocks m2
-        (λ w2 c2 blocks2. SparesPairs w w2 × (c2.current ≡ c.current) × WholeTold w2 0 setting c2 blocks2 same hash its.0 × CopierMoves same hash 0 setting w c copier its.0 c2) OwnTold
+        (λ w2 c2 blocks2. SparesPairs w w2 × (c2.current ≡ c.current) × WholeCopyOutcome w2 0 setting c2 blocks2 same hash its.0 × CopierMoves same hash 0 setting w c copier its.0 c2) OwnTold
         (λ w2 c2 blocks2 map2 moved same_blocks told. copies_told w2 c2 blocks2 map2 moved same_blocks told)
         (went_whole same hash 0 setting lawful.lawful lawful.fits initial w c blocks map copier no_row root m2 its.0 its.1)
 
-  pub own_went : Went same hash setting 0 w c blocks m2 OwnTold
-  own_went = elim (copies_cases p.stands) as (λ _. Went same hash setting 0 w c blocks m2 OwnTold) [
+  pub own_went : StepSpec same hash setting 0 w c blocks m2 OwnTold
+  own_went = elim (copies_cases p.stands) as (λ _. StepSpec same hash setting 0 w c blocks m2 OwnTold) [
     | inl copies ↦ own_copies copies.0 copies.1
     | inr other ↦ own_beside other
   ]

@@ -1,6 +1,6 @@
 //! What a call is told that has asked.
 ghost use Rattle.std.specs.Prelude.{◌≡◌};
-ghost use Rattle.papaya_raw.specs.CallAsks.{with_present, absent_told, present_told, replied};
+ghost use Rattle.papaya_raw.specs.CallAsks.{with_present, absent_replied, present_replied, replied};
 
 use crate::machines::answer::{End, KeyAnswer};
 use crate::machines::asking::{Asking, Gap, MachineReply, Takes, Told};
@@ -22,7 +22,7 @@ impl<K: Drop, V: Drop, Q> KeyCall<K, V, Q> {
 
     /// Goes on by what it is told to do where the key is missing.
     fn told_absent(&mut self, gap: Gap, reply: MachineReply<V>) -> Result<(), MachineReply<V>>
-        ensures { (self.new, result) ≡ absent_told self.old.replies.takes self.old gap reply }
+        ensures { (self.new, result) ≡ absent_replied self.old.replies.takes self.old gap reply }
     {
         let _told = match (self.replies.takes, reply) {
             (Takes::Values | Takes::Changes, MachineReply::Insert(value)) => {
@@ -38,7 +38,7 @@ impl<K: Drop, V: Drop, Q> KeyCall<K, V, Q> {
 
     /// Goes on by what it is told to do with the pair of a word.
     fn told_present(&mut self, word: u64, reply: MachineReply<V>) -> Result<(), MachineReply<V>>
-        ensures { (self.new, result) ≡ present_told self.old.replies.takes self.old word reply }
+        ensures { (self.new, result) ≡ present_replied self.old.replies.takes self.old word reply }
     {
         let _told = match (self.replies.takes, reply) {
             (Takes::Values | Takes::Changes, MachineReply::Insert(value)) => {

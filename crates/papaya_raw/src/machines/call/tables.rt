@@ -1,7 +1,7 @@
 //! From table to table.
 ghost use Rattle.std.specs.Prelude.{◌≡◌, ℕ};
 ghost use Rattle.seize.specs.Given.SeizeWordsPlan.{May, MaySee, Steps, Ends};
-ghost use Rattle.papaya_raw.specs.CallPoints.{tableless, at_last, entering, went_on, standing};
+ghost use Rattle.papaya_raw.specs.CallPoints.{tableless, at_last, entering, continued_in, standing};
 ghost use Rattle.papaya_raw.specs.Call.{roots, nexts, first_made, next_made, call_plan};
 ghost use Rattle.papaya_raw.specs.declared.machines.call.Calling.TheVariants as at;
 
@@ -78,7 +78,7 @@ impl<K, V, Q> KeyCall<K, V, Q> {
     /// Goes on to the table that follows the one that was tried. In incremental mode, it helps once before; else the whole
     /// table is copied first.
     fn go_on(&mut self, table: Table) -> Called<Node<K, V>>
-        ensures { (self.new, result) ≡ went_on self.old table }
+        ensures { (self.new, result) ≡ continued_in self.old table }
     {
         if !self.setting.mode.is_incremental() {
             let copier = Copier::all(self.setting, self.trial.table, table);

@@ -2,12 +2,12 @@
 use Rattle.std.specs.Prelude.{IfOk}
 use Rattle.std.proofs.Common.{length, refl, sym, ap, subst, ◌∙◌}
 use Rattle.play_events.specs.Events.Asked.{HappensAt, HoldsThen}
-use Rattle.play_events.specs.Events.OfAll.{KeepsAll}
-use Rattle.play_events.specs.Events.OfCalls.{KeepsAt}
-use Rattle.play_events.specs.Events.OfRows.{KeepsRunAt}
-use Rattle.play_events.specs.Events.OfSetups.{KeepsSetup}
+use Rattle.play_events.specs.Events.OfAll.{PreservesAll}
+use Rattle.play_events.specs.Events.OfCalls.{PreservesAt}
+use Rattle.play_events.specs.Events.OfRows.{PreservesRunAt}
+use Rattle.play_events.specs.Events.OfSetups.{PreservesSetup}
 use Rattle.papaya_steps.specs.WholeRuns.Back.{GivesAt}
-use Rattle.papaya_steps.specs.WholeRuns.GoingOn.{GoesOnAt}
+use Rattle.papaya_steps.specs.WholeRuns.GoingOn.{ContinuesAt}
 use Rattle.papaya_steps.specs.WholeRuns.Kinds.{event_of, event_of_call, event_of_maps, event_of_slots}
 use Rattle.papaya_steps.proofs.WholeRuns.GoingOn.{in_turn_acts, out_acts}
 use Rattle.papaya_steps.proofs.WholeRuns.Counts.{calls_make_none, counts_still, out_counts, slots_make_none}
@@ -54,7 +54,7 @@ of_calls-requires g c = let r = c.requires in (r.0, r.1, r.2, r.2.stands.closed 
 pub returns-in-OfCall : goal.returns-in-OfCall
 returns-in-OfCall g c =
     let is = sym (ap event_of c.in-OfCall.is) ∙ c.kind_of.ensures in record {
-      rows = subst (λ event. IfOk c.of_calls.result (λ played. KeepsRunAt g.K.PartialEq.eq (g.S.Hashes.hash c.args.scheduler.now.logged.executor.hasher) event played c.args.scheduler.now c.of_calls.new.scheduler)) is
+      rows = subst (λ event. IfOk c.of_calls.result (λ played. PreservesRunAt g.K.PartialEq.eq (g.S.Hashes.hash c.args.scheduler.now.logged.executor.hasher) event played c.args.scheduler.now c.of_calls.new.scheduler)) is
           (kept_in_turn g.K.PartialEq.eq (g.S.Hashes.hash c.args.scheduler.now.logged.executor.hasher) (event_of_call c.in-OfCall.event) c.args.scheduler.now c.of_calls.new.scheduler c.of_calls.result (calls_keep g.K.PartialEq.eq (g.S.Hashes.hash c.args.scheduler.now.logged.executor.hasher) (event_of_call c.in-OfCall.event) (a_call c.in-OfCall.event) c.args.scheduler.now c.of_calls.new.scheduler c.of_calls.result) c.if-scheduler.false);
       happens = subst (λ event. IfOk c.of_calls.result (λ played. HappensAt g.K.PartialEq.eq (g.S.Hashes.hash c.args.scheduler.now.logged.executor.hasher) c.args.is_first event played c.args.scheduler.now c.of_calls.new.scheduler)) is
           (in_turn_if g.K.PartialEq.eq (g.S.Hashes.hash c.args.scheduler.now.logged.executor.hasher) (event_of_call c.in-OfCall.event) c.args.scheduler.now c.args.is_first c.of_calls.new.scheduler c.of_calls.result c.of_calls.ensures.happens c.if-scheduler.false);
@@ -62,13 +62,13 @@ returns-in-OfCall g c =
           (holds_if g.K.PartialEq.eq (g.S.Hashes.hash c.args.scheduler.now.logged.executor.hasher) (event_of_call c.in-OfCall.event) c.args.is_first c.args.scheduler.now c.of_calls.new.scheduler (c.of_calls.ensures.given.0, c.of_calls.ensures.given.1, c.of_calls.ensures.given.2) c.of_calls.result (in_turn_if g.K.PartialEq.eq (g.S.Hashes.hash c.args.scheduler.now.logged.executor.hasher) (event_of_call c.in-OfCall.event) c.args.scheduler.now c.args.is_first c.of_calls.new.scheduler c.of_calls.result c.of_calls.ensures.happens c.if-scheduler.false) (counts_still (event_of_call c.in-OfCall.event) c.of_calls.result (length c.args.scheduler.now.logged.executor.maps.items) (length c.of_calls.new.scheduler.logged.executor.maps.items) (calls_make_none (event_of_call c.in-OfCall.event) (a_call c.in-OfCall.event)) c.of_calls.ensures.given.3));
       back = subst (λ event. IfOk c.of_calls.result (λ played. GivesAt g.K.PartialEq.eq (g.S.Hashes.hash c.args.scheduler.now.logged.executor.hasher) event played c.args.scheduler.now c.args.back.now.items c.args.back.now.items)) is
           (gave_in_turn g.K.PartialEq.eq (g.S.Hashes.hash c.args.scheduler.now.logged.executor.hasher) (event_of_call c.in-OfCall.event) c.args.scheduler.now c.of_calls.result c.args.back.now.items c.args.back.now.items (gave_none_if g.K.PartialEq.eq (g.S.Hashes.hash c.args.scheduler.now.logged.executor.hasher) (event_of_call c.in-OfCall.event) (event_of_call c.in-OfCall.event) refl c.args.scheduler.now (calls_reclaim_none (event_of_call c.in-OfCall.event) (a_call c.in-OfCall.event)) c.of_calls.result c.args.back.now.items) c.if-scheduler.false);
-      keeps = subst (λ event. IfOk c.of_calls.result (λ played. KeepsAt g.K.PartialEq.eq (g.S.Hashes.hash c.args.scheduler.now.logged.executor.hasher) event played c.args.scheduler.now c.of_calls.new.scheduler)) is
+      keeps = subst (λ event. IfOk c.of_calls.result (λ played. PreservesAt g.K.PartialEq.eq (g.S.Hashes.hash c.args.scheduler.now.logged.executor.hasher) event played c.args.scheduler.now c.of_calls.new.scheduler)) is
           (turn_keeps g.K.PartialEq.eq (g.S.Hashes.hash c.args.scheduler.now.logged.executor.hasher) (event_of_call c.in-OfCall.event) c.args.scheduler.now c.of_calls.new.scheduler c.of_calls.result c.of_calls.ensures.keeps c.if-scheduler.false);
-      setups = subst (λ event. IfOk c.of_calls.result (λ played. KeepsSetup g.K.PartialEq.eq (g.S.Hashes.hash c.args.scheduler.now.logged.executor.hasher) event played c.args.scheduler.now c.of_calls.new.scheduler)) is
+      setups = subst (λ event. IfOk c.of_calls.result (λ played. PreservesSetup g.K.PartialEq.eq (g.S.Hashes.hash c.args.scheduler.now.logged.executor.hasher) event played c.args.scheduler.now c.of_calls.new.scheduler)) is
           (none_set g.K.PartialEq.eq (g.S.Hashes.hash c.args.scheduler.now.logged.executor.hasher) (event_of_call c.in-OfCall.event) c.args.scheduler.now c.of_calls.new.scheduler (calls_set_none (event_of_call c.in-OfCall.event) (a_call c.in-OfCall.event)) c.of_calls.result);
-      all = subst (λ event. IfOk c.of_calls.result (λ played. KeepsAll g.K.PartialEq.eq (g.S.Hashes.hash c.args.scheduler.now.logged.executor.hasher) event played c.args.scheduler.now c.of_calls.new.scheduler)) is
+      all = subst (λ event. IfOk c.of_calls.result (λ played. PreservesAll g.K.PartialEq.eq (g.S.Hashes.hash c.args.scheduler.now.logged.executor.hasher) event played c.args.scheduler.now c.of_calls.new.scheduler)) is
           (none_keep g.K.PartialEq.eq (g.S.Hashes.hash c.args.scheduler.now.logged.executor.hasher) (event_of_call c.in-OfCall.event) c.args.scheduler.now c.of_calls.new.scheduler (calls_give_none (event_of_call c.in-OfCall.event) (a_call c.in-OfCall.event)) c.of_calls.result);
-      acts = subst (λ event. IfOk c.of_calls.result (λ played. GoesOnAt g.K.PartialEq.eq g.S.Hashes.hash event played c.args.scheduler.now c.of_calls.new.scheduler)) is
+      acts = subst (λ event. IfOk c.of_calls.result (λ played. ContinuesAt g.K.PartialEq.eq g.S.Hashes.hash event played c.args.scheduler.now c.of_calls.new.scheduler)) is
           (in_turn_acts g.K.PartialEq.eq g.S.Hashes.hash (event_of_call c.in-OfCall.event) c.args.scheduler.now c.of_calls.new.scheduler c.of_calls.result c.if-scheduler.false c.of_calls.ensures.acts);
       given = (c.of_calls.ensures.given.0, c.of_calls.ensures.given.1, c.of_calls.ensures.given.2);
     }
@@ -79,7 +79,7 @@ of_maps-requires g c = let r = c.requires in (r.0, r.1, r.2, r.2.stands.closed �
 pub returns-in-OfMaps : goal.returns-in-OfMaps
 returns-in-OfMaps g c =
     let is = sym (ap event_of c.in-OfMaps.is) ∙ c.kind_of.ensures in record {
-      rows = subst (λ event. IfOk c.of_maps.result (λ played. KeepsRunAt g.K.PartialEq.eq (g.S.Hashes.hash c.args.scheduler.now.logged.executor.hasher) event played c.args.scheduler.now c.of_maps.new.scheduler)) is
+      rows = subst (λ event. IfOk c.of_maps.result (λ played. PreservesRunAt g.K.PartialEq.eq (g.S.Hashes.hash c.args.scheduler.now.logged.executor.hasher) event played c.args.scheduler.now c.of_maps.new.scheduler)) is
           (kept_in_turn g.K.PartialEq.eq (g.S.Hashes.hash c.args.scheduler.now.logged.executor.hasher) (event_of_maps c.in-OfMaps.event) c.args.scheduler.now c.of_maps.new.scheduler c.of_maps.result c.of_maps.ensures.rows c.if-scheduler.false);
       happens = subst (λ event. IfOk c.of_maps.result (λ played. HappensAt g.K.PartialEq.eq (g.S.Hashes.hash c.args.scheduler.now.logged.executor.hasher) c.args.is_first event played c.args.scheduler.now c.of_maps.new.scheduler)) is
           (in_turn_if g.K.PartialEq.eq (g.S.Hashes.hash c.args.scheduler.now.logged.executor.hasher) (event_of_maps c.in-OfMaps.event) c.args.scheduler.now c.args.is_first c.of_maps.new.scheduler c.of_maps.result c.of_maps.ensures.happens c.if-scheduler.false);
@@ -87,13 +87,13 @@ returns-in-OfMaps g c =
           (holds_if g.K.PartialEq.eq (g.S.Hashes.hash c.args.scheduler.now.logged.executor.hasher) (event_of_maps c.in-OfMaps.event) c.args.is_first c.args.scheduler.now c.of_maps.new.scheduler c.of_maps.ensures.given c.of_maps.result (in_turn_if g.K.PartialEq.eq (g.S.Hashes.hash c.args.scheduler.now.logged.executor.hasher) (event_of_maps c.in-OfMaps.event) c.args.scheduler.now c.args.is_first c.of_maps.new.scheduler c.of_maps.result c.of_maps.ensures.happens c.if-scheduler.false) c.of_maps.ensures.count);
       back = subst (λ event. IfOk c.of_maps.result (λ played. GivesAt g.K.PartialEq.eq (g.S.Hashes.hash c.args.scheduler.now.logged.executor.hasher) event played c.args.scheduler.now c.args.back.now.items c.of_maps.new.back.items)) is
           (gave_in_turn g.K.PartialEq.eq (g.S.Hashes.hash c.args.scheduler.now.logged.executor.hasher) (event_of_maps c.in-OfMaps.event) c.args.scheduler.now c.of_maps.result c.args.back.now.items c.of_maps.new.back.items c.of_maps.ensures.back c.if-scheduler.false);
-      keeps = subst (λ event. IfOk c.of_maps.result (λ played. KeepsAt g.K.PartialEq.eq (g.S.Hashes.hash c.args.scheduler.now.logged.executor.hasher) event played c.args.scheduler.now c.of_maps.new.scheduler)) is
+      keeps = subst (λ event. IfOk c.of_maps.result (λ played. PreservesAt g.K.PartialEq.eq (g.S.Hashes.hash c.args.scheduler.now.logged.executor.hasher) event played c.args.scheduler.now c.of_maps.new.scheduler)) is
           (other_keeps g.K.PartialEq.eq (g.S.Hashes.hash c.args.scheduler.now.logged.executor.hasher) (event_of_maps c.in-OfMaps.event) c.args.scheduler.now c.of_maps.new.scheduler (maps_no_call _ _ c.in-OfMaps.event) c.of_maps.result);
-      setups = subst (λ event. IfOk c.of_maps.result (λ played. KeepsSetup g.K.PartialEq.eq (g.S.Hashes.hash c.args.scheduler.now.logged.executor.hasher) event played c.args.scheduler.now c.of_maps.new.scheduler)) is
+      setups = subst (λ event. IfOk c.of_maps.result (λ played. PreservesSetup g.K.PartialEq.eq (g.S.Hashes.hash c.args.scheduler.now.logged.executor.hasher) event played c.args.scheduler.now c.of_maps.new.scheduler)) is
           (c.of_maps.ensures.setups);
-      all = subst (λ event. IfOk c.of_maps.result (λ played. KeepsAll g.K.PartialEq.eq (g.S.Hashes.hash c.args.scheduler.now.logged.executor.hasher) event played c.args.scheduler.now c.of_maps.new.scheduler)) is
+      all = subst (λ event. IfOk c.of_maps.result (λ played. PreservesAll g.K.PartialEq.eq (g.S.Hashes.hash c.args.scheduler.now.logged.executor.hasher) event played c.args.scheduler.now c.of_maps.new.scheduler)) is
           (c.of_maps.ensures.all);
-      acts = subst (λ event. IfOk c.of_maps.result (λ played. GoesOnAt g.K.PartialEq.eq g.S.Hashes.hash event played c.args.scheduler.now c.of_maps.new.scheduler)) is
+      acts = subst (λ event. IfOk c.of_maps.result (λ played. ContinuesAt g.K.PartialEq.eq g.S.Hashes.hash event played c.args.scheduler.now c.of_maps.new.scheduler)) is
           (in_turn_acts g.K.PartialEq.eq g.S.Hashes.hash (event_of_maps c.in-OfMaps.event) c.args.scheduler.now c.of_maps.new.scheduler c.of_maps.result c.if-scheduler.false c.of_maps.ensures.acts);
       given = c.of_maps.ensures.given;
     }
@@ -104,7 +104,7 @@ of_slots-requires g c = let r = c.requires in (r.0, r.1, r.2, r.2.stands.closed 
 pub returns-in-OfSlots : goal.returns-in-OfSlots
 returns-in-OfSlots g c =
     let is = sym (ap event_of c.in-OfSlots.is) ∙ c.kind_of.ensures in record {
-      rows = subst (λ event. IfOk c.of_slots.result (λ played. KeepsRunAt g.K.PartialEq.eq (g.S.Hashes.hash c.args.scheduler.now.logged.executor.hasher) event played c.args.scheduler.now c.of_slots.new.scheduler)) is
+      rows = subst (λ event. IfOk c.of_slots.result (λ played. PreservesRunAt g.K.PartialEq.eq (g.S.Hashes.hash c.args.scheduler.now.logged.executor.hasher) event played c.args.scheduler.now c.of_slots.new.scheduler)) is
           (kept_in_turn g.K.PartialEq.eq (g.S.Hashes.hash c.args.scheduler.now.logged.executor.hasher) (event_of_slots c.in-OfSlots.event) c.args.scheduler.now c.of_slots.new.scheduler c.of_slots.result c.of_slots.ensures.rows c.if-scheduler.false);
       happens = subst (λ event. IfOk c.of_slots.result (λ played. HappensAt g.K.PartialEq.eq (g.S.Hashes.hash c.args.scheduler.now.logged.executor.hasher) c.args.is_first event played c.args.scheduler.now c.of_slots.new.scheduler)) is
           (in_turn_if g.K.PartialEq.eq (g.S.Hashes.hash c.args.scheduler.now.logged.executor.hasher) (event_of_slots c.in-OfSlots.event) c.args.scheduler.now c.args.is_first c.of_slots.new.scheduler c.of_slots.result c.of_slots.ensures.happens c.if-scheduler.false);
@@ -112,13 +112,13 @@ returns-in-OfSlots g c =
           (holds_if g.K.PartialEq.eq (g.S.Hashes.hash c.args.scheduler.now.logged.executor.hasher) (event_of_slots c.in-OfSlots.event) c.args.is_first c.args.scheduler.now c.of_slots.new.scheduler (c.of_slots.ensures.given.0, c.of_slots.ensures.given.1, c.of_slots.ensures.given.2) c.of_slots.result (in_turn_if g.K.PartialEq.eq (g.S.Hashes.hash c.args.scheduler.now.logged.executor.hasher) (event_of_slots c.in-OfSlots.event) c.args.scheduler.now c.args.is_first c.of_slots.new.scheduler c.of_slots.result c.of_slots.ensures.happens c.if-scheduler.false) (counts_still (event_of_slots c.in-OfSlots.event) c.of_slots.result (length c.args.scheduler.now.logged.executor.maps.items) (length c.of_slots.new.scheduler.logged.executor.maps.items) (slots_make_none (event_of_slots c.in-OfSlots.event) (no_maps _ _ c.in-OfSlots.event)) c.of_slots.ensures.given.3));
       back = subst (λ event. IfOk c.of_slots.result (λ played. GivesAt g.K.PartialEq.eq (g.S.Hashes.hash c.args.scheduler.now.logged.executor.hasher) event played c.args.scheduler.now c.args.back.now.items c.of_slots.new.back.items)) is
           (gave_in_turn g.K.PartialEq.eq (g.S.Hashes.hash c.args.scheduler.now.logged.executor.hasher) (event_of_slots c.in-OfSlots.event) c.args.scheduler.now c.of_slots.result c.args.back.now.items c.of_slots.new.back.items c.of_slots.ensures.back c.if-scheduler.false);
-      keeps = subst (λ event. IfOk c.of_slots.result (λ played. KeepsAt g.K.PartialEq.eq (g.S.Hashes.hash c.args.scheduler.now.logged.executor.hasher) event played c.args.scheduler.now c.of_slots.new.scheduler)) is
+      keeps = subst (λ event. IfOk c.of_slots.result (λ played. PreservesAt g.K.PartialEq.eq (g.S.Hashes.hash c.args.scheduler.now.logged.executor.hasher) event played c.args.scheduler.now c.of_slots.new.scheduler)) is
           (other_keeps g.K.PartialEq.eq (g.S.Hashes.hash c.args.scheduler.now.logged.executor.hasher) (event_of_slots c.in-OfSlots.event) c.args.scheduler.now c.of_slots.new.scheduler (slots_no_call _ _ c.in-OfSlots.event) c.of_slots.result);
-      setups = subst (λ event. IfOk c.of_slots.result (λ played. KeepsSetup g.K.PartialEq.eq (g.S.Hashes.hash c.args.scheduler.now.logged.executor.hasher) event played c.args.scheduler.now c.of_slots.new.scheduler)) is
+      setups = subst (λ event. IfOk c.of_slots.result (λ played. PreservesSetup g.K.PartialEq.eq (g.S.Hashes.hash c.args.scheduler.now.logged.executor.hasher) event played c.args.scheduler.now c.of_slots.new.scheduler)) is
           (c.of_slots.ensures.setups);
-      all = subst (λ event. IfOk c.of_slots.result (λ played. KeepsAll g.K.PartialEq.eq (g.S.Hashes.hash c.args.scheduler.now.logged.executor.hasher) event played c.args.scheduler.now c.of_slots.new.scheduler)) is
+      all = subst (λ event. IfOk c.of_slots.result (λ played. PreservesAll g.K.PartialEq.eq (g.S.Hashes.hash c.args.scheduler.now.logged.executor.hasher) event played c.args.scheduler.now c.of_slots.new.scheduler)) is
           (none_keep g.K.PartialEq.eq (g.S.Hashes.hash c.args.scheduler.now.logged.executor.hasher) (event_of_slots c.in-OfSlots.event) c.args.scheduler.now c.of_slots.new.scheduler (slots_give_none (event_of_slots c.in-OfSlots.event) (no_maps _ _ c.in-OfSlots.event)) c.of_slots.result);
-      acts = subst (λ event. IfOk c.of_slots.result (λ played. GoesOnAt g.K.PartialEq.eq g.S.Hashes.hash event played c.args.scheduler.now c.of_slots.new.scheduler)) is
+      acts = subst (λ event. IfOk c.of_slots.result (λ played. ContinuesAt g.K.PartialEq.eq g.S.Hashes.hash event played c.args.scheduler.now c.of_slots.new.scheduler)) is
           (in_turn_acts g.K.PartialEq.eq g.S.Hashes.hash (event_of_slots c.in-OfSlots.event) c.args.scheduler.now c.of_slots.new.scheduler c.of_slots.result c.if-scheduler.false c.of_slots.ensures.acts);
       given = (c.of_slots.ensures.given.0, c.of_slots.ensures.given.1, c.of_slots.ensures.given.2);
     }

@@ -8,9 +8,9 @@ use Rattle.run_schedules.specs.Schedules.Lists.{is_among}
 use Rattle.run_schedules.specs.Schedules.Moment.{Moment}
 use Rattle.run_schedules.specs.Schedules.Terms.{Terms}
 use Rattle.run_kept.specs.Given.EffectsKnown.{known}
-use Rattle.run_legal.specs.AllEvents.{BehindAreLeft, BehindIsLeft, LeftIsBehind}
+use Rattle.run_legal.specs.AllEvents.{BehindRootsAreLeft, BehindRootsIsLeft, LeftIsBehindRoots}
 use Rattle.run_legal.proofs.BehindTold.{behind_is_told}
-use Rattle.run_kept.specs.Given.RemainsRemains.{ShowsRemains, left_roots, map_roots}
+use Rattle.run_kept.specs.Given.RemainsRemains.{RefinesRemains, left_roots, map_roots}
 use Rattle.run_kept.proofs.Given.RemainsInOrder.{all_noted}
 use Rattle.run_kept.proofs.Given.RemainsLists.{among_append}
 use Rattle.play_stepping.specs.Given.SchedulerDeclared.scheduler.Scheduler.{Scheduler}
@@ -22,7 +22,7 @@ module _ {K V S : Type 0} (same : K → K → Bool) (hash : K → ℕ) (terms : 
   abbrev m : Moment K V
   m = moment log
 
-  abbrev c : ShowsRemains p.logged.executor.roots m (known p.logged.notes) run.stands.scene
+  abbrev c : RefinesRemains p.logged.executor.roots m (known p.logged.notes) run.stands.scene
   c = run.stands.shown.counted.remains
 
   abbrev IsBelow : ℕ → ℕ → Type 0
@@ -36,7 +36,7 @@ module _ {K V S : Type 0} (same : K → K → Bool) (hash : K → ℕ) (terms : 
       by true b e = refl
       by false b e = e
 
-  pub behind_so : LeftIsBehind terms.roots m (known p.logged.notes) c.lists × BehindIsLeft terms.roots m (known p.logged.notes) c.lists × BehindAreLeft terms.roots m (known p.logged.notes) c.lists
+  pub behind_so : LeftIsBehindRoots terms.roots m (known p.logged.notes) c.lists × BehindRootsIsLeft terms.roots m (known p.logged.notes) c.lists × BehindRootsAreLeft terms.roots m (known p.logged.notes) c.lists
   behind_so =
       behind_is_told K V terms.roots m (known p.logged.notes) c.lists
       (all_noted (known p.logged.notes).roles c.lists m.remains c.ascending terms.roots

@@ -14,11 +14,11 @@ use Rattle.run_schedules.specs.Schedules.Terms.{Terms}
 use Rattle.run_kept.specs.Given.EffectsKnown.{known}
 use Rattle.run_kept.specs.Given.ReclaimsReclaims.{AllIsReclaimed}
 use Rattle.play_stepping.specs.Given.ReclaimingReclaiming.{IsReclaimingThere, ReclaimsThere}
-use Rattle.run_kept.specs.Given.ScenesReclaiming.{ReclaimingComesToThere, ReclaimingLeads}
+use Rattle.run_kept.specs.Given.ScenesReclaiming.{ReclaimingOutcomeHolds, ReclaimingLeads}
 use Rattle.run_kept.proofs.Sheds.Held.{reclaim_held}
-use Rattle.play_lists.specs.Given.LoggedEnds.{is_done}
-use Rattle.play_lists.specs.Given.LoggedGoes.{Far, GoesFor, ReclaimingGoes, ReclaimingOn}
-use Rattle.play_lists.proofs.Given.LoggedReclaimsRun.{same_setting}
+use Rattle.play_stepping.specs.Given.LoggedEnds.{is_done}
+use Rattle.play_stepping.specs.Given.LoggedGoes.{Far, GoesFor, ReclaimingGoes, ReclaimingOn}
+use Rattle.run_legal.proofs.Given.LogReclaimsRun.{same_setting}
 use Rattle.run_legal.specs.AllEvents.{AllCome, AllSteps, scene_in}
 use Rattle.run_legal.specs.Chains.{Chain, Come}
 use Rattle.play_events.proofs.Events.OfRows.Chain.{come_as, come_by}
@@ -69,7 +69,7 @@ module _ {K V S : Type 0} (same : K → K → Bool) (hash : K → ℕ) (terms : 
 
     abbrev Comes : Settled (Node K V) → Type 0
     Comes said =
-        ReclaimingComesToThere same s i lists (λ s2 lists2 all. IsReclaimingThere same hash to.0.logged.executor s2 i lists2 all) (IsThere same hash to.0.logged.executor)
+        ReclaimingOutcomeHolds same s i lists (λ s2 lists2 all. IsReclaimingThere same hash to.0.logged.executor s2 i lists2 all) (IsThere same hash to.0.logged.executor)
         (held_by from.0.logged.executor) (held_by to.0.logged.executor) then_scene leads.1.lists2 to.1 said
 
     -- after which it goes on,

@@ -9,16 +9,16 @@ use Rattle.run_schedules.specs.declared.outcome.Outcome.{Outcome}
 use Rattle.run_schedules.specs.declared.outcome.Outcome.TheVariants.{Asks, Ready}
 use Rattle.run_schedules.specs.Schedules.After.{moment, slots_on, after}
 use Rattle.run_schedules.specs.Schedules.Entry.{Entry}
-use Rattle.run_schedules.specs.Schedules.InTurn.{ComesRight}
-use Rattle.run_schedules.specs.Schedules.Moment.{UnderWay as CallThere, Stands, Moment}
+use Rattle.run_schedules.specs.Schedules.InTurn.{HasRightOutcome}
+use Rattle.run_schedules.specs.Schedules.Moment.{UnderWay as CallThere, CallState, Moment}
 use Rattle.run_schedules.specs.Schedules.Terms.{Terms}
 use Rattle.run_schedules.specs.Schedules.Views.{call_of}
 use Rattle.run_kept.specs.Given.EffectsKnown.{known}
 use Rattle.run_kept.specs.Given.FinishesMachines.{machine_of}
 use Rattle.run_schedules.specs.declared.event.Event.TheVariants.{Go, Step}
 use Rattle.run_legal.specs.CallEvents.{IsLegalBut}
-use Rattle.run_legal.specs.Carried.{ShowsRun}
-use Rattle.run_legal.specs.Over.{GoesOnBy, IsSaidSo}
+use Rattle.run_legal.specs.Carried.{RefinesRun}
+use Rattle.run_legal.specs.Over.{ContinuesBy, IsSaidSo}
 use Rattle.run_legal.proofs.Again.{again_events_end}
 use Rattle.play_stepping.specs.Given.NamedMachines.{IsAsFar}
 use Rattle.play_stepping.specs.Given.NamedSeen.{Seen, far_of, is_named, seen, seen_of}
@@ -87,7 +87,7 @@ module _ {K V S : Type 0} (same : K → K → Bool) (hash : K → ℕ) (terms : 
   IsSaidAt Ready how = how ≡ far.Ready
   IsSaidAt _ how = ⊥
 
-  said_at : (said : Outcome V) → IsSaidAt said here.caller.stands → (stand : Stands) → far_of stand ≡ here.caller.stands → IsSaidSo said stand
+  said_at : (said : Outcome V) → IsSaidAt said here.caller.stands → (stand : CallState) → far_of stand ≡ here.caller.stands → IsSaidSo said stand
   said_at (Asks question) is stand so = far_asks stand question (so ∙ is)
   said_at Ready is stand so = far_ready stand (so ∙ is)
   said_at _ is stand so = absurd is
@@ -98,8 +98,8 @@ module _ {K V S : Type 0} (same : K → K → Bool) (hash : K → ℕ) (terms : 
   all_say said is [] all = tt
   all_say said is (x ∷ calls) all = (λ its. said_at said is x.stands (all.0 its), all_say said is calls all.1)
 
-  module _ (event : Event K V) (on : GoesOnBy event own) (said : Outcome V) (is : IsSaidAt said here.caller.stands) (played : Played V) (new : Scheduler K V S)
-      (again : SaysAgain same hash said played old new) (right : ComesRight terms log (entry_of event played)) (plays : IsPlayed same hash terms (entry_of event played ∷ log) new) where
+  module _ (event : Event K V) (on : ContinuesBy event own) (said : Outcome V) (is : IsSaidAt said here.caller.stands) (played : Played V) (new : Scheduler K V S)
+      (again : SaysAgain same hash said played old new) (right : HasRightOutcome terms log (entry_of event played)) (plays : IsPlayed same hash terms (entry_of event played ∷ log) new) where
     entry_as : entry_of event played ≡ record { event = event; outcome = said; steps = 0; effects = [] }
     entry_as = entry_is event played said 0 [] again.0 again.1 again.2
 
@@ -109,14 +109,14 @@ module _ {K V S : Type 0} (same : K → K → Bool) (hash : K → ℕ) (terms : 
     name_is : runs.stands.name here.caller.number ≡ own
     name_is = here.way.2 ∙ here.named
 
-    legal : IsLegalBut same terms log e × ShowsRun same runs.stands.name terms (e ∷ log) (known old.logged.notes) runs.stands.scene
+    legal : IsLegalBut same terms log e × RefinesRun same runs.stands.name terms (e ∷ log) (known old.logged.notes) runs.stands.scene
     legal =
         again_events_end K V same (λ map. hash) runs.stands.name terms log (known old.logged.notes) runs.stands.scene (held_by old.logged.executor) runs.stands.shown.is_at.held runs.shows here.caller.map here.caller.number
-        here.way.0 here.way.1 here.call (ap (λ (x : List ℕ). call_of x (moment log)) name_is ∙ here.call_is) event (subst (GoesOnBy event) (sym name_is) on) said
+        here.way.0 here.way.1 here.call (ap (λ (x : List ℕ). call_of x (moment log)) name_is ∙ here.call_is) event (subst (ContinuesBy event) (sym name_is) on) said
         (said_at said is here.call.stands (ap (λ (z : Seen). z.far) here.as_seen)) (λ ready. machine_ready ready)
         (subst (λ (x : List ℕ). AllByRecursion (λ (d : CallThere K V). is_same d.caller x ≡ true → IsSaidSo said d.stands) (moment log).calls) (sym name_is)
         (all_say said is (moment log).calls (all_far own here.caller (moment log).calls old.calls runs.stands.calls.listed (runs.stands.calls.once own) here.found)))
-        (subst (ComesRight terms log) entry_as right)
+        (subst (HasRightOutcome terms log) entry_as right)
       where
         machine_ready : said ≡ Ready → (machine_asked (machine_of here.way.0)).1 ≡ true
         machine_ready ready =
@@ -124,7 +124,7 @@ module _ {K V S : Type 0} (same : K → K → Bool) (hash : K → ℕ) (terms : 
             (subst (λ (how : HowFar). IsAsFar here.caller.kind how (machine_of here.way.0)) (subst (λ (o : Outcome V). IsSaidAt o here.caller.stands) ready is) here.way.4.0)
 
     -- no call begins, and none is told a reply
-    says_again : (x : Event K V) → GoesOnBy x own → (o : Outcome V) → IsSaidAt o here.caller.stands → (v : Moment K V)
+    says_again : (x : Event K V) → ContinuesBy x own → (o : Outcome V) → IsSaidAt o here.caller.stands → (v : Moment K V)
         → SaidIn v.calls (after (record { event = x; outcome = o; steps = 0; effects = [] }) v).calls
     says_again (Step caller refuse) its o so v = event_says (record { event = Step caller refuse; outcome = o; steps = 0; effects = [] }) v tt
     says_again (Go caller refuse) its o so v = event_says (record { event = Go caller refuse; outcome = o; steps = 0; effects = [] }) v tt
@@ -140,4 +140,4 @@ module _ {K V S : Type 0} (same : K → K → Bool) (hash : K → ℕ) (terms : 
     again_on =
         subst (λ (x : Entry K V). RunsOn same hash terms log x new) (sym entry_as)
         (as_before same hash terms log old new runs (ap (λ (x : Scheduler K V S). x.logged) again.3) (ap (λ (x : Scheduler K V S). x.calls) again.3) e refl legal.0 legal.1 (says_again event on said is (moment log))
-        (subst (λ (x : Entry K V). IsPlayed same hash terms (x ∷ log) new) entry_as plays) (subst (ComesRight terms log) entry_as right) (no_slot said is))
+        (subst (λ (x : Entry K V). IsPlayed same hash terms (x ∷ log) new) entry_as plays) (subst (HasRightOutcome terms log) entry_as right) (no_slot said is))

@@ -17,10 +17,10 @@ use Rattle.run_kept.specs.Given.EffectsKnown.{known}
 use Rattle.run_kept.specs.Given.ScenesDeclared.row.SlotUse.{SlotUse}
 use Rattle.run_kept.specs.Given.ScenesDeclared.row.SlotUse.TheVariants as used
 use Rattle.run_kept.proofs.Models.Quiet.{insides_follow}
-use Rattle.run_legal.specs.Carried.{ComesAlone, FollowsOrRows}
-use Rattle.play_lists.proofs.Given.RowsFacts.{row_rests}
-use Rattle.play_lists.proofs.Given.RowsLists.{all_alike, one_of}
-use Rattle.play_lists.proofs.Given.RowsThere.{is_inside, on_its_slot}
+use Rattle.run_legal.specs.Carried.{IsSequential, FollowsOrRows}
+use Rattle.play_stepping.proofs.Given.RowsFacts.{row_rests}
+use Rattle.play_stepping.proofs.Given.RowsLists.{all_alike, one_of}
+use Rattle.run_legal.proofs.Given.RowsThere.{is_inside, on_its_slot}
 use Rattle.play_stepping.specs.Given.SchedulerPlayed.{IsPlayed, IsUnderWay}
 use Rattle.play_stepping.specs.Given.NamedSeen.{Seen, is_named, seen, seen_of}
 use Rattle.play_stepping.specs.Given.ExecutorDeclared.caller.NamedCaller.{NamedCaller}
@@ -66,7 +66,7 @@ module _ {K V S : Type 0} (same : K → K → Bool) (hash : K → ℕ) (terms : 
       by false is = absurd (goes (row_rests same hash p.logged.executor stands.scene stands.shown.is_at j
           (stands.rests j (λ n. none_is (stands.scene.calls n j) (λ u here. (let any = any_number n j calls (stands.calls.only n j u here) in cc (any, is)))))))
 
-  module _ (event : Event K V) (own : List ℕ) (speaks : speaker event ≡ Some own) (alone : ComesAlone event log) where
+  module _ (event : Event K V) (own : List ℕ) (speaks : speaker event ≡ Some own) (alone : IsSequential event log) where
     -- each caller has the name of whom the event speaks
     each_own : AllByRecursion (λ (d : NamedCaller V). is_named own d ≡ true) calls
     each_own =

@@ -11,7 +11,7 @@ use Rattle.run_kept.specs.Given.FinishesMachines.{machine_of}
 use Rattle.run_kept.specs.Given.FinishesMaps.{with_call}
 use Rattle.run_kept.proofs.Given.FinishesAmong.Sweeps.{sweeps_told_among}
 use Rattle.run_kept.proofs.Given.ScenesMay.{standing_is}
-use Rattle.play_stepping.specs.Given.ExecutorIsThere.{IsThere, KeepsGiven, held_by}
+use Rattle.play_stepping.specs.Given.ExecutorIsThere.{IsThere, PreservesSettings, held_by}
 use Rattle.play_stepping.specs.Given.ExecutorReplying.{AsksThere}
 use Rattle.run_kept.specs.Given.ScenesReplying.{AskLeads, scene_with}
 use Rattle.run_kept.specs.Given.ScenesScene.{Scene, slot_of}
@@ -30,7 +30,7 @@ same_call {K} {V} calls map i x y alike n j = by (n == map)
     by true = in_map (j == i)
     by false = refl
 
-module _ {K V S : Type 0} (same : K → K → Bool) (hash : K → ℕ) (i : ℕ) (s : Scene K V) (old new : Executor K V S) (at : IsThere same hash old s) (given : KeepsGiven old new)
+module _ {K V S : Type 0} (same : K → K → Bool) (hash : K → ℕ) (i : ℕ) (s : Scene K V) (old new : Executor K V S) (at : IsThere same hash old s) (given : PreservesSettings old new)
     (leads : AsksThere same hash i true s old new) where
   -- the sweep goes on to its next place, and all stand together
   pub next_at : (map : ℕ) (o : CallOverAll) → s.calls map i ≡ Some (OverAll o) → IsThere same hash new (scene_with map i (OverAll (gone_on o (after_next o.sweep))) s)

@@ -13,7 +13,7 @@ use Rattle.run_schedules.specs.declared.outcome.Outcome.TheVariants.{Goes}
 use Rattle.run_schedules.specs.Schedules.After.{moment}
 use Rattle.run_schedules.specs.Schedules.Beginning.{fresh_call, with_call}
 use Rattle.run_schedules.specs.Schedules.Entry.{Entry}
-use Rattle.run_schedules.specs.Schedules.InTurn.{ComesRight}
+use Rattle.run_schedules.specs.Schedules.InTurn.{HasRightOutcome}
 use Rattle.run_schedules.specs.Schedules.Moment.{UnderWay as CallThere, Moment}
 use Rattle.run_schedules.specs.Schedules.Terms.{Terms}
 use Rattle.run_schedules.specs.Schedules.Views.{call_of, number_of}
@@ -31,11 +31,11 @@ use Rattle.play_stepping.specs.Given.PurposesPurposes.{IsFor}
 use Rattle.run_legal.proofs.Come.{events_bring_things}
 use Rattle.run_legal.specs.Between.{IsBegunRight}
 use Rattle.run_legal.specs.CallEvents.{IsLegalBut}
-use Rattle.run_legal.specs.Carried.{ShowsRun}
+use Rattle.run_legal.specs.Carried.{RefinesRun}
 use Rattle.run_legal.proofs.Begun.{begun_events_end}
 use Rattle.run_legal.proofs.Over.{runs_by_other_names}
-use Rattle.play_lists.specs.Given.LoggedShown.{IsCounted, IsShown}
-use Rattle.play_lists.proofs.Given.RowsFacts.{row_rests}
+use Rattle.play_stepping.specs.Given.LoggedShown.{IsCounted, IsShown}
+use Rattle.play_stepping.proofs.Given.RowsFacts.{row_rests}
 use Rattle.play_stepping.specs.Given.SchedulerPlayed.{HasBegun, IsPlayed, IsUnderWay}
 use Rattle.play_stepping.specs.Given.NamedSeen.{Seen, is_named}
 use Rattle.play_stepping.specs.Given.ExecutorDeclared.caller.NamedCaller.{NamedCaller}
@@ -147,7 +147,7 @@ module _ {K V S : Type 0} (same : K → K → Bool) (hash : K → ℕ) (terms : 
       (beginning.not_it same hash terms m old runs.stands own guard on call led.free led.slot led.lives led.number led.setting led.found new.logged led.leads led.caller led.is led.numbered n j x here)
 
   -- the run goes on by those names
-  pub run_named : ShowsRun same names terms log (known old.logged.notes) runs.stands.scene
+  pub run_named : RefinesRun same names terms log (known old.logged.notes) runs.stands.scene
   run_named = runs_by_other_names K V same runs.stands.name names terms log (known old.logged.notes) runs.stands.scene name_there runs.shows
 
   pub free_named : NoneNamed names (names i) runs.stands.scene
@@ -227,18 +227,18 @@ module _ {K V S : Type 0} (same : K → K → Bool) (hash : K → ℕ) (terms : 
     shards_here n setting is = runs.shards n setting (sym (runs.stands.shown.is_at.maps n) ∙ shown_begun.is_at.maps n ∙ is)
 
     -- the event by which it just begins
-    module _ (right : ComesRight terms log (quiet (Begin own guard on call) Goes)) (plays : IsPlayed same hash terms (quiet (Begin own guard on call) Goes ∷ log) new) where
+    module _ (right : HasRightOutcome terms log (quiet (Begin own guard on call) Goes)) (plays : IsPlayed same hash terms (quiet (Begin own guard on call) Goes ∷ log) new) where
       abbrev e : List ℕ → Entry K V
       e x = quiet (Begin x guard on call) Goes
 
-      goes_on : IsLegalBut same terms log (e own) × ShowsRun same names terms (e own ∷ log) (known old.logged.notes) then_at
+      goes_on : IsLegalBut same terms log (e own) × RefinesRun same names terms (e own ∷ log) (known old.logged.notes) then_at
       goes_on =
-          subst (λ (x : List ℕ). IsLegalBut same terms log (e x) × ShowsRun same names terms (e x ∷ log) (known old.logged.notes) then_at) name_here
+          subst (λ (x : List ℕ). IsLegalBut same terms log (e x) × RefinesRun same names terms (e x ∷ log) (known old.logged.notes) then_at) name_here
           (begun_events_end K V same (λ map. hash) names terms log (known old.logged.notes) runs.stands.scene (held_by old.logged.executor) (held_by new.logged.executor) runs.stands.shown.is_at.held run_named led.number i st its.2 u call
-          guard begins_here right_here free_named row_here shown_begun.is_at.held on its.0 0 (subst (λ (x : List ℕ). ComesRight terms log (e x)) (sym name_here) right))
+          guard begins_here right_here free_named row_here shown_begun.is_at.held on its.0 0 (subst (λ (x : List ℕ). HasRightOutcome terms log (e x)) (sym name_here) right))
 
-      run_then : ShowsRun same names terms (e own ∷ log) (known new.logged.notes) then_at
-      run_then = subst (λ (k : Known). ShowsRun same names terms (e own ∷ log) k then_at) (sym notes_here) goes_on.1
+      run_then : RefinesRun same names terms (e own ∷ log) (known new.logged.notes) then_at
+      run_then = subst (λ (k : Known). RefinesRun same names terms (e own ∷ log) k then_at) (sym notes_here) goes_on.1
 
       counted_here : IsCounted (moment (e own ∷ log)) new.logged then_at
       counted_here =

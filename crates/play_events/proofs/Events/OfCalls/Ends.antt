@@ -16,7 +16,7 @@ use Rattle.run_schedules.specs.Schedules.After.{moment, moments_from, slots_on}
 use Rattle.run_schedules.specs.Schedules.Beginning.{at_work}
 use Rattle.run_schedules.specs.Schedules.Entry.{Entry, acted_on}
 use Rattle.run_schedules.specs.Schedules.Handing.{is_made, refuses}
-use Rattle.run_schedules.specs.Schedules.InTurn.{ComesRight}
+use Rattle.run_schedules.specs.Schedules.InTurn.{HasRightOutcome}
 use Rattle.run_schedules.specs.Schedules.Model.{sets_in, things_in}
 use Rattle.run_schedules.specs.Schedules.Moment.{UnderWay as CallThere, Moment}
 use Rattle.run_schedules.specs.Schedules.Sweeps.{IsSwept}
@@ -25,7 +25,7 @@ use Rattle.run_schedules.specs.Schedules.Views.{call_of}
 use Rattle.run_kept.specs.Given.EffectsKnown.{Known, known}
 use Rattle.run_kept.specs.Given.EffectsDeclared.acting.Acting.TheVariants as acts
 use Rattle.run_kept.specs.Given.FinishesMaps.{Standing}
-use Rattle.run_kept.specs.Given.HistoriesInEvent.{ComesSo}
+use Rattle.run_kept.specs.Given.HistoriesInEvent.{HasOutcomeSo}
 use Rattle.run_kept.specs.Given.FinishesMachines.{machine_of}
 use Rattle.run_kept.specs.Models.CallEvents.{slot_of_call}
 use Rattle.play_lists.specs.Given.FindsDoing.{takes_steps}
@@ -33,21 +33,21 @@ use Rattle.play_lists.specs.Given.FindsParts.{FindAll}
 use Rattle.run_legal.specs.Noted.{HaveCome}
 use Rattle.run_legal.proofs.Come.{events_bring_things}
 use Rattle.run_legal.specs.CallEvents.{IsLegalBut}
-use Rattle.run_legal.specs.CallRuns.{ShowsAsTold, TellsEnd}
-use Rattle.run_legal.specs.CallSwept.{TellsOf}
-use Rattle.run_legal.specs.Carried.{ComesAlone, ShowsRun}
+use Rattle.run_legal.specs.CallRuns.{OutcomeNamesShown, OutcomeEndsAsStep}
+use Rattle.run_legal.specs.CallSwept.{OutcomeOf}
+use Rattle.run_legal.specs.Carried.{IsSequential, RefinesRun}
 use Rattle.run_legal.proofs.CallRuns.{call_events_run}
 use Rattle.run_legal.proofs.CallSwept.{calls_are_swept}
-use Rattle.run_kept.specs.Given.RemainsRemains.{ShowsRemains}
+use Rattle.run_kept.specs.Given.RemainsRemains.{RefinesRemains}
 use Rattle.run_kept.proofs.Given.RemainsSlots.{buckets_grow}
-use Rattle.play_lists.specs.Given.LoggedShown.{IsShown}
+use Rattle.play_stepping.specs.Given.LoggedShown.{IsShown}
 use Rattle.play_stepping.specs.Given.SchedulerPlayed.{IsPlayed, entry_of}
 use Rattle.play_stepping.specs.Given.NamedSeen.{kind_of}
 use Rattle.play_stepping.specs.Given.ExecutorDeclared.caller.NamedCaller.{NamedCaller}
 use Rattle.play_stepping.specs.Given.ExecutorDeclared.kind.CallKind.{CallKind}
 use Rattle.play_stepping.specs.Given.SchedulerDeclared.played.Played.{Played}
 use Rattle.play_stepping.specs.Given.SchedulerDeclared.scheduler.Scheduler.{Scheduler}
-use Rattle.play_stepping.specs.EventSteps.Stepping.{ComesAs, IsStepped}
+use Rattle.play_stepping.specs.EventSteps.Stepping.{HasOutcomeOfKind, IsStepped}
 use Rattle.play_stepping.specs.Given.Says.{outcome_of}
 use Rattle.play_events.specs.Folded.Folded.{HandInOrder}
 use Rattle.play_events.proofs.Folded.Steps.{event_in_order}
@@ -65,7 +65,7 @@ use Rattle.run_kept.specs.Given.ScenesScene.{Scene, slot_of}
 use Rattle.play_stepping.specs.Given.ExecutorIsThere.{held_by}
 
 module _ {K V S : Type 0} (same : K → K → Bool) (hash : K → ℕ) (name : ℕ → List ℕ) (terms : Terms) (log : List (Entry K V)) (event : Event K V) (beginning : Moment K V)
-    (map i : ℕ) (c : CallThere K V) (place : ℕ) (c_is : call_of (name i) beginning ≡ Some c) (first : Known) (before : Scene K V) (run : ShowsRun same name terms log first before) (had : HaveCome (things_in log) (moment log))
+    (map i : ℕ) (c : CallThere K V) (place : ℕ) (c_is : call_of (name i) beginning ≡ Some c) (first : Known) (before : Scene K V) (run : RefinesRun same name terms log first before) (had : HaveCome (things_in log) (moment log))
     (played : Played V) (n : ℕ) (mid : List Effect) (p new : Scheduler K V S) (come : HasCome same hash name terms log event beginning map i c place n mid p)
     (step : IsStepped same hash place played.outcome mid played.effects.items p new) where
   abbrev e : Entry K V
@@ -98,7 +98,7 @@ module _ {K V S : Type 0} (same : K → K → Bool) (hash : K → ℕ) (name : �
 
   -- what is told is as its last step says
   abbrev pub Tells : Type 0
-  Tells = ComesSo by c.call c.replies step.said played.outcome × TellsOf same log come.now map by step.said played.outcome c.call × ShowsAsTold {K = K} by step.said played.outcome
+  Tells = HasOutcomeSo by c.call c.replies step.said played.outcome × OutcomeOf same log come.now map by step.said played.outcome c.call × OutcomeNamesShown {K = K} by step.said played.outcome
 
   abbrev now_there : (d : CallThere K V) × (call_of (name i) come.now ≡ Some d) × (d.call ≡ c.call) × (d.replies ≡ c.replies)
   now_there = there_now same hash name terms log event beginning map i c place n mid played.effects.items p new come its
@@ -109,22 +109,22 @@ module _ {K V S : Type 0} (same : K → K → Bool) (hash : K → ℕ) (name : �
       (sym (caller_is same hash name terms log event beginning map i c place n mid played.effects.items p new come its)) come.worth
 
   -- so it is where it comes to what a call does that goes on by itself
-  pub tells_so : ComesAs c.call played.outcome → Tells
+  pub tells_so : HasOutcomeOfKind c.call played.outcome → Tells
   tells_so comes_as =
       let told = last_steps_tell K V same (λ map. hash) name terms log event beginning map i c n mid come.now (known p.logged.notes) come.scene come.under come.midst (held_by p.logged.executor) (held_by new.logged.executor)
       come.shown.is_at.held step.said (leads same hash name terms log event beginning map i c place n mid played.effects.items p new come its) now_there.0 now_there.1 now_there.2 now_there.3 value
-      (subst (ComesAs c.call) outcome_so comes_as) keeps in (
-        as_said (λ (o : Outcome V). ComesSo by c.call c.replies step.said o) told.0,
-        as_said (λ (o : Outcome V). TellsOf same log come.now map by step.said o c.call) told.1,
-        as_said (ShowsAsTold {K = K} by step.said) (shows_as_told by (kind_of c.call) value c.call step.said (subst (ComesAs c.call) outcome_so comes_as)),
+      (subst (HasOutcomeOfKind c.call) outcome_so comes_as) keeps in (
+        as_said (λ (o : Outcome V). HasOutcomeSo by c.call c.replies step.said o) told.0,
+        as_said (λ (o : Outcome V). OutcomeOf same log come.now map by step.said o c.call) told.1,
+        as_said (OutcomeNamesShown {K = K} by step.said) (shows_as_told by (kind_of c.call) value c.call step.said (subst (HasOutcomeOfKind c.call) outcome_so comes_as)),
       )
 
   module _ (tells : Tells) (begins : at_work e (moment log) ≡ beginning) (acted : acted_on event beginning ≡ Some map) (takes : (takes_steps event ≡ true) ⊎ (played.effects.items ≡ [])) (steps_are : played.steps ≡ n + 1) (silent : TellsNone event played.outcome)
-      (never : played.outcome ≡ Refused Busy → ⊥) (right : ComesRight terms log e) (refused : (not (refuses event) || not (list_any is_made played.effects.items)) ≡ true)
+      (never : played.outcome ≡ Refused Busy → ⊥) (right : HasRightOutcome terms log e) (refused : (not (refuses event) || not (list_any is_made played.effects.items)) ≡ true)
       (finds : FindAll terms (moments_from c.begun log) (name i) map played.effects.items beginning) (slot : slot_of_call event (at_work e (moment log)) ≡ slot_of i)
-      (active : ComesAlone event log → 1 ≤ count (slot_of i) (sets_in terms.batch_size log).active) (plays : IsPlayed same hash terms (e ∷ log) new) where
-    ends : TellsEnd step.said played.outcome
-    ends = as_said (TellsEnd step.said) (tells_end by (kind_of c.call) value step.said (λ is. never (outcome_so ∙ is)))
+      (active : IsSequential event log → 1 ≤ count (slot_of i) (sets_in terms.batch_size log).active) (plays : IsPlayed same hash terms (e ∷ log) new) where
+    ends : OutcomeEndsAsStep step.said played.outcome
+    ends = as_said (OutcomeEndsAsStep step.said) (tells_end by (kind_of c.call) value step.said (λ is. never (outcome_so ∙ is)))
 
     swept : IsSwept same terms log e
     swept =
@@ -137,7 +137,7 @@ module _ {K V S : Type 0} (same : K → K → Bool) (hash : K → ℕ) (name : �
         one_more : (standing : Standing K) → standing.setting.mask + 1 ≡ shards_of terms → suc standing.setting.mask ≡ shards_of terms
         one_more standing is = omega (arith, is)
 
-    goes_on : IsLegalBut same terms log e × ShowsRun same name terms (e ∷ log) by at_end
+    goes_on : IsLegalBut same terms log e × RefinesRun same name terms (e ∷ log) by at_end
     goes_on =
         call_events_run K V same (λ map. hash) name terms log beginning map i c c_is first before run n mid come.now (known p.logged.notes) come.scene come.under e come.midst (held_by p.logged.executor) (held_by new.logged.executor)
         come.shown.is_at.held come.size step.said (leads same hash name terms log event beginning map i c place n mid played.effects.items p new come its) begins acted
@@ -146,10 +146,10 @@ module _ {K V S : Type 0} (same : K → K → Bool) (hash : K → ℕ) (name : �
         (noted_so same hash name terms log event beginning map i c place n mid played.effects.items p new come its) slot active
 
     -- the moment after it shows the executor in that scene
-    after_run : ShowsRun same name terms (e ∷ log) (known new.logged.notes) at_end
-    after_run = subst (λ (k : Known). ShowsRun same name terms (e ∷ log) k at_end) (sym noted) goes_on.1
+    after_run : RefinesRun same name terms (e ∷ log) (known new.logged.notes) at_end
+    after_run = subst (λ (k : Known). RefinesRun same name terms (e ∷ log) k at_end) (sym noted) goes_on.1
 
-    abbrev its_left : ShowsRemains new.logged.executor.roots (then_now same hash name terms log event beginning map i c place n mid played.effects.items p new come its) (known new.logged.notes) at_end
+    abbrev its_left : RefinesRemains new.logged.executor.roots (then_now same hash name terms log event beginning map i c place n mid played.effects.items p new come its) (known new.logged.notes) at_end
     its_left = (shown_then same hash name terms log event beginning map i c place n mid played.effects.items p new come its).counted.remains
 
     -- no call takes a slot

@@ -13,12 +13,12 @@ use Rattle.run_schedules.specs.Schedules.After.{moment}
 use Rattle.run_schedules.specs.Schedules.Beginning.{with_call}
 use Rattle.run_schedules.specs.Schedules.Entry.{Entry, nameless}
 use Rattle.run_schedules.specs.Schedules.Handing.{is_made}
-use Rattle.run_schedules.specs.Schedules.InTurn.{ComesRight, ComesTo}
+use Rattle.run_schedules.specs.Schedules.InTurn.{HasRightOutcome, HasOutcome}
 use Rattle.run_schedules.specs.Schedules.Terms.{Terms}
 use Rattle.run_schedules.specs.Schedules.Views.{number_of}
-use Rattle.run_legal.specs.Over.{GoesOnBy}
-use Rattle.play_lists.specs.Given.LoggedCalling.{MakesNoMore}
-use Rattle.play_stepping.specs.Given.SchedulerPlayed.{Began, BeginsSo, HasBegun, IsPlayed, StandsFor, entry_of}
+use Rattle.run_legal.specs.Over.{ContinuesBy}
+use Rattle.play_stepping.specs.Given.LoggedCalling.{MakesNoMore}
+use Rattle.play_stepping.specs.Given.SchedulerPlayed.{Began, BeginsSo, HasBegun, IsPlayed, RefinesFor, entry_of}
 use Rattle.play_stepping.specs.Given.NamedSeen.{is_named, ready_place}
 use Rattle.play_stepping.specs.Given.ExecutorDeclared.caller.Stands.{Stands as HowFar}
 use Rattle.play_stepping.specs.Given.ExecutorDeclared.caller.Stands.TheVariants as far
@@ -59,40 +59,40 @@ module _ {K V S : Type 0} (same : K → K → Bool) (hash : K → ℕ) (old new 
 
     module _ (told : played.outcome ≡ Refused Busy) (steps : played.steps ≡ 0) (did : played.effects.items ≡ []) (logged_is : new.logged ≡ old.logged) (calls_are : new.calls ≡ old.calls) where
       -- as an event that did nothing is
-      by_quiet : (event : Event K V) → (ComesRight terms log (quiet event (Refused Busy)) → IsPlayed same hash terms (quiet event (Refused Busy) ∷ log) new → RunsOn same hash terms log (quiet event (Refused Busy)) new)
-          → ComesRight terms log (entry_of event played) → IsPlayed same hash terms (entry_of event played ∷ log) new → As event
+      by_quiet : (event : Event K V) → (HasRightOutcome terms log (quiet event (Refused Busy)) → IsPlayed same hash terms (quiet event (Refused Busy) ∷ log) new → RunsOn same hash terms log (quiet event (Refused Busy)) new)
+          → HasRightOutcome terms log (entry_of event played) → IsPlayed same hash terms (entry_of event played ∷ log) new → As event
       by_quiet event so right plays =
           let is = entry_so event told steps did in
           subst (λ (e : Entry K V). RunsOn same hash terms log e new) (sym is)
-          (so (subst (λ (e : Entry K V). ComesRight terms log e) is right) (subst (λ (e : Entry K V). IsPlayed same hash terms (e ∷ log) new) is plays))
+          (so (subst (λ (e : Entry K V). HasRightOutcome terms log e) is right) (subst (λ (e : Entry K V). IsPlayed same hash terms (e ∷ log) new) is plays))
 
-      pub step_out : (own : List ℕ) (refuse : Bool) → ComesRight terms log (entry_of (Step own refuse) played) → IsPlayed same hash terms (entry_of (Step own refuse) played ∷ log) new → As (Step own refuse)
+      pub step_out : (own : List ℕ) (refuse : Bool) → HasRightOutcome terms log (entry_of (Step own refuse) played) → IsPlayed same hash terms (entry_of (Step own refuse) played ∷ log) new → As (Step own refuse)
       step_out own refuse = by_quiet (Step own refuse) (quiet_on same hash terms log old new runs logged_is calls_are (Step own refuse) (reads_of same hash terms log old new runs logged_is calls_are (Step own refuse) own refl) tt refl tt refl tt (refl, refl))
 
-      pub go_out : (own : List ℕ) (refuse : Bool) → ComesRight terms log (entry_of (Go own refuse) played) → IsPlayed same hash terms (entry_of (Go own refuse) played ∷ log) new → As (Go own refuse)
+      pub go_out : (own : List ℕ) (refuse : Bool) → HasRightOutcome terms log (entry_of (Go own refuse) played) → IsPlayed same hash terms (entry_of (Go own refuse) played ∷ log) new → As (Go own refuse)
       go_out own refuse = by_quiet (Go own refuse) (quiet_on same hash terms log old new runs logged_is calls_are (Go own refuse) (reads_of same hash terms log old new runs logged_is calls_are (Go own refuse) own refl) tt refl tt refl tt (refl, refl))
 
-      pub next_out : (own : List ℕ) → ComesRight terms log (entry_of (Next own) played) → IsPlayed same hash terms (entry_of (Next own) played ∷ log) new → As (Next own)
+      pub next_out : (own : List ℕ) → HasRightOutcome terms log (entry_of (Next own) played) → IsPlayed same hash terms (entry_of (Next own) played ∷ log) new → As (Next own)
       next_out own = by_quiet (Next own) (quiet_on same hash terms log old new runs logged_is calls_are (Next own) (reads_of same hash terms log old new runs logged_is calls_are (Next own) own refl) tt refl tt refl tt (refl, refl))
 
-      pub whole_out : (guard on : List ℕ) (call : Call K V) → ComesRight terms log (entry_of (OneCall guard on call) played) → IsPlayed same hash terms (entry_of (OneCall guard on call) played ∷ log) new
+      pub whole_out : (guard on : List ℕ) (call : Call K V) → HasRightOutcome terms log (entry_of (OneCall guard on call) played) → IsPlayed same hash terms (entry_of (OneCall guard on call) played ∷ log) new
           → As (OneCall guard on call)
       whole_out guard on call = by_quiet (OneCall guard on call) (quiet_on same hash terms log old new runs logged_is calls_are (OneCall guard on call) (reads_of same hash terms log old new runs logged_is calls_are (OneCall guard on call) nameless refl) tt refl tt refl tt (refl, refl))
 
       -- those of no call that goes on
-      pub begin_out : (own guard on : List ℕ) (call : Call K V) → ComesRight terms log (entry_of (Begin own guard on call) played) → IsPlayed same hash terms (entry_of (Begin own guard on call) played ∷ log) new
+      pub begin_out : (own guard on : List ℕ) (call : Call K V) → HasRightOutcome terms log (entry_of (Begin own guard on call) played) → IsPlayed same hash terms (entry_of (Begin own guard on call) played ∷ log) new
           → As (Begin own guard on call)
       begin_out own guard on call = by_quiet (Begin own guard on call) (quiet_on same hash terms log old new runs logged_is calls_are (Begin own guard on call) tt tt refl tt refl tt tt)
 
-      pub reply_out : (own : List ℕ) (reply : Reply V) → ComesRight terms log (entry_of (Replied own reply) played) → IsPlayed same hash terms (entry_of (Replied own reply) played ∷ log) new → As (Replied own reply)
+      pub reply_out : (own : List ℕ) (reply : Reply V) → HasRightOutcome terms log (entry_of (Replied own reply) played) → IsPlayed same hash terms (entry_of (Replied own reply) played ∷ log) new → As (Replied own reply)
       reply_out own reply = by_quiet (Replied own reply) (quiet_on same hash terms log old new runs logged_is calls_are (Replied own reply) tt tt refl tt refl tt tt)
 
-      pub stop_out : (own : List ℕ) → ComesRight terms log (entry_of (Stop own) played) → IsPlayed same hash terms (entry_of (Stop own) played ∷ log) new → As (Stop own)
+      pub stop_out : (own : List ℕ) → HasRightOutcome terms log (entry_of (Stop own) played) → IsPlayed same hash terms (entry_of (Stop own) played ∷ log) new → As (Stop own)
       stop_out own = by_quiet (Stop own) (quiet_on same hash terms log old new runs logged_is calls_are (Stop own) tt tt refl tt refl tt tt)
 
   module _ (terms : Terms) (log : List (Entry K V)) (runs : Runs same hash terms log old) where
-    module _ (event : Event K V) (own : List ℕ) (place : ℕ) (placed : Some place ≡ position (is_named own) old.calls) (left : ComesRight terms log (entry_of event played))
-        (plays : IsPlayed same hash terms (entry_of event played ∷ log) new) (most : ℕ) (on : GoesOnBy event own) where
+    module _ (event : Event K V) (own : List ℕ) (place : ℕ) (placed : Some place ≡ position (is_named own) old.calls) (left : HasRightOutcome terms log (entry_of event played))
+        (plays : IsPlayed same hash terms (entry_of event played ∷ log) new) (most : ℕ) (on : ContinuesBy event own) where
       abbrev its_here : Here same hash terms (moment log) old runs.stands own place
       its_here = here_at same hash terms (moment log) old runs.stands own place placed
 
@@ -102,7 +102,7 @@ module _ {K V S : Type 0} (same : K → K → Bool) (hash : K → ℕ) (old new 
       by_far so far.Ready is says = again_on same hash terms log old runs own place placed event on Ready is played new says left plays
       by_far so far.Goes is come = so is come
 
-    pub step_on : (own : List ℕ) (refuse : Bool) → TookSteps same hash 1 own played old new → MakesNoMore refuse [] played.effects.items → ComesRight terms log (entry_of (Step own refuse) played)
+    pub step_on : (own : List ℕ) (refuse : Bool) → TookSteps same hash 1 own played old new → MakesNoMore refuse [] played.effects.items → HasRightOutcome terms log (entry_of (Step own refuse) played)
         → IsPlayed same hash terms (entry_of (Step own refuse) played ∷ log) new → RunsOn same hash terms log (entry_of (Step own refuse) played) new
     step_on own refuse took refused left plays = by (position (is_named own) old.calls) refl
       where
@@ -117,7 +117,7 @@ module _ {K V S : Type 0} (same : K → K → Bool) (hash : K → ℕ) (old new 
             (λ goes come. taken_on same hash terms log old runs (Step own refuse) own refl refl place placed (λ x. refl) refl played refl goes 1 new come left (none_made refuse refused) plays)
             it.caller.stands refl (took.0 place placed it.caller it.at)
 
-    pub go_on : (own : List ℕ) (refuse : Bool) → TookSteps same hash most_steps own played old new → MakesNoMore refuse [] played.effects.items → ComesRight terms log (entry_of (Go own refuse) played)
+    pub go_on : (own : List ℕ) (refuse : Bool) → TookSteps same hash most_steps own played old new → MakesNoMore refuse [] played.effects.items → HasRightOutcome terms log (entry_of (Go own refuse) played)
         → IsPlayed same hash terms (entry_of (Go own refuse) played ∷ log) new → RunsOn same hash terms log (entry_of (Go own refuse) played) new
     go_on own refuse took refused left plays = by (position (is_named own) old.calls) refl
       where
@@ -132,7 +132,7 @@ module _ {K V S : Type 0} (same : K → K → Bool) (hash : K → ℕ) (old new 
             (λ goes come. taken_on same hash terms log old runs (Go own refuse) own refl refl place placed (λ x. refl) refl played refl goes most_steps new come left (none_made refuse refused) plays)
             it.caller.stands refl (took.0 place placed it.caller it.at)
 
-    pub whole_goes_on : (guard on : List ℕ) (call : Call K V) → TookWhole same hash guard on call played old new → ComesRight terms log (entry_of (OneCall guard on call) played)
+    pub whole_goes_on : (guard on : List ℕ) (call : Call K V) → TookWhole same hash guard on call played old new → HasRightOutcome terms log (entry_of (OneCall guard on call) played)
         → IsPlayed same hash terms (entry_of (OneCall guard on call) played ∷ log) new → RunsOn same hash terms log (entry_of (OneCall guard on call) played) new
     whole_goes_on guard on call took left plays = by took_it.0 refl
       where
@@ -164,12 +164,12 @@ module _ {K V S : Type 0} (same : K → K → Bool) (hash : K → ℕ) (old new 
             first : GoesAt nameless 0 mid
             first = goes_first same hash terms (moment log) nameless guard call (number_of on (moment log)) (map_there (moment log) guard on begins.so) mid (begins.stands refl)
 
-            stands_mid : StandsFor same hash terms (with_call nameless guard call (Some led.number) (moment log)) mid
-            stands_mid = subst (λ (o : Option ℕ). StandsFor same hash terms (with_call nameless guard call o (moment log)) mid) (its same hash terms log old runs nameless guard on call mid led).0
+            stands_mid : RefinesFor same hash terms (with_call nameless guard call (Some led.number) (moment log)) mid
+            stands_mid = subst (λ (o : Option ℕ). RefinesFor same hash terms (with_call nameless guard call o (moment log)) mid) (its same hash terms log old runs nameless guard on call mid led).0
                 (begins.stands refl)
 
     -- one that asks a walk for its next pair
-    pub ask_on : (own : List ℕ) → TookNext same hash own played old new → ComesRight terms log (entry_of (Next own) played) → ComesTo terms log (moment log) (entry_of (Next own) played) (Next own) played.outcome
+    pub ask_on : (own : List ℕ) → TookNext same hash own played old new → HasRightOutcome terms log (entry_of (Next own) played) → HasOutcome terms log (moment log) (entry_of (Next own) played) (Next own) played.outcome
         → played.effects.items ≡ [] → IsPlayed same hash terms (entry_of (Next own) played ∷ log) new → RunsOn same hash terms log (entry_of (Next own) played) new
     ask_on own took right comes idle plays = by (ready_place own old.calls) refl
       where
@@ -182,7 +182,7 @@ module _ {K V S : Type 0} (same : K → K → Bool) (hash : K → ℕ) (old new 
   -- and one by which a call just begins
   module _ (terms : Terms) (log : List (Entry K V)) (runs : Runs same hash terms log old) (own guard on : List ℕ) (call : Call K V) (steps : played.steps ≡ 0)
       (began : Began same hash own guard on call played old new) (on_size : new.logged.executor.batch_size ≡ old.logged.executor.batch_size)
-      (right : ComesRight terms log (entry_of (Begin own guard on call) played)) (plays : IsPlayed same hash terms (entry_of (Begin own guard on call) played ∷ log) new) where
+      (right : HasRightOutcome terms log (entry_of (Begin own guard on call) played)) (plays : IsPlayed same hash terms (entry_of (Begin own guard on call) played ∷ log) new) where
     begun_or : (begun : Bool) × BeginsSo same hash terms (moment log) own guard on call begun old new × (played.effects.items ≡ []) × (played.outcome ≡ (if begun then Goes else Refused Busy))
     begun_or = began terms (moment log) runs.stands
 
@@ -204,5 +204,5 @@ module _ {K V S : Type 0} (same : K → K → Bool) (hash : K → ℕ) (old new 
             let it = begun_as true is in
             let entry_as = entry_is (Begin own guard on call) played Goes 0 [] it.1 steps begun_or.2 in
             subst (λ (e : Entry K V). RunsOn same hash terms log e new) (sym entry_as)
-            (begun_on same hash terms log old runs own guard on call new (it.0.led refl) on_size (subst (λ (e : Entry K V). ComesRight terms log e) entry_as right)
+            (begun_on same hash terms log old runs own guard on call new (it.0.led refl) on_size (subst (λ (e : Entry K V). HasRightOutcome terms log e) entry_as right)
             (subst (λ (e : Entry K V). IsPlayed same hash terms (e ∷ log) new) entry_as plays))

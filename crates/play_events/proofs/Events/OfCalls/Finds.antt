@@ -15,14 +15,14 @@ use Rattle.run_schedules.specs.Schedules.Entry.{Entry, acting, caller_of, namele
 use Rattle.run_schedules.specs.Schedules.Moment.{UnderWay as CallThere}
 use Rattle.run_schedules.specs.Schedules.Terms.{Terms}
 use Rattle.run_schedules.specs.Schedules.Views.{number_of}
-use Rattle.play_stepping.specs.Given.SchedulerPlayed.{BeginsSo, HasBegun, StandsFor, entry_of}
+use Rattle.play_stepping.specs.Given.SchedulerPlayed.{BeginsSo, HasBegun, RefinesFor, entry_of}
 use Rattle.play_stepping.specs.Given.NamedSeen.{is_named}
 use Rattle.play_stepping.specs.Given.ExecutorDeclared.caller.Stands.{Stands as HowFar}
 use Rattle.play_stepping.specs.Given.ExecutorDeclared.caller.Stands.TheVariants as far
 use Rattle.play_stepping.specs.Given.SchedulerDeclared.played.Played.{Played}
 use Rattle.play_stepping.specs.Given.SchedulerDeclared.scheduler.Scheduler.{Scheduler}
 use Rattle.play_stepping.proofs.Given.SchedulerHere.{here_at}
-use Rattle.play_stepping.specs.EventSteps.Stepping.{ComesInCase, GoesAt, IsInCase, SaysAgain, StepsCome, TakenAs, TakenBy, TookSteps, TookWhole}
+use Rattle.play_stepping.specs.EventSteps.Stepping.{OutcomeIsInCase, GoesAt, IsInCase, SaysAgain, StepsCome, TakenAs, TakenBy, TookSteps, TookWhole}
 use Rattle.play_stepping.proofs.EventSteps.PlaysWhole.{goes_first, map_there}
 use Rattle.play_events.specs.Events.OfCalls.{Runs}
 use Rattle.play_events.proofs.Events.OfCalls.Begun.{its}
@@ -31,7 +31,7 @@ use Rattle.play_events.proofs.Events.OfCalls.Taken.{taken_in_case}
 use Rattle.play_events.proofs.Events.OfCalls.Whole.{whole_in_case}
 
 -- one that is refused for something else, or not at all
-pub quiet_in_case : {K V : Type 0} (terms : Terms) (log : List (Entry K V)) (e : Entry K V) → (e.outcome ≡ Refused Capacity → ⊥) → ComesInCase terms log e
+pub quiet_in_case : {K V : Type 0} (terms : Terms) (log : List (Entry K V)) (e : Entry K V) → (e.outcome ≡ Refused Capacity → ⊥) → OutcomeIsInCase terms log e
 quiet_in_case {K} {V} terms log e never =
     if_call (λ (c : CallThere K V). IsInCase terms c (moments_from c.begun log) (worked e (moment log)) e.outcome) (acting (caller_of e.event) (worked e (moment log)))
     (λ c is. in_case_where terms c (moments_from c.begun log) (worked e (moment log)) e.outcome (λ refused. absurd (never refused)))
@@ -47,7 +47,7 @@ not_ready o told is = (let other = sym told ∙ is in cc other)
 
 module _ {K V S : Type 0} (same : K → K → Bool) (hash : K → ℕ) (old new : Scheduler K V S) (played : Played V) (terms : Terms) (log : List (Entry K V)) (runs : Runs same hash terms log old) where
   abbrev InCase : Event K V → Type 0
-  InCase event = ComesInCase terms log (entry_of event played)
+  InCase event = OutcomeIsInCase terms log (entry_of event played)
 
   -- by how far the call is
   by_far : (event : Event K V) (mid : Scheduler K V S) (place most : ℕ) → (StepsCome same hash place most played.steps played.outcome [] played.effects.items mid new → InCase event) → (how : HowFar)
@@ -59,7 +59,7 @@ module _ {K V S : Type 0} (same : K → K → Bool) (hash : K → ℕ) (old new 
   pub step_finds : (own : List ℕ) (refuse : Bool) → TookSteps same hash 1 own played old new → InCase (Step own refuse)
   step_finds own refuse took = by (position (is_named own) old.calls) refl
     where
-      by : (o : Option ℕ) → position (is_named own) old.calls ≡ o → ComesInCase terms log (entry_of (Step own refuse) played)
+      by : (o : Option ℕ) → position (is_named own) old.calls ≡ o → OutcomeIsInCase terms log (entry_of (Step own refuse) played)
       by None is = quiet_in_case terms log (entry_of (Step own refuse) played) (not_busy played.outcome (took.1 is).0)
       by (Some place) is =
           let placed = sym is in
@@ -70,7 +70,7 @@ module _ {K V S : Type 0} (same : K → K → Bool) (hash : K → ℕ) (old new 
   pub go_finds : (own : List ℕ) (refuse : Bool) → TookSteps same hash most_steps own played old new → InCase (Go own refuse)
   go_finds own refuse took = by (position (is_named own) old.calls) refl
     where
-      by : (o : Option ℕ) → position (is_named own) old.calls ≡ o → ComesInCase terms log (entry_of (Go own refuse) played)
+      by : (o : Option ℕ) → position (is_named own) old.calls ≡ o → OutcomeIsInCase terms log (entry_of (Go own refuse) played)
       by None is = quiet_in_case terms log (entry_of (Go own refuse) played) (not_busy played.outcome (took.1 is).0)
       by (Some place) is =
           let placed = sym is in
@@ -91,7 +91,7 @@ module _ {K V S : Type 0} (same : K → K → Bool) (hash : K → ℕ) (old new 
       begun_so : (q : Bool) → took_it.0 ≡ q → BeginsSo same hash terms (moment log) nameless guard on call q old mid
       begun_so q is = subst (λ (b : Bool). BeginsSo same hash terms (moment log) nameless guard on call b old mid) is took_it.2
 
-      by : (q : Bool) → took_it.0 ≡ q → ComesInCase terms log (entry_of (OneCall guard on call) played)
+      by : (q : Bool) → took_it.0 ≡ q → OutcomeIsInCase terms log (entry_of (OneCall guard on call) played)
       by false is = quiet_in_case terms log (entry_of (OneCall guard on call) played) (not_busy played.outcome (took_it.5 is).0)
       by true is =
           by_far (OneCall guard on call) mid 0 most_steps (λ come. whole_in_case same hash terms log old runs guard on call mid led took_it.3 stands_mid played new come first) far.Goes
@@ -106,6 +106,6 @@ module _ {K V S : Type 0} (same : K → K → Bool) (hash : K → ℕ) (old new 
           first : GoesAt nameless 0 mid
           first = goes_first same hash terms (moment log) nameless guard call (number_of on (moment log)) (map_there (moment log) guard on begins.so) mid (begins.stands refl)
 
-          stands_mid : StandsFor same hash terms (with_call nameless guard call (Some led.number) (moment log)) mid
-          stands_mid = subst (λ (o : Option ℕ). StandsFor same hash terms (with_call nameless guard call o (moment log)) mid) (its same hash terms log old runs nameless guard on call mid led).0
+          stands_mid : RefinesFor same hash terms (with_call nameless guard call (Some led.number) (moment log)) mid
+          stands_mid = subst (λ (o : Option ℕ). RefinesFor same hash terms (with_call nameless guard call o (moment log)) mid) (its same hash terms log old runs nameless guard on call mid led).0
               (begins.stands refl)

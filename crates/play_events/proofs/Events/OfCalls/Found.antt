@@ -17,7 +17,7 @@ use Rattle.run_kept.specs.Given.FinishesMachines.{machine_of}
 use Rattle.run_kept.specs.Given.FinishesMaps.{Standing}
 use Rattle.run_kept.specs.Given.FollowsCalls.{IsCalled}
 use Rattle.play_stepping.proofs.Given.ChangesBegun.{effects_begun}
-use Rattle.play_stepping.specs.Given.GrowsCopiers.{making_of_copier}
+use Rattle.run_legal.specs.Given.GrowsCopiers.{making_of_copier}
 use Rattle.play_lists.specs.Given.FindsParts.{FindAll, FindRest}
 use Rattle.play_lists.proofs.Given.FindsJoined.{several_find_all}
 use Rattle.run_schedules.specs.Schedules.Lives.{Finds}
@@ -25,16 +25,16 @@ use Rattle.play_lists.specs.Given.FindsLife.{StoresOne}
 use Rattle.play_lists.specs.Given.FindsWithin.{ActsOn, AllIsInOrder}
 use Rattle.play_lists.proofs.Given.FindsOver.{both_at}
 use Rattle.play_lists.proofs.Given.FindsRuns.{life_keeps_order}
-use Rattle.play_stepping.specs.Given.GrowsNexts.{MayFollow}
+use Rattle.run_legal.specs.Given.GrowsNexts.{MayFollow}
 use Rattle.run_legal.proofs.CallFinds.{steps_find_all}
-use Rattle.play_stepping.proofs.Given.GrowsFinding.Links.{such_of_making}
-use Rattle.play_stepping.proofs.Given.GrowsFinding.Rest.{steps_find_rest}
-use Rattle.play_stepping.proofs.Given.GrowsTries.Log.{found_full_so, tables_last}
+use Rattle.run_legal.proofs.Given.GrowsFinding.Links.{such_of_making}
+use Rattle.run_legal.proofs.Given.GrowsFinding.Rest.{steps_find_rest}
+use Rattle.run_legal.proofs.Given.GrowsTries.Log.{found_full_so, tables_last}
 use Rattle.play_stepping.specs.Given.NamedSeen.{Seen, seen}
-use Rattle.play_lists.proofs.Given.RowsLists.{both_some, found_alike}
+use Rattle.play_stepping.proofs.Given.RowsLists.{both_some, found_alike}
 use Rattle.play_stepping.specs.Given.SchedulerDeclared.scheduler.Scheduler.{Scheduler}
 use Rattle.play_stepping.specs.EventSteps.Stepping.{GoneFor}
-use Rattle.play_stepping.proofs.Given.QuietAfterEffects.{calls_seen}
+use Rattle.play_stepping.proofs.EventSteps.AfterEffects.{calls_seen}
 use Rattle.play_events.proofs.Events.OfCalls.Steps.{HasCome, IsStep, as_told, did, follows, has_come, its_here, leads}
 use Rattle.play_stepping.specs.Given.ExecutorIsThere.{held_by}
 use Rattle.run_schedules.specs.Schedules.Transition.{past}

@@ -24,16 +24,16 @@ use Rattle.run_kept.specs.Given.EffectsKnown.{Known, known}
 use Rattle.play_stepping.proofs.Given.ChangesBegun.{effects_begun}
 use Rattle.play_stepping.proofs.Given.MomentsAfter.{effects_after}
 use Rattle.run_legal.proofs.CallChanges.{reads_shards}
-use Rattle.play_stepping.proofs.Given.GrowsLimits.Cases.{room_shards, steps_in_case}
+use Rattle.run_legal.proofs.Given.LimitsCases.{room_shards, steps_in_case}
 use Rattle.play_stepping.specs.Given.NamedSeen.{Seen, seen}
 use Rattle.play_stepping.specs.Given.ExecutorDeclared.kind.CallKind.{CallKind}
-use Rattle.play_lists.proofs.Given.RowsLists.{both_some, found_alike}
+use Rattle.play_stepping.proofs.Given.RowsLists.{both_some, found_alike}
 use Rattle.play_stepping.specs.Given.SchedulerPlayed.{entry_of}
 use Rattle.play_stepping.specs.Given.SchedulerDeclared.played.Played.{Played}
 use Rattle.play_stepping.specs.Given.SchedulerDeclared.scheduler.Scheduler.{Scheduler}
-use Rattle.play_stepping.specs.EventSteps.Stepping.{ComesInCase, IsInCase, IsStepped}
+use Rattle.play_stepping.specs.EventSteps.Stepping.{OutcomeIsInCase, IsInCase, IsStepped}
 use Rattle.play_stepping.specs.Given.Says.{outcome_of}
-use Rattle.play_stepping.proofs.Given.QuietAfterEffects.{calls_seen}
+use Rattle.play_stepping.proofs.EventSteps.AfterEffects.{calls_seen}
 use Rattle.play_events.proofs.Events.OfCalls.Found.{mask_is}
 use Rattle.play_events.proofs.Events.OfCalls.Steps.{HasCome, IsStep, as_told, did, follows, its_here, leads}
 use Rattle.play_events.proofs.Events.OfCalls.Worth.{effects_say}
@@ -135,7 +135,7 @@ module _ {K V S : Type 0} (same : K → K → Bool) (hash : K → ℕ) (name : �
           (refused_said (known new.logged.notes) step.caller.kind step.caller.value step.said Capacity (sym step.outcome_is ∙ is)))
 
     -- So the event comes in its case.
-    pub comes_in_case : ComesInCase terms log e
+    pub comes_in_case : OutcomeIsInCase terms log e
     comes_in_case =
         subst (λ (w : Moment K V). IfCall (λ (d : CallThere K V). IsInCase terms d (moments_from d.begun log) w played.outcome) (acting (caller_of event) w)) (sym worked_is)
         (subst (λ (who : Option (List ℕ)). IfCall (λ (d : CallThere K V). IsInCase terms d (moments_from d.begun log) v played.outcome) (acting who v)) (sym come.midst.of_call)

@@ -20,7 +20,7 @@ use Rattle.run_schedules.specs.declared.effect.Thing.{Thing}
 use Rattle.play_stepping.proofs.Given.CallersTogether.At.{at_other, at_same}
 use Rattle.seize_acts.proofs.Given.SeizeWaitingFlushes.{retired_all_frame}
 use Rattle.run_kept.specs.Models.Alike.{ChangesAlike}
-use Rattle.run_kept.specs.Models.CallEvents.{HasToldPart}
+use Rattle.run_kept.specs.Models.CallEvents.{HasReportedPart}
 use Rattle.run_kept.specs.Models.Numbers.{HasNumber}
 use Rattle.run_kept.proofs.Models.Turns.{inside_active}
 use Rattle.play_events.specs.Events.OfCalls.{InsidesFollowInRows}
@@ -102,7 +102,7 @@ module _ (batch_size : ℕ) (things : List Thing) (known : Known) where
 
 -- as it began
 module _ {K V : Type 0} (batch_size i t : ℕ) (things : List Thing) (known : Known) (slot : ℕ) where
-  begun_back : (request : Request) (handed : List Change) (w v b : World (Node K V)) → HasToldPart things known slot i request handed w → Begins deferred_word batch_size i request v b
+  begun_back : (request : Request) (handed : List Change) (w v b : World (Node K V)) → HasReportedPart things known slot i request handed w → Begins deferred_word batch_size i request v b
       → (IsInside (b.uses t) → IsInside (v.uses t)) × IsShared (b.row i)
   begun_back (Retire s k) handed w v b told begins = (
     λ h. back_use (deferred_word {K = K} {V = V}) i t v.uses s (one_more (v.uses s)) (more_inside (v.uses s)) (subst (λ (x : World (Node K V)). IsInside (x.uses t)) begins.2 h),
@@ -115,7 +115,7 @@ module _ {K V : Type 0} (batch_size i t : ℕ) (things : List Thing) (known : Kn
   begun_back _ handed w v b told begins = absurd told
 
   -- what it has told leaves active slots so
-  active_as : (request : Request) (handed : List Change) (w : World (Node K V)) (first : Sets) → HasToldPart things known slot i request handed w → (all_changed batch_size handed first).sets.active ≡ first.active
+  active_as : (request : Request) (handed : List Change) (w : World (Node K V)) (first : Sets) → HasReportedPart things known slot i request handed w → (all_changed batch_size handed first).sets.active ≡ first.active
   active_as (Retire s k) handed w first (same, has, inl due) = ap (λ (l : List Change). (all_changed batch_size l first).sets.active) due.1
   active_as (Retire s k) handed w first (same, has, inr (past, alike)) = retired_active batch_size things known slot k handed first alike
   active_as (Defer' s k f) handed w first (noted, inl due) = ap (λ (l : List Change). (all_changed batch_size l first).sets.active) due.1

@@ -8,7 +8,7 @@ use Rattle.run_schedules.specs.Schedules.After.{moment, moments_from}
 use Rattle.run_schedules.specs.Schedules.Effects.{worked}
 use Rattle.run_schedules.specs.Schedules.Entry.{Entry, IfCall, acting, caller_of}
 use Rattle.run_schedules.specs.Schedules.Handing.{IsWhole}
-use Rattle.run_schedules.specs.Schedules.InTurn.{ComesRight}
+use Rattle.run_schedules.specs.Schedules.InTurn.{HasRightOutcome}
 use Rattle.run_schedules.specs.Schedules.Moment.{UnderWay as CallThere, Moment}
 use Rattle.run_schedules.specs.Schedules.Steps.{IsBrief, ReadsBriefly}
 use Rattle.run_schedules.specs.Schedules.Terms.{Terms}
@@ -22,7 +22,7 @@ use Rattle.run_kept.specs.Models.CallEvents.{IsOfNoSlot}
 use Rattle.run_kept.proofs.Models.CallEvents.{others_hand_over}
 use Rattle.play_lists.specs.Given.FindsLittle.{ReclaimsAll}
 use Rattle.run_legal.specs.CallEvents.{IsLegalBut}
-use Rattle.run_legal.specs.Carried.{ShowsRun}
+use Rattle.run_legal.specs.Carried.{RefinesRun}
 use Rattle.run_legal.specs.Over.{LeavesAll}
 use Rattle.run_legal.proofs.Idle.{idle_events_are_legal}
 use Rattle.run_legal.proofs.Over.{idle_events_end}
@@ -68,7 +68,7 @@ module _ {K V S : Type 0} (same : K → K → Bool) (hash : K → ℕ) (terms : 
           here.caller.map here.caller.number here.way.0 here.way.1 (caller_of event) (of_call ∙ ap Some (sym (here.way.2 ∙ here.named))) 0 (omega arith)
 
   module _ (reads : ReadsBriefly log e m) (no_slot : IsOfNoSlot event) (stays : worked e m ≡ m) (enters : EntersInside runs.stands.scene.world event (Refused Busy) m.there)
-      (whole : IsWhole event (Refused Busy) [] m (worked e m)) (reclaims : ReclaimsAll log e) (leaves : LeavesAll event (Refused Busy) 0) (right : ComesRight terms log e)
+      (whole : IsWhole event (Refused Busy) [] m (worked e m)) (reclaims : ReclaimsAll log e) (leaves : LeavesAll event (Refused Busy) 0) (right : HasRightOutcome terms log e)
       (plays : IsPlayed same hash terms (e ∷ log) new) where
     legal : IsLegalBut same terms log e × SectionsHold (moment (e ∷ log)) (known old.logged.notes) runs.stands.scene.world
     legal =
@@ -76,7 +76,7 @@ module _ {K V S : Type 0} (same : K → K → Bool) (hash : K → ℕ) (terms : 
         (others_hand_over K V log e no_slot).1 (subst (λ (x : Moment K V). ReadsBriefly log e x) (sym stays) reads) (other_outcomes_are_swept K V same terms (past log) (transition log e) tt) whole
         (nothing_asked (acting (caller_of event) (worked e m)))
 
-    run : ShowsRun same runs.stands.name terms (e ∷ log) (known old.logged.notes) runs.stands.scene
+    run : RefinesRun same runs.stands.name terms (e ∷ log) (known old.logged.notes) runs.stands.scene
     run =
         idle_events_end K V same runs.stands.name terms log (known old.logged.notes) runs.stands.scene runs.shows e right legal.0.life refl (others_hand_over K V log e no_slot).0
         (others_hand_over K V log e no_slot).1 reclaims leaves legal.1

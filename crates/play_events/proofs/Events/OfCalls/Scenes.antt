@@ -8,9 +8,9 @@ use Rattle.run_schedules.specs.Schedules.Moment.{Moment}
 use Rattle.run_schedules.specs.Schedules.Terms.{Terms}
 use Rattle.run_kept.specs.Given.FinishesMachines.{machine_of}
 use Rattle.run_kept.specs.Given.FinishesMaps.{Standing}
-use Rattle.play_lists.specs.Given.LoggedShown.{IsShown}
-use Rattle.play_lists.proofs.Given.RowsLists.{all_so, both_none, both_some}
-use Rattle.play_stepping.specs.Given.SchedulerPlayed.{AsFar, IsUnderWay, StandsFor}
+use Rattle.play_stepping.specs.Given.LoggedShown.{IsShown}
+use Rattle.play_stepping.proofs.Given.RowsLists.{all_so, both_none, both_some}
+use Rattle.play_stepping.specs.Given.SchedulerPlayed.{AsFar, IsUnderWay, RefinesFor}
 use Rattle.play_stepping.specs.Given.ExecutorDeclared.caller.NamedCaller.{NamedCaller}
 use Rattle.play_stepping.specs.Given.ExecutorDeclared.named_map.NamedMap.{NamedMap}
 use Rattle.play_events.proofs.Events.OfCalls.Worth.{all_left, all_set}
@@ -29,7 +29,7 @@ named_left name calls place named = all_left (λ d. name d.number ≡ d.name) ca
 pub named_set : {V : Type 0} (name : ℕ → List ℕ) (calls : List (NamedCaller V)) (place : ℕ) (x : NamedCaller V) → name x.number ≡ x.name → AreNamed name calls → AreNamed name (slice_set calls place x)
 named_set name calls place x its named = all_set (λ d. name d.number ≡ d.name) calls place x its named
 
-module _ {K V S : Type 0} (same : K → K → Bool) (hash : K → ℕ) (terms : Terms) (m : Moment K V) (p : Scheduler K V S) (stands : StandsFor same hash terms m p) where
+module _ {K V S : Type 0} (same : K → K → Bool) (hash : K → ℕ) (terms : Terms) (m : Moment K V) (p : Scheduler K V S) (stands : RefinesFor same hash terms m p) where
   -- in its own scene callers have the names of the scene
   pub its_named : AreNamed stands.name p.calls
   its_named = all_so (IsUnderWay stands.name stands.scene p.there) (λ (d : NamedCaller V). stands.name d.number ≡ d.name) (λ d way. way.2) p.calls stands.calls.each
@@ -55,7 +55,7 @@ module _ {K V S : Type 0} (same : K → K → Bool) (hash : K → ℕ) (terms : 
         let x = both_some setting setting (s.maps t.number) (stands.scene.maps t.number) (shown.is_at.maps t.number ∙ sym (stands.shown.is_at.maps t.number)) st.0 st.1 in
         (x.0, x.1)
 
-    abbrev pub stands_in : StandsFor same hash terms m p
+    abbrev pub stands_in : RefinesFor same hash terms m p
     stands_in = record {
       name = name;
       scene = s;

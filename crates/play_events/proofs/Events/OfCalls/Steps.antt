@@ -43,17 +43,17 @@ use Rattle.run_legal.specs.CallEvents.{InCallEvent}
 use Rattle.run_legal.proofs.Calls.{call_events_go_on_so}
 use Rattle.run_legal.proofs.Heads.Rows.{slots_stay}
 use Rattle.run_legal.proofs.Heads.Steps.{call_taken}
-use Rattle.play_lists.specs.Given.LoggedCalling.{CallGoesOn}
-use Rattle.play_lists.specs.Given.LoggedShown.{IsShown}
-use Rattle.play_lists.proofs.Given.RowsLists.{both_some, found_alike, set_get, set_count}
+use Rattle.play_stepping.specs.Given.LoggedCalling.{CallContinues}
+use Rattle.play_stepping.specs.Given.LoggedShown.{IsShown}
+use Rattle.play_stepping.proofs.Given.RowsLists.{both_some, found_alike, set_get, set_count}
 use Rattle.play_stepping.specs.Given.NamedSeen.{Seen, kind_of, seen, is_named}
-use Rattle.play_stepping.specs.Given.NamedTelling.{goes_on}
+use Rattle.play_stepping.specs.Given.NamedTelling.{continues}
 use Rattle.play_stepping.specs.Given.ExecutorDeclared.caller.NamedCaller.{NamedCaller}
 use Rattle.play_stepping.specs.Given.SchedulerDeclared.scheduler.Scheduler.{Scheduler}
 use Rattle.play_stepping.proofs.Given.SchedulerRanOn.{there_stays}
 use Rattle.play_stepping.specs.EventSteps.Stepping.{GoneFor, IsStepOf, IsStepped, WalkedFor}
 use Rattle.play_stepping.specs.Given.Says.{caller_then, far_then, outcome_of}
-use Rattle.play_stepping.proofs.Given.QuietAfterEffects.{calls_seen}
+use Rattle.play_stepping.proofs.EventSteps.AfterEffects.{calls_seen}
 use Rattle.play_stepping.proofs.EventSteps.OneStep.{caller_as, going_not_ended, goes_next, value_then}
 use Rattle.run_kept.specs.Values.Values.{KeepsValue, kept_after}
 use Rattle.run_kept.proofs.Values.Values.{values_go_on}
@@ -67,7 +67,7 @@ use Rattle.play_events.specs.Folded.Folded.{HandInOrder}
 use Rattle.play_events.proofs.Folded.Steps.{more_in_order}
 use Rattle.play_events.proofs.Events.OfCalls.Scenes.{AreNamed, named_left, named_set}
 use Rattle.play_events.proofs.Events.OfCalls.Words.{shows_none}
-use Rattle.play_stepping.specs.Given.ExecutorIsThere.{KeepsGiven, held_by}
+use Rattle.play_stepping.specs.Given.ExecutorIsThere.{PreservesSettings, held_by}
 use Rattle.run_kept.specs.Given.ScenesScene.{Scene, slot_of}
 use Rattle.run_kept.specs.Given.ScenesStepping.{StepLeads, has_ended, scene_after}
 use Rattle.run_schedules.specs.Schedules.Transition.{past}
@@ -94,8 +94,8 @@ module _ {K V S : Type 0} (same : K → K → Bool) (hash : K → ℕ) where
     pub at : slice_get old.calls place ≡ Some caller
     pub said : Progress (Node K V)
     pub leads : (name : ℕ → List ℕ) (m : Moment K V) (s : Scene K V) → IsShown same hash name m old.logged s
-        → CallGoesOn same hash name m s caller.number caller.map said before after old.logged new.logged
-    pub given : KeepsGiven old.logged.executor new.logged.executor
+        → CallContinues same hash name m s caller.number caller.map said before after old.logged new.logged
+    pub given : PreservesSettings old.logged.executor new.logged.executor
 
   abbrev pub as_told : {place : ℕ} {outcome : Outcome V} {before after : List Effect} {old new : Scheduler K V S} → IsStepped same hash place outcome before after old new → IsStep place before after old new
   as_told step = record { caller = step.caller; at = step.at; said = step.said; leads = step.leads; given = step.given }
@@ -139,10 +139,10 @@ module _ {K V S : Type 0} (same : K → K → Bool) (hash : K → ℕ) (name : �
     pub caller_is : step.caller ≡ come.caller
     caller_is = the step.caller come.caller (sym step.at ∙ come.at)
 
-    pub leads_at : CallGoesOn same hash name come.now come.scene i map step.said mid after p.logged new.logged
+    pub leads_at : CallContinues same hash name come.now come.scene i map step.said mid after p.logged new.logged
     leads_at =
-        subst (λ (k : ℕ). CallGoesOn same hash name come.now come.scene i k step.said mid after p.logged new.logged) (ap (λ (x : NamedCaller V). x.map) caller_is ∙ come.on_map)
-        (subst (λ (k : ℕ). CallGoesOn same hash name come.now come.scene k step.caller.map step.said mid after p.logged new.logged) (ap (λ (x : NamedCaller V). x.number) caller_is ∙ come.number)
+        subst (λ (k : ℕ). CallContinues same hash name come.now come.scene i k step.said mid after p.logged new.logged) (ap (λ (x : NamedCaller V). x.map) caller_is ∙ come.on_map)
+        (subst (λ (k : ℕ). CallContinues same hash name come.now come.scene k step.caller.map step.said mid after p.logged new.logged) (ap (λ (x : NamedCaller V). x.number) caller_is ∙ come.number)
         (step.leads name come.now come.scene come.shown))
 
     abbrev pub leads : StepLeads same (λ map. hash) i step.said come.scene (held_by p.logged.executor) (held_by new.logged.executor)
@@ -389,9 +389,9 @@ module _ {K V S : Type 0} (same : K → K → Bool) (hash : K → ℕ) (name : �
         by false =
             all_once (is_named (name i)) (IsWorth beginning then_at) (slice_set calls place set_caller) place set_caller (set_get calls place step.caller set_caller step.at) set_named own once_set others_set
 
-    module _ (on : goes_on outcome ≡ true) where
-      said_on : goes_on (outcome_of (known new.logged.notes) step.caller.kind step.caller.value step.said) ≡ true
-      said_on = ap goes_on (sym step.outcome_is) ∙ on
+    module _ (on : continues outcome ≡ true) where
+      said_on : continues (outcome_of (known new.logged.notes) step.caller.kind step.caller.value step.said) ≡ true
+      said_on = ap continues (sym step.outcome_is) ∙ on
 
       not_ended : has_ended step.said ≡ false
       not_ended = going_not_ended (known new.logged.notes) step.caller.kind step.caller.value step.said said_on

@@ -11,7 +11,7 @@ use Rattle.run_schedules.specs.Schedules.Beginning.{at_work}
 use Rattle.run_schedules.specs.Schedules.Entry.{Entry, acted_on, acting, caller_of, speaker}
 use Rattle.run_schedules.specs.Schedules.Handing.{is_made, refuses}
 use Rattle.run_schedules.specs.Schedules.Model.{guard_or, sets_in, things_in}
-use Rattle.run_schedules.specs.Schedules.InTurn.{ComesRight}
+use Rattle.run_schedules.specs.Schedules.InTurn.{HasRightOutcome}
 use Rattle.run_schedules.specs.Schedules.Moment.{UnderWay as CallThere, Moment}
 use Rattle.run_schedules.specs.Schedules.Terms.{Terms}
 use Rattle.run_schedules.specs.Schedules.Views.{call_of}
@@ -24,7 +24,7 @@ use Rattle.play_lists.specs.Given.FindsDoing.{takes_steps}
 use Rattle.play_lists.specs.Given.FindsWithin.{AllIsInOrder}
 use Rattle.play_lists.proofs.Given.FindsBegun.{all_begun}
 use Rattle.run_legal.specs.Noted.{HaveCome}
-use Rattle.run_legal.specs.Carried.{ComesAlone}
+use Rattle.run_legal.specs.Carried.{IsSequential}
 use Rattle.run_legal.proofs.Calls.{call_events_begin_so}
 use Rattle.play_stepping.specs.Given.SchedulerPlayed.{IsPlayed, entry_of}
 use Rattle.play_stepping.specs.Given.NamedSeen.{Seen, is_named}
@@ -33,10 +33,10 @@ use Rattle.play_stepping.specs.Given.SchedulerDeclared.played.Played.{Played}
 use Rattle.play_stepping.specs.Given.SchedulerDeclared.scheduler.Scheduler.{Scheduler}
 use Rattle.play_stepping.proofs.Given.SchedulerHeldTold.{its_guard}
 use Rattle.play_stepping.proofs.Given.SchedulerHere.{Here, here_at}
-use Rattle.play_stepping.specs.EventSteps.Stepping.{ComesAs, ComesBy, ComesInCase, StepsCome}
+use Rattle.play_stepping.specs.EventSteps.Stepping.{HasOutcomeOfKind, StepsHaveOutcome, OutcomeIsInCase, StepsCome}
 use Rattle.play_stepping.proofs.EventSteps.RightSteps.{not_busy as never_busy}
 use Rattle.play_stepping.specs.Given.ExecutorDeclared.caller.NamedCaller.{NamedCaller}
-use Rattle.play_lists.proofs.Given.RowsLists.{all_so, found_has}
+use Rattle.play_stepping.proofs.Given.RowsLists.{all_so, found_has}
 use Rattle.play_events.proofs.Events.OfCalls.Worth.{TellsNone}
 use Rattle.play_events.specs.Events.OfCalls.{IsWorth, Runs, RunsOn}
 use Rattle.play_events.proofs.Events.OfCalls.Alone.{active_of, inside_of, only_its_row}
@@ -128,7 +128,7 @@ module _ {K V S : Type 0} (same : K → K → Bool) (hash : K → ℕ) (terms : 
   }
 
   -- its slot is active, where calls came one after another
-  pub active : ComesAlone event log → 1 ≤ count (slot_of i) (sets_in terms.batch_size log).active
+  pub active : IsSequential event log → 1 ≤ count (slot_of i) (sets_in terms.batch_size log).active
   active alone =
       active_of same hash terms log old runs.stands runs.size (slot_of i) (inside_of same hash terms log old runs.stands here.caller.guard (slot_of i) here.way.3)
       (runs.shows.follows (first_of m.is_alone _ alone))
@@ -151,21 +151,21 @@ module _ {K V S : Type 0} (same : K → K → Bool) (hash : K → ℕ) (terms : 
         ∙ ap (λ (o : Option (CallThere K V)). slot_of_guard (guard_or o) m.there) acting_is ∙ slot_is c c_is
 
     -- it is refused for the length of a table only in its case
-    pub taken_in_case : (most : ℕ) (new : Scheduler K V S) → StepsCome same hash place most played.steps played.outcome [] played.effects.items old new → ComesInCase terms log (entry_of event played)
+    pub taken_in_case : (most : ℕ) (new : Scheduler K V S) → StepsCome same hash place most played.steps played.outcome [] played.effects.items old new → OutcomeIsInCase terms log (entry_of event played)
     taken_in_case most new come =
         let by = come.2 in
         let far_on = has_come same hash name terms log event m map i c place old start by.0 by.2 by.3 by.4 in
         comes_in_case same hash name terms log event m map i c place c_is played by.0 by.2 by.3 new far_on by.5 (begins played) acts_on
 
     module _ (takes : takes_steps event ≡ true) (goes : here.caller.stands ≡ far.Goes) (most : ℕ) (new : Scheduler K V S)
-        (come : StepsCome same hash place most played.steps played.outcome [] played.effects.items old new) (left : ComesRight terms log (entry_of event played))
+        (come : StepsCome same hash place most played.steps played.outcome [] played.effects.items old new) (left : HasRightOutcome terms log (entry_of event played))
         (refused : (not (refuses event) || not (list_any is_made played.effects.items)) ≡ true)
         (plays : IsPlayed same hash terms (entry_of event played ∷ log) new) where
-      comes : ComesBy same hash terms own place m played.steps played.outcome [] played.effects.items new
+      comes : StepsHaveOutcome same hash terms own place m played.steps played.outcome [] played.effects.items new
       comes = come.1 terms m own runs.stands (placed, here.caller, here.at, goes)
 
-      comes_as : ComesAs c.call played.outcome
-      comes_as = subst (λ (x : CallThere K V). ComesAs x.call played.outcome) (the comes.call c (sym comes.call_is ∙ here.call_is)) comes.comes
+      comes_as : HasOutcomeOfKind c.call played.outcome
+      comes_as = subst (λ (x : CallThere K V). HasOutcomeOfKind x.call played.outcome) (the comes.call c (sym comes.call_is ∙ here.call_is)) comes.comes
 
       -- all is in order as it begins
       order : AllIsInOrder m

@@ -18,8 +18,8 @@ use Rattle.run_schedules.specs.Given.SeizeWordsMem.{Mem}
 use Rattle.play_stepping.specs.Given.SeizeWorld.{SlotsTaken}
 use Rattle.play_lists.specs.Given.TablesDeclared.node.Node.{Node}
 use Rattle.run_schedules.specs.Schedules.Entry.{Entry}
-use Rattle.run_schedules.specs.Schedules.InTurn.{ComesRight}
-use Rattle.run_schedules.specs.Schedules.Moment.{Asking, Moment, Stands, Told as IsTold, UnderWay as CallThere}
+use Rattle.run_schedules.specs.Schedules.InTurn.{HasRightOutcome}
+use Rattle.run_schedules.specs.Schedules.Moment.{Asking, Moment, CallState, Told as IsTold, UnderWay as CallThere}
 use Rattle.run_schedules.specs.Schedules.Terms.{Terms}
 use Rattle.run_schedules.specs.Schedules.Views.{call_of}
 use Rattle.play_stepping.specs.Given.CallersTogether.{UnderWay}
@@ -27,17 +27,17 @@ use Rattle.run_kept.specs.Given.EffectsKnown.{Known, known}
 use Rattle.run_kept.specs.Given.FinishesMachines.{machine_of}
 use Rattle.run_kept.specs.Given.FinishesMaps.{Standing, with_call as with_call_of}
 use Rattle.run_kept.specs.Given.FollowsCalling.{NoneNamed}
-use Rattle.play_stepping.specs.Given.HandsAsked.{as_told}
+use Rattle.play_stepping.specs.Given.HandsAsked.{reply_to_machine}
 use Rattle.run_kept.proofs.Given.FollowsCalling.{apart_back, is_same_refl}
 use Rattle.play_stepping.proofs.Given.HandsAsking.{which}
 use Rattle.play_stepping.specs.Given.ChangesChanges.{IsTaken}
 use Rattle.play_stepping.specs.Given.RawDeclared.machines.machine.Machine.{Machine}
 use Rattle.run_legal.proofs.Come.{events_bring_things}
 use Rattle.run_legal.specs.CallEvents.{IsLegalBut}
-use Rattle.run_legal.specs.Carried.{ShowsRun}
+use Rattle.run_legal.specs.Carried.{RefinesRun}
 use Rattle.run_legal.proofs.Begun.{stopped_events_end, told_events_end}
-use Rattle.run_kept.specs.Given.ReclaimsLeft.{LeftAmong}
-use Rattle.play_lists.specs.Given.LoggedShown.{IsCounted}
+use Rattle.run_kept.specs.Given.ReclaimsLeft.{LeftWithEndings}
+use Rattle.play_stepping.specs.Given.LoggedShown.{IsCounted}
 use Rattle.play_stepping.specs.Given.NamedMachines.{IsAsFar}
 use Rattle.play_stepping.specs.Given.SchedulerPlayed.{HasReplied, HasStopped, IsPlayed}
 use Rattle.play_stepping.specs.Given.NamedSeen.{Seen, asks, fits, is_named, is_ready as is_ready_there, kind_of, kind_on, takes}
@@ -52,14 +52,14 @@ use Rattle.play_stepping.proofs.Given.SchedulerRights.{quiet}
 use Rattle.play_stepping.proofs.Given.SchedulerStopped.{asked_ready, ready_parts, shows_is}
 use Rattle.run_kept.specs.Values.Values.{KeepsValue}
 use Rattle.run_kept.proofs.Values.Values.{values_taken}
-use Rattle.play_lists.proofs.Given.RowsLists.{all_so, found_has, set_all}
+use Rattle.play_stepping.proofs.Given.RowsLists.{all_so, found_has, set_all}
 use Rattle.play_events.proofs.Events.OfCalls.Worth.{all_left, event_says, found_changed, found_unchanged, is_worth_then}
 use Rattle.play_events.proofs.Folded.Steps.{idle_in_order}
 use Rattle.play_events.specs.Events.OfCalls.{HaveValues, IsWorth, Runs, RunsOn}
 use Rattle.play_events.proofs.Events.OfCalls.Scenes.{AreNamed, its_named, named_left, named_set, stands_in}
 use Rattle.play_events.proofs.Events.Remaining.{counted_in}
 use Rattle.play_events.proofs.Events.Reached.{reached_by}
-use Rattle.play_stepping.specs.Given.ExecutorIsThere.{IsThere, KeepsGiven, held_by}
+use Rattle.play_stepping.specs.Given.ExecutorIsThere.{IsThere, PreservesSettings, held_by}
 use Rattle.play_stepping.specs.Given.ExecutorReplying.{RepliesThere, StopsThere}
 use Rattle.run_kept.specs.Given.ScenesReplying.{scene_with, unless_stopped}
 use Rattle.run_kept.specs.Given.ScenesScene.{Scene}
@@ -78,7 +78,7 @@ taken_by (Compute k) Removes is = tt
 taken_by (Compute k) (Aborts v) is = tt
 taken_by _ reply is = tt
 
-replied_name : {K V : Type 0} (reply : Reply V) (c : CallThere K V) (stands : Stands) → (replied reply c stands).caller ≡ c.caller
+replied_name : {K V : Type 0} (reply : Reply V) (c : CallThere K V) (stands : CallState) → (replied reply c stands).caller ≡ c.caller
 replied_name reply c (Asking q) = refl
 replied_name reply c _ = refl
 
@@ -97,11 +97,11 @@ module _ {K V S : Type 0} (same : K → K → Bool) (hash : K → ℕ) (terms : 
   name = runs.stands.name
 
   -- the run goes on in a scene with the same maps
-  module _ (e : Entry K V) (nothing : e.effects ≡ []) (t : Scene K V) (run : ShowsRun same name terms (e ∷ log) (known old.logged.notes) t) (legal : IsLegalBut same terms log e) (is_at : IsThere same hash new.logged.executor t) (maps : t.maps ≡ s.maps)
-      (left : LeftAmong new.logged.executor.roots t.world t.maps t.makers t.enders runs.stands.shown.counted.remains.lists) (notes : new.logged.notes ≡ old.logged.notes) (on_size : new.logged.executor.batch_size ≡ old.logged.executor.batch_size) (named : AreNamed name new.calls)
-      (values : HaveValues (moment (e ∷ log)) t new.calls) (plays : IsPlayed same hash terms (e ∷ log) new) (right : ComesRight terms log e) (memory : t.world.memory ≡ s.world.memory) (no_slot : slots_on e.outcome m.slots ≡ m.slots) where
-    run_then : ShowsRun same name terms (e ∷ log) (known new.logged.notes) t
-    run_then = subst (λ (k : Known). ShowsRun same name terms (e ∷ log) k t) (sym (ap known notes)) run
+  module _ (e : Entry K V) (nothing : e.effects ≡ []) (t : Scene K V) (run : RefinesRun same name terms (e ∷ log) (known old.logged.notes) t) (legal : IsLegalBut same terms log e) (is_at : IsThere same hash new.logged.executor t) (maps : t.maps ≡ s.maps)
+      (left : LeftWithEndings new.logged.executor.roots t.world t.maps t.makers t.enders runs.stands.shown.counted.remains.lists) (notes : new.logged.notes ≡ old.logged.notes) (on_size : new.logged.executor.batch_size ≡ old.logged.executor.batch_size) (named : AreNamed name new.calls)
+      (values : HaveValues (moment (e ∷ log)) t new.calls) (plays : IsPlayed same hash terms (e ∷ log) new) (right : HasRightOutcome terms log e) (memory : t.world.memory ≡ s.world.memory) (no_slot : slots_on e.outcome m.slots ≡ m.slots) where
+    run_then : RefinesRun same name terms (e ∷ log) (known new.logged.notes) t
+    run_then = subst (λ (k : Known). RefinesRun same name terms (e ∷ log) k t) (sym (ap known notes)) run
 
     counted : IsCounted (moment (e ∷ log)) new.logged t
     counted = counted_in same hash terms (moment (e ∷ log)) new plays t is_at runs.stands.shown.counted.remains.lists left
@@ -123,13 +123,13 @@ module _ {K V S : Type 0} (same : K → K → Bool) (hash : K → ℕ) (terms : 
     }
 
   -- what is behind roots stays there, in a scene that differs in calls alone
-  behind : KeepsGiven old.logged.executor new.logged.executor
-      → LeftAmong new.logged.executor.roots s.world s.maps s.makers s.enders runs.stands.shown.counted.remains.lists
+  behind : PreservesSettings old.logged.executor new.logged.executor
+      → LeftWithEndings new.logged.executor.roots s.world s.maps s.makers s.enders runs.stands.shown.counted.remains.lists
   behind given =
-      subst (λ (r : ℕ). LeftAmong r s.world s.maps s.makers s.enders runs.stands.shown.counted.remains.lists) (sym given.2) runs.stands.shown.counted.remains.left
+      subst (λ (r : ℕ). LeftWithEndings r s.world s.maps s.makers s.enders runs.stands.shown.counted.remains.lists) (sym given.2) runs.stands.shown.counted.remains.left
 
   -- a reply was told
-  module _ (reply : Reply V) (has : HasReplied same hash own reply old new) (given : KeepsGiven old.logged.executor new.logged.executor) where
+  module _ (reply : Reply V) (has : HasReplied same hash own reply old new) (given : PreservesSettings old.logged.executor new.logged.executor) where
     abbrev here : Here same hash terms m old runs.stands own has.place
     here = here_at same hash terms m old runs.stands own has.place has.placed
 
@@ -154,7 +154,7 @@ module _ {K V S : Type 0} (same : K → K → Bool) (hash : K → ℕ) (terms : 
     asking : here.call.stands ≡ Asking question.0
     asking = far_asks here.call.stands question.0 (ap (λ (z : Seen). z.far) here.as_seen ∙ question.1)
 
-    leads : RepliesThere same hash d.number (as_told reply) has.result s old.logged.executor new.logged.executor
+    leads : RepliesThere same hash d.number (reply_to_machine reply) has.result s old.logged.executor new.logged.executor
     leads =
         subst (λ (t : MachineReply V). RepliesThere same hash d.number t has.result s old.logged.executor new.logged.executor) has.is_told
         (subst (λ (x : NamedCaller V). RepliesThere same hash x.number has.as_it has.result s old.logged.executor new.logged.executor)
@@ -163,7 +163,7 @@ module _ {K V S : Type 0} (same : K → K → Bool) (hash : K → ℕ) (terms : 
     abbrev t : Scene K V
     t = scene_with d.map d.number (leads.1 d.map u here.way.1).1 s
 
-    takes_ok : (machine_replied (machine_of u) (as_told reply)).1 ≡ Ok tt
+    takes_ok : (machine_replied (machine_of u) (reply_to_machine reply)).1 ≡ Ok tt
     takes_ok = sym (leads.1 d.map u here.way.1).4 ∙ plain_ok has.result has.plain
 
     taken : (one : OneKey K V) → here.call.call ≡ On one → IsTaken one reply
@@ -178,7 +178,7 @@ module _ {K V S : Type 0} (same : K → K → Bool) (hash : K → ℕ) (terms : 
     call_then : call_of own (moment (e own ∷ log)) ≡ Some (record here.call { stands = IsTold; replies = (question.0, reply) ∷ here.call.replies })
     call_then =
         found_changed own (λ (c : CallThere K V). replied reply c c.stands) (λ (c : CallThere K V). replied_name reply c c.stands) m.calls here.call here.call_is
-        ∙ ap (λ (x : Stands). Some (replied reply here.call x)) asking
+        ∙ ap (λ (x : CallState). Some (replied reply here.call x)) asking
 
     -- and the caller keeps the value with which it was told to abort
     own_worth : IsWorth (moment (e own ∷ log)) t told_caller
@@ -187,7 +187,7 @@ module _ {K V S : Type 0} (same : K → K → Bool) (hash : K → ℕ) (terms : 
           | inl at ↦ subst (λ (y : CallThere K V). KeepsValue y.call y.replies (machine_of x) has.value) (the_one _ c (sym call_then ∙ ap (λ (l : List ℕ). call_of l (moment (e own ∷ log))) (sym here.named) ∙ is))
               (subst (λ (y : UnderWay K V K). KeepsValue here.call.call ((question.0, reply) ∷ here.call.replies) (machine_of y) has.value) (the_one (leads.1 d.map u here.way.1).1 x at.2)
               (subst (λ (y : Machine K V K). KeepsValue here.call.call ((question.0, reply) ∷ here.call.replies) y has.value) (sym (leads.1 d.map u here.way.1).3)
-              (subst (λ (v : Option V). KeepsValue here.call.call ((question.0, reply) ∷ here.call.replies) (machine_replied (machine_of u) (as_told reply)).0 v) (sym has.value_is)
+              (subst (λ (v : Option V). KeepsValue here.call.call ((question.0, reply) ∷ here.call.replies) (machine_replied (machine_of u) (reply_to_machine reply)).0 v) (sym has.value_is)
               (values_taken K V same (λ map. hash) name m (known old.logged.notes) s (held_by old.logged.executor) runs.stands.shown.is_at.held runs.stands.shown.shows d.map d.number u here.way.1 (leads.1 d.map u here.way.1).0
               (leads.1 d.map u here.way.1).2 here.call (ap (λ (l : List ℕ). call_of l m) name_is ∙ here.call_is) question.0 asking reply takes_ok d.value
               (found_has (λ (z : NamedCaller V). IsWorth m s z) (is_named own) old.calls d here.found runs.values u here.way.1 here.call (ap (λ (l : List ℕ). call_of l m) here.named ∙ here.call_is))))))
@@ -214,18 +214,18 @@ module _ {K V S : Type 0} (same : K → K → Bool) (hash : K → ℕ) (terms : 
         both_all [] named all = tt
         both_all (z ∷ ds) named all = ((named.0, all.0), both_all ds named.1 all.1)
 
-    pub told_on : ComesRight terms log (e own) → IsPlayed same hash terms (e own ∷ log) new → RunsOn same hash terms log (e own) new
+    pub told_on : HasRightOutcome terms log (e own) → IsPlayed same hash terms (e own ∷ log) new → RunsOn same hash terms log (e own) new
     told_on right plays =
         let led = leads.1 d.map u here.way.1 in
-        let on = subst (λ (x : List ℕ). IsLegalBut same terms log (e x) × ShowsRun same name terms (e x ∷ log) (known old.logged.notes) t) name_is
+        let on = subst (λ (x : List ℕ). IsLegalBut same terms log (e x) × RefinesRun same name terms (e x ∷ log) (known old.logged.notes) t) name_is
         (told_events_end K V same (λ map. hash) name terms log (known old.logged.notes) s (held_by old.logged.executor) (held_by new.logged.executor) runs.stands.shown.is_at.held runs.shows d.map d.number u here.way.1 here.call
         (ap (λ (x : List ℕ). call_of x m) name_is ∙ here.call_is) question.0 asking led.0 led.2 reply led.1 led.3 takes_ok led.5 taken led.7.held 0
-        (subst (λ (x : List ℕ). ComesRight terms log (e x)) (sym name_is) right)) in
+        (subst (λ (x : List ℕ). HasRightOutcome terms log (e x)) (sym name_is) right)) in
         then_on (e own) refl t on.1 on.0 led.7 refl (behind given) has.notes given.1
         (subst (AreNamed name) (sym (has.calls d here.at)) (named_set name old.calls has.place (record d { stands = far.Goes; value = has.value }) here.way.2 (its_named same hash terms m old runs.stands))) values_told plays right refl refl
 
   -- a walk was given up
-  module _ (has : HasStopped same hash own old new) (given : KeepsGiven old.logged.executor new.logged.executor) where
+  module _ (has : HasStopped same hash own old new) (given : PreservesSettings old.logged.executor new.logged.executor) where
     placed : (Some has.place ≡ position (is_named own) old.calls) × (is_ready_there (slice_get old.calls has.place) ≡ true)
     placed = ready_parts same hash terms log old own runs.stands has.place has.ready
 
@@ -282,10 +282,10 @@ module _ {K V S : Type 0} (same : K → K → Bool) (hash : K → ℕ) (terms : 
           | inr apart ↦ apart.1
         ]
 
-    pub stopped_on : ComesRight terms log (f own) → IsPlayed same hash terms (f own ∷ log) new → RunsOn same hash terms log (f own) new
+    pub stopped_on : HasRightOutcome terms log (f own) → IsPlayed same hash terms (f own ∷ log) new → RunsOn same hash terms log (f own) new
     stopped_on right plays =
-        let on = subst (λ (x : List ℕ). IsLegalBut same terms log (f x) × ShowsRun same name terms (f x ∷ log) (known old.logged.notes) after) named_so
+        let on = subst (λ (x : List ℕ). IsLegalBut same terms log (f x) × RefinesRun same name terms (f x ∷ log) (known old.logged.notes) after) named_so
         (stopped_events_end K V same (λ map. hash) name terms log (known old.logged.notes) s (held_by old.logged.executor) (held_by new.logged.executor) runs.stands.shown.is_at.held runs.shows its.number (stop_held same hash s old.logged.executor new.logged.executor its.number true led_so) its.map there.way.0
-        there.way.1 0 none_named (subst (λ (x : List ℕ). ComesRight terms log (f x)) (sym named_so) right)) in
+        there.way.1 0 none_named (subst (λ (x : List ℕ). HasRightOutcome terms log (f x)) (sym named_so) right)) in
         then_on (f own) refl after on.1 on.0 (led_so.1 its.map there.way.0 there.way.1).2 refl (behind given) has.notes given.1
         (subst (AreNamed name) (sym has.calls) (named_left name old.calls has.place (its_named same hash terms m old runs.stands))) values_stopped plays right refl refl

@@ -21,7 +21,7 @@ use Rattle.run_schedules.specs.declared.outcome.Outcome.TheVariants.{Answered, R
 use Rattle.run_schedules.specs.Schedules.After.{moment, moments_from}
 use Rattle.run_schedules.specs.Schedules.Effects.{with_effects}
 use Rattle.run_schedules.specs.Schedules.Entry.{Entry}
-use Rattle.run_schedules.specs.Schedules.InTurn.{ComesRight, ComesTo, IsNext}
+use Rattle.run_schedules.specs.Schedules.InTurn.{HasRightOutcome, HasOutcome, IsNext}
 use Rattle.run_schedules.specs.Schedules.Model.{things_in}
 use Rattle.run_schedules.specs.Schedules.Moment.{UnderWay as CallThere, Moment}
 use Rattle.run_schedules.specs.Schedules.Terms.{Terms}
@@ -30,9 +30,9 @@ use Rattle.play_stepping.specs.Given.CallersOverAll.{CallOverAll, gone_on}
 use Rattle.play_stepping.specs.Given.CallersTogether.{UnderWay, OnKey, ForRoom, Counting, OverAll}
 use Rattle.run_kept.specs.Given.EffectsKnown.{Known, known}
 use Rattle.run_kept.specs.Given.FinishesMachines.{machine_of}
-use Rattle.play_stepping.specs.Given.MomentsWhole.{ShowsWhole}
+use Rattle.play_stepping.specs.Given.MomentsWhole.{RefinesWhole}
 use Rattle.run_kept.specs.Given.HistoriesAnswers.{NamesPair}
-use Rattle.run_kept.specs.Given.HistoriesInEvent.{ComesSo}
+use Rattle.run_kept.specs.Given.HistoriesInEvent.{HasOutcomeSo}
 use Rattle.run_kept.specs.Given.HistoriesOtherMidsts.{AsksAsSaid}
 use Rattle.run_schedules.specs.Runs.Same.{is_same}
 use Rattle.run_kept.proofs.Given.FollowsCalling.{is_same_refl}
@@ -41,15 +41,15 @@ use Rattle.play_stepping.specs.Given.PurposesPurposes.{IsFor}
 use Rattle.play_stepping.specs.Given.PurposesSwept.{LosesNone, SaysAsWalk}
 use Rattle.play_stepping.proofs.Given.PurposesWalkWords.{walks_have_words}
 use Rattle.play_lists.specs.Given.FindsParts.{FindAll}
-use Rattle.run_kept.specs.Kept.Kept.{ShowsKept}
+use Rattle.run_kept.specs.Kept.Kept.{RefinesKept}
 use Rattle.run_legal.specs.CallEvents.{InCallEvent}
-use Rattle.run_legal.specs.CallRuns.{ShowsAsTold}
-use Rattle.run_legal.specs.CallSwept.{TellsOf}
+use Rattle.run_legal.specs.CallRuns.{OutcomeNamesShown}
+use Rattle.run_legal.specs.CallSwept.{OutcomeOf}
 use Rattle.run_legal.specs.Noted.{HaveCome}
 use Rattle.run_legal.proofs.CallBegins.{nexts_begin}
 use Rattle.run_legal.proofs.CallReads.{there_still}
-use Rattle.play_lists.specs.Given.LoggedCalling.{WalkGoesOn}
-use Rattle.play_lists.specs.Given.LoggedShown.{IsCounted, IsShown}
+use Rattle.play_stepping.specs.Given.LoggedCalling.{WalkContinues}
+use Rattle.play_stepping.specs.Given.LoggedShown.{IsCounted, IsShown}
 use Rattle.play_stepping.specs.Given.NamedMachines.{IsAsFar}
 use Rattle.play_stepping.specs.Given.NamedSeen.{Seen, is_named, is_ready as is_ready_there, kind_of, ready_place}
 use Rattle.play_stepping.specs.Given.NamedTelling.{answer_of, number_by}
@@ -97,13 +97,13 @@ module _ {K V : Type 0} (by : Known) (value : Option V) where
   walk_asks (progress.Done answer) next = tt
   walk_asks _ next = absurd next
 
-  walk_shows : (said : Progress (Node K V)) → SaysAsWalk by said → IsNext (Told said) → ShowsAsTold {K = K} by said (Told said)
+  walk_shows : (said : Progress (Node K V)) → SaysAsWalk by said → IsNext (Told said) → OutcomeNamesShown {K = K} by said (Told said)
   walk_shows (progress.Pair word) says next = inr (word, number_by by word, refl, refl, named_so by word (says.pairs word refl))
   walk_shows (progress.Done answer) says next = inl (tt, tt)
   walk_shows _ says next = absurd next
 
   walk_tells : (same : K → K → Bool) (log : List (Entry K V)) (m : Moment K V) (map : ℕ) → LosesNone same (past log) m map → (said : Progress (Node K V)) → SaysAsWalk by said → IsNext (Told said)
-      → TellsOf same log m map by said (Told said) Walk
+      → OutcomeOf same log m map by said (Told said) Walk
   walk_tells same log m map loses (progress.Pair word) says next = inr (inl (number_by by word, refl, named_so by word (says.pairs word refl)))
   walk_tells same log m map loses (progress.Done answer) says next =
       let over = says.over answer refl in
@@ -221,7 +221,7 @@ module _ {K V S : Type 0} (same : K → K → Bool) (hash : K → ℕ) (terms : 
   -- what is counted speaks of no calls
   counted : IsCounted m walked.asked then_at
   counted =
-      let goes = subst (λ (x : NamedCaller V). WalkGoesOn same hash name m s x.number walked.ready old.logged walked.asked) caller_is (walked.goes name m s runs.stands.shown) in
+      let goes = subst (λ (x : NamedCaller V). WalkContinues same hash name m s x.number walked.ready old.logged walked.asked) caller_is (walked.goes name m s runs.stands.shown) in
       let it = ((goes map u under).1 is_ready).2.counted in record {
         numbered = it.numbered;
         remains = record {
@@ -239,8 +239,8 @@ module _ {K V S : Type 0} (same : K → K → Bool) (hash : K → ℕ) (terms : 
   shown : IsShown same hash name m walked.asked then_at
   shown = record {
     is_at = next_at same hash i s old.logged.executor walked.asked.executor runs.stands.shown.is_at walked.given was_asked map o here_o;
-    shows = subst (λ (k : Known). ShowsWhole same name m k then_at) notes_are midst.calls.whole;
-    kept = subst (λ (k : Known). ShowsKept name m k then_at) notes_are midst.calls.kept;
+    shows = subst (λ (k : Known). RefinesWhole same name m k then_at) notes_are midst.calls.whole;
+    kept = subst (λ (k : Known). RefinesKept name m k then_at) notes_are midst.calls.kept;
     counted = counted;
   }
 
@@ -301,7 +301,7 @@ module _ {K V S : Type 0} (same : K → K → Bool) (hash : K → ℕ) (terms : 
       come.midst.calls.purposes map i come.under (its_here same hash name terms log event m map i c place walked.steps walked.mid played.effects.items walked.led new come step) walked.last.said
       (leads same hash name terms log event m map i c place walked.steps walked.mid played.effects.items walked.led new come step) there.0 there.1 (there.2.call ∙ is_walk)
 
-  module _ (right : ComesRight terms log (entry_of event played)) (comes : ComesTo terms log m (entry_of event played) event played.outcome) (idle : played.effects.items ≡ []) (plays : IsPlayed same hash terms (entry_of event played ∷ log) new) where
+  module _ (right : HasRightOutcome terms log (entry_of event played)) (comes : HasOutcome terms log m (entry_of event played) event played.outcome) (idle : played.effects.items ≡ []) (plays : IsPlayed same hash terms (entry_of event played ∷ log) new) where
     -- it shows a pair, or has shown all
     is_next : IsNext played.outcome
     is_next = subst (λ (q : Bool). MatchBool q (IsNext played.outcome) (played.outcome ≡ Refused Busy)) (shows_by same hash terms log old own runs.stands (Some place) found) comes
@@ -327,12 +327,12 @@ module _ {K V S : Type 0} (same : K → K → Bool) (hash : K → ℕ) (terms : 
 
     tells : ends.Tells same hash name terms log event m map i c place c_is (known old.logged.notes) s runs.shows runs.come played walked.steps walked.mid walked.led new come walked.last
     tells = (
-      subst (λ (x : Call K V). ComesSo then_known x c.replies walked.last.said played.outcome) (sym is_walk)
+      subst (λ (x : Call K V). HasOutcomeSo then_known x c.replies walked.last.said played.outcome) (sym is_walk)
           (subst (λ (x : Outcome V). AsksAsSaid then_known walked.last.said x) (sym outcome_is) (walk_asks then_known walked.last.caller.value walked.last.said told_next)),
-      subst (λ (x : Call K V). TellsOf same log come.now map then_known walked.last.said played.outcome x) (sym is_walk)
-          (subst (λ (x : Outcome V). TellsOf same log come.now map then_known walked.last.said x Walk) (sym outcome_is)
+      subst (λ (x : Call K V). OutcomeOf same log come.now map then_known walked.last.said played.outcome x) (sym is_walk)
+          (subst (λ (x : Outcome V). OutcomeOf same log come.now map then_known walked.last.said x Walk) (sym outcome_is)
           (walk_tells then_known walked.last.caller.value same log come.now map loses walked.last.said says told_next)),
-      subst (λ (x : Outcome V). ShowsAsTold {K = K} then_known walked.last.said x) (sym outcome_is) (walk_shows then_known walked.last.caller.value walked.last.said says told_next),
+      subst (λ (x : Outcome V). OutcomeNamesShown {K = K} then_known walked.last.said x) (sym outcome_is) (walk_shows then_known walked.last.caller.value walked.last.said says told_next),
     )
 
     pub walked_on : RunsOn same hash terms log (entry_of event played) new

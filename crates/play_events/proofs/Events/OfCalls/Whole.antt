@@ -16,7 +16,7 @@ use Rattle.run_schedules.specs.Schedules.After.{moment}
 use Rattle.run_schedules.specs.Schedules.Beginning.{at_work, fresh_call, with_call}
 use Rattle.run_schedules.specs.Schedules.Entry.{Entry, acted_on, nameless}
 use Rattle.run_schedules.specs.Schedules.Model.{guard_or, sets_in, things_in}
-use Rattle.run_schedules.specs.Schedules.InTurn.{ComesRight}
+use Rattle.run_schedules.specs.Schedules.InTurn.{HasRightOutcome}
 use Rattle.run_schedules.specs.Schedules.Moment.{UnderWay as CallThere, Moment}
 use Rattle.run_schedules.specs.Schedules.Terms.{Terms}
 use Rattle.run_schedules.specs.Schedules.Views.{call_of, number_of}
@@ -28,18 +28,18 @@ use Rattle.play_lists.proofs.Given.FindsBegun.{all_begun}
 use Rattle.run_legal.specs.Noted.{HaveCome}
 use Rattle.run_legal.proofs.Come.{called}
 use Rattle.run_legal.specs.CallEvents.{InCallEvent}
-use Rattle.run_legal.specs.Carried.{ComesAlone}
+use Rattle.run_legal.specs.Carried.{IsSequential}
 use Rattle.run_legal.proofs.CallBegins.{whole_calls_begin}
-use Rattle.play_lists.specs.Given.LoggedShown.{IsShown}
-use Rattle.play_stepping.specs.Given.SchedulerPlayed.{HasBegun, IsPlayed, StandsFor, entry_of}
+use Rattle.play_stepping.specs.Given.LoggedShown.{IsShown}
+use Rattle.play_stepping.specs.Given.SchedulerPlayed.{HasBegun, IsPlayed, RefinesFor, entry_of}
 use Rattle.play_stepping.specs.Given.NamedSeen.{Seen, is_named}
 use Rattle.play_stepping.specs.Given.ExecutorDeclared.caller.NamedCaller.{NamedCaller}
 use Rattle.play_stepping.specs.Given.SchedulerDeclared.played.Played.{Played}
 use Rattle.play_stepping.specs.Given.SchedulerDeclared.scheduler.Scheduler.{Scheduler}
 use Rattle.play_stepping.proofs.Given.SchedulerHeldTold.{its_guard}
-use Rattle.play_stepping.specs.EventSteps.Stepping.{ComesAs, ComesBy, ComesInCase, GoesAt, StepsCome}
+use Rattle.play_stepping.specs.EventSteps.Stepping.{HasOutcomeOfKind, StepsHaveOutcome, OutcomeIsInCase, GoesAt, StepsCome}
 use Rattle.play_stepping.proofs.EventSteps.RightSteps.{not_busy as never_busy}
-use Rattle.play_lists.proofs.Given.RowsLists.{all_so}
+use Rattle.play_stepping.proofs.Given.RowsLists.{all_so}
 use Rattle.play_events.specs.Events.OfCalls.{HaveValues, IsWorth, Runs, RunsOn}
 use Rattle.play_stepping.specs.Given.NeedsNeeds.{AreReached}
 use Rattle.play_events.proofs.Events.OfCalls.Alone.{active_of, inside_of, no_row}
@@ -57,7 +57,7 @@ use Rattle.play_stepping.proofs.Given.General.{same_some as the}
 module _ {K V S : Type 0} (same : K → K → Bool) (hash : K → ℕ) (terms : Terms) (log : List (Entry K V)) (old : Scheduler K V S) (runs : Runs same hash terms log old)
     (guard on : List ℕ) (call : Call K V) (mid : Scheduler K V S) (led : HasBegun same hash nameless guard on call old mid)
     (on_size : mid.logged.executor.batch_size ≡ old.logged.executor.batch_size)
-    (mid_stands : StandsFor same hash terms (with_call nameless guard call (Some led.number) (moment log)) mid) where
+    (mid_stands : RefinesFor same hash terms (with_call nameless guard call (Some led.number) (moment log)) mid) where
   abbrev m : Moment K V
   m = moment log
 
@@ -87,7 +87,7 @@ module _ {K V S : Type 0} (same : K → K → Bool) (hash : K → ℕ) (terms : 
   m1_is = ap (λ (x : List ℕ). with_call x guard call (Some map) m) name_is
 
   -- no row is under way then, where calls came one after another
-  no_rows : ComesAlone event log → (j : ℕ) → runs.stands.scene.world.row j ≢ Rests → j ≡ i
+  no_rows : IsSequential event log → (j : ℕ) → runs.stands.scene.world.row j ≢ Rests → j ≡ i
   no_rows alone j goes = absurd (no_row same hash terms log old runs.stands event nameless refl alone led.free j goes)
 
   whole : (call_of (names i) m1 ≡ Some c)
@@ -105,7 +105,7 @@ module _ {K V S : Type 0} (same : K → K → Bool) (hash : K → ℕ) (terms : 
   c_is = whole.0
 
   -- the scheduler stands for that moment in the scene in which it has begun
-  abbrev mid_in : StandsFor same hash terms (with_call nameless guard call (Some map) m) mid
+  abbrev mid_in : RefinesFor same hash terms (with_call nameless guard call (Some map) m) mid
   mid_in =
       stands_in same hash terms (with_call nameless guard call (Some map) m) mid mid_stands names (begun.then_at same hash terms log old runs nameless guard on call mid led)
       (begun.shown_begun same hash terms log old runs nameless guard on call mid led) (begun.named_here same hash terms log old runs nameless guard on call mid led)
@@ -165,7 +165,7 @@ module _ {K V S : Type 0} (same : K → K → Bool) (hash : K → ℕ) (terms : 
     hands = tt;
   }
 
-  active : ComesAlone event log → 1 ≤ count (slot_of i) (sets_in terms.batch_size log).active
+  active : IsSequential event log → 1 ≤ count (slot_of i) (sets_in terms.batch_size log).active
   active alone =
       active_of same hash terms log old runs.stands runs.size (slot_of i)
       (inside_of same hash terms log old runs.stands guard (slot_of i) (led.lives ∙ ap Some (sym (begun.at_slot same hash terms log old runs nameless guard on call mid led))))
@@ -176,14 +176,14 @@ module _ {K V S : Type 0} (same : K → K → Bool) (hash : K → ℕ) (terms : 
       first_of false b is = absurd (cc is)
 
   module _ (played : Played V) (new : Scheduler K V S) (come : StepsCome same hash 0 most_steps played.steps played.outcome [] played.effects.items mid new) (goes : GoesAt nameless 0 mid) where
-    comes : ComesBy same hash terms nameless 0 (with_call nameless guard call (Some map) m) played.steps played.outcome [] played.effects.items new
+    comes : StepsHaveOutcome same hash terms nameless 0 (with_call nameless guard call (Some map) m) played.steps played.outcome [] played.effects.items new
     comes = come.1 terms (with_call nameless guard call (Some map) m) nameless mid_stands goes
 
     call_at : call_of nameless (with_call nameless guard call (Some map) m) ≡ Some c
     call_at = subst (λ (x : List ℕ). call_of x (with_call x guard call (Some map) m) ≡ Some c) name_is c_is
 
-    comes_as : ComesAs c.call played.outcome
-    comes_as = subst (λ (x : CallThere K V). ComesAs x.call played.outcome) (the comes.call c (sym comes.call_is ∙ call_at)) comes.comes
+    comes_as : HasOutcomeOfKind c.call played.outcome
+    comes_as = subst (λ (x : CallThere K V). HasOutcomeOfKind x.call played.outcome) (the comes.call c (sym comes.call_is ∙ call_at)) comes.comes
 
     never : played.outcome ≡ Refused Busy → ⊥
     never = never_busy c.call played.outcome comes_as
@@ -201,13 +201,13 @@ module _ {K V S : Type 0} (same : K → K → Bool) (hash : K → ℕ) (terms : 
     acts_on = ap (λ (o : Option (CallThere K V)). option_map (λ (x : CallThere K V). x.map) o) acting_is
 
     -- it is refused for the length of a table only in its case
-    pub whole_in_case : ComesInCase terms log (entry_of event played)
+    pub whole_in_case : OutcomeIsInCase terms log (entry_of event played)
     whole_in_case =
         let by = come.2 in
         let far_on = has_come same hash names terms log event m1 map i c 0 mid start by.0 by.2 by.3 by.4 in
         comes_in_case same hash names terms log event m1 map i c 0 c_is played by.0 by.2 by.3 new far_on by.5 begins acts_on
 
-    module _ (left : ComesRight terms log (entry_of event played)) (plays : IsPlayed same hash terms (entry_of event played ∷ log) new) where
+    module _ (left : HasRightOutcome terms log (entry_of event played)) (plays : IsPlayed same hash terms (entry_of event played ∷ log) new) where
       -- all is in order as it begins
       order : AllIsInOrder m1
       order = subst AllIsInOrder (begins) (all_begun terms log (entry_of event played) event played.outcome left runs.shows.order.0)

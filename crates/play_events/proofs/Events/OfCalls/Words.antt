@@ -15,12 +15,12 @@ use Rattle.run_schedules.specs.Schedules.Entry.{Entry, is_busy}
 use Rattle.run_schedules.specs.Schedules.Moment.{Moment}
 use Rattle.run_kept.specs.Given.EffectsKnown.{Known}
 use Rattle.play_stepping.specs.Given.PurposesKept.{ShowsNone}
-use Rattle.run_legal.specs.CallRuns.{ShowsAsTold, TellsEnd}
-use Rattle.run_legal.specs.CallSwept.{TellsOf}
+use Rattle.run_legal.specs.CallRuns.{OutcomeNamesShown, OutcomeEndsAsStep}
+use Rattle.run_legal.specs.CallSwept.{OutcomeOf}
 use Rattle.play_stepping.specs.Given.NamedSeen.{kind_of}
-use Rattle.play_stepping.specs.Given.NamedTelling.{goes_on}
+use Rattle.play_stepping.specs.Given.NamedTelling.{continues}
 use Rattle.play_stepping.specs.Given.ExecutorDeclared.kind.CallKind.{CallKind}
-use Rattle.play_stepping.specs.EventSteps.Stepping.{ComesAs}
+use Rattle.play_stepping.specs.EventSteps.Stepping.{HasOutcomeOfKind}
 use Rattle.play_stepping.specs.Given.Says.{outcome_of}
 use Rattle.play_stepping.proofs.EventSteps.OneStep.{ends_as}
 
@@ -32,7 +32,7 @@ not_busy _ never = refl
 
 module _ {K V : Type 0} (by : Known) (its : CallKind) (value : Option V) where
   -- one that goes on by itself shows no pair
-  pub shows_none : (said : Progress (Node K V)) → goes_on (outcome_of by its value said) ≡ true → ShowsNone said
+  pub shows_none : (said : Progress (Node K V)) → continues (outcome_of by its value said) ≡ true → ShowsNone said
   shows_none (progress.Pair word) on = absurd (cc on)
   shows_none _ on = tt
 
@@ -48,7 +48,7 @@ module _ {K V : Type 0} (by : Known) (its : CallKind) (value : Option V) where
   ready_as (progress.Refused fault) is = absurd (cc is)
 
   -- the outcome ends the call, is ready, and is short of memory just where the step is
-  pub tells_end : (said : Progress (Node K V)) → (outcome_of by its value said ≡ outcome.Refused Busy → ⊥) → TellsEnd said (outcome_of by its value said)
+  pub tells_end : (said : Progress (Node K V)) → (outcome_of by its value said ≡ outcome.Refused Busy → ⊥) → OutcomeEndsAsStep said (outcome_of by its value said)
   tells_end said never = record {
     ends = ends_as by its value said never;
     ready = ready_as said;
@@ -56,7 +56,7 @@ module _ {K V : Type 0} (by : Known) (its : CallKind) (value : Option V) where
   }
 
   -- one that is no walk asked for its next pair shows no pair
-  pub shows_as_told : (call : Call K V) (said : Progress (Node K V)) → ComesAs call (outcome_of by its value said) → ShowsAsTold {K = K} by said (outcome_of by its value said)
+  pub shows_as_told : (call : Call K V) (said : Progress (Node K V)) → HasOutcomeOfKind call (outcome_of by its value said) → OutcomeNamesShown {K = K} by said (outcome_of by its value said)
   shows_as_told (On one) (progress.Pair word) comes = absurd comes
   shows_as_told (Reserve more) (progress.Pair word) comes = absurd comes
   shows_as_told Clear (progress.Pair word) comes = absurd comes
@@ -75,10 +75,10 @@ module _ {K V : Type 0} (by : Known) (its : CallKind) (value : Option V) where
 -- what is told of one on a whole map
 module _ {K V : Type 0} (same : K → K → Bool) (log : List (Entry K V)) (m : Moment K V) (map : ℕ) (by : Known) (value : Option V) where
   abbrev Told : Call K V → Progress (Node K V) → Type 0
-  Told call said = TellsOf same log m map by said (outcome_of by (kind_of call) value said) call
+  Told call said = OutcomeOf same log m map by said (outcome_of by (kind_of call) value said) call
 
   abbrev Comes : Call K V → Progress (Node K V) → Type 0
-  Comes call said = ComesAs call (outcome_of by (kind_of call) value said)
+  Comes call said = HasOutcomeOfKind call (outcome_of by (kind_of call) value said)
 
   len_tells : (said : Progress (Node K V)) → Comes Len said → Told Len said
   len_tells (progress.Done (answers.Count n)) comes = inr (n, refl, refl)

@@ -13,17 +13,18 @@ use Rattle.run_schedules.specs.declared.event.Event.{Event}
 use Rattle.run_schedules.specs.declared.event.Event.TheVariants.{Begin, MakeMap, OneCall, Replied, Stop}
 use Rattle.run_schedules.specs.declared.outcome.Outcome.{Outcome}
 use Rattle.run_schedules.specs.declared.outcome.Outcome.TheVariants.{Done, Goes, Waits, Asks, Ready, Shows, Refused}
-use Rattle.run_schedules.specs.Schedules.After.{after, asks_on, calls_on, comes_to, stepped, without_call}
+use Rattle.run_schedules.specs.Schedules.After.{after, asks_on, calls_on, with_outcome, stepped, without_call}
 use Rattle.run_schedules.specs.Schedules.Beginning.{at_work, begun}
 use Rattle.run_schedules.specs.Schedules.Effects.{call_by, due_for, with_effect, with_effects, worked}
 use Rattle.run_schedules.specs.Schedules.Entry.{Entry, acted_on, caller_of, ends_call}
-use Rattle.run_schedules.specs.Schedules.Moment.{Asking, Moment, Stands, UnderWay as CallThere}
+use Rattle.run_schedules.specs.Schedules.Moment.{Asking, Moment, CallState, UnderWay as CallThere}
 use Rattle.play_stepping.specs.Given.CallersTogether.{UnderWay}
 use Rattle.run_kept.specs.Given.FinishesMachines.{machine_of}
 use Rattle.run_kept.proofs.Given.FollowsCalling.{apart_back, is_same_is}
 use Rattle.play_stepping.specs.Given.NamedSeen.{is_named}
 use Rattle.play_stepping.specs.Given.ExecutorDeclared.caller.NamedCaller.{NamedCaller}
-use Rattle.play_lists.proofs.Given.RowsLists.{all_but, both_some, found_alike, unseen}
+use Rattle.run_kept.proofs.Lists.{all_but}
+use Rattle.play_stepping.proofs.Given.RowsLists.{both_some, found_alike, unseen}
 use Rattle.play_stepping.proofs.Given.SchedulerRights.{quiet}
 use Rattle.run_kept.specs.Values.Values.{KeepsValue}
 use Rattle.play_events.specs.Events.Asked.{is_of_calls}
@@ -156,11 +157,11 @@ module _ {K V : Type 0} where
       by (f ∷ effects) m = by effects (with_effect (Some own) acted f m) ∙ unseen said_of (λ c. if is_same c.caller own then call_by m f c else c) (change_said own (call_by m f) (effect_said m f)) m.calls
 
   -- and so does what a call comes to
-  asks_said : (question : Option ℕ) (c : CallThere K V) (stands : Stands) → said_of (asks_on question c stands) ≡ said_of c
+  asks_said : (question : Option ℕ) (c : CallThere K V) (stands : CallState) → said_of (asks_on question c stands) ≡ said_of c
   asks_said question c (Asking q) = refl
   asks_said question c _ = refl
 
-  comes_said : (outcome : Outcome V) (steps : ℕ) (c : CallThere K V) → said_of (comes_to outcome (record c { steps = steps })) ≡ said_of c
+  comes_said : (outcome : Outcome V) (steps : ℕ) (c : CallThere K V) → said_of (with_outcome outcome (record c { steps = steps })) ≡ said_of c
   comes_said Goes steps c = refl
   comes_said Waits steps c = refl
   comes_said (Asks question) steps c = asks_said question (record c { steps = steps }) c.stands
@@ -204,12 +205,12 @@ module _ {K V : Type 0} where
   steps_say None outcome steps xs = said_same xs
   steps_say (Some own) outcome steps xs = by (ends_call outcome)
     where
-      by : (b : Bool) → SaidIn xs (if b then without_call own xs else map (λ c. if is_same c.caller own then comes_to outcome (record c { steps = c.steps + steps }) else c) xs)
+      by : (b : Bool) → SaidIn xs (if b then without_call own xs else map (λ c. if is_same c.caller own then with_outcome outcome (record c { steps = c.steps + steps }) else c) xs)
       by true = left_say own xs
       by false =
-          said_alike xs (map (λ c. if is_same c.caller own then comes_to outcome (record c { steps = c.steps + steps }) else c) xs)
-          (unseen said_of (λ c. if is_same c.caller own then comes_to outcome (record c { steps = c.steps + steps }) else c)
-          (change_said own (λ c. comes_to outcome (record c { steps = c.steps + steps })) (λ c. comes_said outcome (c.steps + steps) c)) xs)
+          said_alike xs (map (λ c. if is_same c.caller own then with_outcome outcome (record c { steps = c.steps + steps }) else c) xs)
+          (unseen said_of (λ c. if is_same c.caller own then with_outcome outcome (record c { steps = c.steps + steps }) else c)
+          (change_said own (λ c. with_outcome outcome (record c { steps = c.steps + steps })) (λ c. comes_said outcome (c.steps + steps) c)) xs)
 
 -- a change of the call of one name, which keeps that: it is found changed,
 module _ {K V : Type 0} (own : List ℕ) (change : CallThere K V → CallThere K V) (same_name : (c : CallThere K V) → (change c).caller ≡ c.caller) where

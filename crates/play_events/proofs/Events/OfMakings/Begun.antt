@@ -10,7 +10,7 @@ use Rattle.run_kept.specs.Given.FinishesMakings.{Beginning}
 use Rattle.run_schedules.specs.Schedules.After.{moment}
 use Rattle.run_schedules.specs.Schedules.Entry.{Entry}
 use Rattle.run_schedules.specs.Schedules.Terms.{Terms}
-use Rattle.play_lists.specs.Given.LoggedShown.{IsShown}
+use Rattle.play_stepping.specs.Given.LoggedShown.{IsShown}
 use Rattle.play_stepping.specs.Given.SchedulerWorks.{MakingHasRun}
 use Rattle.play_stepping.specs.Given.SchedulerDeclared.played.Played.{Played}
 use Rattle.play_stepping.specs.Given.SchedulerDeclared.scheduler.Scheduler.{Scheduler}

@@ -28,7 +28,7 @@ use Rattle.run_kept.specs.Given.EffectsKnown.{Known, known}
 use Rattle.run_kept.specs.Given.EffectsDeclared.acting.Acting.TheVariants as acts
 use Rattle.run_kept.specs.Given.FinishesMakings.{Beginning, IsMade}
 use Rattle.run_kept.specs.Given.FinishesMaps.{Standing}
-use Rattle.run_kept.specs.Given.FollowsShows.{Shows}
+use Rattle.run_kept.specs.Given.FollowsShows.{Refines}
 use Rattle.run_kept.specs.Given.OthersMakings.{IsNew, WasNew, making_after}
 use Rattle.run_kept.proofs.Given.OthersMakingGoes.{new_maps_stay}
 use Rattle.play_lists.specs.Given.FindsLinking.{IsMadeFor}
@@ -37,18 +37,18 @@ use Rattle.run_legal.specs.Chains.{Chain, Come, MakingSteps}
 use Rattle.run_legal.specs.MapEvents.{FindsItsMap, HasNotMade, InMakingEvent}
 use Rattle.run_legal.proofs.Chains.{makings_chain}
 use Rattle.run_legal.proofs.Maps.{unmade_maps}
-use Rattle.play_stepping.proofs.Given.GrowsFinding.Alike.{made_still}
+use Rattle.run_legal.proofs.Given.GrowsFinding.Alike.{made_still}
 use Rattle.run_legal.proofs.Slots.{each_join}
-use Rattle.play_stepping.specs.Given.NeedsFirsts.{ShowsOpenings}
+use Rattle.play_stepping.specs.Given.NeedsFirsts.{AllMakingsOpen}
 use Rattle.play_stepping.specs.Given.NeedsMakings.{CountsTables, table_left}
 use Rattle.play_stepping.proofs.Given.NeedsFirsts.{makings_go_on}
 use Rattle.run_kept.proofs.Given.RemainsNumbered.{made_stays}
-use Rattle.play_lists.specs.Given.LoggedGoes.{Far, GoesFor, MakingGoes, MakingOn}
-use Rattle.play_lists.specs.Given.LoggedMakings.{is_over}
-use Rattle.play_lists.specs.Given.LoggedShown.{IsCounted}
-use Rattle.play_lists.proofs.Given.LoggedCounted.{counted_making_steps}
+use Rattle.play_stepping.specs.Given.LoggedGoes.{Far, GoesFor, MakingGoes, MakingOn}
+use Rattle.play_stepping.specs.Given.LoggedMakings.{is_over}
+use Rattle.play_stepping.specs.Given.LoggedShown.{IsCounted}
+use Rattle.play_stepping.proofs.Given.LoggedCounted.{counted_making_steps}
 use Rattle.run_kept.proofs.Sheds.LeftNoted.{makings_note_left}
-use Rattle.play_lists.proofs.Given.LoggedMakingSteps.{is_there}
+use Rattle.run_legal.proofs.Given.LogMakingSteps.{is_there}
 use Rattle.run_kept.proofs.Sheds.Held.{making_held, maps_below}
 use Rattle.play_stepping.specs.Given.NamedPlaces.{first_places}
 use Rattle.play_stepping.proofs.Given.NeedsMakings.{makings_do_theirs, makings_find_theirs}
@@ -88,7 +88,7 @@ module _ {K V : Type 0} (same : K → K → Bool) (hash : ℕ → K → ℕ) (s 
   calls_still (progress.Done setting) leads = refl
   calls_still (progress.Refused fault) leads = refl
 
-  new_still : (name : ℕ → List ℕ) (m : Moment K V) (k : Known) → IsAt same hash old s → Shows same name m k s → (of : Option ℕ) (setting : Setting) (said : Advance Setting) → Leads said → is_over said ≡ false
+  new_still : (name : ℕ → List ℕ) (m : Moment K V) (k : Known) → IsAt same hash old s → Refines same name m k s → (of : Option ℕ) (setting : Setting) (said : Advance Setting) → Leads said → is_over said ≡ false
       → IsNew b.map setting m → IsNew b.map setting (with_effects None of (effects_of (acts.Making b.map) k new.changed) m)
   new_still name m k at shows of setting progress.Goes leads more is_new = new_maps_stay K V same hash name m k s old new at shows i leads b here of setting is_new
   new_still name m k at shows of setting progress.Waits leads more is_new = absurd (leads b here).3
@@ -150,7 +150,7 @@ module _ {K V : Type 0} (b : Beginning K) (began : Moment K V) (there : MapThere
     pub made : m.made ≡ began.made
     pub made_for : IsMadeFor b.map m b.given
     pub found : AtEachEffect (EventFinds (Some b.map) false) None (Some b.map) effects began
-    pub openings : ShowsOpenings s
+    pub openings : AllMakingsOpen s
     pub there_is : map_at b.map m ≡ Some there
 
 module _ {K V S : Type 0} (same : K → K → Bool) (hash : K → ℕ) (terms : Terms) (name : ℕ → List ℕ) (log : List (Entry K V)) (own : List ℕ) (mode : ResizeMode) (capacity i : ℕ) (b : Beginning K) (began : Moment K V) where
@@ -258,8 +258,8 @@ module _ {K V S : Type 0} (same : K → K → Bool) (hash : K → ℕ) (terms : 
       abbrev goes : MakingLeads same (λ map. hash) i step.said y.scene (held_by mid.logged.executor) (held_by to.logged.executor)
       goes = leads n x mid to y stood it step
 
-      shown_then : Shows same name comes_on.now (known_after (acts.Making b.map) to.logged.executor.memory.changed (known mid.logged.notes)) comes_on.scene
-      shown_then = subst (λ (k : Known). Shows same name comes_on.now k comes_on.scene) step.is_noted.noted comes_on.midst.0.calls.whole.all.shown
+      shown_then : Refines same name comes_on.now (known_after (acts.Making b.map) to.logged.executor.memory.changed (known mid.logged.notes)) comes_on.scene
+      shown_then = subst (λ (k : Known). Refines same name comes_on.now k comes_on.scene) step.is_noted.noted comes_on.midst.0.calls.whole.all.shown
 
       step_found : AtEachEffect (EventFinds (Some b.map) false) None (Some b.map) did_now y.now
       step_found =

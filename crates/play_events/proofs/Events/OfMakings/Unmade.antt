@@ -20,7 +20,7 @@ use Rattle.run_schedules.specs.declared.event.Event.TheVariants.{MakeMap}
 use Rattle.run_schedules.specs.declared.outcome.Outcome.TheVariants.{Refused}
 use Rattle.run_schedules.specs.Schedules.After.{moment}
 use Rattle.run_schedules.specs.Schedules.Entry.{Entry, is_busy}
-use Rattle.run_schedules.specs.Schedules.InTurn.{ComesRight, is_growth}
+use Rattle.run_schedules.specs.Schedules.InTurn.{HasRightOutcome, is_growth}
 use Rattle.run_schedules.specs.Schedules.Moment.{MapThere, Moment}
 use Rattle.run_schedules.specs.Schedules.Terms.{Terms}
 use Rattle.run_kept.specs.Given.EffectsEffects.{effects_of}
@@ -28,7 +28,7 @@ use Rattle.run_kept.specs.Given.EffectsKnown.{Known, known}
 use Rattle.run_kept.specs.Given.EffectsDeclared.acting.Acting.TheVariants as acts
 use Rattle.run_kept.specs.Given.EffectsDeclared.notes.Notes.{Notes}
 use Rattle.run_legal.specs.CallEvents.{IsLegalBut}
-use Rattle.run_legal.specs.Carried.{ShowsRun}
+use Rattle.run_legal.specs.Carried.{RefinesRun}
 use Rattle.run_legal.specs.Chains.{Come}
 use Rattle.run_legal.specs.MapEvents.{HasNotMade, InMakingEvent}
 use Rattle.run_legal.proofs.Growths.{growths_leave}
@@ -36,12 +36,12 @@ use Rattle.run_legal.proofs.Heads.Chains.{makings_taken}
 use Rattle.run_legal.proofs.Heads.Rows.{slots_stay}
 use Rattle.run_legal.proofs.Maps.{unmade_maps}
 use Rattle.run_legal.proofs.Refused.{refused_begins, refused_ends}
-use Rattle.run_kept.specs.Given.ReclaimsLeft.{LeftAmong}
-use Rattle.play_lists.specs.Given.LoggedGoes.{Far, GoesFor, MakingGoes, MakingOn, far}
-use Rattle.play_lists.specs.Given.LoggedMakings.{MakingCame, MakingIsBegun, given_back, is_over}
-use Rattle.play_lists.specs.Given.LoggedDeclared.logged.Logged.{Logged}
-use Rattle.play_lists.proofs.Given.LoggedGivenBack.{at_given}
-use Rattle.play_lists.proofs.Given.LoggedMakingsRun.{came_on}
+use Rattle.run_kept.specs.Given.ReclaimsLeft.{LeftWithEndings}
+use Rattle.play_stepping.specs.Given.LoggedGoes.{Far, GoesFor, MakingGoes, MakingOn, far}
+use Rattle.play_stepping.specs.Given.LoggedMakings.{MakingCame, MakingIsBegun, given_back, is_over}
+use Rattle.play_stepping.specs.Given.LoggedDeclared.logged.Logged.{Logged}
+use Rattle.run_legal.proofs.Given.LoggedGivenBack.{at_given}
+use Rattle.run_legal.proofs.Given.LogMakingsRun.{came_on}
 use Rattle.play_stepping.specs.Given.SchedulerMapping.{MayMap}
 use Rattle.play_stepping.specs.Given.SchedulerPlayed.{IsPlayed}
 use Rattle.play_stepping.specs.Given.SchedulerWorks.{MakingHasRun}
@@ -50,7 +50,7 @@ use Rattle.play_stepping.specs.Given.SchedulerDeclared.scheduler.Scheduler.{Sche
 use Rattle.play_stepping.proofs.Given.SchedulerRights.{entry}
 use Rattle.play_stepping.proofs.Mapping.MapsMade.{refused_never}
 use Rattle.run_legal.proofs.Works.Reached.{makings_note_more}
-use Rattle.play_stepping.proofs.Given.NeedsRefusals.{IsRefusedSo, MayBeRefused, refused_so}
+use Rattle.play_events.proofs.Events.Refusals.{IsRefusedSo, MayBeRefused, refused_so}
 use Rattle.play_events.specs.Events.Asked.{Holds}
 use Rattle.play_events.specs.Events.OfCalls.{HaveShards, Runs, RunsOn}
 use Rattle.play_events.proofs.Events.OfMakings.Begun.{begun_as, begun_in, begun_shown, none_begun}
@@ -258,9 +258,9 @@ module _ {K V S : Type 0} (same : K → K → Bool) (hash : K → ℕ) (terms : 
       run.shards n setting
       (sym (run.stands.shown.is_at.maps n) ∙ sym (ap (λ (f : ℕ → Option (Standing K)). option_map (λ (st : Standing K). st.setting) (f n)) maps_are) ∙ at_end.maps n ∙ is)
 
-  left_behind : LeftAmong new.logged.executor.roots y.scene.world y.scene.maps y.scene.makers y.scene.enders y.counted.remains.lists
+  left_behind : LeftWithEndings new.logged.executor.roots y.scene.world y.scene.maps y.scene.makers y.scene.enders y.counted.remains.lists
   left_behind =
-      subst (λ (r : ℕ). LeftAmong r y.scene.world y.scene.maps y.scene.makers y.scene.enders y.counted.remains.lists) (sym (ap (λ (c : Executor K V S). c.roots) d.gone.6)) y.counted.remains.left
+      subst (λ (r : ℕ). LeftWithEndings r y.scene.world y.scene.maps y.scene.makers y.scene.enders y.counted.remains.lists) (sym (ap (λ (c : Executor K V S). c.roots) d.gone.6)) y.counted.remains.left
 
   taken : SlotsTaken y.scene.world.memory (moment (e ∷ log)).slots
   taken =
@@ -279,12 +279,12 @@ module _ {K V S : Type 0} (same : K → K → Bool) (hash : K → ℕ) (terms : 
       subst (λ (said : Advance Setting). IsRefusedSo effects ((last.leads same hash z.0.scene z.0.is_at its z.1.1).0, said)) d.gone.4
       (refused_by same hash terms name log own mode capacity i b s.maps d.first.1.most d.gone.1.0 x prev (far effects mid) z last)
 
-  ends : ComesRight terms log e → IsLegalBut same terms log e × ShowsRun same name terms (e ∷ log) (known mid.notes) y.scene
+  ends : HasRightOutcome terms log e → IsLegalBut same terms log e × RefinesRun same name terms (e ∷ log) (known mid.notes) y.scene
   ends right =
       refused_ends K V same name terms log (known old.logged.notes) (known mid.notes) s y.scene own mode capacity fault played.steps b.map effects
       (subst (λ (v : Moment K V). InMakingEvent same name terms log (MakeMap own mode capacity) b.map m effects v (known mid.notes) y.scene) still y.midst) asks or_nothing y.firsts never run.shows right
 
-  pub refused_runs : IsPlayed same hash terms (e ∷ log) new → ComesRight terms log e → RunsOn same hash terms log e new
+  pub refused_runs : IsPlayed same hash terms (e ∷ log) new → HasRightOutcome terms log e → RunsOn same hash terms log e new
   refused_runs so right =
       over_runs same hash terms log e old new run refl y.scene at_end y.counted.remains.lists left_behind calls y.calls so right (ends right).0
-      (subst (λ (n : Notes). ShowsRun same name terms (e ∷ log) (known n) y.scene) (sym d.gone.5) (ends right).1) taken (ap (λ (c : Executor K V S). c.batch_size) d.gone.6 ∙ y.size) shards grows
+      (subst (λ (n : Notes). RefinesRun same name terms (e ∷ log) (known n) y.scene) (sym d.gone.5) (ends right).1) taken (ap (λ (c : Executor K V S). c.batch_size) d.gone.6 ∙ y.size) shards grows

@@ -11,9 +11,9 @@ use Rattle.run_schedules.specs.Schedules.Terms.{Terms}
 use Rattle.run_kept.specs.Given.EffectsEffects.{effects_of, known_after}
 use Rattle.run_kept.specs.Given.EffectsKnown.{Known, known}
 use Rattle.run_kept.specs.Given.EffectsDeclared.acting.Acting.TheVariants as acts
-use Rattle.play_lists.specs.Given.LoggedGoes.{Far, GoesFor, RowGoes}
-use Rattle.play_lists.specs.Given.LoggedShown.{IsCounted}
-use Rattle.play_lists.proofs.Given.LoggedCounted.{counted_row_steps}
+use Rattle.play_stepping.specs.Given.LoggedGoes.{Far, GoesFor, RowGoes}
+use Rattle.play_stepping.specs.Given.LoggedShown.{IsCounted}
+use Rattle.play_stepping.proofs.Given.LoggedCounted.{counted_row_steps}
 use Rattle.run_kept.proofs.Sheds.LeftNoted.{rows_note_left}
 use Rattle.run_legal.specs.Chains.{Chain, Come, RowSteps}
 use Rattle.play_stepping.specs.Given.ExecutorIsThere.{IsThere, held_by}

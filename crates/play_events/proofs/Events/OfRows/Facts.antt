@@ -33,12 +33,12 @@ use Rattle.run_kept.proofs.Given.PromisesGuards.{only_guards_leave_nobody}
 use Rattle.run_kept.specs.Models.OnSlots.{IsRowFor}
 use Rattle.run_kept.specs.Models.Rows.{RowsAre}
 use Rattle.run_kept.proofs.Models.Rows.{events_are_rows}
-use Rattle.play_lists.specs.Given.LoggedDeclared.logged.Logged.{Logged}
-use Rattle.play_lists.specs.Given.RowsRows.{RowRan, left_as}
-use Rattle.play_lists.proofs.Given.RowsNeverWaits.{led_alone, over_alone}
-use Rattle.play_lists.proofs.Given.RowsRan.{Led, led_once, over_once}
-use Rattle.play_stepping.specs.Given.SchedulerPlayed.{IsDue, StandsFor}
-use Rattle.play_stepping.specs.Given.SchedulerWorks.{ComesBy, IsAbout, IsItsRow, told_so}
+use Rattle.play_stepping.specs.Given.LoggedDeclared.logged.Logged.{Logged}
+use Rattle.run_legal.specs.Given.RowsRows.{RowRan, left_as}
+use Rattle.run_legal.proofs.Given.RowsNeverWaits.{led_alone, over_alone}
+use Rattle.run_legal.proofs.Given.RowsRan.{Led, led_once, over_once}
+use Rattle.play_stepping.specs.Given.SchedulerPlayed.{IsInTurn, RefinesFor}
+use Rattle.play_stepping.specs.Given.SchedulerWorks.{HasOutcomeBy, IsAbout, IsItsRow, outcome_of_row}
 use Rattle.play_stepping.specs.Given.SchedulerDeclared.scheduler.Scheduler.{Scheduler}
 use Rattle.play_stepping.proofs.Given.SchedulerDropped.{free_lives, lives_on}
 use Rattle.play_stepping.proofs.Given.SchedulerDrops as drops_so
@@ -62,7 +62,7 @@ outside_by kind v fits is inside = let so = subst (λ (x : SlotUse). IsUsedAs x 
 vacant_by : (kind : SlotUse) (v : Use) → IsUsedAs kind v → kind ≡ used.Vacant → IsInside v → ⊥
 vacant_by kind v fits is inside = let so = subst (λ (x : SlotUse). IsUsedAs x v) is fits in subst (λ (x : Use). IsInside x) so inside
 
-module _ {K V S : Type 0} (same : K → K → Bool) (hash : K → ℕ) (terms : Terms) (log : List (Entry K V)) (p : Scheduler K V S) (stands : StandsFor same hash terms (moment log) p) where
+module _ {K V S : Type 0} (same : K → K → Bool) (hash : K → ℕ) (terms : Terms) (log : List (Entry K V)) (p : Scheduler K V S) (stands : RefinesFor same hash terms (moment log) p) where
   -- A guard that lives is there, on its slot
   module _ (guard : List ℕ) (slot : ℕ) (lives : living_slot (guard_of guard p.there.guards) ≡ Some slot) where
     pub slot_is : slot_of_guard guard (moment log).there ≡ slot
@@ -78,7 +78,7 @@ module _ {K V S : Type 0} (same : K → K → Bool) (hash : K → ℕ) (terms : 
         (subst (λ (x : ℕ). NobodyOn x (drops guard p.there)) g.2
         (only_guards_leave_nobody p.there stands.names guard g.0 g.1 (subst (λ (x : ℕ). guards_on x p.there.guards ≡ 1) (sym g.2) one)))
 
-module _ {K V S : Type 0} (same : K → K → Bool) (hash : K → ℕ) (terms : Terms) (log : List (Entry K V)) (p : Scheduler K V S) (stands : StandsFor same hash terms (moment log) p) (said : RowTold (Node K V))
+module _ {K V S : Type 0} (same : K → K → Bool) (hash : K → ℕ) (terms : Terms) (log : List (Entry K V)) (p : Scheduler K V S) (stands : RefinesFor same hash terms (moment log) p) (said : RowTold (Node K V))
     (did : List Effect) (new : Logged K V S) where
   abbrev m : Moment K V
   m = moment log
@@ -92,10 +92,10 @@ module _ {K V S : Type 0} (same : K → K → Bool) (hash : K → ℕ) (terms : 
     pub over : work_of new.executor ran.caller ≡ None
     pub led : Led same hash ran.caller stands.scene new.executor
     pub spares : SparesGuards called slot (there_in event m.there)
-    pub not_busy : (outcome : Outcome V) → ComesBy event said outcome → is_busy outcome ≡ false
-    pub is_row : (w : World (Node K V)) → ((t : ℕ) → IsUsedAs (use_at new.executor t) (w.uses t)) → (outcome : Outcome V) → ComesBy event said outcome
+    pub not_busy : (outcome : Outcome V) → HasOutcomeBy event said outcome → is_busy outcome ≡ false
+    pub is_row : (w : World (Node K V)) → ((t : ℕ) → IsUsedAs (use_at new.executor t) (w.uses t)) → (outcome : Outcome V) → HasOutcomeBy event said outcome
         → IsRowFor (request_of slot called) before w.uses event outcome (begun event outcome m)
-    pub inside : (w : World (Node K V)) → ((t : ℕ) → IsUsedAs (use_at new.executor t) (w.uses t)) → (outcome : Outcome V) → ComesBy event said outcome → EndsInside w event outcome m.there
+    pub inside : (w : World (Node K V)) → ((t : ℕ) → IsUsedAs (use_at new.executor t) (w.uses t)) → (outcome : Outcome V) → HasOutcomeBy event said outcome → EndsInside w event outcome m.there
 
   abbrev FactsAt : Event K V → ℕ → SlotCall → Type 0
   FactsAt event slot called = (ran : RowRan slot called said [] did p.logged new) → RowFacts event slot called ran
@@ -108,7 +108,7 @@ module _ {K V S : Type 0} (same : K → K → Bool) (hash : K → ℕ) (terms : 
   by_done P outcome is so = subst P (sym is) so
 
   module _ (guard registration : List ℕ) (turn : (moment log).is_closed ≡ false) where
-    abbrev enter_due : IsDue same hash terms log (Enter guard registration) p
+    abbrev enter_due : IsInTurn same hash terms log (Enter guard registration) p
     enter_due = record { played = stands; in_turn = turn }
 
     enter_facts : (slot : ℕ) → IsAbout (Enter guard registration) p slot → guards_on slot p.there.guards ≡ 0 → FactsAt (Enter guard registration) slot call.Enter
@@ -135,7 +135,7 @@ module _ {K V S : Type 0} (same : K → K → Bool) (hash : K → ℕ) (terms : 
         none_on = ap (λ (x : ℕ). guards_on x m.there.guards) its_slot ∙ ap (λ (x : Present). guards_on slot x.guards) stands.there ∙ first
 
   module _ (registration : List ℕ) (turn : (moment log).is_closed ≡ false) where
-    abbrev unregister_due : IsDue same hash terms log (Unregister registration) p
+    abbrev unregister_due : IsInTurn same hash terms log (Unregister registration) p
     unregister_due = record { played = stands; in_turn = turn }
 
     unregister_facts : (slot : ℕ) → IsAbout (Unregister registration) p slot → guards_on slot p.there.guards ≡ 0 → FactsAt (Unregister registration) slot call.Unregister
@@ -152,7 +152,7 @@ module _ {K V S : Type 0} (same : K → K → Bool) (hash : K → ℕ) (terms : 
         }
 
   module _ (guard : List ℕ) (turn : (moment log).is_closed ≡ false) where
-    abbrev refresh_due : IsDue same hash terms log (Refresh guard) p
+    abbrev refresh_due : IsInTurn same hash terms log (Refresh guard) p
     refresh_due = record { played = stands; in_turn = turn }
 
     refresh_facts : (slot : ℕ) → IsAbout (Refresh guard) p slot → guards_on slot p.there.guards ≡ 1 → FactsAt (Refresh guard) slot call.Refresh
@@ -180,7 +180,7 @@ module _ {K V S : Type 0} (same : K → K → Bool) (hash : K → ℕ) (terms : 
         lives = free_lives same hash terms m p stands guard slot free
 
   module _ (guard : List ℕ) (turn : (moment log).is_closed ≡ false) where
-    abbrev drop_due : IsDue same hash terms log (DropGuard guard) p
+    abbrev drop_due : IsInTurn same hash terms log (DropGuard guard) p
     drop_due = record { played = stands; in_turn = turn }
 
     drop_facts : (slot : ℕ) → IsAbout (DropGuard guard) p slot → guards_on slot p.there.guards ≡ 1 → FactsAt (DropGuard guard) slot (left_as slot p.there)
@@ -211,7 +211,7 @@ module _ {K V S : Type 0} (same : K → K → Bool) (hash : K → ℕ) (terms : 
         row after false = subst (λ (x : ℕ). IsRowFor (LeaveOwned x) before after (DropGuard guard) Done m) (slot_is same hash terms log p stands guard slot lives) ((rows after).leaves_owned guard (one_on same hash terms log p stands guard slot lives one))
 
   module _ (guard : List ℕ) (turn : (moment log).is_closed ≡ false) where
-    abbrev flush_due : IsDue same hash terms log (Flush guard) p
+    abbrev flush_due : IsInTurn same hash terms log (Flush guard) p
     flush_due = record { played = stands; in_turn = turn }
 
     flush_facts : (slot : ℕ) → IsAbout (Flush guard) p slot
@@ -269,13 +269,13 @@ module _ {K V S : Type 0} (same : K → K → Bool) (hash : K → ℕ) (terms : 
     told_which : Which
     told_which = which same hash terms m p stands enters said [] did new ran
 
-    not_out : (outcome : Outcome V) → outcome ≡ told_so said → is_busy outcome ≡ false
+    not_out : (outcome : Outcome V) → outcome ≡ outcome_of_row said → is_busy outcome ≡ false
     not_out outcome is = by told_which
       where
         by : Which → is_busy outcome ≡ false
-        by (inl (slot, so)) = ap is_busy (is ∙ ap told_so so)
-        by (inr (fault, so, inl memory)) = ap is_busy (is ∙ ap told_so so ∙ ap Refused memory)
-        by (inr (fault, so, inr used_up)) = ap is_busy (is ∙ ap told_so so ∙ ap Refused used_up)
+        by (inl (slot, so)) = ap is_busy (is ∙ ap outcome_of_row so)
+        by (inr (fault, so, inl memory)) = ap is_busy (is ∙ ap outcome_of_row so ∙ ap Refused memory)
+        by (inr (fault, so, inr used_up)) = ap is_busy (is ∙ ap outcome_of_row so ∙ ap Refused used_up)
 
   register_facts : (registration : List ℕ) → FactsAt (Register registration) 0 (call.Register false)
   register_facts registration ran = record {
@@ -288,12 +288,12 @@ module _ {K V S : Type 0} (same : K → K → Bool) (hash : K → ℕ) (terms : 
     inside = λ w fits outcome is. tt;
   }
     where
-      row : (w : World (Node K V)) → ((t : ℕ) → IsUsedAs (use_at new.executor t) (w.uses t)) → (outcome : Outcome V) → outcome ≡ told_so said → Which false ran
+      row : (w : World (Node K V)) → ((t : ℕ) → IsUsedAs (use_at new.executor t) (w.uses t)) → (outcome : Outcome V) → outcome ≡ outcome_of_row said → Which false ran
           → IsRowFor (Register' false) before w.uses (Register registration) outcome m
       row w fits outcome is (inl (slot, so)) =
-          subst (λ (o : Outcome V). IsRowFor (Register' false) before w.uses (Register registration) o m) (sym (is ∙ ap told_so so)) (registered_row false ran w fits slot so refl registration)
+          subst (λ (o : Outcome V). IsRowFor (Register' false) before w.uses (Register registration) o m) (sym (is ∙ ap outcome_of_row so)) (registered_row false ran w fits slot so refl registration)
       row w fits outcome is (inr (fault, so, why)) =
-          subst (λ (o : Outcome V). IsRowFor (Register' false) before w.uses (Register registration) o m) (sym (is ∙ ap told_so so)) (none_changed false ran w fits fault so)
+          subst (λ (o : Outcome V). IsRowFor (Register' false) before w.uses (Register registration) o m) (sym (is ∙ ap outcome_of_row so)) (none_changed false ran w fits fault so)
 
   own_facts : (guard : List ℕ) → FactsAt (Own guard) 0 (call.Register true)
   own_facts guard ran = record {
@@ -306,16 +306,16 @@ module _ {K V S : Type 0} (same : K → K → Bool) (hash : K → ℕ) (terms : 
     inside = λ w fits outcome is. inside w fits outcome is (told_which true ran);
   }
     where
-      row : (w : World (Node K V)) → ((t : ℕ) → IsUsedAs (use_at new.executor t) (w.uses t)) → (outcome : Outcome V) → outcome ≡ told_so said → Which true ran
+      row : (w : World (Node K V)) → ((t : ℕ) → IsUsedAs (use_at new.executor t) (w.uses t)) → (outcome : Outcome V) → outcome ≡ outcome_of_row said → Which true ran
           → IsRowFor (Register' true) before w.uses (Own guard) outcome m
       row w fits outcome is (inl (slot, so)) =
-          subst (λ (o : Outcome V). IsRowFor (Register' true) before w.uses (Own guard) o m) (sym (is ∙ ap told_so so)) (owned_row true ran w fits slot so refl guard).0
+          subst (λ (o : Outcome V). IsRowFor (Register' true) before w.uses (Own guard) o m) (sym (is ∙ ap outcome_of_row so)) (owned_row true ran w fits slot so refl guard).0
       row w fits outcome is (inr (fault, so, why)) =
-          subst (λ (o : Outcome V). IsRowFor (Register' true) before w.uses (Own guard) o m) (sym (is ∙ ap told_so so)) (none_changed true ran w fits fault so)
+          subst (λ (o : Outcome V). IsRowFor (Register' true) before w.uses (Own guard) o m) (sym (is ∙ ap outcome_of_row so)) (none_changed true ran w fits fault so)
 
-      inside : (w : World (Node K V)) → ((t : ℕ) → IsUsedAs (use_at new.executor t) (w.uses t)) → (outcome : Outcome V) → outcome ≡ told_so said → Which true ran → EndsInside w (Own guard) outcome m.there
-      inside w fits outcome is (inl (slot, so)) = subst (λ (o : Outcome V). EndsInside w (Own guard) o m.there) (sym (is ∙ ap told_so so)) (owned_row true ran w fits slot so refl guard).1
-      inside w fits outcome is (inr (fault, so, why)) = subst (λ (o : Outcome V). EndsInside w (Own guard) o m.there) (sym (is ∙ ap told_so so)) tt
+      inside : (w : World (Node K V)) → ((t : ℕ) → IsUsedAs (use_at new.executor t) (w.uses t)) → (outcome : Outcome V) → outcome ≡ outcome_of_row said → Which true ran → EndsInside w (Own guard) outcome m.there
+      inside w fits outcome is (inl (slot, so)) = subst (λ (o : Outcome V). EndsInside w (Own guard) o m.there) (sym (is ∙ ap outcome_of_row so)) (owned_row true ran w fits slot so refl guard).1
+      inside w fits outcome is (inr (fault, so, why)) = subst (λ (o : Outcome V). EndsInside w (Own guard) o m.there) (sym (is ∙ ap outcome_of_row so)) tt
 
   -- whichever event it is
   pub facts : (event : Event K V) → (moment log).is_closed ≡ false → (slot : ℕ) → IsAbout event p slot → (called : SlotCall) → IsItsRow event p slot called → FactsAt event slot called

@@ -9,7 +9,7 @@ use Rattle.run_schedules.specs.Schedules.Moment.{UnderWay as CallThere}
 use Rattle.run_schedules.specs.Schedules.Terms.{Terms}
 use Rattle.run_kept.specs.Given.EffectsKnown.{known}
 use Rattle.run_kept.specs.Models.Follows.{FollowsModel}
-use Rattle.run_legal.specs.Carried.{ComesAlone, FollowsOrRows}
+use Rattle.run_legal.specs.Carried.{IsSequential, FollowsOrRows}
 use Rattle.play_stepping.specs.Given.NamedSeen.{seen, seen_of}
 use Rattle.play_stepping.specs.Given.ExecutorDeclared.caller.NamedCaller.{NamedCaller}
 use Rattle.play_stepping.specs.Given.SchedulerDeclared.scheduler.Scheduler.{Scheduler}
@@ -27,7 +27,7 @@ module _ {K V S : Type 0} (same : K → K → Bool) (hash : K → ℕ) (terms : 
   no_callers [] is i any = cc any
   no_callers (d ∷ ds) is i any = cc is
 
-  pub alone_follows : (event : Event K V) → speaker event ≡ None → ComesAlone event log → FollowsModel terms.batch_size terms.roots log (known p.logged.notes) run.stands.scene.world
+  pub alone_follows : (event : Event K V) → speaker event ≡ None → IsSequential event log → FollowsModel terms.batch_size terms.roots log (known p.logged.notes) run.stands.scene.world
   alone_follows event speaks alone = by (run.shows.follows (both_so (moment log).is_alone _ alone).0)
     where
       none : (moment log).calls ≡ []

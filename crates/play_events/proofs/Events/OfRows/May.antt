@@ -13,8 +13,8 @@ use Rattle.run_schedules.specs.Schedules.Handing.{is_only, is_reclaiming, may_do
 use Rattle.run_schedules.specs.Schedules.Terms.{Terms}
 use Rattle.run_kept.specs.Given.ScenesDeclared.row.SlotCall.{SlotCall}
 use Rattle.run_kept.specs.Given.ScenesDeclared.row.SlotCall.TheVariants as call
-use Rattle.play_lists.proofs.Given.RowsThere.{is_inside, on_its_slot}
-use Rattle.play_stepping.specs.Given.SchedulerPlayed.{StandsFor}
+use Rattle.run_legal.proofs.Given.RowsThere.{is_inside, on_its_slot}
+use Rattle.play_stepping.specs.Given.SchedulerPlayed.{RefinesFor}
 use Rattle.play_stepping.specs.Given.SchedulerWorks.{IsAbout, IsItsRow}
 use Rattle.play_stepping.specs.Given.SchedulerDeclared.scheduler.Scheduler.{Scheduler}
 use Rattle.play_stepping.proofs.Given.SchedulerDropped.{free_lives}
@@ -41,7 +41,7 @@ left_is_none : (b : Bool) (called : SlotCall) → called ≡ (if b then call.Lea
 left_is_none true called is flush = cc (is, flush)
 left_is_none false called is flush = cc (is, flush)
 
-module _ {K V S : Type 0} (same : K → K → Bool) (hash : K → ℕ) (terms : Terms) (log : List (Entry K V)) (p : Scheduler K V S) (stands : StandsFor same hash terms (moment log) p) where
+module _ {K V S : Type 0} (same : K → K → Bool) (hash : K → ℕ) (terms : Terms) (log : List (Entry K V)) (p : Scheduler K V S) (stands : RefinesFor same hash terms (moment log) p) where
   -- the guard is the only one on its slot
   alone : (guard : List ℕ) (slot : ℕ) → IsAbout (Refresh guard) p slot → guards_on slot p.there.guards ≡ 1 → is_only guard (moment log) ≡ true
   alone guard slot about one = ap (λ (n : ℕ). n == 1) (one_on same hash terms log p stands guard slot (free_lives same hash terms (moment log) p stands guard slot about) one)

@@ -6,14 +6,14 @@ use Rattle.run_schedules.specs.declared.event.Event.{Event}
 use Rattle.run_schedules.specs.declared.event.Event.TheVariants.{Go, Next, OneCall, Step}
 use Rattle.run_schedules.specs.Schedules.After.{moment}
 use Rattle.run_schedules.specs.Schedules.Entry.{Entry, caller_of}
-use Rattle.run_schedules.specs.Schedules.InTurn.{ComesRight}
+use Rattle.run_schedules.specs.Schedules.InTurn.{HasRightOutcome}
 use Rattle.run_schedules.specs.Schedules.Terms.{Terms}
 use Rattle.run_kept.specs.Given.EffectsKnown.{known}
 use Rattle.run_legal.specs.CallEvents.{IsLegalBut}
-use Rattle.run_legal.specs.Carried.{ShowsRun}
+use Rattle.run_legal.specs.Carried.{RefinesRun}
 use Rattle.run_legal.proofs.Come.{events_bring_things}
 use Rattle.play_events.proofs.Folded.Steps.{none_in_order}
-use Rattle.run_kept.specs.Given.ReclaimsLeft.{LeftAmong}
+use Rattle.run_kept.specs.Given.ReclaimsLeft.{LeftWithEndings}
 use Rattle.play_stepping.specs.Given.ExecutorDeclared.caller.NamedCaller.{NamedCaller}
 use Rattle.play_stepping.specs.Given.SchedulerPlayed.{IsPlayed}
 use Rattle.play_stepping.specs.Given.SchedulerDeclared.scheduler.Scheduler.{Scheduler}
@@ -36,7 +36,7 @@ by_none _ none = refl
 
 module _ {K V S : Type 0} (same : K → K → Bool) (hash : K → ℕ) (terms : Terms) (log : List (Entry K V)) (e : Entry K V) (old new : Scheduler K V S) (run : Runs same hash terms log old)
     (none : is_of_calls e.event ≡ false) (scene : Scene K V) (at_end : IsThere same hash new.logged.executor scene) (lists : ℕ → List ℕ)
-    (left : LeftAmong new.logged.executor.roots scene.world scene.maps scene.makers scene.enders lists) (callers : new.calls ≡ old.calls) (calls : scene.calls ≡ run.stands.scene.calls) where
+    (left : LeftWithEndings new.logged.executor.roots scene.world scene.maps scene.makers scene.enders lists) (callers : new.calls ≡ old.calls) (calls : scene.calls ≡ run.stands.scene.calls) where
   named : AreNamed run.stands.name new.calls
   named = subst (λ (cs : List (NamedCaller V)). AreNamed run.stands.name cs) (sym callers) (its_named same hash terms (moment log) old run.stands)
 
@@ -46,7 +46,7 @@ module _ {K V S : Type 0} (same : K → K → Bool) (hash : K → ℕ) (terms : 
       (have_values_then (moment log) (moment (e ∷ log)) (nobody_says e (moment log) none) run.stands.scene scene calls old.calls run.values)
 
   -- Where callers are as they were, what ended maps left over is behind the roots that the moment says, and the event is legal, and shows in that scene what a run needs, the run goes on with it.
-  pub over_runs : IsPlayed same hash terms (e ∷ log) new → ComesRight terms log e → IsLegalBut same terms log e → ShowsRun same run.stands.name terms (e ∷ log) (known new.logged.notes) scene
+  pub over_runs : IsPlayed same hash terms (e ∷ log) new → HasRightOutcome terms log e → IsLegalBut same terms log e → RefinesRun same run.stands.name terms (e ∷ log) (known new.logged.notes) scene
       → SlotsTaken scene.world.memory (moment (e ∷ log)).slots → new.logged.executor.batch_size ≡ terms.batch_size → HaveShards terms new.logged.executor
       → (known old.logged.notes).buckets ≤ (known new.logged.notes).buckets → RunsOn same hash terms log e new
   over_runs so right legal shows taken size shards grows = record {

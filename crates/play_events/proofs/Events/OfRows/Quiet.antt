@@ -16,8 +16,8 @@ use Rattle.run_schedules.specs.Schedules.After.{after, moment, moments_from, slo
 use Rattle.run_schedules.specs.Schedules.Beginning.{at_work}
 use Rattle.run_schedules.specs.Schedules.Effects.{AtEachEffect, worked}
 use Rattle.run_schedules.specs.Schedules.Entry.{Entry, IfCall, acted_on, acting, caller_of}
-use Rattle.run_schedules.specs.Schedules.Handing.{IsWhole, LeavesOf, comes_clear, gives_all, is_granted, is_made, may_do, moments_of, refuses as refuses_growth}
-use Rattle.run_schedules.specs.Schedules.InTurn.{ComesRight}
+use Rattle.run_schedules.specs.Schedules.Handing.{IsWhole, LeavesOf, is_clear_outcome, gives_all, is_granted, is_made, may_do, moments_of, refuses as refuses_growth}
+use Rattle.run_schedules.specs.Schedules.InTurn.{HasRightOutcome}
 use Rattle.run_schedules.specs.Schedules.Lives.{Finds}
 use Rattle.run_schedules.specs.Schedules.Model.{changes_of, left_last}
 use Rattle.run_schedules.specs.Schedules.Moment.{UnderWay as CallThere, Moment}
@@ -34,11 +34,11 @@ use Rattle.run_kept.proofs.Models.Rows.{events_are_rows}
 use Rattle.play_stepping.proofs.Given.PurposesNothing.{no_calls_are_swept}
 use Rattle.play_lists.specs.Given.FindsLittle.{ReclaimsAll}
 use Rattle.run_legal.specs.CallEvents.{IsLegalBut}
-use Rattle.run_legal.specs.Carried.{ShowsRun}
+use Rattle.run_legal.specs.Carried.{RefinesRun}
 use Rattle.run_legal.specs.Over.{LeavesAll}
 use Rattle.run_legal.proofs.Over.{idle_events_end}
-use Rattle.play_lists.proofs.Given.RowsThere.{is_inside}
-use Rattle.play_stepping.specs.Given.SchedulerPlayed.{IsDue, IsPlayed, StandsFor}
+use Rattle.run_legal.proofs.Given.RowsThere.{is_inside}
+use Rattle.play_stepping.specs.Given.SchedulerPlayed.{IsInTurn, IsPlayed, RefinesFor}
 use Rattle.play_stepping.specs.Given.SchedulerWorks.{HasNoRow, IsAbout}
 use Rattle.play_stepping.specs.Given.SchedulerDeclared.scheduler.Scheduler.{Scheduler}
 use Rattle.play_stepping.proofs.Given.SchedulerDropped.{free_lives}
@@ -81,7 +81,7 @@ module _ {K V : Type 0} where
         granted = subst (λ (fs : List Effect). is_granted false fs ≡ true) (sym nothing) refl;
         refuses = subst (λ (fs : List Effect). (not (refuses_growth e.event) || not (list_any is_made fs)) ≡ true) (sym nothing) (none_made (refuses_growth e.event));
         whole = subst (λ (fs : List Effect). IsWhole e.event e.outcome fs (moment log) (worked e (moment log))) (sym nothing) still.whole;
-        leaves = subst (λ (o : Option (List ℕ)). IfCall (LeavesOf (comes_clear e.outcome) e.outcome) (acting o (worked e (moment log)))) (sym still.caller) tt;
+        leaves = subst (λ (o : Option (List ℕ)). IfCall (LeavesOf (is_clear_outcome e.outcome) e.outcome) (acting o (worked e (moment log)))) (sym still.caller) tt;
       };
       protected = safe.0;
       by_model = (idle_events_follow K V terms log e nothing still.changes still.left).0;
@@ -95,13 +95,13 @@ module _ {K V : Type 0} where
 module _ {K V S : Type 0} (same : K → K → Bool) (hash : K → ℕ) (terms : Terms) (log : List (Entry K V)) (old : Scheduler K V S) (run : Runs same hash terms log old) where
   -- So the run goes on, where executor, notes and callers are as they were.
   pub still_keeps : (e : Entry K V) (new : Scheduler K V S) → e.effects ≡ [] → IsStill log run.stands.scene.world e → new.logged ≡ old.logged → new.calls ≡ old.calls
-      → IsPlayed same hash terms (e ∷ log) new → ComesRight terms log e → slots_on e.outcome (moment log).slots ≡ (moment log).slots → RunsOn same hash terms log e new
+      → IsPlayed same hash terms (e ∷ log) new → HasRightOutcome terms log e → slots_on e.outcome (moment log).slots ≡ (moment log).slots → RunsOn same hash terms log e new
   still_keeps e new nothing still logged calls played right no_slot = as_before same hash terms log old new run logged calls e nothing legal.0 shows (nobody_says e (moment log) still.no_call) played right no_slot
     where
       legal : IsLegalBut same terms log e × SectionsHold (after e (moment log)) (known old.logged.notes) run.stands.scene.world
       legal = still_legal same terms log (known old.logged.notes) run.stands.scene.world e nothing still run.shows.sections
 
-      shows : ShowsRun same run.stands.name terms (e ∷ log) (known old.logged.notes) run.stands.scene
+      shows : RefinesRun same run.stands.name terms (e ∷ log) (known old.logged.notes) run.stands.scene
       shows =
           idle_events_end K V same run.stands.name terms log (known old.logged.notes) run.stands.scene run.shows e right legal.0.life nothing still.changes still.left still.reclaims still.leaves
           legal.1
@@ -143,7 +143,7 @@ module _ {K V : Type 0} (log : List (Entry K V)) (w : World (Node K V)) where
   refused_still _ of fault steps = absurd (cc of)
 
 -- And so does one with whose slot there was nothing to be done, as others are there.
-module _ {K V S : Type 0} (same : K → K → Bool) (hash : K → ℕ) (terms : Terms) (log : List (Entry K V)) (p : Scheduler K V S) (stands : StandsFor same hash terms (moment log) p) where
+module _ {K V S : Type 0} (same : K → K → Bool) (hash : K → ℕ) (terms : Terms) (log : List (Entry K V)) (p : Scheduler K V S) (stands : RefinesFor same hash terms (moment log) p) where
   abbrev m : Moment K V
   m = moment log
 
@@ -168,7 +168,7 @@ module _ {K V S : Type 0} (same : K → K → Bool) (hash : K → ℕ) (terms : 
     reclaims = tt;
   }
     where
-      due : IsDue same hash terms log (Enter guard registration) p
+      due : IsInTurn same hash terms log (Enter guard registration) p
       due = record { played = stands; in_turn = turn }
 
       its : slot_of_registration registration m.there ≡ slot

@@ -14,7 +14,7 @@ use Rattle.run_schedules.specs.Schedules.Beginning.{with_call}
 use Rattle.run_schedules.specs.Schedules.Entry.{Entry, ends_call}
 use Rattle.run_schedules.specs.Schedules.Moment.{MapThere, Moment, TableThere, UnderWay as CallThere}
 use Rattle.run_schedules.specs.Schedules.Reclaims.{is_kept}
-use Rattle.play_lists.specs.Given.FindsEvents.{EndedOwesNone}
+use Rattle.play_lists.specs.Given.FindsEvents.{EndedHasNoObligation}
 use Rattle.play_lists.specs.Given.FindsTables.{TablesAreInOrder}
 use Rattle.play_lists.specs.Given.FindsWaiting.{PairsArePlaced}
 use Rattle.play_lists.specs.Given.FindsWithin.{AllIsInOrder, HasItsMap}
@@ -79,7 +79,7 @@ module _ {K V : Type 0} (m : Moment K V) (order : AllIsInOrder m) where
   kept_on v so = each_same (λ u. is_kept m u ≡ true → is_kept v u ≡ true) so m.tables
 
   -- as a call comes to an outcome after a step: one that has ended owes nothing
-  pub stepped_in_order : (own : List ℕ) (o : Outcome V) → EndedOwesNone (if ends_call o then Some own else None) m.calls → AllIsInOrder (with_calls (stepped (Some own) o 1 m.calls))
+  pub stepped_in_order : (own : List ℕ) (o : Outcome V) → EndedHasNoObligation (if ends_call o then Some own else None) m.calls → AllIsInOrder (with_calls (stepped (Some own) o 1 m.calls))
   stepped_in_order own o owes =
       let e = by_event (event.Next own) o in
       let placed = events_keep_placed K V e m order.waits.placed owes in
@@ -98,7 +98,7 @@ module _ {K V : Type 0} (m : Moment K V) (order : AllIsInOrder m) where
       (record { passed = tables.passed; behind = tables.behind }) (over_have m (event.Replied own reply) outcome.Goes 1 m.calls order.within.calls)
 
   -- as it is given up: it owes nothing
-  pub stopped_in_order : (own : List ℕ) → EndedOwesNone (Some own) m.calls → AllIsInOrder (with_calls (without_call own m.calls))
+  pub stopped_in_order : (own : List ℕ) → EndedHasNoObligation (Some own) m.calls → AllIsInOrder (with_calls (without_call own m.calls))
   stopped_in_order own owes =
       let e = by_event (event.Stop own) outcome.Done in
       let placed = events_keep_placed K V e m order.waits.placed owes in

@@ -25,8 +25,8 @@ use Rattle.play_lists.specs.Given.EffectsDeclared.acting.Acting.TheVariants as a
 use Rattle.play_lists.specs.Given.FinishesMachines.{machine_of}
 use Rattle.play_lists.specs.Given.FinishesMakings.{Beginning}
 use Rattle.play_lists.specs.Given.FinishesMaps.{with_call}
-use Rattle.run_legal.specs.Given.HandsAsked.{as_told}
-use Rattle.run_legal.specs.Given.SettlesHand.{ShowsOwed}
+use Rattle.run_legal.specs.Given.HandsAsked.{reply_to_machine}
+use Rattle.run_legal.specs.Given.SettlesHand.{RefinesObligations}
 use Rattle.run_legal.specs.Given.NamedMachines.{RefusedForRoom}
 use Rattle.run_legal.specs.Given.NamedSeen.{kind_of}
 use Rattle.play_lists.specs.Given.OthersEndings.{ending_after}
@@ -90,7 +90,7 @@ module _ {K V : Type 0} where
   still_row m s t v effects like calls under = subst (AllByRecursion (IsUnderWay t)) (sym (ap (λ (x : Moment K V). x.calls) like)) (still_map m s t None effects calls under)
 
   -- a walk that is given up, as it is ready, owes nothing
-  owes_none : (known : Known) (m : Moment K V) (s : Scene K V) → ShowsOwed named m known s → (map i : ℕ) (u : UnderWay K V K) → s.calls map i ≡ Some u → true ≡ (machine_asked (machine_of u)).1
+  owes_none : (known : Known) (m : Moment K V) (s : Scene K V) → RefinesObligations named m known s → (map i : ℕ) (u : UnderWay K V K) → s.calls map i ≡ Some u → true ≡ (machine_asked (machine_of u)).1
       → IfCall (λ (c : CallThere K V). c.owes ≡ []) (call_of (named i) m)
   owes_none known m s owed map i u here ready = by (call_of (named i) m) refl
     where
@@ -141,7 +141,7 @@ module _ {K V : Type 0} (same : K → K → Bool) (hash : ℕ → K → ℕ) (te
     calls_take = λ history known s old new at all fresh has map i u here d d_is question asks standing there reply next next_is takes kind at2 shows. record {
       under_way = goes_under s (scene_with map i next s) map i next refl (one_call same history known s all map i u here) (λ c. replied reply c c.stands) (λ c. (told_same reply c c.stands).0) (moment history).calls has.under_way;
       room = room_on s (scene_with map i next s) map i (Some next) refl
-          (λ x is. subst (λ (y : UnderWay K V K). RefusedForRoom (machine_of y)) (same_some next x is) (subst RefusedForRoom (sym next_is) (told_room (machine_of u) (as_told reply) (has.room map i u here)))) has.room;
+          (λ x is. subst (λ (y : UnderWay K V K). RefusedForRoom (machine_of y)) (same_some next x is) (subst RefusedForRoom (sym next_is) (told_room (machine_of u) (reply_to_machine reply) (has.room map i u here)))) has.room;
       each = (replies_stay terms history i reply false, has.each);
       own = (its_call history i d d_is, has.own);
     };

@@ -6,7 +6,7 @@ use Rattle.run_legal.proofs.Given.LateKindsKept.Laws.{told_sweeps_refuse_room}
 use Rattle.play_lists.specs.Given.TablesDeclared.node.Node.{Node}
 use Rattle.run_schedules.specs.Given.ReservesDeclared.sweep.Sweeping.{Sweeping}
 use Rattle.run_schedules.specs.Given.ReservesDeclared.sweep.Sweeping.TheVariants as sweeping
-use Rattle.run_schedules.specs.Given.RawMachine.{machine_asked, machine_replied, sweep_told}
+use Rattle.run_schedules.specs.Given.RawMachine.{machine_asked, machine_replied, sweep_with_reply}
 use Rattle.run_schedules.specs.Given.RawDeclared.machines.asking.MachineReply.{MachineReply}
 use Rattle.run_schedules.specs.Given.RawDeclared.machines.asking.MachineReply.TheVariants as reply
 use Rattle.run_schedules.specs.Given.RawDeclared.machines.machine.Machine.{Machine}
@@ -15,7 +15,7 @@ use Rattle.run_schedules.specs.Given.RawDeclared.machines.progress.Progress.{Pro
 use Rattle.run_schedules.specs.Given.RawDeclared.machines.progress.Progress.TheVariants as progress
 use Rattle.run_legal.specs.Given.CallersTogether.{UnderWay}
 use Rattle.play_lists.specs.Given.EffectsKnown.{Known}
-use Rattle.play_lists.specs.Given.FinishesMachines.{GoesOnAs, machine_of}
+use Rattle.play_lists.specs.Given.FinishesMachines.{ContinuesAs, machine_of}
 use Rattle.play_lists.specs.Given.FinishesMaps.{with_call}
 use Rattle.run_legal.specs.Given.NamedMachines.{RefusedForRoom}
 use Rattle.play_lists.specs.Given.ScenesScene.{Scene}
@@ -25,7 +25,7 @@ use Rattle.play_lists.proofs.Given.FollowsCalling.{is_same_refl}
 use Rattle.run_histories.proofs.Given.HandsAsking.{which}
 use Rattle.run_schedules.specs.Deeds.Deeds.{Entry, moment, named}
 use Rattle.run_schedules.specs.Deeds.History.{past}
-use Rattle.play_linear.specs.Linear.Shown.{ShowsAnswers}
+use Rattle.play_linear.specs.Linear.Shown.{RefinesAnswers}
 
 module _ {K V : Type 0} where
   abbrev pub HasRoom : Scene K V → Type 0
@@ -49,7 +49,7 @@ module _ {K V : Type 0} where
   told_room (kinds.Count c) told room = tt
   told_room (kinds.Sweep c) told room = by c.stands told
     where
-      by : (stage : Sweeping) (told : MachineReply V) → RoomInSweeping (sweep_told stage c told).0.stands
+      by : (stage : Sweeping) (told : MachineReply V) → RoomInSweeping (sweep_with_reply stage c told).0.stands
       by (sweeping.Asks word) reply.Yes = (told_sweeps_refuse_room c room).1 true
       by (sweeping.Asks word) reply.No = (told_sweeps_refuse_room c room).1 false
       by (sweeping.Asks word) (reply.Insert v) = room
@@ -69,7 +69,7 @@ module _ {K V : Type 0} where
       by stage is = absurd (let never = ap (λ (p : Sweeping). (machine_asked {K = K} {V = V} {Q = K} (kinds.Sweep (record c { stands = p }))).1) is in cc (ready, never))
 
   -- one that has not ended goes on
-  pub goes_on : (machine : Machine K V K) (said : Progress (Node K V)) (next : Option (UnderWay K V K)) → has_ended said ≡ false → GoesOnAs machine said next → (x : UnderWay K V K) × (next ≡ Some x)
+  pub goes_on : (machine : Machine K V K) (said : Progress (Node K V)) (next : Option (UnderWay K V K)) → has_ended said ≡ false → ContinuesAs machine said next → (x : UnderWay K V K) × (next ≡ Some x)
   goes_on machine (progress.Done answer) next e goes = absurd (cc e)
   goes_on machine (progress.Refused fault) next e goes = absurd (cc e)
   goes_on machine progress.Goes next e goes = (goes.0, goes.1)
@@ -81,6 +81,6 @@ module _ {K V : Type 0} where
   goes_on machine (progress.Pair word) next e goes = (goes.0, goes.1)
 
   -- a caller has one call at most
-  pub one_call : (same : K → K → Bool) (history : List (Entry K V)) (known : Known) (s : Scene K V) → ShowsAnswers same (past history) (moment history) known s → (map i : ℕ) (u : UnderWay K V K)
+  pub one_call : (same : K → K → Bool) (history : List (Entry K V)) (known : Known) (s : Scene K V) → RefinesAnswers same (past history) (moment history) known s → (map i : ℕ) (u : UnderWay K V K)
       → s.calls map i ≡ Some u → (n : ℕ) (y : UnderWay K V K) → s.calls n i ≡ Some y → n ≡ map
   one_call same history known s all map i u here n y is = (all.whole.all.asked.apart n i map i y u is here (is_same_refl (named i))).0

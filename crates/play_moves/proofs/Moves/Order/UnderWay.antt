@@ -6,7 +6,7 @@ use Rattle.std.proofs.lemmas.Bool.{cases_eq}
 use Rattle.run_schedules.specs.Runs.Same.{is_same}
 use Rattle.run_schedules.specs.declared.effect.Effect.{Effect}
 use Rattle.run_schedules.specs.declared.outcome.Outcome.{Outcome}
-use Rattle.run_schedules.specs.Schedules.After.{comes_to, stepped, without_call}
+use Rattle.run_schedules.specs.Schedules.After.{with_outcome, stepped, without_call}
 use Rattle.run_schedules.specs.Schedules.Effects.{call_by, calls_by, with_effect, with_effects}
 use Rattle.run_schedules.specs.Schedules.Entry.{ends_call}
 use Rattle.run_schedules.specs.Schedules.Moment.{Moment, UnderWay as CallThere}
@@ -125,13 +125,13 @@ module _ {K V : Type 0} (s t : Scene K V) (map i : ℕ) where
 
   -- after a step, by which it goes on or is over
   pub stepped_under : (next : Option (UnderWay K V K)) → t.calls ≡ with_call s.calls map i next → ((n : ℕ) (y : UnderWay K V K) → s.calls n i ≡ Some y → n ≡ map) → (o : Outcome V)
-      → (ends_call o ≡ false → (x : UnderWay K V K) × (next ≡ Some x)) → ((c : CallThere K V) → IsOfSame c (comes_to o (record c { steps = c.steps + 1 }))) → (calls : List (CallThere K V))
+      → (ends_call o ≡ false → (x : UnderWay K V K) × (next ≡ Some x)) → ((c : CallThere K V) → IsOfSame c (with_outcome o (record c { steps = c.steps + 1 }))) → (calls : List (CallThere K V))
       → AllByRecursion (IsUnderWay s) calls → AllByRecursion (IsUnderWay t) (stepped (Some (named i)) o 1 calls)
   stepped_under next calls_are alone o goes same calls all = by (ends_call o) refl
     where
       change : CallThere K V → CallThere K V
-      change c = comes_to o (record c { steps = c.steps + 1 })
+      change c = with_outcome o (record c { steps = c.steps + 1 })
 
-      by : (q : Bool) → ends_call o ≡ q → AllByRecursion (IsUnderWay t) (if q then without_call (named i) calls else list_map (λ c. if is_same c.caller (named i) then comes_to o (record c { steps = c.steps + 1 }) else c) calls)
+      by : (q : Bool) → ends_call o ≡ q → AllByRecursion (IsUnderWay t) (if q then without_call (named i) calls else list_map (λ c. if is_same c.caller (named i) then with_outcome o (record c { steps = c.steps + 1 }) else c) calls)
       by true over = ends_under next calls_are calls all
-      by false on = let x = goes on in goes_under x.0 (calls_are ∙ ap (with_call s.calls map i) x.1) alone (λ c. comes_to o (record c { steps = c.steps + 1 })) same calls all
+      by false on = let x = goes on in goes_under x.0 (calls_are ∙ ap (with_call s.calls map i) x.1) alone (λ c. with_outcome o (record c { steps = c.steps + 1 })) same calls all

@@ -24,13 +24,13 @@ use Rattle.play_lists.specs.Given.FinishesMachines.{machine_of}
 use Rattle.play_lists.specs.Given.FinishesMaps.{Standing, with_call as with_call_of}
 use Rattle.play_lists.specs.Given.FollowsCalling.{NoneNamed, come_to, told}
 use Rattle.play_lists.specs.Given.FollowsCalls.{IsCalled}
-use Rattle.run_legal.specs.Given.HandsAsked.{as_told}
+use Rattle.run_legal.specs.Given.HandsAsked.{reply_to_machine}
 use Rattle.play_lists.specs.Given.OthersWalks.{given_up}
-use Rattle.run_legal.specs.Given.SettlesHand.{ShowsOwed, in_hand}
-use Rattle.run_legal.specs.Given.PurposesPurposes.{ShowsPurposes}
-use Rattle.run_legal.specs.Given.GrowsFinding.{ShowsFinding}
-use Rattle.run_legal.specs.Given.GrowsNexts.{ShowsNexts}
-use Rattle.run_legal.specs.Given.GrowsTries.{ShowsTries}
+use Rattle.run_legal.specs.Given.SettlesHand.{RefinesObligations, in_hand}
+use Rattle.run_legal.specs.Given.PurposesPurposes.{RefinesPurposes}
+use Rattle.run_legal.specs.Given.GrowsFinding.{RefinesFinding}
+use Rattle.run_legal.specs.Given.GrowsNexts.{RefinesNexts}
+use Rattle.run_legal.specs.Given.GrowsTries.{RefinesTries}
 use Rattle.play_lists.specs.Given.ScenesBeginning.{Begins as BeginsSo}
 use Rattle.play_lists.specs.Given.ScenesHeld.{Held, IsAt}
 use Rattle.play_lists.specs.Given.ScenesReplying.{AskLeads, scene_with, unless_stopped}
@@ -39,7 +39,7 @@ use Rattle.play_lists.specs.Given.ScenesStepping.{StepLeads, scene_after}
 use Rattle.play_lists.proofs.Given.KeptStays.{calls_come_to_kept}
 use Rattle.run_legal.proofs.Given.SettlesHand.Asked.{asked_stays, told_stays}
 use Rattle.play_lists.proofs.Given.FindsGrows.Between.{calls_begin_growing, calls_take_growing, walks_go_on_growing}
-use Rattle.play_lists.proofs.Given.FindsWaits.Between.{calls_begin_waits}
+use Rattle.run_legal.proofs.Given.WaitsBetween.{calls_begin_waits}
 use Rattle.run_legal.proofs.Given.GrowsFinding.Alike.{finding_fewer, stood_as}
 use Rattle.run_legal.proofs.Given.GrowsFinding.Between.{asked_same, fewer_calls, none_at_first, puts_begun, puts_on, replied_same, waits_on}
 use Rattle.run_legal.proofs.Given.GrowsFinding.Calls.{calls_keep_finding}
@@ -48,17 +48,17 @@ use Rattle.run_legal.proofs.Given.GrowsFinding.Nexts.{calls_begin_nexts, calls_c
 use Rattle.run_legal.proofs.Given.GrowsTries.Shows.{calls_begin_tries, calls_come_to_tries, calls_take_tries, tries_at_first, walks_go_on_tries, walks_stop_tries}
 use Rattle.run_legal.proofs.Given.GrowsTries.Steps.{tries_go_on}
 use Rattle.run_schedules.specs.Deeds.Deeds.{named}
-use Rattle.play_linear.specs.Linear.Shown.{ShowsAnswers}
-use Rattle.play_moves.specs.Moves.Steps.{ShowsSteps}
+use Rattle.play_linear.specs.Linear.Shown.{RefinesAnswers}
+use Rattle.play_moves.specs.Moves.Steps.{RefinesSteps}
 
 -- what stays so but for sources
 pub record ShowsBut {K V : Type 0} (log : Past K V) (m : Moment K V) (known : Known) (s : Scene K V) : Type 0 where
-  pub finding : ShowsFinding named m known s
-  pub nexts : ShowsNexts named log m s
-  pub tries : ShowsTries named log m s
+  pub finding : RefinesFinding named m known s
+  pub nexts : RefinesNexts named log m s
+  pub tries : RefinesTries named log m s
 
-module _ {K V : Type 0} (same : K → K → Bool) (hash : ℕ → K → ℕ) (log : Past K V) (known : Known) (s : Scene K V) (old new : Held K V) (at : IsAt same hash old s) (all : ShowsAnswers same log log.now known s)
-    (purposes : ShowsPurposes same named log log.now known s) (steps : ShowsSteps same log log.now known s) (map i : ℕ) where
+module _ {K V : Type 0} (same : K → K → Bool) (hash : ℕ → K → ℕ) (log : Past K V) (known : Known) (s : Scene K V) (old new : Held K V) (at : IsAt same hash old s) (all : RefinesAnswers same log log.now known s)
+    (purposes : RefinesPurposes same named log log.now known s) (steps : RefinesSteps same log log.now known s) (map i : ℕ) where
   abbrev m : Moment K V
   m = log.now
 
@@ -91,7 +91,7 @@ module _ {K V : Type 0} (same : K → K → Bool) (hash : ℕ → K → ℕ) (lo
     its : (c : CallThere K V) × (call_of (named i) m ≡ Some c) × (c.map ≡ map) × IsCalled same u c.call
     its = all.whole.all.shown.calls map i u here
 
-    pub steps_step : ShowsAnswers same log v known2 s2 → (o : Outcome V) → (ends_call o ≡ true → NoneNamed named (named i) s2) → ShowsBut log (come_to (named i) o 1 v) known2 s2
+    pub steps_step : RefinesAnswers same log v known2 s2 → (o : Outcome V) → (ends_call o ≡ true → NoneNamed named (named i) s2) → ShowsBut log (come_to (named i) o 1 v) known2 s2
     steps_step then_all o ended = record {
       finding = finding_fewer K V same named v (come_to (named i) o 1 v) known2 s2 s2 then_all.whole.all.shown.calls then_all.kept.owed
           (calls_come_to_kept K V same named v known2 s2 then_all.whole then_all.kept (named i) o 1 ended).owed (λ n j x is. is) (stood_as s2 s2 refl) refl refl refl refl refl refl
@@ -105,29 +105,29 @@ module _ {K V : Type 0} (same : K → K → Bool) (hash : ℕ → K → ℕ) (lo
     }
 
   -- takes a reply,
-  pub steps_take : (u : UnderWay K V K) → s.calls map i ≡ Some u → (reply : Reply V) (next : UnderWay K V K) → machine_of next ≡ (machine_replied (machine_of u) (as_told reply)).0
-      → ShowsOwed named (told (named i) reply m) known (scene_with map i next s) → ShowsBut log (told (named i) reply m) known (scene_with map i next s)
+  pub steps_take : (u : UnderWay K V K) → s.calls map i ≡ Some u → (reply : Reply V) (next : UnderWay K V K) → machine_of next ≡ (machine_replied (machine_of u) (reply_to_machine reply)).0
+      → RefinesObligations named (told (named i) reply m) known (scene_with map i next s) → ShowsBut log (told (named i) reply m) known (scene_with map i next s)
   steps_take u here reply next next_is owed = record {
     finding = record {
-      growing = calls_take_growing K V m s steps.finding.growing map i u here (as_told reply) next next_is;
-      further = calls_take_further m s steps.finding.further map i u here next (as_told reply) next_is;
+      growing = calls_take_growing K V m s steps.finding.growing map i u here (reply_to_machine reply) next next_is;
+      further = calls_take_further m s steps.finding.further map i u here next (reply_to_machine reply) next_is;
       capacities = steps.finding.capacities;
       waits = waits_on K V same named m (told (named i) reply m) known s map i u here next all.whole.all.shown.calls all.kept.owed owed stays goes (λ n j x is k waits held. held) steps.finding.waits;
       puts = puts_on K V same named m (told (named i) reply m) known s map i u here next all.whole.all.shown.calls all.kept.owed owed stays goes steps.finding.puts;
     };
-    nexts = calls_take_nexts same named log m s steps.nexts map i u here all.whole.all.shown.calls next reply (as_told reply) next_is;
-    tries = calls_take_tries same named log m s steps.tries map i u here all.whole.all.shown.calls next reply (as_told reply) next_is;
+    nexts = calls_take_nexts same named log m s steps.nexts map i u here all.whole.all.shown.calls next reply (reply_to_machine reply) next_is;
+    tries = calls_take_tries same named log m s steps.tries map i u here all.whole.all.shown.calls next reply (reply_to_machine reply) next_is;
   }
     where
       stays : in_hand known (machine_of next) ≡ in_hand known (machine_of u)
-      stays = ap (λ (z : Machine K V K). in_hand known z) next_is ∙ (told_stays known (machine_of u) (as_told reply)).0
+      stays = ap (λ (z : Machine K V K). in_hand known z) next_is ∙ (told_stays known (machine_of u) (reply_to_machine reply)).0
 
       goes : (n : ℕ) → in_hand known (machine_of u) ≡ APair n ∷ [] → machine_of next ≡ machine_of u
-      goes n e = next_is ∙ replied_same known n (machine_of u) (as_told reply) e
+      goes n e = next_is ∙ replied_same known n (machine_of u) (reply_to_machine reply) e
 
   -- goes on as a walk,
   pub steps_go_on : (leads : AskLeads same hash i true s old new) (o : CallOverAll) (here : s.calls map i ≡ Some (OverAll o))
-      → (let t = scene_with map i (leads map (OverAll o) here).0 s in ShowsAnswers same log m known t → ShowsBut log m known t)
+      → (let t = scene_with map i (leads map (OverAll o) here).0 s in RefinesAnswers same log m known t → ShowsBut log m known t)
   steps_go_on leads o here then_all = record {
     finding = record {
       growing = walks_go_on_growing K V m s steps.finding.growing map i (OverAll o) here next (leads map (OverAll o) here).1;
@@ -152,7 +152,7 @@ module _ {K V : Type 0} (same : K → K → Bool) (hash : ℕ → K → ℕ) (lo
   -- or is given up.
   pub steps_stop : (u : UnderWay K V K) → s.calls map i ≡ Some u
       → (let after = record s { calls = with_call_of s.calls map i (unless_stopped true u) } in
-      NoneNamed named (named i) after → ShowsOwed named (given_up (named i) true m) known after → ShowsBut log (given_up (named i) true m) known after)
+      NoneNamed named (named i) after → RefinesObligations named (given_up (named i) true m) known after → ShowsBut log (given_up (named i) true m) known after)
   steps_stop u here none owed =
       let after = record s { calls = with_call_of s.calls map i (unless_stopped true u) } in
       record {

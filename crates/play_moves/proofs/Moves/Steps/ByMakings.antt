@@ -14,7 +14,7 @@ use Rattle.play_lists.specs.Given.EffectsDeclared.acting.Acting.TheVariants as a
 use Rattle.play_lists.specs.Given.FinishesMakings.{Beginning}
 use Rattle.play_lists.specs.Given.FinishesMaps.{Standing}
 use Rattle.play_lists.specs.Given.FindsLinking.{IsMadeFor}
-use Rattle.run_legal.specs.Given.GrowsFinding.{ShowsFinding}
+use Rattle.run_legal.specs.Given.GrowsFinding.{RefinesFinding}
 use Rattle.play_lists.specs.Given.OthersMakings.{WasNew, making_after}
 use Rattle.play_lists.specs.Given.ScenesHeld.{Held, IsAt}
 use Rattle.play_lists.specs.Given.ScenesMaking.{MakingLeads, scene_making}
@@ -35,16 +35,16 @@ use Rattle.run_legal.proofs.Given.GrowsTries.Others.{makings_keep_tries}
 use Rattle.run_legal.proofs.Given.GrowsTries.Shows.{tries_where}
 use Rattle.run_legal.proofs.Maps.{unmade_maps}
 use Rattle.run_legal.proofs.Sourced.{making_sources, so_aside, sources_so}
-use Rattle.run_legal.specs.Given.SourcesSources.{ShowsSources}
+use Rattle.run_legal.specs.Given.SourcesSources.{RefinesSources}
 use Rattle.run_legal.specs.Given.SourcesStays.{NoneBorn}
 use Rattle.run_schedules.specs.Deeds.Deeds.{come, named}
-use Rattle.play_linear.specs.Linear.Shown.{ShowsAnswers}
-use Rattle.play_moves.specs.Moves.Steps.{ShowsSteps}
+use Rattle.play_linear.specs.Linear.Shown.{RefinesAnswers}
+use Rattle.play_moves.specs.Moves.Steps.{RefinesSteps}
 
-module _ {K V : Type 0} (same : K → K → Bool) (hash : ℕ → K → ℕ) (log : Past K V) (m : Moment K V) (known : Known) (s : Scene K V) (all : ShowsAnswers same log m known s) (steps : ShowsSteps same log m known s)
+module _ {K V : Type 0} (same : K → K → Bool) (hash : ℕ → K → ℕ) (log : Past K V) (m : Moment K V) (known : Known) (s : Scene K V) (all : RefinesAnswers same log m known s) (steps : RefinesSteps same log m known s)
     (old new : Held K V) where
   -- where a making begins
-  pub steps_by_making_begun : (i : ℕ) (b : Beginning K) → ShowsAnswers same log m known (scene_making i b s) → ShowsSteps same log m known (scene_making i b s)
+  pub steps_by_making_begun : (i : ℕ) (b : Beginning K) → RefinesAnswers same log m known (scene_making i b s) → RefinesSteps same log m known (scene_making i b s)
   steps_by_making_begun i b then_all = record {
     finding = record {
       growing = steps.finding.growing;
@@ -60,7 +60,7 @@ module _ {K V : Type 0} (same : K → K → Bool) (hash : ℕ → K → ℕ) (lo
 
   module _ (at : IsAt same hash old s) where
     -- where its map comes, by a number that none has that stands
-    pub steps_by_map_come : (there : MapThere) → s.maps there.number ≡ None → ShowsAnswers same log (come there m) known s → ShowsSteps same log (come there m) known s
+    pub steps_by_map_come : (there : MapThere) → s.maps there.number ≡ None → RefinesAnswers same log (come there m) known s → RefinesSteps same log (come there m) known s
     steps_by_map_come there new_number then_all = record {
       finding = finding_where same hash named m (come there m) known s old at still refl refl refl refl refl refl steps.finding;
       nexts = nexts_where same hash named log m (come there m) s old at steps.nexts still refl refl;
@@ -89,8 +89,8 @@ module _ {K V : Type 0} (same : K → K → Bool) (hash : ℕ → K → ℕ) (lo
       abbrev pub Finds : Type 0
       Finds = HasNotMade said ⊎ (IsMadeFor b.map m b.given × NoneBorn b.map m)
 
-      module _ (at2 : IsAt same hash new t) (then_all : ShowsAnswers same log v known2 t) where
-        finding_by : Finds → ShowsFinding named v known2 t
+      module _ (at2 : IsAt same hash new t) (then_all : RefinesAnswers same log v known2 t) where
+        finding_by : Finds → RefinesFinding named v known2 t
         finding_by (inl none) =
             finding_beside same hash named m v known known2 s t new at2 then_all.whole (makings_go_beside K V same hash named m known s old new at all.whole i said leads b here (Some b.map) was_new) steps.finding
             (makings_leave_spots same hash named m known s old new at all.whole.all.shown i said leads b here (Some b.map)) (tables_have_been K V None (Some b.map) effects m)
@@ -99,7 +99,7 @@ module _ {K V : Type 0} (same : K → K → Bool) (hash : ℕ → K → ℕ) (lo
             (stood_as s t (unmade_maps same hash s old new at i b here said leads none)))
         finding_by (inr made) = makings_keep_finding K V same hash named m known s old new at all.whole steps.finding i said leads b here was_new made.0 at2 then_all.whole
 
-        sources_by : Finds → ShowsSources same named v known2 t
+        sources_by : Finds → RefinesSources same named v known2 t
         sources_by (inl none) =
             so_aside K V same named m known known2 s t None (Some b.map) effects (makings_aside same hash named m known s old new at all.whole.all.shown i said leads b here (Some b.map)) steps.sources
             then_all.whole.all.shown (λ n st is. ap (λ (maps : ℕ → Option (Standing K)). maps n) (sym (unmade_maps same hash s old new at i b here said leads none)) ∙ is)
@@ -107,7 +107,7 @@ module _ {K V : Type 0} (same : K → K → Bool) (hash : ℕ → K → ℕ) (lo
             making_sources K V same hash named m known known2 s old new i b here (Some b.map) effects (makings_aside same hash named m known s old new at all.whole.all.shown i said leads b here (Some b.map))
             steps.sources made.1 said leads then_all.whole.all.shown
 
-        pub steps_by_making : Finds → ShowsSteps same log v known2 t
+        pub steps_by_making : Finds → RefinesSteps same log v known2 t
         steps_by_making finds = record {
           finding = finding_by finds;
           nexts = makings_keep_nexts K V same hash named log m known s old new steps.nexts at all.whole i said leads b here was_new;

@@ -42,13 +42,13 @@ use Rattle.run_legal.proofs.OfAll.Tells.{gone_by, it_reclaims}
 use Rattle.run_legal.proofs.Sourced.{ends_leave, reclaimed_aside, same_maps_aside, so_aside, sources_same, sources_so}
 use Rattle.play_lists.specs.Given.ActsDoings.{scene_chosen}
 use Rattle.run_schedules.specs.Deeds.Deeds.{named}
-use Rattle.play_linear.specs.Linear.Shown.{ShowsAnswers}
+use Rattle.play_linear.specs.Linear.Shown.{RefinesAnswers}
 use Rattle.play_linear.proofs.Linear.MapsPlayed.{IsApart}
-use Rattle.play_moves.specs.Moves.Steps.{ShowsSteps}
+use Rattle.play_moves.specs.Moves.Steps.{RefinesSteps}
 
 -- where a choice comes
-pub steps_by_choice : {K V : Type 0} (same : K → K → Bool) (log : Past K V) (m : Moment K V) (known : Known) (s : Scene K V) → ShowsAnswers same log m known s → ShowsSteps same log m known s → (choice : ℕ)
-    → ShowsAnswers same log m known (scene_chosen choice s) → ShowsSteps same log m known (scene_chosen choice s)
+pub steps_by_choice : {K V : Type 0} (same : K → K → Bool) (log : Past K V) (m : Moment K V) (known : Known) (s : Scene K V) → RefinesAnswers same log m known s → RefinesSteps same log m known s → (choice : ℕ)
+    → RefinesAnswers same log m known (scene_chosen choice s) → RefinesSteps same log m known (scene_chosen choice s)
 steps_by_choice same log m known s all steps choice then_all = record {
   finding = finding_fewer _ _ same named m m known s (scene_chosen choice s) all.whole.all.shown.calls all.kept.owed then_all.kept.owed (λ n j x is. is) (λ n st stands. (st, stands, refl)) refl refl refl refl refl refl steps.finding;
   nexts = steps.nexts;
@@ -56,12 +56,12 @@ steps_by_choice same log m known s all steps choice then_all = record {
   sources = sources_so _ _ same named m m known known s (scene_chosen choice s) steps.sources then_all.whole.all.shown refl refl refl (λ n st is. is);
 }
 
-module _ {K V : Type 0} (same : K → K → Bool) (hash : ℕ → K → ℕ) (log : Past K V) (m : Moment K V) (known : Known) (s : Scene K V) (all : ShowsAnswers same log m known s) (steps : ShowsSteps same log m known s)
+module _ {K V : Type 0} (same : K → K → Bool) (hash : ℕ → K → ℕ) (log : Past K V) (m : Moment K V) (known : Known) (s : Scene K V) (all : RefinesAnswers same log m known s) (steps : RefinesSteps same log m known s)
     (old new : Held K V) where
   module _ (at : IsAt same hash old s) where
     -- where a row begins, and takes a step
     pub steps_by_row_begun : (called : SlotCall) (i : ℕ) (leads : RowBegins same hash called i s old new)
-        → (let t = scene_then same hash (Begin i (request_of (slot_of i) called)) s old new leads.2 in ShowsAnswers same log m known t → ShowsSteps same log m known t)
+        → (let t = scene_then same hash (Begin i (request_of (slot_of i) called)) s old new leads.2 in RefinesAnswers same log m known t → RefinesSteps same log m known t)
     steps_by_row_begun called i leads then_all = record {
       finding = rows_begin_finding K V same hash named m known s old new steps.finding called i leads then_all.whole;
       nexts = rows_begin_nexts K V same hash named log m known s old new steps.nexts called i leads;
@@ -73,7 +73,7 @@ module _ {K V : Type 0} (same : K → K → Bool) (hash : ℕ → K → ℕ) (lo
         → (let v = with_effects None None (effects_of acts.Row known new.changed) m in
         let known2 = known_after acts.Row new.changed known in
         let t = scene_then same hash (Step i) s old new (leads row here).2 in
-        ShowsAnswers same log v known2 t → ShowsSteps same log v known2 t)
+        RefinesAnswers same log v known2 t → RefinesSteps same log v known2 t)
     steps_by_row i said leads row here then_all = record {
       finding = rows_keep_finding K V same hash named m known s old new at all.whole steps.finding i said leads row here then_all.whole;
       nexts = rows_keep_nexts K V same hash named log m known s old new steps.nexts at all.whole i said leads row here;
@@ -83,7 +83,7 @@ module _ {K V : Type 0} (same : K → K → Bool) (hash : ℕ → K → ℕ) (lo
     }
 
     -- where an end begins, and takes a step
-    pub steps_by_end_begun : (map i : ℕ) (standing : Standing K) → s.maps map ≡ Some standing → ShowsAnswers same log m known (ending_begun map i standing s) → ShowsSteps same log m known (ending_begun map i standing s)
+    pub steps_by_end_begun : (map i : ℕ) (standing : Standing K) → s.maps map ≡ Some standing → RefinesAnswers same log m known (ending_begun map i standing s) → RefinesSteps same log m known (ending_begun map i standing s)
     steps_by_end_begun map i standing there then_all = record {
       finding = finding_fewer K V same named m m known s (ending_begun map i standing s) all.whole.all.shown.calls all.kept.owed then_all.kept.owed (λ n j x is. is) stood refl refl refl refl refl refl steps.finding;
       nexts = steps.nexts;
@@ -99,7 +99,7 @@ module _ {K V : Type 0} (same : K → K → Bool) (hash : ℕ → K → ℕ) (lo
         let v = with_effects None (Some map) (effects_of (acts.Ending map) known new.changed) m in
         let known2 = known_after (acts.Ending map) new.changed known in
         let t = ending_after same hash s new i f to.0 to.2.w2 to.2.deed said to.3 in
-        IsAt same hash new t → ShowsAnswers same log v known2 t → ShowsSteps same log v known2 t)
+        IsAt same hash new t → RefinesAnswers same log v known2 t → RefinesSteps same log v known2 t)
     steps_by_end i said leads f here map not_there at2 then_all =
         let to = leads f here in
         let effects : List Effect = effects_of (acts.Ending map) known new.changed in
@@ -113,8 +113,8 @@ module _ {K V : Type 0} (same : K → K → Bool) (hash : ℕ → K → ℕ) (lo
         }
 
   -- where a map is there no more: no map that stands has its name
-  pub steps_by_map_gone : IsAt same hash new s → (map : ℕ) (remains : List Remains) → IsApart map m s → ShowsAnswers same log (without_map (named map) remains m) known s
-      → ShowsSteps same log (without_map (named map) remains m) known s
+  pub steps_by_map_gone : IsAt same hash new s → (map : ℕ) (remains : List Remains) → IsApart map m s → RefinesAnswers same log (without_map (named map) remains m) known s
+      → RefinesSteps same log (without_map (named map) remains m) known s
   steps_by_map_gone at2 map remains apart then_all =
       let v = without_map (named map) remains m in
       record {
@@ -135,7 +135,7 @@ module _ {K V : Type 0} (same : K → K → Bool) (hash : ℕ → K → ℕ) (lo
       → (let v = with_effects None None (effects_of acts.Row known new.changed) m in
       let known2 = known_after acts.Row new.changed known in
       let t = record s { world = leads.1.w2; maps = leads.1.maps2 } in
-      ShowsAnswers same log v known2 t → ShowsSteps same log v known2 t)
+      RefinesAnswers same log v known2 t → RefinesSteps same log v known2 t)
   steps_by_reclaiming i lists before after told under_way leads then_all =
       let effects : List Effect = effects_of acts.Row known new.changed in
       let known2 = known_after acts.Row new.changed known in

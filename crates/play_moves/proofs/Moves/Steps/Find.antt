@@ -27,7 +27,7 @@ use Rattle.play_lists.specs.Given.EffectsDeclared.acting.Acting.TheVariants as a
 use Rattle.play_lists.specs.Given.FinishesMachines.{machine_of}
 use Rattle.play_lists.specs.Given.FollowsCalls.{IsCalled}
 use Rattle.run_legal.specs.Given.OwesLooking.{FindAtWork}
-use Rattle.run_legal.specs.Given.PurposesPurposes.{ShowsPurposes}
+use Rattle.run_legal.specs.Given.PurposesPurposes.{RefinesPurposes}
 use Rattle.play_lists.specs.Given.FindsLinking.{FoundFull}
 use Rattle.play_lists.specs.Given.FindsLife.{StoresOne}
 use Rattle.play_lists.specs.Given.FindsParts.{FindAll}
@@ -48,9 +48,9 @@ use Rattle.run_legal.proofs.Given.GrowsTries.Log.{found_full_so}
 use Rattle.play_lists.specs.Agrees.Guards.{HasItsGuard, guard_on}
 use Rattle.run_schedules.specs.Deeds.Deeds.{Entry, Steps, map_of_call, moment, named}
 use Rattle.run_schedules.specs.Deeds.History.{past}
-use Rattle.play_linear.specs.Linear.Shown.{ShowsAnswers}
+use Rattle.play_linear.specs.Linear.Shown.{RefinesAnswers}
 use Rattle.play_moves.specs.EachMoves.Finds.{FindsIts}
-use Rattle.play_moves.specs.Moves.Steps.{EachStoresOne, ShowsSteps, StepsMay}
+use Rattle.play_moves.specs.Moves.Steps.{EachStoresOne, RefinesSteps, StepsMay}
 use Rattle.play_moves.proofs.EachMoves.Steps.TablesLast.{tables_last}
 use Rattle.run_schedules.proofs.Given.General.{same_some}
 
@@ -60,7 +60,7 @@ counting_looks same sum call.Len is = refl
 counting_looks same sum _ is = absurd is
 
 module _ {K V : Type 0} (same : K → K → Bool) (hash : ℕ → K → ℕ) (terms : Terms) (history : List (Entry K V)) (known : Known) (s : Scene K V) (old new : Held K V) (at : IsAt same hash old s)
-    (all : ShowsAnswers same (past history) (moment history) known s) (may : StepsMay terms history s) (map i : ℕ) (u : UnderWay K V K) (here : s.calls map i ≡ Some u) (said : Progress (Node K V))
+    (all : RefinesAnswers same (past history) (moment history) known s) (may : StepsMay terms history s) (map i : ℕ) (u : UnderWay K V K) (here : s.calls map i ≡ Some u) (said : Progress (Node K V))
     (leads : StepLeads same hash i said s old new) (d : CallThere K V) (d_is : call_of (named i) (moment history) ≡ Some d) where
   abbrev m : Moment K V
   m = moment history
@@ -93,7 +93,7 @@ module _ {K V : Type 0} (same : K → K → Bool) (hash : ℕ → K → ℕ) (te
   abbrev Guarded : Type 0
   Guarded = guard_of (named (slot_of i)) m.there.guards ≡ Some (guard_on (slot_of i))
 
-  module _ (purposes : ShowsPurposes same named (past history) m known s) (steps : ShowsSteps same (past history) m known s) (order : AllIsInOrder m) where
+  module _ (purposes : RefinesPurposes same named (past history) m known s) (steps : RefinesSteps same (past history) m known s) (order : AllIsInOrder m) where
     -- where its copier makes a table, its map has a second one, or had one since the call began
     nexts : (n : NewTable) → making_of_copier (machine_of u) ≡ Some n → OneOf (HasNext map) (m ∷ (past history).since d.begun)
     nexts n is =

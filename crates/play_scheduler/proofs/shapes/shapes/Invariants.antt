@@ -4,7 +4,7 @@ use Rattle.std.proofs.Common.{◌≡◌}
 use Rattle.papaya_raw.specs.Given.TablesDeclared.table.Table.{Table}
 use Rattle.map_straight.specs.Given.RuleChart.{Chart}
 use Rattle.map_straight.specs.Given.RuleWords.{Blocks}
-use Rattle.map_straight.specs.Shown.Shown.{Stands}
+use Rattle.map_straight.specs.Shown.Shown.{HasMap}
 use Rattle.map_straight.proofs.Shown.Chain.{Walked}
 use Rattle.play_scheduler.specs.Shapes.{shape_of}
 use Rattle.play_scheduler.proofs.shapes.shapes.Given as goal
@@ -12,7 +12,7 @@ use Rattle.play_scheduler.proofs.shapes.shapes.Given as goal
 abbrev pub invariant-loop-next : goal.invariant-loop-next
 invariant-loop-next g l =
     (same : g.row.K.Denot → g.row.K.Denot → Bool) (hash : g.row.K.Denot → ℕ) (c : Chart g.row.K.Denot) (blocks : Blocks)
-    → Stands {K = g.row.K.Denot} {V = g.row.V.Denot} same hash l.memory l.setting c blocks
+    → HasMap {K = g.row.K.Denot} {V = g.row.V.Denot} same hash l.memory l.setting c blocks
     → (tables : List Table) × Walked c blocks l.next tables × (l.shapes.items ≡ map shape_of tables)
 
 -- each table is one more in the list

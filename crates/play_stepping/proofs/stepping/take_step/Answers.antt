@@ -1,9 +1,9 @@
 -- A call takes one step.
 use Rattle.std.proofs.Common.{◌≡◌, sym, ap, subst}
 use Rattle.run_executor.specs.Given.EffectsKnown.{known}
-use Rattle.play_scheduler.specs.Given.LoggedCalling.{CallGoesOn, CallSteps}
+use Rattle.play_scheduler.specs.Given.LoggedCalling.{CallContinues, CallSteps}
 use Rattle.play_scheduler.proofs.KeptGiven.{given_as}
-use Rattle.run_grows.specs.Says.{callers_then, outcome_of}
+use Rattle.run_sweeps.specs.Says.{callers_then, outcome_of}
 use Rattle.play_stepping.proofs.EventSteps.ByName.{caller_here}
 use Rattle.play_stepping.proofs.stepping.take_step.Goals as goal
 use Rattle.play_scheduler.specs.Given.ScenesScene.{HasCall}
@@ -30,9 +30,9 @@ returns-clause-stepped g c = λ place placed.
       at = it.1;
       said = c.in_ok-progress.progress;
       leads = λ name m s shown.
-          subst (λ l. CallGoesOn g.K.PartialEq.eq (g.S.Hashes.hash c.args.scheduler.now.logged.executor.hasher) name m s d.number d.map c.in_ok-progress.progress c.args.effects.now.items
+          subst (λ l. CallContinues g.K.PartialEq.eq (g.S.Hashes.hash c.args.scheduler.now.logged.executor.hasher) name m s d.number d.map c.in_ok-progress.progress c.args.effects.now.items
           c.step.new.effects.items c.args.scheduler.now.logged l) (sym logged_is)
-          (subst (λ x. CallGoesOn g.K.PartialEq.eq (g.S.Hashes.hash c.args.scheduler.now.logged.executor.hasher) name m s x.0 x.1 c.in_ok-progress.progress c.args.effects.now.items c.step.new.effects.items
+          (subst (λ x. CallContinues g.K.PartialEq.eq (g.S.Hashes.hash c.args.scheduler.now.logged.executor.hasher) name m s x.0 x.1 c.in_ok-progress.progress c.args.effects.now.items c.step.new.effects.items
           c.args.scheduler.now.logged c.step.new.self) read (c.in_ok-progress.ensures.leads name m s shown));
       steps = subst (λ l. CallSteps g.K.PartialEq.eq (g.S.Hashes.hash c.args.scheduler.now.logged.executor.hasher) d.number d.map c.in_ok-progress.progress c.args.effects.now.items c.step.new.effects.items
           c.args.scheduler.now.logged l) (sym logged_is)

@@ -7,7 +7,7 @@ use Rattle.run_schedules.specs.declared.event.Event.TheVariants.{Next}
 use Rattle.run_schedules.specs.declared.outcome.Outcome.TheVariants.{Refused}
 use Rattle.play_scheduler.proofs.Given.ShedsKeptGiven.{given_on}
 use Rattle.play_scheduler.proofs.KeptGiven.{given_as}
-use Rattle.play_scheduler.specs.Given.LoggedCalling.{WalkGoesOn}
+use Rattle.play_scheduler.specs.Given.LoggedCalling.{WalkContinues}
 use Rattle.play_stepping.specs.EventSteps.Stepping.{MayWalk, PlaysNext, WalkComes}
 use Rattle.play_stepping.proofs.EventSteps.ByName.{none_told}
 use Rattle.play_stepping.proofs.EventSteps.NextEnds.{asked_here, next_asked, next_busy, next_may, next_ready, placed_there, plays_next, there}
@@ -57,7 +57,7 @@ walk_on-requires g c =
       moment r.1,
       n.0,
       next_asked g.K.PartialEq.eq hash r.0 r.1 c.args.caller.now c.args.scheduler.now r.2 n.0 (sym n.2) c.next.result c.next.new.self
-          (subst (λ k. WalkGoesOn g.K.PartialEq.eq hash r.2.played.name (moment r.1) r.2.played.scene k c.next.result c.args.scheduler.now.logged c.next.new.self) numbered
+          (subst (λ k. WalkContinues g.K.PartialEq.eq hash r.2.played.name (moment r.1) r.2.played.scene k c.next.result c.args.scheduler.now.logged c.next.new.self) numbered
           (c.next.ensures.leads g.K.PartialEq.eq hash r.2.played.name (moment r.1) r.2.played.scene r.2.played.shown)),
       next_ready g.K.PartialEq.eq hash r.0 r.1 c.args.caller.now c.args.scheduler.now r.2 n.0 (sym n.2) c.next.new.self,
     )
@@ -71,7 +71,7 @@ come_to-outcome-requires g c =
     let numbered = n.4 ∙ ap (λ d. d.number) (the n.1 here.caller (sym n.3 ∙ here.at)) in
     let asked = record c.args.scheduler.now { logged = c.next.new.self } in
     let stands = next_asked g.K.PartialEq.eq hash r.0 r.1 c.args.caller.now c.args.scheduler.now r.2 n.0 (sym n.2) c.next.result c.next.new.self
-    (subst (λ k. WalkGoesOn g.K.PartialEq.eq hash r.2.played.name (moment r.1) r.2.played.scene k c.next.result c.args.scheduler.now.logged c.next.new.self) numbered
+    (subst (λ k. WalkContinues g.K.PartialEq.eq hash r.2.played.name (moment r.1) r.2.played.scene k c.next.result c.args.scheduler.now.logged c.next.new.self) numbered
     (c.next.ensures.leads g.K.PartialEq.eq hash r.2.played.name (moment r.1) r.2.played.scene r.2.played.shown)) in
     let at_place = next_ready g.K.PartialEq.eq hash r.0 r.1 c.args.caller.now c.args.scheduler.now r.2 n.0 (sym n.2) c.next.new.self in
     let comes = subst (λ h. WalkComes g.K.PartialEq.eq (g.S.Hashes.hash h) n.0 c.in_ok-come.come.1 c.in_ok-come.come.0 [] c.walk_on.new.effects.items asked c.walk_on.new.scheduler) c.next.ensures.given.0
@@ -97,7 +97,7 @@ returns g c = record {
       let numbered = n.4 ∙ ap (λ d. d.number) (the n.1 here.caller (sym n.3 ∙ here.at)) in
       let asked = record c.args.scheduler.now { logged = c.next.new.self } in
       let stands = next_asked g.K.PartialEq.eq hash terms log own c.args.scheduler.now due n.0 (sym n.2) c.next.result c.next.new.self
-      (subst (λ k. WalkGoesOn g.K.PartialEq.eq hash due.played.name (moment log) due.played.scene k c.next.result c.args.scheduler.now.logged c.next.new.self) numbered
+      (subst (λ k. WalkContinues g.K.PartialEq.eq hash due.played.name (moment log) due.played.scene k c.next.result c.args.scheduler.now.logged c.next.new.self) numbered
       (c.next.ensures.leads g.K.PartialEq.eq hash due.played.name (moment log) due.played.scene due.played.shown)) in
       let at_place = next_ready g.K.PartialEq.eq hash terms log own c.args.scheduler.now due n.0 (sym n.2) c.next.new.self in
       let comes = subst (λ h. WalkComes g.K.PartialEq.eq (g.S.Hashes.hash h) n.0 c.in_ok-come.come.1 c.in_ok-come.come.0 [] c.walk_on.new.effects.items asked c.walk_on.new.scheduler) c.next.ensures.given.0
@@ -119,7 +119,7 @@ returns g c = record {
       let numbered = n.4 ∙ ap (λ d. d.number) (the n.1 here.caller (sym n.3 ∙ here.at)) in
       let asked = record old { logged = c.next.new.self } in
       let stands = next_asked eq hash r.0 r.1 c.args.caller.now old r.2 n.0 (sym n.2) c.next.result c.next.new.self
-      (subst (λ k. WalkGoesOn eq hash r.2.played.name (moment r.1) r.2.played.scene k c.next.result old.logged c.next.new.self) numbered
+      (subst (λ k. WalkContinues eq hash r.2.played.name (moment r.1) r.2.played.scene k c.next.result old.logged c.next.new.self) numbered
       (c.next.ensures.leads eq hash r.2.played.name (moment r.1) r.2.played.scene r.2.played.shown)) in
       let at_place = next_ready eq hash r.0 r.1 c.args.caller.now old r.2 n.0 (sym n.2) c.next.new.self in
       let comes = subst (λ h. WalkComes eq (g.S.Hashes.hash h) n.0 c.in_ok-come.come.1 c.in_ok-come.come.0 [] c.walk_on.new.effects.items asked c.walk_on.new.scheduler) c.next.ensures.given.0

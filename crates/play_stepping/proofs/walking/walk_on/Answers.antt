@@ -3,7 +3,7 @@ use Rattle.std.specs.Prelude.{suc, slice_get}
 use Rattle.std.proofs.Common.{◌+◌, refl, sym, ap, subst, ◌∙◌, arith}
 use Rattle.std.proofs.lemmas.List.{append-nil}
 use Rattle.play_scheduler.proofs.Given.ShedsKeptGiven.{given_on}
-use Rattle.play_scheduler.specs.Given.LoggedCalling.{CallGoesOn, CallSteps}
+use Rattle.play_scheduler.specs.Given.LoggedCalling.{CallContinues, CallSteps}
 use Rattle.play_scheduler.specs.Given.LoggedShown.{IsShown}
 use Rattle.play_stepping.specs.EventSteps.Stepping.{ReadyAt}
 use Rattle.play_stepping.proofs.EventSteps.NextOn.{logged_on, may_walk, mid_few, mid_first, mid_next}
@@ -54,9 +54,9 @@ returns-then-not-just_goes-clause-comes g c = λ place placed.
         caller = ready.1;
         at = there;
         leads = λ name m s shown.
-            subst (λ x. CallGoesOn g.K.PartialEq.eq (g.S.Hashes.hash c.args.scheduler.now.logged.executor.hasher) name m s x.0 x.1 c.in_ok-progress.progress c.loop-steps.effects.items c.step.new.effects.items
+            subst (λ x. CallContinues g.K.PartialEq.eq (g.S.Hashes.hash c.args.scheduler.now.logged.executor.hasher) name m s x.0 x.1 c.in_ok-progress.progress c.loop-steps.effects.items c.step.new.effects.items
             c.loop-steps.scheduler.logged c.step.new.self) read
-            (subst (λ h. CallGoesOn g.K.PartialEq.eq (g.S.Hashes.hash h) name m s c.way_of-number.result.0 c.way_of-number.result.1 c.in_ok-progress.progress c.loop-steps.effects.items c.step.new.effects.items
+            (subst (λ h. CallContinues g.K.PartialEq.eq (g.S.Hashes.hash h) name m s c.way_of-number.result.0 c.way_of-number.result.1 c.in_ok-progress.progress c.loop-steps.effects.items c.step.new.effects.items
             c.loop-steps.scheduler.logged c.step.new.self) i.3.0 (c.in_ok-progress.ensures.leads name m s (subst (λ h. IsShown g.K.PartialEq.eq (g.S.Hashes.hash h) name m c.loop-steps.scheduler.logged s) (sym i.3.0) shown)));
         steps = subst (λ x. CallSteps g.K.PartialEq.eq (g.S.Hashes.hash c.args.scheduler.now.logged.executor.hasher) x.0 x.1 c.in_ok-progress.progress c.loop-steps.effects.items c.step.new.effects.items
             c.loop-steps.scheduler.logged c.step.new.self) read
@@ -89,11 +89,11 @@ loop-steps-preserved g c =
             caller = ready.1;
             at = there;
             leads = λ name m2 s shown.
-                subst (λ said. CallGoesOn g.K.PartialEq.eq (g.S.Hashes.hash c.args.scheduler.now.logged.executor.hasher) name m2 s ready.1.number ready.1.map said c.loop-steps.effects.items c.step.new.effects.items
+                subst (λ said. CallContinues g.K.PartialEq.eq (g.S.Hashes.hash c.args.scheduler.now.logged.executor.hasher) name m2 s ready.1.number ready.1.map said c.loop-steps.effects.items c.step.new.effects.items
                 c.loop-steps.scheduler.logged c.step.new.self) goes
-                (subst (λ x. CallGoesOn g.K.PartialEq.eq (g.S.Hashes.hash c.args.scheduler.now.logged.executor.hasher) name m2 s x.0 x.1 c.in_ok-progress.progress c.loop-steps.effects.items c.step.new.effects.items
+                (subst (λ x. CallContinues g.K.PartialEq.eq (g.S.Hashes.hash c.args.scheduler.now.logged.executor.hasher) name m2 s x.0 x.1 c.in_ok-progress.progress c.loop-steps.effects.items c.step.new.effects.items
                 c.loop-steps.scheduler.logged c.step.new.self) read
-                (subst (λ h. CallGoesOn g.K.PartialEq.eq (g.S.Hashes.hash h) name m2 s c.way_of-number.result.0 c.way_of-number.result.1 c.in_ok-progress.progress c.loop-steps.effects.items c.step.new.effects.items
+                (subst (λ h. CallContinues g.K.PartialEq.eq (g.S.Hashes.hash h) name m2 s c.way_of-number.result.0 c.way_of-number.result.1 c.in_ok-progress.progress c.loop-steps.effects.items c.step.new.effects.items
                 c.loop-steps.scheduler.logged c.step.new.self) i.3.0 (c.in_ok-progress.ensures.leads name m2 s (subst (λ h. IsShown g.K.PartialEq.eq (g.S.Hashes.hash h) name m2 c.loop-steps.scheduler.logged s) (sym i.3.0) shown))));
             steps = subst (λ said. CallSteps g.K.PartialEq.eq (g.S.Hashes.hash c.args.scheduler.now.logged.executor.hasher) ready.1.number ready.1.map said c.loop-steps.effects.items c.step.new.effects.items
                 c.loop-steps.scheduler.logged c.step.new.self) goes
@@ -117,11 +117,11 @@ loop-steps-preserved g c =
               caller = ready.1;
               at = there;
               leads = λ name m s shown.
-                  subst (λ said. CallGoesOn g.K.PartialEq.eq (g.S.Hashes.hash c.args.scheduler.now.logged.executor.hasher) name m s ready.1.number ready.1.map said c.loop-steps.effects.items c.step.new.effects.items
+                  subst (λ said. CallContinues g.K.PartialEq.eq (g.S.Hashes.hash c.args.scheduler.now.logged.executor.hasher) name m s ready.1.number ready.1.map said c.loop-steps.effects.items c.step.new.effects.items
                   c.loop-steps.scheduler.logged c.step.new.self) goes
-                  (subst (λ x. CallGoesOn g.K.PartialEq.eq (g.S.Hashes.hash c.args.scheduler.now.logged.executor.hasher) name m s x.0 x.1 c.in_ok-progress.progress c.loop-steps.effects.items c.step.new.effects.items
+                  (subst (λ x. CallContinues g.K.PartialEq.eq (g.S.Hashes.hash c.args.scheduler.now.logged.executor.hasher) name m s x.0 x.1 c.in_ok-progress.progress c.loop-steps.effects.items c.step.new.effects.items
                   c.loop-steps.scheduler.logged c.step.new.self) read
-                  (subst (λ h. CallGoesOn g.K.PartialEq.eq (g.S.Hashes.hash h) name m s c.way_of-number.result.0 c.way_of-number.result.1 c.in_ok-progress.progress c.loop-steps.effects.items c.step.new.effects.items
+                  (subst (λ h. CallContinues g.K.PartialEq.eq (g.S.Hashes.hash h) name m s c.way_of-number.result.0 c.way_of-number.result.1 c.in_ok-progress.progress c.loop-steps.effects.items c.step.new.effects.items
                   c.loop-steps.scheduler.logged c.step.new.self) i.3.0 (c.in_ok-progress.ensures.leads name m s (subst (λ h. IsShown g.K.PartialEq.eq (g.S.Hashes.hash h) name m c.loop-steps.scheduler.logged s) (sym i.3.0) shown))));
               steps = subst (λ said. CallSteps g.K.PartialEq.eq (g.S.Hashes.hash c.args.scheduler.now.logged.executor.hasher) ready.1.number ready.1.map said c.loop-steps.effects.items c.step.new.effects.items
                   c.loop-steps.scheduler.logged c.step.new.self) goes

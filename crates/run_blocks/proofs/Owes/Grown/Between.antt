@@ -5,7 +5,7 @@ use Rattle.run_debts.specs.Given.SeizeWordsDeclared.fault.Fault.TheVariants.{Cap
 use Rattle.run_debts.specs.Given.RawDeclared.machines.machine.Machine.{Machine}
 use Rattle.run_debts.specs.Given.SchedulesMoment.{UnderWay as CallThere}
 use Rattle.run_debts.specs.Given.FinishesMachines.{machine_of}
-use Rattle.run_blocks.specs.Owes.Grown.{SoInMachine, IsOther, GrownBegins, StaysGrown, CallsBeginGrown, MachinesBeginGrown, CallsTakeGrown, CallsComeToGrown, WalksGoOnGrown, WalksStopGrown}
+use Rattle.run_blocks.specs.Owes.Grown.{SoInMachine, IsOther, GrownBegins, StaysGrown, CallsBeginGrown, MachinesBeginGrown, CallsTakeGrown, CallsComeToGrown, WalksPreserveGrown, WalksStopGrown}
 use Rattle.run_blocks.proofs.Owes.Grown.Machines.{asked_so, begins_so, replied_so}
 use Rattle.run_blocks.proofs.Owes.Kept.{HasAsMuch}
 use Rattle.run_blocks.proofs.Owes.Marked.{stays_marked, begin_marked, go_on_marked, take_marked, come_marked, stop_marked}
@@ -48,7 +48,7 @@ module _ (K V : Type 0) where
   calls_come_to_grown same name m known s whole grown own o steps ended = come_marked grown_mark Other as_grown name m s grown same whole.all.shown.calls own o steps ended
 
 module _ (K V : Type 0) (same : K → K → Bool) (hash : ℕ → K → ℕ) where
-  pub walks_go_on_grown : WalksGoOnGrown K V same hash
+  pub walks_go_on_grown : WalksPreserveGrown K V same hash
   walks_go_on_grown name m s old new grown i leads map u here =
       let to = leads map u here in go_on_marked grown_mark Other as_grown name m s grown map i u here to.0 (λ so. subst Other (sym to.1) (asked_so IsOther (machine_of u) so))
 

@@ -22,9 +22,9 @@ use Rattle.run_debts.specs.Given.EffectsDeclared.changed.Kind.{Kind}
 use Rattle.run_debts.specs.Given.FinishesMachines.{machine_of}
 use Rattle.run_debts.proofs.Given.FollowsSteps.{WentTo, went_to}
 use Rattle.run_debts.proofs.Given.HandsAsking.{which}
-use Rattle.run_debts.specs.Given.MomentsWhole.{ShowsWhole}
-use Rattle.run_blocks.specs.Owes.Grown.{SoInMachine, IsOther, ShowsGrown, CallsKeepGrown}
-use Rattle.run_blocks.specs.Owes.Short.{ShowsShort}
+use Rattle.run_debts.specs.Given.MomentsWhole.{RefinesWhole}
+use Rattle.run_blocks.specs.Owes.Grown.{SoInMachine, IsOther, RefinesGrown, CallsPreserveGrown}
+use Rattle.run_blocks.specs.Owes.Short.{RefinesShort}
 use Rattle.run_blocks.proofs.Owes.Fields.{all_by, field_own, field_other}
 use Rattle.run_blocks.proofs.Owes.Grown.Between.{long_other}
 use Rattle.run_blocks.proofs.Owes.Grown.Machines.{SaysSo, machine_so}
@@ -41,7 +41,7 @@ was_false true e = absurd (cc e)
 was_false false e = refl
 
 module _ {K V : Type 0} (same : K → K → Bool) (hash : ℕ → K → ℕ) (name : ℕ → List ℕ) (m : Moment K V) (known : Known) (s : Scene K V) (old new : Held K V) (at : IsAt same hash old s)
-    (whole : ShowsWhole same name m known s) (short : ShowsShort name m s) (grown : ShowsGrown name m s) (map i : ℕ) (u : UnderWay K V K) (here : s.calls map i ≡ Some u) (said : Progress (Node K V))
+    (whole : RefinesWhole same name m known s) (short : RefinesShort name m s) (grown : RefinesGrown name m s) (map i : ℕ) (u : UnderWay K V K) (here : s.calls map i ≡ Some u) (said : Progress (Node K V))
     (leads : StepLeads same hash i said s old new) where
   abbrev to : WentTo same hash name m known s old new at whole.all.shown map i u here said leads
   to = went_to same hash name m known s old new at whole.all.shown map i u here said leads
@@ -97,7 +97,7 @@ module _ {K V : Type 0} (same : K → K → Bool) (hash : ℕ → K → ℕ) (na
       let field = field_own (λ (x : CallThere K V). x.is_short) short_by effect_short (name i) map effects m c c_is d d_is in clear_by told refl (sym field ∙ e)
 
   -- each call after it
-  grown_then : ShowsGrown name v led
+  grown_then : RefinesGrown name v led
   grown_then n j x is d d_is e = elim (which s.calls map i to.4.next n j x is) as (λ _. SoInMachine IsOther (machine_of x)) [
     | inl it ↦
         subst (λ (y : Machine K V K). SoInMachine IsOther y) (sym (goes_as_one to.1 said to.4.next to.4.goes_on x it.2))
@@ -118,8 +118,8 @@ module _ {K V : Type 0} (same : K → K → Bool) (hash : ℕ → K → ℕ) (na
       by true e = e
       by false e = absurd (subst (λ (x : Progress (Node K V)). SaysSo IsOther x) refused (its_clear d d_is e).1 refl)
 
-  pub step_keeps_grown : ShowsGrown name v led × (said ≡ progress.Refused Memory → (d : CallThere K V) → call_of (name i) v ≡ Some d → d.is_short ≡ true)
+  pub step_keeps_grown : RefinesGrown name v led × (said ≡ progress.Refused Memory → (d : CallThere K V) → call_of (name i) v ≡ Some d → d.is_short ≡ true)
   step_keeps_grown = (grown_then, refused_short)
 
-pub calls_keep_grown : (K V : Type 0) (same : K → K → Bool) (hash : ℕ → K → ℕ) → CallsKeepGrown K V same hash
+pub calls_keep_grown : (K V : Type 0) (same : K → K → Bool) (hash : ℕ → K → ℕ) → CallsPreserveGrown K V same hash
 calls_keep_grown K V same hash name m known s old new at whole short grown map i u here said leads = step_keeps_grown same hash name m known s old new at whole short grown map i u here said leads

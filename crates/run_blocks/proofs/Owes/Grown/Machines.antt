@@ -21,7 +21,7 @@ use Rattle.run_debts.specs.Given.ReservesDeclared.sweep.Sweeping.TheVariants as 
 use Rattle.run_debts.specs.Given.ReservesDeclared.sweep.Swept.{Swept}
 use Rattle.run_debts.specs.Given.ReservesDeclared.sweep.Swept.TheVariants as swept
 use Rattle.owner_calls.specs.Given.RawCall.{call_plan}
-use Rattle.run_debts.specs.Given.RawMachine.{machine_asked, machine_plan, machine_replied, sweep_told, called as of_key, reserved as of_room, swept as of_sweep, counted as of_sum}
+use Rattle.run_debts.specs.Given.RawMachine.{machine_asked, machine_plan, machine_replied, sweep_with_reply, called as of_key, reserved as of_room, swept as of_sweep, counted as of_sum}
 use Rattle.run_debts.specs.Given.RawDeclared.machines.answer.Called.{Called}
 use Rattle.run_debts.specs.Given.RawDeclared.machines.answer.Called.TheVariants as called
 use Rattle.run_debts.specs.Given.RawDeclared.machines.asking.MachineReply.{MachineReply}
@@ -94,7 +94,7 @@ module _ (Is : Fault → Type 0) where
   sum_says K V (sum, counting.Done count) on = (tt, tt)
   sum_says K V (sum, counting.Refused fault) on = absurd on
 
-  sweep_told_so : {V : Type 0} (q : Sweeping) (c : Sweep) (told : MachineReply V) → SoInSweeping Is c.stands → SoInSweeping Is (sweep_told q c told).0.stands
+  sweep_told_so : {V : Type 0} (q : Sweeping) (c : Sweep) (told : MachineReply V) → SoInSweeping Is c.stands → SoInSweeping Is (sweep_with_reply q c told).0.stands
   sweep_told_so (sweeping.Asks word) c reply.Yes so = (told_so_on Is c so).1 true
   sweep_told_so (sweeping.Asks word) c reply.No so = (told_so_on Is c so).1 false
   sweep_told_so _ c told so = so

@@ -15,7 +15,7 @@ use Rattle.owner_calls.specs.Given.ResizeNewTable.{new_table_plan}
 use Rattle.owner_calls.specs.Given.ResizeDeclared.lookup.Lookup.{Lookup}
 use Rattle.owner_calls.specs.Given.RawCall.{call_plan, made, makes_of, looked, looks_for, first_made, next_made, disposed, helped, copied}
 use Rattle.owner_calls.specs.Given.RawCall as calls
-use Rattle.owner_calls.specs.Given.RawCallAsks.{told_at}
+use Rattle.owner_calls.specs.Given.RawCallAsks.{replied_at}
 use Rattle.owner_calls.specs.Given.RawCallFills.{emptied, fill_by, filled, fills_with, putting_by}
 use Rattle.owner_calls.specs.Given.RawReplies.{as_own, value_for}
 use Rattle.run_debts.specs.Given.RawDeclared.machines.answer.Called.{Called}
@@ -44,9 +44,9 @@ module _ (Is : Fault → Type 0) where
 
 -- of a call that goes on with what it was told
 module _ (Is : Fault → Type 0) (nothing : Is RemoveNothing) {K V : Type 0} where
-  pub key_told_so : (p : KeyCall K V K) → SoInCalling Is p.stands → (r : MachineReply V) → SoInCalling Is (told_at p.stands p r).0.stands
+  pub key_told_so : (p : KeyCall K V K) → SoInCalling Is p.stands → (r : MachineReply V) → SoInCalling Is (replied_at p.stands p r).0.stands
   key_told_so p here r =
-      so_of_stands Is (told_at p.stands p r).0.trial.table (told_at p.stands p r).0.stands (key_told_as Is AnyTable nothing p (stands_of_so Is p.trial.table p.stands here) r)
+      so_of_stands Is (replied_at p.stands p r).0.trial.table (replied_at p.stands p r).0.stands (key_told_as Is AnyTable nothing p (stands_of_so Is p.trial.table p.stands here) r)
 
 -- and by a step by which no block is refused
 module _ (Is : Fault → Type 0) (long : Is Capacity) {K V : Type 0} (m m2 : Mem (Node K V)) (change : Changed) (unrefused : (k : Kind) → change ≡ memory.Unmade k → ⊥)

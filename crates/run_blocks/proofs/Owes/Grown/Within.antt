@@ -49,7 +49,7 @@ use Rattle.owner_calls.proofs.Given.LateKindsKept.Rooms.Reserving.{ReservesFor}
 use Rattle.owner_calls.proofs.Given.LateKindsKept.Rooms.Sweeping as sweeps_so
 use Rattle.owner_calls.proofs.Given.LateKindsKept.Rooms.Sweeping.{SweepsFor}
 use Rattle.run_debts.specs.Given.TellsSeen.{seen_of}
-use Rattle.run_debts.specs.Given.TellerTells.{told_of}
+use Rattle.run_debts.specs.Given.TellerTells.{observed_of}
 use Rattle.run_debts.specs.Given.EffectsDeclared.changed.Changed.{Changed}
 use Rattle.run_debts.specs.Given.EffectsDeclared.changed.Changed.TheVariants as changed
 use Rattle.run_debts.specs.Given.EffectsDeclared.changed.Kind.{Kind}
@@ -59,8 +59,8 @@ use Rattle.run_debts.proofs.Given.ScenesTold.{as_step}
 
 module _ (Is : Fault → Type 0) (long : Is Capacity) {K V : Type 0} (m m2 : Mem (Node K V)) (told : Changed) (unrefused : (k : Kind) → told ≡ changed.Unmade k → ⊥) where
   -- a block that was to be made was
-  pub was_made : (value : Node K V) (words : ℕ) (out : Out (Node K V)) → told ≡ told_of (Make value words) out (seen_of m (Make value words) out) → (back : Node K V) → out ≡ Made (Err back) → ⊥
-  was_made value words out is back refused = unrefused _ (is ∙ ap (λ (x : Out (Node K V)). told_of (Make value words) x (seen_of m (Make value words) x)) refused)
+  pub was_made : (value : Node K V) (words : ℕ) (out : Out (Node K V)) → told ≡ observed_of (Make value words) out (seen_of m (Make value words) out) → (back : Node K V) → out ≡ Made (Err back) → ⊥
+  was_made value words out is back refused = unrefused _ (is ∙ ap (λ (x : Out (Node K V)). observed_of (Make value words) x (seen_of m (Make value words) x)) refused)
 
   -- what is so of each outcome is so of this one
   pub so_always : {R : Type 0} (P : R → Type 0) (plan : Plan (Node K V) R) (end : R) → AlwaysOf P plan → Step m m2 told plan end → P end

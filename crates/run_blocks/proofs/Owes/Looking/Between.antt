@@ -2,7 +2,7 @@
 use Rattle.std.specs.Prelude.{◌≡◌, ℕ, Bool, true, List, None}
 use Rattle.std.proofs.Common.{refl, ap, sym, subst, ◌∙◌}
 use Rattle.run_debts.specs.Given.TablesDeclared.setting.Setting.{Setting}
-use Rattle.owner_calls.specs.Given.RawCallAsks.{told_at}
+use Rattle.owner_calls.specs.Given.RawCallAsks.{replied_at}
 use Rattle.run_debts.specs.Given.RawMachine.{machine_replied, machine_asked}
 use Rattle.run_debts.specs.Given.RawDeclared.machines.asking.MachineReply.{MachineReply}
 use Rattle.run_debts.specs.Given.RawDeclared.machines.call.Calling.{Calling}
@@ -23,14 +23,14 @@ use Rattle.owner_calls.specs.Given.CallersTogether.{IsBegun, Gets, Removes, Inse
 use Rattle.run_debts.specs.Given.FinishesMachines.{machine_of}
 use Rattle.run_debts.specs.Given.HandsAsked.{given_by}
 use Rattle.owner_calls.specs.Given.LateKinds.{IsLookup, LooksAt}
-use Rattle.run_blocks.specs.Owes.Looking.{IsLooking, LookingBegins, StaysLooking, CallsBeginLooking, LookupsBegin, CallsTakeLooking, CallsComeToLooking, WalksGoOnLooking, WalksStopLooking}
+use Rattle.run_blocks.specs.Owes.Looking.{IsLooking, LookingBegins, StaysLooking, CallsBeginLooking, LookupsBegin, CallsTakeLooking, CallsComeToLooking, WalksPreserveLooking, WalksStopLooking}
 use Rattle.run_blocks.proofs.Owes.Kept.{HasAsMuch}
 use Rattle.run_blocks.proofs.Owes.Marked.{stays_marked, begin_marked, go_on_marked, take_marked, come_marked, stop_marked}
 
 module _ {K V : Type 0} where
   -- A machine that looks takes no reply, and is no walk that is ready.
 
-  key_same : (q : Calling) (p : KeyCall K V K) (reply : MachineReply V) → LooksAt q → (told_at q p reply).0 ≡ p
+  key_same : (q : Calling) (p : KeyCall K V K) (reply : MachineReply V) → LooksAt q → (replied_at q p reply).0 ≡ p
   key_same (at.Asks a) p reply is = absurd is
   key_same _ p reply is = refl
 
@@ -94,7 +94,7 @@ module _ (K V : Type 0) where
   calls_come_to_looking same name m known s whole looking own o steps ended = come_marked looks_mark IsLooking as_called name m s looking same whole.all.shown.calls own o steps ended
 
 module _ (K V : Type 0) (same : K → K → Bool) (hash : ℕ → K → ℕ) where
-  pub walks_go_on_looking : WalksGoOnLooking K V same hash
+  pub walks_go_on_looking : WalksPreserveLooking K V same hash
   walks_go_on_looking name m s old new looking i leads map u here =
       let to = leads map u here in go_on_marked looks_mark IsLooking as_called name m s looking map i u here to.0 (λ so. subst IsLooking (sym to.1) (asked_looks (machine_of u) so))
 

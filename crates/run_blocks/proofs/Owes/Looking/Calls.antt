@@ -21,8 +21,8 @@ use Rattle.run_debts.specs.Given.FinishesMachines.{machine_of}
 use Rattle.run_debts.proofs.Given.FollowsCalls.{changed_same}
 use Rattle.run_debts.proofs.Given.FollowsSteps.{WentTo, went_to}
 use Rattle.run_debts.proofs.Given.HandsAsking.{which}
-use Rattle.run_debts.specs.Given.MomentsWhole.{ShowsWhole}
-use Rattle.run_blocks.specs.Owes.Looking.{IsLooking, ShowsLooking, FindAtWork, CallsKeepLooking}
+use Rattle.run_debts.specs.Given.MomentsWhole.{RefinesWhole}
+use Rattle.run_blocks.specs.Owes.Looking.{IsLooking, RefinesLooking, FindAtWork, CallsPreserveLooking}
 use Rattle.run_blocks.proofs.Owes.Fields.{all_by, field_own, field_other, its_effect}
 use Rattle.run_blocks.proofs.Owes.Looking.Leaves.{looking_stays}
 use Rattle.run_debts.specs.Given.ScenesHeld.{Held, IsAt}
@@ -50,7 +50,7 @@ module _ {K V : Type 0} where
   )
 
 module _ {K V : Type 0} (same : K → K → Bool) (hash : ℕ → K → ℕ) (name : ℕ → List ℕ) (m : Moment K V) (known : Known) (s : Scene K V) (old new : Held K V) (at : IsAt same hash old s)
-    (whole : ShowsWhole same name m known s) (looking : ShowsLooking name m s) (map i : ℕ) (u : UnderWay K V K) (here : s.calls map i ≡ Some u) (said : Progress (Node K V))
+    (whole : RefinesWhole same name m known s) (looking : RefinesLooking name m s) (map i : ℕ) (u : UnderWay K V K) (here : s.calls map i ≡ Some u) (said : Progress (Node K V))
     (leads : StepLeads same hash i said s old new) where
   abbrev to : WentTo same hash name m known s old new at whole.all.shown map i u here said leads
   to = went_to same hash name m known s old new at whole.all.shown map i u here said leads
@@ -82,7 +82,7 @@ module _ {K V : Type 0} (same : K → K → Bool) (hash : ℕ → K → ℕ) (na
       let field = field_own (λ (x : CallThere K V). x.call) same_call effect_same (name i) map effects m its_there.0 its_there.1 d d_is ∙ all_same effects its_there.0.call in
       (stays (sym (ap only_looks field) ∙ e)).1
 
-  looking_then : ShowsLooking name v led
+  looking_then : RefinesLooking name v led
   looking_then n j x is d d_is e = elim (which s.calls map i to.4.next n j x is) as (λ _. IsLooking (machine_of x)) [
     | inl it ↦ subst IsLooking (sym (goes_as_one to.1 said to.4.next to.4.goes_on x it.2)) (its_looking d (ap (λ (k : ℕ). call_of (name k) v) (sym it.1) ∙ d_is) e)
     | inr was ↦
@@ -94,9 +94,9 @@ module _ {K V : Type 0} (same : K → K → Bool) (hash : ℕ → K → ℕ) (na
       apart : (n ≡ map → j ≡ i → ⊥) → s.calls n j ≡ Some x → is_same (name j) (name i) ≡ true → ⊥
       apart other was names = (let both = whole.all.asked.apart n j map i x u was here names in other both.0 both.1)
 
-  pub step_keeps_looking : FindAtWork (name i) map effects m × ShowsLooking name v led
+  pub step_keeps_looking : FindAtWork (name i) map effects m × RefinesLooking name v led
   step_keeps_looking = (find_by (only_looks its_there.0.call) refl, looking_then)
 
-pub calls_keep_looking : (K V : Type 0) (same : K → K → Bool) (hash : ℕ → K → ℕ) → CallsKeepLooking K V same hash
+pub calls_keep_looking : (K V : Type 0) (same : K → K → Bool) (hash : ℕ → K → ℕ) → CallsPreserveLooking K V same hash
 calls_keep_looking K V same hash name m known s old new at whole looking map i u here said leads =
     step_keeps_looking same hash name m known s old new at whole looking map i u here said leads

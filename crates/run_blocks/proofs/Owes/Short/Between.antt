@@ -7,8 +7,8 @@ use Rattle.owner_calls.specs.Given.SweepsSweepPoints.{next_at}
 use Rattle.run_debts.specs.Given.ReservesDeclared.sweep.Sweep.{Sweep}
 use Rattle.run_debts.specs.Given.ReservesDeclared.sweep.Sweeping.{Sweeping}
 use Rattle.run_debts.specs.Given.ReservesDeclared.sweep.Sweeping.TheVariants as sweeping
-use Rattle.owner_calls.specs.Given.RawCallAsks.{told_at}
-use Rattle.run_debts.specs.Given.RawMachine.{machine_replied, machine_asked, sweep_told}
+use Rattle.owner_calls.specs.Given.RawCallAsks.{replied_at}
+use Rattle.run_debts.specs.Given.RawMachine.{machine_replied, machine_asked, sweep_with_reply}
 use Rattle.run_debts.specs.Given.RawDeclared.machines.asking.MachineReply.{MachineReply}
 use Rattle.run_debts.specs.Given.RawDeclared.machines.call.Calling.{Calling}
 use Rattle.run_debts.specs.Given.RawDeclared.machines.call.Calling.TheVariants as calling
@@ -17,13 +17,13 @@ use Rattle.run_debts.specs.Given.RawDeclared.machines.machine.Machine.{Machine}
 use Rattle.run_debts.specs.Given.RawDeclared.machines.machine.Machine.TheVariants as kinds
 use Rattle.run_debts.specs.Given.SchedulesMoment.{UnderWay as CallThere}
 use Rattle.run_debts.specs.Given.FinishesMachines.{machine_of}
-use Rattle.run_blocks.specs.Owes.Short.{fault_in_calling, fault_in_sweeping, fault_of, ShortBegins, StaysShort, CallsBeginShort, CallsTakeShort, CallsComeToShort, WalksGoOnShort, WalksStopShort}
+use Rattle.run_blocks.specs.Owes.Short.{fault_in_calling, fault_in_sweeping, fault_of, ShortBegins, StaysShort, CallsBeginShort, CallsTakeShort, CallsComeToShort, WalksPreserveShort, WalksStopShort}
 use Rattle.run_blocks.proofs.Owes.Kept.{HasAsMuch}
 use Rattle.run_blocks.proofs.Owes.Marked.{stays_marked, begin_marked, go_on_marked, take_marked, come_marked, stop_marked}
 
 -- A machine that is to be refused takes no reply, and is no walk that is ready.
 
-sweep_same : {V : Type 0} (q : Sweeping) (c : Sweep) (reply : MachineReply V) (fault : Fault) → fault_in_sweeping q ≡ Some fault → (sweep_told q c reply).0 ≡ c
+sweep_same : {V : Type 0} (q : Sweeping) (c : Sweep) (reply : MachineReply V) (fault : Fault) → fault_in_sweeping q ≡ Some fault → (sweep_with_reply q c reply).0 ≡ c
 sweep_same (sweeping.Asks word) c reply fault is = absurd (cc is)
 sweep_same _ c reply fault is = refl
 
@@ -32,7 +32,7 @@ asked_same sweeping.Ready c fault is = absurd (cc is)
 asked_same _ c fault is = refl
 
 module _ {K V : Type 0} where
-  key_same : (q : Calling) (p : KeyCall K V K) (reply : MachineReply V) (fault : Fault) → fault_in_calling q ≡ Some fault → (told_at q p reply).0 ≡ p
+  key_same : (q : Calling) (p : KeyCall K V K) (reply : MachineReply V) (fault : Fault) → fault_in_calling q ≡ Some fault → (replied_at q p reply).0 ≡ p
   key_same (calling.Asks a) p reply fault is = absurd (cc is)
   key_same _ p reply fault is = refl
 
@@ -77,7 +77,7 @@ module _ (K V : Type 0) where
   calls_come_to_short same name m known s whole short own o steps ended = come_marked short_mark Denied as_short name m s short same whole.all.shown.calls own o steps ended
 
 module _ (K V : Type 0) (same : K → K → Bool) (hash : ℕ → K → ℕ) where
-  pub walks_go_on_short : WalksGoOnShort K V same hash
+  pub walks_go_on_short : WalksPreserveShort K V same hash
   walks_go_on_short name m s old new short i leads map u here =
       let to = leads map u here in
       go_on_marked short_mark Denied as_short name m s short map i u here to.0 (λ fault. ap (λ (y : Machine K V K). fault_of y) to.1 ∙ asked_fault (machine_of u) Memory fault)

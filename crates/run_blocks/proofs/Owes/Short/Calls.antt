@@ -25,8 +25,8 @@ use Rattle.run_debts.specs.Given.EffectsDeclared.acting.Acting.TheVariants as ac
 use Rattle.run_debts.specs.Given.FinishesMachines.{machine_of}
 use Rattle.run_debts.proofs.Given.FollowsSteps.{WentTo, went_to}
 use Rattle.run_debts.proofs.Given.HandsAsking.{which}
-use Rattle.run_debts.specs.Given.MomentsWhole.{ShowsWhole}
-use Rattle.run_blocks.specs.Owes.Short.{fault_of, ShowsShort, FindGrown, CallsKeepShort}
+use Rattle.run_debts.specs.Given.MomentsWhole.{RefinesWhole}
+use Rattle.run_blocks.specs.Owes.Short.{fault_of, RefinesShort, FindGrown, CallsPreserveShort}
 use Rattle.run_blocks.proofs.Owes.Fields.{all_by, field_own, field_other}
 use Rattle.run_blocks.proofs.Owes.Short.Denied.{EndsSo, MachineStays, machine_stays}
 use Rattle.run_blocks.proofs.Owes.Short.Effects.{short_by, short_kept, effect_short, none_find, asked_finds, made_finds, NoneAsked, none_asked}
@@ -45,7 +45,7 @@ not_shards len limit turn true e = cc e
 not_shards len limit turn false e = cc e
 
 module _ {K V : Type 0} (same : K → K → Bool) (hash : ℕ → K → ℕ) (name : ℕ → List ℕ) (m : Moment K V) (known : Known) (s : Scene K V) (old new : Held K V) (at : IsAt same hash old s)
-    (whole : ShowsWhole same name m known s) (short : ShowsShort name m s) (map i : ℕ) (u : UnderWay K V K) (here : s.calls map i ≡ Some u) (said : Progress (Node K V))
+    (whole : RefinesWhole same name m known s) (short : RefinesShort name m s) (map i : ℕ) (u : UnderWay K V K) (here : s.calls map i ≡ Some u) (said : Progress (Node K V))
     (leads : StepLeads same hash i said s old new) where
   abbrev to : WentTo same hash name m known s old new at whole.all.shown map i u here said leads
   to = went_to same hash name m known s old new at whole.all.shown map i u here said leads
@@ -146,7 +146,7 @@ module _ {K V : Type 0} (same : K → K → Bool) (hash : ℕ → K → ℕ) (na
       let field = field_own (λ (x : CallThere K V). x.is_short) short_by effect_short (name i) map effects m its_there.0 its_there.1 d d_is in
       short_by_told told refl its_there.0.is_short (short map i u here its_there.0 its_there.1) (sym field ∙ e)
 
-  short_then : ShowsShort name v led
+  short_then : RefinesShort name v led
   short_then n j x is d d_is e = elim (which s.calls map i to.4.next n j x is) as (λ _. fault_of (machine_of x) ≡ Some Memory) [
     | inl it ↦
         ap (λ (y : Machine K V K). fault_of y) (goes_as_one to.1 said to.4.next to.4.goes_on x it.2) ∙ (its_denied d (ap (λ (k : ℕ). call_of (name k) v) (sym it.1) ∙ d_is) e).0
@@ -176,8 +176,8 @@ module _ {K V : Type 0} (same : K → K → Bool) (hash : ℕ → K → ℕ) (na
         | inr goes ↦ absurd (ended none goes)
       ]
 
-  pub step_keeps_short : FindGrown (name i) map effects m × ShowsShort name v led × (to.4.next ≡ None → (c : CallThere K V) → call_of (name i) v ≡ Some c → (said ≡ said_so.Refused Memory) ⊎ (c.is_short ≡ false))
+  pub step_keeps_short : FindGrown (name i) map effects m × RefinesShort name v led × (to.4.next ≡ None → (c : CallThere K V) → call_of (name i) v ≡ Some c → (said ≡ said_so.Refused Memory) ⊎ (c.is_short ≡ false))
   step_keeps_short = (find_by its_there.0 its_there.1 (short map i u here its_there.0 its_there.1) told refl, short_then, ends_grown)
 
-pub calls_keep_short : (K V : Type 0) (same : K → K → Bool) (hash : ℕ → K → ℕ) → CallsKeepShort K V same hash
+pub calls_keep_short : (K V : Type 0) (same : K → K → Bool) (hash : ℕ → K → ℕ) → CallsPreserveShort K V same hash
 calls_keep_short K V same hash name m known s old new at whole short map i u here said leads = step_keeps_short same hash name m known s old new at whole short map i u here said leads

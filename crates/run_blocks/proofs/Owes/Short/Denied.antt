@@ -43,7 +43,7 @@ use Rattle.run_debts.specs.Given.RawDeclared.machines.progress.Progress.{Progres
 use Rattle.run_debts.specs.Given.RawDeclared.machines.progress.Progress.TheVariants as said_so
 use Rattle.owner_calls.specs.Given.RawCallPoints.{going, ending}
 use Rattle.run_debts.specs.Given.TellsSeen.{seen_of}
-use Rattle.run_debts.specs.Given.TellerTells.{told_of}
+use Rattle.run_debts.specs.Given.TellerTells.{observed_of}
 use Rattle.run_debts.specs.Given.EffectsDeclared.changed.Changed.{Changed}
 use Rattle.run_debts.proofs.Given.OthersOutcomes.{told_in}
 use Rattle.run_blocks.specs.Owes.Short.{fault_in_copying, fault_in_calling, fault_in_reserving, fault_in_sweeping, fault_of}
@@ -58,7 +58,7 @@ EndsSo fault said = (said ≡ said_so.Refused fault) ⊎ (has_ended said ≡ fal
 
 module _ {K V : Type 0} (m m2 : Mem (Node K V)) (told : Changed) where
   -- an addition asks for nothing
-  add_none : (at : At) (by : ℕ) (out : Out (Node K V)) → NoneAsked (told_of (Add at by) out (seen_of m (Add at by) out))
+  add_none : (at : At) (by : ℕ) (out : Out (Node K V)) → NoneAsked (observed_of (Add at by) out (seen_of m (Add at by) out))
   add_none at by (Found before) = tt
   add_none at by Stored = tt
   add_none at by (Exchanged r) = tt

@@ -25,7 +25,7 @@ use Rattle.run_debts.specs.Given.RawDeclared.machines.machine.Machine.{Machine}
 use Rattle.run_debts.specs.Given.RawDeclared.machines.machine.Machine.TheVariants as kinds
 use Rattle.run_debts.specs.Given.RawDeclared.machines.progress.Progress.{Progress}
 use Rattle.run_debts.specs.Given.TellsSeen.{seen_of}
-use Rattle.run_debts.specs.Given.TellerTells.{told_of}
+use Rattle.run_debts.specs.Given.TellerTells.{observed_of}
 use Rattle.run_debts.specs.Given.EffectsDeclared.changed.Changed.{Changed}
 use Rattle.run_debts.specs.Given.EffectsDeclared.changed.Changed.TheVariants as changed
 use Rattle.run_debts.specs.Given.EffectsDeclared.changed.Kind.{Kind}
@@ -52,7 +52,7 @@ module _ {K V : Type 0} (m m2 : Mem (Node K V)) (told : Changed) (k : Kind) (unm
     as_over d is fault goes =
         (ap (λ (y : KeyCall K V K × Called (Node K V)). fault_in_calling y.0.stands) is ∙ fault, ap (λ (y : KeyCall K V K × Called (Node K V)). has_ended (of_called y.1)) is ∙ goes)
 
-    made_out : (value : Node K V) (out : Out (Node K V)) → told ≡ told_of (Make value 0) out (seen_of m (Make value 0) out) → Ends (value_at m2) (made p out) end → Refusal
+    made_out : (value : Node K V) (out : Out (Node K V)) → told ≡ observed_of (Make value 0) out (seen_of m (Make value 0) out) → Ends (value_at m2) (made p out) end → Refusal
     made_out value (Made (Err back)) is ends = as_over _ ends refl refl
     made_out value (Made (Ok b)) is ends = absurd (let no = other _ is in cc no)
     made_out value (Found found) is ends = absurd (let no = other _ is in cc no)
@@ -65,7 +65,7 @@ module _ {K V : Type 0} (m m2 : Mem (Node K V)) (told : Changed) (k : Kind) (unm
     makes_so (Some value) s = made_out value s.0 s.1.1 s.2
     makes_so None s = absurd (let no = other _ s.2 in cc no)
 
-    filled_out : (q : KeyCall K V K) (word : ℕ) (value : Node K V) (out : Out (Node K V)) → told ≡ told_of (Make value 0) out (seen_of m (Make value 0) out) → Ends (value_at m2) (filled q word out) end → Refusal
+    filled_out : (q : KeyCall K V K) (word : ℕ) (value : Node K V) (out : Out (Node K V)) → told ≡ observed_of (Make value 0) out (seen_of m (Make value 0) out) → Ends (value_at m2) (filled q word out) end → Refusal
     filled_out q word value (Made (Err back)) is ends = as_over _ ends refl refl
     filled_out q word value (Made (Ok b)) is ends = absurd (let no = other _ is in cc no)
     filled_out q word value (Found found) is ends = absurd (let no = other _ is in cc no)

@@ -11,7 +11,7 @@ use Rattle.owner_calls.proofs.Given.CallersTogether.At.{at_other}
 use Rattle.run_debts.specs.Given.EffectsKnown.{Known}
 use Rattle.run_debts.specs.Given.FinishesMakings.{Beginning}
 use Rattle.run_debts.specs.Given.FinishesMachines.{machine_of}
-use Rattle.run_blocks.specs.Owes.Tables.{HoldsTable, ShowsTables, table_made, of_map}
+use Rattle.run_blocks.specs.Owes.Tables.{HoldsTable, RefinesOwnTables, table_made, of_map}
 use Rattle.run_blocks.specs.Owes.TablesBeside.{TablesBegin, StaysTables, MakingsBeginTables}
 use Rattle.run_blocks.proofs.Owes.Tables.Roles.{own_table_of, own_table_is}
 use Rattle.run_blocks.specs.Owes.Making.{making_of}
@@ -25,7 +25,7 @@ tables_begin K V roots name = record { tables = λ map i u is c c_is. absurd (cc
 abbrev pub AreTables : Known → Known → Type 0
 AreTables known known2 = (b : ℕ) → own_table_of (known2.roles b) ≡ own_table_of (known.roles b)
 
-module _ {K V : Type 0} (name : ℕ → List ℕ) (m v : Moment K V) (known : Known) (s t : Scene K V) (tables : ShowsTables name m known s) (calls : v.calls ≡ m.calls) (under_way : t.calls ≡ s.calls) where
+module _ {K V : Type 0} (name : ℕ → List ℕ) (m v : Moment K V) (known : Known) (s t : Scene K V) (tables : RefinesOwnTables name m known s) (calls : v.calls ≡ m.calls) (under_way : t.calls ≡ s.calls) where
   pub fields_still : (n j : ℕ) (x : UnderWay K V K) → t.calls n j ≡ Some x → (c : CallThere K V) → call_of (name j) v ≡ Some c → c.table ≡ option_map (of_map n) (table_made (making_of (machine_of x)))
   fields_still n j x is c c_is =
       tables.tables n j x (sym (ap (λ (f : ℕ → ℕ → Option (UnderWay K V K)). f n j) under_way) ∙ is) c (sym (ap (λ (l : List (CallThere K V)). find (λ y. is_same y.caller (name j)) l) calls) ∙ c_is)
@@ -35,7 +35,7 @@ module _ {K V : Type 0} (name : ℕ → List ℕ) (m v : Moment K V) (known : Kn
     still_of j b (inl (n, x, is, p, has, named)) = inl (n, x, ap (λ (f : ℕ → ℕ → Option (UnderWay K V K)). f n j) under_way ∙ is, p, has, named)
     still_of j b (inr (d, is, p, has, named)) = inr (d, ap (λ (f : ℕ → Option (Beginning K)). f j) makers ∙ is, p, has, named)
 
-    pub tables_still : ShowsTables name v known2 t
+    pub tables_still : RefinesOwnTables name v known2 t
     tables_still = record {
       tables = fields_still;
       whose = λ b turn shape is.

@@ -7,8 +7,8 @@ use Rattle.run_debts.specs.Given.SeizeWorld.{Making as MadeBy}
 use Rattle.run_debts.specs.Given.TablesDeclared.table.Table.{Table as Planned}
 use Rattle.owner_calls.specs.Given.ResizeDeclared.new_table.NewTable.{NewTable}
 use Rattle.run_debts.specs.Given.RunsDeclared.shapes.TableShape.{TableShape}
-use Rattle.owner_calls.specs.Given.RawCallAsks.{told_at}
-use Rattle.run_debts.specs.Given.RawMachine.{machine_replied, sweep_told, machine_asked, is_ready}
+use Rattle.owner_calls.specs.Given.RawCallAsks.{replied_at}
+use Rattle.run_debts.specs.Given.RawMachine.{machine_replied, sweep_with_reply, machine_asked, is_ready}
 use Rattle.run_debts.specs.Given.RawDeclared.machines.asking.MachineReply.{MachineReply}
 use Rattle.run_debts.specs.Given.RawDeclared.machines.call.Calling.{Calling}
 use Rattle.run_debts.specs.Given.RawDeclared.machines.call.Calling.TheVariants as calling
@@ -30,13 +30,13 @@ use Rattle.run_debts.specs.Given.EffectsDeclared.role.Role.TheVariants as role
 use Rattle.run_debts.specs.Given.FinishesMachines.{machine_of}
 use Rattle.run_debts.specs.Given.FinishesMaps.{with_call as with_in}
 use Rattle.run_debts.specs.Given.FollowsCalling.{NoneNamed}
-use Rattle.run_debts.specs.Given.FollowsShows.{Shows}
+use Rattle.run_debts.specs.Given.FollowsShows.{Refines}
 use Rattle.run_debts.proofs.Given.FollowsCalling.{is_same_refl}
 use Rattle.run_debts.proofs.Given.HandsAsking.{which}
-use Rattle.run_debts.specs.Given.MomentsWhole.{ShowsWhole}
+use Rattle.run_debts.specs.Given.MomentsWhole.{RefinesWhole}
 use Rattle.run_blocks.specs.Owes.Making.{making_of, making_in_calling, making_in_sweeping}
-use Rattle.run_blocks.specs.Owes.Tables.{table_made, of_map, IsOfCall, IsOfMaker, ShowsTables, CallsBeginTables, CallsTakeTables, CallsComeToTables, HoldsTable}
-use Rattle.run_blocks.specs.Owes.TablesBeside.{WalksGoOnTables, WalksStopTables}
+use Rattle.run_blocks.specs.Owes.Tables.{table_made, of_map, IsOfCall, IsOfMaker, RefinesOwnTables, CallsBeginTables, CallsTakeTables, CallsComeToTables, HoldsTable}
+use Rattle.run_blocks.specs.Owes.TablesBeside.{WalksPreserveOwnTables, WalksStopTables}
 use Rattle.run_blocks.proofs.Owes.Kept.{calls_beside, calls_its, calls_without, HadAsMuch, fresh_has, others_there, told_had, left_had, come_had}
 use Rattle.run_blocks.proofs.Owes.Tables.Held.{shape_of, some_making, its_block, role_there, call_hands, held_by}
 use Rattle.run_debts.specs.Given.OthersWalks.{given_up}
@@ -47,7 +47,7 @@ use Rattle.run_debts.proofs.Given.General.{same_some as one_of}
 
 -- a sweep that makes a table takes no reply; one that is asked for its next pair makes none; and one that is ready has none
 
-sweep_same : {V : Type 0} (q : Sweeping) (c : Sweep) (reply : MachineReply V) (n : NewTable) → making_in_sweeping q ≡ Some n → (sweep_told q c reply).0 ≡ c
+sweep_same : {V : Type 0} (q : Sweeping) (c : Sweep) (reply : MachineReply V) (n : NewTable) → making_in_sweeping q ≡ Some n → (sweep_with_reply q c reply).0 ≡ c
 sweep_same (sweeping.Copies copier) c reply n is = refl
 sweep_same _ c reply n is = absurd (cc is)
 
@@ -65,7 +65,7 @@ ready_sweep _ e = absurd (cc e)
 
 module _ {K V : Type 0} where
   -- a machine that makes a table takes no reply
-  key_same : (q : Calling) (p : KeyCall K V K) (reply : MachineReply V) (n : NewTable) → making_in_calling q ≡ Some n → (told_at q p reply).0 ≡ p
+  key_same : (q : Calling) (p : KeyCall K V K) (reply : MachineReply V) (n : NewTable) → making_in_calling q ≡ Some n → (replied_at q p reply).0 ≡ p
   key_same (calling.Firsts k) p reply n is = refl
   key_same (calling.Allocs k) p reply n is = refl
   key_same (calling.Helps copier goal) p reply n is = refl
@@ -92,7 +92,7 @@ module _ {K V : Type 0} where
   ready_making (kinds.Reserve r) e = absurd (cc e)
   ready_making (kinds.Count sum) e = refl
 
-module _ {K V : Type 0} (name : ℕ → List ℕ) (m : Moment K V) (known : Known) (s : Scene K V) (tables : ShowsTables name m known s) where
+module _ {K V : Type 0} (name : ℕ → List ℕ) (m : Moment K V) (known : Known) (s : Scene K V) (tables : RefinesOwnTables name m known s) where
   abbrev TableOf : ℕ → UnderWay K V K → Option TableId
   TableOf n x = option_map (of_map n) (table_made (making_of (machine_of x)))
 
@@ -101,8 +101,8 @@ module _ {K V : Type 0} (name : ℕ → List ℕ) (m : Moment K V) (known : Know
   has_as_much n j x is d had = had.2.1 ∙ tables.tables n j x is had.0 had.1
 
   -- where a call has come, or has gone on, what its machine has then was this caller's
-  module _ (same : K → K → Bool) (hash : ℕ → K → ℕ) (old new : Held K V) (at : IsAt same hash old s) (whole : ShowsWhole same name m known s) (of i : ℕ) (next : UnderWay K V K) (v : Moment K V)
-      (at_new : IsAt same hash new (scene_with of i next s)) (shown_new : Shows same name v known (scene_with of i next s)) where
+  module _ (same : K → K → Bool) (hash : ℕ → K → ℕ) (old new : Held K V) (at : IsAt same hash old s) (whole : RefinesWhole same name m known s) (of i : ℕ) (next : UnderWay K V K) (v : Moment K V)
+      (at_new : IsAt same hash new (scene_with of i next s)) (shown_new : Refines same name v known (scene_with of i next s)) where
     own_next : (t : Planned) → table_made (making_of (machine_of next)) ≡ Some t → HoldsTable s i (block_in t.link)
     own_next t has =
         let h = call_hands same hash name v known (scene_with of i next s) new at_new shown_new of i next (calls_its s.calls of i (Some next)) t has in
@@ -132,8 +132,8 @@ module _ {K V : Type 0} (name : ℕ → List ℕ) (m : Moment K V) (known : Know
     others_still j b ne (inr maker) = inr maker
 
   -- a call that begins
-  module _ (same : K → K → Bool) (hash : ℕ → K → ℕ) (old new : Held K V) (at : IsAt same hash old s) (whole : ShowsWhole same name m known s) (of i : ℕ) (u : UnderWay K V K) (its : Call K V)
-      (guard : List ℕ) (apart : NoneNamed name (name i) s) (at_new : IsAt same hash new (scene_with of i u s)) (shown_new : Shows same name (with_call (name i) guard its (Some of) m) known (scene_with of i u s)) where
+  module _ (same : K → K → Bool) (hash : ℕ → K → ℕ) (old new : Held K V) (at : IsAt same hash old s) (whole : RefinesWhole same name m known s) (of i : ℕ) (u : UnderWay K V K) (its : Call K V)
+      (guard : List ℕ) (apart : NoneNamed name (name i) s) (at_new : IsAt same hash new (scene_with of i u s)) (shown_new : Refines same name (with_call (name i) guard its (Some of) m) known (scene_with of i u s)) where
     no_call : (b : ℕ) → IsOfCall s i b → ⊥
     no_call b call = (let no = apart call.0 i call.1 call.2 in let yes = is_same_refl (name i) in cc (no, yes))
 
@@ -199,7 +199,7 @@ module _ {K V : Type 0} (name : ℕ → List ℕ) (m : Moment K V) (known : Know
         ]
 
 -- a caller has one call
-one_call : {K V : Type 0} (same : K → K → Bool) (name : ℕ → List ℕ) (m : Moment K V) (known : Known) (s : Scene K V) → ShowsWhole same name m known s → (of i : ℕ) (u : UnderWay K V K) → s.calls of i ≡ Some u
+one_call : {K V : Type 0} (same : K → K → Bool) (name : ℕ → List ℕ) (m : Moment K V) (known : Known) (s : Scene K V) → RefinesWhole same name m known s → (of i : ℕ) (u : UnderWay K V K) → s.calls of i ≡ Some u
     → (n : ℕ) (x : UnderWay K V K) → s.calls n i ≡ Some x → x ≡ u
 one_call same name m known s whole of i u here n x is =
     let both = whole.all.asked.apart n i of i x u is here (is_same_refl (name i)) in one_of x u (sym is ∙ ap (λ (k : ℕ). s.calls k i) both.0 ∙ here)
@@ -239,8 +239,8 @@ module _ (K V : Type 0) (same : K → K → Bool) (hash : ℕ → K → ℕ) whe
               let has : table_made (making_of (machine_of u)) ≡ Some call.3 = ap (λ (y : UnderWay K V K). table_made (making_of (machine_of y))) (sym same_call) ∙ call.4 in cc (e, has)))
               ∙ sym e
 
-  goes_tables : (name : ℕ → List ℕ) (m : Moment K V) (known : Known) (s : Scene K V) → ShowsWhole same name m known s → ShowsTables name m known s → (of i : ℕ) (u : UnderWay K V K) → s.calls of i ≡ Some u
-      → (next : UnderWay K V K) → table_made (making_of (machine_of next)) ≡ table_made (making_of (machine_of u)) → ShowsTables name m known (scene_with of i next s)
+  goes_tables : (name : ℕ → List ℕ) (m : Moment K V) (known : Known) (s : Scene K V) → RefinesWhole same name m known s → RefinesOwnTables name m known s → (of i : ℕ) (u : UnderWay K V K) → s.calls of i ≡ Some u
+      → (next : UnderWay K V K) → table_made (making_of (machine_of next)) ≡ table_made (making_of (machine_of u)) → RefinesOwnTables name m known (scene_with of i next s)
   goes_tables name m known s whole tables of i u here next goes =
       let only = one_call same name m known s whole of i u here in
       record {
@@ -248,7 +248,7 @@ module _ (K V : Type 0) (same : K → K → Bool) (hash : ℕ → K → ℕ) whe
         whose = on_whose name m known s tables of i u here only next goes;
       }
 
-  pub walks_go_on_tables : WalksGoOnTables K V same hash
+  pub walks_go_on_tables : WalksPreserveOwnTables K V same hash
   walks_go_on_tables name m known s old new whole tables i leads map u here =
       let to = leads map u here in
       goes_tables name m known s whole tables map i u here to.0 (ap (λ (y : Machine K V K). table_made (making_of y)) to.1 ∙ ap table_made (asked_making (machine_of u)))
@@ -259,7 +259,7 @@ module _ (K V : Type 0) (same : K → K → Bool) (hash : ℕ → K → ℕ) whe
       at_end : Bool → Scene K V
       at_end q = record s { calls = with_in s.calls map i (unless_stopped q u) }
 
-      by : (q : Bool) → q ≡ (machine_asked (machine_of u)).1 → (q ≡ true → NoneNamed name (name i) (at_end q)) → ShowsTables name (given_up (name i) q m) known (at_end q)
+      by : (q : Bool) → q ≡ (machine_asked (machine_of u)).1 → (q ≡ true → NoneNamed name (name i) (at_end q)) → RefinesOwnTables name (given_up (name i) q m) known (at_end q)
       by true e none = record {
         tables = λ n j x is d d_is.
             let was = calls_without s.calls map i n j x is in

@@ -18,9 +18,9 @@ use Rattle.run_debts.specs.Given.EffectsDeclared.acting.Acting.TheVariants as ac
 use Rattle.run_debts.specs.Given.FinishesMachines.{machine_of}
 use Rattle.run_debts.proofs.Given.FollowsSteps.{WentTo, went_to}
 use Rattle.run_debts.proofs.Given.HandsAsking.{which}
-use Rattle.run_debts.specs.Given.MomentsWhole.{ShowsWhole}
+use Rattle.run_debts.specs.Given.MomentsWhole.{RefinesWhole}
 use Rattle.run_blocks.specs.Owes.Making.{making_of}
-use Rattle.run_blocks.specs.Owes.Tables.{table_made, of_map, ShowsTables, FindTables, CallsKeepTables}
+use Rattle.run_blocks.specs.Owes.Tables.{table_made, of_map, RefinesOwnTables, FindTables, CallsPreserveOwnTables}
 use Rattle.run_blocks.proofs.Owes.Fields.{all_by, field_own, field_other}
 use Rattle.run_blocks.proofs.Owes.Tables.Effects.{table_by, effect_table, tables_kept, none_find, made_find, given_find, linked_find}
 use Rattle.run_blocks.proofs.Owes.Tables.Held.{shape_of}
@@ -32,7 +32,7 @@ use Rattle.run_debts.specs.Given.ScenesStepping.{StepLeads, scene_after}
 
 -- What each call has after it, and whose tables are.
 module _ {K V : Type 0} (same : K → K → Bool) (hash : ℕ → K → ℕ) (name : ℕ → List ℕ) (m : Moment K V) (known : Known) (s : Scene K V) (old new : Held K V) (at : IsAt same hash old s)
-    (whole : ShowsWhole same name m known s) (tables : ShowsTables name m known s) (map i : ℕ) (u : UnderWay K V K) (here : s.calls map i ≡ Some u)
+    (whole : RefinesWhole same name m known s) (tables : RefinesOwnTables name m known s) (map i : ℕ) (u : UnderWay K V K) (here : s.calls map i ≡ Some u)
     (said : Progress (Node K V)) (leads : StepLeads same hash i said s old new) where
   abbrev to : WentTo same hash name m known s old new at whole.all.shown map i u here said leads
   to = went_to same hash name m known s old new at whole.all.shown map i u here said leads
@@ -114,12 +114,12 @@ module _ {K V : Type 0} (same : K → K → Bool) (hash : ℕ → K → ℕ) (na
       apart : (n ≡ map → j ≡ i → ⊥) → s.calls n j ≡ Some x → is_same (name j) (name i) ≡ true → ⊥
       apart other was names = (let both = whole.all.asked.apart n j map i x u was here names in other both.0 both.1)
 
-  pub step_keeps_tables : FindTables (name i) map effects m × ShowsTables name v known2 led × (to.4.next ≡ None → (c : CallThere K V) → call_of (name i) v ≡ Some c → c.table ≡ None)
+  pub step_keeps_tables : FindTables (name i) map effects m × RefinesOwnTables name v known2 led × (to.4.next ≡ None → (c : CallThere K V) → call_of (name i) v ≡ Some c → c.table ≡ None)
   step_keeps_tables = (
     finds_by left_so.goes its_there.0 its_there.1 its_there.2 its_had,
     record { tables = tables_then; whose = left_so.whose },
     λ none c c_is. own_field c c_is ∙ ap as_field (ap next_table none),
   )
 
-pub calls_keep_tables : (K V : Type 0) (same : K → K → Bool) (hash : ℕ → K → ℕ) → CallsKeepTables K V same hash
+pub calls_keep_tables : (K V : Type 0) (same : K → K → Bool) (hash : ℕ → K → ℕ) → CallsPreserveOwnTables K V same hash
 calls_keep_tables K V same hash name m known s old new at whole tables map i u here said leads = step_keeps_tables same hash name m known s old new at whole tables map i u here said leads

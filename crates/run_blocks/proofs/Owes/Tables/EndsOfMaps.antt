@@ -16,24 +16,24 @@ use Rattle.run_debts.specs.Given.EffectsDeclared.acting.Acting.TheVariants as ac
 use Rattle.run_debts.specs.Given.EffectsDeclared.role.Role.{Role}
 use Rattle.run_debts.specs.Given.EffectsDeclared.role.Role.TheVariants as role
 use Rattle.run_debts.specs.Given.FinishesEndings.{Finishing, StepsOfEnding}
-use Rattle.run_debts.specs.Given.FollowsShows.{Shows}
+use Rattle.run_debts.specs.Given.FollowsShows.{Refines}
 use Rattle.run_debts.specs.Given.OthersEndings.{ending_after}
 use Rattle.run_debts.proofs.Given.OthersQuiet.{calls_none}
-use Rattle.run_blocks.specs.Owes.Tables.{ShowsTables}
-use Rattle.run_blocks.specs.Owes.TablesBeside.{EndingsKeepTables}
+use Rattle.run_blocks.specs.Owes.Tables.{RefinesOwnTables}
+use Rattle.run_blocks.specs.Owes.TablesBeside.{EndingsPreserveOwnTables}
 use Rattle.run_blocks.proofs.Owes.Lasting.{ending_says, ending_keeps_held}
 use Rattle.run_blocks.proofs.Owes.Tables.Aside.{AreTables, tables_still}
 use Rattle.run_blocks.proofs.Owes.Tables.Held.{held_by}
 use Rattle.run_blocks.proofs.Owes.Tables.Roles.{own_table_of, put_table}
-use Rattle.run_debts.specs.Given.ScenesEnding.{EndingComesTo, EndingStepsFrom}
+use Rattle.run_debts.specs.Given.ScenesEnding.{EndingHasOutcome, EndingStepsFrom}
 use Rattle.run_debts.specs.Given.ScenesHeld.{Held, IsAt}
 use Rattle.run_debts.specs.Given.ScenesScene.{Scene, slot_of}
 
 module _ {K V : Type 0} (same : K → K → Bool) (hash : ℕ → K → ℕ) (name : ℕ → List ℕ) (m : Moment K V) (known : Known) (s : Scene K V) (old new : Held K V) (at : IsAt same hash old s)
-    (shown : Shows same name m known s) (tables : ShowsTables name m known s) (i : ℕ) (f : Finishing K V) (here : s.enders i ≡ Some f) (end : EndMap) (said : Settled (Node K V))
+    (shown : Refines same name m known s) (tables : RefinesOwnTables name m known s) (i : ℕ) (f : Finishing K V) (here : s.enders i ≡ Some f) (end : EndMap) (said : Settled (Node K V))
     (steps : EndingStepsFrom f.machine old new end said)
     (did : StepsOfEnding V same same old.batch_size old.roots slot_of s.world s.maps s.calls s.makers s.enders i f new.memory (end, said))
-    (map : ℕ) (not_there : s.maps map ≡ None) (comes : EndingComesTo same hash s new i f end did.w2 did.deed said) where
+    (map : ℕ) (not_there : s.maps map ≡ None) (comes : EndingHasOutcome same hash s new i f end did.w2 did.deed said) where
   abbrev told : Changed
   told = new.changed
 
@@ -60,24 +60,24 @@ module _ {K V : Type 0} (same : K → K → Bool) (hash : ℕ → K → ℕ) (na
             ap (λ (x : Changed). own_table_of ((known_after its x known).roles b)) it.1 ∙ put_table it.0 role.Free known.roles (none_taken it.0 it.1 (known.roles it.0) refl) b
       ]
 
-  same_calls : (t : Settled (Node K V)) (there : EndingComesTo same hash s new i f end did.w2 did.deed t) → (ending_after same hash s new i f end did.w2 did.deed t there).calls ≡ s.calls
+  same_calls : (t : Settled (Node K V)) (there : EndingHasOutcome same hash s new i f end did.w2 did.deed t) → (ending_after same hash s new i f end did.w2 did.deed t there).calls ≡ s.calls
   same_calls settled.Goes there = refl
   same_calls settled.Waits there = refl
   same_calls (settled.Gave value) there = refl
   same_calls settled.Done there = refl
 
-  same_makers : (t : Settled (Node K V)) (there : EndingComesTo same hash s new i f end did.w2 did.deed t) → (ending_after same hash s new i f end did.w2 did.deed t there).makers ≡ s.makers
+  same_makers : (t : Settled (Node K V)) (there : EndingHasOutcome same hash s new i f end did.w2 did.deed t) → (ending_after same hash s new i f end did.w2 did.deed t there).makers ≡ s.makers
   same_makers settled.Goes there = refl
   same_makers settled.Waits there = refl
   same_makers (settled.Gave value) there = refl
   same_makers settled.Done there = refl
 
-  pub ending_keeps : ShowsTables name (with_effects None (Some map) (effects_of its known told) m) (known_after its told known) (ending_after same hash s new i f end did.w2 did.deed said comes)
+  pub ending_keeps : RefinesOwnTables name (with_effects None (Some map) (effects_of its known told) m) (known_after its told known) (ending_after same hash s new i f end did.w2 did.deed said comes)
   ending_keeps =
       tables_still name m (with_effects None (Some map) (effects_of its known told) m) known s (ending_after same hash s new i f end did.w2 did.deed said comes) tables
       (calls_none (Some map) (effects_of its known told) m) (same_calls said comes) (known_after its told known) (same_makers said comes) same_tables
 
 module _ (K V : Type 0) (same : K → K → Bool) (hash : ℕ → K → ℕ) where
-  pub endings_keep_tables : EndingsKeepTables K V same hash
+  pub endings_keep_tables : EndingsPreserveOwnTables K V same hash
   endings_keep_tables name m known s old new at shown tables i told leads f here map not_there =
       let to = leads f here in ending_keeps same hash name m known s old new at shown tables i f here to.0 told to.1 to.2 map not_there to.3

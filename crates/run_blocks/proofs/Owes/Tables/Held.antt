@@ -22,7 +22,7 @@ use Rattle.run_debts.specs.Given.SchedulesMoment.{Moment}
 use Rattle.run_debts.specs.Given.SchedulesViews.{tables_of}
 use Rattle.owner_calls.specs.Given.RuleRule.{no_table}
 use Rattle.owner_calls.proofs.Given.RuleWords.TablesSeen.{block_of_link}
-use Rattle.owner_calls.specs.Given.CallersSights.{seen_by, IsSight}
+use Rattle.owner_calls.specs.Given.CallersSights.{seen_by, IsVisibility}
 use Rattle.owner_calls.specs.Given.CallersTogether.{UnderWay, OnKey, ForRoom, Counting, OverAll, Together, no_blocks}
 use Rattle.run_debts.specs.Given.EffectsKnown.{Known}
 use Rattle.run_debts.specs.Given.EffectsDeclared.role.Role.TheVariants as role
@@ -30,7 +30,7 @@ use Rattle.run_debts.specs.Given.FinishesMachines.{machine_of}
 use Rattle.run_debts.specs.Given.FinishesMakings.{Beginning, OpeningFacts}
 use Rattle.run_debts.specs.Given.FinishesMaps.{Standing}
 use Rattle.run_debts.specs.Given.FollowsMaps.{table_of}
-use Rattle.run_debts.specs.Given.FollowsShows.{Shows}
+use Rattle.run_debts.specs.Given.FollowsShows.{Refines}
 use Rattle.run_debts.proofs.Given.FollowsFinds.{tables_many}
 use Rattle.run_debts.proofs.Given.FollowsWrites.{own_table}
 use Rattle.run_blocks.specs.Owes.Making.{making_of, making_in_opening}
@@ -78,7 +78,7 @@ abbrev pub IsLinkThere : Known → At → Type 0
 IsLinkThere known link = ((r : ℕ) × (link ≡ Root r)) ⊎ ((b : ℕ) × (len : ℕ) × (t : TableId) × (link ≡ Word b NEXT) × (known.roles b ≡ role.Table t len))
 
 module _ {K V : Type 0} (same : K → K → Bool) (hash : ℕ → K → ℕ) (name : ℕ → List ℕ) (m : Moment K V) (known : Known) (s : Scene K V) (e : Held K V) (at : IsAt same hash e s)
-    (shown : Shows same name m known s) where
+    (shown : Refines same name m known s) where
   pub role_there : (j : ℕ) (t : Planned) → IsInHands s.world j t → known.roles (block_in t.link) ≡ role.OwnTable t.turn (shape_of t)
   role_there j t h =
       ap known.roles (its_block s.world j t h)
@@ -98,7 +98,7 @@ module _ {K V : Type 0} (same : K → K → Bool) (hash : ℕ → K → ℕ) (na
     each : Together V same st.hash same st.setting slot_of s.world st.chart st.blocks st.sights (s.calls map)
     each = at.together.makings.standing.each map st there
 
-    sight : IsInside (s.world.uses (slot_of j)) → IsSight st.chart st.blocks (st.sights (slot_of j))
+    sight : IsInside (s.world.uses (slot_of j)) → IsVisibility st.chart st.blocks (st.sights (slot_of j))
     sight inside = (each.ground.sight (slot_of j) inside).0
 
     link_there : IsInside (s.world.uses (slot_of j)) → HasLink st.chart (seen_by st.blocks (st.sights (slot_of j))) n.link → IsLinkThere known n.link

@@ -52,7 +52,7 @@ use Rattle.run_debts.specs.Given.RawDeclared.machines.progress.Progress.{Progres
 use Rattle.run_debts.specs.Given.RawDeclared.machines.progress.Progress.TheVariants as said_so
 use Rattle.owner_calls.specs.Given.RawCallPoints.{over, going}
 use Rattle.run_debts.specs.Given.RawDeclared.machines.answer.End.TheVariants as ends
-use Rattle.run_debts.specs.Given.TellerTells.{StepsTold}
+use Rattle.run_debts.specs.Given.TellerTells.{StepsObserved}
 use Rattle.run_debts.specs.Given.EffectsDeclared.changed.Changed.{Changed}
 use Rattle.run_debts.specs.Given.EffectsDeclared.changed.Changed.TheVariants as changed
 use Rattle.run_debts.proofs.Given.OthersOutcomes.{told_in}
@@ -68,7 +68,7 @@ either f x y {z} so = elim so as (λ _. (f z ≡ f x) ⊎ (f z ≡ f y)) [
 
 module _ {K V : Type 0} (m m2 : Mem (Node K V)) (told : Changed) where
   abbrev pub Step : {R : Type 0} → Plan (Node K V) R → R → Type 0
-  Step {R} plan end = StepsTold K V R m changed.Nothing plan m2 told end
+  Step {R} plan end = StepsObserved K V R m changed.Nothing plan m2 told end
 
   -- the step was one of this making: where that goes on, it is so of what the making has come to, and where it is refused, so of the fault
   abbrev pub LeadsTo : (NewTable → Type 0) → (Fault → Type 0) → NewTable × Counting Planned → Type 0

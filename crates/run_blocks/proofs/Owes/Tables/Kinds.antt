@@ -23,7 +23,7 @@ use Rattle.owner_calls.specs.Given.RawReplies.{value_for, as_own}
 use Rattle.owner_calls.specs.Given.RuleChart.{Chart}
 use Rattle.owner_calls.specs.Given.RuleWords.{Blocks}
 use Rattle.run_debts.specs.Given.TellerChanged.{kind_of}
-use Rattle.run_debts.specs.Given.TellerTells.{StepsTold}
+use Rattle.run_debts.specs.Given.TellerTells.{StepsObserved}
 use Rattle.run_debts.specs.Given.EffectsDeclared.changed.Changed.{Changed}
 use Rattle.run_debts.specs.Given.EffectsDeclared.changed.Changed.TheVariants as changed
 use Rattle.run_debts.specs.Given.EffectsDeclared.changed.Kind.{Kind}
@@ -31,7 +31,7 @@ use Rattle.run_debts.specs.Given.EffectsDeclared.changed.Kind.TheVariants as kin
 use Rattle.owner_calls.specs.Given.CallersTogether.{CallOnKey, in_slot, Knows}
 use Rattle.owner_calls.specs.Given.PointsFactsCalls.{Change, CallingFacts}
 use Rattle.owner_calls.specs.Given.PointsTold.{IsRowOfCall}
-use Rattle.owner_calls.specs.Given.LateLateCalls.{LateCalling}
+use Rattle.owner_calls.specs.Given.LateLateCalls.{SupersededCalling}
 use Rattle.run_debts.specs.Given.SeizeWorld.{World}
 use Rattle.run_blocks.specs.Owes.Making.{making_of, making_in_calling, making_in_reserving, making_in_sweeping}
 use Rattle.run_blocks.proofs.Owes.Walks.{IsToMake, PlanMakesSo, IsToOwn, so_as, so_more, plan_made_so, plan_no_room, call_makes, reserve_makes, sweep_makes, sum_at}
@@ -105,7 +105,7 @@ module _ {K V : Type 0} where
         so_as (IsWhich (kinds.Count sum)) of_sum (sum_plan sum) (so_more (IsToMake None) (IsWhich (kinds.Count sum)) (λ value is. inr is) (sum_plan sum) (sum_at K V None sum sum.stands))
 
     module _ (m m2 : Mem (Node K V)) (told : Changed) (machine : Machine K V K) (said : Progress (Node K V)) (before : Machine K V K) (has : HasUnmadeSo before)
-        (s : StepsTold K V (Machine K V K × Progress (Node K V)) m changed.Nothing (machine_plan asks same hash before) m2 told (machine, said)) where
+        (s : StepsObserved K V (Machine K V K × Progress (Node K V)) m changed.Nothing (machine_plan asks same hash before) m2 told (machine, said)) where
       pub which_made : (k : Kind) (b : ℕ) → told ≡ changed.Made k b → MakesWhich before k
       which_made k b made = by (plan_made_so (IsWhich before) m m2 told (machine_plan asks same hash before) (machine, said) s (makes_which before has) k b made)
         where
@@ -122,7 +122,7 @@ module _ {K V : Type 0} (same : K → K → Bool) (hash : K → ℕ) (setting : 
   unmade_at keys change p calling.Makes facts = (facts.3, facts.4, facts.5)
   unmade_at keys change p _ facts = tt
 
-  late_unmade : (keys : K → Bool) (began : ℕ) (p : KeyCall K V K) (q : Calling) → LateCalling same hash same w i (in_slot setting (slot i)) c seen keys began p q → HasUnmade p q
+  late_unmade : (keys : K → Bool) (began : ℕ) (p : KeyCall K V K) (q : Calling) → SupersededCalling same hash same w i (in_slot setting (slot i)) c seen keys began p q → HasUnmade p q
   late_unmade keys began p calling.Makes facts = absurd facts
   late_unmade keys began p _ facts = tt
 

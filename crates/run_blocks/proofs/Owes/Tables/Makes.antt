@@ -21,7 +21,7 @@ use Rattle.owner_calls.specs.Given.ResizeDeclared.new_table.Making.{Making}
 use Rattle.owner_calls.specs.Given.ResizeDeclared.new_table.Making.TheVariants as making
 use Rattle.owner_calls.specs.Given.ResizeDeclared.new_table.NewTable.{NewTable}
 use Rattle.run_debts.specs.Given.TellsSeen.{seen_of}
-use Rattle.run_debts.specs.Given.TellerTells.{told_of, StepsTold}
+use Rattle.run_debts.specs.Given.TellerTells.{observed_of, StepsObserved}
 use Rattle.run_debts.specs.Given.EffectsDeclared.changed.Changed.{Changed}
 use Rattle.run_debts.specs.Given.EffectsDeclared.changed.Changed.TheVariants as changed
 use Rattle.run_debts.specs.Given.EffectsDeclared.changed.Kind.{Kind}
@@ -42,7 +42,7 @@ module _ {K V : Type 0} (m m2 : Mem (Node K V)) (told : Changed) (n : NewTable) 
     Links : told ≡ changed.Wrote n.link 0 t.link → GoesWithTable t e
 
   abbrev Told : Making → End → Type 0
-  Told p e = StepsTold K V End m changed.Nothing (tables.plan_at n p) m2 told e
+  Told p e = StepsObserved K V End m changed.Nothing (tables.plan_at n p) m2 told e
 
   end_is : (e d : End) → e ≡ d → d.1 ≡ progress.Goes → going_in e
   end_is e d is goes = ap (λ (x : End). x.1) is ∙ goes
@@ -50,7 +50,7 @@ module _ {K V : Type 0} (m m2 : Mem (Node K V)) (told : Changed) (n : NewTable) 
   table_is : (e d : End) (t : Planned) → e ≡ d → table_in d.0.stands ≡ Some t → table_in e.0.stands ≡ Some t
   table_is e d t is has = ap (λ (x : End). table_in x.0.stands) is ∙ has
 
-  linked_so : (t : Planned) (e : End) (out : Out (Node K V)) → Took m (Exchange n.link 0 t.link) out m2 → told ≡ told_of (Exchange n.link 0 t.link) out (seen_of m (Exchange n.link 0 t.link) out)
+  linked_so : (t : Planned) (e : End) (out : Out (Node K V)) → Took m (Exchange n.link 0 t.link) out m2 → told ≡ observed_of (Exchange n.link 0 t.link) out (seen_of m (Exchange n.link 0 t.link) out)
       → Ends (value_at m2) (tables.linked n t out) e → n.stands ≡ making.Links t → GoesWithTable t e
   linked_so t e (Exchanged (Ok before)) took is end at_links = Links (is ∙ ap (λ (x : ℕ). changed.Wrote n.link x t.link) took.0.1)
   linked_so t e (Exchanged (Err found)) took is end at_links = Rests is (end_is e _ end refl) (table_is e _ t end refl)
@@ -71,7 +71,7 @@ module _ {K V : Type 0} (m m2 : Mem (Node K V)) (told : Changed) (n : NewTable) 
   goes_at t (making.Over u) at_p has e s = absurd (cc has)
   goes_at t (making.Refused fault) at_p has e s = absurd (cc has)
 
-  pub goes_with : (t : Planned) → table_in n.stands ≡ Some t → (e : End) → StepsTold K V End m changed.Nothing (new_table_plan n) m2 told e → GoesWithTable t e
+  pub goes_with : (t : Planned) → table_in n.stands ≡ Some t → (e : End) → StepsObserved K V End m changed.Nothing (new_table_plan n) m2 told e → GoesWithTable t e
   goes_with t has e s = goes_at t n.stands refl has e s
 
   -- A table was made: the making goes on with it.
@@ -89,7 +89,7 @@ module _ {K V : Type 0} (m m2 : Mem (Node K V)) (told : Changed) (n : NewTable) 
   after_has (Word b field) t = refl
 
   made_by_out : (u : Planned) (k : Kind) (b : ℕ) (e : End) (out : Out (Node K V)) (words : ℕ)
-      → told ≡ told_of (Make (node.Table u.len u.limit u.turn) words) out (seen_of m (Make (node.Table u.len u.limit u.turn) words) out) → Ends (value_at m2) (tables.made n u out) e
+      → told ≡ observed_of (Make (node.Table u.len u.limit u.turn) words) out (seen_of m (Make (node.Table u.len u.limit u.turn) words) out) → Ends (value_at m2) (tables.made n u out) e
       → told ≡ changed.Made k b → HasMadeTable u b e
   made_by_out u k b e (Made (Ok x)) words is end made =
       record {
@@ -105,14 +105,14 @@ module _ {K V : Type 0} (m m2 : Mem (Node K V)) (told : Changed) (n : NewTable) 
   made_by_out u k b e (Taken value) words is end made = absurd (let both = sym is ∙ made in cc both)
   made_by_out u k b e (Roomed r) words is end made = absurd (let both = sym is ∙ made in cc both)
 
-  pub made_with : (u : Planned) → n.stands ≡ making.Makes u → (e : End) → StepsTold K V End m changed.Nothing (new_table_plan n) m2 told e → (k : Kind) (b : ℕ) → told ≡ changed.Made k b → HasMadeTable u b e
+  pub made_with : (u : Planned) → n.stands ≡ making.Makes u → (e : End) → StepsObserved K V End m changed.Nothing (new_table_plan n) m2 told e → (k : Kind) (b : ℕ) → told ≡ changed.Made k b → HasMadeTable u b e
   made_with u is e s k b made =
       let there : Told (making.Makes u) e = subst (λ (p : Making). Told p e) is s in made_by_out u k b e there.0 ((u.len + PLACES) % 2 ^ 64) there.1.1 there.2 made
 
   -- A table was refused: the making is.
 
   refused_by_out : (u : Planned) (k : Kind) (e : End) (out : Out (Node K V)) (words : ℕ)
-      → told ≡ told_of (Make (node.Table u.len u.limit u.turn) words) out (seen_of m (Make (node.Table u.len u.limit u.turn) words) out) → Ends (value_at m2) (tables.made n u out) e
+      → told ≡ observed_of (Make (node.Table u.len u.limit u.turn) words) out (seen_of m (Make (node.Table u.len u.limit u.turn) words) out) → Ends (value_at m2) (tables.made n u out) e
       → told ≡ changed.Unmade k → e.1 ≡ progress.Refused Memory
   refused_by_out u k e (Made (Err back)) words is end unmade = ap (λ (x : End). x.1) end
   refused_by_out u k e (Made (Ok x)) words is end unmade = absurd (let both = sym is ∙ unmade in cc both)
@@ -122,6 +122,6 @@ module _ {K V : Type 0} (m m2 : Mem (Node K V)) (told : Changed) (n : NewTable) 
   refused_by_out u k e (Taken value) words is end unmade = absurd (let both = sym is ∙ unmade in cc both)
   refused_by_out u k e (Roomed r) words is end unmade = absurd (let both = sym is ∙ unmade in cc both)
 
-  pub refused_with : (u : Planned) → n.stands ≡ making.Makes u → (e : End) → StepsTold K V End m changed.Nothing (new_table_plan n) m2 told e → (k : Kind) → told ≡ changed.Unmade k → e.1 ≡ progress.Refused Memory
+  pub refused_with : (u : Planned) → n.stands ≡ making.Makes u → (e : End) → StepsObserved K V End m changed.Nothing (new_table_plan n) m2 told e → (k : Kind) → told ≡ changed.Unmade k → e.1 ≡ progress.Refused Memory
   refused_with u is e s k unmade =
       let there : Told (making.Makes u) e = subst (λ (p : Making). Told p e) is s in refused_by_out u k e there.0 ((u.len + PLACES) % 2 ^ 64) there.1.1 there.2 unmade

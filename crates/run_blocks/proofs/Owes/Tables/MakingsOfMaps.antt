@@ -27,16 +27,16 @@ use Rattle.run_debts.specs.Given.EffectsEffects.{effects_of, known_after}
 use Rattle.run_debts.specs.Given.EffectsKnown.{Known}
 use Rattle.run_debts.specs.Given.EffectsDeclared.acting.Acting.{Acting}
 use Rattle.run_debts.specs.Given.EffectsDeclared.acting.Acting.TheVariants as acts
-use Rattle.run_debts.specs.Given.FinishesEndings.{MakingStepsAmong}
+use Rattle.run_debts.specs.Given.FinishesEndings.{MakingStepsWithEndings}
 use Rattle.run_debts.specs.Given.FinishesMakings.{Beginning}
-use Rattle.run_debts.specs.Given.FollowsShows.{Shows}
+use Rattle.run_debts.specs.Given.FollowsShows.{Refines}
 use Rattle.run_debts.proofs.Given.FollowsOperations.{LeavesBy}
 use Rattle.run_debts.specs.Given.OthersMakings.{making_after}
 use Rattle.run_debts.proofs.Given.OthersMakes.{left}
 use Rattle.run_debts.proofs.Given.OthersQuiet.{calls_none}
 use Rattle.run_blocks.specs.Owes.Making.{making_in_opening}
-use Rattle.run_blocks.specs.Owes.Tables.{table_in, table_made, HoldsTable, ShowsTables}
-use Rattle.run_blocks.specs.Owes.TablesBeside.{MakesFirst, MakingsKeepTables}
+use Rattle.run_blocks.specs.Owes.Tables.{table_in, table_made, HoldsTable, RefinesOwnTables}
+use Rattle.run_blocks.specs.Owes.TablesBeside.{MakesFirst, MakingsPreserveOwnTables}
 use Rattle.run_blocks.proofs.Owes.InHand.{free_there}
 use Rattle.run_blocks.proofs.Owes.MakingsOfMaps.{opening_which}
 use Rattle.run_blocks.proofs.Owes.Planned.{IsMadeBy}
@@ -47,7 +47,7 @@ use Rattle.run_blocks.proofs.Owes.Tables.Hosts.{Within, OpeningGoes, Any, openin
 use Rattle.run_blocks.proofs.Owes.Tables.Leaves.{IsOneStep, TableGoes, Stays, IsMade, IsGivenUp, IsLinked, LeavesTables, left_without}
 use Rattle.run_blocks.proofs.Owes.Tables.Roles.{of_table, NoneOfTable, FreeBefore, does_to_tables}
 use Rattle.run_debts.specs.Given.ScenesHeld.{Held, IsAt}
-use Rattle.run_debts.specs.Given.ScenesMaking.{MakingComesTo, MakingStepsFrom}
+use Rattle.run_debts.specs.Given.ScenesMaking.{MakingHasOutcome, MakingStepsFrom}
 use Rattle.run_debts.specs.Given.ScenesScene.{Scene, slot_of}
 use Rattle.run_debts.proofs.Given.General.{same_some as one_of}
 
@@ -61,10 +61,10 @@ first_none map (f ∷ effects) none = by f none.0 (first_none map effects none.1
     by _ e rest = rest
 
 module _ {K V : Type 0} (same : K → K → Bool) (hash : ℕ → K → ℕ) (name : ℕ → List ℕ) (m : Moment K V) (known : Known) (s : Scene K V) (old new : Held K V) (at : IsAt same hash old s)
-    (shown : Shows same name m known s) (tables : ShowsTables name m known s) (i : ℕ) (b : Beginning K) (here : s.makers i ≡ Some b) (end : NewMap) (said : Advance Setting)
+    (shown : Refines same name m known s) (tables : RefinesOwnTables name m known s) (i : ℕ) (b : Beginning K) (here : s.makers i ≡ Some b) (end : NewMap) (said : Advance Setting)
     (steps : MakingStepsFrom b.machine old new end said)
-    (did : MakingStepsAmong V same same old.batch_size old.roots slot_of s.world s.maps s.calls s.makers s.enders i b new.memory (end, said)) (of : Option ℕ)
-    (comes : MakingComesTo same hash s old new i b end did.step.w2 said) where
+    (did : MakingStepsWithEndings V same same old.batch_size old.roots slot_of s.world s.maps s.calls s.makers s.enders i b new.memory (end, said)) (of : Option ℕ)
+    (comes : MakingHasOutcome same hash s old new i b end did.step.w2 said) where
   abbrev w2 : World (Node K V)
   w2 = did.step.w2
 
@@ -85,22 +85,22 @@ module _ {K V : Type 0} (same : K → K → Bool) (hash : ℕ → K → ℕ) (na
 
   -- where it has come, by what it says
 
-  abbrev After : (q : Advance Setting) → MakingComesTo same hash s old new i b end w2 q → Scene K V
+  abbrev After : (q : Advance Setting) → MakingHasOutcome same hash s old new i b end w2 q → Scene K V
   After q c = making_after same hash s old new i b end w2 q c
 
-  at_after : (q : Advance Setting) (c : MakingComesTo same hash s old new i b end w2 q) → IsAt same hash new (After q c)
+  at_after : (q : Advance Setting) (c : MakingHasOutcome same hash s old new i b end w2 q) → IsAt same hash new (After q c)
   at_after progress.Goes c = c
   at_after progress.Waits c = absurd c
   at_after (progress.Done setting) c = c.2
   at_after (progress.Refused fault) c = c
 
-  same_calls : (q : Advance Setting) (c : MakingComesTo same hash s old new i b end w2 q) → (After q c).calls ≡ s.calls
+  same_calls : (q : Advance Setting) (c : MakingHasOutcome same hash s old new i b end w2 q) → (After q c).calls ≡ s.calls
   same_calls progress.Goes c = refl
   same_calls progress.Waits c = refl
   same_calls (progress.Done setting) c = refl
   same_calls (progress.Refused fault) c = refl
 
-  others_make : (q : Advance Setting) (c : MakingComesTo same hash s old new i b end w2 q) (j : ℕ) → j ≢ i → (After q c).makers j ≡ s.makers j
+  others_make : (q : Advance Setting) (c : MakingHasOutcome same hash s old new i b end w2 q) (j : ℕ) → j ≢ i → (After q c).makers j ≡ s.makers j
   others_make progress.Goes c j ne = at_other s.makers i (Some (record b { machine = end })) j ne
   others_make progress.Waits c j ne = refl
   others_make (progress.Done setting) c j ne = at_other s.makers i None j ne
@@ -112,7 +112,7 @@ module _ {K V : Type 0} (same : K → K → Bool) (hash : ℕ → K → ℕ) (na
   now_of (progress.Done setting) = None
   now_of (progress.Refused fault) = None
 
-  its_then : (q : Advance Setting) (c : MakingComesTo same hash s old new i b end w2 q) (p : Planned) → now_of q ≡ Some p → HoldsTable (After q c) i (block_in p.link)
+  its_then : (q : Advance Setting) (c : MakingHasOutcome same hash s old new i b end w2 q) (p : Planned) → now_of q ≡ Some p → HoldsTable (After q c) i (block_in p.link)
   its_then progress.Goes c p has = inr (record b { machine = end }, at_same s.makers i (Some (record b { machine = end })) i refl, p, has, refl)
   its_then progress.Waits c p has = absurd c
   its_then (progress.Done setting) c p has = absurd (cc has)
@@ -148,7 +148,7 @@ module _ {K V : Type 0} (same : K → K → Bool) (hash : ℕ → K → ℕ) (na
   makes_free (changed.Roomed bucket had_one) l = tt
 
   -- The moment after it shows where it has come.
-  module _ (shown_then : Shows same name v known2 led) where
+  module _ (shown_then : Refines same name v known2 led) where
     one : IsOneStep its known told s led i had now 0
     one = record {
       whose = tables.whose;
@@ -206,13 +206,13 @@ module _ {K V : Type 0} (same : K → K → Bool) (hash : ℕ → K → ℕ) (na
     first_by (IsGivenUp p effects_are had_it none in_turn) = subst (MakesFirst b.map) (sym effects_are) tt
     first_by (IsLinked p effects_are had_it none) = subst (MakesFirst b.map) (sym effects_are) tt
 
-    pub making_keeps : MakesFirst b.map effects × ShowsTables name v known2 led
+    pub making_keeps : MakesFirst b.map effects × RefinesOwnTables name v known2 led
     making_keeps = (
       first_by left_tables.goes,
       record { tables = fields_still name m v known s led tables (calls_none of effects m) (same_calls said comes); whose = left_tables.whose },
     )
 
 module _ (K V : Type 0) (same : K → K → Bool) (hash : ℕ → K → ℕ) where
-  pub makings_keep_tables : MakingsKeepTables K V same hash
+  pub makings_keep_tables : MakingsPreserveOwnTables K V same hash
   makings_keep_tables name m known s old new at shown tables i told leads b here of shown_then =
       let to = leads b here in making_keeps same hash name m known s old new at shown tables i b here to.0 told to.1 to.2 of to.3 shown_then

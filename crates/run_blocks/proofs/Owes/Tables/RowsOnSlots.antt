@@ -16,13 +16,13 @@ use Rattle.run_debts.specs.Given.EffectsDeclared.role.Role.{Role}
 use Rattle.run_debts.specs.Given.EffectsDeclared.role.Role.TheVariants as role
 use Rattle.run_debts.specs.Given.ScenesDeclared.row.RowTold.{RowTold}
 use Rattle.run_debts.specs.Given.ScenesDeclared.row.SlotRow.{SlotRow}
-use Rattle.run_debts.specs.Given.FollowsShows.{Shows}
+use Rattle.run_debts.specs.Given.FollowsShows.{Refines}
 use Rattle.run_debts.proofs.Given.FollowsTold.{roomed_as_many}
 use Rattle.run_debts.specs.Given.OthersRows.{scene_then}
 use Rattle.run_debts.proofs.Given.OthersQuiet.{calls_none}
 use Rattle.run_debts.proofs.Given.OthersRowPlans.{TellsRow, row_tells}
-use Rattle.run_blocks.specs.Owes.Tables.{ShowsTables}
-use Rattle.run_blocks.specs.Owes.TablesBeside.{RowsKeepTables}
+use Rattle.run_blocks.specs.Owes.Tables.{RefinesOwnTables}
+use Rattle.run_blocks.specs.Owes.TablesBeside.{RowsPreserveOwnTables}
 use Rattle.run_blocks.proofs.Owes.Tables.Aside.{AreTables, tables_still}
 use Rattle.run_blocks.proofs.Owes.Tables.Held.{held_by}
 use Rattle.run_blocks.proofs.Owes.Tables.Roles.{own_table_of, put_table}
@@ -32,7 +32,7 @@ use Rattle.run_debts.specs.Given.ScenesOnSlots.{HappensAt, RowSteps}
 use Rattle.run_debts.specs.Given.ScenesScene.{IsOnSlot, Scene}
 
 module _ {K V : Type 0} (same : K → K → Bool) (hash : ℕ → K → ℕ) (name : ℕ → List ℕ) (m : Moment K V) (known : Known) (s : Scene K V) (old new : Held K V) (at : IsAt same hash old s)
-    (shown : Shows same name m known s) (tables : ShowsTables name m known s) (i : ℕ) (row : SlotRow) (here : IsOnSlot s i row) (end : SlotRow × RowTold (Node K V))
+    (shown : Refines same name m known s) (tables : RefinesOwnTables name m known s) (i : ℕ) (row : SlotRow) (here : IsOnSlot s i row) (end : SlotRow × RowTold (Node K V))
     (steps : RowSteps K V row old.memory new.memory new.changed end) (happened : HappensAt same hash (Step i) s old new) where
   -- a table that a call or a making has is there still
   not_taken : (b turn : ℕ) (shape : TableShape) → new.changed ≡ changed.Took b → known.roles b ≡ role.OwnTable turn shape → ⊥
@@ -59,13 +59,13 @@ module _ {K V : Type 0} (same : K → K → Bool) (hash : ℕ → K → ℕ) (na
   same_tables (changed.Took x) told is b = put_table x role.Free known.roles (none_taken x told (known.roles x) refl) b
   same_tables (changed.Roomed bucket had) told is b = ap (λ (f : ℕ → Role). own_table_of (f b)) (roomed_as_many Row known bucket had).0
 
-  pub row_keeps : ShowsTables name (with_effects None None (effects_of Row known new.changed) m) (known_after Row new.changed known) (scene_then same hash (Step i) s old new happened)
+  pub row_keeps : RefinesOwnTables name (with_effects None None (effects_of Row known new.changed) m) (known_after Row new.changed known) (scene_then same hash (Step i) s old new happened)
   row_keeps =
       tables_still name m (with_effects None None (effects_of Row known new.changed) m) known s (scene_then same hash (Step i) s old new happened) tables
       (calls_none None (effects_of Row known new.changed) m) refl (known_after Row new.changed known) refl
       (same_tables new.changed refl (row_tells old.memory new.memory new.changed end row steps))
 
 module _ (K V : Type 0) (same : K → K → Bool) (hash : ℕ → K → ℕ) where
-  pub rows_keep_tables : RowsKeepTables K V same hash
+  pub rows_keep_tables : RowsPreserveOwnTables K V same hash
   rows_keep_tables name m known s old new at shown tables i told leads row here =
       let to = leads row here in row_keeps same hash name m known s old new at shown tables i row here (to.0, told) to.1 to.2

@@ -25,15 +25,15 @@ use Rattle.run_debts.specs.Given.EffectsEffects.{effects_of, known_after}
 use Rattle.run_debts.specs.Given.EffectsKnown.{Known}
 use Rattle.run_debts.specs.Given.EffectsDeclared.acting.Acting.{Acting}
 use Rattle.run_debts.specs.Given.EffectsDeclared.acting.Acting.TheVariants as acts
-use Rattle.run_debts.specs.Given.FinishesMachines.{machine_of, GoesOnAs}
-use Rattle.run_debts.specs.Given.FollowsShows.{Shows}
+use Rattle.run_debts.specs.Given.FinishesMachines.{machine_of, ContinuesAs}
+use Rattle.run_debts.specs.Given.FollowsShows.{Refines}
 use Rattle.run_debts.proofs.Given.FollowsCalling.{is_same_refl}
 use Rattle.run_debts.proofs.Given.FollowsOperations.{LeavesBy, operated_leaves}
 use Rattle.run_debts.proofs.Given.FollowsSteps.{WentTo, went_to, made_so}
-use Rattle.run_debts.specs.Given.MomentsWhole.{ShowsWhole}
+use Rattle.run_debts.specs.Given.MomentsWhole.{RefinesWhole}
 use Rattle.run_debts.proofs.Given.MomentsCalls.{calls_keep_whole}
 use Rattle.run_blocks.specs.Owes.Making.{making_of}
-use Rattle.run_blocks.specs.Owes.Tables.{table_in, table_made, HoldsTable, ShowsTables}
+use Rattle.run_blocks.specs.Owes.Tables.{table_in, table_made, HoldsTable, RefinesOwnTables}
 use Rattle.run_blocks.proofs.Owes.Kept.{calls_beside, calls_its}
 use Rattle.run_blocks.proofs.Owes.InHand.{free_there}
 use Rattle.run_blocks.proofs.Owes.Planned.{IsMadeBy}
@@ -54,7 +54,7 @@ next_table None = None
 next_table (Some x) = table_made (making_of (machine_of x))
 
 module _ {K V : Type 0} (same : K → K → Bool) (hash : ℕ → K → ℕ) (name : ℕ → List ℕ) (m : Moment K V) (known : Known) (s : Scene K V) (old new : Held K V) (at : IsAt same hash old s)
-    (whole : ShowsWhole same name m known s) (tables : ShowsTables name m known s) (map i : ℕ) (u : UnderWay K V K) (here : s.calls map i ≡ Some u)
+    (whole : RefinesWhole same name m known s) (tables : RefinesOwnTables name m known s) (map i : ℕ) (u : UnderWay K V K) (here : s.calls map i ≡ Some u)
     (said : Progress (Node K V)) (leads : StepLeads same hash i said s old new) where
   abbrev to : WentTo same hash name m known s old new at whole.all.shown map i u here said leads
   to = went_to same hash name m known s old new at whole.all.shown map i u here said leads
@@ -90,7 +90,7 @@ module _ {K V : Type 0} (same : K → K → Bool) (hash : ℕ → K → ℕ) (na
   leaves : LeavesBy w.memory new.memory told
   leaves = operated_leaves w.memory new.memory told (made_so same hash name m known s old new at whole.all.shown map i u here said leads)
 
-  shown_then : Shows same name v known2 led
+  shown_then : Refines same name v known2 led
   shown_then = (calls_keep_whole K V same hash name m known s old new at whole map i u here said leads).all.shown
 
   -- this caller has one call, and makes no map: what is its own is the table of this call
@@ -130,7 +130,7 @@ module _ {K V : Type 0} (same : K → K → Bool) (hash : ℕ → K → ℕ) (na
   -- a call that goes on is this machine
   next_is : said ≡ said_so.Goes → now ≡ table_made (making_of to.1)
   next_is goes =
-      let next = subst (λ (p : Progress (Node K V)). GoesOnAs to.1 p to.4.next) goes to.4.goes_on in ap next_table next.1 ∙ ap (λ (y : Machine K V K). table_made (making_of y)) next.2
+      let next = subst (λ (p : Progress (Node K V)). ContinuesAs to.1 p to.4.next) goes to.4.goes_on in ap next_table next.1 ∙ ap (λ (y : Machine K V K). table_made (making_of y)) next.2
 
   -- where the step is one of this making, it goes on so
   module _ (n : NewTable) (making_is : making_of (machine_of u) ≡ Some n) where

@@ -12,19 +12,19 @@ use Rattle.run_executor.specs.Given.CallersTogether.{OnKey, UnderWay}
 use Rattle.run_executor.specs.Given.EffectsKnown.{Known}
 use Rattle.run_executor.specs.Given.FinishesMachines.{machine_of}
 use Rattle.run_executor.specs.Given.FinishesMaps.{Standing}
-use Rattle.run_executor.specs.Given.FollowsCalls.{ShowsCalls as IsThere}
-use Rattle.run_logged.specs.Given.SettlesHand.{ShowsOwed}
-use Rattle.run_logged.proofs.Given.SettlesHand.Roles.{hand_kept}
-use Rattle.run_sweeps.specs.Given.FindsCapacities.{StoodSo}
-use Rattle.run_sweeps.specs.Given.FindsLinking.{IsMadeFor}
-use Rattle.run_sweeps.specs.Given.FindsWaits.{IsHeldPast, LeavesHeldOf}
-use Rattle.run_sweeps.specs.Given.FindsWithin.{many_of}
-use Rattle.run_sweeps.proofs.Given.FindsCapacities.{capacities_stay}
-use Rattle.run_sweeps.proofs.Given.FindsGrows.Between.{growing_stays}
-use Rattle.run_sweeps.proofs.Given.FindsWaits.Between.{waits_follow_owed}
-use Rattle.run_sweeps.proofs.Given.FindsWaits.Held.{lies_same}
-use Rattle.run_sweeps.proofs.Given.FindsWaits.Puts.{puts_stay}
-use Rattle.run_grows.specs.Grows.Finding.{ShowsFinding}
+use Rattle.run_executor.specs.Given.FollowsCalls.{RefinesCalls as IsThere}
+use Rattle.run_finds.specs.Given.SettlesHand.{RefinesObligations}
+use Rattle.run_finds.proofs.Given.SettlesHand.Roles.{hand_kept}
+use Rattle.run_finds.specs.Capacities.{StoodSo}
+use Rattle.run_finds.specs.Linking.{IsMadeFor}
+use Rattle.run_finds.specs.Waits.{IsHeldPast, LeavesHeldOf}
+use Rattle.run_finds.specs.Within.{many_of}
+use Rattle.run_finds.proofs.Capacities.{capacities_stay}
+use Rattle.run_finds.proofs.Grows.Between.{growing_stays}
+use Rattle.run_grows.proofs.Waits.Between.{waits_follow_owed}
+use Rattle.run_grows.proofs.Waits.Held.{lies_same}
+use Rattle.run_grows.proofs.Waits.Puts.{puts_stay}
+use Rattle.run_grows.specs.Grows.Finding.{RefinesFinding}
 use Rattle.run_grows.proofs.Grows.Finding.Making.Between.{further_stays}
 use Rattle.run_grows.proofs.Grows.Finding.Making.Lengths.{lengths_same}
 use Rattle.run_executor.specs.Given.ScenesScene.{Scene}
@@ -58,8 +58,8 @@ stood_as {K} s t maps n standing is = (standing, ap (λ (f : ℕ → Option (Sta
 
 module _ (K V : Type 0) (same : K → K → Bool) (name : ℕ → List ℕ) (m v : Moment K V) (known : Known) (s t : Scene K V) where
   -- each call that is under way then was so before, and each map that stands then stood so
-  pub finding_fewer : IsThere same name m s.calls → ShowsOwed name m known s → ShowsOwed name v known t → ((n j : ℕ) (x : UnderWay K V K) → t.calls n j ≡ Some x → s.calls n j ≡ Some x) → StoodSo s t
-      → v.tables ≡ m.tables → v.maps ≡ m.maps → v.place ≡ m.place → v.born ≡ m.born → v.spot ≡ m.spot → v.stored ≡ m.stored → ShowsFinding name m known s → ShowsFinding name v known t
+  pub finding_fewer : IsThere same name m s.calls → RefinesObligations name m known s → RefinesObligations name v known t → ((n j : ℕ) (x : UnderWay K V K) → t.calls n j ≡ Some x → s.calls n j ≡ Some x) → StoodSo s t
+      → v.tables ≡ m.tables → v.maps ≡ m.maps → v.place ≡ m.place → v.born ≡ m.born → v.spot ≡ m.spot → v.stored ≡ m.stored → RefinesFinding name m known s → RefinesFinding name v known t
   finding_fewer there owes owes2 was stood tables maps place born spot stored finding = record {
     growing = growing_stays K V m v s t finding.growing (many_same m v tables) (λ map i u is. (u, was map i (OnKey u) is, refl));
     further = further_stays m v s t finding.further (lengths_same m v tables) (λ map i u is. (u, was map i u is, refl));

@@ -28,10 +28,10 @@ use Rattle.run_executor.specs.Given.ScenesDeclared.row.RowTold.{RowTold}
 use Rattle.run_executor.specs.Given.ScenesDeclared.row.SlotRow.{SlotRow}
 use Rattle.run_executor.specs.Given.FinishesEndings.{Finishing}
 use Rattle.run_executor.specs.Given.FinishesMakings.{Beginning}
-use Rattle.run_executor.specs.Given.FollowsShows.{Shows}
+use Rattle.run_executor.specs.Given.FollowsShows.{Refines}
 use Rattle.run_executor.proofs.Given.FollowsOperations.{LeavesBy}
 use Rattle.run_executor.proofs.Given.FollowsWrites.{nothing_free}
-use Rattle.run_executor.specs.Given.MomentsWhole.{ShowsWhole}
+use Rattle.run_executor.specs.Given.MomentsWhole.{RefinesWhole}
 use Rattle.run_executor.proofs.Given.MomentsEnds.{says}
 use Rattle.run_executor.proofs.Given.OthersMakes.{left, no_table_word, tells}
 use Rattle.run_executor.proofs.Given.OthersMakingPlans.{TellsMaking}
@@ -122,7 +122,7 @@ module _ {K V : Type 0} (same : K → K → Bool) (hash : ℕ → K → ℕ) (na
       → (with_effects None None (effects_of acts.Row known new.changed) m).spot ≡ m.spot
   rows_leave_spots i told leads row here = (aside_all None None (effects_of acts.Row known new.changed) m (rows_aside i told leads row here)).spot
 
-  pub makings_aside : Shows same name m known s → (i : ℕ) (told : Making Setting) (leads : MakingLeads same hash i told s old new) (b : Beginning K) → s.makers i ≡ Some b → (of : Option ℕ)
+  pub makings_aside : Refines same name m known s → (i : ℕ) (told : Making Setting) (leads : MakingLeads same hash i told s old new) (b : Beginning K) → s.makers i ≡ Some b → (of : Option ℕ)
       → AllAside (effects_of (acts.Making b.map) known new.changed)
   makings_aside shown i told leads b here of =
       let to = leads b here in
@@ -130,11 +130,11 @@ module _ {K V : Type 0} (same : K → K → Bool) (hash : ℕ → K → ℕ) (na
       (λ x q made. no_table_word same hash name m known s old new at shown i b here to.0 told to.1 to.2 of x q made) new.changed
       (tells same hash name m known s old new at shown i b here to.0 told to.1 to.2 of) (left same hash name m known s old new at shown i b here to.0 told to.1 to.2 of)
 
-  pub makings_leave_spots : Shows same name m known s → (i : ℕ) (told : Making Setting) (leads : MakingLeads same hash i told s old new) (b : Beginning K) → s.makers i ≡ Some b → (of : Option ℕ)
+  pub makings_leave_spots : Refines same name m known s → (i : ℕ) (told : Making Setting) (leads : MakingLeads same hash i told s old new) (b : Beginning K) → s.makers i ≡ Some b → (of : Option ℕ)
       → (with_effects None of (effects_of (acts.Making b.map) known new.changed) m).spot ≡ m.spot
   makings_leave_spots shown i told leads b here of = (aside_all None of (effects_of (acts.Making b.map) known new.changed) m (makings_aside shown i told leads b here of)).spot
 
-  pub endings_aside : ShowsWhole same name m known s → (i : ℕ) (told : Settled (Node K V)) (leads : EndingLeads same hash i told s old new) (f : Finishing K V) → s.enders i ≡ Some f
+  pub endings_aside : RefinesWhole same name m known s → (i : ℕ) (told : Settled (Node K V)) (leads : EndingLeads same hash i told s old new) (f : Finishing K V) → s.enders i ≡ Some f
       → (map : ℕ) → s.maps map ≡ None → AllAside (effects_of (acts.Ending map) known new.changed)
   endings_aside whole i told leads f here map not_there =
       let to = leads f here in
@@ -143,7 +143,7 @@ module _ {K V : Type 0} (same : K → K → Bool) (hash : ℕ → K → ℕ) (na
         | inr it ↦ subst (λ (x : Changed). AllAside (effects_of (acts.Ending map) known x)) (sym it.1) (taken_aside (acts.Ending map) (known.roles it.0))
       ]
 
-  pub endings_leave_spots : ShowsWhole same name m known s → (i : ℕ) (told : Settled (Node K V)) (leads : EndingLeads same hash i told s old new) (f : Finishing K V) → s.enders i ≡ Some f
+  pub endings_leave_spots : RefinesWhole same name m known s → (i : ℕ) (told : Settled (Node K V)) (leads : EndingLeads same hash i told s old new) (f : Finishing K V) → s.enders i ≡ Some f
       → (map : ℕ) → s.maps map ≡ None → (with_effects None (Some map) (effects_of (acts.Ending map) known new.changed) m).spot ≡ m.spot
   endings_leave_spots whole i told leads f here map not_there =
       (aside_all None (Some map) (effects_of (acts.Ending map) known new.changed) m (endings_aside whole i told leads f here map not_there)).spot

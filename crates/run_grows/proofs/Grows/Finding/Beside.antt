@@ -6,14 +6,14 @@ use Rattle.run_schedules.specs.Schedules.Moment.{Behind, GivenBack, Handed, InMa
 use Rattle.run_schedules.specs.Schedules.Views.{is_in_a_map}
 use Rattle.run_executor.specs.Given.CallersTogether.{OnKey, UnderWay}
 use Rattle.run_executor.specs.Given.EffectsKnown.{Known}
-use Rattle.run_executor.specs.Given.MomentsWhole.{ShowsWhole}
+use Rattle.run_executor.specs.Given.MomentsWhole.{RefinesWhole}
 use Rattle.run_executor.proofs.Given.MomentsBeside.{IsBeside}
-use Rattle.run_sweeps.specs.Given.FindsCapacities.{ShowsCapacities}
-use Rattle.run_sweeps.specs.Given.FindsWaits.{LeavesInHand}
-use Rattle.run_sweeps.specs.Given.FindsWithin.{many_of}
-use Rattle.run_sweeps.proofs.Given.FindsGrows.Between.{growing_stays}
-use Rattle.run_sweeps.proofs.Given.FindsWaits.Between.{waits_stay}
-use Rattle.run_grows.specs.Grows.Finding.{ShowsFinding}
+use Rattle.run_finds.specs.Capacities.{RefinesCapacities}
+use Rattle.run_finds.specs.Waits.{LeavesPending}
+use Rattle.run_finds.specs.Within.{many_of}
+use Rattle.run_finds.proofs.Grows.Between.{growing_stays}
+use Rattle.run_grows.proofs.Waits.Between.{waits_stay}
+use Rattle.run_grows.specs.Grows.Finding.{RefinesFinding}
 use Rattle.run_grows.proofs.Grows.Finding.Alike.{held_in, map_same}
 use Rattle.run_grows.proofs.Grows.Finding.Making.Between.{further_stays}
 use Rattle.run_grows.proofs.Grows.Finding.Making.Lengths.{KeepsLengths}
@@ -33,7 +33,7 @@ in_which Left is = absurd (cc is)
 in_which GivenBack is = absurd (cc is)
 
 module _ {K V : Type 0} (same : K → K → Bool) (hash : ℕ → K → ℕ) (name : ℕ → List ℕ) (m v : Moment K V) (known known2 : Known) (s t : Scene K V) (e : Held K V) (at : IsAt same hash e t)
-    (whole : ShowsWhole same name v known2 t) (beside : IsBeside m v known known2 s t) (finding : ShowsFinding name m known s) where
+    (whole : RefinesWhole same name v known2 t) (beside : IsBeside m v known known2 s t) (finding : RefinesFinding name m known s) where
   -- who is in no map stays so
   out_still : (k : ℕ) → is_in_a_map (m.place k) ≡ false → is_in_a_map (v.place k) ≡ false
   out_still k out = by (is_in_a_map (v.place k)) refl
@@ -44,7 +44,7 @@ module _ {K V : Type 0} (same : K → K → Bool) (hash : ℕ → K → ℕ) (na
           let there = in_which (v.place k) is in
           absurd (let before : is_in_a_map (m.place k) ≡ true = ap is_in_a_map (beside.place k there.0 there.1) in cc (before, out))
 
-  pub finding_beside : v.spot ≡ m.spot → ((of : ℕ) → many_of of m ≤ many_of of v) → KeepsLengths m v → ShowsCapacities v t → ShowsFinding name v known2 t
+  pub finding_beside : v.spot ≡ m.spot → ((of : ℕ) → many_of of m ≤ many_of of v) → KeepsLengths m v → RefinesCapacities v t → RefinesFinding name v known2 t
   finding_beside spot later keeps capacities = record {
     growing = growing_stays K V m v s t finding.growing later (λ map i u is. (u, was map i (OnKey u) is, refl));
     further = further_stays m v s t finding.further keeps (λ map i u is. (u, was map i u is, refl));
@@ -59,5 +59,5 @@ module _ {K V : Type 0} (same : K → K → Bool) (hash : ℕ → K → ℕ) (na
       more : length m.stored ≤ length v.stored
       more = subst (λ (xs : List (K × V)). length m.stored ≤ length xs) (sym beside.stored) (itself (length m.stored))
 
-      leaves : LeavesInHand t m v
+      leaves : LeavesPending t m v
       leaves map i u is k waits held = held_in m v more beside.born spot map (map_same m v beside.maps map) k (out_still k held.0.1 ∙ sym held.0.1) waits held

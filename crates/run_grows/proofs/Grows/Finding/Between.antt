@@ -8,8 +8,8 @@ use Rattle.papaya_raw.specs.Given.SweepsSweepPoints.{next_at}
 use Rattle.papaya_raw.specs.Given.ReservesDeclared.sweep.Sweep.{Sweep}
 use Rattle.papaya_raw.specs.Given.ReservesDeclared.sweep.Sweeping.{Sweeping}
 use Rattle.papaya_raw.specs.Given.ReservesDeclared.sweep.Sweeping.TheVariants as sweeping
-use Rattle.papaya_raw.specs.CallAsks.{told_at}
-use Rattle.papaya_raw.specs.Machine.{machine_asked, machine_replied, sweep_told}
+use Rattle.papaya_raw.specs.CallAsks.{replied_at}
+use Rattle.papaya_raw.specs.Machine.{machine_asked, machine_replied, sweep_with_reply}
 use Rattle.papaya_raw.specs.declared.machines.asking.Asking.TheVariants as asking
 use Rattle.papaya_raw.specs.declared.machines.asking.MachineReply.{MachineReply}
 use Rattle.papaya_raw.specs.declared.machines.call.Calling.{Calling}
@@ -30,20 +30,20 @@ use Rattle.run_executor.specs.Given.EffectsDeclared.role.Role.{Role}
 use Rattle.run_executor.specs.Given.EffectsDeclared.role.Role.TheVariants as role
 use Rattle.run_executor.specs.Given.FinishesMachines.{machine_of}
 use Rattle.run_executor.specs.Given.FinishesMaps.{Standing, with_call as with_in}
-use Rattle.run_executor.specs.Given.FollowsCalls.{ShowsCalls as IsThere}
+use Rattle.run_executor.specs.Given.FollowsCalls.{RefinesCalls as IsThere}
 use Rattle.run_executor.proofs.Given.HandsAsking.{which}
-use Rattle.run_logged.specs.Given.SettlesDue.{ToPut, due_in_row}
-use Rattle.run_logged.specs.Given.SettlesHand.{HoldsAt, IsPairAt, IsPairRole, NotesInHand, NotesOfCall, NotesOfSweep, ShowsOwed, in_hand, in_hand_of_call, in_hand_of_sweep, thing_as, things_at}
-use Rattle.run_logged.specs.Given.SettlesInHand.{pair_in_calling, pair_in_sweeping}
-use Rattle.run_logged.proofs.Given.SettlesHand.Roles.{hand_kept}
-use Rattle.run_sweeps.specs.Given.FindsPuts.{IsBehindNext, ShowsPuts}
-use Rattle.run_sweeps.specs.Given.FindsWaits.{LeavesInHand, ShowsWaits, pair_in, waits_in}
-use Rattle.run_sweeps.proofs.Given.FindsCapacities.{capacities_stay}
-use Rattle.run_sweeps.proofs.Given.FindsGrows.Between.{growing_stays}
-use Rattle.run_sweeps.proofs.Given.FindsWaits.Behind.{call_put, room_never, sweep_put}
-use Rattle.run_sweeps.proofs.Given.FindsWaits.Between.{waits_follow_owed, waits_stay}
-use Rattle.run_sweeps.proofs.Given.FindsWaits.Puts.{puts_stay}
-use Rattle.run_grows.specs.Grows.Finding.{ShowsFinding}
+use Rattle.run_finds.specs.Given.SettlesDue.{ToPut, due_in_row}
+use Rattle.run_finds.specs.Given.SettlesHand.{HoldsAt, IsPairAt, IsPairRole, NotesPending, NotesOfCall, NotesOfSweep, RefinesObligations, in_hand, in_hand_of_call, in_hand_of_sweep, thing_as, things_at}
+use Rattle.run_finds.specs.Given.SettlesInHand.{pair_in_calling, pair_in_sweeping}
+use Rattle.run_finds.proofs.Given.SettlesHand.Roles.{hand_kept}
+use Rattle.run_finds.specs.Puts.{IsDeferredOnTheLast, RefinesPuts}
+use Rattle.run_finds.specs.Waits.{LeavesPending, RefinesWaits, pair_in, waits_in}
+use Rattle.run_finds.proofs.Capacities.{capacities_stay}
+use Rattle.run_finds.proofs.Grows.Between.{growing_stays}
+use Rattle.run_grows.proofs.Waits.Behind.{call_put, room_never, sweep_put}
+use Rattle.run_grows.proofs.Waits.Between.{waits_follow_owed, waits_stay}
+use Rattle.run_grows.proofs.Waits.Puts.{puts_stay}
+use Rattle.run_grows.specs.Grows.Finding.{RefinesFinding}
 use Rattle.run_grows.proofs.Grows.Finding.Alike.{held_in, many_same, stood_as}
 use Rattle.run_grows.proofs.Grows.Finding.Making.Between.{further_stays}
 use Rattle.run_grows.proofs.Grows.Finding.Making.Lengths.{lengths_same}
@@ -79,14 +79,14 @@ module _ {K V : Type 0} (same : K → K → Bool) where
 
 -- of calls, one alone goes on otherwise: others are to put what they were to put
 module _ {K V : Type 0} (known : Known) (s : Scene K V) (map i : ℕ) (next : Option (UnderWay K V K)) where
-  pub puts_with : ((x : UnderWay K V K) → next ≡ Some x → (word : ℕ) (place : At) → due_in_row (machine_of x) ≡ Some (ToPut word place) → IsBehindNext known map place (waits_in (machine_of x))) → ShowsPuts known s
-      → ShowsPuts known (record s { calls = with_in s.calls map i next })
-  puts_with its puts n j x is word place due = elim (which s.calls map i next n j x is) as (λ _. IsBehindNext known n place (waits_in (machine_of x))) [
-    | inl own ↦ subst (λ (k : ℕ). IsBehindNext known k place (waits_in (machine_of x))) (sym own.0) (its x own.2 word place due)
+  pub puts_with : ((x : UnderWay K V K) → next ≡ Some x → (word : ℕ) (place : At) → due_in_row (machine_of x) ≡ Some (ToPut word place) → IsDeferredOnTheLast known map place (waits_in (machine_of x))) → RefinesPuts known s
+      → RefinesPuts known (record s { calls = with_in s.calls map i next })
+  puts_with its puts n j x is word place due = elim (which s.calls map i next n j x is) as (λ _. IsDeferredOnTheLast known n place (waits_in (machine_of x))) [
+    | inl own ↦ subst (λ (k : ℕ). IsDeferredOnTheLast known k place (waits_in (machine_of x))) (sym own.0) (its x own.2 word place due)
     | inr was ↦ puts n j x was.1 word place due
   ]
 
-pub puts_begun : {K V : Type 0} (known : Known) (s : Scene K V) (map i : ℕ) (u : UnderWay K V K) → due_in_row (machine_of u) ≡ None → ShowsPuts known s → ShowsPuts known (scene_with map i u s)
+pub puts_begun : {K V : Type 0} (known : Known) (s : Scene K V) (map i : ℕ) (u : UnderWay K V K) → due_in_row (machine_of u) ≡ None → RefinesPuts known s → RefinesPuts known (scene_with map i u s)
 puts_begun {K} {V} known s map i u none =
     puts_with known s map i (Some u) (λ x is word place due. absurd (let its : due_in_row (machine_of x) ≡ None = ap (λ (z : UnderWay K V K). due_in_row (machine_of z)) (sym (one_of u x is)) ∙ none in cc (its, due)))
 
@@ -107,13 +107,13 @@ module _ (known : Known) (word : ℕ) where
   noted_of_sweep p notes some = (subst (HoldsAt (IsPairAt known)) some notes, ap (things_at known) some)
 
   module _ {K V Q : Type 0} where
-    noted_so : (machine : Machine K V Q) → NotesInHand known machine → pair_in machine ≡ Some word → IsPairRole (known.roles (block_in word)) × (in_hand known machine ≡ things_at known (Some word))
+    noted_so : (machine : Machine K V Q) → NotesPending known machine → pair_in machine ≡ Some word → IsPairRole (known.roles (block_in word)) × (in_hand known machine ≡ things_at known (Some word))
     noted_so (kinds.Key p) notes some = noted_of_call p.stands notes some
     noted_so (kinds.Sweep c) notes some = noted_of_sweep c.stands notes some
     noted_so (kinds.Reserve r) notes some = absurd (cc some)
     noted_so (kinds.Count sum) notes some = absurd (cc some)
 
-    pub pair_held : (machine : Machine K V Q) → NotesInHand known machine → pair_in machine ≡ Some word → (n : ℕ) × (in_hand known machine ≡ APair n ∷ [])
+    pub pair_held : (machine : Machine K V Q) → NotesPending known machine → pair_in machine ≡ Some word → (n : ℕ) × (in_hand known machine ≡ APair n ∷ [])
     pair_held machine notes some =
         let noted = noted_so machine notes some in
         let n = pair_role (known.roles (block_in word)) noted.0 in
@@ -133,12 +133,12 @@ module _ (known : Known) (n : ℕ) where
   next_same c _ e = refl
 
 module _ {V : Type 0} (known : Known) (n : ℕ) where
-  sweep_same : (c : Sweep) (stands : Sweeping) (reply : MachineReply V) → in_hand_of_sweep known stands ≡ APair n ∷ [] → (sweep_told stands c reply).0 ≡ c
+  sweep_same : (c : Sweep) (stands : Sweeping) (reply : MachineReply V) → in_hand_of_sweep known stands ≡ APair n ∷ [] → (sweep_with_reply stands c reply).0 ≡ c
   sweep_same c (sweeping.Asks word) reply e = absurd (cc e)
   sweep_same c _ reply e = refl
 
 module _ {K V : Type 0} (known : Known) (n : ℕ) where
-  key_same : (p : KeyCall K V K) (stands : Calling) (reply : MachineReply V) → in_hand_of_call known stands ≡ APair n ∷ [] → (told_at stands p reply).0 ≡ p
+  key_same : (p : KeyCall K V K) (stands : Calling) (reply : MachineReply V) → in_hand_of_call known stands ≡ APair n ∷ [] → (replied_at stands p reply).0 ≡ p
   key_same p (calling.Asks (asking.Absent gap)) reply e = absurd (cc e)
   key_same p (calling.Asks (asking.Present word)) reply e = absurd (cc e)
   key_same p _ reply e = refl
@@ -157,7 +157,7 @@ module _ {K V : Type 0} (known : Known) (n : ℕ) where
 
 -- So where one goes on by either, what calls have in hand lies as it lay, and is to be put where it was to be.
 module _ (K V : Type 0) (same : K → K → Bool) (name : ℕ → List ℕ) (m v : Moment K V) (known : Known) (s : Scene K V) (map i : ℕ) (u : UnderWay K V K) (here : s.calls map i ≡ Some u) (next : UnderWay K V K)
-    (there : IsThere same name m s.calls) (owes : ShowsOwed name m known s) (owes2 : ShowsOwed name v known (scene_with map i next s))
+    (there : IsThere same name m s.calls) (owes : RefinesObligations name m known s) (owes2 : RefinesObligations name v known (scene_with map i next s))
     (stays : in_hand known (machine_of next) ≡ in_hand known (machine_of u)) (goes : (n : ℕ) → in_hand known (machine_of u) ≡ APair n ∷ [] → machine_of next ≡ machine_of u) where
   abbrev t : Scene K V
   t = scene_with map i next s
@@ -177,11 +177,11 @@ module _ (K V : Type 0) (same : K → K → Bool) (name : ℕ → List ℕ) (m v
     | inr was ↦ (x, was.1, refl)
   ]
 
-  pub waits_on : LeavesInHand t m v → ShowsWaits name m s → ShowsWaits name v t
+  pub waits_on : LeavesPending t m v → RefinesWaits name m s → RefinesWaits name v t
   waits_on leaves waits = waits_follow_owed K V same name m v known known s t there owes owes2 waits leaves
       (λ n j x is word some. (let was = was_so n j x is word some in (was.0, was.1, was.2, hand_kept known known (λ b lasts. refl) (machine_of was.0) (owes.noted n j was.0 was.1))))
 
-  pub puts_on : ShowsPuts known s → ShowsPuts known t
+  pub puts_on : RefinesPuts known s → RefinesPuts known t
   puts_on puts = puts_stay K V known known s t puts
       (λ n j x is word place due. (let was = was_so n j x is word (due_pair known word place (machine_of x) due) in (was.0, was.1, was.2, λ b its. refl)))
 
@@ -215,7 +215,7 @@ found_kept p keep (y ∷ ys) x is kept = by (p y) refl (keep y) refl is (λ rest
 module _ {K V : Type 0} (same : K → K → Bool) (hash : ℕ → K → ℕ) (name : ℕ → List ℕ) (m v : Moment K V) (known : Known) (s : Scene K V) (e : Held K V) (at : IsAt same hash e s) where
   -- at a moment with other maps, where those that stand are found as they were
   pub finding_where : ((n : ℕ) (st : Standing K) → s.maps n ≡ Some st → map_at n v ≡ map_at n m) → v.tables ≡ m.tables → v.calls ≡ m.calls → v.place ≡ m.place → v.born ≡ m.born → v.spot ≡ m.spot
-      → v.stored ≡ m.stored → ShowsFinding name m known s → ShowsFinding name v known s
+      → v.stored ≡ m.stored → RefinesFinding name m known s → RefinesFinding name v known s
   finding_where still tables calls place born spot stored finding = record {
     growing = growing_stays K V m v s s finding.growing (many_same m v tables) (λ map i u is. (u, is, refl));
     further = further_stays m v s s finding.further (lengths_same m v tables) (λ map i u is. (u, is, refl));
@@ -228,7 +228,7 @@ module _ {K V : Type 0} (same : K → K → Bool) (hash : ℕ → K → ℕ) (na
       more : length m.stored ≤ length v.stored
       more = subst (λ (xs : List (K × V)). length m.stored ≤ length xs) (sym stored) (itself (length m.stored))
 
-      leaves : LeavesInHand s m v
+      leaves : LeavesPending s m v
       leaves map i u is k waits held =
           let st = standing_is same hash e s at map i u is in
           held_in m v more born spot map (still map st.0 st.1) k (ap (λ (f : ℕ → Place). is_in_a_map (f k)) place) waits held

@@ -5,9 +5,9 @@ use Rattle.papaya_raw.specs.Given.TablesLengths.{entries_of, next_len}
 use Rattle.papaya_raw.specs.Given.TablesDeclared.lengths.Reason.TheVariants.{NoPlace}
 use Rattle.papaya_raw.specs.Given.TablesDeclared.node.Node.{Node}
 use Rattle.papaya_raw.specs.Given.TablesDeclared.table.Table.{Table as Planned}
-use Rattle.run_logged.specs.Given.ResizeDeclared.copier.Copying.{Copying}
-use Rattle.run_logged.specs.Given.ResizeDeclared.copier.Copying.TheVariants as copying
-use Rattle.run_logged.specs.Given.ResizeDeclared.new_table.NewTable.{NewTable}
+use Rattle.run_finds.specs.Given.ResizeDeclared.copier.Copying.{Copying}
+use Rattle.run_finds.specs.Given.ResizeDeclared.copier.Copying.TheVariants as copying
+use Rattle.run_finds.specs.Given.ResizeDeclared.new_table.NewTable.{NewTable}
 use Rattle.papaya_raw.specs.Given.ReservesDeclared.reserve.Reserving.{Reserving}
 use Rattle.papaya_raw.specs.Given.ReservesDeclared.reserve.Reserving.TheVariants as reserving
 use Rattle.papaya_raw.specs.Given.ReservesDeclared.sweep.Sweeping.{Sweeping}
@@ -36,18 +36,18 @@ use Rattle.run_executor.specs.Given.EffectsDeclared.acting.Acting.TheVariants as
 use Rattle.run_executor.specs.Given.FinishesMachines.{machine_of}
 use Rattle.run_executor.specs.Given.FollowsCalls.{IsCalled}
 use Rattle.run_executor.specs.Given.FollowsFinds.{FindsMap}
-use Rattle.run_executor.specs.Given.MomentsWhole.{ShowsWhole}
-use Rattle.run_logged.specs.Given.OwesMaking.{making_in_calling, making_in_copying, making_in_sweeping, making_of}
-use Rattle.run_logged.specs.Given.OwesTables.{ShowsTables, of_map, table_made}
-use Rattle.run_logged.proofs.Given.OwesTables.Held.{shape_of, some_making}
-use Rattle.run_logged.proofs.Given.OwesTables.Leaves.{IsGivenUp, IsLinked, IsMade, Stays}
-use Rattle.run_logged.proofs.Given.OwesTables.Step.{left_tables}
-use Rattle.run_sweeps.specs.Given.FindsLinking.{FindShapes, IsMadeFor}
+use Rattle.run_executor.specs.Given.MomentsWhole.{RefinesWhole}
+use Rattle.run_kept.specs.Given.OwesMaking.{making_in_calling, making_in_copying, making_in_sweeping, making_of}
+use Rattle.run_kept.specs.Given.OwesTables.{RefinesOwnTables, of_map, table_made}
+use Rattle.run_kept.proofs.Given.OwesTables.Held.{shape_of, some_making}
+use Rattle.run_kept.proofs.Given.OwesTables.Leaves.{IsGivenUp, IsLinked, IsMade, Stays}
+use Rattle.run_kept.proofs.Given.OwesTables.Step.{left_tables}
+use Rattle.run_finds.specs.Linking.{FindShapes, IsMadeFor}
 use Rattle.run_grows.specs.Grows.Copiers.{MakesByCopier, copier_in_calling, copier_in_reserving, making_of_copier}
-use Rattle.run_sweeps.specs.Given.FindsWithin.{many_of}
-use Rattle.run_sweeps.proofs.Given.FindsLinking.{made_so, none_shaped, one_shaped, two_shaped}
-use Rattle.run_sweeps.proofs.Given.FindsSteps.{steps_find_places}
-use Rattle.run_grows.specs.Grows.Further.{CallMakes, CopierMakes, IsBehind, IsFurther, MachineMakes, RoomMakes, ShowsFurther, SweepMakes, lengths_in, lengths_of}
+use Rattle.run_finds.specs.Within.{many_of}
+use Rattle.run_finds.proofs.Linking.{made_so, none_shaped, one_shaped, two_shaped}
+use Rattle.run_finds.proofs.Steps.{steps_find_places}
+use Rattle.run_grows.specs.Grows.Further.{CallMakes, CopierMakes, FollowsFullTable, IsFurther, MachineMakes, RoomMakes, RefinesFurther, SweepMakes, lengths_in, lengths_of}
 use Rattle.run_grows.proofs.Grows.Finding.Making.Lengths.{last_at}
 use Rattle.run_executor.specs.Given.ScenesHeld.{Held, IsAt}
 use Rattle.run_executor.specs.Given.ScenesScene.{Scene}
@@ -101,14 +101,14 @@ module _ {K V : Type 0} (terms : Terms) (moments : List (Moment K V)) (c : CallT
   may_make t call.Len count = next
   may_make t call.Walk count = next
 
-  behind_follows : (p : Planned) (ts : List TableThere) → IsBehind (lengths_in ts) p → p.turn ≡ length ts → Follows terms c moments capacity (shape_of p) ts
+  behind_follows : (p : Planned) (ts : List TableThere) → FollowsFullTable (lengths_in ts) p → p.turn ≡ length ts → Follows terms c moments capacity (shape_of p) ts
   behind_follows p [] is turn = absurd (let none = is.3 in cc none)
   behind_follows p (x ∷ ts) is turn =
       let last = last_of x ts in
       (NoPlace, 0, initial, made_for, may_make last c.call 0, subst (λ (n : ℕ). Has (next_len NoPlace n 0 0) p.len) (sym (last_at x ts is.0 is.1 is.3 (sym is.2 ∙ turn))) is.4, is.5)
 
 module _ {K V : Type 0} (same : K → K → Bool) (hash : ℕ → K → ℕ) (name : ℕ → List ℕ) (m : Moment K V) (known : Known) (s : Scene K V) (old new : Held K V) (at : IsAt same hash old s)
-    (whole : ShowsWhole same name m known s) (tables : ShowsTables name m known s) (map i : ℕ) (u : UnderWay K V K) (here : s.calls map i ≡ Some u) (said : Progress (Node K V))
+    (whole : RefinesWhole same name m known s) (tables : RefinesOwnTables name m known s) (map i : ℕ) (u : UnderWay K V K) (here : s.calls map i ≡ Some u) (said : Progress (Node K V))
     (leads : StepLeads same hash i said s old new) (terms : Terms) (moments : List (Moment K V)) where
   abbrev effects : List Effect
   effects = effects_of (acts.Call i map) known new.changed
@@ -144,7 +144,7 @@ module _ {K V : Type 0} (same : K → K → Bool) (hash : ℕ → K → ℕ) (na
     pub linked : (p : Planned) → effects ≡ effect.Linked (of_map map p) (shape_of p) ∷ [] → table_made (making_of (machine_of u)) ≡ Some p → Shapes
     linked p effects_are had =
         let making = some_making (making_of (machine_of u)) p had in
-        let behind = made_so (λ before reason. ⊥) (IsBehind (lengths_of map m)) making.0.stands p (such making.0 making.1).0 making.2 in
+        let behind = made_so (λ before reason. ⊥) (FollowsFullTable (lengths_of map m)) making.0.stands p (such making.0 making.1).0 making.2 in
         let turn_is : p.turn ≡ many_of map m = (subst (λ (fs : List Effect). AtEachEffect (FindsMap map) (Some (name i)) (Some map) fs m) effects_are on_map).0.1 in
         subst (λ (fs : List Effect). FindShapes terms moments (name i) map fs m) (sym effects_are)
         (one_shaped terms moments (name i) map (effect.Linked (of_map map p) (shape_of p)) m its_call.0 its_call.1
@@ -152,5 +152,5 @@ module _ {K V : Type 0} (same : K → K → Bool) (hash : ℕ → K → ℕ) (na
         (behind_follows terms (m ∷ moments) its_call.0 (capacity_or (map_at map m)) (leads map u here).0.setting.initial made_for
         (subst (λ (k : ℕ). OneOf (HasNext k) (m ∷ moments)) (sym its_call.2) (nexts making.0 (such making.0 making.1).1)) p (tables_of map m) behind turn_is)))
 
-  pub copier_links : ShowsFurther m s → MakesByCopier u → IsMadeFor map m (leads map u here).0.setting → ((n : NewTable) → making_of_copier (machine_of u) ≡ Some n → OneOf (HasNext map) (m ∷ moments)) → Shapes
+  pub copier_links : RefinesFurther m s → MakesByCopier u → IsMadeFor map m (leads map u here).0.setting → ((n : NewTable) → making_of_copier (machine_of u) ≡ Some n → OneOf (HasNext map) (m ∷ moments)) → Shapes
   copier_links further copies made_for nexts = links_by (linked (λ n is. such_of (IsFurther (lengths_of map m)) n u copies is (further map i u here)) made_for nexts)

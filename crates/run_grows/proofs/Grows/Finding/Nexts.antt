@@ -6,9 +6,9 @@ use Rattle.run_executor.specs.Given.SeizeWordsPlan.{Do, Now, Plan, Seeing, Sure,
 use Rattle.papaya_raw.specs.Given.TablesTablePlaces.{at_word}
 use Rattle.papaya_raw.specs.Given.TablesDeclared.node.Node.{Node}
 use Rattle.papaya_raw.specs.Given.TablesDeclared.table_words.TheConstants.{NEXT}
-use Rattle.run_logged.specs.Given.ResizeNewTable.{new_table_plan}
-use Rattle.run_logged.specs.Given.ResizeDeclared.copier.Copier.{Copier}
-use Rattle.run_logged.specs.Given.ResizeDeclared.new_table.NewTable.{NewTable}
+use Rattle.run_finds.specs.Given.ResizeNewTable.{new_table_plan}
+use Rattle.run_finds.specs.Given.ResizeDeclared.copier.Copier.{Copier}
+use Rattle.run_finds.specs.Given.ResizeDeclared.new_table.NewTable.{NewTable}
 use Rattle.papaya_raw.specs.Machine.{machine_asked, machine_plan, machine_replied}
 use Rattle.papaya_raw.specs.declared.machines.asking.MachineReply.{MachineReply}
 use Rattle.papaya_raw.specs.declared.machines.machine.Machine.{Machine}
@@ -33,13 +33,13 @@ use Rattle.run_executor.specs.Given.EffectsDeclared.acting.Acting.TheVariants as
 use Rattle.run_executor.specs.Given.FinishesMachines.{machine_of}
 use Rattle.run_executor.specs.Given.FinishesMaps.{Standing, with_call as with_in}
 use Rattle.run_executor.specs.Given.FollowsCalling.{NoneNamed, come_to, told}
-use Rattle.run_executor.specs.Given.FollowsCalls.{ShowsCalls as IsThere}
+use Rattle.run_executor.specs.Given.FollowsCalls.{RefinesCalls as IsThere}
 use Rattle.run_executor.proofs.Given.FollowsSteps.{WentTo, went_to}
 use Rattle.run_executor.specs.Given.OthersWalks.{given_up}
-use Rattle.run_executor.specs.Given.MomentsWhole.{ShowsWhole}
+use Rattle.run_executor.specs.Given.MomentsWhole.{RefinesWhole}
 use Rattle.run_grows.proofs.Grows.CopiersNext.{second_there}
 use Rattle.run_grows.specs.Grows.Further.{MachineMakes}
-use Rattle.run_grows.specs.Grows.Nexts.{MayFollow, OthersHadNext, ShowsNexts}
+use Rattle.run_grows.specs.Grows.Nexts.{MayFollow, OthersHadNext, RefinesNexts}
 use Rattle.run_grows.proofs.Grows.Finding.Making.Ahead.{IsFollowed, begins_ahead}
 use Rattle.run_grows.proofs.Grows.Finding.Making.Between.{none_made}
 use Rattle.run_grows.proofs.Grows.Finding.Making.Machines.{Ends, asked_makes, machine_makes, reply_makes}
@@ -89,45 +89,45 @@ module _ (K V : Type 0) where
   AnyPairs m v = Unit {0}
 
 -- where calls are as they were, or are under way no more
-pub nexts_alike : {K V : Type 0} (name : ℕ → List ℕ) (log : Past K V) (m v : Moment K V) (s t : Scene K V) → ShowsNexts name log m s → v.calls ≡ m.calls → ((n : ℕ) → HasNext n m → HasNext n v)
-    → ((n j : ℕ) (x : UnderWay K V K) → t.calls n j ≡ Some x → s.calls n j ≡ Some x) → ShowsNexts name log v t
+pub nexts_alike : {K V : Type 0} (name : ℕ → List ℕ) (log : Past K V) (m v : Moment K V) (s t : Scene K V) → RefinesNexts name log m s → v.calls ≡ m.calls → ((n : ℕ) → HasNext n m → HasNext n v)
+    → ((n j : ℕ) (x : UnderWay K V K) → t.calls n j ≡ Some x → s.calls n j ≡ Some x) → RefinesNexts name log v t
 nexts_alike {K} {V} name log m v s t nexts calls keeps was = since.so_alike (Of K V) (more K V) (replies K V) (asked K V) (So K V) (AnyPairs K V) (λ m v pairs. tt) (so_where K V) name log m v s t nexts calls (λ n j x is y has. keeps n has) was
 
 -- at a moment with other maps, where those that stand are found as they were
-pub nexts_where : {K V : Type 0} (same : K → K → Bool) (hash : ℕ → K → ℕ) (name : ℕ → List ℕ) (log : Past K V) (m v : Moment K V) (s : Scene K V) (e : Held K V) → IsAt same hash e s → ShowsNexts name log m s
-    → ((n : ℕ) (st : Standing K) → s.maps n ≡ Some st → map_at n v ≡ map_at n m) → v.tables ≡ m.tables → v.calls ≡ m.calls → ShowsNexts name log v s
+pub nexts_where : {K V : Type 0} (same : K → K → Bool) (hash : ℕ → K → ℕ) (name : ℕ → List ℕ) (log : Past K V) (m v : Moment K V) (s : Scene K V) (e : Held K V) → IsAt same hash e s → RefinesNexts name log m s
+    → ((n : ℕ) (st : Standing K) → s.maps n ≡ Some st → map_at n v ≡ map_at n m) → v.tables ≡ m.tables → v.calls ≡ m.calls → RefinesNexts name log v s
 nexts_where {K} {V} same hash name log m v s e at nexts still tables calls =
     since.so_where_found (Of K V) (more K V) (replies K V) (asked K V) (So K V) (AnyPairs K V) (λ m v pairs. tt) (so_where K V) same hash name log m v s e at nexts still tt tables calls
 
 -- with a further event of the log
 pub nexts_grow : {K V : Type 0} (name : ℕ → List ℕ) (log : Past K V) (next : Moment K V) (m : Moment K V) (s : Scene K V)
-    → ((map i : ℕ) (u : UnderWay K V K) → s.calls map i ≡ Some u → (c : CallThere K V) → call_of (name i) m ≡ Some c → c.begun ≤ log.entries) → ShowsNexts name log m s → ShowsNexts name (further next log) m s
+    → ((map i : ℕ) (u : UnderWay K V K) → s.calls map i ≡ Some u → (c : CallThere K V) → call_of (name i) m ≡ Some c → c.begun ≤ log.entries) → RefinesNexts name log m s → RefinesNexts name (further next log) m s
 nexts_grow {K} {V} name log next m s begun nexts = since.so_grow (Of K V) (more K V) (replies K V) (asked K V) (So K V) (AnyPairs K V) (λ m v pairs. tt) (so_where K V) name log next m s begun nexts
 
 -- Where a call begins, is told, is asked for its next pair, or is given up.
 
-module _ {K V : Type 0} (same : K → K → Bool) (name : ℕ → List ℕ) (log : Past K V) (m : Moment K V) (s : Scene K V) (nexts : ShowsNexts name log m s) (map i : ℕ) (u : UnderWay K V K) where
+module _ {K V : Type 0} (same : K → K → Bool) (name : ℕ → List ℕ) (log : Past K V) (m : Moment K V) (s : Scene K V) (nexts : RefinesNexts name log m s) (map i : ℕ) (u : UnderWay K V K) where
   pub calls_begin_nexts : (guard : List ℕ) (its : Call K V) (standing : Standing K) → Begins same standing i u → NoneNamed name (name i) s
-      → ShowsNexts name log (with_call (name i) guard its (Some map) m) (scene_with map i u s)
+      → RefinesNexts name log (with_call (name i) guard its (Some map) m) (scene_with map i u s)
   calls_begin_nexts guard its standing begins apart =
       since.calls_begin_so (Of K V) (more K V) (replies K V) (asked K V) (So K V) (AnyPairs K V) (λ m v pairs. tt) (so_where K V) same name log m s nexts map i u guard its (λ Why. none_made (λ (k : NewTable). Why tt) same standing i u begins) apart
 
   module _ (here : s.calls map i ≡ Some u) (shown : IsThere same name m s.calls) (next : UnderWay K V K) where
-    pub calls_take_nexts : (reply : Reply V) (machine_reply : MachineReply V) → machine_of next ≡ (machine_replied (machine_of u) machine_reply).0 → ShowsNexts name log (told (name i) reply m) (scene_with map i next s)
+    pub calls_take_nexts : (reply : Reply V) (machine_reply : MachineReply V) → machine_of next ≡ (machine_replied (machine_of u) machine_reply).0 → RefinesNexts name log (told (name i) reply m) (scene_with map i next s)
     calls_take_nexts reply machine_reply next_is = since.calls_take_so (Of K V) (more K V) (replies K V) (asked K V) (So K V) (AnyPairs K V) (λ m v pairs. tt) (so_where K V) same name log m s nexts map i u here shown next reply machine_reply next_is
 
-    pub walks_go_on_nexts : machine_of next ≡ (machine_asked (machine_of u)).0 → ShowsNexts name log m (scene_with map i next s)
+    pub walks_go_on_nexts : machine_of next ≡ (machine_asked (machine_of u)).0 → RefinesNexts name log m (scene_with map i next s)
     walks_go_on_nexts next_is = since.walks_go_on_so (Of K V) (more K V) (replies K V) (asked K V) (So K V) (AnyPairs K V) (λ m v pairs. tt) (so_where K V) same name log m s nexts map i u here shown next next_is
 
     abbrev at_end : Bool → Scene K V
     at_end q = record s { calls = with_in s.calls map i (unless_stopped q u) }
 
-    pub walks_stop_nexts : (q : Bool) → (q ≡ true → NoneNamed name (name i) (at_end q)) → ShowsNexts name log (given_up (name i) q m) (at_end q)
+    pub walks_stop_nexts : (q : Bool) → (q ≡ true → NoneNamed name (name i) (at_end q)) → RefinesNexts name log (given_up (name i) q m) (at_end q)
     walks_stop_nexts q none = since.walks_stop_so (Of K V) (more K V) (replies K V) (asked K V) (So K V) (AnyPairs K V) (λ m v pairs. tt) (so_where K V) same name log m s nexts map i u here shown next q none
 
 -- Where a call comes to an outcome.
-pub calls_come_to_nexts : {K V : Type 0} (same : K → K → Bool) (name : ℕ → List ℕ) (log : Past K V) (m : Moment K V) (s : Scene K V) → ShowsNexts name log m s → IsThere same name m s.calls → (own : List ℕ) (o : Outcome V) (steps : ℕ)
-    → (ends_call o ≡ true → NoneNamed name own s) → ShowsNexts name log (come_to own o steps m) s
+pub calls_come_to_nexts : {K V : Type 0} (same : K → K → Bool) (name : ℕ → List ℕ) (log : Past K V) (m : Moment K V) (s : Scene K V) → RefinesNexts name log m s → IsThere same name m s.calls → (own : List ℕ) (o : Outcome V) (steps : ℕ)
+    → (ends_call o ≡ true → NoneNamed name own s) → RefinesNexts name log (come_to own o steps m) s
 calls_come_to_nexts {K} {V} same name log m s nexts shown own o steps ended =
     since.calls_come_to_so (Of K V) (more K V) (replies K V) (asked K V) (So K V) (AnyPairs K V) (λ m v pairs. tt) (so_where K V) same name log m s nexts shown own o steps ended
 
@@ -145,7 +145,7 @@ module _ {T A : Type 0} (P : Type 0) (so : P) where
   so_of_each (Do op rest) = λ out. so_of_rest (rest out)
 
 module _ {K V : Type 0} (same : K → K → Bool) (hash : ℕ → K → ℕ) (name : ℕ → List ℕ) (log : Past K V) (m : Moment K V) (known : Known) (s : Scene K V) (old new : Held K V) (at : IsAt same hash old s)
-    (whole : ShowsWhole same name m known s) (map i : ℕ) (u : UnderWay K V K) (here : s.calls map i ≡ Some u) (said : Progress (Node K V)) (leads : StepLeads same hash i said s old new)
+    (whole : RefinesWhole same name m known s) (map i : ℕ) (u : UnderWay K V K) (here : s.calls map i ≡ Some u) (said : Progress (Node K V)) (leads : StepLeads same hash i said s old new)
     (others : OthersHadNext name log i m s) where
   abbrev to : WentTo same hash name m known s old new at whole.all.shown map i u here said leads
   to = went_to same hash name m known s old new at whole.all.shown map i u here said leads
@@ -168,7 +168,7 @@ module _ {K V : Type 0} (same : K → K → Bool) (hash : ℕ → K → ℕ) (na
   pub others_go_on : OthersHadNext name log i v led
   others_go_on = since.others_go_on (Of K V) (more K V) (replies K V) (asked K V) (So K V) (AnyPairs K V) (λ m v pairs. tt) (so_where K V) same hash name log m known s old new at whole map i u here said leads others
 
-  module _ (nexts : ShowsNexts name log m s) (c : CallThere K V) (c_is : call_of (name i) m ≡ Some c) where
+  module _ (nexts : RefinesNexts name log m s) (c : CallThere K V) (c_is : call_of (name i) m ≡ Some c) where
     abbrev Before : NewTable → Type 0
     Before n = MayFollow map c.begun log m
 
@@ -201,12 +201,12 @@ module _ {K V : Type 0} (same : K → K → Bool) (hash : ℕ → K → ℕ) (na
           | inr followed ↦ machine_more NoTable After (λ n nothing. absurd nothing) to.1 (none_by followed.0 followed.1 followed.2)
         ]
 
-    pub nexts_go_on : ShowsNexts name log v led
+    pub nexts_go_on : RefinesNexts name log v led
     nexts_go_on =
         since.so_go_on (Of K V) (more K V) (replies K V) (asked K V) (So K V) (AnyPairs K V) (λ m v pairs. tt) (so_where K V) same hash name log m known s old new at whole map i u here said leads others c c_is (λ x is. own_makes)
 
 -- Where an event of a call begins, others are as the log says.
 pub others_at_first : {K V : Type 0} (name : ℕ → List ℕ) (log : Past K V) (is_past : IsPast log) (i : ℕ) (m : Moment K V) (s : Scene K V) → m.maps ≡ log.now.maps → m.tables ≡ log.now.tables
-    → ((map j : ℕ) (u : UnderWay K V K) → s.calls map j ≡ Some u → (c : CallThere K V) → call_of (name j) m ≡ Some c → c.begun ≤ log.entries) → ShowsNexts name log m s → OthersHadNext name log i m s
+    → ((map j : ℕ) (u : UnderWay K V K) → s.calls map j ≡ Some u → (c : CallThere K V) → call_of (name j) m ≡ Some c → c.begun ≤ log.entries) → RefinesNexts name log m s → OthersHadNext name log i m s
 others_at_first {K} {V} name log is_past i m s maps tables begun nexts =
     since.others_at_first (Of K V) (more K V) (replies K V) (asked K V) (So K V) (AnyPairs K V) (λ m v pairs. tt) (so_where K V) name log is_past i m s tt maps tables begun nexts

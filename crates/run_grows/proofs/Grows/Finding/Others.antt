@@ -23,16 +23,16 @@ use Rattle.run_executor.specs.Given.FinishesMaps.{IsSameMap}
 use Rattle.run_executor.specs.Given.OthersEndings.{ending_after}
 use Rattle.run_executor.specs.Given.OthersMakings.{WasNew, making_after}
 use Rattle.run_executor.specs.Given.OthersRows.{scene_then}
-use Rattle.run_executor.specs.Given.MomentsWhole.{ShowsWhole}
+use Rattle.run_executor.specs.Given.MomentsWhole.{RefinesWhole}
 use Rattle.run_executor.proofs.Given.MomentsEnds.{end_beside}
 use Rattle.run_executor.proofs.Given.MomentsMakingSteps.{makings_go_beside}
 use Rattle.run_executor.proofs.Given.MomentsOnSlots.{row_beside, rows_begin_beside}
-use Rattle.run_sweeps.specs.Given.FindsLinking.{IsMadeFor}
-use Rattle.run_sweeps.specs.Given.FindsWithin.{many_of}
-use Rattle.run_sweeps.proofs.Given.FindsCapacities.{capacities_stay, effects_keep_capacities, makings_keep_capacities, same_maps_stood}
-use Rattle.run_sweeps.proofs.Given.FindsGrows.Steps.{tables_have_been}
+use Rattle.run_finds.specs.Linking.{IsMadeFor}
+use Rattle.run_finds.specs.Within.{many_of}
+use Rattle.run_finds.proofs.Capacities.{capacities_stay, effects_keep_capacities, makings_keep_capacities, same_maps_stood}
+use Rattle.run_finds.proofs.Grows.Steps.{tables_have_been}
 use Rattle.run_grows.proofs.Grows.Finding.Making.Lengths.{effects_keep_lengths}
-use Rattle.run_grows.specs.Grows.Finding.{ShowsFinding}
+use Rattle.run_grows.specs.Grows.Finding.{RefinesFinding}
 use Rattle.run_grows.proofs.Grows.Finding.Alike.{stood_as}
 use Rattle.run_grows.proofs.Grows.Finding.Aside.{endings_leave_spots, makings_leave_spots, rows_leave_spots}
 use Rattle.run_grows.proofs.Grows.Finding.Beside.{finding_beside}
@@ -69,21 +69,21 @@ module _ {K V : Type 0} (same : K → K → Bool) (hash : ℕ → K → ℕ) (s 
 
 module _ (K V : Type 0) (same : K → K → Bool) (hash : ℕ → K → ℕ) (name : ℕ → List ℕ) (m : Moment K V) (known : Known) (s : Scene K V) (old new : Held K V) where
   -- a row begins on a slot
-  pub rows_begin_finding : ShowsFinding name m known s → (called : SlotCall) (i : ℕ) (leads : RowBegins same hash called i s old new)
-      → ShowsWhole same name m known (scene_then same hash (Begin i (request_of (slot_of i) called)) s old new leads.2)
-      → ShowsFinding name m known (scene_then same hash (Begin i (request_of (slot_of i) called)) s old new leads.2)
+  pub rows_begin_finding : RefinesFinding name m known s → (called : SlotCall) (i : ℕ) (leads : RowBegins same hash called i s old new)
+      → RefinesWhole same name m known (scene_then same hash (Begin i (request_of (slot_of i) called)) s old new leads.2)
+      → RefinesFinding name m known (scene_then same hash (Begin i (request_of (slot_of i) called)) s old new leads.2)
   rows_begin_finding finding called i leads whole2 =
       let to = leads.2 in
       let t = scene_then same hash (Begin i (request_of (slot_of i) called)) s old new to in
       finding_beside same hash name m m known known s t new to.4 whole2 (rows_begin_beside K V same hash m known s old new called i leads) finding refl (λ of. itself (many_of of m)) (λ map t n is. is)
       (capacities_stay K V m m s t finding.capacities (λ n st is. refl) (same_maps_stood K V s t to.3))
 
-  module _ (at : IsAt same hash old s) (whole : ShowsWhole same name m known s) (finding : ShowsFinding name m known s) where
+  module _ (at : IsAt same hash old s) (whole : RefinesWhole same name m known s) (finding : RefinesFinding name m known s) where
     -- a step of one
     pub rows_keep_finding : (i : ℕ) (said : RowTold (Node K V)) (leads : RowLeads same hash i said s old new) (row : SlotRow) (here : IsOnSlot s i row)
         → (let v = with_effects None None (effects_of acts.Row known new.changed) m in
         let t = scene_then same hash (Step i) s old new (leads row here).2 in
-        ShowsWhole same name v (known_after acts.Row new.changed known) t → ShowsFinding name v (known_after acts.Row new.changed known) t)
+        RefinesWhole same name v (known_after acts.Row new.changed known) t → RefinesFinding name v (known_after acts.Row new.changed known) t)
     rows_keep_finding i said leads row here whole2 =
         let to = leads row here in
         let effects = effects_of acts.Row known new.changed in
@@ -97,7 +97,7 @@ module _ (K V : Type 0) (same : K → K → Bool) (hash : ℕ → K → ℕ) (na
     pub makings_keep_finding : (i : ℕ) (said : Making Setting) (leads : MakingLeads same hash i said s old new) (b : Beginning K) (here : s.makers i ≡ Some b) → WasNew b.map said m → IsMadeFor b.map m b.given
         → (let v = with_effects None (Some b.map) (effects_of (acts.Making b.map) known new.changed) m in
         let t = making_after same hash s old new i b (leads b here).0 (leads b here).2.step.w2 said (leads b here).3 in
-        IsAt same hash new t → ShowsWhole same name v (known_after (acts.Making b.map) new.changed known) t → ShowsFinding name v (known_after (acts.Making b.map) new.changed known) t)
+        IsAt same hash new t → RefinesWhole same name v (known_after (acts.Making b.map) new.changed known) t → RefinesFinding name v (known_after (acts.Making b.map) new.changed known) t)
     makings_keep_finding i said leads b here was_new made_for at2 whole2 =
         let effects = effects_of (acts.Making b.map) known new.changed in
         let v = with_effects None (Some b.map) effects m in
@@ -112,7 +112,7 @@ module _ (K V : Type 0) (same : K → K → Bool) (hash : ℕ → K → ℕ) (na
       pub endings_keep_finding : (said : Settled (Node K V)) (leads : EndingLeads same hash i said s old new) (map : ℕ) → s.maps map ≡ None
           → (let v = with_effects None (Some map) (effects_of (acts.Ending map) known new.changed) m in
           let t = ending_after same hash s new i f (leads f here).0 (leads f here).2.w2 (leads f here).2.deed said (leads f here).3 in
-          IsAt same hash new t → ShowsWhole same name v (known_after (acts.Ending map) new.changed known) t → ShowsFinding name v (known_after (acts.Ending map) new.changed known) t)
+          IsAt same hash new t → RefinesWhole same name v (known_after (acts.Ending map) new.changed known) t → RefinesFinding name v (known_after (acts.Ending map) new.changed known) t)
       endings_keep_finding said leads map not_there at2 whole2 =
           let to = leads f here in
           let effects = effects_of (acts.Ending map) known new.changed in
@@ -124,8 +124,8 @@ module _ (K V : Type 0) (same : K → K → Bool) (hash : ℕ → K → ℕ) (na
 
 -- where no call is under way, and maps stand as they stood
 module _ (K V : Type 0) (name : ℕ → List ℕ) (m : Moment K V) (known known2 : Known) (s t : Scene K V) where
-  pub finding_of_none : ((map i : ℕ) (u : UnderWay K V K) → t.calls map i ≡ Some u → ⊥) → (effects : List Effect) → ((n : ℕ) → IsSameMap (s.maps n) (t.maps n)) → ShowsFinding name m known s
-      → ShowsFinding name (with_effects None None effects m) known2 t
+  pub finding_of_none : ((map i : ℕ) (u : UnderWay K V K) → t.calls map i ≡ Some u → ⊥) → (effects : List Effect) → ((n : ℕ) → IsSameMap (s.maps n) (t.maps n)) → RefinesFinding name m known s
+      → RefinesFinding name (with_effects None None effects m) known2 t
   finding_of_none none effects maps finding = record {
     growing = λ map i u is. absurd (none map i (OnKey u) is);
     further = λ map i u is. absurd (none map i u is);

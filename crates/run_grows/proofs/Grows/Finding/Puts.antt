@@ -14,10 +14,10 @@ use Rattle.run_executor.proofs.Given.SeizeRuleRows.Known.{FitsDefer, FitsRow, On
 use Rattle.run_executor.proofs.Given.SeizeMemoryWords.View.{list_in, view}
 use Rattle.papaya_raw.specs.Given.TablesNodes.{deferred_word}
 use Rattle.papaya_raw.specs.Given.TablesDeclared.node.Node.{Node}
-use Rattle.run_logged.specs.Given.ResizeDeclared.dispose.Disposing.{Disposing}
-use Rattle.run_logged.specs.Given.ResizeDeclared.dispose.Disposing.TheVariants as disposing
-use Rattle.run_logged.specs.Given.ResizeDeclared.copier.Copying.{Copying}
-use Rattle.run_logged.specs.Given.ResizeDeclared.copier.Copying.TheVariants as copying
+use Rattle.run_finds.specs.Given.ResizeDeclared.dispose.Disposing.{Disposing}
+use Rattle.run_finds.specs.Given.ResizeDeclared.dispose.Disposing.TheVariants as disposing
+use Rattle.run_finds.specs.Given.ResizeDeclared.copier.Copying.{Copying}
+use Rattle.run_finds.specs.Given.ResizeDeclared.copier.Copying.TheVariants as copying
 use Rattle.papaya_raw.specs.Given.ReservesDeclared.sweep.Sweeping.{Sweeping}
 use Rattle.papaya_raw.specs.Given.ReservesDeclared.sweep.Sweeping.TheVariants as sweeping
 use Rattle.papaya_raw.specs.declared.machines.call.Calling.{Calling}
@@ -33,15 +33,15 @@ use Rattle.run_executor.specs.Given.EffectsKnown.{Known}
 use Rattle.run_executor.specs.Given.FinishesMachines.{machine_of}
 use Rattle.run_executor.specs.Given.FinishesMaps.{Standing}
 use Rattle.run_executor.proofs.Given.FollowsOnward.{IsOfMap}
-use Rattle.run_executor.specs.Given.MomentsWhole.{ShowsWhole}
-use Rattle.run_logged.specs.Given.SettlesDue.{ToPut, due_in_calling, due_in_copying, due_in_defer, due_in_disposing, due_in_row, due_in_sweeping}
-use Rattle.run_sweeps.specs.Given.FindsPuts.{IsBehindNext, ShowsPuts}
-use Rattle.run_sweeps.specs.Given.FindsWaits.{waits_in, waits_in_calling, waits_in_sweeping}
-use Rattle.run_sweeps.proofs.Given.FindsWaits.Behind.{IsBehind, key_behind, room_never, sweep_behind}
+use Rattle.run_executor.specs.Given.MomentsWhole.{RefinesWhole}
+use Rattle.run_finds.specs.Given.SettlesDue.{ToPut, due_in_calling, due_in_copying, due_in_defer, due_in_disposing, due_in_row, due_in_sweeping}
+use Rattle.run_finds.specs.Puts.{IsDeferredOnTheLast, RefinesPuts}
+use Rattle.run_finds.specs.Waits.{waits_in, waits_in_calling, waits_in_sweeping}
+use Rattle.run_grows.proofs.Waits.Behind.{IsBehind, key_behind, room_never, sweep_behind}
 use Rattle.run_executor.proofs.Given.ScenesMay.{standing_is}
 use Rattle.run_executor.specs.Given.ScenesHeld.{Held, IsAt}
 use Rattle.run_executor.specs.Given.ScenesScene.{Scene, slot_of}
-use Rattle.run_logged.proofs.Given.SettlesHand.Behind.{settle_puts as never_put}
+use Rattle.run_finds.proofs.Given.SettlesHand.Behind.{settle_puts as never_put}
 
 -- what has a list is there
 listed : {K V : Type 0} (o : Option (Node K V)) (d : ℕ) → list_in deferred_word o ≡ Some d → IsSome o
@@ -91,14 +91,14 @@ module _ {K V : Type 0} {size : ℕ} (w : World (Node K V)) (r : Reached deferre
   sweep_there slot _ row due = absurd (cc due)
 
 module _ {K V : Type 0} (same : K → K → Bool) (hash : ℕ → K → ℕ) (name : ℕ → List ℕ) (v : Moment K V) (known known2 : Known) (s t : Scene K V) (e : Held K V) (at : IsAt same hash e t)
-    (whole : ShowsWhole same name v known2 t) (calls : t.calls ≡ s.calls) (roles : (b : ℕ) → IsSome (value_at t.world.memory b) → IsOfMap (known.roles b) → known2.roles b ≡ known.roles b)
-    (puts : ShowsPuts known s) where
+    (whole : RefinesWhole same name v known2 t) (calls : t.calls ≡ s.calls) (roles : (b : ℕ) → IsSome (value_at t.world.memory b) → IsOfMap (known.roles b) → known2.roles b ≡ known.roles b)
+    (puts : RefinesPuts known s) where
   reached : Reached deferred_word e.batch_size t.world
   reached = came_reached e.batch_size t.world at.together.makings.standing.came
 
   -- of one call: in its row it is to put its pair where it was
   module _ (map i : ℕ) (u : UnderWay K V K) (here : t.calls map i ≡ Some u) (word : ℕ) (place : At) (due : due_in_row (machine_of u) ≡ Some (ToPut word place)) where
-    kept : ((b : ℕ) → IsWordOf b place → IsSome (value_at t.world.memory b)) → IsBehindNext known2 map place (waits_in (machine_of u))
+    kept : ((b : ℕ) → IsWordOf b place → IsSome (value_at t.world.memory b)) → IsDeferredOnTheLast known2 map place (waits_in (machine_of u))
     kept there =
         let was = puts map i u (ap (λ (f : ℕ → ℕ → Option (UnderWay K V K)). f map i) (sym calls) ∙ here) word place due in
         (was.0, was.1, was.2, was.3, was.4, roles was.0 (there was.0 was.3) (subst IsOfMap (sym was.5) tt) ∙ was.5)
@@ -116,21 +116,21 @@ module _ {K V : Type 0} (same : K → K → Bool) (hash : ℕ → K → ℕ) (na
     each = at.together.makings.standing.each map st its_map.1
 
     -- before its row it knows the table
-    as_next : IsInside (t.world.uses (slot_of i)) → (waits : Option ℕ) → IsBehind word place t.world st.chart seen waits → IsBehindNext known2 map place waits
+    as_next : IsInside (t.world.uses (slot_of i)) → (waits : Option ℕ) → IsBehind word place t.world st.chart seen waits → IsDeferredOnTheLast known2 map place waits
     as_next inside waits (k, made, seen_there, its, goes_by) =
         let sight = (each.ground.sight (slot_of i) inside).0 in
         (st.blocks.table k, k, st.chart.len k, its, goes_by, (whole.all.shown.maps map st its_map.1).tables.roles k made (sight.tables k made seen_there))
 
-  of_kind : (map i : ℕ) (u : UnderWay K V K) → t.calls map i ≡ Some u → (word : ℕ) (place : At) → due_in_row (machine_of u) ≡ Some (ToPut word place) → IsBehindNext known2 map place (waits_in (machine_of u))
+  of_kind : (map i : ℕ) (u : UnderWay K V K) → t.calls map i ≡ Some u → (word : ℕ) (place : At) → due_in_row (machine_of u) ≡ Some (ToPut word place) → IsDeferredOnTheLast known2 map place (waits_in (machine_of u))
   of_kind map i (OnKey x) here word place due =
-      elim ((each map i (OnKey x) here word place due).stand i (OnKey x) here) as (λ _. IsBehindNext known2 map place (waits_in_calling x.call x.call.stands)) [
+      elim ((each map i (OnKey x) here word place due).stand i (OnKey x) here) as (λ _. IsDeferredOnTheLast known2 map place (waits_in_calling x.call x.call.stands)) [
         | inl k ↦ as_next map i (OnKey x) here word place due ((each map i (OnKey x) here word place due).inside i (OnKey x) here) (waits_in_calling x.call x.call.stands)
             (key_behind word place t.world (st map i (OnKey x) here word place due).chart (seen map i (OnKey x) here word place due) same (st map i (OnKey x) here word place due).hash
             (st map i (OnKey x) here word place due).setting slot_of i k.0 x ((each map i (OnKey x) here word place due).stand i (OnKey x) here) x.call.stands refl due)
         | inr k ↦ kept map i (OnKey x) here word place due (λ b its. call_there t.world reached i word place b its (slot_of i) x.call.stands k.0 due)
       ]
   of_kind map i (OverAll o) here word place due =
-      elim ((each map i (OverAll o) here word place due).stand i (OverAll o) here) as (λ _. IsBehindNext known2 map place (waits_in_sweeping o.sweep o.sweep.stands)) [
+      elim ((each map i (OverAll o) here word place due).stand i (OverAll o) here) as (λ _. IsDeferredOnTheLast known2 map place (waits_in_sweeping o.sweep o.sweep.stands)) [
         | inl k ↦ as_next map i (OverAll o) here word place due ((each map i (OverAll o) here word place due).inside i (OverAll o) here) (waits_in_sweeping o.sweep o.sweep.stands)
             (sweep_behind word place t.world (st map i (OverAll o) here word place due).chart (seen map i (OverAll o) here word place due) same (st map i (OverAll o) here word place due).hash
             (st map i (OverAll o) here word place due).setting slot_of i k.0 o ((each map i (OverAll o) here word place due).stand i (OverAll o) here) o.sweep.stands refl due)
@@ -139,5 +139,5 @@ module _ {K V : Type 0} (same : K → K → Bool) (hash : ℕ → K → ℕ) (na
   of_kind map i (ForRoom r) here word place due = absurd (room_never word place r.reserve.stands due)
   of_kind map i (Counting sum) here word place due = absurd (cc due)
 
-  pub puts_beside : ShowsPuts known2 t
+  pub puts_beside : RefinesPuts known2 t
   puts_beside = of_kind

@@ -2,9 +2,9 @@
 use Rattle.std.specs.Prelude.{◌≡◌, ℕ, ◌+◌, Bool, List, ◌∷◌, Some, None}
 use Rattle.std.proofs.Common.{refl, inl, inr}
 use Rattle.papaya_raw.specs.Given.TablesDeclared.node.Node.{Node}
-use Rattle.run_logged.specs.Given.ResizeSum.{sum_plan}
-use Rattle.run_logged.specs.Given.ResizeDeclared.new_table.NewTable.{NewTable}
-use Rattle.run_logged.specs.Given.ResizeDeclared.sum.Sum.{Sum}
+use Rattle.run_finds.specs.Given.ResizeSum.{sum_plan}
+use Rattle.run_finds.specs.Given.ResizeDeclared.new_table.NewTable.{NewTable}
+use Rattle.run_finds.specs.Given.ResizeDeclared.sum.Sum.{Sum}
 use Rattle.papaya_raw.specs.Machine.{counted as of_sum}
 use Rattle.papaya_raw.specs.declared.machines.progress.Progress.{Progress}
 use Rattle.run_schedules.specs.declared.effect.Effect.{Effect}
@@ -18,27 +18,27 @@ use Rattle.run_executor.specs.Given.EffectsEffects.{effects_of}
 use Rattle.run_executor.specs.Given.EffectsKnown.{Known}
 use Rattle.run_executor.specs.Given.EffectsDeclared.acting.Acting.TheVariants as acts
 use Rattle.run_executor.specs.Given.FinishesMachines.{machine_of}
-use Rattle.run_executor.specs.Given.MomentsWhole.{ShowsWhole}
+use Rattle.run_executor.specs.Given.MomentsWhole.{RefinesWhole}
 use Rattle.run_executor.proofs.Given.OthersOutcomes.{told_in}
-use Rattle.run_logged.specs.Given.OwesTables.{ShowsTables}
-use Rattle.run_logged.proofs.Given.OwesWalks.{sum_at}
-use Rattle.run_logged.specs.Given.SettlesDue.{OwnAreMade}
-use Rattle.run_logged.proofs.Given.KeptCalls.{own_made}
-use Rattle.run_sweeps.specs.Given.FindsGrowing.{FindAsked}
-use Rattle.run_sweeps.specs.Given.FindsLinking.{FindShapes, FoundFull}
-use Rattle.run_sweeps.specs.Given.FindsWithin.{many_of}
+use Rattle.run_kept.specs.Given.OwesTables.{RefinesOwnTables}
+use Rattle.run_kept.proofs.Given.OwesWalks.{sum_at}
+use Rattle.run_finds.specs.Given.SettlesDue.{OwnAreMade}
+use Rattle.run_kept.proofs.Kept.Calls.{own_made}
+use Rattle.run_finds.specs.Growing.{FindAsked}
+use Rattle.run_finds.specs.Linking.{FindShapes, FoundFull}
+use Rattle.run_finds.specs.Within.{many_of}
 use Rattle.run_grows.specs.Grows.Copiers.{MakesByCopier, making_of_copier}
 use Rattle.run_grows.proofs.Grows.CopiersAsk.{copiers_may_ask}
-use Rattle.run_sweeps.proofs.Given.FindsGrows.Asked.{Asks, made_of, may_ask}
-use Rattle.run_sweeps.proofs.Given.FindsGrows.Steps.{key_calls_may_ask}
-use Rattle.run_sweeps.proofs.Given.FindsLinking.{key_calls_link}
-use Rattle.run_sweeps.proofs.Given.FindsRest.{rest_is_all}
-use Rattle.run_sweeps.proofs.Given.FindsWaits.Handed.{calls_hand_past, past_is_handed}
-use Rattle.run_sweeps.proofs.Given.FindsWaits.Next.{calls_put_behind}
-use Rattle.run_sweeps.specs.Given.FindsWaits.{FindPast, FindBehind}
-use Rattle.run_sweeps.proofs.Sources.Space.{calls_find_space}
-use Rattle.run_sweeps.specs.Purposes.Purposes.{ShowsPurposes}
-use Rattle.run_grows.specs.Grows.Finding.{ShowsFinding}
+use Rattle.run_finds.proofs.Grows.Asked.{Asks, made_of, may_ask}
+use Rattle.run_finds.proofs.Grows.Steps.{key_calls_may_ask}
+use Rattle.run_finds.proofs.Linking.{key_calls_link}
+use Rattle.run_finds.proofs.Rest.{rest_is_all}
+use Rattle.run_grows.proofs.Waits.Handed.{calls_hand_past, past_is_handed}
+use Rattle.run_grows.proofs.Waits.Next.{calls_put_behind}
+use Rattle.run_finds.specs.Waits.{FindPast, FindDeferrals}
+use Rattle.run_grows.proofs.Sources.Space.{calls_find_space}
+use Rattle.run_finds.specs.Purposes.Purposes.{RefinesPurposes}
+use Rattle.run_grows.specs.Grows.Finding.{RefinesFinding}
 use Rattle.run_grows.specs.Grows.Rests.{StepsFindRest}
 use Rattle.run_grows.proofs.Grows.Finding.Links.{copier_links, none_links}
 use Rattle.run_grows.proofs.Grows.Finding.Rooms.{room_asks, room_links}
@@ -46,10 +46,10 @@ use Rattle.run_executor.specs.Given.ScenesHeld.{Held, IsAt}
 use Rattle.run_executor.specs.Given.ScenesScene.{Scene}
 use Rattle.run_executor.specs.Given.ScenesStepping.{StepLeads}
 use Rattle.run_schedules.specs.Schedules.Transition.{Past}
-use Rattle.run_logged.proofs.Given.SettlesHand.All.{copies_or_not as copies_or}
+use Rattle.run_finds.proofs.Given.SettlesHand.All.{copies_or_not as copies_or}
 
 module _ {K V : Type 0} (same : K → K → Bool) (hash : ℕ → K → ℕ) (name : ℕ → List ℕ) (m : Moment K V) (known : Known) (s : Scene K V) (old new : Held K V) (at : IsAt same hash old s)
-    (whole : ShowsWhole same name m known s) (finding : ShowsFinding name m known s) (map i : ℕ) (said : Progress (Node K V)) (leads : StepLeads same hash i said s old new)
+    (whole : RefinesWhole same name m known s) (finding : RefinesFinding name m known s) (map i : ℕ) (said : Progress (Node K V)) (leads : StepLeads same hash i said s old new)
     (terms : Terms) (moments : List (Moment K V)) (c : CallThere K V) (c_is : call_of (name i) m ≡ Some c) where
   abbrev Asked : Type 0
   Asked = FindAsked terms moments (name i) map (effects_of (acts.Call i map) known new.changed) m
@@ -70,7 +70,7 @@ module _ {K V : Type 0} (same : K → K → Bool) (hash : ℕ → K → ℕ) (na
 
 -- which table a call links, and that it may ask for each block
 module _ {K V : Type 0} (same : K → K → Bool) (hash : ℕ → K → ℕ) (name : ℕ → List ℕ) (log : Past K V) (m : Moment K V) (known : Known) (s : Scene K V) (old new : Held K V) (at : IsAt same hash old s)
-    (whole : ShowsWhole same name m known s) (tables : ShowsTables name m known s) (finding : ShowsFinding name m known s) (purposes : ShowsPurposes same name log m known s) (map i : ℕ) (said : Progress (Node K V))
+    (whole : RefinesWhole same name m known s) (tables : RefinesOwnTables name m known s) (finding : RefinesFinding name m known s) (purposes : RefinesPurposes same name log m known s) (map i : ℕ) (said : Progress (Node K V))
     (leads : StepLeads same hash i said s old new) (terms : Terms) (c : CallThere K V) (c_is : call_of (name i) m ≡ Some c) where
   abbrev since : List (Moment K V)
   since = log.since c.begun
@@ -125,5 +125,5 @@ steps_find_rest K V same hash name log m known s old new at whole kept finding s
     found_past : FindPast (name i) map effects m
     found_past = calls_hand_past K V same hash name m known s old new at whole kept.entries owning kept.owed finding.waits map i u here said leads
 
-    behind_it : FindBehind (name i) map effects m
+    behind_it : FindDeferrals (name i) map effects m
     behind_it = calls_put_behind K V same hash name m known s old new at whole kept.entries owning kept.owed finding.waits finding.puts map i u here said leads

@@ -12,12 +12,12 @@ use Rattle.papaya_raw.specs.Given.TablesDeclared.lengths.Reason.TheVariants.{Res
 use Rattle.papaya_raw.specs.Given.TablesDeclared.node.Node.{Node}
 use Rattle.papaya_raw.specs.Given.TablesDeclared.setting.Setting.{Setting}
 use Rattle.papaya_raw.specs.Given.TablesDeclared.table.Table.{Table as Planned}
-use Rattle.run_logged.specs.Given.ResizeNewTable.{new_table_plan, plan_at as making_at}
-use Rattle.run_logged.specs.Given.ResizeDeclared.copier.Copier.{Copier}
-use Rattle.run_logged.specs.Given.ResizeDeclared.new_table.Making.{Making}
-use Rattle.run_logged.specs.Given.ResizeDeclared.new_table.Making.TheVariants as makes
-use Rattle.run_logged.specs.Given.ResizeDeclared.new_table.NewTable.{NewTable}
-use Rattle.run_logged.specs.Given.ResizeDeclared.yielding.Yielding.{Yielding}
+use Rattle.run_finds.specs.Given.ResizeNewTable.{new_table_plan, plan_at as making_at}
+use Rattle.run_finds.specs.Given.ResizeDeclared.copier.Copier.{Copier}
+use Rattle.run_finds.specs.Given.ResizeDeclared.new_table.Making.{Making}
+use Rattle.run_finds.specs.Given.ResizeDeclared.new_table.Making.TheVariants as makes
+use Rattle.run_finds.specs.Given.ResizeDeclared.new_table.NewTable.{NewTable}
+use Rattle.run_finds.specs.Given.ResizeDeclared.yielding.Yielding.{Yielding}
 use Rattle.papaya_raw.specs.Given.ReservesReserve.{made, plan_at, reserve_plan}
 use Rattle.papaya_raw.specs.Given.ReservesDeclared.reserve.Reserve.{Reserve}
 use Rattle.papaya_raw.specs.Given.ReservesDeclared.reserve.Reserving.{Reserving}
@@ -35,7 +35,7 @@ use Rattle.run_schedules.specs.Schedules.Lists.{OneOf}
 use Rattle.run_schedules.specs.Schedules.Moment.{Moment, TableThere, UnderWay as CallThere}
 use Rattle.run_schedules.specs.Schedules.Terms.{Terms, shards_of}
 use Rattle.run_schedules.specs.Schedules.Views.{call_of, capacity_or, last_of, map_at, tables_of}
-use Rattle.run_executor.specs.Given.TellerTells.{StepsTold}
+use Rattle.run_executor.specs.Given.TellerTells.{StepsObserved}
 use Rattle.run_executor.specs.Given.EffectsDeclared.changed.Changed.{Changed}
 use Rattle.run_executor.specs.Given.EffectsDeclared.changed.Changed.TheVariants.{Nothing}
 use Rattle.run_executor.proofs.Given.OthersOutcomes.{told_in}
@@ -51,26 +51,26 @@ use Rattle.run_executor.specs.Given.EffectsDeclared.acting.Acting.TheVariants as
 use Rattle.run_executor.specs.Given.FinishesMachines.{machine_of}
 use Rattle.run_executor.specs.Given.FinishesMaps.{Standing}
 use Rattle.run_executor.specs.Given.FollowsFinds.{FindsMap}
-use Rattle.run_executor.specs.Given.MomentsWhole.{ShowsWhole}
-use Rattle.run_logged.specs.Given.OwesMaking.{making_in_reserving, making_of}
-use Rattle.run_logged.specs.Given.OwesTables.{ShowsTables, of_map, table_in, table_made}
-use Rattle.run_logged.proofs.Given.OwesTables.Held.{shape_of, some_making}
-use Rattle.run_sweeps.specs.Given.FindsGrowing.{FindAsked}
-use Rattle.run_sweeps.specs.Given.FindsLinking.{FindShapes, IsMadeFor}
+use Rattle.run_executor.specs.Given.MomentsWhole.{RefinesWhole}
+use Rattle.run_kept.specs.Given.OwesMaking.{making_in_reserving, making_of}
+use Rattle.run_kept.specs.Given.OwesTables.{RefinesOwnTables, of_map, table_in, table_made}
+use Rattle.run_kept.proofs.Given.OwesTables.Held.{shape_of, some_making}
+use Rattle.run_finds.specs.Growing.{FindAsked}
+use Rattle.run_finds.specs.Linking.{FindShapes, IsMadeFor}
 use Rattle.run_grows.specs.Grows.Copiers.{copier_in_reserving, making_of_copier}
-use Rattle.run_sweeps.specs.Given.FindsReserving.{MakesFirst}
-use Rattle.run_sweeps.specs.Given.FindsShaping.{ShapedAt}
-use Rattle.run_sweeps.specs.Given.FindsWithin.{many_of}
-use Rattle.run_sweeps.proofs.Given.FindsGrows.Asked.{Asks, asks_some, may_ask}
-use Rattle.run_sweeps.proofs.Given.FindsLinking.{made_so, one_shaped}
-use Rattle.run_sweeps.proofs.Given.FindsReserving.{rooms_may_ask}
-use Rattle.run_sweeps.proofs.Given.FindsSteps.{steps_find_places}
-use Rattle.run_sweeps.specs.Purposes.Needs.{IsFirstFor, IsLaterFor, NeedsAt}
-use Rattle.run_sweeps.specs.Purposes.Purposes.{HasMet, IsFor, RoomAt, ShowsPurposes}
-use Rattle.run_sweeps.proofs.Purposes.Needs.{needs_wider}
-use Rattle.run_sweeps.proofs.Purposes.Sums.{counts_wider}
-use Rattle.run_sweeps.proofs.Purposes.RoomFacts.{Point, StandsSo, room_point, room_setting}
-use Rattle.run_grows.specs.Grows.Further.{IsFurther, RoomMakes, ShowsFurther, at_turn, lengths_in, lengths_of}
+use Rattle.run_finds.specs.Reserving.{MakesFirst}
+use Rattle.run_finds.specs.Shaping.{ShapedAt}
+use Rattle.run_finds.specs.Within.{many_of}
+use Rattle.run_finds.proofs.Grows.Asked.{Asks, asks_some, may_ask}
+use Rattle.run_finds.proofs.Linking.{made_so, one_shaped}
+use Rattle.run_finds.proofs.Reserving.{rooms_may_ask}
+use Rattle.run_finds.proofs.Steps.{steps_find_places}
+use Rattle.run_finds.specs.Purposes.Needs.{IsFirstFor, IsLaterFor, NeedsAt}
+use Rattle.run_finds.specs.Purposes.Purposes.{HasMet, IsFor, RoomAt, RefinesPurposes}
+use Rattle.run_finds.proofs.Purposes.Needs.{needs_wider}
+use Rattle.run_finds.proofs.Purposes.Sums.{counts_wider}
+use Rattle.run_finds.proofs.Purposes.RoomFacts.{Point, StandsSo, room_point, room_setting}
+use Rattle.run_grows.specs.Grows.Further.{IsFurther, RoomMakes, RefinesFurther, at_turn, lengths_in, lengths_of}
 use Rattle.run_grows.proofs.Grows.Finding.Links.{linked, links_by, such_of_copier}
 use Rattle.run_grows.proofs.Grows.Finding.Making.Lengths.{table_length}
 use Rattle.run_executor.specs.Given.ScenesHeld.{Held, IsAt}
@@ -115,7 +115,7 @@ few_of pairs len has = ap is_too_many (let same : 0 + pairs ≡ pairs = omega ar
     by false is has = absurd has
 
 few_first : {K V : Type 0} (p : Reserve) (n : NewTable) (stands : Making) (mem mem2 : Mem (Node K V)) (told : Changed) (end : NewTable × MakingProgress Planned) → ShapedAt (λ before reason. ⊥) (IsFirstFor p) stands
-    → StepsTold K V (NewTable × MakingProgress Planned) mem Nothing (making_at n stands) mem2 told end → Asks told → is_too_many (0 + p.additional) ≡ false
+    → StepsObserved K V (NewTable × MakingProgress Planned) mem Nothing (making_at n stands) mem2 told end → Asks told → is_too_many (0 + p.additional) ≡ false
 few_first p n (makes.Sums before reason sum) mem mem2 told end is step asks = absurd is
 few_first p n (makes.Makes table) mem mem2 told end is step asks = few_of p.additional table.len is.0
 few_first p n (makes.Promotes table) mem mem2 told end is step asks = few_of p.additional table.len is.0
@@ -125,7 +125,7 @@ few_first p n (makes.Over table) mem mem2 told end is step asks = absurd (asks_s
 few_first p n (makes.Refused fault) mem mem2 told end is step asks = absurd (asks_some told asks step.2)
 
 module _ {K V : Type 0} (same : K → K → Bool) (hash : ℕ → K → ℕ) (name : ℕ → List ℕ) (log : Past K V) (m : Moment K V) (known : Known) (s : Scene K V) (old new : Held K V) (at : IsAt same hash old s)
-    (whole : ShowsWhole same name m known s) (purposes : ShowsPurposes same name log m known s) (map i : ℕ) (r : CallForRoom) (here : s.calls map i ≡ Some (ForRoom r)) (said : Progress (Node K V))
+    (whole : RefinesWhole same name m known s) (purposes : RefinesPurposes same name log m known s) (map i : ℕ) (r : CallForRoom) (here : s.calls map i ≡ Some (ForRoom r)) (said : Progress (Node K V))
     (leads : StepLeads same hash i said s old new) (terms : Terms) (c : CallThere K V) (c_is : call_of (name i) m ≡ Some c) (mask_is : (leads map (ForRoom r) here).0.setting.mask + 1 ≡ shards_of terms) where
   abbrev moments : List (Moment K V)
   moments = log.since c.begun
@@ -167,7 +167,7 @@ module _ {K V : Type 0} (same : K → K → Bool) (hash : ℕ → K → ℕ) (na
     few : Asks new.changed → is_too_many (0 + r.reserve.additional) ≡ false
     few asks =
         let it = told_in old.memory new.memory new.changed of_room (reserve_plan (leads map (ForRoom r) here).0.hash r.reserve) ((leads map (ForRoom r) here).1, said) (leads map (ForRoom r) here).3 in
-        let makes = subst (λ (q : Reserving). StepsTold K V (Reserve × Yielding (Node K V) Unit) old.memory Nothing (plan_at (leads map (ForRoom r) here).0.hash r.reserve q) new.memory new.changed it.0) at_first it.2 in
+        let makes = subst (λ (q : Reserving). StepsObserved K V (Reserve × Yielding (Node K V) Unit) old.memory Nothing (plan_at (leads map (ForRoom r) here).0.hash r.reserve q) new.memory new.changed it.0) at_first it.2 in
         let step = told_in old.memory new.memory new.changed (made r.reserve) (new_table_plan making) it.0 makes in
         few_first r.reserve making making.stands old.memory new.memory new.changed step.0 (subst (NeedsAt map moments r.reserve) at_first has.needs) step.2 asks
 
@@ -212,7 +212,7 @@ module _ {K V : Type 0} (same : K → K → Bool) (hash : ℕ → K → ℕ) (na
   abbrev Shapes : Type 0
   Shapes = FindShapes terms moments (name i) map effects m
 
-  module _ (tables : ShowsTables name m known s) (further : ShowsFurther m s) (made_for : IsMadeFor map m (leads map (ForRoom r) here).0.setting)
+  module _ (tables : RefinesOwnTables name m known s) (further : RefinesFurther m s) (made_for : IsMadeFor map m (leads map (ForRoom r) here).0.setting)
       (nexts : (n : NewTable) → making_of_copier {K = K} {V = V} {Q = K} (machine_of (ForRoom r)) ≡ Some n → OneOf (HasNext map) (m ∷ moments)) where
     -- what it makes while it copies its copier makes
     copier_makes : (copier : Copier) → r.reserve.stands ≡ reserving.Copies copier → (n : NewTable) → making_of {K = K} {V = V} {Q = K} (machine_of (ForRoom r)) ≡ Some n

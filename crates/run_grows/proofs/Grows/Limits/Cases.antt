@@ -11,7 +11,7 @@ use Rattle.papaya_raw.specs.Given.TablesLengths.{places_for}
 use Rattle.papaya_raw.specs.Given.TablesPowers.{next_power}
 use Rattle.papaya_raw.specs.Given.TablesDeclared.node.Node.{Node}
 use Rattle.papaya_raw.specs.Given.TablesDeclared.setting.Setting.{Setting}
-use Rattle.run_logged.specs.Given.ResizeSum.{sum_plan}
+use Rattle.run_finds.specs.Given.ResizeSum.{sum_plan}
 use Rattle.papaya_raw.specs.Given.ReservesReserve.{needed, or_too_long}
 use Rattle.papaya_raw.specs.Given.ReservesDeclared.reserve.Reserving.{Reserving}
 use Rattle.papaya_raw.specs.Given.ReservesDeclared.reserve.Reserving.TheVariants as reserving
@@ -36,14 +36,14 @@ use Rattle.run_executor.specs.Given.EffectsDeclared.acting.Acting.TheVariants as
 use Rattle.papaya_raw.proofs.Given.TablesTableLens.{next-power-most}
 use Rattle.run_executor.proofs.Given.LateKindsKept.Rooms.Making.{above}
 use Rattle.run_executor.specs.Given.FinishesMaps.{Standing}
-use Rattle.run_executor.specs.Given.MomentsWhole.{ShowsWhole}
-use Rattle.run_sweeps.specs.Given.FindsCapacities.{ShowsCapacities}
-use Rattle.run_sweeps.proofs.Given.FindsReserving.{adds_after}
-use Rattle.run_sweeps.specs.Purposes.Purposes.{ShowsPurposes}
-use Rattle.run_sweeps.specs.Purposes.Shards.{ReadsShards}
-use Rattle.run_sweeps.proofs.Purposes.RoomFacts.{room_setting}
-use Rattle.run_sweeps.proofs.Purposes.RoomSteps.{counts_then}
-use Rattle.run_grows.specs.Grows.Limits.{HasLimit, IsAtLimit, NeedsMore, ShowsLimits}
+use Rattle.run_executor.specs.Given.MomentsWhole.{RefinesWhole}
+use Rattle.run_finds.specs.Capacities.{RefinesCapacities}
+use Rattle.run_finds.proofs.Reserving.{adds_after}
+use Rattle.run_finds.specs.Purposes.Purposes.{RefinesPurposes}
+use Rattle.run_finds.specs.Purposes.Shards.{ReadsShards}
+use Rattle.run_finds.proofs.Purposes.RoomFacts.{room_setting}
+use Rattle.run_finds.proofs.Purposes.RoomSteps.{counts_then}
+use Rattle.run_grows.specs.Grows.Limits.{HasLimit, IsAtLimit, NeedsMore, RefinesLimits}
 use Rattle.run_grows.proofs.Grows.Finding.Rooms.{its_more}
 use Rattle.run_grows.proofs.Grows.Limits.Steps.{refused_for}
 use Rattle.run_grows.proofs.Grows.Limits.Walk.{SummedAt}
@@ -93,8 +93,8 @@ room_shards {K} {V} same hash s e at map i r here st there n mask_is =
     omega (arith, setting_is, mask_is)
 
 module _ {K V : Type 0} (same : K → K → Bool) (hash : ℕ → K → ℕ) (name : ℕ → List ℕ) (log : Past K V) (m : Moment K V) (known : Known) (s : Scene K V) (old new : Held K V) (at : IsAt same hash old s)
-    (whole : ShowsWhole same name m known s) (map i : ℕ) (said : Progress (Node K V)) (leads : StepLeads same hash i said s old new) (limits : ShowsLimits name log m s) (capacities : ShowsCapacities m s)
-    (purposes : ShowsPurposes same name log m known s) (terms : Terms) (c : CallThere K V) (c_is : call_of (name i) m ≡ Some c) (d : CallThere K V) (d_call : d.call ≡ c.call) (d_map : d.map ≡ map)
+    (whole : RefinesWhole same name m known s) (map i : ℕ) (said : Progress (Node K V)) (leads : StepLeads same hash i said s old new) (limits : RefinesLimits name log m s) (capacities : RefinesCapacities m s)
+    (purposes : RefinesPurposes same name log m known s) (terms : Terms) (c : CallThere K V) (c_is : call_of (name i) m ≡ Some c) (d : CallThere K V) (d_call : d.call ≡ c.call) (d_map : d.map ≡ map)
     (d_begun : d.begun ≡ c.begun) where
   abbrev pub v : Moment K V
   v = with_effects (Some (name i)) (Some map) (effects_of (acts.Call i map) known new.changed) m

@@ -10,7 +10,7 @@ use Rattle.run_schedules.specs.Schedules.Effects.{at_stage, with_effect, with_ef
 use Rattle.run_schedules.specs.Schedules.Moment.{IsReclaimed, IsRetired, IsTaken, MapThere, Moment, Stage, TableThere}
 use Rattle.run_schedules.specs.Schedules.Things.{same_table}
 use Rattle.run_schedules.specs.Schedules.Views.{first_of, first_or, map_at}
-use Rattle.run_sweeps.proofs.Given.FindsGrown.{linked_as}
+use Rattle.run_finds.proofs.Grown.{linked_as}
 use Rattle.run_grows.specs.Grows.Limits.{IsAtLimit}
 use Rattle.run_grows.proofs.Grows.Finding.Making.Unpromoted.{IsNoPromotion, NonePromoted}
 use Rattle.run_grows.proofs.Grows.Limits.Last.{any_ahead, is_longest}

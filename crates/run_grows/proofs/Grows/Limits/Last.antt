@@ -19,10 +19,10 @@ use Rattle.run_schedules.specs.Schedules.Moment.{Moment, Stage, TableThere}
 use Rattle.run_schedules.specs.Schedules.Views.{first_of, tables_of}
 use Rattle.run_executor.specs.Given.EffectsKnown.{Known}
 use Rattle.run_executor.specs.Given.FinishesMaps.{Standing}
-use Rattle.run_executor.specs.Given.FollowsMaps.{ShowsMap, shape_at, table_of, tables_to}
+use Rattle.run_executor.specs.Given.FollowsMaps.{RefinesMap, shape_at, table_of, tables_to}
 use Rattle.papaya_raw.proofs.Given.TablesEnds.{longest}
 use Rattle.run_executor.proofs.Given.FollowsFinds.{first_is}
-use Rattle.run_sweeps.proofs.Given.FindsGrows.There.{last_has_none}
+use Rattle.run_finds.proofs.Grows.There.{last_has_none}
 use Rattle.run_grows.specs.Grows.Limits.{IsAtLimit}
 use Rattle.run_executor.proofs.Given.General.{or_either as or_one}
 
@@ -70,7 +70,7 @@ any_of map c stage q t (suc n) less is = elim (cases_lt t n) as (λ _. list_any 
 ]
 
 -- So a table of the map from its root on that none can follow is shown at the limit.
-pub limit_there : {K V : Type 0} (map : ℕ) (number : ℕ → ℕ) (s : Standing K) (m : Moment K V) (known : Known) → ShowsMap map number s m known → (t : ℕ) → s.chart.first ≤ t → t < s.chart.past → IsTableLen (s.chart.len t)
+pub limit_there : {K V : Type 0} (map : ℕ) (number : ℕ → ℕ) (s : Standing K) (m : Moment K V) (known : Known) → RefinesMap map number s m known → (t : ℕ) → s.chart.first ≤ t → t < s.chart.past → IsTableLen (s.chart.len t)
     → CannotBeFollowed (s.chart.len t) t → IsAtLimit map m
 limit_there {K} map number s m known shown t from made sized none =
     any_filtered (λ (u : TableThere). nat_le (first_of map m) u.table.turn) is_longest (tables_of map m)

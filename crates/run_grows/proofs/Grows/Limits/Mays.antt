@@ -9,11 +9,11 @@ use Rattle.papaya_raw.specs.Given.TablesChunks.{is_incremental}
 use Rattle.papaya_raw.specs.Given.TablesDeclared.node.Node.{Node}
 use Rattle.papaya_raw.specs.Given.TablesDeclared.setting.Setting.{Setting}
 use Rattle.papaya_raw.specs.Given.TablesDeclared.table.Table.{Table}
-use Rattle.run_logged.specs.Given.ResizeSum.{sum_plan}
-use Rattle.run_logged.specs.Given.ResizeDeclared.copier.Copier.{Copier}
-use Rattle.run_logged.specs.Given.ResizeDeclared.copier.Copying.{Copying}
-use Rattle.run_logged.specs.Given.ResizeDeclared.copier.Copying.TheVariants as copying
-use Rattle.run_logged.specs.Given.ResizeDeclared.sum.Sum.{Sum}
+use Rattle.run_finds.specs.Given.ResizeSum.{sum_plan}
+use Rattle.run_finds.specs.Given.ResizeDeclared.copier.Copier.{Copier}
+use Rattle.run_finds.specs.Given.ResizeDeclared.copier.Copying.{Copying}
+use Rattle.run_finds.specs.Given.ResizeDeclared.copier.Copying.TheVariants as copying
+use Rattle.run_finds.specs.Given.ResizeDeclared.sum.Sum.{Sum}
 use Rattle.papaya_raw.specs.Given.ReservesReserve.{needed}
 use Rattle.papaya_raw.specs.Given.ReservesDeclared.reserve.Reserve.{Reserve}
 use Rattle.papaya_raw.specs.Given.ReservesDeclared.reserve.Reserving.{Reserving}
@@ -35,17 +35,17 @@ use Rattle.run_executor.specs.Given.PointsTold.{IsRowOfCall, IsRowOfCopier}
 use Rattle.run_executor.specs.Given.LateEnds.{EndsInCalling, EndsInCopying, EndsInReserving, EndsInSweeping, EndsSo, IsLastWhereNone}
 use Rattle.run_executor.specs.Given.LateFactsReserves.{CopiesWhole, IsEnding, ReservingFacts}
 use Rattle.run_executor.specs.Given.LateFactsSweeps.{SweepingFacts}
-use Rattle.run_executor.specs.Given.LateLateCalls.{LateCalling}
-use Rattle.run_executor.specs.Given.LateLateCopies.{LateCopying}
-use Rattle.run_executor.specs.Given.LateLateReserves.{LateReserving}
+use Rattle.run_executor.specs.Given.LateLateCalls.{SupersededCalling}
+use Rattle.run_executor.specs.Given.LateLateCopies.{SupersededCopying}
+use Rattle.run_executor.specs.Given.LateLateReserves.{SupersededReserving}
 use Rattle.run_executor.specs.Given.LateToldReserves.{IsRowOfReserve}
 use Rattle.run_executor.specs.Given.LateToldSweeps.{IsRowOfSweep}
-use Rattle.run_executor.specs.Given.CallersSights.{IsSight, Sight, seen_by}
+use Rattle.run_executor.specs.Given.CallersSights.{IsVisibility, Visible, seen_by}
 use Rattle.run_executor.specs.Given.CallersTogether.{Counting, ForRoom, OnKey, OverAll, Together, UnderWay, in_slot}
 use Rattle.run_executor.specs.Given.FinishesMachines.{machine_of}
 use Rattle.run_executor.specs.Given.FinishesMaps.{Standing}
-use Rattle.run_sweeps.proofs.Given.FindsGrows.There.{unseen}
-use Rattle.run_grows.specs.Grows.Limits.{IsFor, IsForBehind, NeedsMore}
+use Rattle.run_finds.proofs.Grows.There.{unseen}
+use Rattle.run_grows.specs.Grows.Limits.{IsFor, IsForDeferral, NeedsMore}
 use Rattle.run_grows.proofs.Grows.Limits.Last.{LastIsFor, last_for}
 use Rattle.run_grows.proofs.Grows.Limits.Walk.{MachineMayEnd, SummedAt, SummedIn, ends_for}
 use Rattle.run_executor.specs.Given.ScenesHeld.{Held, IsAt}
@@ -53,21 +53,21 @@ use Rattle.run_executor.specs.Given.ScenesScene.{Scene, slot_of}
 
 -- within a row nothing is found of this kind
 module _ (Why : Type 0) {T : Type 0} (m : Mem T) where
-  copier_row : (x : Copier) (p : Copying) → IsRowOfCopier p → EndsInCopying (IsFor Why) (IsForBehind Why) m x p
+  copier_row : (x : Copier) (p : Copying) → IsRowOfCopier p → EndsInCopying (IsFor Why) (IsForDeferral Why) m x p
   copier_row x (copying.Retires settle rest) row = tt
   copier_row x _ row = absurd row
 
-  call_row : (table : Table) (p : Calling) → IsRowOfCall p → EndsInCalling (IsFor Why) (IsForBehind Why) m table p
+  call_row : (table : Table) (p : Calling) → IsRowOfCall p → EndsInCalling (IsFor Why) (IsForDeferral Why) m table p
   call_row table (calling.Disposes dispose answer) row = tt
   call_row table (calling.Helps copier goal) row = copier_row copier copier.stands row
   call_row table (calling.Copies copier) row = copier_row copier copier.stands row
   call_row table _ row = absurd row
 
-  room_row : (m2 : Mem T) (r : Reserve) (p : Reserving) → IsRowOfReserve p → EndsInReserving (IsFor Why) (IsForBehind Why) m m2 r p
+  room_row : (m2 : Mem T) (r : Reserve) (p : Reserving) → IsRowOfReserve p → EndsInReserving (IsFor Why) (IsForDeferral Why) m m2 r p
   room_row m2 r (reserving.Copies copier) row = copier_row copier copier.stands row
   room_row m2 r _ row = absurd row
 
-  sweep_row : (p : Sweeping) → IsRowOfSweep p → EndsInSweeping (IsFor Why) (IsForBehind Why) m p
+  sweep_row : (p : Sweeping) → IsRowOfSweep p → EndsInSweeping (IsFor Why) (IsForDeferral Why) m p
   sweep_row (sweeping.Copies copier) row = copier_row copier copier.stands row
   sweep_row (sweeping.Disposes dispose) row = tt
   sweep_row _ row = absurd row
@@ -78,20 +78,20 @@ SumsFor {T} Why m m2 r (reserving.Sums table sum) =
     (after : Sum) (count : ℕ) → Steps Took value_at m (sum_plan {T = T} sum) m2 (after, counting.Done count) → 2 ^ 48 < needed r.additional count → Why
 SumsFor Why m m2 r _ = Unit {0}
 
-module _ {K V : Type 0} (Why : Type 0) (same : K → K → Bool) (hash : K → ℕ) (w : World (Node K V)) (caller : ℕ) (all setting : Setting) (c : Chart K) (whole : Blocks) (sight : Sight)
-    (is_sight : IsSight c whole sight) (map : IsMapIn same hash all w c whole) (last : LastIsFor same hash all w c whole map Why) (fits : setting.initial ≤ 2 ^ 48) where
+module _ {K V : Type 0} (Why : Type 0) (same : K → K → Bool) (hash : K → ℕ) (w : World (Node K V)) (caller : ℕ) (all setting : Setting) (c : Chart K) (whole : Blocks) (sight : Visible)
+    (is_sight : IsVisibility c whole sight) (map : IsMapIn same hash all w c whole) (last : LastIsFor same hash all w c whole map Why) (fits : setting.initial ≤ 2 ^ 48) where
   -- what can still be looked at
   abbrev blocks : Blocks
   blocks = seen_by whole sight
 
-  behind : (table : Table) (t : ℕ) → IsTable c blocks table t → IsLastWhereNone (IsFor Why) (IsForBehind Why) w.memory table
+  behind : (table : Table) (t : ℕ) → IsTable c blocks table t → IsLastWhereNone (IsFor Why) (IsForDeferral Why) w.memory table
   behind table t entered = λ read reason by_table. (by_table, last_for same hash all w c whole map Why last table t (unseen c whole sight is_sight table t entered) read)
 
-  ends_as : (given : Setting) → given ≡ setting → EndsSo (IsFor Why) (IsForBehind Why) given
+  ends_as : (given : Setting) → given ≡ setting → EndsSo (IsFor Why) (IsForDeferral Why) given
   ends_as given is = ends_for Why given (subst (λ (x : Setting). x.initial ≤ 2 ^ 48) (sym is) fits)
 
   abbrev CopierMay : Copier → Copying → Type 0
-  CopierMay x p = EndsInCopying (IsFor Why) (IsForBehind Why) w.memory x p
+  CopierMay x p = EndsInCopying (IsFor Why) (IsForDeferral Why) w.memory x p
 
   copying_may : (x : Copier) → x.setting ≡ setting → (p : Copying) → CopyingFacts same hash w caller setting c blocks x p → CopierMay x p
   copying_may x is (copying.Passes word code table) facts = (ends_as x.setting is, behind table facts.2 facts.6)
@@ -118,7 +118,7 @@ module _ {K V : Type 0} (Why : Type 0) (same : K → K → Bool) (hash : K → �
       by false so = blocking_may x so.setting_is x.stands so.point
 
   module _ (began : ℕ) where
-    late_may : (x : Copier) → x.setting ≡ setting → (p : Copying) → LateCopying same hash w caller setting c blocks began x p → CopierMay x p
+    late_may : (x : Copier) → x.setting ≡ setting → (p : Copying) → SupersededCopying same hash w caller setting c blocks began x p → CopierMay x p
     late_may x is (copying.Passes word code table) facts = absurd facts
     late_may x is (copying.Grows word code making) facts = absurd facts
     late_may x is copying.Replaces facts = (ends_as x.setting is, behind x.target facts.1 facts.2.0.target)
@@ -128,7 +128,7 @@ module _ {K V : Type 0} (Why : Type 0) (same : K → K → Bool) (hash : K → �
     -- by the points of each kind of call
 
     abbrev CallMay : KeyCall K V K → Calling → Type 0
-    CallMay x p = EndsInCalling (IsFor Why) (IsForBehind Why) w.memory x.trial.table p
+    CallMay x p = EndsInCalling (IsFor Why) (IsForDeferral Why) w.memory x.trial.table p
 
     call_may : (keys : K → Bool) (change : Change) (x : KeyCall K V K) (p : Calling) → CallingFacts same hash same w caller setting c blocks keys change x p → CallMay x p
     call_may keys change x calling.Nexts facts = behind x.trial.table facts.1 facts.2.0
@@ -138,7 +138,7 @@ module _ {K V : Type 0} (Why : Type 0) (same : K → K → Bool) (hash : K → �
     call_may keys change x (calling.Copies copier) facts = blocking_may copier facts.2.setting_is copier.stands facts.2.point
     call_may keys change x _ facts = tt
 
-    late_call_may : (keys : K → Bool) (x : KeyCall K V K) (p : Calling) → LateCalling same hash same w caller setting c blocks keys began x p → CallMay x p
+    late_call_may : (keys : K → Bool) (x : KeyCall K V K) (p : Calling) → SupersededCalling same hash same w caller setting c blocks keys began x p → CallMay x p
     late_call_may keys x calling.Nexts facts = behind x.trial.table facts.1 facts.2
     late_call_may keys x (calling.Firsts making) facts = ends_as making.setting facts.2.setting_is
     late_call_may keys x (calling.Allocs making) facts = ends_as making.setting facts.4.setting_is
@@ -147,7 +147,7 @@ module _ {K V : Type 0} (Why : Type 0) (same : K → K → Bool) (hash : K → �
     late_call_may keys x _ facts = tt
 
     abbrev SweepMay : Sweeping → Type 0
-    SweepMay p = EndsInSweeping (IsFor Why) (IsForBehind Why) w.memory p
+    SweepMay p = EndsInSweeping (IsFor Why) (IsForDeferral Why) w.memory p
 
     sweep_may : (x : Sweep) (p : Sweeping) → SweepingFacts same hash w caller setting c blocks began x p → SweepMay p
     sweep_may x (sweeping.Copies copier) facts = elim facts as (λ _. SweepMay (sweeping.Copies copier)) [
@@ -158,7 +158,7 @@ module _ {K V : Type 0} (Why : Type 0) (same : K → K → Bool) (hash : K → �
 
     module _ (m2 : Mem (Node K V)) (r : Reserve) (needs : NeedsMore r.additional → Why) where
       abbrev RoomMay : Reserving → Type 0
-      RoomMay p = EndsInReserving (IsFor Why) (IsForBehind Why) w.memory m2 r p
+      RoomMay p = EndsInReserving (IsFor Why) (IsForDeferral Why) w.memory m2 r p
 
       room_may : (p : Reserving) → ReservingFacts same hash w caller setting c blocks p → SumsFor Why w.memory m2 r p → RoomMay p
       room_may reserving.Reads facts sums = λ none many is. needs many
@@ -171,7 +171,7 @@ module _ {K V : Type 0} (Why : Type 0) (same : K → K → Bool) (hash : K → �
       room_may reserving.Over facts sums = tt
       room_may (reserving.Refused fault) facts sums = tt
 
-      late_room_may : (p : Reserving) → LateReserving same hash w caller setting c blocks began p → SumsFor Why w.memory m2 r p → RoomMay p
+      late_room_may : (p : Reserving) → SupersededReserving same hash w caller setting c blocks began p → SumsFor Why w.memory m2 r p → RoomMay p
       late_room_may (reserving.Makes making) facts sums = ends_as making.setting facts.setting_is
       late_room_may (reserving.Sums table sum) facts sums = λ after count counts many is. sums after count counts many
       late_room_may (reserving.Follows table need) facts sums =

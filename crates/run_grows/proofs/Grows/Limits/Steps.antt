@@ -24,12 +24,12 @@ use Rattle.run_executor.specs.Given.EffectsEffects.{effects_of}
 use Rattle.run_executor.specs.Given.EffectsKnown.{Known}
 use Rattle.run_executor.specs.Given.EffectsDeclared.acting.Acting.TheVariants as acts
 use Rattle.papaya_raw.proofs.Given.TablesTableLens.{if_few-holds, next-power-most}
-use Rattle.run_executor.specs.Given.FinishesMachines.{GoesOnAs, machine_of}
+use Rattle.run_executor.specs.Given.FinishesMachines.{ContinuesAs, machine_of}
 use Rattle.run_executor.specs.Given.FinishesMaps.{Standing}
 use Rattle.run_executor.proofs.Given.FollowsSteps.{WentTo, went_to}
-use Rattle.run_executor.specs.Given.MomentsWhole.{ShowsWhole}
-use Rattle.run_sweeps.specs.Given.FindsCapacities.{ShowsCapacities}
-use Rattle.run_grows.specs.Grows.Limits.{HasLimit, MachineEnds, OthersHadLimit, SaysFor, ShowsLimits}
+use Rattle.run_executor.specs.Given.MomentsWhole.{RefinesWhole}
+use Rattle.run_finds.specs.Capacities.{RefinesCapacities}
+use Rattle.run_grows.specs.Grows.Limits.{HasLimit, MachineEnds, OthersHadLimit, SaysFor, RefinesLimits}
 use Rattle.run_grows.proofs.Grows.Finding.Making.Unpromoted.{OffRoot, off_promotes_none}
 use Rattle.run_grows.proofs.Grows.Limits.Chain.{effects_keep_limit}
 use Rattle.run_grows.proofs.Grows.Limits.Last.{LastIsFor, limit_there}
@@ -53,13 +53,13 @@ entries_few pairs initial has = by (entries_of pairs) (if_few-holds (places_for 
     by (Err fault) few is = absurd is
 
 -- one that goes on has not ended
-goes_yet : {K V : Type 0} (machine : Machine K V K) (said : Progress (Node K V)) (next : Option (UnderWay K V K)) → GoesOnAs machine said next → (x : UnderWay K V K) → next ≡ Some x → has_ended said ≡ false
+goes_yet : {K V : Type 0} (machine : Machine K V K) (said : Progress (Node K V)) (next : Option (UnderWay K V K)) → ContinuesAs machine said next → (x : UnderWay K V K) → next ≡ Some x → has_ended said ≡ false
 goes_yet machine (progress.Done answer) next goes x is = absurd (let none = sym goes ∙ is in cc none)
 goes_yet machine (progress.Refused fault) next goes x is = absurd (let none = sym goes ∙ is in cc none)
 goes_yet machine _ next goes x is = refl
 
 module _ {K V : Type 0} (same : K → K → Bool) (hash : ℕ → K → ℕ) (name : ℕ → List ℕ) (log : Past K V) (m : Moment K V) (known : Known) (s : Scene K V) (old new : Held K V) (at : IsAt same hash old s)
-    (whole : ShowsWhole same name m known s) (map i : ℕ) (u : UnderWay K V K) (here : s.calls map i ≡ Some u) (said : Progress (Node K V)) (leads : StepLeads same hash i said s old new) where
+    (whole : RefinesWhole same name m known s) (map i : ℕ) (u : UnderWay K V K) (here : s.calls map i ≡ Some u) (said : Progress (Node K V)) (leads : StepLeads same hash i said s old new) where
   abbrev to : WentTo same hash name m known s old new at whole.all.shown map i u here said leads
   to = went_to same hash name m known s old new at whole.all.shown map i u here said leads
 
@@ -79,7 +79,7 @@ module _ {K V : Type 0} (same : K → K → Bool) (hash : ℕ → K → ℕ) (na
   pub limits_others : OthersHadLimit name log i m s → OthersHadLimit name log i v led
   limits_others others = since.others_go_on (Of K V) (more K V) (replies K V) (asked K V) (So K V) (AnyPairs K V) (λ m v pairs. tt) (so_where K V) same hash name log m known s old new at whole map i u here said leads others
 
-  module _ (limits : ShowsLimits name log m s) (capacities : ShowsCapacities m s) (c : CallThere K V) (c_is : call_of (name i) m ≡ Some c) where
+  module _ (limits : RefinesLimits name log m s) (capacities : RefinesCapacities m s) (c : CallThere K V) (c_is : call_of (name i) m ≡ Some c) where
     abbrev Before : Type 0
     Before = HasLimit map c.begun log m
 
@@ -129,7 +129,7 @@ module _ {K V : Type 0} (same : K → K → Bool) (hash : ℕ → K → ℕ) (na
           (machine_on Before K V K old.memory new.memory same same to.0.hash (machine_of u) end step comes.0 (goes_yet to.1 said to.4.next to.4.goes_on x is))
     ]
 
-    pub limits_go_on : OthersHadLimit name log i m s → ShowsLimits name log v led
+    pub limits_go_on : OthersHadLimit name log i m s → RefinesLimits name log v led
     limits_go_on others =
         since.so_go_on (Of K V) (more K V) (replies K V) (asked K V) (So K V) (AnyPairs K V) (λ m v pairs. tt) (so_where K V) same hash name log m known s old new at whole map i u here said leads others c c_is own_ends
 

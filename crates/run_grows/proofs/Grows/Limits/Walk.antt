@@ -10,10 +10,10 @@ use Rattle.papaya_raw.specs.Given.SeizeDeclared.advance.Advance.TheVariants as c
 use Rattle.papaya_raw.specs.Given.TablesDeclared.node.Node.{Node}
 use Rattle.papaya_raw.specs.Given.TablesDeclared.setting.Setting.{Setting}
 use Rattle.papaya_raw.specs.Given.TablesDeclared.table.Table.{Table}
-use Rattle.run_logged.specs.Given.ResizeSum.{sum_plan}
-use Rattle.run_logged.specs.Given.ResizeDeclared.yielding.Yielding.{Yielding}
-use Rattle.run_logged.specs.Given.ResizeDeclared.yielding.Yielding.TheVariants as outcome
-use Rattle.run_logged.specs.Given.ResizeDeclared.sum.Sum.{Sum}
+use Rattle.run_finds.specs.Given.ResizeSum.{sum_plan}
+use Rattle.run_finds.specs.Given.ResizeDeclared.yielding.Yielding.{Yielding}
+use Rattle.run_finds.specs.Given.ResizeDeclared.yielding.Yielding.TheVariants as outcome
+use Rattle.run_finds.specs.Given.ResizeDeclared.sum.Sum.{Sum}
 use Rattle.papaya_raw.specs.Given.ReservesReserve.{enough, needed, plan_at as room_at, refusing, reserve_plan, standing, summed}
 use Rattle.papaya_raw.specs.Given.ReservesDeclared.reserve.Reserve.{Reserve}
 use Rattle.papaya_raw.specs.Given.ReservesDeclared.reserve.Reserving.{Reserving}
@@ -25,7 +25,7 @@ use Rattle.papaya_raw.specs.Given.ReservesDeclared.sweep.Sweeping.TheVariants as
 use Rattle.papaya_raw.specs.Given.ReservesDeclared.sweep.Swept.{Swept}
 use Rattle.papaya_raw.specs.Given.ReservesDeclared.sweep.Swept.TheVariants as swept
 use Rattle.papaya_raw.specs.Call.{call_plan}
-use Rattle.papaya_raw.specs.Machine.{called as of_key, counted as of_sum, machine_asked, machine_plan, machine_replied, reserved as of_room, swept as of_sweep, sweep_told}
+use Rattle.papaya_raw.specs.Machine.{called as of_key, counted as of_sum, machine_asked, machine_plan, machine_replied, reserved as of_room, swept as of_sweep, sweep_with_reply}
 use Rattle.papaya_raw.specs.declared.machines.answer.Called.{Called}
 use Rattle.papaya_raw.specs.declared.machines.answer.Called.TheVariants as called
 use Rattle.papaya_raw.specs.declared.machines.asking.MachineReply.{MachineReply}
@@ -36,7 +36,7 @@ use Rattle.papaya_raw.specs.declared.machines.machine.Machine.TheVariants as kin
 use Rattle.papaya_raw.specs.declared.machines.progress.Progress.{Progress}
 use Rattle.run_executor.proofs.Given.RuleKeys.Always.{always_steps}
 use Rattle.run_executor.specs.Given.LateEnds.{EndsInCalling, EndsInReserving, EndsInSweeping, EndsSo}
-use Rattle.run_executor.specs.Given.LateFaults.{RefusesSo, StandsInSweeping, SweepRefusesSo}
+use Rattle.run_executor.specs.Given.LateFaults.{RefusesSo, HoldsInSweeping, SweepRefusesSo}
 use Rattle.papaya_raw.proofs.Given.TablesEnds.{only_the_last_ends}
 use Rattle.run_executor.proofs.Given.LateKindsKept.Rooms.Asks.{reserve_asks}
 use Rattle.run_executor.proofs.Given.LateKindsKept.Rooms.Bound.{Keeps, calling_on, reserving_on, sweeping_on}
@@ -44,7 +44,7 @@ use Rattle.run_executor.proofs.Given.LateKindsKept.Rooms.Calling.{CallsAs, key_a
 use Rattle.run_executor.proofs.Given.LateKindsKept.Rooms.Making.{CountsOn, sum_counts}
 use Rattle.run_executor.proofs.Given.LateKindsKept.Rooms.Reserving.{ReservesAs, reserve_as}
 use Rattle.run_executor.proofs.Given.LateKindsKept.Rooms.Sweeping.{SweepsAs, sweep_as, told_as_on}
-use Rattle.run_grows.specs.Grows.Limits.{IsFor, IsForBehind, MachineEnds, NeedsMore, RoomEnds, SaysFor}
+use Rattle.run_grows.specs.Grows.Limits.{IsFor, IsForDeferral, MachineEnds, NeedsMore, RoomEnds, SaysFor}
 use Rattle.run_executor.specs.Given.ScenesStepping.{has_ended}
 use Rattle.run_executor.proofs.Given.General.{less_not as at_least}
 
@@ -54,33 +54,33 @@ module _ (Why : Type 0) where
   memory_for is = absurd (cc is)
 
   -- where none can follow, for this
-  pub ends_for : (setting : Setting) → setting.initial ≤ 2 ^ 48 → EndsSo (IsFor Why) (IsForBehind Why) setting
+  pub ends_for : (setting : Setting) → setting.initial ≤ 2 ^ 48 → EndsSo (IsFor Why) (IsForDeferral Why) setting
   ends_for setting fits before reason count last none is = last.1 (only_the_last_ends reason before.len before.turn count setting.initial last.0 fits none)
 
 module _ (Why Why2 : Type 0) (leads : Why → Why2) where
-  pub keeps_for : Keeps (IsFor Why) (IsFor Why2) (IsForBehind Why) (IsForBehind Why2)
+  pub keeps_for : Keeps (IsFor Why) (IsFor Why2) (IsForDeferral Why) (IsForDeferral Why2)
   keeps_for = ((λ fault so is. leads (so is)), (λ before reason so. (so.0, λ none. leads (so.1 none))))
 
   pub room_more : (p : Reserving) → RoomEnds Why p → RoomEnds Why2 p
-  room_more p so = reserving_on (IsFor Why) (IsFor Why2) (IsForBehind Why) (IsForBehind Why2) p (λ bound. keeps_for) so
+  room_more p so = reserving_on (IsFor Why) (IsFor Why2) (IsForDeferral Why) (IsForDeferral Why2) p (λ bound. keeps_for) so
 
 -- what is for one thing is for another one that follows from it
 pub machine_for : {K V Q : Type 0} (Why Why2 : Type 0) → (Why → Why2) → (machine : Machine K V Q) → MachineEnds Why machine → MachineEnds Why2 machine
-machine_for Why Why2 leads (kinds.Key p) so = calling_on (IsFor Why) (IsFor Why2) (IsForBehind Why) (IsForBehind Why2) p.trial.table p.stands (λ bound. keeps_for Why Why2 leads) so
+machine_for Why Why2 leads (kinds.Key p) so = calling_on (IsFor Why) (IsFor Why2) (IsForDeferral Why) (IsForDeferral Why2) p.trial.table p.stands (λ bound. keeps_for Why Why2 leads) so
 machine_for Why Why2 leads (kinds.Reserve r) so = room_more (Why ⊎ NeedsMore r.additional) (Why2 ⊎ NeedsMore r.additional) more r.stands so
   where
     more : Why ⊎ NeedsMore r.additional → Why2 ⊎ NeedsMore r.additional
     more (inl why) = inl (leads why)
     more (inr needs) = inr needs
-machine_for Why Why2 leads (kinds.Sweep c) so = sweeping_on (IsFor Why) (IsFor Why2) (IsForBehind Why) (IsForBehind Why2) c.stands (λ bound. keeps_for Why Why2 leads) so
+machine_for Why Why2 leads (kinds.Sweep c) so = sweeping_on (IsFor Why) (IsFor Why2) (IsForDeferral Why) (IsForDeferral Why2) c.stands (λ bound. keeps_for Why Why2 leads) so
 machine_for Why Why2 leads (kinds.Count sum) so = tt
 
 -- By what a step finds in its memory.
 module _ (Why : Type 0) (K V Q : Type 0) (m m2 : Mem (Node K V)) where
   abbrev pub MachineMayEnd : Machine K V Q → Type 0
-  MachineMayEnd (kinds.Key p) = EndsInCalling (IsFor Why) (IsForBehind Why) m p.trial.table p.stands
-  MachineMayEnd (kinds.Reserve r) = EndsInReserving (IsFor (Why ⊎ NeedsMore r.additional)) (IsForBehind (Why ⊎ NeedsMore r.additional)) m m2 r r.stands
-  MachineMayEnd (kinds.Sweep c) = EndsInSweeping (IsFor Why) (IsForBehind Why) m c.stands
+  MachineMayEnd (kinds.Key p) = EndsInCalling (IsFor Why) (IsForDeferral Why) m p.trial.table p.stands
+  MachineMayEnd (kinds.Reserve r) = EndsInReserving (IsFor (Why ⊎ NeedsMore r.additional)) (IsForDeferral (Why ⊎ NeedsMore r.additional)) m m2 r r.stands
+  MachineMayEnd (kinds.Sweep c) = EndsInSweeping (IsFor Why) (IsForDeferral Why) m c.stands
   MachineMayEnd (kinds.Count sum) = Unit {0}
 
   -- what it is refused for then
@@ -91,7 +91,7 @@ module _ (Why : Type 0) (K V Q : Type 0) (m m2 : Mem (Node K V)) where
   abbrev pub EndsThen : Machine K V Q → Machine K V Q × Progress (Node K V) → Type 0
   EndsThen before end = MachineEnds Why end.0 × SaysFor (WhyOf before) end.1
 
-  pub key_end : (p : KeyCall K V Q) (e : KeyCall K V Q × Called (Node K V)) → CallsAs (IsFor Why) (IsForBehind Why) e → EndsThen (kinds.Key p) (of_key e)
+  pub key_end : (p : KeyCall K V Q) (e : KeyCall K V Q × Called (Node K V)) → CallsAs (IsFor Why) (IsForDeferral Why) e → EndsThen (kinds.Key p) (of_key e)
   key_end p (q, called.Refused fault) so = so
   key_end p (q, called.Goes) so = (so.0, tt)
   key_end p (q, called.Waits) so = (so.0, tt)
@@ -100,7 +100,7 @@ module _ (Why : Type 0) (K V Q : Type 0) (m m2 : Mem (Node K V)) where
   key_end p (q, called.Unstored value) so = (so.0, tt)
   key_end p (q, called.Done answer) so = (so.0, tt)
 
-  pub room_end : (r : Reserve) (e : Reserve × Yielding (Node K V) Unit) → e.0.additional ≡ r.additional → ReservesAs (IsFor (Why ⊎ NeedsMore r.additional)) (IsForBehind (Why ⊎ NeedsMore r.additional)) e
+  pub room_end : (r : Reserve) (e : Reserve × Yielding (Node K V) Unit) → e.0.additional ≡ r.additional → ReservesAs (IsFor (Why ⊎ NeedsMore r.additional)) (IsForDeferral (Why ⊎ NeedsMore r.additional)) e
       → EndsThen (kinds.Reserve r) (of_room e)
   room_end r (q, told) asks_on so = (subst (λ (n : ℕ). RoomEnds (Why ⊎ NeedsMore n) q.stands) (sym asks_on) so.0, says told so.1)
     where
@@ -111,7 +111,7 @@ module _ (Why : Type 0) (K V Q : Type 0) (m m2 : Mem (Node K V)) where
       says (outcome.Done done) so = tt
       says (outcome.Refused fault) so = so
 
-  pub sweep_end : (c : Sweep) (e : Sweep × Swept (Node K V)) → SweepsAs (IsFor Why) (IsForBehind Why) e → EndsThen (kinds.Sweep c) (of_sweep e)
+  pub sweep_end : (c : Sweep) (e : Sweep × Swept (Node K V)) → SweepsAs (IsFor Why) (IsForDeferral Why) e → EndsThen (kinds.Sweep c) (of_sweep e)
   sweep_end c (q, told) so = (so.0, says told so.1)
     where
       says : (told : Swept (Node K V)) → SweepRefusesSo (IsFor Why) told → SaysFor Why (of_sweep {K = K} {V = V} {Q = Q} (q, told)).1
@@ -136,35 +136,35 @@ module _ (Why : Type 0) (K V Q : Type 0) (m m2 : Mem (Node K V)) where
         → EndsThen machine end
     machine_ends (kinds.Key p) so may end s =
         let d = steps_back of_key m m2 (call_plan asks same hash p) end s in
-        subst (EndsThen (kinds.Key p)) (sym d.2) (key_end p d.0 (key_as (IsFor Why) (IsForBehind Why) (memory_for Why) asks same hash p so m m2 d.0 may d.1))
+        subst (EndsThen (kinds.Key p)) (sym d.2) (key_end p d.0 (key_as (IsFor Why) (IsForDeferral Why) (memory_for Why) asks same hash p so m m2 d.0 may d.1))
     machine_ends (kinds.Reserve r) so may end s =
         let d = steps_back of_room m m2 (reserve_plan hash r) end s in
         subst (EndsThen (kinds.Reserve r)) (sym d.2)
         (room_end r d.0 (reserve_asks K V hash r m m2 d.0 d.1)
-        (reserve_as (IsFor (Why ⊎ NeedsMore r.additional)) (IsForBehind (Why ⊎ NeedsMore r.additional)) (memory_for (Why ⊎ NeedsMore r.additional)) K V hash r so m m2 d.0 may d.1))
+        (reserve_as (IsFor (Why ⊎ NeedsMore r.additional)) (IsForDeferral (Why ⊎ NeedsMore r.additional)) (memory_for (Why ⊎ NeedsMore r.additional)) K V hash r so m m2 d.0 may d.1))
     machine_ends (kinds.Sweep c) so may end s =
         let d = steps_back of_sweep m m2 (sweep_plan hash c) end s in
-        subst (EndsThen (kinds.Sweep c)) (sym d.2) (sweep_end c d.0 (sweep_as (IsFor Why) (IsForBehind Why) (memory_for Why) K V hash c so m m2 d.0 may d.1))
+        subst (EndsThen (kinds.Sweep c)) (sym d.2) (sweep_end c d.0 (sweep_as (IsFor Why) (IsForDeferral Why) (memory_for Why) K V hash c so m m2 d.0 may d.1))
     machine_ends (kinds.Count sum) so may end s = let d = steps_back of_sum m m2 (sum_plan sum) end s in subst (EndsThen (kinds.Count sum)) (sym d.2) (sum_end sum d.0 (always_steps CountsOn m m2 (sum_plan sum) d.0 (sum_counts (Node K V) sum) d.1))
 
 -- By a reply, or as it is asked for its next pair.
 module _ (Why : Type 0) (K V Q : Type 0) where
-  sweep_told_for : (stands : Sweeping) (c : Sweep) (told : MachineReply V) → StandsInSweeping (IsFor Why) (IsForBehind Why) c.stands → StandsInSweeping (IsFor Why) (IsForBehind Why) (sweep_told stands c told).0.stands
-  sweep_told_for (sweeping.Asks word) c reply.Yes so = (told_as_on (IsFor Why) (IsForBehind Why) c so).1 true
-  sweep_told_for (sweeping.Asks word) c reply.No so = (told_as_on (IsFor Why) (IsForBehind Why) c so).1 false
+  sweep_told_for : (stands : Sweeping) (c : Sweep) (told : MachineReply V) → HoldsInSweeping (IsFor Why) (IsForDeferral Why) c.stands → HoldsInSweeping (IsFor Why) (IsForDeferral Why) (sweep_with_reply stands c told).0.stands
+  sweep_told_for (sweeping.Asks word) c reply.Yes so = (told_as_on (IsFor Why) (IsForDeferral Why) c so).1 true
+  sweep_told_for (sweeping.Asks word) c reply.No so = (told_as_on (IsFor Why) (IsForDeferral Why) c so).1 false
   sweep_told_for (sweeping.Asks word) c (reply.Insert value) so = so
   sweep_told_for (sweeping.Asks word) c reply.Remove so = so
   sweep_told_for (sweeping.Asks word) c reply.Abort so = so
   sweep_told_for _ c told so = so
 
   pub reply_ends : (machine : Machine K V Q) (told : MachineReply V) → MachineEnds Why machine → MachineEnds Why (machine_replied machine told).0
-  reply_ends (kinds.Key p) told so = key_told_as (IsFor Why) (IsForBehind Why) (λ is. absurd (cc is)) p so told
+  reply_ends (kinds.Key p) told so = key_told_as (IsFor Why) (IsForDeferral Why) (λ is. absurd (cc is)) p so told
   reply_ends (kinds.Sweep c) told so = sweep_told_for c.stands c told so
   reply_ends (kinds.Reserve r) told so = so
   reply_ends (kinds.Count sum) told so = tt
 
   pub asked_ends : (machine : Machine K V Q) → MachineEnds Why machine → MachineEnds Why (machine_asked machine).0
-  asked_ends (kinds.Sweep c) so = (told_as_on (IsFor Why) (IsForBehind Why) c so).0
+  asked_ends (kinds.Sweep c) so = (told_as_on (IsFor Why) (IsForDeferral Why) c so).0
   asked_ends (kinds.Key p) so = so
   asked_ends (kinds.Reserve r) so = so
   asked_ends (kinds.Count sum) so = tt

@@ -28,11 +28,11 @@ use Rattle.run_executor.proofs.Given.RuleWords.TablesSeen.{place_there}
 use Rattle.run_executor.proofs.Given.RuleWords.WordsSeen.{Says, says}
 use Rattle.run_executor.specs.Given.EffectsKnown.{Known}
 use Rattle.run_executor.specs.Given.FinishesMaps.{Standing}
-use Rattle.run_executor.specs.Given.FollowsMaps.{ShowsMap}
+use Rattle.run_executor.specs.Given.FollowsMaps.{RefinesMap}
 use Rattle.run_executor.specs.Given.SpotsSpots.{LiesAt, named_by, spot_in}
 use Rattle.run_executor.proofs.Given.SpotsStills.{still_spot}
 use Rattle.run_executor.proofs.Given.SpotsTaken.{no_pair_there, pair_there, taken_there}
-use Rattle.run_sweeps.specs.Sources.Sources.{WereLeft}
+use Rattle.run_grows.specs.Sources.Sources.{WereLeft}
 
 -- In the last table of a map, which is the root where all pairs are copied at once, nothing is marked.
 module _ {K : Type 0} (same : K → K → Bool) (hash : K → ℕ) (c : Chart K) (t : ℕ) (last : suc t ≡ c.past) where
@@ -61,7 +61,7 @@ module _ {K : Type 0} (same : K → K → Bool) (hash : K → ℕ) (c : Chart K)
       by false e = e
 
 module _ {K V : Type 0} (same : K → K → Bool) (map : ℕ) (number : ℕ → ℕ) (s : Standing K) (fits : (k : K) → s.hash k < 2 ^ 64) (lawful : IsLawful same (spot_of s.hash)) (mem : Mem (Node K V)) (seen : Blocks)
-    (is_map : IsMap same s.hash s.setting.mode s.setting.root mem s.chart seen) (m : Moment K V) (known : Known) (shown : ShowsMap map number s m known)
+    (is_map : IsMap same s.hash s.setting.mode s.setting.root mem s.chart seen) (m : Moment K V) (known : Known) (shown : RefinesMap map number s m known)
     (lies : (n : ℕ) → s.chart.current n ≡ true → LiesAt s.chart (is_incremental s.setting.mode) n (m.spot (number n)) (m.born (number n)).turn) (left : WereLeft s.chart map m)
     (trial : Trial) (code t j : ℕ) (at : IsTrial s.chart seen trial code t j) where
   abbrev c : Chart K

@@ -17,10 +17,10 @@ use Rattle.run_schedules.specs.Schedules.Tries.{FindsTaken, Meets, try_at}
 use Rattle.run_schedules.specs.Schedules.Views.{call_of, number_of}
 use Rattle.run_executor.specs.Given.CallersTogether.{Counting, ForRoom, OnKey, OverAll, UnderWay}
 use Rattle.run_executor.proofs.Given.ChangesLogs.{each_of}
-use Rattle.run_sweeps.specs.Given.FindsLinking.{FoundFull, HasFoundFull}
-use Rattle.run_sweeps.specs.Given.FindsWithin.{many_of}
-use Rattle.run_sweeps.proofs.Given.FindsGrows.Steps.{tables_have_been}
-use Rattle.run_grows.specs.Grows.Tries.{HasTaken, MeetsBy, ShowsTries, TakenOrPassed, TriedAt, TablesLast}
+use Rattle.run_finds.specs.Linking.{FoundFull, HasFoundFull}
+use Rattle.run_finds.specs.Within.{many_of}
+use Rattle.run_finds.proofs.Grows.Steps.{tables_have_been}
+use Rattle.run_grows.specs.Grows.Tries.{HasTaken, MeetsBy, RefinesTries, TakenOrPassed, TriedAt, TablesLast}
 use Rattle.run_grows.proofs.Grows.Finding.Alike.{many_same}
 use Rattle.run_executor.specs.Given.ScenesScene.{Scene}
 use Rattle.run_schedules.specs.Schedules.Transition.{Past, past}
@@ -99,7 +99,7 @@ module _ {K V : Type 0} (map begun : ℕ) (log : Past K V) (since_last : TablesL
   meets_so (suc try) met (before, pairs, rest, why, sum) = found_one try met before pairs (meets_so try before rest) sum why
 
 -- The promise: what a call finds full it has found full since it began.
-pub found_full_so : {K V : Type 0} (name : ℕ → List ℕ) (log : Past K V) → TablesLast log → (m : Moment K V) (s : Scene K V) → ShowsTries name log m s → (map i : ℕ) → many_of map log.now ≤ many_of map m
+pub found_full_so : {K V : Type 0} (name : ℕ → List ℕ) (log : Past K V) → TablesLast log → (m : Moment K V) (s : Scene K V) → RefinesTries name log m s → (map i : ℕ) → many_of map log.now ≤ many_of map m
     → (u : UnderWay K V K) → s.calls map i ≡ Some u → (c : CallThere K V) → call_of (name i) m ≡ Some c → FoundFull map (many_of map m) (m ∷ log.since c.begun) u
 found_full_so name log since_last m s tries map i more (OnKey u) here c c_is = by u.call.stands (tries map i (OnKey u) here c c_is)
   where

@@ -4,7 +4,7 @@ use Rattle.std.proofs.Common.{refl, subst, arith, inl, inr}
 use Rattle.std.proofs.lemmas.Bool.{cases_eq}
 use Rattle.papaya_raw.specs.Given.TablesDeclared.marks.TheConstants.{TOMBSTONE}
 use Rattle.papaya_raw.specs.Given.TablesDeclared.node.Node.{Node}
-use Rattle.papaya_raw.specs.CallAsks.{absent_told, present_told, replied, told_at, with_absent, with_present}
+use Rattle.papaya_raw.specs.CallAsks.{absent_replied, present_replied, replied, replied_at, with_absent, with_present}
 use Rattle.papaya_raw.specs.CallPoints.{at_gap, burying, ending, going, over, storing}
 use Rattle.papaya_raw.specs.Machine.{machine_asked, machine_replied}
 use Rattle.papaya_raw.specs.declared.machines.answer.Called.{Called}
@@ -115,7 +115,7 @@ module _ (Why : Spot × ℕ → Type 0) where
     same_gap p value gaps.Past so = so
     same_gap p value gaps.Last so = so
 
-    absent_tried : (kind : Takes) (p : KeyCall K V Q) (gap : Gap) (reply : MachineReply V) → TriedAt Why p p.stands → TriedAtGap Why p gap → TriedAt Why (absent_told kind p gap reply).0 (absent_told kind p gap reply).0.stands
+    absent_tried : (kind : Takes) (p : KeyCall K V Q) (gap : Gap) (reply : MachineReply V) → TriedAt Why p p.stands → TriedAtGap Why p gap → TriedAt Why (absent_replied kind p gap reply).0 (absent_replied kind p gap reply).0.stands
     absent_tried takes.Values p gap (replies.Insert value) self so = gap_tried (with_absent p value) gap (same_gap p value gap so)
     absent_tried takes.Changes p gap (replies.Insert value) self so = gap_tried (with_absent p value) gap (same_gap p value gap so)
     absent_tried takes.Changes p gap replies.Remove self so = ending_tried p _
@@ -123,7 +123,7 @@ module _ (Why : Spot × ℕ → Type 0) where
     absent_tried _ p gap _ self so = self
 
     present_tried : (kind : Takes) (p : KeyCall K V Q) (word : ℕ) (reply : MachineReply V) → TriedAt Why p p.stands → HasTried Why p p.trial.probe.len
-        → TriedAt Why (present_told kind p word reply).0 (present_told kind p word reply).0.stands
+        → TriedAt Why (present_replied kind p word reply).0 (present_replied kind p word reply).0.stands
     present_tried takes.Values p word (replies.Insert value) self so = so
     present_tried takes.Changes p word (replies.Insert value) self so = so
     present_tried takes.Changes p word replies.Remove self so = burying_tried (with_present p word tells.Removes) so word
@@ -132,7 +132,7 @@ module _ (Why : Spot × ℕ → Type 0) where
     present_tried takes.Choices p word replies.No self so = ending_tried p _
     present_tried _ p word _ self so = self
 
-    told_tried_at : (stands : Calling) (p : KeyCall K V Q) (reply : MachineReply V) → TriedAt Why p p.stands → TriedAt Why p stands → TriedAt Why (told_at stands p reply).0 (told_at stands p reply).0.stands
+    told_tried_at : (stands : Calling) (p : KeyCall K V Q) (reply : MachineReply V) → TriedAt Why p p.stands → TriedAt Why p stands → TriedAt Why (replied_at stands p reply).0 (replied_at stands p reply).0.stands
     told_tried_at (at.Asks (asking.Absent gap)) p reply self so = absent_tried p.replies.takes p gap reply self so
     told_tried_at (at.Asks (asking.Present word)) p reply self so = present_tried p.replies.takes p word reply self so
     told_tried_at _ p reply self so = self

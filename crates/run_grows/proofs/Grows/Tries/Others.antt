@@ -19,15 +19,15 @@ use Rattle.run_executor.specs.Given.FinishesMakings.{Beginning}
 use Rattle.run_executor.specs.Given.OthersEndings.{ending_after}
 use Rattle.run_executor.specs.Given.OthersMakings.{WasNew, making_after}
 use Rattle.run_executor.specs.Given.OthersRows.{scene_then}
-use Rattle.run_executor.specs.Given.MomentsWhole.{ShowsWhole}
+use Rattle.run_executor.specs.Given.MomentsWhole.{RefinesWhole}
 use Rattle.run_executor.proofs.Given.MomentsEnds.{end_beside}
 use Rattle.run_executor.proofs.Given.MomentsMakingSteps.{makings_go_beside}
 use Rattle.run_executor.proofs.Given.MomentsOnSlots.{row_beside, rows_begin_beside}
-use Rattle.run_sweeps.specs.Given.FindsWithin.{many_of}
-use Rattle.run_sweeps.proofs.Given.FindsGrows.Steps.{tables_have_been}
+use Rattle.run_finds.specs.Within.{many_of}
+use Rattle.run_finds.proofs.Grows.Steps.{tables_have_been}
 use Rattle.run_grows.proofs.Grows.Finding.Aside.{endings_leave_spots, makings_leave_spots, rows_leave_spots}
-use Rattle.run_sweeps.specs.Sources.Sources.{ShowsSources}
-use Rattle.run_grows.specs.Grows.Tries.{ShowsTries}
+use Rattle.run_grows.specs.Sources.Sources.{RefinesSources}
+use Rattle.run_grows.specs.Grows.Tries.{RefinesTries}
 use Rattle.run_grows.proofs.Grows.Finding.Others.{ended, ended_calls, ended_maps, ended_world}
 use Rattle.run_grows.proofs.Grows.Tries.Shows.{tries_beside}
 use Rattle.run_executor.specs.Given.ScenesEnding.{EndingLeads}
@@ -40,22 +40,22 @@ use Rattle.run_schedules.specs.Schedules.Transition.{Past}
 use Rattle.run_executor.proofs.Given.General.{at_most_itself as itself}
 
 module _ (K V : Type 0) (same : K → K → Bool) (hash : ℕ → K → ℕ) (name : ℕ → List ℕ) (log : Past K V) (m : Moment K V) (known : Known) (s : Scene K V) (old new : Held K V)
-    (sources : ShowsSources same name m known s) (tries : ShowsTries name log m s) where
+    (sources : RefinesSources same name m known s) (tries : RefinesTries name log m s) where
   -- a row begins on a slot
   pub rows_begin_tries : (called : SlotCall) (i : ℕ) (leads : RowBegins same hash called i s old new)
-      → ShowsWhole same name m known (scene_then same hash (Begin i (request_of (slot_of i) called)) s old new leads.2)
-      → ShowsTries name log m (scene_then same hash (Begin i (request_of (slot_of i) called)) s old new leads.2)
+      → RefinesWhole same name m known (scene_then same hash (Begin i (request_of (slot_of i) called)) s old new leads.2)
+      → RefinesTries name log m (scene_then same hash (Begin i (request_of (slot_of i) called)) s old new leads.2)
   rows_begin_tries called i leads whole2 =
       let to = leads.2 in
       let t = scene_then same hash (Begin i (request_of (slot_of i) called)) s old new to in
       tries_beside same hash name log m m known known s t new to.4 (rows_begin_beside K V same hash m known s old new called i leads) refl (λ of. itself (many_of of m)) sources whole2.all.shown tries
 
-  module _ (at : IsAt same hash old s) (whole : ShowsWhole same name m known s) where
+  module _ (at : IsAt same hash old s) (whole : RefinesWhole same name m known s) where
     -- a step of one
     pub rows_keep_tries : (i : ℕ) (said : RowTold (Node K V)) (leads : RowLeads same hash i said s old new) (row : SlotRow) (here : IsOnSlot s i row)
         → (let v = with_effects None None (effects_of acts.Row known new.changed) m in
         let t = scene_then same hash (Step i) s old new (leads row here).2 in
-        ShowsWhole same name v (known_after acts.Row new.changed known) t → ShowsTries name log v t)
+        RefinesWhole same name v (known_after acts.Row new.changed known) t → RefinesTries name log v t)
     rows_keep_tries i said leads row here whole2 =
         let to = leads row here in
         let effects = effects_of acts.Row known new.changed in
@@ -68,7 +68,7 @@ module _ (K V : Type 0) (same : K → K → Bool) (hash : ℕ → K → ℕ) (na
     pub makings_keep_tries : (i : ℕ) (said : Making Setting) (leads : MakingLeads same hash i said s old new) (b : Beginning K) (here : s.makers i ≡ Some b) → WasNew b.map said m
         → (let v = with_effects None (Some b.map) (effects_of (acts.Making b.map) known new.changed) m in
         let t = making_after same hash s old new i b (leads b here).0 (leads b here).2.step.w2 said (leads b here).3 in
-        IsAt same hash new t → ShowsWhole same name v (known_after (acts.Making b.map) new.changed known) t → ShowsTries name log v t)
+        IsAt same hash new t → RefinesWhole same name v (known_after (acts.Making b.map) new.changed known) t → RefinesTries name log v t)
     makings_keep_tries i said leads b here was_new at2 whole2 =
         let effects = effects_of (acts.Making b.map) known new.changed in
         let v = with_effects None (Some b.map) effects m in
@@ -82,7 +82,7 @@ module _ (K V : Type 0) (same : K → K → Bool) (hash : ℕ → K → ℕ) (na
       pub endings_keep_tries : (said : Settled (Node K V)) (leads : EndingLeads same hash i said s old new) (map : ℕ) → s.maps map ≡ None
           → (let v = with_effects None (Some map) (effects_of (acts.Ending map) known new.changed) m in
           let t = ending_after same hash s new i f (leads f here).0 (leads f here).2.w2 (leads f here).2.deed said (leads f here).3 in
-          IsAt same hash new t → ShowsWhole same name v (known_after (acts.Ending map) new.changed known) t → ShowsTries name log v t)
+          IsAt same hash new t → RefinesWhole same name v (known_after (acts.Ending map) new.changed known) t → RefinesTries name log v t)
       endings_keep_tries said leads map not_there at2 whole2 =
           let to = leads f here in
           let effects = effects_of (acts.Ending map) known new.changed in

@@ -12,12 +12,12 @@ use Rattle.run_schedules.specs.Schedules.Views.{is_in_map, map_at}
 use Rattle.run_executor.specs.Given.RuleChart.{Chart}
 use Rattle.run_executor.specs.Given.EffectsKnown.{Known}
 use Rattle.run_executor.specs.Given.FinishesMaps.{Standing}
-use Rattle.run_executor.specs.Given.FollowsMaps.{ShowsMap}
+use Rattle.run_executor.specs.Given.FollowsMaps.{RefinesMap}
 use Rattle.run_executor.proofs.Given.FollowsStored.{in_map_true}
-use Rattle.run_sweeps.specs.Given.FindsWithin.{many_of}
-use Rattle.run_sweeps.specs.Sources.Sources.{AreNumbered}
-use Rattle.run_sweeps.specs.Sources.Stays.{PairsStay}
-use Rattle.run_sweeps.proofs.Sources.Stays.{numbers_stay}
+use Rattle.run_finds.specs.Within.{many_of}
+use Rattle.run_grows.specs.Sources.Sources.{AreNumbered}
+use Rattle.run_grows.specs.Sources.Stays.{PairsStay}
+use Rattle.run_grows.proofs.Sources.Stays.{numbers_stay}
 use Rattle.run_grows.specs.Grows.Tries.{TakenOrPassed}
 use Rattle.run_grows.proofs.Grows.Finding.Alike.{many_same}
 use Rattle.run_grows.proofs.Grows.Since.{HasSamePairs}
@@ -59,7 +59,7 @@ taken_where m v pairs tables map there x so = same_taken m v pairs map (many_sam
 
 -- and where its tables say so.
 module _ {K V : Type 0} (map : ℕ) (number number2 : ℕ → ℕ) (st st2 : Standing K) (m v : Moment K V) (known known2 : Known) (stored : v.stored ≡ m.stored) (born : v.born ≡ m.born) (spot : v.spot ≡ m.spot)
-    (same_chart : st2.chart ≡ st.chart) (shown : ShowsMap map number st m known) (shown2 : ShowsMap map number2 st2 v known2) (numbered : AreNumbered map number st m) where
+    (same_chart : st2.chart ≡ st.chart) (shown : RefinesMap map number st m known) (shown2 : RefinesMap map number2 st2 v known2) (numbered : AreNumbered map number st m) where
   stay : PairsStay m v
   stay = record { stored = ap length stored; born = λ k l. ap (λ (f : ℕ → TableId). f k) born; spot = λ k l. ap (λ (f : ℕ → Spot). f k) spot }
 

@@ -12,9 +12,9 @@ use Rattle.papaya_raw.specs.Given.TablesDeclared.node.Node.{Node}
 use Rattle.papaya_raw.specs.Given.TablesDeclared.table.Table.{Table as Planned}
 use Rattle.papaya_raw.specs.Given.SeizeWorld.{IsInside}
 use Rattle.papaya_raw.specs.Given.SeizeDeclared.advance.Advance.{Advance as Counting_told}
-use Rattle.run_logged.specs.Given.ResizeSum.{sum_plan}
-use Rattle.run_logged.specs.Given.ResizeDeclared.yielding.Yielding.{Yielding}
-use Rattle.run_logged.specs.Given.ResizeDeclared.sum.Sum.{Sum}
+use Rattle.run_finds.specs.Given.ResizeSum.{sum_plan}
+use Rattle.run_finds.specs.Given.ResizeDeclared.yielding.Yielding.{Yielding}
+use Rattle.run_finds.specs.Given.ResizeDeclared.sum.Sum.{Sum}
 use Rattle.papaya_raw.specs.Given.ReservesReserve.{reserve_plan}
 use Rattle.papaya_raw.specs.Given.ReservesDeclared.reserve.Reserve.{Reserve}
 use Rattle.papaya_raw.specs.Given.SweepsSweep.{sweep_plan}
@@ -35,7 +35,7 @@ use Rattle.run_schedules.specs.Schedules.Effects.{with_effects}
 use Rattle.run_schedules.specs.Schedules.Moment.{Moment, UnderWay as CallThere}
 use Rattle.run_schedules.specs.Schedules.Tries.{FindsTaken, try_at}
 use Rattle.run_schedules.specs.Schedules.Views.{call_of}
-use Rattle.run_executor.specs.Given.TellerTells.{StepsTold}
+use Rattle.run_executor.specs.Given.TellerTells.{StepsObserved}
 use Rattle.run_executor.specs.Given.EffectsDeclared.changed.Changed.{Changed}
 use Rattle.run_executor.specs.Given.EffectsDeclared.changed.Changed.TheVariants as changes
 use Rattle.run_executor.specs.Given.RuleInWorld.{IsMapIn}
@@ -45,7 +45,7 @@ use Rattle.run_executor.proofs.Given.RuleLaws.{current_is_known}
 use Rattle.run_executor.specs.Given.PointsFactsCalls.{CallingFacts}
 use Rattle.run_executor.specs.Given.PointsSteps.{AreLawful}
 use Rattle.run_executor.specs.Given.PointsTold.{IsRowOfCall}
-use Rattle.run_executor.specs.Given.LateLateCalls.{LateCalling}
+use Rattle.run_executor.specs.Given.LateLateCalls.{SupersededCalling}
 use Rattle.run_executor.specs.Given.LateLeft.{Left}
 use Rattle.run_executor.specs.Given.CallersSights.{seen_by}
 use Rattle.run_executor.specs.Given.CallersTogether.{CallOnKey, Counting, ForRoom, OnKey, OverAll, Together, UnderWay, in_slot}
@@ -60,12 +60,12 @@ use Rattle.run_executor.proofs.Given.FollowsFinds.{tables_many}
 use Rattle.run_executor.proofs.Given.FollowsSteps.{WentTo, went_to}
 use Rattle.run_executor.proofs.Given.OthersOutcomes.{told_in}
 use Rattle.run_executor.specs.Given.SpotsSpots.{LiesAt}
-use Rattle.run_executor.specs.Given.MomentsWhole.{ShowsWhole}
-use Rattle.run_sweeps.specs.Given.FindsWithin.{many_of}
-use Rattle.run_sweeps.proofs.Given.FindsGrows.Steps.{tables_have_been}
-use Rattle.run_sweeps.proofs.Given.FindsSteps.{steps_do_theirs}
-use Rattle.run_sweeps.specs.Sources.Sources.{ShowsSources}
-use Rattle.run_grows.specs.Grows.Tries.{HasTaken, MachineTried, OthersHadTried, ShowsTries}
+use Rattle.run_executor.specs.Given.MomentsWhole.{RefinesWhole}
+use Rattle.run_finds.specs.Within.{many_of}
+use Rattle.run_finds.proofs.Grows.Steps.{tables_have_been}
+use Rattle.run_finds.proofs.Steps.{steps_do_theirs}
+use Rattle.run_grows.specs.Sources.Sources.{RefinesSources}
+use Rattle.run_grows.specs.Grows.Tries.{HasTaken, MachineTried, OthersHadTried, RefinesTries}
 use Rattle.run_grows.proofs.Grows.Since as since
 use Rattle.run_grows.proofs.Grows.Tries.Facts.{at_try, moves_none, takes_here}
 use Rattle.run_grows.proofs.Grows.Tries.More.{Tried, machine_more}
@@ -87,7 +87,7 @@ of_key_tried : {K V : Type 0} (Why : Spot × ℕ → Type 0) (e : KeyCall K V K 
 of_key_tried Why (p, told) so = so
 
 module _ {K V : Type 0} (same : K → K → Bool) (hash : ℕ → K → ℕ) (name : ℕ → List ℕ) (log : Past K V) (m : Moment K V) (known : Known) (s : Scene K V) (old new : Held K V) (at : IsAt same hash old s)
-    (whole : ShowsWhole same name m known s) (map i : ℕ) (u : UnderWay K V K) (here : s.calls map i ≡ Some u) (said : Progress (Node K V)) (leads : StepLeads same hash i said s old new) where
+    (whole : RefinesWhole same name m known s) (map i : ℕ) (u : UnderWay K V K) (here : s.calls map i ≡ Some u) (said : Progress (Node K V)) (leads : StepLeads same hash i said s old new) where
   abbrev to : WentTo same hash name m known s old new at whole.all.shown map i u here said leads
   to = went_to same hash name m known s old new at whole.all.shown map i u here said leads
 
@@ -111,7 +111,7 @@ module _ {K V : Type 0} (same : K → K → Bool) (hash : ℕ → K → ℕ) (na
   tries_others others =
       since.others_go_on (Of K V) (more K V) (replies K V) (asked K V) (So K V) (Alike K V) (λ m v pairs. pairs) (so_where K V) same hash name log m known s old new at whole map i u here said leads others
 
-  module _ (sources : ShowsSources same name m known s) (tries : ShowsTries name log m s) (c : CallThere K V) (c_is : call_of (name i) m ≡ Some c) where
+  module _ (sources : RefinesSources same name m known s) (tries : RefinesTries name log m s) (c : CallThere K V) (c_is : call_of (name i) m ≡ Some c) where
     abbrev Before : Spot × ℕ → Type 0
     Before = HasTaken map c.begun log m
 
@@ -214,7 +214,7 @@ module _ {K V : Type 0} (same : K → K → Bool) (hash : ℕ → K → ℕ) (na
       no_last : (t began : ℕ) → Left st.chart began t → suc t ≡ st.chart.past → ⊥
       no_last t began gone last = let behind = gone.behind in let root = each.ground.map.map.rule.common.rooted (omega (arith, last)) in omega (arith, behind, root, last)
 
-      then_late : (began : ℕ) (stands : Calling) → Tries stands → LateCalling same st.hash same s.world i (in_slot st.setting (slot_of i)) st.chart seen x.keys began x.call stands → At x
+      then_late : (began : ℕ) (stands : Calling) → Tries stands → SupersededCalling same st.hash same s.world i (in_slot st.setting (slot_of i)) st.chart seen x.keys began x.call stands → At x
       then_late began calling.Probes trying late = (late.1.0, late.1.1, late.1.2, λ alone last. absurd (no_last late.1.0 began late.1.4 last))
       then_late began (calling.Tries word new) trying late = (late.1.0, late.1.1, late.1.2, λ alone last. absurd (no_last late.1.0 began late.1.4 last))
       then_late began (calling.Looks l) trying late = absurd (other (calling.Looks l) (λ e. cc e) (λ word new e. cc e) trying)
@@ -242,8 +242,8 @@ module _ {K V : Type 0} (same : K → K → Bool) (hash : ℕ → K → ℕ) (na
         inr (same_taken m v (same_pairs i map known (name i) m step_told off (steps_do_theirs K V same hash name m known s old new at whole map i u here said leads)) map
         (tables_have_been K V (Some (name i)) (Some map) effects m map) y now)
 
-    step_of : (x : UnderWay K V K) → u ≡ x → StepsTold K V (Machine K V K × Progress (Node K V)) old.memory changes.Nothing (machine_plan same same to.0.hash (machine_of x)) new.memory step_told (to.1, said)
-    step_of x is = subst (λ (y : UnderWay K V K). StepsTold K V (Machine K V K × Progress (Node K V)) old.memory changes.Nothing (machine_plan same same to.0.hash (machine_of y)) new.memory step_told (to.1, said)) is to.3
+    step_of : (x : UnderWay K V K) → u ≡ x → StepsObserved K V (Machine K V K × Progress (Node K V)) old.memory changes.Nothing (machine_plan same same to.0.hash (machine_of x)) new.memory step_told (to.1, said)
+    step_of x is = subst (λ (y : UnderWay K V K). StepsObserved K V (Machine K V K × Progress (Node K V)) old.memory changes.Nothing (machine_plan same same to.0.hash (machine_of y)) new.memory step_told (to.1, said)) is to.3
 
     came : (e : Machine K V K × Progress (Node K V)) → (to.1, said) ≡ e → MachineTried After e.0 → MachineTried After to.1
     came e e_is so = subst (λ (y : Machine K V K × Progress (Node K V)). MachineTried After y.0) (sym e_is) so
@@ -275,7 +275,7 @@ module _ {K V : Type 0} (same : K → K → Bool) (hash : ℕ → K → ℕ) (na
     own_tried (OverAll x) is =
         let it = told_in old.memory new.memory step_told of_sweep (sweep_plan to.0.hash x.sweep) (to.1, said) (step_of (OverAll x) is) in came (of_sweep it.0) it.1 (sweep_tried it.0)
 
-    pub tries_go_on : OthersHadTried name log i m s → ShowsTries name log v led
+    pub tries_go_on : OthersHadTried name log i m s → RefinesTries name log v led
     tries_go_on others =
         since.so_go_on (Of K V) (more K V) (replies K V) (asked K V) (So K V) (Alike K V) (λ m v pairs. pairs) (so_where K V) same hash name log m known s old new at whole map i u here said leads others c c_is
         (λ x is. own_tried u refl)

@@ -29,24 +29,24 @@ use Rattle.papaya_raw.specs.Given.ResizeCopier.{copier_plan}
 use Rattle.papaya_raw.specs.Given.ResizeCopierStates.{copying_all, helping}
 use Rattle.papaya_raw.specs.Given.ResizeDispose.{dispose_plan, disposing}
 use Rattle.papaya_raw.specs.Given.ResizeLookup.{lookup_plan}
-use Rattle.run_logged.specs.Given.ResizeNewTable as making
-use Rattle.run_logged.specs.Given.ResizeNewTable.{new_table_plan}
-use Rattle.run_logged.specs.Given.ResizeSum as summing
-use Rattle.run_logged.specs.Given.ResizeSum.{sum_plan}
-use Rattle.run_logged.specs.Given.ResizeDeclared.copier.Copier.{Copier}
-use Rattle.run_logged.specs.Given.ResizeDeclared.dispose.Dispose.{Dispose}
-use Rattle.run_logged.specs.Given.ResizeDeclared.lookup.Lookup.{Lookup}
-use Rattle.run_logged.specs.Given.ResizeDeclared.new_table.Making.{Making}
-use Rattle.run_logged.specs.Given.ResizeDeclared.new_table.Making.TheVariants as makes
-use Rattle.run_logged.specs.Given.ResizeDeclared.new_table.NewTable.{NewTable}
-use Rattle.run_logged.specs.Given.ResizeDeclared.yielding.Yielding.{Yielding}
-use Rattle.run_logged.specs.Given.ResizeDeclared.yielding.Yielding.TheVariants as outcome
-use Rattle.run_logged.specs.Given.ResizeDeclared.sum.Sum.{Sum}
-use Rattle.run_logged.specs.Given.ResizeDeclared.sum.Summing.{Summing}
-use Rattle.run_logged.specs.Given.ResizeDeclared.sum.Summing.TheVariants as sums
+use Rattle.run_finds.specs.Given.ResizeNewTable as making
+use Rattle.run_finds.specs.Given.ResizeNewTable.{new_table_plan}
+use Rattle.run_finds.specs.Given.ResizeSum as summing
+use Rattle.run_finds.specs.Given.ResizeSum.{sum_plan}
+use Rattle.run_finds.specs.Given.ResizeDeclared.copier.Copier.{Copier}
+use Rattle.run_finds.specs.Given.ResizeDeclared.dispose.Dispose.{Dispose}
+use Rattle.run_finds.specs.Given.ResizeDeclared.lookup.Lookup.{Lookup}
+use Rattle.run_finds.specs.Given.ResizeDeclared.new_table.Making.{Making}
+use Rattle.run_finds.specs.Given.ResizeDeclared.new_table.Making.TheVariants as makes
+use Rattle.run_finds.specs.Given.ResizeDeclared.new_table.NewTable.{NewTable}
+use Rattle.run_finds.specs.Given.ResizeDeclared.yielding.Yielding.{Yielding}
+use Rattle.run_finds.specs.Given.ResizeDeclared.yielding.Yielding.TheVariants as outcome
+use Rattle.run_finds.specs.Given.ResizeDeclared.sum.Sum.{Sum}
+use Rattle.run_finds.specs.Given.ResizeDeclared.sum.Summing.{Summing}
+use Rattle.run_finds.specs.Given.ResizeDeclared.sum.Summing.TheVariants as sums
 use Rattle.papaya_raw.specs.Call.{call_plan, copied, disposed, dropped, first_made, helped, key_read, looked, looks_for, made, makes_of, next_made, next_read, pair_read, plan_at, root_found, word_read}
 use Rattle.papaya_raw.specs.CallFills.{asks_at, fill_by, fills_with, gives_up, putting_by}
-use Rattle.papaya_raw.specs.CallPoints.{aim_of, at_free, at_last, at_pair, changed, counted, entering, following_made, gap_by, going, having_met, over, pair_by, passed, standing, tableless, told_of, went_on, told as tells_of}
+use Rattle.papaya_raw.specs.CallPoints.{aim_of, at_free, at_last, at_pair, changed, counted, entering, following_made, gap_by, going, having_met, over, pair_by, passed, standing, tableless, after_finding, continued_in, told as tells_of}
 use Rattle.papaya_raw.specs.Replies.{as_own, value_for}
 use Rattle.papaya_raw.specs.declared.machines.answer.Called.{Called}
 use Rattle.papaya_raw.specs.declared.machines.answer.Called.TheVariants as called
@@ -69,7 +69,7 @@ use Rattle.papaya_raw.specs.declared.machines.call.Calling.TheVariants as at
 use Rattle.papaya_raw.specs.declared.machines.call.KeyCall.{KeyCall}
 use Rattle.run_schedules.specs.declared.effect.Spot.{Spot}
 use Rattle.run_schedules.specs.Schedules.Tries.{try_at}
-use Rattle.run_executor.specs.Given.TellerTells.{StepsTold}
+use Rattle.run_executor.specs.Given.TellerTells.{StepsObserved}
 use Rattle.run_executor.specs.Given.EffectsDeclared.changed.Changed.{Changed}
 use Rattle.run_executor.specs.Given.EffectsDeclared.changed.Changed.TheVariants as changes
 use Rattle.run_executor.proofs.Given.PointsCalls.Asked.{beyond_so}
@@ -99,7 +99,7 @@ module _ (Why : Spot × ℕ → Type 0) {K V Q : Type 0} where
   entering_tried : (q : KeyCall K V Q) (table : Table) → So (entering q table)
   entering_tried q table = ((let none : 0 ≤ 0 = omega arith in none), refl)
 
-  on_tried : (q : KeyCall K V Q) (table : Table) → So (went_on q table)
+  on_tried : (q : KeyCall K V Q) (table : Table) → So (continued_in q table)
   on_tried q table =
       either Why (is_incremental q.setting.mode) (if q.helped then entering q table else going (record q { helped = true }) (at.Helps (helping q.setting) table))
       (going q (at.Copies (copying_all q.setting q.trial.table table)))
@@ -228,7 +228,7 @@ module _ (Why : Spot × ℕ → Type 0) {K V Q : Type 0} where
           some : finding q.setting.mode (aim_of q.missing) word flag ≡ finds.Passed → word ≢ 0
           some e none = let empty : finding q.setting.mode (aim_of q.missing) 0 flag ≡ finds.Passed = subst (λ (x : ℕ). finding q.setting.mode (aim_of q.missing) x flag ≡ finds.Passed) none e in cc empty
 
-          by : (found : Finding) → finding q.setting.mode (aim_of q.missing) word flag ≡ found → So (told_of loaded q word found)
+          by : (found : Finding) → finding q.setting.mode (aim_of q.missing) word flag ≡ found → So (after_finding loaded q word found)
           by finds.Free e = free_tried q.missing
           by finds.Passed e = passed_tried (some e) (nat_lt q.trial.probe.len q.trial.table.limit) refl
           by finds.Moved e = moved_tried (moves flag e)
@@ -258,7 +258,7 @@ module _ {K V Q : Type 0} (Why : Spot × ℕ → Type 0) (asks : Q → K → Boo
   Goal = Tried OfNone end ⊎ (OffWords told × Tried Why end)
 
   abbrev Step : {R : Type 0} → Plan (Node K V) R → R → Type 0
-  Step {R} plan e = StepsTold K V R m changes.Nothing plan m2 told e
+  Step {R} plan e = StepsObserved K V R m changes.Nothing plan m2 told e
 
   -- what goes on to no try
   by_plan : (plan : Plan (Node K V) (KeyCall K V Q × Called (Node K V))) → AlwaysOf (Tried OfNone) plan → Step plan end → Goal

@@ -17,9 +17,9 @@ use Rattle.run_places.specs.Given.EffectsKnown.{Known}
 use Rattle.run_places.specs.Given.EffectsDeclared.acting.Acting.TheVariants as acts
 use Rattle.run_places.specs.Hands.Calling.{AsksJust}
 use Rattle.run_histories.specs.Histories.AsCalled.{AsksAsCalled}
-use Rattle.run_histories.specs.Histories.Asking.{IsToldQuestion}
-use Rattle.run_histories.specs.Histories.Events.{ComesToIt}
-use Rattle.run_histories.specs.Histories.InEvent.{ComesSo, EventsAskThere}
+use Rattle.run_histories.specs.Histories.Asking.{IsQuestionAsked}
+use Rattle.run_histories.specs.Histories.Events.{HasOutcome}
+use Rattle.run_histories.specs.Histories.InEvent.{HasOutcomeSo, EventsAskThere}
 use Rattle.run_histories.specs.Histories.OtherMidsts.{AsksAsSaid, InOtherMidst}
 use Rattle.run_histories.specs.Histories.Several.{InMidst}
 use Rattle.run_histories.proofs.Histories.Asking.{asking_steps_stand_there}
@@ -53,7 +53,7 @@ module _ (K V : Type 0) (same : K → K → Bool) (hash : ℕ → K → ℕ) (na
   known2 = known_after (acts.Call i map) new.changed known
 
   key_asks : (x : CallOnKey K V K) (here : s.calls map i ≡ Some (OnKey x)) (one : OneKey K V) (said : Progress (Node K V)) (leads : StepLeads same hash i said s old new) (question : Option ℕ)
-      → ComesToIt known2 one c.replies said (outcome.Asks question) → (next : UnderWay K V K) → (leads map (OnKey x) here).4.next ≡ Some next → AsksSo known2 next (outcome.Asks question)
+      → HasOutcome known2 one c.replies said (outcome.Asks question) → (next : UnderWay K V K) → (leads map (OnKey x) here).4.next ≡ Some next → AsksSo known2 next (outcome.Asks question)
   key_asks x here one (progress.Asks about) leads question told next goes =
       let it = asking_steps_stand_there K V same hash s old new map i x here about leads in
       subst (λ (z : UnderWay K V K). AsksSo known2 z (outcome.Asks question)) (one_of (OnKey it.0) next (sym it.1 ∙ goes)) (it.2 known2 question told, tt)
@@ -66,16 +66,16 @@ module _ (K V : Type 0) (same : K → K → Bool) (hash : ℕ → K → ℕ) (na
   other_asks u midst (progress.Asks about) leads question told next goes =
       let it = asks_next same hash name log beginning map i c done m known s u midst old new at_old about leads in
       subst (λ (z : UnderWay K V K). AsksSo known2 z (outcome.Asks question)) (one_of (OverAll it.0) next (sym it.1 ∙ goes))
-      (tt, (it.2, it.4, subst (λ (z : Option ℕ). IsToldQuestion known2 z question) it.3 told))
+      (tt, (it.2, it.4, subst (λ (z : Option ℕ). IsQuestionAsked known2 z question) it.3 told))
   other_asks u midst _ leads question told next goes = absurd told
 
-  module _ (said : Progress (Node K V)) (leads : StepLeads same hash i said s old new) (o : Outcome V) (comes : ComesSo known2 c.call c.replies said o) (next : UnderWay K V K) where
+  module _ (said : Progress (Node K V)) (leads : StepLeads same hash i said s old new) (o : Outcome V) (comes : HasOutcomeSo known2 c.call c.replies said o) (next : UnderWay K V K) where
     key_there : (x : CallOnKey K V K) (one : OneKey K V) → c.call ≡ On one → (midst : InMidst same name log beginning map i one c done m known s x) → (leads map (OnKey x) midst.here).4.next ≡ Some next
         → AsksSo known2 next o
     key_there x one one_is midst goes = elim (asks_or_none o) as (λ _. AsksSo known2 next o) [
       | inl (question, is) ↦ subst (λ (z : Outcome V). AsksSo known2 next z) (sym is)
           (key_asks x midst.here one said leads question
-          (subst (λ (z : Outcome V). ComesToIt known2 one c.replies said z) is (comes_of_key same known2 c.replies said o c.call one one_is comes)) next goes)
+          (subst (λ (z : Outcome V). HasOutcome known2 one c.replies said z) is (comes_of_key same known2 c.replies said o c.call one one_is comes)) next goes)
       | inr none ↦ quiet known2 next o none
     ]
 

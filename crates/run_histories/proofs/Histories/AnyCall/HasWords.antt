@@ -32,7 +32,7 @@ use Rattle.run_places.specs.Given.SchedulesSequential.{Answers, Puts, Takes, mea
 use Rattle.run_places.specs.Given.SchedulesViews.{call_of, reply_to}
 use Rattle.run_places.specs.Given.RuleChart.{Phase, Still, Holds, Chart}
 use Rattle.run_places.specs.Given.RuleWords.{Blocks, place_word}
-use Rattle.run_places.specs.Given.PointsFactsCalls.{Change, Stored, Replaced, Removed, Tells}
+use Rattle.run_places.specs.Given.PointsFactsCalls.{Change, Stored, Replaced, Removed, AnswersChange}
 use Rattle.run_places.specs.Given.PointsSteps.{AreLawful}
 use Rattle.run_places.specs.Given.LateFactsSweeps.{SweepingFacts}
 use Rattle.run_places.specs.Given.LateKinds.{Fits}
@@ -41,7 +41,7 @@ use Rattle.run_places.specs.Given.CallersOverAll.{CallOverAll}
 use Rattle.run_places.specs.Given.CallersPairs.{Given, Begun, IsTold, kind_of, LeavesGiven}
 use Rattle.run_places.specs.Given.CallersSights.{seen_by}
 use Rattle.run_places.specs.Given.CallersSince.{SoSince}
-use Rattle.run_places.specs.Given.CallersTogether.{CallOnKey, UnderWay, OnKey, ForRoom, Counting, OverAll, Together, AsksAbout, AnswersOnce, change_told, in_slot}
+use Rattle.run_places.specs.Given.CallersTogether.{CallOnKey, UnderWay, OnKey, ForRoom, Counting, OverAll, Together, AsksAbout, AnswersOnce, change_observed, in_slot}
 use Rattle.run_places.proofs.Given.CallersTogether.At.{at_same}
 use Rattle.run_places.proofs.Given.CallersTogether.Replies.{replies_stand_together}
 use Rattle.run_places.specs.Given.FinishesMachines.{machine_of}
@@ -50,16 +50,16 @@ use Rattle.run_places.specs.Given.EffectsEffects.{effects_of, known_after}
 use Rattle.run_places.specs.Given.EffectsKnown.{Known}
 use Rattle.run_places.specs.Given.EffectsDeclared.acting.Acting.TheVariants as acts
 use Rattle.run_places.specs.Given.EffectsDeclared.role.Role.TheVariants as role
-use Rattle.run_places.specs.Given.FollowsShows.{Shows}
+use Rattle.run_places.specs.Given.FollowsShows.{Refines}
 use Rattle.run_places.proofs.Given.FollowsSteps.{WentTo, LeadsThere, DidSo}
 use Rattle.run_places.specs.Hands.Asked.{given_by, IsAskedOn, IsAskedAs}
 use Rattle.run_places.proofs.Hands.Replacing.{calls_after}
 use Rattle.run_places.proofs.Hands.Steps.{numbers_apart}
-use Rattle.run_places.specs.Moments.Whole.{ShowsWhole}
-use Rattle.run_histories.specs.Histories.Answers.{NamesPair, IsToldAs, IsToldDone}
-use Rattle.run_histories.specs.Histories.Asking.{IsToldQuestion}
-use Rattle.run_histories.specs.Histories.Due.{Owes, ShowsDue}
-use Rattle.run_histories.specs.Histories.Events.{ComesToIt}
+use Rattle.run_places.specs.Moments.Whole.{RefinesWhole}
+use Rattle.run_histories.specs.Histories.Answers.{NamesPair, IsAnsweredAs, IsAnsweredDone}
+use Rattle.run_histories.specs.Histories.Asking.{IsQuestionAsked}
+use Rattle.run_histories.specs.Histories.Due.{HasPendingAnswer, RefinesPendingAnswers}
+use Rattle.run_histories.specs.Histories.Events.{HasOutcome}
 use Rattle.run_histories.specs.Histories.Words.{QuestionsHaveWords, StepsHaveWords}
 use Rattle.run_histories.proofs.Histories.Answers.{ended}
 use Rattle.run_histories.proofs.Histories.Asking.{goes_there}
@@ -78,7 +78,7 @@ use Rattle.run_places.specs.Given.SchedulesTransition.{Past}
 
 -- In a scene, what a call asks about is a pair of the run.
 module _ {K V : Type 0} (same : K → K → Bool) (hash : ℕ → K → ℕ) (name : ℕ → List ℕ) (m : Moment K V) (known : Known) (s : Scene K V) (e : Held K V) (at_e : IsAt same hash e s)
-    (shown : Shows same name m known s) (map i : ℕ) (x : UnderWay K V K) (here : s.calls map i ≡ Some x) where
+    (shown : Refines same name m known s) (map i : ℕ) (x : UnderWay K V K) (here : s.calls map i ≡ Some x) where
   abbrev there : Standing K
   there = (stands same hash s e at_e map i x here).0
 
@@ -124,7 +124,7 @@ module _ {K V : Type 0} (same : K → K → Bool) (hash : ℕ → K → ℕ) (na
       by (retains, (n, borrowed, l, known_too, word_is), t, place) = names (each.inside i (OverAll o) (here ∙ ap Some is)) word n borrowed l known_too word_is
 
 module _ {K V : Type 0} (same : K → K → Bool) (hash : ℕ → K → ℕ) (name : ℕ → List ℕ) (m : Moment K V) (known : Known) (s : Scene K V) (old new : Held K V) (at_old : IsAt same hash old s)
-    (whole : ShowsWhole same name m known s) (shown : Shows same name m known s) (map i : ℕ) (u : UnderWay K V K) (here : s.calls map i ≡ Some u) (about : Option ℕ)
+    (whole : RefinesWhole same name m known s) (shown : Refines same name m known s) (map i : ℕ) (u : UnderWay K V K) (here : s.calls map i ≡ Some u) (about : Option ℕ)
     (leads : StepLeads same hash i (progress.Asks about) s old new) where
   abbrev asks : Progress (Node K V)
   asks = progress.Asks about
@@ -136,7 +136,7 @@ module _ {K V : Type 0} (same : K → K → Bool) (hash : ℕ → K → ℕ) (na
   s2 = scene_after same s old new map i (leads map u here).0 u (leads map u here).1 asks (leads map u here).4
 
   abbrev Question : Type 0
-  Question = (question : Option ℕ) × IsToldQuestion known_then about question
+  Question = (question : Option ℕ) × IsQuestionAsked known_then about question
 
   next : UnderWay K V K
   next = (leads map u here).4.goes_on.0
@@ -154,7 +154,7 @@ module _ {K V : Type 0} (same : K → K → Bool) (hash : ℕ → K → ℕ) (na
   on = led_on same hash name m known s old new at_old whole shown map i u here asks leads
 
   of_word : (word : ℕ) → about ≡ Some word → (q : ℕ) × NamesPair known_then word q → Question
-  of_word word is named = (Some named.0, subst (λ (z : Option ℕ). IsToldQuestion known_then z (Some named.0)) (sym is) named.1)
+  of_word word is named = (Some named.0, subst (λ (z : Option ℕ). IsQuestionAsked known_then z (Some named.0)) (sym is) named.1)
 
   by_key : (x : CallOnKey K V K) → StepsFrom same (leads map u here).0.hash (kinds.Key x.call) old new (leads map u here).1 asks → Question
   by_key x steps = by about refl
@@ -163,7 +163,7 @@ module _ {K V : Type 0} (same : K → K → Bool) (hash : ℕ → K → ℕ) (na
       it = goes_there same (leads map u here).0.hash old new x (leads map u here).1 asks steps about refl next next_machine
 
       by : (z : Option ℕ) → about ≡ z → Question
-      by None is = (None, subst (λ (y : Option ℕ). IsToldQuestion known_then y None) (sym is) tt)
+      by None is = (None, subst (λ (y : Option ℕ). IsQuestionAsked known_then y None) (sym is) tt)
       by (Some word) is = of_word word is
           (key_names same hash name (v same hash name m known s old new at_old whole shown map i u here asks leads) known_then s2 new (leads map u here).5 on.shows map i next next_here it.0 it.1 word
           (subst (λ (y : Option ℕ). AsksAt y it.0.call.stands) is it.2))
@@ -188,12 +188,12 @@ module _ {K V : Type 0} (same : K → K → Bool) (hash : ℕ → K → ℕ) (na
   question_of = has_question u (leads map u here).3 (leads map u here).4.did
 
 module _ {K V : Type 0} (same : K → K → Bool) (hash : ℕ → K → ℕ) (name : ℕ → List ℕ) (log : Past K V) (m : Moment K V) (known : Known) (s : Scene K V) (old new : Held K V)
-    (at_old : IsAt same hash old s) (whole : ShowsWhole same name m known s) (dues : ShowsDue same name log m known s) (map i : ℕ) (z : CallOnKey K V K) (here : s.calls map i ≡ Some (OnKey z))
+    (at_old : IsAt same hash old s) (whole : RefinesWhole same name m known s) (dues : RefinesPendingAnswers same name log m known s) (map i : ℕ) (z : CallOnKey K V K) (here : s.calls map i ≡ Some (OnKey z))
     (c : CallThere K V) (c_is : call_of (name i) m ≡ Some c) (one : OneKey K V) (one_is : c.call ≡ On one) (answer : KeyAnswer) (leads : StepLeads same hash i (progress.Done (Key answer)) s old new) where
   abbrev said : Progress (Node K V)
   said = progress.Done (Key answer)
 
-  abbrev its_shown : Shows same name m known s
+  abbrev its_shown : Refines same name m known s
   its_shown = dues.history.shown
 
   abbrev went : WentTo same hash name m known s old new at_old its_shown map i (OnKey z) here said leads
@@ -240,15 +240,15 @@ module _ {K V : Type 0} (same : K → K → Bool) (hash : ℕ → K → ℕ) (na
   replies_are = (was_there same hash name log m known s old new at_old whole dues map i (OnKey z) here said leads i c d c_is d_is).1
 
   abbrev Words : Type 0
-  Words = (a : Response V) × (IsToldAs noted one c.replies answer a ⊎ IsToldDone noted one c.replies answer a)
+  Words = (a : Response V) × (IsAnsweredAs noted one c.replies answer a ⊎ IsAnsweredDone noted one c.replies answer a)
 
   module _ (c2 : Chart K) (looks : Blocks) (roles : (n : ℕ) → n < c2.stored → looks.pair_known n ≡ true → noted.roles (looks.pair n) ≡ role.Pair (number2 n)) where
     name_it : (word n : ℕ) (phase : Phase) (borrowed : Bool) → n < c2.stored → looks.pair_known n ≡ true → word ≡ place_word st.hash c2 looks (Holds n phase borrowed) → NamesPair noted word (number2 n)
     name_it word n phase borrowed l known_too is = ap noted.roles (named_by same st.hash (at_old.together.makings.standing.fit map st went.2).0 c2 looks word n phase borrowed is) ∙ roles n l known_too
 
     -- where it tells a change it tells what it means by that
-    done_by : (w : World (Node K V)) (change : Change) (an : KeyAnswer) → Tells same st.hash same w i (in_slot st.setting (slot_of i)) c2 looks z.keys change change an → Owes number2 st2.chart.stored one d change
-        → (a : Response V) × IsToldDone noted one c.replies an a
+    done_by : (w : World (Node K V)) (change : Change) (an : KeyAnswer) → AnswersChange same st.hash same w i (in_slot st.setting (slot_of i)) c2 looks z.keys change change an → HasPendingAnswer number2 st2.chart.stored one d change
+        → (a : Response V) × IsAnsweredDone noted one c.replies an a
     done_by w (Stored n) (answers.Stored word) (there, word_is) (l, a, value, meaning, due) = (
       a,
       (
@@ -294,7 +294,7 @@ module _ {K V : Type 0} (same : K → K → Bool) (hash : ℕ → K → ℕ) (na
     FitsIt given an = Fits (kind_of given).present (kind_of given).absent (kind_of given).takes an
 
     told_by : (memory : Mem (Node K V)) (an : KeyAnswer) → SoSince st.hash c2 looks z.keys z.began an → FitsIt (given_by one asked.asked) an
-        → LeavesGiven st.hash memory c2 looks (given_by one asked.asked) an → (a : Response V) × IsToldAs noted one c.replies an a
+        → LeavesGiven st.hash memory c2 looks (given_by one asked.asked) an → (a : Response V) × IsAnsweredAs noted one c.replies an a
     told_by memory (answers.Found word) (time, from, until, (n, had, known_too, phase, borrowed, word_is)) fits leaves =
         let it = finds_it number st.chart.stored apart asked.asked c.replies asked.replies n (number2 n) (λ l. sym (led.numbers map st went.2 n l)) one fits
         (leaves_it memory word n phase borrowed had.0 known_too word_is (given_by one asked.asked) leaves) in
@@ -305,17 +305,17 @@ module _ {K V : Type 0} (same : K → K → Bool) (hash : ℕ → K → ℕ) (na
     told_by memory (answers.Replaced before then_there) (time, from, until, never) fits leaves = absurd never
     told_by memory (answers.Removed word) (time, from, until, never) fits leaves = absurd never
 
-    words_by : (w : World (Node K V)) (change : Change) → AnswersOnce V same st.hash same st.setting slot_of w c2 looks i z change answer → Owes number2 st2.chart.stored one d change → Words
+    words_by : (w : World (Node K V)) (change : Change) → AnswersOnce V same st.hash same st.setting slot_of w c2 looks i z change answer → HasPendingAnswer number2 st2.chart.stored one d change → Words
     words_by w change (fits, inl (none, so, leaves)) owes =
         let it = told_by w.memory answer so (subst (λ (g : Given K V). FitsIt g answer) asked.given fits) (subst (λ (g : Given K V). LeavesGiven st.hash w.memory c2 looks g answer) asked.given leaves) in
         (it.0, inl it.1)
     words_by w change (fits, inr (changed, tells, stores)) owes = let it = done_by w change answer tells owes in (it.0, inr it.1)
 
   by : (did : DidSo same hash name m known s old new at_old its_shown map i (OnKey z) here said leads (OnKey z))
-      → Owes number2 st2.chart.stored one d (change_by same hash name log m known s old new at_old whole dues map i z here said leads c c_is one one_is st2 went.4.its_map.4 d d_is did) → Words
+      → HasPendingAnswer number2 st2.chart.stored one d (change_by same hash name log m known s old new at_old whole dues map i z here said leads c c_is one one_is st2 went.4.its_map.4 d d_is did) → Words
   by (p2, end, machine_is, told_is, inl (step, moved)) owes =
       words_by step.step.went.c2 step.step.went.blocks2 (roles_after same hash name m known s old new at_old whole its_shown map i z here said leads p2 end step moved.1) step.step.went.w2
-      (change_told V same st.hash same st.setting slot_of step.step.went.told) (step.step.answers answer (ended end answer told_is)) owes
+      (change_observed V same st.hash same st.setting slot_of step.step.went.told) (step.step.answers answer (ended end answer told_is)) owes
   by (p2, end, machine_is, told_is, inr (row, stayed)) owes =
       words_by st.chart (seen_by st.blocks (st.sights (slot_of i))) (roles_before same hash name m known s old new at_old whole its_shown map i z here said leads) row.step.w2
       z.change (row.step.answers answer (ended end answer told_is)) owes
@@ -349,7 +349,7 @@ module _ (K V : Type 0) (same : K → K → Bool) (hash : ℕ → K → ℕ) whe
   steps_have_words name log m known s old new at_old whole dues map i u here said leads c c_is one one_is =
       by said leads (let did = (leads map (OnKey u) here).4.did in subst (λ (x : Progress (Node K V)). IsOfKey x) (sym did.3) (of_key did.1))
     where
-      by : (x : Progress (Node K V)) → StepLeads same hash i x s old new → IsOfKey x → (o : Outcome V) × ComesToIt (known_after (acts.Call i map) new.changed known) one c.replies x o
+      by : (x : Progress (Node K V)) → StepLeads same hash i x s old new → IsOfKey x → (o : Outcome V) × HasOutcome (known_after (acts.Call i map) new.changed known) one c.replies x o
       by progress.Goes to_it is = (outcome.Goes, tt)
       by progress.Waits to_it is = (outcome.Waits, tt)
       by (progress.Gave value) to_it is = (outcome.Goes, tt)

@@ -20,18 +20,18 @@ use Rattle.run_places.specs.Given.EffectsEffects.{effects_of, known_after}
 use Rattle.run_places.specs.Given.EffectsKnown.{Known}
 use Rattle.run_places.specs.Given.EffectsDeclared.acting.Acting.TheVariants as acts
 use Rattle.run_places.specs.Given.FollowsCalls.{IsCalled}
-use Rattle.run_places.specs.Given.FollowsShows.{Shows}
+use Rattle.run_places.specs.Given.FollowsShows.{Refines}
 use Rattle.run_places.specs.Given.FollowsSteps.{Did}
 use Rattle.run_places.proofs.Given.FollowsCalled.{key_goes_on, room_goes_on, counting_goes_on, sweep_goes_on}
-use Rattle.run_places.specs.Moments.Whole.{ShowsWhole}
+use Rattle.run_places.specs.Moments.Whole.{RefinesWhole}
 use Rattle.run_places.proofs.Moments.Calls.{calls_keep_whole}
-use Rattle.run_histories.specs.Histories.AsCalled.{ShowsAsCalled}
-use Rattle.run_histories.specs.Histories.Due.{ShowsDue}
-use Rattle.run_histories.specs.Histories.Events.{ComesToIt}
-use Rattle.run_histories.specs.Histories.InEvent.{ComesSo, InEvent, EventsBegin, EventsGoOn, EventsKeepAll, EventsHaveWords, EventsEnd}
+use Rattle.run_histories.specs.Histories.AsCalled.{RefinesAsCalled}
+use Rattle.run_histories.specs.Histories.Due.{RefinesPendingAnswers}
+use Rattle.run_histories.specs.Histories.Events.{HasOutcome}
+use Rattle.run_histories.specs.Histories.InEvent.{HasOutcomeSo, InEvent, EventsBegin, EventsContinue, EventsPreserveAll, EventsHaveWords, EventsEnd}
 use Rattle.run_histories.specs.Histories.OtherCalls.{IsOnNoKey}
 use Rattle.run_histories.specs.Histories.OtherMidsts.{AsksAsSaid, InOtherMidst}
-use Rattle.run_histories.specs.Histories.Questions.{ShowsQuestions, AsksOnStill}
+use Rattle.run_histories.specs.Histories.Questions.{AllHaveAskedJust, AsksOnStill}
 use Rattle.run_histories.specs.Histories.Several.{InMidst}
 use Rattle.run_histories.proofs.Histories.NoKey.AsCalled.{calls_keep_as_called}
 use Rattle.run_histories.proofs.Histories.Due.{calls_keep_due}
@@ -69,11 +69,11 @@ module _ {K V : Type 0} (same : K → K → Bool) where
   on_none (OverAll o) call.Walk other is = tt
   on_none _ _ other is = absurd is
 
-  pub comes_of_key : (known : Known) (replies : List (Option ℕ × Reply V)) (said : Progress (Node K V)) (o : Outcome V) (its : Call K V) (one : OneKey K V) → its ≡ call.On one → ComesSo known its replies said o
-      → ComesToIt known one replies said o
-  comes_of_key known replies said o its one e comes = subst (λ (x : Call K V). ComesSo known x replies said o) e comes
+  pub comes_of_key : (known : Known) (replies : List (Option ℕ × Reply V)) (said : Progress (Node K V)) (o : Outcome V) (its : Call K V) (one : OneKey K V) → its ≡ call.On one → HasOutcomeSo known its replies said o
+      → HasOutcome known one replies said o
+  comes_of_key known replies said o its one e comes = subst (λ (x : Call K V). HasOutcomeSo known x replies said o) e comes
 
-  pub comes_of_none : (known : Known) (replies : List (Option ℕ × Reply V)) (said : Progress (Node K V)) (o : Outcome V) (its : Call K V) → IsOnNoKey its → ComesSo known its replies said o → AsksAsSaid known said o
+  pub comes_of_none : (known : Known) (replies : List (Option ℕ × Reply V)) (said : Progress (Node K V)) (o : Outcome V) (its : Call K V) → IsOnNoKey its → HasOutcomeSo known its replies said o → AsksAsSaid known said o
   comes_of_none known replies said o (call.On one) other comes = absurd other
   comes_of_none known replies said o (call.Reserve n) other comes = comes
   comes_of_none known replies said o call.Clear other comes = comes
@@ -81,7 +81,7 @@ module _ {K V : Type 0} (same : K → K → Bool) where
   comes_of_none known replies said o call.Len other comes = comes
   comes_of_none known replies said o call.Walk other comes = comes
 
-  so_of_none : (known : Known) (replies : List (Option ℕ × Reply V)) (said : Progress (Node K V)) (o : Outcome V) (its : Call K V) → IsOnNoKey its → AsksAsSaid known said o → ComesSo known its replies said o
+  so_of_none : (known : Known) (replies : List (Option ℕ × Reply V)) (said : Progress (Node K V)) (o : Outcome V) (its : Call K V) → IsOnNoKey its → AsksAsSaid known said o → HasOutcomeSo known its replies said o
   so_of_none known replies said o (call.On one) other comes = absurd other
   so_of_none known replies said o (call.Reserve n) other comes = comes
   so_of_none known replies said o call.Clear other comes = comes
@@ -89,7 +89,7 @@ module _ {K V : Type 0} (same : K → K → Bool) where
   so_of_none known replies said o call.Len other comes = comes
   so_of_none known replies said o call.Walk other comes = comes
 
-  called_so : (name : ℕ → List ℕ) (m : Moment K V) (known : Known) (s : Scene K V) → Shows same name m known s → (map i : ℕ) (u : UnderWay K V K) → s.calls map i ≡ Some u
+  called_so : (name : ℕ → List ℕ) (m : Moment K V) (known : Known) (s : Scene K V) → Refines same name m known s → (map i : ℕ) (u : UnderWay K V K) → s.calls map i ≡ Some u
       → (c : CallThere K V) → call_of (name i) m ≡ Some c → IsCalled same u c.call
   called_so name m known s shown map i u here c c_is = let was = shown.calls map i u here in subst (λ (x : CallThere K V). IsCalled same u x.call) (one_of was.0 c (sym was.1 ∙ c_is)) was.3
 
@@ -158,7 +158,7 @@ module _ (K V : Type 0) (same : K → K → Bool) (hash : ℕ → K → ℕ) whe
         (other_still same hash s old new map i said leads u midst.here next goes u other (leads map u midst.here).4.did)
         (other_midsts_go_on K V same hash name log beginning map i c done m known s u midst old new at_old said leads next goes)
 
-    key_goes : (x : CallOnKey K V K) (one : OneKey K V) (one_is : c.call ≡ call.On one) (midst : InMidst same name log beginning map i one c done m known s x) → ShowsAsCalled same name m known s
+    key_goes : (x : CallOnKey K V K) (one : OneKey K V) (one_is : c.call ≡ call.On one) (midst : InMidst same name log beginning map i one c done m known s x) → RefinesAsCalled same name m known s
         → (next : UnderWay K V K) → (leads map (OnKey x) midst.here).4.next ≡ Some next → InEvent same name log beginning map i c done2 m2 known2 (scene2 (OnKey x) midst.here) next
     key_goes x one one_is midst called next goes =
         let still = key_still same hash s old new map i said leads (OnKey x) midst.here next goes x (leads map (OnKey x) midst.here).4.did in
@@ -170,7 +170,7 @@ module _ (K V : Type 0) (same : K → K → Bool) (hash : ℕ → K → ℕ) whe
         )
 
     abbrev All : (u : UnderWay K V K) → s.calls map i ≡ Some u → Type 0
-    All u here = ShowsWhole same name m2 known2 (scene2 u here) × ShowsDue same name log m2 known2 (scene2 u here) × ShowsAsCalled same name m2 known2 (scene2 u here)
+    All u here = RefinesWhole same name m2 known2 (scene2 u here) × RefinesPendingAnswers same name log m2 known2 (scene2 u here) × RefinesAsCalled same name m2 known2 (scene2 u here)
 
     other_keeps : (u : UnderWay K V K) (midst : InOtherMidst same name log beginning map i c done m known s u) → All u midst.here
     other_keeps u midst = (
@@ -179,7 +179,7 @@ module _ (K V : Type 0) (same : K → K → Bool) (hash : ℕ → K → ℕ) whe
       calls_keep_as_called K V same hash name m known s old new at_old midst.whole midst.called map i u midst.here said leads,
     )
 
-    key_keeps : (x : CallOnKey K V K) (one : OneKey K V) → c.call ≡ call.On one → (midst : InMidst same name log beginning map i one c done m known s x) → ShowsAsCalled same name m known s → All (OnKey x) midst.here
+    key_keeps : (x : CallOnKey K V K) (one : OneKey K V) → c.call ≡ call.On one → (midst : InMidst same name log beginning map i one c done m known s x) → RefinesAsCalled same name m known s → All (OnKey x) midst.here
     key_keeps x one one_is midst called = (
       calls_keep_whole K V same hash name m known s old new at_old midst.whole map i (OnKey x) midst.here said leads,
       calls_keep_due K V same hash name log m known s old new at_old midst.whole midst.dues map i (OnKey x) midst.here said leads
@@ -194,7 +194,7 @@ module _ (K V : Type 0) (same : K → K → Bool) (hash : ℕ → K → ℕ) whe
     other_words u other midst _ its = (outcome.Goes, tt)
 
     abbrev Words : Type 0
-    Words = (o : Outcome V) × ComesSo known2 c.call c.replies said o
+    Words = (o : Outcome V) × HasOutcomeSo known2 c.call c.replies said o
 
     other_says : (u : UnderWay K V K) → IsOther same u → InOtherMidst same name log beginning map i c done m known s u → Words
     other_says u other midst = let it = other_words u other midst said leads in (it.0, so_of_none same known2 c.replies said it.0 c.call midst.other it.1)
@@ -203,10 +203,10 @@ module _ (K V : Type 0) (same : K → K → Bool) (hash : ℕ → K → ℕ) whe
     key_says x one one_is midst =
         let it = steps_have_words K V same hash name log m known s old new at_old midst.whole midst.dues map i x midst.here said leads midst.there midst.there_is one (midst.same_call.call ∙ one_is) in (
           it.0,
-          subst (λ (y : Call K V). ComesSo known2 y c.replies said it.0) (sym one_is) (subst (λ (r : List (Option ℕ × Reply V)). ComesToIt known2 one r said it.0) midst.same_call.replies it.1),
+          subst (λ (y : Call K V). HasOutcomeSo known2 y c.replies said it.0) (sym one_is) (subst (λ (r : List (Option ℕ × Reply V)). HasOutcome known2 one r said it.0) midst.same_call.replies it.1),
         )
 
-  pub events_go_on : EventsGoOn K V same hash
+  pub events_go_on : EventsContinue K V same hash
   events_go_on name log beginning map i c done m known s (OnKey x) midst old new at_old said leads next goes =
       key_goes name log beginning map i c done m known s old new at_old said leads x midst.0 midst.1 midst.2 midst.3 next goes
   events_go_on name log beginning map i c done m known s (ForRoom r) midst old new at_old said leads next goes =
@@ -216,7 +216,7 @@ module _ (K V : Type 0) (same : K → K → Bool) (hash : ℕ → K → ℕ) whe
   events_go_on name log beginning map i c done m known s (OverAll o) midst old new at_old said leads next goes =
       other_goes_on name log beginning map i c done m known s old new at_old said leads (OverAll o) tt midst next goes
 
-  pub events_keep_all : EventsKeepAll K V same hash
+  pub events_keep_all : EventsPreserveAll K V same hash
   events_keep_all name log beginning map i c done m known s (OnKey x) midst old new at_old said leads =
       key_keeps name log beginning map i c done m known s old new at_old said leads x midst.0 midst.1 midst.2 midst.3
   events_keep_all name log beginning map i c done m known s (ForRoom r) midst old new at_old said leads = other_keeps name log beginning map i c done m known s old new at_old said leads (ForRoom r) midst
@@ -232,7 +232,7 @@ module _ (K V : Type 0) (same : K → K → Bool) (hash : ℕ → K → ℕ) whe
   module _ (name : ℕ → List ℕ) (log : Past K V) (beginning : Moment K V) (map i : ℕ) (c : CallThere K V) (c_is : call_of (name i) beginning ≡ Some c)
       (done : List Effect) (m : Moment K V) (known : Known) (s : Scene K V) (old new : Held K V) (at_old : IsAt same hash old s) (said : Progress (Node K V)) (leads : StepLeads same hash i said s old new)
       (t : Transition K V) (is_caller : t.caller ≡ Some (name i)) (begun : t.found ≡ beginning) (acts_on : t.map ≡ Some map)
-      (effects_are : t.effects ≡ done ++ effects_of (acts.Call i map) known new.changed) (comes : ComesSo (known_after (acts.Call i map) new.changed known) c.call c.replies said t.outcome) where
+      (effects_are : t.effects ≡ done ++ effects_of (acts.Call i map) known new.changed) (comes : HasOutcomeSo (known_after (acts.Call i map) new.changed known) c.call c.replies said t.outcome) where
     other_ends : (u : UnderWay K V K) → InOtherMidst same name log beginning map i c done m known s u → Linearizes same log t × AsksOnStill t
     other_ends u midst =
         let as_said = comes_of_none same (known_after (acts.Call i map) new.changed known) c.replies said t.outcome c.call midst.other comes in (
@@ -240,7 +240,7 @@ module _ (K V : Type 0) (same : K → K → Bool) (hash : ℕ → K → ℕ) whe
           other_midsts_ask_still K V same hash name log beginning map i c c_is done m known s u midst old new at_old said leads t is_caller begun acts_on effects_are as_said,
         )
 
-    key_ends : (x : CallOnKey K V K) (one : OneKey K V) → c.call ≡ call.On one → ShowsQuestions beginning → InMidst same name log beginning map i one c done m known s x → Linearizes same log t × AsksOnStill t
+    key_ends : (x : CallOnKey K V K) (one : OneKey K V) → c.call ≡ call.On one → AllHaveAskedJust beginning → InMidst same name log beginning map i one c done m known s x → Linearizes same log t × AsksOnStill t
     key_ends x one one_is questions midst =
         let to_it = comes_of_key same (known_after (acts.Call i map) new.changed known) c.replies said t.outcome c.call one one_is comes in (
           midsts_end K V same hash name log beginning map i one c c_is one_is questions done m known s x midst old new at_old said leads t is_caller begun acts_on effects_are to_it,

@@ -15,17 +15,17 @@ use Rattle.run_places.specs.Given.CallersTogether.{UnderWay, OnKey, ForRoom, Cou
 use Rattle.run_places.specs.Given.EffectsEffects.{effects_of, known_after}
 use Rattle.run_places.specs.Given.EffectsKnown.{Known}
 use Rattle.run_places.specs.Given.EffectsDeclared.acting.Acting.TheVariants as acts
-use Rattle.run_places.specs.Given.FinishesMachines.{GoesOnAs}
+use Rattle.run_places.specs.Given.FinishesMachines.{ContinuesAs}
 use Rattle.run_places.specs.Given.FollowsCalling.{NoneNamed, come_to}
 use Rattle.run_places.proofs.Given.FollowsCalling.{apart_back}
 use Rattle.run_places.specs.Hands.Calling.{AsksJust}
 use Rattle.run_places.proofs.Hands.Asking.{which}
 use Rattle.run_places.specs.Given.OthersElsewhere.{HasSame}
-use Rattle.run_places.specs.Moments.Whole.{ShowsWhole}
+use Rattle.run_places.specs.Moments.Whole.{RefinesWhole}
 use Rattle.run_places.proofs.Moments.After.{effects_after}
 use Rattle.run_places.proofs.Moments.Calls.{calls_come_to_whole}
-use Rattle.run_histories.specs.Histories.AsCalled.{ShowsAsCalled, AsksAsCalled}
-use Rattle.run_histories.specs.Histories.Due.{ShowsDue}
+use Rattle.run_histories.specs.Histories.AsCalled.{RefinesAsCalled, AsksAsCalled}
+use Rattle.run_histories.specs.Histories.Due.{RefinesPendingAnswers}
 use Rattle.run_histories.specs.Histories.InEvent.{InEvent, here_of, EventsAreOver}
 use Rattle.run_histories.proofs.Histories.NoKey.AsCalledOn.{calls_come_to_as_called}
 use Rattle.run_histories.proofs.Histories.AnyCall.AsksThere.{events_ask_there}
@@ -51,12 +51,12 @@ module _ {K V : Type 0} where
   }
 
   -- one that has ended is under way no more
-  gone : (machine : Machine K V K) (said : Progress (Node K V)) (next : Option (UnderWay K V K)) → has_ended said ≡ true → GoesOnAs machine said next → next ≡ None
+  gone : (machine : Machine K V K) (said : Progress (Node K V)) (next : Option (UnderWay K V K)) → has_ended said ≡ true → ContinuesAs machine said next → next ≡ None
   gone machine (progress.Done answer) next e it = it
   gone machine (progress.Refused fault) next e it = it
   gone machine _ next e it = absurd (cc e)
 
-module _ {K V : Type 0} (same : K → K → Bool) (hash : ℕ → K → ℕ) (name : ℕ → List ℕ) (log : List (Entry K V)) (m : Moment K V) (known : Known) (s : Scene K V) (dues : ShowsDue same name (past log) m known s)
+module _ {K V : Type 0} (same : K → K → Bool) (hash : ℕ → K → ℕ) (name : ℕ → List ℕ) (log : List (Entry K V)) (m : Moment K V) (known : Known) (s : Scene K V) (dues : RefinesPendingAnswers same name (past log) m known s)
     (map i : ℕ) (u : UnderWay K V K) (here : s.calls map i ≡ Some u) (old new : Held K V) (said : Progress (Node K V)) (leads : StepLeads same hash i said s old new) (e : Entry K V)
     (ends : ends_call e.outcome ≡ has_ended said) where
   abbrev known2 : Known
@@ -96,17 +96,17 @@ module _ {K V : Type 0} (same : K → K → Bool) (hash : ℕ → K → ℕ) (na
       counted : (moment (e ∷ log)).events ≡ suc (length log)
       counted = let before = dues.history.past.counted in omega (arith, before)
 
-      pub all_over : ShowsWhole same name m2 known2 s2 → ShowsWhole same name (moment (e ∷ log)) known2 s2
+      pub all_over : RefinesWhole same name m2 known2 s2 → RefinesWhole same name (moment (e ∷ log)) known2 s2
       all_over whole2 = whole_over same name log e (name i) m2 is_caller worked_is known2 s2
           (calls_come_to_whole K V same name m2 known2 s2 whole2 (name i) e.outcome e.steps none_named (λ n j x is named. (asks_just n j x is named).0))
 
-      pub due_over : ShowsDue same name (past log) m2 known2 s2 → ShowsDue same name (past (e ∷ log)) (moment (e ∷ log)) known2 s2
+      pub due_over : RefinesPendingAnswers same name (past log) m2 known2 s2 → RefinesPendingAnswers same name (past (e ∷ log)) (moment (e ∷ log)) known2 s2
       due_over dues2 = events_keep_due K V same name (past log) (moment (e ∷ log)) known2 s2
           ((dues_stay K V same hash name (past log)).alike (come_to (name i) e.outcome e.steps m2) (moment (e ∷ log)) known2 s2
           (calls_come_to_due K V same name (past log) m2 known2 s2 dues2 (name i) e.outcome e.steps none_named (λ n j x is named. (asks_just n j x is named).0))
           (like_over log e (name i) m2 is_caller worked_is)) counted
 
-      pub as_called_over : ShowsAsCalled same name m2 known2 s2 → ShowsAsCalled same name (moment (e ∷ log)) known2 s2
+      pub as_called_over : RefinesAsCalled same name m2 known2 s2 → RefinesAsCalled same name (moment (e ∷ log)) known2 s2
       as_called_over called2 =
           (as_called_stays K V same hash name).alike (come_to (name i) e.outcome e.steps m2) (moment (e ∷ log)) known2 s2
           (calls_come_to_as_called K V same name m2 known2 s2 called2 (name i) e.outcome e.steps none_named (λ n j x is named. (asks_just n j x is named).1))
@@ -114,7 +114,7 @@ module _ {K V : Type 0} (same : K → K → Bool) (hash : ℕ → K → ℕ) (na
 
 module _ {K V : Type 0} (same : K → K → Bool) (name : ℕ → List ℕ) (log : List (Entry K V)) (beginning : Moment K V) (map i : ℕ) (c : CallThere K V) (done : List Effect) (m : Moment K V) (known : Known)
     (s : Scene K V) where
-  dues_of : (u : UnderWay K V K) → InEvent same name (past log) beginning map i c done m known s u → ShowsDue same name (past log) m known s
+  dues_of : (u : UnderWay K V K) → InEvent same name (past log) beginning map i c done m known s u → RefinesPendingAnswers same name (past log) m known s
   dues_of (OnKey x) midst = midst.2.dues
   dues_of (ForRoom r) midst = midst.dues
   dues_of (Counting sum) midst = midst.dues

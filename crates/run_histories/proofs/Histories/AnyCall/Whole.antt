@@ -8,10 +8,10 @@ use Rattle.run_places.specs.Given.SchedulesEntry.{Entry, caller_of}
 use Rattle.run_places.specs.Given.SchedulesMoment.{MapThere, Remains, Sheltered, UnderWay as CallThere, Moment}
 use Rattle.run_places.specs.Given.EffectsKnown.{Known}
 use Rattle.run_places.specs.Given.FollowsCalling.{come_to}
-use Rattle.run_places.specs.Given.OthersAfter.{ShowsAfter}
+use Rattle.run_places.specs.Given.OthersAfter.{RefinesAfter}
 use Rattle.run_places.proofs.Given.OthersElsewhere.{shown_elsewhere}
 use Rattle.run_places.proofs.Given.OthersStays.{same_maps}
-use Rattle.run_places.specs.Moments.Whole.{ShowsWhole}
+use Rattle.run_places.specs.Moments.Whole.{RefinesWhole}
 use Rattle.run_places.proofs.Moments.MapsCome.{asked_still}
 use Rattle.run_histories.specs.Histories.InEvent.{AllStaysShown}
 use Rattle.run_histories.proofs.Histories.AnyCall.Lasts.{calls_over, maps_over}
@@ -30,7 +30,7 @@ module _ {K V : Type 0} (m : Moment K V) (events : ℕ) (is_mapped is_closed is_
     remains = remains;
   }
 
-  whole_still : (same : K → K → Bool) (name : ℕ → List ℕ) (known : Known) (s : Scene K V) → ShowsWhole same name m known s → ShowsWhole same name other known s
+  whole_still : (same : K → K → Bool) (name : ℕ → List ℕ) (known : Known) (s : Scene K V) → RefinesWhole same name m known s → RefinesWhole same name other known s
   whole_still same name known s whole =
       let hands = whole.all.hands in
       let held = whole.blocks in
@@ -51,7 +51,7 @@ module _ {K V : Type 0} (m : Moment K V) (events : ℕ) (is_mapped is_closed is_
         counters = whole.counters;
       }
     where
-      after : ShowsAfter same name m known s whole.all.shown other known s
+      after : RefinesAfter same name m known s whole.all.shown other known s
       after = shown_elsewhere K V same name m other known s s whole.all.shown (record { place = refl; born = refl; stored = refl; maps = refl; tables = refl; calls = refl })
           (record { memory = refl; hand = refl; maps = λ n. same_maps (s.maps n); calls = refl })
 
@@ -72,11 +72,11 @@ module _ {K V : Type 0} (same : K → K → Bool) (name : ℕ → List ℕ) (log
     remains = remains_on e.event e.outcome e.effects (moment log);
   }
 
-  pub whole_over : ShowsWhole same name (come_to own e.outcome e.steps m2) known s → ShowsWhole same name (moment (e ∷ log)) known s
+  pub whole_over : RefinesWhole same name (come_to own e.outcome e.steps m2) known s → RefinesWhole same name (moment (e ∷ log)) known s
   whole_over whole =
-      subst (λ (w : Moment K V). ShowsWhole same name (after_by w (calls_on e.event e.outcome e.steps w.calls) (maps_on e.event e.outcome w.maps)) known s) (sym worked_is)
-      (subst (λ (cs : List (CallThere K V)). ShowsWhole same name (after_by m2 cs (maps_on e.event e.outcome m2.maps)) known s) (sym (calls_over e.event e.outcome e.steps m2.calls own caller))
-      (subst (λ (fs : List MapThere). ShowsWhole same name (after_by m2 (stepped (Some own) e.outcome e.steps m2.calls) fs) known s) (sym (maps_over e.event e.outcome m2.maps own caller))
+      subst (λ (w : Moment K V). RefinesWhole same name (after_by w (calls_on e.event e.outcome e.steps w.calls) (maps_on e.event e.outcome w.maps)) known s) (sym worked_is)
+      (subst (λ (cs : List (CallThere K V)). RefinesWhole same name (after_by m2 cs (maps_on e.event e.outcome m2.maps)) known s) (sym (calls_over e.event e.outcome e.steps m2.calls own caller))
+      (subst (λ (fs : List MapThere). RefinesWhole same name (after_by m2 (stepped (Some own) e.outcome e.steps m2.calls) fs) known s) (sym (maps_over e.event e.outcome m2.maps own caller))
       (whole_still (come_to own e.outcome e.steps m2) ((moment log).events + 1) (mapped_on e.event (moment log).is_mapped) (closed_on e.event e.outcome (moment log).is_closed)
       ((moment log).is_alone && is_alone_on e (moment log)) (there_on e.event e.outcome m2.there) (slots_on e.outcome (moment log).slots) (sheltered_on e.event e.outcome m2.sheltered)
       (remains_on e.event e.outcome e.effects (moment log)) same name known s whole)))

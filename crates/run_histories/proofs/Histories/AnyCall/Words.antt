@@ -13,15 +13,15 @@ use Rattle.run_places.specs.Given.RunsDeclared.call.Reply.TheVariants.{Gives, Re
 use Rattle.run_places.specs.Given.SchedulesSequential.{Answers, Leaves, Takes, puts_reply, means}
 use Rattle.run_places.specs.Given.SchedulesViews.{reply_to}
 use Rattle.run_places.specs.Given.LateKinds.{MayFind, MayMiss}
-use Rattle.run_places.specs.Given.CallersAsked.{Asked, is_about, last_told, LeavesPair, LeavesNone}
+use Rattle.run_places.specs.Given.CallersAsked.{Asked, is_about, last_reply, LeavesPair, LeavesNone}
 use Rattle.run_places.specs.Given.CallersPairs.{Given, Begun, IsTold, kind_of}
-use Rattle.run_places.specs.Hands.Asked.{as_told, given_by, IsSameQuestion, AreReplies}
+use Rattle.run_places.specs.Hands.Asked.{reply_to_machine, given_by, IsSameQuestion, AreReplies}
 use Rattle.run_places.proofs.Hands.Replies.{told_as}
 use Rattle.run_places.specs.Given.SchedulesTransition.{further}
 
 module _ {V : Type 0} where
   -- what was told to abort was that, and what was told not to remove a pair was a no
-  aborted_by : (o : Option (Reply V)) → ◌≡◌ {A = Option (MachineReply V)} (option_map as_told o) (Some reply.Abort) → (w : V) × (o ≡ Some (Aborts w))
+  aborted_by : (o : Option (Reply V)) → ◌≡◌ {A = Option (MachineReply V)} (option_map reply_to_machine o) (Some reply.Abort) → (w : V) × (o ≡ Some (Aborts w))
   aborted_by None e = absurd (cc e)
   aborted_by (Some (Gives w)) e = absurd (cc e)
   aborted_by (Some Removes) e = absurd (cc e)
@@ -29,7 +29,7 @@ module _ {V : Type 0} where
   aborted_by (Some (Decides true)) e = absurd (cc e)
   aborted_by (Some (Decides false)) e = absurd (cc e)
 
-  denied_by : (o : Option (Reply V)) → ◌≡◌ {A = Option (MachineReply V)} (option_map as_told o) (Some reply.No) → o ≡ Some (Decides false)
+  denied_by : (o : Option (Reply V)) → ◌≡◌ {A = Option (MachineReply V)} (option_map reply_to_machine o) (Some reply.No) → o ≡ Some (Decides false)
   denied_by None e = absurd (cc e)
   denied_by (Some (Gives w)) e = absurd (cc e)
   denied_by (Some Removes) e = absurd (cc e)
@@ -47,14 +47,14 @@ module _ (number : ℕ → ℕ) (stored : ℕ) where
   about_stored None x n is e = absurd (cc e)
   about_stored (Some k) x n is e = subst (λ (z : ℕ). z < stored) (eqb-true k n e) (same_stored k x is)
 
-  told_stored : {V : Type 0} (asked : List (Asked V)) (replies : List (Option ℕ × Reply V)) → AreReplies number stored asked replies → (n : ℕ) (r : MachineReply V) → last_told (Some n) asked ≡ Some r → n < stored
+  told_stored : {V : Type 0} (asked : List (Asked V)) (replies : List (Option ℕ × Reply V)) → AreReplies number stored asked replies → (n : ℕ) (r : MachineReply V) → last_reply (Some n) asked ≡ Some r → n < stored
   told_stored [] replies are n r e = absurd (cc e)
   told_stored (a ∷ asked) [] are n r e = absurd are
   told_stored (a ∷ asked) (x ∷ replies) are n r e = by (is_about a.about (Some n)) refl (told_stored asked replies are.2 n r)
     where
-      by : (q : Bool) → is_about a.about (Some n) ≡ q → (last_told (Some n) asked ≡ Some r → n < stored) → n < stored
+      by : (q : Bool) → is_about a.about (Some n) ≡ q → (last_reply (Some n) asked ≡ Some r → n < stored) → n < stored
       by true is further = about_stored a.about x.0 n are.0 is
-      by false is further = further (sym (ap (λ (z : Bool). if z then Some a.told else last_told (Some n) asked) is) ∙ e)
+      by false is further = further (sym (ap (λ (z : Bool). if z then Some a.told else last_reply (Some n) asked) is) ∙ e)
 
 module _ {K V : Type 0} where
   -- what a call leaves so it was told to leave so, if it asks
@@ -69,7 +69,7 @@ module _ {K V : Type 0} where
 module _ {V : Type 0} (number : ℕ → ℕ) (stored : ℕ) (apart : (n o : ℕ) → n < stored → o < stored → number n ≡ number o → n ≡ o)
     (asked : List (Asked V)) (replies : List (Option ℕ × Reply V)) (are : AreReplies number stored asked replies) where
   -- of a pair with this number, if it was stored by then
-  reply_is : (n q : ℕ) → (n < stored → number n ≡ q) → (r : MachineReply V) → last_told (Some n) asked ≡ Some r → ◌≡◌ {A = Option (MachineReply V)} (option_map as_told (reply_to (Some q) replies)) (Some r)
+  reply_is : (n q : ℕ) → (n < stored → number n ≡ q) → (r : MachineReply V) → last_reply (Some n) asked ≡ Some r → ◌≡◌ {A = Option (MachineReply V)} (option_map reply_to_machine (reply_to (Some q) replies)) (Some r)
   reply_is n q same r e = let l = told_stored number stored asked replies are n r e in sym (told_as number stored apart (Some n) (Some q) (l, same l) asked replies are) ∙ e
 
 module _ {K V : Type 0} (number : ℕ → ℕ) (stored : ℕ) (apart : (n o : ℕ) → n < stored → o < stored → number n ≡ number o → n ≡ o)

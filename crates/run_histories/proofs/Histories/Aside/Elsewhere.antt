@@ -30,10 +30,10 @@ use Rattle.run_places.specs.Given.FinishesMakings.{Beginning}
 use Rattle.run_places.specs.Given.FinishesMaps.{Standing, with_call}
 use Rattle.run_places.specs.Given.FollowsCalling.{NoneNamed, come_to}
 use Rattle.run_places.specs.Given.FollowsCalls.{IsCalled}
-use Rattle.run_places.specs.Given.FollowsShows.{Shows}
+use Rattle.run_places.specs.Given.FollowsShows.{Refines}
 use Rattle.run_places.specs.Hands.Hands.{IsInUse}
 use Rattle.run_places.proofs.Hands.Asking.{which}
-use Rattle.run_places.specs.Given.OthersAfter.{ShowsAfter}
+use Rattle.run_places.specs.Given.OthersAfter.{RefinesAfter}
 use Rattle.run_places.specs.Given.OthersEndings.{ending_after, without_map}
 use Rattle.run_places.specs.Given.OthersGone.{WasRetired, EndsWith}
 use Rattle.run_places.specs.Given.OthersMakings.{making_after}
@@ -56,23 +56,23 @@ use Rattle.run_places.proofs.Moments.Ends.{end_beside, end_numbers, ends_with}
 use Rattle.run_places.proofs.Moments.MakingSteps.{makings_go_beside}
 use Rattle.run_places.proofs.Moments.OnSlots.{row_beside, rows_begin_beside, was_retired, with_outside}
 use Rattle.run_histories.specs.Histories.Elsewhere.{StaysElsewhere}
-use Rattle.run_places.specs.Given.ScenesEnding.{EndingComesTo, ending_begun}
+use Rattle.run_places.specs.Given.ScenesEnding.{EndingHasOutcome, ending_begun}
 use Rattle.run_places.specs.Given.ScenesHeld.{Held, IsAt}
-use Rattle.run_places.specs.Given.ScenesMaking.{MakingComesTo}
+use Rattle.run_places.specs.Given.ScenesMaking.{MakingHasOutcome}
 use Rattle.run_places.specs.Given.ScenesReplying.{scene_with, unless_stopped}
 use Rattle.run_places.specs.Given.ScenesScene.{Scene}
 use Rattle.run_places.proofs.Given.General.{same_some as one_of}
 
 -- where a making, and an end, has come, the scene is that of what is held
 module _ {K V : Type 0} (same : K → K → Bool) (hash : ℕ → K → ℕ) (s : Scene K V) (old new : Held K V) where
-  pub making_at : (i : ℕ) (b : Beginning K) (end : NewMap) (w2 : World (Node K V)) (told : Advance Setting) (it : MakingComesTo same hash s old new i b end w2 told)
+  pub making_at : (i : ℕ) (b : Beginning K) (end : NewMap) (w2 : World (Node K V)) (told : Advance Setting) (it : MakingHasOutcome same hash s old new i b end w2 told)
       → IsAt same hash new (making_after same hash s old new i b end w2 told it)
   making_at i b end w2 progress.Goes it = it
   making_at i b end w2 progress.Waits it = absurd it
   making_at i b end w2 (progress.Done setting) it = it.2
   making_at i b end w2 (progress.Refused fault) it = it
 
-  pub ending_at : (i : ℕ) (f : Finishing K V) (end : EndMap) (w2 : World (Node K V)) (deed : Deed) (told : Settled (Node K V)) (it : EndingComesTo same hash s new i f end w2 deed told)
+  pub ending_at : (i : ℕ) (f : Finishing K V) (end : EndMap) (w2 : World (Node K V)) (deed : Deed) (told : Settled (Node K V)) (it : EndingHasOutcome same hash s new i f end w2 deed told)
       → (let s2 = ending_after same hash s new i f end w2 deed told it in (s2.world ≡ w2) × (s2.calls ≡ s.calls) × (s2.maps ≡ s.maps) × IsAt same hash new s2 × (s2.makers ≡ s.makers))
   ending_at i f end w2 deed settled.Goes it = (refl, refl, refl, it.1, refl)
   ending_at i f end w2 deed settled.Waits it = absurd it
@@ -98,13 +98,13 @@ module _ {K V : Type 0} (same : K → K → Bool) (hash : ℕ → K → ℕ) (na
   abbrev pub StaysBeside : Type 0
   StaysBeside =
       (m m2 : Moment K V) (known known2 : Known) (s s2 : Scene K V) (old new : Held K V) → IsAt same hash old s → IsAt same hash new s2 → P m known s
-      → ((shown : Shows same name m known s) → ShowsAfter same name m known s shown m2 known2 s2) → IsBeside m m2 known known2 s s2 → P m2 known2 s2
+      → ((shown : Refines same name m known s) → RefinesAfter same name m known s shown m2 known2 s2) → IsBeside m m2 known known2 s s2 → P m2 known2 s2
 
   -- and where the same pairs were stored, and lie where they lay, no call comes, and each map stands as it stood
   abbrev pub StaysBetween : Type 0
   StaysBetween =
       (m m2 : Moment K V) (known : Known) (s s2 : Scene K V) → P m known s → m2.place ≡ m.place → m2.stored ≡ m.stored → m2.calls ≡ m.calls
-      → ((shown : Shows same name m known s) → ShowsAfter same name m known s shown m2 known s2) → ((n j : ℕ) (x : UnderWay K V K) → s2.calls n j ≡ Some x → s.calls n j ≡ Some x)
+      → ((shown : Refines same name m known s) → RefinesAfter same name m known s shown m2 known s2) → ((n j : ℕ) (x : UnderWay K V K) → s2.calls n j ≡ Some x → s.calls n j ≡ Some x)
       → s2.maps ≡ s.maps → P m2 known s2
 
   -- and where a walk that is ready goes on

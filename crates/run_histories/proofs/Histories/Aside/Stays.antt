@@ -22,15 +22,15 @@ use Rattle.run_places.specs.Given.CallersTogether.{UnderWay, OnKey, ForRoom, Cou
 use Rattle.run_places.specs.Given.EffectsKnown.{Known}
 use Rattle.run_places.specs.Given.FinishesMaps.{Standing}
 use Rattle.run_places.proofs.Given.FollowsOnward.{IsOfMap}
-use Rattle.run_places.specs.Hands.Asked.{IsAsked, ShowsAsked}
+use Rattle.run_places.specs.Hands.Asked.{IsAsked, RefinesAsked}
 use Rattle.run_places.proofs.Hands.Replacing.{same_on}
-use Rattle.run_places.specs.Given.OthersAfter.{ShowsAfter}
+use Rattle.run_places.specs.Given.OthersAfter.{RefinesAfter}
 use Rattle.run_places.proofs.Moments.Walks.{asks_nothing}
 use Rattle.run_places.proofs.Moments.Beside.{IsBeside, StoodSo, StandsNew}
-use Rattle.run_histories.specs.Histories.AsCalled.{SweepAsks, IsAsCalled, ShowsAsCalled, AsksAsCalled}
-use Rattle.run_histories.specs.Histories.Due.{Owes, ShowsDue}
-use Rattle.run_histories.specs.Histories.Elsewhere.{DuesStay, AsCalledStays}
-use Rattle.run_places.specs.Changes.Histories.{since, IsWithin, ShowsHistory}
+use Rattle.run_histories.specs.Histories.AsCalled.{SweepAsks, IsAsCalled, RefinesAsCalled, AsksAsCalled}
+use Rattle.run_histories.specs.Histories.Due.{HasPendingAnswer, RefinesPendingAnswers}
+use Rattle.run_histories.specs.Histories.Elsewhere.{PendingAnswersStay, AsCalledStays}
+use Rattle.run_places.specs.Changes.Histories.{since, IsWithin, RefinesHistory}
 use Rattle.run_histories.proofs.Histories.NoKey.AsCalled.{as_called_kept}
 use Rattle.run_histories.proofs.Histories.NoKey.AsCalledOn.{calls_come_to_as_called}
 use Rattle.run_histories.proofs.Histories.DueOn.{calls_come_to_due}
@@ -54,15 +54,15 @@ module _ {K V : Type 0} (same : K → K → Bool) (name : ℕ → List ℕ) (m m
   stood n st is = subst (λ (f : ℕ → Option (Standing K)). f n ≡ Some st) maps is
 
   module _ (place : m2.place ≡ m.place) (stored : m2.stored ≡ m.stored) (log : Past K V) where
-    module _ (history : ShowsHistory same name log m known s) (after : ShowsAfter same name m known s history.shown m2 known s2) where
-      between_asked : ShowsAsked name after.shows.number m2 known s2
+    module _ (history : RefinesHistory same name log m known s) (after : RefinesAfter same name m known s history.shown m2 known s2) where
+      between_asked : RefinesAsked name after.shows.number m2 known s2
       between_asked = record {
         apart = λ n j k l x y is is2 names. history.asked.apart n j k l x y (fewer n j x is) (fewer k l y is2) names;
         each = λ n j x is st there c found. subst (λ (f : ℕ → ℕ). IsAsked f st.chart.stored known x c) (sym (after.numbers n st (stood n st there)))
             (history.asked.each n j x (fewer n j x is) st (stood n st there) c (was_called j c found));
       }
 
-      pub between_history : ShowsHistory same name log m2 known s2
+      pub between_history : RefinesHistory same name log m2 known s2
       between_history = record {
         past = history.past;
         shown = after.shows;
@@ -73,17 +73,17 @@ module _ {K V : Type 0} (same : K → K → Bool) (name : ℕ → List ℕ) (m m
             (history.within n j x (fewer n j x is) st (stood n st there) c (was_called j c found) began began_is));
       }
 
-    module _ (dues : ShowsDue same name log m known s) (after : ShowsAfter same name m known s dues.history.shown m2 known s2) where
-      pub between_due : ShowsDue same name log m2 known s2
+    module _ (dues : RefinesPendingAnswers same name log m known s) (after : RefinesAfter same name m known s dues.history.shown m2 known s2) where
+      pub between_due : RefinesPendingAnswers same name log m2 known s2
       unfolding between_history
       between_due = record {
         history = between_history dues.history after;
-        owes = λ n j u is st there c found one one_is. subst (λ (f : ℕ → ℕ). Owes f st.chart.stored one c u.change) (sym (after.numbers n st (stood n st there)))
+        owes = λ n j u is st there c found one one_is. subst (λ (f : ℕ → ℕ). HasPendingAnswer f st.chart.stored one c u.change) (sym (after.numbers n st (stood n st there)))
             (dues.owes n j u (fewer n j (OnKey u) is) st (stood n st there) c (was_called j c found) one one_is);
         taken = λ n j x is c found one one_is. dues.taken n j x (fewer n j x is) c (was_called j c found) one one_is;
       }
 
-  pub between_as_called : (all : ShowsAsCalled same name m known s) → ShowsAfter same name m known s all.shown m2 known s2 → ShowsAsCalled same name m2 known s2
+  pub between_as_called : (all : RefinesAsCalled same name m known s) → RefinesAfter same name m known s all.shown m2 known s2 → RefinesAsCalled same name m2 known s2
   between_as_called all after = record {
     shown = after.shows;
     each = λ n j x is st there c found. subst (λ (f : ℕ → ℕ). IsAsCalled f st.chart.stored known x c) (sym (after.numbers n st (stood n st there)))
@@ -127,7 +127,7 @@ module _ {K V : Type 0} (same : K → K → Bool) (hash : ℕ → K → ℕ) (na
     asks_so None asks = absurd asks.2
     asks_so (Some q) asks = (asks.0, asks.1, beside.roles (block_in asks.0) (is_there asks.0 asks.1) (subst IsOfMap (sym asks.2) tt) ∙ asks.2)
 
-  pub beside_as_called : (all : ShowsAsCalled same name m known s) → ShowsAfter same name m known s all.shown m2 known2 s2 → ShowsAsCalled same name m2 known2 s2
+  pub beside_as_called : (all : RefinesAsCalled same name m known s) → RefinesAfter same name m known s all.shown m2 known2 s2 → RefinesAsCalled same name m2 known2 s2
   beside_as_called all after = record { shown = after.shows; each = λ n j x is st there c found. by n j x is st there c found (beside.stood n st there) }
     where
       by : (n j : ℕ) (x : UnderWay K V K) → s2.calls n j ≡ Some x → (st : Standing K) → s2.maps n ≡ Some st → (c : CallThere K V) → call_of (name j) m2 ≡ Some c
@@ -146,15 +146,15 @@ refused_as_called known (Counting sum) = tt
 refused_as_called known (OverAll o) = tt
 
 module _ (K V : Type 0) (same : K → K → Bool) (hash : ℕ → K → ℕ) where
-  pub dues_stay : DuesStay K V same hash
-  dues_stay name log = stays_elsewhere same hash name (ShowsDue same name log)
+  pub dues_stay : PendingAnswersStay K V same hash
+  dues_stay name log = stays_elsewhere same hash name (RefinesPendingAnswers same name log)
       (λ m m2 known known2 s s2 old new at_old at_new dues after beside. beside_due same hash name log m m2 known known2 s s2 old new at_old at_new beside dues (after dues.history.shown))
       (λ m m2 known s s2 dues place stored calls after fewer maps. between_due same name m m2 known s s2 calls fewer maps place stored log dues (after dues.history.shown))
       (λ m known s dues map i o here ready. walk_due same name m known s map i o here log dues)
       (λ m known s dues own none. calls_come_to_due K V same name log m known s dues own (Refused Memory) 0 (λ ends. none) (λ n j u is named. asks_nothing known u))
 
   pub as_called_stays : AsCalledStays K V same hash
-  as_called_stays name = stays_elsewhere same hash name (ShowsAsCalled same name)
+  as_called_stays name = stays_elsewhere same hash name (RefinesAsCalled same name)
       (λ m m2 known known2 s s2 old new at_old at_new all after beside. beside_as_called same hash name m m2 known known2 s s2 new at_new beside all (after all.shown))
       (λ m m2 known s s2 all place stored calls after fewer maps. between_as_called same name m m2 known s s2 calls fewer maps all (after all.shown))
       (λ m known s all map i o here ready. walk_as_called same name m known s map i o here ready all)

@@ -25,15 +25,15 @@ use Rattle.run_places.specs.Given.FinishesEndings.{Finishing}
 use Rattle.run_places.specs.Given.FinishesMachines.{machine_of}
 use Rattle.run_places.specs.Given.FinishesMakings.{Beginning}
 use Rattle.run_places.specs.Given.FinishesMaps.{Standing}
-use Rattle.run_places.specs.Given.FollowsShows.{Shows}
+use Rattle.run_places.specs.Given.FollowsShows.{Refines}
 use Rattle.run_places.specs.Given.FollowsSteps.{Did}
 use Rattle.run_places.proofs.Given.FollowsCalled.{key_goes_on, room_goes_on, counting_goes_on, sweep_goes_on}
 use Rattle.run_places.proofs.Given.FollowsOnward.{IsLasting, KeepsRoles}
 use Rattle.run_places.proofs.Given.FollowsSteps.{WentTo, LeadsThere}
 use Rattle.run_places.proofs.Hands.Asking.{which}
 use Rattle.run_places.proofs.Hands.Replacing.{IsOn, calls_after}
-use Rattle.run_places.specs.Moments.Whole.{ShowsWhole}
-use Rattle.run_histories.specs.Histories.AsCalled.{purpose_of, SweepAsks, IsLastTold, IsSweptAs, IsAsCalled, ShowsAsCalled, CallsKeepAsCalled}
+use Rattle.run_places.specs.Moments.Whole.{RefinesWhole}
+use Rattle.run_histories.specs.Histories.AsCalled.{purpose_of, SweepAsks, IsLastReply, IsSweptAs, IsAsCalled, RefinesAsCalled, CallsPreserveAsCalled}
 use Rattle.run_places.proofs.Changes.Steps.{to, led_on}
 use Rattle.run_histories.proofs.Histories.NoKey.Sweeps.{SweepsOn, sweeps_on, asks_still}
 use Rattle.run_places.specs.Given.ScenesHeld.{Held, IsAt}
@@ -42,7 +42,7 @@ use Rattle.run_places.specs.Given.ScenesStepping.{StepLeads, StepsFrom, scene_af
 use Rattle.run_places.proofs.Given.General.{same_some as one_of}
 
 module _ (number number2 : ℕ → ℕ) (stored stored2 : ℕ) (more : stored ≤ stored2) (numbers : (n : ℕ) → n < stored → number2 n ≡ number n) where
-  pub last_kept : {V : Type 0} (v : Option Verdict) (replies : List (Option ℕ × Reply V)) → IsLastTold number stored v replies → IsLastTold number2 stored2 v replies
+  pub last_kept : {V : Type 0} (v : Option Verdict) (replies : List (Option ℕ × Reply V)) → IsLastReply number stored v replies → IsLastReply number2 stored2 v replies
   last_kept None replies h = tt
   last_kept {V} (Some v) replies h =
       let l = h.0 in (omega (arith, l, more), subst (λ (z : ℕ). ◌≡◌ {A = Option (Reply V)} (reply_to (Some z) replies) (Some (Decides v.keeps))) (sym (numbers v.about h.0)) h.1)
@@ -54,8 +54,8 @@ module _ (number number2 : ℕ → ℕ) (stored stored2 : ℕ) (more : stored �
       pub swept_kept : IsSweptAs number stored known o c → IsSweptAs number2 stored2 known2 o2 d
       swept_kept h = record {
         purpose = ap purpose_of on.call ∙ h.purpose ∙ ap Some (sym purpose);
-        last = subst (λ (v : Option Verdict). IsLastTold number2 stored2 v d.replies) (sym told)
-            (subst (λ (r : List (Option ℕ × Reply V)). IsLastTold number2 stored2 o.told r) (sym on.replies) (last_kept o.told c.replies h.last));
+        last = subst (λ (v : Option Verdict). IsLastReply number2 stored2 v d.replies) (sym told)
+            (subst (λ (r : List (Option ℕ × Reply V)). IsLastReply number2 stored2 o.told r) (sym on.replies) (last_kept o.told c.replies h.last));
         asks = λ question stands. stays question (h.asks question (sym on.stands ∙ stands));
       }
 
@@ -107,9 +107,9 @@ module _ {K V : Type 0} (same : K → K → Bool) (batch_size roots : ℕ) (w : 
       as_one (OverAll (gone_on o p2)) (sweep_goes_on (gone_on o p2) end x (sym stayed.2 ∙ goes_on)) (swept_on o (gone_on o p2) refl machine_is steps h)
 
 module _ {K V : Type 0} (same : K → K → Bool) (hash : ℕ → K → ℕ) (name : ℕ → List ℕ) (m : Moment K V) (known : Known) (s : Scene K V) (old new : Held K V) (at_old : IsAt same hash old s)
-    (whole : ShowsWhole same name m known s) (called : ShowsAsCalled same name m known s) (map i : ℕ) (u : UnderWay K V K) (here : s.calls map i ≡ Some u) (said : Progress (Node K V))
+    (whole : RefinesWhole same name m known s) (called : RefinesAsCalled same name m known s) (map i : ℕ) (u : UnderWay K V K) (here : s.calls map i ≡ Some u) (said : Progress (Node K V))
     (leads : StepLeads same hash i said s old new) where
-  abbrev shown : Shows same name m known s
+  abbrev shown : Refines same name m known s
   shown = called.shown
 
   abbrev went : WentTo same hash name m known s old new at_old shown map i u here said leads
@@ -161,7 +161,7 @@ module _ {K V : Type 0} (same : K → K → Bool) (hash : ℕ → K → ℕ) (na
           (as_called_kept (shown.number n) (on.shows.number n) before.chart.stored stood.0.chart.stored stood.2.stored (on.numbers n before stands) known after x
           (λ o e. asks_kept known after on.keeps o.sweep.stands o.sweep.stands (λ word at_word. at_word)) was.0 now.0 now.2.0 (called.each n j x is before stands was.0 was.1)))
 
-  pub step_as_called : ShowsAsCalled same name v after s2
+  pub step_as_called : RefinesAsCalled same name v after s2
   step_as_called = record {
     shown = on.shows;
     each = λ n j x is st there c found. elim (which s.calls map i went.4.next n j x is) as (λ _. IsAsCalled (on.shows.number n) st.chart.stored after x c) [
@@ -172,6 +172,6 @@ module _ {K V : Type 0} (same : K → K → Bool) (hash : ℕ → K → ℕ) (na
     ];
   }
 
-pub calls_keep_as_called : (K V : Type 0) (same : K → K → Bool) (hash : ℕ → K → ℕ) → CallsKeepAsCalled K V same hash
+pub calls_keep_as_called : (K V : Type 0) (same : K → K → Bool) (hash : ℕ → K → ℕ) → CallsPreserveAsCalled K V same hash
 calls_keep_as_called K V same hash name m known s old new at_old whole called map i u here said leads =
     step_as_called same hash name m known s old new at_old whole called map i u here said leads

@@ -8,7 +8,7 @@ use Rattle.run_places.specs.Given.SweepsSweepPoints.{removes, past, reply_at, af
 use Rattle.run_places.specs.Given.ReservesDeclared.sweep.Sweep.{Sweep}
 use Rattle.run_places.specs.Given.ReservesDeclared.sweep.Sweeping.{Sweeping}
 use Rattle.run_places.specs.Given.ReservesDeclared.sweep.Sweeping.TheVariants as at
-use Rattle.run_places.specs.Given.RawMachine.{machine_replied, sweep_told, sweep_replied}
+use Rattle.run_places.specs.Given.RawMachine.{machine_replied, sweep_with_reply, sweep_replied}
 use Rattle.run_places.specs.Given.RawDeclared.machines.asking.MachineReply.{MachineReply}
 use Rattle.run_places.specs.Given.RawDeclared.machines.asking.MachineReply.TheVariants as reply
 use Rattle.run_places.specs.Given.RunsDeclared.call.Call.{Call}
@@ -16,27 +16,27 @@ use Rattle.run_places.specs.Given.RunsDeclared.call.Reply.{Reply}
 use Rattle.run_places.specs.Given.RunsDeclared.call.Reply.TheVariants.{Gives, Removes, Aborts, Decides}
 use Rattle.run_places.specs.Given.RunsDeclared.outcome.Outcome.{Outcome}
 use Rattle.run_places.specs.Given.RunsDeclared.outcome.Outcome.TheVariants as outcome
-use Rattle.run_places.specs.Given.SchedulesAfter.{asks_on, comes_to, replied}
+use Rattle.run_places.specs.Given.SchedulesAfter.{asks_on, with_outcome, replied}
 use Rattle.run_places.specs.Given.SchedulesBeginning.{fresh_call, with_call}
-use Rattle.run_places.specs.Given.SchedulesMoment.{Stands, Going, Asking, Told, IsReady, UnderWay as CallThere, Moment}
+use Rattle.run_places.specs.Given.SchedulesMoment.{CallState, Going, Asking, Told, IsReady, UnderWay as CallThere, Moment}
 use Rattle.run_places.specs.Given.SchedulesViews.{call_of, reply_to}
 use Rattle.run_places.specs.Given.PointsSteps.{AreLawful}
 use Rattle.run_places.specs.Given.LateCovers.{NamesPair as NamesIn}
-use Rattle.run_places.specs.Given.CallersOverAll.{Verdict, CallOverAll, told_of}
-use Rattle.run_places.specs.Given.CallersSights.{seen_by, IsSight}
+use Rattle.run_places.specs.Given.CallersOverAll.{Verdict, CallOverAll, with_verdict}
+use Rattle.run_places.specs.Given.CallersSights.{seen_by, IsVisibility}
 use Rattle.run_places.specs.Given.CallersTogether.{UnderWay, OnKey, ForRoom, Counting, OverAll, Together}
 use Rattle.run_places.specs.Given.EffectsKnown.{Known}
 use Rattle.run_places.specs.Given.EffectsDeclared.role.Role.TheVariants as role
-use Rattle.run_places.specs.Given.FinishesMachines.{machine_of, ToldOfKind}
+use Rattle.run_places.specs.Given.FinishesMachines.{machine_of, RepliedOfKind}
 use Rattle.run_places.specs.Given.FinishesMaps.{Standing}
 use Rattle.run_places.specs.Given.FollowsCalling.{told, come_to}
-use Rattle.run_places.specs.Given.FollowsShows.{Shows}
+use Rattle.run_places.specs.Given.FollowsShows.{Refines}
 use Rattle.run_places.proofs.Given.FollowsCalling.{is_same_refl, replied_same, come, begins_with, told_with, come_with}
 use Rattle.run_places.proofs.Given.FollowsCalls.{found}
-use Rattle.run_places.specs.Hands.Asked.{as_told}
+use Rattle.run_places.specs.Hands.Asked.{reply_to_machine}
 use Rattle.run_places.proofs.Hands.Asking.{which}
 use Rattle.run_places.proofs.Hands.Calling.{caller_is}
-use Rattle.run_histories.specs.Histories.AsCalled.{purpose_of, SweepAsks, IsLastTold, IsSweptAs, IsAsCalled, ShowsAsCalled, IsBegunAs, AsksAsCalled, CallsBeginAsCalled, CallsComeToAsCalled, CallsTakeAsCalled}
+use Rattle.run_histories.specs.Histories.AsCalled.{purpose_of, SweepAsks, IsLastReply, IsSweptAs, IsAsCalled, RefinesAsCalled, IsBegunAs, AsksAsCalled, CallsBeginAsCalled, CallsComeToAsCalled, CallsTakeAsCalled}
 use Rattle.run_histories.proofs.Histories.Calling.{came_so}
 use Rattle.run_histories.proofs.Histories.DueOn.{comes_owed}
 use Rattle.run_histories.proofs.Histories.Roles.{named_by}
@@ -54,7 +54,7 @@ module _ {K V : Type 0} (number : ℕ → ℕ) (stored : ℕ) (known : Known) wh
   fresh_as_called (Counting sum) its caller guard map events begun = λ q stands. absurd (let no : Going ≡ Asking q = stands in cc no)
   fresh_as_called (OverAll o) its caller guard map events begun = record {
     purpose = begun.0;
-    last = subst (λ (v : Option Verdict). IsLastTold number stored {V = V} v []) (sym begun.1) tt;
+    last = subst (λ (v : Option Verdict). IsLastReply number stored {V = V} v []) (sym begun.1) tt;
     asks = λ q stands. absurd (let no : Going ≡ Asking q = stands in cc no);
   }
 
@@ -71,7 +71,7 @@ module _ (K V : Type 0) (same : K → K → Bool) where
       fresh : CallThere K V
       fresh = fresh_call (name i) guard its map m.events
 
-      b : (after : Shows same name m2 known (scene_with map i u s)) × (after.number ≡ all.shown.number)
+      b : (after : Refines same name m2 known (scene_with map i u s)) × (after.number ≡ all.shown.number)
       b = begins_with same name m known s all.shown map i u its guard apart called
 
       found_now : (j : ℕ) (q : Bool) → is_same (name i) (name j) ≡ q → (c : CallThere K V) → call_of (name j) m2 ≡ Some c → cond q (Some fresh) (call_of (name j) m) ≡ Some c
@@ -90,14 +90,14 @@ module _ (K V : Type 0) (same : K → K → Bool) where
 
 module _ {K V : Type 0} where
   -- it asks what it asked, or what it is said to ask
-  asked_or_said : (question q : Option ℕ) (c : CallThere K V) (stands : Stands) → c.stands ≡ stands → (asks_on question c stands).stands ≡ Asking q
+  asked_or_said : (question q : Option ℕ) (c : CallThere K V) (stands : CallState) → c.stands ≡ stands → (asks_on question c stands).stands ≡ Asking q
       → (c.stands ≡ Asking q) ⊎ (◌≡◌ {A = Outcome V} (outcome.Asks question) (outcome.Asks q))
   asked_or_said question q c (Asking p) is e = inl e
   asked_or_said question q c Going is e = inr (let same_one : Asking question ≡ Asking q = e in let its : question ≡ q = cc same_one in ap outcome.Asks its)
   asked_or_said question q c Told is e = inr (let same_one : Asking question ≡ Asking q = e in let its : question ≡ q = cc same_one in ap outcome.Asks its)
   asked_or_said question q c IsReady is e = inr (let same_one : Asking question ≡ Asking q = e in let its : question ≡ q = cc same_one in ap outcome.Asks its)
 
-  comes_asking : (o : Outcome V) (q : Option ℕ) (c : CallThere K V) → (comes_to o c).stands ≡ Asking q → (c.stands ≡ Asking q) ⊎ (o ≡ outcome.Asks q)
+  comes_asking : (o : Outcome V) (q : Option ℕ) (c : CallThere K V) → (with_outcome o c).stands ≡ Asking q → (c.stands ≡ Asking q) ⊎ (o ≡ outcome.Asks q)
   comes_asking outcome.Done q c e = inl e
   comes_asking (outcome.Slot n) q c e = inl e
   comes_asking outcome.Goes q c e = absurd (let no : Going ≡ Asking q = e in cc no)
@@ -125,7 +125,7 @@ module _ {K V : Type 0} (number : ℕ → ℕ) (stored : ℕ) (known : Known) (o
       let kept = comes_owed o (record c { steps = c.steps + steps }) in
       record {
         purpose = ap purpose_of kept.2 ∙ h.purpose;
-        last = subst (λ (r : List (Option ℕ × Reply V)). IsLastTold number stored v.told r) (sym kept.1) h.last;
+        last = subst (λ (r : List (Option ℕ × Reply V)). IsLastReply number stored v.told r) (sym kept.1) h.last;
         asks = λ q e. elim (comes_asking o q (record c { steps = c.steps + steps }) e) as (λ _. SweepAsks known v.sweep.stands q) [
           | inl was ↦ h.asks q was
           | inr asks ↦ subst (λ (y : Outcome V). AsksAsCalled {K = K} known (OverAll v) y) asks just
@@ -140,7 +140,7 @@ module _ (K V : Type 0) (same : K → K → Bool) where
         (let was = all.shown.calls n j x is in one n j x is st was.0 (all.each n j x is st there was.0 was.1) d (came_so same name m s own o steps ended n j x is was.0 was.1 d found));
   }
     where
-      b : (after : Shows same name (come_to own o steps m) known s) × (after.number ≡ all.shown.number)
+      b : (after : Refines same name (come_to own o steps m) known s) × (after.number ≡ all.shown.number)
       b = come_with same name m known s all.shown own o steps ended
 
       one : (n j : ℕ) (x : UnderWay K V K) → s.calls n j ≡ Some x → (st : Standing K) (c : CallThere K V) → IsAsCalled (all.shown.number n) st.chart.stored known x c → (d : CallThere K V)
@@ -152,14 +152,14 @@ module _ (K V : Type 0) (same : K → K → Bool) where
 -- where one is told a reply
 
 module _ {V : Type 0} where
-  yes_is : (r : Reply V) → as_told r ≡ reply.Yes → r ≡ Decides true
+  yes_is : (r : Reply V) → reply_to_machine r ≡ reply.Yes → r ≡ Decides true
   yes_is (Gives v) e = absurd (cc e)
   yes_is Removes e = absurd (cc e)
   yes_is (Aborts w) e = absurd (cc e)
   yes_is (Decides true) e = refl
   yes_is (Decides false) e = absurd (cc e)
 
-  no_is : (r : Reply V) → as_told r ≡ reply.No → r ≡ Decides false
+  no_is : (r : Reply V) → reply_to_machine r ≡ reply.No → r ≡ Decides false
   no_is (Gives v) e = absurd (cc e)
   no_is Removes e = absurd (cc e)
   no_is (Aborts w) e = absurd (cc e)
@@ -186,9 +186,9 @@ module _ (p : Sweep) (word : ℕ) (stands : p.stands ≡ at.Asks word) where
 
   taken_leaves : {V : Type 0} (r : MachineReply V) → (sweep_replied p r).1 ≡ Ok tt → (sweep_replied p r).0 ≡ p → ⊥
   taken_leaves {V} r ok same =
-      by r (subst (λ (z : Sweeping). (sweep_told z p r).1 ≡ Ok tt) stands ok) (subst (λ (z : Sweeping). (sweep_told z p r).0.stands ≡ at.Asks word) stands (ap (λ (q : Sweep). q.stands) same ∙ stands))
+      by r (subst (λ (z : Sweeping). (sweep_with_reply z p r).1 ≡ Ok tt) stands ok) (subst (λ (z : Sweeping). (sweep_with_reply z p r).0.stands ≡ at.Asks word) stands (ap (λ (q : Sweep). q.stands) same ∙ stands))
     where
-      by : (r : MachineReply V) → (sweep_told (at.Asks word) p r).1 ≡ Ok tt → (sweep_told (at.Asks word) p r).0.stands ≡ at.Asks word → ⊥
+      by : (r : MachineReply V) → (sweep_with_reply (at.Asks word) p r).1 ≡ Ok tt → (sweep_with_reply (at.Asks word) p r).0.stands ≡ at.Asks word → ⊥
       by reply.Yes ok e = leaves true e
       by reply.No ok e = leaves false e
       by (reply.Insert v) ok e = absurd (cc ok)
@@ -202,7 +202,7 @@ told_purpose p (at.Asks word) false = refl
 told_purpose p _ keeps = refl
 
 module _ {K V : Type 0} (same : K → K → Bool) (hash : ℕ → K → ℕ) (name : ℕ → List ℕ) (m : Moment K V) (known : Known) (s : Scene K V) (e : Held K V) (at_e : IsAt same hash e s)
-    (all : ShowsAsCalled same name m known s) (map i : ℕ) (st : Standing K) (there : s.maps map ≡ Some st) (c : CallThere K V) (c_is : call_of (name i) m ≡ Some c)
+    (all : RefinesAsCalled same name m known s) (map i : ℕ) (st : Standing K) (there : s.maps map ≡ Some st) (c : CallThere K V) (c_is : call_of (name i) m ≡ Some c)
     (question : Option ℕ) (c_asks : c.stands ≡ Asking question) (is_told : Reply V) where
   abbrev number : ℕ → ℕ
   number = all.shown.number map
@@ -226,7 +226,7 @@ module _ {K V : Type 0} (same : K → K → Bool) (hash : ℕ → K → ℕ) (na
     about word n stands (l, seen, phase, borrowed, word_is) (Some q) asks =
         let same_word : asks.0 ≡ word = (let same_at : at.Asks asks.0 ≡ at.Asks word = sym asks.1 ∙ stands in cc same_at) in
         let each : Together V same st.hash same st.setting slot_of s.world st.chart st.blocks st.sights (s.calls map) = at_e.together.makings.standing.each map st there in
-        let sight : IsSight st.chart st.blocks (st.sights (slot_of i)) = (each.ground.sight (slot_of i) (each.inside i (OverAll o) here)).0 in
+        let sight : IsVisibility st.chart st.blocks (st.sights (slot_of i)) = (each.ground.sight (slot_of i) (each.inside i (OverAll o) here)).0 in
         let lawful : AreLawful same st.hash = (at_e.together.makings.standing.fit map st there).0 in
         let names_it = named_by same st.hash lawful st.chart (seen_by st.blocks (st.sights (slot_of i))) word n phase borrowed word_is in
         let its_role = (all.shown.maps map st there).pairs.roles n l (sight.pairs n l seen) in
@@ -234,7 +234,7 @@ module _ {K V : Type 0} (same : K → K → Bool) (hash : ℕ → K → ℕ) (na
         ap Some (cc same_role)
 
     swept_told : (word n : ℕ) → o.sweep.stands ≡ at.Asks word → NamesIn st.hash st.chart (seen_by st.blocks (st.sights (slot_of i))) word n → (keeps : Bool) → is_told ≡ Decides keeps
-        → IsSweptAs number stored known (told_of o n keeps) after
+        → IsSweptAs number stored known (with_verdict o n keeps) after
     swept_told word n stands names keeps told_is = record {
       purpose = h.purpose ∙ ap Some (sym (told_purpose o.sweep o.sweep.stands keeps));
       last = (
@@ -244,8 +244,8 @@ module _ {K V : Type 0} (same : K → K → Bool) (hash : ℕ → K → ℕ) (na
       asks = λ q asks. absurd (no_more q asks);
     }
 
-  pub own_told_as : (u next : UnderWay K V K) → s.calls map i ≡ Some u → machine_of next ≡ (machine_replied (machine_of u) (as_told is_told)).0 → (machine_replied (machine_of u) (as_told is_told)).1 ≡ Ok tt
-      → ToldOfKind V same same e.batch_size e.roots slot_of st i u (as_told is_told) next → IsAsCalled number stored known next after
+  pub own_told_as : (u next : UnderWay K V K) → s.calls map i ≡ Some u → machine_of next ≡ (machine_replied (machine_of u) (reply_to_machine is_told)).0 → (machine_replied (machine_of u) (reply_to_machine is_told)).1 ≡ Ok tt
+      → RepliedOfKind V same same e.batch_size e.roots slot_of st i u (reply_to_machine is_told) next → IsAsCalled number stored known next after
   own_told_as (OnKey u) next here machine taken (inl (asks_at, about_it, stands, asks, is)) = subst (λ (x : UnderWay K V K). IsAsCalled number stored known x after) (sym is) tt
   own_told_as (OnKey u) next here machine taken (inr is) = subst (λ (x : UnderWay K V K). IsAsCalled number stored known x after) (sym is) tt
   own_told_as (ForRoom r) next here machine taken is = subst (λ (x : UnderWay K V K). IsAsCalled number stored known x after) (sym is) no_more
@@ -256,8 +256,8 @@ module _ {K V : Type 0} (same : K → K → Bool) (hash : ℕ → K → ℕ) (na
       subst (λ (x : UnderWay K V K). IsAsCalled number stored known x after) (sym is) (swept_told o here word n stands names false (no_is is_told denies))
   own_told_as (OverAll o) next here machine taken (inr is) =
       let asks = (h o here).asks question c_asks in
-      let same_sweep : (sweep_replied o.sweep (as_told is_told)).0 ≡ o.sweep = (let one = sym machine ∙ ap machine_of is in cc one) in
-      absurd (taken_leaves o.sweep asks.0 asks.1 (as_told is_told) taken same_sweep)
+      let same_sweep : (sweep_replied o.sweep (reply_to_machine is_told)).0 ≡ o.sweep = (let one = sym machine ∙ ap machine_of is in cc one) in
+      absurd (taken_leaves o.sweep asks.0 asks.1 (reply_to_machine is_told) taken same_sweep)
 
 module _ (K V : Type 0) (same : K → K → Bool) (hash : ℕ → K → ℕ) where
   pub calls_take_as_called : CallsTakeAsCalled K V same hash
@@ -275,8 +275,8 @@ module _ (K V : Type 0) (same : K → K → Bool) (hash : ℕ → K → ℕ) whe
       then_call : CallThere K V
       then_call = record c { stands = Told; replies = (question, is_told) ∷ c.replies }
 
-      b : (then_shown : Shows same name v known (scene_with map i next s)) × (then_shown.number ≡ all.shown.number)
-      b = told_with same name m known s all.shown map i u here e.batch_size e.roots st (as_told is_told) next goes is_told
+      b : (then_shown : Refines same name v known (scene_with map i next s)) × (then_shown.number ≡ all.shown.number)
+      b = told_with same name m known s all.shown map i u here e.batch_size e.roots st (reply_to_machine is_told) next goes is_told
 
       own_found : call_of (name i) v ≡ Some then_call
       own_found = found tells (λ y. replied_same is_told y y.stands) (name i) (name i) m.calls c c_is

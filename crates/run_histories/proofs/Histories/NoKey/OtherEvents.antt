@@ -23,7 +23,7 @@ use Rattle.run_places.specs.Given.RunsDeclared.outcome.Outcome.TheVariants as ou
 use Rattle.run_places.specs.Given.SchedulesEffects.{with_effects}
 use Rattle.run_places.specs.Given.SchedulesEntry.{acting, IfCall}
 use Rattle.run_places.specs.Given.SchedulesLinearizable.{shift_of, RemovesOnly, MayAsk, AsksRight, Linearizes}
-use Rattle.run_places.specs.Given.SchedulesMoment.{Stands, Going, Asking, Told, IsReady, UnderWay as CallThere, Moment}
+use Rattle.run_places.specs.Given.SchedulesMoment.{CallState, Going, Asking, Told, IsReady, UnderWay as CallThere, Moment}
 use Rattle.run_places.specs.Given.SchedulesViews.{call_of, finite_map}
 use Rattle.run_places.specs.Given.RuleWords.{Blocks}
 use Rattle.run_places.specs.Given.LateToldSweeps.{IsRowOfSweep}
@@ -38,9 +38,9 @@ use Rattle.run_places.specs.Given.EffectsDeclared.acting.Acting.TheVariants as a
 use Rattle.run_places.specs.Given.FinishesMachines.{machine_of}
 use Rattle.run_places.specs.Given.FinishesMaps.{Standing}
 use Rattle.run_places.specs.Given.FollowsSteps.{Did}
-use Rattle.run_histories.specs.Histories.AsCalled.{purpose_of, IsAsCalled, ShowsAsCalled}
-use Rattle.run_histories.specs.Histories.Asking.{IsToldQuestion}
-use Rattle.run_histories.specs.Histories.Due.{ShowsDue}
+use Rattle.run_histories.specs.Histories.AsCalled.{purpose_of, IsAsCalled, RefinesAsCalled}
+use Rattle.run_histories.specs.Histories.Asking.{IsQuestionAsked}
+use Rattle.run_histories.specs.Histories.Due.{RefinesPendingAnswers}
 use Rattle.run_histories.specs.Histories.OtherMidsts.{AsksAsSaid, InOtherMidst, OtherMidstsEnd, OtherMidstsAskStill}
 use Rattle.run_histories.specs.Histories.Questions.{GoesItself, AsksStill, AsksOnStill}
 use Rattle.run_histories.proofs.Histories.NoKey.AsCalled.{calls_keep_as_called}
@@ -112,10 +112,10 @@ module _ {K V : Type 0} (same : K → K → Bool) (hash : ℕ → K → ℕ) (na
     unfolding next
     next_machine = (leads map u midst.here).4.goes_on.2
 
-    dues2 : ShowsDue same name log then_at known2 s2
+    dues2 : RefinesPendingAnswers same name log then_at known2 s2
     dues2 = other_midsts_keep_due K V same hash name log beginning map i c done m known s u midst old new at_old (progress.Asks about) leads
 
-    called2 : ShowsAsCalled same name then_at known2 s2
+    called2 : RefinesAsCalled same name then_at known2 s2
     called2 = calls_keep_as_called K V same hash name m known s old new at_old midst.whole midst.called map i u midst.here (progress.Asks about) leads
 
     -- what each class has then
@@ -196,17 +196,17 @@ module _ {K V : Type 0} (same : K → K → Bool) (hash : ℕ → K → ℕ) (na
           then_is : call_of (name i) then_at ≡ Some call_then
           then_is = d_is same hash name log beginning map i c done m known s u midst old new at_old (progress.Asks about) leads
 
-      may_ask : (question : Option ℕ) → IsToldQuestion known2 (Some word) question → MayAsk same call_then.call call_then (log.since call_then.begun) question
+      may_ask : (question : Option ℕ) → IsQuestionAsked known2 (Some word) question → MayAsk same call_then.call call_then (log.since call_then.begun) question
       may_ask None told = absurd told
       may_ask (Some q) names = subst (λ (x : Call K V). MayAsk same x call_then (log.since call_then.begun) (Some q)) (sym its_call)
           (retainings_may_ask K V same hash name log then_at known2 s2 new at_new dues2.history map i o here2 call_then
           (d_is same hash name log beginning map i c done m known s u midst old new at_old (progress.Asks about) leads) fewer_then word q stands_at names)
 
-    may_ask_that : (question : Option ℕ) → IsToldQuestion known2 about question → MayAsk same call_then.call call_then (log.since call_then.begun) question
+    may_ask_that : (question : Option ℕ) → IsQuestionAsked known2 about question → MayAsk same call_then.call call_then (log.since call_then.begun) question
     may_ask_that question told =
-        let it = asks_there in may_ask it.0 it.1 it.2 it.4 question (subst (λ (z : Option ℕ). IsToldQuestion known2 z question) it.3 told)
+        let it = asks_there in may_ask it.0 it.1 it.2 it.4 question (subst (λ (z : Option ℕ). IsQuestionAsked known2 z question) it.3 told)
 
-    asks_right : (question : Option ℕ) → IsToldQuestion known2 about question → (its : Stands) → AsksRight same its call_then (log.since call_then.begun) (outcome.Asks question)
+    asks_right : (question : Option ℕ) → IsQuestionAsked known2 about question → (its : CallState) → AsksRight same its call_then (log.since call_then.begun) (outcome.Asks question)
     asks_right question told (Asking q) = tt
     asks_right question told Going = may_ask_that question told
     asks_right question told Told = may_ask_that question told
@@ -266,7 +266,7 @@ module _ {K V : Type 0} (same : K → K → Bool) (hash : ℕ → K → ℕ) (na
             let says = (asks_still same (leads map u midst.here).0.hash old new o.sweep (leads map u midst.here).1 said steps at_word.0 at_word.1).1 in
             no_going K known2 (Some at_word.0) t.outcome (subst (λ (x : Progress (Node K V)). AsksAsSaid known2 x t.outcome) says as_said) goes
 
-    still_so : (its : Stands) → call_at_end.stands ≡ its → AsksStill its t.outcome
+    still_so : (its : CallState) → call_at_end.stands ≡ its → AsksStill its t.outcome
     still_so (Asking question) is = still_asks question (sym (d_stands same hash name log beginning map i c done m known s u midst old new at_old said leads) ∙ is)
     still_so Going is = tt
     still_so Told is = tt

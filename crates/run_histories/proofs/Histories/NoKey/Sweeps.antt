@@ -33,7 +33,7 @@ use Rattle.run_places.specs.Given.RawDeclared.machines.machine.Machine.TheVarian
 use Rattle.run_places.specs.Given.RawDeclared.machines.progress.Progress.{Progress}
 use Rattle.run_places.specs.Given.RawDeclared.machines.progress.Progress.TheVariants as progress
 use Rattle.run_places.proofs.Given.RuleKeys.Always.{Always, AlwaysOf, always_if, always_plan_as}
-use Rattle.run_places.specs.Given.TellerTells.{StepsTold}
+use Rattle.run_places.specs.Given.TellerTells.{StepsObserved}
 use Rattle.run_places.specs.Given.EffectsDeclared.changed.Changed.TheVariants.{Nothing}
 use Rattle.run_histories.proofs.Histories.Asking.{always_turned, always_told}
 use Rattle.run_places.specs.Given.ScenesHeld.{Held}
@@ -172,7 +172,7 @@ module _ {K V : Type 0} (same : K → K → Bool) (hash : K → ℕ) (old new : 
 
   abbrev StepsAt : Sweeping → Type 0
   StepsAt stands =
-      StepsTold K V (Machine K V K × Progress (Node K V)) old.memory Nothing (plan_as swept (plan_at hash p stands)) new.memory new.changed (machine, said)
+      StepsObserved K V (Machine K V K × Progress (Node K V)) old.memory Nothing (plan_as swept (plan_at hash p stands)) new.memory new.changed (machine, said)
 
   said_at : (word : ℕ) → StepsAt (at.Asks word) → (machine ≡ kinds.Sweep p) × (said ≡ progress.Asks (Some word))
   said_at word at_word = (

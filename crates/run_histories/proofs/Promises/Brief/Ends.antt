@@ -13,14 +13,14 @@ use Rattle.run_places.specs.Given.SchedulesViews.{map_at, grows_in_chunks}
 use Rattle.run_places.specs.Given.CallersTogether.{UnderWay, OnKey, ForRoom, Counting, OverAll}
 use Rattle.run_places.specs.Given.FinishesMaps.{Standing}
 use Rattle.run_places.specs.Given.EffectsKnown.{Known}
-use Rattle.run_places.specs.Given.FollowsMaps.{ShowsThere, ShowsTables}
+use Rattle.run_places.specs.Given.FollowsMaps.{RefinesPresence, RefinesTables}
 use Rattle.run_histories.specs.Promises.Brief.{ReadsSince}
 use Rattle.run_histories.specs.Promises.Reading.{looks, HasLooked, EventsReadBriefly, HasReadFew}
 use Rattle.run_histories.proofs.Promises.Brief.Shown.{one_as, readings_are_few}
 use Rattle.run_places.specs.Given.SchedulesTransition.{Past}
 use Rattle.run_places.specs.Changes.Histories.{IsPast}
 
-module _ {K V : Type 0} (map : ℕ) (s : Standing K) (m : Moment K V) (known : Known) (there : ShowsThere map s m known) (tables : ShowsTables map s m known) (c : CallThere K V) (c_map : c.map ≡ map)
+module _ {K V : Type 0} (map : ℕ) (s : Standing K) (m : Moment K V) (known : Known) (there : RefinesPresence map s m known) (tables : RefinesTables map s m known) (c : CallThere K V) (c_map : c.map ≡ map)
     (log : Past K V) (is_past : IsPast log) (begun : c.begun ≤ log.entries) (steps : ℕ) where
   -- its map is in the mode of the moment
   mode_is : grows_in_chunks (map_at c.map m) ≡ is_incremental s.setting.mode
@@ -40,7 +40,7 @@ module _ {K V : Type 0} (map : ℕ) (s : Standing K) (m : Moment K V) (known : K
       subst (λ (b : Bool). OneOf (ReadsFew b c m more) (log.since c.begun)) (sym mode_is)
       (one_as (ReadsFew (is_incremental s.setting.mode) c m (suc steps)) (ReadsFew (is_incremental s.setting.mode) c m more) (fewer (is_incremental s.setting.mode) more l) (log.since c.begun)
       (subst (OneOf (ReadsFew (is_incremental s.setting.mode) c m (suc steps))) (sym moments.1)
-      (readings_are_few K V s m log.now known c moments.0 steps h.0.stands (subst (λ (n : ℕ). ShowsTables n s m known) (sym c_map) tables)
+      (readings_are_few K V s m log.now known c moments.0 steps h.0.stands (subst (λ (n : ℕ). RefinesTables n s m known) (sym c_map) tables)
       (subst (λ (n : ℕ). ReadsSince (is_incremental s.setting.mode) n s.chart (log.now ∷ moments.0) steps h.0.stands) (sym c_map)
       (subst (λ (vs : List (Moment K V)). ReadsSince (is_incremental s.setting.mode) map s.chart vs steps h.0.stands) moments.1 h.2)))))
     where

@@ -21,7 +21,7 @@ use Rattle.run_places.specs.Given.TablesDeclared.resize_mode.ResizeMode.{ResizeM
 use Rattle.run_places.specs.Given.TablesDeclared.table.Table.{Table}
 use Rattle.run_places.specs.Given.TablesDeclared.table_words.TheConstants.{NEXT}
 use Rattle.run_places.specs.Given.TablesDeclared.trial.Trial.{Trial}
-use Rattle.run_places.specs.Given.ResizeLookup.{answered, going, passed, told_of, table_read, link_found, roots, nexts, probes, plan_at, lookup_plan}
+use Rattle.run_places.specs.Given.ResizeLookup.{answered, going, passed, after_finding, table_read, link_found, roots, nexts, probes, plan_at, lookup_plan}
 use Rattle.run_places.specs.Given.ResizeDeclared.lookup.Lookup.{Lookup}
 use Rattle.run_places.specs.Given.ResizeDeclared.lookup.Looking.{Looking}
 use Rattle.run_places.specs.Given.ResizeDeclared.lookup.Looking.TheVariants as at
@@ -35,7 +35,7 @@ use Rattle.run_places.proofs.Given.RuleWords.TablesSeen.{table_is}
 use Rattle.run_places.specs.Given.PointsFactsLooks.{LookingFacts}
 use Rattle.run_places.specs.Given.PointsSteps.{AreLawful}
 use Rattle.run_places.proofs.Given.PointsLookups.Reads.{SeesPlace, sees_place, probes_tell}
-use Rattle.run_places.specs.Given.LateLateLooks.{LateLooking, LateLookupFacts}
+use Rattle.run_places.specs.Given.LateLateLooks.{SupersededLooking, SupersededLookupFacts}
 use Rattle.run_places.specs.Given.SchedulesLives.{IsFrom}
 use Rattle.run_histories.specs.Promises.Brief.{read_to, HasRead, ReadsAt, ReadsOn, IsRootOf, LookupsReadOn}
 use Rattle.run_histories.proofs.Promises.Brief.Sums.{one_more}
@@ -160,7 +160,7 @@ module _ {K V : Type 0} (same : K → K → Bool) (hash : K → ℕ) (fits : (k 
     )
     passed_reads None further = beyond_reads (is_incremental l.mode)
 
-    told_reads : (word : ℕ) (f : Finding) → On (told_of l trial word f)
+    told_reads : (word : ℕ) (f : Finding) → On (after_finding l trial word f)
     told_reads word is.Free = tt
     told_reads word is.Passed =
         passed_reads (next_trial trial) (next_is c blocks code t trial j tries sees.sized (map.rule.common.lens t tries.table.made).1)
@@ -189,13 +189,13 @@ module _ (K V : Type 0) (same : K → K → Bool) (hash : K → ℕ) where
 
   -- what it knows of keys is not needed for that
   pub late_reads_on : AreLawful same hash → (mode : ResizeMode) (root : ℕ) (keys asked : K → Bool) (code began : ℕ) (m : Mem (Node K V)) (c : Chart K) (blocks : Blocks) (l : Lookup)
-      → IsClass same hash asked code → IsMap same hash mode root m c blocks → LateLookupFacts same hash keys code c blocks began mode root l
+      → IsClass same hash asked code → IsMap same hash mode root m c blocks → SupersededLookupFacts same hash keys code c blocks began mode root l
       → (first steps : ℕ) → ReadsAt (is_incremental mode) c first steps l.stands
       → (m2 : Mem (Node K V)) (end : Lookup × Advance (Option ℕ)) → Steps Took value_at m (lookup_plan asked l) m2 end
       → ReadsOn (is_incremental mode) c first (suc steps) end
   late_reads_on are mode root keys asked code began m c blocks l class map facts first steps reads m2 end s = by l.stands facts.point reads s
     where
-      by : (stands : Looking) → LateLooking same hash keys code c blocks began stands → ReadsAt (is_incremental mode) c first steps stands
+      by : (stands : Looking) → SupersededLooking same hash keys code c blocks began stands → ReadsAt (is_incremental mode) c first steps stands
           → Steps Took value_at m (plan_at {K = K} {V = V} asked l stands) m2 end → ReadsOn (is_incremental mode) c first (suc steps) end
       by at.Roots point reads s = absurd point
       by (at.Probes trial) point reads s =

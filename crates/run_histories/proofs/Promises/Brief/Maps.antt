@@ -6,10 +6,10 @@ use Rattle.run_places.specs.Given.SeizeWorld.{World, with_at, IsInside}
 use Rattle.run_places.specs.Given.TablesDeclared.node.Node.{Node}
 use Rattle.run_places.specs.Given.RawDeclared.machines.progress.Progress.{Progress}
 use Rattle.run_places.specs.Given.RuleChart.{Chart}
-use Rattle.run_places.specs.Given.RuleInWorld.{IsMapIn, Went}
+use Rattle.run_places.specs.Given.RuleInWorld.{IsMapIn, StepSpec}
 use Rattle.run_places.specs.Given.RuleWords.{Blocks}
 use Rattle.run_places.proofs.Given.PointsMovedLasts.{moved_lasts}
-use Rattle.run_places.specs.Given.CallersSights.{Sight, seen_by}
+use Rattle.run_places.specs.Given.CallersSights.{Visible, seen_by}
 use Rattle.run_places.specs.Given.CallersTogether.{UnderWay, OnKey, ForRoom, Counting, OverAll, Together, in_slot}
 use Rattle.run_places.proofs.Given.CallersSights.Seen.{map_seen}
 use Rattle.run_places.proofs.Given.CallersTogether.At.{at_same}
@@ -52,13 +52,13 @@ module _ {K V : Type 0} (same : K → K → Bool) (hash : ℕ → K → ℕ) (s 
       (map_in_slot same st.hash st.setting s.world st.chart st.blocks (slot_of i) stand.ground.map) (stand.ground.sight (slot_of i) inside).0
 
   went_last : IsInside (s.world.uses (slot_of i)) → (Told : World (Node K V) → Chart K → Blocks → Type 0)
-      (went : Went same st.hash (in_slot st.setting (slot_of i)) i s.world st.chart (seen_by st.blocks (st.sights (slot_of i))) new.memory Told) → TablesLast st.chart went.c2
+      (went : StepSpec same st.hash (in_slot st.setting (slot_of i)) i s.world st.chart (seen_by st.blocks (st.sights (slot_of i))) new.memory Told) → TablesLast st.chart went.c2
   went_last inside Told went =
       let lasts = moved_lasts same st.hash (in_slot st.setting (slot_of i)) (at_old.together.makings.standing.fit map st (leads map u here).2).0.lawful s.world st.chart went.c2
       (seen_by st.blocks (st.sights (slot_of i))) (is_map inside) went.moved in
       record { past = lasts.past; limits = λ t l. (lasts.lens t l).1 }
 
-  moved_on : (c2 : Chart K) (blocks2 : Blocks) (sights2 : ℕ → Sight)
+  moved_on : (c2 : Chart K) (blocks2 : Blocks) (sights2 : ℕ → Visible)
       → (leads map u here).4.maps2 ≡ with_at s.maps map (Some (record st { chart = c2; blocks = blocks2; sights = sights2 }))
       → TablesLast st.chart c2 → (n : ℕ) → n ≡ map → (after : Standing K) → (leads map u here).4.maps2 n ≡ Some after → HasStood s.maps n after
   moved_on c2 blocks2 sights2 maps_are last n e after is =

@@ -10,11 +10,11 @@ use Rattle.run_places.specs.Given.RunsDeclared.outcome.Outcome.{Outcome}
 use Rattle.run_places.specs.Given.RunsDeclared.outcome.Outcome.TheVariants as outcome
 use Rattle.run_places.specs.Given.TablesChunks.{is_incremental}
 use Rattle.run_places.specs.Given.RuleChart.{Chart}
-use Rattle.run_places.specs.Given.SchedulesAfter.{asks_on, comes_to, without_call, replied}
+use Rattle.run_places.specs.Given.SchedulesAfter.{asks_on, with_outcome, without_call, replied}
 use Rattle.run_places.specs.Given.SchedulesBeginning.{fresh_call, with_call}
 use Rattle.run_places.specs.Given.SchedulesEffects.{due_for, call_by, with_effect, with_effects}
 use Rattle.run_places.specs.Given.SchedulesEntry.{ends_call}
-use Rattle.run_places.specs.Given.SchedulesMoment.{Stands, Going, Asking, Told, IsReady, UnderWay as CallThere, Moment}
+use Rattle.run_places.specs.Given.SchedulesMoment.{CallState, Going, Asking, Told, IsReady, UnderWay as CallThere, Moment}
 use Rattle.run_places.specs.Given.SchedulesViews.{call_of}
 use Rattle.run_places.specs.Given.CallersTogether.{UnderWay}
 use Rattle.run_places.specs.Given.EffectsEffects.{effects_of}
@@ -29,7 +29,7 @@ use Rattle.run_places.proofs.Hands.Calling.{caller_is}
 use Rattle.run_places.proofs.Changes.Begun.{effects_begun, comes_begun, if_begun, replied_begun}
 use Rattle.run_places.specs.Given.OthersRows.{scene_then}
 use Rattle.run_histories.specs.Promises.Brief.{ReadsSince}
-use Rattle.run_histories.specs.Promises.Meanwhile.{CallsComeToReadings, CallsBeginReadings, OthersKeepReadings, OtherWorkKeepsReadings, RowsKeepReadings, CallsTakeReadings}
+use Rattle.run_histories.specs.Promises.Meanwhile.{CallsComeToReadings, CallsBeginReadings, OthersPreserveReadings, OtherWorkPreservesReadings, RowsPreserveReadings, CallsTakeReadings}
 use Rattle.run_histories.specs.Promises.Reading.{looks, HasLooked, HasStood}
 use Rattle.run_histories.proofs.Promises.Brief.Maps.{same_stood, maps_stood}
 use Rattle.run_histories.proofs.Promises.Brief.Stays.{same_tables, readings_stay}
@@ -39,14 +39,14 @@ use Rattle.run_places.specs.Given.ScenesStepping.{scene_after}
 use Rattle.run_places.proofs.Given.General.{same_some as one_of}
 
 module _ {K V : Type 0} where
-  asks_steps : (question : Option ℕ) (c : CallThere K V) (stands : Stands) → (asks_on question c stands).steps ≡ c.steps
+  asks_steps : (question : Option ℕ) (c : CallThere K V) (stands : CallState) → (asks_on question c stands).steps ≡ c.steps
   asks_steps question c Going = refl
   asks_steps question c (Asking q) = refl
   asks_steps question c Told = refl
   asks_steps question c IsReady = refl
 
   -- an outcome leaves the number of its steps
-  comes_steps : (o : Outcome V) (c : CallThere K V) → (comes_to o c).steps ≡ c.steps
+  comes_steps : (o : Outcome V) (c : CallThere K V) → (with_outcome o c).steps ≡ c.steps
   comes_steps outcome.Done c = refl
   comes_steps (outcome.Slot n) c = refl
   comes_steps outcome.Goes c = refl
@@ -199,7 +199,7 @@ calls_begin_readings K V same name log m known s whole reading map i u its guard
     reads_then n j x d d_is d_looks standing there (inr was) = reading.reads n j x was.1 d (found_now j false (apart n j x was.1) d d_is) d_looks standing there
 
 module _ (K V : Type 0) (same : K → K → Bool) (hash : ℕ → K → ℕ) where
-  pub others_keep_readings : OthersKeepReadings K V same hash
+  pub others_keep_readings : OthersPreserveReadings K V same hash
   others_keep_readings name log made m known s old new at_old whole reading map i u here said leads c c_is no_look =
       readings_stay K V name log made made m (with_effects (Some (name i)) (Some map) (effects_of (acts.Call i map) known new.changed) m) s
       (scene_after same s old new map i (leads map u here).0 u (leads map u here).1 said (leads map u here).4)
@@ -237,7 +237,7 @@ calls_left : {K V : Type 0} (name : List ℕ) (of : Option ℕ) (effects : List 
 calls_left name of [] m = refl
 calls_left name of (f ∷ effects) m = calls_left name of effects (with_effect None of f m)
 
-pub other_work_keeps_readings : (K V : Type 0) → OtherWorkKeepsReadings K V
+pub other_work_keeps_readings : (K V : Type 0) → OtherWorkPreservesReadings K V
 other_work_keeps_readings K V name log made m s s2 of effects kept stood reading =
     readings_stay K V name log made made m (with_effects None of effects m) s s2 (record { calls = calls; maps = λ n j x is st there. stood n j x is st there }) reading
   where
@@ -245,13 +245,13 @@ other_work_keeps_readings K V name log made m s s2 of effects kept stood reading
         → (s.calls n j ≡ Some x) × (c : CallThere K V) × (call_of (name j) m ≡ Some c) × (looks c.call ≡ true) × (d.begun ≡ c.begun) × (d.steps + made j ≡ c.steps + made j)
     calls n j x is d d_is d_looks = (kept n j x is, d, sym (calls_left (name j) of effects m) ∙ d_is, d_looks, refl, refl)
 
-pub rows_keep_readings : (K V : Type 0) (same : K → K → Bool) (hash : ℕ → K → ℕ) → RowsKeepReadings K V same hash
+pub rows_keep_readings : (K V : Type 0) (same : K → K → Bool) (hash : ℕ → K → ℕ) → RowsPreserveReadings K V same hash
 rows_keep_readings K V same hash name log made m s old new event happened effects reading =
     other_work_keeps_readings K V name log made m s (scene_then same hash event s old new happened) None effects (λ n j x is. is)
     (λ n j x is st there. same_stood s.maps n (happened.2 n) (happened.3 n) st there) reading
 
 -- a reply leaves what began the call, and its steps
-reply_steps : {K V : Type 0} (reply : Reply V) (c : CallThere K V) (stands : Stands) → (replied reply c stands).steps ≡ c.steps
+reply_steps : {K V : Type 0} (reply : Reply V) (c : CallThere K V) (stands : CallState) → (replied reply c stands).steps ≡ c.steps
 reply_steps reply c Going = refl
 reply_steps reply c (Asking q) = refl
 reply_steps reply c Told = refl

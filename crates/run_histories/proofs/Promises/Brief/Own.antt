@@ -30,13 +30,13 @@ use Rattle.run_places.specs.Given.PointsFactsCalls.{Unchanged, CallingFacts, Cal
 use Rattle.run_places.specs.Given.PointsSteps.{AreLawful}
 use Rattle.run_places.specs.Given.PointsTold.{IsRowOfCall}
 use Rattle.run_places.proofs.Given.PointsLookups.LooksAsked.{class_asked, lookup_asked}
-use Rattle.run_places.specs.Given.LateLateCalls.{LateCalling, LateCallFacts}
+use Rattle.run_places.specs.Given.LateLateCalls.{SupersededCalling, SupersededCallFacts}
 use Rattle.run_places.specs.Given.CallersRows.{row_of, once_over}
 use Rattle.run_places.specs.Given.CallersSights.{seen_by}
 use Rattle.run_places.specs.Given.CallersTogether.{CallOnKey, OnKey, ForRoom, Counting, OverAll, Together, Knows, in_slot}
 use Rattle.run_places.proofs.Given.CallersSights.Seen.{map_seen}
 use Rattle.run_places.proofs.Given.CallersTogether.Fits.{map_in_slot}
-use Rattle.run_places.specs.Given.TellerTells.{StepsTold}
+use Rattle.run_places.specs.Given.TellerTells.{StepsObserved}
 use Rattle.run_places.specs.Given.EffectsDeclared.changed.Changed.{Changed}
 use Rattle.run_places.specs.Given.EffectsDeclared.changed.Changed.TheVariants as changed
 use Rattle.run_places.proofs.Given.OthersOutcomes.{told_in}
@@ -53,7 +53,7 @@ use Rattle.run_places.specs.Given.ScenesStepping.{StepLeads}
 -- of a lookup's plan nothing is told
 
 module _ {K V : Type 0} (m m2 : Mem (Node K V)) (told : Changed) where
-  tells_none : (keys : K → Bool) (l : Lookup) (stands : Looking) (end : Lookup × Stepped (Option ℕ)) → StepsTold K V (Lookup × Stepped (Option ℕ)) m changed.Nothing (lookups.plan_at keys l stands) m2 told end
+  tells_none : (keys : K → Bool) (l : Lookup) (stands : Looking) (end : Lookup × Stepped (Option ℕ)) → StepsObserved K V (Lookup × Stepped (Option ℕ)) m changed.Nothing (lookups.plan_at keys l stands) m2 told end
       → told ≡ changed.Nothing
   tells_none keys l looking.Roots end s = s.1.1
   tells_none keys l (looking.Probes trial) end s = s.1.1
@@ -61,19 +61,19 @@ module _ {K V : Type 0} (m m2 : Mem (Node K V)) (told : Changed) where
   tells_none keys l (looking.Over found) end s = s.2
 
   asked_none : (asks : K → K → Bool) (p : KeyCall K V K) (l : Lookup) (asked : Option K) (end : KeyCall K V K × Called (Node K V))
-      → StepsTold K V (KeyCall K V K × Called (Node K V)) m changed.Nothing (looks_for asks p l asked) m2 told end → told ≡ changed.Nothing
+      → StepsObserved K V (KeyCall K V K × Called (Node K V)) m changed.Nothing (looks_for asks p l asked) m2 told end → told ≡ changed.Nothing
   asked_none asks p l (Some q) end s = let it = told_in m m2 told (looked p) (lookup_plan (asks q) l) end s in tells_none (asks q) l l.stands it.0 it.2
   asked_none asks p l None end s = s.2
 
 module _ (K V : Type 0) (same : K → K → Bool) (hash : ℕ → K → ℕ) where
   -- what is told of its step
   told_none : (its_hash : K → ℕ) (old new : Held K V) (k : CallOnKey K V K) (l : Lookup) → k.call.stands ≡ at.Looks l → (end : Machine K V K × Progress (Node K V))
-      → StepsTold K V (Machine K V K × Progress (Node K V)) old.memory changed.Nothing (machine_plan same same its_hash (kinds.Key k.call)) new.memory new.changed end
+      → StepsObserved K V (Machine K V K × Progress (Node K V)) old.memory changed.Nothing (machine_plan same same its_hash (kinds.Key k.call)) new.memory new.changed end
       → new.changed ≡ changed.Nothing
   told_none its_hash old new k l e end s =
       let it = told_in old.memory new.memory new.changed called (call_plan same same its_hash k.call) end s in
       asked_none old.memory new.memory new.changed same k.call l k.call.asked it.0
-      (subst (λ (x : Calling). StepsTold K V (KeyCall K V K × Called (Node K V)) old.memory changed.Nothing (plan_at same same its_hash k.call x) new.memory new.changed it.0) e it.2)
+      (subst (λ (x : Calling). StepsObserved K V (KeyCall K V K × Called (Node K V)) old.memory changed.Nothing (plan_at same same its_hash k.call x) new.memory new.changed it.0) e it.2)
 
   pub lookups_do_nothing : LookupsDoNothing K V same hash
   lookups_do_nothing known s old new i said leads map (OnKey k) here incremental c moments steps h =
@@ -167,8 +167,8 @@ module _ {K V : Type 0} (same : K → K → Bool) (hash : ℕ → K → ℕ) (s 
                 first steps rooted reads on.m2 on.end on.steps;
           }
 
-      late : LateCallFacts same its_hash same s.world i (in_slot (leads map (OnKey k) here).0.setting (slot_of i)) c seen k.keys k.began k.call
-          → LateCalling same its_hash same s.world i (in_slot (leads map (OnKey k) here).0.setting (slot_of i)) c seen k.keys k.began k.call (at.Looks l) → HasReadOn first steps
+      late : SupersededCallFacts same its_hash same s.world i (in_slot (leads map (OnKey k) here).0.setting (slot_of i)) c seen k.keys k.began k.call
+          → SupersededCalling same its_hash same s.world i (in_slot (leads map (OnKey k) here).0.setting (slot_of i)) c seen k.keys k.began k.call (at.Looks l) → HasReadOn first steps
       late facts (own, missing, there, q, asked, agree, knows_so) =
           let on = looked_so q asked in
           record {
@@ -181,6 +181,6 @@ module _ {K V : Type 0} (same : K → K → Bool) (hash : ℕ → K → ℕ) (s 
           }
 
       by : CallFacts same its_hash same s.world i (in_slot (leads map (OnKey k) here).0.setting (slot_of i)) c seen k.keys k.change k.call
-          ⊎ ((k.change ≡ Unchanged) × LateCallFacts same its_hash same s.world i (in_slot (leads map (OnKey k) here).0.setting (slot_of i)) c seen k.keys k.began k.call) → HasReadOn first steps
+          ⊎ ((k.change ≡ Unchanged) × SupersededCallFacts same its_hash same s.world i (in_slot (leads map (OnKey k) here).0.setting (slot_of i)) c seen k.keys k.began k.call) → HasReadOn first steps
       by (inl facts) = fresh facts (subst (CallingFacts same its_hash same s.world i (in_slot (leads map (OnKey k) here).0.setting (slot_of i)) c seen k.keys k.change k.call) is facts.point)
-      by (inr (none, facts)) = late facts (subst (LateCalling same its_hash same s.world i (in_slot (leads map (OnKey k) here).0.setting (slot_of i)) c seen k.keys k.began k.call) is facts.point)
+      by (inr (none, facts)) = late facts (subst (SupersededCalling same its_hash same s.world i (in_slot (leads map (OnKey k) here).0.setting (slot_of i)) c seen k.keys k.began k.call) is facts.point)

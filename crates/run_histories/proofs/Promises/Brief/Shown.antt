@@ -11,7 +11,7 @@ use Rattle.run_places.specs.Given.SchedulesMoment.{UnderWay as CallThere, TableT
 use Rattle.run_places.specs.Given.SchedulesSteps.{met_from, root_table, ReadsFew}
 use Rattle.run_places.specs.Given.SchedulesViews.{first_or, first_of}
 use Rattle.run_places.specs.Given.EffectsKnown.{Known}
-use Rattle.run_places.specs.Given.FollowsMaps.{ShowsTables}
+use Rattle.run_places.specs.Given.FollowsMaps.{RefinesTables}
 use Rattle.run_histories.specs.Promises.Brief.{words_of, read_to, HasRead, ReadsAt, TablesLast, ReadingsLast, WasRoot, ReadsSince, ReadingsAreFew, RootsAreShown}
 use Rattle.run_histories.proofs.Promises.Brief.Sums.{through, none_before, as_long, met_words, root_words}
 
@@ -64,7 +64,7 @@ module _ {K : Type 0} (incremental : Bool) (c : Chart K) (first steps : ℕ) whe
   within (at.Nexts table) none h = record { turn = table.turn; reads = h }
   within (at.Over found) none h = absurd h
 
-module _ {K V : Type 0} (s : Standing K) (now : Moment K V) (known : Known) (call : CallThere K V) (steps : ℕ) (shows : ShowsTables call.map s now known) where
+module _ {K V : Type 0} (s : Standing K) (now : Moment K V) (known : Known) (call : CallThere K V) (steps : ℕ) (shows : RefinesTables call.map s now known) where
   -- the words of the tables from this turn on, as the moment has them
   words_now : (first : ℕ) → sum_by words_of (met_from call.map first now) ≡ read_to s.chart.limit first s.chart.past
   words_now first =

@@ -12,7 +12,7 @@ use Rattle.run_places.specs.Given.SchedulesMoment.{Moment}
 use Rattle.run_places.specs.Given.CallersTogether.{UnderWay, OnKey, ForRoom, Counting, OverAll}
 use Rattle.run_places.proofs.Changes.Logs.{grows, further_is_past}
 use Rattle.run_histories.specs.Promises.Brief.{HasRead, TablesLast, WasRoot, ReadsSince}
-use Rattle.run_histories.specs.Promises.Reading.{HasLooked, ReadingsStay, EventsKeepReadings}
+use Rattle.run_histories.specs.Promises.Reading.{HasLooked, ReadingsStay, EventsPreserveReadings}
 use Rattle.run_histories.proofs.Promises.Brief.Shown.{one_as, readings_last}
 use Rattle.run_places.specs.Given.SchedulesTransition.{Past, further}
 
@@ -82,7 +82,7 @@ module _ (K V : Type 0) (name : ℕ → List ℕ) where
         (looked_on (is_incremental was.0.setting.mode) map was.0.chart standing.chart was.3 (log.since it.1.begun) (log.since it.1.begun) (λ P one. one) (it.1.steps + made i) u before);
   }
 
-  pub events_keep_readings : EventsKeepReadings K V name
+  pub events_keep_readings : EventsPreserveReadings K V name
   events_keep_readings log next made m s h counted = record {
     past = further_is_past next log counted;
     begun = λ map i u is c c_is looks_for. (let b = h.begun map i u is c c_is looks_for in omega (arith, b));

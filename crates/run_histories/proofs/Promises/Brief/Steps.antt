@@ -22,12 +22,12 @@ use Rattle.run_places.specs.Given.SchedulesLists.{OneOf}
 use Rattle.run_places.specs.Given.SchedulesMoment.{UnderWay as CallThere, MapThere, TableThere, Moment}
 use Rattle.run_places.specs.Given.SchedulesViews.{call_of}
 use Rattle.run_places.specs.Given.CallersTogether.{CallOnKey, UnderWay, OnKey, ForRoom, Counting, OverAll}
-use Rattle.run_places.specs.Given.FinishesMachines.{GoesOnAs, machine_of}
+use Rattle.run_places.specs.Given.FinishesMachines.{ContinuesAs, machine_of}
 use Rattle.run_places.specs.Given.FinishesMaps.{Standing}
 use Rattle.run_places.proofs.Hands.Asking.{which}
 use Rattle.run_places.proofs.Changes.Logs.{now_there}
 use Rattle.run_histories.specs.Promises.Brief.{ReadsAt, ReadsOn, IsRootOf, TablesLast, WasRoot, ReadsSince}
-use Rattle.run_histories.specs.Promises.Reading.{looks, HasLooked, one_more_of, LookupsKeepReadings}
+use Rattle.run_histories.specs.Promises.Reading.{looks, HasLooked, one_more_of, LookupsPreserveReadings}
 use Rattle.run_histories.proofs.Promises.Brief.Maps.{maps_stood}
 use Rattle.run_histories.proofs.Promises.Brief.Own.{HasReadOn, has_read_on}
 use Rattle.run_histories.proofs.Promises.Brief.Shown.{roots_are_shown}
@@ -84,8 +84,8 @@ module _ {K V : Type 0} (same : K → K → Bool) (hash : ℕ → K → ℕ) (s 
     -- what is under way then is the machine that it has led to
     then_at : (x : UnderWay K V K) → (end : Lookup × Stepped (Option ℕ)) → ReadsOn inc c from.first (suc steps) end
         → kinds.Key (looked k.call end).0 ≡ (leads map (OnKey k) here).1 → of_called (looked k.call end).1 ≡ said
-        → GoesOnAs (leads map (OnKey k) here).1 said (Some x) → HasLooked inc map c moments (suc steps) x
-    then_at x (l2, stepped.Goes) reads machine told goes = by x (subst (λ (p : Progress (Node K V)). GoesOnAs (leads map (OnKey k) here).1 p (Some x)) (sym told) goes)
+        → ContinuesAs (leads map (OnKey k) here).1 said (Some x) → HasLooked inc map c moments (suc steps) x
+    then_at x (l2, stepped.Goes) reads machine told goes = by x (subst (λ (p : Progress (Node K V)). ContinuesAs (leads map (OnKey k) here).1 p (Some x)) (sym told) goes)
       where
         is_next : (y : UnderWay K V K) → machine_of y ≡ (leads map (OnKey k) here).1 → HasLooked inc map c moments (suc steps) y
         is_next (OnKey k2) e = (
@@ -97,19 +97,19 @@ module _ {K V : Type 0} (same : K → K → Bool) (hash : ℕ → K → ℕ) (s 
         is_next (Counting sum) e = absurd (cc (e, machine))
         is_next (OverAll o) e = absurd (cc (e, machine))
 
-        by : (y : UnderWay K V K) → GoesOnAs (leads map (OnKey k) here).1 (of_called (looked k.call (l2, stepped.Goes)).1) (Some y) → HasLooked inc map c moments (suc steps) y
+        by : (y : UnderWay K V K) → ContinuesAs (leads map (OnKey k) here).1 (of_called (looked k.call (l2, stepped.Goes)).1) (Some y) → HasLooked inc map c moments (suc steps) y
         by y (z, some, e) = is_next y (ap (λ (w : UnderWay K V K). machine_of w) (cc some) ∙ e)
     then_at x (l2, stepped.Waits) reads machine told goes = absurd reads
     then_at x (l2, stepped.Refused fault) reads machine told goes = absurd reads
     then_at x (l2, stepped.Done (Some found)) reads machine told goes =
-        absurd (cc (subst (λ (p : Progress (Node K V)). GoesOnAs (leads map (OnKey k) here).1 p (Some x)) (sym told) goes))
+        absurd (cc (subst (λ (p : Progress (Node K V)). ContinuesAs (leads map (OnKey k) here).1 p (Some x)) (sym told) goes))
     then_at x (l2, stepped.Done None) reads machine told goes =
-        absurd (cc (subst (λ (p : Progress (Node K V)). GoesOnAs (leads map (OnKey k) here).1 p (Some x)) (sym told) goes))
+        absurd (cc (subst (λ (p : Progress (Node K V)). ContinuesAs (leads map (OnKey k) here).1 p (Some x)) (sym told) goes))
 
     key_then : (x : UnderWay K V K) → (leads map (OnKey k) here).4.next ≡ Some x → HasLooked inc map c moments (suc steps) x
     key_then x next =
         then_at x read.on.end read.reads read.on.leads_to.0 read.on.leads_to.1
-        (subst (λ (o : Option (UnderWay K V K)). GoesOnAs (leads map (OnKey k) here).1 said o) next (leads map (OnKey k) here).4.goes_on)
+        (subst (λ (o : Option (UnderWay K V K)). ContinuesAs (leads map (OnKey k) here).1 said o) next (leads map (OnKey k) here).4.goes_on)
 
   -- the lookup that has taken the step, by the tables that there were
   looked_then : (u : UnderWay K V K) (here : s.calls map i ≡ Some u)
@@ -124,7 +124,7 @@ module _ {K V : Type 0} (same : K → K → Bool) (hash : ℕ → K → ℕ) (s 
   looked_then (OverAll o) here root h x next = absurd h
 
 module _ (K V : Type 0) (same : K → K → Bool) (hash : ℕ → K → ℕ) where
-  pub lookups_keep_readings : LookupsKeepReadings K V same hash
+  pub lookups_keep_readings : LookupsPreserveReadings K V same hash
   lookups_keep_readings name log made m known s old new at_old whole reading maps tables map i u here said leads c c_is looks_for =
       record { past = reading.past; begun = begun_then; reads = reads_then }
     where

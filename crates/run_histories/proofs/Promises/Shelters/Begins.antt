@@ -16,7 +16,7 @@ use Rattle.run_places.specs.Given.EffectsKnown.{Known}
 use Rattle.run_places.specs.Given.ScenesDeclared.row.SlotCall.{SlotCall}
 use Rattle.run_places.specs.Given.ScenesDeclared.row.SlotCall.TheVariants as call
 use Rattle.run_places.specs.Given.OthersWalks.{given_up}
-use Rattle.run_histories.specs.Promises.Others.{SparesGuards, NobodyOn, RowsBeginShelter, HoldByCalls, HoldByMaps, SectionsGoOn}
+use Rattle.run_histories.specs.Promises.Others.{SparesGuards, NobodyOn, RowsBeginShelter, HoldByCalls, HoldByMaps, SectionsContinue}
 use Rattle.run_histories.specs.Promises.Sheltered.{GuardsAreInside, IsSheltered, AreSheltered, SectionsHold}
 use Rattle.run_histories.proofs.Promises.Lists.{all_of}
 use Rattle.run_places.specs.Given.ScenesRows.{request_of}
@@ -91,5 +91,5 @@ module _ {K V : Type 0} (m : Moment K V) (known : Known) (w : World (Node K V)) 
   hold_by_maps : HoldByMaps m known w
   hold_by_maps = record { comes = λ there. (hold.0, hold.1); ends = λ owner. (hold.0, hold.1); over = λ own remains. (hold.0, hold.1); has = λ memory. (hold.0, hold.1) }
 
-pub sections_go_on : (K V : Type 0) → SectionsGoOn K V
+pub sections_go_on : (K V : Type 0) → SectionsContinue K V
 sections_go_on K V m known w hold = (hold_by_calls m known w hold, hold_by_maps m known w hold)

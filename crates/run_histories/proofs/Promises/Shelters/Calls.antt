@@ -35,7 +35,7 @@ use Rattle.run_places.specs.Given.EffectsDeclared.role.Role.TheVariants as role
 use Rattle.run_places.specs.Given.FinishesMaps.{Standing}
 use Rattle.run_places.specs.Given.FollowsBlocks.{HasRole}
 use Rattle.run_places.specs.Given.FollowsFinds.{FindsMap}
-use Rattle.run_places.specs.Given.FollowsMaps.{ShowsPairs}
+use Rattle.run_places.specs.Given.FollowsMaps.{RefinesPairs}
 use Rattle.run_places.specs.Given.FollowsSteps.{TakesNone}
 use Rattle.run_places.proofs.Given.FollowsAlike.{put_here}
 use Rattle.run_places.proofs.Given.FollowsGoing.{ComesToBe}
@@ -47,7 +47,7 @@ use Rattle.run_places.proofs.Given.FollowsSteps.{WentTo, went_to, made_so, DidSo
 use Rattle.run_places.proofs.Hands.RowSteps.{rows_hand_theirs}
 use Rattle.run_places.proofs.Hands.Steps.{calls_store_theirs}
 use Rattle.run_places.proofs.Spots.Elsewhere.{stored_grows}
-use Rattle.run_places.specs.Moments.Whole.{ShowsWhole}
+use Rattle.run_places.specs.Moments.Whole.{RefinesWhole}
 use Rattle.run_places.proofs.Moments.Calls.{of_row}
 use Rattle.run_histories.specs.Promises.Shelters.{CallsShelter}
 use Rattle.run_histories.specs.Promises.Sheltered.{AreShelteredOn, GuardsAreOn, HasCome, IsOfThing, IsShelteredOn}
@@ -96,7 +96,7 @@ takes_own caller map known (changed.Took b) keeps =
 takes_own caller map known (changed.Roomed bucket had) keeps = tt
 
 module _ {K V : Type 0} (same : K → K → Bool) (hash : ℕ → K → ℕ) (name : ℕ → List ℕ) (m : Moment K V) (known : Known) (s : Scene K V) (old new : Held K V) (at : IsAt same hash old s)
-    (whole : ShowsWhole same name m known s) (map i : ℕ) (u : UnderWay K V K) (here : s.calls map i ≡ Some u) (told : Progress (Node K V)) (leads : StepLeads same hash i told s old new)
+    (whole : RefinesWhole same name m known s) (map i : ℕ) (u : UnderWay K V K) (here : s.calls map i ≡ Some u) (told : Progress (Node K V)) (leads : StepLeads same hash i told s old new)
     (On On2 : World (Node K V) → ℕ → Type 0) (sections : Sections On On2) (rows : GoOnByRows On On2 i) where
   abbrev to : WentTo same hash name m known s old new at whole.all.shown map i u here told leads
   to = went_to same hash name m known s old new at whole.all.shown map i u here told leads
@@ -133,7 +133,7 @@ module _ {K V : Type 0} (same : K → K → Bool) (hash : ℕ → K → ℕ) (na
   abbrev IsOut : Thing → Type 0
   IsOut x = HasCome known x × ((t b : ℕ) → On w t → IsOfThing x (known.roles b) → holds t b w.log ≡ true)
 
-  abbrev pairs : ShowsPairs map (whole.all.shown.number map) st m known
+  abbrev pairs : RefinesPairs map (whole.all.shown.number map) st m known
   pairs = (whole.all.shown.maps map st to.2).pairs
 
   pair_out : (n : ℕ) → m.place n ≡ InMap map → IsOut (APair n)

@@ -24,21 +24,21 @@ use Rattle.run_places.specs.Given.FollowsBlocks.{HasRole}
 use Rattle.run_places.proofs.Given.FollowsAlike.{put_here}
 use Rattle.run_places.proofs.Given.FollowsOnward.{IsOfMap}
 use Rattle.run_places.proofs.Given.OthersEnds.{left, one_taken}
-use Rattle.run_places.specs.Moments.Whole.{ShowsWhole}
+use Rattle.run_places.specs.Moments.Whole.{RefinesWhole}
 use Rattle.run_places.proofs.Moments.Ends.{says, end_keeps}
 use Rattle.run_histories.specs.Promises.Others.{EndingsShelter}
 use Rattle.run_histories.specs.Promises.Sheltered.{AreShelteredOn, GuardsAreOn}
 use Rattle.run_histories.proofs.Promises.Shelters.Lasting.{Lasts, of_map, all_last, guards_last}
 use Rattle.run_histories.proofs.Promises.Shelters.Noted.{more_noted}
 use Rattle.run_histories.proofs.Promises.Shelters.Outs.{TakeNothing, calm_nothing, keep_all}
-use Rattle.run_places.specs.Given.ScenesEnding.{EndingLeads, EndingComesTo, EndingStepsFrom}
+use Rattle.run_places.specs.Given.ScenesEnding.{EndingLeads, EndingHasOutcome, EndingStepsFrom}
 use Rattle.run_places.specs.Given.ScenesHeld.{Held, IsAt}
 use Rattle.run_places.specs.Given.ScenesScene.{Scene, slot_of}
 
 module _ {K V : Type 0} (same : K → K → Bool) (hash : ℕ → K → ℕ) (name : ℕ → List ℕ) (m : Moment K V) (known : Known) (s : Scene K V) (old new : Held K V) (at : IsAt same hash old s)
-    (whole : ShowsWhole same name m known s) (i : ℕ) (f : Finishing K V) (here : s.enders i ≡ Some f) (end : EndMap) (said : Settled (Node K V)) (steps : EndingStepsFrom f.machine old new end said)
+    (whole : RefinesWhole same name m known s) (i : ℕ) (f : Finishing K V) (here : s.enders i ≡ Some f) (end : EndMap) (said : Settled (Node K V)) (steps : EndingStepsFrom f.machine old new end said)
     (did : StepsOfEnding V same same old.batch_size old.roots slot_of s.world s.maps s.calls s.makers s.enders i f new.memory (end, said))
-    (map : ℕ) (not_there : s.maps map ≡ None) (comes : EndingComesTo same hash s new i f end did.w2 did.deed said) where
+    (map : ℕ) (not_there : s.maps map ≡ None) (comes : EndingHasOutcome same hash s new i f end did.w2 did.deed said) where
   abbrev w : World (Node K V)
   w = s.world
 
@@ -121,7 +121,7 @@ module _ {K V : Type 0} (same : K → K → Bool) (hash : ℕ → K → ℕ) (na
 
 module _ (K V : Type 0) (same : K → K → Bool) (hash : ℕ → K → ℕ) where
   -- it leaves sheltered in all sections what is so
-  pub endings_shelter_on : (On On2 : ℕ → Type 0) (name : ℕ → List ℕ) (m : Moment K V) (known : Known) (s : Scene K V) (old new : Held K V) → IsAt same hash old s → ShowsWhole same name m known s
+  pub endings_shelter_on : (On On2 : ℕ → Type 0) (name : ℕ → List ℕ) (m : Moment K V) (known : Known) (s : Scene K V) (old new : Held K V) → IsAt same hash old s → RefinesWhole same name m known s
       → (i : ℕ) (told : Settled (Node K V)) (leads : EndingLeads same hash i told s old new) (f : Finishing K V) (here : s.enders i ≡ Some f) (map : ℕ) → s.maps map ≡ None → ((t : ℕ) → On t → On2 t)
       → GuardsAreOn On m.there → AreShelteredOn On m.there s.world known m.sheltered
       → (let to = leads f here in

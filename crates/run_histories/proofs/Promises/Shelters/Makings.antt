@@ -33,14 +33,14 @@ use Rattle.run_places.specs.Given.EffectsDeclared.acting.Acting.{Acting}
 use Rattle.run_places.specs.Given.EffectsDeclared.acting.Acting.TheVariants as acts
 use Rattle.run_places.specs.Given.EffectsDeclared.role.Role.{Role}
 use Rattle.run_places.specs.Given.EffectsDeclared.role.Role.TheVariants as role
-use Rattle.run_places.specs.Given.FinishesEndings.{MakingStepsAmong}
+use Rattle.run_places.specs.Given.FinishesEndings.{MakingStepsWithEndings}
 use Rattle.run_places.specs.Given.FinishesMakings.{Beginning}
 use Rattle.run_places.proofs.Given.FollowsOperations.{LeavesBy}
 use Rattle.run_places.specs.Given.OthersMakings.{WasNew, making_after}
 use Rattle.run_places.proofs.Given.OthersLeads.{word_says}
 use Rattle.run_places.proofs.Given.OthersMakingPlans.{TellsMaking}
 use Rattle.run_places.proofs.Given.OthersMakes.{no_table_word, tells, left}
-use Rattle.run_places.specs.Moments.Whole.{ShowsWhole}
+use Rattle.run_places.specs.Moments.Whole.{RefinesWhole}
 use Rattle.run_places.proofs.Moments.Beside.{IsBeside}
 use Rattle.run_places.proofs.Moments.Makings.{not_of_map, before_free}
 use Rattle.run_places.proofs.Moments.MakingSteps.{makings_go_beside}
@@ -51,12 +51,12 @@ use Rattle.run_histories.proofs.Promises.Shelters.Noted.{more_noted}
 use Rattle.run_histories.proofs.Promises.Shelters.Outs.{TakeNothing, calm_nothing, keep_all}
 use Rattle.run_histories.proofs.Promises.Shelters.Within.{GoOn, Sections, Within, within_sections}
 use Rattle.run_places.specs.Given.ScenesHeld.{Held, IsAt}
-use Rattle.run_places.specs.Given.ScenesMaking.{MakingComesTo, MakingLeads, MakingStepsFrom}
+use Rattle.run_places.specs.Given.ScenesMaking.{MakingHasOutcome, MakingLeads, MakingStepsFrom}
 use Rattle.run_places.specs.Given.ScenesScene.{Scene, slot_of}
 
 module _ {K V : Type 0} (same : K → K → Bool) (hash : ℕ → K → ℕ) (name : ℕ → List ℕ) (m : Moment K V) (known : Known) (s : Scene K V) (old new : Held K V) (at : IsAt same hash old s)
-    (whole : ShowsWhole same name m known s) (i : ℕ) (b : Beginning K) (here : s.makers i ≡ Some b) (end : NewMap) (said : Advance Setting) (steps : MakingStepsFrom b.machine old new end said)
-    (did : MakingStepsAmong V same same old.batch_size old.roots slot_of s.world s.maps s.calls s.makers s.enders i b new.memory (end, said)) (of : Option ℕ) where
+    (whole : RefinesWhole same name m known s) (i : ℕ) (b : Beginning K) (here : s.makers i ≡ Some b) (end : NewMap) (said : Advance Setting) (steps : MakingStepsFrom b.machine old new end said)
+    (did : MakingStepsWithEndings V same same old.batch_size old.roots slot_of s.world s.maps s.calls s.makers s.enders i b new.memory (end, said)) (of : Option ℕ) where
   abbrev w : World (Node K V)
   w = s.world
 
@@ -129,7 +129,7 @@ module _ {K V : Type 0} (same : K → K → Bool) (hash : ℕ → K → ℕ) (na
   reached2 : Reached deferred_word old.batch_size w2
   reached2 = runs_reached deferred_word old.batch_size did.step.events w w2 reached did.step.runs
 
-  pub comes_there : (t : Advance Setting) (comes : MakingComesTo same hash s old new i b end w2 t) → (making_after same hash s old new i b end w2 t comes).world ≡ w2
+  pub comes_there : (t : Advance Setting) (comes : MakingHasOutcome same hash s old new i b end w2 t) → (making_after same hash s old new i b end w2 t comes).world ≡ w2
   comes_there progress.Goes comes = refl
   comes_there progress.Waits comes = absurd comes
   comes_there (progress.Done setting) comes = refl
@@ -167,7 +167,7 @@ module _ {K V : Type 0} (same : K → K → Bool) (hash : ℕ → K → ℕ) (na
 module _ (K V : Type 0) (same : K → K → Bool) (hash : ℕ → K → ℕ) where
   -- it leaves such sections as they are, and sheltered in them what is so
   pub makings_shelter_on : (On On2 : World (Node K V) → ℕ → Type 0) → Sections On On2 → (name : ℕ → List ℕ) (m : Moment K V) (known : Known) (s : Scene K V) (old new : Held K V) → IsAt same hash old s
-      → ShowsWhole same name m known s → (i : ℕ) (told : Advance Setting) (leads : MakingLeads same hash i told s old new) (b : Beginning K) (here : s.makers i ≡ Some b) (of : Option ℕ) → WasNew b.map told m
+      → RefinesWhole same name m known s → (i : ℕ) (told : Advance Setting) (leads : MakingLeads same hash i told s old new) (b : Beginning K) (here : s.makers i ≡ Some b) (of : Option ℕ) → WasNew b.map told m
       → GuardsAreOn (On s.world) m.there → AreShelteredOn (On s.world) m.there s.world known m.sheltered
       → (let to = leads b here in
       let effects = effects_of (acts.Making b.map) known new.changed in

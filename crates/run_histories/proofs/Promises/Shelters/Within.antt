@@ -19,7 +19,7 @@ use Rattle.run_places.proofs.Given.CallersTogether.Came.{came_reached}
 use Rattle.run_places.proofs.Given.CallersTogether.Handed.{inside_on}
 use Rattle.run_places.proofs.Given.CallersTogether.Users.{events_uses}
 use Rattle.run_places.specs.Given.EffectsKnown.{Known}
-use Rattle.run_places.specs.Given.FollowsShows.{Shows}
+use Rattle.run_places.specs.Given.FollowsShows.{Refines}
 use Rattle.run_places.proofs.Given.FollowsSteps.{WentTo, went_to, DidSo}
 use Rattle.run_places.specs.Given.ScenesHeld.{Held, IsAt}
 use Rattle.run_places.specs.Given.ScenesScene.{Scene}
@@ -87,7 +87,7 @@ module _ {K V : Type 0} where
   }
 
 module _ {K V : Type 0} (same : K → K → Bool) (hash : ℕ → K → ℕ) (name : ℕ → List ℕ) (m : Moment K V) (known : Known) (s : Scene K V) (old new : Held K V) (at : IsAt same hash old s)
-    (shown : Shows same name m known s) (map i : ℕ) (u : UnderWay K V K) (here : s.calls map i ≡ Some u) (told : Progress (Node K V)) (leads : StepLeads same hash i told s old new)
+    (shown : Refines same name m known s) (map i : ℕ) (u : UnderWay K V K) (here : s.calls map i ≡ Some u) (told : Progress (Node K V)) (leads : StepLeads same hash i told s old new)
     (On On2 : World (Node K V) → ℕ → Type 0) (sections : Sections On On2) (rows : GoOnByRows On On2 i) where
   abbrev to : WentTo same hash name m known s old new at shown map i u here told leads
   to = went_to same hash name m known s old new at shown map i u here told leads

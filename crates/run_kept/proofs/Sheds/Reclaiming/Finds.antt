@@ -41,10 +41,10 @@ use Rattle.run_shows.proofs.Follows.Writes.{nothing_free}
 use Rattle.run_shows.proofs.Others.RowPlans.{TellsRow}
 use Rattle.run_executor.specs.Given.SpotsOnSlots.{WaitUnreclaimed}
 use Rattle.run_executor.specs.Given.MomentsOnSlots.{HadRetired}
-use Rattle.run_executor.specs.Given.MomentsWhole.{ShowsWhole}
+use Rattle.run_executor.specs.Given.MomentsWhole.{RefinesWhole}
 use Rattle.run_executor.proofs.Given.MomentsOnSlots.{none_some}
-use Rattle.run_waiting.specs.Lives.Behind.{IsLeft, NoTableLeft, ShowsWaiting}
-use Rattle.run_waiting.specs.Lives.Retired.{ShowsRetired}
+use Rattle.run_waiting.specs.Lives.Behind.{IsLeft, NoTableLeft, RefinesWaiting}
+use Rattle.run_waiting.specs.Lives.Retired.{RefinesRetiredTables}
 use Rattle.run_waiting.proofs.Lives.Retires.{given_hand}
 use Rattle.run_waiting.proofs.Lives.Taken.{taken_retired}
 use Rattle.run_waiting.proofs.Lives.Waiting.{row_finds}
@@ -103,8 +103,8 @@ module _ {K V : Type 0} (size : ℕ) where
   root_value i place word w w2 (v, (out, m, own, took, is), runs) x =
       ap (λ (u : World (Node K V)). value_at u.memory x) (runs ∙ is) ∙ ap (λ (z : Mem (Node K V)). value_at z x) took.1 ∙ own_op_value deferred_word w.memory x (Store place word) out own
 
-module _ {K V : Type 0} (same : K → K → Bool) (hash : ℕ → K → ℕ) (name : ℕ → List ℕ) (m : Moment K V) (known : Known) (s : Scene K V) (whole : ShowsWhole same name m known s)
-    (waiting : ShowsWaiting m known s.world) (retired : ShowsRetired m known s) (no_table : NoTableLeft known s.world)
+module _ {K V : Type 0} (same : K → K → Bool) (hash : ℕ → K → ℕ) (name : ℕ → List ℕ) (m : Moment K V) (known : Known) (s : Scene K V) (whole : RefinesWhole same name m known s)
+    (waiting : RefinesWaiting m known s.world) (retired : RefinesRetiredTables m known s) (no_table : NoTableLeft known s.world)
     (old new : Held K V) (i : ℕ) (lists : ℕ → List ℕ) (before after : ReclaimAll) (told : Settled (Node K V)) (at : IsReclaiming same hash old s i lists before)
     (leads : ReclaimingLeads same hash s i lists old new before after told) where
   abbrev w : World (Node K V)

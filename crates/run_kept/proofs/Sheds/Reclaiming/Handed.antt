@@ -31,9 +31,9 @@ use Rattle.run_shows.specs.Given.FinishesFactsEnds.{TakesLeft, WritesRoot, event
 use Rattle.run_shows.proofs.Follows.Operations.{LeavesBy}
 use Rattle.run_shows.proofs.Others.RowPlans.{TellsRow}
 use Rattle.run_shows.proofs.Others.Stays.{same_there}
-use Rattle.run_executor.specs.Given.MomentsWhole.{ShowsWhole}
-use Rattle.run_waiting.specs.Lives.Behind.{NoTableLeft, ShowsWaiting}
-use Rattle.run_waiting.specs.Lives.Handed.{IsToHand, IsHandedOver, ShowsHanded}
+use Rattle.run_executor.specs.Given.MomentsWhole.{RefinesWhole}
+use Rattle.run_waiting.specs.Lives.Behind.{NoTableLeft, RefinesWaiting}
+use Rattle.run_waiting.specs.Lives.Handed.{IsToHand, IsHandedOver, RefinesHanded}
 use Rattle.run_waiting.specs.Lives.Waiting.{waits_behind}
 use Rattle.run_waiting.proofs.Lives.HandedOver.{came_listed}
 use Rattle.run_waiting.proofs.Lives.HandedTaken.{taking_keeps}
@@ -83,8 +83,8 @@ module _ {K V : Type 0} (size i p : ℕ) where
           inl (rows_alone events its.1 v w2 later runs (ap (waits_behind p) it.logged ∙ waits_no_more p t it.effects w.log it.one (λ none. omega (arith, none, e)) waits))
   rows_free t (_ ∷ events) its w w2 r runs waits = absurd its
 
-module _ {K V : Type 0} (same : K → K → Bool) (hash : ℕ → K → ℕ) (name : ℕ → List ℕ) (m : Moment K V) (known : Known) (s : Scene K V) (whole : ShowsWhole same name m known s)
-    (waiting : ShowsWaiting m known s.world) (handed : ShowsHanded m known s) (no_table : NoTableLeft known s.world)
+module _ {K V : Type 0} (same : K → K → Bool) (hash : ℕ → K → ℕ) (name : ℕ → List ℕ) (m : Moment K V) (known : Known) (s : Scene K V) (whole : RefinesWhole same name m known s)
+    (waiting : RefinesWaiting m known s.world) (handed : RefinesHanded m known s) (no_table : NoTableLeft known s.world)
     (old new : Held K V) (i : ℕ) (lists : ℕ → List ℕ) (before after : ReclaimAll) (told : Settled (Node K V)) (at : IsReclaiming same hash old s i lists before)
     (leads : ReclaimingLeads same hash s i lists old new before after told) where
   abbrev w : World (Node K V)
@@ -163,7 +163,7 @@ module _ {K V : Type 0} (same : K → K → Bool) (hash : ℕ → K → ℕ) (na
 
   -- what is handed over then
   abbrev Comes : List Effect → Known → Type 0
-  Comes fs noted = ShowsHanded (with_effects None None fs m) noted s2
+  Comes fs noted = RefinesHanded (with_effects None None fs m) noted s2
 
   rows_come : (x : Changed) → TellsRow x → LeavesBy w.memory w2.memory x → Comes (effects_of Row known x) (known_after Row x known)
   rows_come x tells l = taking_keeps same name m known s s2 whole waiting handed x tells l had over_on freed_on (λ b len t is table over. no_table b len t table over) due_then

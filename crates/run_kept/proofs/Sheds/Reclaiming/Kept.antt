@@ -27,11 +27,11 @@ use Rattle.run_shows.specs.Scenes.Reclaiming.{IsReclaiming, ReclaimingLeads}
 use Rattle.run_shows.proofs.Follows.Operations.{LeavesBy}
 use Rattle.run_shows.proofs.Others.RowPlans.{TellsRow}
 use Rattle.run_shows.proofs.Others.Stays.{same_there}
-use Rattle.run_executor.specs.Given.MomentsWhole.{ShowsWhole}
-use Rattle.run_waiting.specs.Lives.Behind.{IsLeft, NoTableLeft, ShowsWaiting, WaitsOnce}
-use Rattle.run_waiting.specs.Lives.Lying.{ShowsLying}
-use Rattle.run_waiting.specs.Lives.Order.{ShowsOrder}
-use Rattle.run_waiting.specs.Lives.Retired.{IsToRetire, ShowsRetired}
+use Rattle.run_executor.specs.Given.MomentsWhole.{RefinesWhole}
+use Rattle.run_waiting.specs.Lives.Behind.{IsLeft, NoTableLeft, RefinesWaiting, WaitsOnce}
+use Rattle.run_waiting.specs.Lives.Lying.{RefinesLying}
+use Rattle.run_waiting.specs.Lives.Order.{RefinesOrder}
+use Rattle.run_waiting.specs.Lives.Retired.{IsToRetire, RefinesRetiredTables}
 use Rattle.run_waiting.proofs.Lives.Once.{once_fewer, row_fewer}
 use Rattle.run_waiting.proofs.Lives.Reclaimed.{stays_so}
 use Rattle.run_waiting.proofs.Lives.Stages.{still_retired}
@@ -46,8 +46,8 @@ use Rattle.run_shows.specs.Scenes.Held.{Held}
 use Rattle.run_shows.specs.Scenes.Scene.{HasCall, Scene}
 use Rattle.run_shows.proofs.Given.FinishesBeside.Makings.Outs.{handed_lives}
 
-module _ {K V : Type 0} (same : K → K → Bool) (hash : ℕ → K → ℕ) (name : ℕ → List ℕ) (m : Moment K V) (known : Known) (s : Scene K V) (whole : ShowsWhole same name m known s)
-    (waiting : ShowsWaiting m known s.world) (once : WaitsOnce m.deferred) (retired : ShowsRetired m known s) (lying : ShowsLying m known s.world) (order : ShowsOrder m known s.world) (no_table : NoTableLeft known s.world)
+module _ {K V : Type 0} (same : K → K → Bool) (hash : ℕ → K → ℕ) (name : ℕ → List ℕ) (m : Moment K V) (known : Known) (s : Scene K V) (whole : RefinesWhole same name m known s)
+    (waiting : RefinesWaiting m known s.world) (once : WaitsOnce m.deferred) (retired : RefinesRetiredTables m known s) (lying : RefinesLying m known s.world) (order : RefinesOrder m known s.world) (no_table : NoTableLeft known s.world)
     (old new : Held K V) (i : ℕ) (lists : ℕ → List ℕ) (before after : ReclaimAll) (told : Settled (Node K V)) (at : IsReclaiming same hash old s i lists before)
     (leads : ReclaimingLeads same hash s i lists old new before after told) where
   abbrev w : World (Node K V)
@@ -70,11 +70,11 @@ module _ {K V : Type 0} (same : K → K → Bool) (hash : ℕ → K → ℕ) (na
 
   -- what is so then
   pub record ComesSo (fs : List Effect) (noted : Known) : Type 0 where
-    pub waits : ShowsWaiting (with_effects None None fs m) noted w2
+    pub waits : RefinesWaiting (with_effects None None fs m) noted w2
     pub alone : WaitsOnce (with_effects None None fs m).deferred
-    pub had : ShowsRetired (with_effects None None fs m) noted s2
-    pub lies : ShowsLying (with_effects None None fs m) noted w2
-    pub ordered : ShowsOrder (with_effects None None fs m) noted w2
+    pub had : RefinesRetiredTables (with_effects None None fs m) noted s2
+    pub lies : RefinesLying (with_effects None None fs m) noted w2
+    pub ordered : RefinesOrder (with_effects None None fs m) noted w2
     pub none_left : NoTableLeft noted w2
 
   rows_come : (x : Changed) → TellsRow x → LeavesBy w.memory w2.memory x → ComesSo (effects_of Row known x) (known_after Row x known)

@@ -30,8 +30,8 @@ use Rattle.run_shows.specs.Scenes.Reclaiming.{IsReclaiming, ReclaimingLeads}
 use Rattle.run_shows.specs.Follows.Blocks.{HasRole}
 use Rattle.run_shows.proofs.Follows.Operations.{LeavesBy}
 use Rattle.run_shows.proofs.Others.RowPlans.{TellsRow}
-use Rattle.run_executor.specs.Given.MomentsWhole.{ShowsWhole}
-use Rattle.run_waiting.specs.Lives.Lying.{ShowsLying}
+use Rattle.run_executor.specs.Given.MomentsWhole.{RefinesWhole}
+use Rattle.run_waiting.specs.Lives.Lying.{RefinesLying}
 use Rattle.run_waiting.specs.Lives.Waiting.{IsPutting}
 use Rattle.run_waiting.proofs.Lives.Lying.{lying_on, row_among, row_pair}
 use Rattle.run_waiting.proofs.Lives.Reclaimed.{stays_so}
@@ -88,8 +88,8 @@ module _ {K V : Type 0} (size : ℕ) where
   root_lie i place word w w2 (v, (out, m, own, took, is), runs) =
       (ap (λ (u : World (Node K V)). u.row) (runs ∙ is), λ b c at. sym (ap (λ (u : World (Node K V)). where_is b u.log) (runs ∙ is)) ∙ at)
 
-module _ {K V : Type 0} (same : K → K → Bool) (hash : ℕ → K → ℕ) (name : ℕ → List ℕ) (m : Moment K V) (known : Known) (s : Scene K V) (whole : ShowsWhole same name m known s)
-    (lying : ShowsLying m known s.world) (old new : Held K V) (i : ℕ) (lists : ℕ → List ℕ) (before after : ReclaimAll) (told : Settled (Node K V))
+module _ {K V : Type 0} (same : K → K → Bool) (hash : ℕ → K → ℕ) (name : ℕ → List ℕ) (m : Moment K V) (known : Known) (s : Scene K V) (whole : RefinesWhole same name m known s)
+    (lying : RefinesLying m known s.world) (old new : Held K V) (i : ℕ) (lists : ℕ → List ℕ) (before after : ReclaimAll) (told : Settled (Node K V))
     (at : IsReclaiming same hash old s i lists before) (leads : ReclaimingLeads same hash s i lists old new before after told) where
   abbrev w : World (Node K V)
   w = s.world
@@ -156,7 +156,7 @@ module _ {K V : Type 0} (same : K → K → Bool) (hash : ℕ → K → ℕ) (na
       (let has = subst (HasRole w m.stored b) is (whole.all.shown.blocks.roles b) in
       (_, (kept_so same hash name m known s whole old new i lists before after told at leads b some).0 ∙ has.3))
 
-  pub reclaiming_lies : (x : Changed) → TellsRow x → LeavesBy w.memory w2.memory x → ShowsLying (with_effects None None (effects_of OfRow known x) m) (known_after OfRow x known) w2
+  pub reclaiming_lies : (x : Changed) → TellsRow x → LeavesBy w.memory w2.memory x → RefinesLying (with_effects None None (effects_of OfRow known x) m) (known_after OfRow x known) w2
   reclaiming_lies x tells l =
       lying_on m (with_effects None None (effects_of OfRow known x) m) known (known_after OfRow x known) w w2 lying
       lay.1

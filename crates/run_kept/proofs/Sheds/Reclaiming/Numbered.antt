@@ -19,7 +19,7 @@ use Rattle.run_effects.specs.declared.acting.Acting.TheVariants.{Row}
 use Rattle.run_shows.specs.Scenes.Reclaiming.{IsReclaiming, ReclaimingLeads}
 use Rattle.run_shows.proofs.Scenes.May.{may_reclaim}
 use Rattle.run_shows.proofs.Follows.Operations.{operated}
-use Rattle.run_executor.specs.Given.MomentsWhole.{ShowsWhole}
+use Rattle.run_executor.specs.Given.MomentsWhole.{RefinesWhole}
 use Rattle.run_waiting.specs.Remains.Numbered.{NumbersUpTo}
 use Rattle.run_waiting.specs.Remains.Slots.{SlotsNoted}
 use Rattle.run_waiting.proofs.Remains.Numbered.{told_keeps_count}
@@ -29,7 +29,7 @@ use Rattle.run_kept.proofs.Sheds.Reclaiming.Steps.{root_none, nothing_there}
 use Rattle.run_shows.specs.Scenes.Held.{Held}
 use Rattle.run_shows.specs.Scenes.Scene.{Scene}
 
-module _ {K V : Type 0} (same : K → K → Bool) (hash : ℕ → K → ℕ) (name : ℕ → List ℕ) (m : Moment K V) (noted : Known) (s : Scene K V) (whole : ShowsWhole same name m noted s)
+module _ {K V : Type 0} (same : K → K → Bool) (hash : ℕ → K → ℕ) (name : ℕ → List ℕ) (m : Moment K V) (noted : Known) (s : Scene K V) (whole : RefinesWhole same name m noted s)
     (old new : Held K V) (i : ℕ) (lists : ℕ → List ℕ) (before after : ReclaimAll) (told : Settled (Node K V)) (at : IsReclaiming same hash old s i lists before)
     (leads : ReclaimingLeads same hash s i lists old new before after told) where
   module _ (count : ℕ) where

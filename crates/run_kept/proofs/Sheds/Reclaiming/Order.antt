@@ -27,9 +27,9 @@ use Rattle.run_shows.specs.Reclaims.Slots.{IsForSlots, AreItsRows}
 use Rattle.run_shows.specs.Scenes.Reclaiming.{IsReclaiming, ReclaimingLeads}
 use Rattle.run_shows.proofs.Follows.Operations.{LeavesBy}
 use Rattle.run_shows.proofs.Others.RowPlans.{TellsRow}
-use Rattle.run_executor.specs.Given.MomentsWhole.{ShowsWhole}
-use Rattle.run_waiting.specs.Lives.Lying.{ShowsLying}
-use Rattle.run_waiting.specs.Lives.Order.{ShowsOrder}
+use Rattle.run_executor.specs.Given.MomentsWhole.{RefinesWhole}
+use Rattle.run_waiting.specs.Lives.Lying.{RefinesLying}
+use Rattle.run_waiting.specs.Lives.Order.{RefinesOrder}
 use Rattle.run_waiting.specs.Lives.Waiting.{IsPutting}
 use Rattle.run_waiting.proofs.Lives.InUse.{listed_there, step_goes, still_leave_list, used_then}
 use Rattle.run_waiting.proofs.Lives.Lying.{row_pair}
@@ -97,8 +97,8 @@ module _ {K V : Type 0} (size : ℕ) where
         let was : w.hand c ≡ InUse o = ap (λ (u : World (Node K V)). u.hand c) (sym (runs.2 ∙ runs.1.4)) ∙ used in
         (o, was, still_leave_list deferred_word size (events_of i (WritesRoot place word)) w w2 r (tt, tt) runs c o o was used blocks are)
 
-module _ {K V : Type 0} (same : K → K → Bool) (hash : ℕ → K → ℕ) (name : ℕ → List ℕ) (m : Moment K V) (known : Known) (s : Scene K V) (whole : ShowsWhole same name m known s)
-    (lying : ShowsLying m known s.world) (order : ShowsOrder m known s.world) (old new : Held K V) (i : ℕ) (lists : ℕ → List ℕ) (before after : ReclaimAll) (told : Settled (Node K V))
+module _ {K V : Type 0} (same : K → K → Bool) (hash : ℕ → K → ℕ) (name : ℕ → List ℕ) (m : Moment K V) (known : Known) (s : Scene K V) (whole : RefinesWhole same name m known s)
+    (lying : RefinesLying m known s.world) (order : RefinesOrder m known s.world) (old new : Held K V) (i : ℕ) (lists : ℕ → List ℕ) (before after : ReclaimAll) (told : Settled (Node K V))
     (at : IsReclaiming same hash old s i lists before) (leads : ReclaimingLeads same hash s i lists old new before after told) where
   abbrev w : World (Node K V)
   w = s.world
@@ -127,7 +127,7 @@ module _ {K V : Type 0} (same : K → K → Bool) (hash : ℕ → K → ℕ) (na
       by (inr (inr (root, inl is))) = root_had old.batch_size c o blocks i (Root root) 0 w w2 here (subst RunsBy is leads.1.runs) used are
       by (inr (inr (root, inr is))) = root_had old.batch_size c o blocks i (Used root) 0 w w2 here (subst RunsBy is leads.1.runs) used are
 
-  pub reclaiming_order : (x : Changed) → TellsRow x → LeavesBy w.memory w2.memory x → ShowsOrder (with_effects None None (effects_of OfRow known x) m) (known_after OfRow x known) w2
+  pub reclaiming_order : (x : Changed) → TellsRow x → LeavesBy w.memory w2.memory x → RefinesOrder (with_effects None None (effects_of OfRow known x) m) (known_after OfRow x known) w2
   reclaiming_order x tells l c len o t blocks is used are =
       order_as m (with_effects None None (effects_of OfRow known x) m) known (known_after OfRow x known) w order c len before_it.0 t blocks was before_it.1 before_it.2
       (λ b n some noted. row_pair known w w2 b n noted (there b some) x tells l)

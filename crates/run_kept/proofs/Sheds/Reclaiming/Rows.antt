@@ -24,7 +24,7 @@ use Rattle.run_shows.proofs.Given.SeizeAloneHistories.NotTaken.{did, nobodys, ta
 use Rattle.run_shows.proofs.Given.SeizeAloneHistories.Reached.{Reached, happens_reached}
 use Rattle.papaya_raw.specs.Given.TablesNodes.{deferred_word, was_left}
 use Rattle.papaya_raw.specs.Given.TablesDeclared.node.Node.{Node}
-use Rattle.run_effects.specs.ReportingMemory.Tells.{StepsTold}
+use Rattle.run_effects.specs.ReportingMemory.Tells.{StepsObserved}
 use Rattle.run_effects.specs.declared.changed.Changed.{Changed}
 use Rattle.run_effects.specs.declared.changed.Changed.TheVariants as changed
 use Rattle.run_shows.proofs.Given.CallersTogether.At.{at_other, at_same}
@@ -104,7 +104,7 @@ EmptiesRoot _ = ⊥
 
 module _ {K V : Type 0} (m m2 : Mem (Node K V)) (told : Changed) where
   abbrev Told : ReclaimAll → Reclaiming → ReclaimAll × Settled (Node K V) → Type 0
-  Told c p end = StepsTold K V (ReclaimAll × Settled (Node K V)) m changed.Nothing (plan_at deferred_word was_left c p) m2 told end
+  Told c p end = StepsObserved K V (ReclaimAll × Settled (Node K V)) m changed.Nothing (plan_at deferred_word was_left c p) m2 told end
 
   as_row : (x : Changed) → told ≡ x → TellsRow x → TellsRow told ⊎ EmptiesRoot told
   as_row x is so = inl (subst TellsRow (sym is) so)

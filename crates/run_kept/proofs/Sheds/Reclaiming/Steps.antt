@@ -41,14 +41,14 @@ use Rattle.run_executor.proofs.Given.SpotsDeferred.{effects_leave_outside}
 use Rattle.run_executor.proofs.Given.SpotsOnSlots.{row_beside, blocks_done}
 use Rattle.run_executor.proofs.Given.SpotsStays.{places_stay}
 use Rattle.run_executor.specs.Given.MomentsOnSlots.{HadRetired}
-use Rattle.run_executor.specs.Given.MomentsWhole.{ShowsWhole}
+use Rattle.run_executor.specs.Given.MomentsWhole.{RefinesWhole}
 use Rattle.run_executor.proofs.Given.MomentsBeside.{IsBeside, hands_beside}
 use Rattle.run_executor.proofs.Given.MomentsOnSlots.{stood_same, with_outside, was_retired, row_alone, row_keeps}
 use Rattle.run_kept.proofs.Sheds.Reclaiming.Rows.{KeptThere, rows_kept, left_kept, root_kept, EmptiesRoot, reclaiming_tells}
 use Rattle.run_shows.specs.Scenes.Held.{Held}
 use Rattle.run_shows.specs.Scenes.Scene.{Scene}
 
-module _ {K V : Type 0} (same : K → K → Bool) (hash : ℕ → K → ℕ) (name : ℕ → List ℕ) (m : Moment K V) (known : Known) (s : Scene K V) (whole : ShowsWhole same name m known s)
+module _ {K V : Type 0} (same : K → K → Bool) (hash : ℕ → K → ℕ) (name : ℕ → List ℕ) (m : Moment K V) (known : Known) (s : Scene K V) (whole : RefinesWhole same name m known s)
     (old new : Held K V) (i : ℕ) (lists : ℕ → List ℕ) (before after : ReclaimAll) (told : Settled (Node K V)) (at : IsReclaiming same hash old s i lists before)
     (leads : ReclaimingLeads same hash s i lists old new before after told) where
   abbrev w : World (Node K V)
@@ -125,7 +125,7 @@ module _ {K V : Type 0} (same : K → K → Bool) (hash : ℕ → K → ℕ) (na
           stood = λ map st is. inl (stood_same (s.maps map) (maps2 map) (leads.1.as_they_were map) st is);
         }
 
-    row_whole : AtEachEffect HadRetired None None (effects_of Row known x) m → AtEachEffect WaitUnreclaimed None None (effects_of Row known x) m → ShowsWhole same name then_at then_known s2
+    row_whole : AtEachEffect HadRetired None None (effects_of Row known x) m → AtEachEffect WaitUnreclaimed None None (effects_of Row known x) m → RefinesWhole same name then_at then_known s2
     row_whole retired unreclaimed =
         let finds = row_beside m known x tells in
         let shown = row_leads same name m known s whole.all.shown w2 maps2 leads.1.as_they_were stays
@@ -152,14 +152,14 @@ module _ {K V : Type 0} (same : K → K → Bool) (hash : ℕ → K → ℕ) (na
   pub nothing_there : (word : ℕ) → word ≡ 0 → named known word ≡ role.Free
   nothing_there word is = ap (λ (x : ℕ). known.roles (block_in x)) is ∙ nothing_free w m.stored known whole.all.shown.blocks.roles
 
-  idle_whole : ((b : ℕ) → value_at w2.memory b ≡ value_at w.memory b) → ShowsWhole same name m known s2
+  idle_whole : ((b : ℕ) → value_at w2.memory b ≡ value_at w.memory b) → RefinesWhole same name m known s2
   idle_whole same_values = row_whole changed.Nothing tt (same_there w.memory w2.memory same_values) tt tt
 
-  root_whole : (x : Changed) → EmptiesRoot x → LeavesBy w.memory w2.memory x → ShowsWhole same name (with_effects None None (effects_of Row known x) m) (known_after Row x known) s2
+  root_whole : (x : Changed) → EmptiesRoot x → LeavesBy w.memory w2.memory x → RefinesWhole same name (with_effects None None (effects_of Row known x) m) (known_after Row x known) s2
   root_whole (changed.Wrote (Root r) was is) empty l =
       let none = root_none (names_same was is) (named known was) (named known is) (block_in is) (nothing_there is empty) in
-      subst (λ (effects : List Effect). ShowsWhole same name (with_effects None None effects m) (if names_same was is then known else linked_on Row (block_in is) (named known is) known) s2) (sym none.0)
-      (subst (λ (k : Known). ShowsWhole same name m k s2) (sym none.1) (idle_whole l.2))
+      subst (λ (effects : List Effect). RefinesWhole same name (with_effects None None effects m) (if names_same was is then known else linked_on Row (block_in is) (named known is) known) s2) (sym none.0)
+      (subst (λ (k : Known). RefinesWhole same name m k s2) (sym none.1) (idle_whole l.2))
   root_whole (changed.Wrote (Used r) was is) empty l = idle_whole l.2
   root_whole _ empty l = absurd empty
 
@@ -167,10 +167,10 @@ module _ {K V : Type 0} (same : K → K → Bool) (hash : ℕ → K → ℕ) (na
   effects = effects_of Row known new.changed
 
   pub reclaiming_whole : AtEachEffect HadRetired None None effects m → AtEachEffect WaitUnreclaimed None None effects m
-      → ShowsWhole same name (with_effects None None effects m) (known_after Row new.changed known) s2
+      → RefinesWhole same name (with_effects None None effects m) (known_after Row new.changed known) s2
   reclaiming_whole retired unreclaimed =
       elim (reclaiming_tells old.memory new.memory new.changed before before.stands (after, told) leads.0)
-      as (λ _. ShowsWhole same name (with_effects None None effects m) (known_after Row new.changed known) s2) [
+      as (λ _. RefinesWhole same name (with_effects None None effects m) (known_after Row new.changed known) s2) [
         | inl tells ↦ row_whole new.changed tells left retired unreclaimed
         | inr empties ↦ root_whole new.changed empties left
       ]

@@ -43,9 +43,9 @@ use Rattle.run_shows.proofs.Follows.Onward.{IsOfMap}
 use Rattle.run_shows.proofs.Follows.Operations.{LeavesBy}
 use Rattle.run_shows.proofs.Others.RowPlans.{TellsRow}
 use Rattle.run_executor.proofs.Given.SpotsUnreclaimed.{same_itself}
-use Rattle.run_executor.specs.Given.MomentsWhole.{ShowsWhole}
+use Rattle.run_executor.specs.Given.MomentsWhole.{RefinesWhole}
 use Rattle.run_executor.proofs.Given.MomentsOnSlots.{none_some, row_keeps}
-use Rattle.run_waiting.specs.Lives.Behind.{IsLeft, NoTableLeft, LiesBehind, EachWaits, ShowsWaiting, WaitsOnce}
+use Rattle.run_waiting.specs.Lives.Behind.{IsLeft, NoTableLeft, IsDeferredTo, EachWaits, RefinesWaiting, WaitsOnce}
 use Rattle.run_waiting.specs.Lives.Waiting.{waits_behind}
 use Rattle.run_waiting.proofs.Lives.Each.{each_on, each_both, each_kept}
 use Rattle.run_waiting.proofs.Lives.Logs.{waits_on}
@@ -91,8 +91,8 @@ module _ {K V : Type 0} (size : ℕ) where
       by (suc k) e = absurd (none_some (value_at v.memory t) there (taken_gone deferred_word size w r j v happens t (λ z. omega (arith, e, z))))
   rows_wait i (_ ∷ events) its w w2 r runs p t some waits = absurd its
 
-module _ {K V : Type 0} (same : K → K → Bool) (hash : ℕ → K → ℕ) (name : ℕ → List ℕ) (m : Moment K V) (known : Known) (s : Scene K V) (whole : ShowsWhole same name m known s)
-    (waiting : ShowsWaiting m known s.world) (once : WaitsOnce m.deferred) (no_table : NoTableLeft known s.world)
+module _ {K V : Type 0} (same : K → K → Bool) (hash : ℕ → K → ℕ) (name : ℕ → List ℕ) (m : Moment K V) (known : Known) (s : Scene K V) (whole : RefinesWhole same name m known s)
+    (waiting : RefinesWaiting m known s.world) (once : WaitsOnce m.deferred) (no_table : NoTableLeft known s.world)
     (old new : Held K V) (i : ℕ) (lists : ℕ → List ℕ) (before after : ReclaimAll) (told : Settled (Node K V)) (at : IsReclaiming same hash old s i lists before)
     (leads : ReclaimingLeads same hash s i lists old new before after told) where
   abbrev w : World (Node K V)
@@ -131,7 +131,7 @@ module _ {K V : Type 0} (same : K → K → Bool) (hash : ℕ → K → ℕ) (na
           aside runs.0 runs.2 (log_back deferred_word old.batch_size w runs.0 (Operates (Store (Used root) 0)) tt runs.1 p)
 
   -- what waits behind a table does so by the log, since none is left over
-  by_log : (n : ℕ) (t : TableId) (l : LiesBehind known w n t) → waits_behind l.pair w.log ≡ Some l.table
+  by_log : (n : ℕ) (t : TableId) (l : IsDeferredTo known w n t) → waits_behind l.pair w.log ≡ Some l.table
   by_log n t l = by l.waits
     where
       by : (waits_behind l.pair w.log ≡ Some l.table) ⊎ (IsLeft (w.hand l.pair) × IsLeft (w.hand l.table)) → waits_behind l.pair w.log ≡ Some l.table
@@ -139,7 +139,7 @@ module _ {K V : Type 0} (same : K → K → Bool) (hash : ℕ → K → ℕ) (na
       by (inr both) = absurd (no_table l.table l.len t l.is_table both.1)
 
   -- so its pair is there still where the table is
-  pair_there : (n : ℕ) (t : TableId) (l : LiesBehind known w n t) → IsSome (value_at w2.memory l.table) → IsSome (value_at w2.memory l.pair)
+  pair_there : (n : ℕ) (t : TableId) (l : IsDeferredTo known w n t) → IsSome (value_at w2.memory l.table) → IsSome (value_at w2.memory l.pair)
   pair_there n t l some =
       let good = kept_then.good in
       let handed = has_it deferred_word old.batch_size w2 kept_then l.pair l.table (log_waits l.pair l.table some (by_log n t l)) in
@@ -158,18 +158,18 @@ module _ {K V : Type 0} (same : K → K → Bool) (hash : ℕ → K → ℕ) (na
     v = then_at (effects_of Row known x)
 
     abbrev Waited : ℕ → TableId → Type 0
-    Waited n t = (m.place n ≡ Behind) × LiesBehind known w n t
+    Waited n t = (m.place n ≡ Behind) × IsDeferredTo known w n t
 
     abbrev WaitsThen : ℕ → TableId → Type 0
-    WaitsThen n t = (v.place n ≡ Behind) × LiesBehind known2 w2 n t
+    WaitsThen n t = (v.place n ≡ Behind) × IsDeferredTo known2 w2 n t
 
-    table_there : (n : ℕ) (t : TableId) (l : LiesBehind known w n t) → (x ≡ changed.Took l.table → ⊥) → IsSome (value_at w2.memory l.table)
+    table_there : (n : ℕ) (t : TableId) (l : IsDeferredTo known w n t) → (x ≡ changed.Took l.table → ⊥) → IsSome (value_at w2.memory l.table)
     table_there n t l apart =
         let has = subst (λ (r : Role). HasRole w m.stored l.table r) l.is_table (whole.all.shown.blocks.roles l.table) in
         let stays = there_still w.memory w2.memory x tells l2 l.table _ has.1 apart in
         subst (λ (o : Option (Node K V)). IsSome o) (sym stays.1) refl
 
-    lies_then : (n : ℕ) (t : TableId) (l : LiesBehind known w n t) → (x ≡ changed.Took l.table → ⊥) → LiesBehind known2 w2 n t
+    lies_then : (n : ℕ) (t : TableId) (l : IsDeferredTo known w n t) → (x ≡ changed.Took l.table → ⊥) → IsDeferredTo known2 w2 n t
     lies_then n t l apart =
         let there = table_there n t l apart in
         let keeps = row_keeps known w2 w x tells l2 in
@@ -182,8 +182,8 @@ module _ {K V : Type 0} (same : K → K → Bool) (hash : ℕ → K → ℕ) (na
           waits = inl (log_waits l.pair l.table there (by_log n t l));
         }
 
-    all_wait : (fs : List Effect) → effects_of Row known x ≡ fs → (then_at fs).deferred ≡ m.deferred → ((n : ℕ) (t : TableId) → LiesBehind known w n t → m.place n ≡ Behind → (then_at fs).place n ≡ Behind)
-        → ((n : ℕ) (t : TableId) (l : LiesBehind known w n t) → x ≡ changed.Took l.table → ⊥) → EachWaits WaitsThen v.deferred
+    all_wait : (fs : List Effect) → effects_of Row known x ≡ fs → (then_at fs).deferred ≡ m.deferred → ((n : ℕ) (t : TableId) → IsDeferredTo known w n t → m.place n ≡ Behind → (then_at fs).place n ≡ Behind)
+        → ((n : ℕ) (t : TableId) (l : IsDeferredTo known w n t) → x ≡ changed.Took l.table → ⊥) → EachWaits WaitsThen v.deferred
     all_wait fs they deferred place apart =
         subst (EachWaits WaitsThen) (sym (ap (λ (gs : List Effect). (then_at gs).deferred) they ∙ deferred))
         (each_on Waited WaitsThen (λ n t p. (ap (λ (gs : List Effect). (then_at gs).place n) they ∙ place n t p.1 p.0, lies_then n t p.1 (apart n t p.1))) m.deferred waiting)
@@ -196,11 +196,11 @@ module _ {K V : Type 0} (same : K → K → Bool) (hash : ℕ → K → ℕ) (na
       this_one : (y : ℕ) → x ≡ changed.Took y → y ≡ b
       this_one y e = (let one : changed.Took y ≡ changed.Took b = sym e ∙ is in cc one)
 
-      no_table_taken : (r : Role) → known.roles b ≡ r → ((t : TableId) (len : ℕ) → r ≡ role.Table t len → ⊥) → (n : ℕ) (t : TableId) (l : LiesBehind known w n t) → x ≡ changed.Took l.table → ⊥
+      no_table_taken : (r : Role) → known.roles b ≡ r → ((t : TableId) (len : ℕ) → r ≡ role.Table t len → ⊥) → (n : ℕ) (t : TableId) (l : IsDeferredTo known w n t) → x ≡ changed.Took l.table → ⊥
       no_table_taken r e never n t l took = never t l.len (sym e ∙ ap known.roles (sym (this_one l.table took)) ∙ l.is_table)
 
       -- not that of a pair that waits, whose table is there still
-      took_pair : (k : ℕ) → known.roles b ≡ role.Pair k → (n : ℕ) (t : TableId) (l : LiesBehind known w n t) → l.pair ≡ b → ⊥
+      took_pair : (k : ℕ) → known.roles b ≡ role.Pair k → (n : ℕ) (t : TableId) (l : IsDeferredTo known w n t) → l.pair ≡ b → ⊥
       took_pair k e n t l same_block =
           let there = pair_there n t l (table_there n t l (no_table_taken (role.Pair k) e (λ u len z. cc z) n t l)) in
           let gone : LeavesBy w.memory w2.memory (changed.Took b) = subst (LeavesBy w.memory w2.memory) is l2 in
@@ -215,7 +215,7 @@ module _ {K V : Type 0} (same : K → K → Bool) (hash : ℕ → K → ℕ) (na
           Alone : ℕ → TableId → Type 0
           Alone n t = (y : TableId) → is_among n (behind y m.deferred) ≡ true → same_table t y ≡ true
 
-          apart : (n : ℕ) (t : TableId) → not (same_table t u) ≡ true → (l : LiesBehind known w n t) → x ≡ changed.Took l.table → ⊥
+          apart : (n : ℕ) (t : TableId) → not (same_table t u) ≡ true → (l : IsDeferredTo known w n t) → x ≡ changed.Took l.table → ⊥
           apart n t other l took =
               let one : role.Table t l.len ≡ role.Table u len = sym l.is_table ∙ ap known.roles (this_one l.table took) ∙ e in
               let t_is : t ≡ u = cc one in
@@ -256,7 +256,7 @@ module _ {K V : Type 0} (same : K → K → Bool) (hash : ℕ → K → ℕ) (na
   roomed_same false = (refl, refl)
 
   -- what waited does so after what one of a row tells
-  pub rows_leave_waiting : (x : Changed) → TellsRow x → LeavesBy w.memory w2.memory x → ShowsWaiting (with_effects None None (effects_of Row known x) m) (known_after Row x known) w2
+  pub rows_leave_waiting : (x : Changed) → TellsRow x → LeavesBy w.memory w2.memory x → RefinesWaiting (with_effects None None (effects_of Row known x) m) (known_after Row x known) w2
   rows_leave_waiting changed.Nothing is l = all_wait changed.Nothing is l [] refl refl (λ n t b p. p) (λ n t b e. cc e)
   rows_leave_waiting (changed.Wrote (Slot t field) was now) is l = all_wait (changed.Wrote (Slot t field) was now) is l [] refl refl (λ n u b p. p) (λ n u b e. cc e)
   rows_leave_waiting (changed.Wrote (Entry c field) was now) is l =

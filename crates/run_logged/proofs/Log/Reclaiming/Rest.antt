@@ -30,13 +30,13 @@ use Rattle.run_shows.specs.Scenes.Reclaiming.{IsReclaiming, ReclaimingLeads}
 use Rattle.run_shows.proofs.Follows.Alike.{put_here, put_elsewhere}
 use Rattle.run_shows.proofs.Follows.Told.{roomed_as_many}
 use Rattle.run_shows.proofs.Others.RowPlans.{TellsRow}
-use Rattle.run_executor.specs.Given.MomentsWhole.{ShowsWhole}
+use Rattle.run_executor.specs.Given.MomentsWhole.{RefinesWhole}
 use Rattle.run_waiting.proofs.Given.SettlesEntryScenes.{as_zero, as_blank}
 use Rattle.run_waiting.proofs.Given.SettlesEntryUsers.{AllZero, event_zeros}
 use Rattle.run_waiting.proofs.Given.SettlesEntryWorlds.{step_zeros, begin_zeros}
 use Rattle.run_waiting.specs.Lives.Behind.{NoTableLeft}
 use Rattle.run_waiting.proofs.Lives.LeftTables.{none_is_left, where_none_is_left}
-use Rattle.run_kept.specs.Kept.Kept.{ShowsKept}
+use Rattle.run_kept.specs.Kept.Kept.{RefinesKept}
 use Rattle.run_kept.proofs.Kept.Ends.{maps_stay, stood_so}
 use Rattle.run_logged.specs.Log.Reclaims.{ReclaimRetired}
 use Rattle.run_kept.proofs.Sheds.Reclaiming.Finds.{reclaiming_finds}
@@ -81,8 +81,8 @@ row_back known (changed.Took c) tells b r some is = elim (cases_eq b c) as (λ _
 ]
 row_back known (changed.Roomed bucket had) tells b r some is = sym (ap (λ (f : ℕ → Role). f b) (roomed_as_many Row known bucket had).0) ∙ is
 
-module _ {K V : Type 0} (same : K → K → Bool) (hash : ℕ → K → ℕ) (name : ℕ → List ℕ) (m : Moment K V) (known : Known) (s : Scene K V) (whole : ShowsWhole same name m known s)
-    (kept : ShowsKept name m known s) (old new : Held K V) (i : ℕ) (lists : ℕ → List ℕ) (before after : ReclaimAll) (told : Settled (Node K V)) (at : IsReclaiming same hash old s i lists before)
+module _ {K V : Type 0} (same : K → K → Bool) (hash : ℕ → K → ℕ) (name : ℕ → List ℕ) (m : Moment K V) (known : Known) (s : Scene K V) (whole : RefinesWhole same name m known s)
+    (kept : RefinesKept name m known s) (old new : Held K V) (i : ℕ) (lists : ℕ → List ℕ) (before after : ReclaimAll) (told : Settled (Node K V)) (at : IsReclaiming same hash old s i lists before)
     (leads : ReclaimingLeads same hash s i lists old new before after told) where
   abbrev effects : List Effect
   effects = effects_of Row known new.changed
@@ -136,7 +136,7 @@ module _ {K V : Type 0} (same : K → K → Bool) (hash : ℕ → K → ℕ) (na
         | inr empties ↦ root_back new.changed empties b r is
       ]
 
-  pub reclaiming_keeps : ShowsKept name (with_effects None None effects m) (known_after Row new.changed known) s2
+  pub reclaiming_keeps : RefinesKept name (with_effects None None effects m) (known_after Row new.changed known) s2
   reclaiming_keeps =
       let comes = reclaiming_comes same hash name m known s whole kept.waiting kept.once kept.retired kept.lying kept.order no_table old new i lists before after told at leads in
       record {

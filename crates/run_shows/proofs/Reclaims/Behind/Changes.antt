@@ -38,7 +38,7 @@ use Rattle.many_maps.proofs.Ends.Frames.{left_spare, root_spares, free_spares, t
 use Rattle.many_maps.proofs.Ends.Memory.{list_kept, taken_gone}
 use Rattle.many_maps.proofs.Ends.Worlds.{away}
 use Rattle.run_shows.specs.Reclaims.Reclaims.{IsRootOf, RootLeads, LeftBut, LeftBehind, Opened, ReclaimingAt, AllStandIdle}
-use Rattle.run_shows.specs.Reclaims.Slots.{IsQuiet}
+use Rattle.run_shows.specs.Reclaims.Slots.{IsQuiescent}
 use Rattle.run_shows.proofs.Reclaims.Behind.Kept.{leads_by}
 use Rattle.run_shows.proofs.Reclaims.Behind.Lists.{less, less_here, less_other, gone_from, still_in, other_than, still_once, was_in, from_zero, from_some}
 use Rattle.run_shows.proofs.Reclaims.Behind.Maps.{Leaves', idle_stands}
@@ -54,7 +54,7 @@ at_this r = record { slot = 0; batch_size = 0; root = r; mode = Blocking; counte
 module _ {K Q : Type 0} (V : Type 0) (same : K → K → Bool) (asks : Q → K → Bool) (batch_size roots : ℕ) (slot : ℕ → ℕ)
     (maps : ℕ → Option (Standing K)) (calls : ℕ → ℕ → Option (UnderWay K V Q)) (makers : ℕ → Option (Beginning K)) (enders : ℕ → Option (Finishing K V))
     (w : World (Node K V)) (i : ℕ) (lists : ℕ → List ℕ) (word : batch_size < 2 ^ 64) (idle : AllStandIdle V same asks batch_size roots slot maps calls makers enders w)
-    (quiet : IsQuiet w) (c : ReclaimAll) (rs : c.roots ≡ roots) (root : ℕ) (o : Opened roots w maps lists root) where
+    (quiet : IsQuiescent w) (c : ReclaimAll) (rs : c.roots ≡ roots) (root : ℕ) (o : Opened roots w maps lists root) where
   abbrev Leads : Reclaiming → Mem (Node K V) → ReclaimAll × Settled (Node K V) → Type 0
   Leads point m2 end = LedTo V same asks batch_size roots slot maps calls makers enders w i lists word idle quiet c rs point m2 end
 
@@ -109,7 +109,7 @@ module _ {K Q : Type 0} (V : Type 0) (same : K → K → Bool) (asks : Q → K �
       idle2 : AllStandIdle V same asks batch_size roots slot maps calls makers enders w2
       idle2 = idle_stands V same asks batch_size roots slot maps calls makers enders w idle i (at_this root) w2 did apart_from (taken_root w2 o.used)
 
-      quiet2 : IsQuiet w2
+      quiet2 : IsQuiescent w2
       quiet2 = record { rests = quiet.rests; vacant = quiet.vacant; none = quiet.none }
 
       not_it : (x : ℕ) → x ≢ b → times x (b ∷ []) ≡ 0
@@ -320,7 +320,7 @@ module _ {K Q : Type 0} (V : Type 0) (same : K → K → Bool) (asks : Q → K �
         | inr ne ↦ o.before r (omega (arith, below, ne))
       ]
 
-      freed_quiet : IsQuiet freed
+      freed_quiet : IsQuiescent freed
       freed_quiet = record { rests = quiet.rests; vacant = quiet.vacant; none = quiet.none }
 
       pub free_may : May Can Took value_at w.memory (unuses {T = Node K V} c root)

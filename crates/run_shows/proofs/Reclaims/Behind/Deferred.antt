@@ -12,7 +12,7 @@ use Rattle.run_effects.specs.Given.TablesNodes.{deferred_word}
 use Rattle.run_effects.specs.Given.TablesDeclared.node.Node.{Node}
 use Rattle.many_maps.specs.Given.CallersTogether.{UnderWay, Together}
 use Rattle.many_maps.specs.Endings.{Finishing}
-use Rattle.many_maps.specs.FactsEnds.{HasBehind}
+use Rattle.many_maps.specs.FactsEnds.{HasDeferred}
 use Rattle.many_maps.specs.Makings.{Beginning}
 use Rattle.many_maps.specs.Maps.{Standing}
 use Rattle.many_maps.proofs.Among.Begins.{lists_then, may_end_now}
@@ -53,7 +53,7 @@ module _ {K Q : Type 0} (V : Type 0) (same : K → K → Bool) (asks : Q → K �
     abbrev list_at : ℕ → List ℕ
     list_at = lists_then same asks slot w s (calls m) stands (idle.no_calls m)
 
-    behind_at : (t : ℕ) → s.chart.first ≤ t → t < s.chart.past → HasBehind w (s.blocks.table t) (list_at t)
+    behind_at : (t : ℕ) → s.chart.first ≤ t → t < s.chart.past → HasDeferred w (s.blocks.table t) (list_at t)
     behind_at t from made = (may_end_now same asks slot w s (calls m) stands (idle.no_calls m) (idle.together.makings.used m s here)).carries t from made
 
     on_list : (t b : ℕ) → s.chart.first ≤ t → t < s.chart.past → 0 < times b (list_at t) → IsDeferredOn w s t b

@@ -13,7 +13,7 @@ use Rattle.run_effects.specs.Given.RuleWords.{Blocks}
 use Rattle.run_effects.specs.Given.RuleInWorld.{IsOut, IsKnownBlock}
 use Rattle.many_maps.specs.Given.PointsSteps.{AreLawful}
 use Rattle.many_maps.specs.Given.CallersKept.{IsMaking, IsUsersOwn, IsKeptBy}
-use Rattle.many_maps.specs.Given.CallersSights.{Sight}
+use Rattle.many_maps.specs.Given.CallersSights.{Visible}
 use Rattle.many_maps.specs.Given.CallersTogether.{UnderWay, CameAbout, Together}
 use Rattle.many_maps.proofs.Given.CallersRows.Behind.{behind_handed}
 use Rattle.many_maps.proofs.Given.CallersTogether.Came.{came_reached}
@@ -46,7 +46,7 @@ module _ {K V : Type 0} (size i : ℕ) (its : Setting) (w w2 : World (Node K V))
       by (suc k) e = let l = did.taken x (omega (arith, e)) in absurd (other l.0 l.1)
 
   module _ {Q : Type 0} (same : K → K → Bool) (hash : K → ℕ) (asks : Q → K → Bool) (setting : Setting) (slot : ℕ → ℕ) (lawful : AreLawful same hash) (sized : setting.batch_size ≡ size)
-      (c : Chart K) (blocks : Blocks) (sights : ℕ → Sight) (calls : ℕ → Option (UnderWay K V Q)) (idle : (j : ℕ) → calls j ≡ None)
+      (c : Chart K) (blocks : Blocks) (sights : ℕ → Visible) (calls : ℕ → Option (UnderWay K V Q)) (idle : (j : ℕ) → calls j ≡ None)
       (s : Together V same hash asks setting slot w c blocks sights calls) (roots : setting.root ≢ its.root) where
     out_taken : (b : ℕ) → IsOut (w.hand b) → times b (taken_by did.deed) ≡ 0
     out_taken b out = none_taken b (λ j e. subst IsOut e out)

@@ -30,7 +30,7 @@ use Rattle.many_maps.specs.Endings.{Finishing}
 use Rattle.many_maps.specs.Makings.{Beginning, IsFreeRoot}
 use Rattle.many_maps.specs.Maps.{Standing}
 use Rattle.run_shows.specs.Reclaims.Reclaims.{IsRootOf, RootLeads, LeftBehind, Opened, ReclaimingAt, AllStandIdle, StepsOfReclaiming}
-use Rattle.run_shows.specs.Reclaims.Slots.{IsQuiet, DoesAt}
+use Rattle.run_shows.specs.Reclaims.Slots.{IsQuiescent, DoesAt}
 use Rattle.run_shows.proofs.Reclaims.Behind.Deferred.{tables_carry}
 use Rattle.seize_acts.proofs.Quiet.Promised.{nothing_waits}
 use Rattle.many_maps.proofs.Among.Machines.{same_map as same_still}
@@ -52,7 +52,7 @@ root_of_map {K} {V} same hash setting w c blocks map = (root_word hash c blocks,
 module _ {K Q : Type 0} (V : Type 0) (same : K → K → Bool) (asks : Q → K → Bool) (batch_size roots : ℕ) (slot : ℕ → ℕ)
     (maps : ℕ → Option (Standing K)) (calls : ℕ → ℕ → Option (UnderWay K V Q)) (makers : ℕ → Option (Beginning K)) (enders : ℕ → Option (Finishing K V))
     (w : World (Node K V)) (i : ℕ) (lists : ℕ → List ℕ) (word : batch_size < 2 ^ 64) (idle : AllStandIdle V same asks batch_size roots slot maps calls makers enders w)
-    (quiet : IsQuiet w) (c : ReclaimAll) (rs : c.roots ≡ roots) where
+    (quiet : IsQuiescent w) (c : ReclaimAll) (rs : c.roots ≡ roots) where
   abbrev pub LedTo : Reclaiming → Mem (Node K V) → ReclaimAll × Settled (Node K V) → Type 0
   LedTo point m2 end = StepsOfReclaiming V same asks batch_size roots slot maps calls makers enders w i lists point m2 end.0 end.1
 
@@ -80,7 +80,7 @@ module _ {K Q : Type 0} (V : Type 0) (same : K → K → Bool) (asks : Q → K �
       })
 
   -- the root behind one of which nothing is left, in whichever world
-  pub next_point : (v : World (Node K V)) (lists2 : ℕ → List ℕ) (root : ℕ) → IsQuiet v → LeftBehind roots v maps lists2 → root < roots → ((r : ℕ) → r < suc root → lists2 r ≡ [])
+  pub next_point : (v : World (Node K V)) (lists2 : ℕ → List ℕ) (root : ℕ) → IsQuiescent v → LeftBehind roots v maps lists2 → root < roots → ((r : ℕ) → r < suc root → lists2 r ≡ [])
       → ReclaimingAt batch_size roots i (next_root c root) v maps lists2 (next_root c root).stands
   next_point v lists2 root q left lt before = by (nat_lt root (c.roots - 1)) refl
     where

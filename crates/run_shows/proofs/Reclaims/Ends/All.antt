@@ -13,7 +13,7 @@ use Rattle.many_maps.specs.Endings.{Finishing}
 use Rattle.many_maps.specs.Makings.{Beginning}
 use Rattle.many_maps.specs.Maps.{Standing}
 use Rattle.run_shows.specs.Reclaims.Reclaims.{LeftBehind, ReclaimingAt, ReclaimingTogether}
-use Rattle.run_shows.specs.Reclaims.Ends.{ComesToEnd, Comes, ReclaimingEnds}
+use Rattle.run_shows.specs.Reclaims.Ends.{Terminates, Comes, ReclaimingEnds}
 use Rattle.run_shows.proofs.Reclaims.Promised.{slots_stand}
 use Rattle.run_shows.proofs.Reclaims.Ends.Falls.{IsOnRoots}
 use Rattle.run_shows.proofs.Reclaims.Ends.Roots.{roots_end}
@@ -29,7 +29,7 @@ module _ {K Q : Type 0} (V : Type 0) (same : K → K → Bool) (asks : Q → K �
 
   -- it comes to its end, whichever maps there are
   abbrev IsSure : World (Node K V) → ReclaimAll → Type 0
-  IsSure w c = (maps : ℕ → Option (Standing K)) (lists : ℕ → List ℕ) → All maps w lists c → ComesToEnd w.memory c
+  IsSure w c = (maps : ℕ → Option (Standing K)) (lists : ℕ → List ℕ) → All maps w lists c → Terminates w.memory c
 
   module _ (maps : ℕ → Option (Standing K)) (w : World (Node K V)) (lists : ℕ → List ℕ) (c : ReclaimAll) (rs : c.roots ≡ roots) where
     -- what is so on slots, and behind the roots meanwhile
@@ -74,11 +74,11 @@ module _ {K Q : Type 0} (V : Type 0) (same : K → K → Bool) (asks : Q → K �
         let k = next m2 c2 told st in
         let h = on_slots maps x.w lists x.c all.roots_are x.c.stands on all.point in
         let two = slots_stand V same asks batch_size roots slot maps calls makers enders x.w i word lists all.stand h.1 x.c.stands m2 (c2, told) k.0 in
-        subst (λ (m : Mem (Node K V)). ComesToEnd m c2) k.0.memory (k.1 two.0 lists two.2));
+        subst (λ (m : Mem (Node K V)). Terminates m c2) k.0.memory (k.1 two.0 lists two.2));
   }
 
-  ends_at : (maps : ℕ → Option (Standing K)) (w : World (Node K V)) (lists : ℕ → List ℕ) (c : ReclaimAll) → All maps w lists c → ((IsOnSlots c.stands → ⊥) → ComesToEnd w.memory c)
-      → (IsOnSlots c.stands → ComesToEnd w.memory c) → (p : Reclaiming) → c.stands ≡ p → ComesToEnd w.memory c
+  ends_at : (maps : ℕ → Option (Standing K)) (w : World (Node K V)) (lists : ℕ → List ℕ) (c : ReclaimAll) → All maps w lists c → ((IsOnSlots c.stands → ⊥) → Terminates w.memory c)
+      → (IsOnSlots c.stands → Terminates w.memory c) → (p : Reclaiming) → c.stands ≡ p → Terminates w.memory c
   ends_at maps w lists c all off on (at.Heads s) is = on (subst IsOnSlots (sym is) tt)
   ends_at maps w lists c all off on (at.Retakes s) is = on (subst IsOnSlots (sym is) tt)
   ends_at maps w lists c all off on (at.Leaves s l) is = on (subst IsOnSlots (sym is) tt)
@@ -92,7 +92,7 @@ module _ {K Q : Type 0} (V : Type 0) (same : K → K → Bool) (asks : Q → K �
   ends_at maps w lists c all off on (at.Unuses root) is = off (λ k. subst IsOnSlots is k)
   ends_at maps w lists c all off on at.Over is = off (λ k. subst IsOnSlots is k)
 
-  all_ends : (maps : ℕ → Option (Standing K)) (w : World (Node K V)) (lists : ℕ → List ℕ) (c : ReclaimAll) → All maps w lists c → ComesToEnd w.memory c
+  all_ends : (maps : ℕ → Option (Standing K)) (w : World (Node K V)) (lists : ℕ → List ℕ) (c : ReclaimAll) → All maps w lists c → Terminates w.memory c
   all_ends maps w lists c all =
       ends_at maps w lists c all
       (λ off. roots_end V same asks batch_size roots slot calls makers enders i word (record { maps = maps; w = w; lists = lists; c = c; all = all })

@@ -16,7 +16,7 @@ use Rattle.many_maps.specs.Endings.{Finishing}
 use Rattle.many_maps.specs.Makings.{Beginning}
 use Rattle.many_maps.specs.Maps.{Standing}
 use Rattle.run_shows.specs.Reclaims.Reclaims.{ReclaimingTogether}
-use Rattle.run_shows.specs.Reclaims.Ends.{ComesToEnd, Comes}
+use Rattle.run_shows.specs.Reclaims.Ends.{Terminates, Comes}
 use Rattle.run_shows.proofs.Reclaims.Promised.{reclaiming_stands}
 use Rattle.run_shows.proofs.Reclaims.Ends.Falls.{IsOnRoots, root_falls}
 use Rattle.seize_acts.proofs.Quiet.Ends.Measures.{by_two}
@@ -32,7 +32,7 @@ module _ {K Q : Type 0} (V : Type 0) (same : K → K → Bool) (asks : Q → K �
     pub all : ReclaimingTogether V same asks batch_size roots slot maps calls makers enders w i lists c
 
   abbrev pub IsEnding : Point → Type 0
-  IsEnding x = ComesToEnd x.w.memory x.c
+  IsEnding x = Terminates x.w.memory x.c
 
   module _ (x : Point) (m2 : Mem (Node K V)) (c2 : ReclaimAll) (told : Settled (Node K V)) (st : Steps Took value_at x.w.memory (reclaim_all_plan deferred_word was_left x.c) m2 (c2, told)) where
     -- where a step leads
@@ -41,8 +41,8 @@ module _ {K Q : Type 0} (V : Type 0) (same : K → K → Bool) (asks : Q → K �
         let k = (reclaiming_stands V same asks batch_size roots slot x.maps calls makers enders x.w i x.lists x.c word x.all).1 m2 c2 told st in
         (record { maps = k.maps2; w = k.w2; lists = k.lists2; c = c2; all = k.next }, k.memory, refl)
 
-  pub ends_there : (y : Point) (m2 : Mem (Node K V)) (c2 : ReclaimAll) → y.w.memory ≡ m2 → y.c ≡ c2 → IsEnding y → ComesToEnd m2 c2
-  ends_there y m2 c2 e f k = subst (λ (c : ReclaimAll). ComesToEnd m2 c) f (subst (λ (m : Mem (Node K V)). ComesToEnd m y.c) e k)
+  pub ends_there : (y : Point) (m2 : Mem (Node K V)) (c2 : ReclaimAll) → y.w.memory ≡ m2 → y.c ≡ c2 → IsEnding y → Terminates m2 c2
+  ends_there y m2 c2 e f k = subst (λ (c : ReclaimAll). Terminates m2 c) f (subst (λ (m : Mem (Node K V)). Terminates m y.c) e k)
 
   -- on roots
 

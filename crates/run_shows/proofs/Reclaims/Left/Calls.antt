@@ -10,12 +10,12 @@ use Rattle.run_effects.specs.Given.TablesDeclared.setting.Setting.{Setting}
 use Rattle.run_effects.specs.Given.RawDeclared.machines.machine.Machine.{Machine}
 use Rattle.run_effects.specs.Given.RawDeclared.machines.progress.Progress.{Progress}
 use Rattle.run_effects.specs.Given.RuleChart.{Chart}
-use Rattle.run_effects.specs.Given.RuleInWorld.{Went}
+use Rattle.run_effects.specs.Given.RuleInWorld.{StepSpec}
 use Rattle.run_effects.specs.Given.RuleWords.{Blocks}
 use Rattle.many_maps.specs.Given.CallersSights.{seen_by}
 use Rattle.many_maps.specs.Given.CallersTogether.{UnderWay, OnKey, ForRoom, Counting, OverAll, IsOneStep, in_slot}
 use Rattle.many_maps.specs.Endings.{Finishing, EndingsTogether}
-use Rattle.many_maps.specs.Machines.{DidOfKind, StandsOn}
+use Rattle.many_maps.specs.Machines.{DidOfKind, MapContinues}
 use Rattle.many_maps.specs.Makings.{Beginning}
 use Rattle.many_maps.specs.Maps.{Standing, IsSameMap}
 use Rattle.many_maps.proofs.Beside.Endings.Calls.{call_spares_end}
@@ -24,7 +24,7 @@ use Rattle.many_maps.proofs.Beside.Endings.Spares.{SparesEnd}
 use Rattle.many_maps.proofs.Beside.Makings.RowSteps.{one_step_leaves, same_setting}
 use Rattle.many_maps.proofs.Beside.Maps.OtherSteps.{known_out, known_owner}
 use Rattle.many_maps.proofs.Beside.Maps.Steps.{seen_known}
-use Rattle.run_shows.specs.Reclaims.Left.{LeftAmong, MachinesLeaveIt, GuardsLeaveIt}
+use Rattle.run_shows.specs.Reclaims.Left.{LeftWithEndings, MachinesLeaveIt, GuardsLeaveIt}
 use Rattle.run_shows.specs.Reclaims.Reclaims.{IsRootOf}
 use Rattle.run_shows.proofs.Reclaims.Behind.Kept.{KeepsLeft, keeps_still, by_spares, step_keeps, begin_keeps, root_before, root_still}
 use Rattle.run_shows.proofs.Reclaims.Left.Stays.{left_stays}
@@ -51,7 +51,7 @@ module _ {K Q : Type 0} (V : Type 0) (same : K → K → Bool) (asks : Q → K �
 
       -- a step of a call that is none of a row
       module _ (u : UnderWay K V Q) (has : calls m i ≡ Some u) (in_it : IsInside (w.uses (slot i))) (m2 : Mem (Node K V)) (Told : World (Node K V) → Chart K → Blocks → Type 0)
-          (went : Went same s.hash (in_slot s.setting (slot i)) i w s.chart (seen_by s.blocks (s.sights (slot i))) m2 Told) where
+          (went : StepSpec same s.hash (in_slot s.setting (slot i)) i w s.chart (seen_by s.blocks (s.sights (slot i))) m2 Told) where
         spares : (j : ℕ) → SparesEnd w went.w2 s.setting.batch_size (suc s.setting.counter) (suc s.setting.root) j
         spares j =
             let stands = all.makings.standing.each m s here in
@@ -82,7 +82,7 @@ module _ {K Q : Type 0} (V : Type 0) (same : K → K → Bool) (asks : Q → K �
       machine_keeps (OverAll o) has m2 w2 maps2 next machine told (p2, end, is, tells, inr (st, e)) = to_world st.step.w2 w2 (sym e.0) (row_keeps st.step.w2 st.step.happened)
 
       -- which roots are those of maps
-      module _ (maps2 : ℕ → Option (Standing K)) (its : StandsOn s (maps2 m)) (others : (n : ℕ) → n ≢ m → IsSameMap (maps n) (maps2 n)) where
+      module _ (maps2 : ℕ → Option (Standing K)) (its : MapContinues s (maps2 m)) (others : (n : ℕ) → n ≢ m → IsSameMap (maps n) (maps2 n)) where
         one_of : (x y : Standing K) → ◌≡◌ {A = Option (Standing K)} (Some x) (Some y) → x ≡ y
         one_of x y e = cc e
 
@@ -113,5 +113,5 @@ module _ {K Q : Type 0} (V : Type 0) (same : K → K → Bool) (asks : Q → K �
     λ h. stays (step_keeps (IsRootOf maps) batch_size i w w2 all.makings.standing.came h),
   )
     where
-      stays : KeepsLeft (IsRootOf maps) w w2 → LeftAmong roots w2 maps2 makers enders lists
+      stays : KeepsLeft (IsRootOf maps) w w2 → LeftWithEndings roots w2 maps2 makers enders lists
       stays keeps = left_stays roots lists w w2 maps maps2 makers enders left keeps (root_before maps maps2 maps_same) (root_still maps maps2 maps_same) (map_taken all)

@@ -24,7 +24,7 @@ use Rattle.many_maps.proofs.Among.LeftAlone.{root_taken}
 use Rattle.many_maps.proofs.Among.Own.Waiting.{left_not, waits_left, waits_stay, waiting_then}
 use Rattle.many_maps.proofs.Beside.Makings.Steps.{one_made}
 use Rattle.many_maps.proofs.Ends.CountedBlocks.{times-append, some_here, some_last}
-use Rattle.run_shows.specs.Reclaims.Left.{IsSomebodys, LeftAmong, EndingsBeginAndLeaveIt, GoesOnBy, EndingsLeaveIt}
+use Rattle.run_shows.specs.Reclaims.Left.{IsSomebodys, LeftWithEndings, EndingsBeginAndLeaveIt, ContinuesBy, EndingsLeaveIt}
 use Rattle.run_shows.specs.Reclaims.Reclaims.{RootLeads}
 use Rattle.run_shows.proofs.Reclaims.Behind.Kept.{in_all, leads_by}
 use Rattle.seize_words.proofs.General.{same_some as one_of, none_less as none_of}
@@ -48,7 +48,7 @@ more_behind lists root (suc n) x l = elim (cases_eq n root) as (λ _. times x (a
 module _ {K Q : Type 0} (V : Type 0) (same : K → K → Bool) (asks : Q → K → Bool) (batch_size roots : ℕ) (slot : ℕ → ℕ)
     (w : World (Node K V)) (maps : ℕ → Option (Standing K)) (calls : ℕ → ℕ → Option (UnderWay K V Q)) (makers : ℕ → Option (Beginning K)) (enders : ℕ → Option (Finishing K V)) where
   -- the end of a map begins
-  module _ (lists : ℕ → List ℕ) (all : EndingsTogether V same asks batch_size roots slot w maps calls makers enders) (left : LeftAmong roots w maps makers enders lists)
+  module _ (lists : ℕ → List ℕ) (all : EndingsTogether V same asks batch_size roots slot w maps calls makers enders) (left : LeftWithEndings roots w maps makers enders lists)
       (i : ℕ) (free : enders i ≡ None) (m : ℕ) (s : Standing K) (here : maps m ≡ Some s) where
     abbrev begun : Option (Finishing K V)
     begun = Some (finishing_of s w)
@@ -80,7 +80,7 @@ module _ {K Q : Type 0} (V : Type 0) (same : K → K → Bool) (asks : Q → K �
     not_its b on t from made e =
         let k = left.left b on in let used = (all.makings.standing.each m s here).ground.map.tables t from made in let at = ap w.hand e in cc (k.1, used, at)
 
-    pub begun_left : (w2 : World (Node K V)) → w2.memory ≡ w.memory → w2.hand ≡ w.hand → LeftAmong roots w2 (with_at maps m None) makers (with_at enders i begun) lists
+    pub begun_left : (w2 : World (Node K V)) → w2.memory ≡ w.memory → w2.hand ≡ w.hand → LeftWithEndings roots w2 (with_at maps m None) makers (with_at enders i begun) lists
     begun_left w2 memory hands = record {
       root = λ r below. (elim (left.root r below) as (λ _. Then r ⊎ RootLeads w2 r (lists r)) [
         | inl is ↦ inl (still r is)
@@ -102,7 +102,7 @@ module _ {K Q : Type 0} (V : Type 0) (same : K → K → Bool) (asks : Q → K �
       begun_left lists all left i free m s here w2 (ap (λ (x : World (Node K V)). x.memory) h) (ap (λ (x : World (Node K V)). x.hand) h)
 
   -- it takes a step
-  module _ (lists : ℕ → List ℕ) (all : EndingsTogether V same asks batch_size roots slot w maps calls makers enders) (left : LeftAmong roots w maps makers enders lists)
+  module _ (lists : ℕ → List ℕ) (all : EndingsTogether V same asks batch_size roots slot w maps calls makers enders) (left : LeftWithEndings roots w maps makers enders lists)
       (i : ℕ) (f : Finishing K V) (ends : enders i ≡ Some f) (m2 : Mem (Node K V)) (end : EndMap × Settled (Node K V))
       (st : StepsOfEnding V same asks batch_size roots slot w maps calls makers enders i f m2 end) where
     facts : FinishingFacts same batch_size w i f
@@ -156,7 +156,7 @@ module _ {K Q : Type 0} (V : Type 0) (same : K → K → Bool) (asks : Q → K �
         by (WritesRoot at word) none = refl
 
     -- it goes on
-    module _ (f2 : Finishing K V) (on_by : GoesOnBy V same asks batch_size roots slot w maps calls makers enders f st.deed f2) where
+    module _ (f2 : Finishing K V) (on_by : ContinuesBy V same asks batch_size roots slot w maps calls makers enders f st.deed f2) where
       same_root : f2.setting.root ≡ f.setting.root
       same_root = ap (λ (x : Setting). x.root) on_by.setting_is
 
@@ -190,7 +190,7 @@ module _ {K Q : Type 0} (V : Type 0) (same : K → K → Bool) (asks : Q → K �
             let z : times (f.blocks.table t) f2.back ≡ 0 = subst (λ (y : ℕ). times y f2.back ≡ 0) table_is fresh in omega (arith, k, q, z)) (e ∙ table_is),
       )
 
-      goes_on : LeftAmong roots st.w2 maps makers (with_at enders i (Some f2)) lists
+      goes_on : LeftWithEndings roots st.w2 maps makers (with_at enders i (Some f2)) lists
       goes_on = record {
         root = λ r below. (elim (left.root r below) as (λ _. IsSomebodys maps makers (with_at enders i (Some f2)) r ⊎ RootLeads st.w2 r (lists r)) [
           | inl is ↦ inl (still_on r is)
@@ -306,7 +306,7 @@ module _ {K Q : Type 0} (V : Type 0) (same : K → K → Bool) (asks : Q → K �
             | inr new ↦ (none_of_its j g other has b new, none_of_tables j g other has b new)
           ])) j g is
 
-      is_over : LeftAmong roots st.w2 maps makers (with_at enders i None) (with_at lists f.setting.root f.waits)
+      is_over : LeftWithEndings roots st.w2 maps makers (with_at enders i None) (with_at lists f.setting.root f.waits)
       is_over = record {
         root = root_then;
         none = λ r below is. with_other lists f.setting.root r f.waits (not_root r is) ∙ left.none r below (before_over r is);

@@ -16,12 +16,12 @@ use Rattle.run_effects.specs.Given.TablesDeclared.setting.Setting.{Setting}
 use Rattle.run_effects.specs.Given.ResizeDeclared.new_map.NewMap.{NewMap}
 use Rattle.many_maps.specs.Given.CallersTogether.{UnderWay}
 use Rattle.many_maps.proofs.Given.CallersTogether.At.{at_other, at_same}
-use Rattle.many_maps.specs.Endings.{Finishing, EndingsTogether, MakingStepsAmong}
-use Rattle.many_maps.specs.Makings.{Beginning, HasTaken, HasComeTo, KeepsIts, LeavesRest, IsTakenRoot}
+use Rattle.many_maps.specs.Endings.{Finishing, EndingsTogether, MakingStepsWithEndings}
+use Rattle.many_maps.specs.Makings.{Beginning, HasTaken, HasComeTo, PreservesItsOwn, LeavesRest, IsTakenRoot}
 use Rattle.many_maps.specs.Maps.{Standing}
 use Rattle.many_maps.proofs.Beside.Makings.Lasts.{taken_root}
 use Rattle.many_maps.proofs.Beside.Makings.Steps.{one_made}
-use Rattle.run_shows.specs.Reclaims.Left.{IsSomebodys, LeftAmong, MakingsBeginAndLeaveIt, MakingsLeaveIt}
+use Rattle.run_shows.specs.Reclaims.Left.{IsSomebodys, LeftWithEndings, MakingsBeginAndLeaveIt, MakingsLeaveIt}
 use Rattle.run_shows.specs.Reclaims.Reclaims.{IsRootOf, RootLeads}
 use Rattle.run_shows.proofs.Reclaims.Behind.Kept.{in_all, leads_by}
 use Rattle.run_shows.proofs.Reclaims.Behind.Points.{root_of_map}
@@ -76,9 +76,9 @@ module _ {K Q : Type 0} (V : Type 0) (same : K → K → Bool) (asks : Q → K �
           (λ j d other makes taken is. inr (inl (j, d, makes, taken, is))) j d makes taken is
       before r (inr (inr is)) = inr (inr is)
 
-  module _ (lists : ℕ → List ℕ) (all : EndingsTogether V same asks batch_size roots slot w maps calls makers enders) (left : LeftAmong roots w maps makers enders lists) (i : ℕ) (b : Beginning K)
+  module _ (lists : ℕ → List ℕ) (all : EndingsTogether V same asks batch_size roots slot w maps calls makers enders) (left : LeftWithEndings roots w maps makers enders lists) (i : ℕ) (b : Beginning K)
       (makes : makers i ≡ Some b) (w2 : World (Node K V)) (end : NewMap × Advance Setting) (rest : LeavesRest {Q = Q} V same asks batch_size roots slot w w2 b.machine end)
-      (keeps : KeepsIts {Q = Q} V same asks batch_size roots slot w w2 b.machine end) where
+      (keeps : PreservesItsOwn {Q = Q} V same asks batch_size roots slot w w2 b.machine end) where
     -- the root that it has is its own
     own_taken : HasTaken b.machine.stands → IsTakenRoot w b.machine.setting.root
     own_taken taken = taken_root same i w w2 roots b.machine b.machine.stands taken (all.makings.facts i b makes).point
@@ -109,7 +109,7 @@ module _ {K Q : Type 0} (V : Type 0) (same : K → K → Bool) (asks : Q → K �
         (still : (r : ℕ) → r < roots → IsSomebodys maps makers enders r → IsSomebodys maps2 makers2 enders r ⊎ ((lists r ≡ []) × RootLeads w2 r []))
         (come : (r : ℕ) → HasComeTo {Q = Q} V same asks batch_size roots slot end r → IsSomebodys maps2 makers2 enders r)
         (none2 : (r : ℕ) → r < roots → IsSomebodys maps2 makers2 enders r → lists r ≡ []) where
-      pub left_then : LeftAmong roots w2 maps2 makers2 enders lists
+      pub left_then : LeftWithEndings roots w2 maps2 makers2 enders lists
       left_then = record {
         root = λ r below. (elim (left.root r below) as (λ _. IsSomebodys maps2 makers2 enders r ⊎ RootLeads w2 r (lists r)) [
           | inl is ↦ (elim (still r below is) as (λ _. IsSomebodys maps2 makers2 enders r ⊎ RootLeads w2 r (lists r)) [
@@ -155,13 +155,13 @@ module _ {K Q : Type 0} (V : Type 0) (same : K → K → Bool) (asks : Q → K �
     nowhere_no_list v r x l nowhere leads = (let e : leads.1.0 ≡ 0 = one_of leads.1.0 0 (sym leads.1.1 ∙ nowhere) in let p = leads.1.2.1 in let q = leads.1.2.2 in omega (arith, e, p, q))
 
   -- it goes on
-  module _ (lists : ℕ → List ℕ) (all : EndingsTogether V same asks batch_size roots slot w maps calls makers enders) (left : LeftAmong roots w maps makers enders lists) (i : ℕ) (b : Beginning K)
+  module _ (lists : ℕ → List ℕ) (all : EndingsTogether V same asks batch_size roots slot w maps calls makers enders) (left : LeftWithEndings roots w maps makers enders lists) (i : ℕ) (b : Beginning K)
       (makes : makers i ≡ Some b) (m2 : Mem (Node K V)) (n : NewMap) where
     abbrev after : Option (Beginning K)
     after = Some (record b { machine = n })
 
-    goes_on : (st : MakingStepsAmong V same asks batch_size roots slot w maps calls makers enders i b m2 (n, progress.Goes))
-        → LeftAmong roots st.step.w2 maps (with_at makers i (Some (record b { machine = n }))) enders lists
+    goes_on : (st : MakingStepsWithEndings V same asks batch_size roots slot w maps calls makers enders i b m2 (n, progress.Goes))
+        → LeftWithEndings roots st.step.w2 maps (with_at makers i (Some (record b { machine = n }))) enders lists
     goes_on st = left_then lists all left i b makes st.step.w2 (n, progress.Goes) st.step.rest st.step.keeps maps (with_at makers i after) still come none2
       where
         still : (r : ℕ) → r < roots → IsSomebodys maps makers enders r → IsSomebodys maps (with_at makers i after) enders r ⊎ ((lists r ≡ []) × RootLeads st.step.w2 r [])
@@ -197,8 +197,8 @@ module _ {K Q : Type 0} (V : Type 0) (same : K → K → Bool) (asks : Q → K �
     others_only maps2 r below of_map (inr (inr is)) = left.none r below (inr (inr is))
 
     -- its map stands
-    stands : (answer : Setting) (st : MakingStepsAmong V same asks batch_size roots slot w maps calls makers enders i b m2 (n, progress.Done answer))
-        → LeftAmong roots st.step.w2 (with_at maps b.map (Some st.told.0)) (with_at makers i None) enders lists
+    stands : (answer : Setting) (st : MakingStepsWithEndings V same asks batch_size roots slot w maps calls makers enders i b m2 (n, progress.Done answer))
+        → LeftWithEndings roots st.step.w2 (with_at maps b.map (Some st.told.0)) (with_at makers i None) enders lists
     stands answer st = left_then lists all left i b makes st.step.w2 (n, progress.Done answer) st.step.rest st.step.keeps (with_at maps b.map (Some st.told.0)) (with_at makers i None) still (λ r to. absurd to)
         (λ r below. others_only (with_at maps b.map (Some st.told.0)) r below (of_map r below))
       where
@@ -219,8 +219,8 @@ module _ {K Q : Type 0} (V : Type 0) (same : K → K → Bool) (asks : Q → K �
             (λ x l leads. left_is_no_map V same asks batch_size roots slot st.step.w2 (with_at maps b.map (Some st.told.0)) calls (with_at makers i None) enders st.told.2 r x l leads is)
 
     -- it is refused
-    refused : (fault : Fault) (st : MakingStepsAmong V same asks batch_size roots slot w maps calls makers enders i b m2 (n, progress.Refused fault))
-        → LeftAmong roots st.step.w2 maps (with_at makers i None) enders lists
+    refused : (fault : Fault) (st : MakingStepsWithEndings V same asks batch_size roots slot w maps calls makers enders i b m2 (n, progress.Refused fault))
+        → LeftWithEndings roots st.step.w2 maps (with_at makers i None) enders lists
     refused fault st = left_then lists all left i b makes st.step.w2 (n, progress.Refused fault) st.step.rest st.step.keeps maps (with_at makers i None) still (λ r to. absurd to)
         (λ r below. others_only maps r below (λ is. left.none r below (inl is)))
       where

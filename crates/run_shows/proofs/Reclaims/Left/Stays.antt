@@ -10,12 +10,12 @@ use Rattle.many_maps.specs.Endings.{Finishing}
 use Rattle.many_maps.specs.Makings.{Beginning}
 use Rattle.many_maps.specs.Maps.{Standing}
 use Rattle.many_maps.proofs.Ends.CountedBlocks.{times-append}
-use Rattle.run_shows.specs.Reclaims.Left.{IsSomebodys, LeftAmong, NothingIsLeft, LeftIsLeftBehind}
+use Rattle.run_shows.specs.Reclaims.Left.{IsSomebodys, LeftWithEndings, NothingIsLeft, LeftIsLeftBehind}
 use Rattle.run_shows.specs.Reclaims.Reclaims.{IsRootOf, RootLeads}
 use Rattle.run_shows.proofs.Reclaims.Behind.Kept.{KeepsLeft, in_all, leads_by}
 
 module _ {K V : Type 0} (roots : ℕ) (lists : ℕ → List ℕ) (w w2 : World (Node K V)) (maps maps2 : ℕ → Option (Standing K)) (makers : ℕ → Option (Beginning K)) (enders : ℕ → Option (Finishing K V))
-    (left : LeftAmong roots w maps makers enders lists) (keeps : KeepsLeft (IsRootOf maps) w w2) (before : (r : ℕ) → IsRootOf maps2 r → IsRootOf maps r) (still : (r : ℕ) → IsRootOf maps r → IsRootOf maps2 r)
+    (left : LeftWithEndings roots w maps makers enders lists) (keeps : KeepsLeft (IsRootOf maps) w w2) (before : (r : ℕ) → IsRootOf maps2 r → IsRootOf maps r) (still : (r : ℕ) → IsRootOf maps r → IsRootOf maps2 r)
     (taken : (r : ℕ) → IsRootOf maps r → word_at w.memory (Used r) ≡ Some 1) where
   -- a root that leads to a list, or is free, is no standing map's
   not_its : (r : ℕ) (l : List ℕ) → r < roots → lists r ≡ l → RootLeads w r l → IsRootOf maps r → ⊥
@@ -35,7 +35,7 @@ module _ {K V : Type 0} (roots : ℕ) (lists : ℕ → List ℕ) (w w2 : World (
   somebodys_before r (inl is) = inl (before r is)
   somebodys_before r (inr is) = inr is
 
-  pub left_stays : LeftAmong roots w2 maps2 makers enders lists
+  pub left_stays : LeftWithEndings roots w2 maps2 makers enders lists
   left_stays = record {
     root = λ r below. (elim (left.root r below) as (λ _. IsSomebodys maps2 makers enders r ⊎ RootLeads w2 r (lists r)) [
       | inl is ↦ inl (somebodys_on r is)

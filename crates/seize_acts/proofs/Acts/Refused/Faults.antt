@@ -80,7 +80,7 @@ module _ (T : Type 0) where
   head_so c (Found head) = tt
   head_so c _ = tt
 
-  push_so : (c : Defer) (out : Out T) → Outcomes NoFault (defer.push_told c out)
+  push_so : (c : Defer) (out : Out T) → Outcomes NoFault (defer.after_push c out)
   push_so c (Exchanged (Ok found)) = tt
   push_so c (Exchanged (Err head)) = tt
   push_so c _ = tt

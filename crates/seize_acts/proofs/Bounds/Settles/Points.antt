@@ -269,7 +269,7 @@ module _ {T : Type 0} {defers : T → Option ℕ} {j : ℕ} {mem mem2 : Mem T} {
             goes k (at.Pushes block left pushed slot head) (at.Sums u) c e tt a (omega (arith, some))
 
     pub pushes_less : Steps Took value_at mem (plans.pushes c block left pushed slot head) mem2 end → Here
-    pushes_less st = elim (exchanged mem (plans.push_told c block left pushed slot) (Slot slot HEAD) head block mem2 end st) as (λ _. Here) [
+    pushes_less st = elim (exchanged mem (plans.after_push c block left pushed slot) (Slot slot HEAD) head block mem2 end st) as (λ _. Here) [
       | inl d ↦ pushed_less ((pushed + 1) % 2 ^ 64) d.3
       | inr d ↦ one d.0 (nat_lt d.0 ACTIVE) (nat_lt c.lost MOST_LOST) refl d.3
     ]

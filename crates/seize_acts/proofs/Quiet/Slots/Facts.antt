@@ -25,7 +25,7 @@ use Rattle.seize_acts.proofs.Acts.Lost.{behind_others}
 use Rattle.seize_acts.proofs.Acts.Reclaimed.Flushed.{batch_zero}
 use Rattle.seize_acts.proofs.Acts.Reclaimed.Quiet.{quiet_sets, quiet_shown, opened_below, opened_past}
 use Rattle.seize_acts.proofs.Quiet.Slots.Came.{came_reached}
-use Rattle.seize_acts.specs.Quiet.Slots.{Came, IsForSlots, AreItsRows, AllRest, HasNoBatch, IsQuiet}
+use Rattle.seize_acts.specs.Quiet.Slots.{Came, IsForSlots, AreItsRows, AllRest, HasNoBatch, IsQuiescent}
 use Rattle.seize_words.proofs.General.{no_length}
 
 pub idle_outside : (u : Use) → u ≡ Outside 0 → IsOutside u
@@ -106,7 +106,7 @@ module _ {T : Type 0} (defers : T → Option ℕ) (size : ℕ) where
           ∙ no_length (rested.good.state.blocks (rested.good.state.open_batch t)) ((rested.good.short t (omega (arith, le)) (λ j. ap (λ r. tries_on r t) (rests j))).untaken never)) x is
 
   -- where no slot is in use, and none has a batch, nothing is left
-  pub nothing_left : size < 2 ^ 64 → (w : World T) → Came defers size w → IsQuiet w → HasNothingLeft defers w
+  pub nothing_left : size < 2 ^ 64 → (w : World T) → Came defers size w → IsQuiescent w → HasNothingLeft defers w
   nothing_left word w came quiet = (quiet.rests, retired, quiet.vacant, (λ s x le is. quiet.none s le x is), behind_others defers w (rested_by w came quiet.rests).good quiet.rests retired)
     where
       outside : (t : ℕ) → IsOutside (w.uses t)

@@ -26,7 +26,7 @@ use Rattle.seize_acts.specs.Acts.Waits.{Waits}
 use Rattle.seize_acts.proofs.Acts.Steps.{steps_so}
 use Rattle.seize_acts.proofs.Acts.Waits.{row_waits}
 use Rattle.seize_acts.proofs.Quiet.Slots.Came.{came_reached, taken_gone}
-use Rattle.seize_acts.specs.Quiet.Slots.{Came, AllRest, Within, SlotsTold}
+use Rattle.seize_acts.specs.Quiet.Slots.{Came, AllRest, Within, SlotsOutcome}
 use Rattle.seize_acts.proofs.Quiet.Slots.Facts.{rested_by, held_by}
 use Rattle.seize_words.proofs.General.{some_is}
 
@@ -39,11 +39,11 @@ one_taken (e ∷ []) log b one k sound = absurd (cc k)
 
 module _ {T : Type 0} (defers : T → Option ℕ) (size : ℕ) (w : World T) (m2 : Mem T) (effects : List Effect) (w2 : World T) (logged : w2.log ≡ effects ++ w.log) where
   -- it has taken no block
-  pub goes_told : taken_in effects ≡ [] → SlotsTold w w2 settled.Goes
+  pub goes_told : taken_in effects ≡ [] → SlotsOutcome w w2 settled.Goes
   goes_told none = ap taken_in logged ∙ taken_append effects w.log ∙ ap (λ (l : List ℕ). taken_in w.log ++ l) none ∙ append-nil (taken_in w.log)
 
   -- or one
-  pub gave_told : Came defers size w2 → IsOneStep effects → w2.memory ≡ m2 → (value : T) → TellsTaken w.memory m2 effects (settled.Gave value) → SlotsTold w w2 (settled.Gave value)
+  pub gave_told : Came defers size w2 → IsOneStep effects → w2.memory ≡ m2 → (value : T) → TellsTaken w.memory m2 effects (settled.Gave value) → SlotsOutcome w w2 (settled.Gave value)
   gave_told came one memory value (b, took, was, gone) =
       let good = (came_reached defers size w2 came).good in
       let sound : IsSound (effects ++ w.log) = subst (λ (l : List Effect). IsSound l) (good.logged ∙ logged) good.inv.logged.sound in (

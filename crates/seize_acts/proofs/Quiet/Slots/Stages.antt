@@ -15,7 +15,7 @@ use Rattle.seize_model.proofs.Given.SeizeRuleWorld.Good.{Good}
 use Rattle.seize_model.proofs.Given.SeizeMemoryWords.View.{view}
 use Rattle.seize_model.proofs.Sets.Reclaims.Ends.{untaken_vacant}
 use Rattle.seize_model.proofs.Sets.Turns.Heads.{head_word, vacant_by, none_past, never_behind, taken_so, never_zero as head_none}
-use Rattle.seize_acts.specs.Quiet.Slots.{AllRest, HasNoBatch, IsQuiet, Settling, Flushing, Freeing, Came, Stage as StageOf}
+use Rattle.seize_acts.specs.Quiet.Slots.{AllRest, HasNoBatch, IsQuiescent, Settling, Flushing, Freeing, Came, Stage as StageOf}
 use Rattle.seize_acts.proofs.Quiet.Slots.Facts.{outside_at, rested_by, word_behind, never_none}
 use Rattle.seize_model.proofs.Given.SeizeRulePoints.Try.{never_word as zero_never}
 use Rattle.seize_words.proofs.General.{less_not as le_of, less_so as lt_of}
@@ -25,7 +25,7 @@ module _ {T : Type 0} (defers : T → Option ℕ) (size roots i : ℕ) where
   Stage c w = StageOf defers size i roots c w
 
   module _ (c : ReclaimAll) (ss : c.batch_size ≡ size) (rs : c.roots ≡ roots) (w : World T) where
-    past : (c2 : ReclaimAll) → c2.batch_size ≡ size → c2.roots ≡ roots → IsQuiet w → Stage (first_root c2) w
+    past : (c2 : ReclaimAll) → c2.batch_size ≡ size → c2.roots ≡ roots → IsQuiescent w → Stage (first_root c2) w
     past c2 ss2 rs2 quiet = by (c2.roots == 0) (eqb-true c2.roots 0) (eqb-false c2.roots 0)
       where
         by : (b : Bool) → (b ≡ true → c2.roots ≡ 0) → (b ≡ false → c2.roots ≡ 0 → ⊥) → Stage (if b then standing c2 at.Over else standing c2 (at.Roots 0)) w
@@ -146,7 +146,7 @@ module _ {T : Type 0} (defers : T → Option ℕ) (size roots i : ℕ) where
             })
 
   -- where none was ever taken, nothing is left of what slots had
-  pub never_taken : (w : World T) → Came defers size w → AllRest w → word_at w.memory (name.Slot 0 HEAD) ≡ None → IsQuiet w
+  pub never_taken : (w : World T) → Came defers size w → AllRest w → word_at w.memory (name.Slot 0 HEAD) ≡ None → IsQuiescent w
   never_taken w came rests none = record {
     rests = rests;
     vacant = vacant;

@@ -19,8 +19,8 @@ use Rattle.seize.specs.Sequence.{taken_in}
 use Rattle.seize_model.specs.Sets.Reclaims.{NothingWaits}
 use Rattle.seize_model.specs.declared.calls.WholeCall.TheVariants as call
 use Rattle.seize_model.specs.Alone.Alone.{History, IsMidway, IsEnded, at_rest, blocks_in, given_back}
-use Rattle.seize_acts.specs.Reclaims.AllReclaimed.{MayReclaimAll, Starts, HasCome, Tells, IsReclaiming, IsAllReclaimed, SlotsReclaimed, OnlyReclaims, all, sets_in, is_within, is_flushing}
-use Rattle.seize_acts.specs.Reclaims.Roots.{IsClearing, StandsAt}
+use Rattle.seize_acts.specs.Reclaims.AllReclaimed.{MayReclaimAll, Starts, HasCome, GivesBack, IsReclaiming, IsAllReclaimed, SlotsReclaimed, OnlyReclaims, all, sets_in, is_within, is_flushing}
+use Rattle.seize_acts.specs.Reclaims.Roots.{IsClearing, ReclaimedAtPoint}
 use Rattle.seize_model.proofs.Given.SeizeRuleRows.Leaving.{steps_back}
 use Rattle.seize_model.proofs.Sets.Reclaims.Ends.{none_closed, none_retired}
 use Rattle.seize_model.proofs.Sets.Reclaims.Rounds.{reclaimed_quiet}
@@ -82,7 +82,7 @@ module _ {T : Type 0} (defers : T → Option ℕ) (left_over : T → Bool) (batc
               (clear_first defers left_over batch_size roots m h lists may.happened may.left k.1);
         })
 
-    told : (m2 : Mem T) (given : List T) (c : ReclaimAll) (m3 : Mem T) (p : Settled T) (given2 : List T) → Tells defers left_over batch_size roots m h lists given p given2
+    told : (m2 : Mem T) (given : List T) (c : ReclaimAll) (m3 : Mem T) (p : Settled T) (given2 : List T) → GivesBack defers left_over batch_size roots m h lists given p given2
         → Comes defers left_over batch_size roots m h lists may m2 given c m3 p → Here c m3 given2
     told m2 given c m3 Goes given2 e k = subst (λ (l : List T). Here c m3 l) (sym e) k.0
     told m2 given c m3 Waits given2 e k = subst (λ (l : List T). Here c m3 l) (sym e) k.0
@@ -107,7 +107,7 @@ module _ {T : Type 0} (defers : T → Option ℕ) (left_over : T → Bool) (batc
           subst (λ (q : Settled T). Comes defers left_over batch_size roots m h lists mid.may m2 given c3 m3 q) e
           (point_on defers left_over batch_size roots m h lists mid.may c m2 given m3 (c3, result) is_point st)
 
-      one_step : (p : Settled T) → result ≡ p → (given2 : List T) → Tells defers left_over batch_size roots m h lists given p given2 → IsReclaiming defers left_over batch_size roots m h lists c3 m3 given2
+      one_step : (p : Settled T) → result ≡ p → (given2 : List T) → GivesBack defers left_over batch_size roots m h lists given p given2 → IsReclaiming defers left_over batch_size roots m h lists c3 m3 given2
       one_step p e given2 t = record {
         may = mid.may;
         steps = suc mid.steps;
@@ -168,7 +168,7 @@ module _ {T : Type 0} (defers : T → Option ℕ) (left_over : T → Bool) (batc
               record { ended = a.h4; slot = k.0; settle = k.1; stands = k.2; midway = b.0; some = b.1 }
           by (AtRoots x) =
               let z = (clear_still defers left_over batch_size roots x.middle x.between lists c m2 x.behind x.clearing m3 c3 result st going).0 in
-              absurd (subst (λ (p : Reclaiming). StandsAt x.middle lists roots p z.back) k.2 z.stands)
+              absurd (subst (λ (p : Reclaiming). ReclaimedAtPoint x.middle lists roots p z.back) k.2 z.stands)
 
 -- a flush that has reclaimed nothing, and will reclaim something, goes on
 module _ {T : Type 0} (defers : T → Option ℕ) (left_over : T → Bool) (batch_size roots : ℕ) (m1 : Mem T) (h1 : History) (c : ReclaimAll) (s : ℕ) (d : Settle) (is : c.stands ≡ at.Flushes s d)

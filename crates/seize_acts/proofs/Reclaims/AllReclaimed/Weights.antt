@@ -23,7 +23,7 @@ use Rattle.seize.specs.World.{Flush, Leave'}
 use Rattle.seize_model.specs.declared.calls.WholeCall.TheVariants as call
 use Rattle.seize_model.specs.Alone.Alone.{History}
 use Rattle.seize_acts.specs.Reclaims.AllReclaimed.{is_within, is_flushing, weight_at}
-use Rattle.seize_acts.specs.Reclaims.Roots.{StandsAt}
+use Rattle.seize_acts.specs.Reclaims.Roots.{ReclaimedAtPoint}
 use Rattle.seize_model.proofs.Ends.Settling.Most.{settle_to_go}
 use Rattle.seize_model.proofs.Ends.Rows.Lone.{leave_to_go}
 use Rattle.seize_model.proofs.Given.SeizeRuleRows.Leaving.{steps_back}
@@ -187,7 +187,7 @@ module _ {T : Type 0} (defers : T → Option ℕ) (left_over : T → Bool) (batc
   slots_lower (at.Unuses root) o x st = absurd x.row
   slots_lower at.Over o x st = absurd x.row
 
-  roots_weigh : (n : Mem T) (d : ReclaimAll) (p : Reclaiming) (back : List ℕ) → StandsAt n lists roots p back → weight_at d p ≡ clear_to_go (standing d p)
+  roots_weigh : (n : Mem T) (d : ReclaimAll) (p : Reclaiming) (back : List ℕ) → ReclaimedAtPoint n lists roots p back → weight_at d p ≡ clear_to_go (standing d p)
   roots_weigh n d (at.Roots root) back k = refl
   roots_weigh n d (at.Nexts root block) back k = refl
   roots_weigh n d (at.Takes root block next) back k = refl
@@ -230,7 +230,7 @@ module _ {T : Type 0} (defers : T → Option ℕ) (left_over : T → Bool) (batc
   less_at at.Over o f x st = absurd (cc o)
 
   -- it is not on roots
-  not_roots : (n : Mem T) (p : Reclaiming) (back : List ℕ) → is_within p ≡ true → StandsAt n lists roots p back → ⊥
+  not_roots : (n : Mem T) (p : Reclaiming) (back : List ℕ) → is_within p ≡ true → ReclaimedAtPoint n lists roots p back → ⊥
   not_roots n (at.Leaves s l) back o k = k
   not_roots n (at.Flushes s d) back o k = k
   not_roots n (at.Heads s) back o k = k

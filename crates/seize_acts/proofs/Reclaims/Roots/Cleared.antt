@@ -18,7 +18,7 @@ use Rattle.seize.specs.Further.{ListFrom}
 use Rattle.seize.specs.Law.{holds}
 use Rattle.seize.specs.World.{IsOutside, LeftTo, Use, Vacant, times}
 use Rattle.seize_model.specs.Alone.Alone.{History, IsHistory, AreValues, at_rest, blocks_in, cleared}
-use Rattle.seize_acts.specs.Reclaims.Roots.{all_lists, all_cleared, LeadsTo, LeftAt, Frees, named_at, unused_at, IsIn, IsPast, StandsAt, IsClearing, IsCleared}
+use Rattle.seize_acts.specs.Reclaims.Roots.{all_lists, all_cleared, LeadsTo, LeftAt, Frees, named_at, unused_at, IsIn, IsPast, ReclaimedAtPoint, IsClearing, IsCleared}
 use Rattle.seize_model.proofs.Given.SeizeMemoryWords.Named.{link-block}
 use Rattle.seize_model.proofs.Alone.Histories.Reached.{history_reached}
 use Rattle.seize_model.proofs.Alone.Histories.Users.{operated_history, cleared_history}
@@ -347,7 +347,7 @@ module _ {T : Type 0} (defers : T → Option ℕ) (left_over : T → Bool) (batc
       ended r block next value true e = e
       ended r block next value false e = e
 
-      comes_at : (p : Reclaiming) → StandsAt m lists roots p mid.back × Frees lists (named_at p roots) (unused_at p roots) m m2 mid.back
+      comes_at : (p : Reclaiming) → ReclaimedAtPoint m lists roots p mid.back × Frees lists (named_at p roots) (unused_at p roots) m m2 mid.back
           → Steps Took value_at m2 (plan_at defers left_over c p) m3 end → Comes (steps_at roots p) m2 given end.0 m3 end.1
       comes_at (at.Roots r) k st =
           let d = loaded m2 (root_read left_over c r) (Root r) m3 end st in
@@ -411,7 +411,7 @@ module _ {T : Type 0} (defers : T → Option ℕ) (left_over : T → Bool) (batc
     see_taken m3 r next value true = tt
     see_taken m3 r next value false = tt
 
-    may_at : (p : Reclaiming) → StandsAt m lists roots p mid.back × Frees lists (named_at p roots) (unused_at p roots) m m2 mid.back → May Can Took value_at m2 (plan_at defers left_over c p)
+    may_at : (p : Reclaiming) → ReclaimedAtPoint m lists roots p mid.back × Frees lists (named_at p roots) (unused_at p roots) m m2 mid.back → May Can Took value_at m2 (plan_at defers left_over c p)
     may_at (at.Roots r) k =
         let there = s.left.root r k.0.0 in
         let word = k.1.other_root r (omega arith) ∙ there.1 in

@@ -9,7 +9,7 @@ use Rattle.seize.specs.declared.rows.reclaim_all.Reclaiming.TheVariants as at
 use Rattle.seize.specs.ReclaimAll.{reclaiming_all, clearing, standing}
 use Rattle.seize.specs.World.{Vacant}
 use Rattle.seize_model.specs.Alone.Alone.{History, IsHistory}
-use Rattle.seize_acts.specs.Reclaims.Roots.{all_lists, LeftAt, Frees, named_at, unused_at, StandsAt, IsClearing}
+use Rattle.seize_acts.specs.Reclaims.Roots.{all_lists, LeftAt, Frees, named_at, unused_at, ReclaimedAtPoint, IsClearing}
 
 module _ {T : Type 0} (defers : T → Option ℕ) (left_over : T → Bool) (batch_size roots : ℕ) (m : Mem T) (h : History) (lists : ℕ → List ℕ) where
   -- it begins with the first root, if there is one
@@ -46,7 +46,7 @@ module _ {T : Type 0} (defers : T → Option ℕ) (left_over : T → Bool) (batc
         other_used = λ r le. refl;
       }
 
-      by : (p : Reclaiming) → IsFirst p → StandsAt m lists roots p [] × (named_at p roots ≡ 0) × (unused_at p roots ≡ 0)
+      by : (p : Reclaiming) → IsFirst p → ReclaimedAtPoint m lists roots p [] × (named_at p roots ≡ 0) × (unused_at p roots ≡ 0)
       by (at.Roots r) k = let e = k.0 in let some = k.1 in ((omega (arith, e, some), sym (ap (all_lists lists) e)), e, e)
       by at.Over k = (sym (ap (all_lists lists) k), k, k)
       by (at.Heads slot) k = absurd k

@@ -26,7 +26,7 @@ use denote.Triple.Walked.{Stays, stay_dropped, walk_of, Goes-dropped}
 use Rattle.core.proofs.atomic.Steps.{Ptr-Good}
 use Rattle.std.specs.contracts.marker.PhantomData as marker
 use Rattle.std.proofs.raw_atomic.Walks.{proved, leaves}
-use Rattle.seize_seats.specs.Seats.Owned.{BaseId, strip_told}
+use Rattle.seize_seats.specs.Seats.Owned.{BaseId, strip_known}
 use Rattle.seize_seats.specs.contracts.kept.Kept as kept_of
 use Rattle.seize_atoms.specs.contracts.strip.Strip as strip
 use Rattle.seize_seats.specs.contracts.place.ValuePlaces as place
@@ -52,7 +52,7 @@ places_in_spec 𝓤 𝓛 𝓜 𝓡 wired T L =
     qed 𝓛 (((‵ (flft κs.0 qs.0) ⊛ ‵ others) ⊛ ‵ (owns (types_at En.signature.params κs) a y.0.4)) ∷ raw (fact 𝓤 _) ∷ raw (emp 𝓤) ∷ []) ∵
     keep ! (0 ∷ []) $ split ! $ split ! $ move ! (2 ∷ []) $ fsplit ! $ fsplit ! $ keep ! (1 ∷ 3 ∷ 4 ∷ []) $
     enter ! 𝓣.C 𝓣.Λ fn (vptr b o ∷ []) Post $ alloc_all ! (λ l. pass_all ! refl ((tt, tt), tt) $
-    use1 𝓛 (‵ (hidden_shr D κ (p, (tt, tt)) b o) ⊛ ‵ (fhide (strip_told (kept_of.the_row R) p z)))
+    use1 𝓛 (‵ (hidden_shr D κ (p, (tt, tt)) b o) ⊛ ‵ (fhide (strip_known (kept_of.the_row R) p z)))
     (lent_out 𝓛 (strip.struct R) (strip.the_codes T.Denot R.coded (marker.the_row R).coded) (strip.the_heap R) (strip.the_lent R) κ t b o) $
     split ! $ move ! (1 ∷ []) $ drop ! $
     -- [the address; the token; the others]

@@ -111,7 +111,7 @@ module _ {T : Type 0} {size : ℕ} (defers : T → Option ℕ) (w : World T) (go
   defer_pushed : (s : ℕ) (c : Defer) (head : ℕ) → Linked_to (LAST_SLOT + 1) i (view defers w.memory) good.state good.extra s c.block c.table_word head → (m2 : Mem T) (end : Defer × Advance Unit)
       → Steps Took value_at w.memory (defer.plan_at c (deferring.Pushes head)) m2 end → Framed m2 []
   defer_pushed s c head r m2 end st =
-      elim (exchanged w.memory (defer.push_told c) c.table_word head c.block m2 end st) as (λ _. Framed m2 []) [
+      elim (exchanged w.memory (defer.after_push c) c.table_word head c.block m2 end st) as (λ _. Framed m2 []) [
         | inl d ↦
             let some : IsSome (word_at w.memory (Word r.on.t r.on.d)) = rw (sym (ap (λ (a : At). word_at w.memory a) r.on.at_is) ∙ d.1.0) refl in
             subst (λ (m : Mem T). Framed m []) (sym (d.2 ∙ ap (λ (a : At). with_word w.memory a c.block) r.on.at_is)) (

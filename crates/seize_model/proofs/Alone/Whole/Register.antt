@@ -19,7 +19,7 @@ use Rattle.seize.specs.Law.{Effect, Entered}
 use Rattle.seize.specs.WaitingSets.{Change, Enters}
 use Rattle.seize.specs.World.{World, Rests, Registers, Use, Inside, Outside, Hand, Register', Steps', with_at, register_effects, handed_by, registers_on}
 use Rattle.seize.specs.Sequence.{RunsOn, new_slot, changes}
-use Rattle.seize_model.specs.Alone.Alone.{History, IsHistory, at_rest, registered, IsRefusal, TakesSteps, TellsSlot}
+use Rattle.seize_model.specs.Alone.Alone.{History, IsHistory, at_rest, registered, IsRefusal, TakesSteps, RegisteringAnswers}
 use Rattle.seize_rule.proofs.World.Rested.{Lone, steps_lone}
 use Rattle.seize_rule.proofs.World.Kept.{row_may}
 use Rattle.seize_model.proofs.Sets.Slots.Registers.{use_taken, WhyRefused, LooksAt, RegistersOn, Comes, GoesOn, IsRefused, TakesFirst, registers_alone}
@@ -185,7 +185,7 @@ module _ {T : Type 0} (defers : T → Option ℕ) (batch_size roots : ℕ) (m : 
     register_waits m3 c3 st = absurd (fits m3 (c3, Waits) st)
 
     -- it has taken a slot
-    pub register_takes : (m3 : Mem T) (c3 : Register) (s : ℕ) → Steps Took value_at m2 (register_plan c) m3 (c3, Done s) → TellsSlot defers batch_size roots m3 enters h (Ok s)
+    pub register_takes : (m3 : Mem T) (c3 : Register) (s : ℕ) → Steps Took value_at m2 (register_plan c) m3 (c3, Done s) → RegisteringAnswers defers batch_size roots m3 enters h (Ok s)
     register_takes m3 c3 s st =
         let effects : register_effects c c.stands ≡ (if enters then Entered s ∷ [] else []) = fits m3 (c3, Done s) st in
         let k = by (comes m3 (c3, Done s) st) in
@@ -207,7 +207,7 @@ module _ {T : Type 0} (defers : T → Option ℕ) (batch_size roots : ℕ) (m : 
             subst (λ (t : ℕ). (new_slot h.uses ≡ Some t) × (v.uses ≡ with_at h.uses t (use_taken enters))) (sym p) (first, same)
 
     -- it is refused
-    pub register_refused : (m3 : Mem T) (c3 : Register) (fault : Fault) → Steps Took value_at m2 (register_plan c) m3 (c3, Refused fault) → TellsSlot defers batch_size roots m3 enters h (Err fault)
+    pub register_refused : (m3 : Mem T) (c3 : Register) (fault : Fault) → Steps Took value_at m2 (register_plan c) m3 (c3, Refused fault) → RegisteringAnswers defers batch_size roots m3 enters h (Err fault)
     register_refused m3 c3 fault st =
         let e : at_rest defers m3 h ≡ registers_on (registering m2 c) 0 c m3 (c3, Refused fault) =
         λ i. record { memory = m3; row = sym (rests_anew (Registers c)) i; uses = h.uses; hand = h.hand; log = h.log } in (
@@ -244,8 +244,8 @@ register_fewer m m2 c c2 p e st = register_ends m c m2 (c2, p) st (under p e)
 abbrev pub Tells : {T : Type 0} → (T → Option ℕ) → ℕ → ℕ → Mem T → Bool → History → Advance ℕ → Type 0
 Tells defers batch_size roots m enters h Goes = Unit {0}
 Tells defers batch_size roots m enters h Waits = Unit {0}
-Tells defers batch_size roots m enters h (Done s) = TellsSlot defers batch_size roots m enters h (Ok s)
-Tells defers batch_size roots m enters h (Refused fault) = TellsSlot defers batch_size roots m enters h (Err fault)
+Tells defers batch_size roots m enters h (Done s) = RegisteringAnswers defers batch_size roots m enters h (Ok s)
+Tells defers batch_size roots m enters h (Refused fault) = RegisteringAnswers defers batch_size roots m enters h (Err fault)
 
 module _ {T : Type 0} (defers : T → Option ℕ) (batch_size roots : ℕ) (m : Mem T) (h : History) (had : IsHistory defers batch_size roots m h) (enters : Bool)
     (m2 : Mem T) (c : Register) (mid : RegistersStill defers batch_size roots m h had enters m2 c) (m3 : Mem T) (c3 : Register) where

@@ -85,7 +85,7 @@ module _ {T : Type 0} (defers : T → Option ℕ) (c : Settle) where
   reads block left pushed (Found w) = (refl, tt)
   reads block left pushed _ = (refl, tt)
 
-  pushes : (block left pushed slot : ℕ) (out : Out T) → Outcomes Held (plans.push_told c block left pushed slot out)
+  pushes : (block left pushed slot : ℕ) (out : Out T) → Outcomes Held (plans.after_push c block left pushed slot out)
   pushes block left pushed slot (Exchanged (Ok w)) = (refl, tt)
   pushes block left pushed slot (Exchanged (Err w)) = if_outcome Held (plans.needs_none c w) _ _ (refl, tt) (refl, tt)
   pushes block left pushed slot _ = (refl, tt)

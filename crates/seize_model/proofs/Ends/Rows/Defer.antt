@@ -13,7 +13,7 @@ use Rattle.seize.specs.declared.advance.Advance.TheVariants.{Goes, Done}
 use Rattle.seize.specs.declared.rows.defer.Defer.{Defer}
 use Rattle.seize.specs.declared.rows.defer.Deferring.{Deferring}
 use Rattle.seize.specs.declared.rows.defer.Deferring.TheVariants as at
-use Rattle.seize.specs.Defer.{defer_plan, plan_at, head_read, push_told, goes, standing}
+use Rattle.seize.specs.Defer.{defer_plan, plan_at, head_read, after_push, goes, standing}
 use Rattle.seize.specs.World.{World, Row, Defers}
 use Rattle.seize_rule.proofs.Given.SeizeMemoryWords.Named.{words_of, has, word_found, wrote, write_apart}
 use Rattle.seize_rule.proofs.Given.SeizeMemoryWords.View.{view}
@@ -85,7 +85,7 @@ module _ {T : Type 0} {size : ℕ} (defers : T → Option ℕ) (n : ℕ) (w : Wo
       let k = pushes_less (words_of w.memory c.table_word) head in
       goes_lower mem2 (at.Pushes head) end (to_go (words_of w.memory c.table_word) (at.Links head)) d.1 (rw e k)
   at_point (at.Pushes head) r mem2 end st =
-      elim (exchanged w.memory (push_told c) c.table_word head c.block mem2 end st) as (λ _. Lower (to_go (words_of w.memory c.table_word) (at.Pushes head)) mem2 end) [
+      elim (exchanged w.memory (after_push c) c.table_word head c.block mem2 end st) as (λ _. Lower (to_go (words_of w.memory c.table_word) (at.Pushes head)) mem2 end) [
         | inl d ↦ goes_lower mem2 at.Over end (to_go (words_of w.memory c.table_word) (at.Pushes head)) d.3 (pushes_some (words_of w.memory c.table_word) head)
         | inr d ↦
             (let found = word_found w.memory c.table_word d.0 d.1.0 in

@@ -225,7 +225,7 @@ module _ {T : Type 0} (defers : T → Option ℕ) (n i : ℕ) (mem mem2 : Mem T)
   pub pushes_falls : (block left pushed slot head : ℕ) → 0 < left → Steps Took value_at mem (plans.pushes c block left pushed slot head) mem2 end → after < before (at.Pushes block left pushed slot head)
   pushes_falls block left pushed slot head some st =
       let k = at_least (eqb ((view defers mem).heads slot) head) in
-      elim (exchanged mem (plans.push_told c block left pushed slot) (Slot slot HEAD) head block mem2 end st) as (λ _. after < before (at.Pushes block left pushed slot head)) [
+      elim (exchanged mem (plans.after_push c block left pushed slot) (Slot slot HEAD) head block mem2 end st) as (λ _. after < before (at.Pushes block left pushed slot head)) [
         | inl d ↦ to (before (at.Pushes block left pushed slot head)) (plans.standing c (plans.pushed_of block left ((pushed + 1) % 2 ^ 64))) Goes d.3
             (pushed_of_falls block left ((pushed + 1) % 2 ^ 64) (before (at.Pushes block left pushed slot head)) some (omega (arith, k)) (omega (arith, k, some)))
         | inr d ↦ let word = word_found mem (Slot slot HEAD) d.0 d.1.0 in

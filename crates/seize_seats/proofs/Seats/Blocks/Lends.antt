@@ -24,12 +24,12 @@ use denote.RawPtr.{Ptr, block_of, count_of}
 use denote.Steps.{nothing}
 use Rattle.core.specs.contracts.option.Option.{the_row as OptionOf}
 use Rattle.seize_words.specs.OneMemory.Mem.{value_in}
-use Rattle.seize_seats.specs.Seats.Errands.{Sight, coded_of}
+use Rattle.seize_seats.specs.Seats.Errands.{ViewCode, coded_of}
 use Rattle.seize_seats.specs.Seats.State.{State}
 use Rattle.seize_seats.specs.Seats.Cells.{Body, Cell, Has, block_in}
 use Rattle.seize_seats.specs.Seats.Seen.{shared_view, number_share_coded}
-use Rattle.seize_seats.specs.Seats.Stretches.{stretch_told, seat_shares}
-use Rattle.seize_seats.specs.Seats.Lendings.{Phase, Begins, Lasts, Over as Ended, part, due, in_phase, account, Holder, Lending, Loan, Left, span, Witness, Bears, ShownBy, AreShown, IsValueSo, witnessed, loan}
+use Rattle.seize_seats.specs.Seats.Stretches.{stretch_shared, seat_shares}
+use Rattle.seize_seats.specs.Seats.Lendings.{Phase, Begins, Lasts, Over as Ended, part, due, in_phase, account, Holder, Lending, Loan, Left, span, Witness, Bears, VisibleByWitness, AreShown, IsValueSo, witnessed, loan}
 use Rattle.seize_seats.specs.Seats.Owned.{Pieces, stride, BaseId, age, IsIts, Inside, state_of, inner, words_share}
 use Rattle.seize_seats.proofs.Seats.Places.Cells.{block_is}
 use Rattle.seize_seats.proofs.Seats.Views.Ledgers as Ledgers
@@ -81,8 +81,8 @@ module _ {M : Type 1} {𝓤 : Ura M} (𝓛 : Logic 𝓤) where
     lasts = via 𝓤 _ (qed 𝓛 (‵ (finv Ac) ∷ ‵ Pt ∷ ‵ Due ∷ []) ∵ frame ! $ assume ! (‵ Ac) $ fpick ! (λ ph. by ! (by_phase ph)))
         (𝓛.invs.inv_acc Ac (A.lft μ s))
 
-  module _ (R : RattleType) (L : RowLaws (OptionOf R)) (own : Pieces R.Denot) {V W : Type 0} (cv : Sight V) (holds : State R.Denot V W → Type 0) (keeps : V → V → W → ℕ
-      → Type 0) (p : Ptr) (z : BaseId) (g o : Holder V) (says : Witness V) (n : ℕ) (shown : ShownBy holds g.seat g.view o.seat o.view says n)
+  module _ (R : RattleType) (L : RowLaws (OptionOf R)) (own : Pieces R.Denot) {V W : Type 0} (cv : ViewCode V) (holds : State R.Denot V W → Type 0) (keeps : V → V → W → ℕ
+      → Type 0) (p : Ptr) (z : BaseId) (g o : Holder V) (says : Witness V) (n : ℕ) (shown : VisibleByWitness holds g.seat g.view o.seat o.view says n)
       (mine : Makings.Mine 𝓛 R own cv holds keeps p z n) (By : Fml) (also : State R.Denot V W → Type 0) (there : (t : Inside R.Denot V W)
       → ⟦ Makings.Led 𝓛 R own cv holds keeps p z t ⟧ ∗ ⟦ By ⟧ ⊢ guard 𝓤 (also (state_of z t)) (⟦ Makings.Led 𝓛 R own cv holds keeps p z t ⟧ ∗ ⟦ By ⟧)) where
     abbrev α : Lft
@@ -121,7 +121,7 @@ module _ {M : Type 1} {𝓤 : Ura M} (𝓛 : Logic 𝓤) where
     Wd = witnessed R α cv.code z.views_name holds says
 
     abbrev Told_two : Fml
-    Told_two = fsep (stretch_told cv.code z.views_name g.seat g.view g.stretch g.mark) (stretch_told cv.code z.views_name o.seat o.view o.stretch o.mark)
+    Told_two = fsep (stretch_shared cv.code z.views_name g.seat g.view g.stretch g.mark) (stretch_shared cv.code z.views_name o.seat o.view o.stretch o.mark)
 
     abbrev Told : Fml
     Told = fsep Told_two Wd
@@ -198,7 +198,7 @@ module _ {M : Type 1} {𝓤 : Ura M} (𝓛 : Logic 𝓤) where
               let so : So x = ((state_of z st, sound.0, at.0.0, at.0.1, at.2, is), low, of) in
               let one : suc i ≡ n = omega (arith, low) in
               let shows : Are = (
-                subst (λ (k : ℕ). ShownBy holds g.seat g.view o.seat o.view says k)
+                subst (λ (k : ℕ). VisibleByWitness holds g.seat g.view o.seat o.view says k)
                     (sym one) shown,
                 two_or_one st at (cases_eq g.seat o.seat),
               ) in

@@ -18,10 +18,10 @@ use Rattle.seize_words.specs.OneMemory.Op.{Make, Take, Made, Taken}
 use Rattle.seize_words.specs.OneMemory.Op as Op
 use Rattle.seize_words.specs.declared.block.Block.{Block}
 use Rattle.seize_seats.specs.Seats.State.{State, Goes, Allows}
-use Rattle.seize_seats.specs.Seats.Lendings.{Witness, ShownBy}
+use Rattle.seize_seats.specs.Seats.Lendings.{Witness, VisibleByWitness}
 use Rattle.seize_seats.specs.Seats.Cells.{Body, Cell, Free, Claimed, Out, Has, Held, block_in, blocks_in, cell_at, sign_of}
 use Rattle.seize_seats.specs.Seats.Lines.{Parts, memory_of, AreLaid}
-use Rattle.seize_seats.specs.Seats.Errands.{Sight, StaysSo, StayAllSo}
+use Rattle.seize_seats.specs.Seats.Errands.{ViewCode, StaysSo, StayAllSo}
 use Rattle.seize_seats.specs.Seats.Owned.{Pieces, fact, sitting, claim_owns, Hand, hand_coded, resting, busy, held, zeros, row, stride, hand, inside, offered, lent_here, BaseId, age, IsIts, Inside, state_of, standing, inner}
 use Rattle.seize_seats.proofs.Seats.Places.Cells.{recelled, laid_same, laid_with, block_is, blocks_made, blocks_set, cell_beyond}
 use Rattle.seize_seats.proofs.Seats.Places.Numbers as Numbers
@@ -30,7 +30,7 @@ use Rattle.seize_seats.proofs.Seats.Stepping.Moves as Moves
 use Rattle.seize_seats.proofs.Seats.Views.Hands as Hands
 use Rattle.seize_seats.proofs.Seats.Views.Known as Known
 
-module _ {M : Type 1} {𝓤 : Ura M} (𝓛 : Logic 𝓤) (R : RattleType) (own : Pieces R.Denot) {V W : Type 0} (cv : Sight V) (holds : State R.Denot V W → Type 0) (keeps : V → V → W → ℕ
+module _ {M : Type 1} {𝓤 : Ura M} (𝓛 : Logic 𝓤) (R : RattleType) (own : Pieces R.Denot) {V W : Type 0} (cv : ViewCode V) (holds : State R.Denot V W → Type 0) (keeps : V → V → W → ℕ
     → Type 0) (p : Ptr) (z : BaseId) where
   open 𝓛 use {H, A}
 
@@ -416,12 +416,12 @@ module _ {M : Type 1} {𝓤 : Ura M} (𝓛 : Logic 𝓤) (R : RattleType) (own :
 
   -- that is of no block which the views of other seats show
   pub held_away : (n : ℕ) (t : In) → Mine n → Sound t → HeldBlock n t → (j : ℕ) (v : V) (k : ℕ) (u : V) (y : Witness V) (S : Fml)
-      → Hands.Shows 𝓛 R own cv holds p z j v k u y S → Hands.Crowds 𝓛 R own cv holds p z j v k u y S → (Z : Pr) → ShownBy holds j v k u y n
+      → Hands.Shows 𝓛 R own cv holds p z j v k u y S → Hands.Crowds 𝓛 R own cv holds p z j v k u y S → (Z : Pr) → VisibleByWitness holds j v k u y n
       → ⟦ Ws t.parts.words t.parts.cells ⟧ ∗ ⟦ Led t ⟧ ∗ ⟦ S ⟧ ⊢ Z
   held_away n t mine sound h j v k u y S shows crowds Z shown =
       let i : ℕ = n - 1 in let ρ : ℕ = h.0 in let x : Body R.Denot = h.2 in let ws : List ℕ = h.3 in let c : Cell R.Denot = Held ρ h.1 x ws in let low = h.5 in
       let cs : List (Cell R.Denot) = t.parts.cells in let of = is_mine n t c mine sound.1 h.4 (λ e. absurd (cc e)) low in
-      let one : n ≡ suc i = omega (arith, low) in let here : ShownBy holds j v k u y (suc i) = subst (λ (m : ℕ). ShownBy holds j v k u y m) one shown in
+      let one : n ≡ suc i = omega (arith, low) in let here : VisibleByWitness holds j v k u y (suc i) = subst (λ (m : ℕ). VisibleByWitness holds j v k u y m) one shown in
       qed 𝓛 (‵ (Ws t.parts.words cs) ∷ ‵ (Led t) ∷ ‵ S ∷ []) ∵
       use1 𝓛 (‵ (cell_of i c) ⊛ raw (all 𝓤 (Recells t i))) (Numbers.celled 𝓛 R p z lent had t.parts.words cs i c of h.4) $ split ! $
       fsplit ! $ move ! (1 ∷ []) $ fsplit3 ! $ move ! (2 ∷ []) $ fsplit ! $

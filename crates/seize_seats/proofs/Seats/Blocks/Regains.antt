@@ -17,12 +17,12 @@ use denote.RattleType.{RattleType}
 use denote.RawPtr.{Ptr}
 use denote.Steps.{nothing}
 use Rattle.seize_words.specs.OneMemory.Mem.{value_in}
-use Rattle.seize_seats.specs.Seats.Errands.{Sight, coded_of}
+use Rattle.seize_seats.specs.Seats.Errands.{ViewCode, coded_of}
 use Rattle.seize_seats.specs.Seats.State.{State}
 use Rattle.seize_seats.specs.Seats.Cells.{Cell, Free, Claimed, Out, Has, Held, block_in, cell_at}
 use Rattle.seize_seats.specs.Seats.Seen.{seen}
-use Rattle.seize_seats.specs.Seats.Stretches.{IsEven, IsOfSeat, stretch_part, lasting, stretch, stretch_told}
-use Rattle.seize_seats.specs.Seats.Lendings.{Holder, Lending, Witness, ShownBy, AreShown, witnessed, span, lending}
+use Rattle.seize_seats.specs.Seats.Stretches.{IsEven, IsOfSeat, stretch_part, lasting, stretch, stretch_shared}
+use Rattle.seize_seats.specs.Seats.Lendings.{Holder, Lending, Witness, VisibleByWitness, AreShown, witnessed, span, lending}
 use Rattle.seize_seats.specs.Seats.Owned.{Pieces, Hand, busy, held, BaseId, age, core_of, IsIts, is_listed, Inside, state_of, inner, everything}
 use Rattle.seize_seats.proofs.Seats.Places.Cells.{block_is}
 use Rattle.seize_seats.proofs.Seats.Views.Stretches.{one_seat}
@@ -51,7 +51,7 @@ three i j n m k P Q S ne e o u =
       ((λ in_it. Or.elim ⊥_prop ((mem-cons {a = m} {b = k} {l = []}).0 in_it) other (λ x. not-mem-nil x)), ((λ x. not-mem-nil x), tt)),
     )
 
-module _ {M : Type 1} {𝓤 : Ura M} (𝓛 : Logic 𝓤) (R : RattleType) (own : Pieces R.Denot) {V W : Type 0} (cv : Sight V) (holds : State R.Denot V W → Type 0) (keeps : V → V → W → ℕ
+module _ {M : Type 1} {𝓤 : Ura M} (𝓛 : Logic 𝓤) (R : RattleType) (own : Pieces R.Denot) {V W : Type 0} (cv : ViewCode V) (holds : State R.Denot V W → Type 0) (keeps : V → V → W → ℕ
     → Type 0) (p : Ptr) (z : BaseId) (i : ℕ) where
   open 𝓛 use {H, A}
 
@@ -116,7 +116,7 @@ module _ {M : Type 1} {𝓤 : Ura M} (𝓛 : Logic 𝓤) (R : RattleType) (own :
   Crowds g o says S = Hands.Crowds 𝓛 R own cv holds p z g.seat g.view o.seat o.view says S
 
   abbrev Shown : Holder V → Holder V → Witness V → Type 0
-  Shown g o says = ShownBy holds g.seat g.view o.seat o.view says (suc i)
+  Shown g o says = VisibleByWitness holds g.seat g.view o.seat o.view says (suc i)
 
   abbrev Wd : Witness V → Fml
   Wd = witnessed R α cv.code z.views_name holds
@@ -142,7 +142,7 @@ module _ {M : Type 1} {𝓤 : Ura M} (𝓛 : Logic 𝓤) (R : RattleType) (own :
       Lasts h y = lasting cv.code z.views_name h.seat h.view h.stretch h.mark y
 
       abbrev Told : Holder V → Fml
-      Told h = stretch_told cv.code z.views_name h.seat h.view h.stretch h.mark
+      Told h = stretch_shared cv.code z.views_name h.seat h.view h.stretch h.mark
 
       abbrev Over : Lft
       Over = span α g o
@@ -253,7 +253,7 @@ module _ {M : Type 1} {𝓤 : Ura M} (𝓛 : Logic 𝓤) (R : RattleType) (own :
 
       dies : (a : ℕ) (l : Lending V) → Having ∗ ⟦ One a l ⟧ ⊢ H.⇛ (Having ∗ A.dead (span α l.guard l.owner) ∗ ⟦ One a l ⟧)
       dies a l = let g : Holder V = l.guard in let o : Holder V = l.owner in
-          let T : Holder V → Fml = λ h. stretch_told cv.code z.views_name h.seat h.view h.stretch h.mark in
+          let T : Holder V → Fml = λ h. stretch_shared cv.code z.views_name h.seat h.view h.stretch h.mark in
           let St : Holder V → Fml = λ h. stretch cv.code z.views_name h.seat h.view h.stretch h.mark in
           let says : Witness V = l.witness in let Hx : Fml = fsep Hd (Wd says) in
           let Are : Type 0 = AreShown R α cv.code z.views_name holds i g o says in let Over : Lft = span α g o in

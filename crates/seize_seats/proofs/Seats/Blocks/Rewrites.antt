@@ -20,7 +20,7 @@ use Rattle.seize_words.specs.OneMemory.Mem.{Mem, value_at, value_in, with_block,
 use Rattle.seize_words.specs.OneMemory.Op.{Rewrite, Taken}
 use Rattle.seize_words.specs.OneMemory.Op as Op
 use Rattle.seize_words.specs.declared.block.Block.{Block}
-use Rattle.seize_seats.specs.Seats.Errands.{Sight, StayAllSo}
+use Rattle.seize_seats.specs.Seats.Errands.{ViewCode, StayAllSo}
 use Rattle.seize_seats.specs.Seats.State.{State, Goes, Allows, Owns}
 use Rattle.seize_seats.specs.Seats.State as State
 use Rattle.seize_seats.specs.Seats.Cells.{Body, Cell, Free, Claimed, Out, Has, Held, block_in, blocks_in, cell_at}
@@ -72,7 +72,7 @@ owns_alone {T} {V} {W} holds keeps id v n own t i w j u y so at ne nf aside here
     (bears_on t.views id g.0 y aside bears) in
     let none = emptied t.memory n in absurd (cc (subst IsSome none some))
 
-module _ {M : Type 1} {𝓤 : Ura M} (𝓛 : Logic 𝓤) (R : RattleType) (own : Pieces R.Denot) {V W : Type 0} (cv : Sight V) (holds : State R.Denot V W → Type 0) (keeps : V → V → W → ℕ
+module _ {M : Type 1} {𝓤 : Ura M} (𝓛 : Logic 𝓤) (R : RattleType) (own : Pieces R.Denot) {V W : Type 0} (cv : ViewCode V) (holds : State R.Denot V W → Type 0) (keeps : V → V → W → ℕ
     → Type 0) (p : Ptr) (z : BaseId) where
   open 𝓛 use {H, A}
 

@@ -16,9 +16,9 @@ use denote.Steps.{nothing}
 use Rattle.core.specs.contracts.option.Option.{the_row as OptionOf}
 use Rattle.seize_seats.specs.Seats.State.{State, view_of, Testifies}
 use Rattle.seize_seats.specs.Seats.Lines.{AreLaid}
-use Rattle.seize_seats.specs.Seats.Errands.{Sight, coded_of}
+use Rattle.seize_seats.specs.Seats.Errands.{ViewCode, coded_of}
 use Rattle.seize_seats.specs.Seats.Stretches.{seat_shares}
-use Rattle.seize_seats.specs.Seats.Lendings.{Holder, ShownBy, IsValueSo}
+use Rattle.seize_seats.specs.Seats.Lendings.{Holder, VisibleByWitness, IsValueSo}
 use Rattle.seize_seats.specs.Seats.Owned.{Pieces, sitting, age, stride, BaseId, IsIts, IsPlaced, Inside, state_of, standing, inner, words_share, seen}
 use Rattle.seize_seats.proofs.Seats.Views.Ledgers as Ledgers
 use Rattle.seize_seats.proofs.Seats.Views.Sitters as Sitters
@@ -28,7 +28,7 @@ use Rattle.seize_seats.proofs.Seats.Stepping.Moves as Moves
 use Rattle.seize_seats.proofs.Seats.Blocks.Makings as Makings
 use Rattle.seize_seats.proofs.Seats.Blocks.Lends as Lends
 
-module _ {M : Type 1} {𝓤 : Ura M} (𝓛 : Logic 𝓤) (R : RattleType) (L : RowLaws (OptionOf R)) (own : Pieces R.Denot) {V W : Type 0} (cv : Sight V)
+module _ {M : Type 1} {𝓤 : Ura M} (𝓛 : Logic 𝓤) (R : RattleType) (L : RowLaws (OptionOf R)) (own : Pieces R.Denot) {V W : Type 0} (cv : ViewCode V)
     (holds : State R.Denot V W → Type 0) (keeps : V → V → W → ℕ → Type 0) (p : Ptr) (z : BaseId) (i : ℕ) (v : V) (g o : Holder V) (x : V) (home : cv.away x ≡ None)
     (law : Testifies holds i v g.seat g.view o.seat o.view x) where
   open 𝓛 use {H, A}
@@ -91,7 +91,7 @@ module _ {M : Type 1} {𝓤 : Ura M} (𝓛 : Logic 𝓤) (R : RattleType) (L : R
       fpack ! In (standing R own cv holds p z) n $ frame ! $ move ! (1 ∷ 0 ∷ []) $ frame ! $
       fpack ! ℕ (λ id. Moves.seat 𝓛 R own cv holds keeps p z id x) (length t.views) $ done !))))
 
-  module _ (n : ℕ) (shown : (id : ℕ) → ShownBy holds g.seat g.view o.seat o.view (Some (id, x)) n) (mine : Makings.Mine 𝓛 R own cv holds keeps p z n) (κ : Lft) where
+  module _ (n : ℕ) (shown : (id : ℕ) → VisibleByWitness holds g.seat g.view o.seat o.view (Some (id, x)) n) (mine : Makings.Mine 𝓛 R own cv holds keeps p z n) (κ : Lft) where
     -- it is the block's value, in a state in which all three know what they know, and the number is one of the strip
     abbrev pub So : R.Denot → Type 0
     So d = IsValueSo holds g.seat g.view o.seat o.view (λ s. view_of s i ≡ Some v) n d × (0 < n) × IsIts z (n - 1)

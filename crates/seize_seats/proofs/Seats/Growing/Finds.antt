@@ -12,7 +12,7 @@ use denote.RawPtr.{Ptr, block_ptr, block_of, count_of, at_block, InBlock}
 use denote.Steps.{nothing}
 use Rattle.core.specs.Sync.RawAtomic.Pointer.{cell, asks_ptr}
 use Rattle.core.proofs.raw_atomic.Asked.{borrowed_ptr, PtrLies}
-use Rattle.seize_seats.specs.Seats.Errands.{Sight}
+use Rattle.seize_seats.specs.Seats.Errands.{ViewCode}
 use Rattle.seize_seats.specs.Seats.State.{State}
 use Rattle.seize_seats.specs.Seats.Seen.{fact, seen}
 use Rattle.seize_seats.specs.Seats.Cells.{Cell, Free, cell_at}
@@ -20,7 +20,7 @@ use Rattle.seize_seats.specs.Seats.Lines.{memory_of, AreLaid}
 use Rattle.seize_seats.specs.Seats.Strips.{Strip, strip_coded, no_strip, further, AreStrips}
 use Rattle.seize_seats.specs.Seats.Doors.{IsFurther, right_to, stays, behind, door}
 use Rattle.seize_seats.specs.Seats.Stretches.{IsEven}
-use Rattle.seize_seats.specs.Seats.Lendings.{ShownToAll}
+use Rattle.seize_seats.specs.Seats.Lendings.{VisibleToThree}
 use Rattle.seize_seats.specs.Seats.Owned.{Pieces, ground, ledger, sitting, unborn, hand_coded, resting, strips, doors_of, BaseId, Inside, age, core_of, book_of, strip_of, is_listed, state_of, lent_here, had_here, everything, told}
 use Rattle.seize_seats.proofs.Seats.Views.Stretches as Stretches
 use Rattle.seize_seats.proofs.Seats.Views.Ledgers as Ledgers
@@ -47,7 +47,7 @@ is_there [] i some = absurd (some refl)
 is_there (c ∷ cs) zero some = omega arith
 is_there (c ∷ cs) (suc i) some = let r = is_there cs i some in omega (arith, r)
 
-module _ {M : Type 1} {𝓤 : Ura M} (𝓛 : Logic 𝓤) (R : RattleType) (own : Pieces R.Denot) {V W : Type 0} (cv : Sight V) (holds : State R.Denot V W → Type 0) (keeps : V → V → W → ℕ
+module _ {M : Type 1} {𝓤 : Ura M} (𝓛 : Logic 𝓤) (R : RattleType) (own : Pieces R.Denot) {V W : Type 0} (cv : ViewCode V) (holds : State R.Denot V W → Type 0) (keeps : V → V → W → ℕ
     → Type 0) (p : Ptr) (z : BaseId) where
   open 𝓛 use {H, A}
 
@@ -109,7 +109,7 @@ module _ {M : Type 1} {𝓤 : Ura M} (𝓛 : Logic 𝓤) (R : RattleType) (own :
 
   -- These are the words of the first strip. The views of three seats show the block, whose index is none of those that come before the strip of the j-th door.
   module _ (first : z.place ≡ 0) (whole : z.size ≡ z.least) (q : Share) (j e : ℕ) (few : j < 32) (at : e ≡ j * 8 + o) (h : ℕ) (d : V) (i : ℕ) (v : V) (k : ℕ) (u : V) (n : ℕ)
-      (shown : ShownToAll holds h d i v k u n) (low : z.least * 2 ^ j ≤ n - 1) (r f f' : Share) where
+      (shown : VisibleToThree holds h d i v k u n) (low : z.least * 2 ^ j ≤ n - 1) (r f f' : Share) where
     abbrev pub Sn : Fml
     Sn = Hands.three 𝓛 R own cv holds p z i v k u h d r f f'
 

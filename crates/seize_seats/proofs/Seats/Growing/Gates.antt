@@ -17,7 +17,7 @@ use Rattle.seize_words.specs.OneMemory.Place.{capacity}
 use Rattle.seize_words.specs.OneMemory.Mem.{word_at}
 use Rattle.seize_words.specs.declared.at.At.TheVariants.{Slot}
 use Rattle.seize_words.proofs.OneMemory.Places.Words.{capacity_le_capacity, capacity-one_to_one}
-use Rattle.seize_seats.specs.Seats.Errands.{Sight}
+use Rattle.seize_seats.specs.Seats.Errands.{ViewCode}
 use Rattle.seize_seats.specs.Seats.State.{State, view_of}
 use Rattle.seize_seats.specs.Seats.Seen.{seen}
 use Rattle.seize_seats.specs.Seats.Lines.{long, memory_of, AreSlots, AreLaid}
@@ -25,7 +25,7 @@ use Rattle.seize_seats.specs.Seats.Strips.{Strip, strip_coded, no_strip}
 use Rattle.seize_seats.specs.Seats.Doors.{stays, behind, door}
 use Rattle.seize_seats.specs.Seats.Buckets.{bucket_at, IsBucket, AreBuckets}
 use Rattle.seize_seats.specs.Seats.Stretches.{IsEven}
-use Rattle.seize_seats.specs.Seats.Owned.{Pieces, row, lines, ledger, sitting, bucket_right, Core, gates, ground_of, ground, all_strips, BaseId, Inside, age, core_of, book_of, state_of, bucket_told, lent_here, had_here, standing_in, everything, told}
+use Rattle.seize_seats.specs.Seats.Owned.{Pieces, row, lines, ledger, sitting, bucket_right, Core, gates, ground_of, ground, all_strips, BaseId, Inside, age, core_of, book_of, state_of, bucket_known, lent_here, had_here, standing_in, everything, told}
 use Rattle.seize_seats.proofs.Seats.Views.Stretches as Stretches
 use Rattle.seize_seats.proofs.Seats.Views.Sitters as Sitters
 use Rattle.seize_seats.proofs.Seats.Growing.Doors as Doors
@@ -120,7 +120,7 @@ module _ {M : Type 1} {𝓤 : Ura M} (𝓛 : Logic 𝓤) (k : Core) (ws : List �
       -- [the list; the doors; the first words; the others]
       show ! Apart ss $ check ! are $ move ! (1 ∷ []) $ frame ! $ move ! (1 ∷ 2 ∷ 0 ∷ []) $ by ! (shuts_by ss are.0)))
 
-module _ {M : Type 1} {𝓤 : Ura M} (𝓛 : Logic 𝓤) (R : RattleType) (own : Pieces R.Denot) {V W : Type 0} (cv : Sight V) (holds : State R.Denot V W → Type 0) (p : Ptr) (z : BaseId) where
+module _ {M : Type 1} {𝓤 : Ura M} (𝓛 : Logic 𝓤) (R : RattleType) (own : Pieces R.Denot) {V W : Type 0} (cv : ViewCode V) (holds : State R.Denot V W → Type 0) (p : Ptr) (z : BaseId) where
   open 𝓛 use {H, A}
 
   abbrev Pr : Type 2
@@ -178,7 +178,7 @@ module _ {M : Type 1} {𝓤 : Ura M} (𝓛 : Logic 𝓤) (R : RattleType) (own :
 
     -- what is told: that the bucket is there
     abbrev pub met : Ptr → Fml
-    met w = fsep (bucket_told σ (suc j) (bucket_at (suc j) w)) Sn
+    met w = fsep (bucket_known σ (suc j) (bucket_at (suc j) w)) Sn
 
     abbrev F : Ptr → Pr
     F = PtrLies 𝓛 α q E b e Ptr (λ w. w) (λ w. w) (λ _. ftrue) met

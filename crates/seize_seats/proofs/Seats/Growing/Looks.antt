@@ -11,14 +11,14 @@ use denote.RawPtr.{Ptr, InBlock, Testable, block_ptr, null_ptr, block_of, count_
 use denote.Steps.{nothing}
 use Rattle.core.specs.Sync.RawAtomic.Pointer.{cell, asks_ptr}
 use Rattle.core.proofs.raw_atomic.Asked.{borrowed_ptr, PtrLies}
-use Rattle.seize_seats.specs.Seats.Errands.{Sight}
+use Rattle.seize_seats.specs.Seats.Errands.{ViewCode}
 use Rattle.seize_seats.specs.Seats.State.{State}
 use Rattle.seize_seats.specs.Seats.Seen.{fact, seen}
 use Rattle.seize_seats.specs.Seats.Cells.{Cell}
 use Rattle.seize_seats.specs.Seats.Strips.{Strip, strip_coded, no_strip, further}
 use Rattle.seize_seats.specs.Seats.Doors.{before, block_bytes, IsFurther, right_to, stays, behind, door}
 use Rattle.seize_seats.specs.Seats.Stretches.{IsEven}
-use Rattle.seize_seats.specs.Seats.Owned.{Pieces, doors_of, listed, BaseId, Inside, age, core_of, book_of, strip_of, strip_told, IsPlaced, stride, lent_here, had_here, standing_in, everything, told}
+use Rattle.seize_seats.specs.Seats.Owned.{Pieces, doors_of, listed, BaseId, Inside, age, core_of, book_of, strip_of, strip_known, IsPlaced, stride, lent_here, had_here, standing_in, everything, told}
 use Rattle.seize_seats.proofs.Seats.Views.Stretches as Stretches
 use Rattle.seize_seats.proofs.Seats.Growing.Doors as Doors
 use Rattle.seize_seats.proofs.Seats.Places.Plots as Plots
@@ -33,7 +33,7 @@ at_or_not (s ∷ ss) (suc i) = up (at_or_not ss i)
     up (inl has) = inl has
     up (inr few) = inr (omega (arith, few))
 
-module _ {M : Type 1} {𝓤 : Ura M} (𝓛 : Logic 𝓤) (R : RattleType) (own : Pieces R.Denot) {V W : Type 0} (cv : Sight V) (holds : State R.Denot V W → Type 0) (p : Ptr) (z : BaseId) where
+module _ {M : Type 1} {𝓤 : Ura M} (𝓛 : Logic 𝓤) (R : RattleType) (own : Pieces R.Denot) {V W : Type 0} (cv : ViewCode V) (holds : State R.Denot V W → Type 0) (p : Ptr) (z : BaseId) where
   open 𝓛 use {H, A}
 
   abbrev Pr : Type 2
@@ -129,7 +129,7 @@ module _ {M : Type 1} {𝓤 : Ura M} (𝓛 : Logic 𝓤) (R : RattleType) (own :
     abbrev pub Fits : Ptr → Type 0
     Fits w = Testable w × (InBlock w → ((before R many + many * 5) * 8 < 2 ^ 63) × (many * stride R < 2 ^ 63))
 
-    pub tells_more : InBlock z.doors → (w : Ptr) → ⟦ glimpse w ⟧ ⊢ guard 𝓤 (Fits w) ⟦ strip_told R w (at_door w) ⟧
+    pub tells_more : InBlock z.doors → (w : Ptr) → ⟦ glimpse w ⟧ ⊢ guard 𝓤 (Fits w) ⟦ strip_known R w (at_door w) ⟧
     tells_more door null_ptr = qed 𝓛 (‵ ftrue ∷ []) ∵ check ! (lit< tt, λ e. absurd e) $ done !
     tells_more door (block_ptr c u) = let w : Ptr = block_ptr c u in let y : BaseId = at_door w in let Sh : Strip → Share → Fml = λ s r. seen strip_coded.code z.strips_name r (suc j) s in
         qed 𝓛 (‵ (glimpse w) ∷ []) ∵ fpick ! (λ s. fsplit ! $ fpick ! (λ so. drop ! $ fpick ! (λ r.
@@ -140,8 +140,8 @@ module _ {M : Type 1} {𝓤 : Ura M} (𝓛 : Logic 𝓤) (R : RattleType) (own :
         rewrite ! 0 (λ (s' : Strip). ‵ (Sh s' r)) same refl $ fpack ! Share (Sh (strip_of w y)) r $
         nothing ! $ move ! (1 ∷ 0 ∷ []) $ fjoin ! $ nothing ! $ fpack ! (IsPlaced R w y) (λ _. ftrue) placed $ fjoin ! $ done !)))
 
-    pub tells_strip : InBlock z.doors → (w : Ptr) → ⟦ glimpse w ⟧ ⊢ ⟦ strip_told R w (at_door w) ⟧
-    tells_strip door w = qed 𝓛 (‵ (glimpse w) ∷ []) ∵ use1 𝓛 (given (Fits w) (‵ (strip_told R w (at_door w)))) (tells_more door w) $ learn ! (λ _. done !)
+    pub tells_strip : InBlock z.doors → (w : Ptr) → ⟦ glimpse w ⟧ ⊢ ⟦ strip_known R w (at_door w) ⟧
+    tells_strip door w = qed 𝓛 (‵ (glimpse w) ∷ []) ∵ use1 𝓛 (given (Fits w) (‵ (strip_known R w (at_door w)))) (tells_more door w) $ learn ! (λ _. done !)
 
     abbrev F : Ptr → Pr
     F = PtrLies 𝓛 α q E b e Ptr (λ r. r) (λ r. r) (λ _. ftrue) glimpse

@@ -12,7 +12,7 @@ use denote.Steps.{nothing}
 use Rattle.core.specs.Sync.RawAtomic.Pointer.{cell, alike, compares}
 use Rattle.core.proofs.raw_atomic.Asked.{borrowed_compares, Compared, alike_null}
 use Rattle.seize_words.specs.OneMemory.Mem.{Mem}
-use Rattle.seize_seats.specs.Seats.Errands.{Sight}
+use Rattle.seize_seats.specs.Seats.Errands.{ViewCode}
 use Rattle.seize_seats.specs.Seats.State.{State}
 use Rattle.seize_seats.specs.Seats.Seen.{seen}
 use Rattle.seize_seats.specs.Seats.Cells.{Body, Cell}
@@ -49,7 +49,7 @@ further_more : (ss : List Strip) (s : Strip) (j : ℕ) → length ss ≡ suc j �
 further_more [] s j long = absurd (omega (arith, long))
 further_more (x ∷ ss) s j long = refl
 
-module _ {M : Type 1} {𝓤 : Ura M} (𝓛 : Logic 𝓤) (R : RattleType) (own : Pieces R.Denot) {V W : Type 0} (cv : Sight V) (holds : State R.Denot V W → Type 0) (p : Ptr) (z : BaseId) where
+module _ {M : Type 1} {𝓤 : Ura M} (𝓛 : Logic 𝓤) (R : RattleType) (own : Pieces R.Denot) {V W : Type 0} (cv : ViewCode V) (holds : State R.Denot V W → Type 0) (p : Ptr) (z : BaseId) where
   open 𝓛 use {H, A}
 
   abbrev Pr : Type 2

@@ -18,7 +18,7 @@ use Rattle.seize_words.specs.OneMemory.Mem.{Mem}
 use Rattle.seize_words.specs.OneMemory.Op.{Out, Room, Roomed}
 use Rattle.seize_words.specs.OneMemory.Place.{capacity}
 use Rattle.seize_words.specs.declared.fault.Fault.TheVariants.{Memory}
-use Rattle.seize_seats.specs.Seats.Errands.{Sight, StaysSo, StayAllSo}
+use Rattle.seize_seats.specs.Seats.Errands.{ViewCode, StaysSo, StayAllSo}
 use Rattle.seize_seats.specs.Seats.State.{State, Goes, Allows}
 use Rattle.seize_seats.specs.Seats.Seen.{fact, seen}
 use Rattle.seize_seats.specs.Seats.Lines.{Parts, long, memory_of, AreLaid}
@@ -59,7 +59,7 @@ module _ {M : Type 1} {𝓤 : Ura M} (𝓛 : Logic 𝓤) where
       rewrite ! 0 (λ (l : List ℕ). ‵ (lines (ss ++ s ∷ []) l)) (sym (drop-append-le t us zs le)) refl $
       rewrite ! 1 (λ (l : List ℕ). ‵ (row b o l)) (sym (take-append-le t us zs le)) refl $ move ! (1 ∷ 0 ∷ []) $ fjoin ! $ done !
 
-module _ {M : Type 1} {𝓤 : Ura M} (𝓛 : Logic 𝓤) (R : RattleType) (own : Pieces R.Denot) {V W : Type 0} (cv : Sight V) (holds : State R.Denot V W → Type 0) (keeps : V → V → W → ℕ
+module _ {M : Type 1} {𝓤 : Ura M} (𝓛 : Logic 𝓤) (R : RattleType) (own : Pieces R.Denot) {V W : Type 0} (cv : ViewCode V) (holds : State R.Denot V W → Type 0) (keeps : V → V → W → ℕ
     → Type 0) (p : Ptr) (z : BaseId) where
   open 𝓛 use {H, A}
 

@@ -17,7 +17,7 @@ use Rattle.core.specs.contracts.option.Option.{the_row as OptionOf}
 use Rattle.core.specs.Sync.RawAtomic.{word}
 use Rattle.seize_words.specs.OneMemory.Mem.{value_at, value_in, word_at, word_in}
 use Rattle.seize_words.specs.declared.at.At.TheVariants.{Word}
-use Rattle.seize_seats.specs.Seats.Errands.{Sight, coded_of}
+use Rattle.seize_seats.specs.Seats.Errands.{ViewCode, coded_of}
 use Rattle.seize_seats.specs.Seats.State.{State}
 use Rattle.seize_seats.specs.Seats.Seen.{fact}
 use Rattle.seize_seats.specs.Seats.Cells.{Cell, Free, Claimed, Out, Has, Held, block_in, cell_at, own_noted_in}
@@ -30,7 +30,7 @@ use Rattle.seize_seats.proofs.Seats.Blocks.Lendings as Lendings
 use Rattle.seize_seats.proofs.Seats.Places.Rows.{row_at}
 use Rattle.seize_seats.proofs.Seats.Places.Rows as Rows
 
-module _ {M : Type 1} {𝓤 : Ura M} (𝓛 : Logic 𝓤) (R : RattleType) (own : Pieces R.Denot) {V W : Type 0} (cv : Sight V) (holds : State R.Denot V W → Type 0) (p : Ptr) (z : BaseId) where
+module _ {M : Type 1} {𝓤 : Ura M} (𝓛 : Logic 𝓤) (R : RattleType) (own : Pieces R.Denot) {V W : Type 0} (cv : ViewCode V) (holds : State R.Denot V W → Type 0) (p : Ptr) (z : BaseId) where
   abbrev ⟦◌⟧ : Fml → SProp 𝓤
   ⟦ P ⟧ = sem 𝓛 P
 

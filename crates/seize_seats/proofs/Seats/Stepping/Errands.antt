@@ -10,7 +10,7 @@ use Rattle.seize_words.specs.OneMemory.Mem.{Mem}
 use Rattle.seize_words.specs.OneMemory.Op.{Op, Out, Take}
 use Rattle.seize_seats.specs.Seats.State.{State, view_of, Goes, Allows, Turns, Learns, Starts, Comes, Meets}
 use Rattle.seize_seats.specs.Seats.State as State
-use Rattle.seize_seats.specs.Seats.Lendings.{ShownToBoth, IsValueOf, IsValueOfBoth}
+use Rattle.seize_seats.specs.Seats.Lendings.{VisibleToBoth, IsValueOf, IsValueOfBoth}
 use Rattle.seize_seats.specs.Seats.Errands.{Away, Anyone, Lends, AreUnlent, inward, AreResting, AreLeaning, HoldsAway, IsUnlent, TurnsUnlent, AreIdle, AreAllBack, RenewsBack, RenewsIdle, RenewsTo, RenewsFrom, keeps_away, then_away, MayGo, MayGoAll, MayLean, MayLeanAll, MayMeet, MayLeanBoth}
 use Rattle.seize_seats.proofs.Seats.Views.Ledgers.{other_view}
 use Rattle.seize_seats.proofs.Seats.Stepping.Visits.{own_view, among}
@@ -51,7 +51,7 @@ module _ {T V W : Type 0} (rests : V → Type 0) (leans : V → ℕ → Type 0) 
   inward_after : (s : St) (n : Mem T) (id : ℕ) (u : V × Away) (w : W) → inward (State.after s n id u w) ≡ State.after (inward s) n id u.0 w
   inward_after s n id u w = ap (λ (vs : List V). record { memory = n; views = vs; world = w }) (map-set view s.views id u)
 
-  others_kept : (s : St) (id : ℕ) (w : W) → State.KeepsOthers holds keeps (inward s) id w → State.KeepsOthers Hold Keep s id w
+  others_kept : (s : St) (id : ℕ) (w : W) → State.PreservesKept holds keeps (inward s) id w → State.PreservesKept Hold Keep s id w
   others_kept s id w kept j k b u o nj nk at_j at_k is = kept j k b u.0 o.0 nj nk (inward_view s j u at_j) (inward_view s k o at_k) is
 
   -- the one with another view, on the errand that it was on, rests if it may go so, and all others do as before
@@ -246,8 +246,8 @@ module _ {T V W : Type 0} (rests : V → Type 0) (leans : V → ℕ → Type 0) 
         → slice_get s.views id ≡ Some (v, e) → (w : W') × Then record { memory = s.memory; views = []; world = w }
     ends_alone id v e law s h back at = let r = law (inward s) h.0 (inward_view s id (v, e) at) (idle s h back) in (r.0, (r.1, (λ i u is. absurd (cc is)), λ i u k is lean. absurd (cc is)))
 
-  pub shown_both_away : (i : ℕ) (v : V) (e : Away) (j : ℕ) (u : V) (f : Away) (b : ℕ) → ShownToBoth holds i v j u b
-      → ShownToBoth Hold i (v, e) j (u, f) b
+  pub shown_both_away : (i : ℕ) (v : V) (e : Away) (j : ℕ) (u : V) (f : Away) (b : ℕ) → VisibleToBoth holds i v j u b
+      → VisibleToBoth Hold i (v, e) j (u, f) b
   shown_both_away i v e j u f b shown s h at_i at_j = shown (inward s) h.0 (inward_view s i (v, e) at_i) (inward_view s j (u, f) at_j)
 
   pub value_both_away : (i : ℕ) (v : V) (e : Away) (j : ℕ) (u : V) (f : Away) (b : ℕ) (x : T) → IsValueOfBoth Hold i (v, e) j (u, f) b x

@@ -10,12 +10,12 @@ use types.Kit.{‵, raw, ◌⊛◌, given, ◌$◌, ◌∵◌, !, qed, by, move,
 use denote.RattleType.{RattleType}
 use denote.RawPtr.{Ptr}
 use Rattle.seize_seats.specs.Seats.State.{State, Learns}
-use Rattle.seize_seats.specs.Seats.Errands.{Sight, StaysSo}
+use Rattle.seize_seats.specs.Seats.Errands.{ViewCode, StaysSo}
 use Rattle.seize_seats.specs.Seats.Owned.{Pieces, sitting, age, BaseId, Inside, state_of, inner, words_share, seen}
 use Rattle.seize_seats.proofs.Seats.Views.Sitters as Sitters
 use Rattle.seize_seats.proofs.Seats.Stepping.Moves as Moves
 
-module _ {M : Type 1} {𝓤 : Ura M} (𝓛 : Logic 𝓤) (R : RattleType) (own : Pieces R.Denot) {V W : Type 0} (cv : Sight V) (holds : State R.Denot V W → Type 0) (keeps : V → V → W → ℕ
+module _ {M : Type 1} {𝓤 : Ura M} (𝓛 : Logic 𝓤) (R : RattleType) (own : Pieces R.Denot) {V W : Type 0} (cv : ViewCode V) (holds : State R.Denot V W → Type 0) (keeps : V → V → W → ℕ
     → Type 0) (p : Ptr) (z : BaseId) (i : ℕ) (v : V) (j : ℕ) (u : V) (so : V → Type 0) (same : StaysSo cv.away v so) (law : Learns holds keeps i v j u so) where
   open 𝓛 use {H, A}
 

@@ -13,13 +13,13 @@ use denote.RawPtr.{Ptr}
 use denote.Steps.{nothing}
 use Rattle.seize_seats.specs.Seats.State.{State, Meets}
 use Rattle.seize_seats.specs.Seats.Lines.{AreLaid}
-use Rattle.seize_seats.specs.Seats.Errands.{Sight, coded_of}
+use Rattle.seize_seats.specs.Seats.Errands.{ViewCode, coded_of}
 use Rattle.seize_seats.specs.Seats.Owned.{Pieces, fact, sitting, age, BaseId, Inside, state_of, standing, inner, words_share}
 use Rattle.seize_seats.proofs.Seats.Views.Ledgers as Ledgers
 use Rattle.seize_seats.proofs.Seats.Views.Sitters as Sitters
 use Rattle.seize_seats.proofs.Seats.Stepping.Moves as Moves
 
-module _ {M : Type 1} {𝓤 : Ura M} (𝓛 : Logic 𝓤) (R : RattleType) (own : Pieces R.Denot) {V W : Type 0} (cv : Sight V) (holds : State R.Denot V W → Type 0) (keeps : V → V → W → ℕ
+module _ {M : Type 1} {𝓤 : Ura M} (𝓛 : Logic 𝓤) (R : RattleType) (own : Pieces R.Denot) {V W : Type 0} (cv : ViewCode V) (holds : State R.Denot V W → Type 0) (keeps : V → V → W → ℕ
     → Type 0) (p : Ptr) (z : BaseId) (i : ℕ) (v : V) (j : ℕ) (u : V) (so : V → V → Type 0)
     (same : (w x : V) → so w x → (cv.away w ≡ cv.away v) × (cv.away x ≡ cv.away u)) (law : Meets holds i v j u so) where
   open 𝓛 use {H, A}

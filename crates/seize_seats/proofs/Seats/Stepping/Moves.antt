@@ -21,7 +21,7 @@ use Rattle.seize_words.specs.declared.at.At.{At}
 use Rattle.seize_seats.specs.Seats.State.{State, Goes, Allows, Turns, Comes}
 use Rattle.seize_seats.specs.Seats.Lines.{Parts, memory_of, AreLaid}
 use Rattle.seize_seats.specs.Seats.Steps.{IsStepOf, roomed}
-use Rattle.seize_seats.specs.Seats.Errands.{Sight, StaysSo, StayAllSo}
+use Rattle.seize_seats.specs.Seats.Errands.{ViewCode, StaysSo, StayAllSo}
 use Rattle.seize_seats.specs.Seats.Owned.{Pieces, fact, sitting, BaseId, age, core_of, place_in, IsIn, Inside, state_of, standing, inner, everything, is_listed, words_share, lent_here, had_here, seen}
 use Rattle.seize_seats.specs.Seats.Owned as Owned
 use Rattle.seize_seats.proofs.Seats.Places.Numbers as Numbers
@@ -30,7 +30,7 @@ use Rattle.seize_seats.proofs.Seats.Views.Known as Known
 use Rattle.seize_seats.proofs.Seats.Growing.Rooms as Rooms
 use Rattle.seize_seats.specs.Seats.Cells.{Body}
 
-module _ {M : Type 1} {𝓤 : Ura M} (𝓛 : Logic 𝓤) (R : RattleType) (own : Pieces R.Denot) {V W : Type 0} (cv : Sight V) (holds : State R.Denot V W → Type 0) (keeps : V → V → W → ℕ
+module _ {M : Type 1} {𝓤 : Ura M} (𝓛 : Logic 𝓤) (R : RattleType) (own : Pieces R.Denot) {V W : Type 0} (cv : ViewCode V) (holds : State R.Denot V W → Type 0) (keeps : V → V → W → ℕ
     → Type 0) (p : Ptr) (z : BaseId) where
   open 𝓛 use {H, A}
 

@@ -15,12 +15,12 @@ use base.Share.{three_quarters}
 use Rattle.seize_seats.specs.Seats.State.{State, view_of}
 use Rattle.seize_seats.specs.Seats.State as State
 use Rattle.seize_seats.specs.Seats.Lines.{AreLaid}
-use Rattle.seize_seats.specs.Seats.Errands.{Away, Aided, Sight, aide_stake, stake}
+use Rattle.seize_seats.specs.Seats.Errands.{Away, Aided, ViewCode, aide_stake, stake}
 use Rattle.seize_seats.specs.Seats.Owned.{Pieces, BaseId, age, sitting, Inside, state_of, standing, inner, words_share}
 use Rattle.seize_seats.proofs.Seats.Views.Sitters as Sitters
 use Rattle.seize_seats.proofs.Seats.Stepping.Moves as Moves
 
-module _ {M : Type 1} {𝓤 : Ura M} (𝓛 : Logic 𝓤) (R : RattleType) (own : Pieces R.Denot) {V W : Type 0} (cv : Sight V) (holds : State R.Denot V W → Type 0) (keeps : V → V → W → ℕ
+module _ {M : Type 1} {𝓤 : Ura M} (𝓛 : Logic 𝓤) (R : RattleType) (own : Pieces R.Denot) {V W : Type 0} (cv : ViewCode V) (holds : State R.Denot V W → Type 0) (keeps : V → V → W → ℕ
     → Type 0) (p : Ptr) (z : BaseId) (id : ℕ) where
   open 𝓛 use {H, A}
 

@@ -13,7 +13,7 @@ use Rattle.seize_words.specs.OneMemory.Mem.{word_at, with_word}
 use Rattle.seize_words.specs.OneMemory.Op.{Op, Out}
 use Rattle.seize_words.specs.declared.at.At.{At}
 use Rattle.seize_words.specs.declared.at.At.TheVariants.{Root, Used, Slot, Entry, Word}
-use Rattle.seize_seats.specs.Seats.Errands.{Sight, StayAllSo}
+use Rattle.seize_seats.specs.Seats.Errands.{ViewCode, StayAllSo}
 use Rattle.seize_seats.specs.Seats.State.{State, Goes, Allows}
 use Rattle.seize_seats.specs.Seats.Lines.{Parts, IsWord, memory_of, AreLaid}
 use Rattle.seize_seats.specs.Seats.Steps.{IsWordStep}
@@ -29,7 +29,7 @@ use Rattle.seize_seats.proofs.Seats.Views.Known as Known
 use Rattle.seize_seats.proofs.Seats.Stepping.SlotWords as SlotWords
 use Rattle.seize_seats.proofs.Seats.Stepping.Steps.{lying}
 
-module _ {M : Type 1} {𝓤 : Ura M} (𝓛 : Logic 𝓤) (R : RattleType) (own : Pieces R.Denot) {V W : Type 0} (cv : Sight V) (holds : State R.Denot V W → Type 0) (keeps : V → V → W → ℕ
+module _ {M : Type 1} {𝓤 : Ura M} (𝓛 : Logic 𝓤) (R : RattleType) (own : Pieces R.Denot) {V W : Type 0} (cv : ViewCode V) (holds : State R.Denot V W → Type 0) (keeps : V → V → W → ℕ
     → Type 0) (p : Ptr) (z : BaseId) where
   open 𝓛 use {H, A}
 

@@ -9,12 +9,12 @@ use types.Kit.{‵, ◌⊛◌, given, ◌$◌, ◌∵◌, !, qed, by, move, spli
 use denote.RattleType.{RattleType}
 use denote.RawPtr.{Ptr}
 use Rattle.seize_seats.specs.Seats.State.{State, view_of, Goes}
-use Rattle.seize_seats.specs.Seats.Errands.{Sight, StaysSo, AreUnlent}
+use Rattle.seize_seats.specs.Seats.Errands.{ViewCode, StaysSo, AreUnlent}
 use Rattle.seize_seats.specs.Seats.Owned.{Pieces, sitting, age, BaseId, Inside, state_of, inner, words_share}
 use Rattle.seize_seats.proofs.Seats.Views.Sitters as Sitters
 use Rattle.seize_seats.proofs.Seats.Stepping.Moves as Moves
 
-module _ {M : Type 1} {𝓤 : Ura M} (𝓛 : Logic 𝓤) (R : RattleType) (own : Pieces R.Denot) {V W : Type 0} (cv : Sight V) (holds : State R.Denot V W → Type 0) (keeps : V → V → W → ℕ
+module _ {M : Type 1} {𝓤 : Ura M} (𝓛 : Logic 𝓤) (R : RattleType) (own : Pieces R.Denot) {V W : Type 0} (cv : ViewCode V) (holds : State R.Denot V W → Type 0) (keeps : V → V → W → ℕ
     → Type 0) (p : Ptr) (z : BaseId) (id : ℕ) (v : V) (so : V → Type 0) (same : StaysSo cv.away v so) (law : (s : State R.Denot V W) → holds s → view_of s id ≡ Some v
     → AreUnlent cv.away id s.views → Goes holds keeps s s.memory id so) where
   open 𝓛 use {H, A}

@@ -12,19 +12,19 @@ use Rattle.core.proofs.raw_atomic.Asked.{Lies, Again}
 use Rattle.seize_words.specs.OneMemory.Mem.{word_at, with_word}
 use Rattle.seize_words.specs.OneMemory.Op.{Op, Out}
 use Rattle.seize_words.specs.declared.at.At.TheVariants.{Slot}
-use Rattle.seize_seats.specs.Seats.Errands.{Sight, StayAllSo}
+use Rattle.seize_seats.specs.Seats.Errands.{ViewCode, StayAllSo}
 use Rattle.seize_seats.specs.Seats.State.{State, Goes, Allows}
 use Rattle.seize_seats.specs.Seats.Lines.{Parts, place_of, memory_of}
 use Rattle.seize_seats.specs.Seats.Strips.{IsOf}
 use Rattle.seize_seats.specs.Seats.Doors.{stays}
 use Rattle.seize_seats.specs.Seats.Steps.{IsWordStep}
-use Rattle.seize_seats.specs.Seats.Owned.{Pieces, ground, BaseId, age, core_of, Inside, state_of, bucket_told, is_listed, inner}
+use Rattle.seize_seats.specs.Seats.Owned.{Pieces, ground, BaseId, age, core_of, Inside, state_of, bucket_known, is_listed, inner}
 use Rattle.seize_seats.proofs.Seats.Places.Columns.{words_lie, words_are_apart}
 use Rattle.seize_seats.proofs.Seats.Places.Grounds as Grounds
 use Rattle.seize_seats.proofs.Seats.Stepping.Moves as Moves
 use Rattle.seize_seats.proofs.Seats.Views.Known as Known
 
-module _ {M : Type 1} {𝓤 : Ura M} (𝓛 : Logic 𝓤) (R : RattleType) (own : Pieces R.Denot) {V W : Type 0} (cv : Sight V) (holds : State R.Denot V W → Type 0) (keeps : V → V → W → ℕ
+module _ {M : Type 1} {𝓤 : Ura M} (𝓛 : Logic 𝓤) (R : RattleType) (own : Pieces R.Denot) {V W : Type 0} (cv : ViewCode V) (holds : State R.Denot V W → Type 0) (keeps : V → V → W → ℕ
     → Type 0) (p : Ptr) (z : BaseId) where
   open 𝓛 use {H, A}
 
@@ -61,7 +61,7 @@ module _ {M : Type 1} {𝓤 : Ura M} (𝓛 : Logic 𝓤) (R : RattleType) (own :
   Inv = Moves.Inv 𝓛 R own cv holds keeps p z
 
   -- what is known of a bucket, beside the rest of what is told to all
-  pub bucket_apart : ⟦ Inv ⟧ ⊢ ⟦ Inv ⟧ ∗ ⟦ bucket_told z.slots_name z.bucket z.slots ⟧
+  pub bucket_apart : ⟦ Inv ⟧ ⊢ ⟦ Inv ⟧ ∗ ⟦ bucket_known z.slots_name z.bucket z.slots ⟧
   bucket_apart = let L : Fml = is_listed p z in qed 𝓛 (‵ Inv ∷ []) ∵ fsplit ! $ use1 𝓛 (‵ L ⊛ ‵ L) (Known.listed_twice 𝓛 p z) $ split ! $ move ! (0 ∷ 2 ∷ []) $ fjoin ! $
       frame ! $ fsplit ! $ drop ! $ types.Kit.done !
 
@@ -113,7 +113,7 @@ module _ {M : Type 1} {𝓤 : Ura M} (𝓛 : Logic 𝓤) (R : RattleType) (own :
 
       pub steps : 0 < z.bucket → (s : Share) → ⟦ Inv ⟧ ∗ (A.lft α s ∗ ⟦ seat id v ⟧) ⊢ asks 𝓛 (block_ptr b e) f always (λ m. fsep (flft α s) (told m))
       steps there s = let j = behind_first z.bucket there in let St : Fml = stays z.slots_name (suc j.0) z.slots in
-          qed 𝓛 (‵ Inv ∷ (‵ (flft α s) ⊛ ‵ (seat id v)) ∷ []) ∵ use1 𝓛 (‵ Inv ⊛ ‵ (bucket_told z.slots_name z.bucket z.slots)) bucket_apart $ split ! $ move ! (1 ∷ []) $
-          rewrite ! 0 (λ (k : ℕ). ‵ (bucket_told z.slots_name k z.slots)) j.1 refl $ fsplit ! $ drop ! $
+          qed 𝓛 (‵ Inv ∷ (‵ (flft α s) ⊛ ‵ (seat id v)) ∷ []) ∵ use1 𝓛 (‵ Inv ⊛ ‵ (bucket_known z.slots_name z.bucket z.slots)) bucket_apart $ split ! $ move ! (1 ∷ []) $
+          rewrite ! 0 (λ (k : ℕ). ‵ (bucket_known z.slots_name k z.slots)) j.1 refl $ fsplit ! $ drop ! $
           -- [the bucket stays; the invariant; the token and the seat]
           move ! (2 ∷ []) $ split ! $ move ! (2 ∷ 1 ∷ []) $ join ! $ move ! (1 ∷ 0 ∷ []) $ join ! $ move ! (1 ∷ 0 ∷ []) $ by ! (known j.0 s)

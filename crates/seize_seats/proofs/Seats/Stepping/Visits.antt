@@ -10,7 +10,7 @@ use Rattle.seize_words.specs.OneMemory.Mem.{Mem, Can, Took, block_of, value_in, 
 use Rattle.seize_words.specs.OneMemory.Op.{Op, Out, Make, Take, Rewrite, Made}
 use Rattle.seize_seats.specs.Seats.State.{State, view_of, Goes, Allows, Owns, Turns, Learns, Starts, Comes, Meets}
 use Rattle.seize_seats.specs.Seats.State as State
-use Rattle.seize_seats.specs.Seats.Lendings.{Shown, ShownToBoth, Alone, IsValueOf, IsValueOfBoth}
+use Rattle.seize_seats.specs.Seats.Lendings.{VisibleTo, VisibleToBoth, Alone, IsValueOf, IsValueOfBoth}
 use Rattle.seize_seats.specs.Seats.Visits.{Spot, Visit, fresh, onward, onward_at, plain_memory, plain_op, plain_out, plain, AreFound, HoldsKept, keeps_kept, then_kept}
 use Rattle.seize_seats.proofs.Seats.Views.Ledgers.{other_view}
 use Rattle.seize_seats.proofs.Seats.Blocks.Rewrites.{emptied, owns_alone}
@@ -72,14 +72,14 @@ module _ {D T V W : Type 0} (value : D → T) (own : D → Spot) (holds : State 
 
   -- what other seats can be shown is as it was
   abbrev Untouched : ℕ → St → Mem D → Type 0
-  Untouched id s n = (i : ℕ) (v : V) (b : ℕ) → i ≢ id → view_of (flat s) i ≡ Some v → Shown holds i v b → value_at n b ≡ value_at s.memory b
+  Untouched id s n = (i : ℕ) (v : V) (b : ℕ) → i ≢ id → view_of (flat s) i ≡ Some v → VisibleTo holds i v b → value_at n b ≡ value_at s.memory b
 
   found_after : (s : St) (n : Mem D) (id : ℕ) (v' : V) (y : Visit) (w' : W) → AreFound value own holds s → Untouched id s n
       → AreFound value own holds (State.after s n id (v', onward y) w')
   found_after s n id v' y w' are same i u b p e visits = let o = others_visit s.views i id (v', onward y) u b p refl e visits in let f = are i u b p o.1 visits in
       (f.0, λ x at. f.1 x (sym (same i u.0 b o.0 (view_plain s i u o.1) f.0) ∙ at))
 
-  others_kept : (s : St) (id : ℕ) (w : W) → State.KeepsOthers holds keeps (flat s) id w → State.KeepsOthers Hold Keep s id w
+  others_kept : (s : St) (id : ℕ) (w : W) → State.PreservesKept holds keeps (flat s) id w → State.PreservesKept Hold Keep s id w
   others_kept s id w kept j k b u o nj nk at_j at_k is = kept j k b u.0 o.0 nj nk (view_plain s j u at_j) (view_plain s k o at_k) is
 
   -- An operation that leaves what others can be shown is allowed as by the rule; the seat's own visit ends.
@@ -109,7 +109,7 @@ module _ {D T V W : Type 0} (value : D → T) (own : D → Spot) (holds : State 
       → Allows Hold Keep id (v, y) op (then_kept value y so)
   word_allowed id v y op so on = allowed id v y op so (λ s out n h here can took g. λ i u b ne at shown. ap (λ (m : Mem D). value_at m b) took.1 ∙ value_after s.memory op out b on can)
 
-  there : (s : St) (i : ℕ) (u : V) (b : ℕ) → Hold s → view_of (flat s) i ≡ Some u → Shown holds i u b → IsSome (value_at s.memory b)
+  there : (s : St) (i : ℕ) (u : V) (b : ℕ) → Hold s → view_of (flat s) i ≡ Some u → VisibleTo holds i u b → IsSome (value_at s.memory b)
   there s i u b h at shown = value_of_block value s.memory b (shown (flat s) h.0 at)
 
   make_leaves : (id : ℕ) (v : V) (x : D) (words : ℕ) (so : Out T → V → Type 0) → Leaves id v fresh (Make x words) so
@@ -146,11 +146,11 @@ module _ {D T V W : Type 0} (value : D → T) (own : D → Spot) (holds : State 
 
   -- ---- visits
   -- what a seat's view shows it shows where the seat visits a block, too
-  pub shown_kept : (id : ℕ) (v : V) (y : Visit) (b : ℕ) → Shown holds id v b → Shown Hold id (v, y) b
+  pub shown_kept : (id : ℕ) (v : V) (y : Visit) (b : ℕ) → VisibleTo holds id v b → VisibleTo Hold id (v, y) b
   shown_kept id v y b shown s h at = there s id v b h (view_plain s id (v, y) at) shown
 
   -- a seat whose view shows a block may begin to visit it
-  pub visits : (id : ℕ) (v : V) (y : Visit) (b : ℕ) → Shown holds id v b → Turns Hold Keep id (v, y) (λ u. (u.0 ≡ v) × ((p : Spot) × (u.1 ≡ onward_at y b p)))
+  pub visits : (id : ℕ) (v : V) (y : Visit) (b : ℕ) → VisibleTo holds id v b → Turns Hold Keep id (v, y) (λ u. (u.0 ≡ v) × ((p : Spot) × (u.1 ≡ onward_at y b p)))
   visits id v y b shown s h at =
       let x = some_value (value_at s.memory b) (shown_kept id v y b shown s h at) in let p : Spot = own x.0 in let u : V × Visit = (v, onward_at y b p) in
       let here : view_of (flat s) id ≡ Some v = view_plain s id (v, y) at in
@@ -168,12 +168,12 @@ module _ {D T V W : Type 0} (value : D → T) (own : D → Spot) (holds : State 
           at_p : V × Visit
           at_p = (v, onward_at y b p)
 
-          by : (i ≡ id) ⊎ (i ≢ id) → Shown holds i w.0 c × ((z : D) → value_at s.memory c ≡ Some z → own z ≡ q)
+          by : (i ≡ id) ⊎ (i ≢ id) → VisibleTo holds i w.0 c × ((z : D) → value_at s.memory c ≡ Some z → own z ≡ q)
           by (inl own_one) =
               let two : at_p ≡ w = own_view s.views i at_p w (ap (λ (k : ℕ). slice_get (slice_set s.views k at_p) i) own_one ∙ e) in
               let views : v ≡ w.0 = ap (λ (u : V × Visit). u.0) two in let there : at_p.1.spot ≡ Some (c, q) = ap (λ (u : V × Visit). u.1.spot) two ∙ visits in
               let one = one_block b c p q at_p.1.spot refl there in (
-                subst (λ (k : ℕ). Shown holds k w.0 c) (sym own_one) (subst (λ (k : ℕ). Shown holds id w.0 k) one.0 (subst (λ (u : V). Shown holds id u b) views shown)),
+                subst (λ (k : ℕ). VisibleTo holds k w.0 c) (sym own_one) (subst (λ (k : ℕ). VisibleTo holds id w.0 k) one.0 (subst (λ (u : V). VisibleTo holds id u b) views shown)),
                 λ z at_c. (let there_too : value_at s.memory b ≡ Some z = ap (value_at s.memory) one.0 ∙ at_c in let same : x ≡ z = cc (is, there_too) in ap own (sym same) ∙ lies ∙ one.1),
               )
           by (inr ne) = h.1 i w c q (sym (other_view s.views id i at_p ne) ∙ e) visits
@@ -223,7 +223,7 @@ module _ {D T V W : Type 0} (value : D → T) (own : D → Spot) (holds : State 
       found : (w : W) → AreFound value own holds (State.joined s (v, y) w)
       found w i u b p e visits = by (among s.views (v, y) u i e)
         where
-          by : (view_of s i ≡ Some u) ⊎ (first ≡ u) → Shown holds i u.0 b × ((x : D) → value_at s.memory b ≡ Some x → own x ≡ p)
+          by : (view_of s i ≡ Some u) ⊎ (first ≡ u) → VisibleTo holds i u.0 b × ((x : D) → value_at s.memory b ≡ Some x → own x ≡ p)
           by (inl at) = h.1 i u b p at visits
           by (inr one) = let no : y.spot ≡ Some (b, p) = ap (λ (x : V × Visit). x.1.spot) one ∙ visits in absurd (cc (none, no))
 
@@ -244,7 +244,7 @@ module _ {D T V W : Type 0} (value : D → T) (own : D → Spot) (holds : State 
       )
 
   -- ---- what is shown
-  pub shown_to_both : (i : ℕ) (v : V) (y : Visit) (j : ℕ) (u : V) (x : Visit) (b : ℕ) → ShownToBoth holds i v j u b → ShownToBoth Hold i (v, y) j (u, x) b
+  pub shown_to_both : (i : ℕ) (v : V) (y : Visit) (j : ℕ) (u : V) (x : Visit) (b : ℕ) → VisibleToBoth holds i v j u b → VisibleToBoth Hold i (v, y) j (u, x) b
   shown_to_both i v y j u x b shown s h at_i at_j = value_of_block value s.memory b (shown (flat s) h.0 (view_plain s i (v, y) at_i) (view_plain s j (u, x) at_j))
 
   pub plain_value : (m : Mem D) (b : ℕ) (d : D) → value_at m b ≡ Some d → value_at (plain_memory value m) b ≡ Some (value d)

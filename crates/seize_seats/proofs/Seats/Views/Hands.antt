@@ -14,13 +14,13 @@ use denote.RawPtr.{Ptr}
 use Rattle.seize_seats.specs.Seats.State.{State}
 use Rattle.seize_seats.specs.Seats.Seen.{seen}
 use Rattle.seize_seats.specs.Seats.Lines.{AreLaid}
-use Rattle.seize_seats.specs.Seats.Lendings.{Witness, Bears, IsAside, ShownBy, Alone, witnessed}
-use Rattle.seize_seats.specs.Seats.Errands.{Sight}
+use Rattle.seize_seats.specs.Seats.Lendings.{Witness, Bears, IsAside, VisibleByWitness, Alone, witnessed}
+use Rattle.seize_seats.specs.Seats.Errands.{ViewCode}
 use Rattle.seize_seats.specs.Seats.Owned.{Pieces, sitting, age, had_here, BaseId, Inside, state_of}
 use Rattle.seize_seats.proofs.Seats.Views.Sitters as Sitters
 use Rattle.seize_seats.specs.Seats.Cells.{Body}
 
-module _ {M : Type 1} {𝓤 : Ura M} (𝓛 : Logic 𝓤) (R : RattleType) (own : Pieces R.Denot) {V W : Type 0} (cv : Sight V) (holds : State R.Denot V W → Type 0) (p : Ptr) (z : BaseId) where
+module _ {M : Type 1} {𝓤 : Ura M} (𝓛 : Logic 𝓤) (R : RattleType) (own : Pieces R.Denot) {V W : Type 0} (cv : ViewCode V) (holds : State R.Denot V W → Type 0) (p : Ptr) (z : BaseId) where
   abbrev Pr : Type 2
   Pr = SProp 𝓤
 
@@ -168,7 +168,7 @@ module _ {M : Type 1} {𝓤 : Ura M} (𝓛 : Logic 𝓤) (R : RattleType) (own :
 
     -- where a value is in the hand of a call, S is not there if both seats' views show the block
     module _ (x : Witness V) (S : Fml) (shows : Shows x S) (crowds : Crowds x S) (t : In) (sound : holds (state_of z t) × AreLaid z.roots z.count t.parts) (i ρ : ℕ)
-        (y : Body R.Denot) (Z : Pr) (shown : ShownBy holds j v k u x (suc i)) where
+        (y : Body R.Denot) (Z : Pr) (shown : VisibleByWitness holds j v k u x (suc i)) where
       by_seat : (w : ℕ × V) → Alone holds w.0 w.1 (suc i) → Sit x t → (j ≡ w.0) ⊎ (j ≢ w.0) → (k ≡ w.0) ⊎ (k ≢ w.0) → IsOne w.0 x ⊎ IsAside w.0 x
           → ⟦ Led t ⟧ ∗ ⟦ Sn three_quarters w.0 w.1 ⟧ ∗ ⟦ S ⟧ ⊢ Z
       by_seat w alone at (inl same) either aside = crowds t w Z (inl same)

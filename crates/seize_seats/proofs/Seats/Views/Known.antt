@@ -11,7 +11,7 @@ use denote.RawPtr.{Ptr, block_ptr}
 use denote.Steps.{nothing}
 use Rattle.core.specs.Sync.RawAtomic.{word, asks, always}
 use Rattle.core.proofs.raw_atomic.Asked.{borrowed, Lies, Again}
-use Rattle.seize_seats.specs.Seats.Errands.{Sight}
+use Rattle.seize_seats.specs.Seats.Errands.{ViewCode}
 use Rattle.seize_seats.specs.Seats.State.{State}
 use Rattle.seize_seats.specs.Seats.Seen.{seen}
 use Rattle.seize_seats.specs.Seats.Cells.{Cell}
@@ -19,7 +19,7 @@ use Rattle.seize_seats.specs.Seats.Strips.{Strip, strip_coded, no_strip, AreStri
 use Rattle.seize_seats.specs.Seats.Doors.{stays as lasts}
 use Rattle.seize_seats.specs.Seats.Buckets.{IsBucket}
 use Rattle.seize_seats.specs.Seats.Stretches.{IsEven, invariant}
-use Rattle.seize_seats.specs.Seats.Owned.{Pieces, ledger, listed, BaseId, Inside, age, core_of, book_of, strip_of, IsListed, bucket_told, is_listed, lent_here, had_here, standing, standing_in, inner, everything, told}
+use Rattle.seize_seats.specs.Seats.Owned.{Pieces, ledger, listed, BaseId, Inside, age, core_of, book_of, strip_of, IsListed, bucket_known, is_listed, lent_here, had_here, standing, standing_in, inner, everything, told}
 use Rattle.seize_seats.proofs.Seats.Views.Ledgers as Ledgers
 use Rattle.seize_seats.proofs.Seats.Views.Stretches as Stretches
 
@@ -31,20 +31,20 @@ stays_twice 𝓛 σ k s = let Sh : Share → Fml = λ q. seen strip_coded.code �
     fpack ! Share Sh q₁ $ move ! (1 ∷ []) $ fpack ! Share Sh q₂ $ done !)
 
 pub bucket_twice : {M : Type 1} {𝓤 : Ura M} (𝓛 : Logic 𝓤) (σ k : ℕ) (s : Strip)
-    → ent 𝓤 (sem 𝓛 (bucket_told σ k s)) (sep 𝓤 (sem 𝓛 (bucket_told σ k s)) (sem 𝓛 (bucket_told σ k s)))
+    → ent 𝓤 (sem 𝓛 (bucket_known σ k s)) (sep 𝓤 (sem 𝓛 (bucket_known σ k s)) (sem 𝓛 (bucket_known σ k s)))
 bucket_twice 𝓛 σ zero s = qed 𝓛 (‵ ftrue ∷ []) ∵ nothing ! $ done !
-bucket_twice 𝓛 σ (suc k) s = let St : Fml = lasts σ (suc k) s in qed 𝓛 (‵ (bucket_told σ (suc k) s) ∷ []) ∵ fsplit ! $ fpick ! (λ is. drop ! $
+bucket_twice 𝓛 σ (suc k) s = let St : Fml = lasts σ (suc k) s in qed 𝓛 (‵ (bucket_known σ (suc k) s) ∷ []) ∵ fsplit ! $ fpick ! (λ is. drop ! $
     use1 𝓛 (‵ St ⊛ ‵ St) (stays_twice 𝓛 σ (suc k) s) $ split ! $ nothing ! $ fpack ! (IsBucket k s) (λ _. ftrue) is $ move ! (0 ∷ 1 ∷ []) $ fjoin ! $
     move ! (1 ∷ []) $ nothing ! $ fpack ! (IsBucket k s) (λ _. ftrue) is $ move ! (0 ∷ 1 ∷ []) $ fjoin ! $ done !)
 
 -- what is known of a strip may be told again
 pub listed_twice : {M : Type 1} {𝓤 : Ura M} (𝓛 : Logic 𝓤) (p : Ptr) (z : BaseId)
     → ent 𝓤 (sem 𝓛 (is_listed p z)) (sep 𝓤 (sem 𝓛 (is_listed p z)) (sem 𝓛 (is_listed p z)))
-listed_twice 𝓛 p z = let St : Fml = lasts z.strips_name z.place (strip_of p z) in let B : Fml = bucket_told z.slots_name z.bucket z.slots in
+listed_twice 𝓛 p z = let St : Fml = lasts z.strips_name z.place (strip_of p z) in let B : Fml = bucket_known z.slots_name z.bucket z.slots in
     qed 𝓛 (‵ (is_listed p z) ∷ []) ∵ fsplit ! $ use1 𝓛 (‵ St ⊛ ‵ St) (stays_twice 𝓛 z.strips_name z.place (strip_of p z)) $ split ! $ move ! (2 ∷ []) $
     use1 𝓛 (‵ B ⊛ ‵ B) (bucket_twice 𝓛 z.slots_name z.bucket z.slots) $ split ! $ move ! (2 ∷ 0 ∷ []) $ fjoin ! $ move ! (2 ∷ 1 ∷ []) $ fjoin ! $ move ! (1 ∷ []) $ done !
 
-module _ {M : Type 1} {𝓤 : Ura M} (𝓛 : Logic 𝓤) (R : RattleType) (own : Pieces R.Denot) {V W : Type 0} (cv : Sight V) (holds : State R.Denot V W → Type 0) (p : Ptr) (z : BaseId) where
+module _ {M : Type 1} {𝓤 : Ura M} (𝓛 : Logic 𝓤) (R : RattleType) (own : Pieces R.Denot) {V W : Type 0} (cv : ViewCode V) (holds : State R.Denot V W → Type 0) (p : Ptr) (z : BaseId) where
   open 𝓛 use {H, A}
 
   abbrev Pr : Type 2

@@ -17,8 +17,8 @@ use Rattle.seize_seats.specs.Seats.Strips.{Strip, strip_coded, no_strip, further
 use Rattle.seize_seats.specs.Seats.Doors.{block_type, IsFurther, heap, right_to, doors}
 use Rattle.seize_seats.specs.Seats.Lines.{long}
 use Rattle.seize_seats.specs.Seats.Buckets.{IsBucket}
-use Rattle.seize_seats.specs.Seats.Errands.{Away, Aided, Nobody, By, Anyone, Sight, aide_stake, stake, stakes}
-use Rattle.seize_seats.specs.Seats.Owned.{words_right, lines, bucket_right, bucket_told, ground, Pieces, shared_view, row, piece, lent_in, had_in, quarters, ledger, zeros, stride, kept, numbers, strips, Core, BaseId, core_of, everything, common, words_own, words_share}
+use Rattle.seize_seats.specs.Seats.Errands.{Away, Aided, Nobody, By, Anyone, ViewCode, aide_stake, stake, stakes}
+use Rattle.seize_seats.specs.Seats.Owned.{words_right, lines, bucket_right, bucket_known, ground, Pieces, shared_view, row, piece, lent_in, had_in, quarters, ledger, zeros, stride, kept, numbers, strips, Core, BaseId, core_of, everything, common, words_own, words_share}
 use Rattle.seize_seats.specs.Seats.Lendings.{Phase, Begins, Lasts, Over, in_phase, Holder, Lending, Witness, witnessed, span, told, lendings, lendable, in_hand}
 use Rattle.seize_seats.specs.Seats.Stretches.{lasting, seat_owns, seat_shares}
 
@@ -30,7 +30,7 @@ lines_keyless : (ss : List Strip) (ws : List ℕ) → Keyless (lines ss ws)
 lines_keyless [] ws = tt
 lines_keyless (s ∷ ss) ws = (row_keyless (block_of s.words) (count_of s.words) (take (s.size * 16) ws), lines_keyless ss (drop (s.size * 16) ws))
 
-bucket_keyless : (σ k : ℕ) (s : Strip) → Keyless (bucket_told σ k s)
+bucket_keyless : (σ k : ℕ) (s : Strip) → Keyless (bucket_known σ k s)
 bucket_keyless σ zero s = tt
 bucket_keyless σ (suc k) s = ((λ _. tt), λ q. entry_keyless shared_view σ (suc k) _)
 
@@ -126,7 +126,7 @@ stakes_keyless : {V : Type 0} (α : Lft) (γ : ℕ) (away : V → Away) (vs : Li
 stakes_keyless α γ away [] = tt
 stakes_keyless α γ away (v ∷ vs) = (stake_keyless α γ (away v), stakes_keyless α γ away vs)
 
-module _ (R : RattleType) (own : Pieces R.Denot) (sent : IsSend (OptionOf R)) (synced : IsSync (OptionOf R)) {V W : Type 0} (c : Sight V)
+module _ (R : RattleType) (own : Pieces R.Denot) (sent : IsSend (OptionOf R)) (synced : IsSync (OptionOf R)) {V W : Type 0} (c : ViewCode V)
     (holds : State R.Denot V W → Type 0) where
   right_keyless : (n : ℕ) (p : Ptr) → Keyless (words_right n p)
   right_keyless zero p = tt

@@ -13,17 +13,17 @@ use denote.Sharing.{ShrLaws, one, said, beside}
 use denote.SharingLaws.{beside_shr_laws, one_shr_laws}
 use denote.Steps.{nothing}
 use denote.Struct.Lending.{Lends, Lends-both}
-use Rattle.seize_seats.specs.Seats.Errands.{Sight}
+use Rattle.seize_seats.specs.Seats.Errands.{ViewCode}
 use Rattle.seize_seats.specs.Seats.State.{State}
 use types.Keyed.{ticket}
 use Rattle.seize_seats.specs.Seats.Seen.{seen}
-use Rattle.seize_seats.specs.Seats.Stretches.{IsOfSeat, seats_part, stretch, stretch_told, seat_owns, seat_shares}
+use Rattle.seize_seats.specs.Seats.Stretches.{IsOfSeat, seats_part, stretch, stretch_shared, seat_owns, seat_shares}
 use Rattle.seize_seats.proofs.Seats.Views.Stretches as Stretches
 use Rattle.seize_seats.proofs.Seats.Views.Known as Known
 use Rattle.seize_seats.proofs.Seats.Views.Shares as Shares
-use Rattle.seize_seats.specs.Seats.Owned.{Pieces, BaseId, age, core_of, IsPlaced, everything, told, common, is_listed, strip_there, strip_told, strip_owns, words_own, words_share}
+use Rattle.seize_seats.specs.Seats.Owned.{Pieces, BaseId, age, core_of, IsPlaced, everything, told, common, is_listed, strip_there, strip_known, strip_owns, words_own, words_share}
 
-module _ (R : RattleType) (own : Pieces R.Denot) {V W : Type 0} (cv : Sight V) (holds : State R.Denot V W → Type 0) (p : Ptr) (z : BaseId) where
+module _ (R : RattleType) (own : Pieces R.Denot) {V W : Type 0} (cv : ViewCode V) (holds : State R.Denot V W → Type 0) (p : Ptr) (z : BaseId) where
   abbrev α : Lft
   α = age z
 
@@ -59,12 +59,12 @@ module _ (R : RattleType) (own : Pieces R.Denot) {V W : Type 0} (cv : Sight V) (
     lends_words = Lends-both 𝓛 (Φ full_share) (fsep C (flent α I)) (one Φ) (said C) l (Shares.cut 𝓛 l Φ full_share) (Shares.told 𝓛 l C (flent α I) (twice 𝓛))
 
 -- what a `&` to a strip shows: that it is one of a memory's
-pub told_there : (R : RattleType) (p : Ptr) (z : BaseId) → InBlock p → strip_told R p z ≡ strip_there R p z
+pub told_there : (R : RattleType) (p : Ptr) (z : BaseId) → InBlock p → strip_known R p z ≡ strip_there R p z
 told_there R null_ptr z there = absurd there
 told_there R (block_ptr b o) z there = refl
 
 strip_twice : (R : RattleType) (p : Ptr) (z : BaseId) {M : Type 1} {𝓤 : Ura M} (𝓛 : Logic 𝓤)
-    → ent 𝓤 (sem 𝓛 (strip_told R p z)) (sep 𝓤 (sem 𝓛 (strip_told R p z)) (sem 𝓛 (strip_told R p z)))
+    → ent 𝓤 (sem 𝓛 (strip_known R p z)) (sep 𝓤 (sem 𝓛 (strip_known R p z)) (sem 𝓛 (strip_known R p z)))
 strip_twice R null_ptr z 𝓛 = qed 𝓛 (‵ ftrue ∷ []) ∵ nothing ! $ done !
 strip_twice R (block_ptr b o) z 𝓛 = let p : Ptr = block_ptr b o in let L : Fml = is_listed p z in
     qed 𝓛 (‵ (strip_there R p z) ∷ []) ∵ fsplit ! $ fpick ! (λ i. drop ! $ use1 𝓛 (‵ L ⊛ ‵ L) (Known.listed_twice 𝓛 p z) $ split ! $
@@ -72,7 +72,7 @@ strip_twice R (block_ptr b o) z 𝓛 = let p : Ptr = block_ptr b o in let L : Fm
 
 module _ (R : RattleType) (p : Ptr) (z : BaseId) where
   abbrev B : Fml
-  B = strip_told R p z
+  B = strip_known R p z
 
   pub strip_laws : ShrLaws (said B)
   strip_laws = record {
@@ -96,7 +96,7 @@ module _ {V : Type 0} (cv : Coded V) (γ id : ℕ) (v : V) (σ θ : ℕ) where
   St = stretch cv.code γ id v σ θ
 
   abbrev T : Fml
-  T = stretch_told cv.code γ id v σ θ
+  T = stretch_shared cv.code γ id v σ θ
 
   rest_laws : ShrLaws (beside (one Vw) (said T))
   rest_laws = beside_shr_laws (one Vw) (said T) (one_shr_laws Vw) record {

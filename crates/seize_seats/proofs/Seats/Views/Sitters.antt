@@ -13,10 +13,10 @@ use types.Kit.{‵, raw, ◌⊛◌, given, ◌$◌, ◌∵◌, !, qed, by, move,
 use denote.Steps.{nothing}
 use Rattle.seize_seats.specs.Seats.Seen.{fact, itself, seen}
 use Rattle.seize_seats.specs.Seats.Owned.{ledger, sitting}
-use Rattle.seize_seats.specs.Seats.Errands.{Away, Sight, Aided, Nobody, By, Anyone, IsAide, Lends, AreUnlent, coded_of, aide_stake, stake, stakes, AreAllBack}
+use Rattle.seize_seats.specs.Seats.Errands.{Away, ViewCode, Aided, Nobody, By, Anyone, IsAide, Lends, AreUnlent, coded_of, aide_stake, stake, stakes, AreAllBack}
 use Rattle.seize_seats.proofs.Seats.Views.Ledgers as Ledgers
 
-module _ {M : Type 1} {𝓤 : Ura M} (𝓛 : Logic 𝓤) (α : Lft) {V : Type 0} (c : Sight V) (γ : ℕ) where
+module _ {M : Type 1} {𝓤 : Ura M} (𝓛 : Logic 𝓤) (α : Lft) {V : Type 0} (c : ViewCode V) (γ : ℕ) where
   open 𝓛 use {A}
 
   abbrev Pr : Type 2

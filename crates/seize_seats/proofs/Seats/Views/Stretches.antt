@@ -12,7 +12,7 @@ use types.Tokens.{lft_new, lft_end}
 use types.Kit.{‵, raw, ◌⊛◌, some as items, given, later, ◌$◌, ◌∵◌, !, qed, by, move, keep, drop, split, fsplit, fsplit3, fjoin, fpick, fpack, pick, learn, show, frame, each, assume, suffices, use0, use1, use2, use3, updating, await, now, done}
 use denote.Steps.{nothing}
 use Rattle.seize_seats.specs.Seats.Seen.{seen}
-use Rattle.seize_seats.specs.Seats.Stretches.{IsEven, IsOdd, IsOfKind, IsOfSeat, numbered, invariant, seats_part, stretch_part, lasting, stretch, stretch_told, seat_owns}
+use Rattle.seize_seats.specs.Seats.Stretches.{IsEven, IsOdd, IsOfKind, IsOfSeat, numbered, invariant, seats_part, stretch_part, lasting, stretch, stretch_shared, seat_owns}
 use Rattle.seize_seats.proofs.Seats.Views.Ledgers as Ledgers
 
 pub evens : (n : ℕ) → (j : ℕ) × (n ≤ j) × IsEven j
@@ -88,7 +88,7 @@ module _ {M : Type 1} {𝓤 : Ura M} (𝓛 : Logic 𝓤) where
       St = stretch cv.code γ id v σ θ
 
       abbrev Told : Fml
-      Told = stretch_told cv.code γ id v σ θ
+      Told = stretch_shared cv.code γ id v σ θ
 
       abbrev Swapped : Pr
       Swapped = ⟦ St ⟧ ∗ ⟦ Sn stretch_part ⟧
@@ -124,6 +124,6 @@ module _ {M : Type 1} {𝓤 : Ura M} (𝓛 : Logic 𝓤) where
         -- [the mark; other marks; the token; the view]
         move ! (3 ∷ []) $ use1 𝓛 (‵ (Sn stretch_part) ⊛ ‵ (Sn seats_part)) ((Ledgers.view_halves 𝓛 cv γ id v).cut three_quarters) $ split ! $
         fpack ! Bool (lasting cv.code γ id v σ θ) true $
-        use1 𝓛 (later (‵ (stretch_told cv.code γ id v σ θ))) (made (IsOfSeat id) (stretch cv.code γ id v σ θ) (numbers_of id)) $ await ! tt $
+        use1 𝓛 (later (‵ (stretch_shared cv.code γ id v σ θ))) (made (IsOfSeat id) (stretch cv.code γ id v σ θ) (numbers_of id)) $ await ! tt $
         -- [the stretch; the seat's part; the mark; other marks; the token]
         move ! (0 ∷ 2 ∷ []) $ fjoin ! $ move ! (1 ∷ 0 ∷ []) $ fjoin ! $ move ! (2 ∷ 0 ∷ []) $ fjoin ! $ now ! $ show ! begun (σ, θ) $ keep ! (0 ∷ []) $ done !))

@@ -1,6 +1,6 @@
 use Rattle.std.proofs.Common.{◌≡◌, sym, subst, ◌∙◌}
 use Rattle.map_straight.specs.Straight.Looking.{looks}
-use Rattle.threads_rule.specs.Errands.Looking.{HasLooked, HasTold, LooksFor, StaysThere, found_of}
+use Rattle.threads_rule.specs.Errands.Looking.{HasLooked, HasProgressed, LooksFor, StaysThere, found_of}
 use Rattle.threads_rule.specs.declared.view.View.{View}
 use Rattle.seize_callers.proofs.Keeping.{kept_same}
 use Rattle.threads_errands.proofs.finding.goes_on.Goals as goal
@@ -36,8 +36,8 @@ returns-clause-told g c =
     let was = c.new-within.ensures.seat in
     let before : c.new-within.result.seat.now.view ≡ c.args.seat.now.view = cc was in
     let after : c.goes_through.new.self.seat.now.view ≡ c.seat-1.given.0.view = cc is in
-    subst (λ (v : View g.row.K.Denot g.row.V.Denot g.row.S.Denot). HasTold (found_of c.goes_through.result) v c.seat-1.given.0.view) before
-    (subst (λ (w : View g.row.K.Denot g.row.V.Denot g.row.S.Denot). HasTold (found_of c.goes_through.result) c.new-within.result.seat.now.view w) after c.goes_through.ensures.told)
+    subst (λ (v : View g.row.K.Denot g.row.V.Denot g.row.S.Denot). HasProgressed (found_of c.goes_through.result) v c.seat-1.given.0.view) before
+    (subst (λ (w : View g.row.K.Denot g.row.V.Denot g.row.S.Denot). HasProgressed (found_of c.goes_through.result) c.new-within.result.seat.now.view w) after c.goes_through.ensures.told)
 
 pub returns-clause-stays : goal.returns-clause-stays
 returns-clause-stays g c =

@@ -8,7 +8,7 @@ use Rattle.run_schedules.specs.Schedules.Entry.{Entry, is_busy}
 use Rattle.papaya_steps.specs.Pieced.SoFar.{ActsSoFar}
 use Rattle.papaya_steps.specs.WholeRuns.Acting.{acting_of, map_acted, singles_as}
 use Rattle.papaya_steps.specs.WholeRuns.Run.{SoFar, log_so}
-use Rattle.run_effects.specs.Tallies.Tally.{TellsAll}
+use Rattle.run_effects.specs.Tallies.Tally.{RecordsAll}
 use Rattle.papaya_steps.proofs.WholeRuns.Joined.{legal_on}
 use Rattle.papaya_steps.proofs.WholeRuns.Logs.{events_are}
 use Rattle.run_effects.proofs.Tallies.Tallies.{ok_four}
@@ -31,9 +31,9 @@ returns-clause-come g c =
     let tally = c.args.self.now.tally in
     let tally2 = c.note_all.new.self in
     let acting = acting_of c.args.event p in
-    let told : TellsAll (map_acted acting played.outcome) played.effects.items tally tally2 =
-    subst (λ (l : List Effect). TellsAll (map_acted acting played.outcome) l tally tally2) c.as_slice.ensures.value
-    (subst (λ a. TellsAll a c.as_slice.result.now tally tally2) (c.map.ensures ∙ ap (λ a. map_acted a played.outcome) c.in_ok-acting.ensures) c.in_ok-note_all.ensures) in
+    let told : RecordsAll (map_acted acting played.outcome) played.effects.items tally tally2 =
+    subst (λ (l : List Effect). RecordsAll (map_acted acting played.outcome) l tally tally2) c.as_slice.ensures.value
+    (subst (λ a. RecordsAll a c.as_slice.result.now tally tally2) (c.map.ensures ∙ ap (λ a. map_acted a played.outcome) c.in_ok-acting.ensures) c.in_ok-note_all.ensures) in
     ok_four c.add.result _ _ _ _ _ c.add.ensures.outcomes c.add.ensures.steps c.add.ensures.effects c.add.ensures.trace
     (λ outcomes steps effects trace. λ terms events come.
     let so = come.so_far in

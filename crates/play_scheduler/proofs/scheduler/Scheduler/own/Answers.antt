@@ -8,8 +8,8 @@ use Rattle.play_scheduler.proofs.Backs.{came, none_came}
 use Rattle.play_scheduler.proofs.Owns.{joined_refused, joined_slot, name_taken, refused_quiet}
 use Rattle.play_scheduler.proofs.Rights.{so_played}
 use Rattle.run_shows.specs.declared.row.SlotCall.TheVariants as call
-use Rattle.run_logged.specs.Rows.Taking.{told_as}
-use Rattle.play_scheduler.specs.Works.{told_so}
+use Rattle.run_logged.specs.Rows.Taking.{outcome_of_taking}
+use Rattle.play_scheduler.specs.Works.{outcome_of_row}
 use Rattle.play_scheduler.proofs.Works.{did_refuse, did_told}
 use Rattle.play_scheduler.proofs.scheduler.Scheduler.own.Goals as goal
 
@@ -64,12 +64,12 @@ returns-then-has_guard-clause-works g c = did_refuse (Own c.args.guard) c.args.s
 pub returns-in-Err-clause-works : goal.returns-in-Err-clause-works
 returns-in-Err-clause-works g c =
     did_told (Own c.args.guard) c.args.self.now (record { outcome = Refused c.in-Err.fault; steps = 0; effects = c.take_slot.new.effects }) 0 (refl, sym c.has_guard.ensures ∙ c.if-has_guard.false) c.take_slot.new.self (ap (λ p. p.calls) c.take_slot.ensures.rest) (call.Register true) refl
-    c.no_effects-effects.result.items c.take_slot.new.effects.items c.no_effects-effects.ensures refl c.take_slot.new.self.logged refl (told_as c.in_ok-taken.taken)
-    (sym (ap (λ r. told_so (told_as r)) c.in-Err.is)) c.in_ok-taken.ensures.taken
+    c.no_effects-effects.result.items c.take_slot.new.effects.items c.no_effects-effects.ensures refl c.take_slot.new.self.logged refl (outcome_of_taking c.in_ok-taken.taken)
+    (sym (ap (λ r. outcome_of_row (outcome_of_taking r)) c.in-Err.is)) c.in_ok-taken.ensures.taken
 
 pub returns-in_ok-enter-in-Ok-clause-works : goal.returns-in_ok-enter-in-Ok-clause-works
 returns-in_ok-enter-in-Ok-clause-works g c =
     did_told (Own c.args.guard) c.args.self.now (record { outcome = Slot c.in-Ok.slot; steps = 0; effects = c.take_slot.new.effects }) 0 (refl, sym c.has_guard.ensures ∙ c.if-has_guard.false)
     (record c.take_slot.new.self { there = c.enter.new.self }) (ap (λ p. p.calls) c.take_slot.ensures.rest) (call.Register true) refl
-    c.no_effects-effects.result.items c.take_slot.new.effects.items c.no_effects-effects.ensures refl c.take_slot.new.self.logged refl (told_as c.in_ok-taken.taken)
-    (sym (ap (λ r. told_so (told_as r)) c.in-Ok.is)) c.in_ok-taken.ensures.taken
+    c.no_effects-effects.result.items c.take_slot.new.effects.items c.no_effects-effects.ensures refl c.take_slot.new.self.logged refl (outcome_of_taking c.in_ok-taken.taken)
+    (sym (ap (λ r. outcome_of_row (outcome_of_taking r)) c.in-Ok.is)) c.in_ok-taken.ensures.taken

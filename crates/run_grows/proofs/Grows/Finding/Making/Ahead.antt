@@ -10,11 +10,11 @@ use Rattle.papaya_raw.specs.Given.TablesDeclared.node.Node.{Node}
 use Rattle.papaya_raw.specs.Given.TablesDeclared.setting.Setting.{Setting}
 use Rattle.papaya_raw.specs.Given.TablesDeclared.table.Table.{Table}
 use Rattle.papaya_raw.specs.Given.TablesDeclared.table_words.TheConstants.{NEXT}
-use Rattle.run_logged.specs.Given.ResizeNewTable.{table_after}
-use Rattle.run_logged.specs.Given.ResizeDeclared.copier.Copier.{Copier}
-use Rattle.run_logged.specs.Given.ResizeDeclared.copier.Copying.{Copying}
-use Rattle.run_logged.specs.Given.ResizeDeclared.copier.Copying.TheVariants as copying
-use Rattle.run_logged.specs.Given.ResizeDeclared.new_table.NewTable.{NewTable}
+use Rattle.run_finds.specs.Given.ResizeNewTable.{table_after}
+use Rattle.run_finds.specs.Given.ResizeDeclared.copier.Copier.{Copier}
+use Rattle.run_finds.specs.Given.ResizeDeclared.copier.Copying.{Copying}
+use Rattle.run_finds.specs.Given.ResizeDeclared.copier.Copying.TheVariants as copying
+use Rattle.run_finds.specs.Given.ResizeDeclared.new_table.NewTable.{NewTable}
 use Rattle.papaya_raw.specs.Given.ReservesDeclared.reserve.Reserving.{Reserving}
 use Rattle.papaya_raw.specs.Given.ReservesDeclared.reserve.Reserving.TheVariants as reserving
 use Rattle.papaya_raw.specs.Given.ReservesDeclared.sweep.Sweep.{Sweep}
@@ -31,15 +31,15 @@ use Rattle.run_executor.specs.Given.PointsFactsCopies.{CopierFacts, CopyingFacts
 use Rattle.run_executor.specs.Given.PointsFactsCopiesBlocking.{CopierFactsBlocking, CopyingFactsBlocking}
 use Rattle.run_executor.specs.Given.LateFactsReserves.{CopiesWhole, IsEnding, ReservingFacts}
 use Rattle.run_executor.specs.Given.LateFactsSweeps.{CopiesTable, SweepingFacts}
-use Rattle.run_executor.specs.Given.LateLateCalls.{LateCalling}
-use Rattle.run_executor.specs.Given.LateLateCopies.{CopiesAborted, LateCopying}
-use Rattle.run_executor.specs.Given.LateLateReserves.{LateReserving}
+use Rattle.run_executor.specs.Given.LateLateCalls.{SupersededCalling}
+use Rattle.run_executor.specs.Given.LateLateCopies.{CopiesAborted, SupersededCopying}
+use Rattle.run_executor.specs.Given.LateLateReserves.{SupersededReserving}
 use Rattle.run_executor.proofs.Given.LateCopiers.LateWent.{aborted_behind}
-use Rattle.run_executor.specs.Given.CallersSights.{IsSight, Sight, seen_by}
+use Rattle.run_executor.specs.Given.CallersSights.{IsVisibility, Visible, seen_by}
 use Rattle.run_executor.specs.Given.CallersTogether.{Counting, ForRoom, OnKey, OverAll, Together, UnderWay, in_slot}
 use Rattle.run_executor.specs.Given.FinishesMachines.{machine_of}
 use Rattle.run_executor.specs.Given.FinishesMaps.{Standing}
-use Rattle.run_sweeps.proofs.Given.FindsGrows.There.{last_has_none, unseen}
+use Rattle.run_finds.proofs.Grows.There.{last_has_none, unseen}
 use Rattle.run_grows.proofs.Grows.Finding.Making.Behind.{call_row, room_row, sweep_row}
 use Rattle.run_grows.proofs.Grows.Finding.Making.Calls.{CallBegins}
 use Rattle.run_grows.proofs.Grows.Finding.Making.Copiers.{CopierBegins}
@@ -54,8 +54,8 @@ use Rattle.run_executor.specs.Given.ScenesScene.{Scene, slot_of}
 abbrev pub IsFollowed : {K V : Type 0} → World (Node K V) → Copier → Type 0
 IsFollowed w x = (x.stands ≡ copying.Replaces) × (word_at w.memory (at_word x.target NEXT) ≡ Some 0 → ⊥)
 
-module _ {K V : Type 0} (Such : NewTable → Type 0) (same : K → K → Bool) (hash : K → ℕ) (w : World (Node K V)) (caller : ℕ) (all setting : Setting) (c : Chart K) (whole : Blocks) (sight : Sight)
-    (is_sight : IsSight c whole sight) (map : IsMapIn same hash all w c whole) (ahead : suc c.first < c.past → (given : Setting) (table : Table) → Such (table_after given table NoPlace)) where
+module _ {K V : Type 0} (Such : NewTable → Type 0) (same : K → K → Bool) (hash : K → ℕ) (w : World (Node K V)) (caller : ℕ) (all setting : Setting) (c : Chart K) (whole : Blocks) (sight : Visible)
+    (is_sight : IsVisibility c whole sight) (map : IsMapIn same hash all w c whole) (ahead : suc c.first < c.past → (given : Setting) (table : Table) → Such (table_after given table NoPlace)) where
   -- what can still be looked at
   abbrev blocks : Blocks
   blocks = seen_by whole sight
@@ -91,10 +91,10 @@ module _ {K V : Type 0} (Such : NewTable → Type 0) (same : K → K → Bool) (
         made : suc t < c.past
         made = let there = aborted.0.target.made in let rooted = map.map.rule.common.rooted (omega (arith, there)) in omega (arith, rooted, passed)
 
-    late_ahead : (x : Copier) → LateCopying same hash w caller setting c blocks began x x.stands → CopierBegins Such x x.stands ⊎ IsFollowed w x
+    late_ahead : (x : Copier) → SupersededCopying same hash w caller setting c blocks began x x.stands → CopierBegins Such x x.stands ⊎ IsFollowed w x
     late_ahead x facts = by x.stands refl facts
       where
-        by : (p : Copying) → x.stands ≡ p → LateCopying same hash w caller setting c blocks began x p → CopierBegins Such x p ⊎ IsFollowed w x
+        by : (p : Copying) → x.stands ≡ p → SupersededCopying same hash w caller setting c blocks began x p → CopierBegins Such x p ⊎ IsFollowed w x
         by (copying.Passes word code table) is so = absurd so
         by copying.Replaces is so = inr (is, followed x so.0 so.1 so.2)
         by _ is so = inl tt
@@ -114,7 +114,7 @@ module _ {K V : Type 0} (Such : NewTable → Type 0) (same : K → K → Bool) (
     abbrev RoomAhead : Reserving → Type 0
     RoomAhead p = RoomBegins Such p ⊎ ((x : Copier) × RoomCopier p x × IsFollowed w x)
 
-    late_room_ahead : (p : Reserving) → LateReserving same hash w caller setting c blocks began p → RoomAhead p
+    late_room_ahead : (p : Reserving) → SupersededReserving same hash w caller setting c blocks began p → RoomAhead p
     late_room_ahead (reserving.Copies copier) facts = elim (late_ahead copier facts.point) as (λ _. RoomAhead (reserving.Copies copier)) [
       | inl begins ↦ inl begins
       | inr is ↦ inr (copier, refl, is)
@@ -139,7 +139,7 @@ module _ {K V : Type 0} (Such : NewTable → Type 0) (same : K → K → Bool) (
     abbrev CallAhead : Calling → Type 0
     CallAhead p = CallBegins Such p ⊎ ((x : Copier) × CallCopier p x × IsFollowed w x)
 
-    late_call_ahead : (keys : K → Bool) (x : KeyCall K V K) (p : Calling) → LateCalling same hash same w caller setting c blocks keys began x p → CallAhead p
+    late_call_ahead : (keys : K → Bool) (x : KeyCall K V K) (p : Calling) → SupersededCalling same hash same w caller setting c blocks keys began x p → CallAhead p
     late_call_ahead keys x (calling.Helps copier goal) facts = absurd facts
     late_call_ahead keys x (calling.Copies copier) facts = elim (late_ahead copier facts.1.point) as (λ _. CallAhead (calling.Copies copier)) [
       | inl begins ↦ inl begins

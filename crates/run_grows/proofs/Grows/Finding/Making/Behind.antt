@@ -7,11 +7,11 @@ use Rattle.papaya_raw.specs.Given.TablesDeclared.lengths.Reason.TheVariants.{NoP
 use Rattle.papaya_raw.specs.Given.TablesDeclared.node.Node.{Node}
 use Rattle.papaya_raw.specs.Given.TablesDeclared.setting.Setting.{Setting}
 use Rattle.papaya_raw.specs.Given.TablesDeclared.table.Table.{Table}
-use Rattle.run_logged.specs.Given.ResizeNewTable.{table_after}
-use Rattle.run_logged.specs.Given.ResizeDeclared.copier.Copier.{Copier}
-use Rattle.run_logged.specs.Given.ResizeDeclared.copier.Copying.{Copying}
-use Rattle.run_logged.specs.Given.ResizeDeclared.copier.Copying.TheVariants as copying
-use Rattle.run_logged.specs.Given.ResizeDeclared.new_table.NewTable.{NewTable}
+use Rattle.run_finds.specs.Given.ResizeNewTable.{table_after}
+use Rattle.run_finds.specs.Given.ResizeDeclared.copier.Copier.{Copier}
+use Rattle.run_finds.specs.Given.ResizeDeclared.copier.Copying.{Copying}
+use Rattle.run_finds.specs.Given.ResizeDeclared.copier.Copying.TheVariants as copying
+use Rattle.run_finds.specs.Given.ResizeDeclared.new_table.NewTable.{NewTable}
 use Rattle.papaya_raw.specs.Given.ReservesDeclared.reserve.Reserving.{Reserving}
 use Rattle.papaya_raw.specs.Given.ReservesDeclared.reserve.Reserving.TheVariants as reserving
 use Rattle.papaya_raw.specs.Given.ReservesDeclared.sweep.Sweep.{Sweep}
@@ -29,9 +29,9 @@ use Rattle.run_executor.specs.Given.PointsFactsCopiesBlocking.{CopierFactsBlocki
 use Rattle.run_executor.specs.Given.PointsTold.{IsRowOfCall, IsRowOfCopier}
 use Rattle.run_executor.specs.Given.LateFactsReserves.{CopiesWhole, IsEnding, ReservingFacts}
 use Rattle.run_executor.specs.Given.LateFactsSweeps.{CopiesTable, SweepingFacts}
-use Rattle.run_executor.specs.Given.LateLateCalls.{LateCalling}
-use Rattle.run_executor.specs.Given.LateLateCopies.{LateCopying}
-use Rattle.run_executor.specs.Given.LateLateReserves.{LateReserving}
+use Rattle.run_executor.specs.Given.LateLateCalls.{SupersededCalling}
+use Rattle.run_executor.specs.Given.LateLateCopies.{SupersededCopying}
+use Rattle.run_executor.specs.Given.LateLateReserves.{SupersededReserving}
 use Rattle.run_executor.specs.Given.LateToldReserves.{IsRowOfReserve}
 use Rattle.run_executor.specs.Given.LateToldSweeps.{IsRowOfSweep}
 use Rattle.run_executor.specs.Given.CallersSights.{seen_by}
@@ -80,7 +80,7 @@ module _ {K V : Type 0} (Such : NewTable → Type 0) (same : K → K → Bool) (
   blocking_begins x _ facts = tt
 
   module _ (began : ℕ) where
-    late_begins : (x : Copier) (p : Copying) → LateCopying same hash w caller setting c blocks began x p → CopierBegins Such x p
+    late_begins : (x : Copier) (p : Copying) → SupersededCopying same hash w caller setting c blocks began x p → CopierBegins Such x p
     late_begins x (copying.Passes word code table) facts = absurd facts
     late_begins x copying.Replaces facts = tried x.setting x.target facts.1 facts.2.0.target
     late_begins x _ facts = tt
@@ -107,7 +107,7 @@ module _ {K V : Type 0} (Such : NewTable → Type 0) (same : K → K → Bool) (
     room_begins (reserving.Copies copier) facts = whole_begins copier facts
     room_begins _ facts = tt
 
-    late_room_begins : (p : Reserving) → LateReserving same hash w caller setting c blocks began p → RoomBegins Such p
+    late_room_begins : (p : Reserving) → SupersededReserving same hash w caller setting c blocks began p → RoomBegins Such p
     late_room_begins (reserving.Copies copier) facts = late_begins copier copier.stands facts.point
     late_room_begins _ facts = tt
 
@@ -120,7 +120,7 @@ module _ {K V : Type 0} (Such : NewTable → Type 0) (same : K → K → Bool) (
     call_begins keys change x (calling.Copies copier) facts = blocking_begins copier copier.stands facts.2.point
     call_begins keys change x _ facts = tt
 
-    late_call_begins : (keys : K → Bool) (x : KeyCall K V K) (p : Calling) → LateCalling same hash same w caller setting c blocks keys began x p → CallBegins Such p
+    late_call_begins : (keys : K → Bool) (x : KeyCall K V K) (p : Calling) → SupersededCalling same hash same w caller setting c blocks keys began x p → CallBegins Such p
     late_call_begins keys x (calling.Helps copier goal) facts = absurd facts
     late_call_begins keys x (calling.Copies copier) facts = late_begins copier copier.stands facts.1.point
     late_call_begins keys x _ facts = tt

@@ -11,23 +11,23 @@ use Rattle.papaya_raw.specs.Given.TablesFinding.{may_name}
 use Rattle.papaya_raw.specs.Given.TablesTrials.{next_trial, with_met}
 use Rattle.papaya_raw.specs.Given.ResizeDispose.{dispose_plan}
 use Rattle.papaya_raw.specs.Given.ResizeLookup.{lookup_plan}
-use Rattle.run_logged.specs.Given.ResizeNewTable.{new_table_plan}
+use Rattle.run_finds.specs.Given.ResizeNewTable.{new_table_plan}
 use Rattle.papaya_raw.specs.Call.{call_plan, copied, disposed, dropped, first_made, helped, key_read, looked, looks_for, made, makes_of, next_found, next_made, pair_read, plan_at, root_found, tried, word_found, word_read}
 use Rattle.papaya_raw.specs.CallFills.{filled, putting_by, fill_by, emptied, fills_with, fills, given_up, asks_at}
-use Rattle.papaya_raw.specs.CallAsks.{absent_told, present_told, replied, told_at, with_absent, with_present}
-use Rattle.papaya_raw.specs.CallPoints.{asking_at, at_free, at_gap, at_last, at_pair, burying, changed, counted, ending, having_met, storing, tableless, told_of, went_on}
+use Rattle.papaya_raw.specs.CallAsks.{absent_replied, present_replied, replied, replied_at, with_absent, with_present}
+use Rattle.papaya_raw.specs.CallPoints.{asking_at, at_free, at_gap, at_last, at_pair, burying, changed, counted, ending, having_met, storing, tableless, after_finding, continued_in}
 use Rattle.papaya_raw.specs.Given.TablesDeclared.finding.Finding.{Finding}
 use Rattle.papaya_raw.specs.Given.TablesDeclared.finding.Finding.TheVariants as finds
 use Rattle.papaya_raw.specs.Given.TablesDeclared.marks.TheConstants.{TOMBSTONE}
 use Rattle.papaya_raw.specs.Given.TablesDeclared.node.Node.{Node}
 use Rattle.papaya_raw.specs.Given.TablesDeclared.node.Node.TheVariants as node
 use Rattle.papaya_raw.specs.Given.TablesDeclared.table.Table.{Table}
-use Rattle.run_logged.specs.Given.ResizeDeclared.copier.Copier.{Copier}
-use Rattle.run_logged.specs.Given.ResizeDeclared.dispose.Dispose.{Dispose}
-use Rattle.run_logged.specs.Given.ResizeDeclared.lookup.Lookup.{Lookup}
-use Rattle.run_logged.specs.Given.ResizeDeclared.new_table.NewTable.{NewTable}
-use Rattle.run_logged.specs.Given.ResizeDeclared.yielding.Yielding.{Yielding}
-use Rattle.run_logged.specs.Given.ResizeDeclared.yielding.Yielding.TheVariants as outcome
+use Rattle.run_finds.specs.Given.ResizeDeclared.copier.Copier.{Copier}
+use Rattle.run_finds.specs.Given.ResizeDeclared.dispose.Dispose.{Dispose}
+use Rattle.run_finds.specs.Given.ResizeDeclared.lookup.Lookup.{Lookup}
+use Rattle.run_finds.specs.Given.ResizeDeclared.new_table.NewTable.{NewTable}
+use Rattle.run_finds.specs.Given.ResizeDeclared.yielding.Yielding.{Yielding}
+use Rattle.run_finds.specs.Given.ResizeDeclared.yielding.Yielding.TheVariants as outcome
 use Rattle.papaya_raw.specs.declared.machines.answer.KeyAnswer.{KeyAnswer}
 use Rattle.papaya_raw.specs.declared.machines.answer.End.{End}
 use Rattle.papaya_raw.specs.declared.machines.answer.Called.{Called}
@@ -51,7 +51,7 @@ use Rattle.papaya_raw.specs.declared.machines.call.Calling.{Calling}
 use Rattle.papaya_raw.specs.declared.machines.call.Calling.TheVariants as at
 use Rattle.run_executor.proofs.Given.RuleKeys.Always.{Always, AlwaysOf, always_if, always_plan_as}
 use Rattle.run_executor.proofs.Given.PointsCalls.Asked.{asking_so, asking_of_so, passed_so}
-use Rattle.run_sweeps.proofs.Given.FindsShaping.{always_plan_more}
+use Rattle.run_finds.proofs.Shaping.{always_plan_more}
 use Rattle.run_grows.specs.Grows.Further.{CallMakes}
 use Rattle.run_grows.proofs.Grows.Finding.Making.Copiers.{CopierBegins, CopierEnds, begun_makes, copier_makes}
 
@@ -99,7 +99,7 @@ module _ (Such : NewTable → Type 0) {K V Q : Type 0} where
     pair_makes there.Removes word = tt
     pair_makes there.Asks word = asking_of_so CallEnds p (λ word new. tt) (λ asking. tt) (λ asking asked. tt) word
 
-    told_makes : (loaded : Bool) (word : ℕ) (found : Finding) → CallEnds (told_of loaded p word found)
+    told_makes : (loaded : Bool) (word : ℕ) (found : Finding) → CallEnds (after_finding loaded p word found)
     told_makes loaded word finds.Free = free_makes p.missing
     told_makes loaded word finds.Passed =
         passed_so CallEnds (having_met p word) (λ next. tt) tt (λ e. either (p.own == 0) _ _ tt tt) (λ e untold. tt) (next_trial (with_met p.trial word))
@@ -107,7 +107,7 @@ module _ (Such : NewTable → Type 0) {K V Q : Type 0} where
     told_makes loaded word finds.Copying = either loaded _ _ tt tt
     told_makes loaded word finds.There = pair_makes p.there word
 
-    on_makes : (table : Table) → CallEnds (went_on p table)
+    on_makes : (table : Table) → CallEnds (continued_in p table)
     on_makes table = either (is_incremental p.setting.mode) _ _ (either p.helped _ _ tt tt) (begun_makes Such p.setting p.trial.table table)
 
     changed_makes : (word new : ℕ) → CallEnds (changed p word new)
@@ -281,14 +281,14 @@ module _ (Such : NewTable → Type 0) {K V Q : Type 0} where
   gap_makes p gaps.Past = tt
   gap_makes p gaps.Last = tt
 
-  absent_makes : (t : Takes) (p : KeyCall K V Q) (gap : Gap) (reply : MachineReply V) → CallMakes Such p.stands → CallMakes Such (absent_told t p gap reply).0.stands
+  absent_makes : (t : Takes) (p : KeyCall K V Q) (gap : Gap) (reply : MachineReply V) → CallMakes Such p.stands → CallMakes Such (absent_replied t p gap reply).0.stands
   absent_makes takes.Values p gap (replies.Insert value) here = gap_makes (with_absent p value) gap
   absent_makes takes.Changes p gap (replies.Insert value) here = gap_makes (with_absent p value) gap
   absent_makes takes.Changes p gap replies.Remove here = ending_makes p _
   absent_makes takes.Changes p gap replies.Abort here = ending_makes p _
   absent_makes _ p gap _ here = here
 
-  present_makes : (t : Takes) (p : KeyCall K V Q) (word : ℕ) (reply : MachineReply V) → CallMakes Such p.stands → CallMakes Such (present_told t p word reply).0.stands
+  present_makes : (t : Takes) (p : KeyCall K V Q) (word : ℕ) (reply : MachineReply V) → CallMakes Such p.stands → CallMakes Such (present_replied t p word reply).0.stands
   present_makes takes.Values p word (replies.Insert value) here = tt
   present_makes takes.Changes p word (replies.Insert value) here = tt
   present_makes takes.Changes p word replies.Remove here = burying_makes (with_present p word tells.Removes) word
@@ -297,7 +297,7 @@ module _ (Such : NewTable → Type 0) {K V Q : Type 0} where
   present_makes takes.Choices p word replies.No here = ending_makes p _
   present_makes _ p word _ here = here
 
-  told_makes_at : (stands : Calling) (p : KeyCall K V Q) (reply : MachineReply V) → CallMakes Such p.stands → CallMakes Such (told_at stands p reply).0.stands
+  told_makes_at : (stands : Calling) (p : KeyCall K V Q) (reply : MachineReply V) → CallMakes Such p.stands → CallMakes Such (replied_at stands p reply).0.stands
   told_makes_at (at.Asks (asking.Absent gap)) p reply here = absent_makes p.replies.takes p gap reply here
   told_makes_at (at.Asks (asking.Present word)) p reply here = present_makes p.replies.takes p word reply here
   told_makes_at _ p reply here = here

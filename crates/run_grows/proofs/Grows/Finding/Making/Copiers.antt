@@ -22,17 +22,17 @@ use Rattle.papaya_raw.specs.Given.ResizeCopierClaims.{claim_read, claimed, next_
 use Rattle.papaya_raw.specs.Given.ResizeCopierCounts.{counted, refusing}
 use Rattle.papaya_raw.specs.Given.ResizeCopierFurther.{further_read, grown, remade, replacement_read}
 use Rattle.papaya_raw.specs.Given.ResizeCopierMarks.{is_awaited, is_mine, marked}
-use Rattle.papaya_raw.specs.Given.ResizeCopierPlaces.{next_try, pair_put, place_read, put_told}
+use Rattle.papaya_raw.specs.Given.ResizeCopierPlaces.{next_try, pair_put, place_read, after_put}
 use Rattle.papaya_raw.specs.Given.ResizeCopierPromotes.{promoted, retired, successor_read, table_retired}
 use Rattle.papaya_raw.specs.Given.ResizeCopierStates.{behind, copying_all, next_place, none_left, place_done, resting}
-use Rattle.run_logged.specs.Given.ResizeNewTable.{new_table_plan, table_after}
-use Rattle.run_logged.specs.Given.ResizeDeclared.copier.Copier.{Copier}
-use Rattle.run_logged.specs.Given.ResizeDeclared.copier.Copying.{Copying}
-use Rattle.run_logged.specs.Given.ResizeDeclared.copier.Copying.TheVariants as at
-use Rattle.run_logged.specs.Given.ResizeDeclared.new_table.NewTable.{NewTable}
-use Rattle.run_logged.specs.Given.ResizeDeclared.yielding.Yielding.{Yielding}
+use Rattle.run_finds.specs.Given.ResizeNewTable.{new_table_plan, table_after}
+use Rattle.run_finds.specs.Given.ResizeDeclared.copier.Copier.{Copier}
+use Rattle.run_finds.specs.Given.ResizeDeclared.copier.Copying.{Copying}
+use Rattle.run_finds.specs.Given.ResizeDeclared.copier.Copying.TheVariants as at
+use Rattle.run_finds.specs.Given.ResizeDeclared.new_table.NewTable.{NewTable}
+use Rattle.run_finds.specs.Given.ResizeDeclared.yielding.Yielding.{Yielding}
 use Rattle.run_executor.proofs.Given.RuleKeys.Always.{Always, AlwaysOf, always_if, always_plan_as}
-use Rattle.run_sweeps.proofs.Given.FindsShaping.{always_plan_more}
+use Rattle.run_finds.proofs.Shaping.{always_plan_more}
 use Rattle.run_grows.specs.Grows.Further.{CopierMakes}
 
 -- what it may begin to make is such a making
@@ -139,7 +139,7 @@ module _ (Such : NewTable → Type 0) where
       place_makes word code table probe (Found found) = always_if Ends (found == 0) _ _ tt (try_makes p word code table probe)
       place_makes word code table probe _ = here
 
-      told_makes : (word code : ℕ) (table : Table) (probe : Probe) (out : Out (Node K V)) → Always Ends (put_told p word code table probe out)
+      told_makes : (word code : ℕ) (table : Table) (probe : Probe) (out : Out (Node K V)) → Always Ends (after_put p word code table probe out)
       told_makes word code table probe (Exchanged (Ok found)) = put_makes p word
       told_makes word code table probe (Exchanged (Err found)) = try_makes p word code table probe
       told_makes word code table probe _ = here

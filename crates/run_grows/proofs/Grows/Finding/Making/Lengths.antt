@@ -15,8 +15,8 @@ use Rattle.run_schedules.specs.Schedules.Views.{last_of, tables_of}
 use Rattle.run_executor.specs.Given.RuleChart.{Chart}
 use Rattle.run_executor.specs.Given.EffectsKnown.{Known}
 use Rattle.run_executor.specs.Given.FinishesMaps.{Standing}
-use Rattle.run_executor.specs.Given.FollowsMaps.{ShowsMap, shape_at, table_of, tables_to}
-use Rattle.run_sweeps.proofs.Given.FindsGrown.{linked_as}
+use Rattle.run_executor.specs.Given.FollowsMaps.{RefinesMap, shape_at, table_of, tables_to}
+use Rattle.run_finds.proofs.Grown.{linked_as}
 use Rattle.run_grows.specs.Grows.Further.{at_turn, lengths_in, lengths_of}
 
 -- The one of a turn stays where further ones follow; and the last one has the last turn.
@@ -65,7 +65,7 @@ module _ {K : Type 0} (map : ℕ) (c : Chart K) (stage : ℕ → Stage) where
       by (inl e) rest = same e
       by (inr other) rest = before (rest (omega (arith, l, other)))
 
-pub table_length : {K V : Type 0} (map : ℕ) (number : ℕ → ℕ) (st : Standing K) (m : Moment K V) (known : Known) → ShowsMap map number st m known → (t : ℕ) → t < st.chart.past → at_turn (lengths_of map m) t ≡ Some (st.chart.len t)
+pub table_length : {K V : Type 0} (map : ℕ) (number : ℕ → ℕ) (st : Standing K) (m : Moment K V) (known : Known) → RefinesMap map number st m known → (t : ℕ) → t < st.chart.past → at_turn (lengths_of map m) t ≡ Some (st.chart.len t)
 table_length map number st m known shown t l = ap (λ (ts : List TableThere). at_turn (lengths_in ts) t) shown.tables.listed ∙ length_to map st.chart shown.tables.stage t st.chart.past l
 
 -- Effects.

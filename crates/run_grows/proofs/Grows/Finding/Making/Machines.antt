@@ -3,11 +3,11 @@ use Rattle.std.specs.Prelude.{ℕ, Bool}
 use Rattle.papaya_raw.specs.Given.SeizeDeclared.advance.Advance.{Advance as Counting}
 use Rattle.papaya_raw.specs.Given.TablesDeclared.node.Node.{Node}
 use Rattle.papaya_raw.specs.Given.TablesDeclared.table.Table.{Table}
-use Rattle.run_logged.specs.Given.ResizeNewTable.{new_table_plan}
-use Rattle.run_logged.specs.Given.ResizeSum.{sum_plan}
-use Rattle.run_logged.specs.Given.ResizeDeclared.new_table.NewTable.{NewTable}
-use Rattle.run_logged.specs.Given.ResizeDeclared.yielding.Yielding.{Yielding}
-use Rattle.run_logged.specs.Given.ResizeDeclared.sum.Sum.{Sum}
+use Rattle.run_finds.specs.Given.ResizeNewTable.{new_table_plan}
+use Rattle.run_finds.specs.Given.ResizeSum.{sum_plan}
+use Rattle.run_finds.specs.Given.ResizeDeclared.new_table.NewTable.{NewTable}
+use Rattle.run_finds.specs.Given.ResizeDeclared.yielding.Yielding.{Yielding}
+use Rattle.run_finds.specs.Given.ResizeDeclared.sum.Sum.{Sum}
 use Rattle.papaya_raw.specs.Given.ReservesReserve.{reserve_plan}
 use Rattle.papaya_raw.specs.Given.ReservesDeclared.reserve.Reserve.{Reserve}
 use Rattle.papaya_raw.specs.Given.SweepsSweep.{sweep_plan}
@@ -22,7 +22,7 @@ use Rattle.papaya_raw.specs.declared.machines.machine.Machine.{Machine}
 use Rattle.papaya_raw.specs.declared.machines.machine.Machine.TheVariants as kinds
 use Rattle.papaya_raw.specs.declared.machines.progress.Progress.{Progress}
 use Rattle.run_executor.proofs.Given.RuleKeys.Always.{AlwaysOf, always_plan_as}
-use Rattle.run_sweeps.proofs.Given.FindsShaping.{always_plan_more}
+use Rattle.run_finds.proofs.Shaping.{always_plan_more}
 use Rattle.run_grows.specs.Grows.Further.{MachineMakes}
 use Rattle.run_grows.proofs.Grows.Finding.Making.Calls as calls
 use Rattle.run_grows.proofs.Grows.Finding.Making.Calls.{CallBegins, CallEnds}

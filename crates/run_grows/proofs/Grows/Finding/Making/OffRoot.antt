@@ -17,21 +17,21 @@ use Rattle.papaya_raw.specs.Given.TablesDeclared.table_words.TheConstants.{NEXT,
 use Rattle.papaya_raw.specs.Given.ResizeCopier as copiers
 use Rattle.papaya_raw.specs.Given.ResizeCopier.{copier_plan}
 use Rattle.papaya_raw.specs.Given.ResizeCopierFurther.{anew, grown, remade, replacement_read}
-use Rattle.run_logged.specs.Given.ResizeNewTable as tables
-use Rattle.run_logged.specs.Given.ResizeNewTable.{counted, new_table_plan, table_after}
-use Rattle.run_logged.specs.Given.ResizeSum as sums
-use Rattle.run_logged.specs.Given.ResizeSum.{sum_plan}
-use Rattle.run_logged.specs.Given.ResizeDeclared.copier.Copier.{Copier}
-use Rattle.run_logged.specs.Given.ResizeDeclared.copier.Copying.{Copying}
-use Rattle.run_logged.specs.Given.ResizeDeclared.copier.Copying.TheVariants as copying
-use Rattle.run_logged.specs.Given.ResizeDeclared.new_table.Making.{Making}
-use Rattle.run_logged.specs.Given.ResizeDeclared.new_table.Making.TheVariants as makes
-use Rattle.run_logged.specs.Given.ResizeDeclared.new_table.NewTable.{NewTable}
-use Rattle.run_logged.specs.Given.ResizeDeclared.yielding.Yielding.{Yielding}
-use Rattle.run_logged.specs.Given.ResizeDeclared.yielding.Yielding.TheVariants as outcome
-use Rattle.run_logged.specs.Given.ResizeDeclared.sum.Sum.{Sum}
-use Rattle.run_logged.specs.Given.ResizeDeclared.sum.Summing.{Summing}
-use Rattle.run_logged.specs.Given.ResizeDeclared.sum.Summing.TheVariants as summing
+use Rattle.run_finds.specs.Given.ResizeNewTable as tables
+use Rattle.run_finds.specs.Given.ResizeNewTable.{counted, new_table_plan, table_after}
+use Rattle.run_finds.specs.Given.ResizeSum as sums
+use Rattle.run_finds.specs.Given.ResizeSum.{sum_plan}
+use Rattle.run_finds.specs.Given.ResizeDeclared.copier.Copier.{Copier}
+use Rattle.run_finds.specs.Given.ResizeDeclared.copier.Copying.{Copying}
+use Rattle.run_finds.specs.Given.ResizeDeclared.copier.Copying.TheVariants as copying
+use Rattle.run_finds.specs.Given.ResizeDeclared.new_table.Making.{Making}
+use Rattle.run_finds.specs.Given.ResizeDeclared.new_table.Making.TheVariants as makes
+use Rattle.run_finds.specs.Given.ResizeDeclared.new_table.NewTable.{NewTable}
+use Rattle.run_finds.specs.Given.ResizeDeclared.yielding.Yielding.{Yielding}
+use Rattle.run_finds.specs.Given.ResizeDeclared.yielding.Yielding.TheVariants as outcome
+use Rattle.run_finds.specs.Given.ResizeDeclared.sum.Sum.{Sum}
+use Rattle.run_finds.specs.Given.ResizeDeclared.sum.Summing.{Summing}
+use Rattle.run_finds.specs.Given.ResizeDeclared.sum.Summing.TheVariants as summing
 use Rattle.papaya_raw.specs.Given.ReservesReserve as reserves
 use Rattle.papaya_raw.specs.Given.ReservesReserve.{reserve_plan}
 use Rattle.papaya_raw.specs.Given.ReservesDeclared.reserve.Reserve.{Reserve}
@@ -53,7 +53,7 @@ use Rattle.papaya_raw.specs.declared.machines.call.KeyCall.{KeyCall}
 use Rattle.papaya_raw.specs.declared.machines.machine.Machine.{Machine}
 use Rattle.papaya_raw.specs.declared.machines.machine.Machine.TheVariants as kinds
 use Rattle.papaya_raw.specs.declared.machines.progress.Progress.{Progress}
-use Rattle.run_executor.specs.Given.TellerTells.{StepsTold, told_of}
+use Rattle.run_executor.specs.Given.TellerTells.{StepsObserved, observed_of}
 use Rattle.run_executor.specs.Given.EffectsDeclared.changed.Changed.{Changed}
 use Rattle.run_executor.specs.Given.EffectsDeclared.changed.Changed.TheVariants as changed
 use Rattle.run_executor.specs.Given.TellsSeen.{seen_of}
@@ -101,14 +101,14 @@ none_goes K V n none = absurd none
 
 module _ {K V : Type 0} (m m2 : Mem (Node K V)) (told : Changed) where
   abbrev Step : {R : Type 0} → Plan (Node K V) R → R → Type 0
-  Step {R} plan end = StepsTold K V R m changed.Nothing plan m2 told end
+  Step {R} plan end = StepsObserved K V R m changed.Nothing plan m2 told end
 
   abbrev Off : Type 0
   Off = OffRoot told
 
   -- by the operation of a making
 
-  made_off : (value : Node K V) (words : ℕ) (out : Out (Node K V)) → OffRoot (told_of (Make value words) out (seen_of m (Make value words) out))
+  made_off : (value : Node K V) (words : ℕ) (out : Out (Node K V)) → OffRoot (observed_of (Make value words) out (seen_of m (Make value words) out))
   made_off value words (Made (Ok x)) = tt
   made_off value words (Made (Err back)) = tt
   made_off value words _ = tt

@@ -7,19 +7,19 @@ use Rattle.papaya_raw.specs.Given.SeizeDeclared.advance.Advance.TheVariants as p
 use Rattle.papaya_raw.specs.Given.TablesDeclared.node.Node.{Node}
 use Rattle.papaya_raw.specs.Given.TablesDeclared.table.Table.{Table}
 use Rattle.papaya_raw.specs.Given.ResizeCopier.{copier_plan}
-use Rattle.run_logged.specs.Given.ResizeNewTable.{new_table_plan}
-use Rattle.run_logged.specs.Given.ResizeSum.{sum_plan}
-use Rattle.run_logged.specs.Given.ResizeDeclared.copier.Copier.{Copier}
-use Rattle.run_logged.specs.Given.ResizeDeclared.new_table.NewTable.{NewTable}
-use Rattle.run_logged.specs.Given.ResizeDeclared.yielding.Yielding.{Yielding}
-use Rattle.run_logged.specs.Given.ResizeDeclared.yielding.Yielding.TheVariants as outcome
-use Rattle.run_logged.specs.Given.ResizeDeclared.sum.Sum.{Sum}
+use Rattle.run_finds.specs.Given.ResizeNewTable.{new_table_plan}
+use Rattle.run_finds.specs.Given.ResizeSum.{sum_plan}
+use Rattle.run_finds.specs.Given.ResizeDeclared.copier.Copier.{Copier}
+use Rattle.run_finds.specs.Given.ResizeDeclared.new_table.NewTable.{NewTable}
+use Rattle.run_finds.specs.Given.ResizeDeclared.yielding.Yielding.{Yielding}
+use Rattle.run_finds.specs.Given.ResizeDeclared.yielding.Yielding.TheVariants as outcome
+use Rattle.run_finds.specs.Given.ResizeDeclared.sum.Sum.{Sum}
 use Rattle.papaya_raw.specs.Given.ReservesReserve.{copied, enough, grown, made, needed, next_read, plan_at, refusing, reserve_plan, root_read, standing, summed}
 use Rattle.papaya_raw.specs.Given.ReservesDeclared.reserve.Reserve.{Reserve}
 use Rattle.papaya_raw.specs.Given.ReservesDeclared.reserve.Reserving.{Reserving}
 use Rattle.papaya_raw.specs.Given.ReservesDeclared.reserve.Reserving.TheVariants as at
 use Rattle.run_executor.proofs.Given.RuleKeys.Always.{Always, AlwaysOf, always_if, always_plan_as}
-use Rattle.run_sweeps.proofs.Given.FindsShaping.{always_plan_more}
+use Rattle.run_finds.proofs.Shaping.{always_plan_more}
 use Rattle.run_grows.specs.Grows.Further.{RoomMakes}
 use Rattle.run_grows.proofs.Grows.Finding.Making.Copiers.{CopierBegins, CopierEnds, begun_makes, copier_makes}
 

@@ -5,8 +5,8 @@ use Rattle.papaya_raw.specs.Given.TablesDeclared.lengths.Reason.TheVariants.{NoP
 use Rattle.papaya_raw.specs.Given.TablesDeclared.node.Node.{Node}
 use Rattle.papaya_raw.specs.Given.TablesDeclared.setting.Setting.{Setting}
 use Rattle.papaya_raw.specs.Given.TablesDeclared.table.Table.{Table}
-use Rattle.run_logged.specs.Given.ResizeNewTable.{table_after}
-use Rattle.run_logged.specs.Given.ResizeDeclared.new_table.NewTable.{NewTable}
+use Rattle.run_finds.specs.Given.ResizeNewTable.{table_after}
+use Rattle.run_finds.specs.Given.ResizeDeclared.new_table.NewTable.{NewTable}
 use Rattle.papaya_raw.specs.Machine.{machine_plan}
 use Rattle.papaya_raw.specs.declared.machines.machine.Machine.{Machine}
 use Rattle.papaya_raw.specs.declared.machines.progress.Progress.{Progress}
@@ -26,8 +26,8 @@ use Rattle.run_executor.specs.Given.FinishesMachines.{machine_of}
 use Rattle.run_executor.specs.Given.FinishesMaps.{Standing}
 use Rattle.run_executor.proofs.Given.FollowsSteps.{WentTo, went_to}
 use Rattle.run_executor.proofs.Given.HandsAsking.{which}
-use Rattle.run_executor.specs.Given.MomentsWhole.{ShowsWhole}
-use Rattle.run_grows.specs.Grows.Further.{IsFurther, MachineMakes, ShowsFurther, lengths_of}
+use Rattle.run_executor.specs.Given.MomentsWhole.{RefinesWhole}
+use Rattle.run_grows.specs.Grows.Further.{IsFurther, MachineMakes, RefinesFurther, lengths_of}
 use Rattle.run_grows.proofs.Grows.Finding.Making.Behind.{begins_behind}
 use Rattle.run_grows.proofs.Grows.Finding.Making.Lengths.{KeepsLengths, effects_keep_lengths, table_length}
 use Rattle.run_grows.proofs.Grows.Finding.Making.Machines.{Ends, machine_makes}
@@ -36,14 +36,14 @@ use Rattle.run_executor.proofs.Given.ScenesTold.{as_step}
 use Rattle.run_executor.specs.Given.ScenesHeld.{Held, IsAt}
 use Rattle.run_executor.specs.Given.ScenesScene.{Scene, slot_of}
 use Rattle.run_executor.specs.Given.ScenesStepping.{StepLeads, scene_after}
-use Rattle.run_logged.proofs.Given.SettlesCalls.{goes_as_one}
+use Rattle.run_finds.proofs.Given.SettlesCalls.{goes_as_one}
 
 -- where a map has had further tables
 pub later : {K V Q : Type 0} (m v : Moment K V) → KeepsLengths m v → (map : ℕ) (machine : Machine K V Q) → MachineMakes (IsFurther (lengths_of map m)) machine → MachineMakes (IsFurther (lengths_of map v)) machine
 later m v keeps map machine makes = machine_more (IsFurther (lengths_of map m)) (IsFurther (lengths_of map v)) (λ n so. further_more (lengths_of map m) (lengths_of map v) (keeps map) n so) machine makes
 
 module _ {K V : Type 0} (same : K → K → Bool) (hash : ℕ → K → ℕ) (name : ℕ → List ℕ) (m : Moment K V) (known : Known) (s : Scene K V) (old new : Held K V) (at : IsAt same hash old s)
-    (whole : ShowsWhole same name m known s) (further : ShowsFurther m s) (map i : ℕ) (u : UnderWay K V K) (here : s.calls map i ≡ Some u) (said : Progress (Node K V))
+    (whole : RefinesWhole same name m known s) (further : RefinesFurther m s) (map i : ℕ) (u : UnderWay K V K) (here : s.calls map i ≡ Some u) (said : Progress (Node K V))
     (leads : StepLeads same hash i said s old new) where
   abbrev to : WentTo same hash name m known s old new at whole.all.shown map i u here said leads
   to = went_to same hash name m known s old new at whole.all.shown map i u here said leads
@@ -80,7 +80,7 @@ module _ {K V : Type 0} (same : K → K → Bool) (hash : ℕ → K → ℕ) (na
   keeps : KeepsLengths m v
   keeps = effects_keep_lengths (Some (name i)) (Some map) effects m
 
-  pub further_then : ShowsFurther v led
+  pub further_then : RefinesFurther v led
   further_then n j y is = elim (which s.calls map i to.4.next n j y is) as (λ _. MachineMakes (IsFurther (lengths_of n v)) (machine_of y)) [
     | inl it ↦
         subst (λ (k : ℕ). MachineMakes (IsFurther (lengths_of k v)) (machine_of y)) (sym it.0)

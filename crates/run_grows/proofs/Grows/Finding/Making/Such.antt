@@ -10,12 +10,12 @@ use Rattle.papaya_raw.specs.Given.TablesDeclared.lengths.Reason.{Reason}
 use Rattle.papaya_raw.specs.Given.TablesDeclared.lengths.Reason.TheVariants.{NoPlace}
 use Rattle.papaya_raw.specs.Given.TablesDeclared.setting.Setting.{Setting}
 use Rattle.papaya_raw.specs.Given.TablesDeclared.table.Table.{Table}
-use Rattle.run_logged.specs.Given.ResizeNewTable.{following, making_of, new_table_plan, planned, table_after}
-use Rattle.run_logged.specs.Given.ResizeDeclared.copier.Copying.{Copying}
-use Rattle.run_logged.specs.Given.ResizeDeclared.copier.Copying.TheVariants as copying
-use Rattle.run_logged.specs.Given.ResizeDeclared.new_table.Making.{Making}
-use Rattle.run_logged.specs.Given.ResizeDeclared.new_table.Making.TheVariants as makes
-use Rattle.run_logged.specs.Given.ResizeDeclared.new_table.NewTable.{NewTable}
+use Rattle.run_finds.specs.Given.ResizeNewTable.{following, making_of, new_table_plan, planned, table_after}
+use Rattle.run_finds.specs.Given.ResizeDeclared.copier.Copying.{Copying}
+use Rattle.run_finds.specs.Given.ResizeDeclared.copier.Copying.TheVariants as copying
+use Rattle.run_finds.specs.Given.ResizeDeclared.new_table.Making.{Making}
+use Rattle.run_finds.specs.Given.ResizeDeclared.new_table.Making.TheVariants as makes
+use Rattle.run_finds.specs.Given.ResizeDeclared.new_table.NewTable.{NewTable}
 use Rattle.papaya_raw.specs.Given.ReservesDeclared.reserve.Reserving.{Reserving}
 use Rattle.papaya_raw.specs.Given.ReservesDeclared.reserve.Reserving.TheVariants as reserving
 use Rattle.papaya_raw.specs.Given.ReservesDeclared.sweep.Sweeping.{Sweeping}
@@ -26,10 +26,10 @@ use Rattle.papaya_raw.specs.declared.machines.machine.Machine.{Machine}
 use Rattle.papaya_raw.specs.declared.machines.machine.Machine.TheVariants as kinds
 use Rattle.run_schedules.specs.Schedules.Growing.{Has}
 use Rattle.run_executor.proofs.Given.RuleKeys.Always.{Always, AlwaysOf}
-use Rattle.run_sweeps.specs.Given.FindsShaping.{ShapedAt}
-use Rattle.run_sweeps.proofs.Given.FindsShaping.{goes_shaped, few_is, at_least_eight}
-use Rattle.run_grows.specs.Grows.Further.{CallMakes, CopierMakes, IsBehind, IsFurther, MachineMakes, RoomMakes, SweepMakes, at_turn}
-use Rattle.run_sweeps.proofs.Purposes.Needs.{next_of as turn_is}
+use Rattle.run_finds.specs.Shaping.{ShapedAt}
+use Rattle.run_finds.proofs.Shaping.{goes_shaped, few_is, at_least_eight}
+use Rattle.run_grows.specs.Grows.Further.{CallMakes, CopierMakes, FollowsFullTable, IsFurther, MachineMakes, RoomMakes, SweepMakes, at_turn}
+use Rattle.run_finds.proofs.Purposes.Needs.{next_of as turn_is}
 
 -- what is so of each outcome of a plan is so as what follows from that
 module _ {T A : Type 0} (Q P : A → Type 0) (all : (a : A) → Q a → P a) where
@@ -49,14 +49,14 @@ NoSum before reason = ⊥
 module _ (lengths : List ℕ) where
   pub further_goes : (K V : Type 0) (n : NewTable) → IsFurther lengths n → AlwaysOf (λ (e : NewTable × Advance Table). IsFurther lengths e.0) (new_table_plan {K = K} {V = V} n)
   further_goes K V n so =
-      always_so (λ (e : NewTable × Advance Table). (e.0.setting ≡ n.setting) × ShapedAt NoSum (IsBehind lengths) e.0.stands) (λ (e : NewTable × Advance Table). IsFurther lengths e.0) (λ e both. both.1)
-      (new_table_plan {K = K} {V = V} n) (goes_shaped NoSum (IsBehind lengths) (λ t b is. is) n (λ before reason count none. absurd none) K V so)
+      always_so (λ (e : NewTable × Advance Table). (e.0.setting ≡ n.setting) × ShapedAt NoSum (FollowsFullTable lengths) e.0.stands) (λ (e : NewTable × Advance Table). IsFurther lengths e.0) (λ e both. both.1)
+      (new_table_plan {K = K} {V = V} n) (goes_shaped NoSum (FollowsFullTable lengths) (λ t b is. is) n (λ before reason count none. absurd none) K V so)
 
   -- where it begins behind a table of the map
 
   module _ (t : ℕ) (before : Table) (there : before.turn ≡ t) (length_is : at_turn lengths t ≡ Some before.len) where
     abbrev Such : Making → Type 0
-    Such p = ShapedAt NoSum (IsBehind lengths) p
+    Such p = ShapedAt NoSum (FollowsFullTable lengths) p
 
     turned : (len : ℕ) → next_len NoPlace before.len 0 0 ≡ Ok len → (r : Result ℕ Fault) → next_turn before.turn ≡ r → Such (following NoPlace before (max len 8) r)
     turned len is (Err fault) e = tt
@@ -78,10 +78,10 @@ module _ (lengths : List ℕ) where
 
 -- where each table of a map is as long
 module _ (lengths lengths2 : List ℕ) (more : (t n : ℕ) → at_turn lengths t ≡ Some n → at_turn lengths2 t ≡ Some n) where
-  behind_more : (table : Table) → IsBehind lengths table → IsBehind lengths2 table
+  behind_more : (table : Table) → FollowsFullTable lengths table → FollowsFullTable lengths2 table
   behind_more table is = (is.0, is.1, is.2, more is.0 is.1 is.3, is.4, is.5)
 
-  stands_more : (p : Making) → ShapedAt NoSum (IsBehind lengths) p → ShapedAt NoSum (IsBehind lengths2) p
+  stands_more : (p : Making) → ShapedAt NoSum (FollowsFullTable lengths) p → ShapedAt NoSum (FollowsFullTable lengths2) p
   stands_more (makes.Sums before reason sum) so = so
   stands_more (makes.Makes table) so = behind_more table so
   stands_more (makes.Promotes table) so = behind_more table so

@@ -12,12 +12,12 @@ use Rattle.papaya_raw.specs.Given.TablesDeclared.node.Node.{Node}
 use Rattle.papaya_raw.specs.Given.TablesDeclared.table.Table.{Table}
 use Rattle.papaya_raw.specs.Given.ResizeCopier.{copier_plan}
 use Rattle.papaya_raw.specs.Given.ResizeDispose.{dispose_plan}
-use Rattle.run_logged.specs.Given.ResizeNewTable.{new_table_plan}
-use Rattle.run_logged.specs.Given.ResizeDeclared.copier.Copier.{Copier}
-use Rattle.run_logged.specs.Given.ResizeDeclared.dispose.Dispose.{Dispose}
-use Rattle.run_logged.specs.Given.ResizeDeclared.new_table.NewTable.{NewTable}
-use Rattle.run_logged.specs.Given.ResizeDeclared.yielding.Yielding.{Yielding}
-use Rattle.run_logged.specs.Given.ResizeDeclared.yielding.Yielding.TheVariants as outcome
+use Rattle.run_finds.specs.Given.ResizeNewTable.{new_table_plan}
+use Rattle.run_finds.specs.Given.ResizeDeclared.copier.Copier.{Copier}
+use Rattle.run_finds.specs.Given.ResizeDeclared.dispose.Dispose.{Dispose}
+use Rattle.run_finds.specs.Given.ResizeDeclared.new_table.NewTable.{NewTable}
+use Rattle.run_finds.specs.Given.ResizeDeclared.yielding.Yielding.{Yielding}
+use Rattle.run_finds.specs.Given.ResizeDeclared.yielding.Yielding.TheVariants as outcome
 use Rattle.papaya_raw.specs.Given.SweepsSweep.{copied, disposed, next_read, plan_at, root_read, sweep_plan, tried, word_found}
 use Rattle.papaya_raw.specs.Given.SweepsSweepPoints.{at_end, at_pair, beginning, entering, further, next_at, removes, reply_at, seen, tableless}
 use Rattle.papaya_raw.specs.Given.ReservesDeclared.sweep.Purpose.{Purpose}
@@ -26,11 +26,11 @@ use Rattle.papaya_raw.specs.Given.ReservesDeclared.sweep.Sweep.{Sweep}
 use Rattle.papaya_raw.specs.Given.ReservesDeclared.sweep.Sweeping.{Sweeping}
 use Rattle.papaya_raw.specs.Given.ReservesDeclared.sweep.Sweeping.TheVariants as at
 use Rattle.papaya_raw.specs.Given.ReservesDeclared.sweep.Swept.{Swept}
-use Rattle.papaya_raw.specs.Machine.{sweep_asked, sweep_replied, sweep_told}
+use Rattle.papaya_raw.specs.Machine.{sweep_asked, sweep_replied, sweep_with_reply}
 use Rattle.papaya_raw.specs.declared.machines.asking.MachineReply.{MachineReply}
 use Rattle.papaya_raw.specs.declared.machines.asking.MachineReply.TheVariants as replies
 use Rattle.run_executor.proofs.Given.RuleKeys.Always.{Always, AlwaysOf, always_if, always_plan_as}
-use Rattle.run_sweeps.proofs.Given.FindsShaping.{always_plan_more}
+use Rattle.run_finds.proofs.Shaping.{always_plan_more}
 use Rattle.run_grows.specs.Grows.Further.{SweepMakes}
 use Rattle.run_grows.proofs.Grows.Finding.Making.Copiers.{CopierBegins, CopierEnds, begun_makes, copier_makes}
 
@@ -134,7 +134,7 @@ module _ (Such : NewTable → Type 0) where
   reply_at_makes c (at.Asks word) keeps here = sweep_either keeps (further c) (record c { stands = at.Tries word }) (further_makes c) tt
   reply_at_makes c _ keeps here = here
 
-  told_makes : {V : Type 0} (c : Sweep) (stands : Sweeping) (reply : MachineReply V) → SweepMakes Such c.stands → SweepMakes Such (sweep_told stands c reply).0.stands
+  told_makes : {V : Type 0} (c : Sweep) (stands : Sweeping) (reply : MachineReply V) → SweepMakes Such c.stands → SweepMakes Such (sweep_with_reply stands c reply).0.stands
   told_makes c (at.Asks word) replies.Yes here = reply_at_makes c c.stands true here
   told_makes c (at.Asks word) replies.No here = reply_at_makes c c.stands false here
   told_makes c _ _ here = here

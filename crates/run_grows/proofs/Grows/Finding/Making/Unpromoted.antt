@@ -20,7 +20,7 @@ use Rattle.run_executor.specs.Given.EffectsKnown.{Known}
 use Rattle.run_executor.specs.Given.EffectsDeclared.acting.Acting.{Acting}
 use Rattle.run_executor.specs.Given.EffectsDeclared.acting.Acting.TheVariants as acts
 use Rattle.run_executor.proofs.Given.FollowsOfEach.{OfEach, taken_so, operation_so}
-use Rattle.run_sweeps.proofs.Given.FindsGrown.{linked_as}
+use Rattle.run_finds.proofs.Grown.{linked_as}
 
 -- what was told is no writing of a root
 abbrev pub OffRoot : Changed → Type 0

@@ -6,7 +6,7 @@ use Rattle.run_logged.specs.Log.Makings.{MakingRan}
 use Rattle.run_logged.proofs.Log.MakingsRun.{making_left_of}
 use Rattle.run_logged.proofs.Log.RootsFound.{MakingFindsSoFar}
 use Rattle.run_logged.proofs.logged.Logged.run_making.Given as goal
-use Rattle.run_executor.specs.Executing.IsThere.{KeepsGiven, work_of}
+use Rattle.run_executor.specs.Executing.IsThere.{PreservesSettings, work_of}
 
 -- the making goes on by the steps that ran, what it did stands in the list, there are as many numbers, and what the executor was given stays
 abbrev pub invariant-loop-told : goal.invariant-loop-told
@@ -15,7 +15,7 @@ invariant-loop-told g l = record {
   finds : MakingFindsSoFar l.fn.caller l.fn.map l.fn.effects.items l.effects.items l.fn.self l.self;
   gone : GoesTo (MakingOn l.fn.caller l.fn.map) (far l.fn.effects.items l.fn.self) (far l.effects.items l.self);
   numbers : length l.self.executor.maps.items ≡ length l.fn.self.executor.maps.items;
-  given : KeepsGiven l.fn.self.executor l.self.executor;
+  given : PreservesSettings l.fn.self.executor l.self.executor;
 }
 
 abbrev pub decreases-loop-told : goal.decreases-loop-told

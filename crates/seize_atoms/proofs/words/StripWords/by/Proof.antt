@@ -30,7 +30,7 @@ use Rattle.core.proofs.atomic.Steps.{tail}
 use Rattle.std.specs.contracts.marker.PhantomData as marker
 use Rattle.std.proofs.raw_atomic.Walks.{proved, leaves}
 use Rattle.seize_seats.specs.Seats.Stretches.{IsEven, invariant}
-use Rattle.seize_seats.specs.Seats.Owned.{Core, BaseId, core_of, everything, strip_told, words_share}
+use Rattle.seize_seats.specs.Seats.Owned.{Core, BaseId, core_of, everything, strip_known, words_share}
 use Rattle.seize_seats.proofs.Seats.Views.Shown.{told_there}
 use Rattle.seize_atoms.specs.contracts.words.StripWords as words
 use Rattle.seize_atoms.specs.contracts.strip.Strip as strip
@@ -77,7 +77,7 @@ by_spec 𝓤 𝓛 𝓜 𝓡 wired X P U F LX LP LU LF g d _ =
     split ! $ drop ! $ unhide ! $ fsplit ! $ move ! (1 ∷ []) $ fsplit ! $ drop ! $ fsplit ! $ drop ! $
     -- [the invariant; its lifetime lasts; the strip; the token; the others]
     rewrite ! 0 (λ (k : Core). ‵ (Inv k)) (sym asked.0) refl $ rewrite ! 1 (λ (k : Core). ‵ (Lasts k)) (sym asked.0) refl $ move ! (2 ∷ []) $
-    use1 𝓛 (‵ (hidden_shr Ds κ (q, (tt, tt)) b' o') ⊛ ‵ (fhide (strip_told K₀ q y)))
+    use1 𝓛 (‵ (hidden_shr Ds κ (q, (tt, tt)) b' o') ⊛ ‵ (fhide (strip_known K₀ q y)))
     (lent_out 𝓛 (strip.struct R₀) (strip.the_codes X.Denot R₀.coded (marker.the_row R₀).coded) (strip.the_heap R₀) (strip.the_lent R₀) κ s b' o') $
     split ! $ move ! (1 ∷ []) $ unhide ! $ rewrite ! 0 (λ (f : Fml). ‵ f) (told_there K₀ q y asked.1) refl $ fsplit ! $
     -- [it is placed; it is listed; the address; the invariant; its lifetime lasts; the token; the others]

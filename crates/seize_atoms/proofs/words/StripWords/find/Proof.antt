@@ -37,9 +37,9 @@ use Rattle.std.proofs.raw_atomic.Walks.{proved, leaves}
 use Rattle.std.proofs.raw_atomic.Calls.{fm, seq_cst}
 use Rattle.std.proofs.raw_atomic.PtrCalls.{found, finds, loads, seq_cst_good}
 use Rattle.seize_seats.specs.Seats.Doors.{before}
-use Rattle.seize_seats.specs.Seats.Owned.{BaseId, IsPlaced, age, core_of, common, stride, strip_told, words_share}
+use Rattle.seize_seats.specs.Seats.Owned.{BaseId, IsPlaced, age, core_of, common, stride, strip_known, words_share}
 use Rattle.seize_seats.proofs.Seats.Views.Shown.{placed, told_there}
-use Rattle.seize_seats.specs.Seats.Lendings.{ShownToAll}
+use Rattle.seize_seats.specs.Seats.Lendings.{VisibleToThree}
 use Rattle.seize_seats.specs.Seats.Stretches.{seat_shares}
 use Rattle.seize_seats.proofs.Seats.Views.Ledgers.{view_halves}
 use Rattle.seize_seats.proofs.Seats.Growing.Looks.{at_door, tells_strip}
@@ -81,7 +81,7 @@ find_spec 𝓤 𝓛 𝓜 𝓡 wired X P U F LX LP LU LF g d _ =
     let others : Fml = fsep (flft κs.1.1.1.1.0 qs.1.1.1.1.0) (fsep (flft κs.1.1.1.1.1.0 qs.1.1.1.1.1.0) (fsep (flft κs.1.1.1.1.1.1.0 qs.1.1.1.1.1.1.0)
     (fsep (flft κs.1.1.1.1.1.1.1.0 qs.1.1.1.1.1.1.1.0) ftrue))) in
     let Asked : Type 0 = (r₁.base ≡ z.views_name) × (h.base ≡ z.views_name) × (k.base ≡ z.views_name) × (pd ≡ z.doors) × (j < 32) × (z.place ≡ 0) × (z.size ≡ z.least)
-    × (z.least * 2 ^ j ≤ nr - 1) × ShownToAll rule r₁.id r₁.view h.id h.view k.id k.view nr in
+    × (z.least * 2 ^ j ≤ nr - 1) × VisibleToThree rule r₁.id r₁.view h.id h.view k.id k.view nr in
     let us : Ptr → List Val = λ r. vptr b o ∷ vptr b₁ o₁ ∷ vptr b₂ o₂ ∷ vptr b₃ o₃ ∷ vint w64 nr ∷ ptr_val r ∷ vint w64 j ∷ [] in
     let y : (walk_of 𝓛 En hs c).Ghost = ((κs, qs, bounds, a, (vptr b o ∷ [], (vptr b₁ o₁ ∷ [], (vptr b₂ o₂ ∷ [], (vptr b₃ o₃ ∷ [], (vint w64 nr ∷ [], (ptr_val pd ∷ [], (vint w64 j ∷ [], tt)))))))), gh) in
     let Post : Val → SProp 𝓤 = (walk_of 𝓛 En hs c).post y in let Run : List Val → SProp 𝓤 = λ ws. WpFn 𝓤 H 𝓣.C 𝓣.Λ fn ws Post in
@@ -148,7 +148,7 @@ find_spec 𝓤 𝓛 𝓜 𝓡 wired X P U F LX LP LU LF g d _ =
     let Told : Type 0 = (core_of y' ≡ core_of z) × (before K₀ n ≡ before K₀ n) × (w ≡ w)
     × (n ≡ n) × (n ≡ n) × InBlock w × ((before K₀ n + n * 5) * 8 < 2 ^ 63) × (n * stride K₀ < 2 ^ 63) in
     -- [what is told; the four tokens, last first; the others]
-    use1 𝓛 (‵ (strip_told K₀ w y')) (tells_strip 𝓛 K₀ kept_words cv holds p z s j e asked.4 refl there.4 w) $
+    use1 𝓛 (‵ (strip_known K₀ w y')) (tells_strip 𝓛 K₀ kept_words cv holds p z s j e asked.4 refl there.4 w) $
     rewrite ! 0 (λ (f₁ : Fml). ‵ f₁) (told_there K₀ w y' found_one) refl $ fsplit ! $ fpick ! (λ lies. drop ! $
     nothing ! $ fpack ! (IsPlaced K₀ w y') (λ _. ftrue) lies $ fjoin ! $ rewrite ! 0 (λ (f₁ : Fml). ‵ f₁) (sym (told_there K₀ w y' found_one)) refl $
     nothing ! $ move ! (1 ∷ 0 ∷ []) $ fjoin ! $ use0 𝓛 (‵ ((StripData R₀).own_val (w, (tt, tt)) (hand_of w ∷ []))) (strip_made 𝓛 R₀ w) $ fjoin ! $

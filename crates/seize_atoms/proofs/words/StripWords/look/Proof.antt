@@ -35,7 +35,7 @@ use Rattle.std.proofs.raw_atomic.Walks.{proved, leaves}
 use Rattle.std.proofs.raw_atomic.Calls.{fm, seq_cst}
 use Rattle.std.proofs.raw_atomic.PtrCalls.{found, finds, loads, seq_cst_good}
 use Rattle.seize_seats.specs.Seats.Doors.{before}
-use Rattle.seize_seats.specs.Seats.Owned.{BaseId, IsPlaced, age, core_of, common, stride, strip_told, words_share}
+use Rattle.seize_seats.specs.Seats.Owned.{BaseId, IsPlaced, age, core_of, common, stride, strip_known, words_share}
 use Rattle.seize_seats.proofs.Seats.Views.Shown.{placed}
 use Rattle.seize_seats.proofs.Seats.Growing.Looks.{glimpse, Fits, looks, at_door, tells_more}
 use Rattle.seize_atoms.specs.contracts.words.StripWords as words
@@ -106,7 +106,7 @@ look_spec 𝓤 𝓛 𝓜 𝓡 wired X P U F LX LP LU LF g d _ =
     let Told : Type 0 = (core_of y' ≡ core_of z) × (before K₀ n ≡ before K₀ n) × (w ≡ w) × (n ≡ n) × (n ≡ n) × (suc j ≡ j + 1) × Testable w
     × (InBlock w → ((before K₀ n + n * 5) * 8 < 2 ^ 63) × (n * stride K₀ < 2 ^ 63)) in
     -- [what is told; the token; the others]
-    use1 𝓛 (given (Fits 𝓛 K₀ kept_words cv holds p z s j e asked.1 refl w) (‵ (strip_told K₀ w y'))) (tells_more 𝓛 K₀ kept_words cv holds p z s j e asked.1 refl there.4 w) $ learn ! (λ fit.
+    use1 𝓛 (given (Fits 𝓛 K₀ kept_words cv holds p z s j e asked.1 refl w) (‵ (strip_known K₀ w y'))) (tells_more 𝓛 K₀ kept_words cv holds p z s j e asked.1 refl there.4 w) $ learn ! (λ fit.
     let next : suc j ≡ j + 1 = omega arith in
     nothing ! $ move ! (1 ∷ 0 ∷ []) $ fjoin ! $ use0 𝓛 (‵ ((StripData R₀).own_val (w, (tt, tt)) (hand_of w ∷ []))) (strip_made 𝓛 R₀ w) $ fjoin ! $
     nothing ! $ nothing ! $ fjoin ! $ nothing ! $ fjoin ! $ nothing ! $ fjoin ! $ move ! (2 ∷ 3 ∷ []) $ join ! $

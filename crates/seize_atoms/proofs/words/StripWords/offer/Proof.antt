@@ -47,7 +47,7 @@ use Rattle.std.proofs.raw_atomic.PtrCalls.{Answer, answer_val, answer_good, answ
 use Rattle.seize_seats.specs.Seats.Seen.{fact as so, seen}
 use Rattle.seize_seats.specs.Seats.Strips.{Strip, strip_coded}
 use Rattle.seize_seats.specs.Seats.Doors.{before, block_bytes, words_from, IsFurther, right_to}
-use Rattle.seize_seats.specs.Seats.Owned.{pieces, BaseId, IsPlaced, AreOf, age, core_of, common, strip_of, strip_told, words_share}
+use Rattle.seize_seats.specs.Seats.Owned.{pieces, BaseId, IsPlaced, AreOf, age, core_of, common, strip_of, strip_known, words_share}
 use Rattle.seize_seats.specs.Seats.Owned as Owned
 use Rattle.seize_seats.proofs.Seats.Views.Shown.{placed, told_there}
 use Rattle.seize_seats.proofs.Seats.Opening.{fives, fives_are, fives_long}
@@ -153,7 +153,7 @@ offer_spec 𝓤 𝓛 𝓜 𝓡 wired X P U F LX LP LU LF g d _ =
     use1 𝓛 (given (IsPlaced K₀ t.words z) (‵ (common K₀ kept_words cv holds t.words z))) (placed K₀ kept_words cv holds t.words z 𝓛) $ learn ! (λ there. fsplit ! $ drop ! $
     -- [the invariant; its lifetime lasts; the strip before; the places; ..]
     move ! (2 ∷ []) $
-    use1 𝓛 (‵ (hidden_shr Ds κ₁ (q, (tt, tt)) b₁ o₁) ⊛ ‵ (fhide (strip_told K₀ q y)))
+    use1 𝓛 (‵ (hidden_shr Ds κ₁ (q, (tt, tt)) b₁ o₁) ⊛ ‵ (fhide (strip_known K₀ q y)))
     (lent_out 𝓛 (strip.struct R₀) (strip.the_codes X.Denot R₀.coded (marker.the_row R₀).coded) (strip.the_heap R₀) (strip.the_lent R₀) κ₁ last b₁ o₁) $
     split ! $ drop ! $ unhide ! $ rewrite ! 0 (λ (f : Fml). ‵ f) (told_there K₀ q y asked.1) refl $ fsplit ! $ drop ! $ fsplit ! $ move ! (1 ∷ []) $ drop ! $
     let name : y.strips_name ≡ z.strips_name = ap (λ (k : Owned.Core). k.strips_name) asked.0 in

@@ -35,11 +35,11 @@ use Rattle.core.proofs.option.Option.TheLaws.{the_row_laws as option_laws}
 use Rattle.core.specs.contracts.option.Option.{the_row as OptionOf}
 use Rattle.std.specs.contracts.marker.PhantomData as marker
 use Rattle.std.proofs.raw_atomic.Walks.{proved, leaves}
-use Rattle.seize_seats.specs.Seats.State.{ShowsKept, AreThere, Comes}
+use Rattle.seize_seats.specs.Seats.State.{KeptByTwo, AreThere, Comes}
 use Rattle.seize_seats.specs.Seats.Errands.{coded_of}
 use Rattle.seize_seats.specs.Seats.Lendings.{Holder, IsValueBy}
 use types.Tokens.{shr_bor-open, obor_close}
-use Rattle.seize_seats.specs.Seats.Owned.{Core, BaseId, core_of, IsPlaced, common, everything, strip_told, stride, words_share}
+use Rattle.seize_seats.specs.Seats.Owned.{Core, BaseId, core_of, IsPlaced, common, everything, strip_known, stride, words_share}
 use Rattle.seize_seats.specs.Seats.Stretches.{IsEven, invariant, seat_shares}
 use Rattle.seize_seats.proofs.Seats.Views.Shown.{placed, told_there}
 use Rattle.seize_seats.proofs.Seats.Blocks.Testifying.{By, So, lent_by}
@@ -85,7 +85,7 @@ value_by_spec 𝓤 𝓛 𝓜 𝓡 wired X P U F LX LP LU LF g d _ =
     let bv : ℕ = block_of pv in let ov : ℕ = count_of pv in let sz : ℕ = stride K₀ in let e : ℕ = j * sz + ov in
     let others : Fml = fsep (flft κs.1.1.1.0 qs.1.1.1.0) (fsep (flft κs.1.1.1.1.0 qs.1.1.1.1.0) (fsep (flft κs.1.1.1.1.1.0 qs.1.1.1.1.1.0) (fsep (flft κs.1.1.1.1.1.1.0 qs.1.1.1.1.1.1.0) ftrue))) in
     let Asked : Type 0 = (core_of z ≡ core_of z₀) × InBlock p × (q.base ≡ z₀.views_name) × (h.base ≡ z₀.views_name) × (k.base ≡ z₀.views_name) × IsItsIndex z nr j
-    × (pv ≡ z.values) × ShowsKept rule g.keeps q.id q.view h.id h.view k.id k.view nr × AreThere rule g.keeps × Comes rule g.keeps (g.newcomer t.fixed) in
+    × (pv ≡ z.values) × KeptByTwo rule g.keeps q.id q.view h.id h.view k.id k.view nr × AreThere rule g.keeps × Comes rule g.keeps (g.newcomer t.fixed) in
     let Inv : Core → Fml = λ k. invariant IsEven (fbor (k.atom ∷ []) (everything K₀ kept_words cv holds k)) in
     let Last : Core → Fml = λ k. fshr_bor κ (λ u. flft (k.atom ∷ []) u) in
     let y : (walk_of 𝓛 En hs c).Ghost = ((κs, qs, bounds, a, (vptr b o ∷ [], (vptr b₁ o₁ ∷ [], (vptr b₃ o₃ ∷ [], (vptr b' o' ∷ [], (vptr b₂ o₂ ∷ [], (vint w64 nr ∷ [], (vint w64 j ∷ [], (ptr_val pv ∷ [], tt))))))))), gh) in
@@ -108,7 +108,7 @@ value_by_spec 𝓤 𝓛 𝓜 𝓡 wired X P U F LX LP LU LF g d _ =
     split ! $ drop ! $ unhide ! $ fsplit ! $ move ! (1 ∷ []) $ fsplit ! $ drop ! $ fsplit ! $ drop ! $
     -- [the invariant; its lifetime lasts; the strip; the guard; the owner; the token; the others]
     rewrite ! 0 (λ (k : Core). ‵ (Inv k)) (sym asked.0) refl $ rewrite ! 1 (λ (k : Core). ‵ (Last k)) (sym asked.0) refl $ move ! (2 ∷ []) $
-    use1 𝓛 (‵ (hidden_shr Dst κ₁ (p, (tt, tt)) b₁ o₁) ⊛ ‵ (fhide (strip_told K₀ p z)))
+    use1 𝓛 (‵ (hidden_shr Dst κ₁ (p, (tt, tt)) b₁ o₁) ⊛ ‵ (fhide (strip_known K₀ p z)))
     (lent_out 𝓛 (strip.struct R₀) (strip.the_codes X.Denot R₀.coded (marker.the_row R₀).coded) (strip.the_heap R₀) (strip.the_lent R₀) κ₁ s b₁ o₁) $
     split ! $ drop ! $ unhide ! $ rewrite ! 0 (λ (f : Fml). ‵ f) (told_there K₀ p z asked.1) refl $
     fsplit ! $ move ! (1 ∷ 2 ∷ []) $ fjoin ! $ move ! (1 ∷ 0 ∷ []) $ fjoin ! $

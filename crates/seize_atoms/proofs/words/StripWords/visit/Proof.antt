@@ -31,7 +31,7 @@ use denote.Triple.Walked.{Stays, stay_dropped, stay_ref, walk_of, Goes-dropped, 
 use Rattle.std.specs.contracts.marker.PhantomData as marker
 use Rattle.std.proofs.raw_atomic.Walks.{proved, leaves}
 use Rattle.std.specs.Prelude.{Some}
-use Rattle.seize_seats.specs.Seats.Lendings.{Shown}
+use Rattle.seize_seats.specs.Seats.Lendings.{VisibleTo}
 use Rattle.seize_seats.specs.Seats.Owned.{BaseId, words_share}
 use Rattle.seize_seats.proofs.Seats.Stepping.Moves.{turns, gone_on, seat as seat_of}
 use Rattle.seize_atoms.specs.contracts.words.StripWords as words
@@ -82,7 +82,7 @@ visit_spec 𝓤 𝓛 𝓜 𝓡 wired X P U F LX LP LU LF g d _ =
     let so : Seen U.Denot → Type 0 = λ u. ((u.0.0 ≡ h.view) × ((q : Spot) × (u.0.1 ≡ onward_at h.visit block q))) × (u.1 ≡ h.away) in
     let others : Fml = fsep (flft κs.1.1.0 qs.1.1.0) (fsep (flft κs.1.1.1.0 qs.1.1.1.0) (fsep (flft κs.1.1.1.1.0 qs.1.1.1.1.0)
     (fsep (flft κs.1.1.1.1.1.0 qs.1.1.1.1.1.0) ftrue))) in
-    let Asked : Type 0 = (h.base ≡ z.views_name) × Shown rule id h.view block in
+    let Asked : Type 0 = (h.base ≡ z.views_name) × VisibleTo rule id h.view block in
     let y : (walk_of 𝓛 En hs c).Ghost = ((κs, qs, bounds, a, (vptr b o ∷ [], (vptr b' o' ∷ [], (vint w64 block ∷ [], tt)))), gh) in
     let Post : Val → SProp 𝓤 = (walk_of 𝓛 En hs c).post y in
     qed 𝓛 (((‵ (flft κs.0 qs.0) ⊛ ‵ (flft κs.1.0 qs.1.0) ⊛ ‵ others) ⊛ ‵ (owns (types_at En.signature.params κs) a y.0.4)) ∷ raw (fact 𝓤 _) ∷

@@ -1,4 +1,4 @@
-use Rattle.std.proofs.Common.{sym, subst, ap, ◌∙◌}
+use Rattle.std.proofs.Common.{subst}
 use Rattle.std.specs.Prelude.{◌<◌, ◌^◌, ℕ, Option, IfSome}
 use Rattle.seize_views.proofs.Views.Passing.{leanings_see, leanings_mark}
 use Rattle.seize_callers.proofs.caller.pass.finds.Goals as goal

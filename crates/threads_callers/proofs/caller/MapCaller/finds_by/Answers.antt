@@ -1,6 +1,6 @@
 use Rattle.std.proofs.Common.{sym, subst, ap, inl, ◌∙◌}
 use Rattle.seize_callers.proofs.Keeping.{none_away}
-use Rattle.threads_rule.specs.Views.Notes.{IsResting}
+use Rattle.threads_rule.specs.Views.Notes.{SeatIsQuiescent}
 use Rattle.threads_rule.specs.Views.Rule.{Leans}
 use Rattle.threads_rule.specs.declared.view.View.{View}
 use Rattle.threads_callers.proofs.Newcomers.{may_learn}
@@ -17,7 +17,7 @@ learn-requires-clause-may g c =
 
 -- who knows a map more has no more under way
 pub learn-requires-clause-errand : goal.learn-requires-clause-errand
-learn-requires-clause-errand g c = λ home rests w so. subst (λ (v : View g.row.K.Denot g.row.V.Denot g.row.S.Denot). IsResting v) (sym so.2) rests
+learn-requires-clause-errand g c = λ home rests w so. subst (λ (v : View g.row.K.Denot g.row.V.Denot g.row.S.Denot). SeatIsQuiescent v) (sym so.2) rests
 
 pub learn-requires-clause-leans : goal.learn-requires-clause-leans
 learn-requires-clause-leans g c = λ v so n leans. inl (subst (λ (w : View g.row.K.Denot g.row.V.Denot g.row.S.Denot). Leans w n) so.2 leans)

@@ -1,6 +1,6 @@
 use Rattle.std.specs.Prelude.{ℕ, Option, IfSome}
 use Rattle.std.proofs.Common.{subst}
-use Rattle.threads_rule.specs.Errands.Looking.{Shows}
+use Rattle.threads_rule.specs.Errands.Looking.{HasLookedAt}
 use Rattle.threads_callers.proofs.caller.pass.lent.Goals as goal
 
 pub value_by-requires : goal.value_by-requires
@@ -10,6 +10,6 @@ value_by-requires g c = record {
   free = c.requires.looked.free;
   shown = (
     c.args._key.now,
-    subst (λ (o : Option ℕ). IfSome o (Shows g.K.PartialEq.eq c.args._key.now c.args.seat.now.view)) c.in_ok-word.was c.requires.looked.shows,
+    subst (λ (o : Option ℕ). IfSome o (HasLookedAt g.K.PartialEq.eq c.args._key.now c.args.seat.now.view)) c.in_ok-word.was c.requires.looked.shows,
   );
 }

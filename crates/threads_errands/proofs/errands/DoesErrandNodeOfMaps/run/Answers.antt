@@ -16,6 +16,9 @@ returns g c =
       cc (is, own, blocks, first, was),
       cc (is, id, was),
       cc (is, away, was),
-      subst (λ (v : View g.row.K.Denot g.row.V.Denot g.row.S.Denot). HasCalled g.K.PartialEq.eq g.S.Hashes.hash (wanted_of c.args.self.machine.now) c.does.result.told c.does.result.unstored v c.seat-1.given.0.view) before
-          (subst (λ (w : View g.row.K.Denot g.row.V.Denot g.row.S.Denot). HasCalled g.K.PartialEq.eq g.S.Hashes.hash (wanted_of c.args.self.machine.now) c.does.result.told c.does.result.unstored c.new-within.result.seat.now.view w) after c.does.ensures.called),
+      (
+        subst (λ (v : View g.row.K.Denot g.row.V.Denot g.row.S.Denot). HasCalled g.K.PartialEq.eq g.S.Hashes.hash (wanted_of c.args.self.machine.now) c.does.result.told c.does.result.unstored v c.seat-1.given.0.view) before
+            (subst (λ (w : View g.row.K.Denot g.row.V.Denot g.row.S.Denot). HasCalled g.K.PartialEq.eq g.S.Hashes.hash (wanted_of c.args.self.machine.now) c.does.result.told c.does.result.unstored c.new-within.result.seat.now.view w) after c.does.ensures.called),
+        c.does.ensures.fits,
+      ),
     )

@@ -11,12 +11,8 @@ runs-requires g c =
     let m = c.requires.may in record {
       calls =
           record {
-            kind = m.kind;
-            stage = m.stage;
+            at = is_begun g.K.PartialEq.eq g.S.Hashes.hash c.args.hasher.now c.args.machine.now c.args.self.now.seat.now.view c.begins.new.self.seat.now.view m.may c.begins.ensures.begins;
             none = m.none;
-            goes =
-                is_begun g.K.PartialEq.eq g.S.Hashes.hash m.kind m.stage c.args.hasher.now c.args.machine.now c.args.self.now.seat.now.view c.begins.new.self.seat.now.view m.may
-                c.begins.ensures.begins;
           };
     }
 

@@ -7,13 +7,13 @@ use Rattle.papaya_raw.specs.declared.machines.asking.MachineReply.TheVariants as
 use Rattle.papaya_raw.specs.declared.machines.progress.Answer.{Answer}
 use Rattle.threads_errands.specs.Asking.{HasAnswered, MakingSays, PausedSo, makes_pair}
 use Rattle.threads_rule.specs.Errands.Calling.{wanted_of}
-use Rattle.threads_errands.specs.declared.within.asking.Pause.{Pause}
-use Rattle.threads_rule.proofs.Errands.Beginnings.{is_begun, stays_on}
+use Rattle.threads_errands.specs.declared.within.asking.Halt.{Halt}
+use Rattle.threads_rule.proofs.Errands.Beginnings.{begun_as, stays_on}
 use Rattle.threads_errands.proofs.Pausing.{answered, ended_on, gone_as, gone_on, made_so, none_said}
 use Rattle.threads_errands.proofs.within.Within.makes_pair.Goals as goal
 
 pub begins-requires : goal.begins-requires
-begins-requires g c = let m = c.requires.may.2 in record { inside = (m.slot, m.inside); knows = (m.map, m.knows, m.incremental); free = m.free }
+begins-requires g c = let m = c.requires.may.2.may in record { inside = (m.slot, m.inside); knows = (m.map, m.knows, m.incremental); free = m.free }
 
 pub runs_on-requires : goal.runs_on-requires
 runs_on-requires g c =
@@ -21,7 +21,7 @@ runs_on-requires g c =
       calls = (
         makes_pair,
         m.0,
-        is_begun g.K.PartialEq.eq g.S.Hashes.hash makes_pair m.0 c.args.hasher.now c.args.machine.now c.args.self.now.seat.now.view c.begins.new.self.seat.now.view m.2 c.begins.ensures.begins,
+        begun_as g.K.PartialEq.eq g.S.Hashes.hash makes_pair m.0 c.args.hasher.now c.args.machine.now c.args.self.now.seat.now.view c.begins.new.self.seat.now.view m.2 c.begins.ensures.begins,
       );
     }
 
@@ -29,8 +29,8 @@ pub returns-in-Ended-clause-answered : goal.returns-in-Ended-clause-answered
 returns-in-Ended-clause-answered g c =
     let m = c.requires.may in let u = c.args.self.now.seat.now.view in let v = c.begins.new.self.seat.now.view in let w = c.runs_on.new.self.seat.now.view in
     let says = MakingSays {K = g.row.K.Denot} (FnOnceReturns g.F.FnOnce c.args.make tt) in
-    let under = is_begun g.K.PartialEq.eq g.S.Hashes.hash makes_pair m.0 c.args.hasher.now c.args.machine.now u v m.2 c.begins.ensures.begins in
-    let ended = subst (λ (p : Pause). PausedSo makes_pair m.0 c.args.hasher.now c.runs_on.new.machine p v w) c.in-Ended.is (c.runs_on.ensures.paused makes_pair m.0 under) in
+    let under = begun_as g.K.PartialEq.eq g.S.Hashes.hash makes_pair m.0 c.args.hasher.now c.args.machine.now u v m.2 c.begins.ensures.begins in
+    let ended = subst (λ (p : Halt). PausedSo makes_pair m.0 c.args.hasher.now c.runs_on.new.machine p v w) c.in-Ended.is (c.runs_on.ensures.paused makes_pair m.0 under) in
     subst (λ (r : Result Answer Fault). HasAnswered g.K.PartialEq.eq g.S.Hashes.hash says (wanted_of c.args.machine.now) r u w) (sym c.ran.ensures.told)
     (answered g.K.PartialEq.eq g.S.Hashes.hash says (wanted_of c.args.machine.now) c.in-Ended.told u v w c.runs_on.ensures.gone.0 c.begins.ensures.begins ended c.runs_on.ensures.stays
     (none_said g.K.PartialEq.eq g.S.Hashes.hash says c.runs_on.ensures.gone.0 v w c.runs_on.ensures.gone.1))
@@ -38,11 +38,11 @@ returns-in-Ended-clause-answered g c =
 pub stores_made-requires : goal.stores_made-requires
 stores_made-requires g c =
     let m = c.requires.may in let u = c.args.self.now.seat.now.view in let v = c.begins.new.self.seat.now.view in let w = c.runs_on.new.self.seat.now.view in
-    let under = is_begun g.K.PartialEq.eq g.S.Hashes.hash makes_pair m.0 c.args.hasher.now c.args.machine.now u v m.2 c.begins.ensures.begins in record {
+    let under = begun_as g.K.PartialEq.eq g.S.Hashes.hash makes_pair m.0 c.args.hasher.now c.args.machine.now u v m.2 c.begins.ensures.begins in record {
       asks = (
         m.0,
         m.1,
-        subst (λ (p : Pause). PausedSo makes_pair m.0 c.args.hasher.now c.runs_on.new.machine p v w) c.in-Asks.is (c.runs_on.ensures.paused makes_pair m.0 under),
+        subst (λ (p : Halt). PausedSo makes_pair m.0 c.args.hasher.now c.runs_on.new.machine p v w) c.in-Asks.is (c.runs_on.ensures.paused makes_pair m.0 under),
       );
     }
 

@@ -1,7 +1,7 @@
 use Rattle.std.specs.Prelude.{◌≡◌, Some}
 use Rattle.map_tables.specs.declared.node.Node.{Node}
 use Rattle.threads_rule.specs.Views.Told.{pair_in}
-use Rattle.threads_rule.specs.Errands.Calling.{IsCalling, MachineStores}
+use Rattle.threads_rule.specs.Errands.Calling.{IsCalling, MachineStores, sort_of}
 use Rattle.threads_rule.proofs.Errands.Handing.{StillHas}
 use Rattle.threads_rule.specs.Errands.Looking.{IsOfThem, StaysThere}
 use Rattle.threads_errands.specs.Made.{IsSameSeat}
@@ -12,3 +12,4 @@ abbrev pub invariant-loop : goal.invariant-loop
 invariant-loop g l =
     IsCalling l.fn.hasher l.machine l.self.seat.now.view × StaysThere l.initial.self.seat.now.view l.self.seat.now.view × IsSameSeat l.initial.self l.self × IsOfThem l.initial.self.seat.now.view l.self.seat.now.view
     × ((pair : Node g.row.K.Denot g.row.V.Denot) → MachineStores pair l.initial.machine → pair_in l.initial.self.seat.now.view.calls ≡ Some pair → StillHas pair l.machine l.unstored)
+    × (sort_of l.machine ≡ sort_of l.initial.machine)

@@ -5,7 +5,7 @@ use Rattle.papaya_raw.specs.declared.machines.asking.Takes.TheVariants.{Choices}
 use Rattle.threads_rule.specs.Views.Looks.{shown_in}
 use Rattle.threads_errands.specs.Asking.{MayTest, TestSays, removes_if, reply_of}
 use Rattle.threads_rule.specs.Errands.Calling.{IsAsking, IsUnderWay}
-use Rattle.threads_rule.specs.CallKinds.Kinds.{Kind, Stage, IsFit, ShowsPair, stage_after}
+use Rattle.threads_rule.specs.CallKinds.Kinds.{Kind, Stage, IsFit, PairIsVisible, stage_after}
 use Rattle.threads_errands.proofs.Pausing.{asks_there, same_stage, same_word, shown_at, test_fits, test_says}
 use Rattle.threads_errands.proofs.Told.{asks_pair}
 use Rattle.threads_errands.proofs.within.Within.says.Goals as goal
@@ -18,7 +18,7 @@ pub tested-yes-requires-clause-shown : goal.tested-yes-requires-clause-shown
 tested-yes-requires-clause-shown g c =
     let v = c.args.self.now.seat.now.view in
     let p = asks_there c.requires.asks.0 c.args.hasher.now v c.args.pair c.args.machine.now c.requires.asks.1 in
-    subst (λ (w : ℕ). ShowsPair (shown_in v.held) w) (same_word c.args.pair p.0 c.word_of-word.result p.1 c.word_of-word.ensures) p.2
+    subst (λ (w : ℕ). PairIsVisible (shown_in v.held) w) (same_word c.args.pair p.0 c.word_of-word.result p.1 c.word_of-word.ensures) p.2
 
 pub tells-requires : goal.tells-requires
 tells-requires g c = record {

@@ -7,9 +7,9 @@ use Rattle.threads_rule.specs.declared.view.View.{View}
 use Rattle.threads_errands.specs.Asking.{MakingSays, PausedSo, makes_pair}
 use Rattle.threads_rule.specs.Errands.Calling.{HasEnded, IsAsking, IsUnderWay, outcome_of}
 use Rattle.threads_rule.specs.CallKinds.Kinds.{stage_after}
-use Rattle.threads_rule.specs.Errands.Looking.{HasTold}
-use Rattle.threads_errands.specs.declared.within.asking.Pause.{Pause}
-use Rattle.threads_errands.specs.declared.within.asking.Pause.TheVariants.{Ended}
+use Rattle.threads_rule.specs.Errands.Looking.{HasProgressed}
+use Rattle.threads_errands.specs.declared.within.asking.Halt.{Halt}
+use Rattle.threads_errands.specs.declared.within.asking.Halt.TheVariants.{Ended}
 use Rattle.threads_rule.proofs.Errands.Beginnings.{stays_on}
 use Rattle.threads_errands.proofs.Pausing.{asks_missing, asks_no_more, calls_told, gone_on, gone_once, none_said, stays_told}
 use Rattle.threads_errands.proofs.Told.{asks_none}
@@ -39,7 +39,7 @@ returns-clause-ended g c =
     let is = c.requires.asks in let v = c.args.self.now.seat.now.view in let u = c.tells.new.self.seat.now.view in let w = c.runs_on-pause.new.self.seat.now.view in
     let paused = c.runs_on-pause.ensures.paused makes_pair (stage_after is.0 c.args.pair (Insert c.args.value)) (c.tells.ensures.goes makes_pair is.0 is.2 (tt, is.1)) in
     let ended : HasEnded c.outcome-told.result u w =
-    subst (λ (p : Pause). PausedSo makes_pair (stage_after is.0 c.args.pair (Insert c.args.value)) c.args.hasher.now c.runs_on-pause.new.machine p u w) c.outcome-told.ensures paused in
+    subst (λ (p : Halt). PausedSo makes_pair (stage_after is.0 c.args.pair (Insert c.args.value)) c.args.hasher.now c.runs_on-pause.new.machine p u w) c.outcome-told.ensures paused in
     subst (λ (r : Result Answer Fault). HasEnded r v w) (sym c.ran.ensures.told)
     (record { free = ended.free; told = ended.told ∙ calls_told c.args.machine.now (Insert c.args.value) v u c.tells.ensures.told (outcome_of c.outcome-told.result) })
 

@@ -1,12 +1,13 @@
 use Rattle.std.specs.Prelude.{ℕ, Some, IsSome}
 use Rattle.std.proofs.Common.{◌≡◌, sym, subst, ◌∙◌}
 use Rattle.threads_rule.specs.Views.Looks.{shown_in}
-use Rattle.threads_errands.proofs.Pausing.{shown_pair, some_of, test_at}
+use Rattle.seize_words.proofs.General.{some_is}
+use Rattle.threads_errands.proofs.Pausing.{shown_pair, test_at}
 use Rattle.threads_errands.proofs.within.Within.tested.Goals as goal
 
 pub value-requires : goal.value-requires
 value-requires g c =
-    subst (λ (b : ℕ). IsSome (shown_in c.args.self.now.seat.now.view.held b)) (sym c.block_of.ensures) (some_of c.requires.shown.2)
+    subst (λ (b : ℕ). IsSome (shown_in c.args.self.now.seat.now.view.held b)) (sym c.block_of.ensures) (some_is _ _ c.requires.shown.2)
 
 pub returns : goal.returns
 returns g c = record {

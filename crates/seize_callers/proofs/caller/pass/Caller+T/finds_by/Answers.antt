@@ -1,5 +1,5 @@
 use Rattle.std.proofs.Common.{sym, subst, refl, ◌∙◌}
-use Rattle.seize_views.specs.Views.Rows.{IsAtRest}
+use Rattle.seize_views.specs.Views.Rows.{IsQuiescent}
 use Rattle.seize_callers.proofs.caller.pass.Caller+T.finds_by.Goals as goal
 
 pub errand_with-requires-clause-asks : goal.errand_with-requires-clause-asks
@@ -8,4 +8,4 @@ errand_with-requires-clause-asks g c =
     (sym c.requires.own, refl, x.own ∙ sym c.requires.own, refl, (c.args._slot, c.requires.inside), c.requires.there, c.args.pass.now.rests, c.requires.small)
 
 pub errand_with-requires-clause-ends : goal.errand_with-requires-clause-ends
-errand_with-requires-clause-ends g c = λ answer w did. subst IsAtRest (sym did.0) tt
+errand_with-requires-clause-ends g c = λ answer w did. subst IsQuiescent (sym did.0) tt

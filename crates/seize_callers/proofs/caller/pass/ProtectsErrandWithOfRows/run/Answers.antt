@@ -4,7 +4,7 @@ use Rattle.seize_words.specs.OneMemory.Word.{block_in}
 use Rattle.std.specs.Prelude.{IfSome}
 use Rattle.seize_seats.specs.Seats.Lendings.{IsValueOf}
 use Rattle.seize_views.specs.Views.Notes.{NotedHolds}
-use Rattle.seize_views.specs.Views.Rows.{IsAtRest}
+use Rattle.seize_views.specs.Views.Rows.{IsQuiescent}
 use Rattle.seize_views.specs.declared.view.Fixed.{Fixed}
 use Rattle.seize_views.specs.Views.Watched.{LeansOn}
 use Rattle.seize_views.specs.declared.view.SlotView.{SlotView}
@@ -75,7 +75,7 @@ turn-requires-clause-may g c =
     (found g (goal.at.turn-requires-clause-may g c).After-finds-word)
 
 pub turn-requires-clause-errand : goal.turn-requires-clause-errand
-turn-requires-clause-errand g c = λ home rests w so. subst IsAtRest (sym so.0) tt
+turn-requires-clause-errand g c = λ home rests w so. subst IsQuiescent (sym so.0) tt
 
 pub turn-requires-clause-leans : goal.turn-requires-clause-leans
 turn-requires-clause-leans g c = λ w so n leans. absurd (subst (λ (x : SlotView g.row.T.Denot). LeansOn x n) so.0 leans)

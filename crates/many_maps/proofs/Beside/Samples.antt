@@ -1,2 +1,0 @@
--- Samples: what the definitions and laws let pass, and plans that they refuse.
-pub mod Plans

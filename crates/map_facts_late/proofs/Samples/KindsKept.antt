@@ -1,0 +1,2 @@
+-- Samples of KindsKept.
+mod Calls

@@ -1,0 +1,4 @@
+-- Samples: cases worked by hand, and what the definitions and laws refuse.
+pub mod Falls
+mod Waits
+mod Passes

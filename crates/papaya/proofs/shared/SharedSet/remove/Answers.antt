@@ -1,0 +1,12 @@
+use Rattle.std.proofs.Common.{sym, ◌∙◌}
+use Rattle.std.proofs.lemmas.Result.{IfOk-weaker}
+use Rattle.papaya.proofs.shared.SharedSet.remove.Goals as goal
+
+pub returns-clause-own : goal.returns-clause-own
+returns-clause-own g c = IfOk-weaker c.remove.result _ _ (λ _ _. sym c.number.ensures ∙ c.if-number.false ∙ c.number-2.ensures) c.remove.ensures.taken
+
+pub returns-clause-foreign : goal.returns-clause-foreign
+returns-clause-foreign g c = λ other. absurd (other (sym c.number.ensures ∙ c.if-number.false ∙ c.number-2.ensures))
+
+pub returns-clause-refused : goal.returns-clause-refused
+returns-clause-refused g c = λ own. c.remove.ensures.refused

@@ -1,0 +1,56 @@
+-- What a session of a set has done by one call more, and that its answer is so in one finite set, at a moment of that call: the keys of a map whose values are units.
+use Rattle.std.specs.Prelude.{◌≡◌, ℕ, Bool, not}
+use Rattle.papaya_map.specs.Given.SessionsOneMap.{MapCameToHave, MapCounted, MapGaveUp, MapHadOne, MapHadRoom, MapLookedEmpty, MapWasCleared, WasRefused}
+use Rattle.papaya_map.specs.Given.SessionsSessions.{IsOnSameMap}
+use Rattle.papaya_map.specs.Given.SessionsUnder.{HasSoughtUnder}
+use Rattle.papaya_map.specs.Given.ViewsDeclared.view.View.{View}
+use Rattle.papaya_map.specs.Given.ActsActs.{Insert}
+use Rattle.seize_words.specs.declared.refused.RefusedKey.{RefusedKey}
+use Rattle.threads_calls.specs.Given.CallersDeclared.caller.MapCaller.{MapCaller}
+
+module _ {K S : Type 0} (same : K → K → Bool) (hash : S → K → ℕ) (key : K) where
+  -- it has asked for this key, and its set had an element that equals it, or none
+  abbrev pub SetHad : Bool → MapCaller K (Unit {0}) S → MapCaller K (Unit {0}) S → Type 0
+  SetHad there c n = MapHadOne same hash key there c n
+
+  -- the same, by a pass under a session that was lent
+  abbrev pub SetHadUnder : Bool → MapCaller K (Unit {0}) S → View K (Unit {0}) S → View K (Unit {0}) S → Type 0
+  SetHadUnder there c v w = HasSoughtUnder same hash key c there v w
+
+  -- it has put this key into its set, which came to have it as a new element, or in the place of one that equals it
+  abbrev pub SetCameToHave : Bool → MapCaller K (Unit {0}) S → MapCaller K (Unit {0}) S → Type 0
+  SetCameToHave new c n = (replaced : Bool) × (new ≡ not replaced) × MapCameToHave same hash key tt replaced c n
+
+  -- it has taken the element out that equals this key, or its set had none
+  abbrev pub SetGaveUp : Bool → MapCaller K (Unit {0}) S → MapCaller K (Unit {0}) S → Type 0
+  SetGaveUp there c n = MapGaveUp same hash key there c n
+
+module _ {K S : Type 0} (same : K → K → Bool) (hash : S → K → ℕ) where
+  -- It has counted so many elements, by the shards of its set's count,
+  abbrev pub SetCounted : ℕ → MapCaller K (Unit {0}) S → MapCaller K (Unit {0}) S → Type 0
+  SetCounted count c n = MapCounted same hash count c n
+
+  -- or whether that is 0;
+  abbrev pub SetLookedEmpty : Bool → MapCaller K (Unit {0}) S → MapCaller K (Unit {0}) S → Type 0
+  SetLookedEmpty empty c n = MapLookedEmpty same hash empty c n
+
+  -- it has made room for so many more than were counted;
+  abbrev pub SetHadRoom : ℕ → MapCaller K (Unit {0}) S → MapCaller K (Unit {0}) S → Type 0
+  SetHadRoom additional c n = MapHadRoom same hash additional c n
+
+  -- it has gone over its set, and no element is left that this had all the time.
+  abbrev pub SetWasCleared : MapCaller K (Unit {0}) S → MapCaller K (Unit {0}) S → Type 0
+  SetWasCleared c n = MapWasCleared same hash c n
+
+-- the key that comes back
+abbrev pub key_of : {K : Type 0} → RefusedKey K → K
+key_of r = r.key
+
+module _ {K S : Type 0} (same : K → K → Bool) (hash : S → K → ℕ) where
+  -- the session has put this key into the set by one call more, on the same set,
+  abbrev pub PutsKey : K → MapCaller K (Unit {0}) S → MapCaller K (Unit {0}) S → Type 0
+  PutsKey key c n = (new : Bool) × IsOnSameMap c n × SetCameToHave same hash key new c n
+
+  -- or it was to, and was refused
+  abbrev pub RefusesKey : RefusedKey K → MapCaller K (Unit {0}) S → MapCaller K (Unit {0}) S → Type 0
+  RefusesKey r c n = WasRefused same hash (Insert r.key tt) r.fault c n

@@ -1,0 +1,21 @@
+//! A hash set that threads share, over a map whose values are units; and that map, given on.
+#![tactic(auto)]
+
+mod builder;
+mod extending;
+mod making;
+mod pin;
+mod session;
+mod set;
+mod shared;
+
+pub use builder::HashSetBuilder;
+pub use papaya_map::{
+    Attempt, Collector, Fault, Given, HashMap, HashMapBuilder, HashMapRef, IdSource, Own, Pass,
+    Refused, Session, SharedMap,
+};
+pub use pin::HashSetRef;
+pub use seize_words::RefusedKey;
+pub use session::SetSession;
+pub use set::HashSet;
+pub use shared::SharedSet;

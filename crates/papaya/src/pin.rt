@@ -1,0 +1,37 @@
+//! Pins of a set: a session that is lent, with a pass of its own, so that looking asks for nothing.
+ghost use Rattle.std.specs.Prelude.{◌≡◌};
+ghost use Rattle.papaya.specs.OneSet.{SetHadUnder};
+
+use crate::session::SetSession;
+use map_tables::Hashes;
+use papaya_map::HashMapRef;
+use std::hash::{Hash, RandomState};
+use std::sync::Wait;
+
+/// A set, as one of those has it who look for elements under a session that is lent to them. It may be sent to a thread, and any number of them may be under a session at a
+/// time.
+#[derive(Drop)]
+pub struct HashSetRef<'g, 'm, K: Eq + Hash + Drop, S: Hashes<K> = RandomState> {
+    pin: HashMapRef<'g, 'm, K, (), S>,
+}
+
+impl<'m, K: Eq + Hash + Drop, S: Hashes<K>> SetSession<'m, K, S> {
+    /// Makes a pin of its set, under it.
+    pub fn pin(&self) -> HashSetRef<'_, 'm, K, S>
+        ensures session { result.pin.session.now ≡ self.now.session }
+    {
+        HashSetRef {
+            pin: self.session().pin(),
+        }
+    }
+}
+
+impl<'g, 'm, K: Eq + Hash + Drop, S: Hashes<K>> HashSetRef<'g, 'm, K, S> {
+    /// Returns whether the set has an element that equals this key.
+    pub fn contains<R: Wait>(&mut self, rt: &R, key: &K) -> bool
+        ensures session { self.new.pin.session ≡ self.old.pin.session }
+        ensures one_set { SetHadUnder K.eq S.hash key.now result self.old.pin.session.now.base.caller self.old.pin.pass.base.seat.view self.new.pin.pass.base.seat.view }
+    {
+        self.pin.contains_key(rt, key)
+    }
+}

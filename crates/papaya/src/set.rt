@@ -1,0 +1,46 @@
+//! A hash set that threads share, as one has it who owns it.
+ghost use Rattle.std.specs.Prelude.{◌≡◌, [], IfOk};
+
+use crate::session::SetSession;
+use crate::shared::SharedSet;
+use map_tables::Hashes;
+use papaya_map::HashMap;
+use seize_words::Fault;
+use std::hash::{Hash, RandomState};
+
+/// A hash set that threads share: the keys of a map whose values are units. It owns its memory, its collector and its hasher.
+///
+/// Who owns it begins a session, and gives each thread one: `session`, and `SetSession::another`. With the set its elements are dropped.
+#[derive(Drop)]
+pub struct HashSet<K: Eq + Hash + Drop, S: Hashes<K> = RandomState> {
+    map: HashMap<K, (), S>,
+}
+
+impl<K: Eq + Hash + Drop, S: Hashes<K>> HashSet<K, S> {
+    /// The set of the keys of this map.
+    pub(crate) fn of(map: HashMap<K, (), S>) -> Self
+        ensures { result.map ≡ map }
+    {
+        HashSet { map }
+    }
+
+    /// Lends the same set to threads: they may begin sessions of their own.
+    pub fn shared(&self) -> SharedSet<'_, K, S>
+        ensures memory { result.map.blocks.now ≡ self.now.map.home.blocks }
+        ensures map { result.map.seat.now.view.map ≡ self.now.map.seat.view.map }
+        ensures number { result.map.number ≡ self.now.map.collector.number }
+    {
+        SharedSet::of(self.map.shared())
+    }
+
+    /// Begins a session on the set, which may be sent to a thread, and from which others are made. The faults are `Fault::SlotsUsedUp` and `Fault::Memory`.
+    pub fn session(&self) -> Result<SetSession<'_, K, S>, Fault>
+        ensures memory { IfOk result (λ other. other.session.base.caller.blocks.now ≡ self.now.map.home.blocks) }
+        ensures map { IfOk result (λ other. other.session.base.caller.seat.view.map ≡ self.now.map.seat.view.map) }
+        ensures none { IfOk result (λ other. other.session.base.caller.seat.view.calls ≡ []) }
+        ensures number { IfOk result (λ other. other.session.number ≡ self.now.map.collector.number) }
+    {
+        let session = self.map.session()?;
+        Ok(SetSession::of(session))
+    }
+}

@@ -1,0 +1,93 @@
+//! A guard or a pass of another map is refused, by each call that takes one, and is as it was.
+use papaya_map::{Fault, HashMap, IdSource};
+use std::alloc::Global;
+use std::hash::{BuildHasherDefault, DefaultHasher};
+use std::sync::Wait;
+use std::test::Fail;
+
+type Hashing = BuildHasherDefault<DefaultHasher>;
+
+/// What lookups say to a guard and to a pass of another map: with the guard, with the pass, and by the pass under a session.
+fn looks<R: Wait>(rt: &R, alloc: Global) -> Result<[bool; 7], Fault> {
+    let mut ids = IdSource::new();
+    let own = HashMap::<u64, u64, Hashing>::with_hasher(alloc, &mut ids, Hashing::default())?;
+    let other = HashMap::<u64, u64, Hashing>::with_hasher(alloc, &mut ids, Hashing::default())?;
+    let map = own.shared();
+    let guard = own.session()?;
+    let strange = other.session()?;
+    let mut pass = own.shared().pass();
+    let mut foreign = strange.pass();
+    let own_numbers = guard.number() == map.number() && pass.number() == map.number();
+    Ok([
+        matches!(
+            map.get(rt, &1, &strange, &mut pass),
+            Err(Fault::ForeignGuard)
+        ),
+        matches!(
+            map.get(rt, &1, &guard, &mut foreign),
+            Err(Fault::ForeignGuard)
+        ),
+        matches!(
+            map.contains_key(rt, &1, &strange, &mut foreign),
+            Err(Fault::ForeignGuard)
+        ),
+        matches!(
+            guard.contains_key_by(rt, &1, &mut foreign),
+            Err(Fault::ForeignGuard)
+        ),
+        matches!(guard.get_by(rt, &1, &mut foreign), Err(Fault::ForeignGuard)),
+        matches!(map.get(rt, &1, &guard, &mut pass), Ok(None)),
+        own_numbers && strange.number() == foreign.number() && foreign.number() != map.number(),
+    ])
+}
+
+#[test]
+fn lookups_refuse_what_is_of_another_map(rt: HostRuntime) -> Result<(), Fail> {
+    assert_eq!(rt; looks(&rt, rt.alloc())?, [true; 7]);
+    Ok(())
+}
+
+/// What calls that change a map say to a guard of another one, and what that one has then; and whether one with its own guard goes.
+fn stores<R: Wait>(rt: &R, alloc: Global) -> Result<[bool; 6], Fault> {
+    let mut ids = IdSource::new();
+    let own = HashMap::<u64, u64, Hashing>::with_hasher(alloc, &mut ids, Hashing::default())?;
+    let other = HashMap::<u64, u64, Hashing>::with_hasher(alloc, &mut ids, Hashing::default())?;
+    let map = own.shared();
+    let mut guard = own.session()?;
+    let mut strange = other.session()?;
+    let inserted = match map.insert(rt, 1, 2, &mut strange) {
+        Err(refused) => {
+            matches!(refused.fault, Fault::ForeignGuard) && (refused.key, refused.value) == (1, 2)
+        }
+        Ok(_) => false,
+    };
+    let tried = match map.try_insert(rt, 1, 2, &mut strange) {
+        Err(refused) => {
+            matches!(refused.fault, Fault::ForeignGuard) && (refused.key, refused.value) == (1, 2)
+        }
+        Ok(_) => false,
+    };
+    let removed = matches!(map.remove(rt, 1, &mut strange), Err(Fault::ForeignGuard));
+    let asked = matches!(
+        map.try_insert_with(rt, 1, || 2, &mut strange),
+        Err(Fault::ForeignGuard)
+    ) && matches!(
+        map.remove_if(rt, 1, |_, _| true, &mut strange),
+        Err(Fault::ForeignGuard)
+    );
+    let none = !strange.contains_key(rt, &1);
+    let stored = matches!(map.insert(rt, 1, 2, &mut guard), Ok(false))
+        && matches!(
+            map.remove_if(rt, 1, |_, value| *value == 2, &mut guard),
+            Ok(true)
+        )
+        && matches!(map.try_insert_with(rt, 1, || 3, &mut guard), Ok(true))
+        && matches!(map.remove(rt, 1, &mut guard), Ok(true));
+    Ok([inserted, tried, asked, removed, none, stored])
+}
+
+#[test]
+fn calls_that_change_a_map_refuse_a_guard_of_another_one(rt: HostRuntime) -> Result<(), Fail> {
+    assert_eq!(rt; stores(&rt, rt.alloc())?, [true; 6]);
+    Ok(())
+}

@@ -1,0 +1,9 @@
+//! Tests of what stands beside sessions and their calls on one key: passes under a guard that is lent, guards of another map, and calls that ask.
+#![tactic(auto)]
+
+#[cfg(test)]
+mod asking;
+#[cfg(test)]
+mod foreign;
+#[cfg(test)]
+mod passing;

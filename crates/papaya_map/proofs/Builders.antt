@@ -1,0 +1,46 @@
+-- Why a builder makes no map: what each of its tests says of the first reason, and of the source.
+use Rattle.std.specs.Prelude.{◌≢◌, zero, suc, Option, Some, None, Result, Ok, Err, MatchResult}
+use Rattle.std.proofs.Common.{◌≡◌, ◌∙◌, ℕ, refl, sym, subst, ap}
+use Rattle.map_tables.specs.Lengths.{entries_of}
+use Rattle.papaya_map.specs.Builders.{RefusedBy, fault_of, first_fault, ids_after, made_for}
+use Rattle.seize.specs.Collector.{Setting}
+use Rattle.seize_words.specs.declared.fault.Fault.{Fault}
+use Rattle.seize_words.specs.declared.fault.Fault.TheVariants.{Memory, ZeroChunk}
+
+-- no place would be copied
+pub zero_first : (chunk capacity : ℕ) → chunk ≡ 0 → first_fault chunk capacity ≡ Some ZeroChunk
+zero_first chunk capacity is = subst (λ (n : ℕ). first_fault n capacity ≡ Some ZeroChunk) (sym is) refl
+
+-- else it is as the capacity says
+by_capacity : (chunk capacity : ℕ) → chunk ≢ 0 → first_fault chunk capacity ≡ fault_of (entries_of capacity)
+by_capacity zero capacity some = absurd (some refl)
+by_capacity (suc n) capacity some = refl
+
+pub many_first : (chunk capacity : ℕ) (fault : Fault) → chunk ≢ 0 → entries_of capacity ≡ Err fault → first_fault chunk capacity ≡ Some fault
+many_first chunk capacity fault some is = by_capacity chunk capacity some ∙ ap fault_of is
+
+pub none_first : (chunk capacity places : ℕ) → chunk ≢ 0 → entries_of capacity ≡ Ok places → first_fault chunk capacity ≡ None
+none_first chunk capacity places some is = by_capacity chunk capacity some ∙ ap fault_of is
+
+-- the first reason is told, and the source was not asked
+pub told_first : (first : Option Fault) (collector : Option Setting) (next : ℕ) (fault : Fault) → first ≡ Some fault → RefusedBy first collector next fault
+told_first first collector next fault is = subst (λ (f : Option Fault). RefusedBy f collector next fault) (sym is) refl
+
+pub asked_none : (first : Option Fault) (collector : Option Setting) (next : ℕ) (fault : Fault) → first ≡ Some fault → next ≡ ids_after first collector next
+asked_none first collector next fault is = subst (λ (f : Option Fault). next ≡ ids_after f collector next) (sym is) refl
+
+-- where there is none, it is the source's reason, or want of memory
+pub told_source : (first : Option Fault) (collector : Option Setting) (next : ℕ) (fault : Fault) → first ≡ None → made_for collector next ≡ Err fault → RefusedBy first collector next fault
+told_source first collector next fault none is =
+    subst (λ (f : Option Fault). RefusedBy f collector next fault) (sym none)
+    (subst (λ (r : Result Setting Fault). MatchResult r (λ _. fault ≡ Memory) (λ other. fault ≡ other)) (sym is) refl)
+
+pub told_memory : (first : Option Fault) (collector : Option Setting) (next : ℕ) (made : Setting) (fault : Fault) → first ≡ None → made_for collector next ≡ Ok made → fault ≡ Memory
+    → RefusedBy first collector next fault
+told_memory first collector next made fault none is so =
+    subst (λ (f : Option Fault). RefusedBy f collector next fault) (sym none)
+    (subst (λ (r : Result Setting Fault). MatchResult r (λ _. fault ≡ Memory) (λ other. fault ≡ other)) (sym is) so)
+
+-- and the source was asked just where no collector was given
+pub asked_then : (first : Option Fault) (collector : Option Setting) (next after : ℕ) → first ≡ None → after ≡ ids_after None collector next → after ≡ ids_after first collector next
+asked_then first collector next after none is = is ∙ ap (λ (f : Option Fault). ids_after f collector next) (sym none)

@@ -1,0 +1,15 @@
+use Rattle.std.proofs.Common.{sym, ◌∙◌}
+use Rattle.std.proofs.lemmas.Result.{IfOk-weaker}
+use Rattle.papaya_map.proofs.shared.SharedMap.remove_if.Goals as goal
+
+pub returns-clause-own : goal.returns-clause-own
+returns-clause-own g c = IfOk-weaker c.remove_if.result _ _ (λ _ _. sym c.number.ensures ∙ c.if-number-self.false) c.remove_if.ensures.removed
+
+pub returns-clause-foreign : goal.returns-clause-foreign
+returns-clause-foreign g c = λ other. absurd (other (sym c.number.ensures ∙ c.if-number-self.false))
+
+pub returns-clause-refused : goal.returns-clause-refused
+returns-clause-refused g c = λ own. c.remove_if.ensures.refused
+
+pub returns-clause-asked : goal.returns-clause-asked
+returns-clause-asked g c = λ own. c.remove_if.ensures.asked

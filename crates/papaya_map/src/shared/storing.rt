@@ -1,0 +1,95 @@
+//! Pairs are stored in a map, and removed from it, with a guard, which is a session: its own seat does so.
+ghost use Rattle.std.specs.Prelude.{◌≡◌, ◌≢◌, IfOk, IfErr};
+ghost use Rattle.papaya_sessions.specs.Homes.{OneMap, home_at, home_of};
+ghost use Rattle.papaya_sessions.specs.OneMap.{MapCameToHave, MapGaveUp, MapLacked, WasRefused};
+ghost use Rattle.papaya_sessions.specs.Kept.{KeepsMap};
+ghost use Rattle.threads_calls.specs.Answers.{CameBack, has_stored};
+ghost use Rattle.papaya_sessions.specs.Given.ActsActs.{Insert, Remove, TryToInsert};
+ghost use Rattle.seize_words.specs.declared.fault.Fault.TheVariants.{ForeignGuard};
+
+use crate::shared::SharedMap;
+use map_tables::Hashes;
+use papaya_sessions::{Attempt, Session};
+use seize_words::{Fault, Refused};
+use std::hash::Hash;
+use std::sync::Wait;
+
+impl<'m, K: Eq + Hash + Drop, V: Drop, S: Hashes<K>> SharedMap<'m, K, V, S> {
+    /// Stores a pair with this guard, also in the place of one of an equal key, and answers whether one was replaced. The faults are `Fault::ForeignGuard`, where the guard
+    /// is of another map, and then it is as it was, `Fault::Capacity` and `Fault::Memory`: the pair was not stored, and key and value come back.
+    pub fn insert<R: Wait>(
+        &self,
+        rt: &R,
+        key: K,
+        value: V,
+        guard: &mut Session<'_, K, V, S>,
+    ) -> Result<bool, Refused<K, V>>
+        requires one_map { OneMap (home_of guard.old.number guard.old.base.caller)
+            (home_at self.now.number self.now.blocks.now.words.id.views_name self.now.seat.now.view.map) }
+        ensures keeps { KeepsMap guard.old guard.new }
+        ensures own { IfOk result (λ _. guard.old.number ≡ self.now.number) }
+        ensures foreign { guard.old.number ≢ self.now.number → IfErr result (λ r. r.fault ≡ ForeignGuard) × (guard.new ≡ guard.old) }
+        ensures stored { IfOk result (λ replaced. MapCameToHave K.eq S.hash key value replaced guard.old.base.caller guard.new.base.caller) }
+        ensures refused { guard.old.number ≡ self.now.number → IfErr result (λ r. WasRefused K.eq S.hash (Insert key value) r.fault guard.old.base.caller guard.new.base.caller) }
+        ensures back { IfErr result (λ r. (r.key ≡ key) × (r.value ≡ value)) }
+    {
+        if guard.number() != self.number {
+            return Err(Refused {
+                fault: Fault::ForeignGuard,
+                key,
+                value,
+            });
+        }
+        guard.insert(rt, key, value)
+    }
+
+    /// Stores a pair with this guard, if the map has none of an equal key: else it comes back. The faults are those of `insert`; then the pair comes back, too.
+    pub fn try_insert<R: Wait>(
+        &self,
+        rt: &R,
+        key: K,
+        value: V,
+        guard: &mut Session<'_, K, V, S>,
+    ) -> Result<Attempt<K, V>, Refused<K, V>>
+        requires one_map { OneMap (home_of guard.old.number guard.old.base.caller)
+            (home_at self.now.number self.now.blocks.now.words.id.views_name self.now.seat.now.view.map) }
+        ensures keeps { KeepsMap guard.old guard.new }
+        ensures own { IfOk result (λ _. guard.old.number ≡ self.now.number) }
+        ensures foreign { guard.old.number ≢ self.now.number → IfErr result (λ r. r.fault ≡ ForeignGuard) × (guard.new ≡ guard.old) }
+        ensures tried { IfOk result (λ tried. MapLacked K.eq S.hash key value (has_stored tried) guard.old.base.caller guard.new.base.caller) }
+        ensures present { IfOk result (CameBack key value) }
+        ensures refused { guard.old.number ≡ self.now.number → IfErr result (λ r. WasRefused K.eq S.hash (TryToInsert key value) r.fault guard.old.base.caller guard.new.base.caller) }
+        ensures back { IfErr result (λ r. (r.key ≡ key) × (r.value ≡ value)) }
+    {
+        if guard.number() != self.number {
+            return Err(Refused {
+                fault: Fault::ForeignGuard,
+                key,
+                value,
+            });
+        }
+        guard.try_insert(rt, key, value)
+    }
+
+    /// Removes the pair of a key with this guard, and answers whether there was one. It is dropped once no section that was open before holds it. The faults are those of
+    /// `insert`; then no pair was removed.
+    pub fn remove<R: Wait>(
+        &self,
+        rt: &R,
+        key: K,
+        guard: &mut Session<'_, K, V, S>,
+    ) -> Result<bool, Fault>
+        requires one_map { OneMap (home_of guard.old.number guard.old.base.caller)
+            (home_at self.now.number self.now.blocks.now.words.id.views_name self.now.seat.now.view.map) }
+        ensures keeps { KeepsMap guard.old guard.new }
+        ensures own { IfOk result (λ _. guard.old.number ≡ self.now.number) }
+        ensures foreign { guard.old.number ≢ self.now.number → IfErr result (λ fault. fault ≡ ForeignGuard) × (guard.new ≡ guard.old) }
+        ensures removed { IfOk result (λ removed. MapGaveUp K.eq S.hash key removed guard.old.base.caller guard.new.base.caller) }
+        ensures refused { guard.old.number ≡ self.now.number → IfErr result (λ fault. WasRefused K.eq S.hash (Remove key) fault guard.old.base.caller guard.new.base.caller) }
+    {
+        if guard.number() != self.number {
+            return Err(Fault::ForeignGuard);
+        }
+        guard.remove(rt, key)
+    }
+}

@@ -1,0 +1,3 @@
+pub mod Extended
+mod OneMap
+mod Under

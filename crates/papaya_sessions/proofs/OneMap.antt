@@ -1,0 +1,164 @@
+-- That what a session was told is so in one finite map: by its newest call, which began within its section, on the map that it knows still.
+use Rattle.std.specs.Prelude.{◌<◌, ◌^◌, Option, Some, None, Result, Ok, Err, IfErr, IfOk, is_some}
+use Rattle.std.proofs.Common.{◌≡◌, ℕ, Bool, refl, sym, subst, ap, ◌∙◌}
+use Rattle.std.proofs.lemmas.Bool.{ltb-true}
+use Rattle.std.specs.declared.hash.Hash as hashing
+use Rattle.map_tables.specs.declared.node.Node.{Node}
+use Rattle.papaya_sessions.specs.OneMap.{MapCameToHave, MapCounted, MapGaveUp, MapHad, MapHadOne, MapHadRoom, MapLacked, MapLookedEmpty, MapWasCleared, MapWasShown, MapWasSifted, WasRefused}
+use Rattle.papaya_sessions.specs.Sessions.{HasGot}
+use Rattle.papaya_sessions.specs.declared.session.Session.{Session}
+use Rattle.play_moves.proofs.OneHistory.Calls.{found_none, found_value, has_inserted, has_looked, has_missed, has_refused, has_removed, has_tried}
+use Rattle.play_moves.proofs.OneHistory.Whole.{has_cleared, has_counted, has_made_room, has_retained, has_walked}
+use Rattle.play_moves.specs.OneHistory.Calls.{HasInserted, HasLooked, HasRemoved as HasGivenUp, HasTried as HasLacked}
+use Rattle.play_moves.specs.Given.ActsActs.{ContainsKey, Count, Get, GoOver, Insert, MakeRoom, Remove, TryToInsert, Wanted}
+use Rattle.play_moves.specs.Given.ErrandsCalling.{is_put, outcome_of}
+use Rattle.play_moves.specs.Given.ErrandsLooking.{HasRun, found_of}
+use Rattle.play_moves.specs.Given.RawDeclared.machines.progress.Answer.TheVariants as said
+use Rattle.play_moves.specs.Given.RawDeclared.machines.progress.Progress.{Progress}
+use Rattle.papaya_raw.specs.Given.ReservesDeclared.sweep.Purpose.{Purpose}
+use Rattle.play_moves.specs.Given.ViewsBegun.{machine_for}
+use Rattle.play_moves.specs.Given.ViewsDeclared.view.BegunCall.{BegunCall}
+use Rattle.play_moves.specs.Given.ViewsDeclared.view.View.{View}
+use Rattle.play_moves.specs.Given.ViewsRule.{section_of}
+use Rattle.seize_words.specs.declared.fault.Fault.{Fault}
+use Rattle.threads_calls.specs.Answers.{HasFoundEmpty, HasMeasured, HasRemoved, HasReserved, HasStored, HasSweptAll, HasTried, clears, is_removed, is_replaced}
+use Rattle.threads_calls.specs.Given.CallersDeclared.caller.MapCaller.{MapCaller}
+use Rattle.threads_calls.specs.Given.SeizeViewsDeclared.view.Fixed.{Fixed}
+use Rattle.threads_calls.specs.Given.SeizeViewsDeclared.view.Has.TheVariants.{Nothing}
+use Rattle.threads_calls.specs.Given.SeizeViewsDeclared.view.SlotView.TheVariants.{Inside}
+use Rattle.threads_calls.specs.declared.session.SessionBase.{SessionBase}
+use Rattle.threads_sweeps.specs.Swept.{HasGone, HasShown, HasSifted, retains, walks}
+
+-- a session that makes a call, and what it is then
+module _ {K V S : Type 0} {h : hashing.Ghosts K} (same : K → K → Bool) (hash : S → K → ℕ) (x : Session K V S h) (y : SessionBase K V S) (inside : y.caller.seat.view.slot ≡ Inside y.slot Nothing)
+    (stands : y.slot ≡ x.base.slot) (stays : y.caller.seat.view.map ≡ x.base.caller.seat.view.map) (memory : y.caller.blocks ≡ x.base.caller.blocks) where
+  abbrev c : MapCaller K V S
+  c = x.base.caller
+
+  abbrev n : MapCaller K V S
+  n = y.caller
+
+  abbrev fixed : Fixed
+  fixed = n.blocks.now.words.fixed
+
+  abbrev v : View K V S
+  v = c.seat.view
+
+  abbrev w : View K V S
+  w = n.seat.view
+
+  small : fixed.batch_size < 2 ^ 64
+  small = subst (λ (b : ℕ). b < 2 ^ 64) (ap (λ b. b.now.words.fixed.batch_size) (sym memory)) (ltb-true c.blocks.now.words.fixed.batch_size (2 ^ 64) x.small)
+
+  was_within : section_of v.under v.slot ≡ Some x.base.slot
+  was_within = ap (λ u. section_of u v.slot) c.lone ∙ ap (section_of None) x.inside
+
+  is_within : section_of w.under w.slot ≡ Some x.base.slot
+  is_within = ap (λ u. section_of u w.slot) n.lone ∙ ap (section_of None) inside ∙ ap Some stands
+
+  -- the call that it has made, which was to do this, and was told that
+  abbrev begun : (wanted : Wanted K V) (told : Progress (Node K V)) → HasRun same hash wanted told v w → BegunCall K V
+  begun wanted told run = record { began = machine_for same hash run.0 run.1 wanted; told = told }
+
+  section : (t : ℕ) → section_of v.under v.slot ≡ Some t → section_of w.under w.slot ≡ Some t
+  section t it = is_within ∙ sym was_within ∙ it
+
+  pub had_none : (key : K) → HasRun same hash (Get key) (found_of None) v w → MapHad same hash key None c n
+  had_none key run = (run, found_none same hash fixed small n.seat.id run.1 w run.0 (begun (Get key) (found_of None) run) v.calls (stays ∙ run.2) (section run.1 run.3) run.4 key refl refl)
+
+  pub had_value : (key : K) (value : V) → HasGot same hash key (Some value) c n → MapHad same hash key (Some value) c n
+  had_value key value (word, run, shown, lent) = (
+    (word, run, shown, lent),
+    found_value same hash fixed small n.seat.id run.1 w run.0 (begun (Get key) (found_of (Some word)) run) v.calls (stays ∙ run.2) (section run.1 run.3) run.4 key word lent.0 value refl refl lent.1,
+  )
+
+  looked : (key : K) (found : Option ℕ) → HasRun same hash (ContainsKey key) (found_of found) v w → HasLooked same hash fixed n.seat.id w key (is_some found)
+  looked key None run =
+      has_missed same hash fixed small n.seat.id run.1 w run.0 (begun (ContainsKey key) (found_of None) run) v.calls (stays ∙ run.2) (section run.1 run.3) run.4 key refl refl
+  looked key (Some word) run =
+      has_looked same hash fixed small n.seat.id run.1 w run.0 (begun (ContainsKey key) (found_of (Some word)) run) v.calls (stays ∙ run.2) (section run.1 run.3) run.4 key word refl refl
+
+  pub had_one : (key : K) (found : Option ℕ) (there : Bool) → HasRun same hash (ContainsKey key) (found_of found) v w → there ≡ is_some found → MapHadOne same hash key there c n
+  had_one key found there run so = ((found, run, so), subst (HasLooked same hash fixed n.seat.id w key) (sym so) (looked key found run))
+
+  pub came_to_have : (key : K) (value : V) (replaced : Bool) → HasStored same hash key value replaced v w → MapCameToHave same hash key value replaced c n
+  came_to_have key value replaced (answer, run, so) = (
+    (answer, run, so),
+    subst (HasInserted same hash fixed n.seat.id w key value) (sym so)
+        (has_inserted same hash fixed small n.seat.id run.1 w run.0 (begun (Insert key value) (outcome_of (Ok answer)) run) v.calls (stays ∙ run.2) (section run.1 run.3) run.4 key value answer refl refl
+        is_replaced (λ old new. refl) (λ new. refl)),
+  )
+
+  pub lacked : (key : K) (value : V) (stored : Bool) → HasTried same hash key value stored v w → MapLacked same hash key value stored c n
+  lacked key value stored (answer, run, so) = (
+    (answer, run, so),
+    subst (HasLacked same hash fixed n.seat.id w key value) (sym so)
+        (has_tried same hash fixed small n.seat.id run.1 w run.0 (begun (TryToInsert key value) (outcome_of (Ok answer)) run) v.calls (stays ∙ run.2) (section run.1 run.3) run.4 key value answer refl refl
+        is_put (λ new. refl) (λ word. refl)),
+  )
+
+  pub gave_up : (key : K) (removed : Bool) → HasRemoved same hash key removed v w → MapGaveUp same hash key removed c n
+  gave_up key removed (answer, run, so) = (
+    (answer, run, so),
+    subst (HasGivenUp same hash fixed n.seat.id w key) (sym so)
+        (has_removed same hash fixed small n.seat.id run.1 w run.0 (begun (Remove key) (outcome_of (Ok answer)) run) v.calls (stays ∙ run.2) (section run.1 run.3) run.4 key answer refl refl is_removed
+        (λ word. refl) refl),
+  )
+
+  pub not_stored : (key : K) (value : V) (fault : Fault) → HasRun same hash (Insert key value) (outcome_of (Err fault)) v w → WasRefused same hash (Insert key value) fault c n
+  not_stored key value fault run = (
+    run,
+    has_refused same hash fixed small n.seat.id run.1 w run.0 (begun (Insert key value) (outcome_of (Err fault)) run) v.calls (stays ∙ run.2) (section run.1 run.3) run.4 (Insert key value) refl fault refl refl,
+  )
+
+  pub not_tried : (key : K) (value : V) (fault : Fault) → HasRun same hash (TryToInsert key value) (outcome_of (Err fault)) v w → WasRefused same hash (TryToInsert key value) fault c n
+  not_tried key value fault run = (
+    run,
+    has_refused same hash fixed small n.seat.id run.1 w run.0 (begun (TryToInsert key value) (outcome_of (Err fault)) run) v.calls (stays ∙ run.2) (section run.1 run.3) run.4 (TryToInsert key value) refl fault refl refl,
+  )
+
+  pub not_removed : (key : K) (fault : Fault) → HasRun same hash (Remove key) (outcome_of (Err fault)) v w → WasRefused same hash (Remove key) fault c n
+  not_removed key fault run = (
+    run,
+    has_refused same hash fixed small n.seat.id run.1 w run.0 (begun (Remove key) (outcome_of (Err fault)) run) v.calls (stays ∙ run.2) (section run.1 run.3) run.4 (Remove key) refl fault refl refl,
+  )
+
+  pub counted : (count : ℕ) → HasMeasured same hash count v w → MapCounted same hash count c n
+  counted count run = (
+    run,
+    has_counted same hash fixed small n.seat.id run.1 w run.0 (begun Count (outcome_of (Ok (said.Count count))) run) v.calls (stays ∙ run.2) (section run.1 run.3) run.4 count refl refl,
+  )
+
+  pub looked_empty : (empty : Bool) → HasFoundEmpty same hash empty v w → MapLookedEmpty same hash empty c n
+  looked_empty empty (count, run, so) = (count, counted count run, so)
+
+  pub had_room : (additional : ℕ) → HasReserved same hash additional v w → MapHadRoom same hash additional c n
+  had_room additional run = (
+    run,
+    has_made_room same hash fixed small n.seat.id run.1 w run.0 (begun (MakeRoom additional) (outcome_of (Ok said.Reserved)) run) v.calls (stays ∙ run.2) (section run.1 run.3) run.4 additional refl refl,
+  )
+
+  pub was_cleared : HasSweptAll same hash v w → MapWasCleared same hash c n
+  was_cleared run = (run, has_cleared same hash fixed small n.seat.id run.1 w run.0 (begun clears (outcome_of (Ok said.Swept)) run) v.calls (stays ∙ run.2) (section run.1 run.3) run.4 refl refl)
+
+  pub no_room : (additional : ℕ) (fault : Fault) → HasRun same hash (MakeRoom additional) (outcome_of (Err fault)) v w → WasRefused same hash (MakeRoom additional) fault c n
+  no_room additional fault run = (
+    run,
+    has_refused same hash fixed small n.seat.id run.1 w run.0 (begun (MakeRoom additional) (outcome_of (Err fault)) run) v.calls (stays ∙ run.2) (section run.1 run.3) run.4 (MakeRoom additional) refl fault refl refl,
+  )
+
+  pub was_shown : (end : Result Unit Fault) → HasShown same hash end v w → IfOk end (λ _. MapWasShown same hash c n)
+  was_shown (Ok done) run = (run, has_walked same hash fixed small n.seat.id run.1 w run.0 (begun walks (outcome_of (Ok said.Swept)) run) v.calls (stays ∙ run.2) (section run.1 run.3) run.4 refl refl)
+  was_shown (Err fault) run = tt
+
+  pub was_sifted : (end : Result Unit Fault) → HasSifted same hash end v w → IfOk end (λ _. MapWasSifted same hash c n)
+  was_sifted (Ok done) run = (run, has_retained same hash fixed small n.seat.id run.1 w run.0 (begun retains (outcome_of (Ok said.Swept)) run) v.calls (stays ∙ run.2) (section run.1 run.3) run.4 refl refl)
+  was_sifted (Err fault) run = tt
+
+  pub not_gone : (purpose : Purpose) (end : Result Unit Fault) → HasGone same hash purpose end v w → IfErr end (λ fault. WasRefused same hash (GoOver purpose) fault c n)
+  not_gone purpose (Ok done) run = tt
+  not_gone purpose (Err fault) run = (
+    run,
+    has_refused same hash fixed small n.seat.id run.1 w run.0 (begun (GoOver purpose) (outcome_of (Err fault)) run) v.calls (stays ∙ run.2) (section run.1 run.3) run.4 (GoOver purpose) refl fault refl
+        refl,
+  )

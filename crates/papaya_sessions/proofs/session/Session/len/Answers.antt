@@ -1,0 +1,7 @@
+use Rattle.papaya_sessions.proofs.OneMap.{counted}
+use Rattle.papaya_sessions.proofs.session.Session.len.Goals as goal
+
+pub returns-clause-counted : goal.returns-clause-counted
+returns-clause-counted g c =
+    let y = c.len in
+    counted g.K.PartialEq.eq g.S.Hashes.hash c.args.self.now y.new.self y.ensures.inside y.ensures.slot y.ensures.map y.ensures.blocks y.result y.ensures.counted

@@ -1,0 +1,9 @@
+pub mod Asked
+pub mod Extended
+pub mod Given
+pub mod Homes
+pub mod Kept
+pub mod Lent
+pub mod OneMap
+pub mod Sessions
+pub mod Under

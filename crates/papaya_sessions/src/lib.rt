@@ -1,0 +1,9 @@
+//! Who shares a map: a session has a slot of its own, and a section that is open, and passes look keys up under one that is lent.
+#![tactic(auto)]
+
+mod pass;
+mod session;
+
+pub use pass::{HashMapRef, Pass};
+pub use session::Session;
+pub use threads_calls::Attempt;

@@ -1,0 +1,260 @@
+//! A map, as one of those has it who share it: with a slot of its own, within a section.
+ghost use Rattle.std.specs.Prelude.{◌≡◌, ◌^◌, [], true, IfOk, IfErr, nat_lt, option_map};
+ghost use Rattle.std.specs.Borrow.{sem};
+ghost use Rattle.std.specs.Fn.{FnOnceReturns};
+ghost use Rattle.std.specs.Iterator.{IsFiniteIterable};
+ghost use Rattle.papaya_sessions.specs.Asked.{HasRemovedIf, HasTriedWith};
+ghost use Rattle.papaya_sessions.specs.Extended.{Extends, PutsPair, RefusesPair, pair_of};
+ghost use Rattle.papaya_sessions.specs.OneMap.{MapCameToHave, MapCounted, MapGaveUp, MapHad, MapHadOne, MapHadRoom, MapLacked, MapLookedEmpty, MapWasCleared, MapWasShown, MapWasSifted, WasRefused};
+ghost use Rattle.papaya_sessions.specs.Sessions.{HasBeenRefused, HasMadeNone};
+ghost use Rattle.play_moves.specs.Given.ActsActs.{Insert, MakeRoom, Remove, RemoveIf, TryToInsert, TryToInsertWith};
+ghost use Rattle.threads_calls.specs.Answers.{CameBack, clears, has_stored};
+ghost use Rattle.threads_calls.specs.Given.SeizeViewsDeclared.view.Has.TheVariants.{Nothing};
+ghost use Rattle.threads_calls.specs.Given.SeizeViewsDeclared.view.SlotView.TheVariants.{Inside, Rests};
+ghost use Rattle.threads_errands.specs.Asking.{HasAsked, MakingSays, MayTest, TestSays};
+ghost use Rattle.threads_sweeps.specs.Swept.{retains, walks};
+
+use map_tables::Hashes;
+use seize_words::{Fault, Refused};
+use std::hash::{Hash, RandomState};
+use std::sync::Wait;
+use threads_calls::{Attempt, SessionBase as Base};
+
+/// A map, as one of those has it who share it. It may be sent to a thread, and holds a slot, within a section that is open from its beginning to its end: what its calls have
+/// found isn't given back as long as the answer is borrowed. As long as it neither ends nor is refreshed, nothing that was removed or replaced meanwhile is reclaimed,
+/// whoever did it: so who keeps a session for long refreshes it now and then.
+pub struct Session<'m, K: Eq + Hash + Drop, V: Drop, S: Hashes<K> = RandomState> {
+    pub(crate) base: Base<'m, K, V, S>,
+    pub(crate) number: u64,
+    ghost inside: { base.caller.seat.view.slot ≡ Inside base.slot Nothing },
+    ghost small: { nat_lt base.caller.blocks.now.words.fixed.batch_size (2 ^ 64) ≡ true },
+}
+
+impl<'m, K: Eq + Hash + Drop, V: Drop, S: Hashes<K>> Session<'m, K, V, S> {
+    ghost use Rattle.papaya_sessions.specs.Kept.{KeepsMap};
+    ghost use Rattle.papaya_sessions.specs.Lent.{EndsSo};
+
+    /// Takes a slot, and opens a section of it, for a map whose collector has this number. The faults are `Fault::SlotsUsedUp` and `Fault::Memory`: there is no session then.
+    pub fn begin(base: Base<'m, K, V, S>, number: u64) -> Result<Self, Fault>
+        requires rests { base.caller.seat.view.slot ≡ Rests }
+        requires small { nat_lt base.caller.blocks.now.words.fixed.batch_size (2 ^ 64) ≡ true }
+        ensures same { IfOk result (λ session. HasMadeNone base.entry.caller session.base.caller) }
+        ensures number { IfOk result (λ session. session.number ≡ number) }
+    {
+        let mut base = base;
+        base.register()?;
+        base.enter();
+        Ok(Session { base, number })
+    }
+
+    /// Returns the number of its map's collector.
+    pub fn number(&self) -> u64
+        ensures { result ≡ self.now.number }
+    {
+        self.number
+    }
+
+    /// Begins one more session on the same map. The faults are `Fault::SlotsUsedUp` and `Fault::Memory`.
+    pub fn another(&self) -> Result<Session<'m, K, V, S>, Fault>
+        ensures memory { IfOk result (λ session. session.base.caller.blocks.now ≡ self.now.base.caller.blocks.now) }
+        ensures map { IfOk result (λ session. session.base.caller.seat.view.map ≡ self.now.base.caller.seat.view.map) }
+        ensures none { IfOk result (λ session. session.base.caller.seat.view.calls ≡ []) }
+        ensures number { IfOk result (λ session. session.number ≡ self.now.number) }
+    {
+        let base = self.base.session();
+        Session::begin(base, self.number)
+    }
+
+    /// Ends its section, and opens another one.
+    pub fn refresh(&mut self)
+        ensures same { HasMadeNone self.old.base.caller self.new.base.caller }
+        ensures number { self.new.number ≡ self.old.number }
+    {
+        self.base.leave();
+        self.base.enter();
+    }
+
+    /// Looks a key up, and lends the value of its pair, if the map has one, for as long as the session is borrowed, whoever replaces or removes it meanwhile. How many
+    /// steps that takes is up to the others.
+    pub fn get<R: Wait>(&mut self, rt: &R, key: &K) -> Option<&V>
+        ensures* got { sem 𝓛 (EndsSo K.row V.row S.row K.PartialEq S.Hashes self.entry (λ now. KeepsMap self.old now
+            × MapHad K.eq S.hash key.now (option_map (λ value. value.now) result) self.old.base.caller now.base.caller)) }
+    {
+        match self.base.find(rt, key) {
+            Some(found) => Some(self.base.value(found)),
+            None => None,
+        }
+    }
+
+    /// Returns whether the map has a pair of this key.
+    pub fn contains_key<R: Wait>(&mut self, rt: &R, key: &K) -> bool
+        ensures keeps { KeepsMap self.old self.new }
+        ensures sought { MapHadOne K.eq S.hash key.now result self.old.base.caller self.new.base.caller }
+    {
+        self.base.contains_key(rt, key)
+    }
+
+    /// Stores a pair, also in the place of one of an equal key, and answers whether one was replaced. The faults are `Fault::Capacity` and `Fault::Memory`; then the pair
+    /// was not stored, and key and value come back.
+    pub fn insert<R: Wait>(&mut self, rt: &R, key: K, value: V) -> Result<bool, Refused<K, V>>
+        ensures keeps { KeepsMap self.old self.new }
+        ensures stored { IfOk result (λ replaced. MapCameToHave K.eq S.hash key value replaced self.old.base.caller self.new.base.caller) }
+        ensures refused { IfErr result (λ r. WasRefused K.eq S.hash (Insert key value) r.fault self.old.base.caller self.new.base.caller) }
+        ensures back { IfErr result (λ r. (r.key ≡ key) × (r.value ≡ value)) }
+    {
+        self.base.insert(rt, key, value)
+    }
+
+    /// Stores a pair, if the map has none of an equal key: else it comes back. The faults are `Fault::Capacity` and `Fault::Memory`; then the pair comes back, too.
+    pub fn try_insert<R: Wait>(
+        &mut self,
+        rt: &R,
+        key: K,
+        value: V,
+    ) -> Result<Attempt<K, V>, Refused<K, V>>
+        ensures keeps { KeepsMap self.old self.new }
+        ensures tried { IfOk result (λ tried. MapLacked K.eq S.hash key value (has_stored tried) self.old.base.caller self.new.base.caller) }
+        ensures present { IfOk result (CameBack key value) }
+        ensures refused { IfErr result (λ r. WasRefused K.eq S.hash (TryToInsert key value) r.fault self.old.base.caller self.new.base.caller) }
+        ensures back { IfErr result (λ r. (r.key ≡ key) × (r.value ≡ value)) }
+    {
+        self.base.try_insert(rt, key, value)
+    }
+
+    /// Removes the pair of a key, and answers whether there was one. It is dropped once no section that was open before holds it. The faults are `Fault::Capacity` and
+    /// `Fault::Memory`; then no pair was removed.
+    pub fn remove<R: Wait>(&mut self, rt: &R, key: K) -> Result<bool, Fault>
+        ensures keeps { KeepsMap self.old self.new }
+        ensures removed { IfOk result (λ removed. MapGaveUp K.eq S.hash key removed self.old.base.caller self.new.base.caller) }
+        ensures refused { IfErr result (λ fault. WasRefused K.eq S.hash (Remove key) fault self.old.base.caller self.new.base.caller) }
+    {
+        self.base.remove(rt, key)
+    }
+
+    /// Stores a value that is made, if the map has no pair of this key yet, and answers whether it was stored. The closure is called where the key was missing; if another
+    /// one has stored a pair meanwhile, what it has made is dropped. The faults are `Fault::Capacity` and `Fault::Memory`: nothing was stored then, and the key is dropped.
+    pub fn try_insert_with<R: Wait, F: FnOnce() -> V>(
+        &mut self,
+        rt: &R,
+        key: K,
+        make: F,
+    ) -> Result<bool, Fault>
+        requires callable { F.pre make }
+        ensures keeps { KeepsMap self.old self.new }
+        ensures tried { IfOk result (λ stored. HasTriedWith K.eq S.hash key stored self.old.base.caller self.new.base.caller) }
+        ensures asked { HasAsked K.eq S.hash (MakingSays (FnOnceReturns F.FnOnce make tt)) (TryToInsertWith key) self.old.base.caller.seat.view self.new.base.caller.seat.view }
+        ensures refused { IfErr result (λ fault. HasBeenRefused K.eq S.hash (TryToInsertWith key) fault self.old.base.caller self.new.base.caller) }
+    {
+        self.base.try_insert_with(rt, key, make)
+    }
+
+    /// Removes the pair of a key, if the test says yes of it, and answers whether it has. The test is called again where another pair of the key has taken the place of the
+    /// first. The faults are `Fault::Capacity` and `Fault::Memory`: no pair was removed then.
+    pub fn remove_if<R: Wait, F: Fn(&K, &V) -> bool>(
+        &mut self,
+        rt: &R,
+        key: K,
+        test: F,
+    ) -> Result<bool, Fault>
+        requires callable { F.IsAlwaysCallable test }
+        ensures keeps { KeepsMap self.old self.new }
+        ensures removed { IfOk result (λ removed. HasRemovedIf K.eq S.hash key removed self.old.base.caller self.new.base.caller) }
+        ensures asked { HasAsked K.eq S.hash (TestSays (MayTest F.Fn test)) (RemoveIf key) self.old.base.caller.seat.view self.new.base.caller.seat.view }
+        ensures refused { IfErr result (λ fault. HasBeenRefused K.eq S.hash (RemoveIf key) fault self.old.base.caller self.new.base.caller) }
+    {
+        self.base.remove_if(rt, key, test)
+    }
+
+    /// Stores what an iterator gives, one pair after another, each also in the place of another one of its key. Where a pair is refused, it comes back, those that came before
+    /// stay, and no further one is asked for. The faults are `Fault::Capacity` and `Fault::Memory`.
+    pub fn extend<R: Wait, I: IntoIterator<Item = (K, V)>>(
+        &mut self,
+        rt: &R,
+        items: I,
+    ) -> Result<(), Refused<K, V>>
+        requires { IsFiniteIterable I.into_iter_gives I.IntoIter.can_next I.IntoIter.remaining items }
+        ensures extended { Extends (PutsPair K.eq S.hash) I.into_iter_gives I.IntoIter.next_gives pair_of (RefusesPair K.eq S.hash) items result self.old.base.caller self.new.base.caller }
+        ensures number { self.new.number ≡ self.old.number }
+    {
+        for (key, value) in items {
+            match self.insert(rt, key, value) {
+                Ok(_) => {}
+                Err(refused) => return Err(refused),
+            }
+        }
+        Ok(())
+    }
+
+    /// Returns how many pairs the map has, by its count: of each shard of that what it says at a moment of the call. While other threads change the map, that
+    /// may be what it never had at one moment; where nobody does it is how many there are.
+    pub fn len(&mut self) -> u64
+        ensures keeps { KeepsMap self.old self.new }
+        ensures counted { MapCounted K.eq S.hash result self.old.base.caller self.new.base.caller }
+    {
+        self.base.len()
+    }
+
+    /// Returns whether the map has no pair, by its count.
+    pub fn is_empty(&mut self) -> bool
+        ensures keeps { KeepsMap self.old self.new }
+        ensures counted { MapLookedEmpty K.eq S.hash result self.old.base.caller self.new.base.caller }
+    {
+        self.base.is_empty()
+    }
+
+    /// Makes room for so many further pairs, so that as many may be stored before a table is made. The faults are `Fault::Capacity` and `Fault::Memory`. It changes no pair.
+    pub fn reserve<R: Wait>(&mut self, rt: &R, additional: u64) -> Result<(), Fault>
+        ensures keeps { KeepsMap self.old self.new }
+        ensures reserved { IfOk result (λ _. MapHadRoom K.eq S.hash additional self.old.base.caller self.new.base.caller) }
+        ensures refused { IfErr result (λ fault. WasRefused K.eq S.hash (MakeRoom additional) fault self.old.base.caller self.new.base.caller) }
+    {
+        self.base.reserve(rt, additional)
+    }
+
+    /// Removes each pair that the map has from the beginning of the call to its end; those that others store meanwhile may stay. What was removed is dropped once no section
+    /// that was open before holds it. The faults are `Fault::Capacity` and `Fault::Memory`, of a table that this needs first; some pairs may be gone then.
+    pub fn clear<R: Wait>(&mut self, rt: &R) -> Result<(), Fault>
+        ensures keeps { KeepsMap self.old self.new }
+        ensures cleared { IfOk result (λ _. MapWasCleared K.eq S.hash self.old.base.caller self.new.base.caller) }
+        ensures refused { IfErr result (λ fault. WasRefused K.eq S.hash clears fault self.old.base.caller self.new.base.caller) }
+    {
+        self.base.clear(rt)
+    }
+
+    /// Shows the pairs of the map to a closure: each that is there from the beginning of the call to its end once, and others that were there at a moment of it, none twice. The
+    /// faults are `Fault::Capacity` and `Fault::Memory`, of a table that this needs first; some pairs may have been shown then.
+    pub fn each<R: Wait, F: FnMut(&K, &V)>(&mut self, rt: &R, each: F) -> Result<(), Fault>
+        requires callable { F.IsAlwaysCallable each }
+        ensures keeps { KeepsMap self.old self.new }
+        ensures shown { IfOk result (λ _. MapWasShown K.eq S.hash self.old.base.caller self.new.base.caller) }
+        ensures refused { IfErr result (λ fault. WasRefused K.eq S.hash walks fault self.old.base.caller self.new.base.caller) }
+    {
+        threads_sweeps::each(&mut self.base, rt, each)
+    }
+
+    /// Removes the pairs about which a closure says that they are not to be kept. Each pair that is there from the beginning of the call to its end is asked about, and it may be
+    /// asked again. What was removed is dropped once no section that was open before holds it. The faults are `Fault::Capacity` and `Fault::Memory`, of a table that this needs;
+    /// some pairs may be gone then.
+    pub fn retain<R: Wait, F: FnMut(&K, &V) -> bool>(
+        &mut self,
+        rt: &R,
+        keep: F,
+    ) -> Result<(), Fault>
+        requires callable { F.IsAlwaysCallable keep }
+        ensures keeps { KeepsMap self.old self.new }
+        ensures sifted { IfOk result (λ _. MapWasSifted K.eq S.hash self.old.base.caller self.new.base.caller) }
+        ensures refused { IfErr result (λ fault. WasRefused K.eq S.hash retains fault self.old.base.caller self.new.base.caller) }
+    {
+        threads_sweeps::retain(&mut self.base, rt, keep)
+    }
+}
+
+impl<'m, K: Eq + Hash + Drop, V: Drop, S: Hashes<K>> Drop for Session<'m, K, V, S> {
+    fn drop(self) {
+        let Session { base, number: _ } = self;
+        let mut base = base;
+        base.leave();
+        base.unregister();
+        drop(base);
+    }
+}

@@ -1,0 +1,70 @@
+//! How sets are built, and why one is refused: the first reason that there is.
+use papaya::{Collector, Fault, HashSet, IdSource};
+use std::alloc::Global;
+use std::hash::{BuildHasherDefault, DefaultHasher, RandomState};
+use std::sync::Wait;
+use std::test::Fail;
+
+/// A capacity that no table has the places for.
+const TOO_MANY: u64 = 2_305_843_009_213_693_951;
+
+type Hashing = BuildHasherDefault<DefaultHasher>;
+
+/// Whether each reason comes before those that follow it, and whether a source of one number still has that afterwards.
+fn reasons(alloc: Global, hasher: RandomState, other: RandomState) -> [bool; 6] {
+    let mut ids = IdSource::starting_at(18_446_744_073_709_551_614);
+    let builder = HashSet::<u64, Hashing>::builder(Hashing::default());
+    let zero = builder.chunk(0).capacity(TOO_MANY).build(alloc, &mut ids);
+    let many = HashSet::<u64, Hashing>::with_capacity_and_hasher(
+        alloc,
+        &mut ids,
+        TOO_MANY,
+        Hashing::default(),
+    );
+    let still = HashSet::<u64, Hashing>::with_capacity_and_hasher(
+        alloc,
+        &mut ids,
+        100,
+        Hashing::default(),
+    );
+    let none = HashSet::<u64, Hashing>::builder(Hashing::default()).build(alloc, &mut ids);
+    let new = HashSet::<u64>::new(alloc, &mut ids, hasher);
+    let with = HashSet::<u64>::with_capacity(alloc, &mut ids, 100, other);
+    [
+        matches!(zero, Err(Fault::ZeroChunk)),
+        matches!(many, Err(Fault::Capacity)),
+        still.is_ok(),
+        matches!(none, Err(Fault::CollectorsUsedUp)),
+        matches!(new, Err(Fault::CollectorsUsedUp)),
+        matches!(with, Err(Fault::CollectorsUsedUp)),
+    ]
+}
+
+#[test]
+fn the_first_reason_refuses_a_set(rt: HostRuntime) -> Result<(), Fail> {
+    let (hasher, other) = (RandomState::new(&rt)?, RandomState::new(&rt)?);
+    assert_eq!(rt; reasons(rt.alloc(), hasher, other), [true; 6]);
+    Ok(())
+}
+
+/// A set that was built with all that can be chosen holds what is put there.
+fn built<R: Wait>(rt: &R, alloc: Global, hasher: RandomState) -> Result<bool, Fault> {
+    let mut ids = IdSource::new();
+    let collector = Collector::new(&mut ids, 1, 4)?.batch_size(1);
+    let set = HashSet::builder(hasher)
+        .hasher(Hashing::default())
+        .collector(collector)
+        .shards(2)
+        .chunk(1)
+        .capacity(10)
+        .build(alloc, &mut ids)?;
+    let mut session = set.session()?;
+    Ok(session.insert(rt, 7u64)? && session.contains(rt, &7))
+}
+
+#[test]
+fn a_set_that_was_built_holds_keys(rt: HostRuntime) -> Result<(), Fail> {
+    let held = built(&rt, rt.alloc(), RandomState::new(&rt)?);
+    assert!(rt; held?);
+    Ok(())
+}

@@ -1,0 +1,13 @@
+//! Tests of a hash set that threads share, and of builders.
+#![tactic(auto)]
+
+#[cfg(test)]
+mod building;
+#[cfg(test)]
+mod building_maps;
+#[cfg(test)]
+mod counting;
+#[cfg(test)]
+mod holding;
+#[cfg(test)]
+mod meeting;

@@ -1,0 +1,136 @@
+//! One thread goes over the pairs of a map while another one changes it.
+use papaya_map::{Fault, HashMap, IdSource, Session};
+use std::alloc::Global;
+use std::hash::{BuildHasherDefault, DefaultHasher};
+use std::sync::Wait;
+use std::test::Fail;
+use std::thread;
+use std::thread::Threads;
+use std::time::{Clock, Duration};
+
+/// How many keys stay.
+const STAY: u64 = 100;
+
+/// How many further ones come and go.
+const MORE: u64 = 100;
+
+/// How often one goes over the pairs, a millisecond apart.
+const LOOKS: u64 = 20_000;
+
+type Hashing = BuildHasherDefault<DefaultHasher>;
+
+/// Stores so many keys from this one on, each with itself.
+fn stores<R: Wait>(
+    rt: &R,
+    session: &mut Session<'_, u64, u64, Hashing>,
+    from: u64,
+    many: u64,
+) -> Result<(), Fault> {
+    for n in 0..many {
+        let key = u64::wrapping_add(from, n);
+        let _ = session.insert(rt, key, key)?;
+    }
+    Ok(())
+}
+
+/// How many of the keys that stay a walk shows, and how many others.
+fn seen<R: Wait>(
+    rt: &R,
+    session: &mut Session<'_, u64, u64, Hashing>,
+) -> Result<(u64, u64), Fault> {
+    let mut staying = 0u64;
+    let mut others = 0u64;
+    session.each(rt, |key, value| {
+        if *key < STAY && *key == *value {
+            staying = u64::wrapping_add(staying, 1);
+        } else {
+            others = u64::wrapping_add(others, 1);
+        }
+    })?;
+    Ok((staying, others))
+}
+
+/// Goes over the pairs until it has seen others than those that stay. Answers whether it has, and each time all of those.
+fn walks<R: Wait + Clock>(rt: &R, session: Session<'_, u64, u64, Hashing>) -> Result<bool, Fault> {
+    let mut session = session;
+    for _ in 0..LOOKS {
+        let (staying, others) = seen(rt, &mut session)?;
+        if staying != STAY {
+            return Ok(false);
+        }
+        if others != 0 {
+            return Ok(true);
+        }
+        session.refresh();
+        thread::sleep(rt, Duration::from_millis(1));
+    }
+    Ok(false)
+}
+
+/// Stores further keys, and waits until the other one has removed one of those that stay. Answers whether that came.
+fn comes<R: Wait + Clock>(rt: &R, session: Session<'_, u64, u64, Hashing>) -> Result<bool, Fault> {
+    let mut session = session;
+    stores(rt, &mut session, STAY, MORE)?;
+    for _ in 0..LOOKS {
+        if !session.contains_key(rt, &0) {
+            return Ok(true);
+        }
+        session.refresh();
+        thread::sleep(rt, Duration::from_millis(1));
+    }
+    Ok(false)
+}
+
+/// Goes over the pairs until it meets a further one, and removes then those that stayed.
+fn meets<R: Wait + Clock>(
+    rt: &R,
+    session: Session<'_, u64, u64, Hashing>,
+    other: Session<'_, u64, u64, Hashing>,
+) -> Result<bool, Fault> {
+    let met = walks(rt, session)?;
+    let mut other = other;
+    other.retain(rt, |key, _| *key >= STAY)?;
+    Ok(met)
+}
+
+/// One thread stores further keys while another one goes over all. Answers what each has met, and how many keys are left that stayed, and that came.
+fn sweeps<R: Threads + Wait + Clock + Sync>(
+    rt: &R,
+    alloc: Global,
+) -> Result<(bool, bool, (u64, u64)), Fault> {
+    let mut ids = IdSource::new();
+    let map = HashMap::with_hasher(alloc, &mut ids, Hashing::default())?;
+    let mut first = map.session()?;
+    let second = first.another()?;
+    let third = first.another()?;
+    let fourth = first.another()?;
+    stores(rt, &mut first, 0, STAY)?;
+    let (came, met) = thread::join(rt, || comes(rt, second), || meets(rt, third, fourth));
+    Ok((came?, met?, seen(rt, &mut first)?))
+}
+
+// The one waits until a key is gone that the other one removes once it has met a further key: were they served one after another, one of them would wait in vain. Each walk shows
+// all keys that stay, whatever comes meanwhile.
+#[test]
+fn a_walk_shows_what_stays_and_meets_what_comes(rt: HostRuntime) -> Result<(), Fail> {
+    assert_eq!(rt; sweeps(&rt, rt.alloc())?, (true, true, (0, MORE)));
+    Ok(())
+}
+
+/// Of one session: how many pairs a walk shows before and after those of odd keys are removed, and how many are counted.
+fn alone<R: Wait>(rt: &R, alloc: Global) -> Result<(u64, u64, u64), Fault> {
+    let mut ids = IdSource::new();
+    let map = HashMap::with_hasher(alloc, &mut ids, Hashing::default())?;
+    let mut session = map.session()?;
+    stores(rt, &mut session, 0, STAY)?;
+    let (before, _) = seen(rt, &mut session)?;
+    session.retain(rt, |key, _| *key % 2 == 0)?;
+    let (after, _) = seen(rt, &mut session)?;
+    Ok((before, after, session.len()))
+}
+
+#[test]
+fn a_test_keeps_half_of_the_pairs(rt: HostRuntime) -> Result<(), Fail> {
+    assert_eq!(rt; alone(&rt, rt.alloc())?, (STAY, STAY / 2, STAY / 2));
+    Ok(())
+}

@@ -1,0 +1,220 @@
+//! Calls on the whole map: two threads count what both have stored, keys are found while room is made, and all pairs are removed.
+use papaya_map::{Fault, HashMap, IdSource, Session};
+use std::alloc::Global;
+use std::hash::{BuildHasherDefault, DefaultHasher};
+use std::sync::Wait;
+use std::test::Fail;
+use std::thread;
+use std::thread::Threads;
+use std::time::{Clock, Duration};
+
+/// How many keys each thread stores.
+const EACH: u64 = 200;
+
+/// How often each of them looks, a millisecond apart.
+const LOOKS: u64 = 20_000;
+
+/// How often all keys are looked up while room is made.
+const ROUNDS: u64 = 16;
+
+type Hashing = BuildHasherDefault<DefaultHasher>;
+
+/// Stores so many keys from this one on, each with its double.
+fn stores<R: Wait>(
+    rt: &R,
+    session: &mut Session<'_, u64, u64, Hashing>,
+    from: u64,
+) -> Result<(), Fault> {
+    for n in 0..EACH {
+        let key = u64::wrapping_add(from, n);
+        let _ = session.insert(rt, key, u64::wrapping_mul(key, 2))?;
+    }
+    Ok(())
+}
+
+/// Whether the map comes to have so many pairs.
+fn meets<R: Wait + Clock>(rt: &R, session: &mut Session<'_, u64, u64, Hashing>, many: u64) -> bool {
+    for _ in 0..LOOKS {
+        if session.len() == many {
+            return true;
+        }
+        session.refresh();
+        thread::sleep(rt, Duration::from_millis(1));
+    }
+    false
+}
+
+/// Stores its keys, and waits until those of both are counted.
+fn counts_all<R: Wait + Clock>(
+    rt: &R,
+    session: Session<'_, u64, u64, Hashing>,
+    from: u64,
+) -> Result<bool, Fault> {
+    let mut session = session;
+    stores(rt, &mut session, from)?;
+    Ok(meets(rt, &mut session, EACH * 2))
+}
+
+/// Two threads do so, each with keys of its own. Answers whether each has counted all.
+fn count<R: Threads + Wait + Clock + Sync>(rt: &R, alloc: Global) -> Result<(bool, bool), Fault> {
+    let mut ids = IdSource::new();
+    let map = HashMap::with_hasher(alloc, &mut ids, Hashing::default())?;
+    let first = map.session()?;
+    let second = first.another()?;
+    let (one, other) = thread::join(
+        rt,
+        || counts_all(rt, first, 0),
+        || counts_all(rt, second, EACH),
+    );
+    Ok((one?, other?))
+}
+
+// Were the threads served one after another, the first one would count its own keys alone.
+#[test]
+fn two_threads_count_what_both_have_stored(rt: HostRuntime) -> Result<(), Fail> {
+    assert_eq!(rt; count(&rt, rt.alloc())?, (true, true));
+    Ok(())
+}
+
+/// Makes room again and again, twice as much each time.
+fn reserves<R: Wait>(rt: &R, session: Session<'_, u64, u64, Hashing>) -> Result<(), Fault> {
+    let mut session = session;
+    let mut more = 2048u64;
+    for _ in 0..5u64 {
+        session.reserve(rt, more)?;
+        more = u64::wrapping_mul(more, 2);
+    }
+    Ok(())
+}
+
+/// How often it has found a key with its double, looking for each of them again and again.
+fn finds<R: Wait>(rt: &R, session: Session<'_, u64, u64, Hashing>) -> u64 {
+    let mut session = session;
+    let mut found = 0u64;
+    for _ in 0..ROUNDS {
+        for key in 0..EACH {
+            if session.get(rt, &key).copied() == Some(u64::wrapping_mul(key, 2)) {
+                found = u64::wrapping_add(found, 1);
+            }
+        }
+        session.refresh();
+    }
+    found
+}
+
+/// One thread makes room while another one looks for each key. Answers how often it has found one, and how many there are then.
+fn grows<R: Threads + Wait + Sync>(rt: &R, alloc: Global) -> Result<(u64, u64), Fault> {
+    let mut ids = IdSource::new();
+    let map = HashMap::with_hasher(alloc, &mut ids, Hashing::default())?;
+    let mut first = map.session()?;
+    let second = first.another()?;
+    let third = first.another()?;
+    stores(rt, &mut first, 0)?;
+    let (done, found) = thread::join(rt, || reserves(rt, second), || finds(rt, third));
+    done?;
+    Ok((found, first.len()))
+}
+
+// Each lookup finds its key, whatever tables there are. A body that served one thread after the other would pass, too.
+#[test]
+fn keys_are_found_while_room_is_made(rt: HostRuntime) -> Result<(), Fail> {
+    assert_eq!(rt; grows(&rt, rt.alloc())?, (ROUNDS * EACH, EACH));
+    Ok(())
+}
+
+/// The key that was stored last, and the one that says that it was met.
+const LAST: u64 = EACH;
+
+const MET: u64 = EACH + 1;
+
+/// Removes all pairs again and again, until it has met the last key; says so then. Answers whether that came.
+fn clears<R: Wait + Clock>(rt: &R, session: Session<'_, u64, u64, Hashing>) -> Result<bool, Fault> {
+    let mut session = session;
+    for _ in 0..LOOKS {
+        let met = session.contains_key(rt, &LAST);
+        session.clear(rt)?;
+        session.refresh();
+        if met {
+            let _ = session.insert(rt, MET, 0)?;
+            return Ok(true);
+        }
+        thread::sleep(rt, Duration::from_millis(1));
+    }
+    Ok(false)
+}
+
+/// Stores keys, and the last one anew where it is gone, until the other one says that it has met that. Answers whether it was gone once.
+fn leaves<R: Wait + Clock>(rt: &R, session: Session<'_, u64, u64, Hashing>) -> Result<bool, Fault> {
+    let mut session = session;
+    stores(rt, &mut session, 0)?;
+    let _ = session.insert(rt, LAST, 0)?;
+    let mut gone = false;
+    for _ in 0..LOOKS {
+        let met = session.contains_key(rt, &MET);
+        let there = session.contains_key(rt, &LAST);
+        gone = gone || !there;
+        if met {
+            return Ok(gone);
+        }
+        if !there {
+            let _ = session.insert(rt, LAST, 0)?;
+        }
+        session.refresh();
+        thread::sleep(rt, Duration::from_millis(1));
+    }
+    Ok(false)
+}
+
+/// How many of the keys that were stored before the last one are there.
+fn left<R: Wait>(rt: &R, session: Session<'_, u64, u64, Hashing>) -> u64 {
+    let mut session = session;
+    let mut found = 0u64;
+    for key in 0..EACH {
+        if session.contains_key(rt, &key) {
+            found = u64::wrapping_add(found, 1);
+        }
+    }
+    found
+}
+
+/// One thread stores keys while another one removes all pairs. Answers what each has met, and how many keys are left.
+fn empties<R: Threads + Wait + Clock + Sync>(
+    rt: &R,
+    alloc: Global,
+) -> Result<(bool, bool, u64), Fault> {
+    let mut ids = IdSource::new();
+    let map = HashMap::with_hasher(alloc, &mut ids, Hashing::default())?;
+    let first = map.session()?;
+    let second = first.another()?;
+    let third = first.another()?;
+    let (gone, met) = thread::join(rt, || leaves(rt, first), || clears(rt, second));
+    Ok((gone?, met?, left(rt, third)))
+}
+
+// The one that stores goes on until the other one has met its last key, and the other one removes all pairs until it has: were they served one after another, whoever came first
+// would wait in vain.
+#[test]
+fn all_pairs_are_removed_while_others_store(rt: HostRuntime) -> Result<(), Fail> {
+    assert_eq!(rt; empties(&rt, rt.alloc())?, (true, true, 0));
+    Ok(())
+}
+
+/// Of one session: what it counts of a map without a pair, after room was made, after keys were stored, and after all were removed.
+fn alone<R: Wait>(rt: &R, alloc: Global) -> Result<(bool, bool, u64, bool), Fault> {
+    let mut ids = IdSource::new();
+    let map = HashMap::with_hasher(alloc, &mut ids, Hashing::default())?;
+    let mut session = map.session()?;
+    let first = session.is_empty();
+    session.reserve(rt, 1000)?;
+    let then = session.is_empty();
+    stores(rt, &mut session, 0)?;
+    let stored = session.len();
+    session.clear(rt)?;
+    Ok((first, then, stored, session.is_empty()))
+}
+
+#[test]
+fn what_was_stored_is_counted(rt: HostRuntime) -> Result<(), Fail> {
+    assert_eq!(rt; alone(&rt, rt.alloc())?, (true, true, EACH, true));
+    Ok(())
+}

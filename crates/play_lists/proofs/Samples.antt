@@ -1,0 +1,4 @@
+-- Samples: cases worked by hand, and what the definitions and laws refuse.
+mod Agrees
+pub mod Played
+mod Grouped

@@ -1,0 +1,9 @@
+use Rattle.seize_callers.proofs.Keeping.{none_away}
+use Rattle.seize_callers.proofs.Resting.{registered}
+use Rattle.seize_callers.proofs.caller.pass.retiring.occupies.Goals as goal
+
+pub errand-requires-clause-home : goal.errand-requires-clause-home
+errand-requires-clause-home g c = none_away c.args.seat.now.away c.requires.home
+
+pub errand-requires-clause-ends : goal.errand-requires-clause-ends
+errand-requires-clause-ends g c = λ answer w did. registered w.knows answer did.0

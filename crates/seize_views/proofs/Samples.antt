@@ -1,0 +1,3 @@
+-- Samples: cases worked by hand, and what the definitions and laws refuse.
+mod Views
+pub mod Reaches

@@ -1,0 +1,8 @@
+use Rattle.seize_callers.proofs.Keeping.{none_away}
+use Rattle.threads_callers.proofs.caller.MapCaller.sends.Goals as goal
+
+pub errand-requires-clause-home : goal.errand-requires-clause-home
+errand-requires-clause-home g c = none_away c.args.self.now.seat.away c.args.self.now.home
+
+pub errand-requires-clause-ends : goal.errand-requires-clause-ends
+errand-requires-clause-ends g c = λ answer w did. (c.requires.ends answer w did).0

@@ -1,0 +1,96 @@
+-- A session that goes over the pairs of its map may begin to, and what its call has come to.
+use Rattle.std.specs.Prelude.{[], Some, None, Result}
+use Rattle.std.proofs.Common.{◌≡◌, ℕ, Bool, true, ◌⊎◌, inl, inr, refl, subst, ap}
+use Rattle.seize_words.specs.declared.fault.Fault.{Fault}
+use Rattle.map_tables.specs.Chunks.{is_incremental}
+use Rattle.map_tables.specs.declared.node.Node.{Node}
+use Rattle.map_tables.specs.declared.setting.Setting.{Setting}
+use Rattle.papaya_raw.specs.Given.ReservesDeclared.sweep.Purpose.{Purpose}
+use Rattle.papaya_raw.specs.Given.ReservesDeclared.sweep.Purpose.TheVariants.{Retains, Walks}
+use Rattle.papaya_raw.specs.Given.SweepsSweepPoints.{sweeping}
+use Rattle.papaya_raw.specs.declared.machines.machine.Machine.{Machine}
+use Rattle.papaya_raw.specs.declared.machines.machine.Machine.TheVariants as kinds
+use Rattle.papaya_raw.specs.declared.machines.progress.Answer.{Answer}
+use Rattle.papaya_raw.specs.declared.machines.progress.Answer.TheVariants as said
+use Rattle.papaya_raw.specs.declared.machines.progress.Progress.{Progress}
+use Rattle.papaya_raw.specs.declared.machines.progress.Progress.TheVariants as progress
+use Rattle.threads_calls.specs.Given.SeizeViewsDeclared.view.Has.TheVariants.{Nothing as NoBlock}
+use Rattle.threads_calls.specs.Given.SeizeViewsDeclared.view.SlotView.TheVariants.{Inside}
+use Rattle.threads_calls.specs.Given.CallersStanding.{known_by}
+use Rattle.threads_calls.proofs.Sessions.{may_do_all}
+use Rattle.threads_rule.specs.Given.ActsActs.{GoOver, Wanted}
+use Rattle.threads_rule.specs.Views.Rule.{stand_of}
+use Rattle.threads_rule.specs.Views.Told.{newest_progress}
+use Rattle.threads_rule.specs.declared.view.View.{View}
+use Rattle.threads_rule.specs.declared.view.SeatWork.{SeatWork}
+use Rattle.threads_rule.specs.declared.view.SeatWork.TheVariants.{Nothing}
+use Rattle.threads_rule.specs.Errands.Calling.{outcome_of, wanted_of}
+use Rattle.threads_rule.specs.Errands.Looking.{Begins, HasProgressed, IsOfThem, StaysThere}
+use Rattle.threads_rule.specs.Errands.Sweeping.{HasGoneOver, IsSweeping, MayGoOver, RetainedSo, WalkedSo, swept_by}
+use Rattle.threads_rule.proofs.Errands.Beginnings.{stays_begun, stays_on}
+use Rattle.threads_rule.proofs.Errands.Runs.{has_run, told_last}
+
+-- a step that tells neither a pair nor an end
+abbrev Goes : {T : Type 0} → Progress T → Type 0
+Goes {T} told = (told ≡ progress.Goes) ⊎ ((told ≡ progress.Waits) ⊎ (((value : T) × (told ≡ progress.Gave value)) ⊎ ((value : T) × (told ≡ progress.Unstored value))))
+
+module _ {K V S : Type 0} where
+  -- with this under way in its place
+  abbrev with_work : View K V S → SeatWork K V S → View K V S
+  with_work v work = record { slot = v.slot; under = v.under; map = v.map; work = work; looks = []; held = []; began = v.began; calls = v.calls }
+
+  -- one that was asked, or told something, stands where it stood, and its calls are those of before
+  pub work_stays : (v w : View K V S) (work : SeatWork K V S) → w ≡ with_work v work → StaysThere v w
+  work_stays v w work is = record { slot = ap (λ (u : View K V S). stand_of u) is; map = ap (λ (u : View K V S). u.map) is }
+
+  pub work_of_them : (v w : View K V S) (work : SeatWork K V S) → w ≡ with_work v work → IsOfThem v w
+  work_of_them v w work is = λ told. ap (λ (u : View K V S). newest_progress told u.calls) is
+
+  -- a sweep that has ended has gone over all
+  pub walk_done : (hasher : S) (machine : Machine K V K) (answer : Answer) (v : View K V S) → WalkedSo hasher machine (progress.Done answer) v → (v.work ≡ Nothing) × (answer ≡ said.Swept)
+  walk_done hasher machine said.Swept v is = (is, refl)
+  walk_done hasher machine said.Reserved v is = absurd is
+  walk_done hasher machine (said.Key key) v is = absurd is
+  walk_done hasher machine (said.Count count) v is = absurd is
+
+  pub retain_done : (hasher : S) (machine : Machine K V K) (answer : Answer) (v : View K V S) → RetainedSo hasher machine (progress.Done answer) v → (v.work ≡ Nothing) × (answer ≡ said.Swept)
+  retain_done hasher machine said.Swept v is = (is, refl)
+  retain_done hasher machine said.Reserved v is = absurd is
+  retain_done hasher machine (said.Key key) v is = absurd is
+  retain_done hasher machine (said.Count count) v is = absurd is
+
+  -- a walk goes on after such a step,
+  pub walks_on : (hasher : S) (machine : Machine K V K) (told : Progress (Node K V)) (v : View K V S) → Goes told → WalkedSo hasher machine told v → IsSweeping Walks hasher machine v
+  walks_on hasher machine told v (inl e) so = subst (λ (t : Progress (Node K V)). WalkedSo hasher machine t v) e so
+  walks_on hasher machine told v (inr (inl e)) so = subst (λ (t : Progress (Node K V)). WalkedSo hasher machine t v) e so
+  walks_on hasher machine told v (inr (inr (inl (value, e)))) so = subst (λ (t : Progress (Node K V)). WalkedSo hasher machine t v) e so
+  walks_on hasher machine told v (inr (inr (inr (value, e)))) so = subst (λ (t : Progress (Node K V)). WalkedSo hasher machine t v) e so
+
+  -- and a retaining
+  pub retains_on : (hasher : S) (machine : Machine K V K) (told : Progress (Node K V)) (v : View K V S) → Goes told → RetainedSo hasher machine told v → IsSweeping Retains hasher machine v
+  retains_on hasher machine told v (inl e) so = subst (λ (t : Progress (Node K V)). RetainedSo hasher machine t v) e so
+  retains_on hasher machine told v (inr (inl e)) so = subst (λ (t : Progress (Node K V)). RetainedSo hasher machine t v) e so
+  retains_on hasher machine told v (inr (inr (inl (value, e)))) so = subst (λ (t : Progress (Node K V)). RetainedSo hasher machine t v) e so
+  retains_on hasher machine told v (inr (inr (inr (value, e)))) so = subst (λ (t : Progress (Node K V)). RetainedSo hasher machine t v) e so
+
+  module _ (same : K → K → Bool) (hash : S → K → ℕ) (purpose : Purpose) where
+    -- what it has come to, from where it began
+    pub gone_over : (machine : Machine K V K) (setting : Setting) (u begun v w : View K V S) (end : Result Unit Fault) → machine ≡ kinds.Sweep (sweeping setting purpose)
+        → Begins same hash (wanted_of machine) u begun → StaysThere begun w → IsOfThem begun v → HasProgressed (outcome_of (swept_by end)) v w → w.work ≡ Nothing → HasGoneOver same hash purpose end u w
+    gone_over machine setting u begun v w end is begins stays them told free =
+        let its = subst (λ (x : Wanted K V). Begins same hash x u begun) (ap wanted_of is) begins in record {
+          free = free;
+          stays = stays_on u begun w (stays_begun same hash (GoOver purpose) u begun its) stays;
+          ran = has_run same hash (GoOver purpose) (outcome_of (swept_by end)) u begun w its (told_last begun v w (outcome_of (swept_by end)) them told);
+        }
+
+    -- it may begin
+    pub may_go_over : (v : View K V S) (setting its : Setting) (hasher : S) (t : ℕ) (machine : Machine K V K) → v.under ≡ None → v.slot ≡ Inside t NoBlock → v.work ≡ Nothing
+        → known_by v ≡ Some (setting, hasher) → is_incremental setting.mode ≡ true → its ≡ record setting { slot = t } → machine ≡ kinds.Sweep (sweeping its purpose)
+        → MayGoOver same hash purpose hasher machine v
+    may_go_over v setting its hasher t machine lone inside free knows incremental is made = record {
+      may =
+          may_do_all same hash (GoOver purpose) (λ x. kinds.Sweep (sweeping x purpose)) (λ map s. refl) (λ x. refl) v setting its hasher t machine lone inside free knows incremental is made;
+      setting = its;
+      is = made;
+    }

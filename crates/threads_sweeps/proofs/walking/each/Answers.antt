@@ -1,0 +1,20 @@
+use Rattle.std.proofs.Common.{ap}
+use Rattle.papaya_raw.specs.Given.ReservesDeclared.sweep.Purpose.TheVariants.{Walks}
+use Rattle.papaya_raw.specs.declared.machines.machine.Machine.TheVariants as kinds
+use Rattle.threads_sweeps.proofs.Gone.{may_go_over}
+use Rattle.threads_sweeps.proofs.walking.each.Goals as goal
+
+pub sends-requires-clause-asks : goal.sends-requires-clause-asks
+sends-requires-clause-asks g c =
+    let x = c.args.session.now in (
+      rw (c.hasher-hasher.ensures)
+          (may_go_over g.K.PartialEq.eq g.S.Hashes.hash Walks x.caller.seat.view x.setting c.setting.result x.hasher.now x.slot (kinds.Sweep c.walk-sweep.result) x.caller.lone c.requires.inside x.free
+          x.knows x.incremental c.setting.ensures (ap kinds.Sweep c.walk-sweep.ensures)),
+      c.requires.callable,
+    )
+
+pub sends-requires-clause-ends : goal.sends-requires-clause-ends
+sends-requires-clause-ends g c = λ answer w did. (did.free, did.stays)
+
+pub returns-clause-gone : goal.returns-clause-gone
+returns-clause-gone g c = c.sends.ensures.did.ran

@@ -1,0 +1,148 @@
+//! A session goes over the pairs of its map, and shows each of them to a closure.
+ghost use Rattle.std.specs.Prelude.{◌≡◌};
+ghost use Rattle.threads_errands.specs.Made.{IsSameSeat};
+ghost use Rattle.threads_rule.specs.Errands.Looking.{IsOfThem, StaysThere};
+ghost use Rattle.threads_rule.specs.Errands.Sweeping.{HasGoneOver, IsReady, IsSweeping, MayGoOver};
+ghost use Rattle.threads_rule.specs.CallKinds.Kinds.{PairIsVisible};
+ghost use Rattle.threads_rule.specs.Views.Looks.{shown_in};
+ghost use Rattle.papaya_raw.specs.Given.ReservesDeclared.sweep.Purpose.TheVariants.{Walks as ForWalk};
+ghost use Rattle.threads_calls.specs.Given.SeizeViewsDeclared.view.Has.TheVariants.{Nothing};
+ghost use Rattle.threads_calls.specs.Given.SeizeViewsDeclared.view.SlotView.TheVariants.{Inside};
+ghost use Rattle.threads_sweeps.specs.Swept.{HasGone};
+
+use map_tables::{Hashes, Node};
+use papaya_raw::machines::{Machine, Progress, Sweep};
+use seize_blocks::{Blocks, Errand, Seat};
+use seize_words::{Fault, Link, Look};
+use std::hash::Hash;
+use std::sync::Wait;
+use threads_calls::{OfMaps, SessionBase};
+use threads_errands::Within;
+
+/// A walk over the pairs of a map.
+pub struct Walks<'w, R, K, V, S, F> {
+    rt: &'w R,
+    hasher: &'w S,
+    machine: &'w mut Machine<K, V>,
+    near: u64,
+    each: &'w mut F,
+}
+
+/// Shows the pair of a word.
+fn shows<K: Eq, V, S: Hashes<K>, F: FnMut(&K, &V)>(
+    within: &Within<'_, K, V, S>,
+    word: u64,
+    each: &mut F,
+)
+    requires callable { F.IsAlwaysCallable each.old }
+    requires shown { PairIsVisible (shown_in within.now.seat.now.view.held) word }
+    ensures callable { F.IsAlwaysCallable each.new }
+{
+    match within.value(Link::block_of(word)) {
+        Node::Pair(key, value) => each(key, value),
+        Node::Table { .. } | Node::Shards => unreachable!(),
+    }
+}
+
+/// Shows the pair of a word, and asks for the next one.
+fn shows_next<K: Eq + Hash + Drop, V: Drop, S: Hashes<K>, F: FnMut(&K, &V)>(
+    within: &mut Within<'_, K, V, S>,
+    hasher: &S,
+    machine: &mut Machine<K, V>,
+    word: u64,
+    each: &mut F,
+)
+    requires ready { IsReady hasher.now machine.old within.old.seat.now.view }
+    requires shown { PairIsVisible (shown_in within.old.seat.now.view.held) word }
+    requires callable { F.IsAlwaysCallable each.old }
+    ensures walks { IsSweeping ForWalk hasher.now machine.new within.new.seat.now.view }
+    ensures stays { StaysThere within.old.seat.now.view within.new.seat.now.view }
+    ensures them { IsOfThem within.old.seat.now.view within.new.seat.now.view }
+    ensures same { IsSameSeat within.old within.new }
+    ensures callable { F.IsAlwaysCallable each.new }
+{
+    shows(within, word, each);
+    within.asks_next(hasher, machine);
+}
+
+/// Takes the steps of a walk until it has ended, and shows each pair to which it comes. How many steps it takes is up to the others.
+fn goes_over<R: Wait, K: Eq + Hash + Drop, V: Drop, S: Hashes<K>, F: FnMut(&K, &V)>(
+    within: &mut Within<'_, K, V, S>,
+    rt: &R,
+    hasher: &S,
+    machine: &mut Machine<K, V>,
+    each: &mut F,
+) -> Result<(), Fault>
+    requires may { MayGoOver K.eq S.hash ForWalk hasher.now machine.old within.old.seat.now.view }
+    requires callable { F.IsAlwaysCallable each.old }
+    ensures gone { HasGoneOver K.eq S.hash ForWalk result within.old.seat.now.view within.new.seat.now.view }
+    ensures same { IsSameSeat within.old within.new }
+{
+    within.begins(machine);
+    for _ in rt.forever() {
+        match within.walks(machine, hasher) {
+            Progress::Goes | Progress::Waits | Progress::Gave(_) | Progress::Unstored(_) => {}
+            Progress::Ready => within.asks_next(hasher, machine),
+            Progress::Pair(word) => shows_next(within, hasher, machine, word, each),
+            Progress::Done(_) => return Ok(()),
+            Progress::Refused(fault) => return Err(fault),
+            Progress::Asks(_) => unreachable!(),
+        }
+    }
+    unreachable!()
+}
+
+impl<'w, R: Wait, K: Eq + Hash + Drop, V: Drop, S: Hashes<K>, F: FnMut(&K, &V)> Errand<
+    Node<K, V>,
+    OfMaps<S>,
+> for Walks<'w, R, K, V, S, F> {
+    type Answer = Result<(), Fault>;
+
+    ghost asks = { λ w fixed v. MayGoOver K.eq S.hash ForWalk w.hasher.now w.machine.now v × F.IsAlwaysCallable w.each.now };
+
+    ghost did = { λ w fixed v answer n. HasGoneOver K.eq S.hash ForWalk answer v n };
+
+    fn run(
+        self,
+        blocks: &Blocks<Node<K, V>, OfMaps<S>>,
+        seat: &mut Seat<Node<K, V>, OfMaps<S>>,
+    ) -> Result<(), Fault> {
+        let Walks {
+            rt,
+            hasher,
+            machine,
+            near,
+            each,
+        } = self;
+        let mut within = Within::new(blocks, seat, near);
+        goes_over(&mut within, rt, hasher, machine, each)
+    }
+}
+
+/// Shows the pairs of a session's map, within the section of its slot: each that is there from its beginning to its end once, and others that were there at a moment of it, none
+/// twice. The faults are `Capacity` and `Memory`, of a table that this needs first; some pairs may have been shown then.
+pub fn each<R: Wait, K: Eq + Hash + Drop, V: Drop, S: Hashes<K>, F: FnMut(&K, &V)>(
+    session: &mut SessionBase<'_, K, V, S>,
+    rt: &R,
+    mut each: F,
+) -> Result<(), Fault>
+    requires inside { session.old.caller.seat.view.slot ≡ Inside session.old.slot Nothing }
+    requires callable { F.IsAlwaysCallable each }
+    ensures inside { session.new.caller.seat.view.slot ≡ Inside session.new.slot Nothing }
+    ensures slot { session.new.slot ≡ session.old.slot }
+    ensures gone { HasGone K.eq S.hash ForWalk result session.old.caller.seat.view session.new.caller.seat.view }
+    ensures map { session.new.caller.seat.view.map ≡ session.old.caller.seat.view.map }
+    ensures blocks { session.new.caller.blocks ≡ session.old.caller.blocks }
+{
+    let sweep = Sweep::walk(session.setting());
+    let mut machine = Machine::Sweep(sweep);
+    let hasher = session.hasher();
+    let near = session.near();
+    session.sends(Walks {
+        rt,
+        hasher,
+        machine: &mut machine,
+        near,
+        each: &mut each,
+    })
+}
