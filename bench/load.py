@@ -3,7 +3,7 @@
 
     python3 bench/load.py [PROGRAM] [--seconds N] [--threads N] [--keys N] [--refused] [--wrong | --planted]    exits 1 if something is wrong
 
-PROGRAM is bench/load/main.rt, built. Without it that is compiled and run by `rt try`, which proves nothing, in a folder of its own beside links to this
+PROGRAM is bench/load/main.program, built. Without it that is compiled and run by `rt try`, which proves nothing, in a folder of its own beside links to this
 workspace's crates.
 
 Rounds follow one another, each in a map of its own. In one half of them each call takes the next number of a counter that all threads share before it and
@@ -44,7 +44,7 @@ CALLS = {1: 5_000, 0: 100_000}
 # how many values may wait to be dropped, beside those that are there
 MOST = 100_000
 REFUSED = 1 << 63
-# the kinds of calls, in the order of bench/load/told.rt
+# the kinds of calls, in the order of bench/load/told.program
 GET, CONTAINS, INSERT, TRY, MAKE, REMOVE, REMOVE_IF, PUT, LEN, EMPTY, RESERVE, CLEAR, EACH, RETAIN, SHOWN = range(15)
 # what an act on a key asks of its value, 0 where it has none, and what it makes of it
 IS, THERE, STORES, BEGINS, ENDS = range(5)
@@ -112,7 +112,7 @@ class Sweep:
 
 
 def keeps(number):
-    """The test of bench/load/told.rt."""
+    """The test of bench/load/told.program."""
     return (number * 0x9E3779B97F4A7C15 & (1 << 64) - 1) >> 62 != 0
 
 
@@ -364,7 +364,8 @@ def loaded(given, planted=()):
         else:
             laid(room, NAME, BELOW, "", planted)
             command, where, together = ["rt", "try", "--steps", "1000000000000000", "--seconds", "100000"], f"{room}/crates/{NAME}", 16
-            shutil.copytree(f"{TOP}/bench/load", f"{where}/src", dirs_exist_ok=True)
+            for name in os.listdir(f"{TOP}/bench/load"):
+                shutil.copyfile(f"{TOP}/bench/load/{name}", f"{where}/src/{name.removesuffix('.program')}.rt")
         try:
             load.loads(command, where, env, together)
             found = None
