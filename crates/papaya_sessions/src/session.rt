@@ -11,7 +11,7 @@ ghost use Rattle.play_moves.specs.Given.ActsActs.{Insert, MakeRoom, Remove, Remo
 ghost use Rattle.threads_calls.specs.Answers.{CameBack, clears, has_stored};
 ghost use Rattle.threads_calls.specs.Given.SeizeViewsDeclared.view.Has.TheVariants.{Nothing};
 ghost use Rattle.threads_calls.specs.Given.SeizeViewsDeclared.view.SlotView.TheVariants.{Inside, Rests};
-ghost use Rattle.threads_errands.specs.Asking.{HasAsked, MakingSays, MayTest, TestSays};
+ghost use Rattle.threads_calls.specs.Given.StepsAsking.{HasAsked, MakingSays, MayTest, TestSays};
 ghost use Rattle.threads_sweeps.specs.Swept.{retains, walks};
 
 use map_tables::Hashes;

@@ -20,7 +20,7 @@ use Rattle.threads_rule.specs.declared.view.SeatWork.TheVariants.{Nothing}
 use Rattle.threads_rule.specs.Views.Rule.{section_of, stand_of}
 use Rattle.threads_rule.proofs.Views.Contents.{knows_free}
 use Rattle.papaya_raw.specs.declared.machines.asking.MachineReply.{MachineReply}
-use Rattle.threads_errands.specs.Asking.{HasAnswered}
+use Rattle.threads_errands.specs.Given.StepsAsking.{HasAnswered}
 use Rattle.threads_rule.proofs.Views.Leaves.{own_section}
 use Rattle.threads_rule.specs.Errands.Calling.{HasCalled}
 use Rattle.threads_rule.specs.Errands.Counting.{HasCounted}

@@ -1,2 +1,3 @@
 pub mod Standing
 pub mod Passing
+pub mod Given

@@ -14,7 +14,7 @@ use Rattle.seize_views.specs.declared.view.Has.TheVariants.{Nothing as NoBlock}
 use Rattle.seize_views.specs.declared.view.SlotView.TheVariants.{Inside}
 use Rattle.threads_rule.specs.declared.view.View.{View}
 use Rattle.threads_rule.specs.declared.view.SeatWork.TheVariants.{Nothing}
-use Rattle.threads_errands.specs.Asking.{HasAnswered, HasAsked, makes_pair, removes_if}
+use Rattle.threads_callers.specs.Given.StepsAsking.{HasAnswered, HasAsked, makes_pair, removes_if}
 use Rattle.threads_rule.specs.Errands.Calling.{MayDoAs, outcome_of, wanted_of}
 use Rattle.threads_rule.specs.CallKinds.Kinds.{Continues, Stage}
 use Rattle.threads_rule.specs.Errands.Looking.{HasRun}

@@ -4,3 +4,4 @@ pub use Rattle.seize_views.specs.declared as SeizeViewsDeclared
 pub use Rattle.threads_callers.specs.Passing as CallersPassing
 pub use Rattle.threads_callers.specs.Standing as CallersStanding
 pub use Rattle.threads_callers.specs.declared as CallersDeclared
+pub use Rattle.threads_callers.specs.Given.StepsAsking

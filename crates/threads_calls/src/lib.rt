@@ -5,6 +5,5 @@ mod session;
 
 pub use seize_views::Fixed;
 pub use session::{Attempt, Found, SessionBase};
-pub use threads_callers::{MapPassSeat, newcomer};
-pub use threads_errands::memory_for;
+pub use threads_callers::{MapPassSeat, memory_for, newcomer};
 pub use threads_rule::OfMaps;

@@ -29,8 +29,7 @@ use seize_views::Fixed;
 use seize_words::{Fault, Link, Refused};
 use std::hash::Hash;
 use std::sync::Wait;
-use threads_callers::MapCaller;
-use threads_errands::Ran;
+use threads_callers::{MapCaller, Ran};
 use threads_rule::OfMaps;
 
 /// A map, as one of those knows it who share it: with a seat of its own, which may be sent to a thread. It has nothing under way between its calls.

@@ -1,8 +1,5 @@
-mod Calls
-mod Calling
-mod Lookups
-mod Makings
-pub mod Told
-pub mod Shown
-pub mod Pausing
-mod Straight
+mod Turning
+mod Behind
+mod Standing
+mod Puts
+pub mod Given

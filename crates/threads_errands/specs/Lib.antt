@@ -1,3 +1,3 @@
-pub mod Made
-pub mod Steps
-pub mod Asking
+pub mod Ahead
+pub mod Puts
+pub mod Given

@@ -1,7 +1,7 @@
 //! What a seat of maps is sent for: to make a map, to look a key up, to run a call, and to count the pairs of a map.
 ghost use Rattle.std.specs.Prelude.{◌≡◌, IfOk, false};
 ghost use Rattle.std.specs.Fn.{FnOnceReturns};
-ghost use Rattle.threads_errands.specs.Asking.{HasAnswered, MakingSays, MayTest, TestSays, makes_pair, removes_if};
+ghost use Rattle.threads_steps.specs.Asking.{HasAnswered, MakingSays, MayTest, TestSays, makes_pair, removes_if};
 ghost use Rattle.threads_rule.specs.Errands.Calling.{HasCalled, IsAnswerBy, MayCall, MayDoAs, wanted_of};
 ghost use Rattle.threads_rule.specs.Errands.Counting.{HasCounted, MayCount};
 ghost use Rattle.threads_rule.specs.CallKinds.Kinds.{Stage};
@@ -10,8 +10,7 @@ ghost use Rattle.threads_rule.specs.Errands.Making.{HasOutcome, MayBegin};
 ghost use Rattle.threads_rule.specs.declared.view.SeatWork.TheVariants.{Nothing as NoWork};
 ghost use Rattle.seize_views.specs.declared.view.SlotView.TheVariants.{Rests};
 
-use crate::finding::{goes_on, sees};
-use crate::within::{Ran, Within};
+use crate::storing::{is_to_store, stores};
 use map_machines::{Lookup, NewMap};
 use map_straight::Sight;
 use map_tables::{Hashes, Node, Setting};
@@ -21,6 +20,7 @@ use seize_words::Fault;
 use std::hash::Hash;
 use std::sync::Wait;
 use threads_rule::OfMaps;
+use threads_steps::{Ran, Within, goes_on, sees};
 
 /// Makes a map of no table.
 #[derive(Drop)]
@@ -106,6 +106,9 @@ impl<'d, R: Wait, K: Eq + Hash + Drop, V: Drop, S: Hashes<K>> Errand<Node<K, V>,
             machine,
             near,
         } = self;
+        if is_to_store(machine) {
+            return stores(rt, blocks, seat, near, hasher, machine);
+        }
         let mut within = Within::new(blocks, seat, near);
         within.does(rt, hasher, machine)
     }

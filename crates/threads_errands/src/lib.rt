@@ -1,12 +1,13 @@
-//! Seats of a memory of maps, under the rule of maps: one is sent to make a map, to look a key up there, and to run a call there, by the steps of the machines.
+//! Errands of seats of maps: one is sent to make a map, to look a key up there, to run a call there, and to count its pairs. A pair is stored by code that runs
+//! ahead of the machine.
 #![tactic(auto)]
 
+mod ahead;
 mod errands;
-mod finding;
 mod memory;
+mod storing;
 mod turns;
-mod within;
 
 pub use errands::{Counts, Does, Finds, Makes, MakesPair, RemovesIf};
 pub use memory::memory_for;
-pub use within::{Halt, Ran, Within};
+pub use threads_steps::Ran;

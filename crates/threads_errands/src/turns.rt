@@ -1,112 +1,57 @@
-//! The steps of a seat of maps that make no operation. Which call begins, and which making, is picked by who takes the step.
+//! Turns of a seat whose code runs ahead of its machine. The point that it comes to, and the answer with which its call ends, are picked by who takes them.
 use map_tables::Hashes;
 use seize_blocks::Turn;
 use seize_views::Fixed;
 use std::marker::{Brand, PhantomData};
 use threads_rule::View;
 
-/// What a call is to do that begins.
-pub trait Wants<K, V> {
-    ghost use Rattle.threads_rule.specs.Given.ActsActs.{Wanted};
+/// A seat takes the turns up to the operation that its code makes next.
+pub struct CatchingUp;
 
-    ghost wanted: { Wanted K V };
+impl<K: Eq, V, S: Hashes<K>> Turn<Fixed, View<K, V, S>> for CatchingUp {
+    ghost use Rattle.threads_errands.specs.Ahead.{CatchesUp};
+
+    ghost to = { λ _. CatchesUp K.eq S.hash };
 }
 
-impl<K, V> Wants<K, V> for Brand {
-    ghost use Rattle.threads_rule.specs.Given.ActsActs.{Count};
+/// Where a call stands.
+pub trait Points<K, V> {
+    ghost use Rattle.papaya_raw.specs.declared.machines.machine.Machine.{Machine as AnyMachine};
 
-    ghost wanted = { Count };
+    ghost point: { AnyMachine K V K → Type 0 };
 }
 
-/// A call begins.
-pub struct Beginning<B>(PhantomData<B>);
-
-impl<K: Eq, V, S: Hashes<K>, B: Wants<K, V>> Turn<Fixed, View<K, V, S>> for Beginning<B> {
-    ghost use Rattle.threads_rule.specs.Errands.Looking.{Begins};
-
-    ghost to = { λ _. Begins K.eq S.hash B.wanted };
+impl<K, V> Points<K, V> for Brand {
+    ghost point = { λ _. ⊥ };
 }
 
-/// By which machine a map may be made, with which hasher.
-pub trait Plans<S> {
-    ghost use Rattle.map_machines.specs.declared.new_map.NewMap.{NewMap};
+/// A seat takes the turns up to that point.
+pub struct Reaching<B>(PhantomData<B>);
 
-    ghost plans: { S → NewMap → Type 0 };
+impl<K, V, S, B: Points<K, V>> Turn<Fixed, View<K, V, S>> for Reaching<B> {
+    ghost use Rattle.threads_errands.specs.Ahead.{StandsAtOneOf};
+
+    ghost to = { λ _. StandsAtOneOf B.point };
 }
 
-impl<S> Plans<S> for Brand {
-    ghost plans = { λ _ _. ⊥ };
+/// With which answer a call ends.
+pub trait Ends {
+    ghost use Rattle.papaya_raw.specs.declared.machines.answer.KeyAnswer.{KeyAnswer as AnyAnswer};
+
+    ghost answer: { AnyAnswer };
 }
 
-/// The making of a map begins.
-pub struct MapMakingBegins<B>(PhantomData<B>);
+impl Ends for Brand {
+    ghost use Rattle.papaya_raw.specs.declared.machines.answer.KeyAnswer.TheVariants.{Absent};
 
-impl<K, V, S, B: Plans<S>> Turn<Fixed, View<K, V, S>> for MapMakingBegins<B> {
-    ghost use Rattle.threads_rule.specs.Errands.Making.{BeginsMaking};
-
-    ghost to = { λ _. BeginsMaking B.plans };
+    ghost answer = { Absent };
 }
 
-/// A call takes a step that makes no operation.
-pub struct Stepping;
+/// A seat takes the turns with which its call ends so.
+pub struct EndingCall<B>(PhantomData<B>);
 
-impl<K: Eq, V, S: Hashes<K>> Turn<Fixed, View<K, V, S>> for Stepping {
-    ghost use Rattle.threads_rule.specs.Views.Told.{turned};
+impl<K, V, S, B: Ends> Turn<Fixed, View<K, V, S>> for EndingCall<B> {
+    ghost use Rattle.threads_errands.specs.Ahead.{HasEndedSo};
 
-    ghost to = { λ _. turned K.eq S.hash };
-}
-
-/// What a call is told, which is under way.
-pub trait Says<K, V> {
-    ghost use Rattle.papaya_raw.specs.declared.machines.asking.MachineReply.{MachineReply};
-    ghost use Rattle.papaya_raw.specs.declared.machines.machine.Machine.{Machine};
-
-    ghost machine: { Machine K V K };
-
-    ghost reply: { MachineReply V };
-}
-
-impl<K, V> Says<K, V> for Brand {
-    ghost use Rattle.papaya_raw.specs.declared.machines.asking.MachineReply.TheVariants.{Abort};
-    ghost use Rattle.threads_errands.specs.Asking.{counts_none};
-
-    ghost machine = { counts_none };
-
-    ghost reply = { Abort };
-}
-
-/// A call is told something.
-pub struct Telling<B>(PhantomData<B>);
-
-impl<K, V, S, B: Says<K, V>> Turn<Fixed, View<K, V, S>> for Telling<B> {
-    ghost use Rattle.std.specs.Prelude.{◌≡◌, Some};
-    ghost use Rattle.threads_rule.specs.Views.Begun.{replied};
-    ghost use Rattle.threads_rule.specs.declared.view.Map.{Map};
-    ghost use Rattle.threads_rule.specs.declared.view.SeatWork.TheVariants.{Calls};
-
-    ghost to = { λ _ v w. (v.work ≡ Calls B.machine) × (w ≡ replied v B.machine B.reply) };
-}
-
-/// Which call is asked for its next pair.
-pub trait Asks<K, V> {
-    ghost use Rattle.papaya_raw.specs.declared.machines.machine.Machine.{Machine};
-
-    ghost machine: { Machine K V K };
-}
-
-impl<K, V> Asks<K, V> for Brand {
-    ghost use Rattle.threads_errands.specs.Asking.{counts_none};
-
-    ghost machine = { counts_none };
-}
-
-/// A call is asked for its next pair.
-pub struct Asking<B>(PhantomData<B>);
-
-impl<K, V, S, B: Asks<K, V>> Turn<Fixed, View<K, V, S>> for Asking<B> {
-    ghost use Rattle.std.specs.Prelude.{◌≡◌};
-    ghost use Rattle.threads_rule.specs.Views.Begun.{asked};
-    ghost use Rattle.threads_rule.specs.declared.view.SeatWork.TheVariants.{Calls};
-
-    ghost to = { λ _ v w. (v.work ≡ Calls B.machine) × (w ≡ asked v B.machine) };
+    ghost to = { λ _. HasEndedSo B.answer };
 }

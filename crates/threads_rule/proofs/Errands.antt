@@ -1,6 +1,5 @@
 -- What a seat of a memory of maps knows on its errand, as it begins and at each step.
 pub mod Beginnings
-pub mod Handing
 pub mod Looking
 pub mod Making
 pub mod Runs

@@ -1,6 +1,6 @@
 //! A session removes the pairs of its map that a test does not keep.
 ghost use Rattle.std.specs.Prelude.{◌≡◌};
-ghost use Rattle.threads_errands.specs.Made.{IsSameSeat};
+ghost use Rattle.threads_steps.specs.Made.{IsSameSeat};
 ghost use Rattle.threads_rule.specs.Errands.Looking.{IsOfThem, StaysThere};
 ghost use Rattle.threads_rule.specs.Errands.Sweeping.{HasGoneOver, IsAskingOf, IsSweeping, MayGoOver};
 ghost use Rattle.threads_rule.specs.CallKinds.Kinds.{PairIsVisible};
@@ -17,7 +17,7 @@ use seize_words::{Fault, Link, Look};
 use std::hash::Hash;
 use std::sync::Wait;
 use threads_calls::{OfMaps, SessionBase};
-use threads_errands::Within;
+use threads_steps::Within;
 
 /// A retaining of the pairs of a map of which a test says yes.
 pub struct Retains<'r, R, K, V, S, F> {

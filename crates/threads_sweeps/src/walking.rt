@@ -1,6 +1,6 @@
 //! A session goes over the pairs of its map, and shows each of them to a closure.
 ghost use Rattle.std.specs.Prelude.{◌≡◌};
-ghost use Rattle.threads_errands.specs.Made.{IsSameSeat};
+ghost use Rattle.threads_steps.specs.Made.{IsSameSeat};
 ghost use Rattle.threads_rule.specs.Errands.Looking.{IsOfThem, StaysThere};
 ghost use Rattle.threads_rule.specs.Errands.Sweeping.{HasGoneOver, IsReady, IsSweeping, MayGoOver};
 ghost use Rattle.threads_rule.specs.CallKinds.Kinds.{PairIsVisible};
@@ -17,7 +17,7 @@ use seize_words::{Fault, Link, Look};
 use std::hash::Hash;
 use std::sync::Wait;
 use threads_calls::{OfMaps, SessionBase};
-use threads_errands::Within;
+use threads_steps::Within;
 
 /// A walk over the pairs of a map.
 pub struct Walks<'w, R, K, V, S, F> {

@@ -1,7 +1,7 @@
 //! A caller is sent to make a map, to look a key up, to run a call, and to count the pairs of a map.
 ghost use Rattle.std.specs.Prelude.{◌≡◌, IfOk, IsSome, Some, false};
 ghost use Rattle.std.specs.Fn.{FnOnceReturns};
-ghost use Rattle.threads_errands.specs.Asking.{HasAnswered, MakingSays, MayTest, TestSays, makes_pair as kind_that_makes, removes_if as kind_that_tests};
+ghost use Rattle.threads_errands.specs.Given.StepsAsking.{HasAnswered, MakingSays, MayTest, TestSays, makes_pair as kind_that_makes, removes_if as kind_that_tests};
 ghost use Rattle.threads_rule.specs.Errands.Calling.{HasCalled, IsAnswerBy, MayCall, MayDoAs, wanted_of};
 ghost use Rattle.threads_rule.specs.Errands.Counting.{HasCounted, MayCount};
 ghost use Rattle.threads_rule.specs.CallKinds.Kinds.{Stage};

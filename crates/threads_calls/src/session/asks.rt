@@ -1,7 +1,7 @@
 //! A session's calls on one key that ask their caller's closure.
 ghost use Rattle.std.specs.Prelude.{◌≡◌, Ok, Err, IfErr, IfOk};
 ghost use Rattle.std.specs.Fn.{FnOnceReturns};
-ghost use Rattle.threads_errands.specs.Asking.{HasAsked, MakingSays, MayTest, TestSays};
+ghost use Rattle.threads_callers.specs.Given.StepsAsking.{HasAsked, MakingSays, MayTest, TestSays};
 ghost use Rattle.threads_rule.specs.Errands.Calling.{is_put as puts, outcome_of};
 ghost use Rattle.threads_rule.specs.Errands.Looking.{HasRun};
 ghost use Rattle.threads_calls.specs.Answers.{is_removed as removes};
@@ -17,7 +17,7 @@ use papaya_raw::machines::{Answer, KeyCall, Machine};
 use seize_words::Fault;
 use std::hash::Hash;
 use std::sync::Wait;
-use threads_errands::Ran;
+use threads_callers::Ran;
 
 /// Returns what a call has told last.
 fn told_of<K: Drop, V: Drop>(ran: Ran<K, V>) -> Result<Answer, Fault>

@@ -15,7 +15,7 @@ use papaya_raw::machines::{Answer, KeyAnswer, KeyCall, Machine};
 use seize_words::{Fault, Refused};
 use std::hash::Hash;
 use std::sync::Wait;
-use threads_errands::Ran;
+use threads_callers::Ran;
 
 /// What came of storing a pair only where its key is missing.
 #[derive(Drop)]

@@ -13,7 +13,7 @@ use papaya_raw::machines::{Machine, Reserve, Sum, Sweep};
 use seize_words::Fault;
 use std::hash::Hash;
 use std::sync::Wait;
-use threads_errands::Ran;
+use threads_callers::Ran;
 
 impl<'a, K: Eq + Hash + Drop, V: Drop, S: Hashes<K>> SessionBase<'a, K, V, S> {
     /// Counts the pairs of the map, within the section of its slot: it reads each shard of the map's count once, so while others change the map it may answer what was never

@@ -10,7 +10,7 @@ use Rattle.threads_rule.specs.Errands.Sweeping.{WalkedSo}
 use Rattle.threads_rule.proofs.Errands.Beginnings.{is_begun, stays_on}
 use Rattle.threads_rule.proofs.Errands.Runs.{of_them}
 use Rattle.threads_rule.proofs.Errands.Sweeping.{is_sweeping}
-use Rattle.threads_errands.proofs.Pausing.{them_on}
+use Rattle.threads_steps.proofs.Pausing.{them_on}
 use Rattle.threads_sweeps.proofs.Gone.{gone_over, walk_done, walks_on, work_of_them, work_stays}
 use Rattle.threads_sweeps.proofs.walking.goes_over.Goals as goal
 use Rattle.threads_sweeps.proofs.walking.goes_over.Goals.{in-Goes, in-Pair, in-Ready}

@@ -2,7 +2,7 @@ use denote.Param.Always.{always_mut}
 use Rattle.papaya_raw.specs.Given.ReservesDeclared.sweep.Purpose.TheVariants.{Walks}
 use Rattle.threads_rule.specs.Errands.Looking.{IsOfThem, StaysThere}
 use Rattle.threads_rule.specs.Errands.Sweeping.{IsSweeping}
-use Rattle.threads_errands.specs.Made.{IsSameSeat}
+use Rattle.threads_steps.specs.Made.{IsSameSeat}
 use Rattle.threads_sweeps.proofs.walking.goes_over.Given as goal
 
 -- it goes on, on the slot and in the map that were there

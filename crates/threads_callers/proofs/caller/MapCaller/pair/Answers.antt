@@ -1,4 +1,4 @@
-use Rattle.threads_errands.proofs.Shown.{is_shown}
+use Rattle.threads_errands.proofs.Given.StepsShown.{is_shown}
 use Rattle.threads_callers.proofs.caller.MapCaller.pair.Goals as goal
 
 pub value-requires-clause-shown : goal.value-requires-clause-shown

@@ -1,6 +1,6 @@
 use Rattle.std.specs.Fn.{FnOnceReturns}
 use Rattle.std.proofs.Common.{refl, sym}
-use Rattle.threads_errands.specs.Asking.{MakingSays}
+use Rattle.threads_callers.specs.Given.StepsAsking.{MakingSays}
 use Rattle.threads_calls.proofs.Asks.{answered_by, asked_by, first, may_make}
 use Rattle.threads_calls.proofs.session.SessionBase.try_insert_with.Goals as goal
 

@@ -1,6 +1,6 @@
 use Rattle.std.proofs.Common.{◌∙◌}
 use Rattle.threads_rule.proofs.Errands.Beginnings.{from_root}
-use Rattle.threads_errands.proofs.Straight.{found_then}
+use Rattle.threads_steps.proofs.Straight.{found_then}
 use Rattle.threads_errands.proofs.errands.FindsErrandNodeOfMaps.run.Goals as goal
 
 pub sees-requires : goal.sees-requires

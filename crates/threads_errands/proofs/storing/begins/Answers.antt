@@ -1,0 +1,46 @@
+use Rattle.std.specs.Prelude.{Some}
+use Rattle.std.proofs.Common.{◌≡◌, sym, subst, ◌∙◌}
+use Rattle.threads_rule.specs.declared.view.View.{View}
+use Rattle.seize_callers.proofs.Keeping.{kept_same}
+use Rattle.threads_rule.specs.Views.Told.{pair_in}
+use Rattle.threads_rule.specs.Errands.Calling.{CalledSo, MayCall, wanted_of}
+use Rattle.threads_steps.specs.Storing.{HasBegun}
+use Rattle.threads_errands.proofs.storing.begins.Goals as goal
+
+pub begins_to_store-requires-clause-may : goal.begins_to_store-requires-clause-may
+begins_to_store-requires-clause-may g c =
+    let was = c.new-within.ensures.seat in
+    let before : c.args.seat.now.view ≡ c.new-within.result.seat.now.view = cc was in subst (λ (v : View g.row.K.Denot g.row.V.Denot g.row.S.Denot). MayCall g.K.PartialEq.eq g.S.Hashes.hash c.args.hasher.now c.args.machine.now v) before c.requires.may
+
+-- the seat is the one that was lent
+pub returns-clause-same : goal.returns-clause-same
+returns-clause-same g c =
+    let s = kept_same _ _ _ _ _ _ _ _ c.begins_to_store.ensures.same in
+    let blocks = s.0 in let name = s.1 in let id = s.2 in let away = s.3 in
+    let is = c.seat-1.given.1 (sym (name ∙ c.new-within.ensures.name)) in
+    let was = c.new-within.ensures.seat in let own = c.begins_to_store.new.self.own in let first = c.new-within.result.own in
+    (cc (is, own, blocks, first, was), cc (is, id, was), cc (is, away, was))
+
+pub returns-clause-begun : goal.returns-clause-begun
+returns-clause-begun g c =
+    let s = kept_same _ _ _ _ _ _ _ _ c.begins_to_store.ensures.same in
+    let is = c.seat-1.given.1 (sym (s.1 ∙ c.new-within.ensures.name)) in
+    let was = c.new-within.ensures.seat in
+    let before : c.new-within.result.seat.now.view ≡ c.args.seat.now.view = cc was in
+    let after : c.begins_to_store.new.self.seat.now.view ≡ c.seat-1.given.0.view = cc is in
+    subst (λ (v : View g.row.K.Denot g.row.V.Denot g.row.S.Denot). HasBegun g.K.PartialEq.eq g.S.Hashes.hash (wanted_of c.args.machine.now) c.begins_to_store.result.0 v c.seat-1.given.0.view) before
+    (subst (λ (w : View g.row.K.Denot g.row.V.Denot g.row.S.Denot). HasBegun g.K.PartialEq.eq g.S.Hashes.hash (wanted_of c.args.machine.now) c.begins_to_store.result.0 c.new-within.result.seat.now.view w) after c.begins_to_store.ensures.begun)
+
+pub returns-clause-told : goal.returns-clause-told
+returns-clause-told g c =
+    let s = kept_same _ _ _ _ _ _ _ _ c.begins_to_store.ensures.same in
+    let is = c.seat-1.given.1 (sym (s.1 ∙ c.new-within.ensures.name)) in
+    let after : c.begins_to_store.new.self.seat.now.view ≡ c.seat-1.given.0.view = cc is in
+    subst (λ (w : View g.row.K.Denot g.row.V.Denot g.row.S.Denot). CalledSo c.args.hasher.now c.begins_to_store.new.machine c.begins_to_store.result.0 w) after c.begins_to_store.ensures.told
+
+pub returns-clause-pair : goal.returns-clause-pair
+returns-clause-pair g c =
+    let s = kept_same _ _ _ _ _ _ _ _ c.begins_to_store.ensures.same in
+    let is = c.seat-1.given.1 (sym (s.1 ∙ c.new-within.ensures.name)) in
+    let after : c.begins_to_store.new.self.seat.now.view ≡ c.seat-1.given.0.view = cc is in
+    λ pair its. subst (λ (w : View g.row.K.Denot g.row.V.Denot g.row.S.Denot). pair_in w.calls ≡ Some pair) after (c.begins_to_store.ensures.pair pair its)

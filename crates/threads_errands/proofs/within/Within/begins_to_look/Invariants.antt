@@ -1,6 +1,0 @@
-use Rattle.threads_rule.specs.Given.ActsActs.{Get}
-use Rattle.threads_errands.proofs.within.Within.begins_to_look.Given as goal
-
--- what is wanted is that key
-abbrev pub ghosts-begins_to_look_as : goal.ghosts-begins_to_look_as
-ghosts-begins_to_look_as g a = record { wanted = Get a._key.now }

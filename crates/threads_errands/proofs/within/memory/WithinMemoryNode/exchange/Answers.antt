@@ -1,6 +1,0 @@
-use Rattle.std.proofs.Common.{refl}
-use Rattle.seize_callers.proofs.Keeping.{still_kept}
-use Rattle.threads_errands.proofs.within.memory.WithinMemoryNode.exchange.Goals as goal
-
-pub returns : goal.returns
-returns g c = record { seat = still_kept _ _ c.exchange.ensures.same.1 c.exchange.ensures.errand; made = refl; fits = tt; told = c.exchange.ensures.goes }

@@ -1,6 +1,0 @@
-use Rattle.std.proofs.Common.{refl}
-use Rattle.seize_callers.proofs.Keeping.{still_kept}
-use Rattle.threads_errands.proofs.within.memory.WithinMemoryNode.make.Goals as goal
-
-pub returns : goal.returns
-returns g c = record { seat = still_kept _ _ c.make.ensures.same.1 c.make.ensures.errand; made = refl; fits = tt; told = c.make.ensures.goes }

@@ -1,0 +1,39 @@
+//! A seat of maps on an errand whose code runs ahead of the machine that it has under way: the seat takes the turns of that machine at once before the
+//! operation that follows them.
+ghost use Rattle.std.specs.Prelude.{◌≡◌, ◌≢◌, None};
+
+mod memory;
+mod storing;
+mod turning;
+
+use map_tables::{Hashes, Node};
+use seize_blocks::{Blocks, Seat};
+use threads_rule::OfMaps;
+
+/// A seat of maps on an errand, with the memory. It is a memory for code that makes the operations of the call that the seat has under way.
+#[derive(Drop)]
+pub struct Ahead<'a, K: Eq, V, S: Hashes<K>> {
+    blocks: &'a Blocks<Node<K, V>, OfMaps<S>>,
+    seat: &'a mut Seat<Node<K, V>, OfMaps<S>>,
+    near: u64,
+    ghost own: { seat.now.base ≡ blocks.now.words.id.views_name },
+    ghost away: { seat.now.away ≢ None },
+}
+
+impl<'a, K: Eq, V, S: Hashes<K>> Ahead<'a, K, V, S> {
+    /// The code begins where the machine stands. Numbers for blocks are looked for from `near` on.
+    #[inline(always)]
+    pub(crate) fn new(
+        blocks: &'a Blocks<Node<K, V>, OfMaps<S>>,
+        seat: &'a mut Seat<Node<K, V>, OfMaps<S>>,
+        near: u64,
+    ) -> Self
+        requires own { seat.old.base ≡ blocks.now.words.id.views_name }
+        requires away { seat.old.away ≢ None }
+        ensures name { result.seat.ghost_name ≡ seat.entry.ghost_name }
+        ensures seat { result.seat.now ≡ seat.old }
+        ensures blocks { result.blocks.now ≡ blocks.now }
+    {
+        Ahead { blocks, seat, near }
+    }
+}

@@ -1,0 +1,12 @@
+pub mod Tellings
+mod Calls
+pub mod Calling
+mod Lookups
+mod Makings
+pub mod Told
+pub mod Shown
+pub mod Pausing
+pub mod Straight
+pub mod Sinces
+mod Firsts
+mod Handing

@@ -1,0 +1,6 @@
+use Rattle.std.proofs.Common.{refl}
+use Rattle.seize_callers.proofs.Keeping.{still_kept}
+use Rattle.threads_steps.proofs.within.memory.WithinMemoryNode.room.Goals as goal
+
+pub returns : goal.returns
+returns g c = record { seat = still_kept _ _ c.room.ensures.same.1 c.room.ensures.errand; made = refl; fits = tt; told = c.room.ensures.goes }

@@ -1,0 +1,4 @@
+pub mod Made
+pub mod Steps
+pub mod Storing
+pub mod Asking

@@ -1,0 +1,9 @@
+//! Steps of seats of maps, under the rule of maps: a seat on an errand makes a map, looks a key up there, and runs a call there, by the steps of the machines.
+#![tactic(auto)]
+
+mod finding;
+mod turns;
+mod within;
+
+pub use finding::{goes_on, sees};
+pub use within::{Halt, Ran, Within};

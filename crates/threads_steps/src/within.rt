@@ -1,0 +1,55 @@
+//! A seat of maps on an errand, with the memory.
+ghost use Rattle.std.specs.Prelude.{◌≡◌, ◌≢◌, None};
+
+mod asking;
+mod calling;
+mod counting;
+mod looking;
+mod making;
+mod memory;
+mod storing;
+mod sweeping;
+
+pub use asking::Halt;
+pub use calling::Ran;
+use map_tables::{Hashes, Node};
+use seize_blocks::{Blocks, Seat};
+use threads_rule::OfMaps;
+
+/// A seat of maps on an errand, with the memory. It is a memory for the machine that it has under way, and knows whether an operation was made.
+#[derive(Drop)]
+pub struct Within<'a, K: Eq, V, S: Hashes<K>> {
+    blocks: &'a Blocks<Node<K, V>, OfMaps<S>>,
+    seat: &'a mut Seat<Node<K, V>, OfMaps<S>>,
+    near: u64,
+    made: bool,
+    ghost own: { seat.now.base ≡ blocks.now.words.id.views_name },
+    ghost away: { seat.now.away ≢ None },
+}
+
+impl<'a, K: Eq, V, S: Hashes<K>> Within<'a, K, V, S> {
+    /// Begins the errand. Numbers for blocks are looked for from `near` on.
+    pub fn new(
+        blocks: &'a Blocks<Node<K, V>, OfMaps<S>>,
+        seat: &'a mut Seat<Node<K, V>, OfMaps<S>>,
+        near: u64,
+    ) -> Self
+        requires own { seat.old.base ≡ blocks.now.words.id.views_name }
+        requires away { seat.old.away ≢ None }
+        ensures name { result.seat.ghost_name ≡ seat.entry.ghost_name }
+        ensures seat { result.seat.now ≡ seat.old }
+        ensures blocks { result.blocks.now ≡ blocks.now }
+    {
+        Within {
+            blocks,
+            seat,
+            near,
+            made: false,
+        }
+    }
+
+    /// Tells from where on it looks for the numbers of blocks next.
+    pub fn near(&self) -> u64 {
+        self.near
+    }
+}

@@ -1,0 +1,99 @@
+//! A seat on an errand looks a key up.
+ghost use Rattle.std.specs.Prelude.{◌≡◌, ℕ, true, Some};
+ghost use Rattle.threads_rule.specs.Given.ActsActs.{Get};
+ghost use Rattle.threads_rule.specs.Errands.Looking.{Begins, HasCome, HasLooked, HasSeen, HasProgressed, LookedSo, LooksFor, MayLook, StaysThere, found_of, progress_of_lookup};
+ghost use Rattle.threads_steps.specs.Made.{IsSameSeat};
+ghost use Rattle.map_machines.specs.Lookup.{looking};
+ghost use Rattle.map_tables.specs.Chunks.{is_incremental};
+ghost use Rattle.threads_rule.specs.Views.Rule.{section_of};
+ghost use Rattle.threads_rule.specs.declared.view.Map.{Map};
+ghost use Rattle.threads_rule.specs.declared.view.SeatWork.TheVariants.{Nothing as NoWork};
+
+use crate::turns::{Beginning, Wants};
+use crate::within::Within;
+use map_machines::Lookup;
+use map_straight::{Sight, look_up};
+use map_tables::{Hashes, ResizeMode};
+use seize::Advance;
+use std::hash::Hash;
+use std::marker::Brand;
+use std::sync::Wait;
+
+impl<'a, K: Eq, V, S: Hashes<K>> Within<'a, K, V, S> {
+    /// Begins to look this key up, as it is picked.
+    fn begins_to_look_as<B: Wants<K, V>>(&mut self, _key: &K)
+        requires wanted { B.wanted ≡ Get _key.now }
+        requires inside { (t : ℕ) × (section_of self.old.seat.now.view.under self.old.seat.now.view.slot ≡ Some t) }
+        requires knows { (map : Map S) × (self.old.seat.now.view.map ≡ Some map) × (is_incremental map.setting.mode ≡ true) }
+        requires free { self.old.seat.now.view.work ≡ NoWork }
+        ensures begins { Begins K.eq S.hash (Get _key.now) self.old.seat.now.view self.new.seat.now.view }
+        ensures same { IsSameSeat self.old self.new }
+    {
+        self.blocks.turn::<Beginning<B>>(&mut *self.seat);
+    }
+
+    /// Begins to look this key up in the map that it knows, which is in incremental mode, within its section.
+    fn begins_to_look(&mut self, key: &K)
+        requires inside { (t : ℕ) × (section_of self.old.seat.now.view.under self.old.seat.now.view.slot ≡ Some t) }
+        requires knows { (map : Map S) × (self.old.seat.now.view.map ≡ Some map) × (is_incremental map.setting.mode ≡ true) }
+        requires free { self.old.seat.now.view.work ≡ NoWork }
+        ensures begins { Begins K.eq S.hash (Get key.now) self.old.seat.now.view self.new.seat.now.view }
+        ensures same { IsSameSeat self.old self.new }
+    {
+        self.begins_to_look_as::<Brand>(key);
+    }
+}
+
+impl<'a, K: Eq + Hash, V, S: Hashes<K>> Within<'a, K, V, S> {
+    /// Takes the next step of its lookup.
+    fn looks(&mut self, lookup: &mut Lookup, key: &K) -> Advance<Option<u64>>
+        requires looks { LooksFor key.now lookup.old self.old.seat.now.view }
+        ensures told { LookedSo K.eq key.now lookup.new result self.new.seat.now.view }
+        ensures calls { HasProgressed (progress_of_lookup result) self.old.seat.now.view self.new.seat.now.view }
+        ensures stays { StaysThere self.old.seat.now.view self.new.seat.now.view }
+        ensures same { IsSameSeat self.old self.new }
+    {
+        lookup.step(self, key)
+    }
+
+    /// Takes the steps of its lookup until it has ended. A lookup goes on to a later table where pairs are copied there, so how many steps it takes is up to the others.
+    pub fn goes_through<R: Wait>(&mut self, rt: &R, lookup: Lookup, key: &K) -> Option<u64>
+        requires looks { LooksFor key.now lookup self.old.seat.now.view }
+        ensures looked { HasLooked K.eq key.now result self.new.seat.now.view }
+        ensures told { HasProgressed (found_of result) self.old.seat.now.view self.new.seat.now.view }
+        ensures stays { StaysThere self.old.seat.now.view self.new.seat.now.view }
+        ensures same { IsSameSeat self.old self.new }
+    {
+        let mut lookup = lookup;
+        for _ in rt.forever() {
+            match self.looks(&mut lookup, key) {
+                Advance::Goes => {}
+                Advance::Done(found) => return found,
+                Advance::Waits | Advance::Refused(_) => unreachable!(),
+            }
+        }
+        unreachable!()
+    }
+
+    /// Looks the key up by straight code, as far as that goes: over the tries at the root's table.
+    #[inline(always)]
+    fn looks_up(&mut self, root: u64, mode: ResizeMode, hash: u64, key: &K) -> Sight
+        requires looks { LooksFor key.now (looking root mode hash) self.old.seat.now.view }
+        ensures come { HasCome K.eq key.now root mode hash result self.old.seat.now.view self.new.seat.now.view }
+        ensures stays { StaysThere self.old.seat.now.view self.new.seat.now.view }
+        ensures same { IsSameSeat self.old self.new }
+    {
+        look_up::<K, V, K, Self>(self, root, mode, hash, key)
+    }
+
+    /// Begins to look the key up within its section, and looks by straight code.
+    #[inline(always)]
+    pub fn sees(&mut self, root: u64, mode: ResizeMode, hash: u64, key: &K) -> Sight
+        requires may { MayLook S.hash key.now (looking root mode hash) self.old.seat.now.view }
+        ensures seen { HasSeen K.eq S.hash key.now root mode hash result self.old.seat.now.view self.new.seat.now.view }
+        ensures same { IsSameSeat self.old self.new }
+    {
+        self.begins_to_look(key);
+        self.looks_up(root, mode, hash, key)
+    }
+}
