@@ -9,8 +9,8 @@ use Rattle.play_moves.specs.Given.ViewsBegun.{machine_for}
 use Rattle.play_moves.specs.Given.ViewsDeclared.view.View.{View}
 use Rattle.papaya_sessions.specs.Under.{HasGotUnder, HasLentUnder, HasMissedUnder, HasSoughtUnder}
 use Rattle.seize_words.specs.declared.fault.Fault.{Fault}
-use Rattle.threads_calls.specs.Given.CallersPassing.{HasFoundUnder, HasRunUnder}
-use Rattle.threads_calls.specs.Given.CallersDeclared.caller.MapCaller.{MapCaller}
+use Rattle.threads_updates.specs.Given.CallersPassing.{HasFoundUnder, HasRunUnder}
+use Rattle.threads_updates.specs.Given.CallersDeclared.caller.MapCaller.{MapCaller}
 
 module _ {K V S : Type 0} (same : K → K → Bool) (hash : S → K → ℕ) (key : K) (c : MapCaller K V S) (v w : View K V S) where
   module _ (short : nat_lt c.blocks.now.words.fixed.batch_size (2 ^ 64) ≡ true) where
