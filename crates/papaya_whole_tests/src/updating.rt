@@ -1,7 +1,7 @@
 //! Two threads count keys up, each by what it finds there, and a key is computed by what is there.
+use crate::whole::Hashing;
 use papaya_map::{ComputedPair, Fault, HashMap, IdSource, Operation, Session};
 use std::alloc::Global;
-use std::hash::{BuildHasherDefault, DefaultHasher};
 use std::sync::Wait;
 use std::test::Fail;
 use std::thread;
@@ -9,8 +9,6 @@ use std::thread::Threads;
 
 /// How often each of them adds one.
 const EACH: u64 = 2_000;
-
-type Hashing = BuildHasherDefault<DefaultHasher>;
 
 /// One more than a count.
 fn more(count: &u64) -> u64 {
@@ -74,11 +72,8 @@ fn turns(pair: Option<(&u64, &u64)>) -> Operation<u64, u64> {
     }
 }
 
-/// Of one session: what has become of a key in turn, and whether a missing one is left alone, or may be removed.
-fn alone<R: Wait>(
-    rt: &R,
-    alloc: Global,
-) -> Result<([ComputedPair<u64>; 4], bool, bool, Option<u64>), Fault> {
+/// Of one session: whether a key was computed each time by what was there, a missing one left alone, and none removed where there was none.
+fn alone<R: Wait>(rt: &R, alloc: Global) -> Result<[bool; 7], Fault> {
     let mut ids = IdSource::new();
     let map = HashMap::with_hasher(alloc, &mut ids, Hashing::default())?;
     let shared = map.shared();
@@ -90,28 +85,19 @@ fn alone<R: Wait>(
     let nothing = shared.compute(rt, &5, |_| Operation::Remove::<u64, ()>, &mut guard);
     let begun = shared.update_or_insert_with(rt, &5, more, || 9, &mut guard)?;
     let kept = shared.compute(rt, &5, turns, &mut guard)?;
-    let refused = matches!(nothing, Err(Fault::RemoveNothing));
-    let left = guard.get(rt, &5).copied();
-    Ok((
-        [stored, replaced, removed, kept],
-        missing || begun,
-        refused,
-        left,
-    ))
+    Ok([
+        matches!(stored, ComputedPair::Inserted),
+        matches!(replaced, ComputedPair::Updated),
+        matches!(removed, ComputedPair::Removed),
+        !missing && !begun,
+        matches!(nothing, Err(Fault::RemoveNothing)),
+        matches!(kept, ComputedPair::Aborted(9)),
+        guard.get(rt, &5).copied() == Some(9),
+    ])
 }
 
 #[test]
 fn a_key_is_computed_by_what_is_there(rt: HostRuntime) -> Result<(), Fail> {
-    let (turns, found, refused, left) = alone(&rt, rt.alloc())?;
-    assert_eq!(rt;
-        turns,
-        [
-            ComputedPair::Inserted,
-            ComputedPair::Updated,
-            ComputedPair::Removed,
-            ComputedPair::Aborted(9)
-        ]
-    );
-    assert_eq!(rt; (found, refused, left), (false, true, Some(9)));
+    assert_eq!(rt; alone(&rt, rt.alloc())?, [true; 7]);
     Ok(())
 }
