@@ -6,8 +6,11 @@ use Rattle.threads_updates.proofs.changing.changes.Goals as goal
 pub loop-init : goal.loop-init
 loop-init g c = ((0, refl), c.requires.inside, refl, refl, refl)
 
-pub tries-requires : goal.tries-requires
-tries-requires g c = record { inside = c.loop.invariant.1; may = c.requires.may }
+pub tries-requires-clause-inside : goal.tries-requires-clause-inside
+tries-requires-clause-inside g c = c.loop.invariant.1
+
+pub tries-requires-clause-may : goal.tries-requires-clause-may
+tries-requires-clause-may g c = c.requires.may
 
 pub returns-in-Ok-Some-clause-slot : goal.returns-in-Ok-Some-clause-slot
 returns-in-Ok-Some-clause-slot g c = c.tries.ensures.slot ∙ c.loop.invariant.2
