@@ -5,5 +5,3 @@
 mod building;
 #[cfg(test)]
 mod holding;
-#[cfg(test)]
-mod meeting;
