@@ -6,6 +6,7 @@ ghost use Rattle.threads_calls.specs.Given.CallersStanding.{known_by};
 mod asking;
 mod looking;
 mod storing;
+mod updating;
 
 use map_tables::{Hashes, Node, Setting};
 use papaya_sessions::{Pass, Session};

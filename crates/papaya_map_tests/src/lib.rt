@@ -10,8 +10,6 @@
 #[cfg(test)]
 mod counting;
 #[cfg(test)]
-mod making;
-#[cfg(test)]
 mod meeting;
 #[cfg(test)]
 mod opening;

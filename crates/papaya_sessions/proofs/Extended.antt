@@ -2,7 +2,7 @@
 use Rattle.std.specs.Prelude.{List, [], ◌∷◌, ◌++◌}
 use Rattle.std.proofs.Common.{refl, subst}
 use Rattle.papaya_sessions.specs.Extended.{PutsAll}
-use Rattle.threads_calls.specs.Given.CallersDeclared.caller.MapCaller.{MapCaller}
+use Rattle.threads_updates.specs.Given.CallersDeclared.caller.MapCaller.{MapCaller}
 
 module _ {K V S X : Type 0} (Puts : X → MapCaller K V S → MapCaller K V S → Type 0) where
   pub put_more : (xs : List X) (x : X) (c n m : MapCaller K V S) → PutsAll Puts xs c n → Puts x n m → PutsAll Puts (xs ++ (x ∷ [])) c m

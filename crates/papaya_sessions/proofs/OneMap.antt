@@ -21,12 +21,12 @@ use Rattle.play_moves.specs.Given.ViewsDeclared.view.BegunCall.{BegunCall}
 use Rattle.play_moves.specs.Given.ViewsDeclared.view.View.{View}
 use Rattle.play_moves.specs.Given.ViewsRule.{section_of}
 use Rattle.seize_words.specs.declared.fault.Fault.{Fault}
-use Rattle.threads_calls.specs.Answers.{HasFoundEmpty, HasMeasured, HasRemoved, HasReserved, HasStored, HasSweptAll, HasTried, clears, is_removed, is_replaced}
-use Rattle.threads_calls.specs.Given.CallersDeclared.caller.MapCaller.{MapCaller}
-use Rattle.threads_calls.specs.Given.SeizeViewsDeclared.view.Fixed.{Fixed}
-use Rattle.threads_calls.specs.Given.SeizeViewsDeclared.view.Has.TheVariants.{Nothing}
-use Rattle.threads_calls.specs.Given.SeizeViewsDeclared.view.SlotView.TheVariants.{Inside}
-use Rattle.threads_calls.specs.declared.session.SessionBase.{SessionBase}
+use Rattle.threads_updates.specs.Given.CallsAnswers.{HasFoundEmpty, HasMeasured, HasRemoved, HasReserved, HasStored, HasSweptAll, HasTried, clears, is_removed, is_replaced}
+use Rattle.threads_updates.specs.Given.CallersDeclared.caller.MapCaller.{MapCaller}
+use Rattle.threads_updates.specs.Given.SeizeViewsDeclared.view.Fixed.{Fixed}
+use Rattle.threads_updates.specs.Given.SeizeViewsDeclared.view.Has.TheVariants.{Nothing}
+use Rattle.threads_updates.specs.Given.SeizeViewsDeclared.view.SlotView.TheVariants.{Inside}
+use Rattle.threads_updates.specs.Given.CallsDeclared.session.SessionBase.{SessionBase}
 use Rattle.threads_sweeps.specs.Swept.{HasGone, HasShown, HasSifted, retains, walks}
 
 -- a session that makes a call, and what it is then

@@ -9,8 +9,8 @@ use Rattle.play_moves.specs.Given.ViewsBegun.{machine_for}
 use Rattle.play_moves.specs.Given.ViewsDeclared.view.View.{View}
 use Rattle.papaya_sessions.specs.Under.{HasGotPairUnder, HasGotUnder, HasLentUnder, HasMissedUnder, HasSoughtUnder}
 use Rattle.seize_words.specs.declared.fault.Fault.{Fault}
-use Rattle.threads_calls.specs.Given.CallersPassing.{HasFoundUnder, HasRunUnder}
-use Rattle.threads_calls.specs.Given.CallersDeclared.caller.MapCaller.{MapCaller}
+use Rattle.threads_updates.specs.Given.CallersPassing.{HasFoundUnder, HasRunUnder}
+use Rattle.threads_updates.specs.Given.CallersDeclared.caller.MapCaller.{MapCaller}
 
 -- what is looked at through a look is the value of that, if there is one
 values : {A K V : Type 0} (now : A → K × V) (answer : Option A) → option_map (λ a. (now a).1) answer ≡ option_map (λ p. p.1) (option_map now answer)

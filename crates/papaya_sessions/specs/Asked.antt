@@ -4,8 +4,8 @@ use Rattle.play_moves.specs.Given.ActsActs.{RemoveIf, TryToInsertWith}
 use Rattle.play_moves.specs.Given.ErrandsCalling.{is_put, outcome_of}
 use Rattle.play_moves.specs.Given.ErrandsLooking.{HasRun}
 use Rattle.papaya_raw.specs.declared.machines.progress.Answer.{Answer}
-use Rattle.threads_calls.specs.Answers.{is_removed}
-use Rattle.threads_calls.specs.Given.CallersDeclared.caller.MapCaller.{MapCaller}
+use Rattle.threads_updates.specs.Given.CallsAnswers.{is_removed}
+use Rattle.threads_updates.specs.Given.CallersDeclared.caller.MapCaller.{MapCaller}
 
 module _ {K V S : Type 0} (same : K → K → Bool) (hash : S → K → ℕ) (key : K) where
   -- it has made one call more, which stores what is made where the key is missing, and whose answer says whether that was stored

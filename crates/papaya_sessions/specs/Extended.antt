@@ -5,7 +5,7 @@ use Rattle.papaya_sessions.specs.OneMap.{MapCameToHave, WasRefused}
 use Rattle.papaya_sessions.specs.Sessions.{IsOnSameMap}
 use Rattle.play_moves.specs.Given.ActsActs.{Insert}
 use Rattle.seize_words.specs.declared.refused.Refused.{Refused}
-use Rattle.threads_calls.specs.Given.CallersDeclared.caller.MapCaller.{MapCaller}
+use Rattle.threads_updates.specs.Given.CallersDeclared.caller.MapCaller.{MapCaller}
 
 module _ {K V S X : Type 0} (Puts : X → MapCaller K V S → MapCaller K V S → Type 0) where
   -- each of these, in their order, and nothing else

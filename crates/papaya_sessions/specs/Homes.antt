@@ -1,7 +1,7 @@
 -- Which map something is of.
 use Rattle.std.specs.Prelude.{◌≡◌, ℕ, Option}
 use Rattle.play_moves.specs.Given.ViewsDeclared.view.Map.{Map}
-use Rattle.threads_calls.specs.Given.CallersDeclared.caller.MapCaller.{MapCaller}
+use Rattle.threads_updates.specs.Given.CallersDeclared.caller.MapCaller.{MapCaller}
 
 -- The number of its collector, which memory is its own, and which map stands there.
 pub record Home (S : Type 0) : Type 0 where

@@ -4,8 +4,8 @@ use Rattle.play_moves.specs.OneHistory.Calls.{FoundNone, FoundValue, HasInserted
 use Rattle.play_moves.specs.OneHistory.Whole.{HasCleared, HasCounted, HasMadeRoom, HasRetained, HasWalked}
 use Rattle.play_moves.specs.Given.ActsActs.{Wanted}
 use Rattle.papaya_sessions.specs.Sessions.{HasBeenRefused, HasGot, HasSought}
-use Rattle.threads_calls.specs.Answers.{HasMeasured, HasRemoved, HasReserved, HasStored, HasSweptAll, HasTried}
-use Rattle.threads_calls.specs.Given.CallersDeclared.caller.MapCaller.{MapCaller}
+use Rattle.threads_updates.specs.Given.CallsAnswers.{HasMeasured, HasRemoved, HasReserved, HasStored, HasSweptAll, HasTried}
+use Rattle.threads_updates.specs.Given.CallersDeclared.caller.MapCaller.{MapCaller}
 use Rattle.threads_sweeps.specs.Swept.{HasShown, HasSifted}
 use Rattle.seize_words.specs.declared.fault.Fault.{Fault}
 

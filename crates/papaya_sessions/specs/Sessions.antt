@@ -3,8 +3,8 @@ use Rattle.std.specs.Prelude.{◌≡◌, ℕ, Bool, Option, Some, None, Err, is_
 use Rattle.play_moves.specs.Given.ActsActs.{Wanted, ContainsKey, Get}
 use Rattle.play_moves.specs.Given.ErrandsCalling.{outcome_of}
 use Rattle.play_moves.specs.Given.ErrandsLooking.{HasRun, found_of}
-use Rattle.threads_calls.specs.Shown.{IsLent, IsShown}
-use Rattle.threads_calls.specs.Given.CallersDeclared.caller.MapCaller.{MapCaller}
+use Rattle.threads_updates.specs.Given.CallsShown.{IsLent, IsShown}
+use Rattle.threads_updates.specs.Given.CallersDeclared.caller.MapCaller.{MapCaller}
 use Rattle.seize_words.specs.declared.fault.Fault.{Fault}
 
 module _ {K V S : Type 0} where

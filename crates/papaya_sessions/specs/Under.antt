@@ -4,8 +4,8 @@ use Rattle.play_moves.specs.OneHistory.Calls.{FoundNone, FoundValue}
 use Rattle.play_moves.specs.Given.ActsActs.{Get}
 use Rattle.play_moves.specs.Given.ErrandsLooking.{found_of}
 use Rattle.play_moves.specs.Given.ViewsDeclared.view.View.{View}
-use Rattle.threads_calls.specs.Given.CallersPassing.{HasFoundUnder, HasRunUnder}
-use Rattle.threads_calls.specs.Given.CallersDeclared.caller.MapCaller.{MapCaller}
+use Rattle.threads_updates.specs.Given.CallersPassing.{HasFoundUnder, HasRunUnder}
+use Rattle.threads_updates.specs.Given.CallersDeclared.caller.MapCaller.{MapCaller}
 
 module _ {K V S : Type 0} (same : K → K → Bool) (hash : S → K → ℕ) (key : K) (c : MapCaller K V S) where
   -- It has made one call more, which looks this key up under that one, and was answered that it is not there: the map of that one had no pair of it, whichever number the seat

@@ -5,5 +5,6 @@ mod pass;
 mod session;
 
 pub use pass::{HashMapRef, Pass};
+pub use seize_words::Operation;
 pub use session::Session;
-pub use threads_calls::Attempt;
+pub use threads_updates::{Attempt, ComputedPair};

@@ -9,7 +9,7 @@ use map_tables::Hashes;
 use seize_words::Fault;
 use std::hash::{Hash, RandomState};
 use std::sync::Wait;
-use threads_calls::{MapPassSeat as Seat, SessionBase as Base};
+use threads_updates::{MapPassSeat as Seat, SessionBase as Base};
 
 /// A pass of a map. It holds no slot, and rests between two calls; it may go to another thread, and outlive the sessions that it was under.
 #[derive(Drop)]

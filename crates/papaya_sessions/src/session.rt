@@ -8,17 +8,19 @@ ghost use Rattle.papaya_sessions.specs.Extended.{Extends, PutsPair, RefusesPair,
 ghost use Rattle.papaya_sessions.specs.OneMap.{MapCameToHave, MapCounted, MapGaveUp, MapHad, MapHadOne, MapHadRoom, MapLacked, MapLookedEmpty, MapWasCleared, MapWasShown, MapWasSifted, WasRefused};
 ghost use Rattle.papaya_sessions.specs.Sessions.{HasBeenRefused, HasMadeNone};
 ghost use Rattle.play_moves.specs.Given.ActsActs.{Insert, MakeRoom, Remove, RemoveIf, TryToInsert, TryToInsertWith};
-ghost use Rattle.threads_calls.specs.Answers.{CameBack, clears, has_stored};
-ghost use Rattle.threads_calls.specs.Given.SeizeViewsDeclared.view.Has.TheVariants.{Nothing};
-ghost use Rattle.threads_calls.specs.Given.SeizeViewsDeclared.view.SlotView.TheVariants.{Inside, Rests};
-ghost use Rattle.threads_calls.specs.Given.StepsAsking.{HasAsked, MakingSays, MayTest, TestSays};
+ghost use Rattle.threads_updates.specs.Given.CallsAnswers.{CameBack, clears, has_stored};
+ghost use Rattle.threads_updates.specs.Given.SeizeViewsDeclared.view.Has.TheVariants.{Nothing};
+ghost use Rattle.threads_updates.specs.Given.SeizeViewsDeclared.view.SlotView.TheVariants.{Inside, Rests};
+ghost use Rattle.threads_updates.specs.Given.StepsAsking.{HasAsked, MakingSays, MayTest, TestSays};
 ghost use Rattle.threads_sweeps.specs.Swept.{retains, walks};
+
+mod updates;
 
 use map_tables::Hashes;
 use seize_words::{Fault, Refused};
 use std::hash::{Hash, RandomState};
 use std::sync::Wait;
-use threads_calls::{Attempt, SessionBase as Base};
+use threads_updates::{Attempt, SessionBase as Base};
 
 /// A map, as one of those has it who share it. It may be sent to a thread, and holds a slot, within a section that is open from its beginning to its end: what its calls have
 /// found isn't given back as long as the answer is borrowed. As long as it neither ends nor is refreshed, nothing that was removed or replaced meanwhile is reclaimed,

@@ -1,14 +1,20 @@
-//! What a set holds, by one session after another, and by two threads.
-use papaya::{Fault, HashSet, IdSource, SetSession};
+//! What a set holds, by one session after another, and by two threads, which also meet there; and what it says of all its elements.
+ghost use Rattle.std.specs.Prelude.{◌≡◌};
+
+use papaya::{Fault, HashSet, IdSource, Pass, SetSession, SharedSet};
 use std::alloc::Global;
 use std::hash::{BuildHasherDefault, DefaultHasher};
 use std::sync::Wait;
 use std::test::Fail;
 use std::thread;
 use std::thread::Threads;
+use std::time::{Clock, Duration};
 
 /// How many keys there are.
 const KEYS: u64 = 300;
+
+/// How often one looks for what another one leaves, a millisecond apart.
+const LOOKS: u64 = 20_000;
 
 type Hashing = BuildHasherDefault<DefaultHasher>;
 
@@ -67,18 +73,10 @@ fn works_twice<R: Threads + Wait + Sync>(rt: &R, alloc: Global) -> Result<(u64, 
     let second = first.another()?;
     let (one, other) = thread::join(rt, || works(rt, first), || works(rt, second));
     let (one, other) = (one?, other?);
+    let new = u64::wrapping_add(one.0, other.0);
+    let taken = u64::wrapping_add(one.1, other.1);
     let mut session = set.session()?;
-    let mut left = 0u64;
-    for key in 0..KEYS {
-        if session.contains(rt, &key) {
-            left = u64::wrapping_add(left, 1);
-        }
-    }
-    Ok((
-        u64::wrapping_add(one.0, other.0),
-        u64::wrapping_add(one.1, other.1),
-        left,
-    ))
+    Ok((new, taken, session.len()))
 }
 
 // Each key that was new was taken out once, whoever was faster. A body that served one thread after the other would pass, too.
@@ -129,5 +127,82 @@ fn foreign<R: Wait>(rt: &R, alloc: Global) -> Result<[bool; 8], Fault> {
 #[test]
 fn calls_on_a_set_refuse_what_is_of_another_one(rt: HostRuntime) -> Result<(), Fail> {
     assert_eq!(rt; foreign(&rt, rt.alloc())?, [true; 8]);
+    Ok(())
+}
+
+/// A set of three keys is counted, cleared and counted again; answers the counts, and whether it is as empty as they say. A reservation of more than any table has is refused.
+fn counts<R: Wait>(rt: &R, alloc: Global) -> Result<([u64; 3], [bool; 4]), Fault> {
+    let mut ids = IdSource::new();
+    let set = HashSet::with_hasher(alloc, &mut ids, Hashing::default())?;
+    let mut session = set.session()?;
+    let before = session.len();
+    let empty = session.is_empty();
+    session.reserve(rt, 100)?;
+    session.extend(rt, [42u64, 16, 38, 16])?;
+    let full = session.len();
+    let some = !session.is_empty();
+    session.clear(rt)?;
+    let after = session.len();
+    let gone = session.is_empty() && !session.contains(rt, &42);
+    let refused = matches!(session.reserve(rt, u64::MAX), Err(Fault::Capacity));
+    Ok(([before, full, after], [empty, some, gone, refused]))
+}
+
+#[test]
+fn a_set_that_was_cleared_has_no_element(rt: HostRuntime) -> Result<(), Fail> {
+    assert_eq!(rt; counts(&rt, rt.alloc())?, ([0, 3, 0], [true; 4]));
+    Ok(())
+}
+
+/// Whether this key comes to be there.
+fn meets<R: Wait + Clock>(
+    rt: &R,
+    guard: &SetSession<'_, u64, Hashing>,
+    pass: &mut Pass<u64, (), Hashing>,
+    key: u64,
+) -> Result<bool, Fault>
+    requires own { pass.old.base.seat.base ≡ guard.now.session.base.caller.blocks.now.words.id.views_name }
+{
+    for turn in 0..LOOKS {
+        if guard.contains_by(rt, &key, pass)? {
+            return Ok(true);
+        }
+        thread::sleep(rt, Duration::from_millis(1));
+    }
+    Ok(false)
+}
+
+/// Puts one key there by a session of its own, and waits until it has found the other one, by a pass under the guard.
+fn leaves<R: Wait + Clock>(
+    rt: &R,
+    set: &SharedSet<'_, u64, Hashing>,
+    guard: &SetSession<'_, u64, Hashing>,
+    own: u64,
+    other: u64,
+) -> Result<bool, Fault> {
+    let mut session = set.session()?;
+    let _ = session.insert(rt, own)?;
+    let mut pass = guard.pass();
+    meets(rt, guard, &mut pass, other)
+}
+
+/// Two threads do so.
+fn meet<R: Threads + Wait + Clock + Sync>(rt: &R, alloc: Global) -> Result<(bool, bool), Fault> {
+    let mut ids = IdSource::new();
+    let set = HashSet::with_hasher(alloc, &mut ids, Hashing::default())?;
+    let shared = set.shared();
+    let guard = set.session()?;
+    let (one, other) = thread::join(
+        rt,
+        || leaves(rt, &shared, &guard, 1, 2),
+        || leaves(rt, &shared, &guard, 2, 1),
+    );
+    Ok((one?, other?))
+}
+
+// Were the threads served one after another, the first one would not find the key of the second.
+#[test]
+fn two_threads_find_what_each_has_left(rt: HostRuntime) -> Result<(), Fail> {
+    assert_eq!(rt; meet(&rt, rt.alloc())?, (true, true));
     Ok(())
 }

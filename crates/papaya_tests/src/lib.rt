@@ -4,10 +4,4 @@
 #[cfg(test)]
 mod building;
 #[cfg(test)]
-mod building_maps;
-#[cfg(test)]
-mod counting;
-#[cfg(test)]
 mod holding;
-#[cfg(test)]
-mod meeting;

@@ -12,20 +12,21 @@ use std::time::{Clock, Duration};
 const EACH: u64 = 200;
 
 /// How often each of them looks, a millisecond apart.
-const LOOKS: u64 = 20_000;
+pub(crate) const LOOKS: u64 = 20_000;
 
 /// How often all keys are looked up while room is made.
 const ROUNDS: u64 = 16;
 
-type Hashing = BuildHasherDefault<DefaultHasher>;
+pub(crate) type Hashing = BuildHasherDefault<DefaultHasher>;
 
 /// Stores so many keys from this one on, each with its double.
-fn stores<R: Wait>(
+pub(crate) fn stores<R: Wait>(
     rt: &R,
     session: &mut Session<'_, u64, u64, Hashing>,
     from: u64,
+    many: u64,
 ) -> Result<(), Fault> {
-    for n in 0..EACH {
+    for n in 0..many {
         let key = u64::wrapping_add(from, n);
         let _ = session.insert(rt, key, u64::wrapping_mul(key, 2))?;
     }
@@ -51,7 +52,7 @@ fn counts_all<R: Wait + Clock>(
     from: u64,
 ) -> Result<bool, Fault> {
     let mut session = session;
-    stores(rt, &mut session, from)?;
+    stores(rt, &mut session, from, EACH)?;
     Ok(meets(rt, &mut session, EACH * 2))
 }
 
@@ -109,7 +110,7 @@ fn grows<R: Threads + Wait + Sync>(rt: &R, alloc: Global) -> Result<(u64, u64), 
     let mut first = map.session()?;
     let second = first.another()?;
     let third = first.another()?;
-    stores(rt, &mut first, 0)?;
+    stores(rt, &mut first, 0, EACH)?;
     let (done, found) = thread::join(rt, || reserves(rt, second), || finds(rt, third));
     done?;
     Ok((found, first.len()))
@@ -146,7 +147,7 @@ fn clears<R: Wait + Clock>(rt: &R, session: Session<'_, u64, u64, Hashing>) -> R
 /// Stores keys, and the last one anew where it is gone, until the other one says that it has met that. Answers whether it was gone once.
 fn leaves<R: Wait + Clock>(rt: &R, session: Session<'_, u64, u64, Hashing>) -> Result<bool, Fault> {
     let mut session = session;
-    stores(rt, &mut session, 0)?;
+    stores(rt, &mut session, 0, EACH)?;
     let _ = session.insert(rt, LAST, 0)?;
     let mut gone = false;
     for _ in 0..LOOKS {
@@ -199,22 +200,24 @@ fn all_pairs_are_removed_while_others_store(rt: HostRuntime) -> Result<(), Fail>
     Ok(())
 }
 
-/// Of one session: what it counts of a map without a pair, after room was made, after keys were stored, and after all were removed.
-fn alone<R: Wait>(rt: &R, alloc: Global) -> Result<(bool, bool, u64, bool), Fault> {
+/// Of one session: what it counts of a map without a pair, after room was made, after keys were stored, after the odd ones were removed, and after all were.
+fn alone<R: Wait>(rt: &R, alloc: Global) -> Result<([bool; 3], [u64; 2]), Fault> {
     let mut ids = IdSource::new();
     let map = HashMap::with_hasher(alloc, &mut ids, Hashing::default())?;
     let mut session = map.session()?;
     let first = session.is_empty();
     session.reserve(rt, 1000)?;
     let then = session.is_empty();
-    stores(rt, &mut session, 0)?;
+    stores(rt, &mut session, 0, EACH)?;
     let stored = session.len();
+    session.retain(rt, |key, _| *key % 2 == 0)?;
+    let kept = session.len();
     session.clear(rt)?;
-    Ok((first, then, stored, session.is_empty()))
+    Ok(([first, then, session.is_empty()], [stored, kept]))
 }
 
 #[test]
 fn what_was_stored_is_counted(rt: HostRuntime) -> Result<(), Fail> {
-    assert_eq!(rt; alone(&rt, rt.alloc())?, (true, true, EACH, true));
+    assert_eq!(rt; alone(&rt, rt.alloc())?, ([true; 3], [EACH, EACH / 2]));
     Ok(())
 }

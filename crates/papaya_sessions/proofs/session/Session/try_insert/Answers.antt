@@ -1,5 +1,5 @@
 use Rattle.std.proofs.lemmas.Result.{IfErr-weaker, IfOk-weaker}
-use Rattle.threads_calls.specs.Answers.{has_stored}
+use Rattle.threads_updates.specs.Given.CallsAnswers.{has_stored}
 use Rattle.papaya_sessions.proofs.OneMap.{lacked, not_tried}
 use Rattle.papaya_sessions.proofs.session.Session.try_insert.Goals as goal
 

@@ -1,0 +1,83 @@
+//! A session's calls that store a value made of the one that is there, or do with its pair what a closure says.
+ghost use Rattle.std.specs.Prelude.{IfErr, IfOk};
+ghost use Rattle.std.specs.Fn.{FnReturns, FnReturnsAt};
+ghost use Rattle.papaya_sessions.specs.Kept.{KeepsMap};
+ghost use Rattle.threads_updates.specs.Deciding.{MayDecide, NewOld, NewOldOr, NewOldOrStop};
+ghost use Rattle.threads_updates.specs.Updated.{HasComputed, HasPut, HasStopped, HasUpdated};
+
+use crate::session::Session;
+use map_tables::Hashes;
+use seize_words::{Fault, Operation};
+use std::hash::Hash;
+use std::sync::Wait;
+use threads_updates::ComputedPair;
+
+impl<'m, K: Eq + Hash + Clone + Drop, V: Drop, S: Hashes<K>> Session<'m, K, V, S> {
+    /// Replaces the value of a key by one that is made of it, if the key is there, and answers whether it was. A clone of the key is stored. The closure is called again where
+    /// another one has changed the pair meanwhile. The faults are `Fault::Capacity` and `Fault::Memory`: no pair has changed then.
+    pub fn update<R: Wait, F: Fn(&V) -> V>(
+        &mut self,
+        rt: &R,
+        key: &K,
+        make: F,
+    ) -> Result<bool, Fault>
+        requires callable { F.IsAlwaysCallable make }
+        ensures keeps { KeepsMap self.old self.new }
+        ensures updated { IfOk result (λ updated. HasUpdated K.eq S.hash (K.is_clone key.now) (NewOld {T = Unit} (FnReturnsAt F.Fn make)) updated self.old.base.caller.seat.view self.new.base.caller.seat.view) }
+        ensures stopped { IfErr result (λ fault. HasStopped K.eq S.hash (K.is_clone key.now) (NewOld {T = Unit} (FnReturnsAt F.Fn make)) fault self.old.base.caller.seat.view self.new.base.caller.seat.view) }
+    {
+        threads_updates::update(&mut self.base, rt, key, &make)
+    }
+
+    /// Replaces the value of a key by one that is made of it, if the key is there, and else stores one that is begun; answers whether a pair was replaced. A clone of the
+    /// key is stored. The closures are called again where another one has changed the pair meanwhile. The faults are those of `update`.
+    pub fn update_or_insert_with<R: Wait, F: Fn(&V) -> V, B: Fn() -> V>(
+        &mut self,
+        rt: &R,
+        key: &K,
+        make: F,
+        begin: B,
+    ) -> Result<bool, Fault>
+        requires callable { F.IsAlwaysCallable make × B.IsAlwaysCallable begin }
+        ensures keeps { KeepsMap self.old self.new }
+        ensures updated { IfOk result (λ updated. HasPut K.eq S.hash (K.is_clone key.now) (NewOldOr {T = Unit} (FnReturnsAt F.Fn make) (FnReturns B.Fn begin tt)) updated self.old.base.caller.seat.view self.new.base.caller.seat.view) }
+        ensures stopped { IfErr result (λ fault. HasStopped K.eq S.hash (K.is_clone key.now) (NewOldOr {T = Unit} (FnReturnsAt F.Fn make) (FnReturns B.Fn begin tt)) fault self.old.base.caller.seat.view self.new.base.caller.seat.view) }
+    {
+        threads_updates::update_or_insert_with(&mut self.base, rt, key, &make, &begin)
+    }
+
+    /// Does with the pair of a key, or where there is none, what a closure says. A clone of the key is stored with a value. The closure is called again where another one has
+    /// changed the pair meanwhile. The faults are those of `update`, and `Fault::RemoveNothing`, where the pair is to be removed and there is none.
+    pub fn compute<R: Wait, T: Drop, F: Fn(Option<(&K, &V)>) -> Operation<V, T>>(
+        &mut self,
+        rt: &R,
+        key: &K,
+        decide: F,
+    ) -> Result<ComputedPair<T>, Fault>
+        requires callable { F.IsAlwaysCallable decide }
+        ensures keeps { KeepsMap self.old self.new }
+        ensures done { IfOk result (λ done. HasComputed K.eq S.hash (K.is_clone key.now) (MayDecide F.Fn decide) done self.old.base.caller.seat.view self.new.base.caller.seat.view) }
+        ensures stopped { IfErr result (λ fault. HasStopped K.eq S.hash (K.is_clone key.now) (MayDecide F.Fn decide) fault self.old.base.caller.seat.view self.new.base.caller.seat.view) }
+    {
+        threads_updates::compute(&mut self.base, rt, key, &decide)
+    }
+}
+
+impl<'m, K: Eq + Hash + Clone + Drop, V: Clone + Drop, S: Hashes<K>> Session<'m, K, V, S> {
+    /// Replaces the value of a key by one that is made of it, if the key is there, and else stores a clone of this one; answers whether a pair was replaced. A clone of the
+    /// key is stored. The closure is called again where another one has changed the pair meanwhile. The faults are those of `update`.
+    pub fn update_or_insert<R: Wait, F: Fn(&V) -> V>(
+        &mut self,
+        rt: &R,
+        key: &K,
+        make: F,
+        value: &V,
+    ) -> Result<bool, Fault>
+        requires callable { F.IsAlwaysCallable make }
+        ensures keeps { KeepsMap self.old self.new }
+        ensures updated { IfOk result (λ updated. HasPut K.eq S.hash (K.is_clone key.now) (NewOldOrStop {T = Unit} (FnReturnsAt F.Fn make) (V.is_clone value.now)) updated self.old.base.caller.seat.view self.new.base.caller.seat.view) }
+        ensures stopped { IfErr result (λ fault. HasStopped K.eq S.hash (K.is_clone key.now) (NewOldOrStop {T = Unit} (FnReturnsAt F.Fn make) (V.is_clone value.now)) fault self.old.base.caller.seat.view self.new.base.caller.seat.view) }
+    {
+        threads_updates::update_or_insert(&mut self.base, rt, key, &make, value)
+    }
+}

@@ -1,0 +1,3 @@
+mod Decided
+mod Asked
+mod Tried

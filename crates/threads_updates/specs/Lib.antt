@@ -1,0 +1,4 @@
+pub mod Given
+pub mod Deciding
+pub mod Computing
+pub mod Updated

@@ -1,0 +1,123 @@
+//! A session computes what is to be done with a key: it begins calls that compute until one has changed the map, or is to stop.
+ghost use Rattle.std.specs.Prelude.{◌≡◌, IfErr, IfOk, IfNone, IfSome};
+ghost use Rattle.threads_calls.specs.Given.SeizeViewsDeclared.view.Has.TheVariants.{Nothing};
+ghost use Rattle.threads_calls.specs.Given.SeizeViewsDeclared.view.SlotView.TheVariants.{Inside};
+ghost use Rattle.threads_updates.specs.Updated.{EndsSo, HasComputed, HasStopped, HasTriedOnce, IsLeft, IsSo};
+
+use crate::computing::{ComputedOnce, computed};
+use crate::deciding::Decides;
+use map_tables::Hashes;
+use papaya_raw::machines::{Answer, KeyAnswer};
+use seize_words::Fault;
+use std::hash::Hash;
+use std::sync::Wait;
+use threads_calls::SessionBase;
+
+/// What has become of a key by what was said.
+#[derive(Debug, Drop, PartialEq, Eq)]
+pub enum ComputedPair<T> {
+    /// A pair was stored, where there was none.
+    Inserted,
+    /// The pair was replaced.
+    Updated,
+    /// The pair was removed.
+    Removed,
+    /// Nothing has changed, as was said with this.
+    Aborted(T),
+}
+
+/// Returns what has become of the key, by what its call has answered, and with what was said last that nothing is to change: nothing yet, where the call has changed nothing,
+/// and that was not said.
+fn done<E: Drop>(answer: Answer, end: Option<E>) -> Option<ComputedPair<E>>
+    ensures done { IfSome result (λ done. IsSo done answer × EndsSo end done) }
+    ensures left { IfNone result (IsLeft answer) }
+{
+    match answer {
+        Answer::Key(KeyAnswer::Stored(_)) => Some(ComputedPair::Inserted),
+        Answer::Key(KeyAnswer::Replaced { .. }) => Some(ComputedPair::Updated),
+        Answer::Key(KeyAnswer::Removed(_)) => Some(ComputedPair::Removed),
+        Answer::Key(KeyAnswer::Absent | KeyAnswer::Found(_))
+        | Answer::Reserved
+        | Answer::Swept
+        | Answer::Count(_) => match end {
+            Some(end) => Some(ComputedPair::Aborted(end)),
+            None => None,
+        },
+    }
+}
+
+/// Begins a call that computes on this key, within the section of a session's slot, and runs it to its end. Answers what has become of the key, or nothing yet.
+fn tries_with<R: Wait, K: Eq + Hash + Drop, V: Drop, S: Hashes<K>, D: Decides<K, V>>(
+    session: &mut SessionBase<'_, K, V, S>,
+    rt: &R,
+    key: K,
+    decider: &D,
+) -> Result<Option<ComputedPair<D::End>>, Fault>
+    requires inside { session.old.caller.seat.view.slot ≡ Inside session.old.slot Nothing }
+    requires may { D.may decider.now }
+    ensures inside { session.new.caller.seat.view.slot ≡ Inside session.new.slot Nothing }
+    ensures slot { session.new.slot ≡ session.old.slot }
+    ensures tried { HasTriedOnce K.eq S.hash (λ its. its ≡ key) (D.gives decider.now) result session.old.caller.seat.view session.new.caller.seat.view }
+    ensures map { session.new.caller.seat.view.map ≡ session.old.caller.seat.view.map }
+    ensures blocks { session.new.caller.blocks ≡ session.old.caller.blocks }
+{
+    let ComputedOnce { told, near: _, end } = computed(session, rt, key, decider);
+    match told {
+        Ok(answer) => Ok(done(answer, end)),
+        Err(fault) => Err(fault),
+    }
+}
+
+/// Begins such a call on a clone of a key. Where there is no memory for that, none was begun.
+fn tries<R: Wait, K: Eq + Hash + Clone + Drop, V: Drop, S: Hashes<K>, D: Decides<K, V>>(
+    session: &mut SessionBase<'_, K, V, S>,
+    rt: &R,
+    key: &K,
+    decider: &D,
+) -> Result<Option<ComputedPair<D::End>>, Fault>
+    requires inside { session.old.caller.seat.view.slot ≡ Inside session.old.slot Nothing }
+    requires may { D.may decider.now }
+    ensures inside { session.new.caller.seat.view.slot ≡ Inside session.new.slot Nothing }
+    ensures slot { session.new.slot ≡ session.old.slot }
+    ensures tried { HasTriedOnce K.eq S.hash (K.is_clone key.now) (D.gives decider.now) result session.old.caller.seat.view session.new.caller.seat.view }
+    ensures map { session.new.caller.seat.view.map ≡ session.old.caller.seat.view.map }
+    ensures blocks { session.new.caller.blocks ≡ session.old.caller.blocks }
+{
+    match key.clone() {
+        Ok(its) => tries_with(session, rt, its, decider),
+        Err(_) => Err(Fault::Memory),
+    }
+}
+
+/// Does with a key what is said of its pair, or of none, within the section of a session's slot. How many calls that takes is up to the others. The faults are `Memory`,
+/// also for a clone of the key, `Capacity`, and `RemoveNothing`: no pair was changed then.
+pub(crate) fn changes<
+    R: Wait,
+    K: Eq + Hash + Clone + Drop,
+    V: Drop,
+    S: Hashes<K>,
+    D: Decides<K, V>,
+>(
+    session: &mut SessionBase<'_, K, V, S>,
+    rt: &R,
+    key: &K,
+    decider: &D,
+) -> Result<ComputedPair<D::End>, Fault>
+    requires inside { session.old.caller.seat.view.slot ≡ Inside session.old.slot Nothing }
+    requires may { D.may decider.now }
+    ensures inside { session.new.caller.seat.view.slot ≡ Inside session.new.slot Nothing }
+    ensures slot { session.new.slot ≡ session.old.slot }
+    ensures done { IfOk result (λ done. HasComputed K.eq S.hash (K.is_clone key.now) (D.gives decider.now) done session.old.caller.seat.view session.new.caller.seat.view) }
+    ensures stopped { IfErr result (λ fault. HasStopped K.eq S.hash (K.is_clone key.now) (D.gives decider.now) fault session.old.caller.seat.view session.new.caller.seat.view) }
+    ensures map { session.new.caller.seat.view.map ≡ session.old.caller.seat.view.map }
+    ensures blocks { session.new.caller.blocks ≡ session.old.caller.blocks }
+{
+    for _ in rt.forever() {
+        match tries(session, rt, key, decider) {
+            Ok(Some(done)) => return Ok(done),
+            Ok(None) => {}
+            Err(fault) => return Err(fault),
+        }
+    }
+    unreachable!()
+}
