@@ -1,8 +1,8 @@
 -- What a session of a set has done by one call more, and that its answer is so in one finite set, at a moment of that call: the keys of a map whose values are units.
-use Rattle.std.specs.Prelude.{◌≡◌, ℕ, Bool, not}
+use Rattle.std.specs.Prelude.{◌≡◌, ℕ, Bool, Option, not, option_map}
 use Rattle.papaya_map.specs.Given.SessionsOneMap.{MapCameToHave, MapCounted, MapGaveUp, MapHadOne, MapHadRoom, MapLookedEmpty, MapWasCleared, WasRefused}
 use Rattle.papaya_map.specs.Given.SessionsSessions.{IsOnSameMap}
-use Rattle.papaya_map.specs.Given.SessionsUnder.{HasSoughtUnder}
+use Rattle.papaya_map.specs.Given.SessionsUnder.{HasGotPairUnder, HasSoughtUnder}
 use Rattle.papaya_map.specs.Given.ViewsDeclared.view.View.{View}
 use Rattle.papaya_map.specs.Given.ActsActs.{Insert}
 use Rattle.seize_words.specs.declared.refused.RefusedKey.{RefusedKey}
@@ -16,6 +16,10 @@ module _ {K S : Type 0} (same : K → K → Bool) (hash : S → K → ℕ) (key 
   -- the same, by a pass under a session that was lent
   abbrev pub SetHadUnder : Bool → MapCaller K (Unit {0}) S → View K (Unit {0}) S → View K (Unit {0}) S → Type 0
   SetHadUnder there c v w = HasSoughtUnder same hash key c there v w
+
+  -- and of that element
+  abbrev pub SetLentUnder : Option K → MapCaller K (Unit {0}) S → View K (Unit {0}) S → View K (Unit {0}) S → Type 0
+  SetLentUnder element c v w = (pair : Option (K × Unit {0})) × (element ≡ option_map (λ p. p.0) pair) × HasGotPairUnder same hash key c pair v w
 
   -- it has put this key into its set, which came to have it as a new element, or in the place of one that equals it
   abbrev pub SetCameToHave : Bool → MapCaller K (Unit {0}) S → MapCaller K (Unit {0}) S → Type 0

@@ -1,12 +1,22 @@
 //! Pins of a set: a session that is lent, with a pass of its own, so that looking asks for nothing.
-ghost use Rattle.std.specs.Prelude.{◌≡◌};
-ghost use Rattle.papaya.specs.OneSet.{SetHadUnder};
+ghost use Rattle.std.specs.Prelude.{◌≡◌, option_map};
+ghost use Rattle.papaya.specs.OneSet.{SetHadUnder, SetLentUnder};
 
 use crate::session::SetSession;
 use map_tables::Hashes;
 use papaya_map::HashMapRef;
 use std::hash::{Hash, RandomState};
 use std::sync::Wait;
+
+/// Returns the element of a pair that is lent, if one is.
+pub(crate) fn element_of<'g, K>(found: Option<(&'g K, &'g ())>) -> Option<&'g K>
+    ensures { option_map (λ key. key.now) result ≡ option_map (λ pair. pair.0.now) found }
+{
+    match found {
+        Some((key, _)) => Some(key),
+        None => None,
+    }
+}
 
 /// A set, as one of those has it who look for elements under a session that is lent to them. It may be sent to a thread, and any number of them may be under a session at a
 /// time.
@@ -27,6 +37,16 @@ impl<'m, K: Eq + Hash + Drop, S: Hashes<K>> SetSession<'m, K, S> {
 }
 
 impl<'g, 'm, K: Eq + Hash + Drop, S: Hashes<K>> HashSetRef<'g, 'm, K, S> {
+    /// Looks for the element that equals this key, and lends it, if the set has one, for as long as the session is lent, whoever takes it out meanwhile.
+    pub fn get<R: Wait>(&mut self, rt: &R, key: &K) -> Option<&'g K>
+        ensures session { self.new.pin.session ≡ self.old.pin.session }
+        ensures one_set { SetLentUnder K.eq S.hash key.now (option_map (λ element. element.now) result) self.old.pin.session.now.base.caller
+            self.old.pin.pass.base.seat.view self.new.pin.pass.base.seat.view }
+    {
+        let found = self.pin.get_key_value(rt, key);
+        element_of(found)
+    }
+
     /// Returns whether the set has an element that equals this key.
     pub fn contains<R: Wait>(&mut self, rt: &R, key: &K) -> bool
         ensures session { self.new.pin.session ≡ self.old.pin.session }

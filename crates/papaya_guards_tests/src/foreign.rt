@@ -8,7 +8,7 @@ use std::test::Fail;
 type Hashing = BuildHasherDefault<DefaultHasher>;
 
 /// What lookups say to a guard and to a pass of another map: with the guard, with the pass, and by the pass under a session.
-fn looks<R: Wait>(rt: &R, alloc: Global) -> Result<[bool; 7], Fault> {
+fn looks<R: Wait>(rt: &R, alloc: Global) -> Result<[bool; 9], Fault> {
     let mut ids = IdSource::new();
     let own = HashMap::<u64, u64, Hashing>::with_hasher(alloc, &mut ids, Hashing::default())?;
     let other = HashMap::<u64, u64, Hashing>::with_hasher(alloc, &mut ids, Hashing::default())?;
@@ -36,14 +36,19 @@ fn looks<R: Wait>(rt: &R, alloc: Global) -> Result<[bool; 7], Fault> {
             Err(Fault::ForeignGuard)
         ),
         matches!(guard.get_by(rt, &1, &mut foreign), Err(Fault::ForeignGuard)),
+        matches!(
+            map.get_key_value(rt, &1, &strange, &mut pass),
+            Err(Fault::ForeignGuard)
+        ),
         matches!(map.get(rt, &1, &guard, &mut pass), Ok(None)),
+        matches!(map.get_key_value(rt, &1, &guard, &mut pass), Ok(None)),
         own_numbers && strange.number() == foreign.number() && foreign.number() != map.number(),
     ])
 }
 
 #[test]
 fn lookups_refuse_what_is_of_another_map(rt: HostRuntime) -> Result<(), Fail> {
-    assert_eq!(rt; looks(&rt, rt.alloc())?, [true; 7]);
+    assert_eq!(rt; looks(&rt, rt.alloc())?, [true; 9]);
     Ok(())
 }
 

@@ -104,7 +104,7 @@ fn replaces<R: Wait>(rt: &R, map: &Map<'_>) -> Result<(), Fault> {
     Ok(())
 }
 
-/// Looks two keys up by one pass, and says whether both values are theirs: the first one is read once the second one has been found, and a third was looked for.
+/// Looks two keys up by one pass, and says whether the pair of the one and the value of the other are theirs: the first one is read once the second one has been found, and a third was looked for.
 fn both_are_right<R: Wait>(
     rt: &R,
     guard: &Guard<'_>,
@@ -115,12 +115,12 @@ fn both_are_right<R: Wait>(
     ensures memory { pass.new.base.seat.base ≡ pass.old.base.seat.base }
 {
     let next = u64::wrapping_add(key, 1);
-    let one = guard.get_by(rt, &key, pass)?;
+    let one = guard.get_key_value_by(rt, &key, pass)?;
     let other = guard.get_by(rt, &next, pass)?;
     let none = guard.contains_key_by(rt, &KEYS, pass)?;
     match (one, other) {
-        (Some(one), Some(other)) => Ok(
-            *one % (1 << 32) == key && *other % (1 << 32) == next && !none,
+        (Some((first, one)), Some(other)) => Ok(
+            *first == key && *one % (1 << 32) == key && *other % (1 << 32) == next && !none,
         ),
         _ => Ok(false),
     }

@@ -1,7 +1,7 @@
 //! Passes and pins: by them threads look keys up under a session that they have by `&`, so that many may at a time.
 ghost use Rattle.std.specs.Prelude.{◌≡◌, ◌≢◌, [], IfOk, IfErr, option_map};
 ghost use Rattle.papaya_sessions.specs.Homes.{OneSource, home_of};
-ghost use Rattle.papaya_sessions.specs.Under.{HasGotUnder, HasSoughtUnder};
+ghost use Rattle.papaya_sessions.specs.Under.{HasGotPairUnder, HasGotUnder, HasSoughtUnder};
 ghost use Rattle.seize_words.specs.declared.fault.Fault.TheVariants.{ForeignGuard};
 
 use crate::session::Session;
@@ -39,6 +39,16 @@ impl<K: Eq + Hash + Drop, V: Drop, S: Hashes<K>> Pass<K, V, S> {
     }
 }
 
+/// Returns the value of a pair that is lent, if one is.
+fn value_of<'g, K, V>(found: Option<(&'g K, &'g V)>) -> Option<&'g V>
+    ensures { option_map (λ value. value.now) result ≡ option_map (λ pair. pair.1.now) found }
+{
+    match found {
+        Some((_, value)) => Some(value),
+        None => None,
+    }
+}
+
 /// A map, as one of those has it who look keys up under a session that is lent to them. What it has found is lent for as long as the session is, whatever the pin does then. It
 /// may be sent to a thread, and any number of them may be under a session at a time.
 #[derive(Drop)]
@@ -58,8 +68,29 @@ impl<'m, K: Eq + Hash + Drop, V: Drop, S: Hashes<K>> Session<'m, K, V, S> {
         Pass::of(&self.base, self.number)
     }
 
-    /// Looks a key up by a pass, and lends the value of its pair, if the map has one, for as long as the session is borrowed, whatever the pass does then, and whoever
-    /// replaces or removes the pair meanwhile. How many steps that takes is up to the others. A pass of another map is `Fault::ForeignGuard`, and it is as it was.
+    /// Looks a key up by a pass, and lends its pair, if the map has one, for as long as the session is borrowed, whatever the pass does then, and whoever replaces or
+    /// removes the pair meanwhile. How many steps that takes is up to the others. A pass of another map is `Fault::ForeignGuard`, and it is as it was.
+    pub fn get_key_value_by<'g, R: Wait>(
+        &'g self,
+        rt: &R,
+        key: &K,
+        pass: &mut Pass<K, V, S>,
+    ) -> Result<Option<(&'g K, &'g V)>, Fault>
+        requires source { OneSource pass.old.number pass.old.base.seat.base (home_of self.now.number self.now.base.caller) }
+        ensures memory { pass.new.base.seat.base ≡ pass.old.base.seat.base }
+        ensures number { pass.new.number ≡ pass.old.number }
+        ensures foreign { IfErr result (λ fault. (fault ≡ ForeignGuard) × (pass.old.number ≢ self.now.number) × (pass.new ≡ pass.old)) }
+        ensures own { IfOk result (λ _. pass.old.number ≡ self.now.number) }
+        ensures got { IfOk result (λ found. HasGotPairUnder K.eq S.hash key.now self.now.base.caller (option_map (λ pair. (pair.0.now, pair.1.now)) found)
+            pass.old.base.seat.view pass.new.base.seat.view) }
+    {
+        if pass.number() != self.number {
+            return Err(Fault::ForeignGuard);
+        }
+        Ok(self.base.find_by(rt, key, &mut pass.base))
+    }
+
+    /// Looks a key up as `get_key_value_by` does, and lends the value of its pair, if the map has one.
     pub fn get_by<'g, R: Wait>(
         &'g self,
         rt: &R,
@@ -74,10 +105,8 @@ impl<'m, K: Eq + Hash + Drop, V: Drop, S: Hashes<K>> Session<'m, K, V, S> {
         ensures got { IfOk result (λ found. HasGotUnder K.eq S.hash key.now self.now.base.caller (option_map (λ value. value.now) found)
             pass.old.base.seat.view pass.new.base.seat.view) }
     {
-        if pass.number() != self.number {
-            return Err(Fault::ForeignGuard);
-        }
-        Ok(self.base.find_by(rt, key, &mut pass.base))
+        let found = self.get_key_value_by(rt, key, pass)?;
+        Ok(value_of(found))
     }
 
     /// Returns whether the map has a pair of this key, by a pass. A pass of another map is `Fault::ForeignGuard`, and it is as it was.
@@ -94,7 +123,7 @@ impl<'m, K: Eq + Hash + Drop, V: Drop, S: Hashes<K>> Session<'m, K, V, S> {
         ensures own { IfOk result (λ _. pass.old.number ≡ self.now.number) }
         ensures sought { IfOk result (λ there. HasSoughtUnder K.eq S.hash key.now self.now.base.caller there pass.old.base.seat.view pass.new.base.seat.view) }
     {
-        let found = self.get_by(rt, key, pass)?;
+        let found = self.get_key_value_by(rt, key, pass)?;
         Ok(found.is_some())
     }
 
@@ -111,15 +140,25 @@ impl<'m, K: Eq + Hash + Drop, V: Drop, S: Hashes<K>> Session<'m, K, V, S> {
 }
 
 impl<'g, 'm, K: Eq + Hash + Drop, V: Drop, S: Hashes<K>> HashMapRef<'g, 'm, K, V, S> {
-    /// Looks a key up, and lends the value of its pair, if the map has one, for as long as the session is lent, whoever replaces or removes the pair meanwhile. How many steps
-    /// that takes is up to the others.
+    /// Looks a key up, and lends its pair, if the map has one, for as long as the session is lent, whoever replaces or removes the pair meanwhile. How many steps that takes
+    /// is up to the others.
+    pub fn get_key_value<R: Wait>(&mut self, rt: &R, key: &K) -> Option<(&'g K, &'g V)>
+        ensures session { self.new.session ≡ self.old.session }
+        ensures got { HasGotPairUnder K.eq S.hash key.now self.old.session.now.base.caller (option_map (λ pair. (pair.0.now, pair.1.now)) result)
+            self.old.pass.base.seat.view self.new.pass.base.seat.view }
+    {
+        let session = self.session;
+        session.base.find_by(rt, key, &mut self.pass.base)
+    }
+
+    /// Looks a key up as `get_key_value` does, and lends the value of its pair, if the map has one.
     pub fn get<R: Wait>(&mut self, rt: &R, key: &K) -> Option<&'g V>
         ensures session { self.new.session ≡ self.old.session }
         ensures got { HasGotUnder K.eq S.hash key.now self.old.session.now.base.caller (option_map (λ value. value.now) result)
             self.old.pass.base.seat.view self.new.pass.base.seat.view }
     {
-        let session = self.session;
-        session.base.find_by(rt, key, &mut self.pass.base)
+        let found = self.get_key_value(rt, key);
+        value_of(found)
     }
 
     /// Returns whether the map has a pair of this key.
@@ -127,7 +166,7 @@ impl<'g, 'm, K: Eq + Hash + Drop, V: Drop, S: Hashes<K>> HashMapRef<'g, 'm, K, V
         ensures session { self.new.session ≡ self.old.session }
         ensures sought { HasSoughtUnder K.eq S.hash key.now self.old.session.now.base.caller result self.old.pass.base.seat.view self.new.pass.base.seat.view }
     {
-        let found = self.get(rt, key);
+        let found = self.get_key_value(rt, key);
         found.is_some()
     }
 }

@@ -25,9 +25,12 @@ fn alone<R: Wait>(rt: &R, alloc: Global) -> Result<[bool; 7], Fault> {
     let removed = session.remove(rt, 42)?;
     let gone = !session.contains(rt, &42)
         && !session.remove(rt, 42)?
-        && !session.pin().contains(rt, &42);
+        && !session.pin().contains(rt, &42)
+        && session.pin().get(rt, &42).is_none();
     session.extend(rt, [42, 16, 38])?;
-    let all = session.contains(rt, &42) && session.contains(rt, &16) && session.contains(rt, &38);
+    let all = session.contains(rt, &42)
+        && session.contains(rt, &16)
+        && session.pin().get(rt, &38).copied() == Some(38);
     Ok([lacks, new, !again, has, removed, gone, all])
 }
 
@@ -88,7 +91,7 @@ fn what_two_threads_have_put_there_they_take_out_once(rt: HostRuntime) -> Result
 }
 
 /// Whether calls on a set refuse a guard and a pass of another one, and go with their own.
-fn foreign<R: Wait>(rt: &R, alloc: Global) -> Result<[bool; 6], Fault> {
+fn foreign<R: Wait>(rt: &R, alloc: Global) -> Result<[bool; 8], Fault> {
     let mut ids = IdSource::new();
     let own = HashSet::<u64, Hashing>::with_hasher(alloc, &mut ids, Hashing::default())?;
     let other = HashSet::<u64, Hashing>::with_hasher(alloc, &mut ids, Hashing::default())?;
@@ -114,12 +117,17 @@ fn foreign<R: Wait>(rt: &R, alloc: Global) -> Result<[bool; 6], Fault> {
             Err(Fault::ForeignGuard)
         ),
         matches!(set.contains(rt, &1, &guard, &mut pass), Ok(true)),
+        matches!(
+            set.get(rt, &1, &guard, &mut unknown),
+            Err(Fault::ForeignGuard)
+        ),
+        set.get(rt, &1, &guard, &mut pass)?.copied() == Some(1),
         set.remove(rt, 1, &mut guard)?,
     ])
 }
 
 #[test]
 fn calls_on_a_set_refuse_what_is_of_another_one(rt: HostRuntime) -> Result<(), Fail> {
-    assert_eq!(rt; foreign(&rt, rt.alloc())?, [true; 6]);
+    assert_eq!(rt; foreign(&rt, rt.alloc())?, [true; 8]);
     Ok(())
 }

@@ -1,6 +1,6 @@
 -- A seat leans on one that is within its section, looks a key up there, and comes back: that it may, and what that has come to.
 use Rattle.std.specs.Prelude.{List, Option, Some, None, IfSome, IfNone, ◌∷◌}
-use Rattle.std.proofs.Common.{◌≡◌, ℕ, Bool, sym, subst, ap, ◌∙◌}
+use Rattle.std.proofs.Common.{◌≡◌, ℕ, Bool, true, sym, subst, ap, ◌∙◌}
 use Rattle.threads_rule.specs.Views.Begun.{machine_for, shown_map}
 use Rattle.threads_rule.specs.Given.ActsActs.{Wanted, Get}
 use Rattle.papaya_raw.specs.declared.machines.progress.Progress.{Progress}
@@ -9,7 +9,10 @@ use Rattle.seize_seats.specs.Seats.State.{Learns}
 use Rattle.seize_views.specs.declared.view.Fixed.{Fixed}
 use Rattle.seize_views.specs.declared.view.SlotView.{SlotView}
 use Rattle.seize_views.specs.declared.view.SlotView.TheVariants.{Rests}
+use Rattle.seize_words.specs.OneMemory.Word.{block_in}
 use Rattle.map_tables.specs.declared.node.Node.{Node}
+use Rattle.map_tables.specs.declared.node.Node.TheVariants.{Pair}
+use Rattle.threads_rule.specs.Views.Looks.{shown_in}
 use Rattle.threads_rule.specs.Views.Notes.{SeatIsQuiescent}
 use Rattle.threads_rule.specs.Views.Promises.{LeaningsBegin}
 use Rattle.threads_rule.specs.Views.Rule.{Holds, KeepsFor, section_of, stand_of}
@@ -29,6 +32,17 @@ module _ {K V S : Type 0} (same : K → K → Bool) (hash : S → K → ℕ) (fi
       let inside = own_inside u may.slot lone may.inside in
       let g = law fixed i j may.slot v u back.rests back.lone back.free inside s h at_i at_j ne in
       (g.0, g.1, g.2, g.3, (may.slot, inside, g.4))
+
+-- the key of a pair
+abbrev key_in : {K V : Type 0} → K → Option (Node K V) → K
+key_in other (Some (Pair key value)) = key
+key_in other _ = other
+
+-- what is shown of a word that shows a pair of this key has a key that equals it
+equal_to : {K V S : Type 0} (same : K → K → Bool) (v : View K V S) (key : K) (word : ℕ) (pair : K × V) → HasLookedAt same key v word
+    → shown_in v.held (block_in word) ≡ Some (Pair pair.0 pair.1) → same key pair.0 ≡ true
+equal_to {K} {V} {S} same v key word pair shows is =
+    subst (λ (k : K). same key k ≡ true) (ap (λ (o : Option (Node K V)). key_in key o) (sym shows.3 ∙ is)) shows.2
 
 module _ {K V S : Type 0} (hash : S → K → ℕ) (key : K) (lookup : Lookup) (u v m : View K V S) (n : ℕ) (lone : u.under ≡ None) (may : MayLook hash key lookup u)
     (begins : BeginsUnder v n u m) where
@@ -67,8 +81,8 @@ module _ {K V S : Type 0} (hash : S → K → ℕ) (key : K) (lookup : Lookup) (
       knew_calls = sym (ap (λ (x : View K V S). x.calls) comes);
     }
 
-    -- and the value that it was lent then is that of the pair found
-    pub found_under : (fixed : Fixed) (i : ℕ) (found : Option ℕ) → HasFound same hash key found m f → {A : Type 0} (now : A → V) (answer : Option A)
+    -- and what it was lent then is the pair found
+    pub found_under : (fixed : Fixed) (i : ℕ) (found : Option ℕ) → HasFound same hash key found m f → {A : Type 0} (now : A → K × V) (answer : Option A)
         → IfSome answer (λ x. (word : ℕ) × (found ≡ Some word) × IsLentBy same hash fixed i f n u word (now x)) → IfNone answer (found ≡ None)
         → IfSome answer (λ x. HasFoundUnder same hash fixed key n u v w (now x)) × IfNone answer (HasRunUnder same hash (Get key) (found_of None) u v w)
     unfolding ran_under
@@ -79,7 +93,7 @@ module _ {K V S : Type 0} (hash : S → K → ℕ) (key : K) (lookup : Lookup) (
         word = lent.0;
         ran = ran_under (Get key) (found_of (Some lent.0)) has.stays (subst (λ (o : Option ℕ). HasRun same hash (Get key) (found_of o) m f) lent.1 has.ran);
         id = i;
-        shows = subst (λ (o : Option ℕ). IfSome o (HasLookedAt same key f)) lent.1 has.looked.shows;
+        equal = equal_to same f key lent.0 (now x) (subst (λ (o : Option ℕ). IfSome o (HasLookedAt same key f)) lent.1 has.looked.shows) lent.2.0;
         lent = lent.2;
       },
       tt,
@@ -115,7 +129,7 @@ module _ {K V S : Type 0} (same : K → K → Bool) (hash : S → K → ℕ) (fi
     knew_calls = ran.knew_calls;
   }
 
-  pub found_since : {A : Type 0} (now : A → V) (answer : Option A) → IfSome answer (λ x. HasFoundUnder same hash fixed key n u v w (now x))
+  pub found_since : {A : Type 0} (now : A → K × V) (answer : Option A) → IfSome answer (λ x. HasFoundUnder same hash fixed key n u v w (now x))
       → IfSome answer (λ x. HasFoundUnder same hash fixed key n u p w (now x))
   unfolding run_since
   found_since now None found = tt
@@ -123,7 +137,7 @@ module _ {K V S : Type 0} (same : K → K → Bool) (hash : S → K → ℕ) (fi
     word = found.word;
     ran = run_since (Get key) (found_of (Some found.word)) found.ran;
     id = found.id;
-    shows = found.shows;
+    equal = found.equal;
     lent = found.lent;
   }
 

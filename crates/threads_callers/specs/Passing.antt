@@ -1,5 +1,5 @@
--- A seat that looks keys up under another one, which is within its section: it leans on that one for as long as it looks, and is lent the value that it has found by what it knows then.
-use Rattle.std.specs.Prelude.{◌≡◌, ℕ, Bool, ◌∷◌, Some, None}
+-- A seat that looks keys up under another one, which is within its section: it leans on that one for as long as it looks, and is lent the pair that it has found by what it knows then.
+use Rattle.std.specs.Prelude.{◌≡◌, ℕ, Bool, true, ◌∷◌, Some, None}
 use Rattle.threads_rule.specs.Given.ActsActs.{Wanted, Get}
 use Rattle.papaya_raw.specs.declared.machines.progress.Progress.{Progress}
 use Rattle.seize_seats.specs.Seats.Lendings.{IsValueBy}
@@ -15,7 +15,7 @@ use Rattle.threads_rule.specs.Views.Rule.{Holds, section_of}
 use Rattle.threads_rule.specs.declared.view.Map.{Map}
 use Rattle.threads_rule.specs.declared.view.View.{View}
 use Rattle.threads_rule.specs.declared.view.SeatWork.TheVariants.{Nothing}
-use Rattle.threads_rule.specs.Errands.Looking.{HasLookedAt, found_of}
+use Rattle.threads_rule.specs.Errands.Looking.{found_of}
 
 module _ {K V S : Type 0} where
   -- it has nothing under way, holds no slot, and leans on nobody
@@ -46,15 +46,15 @@ module _ {K V S : Type 0} where
     pub knew_calls : knew.calls ≡ w.calls
 
 module _ {K V S : Type 0} (same : K → K → Bool) (hash : S → K → ℕ) (fixed : Fixed) where
-  -- it is the value that the one seat has looked at of the pair of this word, as it is in the memory while both know what they know
-  abbrev pub IsLentBy : ℕ → View K V S → ℕ → View K V S → ℕ → V → Type 0
-  IsLentBy i v n u word value =
-      (key : K) × (shown_in v.held (block_in word) ≡ Some (Pair key value)) × IsValueBy (Holds same hash fixed) i v n u n u (block_in word) (Pair key value)
+  -- it is the pair of this word at which the one seat has looked, as it is in the memory while both know what they know
+  abbrev pub IsLentBy : ℕ → View K V S → ℕ → View K V S → ℕ → K × V → Type 0
+  IsLentBy i v n u word pair =
+      (shown_in v.held (block_in word) ≡ Some (Pair pair.0 pair.1)) × IsValueBy (Holds same hash fixed) i v n u n u (block_in word) (Pair pair.0 pair.1)
 
-  -- A seat has run a call under that one which has looked this key up, and the value of the pair found was lent by what it knew then, when the call had ended.
-  pub record HasFoundUnder (key : K) (n : ℕ) (u v w : View K V S) (value : V) : Type 0 where
+  -- A seat has run a call under that one which has looked this key up, and the pair found, whose key equals it, was lent by what it knew then, when the call had ended.
+  pub record HasFoundUnder (key : K) (n : ℕ) (u v w : View K V S) (pair : K × V) : Type 0 where
     pub word : ℕ
     pub ran : HasRunUnder same hash (Get key) (found_of (Some word)) u v w
     pub id : ℕ
-    pub shows : HasLookedAt same key ran.knew word
-    pub lent : IsLentBy id ran.knew n u word value
+    pub equal : same key pair.0 ≡ true
+    pub lent : IsLentBy id ran.knew n u word pair

@@ -59,7 +59,7 @@ fn replaces<R: Wait>(rt: &R, resting: Resting<'_>) -> bool {
     replaced
 }
 
-/// Looks two keys up by one pass, and says whether both values are theirs: the first one is read once the second one has been found.
+/// Looks two keys up by one pass, and says whether both pairs are theirs: the first one is read once the second one has been found.
 fn reads<R: Wait>(
     rt: &R,
     session: &SessionBase<'_, u64, u64, Hashing>,
@@ -74,7 +74,12 @@ fn reads<R: Wait>(
     let one = session.find_by(rt, &key, pass);
     let other = session.find_by(rt, &next, pass);
     match (one, other) {
-        (Some(one), Some(other)) => *one % (1 << 32) == key && *other % (1 << 32) == next,
+        (Some((first, one)), Some((second, other))) => {
+            *first == key
+                && *one % (1 << 32) == key
+                && *second == next
+                && *other % (1 << 32) == next
+        }
         _ => false,
     }
 }

@@ -1,12 +1,13 @@
 //! Calls on a set with a guard, which is a session of it.
-ghost use Rattle.std.specs.Prelude.{◌≡◌, ◌≢◌, ◌⊎◌, IfOk, IfErr};
-ghost use Rattle.papaya.specs.OneSet.{SetCameToHave, SetGaveUp, SetHadUnder};
+ghost use Rattle.std.specs.Prelude.{◌≡◌, ◌≢◌, ◌⊎◌, IfOk, IfErr, option_map};
+ghost use Rattle.papaya.specs.OneSet.{SetCameToHave, SetGaveUp, SetHadUnder, SetLentUnder};
 ghost use Rattle.papaya_map.specs.Given.SessionsHomes.{OneMap, OneSource, home_at, home_of};
 ghost use Rattle.papaya_map.specs.Given.SessionsOneMap.{WasRefused};
 ghost use Rattle.papaya_map.specs.Given.SessionsKept.{KeepsMap};
 ghost use Rattle.papaya_map.specs.Given.ActsActs.{Insert, Remove};
 ghost use Rattle.seize_words.specs.declared.fault.Fault.TheVariants.{ForeignGuard};
 
+use crate::pin::element_of;
 use crate::session::SetSession;
 use crate::shared::SharedSet;
 use map_tables::Hashes;
@@ -16,6 +17,30 @@ use std::hash::Hash;
 use std::sync::Wait;
 
 impl<'m, K: Eq + Hash + Drop, S: Hashes<K>> SharedSet<'m, K, S> {
+    /// Looks for the element that equals this key within the section of the guard, by a pass, and lends it, if the set has one, for as long as the guard is borrowed,
+    /// whatever the pass does then. A guard or a pass of another set is `Fault::ForeignGuard`; then the pass is as it was.
+    pub fn get<'g, R: Wait>(
+        &self,
+        rt: &R,
+        key: &K,
+        guard: &'g SetSession<'_, K, S>,
+        pass: &mut Pass<K, (), S>,
+    ) -> Result<Option<&'g K>, Fault>
+        requires one_map { OneMap (home_of guard.now.session.number guard.now.session.base.caller)
+            (home_at self.now.map.number self.now.map.blocks.now.words.id.views_name self.now.map.seat.now.view.map) }
+        requires source { OneSource pass.old.number pass.old.base.seat.base
+            (home_at self.now.map.number self.now.map.blocks.now.words.id.views_name self.now.map.seat.now.view.map) }
+        ensures memory { pass.new.base.seat.base ≡ pass.old.base.seat.base }
+        ensures number { pass.new.number ≡ pass.old.number }
+        ensures foreign { IfErr result (λ fault. (fault ≡ ForeignGuard) × ((guard.now.session.number ≢ self.now.map.number) ⊎ (pass.old.number ≢ self.now.map.number)) × (pass.new ≡ pass.old)) }
+        ensures own { IfOk result (λ _. (guard.now.session.number ≡ self.now.map.number) × (pass.old.number ≡ self.now.map.number)) }
+        ensures one_set { IfOk result (λ found. SetLentUnder K.eq S.hash key.now (option_map (λ element. element.now) found) guard.now.session.base.caller
+            pass.old.base.seat.view pass.new.base.seat.view) }
+    {
+        let found = self.map.get_key_value(rt, key, guard.session(), pass)?;
+        Ok(element_of(found))
+    }
+
     /// Returns whether the set has an element that equals this key, looked for within the section of the guard, by a pass. A guard or a pass of another set is
     /// `Fault::ForeignGuard`; then the pass is as it was.
     pub fn contains<R: Wait>(

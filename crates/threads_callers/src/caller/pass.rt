@@ -71,42 +71,42 @@ fn pair_by<'g, K: Eq, V, S: Hashes<K>>(
     blocks.value_by(seat, guard, guard, block)
 }
 
-/// Returns the value of the pair of this word, which a seat shows while it leans on the guard's.
-fn value_by<'g, K: Eq, V, S: Hashes<K>>(
+/// Returns the pair of this word, which a seat shows while it leans on the guard's: its key and its value.
+fn parts_by<'g, K: Eq, V, S: Hashes<K>>(
     blocks: &'g Blocks<Node<K, V>, OfMaps<S>>,
     seat: &Seat<Node<K, V>, OfMaps<S>>,
     guard: &'g Seat<Node<K, V>, OfMaps<S>>,
     word: u64,
-) -> &'g V
+) -> (&'g K, &'g V)
     requires own { (seat.now.base ≡ blocks.now.words.id.views_name) × (guard.now.base ≡ blocks.now.words.id.views_name) }
     requires under { (t : ℕ) × (seat.now.view.under ≡ Some (guard.now.id, t)) }
     requires free { seat.now.view.work ≡ NoWork }
     requires shown { (key : K) × HasLookedAt K.eq key seat.now.view word }
-    ensures { IsLentBy K.eq S.hash blocks.now.words.fixed seat.now.id seat.now.view guard.now.id guard.now.view word result.now }
+    ensures { IsLentBy K.eq S.hash blocks.now.words.fixed seat.now.id seat.now.view guard.now.id guard.now.view word (result.0.now, result.1.now) }
 {
     match pair_by(blocks, seat, guard, Link::block_of(word)) {
-        Node::Pair(_, value) => value,
+        Node::Pair(key, value) => (key, value),
         Node::Table { .. } | Node::Shards => unreachable!(),
     }
 }
 
-/// Returns the value of the pair that a seat has found of this key while it leans on the guard's, if it has found one.
+/// Returns the pair that a seat has found of this key while it leans on the guard's, if it has found one.
 fn lent<'g, K: Eq, V, S: Hashes<K>>(
     blocks: &'g Blocks<Node<K, V>, OfMaps<S>>,
     seat: &Seat<Node<K, V>, OfMaps<S>>,
     guard: &'g Seat<Node<K, V>, OfMaps<S>>,
     _key: &K,
     found: Option<u64>,
-) -> Option<&'g V>
+) -> Option<(&'g K, &'g V)>
     requires own { (seat.now.base ≡ blocks.now.words.id.views_name) × (guard.now.base ≡ blocks.now.words.id.views_name) }
     requires under { (t : ℕ) × (seat.now.view.under ≡ Some (guard.now.id, t)) }
     requires looked { HasLooked K.eq _key.now found seat.now.view }
-    ensures lent { IfSome result (λ value. (word : ℕ) × (found ≡ Some word)
-        × IsLentBy K.eq S.hash blocks.now.words.fixed seat.now.id seat.now.view guard.now.id guard.now.view word value.now) }
+    ensures lent { IfSome result (λ pair. (word : ℕ) × (found ≡ Some word)
+        × IsLentBy K.eq S.hash blocks.now.words.fixed seat.now.id seat.now.view guard.now.id guard.now.view word (pair.0.now, pair.1.now)) }
     ensures none { IfNone result (found ≡ None) }
 {
     let word = found?;
-    Some(value_by(blocks, seat, guard, word))
+    Some(parts_by(blocks, seat, guard, word))
 }
 
 /// Looks a key up, by this lookup, under the guard's seat, which is within its section. It answers that seat, too: by that it is known that keys and hashers last as long as
@@ -121,20 +121,20 @@ struct FindsBy<'g, 'f, R, K: Eq, V, S: Hashes<K>> {
 
 impl<'g, 'f, R: Wait, K: Eq + Hash, V, S: Hashes<K>> ErrandWith<Node<K, V>, OfMaps<S>>
     for FindsBy<'g, 'f, R, K, V, S> {
-    type Answer = (Option<&'g V>, &'g Seat<Node<K, V>, OfMaps<S>>);
+    type Answer = (Option<(&'g K, &'g V)>, &'g Seat<Node<K, V>, OfMaps<S>>);
 
     ghost asks = { λ f name fixed lent u v. (f.blocks.now.words.id.views_name ≡ name) × (f.blocks.now.words.fixed ≡ fixed) × (f.guard.now.base ≡ name)
         × (f.guard.now.id ≡ lent) × (f.guard.now.view.under ≡ None) × (f.guard.now.view.map ≡ v.map) × MayLook S.hash f.key.now f.lookup f.guard.now.view × IsBack v };
 
     ghost did = { λ f fixed v answer w. IsBack w
-        × IfSome answer.0 (λ value. HasFoundUnder K.eq S.hash fixed f.key.now f.guard.now.id f.guard.now.view v w value.now)
+        × IfSome answer.0 (λ pair. HasFoundUnder K.eq S.hash fixed f.key.now f.guard.now.id f.guard.now.view v w (pair.0.now, pair.1.now))
         × IfNone answer.0 (HasRunUnder K.eq S.hash (Get f.key.now) (found_of None) f.guard.now.view v w) };
 
     fn run(
         self,
         blocks: &Blocks<Node<K, V>, OfMaps<S>>,
         seat: &mut Seat<Node<K, V>, OfMaps<S>>,
-    ) -> (Option<&'g V>, &'g Seat<Node<K, V>, OfMaps<S>>) {
+    ) -> (Option<(&'g K, &'g V)>, &'g Seat<Node<K, V>, OfMaps<S>>) {
         let FindsBy {
             rt,
             key,
@@ -145,9 +145,9 @@ impl<'g, 'f, R: Wait, K: Eq + Hash, V, S: Hashes<K>> ErrandWith<Node<K, V>, OfMa
         leanings_begin::<K, V, S>();
         blocks.learn::<Resorting>(seat, guard);
         let found = Finds { rt, key, lookup }.run(blocks, seat);
-        let value = lent(lends, seat, guard, key, found);
+        let pair = lent(lends, seat, guard, key, found);
         blocks.turn::<MapReturning>(seat);
-        (value, guard)
+        (pair, guard)
     }
 }
 
@@ -159,7 +159,7 @@ fn sends<'g, R: Wait, K: Eq + Hash, V, S: Hashes<K>>(
     rt: &R,
     lookup: Lookup,
     key: &K,
-) -> Option<&'g V>
+) -> Option<(&'g K, &'g V)>
     requires own { (seat.old.base ≡ blocks.now.words.id.views_name) × (guard.now.base ≡ blocks.now.words.id.views_name) }
     requires home { seat.old.away ≡ None }
     requires lone { guard.now.view.under ≡ None }
@@ -169,7 +169,7 @@ fn sends<'g, R: Wait, K: Eq + Hash, V, S: Hashes<K>>(
     ensures same { seat.new.base ≡ seat.old.base }
     ensures home { seat.new.away ≡ None }
     ensures back { IsBack seat.new.view }
-    ensures found { IfSome result (λ value. HasFoundUnder K.eq S.hash blocks.now.words.fixed key.now guard.now.id guard.now.view seat.old.view seat.new.view value.now) }
+    ensures found { IfSome result (λ pair. HasFoundUnder K.eq S.hash blocks.now.words.fixed key.now guard.now.id guard.now.view seat.old.view seat.new.view (pair.0.now, pair.1.now)) }
     ensures absent { IfNone result (HasRunUnder K.eq S.hash (Get key.now) (found_of None) guard.now.view seat.old.view seat.new.view) }
 {
     let errand = FindsBy {
@@ -194,7 +194,7 @@ impl<'a, K: Eq, V, S: Hashes<K>> MapCaller<'a, K, V, S> {
 }
 
 impl<'a, K: Eq + Hash, V, S: Hashes<K>> MapCaller<'a, K, V, S> {
-    /// Returns a pass looks this key up within its section, by this lookup, in the map that it knows: the value of the pair found is lent for as long as the
+    /// Looks this key up by a pass, within its section, by this lookup, in the map that it knows, and returns the pair found: it is lent for as long as the
     /// caller is borrowed, whatever the pass does then. How many steps it takes is up to the others.
     pub fn finds_by<'g, R: Wait>(
         &'g self,
@@ -202,12 +202,12 @@ impl<'a, K: Eq + Hash, V, S: Hashes<K>> MapCaller<'a, K, V, S> {
         lookup: Lookup,
         key: &K,
         pass: &mut MapPassSeat<K, V, S>,
-    ) -> Option<&'g V>
+    ) -> Option<(&'g K, &'g V)>
         requires own { pass.old.seat.base ≡ self.now.blocks.now.words.id.views_name }
         requires may { MayLook S.hash key.now lookup self.now.seat.view }
         ensures own { pass.new.seat.base ≡ pass.old.seat.base }
-        ensures found { IfSome result (λ value. HasFoundUnder K.eq S.hash self.now.blocks.now.words.fixed key.now self.now.seat.id self.now.seat.view
-            pass.old.seat.view pass.new.seat.view value.now) }
+        ensures found { IfSome result (λ pair. HasFoundUnder K.eq S.hash self.now.blocks.now.words.fixed key.now self.now.seat.id self.now.seat.view
+            pass.old.seat.view pass.new.seat.view (pair.0.now, pair.1.now)) }
         ensures absent { IfNone result (HasRunUnder K.eq S.hash (Get key.now) (found_of None) self.now.seat.view pass.old.seat.view pass.new.seat.view) }
     {
         let guard = &self.seat;

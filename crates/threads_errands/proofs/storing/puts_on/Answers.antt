@@ -14,9 +14,9 @@ use Rattle.threads_rule.proofs.Errands.Runs.{same_pair}
 use Rattle.threads_errands.proofs.storing.puts_on.Goals as goal
 
 pub puts-requires-clause-ahead : goal.puts-requires-clause-ahead
-puts-requires-clause-ahead g c = let o = c.own_of.result in let v = c.args.seat.now.view in
+puts-requires-clause-ahead g c = let o = c.own_of-hash.result in let v = c.args.seat.now.view in
     ahead_here g.K.PartialEq.eq g.S.Hashes.hash c.args.hasher.now (storing o.0 o.1 o.2 o.3 untried at.Roots) v
-    (subst (λ (m : Machine g.row.K.Denot g.row.V.Denot g.row.K.Denot). IsCalling c.args.hasher.now m v) c.own_of.ensures c.requires.calls)
+    (subst (λ (m : Machine g.row.K.Denot g.row.V.Denot g.row.K.Denot). IsCalling c.args.hasher.now m v) c.own_of-hash.ensures c.requires.calls)
 
 -- straight code has gone all the way
 pub returns-in-Answered-clause-ended : goal.returns-in-Answered-clause-ended
@@ -28,11 +28,11 @@ returns-in-Answered-clause-stays g c = c.in-Answered.ensures.stored.1
 pub returns-in-Answered-clause-back : goal.returns-in-Answered-clause-back
 returns-in-Answered-clause-back g c = λ pair since its.
     c.in-Answered.ensures.stored.2 pair
-    (subst (λ (m : Machine g.row.K.Denot g.row.V.Denot g.row.K.Denot). Since g.K.PartialEq.eq (g.S.Hashes.hash c.args.hasher.now) pair m None) c.own_of.ensures since)
+    (subst (λ (m : Machine g.row.K.Denot g.row.V.Denot g.row.K.Denot). Since g.K.PartialEq.eq (g.S.Hashes.hash c.args.hasher.now) pair m None) c.own_of-hash.ensures since)
 
 pub returns-in-Answered-clause-fits : goal.returns-in-Answered-clause-fits
 returns-in-Answered-clause-fits g c =
-    subst (λ (m : Machine g.row.K.Denot g.row.V.Denot g.row.K.Denot). IfOk (Ok (OfKey c.in-Answered.answer)) (IsAnswerBy m)) (sym c.own_of.ensures) tt
+    subst (λ (m : Machine g.row.K.Denot g.row.V.Denot g.row.K.Denot). IfOk (Ok (OfKey c.in-Answered.answer)) (IsAnswerBy m)) (sym c.own_of-hash.ensures) tt
 
 -- or the rest by steps
 pub goes_on-requires-clause-ahead : goal.goes_on-requires-clause-ahead
@@ -49,11 +49,11 @@ returns-in-Stands-clause-stays g c = let s = c.in-Stands.ensures.stored in
 pub returns-in-Stands-clause-back : goal.returns-in-Stands-clause-back
 returns-in-Stands-clause-back g c = λ pair since its. let s = c.in-Stands.ensures.stored in
     c.goes_on.ensures.back pair
-    (s.3 pair (subst (λ (m : Machine g.row.K.Denot g.row.V.Denot g.row.K.Denot). Since g.K.PartialEq.eq (g.S.Hashes.hash c.args.hasher.now) pair m None) c.own_of.ensures since))
+    (s.3 pair (subst (λ (m : Machine g.row.K.Denot g.row.V.Denot g.row.K.Denot). Since g.K.PartialEq.eq (g.S.Hashes.hash c.args.hasher.now) pair m None) c.own_of-hash.ensures since))
     (same_pair c.args.seat.now.view c.puts.new.seat.view s.2 ∙ its)
 
 pub returns-in-Stands-clause-fits : goal.returns-in-Stands-clause-fits
-returns-in-Stands-clause-fits g c = subst (λ (m : Machine g.row.K.Denot g.row.V.Denot g.row.K.Denot). IfOk c.goes_on.result.told (IsAnswerBy m)) (sym c.own_of.ensures) c.goes_on.ensures.fits
+returns-in-Stands-clause-fits g c = subst (λ (m : Machine g.row.K.Denot g.row.V.Denot g.row.K.Denot). IfOk c.goes_on.result.told (IsAnswerBy m)) (sym c.own_of-hash.ensures) c.goes_on.ensures.fits
 
 pub returns-in-Stands-clause-same : goal.returns-in-Stands-clause-same
 returns-in-Stands-clause-same g c = let r = c.goes_on.ensures.same in let s = c.in-Stands.ensures.same in (r.0 ∙ s.0, r.1 ∙ s.1, r.2 ∙ s.2)

@@ -1,10 +1,8 @@
-use Rattle.std.proofs.Common.{Bool, sym, subst}
-use Rattle.papaya_sessions.proofs.Under.{sought_of}
-use Rattle.papaya_sessions.specs.Under.{HasSoughtUnder}
+use Rattle.papaya_sessions.proofs.Under.{sought}
 use Rattle.papaya_sessions.proofs.pass.HashMapRef.contains_key.Goals as goal
 
 pub returns-clause-sought : goal.returns-clause-sought
 returns-clause-sought g c =
-    let x = c.args.self.now in let y = c.get-found in
-    subst (λ (there : Bool). HasSoughtUnder g.K.PartialEq.eq g.S.Hashes.hash c.args.key.now x.session.now.base.caller there x.pass.base.seat.view y.new.self.pass.base.seat.view) (sym c.is_some.ensures)
-    (sought_of g.K.PartialEq.eq g.S.Hashes.hash c.args.key.now x.session.now.base.caller x.pass.base.seat.view y.new.self.pass.base.seat.view (λ value. value.now) y.result y.ensures.got)
+    let x = c.args.self.now in let y = c.get_key_value-found in
+    sought g.K.PartialEq.eq g.S.Hashes.hash c.args.key.now x.session.now.base.caller x.pass.base.seat.view y.new.self.pass.base.seat.view (λ pair. (pair.0.now, pair.1.now)) y.result c.is_some.result
+    c.is_some.ensures y.ensures.got

@@ -3,8 +3,8 @@ use Rattle.std.proofs.Common.{subst}
 use Rattle.threads_rule.specs.Errands.Looking.{HasLookedAt}
 use Rattle.threads_callers.proofs.caller.pass.lent.Goals as goal
 
-pub value_by-requires : goal.value_by-requires
-value_by-requires g c = record {
+pub parts_by-requires : goal.parts_by-requires
+parts_by-requires g c = record {
   own = c.requires.own;
   under = c.requires.under;
   free = c.requires.looked.free;

@@ -5,8 +5,8 @@ use Rattle.seize_callers.proofs.Keeping.{kept_same}
 use Rattle.threads_errands.proofs.errands.DoesErrandNodeOfMaps.run.Goals as goal
 
 -- a call that is to store a pair goes by straight code
-pub stores-requires : goal.stores-requires
-stores-requires g c = record { own = c.requires.0; away = c.requires.1; may = c.requires.2; stores = sym c.is_to_store.ensures ∙ c.if-is_to_store.true }
+pub stores-requires-clause-stores : goal.stores-requires-clause-stores
+stores-requires-clause-stores g c = sym c.is_to_store.ensures ∙ c.if-is_to_store.true
 
 pub returns-then-is_to_store : goal.returns-then-is_to_store
 returns-then-is_to_store g c = let e = c.stores.ensures in (e.same.0, e.same.1, e.same.2, (e.called, e.fits))

@@ -35,8 +35,8 @@ run-found-requires g c =
       may_look_under g.S.Hashes.hash c.args.self.key.now c.args.self.lookup k.view s.view c.learn.new.seat.view k.id asks.4 asks.6 c.learn.ensures.goes asks.7 asks.5,
     )
 
-pub lent-value-requires : goal.lent-value-requires
-lent-value-requires g c =
+pub lent-pair-requires : goal.lent-pair-requires
+lent-pair-requires g c =
     let asks = c.requires.1.3 in let k = c.args.self.guard.now in let s = c.args.seat.now in let has = c.run-found.ensures.3 in record {
       own = (c.run-found.ensures.0 ∙ c.learn.ensures.same.0 ∙ sym asks.0, asks.2 ∙ sym asks.0);
       under = (
@@ -69,9 +69,9 @@ returns g c =
     let asks = c.requires.1.3 in let k = c.args.self.guard.now in let s = c.args.seat.now in let n = c.run-found.new.seat in let has = c.run-found.ensures.3 in
     let found =
     found_under g.S.Hashes.hash c.args.self.key.now c.args.self.lookup k.view s.view c.learn.new.seat.view k.id asks.4 asks.6 c.learn.ensures.goes g.K.PartialEq.eq asks.5
-    n.view c.turn.new.seat.view c.turn.ensures.goes c.args.blocks.now.words.fixed n.id c.run-found.result has (λ value. value.now) c.lent-value.result
-    (subst (λ (f : Fixed). IfSome c.lent-value.result (λ value. (word : ℕ) × (c.run-found.result ≡ Some word) × IsLentBy g.K.PartialEq.eq g.S.Hashes.hash f n.id n.view k.id k.view word value.now)) asks.1
-    c.lent-value.ensures.lent) c.lent-value.ensures.none in (
+    n.view c.turn.new.seat.view c.turn.ensures.goes c.args.blocks.now.words.fixed n.id c.run-found.result has (λ pair. (pair.0.now, pair.1.now)) c.lent-pair.result
+    (subst (λ (f : Fixed). IfSome c.lent-pair.result (λ pair. (word : ℕ) × (c.run-found.result ≡ Some word) × IsLentBy g.K.PartialEq.eq g.S.Hashes.hash f n.id n.view k.id k.view word (pair.0.now, pair.1.now))) asks.1
+    c.lent-pair.ensures.lent) c.lent-pair.ensures.none in (
       c.turn.ensures.same.0 ∙ c.run-found.ensures.0 ∙ c.learn.ensures.same.0,
       c.turn.ensures.same.1 ∙ c.run-found.ensures.1 ∙ c.learn.ensures.same.1,
       c.turn.ensures.errand ∙ c.run-found.ensures.2 ∙ c.learn.ensures.errand,

@@ -5,7 +5,7 @@ use Rattle.seize_seats.specs.Seats.Lendings.{IsValueBy}
 use Rattle.map_tables.specs.declared.node.Node.{Node}
 use Rattle.threads_rule.specs.Views.Looks.{shown_in}
 use Rattle.threads_rule.specs.Views.Rule.{Holds}
-use Rattle.threads_callers.proofs.caller.pass.value_by.Goals as goal
+use Rattle.threads_callers.proofs.caller.pass.parts_by.Goals as goal
 
 pub pair_by-requires : goal.pair_by-requires
 pair_by-requires g c = record {
@@ -18,7 +18,6 @@ pair_by-requires g c = record {
 pub returns : goal.returns
 returns g c =
     let s = c.args.seat.now in let k = c.args.guard.now in (
-      c.in-Pair.field-0,
       subst (λ (b : ℕ). shown_in s.view.held b ≡ Some c.pair_by.result.now) c.block_of.ensures c.pair_by.ensures.shown ∙ ap Some c.in-Pair.is,
       subst (λ (n : Node g.row.K.Denot g.row.V.Denot). IsValueBy (Holds g.K.PartialEq.eq g.S.Hashes.hash c.args.blocks.now.words.fixed) s.id s.view k.id k.view k.id k.view (block_in c.args.word) n)
           c.in-Pair.is

@@ -1,0 +1,25 @@
+-- The element of a pair that a map's lookup has lent.
+use Rattle.std.specs.Prelude.{Option, Some, None, Result, Ok, IfOk, option_map}
+use Rattle.std.proofs.Common.{◌≡◌, ◌∙◌, ℕ, Bool, refl, subst}
+use Rattle.papaya.specs.OneSet.{SetLentUnder}
+use Rattle.papaya_map.specs.Given.SessionsUnder.{HasGotPairUnder}
+use Rattle.papaya_map.specs.Given.ViewsDeclared.view.View.{View}
+use Rattle.seize_words.specs.declared.fault.Fault.{Fault}
+use Rattle.threads_calls.specs.Given.CallersDeclared.caller.MapCaller.{MapCaller}
+
+-- what is looked at through a look is the key of that, if there is one
+keys : {A K V : Type 0} (now : A → K × V) (answer : Option A) → option_map (λ a. (now a).0) answer ≡ option_map (λ p. p.0) (option_map now answer)
+keys now None = refl
+keys now (Some a) = refl
+
+module _ {K S : Type 0} (same : K → K → Bool) (hash : S → K → ℕ) (key : K) (c : MapCaller K (Unit {0}) S) (v w : View K (Unit {0}) S) where
+  -- the element of what was found,
+  pub lent : {A : Type 0} (now : A → K × Unit {0}) (answer : Option A) (element : Option K) → element ≡ option_map (λ a. (now a).0) answer
+      → HasGotPairUnder same hash key c (option_map now answer) v w → SetLentUnder same hash key element c v w
+  lent now answer element so got = (option_map now answer, so ∙ keys now answer, got)
+
+  -- where the pass is one of this set
+  pub lent_then : {A : Type 0} (now : A → K × Unit {0}) (told : Result (Option A) Fault) (answer : Option A) (element : Option K) → told ≡ Ok answer
+      → element ≡ option_map (λ a. (now a).0) answer → IfOk told (λ a. HasGotPairUnder same hash key c (option_map now a) v w) → SetLentUnder same hash key element c v w
+  lent_then {A} now told answer element was so got =
+      lent now answer element so (subst (λ (t : Result (Option A) Fault). IfOk t (λ a. HasGotPairUnder same hash key c (option_map now a) v w)) was got)
