@@ -53,7 +53,7 @@ module _ {K V S : Type 0} (same : K → K → Bool) (hash : S → K → ℕ) (ha
   }
 
   module _ (setting : Setting) (hashed : ℕ) (present : There) (own : ℕ) where
-    abbrev from : KeyCall K V K
+    abbrev pub from : KeyCall K V K
     from = storing setting hashed present own untried at.Roots
 
     pub has_put : (end : Stored) (m n : Ahead K V S) → CallReaches same same (hash hasher) (HasGone same hash) shown_ahead from m n (stored_at setting hashed present own end)

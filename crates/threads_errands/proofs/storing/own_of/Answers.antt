@@ -10,4 +10,4 @@ pub returns : goal.returns
 returns g c =
     c.in-Key.is
     ∙ ap (λ (k : KeyCall g.row.K.Denot g.row.V.Denot g.row.K.Denot). Key k)
-    (own_fields c.in-Key.call.now (subst (λ (m : Machine g.row.K.Denot g.row.V.Denot g.row.K.Denot). IsToPut m) c.in-Key.is c.requires))
+    (own_fields c.in-Key.call (subst (λ (m : Machine g.row.K.Denot g.row.V.Denot g.row.K.Denot). IsToPut m) c.in-Key.is c.requires))
