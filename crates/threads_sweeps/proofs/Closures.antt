@@ -1,21 +1,29 @@
 -- What follows with the closure on what a step of a sweep tells, by what that is.
 use Rattle.std.specs.Prelude.{Some, None, Result, Ok, Err}
-use Rattle.std.specs.Fn.{Mut}
-use Rattle.std.proofs.Common.{◌≡◌, Bool, refl, sym, subst}
+use Rattle.std.specs.Fn.{Called, Mut}
+use Rattle.std.proofs.Common.{◌≡◌, ℕ, Bool, refl, sym, subst}
 use denote.Ref.{Bor}
+use Rattle.seize_words.specs.OneMemory.Word.{block_in}
 use Rattle.seize_words.specs.declared.fault.Fault.{Fault}
 use Rattle.map_tables.specs.declared.node.Node.{Node}
+use Rattle.map_tables.specs.declared.node.Node.TheVariants.{Pair}
 use Rattle.papaya_raw.specs.Given.ReservesDeclared.sweep.Purpose.TheVariants.{Retains, Walks}
 use Rattle.papaya_raw.specs.declared.machines.machine.Machine.{Machine}
 use Rattle.papaya_raw.specs.declared.machines.progress.Answer.TheVariants as said
 use Rattle.papaya_raw.specs.declared.machines.progress.Progress.{Progress}
 use Rattle.papaya_raw.specs.declared.machines.progress.Progress.TheVariants as progress
+use Rattle.threads_rule.specs.Views.Looks.{shown_in}
 use Rattle.threads_rule.specs.declared.view.View.{View}
 use Rattle.threads_rule.specs.declared.view.SeatWork.TheVariants.{Nothing}
 use Rattle.threads_rule.specs.Errands.Calling.{IsGoing, IsNoQuestion, outcome_of}
 use Rattle.threads_rule.specs.Errands.Sweeping.{IsSweeping, RetainedSo, WalkedSo, swept_by}
-use Rattle.threads_sweeps.specs.Closures.{HeedsSo, ShowsSo}
+use Rattle.threads_sweeps.specs.Closures.{HeedsSo, ShowsSo, WasCalledWith}
 use Rattle.threads_sweeps.specs.Heard.{IsOfSweep}
+
+-- the closure was called with what the seat shows
+pub called_with : {F A K V S : Type 0} (g : Mut F (Bor K × (Bor V × Unit {0})) A) (word : ℕ) (v : View K V S) (f : F) (p : Bor K) (q : Bor V) (answer : A) (next : F) → Called g f (p, (q, tt)) answer next
+    → shown_in v.held (block_in word) ≡ Some (Pair p.now q.now) → WasCalledWith g word v f answer next
+called_with g word v f p q answer next called shown = record { key = p; value = q; shown = shown; called = called }
 
 module _ {T : Type 0} (P : Progress T → Type 0) where
   -- what is so of each step that goes on, and asks nothing,

@@ -29,7 +29,7 @@ loop-init g c = (
   refl,
   λ told. refl,
   c.requires.callable,
-  (0, refl, refl),
+  (0, (refl, refl)),
 )
 
 pub hears-heard-requires : goal.hears-heard-requires
@@ -43,7 +43,7 @@ returns-in-Some-tells_asked-clause-gone g c =
     let u = c.args.within.now.seat.now.view in let b = c.begins.new.self.seat.now.view in let v = c.loop.within.seat.now.view in let w = c.retains-told.new.self.seat.now.view in
     let end = c.in-Some-tells_asked.end in let ended = c.in-Some-tells_asked.ensures.ended in
     let told = subst (λ (h : Heard). IsHeard c.retains-told.result h) ended.0 c.hears-heard.ensures in
-    subst (λ (x : View g.row.K.Denot g.row.V.Denot g.row.S.Denot). HasGoneOver g.K.PartialEq.eq g.S.Hashes.hash Retains end u x) (sym ended.1)
+    subst (λ (x : View g.row.K.Denot g.row.V.Denot g.row.S.Denot). HasGoneOver g.K.PartialEq.eq g.S.Hashes.hash Retains end u x) (sym {A = View g.row.K.Denot g.row.V.Denot g.row.S.Denot} ended.1)
     (gone_over g.K.PartialEq.eq g.S.Hashes.hash Retains c.args.machine.now c.requires.may.setting u b v w end c.requires.may.is c.begins.ensures.begins
     (stays_on b v w c.loop.invariant.1 c.retains-told.ensures.stepped.stays) c.loop.invariant.3
     (subst (λ (t : Progress (Node g.row.K.Denot g.row.V.Denot)). HasProgressed t v w) told c.retains-told.ensures.stepped.calls)
@@ -56,14 +56,12 @@ returns-in-Some-tells_asked-clause-heeded g c =
       suc n.0,
       c.tells_asked.new.keep,
       subst (λ (wanted : Wanted g.row.K.Denot g.row.V.Denot). Begins g.K.PartialEq.eq g.S.Hashes.hash wanted u b) (ap wanted_of c.requires.may.is) c.begins.ensures.begins,
-      c.loop.keep,
-      c.loop.within.seat.now.view,
-      n.1,
-      c.retains-told.new.self.seat.now.view,
-      c.retains-told.result,
-      c.retains-told.ensures.by,
-      c.retains-told.ensures.stepped.calls,
-      c.tells_asked.ensures.heeded c.retains-told.result c.hears-heard.ensures,
+      (
+        c.loop.keep,
+        c.loop.within.seat.now.view,
+        n.1,
+        (c.retains-told.new.self.seat.now.view, c.retains-told.result, c.retains-told.ensures.by, c.retains-told.ensures.stepped.calls, c.tells_asked.ensures.heeded c.retains-told.result c.hears-heard.ensures),
+      ),
     )
 
 pub returns-in-Some-tells_asked-clause-same : goal.returns-in-Some-tells_asked-clause-same
@@ -78,5 +76,5 @@ loop-preserved g c =
       tells.same ∙ c.retains-told.ensures.same ∙ c.loop.invariant.2,
       them_on b w x (of_them b v w c.retains-told.result c.loop.invariant.3 c.retains-told.ensures.stepped.calls) tells.them,
       tells.callable,
-      (suc n.0, c.loop.keep, v, n.1, w, c.retains-told.result, c.retains-told.ensures.by, c.retains-told.ensures.stepped.calls, tells.heeded c.retains-told.result c.hears-heard.ensures),
+      (suc n.0, (c.loop.keep, v, n.1, (w, c.retains-told.result, c.retains-told.ensures.by, c.retains-told.ensures.stepped.calls, tells.heeded c.retains-told.result c.hears-heard.ensures))),
     )

@@ -29,7 +29,7 @@ loop-init g c = (
   refl,
   λ told. refl,
   c.requires.callable,
-  (0, refl, refl),
+  (0, (refl, refl)),
 )
 
 pub hears-heard-requires : goal.hears-heard-requires
@@ -43,7 +43,7 @@ returns-in-Some-shows_told-clause-gone g c =
     let u = c.args.within.now.seat.now.view in let b = c.begins.new.self.seat.now.view in let v = c.loop.within.seat.now.view in let w = c.walks-told.new.self.seat.now.view in
     let end = c.in-Some-shows_told.end in let ended = c.in-Some-shows_told.ensures.ended in
     let told = subst (λ (h : Heard). IsHeard c.walks-told.result h) ended.0 c.hears-heard.ensures in
-    subst (λ (x : View g.row.K.Denot g.row.V.Denot g.row.S.Denot). HasGoneOver g.K.PartialEq.eq g.S.Hashes.hash Walks end u x) (sym ended.1)
+    subst (λ (x : View g.row.K.Denot g.row.V.Denot g.row.S.Denot). HasGoneOver g.K.PartialEq.eq g.S.Hashes.hash Walks end u x) (sym {A = View g.row.K.Denot g.row.V.Denot g.row.S.Denot} ended.1)
     (gone_over g.K.PartialEq.eq g.S.Hashes.hash Walks c.args.machine.now c.requires.may.setting u b v w end c.requires.may.is c.begins.ensures.begins
     (stays_on b v w c.loop.invariant.1 c.walks-told.ensures.stepped.stays) c.loop.invariant.3
     (subst (λ (t : Progress (Node g.row.K.Denot g.row.V.Denot)). HasProgressed t v w) told c.walks-told.ensures.stepped.calls)
@@ -56,14 +56,12 @@ returns-in-Some-shows_told-clause-each g c =
       suc n.0,
       c.shows_told.new.each,
       subst (λ (wanted : Wanted g.row.K.Denot g.row.V.Denot). Begins g.K.PartialEq.eq g.S.Hashes.hash wanted u b) (ap wanted_of c.requires.may.is) c.begins.ensures.begins,
-      c.loop.each,
-      c.loop.within.seat.now.view,
-      n.1,
-      c.walks-told.new.self.seat.now.view,
-      c.walks-told.result,
-      c.walks-told.ensures.by,
-      c.walks-told.ensures.stepped.calls,
-      c.shows_told.ensures.shown c.walks-told.result c.hears-heard.ensures,
+      (
+        c.loop.each,
+        c.loop.within.seat.now.view,
+        n.1,
+        (c.walks-told.new.self.seat.now.view, c.walks-told.result, c.walks-told.ensures.by, c.walks-told.ensures.stepped.calls, c.shows_told.ensures.shown c.walks-told.result c.hears-heard.ensures),
+      ),
     )
 
 pub returns-in-Some-shows_told-clause-same : goal.returns-in-Some-shows_told-clause-same
@@ -78,5 +76,5 @@ loop-preserved g c =
       shows.same ∙ c.walks-told.ensures.same ∙ c.loop.invariant.2,
       them_on b w x (of_them b v w c.walks-told.result c.loop.invariant.3 c.walks-told.ensures.stepped.calls) shows.them,
       shows.callable,
-      (suc n.0, c.loop.each, v, n.1, w, c.walks-told.result, c.walks-told.ensures.by, c.walks-told.ensures.stepped.calls, shows.shown c.walks-told.result c.hears-heard.ensures),
+      (suc n.0, (c.loop.each, v, n.1, (w, c.walks-told.result, c.walks-told.ensures.by, c.walks-told.ensures.stepped.calls, shows.shown c.walks-told.result c.hears-heard.ensures))),
     )

@@ -42,7 +42,7 @@ returns-in-Ready-clause-shown g c = λ told is.
     let v = c.args.within.now.seat.now.view in let has = c.requires.walked in
     let ready = subst (λ (t : Progress (Node g.row.K.Denot g.row.V.Denot)). WalkedSo c.args.hasher.now c.args.machine.now t v) (subst (λ (h : Heard). IsHeard has.0 h) c.in-Ready.is has.1) has.2 in
     subst (λ (t : Progress (Node g.row.K.Denot g.row.V.Denot)). ShowsSo g.F.FnMut t c.args.each.now v c.args.each.now c.asks_next.new.self.seat.now.view)
-    (sym (subst (λ (h : Heard). IsHeard told h) c.in-Ready.is is)) (refl, c.args.machine.now, ready.at.works, c.asks_next.ensures.asked)
+    (sym (subst (λ (h : Heard). IsHeard told h) c.in-Ready.is is)) (refl, (c.args.machine.now, ready.at.works, c.asks_next.ensures.asked))
 
 pub returns-in-Ready-clause-stays : goal.returns-in-Ready-clause-stays
 returns-in-Ready-clause-stays g c = work_stays c.args.within.now.seat.now.view c.asks_next.new.self.seat.now.view _ c.asks_next.ensures.asked
