@@ -1,5 +1,6 @@
 use Rattle.std.specs.Prelude.{IfOk, None, Ok}
 use Rattle.std.proofs.Common.{subst, sym, ◌∙◌}
+use Rattle.seize_words.specs.declared.fault.Fault.{Fault}
 use Rattle.papaya_raw.specs.CallPoints.{untried}
 use Rattle.papaya_raw.specs.declared.machines.call.Calling.TheVariants as at
 use Rattle.papaya_raw.specs.declared.machines.machine.Machine.{Machine}
@@ -32,7 +33,7 @@ returns-in-Answered-clause-back g c = λ pair since its.
 
 pub returns-in-Answered-clause-fits : goal.returns-in-Answered-clause-fits
 returns-in-Answered-clause-fits g c =
-    subst (λ (m : Machine g.row.K.Denot g.row.V.Denot g.row.K.Denot). IfOk (Ok (OfKey c.in-Answered.answer)) (IsAnswerBy m)) (sym c.own_of-hash.ensures) tt
+    subst (λ (m : Machine g.row.K.Denot g.row.V.Denot g.row.K.Denot). IfOk {E = Fault} (Ok (OfKey c.in-Answered.answer)) (IsAnswerBy m)) (sym c.own_of-hash.ensures) tt
 
 -- or the rest by steps
 pub goes_on-requires-clause-ahead : goal.goes_on-requires-clause-ahead
