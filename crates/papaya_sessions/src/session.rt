@@ -12,6 +12,7 @@ ghost use Rattle.threads_updates.specs.Given.CallsAnswers.{CameBack, clears, has
 ghost use Rattle.threads_updates.specs.Given.SeizeViewsDeclared.view.Has.TheVariants.{Nothing};
 ghost use Rattle.threads_updates.specs.Given.SeizeViewsDeclared.view.SlotView.TheVariants.{Inside, Rests};
 ghost use Rattle.threads_updates.specs.Given.StepsAsking.{HasAsked, MakingSays, MayTest, TestSays};
+ghost use Rattle.threads_sweeps.specs.Closures.{HasHeeded, HasShownEach};
 ghost use Rattle.threads_sweeps.specs.Swept.{retains, walks};
 
 mod updates;
@@ -229,6 +230,7 @@ impl<'m, K: Eq + Hash + Drop, V: Drop, S: Hashes<K>> Session<'m, K, V, S> {
         requires callable { F.IsAlwaysCallable each }
         ensures keeps { KeepsMap self.old self.new }
         ensures shown { IfOk result (λ _. MapWasShown K.eq S.hash self.old.base.caller self.new.base.caller) }
+        ensures each { HasShownEach K.eq S.hash F.FnMut each self.old.base.caller.seat.view self.new.base.caller.seat.view }
         ensures refused { IfErr result (λ fault. WasRefused K.eq S.hash walks fault self.old.base.caller self.new.base.caller) }
     {
         threads_sweeps::each(&mut self.base, rt, each)
@@ -245,6 +247,7 @@ impl<'m, K: Eq + Hash + Drop, V: Drop, S: Hashes<K>> Session<'m, K, V, S> {
         requires callable { F.IsAlwaysCallable keep }
         ensures keeps { KeepsMap self.old self.new }
         ensures sifted { IfOk result (λ _. MapWasSifted K.eq S.hash self.old.base.caller self.new.base.caller) }
+        ensures heeded { HasHeeded K.eq S.hash F.FnMut keep self.old.base.caller.seat.view self.new.base.caller.seat.view }
         ensures refused { IfErr result (λ fault. WasRefused K.eq S.hash retains fault self.old.base.caller self.new.base.caller) }
     {
         threads_sweeps::retain(&mut self.base, rt, keep)

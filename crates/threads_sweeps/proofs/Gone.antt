@@ -1,19 +1,13 @@
 -- A session that goes over the pairs of its map may begin to, and what its call has come to.
 use Rattle.std.specs.Prelude.{[], Some, None, Result}
-use Rattle.std.proofs.Common.{◌≡◌, ℕ, Bool, true, ◌⊎◌, inl, inr, refl, subst, ap}
+use Rattle.std.proofs.Common.{◌≡◌, ℕ, Bool, true, refl, subst, ap}
 use Rattle.seize_words.specs.declared.fault.Fault.{Fault}
 use Rattle.map_tables.specs.Chunks.{is_incremental}
-use Rattle.map_tables.specs.declared.node.Node.{Node}
 use Rattle.map_tables.specs.declared.setting.Setting.{Setting}
 use Rattle.papaya_raw.specs.Given.ReservesDeclared.sweep.Purpose.{Purpose}
-use Rattle.papaya_raw.specs.Given.ReservesDeclared.sweep.Purpose.TheVariants.{Retains, Walks}
 use Rattle.papaya_raw.specs.Given.SweepsSweepPoints.{sweeping}
 use Rattle.papaya_raw.specs.declared.machines.machine.Machine.{Machine}
 use Rattle.papaya_raw.specs.declared.machines.machine.Machine.TheVariants as kinds
-use Rattle.papaya_raw.specs.declared.machines.progress.Answer.{Answer}
-use Rattle.papaya_raw.specs.declared.machines.progress.Answer.TheVariants as said
-use Rattle.papaya_raw.specs.declared.machines.progress.Progress.{Progress}
-use Rattle.papaya_raw.specs.declared.machines.progress.Progress.TheVariants as progress
 use Rattle.threads_calls.specs.Given.SeizeViewsDeclared.view.Has.TheVariants.{Nothing as NoBlock}
 use Rattle.threads_calls.specs.Given.SeizeViewsDeclared.view.SlotView.TheVariants.{Inside}
 use Rattle.threads_calls.specs.Given.CallersStanding.{known_by}
@@ -26,13 +20,9 @@ use Rattle.threads_rule.specs.declared.view.SeatWork.{SeatWork}
 use Rattle.threads_rule.specs.declared.view.SeatWork.TheVariants.{Nothing}
 use Rattle.threads_rule.specs.Errands.Calling.{outcome_of, wanted_of}
 use Rattle.threads_rule.specs.Errands.Looking.{Begins, HasProgressed, IsOfThem, StaysThere}
-use Rattle.threads_rule.specs.Errands.Sweeping.{HasGoneOver, IsSweeping, MayGoOver, RetainedSo, WalkedSo, swept_by}
+use Rattle.threads_rule.specs.Errands.Sweeping.{HasGoneOver, MayGoOver, swept_by}
 use Rattle.threads_rule.proofs.Errands.Beginnings.{stays_begun, stays_on}
 use Rattle.threads_rule.proofs.Errands.Runs.{has_run, told_last}
-
--- a step that tells neither a pair nor an end
-abbrev Goes : {T : Type 0} → Progress T → Type 0
-Goes {T} told = (told ≡ progress.Goes) ⊎ ((told ≡ progress.Waits) ⊎ (((value : T) × (told ≡ progress.Gave value)) ⊎ ((value : T) × (told ≡ progress.Unstored value))))
 
 module _ {K V S : Type 0} where
   -- with this under way in its place
@@ -45,33 +35,6 @@ module _ {K V S : Type 0} where
 
   pub work_of_them : (v w : View K V S) (work : SeatWork K V S) → w ≡ with_work v work → IsOfThem v w
   work_of_them v w work is = λ told. ap (λ (u : View K V S). newest_progress told u.calls) is
-
-  -- a sweep that has ended has gone over all
-  pub walk_done : (hasher : S) (machine : Machine K V K) (answer : Answer) (v : View K V S) → WalkedSo hasher machine (progress.Done answer) v → (v.work ≡ Nothing) × (answer ≡ said.Swept)
-  walk_done hasher machine said.Swept v is = (is, refl)
-  walk_done hasher machine said.Reserved v is = absurd is
-  walk_done hasher machine (said.Key key) v is = absurd is
-  walk_done hasher machine (said.Count count) v is = absurd is
-
-  pub retain_done : (hasher : S) (machine : Machine K V K) (answer : Answer) (v : View K V S) → RetainedSo hasher machine (progress.Done answer) v → (v.work ≡ Nothing) × (answer ≡ said.Swept)
-  retain_done hasher machine said.Swept v is = (is, refl)
-  retain_done hasher machine said.Reserved v is = absurd is
-  retain_done hasher machine (said.Key key) v is = absurd is
-  retain_done hasher machine (said.Count count) v is = absurd is
-
-  -- a walk goes on after such a step,
-  pub walks_on : (hasher : S) (machine : Machine K V K) (told : Progress (Node K V)) (v : View K V S) → Goes told → WalkedSo hasher machine told v → IsSweeping Walks hasher machine v
-  walks_on hasher machine told v (inl e) so = subst (λ (t : Progress (Node K V)). WalkedSo hasher machine t v) e so
-  walks_on hasher machine told v (inr (inl e)) so = subst (λ (t : Progress (Node K V)). WalkedSo hasher machine t v) e so
-  walks_on hasher machine told v (inr (inr (inl (value, e)))) so = subst (λ (t : Progress (Node K V)). WalkedSo hasher machine t v) e so
-  walks_on hasher machine told v (inr (inr (inr (value, e)))) so = subst (λ (t : Progress (Node K V)). WalkedSo hasher machine t v) e so
-
-  -- and a retaining
-  pub retains_on : (hasher : S) (machine : Machine K V K) (told : Progress (Node K V)) (v : View K V S) → Goes told → RetainedSo hasher machine told v → IsSweeping Retains hasher machine v
-  retains_on hasher machine told v (inl e) so = subst (λ (t : Progress (Node K V)). RetainedSo hasher machine t v) e so
-  retains_on hasher machine told v (inr (inl e)) so = subst (λ (t : Progress (Node K V)). RetainedSo hasher machine t v) e so
-  retains_on hasher machine told v (inr (inr (inl (value, e)))) so = subst (λ (t : Progress (Node K V)). RetainedSo hasher machine t v) e so
-  retains_on hasher machine told v (inr (inr (inr (value, e)))) so = subst (λ (t : Progress (Node K V)). RetainedSo hasher machine t v) e so
 
   module _ (same : K → K → Bool) (hash : S → K → ℕ) (purpose : Purpose) where
     -- what it has come to, from where it began

@@ -1,1 +1,2 @@
+mod Closures
 mod Gone

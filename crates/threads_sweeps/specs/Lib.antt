@@ -1,1 +1,3 @@
+pub mod Closures
+pub mod Heard
 pub mod Swept

@@ -1,17 +1,23 @@
 //! A session removes the pairs of its map that a test does not keep.
-ghost use Rattle.std.specs.Prelude.{◌≡◌};
+ghost use Rattle.std.specs.Prelude.{◌≡◌, Bool, IfNone, IfSome};
+ghost use Rattle.map_tables.specs.declared.node.Node.{Node};
+ghost use Rattle.papaya_raw.specs.declared.machines.progress.Progress.{Progress};
 ghost use Rattle.threads_steps.specs.Made.{IsSameSeat};
 ghost use Rattle.threads_rule.specs.Errands.Looking.{IsOfThem, StaysThere};
-ghost use Rattle.threads_rule.specs.Errands.Sweeping.{HasGoneOver, IsAskingOf, IsSweeping, MayGoOver};
+ghost use Rattle.threads_rule.specs.Errands.Sweeping.{HasGoneOver, IsAskingOf, IsSweeping, MayGoOver, RetainedSo};
 ghost use Rattle.threads_rule.specs.CallKinds.Kinds.{PairIsVisible};
 ghost use Rattle.threads_rule.specs.Views.Looks.{shown_in};
 ghost use Rattle.papaya_raw.specs.Given.ReservesDeclared.sweep.Purpose.TheVariants.{Retains as ToRetain};
 ghost use Rattle.threads_calls.specs.Given.SeizeViewsDeclared.view.Has.TheVariants.{Nothing};
 ghost use Rattle.threads_calls.specs.Given.SeizeViewsDeclared.view.SlotView.TheVariants.{Inside};
+ghost use Rattle.threads_sweeps.specs.Closures.{HasHeeded, HeedsSo, WasCalledWith, WasTold};
+ghost use Rattle.threads_sweeps.specs.Heard.{IsHeard};
 ghost use Rattle.threads_sweeps.specs.Swept.{HasGone};
+ghost use Rattle.threads_sweeps.specs.declared.hearing.Heard.TheVariants.{Ended};
 
+use crate::hearing::{Heard, hears};
 use map_tables::{Hashes, Node};
-use papaya_raw::machines::{Machine, Progress, Sweep};
+use papaya_raw::machines::{Machine, Sweep};
 use seize_blocks::{Blocks, Errand, Seat};
 use seize_words::{Fault, Link, Look};
 use std::hash::Hash;
@@ -36,6 +42,7 @@ fn keeps<K: Eq, V, S: Hashes<K>, F: FnMut(&K, &V) -> bool>(
 ) -> bool
     requires callable { F.IsAlwaysCallable keep.old }
     requires shown { PairIsVisible (shown_in within.now.seat.now.view.held) word }
+    ensures called { WasCalledWith F.FnMut word within.now.seat.now.view keep.old result keep.new }
     ensures callable { F.IsAlwaysCallable keep.new }
 {
     match within.value(Link::block_of(word)) {
@@ -56,6 +63,7 @@ fn tells<K: Eq + Hash + Drop, V: Drop, S: Hashes<K>, F: FnMut(&K, &V) -> bool>(
     requires shown { PairIsVisible (shown_in within.old.seat.now.view.held) word }
     requires callable { F.IsAlwaysCallable keep.old }
     ensures retains { IsSweeping ToRetain hasher.now machine.new within.new.seat.now.view }
+    ensures told { (kept : Bool) × WasCalledWith F.FnMut word within.old.seat.now.view keep.old kept keep.new × WasTold kept within.old.seat.now.view within.new.seat.now.view }
     ensures stays { StaysThere within.old.seat.now.view within.new.seat.now.view }
     ensures them { IsOfThem within.old.seat.now.view within.new.seat.now.view }
     ensures same { IsSameSeat within.old within.new }
@@ -63,6 +71,35 @@ fn tells<K: Eq + Hash + Drop, V: Drop, S: Hashes<K>, F: FnMut(&K, &V) -> bool>(
 {
     let kept = keeps(within, word, keep);
     within.keeps(hasher, machine, kept);
+}
+
+/// Does what follows on what a step of a retaining has told: where that asks about a pair, it is told whether it is to be kept. Returns how it has ended, if it has.
+fn tells_asked<K: Eq + Hash + Drop, V: Drop, S: Hashes<K>, F: FnMut(&K, &V) -> bool>(
+    within: &mut Within<'_, K, V, S>,
+    hasher: &S,
+    machine: &mut Machine<K, V>,
+    heard: Heard,
+    keep: &mut F,
+) -> Option<Result<(), Fault>>
+    requires retained { (told : Progress (Node K V)) × IsHeard told heard × RetainedSo hasher.now machine.old told within.old.seat.now.view }
+    requires callable { F.IsAlwaysCallable keep.old }
+    ensures ended { IfSome result (λ end. (heard ≡ Ended end) × (within.new.seat.now.view ≡ within.old.seat.now.view)) }
+    ensures goes { IfNone result (IsSweeping ToRetain hasher.now machine.new within.new.seat.now.view) }
+    ensures heeded { (told : Progress (Node K V)) → IsHeard told heard → HeedsSo F.FnMut told keep.old within.old.seat.now.view keep.new within.new.seat.now.view }
+    ensures stays { StaysThere within.old.seat.now.view within.new.seat.now.view }
+    ensures them { IsOfThem within.old.seat.now.view within.new.seat.now.view }
+    ensures same { IsSameSeat within.old within.new }
+    ensures callable { F.IsAlwaysCallable keep.new }
+{
+    match heard {
+        Heard::Goes => None,
+        Heard::Asks(word) => {
+            tells(within, hasher, machine, word, keep);
+            None
+        }
+        Heard::Ended(end) => Some(end),
+        Heard::Ready | Heard::Shows(_) => unreachable!(),
+    }
 }
 
 /// Takes the steps of a retaining until it has ended, and tells it of each pair whether that is to be kept. How many steps it takes is up to the others.
@@ -76,16 +113,15 @@ fn sifts<R: Wait, K: Eq + Hash + Drop, V: Drop, S: Hashes<K>, F: FnMut(&K, &V) -
     requires may { MayGoOver K.eq S.hash ToRetain hasher.now machine.old within.old.seat.now.view }
     requires callable { F.IsAlwaysCallable keep.old }
     ensures gone { HasGoneOver K.eq S.hash ToRetain result within.old.seat.now.view within.new.seat.now.view }
+    ensures heeded { HasHeeded K.eq S.hash F.FnMut keep.old within.old.seat.now.view within.new.seat.now.view }
     ensures same { IsSameSeat within.old within.new }
 {
     within.begins(machine);
     for _ in rt.forever() {
-        match within.retains(machine, hasher) {
-            Progress::Goes | Progress::Waits | Progress::Gave(_) | Progress::Unstored(_) => {}
-            Progress::Asks(Some(word)) => tells(within, hasher, machine, word, keep),
-            Progress::Done(_) => return Ok(()),
-            Progress::Refused(fault) => return Err(fault),
-            Progress::Asks(None) | Progress::Ready | Progress::Pair(_) => unreachable!(),
+        let told = within.retains(machine, hasher);
+        let heard = hears(told);
+        if let Some(end) = tells_asked(within, hasher, machine, heard, keep) {
+            return end;
         }
     }
     unreachable!()
@@ -99,7 +135,7 @@ impl<'r, R: Wait, K: Eq + Hash + Drop, V: Drop, S: Hashes<K>, F: FnMut(&K, &V) -
 
     ghost asks = { λ r fixed v. MayGoOver K.eq S.hash ToRetain r.hasher.now r.machine.now v × F.IsAlwaysCallable r.keep.now };
 
-    ghost did = { λ r fixed v answer n. HasGoneOver K.eq S.hash ToRetain answer v n };
+    ghost did = { λ r fixed v answer n. HasGoneOver K.eq S.hash ToRetain answer v n × HasHeeded K.eq S.hash F.FnMut r.keep.now v n };
 
     fn run(
         self,
@@ -130,6 +166,7 @@ pub fn retain<R: Wait, K: Eq + Hash + Drop, V: Drop, S: Hashes<K>, F: FnMut(&K, 
     ensures inside { session.new.caller.seat.view.slot ≡ Inside session.new.slot Nothing }
     ensures slot { session.new.slot ≡ session.old.slot }
     ensures gone { HasGone K.eq S.hash ToRetain result session.old.caller.seat.view session.new.caller.seat.view }
+    ensures heeded { HasHeeded K.eq S.hash F.FnMut keep session.old.caller.seat.view session.new.caller.seat.view }
     ensures map { session.new.caller.seat.view.map ≡ session.old.caller.seat.view.map }
     ensures blocks { session.new.caller.blocks ≡ session.old.caller.blocks }
 {

@@ -1,17 +1,23 @@
 //! A session goes over the pairs of its map, and shows each of them to a closure.
-ghost use Rattle.std.specs.Prelude.{◌≡◌};
+ghost use Rattle.std.specs.Prelude.{◌≡◌, IfNone, IfSome};
+ghost use Rattle.map_tables.specs.declared.node.Node.{Node};
+ghost use Rattle.papaya_raw.specs.declared.machines.progress.Progress.{Progress};
 ghost use Rattle.threads_steps.specs.Made.{IsSameSeat};
 ghost use Rattle.threads_rule.specs.Errands.Looking.{IsOfThem, StaysThere};
-ghost use Rattle.threads_rule.specs.Errands.Sweeping.{HasGoneOver, IsReady, IsSweeping, MayGoOver};
+ghost use Rattle.threads_rule.specs.Errands.Sweeping.{HasGoneOver, IsReady, IsSweeping, MayGoOver, WalkedSo};
 ghost use Rattle.threads_rule.specs.CallKinds.Kinds.{PairIsVisible};
 ghost use Rattle.threads_rule.specs.Views.Looks.{shown_in};
 ghost use Rattle.papaya_raw.specs.Given.ReservesDeclared.sweep.Purpose.TheVariants.{Walks as ForWalk};
 ghost use Rattle.threads_calls.specs.Given.SeizeViewsDeclared.view.Has.TheVariants.{Nothing};
 ghost use Rattle.threads_calls.specs.Given.SeizeViewsDeclared.view.SlotView.TheVariants.{Inside};
+ghost use Rattle.threads_sweeps.specs.Closures.{HasShownEach, ShowsSo, WasAskedNext, WasCalledWith};
+ghost use Rattle.threads_sweeps.specs.Heard.{IsHeard};
 ghost use Rattle.threads_sweeps.specs.Swept.{HasGone};
+ghost use Rattle.threads_sweeps.specs.declared.hearing.Heard.TheVariants.{Ended};
 
+use crate::hearing::{Heard, hears};
 use map_tables::{Hashes, Node};
-use papaya_raw::machines::{Machine, Progress, Sweep};
+use papaya_raw::machines::{Machine, Sweep};
 use seize_blocks::{Blocks, Errand, Seat};
 use seize_words::{Fault, Link, Look};
 use std::hash::Hash;
@@ -36,6 +42,7 @@ fn shows<K: Eq, V, S: Hashes<K>, F: FnMut(&K, &V)>(
 )
     requires callable { F.IsAlwaysCallable each.old }
     requires shown { PairIsVisible (shown_in within.now.seat.now.view.held) word }
+    ensures called { WasCalledWith F.FnMut word within.now.seat.now.view each.old tt each.new }
     ensures callable { F.IsAlwaysCallable each.new }
 {
     match within.value(Link::block_of(word)) {
@@ -56,6 +63,8 @@ fn shows_next<K: Eq + Hash + Drop, V: Drop, S: Hashes<K>, F: FnMut(&K, &V)>(
     requires shown { PairIsVisible (shown_in within.old.seat.now.view.held) word }
     requires callable { F.IsAlwaysCallable each.old }
     ensures walks { IsSweeping ForWalk hasher.now machine.new within.new.seat.now.view }
+    ensures called { WasCalledWith F.FnMut word within.old.seat.now.view each.old tt each.new }
+    ensures next { WasAskedNext within.old.seat.now.view within.new.seat.now.view }
     ensures stays { StaysThere within.old.seat.now.view within.new.seat.now.view }
     ensures them { IsOfThem within.old.seat.now.view within.new.seat.now.view }
     ensures same { IsSameSeat within.old within.new }
@@ -63,6 +72,39 @@ fn shows_next<K: Eq + Hash + Drop, V: Drop, S: Hashes<K>, F: FnMut(&K, &V)>(
 {
     shows(within, word, each);
     within.asks_next(hasher, machine);
+}
+
+/// Does what follows on what a step of a walk has told: a pair is shown, and the next one asked for. Returns how the walk has ended, if it has.
+fn shows_told<K: Eq + Hash + Drop, V: Drop, S: Hashes<K>, F: FnMut(&K, &V)>(
+    within: &mut Within<'_, K, V, S>,
+    hasher: &S,
+    machine: &mut Machine<K, V>,
+    heard: Heard,
+    each: &mut F,
+) -> Option<Result<(), Fault>>
+    requires walked { (told : Progress (Node K V)) × IsHeard told heard × WalkedSo hasher.now machine.old told within.old.seat.now.view }
+    requires callable { F.IsAlwaysCallable each.old }
+    ensures ended { IfSome result (λ end. (heard ≡ Ended end) × (within.new.seat.now.view ≡ within.old.seat.now.view)) }
+    ensures goes { IfNone result (IsSweeping ForWalk hasher.now machine.new within.new.seat.now.view) }
+    ensures shown { (told : Progress (Node K V)) → IsHeard told heard → ShowsSo F.FnMut told each.old within.old.seat.now.view each.new within.new.seat.now.view }
+    ensures stays { StaysThere within.old.seat.now.view within.new.seat.now.view }
+    ensures them { IsOfThem within.old.seat.now.view within.new.seat.now.view }
+    ensures same { IsSameSeat within.old within.new }
+    ensures callable { F.IsAlwaysCallable each.new }
+{
+    match heard {
+        Heard::Goes => None,
+        Heard::Ready => {
+            within.asks_next(hasher, machine);
+            None
+        }
+        Heard::Shows(word) => {
+            shows_next(within, hasher, machine, word, each);
+            None
+        }
+        Heard::Ended(end) => Some(end),
+        Heard::Asks(_) => unreachable!(),
+    }
 }
 
 /// Takes the steps of a walk until it has ended, and shows each pair to which it comes. How many steps it takes is up to the others.
@@ -76,17 +118,15 @@ fn goes_over<R: Wait, K: Eq + Hash + Drop, V: Drop, S: Hashes<K>, F: FnMut(&K, &
     requires may { MayGoOver K.eq S.hash ForWalk hasher.now machine.old within.old.seat.now.view }
     requires callable { F.IsAlwaysCallable each.old }
     ensures gone { HasGoneOver K.eq S.hash ForWalk result within.old.seat.now.view within.new.seat.now.view }
+    ensures each { HasShownEach K.eq S.hash F.FnMut each.old within.old.seat.now.view within.new.seat.now.view }
     ensures same { IsSameSeat within.old within.new }
 {
     within.begins(machine);
     for _ in rt.forever() {
-        match within.walks(machine, hasher) {
-            Progress::Goes | Progress::Waits | Progress::Gave(_) | Progress::Unstored(_) => {}
-            Progress::Ready => within.asks_next(hasher, machine),
-            Progress::Pair(word) => shows_next(within, hasher, machine, word, each),
-            Progress::Done(_) => return Ok(()),
-            Progress::Refused(fault) => return Err(fault),
-            Progress::Asks(_) => unreachable!(),
+        let told = within.walks(machine, hasher);
+        let heard = hears(told);
+        if let Some(end) = shows_told(within, hasher, machine, heard, each) {
+            return end;
         }
     }
     unreachable!()
@@ -100,7 +140,7 @@ impl<'w, R: Wait, K: Eq + Hash + Drop, V: Drop, S: Hashes<K>, F: FnMut(&K, &V)> 
 
     ghost asks = { λ w fixed v. MayGoOver K.eq S.hash ForWalk w.hasher.now w.machine.now v × F.IsAlwaysCallable w.each.now };
 
-    ghost did = { λ w fixed v answer n. HasGoneOver K.eq S.hash ForWalk answer v n };
+    ghost did = { λ w fixed v answer n. HasGoneOver K.eq S.hash ForWalk answer v n × HasShownEach K.eq S.hash F.FnMut w.each.now v n };
 
     fn run(
         self,
@@ -131,6 +171,7 @@ pub fn each<R: Wait, K: Eq + Hash + Drop, V: Drop, S: Hashes<K>, F: FnMut(&K, &V
     ensures inside { session.new.caller.seat.view.slot ≡ Inside session.new.slot Nothing }
     ensures slot { session.new.slot ≡ session.old.slot }
     ensures gone { HasGone K.eq S.hash ForWalk result session.old.caller.seat.view session.new.caller.seat.view }
+    ensures each { HasShownEach K.eq S.hash F.FnMut each session.old.caller.seat.view session.new.caller.seat.view }
     ensures map { session.new.caller.seat.view.map ≡ session.old.caller.seat.view.map }
     ensures blocks { session.new.caller.blocks ≡ session.old.caller.blocks }
 {

@@ -1,9 +1,17 @@
-use Rattle.std.specs.Prelude.{IsSome}
-use Rattle.std.proofs.Common.{sym, subst}
+use Rattle.std.specs.Prelude.{Some, IsSome}
+use Rattle.std.proofs.Common.{◌≡◌, ℕ, sym, subst, ap, ◌∙◌}
+use Rattle.map_tables.specs.declared.node.Node.{Node}
 use Rattle.threads_rule.specs.Views.Looks.{shown_in}
 use Rattle.seize_words.proofs.General.{some_is}
+use Rattle.threads_sweeps.proofs.Closures.{called_with}
 use Rattle.threads_sweeps.proofs.retaining.keeps.Goals as goal
 
 pub value-requires : goal.value-requires
 value-requires g c =
     subst (λ b. IsSome (shown_in c.args.within.now.seat.now.view.held b)) (sym c.block_of.ensures) (some_is _ _ c.requires.shown.2)
+
+pub returns-clause-called : goal.returns-clause-called
+returns-clause-called g c =
+    called_with g.F.FnMut c.args.word c.args.within.now.seat.now.view c.args.keep.now _ _ c.keep.result _ c.keep.ensures
+    (subst (λ (b : ℕ). shown_in c.args.within.now.seat.now.view.held b ≡ Some c.value.result.now) c.block_of.ensures c.value.ensures
+    ∙ ap (λ (x : Node g.row.K.Denot g.row.V.Denot). Some x) c.in-Pair.is)

@@ -14,7 +14,10 @@ sends-requires-clause-asks g c =
     )
 
 pub sends-requires-clause-ends : goal.sends-requires-clause-ends
-sends-requires-clause-ends g c = λ answer w did. (did.free, did.stays)
+sends-requires-clause-ends g c = λ answer w did. (did.0.free, did.0.stays)
 
 pub returns-clause-gone : goal.returns-clause-gone
-returns-clause-gone g c = c.sends.ensures.did.ran
+returns-clause-gone g c = c.sends.ensures.did.0.ran
+
+pub returns-clause-heeded : goal.returns-clause-heeded
+returns-clause-heeded g c = c.sends.ensures.did.1

@@ -9,3 +9,6 @@ returns-clause-stays g c = work_stays c.args.within.now.seat.now.view c.keeps.ne
 
 pub returns-clause-them : goal.returns-clause-them
 returns-clause-them g c = work_of_them c.args.within.now.seat.now.view c.keeps.new.self.seat.now.view _ c.keeps.ensures.told
+
+pub returns-clause-told : goal.returns-clause-told
+returns-clause-told g c = (c.keeps-kept.result, c.keeps-kept.ensures.called, (c.args.machine.now, c.requires.asks.at.works, c.keeps.ensures.told))

@@ -1,19 +1,22 @@
-use Rattle.std.specs.Prelude.{Ok, Err}
-use Rattle.std.proofs.Common.{refl, subst, ap, ◌∙◌}
+use Rattle.std.specs.Prelude.{suc}
+use Rattle.std.proofs.Common.{refl, sym, subst, ap, ◌∙◌}
 use Rattle.map_tables.specs.declared.node.Node.{Node}
 use Rattle.papaya_raw.specs.Given.ReservesDeclared.sweep.Purpose.TheVariants.{Walks}
-use Rattle.papaya_raw.specs.declared.machines.progress.Answer.{Answer}
 use Rattle.papaya_raw.specs.declared.machines.progress.Progress.{Progress}
-use Rattle.papaya_raw.specs.declared.machines.progress.Progress.TheVariants as progress
-use Rattle.threads_rule.specs.Errands.Looking.{HasProgressed}
-use Rattle.threads_rule.specs.Errands.Sweeping.{WalkedSo}
+use Rattle.threads_rule.specs.Given.ActsActs.{Wanted}
+use Rattle.threads_rule.specs.declared.view.View.{View}
+use Rattle.threads_rule.specs.Errands.Calling.{wanted_of}
+use Rattle.threads_rule.specs.Errands.Looking.{Begins, HasProgressed}
+use Rattle.threads_rule.specs.Errands.Sweeping.{HasGoneOver}
 use Rattle.threads_rule.proofs.Errands.Beginnings.{is_begun, stays_on}
 use Rattle.threads_rule.proofs.Errands.Runs.{of_them}
 use Rattle.threads_rule.proofs.Errands.Sweeping.{is_sweeping}
 use Rattle.threads_steps.proofs.Pausing.{them_on}
-use Rattle.threads_sweeps.proofs.Gone.{gone_over, walk_done, walks_on, work_of_them, work_stays}
+use Rattle.threads_sweeps.specs.Heard.{IsHeard}
+use Rattle.threads_sweeps.specs.declared.hearing.Heard.{Heard}
+use Rattle.threads_sweeps.proofs.Closures.{walk_free, walk_tells}
+use Rattle.threads_sweeps.proofs.Gone.{gone_over}
 use Rattle.threads_sweeps.proofs.walking.goes_over.Goals as goal
-use Rattle.threads_sweeps.proofs.walking.goes_over.Goals.{in-Goes, in-Pair, in-Ready}
 
 pub begins-requires : goal.begins-requires
 begins-requires g c = let m = c.requires.may.may in record { inside = (m.slot, m.inside); knows = (m.map, m.knows, m.incremental); free = m.free }
@@ -26,163 +29,52 @@ loop-init g c = (
   refl,
   λ told. refl,
   c.requires.callable,
+  (0, (refl, refl)),
 )
 
-pub returns-in-Done-clause-gone : goal.returns-in-Done-clause-gone
-returns-in-Done-clause-gone g c =
-    let w = c.walks.new.self.seat.now.view in
-    let done = walk_done c.args.hasher.now c.walks.new.machine c.in-Done.field-0 w
-    (subst (λ (told : Progress (Node g.row.K.Denot g.row.V.Denot)). WalkedSo c.args.hasher.now c.walks.new.machine told w) c.in-Done.is c.walks.ensures.told) in
-    gone_over g.K.PartialEq.eq g.S.Hashes.hash Walks c.args.machine.now c.requires.may.setting c.args.within.now.seat.now.view c.begins.new.self.seat.now.view c.loop.within.seat.now.view w (Ok tt)
-    c.requires.may.is c.begins.ensures.begins (stays_on _ _ _ c.loop.invariant.1 c.walks.ensures.stepped.stays) c.loop.invariant.3
-    (subst (λ (told : Progress (Node g.row.K.Denot g.row.V.Denot)). HasProgressed told c.loop.within.seat.now.view w)
-    (c.in-Done.is ∙ ap (λ (a : Answer). progress.Done a) done.1) c.walks.ensures.stepped.calls) done.0
+pub hears-heard-requires : goal.hears-heard-requires
+hears-heard-requires g c = record { sweep = walk_tells c.args.hasher.now c.walks-told.new.machine c.walks-told.new.self.seat.now.view c.walks-told.result c.walks-told.ensures.told }
 
-pub returns-in-Refused-clause-gone : goal.returns-in-Refused-clause-gone
-returns-in-Refused-clause-gone g c =
-    let w = c.walks.new.self.seat.now.view in
-    gone_over g.K.PartialEq.eq g.S.Hashes.hash Walks c.args.machine.now c.requires.may.setting c.args.within.now.seat.now.view c.begins.new.self.seat.now.view c.loop.within.seat.now.view w
-    (Err c.in-Refused.fault) c.requires.may.is c.begins.ensures.begins (stays_on _ _ _ c.loop.invariant.1 c.walks.ensures.stepped.stays) c.loop.invariant.3
-    (subst (λ (told : Progress (Node g.row.K.Denot g.row.V.Denot)). HasProgressed told c.loop.within.seat.now.view w) c.in-Refused.is c.walks.ensures.stepped.calls)
-    (subst (λ (told : Progress (Node g.row.K.Denot g.row.V.Denot)). WalkedSo c.args.hasher.now c.walks.new.machine told w) c.in-Refused.is c.walks.ensures.told)
+pub shows_told-requires : goal.shows_told-requires
+shows_told-requires g c = record { walked = (c.walks-told.result, c.hears-heard.ensures, c.walks-told.ensures.told); callable = c.loop.invariant.4 }
 
-pub asks_next-requires : goal.asks_next-requires
-asks_next-requires g c = record {
-  ready =
-      subst (λ (told : Progress (Node g.row.K.Denot g.row.V.Denot)). WalkedSo c.args.hasher.now c.walks.new.machine told c.walks.new.self.seat.now.view) c.in-Ready.is c.walks.ensures.told;
-}
+pub returns-in-Some-shows_told-clause-gone : goal.returns-in-Some-shows_told-clause-gone
+returns-in-Some-shows_told-clause-gone g c =
+    let u = c.args.within.now.seat.now.view in let b = c.begins.new.self.seat.now.view in let v = c.loop.within.seat.now.view in let w = c.walks-told.new.self.seat.now.view in
+    let end = c.in-Some-shows_told.end in let ended = c.in-Some-shows_told.ensures.ended in
+    let told = subst (λ (h : Heard). IsHeard c.walks-told.result h) ended.0 c.hears-heard.ensures in
+    subst (λ (x : View g.row.K.Denot g.row.V.Denot g.row.S.Denot). HasGoneOver g.K.PartialEq.eq g.S.Hashes.hash Walks end u x) (sym {A = View g.row.K.Denot g.row.V.Denot g.row.S.Denot} ended.1)
+    (gone_over g.K.PartialEq.eq g.S.Hashes.hash Walks c.args.machine.now c.requires.may.setting u b v w end c.requires.may.is c.begins.ensures.begins
+    (stays_on b v w c.loop.invariant.1 c.walks-told.ensures.stepped.stays) c.loop.invariant.3
+    (subst (λ (t : Progress (Node g.row.K.Denot g.row.V.Denot)). HasProgressed t v w) told c.walks-told.ensures.stepped.calls)
+    (walk_free c.args.hasher.now c.walks-told.new.machine w c.walks-told.result end told c.walks-told.ensures.told))
 
-pub shows_next-requires : goal.shows_next-requires
-shows_next-requires g c =
-    let so = subst (λ (told : Progress (Node g.row.K.Denot g.row.V.Denot)). WalkedSo c.args.hasher.now c.walks.new.machine told c.walks.new.self.seat.now.view) c.in-Pair.is c.walks.ensures.told in
-    record { ready = so.0; shown = so.1; callable = c.loop.invariant.4 }
+pub returns-in-Some-shows_told-clause-each : goal.returns-in-Some-shows_told-clause-each
+returns-in-Some-shows_told-clause-each g c =
+    let u = c.args.within.now.seat.now.view in let b = c.begins.new.self.seat.now.view in let n = c.loop.invariant.5 in (
+      b,
+      suc n.0,
+      c.shows_told.new.each,
+      subst (λ (wanted : Wanted g.row.K.Denot g.row.V.Denot). Begins g.K.PartialEq.eq g.S.Hashes.hash wanted u b) (ap wanted_of c.requires.may.is) c.begins.ensures.begins,
+      (
+        c.loop.each,
+        c.loop.within.seat.now.view,
+        n.1,
+        (c.walks-told.new.self.seat.now.view, c.walks-told.result, c.walks-told.ensures.by, c.walks-told.ensures.stepped.calls, c.shows_told.ensures.shown c.walks-told.result c.hears-heard.ensures),
+      ),
+    )
 
-pub loop-preserved-after-walks : goal.loop-preserved-after-walks
-loop-preserved-after-walks g c =
-    let u = c.begins.new.self.seat.now.view in let v = c.loop.within.seat.now.view in let w = c.walks.new.self.seat.now.view in
-    let stays = stays_on u v w c.loop.invariant.1 c.walks.ensures.stepped.stays in let same = c.walks.ensures.same ∙ c.loop.invariant.2 in
-    let them = of_them u v w c.walks.result c.loop.invariant.3 c.walks.ensures.stepped.calls in
-    elim c.match-walks.branch [
-      | in-Goes b ↦
-          rw (b.within-is, b.machine-is, b.each-is) (walks_on c.args.hasher.now c.walks.new.machine c.walks.result w b.in-Goes.is c.walks.ensures.told, stays, same, them, c.loop.invariant.4)
-      | in-Ready b ↦
-          rw (b.within-is, b.machine-is, b.each-is) (
-            b.asks_next.ensures.walks,
-            stays_on u w b.asks_next.new.self.seat.now.view stays (work_stays w b.asks_next.new.self.seat.now.view _ b.asks_next.ensures.asked),
-            b.asks_next.ensures.same ∙ same,
-            them_on u w b.asks_next.new.self.seat.now.view them (work_of_them w b.asks_next.new.self.seat.now.view _ b.asks_next.ensures.asked),
-            c.loop.invariant.4,
-          )
-      | in-Pair b ↦
-          rw (b.within-is, b.machine-is, b.each-is) (
-            b.shows_next.ensures.walks,
-            stays_on u w b.shows_next.new.within.seat.now.view stays b.shows_next.ensures.stays,
-            b.shows_next.ensures.same ∙ same,
-            them_on u w b.shows_next.new.within.seat.now.view them b.shows_next.ensures.them,
-            b.shows_next.ensures.callable,
-          )
-    ]
-
-pub loop-preserved-after-walks-2 : goal.loop-preserved-after-walks-2
-loop-preserved-after-walks-2 g c =
-    let u = c.begins.new.self.seat.now.view in let v = c.loop.within.seat.now.view in let w = c.walks.new.self.seat.now.view in
-    let stays = stays_on u v w c.loop.invariant.1 c.walks.ensures.stepped.stays in let same = c.walks.ensures.same ∙ c.loop.invariant.2 in
-    let them = of_them u v w c.walks.result c.loop.invariant.3 c.walks.ensures.stepped.calls in
-    elim c.match-walks.branch [
-      | in-Goes b ↦
-          rw (b.within-is, b.machine-is, b.each-is) (walks_on c.args.hasher.now c.walks.new.machine c.walks.result w b.in-Goes.is c.walks.ensures.told, stays, same, them, c.loop.invariant.4)
-      | in-Ready b ↦
-          rw (b.within-is, b.machine-is, b.each-is) (
-            b.asks_next.ensures.walks,
-            stays_on u w b.asks_next.new.self.seat.now.view stays (work_stays w b.asks_next.new.self.seat.now.view _ b.asks_next.ensures.asked),
-            b.asks_next.ensures.same ∙ same,
-            them_on u w b.asks_next.new.self.seat.now.view them (work_of_them w b.asks_next.new.self.seat.now.view _ b.asks_next.ensures.asked),
-            c.loop.invariant.4,
-          )
-      | in-Pair b ↦
-          rw (b.within-is, b.machine-is, b.each-is) (
-            b.shows_next.ensures.walks,
-            stays_on u w b.shows_next.new.within.seat.now.view stays b.shows_next.ensures.stays,
-            b.shows_next.ensures.same ∙ same,
-            them_on u w b.shows_next.new.within.seat.now.view them b.shows_next.ensures.them,
-            b.shows_next.ensures.callable,
-          )
-    ]
-
-pub loop-preserved-after-walks-3 : goal.loop-preserved-after-walks-3
-loop-preserved-after-walks-3 g c =
-    let u = c.begins.new.self.seat.now.view in let v = c.loop.within.seat.now.view in let w = c.walks.new.self.seat.now.view in
-    let stays = stays_on u v w c.loop.invariant.1 c.walks.ensures.stepped.stays in let same = c.walks.ensures.same ∙ c.loop.invariant.2 in
-    let them = of_them u v w c.walks.result c.loop.invariant.3 c.walks.ensures.stepped.calls in
-    elim c.match-walks.branch [
-      | in-Goes b ↦
-          rw (b.within-is, b.machine-is, b.each-is) (walks_on c.args.hasher.now c.walks.new.machine c.walks.result w b.in-Goes.is c.walks.ensures.told, stays, same, them, c.loop.invariant.4)
-      | in-Ready b ↦
-          rw (b.within-is, b.machine-is, b.each-is) (
-            b.asks_next.ensures.walks,
-            stays_on u w b.asks_next.new.self.seat.now.view stays (work_stays w b.asks_next.new.self.seat.now.view _ b.asks_next.ensures.asked),
-            b.asks_next.ensures.same ∙ same,
-            them_on u w b.asks_next.new.self.seat.now.view them (work_of_them w b.asks_next.new.self.seat.now.view _ b.asks_next.ensures.asked),
-            c.loop.invariant.4,
-          )
-      | in-Pair b ↦
-          rw (b.within-is, b.machine-is, b.each-is) (
-            b.shows_next.ensures.walks,
-            stays_on u w b.shows_next.new.within.seat.now.view stays b.shows_next.ensures.stays,
-            b.shows_next.ensures.same ∙ same,
-            them_on u w b.shows_next.new.within.seat.now.view them b.shows_next.ensures.them,
-            b.shows_next.ensures.callable,
-          )
-    ]
-
-pub loop-preserved-after-walks-4 : goal.loop-preserved-after-walks-4
-loop-preserved-after-walks-4 g c =
-    let u = c.begins.new.self.seat.now.view in let v = c.loop.within.seat.now.view in let w = c.walks.new.self.seat.now.view in
-    let stays = stays_on u v w c.loop.invariant.1 c.walks.ensures.stepped.stays in let same = c.walks.ensures.same ∙ c.loop.invariant.2 in
-    let them = of_them u v w c.walks.result c.loop.invariant.3 c.walks.ensures.stepped.calls in
-    elim c.match-walks.branch [
-      | in-Goes b ↦
-          rw (b.within-is, b.machine-is, b.each-is) (walks_on c.args.hasher.now c.walks.new.machine c.walks.result w b.in-Goes.is c.walks.ensures.told, stays, same, them, c.loop.invariant.4)
-      | in-Ready b ↦
-          rw (b.within-is, b.machine-is, b.each-is) (
-            b.asks_next.ensures.walks,
-            stays_on u w b.asks_next.new.self.seat.now.view stays (work_stays w b.asks_next.new.self.seat.now.view _ b.asks_next.ensures.asked),
-            b.asks_next.ensures.same ∙ same,
-            them_on u w b.asks_next.new.self.seat.now.view them (work_of_them w b.asks_next.new.self.seat.now.view _ b.asks_next.ensures.asked),
-            c.loop.invariant.4,
-          )
-      | in-Pair b ↦
-          rw (b.within-is, b.machine-is, b.each-is) (
-            b.shows_next.ensures.walks,
-            stays_on u w b.shows_next.new.within.seat.now.view stays b.shows_next.ensures.stays,
-            b.shows_next.ensures.same ∙ same,
-            them_on u w b.shows_next.new.within.seat.now.view them b.shows_next.ensures.them,
-            b.shows_next.ensures.callable,
-          )
-    ]
+pub returns-in-Some-shows_told-clause-same : goal.returns-in-Some-shows_told-clause-same
+returns-in-Some-shows_told-clause-same g c = c.shows_told.ensures.same ∙ c.walks-told.ensures.same ∙ c.loop.invariant.2 ∙ c.begins.ensures.same
 
 pub loop-preserved : goal.loop-preserved
 loop-preserved g c =
-    let u = c.begins.new.self.seat.now.view in let v = c.loop.within.seat.now.view in let w = c.walks.new.self.seat.now.view in
-    let stays = stays_on u v w c.loop.invariant.1 c.walks.ensures.stepped.stays in let same = c.walks.ensures.same ∙ c.loop.invariant.2 in
-    let them = of_them u v w c.walks.result c.loop.invariant.3 c.walks.ensures.stepped.calls in
-    elim c.match-walks.branch [
-      | in-Goes b ↦
-          rw (b.within-is, b.machine-is, b.each-is) (walks_on c.args.hasher.now c.walks.new.machine c.walks.result w b.in-Goes.is c.walks.ensures.told, stays, same, them, c.loop.invariant.4)
-      | in-Ready b ↦
-          rw (b.within-is, b.machine-is, b.each-is) (
-            b.asks_next.ensures.walks,
-            stays_on u w b.asks_next.new.self.seat.now.view stays (work_stays w b.asks_next.new.self.seat.now.view _ b.asks_next.ensures.asked),
-            b.asks_next.ensures.same ∙ same,
-            them_on u w b.asks_next.new.self.seat.now.view them (work_of_them w b.asks_next.new.self.seat.now.view _ b.asks_next.ensures.asked),
-            c.loop.invariant.4,
-          )
-      | in-Pair b ↦
-          rw (b.within-is, b.machine-is, b.each-is) (
-            b.shows_next.ensures.walks,
-            stays_on u w b.shows_next.new.within.seat.now.view stays b.shows_next.ensures.stays,
-            b.shows_next.ensures.same ∙ same,
-            them_on u w b.shows_next.new.within.seat.now.view them b.shows_next.ensures.them,
-            b.shows_next.ensures.callable,
-          )
-    ]
+    let b = c.begins.new.self.seat.now.view in let v = c.loop.within.seat.now.view in let w = c.walks-told.new.self.seat.now.view in let x = c.shows_told.new.within.seat.now.view in
+    let n = c.loop.invariant.5 in let shows = c.shows_told.ensures in (
+      c.in_default.ensures.goes,
+      stays_on b w x (stays_on b v w c.loop.invariant.1 c.walks-told.ensures.stepped.stays) shows.stays,
+      shows.same ∙ c.walks-told.ensures.same ∙ c.loop.invariant.2,
+      them_on b w x (of_them b v w c.walks-told.result c.loop.invariant.3 c.walks-told.ensures.stepped.calls) shows.them,
+      shows.callable,
+      (suc n.0, (c.loop.each, v, n.1, (w, c.walks-told.result, c.walks-told.ensures.by, c.walks-told.ensures.stepped.calls, shows.shown c.walks-told.result c.hears-heard.ensures))),
+    )

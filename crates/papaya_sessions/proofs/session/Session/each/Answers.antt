@@ -11,3 +11,6 @@ pub returns-clause-refused : goal.returns-clause-refused
 returns-clause-refused g c =
     let y = c.each in
     not_gone g.K.PartialEq.eq g.S.Hashes.hash c.args.self.now y.new.session y.ensures.inside y.ensures.slot y.ensures.map y.ensures.blocks Walks y.result y.ensures.gone
+
+pub returns-clause-each : goal.returns-clause-each
+returns-clause-each g c = c.each.ensures.each

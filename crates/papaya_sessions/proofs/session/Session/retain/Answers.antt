@@ -11,3 +11,6 @@ pub returns-clause-refused : goal.returns-clause-refused
 returns-clause-refused g c =
     let y = c.retain in
     not_gone g.K.PartialEq.eq g.S.Hashes.hash c.args.self.now y.new.session y.ensures.inside y.ensures.slot y.ensures.map y.ensures.blocks Retains y.result y.ensures.gone
+
+pub returns-clause-heeded : goal.returns-clause-heeded
+returns-clause-heeded g c = c.retain.ensures.heeded

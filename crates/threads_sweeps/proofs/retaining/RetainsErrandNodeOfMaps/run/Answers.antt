@@ -2,6 +2,7 @@ use Rattle.std.proofs.Common.{◌≡◌, sym, subst, ◌∙◌}
 use Rattle.papaya_raw.specs.Given.ReservesDeclared.sweep.Purpose.TheVariants.{Retains}
 use Rattle.threads_rule.specs.declared.view.View.{View}
 use Rattle.threads_rule.specs.Errands.Sweeping.{HasGoneOver}
+use Rattle.threads_sweeps.specs.Closures.{HasHeeded}
 use Rattle.seize_callers.proofs.Keeping.{kept_same}
 use Rattle.threads_sweeps.proofs.retaining.RetainsErrandNodeOfMaps.run.Goals as goal
 
@@ -17,7 +18,7 @@ returns g c =
       cc (is, own, blocks, first, was),
       cc (is, id, was),
       cc (is, away, was),
-      subst (λ (v : View g.row.K.Denot g.row.V.Denot g.row.S.Denot). HasGoneOver g.K.PartialEq.eq g.S.Hashes.hash Retains c.sifts.result v c.seat-1.given.0.view) before
-          (subst (λ (w : View g.row.K.Denot g.row.V.Denot g.row.S.Denot). HasGoneOver g.K.PartialEq.eq g.S.Hashes.hash Retains c.sifts.result c.new-within.result.seat.now.view w) after
-          c.sifts.ensures.gone),
+      subst (λ (v : View g.row.K.Denot g.row.V.Denot g.row.S.Denot). HasGoneOver g.K.PartialEq.eq g.S.Hashes.hash Retains c.sifts.result v c.seat-1.given.0.view × HasHeeded g.K.PartialEq.eq g.S.Hashes.hash g.F.FnMut c.args.self.keep.now v c.seat-1.given.0.view) before
+          (subst (λ (w : View g.row.K.Denot g.row.V.Denot g.row.S.Denot). HasGoneOver g.K.PartialEq.eq g.S.Hashes.hash Retains c.sifts.result c.new-within.result.seat.now.view w × HasHeeded g.K.PartialEq.eq g.S.Hashes.hash g.F.FnMut c.args.self.keep.now c.new-within.result.seat.now.view w) after
+          (c.sifts.ensures.gone, c.sifts.ensures.heeded)),
     )
