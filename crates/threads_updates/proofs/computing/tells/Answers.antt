@@ -1,4 +1,4 @@
-use Rattle.std.proofs.Common.{◌≡◌, Bool, subst}
+use Rattle.std.proofs.Common.{Bool, subst}
 use Rattle.threads_updates.specs.Computing.{Asks, computes}
 use Rattle.threads_updates.proofs.Asked.{stands_told, was_left}
 use Rattle.threads_updates.proofs.computing.tells.Goals as goal
