@@ -45,7 +45,7 @@ CALLS = {1: 5_000, 0: 100_000}
 MOST = 100_000
 REFUSED = 1 << 63
 # the kinds of calls, in the order of bench/load/told.program
-GET, CONTAINS, INSERT, TRY, MAKE, REMOVE, REMOVE_IF, PUT, LEN, EMPTY, RESERVE, CLEAR, EACH, RETAIN, SHOWN = range(15)
+GET, CONTAINS, INSERT, TRY, MAKE, REMOVE, REMOVE_IF, PUT, LEN, EMPTY, RESERVE, CLEAR, EACH, RETAIN, SHOWN, UPDATE, UPSERT, TAKE = range(18)
 # what an act on a key asks of its value, 0 where it has none, and what it makes of it
 IS, THERE, STORES, BEGINS, ENDS = range(5)
 # wrong bodies: their names, and what stands in which file in place of what
@@ -135,6 +135,12 @@ def acts(kind, value, answer):
             raise Wrong("a value was stored that was not made")
         made = [(IS, 0, None)] if answer == 2 else []
         return [(IS, 0, value)] if answer & 1 else made + [(THERE, 1, None)]
+    if kind == UPDATE:
+        return [(IS, answer, value if answer else None)]
+    if kind == UPSERT:
+        return [(IS, answer, value)]
+    if kind == TAKE:
+        return [(IS, answer, 0)]
     if kind == REMOVE:
         return [(THERE, answer, 0)]
     if answer:
@@ -225,7 +231,7 @@ def by_key(told, keys):
             shown.setdefault((begun, ended), {}).setdefault(key, []).append((value, answer))
         elif kind in (CLEAR, EACH, RETAIN):
             sweeps.append((kind, answer, begun, ended))
-        elif kind < LEN:
+        elif kind < LEN or kind > SHOWN:
             all_acts[key] += [(begun, ended, *act) for act in acts(kind, value, answer)]
     for kind, answer, begun, ended in sweeps:
         pairs = shown.get((begun, ended), {})
