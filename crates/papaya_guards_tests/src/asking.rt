@@ -30,12 +30,11 @@ fn arrives<R: Wait + Clock>(rt: &R, own: &AtomicU64, other: &AtomicU64) -> bool 
 /// Stores at a key whether the other thread was seen from within the closure.
 fn makes<R: Wait + Clock>(
     rt: &R,
-    session: Session<'_, u64, bool, Hashing>,
+    mut session: Session<'_, u64, bool, Hashing>,
     key: u64,
     own: &AtomicU64,
     other: &AtomicU64,
 ) -> Result<bool, Fault> {
-    let mut session = session;
     let _ = session.try_insert_with(rt, key, || arrives(rt, own, other))?;
     Ok(session.get(rt, &key).copied() == Some(true))
 }

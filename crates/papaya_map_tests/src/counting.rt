@@ -40,10 +40,9 @@ impl Drop for Counted {
 /// Stores values at a few keys, again and again, and answers how many it has stored.
 fn stores<R: Wait>(
     rt: &R,
-    session: Session<'_, u64, Counted, Hashing>,
+    mut session: Session<'_, u64, Counted, Hashing>,
     drops: &Arc<AtomicU64>,
 ) -> Option<u64> {
-    let mut session = session;
     let mut stored = 0u64;
     for n in 0..EACH {
         let value = Counted::of(drops)?;

@@ -31,10 +31,9 @@ fn meets<R: Wait + Clock>(rt: &R, session: &mut Session<'_, u64, u64, Hashing>, 
 /// How many of their keys it finds, once it has left its own there.
 fn finds_all<R: Wait + Clock>(
     rt: &R,
-    session: Session<'_, u64, u64, Hashing>,
+    mut session: Session<'_, u64, u64, Hashing>,
     own: u64,
 ) -> Result<u64, Fault> {
-    let mut session = session;
     let _ = session.insert(rt, own, own)?;
     let mut found = 0u64;
     for key in 0..MANY {

@@ -44,10 +44,9 @@ fn counts<R: Wait>(rt: &R, session: &mut Session<'_, u64, u64, Hashing>, from: u
 /// Stores so many keys from this one on, and answers how many have replaced a pair, and how many it finds then.
 fn works<R: Wait>(
     rt: &R,
-    session: Session<'_, u64, u64, Hashing>,
+    mut session: Session<'_, u64, u64, Hashing>,
     from: u64,
 ) -> Result<(u64, u64), Fault> {
-    let mut session = session;
     let replaced = stores(rt, &mut session, from)?;
     Ok((replaced, counts(rt, &mut session, from)))
 }

@@ -70,10 +70,9 @@ fn a_builder_shows_what_was_chosen(rt: HostRuntime) -> Result<(), Fail> {
 /// Stores so many keys from this one on, and answers how many of them it finds then.
 fn stores<R: Wait>(
     rt: &R,
-    session: Session<'_, u64, u64, Hashing>,
+    mut session: Session<'_, u64, u64, Hashing>,
     from: u64,
 ) -> Result<u64, Fault> {
-    let mut session = session;
     let mut found = 0u64;
     for n in 0..EACH {
         let key = u64::wrapping_add(from, n);

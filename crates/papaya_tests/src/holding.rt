@@ -47,8 +47,7 @@ fn an_insertion_says_whether_the_key_was_new(rt: HostRuntime) -> Result<(), Fail
 }
 
 /// Puts all keys into the set, and takes them out then: answers how many were new, and how many it has taken out.
-fn works<R: Wait>(rt: &R, session: SetSession<'_, u64, Hashing>) -> Result<(u64, u64), Fault> {
-    let mut session = session;
+fn works<R: Wait>(rt: &R, mut session: SetSession<'_, u64, Hashing>) -> Result<(u64, u64), Fault> {
     let mut new = 0u64;
     let mut taken = 0u64;
     for key in 0..KEYS {
@@ -88,6 +87,11 @@ fn what_two_threads_have_put_there_they_take_out_once(rt: HostRuntime) -> Result
     Ok(())
 }
 
+/// Whether a call was refused what is of another set.
+fn is_foreign<T: Drop>(told: Result<T, Fault>) -> bool {
+    matches!(told, Err(Fault::ForeignGuard))
+}
+
 /// Whether calls on a set refuse a guard and a pass of another one, and go with their own.
 fn foreign<R: Wait>(rt: &R, alloc: Global) -> Result<[bool; 8], Fault> {
     let mut ids = IdSource::new();
@@ -105,20 +109,11 @@ fn foreign<R: Wait>(rt: &R, alloc: Global) -> Result<[bool; 8], Fault> {
     };
     Ok([
         new && refused,
-        matches!(set.remove(rt, 1, &mut strange), Err(Fault::ForeignGuard)),
-        matches!(
-            set.contains(rt, &1, &strange, &mut pass),
-            Err(Fault::ForeignGuard)
-        ),
-        matches!(
-            set.contains(rt, &1, &guard, &mut unknown),
-            Err(Fault::ForeignGuard)
-        ),
+        is_foreign(set.remove(rt, 1, &mut strange)),
+        is_foreign(set.contains(rt, &1, &strange, &mut pass)),
+        is_foreign(set.contains(rt, &1, &guard, &mut unknown)),
         matches!(set.contains(rt, &1, &guard, &mut pass), Ok(true)),
-        matches!(
-            set.get(rt, &1, &guard, &mut unknown),
-            Err(Fault::ForeignGuard)
-        ),
+        is_foreign(set.get(rt, &1, &guard, &mut unknown)),
         set.get(rt, &1, &guard, &mut pass)?.copied() == Some(1),
         set.remove(rt, 1, &mut guard)?,
     ])

@@ -1,6 +1,6 @@
 //! One thread goes over the pairs of a map while another one changes it.
-use crate::whole::{Hashing, LOOKS, stores};
-use papaya_map::{Fault, HashMap, IdSource, Session};
+use crate::whole::{Hashing, LOOKS, Own, stores};
+use papaya_map::{Fault, HashMap, IdSource};
 use std::alloc::Global;
 use std::sync::Wait;
 use std::test::Fail;
@@ -15,10 +15,7 @@ const STAY: u64 = 100;
 const MORE: u64 = 100;
 
 /// How many of the keys that stay a walk shows, and how many others.
-fn seen<R: Wait>(
-    rt: &R,
-    session: &mut Session<'_, u64, u64, Hashing>,
-) -> Result<(u64, u64), Fault> {
+fn seen<R: Wait>(rt: &R, session: &mut Own<'_>) -> Result<(u64, u64), Fault> {
     let mut staying = 0u64;
     let mut others = 0u64;
     session.each(rt, |key, value| {
@@ -32,8 +29,7 @@ fn seen<R: Wait>(
 }
 
 /// Goes over the pairs until it has seen others than those that stay. Answers whether it has, and each time all of those.
-fn walks<R: Wait + Clock>(rt: &R, session: Session<'_, u64, u64, Hashing>) -> Result<bool, Fault> {
-    let mut session = session;
+fn walks<R: Wait + Clock>(rt: &R, mut session: Own<'_>) -> Result<bool, Fault> {
     for _ in 0..LOOKS {
         let (staying, others) = seen(rt, &mut session)?;
         if staying != STAY {
@@ -49,8 +45,7 @@ fn walks<R: Wait + Clock>(rt: &R, session: Session<'_, u64, u64, Hashing>) -> Re
 }
 
 /// Stores further keys, and waits until the other one has removed one of those that stay. Answers whether that came.
-fn comes<R: Wait + Clock>(rt: &R, session: Session<'_, u64, u64, Hashing>) -> Result<bool, Fault> {
-    let mut session = session;
+fn comes<R: Wait + Clock>(rt: &R, mut session: Own<'_>) -> Result<bool, Fault> {
     stores(rt, &mut session, STAY, MORE)?;
     for _ in 0..LOOKS {
         if !session.contains_key(rt, &0) {
@@ -63,13 +58,8 @@ fn comes<R: Wait + Clock>(rt: &R, session: Session<'_, u64, u64, Hashing>) -> Re
 }
 
 /// Goes over the pairs until it meets a further one, and removes then those that stayed.
-fn meets<R: Wait + Clock>(
-    rt: &R,
-    session: Session<'_, u64, u64, Hashing>,
-    other: Session<'_, u64, u64, Hashing>,
-) -> Result<bool, Fault> {
+fn meets<R: Wait + Clock>(rt: &R, session: Own<'_>, mut other: Own<'_>) -> Result<bool, Fault> {
     let met = walks(rt, session)?;
-    let mut other = other;
     other.retain(rt, |key, _| *key >= STAY)?;
     Ok(met)
 }

@@ -1,6 +1,6 @@
 //! Two threads count keys up, each by what it finds there, and a key is computed by what is there.
-use crate::whole::Hashing;
-use papaya_map::{ComputedPair, Fault, HashMap, IdSource, Operation, Session};
+use crate::whole::{Hashing, Own};
+use papaya_map::{ComputedPair, Fault, HashMap, IdSource, Operation};
 use std::alloc::Global;
 use std::sync::Wait;
 use std::test::Fail;
@@ -16,12 +16,7 @@ fn more(count: &u64) -> u64 {
 }
 
 /// Adds one to the counts of a few keys in turn, each of which begins with 1: a mask leaves the key of the number of a turn. Answers how many counts it has begun.
-fn counts<R: Wait>(
-    rt: &R,
-    session: Session<'_, u64, u64, Hashing>,
-    mask: u64,
-) -> Result<u64, Fault> {
-    let mut session = session;
+fn counts<R: Wait>(rt: &R, mut session: Own<'_>, mask: u64) -> Result<u64, Fault> {
     let mut begun = 0u64;
     for n in 0..EACH {
         if !session.update_or_insert(rt, &(n & mask), more, &1)? {

@@ -19,10 +19,12 @@ const ROUNDS: u64 = 16;
 
 pub(crate) type Hashing = BuildHasherDefault<DefaultHasher>;
 
+pub(crate) type Own<'m> = Session<'m, u64, u64, Hashing>;
+
 /// Stores so many keys from this one on, each with its double.
 pub(crate) fn stores<R: Wait>(
     rt: &R,
-    session: &mut Session<'_, u64, u64, Hashing>,
+    session: &mut Own<'_>,
     from: u64,
     many: u64,
 ) -> Result<(), Fault> {
@@ -34,7 +36,7 @@ pub(crate) fn stores<R: Wait>(
 }
 
 /// Whether the map comes to have so many pairs.
-fn meets<R: Wait + Clock>(rt: &R, session: &mut Session<'_, u64, u64, Hashing>, many: u64) -> bool {
+fn meets<R: Wait + Clock>(rt: &R, session: &mut Own<'_>, many: u64) -> bool {
     for _ in 0..LOOKS {
         if session.len() == many {
             return true;
@@ -46,12 +48,7 @@ fn meets<R: Wait + Clock>(rt: &R, session: &mut Session<'_, u64, u64, Hashing>, 
 }
 
 /// Stores its keys, and waits until those of both are counted.
-fn counts_all<R: Wait + Clock>(
-    rt: &R,
-    session: Session<'_, u64, u64, Hashing>,
-    from: u64,
-) -> Result<bool, Fault> {
-    let mut session = session;
+fn counts_all<R: Wait + Clock>(rt: &R, mut session: Own<'_>, from: u64) -> Result<bool, Fault> {
     stores(rt, &mut session, from, EACH)?;
     Ok(meets(rt, &mut session, EACH * 2))
 }
@@ -78,8 +75,7 @@ fn two_threads_count_what_both_have_stored(rt: HostRuntime) -> Result<(), Fail> 
 }
 
 /// Makes room again and again, twice as much each time.
-fn reserves<R: Wait>(rt: &R, session: Session<'_, u64, u64, Hashing>) -> Result<(), Fault> {
-    let mut session = session;
+fn reserves<R: Wait>(rt: &R, mut session: Own<'_>) -> Result<(), Fault> {
     let mut more = 2048u64;
     for _ in 0..5u64 {
         session.reserve(rt, more)?;
@@ -89,8 +85,7 @@ fn reserves<R: Wait>(rt: &R, session: Session<'_, u64, u64, Hashing>) -> Result<
 }
 
 /// How often it has found a key with its double, looking for each of them again and again.
-fn finds<R: Wait>(rt: &R, session: Session<'_, u64, u64, Hashing>) -> u64 {
-    let mut session = session;
+fn finds<R: Wait>(rt: &R, mut session: Own<'_>) -> u64 {
     let mut found = 0u64;
     for _ in 0..ROUNDS {
         for key in 0..EACH {
@@ -129,8 +124,7 @@ const LAST: u64 = EACH;
 const MET: u64 = EACH + 1;
 
 /// Removes all pairs again and again, until it has met the last key; says so then. Answers whether that came.
-fn clears<R: Wait + Clock>(rt: &R, session: Session<'_, u64, u64, Hashing>) -> Result<bool, Fault> {
-    let mut session = session;
+fn clears<R: Wait + Clock>(rt: &R, mut session: Own<'_>) -> Result<bool, Fault> {
     for _ in 0..LOOKS {
         let met = session.contains_key(rt, &LAST);
         session.clear(rt)?;
@@ -145,8 +139,7 @@ fn clears<R: Wait + Clock>(rt: &R, session: Session<'_, u64, u64, Hashing>) -> R
 }
 
 /// Stores keys, and the last one anew where it is gone, until the other one says that it has met that. Answers whether it was gone once.
-fn leaves<R: Wait + Clock>(rt: &R, session: Session<'_, u64, u64, Hashing>) -> Result<bool, Fault> {
-    let mut session = session;
+fn leaves<R: Wait + Clock>(rt: &R, mut session: Own<'_>) -> Result<bool, Fault> {
     stores(rt, &mut session, 0, EACH)?;
     let _ = session.insert(rt, LAST, 0)?;
     let mut gone = false;
@@ -167,8 +160,7 @@ fn leaves<R: Wait + Clock>(rt: &R, session: Session<'_, u64, u64, Hashing>) -> R
 }
 
 /// How many of the keys that were stored before the last one are there.
-fn left<R: Wait>(rt: &R, session: Session<'_, u64, u64, Hashing>) -> u64 {
-    let mut session = session;
+fn left<R: Wait>(rt: &R, mut session: Own<'_>) -> u64 {
     let mut found = 0u64;
     for key in 0..EACH {
         if session.contains_key(rt, &key) {
