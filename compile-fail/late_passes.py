@@ -1,5 +1,5 @@
 #!/usr/bin/env python3
-"""Shows that the value that a pass has found under a session can be read while the pass looks further keys up, and cannot once the session has taken a step: such
+"""Shows that the pair that a pass has found under a session can be read while the pass looks further keys up, and cannot once the session has taken a step: such
 programs compile, and do not.
 
     compile-fail/late_passes.py    compiles a program of functions that read while a pass or its session takes a step, and exits 1 if one that is right is
@@ -52,7 +52,7 @@ def reading():
         of = f"read_while_{name}"
         text += f"\nfn {of}<R: Wait>(rt: &R, session: &mut Its<'_>, pass: &mut Own, other: &mut Own) -> bool {{\n    let found = session.find_by(rt, &1, pass);\n    "
         (right if may else wrong)[of] = text.count("\n") + 1
-        text += f"{step}\n    found == Some(&1) && other_is(other)\n}}\n"
+        text += f"{step}\n    found == Some((&1, &2)) && other_is(other)\n}}\n"
     return text + "\nfn other_is(_: &Own) -> bool {\n    true\n}\n" + MAIN, right, wrong
 
 
