@@ -10,7 +10,7 @@ use std::sync::Wait;
 
 /// Returns the element of a pair that is lent, if one is.
 pub(crate) fn element_of<'g, K>(found: Option<(&'g K, &'g ())>) -> Option<&'g K>
-    ensures { option_map (λ key. key.now) result ≡ option_map (λ pair. pair.0.now) found }
+    ensures { option_map (λ key. key.now) result ≡ option_map (λ pair. pair.0.now) found.entry }
 {
     match found {
         Some((key, _)) => Some(key),

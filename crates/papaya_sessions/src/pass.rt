@@ -41,7 +41,7 @@ impl<K: Eq + Hash + Drop, V: Drop, S: Hashes<K>> Pass<K, V, S> {
 
 /// Returns the value of a pair that is lent, if one is.
 fn value_of<'g, K, V>(found: Option<(&'g K, &'g V)>) -> Option<&'g V>
-    ensures { option_map (λ value. value.now) result ≡ option_map (λ pair. pair.1.now) found }
+    ensures { option_map (λ value. value.now) result ≡ option_map (λ pair. pair.1.now) found.entry }
 {
     match found {
         Some((_, value)) => Some(value),
