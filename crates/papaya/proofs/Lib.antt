@@ -1,1 +1,2 @@
 mod Elements
+mod Swept

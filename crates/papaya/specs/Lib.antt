@@ -1,1 +1,2 @@
 pub mod OneSet
+pub mod Swept

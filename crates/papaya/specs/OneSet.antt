@@ -1,6 +1,6 @@
 -- What a session of a set has done by one call more, and that its answer is so in one finite set, at a moment of that call: the keys of a map whose values are units.
 use Rattle.std.specs.Prelude.{◌≡◌, ℕ, Bool, Option, not, option_map}
-use Rattle.papaya_map.specs.Given.SessionsOneMap.{MapCameToHave, MapCounted, MapGaveUp, MapHadOne, MapHadRoom, MapLookedEmpty, MapWasCleared, WasRefused}
+use Rattle.papaya_map.specs.Given.SessionsOneMap.{MapCameToHave, MapCounted, MapGaveUp, MapHadOne, MapHadRoom, MapLookedEmpty, MapWasCleared, MapWasShown, MapWasSifted, WasRefused}
 use Rattle.papaya_map.specs.Given.SessionsSessions.{IsOnSameMap}
 use Rattle.papaya_map.specs.Given.SessionsUnder.{HasGotPairUnder, HasSoughtUnder}
 use Rattle.papaya_map.specs.Given.ViewsDeclared.view.View.{View}
@@ -42,9 +42,17 @@ module _ {K S : Type 0} (same : K → K → Bool) (hash : S → K → ℕ) where
   abbrev pub SetHadRoom : ℕ → MapCaller K (Unit {0}) S → MapCaller K (Unit {0}) S → Type 0
   SetHadRoom additional c n = MapHadRoom same hash additional c n
 
-  -- it has gone over its set, and no element is left that this had all the time.
+  -- it has gone over its set, and no element is left that this had all the time,
   abbrev pub SetWasCleared : MapCaller K (Unit {0}) S → MapCaller K (Unit {0}) S → Type 0
   SetWasCleared c n = MapWasCleared same hash c n
+
+  -- but those that a test has kept;
+  abbrev pub SetWasSifted : MapCaller K (Unit {0}) S → MapCaller K (Unit {0}) S → Type 0
+  SetWasSifted c n = MapWasSifted same hash c n
+
+  -- or each of those was shown.
+  abbrev pub SetWasShown : MapCaller K (Unit {0}) S → MapCaller K (Unit {0}) S → Type 0
+  SetWasShown c n = MapWasShown same hash c n
 
 -- the key that comes back
 abbrev pub key_of : {K : Type 0} → RefusedKey K → K

@@ -9,6 +9,8 @@ ghost use Rattle.papaya_map.specs.Given.ActsActs.{Insert, MakeRoom, Remove};
 ghost use Rattle.seize_words.specs.declared.fault.Fault.TheVariants.{ForeignGuard};
 ghost use Rattle.threads_calls.specs.Answers.{clears};
 
+mod sweeping;
+
 use map_tables::Hashes;
 use papaya_map::{Pass, Session};
 use seize_words::{Fault, Refused, RefusedKey};

@@ -1,4 +1,4 @@
-//! What a set holds, by one session after another, and by two threads, which also meet there; and what it says of all its elements.
+//! What a set holds, by one session after another, and by two threads, which also meet there; what it says of all its elements, and how they are gone over.
 ghost use Rattle.std.specs.Prelude.{◌≡◌};
 
 use papaya::{Fault, HashSet, IdSource, Pass, SetSession, SharedSet};
@@ -125,8 +125,9 @@ fn calls_on_a_set_refuse_what_is_of_another_one(rt: HostRuntime) -> Result<(), F
     Ok(())
 }
 
-/// A set of three keys is counted, cleared and counted again; answers the counts, and whether it is as empty as they say. A reservation of more than any table has is refused.
-fn counts<R: Wait>(rt: &R, alloc: Global) -> Result<([u64; 3], [bool; 4]), Fault> {
+/// A set of three keys is counted, shown, sifted, and cleared: answers the counts, the sum of what was shown, and whether it is as empty as they say. A reservation of more than
+/// any table has is refused.
+fn counts<R: Wait>(rt: &R, alloc: Global) -> Result<([u64; 5], [bool; 5]), Fault> {
     let mut ids = IdSource::new();
     let set = HashSet::with_hasher(alloc, &mut ids, Hashing::default())?;
     let mut session = set.session()?;
@@ -136,16 +137,26 @@ fn counts<R: Wait>(rt: &R, alloc: Global) -> Result<([u64; 3], [bool; 4]), Fault
     session.extend(rt, [42u64, 16, 38, 16])?;
     let full = session.len();
     let some = !session.is_empty();
+    let mut sum = 0u64;
+    session.each(rt, |key| {
+        sum = u64::wrapping_add(sum, *key);
+    })?;
+    session.retain(rt, |key| *key != 16)?;
+    let kept = session.len();
+    let sifted = session.contains(rt, &38) && !session.contains(rt, &16);
     session.clear(rt)?;
     let after = session.len();
     let gone = session.is_empty() && !session.contains(rt, &42);
     let refused = matches!(session.reserve(rt, u64::MAX), Err(Fault::Capacity));
-    Ok(([before, full, after], [empty, some, gone, refused]))
+    Ok((
+        [before, full, sum, kept, after],
+        [empty, some, sifted, gone, refused],
+    ))
 }
 
 #[test]
-fn a_set_that_was_cleared_has_no_element(rt: HostRuntime) -> Result<(), Fail> {
-    assert_eq!(rt; counts(&rt, rt.alloc())?, ([0, 3, 0], [true; 4]));
+fn a_set_has_what_it_was_left(rt: HostRuntime) -> Result<(), Fail> {
+    assert_eq!(rt; counts(&rt, rt.alloc())?, ([0, 3, 96, 2, 0], [true; 5]));
     Ok(())
 }
 
@@ -199,5 +210,55 @@ fn meet<R: Threads + Wait + Clock + Sync>(rt: &R, alloc: Global) -> Result<(bool
 #[test]
 fn two_threads_find_what_each_has_left(rt: HostRuntime) -> Result<(), Fail> {
     assert_eq!(rt; meet(&rt, rt.alloc())?, (true, true));
+    Ok(())
+}
+
+/// Puts one key there, goes over the set until it is shown the other one, and removes then what was there before. Answers whether each time it was shown its own key.
+fn sweeps<R: Wait + Clock>(
+    rt: &R,
+    mut session: SetSession<'_, u64, Hashing>,
+    own: u64,
+    other: u64,
+) -> Result<bool, Fault> {
+    let _ = session.insert(rt, own)?;
+    for _ in 0..LOOKS {
+        let (mut stays, mut met) = (false, false);
+        session.each(rt, |key| {
+            stays = stays || *key == own;
+            met = met || *key == other;
+        })?;
+        if met || !stays {
+            session.retain(rt, |key| *key >= KEYS)?;
+            return Ok(stays);
+        }
+        session.refresh();
+        thread::sleep(rt, Duration::from_millis(1));
+    }
+    Ok(false)
+}
+
+/// Two threads do so, in a set of many keys. Answers how many are left, too.
+fn sweep<R: Threads + Wait + Clock + Sync>(
+    rt: &R,
+    alloc: Global,
+) -> Result<(bool, bool, u64), Fault> {
+    let mut ids = IdSource::new();
+    let set = HashSet::with_hasher(alloc, &mut ids, Hashing::default())?;
+    let mut session = set.session()?;
+    session.extend(rt, 0..KEYS)?;
+    let first = session.another()?;
+    let second = session.another()?;
+    let (one, other) = thread::join(
+        rt,
+        || sweeps(rt, first, KEYS, KEYS + 1),
+        || sweeps(rt, second, KEYS + 1, KEYS),
+    );
+    Ok((one?, other?, session.len()))
+}
+
+// Were the threads served one after another, the first one would not be shown the key of the second.
+#[test]
+fn each_of_two_threads_is_shown_what_the_other_one_has_put(rt: HostRuntime) -> Result<(), Fail> {
+    assert_eq!(rt; sweep(&rt, rt.alloc())?, (true, true, 2));
     Ok(())
 }

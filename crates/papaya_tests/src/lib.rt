@@ -1,4 +1,4 @@
-//! Tests of a hash set that threads share, and of builders.
+//! Tests of a hash set that threads share, and of its builders.
 #![tactic(auto)]
 
 #[cfg(test)]
