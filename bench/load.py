@@ -67,7 +67,13 @@ PLANTED = [
                 "papaya_raw/src/machines/call/tries.rt",
                 "            Err(found) => self.reads(memory, found, false),\n",
                 "            Err(_) if word == 0 => self.change(word, new),\n            Err(found) => self.reads(memory, found, false),\n",
-            )
+            ),
+            (
+                "map_straight/src/storing.rt",
+                "        Err(found) => match read::<K, V, Q, M>(memory, setting, hash, there, own, trial, found) {\n",
+                "        Err(_) if word == 0 => {\n            count(setting, memory, 0);\n            Stored::Answered(KeyAnswer::Stored(own))\n        }\n"
+                "        Err(found) => match read::<K, V, Q, M>(memory, setting, hash, there, own, trial, found) {\n",
+            ),
         ],
     ),
 ]
