@@ -1,5 +1,4 @@
-//! The calls of a map: on a key, over all pairs, for more room, and the one that ends it. What they stand on is given on from the
-//! crates of the tables and of their machines.
+//! The calls of a map: on a key, over all pairs, for more room, and the one that ends it; and what crates below give on.
 #![tactic(auto)]
 
 pub mod machines;
