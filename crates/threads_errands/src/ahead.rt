@@ -3,6 +3,7 @@
 ghost use Rattle.std.specs.Prelude.{◌≡◌, ◌≢◌, None};
 
 mod memory;
+mod removing;
 mod storing;
 mod turning;
 

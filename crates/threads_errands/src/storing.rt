@@ -89,7 +89,7 @@ fn puts<K: Eq + Hash, V, S: Hashes<K>>(
 }
 
 /// The seat takes the turns up to where the code stands.
-fn stands<K: Eq, V, S: Hashes<K>>(
+pub(crate) fn stands<K: Eq, V, S: Hashes<K>>(
     blocks: &Blocks<Node<K, V>, OfMaps<S>>,
     seat: &mut Seat<Node<K, V>, OfMaps<S>>,
     hasher: &S,
@@ -106,7 +106,7 @@ fn stands<K: Eq, V, S: Hashes<K>>(
 }
 
 /// Takes the steps of the seat's call until it has ended. This pair has come back by then, if one has.
-fn runs<R: Wait, K: Eq + Hash + Drop, V: Drop, S: Hashes<K>>(
+pub(crate) fn runs<R: Wait, K: Eq + Hash + Drop, V: Drop, S: Hashes<K>>(
     rt: &R,
     blocks: &Blocks<Node<K, V>, OfMaps<S>>,
     seat: &mut Seat<Node<K, V>, OfMaps<S>>,

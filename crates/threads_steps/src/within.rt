@@ -7,6 +7,7 @@ mod counting;
 mod looking;
 mod making;
 mod memory;
+mod removing;
 mod storing;
 mod sweeping;
 
