@@ -86,11 +86,12 @@ fn goes_on<R: Wait, K: Eq + Hash + Drop, V: Drop, S: Hashes<K>>(
 {
     let mut machine = Machine::Key(removal_of(setting, hash, key, trial, removal));
     stands(blocks, seat, hasher, &machine);
+    let ran = runs(rt, blocks, seat, 0, hasher, &mut machine, None);
     let Ran {
         told,
         unstored,
         near: _,
-    } = runs(rt, blocks, seat, 0, hasher, &mut machine, None);
+    } = ran;
     drop(unstored);
     told
 }

@@ -131,8 +131,7 @@ impl<'a, K: Eq + Hash + Drop, V: Drop, S: Hashes<K>> SessionBase<'a, K, V, S> {
     {
         let hash = self.hasher.hash_of(&key);
         let setting = setting_in(self.setting, self.slot);
-        let told = self.caller.removes(rt, self.hasher, setting, hash, key);
-        match told {
+        match self.caller.removes(rt, self.hasher, setting, hash, key) {
             Ok(answer) => Ok(is_removed(&answer)),
             Err(fault) => Err(fault),
         }
