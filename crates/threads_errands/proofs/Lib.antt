@@ -3,4 +3,5 @@ mod Behind
 mod Standing
 mod Puts
 mod Takes
+mod Helps
 pub mod Given

@@ -2,6 +2,7 @@
 //! operation that follows them.
 ghost use Rattle.std.specs.Prelude.{◌≡◌, ◌≢◌, None};
 
+mod helping;
 mod memory;
 mod removing;
 mod storing;

@@ -4,8 +4,10 @@
 
 mod ahead;
 mod errands;
+mod helping;
 mod memory;
 mod removing;
+mod running;
 mod storing;
 mod turns;
 

@@ -11,7 +11,7 @@ ghost use Rattle.papaya_raw.specs.declared.machines.call.Calling.TheVariants as 
 ghost use Rattle.papaya_raw.specs.declared.machines.machine.Machine.TheVariants.{Key as KeyMachine};
 
 use crate::ahead::Ahead;
-use crate::storing::{runs, stands};
+use crate::running::{runs, stands};
 use map_straight::{Removal, RemovalAt, removal_of};
 use map_tables::{Hashes, Node, Setting, Trial};
 use papaya_raw::machines::{Answer, Machine};
