@@ -1,5 +1,5 @@
 -- A call that stores its own block by straight code: what that comes to, and how the call goes on from there.
-use Rattle.std.specs.Prelude.{Option, Result}
+use Rattle.std.specs.Prelude.{Option, None, Result}
 use Rattle.std.proofs.Common.{◌≡◌, ℕ, Bool, refl, sym, subst, ap}
 use Rattle.map_tables.specs.declared.node.Node.{Node}
 use Rattle.map_tables.specs.declared.setting.Setting.{Setting}
@@ -60,7 +60,7 @@ module _ {K V S : Type 0} (same : K → K → Bool) (hash : S → K → ℕ) (ha
         → IsAt same hash hasher from m → HasPut same hash hasher setting hashed present own end m.seat.now.view n.seat.now.view × IsSameAhead m n
     has_put (stored.Answered answer) m n r is = let a = answered same hash hasher from m n answer r is in ((a.ends, a.stays, a.calls, a.back), a.seat)
     has_put (stored.Stands trial spot) m n r is =
-        let a = led same hash hasher from (call_at setting hashed present own trial spot) m n r is in ((a.at, a.stays, a.calls, a.back), a.seat)
+        let a = led same hash hasher from (call_at setting hashed present own trial spot) m n r is in ((a.at, a.stays, a.calls, λ pair since. a.back pair None since), a.seat)
 
 module _ {K V S : Type 0} where
   module _ (same : K → K → Bool) (hash : S → K → ℕ) (wanted : Wanted K V) where

@@ -204,18 +204,18 @@ module _ {K V S : Type 0} (same : K → K → Bool) (hash : S → K → ℕ) (ha
     pub stays : StaysThere m.seat.now.view n.seat.now.view
     pub seat : IsSameAhead m n
     pub calls : IsOfThem m.seat.now.view n.seat.now.view
-    pub back : (pair : Node K V) → Since same (hash hasher) pair (Key x) None → Since same (hash hasher) pair (Key y) None
+    pub back : (pair : Node K V) (handed : Option (Node K V)) → Since same (hash hasher) pair (Key x) handed → Since same (hash hasher) pair (Key y) handed
 
   pub led : (x y : KeyCall K V K) (m n : Ahead K V S) → CallLeads same same (hash hasher) (HasGone same hash) shown_ahead x m y n → IsAt x m → HasStayed x m y n
   led x y m n (none_taken _ _) is =
-      record { at = is; stays = record { slot = refl; map = refl }; seat = refl; calls = λ told. refl; back = λ pair since. since }
+      record { at = is; stays = record { slot = refl; map = refl }; seat = refl; calls = λ told. refl; back = λ pair handed since. since }
   led x y m n (one_more _ _ z k l told on _ _ st) is =
       let a = led x z m k l is in let b = went z k a.at n y told st in record {
         at = b.ahead on;
         stays = stays_on m.seat.now.view k.seat.now.view n.seat.now.view a.stays b.stays;
         seat = b.seat ∙ a.seat;
         calls = λ other. b.calls other ∙ a.calls other;
-        back = λ pair since. since_on same (hash hasher) pair z y told on (a.back pair since) b.step;
+        back = λ pair handed since. since_on same (hash hasher) pair z y handed told on (a.back pair handed since) b.step;
       }
 
   -- and it has ended with an answer
@@ -234,7 +234,7 @@ module _ {K V S : Type 0} (same : K → K → Bool) (hash : S → K → ℕ) (ha
         stays = stays_on m.seat.now.view k.seat.now.view n.seat.now.view a.stays b.stays;
         seat = b.seat ∙ a.seat;
         calls = λ other. b.calls other ∙ a.calls other;
-        back = λ pair since. since_last same (hash hasher) pair (Key y) (Key z) None (progress.Done (OfKey answer)) (a.back pair since) b.step tt;
+        back = λ pair since. since_last same (hash hasher) pair (Key y) (Key z) None (progress.Done (OfKey answer)) (a.back pair None since) b.step tt;
       }
 
 -- an operation of such code: the seat takes the turns up to it, and may make it

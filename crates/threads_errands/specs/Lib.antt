@@ -1,3 +1,4 @@
 pub mod Ahead
 pub mod Puts
+pub mod Takes
 pub mod Given

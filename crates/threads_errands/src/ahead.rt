@@ -2,7 +2,9 @@
 //! operation that follows them.
 ghost use Rattle.std.specs.Prelude.{◌≡◌, ◌≢◌, None};
 
+mod helping;
 mod memory;
+mod removing;
 mod storing;
 mod turning;
 

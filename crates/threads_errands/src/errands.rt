@@ -1,5 +1,5 @@
-//! What a seat of maps is sent for: to make a map, to look a key up, to run a call, and to count the pairs of a map.
-ghost use Rattle.std.specs.Prelude.{◌≡◌, IfOk, false};
+//! What a seat of maps is sent for: to make a map, to look a key up, to remove the pair of one, to run a call, and to count the pairs of a map.
+ghost use Rattle.std.specs.Prelude.{◌≡◌, IfOk, None, false};
 ghost use Rattle.std.specs.Fn.{FnOnceReturns};
 ghost use Rattle.threads_steps.specs.Asking.{HasAnswered, MakingSays, MayTest, TestSays, makes_pair, removes_if};
 ghost use Rattle.threads_rule.specs.Errands.Calling.{HasCalled, IsAnswerBy, MayCall, MayDoAs, wanted_of};
@@ -9,12 +9,16 @@ ghost use Rattle.threads_rule.specs.Errands.Looking.{HasFound, MayLook};
 ghost use Rattle.threads_rule.specs.Errands.Making.{HasOutcome, MayBegin};
 ghost use Rattle.threads_rule.specs.declared.view.SeatWork.TheVariants.{Nothing as NoWork};
 ghost use Rattle.seize_views.specs.declared.view.SlotView.TheVariants.{Rests};
+ghost use Rattle.papaya_raw.specs.CallPoints.{removing};
+ghost use Rattle.papaya_raw.specs.declared.machines.machine.Machine.TheVariants.{Key as KeyMachine};
+ghost use Rattle.threads_rule.specs.Given.ActsActs.{Remove};
 
+use crate::removing::removes;
 use crate::storing::{is_to_store, stores};
 use map_machines::{Lookup, NewMap};
 use map_straight::Sight;
 use map_tables::{Hashes, Node, Setting};
-use papaya_raw::machines::Machine;
+use papaya_raw::machines::{Answer, Machine};
 use seize_blocks::{Blocks, Errand, Seat};
 use seize_words::Fault;
 use std::hash::Hash;
@@ -75,6 +79,39 @@ impl<'f, R: Wait, K: Eq + Hash, V, S: Hashes<K>> Errand<Node<K, V>, OfMaps<S>> f
             Sight::Ends(found) => found,
             Sight::Stands(stands) => goes_on(rt, blocks, seat, root, mode, hash, stands, key),
         }
+    }
+}
+
+/// Removes the pair of a key.
+pub struct Removes<'r, R, K, S> {
+    pub rt: &'r R,
+    pub hasher: &'r S,
+    pub setting: Setting,
+    pub hash: u64,
+    pub key: K,
+}
+
+impl<'r, R: Wait, K: Eq + Hash + Drop, V: Drop, S: Hashes<K>> Errand<Node<K, V>, OfMaps<S>>
+    for Removes<'r, R, K, S> {
+    type Answer = Result<Answer, Fault>;
+
+    ghost asks = { λ r fixed v. MayCall K.eq S.hash r.hasher.now (KeyMachine (removing r.setting r.hash r.key)) v };
+
+    ghost did = { λ r fixed v answer w. HasCalled K.eq S.hash (Remove r.key) answer None v w };
+
+    fn run(
+        self,
+        blocks: &Blocks<Node<K, V>, OfMaps<S>>,
+        seat: &mut Seat<Node<K, V>, OfMaps<S>>,
+    ) -> Result<Answer, Fault> {
+        let Removes {
+            rt,
+            hasher,
+            setting,
+            hash,
+            key,
+        } = self;
+        removes(rt, blocks, seat, hasher, setting, hash, key)
     }
 }
 

@@ -1,7 +1,7 @@
 //! A call of a seat on an errand that is to store a pair: its block is made by a step of the machine, that is stored by straight code as far as that goes,
 //! and by steps from there on.
 ghost use Rattle.std.specs.Prelude.{◌≡◌, ◌≢◌, true, Some, None, IfOk};
-ghost use Rattle.threads_errands.specs.Ahead.{IsAhead, LiesAhead, StandsAt};
+ghost use Rattle.threads_errands.specs.Ahead.{IsAhead};
 ghost use Rattle.threads_rule.specs.Errands.Calling.{CalledSo, HasCalled, HasEnded, IsAnswerBy, IsAnswerTo, IsBack, IsCalling, MayCall, OnKey as IsOnKey, handed_by, pair_wanted, sort_of, wanted_of};
 ghost use Rattle.threads_rule.specs.Errands.Looking.{StaysThere};
 ghost use Rattle.threads_steps.specs.Storing.{HasBegun, IsFirst, IsToPut, Since, stores_pair};
@@ -15,6 +15,7 @@ ghost use Rattle.map_tables.specs.declared.node.Node.{Node as AnyNode};
 ghost use Rattle.threads_rule.specs.Views.Told.{pair_in};
 
 use crate::ahead::Ahead;
+use crate::running::{runs, stands};
 use map_straight::{Stored, StoringPoint, call_of};
 use map_tables::{Hashes, Node, Setting, Trial};
 use papaya_raw::machines::{Answer, Machine, Progress, There};
@@ -86,47 +87,6 @@ fn puts<K: Eq + Hash, V, S: Hashes<K>>(
 {
     let mut ahead = Ahead::new(blocks, seat, near);
     ahead.stores(hasher, setting, hash, there, own)
-}
-
-/// The seat takes the turns up to where the code stands.
-fn stands<K: Eq, V, S: Hashes<K>>(
-    blocks: &Blocks<Node<K, V>, OfMaps<S>>,
-    seat: &mut Seat<Node<K, V>, OfMaps<S>>,
-    hasher: &S,
-    machine: &Machine<K, V>,
-)
-    requires own { seat.old.base ≡ blocks.now.words.id.views_name }
-    requires away { seat.old.away ≢ None }
-    requires ahead { LiesAhead K.eq S.hash hasher.now machine.now seat.old.view }
-    ensures same { (seat.new.base ≡ seat.old.base) × (seat.new.id ≡ seat.old.id) × (seat.new.away ≡ seat.old.away) }
-    ensures stands { StandsAt machine.now seat.old.view seat.new.view }
-{
-    let mut ahead = Ahead::new(blocks, seat, 0);
-    ahead.stands(hasher, machine);
-}
-
-/// Takes the steps of the seat's call until it has ended. This pair has come back by then, if one has.
-fn runs<R: Wait, K: Eq + Hash + Drop, V: Drop, S: Hashes<K>>(
-    rt: &R,
-    blocks: &Blocks<Node<K, V>, OfMaps<S>>,
-    seat: &mut Seat<Node<K, V>, OfMaps<S>>,
-    near: u64,
-    hasher: &S,
-    machine: &mut Machine<K, V>,
-    unstored: Option<Node<K, V>>,
-) -> Ran<K, V>
-    requires own { seat.old.base ≡ blocks.now.words.id.views_name }
-    requires away { seat.old.away ≢ None }
-    requires calls { IsCalling hasher.now machine.old seat.old.view }
-    ensures same { (seat.new.base ≡ seat.old.base) × (seat.new.id ≡ seat.old.id) × (seat.new.away ≡ seat.old.away) }
-    ensures ended { HasEnded result.told seat.old.view seat.new.view }
-    ensures fits { IfOk result.told (IsAnswerBy machine.old) }
-    ensures back { (pair : AnyNode K V) → Since K.eq (S.hash hasher.now) pair machine.old unstored → pair_in seat.old.view.calls ≡ Some pair
-        → IsBack pair result.told result.unstored }
-    ensures stays { StaysThere seat.old.view seat.new.view }
-{
-    let mut within = Within::new(blocks, seat, near);
-    within.runs(rt, hasher, machine, unstored)
 }
 
 /// Takes the steps of the seat's call from where its code stands on. It is a call of its own: where straight code goes all the way, nothing of the errand lies in memory.

@@ -9,4 +9,4 @@ pub mod Pausing
 pub mod Straight
 pub mod Sinces
 mod Firsts
-mod Handing
+pub mod Handing

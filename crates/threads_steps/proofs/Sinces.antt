@@ -1,5 +1,5 @@
 -- A call that was to store a pair has it, or has handed it back, for as long as it goes on; and where it has ended that is in the map, or has come back.
-use Rattle.std.specs.Prelude.{Option, Some, None}
+use Rattle.std.specs.Prelude.{Option, Some}
 use Rattle.std.proofs.Common.{◌≡◌, ℕ, Bool, List, [], ◌∷◌, sym, ◌∙◌}
 use Rattle.map_tables.specs.declared.node.Node.{Node}
 use Rattle.papaya_raw.specs.Machine.{machine_plan, called as as_machine}
@@ -66,12 +66,12 @@ module _ {K V : Type 0} where
         → HandsIt pair told → HasNext pair n back told
     since_last m n back told s step hands = next_has m n back told (since_has m back s) step hands
 
-    pub since_on : (x y : KeyCall K V K) (told : Called (Node K V)) → CallGoes told → Since same hashes pair (kinds.Key x) None → MayCome (machine_plan same same hashes (kinds.Key x)) (as_machine (y, told))
-        → Since same hashes pair (kinds.Key y) None
-    since_on x y tells.Goes on s step = further (kinds.Key x) (kinds.Key y) None progress.Goes s step tt tt
-    since_on x y tells.Waits on s step = further (kinds.Key x) (kinds.Key y) None progress.Waits s step tt tt
-    since_on x y (tells.Gave value) on s step = absurd on
-    since_on x y (tells.Unstored value) on s step = absurd on
-    since_on x y (tells.Asks asked) on s step = absurd on
-    since_on x y (tells.Done answer) on s step = absurd on
-    since_on x y (tells.Refused fault) on s step = absurd on
+    pub since_on : (x y : KeyCall K V K) (back : Option (Node K V)) (told : Called (Node K V)) → CallGoes told → Since same hashes pair (kinds.Key x) back
+        → MayCome (machine_plan same same hashes (kinds.Key x)) (as_machine (y, told)) → Since same hashes pair (kinds.Key y) back
+    since_on x y back tells.Goes on s step = further (kinds.Key x) (kinds.Key y) back progress.Goes s step tt tt
+    since_on x y back tells.Waits on s step = further (kinds.Key x) (kinds.Key y) back progress.Waits s step tt tt
+    since_on x y back (tells.Gave value) on s step = absurd on
+    since_on x y back (tells.Unstored value) on s step = absurd on
+    since_on x y back (tells.Asks asked) on s step = absurd on
+    since_on x y back (tells.Done answer) on s step = absurd on
+    since_on x y back (tells.Refused fault) on s step = absurd on

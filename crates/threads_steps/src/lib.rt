@@ -6,4 +6,4 @@ mod turns;
 mod within;
 
 pub use finding::{goes_on, sees};
-pub use within::{Halt, Ran, Within};
+pub use within::{Halt, Ran, Within, ended};

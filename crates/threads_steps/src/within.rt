@@ -7,11 +7,12 @@ mod counting;
 mod looking;
 mod making;
 mod memory;
+mod removing;
 mod storing;
 mod sweeping;
 
 pub use asking::Halt;
-pub use calling::Ran;
+pub use calling::{Ran, ended};
 use map_tables::{Hashes, Node};
 use seize_blocks::{Blocks, Seat};
 use threads_rule::OfMaps;

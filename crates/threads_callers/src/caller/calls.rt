@@ -1,10 +1,13 @@
-//! A caller is sent to make a map, to look a key up, to run a call, and to count the pairs of a map.
-ghost use Rattle.std.specs.Prelude.{◌≡◌, IfOk, IsSome, Some, false};
+//! A caller is sent to make a map, to look a key up, to remove the pair of one, to run a call, and to count the pairs of a map.
+ghost use Rattle.std.specs.Prelude.{◌≡◌, IfOk, IsSome, Some, None, false};
 ghost use Rattle.std.specs.Fn.{FnOnceReturns};
 ghost use Rattle.threads_errands.specs.Given.StepsAsking.{HasAnswered, MakingSays, MayTest, TestSays, makes_pair as kind_that_makes, removes_if as kind_that_tests};
 ghost use Rattle.threads_rule.specs.Errands.Calling.{HasCalled, IsAnswerBy, MayCall, MayDoAs, wanted_of};
 ghost use Rattle.threads_rule.specs.Errands.Counting.{HasCounted, MayCount};
 ghost use Rattle.threads_rule.specs.CallKinds.Kinds.{Stage};
+ghost use Rattle.threads_rule.specs.Given.ActsActs.{Remove};
+ghost use Rattle.papaya_raw.specs.CallPoints.{removing};
+ghost use Rattle.papaya_raw.specs.declared.machines.machine.Machine.TheVariants.{Key as KeyMachine};
 ghost use Rattle.threads_rule.specs.Errands.Looking.{HasFound, MayLook};
 ghost use Rattle.threads_rule.specs.Errands.Making.{HasOutcome, MayBegin};
 ghost use Rattle.threads_rule.specs.Views.Looks.{shown_in};
@@ -16,11 +19,11 @@ ghost use Rattle.seize_views.specs.declared.view.SlotView.TheVariants.{Rests};
 use crate::caller::MapCaller;
 use map_machines::{Lookup, NewMap};
 use map_tables::{Hashes, Node, Setting};
-use papaya_raw::machines::Machine;
+use papaya_raw::machines::{Answer, Machine};
 use seize_words::Fault;
 use std::hash::Hash;
 use std::sync::Wait;
-use threads_errands::{Counts, Does, Finds, Makes, MakesPair, Ran, RemovesIf};
+use threads_errands::{Counts, Does, Finds, Makes, MakesPair, Ran, Removes, RemovesIf};
 
 impl<'a, K: Eq + Drop, V: Drop, S: Hashes<K>> MapCaller<'a, K, V, S> {
     /// Makes a map of no table by this machine, with this hasher, and knows it then. Where no root is free, or memory is refused, there is none, and it knows what it
@@ -69,6 +72,31 @@ impl<'a, K: Eq + Hash + Drop, V: Drop, S: Hashes<K>> MapCaller<'a, K, V, S> {
         );
         self.near = ran.near;
         ran
+    }
+
+    /// Removes the pair of this key within its section, from the map that it knows, and answers what the call has told.
+    pub fn removes<R: Wait>(
+        &mut self,
+        rt: &R,
+        hasher: &S,
+        setting: Setting,
+        hash: u64,
+        key: K,
+    ) -> Result<Answer, Fault>
+        requires may { MayCall K.eq S.hash hasher.now (KeyMachine (removing setting hash key)) self.old.seat.view }
+        ensures called { HasCalled K.eq S.hash (Remove key) result None self.old.seat.view self.new.seat.view }
+        ensures blocks { self.new.blocks ≡ self.old.blocks }
+    {
+        self.blocks.errand(
+            &mut self.seat,
+            Removes {
+                rt,
+                hasher,
+                setting,
+                hash,
+                key,
+            },
+        )
     }
 
     /// Counts the pairs of the map that it knows, within its section, by this machine.

@@ -131,15 +131,7 @@ impl<'a, K: Eq + Hash + Drop, V: Drop, S: Hashes<K>> SessionBase<'a, K, V, S> {
     {
         let hash = self.hasher.hash_of(&key);
         let setting = setting_in(self.setting, self.slot);
-        let call = KeyCall::remove(setting, hash, key);
-        let ran = self.caller.does(rt, self.hasher, Machine::Key(call));
-        let Ran {
-            told,
-            unstored,
-            near: _,
-        } = ran;
-        drop(unstored);
-        match told {
+        match self.caller.removes(rt, self.hasher, setting, hash, key) {
             Ok(answer) => Ok(is_removed(&answer)),
             Err(fault) => Err(fault),
         }

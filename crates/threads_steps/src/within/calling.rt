@@ -32,7 +32,7 @@ pub struct Ran<K, V> {
 }
 
 /// Returns how a call has ended, if it has, by what its step tells. What that hands back is kept.
-fn ended<T: Drop>(told: Progress<T>, unstored: &mut Option<T>) -> Option<Result<Answer, Fault>>
+pub fn ended<T: Drop>(told: Progress<T>, unstored: &mut Option<T>) -> Option<Result<Answer, Fault>>
     requires plain { IsNoQuestion told }
     ensures ended { IfSome result (λ answer. told ≡ outcome_of answer) }
     ensures goes { IfNone result (IsGoing told) }
@@ -77,7 +77,7 @@ impl<'a, K: Eq + Hash + Drop, V: Drop, S: Hashes<K>> Within<'a, K, V, S> {
     }
 
     /// Takes the next step of its call, which asks nothing.
-    pub(super) fn calls(&mut self, machine: &mut Machine<K, V>, hasher: &S) -> Progress<Node<K, V>>
+    pub fn calls(&mut self, machine: &mut Machine<K, V>, hasher: &S) -> Progress<Node<K, V>>
         requires calls { IsCalling hasher.now machine.old self.old.seat.now.view }
         ensures told { CalledSo hasher.now machine.new result self.new.seat.now.view }
         ensures like { sort_of machine.new ≡ sort_of machine.old }

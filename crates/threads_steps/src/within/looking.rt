@@ -20,13 +20,12 @@ use std::marker::Brand;
 use std::sync::Wait;
 
 impl<'a, K: Eq, V, S: Hashes<K>> Within<'a, K, V, S> {
-    /// Begins to look this key up, as it is picked.
-    fn begins_to_look_as<B: Wants<K, V>>(&mut self, _key: &K)
-        requires wanted { B.wanted ≡ Get _key.now }
+    /// Begins a call on this key, as it is picked.
+    pub(super) fn begins_on_as<B: Wants<K, V>>(&mut self, _key: &K)
         requires inside { (t : ℕ) × (section_of self.old.seat.now.view.under self.old.seat.now.view.slot ≡ Some t) }
         requires knows { (map : Map S) × (self.old.seat.now.view.map ≡ Some map) × (is_incremental map.setting.mode ≡ true) }
         requires free { self.old.seat.now.view.work ≡ NoWork }
-        ensures begins { Begins K.eq S.hash (Get _key.now) self.old.seat.now.view self.new.seat.now.view }
+        ensures begins { Begins K.eq S.hash B.wanted self.old.seat.now.view self.new.seat.now.view }
         ensures same { IsSameSeat self.old self.new }
     {
         self.blocks.turn::<Beginning<B>>(&mut *self.seat);
@@ -40,7 +39,7 @@ impl<'a, K: Eq, V, S: Hashes<K>> Within<'a, K, V, S> {
         ensures begins { Begins K.eq S.hash (Get key.now) self.old.seat.now.view self.new.seat.now.view }
         ensures same { IsSameSeat self.old self.new }
     {
-        self.begins_to_look_as::<Brand>(key);
+        self.begins_on_as::<Brand>(key);
     }
 }
 

@@ -1,9 +1,6 @@
-use Rattle.std.proofs.Common.{subst}
-use Rattle.threads_rule.specs.Given.ActsActs.{Wanted}
 use Rattle.seize_callers.proofs.Keeping.{still_kept}
-use Rattle.threads_rule.specs.Errands.Looking.{Begins}
 use Rattle.threads_rule.proofs.Errands.Beginnings.{begun_leans, may_begin}
-use Rattle.threads_steps.proofs.within.Within.begins_to_look_as.Goals as goal
+use Rattle.threads_steps.proofs.within.Within.begins_on_as.Goals as goal
 
 pub turn-requires-clause-may : goal.turn-requires-clause-may
 turn-requires-clause-may g c =
@@ -18,9 +15,7 @@ pub turn-requires-clause-leans : goal.turn-requires-clause-leans
 turn-requires-clause-leans g c = λ w told n leans. begun_leans g.K.PartialEq.eq g.S.Hashes.hash g.B.Wants.wanted c.args.self.now.seat.now.view w n told leans
 
 pub returns-clause-begins : goal.returns-clause-begins
-returns-clause-begins g c =
-    subst (λ (w : Wanted g.row.K.Denot g.row.V.Denot). Begins g.K.PartialEq.eq g.S.Hashes.hash w c.args.self.now.seat.now.view c.turn.new.seat.view) c.requires.wanted
-    c.turn.ensures.goes
+returns-clause-begins g c = c.turn.ensures.goes
 
 pub returns-clause-same : goal.returns-clause-same
 returns-clause-same g c = still_kept _ _ c.turn.ensures.same.1 c.turn.ensures.errand

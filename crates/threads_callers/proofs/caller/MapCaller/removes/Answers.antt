@@ -1,0 +1,16 @@
+use Rattle.std.specs.Prelude.{None}
+use Rattle.seize_callers.proofs.Keeping.{none_away}
+use Rattle.threads_rule.specs.Given.ActsActs.{Remove}
+use Rattle.threads_callers.proofs.Rows.{rests_called}
+use Rattle.threads_callers.proofs.caller.MapCaller.removes.Goals as goal
+
+pub errand-requires-clause-home : goal.errand-requires-clause-home
+errand-requires-clause-home g c = none_away c.args.self.now.seat.away c.args.self.now.home
+
+pub errand-requires-clause-ends : goal.errand-requires-clause-ends
+errand-requires-clause-ends g c =
+    λ answer w did.
+    rests_called g.K.PartialEq.eq g.S.Hashes.hash (Remove c.args.key) answer None c.args.self.now.seat.view w c.requires.may.may.slot c.args.self.now.lone c.requires.may.may.inside did
+
+pub returns-clause-called : goal.returns-clause-called
+returns-clause-called g c = c.errand.ensures.did

@@ -1,0 +1,27 @@
+use Rattle.std.proofs.Common.{sym, subst, ◌∙◌}
+use Rattle.papaya_raw.specs.declared.machines.call.KeyCall.{KeyCall}
+use Rattle.threads_rule.proofs.Errands.Beginnings.{stays_on}
+use Rattle.threads_steps.proofs.Pausing.{ended_on}
+use Rattle.threads_errands.specs.Ahead.{IsAhead}
+use Rattle.threads_errands.proofs.Puts.{calling_there}
+use Rattle.threads_errands.proofs.removing.goes_on.Goals as goal
+
+pub stands-requires-clause-ahead : goal.stands-requires-clause-ahead
+stands-requires-clause-ahead g c =
+    subst (λ (x : KeyCall g.row.K.Denot g.row.V.Denot g.row.K.Denot). IsAhead g.K.PartialEq.eq g.S.Hashes.hash c.args.hasher.now x c.args.seat.now.view) (sym c.removal_of.ensures) c.requires.ahead
+
+pub runs-ran-requires-clause-calls : goal.runs-ran-requires-clause-calls
+runs-ran-requires-clause-calls g c =
+    calling_there g.K.PartialEq.eq g.S.Hashes.hash c.args.hasher.now c.removal_of.result c.args.seat.now.view c.stands.new.seat.view
+    (subst (λ (x : KeyCall g.row.K.Denot g.row.V.Denot g.row.K.Denot). IsAhead g.K.PartialEq.eq g.S.Hashes.hash c.args.hasher.now x c.args.seat.now.view) (sym c.removal_of.ensures) c.requires.ahead)
+    c.stands.ensures.stands
+
+pub returns-clause-ended : goal.returns-clause-ended
+returns-clause-ended g c =
+    ended_on c.runs-ran.result.told c.args.seat.now.view c.stands.new.seat.view c.runs-ran.new.seat.view c.stands.ensures.stands.calls c.runs-ran.ensures.ended
+
+pub returns-clause-stays : goal.returns-clause-stays
+returns-clause-stays g c = stays_on c.args.seat.now.view c.stands.new.seat.view c.runs-ran.new.seat.view c.stands.ensures.stands.stays c.runs-ran.ensures.stays
+
+pub returns-clause-same : goal.returns-clause-same
+returns-clause-same g c = let r = c.runs-ran.ensures.same in let s = c.stands.ensures.same in (r.0 ∙ s.0, r.1 ∙ s.1, r.2 ∙ s.2)
