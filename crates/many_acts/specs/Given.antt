@@ -1,8 +1,10 @@
 -- The words of the crates below, given on to the crates above: these list this crate in place of those.
 pub use Rattle.owner_facts.specs.Given.CallersKind
+pub use Rattle.owner_facts.specs.Given.CallersOverAll
 pub use Rattle.owner_facts.specs.Given.CallersPairs
 pub use Rattle.owner_facts.specs.Given.CallersRooms
 pub use Rattle.owner_facts.specs.Given.CallersRows
+pub use Rattle.owner_facts.specs.Given.CallersSights
 pub use Rattle.owner_facts.specs.Given.CallersTogether
 pub use Rattle.owner_facts.specs.Given.FinishesEndings
 pub use Rattle.owner_facts.specs.Given.FinishesFactsEnds
@@ -11,14 +13,18 @@ pub use Rattle.owner_facts.specs.Given.FinishesMakings
 pub use Rattle.owner_facts.specs.Given.FinishesMaps
 pub use Rattle.owner_facts.specs.Given.FinishesOrders
 pub use Rattle.owner_facts.specs.Given.LateFactsReserves
+pub use Rattle.owner_facts.specs.Given.LateFactsSweeps
 pub use Rattle.owner_facts.specs.Given.LateLateCalls
 pub use Rattle.owner_facts.specs.Given.LateLateCopies
 pub use Rattle.owner_facts.specs.Given.LateLateReserves
 pub use Rattle.owner_facts.specs.Given.LateToldReserves
+pub use Rattle.owner_facts.specs.Given.LateToldSweeps
+pub use Rattle.owner_facts.specs.Given.PointsFactsCalls
 pub use Rattle.owner_facts.specs.Given.PointsFactsCopies
 pub use Rattle.owner_facts.specs.Given.PointsFactsCopiesBlocking
 pub use Rattle.owner_facts.specs.Given.PointsFactsDisposes
 pub use Rattle.owner_facts.specs.Given.PointsSteps
+pub use Rattle.owner_facts.specs.Given.PointsTold
 pub use Rattle.run_shows.specs.Follows.Finds as FollowsFinds
 pub use Rattle.run_shows.specs.Follows.Steps as FollowsSteps
 pub use Rattle.run_shows.specs.Others.Elsewhere as OthersElsewhere

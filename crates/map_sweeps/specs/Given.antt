@@ -8,6 +8,10 @@ pub use Rattle.map_machines.specs.CopierPlaces as ResizeCopierPlaces
 pub use Rattle.map_machines.specs.CopierPromotes as ResizeCopierPromotes
 pub use Rattle.map_machines.specs.CopierStates as ResizeCopierStates
 pub use Rattle.map_machines.specs.Dispose as ResizeDispose
+pub use Rattle.map_machines.specs.Given.SeizeWordsDeclared
+pub use Rattle.map_machines.specs.Given.SeizeWordsOp
+pub use Rattle.map_machines.specs.Given.SeizeWordsPlan
+pub use Rattle.map_machines.specs.Given.SeizeWordsWord
 pub use Rattle.map_machines.specs.Lookup as ResizeLookup
 pub use Rattle.map_machines.specs.NewTable as ResizeNewTable
 pub use Rattle.map_machines.specs.Sum as ResizeSum

@@ -5,6 +5,7 @@ pub use Rattle.seize.specs.Law as SeizeLaw
 pub use Rattle.seize.specs.Leave as SeizeLeave
 pub use Rattle.seize.specs.ReclaimAll as SeizeReclaimAll
 pub use Rattle.seize.specs.Register as SeizeRegister
+pub use Rattle.seize.specs.Sequence as SeizeSequence
 pub use Rattle.seize.specs.Settle as SeizeSettle
 pub use Rattle.seize.specs.WaitingSets as SeizeWaitingSets
 pub use Rattle.seize.specs.World as SeizeWorld

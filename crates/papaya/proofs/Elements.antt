@@ -5,7 +5,7 @@ use Rattle.papaya.specs.OneSet.{SetLentUnder}
 use Rattle.papaya_map.specs.Given.SessionsUnder.{HasGotPairUnder}
 use Rattle.papaya_map.specs.Given.ViewsDeclared.view.View.{View}
 use Rattle.seize_words.specs.declared.fault.Fault.{Fault}
-use Rattle.threads_calls.specs.Given.CallersDeclared.caller.MapCaller.{MapCaller}
+use Rattle.papaya_map.specs.Given.CallersDeclared.caller.MapCaller.{MapCaller}
 
 -- what is looked at through a look is the key of that, if there is one
 keys : {A K V : Type 0} (now : A → K × V) (answer : Option A) → option_map (λ a. (now a).0) answer ≡ option_map (λ p. p.0) (option_map now answer)

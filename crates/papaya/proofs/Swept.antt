@@ -9,8 +9,8 @@ use Rattle.papaya_map.specs.Given.ActsActs.{Wanted}
 use Rattle.papaya_map.specs.Given.ViewsDeclared.view.View.{View}
 use Rattle.papaya_raw.specs.declared.machines.progress.Progress.{Progress}
 use Rattle.papaya_raw.specs.declared.machines.progress.Progress.TheVariants as progress
-use Rattle.threads_sweeps.specs.Closures.{HasGoneWith, HasHeeded, HasShownEach, HeedsSo, ShowsSo, TakesSteps, WasCalledWith}
-use Rattle.threads_sweeps.specs.Swept.{retains, walks}
+use Rattle.papaya_map.specs.Given.Closures.{HasGoneWith, HasHeeded, HasShownEach, HeedsSo, ShowsSo, TakesSteps, WasCalledWith}
+use Rattle.papaya_map.specs.Given.Swept.{retains, walks}
 
 module _ {F C K V S : Type 0} (inner : C → F) where
   module _ (same : K → K → Bool) (hash : S → K → ℕ) (outer : Progress (Node K V) → C → View K V S → C → View K V S → Type 0) (follows : Progress (Node K V) → F → View K V S → F → View K V S → Type 0)

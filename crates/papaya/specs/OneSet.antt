@@ -6,7 +6,7 @@ use Rattle.papaya_map.specs.Given.SessionsUnder.{HasGotPairUnder, HasSoughtUnder
 use Rattle.papaya_map.specs.Given.ViewsDeclared.view.View.{View}
 use Rattle.papaya_map.specs.Given.ActsActs.{Insert}
 use Rattle.seize_words.specs.declared.refused.RefusedKey.{RefusedKey}
-use Rattle.threads_calls.specs.Given.CallersDeclared.caller.MapCaller.{MapCaller}
+use Rattle.papaya_map.specs.Given.CallersDeclared.caller.MapCaller.{MapCaller}
 
 module _ {K S : Type 0} (same : K → K → Bool) (hash : S → K → ℕ) (key : K) where
   -- it has asked for this key, and its set had an element that equals it, or none

@@ -2,8 +2,8 @@
 use Rattle.std.specs.Prelude.{ℕ, Bool}
 use Rattle.std.specs.Fn.{Mut}
 use denote.Ref.{Bor}
-use Rattle.threads_calls.specs.Given.CallersDeclared.caller.MapCaller.{MapCaller}
-use Rattle.threads_sweeps.specs.Closures.{HasHeeded, HasShownEach}
+use Rattle.papaya_map.specs.Given.CallersDeclared.caller.MapCaller.{MapCaller}
+use Rattle.papaya_map.specs.Given.Closures.{HasHeeded, HasShownEach}
 
 -- a closure of elements, as one of pairs: it is called with the key of each
 abbrev pub of_keys : {F K V A : Type 0} → Mut F (Bor K × Unit {0}) A → Mut F (Bor K × (Bor V × Unit {0})) A

@@ -7,7 +7,7 @@ ghost use Rattle.papaya_map.specs.Given.SessionsKept.{KeepsMap};
 ghost use Rattle.papaya_map.specs.Given.SessionsSessions.{HasMadeNone};
 ghost use Rattle.papaya_map.specs.Given.ActsActs.{Insert, MakeRoom, Remove};
 ghost use Rattle.seize_words.specs.declared.fault.Fault.TheVariants.{ForeignGuard};
-ghost use Rattle.threads_calls.specs.Answers.{clears};
+ghost use Rattle.papaya_map.specs.Given.CallsAnswers.{clears};
 
 mod sweeping;
 

@@ -1,14 +1,14 @@
 -- A call on one key: what each step's operation is, and what follows its answer.
 use Rattle.std.specs.Prelude.{ℕ, ◌==◌, Bool, true, false, bit_and, if◌then◌else◌, Option, Some, None, Ok, Err}
-use Rattle.seize.specs.Given.SeizeWordsWord.{block_in}
-use Rattle.seize.specs.Given.SeizeWordsDeclared.at.At.TheVariants.{Root, Word}
-use Rattle.seize.specs.Given.SeizeWordsDeclared.fault.Fault.TheVariants.{Memory}
-use Rattle.seize.specs.Given.SeizeWordsOp.{Out, Load, Add, Exchange, Make, Take, Found, Exchanged, Made, Taken}
-use Rattle.seize.specs.Given.SeizeWordsPlan.{Plan, Then, Turn, Do, Now, Seeing, plan_as}
-use Rattle.seize.specs.declared.advance.Advance.{Advance}
-use Rattle.seize.specs.declared.advance.Advance.TheVariants as progress
-use Rattle.seize.specs.declared.rows.settle.Settled.{Settled}
-use Rattle.seize.specs.declared.rows.settle.Settled.TheVariants as settling
+use Rattle.map_sweeps.specs.Given.SeizeWordsWord.{block_in}
+use Rattle.map_sweeps.specs.Given.SeizeWordsDeclared.at.At.TheVariants.{Root, Word}
+use Rattle.map_sweeps.specs.Given.SeizeWordsDeclared.fault.Fault.TheVariants.{Memory}
+use Rattle.map_sweeps.specs.Given.SeizeWordsOp.{Out, Load, Add, Exchange, Make, Take, Found, Exchanged, Made, Taken}
+use Rattle.map_sweeps.specs.Given.SeizeWordsPlan.{Plan, Then, Turn, Do, Now, Seeing, plan_as}
+use Rattle.map_tables.specs.Given.SeizeDeclared.advance.Advance.{Advance}
+use Rattle.map_tables.specs.Given.SeizeDeclared.advance.Advance.TheVariants as progress
+use Rattle.map_tables.specs.Given.SeizeDeclared.rows.settle.Settled.{Settled}
+use Rattle.map_tables.specs.Given.SeizeDeclared.rows.settle.Settled.TheVariants as settling
 use Rattle.map_tables.specs.Counts.{count_change}
 use Rattle.map_tables.specs.Nodes.{table_seen}
 use Rattle.map_tables.specs.TablePlaces.{at_word}

@@ -1,7 +1,7 @@
 -- A call on one key that asks: how it begins, and how it goes on by what it is told.
 use Rattle.std.specs.Prelude.{ℕ, Some, None, Result, Ok, Err}
-use Rattle.seize.specs.Given.SeizeWordsWord.{block_in}
-use Rattle.seize.specs.Given.SeizeWordsDeclared.fault.Fault.TheVariants.{RemoveNothing}
+use Rattle.map_sweeps.specs.Given.SeizeWordsWord.{block_in}
+use Rattle.map_sweeps.specs.Given.SeizeWordsDeclared.fault.Fault.TheVariants.{RemoveNothing}
 use Rattle.map_tables.specs.declared.setting.Setting.{Setting}
 use Rattle.papaya_raw.specs.CallPoints.{calling, standing, ending, answering, burying, at_gap}
 use Rattle.papaya_raw.specs.Replies.{untold}

@@ -1,9 +1,9 @@
 -- A call on one key puts what it was told into its own block, or gives that block up: what the operation is, and what follows its answer.
 use Rattle.std.specs.Prelude.{ℕ, ◌==◌, Bool, true, false, Option, Some, None, Ok, Err}
-use Rattle.seize.specs.Given.SeizeWordsWord.{block_in}
-use Rattle.seize.specs.Given.SeizeWordsDeclared.fault.Fault.TheVariants.{Memory}
-use Rattle.seize.specs.Given.SeizeWordsOp.{Out, Make, Take, Rewrite, Made, Taken}
-use Rattle.seize.specs.Given.SeizeWordsPlan.{Plan, Then, Turn, Do, Now}
+use Rattle.map_sweeps.specs.Given.SeizeWordsWord.{block_in}
+use Rattle.map_sweeps.specs.Given.SeizeWordsDeclared.fault.Fault.TheVariants.{Memory}
+use Rattle.map_sweeps.specs.Given.SeizeWordsOp.{Out, Make, Take, Rewrite, Made, Taken}
+use Rattle.map_sweeps.specs.Given.SeizeWordsPlan.{Plan, Then, Turn, Do, Now}
 use Rattle.map_tables.specs.Nodes.{vacant}
 use Rattle.map_tables.specs.declared.marks.TheConstants.{TOMBSTONE}
 use Rattle.map_tables.specs.declared.node.Node.{Node}

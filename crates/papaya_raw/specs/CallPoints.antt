@@ -1,6 +1,6 @@
 -- A call on one key: how it goes on from one point to another.
 use Rattle.std.specs.Prelude.{ℕ, ◌+◌, ◌*◌, ◌/◌, ◌%◌, ◌^◌, ◌==◌, Bool, true, false, if◌then◌else◌, Option, Some, None}
-use Rattle.seize.specs.Given.SeizeWordsWord.{link_to, block_in}
+use Rattle.map_sweeps.specs.Given.SeizeWordsWord.{link_to, block_in}
 use Rattle.map_tables.specs.Chunks.{is_incremental}
 use Rattle.map_tables.specs.Trials.{first_trial, trial_on, with_met, found_full, next_trial}
 use Rattle.map_tables.specs.Finding.{finding}

@@ -1,12 +1,12 @@
 -- How a map ends: its pairs are reclaimed, then the pairs that its tables carry, its tables and its counter.
 use Rattle.std.specs.Prelude.{ℕ, ◌+◌, ◌-◌, ◌%◌, ◌^◌, ◌==◌, ◌&&◌, not, Bool, nat_lt, if◌then◌else◌}
-use Rattle.seize.specs.Given.SeizeWordsWord.{block_in}
-use Rattle.seize.specs.Given.SeizeWordsDeclared.at.At.TheVariants.{Root, Used, Entry, Word}
-use Rattle.seize.specs.Given.SeizeWordsOp.{Out, Load, Store, Take, Found, Taken}
-use Rattle.seize.specs.Given.SeizeWordsPlan.{Plan, Then, Turn, Do, Now, Seeing}
-use Rattle.seize.specs.declared.states.TheConstants as state
-use Rattle.seize.specs.declared.rows.settle.Settled.{Settled}
-use Rattle.seize.specs.declared.rows.settle.Settled.TheVariants.{Goes, Gave, Done}
+use Rattle.map_sweeps.specs.Given.SeizeWordsWord.{block_in}
+use Rattle.map_sweeps.specs.Given.SeizeWordsDeclared.at.At.TheVariants.{Root, Used, Entry, Word}
+use Rattle.map_sweeps.specs.Given.SeizeWordsOp.{Out, Load, Store, Take, Found, Taken}
+use Rattle.map_sweeps.specs.Given.SeizeWordsPlan.{Plan, Then, Turn, Do, Now, Seeing}
+use Rattle.map_tables.specs.Given.SeizeDeclared.states.TheConstants as state
+use Rattle.map_tables.specs.Given.SeizeDeclared.rows.settle.Settled.{Settled}
+use Rattle.map_tables.specs.Given.SeizeDeclared.rows.settle.Settled.TheVariants.{Goes, Gave, Done}
 use Rattle.map_tables.specs.declared.setting.Setting.{Setting}
 use Rattle.map_tables.specs.declared.node.Node.{Node}
 use Rattle.map_tables.specs.declared.table_words.TheConstants.{NEXT, DEFERRED, PLACES}

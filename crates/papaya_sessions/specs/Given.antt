@@ -1,6 +1,8 @@
 -- The words of the crates below, given on to the crates above: these list this crate in place of those.
 pub use Rattle.play_moves.specs.Given.ActsActs
 pub use Rattle.play_moves.specs.Given.ViewsDeclared
-pub use Rattle.threads_updates.specs.Given.StepsAsking as ErrandsAsking
+pub use Rattle.threads_sweeps.specs.Closures
+pub use Rattle.threads_sweeps.specs.Swept
 pub use Rattle.threads_updates.specs.Deciding as UpdatesDeciding
+pub use Rattle.threads_updates.specs.Given.StepsAsking as ErrandsAsking
 pub use Rattle.threads_updates.specs.Updated as UpdatesUpdated

@@ -3,6 +3,14 @@ pub use Rattle.play_lists.proofs.Agrees.FirstPlaces as AgreesFirstPlaces
 pub use Rattle.play_lists.proofs.Drives.Executors as DrivesExecutors
 pub use Rattle.play_lists.proofs.Given.ActsLists
 pub use Rattle.play_lists.proofs.Given.FindsOver
+pub use Rattle.play_lists.proofs.Given.FollowsCalls
+pub use Rattle.play_lists.proofs.Given.FollowsContents
+pub use Rattle.play_lists.proofs.Given.ReclaimsLeft
+pub use Rattle.play_lists.proofs.Given.RemainsNumbered
+pub use Rattle.play_lists.proofs.Given.ScenesNoCall
+pub use Rattle.play_lists.proofs.Given.ScenesTold
+pub use Rattle.play_lists.proofs.Given.ShedsHeld
+pub use Rattle.play_lists.proofs.Given.ShedsKeptGiven
 pub use Rattle.play_lists.proofs.Grouped.AllGoes as GroupedAllGoes
 pub use Rattle.play_lists.proofs.Grouped.Aside as GroupedAside
 pub use Rattle.play_lists.proofs.Grouped.CallBegins as GroupedCallBegins
@@ -42,20 +50,12 @@ pub use Rattle.play_stepping.proofs.Given.SpotsUnreclaimed
 pub use Rattle.play_stepping.proofs.Mapping.AllGiven as MappingAllGiven
 pub use Rattle.play_stepping.proofs.Mapping.MapLists as MappingMapLists
 pub use Rattle.play_stepping.proofs.Mapping.MapsEnded as MappingMapsEnded
-pub use Rattle.run_kept.proofs.Given.FollowsCalls
-pub use Rattle.run_kept.proofs.Given.FollowsContents
-pub use Rattle.run_kept.proofs.Given.OwesCalls
-pub use Rattle.run_kept.proofs.Given.ReclaimsLeft
-pub use Rattle.run_kept.proofs.Given.RemainsNumbered
-pub use Rattle.run_kept.proofs.Given.ScenesNoCall
-pub use Rattle.run_kept.proofs.Given.ScenesTold
-pub use Rattle.run_kept.proofs.Models.Turns as ModelsTurns
-pub use Rattle.run_kept.proofs.Sheds.Held as ShedsHeld
-pub use Rattle.run_kept.proofs.Sheds.KeptGiven as ShedsKeptGiven
 pub use Rattle.run_legal.proofs.Begin as LegalBegin
 pub use Rattle.run_legal.proofs.Come as LegalCome
 pub use Rattle.run_legal.proofs.Given.LoggedChoosing
 pub use Rattle.run_legal.proofs.Given.LoggedGivenBack
+pub use Rattle.run_legal.proofs.Given.ModelsTurns
+pub use Rattle.run_legal.proofs.Given.OwesCalls
 pub use Rattle.run_legal.proofs.Given.RowsNeverWaits
 pub use Rattle.run_legal.proofs.Given.RowsRan
 pub use Rattle.run_legal.proofs.Legal as LegalLegal

@@ -9,7 +9,18 @@ pub use Rattle.play_lists.specs.Given.ActsLists
 pub use Rattle.play_lists.specs.Given.FindsLittle
 pub use Rattle.play_lists.specs.Given.FindsTornDown
 pub use Rattle.play_lists.specs.Given.FindsWaiting
+pub use Rattle.play_lists.specs.Given.FinishesMachines
+pub use Rattle.play_lists.specs.Given.FinishesMakings
+pub use Rattle.play_lists.specs.Given.FinishesMaps
 pub use Rattle.play_lists.specs.Given.FollowsBlocks
+pub use Rattle.play_lists.specs.Given.ModelsTurns
+pub use Rattle.play_lists.specs.Given.ScenesContracts
+pub use Rattle.play_lists.specs.Given.ScenesDeclared
+pub use Rattle.play_lists.specs.Given.ScenesOnSlots
+pub use Rattle.play_lists.specs.Given.ScenesReplying
+pub use Rattle.play_lists.specs.Given.ScenesRows
+pub use Rattle.play_lists.specs.Given.ScenesScene
+pub use Rattle.play_lists.specs.Given.ScenesStepping
 pub use Rattle.play_lists.specs.Grouped.ByActs as GroupedByActs
 pub use Rattle.play_lists.specs.Grouped.Called as GroupedCalled
 pub use Rattle.play_lists.specs.Grouped.Grouping as GroupedGrouping
@@ -52,17 +63,6 @@ pub use Rattle.play_stepping.specs.Given.SchedulerQuiet
 pub use Rattle.play_stepping.specs.Given.SchedulerReclaiming
 pub use Rattle.play_stepping.specs.Given.SchedulerWorks
 pub use Rattle.play_stepping.specs.Given.SpotsUnreclaimed
-pub use Rattle.run_kept.specs.Given.FinishesMachines
-pub use Rattle.run_kept.specs.Given.FinishesMakings
-pub use Rattle.run_kept.specs.Given.FinishesMaps
-pub use Rattle.run_kept.specs.Given.ScenesContracts
-pub use Rattle.run_kept.specs.Given.ScenesDeclared
-pub use Rattle.run_kept.specs.Given.ScenesOnSlots
-pub use Rattle.run_kept.specs.Given.ScenesReplying
-pub use Rattle.run_kept.specs.Given.ScenesRows
-pub use Rattle.run_kept.specs.Given.ScenesScene
-pub use Rattle.run_kept.specs.Given.ScenesStepping
-pub use Rattle.run_kept.specs.Models.Turns as ModelsTurns
 pub use Rattle.run_legal.specs.Given.LoggedChoosing
 pub use Rattle.run_legal.specs.Given.LoggedContracts
 pub use Rattle.run_legal.specs.Given.RowsRows

@@ -22,6 +22,7 @@ pub use Rattle.run_finds.proofs.Capacities as FindsCapacities
 pub use Rattle.run_finds.proofs.Endings as FindsEndings
 pub use Rattle.run_finds.proofs.Events as FindsEvents
 pub use Rattle.run_finds.proofs.Given.FollowsAlike
+pub use Rattle.run_finds.proofs.Given.FollowsContents
 pub use Rattle.run_finds.proofs.Given.FollowsFinds
 pub use Rattle.run_finds.proofs.Given.FollowsOperations
 pub use Rattle.run_finds.proofs.Given.HistoriesAside
@@ -31,6 +32,7 @@ pub use Rattle.run_finds.proofs.Given.HistoriesNoKey
 pub use Rattle.run_finds.proofs.Given.PromisesLists
 pub use Rattle.run_finds.proofs.Given.RuleKeys
 pub use Rattle.run_finds.proofs.Given.RuleLaws
+pub use Rattle.run_finds.proofs.Given.ScenesTold
 pub use Rattle.run_finds.proofs.Given.SettlesBetween
 pub use Rattle.run_finds.proofs.Given.SettlesCalls
 pub use Rattle.run_finds.proofs.Given.ShardsAdds
@@ -47,6 +49,7 @@ pub use Rattle.run_finds.proofs.Runs as FindsRuns
 pub use Rattle.run_finds.proofs.Somewhere as FindsSomewhere
 pub use Rattle.run_finds.proofs.Steps as FindsSteps
 pub use Rattle.run_finds.proofs.Tables as FindsTables
+pub use Rattle.run_kept.proofs.Given.FinishesAmong
 pub use Rattle.run_kept.proofs.Given.HistoriesAnyCall
 pub use Rattle.run_kept.proofs.Given.HistoriesDue
 pub use Rattle.run_kept.proofs.Given.HistoriesDueOn
@@ -55,7 +58,12 @@ pub use Rattle.run_kept.proofs.Given.HistoriesOtherMidsts
 pub use Rattle.run_kept.proofs.Given.HistoriesQuestions
 pub use Rattle.run_kept.proofs.Given.HistoriesRetaining
 pub use Rattle.run_kept.proofs.Given.PromisesShelters
+pub use Rattle.run_kept.proofs.Given.ReclaimsLeft
+pub use Rattle.run_kept.proofs.Given.RemainsInOrder
 pub use Rattle.run_kept.proofs.Given.RemainsNumbered
+pub use Rattle.run_kept.proofs.Given.RemainsRests
+pub use Rattle.run_kept.proofs.Given.SettlesGains
+pub use Rattle.run_kept.proofs.Given.SettlesOwing
 pub use Rattle.run_kept.proofs.Given.SettlesUncounted
 pub use Rattle.run_kept.proofs.Given.ShardsShardBetween
 pub use Rattle.run_kept.proofs.Given.ShardsShardKept
@@ -66,7 +74,13 @@ pub use Rattle.run_kept.proofs.Kept.Between as KeptBetween
 pub use Rattle.run_kept.proofs.Kept.Calls as KeptCalls
 pub use Rattle.run_kept.proofs.Kept.Others as KeptOthers
 pub use Rattle.run_kept.proofs.Kept.Stays as KeptStays
+pub use Rattle.run_kept.proofs.Models.Quiet as ModelsQuiet
+pub use Rattle.run_kept.proofs.Models.Rows as ModelsRows
 pub use Rattle.run_kept.proofs.Sheds.EndLists as ShedsEndLists
 pub use Rattle.run_kept.proofs.Sheds.EndOrder as ShedsEndOrder
+pub use Rattle.run_kept.proofs.Sheds.Held as ShedsHeld
+pub use Rattle.run_kept.proofs.Sheds.KeptGiven as ShedsKeptGiven
+pub use Rattle.run_kept.proofs.Sheds.LeftNoted as ShedsLeftNoted
 pub use Rattle.run_kept.proofs.Sheds.Reclaiming as ShedsReclaiming
+pub use Rattle.run_kept.proofs.Told
 pub use Rattle.run_kept.proofs.Values.Values as ValuesValues

@@ -53,6 +53,7 @@ pub use Rattle.run_finds.specs.Given.OthersWalks
 pub use Rattle.run_finds.specs.Given.PromisesShelters
 pub use Rattle.run_finds.specs.Given.RuleInWorld
 pub use Rattle.run_finds.specs.Given.SettlesCounts
+pub use Rattle.run_finds.specs.Given.SettlesOwing
 pub use Rattle.run_finds.specs.Given.ShardsShardWords
 pub use Rattle.run_finds.specs.Given.TellerTells
 pub use Rattle.run_finds.specs.Given.TellsSeen
@@ -69,9 +70,13 @@ pub use Rattle.run_kept.specs.Given.HistoriesAsking
 pub use Rattle.run_kept.specs.Given.HistoriesDue
 pub use Rattle.run_kept.specs.Given.HistoriesInEvent
 pub use Rattle.run_kept.specs.Given.HistoriesOtherCalls
+pub use Rattle.run_kept.specs.Given.HistoriesOtherMidsts
 pub use Rattle.run_kept.specs.Given.HistoriesQuestions
 pub use Rattle.run_kept.specs.Given.PromisesSheltered
 pub use Rattle.run_kept.specs.Given.RemainsNumbered
+pub use Rattle.run_kept.specs.Given.ScenesContracts
 pub use Rattle.run_kept.specs.Given.ShardsAdds
 pub use Rattle.run_kept.specs.Kept.Kept as KeptKept
+pub use Rattle.run_kept.specs.Models.Rows as ModelsRows
+pub use Rattle.run_kept.specs.Models.Turns as ModelsTurns
 pub use Rattle.run_kept.specs.Values.Values as ValuesValues

@@ -9,7 +9,10 @@ pub use Rattle.play_scheduler.proofs.Dropped as SchedulerDropped
 pub use Rattle.play_scheduler.proofs.Drops as SchedulerDrops
 pub use Rattle.play_scheduler.proofs.Enters as SchedulerEnters
 pub use Rattle.play_scheduler.proofs.Flushes as SchedulerFlushes
+pub use Rattle.play_scheduler.proofs.Given.Lists
 pub use Rattle.play_scheduler.proofs.Given.LoggedCounted
+pub use Rattle.play_scheduler.proofs.Given.RemainsLeads
+pub use Rattle.play_scheduler.proofs.Given.RemainsLists
 pub use Rattle.play_scheduler.proofs.Given.RowsFacts
 pub use Rattle.play_scheduler.proofs.Given.RowsLists
 pub use Rattle.play_scheduler.proofs.HeldTold as SchedulerHeldTold
@@ -34,6 +37,7 @@ pub use Rattle.run_executor.proofs.Given.HandsCalling
 pub use Rattle.run_executor.proofs.Given.MomentsAfter
 pub use Rattle.run_executor.proofs.Given.MomentsNewMaps
 pub use Rattle.run_executor.proofs.Given.MomentsNumbers
+pub use Rattle.run_executor.proofs.Given.ScenesLeads
 pub use Rattle.run_executor.proofs.Given.SpotsUnreclaimed
 pub use Rattle.run_executor.proofs.Named.Called as NamedCalled
 pub use Rattle.run_sweeps.proofs.Needs.Ends as NeedsEnds

@@ -5,6 +5,7 @@ pub use Rattle.owner_whole.specs.Given.CallersRows
 pub use Rattle.owner_whole.specs.Given.CallersTogether
 pub use Rattle.owner_whole.specs.Given.PointsSteps
 pub use Rattle.owner_whole.specs.Given.ResizeDeclared
+pub use Rattle.owner_whole.specs.Given.ResizeNewMap
 pub use Rattle.papaya_raw.specs.Given.ReservesDeclared
 pub use Rattle.papaya_raw.specs.Given.SweepsSweepPoints
 pub use Rattle.papaya_raw.specs.Machine as RawMachine
@@ -19,6 +20,10 @@ pub use Rattle.play_scheduler.specs.Given.LoggedEnds
 pub use Rattle.play_scheduler.specs.Given.LoggedGoes
 pub use Rattle.play_scheduler.specs.Given.LoggedMakings
 pub use Rattle.play_scheduler.specs.Given.LoggedShown
+pub use Rattle.play_scheduler.specs.Given.ReclaimsLeft
+pub use Rattle.play_scheduler.specs.Given.RemainsRemains
+pub use Rattle.play_scheduler.specs.Given.RuleChart
+pub use Rattle.play_scheduler.specs.Given.ShedsWaits
 pub use Rattle.play_scheduler.specs.KeptOut as SchedulerKeptOut
 pub use Rattle.play_scheduler.specs.Mapping as SchedulerMapping
 pub use Rattle.play_scheduler.specs.Played as SchedulerPlayed
@@ -48,6 +53,7 @@ pub use Rattle.run_executor.specs.Named.Telling as NamedTelling
 pub use Rattle.run_executor.specs.ReclaimsAll.Reclaiming as ReclaimingReclaiming
 pub use Rattle.run_executor.specs.contracts as ExecutorContracts
 pub use Rattle.run_executor.specs.declared as ExecutorDeclared
+pub use Rattle.run_sweeps.specs.Given.Ends
 pub use Rattle.run_sweeps.specs.Given.PurposesPurposes
 pub use Rattle.run_sweeps.specs.Needs.Firsts as NeedsFirsts
 pub use Rattle.run_sweeps.specs.Needs.Makings as NeedsMakings

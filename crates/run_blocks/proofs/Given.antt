@@ -1,4 +1,5 @@
 -- What is so by the crates below, given on to the crates above: these list this crate in place of those.
+pub use Rattle.owner_calls.proofs.Given.SeizeAloneLaws
 pub use Rattle.owner_calls.proofs.Given.WaitersBeginsSweeps
 pub use Rattle.owner_calls.proofs.Given.WaitersCalls
 pub use Rattle.owner_calls.proofs.Given.WaitersLikes
@@ -15,6 +16,13 @@ pub use Rattle.run_debts.proofs.Calls as SettlesCalls
 pub use Rattle.run_debts.proofs.DueCalls as SettlesDueCalls
 pub use Rattle.run_debts.proofs.EntryScenes as SettlesEntryScenes
 pub use Rattle.run_debts.proofs.Gains as SettlesGains
+pub use Rattle.run_debts.proofs.Given.CallersRows
+pub use Rattle.run_debts.proofs.Given.FinishesBeside
+pub use Rattle.run_debts.proofs.Given.OthersEnds
+pub use Rattle.run_debts.proofs.Given.OthersQuiet
+pub use Rattle.run_debts.proofs.Given.ReclaimsLeft
+pub use Rattle.run_debts.proofs.Given.ScenesBetween
+pub use Rattle.run_debts.proofs.Given.SeizeMovesSets
 pub use Rattle.run_debts.proofs.Hand as SettlesHand
 pub use Rattle.run_debts.proofs.Handing as SettlesHanding
 pub use Rattle.run_debts.proofs.Keys as SettlesKeys

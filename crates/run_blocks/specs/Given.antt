@@ -26,9 +26,12 @@ pub use Rattle.owner_calls.specs.Given.WaitsWaits
 pub use Rattle.run_debts.specs.Counts as SettlesCounts
 pub use Rattle.run_debts.specs.Due as SettlesDue
 pub use Rattle.run_debts.specs.Entries as SettlesEntries
+pub use Rattle.run_debts.specs.Given.ReclaimsLeft
+pub use Rattle.run_debts.specs.Given.ResizeNewMap
 pub use Rattle.run_debts.specs.Given.TablesChunks
 pub use Rattle.run_debts.specs.Given.TablesDeclared
 pub use Rattle.run_debts.specs.Given.TablesNodes
+pub use Rattle.run_debts.specs.Given.TellerChanged
 pub use Rattle.run_debts.specs.Hand as SettlesHand
 pub use Rattle.run_debts.specs.Handing as SettlesHanding
 pub use Rattle.run_debts.specs.InHand as SettlesInHand

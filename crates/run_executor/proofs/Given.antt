@@ -8,6 +8,9 @@ pub use Rattle.run_effects.proofs.Given.SeizeMemoryWords
 pub use Rattle.run_effects.proofs.Given.SeizeMovesState
 pub use Rattle.run_effects.proofs.Given.SeizeRuleRows
 pub use Rattle.run_effects.proofs.Given.SeizeRuleWords
+pub use Rattle.run_effects.proofs.Given.SeizeWaitingFlushes
+pub use Rattle.run_effects.proofs.Given.SeizeWaitingLaws
+pub use Rattle.run_effects.proofs.Given.SeizeWaitingTidy
 pub use Rattle.run_effects.proofs.Tells.Promised as TellsPromised
 pub use Rattle.run_places.proofs.Changes.Begun as ChangesBegun
 pub use Rattle.run_places.proofs.Changes.Changes as ChangesChanges
@@ -66,6 +69,7 @@ pub use Rattle.run_shows.proofs.Follows.Linked as FollowsLinked
 pub use Rattle.run_shows.proofs.Follows.OfEach as FollowsOfEach
 pub use Rattle.run_shows.proofs.Follows.Onward as FollowsOnward
 pub use Rattle.run_shows.proofs.Follows.Operations as FollowsOperations
+pub use Rattle.run_shows.proofs.Follows.Quiet as FollowsQuiet
 pub use Rattle.run_shows.proofs.Follows.RowSteps as FollowsRowSteps
 pub use Rattle.run_shows.proofs.Follows.Rows as FollowsRows
 pub use Rattle.run_shows.proofs.Follows.Steps as FollowsSteps
@@ -75,6 +79,7 @@ pub use Rattle.run_shows.proofs.Follows.Writes as FollowsWrites
 pub use Rattle.run_shows.proofs.Given.CallersAsked
 pub use Rattle.run_shows.proofs.Given.CallersSights
 pub use Rattle.run_shows.proofs.Given.CallersTogether
+pub use Rattle.run_shows.proofs.Given.FinishesAmong
 pub use Rattle.run_shows.proofs.Given.FinishesEnds
 pub use Rattle.run_shows.proofs.Given.LateCopiers
 pub use Rattle.run_shows.proofs.Given.LateKindsKept
@@ -97,14 +102,20 @@ pub use Rattle.run_shows.proofs.Given.SeizeSetsTurns
 pub use Rattle.run_shows.proofs.Others.EndBegins as OthersEndBegins
 pub use Rattle.run_shows.proofs.Others.Leads as OthersLeads
 pub use Rattle.run_shows.proofs.Others.Makes as OthersMakes
+pub use Rattle.run_shows.proofs.Others.MakingGoes as OthersMakingGoes
 pub use Rattle.run_shows.proofs.Others.MakingPlans as OthersMakingPlans
 pub use Rattle.run_shows.proofs.Others.Outcomes as OthersOutcomes
 pub use Rattle.run_shows.proofs.Others.Outside as OthersOutside
+pub use Rattle.run_shows.proofs.Others.RowGives as OthersRowGives
 pub use Rattle.run_shows.proofs.Others.RowPlans as OthersRowPlans
+pub use Rattle.run_shows.proofs.Others.Rows as OthersRows
+pub use Rattle.run_shows.proofs.Others.Stays as OthersStays
 pub use Rattle.run_shows.proofs.Others.Walks as OthersWalks
 pub use Rattle.run_shows.proofs.Scenes.Goes as ScenesGoes
+pub use Rattle.run_shows.proofs.Scenes.Leads as ScenesLeads
 pub use Rattle.run_shows.proofs.Scenes.May as ScenesMay
 pub use Rattle.run_shows.proofs.Scenes.NoCall as ScenesNoCall
+pub use Rattle.run_shows.proofs.Scenes.Rows as ScenesRows
 pub use Rattle.run_shows.proofs.Scenes.Told as ScenesTold
 pub use Rattle.seize_words.proofs.General
 pub use Rattle.seize_words.proofs.OneMemory.OneOwner as SeizeWordsOneOwner

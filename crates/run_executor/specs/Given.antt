@@ -19,6 +19,8 @@ pub use Rattle.run_effects.specs.Given.RuleMaps
 pub use Rattle.run_effects.specs.Given.RuleMoments
 pub use Rattle.run_effects.specs.Given.RuleRule
 pub use Rattle.run_effects.specs.Given.RuleWords
+pub use Rattle.run_effects.specs.Given.SeizeWaitingChanges
+pub use Rattle.run_effects.specs.Given.SeizeWaitingHanded
 pub use Rattle.run_effects.specs.Given.SeizeWaitingHeld
 pub use Rattle.run_effects.specs.ReportingMemory.Tells as TellerTells
 pub use Rattle.run_effects.specs.Tells.Seen as TellsSeen
@@ -126,6 +128,7 @@ pub use Rattle.run_shows.specs.Given.SeizeSetsReclaims
 pub use Rattle.run_shows.specs.Others.After as OthersAfter
 pub use Rattle.run_shows.specs.Others.Elsewhere as OthersElsewhere
 pub use Rattle.run_shows.specs.Others.Endings as OthersEndings
+pub use Rattle.run_shows.specs.Others.Gone as OthersGone
 pub use Rattle.run_shows.specs.Others.Makings as OthersMakings
 pub use Rattle.run_shows.specs.Others.Rows as OthersRows
 pub use Rattle.run_shows.specs.Others.Walks as OthersWalks
@@ -141,6 +144,7 @@ pub use Rattle.run_shows.specs.Scenes.Replying as ScenesReplying
 pub use Rattle.run_shows.specs.Scenes.Rows as ScenesRows
 pub use Rattle.run_shows.specs.Scenes.Scene as ScenesScene
 pub use Rattle.run_shows.specs.Scenes.Stepping as ScenesStepping
+pub use Rattle.run_shows.specs.contracts as ScenesContracts
 pub use Rattle.run_shows.specs.declared as ScenesDeclared
 pub use Rattle.seize.specs.Defer as SeizeDefer
 pub use Rattle.seize.specs.Further as SeizeFurther

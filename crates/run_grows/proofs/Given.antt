@@ -1,69 +1,66 @@
 -- What is so by the crates below, given on to the crates above: these list this crate in place of those.
-pub use Rattle.run_executor.proofs.Executing.OnSlotBegun as ExecutingOnSlotBegun
-pub use Rattle.run_executor.proofs.Executing.RowLeads as ExecutorRowLeads
-pub use Rattle.run_executor.proofs.Given.CallersTogether
-pub use Rattle.run_executor.proofs.Given.ChangesLogs
-pub use Rattle.run_executor.proofs.Given.FinishesEnds
-pub use Rattle.run_executor.proofs.Given.FollowsAlike
-pub use Rattle.run_executor.proofs.Given.FollowsCalling
-pub use Rattle.run_executor.proofs.Given.FollowsContents
-pub use Rattle.run_executor.proofs.Given.FollowsOfEach
-pub use Rattle.run_executor.proofs.Given.FollowsOperations
-pub use Rattle.run_executor.proofs.Given.FollowsSteps
-pub use Rattle.run_executor.proofs.Given.FollowsTold
-pub use Rattle.run_executor.proofs.Given.General
-pub use Rattle.run_executor.proofs.Given.HandsAsking
-pub use Rattle.run_executor.proofs.Given.HandsCalling
-pub use Rattle.run_executor.proofs.Given.LateKindsKept
-pub use Rattle.run_executor.proofs.Given.MomentsAfter
-pub use Rattle.run_executor.proofs.Given.MomentsCalls
-pub use Rattle.run_executor.proofs.Given.MomentsEnds
-pub use Rattle.run_executor.proofs.Given.MomentsMakingSteps
-pub use Rattle.run_executor.proofs.Given.MomentsMapsCome
-pub use Rattle.run_executor.proofs.Given.MomentsNewMaps
-pub use Rattle.run_executor.proofs.Given.MomentsNumbers
-pub use Rattle.run_executor.proofs.Given.MomentsOnSlots
-pub use Rattle.run_executor.proofs.Given.MomentsOver
-pub use Rattle.run_executor.proofs.Given.MomentsWalks
-pub use Rattle.run_executor.proofs.Given.OthersLeads
-pub use Rattle.run_executor.proofs.Given.OthersOutcomes
-pub use Rattle.run_executor.proofs.Given.OthersRowPlans
-pub use Rattle.run_executor.proofs.Given.ScenesGoes
-pub use Rattle.run_executor.proofs.Given.ScenesMay
-pub use Rattle.run_executor.proofs.Given.ScenesNoCall
-pub use Rattle.run_executor.proofs.Given.ScenesTold
-pub use Rattle.run_executor.proofs.Given.SeizeAloneHistories
-pub use Rattle.run_executor.proofs.Given.SeizeAloneSpared
-pub use Rattle.run_executor.proofs.Given.SeizeAloneWhole
-pub use Rattle.run_executor.proofs.Given.SeizeEndsBatches
-pub use Rattle.run_executor.proofs.Given.SeizeMemoryWords
-pub use Rattle.run_executor.proofs.Given.SeizeMovesState
-pub use Rattle.run_executor.proofs.Given.SeizeQuietSlots
-pub use Rattle.run_executor.proofs.Given.SeizeReclaimsAllReclaimed
-pub use Rattle.run_executor.proofs.Given.SeizeRulePoints
-pub use Rattle.run_executor.proofs.Given.SeizeRuleRows
-pub use Rattle.run_executor.proofs.Given.SeizeRuleWords
-pub use Rattle.run_executor.proofs.Given.SeizeRuleWorld
-pub use Rattle.run_executor.proofs.Given.SeizeSetsReclaims
-pub use Rattle.run_executor.proofs.Given.SeizeSetsSlots
-pub use Rattle.run_executor.proofs.Given.SeizeSetsTurns
-pub use Rattle.run_executor.proofs.Given.SeizeWordsOneOwner
-pub use Rattle.run_executor.proofs.Given.SeizeWordsPlaces
-pub use Rattle.run_executor.proofs.Given.SpotsEffects
-pub use Rattle.run_executor.proofs.Given.SpotsUnreclaimed
-pub use Rattle.run_executor.proofs.Named.Called as NamedCalled
 pub use Rattle.run_finds.proofs.Begun as FindsBegun
 pub use Rattle.run_finds.proofs.Capacities as FindsCapacities
 pub use Rattle.run_finds.proofs.Closed as FindsClosed
 pub use Rattle.run_finds.proofs.Doing as FindsDoing
 pub use Rattle.run_finds.proofs.Endings as FindsEndings
 pub use Rattle.run_finds.proofs.Found as FindsFound
+pub use Rattle.run_finds.proofs.Given.CallersTogether
+pub use Rattle.run_finds.proofs.Given.ChangesLogs
+pub use Rattle.run_finds.proofs.Given.ExecutingOnSlotBegun
+pub use Rattle.run_finds.proofs.Given.ExecutorRowLeads
+pub use Rattle.run_finds.proofs.Given.FinishesEnds
+pub use Rattle.run_finds.proofs.Given.FollowsAlike
+pub use Rattle.run_finds.proofs.Given.FollowsCalling
+pub use Rattle.run_finds.proofs.Given.FollowsContents
+pub use Rattle.run_finds.proofs.Given.FollowsOperations
+pub use Rattle.run_finds.proofs.Given.FollowsSteps
+pub use Rattle.run_finds.proofs.Given.FollowsTold
+pub use Rattle.run_finds.proofs.Given.General
+pub use Rattle.run_finds.proofs.Given.HandsAsking
+pub use Rattle.run_finds.proofs.Given.HandsCalling
 pub use Rattle.run_finds.proofs.Given.HistoriesAside
 pub use Rattle.run_finds.proofs.Given.HistoriesCalling
 pub use Rattle.run_finds.proofs.Given.HistoriesNoKey
+pub use Rattle.run_finds.proofs.Given.LateKindsKept
+pub use Rattle.run_finds.proofs.Given.MomentsAfter
+pub use Rattle.run_finds.proofs.Given.MomentsCalls
+pub use Rattle.run_finds.proofs.Given.MomentsEnds
+pub use Rattle.run_finds.proofs.Given.MomentsMakingSteps
+pub use Rattle.run_finds.proofs.Given.MomentsMapsCome
+pub use Rattle.run_finds.proofs.Given.MomentsNewMaps
+pub use Rattle.run_finds.proofs.Given.MomentsNumbers
+pub use Rattle.run_finds.proofs.Given.MomentsOnSlots
+pub use Rattle.run_finds.proofs.Given.MomentsOver
+pub use Rattle.run_finds.proofs.Given.MomentsWalks
+pub use Rattle.run_finds.proofs.Given.NamedCalled
+pub use Rattle.run_finds.proofs.Given.OthersLeads
+pub use Rattle.run_finds.proofs.Given.OthersOutcomes
+pub use Rattle.run_finds.proofs.Given.OthersRowPlans
+pub use Rattle.run_finds.proofs.Given.ScenesGoes
+pub use Rattle.run_finds.proofs.Given.ScenesTold
+pub use Rattle.run_finds.proofs.Given.SeizeAloneHistories
+pub use Rattle.run_finds.proofs.Given.SeizeAloneSpared
+pub use Rattle.run_finds.proofs.Given.SeizeAloneWhole
+pub use Rattle.run_finds.proofs.Given.SeizeEndsBatches
+pub use Rattle.run_finds.proofs.Given.SeizeMemoryWords
+pub use Rattle.run_finds.proofs.Given.SeizeMovesState
+pub use Rattle.run_finds.proofs.Given.SeizeQuietSlots
+pub use Rattle.run_finds.proofs.Given.SeizeReclaimsAllReclaimed
+pub use Rattle.run_finds.proofs.Given.SeizeRulePoints
+pub use Rattle.run_finds.proofs.Given.SeizeRuleRows
+pub use Rattle.run_finds.proofs.Given.SeizeRuleWords
+pub use Rattle.run_finds.proofs.Given.SeizeRuleWorld
+pub use Rattle.run_finds.proofs.Given.SeizeSetsReclaims
+pub use Rattle.run_finds.proofs.Given.SeizeSetsSlots
+pub use Rattle.run_finds.proofs.Given.SeizeSetsTurns
+pub use Rattle.run_finds.proofs.Given.SeizeWordsOneOwner
+pub use Rattle.run_finds.proofs.Given.SeizeWordsPlaces
 pub use Rattle.run_finds.proofs.Given.SettlesCalls
 pub use Rattle.run_finds.proofs.Given.SettlesHand
 pub use Rattle.run_finds.proofs.Given.ShardsShardCalls
+pub use Rattle.run_finds.proofs.Given.SpotsEffects
+pub use Rattle.run_finds.proofs.Given.SpotsUnreclaimed
 pub use Rattle.run_finds.proofs.Grows as FindsGrows
 pub use Rattle.run_finds.proofs.Joined as FindsJoined
 pub use Rattle.run_finds.proofs.Life as FindsLife
@@ -75,6 +72,7 @@ pub use Rattle.run_finds.proofs.Quiet as FindsQuiet
 pub use Rattle.run_finds.proofs.Runs as FindsRuns
 pub use Rattle.run_finds.proofs.Somewhere as FindsSomewhere
 pub use Rattle.run_finds.proofs.Steps as FindsSteps
+pub use Rattle.run_kept.proofs.Given.FollowsOfEach
 pub use Rattle.run_kept.proofs.Given.HistoriesAnyCall
 pub use Rattle.run_kept.proofs.Given.HistoriesDue
 pub use Rattle.run_kept.proofs.Given.HistoriesDueOn
@@ -108,6 +106,8 @@ pub use Rattle.run_kept.proofs.Given.PromisesShelters
 pub use Rattle.run_kept.proofs.Given.PromisesWeights
 pub use Rattle.run_kept.proofs.Given.RemainsLists
 pub use Rattle.run_kept.proofs.Given.RemainsSlots
+pub use Rattle.run_kept.proofs.Given.ScenesMay
+pub use Rattle.run_kept.proofs.Given.ScenesNoCall
 pub use Rattle.run_kept.proofs.Given.ScenesRows
 pub use Rattle.run_kept.proofs.Given.SettlesUncounted
 pub use Rattle.run_kept.proofs.Given.ShardsShardBetween

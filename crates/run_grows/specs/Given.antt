@@ -18,92 +18,79 @@ pub use Rattle.papaya_raw.specs.Given.TablesDeclared
 pub use Rattle.papaya_raw.specs.Given.TablesNodes
 pub use Rattle.papaya_raw.specs.Machine as RawMachine
 pub use Rattle.papaya_raw.specs.declared as RawDeclared
-pub use Rattle.run_executor.specs.Executing.IsThere as ExecutorIsThere
-pub use Rattle.run_executor.specs.Executing.OnSlots as ExecutorOnSlots
-pub use Rattle.run_executor.specs.Given.CallersOverAll
-pub use Rattle.run_executor.specs.Given.CallersPairs
-pub use Rattle.run_executor.specs.Given.CallersRooms
-pub use Rattle.run_executor.specs.Given.CallersRows
-pub use Rattle.run_executor.specs.Given.CallersSights
-pub use Rattle.run_executor.specs.Given.CallersTogether
-pub use Rattle.run_executor.specs.Given.ChangesChanges
-pub use Rattle.run_executor.specs.Given.ChangesHistories
-pub use Rattle.run_executor.specs.Given.ChangesKept
-pub use Rattle.run_executor.specs.Given.EffectsDeclared
-pub use Rattle.run_executor.specs.Given.EffectsEffects
-pub use Rattle.run_executor.specs.Given.EffectsKnown
-pub use Rattle.run_executor.specs.Given.FinishesEndings
-pub use Rattle.run_executor.specs.Given.FinishesFactsEnds
-pub use Rattle.run_executor.specs.Given.FinishesMachines
-pub use Rattle.run_executor.specs.Given.FinishesMakings
-pub use Rattle.run_executor.specs.Given.FinishesMaps
-pub use Rattle.run_executor.specs.Given.FollowsBlocks
-pub use Rattle.run_executor.specs.Given.FollowsCalling
-pub use Rattle.run_executor.specs.Given.FollowsCalls
-pub use Rattle.run_executor.specs.Given.FollowsShows
-pub use Rattle.run_executor.specs.Given.FollowsSteps
-pub use Rattle.run_executor.specs.Given.HandsAsked
-pub use Rattle.run_executor.specs.Given.HandsCalling
-pub use Rattle.run_executor.specs.Given.HandsHands
-pub use Rattle.run_executor.specs.Given.LateFaults
-pub use Rattle.run_executor.specs.Given.LateKinds
-pub use Rattle.run_executor.specs.Given.MomentsEndings
-pub use Rattle.run_executor.specs.Given.MomentsNumbers
-pub use Rattle.run_executor.specs.Given.MomentsOnSlots
-pub use Rattle.run_executor.specs.Given.MomentsWhole
-pub use Rattle.run_executor.specs.Given.OthersElsewhere
-pub use Rattle.run_executor.specs.Given.OthersEndings
-pub use Rattle.run_executor.specs.Given.OthersMakings
-pub use Rattle.run_executor.specs.Given.OthersRows
-pub use Rattle.run_executor.specs.Given.OthersWalks
-pub use Rattle.run_executor.specs.Given.PointsFactsCalls
-pub use Rattle.run_executor.specs.Given.PointsSteps
-pub use Rattle.run_executor.specs.Given.ReclaimsReclaims
-pub use Rattle.run_executor.specs.Given.ReclaimsSlots
-pub use Rattle.run_executor.specs.Given.RuleChart
-pub use Rattle.run_executor.specs.Given.RuleInWorld
-pub use Rattle.run_executor.specs.Given.ScenesBeginning
-pub use Rattle.run_executor.specs.Given.ScenesDeclared
-pub use Rattle.run_executor.specs.Given.ScenesEnding
-pub use Rattle.run_executor.specs.Given.ScenesHeld
-pub use Rattle.run_executor.specs.Given.ScenesMaking
-pub use Rattle.run_executor.specs.Given.ScenesOnSlots
-pub use Rattle.run_executor.specs.Given.ScenesReclaiming
-pub use Rattle.run_executor.specs.Given.ScenesReplying
-pub use Rattle.run_executor.specs.Given.ScenesRows
-pub use Rattle.run_executor.specs.Given.ScenesScene
-pub use Rattle.run_executor.specs.Given.ScenesStepping
-pub use Rattle.run_executor.specs.Given.SeizeAloneAlone
-pub use Rattle.run_executor.specs.Given.SeizeQuietSlots
-pub use Rattle.run_executor.specs.Given.SeizeReclaimsAllReclaimed
-pub use Rattle.run_executor.specs.Given.SeizeReclaimsRoots
-pub use Rattle.run_executor.specs.Given.SeizeSetsReclaims
-pub use Rattle.run_executor.specs.Given.SeizeWaitingHeld
-pub use Rattle.run_executor.specs.Given.SeizeWordsDeclared
-pub use Rattle.run_executor.specs.Given.SeizeWordsMem
-pub use Rattle.run_executor.specs.Given.SeizeWordsOp
-pub use Rattle.run_executor.specs.Given.SeizeWordsPlan
-pub use Rattle.run_executor.specs.Given.SeizeWordsWord
-pub use Rattle.run_executor.specs.Given.SpotsOnSlots
-pub use Rattle.run_executor.specs.Given.SpotsUnreclaimed
-pub use Rattle.run_executor.specs.Given.TellerTells
-pub use Rattle.run_executor.specs.Given.TellsSeen
-pub use Rattle.run_executor.specs.Named.Machines as NamedMachines
-pub use Rattle.run_executor.specs.Named.Places as NamedPlaces
-pub use Rattle.run_executor.specs.Named.Seen as NamedSeen
-pub use Rattle.run_executor.specs.declared as ExecutorDeclared
 pub use Rattle.run_finds.specs.Bounded as FindsBounded
 pub use Rattle.run_finds.specs.Capacities as FindsCapacities
 pub use Rattle.run_finds.specs.Doing as FindsDoing
+pub use Rattle.run_finds.specs.Given.CallersOverAll
+pub use Rattle.run_finds.specs.Given.CallersPairs
+pub use Rattle.run_finds.specs.Given.CallersRooms
+pub use Rattle.run_finds.specs.Given.CallersRows
+pub use Rattle.run_finds.specs.Given.CallersSights
+pub use Rattle.run_finds.specs.Given.CallersTogether
+pub use Rattle.run_finds.specs.Given.ChangesChanges
+pub use Rattle.run_finds.specs.Given.ChangesHistories
+pub use Rattle.run_finds.specs.Given.ChangesKept
+pub use Rattle.run_finds.specs.Given.EffectsDeclared
+pub use Rattle.run_finds.specs.Given.EffectsEffects
+pub use Rattle.run_finds.specs.Given.EffectsKnown
+pub use Rattle.run_finds.specs.Given.ExecutorDeclared
+pub use Rattle.run_finds.specs.Given.ExecutorIsThere
+pub use Rattle.run_finds.specs.Given.ExecutorOnSlots
+pub use Rattle.run_finds.specs.Given.FinishesMachines
+pub use Rattle.run_finds.specs.Given.FinishesMaps
+pub use Rattle.run_finds.specs.Given.FollowsBlocks
+pub use Rattle.run_finds.specs.Given.FollowsCalling
+pub use Rattle.run_finds.specs.Given.FollowsCalls
+pub use Rattle.run_finds.specs.Given.FollowsShows
+pub use Rattle.run_finds.specs.Given.FollowsSteps
+pub use Rattle.run_finds.specs.Given.HandsAsked
+pub use Rattle.run_finds.specs.Given.HandsCalling
+pub use Rattle.run_finds.specs.Given.HandsHands
 pub use Rattle.run_finds.specs.Given.HistoriesAnswers
+pub use Rattle.run_finds.specs.Given.LateFaults
+pub use Rattle.run_finds.specs.Given.LateKinds
+pub use Rattle.run_finds.specs.Given.MomentsEndings
+pub use Rattle.run_finds.specs.Given.MomentsNumbers
+pub use Rattle.run_finds.specs.Given.MomentsOnSlots
+pub use Rattle.run_finds.specs.Given.MomentsWhole
+pub use Rattle.run_finds.specs.Given.NamedMachines
+pub use Rattle.run_finds.specs.Given.NamedPlaces
+pub use Rattle.run_finds.specs.Given.NamedSeen
+pub use Rattle.run_finds.specs.Given.OthersElsewhere
+pub use Rattle.run_finds.specs.Given.OthersWalks
+pub use Rattle.run_finds.specs.Given.PointsFactsCalls
+pub use Rattle.run_finds.specs.Given.PointsSteps
+pub use Rattle.run_finds.specs.Given.ReclaimsSlots
 pub use Rattle.run_finds.specs.Given.ResizeDeclared
 pub use Rattle.run_finds.specs.Given.ResizeNewTable
+pub use Rattle.run_finds.specs.Given.RuleChart
+pub use Rattle.run_finds.specs.Given.RuleInWorld
+pub use Rattle.run_finds.specs.Given.ScenesBeginning
+pub use Rattle.run_finds.specs.Given.ScenesHeld
+pub use Rattle.run_finds.specs.Given.ScenesReplying
+pub use Rattle.run_finds.specs.Given.ScenesScene
+pub use Rattle.run_finds.specs.Given.ScenesStepping
+pub use Rattle.run_finds.specs.Given.SeizeAloneAlone
+pub use Rattle.run_finds.specs.Given.SeizeQuietSlots
+pub use Rattle.run_finds.specs.Given.SeizeReclaimsAllReclaimed
+pub use Rattle.run_finds.specs.Given.SeizeReclaimsRoots
+pub use Rattle.run_finds.specs.Given.SeizeSetsReclaims
+pub use Rattle.run_finds.specs.Given.SeizeWaitingHeld
+pub use Rattle.run_finds.specs.Given.SeizeWordsDeclared
+pub use Rattle.run_finds.specs.Given.SeizeWordsMem
+pub use Rattle.run_finds.specs.Given.SeizeWordsOp
+pub use Rattle.run_finds.specs.Given.SeizeWordsPlan
+pub use Rattle.run_finds.specs.Given.SeizeWordsWord
 pub use Rattle.run_finds.specs.Given.SettlesCounts
 pub use Rattle.run_finds.specs.Given.SettlesDue
 pub use Rattle.run_finds.specs.Given.SettlesHand
 pub use Rattle.run_finds.specs.Given.SettlesInHand
 pub use Rattle.run_finds.specs.Given.ShardsShardSteps
 pub use Rattle.run_finds.specs.Given.ShardsShardWords
+pub use Rattle.run_finds.specs.Given.SpotsOnSlots
+pub use Rattle.run_finds.specs.Given.SpotsUnreclaimed
+pub use Rattle.run_finds.specs.Given.TellerTells
+pub use Rattle.run_finds.specs.Given.TellsSeen
 pub use Rattle.run_finds.specs.Life as FindsLife
 pub use Rattle.run_finds.specs.Linking as FindsLinking
 pub use Rattle.run_finds.specs.Little as FindsLittle
@@ -114,9 +101,13 @@ pub use Rattle.run_finds.specs.Purposes.Shards as PurposesShards
 pub use Rattle.run_finds.specs.Purposes.Tableless as PurposesTableless
 pub use Rattle.run_finds.specs.Waiting as FindsWaiting
 pub use Rattle.run_finds.specs.Within as FindsWithin
+pub use Rattle.run_kept.specs.Given.FinishesEndings
+pub use Rattle.run_kept.specs.Given.FinishesFactsEnds
+pub use Rattle.run_kept.specs.Given.FinishesMakings
 pub use Rattle.run_kept.specs.Given.HistoriesAsCalled
 pub use Rattle.run_kept.specs.Given.HistoriesAsking
 pub use Rattle.run_kept.specs.Given.HistoriesDue
+pub use Rattle.run_kept.specs.Given.HistoriesEvents
 pub use Rattle.run_kept.specs.Given.HistoriesInEvent
 pub use Rattle.run_kept.specs.Given.HistoriesOtherCalls
 pub use Rattle.run_kept.specs.Given.HistoriesQuestions
@@ -125,6 +116,9 @@ pub use Rattle.run_kept.specs.Given.LivesBehind
 pub use Rattle.run_kept.specs.Given.LivesHanded
 pub use Rattle.run_kept.specs.Given.LivesRetired
 pub use Rattle.run_kept.specs.Given.LivesWaiting
+pub use Rattle.run_kept.specs.Given.OthersEndings
+pub use Rattle.run_kept.specs.Given.OthersMakings
+pub use Rattle.run_kept.specs.Given.OthersRows
 pub use Rattle.run_kept.specs.Given.OwesEvents
 pub use Rattle.run_kept.specs.Given.OwesLooking
 pub use Rattle.run_kept.specs.Given.OwesMaking
@@ -136,7 +130,14 @@ pub use Rattle.run_kept.specs.Given.PromisesProtected
 pub use Rattle.run_kept.specs.Given.PromisesReading
 pub use Rattle.run_kept.specs.Given.PromisesSheltered
 pub use Rattle.run_kept.specs.Given.PromisesWeights
+pub use Rattle.run_kept.specs.Given.ReclaimsReclaims
 pub use Rattle.run_kept.specs.Given.RemainsSlots
+pub use Rattle.run_kept.specs.Given.ScenesDeclared
+pub use Rattle.run_kept.specs.Given.ScenesEnding
+pub use Rattle.run_kept.specs.Given.ScenesMaking
+pub use Rattle.run_kept.specs.Given.ScenesOnSlots
+pub use Rattle.run_kept.specs.Given.ScenesReclaiming
+pub use Rattle.run_kept.specs.Given.ScenesRows
 pub use Rattle.run_kept.specs.Given.ShardsAdds
 pub use Rattle.run_kept.specs.Kept.Kept as KeptKept
 pub use Rattle.run_kept.specs.Models.Alike as ModelsAlike

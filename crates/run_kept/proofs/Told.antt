@@ -5,9 +5,9 @@ use Rattle.run_schedules.specs.Given.SeizeWordsMem.{Mem, value_at}
 use Rattle.run_schedules.specs.Given.SeizeWordsOp.{Op, Out}
 use Rattle.run_schedules.specs.Given.SeizeWordsPlan.{Plan, Then, Now, Seeing, Sure, Turn, Do, Ends, then_as, plan_as}
 use Rattle.papaya_raw.specs.Given.TablesDeclared.node.Node.{Node}
-use Rattle.run_effects.specs.Tells.Seen.{seen_of}
-use Rattle.run_effects.specs.ReportingMemory.Tells.{observed_of, StepsObserved}
-use Rattle.run_effects.specs.declared.changed.Changed.{Changed}
+use Rattle.run_executor.specs.Given.TellsSeen.{seen_of}
+use Rattle.run_executor.specs.Given.TellerTells.{observed_of, StepsObserved}
+use Rattle.run_executor.specs.Given.EffectsDeclared.changed.Changed.{Changed}
 
 -- what a step whose outcome is turned into another comes to, and tells
 module _ {K V A B : Type 0} (f : A → B) where

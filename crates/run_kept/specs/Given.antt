@@ -18,6 +18,9 @@ pub use Rattle.run_blocks.specs.Given.PromisesProtected
 pub use Rattle.run_blocks.specs.Given.PromisesReading
 pub use Rattle.run_blocks.specs.Given.PromisesSheltered
 pub use Rattle.run_blocks.specs.Given.PromisesWeights
+pub use Rattle.run_blocks.specs.Given.ReclaimsLeft
+pub use Rattle.run_blocks.specs.Given.ResizeNewMap
+pub use Rattle.run_blocks.specs.Given.SettlesEntries
 pub use Rattle.run_blocks.specs.Given.SettlesHand
 pub use Rattle.run_blocks.specs.Given.SettlesOwing
 pub use Rattle.run_blocks.specs.Given.WaitsWaits
@@ -28,39 +31,40 @@ pub use Rattle.run_blocks.specs.Owes.Making as OwesMaking
 pub use Rattle.run_blocks.specs.Owes.Tables as OwesTables
 pub use Rattle.run_blocks.specs.Owes.TablesBeside as OwesTablesBeside
 pub use Rattle.run_blocks.specs.Shards.Adds as ShardsAdds
-pub use Rattle.run_effects.specs.Effects.Effects as EffectsEffects
-pub use Rattle.run_effects.specs.Effects.Known as EffectsKnown
-pub use Rattle.run_effects.specs.Given.ResizeNewMap
-pub use Rattle.run_effects.specs.Given.RuleChart
-pub use Rattle.run_effects.specs.Given.RuleInWorld
-pub use Rattle.run_effects.specs.declared as EffectsDeclared
-pub use Rattle.run_shows.specs.Follows.Calling as FollowsCalling
-pub use Rattle.run_shows.specs.Follows.Calls as FollowsCalls
-pub use Rattle.run_shows.specs.Follows.Maps as FollowsMaps
-pub use Rattle.run_shows.specs.Follows.Shows as FollowsShows
-pub use Rattle.run_shows.specs.Given.FinishesEndings
-pub use Rattle.run_shows.specs.Given.FinishesFactsEnds
-pub use Rattle.run_shows.specs.Given.FinishesMachines
-pub use Rattle.run_shows.specs.Given.FinishesMakings
-pub use Rattle.run_shows.specs.Given.FinishesMaps
-pub use Rattle.run_shows.specs.Given.FinishesOrders
-pub use Rattle.run_shows.specs.Others.Endings as OthersEndings
-pub use Rattle.run_shows.specs.Others.Makings as OthersMakings
-pub use Rattle.run_shows.specs.Others.Rows as OthersRows
-pub use Rattle.run_shows.specs.Reclaims.Left as ReclaimsLeft
-pub use Rattle.run_shows.specs.Reclaims.Reclaims as ReclaimsReclaims
-pub use Rattle.run_shows.specs.Scenes.Beginning as ScenesBeginning
-pub use Rattle.run_shows.specs.Scenes.Ending as ScenesEnding
-pub use Rattle.run_shows.specs.Scenes.Held as ScenesHeld
-pub use Rattle.run_shows.specs.Scenes.Making as ScenesMaking
-pub use Rattle.run_shows.specs.Scenes.OnSlots as ScenesOnSlots
-pub use Rattle.run_shows.specs.Scenes.Reclaiming as ScenesReclaiming
-pub use Rattle.run_shows.specs.Scenes.Replying as ScenesReplying
-pub use Rattle.run_shows.specs.Scenes.Rows as ScenesRows
-pub use Rattle.run_shows.specs.Scenes.Scene as ScenesScene
-pub use Rattle.run_shows.specs.Scenes.Stepping as ScenesStepping
-pub use Rattle.run_shows.specs.contracts as ScenesContracts
-pub use Rattle.run_shows.specs.declared as ScenesDeclared
+pub use Rattle.run_executor.specs.Given.EffectsDeclared
+pub use Rattle.run_executor.specs.Given.EffectsEffects
+pub use Rattle.run_executor.specs.Given.EffectsKnown
+pub use Rattle.run_executor.specs.Given.FinishesEndings
+pub use Rattle.run_executor.specs.Given.FinishesFactsEnds
+pub use Rattle.run_executor.specs.Given.FinishesMachines
+pub use Rattle.run_executor.specs.Given.FinishesMakings
+pub use Rattle.run_executor.specs.Given.FinishesMaps
+pub use Rattle.run_executor.specs.Given.FinishesOrders
+pub use Rattle.run_executor.specs.Given.FollowsCalling
+pub use Rattle.run_executor.specs.Given.FollowsCalls
+pub use Rattle.run_executor.specs.Given.FollowsMaps
+pub use Rattle.run_executor.specs.Given.FollowsShows
+pub use Rattle.run_executor.specs.Given.OthersEndings
+pub use Rattle.run_executor.specs.Given.OthersMakings
+pub use Rattle.run_executor.specs.Given.OthersRows
+pub use Rattle.run_executor.specs.Given.ReclaimsReclaims
+pub use Rattle.run_executor.specs.Given.RuleChart
+pub use Rattle.run_executor.specs.Given.RuleInWorld
+pub use Rattle.run_executor.specs.Given.ScenesBeginning
+pub use Rattle.run_executor.specs.Given.ScenesContracts
+pub use Rattle.run_executor.specs.Given.ScenesDeclared
+pub use Rattle.run_executor.specs.Given.ScenesEnding
+pub use Rattle.run_executor.specs.Given.ScenesHeld
+pub use Rattle.run_executor.specs.Given.ScenesMaking
+pub use Rattle.run_executor.specs.Given.ScenesOnSlots
+pub use Rattle.run_executor.specs.Given.ScenesReclaiming
+pub use Rattle.run_executor.specs.Given.ScenesReplying
+pub use Rattle.run_executor.specs.Given.ScenesRows
+pub use Rattle.run_executor.specs.Given.ScenesScene
+pub use Rattle.run_executor.specs.Given.ScenesStepping
+pub use Rattle.run_waiting.specs.Given.MapsEndingsEnds
+pub use Rattle.run_waiting.specs.Given.MapsMeasuresBegins
+pub use Rattle.run_waiting.specs.Given.MapsMeasuresEnds
 pub use Rattle.run_waiting.specs.Lives.Behind as LivesBehind
 pub use Rattle.run_waiting.specs.Lives.Handed as LivesHanded
 pub use Rattle.run_waiting.specs.Lives.Retired as LivesRetired

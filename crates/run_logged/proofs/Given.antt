@@ -21,11 +21,11 @@ pub use Rattle.run_kept.proofs.Given.HistoriesRefusals
 pub use Rattle.run_kept.proofs.Given.OwesGrown
 pub use Rattle.run_kept.proofs.Given.OwesTables
 pub use Rattle.run_kept.proofs.Given.PromisesWeights
+pub use Rattle.run_kept.proofs.Given.RemainsLeads
+pub use Rattle.run_kept.proofs.Given.RemainsLists
+pub use Rattle.run_kept.proofs.Given.RemainsMaps
+pub use Rattle.run_kept.proofs.Given.RemainsStays
+pub use Rattle.run_kept.proofs.Given.SettlesPassed
 pub use Rattle.run_kept.proofs.Kept.Stays as KeptStays
 pub use Rattle.run_kept.proofs.Lists
 pub use Rattle.run_kept.proofs.Sheds.KeptGiven as ShedsKeptGiven
-pub use Rattle.run_waiting.proofs.Given.SettlesPassed
-pub use Rattle.run_waiting.proofs.Remains.Leads as RemainsLeads
-pub use Rattle.run_waiting.proofs.Remains.Lists as RemainsLists
-pub use Rattle.run_waiting.proofs.Remains.Maps as RemainsMaps
-pub use Rattle.run_waiting.proofs.Remains.Stays as RemainsStays

@@ -48,12 +48,12 @@ pub use Rattle.run_executor.specs.Named.Telling as NamedTelling
 pub use Rattle.run_executor.specs.declared as ExecutorDeclared
 pub use Rattle.run_kept.specs.Given.HistoriesAsking
 pub use Rattle.run_kept.specs.Given.OwesLooking
+pub use Rattle.run_kept.specs.Given.RemainsNumbered
+pub use Rattle.run_kept.specs.Given.RemainsRemains
+pub use Rattle.run_kept.specs.Given.RemainsSlots
+pub use Rattle.run_kept.specs.Given.SettlesHand
 pub use Rattle.run_kept.specs.Kept.Ends as KeptEnds
 pub use Rattle.run_kept.specs.Sheds.Ended as ShedsEnded
 pub use Rattle.run_kept.specs.Sheds.Waits as ShedsWaits
-pub use Rattle.run_waiting.specs.Given.SettlesHand
-pub use Rattle.run_waiting.specs.Remains.Numbered as RemainsNumbered
-pub use Rattle.run_waiting.specs.Remains.Remains as RemainsRemains
-pub use Rattle.run_waiting.specs.Remains.Slots as RemainsSlots
 pub use Rattle.seize.specs.Law as SeizeLaw
 pub use Rattle.seize.specs.Sequence as SeizeSequence

@@ -6,13 +6,13 @@ use Rattle.papaya_raw.specs.declared.machines.progress.Progress.{Progress}
 use Rattle.papaya_raw.specs.declared.machines.progress.Progress.TheVariants as progress
 use Rattle.run_schedules.specs.declared.outcome.Outcome.{Outcome}
 use Rattle.run_schedules.specs.declared.outcome.Outcome.TheVariants.{Goes, Asks, Waits, Ready, Shows, Answered, Refused}
-use Rattle.run_executor.specs.Given.EffectsKnown.{Known}
-use Rattle.run_executor.specs.Named.Telling.{answer_of, number_by, kept}
-use Rattle.run_executor.specs.declared.caller.NamedCaller.{NamedCaller}
-use Rattle.run_executor.specs.declared.caller.Stands.{Stands as HowFar}
-use Rattle.run_executor.specs.declared.caller.Stands.TheVariants as far
-use Rattle.run_executor.specs.declared.kind.CallKind.{CallKind}
-use Rattle.run_executor.specs.Given.ScenesStepping.{has_ended}
+use Rattle.run_finds.specs.Given.EffectsKnown.{Known}
+use Rattle.run_finds.specs.Given.NamedTelling.{answer_of, number_by, kept}
+use Rattle.run_finds.specs.Given.ExecutorDeclared.caller.NamedCaller.{NamedCaller}
+use Rattle.run_finds.specs.Given.ExecutorDeclared.caller.Stands.{Stands as HowFar}
+use Rattle.run_finds.specs.Given.ExecutorDeclared.caller.Stands.TheVariants as far
+use Rattle.run_finds.specs.Given.ExecutorDeclared.kind.CallKind.{CallKind}
+use Rattle.run_finds.specs.Given.ScenesStepping.{has_ended}
 
 module _ {K V : Type 0} (by : Known) where
   -- what a step says, in the words of an outcome, of a call of this kind that keeps this value

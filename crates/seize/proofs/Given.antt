@@ -1,2 +1,5 @@
 -- What is so by the crates below, given on to the crates above: these list this crate in place of those.
+pub use Rattle.seize_words.proofs.General
+pub use Rattle.seize_words.proofs.OneMemory.OneOwner as SeizeWordsOneOwner
+pub use Rattle.seize_words.proofs.OneMemory.Places as SeizeWordsPlaces
 pub use Rattle.seize_words.proofs.OneMemory.Plans as SeizeWordsPlans

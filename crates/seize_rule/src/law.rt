@@ -1,6 +1,6 @@
 //! What is promised of reclamation, whoever takes a step when.
 ghost use Rattle.std.specs.Prelude.{Option, ℕ, Bool};
-ghost use Rattle.seize.specs.World.{RowsAreSound, RowsMayStep, GarbageIsBounded};
+ghost use Rattle.seize_moves.specs.Given.SeizeWorld.{RowsAreSound, RowsMayStep, GarbageIsBounded};
 
 /// Any number of callers register, enter, retire, defer, flush, leave and refresh, one operation after another in any order, and users make, link and unlink
 /// blocks meanwhile, and take blocks away as what they are of ends. A block is retired once and only while it can't be reached; it is reclaimed once, after

@@ -2,3 +2,4 @@ pub mod Sessions
 mod Keys
 mod Whole
 mod Asks
+pub mod Given

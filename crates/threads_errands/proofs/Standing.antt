@@ -33,7 +33,7 @@ use Rattle.threads_rule.specs.CallKinds.Kinds.{Continues}
 use Rattle.threads_rule.proofs.CallKinds.Asking.{call_is}
 use Rattle.threads_rule.proofs.CallKinds.Plans.{ReplacesNone, answered_by, follows_as, follows_one, leaves_values, op_as}
 use Rattle.threads_rule.proofs.CallKinds.Quiet.{IsQuiet}
-use Rattle.seize_callers.specs.Kept.{kept}
+use Rattle.threads_steps.specs.Given.SeizeCallersKept.{kept}
 use Rattle.seize_straight.specs.Runs.{none_taken, one_more, EndsTelling}
 use Rattle.seize_straight.proofs.Running.{by_law}
 use Rattle.threads_errands.specs.Ahead.{CanGo, CatchesUp, HasEndedSo, HasGone, IsAhead, here, IsEnding, over, turns_over, IsSameAhead, Makes, MakesNext, StandsAt, shown_ahead}

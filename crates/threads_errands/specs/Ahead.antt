@@ -20,7 +20,7 @@ use Rattle.threads_rule.specs.declared.view.SeatWork.TheVariants.{Calls}
 use Rattle.map_straight.specs.Straight.Going.{CallGoes}
 use Rattle.threads_rule.specs.CallKinds.Answers.{IsAnswer}
 use Rattle.threads_rule.specs.CallKinds.Kinds.{Kind, Stage, Continues}
-use Rattle.seize_callers.specs.Kept.{kept}
+use Rattle.threads_steps.specs.Given.SeizeCallersKept.{kept}
 use Rattle.threads_rule.specs.Errands.Calling.{AsksNothing, HasEnded, Works}
 use Rattle.threads_rule.specs.Errands.Looking.{IsOfThem, StaysThere}
 use Rattle.threads_errands.specs.declared.ahead.Ahead.{Ahead}

@@ -9,11 +9,13 @@ use std::hash::Hash;
 
 /// Copies places of the chunk that a call helps with, where it stands at one.
 #[inline(always)]
-pub(crate) fn help<K: Eq + Hash + Drop, V: Drop, Q: Equivalent<K>, S: Hashes<K>, M: Memory<Node<K, V>>>(
-    call: &mut KeyCall<K, V, Q>,
-    memory: &mut M,
-    hasher: &S,
-)
+pub(crate) fn help<
+    K: Eq + Hash + Drop,
+    V: Drop,
+    Q: Equivalent<K>,
+    S: Hashes<K>,
+    M: Memory<Node<K, V>>,
+>(call: &mut KeyCall<K, V, Q>, memory: &mut M, hasher: &S)
     requires { MayCall Q.Equivalent.equivalent K.eq (S.hash hasher.now) M.took M.shown M.can call.old memory.old }
     ensures { CallLeads Q.Equivalent.equivalent K.eq (S.hash hasher.now) M.took M.shown call.old memory.old call.new memory.new }
 {

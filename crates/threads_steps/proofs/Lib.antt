@@ -10,3 +10,4 @@ pub mod Straight
 pub mod Sinces
 mod Firsts
 pub mod Handing
+pub mod Given

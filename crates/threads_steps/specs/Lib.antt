@@ -2,3 +2,4 @@ pub mod Made
 pub mod Steps
 pub mod Storing
 pub mod Asking
+pub mod Given

@@ -12,11 +12,11 @@ use Rattle.papaya_raw.specs.declared.machines.machine.Machine.{Machine}
 use Rattle.papaya_raw.specs.declared.machines.progress.Answer.TheVariants as said
 use Rattle.papaya_raw.specs.declared.machines.progress.Progress.{Progress}
 use Rattle.papaya_raw.specs.declared.machines.progress.Progress.TheVariants as progress
-use Rattle.threads_rule.specs.Views.Looks.{shown_in}
-use Rattle.threads_rule.specs.declared.view.View.{View}
-use Rattle.threads_rule.specs.declared.view.SeatWork.TheVariants.{Nothing}
-use Rattle.threads_rule.specs.Errands.Calling.{IsGoing, IsNoQuestion, outcome_of}
-use Rattle.threads_rule.specs.Errands.Sweeping.{IsSweeping, RetainedSo, WalkedSo, swept_by}
+use Rattle.threads_calls.specs.Given.ViewsLooks.{shown_in}
+use Rattle.threads_calls.specs.Given.ViewsDeclared.view.View.{View}
+use Rattle.threads_calls.specs.Given.ViewsDeclared.view.SeatWork.TheVariants.{Nothing}
+use Rattle.threads_calls.specs.Given.ErrandsCalling.{IsGoing, IsNoQuestion, outcome_of}
+use Rattle.threads_calls.specs.Given.ErrandsSweeping.{IsSweeping, RetainedSo, WalkedSo, swept_by}
 use Rattle.threads_sweeps.specs.Closures.{HeedsSo, ShowsSo, WasCalledWith}
 use Rattle.threads_sweeps.specs.Heard.{IsOfSweep}
 

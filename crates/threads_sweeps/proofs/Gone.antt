@@ -12,17 +12,17 @@ use Rattle.threads_calls.specs.Given.SeizeViewsDeclared.view.Has.TheVariants.{No
 use Rattle.threads_calls.specs.Given.SeizeViewsDeclared.view.SlotView.TheVariants.{Inside}
 use Rattle.threads_calls.specs.Given.CallersStanding.{known_by}
 use Rattle.threads_calls.proofs.Sessions.{may_do_all}
-use Rattle.threads_rule.specs.Given.ActsActs.{GoOver, Wanted}
-use Rattle.threads_rule.specs.Views.Rule.{stand_of}
-use Rattle.threads_rule.specs.Views.Told.{newest_progress}
-use Rattle.threads_rule.specs.declared.view.View.{View}
-use Rattle.threads_rule.specs.declared.view.SeatWork.{SeatWork}
-use Rattle.threads_rule.specs.declared.view.SeatWork.TheVariants.{Nothing}
-use Rattle.threads_rule.specs.Errands.Calling.{outcome_of, wanted_of}
-use Rattle.threads_rule.specs.Errands.Looking.{Begins, HasProgressed, IsOfThem, StaysThere}
-use Rattle.threads_rule.specs.Errands.Sweeping.{HasGoneOver, MayGoOver, swept_by}
-use Rattle.threads_rule.proofs.Errands.Beginnings.{stays_begun, stays_on}
-use Rattle.threads_rule.proofs.Errands.Runs.{has_run, told_last}
+use Rattle.threads_calls.specs.Given.ActsActs.{GoOver, Wanted}
+use Rattle.threads_calls.specs.Given.ViewsRule.{stand_of}
+use Rattle.threads_calls.specs.Given.ViewsTold.{newest_progress}
+use Rattle.threads_calls.specs.Given.ViewsDeclared.view.View.{View}
+use Rattle.threads_calls.specs.Given.ViewsDeclared.view.SeatWork.{SeatWork}
+use Rattle.threads_calls.specs.Given.ViewsDeclared.view.SeatWork.TheVariants.{Nothing}
+use Rattle.threads_calls.specs.Given.ErrandsCalling.{outcome_of, wanted_of}
+use Rattle.threads_calls.specs.Given.ErrandsLooking.{Begins, HasProgressed, IsOfThem, StaysThere}
+use Rattle.threads_calls.specs.Given.ErrandsSweeping.{HasGoneOver, MayGoOver, swept_by}
+use Rattle.threads_calls.proofs.Given.ErrandsBeginnings.{stays_begun, stays_on}
+use Rattle.threads_calls.proofs.Given.ErrandsRuns.{has_run, told_last}
 
 module _ {K V S : Type 0} where
   -- with this under way in its place

@@ -8,12 +8,12 @@ use Rattle.map_tables.specs.declared.node.Node.TheVariants.{Pair}
 use Rattle.papaya_raw.specs.declared.machines.machine.Machine.{Machine}
 use Rattle.papaya_raw.specs.declared.machines.progress.Progress.{Progress}
 use Rattle.papaya_raw.specs.declared.machines.progress.Progress.TheVariants as progress
-use Rattle.threads_rule.specs.Given.ActsActs.{Wanted}
-use Rattle.threads_rule.specs.Errands.Looking.{Begins, HasProgressed}
-use Rattle.threads_rule.specs.Views.Begun.{asked, replied}
-use Rattle.threads_rule.specs.Views.Looks.{shown_in}
-use Rattle.threads_rule.specs.declared.view.View.{View}
-use Rattle.threads_rule.specs.declared.view.SeatWork.TheVariants.{Calls}
+use Rattle.threads_calls.specs.Given.ActsActs.{Wanted}
+use Rattle.threads_calls.specs.Given.ErrandsLooking.{Begins, HasProgressed}
+use Rattle.threads_calls.specs.Given.ViewsBegun.{asked, replied}
+use Rattle.threads_calls.specs.Given.ViewsLooks.{shown_in}
+use Rattle.threads_calls.specs.Given.ViewsDeclared.view.View.{View}
+use Rattle.threads_calls.specs.Given.ViewsDeclared.view.SeatWork.TheVariants.{Calls}
 use Rattle.threads_steps.specs.Asking.{reply_of}
 use Rattle.threads_steps.specs.Steps.{HasStepped}
 use Rattle.threads_sweeps.specs.Swept.{retains, walks}

@@ -3,8 +3,8 @@ use Rattle.std.specs.Prelude.{◌≡◌, Some, None}
 use Rattle.papaya_raw.specs.declared.machines.progress.Answer.TheVariants as said
 use Rattle.papaya_raw.specs.declared.machines.progress.Progress.{Progress}
 use Rattle.papaya_raw.specs.declared.machines.progress.Progress.TheVariants as progress
-use Rattle.threads_rule.specs.Errands.Calling.{IsGoing, IsNoQuestion, outcome_of}
-use Rattle.threads_rule.specs.Errands.Sweeping.{swept_by}
+use Rattle.threads_calls.specs.Given.ErrandsCalling.{IsGoing, IsNoQuestion, outcome_of}
+use Rattle.threads_calls.specs.Given.ErrandsSweeping.{swept_by}
 use Rattle.threads_sweeps.specs.declared.hearing.Heard.{Heard}
 use Rattle.threads_sweeps.specs.declared.hearing.Heard.TheVariants as heard
 

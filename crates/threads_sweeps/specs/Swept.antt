@@ -3,11 +3,11 @@ use Rattle.std.specs.Prelude.{ℕ, Bool, Result}
 use Rattle.seize_words.specs.declared.fault.Fault.{Fault}
 use Rattle.papaya_raw.specs.Given.ReservesDeclared.sweep.Purpose.{Purpose}
 use Rattle.papaya_raw.specs.Given.ReservesDeclared.sweep.Purpose.TheVariants.{Retains, Walks}
-use Rattle.threads_rule.specs.Errands.Calling.{outcome_of}
-use Rattle.threads_rule.specs.Errands.Looking.{HasRun}
-use Rattle.threads_rule.specs.Errands.Sweeping.{swept_by}
-use Rattle.threads_rule.specs.Given.ActsActs.{GoOver, Wanted}
-use Rattle.threads_rule.specs.declared.view.View.{View}
+use Rattle.threads_calls.specs.Given.ErrandsCalling.{outcome_of}
+use Rattle.threads_calls.specs.Given.ErrandsLooking.{HasRun}
+use Rattle.threads_calls.specs.Given.ErrandsSweeping.{swept_by}
+use Rattle.threads_calls.specs.Given.ActsActs.{GoOver, Wanted}
+use Rattle.threads_calls.specs.Given.ViewsDeclared.view.View.{View}
 
 -- What is wanted of a map whose pairs are all to be shown,
 abbrev pub walks : {K V : Type 0} → Wanted K V

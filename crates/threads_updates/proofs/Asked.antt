@@ -18,13 +18,13 @@ use Rattle.threads_calls.specs.Given.CallersStanding.{known_by}
 use Rattle.threads_calls.proofs.Sessions.{may_do}
 use Rattle.threads_steps.specs.Asking.{AsksWith, WasReplied}
 use Rattle.threads_steps.proofs.Told.{asks_none, asks_pair}
-use Rattle.threads_rule.specs.CallKinds.Kinds.{Continues, PairIsVisible, Stage, stage_after}
-use Rattle.threads_rule.specs.Errands.Calling.{IsAsking, IsUnderWay, MayDoAs, wanted_of}
-use Rattle.threads_rule.specs.Given.ActsActs.{Compute}
-use Rattle.threads_rule.specs.Views.Begun.{replied}
-use Rattle.threads_rule.specs.Views.Looks.{shown_in}
-use Rattle.threads_rule.specs.declared.view.View.{View}
-use Rattle.threads_rule.specs.declared.view.SeatWork.TheVariants.{Nothing}
+use Rattle.threads_calls.specs.Given.CallKindsKinds.{Continues, PairIsVisible, Stage, stage_after}
+use Rattle.threads_calls.specs.Given.ErrandsCalling.{IsAsking, IsUnderWay, MayDoAs, wanted_of}
+use Rattle.threads_calls.specs.Given.ActsActs.{Compute}
+use Rattle.threads_calls.specs.Given.ViewsBegun.{replied}
+use Rattle.threads_calls.specs.Given.ViewsLooks.{shown_in}
+use Rattle.threads_calls.specs.Given.ViewsDeclared.view.View.{View}
+use Rattle.threads_calls.specs.Given.ViewsDeclared.view.SeatWork.TheVariants.{Nothing}
 use Rattle.threads_updates.specs.Computing.{IsAbout, Once, ShowsAsked, StandsAt, Told, computes}
 use Rattle.threads_updates.specs.Deciding.{reply_of}
 use Rattle.threads_updates.specs.declared.computing.ComputedOnce.{ComputedOnce}

@@ -6,8 +6,8 @@ use Rattle.seize_words.specs.declared.fault.Fault.TheVariants.{Memory}
 use Rattle.seize_words.specs.declared.operation.Operation.{Operation}
 use Rattle.seize_words.specs.declared.operation.Operation.TheVariants as operation
 use Rattle.papaya_raw.specs.declared.machines.progress.Answer.{Answer}
-use Rattle.threads_rule.specs.Given.ActsActs.{Compute}
-use Rattle.threads_rule.specs.declared.view.View.{View}
+use Rattle.threads_calls.specs.Given.ActsActs.{Compute}
+use Rattle.threads_calls.specs.Given.ViewsDeclared.view.View.{View}
 use Rattle.threads_steps.specs.Asking.{HasAnswered}
 use Rattle.threads_updates.specs.Computing.{Once, SaidLast, Told}
 use Rattle.threads_updates.specs.Deciding.{NewOldOr}

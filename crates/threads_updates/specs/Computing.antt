@@ -12,10 +12,10 @@ use Rattle.papaya_raw.specs.declared.machines.asking.MachineReply.TheVariants as
 use Rattle.papaya_raw.specs.declared.machines.asking.Takes.TheVariants as takes
 use Rattle.papaya_raw.specs.declared.machines.machine.Machine.{Machine}
 use Rattle.threads_steps.specs.Asking.{HasAnswered}
-use Rattle.threads_rule.specs.CallKinds.Kinds.{Kind, Stage, PairIsVisible}
-use Rattle.threads_rule.specs.Errands.Calling.{IsAsking, IsUnderWay}
-use Rattle.threads_rule.specs.Given.ActsActs.{Wanted}
-use Rattle.threads_rule.specs.declared.view.View.{View}
+use Rattle.threads_calls.specs.Given.CallKindsKinds.{Kind, Stage, PairIsVisible}
+use Rattle.threads_calls.specs.Given.ErrandsCalling.{IsAsking, IsUnderWay}
+use Rattle.threads_calls.specs.Given.ActsActs.{Wanted}
+use Rattle.threads_calls.specs.Given.ViewsDeclared.view.View.{View}
 use Rattle.threads_updates.specs.declared.computing.ComputedOnce.{ComputedOnce}
 
 -- a call that asks wherever its key is, and takes any change

@@ -8,8 +8,8 @@ use Rattle.papaya_raw.specs.declared.machines.answer.KeyAnswer.TheVariants as an
 use Rattle.papaya_raw.specs.declared.machines.progress.Answer.{Answer}
 use Rattle.papaya_raw.specs.declared.machines.progress.Answer.TheVariants.{Key as OfKey}
 use Rattle.threads_steps.specs.Asking.{HasAnswered}
-use Rattle.threads_rule.specs.Given.ActsActs.{Compute}
-use Rattle.threads_rule.specs.declared.view.View.{View}
+use Rattle.threads_calls.specs.Given.ActsActs.{Compute}
+use Rattle.threads_calls.specs.Given.ViewsDeclared.view.View.{View}
 use Rattle.threads_updates.specs.Computing.{Told}
 use Rattle.threads_updates.specs.declared.changing.ComputedPair.{ComputedPair}
 use Rattle.threads_updates.specs.declared.changing.ComputedPair.TheVariants as computed

@@ -4,7 +4,7 @@ ghost use Rattle.papaya.specs.OneSet.{SetWasShown, SetWasSifted};
 ghost use Rattle.papaya.specs.Swept.{HasHeededElements, HasShownElements};
 ghost use Rattle.papaya_map.specs.Given.SessionsKept.{KeepsMap};
 ghost use Rattle.papaya_map.specs.Given.SessionsOneMap.{WasRefused};
-ghost use Rattle.threads_sweeps.specs.Swept.{retains, walks};
+ghost use Rattle.papaya_map.specs.Given.Swept.{retains, walks};
 
 use super::SetSession;
 use map_tables::Hashes;

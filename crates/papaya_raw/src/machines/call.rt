@@ -1,6 +1,6 @@
 //! A call on one key: its points, and its steps.
 ghost use Rattle.std.specs.Prelude.{◌≡◌};
-ghost use Rattle.seize.specs.Given.SeizeWordsPlan.{May, Steps};
+ghost use Rattle.map_sweeps.specs.Given.SeizeWordsPlan.{May, Steps};
 ghost use Rattle.papaya_raw.specs.CallPoints.{going, over, answered_with, ending, answering};
 ghost use Rattle.papaya_raw.specs.Call.{call_plan};
 

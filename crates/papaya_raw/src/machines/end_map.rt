@@ -1,7 +1,7 @@
 //! The end of a map.
 ghost use Rattle.std.specs.Prelude.{◌≡◌};
 ghost use Rattle.papaya_raw.specs.EndMap.{ending, is_current, next_place, reads, words, takes, nexts, carries, joins, follows, gives, afters, drops, shards, sets, frees};
-ghost use Rattle.seize.specs.Given.SeizeWordsPlan.{May, Steps};
+ghost use Rattle.map_sweeps.specs.Given.SeizeWordsPlan.{May, Steps};
 
 use map_tables::marks::{COPYING, has};
 use map_tables::named::{At, Link, Memory, Settled, StepMachine, states};

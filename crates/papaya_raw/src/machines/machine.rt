@@ -6,7 +6,7 @@ ghost use Rattle.papaya_raw.specs.Machine.{called, reserved, swept, counted, mac
 ghost use Rattle.papaya_raw.specs.declared.machines.machine.Machine.TheVariants as kinds;
 ghost use Rattle.map_sweeps.specs.Given.ResizeSum.{sum_plan};
 ghost use Rattle.map_sweeps.specs.Sweeps.Sweep.{sweep_plan};
-ghost use Rattle.seize.specs.Given.SeizeWordsPlan.{May, Steps, plan_as};
+ghost use Rattle.map_sweeps.specs.Given.SeizeWordsPlan.{May, Steps, plan_as};
 
 use crate::machines::asking::MachineReply;
 use crate::machines::call::KeyCall;

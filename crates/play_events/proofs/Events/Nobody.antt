@@ -4,8 +4,8 @@ use Rattle.std.proofs.Common.{refl, ap, sym, subst, ◌∙◌}
 use Rattle.run_schedules.specs.Runs.Same.{is_same}
 use Rattle.play_stepping.specs.Given.SeizeWorld.{Rests, Use, IsOutside}
 use Rattle.play_stepping.specs.Given.CallersTogether.{CameAbout, UnderWay}
-use Rattle.run_kept.specs.Given.ScenesDeclared.row.SlotUse.{SlotUse}
-use Rattle.run_kept.specs.Given.ScenesDeclared.row.SlotUse.TheVariants as used
+use Rattle.play_lists.specs.Given.ScenesDeclared.row.SlotUse.{SlotUse}
+use Rattle.play_lists.specs.Given.ScenesDeclared.row.SlotUse.TheVariants as used
 use Rattle.run_schedules.specs.Runs.Present.{Present, guards_on, has_registration}
 use Rattle.run_schedules.specs.declared.holders.NamedGuard.{NamedGuard}
 use Rattle.run_schedules.specs.Schedules.After.{moment}
@@ -15,7 +15,7 @@ use Rattle.run_schedules.specs.Schedules.Moment.{Moment, UnderWay as CallThere}
 use Rattle.run_schedules.specs.Schedules.Reclaims.{is_quiescent}
 use Rattle.run_schedules.specs.Schedules.Terms.{Terms}
 use Rattle.run_schedules.specs.Schedules.Views.{call_of}
-use Rattle.run_kept.specs.Given.EffectsKnown.{known}
+use Rattle.play_lists.specs.Given.EffectsKnown.{known}
 use Rattle.play_lists.specs.Given.FindsBounded.{NobodyIsThere, RefinesRetired}
 use Rattle.play_lists.specs.Given.FindsLittle.{RefinesQuiescence}
 use Rattle.run_legal.proofs.Found.{rest_shows_retired}
@@ -24,7 +24,7 @@ use Rattle.play_stepping.proofs.Given.RowsFacts.{row_rests}
 use Rattle.play_stepping.specs.Given.SchedulerDeclared.scheduler.Scheduler.{Scheduler}
 use Rattle.play_events.specs.Events.OfCalls.{Runs}
 use Rattle.play_stepping.specs.Given.ExecutorIsThere.{IsUsedAs, held_by, use_at}
-use Rattle.run_kept.specs.Given.ScenesScene.{Scene}
+use Rattle.play_lists.specs.Given.ScenesScene.{Scene}
 use Rattle.play_stepping.proofs.Given.General.{both_true as both}
 
 none_in : {X : Type 0} (xs : List X) → is_empty xs ≡ true → xs ≡ []

@@ -6,7 +6,7 @@ use Rattle.play_stepping.specs.Given.SeizeWorld.{World}
 use Rattle.play_stepping.specs.Given.SeizeDeclared.rows.reclaim_all.ReclaimAll.{ReclaimAll}
 use Rattle.play_stepping.specs.Given.SeizeDeclared.rows.settle.Settled.TheVariants as settled
 use Rattle.play_lists.specs.Given.TablesDeclared.node.Node.{Node}
-use Rattle.run_kept.specs.Given.FinishesMakings.{IsFreeRoot}
+use Rattle.play_lists.specs.Given.FinishesMakings.{IsFreeRoot}
 use Rattle.run_schedules.specs.Given.SeizeWordsDeclared.fault.Fault.TheVariants.{Busy}
 use Rattle.run_schedules.specs.declared.event.Event.{Event}
 use Rattle.run_schedules.specs.declared.event.Event.TheVariants as events
@@ -19,10 +19,10 @@ use Rattle.run_schedules.specs.Schedules.Handing.{gives_all}
 use Rattle.run_schedules.specs.Schedules.InTurn.{HasRightOutcome, IsKeptOut}
 use Rattle.run_schedules.specs.Schedules.Moment.{Moment}
 use Rattle.run_schedules.specs.Schedules.Terms.{Terms}
-use Rattle.run_kept.specs.Given.EffectsKnown.{known}
-use Rattle.run_kept.specs.Given.ReclaimsLeft.{IsSomebodys, LeftWithEndings}
-use Rattle.run_kept.specs.Given.ReclaimsReclaims.{IsRootOf}
-use Rattle.run_kept.proofs.Given.ReclaimsLeft.Stays.{nothing_is_left}
+use Rattle.play_lists.specs.Given.EffectsKnown.{known}
+use Rattle.play_stepping.specs.Given.ReclaimsLeft.{IsSomebodys, LeftWithEndings}
+use Rattle.run_legal.specs.Given.ReclaimsReclaims.{IsRootOf}
+use Rattle.play_lists.proofs.Given.ReclaimsLeft.Stays.{nothing_is_left}
 use Rattle.play_stepping.specs.Given.ReclaimingReclaiming.{IsReclaimingThere, MayReclaim, NobodyHas}
 use Rattle.play_lists.specs.Given.FindsLittle.{ReclaimsAll}
 use Rattle.play_events.proofs.Folded.Steps.{none_in_order}
@@ -58,7 +58,7 @@ use Rattle.play_events.proofs.Events.OfRows.Quiet.{IsStill, still_keeps}
 use Rattle.play_events.proofs.Events.Reached.{reached_after}
 use Rattle.play_events.proofs.Events.Remaining.{counted_in, gives_all as gives_all_in}
 use Rattle.play_stepping.specs.Given.ExecutorIsThere.{IsThere, held_by}
-use Rattle.run_kept.specs.Given.ScenesScene.{Scene}
+use Rattle.play_lists.specs.Given.ScenesScene.{Scene}
 pub mod Chain
 pub mod Behind
 

@@ -10,17 +10,17 @@ use Rattle.run_schedules.specs.Runs.Same.{is_same}
 use Rattle.play_lists.specs.Given.TablesChunks.{is_incremental}
 use Rattle.play_lists.specs.Given.TablesDeclared.node.Node.{Node}
 use Rattle.play_stepping.proofs.Given.CallersTogether.At.{at_other, at_same}
-use Rattle.run_kept.specs.Given.FinishesEndings.{Finishing, finishing_of}
-use Rattle.run_kept.specs.Given.FinishesFactsEnds.{taken_by as taken_of}
-use Rattle.run_kept.specs.Given.FinishesMaps.{Standing}
-use Rattle.run_kept.specs.Given.FinishesOrders.{pairs_of}
-use Rattle.run_kept.specs.Given.RuleChart.{Chart}
+use Rattle.play_lists.specs.Given.FinishesEndings.{Finishing, finishing_of}
+use Rattle.play_lists.specs.Given.FinishesFactsEnds.{taken_by as taken_of}
+use Rattle.play_lists.specs.Given.FinishesMaps.{Standing}
+use Rattle.play_lists.specs.Given.FinishesOrders.{pairs_of}
+use Rattle.play_stepping.specs.Given.RuleChart.{Chart}
 use Rattle.play_stepping.specs.Given.MomentsEndings.{IsOfIts}
 use Rattle.play_stepping.specs.Given.MomentsWholeEnds.{all_ended, tables_ended}
-use Rattle.run_kept.specs.Given.OthersEndings.{ending_after}
-use Rattle.run_kept.specs.Given.RuleInWorld.{IsMapIn}
-use Rattle.run_kept.proofs.Given.RuleLaws.{current_is_known}
-use Rattle.run_kept.specs.Given.FollowsMaps.{RefinesMap}
+use Rattle.play_lists.specs.Given.OthersEndings.{ending_after}
+use Rattle.play_lists.specs.Given.RuleInWorld.{IsMapIn}
+use Rattle.play_lists.proofs.Given.RuleLaws.{current_is_known}
+use Rattle.play_lists.specs.Given.FollowsMaps.{RefinesMap}
 use Rattle.run_schedules.specs.declared.effect.Effect.{Effect}
 use Rattle.run_schedules.specs.declared.effect.Effect.TheVariants.{Ended}
 use Rattle.run_schedules.specs.declared.event.Event.{Event}
@@ -35,10 +35,10 @@ use Rattle.run_schedules.specs.Schedules.Lives.{Finds}
 use Rattle.run_schedules.specs.Schedules.Moment.{MapThere, Moment}
 use Rattle.run_schedules.specs.Schedules.Terms.{Terms, shards_of}
 use Rattle.run_schedules.specs.Schedules.Views.{map_at, map_of, number_of}
-use Rattle.run_kept.specs.Given.EffectsEffects.{effects_of, known_after}
-use Rattle.run_kept.specs.Given.EffectsKnown.{Known, known}
-use Rattle.run_kept.specs.Given.EffectsDeclared.acting.Acting.TheVariants as acts
-use Rattle.run_kept.specs.Given.EffectsDeclared.role.Role.TheVariants as role
+use Rattle.play_lists.specs.Given.EffectsEffects.{effects_of, known_after}
+use Rattle.play_lists.specs.Given.EffectsKnown.{Known, known}
+use Rattle.play_lists.specs.Given.EffectsDeclared.acting.Acting.TheVariants as acts
+use Rattle.play_lists.specs.Given.EffectsDeclared.role.Role.TheVariants as role
 use Rattle.run_legal.proofs.Heads.Chains.{endings_taken}
 use Rattle.run_legal.proofs.Heads.Rows.{slots_stay}
 use Rattle.run_legal.specs.CallEvents.{IsLegalBut}
@@ -47,16 +47,16 @@ use Rattle.run_legal.specs.Chains.{Chain, Come, EndSteps}
 use Rattle.run_legal.specs.MapEvents.{InEndEvent}
 use Rattle.run_legal.proofs.Chains.{ends_chain, ends_run_to_their_ends}
 use Rattle.run_legal.proofs.MapsOver.{end_events_begin_so}
-use Rattle.run_kept.proofs.Given.RemainsNumbered.{made_stays}
+use Rattle.play_lists.proofs.Given.RemainsNumbered.{made_stays}
 use Rattle.play_stepping.specs.Given.LoggedEnds.{EndCame, EndIsBegun, NotedStill, NotesMap, is_done}
-use Rattle.run_kept.specs.Ends.{ended_as}
+use Rattle.play_stepping.specs.Given.Ends.{ended_as}
 use Rattle.play_stepping.specs.Given.LoggedGoes.{EndGoes, EndOn, Far, GoesFor, far}
 use Rattle.play_stepping.specs.Given.LoggedShown.{IsCounted, IsShown}
-use Rattle.run_kept.specs.Sheds.Waits.{ReportsLeft, ReportsWaiting}
+use Rattle.play_stepping.specs.Given.ShedsWaits.{ReportsLeft, ReportsWaiting}
 use Rattle.play_stepping.proofs.Given.LoggedCounted.{counted_end_steps}
-use Rattle.run_kept.proofs.Sheds.LeftNoted.{endings_note_left}
+use Rattle.play_lists.proofs.Given.ShedsLeftNoted.{endings_note_left}
 use Rattle.run_legal.proofs.Given.LogEndSteps.{end_there}
-use Rattle.run_kept.proofs.Sheds.Held.{ending_held}
+use Rattle.play_lists.proofs.Given.ShedsHeld.{ending_held}
 use Rattle.run_legal.proofs.Given.LogEndTold.{did_end, ends_alone, noted_on}
 use Rattle.play_stepping.proofs.Given.RowsLists.{found_has}
 use Rattle.play_stepping.specs.Given.SchedulerMapping.{AreApart}
@@ -80,9 +80,9 @@ use Rattle.play_events.proofs.Events.OfRows.Quiet.{refused_still, still_keeps}
 use Rattle.play_stepping.proofs.Given.ExecutorFresh.{no_ending_yet}
 use Rattle.play_stepping.specs.Given.ExecutorEnding.{EndsThere, NoCallOn}
 use Rattle.play_stepping.specs.Given.ExecutorIsThere.{IsThere, held_by}
-use Rattle.run_kept.specs.Given.ScenesEnding.{EndingLeads, ending_begun}
-use Rattle.run_kept.specs.Given.ScenesScene.{Scene}
-use Rattle.run_kept.specs.Given.ScenesHeld.{Held}
+use Rattle.play_lists.specs.Given.ScenesEnding.{EndingLeads, ending_begun}
+use Rattle.play_lists.specs.Given.ScenesScene.{Scene}
+use Rattle.play_lists.specs.Given.ScenesHeld.{Held}
 
 -- What an end does it may do: pairs end with their map, and then its tables.
 module _ {K V : Type 0} (own : List ℕ) (m : Moment K V) where

@@ -13,9 +13,9 @@ use Rattle.play_lists.specs.Given.TablesPowers.{floor_log2, next_power}
 use Rattle.play_lists.specs.Given.TablesDeclared.setting.Setting.{Setting}
 use Rattle.play_stepping.proofs.Given.CallersTogether.At.{at_same}
 use Rattle.play_stepping.specs.Given.ExecutorDeclared.executor.Executor.{Executor}
-use Rattle.run_kept.specs.Given.FinishesMakings.{Beginning}
-use Rattle.run_kept.specs.Given.FinishesMaps.{Standing}
-use Rattle.run_kept.specs.Given.OthersMakings.{IsNew, WasNew}
+use Rattle.play_lists.specs.Given.FinishesMakings.{Beginning}
+use Rattle.play_lists.specs.Given.FinishesMaps.{Standing}
+use Rattle.play_lists.specs.Given.OthersMakings.{IsNew, WasNew}
 use Rattle.run_schedules.specs.Given.SeizeWordsDeclared.fault.Fault.{Fault}
 use Rattle.run_schedules.proofs.Runs.Sames.{same_refl}
 use Rattle.run_schedules.specs.declared.effect.Effect.{Effect}
@@ -32,13 +32,13 @@ use Rattle.run_schedules.specs.Schedules.Lists.{least_free}
 use Rattle.run_schedules.specs.Schedules.Moment.{MapThere, Moment}
 use Rattle.run_schedules.specs.Schedules.Terms.{Terms, shards_of}
 use Rattle.run_schedules.specs.Schedules.Views.{map_at, map_of, number_of, tables_of}
-use Rattle.run_kept.specs.Given.EffectsKnown.{Known, known}
-use Rattle.run_kept.specs.Given.EffectsDeclared.notes.Notes.{Notes}
+use Rattle.play_lists.specs.Given.EffectsKnown.{Known, known}
+use Rattle.play_lists.specs.Given.EffectsDeclared.notes.Notes.{Notes}
 use Rattle.run_legal.proofs.Heads.Chains.{makings_taken}
 use Rattle.run_legal.proofs.Heads.Rows.{slots_stay}
 use Rattle.play_lists.proofs.Given.FindsCapacities.{given_are_for}
 use Rattle.run_legal.specs.CallEvents.{IsLegalBut}
-use Rattle.run_kept.specs.Models.Follows.{FollowsModel}
+use Rattle.run_legal.specs.Given.ModelsFollows.{FollowsModel}
 use Rattle.run_legal.specs.Carried.{IsSequential, RefinesRun}
 use Rattle.run_legal.specs.Chains.{Chain as StepChain, Come, MakingSteps}
 use Rattle.run_legal.specs.MapEvents.{InMakingEvent}
@@ -46,7 +46,7 @@ use Rattle.run_legal.proofs.Chains.{makings_run_to_their_ends}
 use Rattle.run_legal.proofs.MapsOver.{making_events_begin_so}
 use Rattle.play_stepping.specs.Given.NeedsMakings.{CountsTables, table_left}
 use Rattle.play_stepping.proofs.Given.NeedsFirsts.{makings_open}
-use Rattle.run_kept.specs.Given.ReclaimsLeft.{LeftWithEndings}
+use Rattle.play_stepping.specs.Given.ReclaimsLeft.{LeftWithEndings}
 use Rattle.play_stepping.specs.Given.LoggedGoes.{far}
 use Rattle.play_stepping.specs.Given.LoggedMakings.{MakingIsBegun}
 use Rattle.play_stepping.specs.Given.LoggedShown.{IsShown}
@@ -80,7 +80,7 @@ use Rattle.play_events.proofs.Events.OfRows.May.{all_by}
 use Rattle.play_events.proofs.Events.OfRows.Quiet.{refused_still, still_keeps}
 use Rattle.play_events.proofs.Events.Remaining.{nobody_makes}
 use Rattle.play_stepping.specs.Given.ExecutorIsThere.{IsThere, held_by}
-use Rattle.run_kept.specs.Given.ScenesScene.{Scene}
+use Rattle.play_lists.specs.Given.ScenesScene.{Scene}
 pub mod Chain
 pub mod Begun
 pub mod Unmade

@@ -6,11 +6,11 @@ use Rattle.run_schedules.specs.Given.SeizeWordsMem.{Mem}
 use Rattle.play_stepping.specs.Given.SeizeWorld.{Begin, IsInside, Rests, SlotsTaken}
 use Rattle.play_stepping.specs.Given.SeizeDeclared.rows.register.Registering.TheVariants as registering
 use Rattle.play_lists.specs.Given.TablesDeclared.node.Node.{Node}
-use Rattle.run_kept.specs.Given.ScenesDeclared.row.RowTold.{RowTold}
-use Rattle.run_kept.specs.Given.ScenesDeclared.row.SlotCall.{SlotCall}
-use Rattle.run_kept.specs.Given.OthersRows.{scene_then}
+use Rattle.play_lists.specs.Given.ScenesDeclared.row.RowTold.{RowTold}
+use Rattle.play_lists.specs.Given.ScenesDeclared.row.SlotCall.{SlotCall}
+use Rattle.play_lists.specs.Given.OthersRows.{scene_then}
 use Rattle.run_schedules.specs.Given.SeizeWordsDeclared.fault.Fault.TheVariants.{Busy}
-use Rattle.run_kept.specs.Given.ScenesDeclared.row.SlotCall.TheVariants as call
+use Rattle.play_lists.specs.Given.ScenesDeclared.row.SlotCall.TheVariants as call
 use Rattle.play_stepping.specs.Given.ExecutorDeclared.worker.Work.TheVariants.{OnSlot}
 use Rattle.run_schedules.specs.Runs.Present.{has_registration, Present}
 use Rattle.run_schedules.specs.declared.effect.Effect.{Effect}
@@ -29,12 +29,12 @@ use Rattle.run_schedules.specs.Schedules.Moment.{Moment}
 use Rattle.run_schedules.specs.Schedules.InUse.{used_slots}
 use Rattle.run_schedules.specs.Schedules.Lists.{least_free}
 use Rattle.run_schedules.specs.Schedules.Terms.{Terms}
-use Rattle.run_kept.specs.Given.EffectsKnown.{known}
-use Rattle.run_kept.specs.Given.EffectsDeclared.notes.Notes.{Notes}
-use Rattle.run_kept.specs.Given.ScenesDeclared.row.RowTold.TheVariants as told
-use Rattle.run_kept.specs.Given.PromisesOthers.{SparesGuards}
-use Rattle.run_kept.specs.Given.PromisesProtected.{is_of_slots, there_in}
-use Rattle.run_kept.specs.Models.OnSlots.{IsRowFor}
+use Rattle.play_lists.specs.Given.EffectsKnown.{known}
+use Rattle.play_lists.specs.Given.EffectsDeclared.notes.Notes.{Notes}
+use Rattle.play_lists.specs.Given.ScenesDeclared.row.RowTold.TheVariants as told
+use Rattle.run_legal.specs.Given.PromisesOthers.{SparesGuards}
+use Rattle.run_legal.specs.Given.PromisesProtected.{is_of_slots, there_in}
+use Rattle.run_legal.specs.Given.ModelsOnSlots.{IsRowFor}
 use Rattle.play_lists.specs.Given.FindsLittle.{ReclaimsAll}
 use Rattle.run_legal.proofs.Heads.Registers.{IsOtherCall, ThenSo, other_begun, others_taken, registers_taken}
 use Rattle.run_legal.specs.CallEvents.{IsLegalBut}
@@ -47,7 +47,7 @@ use Rattle.run_legal.proofs.Found.{row_chains_find}
 use Rattle.run_legal.proofs.Slots.{slot_events_begin_so}
 use Rattle.play_stepping.specs.Given.LoggedGoes.{far}
 use Rattle.run_legal.specs.Given.LogOnSlots.{has_come}
-use Rattle.run_kept.specs.Given.RemainsSlots.{SlotsNoted}
+use Rattle.run_legal.specs.Given.RemainsSlots.{SlotsNoted}
 use Rattle.run_legal.specs.Given.RowsRows.{RowRan, left_as}
 use Rattle.play_stepping.proofs.Given.RowsFacts.{row_rests}
 use Rattle.play_stepping.specs.Given.SchedulerPlayed.{IsPlayed, entry_of}
@@ -69,10 +69,10 @@ use Rattle.play_events.proofs.Events.OfRows.Lone.{alone_follows}
 use Rattle.play_events.proofs.Events.OfRows.May.{flush_inside, may_by}
 use Rattle.play_events.proofs.Events.OfRows.Quiet.{none_still, refused_still, still_keeps}
 use Rattle.play_stepping.specs.Given.ExecutorOnSlots.{MayBegin, RowBeginsThere}
-use Rattle.run_kept.specs.Given.ScenesRows.{begun_row, request_of}
-use Rattle.run_kept.specs.Given.ScenesScene.{Scene, slot_of}
-use Rattle.run_kept.proofs.Sheds.Held.{begun_held}
-use Rattle.run_kept.specs.Given.ScenesOnSlots.{RowBegins}
+use Rattle.play_lists.specs.Given.ScenesRows.{begun_row, request_of}
+use Rattle.play_lists.specs.Given.ScenesScene.{Scene, slot_of}
+use Rattle.play_lists.proofs.Given.ShedsHeld.{begun_held}
+use Rattle.play_lists.specs.Given.ScenesOnSlots.{RowBegins}
 use Rattle.play_stepping.specs.Given.ExecutorIsThere.{held_by}
 use Rattle.play_stepping.proofs.Given.General.{both_true as and_both, or_second as or_right}
 pub mod Chain

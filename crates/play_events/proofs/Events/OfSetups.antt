@@ -16,7 +16,7 @@ use Rattle.run_schedules.specs.Schedules.InUse.{is_free_guard}
 use Rattle.run_schedules.specs.Schedules.Moment.{Moment, TableThere}
 use Rattle.run_schedules.specs.Schedules.Terms.{Terms}
 use Rattle.run_schedules.specs.Schedules.Views.{map_of, number_of}
-use Rattle.run_kept.specs.Given.EffectsKnown.{known}
+use Rattle.play_lists.specs.Given.EffectsKnown.{known}
 use Rattle.run_legal.proofs.Come.{events_bring_things}
 use Rattle.run_legal.specs.CallEvents.{IsLegalBut}
 use Rattle.run_legal.specs.Carried.{RefinesRun}
@@ -38,7 +38,7 @@ use Rattle.play_events.proofs.Events.OfRows.Lone.{alone_follows}
 use Rattle.play_events.proofs.Events.OfRows.Quiet.{IsStill, still_keeps}
 use Rattle.play_events.proofs.Events.Reached.{reached_by}
 use Rattle.play_events.proofs.Events.Remaining.{counted_in}
-use Rattle.run_kept.specs.Given.ScenesScene.{Scene}
+use Rattle.play_lists.specs.Given.ScenesScene.{Scene}
 
 -- One that did nothing is whole, whatever it came to,
 module _ {K V : Type 0} (log : List (Entry K V)) (w : Moment K V) where

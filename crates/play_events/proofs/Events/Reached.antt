@@ -33,8 +33,8 @@ use Rattle.run_schedules.specs.Schedules.Lists.{is_among}
 use Rattle.run_schedules.specs.Schedules.Moment.{Asking, IsReady, Moment, CallState, UnderWay as CallThere}
 use Rattle.run_schedules.specs.Schedules.Terms.{Terms}
 use Rattle.run_schedules.specs.Schedules.Views.{number_of}
-use Rattle.run_kept.specs.Given.EffectsKnown.{Known, known}
-use Rattle.run_kept.specs.Given.ScenesDeclared.row.SlotUse.TheVariants as used
+use Rattle.play_lists.specs.Given.EffectsKnown.{Known, known}
+use Rattle.play_lists.specs.Given.ScenesDeclared.row.SlotUse.TheVariants as used
 use Rattle.run_legal.specs.Given.RowsRows.{used_as}
 use Rattle.play_stepping.proofs.Given.RowsFacts.{used_once}
 use Rattle.run_legal.proofs.Given.RowsInUse.{among_used, unused_by}

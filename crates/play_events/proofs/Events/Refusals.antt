@@ -11,7 +11,7 @@ use Rattle.play_stepping.specs.Given.SeizeDeclared.advance.Advance.TheVariants a
 use Rattle.play_lists.specs.Given.TablesDeclared.node.Node.{Node}
 use Rattle.play_lists.specs.Given.TablesDeclared.setting.Setting.{Setting}
 use Rattle.play_lists.specs.Given.TablesDeclared.table.Table.{Table}
-use Rattle.run_kept.specs.Given.ResizeNewMap as new_map
+use Rattle.play_stepping.specs.Given.ResizeNewMap as new_map
 use Rattle.run_legal.specs.Given.ResizeNewTable as new_table
 use Rattle.play_stepping.specs.Given.ResizeDeclared.new_map.NewMap.{NewMap}
 use Rattle.play_stepping.specs.Given.ResizeDeclared.new_map.Opening.{Opening}
@@ -24,7 +24,7 @@ use Rattle.play_lists.specs.Given.EffectsDeclared.changed.Changed.TheVariants as
 use Rattle.play_lists.specs.Given.EffectsEffects.{effects_of}
 use Rattle.play_lists.specs.Given.EffectsKnown.{Known}
 use Rattle.play_lists.specs.Given.EffectsDeclared.acting.Acting.TheVariants as acts
-use Rattle.run_kept.proofs.Told.{told_as, told_back}
+use Rattle.play_lists.proofs.Given.Told.{told_as, told_back}
 use Rattle.run_legal.proofs.Given.LogMakingTables.{IsFirstMaking, TableThen, begins_first, first_tables_then}
 
 -- While it looks for a root it has done nothing, and after that it may be refused for want of memory alone.

@@ -8,19 +8,19 @@ use Rattle.play_stepping.specs.Given.SeizeDeclared.states.TheConstants.{HEAD}
 use Rattle.play_lists.specs.Given.TablesDeclared.setting.Setting.{Setting}
 use Rattle.play_stepping.specs.Given.RawDeclared.machines.end_map.EndMap.{EndMap}
 use Rattle.play_stepping.specs.Given.ResizeDeclared.new_map.NewMap.{NewMap}
-use Rattle.run_kept.specs.Given.FinishesEndings.{Finishing}
-use Rattle.run_kept.specs.Given.FinishesMakings.{Beginning}
-use Rattle.run_kept.specs.Given.FinishesMaps.{Standing}
+use Rattle.play_lists.specs.Given.FinishesEndings.{Finishing}
+use Rattle.play_lists.specs.Given.FinishesMakings.{Beginning}
+use Rattle.play_lists.specs.Given.FinishesMaps.{Standing}
 use Rattle.play_stepping.specs.Given.MomentsNumbers.{AreFound}
 use Rattle.run_schedules.specs.Schedules.Moment.{Moment}
-use Rattle.run_kept.specs.Given.EffectsKnown.{known}
-use Rattle.run_kept.specs.Given.EffectsDeclared.role.Role.TheVariants as role
+use Rattle.play_lists.specs.Given.EffectsKnown.{known}
+use Rattle.play_lists.specs.Given.EffectsDeclared.role.Role.TheVariants as role
 use Rattle.run_schedules.specs.Schedules.Terms.{Terms}
-use Rattle.run_kept.specs.Given.ReclaimsLeft.{IsSomebodys, LeftWithEndings}
-use Rattle.run_kept.specs.Given.ReclaimsReclaims.{IsRootOf, LeftBehind, RootLeads}
-use Rattle.run_kept.specs.Given.RemainsRemains.{AllStand, RootsAreTaken, RefinesRemains, has_some, left_at}
-use Rattle.run_kept.proofs.Given.RemainsLeads.{both_lead}
-use Rattle.run_kept.proofs.Given.RemainsRests.{each_noted, rests_remain}
+use Rattle.play_stepping.specs.Given.ReclaimsLeft.{IsSomebodys, LeftWithEndings}
+use Rattle.run_legal.specs.Given.ReclaimsReclaims.{IsRootOf, LeftBehind, RootLeads}
+use Rattle.play_stepping.specs.Given.RemainsRemains.{AllStand, RootsAreTaken, RefinesRemains, has_some, left_at}
+use Rattle.play_stepping.proofs.Given.RemainsLeads.{both_lead}
+use Rattle.play_lists.proofs.Given.RemainsRests.{each_noted, rests_remain}
 use Rattle.play_stepping.specs.Given.LoggedShown.{IsCounted}
 use Rattle.play_stepping.proofs.Given.RowsFacts.{no_ending_of, no_making_of}
 use Rattle.play_stepping.proofs.Given.RowsLists.{both_none, both_some}
@@ -30,7 +30,7 @@ use Rattle.play_stepping.specs.Given.NamedSeen.{named, named_of}
 use Rattle.play_stepping.specs.Given.SchedulerDeclared.scheduler.Scheduler.{Scheduler}
 use Rattle.play_stepping.proofs.Mapping.MapLists.{all_back, all_seen}
 use Rattle.play_stepping.specs.Given.ExecutorIsThere.{IsThere, held_by}
-use Rattle.run_kept.specs.Given.ScenesScene.{Scene}
+use Rattle.play_lists.specs.Given.ScenesScene.{Scene}
 
 -- a root that a standing map has in one scene of an executor it has in any
 root_in : {K V S : Type 0} (same : K → K → Bool) (hash : K → ℕ) (p : Scheduler K V S) (s t : Scene K V) → IsThere same hash p.logged.executor s → IsThere same hash p.logged.executor t → (r : ℕ)

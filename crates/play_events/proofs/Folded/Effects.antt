@@ -14,14 +14,14 @@ use Rattle.run_schedules.specs.Schedules.Lists.{without_one}
 use Rattle.run_schedules.specs.Schedules.Moment.{UnderWay as CallThere, Moment}
 use Rattle.run_schedules.specs.Schedules.Things.{same_thing}
 use Rattle.run_schedules.specs.Schedules.Views.{call_of}
-use Rattle.run_kept.proofs.Given.FollowsCalling.{apart_back, is_same_is}
-use Rattle.run_kept.proofs.Given.FollowsCalls.{changed, changed_same, of_same}
+use Rattle.play_lists.proofs.Given.FollowsCalling.{apart_back, is_same_is}
+use Rattle.play_lists.proofs.Given.FollowsCalls.{changed, changed_same, of_same}
 use Rattle.play_stepping.proofs.Given.HandsCalling.{caller_is}
 use Rattle.play_stepping.proofs.Given.ChangesBegun.{effects_begun}
 use Rattle.play_stepping.proofs.Given.ChangesChanges.{acted_on}
 use Rattle.play_stepping.proofs.Given.RowsLists.{both_some, found_alike, unseen}
-use Rattle.run_kept.proofs.Given.SettlesGains.{none_changed, others_stay}
-use Rattle.run_kept.proofs.Given.SettlesOwing.{leaves, thing_itself}
+use Rattle.play_lists.proofs.Given.SettlesGains.{none_changed, others_stay}
+use Rattle.play_lists.proofs.Given.SettlesOwing.{leaves, thing_itself}
 use Rattle.play_events.specs.Folded.Folded.{EffectsFold, HandInOrder, IsFirstObligation, handed_in, if_its, out_in}
 use Rattle.play_stepping.proofs.Given.General.{same_some as one_of}
 

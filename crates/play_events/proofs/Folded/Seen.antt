@@ -14,7 +14,7 @@ use Rattle.run_schedules.specs.Schedules.Beginning.{begun, fresh_call, with_call
 use Rattle.run_schedules.specs.Schedules.Entry.{caller_of, ends_call, is_busy, nameless}
 use Rattle.run_schedules.specs.Schedules.Moment.{Asking, Moment, CallState, UnderWay as CallThere}
 use Rattle.run_schedules.specs.Schedules.Views.{call_of, number_of}
-use Rattle.run_kept.proofs.Given.FollowsCalling.{is_same_is}
+use Rattle.play_lists.proofs.Given.FollowsCalling.{is_same_is}
 use Rattle.play_stepping.proofs.Given.RowsLists.{both_some, found_alike, unseen}
 use Rattle.play_stepping.proofs.Given.General.{same_some as one_of}
 

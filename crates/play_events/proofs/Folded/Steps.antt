@@ -12,17 +12,17 @@ use Rattle.run_schedules.specs.Schedules.Effects.{with_effect, with_effects}
 use Rattle.run_schedules.specs.Schedules.Entry.{Entry, IfCall, acted_on, acting, caller_of}
 use Rattle.run_schedules.specs.Schedules.Moment.{UnderWay as CallThere, Moment}
 use Rattle.run_schedules.specs.Schedules.Views.{call_of}
-use Rattle.run_kept.specs.Given.EffectsEffects.{effects_of}
-use Rattle.run_kept.specs.Given.EffectsDeclared.acting.Acting.TheVariants as acts
+use Rattle.play_lists.specs.Given.EffectsEffects.{effects_of}
+use Rattle.play_lists.specs.Given.EffectsDeclared.acting.Acting.TheVariants as acts
 use Rattle.play_stepping.specs.Given.CallersTogether.{UnderWay}
-use Rattle.run_kept.specs.Given.EffectsKnown.{Known}
+use Rattle.play_lists.specs.Given.EffectsKnown.{Known}
 use Rattle.play_stepping.specs.Given.MomentsWhole.{RefinesWhole}
-use Rattle.run_kept.specs.Given.HistoriesInEvent.{here_of}
-use Rattle.run_kept.specs.Given.SettlesHand.{in_hand}
-use Rattle.run_kept.specs.Given.SettlesOwing.{AllLeave, HandsFirst, HandsOver, KeepsOwed, ObligationsGo, Passes, PutsOver, TakesOut, leaves_owed}
-use Rattle.run_kept.proofs.Given.SettlesHand.All.{calls_go_in_hand}
-use Rattle.run_kept.specs.Kept.Kept.{RefinesKept}
-use Rattle.run_kept.proofs.Kept.Calls.{own_made}
+use Rattle.play_lists.specs.Given.HistoriesInEvent.{here_of}
+use Rattle.run_legal.specs.Given.SettlesHand.{in_hand}
+use Rattle.play_lists.specs.Given.SettlesOwing.{AllLeave, HandsFirst, HandsOver, KeepsOwed, ObligationsGo, Passes, PutsOver, TakesOut, leaves_owed}
+use Rattle.run_legal.proofs.Given.SettlesHand.All.{calls_go_in_hand}
+use Rattle.play_lists.specs.Given.KeptKept.{RefinesKept}
+use Rattle.play_lists.proofs.Given.KeptCalls.{own_made}
 use Rattle.run_legal.specs.CallEvents.{InCallEvent}
 use Rattle.run_legal.specs.Chains.{CallCome, CallSteps}
 use Rattle.run_legal.proofs.Calls.{call_events_go_on_so}
@@ -30,9 +30,9 @@ use Rattle.run_legal.proofs.Chains.{chains_keep}
 use Rattle.run_legal.proofs.Slots.{each_join}
 use Rattle.play_events.specs.Folded.Folded.{HandInOrder, HandsInOrder, IsFirstObligation, handed_in}
 use Rattle.play_events.specs.Folded.Steps.{CallEventsHandInOrder, StepsHandInOrder}
-use Rattle.run_kept.specs.Given.ScenesHeld.{Held, IsAt}
-use Rattle.run_kept.specs.Given.ScenesScene.{Scene}
-use Rattle.run_kept.specs.Given.ScenesStepping.{StepLeads}
+use Rattle.play_lists.specs.Given.ScenesHeld.{Held, IsAt}
+use Rattle.play_lists.specs.Given.ScenesScene.{Scene}
+use Rattle.play_lists.specs.Given.ScenesStepping.{StepLeads}
 use Rattle.run_schedules.specs.Schedules.Transition.{past}
 
 -- what leaves all that is owed hands nothing over

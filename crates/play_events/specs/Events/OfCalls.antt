@@ -18,14 +18,14 @@ use Rattle.run_schedules.specs.Schedules.Moment.{UnderWay as CallThere, Moment}
 use Rattle.run_schedules.specs.Schedules.Terms.{Terms, shards_of}
 use Rattle.run_schedules.specs.Schedules.Views.{call_of}
 use Rattle.play_stepping.specs.Given.CallersTogether.{UnderWay}
-use Rattle.run_kept.specs.Given.EffectsEffects.{known_after}
-use Rattle.run_kept.specs.Given.EffectsKnown.{Known, known}
-use Rattle.run_kept.specs.Given.EffectsDeclared.acting.Acting.TheVariants as acts
+use Rattle.play_lists.specs.Given.EffectsEffects.{known_after}
+use Rattle.play_lists.specs.Given.EffectsKnown.{Known, known}
+use Rattle.play_lists.specs.Given.EffectsDeclared.acting.Acting.TheVariants as acts
 use Rattle.play_stepping.specs.Given.ExecutorDeclared.executor.Executor.{Executor}
-use Rattle.run_kept.specs.Given.HistoriesInEvent.{HasOutcomeSo}
-use Rattle.run_kept.specs.Given.FinishesMachines.{machine_of}
-use Rattle.run_kept.specs.Models.CallEvents.{IsInItsRow}
-use Rattle.run_kept.specs.Values.Values.{KeepsValue}
+use Rattle.play_lists.specs.Given.HistoriesInEvent.{HasOutcomeSo}
+use Rattle.play_lists.specs.Given.FinishesMachines.{machine_of}
+use Rattle.run_legal.specs.Given.ModelsCallEvents.{IsInItsRow}
+use Rattle.play_lists.specs.Given.ValuesValues.{KeepsValue}
 use Rattle.play_stepping.specs.Given.ExecutorDeclared.caller.NamedCaller.{NamedCaller}
 use Rattle.run_legal.specs.CallEvents.{InCallEvent, IsLegalBut}
 use Rattle.run_legal.specs.CallSwept.{OutcomeOf}
@@ -40,9 +40,9 @@ use Rattle.play_stepping.specs.EventSteps.Stepping.{HasOutcomeOfKind}
 use Rattle.play_stepping.specs.Given.Says.{outcome_of}
 use Rattle.play_stepping.specs.Given.NeedsNeeds.{AreReached}
 use Rattle.play_events.specs.Events.Asked.{FindsRight, is_of_calls}
-use Rattle.run_kept.specs.Given.ScenesScene.{Scene}
-use Rattle.run_kept.specs.Given.ScenesHeld.{Held, IsAt}
-use Rattle.run_kept.specs.Given.ScenesStepping.{StepLeads}
+use Rattle.play_lists.specs.Given.ScenesScene.{Scene}
+use Rattle.play_lists.specs.Given.ScenesHeld.{Held, IsAt}
+use Rattle.play_lists.specs.Given.ScenesStepping.{StepLeads}
 
 -- each map has as many shards as the terms say
 abbrev pub HaveShards : {K V S : Type 0} → Terms → Executor K V S → Type 0

@@ -8,17 +8,17 @@ use Rattle.run_schedules.specs.Schedules.Entry.{Entry, acted_on}
 use Rattle.run_schedules.specs.Schedules.Moment.{UnderWay as CallThere, Moment}
 use Rattle.run_schedules.specs.Schedules.Terms.{Terms}
 use Rattle.play_stepping.specs.Given.CallersTogether.{UnderWay}
-use Rattle.run_kept.specs.Given.EffectsEffects.{effects_of}
-use Rattle.run_kept.specs.Given.EffectsKnown.{Known}
-use Rattle.run_kept.specs.Given.EffectsDeclared.acting.Acting.TheVariants as acts
+use Rattle.play_lists.specs.Given.EffectsEffects.{effects_of}
+use Rattle.play_lists.specs.Given.EffectsKnown.{Known}
+use Rattle.play_lists.specs.Given.EffectsDeclared.acting.Acting.TheVariants as acts
 use Rattle.play_stepping.specs.Given.MomentsWhole.{RefinesWhole}
-use Rattle.run_kept.specs.Kept.Kept.{RefinesKept}
+use Rattle.play_lists.specs.Given.KeptKept.{RefinesKept}
 use Rattle.run_legal.specs.CallEvents.{InCallEvent}
 use Rattle.run_legal.specs.Chains.{CallCome, CallSteps, Chain}
 use Rattle.play_events.specs.Folded.Folded.{HandInOrder, HandsInOrder}
-use Rattle.run_kept.specs.Given.ScenesHeld.{Held, IsAt}
-use Rattle.run_kept.specs.Given.ScenesScene.{Scene}
-use Rattle.run_kept.specs.Given.ScenesStepping.{StepLeads}
+use Rattle.play_lists.specs.Given.ScenesHeld.{Held, IsAt}
+use Rattle.play_lists.specs.Given.ScenesScene.{Scene}
+use Rattle.play_lists.specs.Given.ScenesStepping.{StepLeads}
 
 module _ (K V : Type 0) (same : K → K → Bool) (hash : ℕ → K → ℕ) where
   -- The promises: the effects of a step of a call, of whatever kind, hand over in order;

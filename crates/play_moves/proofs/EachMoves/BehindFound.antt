@@ -7,31 +7,31 @@ use Rattle.seize_acts.specs.Given.SeizeWorld.{LeftTo, World, times}
 use Rattle.seize_acts.specs.Given.SeizeDeclared.rows.reclaim_all.ReclaimAll.{ReclaimAll}
 use Rattle.seize_acts.specs.Given.SeizeDeclared.rows.reclaim_all.Reclaiming.{Reclaiming}
 use Rattle.seize_acts.specs.Given.SeizeDeclared.rows.reclaim_all.Reclaiming.TheVariants as reclaiming
-use Rattle.play_lists.specs.Given.TablesNodes.{deferred_word}
-use Rattle.play_lists.specs.Given.TablesDeclared.node.Node.{Node}
+use Rattle.run_legal.specs.Given.TablesNodes.{deferred_word}
+use Rattle.run_legal.specs.Given.TablesDeclared.node.Node.{Node}
 use Rattle.run_schedules.specs.declared.effect.TableId.{TableId}
 use Rattle.run_schedules.specs.Schedules.Moment.{Behind, Deferral, GivenBack, Handed as IsHanded, InMap, Left, MapThere, Moment, Out, Place, Unborn}
 use Rattle.run_schedules.specs.Schedules.Reclaims.{is_handed}
 use Rattle.run_schedules.specs.Schedules.Views.{is_in_map}
-use Rattle.play_lists.specs.Given.EffectsKnown.{Known}
-use Rattle.play_lists.specs.Given.EffectsDeclared.role.Role.TheVariants as role
-use Rattle.play_lists.specs.Given.FindsWaiting.{is_behind_one, is_out, once_if, owed_by, put_in}
-use Rattle.play_lists.specs.Given.FindsWithin.{AllIsInOrder}
-use Rattle.play_lists.specs.Given.FinishesMaps.{Standing}
-use Rattle.play_lists.specs.Given.FollowsMaps.{RefinesMap}
-use Rattle.play_lists.specs.Given.KeptKept.{RefinesKept}
+use Rattle.run_legal.specs.Given.EffectsKnown.{Known}
+use Rattle.run_legal.specs.Given.EffectsDeclared.role.Role.TheVariants as role
+use Rattle.run_legal.specs.Given.FindsWaiting.{is_behind_one, is_out, once_if, owed_by, put_in}
+use Rattle.run_legal.specs.Given.FindsWithin.{AllIsInOrder}
+use Rattle.run_legal.specs.Given.FinishesMaps.{Standing}
+use Rattle.play_linear.specs.Given.FollowsMaps.{RefinesMap}
+use Rattle.run_legal.specs.Given.KeptKept.{RefinesKept}
 use Rattle.run_legal.specs.Given.LivesBehind.{EachWaits, IsLeft, IsDeferredTo, NoTableLeft}
 use Rattle.run_legal.specs.Given.LivesWaiting.{waits_behind}
 use Rattle.seize_acts.specs.Reclaims.Roots.{all_lists}
 use Rattle.run_legal.specs.Given.MomentsWhole.{RefinesWhole}
 use Rattle.run_legal.specs.Given.ReclaimsReclaims.{ReclaimingAt}
-use Rattle.play_lists.specs.Given.ScenesHeld.{Held}
-use Rattle.play_lists.specs.Given.ScenesReclaiming.{IsReclaiming}
-use Rattle.play_lists.specs.Given.ScenesScene.{Scene}
+use Rattle.run_legal.specs.Given.ScenesHeld.{Held}
+use Rattle.run_legal.specs.Given.ScenesReclaiming.{IsReclaiming}
+use Rattle.run_legal.specs.Given.ScenesScene.{Scene}
 use Rattle.run_legal.specs.Given.SpotsUnreclaimed.{is_unreclaimed}
 use Rattle.run_legal.proofs.Given.LivesLeftTables.{none_is_left}
 use Rattle.run_legal.proofs.Given.LivesWorlds.{Kept, has_it, runs_kept, start_kept}
-use Rattle.play_lists.proofs.Given.RuleLaws.{current_is_known}
+use Rattle.play_linear.proofs.Given.RuleLaws.{current_is_known}
 
 -- where no table has such a pair behind it, it is behind none
 none_put : (P : ℕ → TableId → Type 0) (n : ℕ) → ((t : TableId) → P n t → ⊥) → (ds : List Deferral) → EachWaits P ds → put_in n ds ≡ 0

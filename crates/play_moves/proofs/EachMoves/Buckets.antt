@@ -7,28 +7,28 @@ use Rattle.run_schedules.specs.Given.SeizeWordsMem.{Mem, Can}
 use Rattle.run_schedules.specs.Given.SeizeWordsOp.{Op, Out, Room}
 use Rattle.run_schedules.specs.Given.SeizeWordsPlace.{capacity}
 use Rattle.run_legal.proofs.Given.SeizeWordsPlaces.Words.{capacity-more, capacity_le_capacity, capacity_pos}
-use Rattle.play_lists.specs.Given.TablesDeclared.node.Node.{Node}
-use Rattle.play_lists.specs.Given.TellsSeen.{seen_of}
-use Rattle.play_lists.specs.Given.TellerTells.{observed_of}
-use Rattle.play_lists.specs.Given.EffectsDeclared.changed.Changed.{Changed}
-use Rattle.play_lists.specs.Given.EffectsDeclared.changed.Changed.TheVariants as changed
+use Rattle.run_legal.specs.Given.TablesDeclared.node.Node.{Node}
+use Rattle.run_legal.specs.Given.TellsSeen.{seen_of}
+use Rattle.run_legal.specs.Given.TellerTells.{observed_of}
+use Rattle.run_legal.specs.Given.EffectsDeclared.changed.Changed.{Changed}
+use Rattle.run_legal.specs.Given.EffectsDeclared.changed.Changed.TheVariants as changed
 use Rattle.run_schedules.specs.declared.effect.Effect.{Effect}
 use Rattle.run_schedules.specs.declared.effect.Effect.TheVariants.{Asked}
 use Rattle.run_schedules.specs.declared.effect.Growth.TheVariants.{ABucket}
 use Rattle.run_schedules.specs.declared.outcome.Outcome.{Outcome}
 use Rattle.run_schedules.specs.Schedules.Handing.{asks_for_bucket}
-use Rattle.play_lists.specs.Given.EffectsEffects.{effects_of, known_after, pair_taken, table_taken}
-use Rattle.play_lists.specs.Given.EffectsKnown.{Known}
-use Rattle.play_lists.specs.Given.EffectsDeclared.acting.Acting.{Acting}
-use Rattle.play_lists.specs.Given.EffectsDeclared.acting.Acting.TheVariants as acts
+use Rattle.run_legal.specs.Given.EffectsEffects.{effects_of, known_after, pair_taken, table_taken}
+use Rattle.run_legal.specs.Given.EffectsKnown.{Known}
+use Rattle.run_legal.specs.Given.EffectsDeclared.acting.Acting.{Acting}
+use Rattle.run_legal.specs.Given.EffectsDeclared.acting.Acting.TheVariants as acts
 use Rattle.run_legal.specs.Given.RemainsSlots.{SlotsNoted}
 use Rattle.run_legal.proofs.Given.FollowsOfEach.{OfEach, led_so, operation_so, taken_so}
-use Rattle.play_lists.proofs.Given.FollowsOperations.{Operated}
+use Rattle.run_legal.proofs.Given.FollowsOperations.{Operated}
 use Rattle.run_legal.proofs.Given.RemainsSlots.{IsNoRoom, IsOther, MakesRoom, buckets_stay, either_way, no_room_told, operation_notes}
-use Rattle.play_lists.specs.Given.ActsActs.{Answer}
+use Rattle.threads_rule.specs.Given.ActsActs.{Answer}
 use Rattle.run_schedules.specs.Deeds.Deeds.{Deed, Entry}
 use Rattle.run_schedules.specs.Deeds.History.{buckets}
-use Rattle.play_lists.specs.Played.Play.{Now, State, did, is_refusal}
+use Rattle.play_linear.specs.Given.PlayedPlay.{Now, State, did, is_refusal}
 
 -- words of slots are noted just where there are some, and as many buckets as were granted
 pub record BucketsHold {K V S : Type 0} (x : State K V S) : Type 0 where

@@ -11,10 +11,10 @@ use Rattle.run_schedules.specs.Schedules.Moment.{Moment}
 use Rattle.run_schedules.specs.Schedules.Views.{capacity_or, map_at}
 use Rattle.run_legal.specs.Given.OwesMaking.{making_in_opening}
 use Rattle.run_legal.specs.Given.OwesTables.{table_made}
-use Rattle.play_lists.proofs.Given.FindsCapacities.{effects_keep_capacities}
+use Rattle.run_legal.proofs.Given.FindsCapacities.{effects_keep_capacities}
 use Rattle.run_schedules.specs.Deeds.Deeds.{Deed, Entry, Makes, MapComes, MapFails, MapGoes, acted_on, after, begun, caller_of}
 use Rattle.run_schedules.specs.Deeds.History.{made_by}
-use Rattle.play_lists.specs.Played.Play.{pairs_for}
+use Rattle.play_linear.specs.Given.PlayedPlay.{pairs_for}
 use Rattle.run_legal.specs.Given.NeedsMakings.{in_hand}
 use Rattle.play_moves.proofs.EachMoves.Rooted.{IsFreeing}
 

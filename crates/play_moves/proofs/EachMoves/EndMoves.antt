@@ -9,16 +9,16 @@ use Rattle.run_schedules.specs.Schedules.Effects.{AtEachEffect, with_effect, wit
 use Rattle.run_schedules.specs.Schedules.Handing.{is_ending}
 use Rattle.run_schedules.specs.Schedules.Moment.{Moment}
 use Rattle.run_schedules.specs.Schedules.Views.{size_of}
-use Rattle.play_lists.specs.Given.EffectsDeclared.changed.Changed.{Changed}
-use Rattle.play_lists.specs.Given.EffectsEffects.{effects_of}
-use Rattle.play_lists.specs.Given.EffectsKnown.{Known}
-use Rattle.play_lists.specs.Given.EffectsDeclared.acting.Acting.TheVariants as acts
+use Rattle.run_legal.specs.Given.EffectsDeclared.changed.Changed.{Changed}
+use Rattle.run_legal.specs.Given.EffectsEffects.{effects_of}
+use Rattle.run_legal.specs.Given.EffectsKnown.{Known}
+use Rattle.run_legal.specs.Given.EffectsDeclared.acting.Acting.TheVariants as acts
 use Rattle.run_schedules.specs.Deeds.Deeds.{Ends, Entry, MapGoes, moment}
 use Rattle.run_schedules.specs.Deeds.History.{EndFinds, left_tables, may_do}
-use Rattle.play_lists.specs.Played.Play.{is_refusal}
+use Rattle.play_linear.specs.Given.PlayedPlay.{is_refusal}
 use Rattle.play_moves.specs.EachMoves.Parts.{DoesIts}
 use Rattle.play_moves.proofs.EachMoves.Parts.{all_also, granted_so, none_may}
-use Rattle.play_lists.proofs.Agrees.Grants.{refusals_so as refuses_so}
+use Rattle.play_linear.proofs.Given.AgreesGrants.{refusals_so as refuses_so}
 
 module _ {K V : Type 0} (map : ℕ) where
   one_ends : (v : Moment K V) (f : Effect) → EndFinds map v f → is_ending f ≡ true

@@ -2,7 +2,7 @@
 use Rattle.std.specs.Prelude.{◌≡◌, ◌⊎◌, ℕ, ◌+◌, Bool, true, false, List, [], Option, Some, None, if◌then◌else◌}
 use Rattle.std.proofs.Common.{refl, ap, sym, subst, ◌∙◌, inl, inr}
 use Rattle.run_schedules.specs.Given.SeizeWordsDeclared.fault.Fault.TheVariants.{Memory}
-use Rattle.play_lists.specs.Given.TablesDeclared.node.Node.{Node}
+use Rattle.run_legal.specs.Given.TablesDeclared.node.Node.{Node}
 use Rattle.run_schedules.specs.Given.RawMachine.{machine_asked}
 use Rattle.run_schedules.specs.Given.RawDeclared.machines.machine.Machine.{Machine}
 use Rattle.run_schedules.specs.Given.RawDeclared.machines.progress.Progress.{Progress}
@@ -15,27 +15,27 @@ use Rattle.run_schedules.specs.Schedules.Handing.{HasGrown, LeavesOf, is_clear_o
 use Rattle.run_schedules.specs.Schedules.Moment.{UnderWay as CallThere, Moment}
 use Rattle.run_schedules.specs.Schedules.Views.{call_of}
 use Rattle.run_legal.specs.Given.CallersTogether.{UnderWay}
-use Rattle.play_lists.specs.Given.EffectsEffects.{effects_of, known_after}
-use Rattle.play_lists.specs.Given.EffectsKnown.{Known}
-use Rattle.play_lists.specs.Given.EffectsDeclared.acting.Acting.TheVariants as acts
-use Rattle.play_lists.specs.Given.FinishesMachines.{machine_of}
-use Rattle.play_lists.specs.Given.KeptKept.{RefinesKept}
+use Rattle.run_legal.specs.Given.EffectsEffects.{effects_of, known_after}
+use Rattle.run_legal.specs.Given.EffectsKnown.{Known}
+use Rattle.run_legal.specs.Given.EffectsDeclared.acting.Acting.TheVariants as acts
+use Rattle.run_legal.specs.Given.FinishesMachines.{machine_of}
+use Rattle.run_legal.specs.Given.KeptKept.{RefinesKept}
 use Rattle.run_legal.specs.Given.MomentsWhole.{RefinesWhole}
 use Rattle.run_legal.specs.Given.OwesEvents.{LeavesNothingMade}
-use Rattle.play_lists.specs.Given.ScenesHeld.{Held, IsAt}
-use Rattle.play_lists.specs.Given.ScenesScene.{Scene}
-use Rattle.play_lists.specs.Given.ScenesStepping.{StepLeads, has_ended, scene_after}
-use Rattle.play_lists.specs.Given.SettlesCounts.{HasToCount}
+use Rattle.run_legal.specs.Given.ScenesHeld.{Held, IsAt}
+use Rattle.run_legal.specs.Given.ScenesScene.{Scene}
+use Rattle.run_legal.specs.Given.ScenesStepping.{StepLeads, has_ended, scene_after}
+use Rattle.run_legal.specs.Given.SettlesCounts.{HasToCount}
 use Rattle.run_legal.proofs.CallLeaves.{none_asked}
-use Rattle.play_lists.proofs.Given.KeptCalls.{calls_keep_kept, own_made}
+use Rattle.run_legal.proofs.Given.KeptCalls.{calls_keep_kept, own_made}
 use Rattle.run_legal.proofs.Given.OwesCalls.{step_keeps_made}
 use Rattle.run_legal.proofs.Given.OwesClear.{walks_are_clear}
 use Rattle.run_legal.proofs.Given.OwesKept.{calls_its}
 use Rattle.run_legal.proofs.Given.OwesReady.{ready_so}
 use Rattle.run_legal.proofs.Given.OwesShort.Calls.{step_keeps_short}
 use Rattle.run_legal.proofs.Given.OwesTables.Calls.{step_keeps_tables}
-use Rattle.play_lists.proofs.Given.ScenesGoes.{goes_as}
-use Rattle.play_lists.proofs.Given.SettlesCalls.{calls_keep_counts, goes_as_one}
+use Rattle.run_legal.proofs.Given.ScenesGoes.{goes_as}
+use Rattle.run_legal.proofs.Given.SettlesCalls.{calls_keep_counts, goes_as_one}
 use Rattle.run_legal.proofs.Given.SettlesHand.Asked.{walks_have_nothing}
 use Rattle.run_legal.proofs.Given.SettlesHand.Calls.{calls_keep_owed}
 use Rattle.run_schedules.proofs.Given.General.{none_mapped as none_of}

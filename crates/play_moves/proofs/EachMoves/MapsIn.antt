@@ -4,15 +4,15 @@ use Rattle.std.specs.List.{AllByRecursion, list_any}
 use Rattle.std.proofs.Common.{refl, ap, sym, subst, ◌∙◌, eqb-true}
 use Rattle.std.proofs.lemmas.Bool.{eq-eqb}
 use Rattle.run_schedules.specs.Runs.Same.{is_same}
-use Rattle.play_lists.specs.Given.TablesDeclared.resize_mode.ResizeMode.{ResizeMode}
+use Rattle.run_legal.specs.Given.TablesDeclared.resize_mode.ResizeMode.{ResizeMode}
 use Rattle.run_schedules.specs.Schedules.Effects.{maps_by, promoted, with_effect, with_effects}
 use Rattle.run_schedules.specs.Schedules.Moment.{MapThere, Moment}
 use Rattle.run_schedules.specs.declared.effect.Effect.{Effect}
 use Rattle.run_schedules.specs.declared.effect.Effect.TheVariants.{Promoted}
 use Rattle.run_schedules.specs.declared.effect.TableId.{TableId}
 use Rattle.run_schedules.specs.declared.outcome.Outcome.{Outcome}
-use Rattle.play_lists.proofs.Given.FollowsCalling.{is_same_refl}
-use Rattle.play_lists.proofs.Agrees.Lists.{all_kept}
+use Rattle.run_legal.proofs.Given.FollowsCalling.{is_same_refl}
+use Rattle.play_linear.proofs.Given.AgreesLists.{all_kept}
 use Rattle.run_schedules.specs.Deeds.Deeds.{Begins, Deed, Entry, MapComes, MapFails, MapGoes, acted_on, after, begun, caller_of, named, without_map}
 
 -- each is one of these, by its name, too

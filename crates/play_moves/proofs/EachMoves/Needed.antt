@@ -16,23 +16,23 @@ use Rattle.seize_acts.proofs.Given.SeizeRuleRows.Known.{FitsRegister, FitsRow}
 use Rattle.seize_acts.proofs.Given.SeizeMemoryWords.Shows.{Extra}
 use Rattle.seize_acts.proofs.Given.SeizeMemoryWords.View.{view}
 use Rattle.seize_acts.proofs.Given.SeizeRuleWorld.Good.{Good}
-use Rattle.play_lists.specs.Given.TablesNodes.{deferred_word}
-use Rattle.play_lists.specs.Given.TablesDeclared.node.Node.{Node}
+use Rattle.run_legal.specs.Given.TablesNodes.{deferred_word}
+use Rattle.run_legal.specs.Given.TablesDeclared.node.Node.{Node}
 use Rattle.run_schedules.specs.Schedules.Handing.{asks_for_bucket}
-use Rattle.play_lists.specs.Given.EffectsEffects.{effects_of}
-use Rattle.play_lists.specs.Given.EffectsDeclared.acting.Acting.TheVariants as acts
+use Rattle.run_legal.specs.Given.EffectsEffects.{effects_of}
+use Rattle.run_legal.specs.Given.EffectsDeclared.acting.Acting.TheVariants as acts
 use Rattle.run_legal.specs.Given.RemainsSlots.{SlotsNoted}
-use Rattle.play_lists.specs.Given.ScenesHeld.{Held, IsAt}
-use Rattle.play_lists.specs.Given.ScenesOnSlots.{RowLeads}
-use Rattle.play_lists.specs.Given.ScenesScene.{IsOnSlot, Scene}
-use Rattle.play_lists.specs.Given.ScenesDeclared.row.RowTold.{RowTold}
-use Rattle.play_lists.specs.Given.ScenesDeclared.row.SlotRow.{SlotRow}
-use Rattle.play_lists.specs.Given.ScenesDeclared.row.SlotRow.TheVariants as rows
+use Rattle.run_legal.specs.Given.ScenesHeld.{Held, IsAt}
+use Rattle.run_legal.specs.Given.ScenesOnSlots.{RowLeads}
+use Rattle.run_legal.specs.Given.ScenesScene.{IsOnSlot, Scene}
+use Rattle.run_legal.specs.Given.ScenesDeclared.row.RowTold.{RowTold}
+use Rattle.run_legal.specs.Given.ScenesDeclared.row.SlotRow.{SlotRow}
+use Rattle.run_legal.specs.Given.ScenesDeclared.row.SlotRow.TheVariants as rows
 use Rattle.run_legal.proofs.Given.CallersTogether.Came.{came_reached}
-use Rattle.play_lists.proofs.Given.ScenesMay.{may_row}
+use Rattle.run_legal.proofs.Given.ScenesMay.{may_row}
 use Rattle.run_legal.proofs.Given.NeedsSteps.{registers_tell}
 use Rattle.run_schedules.specs.Deeds.History.{NeedsBucket, buckets}
-use Rattle.play_lists.specs.Played.Play.{State}
+use Rattle.play_linear.specs.Given.PlayedPlay.{State}
 use Rattle.play_moves.proofs.EachMoves.Buckets.{BucketsHold}
 use Rattle.run_legal.proofs.Works.Needs.{asked_is}
 use Rattle.run_legal.proofs.Works.Registering.{AsksAt, lacks_at}

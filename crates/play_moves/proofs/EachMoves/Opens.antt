@@ -6,25 +6,25 @@ use Rattle.seize_acts.specs.Given.SeizeDeclared.advance.Advance.{Advance}
 use Rattle.seize_acts.specs.Given.SeizeDeclared.advance.Advance.TheVariants as progress
 use Rattle.seize_acts.specs.Given.SeizeDeclared.rows.settle.Settled.{Settled}
 use Rattle.seize_acts.specs.Given.SeizeDeclared.rows.settle.Settled.TheVariants as settled
-use Rattle.play_lists.specs.Given.TablesDeclared.node.Node.{Node}
-use Rattle.play_lists.specs.Given.TablesDeclared.setting.Setting.{Setting}
+use Rattle.run_legal.specs.Given.TablesDeclared.node.Node.{Node}
+use Rattle.run_legal.specs.Given.TablesDeclared.setting.Setting.{Setting}
 use Rattle.run_schedules.specs.Given.RawDeclared.machines.end_map.EndMap.{EndMap}
 use Rattle.threads_rule.specs.Given.ResizeDeclared.new_map.NewMap.{NewMap}
-use Rattle.play_lists.specs.Given.EffectsDeclared.changed.Changed.TheVariants.{Nothing as NoChange}
-use Rattle.play_lists.specs.Given.FinishesEndings.{Finishing}
-use Rattle.play_lists.specs.Given.FinishesFactsEnds.{Deed}
-use Rattle.play_lists.specs.Given.FinishesMakings.{Beginning}
-use Rattle.play_lists.specs.Given.OthersMakings.{making_after}
-use Rattle.play_lists.specs.Given.ScenesHeld.{Held}
-use Rattle.play_lists.specs.Given.ScenesMaking.{MakingHasOutcome, making_begun}
-use Rattle.play_lists.specs.Given.ScenesScene.{Scene, slot_of}
-use Rattle.play_lists.specs.Given.ActsActs.{Act, Answer, BeginsCall, StepsCall, TellsCall, AsksCall, StopsCall, BeginsMaking, StepsMaking, BeginsEnding, StepsEnding, BeginsRow, StepsRow}
-use Rattle.play_lists.specs.Given.ActsAsSteps.{LeadsAs, MadeTo, changed_by, held_in}
-use Rattle.play_lists.specs.Given.ActsLeads.{EndingCame, Led}
-use Rattle.play_lists.proofs.Agrees.Numbers.{with_so}
+use Rattle.run_legal.specs.Given.EffectsDeclared.changed.Changed.TheVariants.{Nothing as NoChange}
+use Rattle.run_legal.specs.Given.FinishesEndings.{Finishing}
+use Rattle.run_legal.specs.Given.FinishesFactsEnds.{Deed}
+use Rattle.run_legal.specs.Given.FinishesMakings.{Beginning}
+use Rattle.run_legal.specs.Given.OthersMakings.{making_after}
+use Rattle.run_legal.specs.Given.ScenesHeld.{Held}
+use Rattle.run_legal.specs.Given.ScenesMaking.{MakingHasOutcome, making_begun}
+use Rattle.run_legal.specs.Given.ScenesScene.{Scene, slot_of}
+use Rattle.threads_rule.specs.Given.ActsActs.{Act, Answer, BeginsCall, StepsCall, TellsCall, AsksCall, StopsCall, BeginsMaking, StepsMaking, BeginsEnding, StepsEnding, BeginsRow, StepsRow}
+use Rattle.play_linear.specs.Given.ActsAsSteps.{LeadsAs, MadeTo, changed_by, held_in}
+use Rattle.play_linear.specs.Given.ActsLeads.{EndingCame, Led}
+use Rattle.play_linear.proofs.Given.AgreesNumbers.{with_so}
 use Rattle.run_legal.specs.Given.NeedsFirsts.{AllMakingsOpen}
 use Rattle.run_legal.proofs.Given.NeedsFirsts.{makings_go_on, makings_open}
-use Rattle.play_lists.specs.Agrees.Places.{ArePlaces, AsksPlaces}
+use Rattle.play_linear.specs.Given.AgreesPlaces.{ArePlaces, AsksPlaces}
 use Rattle.play_moves.specs.EachMoves.Places.{OpensFor}
 use Rattle.run_schedules.proofs.Given.General.{same_some}
 

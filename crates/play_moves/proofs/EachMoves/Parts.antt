@@ -6,14 +6,14 @@ use Rattle.std.proofs.lemmas.Bool.{and_parts}
 use Rattle.run_schedules.specs.declared.effect.Effect.{Effect}
 use Rattle.run_schedules.specs.declared.outcome.Outcome.{Outcome}
 use Rattle.run_schedules.specs.Schedules.Handing.{is_granted}
-use Rattle.play_lists.specs.Given.EffectsDeclared.changed.Changed.{Changed}
-use Rattle.play_lists.specs.Given.EffectsEffects.{effects_of}
-use Rattle.play_lists.specs.Given.EffectsKnown.{Known}
-use Rattle.play_lists.specs.Given.EffectsDeclared.acting.Acting.{Acting}
-use Rattle.run_histories.proofs.Promises.Weights.{operations_are_single}
+use Rattle.run_legal.specs.Given.EffectsDeclared.changed.Changed.{Changed}
+use Rattle.run_legal.specs.Given.EffectsEffects.{effects_of}
+use Rattle.run_legal.specs.Given.EffectsKnown.{Known}
+use Rattle.run_legal.specs.Given.EffectsDeclared.acting.Acting.{Acting}
+use Rattle.run_legal.proofs.Given.PromisesWeights.{operations_are_single}
 use Rattle.run_schedules.specs.Deeds.Deeds.{Begins, Deed, Entry, Replies, Stops}
 use Rattle.run_schedules.specs.Deeds.History.{may_do}
-use Rattle.play_lists.proofs.Agrees.Grants.{refusals_so as refuses_so}
+use Rattle.play_linear.proofs.Given.AgreesGrants.{refusals_so as refuses_so}
 use Rattle.play_moves.specs.EachMoves.Parts.{DoesIts}
 
 -- what all pass that pass another test

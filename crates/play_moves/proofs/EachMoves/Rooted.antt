@@ -8,20 +8,20 @@ use Rattle.run_schedules.specs.Given.SeizeWordsDeclared.fault.Fault.{Fault}
 use Rattle.run_schedules.specs.Given.SeizeWordsDeclared.fault.Fault.TheVariants.{Memory, RootsUsedUp}
 use Rattle.seize_acts.specs.Given.SeizeDeclared.advance.Advance.{Advance}
 use Rattle.seize_acts.specs.Given.SeizeDeclared.advance.Advance.TheVariants as progress
-use Rattle.play_lists.specs.Given.TablesDeclared.node.Node.{Node}
-use Rattle.play_lists.specs.Given.TablesDeclared.setting.Setting.{Setting}
-use Rattle.play_lists.specs.Given.TablesDeclared.table.Table.{Table}
+use Rattle.run_legal.specs.Given.TablesDeclared.node.Node.{Node}
+use Rattle.run_legal.specs.Given.TablesDeclared.setting.Setting.{Setting}
+use Rattle.run_legal.specs.Given.TablesDeclared.table.Table.{Table}
 use Rattle.threads_rule.specs.Given.ResizeNewMap.{at_root, done, goes, made, opened, plan_at, refused, taken}
 use Rattle.run_legal.specs.Given.ResizeNewTable.{first_table, new_table_plan}
 use Rattle.threads_rule.specs.Given.ResizeDeclared.new_map.NewMap.{NewMap}
 use Rattle.threads_rule.specs.Given.ResizeDeclared.new_map.Opening.{Opening}
 use Rattle.threads_rule.specs.Given.ResizeDeclared.new_map.Opening.TheVariants as openings
 use Rattle.threads_rule.specs.Given.ResizeDeclared.new_table.NewTable.{NewTable}
-use Rattle.play_lists.specs.Given.TellerTells.{StepsObserved}
-use Rattle.play_lists.specs.Given.EffectsDeclared.changed.Changed.{Changed}
-use Rattle.play_lists.specs.Given.EffectsDeclared.changed.Changed.TheVariants as changed
+use Rattle.run_legal.specs.Given.TellerTells.{StepsObserved}
+use Rattle.run_legal.specs.Given.EffectsDeclared.changed.Changed.{Changed}
+use Rattle.run_legal.specs.Given.EffectsDeclared.changed.Changed.TheVariants as changed
 use Rattle.run_legal.proofs.Given.OthersOutcomes.{told_in}
-use Rattle.play_lists.specs.Played.Play.{has_root}
+use Rattle.play_linear.specs.Given.PlayedPlay.{has_root}
 
 -- it gives its root up next
 abbrev pub IsFreeing : Opening → Type 0

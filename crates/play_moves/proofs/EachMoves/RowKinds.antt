@@ -20,25 +20,25 @@ use Rattle.seize_acts.specs.Given.SeizeDeclared.rows.settle.Settled.{Settled}
 use Rattle.seize_acts.specs.Given.SeizeDeclared.rows.settle.Settling.{Settling}
 use Rattle.seize_acts.specs.Given.SeizeDeclared.rows.settle.Settling.TheVariants as settling
 use Rattle.seize_acts.specs.Given.SeizeDeclared.states.TheConstants.{ACTIVE}
-use Rattle.play_lists.specs.Given.TablesNodes.{deferred_word}
-use Rattle.play_lists.specs.Given.TablesDeclared.node.Node.{Node}
-use Rattle.play_lists.specs.Given.TellsSeen.{seen_of}
-use Rattle.play_lists.specs.Given.TellerTells.{StepsObserved, observed_of}
-use Rattle.play_lists.specs.Given.EffectsDeclared.changed.Changed.{Changed}
-use Rattle.play_lists.specs.Given.EffectsDeclared.changed.Changed.TheVariants as changed
+use Rattle.run_legal.specs.Given.TablesNodes.{deferred_word}
+use Rattle.run_legal.specs.Given.TablesDeclared.node.Node.{Node}
+use Rattle.run_legal.specs.Given.TellsSeen.{seen_of}
+use Rattle.run_legal.specs.Given.TellerTells.{StepsObserved, observed_of}
+use Rattle.run_legal.specs.Given.EffectsDeclared.changed.Changed.{Changed}
+use Rattle.run_legal.specs.Given.EffectsDeclared.changed.Changed.TheVariants as changed
 use Rattle.run_schedules.specs.declared.effect.Effect.{Effect}
 use Rattle.run_schedules.specs.Schedules.Handing.{asks_for_bucket, is_reclaiming}
-use Rattle.play_lists.specs.Given.EffectsEffects.{effects_of}
-use Rattle.play_lists.specs.Given.EffectsKnown.{Known}
-use Rattle.play_lists.specs.Given.EffectsDeclared.acting.Acting.TheVariants as acts
-use Rattle.play_lists.specs.Given.ScenesOnSlots.{RowSteps}
-use Rattle.play_lists.specs.Given.ScenesDeclared.row.RowTold.{RowTold}
-use Rattle.play_lists.specs.Given.ScenesDeclared.row.SlotRow.{SlotRow}
-use Rattle.play_lists.specs.Given.ScenesDeclared.row.SlotRow.TheVariants as rows
+use Rattle.run_legal.specs.Given.EffectsEffects.{effects_of}
+use Rattle.run_legal.specs.Given.EffectsKnown.{Known}
+use Rattle.run_legal.specs.Given.EffectsDeclared.acting.Acting.TheVariants as acts
+use Rattle.run_legal.specs.Given.ScenesOnSlots.{RowSteps}
+use Rattle.run_legal.specs.Given.ScenesDeclared.row.RowTold.{RowTold}
+use Rattle.run_legal.specs.Given.ScenesDeclared.row.SlotRow.{SlotRow}
+use Rattle.run_legal.specs.Given.ScenesDeclared.row.SlotRow.TheVariants as rows
 use Rattle.run_legal.proofs.Given.NeedsSteps.{IsNoOwn, IsTaking, Tells, asks_alone, does_nothing, enters_tell, flushes_tell, frees_tell, leaves_tell, reclaims_alone, registers_tell}
 use Rattle.run_schedules.specs.Deeds.Deeds.{Leaves, Opens, Registers, Shuts, Tends}
 use Rattle.run_schedules.specs.Deeds.History.{may_do}
-use Rattle.play_lists.specs.Played.Play.{leaves_as, registers_as, row_deed}
+use Rattle.play_linear.specs.Given.PlayedPlay.{leaves_as, registers_as, row_deed}
 use Rattle.play_moves.proofs.EachMoves.Parts.{all_also, none_may}
 
 module _ {K V : Type 0} (m m2 : Mem (Node K V)) (told : Changed) (after : SlotRow × RowTold (Node K V)) (known : Known) where

@@ -5,8 +5,8 @@ use Rattle.seize_acts.specs.Acts.Answers.{Grant}
 use Rattle.seize_acts.specs.Given.SeizeWorld.{Row}
 use Rattle.seize_acts.specs.Given.SeizeDeclared.advance.Advance.{Advance}
 use Rattle.seize_acts.specs.Given.SeizeDeclared.advance.Advance.TheVariants as progress
-use Rattle.play_lists.specs.Given.TablesDeclared.node.Node.{Node}
-use Rattle.play_lists.specs.Given.TablesDeclared.setting.Setting.{Setting}
+use Rattle.run_legal.specs.Given.TablesDeclared.node.Node.{Node}
+use Rattle.run_legal.specs.Given.TablesDeclared.setting.Setting.{Setting}
 use Rattle.threads_rule.specs.Given.ResizeNewMap.{new_map_plan}
 use Rattle.threads_rule.specs.Given.ResizeDeclared.new_map.NewMap.{NewMap}
 use Rattle.run_schedules.specs.Given.RawMachine.{machine_asked, machine_replied}
@@ -16,28 +16,28 @@ use Rattle.run_schedules.specs.Schedules.After.{AtEachEvent}
 use Rattle.run_schedules.specs.declared.outcome.Outcome.{Outcome}
 use Rattle.run_schedules.specs.declared.outcome.Outcome.TheVariants as outcome
 use Rattle.run_schedules.specs.Schedules.Views.{capacity_or, map_at}
-use Rattle.play_lists.specs.Given.EffectsDeclared.changed.Changed.{Changed}
-use Rattle.play_lists.specs.Given.EffectsDeclared.changed.Changed.TheVariants.{Nothing as NoChange}
-use Rattle.play_lists.specs.Given.EffectsEffects.{effects_of}
-use Rattle.play_lists.specs.Given.EffectsDeclared.acting.Acting.TheVariants as acts
-use Rattle.play_lists.specs.Given.ScenesHeld.{Held, IsAt}
-use Rattle.play_lists.specs.Given.ScenesMaking.{MakingLeads}
-use Rattle.play_lists.specs.Given.ScenesScene.{IsOnSlot, Scene, row_of, slot_of}
-use Rattle.play_lists.specs.Given.ActsActs.{Act, Answer, BeginsCall, StepsCall, TellsCall, AsksCall, StopsCall, StepsMaking, StepsRow, OfCall, OfMaking, Wanted}
-use Rattle.play_lists.specs.Given.ActsAsSteps.{LeadsAs, changed_by, changed_of, held_in, row_changed, outcome_of_row_step}
-use Rattle.play_lists.specs.Given.ActsLeads.{Led, MayBe}
-use Rattle.play_lists.proofs.Given.ActsAsSteps.Told.{was_told}
+use Rattle.run_legal.specs.Given.EffectsDeclared.changed.Changed.{Changed}
+use Rattle.run_legal.specs.Given.EffectsDeclared.changed.Changed.TheVariants.{Nothing as NoChange}
+use Rattle.run_legal.specs.Given.EffectsEffects.{effects_of}
+use Rattle.run_legal.specs.Given.EffectsDeclared.acting.Acting.TheVariants as acts
+use Rattle.run_legal.specs.Given.ScenesHeld.{Held, IsAt}
+use Rattle.run_legal.specs.Given.ScenesMaking.{MakingLeads}
+use Rattle.run_legal.specs.Given.ScenesScene.{IsOnSlot, Scene, row_of, slot_of}
+use Rattle.threads_rule.specs.Given.ActsActs.{Act, Answer, BeginsCall, StepsCall, TellsCall, AsksCall, StopsCall, StepsMaking, StepsRow, OfCall, OfMaking, Wanted}
+use Rattle.play_linear.specs.Given.ActsAsSteps.{LeadsAs, changed_by, changed_of, held_in, row_changed, outcome_of_row_step}
+use Rattle.play_linear.specs.Given.ActsLeads.{Led, MayBe}
+use Rattle.play_linear.proofs.Given.ActsAsSteps.Told.{was_told}
 use Rattle.run_schedules.specs.Deeds.Deeds.{Begins, Deed, Entry, Replies, Stops, moment}
 use Rattle.run_schedules.specs.Deeds.History.{made_for}
-use Rattle.play_lists.specs.Played.Play.{State, call_for, call_stepped, has_root, is_refusal, making_deed, making_outcome, pairs_for, reply_for, row_outcome, row_stepped}
-use Rattle.play_lists.specs.Played.Reached.{IsOf, row_or_rests}
-use Rattle.play_lists.proofs.Played.PlayedAs.{PlayedAs}
+use Rattle.play_linear.specs.Given.PlayedPlay.{State, call_for, call_stepped, has_root, is_refusal, making_deed, making_outcome, pairs_for, reply_for, row_outcome, row_stepped}
+use Rattle.play_linear.specs.Given.PlayedReached.{IsOf, row_or_rests}
+use Rattle.play_linear.proofs.Given.PlayedPlayedAs.{PlayedAs}
 use Rattle.run_legal.specs.Given.NeedsMakings.{in_hand, table_left}
 use Rattle.play_linear.specs.Linear.Coming.{MapsComeAndGo}
 use Rattle.play_linear.proofs.Linear.Coming.{comes_bare}
 use Rattle.play_linear.proofs.Linear.Holds.{Holds}
 use Rattle.play_linear.proofs.Linear.MakesRight.{was_new}
-use Rattle.play_lists.proofs.Played.Tied.{MakingTied, call_tied, making_tied}
+use Rattle.play_linear.proofs.Given.PlayedTied.{MakingTied, call_tied, making_tied}
 use Rattle.play_moves.specs.EachMoves.Parts.{DoesIts}
 use Rattle.play_moves.proofs.Moves.CallMoves.{steps_move}
 use Rattle.play_moves.proofs.Moves.MadeHolds.{MadeHolds}

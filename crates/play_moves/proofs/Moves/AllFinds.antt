@@ -6,7 +6,7 @@ use Rattle.std.proofs.lemmas.Bool.{and_parts}
 use Rattle.run_legal.specs.AllEvents.{BehindRootsAreLeft, FindsPair}
 use Rattle.seize_acts.specs.Given.SeizeDeclared.rows.reclaim_all.ReclaimAll.{ReclaimAll}
 use Rattle.seize_acts.specs.Given.SeizeDeclared.rows.settle.Settled.{Settled}
-use Rattle.play_lists.specs.Given.TablesDeclared.node.Node.{Node}
+use Rattle.run_legal.specs.Given.TablesDeclared.node.Node.{Node}
 use Rattle.run_schedules.specs.declared.effect.Effect.{Effect}
 use Rattle.run_schedules.specs.declared.effect.Effect.TheVariants.{Reclaimed}
 use Rattle.run_schedules.specs.declared.effect.Thing.TheVariants.{APair, ATable}
@@ -14,19 +14,19 @@ use Rattle.run_schedules.specs.Schedules.Effects.{AtEachEffect, with_effect}
 use Rattle.run_schedules.specs.Schedules.Handing.{is_reclaiming}
 use Rattle.run_schedules.specs.Schedules.Moment.{Moment}
 use Rattle.run_schedules.specs.Schedules.Terms.{Terms}
-use Rattle.play_lists.specs.Given.EffectsEffects.{effects_of}
-use Rattle.play_lists.specs.Given.EffectsDeclared.acting.Acting.TheVariants as acts
-use Rattle.play_lists.specs.Given.FindsWaiting.{PairsArePlaced}
-use Rattle.run_histories.specs.Given.MomentsOnSlots.{HadRetired}
-use Rattle.play_lists.specs.Given.ScenesHeld.{Held}
-use Rattle.play_lists.specs.Given.ScenesReclaiming.{IsReclaiming, ReclaimingLeads}
-use Rattle.play_lists.specs.Given.ScenesScene.{Scene}
+use Rattle.run_legal.specs.Given.EffectsEffects.{effects_of}
+use Rattle.run_legal.specs.Given.EffectsDeclared.acting.Acting.TheVariants as acts
+use Rattle.run_legal.specs.Given.FindsWaiting.{PairsArePlaced}
+use Rattle.run_legal.specs.Given.MomentsOnSlots.{HadRetired}
+use Rattle.run_legal.specs.Given.ScenesHeld.{Held}
+use Rattle.run_legal.specs.Given.ScenesReclaiming.{IsReclaiming, ReclaimingLeads}
+use Rattle.run_legal.specs.Given.ScenesScene.{Scene}
 use Rattle.run_legal.proofs.Given.ReclaimingRest.{reclaiming_found}
 use Rattle.run_legal.proofs.OfAll.Pairs.{step_finds}
 use Rattle.run_legal.proofs.OfAll.Tells.{gone_by, it_reclaims}
 use Rattle.run_schedules.specs.Deeds.Deeds.{Entry, ReclaimsAll, moment, named}
 use Rattle.run_schedules.specs.Deeds.History.{FindsBy, past, transition}
-use Rattle.play_lists.specs.Played.Play.{State, is_over, is_refusal, settled_outcome}
+use Rattle.play_linear.specs.Given.PlayedPlay.{State, is_over, is_refusal, settled_outcome}
 use Rattle.play_linear.specs.Linear.Shown.{RefinesAnswers}
 use Rattle.run_legal.proofs.OfAll.Steps.{things_reclaim as all_reclaim}
 

@@ -6,35 +6,35 @@ use Rattle.run_schedules.specs.Given.SeizeWordsMem.{Mem}
 use Rattle.seize_acts.specs.Given.SeizeReclaimAll.{reclaim_all_plan}
 use Rattle.seize_acts.specs.Given.SeizeWorld.{Row}
 use Rattle.seize_acts.specs.Given.SeizeDeclared.rows.reclaim_all.ReclaimAll.{ReclaimAll}
-use Rattle.play_lists.specs.Given.TablesNodes.{deferred_word, was_left}
-use Rattle.play_lists.specs.Given.TablesDeclared.node.Node.{Node}
+use Rattle.run_legal.specs.Given.TablesNodes.{deferred_word, was_left}
+use Rattle.run_legal.specs.Given.TablesDeclared.node.Node.{Node}
 use Rattle.run_schedules.specs.Given.RawEndMap.{end_map_plan}
 use Rattle.run_schedules.specs.Given.RawMachine.{machine_asked, machine_plan, machine_replied}
 use Rattle.threads_rule.specs.Given.ResizeNewMap.{new_map_plan}
 use Rattle.run_schedules.specs.declared.outcome.Outcome.TheVariants as outcome
-use Rattle.play_lists.specs.Given.EffectsDeclared.changed.Changed.{Changed}
-use Rattle.play_lists.specs.Given.EffectsDeclared.changed.Changed.TheVariants.{Nothing as NoChange}
-use Rattle.play_lists.specs.Given.EffectsEffects.{known_after}
-use Rattle.play_lists.specs.Given.EffectsDeclared.acting.Acting.TheVariants as acts
-use Rattle.play_lists.specs.Given.FinishesMachines.{machine_of}
+use Rattle.run_legal.specs.Given.EffectsDeclared.changed.Changed.{Changed}
+use Rattle.run_legal.specs.Given.EffectsDeclared.changed.Changed.TheVariants.{Nothing as NoChange}
+use Rattle.run_legal.specs.Given.EffectsEffects.{known_after}
+use Rattle.run_legal.specs.Given.EffectsDeclared.acting.Acting.TheVariants as acts
+use Rattle.run_legal.specs.Given.FinishesMachines.{machine_of}
 use Rattle.run_legal.specs.Given.NamedSeen.{kind_of}
-use Rattle.play_lists.specs.Given.ScenesHeld.{Held, IsAt}
-use Rattle.play_lists.specs.Given.ScenesScene.{IsOnSlot, Scene, row_of, slot_of}
-use Rattle.play_lists.specs.Given.ScenesDeclared.row.RowTold.{RowTold}
-use Rattle.play_lists.proofs.Given.FollowsOperations.{Operated, operated}
-use Rattle.play_lists.proofs.Given.OthersRowPlans.{row_operated}
+use Rattle.run_legal.specs.Given.ScenesHeld.{Held, IsAt}
+use Rattle.run_legal.specs.Given.ScenesScene.{IsOnSlot, Scene, row_of, slot_of}
+use Rattle.run_legal.specs.Given.ScenesDeclared.row.RowTold.{RowTold}
+use Rattle.run_legal.proofs.Given.FollowsOperations.{Operated, operated}
+use Rattle.run_legal.proofs.Given.OthersRowPlans.{row_operated}
 use Rattle.run_legal.proofs.Given.RemainsSlots.{slots_begin}
-use Rattle.play_lists.proofs.Given.ScenesMay.{may_end, may_make, may_reclaim, may_row, may_step}
-use Rattle.play_lists.specs.Given.ActsActs.{Act, Answer, BeginsCall, StepsCall, TellsCall, AsksCall, StopsCall, BeginsMaking, StepsMaking, BeginsEnding, StepsEnding, BeginsRow, StepsRow}
-use Rattle.play_lists.specs.Given.ActsAsSteps.{LeadsAs, changed_by, held_in, row_changed, outcome_of_row_step}
-use Rattle.play_lists.specs.Given.ActsLeads.{Led, MayBe}
+use Rattle.run_legal.proofs.Given.ScenesMay.{may_end, may_make, may_reclaim, may_row, may_step}
+use Rattle.threads_rule.specs.Given.ActsActs.{Act, Answer, BeginsCall, StepsCall, TellsCall, AsksCall, StopsCall, BeginsMaking, StepsMaking, BeginsEnding, StepsEnding, BeginsRow, StepsRow}
+use Rattle.play_linear.specs.Given.ActsAsSteps.{LeadsAs, changed_by, held_in, row_changed, outcome_of_row_step}
+use Rattle.play_linear.specs.Given.ActsLeads.{Led, MayBe}
 use Rattle.run_schedules.specs.Deeds.Deeds.{Begins, Replies, Stops}
-use Rattle.play_lists.specs.Played.Play.{State, call_for, ending_deed, first_state, making_deed, making_outcome, outcome_of, reply_for, row_deed, row_outcome, row_stepped, settled_outcome}
-use Rattle.play_lists.specs.Played.Reached.{IsOf, row_or_rests, rows_beside}
-use Rattle.play_lists.proofs.Played.Along.{StaysSo, held}
-use Rattle.play_lists.proofs.Played.PlayedAs.{PlayedAs, played_as, reclaimed_as}
+use Rattle.play_linear.specs.Given.PlayedPlay.{State, call_for, ending_deed, first_state, making_deed, making_outcome, outcome_of, reply_for, row_deed, row_outcome, row_stepped, settled_outcome}
+use Rattle.play_linear.specs.Given.PlayedReached.{IsOf, row_or_rests, rows_beside}
+use Rattle.play_linear.proofs.Given.PlayedAlong.{StaysSo, held}
+use Rattle.play_linear.proofs.Given.PlayedPlayedAs.{PlayedAs, played_as, reclaimed_as}
 use Rattle.play_linear.proofs.Linear.Stays.{all_tied, change, end}
-use Rattle.play_lists.proofs.Played.Tied.{call_tied, ending_tied, making_tied}
+use Rattle.play_linear.proofs.Given.PlayedTied.{call_tied, ending_tied, making_tied}
 use Rattle.play_moves.proofs.EachMoves.Buckets.{BucketsHold, did_hold, worked_hold}
 
 pub first_buckets : {K V S : Type 0} (roots : ℕ) → BucketsHold {K = K} {V = V} {S = S} (first_state roots)

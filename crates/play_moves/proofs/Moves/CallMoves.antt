@@ -2,7 +2,7 @@
 use Rattle.std.specs.Prelude.{◌≡◌, ◌⊎◌, ℕ, Bool, true, Option, Some}
 use Rattle.std.proofs.Common.{refl, ap, sym, subst, ◌∙◌, inl, inr}
 use Rattle.run_schedules.specs.Given.SeizeWordsDeclared.fault.Fault.TheVariants.{Memory}
-use Rattle.play_lists.specs.Given.TablesDeclared.node.Node.{Node}
+use Rattle.run_legal.specs.Given.TablesDeclared.node.Node.{Node}
 use Rattle.run_schedules.specs.Given.RawDeclared.machines.progress.Progress.{Progress}
 use Rattle.run_schedules.specs.Given.RawDeclared.machines.progress.Progress.TheVariants as progress
 use Rattle.run_schedules.specs.declared.outcome.Outcome.{Outcome}
@@ -12,24 +12,24 @@ use Rattle.run_schedules.specs.Schedules.Entry.{IfCall}
 use Rattle.run_schedules.specs.Schedules.Handing.{LeavesOf, is_clear_outcome, is_call_effect}
 use Rattle.run_schedules.specs.Schedules.Views.{call_of}
 use Rattle.run_legal.specs.Given.CallersTogether.{UnderWay}
-use Rattle.play_lists.specs.Given.EffectsEffects.{effects_of, known_after}
-use Rattle.play_lists.specs.Given.EffectsKnown.{Known}
-use Rattle.play_lists.specs.Given.EffectsDeclared.acting.Acting.TheVariants as acts
-use Rattle.play_lists.specs.Given.ScenesHeld.{Held, IsAt}
-use Rattle.play_lists.specs.Given.ScenesScene.{Scene}
-use Rattle.play_lists.specs.Given.ScenesStepping.{StepLeads, has_ended}
+use Rattle.run_legal.specs.Given.EffectsEffects.{effects_of, known_after}
+use Rattle.run_legal.specs.Given.EffectsKnown.{Known}
+use Rattle.run_legal.specs.Given.EffectsDeclared.acting.Acting.TheVariants as acts
+use Rattle.run_legal.specs.Given.ScenesHeld.{Held, IsAt}
+use Rattle.run_legal.specs.Given.ScenesScene.{Scene}
+use Rattle.run_legal.specs.Given.ScenesStepping.{StepLeads, has_ended}
 use Rattle.run_legal.specs.Given.NamedSeen.{kind_of}
 use Rattle.run_legal.specs.Given.ExecutorDeclared.kind.CallKind.{CallKind}
-use Rattle.play_lists.proofs.Given.FindsSteps.{steps_do_theirs}
+use Rattle.run_legal.proofs.Given.FindsSteps.{steps_do_theirs}
 use Rattle.run_schedules.specs.Deeds.Deeds.{Entry, Steps, acted_on, map_of_call, moment, named}
 use Rattle.run_schedules.specs.Deeds.History.{may_do, past}
-use Rattle.play_lists.specs.Played.Play.{Calling, State, is_refusal, outcome_of}
-use Rattle.play_lists.proofs.Played.Noted.{CallsAreNoted}
+use Rattle.play_linear.specs.Given.PlayedPlay.{Calling, State, is_refusal, outcome_of}
+use Rattle.play_linear.proofs.Given.PlayedNoted.{CallsAreNoted}
 use Rattle.play_linear.specs.Linear.Shown.{RefinesAnswers}
 use Rattle.play_moves.specs.EachMoves.Parts.{DoesIts}
 use Rattle.play_moves.proofs.EachMoves.Leaves.{leaves_nothing}
 use Rattle.play_moves.proofs.EachMoves.Parts.{all_also, granted_so}
-use Rattle.play_lists.proofs.Agrees.Grants.{refusals_so as refuses_so}
+use Rattle.play_linear.proofs.Given.AgreesGrants.{refusals_so as refuses_so}
 
 module _ {K V : Type 0} (known : Known) (kind : CallKind) (value : Option V) where
   -- a call is over, or ready, where its step says so

@@ -4,12 +4,12 @@ use Rattle.std.specs.List.{AllByRecursion}
 use Rattle.std.proofs.Common.{◌≡◌, ℕ, sym, subst, ◌∙◌}
 use Rattle.run_schedules.specs.Schedules.After.{AtEachEvent}
 use Rattle.run_schedules.specs.Schedules.Terms.{Terms, shards_of}
-use Rattle.play_lists.specs.Given.ActsDoings.{Doing, Does, BeginsReclaiming, BeginsClearing, StepsReclaiming, Chooses}
-use Rattle.play_lists.specs.Agrees.Agree.{Asks}
-use Rattle.play_lists.specs.Agrees.Places.{AsksMaps}
+use Rattle.play_linear.specs.Given.ActsDoings.{Doing, Does, BeginsReclaiming, BeginsClearing, StepsReclaiming, Chooses}
+use Rattle.play_linear.specs.Given.AgreesAgree.{Asks}
+use Rattle.play_linear.specs.Given.AgreesPlaces.{AsksMaps}
 use Rattle.run_schedules.specs.Deeds.Deeds.{Entry}
 use Rattle.run_schedules.specs.Deeds.History.{IsLinearizable, IsProtected, IsSwept, MovesOn}
-use Rattle.play_lists.specs.Played.Play.{State}
+use Rattle.play_linear.specs.Given.PlayedPlay.{State}
 use Rattle.play_linear.specs.Linear.Linear.{IsOfOwn}
 use Rattle.play_linear.proofs.Linear.Linear.{lists_are_linearizable}
 use Rattle.play_linear.proofs.Protects.Protected.{lists_are_protected}

@@ -2,9 +2,9 @@
 use Rattle.std.specs.Prelude.{Bool}
 use Rattle.std.proofs.Common.{ℕ, sym, subst, ◌∙◌}
 use Rattle.run_schedules.specs.Schedules.After.{AtEachEvent}
-use Rattle.play_lists.specs.Given.ScenesScene.{slot_of}
-use Rattle.play_lists.proofs.Given.ActsLists.{lists_determine}
-use Rattle.play_lists.specs.Played.Play.{State}
+use Rattle.run_legal.specs.Given.ScenesScene.{slot_of}
+use Rattle.play_linear.proofs.Given.ActsLists.{lists_determine}
+use Rattle.play_linear.specs.Given.PlayedPlay.{State}
 use Rattle.play_moves.specs.Moves.Legal.{KeepsAll}
 use Rattle.play_moves.specs.Moves.Logs.{LogsKeepAll}
 use Rattle.play_moves.proofs.Moves.Legal.{lists_keep_all}

@@ -12,25 +12,25 @@ use Rattle.run_schedules.specs.declared.outcome.Outcome.TheVariants as outcome
 use Rattle.run_schedules.specs.Schedules.Effects.{with_effects}
 use Rattle.run_schedules.specs.Schedules.Moment.{Moment}
 use Rattle.run_schedules.specs.Schedules.Views.{capacity_or, map_at}
-use Rattle.play_lists.specs.Given.EffectsEffects.{effects_of}
-use Rattle.play_lists.specs.Given.EffectsKnown.{Known}
-use Rattle.play_lists.specs.Given.EffectsDeclared.acting.Acting.TheVariants as acts
-use Rattle.play_lists.proofs.Given.FindsCapacities.{effects_keep_capacities}
-use Rattle.play_lists.specs.Given.ActsActs.{Act, Answer, BeginsCall, StepsCall, TellsCall, AsksCall, StopsCall, BeginsMaking, StepsMaking, BeginsEnding, StepsEnding, BeginsRow, StepsRow}
-use Rattle.play_lists.specs.Given.ActsAsSteps.{changed_of}
-use Rattle.play_lists.specs.Agrees.Fresh.{AreNamed, HasNewNumber, gives_back, is_taken}
-use Rattle.play_lists.proofs.Agrees.Fresh.{was_not}
-use Rattle.play_lists.proofs.Agrees.Numbers.{with_so}
-use Rattle.play_lists.proofs.Agrees.Openings.{ending_keeps_numbers}
+use Rattle.run_legal.specs.Given.EffectsEffects.{effects_of}
+use Rattle.run_legal.specs.Given.EffectsKnown.{Known}
+use Rattle.run_legal.specs.Given.EffectsDeclared.acting.Acting.TheVariants as acts
+use Rattle.run_legal.proofs.Given.FindsCapacities.{effects_keep_capacities}
+use Rattle.threads_rule.specs.Given.ActsActs.{Act, Answer, BeginsCall, StepsCall, TellsCall, AsksCall, StopsCall, BeginsMaking, StepsMaking, BeginsEnding, StepsEnding, BeginsRow, StepsRow}
+use Rattle.play_linear.specs.Given.ActsAsSteps.{changed_of}
+use Rattle.play_linear.specs.Given.AgreesFresh.{AreNamed, HasNewNumber, gives_back, is_taken}
+use Rattle.play_linear.proofs.Given.AgreesFresh.{was_not}
+use Rattle.play_linear.proofs.Given.AgreesNumbers.{with_so}
+use Rattle.play_linear.proofs.Given.AgreesOpenings.{ending_keeps_numbers}
 use Rattle.run_schedules.specs.Deeds.Deeds.{Deed, Ends, Entry, Leaves, MapFails, MapGoes, Opens, ReclaimsAll, Registers, Replies, Shuts, Steps, Stops, Tends, after, moment}
 use Rattle.run_schedules.specs.Deeds.History.{made_for}
-use Rattle.play_lists.specs.Played.Play.{Ending, Making, Now, State, did, ending_deed, has_root, is_over, is_refusal, pairs_for, reply_for, row_deed, settled_outcome}
-use Rattle.play_lists.proofs.Played.PlayedAs.{PlayedAs, ReclaimedAs}
+use Rattle.play_linear.specs.Given.PlayedPlay.{Ending, Making, Now, State, did, ending_deed, has_root, is_over, is_refusal, pairs_for, reply_for, row_deed, settled_outcome}
+use Rattle.play_linear.proofs.Given.PlayedPlayedAs.{PlayedAs, ReclaimedAs}
 use Rattle.run_legal.specs.Given.NeedsMakings.{in_hand, table_left}
 use Rattle.play_linear.proofs.Linear.Coming.{gone_leaves}
 use Rattle.play_linear.proofs.Linear.RowsPlayed.{IsOfRow, is_of_row}
 use Rattle.play_moves.proofs.EachMoves.Counted.{IsStill, MakesNone, capacity_still, none_made}
-use Rattle.play_lists.proofs.Agrees.Names.{effects_named}
+use Rattle.play_linear.proofs.Given.AgreesNames.{effects_named}
 use Rattle.run_schedules.proofs.Given.General.{same_some}
 
 module _ {K V S : Type 0} where

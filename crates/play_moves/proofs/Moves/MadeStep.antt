@@ -5,34 +5,34 @@ use Rattle.std.proofs.lemmas.Bool.{cases_eq}
 use Rattle.seize_acts.specs.Given.SeizeWorld.{with_at}
 use Rattle.seize_acts.specs.Given.SeizeDeclared.advance.Advance.{Advance}
 use Rattle.seize_acts.specs.Given.SeizeDeclared.advance.Advance.TheVariants as progress
-use Rattle.play_lists.specs.Given.TablesDeclared.setting.Setting.{Setting}
+use Rattle.run_legal.specs.Given.TablesDeclared.setting.Setting.{Setting}
 use Rattle.threads_rule.specs.Given.ResizeDeclared.new_map.NewMap.{NewMap}
-use Rattle.play_lists.specs.Given.EffectsDeclared.changed.Changed.{Changed}
+use Rattle.run_legal.specs.Given.EffectsDeclared.changed.Changed.{Changed}
 use Rattle.run_schedules.specs.declared.effect.Effect.{Effect}
 use Rattle.run_schedules.specs.declared.outcome.Outcome.{Outcome}
 use Rattle.run_schedules.specs.Schedules.Effects.{with_effects}
 use Rattle.run_schedules.specs.Schedules.Handing.{is_table_made}
 use Rattle.run_schedules.specs.Schedules.Moment.{MapThere, Moment}
 use Rattle.run_schedules.specs.Schedules.Views.{capacity_or, map_at, tables_of}
-use Rattle.play_lists.specs.Given.EffectsEffects.{effects_of}
-use Rattle.play_lists.specs.Given.EffectsKnown.{Known}
-use Rattle.play_lists.specs.Given.EffectsDeclared.acting.Acting.TheVariants as acts
+use Rattle.run_legal.specs.Given.EffectsEffects.{effects_of}
+use Rattle.run_legal.specs.Given.EffectsKnown.{Known}
+use Rattle.run_legal.specs.Given.EffectsDeclared.acting.Acting.TheVariants as acts
 use Rattle.run_legal.proofs.Given.CallersTogether.At.{at_other, at_same}
-use Rattle.play_lists.proofs.Given.FindsCapacities.{effects_keep_capacities}
-use Rattle.play_lists.specs.Given.ActsActs.{Answer}
-use Rattle.play_lists.specs.Agrees.Fresh.{AreNamed, gives_back, is_taken}
-use Rattle.play_lists.proofs.Agrees.Fresh.{not_in_use}
-use Rattle.play_lists.proofs.Agrees.Numbers.{NumbersHold}
+use Rattle.run_legal.proofs.Given.FindsCapacities.{effects_keep_capacities}
+use Rattle.threads_rule.specs.Given.ActsActs.{Answer}
+use Rattle.play_linear.specs.Given.AgreesFresh.{AreNamed, gives_back, is_taken}
+use Rattle.play_linear.proofs.Given.AgreesFresh.{not_in_use}
+use Rattle.play_linear.proofs.Given.AgreesNumbers.{NumbersHold}
 use Rattle.run_schedules.specs.Deeds.Deeds.{Deed, Entry, after, come, moment, named}
 use Rattle.run_schedules.specs.Deeds.History.{made_by, made_for}
-use Rattle.play_lists.specs.Played.Play.{Making, Now, State, has_root, is_refusal, making_outcome, pairs_for}
+use Rattle.play_linear.specs.Given.PlayedPlay.{Making, Now, State, has_root, is_refusal, making_outcome, pairs_for}
 use Rattle.run_legal.specs.Given.NeedsMakings.{in_hand, table_left}
 use Rattle.play_linear.proofs.Linear.Coming.{come_leaves, come_there, gone_leaves}
 use Rattle.play_linear.proofs.Linear.MapActs.{deed_by}
 use Rattle.play_moves.proofs.EachMoves.Counted.{capacity_still, nothing_made, other_made, own_made}
 use Rattle.play_moves.proofs.Moves.MadeHolds.{IsComing, MadeHolds}
-use Rattle.play_lists.proofs.Agrees.Names.{effects_named}
-use Rattle.play_lists.proofs.Agrees.Openings.{gives_its}
+use Rattle.play_linear.proofs.Given.AgreesNames.{effects_named}
+use Rattle.play_linear.proofs.Given.AgreesOpenings.{gives_its}
 
 module _ {K V S : Type 0} (x : State K V S) (here : MadeHolds x) (numbers : NumbersHold true x) (names : AreNamed (moment x.history)) (i : ℕ) (b : Making S) (makes : x.now.makers i ≡ Some b) (machine : NewMap)
     (said : Advance Setting) (told : Changed) (apart : (j : ℕ) (d : Making S) → j ≢ i → x.now.makers j ≡ Some d → d.map ≢ b.map) where

@@ -3,35 +3,35 @@ use Rattle.std.specs.Prelude.{◌≡◌, ℕ, Bool, true, false, [], ◌∷◌, 
 use Rattle.std.proofs.Common.{refl, ap, sym, subst, ◌∙◌}
 use Rattle.seize_acts.specs.Acts.Answers.{Grant}
 use Rattle.seize_acts.specs.Given.SeizeDeclared.advance.Advance.{Advance}
-use Rattle.play_lists.specs.Given.TablesDeclared.resize_mode.ResizeMode.{ResizeMode}
-use Rattle.play_lists.specs.Given.TablesDeclared.setting.Setting.{Setting}
+use Rattle.run_legal.specs.Given.TablesDeclared.resize_mode.ResizeMode.{ResizeMode}
+use Rattle.run_legal.specs.Given.TablesDeclared.setting.Setting.{Setting}
 use Rattle.threads_rule.specs.Given.ResizeNewMap.{new_map_plan}
 use Rattle.threads_rule.specs.Given.ResizeDeclared.new_map.NewMap.{NewMap}
 use Rattle.run_schedules.specs.Runs.Runs.{map_fault}
 use Rattle.run_schedules.specs.Schedules.Moment.{MapThere, Moment}
 use Rattle.run_schedules.specs.Schedules.Terms.{Terms}
 use Rattle.run_schedules.specs.Schedules.Views.{capacity_or, map_at}
-use Rattle.play_lists.specs.Given.EffectsDeclared.changed.Changed.TheVariants.{Nothing as NoChange}
-use Rattle.play_lists.specs.Given.EffectsEffects.{effects_of}
-use Rattle.play_lists.specs.Given.EffectsDeclared.acting.Acting.TheVariants as acts
+use Rattle.run_legal.specs.Given.EffectsDeclared.changed.Changed.TheVariants.{Nothing as NoChange}
+use Rattle.run_legal.specs.Given.EffectsEffects.{effects_of}
+use Rattle.run_legal.specs.Given.EffectsDeclared.acting.Acting.TheVariants as acts
 use Rattle.run_legal.specs.Given.NamedPlaces.{first_places}
-use Rattle.play_lists.specs.Given.ScenesHeld.{Held, IsAt}
-use Rattle.play_lists.specs.Given.ScenesMaking.{MakingLeads}
-use Rattle.play_lists.specs.Given.ScenesScene.{Scene, slot_of}
-use Rattle.play_lists.specs.Given.ActsActs.{Act, Answer, OfMaking, StepsMaking}
-use Rattle.play_lists.specs.Given.ActsAsSteps.{LeadsAs, changed_by, changed_of, held_in}
-use Rattle.play_lists.specs.Given.ActsLeads.{Led}
-use Rattle.play_lists.proofs.Given.ActsAsSteps.Told.{was_told}
-use Rattle.play_lists.proofs.Agrees.Openings.{rootless_quiet}
+use Rattle.run_legal.specs.Given.ScenesHeld.{Held, IsAt}
+use Rattle.run_legal.specs.Given.ScenesMaking.{MakingLeads}
+use Rattle.run_legal.specs.Given.ScenesScene.{Scene, slot_of}
+use Rattle.threads_rule.specs.Given.ActsActs.{Act, Answer, OfMaking, StepsMaking}
+use Rattle.play_linear.specs.Given.ActsAsSteps.{LeadsAs, changed_by, changed_of, held_in}
+use Rattle.play_linear.specs.Given.ActsLeads.{Led}
+use Rattle.play_linear.proofs.Given.ActsAsSteps.Told.{was_told}
+use Rattle.play_linear.proofs.Given.AgreesOpenings.{rootless_quiet}
 use Rattle.run_schedules.specs.Deeds.Deeds.{Entry, moment}
-use Rattle.play_lists.specs.Played.Play.{State, has_root, is_refusal, making_deed, making_outcome, pairs_for}
-use Rattle.play_lists.specs.Played.Reached.{IsOf}
-use Rattle.play_lists.proofs.Played.PlayedAs.{PlayedAs}
+use Rattle.play_linear.specs.Given.PlayedPlay.{State, has_root, is_refusal, making_deed, making_outcome, pairs_for}
+use Rattle.play_linear.specs.Given.PlayedReached.{IsOf}
+use Rattle.play_linear.proofs.Given.PlayedPlayedAs.{PlayedAs}
 use Rattle.play_linear.specs.Linear.Coming.{ComesBy, MapsComeAndGo}
 use Rattle.play_linear.proofs.Linear.Coming.{comes_bare}
 use Rattle.play_linear.proofs.Linear.Holds.{Holds}
 use Rattle.play_linear.proofs.Linear.MakesRight.{was_new}
-use Rattle.play_lists.proofs.Played.Tied.{MakingTied, making_tied}
+use Rattle.play_linear.proofs.Given.PlayedTied.{MakingTied, making_tied}
 use Rattle.play_moves.specs.EachMoves.Finds.{FindsIts}
 use Rattle.play_moves.specs.EachMoves.Places.{OpensFor}
 use Rattle.play_moves.proofs.Moves.MadeHolds.{MadeHolds}

@@ -6,8 +6,8 @@ use Rattle.run_schedules.specs.Given.SeizeWordsMem.{Mem}
 use Rattle.seize_acts.specs.Given.SeizeWorld.{World, with_at}
 use Rattle.seize_acts.specs.Given.SeizeDeclared.advance.Advance.{Advance}
 use Rattle.seize_acts.specs.Given.SeizeDeclared.advance.Advance.TheVariants as progress
-use Rattle.play_lists.specs.Given.TablesDeclared.node.Node.{Node}
-use Rattle.play_lists.specs.Given.TablesDeclared.setting.Setting.{Setting}
+use Rattle.run_legal.specs.Given.TablesDeclared.node.Node.{Node}
+use Rattle.run_legal.specs.Given.TablesDeclared.setting.Setting.{Setting}
 use Rattle.threads_rule.specs.Given.ResizeNewMap.{at_root, new_map_plan}
 use Rattle.threads_rule.specs.Given.ResizeDeclared.new_map.NewMap.{NewMap}
 use Rattle.threads_rule.specs.Given.ResizeDeclared.new_map.Opening.{Opening}
@@ -17,28 +17,28 @@ use Rattle.run_schedules.specs.Schedules.Effects.{with_effects}
 use Rattle.run_schedules.specs.Schedules.Handing.{is_table_made}
 use Rattle.run_schedules.specs.Schedules.Moment.{Moment}
 use Rattle.run_schedules.specs.Schedules.Views.{capacity_or, map_at, tables_of}
-use Rattle.play_lists.specs.Given.EffectsDeclared.changed.Changed.TheVariants.{Nothing as NoChange}
-use Rattle.play_lists.specs.Given.EffectsEffects.{effects_of, known_after}
-use Rattle.play_lists.specs.Given.EffectsDeclared.acting.Acting.TheVariants as acts
-use Rattle.play_lists.specs.Given.FinishesEndings.{MakingStepsWithEndings}
-use Rattle.play_lists.specs.Given.FinishesMakings.{Beginning}
+use Rattle.run_legal.specs.Given.EffectsDeclared.changed.Changed.TheVariants.{Nothing as NoChange}
+use Rattle.run_legal.specs.Given.EffectsEffects.{effects_of, known_after}
+use Rattle.run_legal.specs.Given.EffectsDeclared.acting.Acting.TheVariants as acts
+use Rattle.run_legal.specs.Given.FinishesEndings.{MakingStepsWithEndings}
+use Rattle.run_legal.specs.Given.FinishesMakings.{Beginning}
 use Rattle.run_legal.specs.Given.OwesMaking.{making_in_opening}
 use Rattle.run_legal.specs.Given.OwesTables.{table_made}
-use Rattle.play_lists.specs.Given.ScenesHeld.{Held, IsAt}
-use Rattle.play_lists.specs.Given.ScenesMaking.{MakingHasOutcome, MakingLeads}
-use Rattle.play_lists.specs.Given.ScenesScene.{Scene, slot_of}
+use Rattle.run_legal.specs.Given.ScenesHeld.{Held, IsAt}
+use Rattle.run_legal.specs.Given.ScenesMaking.{MakingHasOutcome, MakingLeads}
+use Rattle.run_legal.specs.Given.ScenesScene.{Scene, slot_of}
 use Rattle.run_legal.proofs.Given.CallersTogether.At.{at_same}
-use Rattle.play_lists.proofs.Given.OthersMakingGoes.{new_maps_stay}
-use Rattle.play_lists.specs.Given.ActsActs.{Answer, StepsMaking}
-use Rattle.play_lists.specs.Given.ActsAsSteps.{MadeTo, changed_by, changed_of, held_in}
-use Rattle.play_lists.specs.Given.ActsLeads.{MakingCame, making_steps}
-use Rattle.play_lists.proofs.Given.ActsAsSteps.Told.{was_told}
-use Rattle.play_lists.proofs.Agrees.Numbers.{NumbersHold}
-use Rattle.play_lists.proofs.Agrees.Openings.{rootless_quiet}
+use Rattle.play_linear.proofs.Given.OthersMakingGoes.{new_maps_stay}
+use Rattle.threads_rule.specs.Given.ActsActs.{Answer, StepsMaking}
+use Rattle.play_linear.specs.Given.ActsAsSteps.{MadeTo, changed_by, changed_of, held_in}
+use Rattle.play_linear.specs.Given.ActsLeads.{MakingCame, making_steps}
+use Rattle.play_linear.proofs.Given.ActsAsSteps.Told.{was_told}
+use Rattle.play_linear.proofs.Given.AgreesNumbers.{NumbersHold}
+use Rattle.play_linear.proofs.Given.AgreesOpenings.{rootless_quiet}
 use Rattle.run_schedules.specs.Deeds.Deeds.{Entry, moment, named}
 use Rattle.run_schedules.specs.Deeds.History.{made_for}
-use Rattle.play_lists.specs.Played.Play.{Making, Now, State, has_root, is_refusal, made_on, making_deed, making_outcome, pairs_for}
-use Rattle.play_lists.specs.Played.Reached.{IsOf, made_so, makes_so}
+use Rattle.play_linear.specs.Given.PlayedPlay.{Making, Now, State, has_root, is_refusal, made_on, making_deed, making_outcome, pairs_for}
+use Rattle.play_linear.specs.Given.PlayedReached.{IsOf, made_so, makes_so}
 use Rattle.run_legal.specs.Given.NeedsMakings.{in_hand, table_left}
 use Rattle.play_linear.specs.Linear.Coming.{Comes, ComesBy, MapsComeAndGo}
 use Rattle.play_linear.proofs.Linear.Coming.{comes_bare}

@@ -2,7 +2,7 @@
 use Rattle.std.specs.Prelude.{◌≡◌, ℕ, Bool, true, false, List, [], Some, None}
 use Rattle.std.proofs.Common.{refl, sym, subst}
 use Rattle.seize_acts.specs.Given.SeizeDeclared.advance.Advance.{Advance}
-use Rattle.play_lists.specs.Given.TablesDeclared.setting.Setting.{Setting}
+use Rattle.run_legal.specs.Given.TablesDeclared.setting.Setting.{Setting}
 use Rattle.threads_rule.specs.Given.ResizeDeclared.new_map.NewMap.{NewMap}
 use Rattle.run_schedules.specs.Runs.Runs.{map_fault}
 use Rattle.run_schedules.specs.declared.effect.Effect.{Effect}
@@ -11,18 +11,18 @@ use Rattle.run_schedules.specs.Schedules.Lives.{EventFinds}
 use Rattle.run_schedules.specs.Schedules.Moment.{MapThere, Moment}
 use Rattle.run_schedules.specs.Schedules.Terms.{Terms}
 use Rattle.run_schedules.specs.Schedules.Views.{map_at, tables_of}
-use Rattle.play_lists.specs.Given.EffectsEffects.{effects_of}
-use Rattle.play_lists.specs.Given.EffectsDeclared.acting.Acting.TheVariants as acts
-use Rattle.play_lists.specs.Given.FinishesMakings.{Beginning}
+use Rattle.run_legal.specs.Given.EffectsEffects.{effects_of}
+use Rattle.run_legal.specs.Given.EffectsDeclared.acting.Acting.TheVariants as acts
+use Rattle.run_legal.specs.Given.FinishesMakings.{Beginning}
 use Rattle.run_legal.specs.Given.NamedPlaces.{first_places}
-use Rattle.play_lists.specs.Given.OthersMakings.{WasNew}
-use Rattle.play_lists.specs.Given.ScenesHeld.{Held, IsAt}
-use Rattle.play_lists.specs.Given.ScenesMaking.{MakingLeads}
-use Rattle.play_lists.specs.Given.ScenesScene.{Scene}
-use Rattle.play_lists.proofs.Given.FindsLife.{each_so}
+use Rattle.run_legal.specs.Given.OthersMakings.{WasNew}
+use Rattle.run_legal.specs.Given.ScenesHeld.{Held, IsAt}
+use Rattle.run_legal.specs.Given.ScenesMaking.{MakingLeads}
+use Rattle.run_legal.specs.Given.ScenesScene.{Scene}
+use Rattle.run_legal.proofs.Given.FindsLife.{each_so}
 use Rattle.run_schedules.specs.Deeds.Deeds.{Deed, Entry, Makes, MapFails, begun, moment, named}
 use Rattle.run_schedules.specs.Deeds.History.{FindsBy, past, transition}
-use Rattle.play_lists.specs.Played.Play.{State, has_root, is_refusal, making_outcome}
+use Rattle.play_linear.specs.Given.PlayedPlay.{State, has_root, is_refusal, making_outcome}
 use Rattle.run_legal.specs.Given.NeedsFirsts.{AllMakingsOpen}
 use Rattle.run_legal.proofs.Given.NeedsMakings.{makings_find_theirs}
 use Rattle.play_linear.specs.Linear.Shown.{RefinesAnswers}

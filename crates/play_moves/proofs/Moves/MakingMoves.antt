@@ -6,37 +6,37 @@ use Rattle.std.proofs.lemmas.List.Elements.{filter-append}
 use Rattle.run_schedules.specs.Given.SeizeWordsMem.{Mem}
 use Rattle.seize_acts.specs.Given.SeizeDeclared.advance.Advance.{Advance}
 use Rattle.seize_acts.specs.Given.SeizeDeclared.advance.Advance.TheVariants as progress
-use Rattle.play_lists.specs.Given.TablesDeclared.node.Node.{Node}
-use Rattle.play_lists.specs.Given.TablesDeclared.setting.Setting.{Setting}
+use Rattle.run_legal.specs.Given.TablesDeclared.node.Node.{Node}
+use Rattle.run_legal.specs.Given.TablesDeclared.setting.Setting.{Setting}
 use Rattle.threads_rule.specs.Given.ResizeNewMap.{plan_at}
 use Rattle.threads_rule.specs.Given.ResizeDeclared.new_map.NewMap.{NewMap}
 use Rattle.threads_rule.specs.Given.ResizeDeclared.new_map.Opening.{Opening}
 use Rattle.threads_rule.specs.Given.ResizeDeclared.new_map.Opening.TheVariants as openings
-use Rattle.play_lists.specs.Given.TellerTells.{StepsObserved}
-use Rattle.play_lists.specs.Given.EffectsDeclared.changed.Changed.{Changed}
-use Rattle.play_lists.specs.Given.EffectsDeclared.changed.Changed.TheVariants as changed
+use Rattle.run_legal.specs.Given.TellerTells.{StepsObserved}
+use Rattle.run_legal.specs.Given.EffectsDeclared.changed.Changed.{Changed}
+use Rattle.run_legal.specs.Given.EffectsDeclared.changed.Changed.TheVariants as changed
 use Rattle.run_schedules.specs.declared.effect.Effect.{Effect}
 use Rattle.run_schedules.specs.Schedules.Effects.{with_effects}
 use Rattle.run_schedules.specs.Schedules.Handing.{is_first_making, is_granted, is_table_made}
 use Rattle.run_schedules.specs.Schedules.Moment.{Moment}
 use Rattle.run_schedules.specs.Schedules.Transition.{worked_by}
 use Rattle.run_schedules.specs.Schedules.Views.{capacity_or, map_at, tables_of}
-use Rattle.play_lists.specs.Given.EffectsEffects.{effects_of, known_after}
-use Rattle.play_lists.specs.Given.EffectsKnown.{Known}
-use Rattle.play_lists.specs.Given.EffectsDeclared.acting.Acting.TheVariants as acts
-use Rattle.play_lists.specs.Given.FinishesMakings.{Beginning, MakingFacts}
-use Rattle.play_lists.specs.Given.FollowsShows.{Refines}
-use Rattle.play_lists.specs.Given.OthersMakings.{WasNew, making_after}
-use Rattle.play_lists.specs.Given.ScenesHeld.{Held, IsAt}
-use Rattle.play_lists.specs.Given.ScenesMaking.{MakingHasOutcome, MakingLeads}
-use Rattle.play_lists.specs.Given.ScenesScene.{Scene}
+use Rattle.run_legal.specs.Given.EffectsEffects.{effects_of, known_after}
+use Rattle.run_legal.specs.Given.EffectsKnown.{Known}
+use Rattle.run_legal.specs.Given.EffectsDeclared.acting.Acting.TheVariants as acts
+use Rattle.run_legal.specs.Given.FinishesMakings.{Beginning, MakingFacts}
+use Rattle.run_legal.specs.Given.FollowsShows.{Refines}
+use Rattle.run_legal.specs.Given.OthersMakings.{WasNew, making_after}
+use Rattle.run_legal.specs.Given.ScenesHeld.{Held, IsAt}
+use Rattle.run_legal.specs.Given.ScenesMaking.{MakingHasOutcome, MakingLeads}
+use Rattle.run_legal.specs.Given.ScenesScene.{Scene}
 use Rattle.run_legal.proofs.Given.CallersTogether.At.{at_same}
-use Rattle.play_lists.proofs.Given.FindsCapacities.{effects_keep_capacities}
-use Rattle.play_lists.proofs.Given.FollowsFinds.{tables_many}
-use Rattle.play_lists.proofs.Agrees.Openings.{rootless_quiet}
+use Rattle.run_legal.proofs.Given.FindsCapacities.{effects_keep_capacities}
+use Rattle.play_linear.proofs.Given.FollowsFinds.{tables_many}
+use Rattle.play_linear.proofs.Given.AgreesOpenings.{rootless_quiet}
 use Rattle.run_schedules.specs.Deeds.Deeds.{Entry, Makes, MapComes, MapFails, moment, named}
 use Rattle.run_schedules.specs.Deeds.History.{IsWhole, Refuses, made_by, made_for, may_do, past, transition}
-use Rattle.play_lists.specs.Played.Play.{State, has_root, is_refusal, making_outcome, pairs_for}
+use Rattle.play_linear.specs.Given.PlayedPlay.{State, has_root, is_refusal, making_outcome, pairs_for}
 use Rattle.run_legal.proofs.Given.NeedsMakings.{makings_do_theirs}
 use Rattle.run_legal.proofs.Given.NeedsTablesMade.{makings_count_tables}
 use Rattle.run_legal.specs.Given.NeedsMakings.{CountsTables, in_hand, table_left}
@@ -47,7 +47,7 @@ use Rattle.play_moves.specs.EachMoves.Parts.{DoesIts}
 use Rattle.play_moves.proofs.EachMoves.Counted.{are_so_many, freeing_has_none, own_made, places_as_pairs, so_many}
 use Rattle.play_moves.proofs.EachMoves.Parts.{all_also, granted_so, none_may}
 use Rattle.play_moves.proofs.EachMoves.Rooted.{IsFreeing, Rooted}
-use Rattle.play_lists.proofs.Agrees.Grants.{refusals_so as refuses_so}
+use Rattle.play_linear.proofs.Given.AgreesGrants.{refusals_so as refuses_so}
 use Rattle.run_legal.proofs.Given.LogMakingsRun.{new_past as new_tables}
 
 -- where it frees its root nothing else is done

@@ -11,9 +11,9 @@ use Rattle.seize_acts.specs.Given.SeizeWorld.{Row, with_at}
 use Rattle.seize_acts.specs.Given.SeizeReclaimAll.{reclaim_all_plan}
 use Rattle.seize_acts.specs.Given.SeizeDeclared.advance.Advance.{Advance}
 use Rattle.seize_acts.specs.Given.SeizeDeclared.advance.Advance.TheVariants as progress
-use Rattle.play_lists.specs.Given.TablesNodes.{deferred_word, was_left}
-use Rattle.play_lists.specs.Given.TablesDeclared.node.Node.{Node}
-use Rattle.play_lists.specs.Given.TablesDeclared.setting.Setting.{Setting}
+use Rattle.run_legal.specs.Given.TablesNodes.{deferred_word, was_left}
+use Rattle.run_legal.specs.Given.TablesDeclared.node.Node.{Node}
+use Rattle.run_legal.specs.Given.TablesDeclared.setting.Setting.{Setting}
 use Rattle.run_schedules.specs.Given.RawEndMap.{end_map_plan, ending}
 use Rattle.run_schedules.specs.Given.RawMachine.{machine_asked, machine_plan, machine_replied}
 use Rattle.threads_rule.specs.Given.ResizeNewMap.{new_map_plan, opening}
@@ -23,24 +23,24 @@ use Rattle.run_schedules.specs.declared.outcome.Outcome.{Outcome}
 use Rattle.run_schedules.specs.declared.outcome.Outcome.TheVariants as outcome
 use Rattle.run_schedules.specs.Schedules.Moment.{MapThere, Moment}
 use Rattle.run_schedules.specs.Schedules.Views.{map_at}
-use Rattle.play_lists.specs.Given.EffectsDeclared.changed.Changed.{Changed}
-use Rattle.play_lists.specs.Given.EffectsEffects.{effects_of, known_after}
-use Rattle.play_lists.specs.Given.EffectsDeclared.acting.Acting.TheVariants as acts
-use Rattle.play_lists.specs.Given.FinishesEndings.{Finishing}
-use Rattle.play_lists.specs.Given.FinishesMaps.{Standing}
+use Rattle.run_legal.specs.Given.EffectsDeclared.changed.Changed.{Changed}
+use Rattle.run_legal.specs.Given.EffectsEffects.{effects_of, known_after}
+use Rattle.run_legal.specs.Given.EffectsDeclared.acting.Acting.TheVariants as acts
+use Rattle.run_legal.specs.Given.FinishesEndings.{Finishing}
+use Rattle.run_legal.specs.Given.FinishesMaps.{Standing}
 use Rattle.run_legal.specs.Given.NamedSeen.{kind_of}
-use Rattle.play_lists.specs.Given.ScenesScene.{Scene, row_of, slot_of}
+use Rattle.run_legal.specs.Given.ScenesScene.{Scene, row_of, slot_of}
 use Rattle.run_legal.proofs.Given.CallersTogether.At.{at_other, at_same}
-use Rattle.play_lists.proofs.Given.ScenesNoCall.{none_is}
-use Rattle.play_lists.specs.Given.ActsActs.{Act, BeginsCall, StepsCall, TellsCall, AsksCall, StopsCall, BeginsMaking, StepsMaking, BeginsEnding, StepsEnding, BeginsRow, StepsRow}
-use Rattle.play_lists.specs.Given.ActsAsSteps.{changed_of, row_changed}
-use Rattle.play_lists.specs.Given.ActsCourses.{set_up}
-use Rattle.play_lists.specs.Given.ActsLeads.{MayBe}
-use Rattle.play_lists.proofs.Given.ActsAsSteps.Told.{was_told}
+use Rattle.run_legal.proofs.Given.ScenesNoCall.{none_is}
+use Rattle.threads_rule.specs.Given.ActsActs.{Act, BeginsCall, StepsCall, TellsCall, AsksCall, StopsCall, BeginsMaking, StepsMaking, BeginsEnding, StepsEnding, BeginsRow, StepsRow}
+use Rattle.play_linear.specs.Given.ActsAsSteps.{changed_of, row_changed}
+use Rattle.play_linear.specs.Given.ActsCourses.{set_up}
+use Rattle.play_linear.specs.Given.ActsLeads.{MayBe}
+use Rattle.play_linear.proofs.Given.ActsAsSteps.Told.{was_told}
 use Rattle.run_schedules.specs.Deeds.Deeds.{Begins, Deed, Ends, Entry, Leaves, Makes, MapGoes, Opens, ReclaimsAll, Registers, Replies, Shuts, Steps, Stops, Tends, moment}
-use Rattle.play_lists.specs.Played.Play.{Ending, Making, Now, State, all_stepped, call_begun, call_for, call_stepped, call_stopped, call_replied, has_root, is_over, is_refusal, made_on, making_deed, making_outcome, outcome_of, pairs_for, reply_for, row_deed, row_outcome, row_stepped, settled_outcome}
-use Rattle.play_lists.specs.Played.Reached.{IsOf, made_so, makes_so, stands_so}
-use Rattle.play_lists.proofs.Played.PlayedAs.{PlayedAs, ReclaimedAs}
+use Rattle.play_linear.specs.Given.PlayedPlay.{Ending, Making, Now, State, all_stepped, call_begun, call_for, call_stepped, call_stopped, call_replied, has_root, is_over, is_refusal, made_on, making_deed, making_outcome, outcome_of, pairs_for, reply_for, row_deed, row_outcome, row_stepped, settled_outcome}
+use Rattle.play_linear.specs.Given.PlayedReached.{IsOf, made_so, makes_so, stands_so}
+use Rattle.play_linear.proofs.Given.PlayedPlayedAs.{PlayedAs, ReclaimedAs}
 use Rattle.play_linear.specs.Linear.Coming.{ComesBy, MapsComeAndGo}
 use Rattle.play_linear.proofs.Linear.MapActs.{deed_by}
 use Rattle.play_linear.proofs.Linear.RowsPlayed.{IsOfRow, is_of_row}

@@ -3,8 +3,8 @@ use Rattle.std.specs.Prelude.{◌≡◌, ◌⊎◌, ℕ, List, [], ◌∷◌}
 use Rattle.std.proofs.Common.{refl, sym, subst, inl, inr}
 use Rattle.run_schedules.specs.Schedules.After.{AtEachEvent}
 use Rattle.run_schedules.specs.Schedules.Terms.{Terms}
-use Rattle.play_lists.specs.Given.FindsWithin.{AllIsInOrder}
-use Rattle.play_lists.proofs.Given.FindsRuns.{all_in_order_at_first}
+use Rattle.run_legal.specs.Given.FindsWithin.{AllIsInOrder}
+use Rattle.run_legal.proofs.Given.FindsRuns.{all_in_order_at_first}
 use Rattle.run_schedules.specs.Deeds.Deeds.{Begins, Deed, Ends, Entry, Leaves, Makes, MapComes, MapFails, MapGoes, Opens, ReclaimsAll, Registers, Replies, Shuts, Steps, Stops, Tends, moment}
 use Rattle.run_schedules.specs.Deeds.History.{MovesOn}
 use Rattle.play_moves.specs.EachMoves.Finds.{FindsIts, IsOther}

@@ -4,22 +4,22 @@ use Rattle.std.specs.List.{AllByRecursion}
 use Rattle.std.proofs.Common.{ℕ, refl, sym, subst, ◌∙◌}
 use Rattle.run_schedules.specs.Schedules.After.{AtEachEvent}
 use Rattle.run_schedules.specs.Schedules.Terms.{Terms, shards_of}
-use Rattle.play_lists.specs.Given.EffectsKnown.{nothing_known}
-use Rattle.play_lists.specs.Given.FollowsShows.{Refines}
-use Rattle.play_lists.specs.Given.ScenesScene.{at_first, slot_of}
-use Rattle.play_lists.specs.Given.ActsActs.{Act, BeginsMaking}
-use Rattle.play_lists.specs.Given.ActsDoings.{Doing, Does, BeginsReclaiming, BeginsClearing, StepsReclaiming, Chooses}
-use Rattle.play_lists.specs.Given.ActsLists.{Course, LedTo, Reached, nothing_done}
-use Rattle.play_lists.specs.Agrees.Fresh.{HasNewNumber, MakesNew}
-use Rattle.play_lists.specs.Agrees.Places.{AsksMap, AsksMaps, AsksPlaces}
-use Rattle.play_lists.specs.Agrees.Shards.{AsksShards}
-use Rattle.play_lists.proofs.Agrees.Coming.{new_fits}
-use Rattle.play_lists.proofs.Agrees.GivenBack.{again_first}
-use Rattle.play_lists.proofs.Agrees.Guards.{guards_at_first}
+use Rattle.run_legal.specs.Given.EffectsKnown.{nothing_known}
+use Rattle.run_legal.specs.Given.FollowsShows.{Refines}
+use Rattle.run_legal.specs.Given.ScenesScene.{at_first, slot_of}
+use Rattle.threads_rule.specs.Given.ActsActs.{Act, BeginsMaking}
+use Rattle.play_linear.specs.Given.ActsDoings.{Doing, Does, BeginsReclaiming, BeginsClearing, StepsReclaiming, Chooses}
+use Rattle.play_linear.specs.Given.ActsLists.{Course, LedTo, Reached, nothing_done}
+use Rattle.play_linear.specs.Given.AgreesFresh.{HasNewNumber, MakesNew}
+use Rattle.play_linear.specs.Given.AgreesPlaces.{AsksMap, AsksMaps, AsksPlaces}
+use Rattle.play_linear.specs.Given.AgreesShards.{AsksShards}
+use Rattle.play_linear.proofs.Given.AgreesComing.{new_fits}
+use Rattle.play_linear.proofs.Given.AgreesGivenBack.{again_first}
+use Rattle.play_linear.proofs.Given.AgreesGuards.{guards_at_first}
 use Rattle.run_schedules.specs.Deeds.Deeds.{Entry, moment, named}
 use Rattle.run_schedules.specs.Deeds.History.{MovesOn, past}
-use Rattle.play_lists.specs.Played.Play.{State, first_state, play_all}
-use Rattle.play_lists.proofs.Played.Along.{AllFit, AreOfTheirOwn, At, wherever}
+use Rattle.play_linear.specs.Given.PlayedPlay.{State, first_state, play_all}
+use Rattle.play_linear.proofs.Given.PlayedAlong.{AllFit, AreOfTheirOwn, At, wherever}
 use Rattle.play_linear.specs.Linear.Linear.{IsOfOwn}
 use Rattle.play_linear.proofs.Linear.Holding.{AllHolds}
 use Rattle.play_linear.proofs.Linear.Stays.{first_holds}

@@ -4,28 +4,28 @@ use Rattle.std.proofs.Common.{ap, sym, subst, ◌∙◌}
 use Rattle.seize_acts.specs.Acts.Answers.{Grant}
 use Rattle.seize_acts.specs.Given.SeizeWorld.{Row}
 use Rattle.seize_acts.specs.Given.SeizeDeclared.rows.settle.Settled.{Settled}
-use Rattle.play_lists.specs.Given.TablesDeclared.node.Node.{Node}
+use Rattle.run_legal.specs.Given.TablesDeclared.node.Node.{Node}
 use Rattle.run_schedules.specs.Given.RawMachine.{machine_asked, machine_replied}
 use Rattle.run_schedules.specs.Schedules.After.{AtEachEvent}
 use Rattle.run_schedules.specs.Schedules.Effects.{AtEachEffect}
 use Rattle.run_schedules.specs.Schedules.Terms.{Terms}
 use Rattle.run_schedules.specs.declared.effect.Effect.{Effect}
 use Rattle.run_schedules.specs.declared.outcome.Outcome.{Outcome}
-use Rattle.play_lists.specs.Given.EffectsDeclared.changed.Changed.{Changed}
-use Rattle.play_lists.specs.Given.EffectsDeclared.changed.Changed.TheVariants.{Nothing as NoChange}
-use Rattle.play_lists.specs.Given.EffectsEffects.{effects_of}
-use Rattle.play_lists.specs.Given.EffectsDeclared.acting.Acting.TheVariants as acts
-use Rattle.play_lists.specs.Given.ScenesHeld.{Held, IsAt}
-use Rattle.play_lists.specs.Given.ScenesScene.{IsOnSlot, Scene, row_of, slot_of}
-use Rattle.play_lists.specs.Given.ScenesDeclared.row.RowTold.{RowTold}
-use Rattle.play_lists.specs.Given.ActsActs.{Act, Answer, BeginsCall, StepsCall, TellsCall, AsksCall, StopsCall, BeginsMaking, StepsMaking, BeginsEnding, StepsEnding, BeginsRow, StepsRow}
-use Rattle.play_lists.specs.Given.ActsAsSteps.{LeadsAs, changed_by, held_in, row_changed, outcome_of_row_step}
-use Rattle.play_lists.specs.Given.ActsLeads.{Led, MayBe}
+use Rattle.run_legal.specs.Given.EffectsDeclared.changed.Changed.{Changed}
+use Rattle.run_legal.specs.Given.EffectsDeclared.changed.Changed.TheVariants.{Nothing as NoChange}
+use Rattle.run_legal.specs.Given.EffectsEffects.{effects_of}
+use Rattle.run_legal.specs.Given.EffectsDeclared.acting.Acting.TheVariants as acts
+use Rattle.run_legal.specs.Given.ScenesHeld.{Held, IsAt}
+use Rattle.run_legal.specs.Given.ScenesScene.{IsOnSlot, Scene, row_of, slot_of}
+use Rattle.run_legal.specs.Given.ScenesDeclared.row.RowTold.{RowTold}
+use Rattle.threads_rule.specs.Given.ActsActs.{Act, Answer, BeginsCall, StepsCall, TellsCall, AsksCall, StopsCall, BeginsMaking, StepsMaking, BeginsEnding, StepsEnding, BeginsRow, StepsRow}
+use Rattle.play_linear.specs.Given.ActsAsSteps.{LeadsAs, changed_by, held_in, row_changed, outcome_of_row_step}
+use Rattle.play_linear.specs.Given.ActsLeads.{Led, MayBe}
 use Rattle.run_schedules.specs.Deeds.Deeds.{Deed, Ends, Entry, Leaves, MapGoes, Opens, ReclaimsAll, Registers, Shuts, Tends, moment}
 use Rattle.run_schedules.specs.Deeds.History.{FindsBy, transition}
-use Rattle.play_lists.specs.Played.Play.{Ending, State, ending_deed, is_over, is_refusal, row_deed, row_outcome, row_stepped}
-use Rattle.play_lists.specs.Played.Reached.{IsOf, row_or_rests}
-use Rattle.play_lists.proofs.Played.PlayedAs.{PlayedAs}
+use Rattle.play_linear.specs.Given.PlayedPlay.{Ending, State, ending_deed, is_over, is_refusal, row_deed, row_outcome, row_stepped}
+use Rattle.play_linear.specs.Given.PlayedReached.{IsOf, row_or_rests}
+use Rattle.play_linear.proofs.Given.PlayedPlayedAs.{PlayedAs}
 use Rattle.play_linear.proofs.Linear.Holding.{AllHolds}
 use Rattle.play_linear.proofs.Linear.RowsPlayed.{IsOfRow, is_of_row}
 use Rattle.play_moves.specs.EachMoves.Finds.{FindsIts, IsOfOthers, OthersFind}

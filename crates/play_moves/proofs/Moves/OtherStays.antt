@@ -5,17 +5,17 @@ use Rattle.std.proofs.Common.{refl, sym, subst}
 use Rattle.seize_acts.specs.Given.SeizeDeclared.rows.reclaim_all.ReclaimAll.{ReclaimAll}
 use Rattle.run_schedules.specs.Schedules.Moment.{Moment, UnderWay}
 use Rattle.run_schedules.specs.Schedules.Terms.{Terms}
-use Rattle.play_lists.specs.Given.EffectsDeclared.changed.Changed.TheVariants.{Nothing as NoChange}
-use Rattle.play_lists.specs.Given.EffectsEffects.{effects_of}
-use Rattle.play_lists.specs.Given.EffectsDeclared.acting.Acting.TheVariants as acts
-use Rattle.play_lists.specs.Given.ScenesScene.{Scene}
-use Rattle.play_lists.specs.Given.ActsActs.{Act}
-use Rattle.play_lists.specs.Agrees.Fresh.{HasNewNumber}
+use Rattle.run_legal.specs.Given.EffectsDeclared.changed.Changed.TheVariants.{Nothing as NoChange}
+use Rattle.run_legal.specs.Given.EffectsEffects.{effects_of}
+use Rattle.run_legal.specs.Given.EffectsDeclared.acting.Acting.TheVariants as acts
+use Rattle.run_legal.specs.Given.ScenesScene.{Scene}
+use Rattle.threads_rule.specs.Given.ActsActs.{Act}
+use Rattle.play_linear.specs.Given.AgreesFresh.{HasNewNumber}
 use Rattle.run_schedules.specs.Deeds.Deeds.{ReclaimsAll, moment, named}
-use Rattle.play_lists.specs.Played.Play.{State, is_over, is_refusal, settled_outcome}
-use Rattle.play_lists.specs.Played.Reached.{IsOf, rows_beside}
-use Rattle.play_lists.proofs.Played.Along.{At, StaysSo, held, lists_at}
-use Rattle.play_lists.proofs.Played.PlayedAs.{played_as, reclaimed_as}
+use Rattle.play_linear.specs.Given.PlayedPlay.{State, is_over, is_refusal, settled_outcome}
+use Rattle.play_linear.specs.Given.PlayedReached.{IsOf, rows_beside}
+use Rattle.play_linear.proofs.Given.PlayedAlong.{At, StaysSo, held, lists_at}
+use Rattle.play_linear.proofs.Given.PlayedPlayedAs.{played_as, reclaimed_as}
 use Rattle.play_linear.proofs.Linear.Stays.{all_tied, change}
 use Rattle.play_moves.specs.Moves.Order.{AreUnderWay, IsUnderWay}
 use Rattle.play_moves.proofs.Moves.AllFinds.{all_find}

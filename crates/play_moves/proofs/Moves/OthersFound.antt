@@ -5,7 +5,7 @@ use Rattle.std.proofs.Common.{refl, sym, subst}
 use Rattle.run_schedules.specs.Schedules.Terms.{Terms}
 use Rattle.run_schedules.specs.declared.effect.Effect.{Effect}
 use Rattle.run_schedules.specs.declared.outcome.Outcome.{Outcome}
-use Rattle.play_lists.specs.Given.FindsWithin.{AllIsInOrder}
+use Rattle.run_legal.specs.Given.FindsWithin.{AllIsInOrder}
 use Rattle.run_schedules.specs.Deeds.Deeds.{Begins, Deed, Ends, Entry, Leaves, Makes, MapComes, MapFails, MapGoes, Opens, ReclaimsAll, Registers, Replies, Shuts, Steps, Stops, Tends, moment}
 use Rattle.run_schedules.specs.Deeds.History.{may_do}
 use Rattle.play_linear.specs.Endings.InOrder.{EndsInOrder}

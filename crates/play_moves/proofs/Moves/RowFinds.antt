@@ -9,7 +9,7 @@ use Rattle.seize_acts.specs.Given.SeizeDeclared.rows.leave.Leaving.TheVariants a
 use Rattle.seize_acts.specs.Given.SeizeDeclared.rows.register.Register.{Register}
 use Rattle.seize_acts.specs.Given.SeizeDeclared.rows.register.Registering.{Registering}
 use Rattle.seize_acts.specs.Given.SeizeDeclared.rows.register.Registering.TheVariants as registering
-use Rattle.play_lists.specs.Given.TablesDeclared.node.Node.{Node}
+use Rattle.run_legal.specs.Given.TablesDeclared.node.Node.{Node}
 use Rattle.run_schedules.specs.declared.effect.Effect.{Effect}
 use Rattle.run_schedules.specs.declared.effect.Effect.TheVariants.{Asked}
 use Rattle.run_schedules.specs.declared.effect.Growth.TheVariants.{ABucket}
@@ -20,22 +20,22 @@ use Rattle.run_schedules.specs.Schedules.Lives.{Finds}
 use Rattle.run_schedules.specs.Schedules.Moment.{Moment}
 use Rattle.run_schedules.specs.Schedules.Terms.{Terms}
 use Rattle.run_schedules.specs.Schedules.Transition.{Transition}
-use Rattle.play_lists.specs.Given.EffectsDeclared.changed.Changed.TheVariants as changed
-use Rattle.play_lists.specs.Given.EffectsEffects.{effects_of}
-use Rattle.play_lists.specs.Given.EffectsDeclared.acting.Acting.TheVariants as acts
-use Rattle.play_lists.specs.Given.ScenesHeld.{Held, IsAt}
-use Rattle.play_lists.specs.Given.ScenesOnSlots.{RowLeads, RowSteps}
-use Rattle.play_lists.specs.Given.ScenesScene.{IsOnSlot, Scene}
-use Rattle.play_lists.specs.Given.ScenesDeclared.row.RowTold.{RowTold}
-use Rattle.play_lists.specs.Given.ScenesDeclared.row.SlotRow.{SlotRow}
-use Rattle.play_lists.specs.Given.ScenesDeclared.row.SlotRow.TheVariants as rows
+use Rattle.run_legal.specs.Given.EffectsDeclared.changed.Changed.TheVariants as changed
+use Rattle.run_legal.specs.Given.EffectsEffects.{effects_of}
+use Rattle.run_legal.specs.Given.EffectsDeclared.acting.Acting.TheVariants as acts
+use Rattle.run_legal.specs.Given.ScenesHeld.{Held, IsAt}
+use Rattle.run_legal.specs.Given.ScenesOnSlots.{RowLeads, RowSteps}
+use Rattle.run_legal.specs.Given.ScenesScene.{IsOnSlot, Scene}
+use Rattle.run_legal.specs.Given.ScenesDeclared.row.RowTold.{RowTold}
+use Rattle.run_legal.specs.Given.ScenesDeclared.row.SlotRow.{SlotRow}
+use Rattle.run_legal.specs.Given.ScenesDeclared.row.SlotRow.TheVariants as rows
 use Rattle.run_legal.proofs.Found.{rows_find_theirs}
-use Rattle.play_lists.proofs.Given.FindsLife.{each_so}
+use Rattle.run_legal.proofs.Given.FindsLife.{each_so}
 use Rattle.run_legal.proofs.Works.Needs.{none_need, reclaiming_asks_none}
 use Rattle.run_legal.proofs.Given.NeedsSteps.{IsNoOwn, asks_alone, does_nothing, enters_tell, frees_tell, registers_tell, takes_no_own}
 use Rattle.run_schedules.specs.Deeds.Deeds.{Deed, Entry, Leaves, Opens, Registers, Shuts, Tends, moment, named}
 use Rattle.run_schedules.specs.Deeds.History.{FindsBy, NeedsBucket, buckets, past, transition}
-use Rattle.play_lists.specs.Played.Play.{State, is_refusal, leaves_as, registers_as, row_deed}
+use Rattle.play_linear.specs.Given.PlayedPlay.{State, is_refusal, leaves_as, registers_as, row_deed}
 use Rattle.play_linear.specs.Linear.Shown.{RefinesAnswers}
 use Rattle.play_moves.proofs.EachMoves.Parts.{all_also}
 use Rattle.play_moves.proofs.EachMoves.RowKinds.{ends_quietly, enters_quietly, flushes_reclaim, left_quietly, leaves_reclaim}

@@ -4,32 +4,32 @@ use Rattle.std.specs.List.{list_all}
 use Rattle.std.proofs.Common.{sym, subst}
 use Rattle.seize_acts.specs.Given.SeizeDeclared.rows.reclaim_all.ReclaimAll.{ReclaimAll}
 use Rattle.seize_acts.specs.Given.SeizeDeclared.rows.settle.Settled.{Settled}
-use Rattle.play_lists.specs.Given.TablesDeclared.node.Node.{Node}
+use Rattle.run_legal.specs.Given.TablesDeclared.node.Node.{Node}
 use Rattle.run_schedules.specs.declared.effect.Effect.{Effect}
 use Rattle.run_schedules.specs.declared.outcome.Outcome.{Outcome}
 use Rattle.run_schedules.specs.Schedules.Handing.{is_reclaiming}
-use Rattle.play_lists.specs.Given.EffectsDeclared.changed.Changed.{Changed}
-use Rattle.play_lists.specs.Given.EffectsEffects.{effects_of}
-use Rattle.play_lists.specs.Given.EffectsKnown.{Known}
-use Rattle.play_lists.specs.Given.EffectsDeclared.acting.Acting.TheVariants as acts
-use Rattle.play_lists.specs.Given.ScenesHeld.{Held, IsAt}
-use Rattle.play_lists.specs.Given.ScenesOnSlots.{RowLeads}
-use Rattle.play_lists.specs.Given.ScenesReclaiming.{IsReclaiming, ReclaimingLeads}
-use Rattle.play_lists.specs.Given.ScenesScene.{IsOnSlot, Scene}
-use Rattle.play_lists.specs.Given.ScenesDeclared.row.RowTold.{RowTold}
-use Rattle.play_lists.specs.Given.ScenesDeclared.row.SlotRow.{SlotRow}
+use Rattle.run_legal.specs.Given.EffectsDeclared.changed.Changed.{Changed}
+use Rattle.run_legal.specs.Given.EffectsEffects.{effects_of}
+use Rattle.run_legal.specs.Given.EffectsKnown.{Known}
+use Rattle.run_legal.specs.Given.EffectsDeclared.acting.Acting.TheVariants as acts
+use Rattle.run_legal.specs.Given.ScenesHeld.{Held, IsAt}
+use Rattle.run_legal.specs.Given.ScenesOnSlots.{RowLeads}
+use Rattle.run_legal.specs.Given.ScenesReclaiming.{IsReclaiming, ReclaimingLeads}
+use Rattle.run_legal.specs.Given.ScenesScene.{IsOnSlot, Scene}
+use Rattle.run_legal.specs.Given.ScenesDeclared.row.RowTold.{RowTold}
+use Rattle.run_legal.specs.Given.ScenesDeclared.row.SlotRow.{SlotRow}
 use Rattle.run_legal.proofs.OfAll.Tells.{gone_by, it_reclaims}
 use Rattle.run_legal.proofs.Given.NeedsSteps.{takes_no_own}
 use Rattle.run_schedules.specs.Deeds.Deeds.{Deed, Entry, Leaves, Opens, ReclaimsAll, Registers, Shuts, Tends, moment, named}
 use Rattle.run_schedules.specs.Deeds.History.{may_do, past}
-use Rattle.play_lists.specs.Played.Play.{State, is_over, is_refusal, row_deed, settled_outcome}
+use Rattle.play_linear.specs.Given.PlayedPlay.{State, is_over, is_refusal, row_deed, settled_outcome}
 use Rattle.play_linear.specs.Linear.Shown.{RefinesAnswers}
 use Rattle.play_linear.proofs.Linear.RowsPlayed.{IsOfRow, is_of_row}
 use Rattle.play_moves.specs.EachMoves.Parts.{DoesIts}
 use Rattle.play_moves.proofs.EachMoves.Parts.{all_also, granted_so}
 use Rattle.play_moves.proofs.EachMoves.RowKinds.{row_may}
 use Rattle.run_legal.proofs.OfAll.Steps.{things_reclaim as all_reclaim}
-use Rattle.play_lists.proofs.Agrees.Grants.{refusals_so as refuses_so}
+use Rattle.play_linear.proofs.Given.AgreesGrants.{refusals_so as refuses_so}
 
 module _ {K V : Type 0} (log : List (Entry K V)) (o : Outcome V) (known : Known) (changed : Changed) where
   abbrev of : Deed K V → Entry K V

@@ -6,32 +6,32 @@ use Rattle.seize_acts.specs.Given.SeizeDeclared.advance.Advance.{Advance}
 use Rattle.seize_acts.specs.Given.SeizeDeclared.rows.reclaim_all.ReclaimAll.{ReclaimAll}
 use Rattle.seize_acts.specs.Given.SeizeDeclared.rows.settle.Settled.{Settled}
 use Rattle.seize_acts.specs.Given.SeizeDeclared.rows.settle.Settled.TheVariants as settled
-use Rattle.play_lists.specs.Given.TablesDeclared.node.Node.{Node}
-use Rattle.play_lists.specs.Given.TablesDeclared.setting.Setting.{Setting}
+use Rattle.run_legal.specs.Given.TablesDeclared.node.Node.{Node}
+use Rattle.run_legal.specs.Given.TablesDeclared.setting.Setting.{Setting}
 use Rattle.threads_rule.specs.Given.ResizeDeclared.new_map.NewMap.{NewMap}
 use Rattle.run_schedules.specs.declared.effect.Effect.{Effect}
-use Rattle.play_lists.specs.Given.EffectsDeclared.changed.Changed.TheVariants.{Nothing as NoChange}
-use Rattle.play_lists.specs.Given.EffectsEffects.{effects_of}
-use Rattle.play_lists.specs.Given.EffectsDeclared.acting.Acting.TheVariants as acts
-use Rattle.play_lists.specs.Given.FinishesEndings.{Finishing}
-use Rattle.play_lists.specs.Given.FinishesMakings.{Beginning}
-use Rattle.play_lists.specs.Given.ScenesEnding.{EndingHasOutcome}
-use Rattle.play_lists.specs.Given.ScenesHeld.{Held, IsAt}
-use Rattle.play_lists.specs.Given.ScenesMaking.{MakingLeads}
-use Rattle.play_lists.specs.Given.ScenesScene.{Scene, slot_of}
-use Rattle.play_lists.specs.Given.ActsActs.{Act, Answer, BeginsCall, StepsCall, TellsCall, AsksCall, StopsCall, BeginsMaking, StepsMaking, BeginsEnding, StepsEnding, BeginsRow, StepsRow, OfEnding, OfMaking}
-use Rattle.play_lists.specs.Given.ActsAsSteps.{LeadsAs, MadeTo, changed_by, held_in}
-use Rattle.play_lists.specs.Given.ActsLeads.{Led, MayBe}
-use Rattle.play_lists.specs.Agrees.Fresh.{HasNewNumber}
+use Rattle.run_legal.specs.Given.EffectsDeclared.changed.Changed.TheVariants.{Nothing as NoChange}
+use Rattle.run_legal.specs.Given.EffectsEffects.{effects_of}
+use Rattle.run_legal.specs.Given.EffectsDeclared.acting.Acting.TheVariants as acts
+use Rattle.run_legal.specs.Given.FinishesEndings.{Finishing}
+use Rattle.run_legal.specs.Given.FinishesMakings.{Beginning}
+use Rattle.run_legal.specs.Given.ScenesEnding.{EndingHasOutcome}
+use Rattle.run_legal.specs.Given.ScenesHeld.{Held, IsAt}
+use Rattle.run_legal.specs.Given.ScenesMaking.{MakingLeads}
+use Rattle.run_legal.specs.Given.ScenesScene.{Scene, slot_of}
+use Rattle.threads_rule.specs.Given.ActsActs.{Act, Answer, BeginsCall, StepsCall, TellsCall, AsksCall, StopsCall, BeginsMaking, StepsMaking, BeginsEnding, StepsEnding, BeginsRow, StepsRow, OfEnding, OfMaking}
+use Rattle.play_linear.specs.Given.ActsAsSteps.{LeadsAs, MadeTo, changed_by, held_in}
+use Rattle.play_linear.specs.Given.ActsLeads.{Led, MayBe}
+use Rattle.play_linear.specs.Given.AgreesFresh.{HasNewNumber}
 use Rattle.run_schedules.specs.Deeds.Deeds.{Ends, Entry, MapGoes, moment}
-use Rattle.play_lists.specs.Played.Play.{Ending, Making, State, all_begun, choice_come, ending_stepped, is_over, is_refusal, settled_outcome}
-use Rattle.play_lists.specs.Played.Reached.{IsOf, made_so, makes_so, rows_beside}
-use Rattle.play_lists.proofs.Played.Along.{At, StaysSo, held}
-use Rattle.play_lists.proofs.Played.PlayedAs.{PlayedAs, played_as, reclaimed_as}
+use Rattle.play_linear.specs.Given.PlayedPlay.{Ending, Making, State, all_begun, choice_come, ending_stepped, is_over, is_refusal, settled_outcome}
+use Rattle.play_linear.specs.Given.PlayedReached.{IsOf, made_so, makes_so, rows_beside}
+use Rattle.play_linear.proofs.Given.PlayedAlong.{At, StaysSo, held}
+use Rattle.play_linear.proofs.Given.PlayedPlayedAs.{PlayedAs, played_as, reclaimed_as}
 use Rattle.play_linear.proofs.Linear.Holding.{AllHolds}
 use Rattle.play_linear.proofs.Linear.Stays.{all_tied}
 use Rattle.play_linear.proofs.Linear.StepsPlayed.{there_alike}
-use Rattle.play_lists.proofs.Played.Tied.{EndingTied, MakingTied, ending_tied, making_tied}
+use Rattle.play_linear.proofs.Given.PlayedTied.{EndingTied, MakingTied, ending_tied, making_tied}
 use Rattle.play_linear.specs.Endings.GoingOn.{EndsContinue}
 use Rattle.play_linear.proofs.Endings.EndStepGoes.{over_whole, step_finds}
 use Rattle.play_linear.proofs.Endings.EndSteps.{none_done}

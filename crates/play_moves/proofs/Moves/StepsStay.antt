@@ -4,41 +4,41 @@ use Rattle.std.specs.Prelude.{◌≡◌, ℕ, max, Bool, true, false, Option, So
 use Rattle.std.proofs.Common.{refl, ap, sym, subst, ◌∙◌}
 use Rattle.seize_acts.specs.Given.SeizeWorld.{IsInside}
 use Rattle.seize_acts.specs.Given.SeizeDeclared.rows.reclaim_all.ReclaimAll.{ReclaimAll}
-use Rattle.play_lists.specs.Given.TablesLengths.{entries_of}
+use Rattle.play_linear.specs.Given.TablesLengths.{entries_of}
 use Rattle.threads_rule.specs.Given.ResizeDeclared.new_map.NewMap.{NewMap}
 use Rattle.run_schedules.specs.Runs.Runs.{map_fault}
 use Rattle.run_schedules.specs.Schedules.Growing.{Has}
 use Rattle.run_schedules.specs.Schedules.Moment.{MapThere}
 use Rattle.run_schedules.specs.Schedules.Terms.{Terms, shards_of}
 use Rattle.run_schedules.specs.Schedules.Views.{capacity_or, map_at}
-use Rattle.play_lists.specs.Given.EffectsDeclared.changed.Changed.TheVariants.{Nothing as NoChange}
+use Rattle.run_legal.specs.Given.EffectsDeclared.changed.Changed.TheVariants.{Nothing as NoChange}
 use Rattle.run_legal.specs.Given.CallersTogether.{Counting, ForRoom, OnKey, OverAll, UnderWay, UnlessCounts}
-use Rattle.play_lists.specs.Given.FinishesMakings.{Beginning}
+use Rattle.run_legal.specs.Given.FinishesMakings.{Beginning}
 use Rattle.run_legal.specs.Given.NamedPlaces.{first_places}
-use Rattle.play_lists.specs.Given.ScenesHeld.{IsAt}
-use Rattle.play_lists.specs.Given.ScenesScene.{Scene, slot_of}
-use Rattle.play_lists.proofs.Given.FindsCapacities.{given_are_for}
-use Rattle.play_lists.proofs.Given.ScenesMay.{standing_is}
-use Rattle.play_lists.specs.Given.ActsActs.{Act}
-use Rattle.play_lists.specs.Given.ActsAsSteps.{held_in}
-use Rattle.play_lists.specs.Agrees.Fresh.{HasNewNumber}
-use Rattle.play_lists.specs.Agrees.Guards.{CallsHaveGuards, GuardsAgree, UnlessReclaimed}
-use Rattle.play_lists.specs.Agrees.Shards.{AsksShards, ShardsAre}
-use Rattle.play_lists.proofs.Agrees.Agree.{asks_more, both_stay}
-use Rattle.play_lists.proofs.Agrees.Calls.{calls_have_guards}
-use Rattle.play_lists.proofs.Agrees.Entries.{histories_grow}
-use Rattle.play_lists.proofs.Agrees.Guards.{GuardsHold, guards_stay}
-use Rattle.play_lists.proofs.Agrees.Shards.{shards_stay}
+use Rattle.run_legal.specs.Given.ScenesHeld.{IsAt}
+use Rattle.run_legal.specs.Given.ScenesScene.{Scene, slot_of}
+use Rattle.run_legal.proofs.Given.FindsCapacities.{given_are_for}
+use Rattle.run_legal.proofs.Given.ScenesMay.{standing_is}
+use Rattle.threads_rule.specs.Given.ActsActs.{Act}
+use Rattle.play_linear.specs.Given.ActsAsSteps.{held_in}
+use Rattle.play_linear.specs.Given.AgreesFresh.{HasNewNumber}
+use Rattle.play_linear.specs.Given.AgreesGuards.{CallsHaveGuards, GuardsAgree, UnlessReclaimed}
+use Rattle.play_linear.specs.Given.AgreesShards.{AsksShards, ShardsAre}
+use Rattle.play_linear.proofs.Given.AgreesAgree.{asks_more, both_stay}
+use Rattle.play_linear.proofs.Given.AgreesCalls.{calls_have_guards}
+use Rattle.play_linear.proofs.Given.AgreesEntries.{histories_grow}
+use Rattle.play_linear.proofs.Given.AgreesGuards.{GuardsHold, guards_stay}
+use Rattle.play_linear.proofs.Given.AgreesShards.{shards_stay}
 use Rattle.run_schedules.specs.Deeds.Deeds.{moment}
-use Rattle.play_lists.specs.Played.Play.{Making, State, has_root, pairs_for}
-use Rattle.play_lists.specs.Played.Reached.{IsOf, made_so, makes_so, rows_beside}
-use Rattle.play_lists.proofs.Played.Along.{At, StaysSo}
-use Rattle.play_lists.proofs.Played.Noted.{Anything}
+use Rattle.play_linear.specs.Given.PlayedPlay.{Making, State, has_root, pairs_for}
+use Rattle.play_linear.specs.Given.PlayedReached.{IsOf, made_so, makes_so, rows_beside}
+use Rattle.play_linear.proofs.Given.PlayedAlong.{At, StaysSo}
+use Rattle.play_linear.proofs.Given.PlayedNoted.{Anything}
 use Rattle.play_linear.specs.Linear.Coming.{ComesBy}
 use Rattle.play_linear.proofs.Linear.Holding.{AllHolds}
 use Rattle.play_linear.proofs.Linear.StepsPlayed.{there_alike}
 use Rattle.play_linear.proofs.Swept.KeptByAll.{Gives, With, all_kept}
-use Rattle.play_lists.specs.Agrees.Places.{ArePlaces, AsksPlaces}
+use Rattle.play_linear.specs.Given.AgreesPlaces.{ArePlaces, AsksPlaces}
 use Rattle.play_moves.specs.EachMoves.Places.{OpensFor}
 use Rattle.play_moves.specs.Moves.Steps.{StepsMay}
 use Rattle.play_moves.proofs.Moves.MadeHolds.{MadeHolds}

@@ -4,9 +4,9 @@ use Rattle.std.proofs.Common.{◌≡◌, ℕ, Bool, true, false, List, [], ◌�
 use Rattle.std.proofs.lemmas.Bool.{cases_eq, eq-eqb, ne_eqb}
 use Rattle.run_schedules.specs.Given.SeizeWordsMem.{Mem, value_at}
 use Rattle.run_schedules.specs.Given.SeizeWordsWord.{block_in}
-use Rattle.play_lists.specs.Given.TablesDeclared.node.Node.{Node}
-use Rattle.play_lists.specs.Given.TablesDeclared.node.Node.TheVariants as node
-use Rattle.play_lists.specs.Given.TablesDeclared.setting.Setting.{Setting}
+use Rattle.run_legal.specs.Given.TablesDeclared.node.Node.{Node}
+use Rattle.run_legal.specs.Given.TablesDeclared.node.Node.TheVariants as node
+use Rattle.run_legal.specs.Given.TablesDeclared.setting.Setting.{Setting}
 use Rattle.run_schedules.specs.Given.RawMachine.{machine_asked, machine_replied}
 use Rattle.run_schedules.specs.Given.RawDeclared.machines.machine.Machine.{Machine}
 use Rattle.run_schedules.specs.Given.RawDeclared.machines.answer.KeyAnswer.TheVariants.{Found}
@@ -27,23 +27,23 @@ use Rattle.run_schedules.specs.declared.call.Response.TheVariants as answer
 use Rattle.run_schedules.specs.declared.call.Reply.{Reply as Told}
 use Rattle.run_schedules.specs.declared.outcome.Outcome.{Outcome}
 use Rattle.run_schedules.specs.declared.outcome.Outcome.TheVariants.{Answered}
-use Rattle.play_lists.specs.Given.ActsActs.{Act, Answer, Wanted, BeginsCall, StepsCall, TellsCall, AsksCall, StopsCall, BeginsMaking, StepsMaking, BeginsEnding, StepsEnding, BeginsRow, StepsRow}
-use Rattle.play_lists.specs.Given.ActsDoings.{Does}
+use Rattle.threads_rule.specs.Given.ActsActs.{Act, Answer, Wanted, BeginsCall, StepsCall, TellsCall, AsksCall, StopsCall, BeginsMaking, StepsMaking, BeginsEnding, StepsEnding, BeginsRow, StepsRow}
+use Rattle.play_linear.specs.Given.ActsDoings.{Does}
 use Rattle.run_schedules.specs.Deeds.Deeds.{Ends, Entry, Leaves, Makes, MapComes, MapFails, MapGoes, Opens, Steps, moment, named}
 use Rattle.run_schedules.specs.Deeds.History.{IsLinearizable, answered, answers_of, is_of}
-use Rattle.play_lists.specs.Given.EffectsEffects.{effects_of, known_after}
-use Rattle.play_lists.specs.Given.EffectsKnown.{Known}
-use Rattle.play_lists.specs.Given.EffectsDeclared.acting.Acting.TheVariants as acting
-use Rattle.play_lists.specs.Given.EffectsDeclared.role.Role.TheVariants as role
-use Rattle.run_histories.specs.Histories.Events.{HasOutcome}
-use Rattle.run_histories.specs.Histories.InEvent.{HasOutcomeSo}
+use Rattle.run_legal.specs.Given.EffectsEffects.{effects_of, known_after}
+use Rattle.run_legal.specs.Given.EffectsKnown.{Known}
+use Rattle.run_legal.specs.Given.EffectsDeclared.acting.Acting.TheVariants as acting
+use Rattle.run_legal.specs.Given.EffectsDeclared.role.Role.TheVariants as role
+use Rattle.run_legal.specs.Given.HistoriesEvents.{HasOutcome}
+use Rattle.run_legal.specs.Given.HistoriesInEvent.{HasOutcomeSo}
 use Rattle.run_schedules.specs.Runs.Log.{pair_at}
 use Rattle.run_legal.specs.Given.NamedSeen.{kind_of}
-use Rattle.play_lists.specs.Played.Play.{Calling, State, begun_call, call_asked, call_begun, call_for, call_stepped, call_stopped, call_replied, has_root, is_over, is_refusal, keeps, leaves_as, making_deed, outcome_of, pairs_for, registers_as, reply_for, row_deed, replied_call}
-use Rattle.play_lists.specs.Given.ScenesReplying.{unless_stopped}
-use Rattle.play_lists.specs.Given.ScenesStepping.{has_ended}
-use Rattle.play_lists.specs.Given.EffectsDeclared.changed.Changed.{Changed}
-use Rattle.play_lists.specs.Given.FinishesMaps.{with_call}
+use Rattle.play_linear.specs.Given.PlayedPlay.{Calling, State, begun_call, call_asked, call_begun, call_for, call_stepped, call_stopped, call_replied, has_root, is_over, is_refusal, keeps, leaves_as, making_deed, outcome_of, pairs_for, registers_as, reply_for, row_deed, replied_call}
+use Rattle.run_legal.specs.Given.ScenesReplying.{unless_stopped}
+use Rattle.run_legal.specs.Given.ScenesStepping.{has_ended}
+use Rattle.run_legal.specs.Given.EffectsDeclared.changed.Changed.{Changed}
+use Rattle.run_legal.specs.Given.FinishesMaps.{with_call}
 use Rattle.threads_rule.specs.Given.ResizeDeclared.new_map.NewMap.{NewMap}
 use Rattle.seize_acts.specs.Given.SeizeDeclared.rows.leave.Leave.{Leave}
 use Rattle.seize_acts.specs.Given.SeizeDeclared.rows.leave.Leaving.{Leaving}
@@ -51,12 +51,12 @@ use Rattle.seize_acts.specs.Given.SeizeDeclared.rows.leave.Leaving.TheVariants a
 use Rattle.seize_acts.specs.Given.SeizeDeclared.rows.register.Registering.{Registering}
 use Rattle.seize_acts.specs.Given.SeizeDeclared.rows.register.Registering.TheVariants as registers
 use Rattle.seize_acts.specs.Given.SeizeDeclared.states.TheConstants.{ACTIVE}
-use Rattle.play_lists.specs.Given.ScenesDeclared.row.SlotRow.{SlotRow}
-use Rattle.play_lists.specs.Given.ScenesDeclared.row.SlotRow.TheVariants as rows
+use Rattle.run_legal.specs.Given.ScenesDeclared.row.SlotRow.{SlotRow}
+use Rattle.run_legal.specs.Given.ScenesDeclared.row.SlotRow.TheVariants as rows
 use Rattle.seize_acts.specs.Given.SeizeWorld.{with_at}
 use Rattle.run_legal.proofs.Given.CallersTogether.At.{at_same, at_other}
-use Rattle.play_lists.proofs.Played.Noted.{CallsAreNoted, at_it, at_other_map, made_calls, one_call}
-use Rattle.play_lists.proofs.Played.PlayedAs.{PlayedAs, ReclaimedAs}
+use Rattle.play_linear.proofs.Given.PlayedNoted.{CallsAreNoted, at_it, at_other_map, made_calls, one_call}
+use Rattle.play_linear.proofs.Given.PlayedPlayedAs.{PlayedAs, ReclaimedAs}
 use Rattle.play_moves.specs.OneHistory.Lookups.{WasHad, WasSo}
 use Rattle.play_moves.specs.OneHistory.Answered.{ByNewest, IfElse, IsItsEnd}
 use Rattle.play_moves.specs.OneHistory.Order.{HaveGot, is_answer}

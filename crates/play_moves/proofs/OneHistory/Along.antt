@@ -3,34 +3,34 @@ use Rattle.std.specs.Prelude.{◌++◌, ◌==◌, ◌<◌, ◌^◌, suc, Option,
 use Rattle.std.specs.List.{AllByRecursion}
 use Rattle.std.proofs.Common.{◌≡◌, ℕ, Bool, List, [], ◌∷◌, refl, sym, subst, ap, ◌∙◌}
 use Rattle.std.proofs.lemmas.List.{append-nil}
-use Rattle.play_lists.proofs.Given.ActsFurther.{led_further}
+use Rattle.play_linear.proofs.Given.ActsFurther.{led_further}
 use Rattle.threads_rule.proofs.Views.Listed.{numbered_on}
-use Rattle.play_lists.specs.Given.TablesDeclared.node.Node.{Node}
+use Rattle.run_legal.specs.Given.TablesDeclared.node.Node.{Node}
 use Rattle.threads_rule.specs.Views.Listed.{Called, AreNumbered, calls_of, calls_then, has_progressed, seat_of, seen_of, seen_then}
 use Rattle.run_schedules.specs.Schedules.After.{AtEachEvent}
 use Rattle.run_schedules.specs.Deeds.Deeds.{moment}
 use Rattle.run_schedules.specs.Deeds.History.{IsLinearizable, past}
-use Rattle.play_lists.specs.Given.ScenesScene.{slot_of}
+use Rattle.run_legal.specs.Given.ScenesScene.{slot_of}
 use Rattle.seize_acts.specs.Acts.Answers.{then_on}
 use Rattle.run_schedules.specs.Given.SeizeWordsMem.{Mem}
 use Rattle.seize_acts.specs.Given.SeizeDeclared.rows.reclaim_all.ReclaimAll.{ReclaimAll}
-use Rattle.play_lists.specs.Given.FollowsBlocks.{HasRole}
-use Rattle.play_lists.specs.Given.ActsActs.{Act, Answer, Nothing, BeginsCall, StepsCall, TellsCall, AsksCall, StopsCall, BeginsMaking, StepsMaking, BeginsEnding, StepsEnding, BeginsRow, StepsRow}
-use Rattle.play_lists.specs.Given.ActsAsSteps.{changed_by}
-use Rattle.play_lists.specs.Given.ActsDoings.{Doing, Does, BeginsReclaiming, BeginsClearing, StepsReclaiming, Chooses, MayDo}
-use Rattle.play_lists.specs.Given.ActsLists.{Course, LedOn, LedTo, Reached, nothing_done, on_by}
-use Rattle.play_lists.specs.Agrees.Fresh.{HasNewNumber}
+use Rattle.run_legal.specs.Given.FollowsBlocks.{HasRole}
+use Rattle.threads_rule.specs.Given.ActsActs.{Act, Answer, Nothing, BeginsCall, StepsCall, TellsCall, AsksCall, StopsCall, BeginsMaking, StepsMaking, BeginsEnding, StepsEnding, BeginsRow, StepsRow}
+use Rattle.play_linear.specs.Given.ActsAsSteps.{changed_by}
+use Rattle.play_linear.specs.Given.ActsDoings.{Doing, Does, BeginsReclaiming, BeginsClearing, StepsReclaiming, Chooses, MayDo}
+use Rattle.play_linear.specs.Given.ActsLists.{Course, LedOn, LedTo, Reached, nothing_done, on_by}
+use Rattle.play_linear.specs.Given.AgreesFresh.{HasNewNumber}
 use Rattle.play_linear.specs.Linear.Linear.{IsOfOwn}
-use Rattle.play_lists.specs.Played.Play.{State, all_begun, choice_come, first_state, play, play_all}
-use Rattle.play_lists.specs.Played.Reached.{IsOf, rows_beside}
-use Rattle.play_lists.proofs.Agrees.Coming.{once_is_new}
-use Rattle.play_lists.proofs.Agrees.GivenBack.{again_first}
+use Rattle.play_linear.specs.Given.PlayedPlay.{State, all_begun, choice_come, first_state, play, play_all}
+use Rattle.play_linear.specs.Given.PlayedReached.{IsOf, rows_beside}
+use Rattle.play_linear.proofs.Given.AgreesComing.{once_is_new}
+use Rattle.play_linear.proofs.Given.AgreesGivenBack.{again_first}
 use Rattle.play_linear.proofs.Linear.Holding.{AllHolds}
 use Rattle.play_linear.proofs.Linear.Linear.{wherever_led}
 use Rattle.play_linear.proofs.Linear.Stays.{all_stay, first_holds}
-use Rattle.play_lists.proofs.Played.Along.{At, Is, StaysSo, far}
-use Rattle.play_lists.proofs.Played.PlayedAs.{played_as, reclaimed_as}
-use Rattle.play_lists.proofs.Played.Tied.{call_tied}
+use Rattle.play_linear.proofs.Given.PlayedAlong.{At, Is, StaysSo, far}
+use Rattle.play_linear.proofs.Given.PlayedPlayedAs.{played_as, reclaimed_as}
+use Rattle.play_linear.proofs.Given.PlayedTied.{call_tied}
 use Rattle.play_moves.proofs.OneHistory.Acts.{IsOther, PairsAreThere, acts_tell, nothing_tells, reclaiming_tells, steps_tell}
 use Rattle.play_moves.proofs.OneHistory.Lookups.{lookup_owes}
 use Rattle.play_moves.proofs.OneHistory.Numbers.{once}

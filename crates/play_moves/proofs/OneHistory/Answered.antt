@@ -5,8 +5,8 @@ use Rattle.std.proofs.Common.{◌≡◌, ℕ, Bool, true, false, List, [], ◌�
 use Rattle.std.proofs.lemmas.Bool.{cases_eq, eq-eqb, ne_eqb}
 use Rattle.threads_rule.specs.Given.SeizeSeatsState.{State, view_of}
 use Rattle.threads_rule.specs.Given.SeizeViewsDeclared.view.Fixed.{Fixed}
-use Rattle.play_lists.specs.Given.TablesDeclared.node.Node.{Node}
-use Rattle.play_lists.specs.Given.TablesDeclared.setting.Setting.{Setting}
+use Rattle.run_legal.specs.Given.TablesDeclared.node.Node.{Node}
+use Rattle.run_legal.specs.Given.TablesDeclared.setting.Setting.{Setting}
 use Rattle.run_schedules.specs.Given.RawDeclared.machines.answer.KeyAnswer.{KeyAnswer}
 use Rattle.run_schedules.specs.Given.RawDeclared.machines.answer.KeyAnswer.TheVariants as says
 use Rattle.run_schedules.specs.Given.RawDeclared.machines.progress.Answer.TheVariants.{Key}
@@ -21,7 +21,7 @@ use Rattle.threads_rule.specs.declared.view.BegunCall.{BegunCall}
 use Rattle.threads_rule.specs.declared.view.View.{View}
 use Rattle.threads_rule.proofs.Views.Listed.{its_seat}
 use Rattle.threads_rule.proofs.Views.Numbers.{its_caller}
-use Rattle.play_lists.specs.Given.ScenesScene.{Scene, slot_of}
+use Rattle.run_legal.specs.Given.ScenesScene.{Scene, slot_of}
 use Rattle.run_schedules.specs.declared.call.Response.{Response}
 use Rattle.run_schedules.specs.declared.call.Response.TheVariants as answers
 use Rattle.run_schedules.specs.declared.call.Call.TheVariants.{On}
@@ -30,17 +30,17 @@ use Rattle.run_schedules.specs.declared.call.OneKey.TheVariants as one_key
 use Rattle.run_schedules.specs.declared.call.Reply.{Reply}
 use Rattle.run_schedules.specs.declared.outcome.Outcome.{Outcome}
 use Rattle.run_schedules.specs.declared.outcome.Outcome.TheVariants.{Answered}
-use Rattle.play_lists.specs.Given.ActsActs.{Answer as Told, Get, Wanted, OfCall, BeginsCall, StepsCall}
-use Rattle.play_lists.specs.Given.ActsDoings.{Doing, Does}
-use Rattle.play_lists.specs.Given.ActsLists.{nothing_done}
+use Rattle.threads_rule.specs.Given.ActsActs.{Answer as Told, Get, Wanted, OfCall, BeginsCall, StepsCall}
+use Rattle.play_linear.specs.Given.ActsDoings.{Doing, Does}
+use Rattle.play_linear.specs.Given.ActsLists.{nothing_done}
 use Rattle.run_schedules.specs.Given.SeizeWordsMem.{Mem}
 use Rattle.run_schedules.specs.Deeds.Deeds.{Entry}
-use Rattle.play_lists.specs.Given.EffectsKnown.{Known}
-use Rattle.play_lists.specs.Given.FinishesMaps.{Standing}
+use Rattle.run_legal.specs.Given.EffectsKnown.{Known}
+use Rattle.run_legal.specs.Given.FinishesMaps.{Standing}
 use Rattle.run_legal.specs.Given.NamedSeen.{kind_of}
-use Rattle.play_lists.specs.Played.Play.{State as Played, call_for, first_state, outcome_of, play_all}
-use Rattle.play_lists.specs.Given.ScenesStepping.{has_ended}
-use Rattle.run_histories.specs.Histories.Events.{HasOutcome}
+use Rattle.play_linear.specs.Given.PlayedPlay.{State as Played, call_for, first_state, outcome_of, play_all}
+use Rattle.run_legal.specs.Given.ScenesStepping.{has_ended}
+use Rattle.run_legal.specs.Given.HistoriesEvents.{HasOutcome}
 use Rattle.play_moves.specs.OneHistory.Answered.{IsAnswered, SeatsAreAnswered}
 use Rattle.play_moves.specs.OneHistory.Lookups.{IsLookedUp, IsSuch, LookupsWereSo}
 use Rattle.play_moves.specs.OneHistory.Order.{CallsAreInOrder}

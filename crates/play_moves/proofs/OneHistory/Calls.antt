@@ -8,8 +8,8 @@ use Rattle.threads_rule.specs.Given.SeizeSeatsState.{State, view_of}
 use Rattle.threads_rule.specs.Given.SeizeViewsDeclared.view.Fixed.{Fixed}
 use Rattle.run_schedules.specs.Given.SeizeWordsDeclared.fault.Fault.{Fault}
 use Rattle.run_schedules.specs.Given.SeizeWordsWord.{block_in}
-use Rattle.play_lists.specs.Given.TablesDeclared.node.Node.{Node}
-use Rattle.play_lists.specs.Given.TablesDeclared.node.Node.TheVariants.{Pair}
+use Rattle.run_legal.specs.Given.TablesDeclared.node.Node.{Node}
+use Rattle.run_legal.specs.Given.TablesDeclared.node.Node.TheVariants.{Pair}
 use Rattle.run_schedules.specs.Given.RawDeclared.machines.answer.KeyAnswer.TheVariants as says
 use Rattle.run_schedules.specs.Given.RawDeclared.machines.progress.Answer.{Answer as Said}
 use Rattle.run_schedules.specs.Given.RawDeclared.machines.progress.Answer.TheVariants as said
@@ -30,16 +30,16 @@ use Rattle.run_schedules.specs.declared.call.OneKey.TheVariants as one_key
 use Rattle.run_schedules.specs.declared.call.Reply.{Reply}
 use Rattle.run_schedules.specs.declared.outcome.Outcome.{Outcome}
 use Rattle.run_schedules.specs.declared.outcome.Outcome.TheVariants.{Answered, Refused}
-use Rattle.play_lists.specs.Given.ScenesScene.{slot_of}
-use Rattle.play_lists.specs.Given.ActsLists.{nothing_done}
+use Rattle.run_legal.specs.Given.ScenesScene.{slot_of}
+use Rattle.play_linear.specs.Given.ActsLists.{nothing_done}
 use Rattle.run_legal.specs.Given.NamedSeen.{kind_of}
-use Rattle.play_lists.specs.Given.ScenesStepping.{has_ended}
+use Rattle.run_legal.specs.Given.ScenesStepping.{has_ended}
 use Rattle.run_schedules.specs.Given.SeizeWordsMem.{Mem, value_at}
-use Rattle.play_lists.specs.Given.ActsActs.{Wanted, Get, Insert, TryToInsert, Remove}
+use Rattle.threads_rule.specs.Given.ActsActs.{Wanted, Get, Insert, TryToInsert, Remove}
 use Rattle.run_schedules.specs.Deeds.Deeds.{Entry}
-use Rattle.play_lists.specs.Given.EffectsKnown.{Known}
-use Rattle.play_lists.specs.Played.Play.{State as Played, call_for, outcome_of}
-use Rattle.run_histories.specs.Histories.Events.{HasOutcome}
+use Rattle.run_legal.specs.Given.EffectsKnown.{Known}
+use Rattle.play_linear.specs.Given.PlayedPlay.{State as Played, call_for, outcome_of}
+use Rattle.run_legal.specs.Given.HistoriesEvents.{HasOutcome}
 use Rattle.play_moves.specs.OneHistory.Answered.{ByNewest, IfElse, IsItsEnd}
 use Rattle.play_moves.specs.OneHistory.Calls.{FoundNone, FoundValue, HasInserted, HasLooked, HasRefused, HasRemoved, HasTried, ItsCall}
 use Rattle.play_moves.specs.OneHistory.Lookups.{WasHad, WasSo}

@@ -4,18 +4,18 @@ use Rattle.std.specs.List.{AllByRecursion}
 use Rattle.std.proofs.Common.{ℕ, refl, sym, subst, ◌∙◌}
 use Rattle.threads_rule.specs.Given.SeizeSeatsState.{State}
 use Rattle.threads_rule.specs.Given.SeizeViewsDeclared.view.Fixed.{Fixed}
-use Rattle.play_lists.specs.Given.TablesDeclared.node.Node.{Node}
+use Rattle.run_legal.specs.Given.TablesDeclared.node.Node.{Node}
 use Rattle.threads_rule.specs.Views.Rule.{MapsWorld, Holds}
 use Rattle.threads_rule.specs.declared.view.View.{View}
 use Rattle.run_schedules.specs.Schedules.After.{AtEachEvent}
 use Rattle.run_schedules.specs.Schedules.Terms.{Terms, shards_of}
-use Rattle.play_lists.specs.Given.ActsDoings.{Doing, Does, BeginsReclaiming, BeginsClearing, StepsReclaiming, Chooses}
-use Rattle.play_lists.specs.Agrees.Fresh.{MakesNew}
-use Rattle.play_lists.specs.Agrees.Places.{AsksMaps}
+use Rattle.play_linear.specs.Given.ActsDoings.{Doing, Does, BeginsReclaiming, BeginsClearing, StepsReclaiming, Chooses}
+use Rattle.play_linear.specs.Given.AgreesFresh.{MakesNew}
+use Rattle.play_linear.specs.Given.AgreesPlaces.{AsksMaps}
 use Rattle.run_schedules.specs.Deeds.History.{IsProtected}
 use Rattle.play_linear.specs.Linear.Linear.{IsOfOwn}
-use Rattle.play_lists.specs.Played.Play.{State as Played, first_state}
-use Rattle.play_lists.proofs.Agrees.Coming.{once_is_new}
+use Rattle.play_linear.specs.Given.PlayedPlay.{State as Played, first_state}
+use Rattle.play_linear.proofs.Given.AgreesComing.{once_is_new}
 use Rattle.play_linear.proofs.Linear.Linear.{lists_are_linearizable}
 use Rattle.play_linear.proofs.Protects.Protected.{lists_are_protected}
 use Rattle.play_moves.proofs.Moves.Legal.{lists_keep_all}

@@ -1,14 +1,14 @@
 -- A lookup owes nothing, and so it is answered what the finite map of its map has for the key at a moment since it began.
 use Rattle.std.specs.Prelude.{◌+◌, ◌++◌, length, flat_map, Option, Some, None, if◌then◌else◌}
 use Rattle.std.proofs.Common.{◌≡◌, ℕ, Bool, true, false, List, [], ◌∷◌, inl, inr, refl, sym, subst, ap, ◌∙◌}
-use Rattle.run_histories.specs.Histories.Due.{HasPendingAnswer, RefinesPendingAnswers}
+use Rattle.run_legal.specs.Given.HistoriesDue.{HasPendingAnswer, RefinesPendingAnswers}
 use Rattle.run_legal.specs.Given.PointsFactsCalls.{Change, Unchanged, Stored as HasStored, Replaced as HasReplaced, Removed as HasRemoved}
 use Rattle.run_legal.specs.Given.CallersTogether.{UnderWay as UnderWayIn, OnKey, ForRoom, Counting, OverAll}
-use Rattle.play_lists.specs.Given.EffectsKnown.{Known}
-use Rattle.play_lists.specs.Given.FinishesMaps.{Standing}
-use Rattle.play_lists.specs.Given.FollowsCalls.{IsCalled}
+use Rattle.run_legal.specs.Given.EffectsKnown.{Known}
+use Rattle.run_legal.specs.Given.FinishesMaps.{Standing}
+use Rattle.run_legal.specs.Given.FollowsCalls.{IsCalled}
 use Rattle.run_schedules.specs.Runs.Same.{is_same}
-use Rattle.play_lists.specs.Given.ScenesScene.{Scene}
+use Rattle.run_legal.specs.Given.ScenesScene.{Scene}
 use Rattle.run_schedules.specs.declared.call.Response.{Response}
 use Rattle.run_schedules.specs.declared.call.Call.{Call}
 use Rattle.run_schedules.specs.declared.call.Call.TheVariants as calls
@@ -25,8 +25,8 @@ use Rattle.run_schedules.specs.Schedules.Transition.{Past, Transition, call_left
 use Rattle.run_schedules.specs.Schedules.Views.{call_of, finite_map}
 use Rattle.run_schedules.specs.Deeds.Deeds.{Entry, Steps, acted_on, moment, named}
 use Rattle.run_schedules.specs.Deeds.History.{IsLinearizable, moments_from, past, transition}
-use Rattle.play_lists.proofs.Given.FollowsCalls.{changed, changed_same, found, of_same}
-use Rattle.run_histories.proofs.Promises.Brief.Shown.{one_as as one_so}
+use Rattle.play_linear.proofs.Given.FollowsCalls.{changed, changed_same, found, of_same}
+use Rattle.run_legal.proofs.Given.PromisesBrief.Shown.{one_as as one_so}
 use Rattle.run_schedules.proofs.Given.General.{same_some}
 
 module _ {K V : Type 0} (same : K → K → Bool) (log : Past K V) (m : Moment K V) (known : Known) (s : Scene K V) (dues : RefinesPendingAnswers same named log m known s) where

@@ -2,9 +2,9 @@
 use Rattle.std.specs.Prelude.{◌==◌, suc, if◌then◌else◌}
 use Rattle.std.proofs.Common.{◌≡◌, ℕ, ◌<◌, Bool, true, false, List, [], ◌∷◌, refl, ap, ◌∙◌, arith}
 use Rattle.std.proofs.lemmas.Bool.{ne_eqb}
-use Rattle.play_lists.specs.Given.ActsActs.{BeginsMaking}
-use Rattle.play_lists.specs.Given.ActsDoings.{Doing, Does}
-use Rattle.play_lists.specs.Agrees.Fresh.{MakesOnce, is_made}
+use Rattle.threads_rule.specs.Given.ActsActs.{BeginsMaking}
+use Rattle.play_linear.specs.Given.ActsDoings.{Doing, Does}
+use Rattle.play_linear.specs.Given.AgreesFresh.{MakesOnce, is_made}
 use Rattle.threads_rule.specs.Views.Listed.{AreNumbered}
 
 module _ {K V S : Type 0} where

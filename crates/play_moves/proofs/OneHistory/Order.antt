@@ -2,7 +2,7 @@
 use Rattle.std.specs.Prelude.{◌≢◌, ◌==◌, ◌&&◌, ◌++◌, ◌⊎◌, Option, Some, if◌then◌else◌}
 use Rattle.std.proofs.Common.{◌≡◌, ℕ, Bool, true, false, List, [], ◌∷◌, inl, inr, refl, sym, subst, ap, ◌∙◌}
 use Rattle.std.proofs.lemmas.Bool.{cases_eq, ne_eqb}
-use Rattle.play_lists.specs.Given.TablesDeclared.node.Node.{Node}
+use Rattle.run_legal.specs.Given.TablesDeclared.node.Node.{Node}
 use Rattle.run_schedules.specs.Given.RawDeclared.machines.progress.Progress.{Progress}
 use Rattle.run_schedules.specs.Given.RawDeclared.machines.progress.Progress.TheVariants as progress
 use Rattle.threads_rule.specs.Views.Listed.{Called, has_progressed}
@@ -12,9 +12,9 @@ use Rattle.run_schedules.specs.declared.call.Response.{Response}
 use Rattle.run_schedules.specs.declared.call.Call.{Call}
 use Rattle.run_schedules.specs.Deeds.Deeds.{Deed, Entry, caller_of, moment}
 use Rattle.run_schedules.specs.Deeds.History.{answered, answers_of, is_of}
-use Rattle.play_lists.specs.Given.EffectsKnown.{Known}
+use Rattle.run_legal.specs.Given.EffectsKnown.{Known}
 use Rattle.run_legal.specs.Given.NamedSeen.{kind_of}
-use Rattle.play_lists.specs.Played.Play.{call_for, outcome_of}
+use Rattle.play_linear.specs.Given.PlayedPlay.{call_for, outcome_of}
 use Rattle.play_moves.specs.OneHistory.Answered.{ByNewest, IfElse}
 use Rattle.play_moves.specs.OneHistory.Order.{HaveGot, IsNewestAnswer, is_answer}
 

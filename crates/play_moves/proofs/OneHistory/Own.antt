@@ -3,8 +3,8 @@ use Rattle.std.specs.Prelude.{◌==◌, suc, if◌then◌else◌}
 use Rattle.std.specs.List.{AllByRecursion}
 use Rattle.std.proofs.Common.{◌≡◌, ℕ, ◌≤◌, Bool, List, [], ◌∷◌, refl, sym, ap, ◌∙◌, arith}
 use Rattle.std.proofs.lemmas.Bool.{eq-eqb, ne_eqb}
-use Rattle.play_lists.specs.Given.ActsActs.{BeginsMaking, BeginsRow}
-use Rattle.play_lists.specs.Given.ActsDoings.{Doing, Does}
+use Rattle.threads_rule.specs.Given.ActsActs.{BeginsMaking, BeginsRow}
+use Rattle.play_linear.specs.Given.ActsDoings.{Doing, Does}
 use Rattle.play_linear.specs.Linear.Linear.{IsOfOwn}
 use Rattle.threads_rule.specs.Views.Listed.{AreNumbered, IsItsOwn}
 

@@ -5,8 +5,8 @@ use Rattle.std.specs.List.{AllByRecursion}
 use Rattle.std.proofs.Common.{◌≡◌, ℕ, Bool, true, false, List, [], ◌∷◌, inl, inr, sym, subst}
 use Rattle.std.proofs.lemmas.Bool.{cases_eq, eq-eqb, ne_eqb}
 use Rattle.run_schedules.specs.Given.SeizeWordsWord.{block_in}
-use Rattle.play_lists.specs.Given.TablesDeclared.node.Node.{Node}
-use Rattle.play_lists.specs.Given.TablesDeclared.node.Node.TheVariants.{Pair}
+use Rattle.run_legal.specs.Given.TablesDeclared.node.Node.{Node}
+use Rattle.run_legal.specs.Given.TablesDeclared.node.Node.TheVariants.{Pair}
 use Rattle.run_schedules.specs.Given.RawDeclared.machines.answer.KeyAnswer.TheVariants.{Found}
 use Rattle.run_schedules.specs.Given.RawDeclared.machines.progress.Answer.TheVariants.{Key}
 use Rattle.run_schedules.specs.Given.RawDeclared.machines.progress.Progress.{Progress}
@@ -19,16 +19,16 @@ use Rattle.run_schedules.specs.declared.call.OneKey.{OneKey}
 use Rattle.run_schedules.specs.declared.call.OneKey.TheVariants.{Get}
 use Rattle.run_schedules.specs.declared.call.Reply.{Reply}
 use Rattle.run_schedules.specs.Given.SeizeWordsMem.{Mem, value_at}
-use Rattle.run_histories.specs.Histories.Events.{HasOutcome}
+use Rattle.run_legal.specs.Given.HistoriesEvents.{HasOutcome}
 use Rattle.run_schedules.specs.declared.outcome.Outcome.{Outcome}
 use Rattle.run_schedules.specs.declared.outcome.Outcome.TheVariants.{Answered}
-use Rattle.play_lists.specs.Given.ActsActs.{Wanted}
+use Rattle.threads_rule.specs.Given.ActsActs.{Wanted}
 use Rattle.run_schedules.specs.Deeds.Deeds.{Entry}
 use Rattle.run_schedules.specs.Deeds.History.{answers_of}
-use Rattle.play_lists.specs.Given.EffectsKnown.{Known}
+use Rattle.run_legal.specs.Given.EffectsKnown.{Known}
 use Rattle.run_legal.specs.Given.NamedSeen.{kind_of}
-use Rattle.play_lists.specs.Played.Play.{Calling, State, call_for, outcome_of}
-use Rattle.play_lists.specs.Given.ScenesStepping.{has_ended}
+use Rattle.play_linear.specs.Given.PlayedPlay.{Calling, State, call_for, outcome_of}
+use Rattle.run_legal.specs.Given.ScenesStepping.{has_ended}
 use Rattle.play_moves.specs.OneHistory.Answered.{ByNewest, IfElse, IsAnswered, IsItsEnd}
 use Rattle.play_moves.specs.OneHistory.Lookups.{IsLookedUp, WasHad, WasSo}
 use Rattle.play_moves.specs.OneHistory.Order.{HaveGot}

@@ -1,9 +1,9 @@
 -- The machine of a call that begins tells what is wanted, but for how that is answered, of which map, and in which slot.
 use Rattle.std.specs.Prelude.{Option, Some, None}
 use Rattle.std.proofs.Common.{◌≡◌, ℕ, Bool, refl, sym, ap, ◌∙◌}
-use Rattle.play_lists.specs.Given.TablesDeclared.node.Node.{Node}
-use Rattle.play_lists.specs.Given.TablesDeclared.node.Node.TheVariants as node
-use Rattle.play_lists.specs.Given.TablesDeclared.setting.Setting.{Setting}
+use Rattle.run_legal.specs.Given.TablesDeclared.node.Node.{Node}
+use Rattle.run_legal.specs.Given.TablesDeclared.node.Node.TheVariants as node
+use Rattle.run_legal.specs.Given.TablesDeclared.setting.Setting.{Setting}
 use Rattle.run_schedules.specs.Given.RawDeclared.machines.answer.There.{There}
 use Rattle.run_schedules.specs.Given.RawDeclared.machines.answer.There.TheVariants as there
 use Rattle.run_schedules.specs.Given.RawDeclared.machines.answer.Missing.{Missing}
@@ -17,7 +17,7 @@ use Rattle.run_schedules.specs.Given.RawDeclared.machines.machine.Machine.TheVar
 use Rattle.threads_rule.specs.Views.Begun.{machine_for}
 use Rattle.threads_rule.specs.Views.Listed.{plain}
 use Rattle.threads_rule.specs.declared.view.Map.{Map}
-use Rattle.play_lists.specs.Given.ActsActs.{Wanted, Get, Remove, Insert, TryToInsert, Compute, Update, UpdateOrInsert, TryToInsertWith, RemoveIf, MakeRoom, Count, GoOver}
+use Rattle.threads_rule.specs.Given.ActsActs.{Wanted, Get, Remove, Insert, TryToInsert, Compute, Update, UpdateOrInsert, TryToInsertWith, RemoveIf, MakeRoom, Count, GoOver}
 use Rattle.run_schedules.proofs.Given.General.{same_some}
 
 module _ {K V : Type 0} where

@@ -4,7 +4,7 @@ use Rattle.std.proofs.Common.{◌≡◌, ℕ, Bool, true, false, List, [], ◌�
 use Rattle.threads_rule.proofs.Views.Leaves.{section_place}
 use Rattle.run_schedules.proofs.Given.General.{same_some}
 use Rattle.threads_rule.specs.Given.SeizeViewsDeclared.view.Fixed.{Fixed}
-use Rattle.play_lists.specs.Given.TablesDeclared.node.Node.{Node}
+use Rattle.run_legal.specs.Given.TablesDeclared.node.Node.{Node}
 use Rattle.run_schedules.specs.Given.RawDeclared.machines.progress.Answer.{Answer as Said}
 use Rattle.run_schedules.specs.Given.RawDeclared.machines.progress.Answer.TheVariants as said
 use Rattle.run_schedules.specs.Given.RawDeclared.machines.progress.Progress.{Progress}
@@ -21,10 +21,10 @@ use Rattle.run_schedules.specs.declared.call.Response.TheVariants as answers
 use Rattle.run_schedules.specs.declared.outcome.Outcome.{Outcome}
 use Rattle.run_schedules.specs.declared.outcome.Outcome.TheVariants.{Answered}
 use Rattle.run_legal.specs.Given.NamedSeen.{kind_of}
-use Rattle.play_lists.specs.Given.ScenesStepping.{has_ended}
-use Rattle.play_lists.specs.Given.ActsActs.{Wanted, Count, GoOver, MakeRoom}
-use Rattle.play_lists.specs.Given.EffectsKnown.{Known}
-use Rattle.play_lists.specs.Played.Play.{State as Played, call_for, outcome_of}
+use Rattle.run_legal.specs.Given.ScenesStepping.{has_ended}
+use Rattle.threads_rule.specs.Given.ActsActs.{Wanted, Count, GoOver, MakeRoom}
+use Rattle.run_legal.specs.Given.EffectsKnown.{Known}
+use Rattle.play_linear.specs.Given.PlayedPlay.{State as Played, call_for, outcome_of}
 use Rattle.run_schedules.specs.Given.ReservesDeclared.sweep.Purpose.TheVariants.{Clears, Retains, Walks}
 use Rattle.run_schedules.specs.Deeds.Deeds.{Entry}
 use Rattle.run_schedules.specs.Deeds.History.{is_of}

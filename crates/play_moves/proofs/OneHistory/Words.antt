@@ -1,35 +1,35 @@
 -- What a step of a call has told has words: wherever a list of acts has led, the entry of the newest act comes to what that has told, if it was the step of a call.
 use Rattle.std.specs.Prelude.{◌++◌, Some}
 use Rattle.std.proofs.Common.{◌≡◌, ℕ, Bool, List, [], ◌∷◌, refl, sym, subst, ap, ◌∙◌}
-use Rattle.play_lists.specs.Given.TablesDeclared.node.Node.{Node}
+use Rattle.run_legal.specs.Given.TablesDeclared.node.Node.{Node}
 use Rattle.run_schedules.specs.Given.RawDeclared.machines.machine.Machine.{Machine}
 use Rattle.run_schedules.specs.Given.RawDeclared.machines.progress.Progress.{Progress}
 use Rattle.play_linear.proofs.Linear.Comes.{steps_come_so}
 use Rattle.play_linear.proofs.Linear.Heard.{IsHeard}
 use Rattle.play_linear.proofs.Linear.Holds.{Holds}
-use Rattle.run_histories.specs.Histories.InEvent.{HasOutcomeSo}
-use Rattle.play_lists.specs.Given.ValuesValues.{KeepsValue}
-use Rattle.play_lists.specs.Given.ScenesHeld.{Held, IsAt}
-use Rattle.play_lists.specs.Given.ScenesScene.{Scene, slot_of}
-use Rattle.play_lists.specs.Given.ScenesStepping.{StepLeads}
+use Rattle.run_legal.specs.Given.HistoriesInEvent.{HasOutcomeSo}
+use Rattle.play_linear.specs.Given.ValuesValues.{KeepsValue}
+use Rattle.run_legal.specs.Given.ScenesHeld.{Held, IsAt}
+use Rattle.run_legal.specs.Given.ScenesScene.{Scene, slot_of}
+use Rattle.run_legal.specs.Given.ScenesStepping.{StepLeads}
 use Rattle.run_schedules.specs.Schedules.Moment.{UnderWay}
 use Rattle.run_schedules.specs.Schedules.Views.{call_of}
 use Rattle.run_schedules.specs.declared.call.Call.{Call}
 use Rattle.run_schedules.specs.declared.outcome.Outcome.{Outcome}
-use Rattle.play_lists.specs.Given.EffectsDeclared.changed.Changed.TheVariants.{Nothing as NoChange}
-use Rattle.play_lists.specs.Given.ActsActs.{Act, Answer, Nothing, OfCall, BeginsCall, StepsCall, TellsCall, AsksCall, StopsCall, BeginsMaking, StepsMaking, BeginsEnding, StepsEnding, BeginsRow, StepsRow}
-use Rattle.play_lists.specs.Given.ActsAsSteps.{LeadsAs, changed_by, held_in}
-use Rattle.play_lists.specs.Given.ActsLeads.{Led}
+use Rattle.run_legal.specs.Given.EffectsDeclared.changed.Changed.TheVariants.{Nothing as NoChange}
+use Rattle.threads_rule.specs.Given.ActsActs.{Act, Answer, Nothing, OfCall, BeginsCall, StepsCall, TellsCall, AsksCall, StopsCall, BeginsMaking, StepsMaking, BeginsEnding, StepsEnding, BeginsRow, StepsRow}
+use Rattle.play_linear.specs.Given.ActsAsSteps.{LeadsAs, changed_by, held_in}
+use Rattle.play_linear.specs.Given.ActsLeads.{Led}
 use Rattle.run_schedules.specs.Deeds.Deeds.{Deed, Entry, Steps, moment, named}
-use Rattle.play_lists.specs.Given.EffectsEffects.{effects_of, known_after}
-use Rattle.play_lists.specs.Given.EffectsKnown.{Known}
-use Rattle.play_lists.specs.Given.EffectsDeclared.acting.Acting.TheVariants as acting
+use Rattle.run_legal.specs.Given.EffectsEffects.{effects_of, known_after}
+use Rattle.run_legal.specs.Given.EffectsKnown.{Known}
+use Rattle.run_legal.specs.Given.EffectsDeclared.acting.Acting.TheVariants as acting
 use Rattle.run_legal.specs.Given.NamedSeen.{kind_of}
-use Rattle.play_lists.specs.Played.Play.{State, call_stepped, is_refusal, outcome_of}
-use Rattle.play_lists.specs.Played.Reached.{IsOf}
+use Rattle.play_linear.specs.Given.PlayedPlay.{State, call_stepped, is_refusal, outcome_of}
+use Rattle.play_linear.specs.Given.PlayedReached.{IsOf}
 use Rattle.seize_acts.specs.Acts.Answers.{Grant}
-use Rattle.play_lists.proofs.Played.PlayedAs.{PlayedAs, ReclaimedAs}
-use Rattle.play_lists.proofs.Played.Tied.{CallTied, call_tied}
+use Rattle.play_linear.proofs.Given.PlayedPlayedAs.{PlayedAs, ReclaimedAs}
+use Rattle.play_linear.proofs.Given.PlayedTied.{CallTied, call_tied}
 use Rattle.run_schedules.proofs.Given.General.{same_some}
 
 -- the last of a list

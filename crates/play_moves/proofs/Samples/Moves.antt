@@ -2,10 +2,10 @@
 mod Own
 use Rattle.std.specs.Prelude.{◌≡◌, ℕ}
 use Rattle.std.proofs.Common.{refl, arith}
-use Rattle.play_lists.specs.Given.TablesDeclared.resize_mode.ResizeMode.{ResizeMode}
-use Rattle.play_lists.specs.Given.TablesDeclared.resize_mode.ResizeMode.TheVariants.{Blocking, Incremental}
-use Rattle.play_lists.specs.Given.ActsActs.{Act, BeginsMaking}
-use Rattle.play_lists.specs.Agrees.Places.{AsksPlaces}
+use Rattle.run_legal.specs.Given.TablesDeclared.resize_mode.ResizeMode.{ResizeMode}
+use Rattle.run_legal.specs.Given.TablesDeclared.resize_mode.ResizeMode.TheVariants.{Blocking, Incremental}
+use Rattle.threads_rule.specs.Given.ActsActs.{Act, BeginsMaking}
+use Rattle.play_linear.specs.Given.AgreesPlaces.{AsksPlaces}
 
 -- a making of a map, by caller 1, with number 7 and hasher 0
 abbrev makes : ResizeMode → ℕ → ℕ → Act ℕ ℕ ℕ

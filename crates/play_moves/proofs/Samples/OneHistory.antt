@@ -2,7 +2,7 @@
 use Rattle.std.specs.Prelude.{nat_eq}
 use Rattle.std.specs.Option.{is_none}
 use Rattle.std.proofs.Common.{◌≡◌, ℕ, false, List, [], ◌∷◌, inl, refl, sym, subst, ap, ◌∙◌, arith, Option, Some, None}
-use Rattle.play_lists.specs.Given.TablesDeclared.resize_mode.ResizeMode.TheVariants.{Incremental}
+use Rattle.run_legal.specs.Given.TablesDeclared.resize_mode.ResizeMode.TheVariants.{Incremental}
 use Rattle.run_schedules.specs.declared.call.Response.{Response}
 use Rattle.run_schedules.specs.declared.call.Response.TheVariants as answer
 use Rattle.run_schedules.specs.declared.call.Call.TheVariants.{On}
@@ -18,8 +18,8 @@ use Rattle.run_schedules.specs.Schedules.Views.{call_of, finite_map}
 use Rattle.run_schedules.specs.Deeds.Deeds.{Deed, Begins, Steps, Opens, MapComes, Entry, moment, named}
 use Rattle.run_schedules.specs.Deeds.History.{moments_from}
 use Rattle.play_moves.specs.OneHistory.Answered.{ByNewest, IsAnswered, IsItsEnd}
-use Rattle.play_lists.specs.Given.ActsActs.{Get as GetsKey}
-use Rattle.play_lists.specs.Given.EffectsKnown.{nothing_known}
+use Rattle.threads_rule.specs.Given.ActsActs.{Get as GetsKey}
+use Rattle.run_legal.specs.Given.EffectsKnown.{nothing_known}
 use Rattle.run_schedules.specs.Runs.Log.{pair_at}
 use Rattle.run_schedules.specs.Given.RawDeclared.machines.answer.KeyAnswer.TheVariants as says
 use Rattle.run_schedules.specs.Given.RawDeclared.machines.progress.Answer.TheVariants.{Key}

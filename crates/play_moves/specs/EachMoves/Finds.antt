@@ -1,6 +1,6 @@
 -- What is promised of an entry of a history: its effects find what they must. Those of rows, of makings, and of who reclaims all, do where all is in order as it comes.
 use Rattle.std.specs.Prelude.{List}
-use Rattle.play_lists.specs.Given.FindsWithin.{AllIsInOrder}
+use Rattle.run_legal.specs.Given.FindsWithin.{AllIsInOrder}
 use Rattle.run_schedules.specs.Schedules.Effects.{AtEachEffect}
 use Rattle.run_schedules.specs.Schedules.Terms.{Terms}
 use Rattle.run_schedules.specs.Deeds.Deeds.{Deed, Entry, Leaves, Makes, ReclaimsAll, Registers, Steps, Tends, moment}

@@ -3,13 +3,13 @@ use Rattle.std.specs.Prelude.{◌≡◌, ◌<◌, ◌^◌, ℕ, Bool, List, Some
 use Rattle.std.specs.List.{AllByRecursion}
 use Rattle.run_schedules.specs.Schedules.After.{AtEachEvent}
 use Rattle.run_schedules.specs.Schedules.Terms.{Terms, shards_of}
-use Rattle.play_lists.specs.Given.ScenesScene.{slot_of}
-use Rattle.play_lists.specs.Given.ActsDoings.{Doing}
-use Rattle.play_lists.specs.Given.ActsLists.{Course, LedTo, Reached}
-use Rattle.play_lists.specs.Agrees.Fresh.{MakesNew}
-use Rattle.play_lists.specs.Agrees.Places.{AsksMaps}
+use Rattle.run_legal.specs.Given.ScenesScene.{slot_of}
+use Rattle.play_linear.specs.Given.ActsDoings.{Doing}
+use Rattle.play_linear.specs.Given.ActsLists.{Course, LedTo, Reached}
+use Rattle.play_linear.specs.Given.AgreesFresh.{MakesNew}
+use Rattle.play_linear.specs.Given.AgreesPlaces.{AsksMaps}
 use Rattle.run_schedules.specs.Deeds.History.{MovesOn}
-use Rattle.play_lists.specs.Played.Play.{State, first_state, play_all}
+use Rattle.play_linear.specs.Given.PlayedPlay.{State, first_state, play_all}
 
 -- Keys have a hash by each hasher, and each map has one by its number.
 module _ {K S : Type 0} (V : Type 0) (same : K → K → Bool) (by_hasher : S → K → ℕ) (hash : ℕ → K → ℕ) (batch_size roots : ℕ) (terms : Terms) where

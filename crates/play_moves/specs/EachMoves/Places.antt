@@ -1,8 +1,8 @@
 -- With which places the makings are under way: each makes a first table for those that it was asked for.
 use Rattle.std.specs.Prelude.{◌≡◌, ℕ, Some}
-use Rattle.play_lists.specs.Given.FinishesMakings.{Beginning}
-use Rattle.play_lists.specs.Given.ScenesScene.{Scene}
-use Rattle.play_lists.specs.Agrees.Places.{ArePlaces}
+use Rattle.run_legal.specs.Given.FinishesMakings.{Beginning}
+use Rattle.run_legal.specs.Given.ScenesScene.{Scene}
+use Rattle.play_linear.specs.Given.AgreesPlaces.{ArePlaces}
 use Rattle.run_legal.specs.Given.NeedsFirsts.{AllMakingsOpen}
 
 -- Each making that is under way makes a first table for its places.

@@ -4,7 +4,7 @@ use Rattle.run_schedules.specs.Schedules.After.{AtEachEvent}
 use Rattle.run_schedules.specs.Schedules.Entry.{Entry}
 use Rattle.run_schedules.specs.Schedules.Terms.{Terms}
 use Rattle.run_legal.specs.Given.PointsSteps.{AreLawful}
-use Rattle.play_lists.specs.Grouped.ByActs.{IsByActs}
+use Rattle.play_linear.specs.Given.GroupedByActs.{IsByActs}
 use Rattle.play_moves.specs.Moves.Legal.{KeepsAll}
 
 module _ {K S : Type 0} (V : Type 0) (same : K → K → Bool) (by_hasher : S → K → ℕ) where

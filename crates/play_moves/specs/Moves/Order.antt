@@ -5,13 +5,13 @@ use Rattle.run_schedules.specs.Schedules.After.{AtEachEvent}
 use Rattle.run_schedules.specs.Schedules.Moment.{Moment, UnderWay as CallThere}
 use Rattle.run_schedules.specs.Schedules.Terms.{Terms}
 use Rattle.run_legal.specs.Given.CallersTogether.{UnderWay}
-use Rattle.play_lists.specs.Given.FinishesMachines.{machine_of}
-use Rattle.play_lists.specs.Given.FinishesMakings.{Beginning}
-use Rattle.play_lists.specs.Given.FindsWithin.{AllIsInOrder}
+use Rattle.run_legal.specs.Given.FinishesMachines.{machine_of}
+use Rattle.run_legal.specs.Given.FinishesMakings.{Beginning}
+use Rattle.run_legal.specs.Given.FindsWithin.{AllIsInOrder}
 use Rattle.run_legal.specs.Given.NamedMachines.{RefusedForRoom}
-use Rattle.play_lists.specs.Given.ScenesScene.{Scene}
+use Rattle.run_legal.specs.Given.ScenesScene.{Scene}
 use Rattle.run_schedules.specs.Deeds.Deeds.{Entry, moment, named}
-use Rattle.play_lists.specs.Agrees.Fresh.{AreNamed}
+use Rattle.play_linear.specs.Given.AgreesFresh.{AreNamed}
 use Rattle.play_linear.specs.Linear.Coming.{Comes}
 use Rattle.play_moves.specs.EachMoves.Parts.{DoesIts}
 use Rattle.play_moves.specs.EachMoves.Finds.{FindsIts}

@@ -1,6 +1,6 @@
 -- What the moment of a history shows of calls, in the scene to which a list of acts has led, by which the effects of their next steps find what they must.
 use Rattle.std.specs.Prelude.{◌≡◌, ℕ, Bool, List, [], ◌∷◌, Some}
-use Rattle.play_lists.specs.Given.TablesLengths.{entries_of}
+use Rattle.play_linear.specs.Given.TablesLengths.{entries_of}
 use Rattle.run_schedules.specs.Schedules.After.{AtEachEvent}
 use Rattle.run_schedules.specs.Schedules.Effects.{AtEachEffect}
 use Rattle.run_schedules.specs.Schedules.Growing.{Has}
@@ -10,17 +10,17 @@ use Rattle.run_schedules.specs.Schedules.Transition.{Past}
 use Rattle.run_schedules.specs.Schedules.Views.{map_at}
 use Rattle.run_schedules.specs.Runs.Present.{guard_of}
 use Rattle.run_legal.specs.Given.CallersTogether.{UnderWay, UnlessCounts}
-use Rattle.play_lists.specs.Given.EffectsKnown.{Known}
-use Rattle.play_lists.specs.Given.FinishesMakings.{Beginning}
-use Rattle.play_lists.specs.Given.FindsLife.{StoresOne}
-use Rattle.play_lists.specs.Given.FindsWithin.{AllIsInOrder}
+use Rattle.run_legal.specs.Given.EffectsKnown.{Known}
+use Rattle.run_legal.specs.Given.FinishesMakings.{Beginning}
+use Rattle.run_legal.specs.Given.FindsLife.{StoresOne}
+use Rattle.run_legal.specs.Given.FindsWithin.{AllIsInOrder}
 use Rattle.run_legal.specs.Given.GrowsFinding.{RefinesFinding}
 use Rattle.run_legal.specs.Given.GrowsNexts.{RefinesNexts}
 use Rattle.run_legal.specs.Given.GrowsTries.{RefinesTries}
-use Rattle.play_lists.specs.Given.ScenesScene.{Scene, slot_of}
+use Rattle.run_legal.specs.Given.ScenesScene.{Scene, slot_of}
 use Rattle.run_legal.specs.Given.SourcesSources.{RefinesSources}
-use Rattle.play_lists.specs.Agrees.Guards.{CallsHaveGuards, guard_on}
-use Rattle.play_lists.specs.Agrees.Shards.{ShardsAre}
+use Rattle.play_linear.specs.Given.AgreesGuards.{CallsHaveGuards, guard_on}
+use Rattle.play_linear.specs.Given.AgreesShards.{ShardsAre}
 use Rattle.run_schedules.specs.Deeds.Deeds.{Deed, Entry, Steps, moment, named}
 use Rattle.run_schedules.specs.Deeds.History.{past, transition}
 use Rattle.play_linear.specs.Swept.Shown.{HasSwept}

@@ -2,7 +2,7 @@
 use Rattle.std.specs.Prelude.{◌≡◌, ◌⊎◌, ◌<◌, ◌^◌, ◌++◌, ℕ, Bool, true, false, List, [], ◌∷◌, Option, Some}
 use Rattle.threads_rule.specs.Given.SeizeSeatsState.{State, view_of}
 use Rattle.threads_rule.specs.Given.SeizeViewsDeclared.view.Fixed.{Fixed}
-use Rattle.play_lists.specs.Given.TablesDeclared.node.Node.{Node}
+use Rattle.run_legal.specs.Given.TablesDeclared.node.Node.{Node}
 use Rattle.threads_rule.specs.Views.Begun.{machine_for}
 use Rattle.threads_rule.specs.Views.Listed.{plain}
 use Rattle.threads_rule.specs.Views.Rule.{MapsWorld, Holds, caller_at}
@@ -13,13 +13,13 @@ use Rattle.run_schedules.specs.Schedules.Moment.{UnderWay}
 use Rattle.run_schedules.specs.Schedules.Views.{call_of}
 use Rattle.run_schedules.specs.declared.call.Call.{Call}
 use Rattle.run_schedules.specs.declared.outcome.Outcome.{Outcome}
-use Rattle.play_lists.specs.Given.ActsActs.{Wanted}
+use Rattle.threads_rule.specs.Given.ActsActs.{Wanted}
 use Rattle.run_schedules.specs.Deeds.Deeds.{Entry, Steps, moment, named}
 use Rattle.run_schedules.specs.Deeds.History.{IsLinearizable, is_of}
-use Rattle.play_lists.specs.Given.EffectsKnown.{Known}
+use Rattle.run_legal.specs.Given.EffectsKnown.{Known}
 use Rattle.run_legal.specs.Given.NamedSeen.{kind_of}
-use Rattle.play_lists.specs.Played.Play.{State as Played, call_for, first_state, outcome_of, play_all}
-use Rattle.play_lists.specs.Given.ScenesStepping.{has_ended}
+use Rattle.play_linear.specs.Given.PlayedPlay.{State as Played, call_for, first_state, outcome_of, play_all}
+use Rattle.run_legal.specs.Given.ScenesStepping.{has_ended}
 
 -- one of two, by a test
 abbrev pub IfElse : Bool → Type 0 → Type 0 → Type 0

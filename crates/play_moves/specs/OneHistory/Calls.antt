@@ -3,7 +3,7 @@ use Rattle.std.specs.Prelude.{◌≡◌, ℕ, Bool, List, Option, Some, is_some,
 use Rattle.threads_rule.specs.Given.SeizeSeatsState.{State, view_of}
 use Rattle.threads_rule.specs.Given.SeizeViewsDeclared.view.Fixed.{Fixed}
 use Rattle.run_schedules.specs.Given.SeizeWordsDeclared.fault.Fault.{Fault}
-use Rattle.play_lists.specs.Given.TablesDeclared.node.Node.{Node}
+use Rattle.run_legal.specs.Given.TablesDeclared.node.Node.{Node}
 use Rattle.threads_rule.specs.Views.Rule.{MapsWorld, Holds, caller_at, acts_in}
 use Rattle.threads_rule.specs.declared.view.Map.{Map}
 use Rattle.threads_rule.specs.declared.view.View.{View}
@@ -13,10 +13,10 @@ use Rattle.run_schedules.specs.declared.call.Response.TheVariants as answers
 use Rattle.run_schedules.specs.declared.call.Call.TheVariants.{On}
 use Rattle.run_schedules.specs.declared.call.OneKey.TheVariants.{Insert, TryInsert, Remove}
 use Rattle.run_schedules.specs.declared.outcome.Outcome.TheVariants.{Answered, Refused}
-use Rattle.play_lists.specs.Given.ActsActs.{Wanted}
+use Rattle.threads_rule.specs.Given.ActsActs.{Wanted}
 use Rattle.run_schedules.specs.Deeds.Deeds.{Entry}
 use Rattle.run_schedules.specs.Deeds.History.{IsLinearizable, IsProtected}
-use Rattle.play_lists.specs.Played.Play.{State as Played, call_for, first_state, play_all}
+use Rattle.play_linear.specs.Given.PlayedPlay.{State as Played, call_for, first_state, play_all}
 use Rattle.play_moves.specs.OneHistory.Answered.{ByNewest, IsItsEnd}
 use Rattle.play_moves.specs.OneHistory.Lookups.{WasHad, WasSo}
 

@@ -3,15 +3,15 @@ use Rattle.std.specs.Prelude.{◌≡◌, ◌<◌, ◌^◌, ℕ, Bool, Some}
 use Rattle.std.specs.List.{AllByRecursion}
 use Rattle.threads_rule.specs.Given.SeizeSeatsState.{State}
 use Rattle.threads_rule.specs.Given.SeizeViewsDeclared.view.Fixed.{Fixed}
-use Rattle.play_lists.specs.Given.TablesDeclared.node.Node.{Node}
+use Rattle.run_legal.specs.Given.TablesDeclared.node.Node.{Node}
 use Rattle.threads_rule.specs.Views.Rule.{MapsWorld, Holds}
 use Rattle.threads_rule.specs.declared.view.View.{View}
 use Rattle.run_schedules.specs.Schedules.After.{AtEachEvent}
 use Rattle.run_schedules.specs.Schedules.Terms.{Terms, shards_of}
-use Rattle.play_lists.specs.Given.ActsDoings.{Doing, Does}
-use Rattle.play_lists.specs.Agrees.Places.{AsksMap}
+use Rattle.play_linear.specs.Given.ActsDoings.{Doing, Does}
+use Rattle.play_linear.specs.Given.AgreesPlaces.{AsksMap}
 use Rattle.run_schedules.specs.Deeds.History.{IsLinearizable, IsProtected}
-use Rattle.play_lists.specs.Played.Play.{State as Played, first_state, play_all}
+use Rattle.play_linear.specs.Given.PlayedPlay.{State as Played, first_state, play_all}
 use Rattle.play_moves.specs.Moves.Legal.{KeepsAll}
 
 -- a making is asked for with so many shards, and with such places

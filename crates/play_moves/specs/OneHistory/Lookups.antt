@@ -2,7 +2,7 @@
 use Rattle.std.specs.Prelude.{◌≡◌, ◌⊎◌, ◌<◌, ◌^◌, ◌++◌, ℕ, Bool, List, [], ◌∷◌, Some}
 use Rattle.threads_rule.specs.Given.SeizeSeatsState.{State, view_of}
 use Rattle.threads_rule.specs.Given.SeizeViewsDeclared.view.Fixed.{Fixed}
-use Rattle.play_lists.specs.Given.TablesDeclared.node.Node.{Node}
+use Rattle.run_legal.specs.Given.TablesDeclared.node.Node.{Node}
 use Rattle.run_schedules.specs.Given.RawDeclared.machines.answer.KeyAnswer.{KeyAnswer}
 use Rattle.run_schedules.specs.Given.RawDeclared.machines.answer.KeyAnswer.TheVariants.{Absent, Found}
 use Rattle.run_schedules.specs.Given.RawDeclared.machines.progress.Answer.TheVariants.{Key}
@@ -23,8 +23,8 @@ use Rattle.run_schedules.specs.declared.call.OneKey.TheVariants.{Get}
 use Rattle.run_schedules.specs.declared.outcome.Outcome.TheVariants.{Answered}
 use Rattle.run_schedules.specs.Deeds.Deeds.{Entry, Steps, moment, named}
 use Rattle.run_schedules.specs.Deeds.History.{moments_from}
-use Rattle.play_lists.specs.Played.Play.{State as Played, first_state, play_all}
-use Rattle.play_lists.specs.Given.ActsActs.{Get as GetsKey}
+use Rattle.play_linear.specs.Given.PlayedPlay.{State as Played, first_state, play_all}
+use Rattle.threads_rule.specs.Given.ActsActs.{Get as GetsKey}
 use Rattle.run_schedules.specs.Runs.Log.{pair_at}
 
 module _ {K V : Type 0} (same : K → K → Bool) where

@@ -2,7 +2,7 @@
 use Rattle.std.specs.Prelude.{◌≡◌, ◌==◌, ◌&&◌, ◌<◌, ◌^◌, ℕ, Bool, true, false, List, [], ◌∷◌, Option, Some}
 use Rattle.threads_rule.specs.Given.SeizeSeatsState.{State}
 use Rattle.threads_rule.specs.Given.SeizeViewsDeclared.view.Fixed.{Fixed}
-use Rattle.play_lists.specs.Given.TablesDeclared.node.Node.{Node}
+use Rattle.run_legal.specs.Given.TablesDeclared.node.Node.{Node}
 use Rattle.run_schedules.specs.Given.RawDeclared.machines.progress.Progress.{Progress}
 use Rattle.run_schedules.specs.Given.RawDeclared.machines.progress.Progress.TheVariants.{Done}
 use Rattle.threads_rule.specs.Views.Listed.{Called, calls_of}
@@ -12,9 +12,9 @@ use Rattle.run_schedules.specs.declared.call.Response.{Response}
 use Rattle.run_schedules.specs.declared.call.Call.{Call}
 use Rattle.run_schedules.specs.declared.outcome.Outcome.TheVariants.{Answered}
 use Rattle.run_schedules.specs.Deeds.History.{answers_of}
-use Rattle.play_lists.specs.Given.EffectsKnown.{Known}
+use Rattle.run_legal.specs.Given.EffectsKnown.{Known}
 use Rattle.run_legal.specs.Given.NamedSeen.{kind_of}
-use Rattle.play_lists.specs.Played.Play.{State as Played, call_for, first_state, outcome_of, play_all}
+use Rattle.play_linear.specs.Given.PlayedPlay.{State as Played, call_for, first_state, outcome_of, play_all}
 use Rattle.play_moves.specs.OneHistory.Answered.{IfElse}
 
 -- an answer was told

@@ -3,7 +3,7 @@ use Rattle.std.specs.Prelude.{◌≡◌, ℕ, Bool, List, Some}
 use Rattle.std.specs.List.{AllByRecursion}
 use Rattle.threads_rule.specs.Given.SeizeSeatsState.{State, view_of}
 use Rattle.threads_rule.specs.Given.SeizeViewsDeclared.view.Fixed.{Fixed}
-use Rattle.play_lists.specs.Given.TablesDeclared.node.Node.{Node}
+use Rattle.run_legal.specs.Given.TablesDeclared.node.Node.{Node}
 use Rattle.threads_rule.specs.Views.Rule.{MapsWorld, Holds, caller_at, acts_in}
 use Rattle.threads_rule.specs.declared.view.Map.{Map}
 use Rattle.threads_rule.specs.declared.view.View.{View}
@@ -16,7 +16,7 @@ use Rattle.run_schedules.specs.declared.call.Call.TheVariants.{Clear, Len, Reser
 use Rattle.run_schedules.specs.declared.outcome.Outcome.TheVariants.{Answered}
 use Rattle.run_schedules.specs.Deeds.Deeds.{Entry}
 use Rattle.run_schedules.specs.Deeds.History.{IsSwept}
-use Rattle.play_lists.specs.Played.Play.{State as Played, first_state, play_all}
+use Rattle.play_linear.specs.Given.PlayedPlay.{State as Played, first_state, play_all}
 use Rattle.play_moves.specs.Moves.Legal.{KeepsAll}
 use Rattle.play_moves.specs.OneHistory.Answered.{ByNewest, IsItsEnd}
 use Rattle.play_moves.specs.OneHistory.Calls.{ItsCall}

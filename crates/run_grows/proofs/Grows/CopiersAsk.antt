@@ -16,23 +16,23 @@ use Rattle.run_schedules.specs.Schedules.Lists.{OneOf}
 use Rattle.run_schedules.specs.Schedules.Moment.{UnderWay as CallThere, Moment}
 use Rattle.run_schedules.specs.Schedules.Terms.{Terms}
 use Rattle.run_schedules.specs.Schedules.Views.{call_of}
-use Rattle.run_executor.specs.Given.EffectsDeclared.changed.Changed.{Changed}
-use Rattle.run_executor.specs.Given.PointsFactsCalls.{IsCopying}
-use Rattle.run_executor.specs.Given.CallersOverAll.{CallOverAll}
-use Rattle.run_executor.specs.Given.CallersTogether.{CallOnKey, UnderWay, OnKey, ForRoom, Counting, OverAll}
-use Rattle.run_executor.specs.Given.EffectsKnown.{Known}
-use Rattle.run_executor.specs.Given.FinishesMachines.{machine_of}
-use Rattle.run_executor.specs.Given.FollowsCalls.{IsCalled}
-use Rattle.run_executor.proofs.Given.FollowsSteps.{WentTo, went_to}
-use Rattle.run_executor.specs.Given.MomentsWhole.{RefinesWhole}
-use Rattle.run_executor.proofs.Given.OthersOutcomes.{told_in}
+use Rattle.run_finds.specs.Given.EffectsDeclared.changed.Changed.{Changed}
+use Rattle.run_finds.specs.Given.PointsFactsCalls.{IsCopying}
+use Rattle.run_finds.specs.Given.CallersOverAll.{CallOverAll}
+use Rattle.run_finds.specs.Given.CallersTogether.{CallOnKey, UnderWay, OnKey, ForRoom, Counting, OverAll}
+use Rattle.run_finds.specs.Given.EffectsKnown.{Known}
+use Rattle.run_finds.specs.Given.FinishesMachines.{machine_of}
+use Rattle.run_finds.specs.Given.FollowsCalls.{IsCalled}
+use Rattle.run_finds.proofs.Given.FollowsSteps.{WentTo, went_to}
+use Rattle.run_finds.specs.Given.MomentsWhole.{RefinesWhole}
+use Rattle.run_finds.proofs.Given.OthersOutcomes.{told_in}
 use Rattle.run_kept.specs.Given.OwesMaking.{making_in_calling, making_in_sweeping}
 use Rattle.run_kept.proofs.Given.OwesWalks.{IsToOwn, call_makes, sweep_makes}
 use Rattle.run_grows.specs.Grows.Copiers.{copier_in_calling, making_of_copier, MakesByCopier, CopiersMayAsk}
 use Rattle.run_finds.proofs.Grows.Asked.{Asks, made_of, may_ask}
-use Rattle.run_executor.specs.Given.ScenesHeld.{Held, IsAt}
-use Rattle.run_executor.specs.Given.ScenesScene.{Scene}
-use Rattle.run_executor.specs.Given.ScenesStepping.{StepLeads, StepsFrom}
+use Rattle.run_finds.specs.Given.ScenesHeld.{Held, IsAt}
+use Rattle.run_finds.specs.Given.ScenesScene.{Scene}
+use Rattle.run_finds.specs.Given.ScenesStepping.{StepLeads, StepsFrom}
 
 -- a call that copies makes no block for a pair, and no table but its copier's
 

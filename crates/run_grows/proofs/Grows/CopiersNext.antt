@@ -6,11 +6,11 @@ use Rattle.std.proofs.lemmas.List.Elements.{filter-append}
 use Rattle.run_schedules.specs.Schedules.Growing.{HasNext}
 use Rattle.run_schedules.specs.Schedules.Moment.{Stage, TableThere, Moment}
 use Rattle.run_schedules.specs.Schedules.Views.{first_of, chain_of}
-use Rattle.run_executor.specs.Given.RuleChart.{Chart}
-use Rattle.run_executor.specs.Given.EffectsKnown.{Known}
-use Rattle.run_executor.specs.Given.FinishesMaps.{Standing}
-use Rattle.run_executor.specs.Given.FollowsMaps.{table_of, shape_at, tables_to, RefinesMap}
-use Rattle.run_executor.proofs.Given.FollowsFinds.{first_is}
+use Rattle.run_finds.specs.Given.RuleChart.{Chart}
+use Rattle.run_finds.specs.Given.EffectsKnown.{Known}
+use Rattle.run_finds.specs.Given.FinishesMaps.{Standing}
+use Rattle.run_finds.specs.Given.FollowsMaps.{table_of, shape_at, tables_to, RefinesMap}
+use Rattle.run_finds.proofs.Given.FollowsFinds.{first_is}
 
 -- Of so many tables of a map no more lie before a turn than that says.
 

@@ -18,32 +18,32 @@ use Rattle.run_schedules.specs.Schedules.Entry.{ends_call}
 use Rattle.run_schedules.specs.Schedules.Lists.{OneOf}
 use Rattle.run_schedules.specs.Schedules.Moment.{MapThere, Moment, UnderWay as CallThere}
 use Rattle.run_schedules.specs.Schedules.Views.{call_of, map_at}
-use Rattle.run_executor.specs.Given.CallersTogether.{UnderWay}
-use Rattle.run_executor.specs.Given.EffectsEffects.{effects_of}
-use Rattle.run_executor.specs.Given.EffectsKnown.{Known}
-use Rattle.run_executor.specs.Given.EffectsDeclared.acting.Acting.TheVariants as acts
-use Rattle.run_executor.specs.Given.FinishesMachines.{machine_of}
-use Rattle.run_executor.specs.Given.FinishesMaps.{Standing, with_call as with_in}
-use Rattle.run_executor.specs.Given.FollowsCalling.{NoneNamed, come_to, told}
-use Rattle.run_executor.specs.Given.FollowsCalls.{RefinesCalls as IsThere}
-use Rattle.run_executor.proofs.Given.FollowsCalling.{apart_back, come, come_of_same, found_kept, replied_same}
-use Rattle.run_executor.proofs.Given.FollowsCalls.{found}
-use Rattle.run_executor.proofs.Given.FollowsSteps.{WentTo, went_to}
-use Rattle.run_executor.proofs.Given.HandsAsking.{which}
-use Rattle.run_executor.proofs.Given.HandsCalling.{caller_is}
-use Rattle.run_executor.specs.Given.OthersWalks.{given_up}
-use Rattle.run_executor.specs.Given.MomentsWhole.{RefinesWhole}
-use Rattle.run_executor.proofs.Given.ChangesBegun.{comes_begun, effects_begun, if_begun, replied_begun}
-use Rattle.run_executor.proofs.Given.ChangesLogs.{grows, now_there}
+use Rattle.run_finds.specs.Given.CallersTogether.{UnderWay}
+use Rattle.run_finds.specs.Given.EffectsEffects.{effects_of}
+use Rattle.run_finds.specs.Given.EffectsKnown.{Known}
+use Rattle.run_finds.specs.Given.EffectsDeclared.acting.Acting.TheVariants as acts
+use Rattle.run_finds.specs.Given.FinishesMachines.{machine_of}
+use Rattle.run_finds.specs.Given.FinishesMaps.{Standing, with_call as with_in}
+use Rattle.run_finds.specs.Given.FollowsCalling.{NoneNamed, come_to, told}
+use Rattle.run_finds.specs.Given.FollowsCalls.{RefinesCalls as IsThere}
+use Rattle.run_finds.proofs.Given.FollowsCalling.{apart_back, come, come_of_same, found_kept, replied_same}
+use Rattle.run_finds.proofs.Given.FollowsCalls.{found}
+use Rattle.run_finds.proofs.Given.FollowsSteps.{WentTo, went_to}
+use Rattle.run_finds.proofs.Given.HandsAsking.{which}
+use Rattle.run_finds.proofs.Given.HandsCalling.{caller_is}
+use Rattle.run_finds.specs.Given.OthersWalks.{given_up}
+use Rattle.run_finds.specs.Given.MomentsWhole.{RefinesWhole}
+use Rattle.run_finds.proofs.Given.ChangesBegun.{comes_begun, effects_begun, if_begun, replied_begun}
+use Rattle.run_finds.proofs.Given.ChangesLogs.{grows, now_there}
 use Rattle.run_grows.proofs.Grows.Finding.Between.{fewer_calls}
-use Rattle.run_executor.proofs.Given.ScenesMay.{standing_is}
-use Rattle.run_executor.specs.Given.ScenesHeld.{Held, IsAt}
-use Rattle.run_executor.specs.Given.ScenesReplying.{scene_with, unless_stopped}
-use Rattle.run_executor.specs.Given.ScenesScene.{Scene}
-use Rattle.run_executor.specs.Given.ScenesStepping.{StepLeads, scene_after}
+use Rattle.run_kept.proofs.Given.ScenesMay.{standing_is}
+use Rattle.run_finds.specs.Given.ScenesHeld.{Held, IsAt}
+use Rattle.run_finds.specs.Given.ScenesReplying.{scene_with, unless_stopped}
+use Rattle.run_finds.specs.Given.ScenesScene.{Scene}
+use Rattle.run_finds.specs.Given.ScenesStepping.{StepLeads, scene_after}
 use Rattle.run_schedules.specs.Schedules.Transition.{Past, further}
-use Rattle.run_executor.specs.Given.ChangesHistories.{IsPast}
-use Rattle.run_executor.proofs.Given.General.{same_some as one_of}
+use Rattle.run_finds.specs.Given.ChangesHistories.{IsPast}
+use Rattle.run_finds.proofs.Given.General.{same_some as one_of}
 use Rattle.run_finds.proofs.Given.SettlesCalls.{goes_as_one}
 
 -- pairs are where they were

@@ -1,13 +1,13 @@
 -- What a call knows of the table behind which its row, which has not begun, is to put a pair: it comes just before the one in which that lies.
 use Rattle.std.specs.Prelude.{◌≡◌, ℕ, ◌+◌, ◌<◌, Bool, true, Option, Some}
 use Rattle.std.proofs.Common.{refl, ap, sym, subst, ◌∙◌, inl, inr, arith}
-use Rattle.run_executor.specs.Given.SeizeWordsDeclared.at.At.{At}
-use Rattle.run_executor.specs.Given.SeizeWordsDeclared.at.At.TheVariants.{Word}
-use Rattle.run_executor.specs.Given.SeizeFurther.{IsWordOf}
-use Rattle.run_executor.specs.Given.SeizeWorld.{World, Rests}
-use Rattle.run_executor.specs.Given.SeizeDeclared.rows.defer.Defer.{Defer}
-use Rattle.run_executor.specs.Given.SeizeDeclared.rows.defer.Deferring.{Deferring}
-use Rattle.run_executor.specs.Given.SeizeDeclared.rows.defer.Deferring.TheVariants as deferring
+use Rattle.run_finds.specs.Given.SeizeWordsDeclared.at.At.{At}
+use Rattle.run_finds.specs.Given.SeizeWordsDeclared.at.At.TheVariants.{Word}
+use Rattle.run_finds.specs.Given.SeizeFurther.{IsWordOf}
+use Rattle.run_finds.specs.Given.SeizeWorld.{World, Rests}
+use Rattle.run_finds.specs.Given.SeizeDeclared.rows.defer.Defer.{Defer}
+use Rattle.run_finds.specs.Given.SeizeDeclared.rows.defer.Deferring.{Deferring}
+use Rattle.run_finds.specs.Given.SeizeDeclared.rows.defer.Deferring.TheVariants as deferring
 use Rattle.run_finds.specs.Given.TablesDeclared.node.Node.{Node}
 use Rattle.run_finds.specs.Given.TablesDeclared.setting.Setting.{Setting}
 use Rattle.run_finds.specs.Given.TablesDeclared.table.Table.{Table}
@@ -17,23 +17,23 @@ use Rattle.run_finds.specs.Given.ResizeDeclared.copier.Copying.TheVariants as co
 use Rattle.run_finds.specs.Given.ResizeDeclared.dispose.Dispose.{Dispose}
 use Rattle.run_finds.specs.Given.ResizeDeclared.dispose.Disposing.{Disposing}
 use Rattle.run_finds.specs.Given.ResizeDeclared.dispose.Disposing.TheVariants as disposing
-use Rattle.run_executor.specs.Given.ReservesDeclared.reserve.Reserving.{Reserving}
-use Rattle.run_executor.specs.Given.ReservesDeclared.reserve.Reserving.TheVariants as reserving
-use Rattle.run_executor.specs.Given.ReservesDeclared.sweep.Sweep.{Sweep}
-use Rattle.run_executor.specs.Given.ReservesDeclared.sweep.Sweeping.{Sweeping}
-use Rattle.run_executor.specs.Given.ReservesDeclared.sweep.Sweeping.TheVariants as sweeping
-use Rattle.run_executor.specs.Given.RawDeclared.machines.call.Calling.{Calling}
-use Rattle.run_executor.specs.Given.RawDeclared.machines.call.Calling.TheVariants as calling
-use Rattle.run_executor.specs.Given.RawDeclared.machines.call.KeyCall.{KeyCall}
-use Rattle.run_executor.specs.Given.RuleChart.{Chart}
-use Rattle.run_executor.specs.Given.RuleWords.{Blocks}
-use Rattle.run_executor.specs.Given.PointsFactsCalls.{CallingFacts}
-use Rattle.run_executor.specs.Given.PointsFactsDisposes.{DisposingFacts, DisposeFacts}
-use Rattle.run_executor.specs.Given.LateFactsSweeps.{SweepingFacts}
-use Rattle.run_executor.specs.Given.LateLateCalls.{SupersededCalling}
-use Rattle.run_executor.specs.Given.CallersOverAll.{CallOverAll, row_of_sweep}
-use Rattle.run_executor.specs.Given.CallersRows.{row_of_disposal, row_of}
-use Rattle.run_executor.specs.Given.CallersTogether.{CallOnKey, OnKey, OverAll, IsAtPoint, in_slot}
+use Rattle.run_finds.specs.Given.ReservesDeclared.reserve.Reserving.{Reserving}
+use Rattle.run_finds.specs.Given.ReservesDeclared.reserve.Reserving.TheVariants as reserving
+use Rattle.run_finds.specs.Given.ReservesDeclared.sweep.Sweep.{Sweep}
+use Rattle.run_finds.specs.Given.ReservesDeclared.sweep.Sweeping.{Sweeping}
+use Rattle.run_finds.specs.Given.ReservesDeclared.sweep.Sweeping.TheVariants as sweeping
+use Rattle.papaya_raw.specs.declared.machines.call.Calling.{Calling}
+use Rattle.papaya_raw.specs.declared.machines.call.Calling.TheVariants as calling
+use Rattle.papaya_raw.specs.declared.machines.call.KeyCall.{KeyCall}
+use Rattle.run_finds.specs.Given.RuleChart.{Chart}
+use Rattle.run_finds.specs.Given.RuleWords.{Blocks}
+use Rattle.run_finds.specs.Given.PointsFactsCalls.{CallingFacts}
+use Rattle.run_finds.specs.Given.PointsFactsDisposes.{DisposingFacts, DisposeFacts}
+use Rattle.run_finds.specs.Given.LateFactsSweeps.{SweepingFacts}
+use Rattle.run_finds.specs.Given.LateLateCalls.{SupersededCalling}
+use Rattle.run_finds.specs.Given.CallersOverAll.{CallOverAll, row_of_sweep}
+use Rattle.run_finds.specs.Given.CallersRows.{row_of_disposal, row_of}
+use Rattle.run_finds.specs.Given.CallersTogether.{CallOnKey, OnKey, OverAll, IsAtPoint, in_slot}
 use Rattle.run_finds.specs.Given.SettlesDue.{ToPut, due_in_defer, due_in_disposing, due_in_copying, due_in_calling, due_in_reserving, due_in_sweeping}
 use Rattle.run_finds.specs.Given.SettlesInHand.{pair_in_calling, pair_in_sweeping}
 use Rattle.run_finds.specs.Waits.{waits_in_disposing, waits_in_calling, waits_in_sweeping}

@@ -1,18 +1,18 @@
 -- Between the steps of calls, and as others take steps, each pair that a call has in hand lies as it lay.
 use Rattle.std.specs.Prelude.{◌≡◌, false, cond, find, Some, None}
 use Rattle.std.proofs.Common.{ap, sym, subst, ◌∙◌, inl, inr}
-use Rattle.run_executor.specs.Given.RunsSame.{is_same}
-use Rattle.run_executor.specs.Given.RawDeclared.machines.machine.Machine.{Machine}
-use Rattle.run_executor.specs.Given.SchedulesBeginning.{fresh_call, with_call}
-use Rattle.run_executor.specs.Given.SchedulesMoment.{UnderWay as CallThere}
-use Rattle.run_executor.specs.Given.SchedulesViews.{call_of}
-use Rattle.run_executor.specs.Given.CallersTogether.{UnderWay}
-use Rattle.run_executor.specs.Given.FinishesMachines.{machine_of}
-use Rattle.run_executor.proofs.Given.HandsAsking.{which}
+use Rattle.run_schedules.specs.Runs.Same.{is_same}
+use Rattle.papaya_raw.specs.declared.machines.machine.Machine.{Machine}
+use Rattle.run_schedules.specs.Schedules.Beginning.{fresh_call, with_call}
+use Rattle.run_schedules.specs.Schedules.Moment.{UnderWay as CallThere}
+use Rattle.run_schedules.specs.Schedules.Views.{call_of}
+use Rattle.run_finds.specs.Given.CallersTogether.{UnderWay}
+use Rattle.run_finds.specs.Given.FinishesMachines.{machine_of}
+use Rattle.run_finds.proofs.Given.HandsAsking.{which}
 use Rattle.run_finds.specs.Given.SettlesHand.{in_hand}
 use Rattle.run_finds.proofs.Given.SettlesHand.Roles.{hand_same}
 use Rattle.run_finds.specs.Waits.{waits_in, pair_in, IsHeldPast, PreservesPending, WaitsStay, WaitsFollowObligations, CallsBeginWaits}
-use Rattle.run_executor.proofs.Given.General.{same_some as one_of}
+use Rattle.run_finds.proofs.Given.General.{same_some as one_of}
 
 pub waits_stay : (K V : Type 0) → WaitsStay K V
 waits_stay K V name m v s t waits leaves keeps map i u is word some d d_is k owed =

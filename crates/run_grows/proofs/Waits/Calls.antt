@@ -1,43 +1,43 @@
 -- What follows of a step of a call, whichever it is, for a pair that the call has in hand then.
 use Rattle.std.specs.Prelude.{◌≡◌, ℕ, ◌≤◌, nat_lt, Bool, true, false, MatchBool, List, [], ◌∷◌, Option, Some, None}
 use Rattle.std.proofs.Common.{ap, sym, subst, ◌∙◌, arith}
-use Rattle.run_executor.specs.Given.SeizeWordsMem.{Mem, word_at, value_at}
-use Rattle.run_executor.specs.Given.SeizeWordsWord.{block_in}
-use Rattle.run_executor.specs.Given.SeizeWordsDeclared.at.At.TheVariants.{Root, Word}
-use Rattle.run_executor.specs.Given.SeizeWorld.{IsInside}
+use Rattle.run_finds.specs.Given.SeizeWordsMem.{Mem, word_at, value_at}
+use Rattle.run_finds.specs.Given.SeizeWordsWord.{block_in}
+use Rattle.run_finds.specs.Given.SeizeWordsDeclared.at.At.TheVariants.{Root, Word}
+use Rattle.run_finds.specs.Given.SeizeWorld.{IsInside}
 use Rattle.run_finds.specs.Given.TablesNodes.{table_seen}
 use Rattle.run_finds.specs.Given.TablesDeclared.node.Node.{Node}
 use Rattle.run_finds.specs.Given.TablesDeclared.setting.Setting.{Setting}
 use Rattle.run_finds.specs.Given.TablesDeclared.table.Table.{Table}
 use Rattle.papaya_raw.specs.Given.ResizeDispose.{disposing}
 use Rattle.run_finds.specs.Given.ResizeDeclared.dispose.Dispose.{Dispose}
-use Rattle.run_executor.specs.Given.RawDeclared.machines.progress.Progress.{Progress}
-use Rattle.run_executor.specs.Given.RunsDeclared.effect.Effect.{Effect}
-use Rattle.run_executor.specs.Given.RunsDeclared.effect.Thing.{Thing}
-use Rattle.run_executor.specs.Given.RunsDeclared.effect.Thing.TheVariants.{APair}
-use Rattle.run_executor.specs.Given.SchedulesEffects.{with_effects, AtEachEffect}
-use Rattle.run_executor.specs.Given.SchedulesLives.{IsPast}
-use Rattle.run_executor.specs.Given.SchedulesMoment.{UnderWay as CallThere, Moment}
-use Rattle.run_executor.specs.Given.SchedulesViews.{call_of, first_of}
-use Rattle.run_executor.specs.Given.EffectsDeclared.changed.Changed.{Changed}
-use Rattle.run_executor.specs.Given.EffectsDeclared.changed.Changed.TheVariants as changed
-use Rattle.run_executor.specs.Given.RuleMaps.{IsTable}
-use Rattle.run_executor.specs.Given.RuleWords.{Blocks}
-use Rattle.run_executor.specs.Given.PointsFactsDisposes.{DisposeFacts}
-use Rattle.run_executor.specs.Given.CallersSights.{seen_by}
-use Rattle.run_executor.specs.Given.CallersTogether.{UnderWay, in_slot}
-use Rattle.run_executor.specs.Given.EffectsEffects.{effects_of}
-use Rattle.run_executor.specs.Given.EffectsKnown.{Known}
-use Rattle.run_executor.specs.Given.EffectsDeclared.acting.Acting.TheVariants as acts
-use Rattle.run_executor.specs.Given.FinishesMachines.{machine_of}
-use Rattle.run_executor.specs.Given.FinishesMaps.{Standing}
-use Rattle.run_executor.specs.Given.FollowsCalls.{IsCalled}
-use Rattle.run_executor.specs.Given.FollowsFinds.{FindsMap}
-use Rattle.run_executor.specs.Given.FollowsShows.{Refines}
-use Rattle.run_executor.proofs.Given.FollowsFinds.{first_is}
-use Rattle.run_executor.proofs.Given.FollowsOperations.{Operated}
-use Rattle.run_executor.proofs.Given.FollowsSteps.{WentTo, went_to, made_so, OfNoRow}
-use Rattle.run_executor.specs.Given.MomentsWhole.{RefinesWhole}
+use Rattle.papaya_raw.specs.declared.machines.progress.Progress.{Progress}
+use Rattle.run_schedules.specs.declared.effect.Effect.{Effect}
+use Rattle.run_schedules.specs.declared.effect.Thing.{Thing}
+use Rattle.run_schedules.specs.declared.effect.Thing.TheVariants.{APair}
+use Rattle.run_schedules.specs.Schedules.Effects.{with_effects, AtEachEffect}
+use Rattle.run_schedules.specs.Schedules.Lives.{IsPast}
+use Rattle.run_schedules.specs.Schedules.Moment.{UnderWay as CallThere, Moment}
+use Rattle.run_schedules.specs.Schedules.Views.{call_of, first_of}
+use Rattle.run_finds.specs.Given.EffectsDeclared.changed.Changed.{Changed}
+use Rattle.run_finds.specs.Given.EffectsDeclared.changed.Changed.TheVariants as changed
+use Rattle.run_finds.specs.Given.RuleMaps.{IsTable}
+use Rattle.run_finds.specs.Given.RuleWords.{Blocks}
+use Rattle.run_finds.specs.Given.PointsFactsDisposes.{DisposeFacts}
+use Rattle.run_finds.specs.Given.CallersSights.{seen_by}
+use Rattle.run_finds.specs.Given.CallersTogether.{UnderWay, in_slot}
+use Rattle.run_finds.specs.Given.EffectsEffects.{effects_of}
+use Rattle.run_finds.specs.Given.EffectsKnown.{Known}
+use Rattle.run_finds.specs.Given.EffectsDeclared.acting.Acting.TheVariants as acts
+use Rattle.run_finds.specs.Given.FinishesMachines.{machine_of}
+use Rattle.run_finds.specs.Given.FinishesMaps.{Standing}
+use Rattle.run_finds.specs.Given.FollowsCalls.{IsCalled}
+use Rattle.run_finds.specs.Given.FollowsFinds.{FindsMap}
+use Rattle.run_finds.specs.Given.FollowsShows.{Refines}
+use Rattle.run_finds.proofs.Given.FollowsFinds.{first_is}
+use Rattle.run_finds.proofs.Given.FollowsOperations.{Operated}
+use Rattle.run_finds.proofs.Given.FollowsSteps.{WentTo, went_to, made_so, OfNoRow}
+use Rattle.run_finds.specs.Given.MomentsWhole.{RefinesWhole}
 use Rattle.run_finds.specs.Given.SettlesDue.{OwnAreMade}
 use Rattle.run_finds.specs.Given.SettlesEntries.{EntriesAreBlank}
 use Rattle.run_finds.specs.Given.SettlesHand.{in_hand, RefinesObligations}
@@ -57,9 +57,9 @@ use Rattle.run_grows.proofs.Waits.Held.{calls_leave_held, taken_held}
 use Rattle.run_finds.proofs.Waits.New.{new_lies}
 use Rattle.run_finds.proofs.Waits.Owes.{OwedBefore, owed_before, row_takes}
 use Rattle.run_finds.proofs.Waits.Taken.{TookPair, is_map}
-use Rattle.run_executor.specs.Given.ScenesHeld.{Held, IsAt}
-use Rattle.run_executor.specs.Given.ScenesScene.{Scene, slot_of}
-use Rattle.run_executor.specs.Given.ScenesStepping.{StepLeads}
+use Rattle.run_finds.specs.Given.ScenesHeld.{Held, IsAt}
+use Rattle.run_finds.specs.Given.ScenesScene.{Scene, slot_of}
+use Rattle.run_finds.specs.Given.ScenesStepping.{StepLeads}
 
 -- one that lies no further on than the root is past it
 past_of : (born lies first : ℕ) → lies ≤ first → IsPast born lies first

@@ -2,34 +2,34 @@
 use Rattle.std.specs.Prelude.{◌≡◌, ℕ, ◌≤◌, ◌==◌, nat_lt, Option, Some, None}
 use Rattle.std.proofs.Common.{refl, ap, sym, subst, ◌∙◌, inl, inr}
 use Rattle.std.proofs.lemmas.Bool.{ltb-false}
-use Rattle.run_executor.proofs.Given.SeizeWordsPlans.{ends_if}
-use Rattle.run_executor.specs.Given.SeizeWordsMem.{Mem, word_at, value_at}
-use Rattle.run_executor.specs.Given.SeizeWordsOp.{Out, Load, Found}
-use Rattle.run_executor.specs.Given.SeizeWordsPlan.{Ends}
-use Rattle.run_executor.specs.Given.SeizeWordsWord.{block_in}
-use Rattle.run_executor.specs.Given.SeizeWordsDeclared.at.At.TheVariants.{Root}
-use Rattle.run_executor.specs.Given.SeizeSettle.{settle_plan}
-use Rattle.run_executor.specs.Given.SeizeDefer.{defer_plan}
-use Rattle.run_executor.specs.Given.SeizeDeclared.advance.Advance.{Advance}
-use Rattle.run_executor.specs.Given.SeizeDeclared.advance.Advance.TheVariants as progress
-use Rattle.run_executor.specs.Given.SeizeDeclared.rows.defer.Defer.{Defer}
-use Rattle.run_executor.specs.Given.SeizeDeclared.rows.settle.Settle.{Settle}
-use Rattle.run_executor.specs.Given.SeizeDeclared.rows.settle.Settled.{Settled}
-use Rattle.run_executor.specs.Given.SeizeDeclared.rows.settle.Settled.TheVariants as settled
+use Rattle.run_finds.proofs.Given.SeizeWordsPlans.{ends_if}
+use Rattle.run_finds.specs.Given.SeizeWordsMem.{Mem, word_at, value_at}
+use Rattle.run_finds.specs.Given.SeizeWordsOp.{Out, Load, Found}
+use Rattle.run_finds.specs.Given.SeizeWordsPlan.{Ends}
+use Rattle.run_finds.specs.Given.SeizeWordsWord.{block_in}
+use Rattle.run_finds.specs.Given.SeizeWordsDeclared.at.At.TheVariants.{Root}
+use Rattle.run_finds.specs.Given.SeizeSettle.{settle_plan}
+use Rattle.papaya_raw.specs.Given.SeizeDefer.{defer_plan}
+use Rattle.run_finds.specs.Given.SeizeDeclared.advance.Advance.{Advance}
+use Rattle.run_finds.specs.Given.SeizeDeclared.advance.Advance.TheVariants as progress
+use Rattle.run_finds.specs.Given.SeizeDeclared.rows.defer.Defer.{Defer}
+use Rattle.run_finds.specs.Given.SeizeDeclared.rows.settle.Settle.{Settle}
+use Rattle.run_finds.specs.Given.SeizeDeclared.rows.settle.Settled.{Settled}
+use Rattle.run_finds.specs.Given.SeizeDeclared.rows.settle.Settled.TheVariants as settled
 use Rattle.run_finds.specs.Given.TablesNodes.{deferred_word, table_seen}
 use Rattle.run_finds.specs.Given.TablesDeclared.node.Node.{Node}
 use Rattle.papaya_raw.specs.Given.ResizeDispose as disposes
 use Rattle.run_finds.specs.Given.ResizeDeclared.dispose.Dispose.{Dispose}
 use Rattle.run_finds.specs.Given.ResizeDeclared.dispose.Disposing.{Disposing}
 use Rattle.run_finds.specs.Given.ResizeDeclared.dispose.Disposing.TheVariants as at
-use Rattle.run_executor.specs.Given.PointsTold.{IsRowOf}
-use Rattle.run_executor.proofs.Given.RuleKeys.Always.{Always, AlwaysOf, always_if, always_plan_as, always_steps}
-use Rattle.run_executor.specs.Given.TellerTells.{StepsObserved, ObservedAs}
-use Rattle.run_executor.specs.Given.EffectsDeclared.changed.Changed.{Changed}
-use Rattle.run_executor.specs.Given.EffectsDeclared.changed.Changed.TheVariants as changed
+use Rattle.run_finds.specs.Given.PointsTold.{IsRowOf}
+use Rattle.run_finds.proofs.Given.RuleKeys.Always.{Always, AlwaysOf, always_if, always_plan_as, always_steps}
+use Rattle.run_finds.specs.Given.TellerTells.{StepsObserved, ObservedAs}
+use Rattle.run_finds.specs.Given.EffectsDeclared.changed.Changed.{Changed}
+use Rattle.run_finds.specs.Given.EffectsDeclared.changed.Changed.TheVariants as changed
 use Rattle.run_finds.specs.Given.SettlesInHand.{pair_in_disposing}
 use Rattle.run_finds.specs.Waits.{waits_in_disposing, waits_of}
-use Rattle.run_executor.proofs.Given.ScenesTold.{as_step}
+use Rattle.run_finds.proofs.Given.ScenesTold.{as_step}
 
 module _ {K V : Type 0} (d : Dispose) (m m2 : Mem (Node K V)) (told : Changed) where
   -- it has the pair in hand, unless in a row

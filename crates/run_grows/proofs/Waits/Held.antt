@@ -2,25 +2,25 @@
 use Rattle.std.specs.Prelude.{◌≡◌, ℕ, ◌<◌, ◌≤◌, false, List, [], ◌∷◌, length, Option, Some, None}
 use Rattle.std.proofs.Common.{refl, ap, sym, subst, ◌∙◌, arith, inl, inr}
 use Rattle.std.proofs.lemmas.Bool.{cases_eq}
-use Rattle.run_executor.specs.Given.RunsDeclared.effect.Effect.{Effect}
-use Rattle.run_executor.specs.Given.RunsDeclared.effect.Effect.TheVariants.{Deferred, Stored, Replaced, Removed}
-use Rattle.run_executor.specs.Given.RunsDeclared.effect.Spot.{Spot}
-use Rattle.run_executor.specs.Given.RunsDeclared.effect.TableId.{TableId}
-use Rattle.run_executor.specs.Given.SchedulesEffects.{with_effect, with_effects, AtEachEffect}
-use Rattle.run_executor.specs.Given.SchedulesLives.{IsPast}
-use Rattle.run_executor.specs.Given.SchedulesMoment.{Behind, Out, Moment}
-use Rattle.run_executor.specs.Given.SchedulesViews.{is_in_a_map, first_of, map_at, grows_in_chunks}
-use Rattle.run_executor.specs.Given.FollowsFinds.{FindsMap}
-use Rattle.run_executor.proofs.Given.FollowsAlike.{put_here, put_elsewhere}
-use Rattle.run_executor.specs.Given.SpotsDeferred.{FindsNumbers}
-use Rattle.run_executor.proofs.Given.SpotsEffects.{aside_all}
-use Rattle.run_executor.proofs.Given.SpotsElsewhere.{stored_grows}
+use Rattle.run_schedules.specs.declared.effect.Effect.{Effect}
+use Rattle.run_schedules.specs.declared.effect.Effect.TheVariants.{Deferred, Stored, Replaced, Removed}
+use Rattle.run_schedules.specs.declared.effect.Spot.{Spot}
+use Rattle.run_schedules.specs.declared.effect.TableId.{TableId}
+use Rattle.run_schedules.specs.Schedules.Effects.{with_effect, with_effects, AtEachEffect}
+use Rattle.run_schedules.specs.Schedules.Lives.{IsPast}
+use Rattle.run_schedules.specs.Schedules.Moment.{Behind, Out, Moment}
+use Rattle.run_schedules.specs.Schedules.Views.{is_in_a_map, first_of, map_at, grows_in_chunks}
+use Rattle.run_finds.specs.Given.FollowsFinds.{FindsMap}
+use Rattle.run_finds.proofs.Given.FollowsAlike.{put_here, put_elsewhere}
+use Rattle.run_finds.specs.Given.SpotsDeferred.{FindsNumbers}
+use Rattle.run_finds.proofs.Given.SpotsEffects.{aside_all}
+use Rattle.run_finds.proofs.Given.SpotsElsewhere.{stored_grows}
 use Rattle.run_finds.specs.Given.SettlesInHand.{TakesPair}
 use Rattle.run_finds.specs.Past.{HasLeftMaps, FindsOnward}
 use Rattle.run_finds.specs.Waits.{LiesFor, IsHeldPast, LeavesHeld}
 use Rattle.run_finds.proofs.Capacities.{effect_leaves}
 use Rattle.run_finds.proofs.Past.{past_on, kept, goes_on, left_still}
-use Rattle.run_executor.proofs.Given.General.{at_most_itself as itself}
+use Rattle.run_finds.proofs.Given.General.{at_most_itself as itself}
 
 module _ {K V : Type 0} (map : ℕ) (m v : Moment K V) (k : ℕ) where
   -- a pair that was stored, and lies, where it did, before a root that has not gone back

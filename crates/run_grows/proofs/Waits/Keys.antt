@@ -1,15 +1,15 @@
 -- A step of a call on one key: which pair it has in hand then, by where it stood.
 use Rattle.std.specs.Prelude.{◌≡◌, ℕ, ◌==◌, Bool, true, false, Option, Some, None, Ok, Err, ◌≤◌, if◌then◌else◌}
 use Rattle.std.proofs.Common.{refl, ap, sym, subst, ◌∙◌}
-use Rattle.run_executor.specs.Given.SeizeWordsMem.{Mem, value_at, word_at}
-use Rattle.run_executor.specs.Given.SeizeWordsOp.{Out, Exchange, Found, Exchanged, Made, Taken}
-use Rattle.run_executor.specs.Given.SeizeWordsPlan.{Now, Seeing, Ends}
-use Rattle.run_executor.specs.Given.SeizeWordsWord.{block_in}
-use Rattle.run_executor.specs.Given.SeizeWordsDeclared.at.At.TheVariants.{Root}
-use Rattle.run_executor.specs.Given.SeizeDeclared.advance.Advance.{Advance}
-use Rattle.run_executor.specs.Given.SeizeDeclared.advance.Advance.TheVariants as progress
-use Rattle.run_executor.specs.Given.SeizeDeclared.rows.settle.Settled.{Settled}
-use Rattle.run_executor.specs.Given.SeizeDeclared.rows.settle.Settled.TheVariants as settling
+use Rattle.run_finds.specs.Given.SeizeWordsMem.{Mem, value_at, word_at}
+use Rattle.run_finds.specs.Given.SeizeWordsOp.{Out, Exchange, Found, Exchanged, Made, Taken}
+use Rattle.run_finds.specs.Given.SeizeWordsPlan.{Now, Seeing, Ends}
+use Rattle.run_finds.specs.Given.SeizeWordsWord.{block_in}
+use Rattle.run_finds.specs.Given.SeizeWordsDeclared.at.At.TheVariants.{Root}
+use Rattle.run_finds.specs.Given.SeizeDeclared.advance.Advance.{Advance}
+use Rattle.run_finds.specs.Given.SeizeDeclared.advance.Advance.TheVariants as progress
+use Rattle.run_finds.specs.Given.SeizeDeclared.rows.settle.Settled.{Settled}
+use Rattle.run_finds.specs.Given.SeizeDeclared.rows.settle.Settled.TheVariants as settling
 use Rattle.run_finds.specs.Given.TablesChunks.{is_incremental}
 use Rattle.papaya_raw.specs.Given.TablesFinding.{may_name, finding}
 use Rattle.run_finds.specs.Given.TablesNodes.{table_seen}
@@ -33,39 +33,39 @@ use Rattle.run_finds.specs.Given.ResizeDeclared.lookup.Lookup.{Lookup}
 use Rattle.run_finds.specs.Given.ResizeDeclared.new_table.NewTable.{NewTable}
 use Rattle.run_finds.specs.Given.ResizeDeclared.yielding.Yielding.{Yielding}
 use Rattle.run_finds.specs.Given.ResizeDeclared.yielding.Yielding.TheVariants as outcome
-use Rattle.run_executor.specs.Given.RawCall.{have_one_key, made, makes_of, root_found, next_found, dropped, key_read, pair_read, word_read, word_found, tried, looked, looks_for, first_made, next_made, disposed, helped, copied, plan_at}
-use Rattle.run_executor.specs.Given.RawCallFills.{filled, putting_by, fill_by, emptied, fills_with, given_up}
-use Rattle.run_executor.specs.Given.RawCallPoints.{aim_of, standing, going, having_met, over, ending, following_made, storing, burying, at_gap, gap_by, asking_at, pair_by, tableless, at_free, at_end, at_last, at_pair, passed, after_finding, told, entering, continued_in, changed, counted}
-use Rattle.run_executor.specs.Given.RawReplies.{value_for, as_own}
-use Rattle.run_executor.specs.Given.RawDeclared.machines.answer.Called.{Called}
-use Rattle.run_executor.specs.Given.RawDeclared.machines.answer.Called.TheVariants as called
-use Rattle.run_executor.specs.Given.RawDeclared.machines.answer.End.{End}
-use Rattle.run_executor.specs.Given.RawDeclared.machines.answer.End.TheVariants as ends
-use Rattle.run_executor.specs.Given.RawDeclared.machines.answer.KeyAnswer.{KeyAnswer}
-use Rattle.run_executor.specs.Given.RawDeclared.machines.answer.KeyAnswer.TheVariants as answers
-use Rattle.run_executor.specs.Given.RawDeclared.machines.answer.Missing.{Missing}
-use Rattle.run_executor.specs.Given.RawDeclared.machines.answer.Missing.TheVariants as missing
-use Rattle.run_executor.specs.Given.RawDeclared.machines.answer.There.{There}
-use Rattle.run_executor.specs.Given.RawDeclared.machines.answer.There.TheVariants as there
-use Rattle.run_executor.specs.Given.RawDeclared.machines.asking.Asking.TheVariants as asking
-use Rattle.run_executor.specs.Given.RawDeclared.machines.asking.Gap.{Gap}
-use Rattle.run_executor.specs.Given.RawDeclared.machines.asking.Gap.TheVariants as gaps
-use Rattle.run_executor.specs.Given.RawDeclared.machines.asking.Told.{Told}
-use Rattle.run_executor.specs.Given.RawDeclared.machines.asking.Told.TheVariants as tells
-use Rattle.run_executor.specs.Given.RawDeclared.machines.call.Calling.{Calling}
-use Rattle.run_executor.specs.Given.RawDeclared.machines.call.Calling.TheVariants as at
-use Rattle.run_executor.specs.Given.RawDeclared.machines.call.KeyCall.{KeyCall}
-use Rattle.run_executor.proofs.Given.RuleKeys.Always.{Always, AlwaysOf, always_if, always_ends, always_plan_as, always_steps}
-use Rattle.run_executor.specs.Given.TellerTells.{StepsObserved, ObservedAs}
-use Rattle.run_executor.specs.Given.EffectsDeclared.changed.Changed.{Changed}
-use Rattle.run_executor.specs.Given.EffectsDeclared.changed.Changed.TheVariants as changes
-use Rattle.run_executor.specs.Given.PointsFactsCalls.{IsCopying}
-use Rattle.run_executor.specs.Given.PointsTold.{IsRowOfCall}
-use Rattle.run_executor.proofs.Given.OthersOutcomes.{told_in}
+use Rattle.papaya_raw.specs.Call.{have_one_key, made, makes_of, root_found, next_found, dropped, key_read, pair_read, word_read, word_found, tried, looked, looks_for, first_made, next_made, disposed, helped, copied, plan_at}
+use Rattle.papaya_raw.specs.CallFills.{filled, putting_by, fill_by, emptied, fills_with, given_up}
+use Rattle.papaya_raw.specs.CallPoints.{aim_of, standing, going, having_met, over, ending, following_made, storing, burying, at_gap, gap_by, asking_at, pair_by, tableless, at_free, at_end, at_last, at_pair, passed, after_finding, told, entering, continued_in, changed, counted}
+use Rattle.papaya_raw.specs.Replies.{value_for, as_own}
+use Rattle.papaya_raw.specs.declared.machines.answer.Called.{Called}
+use Rattle.papaya_raw.specs.declared.machines.answer.Called.TheVariants as called
+use Rattle.papaya_raw.specs.declared.machines.answer.End.{End}
+use Rattle.papaya_raw.specs.declared.machines.answer.End.TheVariants as ends
+use Rattle.papaya_raw.specs.declared.machines.answer.KeyAnswer.{KeyAnswer}
+use Rattle.papaya_raw.specs.declared.machines.answer.KeyAnswer.TheVariants as answers
+use Rattle.papaya_raw.specs.declared.machines.answer.Missing.{Missing}
+use Rattle.papaya_raw.specs.declared.machines.answer.Missing.TheVariants as missing
+use Rattle.papaya_raw.specs.declared.machines.answer.There.{There}
+use Rattle.papaya_raw.specs.declared.machines.answer.There.TheVariants as there
+use Rattle.papaya_raw.specs.declared.machines.asking.Asking.TheVariants as asking
+use Rattle.papaya_raw.specs.declared.machines.asking.Gap.{Gap}
+use Rattle.papaya_raw.specs.declared.machines.asking.Gap.TheVariants as gaps
+use Rattle.papaya_raw.specs.declared.machines.asking.Told.{Told}
+use Rattle.papaya_raw.specs.declared.machines.asking.Told.TheVariants as tells
+use Rattle.papaya_raw.specs.declared.machines.call.Calling.{Calling}
+use Rattle.papaya_raw.specs.declared.machines.call.Calling.TheVariants as at
+use Rattle.papaya_raw.specs.declared.machines.call.KeyCall.{KeyCall}
+use Rattle.run_finds.proofs.Given.RuleKeys.Always.{Always, AlwaysOf, always_if, always_ends, always_plan_as, always_steps}
+use Rattle.run_finds.specs.Given.TellerTells.{StepsObserved, ObservedAs}
+use Rattle.run_finds.specs.Given.EffectsDeclared.changed.Changed.{Changed}
+use Rattle.run_finds.specs.Given.EffectsDeclared.changed.Changed.TheVariants as changes
+use Rattle.run_finds.specs.Given.PointsFactsCalls.{IsCopying}
+use Rattle.run_finds.specs.Given.PointsTold.{IsRowOfCall}
+use Rattle.run_finds.proofs.Given.OthersOutcomes.{told_in}
 use Rattle.run_finds.specs.Given.SettlesInHand.{pair_in_disposing, pair_in_calling}
 use Rattle.run_finds.specs.Waits.{waits_in_disposing, waits_of, waits_in_calling}
 use Rattle.run_grows.proofs.Waits.Dispose.{Holding, WaitsGo, WaitsAlike, WaitsOver, WaitsPast, dispose_goes}
-use Rattle.run_executor.proofs.Given.ScenesTold.{as_step}
+use Rattle.run_finds.proofs.Given.ScenesTold.{as_step}
 
 -- It has no pair in hand where it has come.
 module _ {K V : Type 0} where

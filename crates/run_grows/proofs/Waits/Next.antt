@@ -2,30 +2,30 @@
 use Rattle.std.specs.Prelude.{◌≡◌, ℕ, Bool, false, List, [], ◌∷◌, Some}
 use Rattle.std.specs.List.{list_any}
 use Rattle.std.proofs.Common.{refl, ap, sym, subst, ◌∙◌, inl, inr, arith}
-use Rattle.run_executor.specs.Given.SeizeWordsWord.{block_in}
-use Rattle.run_executor.specs.Given.SeizeWordsDeclared.at.At.{At}
-use Rattle.run_executor.specs.Given.SeizeWordsDeclared.at.At.TheVariants.{Word}
-use Rattle.run_executor.specs.Given.SeizeFurther.{IsWordOf}
+use Rattle.run_finds.specs.Given.SeizeWordsWord.{block_in}
+use Rattle.run_finds.specs.Given.SeizeWordsDeclared.at.At.{At}
+use Rattle.run_finds.specs.Given.SeizeWordsDeclared.at.At.TheVariants.{Word}
+use Rattle.run_finds.specs.Given.SeizeFurther.{IsWordOf}
 use Rattle.run_finds.specs.Given.TablesDeclared.node.Node.{Node}
-use Rattle.run_executor.specs.Given.RawDeclared.machines.progress.Progress.{Progress}
-use Rattle.run_executor.specs.Given.RunsDeclared.effect.Effect.{Effect}
-use Rattle.run_executor.specs.Given.RunsDeclared.effect.Effect.TheVariants as effect
-use Rattle.run_executor.specs.Given.RunsDeclared.effect.TableId.{TableId}
-use Rattle.run_executor.specs.Given.RunsDeclared.effect.Thing.TheVariants.{APair, ATable}
-use Rattle.run_executor.specs.Given.SchedulesEffects.{call_by, with_effect}
-use Rattle.run_executor.specs.Given.SchedulesEntry.{ByCall}
-use Rattle.run_executor.specs.Given.SchedulesMoment.{UnderWay as CallThere, Moment}
-use Rattle.run_executor.specs.Given.SchedulesViews.{call_of}
-use Rattle.run_executor.specs.Given.CallersTogether.{UnderWay}
-use Rattle.run_executor.specs.Given.EffectsEffects.{carried, effects_of}
-use Rattle.run_executor.specs.Given.EffectsKnown.{Known}
-use Rattle.run_executor.specs.Given.EffectsDeclared.acting.Acting.TheVariants as acts
-use Rattle.run_executor.specs.Given.EffectsDeclared.role.Role.{Role}
-use Rattle.run_executor.specs.Given.EffectsDeclared.role.Role.TheVariants as role
-use Rattle.run_executor.specs.Given.FinishesMachines.{machine_of}
-use Rattle.run_executor.specs.Given.FollowsCalls.{IsCalled}
-use Rattle.run_executor.proofs.Given.FollowsSteps.{WentTo, went_to}
-use Rattle.run_executor.specs.Given.MomentsWhole.{RefinesWhole}
+use Rattle.papaya_raw.specs.declared.machines.progress.Progress.{Progress}
+use Rattle.run_schedules.specs.declared.effect.Effect.{Effect}
+use Rattle.run_schedules.specs.declared.effect.Effect.TheVariants as effect
+use Rattle.run_schedules.specs.declared.effect.TableId.{TableId}
+use Rattle.run_schedules.specs.declared.effect.Thing.TheVariants.{APair, ATable}
+use Rattle.run_schedules.specs.Schedules.Effects.{call_by, with_effect}
+use Rattle.run_schedules.specs.Schedules.Entry.{ByCall}
+use Rattle.run_schedules.specs.Schedules.Moment.{UnderWay as CallThere, Moment}
+use Rattle.run_schedules.specs.Schedules.Views.{call_of}
+use Rattle.run_finds.specs.Given.CallersTogether.{UnderWay}
+use Rattle.run_finds.specs.Given.EffectsEffects.{carried, effects_of}
+use Rattle.run_finds.specs.Given.EffectsKnown.{Known}
+use Rattle.run_finds.specs.Given.EffectsDeclared.acting.Acting.TheVariants as acts
+use Rattle.run_finds.specs.Given.EffectsDeclared.role.Role.{Role}
+use Rattle.run_finds.specs.Given.EffectsDeclared.role.Role.TheVariants as role
+use Rattle.run_finds.specs.Given.FinishesMachines.{machine_of}
+use Rattle.run_finds.specs.Given.FollowsCalls.{IsCalled}
+use Rattle.run_finds.proofs.Given.FollowsSteps.{WentTo, went_to}
+use Rattle.run_finds.specs.Given.MomentsWhole.{RefinesWhole}
 use Rattle.run_finds.proofs.Given.OwesFields.{its_effect}
 use Rattle.run_finds.specs.Given.SettlesDue.{ToPut, RowTells, TellsNone, TellsRetired, TellsDeferred, retired_effects, due_in_row, OwnAreMade}
 use Rattle.run_finds.specs.Given.SettlesEntries.{EntriesAreBlank}
@@ -37,10 +37,10 @@ use Rattle.run_finds.proofs.Given.SettlesTakings.{steps_take_out}
 use Rattle.run_finds.specs.Waits.{IsHeldPast, RefinesWaits, FindsDeferral, FindDeferrals}
 use Rattle.run_finds.proofs.Waits.Due.{row_due}
 use Rattle.run_finds.specs.Puts.{RefinesPuts, CallsDeferOnTheLast}
-use Rattle.run_executor.specs.Given.ScenesHeld.{Held, IsAt}
-use Rattle.run_executor.specs.Given.ScenesScene.{Scene}
-use Rattle.run_executor.specs.Given.ScenesStepping.{StepLeads}
-use Rattle.run_executor.proofs.Given.General.{both_false as neither}
+use Rattle.run_finds.specs.Given.ScenesHeld.{Held, IsAt}
+use Rattle.run_finds.specs.Given.ScenesScene.{Scene}
+use Rattle.run_finds.specs.Given.ScenesStepping.{StepLeads}
+use Rattle.run_finds.proofs.Given.General.{both_false as neither}
 
 -- an effect that hands nothing over is put behind no table
 module _ {K V : Type 0} where

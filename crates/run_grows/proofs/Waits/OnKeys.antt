@@ -2,31 +2,31 @@
 use Rattle.std.specs.Prelude.{◌≡◌, ℕ, Bool, List, [], ◌∷◌, Some, None}
 use Rattle.std.proofs.Common.{ap, sym, subst, ◌∙◌, inl, inr}
 use Rattle.run_finds.specs.Given.TablesDeclared.node.Node.{Node}
-use Rattle.run_executor.specs.Given.RawCall.{call_plan}
-use Rattle.run_executor.specs.Given.RawMachine.{called as of_key}
-use Rattle.run_executor.specs.Given.RawDeclared.machines.answer.Called.{Called}
-use Rattle.run_executor.specs.Given.RawDeclared.machines.call.KeyCall.{KeyCall}
-use Rattle.run_executor.specs.Given.RawDeclared.machines.machine.Machine.{Machine}
-use Rattle.run_executor.specs.Given.RawDeclared.machines.machine.Machine.TheVariants as kinds
-use Rattle.run_executor.specs.Given.RawDeclared.machines.progress.Progress.{Progress}
-use Rattle.run_executor.specs.Given.RunsDeclared.effect.Effect.{Effect}
-use Rattle.run_executor.specs.Given.RunsDeclared.effect.Thing.{Thing}
-use Rattle.run_executor.specs.Given.RunsDeclared.effect.Thing.TheVariants.{APair}
-use Rattle.run_executor.specs.Given.SchedulesEffects.{with_effects}
-use Rattle.run_executor.specs.Given.SchedulesMoment.{Moment}
-use Rattle.run_executor.specs.Given.TellerTells.{StepsObserved}
-use Rattle.run_executor.specs.Given.EffectsDeclared.changed.Changed.{Changed}
-use Rattle.run_executor.specs.Given.EffectsDeclared.changed.Changed.TheVariants as changed
-use Rattle.run_executor.specs.Given.RuleWords.{Blocks}
-use Rattle.run_executor.specs.Given.CallersSights.{seen_by}
-use Rattle.run_executor.specs.Given.CallersTogether.{CallOnKey, OnKey, IsAtPoint, Together}
-use Rattle.run_executor.specs.Given.EffectsEffects.{effects_of}
-use Rattle.run_executor.specs.Given.EffectsKnown.{Known}
-use Rattle.run_executor.specs.Given.EffectsDeclared.acting.Acting.TheVariants as acts
-use Rattle.run_executor.specs.Given.FinishesMaps.{Standing}
-use Rattle.run_executor.proofs.Given.FollowsSteps.{WentTo, went_to, made_so, is_inside, DidSo, OfNoRow}
-use Rattle.run_executor.specs.Given.MomentsWhole.{RefinesWhole}
-use Rattle.run_executor.proofs.Given.OthersOutcomes.{told_in}
+use Rattle.papaya_raw.specs.Call.{call_plan}
+use Rattle.papaya_raw.specs.Machine.{called as of_key}
+use Rattle.papaya_raw.specs.declared.machines.answer.Called.{Called}
+use Rattle.papaya_raw.specs.declared.machines.call.KeyCall.{KeyCall}
+use Rattle.papaya_raw.specs.declared.machines.machine.Machine.{Machine}
+use Rattle.papaya_raw.specs.declared.machines.machine.Machine.TheVariants as kinds
+use Rattle.papaya_raw.specs.declared.machines.progress.Progress.{Progress}
+use Rattle.run_schedules.specs.declared.effect.Effect.{Effect}
+use Rattle.run_schedules.specs.declared.effect.Thing.{Thing}
+use Rattle.run_schedules.specs.declared.effect.Thing.TheVariants.{APair}
+use Rattle.run_schedules.specs.Schedules.Effects.{with_effects}
+use Rattle.run_schedules.specs.Schedules.Moment.{Moment}
+use Rattle.run_finds.specs.Given.TellerTells.{StepsObserved}
+use Rattle.run_finds.specs.Given.EffectsDeclared.changed.Changed.{Changed}
+use Rattle.run_finds.specs.Given.EffectsDeclared.changed.Changed.TheVariants as changed
+use Rattle.run_finds.specs.Given.RuleWords.{Blocks}
+use Rattle.run_finds.specs.Given.CallersSights.{seen_by}
+use Rattle.run_finds.specs.Given.CallersTogether.{CallOnKey, OnKey, IsAtPoint, Together}
+use Rattle.run_finds.specs.Given.EffectsEffects.{effects_of}
+use Rattle.run_finds.specs.Given.EffectsKnown.{Known}
+use Rattle.run_finds.specs.Given.EffectsDeclared.acting.Acting.TheVariants as acts
+use Rattle.run_finds.specs.Given.FinishesMaps.{Standing}
+use Rattle.run_finds.proofs.Given.FollowsSteps.{WentTo, went_to, made_so, is_inside, DidSo, OfNoRow}
+use Rattle.run_finds.specs.Given.MomentsWhole.{RefinesWhole}
+use Rattle.run_finds.proofs.Given.OthersOutcomes.{told_in}
 use Rattle.run_finds.specs.Given.SettlesDue.{OwnAreMade}
 use Rattle.run_finds.specs.Given.SettlesEntries.{EntriesAreBlank}
 use Rattle.run_finds.specs.Given.SettlesHand.{in_hand, in_hand_of_call, RefinesObligations}
@@ -39,11 +39,11 @@ use Rattle.run_grows.proofs.Waits.Keys.{KeyWaits, HandNone, HandAlike, HandPast,
 use Rattle.run_finds.proofs.Waits.Owes.{OwedBefore, OwedIt, OwedNone, OwedMore, call_one, call_some}
 use Rattle.run_finds.proofs.Waits.Taken.{TookPair, took_pair}
 use Rattle.run_grows.proofs.Waits.Calls.{before, lay, lies_then, past_then, took_then, row_takes_none}
-use Rattle.run_executor.specs.Given.PointsFactsCalls.{IsCopying}
-use Rattle.run_executor.specs.Given.PointsTold.{IsRowOfCall}
-use Rattle.run_executor.specs.Given.ScenesHeld.{Held, IsAt}
-use Rattle.run_executor.specs.Given.ScenesScene.{Scene, slot_of}
-use Rattle.run_executor.specs.Given.ScenesStepping.{StepLeads}
+use Rattle.run_finds.specs.Given.PointsFactsCalls.{IsCopying}
+use Rattle.run_finds.specs.Given.PointsTold.{IsRowOfCall}
+use Rattle.run_finds.specs.Given.ScenesHeld.{Held, IsAt}
+use Rattle.run_finds.specs.Given.ScenesScene.{Scene, slot_of}
+use Rattle.run_finds.specs.Given.ScenesStepping.{StepLeads}
 
 module _ {K V : Type 0} (same : K → K → Bool) (hash : ℕ → K → ℕ) (name : ℕ → List ℕ) (m : Moment K V) (known : Known) (s : Scene K V) (old new : Held K V) (at_old : IsAt same hash old s)
     (whole : RefinesWhole same name m known s) (entries : EntriesAreBlank s) (owning : OwnAreMade known s.world) (owes : RefinesObligations name m known s) (waits : RefinesWaits name m s)

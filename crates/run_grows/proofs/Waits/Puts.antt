@@ -2,29 +2,29 @@
 use Rattle.std.specs.Prelude.{◌≡◌, ℕ, Bool, List, Option, Some}
 use Rattle.std.proofs.Common.{refl, ap, sym, subst, ◌∙◌, inl, inr}
 use Rattle.run_finds.specs.Given.TablesDeclared.node.Node.{Node}
-use Rattle.run_executor.specs.Given.SweepsSweep.{sweep_plan}
-use Rattle.run_executor.specs.Given.ReservesDeclared.sweep.Sweep.{Sweep}
-use Rattle.run_executor.specs.Given.RawCall.{call_plan}
-use Rattle.run_executor.specs.Given.RawMachine.{called as of_key, swept as of_sweep, reserved as of_room, counted as of_sum}
-use Rattle.run_executor.specs.Given.RawDeclared.machines.call.KeyCall.{KeyCall}
-use Rattle.run_executor.specs.Given.RawDeclared.machines.machine.Machine.{Machine}
-use Rattle.run_executor.specs.Given.RawDeclared.machines.machine.Machine.TheVariants as kinds
-use Rattle.run_executor.specs.Given.RawDeclared.machines.progress.Progress.{Progress}
-use Rattle.run_executor.specs.Given.RunsDeclared.effect.Effect.{Effect}
-use Rattle.run_executor.specs.Given.SchedulesEffects.{with_effects}
-use Rattle.run_executor.specs.Given.SchedulesMoment.{Moment}
-use Rattle.run_executor.specs.Given.RuleWords.{Blocks}
-use Rattle.run_executor.specs.Given.CallersOverAll.{CallOverAll}
-use Rattle.run_executor.specs.Given.CallersSights.{seen_by}
-use Rattle.run_executor.specs.Given.CallersTogether.{CallOnKey, UnderWay, OnKey, OverAll, Together, ForRoom, Counting}
-use Rattle.run_executor.specs.Given.EffectsEffects.{effects_of, known_after}
-use Rattle.run_executor.specs.Given.EffectsKnown.{Known}
-use Rattle.run_executor.specs.Given.EffectsDeclared.acting.Acting.TheVariants as acts
-use Rattle.run_executor.specs.Given.FinishesMachines.{machine_of}
-use Rattle.run_executor.specs.Given.FinishesMaps.{Standing}
-use Rattle.run_executor.proofs.Given.FollowsSteps.{WentTo, went_to, DidSo, OfNoRow}
-use Rattle.run_executor.specs.Given.MomentsWhole.{RefinesWhole}
-use Rattle.run_executor.proofs.Given.OthersOutcomes.{told_in}
+use Rattle.run_finds.specs.Given.SweepsSweep.{sweep_plan}
+use Rattle.run_finds.specs.Given.ReservesDeclared.sweep.Sweep.{Sweep}
+use Rattle.papaya_raw.specs.Call.{call_plan}
+use Rattle.papaya_raw.specs.Machine.{called as of_key, swept as of_sweep, reserved as of_room, counted as of_sum}
+use Rattle.papaya_raw.specs.declared.machines.call.KeyCall.{KeyCall}
+use Rattle.papaya_raw.specs.declared.machines.machine.Machine.{Machine}
+use Rattle.papaya_raw.specs.declared.machines.machine.Machine.TheVariants as kinds
+use Rattle.papaya_raw.specs.declared.machines.progress.Progress.{Progress}
+use Rattle.run_schedules.specs.declared.effect.Effect.{Effect}
+use Rattle.run_schedules.specs.Schedules.Effects.{with_effects}
+use Rattle.run_schedules.specs.Schedules.Moment.{Moment}
+use Rattle.run_finds.specs.Given.RuleWords.{Blocks}
+use Rattle.run_finds.specs.Given.CallersOverAll.{CallOverAll}
+use Rattle.run_finds.specs.Given.CallersSights.{seen_by}
+use Rattle.run_finds.specs.Given.CallersTogether.{CallOnKey, UnderWay, OnKey, OverAll, Together, ForRoom, Counting}
+use Rattle.run_finds.specs.Given.EffectsEffects.{effects_of, known_after}
+use Rattle.run_finds.specs.Given.EffectsKnown.{Known}
+use Rattle.run_finds.specs.Given.EffectsDeclared.acting.Acting.TheVariants as acts
+use Rattle.run_finds.specs.Given.FinishesMachines.{machine_of}
+use Rattle.run_finds.specs.Given.FinishesMaps.{Standing}
+use Rattle.run_finds.proofs.Given.FollowsSteps.{WentTo, went_to, DidSo, OfNoRow}
+use Rattle.run_finds.specs.Given.MomentsWhole.{RefinesWhole}
+use Rattle.run_finds.proofs.Given.OthersOutcomes.{told_in}
 use Rattle.run_finds.specs.Given.SettlesDue.{RowTells, TellsNone, TellsRetired, TellsDeferred, due_in_row, OwnAreMade, ToPut, due_in_calling, due_in_sweeping}
 use Rattle.run_finds.specs.Given.SettlesEntries.{EntriesAreBlank}
 use Rattle.run_finds.proofs.Given.SettlesDueCalls.{rows_tell_due}
@@ -32,23 +32,23 @@ use Rattle.run_finds.proofs.Given.SettlesHand.All.{own_or_row}
 use Rattle.run_finds.specs.Waits.{waits_in_calling, waits_in_sweeping, waits_in}
 use Rattle.run_grows.proofs.Waits.Keys.{KeyWaits, HandNone, HandAlike, HandPast, HandNew, step_hands}
 use Rattle.run_grows.proofs.Waits.Sweeps.{SweepWaits, SweptNone, SweptAlike, SweptPast, SweptNew, step_hands as sweep_step}
-use Rattle.run_executor.specs.Given.ReservesReserve.{reserve_plan}
+use Rattle.run_finds.specs.Given.ReservesReserve.{reserve_plan}
 use Rattle.run_finds.specs.Given.ResizeSum.{sum_plan}
 use Rattle.run_finds.specs.Given.ResizeDeclared.sum.Sum.{Sum}
-use Rattle.run_executor.specs.Given.CallersRooms.{CallForRoom}
-use Rattle.run_executor.proofs.Given.HandsAsking.{which}
+use Rattle.run_finds.specs.Given.CallersRooms.{CallForRoom}
+use Rattle.run_finds.proofs.Given.HandsAsking.{which}
 use Rattle.run_finds.proofs.Given.SettlesCalls.{goes_as_one}
-use Rattle.run_executor.specs.Given.SeizeWordsDeclared.at.At.{At}
-use Rattle.run_executor.specs.Given.SeizeWorld.{World, Row, Rests, IsInside}
-use Rattle.run_executor.proofs.Given.CallersTogether.Users.{events_rows}
-use Rattle.run_executor.proofs.Given.FollowsOnward.{IsLasting, KeepsRoles}
-use Rattle.run_executor.proofs.Given.ChangesSteps.{led_on}
-use Rattle.run_executor.proofs.Given.MomentsCalls.{calls_keep_whole}
+use Rattle.run_finds.specs.Given.SeizeWordsDeclared.at.At.{At}
+use Rattle.run_finds.specs.Given.SeizeWorld.{World, Row, Rests, IsInside}
+use Rattle.run_finds.proofs.Given.CallersTogether.Users.{events_rows}
+use Rattle.run_finds.proofs.Given.FollowsOnward.{IsLasting, KeepsRoles}
+use Rattle.run_finds.proofs.Given.ChangesSteps.{led_on}
+use Rattle.run_finds.proofs.Given.MomentsCalls.{calls_keep_whole}
 use Rattle.run_finds.specs.Puts.{IsDeferredOnTheLast, RefinesPuts, PutsStay, CallsPreservePuts}
 use Rattle.run_grows.proofs.Waits.Behind.{IsBehind, key_behind, sweep_behind, room_never, call_put, sweep_put}
-use Rattle.run_executor.specs.Given.ScenesHeld.{Held, IsAt}
-use Rattle.run_executor.specs.Given.ScenesScene.{Scene, slot_of}
-use Rattle.run_executor.specs.Given.ScenesStepping.{StepLeads, StepsFrom, scene_after}
+use Rattle.run_finds.specs.Given.ScenesHeld.{Held, IsAt}
+use Rattle.run_finds.specs.Given.ScenesScene.{Scene, slot_of}
+use Rattle.run_finds.specs.Given.ScenesStepping.{StepLeads, StepsFrom, scene_after}
 
 module _ {K V : Type 0} (same : K → K → Bool) (hash : ℕ → K → ℕ) (name : ℕ → List ℕ) (m : Moment K V) (known : Known) (s : Scene K V) (old new : Held K V) (at_old : IsAt same hash old s)
     (whole : RefinesWhole same name m known s) (entries : EntriesAreBlank s) (owning : OwnAreMade known s.world) (puts : RefinesPuts known s)

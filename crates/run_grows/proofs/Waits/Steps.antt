@@ -2,42 +2,42 @@
 use Rattle.std.specs.Prelude.{◌≡◌, ℕ, Bool, true, false, List, [], ◌∷◌, Some, None}
 use Rattle.std.proofs.Common.{refl, ap, sym, subst, ◌∙◌, inl, inr}
 use Rattle.run_finds.specs.Given.TablesDeclared.node.Node.{Node}
-use Rattle.run_executor.specs.Given.RawDeclared.machines.machine.Machine.{Machine}
-use Rattle.run_executor.specs.Given.RawDeclared.machines.progress.Progress.{Progress}
-use Rattle.run_executor.specs.Given.RunsDeclared.effect.Effect.{Effect}
-use Rattle.run_executor.specs.Given.RunsDeclared.effect.Thing.TheVariants.{APair}
-use Rattle.run_executor.specs.Given.SchedulesEffects.{with_effects}
-use Rattle.run_executor.specs.Given.SchedulesMoment.{UnderWay as CallThere, Moment}
-use Rattle.run_executor.specs.Given.SchedulesViews.{call_of}
-use Rattle.run_executor.specs.Given.CallersTogether.{UnderWay, OnKey, OverAll, ForRoom, Counting}
-use Rattle.run_executor.specs.Given.EffectsEffects.{effects_of}
-use Rattle.run_executor.specs.Given.EffectsKnown.{Known}
-use Rattle.run_executor.specs.Given.EffectsDeclared.acting.Acting.TheVariants as acts
-use Rattle.run_executor.specs.Given.FinishesMachines.{machine_of}
-use Rattle.run_executor.proofs.Given.FollowsSteps.{WentTo, went_to}
-use Rattle.run_executor.specs.Given.MomentsWhole.{RefinesWhole}
-use Rattle.run_executor.proofs.Given.OthersOutcomes.{told_in}
+use Rattle.papaya_raw.specs.declared.machines.machine.Machine.{Machine}
+use Rattle.papaya_raw.specs.declared.machines.progress.Progress.{Progress}
+use Rattle.run_schedules.specs.declared.effect.Effect.{Effect}
+use Rattle.run_schedules.specs.declared.effect.Thing.TheVariants.{APair}
+use Rattle.run_schedules.specs.Schedules.Effects.{with_effects}
+use Rattle.run_schedules.specs.Schedules.Moment.{UnderWay as CallThere, Moment}
+use Rattle.run_schedules.specs.Schedules.Views.{call_of}
+use Rattle.run_finds.specs.Given.CallersTogether.{UnderWay, OnKey, OverAll, ForRoom, Counting}
+use Rattle.run_finds.specs.Given.EffectsEffects.{effects_of}
+use Rattle.run_finds.specs.Given.EffectsKnown.{Known}
+use Rattle.run_finds.specs.Given.EffectsDeclared.acting.Acting.TheVariants as acts
+use Rattle.run_finds.specs.Given.FinishesMachines.{machine_of}
+use Rattle.run_finds.proofs.Given.FollowsSteps.{WentTo, went_to}
+use Rattle.run_finds.specs.Given.MomentsWhole.{RefinesWhole}
+use Rattle.run_finds.proofs.Given.OthersOutcomes.{told_in}
 use Rattle.run_finds.specs.Given.SettlesDue.{OwnAreMade}
 use Rattle.run_finds.specs.Given.SettlesEntries.{EntriesAreBlank}
 use Rattle.run_finds.specs.Given.SettlesHand.{in_hand, RefinesObligations}
 use Rattle.run_finds.specs.Waits.{waits_in, pair_in, IsHeldPast, RefinesWaits, CallsPreserveWaits}
 use Rattle.run_grows.proofs.Waits.Calls.{follows, leaves}
-use Rattle.run_executor.specs.Given.RunsSame.{is_same}
-use Rattle.run_executor.specs.Given.RawMachine.{reserved as of_room, counted as of_sum}
-use Rattle.run_executor.specs.Given.ReservesReserve.{reserve_plan}
+use Rattle.run_schedules.specs.Runs.Same.{is_same}
+use Rattle.papaya_raw.specs.Machine.{reserved as of_room, counted as of_sum}
+use Rattle.run_finds.specs.Given.ReservesReserve.{reserve_plan}
 use Rattle.run_finds.specs.Given.ResizeSum.{sum_plan}
 use Rattle.run_finds.specs.Given.ResizeDeclared.sum.Sum.{Sum}
-use Rattle.run_executor.specs.Given.CallersRooms.{CallForRoom}
-use Rattle.run_executor.proofs.Given.HandsAsking.{which}
-use Rattle.run_executor.proofs.Given.HandsCalling.{caller_is}
+use Rattle.run_finds.specs.Given.CallersRooms.{CallForRoom}
+use Rattle.run_finds.proofs.Given.HandsAsking.{which}
+use Rattle.run_finds.proofs.Given.HandsCalling.{caller_is}
 use Rattle.run_finds.proofs.Given.SettlesCalls.{goes_as_one}
 use Rattle.run_kept.proofs.Given.SettlesGains.{others_stay}
 use Rattle.run_grows.proofs.Waits.OnKeys.{held_then as key_held}
 use Rattle.run_grows.proofs.Waits.OnSweeps.{held_then as sweep_held}
-use Rattle.run_executor.specs.Given.ScenesHeld.{Held, IsAt}
-use Rattle.run_executor.specs.Given.ScenesScene.{Scene}
-use Rattle.run_executor.specs.Given.ScenesStepping.{StepLeads, StepsFrom, scene_after}
-use Rattle.run_executor.proofs.Given.General.{same_some as one_of}
+use Rattle.run_finds.specs.Given.ScenesHeld.{Held, IsAt}
+use Rattle.run_finds.specs.Given.ScenesScene.{Scene}
+use Rattle.run_finds.specs.Given.ScenesStepping.{StepLeads, StepsFrom, scene_after}
+use Rattle.run_finds.proofs.Given.General.{same_some as one_of}
 
 module _ {K V : Type 0} (same : K → K → Bool) (hash : ℕ → K → ℕ) (name : ℕ → List ℕ) (m : Moment K V) (known : Known) (s : Scene K V) (old new : Held K V) (at_old : IsAt same hash old s)
     (whole : RefinesWhole same name m known s) (entries : EntriesAreBlank s) (owning : OwnAreMade known s.world) (owes : RefinesObligations name m known s) (waits : RefinesWaits name m s)

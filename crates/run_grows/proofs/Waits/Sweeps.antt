@@ -1,13 +1,13 @@
 -- A step of a sweep: which pair it has in hand then, by where it stood.
 use Rattle.std.specs.Prelude.{◌≡◌, ℕ, ◌==◌, nat_lt, ◌&&◌, ◌≤◌, Bool, true, false, Some, None, Ok, Err, if◌then◌else◌}
 use Rattle.std.proofs.Common.{refl, ap, sym, subst, ◌∙◌}
-use Rattle.run_executor.specs.Given.SeizeWordsMem.{Mem, value_at, word_at}
-use Rattle.run_executor.specs.Given.SeizeWordsOp.{Out, Exchange, Found, Exchanged}
-use Rattle.run_executor.specs.Given.SeizeWordsPlan.{Ends}
-use Rattle.run_executor.specs.Given.SeizeWordsWord.{block_in}
-use Rattle.run_executor.specs.Given.SeizeWordsDeclared.at.At.TheVariants.{Root}
-use Rattle.run_executor.specs.Given.SeizeDeclared.rows.settle.Settled.{Settled}
-use Rattle.run_executor.specs.Given.SeizeDeclared.rows.settle.Settled.TheVariants as settling
+use Rattle.run_finds.specs.Given.SeizeWordsMem.{Mem, value_at, word_at}
+use Rattle.run_finds.specs.Given.SeizeWordsOp.{Out, Exchange, Found, Exchanged}
+use Rattle.run_finds.specs.Given.SeizeWordsPlan.{Ends}
+use Rattle.run_finds.specs.Given.SeizeWordsWord.{block_in}
+use Rattle.run_finds.specs.Given.SeizeWordsDeclared.at.At.TheVariants.{Root}
+use Rattle.run_finds.specs.Given.SeizeDeclared.rows.settle.Settled.{Settled}
+use Rattle.run_finds.specs.Given.SeizeDeclared.rows.settle.Settled.TheVariants as settling
 use Rattle.run_finds.specs.Given.TablesChunks.{is_incremental}
 use Rattle.run_finds.specs.Given.TablesMarks.{has_mark}
 use Rattle.run_finds.specs.Given.TablesNodes.{table_seen}
@@ -22,24 +22,24 @@ use Rattle.run_finds.specs.Given.ResizeDeclared.dispose.Dispose.{Dispose}
 use Rattle.run_finds.specs.Given.ResizeDeclared.dispose.Disposing.TheVariants as disposal
 use Rattle.run_finds.specs.Given.ResizeDeclared.yielding.Yielding.{Yielding}
 use Rattle.run_finds.specs.Given.ResizeDeclared.yielding.Yielding.TheVariants as outcome
-use Rattle.run_executor.specs.Given.SweepsSweep as sweeps
-use Rattle.run_executor.specs.Given.SweepsSweepPoints as points
-use Rattle.run_executor.specs.Given.ReservesDeclared.sweep.Purpose.{Purpose}
-use Rattle.run_executor.specs.Given.ReservesDeclared.sweep.Purpose.TheVariants.{Walks, Clears, Retains}
-use Rattle.run_executor.specs.Given.ReservesDeclared.sweep.Sweep.{Sweep}
-use Rattle.run_executor.specs.Given.ReservesDeclared.sweep.Sweeping.{Sweeping}
-use Rattle.run_executor.specs.Given.ReservesDeclared.sweep.Sweeping.TheVariants as at
-use Rattle.run_executor.specs.Given.ReservesDeclared.sweep.Swept.{Swept}
-use Rattle.run_executor.proofs.Given.RuleKeys.Always.{Always, AlwaysOf, always_if, always_plan_as, always_steps}
-use Rattle.run_executor.specs.Given.TellerTells.{StepsObserved, ObservedAs}
-use Rattle.run_executor.specs.Given.EffectsDeclared.changed.Changed.{Changed}
-use Rattle.run_executor.specs.Given.EffectsDeclared.changed.Changed.TheVariants as changes
-use Rattle.run_executor.specs.Given.LateToldSweeps.{IsRowOfSweep}
-use Rattle.run_executor.proofs.Given.OthersOutcomes.{told_in}
+use Rattle.run_finds.specs.Given.SweepsSweep as sweeps
+use Rattle.run_finds.specs.Given.SweepsSweepPoints as points
+use Rattle.run_finds.specs.Given.ReservesDeclared.sweep.Purpose.{Purpose}
+use Rattle.run_finds.specs.Given.ReservesDeclared.sweep.Purpose.TheVariants.{Walks, Clears, Retains}
+use Rattle.run_finds.specs.Given.ReservesDeclared.sweep.Sweep.{Sweep}
+use Rattle.run_finds.specs.Given.ReservesDeclared.sweep.Sweeping.{Sweeping}
+use Rattle.run_finds.specs.Given.ReservesDeclared.sweep.Sweeping.TheVariants as at
+use Rattle.run_finds.specs.Given.ReservesDeclared.sweep.Swept.{Swept}
+use Rattle.run_finds.proofs.Given.RuleKeys.Always.{Always, AlwaysOf, always_if, always_plan_as, always_steps}
+use Rattle.run_finds.specs.Given.TellerTells.{StepsObserved, ObservedAs}
+use Rattle.run_finds.specs.Given.EffectsDeclared.changed.Changed.{Changed}
+use Rattle.run_finds.specs.Given.EffectsDeclared.changed.Changed.TheVariants as changes
+use Rattle.run_finds.specs.Given.LateToldSweeps.{IsRowOfSweep}
+use Rattle.run_finds.proofs.Given.OthersOutcomes.{told_in}
 use Rattle.run_finds.specs.Given.SettlesInHand.{pair_in_disposing, pair_in_sweeping}
 use Rattle.run_finds.specs.Waits.{waits_in_disposing, waits_of, waits_in_sweeping}
 use Rattle.run_grows.proofs.Waits.Dispose.{Holding, WaitsGo, WaitsAlike, WaitsOver, WaitsPast, dispose_goes}
-use Rattle.run_executor.proofs.Given.ScenesTold.{as_step}
+use Rattle.run_finds.proofs.Given.ScenesTold.{as_step}
 
 -- it has no pair in hand where it has come
 abbrev pub NoneOf : Sweep → Type 0

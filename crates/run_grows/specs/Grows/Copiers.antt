@@ -14,18 +14,18 @@ use Rattle.run_schedules.specs.Schedules.Growing.{HasNext}
 use Rattle.run_schedules.specs.Schedules.Lists.{OneOf}
 use Rattle.run_schedules.specs.Schedules.Moment.{Moment}
 use Rattle.run_schedules.specs.Schedules.Terms.{Terms}
-use Rattle.run_executor.specs.Given.PointsFactsCalls.{IsCopying}
-use Rattle.run_executor.specs.Given.CallersTogether.{UnderWay, OnKey, OverAll}
-use Rattle.run_executor.specs.Given.EffectsEffects.{effects_of}
-use Rattle.run_executor.specs.Given.EffectsKnown.{Known}
-use Rattle.run_executor.specs.Given.EffectsDeclared.acting.Acting.TheVariants as acts
-use Rattle.run_executor.specs.Given.FinishesMachines.{machine_of}
-use Rattle.run_executor.specs.Given.MomentsWhole.{RefinesWhole}
+use Rattle.run_finds.specs.Given.PointsFactsCalls.{IsCopying}
+use Rattle.run_finds.specs.Given.CallersTogether.{UnderWay, OnKey, OverAll}
+use Rattle.run_finds.specs.Given.EffectsEffects.{effects_of}
+use Rattle.run_finds.specs.Given.EffectsKnown.{Known}
+use Rattle.run_finds.specs.Given.EffectsDeclared.acting.Acting.TheVariants as acts
+use Rattle.run_finds.specs.Given.FinishesMachines.{machine_of}
+use Rattle.run_finds.specs.Given.MomentsWhole.{RefinesWhole}
 use Rattle.run_kept.specs.Given.OwesMaking.{making_in_copying, making_in_sweeping}
 use Rattle.run_finds.specs.Growing.{FindAsked}
-use Rattle.run_executor.specs.Given.ScenesHeld.{Held, IsAt}
-use Rattle.run_executor.specs.Given.ScenesScene.{Scene}
-use Rattle.run_executor.specs.Given.ScenesStepping.{StepLeads}
+use Rattle.run_finds.specs.Given.ScenesHeld.{Held, IsAt}
+use Rattle.run_finds.specs.Given.ScenesScene.{Scene}
+use Rattle.run_finds.specs.Given.ScenesStepping.{StepLeads}
 
 -- The making of a table that is under way within a copier, if one is: that of a call on one key,
 abbrev pub copier_in_calling : Calling → Option NewTable

@@ -17,10 +17,10 @@ use Rattle.papaya_raw.specs.declared.machines.machine.Machine.TheVariants as kin
 use Rattle.run_schedules.specs.Schedules.Growing.{Has}
 use Rattle.run_schedules.specs.Schedules.Moment.{Moment, TableThere}
 use Rattle.run_schedules.specs.Schedules.Views.{tables_of}
-use Rattle.run_executor.specs.Given.CallersTogether.{UnderWay}
-use Rattle.run_executor.specs.Given.FinishesMachines.{machine_of}
+use Rattle.run_finds.specs.Given.CallersTogether.{UnderWay}
+use Rattle.run_finds.specs.Given.FinishesMachines.{machine_of}
 use Rattle.run_finds.specs.Shaping.{ShapedAt}
-use Rattle.run_executor.specs.Given.ScenesScene.{Scene}
+use Rattle.run_finds.specs.Given.ScenesScene.{Scene}
 
 -- the one of a turn, if there are so many
 abbrev pub at_turn : List ℕ → ℕ → Option ℕ

@@ -1,7 +1,7 @@
 -- Where a call can have no further table: one of its map's is as long as a table can be, or has the last turn, or was there at a moment since the call began.
 use Rattle.std.specs.Prelude.{◌≡◌, ◌≢◌, ◌⊎◌, ◌<◌, ◌^◌, ℕ, true, List, Some}
-use Rattle.run_executor.specs.Given.SeizeWordsDeclared.fault.Fault.{Fault}
-use Rattle.run_executor.specs.Given.SeizeWordsDeclared.fault.Fault.TheVariants.{Capacity}
+use Rattle.run_finds.specs.Given.SeizeWordsDeclared.fault.Fault.{Fault}
+use Rattle.run_finds.specs.Given.SeizeWordsDeclared.fault.Fault.TheVariants.{Capacity}
 use Rattle.papaya_raw.specs.Given.TablesLengths.{CannotBeFollowed, GoesByTable}
 use Rattle.papaya_raw.specs.Given.TablesDeclared.lengths.Reason.{Reason}
 use Rattle.papaya_raw.specs.Given.TablesDeclared.table.Table.{Table}
@@ -15,10 +15,10 @@ use Rattle.run_schedules.specs.Schedules.Coming.{is_at_limit}
 use Rattle.run_schedules.specs.Schedules.Lists.{OneOf}
 use Rattle.run_schedules.specs.Schedules.Moment.{Moment, UnderWay as CallThere}
 use Rattle.run_schedules.specs.Schedules.Views.{call_of}
-use Rattle.run_executor.specs.Given.LateFaults.{HoldsInCalling, HoldsInReserving, HoldsInSweeping}
-use Rattle.run_executor.specs.Given.CallersTogether.{UnderWay}
-use Rattle.run_executor.specs.Given.FinishesMachines.{machine_of}
-use Rattle.run_executor.specs.Given.ScenesScene.{Scene}
+use Rattle.run_finds.specs.Given.LateFaults.{HoldsInCalling, HoldsInReserving, HoldsInSweeping}
+use Rattle.run_finds.specs.Given.CallersTogether.{UnderWay}
+use Rattle.run_finds.specs.Given.FinishesMachines.{machine_of}
+use Rattle.run_finds.specs.Given.ScenesScene.{Scene}
 use Rattle.run_schedules.specs.Schedules.Transition.{Past}
 
 -- a call is refused for the length of a table for this alone,

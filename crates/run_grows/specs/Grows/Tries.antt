@@ -14,10 +14,10 @@ use Rattle.run_schedules.specs.Schedules.Lists.{OneOf}
 use Rattle.run_schedules.specs.Schedules.Moment.{Moment, UnderWay as CallThere}
 use Rattle.run_schedules.specs.Schedules.Tries.{try_at, FindsTaken}
 use Rattle.run_schedules.specs.Schedules.Views.{call_of}
-use Rattle.run_executor.specs.Given.CallersTogether.{UnderWay}
-use Rattle.run_executor.specs.Given.FinishesMachines.{machine_of}
+use Rattle.run_finds.specs.Given.CallersTogether.{UnderWay}
+use Rattle.run_finds.specs.Given.FinishesMachines.{machine_of}
 use Rattle.run_finds.specs.Within.{many_of}
-use Rattle.run_executor.specs.Given.ScenesScene.{Scene}
+use Rattle.run_finds.specs.Given.ScenesScene.{Scene}
 use Rattle.run_schedules.specs.Schedules.Transition.{Past}
 use Rattle.std.specs.List.{AllByRecursion}
 

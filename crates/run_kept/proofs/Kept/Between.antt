@@ -14,19 +14,19 @@ use Rattle.run_schedules.specs.Schedules.Growing.{only_looks}
 use Rattle.run_schedules.specs.Schedules.Moment.{Moment}
 use Rattle.run_schedules.specs.declared.call.Call.{Call}
 use Rattle.run_schedules.specs.declared.call.Call.TheVariants.{On, Reserve, Clear, Retain, Len, Walk}
-use Rattle.run_shows.specs.Given.PointsSteps.{AreLawful}
-use Rattle.run_shows.specs.Given.LateToldSweeps.{IsRowOfSweep}
-use Rattle.run_shows.specs.Given.CallersOverAll.{CallOverAll}
-use Rattle.run_shows.specs.Given.CallersRooms.{CallForRoom}
-use Rattle.run_shows.specs.Given.CallersPairs.{Given}
-use Rattle.run_shows.specs.Given.CallersTogether.{UnderWay, OnKey, ForRoom, Counting, OverAll, IsBegun, Gets, Removes, Inserts, TriesToInsert, Computes, Updates, UpdatesOrInserts, TriesToInsertWith, RemovesIf}
-use Rattle.run_shows.proofs.Given.CallersTogether.At.{at_same, at_other}
-use Rattle.run_shows.specs.Given.FinishesMachines.{machine_of}
-use Rattle.run_shows.specs.Given.FinishesMaps.{Standing, with_call as with_in}
-use Rattle.run_shows.specs.Follows.Calling.{told}
-use Rattle.run_shows.specs.Follows.Calls.{IsCalled}
+use Rattle.run_executor.specs.Given.PointsSteps.{AreLawful}
+use Rattle.run_executor.specs.Given.LateToldSweeps.{IsRowOfSweep}
+use Rattle.run_executor.specs.Given.CallersOverAll.{CallOverAll}
+use Rattle.run_executor.specs.Given.CallersRooms.{CallForRoom}
+use Rattle.run_executor.specs.Given.CallersPairs.{Given}
+use Rattle.run_executor.specs.Given.CallersTogether.{UnderWay, OnKey, ForRoom, Counting, OverAll, IsBegun, Gets, Removes, Inserts, TriesToInsert, Computes, Updates, UpdatesOrInserts, TriesToInsertWith, RemovesIf}
+use Rattle.run_executor.proofs.Given.CallersTogether.At.{at_same, at_other}
+use Rattle.run_executor.specs.Given.FinishesMachines.{machine_of}
+use Rattle.run_executor.specs.Given.FinishesMaps.{Standing, with_call as with_in}
+use Rattle.run_executor.specs.Given.FollowsCalling.{told}
+use Rattle.run_executor.specs.Given.FollowsCalls.{IsCalled}
 use Rattle.run_executor.specs.Given.HandsCalling.{IsBegunFor}
-use Rattle.run_shows.specs.Others.Walks.{given_up}
+use Rattle.run_executor.specs.Given.OthersWalks.{given_up}
 use Rattle.run_blocks.specs.Owes.Looking.{IsLooking}
 use Rattle.run_blocks.specs.Owes.Made.{OwnsSo}
 use Rattle.run_blocks.proofs.Owes.Between.{calls_begin_made, calls_begin_owning, calls_take_made, walks_go_on_made, walks_stop_made}
@@ -51,11 +51,11 @@ use Rattle.run_waiting.proofs.Lives.Waiting.{others_leave_waiting}
 use Rattle.run_blocks.specs.Given.WaitsOthers.{copier_in, copier_in_room, copier_in_sweep, copier_of}
 use Rattle.run_kept.proofs.Kept.Ends.{calls_begin_ends, calls_take_ends, walks_go_on_ends, walks_stop_ends}
 use Rattle.run_kept.specs.Kept.Steps.{CallsBeginKept, CallsTakeKept, WalksPreserveKept, WalksStopKept}
-use Rattle.run_shows.proofs.Scenes.May.{standing_is}
-use Rattle.run_shows.specs.Scenes.Beginning.{Begins}
-use Rattle.run_shows.specs.Scenes.Held.{Held, IsAt}
-use Rattle.run_shows.specs.Scenes.Replying.{scene_with, unless_stopped}
-use Rattle.run_shows.specs.Scenes.Scene.{HasCall, Scene, slot_of}
+use Rattle.run_executor.proofs.Given.ScenesMay.{standing_is}
+use Rattle.run_executor.specs.Given.ScenesBeginning.{Begins}
+use Rattle.run_executor.specs.Given.ScenesHeld.{Held, IsAt}
+use Rattle.run_executor.specs.Given.ScenesReplying.{scene_with, unless_stopped}
+use Rattle.run_executor.specs.Given.ScenesScene.{HasCall, Scene, slot_of}
 
 -- a call that begins has nothing in hand
 module _ (K V : Type 0) (same : K → K → Bool) where

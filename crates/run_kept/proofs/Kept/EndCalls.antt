@@ -15,11 +15,11 @@ use Rattle.run_schedules.specs.Given.SeizeWordsPlan.{Steps}
 use Rattle.seize.specs.World.{with_at}
 use Rattle.papaya_raw.specs.Given.TablesChunks.{is_incremental}
 use Rattle.papaya_raw.specs.Given.TablesDeclared.node.Node.{Node}
-use Rattle.run_effects.specs.Given.ResizeDeclared.copier.Copying.{Copying as Point}
-use Rattle.run_effects.specs.Given.ResizeDeclared.copier.Copying.TheVariants as copies
-use Rattle.run_effects.specs.Given.ResizeDeclared.yielding.Yielding.{Yielding}
-use Rattle.run_effects.specs.Given.ResizeDeclared.yielding.Yielding.TheVariants as outcome
-use Rattle.run_effects.specs.Given.ResizeDeclared.sum.Sum.{Sum}
+use Rattle.run_blocks.specs.Given.ResizeDeclared.copier.Copying.{Copying as Point}
+use Rattle.run_blocks.specs.Given.ResizeDeclared.copier.Copying.TheVariants as copies
+use Rattle.run_blocks.specs.Given.ResizeDeclared.yielding.Yielding.{Yielding}
+use Rattle.run_blocks.specs.Given.ResizeDeclared.yielding.Yielding.TheVariants as outcome
+use Rattle.run_blocks.specs.Given.ResizeDeclared.sum.Sum.{Sum}
 use Rattle.papaya_raw.specs.Call.{call_plan}
 use Rattle.papaya_raw.specs.Machine.{reserved as of_room}
 use Rattle.papaya_raw.specs.Progress.{of_called, of_outcome, of_swept}
@@ -39,24 +39,24 @@ use Rattle.papaya_raw.specs.Given.ReservesDeclared.sweep.Sweep.{Sweep}
 use Rattle.papaya_raw.specs.Given.ReservesDeclared.sweep.Swept.{Swept}
 use Rattle.papaya_raw.specs.Given.ReservesDeclared.sweep.Sweeping.{Sweeping}
 use Rattle.papaya_raw.specs.Given.ReservesDeclared.sweep.Sweeping.TheVariants as sweeps
-use Rattle.run_effects.specs.Given.RuleChart.{Chart}
-use Rattle.run_effects.specs.Given.RuleWords.{Blocks}
-use Rattle.run_shows.specs.Given.PointsSteps.{AreLawful}
-use Rattle.run_shows.specs.Given.PointsTold.{IsRowOfCall, IsRowOfCopier}
-use Rattle.run_shows.specs.Given.LateToldReserves.{IsRowOfReserve}
-use Rattle.run_shows.specs.Given.LateToldSweeps.{IsRowOfSweep}
-use Rattle.run_effects.specs.ReportingMemory.Tells.{StepsObserved}
-use Rattle.run_effects.specs.declared.changed.Changed.TheVariants as changed
-use Rattle.run_shows.specs.Given.CallersOverAll.{CallOverAll}
-use Rattle.run_shows.specs.Given.CallersRooms.{CallForRoom}
-use Rattle.run_shows.specs.Given.CallersSights.{Visible}
-use Rattle.run_shows.specs.Given.CallersTogether.{CallOnKey, UnderWay, OnKey, ForRoom, Counting, OverAll, Together, next_of_counting}
-use Rattle.run_shows.proofs.Given.CallersTogether.At.{at_same, at_other}
-use Rattle.run_effects.specs.Effects.Known.{Known}
-use Rattle.run_shows.specs.Given.FinishesMaps.{Standing, IsSameMap}
-use Rattle.run_shows.specs.Follows.Shows.{Refines}
-use Rattle.run_shows.proofs.Follows.Steps.{WentTo, went_to, DidSo}
-use Rattle.run_shows.proofs.Others.Outcomes.{told_in}
+use Rattle.run_executor.specs.Given.RuleChart.{Chart}
+use Rattle.run_executor.specs.Given.RuleWords.{Blocks}
+use Rattle.run_executor.specs.Given.PointsSteps.{AreLawful}
+use Rattle.run_executor.specs.Given.PointsTold.{IsRowOfCall, IsRowOfCopier}
+use Rattle.run_executor.specs.Given.LateToldReserves.{IsRowOfReserve}
+use Rattle.run_executor.specs.Given.LateToldSweeps.{IsRowOfSweep}
+use Rattle.run_executor.specs.Given.TellerTells.{StepsObserved}
+use Rattle.run_executor.specs.Given.EffectsDeclared.changed.Changed.TheVariants as changed
+use Rattle.run_executor.specs.Given.CallersOverAll.{CallOverAll}
+use Rattle.run_executor.specs.Given.CallersRooms.{CallForRoom}
+use Rattle.run_executor.specs.Given.CallersSights.{Visible}
+use Rattle.run_executor.specs.Given.CallersTogether.{CallOnKey, UnderWay, OnKey, ForRoom, Counting, OverAll, Together, next_of_counting}
+use Rattle.run_executor.proofs.Given.CallersTogether.At.{at_same, at_other}
+use Rattle.run_executor.specs.Given.EffectsKnown.{Known}
+use Rattle.run_executor.specs.Given.FinishesMaps.{Standing, IsSameMap}
+use Rattle.run_executor.specs.Given.FollowsShows.{Refines}
+use Rattle.run_executor.proofs.Given.FollowsSteps.{WentTo, went_to, DidSo}
+use Rattle.run_executor.proofs.Given.OthersOutcomes.{told_in}
 use Rattle.run_schedules.specs.Schedules.Moment.{Moment}
 use Rattle.run_blocks.proofs.Given.SettlesKeys.{steps as key_told}
 use Rattle.run_blocks.proofs.Given.SettlesRest.{steps as sweep_told}
@@ -65,11 +65,11 @@ use Rattle.run_kept.proofs.Kept.Ends.{StoodSo, call_goes, idle_keeps, stood_ends
 use Rattle.seize.specs.declared.advance.Advance.{Advance as CountGoes}
 use Rattle.seize.specs.declared.advance.Advance.TheVariants as progress
 use Rattle.papaya_raw.specs.Given.TablesDeclared.setting.Setting.{Setting}
-use Rattle.run_shows.proofs.Scenes.Told.{as_step}
-use Rattle.run_shows.specs.Scenes.Held.{Held, IsAt}
-use Rattle.run_shows.specs.Scenes.Scene.{Scene, slot_of}
-use Rattle.run_shows.specs.Scenes.Stepping.{StepLeads, scene_after}
-use Rattle.run_shows.proofs.Given.General.{same_some as one_of}
+use Rattle.run_executor.proofs.Given.ScenesTold.{as_step}
+use Rattle.run_executor.specs.Given.ScenesHeld.{Held, IsAt}
+use Rattle.run_executor.specs.Given.ScenesScene.{Scene, slot_of}
+use Rattle.run_executor.specs.Given.ScenesStepping.{StepLeads, scene_after}
+use Rattle.run_executor.proofs.Given.General.{same_some as one_of}
 
 -- at a row no call is to end a copying
 row_point : (stands : Point) → IsRowOfCopier stands → IsIdleAt stands

@@ -13,8 +13,8 @@ use Rattle.seize.specs.World.{World, Event, with_at}
 use Rattle.papaya_raw.specs.Given.TablesChunks.{is_incremental}
 use Rattle.papaya_raw.specs.Given.TablesDeclared.node.Node.{Node}
 use Rattle.papaya_raw.specs.Given.TablesDeclared.setting.Setting.{Setting}
-use Rattle.run_effects.specs.Given.ResizeDeclared.copier.Copier.{Copier}
-use Rattle.run_effects.specs.Given.ResizeDeclared.new_map.NewMap.{NewMap}
+use Rattle.run_blocks.specs.Given.ResizeDeclared.copier.Copier.{Copier}
+use Rattle.run_blocks.specs.Given.ResizeDeclared.new_map.NewMap.{NewMap}
 use Rattle.papaya_raw.specs.CallAsks.{replied_at}
 use Rattle.papaya_raw.specs.Machine.{is_ready, machine_asked, machine_replied, sweep_with_reply}
 use Rattle.papaya_raw.specs.declared.machines.asking.MachineReply.{MachineReply}
@@ -28,28 +28,28 @@ use Rattle.papaya_raw.specs.Given.SweepsSweepPoints.{next_at}
 use Rattle.papaya_raw.specs.Given.ReservesDeclared.sweep.Sweep.{Sweep}
 use Rattle.papaya_raw.specs.Given.ReservesDeclared.sweep.Sweeping.{Sweeping}
 use Rattle.papaya_raw.specs.Given.ReservesDeclared.sweep.Sweeping.TheVariants as sweeping
-use Rattle.run_effects.specs.Given.RuleChart.{Chart}
-use Rattle.run_shows.specs.Given.CallersTogether.{UnderWay, OnKey, ForRoom, Counting, OverAll}
-use Rattle.run_shows.proofs.Given.CallersTogether.At.{at_same, at_other}
-use Rattle.run_shows.specs.Given.FinishesEndings.{Finishing}
-use Rattle.run_shows.specs.Given.FinishesFactsEnds.{Deed}
-use Rattle.run_shows.specs.Given.FinishesMachines.{machine_of}
-use Rattle.run_shows.specs.Given.FinishesMakings.{Beginning, IsNewChart}
-use Rattle.run_shows.specs.Given.FinishesMaps.{Standing, IsSameMap, with_call as with_in}
-use Rattle.run_shows.specs.Follows.Calling.{NoneNamed}
-use Rattle.run_shows.proofs.Follows.Calling.{is_same_refl}
-use Rattle.run_shows.specs.Others.Endings.{ending_after}
-use Rattle.run_shows.specs.Others.Makings.{making_after}
-use Rattle.run_shows.specs.Others.Rows.{scene_then}
+use Rattle.run_executor.specs.Given.RuleChart.{Chart}
+use Rattle.run_executor.specs.Given.CallersTogether.{UnderWay, OnKey, ForRoom, Counting, OverAll}
+use Rattle.run_executor.proofs.Given.CallersTogether.At.{at_same, at_other}
+use Rattle.run_executor.specs.Given.FinishesEndings.{Finishing}
+use Rattle.run_executor.specs.Given.FinishesFactsEnds.{Deed}
+use Rattle.run_executor.specs.Given.FinishesMachines.{machine_of}
+use Rattle.run_executor.specs.Given.FinishesMakings.{Beginning, IsNewChart}
+use Rattle.run_executor.specs.Given.FinishesMaps.{Standing, IsSameMap, with_call as with_in}
+use Rattle.run_executor.specs.Given.FollowsCalling.{NoneNamed}
+use Rattle.run_executor.proofs.Given.FollowsCalling.{is_same_refl}
+use Rattle.run_executor.specs.Given.OthersEndings.{ending_after}
+use Rattle.run_executor.specs.Given.OthersMakings.{making_after}
+use Rattle.run_executor.specs.Given.OthersRows.{scene_then}
 use Rattle.run_kept.specs.Kept.Ends.{HaveEndsIn, MapsHaveEnds}
 use Rattle.run_kept.proofs.Kept.ToldFresh.{reply_fresh, told_fresh}
-use Rattle.run_shows.specs.Scenes.Ending.{EndingHasOutcome, ending_begun}
-use Rattle.run_shows.specs.Scenes.Held.{Held}
-use Rattle.run_shows.specs.Scenes.Making.{MakingHasOutcome}
-use Rattle.run_shows.specs.Scenes.OnSlots.{HappensAt}
-use Rattle.run_shows.specs.Scenes.Replying.{scene_with, unless_stopped}
-use Rattle.run_shows.specs.Scenes.Scene.{Scene, at_first}
-use Rattle.run_shows.proofs.Given.General.{same_some as one_of}
+use Rattle.run_executor.specs.Given.ScenesEnding.{EndingHasOutcome, ending_begun}
+use Rattle.run_executor.specs.Given.ScenesHeld.{Held}
+use Rattle.run_executor.specs.Given.ScenesMaking.{MakingHasOutcome}
+use Rattle.run_executor.specs.Given.ScenesOnSlots.{HappensAt}
+use Rattle.run_executor.specs.Given.ScenesReplying.{scene_with, unless_stopped}
+use Rattle.run_executor.specs.Given.ScenesScene.{Scene, at_first}
+use Rattle.run_executor.proofs.Given.General.{same_some as one_of}
 
 -- a call that is to do nothing for a copying goes on so, in blocking mode as one that begins
 pub idle_keeps : {K V : Type 0} (incremental : Bool) (c : Chart K) (calls : ℕ → Option (UnderWay K V K)) (i : ℕ) (next : Option (UnderWay K V K)) → HaveEndsIn incremental c calls

@@ -2,7 +2,7 @@
 use Rattle.std.specs.Prelude.{◌≡◌, ◌⊎◌, ◌<◌, ◌+◌, ℕ, Bool, true, List, Option, Some, None, is_some}
 use Rattle.std.proofs.Common.{refl, ap, sym, subst, ◌∙◌, inl, inr}
 use Rattle.run_schedules.specs.Given.SeizeWordsMem.{value_at}
-use Rattle.run_shows.specs.Given.SeizeWordsWord.{block_in}
+use Rattle.run_executor.specs.Given.SeizeWordsWord.{block_in}
 use Rattle.run_schedules.specs.Given.SeizeWordsDeclared.at.At.TheVariants.{Root, Used, Slot, Entry, Word}
 use Rattle.seize.specs.Law.{is_retired}
 use Rattle.seize.specs.declared.advance.Advance.{Advance}
@@ -15,41 +15,41 @@ use Rattle.seize.specs.declared.rows.settle.Settling.{Settling}
 use Rattle.seize.specs.declared.rows.settle.Settling.TheVariants as settling
 use Rattle.seize.specs.declared.states.TheConstants.{LAST_SLOT}
 use Rattle.seize.specs.World.{World, Hand, InUse, LeftTo, Handed, Row, Rests, Registers, Enters, Settles, Leaves, Defers, Frees}
-use Rattle.run_effects.proofs.Given.SeizeMovesState.Ghost.{Life, IsDeferring, State, is_given}
-use Rattle.run_effects.proofs.Given.SeizeMovesSets.Unmoved.{is_in_wait}
-use Rattle.run_effects.proofs.Given.SeizeRuleRows.Known.{FitsDefer, FitsRow}
-use Rattle.run_effects.proofs.Given.SeizeRuleRows.Told.{IsOnWay}
-use Rattle.run_effects.proofs.Given.SeizeMemoryWords.Named.{link-block}
-use Rattle.run_effects.proofs.Given.SeizeMemoryWords.Shows.{Extra}
-use Rattle.run_effects.proofs.Given.SeizeMemoryWords.There.{live_pos}
-use Rattle.run_effects.proofs.Given.SeizeMemoryWords.View.{View, view}
+use Rattle.run_executor.proofs.Given.SeizeMovesState.Ghost.{Life, IsDeferring, State, is_given}
+use Rattle.run_blocks.proofs.Given.SeizeMovesSets.Unmoved.{is_in_wait}
+use Rattle.run_executor.proofs.Given.SeizeRuleRows.Known.{FitsDefer, FitsRow}
+use Rattle.run_executor.proofs.Given.SeizeRuleRows.Told.{IsOnWay}
+use Rattle.run_executor.proofs.Given.SeizeMemoryWords.Named.{link-block}
+use Rattle.run_executor.proofs.Given.SeizeMemoryWords.Shows.{Extra}
+use Rattle.run_executor.proofs.Given.SeizeMemoryWords.There.{live_pos}
+use Rattle.run_executor.proofs.Given.SeizeMemoryWords.View.{View, view}
 use Rattle.papaya_raw.specs.Given.TablesNodes.{deferred_word}
 use Rattle.papaya_raw.specs.Given.TablesDeclared.node.Node.{Node}
 use Rattle.papaya_raw.specs.Given.TablesDeclared.node.Node.TheVariants as node
 use Rattle.papaya_raw.specs.Given.TablesDeclared.setting.Setting.{Setting}
 use Rattle.run_schedules.specs.Schedules.Moment.{Moment}
-use Rattle.run_effects.specs.declared.changed.Changed.{Changed}
-use Rattle.run_effects.specs.declared.changed.Changed.TheVariants as changed
-use Rattle.run_effects.specs.Given.RuleWords.{byte_of}
-use Rattle.run_effects.proofs.Given.RuleLaws.{words_name_pairs, bytes_are_few}
-use Rattle.run_shows.specs.Given.CallersSights.{seen_by}
-use Rattle.run_shows.specs.Given.CallersTogether.{UnderWay, CameAbout}
-use Rattle.run_effects.specs.Effects.Effects.{known_after}
-use Rattle.run_effects.specs.Effects.Known.{Known}
-use Rattle.run_effects.specs.declared.acting.Acting.TheVariants as acts
-use Rattle.run_effects.specs.declared.role.Role.{Role}
-use Rattle.run_effects.specs.declared.role.Role.TheVariants as role
-use Rattle.run_shows.specs.declared.row.RowTold.{RowTold}
-use Rattle.run_shows.specs.declared.row.SlotRow.{SlotRow}
-use Rattle.run_shows.specs.Given.FinishesEndings.{Finishing}
-use Rattle.run_shows.specs.Given.FinishesMachines.{machine_of}
-use Rattle.run_shows.specs.Given.FinishesMakings.{Beginning}
-use Rattle.run_shows.specs.Follows.Blocks.{HasRole}
-use Rattle.run_shows.proofs.Follows.Alike.{put_elsewhere}
-use Rattle.run_shows.proofs.Follows.Onward.{IsOfMap}
-use Rattle.run_shows.proofs.Follows.Told.{roomed_as_many}
-use Rattle.run_shows.specs.Others.Makings.{WasNew}
-use Rattle.run_shows.proofs.Others.RowPlans.{TellsRow, row_tells}
+use Rattle.run_executor.specs.Given.EffectsDeclared.changed.Changed.{Changed}
+use Rattle.run_executor.specs.Given.EffectsDeclared.changed.Changed.TheVariants as changed
+use Rattle.run_executor.specs.Given.RuleWords.{byte_of}
+use Rattle.run_executor.proofs.Given.RuleLaws.{words_name_pairs, bytes_are_few}
+use Rattle.run_executor.specs.Given.CallersSights.{seen_by}
+use Rattle.run_executor.specs.Given.CallersTogether.{UnderWay, CameAbout}
+use Rattle.run_executor.specs.Given.EffectsEffects.{known_after}
+use Rattle.run_executor.specs.Given.EffectsKnown.{Known}
+use Rattle.run_executor.specs.Given.EffectsDeclared.acting.Acting.TheVariants as acts
+use Rattle.run_executor.specs.Given.EffectsDeclared.role.Role.{Role}
+use Rattle.run_executor.specs.Given.EffectsDeclared.role.Role.TheVariants as role
+use Rattle.run_executor.specs.Given.ScenesDeclared.row.RowTold.{RowTold}
+use Rattle.run_executor.specs.Given.ScenesDeclared.row.SlotRow.{SlotRow}
+use Rattle.run_executor.specs.Given.FinishesEndings.{Finishing}
+use Rattle.run_executor.specs.Given.FinishesMachines.{machine_of}
+use Rattle.run_executor.specs.Given.FinishesMakings.{Beginning}
+use Rattle.run_executor.specs.Given.FollowsBlocks.{HasRole}
+use Rattle.run_executor.proofs.Given.FollowsAlike.{put_elsewhere}
+use Rattle.run_executor.proofs.Given.FollowsOnward.{IsOfMap}
+use Rattle.run_executor.proofs.Given.FollowsTold.{roomed_as_many}
+use Rattle.run_executor.specs.Given.OthersMakings.{WasNew}
+use Rattle.run_executor.proofs.Given.OthersRowPlans.{TellsRow, row_tells}
 use Rattle.run_executor.specs.Given.MomentsWhole.{RefinesWhole}
 use Rattle.run_blocks.proofs.Owes.Lasting.{IsAside, ending_says, ending_spares}
 use Rattle.run_blocks.specs.Given.SettlesDue.{due_in_settle, due_in_defer}
@@ -63,12 +63,12 @@ use Rattle.run_waiting.proofs.Lives.Retires.{given_hand, row_life}
 use Rattle.run_waiting.proofs.Lives.Rows.{on_the_way}
 use Rattle.run_waiting.proofs.Lives.Taken.{told_retired}
 use Rattle.run_waiting.proofs.Lives.Worlds.{Kept, runs_kept, start_kept, waiting_hand}
-use Rattle.run_shows.proofs.Scenes.May.{standing_is}
-use Rattle.run_shows.specs.Scenes.Ending.{EndingLeads}
-use Rattle.run_shows.specs.Scenes.Held.{Held, IsAt}
-use Rattle.run_shows.specs.Scenes.Making.{MakingLeads}
-use Rattle.run_shows.specs.Scenes.OnSlots.{RowLeads}
-use Rattle.run_shows.specs.Scenes.Scene.{IsOnSlot, Scene, slot_of}
+use Rattle.run_executor.proofs.Given.ScenesMay.{standing_is}
+use Rattle.run_executor.specs.Given.ScenesEnding.{EndingLeads}
+use Rattle.run_executor.specs.Given.ScenesHeld.{Held, IsAt}
+use Rattle.run_executor.specs.Given.ScenesMaking.{MakingLeads}
+use Rattle.run_executor.specs.Given.ScenesOnSlots.{RowLeads}
+use Rattle.run_executor.specs.Given.ScenesScene.{IsOnSlot, Scene, slot_of}
 
 -- what a row is to retire, or to put behind another block
 

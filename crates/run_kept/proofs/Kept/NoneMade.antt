@@ -6,12 +6,12 @@ use Rattle.run_schedules.specs.declared.effect.Effect.{Effect}
 use Rattle.run_schedules.specs.declared.effect.Effect.TheVariants as effect
 use Rattle.run_schedules.specs.declared.effect.Growth.TheVariants.{ABucket}
 use Rattle.run_schedules.specs.Schedules.Handing.{is_made}
-use Rattle.run_effects.specs.ReportingMemory.Changed.{is_made as is_block_made}
-use Rattle.run_effects.specs.declared.changed.Changed.{Changed}
-use Rattle.run_effects.specs.declared.changed.Changed.TheVariants as changed
-use Rattle.run_effects.specs.Effects.Effects.{effects_of}
-use Rattle.run_effects.specs.Effects.Known.{Known}
-use Rattle.run_effects.specs.declared.acting.Acting.{Acting}
+use Rattle.run_blocks.specs.Given.TellerChanged.{is_made as is_block_made}
+use Rattle.run_executor.specs.Given.EffectsDeclared.changed.Changed.{Changed}
+use Rattle.run_executor.specs.Given.EffectsDeclared.changed.Changed.TheVariants as changed
+use Rattle.run_executor.specs.Given.EffectsEffects.{effects_of}
+use Rattle.run_executor.specs.Given.EffectsKnown.{Known}
+use Rattle.run_executor.specs.Given.EffectsDeclared.acting.Acting.{Acting}
 use Rattle.run_blocks.proofs.Owes.Short.Effects.{NoneOfGrowth, none_asked, of_growth}
 
 not_made : (f : Effect) → of_growth f ≡ false → is_made f ≡ false

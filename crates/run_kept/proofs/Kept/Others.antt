@@ -9,21 +9,21 @@ use Rattle.seize.specs.World.{World, Begin, Step}
 use Rattle.papaya_raw.specs.Given.TablesDeclared.node.Node.{Node}
 use Rattle.papaya_raw.specs.Given.TablesDeclared.setting.Setting.{Setting}
 use Rattle.papaya_raw.specs.declared.machines.end_map.EndMap.{EndMap}
-use Rattle.run_effects.specs.Given.ResizeDeclared.new_map.NewMap.{NewMap}
+use Rattle.run_blocks.specs.Given.ResizeDeclared.new_map.NewMap.{NewMap}
 use Rattle.run_schedules.specs.Schedules.Effects.{with_effects}
 use Rattle.run_schedules.specs.declared.effect.Effect.{Effect}
 use Rattle.run_schedules.specs.Schedules.Moment.{Moment}
-use Rattle.run_effects.specs.Effects.Effects.{effects_of, known_after}
-use Rattle.run_effects.specs.Effects.Known.{Known}
-use Rattle.run_effects.specs.declared.acting.Acting.TheVariants as acts
-use Rattle.run_shows.specs.Given.FinishesEndings.{Finishing}
-use Rattle.run_shows.specs.Given.FinishesFactsEnds.{Deed}
-use Rattle.run_shows.specs.Given.FinishesMakings.{Beginning}
-use Rattle.run_shows.specs.Others.Endings.{ending_after}
-use Rattle.run_shows.specs.Others.Makings.{making_after}
-use Rattle.run_shows.specs.Others.Rows.{scene_then}
-use Rattle.run_shows.proofs.Others.Quiet.{calls_none}
-use Rattle.run_shows.proofs.Others.RowPlans.{row_tells}
+use Rattle.run_executor.specs.Given.EffectsEffects.{effects_of, known_after}
+use Rattle.run_executor.specs.Given.EffectsKnown.{Known}
+use Rattle.run_executor.specs.Given.EffectsDeclared.acting.Acting.TheVariants as acts
+use Rattle.run_executor.specs.Given.FinishesEndings.{Finishing}
+use Rattle.run_executor.specs.Given.FinishesFactsEnds.{Deed}
+use Rattle.run_executor.specs.Given.FinishesMakings.{Beginning}
+use Rattle.run_executor.specs.Given.OthersEndings.{ending_after}
+use Rattle.run_executor.specs.Given.OthersMakings.{making_after}
+use Rattle.run_executor.specs.Given.OthersRows.{scene_then}
+use Rattle.run_blocks.proofs.Given.OthersQuiet.{calls_none}
+use Rattle.run_executor.proofs.Given.OthersRowPlans.{row_tells}
 use Rattle.run_blocks.proofs.Owes.Aside.{stays_made}
 use Rattle.run_blocks.proofs.Owes.EndsOfMaps.{endings_keep_made}
 use Rattle.run_blocks.proofs.Owes.Looking.Between.{stays_looking}
@@ -64,11 +64,11 @@ use Rattle.run_kept.proofs.Kept.Calls.{own_made}
 use Rattle.run_kept.proofs.Kept.Ends.{endings_begin_ends, endings_keep_ends, makings_keep_ends, rows_leave_ends}
 use Rattle.run_kept.proofs.Kept.InHand.{rows_leave_in_hand, makings_leave_in_hand, endings_leave_in_hand}
 use Rattle.run_kept.proofs.Kept.Stays.{calls_same, entries_stay, same_in_hand}
-use Rattle.run_shows.specs.Scenes.Ending.{EndingHasOutcome, ending_begun}
-use Rattle.run_shows.specs.Scenes.Held.{Held}
-use Rattle.run_shows.specs.Scenes.Making.{MakingHasOutcome}
-use Rattle.run_shows.specs.Scenes.Rows.{request_of}
-use Rattle.run_shows.specs.Scenes.Scene.{Scene, slot_of}
+use Rattle.run_executor.specs.Given.ScenesEnding.{EndingHasOutcome, ending_begun}
+use Rattle.run_executor.specs.Given.ScenesHeld.{Held}
+use Rattle.run_executor.specs.Given.ScenesMaking.{MakingHasOutcome}
+use Rattle.run_executor.specs.Given.ScenesRows.{request_of}
+use Rattle.run_executor.specs.Given.ScenesScene.{Scene, slot_of}
 
 -- the calls and ends that are under way after a step of a making, and the calls after one of an end
 module _ {K V : Type 0} (same : K → K → Bool) (hash : ℕ → K → ℕ) (s : Scene K V) (old new : Held K V) (i : ℕ) where

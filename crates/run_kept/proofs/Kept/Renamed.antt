@@ -4,12 +4,12 @@ use Rattle.std.proofs.Common.{sym, subst, ◌∙◌, ap}
 use Rattle.run_schedules.specs.Runs.Same.{is_same}
 use Rattle.run_schedules.specs.Schedules.Moment.{Moment}
 use Rattle.run_schedules.specs.Schedules.Views.{call_of}
-use Rattle.run_effects.specs.Effects.Known.{Known}
-use Rattle.run_shows.specs.Follows.Calls.{RefinesCalls}
-use Rattle.run_shows.specs.Follows.Shows.{Refines}
+use Rattle.run_executor.specs.Given.EffectsKnown.{Known}
+use Rattle.run_executor.specs.Given.FollowsCalls.{RefinesCalls}
+use Rattle.run_executor.specs.Given.FollowsShows.{Refines}
 use Rattle.run_executor.specs.Given.HandsAsked.{RefinesAsked}
 use Rattle.run_executor.specs.Given.MomentsWhole.{RefinesWhole}
-use Rattle.run_shows.specs.Scenes.Scene.{HasCall, Scene}
+use Rattle.run_executor.specs.Given.ScenesScene.{HasCall, Scene}
 
 module _ {K V : Type 0} (same : K → K → Bool) (name name2 : ℕ → List ℕ) (m : Moment K V) (known : Known) (s : Scene K V) (agree : (i : ℕ) → HasCall s i → name2 i ≡ name i) where
   pub calls : RefinesCalls same name m s.calls → RefinesCalls same name2 m s.calls

@@ -6,10 +6,10 @@ use Rattle.papaya_raw.specs.Given.TablesDeclared.node.Node.{Node}
 use Rattle.run_schedules.specs.Runs.Same.{is_same}
 use Rattle.run_schedules.specs.Schedules.Moment.{UnderWay as CallThere, Moment}
 use Rattle.run_schedules.specs.Schedules.Views.{call_of}
-use Rattle.run_shows.specs.Given.CallersTogether.{UnderWay}
-use Rattle.run_effects.specs.Effects.Known.{Known}
-use Rattle.run_shows.specs.Given.FinishesMachines.{machine_of}
-use Rattle.run_shows.specs.Follows.Calling.{come_to}
+use Rattle.run_executor.specs.Given.CallersTogether.{UnderWay}
+use Rattle.run_executor.specs.Given.EffectsKnown.{Known}
+use Rattle.run_executor.specs.Given.FinishesMachines.{machine_of}
+use Rattle.run_executor.specs.Given.FollowsCalling.{come_to}
 use Rattle.run_blocks.proofs.Owes.Aside.{stays_made}
 use Rattle.run_blocks.proofs.Owes.Between.{made_begins, calls_come_to_made}
 use Rattle.run_blocks.proofs.Owes.Looking.Between.{looking_begins, stays_looking, calls_come_to_looking}
@@ -36,7 +36,7 @@ use Rattle.run_waiting.proofs.Lives.Reclaimed.{retired_begins, others_leave_reti
 use Rattle.run_waiting.proofs.Lives.Waiting.{waiting_begins, others_leave_waiting}
 use Rattle.run_kept.proofs.Kept.Ends.{ends_begin, ends_stay}
 use Rattle.run_kept.specs.Kept.Steps.{BeginsKept, StaysKept, RenamedKept, CallsComeToKept, MakingsBeginKept}
-use Rattle.run_shows.specs.Scenes.Scene.{HasCall, Scene}
+use Rattle.run_executor.specs.Given.ScenesScene.{HasCall, Scene}
 
 pub begins_kept : (K V : Type 0) → BeginsKept K V
 begins_kept K V roots name = record {

@@ -29,7 +29,7 @@ use Rattle.papaya_raw.specs.Given.SweepsSweepPoints.{further, reply_at}
 use Rattle.papaya_raw.specs.Given.ReservesDeclared.sweep.Sweep.{Sweep}
 use Rattle.papaya_raw.specs.Given.ReservesDeclared.sweep.Sweeping.{Sweeping}
 use Rattle.papaya_raw.specs.Given.ReservesDeclared.sweep.Sweeping.TheVariants as sweeping
-use Rattle.run_shows.proofs.Given.LateSwept.Sweeps.Stands.{quiet_further}
+use Rattle.run_executor.proofs.Given.LateSwept.Sweeps.Stands.{quiet_further}
 
 module _ {K V : Type 0} where
   -- a call on one key that is told what to do copies nothing then

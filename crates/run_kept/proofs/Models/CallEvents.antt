@@ -6,15 +6,15 @@ use Rattle.std.proofs.lemmas.List.Concat.{flat_map-append, flat_map-cons}
 use Rattle.seize.specs.Sequence.{changes}
 use Rattle.seize.specs.WaitingSets.{Change, Retires, Defers, Sets, After, all_changed}
 use Rattle.seize.specs.World.{World, Row, Rests, Request, Register', Enter', Leave', LeaveOwned, Refresh, Unregister', Retire, Flush, Defer', Begin, Step, Steps', Happens}
-use Rattle.run_shows.proofs.Given.SeizeSetsTurns.Append.{changed_append}
+use Rattle.run_executor.proofs.Given.SeizeSetsTurns.Append.{changed_append}
 use Rattle.papaya_raw.specs.declared.machines.progress.Progress.{Progress}
 use Rattle.papaya_raw.specs.Given.TablesNodes.{deferred_word}
 use Rattle.papaya_raw.specs.Given.TablesDeclared.node.Node.{Node}
-use Rattle.run_shows.specs.Given.CallersTogether.{UnderWay, HandsOver}
-use Rattle.run_effects.specs.Effects.Effects.{effects_of, known_after}
-use Rattle.run_effects.specs.Effects.Known.{Known}
-use Rattle.run_effects.specs.declared.acting.Acting.TheVariants.{Call}
-use Rattle.run_shows.proofs.Follows.Onward.{IsLasting, KeepsRoles}
+use Rattle.run_executor.specs.Given.CallersTogether.{UnderWay, HandsOver}
+use Rattle.run_executor.specs.Given.EffectsEffects.{effects_of, known_after}
+use Rattle.run_executor.specs.Given.EffectsKnown.{Known}
+use Rattle.run_executor.specs.Given.EffectsDeclared.acting.Acting.TheVariants.{Call}
+use Rattle.run_executor.proofs.Given.FollowsOnward.{IsLasting, KeepsRoles}
 use Rattle.run_executor.specs.Given.MomentsWhole.{RefinesWhole}
 use Rattle.run_schedules.specs.Schedules.After.{moment}
 use Rattle.run_schedules.specs.Schedules.Beginning.{at_work}
@@ -45,9 +45,9 @@ use Rattle.run_kept.proofs.Models.Numbers.{still_in, same_number}
 use Rattle.run_kept.proofs.Models.Quiet.{handing_is_by_model}
 use Rattle.run_kept.proofs.Models.Told.{none_back}
 use Rattle.run_kept.proofs.Models.Turns.{rested}
-use Rattle.run_shows.specs.Scenes.Held.{Held, IsAt}
-use Rattle.run_shows.specs.Scenes.Scene.{Scene}
-use Rattle.run_shows.specs.Scenes.Stepping.{StepLeads}
+use Rattle.run_executor.specs.Given.ScenesHeld.{Held, IsAt}
+use Rattle.run_executor.specs.Given.ScenesScene.{Scene}
+use Rattle.run_executor.specs.Given.ScenesStepping.{StepLeads}
 
 -- Further things change no number of what is handed over.
 

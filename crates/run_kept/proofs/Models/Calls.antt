@@ -4,9 +4,9 @@ use Rattle.std.proofs.Common.{refl, ap, sym, subst, ◌∙◌, inl, inr}
 use Rattle.seize.specs.Sequence.{changes}
 use Rattle.seize.specs.WaitingSets.{Change, Sets, After, all_changed, at_start as sets_at_start}
 use Rattle.seize.specs.World.{World, Rests, Request, Begin, Step, Event, Happens, Runs}
-use Rattle.run_shows.proofs.Given.SeizeSetsTurns.Append.{changed_append}
+use Rattle.run_executor.proofs.Given.SeizeSetsTurns.Append.{changed_append}
 use Rattle.papaya_raw.specs.declared.machines.progress.Progress.{Progress}
-use Rattle.run_effects.specs.Given.RuleInWorld.{AllUsers}
+use Rattle.run_executor.specs.Given.RuleInWorld.{AllUsers}
 use Rattle.papaya_raw.specs.Given.TablesNodes.{deferred_word}
 use Rattle.papaya_raw.specs.Given.TablesDeclared.node.Node.{Node}
 use Rattle.run_schedules.specs.Schedules.Model.{handing}
@@ -14,15 +14,15 @@ use Rattle.run_schedules.specs.Schedules.Moment.{Moment}
 use Rattle.run_schedules.specs.declared.effect.Effect.{Effect}
 use Rattle.run_schedules.specs.declared.effect.Thing.{Thing}
 use Rattle.run_schedules.specs.declared.effect.Thing.TheVariants.{APair, ATable}
-use Rattle.run_shows.specs.Given.CallersSights.{seen_by}
-use Rattle.run_shows.specs.Given.CallersTogether.{UnderWay, OnKey, ForRoom, Counting, OverAll, HandsOver, IsOneStep, IsAtPoint, Together}
-use Rattle.run_effects.specs.Effects.Effects.{effects_of, known_after}
-use Rattle.run_effects.specs.Effects.Known.{Known}
-use Rattle.run_effects.specs.declared.acting.Acting.TheVariants.{Call}
-use Rattle.run_effects.specs.declared.role.Role.{Role}
-use Rattle.run_shows.proofs.Follows.Onward.{IsLasting, KeepsRoles}
-use Rattle.run_shows.proofs.Follows.RowSteps.{row_step_shown}
-use Rattle.run_shows.proofs.Follows.Steps.{WentTo, went_to, DidSo, OfNoRow, step_shown}
+use Rattle.run_executor.specs.Given.CallersSights.{seen_by}
+use Rattle.run_executor.specs.Given.CallersTogether.{UnderWay, OnKey, ForRoom, Counting, OverAll, HandsOver, IsOneStep, IsAtPoint, Together}
+use Rattle.run_executor.specs.Given.EffectsEffects.{effects_of, known_after}
+use Rattle.run_executor.specs.Given.EffectsKnown.{Known}
+use Rattle.run_executor.specs.Given.EffectsDeclared.acting.Acting.TheVariants.{Call}
+use Rattle.run_executor.specs.Given.EffectsDeclared.role.Role.{Role}
+use Rattle.run_executor.proofs.Given.FollowsOnward.{IsLasting, KeepsRoles}
+use Rattle.run_executor.proofs.Given.FollowsRowSteps.{row_step_shown}
+use Rattle.run_executor.proofs.Given.FollowsSteps.{WentTo, went_to, DidSo, OfNoRow, step_shown}
 use Rattle.run_executor.proofs.Given.HandsRowSteps.{rows_hand_theirs}
 use Rattle.run_executor.proofs.Given.HandsSteps.{calls_store_theirs}
 use Rattle.run_executor.specs.Given.MomentsWhole.{RefinesWhole}
@@ -37,9 +37,9 @@ use Rattle.run_kept.proofs.Models.Alike.Changed.{all_alike}
 use Rattle.run_kept.proofs.Models.Handing.{nothing_handed, keeps_all}
 use Rattle.run_kept.proofs.Models.Numbers.{has_one, still_in, same_number}
 use Rattle.run_kept.proofs.Models.Turns.{rows_begin, rows_go_on, rows_end, users_follow}
-use Rattle.run_shows.specs.Scenes.Held.{Held, IsAt}
-use Rattle.run_shows.specs.Scenes.Scene.{Scene, slot_of}
-use Rattle.run_shows.specs.Scenes.Stepping.{StepLeads}
+use Rattle.run_executor.specs.Given.ScenesHeld.{Held, IsAt}
+use Rattle.run_executor.specs.Given.ScenesScene.{Scene, slot_of}
+use Rattle.run_executor.specs.Given.ScenesStepping.{StepLeads}
 
 -- further things change no number
 pub more_numbers : (known : Known) (things more : List Thing) (b n : ℕ) → HasNumber known things b n → HasNumber known (things ++ more) b n

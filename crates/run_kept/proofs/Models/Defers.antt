@@ -20,35 +20,35 @@ use Rattle.seize.specs.Defer.{standing, head_read, after_push, defer_plan, plan_
 use Rattle.seize.specs.Sequence.{changes}
 use Rattle.seize.specs.WaitingSets.{Change, Defers}
 use Rattle.seize.specs.World.{World, Row, Rests, Registers, Enters, Settles, Leaves, Defers as DefersRow, Frees, Request, Defer', Begin, Step, Begins, Happens, Steps', defers_on}
-use Rattle.run_effects.proofs.Given.SeizeMovesState.Ghost.{Life, IsFree, IsOwned, IsLinked, IsUnlinked, IsDeferring, IsDeferred, IsPending, IsIn, IsDoomed, IsLeft, lies_with, can_carry}
-use Rattle.run_effects.specs.Given.SeizeWaitingHeld.{count}
-use Rattle.run_shows.proofs.Given.SeizeRulePoints.Retire.{of_link}
-use Rattle.run_effects.proofs.Given.SeizeRuleRows.Known.{OnWay, FitsDefer, FitsRow}
-use Rattle.run_effects.proofs.Given.SeizeRuleRows.Others.{with_here}
-use Rattle.run_effects.proofs.Given.SeizeMemoryWords.Chains.{Chain}
-use Rattle.run_effects.proofs.Given.SeizeMemoryWords.Named.{word_found}
-use Rattle.run_effects.proofs.Given.SeizeMemoryWords.Shows.{DeferredIs, DrainedIs}
-use Rattle.run_effects.proofs.Given.SeizeMemoryWords.View.{view}
-use Rattle.run_shows.proofs.Given.SeizeRuleWorld.Good.{Good}
-use Rattle.run_shows.proofs.Given.SeizeRuleWorld.Kept.{row_may}
-use Rattle.run_shows.proofs.Given.SeizeAloneHistories.Reached.{Reached}
+use Rattle.run_executor.proofs.Given.SeizeMovesState.Ghost.{Life, IsFree, IsOwned, IsLinked, IsUnlinked, IsDeferring, IsDeferred, IsPending, IsIn, IsDoomed, IsLeft, lies_with, can_carry}
+use Rattle.run_executor.specs.Given.SeizeWaitingHeld.{count}
+use Rattle.run_executor.proofs.Given.SeizeRulePoints.Retire.{of_link}
+use Rattle.run_executor.proofs.Given.SeizeRuleRows.Known.{OnWay, FitsDefer, FitsRow}
+use Rattle.run_executor.proofs.Given.SeizeRuleRows.Others.{with_here}
+use Rattle.run_executor.proofs.Given.SeizeMemoryWords.Chains.{Chain}
+use Rattle.run_executor.proofs.Given.SeizeMemoryWords.Named.{word_found}
+use Rattle.run_executor.proofs.Given.SeizeMemoryWords.Shows.{DeferredIs, DrainedIs}
+use Rattle.run_executor.proofs.Given.SeizeMemoryWords.View.{view}
+use Rattle.run_executor.proofs.Given.SeizeRuleWorld.Good.{Good}
+use Rattle.run_executor.proofs.Given.SeizeRuleWorld.Kept.{row_may}
+use Rattle.run_executor.proofs.Given.SeizeAloneHistories.Reached.{Reached}
 use Rattle.papaya_raw.specs.Given.TablesNodes.{deferred_word}
 use Rattle.papaya_raw.specs.Given.TablesDeclared.node.Node.{Node}
 use Rattle.papaya_raw.specs.Given.TablesDeclared.node.Node.TheVariants as node
 use Rattle.papaya_raw.specs.Given.TablesDeclared.table_words.TheConstants.{DEFERRED}
-use Rattle.run_effects.specs.declared.changed.Changed.{Changed}
-use Rattle.run_effects.specs.declared.changed.Changed.TheVariants as changed
+use Rattle.run_executor.specs.Given.EffectsDeclared.changed.Changed.{Changed}
+use Rattle.run_executor.specs.Given.EffectsDeclared.changed.Changed.TheVariants as changed
 use Rattle.papaya_raw.specs.declared.machines.progress.Progress.{Progress as ProgressOfCall}
-use Rattle.run_shows.specs.Given.CallersTogether.{UnderWay}
-use Rattle.run_shows.proofs.Given.CallersTogether.Came.{came_reached, came_next}
-use Rattle.run_effects.specs.Effects.Effects.{names_same, effects_of, known_after}
-use Rattle.run_effects.specs.Effects.Known.{Known}
-use Rattle.run_effects.specs.declared.acting.Acting.TheVariants.{Call}
-use Rattle.run_effects.specs.declared.role.Role.{Role}
-use Rattle.run_effects.specs.declared.role.Role.TheVariants as role
-use Rattle.run_shows.specs.Follows.Blocks.{HasRole}
-use Rattle.run_shows.proofs.Follows.Onward.{KeepsRoles}
-use Rattle.run_shows.proofs.Follows.Operations.{LeavesBy, Operated, operated_leaves}
+use Rattle.run_executor.specs.Given.CallersTogether.{UnderWay}
+use Rattle.run_executor.proofs.Given.CallersTogether.Came.{came_reached, came_next}
+use Rattle.run_executor.specs.Given.EffectsEffects.{names_same, effects_of, known_after}
+use Rattle.run_executor.specs.Given.EffectsKnown.{Known}
+use Rattle.run_executor.specs.Given.EffectsDeclared.acting.Acting.TheVariants.{Call}
+use Rattle.run_executor.specs.Given.EffectsDeclared.role.Role.{Role}
+use Rattle.run_executor.specs.Given.EffectsDeclared.role.Role.TheVariants as role
+use Rattle.run_executor.specs.Given.FollowsBlocks.{HasRole}
+use Rattle.run_executor.proofs.Given.FollowsOnward.{KeepsRoles}
+use Rattle.run_executor.proofs.Given.FollowsOperations.{LeavesBy, Operated, operated_leaves}
 use Rattle.run_executor.proofs.Given.HandsHanding.{plan_aside}
 use Rattle.run_executor.specs.Given.MomentsWhole.{RefinesWhole}
 use Rattle.run_schedules.specs.Schedules.Model.{number_in, handing}
@@ -65,9 +65,9 @@ use Rattle.run_kept.proofs.Models.Calls.{one_step, kept_numbers}
 use Rattle.run_kept.proofs.Models.Handing.{nothing_handed, keep_of}
 use Rattle.run_kept.proofs.Models.HandsOver.{No, Stepped, to, came, made, keeps}
 use Rattle.run_kept.proofs.Models.Told.{quiet_keeps, word_defers, is_told}
-use Rattle.run_shows.specs.Scenes.Held.{Held, IsAt}
-use Rattle.run_shows.specs.Scenes.Scene.{Scene}
-use Rattle.run_shows.specs.Scenes.Stepping.{StepLeads}
+use Rattle.run_executor.specs.Given.ScenesHeld.{Held, IsAt}
+use Rattle.run_executor.specs.Given.ScenesScene.{Scene}
+use Rattle.run_executor.specs.Given.ScenesStepping.{StepLeads}
 
 itself : (t field : ℕ) → same_at (Word t field) (Word t field) ≡ true
 itself t field = grind (arith, eq-eqb t t refl, eq-eqb field field refl)

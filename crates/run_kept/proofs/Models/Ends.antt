@@ -12,7 +12,7 @@ use Rattle.seize.specs.Sequence.{ended_by}
 use Rattle.seize.specs.WaitingSets.{Change, Ends, Further, Sets, is_one_of}
 use Rattle.seize.specs.World.{World, LeftTo, Event, Runs, Ends as EndsOwner, times, with_effect}
 use Rattle.seize.specs.declared.rows.settle.Settled.{Settled}
-use Rattle.run_effects.specs.Given.SeizeWaitingHeld.{Every}
+use Rattle.run_executor.specs.Given.SeizeWaitingHeld.{Every}
 use Rattle.papaya_raw.specs.Given.TablesNodes.{deferred_word}
 use Rattle.papaya_raw.specs.Given.TablesDeclared.node.Node.{Node}
 use Rattle.papaya_raw.specs.Given.TablesDeclared.node.Node.TheVariants as node
@@ -26,20 +26,20 @@ use Rattle.run_schedules.specs.declared.effect.Effect.TheVariants as effect
 use Rattle.run_schedules.specs.declared.effect.TableId.{TableId}
 use Rattle.run_schedules.specs.declared.effect.Thing.{Thing}
 use Rattle.run_schedules.specs.declared.effect.Thing.TheVariants.{APair, ATable}
-use Rattle.run_effects.specs.declared.changed.Changed.{Changed}
-use Rattle.run_effects.specs.declared.changed.Changed.TheVariants as changed
-use Rattle.run_effects.specs.Effects.Effects.{taken_by as what_was, effects_of, known_after}
-use Rattle.run_effects.specs.Effects.Known.{Known, with_role}
-use Rattle.run_effects.specs.declared.acting.Acting.{Acting}
-use Rattle.run_effects.specs.declared.acting.Acting.TheVariants as acts
-use Rattle.run_effects.specs.declared.role.Role.{Role}
-use Rattle.run_effects.specs.declared.role.Role.TheVariants as role
-use Rattle.run_shows.specs.Given.FinishesEndings.{Finishing, StepsOfEnding}
-use Rattle.run_shows.specs.Given.FinishesFactsEnds.{Deed, Looks, TakesPair, LeavesTable, JoinsPair, TakesLeft, TakesCounter, WritesRoot, events_of, taken_by, left_by}
-use Rattle.run_shows.specs.Follows.Blocks.{HasRole, RefinesBlocks}
-use Rattle.run_shows.proofs.Follows.Alike.{is_calm, AllCalm}
+use Rattle.run_executor.specs.Given.EffectsDeclared.changed.Changed.{Changed}
+use Rattle.run_executor.specs.Given.EffectsDeclared.changed.Changed.TheVariants as changed
+use Rattle.run_executor.specs.Given.EffectsEffects.{taken_by as what_was, effects_of, known_after}
+use Rattle.run_executor.specs.Given.EffectsKnown.{Known, with_role}
+use Rattle.run_executor.specs.Given.EffectsDeclared.acting.Acting.{Acting}
+use Rattle.run_executor.specs.Given.EffectsDeclared.acting.Acting.TheVariants as acts
+use Rattle.run_executor.specs.Given.EffectsDeclared.role.Role.{Role}
+use Rattle.run_executor.specs.Given.EffectsDeclared.role.Role.TheVariants as role
+use Rattle.run_executor.specs.Given.FinishesEndings.{Finishing, StepsOfEnding}
+use Rattle.run_executor.specs.Given.FinishesFactsEnds.{Deed, Looks, TakesPair, LeavesTable, JoinsPair, TakesLeft, TakesCounter, WritesRoot, events_of, taken_by, left_by}
+use Rattle.run_executor.specs.Given.FollowsBlocks.{HasRole, RefinesBlocks}
+use Rattle.run_executor.proofs.Given.FollowsAlike.{is_calm, AllCalm}
 use Rattle.run_executor.specs.Given.MomentsWhole.{RefinesWhole}
-use Rattle.run_shows.proofs.Others.Ends.{says_or_takes, left}
+use Rattle.run_blocks.proofs.Given.OthersEnds.{says_or_takes, left}
 use Rattle.run_blocks.specs.Given.PromisesSheltered.{IsOfThing}
 use Rattle.run_executor.proofs.Given.SpotsHanding.{KeepsAll, AllKeep, calm_keep}
 use Rattle.run_kept.specs.Models.Alike.{FurtherAlike}
@@ -50,11 +50,11 @@ use Rattle.run_kept.specs.Models.Others.{HandsNone, HandNone}
 use Rattle.run_kept.specs.Models.Turns.{sets_of, CameByTurns}
 use Rattle.run_kept.proofs.Models.OnSlots.{noted_still}
 use Rattle.run_kept.proofs.Models.Turns.{events_follow, all_have_lists}
-use Rattle.run_shows.specs.Scenes.Ending.{EndingHasOutcome, EndingStepsFrom}
-use Rattle.run_shows.specs.Scenes.Held.{Held, IsAt}
-use Rattle.run_shows.specs.Scenes.Scene.{Scene, slot_of}
-use Rattle.run_shows.proofs.Given.SeizeAloneHistories.UsersTurn.{AreBetween}
-use Rattle.run_shows.proofs.Scenes.Between.{deed_between}
+use Rattle.run_executor.specs.Given.ScenesEnding.{EndingHasOutcome, EndingStepsFrom}
+use Rattle.run_executor.specs.Given.ScenesHeld.{Held, IsAt}
+use Rattle.run_executor.specs.Given.ScenesScene.{Scene, slot_of}
+use Rattle.run_executor.proofs.Given.SeizeAloneHistories.UsersTurn.{AreBetween}
+use Rattle.run_blocks.proofs.Given.ScenesBetween.{deed_between}
 
 -- Where the end begins what others wait behind is noted as a table.
 

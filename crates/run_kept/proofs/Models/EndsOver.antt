@@ -7,10 +7,10 @@ use Rattle.std.proofs.lemmas.List.Concat.{flat_map-cons}
 use Rattle.run_schedules.specs.Given.SeizeWordsMem.{value_at}
 use Rattle.seize.specs.WaitingSets.{Change, Ends, Further, Sets, After, all_changed, is_one_of, at_start as sets_at_start}
 use Rattle.seize.specs.World.{World, LeftTo}
-use Rattle.run_effects.specs.Given.SeizeWaitingChanges.{kept, with_further}
-use Rattle.run_effects.specs.Given.SeizeWaitingHeld.{Every}
-use Rattle.run_effects.proofs.Given.SeizeWaitingLaws.{ends_leave}
-use Rattle.run_shows.proofs.Given.SeizeSetsTurns.Append.{changed_append}
+use Rattle.run_executor.specs.Given.SeizeWaitingChanges.{kept, with_further}
+use Rattle.run_executor.specs.Given.SeizeWaitingHeld.{Every}
+use Rattle.run_executor.proofs.Given.SeizeWaitingLaws.{ends_leave}
+use Rattle.run_executor.proofs.Given.SeizeSetsTurns.Append.{changed_append}
 use Rattle.papaya_raw.specs.Given.TablesNodes.{deferred_word}
 use Rattle.papaya_raw.specs.Given.TablesDeclared.node.Node.{Node}
 use Rattle.run_schedules.specs.Schedules.After.{tables_taken}
@@ -23,10 +23,10 @@ use Rattle.run_schedules.specs.declared.effect.Effect.TheVariants as effect
 use Rattle.run_schedules.specs.declared.effect.TableId.{TableId}
 use Rattle.run_schedules.specs.declared.effect.Thing.{Thing}
 use Rattle.run_schedules.specs.declared.effect.Thing.TheVariants.{ATable}
-use Rattle.run_effects.specs.Effects.Known.{Known}
-use Rattle.run_effects.specs.declared.role.Role.{Role}
-use Rattle.run_effects.specs.declared.role.Role.TheVariants as role
-use Rattle.run_shows.specs.Follows.Blocks.{HasRole, RefinesBlocks}
+use Rattle.run_executor.specs.Given.EffectsKnown.{Known}
+use Rattle.run_executor.specs.Given.EffectsDeclared.role.Role.{Role}
+use Rattle.run_executor.specs.Given.EffectsDeclared.role.Role.TheVariants as role
+use Rattle.run_executor.specs.Given.FollowsBlocks.{HasRole, RefinesBlocks}
 use Rattle.run_executor.proofs.Given.MomentsOnSlots.{none_some}
 use Rattle.run_blocks.specs.Given.PromisesSheltered.{IsOfThing}
 use Rattle.run_blocks.proofs.Given.PromisesShelters.Rows.{things_are}

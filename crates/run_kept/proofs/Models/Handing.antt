@@ -10,18 +10,18 @@ use Rattle.run_schedules.specs.declared.effect.Effect.{Effect}
 use Rattle.run_schedules.specs.declared.effect.Effect.TheVariants.{Retired, Deferred, Taken}
 use Rattle.run_schedules.specs.declared.effect.Thing.{Thing}
 use Rattle.papaya_raw.specs.declared.machines.progress.Progress.{Progress}
-use Rattle.run_shows.specs.Given.CallersTogether.{UnderWay}
-use Rattle.run_effects.specs.Effects.Effects.{effects_of}
-use Rattle.run_effects.specs.Effects.Known.{Known}
-use Rattle.run_effects.specs.declared.acting.Acting.TheVariants.{Call}
-use Rattle.run_shows.specs.Follows.Shows.{Refines}
-use Rattle.run_shows.proofs.Follows.Steps.{WentTo, went_to, DidSo, OfNoRow}
+use Rattle.run_executor.specs.Given.CallersTogether.{UnderWay}
+use Rattle.run_executor.specs.Given.EffectsEffects.{effects_of}
+use Rattle.run_executor.specs.Given.EffectsKnown.{Known}
+use Rattle.run_executor.specs.Given.EffectsDeclared.acting.Acting.TheVariants.{Call}
+use Rattle.run_executor.specs.Given.FollowsShows.{Refines}
+use Rattle.run_executor.proofs.Given.FollowsSteps.{WentTo, went_to, DidSo, OfNoRow}
 use Rattle.run_executor.proofs.Given.SpotsHanding.{KeepsAll, AllKeep, nothing_keep}
 use Rattle.run_executor.proofs.Given.SpotsSteps.{hands_nothing}
 use Rattle.run_kept.specs.Models.Numbers.{IsOfThings, AreOfThings}
-use Rattle.run_shows.specs.Scenes.Held.{Held, IsAt}
-use Rattle.run_shows.specs.Scenes.Scene.{Scene}
-use Rattle.run_shows.specs.Scenes.Stepping.{StepLeads}
+use Rattle.run_executor.specs.Given.ScenesHeld.{Held, IsAt}
+use Rattle.run_executor.specs.Given.ScenesScene.{Scene}
+use Rattle.run_executor.specs.Given.ScenesStepping.{StepLeads}
 
 pub nothing_handed : (things : List Thing) (slot : ℕ) (effects : List Effect) → AllKeep effects → flat_map (handing things slot) effects ≡ []
 nothing_handed things slot [] all = refl

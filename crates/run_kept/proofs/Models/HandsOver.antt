@@ -19,37 +19,37 @@ use Rattle.seize.specs.Settle.{settle_plan, plan_at, retiring}
 use Rattle.seize.specs.Sequence.{changes}
 use Rattle.seize.specs.WaitingSets.{Change, Retires}
 use Rattle.seize.specs.World.{World, Row, Rests, Registers, Enters, Settles, Leaves, Defers, Frees, Hand, Cutting, Request, Retire, Begin, Step, Begins, Happens, Steps', settles_on, at_start}
-use Rattle.run_effects.proofs.Given.SeizeMovesState.Ghost.{IsUnlinked}
-use Rattle.run_shows.proofs.Given.SeizeRulePoints.Aside.{HandFits}
-use Rattle.run_shows.proofs.Given.SeizeRulePoints.Known.{FitsAt, bare, open_blocks}
-use Rattle.run_shows.proofs.Given.SeizeRulePoints.Retire.{of_link, open_chain}
-use Rattle.run_effects.proofs.Given.SeizeRuleRows.Known.{FitsRow}
-use Rattle.run_effects.proofs.Given.SeizeRuleRows.Others.{with_here}
-use Rattle.run_effects.proofs.Given.SeizeMemoryWords.Chains.{Chain, first_or}
-use Rattle.run_effects.proofs.Given.SeizeMemoryWords.Named.{link, block_there}
-use Rattle.run_effects.proofs.Given.SeizeMemoryWords.Shows.{NextIs, lives}
-use Rattle.run_effects.proofs.Given.SeizeMemoryWords.There.{value_there}
-use Rattle.run_effects.proofs.Given.SeizeMemoryWords.View.{view}
-use Rattle.run_shows.proofs.Given.SeizeRuleWorld.Good.{Good}
-use Rattle.run_shows.proofs.Given.SeizeRuleWorld.Kept.{row_may}
-use Rattle.run_shows.proofs.Given.SeizeRuleWorld.Start.{start_good}
-use Rattle.run_shows.proofs.Given.SeizeAloneHistories.Reached.{Reached}
+use Rattle.run_executor.proofs.Given.SeizeMovesState.Ghost.{IsUnlinked}
+use Rattle.run_executor.proofs.Given.SeizeRulePoints.Aside.{HandFits}
+use Rattle.run_executor.proofs.Given.SeizeRulePoints.Known.{FitsAt, bare, open_blocks}
+use Rattle.run_executor.proofs.Given.SeizeRulePoints.Retire.{of_link, open_chain}
+use Rattle.run_executor.proofs.Given.SeizeRuleRows.Known.{FitsRow}
+use Rattle.run_executor.proofs.Given.SeizeRuleRows.Others.{with_here}
+use Rattle.run_executor.proofs.Given.SeizeMemoryWords.Chains.{Chain, first_or}
+use Rattle.run_executor.proofs.Given.SeizeMemoryWords.Named.{link, block_there}
+use Rattle.run_executor.proofs.Given.SeizeMemoryWords.Shows.{NextIs, lives}
+use Rattle.run_executor.proofs.Given.SeizeMemoryWords.There.{value_there}
+use Rattle.run_executor.proofs.Given.SeizeMemoryWords.View.{view}
+use Rattle.run_executor.proofs.Given.SeizeRuleWorld.Good.{Good}
+use Rattle.run_executor.proofs.Given.SeizeRuleWorld.Kept.{row_may}
+use Rattle.run_executor.proofs.Given.SeizeRuleWorld.Start.{start_good}
+use Rattle.run_executor.proofs.Given.SeizeAloneHistories.Reached.{Reached}
 use Rattle.papaya_raw.specs.Given.TablesNodes.{deferred_word}
 use Rattle.papaya_raw.specs.Given.TablesDeclared.node.Node.{Node}
-use Rattle.run_effects.specs.declared.changed.Changed.{Changed}
-use Rattle.run_effects.specs.declared.changed.Changed.TheVariants as changed
+use Rattle.run_executor.specs.Given.EffectsDeclared.changed.Changed.{Changed}
+use Rattle.run_executor.specs.Given.EffectsDeclared.changed.Changed.TheVariants as changed
 use Rattle.papaya_raw.specs.declared.machines.progress.Progress.{Progress}
-use Rattle.run_shows.specs.Given.CallersTogether.{UnderWay, CameAbout}
-use Rattle.run_shows.proofs.Given.CallersTogether.Came.{came_reached, came_next}
-use Rattle.run_effects.specs.Effects.Effects.{names_same, effects_of, known_after}
-use Rattle.run_effects.specs.Effects.Known.{Known}
-use Rattle.run_effects.specs.declared.acting.Acting.TheVariants.{Call}
-use Rattle.run_effects.specs.declared.role.Role.{Role}
-use Rattle.run_effects.specs.declared.role.Role.TheVariants as role
-use Rattle.run_shows.specs.Follows.Blocks.{HasRole}
-use Rattle.run_shows.proofs.Follows.Onward.{KeepsRoles}
-use Rattle.run_shows.proofs.Follows.Operations.{LeavesBy, Operated, operated_leaves}
-use Rattle.run_shows.proofs.Follows.Steps.{WentTo, went_to, made_so}
+use Rattle.run_executor.specs.Given.CallersTogether.{UnderWay, CameAbout}
+use Rattle.run_executor.proofs.Given.CallersTogether.Came.{came_reached, came_next}
+use Rattle.run_executor.specs.Given.EffectsEffects.{names_same, effects_of, known_after}
+use Rattle.run_executor.specs.Given.EffectsKnown.{Known}
+use Rattle.run_executor.specs.Given.EffectsDeclared.acting.Acting.TheVariants.{Call}
+use Rattle.run_executor.specs.Given.EffectsDeclared.role.Role.{Role}
+use Rattle.run_executor.specs.Given.EffectsDeclared.role.Role.TheVariants as role
+use Rattle.run_executor.specs.Given.FollowsBlocks.{HasRole}
+use Rattle.run_executor.proofs.Given.FollowsOnward.{KeepsRoles}
+use Rattle.run_executor.proofs.Given.FollowsOperations.{LeavesBy, Operated, operated_leaves}
+use Rattle.run_executor.proofs.Given.FollowsSteps.{WentTo, went_to, made_so}
 use Rattle.run_executor.specs.Given.HandsRows.{ReclaimsNone}
 use Rattle.run_executor.proofs.Given.HandsGuarded.{there_is}
 use Rattle.run_executor.proofs.Given.HandsHanding.{plan_aside, settle_aside, is_batches as batches_or}
@@ -70,9 +70,9 @@ use Rattle.run_kept.proofs.Models.Handing.{nothing_handed, keep_of}
 use Rattle.run_kept.proofs.Models.Retires.{to_retire, retires, past_on, goes_row, past_row}
 use Rattle.run_kept.proofs.Models.Told.{quiet_keeps, first_retires, is_told}
 use Rattle.run_kept.proofs.Models.Unbatched.{IsKept, runs_unbatched}
-use Rattle.run_shows.specs.Scenes.Held.{Held, IsAt}
-use Rattle.run_shows.specs.Scenes.Scene.{Scene}
-use Rattle.run_shows.specs.Scenes.Stepping.{StepLeads}
+use Rattle.run_executor.specs.Given.ScenesHeld.{Held, IsAt}
+use Rattle.run_executor.specs.Given.ScenesScene.{Scene}
+use Rattle.run_executor.specs.Given.ScenesStepping.{StepLeads}
 
 past_other : (p : Settling) → IsPast p → (block : ℕ) → p ≡ at.Batches block → ⊥
 past_other p past block e = subst IsPast e past

@@ -10,30 +10,30 @@ use Rattle.seize.specs.declared.advance.Advance.{Advance}
 use Rattle.papaya_raw.specs.Given.TablesNodes.{deferred_word}
 use Rattle.papaya_raw.specs.Given.TablesDeclared.node.Node.{Node}
 use Rattle.papaya_raw.specs.Given.TablesDeclared.setting.Setting.{Setting}
-use Rattle.run_effects.specs.Given.ResizeDeclared.new_map.NewMap.{NewMap}
+use Rattle.run_blocks.specs.Given.ResizeDeclared.new_map.NewMap.{NewMap}
 use Rattle.run_schedules.specs.Schedules.Moment.{Moment}
 use Rattle.run_schedules.specs.declared.effect.Effect.{Effect}
 use Rattle.run_schedules.specs.declared.effect.Effect.TheVariants.{Asked, Reclaimed}
 use Rattle.run_schedules.specs.declared.effect.Growth.TheVariants.{ABlock}
 use Rattle.run_schedules.specs.declared.effect.Thing.{Thing}
-use Rattle.run_effects.specs.declared.changed.Changed.{Changed}
-use Rattle.run_effects.specs.declared.changed.Changed.TheVariants as changed
-use Rattle.run_effects.specs.declared.changed.Kind.{Kind}
-use Rattle.run_effects.specs.declared.changed.Kind.TheVariants as kind
-use Rattle.run_effects.specs.Effects.Effects.{names_same, named, made_by, taken_by, led_to, effects_of, known_after}
-use Rattle.run_effects.specs.Effects.Known.{Known}
-use Rattle.run_effects.specs.declared.acting.Acting.{Acting}
-use Rattle.run_effects.specs.declared.acting.Acting.TheVariants as acts
-use Rattle.run_effects.specs.declared.role.Role.{Role}
-use Rattle.run_effects.specs.declared.role.Role.TheVariants as role
-use Rattle.run_shows.specs.Given.FinishesEndings.{MakingStepsWithEndings}
-use Rattle.run_shows.specs.Given.FinishesMakings.{Beginning}
-use Rattle.run_shows.proofs.Follows.Alike.{is_calm, AllCalm}
-use Rattle.run_shows.proofs.Follows.Operations.{LeavesBy}
-use Rattle.run_shows.specs.Others.Makings.{making_after}
-use Rattle.run_shows.proofs.Others.Leads.{word_says}
-use Rattle.run_shows.proofs.Others.MakingPlans.{TellsMaking}
-use Rattle.run_shows.proofs.Others.Makes.{no_table_word, tells, left}
+use Rattle.run_executor.specs.Given.EffectsDeclared.changed.Changed.{Changed}
+use Rattle.run_executor.specs.Given.EffectsDeclared.changed.Changed.TheVariants as changed
+use Rattle.run_executor.specs.Given.EffectsDeclared.changed.Kind.{Kind}
+use Rattle.run_executor.specs.Given.EffectsDeclared.changed.Kind.TheVariants as kind
+use Rattle.run_executor.specs.Given.EffectsEffects.{names_same, named, made_by, taken_by, led_to, effects_of, known_after}
+use Rattle.run_executor.specs.Given.EffectsKnown.{Known}
+use Rattle.run_executor.specs.Given.EffectsDeclared.acting.Acting.{Acting}
+use Rattle.run_executor.specs.Given.EffectsDeclared.acting.Acting.TheVariants as acts
+use Rattle.run_executor.specs.Given.EffectsDeclared.role.Role.{Role}
+use Rattle.run_executor.specs.Given.EffectsDeclared.role.Role.TheVariants as role
+use Rattle.run_executor.specs.Given.FinishesEndings.{MakingStepsWithEndings}
+use Rattle.run_executor.specs.Given.FinishesMakings.{Beginning}
+use Rattle.run_executor.proofs.Given.FollowsAlike.{is_calm, AllCalm}
+use Rattle.run_executor.proofs.Given.FollowsOperations.{LeavesBy}
+use Rattle.run_executor.specs.Given.OthersMakings.{making_after}
+use Rattle.run_executor.proofs.Given.OthersLeads.{word_says}
+use Rattle.run_executor.proofs.Given.OthersMakingPlans.{TellsMaking}
+use Rattle.run_executor.proofs.Given.OthersMakes.{no_table_word, tells, left}
 use Rattle.run_executor.proofs.Given.SpotsHanding.{AllKeep, calm_keep}
 use Rattle.run_executor.specs.Given.MomentsWhole.{RefinesWhole}
 use Rattle.run_executor.proofs.Given.MomentsBeside.{IsBeside}
@@ -50,9 +50,9 @@ use Rattle.run_kept.specs.Models.Turns.{sets_of, CameByTurns}
 use Rattle.run_kept.proofs.Models.Alike.Again.{alike_again}
 use Rattle.run_kept.proofs.Models.Handing.{nothing_handed}
 use Rattle.run_kept.proofs.Models.Turns.{users_follow, all_there}
-use Rattle.run_shows.specs.Scenes.Held.{Held, IsAt}
-use Rattle.run_shows.specs.Scenes.Making.{MakingStepsFrom}
-use Rattle.run_shows.specs.Scenes.Scene.{Scene, slot_of}
+use Rattle.run_executor.specs.Given.ScenesHeld.{Held, IsAt}
+use Rattle.run_executor.specs.Given.ScenesMaking.{MakingStepsFrom}
+use Rattle.run_executor.specs.Given.ScenesScene.{Scene, slot_of}
 use Rattle.run_blocks.proofs.Given.PromisesShelters.Lasting.{of_map as thing_of_map}
 
 -- what is calm reclaims nothing

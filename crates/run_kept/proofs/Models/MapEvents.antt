@@ -8,8 +8,8 @@ use Rattle.run_schedules.specs.Schedules.Model.{came, thing_back, handing, thing
 use Rattle.run_schedules.specs.declared.effect.Effect.{Effect}
 use Rattle.run_schedules.specs.declared.effect.Effect.TheVariants as effect
 use Rattle.run_schedules.specs.declared.effect.Thing.{Thing}
-use Rattle.run_effects.specs.Effects.Effects.{effects_of, known_after}
-use Rattle.run_effects.specs.declared.acting.Acting.TheVariants.{Making}
+use Rattle.run_executor.specs.Given.EffectsEffects.{effects_of, known_after}
+use Rattle.run_executor.specs.Given.EffectsDeclared.acting.Acting.TheVariants.{Making}
 use Rattle.run_executor.proofs.Given.SpotsHanding.{KeepsAll, AllKeep}
 use Rattle.run_kept.specs.Models.CallEvents.{things_then}
 use Rattle.run_kept.specs.Models.Calls.{EndsNone, EndNone, sets_on}

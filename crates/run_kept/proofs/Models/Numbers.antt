@@ -11,9 +11,9 @@ use Rattle.run_schedules.specs.declared.effect.Effect.{Effect}
 use Rattle.run_schedules.specs.declared.effect.Effect.TheVariants as effect
 use Rattle.run_schedules.specs.declared.effect.Thing.{Thing}
 use Rattle.run_schedules.specs.declared.effect.Thing.TheVariants.{APair, ATable}
-use Rattle.run_effects.specs.Effects.Known.{Known}
-use Rattle.run_effects.specs.declared.role.Role.{Role}
-use Rattle.run_effects.specs.declared.role.Role.TheVariants as role
+use Rattle.run_executor.specs.Given.EffectsKnown.{Known}
+use Rattle.run_executor.specs.Given.EffectsDeclared.role.Role.{Role}
+use Rattle.run_executor.specs.Given.EffectsDeclared.role.Role.TheVariants as role
 use Rattle.run_executor.specs.Given.SpotsUnreclaimed.{RefinesUnreclaimed}
 use Rattle.run_blocks.specs.Given.PromisesSheltered.{IsOfThing}
 use Rattle.run_blocks.proofs.Given.PromisesShelters.Rows.{things_are}

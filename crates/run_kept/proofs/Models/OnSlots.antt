@@ -9,15 +9,15 @@ use Rattle.seize.specs.Law.{Effect as EffectOfWorld}
 use Rattle.seize.specs.Sequence.{taken_in, changes, new_slot, entered_as, entered_at}
 use Rattle.seize.specs.WaitingSets.{Change, ReclaimsAll, Sets, After, all_changed, at_start as sets_at_start}
 use Rattle.seize.specs.World.{World, Rests, Step, Begins, Use, Vacant, Outside, Inside, Changing, Request, Register', Enter', Leave', LeaveOwned, Refresh, Unregister', Retire, Flush, Defer'}
-use Rattle.run_shows.proofs.Given.SeizeAloneHistories.Reached.{Reached}
-use Rattle.run_shows.proofs.Given.SeizeAloneWhole.Midway.{taken_append}
-use Rattle.run_shows.proofs.Given.SeizeSetsTurns.Append.{changed_append}
-use Rattle.run_shows.specs.Given.CallersTogether.{IsOfSlots}
-use Rattle.run_shows.proofs.Given.CallersTogether.Came.{came_reached}
+use Rattle.run_executor.proofs.Given.SeizeAloneHistories.Reached.{Reached}
+use Rattle.run_executor.proofs.Given.SeizeAloneWhole.Midway.{taken_append}
+use Rattle.run_executor.proofs.Given.SeizeSetsTurns.Append.{changed_append}
+use Rattle.run_executor.specs.Given.CallersTogether.{IsOfSlots}
+use Rattle.run_executor.proofs.Given.CallersTogether.Came.{came_reached}
 use Rattle.papaya_raw.specs.Given.TablesNodes.{deferred_word}
 use Rattle.papaya_raw.specs.Given.TablesDeclared.node.Node.{Node}
-use Rattle.run_effects.specs.declared.changed.Changed.{Changed}
-use Rattle.run_effects.specs.declared.changed.Changed.TheVariants as changed
+use Rattle.run_executor.specs.Given.EffectsDeclared.changed.Changed.{Changed}
+use Rattle.run_executor.specs.Given.EffectsDeclared.changed.Changed.TheVariants as changed
 use Rattle.run_schedules.specs.Schedules.After.{moment}
 use Rattle.run_schedules.specs.Schedules.Beginning.{at_work}
 use Rattle.run_schedules.specs.Schedules.Entry.{Entry}
@@ -30,16 +30,16 @@ use Rattle.run_schedules.specs.declared.event.Event.{Event}
 use Rattle.run_schedules.specs.declared.event.Event.TheVariants as event
 use Rattle.run_schedules.specs.declared.outcome.Outcome.{Outcome}
 use Rattle.run_schedules.specs.declared.outcome.Outcome.TheVariants as outcome
-use Rattle.run_effects.specs.Effects.Effects.{effects_of, known_after}
-use Rattle.run_effects.specs.Effects.Known.{Known}
-use Rattle.run_effects.specs.declared.acting.Acting.TheVariants.{Row}
-use Rattle.run_effects.specs.declared.role.Role.{Role}
-use Rattle.run_effects.specs.declared.role.Role.TheVariants as role
-use Rattle.run_shows.specs.declared.row.RowTold.{RowTold}
-use Rattle.run_shows.specs.declared.row.SlotRow.{SlotRow}
-use Rattle.run_shows.specs.Follows.Blocks.{HasRole, RefinesBlocks}
-use Rattle.run_shows.proofs.Follows.Operations.{LeavesBy, operated_leaves}
-use Rattle.run_shows.proofs.Others.RowPlans.{TellsRow, row_tells, row_operated}
+use Rattle.run_executor.specs.Given.EffectsEffects.{effects_of, known_after}
+use Rattle.run_executor.specs.Given.EffectsKnown.{Known}
+use Rattle.run_executor.specs.Given.EffectsDeclared.acting.Acting.TheVariants.{Row}
+use Rattle.run_executor.specs.Given.EffectsDeclared.role.Role.{Role}
+use Rattle.run_executor.specs.Given.EffectsDeclared.role.Role.TheVariants as role
+use Rattle.run_executor.specs.Given.ScenesDeclared.row.RowTold.{RowTold}
+use Rattle.run_executor.specs.Given.ScenesDeclared.row.SlotRow.{SlotRow}
+use Rattle.run_executor.specs.Given.FollowsBlocks.{HasRole, RefinesBlocks}
+use Rattle.run_executor.proofs.Given.FollowsOperations.{LeavesBy, operated_leaves}
+use Rattle.run_executor.proofs.Given.OthersRowPlans.{TellsRow, row_tells, row_operated}
 use Rattle.run_executor.proofs.Given.MomentsOnSlots.{none_some}
 use Rattle.run_blocks.specs.Given.PromisesSheltered.{IsOfThing}
 use Rattle.run_kept.specs.Models.Alike.{AreAlike, SetsAlike, AfterAlike, ChangesAlike}
@@ -53,10 +53,10 @@ use Rattle.run_kept.proofs.Models.Follows.{same_things, by_model, sets_then}
 use Rattle.run_kept.proofs.Models.Numbers.{the_thing, has_one, none_came, none_handed, both_of_row}
 use Rattle.run_kept.proofs.Models.RowSteps.{it, takes_so, step_back, roles_after}
 use Rattle.run_kept.proofs.Models.Turns.{rows_begin, rows_go_on, rows_end, all_there}
-use Rattle.run_shows.proofs.Scenes.May.{may_row}
-use Rattle.run_shows.specs.Scenes.Held.{Held, IsAt}
-use Rattle.run_shows.specs.Scenes.OnSlots.{HappensAt, RowSteps}
-use Rattle.run_shows.specs.Scenes.Scene.{IsOnSlot, Scene}
+use Rattle.run_executor.proofs.Given.ScenesMay.{may_row}
+use Rattle.run_executor.specs.Given.ScenesHeld.{Held, IsAt}
+use Rattle.run_executor.specs.Given.ScenesOnSlots.{HappensAt, RowSteps}
+use Rattle.run_executor.specs.Given.ScenesScene.{IsOnSlot, Scene}
 
 -- a row on slots that begins has done nothing yet
 begun_log : {T : Type 0} (defers : T → Option ℕ) (size i : ℕ) (request : Request) (w w2 : World T) → IsOfSlots request → Begins defers size i request w w2 → w2.log ≡ w.log

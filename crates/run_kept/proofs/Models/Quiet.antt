@@ -3,10 +3,10 @@ use Rattle.std.specs.Prelude.{flat_map, map}
 use Rattle.std.proofs.Common.{◌≡◌, ◌≤◌, ℕ, suc, List, [], ◌∷◌, ◌++◌, refl, ap, sym, subst, ◌∙◌}
 use Rattle.std.proofs.lemmas.List.Concat.{flat_map-cons}
 use Rattle.seize.specs.WaitingSets.{Change, Enters, Leaves, Refreshes, Retires, Flushes, Defers, Ends, ReclaimsAll, Sets, size, ended, all_changed}
-use Rattle.run_effects.specs.Given.SeizeWaitingHanded.{HandOverBy}
-use Rattle.run_effects.specs.Given.SeizeWaitingHeld.{count}
-use Rattle.run_effects.proofs.Given.SeizeWaitingFlushes.{retired_all_frame}
-use Rattle.run_effects.proofs.Given.SeizeWaitingLaws.{active_slots_wait}
+use Rattle.run_executor.specs.Given.SeizeWaitingHanded.{HandOverBy}
+use Rattle.run_executor.specs.Given.SeizeWaitingHeld.{count}
+use Rattle.run_executor.proofs.Given.SeizeWaitingFlushes.{retired_all_frame}
+use Rattle.run_executor.proofs.Given.SeizeWaitingLaws.{active_slots_wait}
 use Rattle.run_schedules.specs.Schedules.Model.{number_in, handing, things_in, sets_in}
 use Rattle.run_schedules.specs.declared.effect.Effect.{Effect}
 use Rattle.run_schedules.specs.declared.effect.Effect.TheVariants as effect

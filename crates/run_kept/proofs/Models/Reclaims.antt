@@ -8,16 +8,16 @@ use Rattle.seize.specs.Sequence.{taken_in}
 use Rattle.seize.specs.declared.states.TheConstants.{BATCH, LAST_SLOT}
 use Rattle.seize.specs.WaitingSets.{Change, Sets, After, all_reclaimed, quietly, at_start as sets_at_start}
 use Rattle.seize.specs.World.{World, Vacant, at_start}
-use Rattle.run_effects.proofs.Given.SeizeMemoryWords.Named.{words_of}
-use Rattle.run_shows.proofs.Given.SeizeRuleWorld.Rested.{start_rested}
-use Rattle.run_shows.specs.Given.SeizeSetsReclaims.{Reclaims, NothingWaits}
-use Rattle.run_shows.proofs.Given.SeizeSetsReclaims.Ends.{Left, all_left_so, none_closed}
-use Rattle.run_shows.proofs.Given.SeizeSetsReclaims.NeverTaken.{turns_past}
-use Rattle.run_shows.proofs.Given.SeizeSetsReclaims.Rounds.{reclaimed_quiet}
-use Rattle.run_shows.proofs.Given.SeizeSetsReclaims.Sets.{active_is, is_inside, open_none}
-use Rattle.run_shows.proofs.Given.SeizeSetsTurns.All.{turns_shown, start_shown}
-use Rattle.run_shows.proofs.Given.SeizeSetsTurns.Append.{turns_append, changed_append}
-use Rattle.run_shows.proofs.Given.SeizeSetsTurns.Begins.{Shown}
+use Rattle.run_executor.proofs.Given.SeizeMemoryWords.Named.{words_of}
+use Rattle.run_executor.proofs.Given.SeizeRuleWorld.Rested.{start_rested}
+use Rattle.run_executor.specs.Given.SeizeSetsReclaims.{Reclaims, NothingWaits}
+use Rattle.run_executor.proofs.Given.SeizeSetsReclaims.Ends.{Left, all_left_so, none_closed}
+use Rattle.run_executor.proofs.Given.SeizeSetsReclaims.NeverTaken.{turns_past}
+use Rattle.run_executor.proofs.Given.SeizeSetsReclaims.Rounds.{reclaimed_quiet}
+use Rattle.run_executor.proofs.Given.SeizeSetsReclaims.Sets.{active_is, is_inside, open_none}
+use Rattle.run_executor.proofs.Given.SeizeSetsTurns.All.{turns_shown, start_shown}
+use Rattle.run_executor.proofs.Given.SeizeSetsTurns.Append.{turns_append, changed_append}
+use Rattle.run_executor.proofs.Given.SeizeSetsTurns.Begins.{Shown}
 use Rattle.run_kept.specs.Models.Reclaims.{HasReclaimed}
 use Rattle.run_kept.specs.Models.Turns.{sets_of, CameByTurns}
 

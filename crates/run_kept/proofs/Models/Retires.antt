@@ -15,8 +15,8 @@ use Rattle.seize.specs.declared.rows.settle.Settling.{Settling}
 use Rattle.seize.specs.declared.rows.settle.Settling.TheVariants as at
 use Rattle.seize.specs.Settle.{standing, with_batch, onward, behind, pushed_of, needs_none, closed, scanning, to, goes, seen, taken_hold, popped, first_read, counted, scanned, marked_next, slot_read, after_push, next_pushed, summed, plan_at}
 use Rattle.seize.specs.World.{World, Rests, Settles, settles_on}
-use Rattle.run_shows.proofs.Given.SeizeRulePoints.Retire.{of_link}
-use Rattle.run_effects.proofs.Given.SeizeRuleRows.Others.{with_here}
+use Rattle.run_executor.proofs.Given.SeizeRulePoints.Retire.{of_link}
+use Rattle.run_executor.proofs.Given.SeizeRuleRows.Others.{with_here}
 use Rattle.run_executor.specs.Given.HandsRows.{IsAside, SettlesAside}
 use Rattle.run_kept.specs.Models.Retires.{IsToRetireAt, IsToRetire, IsPast, HasRetired}
 

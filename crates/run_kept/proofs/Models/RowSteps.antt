@@ -9,31 +9,31 @@ use Rattle.seize.specs.Law.{Effect, Taken, is_retired, IsSound}
 use Rattle.seize.specs.Sequence.{taken_in}
 use Rattle.seize.specs.World.{World, Steps', times}
 use Rattle.seize.specs.declared.states.TheConstants.{LAST_SLOT}
-use Rattle.run_effects.proofs.Given.SeizeMovesState.Ghost.{is_given}
-use Rattle.run_effects.proofs.Given.SeizeRuleRows.Effects.{IsOneStep}
-use Rattle.run_effects.proofs.Given.SeizeMemoryWords.There.{value_there}
-use Rattle.run_shows.proofs.Given.SeizeAloneHistories.NotTaken.{did, taken_gone}
-use Rattle.run_shows.proofs.Given.SeizeAloneHistories.Reached.{Reached, steps_reached}
-use Rattle.run_shows.proofs.Given.SeizeAloneSpared.Rows.{RowStepped}
+use Rattle.run_executor.proofs.Given.SeizeMovesState.Ghost.{is_given}
+use Rattle.run_executor.proofs.Given.SeizeRuleRows.Effects.{IsOneStep}
+use Rattle.run_executor.proofs.Given.SeizeMemoryWords.There.{value_there}
+use Rattle.run_executor.proofs.Given.SeizeAloneHistories.NotTaken.{did, taken_gone}
+use Rattle.run_executor.proofs.Given.SeizeAloneHistories.Reached.{Reached, steps_reached}
+use Rattle.run_executor.proofs.Given.SeizeAloneSpared.Rows.{RowStepped}
 use Rattle.papaya_raw.specs.Given.TablesDeclared.node.Node.{Node}
-use Rattle.run_effects.specs.declared.changed.Changed.{Changed}
-use Rattle.run_effects.specs.declared.changed.Changed.TheVariants as changed
+use Rattle.run_executor.specs.Given.EffectsDeclared.changed.Changed.{Changed}
+use Rattle.run_executor.specs.Given.EffectsDeclared.changed.Changed.TheVariants as changed
 use Rattle.run_schedules.specs.Schedules.Model.{thing_back}
 use Rattle.run_schedules.specs.declared.effect.Effect.TheVariants as effect
 use Rattle.run_schedules.specs.declared.effect.Growth.TheVariants.{ABucket}
 use Rattle.run_schedules.specs.declared.effect.Thing.{Thing}
 use Rattle.run_schedules.specs.declared.effect.Thing.TheVariants.{APair, ATable}
-use Rattle.run_effects.specs.Effects.Effects.{names_same, taken_by, effects_of, known_after}
-use Rattle.run_effects.specs.Effects.Known.{Known}
-use Rattle.run_effects.specs.declared.acting.Acting.TheVariants.{Row}
-use Rattle.run_effects.specs.declared.role.Role.{Role}
-use Rattle.run_effects.specs.declared.role.Role.TheVariants as role
-use Rattle.run_shows.proofs.Follows.Operations.{LeavesBy, StaysThere}
-use Rattle.run_shows.proofs.Follows.Told.{roomed_as_many}
-use Rattle.run_shows.proofs.Others.RowPlans.{TellsRow}
+use Rattle.run_executor.specs.Given.EffectsEffects.{names_same, taken_by, effects_of, known_after}
+use Rattle.run_executor.specs.Given.EffectsKnown.{Known}
+use Rattle.run_executor.specs.Given.EffectsDeclared.acting.Acting.TheVariants.{Row}
+use Rattle.run_executor.specs.Given.EffectsDeclared.role.Role.{Role}
+use Rattle.run_executor.specs.Given.EffectsDeclared.role.Role.TheVariants as role
+use Rattle.run_executor.proofs.Given.FollowsOperations.{LeavesBy, StaysThere}
+use Rattle.run_executor.proofs.Given.FollowsTold.{roomed_as_many}
+use Rattle.run_executor.proofs.Given.OthersRowPlans.{TellsRow}
 use Rattle.run_executor.proofs.Given.MomentsOnSlots.{none_some}
 use Rattle.run_kept.specs.Models.Numbers.{things_of, AreOfRow}
-use Rattle.run_shows.proofs.Given.General.{some_there as some_value}
+use Rattle.run_executor.proofs.Given.General.{some_there as some_value}
 use Rattle.run_waiting.proofs.Lives.Reclaimed.{given_lives}
 
 -- which blocks a step took away, as it is told

@@ -5,7 +5,7 @@ use Rattle.std.proofs.lemmas.Bool.{eq-eqb, ne_eqb}
 use Rattle.seize.specs.Sequence.{new_slot, entered_as, entered_at, changes}
 use Rattle.seize.specs.WaitingSets.{Change, Enters, Leaves, Refreshes}
 use Rattle.seize.specs.World.{Use, Vacant, Outside, Inside, Changing, IsInside, Register'}
-use Rattle.run_shows.proofs.Given.SeizeSetsSlots.Least.{refused_changes}
+use Rattle.run_executor.proofs.Given.SeizeSetsSlots.Least.{refused_changes}
 use Rattle.run_schedules.specs.Runs.Present.{slot_of_registration, slot_of_guard}
 use Rattle.run_kept.specs.Models.Rows.{guards_at, EventsAreRows}
 

@@ -9,36 +9,36 @@ use Rattle.run_schedules.specs.Given.SeizeWordsOp.{Op, Out, Load, Store, Swap, A
 use Rattle.run_schedules.specs.Given.SeizeWordsWord.{link_to}
 use Rattle.run_schedules.proofs.Given.SeizeWordsOneOwner.AfterWrites.{word_at-with_word, word_at-with_value, value_at-with_word, block_of-with_block, block_of-made}
 use Rattle.seize.specs.declared.states.TheConstants.{FIRST}
-use Rattle.run_effects.proofs.Given.SeizeMemoryWords.Named.{same_at-true, block_there}
-use Rattle.run_shows.proofs.Given.SeizeRulePoints.Retire.{of_link}
+use Rattle.run_executor.proofs.Given.SeizeMemoryWords.Named.{same_at-true, block_there}
+use Rattle.run_executor.proofs.Given.SeizeRulePoints.Retire.{of_link}
 use Rattle.run_executor.proofs.Given.HandsHanding.{IsHanding}
 use Rattle.papaya_raw.specs.Given.TablesDeclared.table_words.TheConstants.{DEFERRED}
 use Rattle.papaya_raw.specs.Given.TablesDeclared.node.Node.{Node}
-use Rattle.run_effects.specs.Tells.Seen.{seen_of, word_or}
-use Rattle.run_effects.specs.ReportingMemory.Tells.{observed_of}
-use Rattle.run_effects.specs.declared.changed.Changed.{Changed}
-use Rattle.run_effects.specs.declared.changed.Changed.TheVariants as changed
-use Rattle.run_effects.specs.declared.changed.Kind.{Kind}
-use Rattle.run_effects.specs.declared.changed.Kind.TheVariants as kind
+use Rattle.run_executor.specs.Given.TellsSeen.{seen_of, word_or}
+use Rattle.run_executor.specs.Given.TellerTells.{observed_of}
+use Rattle.run_executor.specs.Given.EffectsDeclared.changed.Changed.{Changed}
+use Rattle.run_executor.specs.Given.EffectsDeclared.changed.Changed.TheVariants as changed
+use Rattle.run_executor.specs.Given.EffectsDeclared.changed.Kind.{Kind}
+use Rattle.run_executor.specs.Given.EffectsDeclared.changed.Kind.TheVariants as kind
 use Rattle.run_schedules.specs.declared.effect.Effect.{Effect}
 use Rattle.run_schedules.specs.declared.effect.Effect.TheVariants as effect
 use Rattle.run_schedules.specs.declared.effect.Growth.TheVariants.{ABucket, ABlock}
 use Rattle.run_schedules.specs.declared.effect.TableId.{TableId}
 use Rattle.run_schedules.specs.declared.effect.Thing.{Thing}
 use Rattle.run_schedules.specs.declared.effect.Thing.TheVariants.{APair, ATable}
-use Rattle.run_effects.specs.Effects.Effects.{names_same, named, led_to, in_block, batched, made_by, taken_by, effects_of, known_after}
-use Rattle.run_effects.specs.Effects.Known.{Known, with_role}
-use Rattle.run_effects.specs.declared.acting.Acting.{Acting}
-use Rattle.run_effects.specs.declared.acting.Acting.TheVariants.{Call}
-use Rattle.run_effects.specs.declared.role.Role.{Role}
-use Rattle.run_effects.specs.declared.role.Role.TheVariants as role
-use Rattle.run_shows.proofs.Follows.OfEach.{OfEach, led_so, operation_so}
-use Rattle.run_shows.proofs.Follows.Onward.{IsLasting, IsOfMap, KeepsRoles}
-use Rattle.run_shows.proofs.Follows.Operations.{Operated}
+use Rattle.run_executor.specs.Given.EffectsEffects.{names_same, named, led_to, in_block, batched, made_by, taken_by, effects_of, known_after}
+use Rattle.run_executor.specs.Given.EffectsKnown.{Known, with_role}
+use Rattle.run_executor.specs.Given.EffectsDeclared.acting.Acting.{Acting}
+use Rattle.run_executor.specs.Given.EffectsDeclared.acting.Acting.TheVariants.{Call}
+use Rattle.run_executor.specs.Given.EffectsDeclared.role.Role.{Role}
+use Rattle.run_executor.specs.Given.EffectsDeclared.role.Role.TheVariants as role
+use Rattle.run_executor.proofs.Given.FollowsOfEach.{OfEach, led_so, operation_so}
+use Rattle.run_executor.proofs.Given.FollowsOnward.{IsLasting, IsOfMap, KeepsRoles}
+use Rattle.run_executor.proofs.Given.FollowsOperations.{Operated}
 use Rattle.run_blocks.specs.Given.PromisesSheltered.{IsOfThing}
 use Rattle.run_kept.specs.Models.Numbers.{NoneBack}
 use Rattle.run_executor.proofs.Given.SpotsHanding.{AllKeep}
-use Rattle.run_shows.proofs.Follows.Quiet.{same_name as same_names}
+use Rattle.run_executor.proofs.Given.FollowsQuiet.{same_name as same_names}
 
 module _ (i map : ℕ) (known : Known) where
   abbrev its : Acting

@@ -8,20 +8,20 @@ use Rattle.seize.specs.WaitingSets.{Change, at_start as sets_at_start}
 use Rattle.seize.specs.World.{World, Row, Rests, Request, Event, Begin, Step, Ends, LeavesOver, Relinks, Clears, Hand, Handed, IsInside, at_start}
 use Rattle.seize.specs.declared.states.TheConstants.{LAST_SLOT}
 use Rattle.run_schedules.specs.Given.SeizeWordsMem.{value_at}
-use Rattle.run_effects.specs.Given.SeizeWaitingHeld.{count, Every}
-use Rattle.run_shows.proofs.Given.SeizeRulePoints.Aside.{HandFits}
-use Rattle.run_effects.proofs.Given.SeizeMemoryWords.There.{value_there}
-use Rattle.run_shows.proofs.Given.SeizeRuleWorld.Rested.{Rested, start_rested, turns_rested}
-use Rattle.run_shows.proofs.Given.SeizeSetsTurns.All.{rows_follow, turns_shown, start_shown}
-use Rattle.run_shows.proofs.Given.SeizeSetsTurns.Append.{turns_append}
-use Rattle.run_shows.proofs.Given.SeizeSetsTurns.Begins.{Shown}
-use Rattle.run_shows.specs.Given.SeizeAloneAlone.{History, IsHistory, at_rest}
-use Rattle.run_shows.proofs.Given.SeizeAloneLaws.{waiting_was_handed, carriers_are_there, carriers_have_lists, insides_are_active}
-use Rattle.run_shows.proofs.Given.SeizeAloneWhole.Register.{steps_more, steps_end}
+use Rattle.run_executor.specs.Given.SeizeWaitingHeld.{count, Every}
+use Rattle.run_executor.proofs.Given.SeizeRulePoints.Aside.{HandFits}
+use Rattle.run_executor.proofs.Given.SeizeMemoryWords.There.{value_there}
+use Rattle.run_executor.proofs.Given.SeizeRuleWorld.Rested.{Rested, start_rested, turns_rested}
+use Rattle.run_executor.proofs.Given.SeizeSetsTurns.All.{rows_follow, turns_shown, start_shown}
+use Rattle.run_executor.proofs.Given.SeizeSetsTurns.Append.{turns_append}
+use Rattle.run_executor.proofs.Given.SeizeSetsTurns.Begins.{Shown}
+use Rattle.run_executor.specs.Given.SeizeAloneAlone.{History, IsHistory, at_rest}
+use Rattle.run_blocks.proofs.Given.SeizeAloneLaws.{waiting_was_handed, carriers_are_there, carriers_have_lists, insides_are_active}
+use Rattle.run_executor.proofs.Given.SeizeAloneWhole.Register.{steps_more, steps_end}
 use Rattle.run_kept.specs.Models.Alike.{AllAre}
 use Rattle.run_kept.specs.Models.Turns.{sets_of, CameByTurns, IsInRow, TurnsBegin, RowsBegin, RowsContinue, RowsEnd, EventsFollow, UsersFollow}
 use Rattle.run_kept.proofs.Models.Alike.Again.{all_are}
-use Rattle.run_shows.proofs.Given.FinishesBeside.Makings.Outs.{handed_lives}
+use Rattle.run_blocks.proofs.Given.FinishesBeside.Makings.Outs.{handed_lives}
 
 -- an event of users changes no waiting sets
 users_between : {T : Type 0} (e : Event T) → IsUsers e → IsBetween e × (ended_by e ≡ [])

@@ -12,13 +12,13 @@ use Rattle.seize.specs.declared.states.TheConstants.{FIRST, NEXT}
 use Rattle.seize.specs.Law.{Effect, Taken as TakenBlock}
 use Rattle.seize.specs.WaitingSets.{is_one_of}
 use Rattle.seize.specs.World.{World, Hand, NoBlock, Making, InUse, Parting, Cutting, Handed, LeftTo, MayCut, Request, Register', Enter', Leave', LeaveOwned, Refresh, Unregister', Retire, Flush, Defer', Event, Begin, Step, Makes, Drops, Links, Parts, Unlinks, Rewrites, Operates, Ends, LeavesOver, Relinks, Clears, Chooses, Begins, Steps', Happens, Runs, IsOwn, IsOwnOp, handed_by, with_at, made_by}
-use Rattle.run_effects.proofs.Given.SeizeMovesState.Ghost.{Life, IsPending, IsDoomed}
-use Rattle.run_shows.proofs.Given.SeizeRulePoints.Aside.{HandFits}
-use Rattle.run_effects.proofs.Given.SeizeMemoryWords.Named.{block_there}
-use Rattle.run_effects.proofs.Given.SeizeMemoryWords.Shows.{lives}
-use Rattle.run_shows.proofs.Given.SeizeAloneHistories.NotTaken.{did}
-use Rattle.run_shows.proofs.Given.SeizeAloneHistories.Reached.{Reached, runs_reached}
-use Rattle.run_effects.proofs.Given.RuleWorld.Hands.{at_cases}
+use Rattle.run_executor.proofs.Given.SeizeMovesState.Ghost.{Life, IsPending, IsDoomed}
+use Rattle.run_executor.proofs.Given.SeizeRulePoints.Aside.{HandFits}
+use Rattle.run_executor.proofs.Given.SeizeMemoryWords.Named.{block_there}
+use Rattle.run_executor.proofs.Given.SeizeMemoryWords.Shows.{lives}
+use Rattle.run_executor.proofs.Given.SeizeAloneHistories.NotTaken.{did}
+use Rattle.run_executor.proofs.Given.SeizeAloneHistories.Reached.{Reached, runs_reached}
+use Rattle.run_executor.proofs.Given.RuleWorld.Hands.{at_cases}
 use Rattle.run_executor.proofs.Given.HandsFirsts.{SameFirst, op_apart, written, row_keeps_first}
 
 -- nobody has handed the block over, nor is it left to anybody

@@ -9,14 +9,14 @@ use Rattle.papaya_raw.specs.Given.TablesDeclared.setting.Setting.{Setting}
 use Rattle.papaya_raw.specs.declared.machines.end_map.EndMap.{EndMap}
 use Rattle.papaya_raw.specs.declared.machines.end_map.Ending.{Ending}
 use Rattle.papaya_raw.specs.declared.machines.end_map.Ending.TheVariants as at
-use Rattle.run_effects.specs.Given.RuleChart.{Chart}
-use Rattle.run_effects.specs.Given.RuleWords.{Blocks}
-use Rattle.run_shows.specs.Given.PointsSteps.{AreLawful}
-use Rattle.run_shows.specs.Given.FinishesFactsEnds.{EndingFacts, back_of}
-use Rattle.run_shows.specs.Given.FinishesOrders.{pairs_of, tables_in}
-use Rattle.run_shows.proofs.Given.FinishesEnds.CountedBlocks.{some_of_two, some_of_first}
-use Rattle.run_shows.proofs.Given.FinishesEnds.OrdersOnce.{HasOrder, all_once, of_map}
-use Rattle.run_shows.proofs.Given.FinishesEnds.OrdersPairs.{pairs_current}
+use Rattle.run_executor.specs.Given.RuleChart.{Chart}
+use Rattle.run_executor.specs.Given.RuleWords.{Blocks}
+use Rattle.run_executor.specs.Given.PointsSteps.{AreLawful}
+use Rattle.run_executor.specs.Given.FinishesFactsEnds.{EndingFacts, back_of}
+use Rattle.run_executor.specs.Given.FinishesOrders.{pairs_of, tables_in}
+use Rattle.run_executor.proofs.Given.FinishesEnds.CountedBlocks.{some_of_two, some_of_first}
+use Rattle.run_executor.proofs.Given.FinishesEnds.OrdersOnce.{HasOrder, all_once, of_map}
+use Rattle.run_executor.proofs.Given.FinishesEnds.OrdersPairs.{pairs_current}
 
 module _ {K V : Type 0} (hash : K → ℕ) (setting : Setting) (c : Chart K) (blocks : Blocks) (lists : ℕ → List ℕ) (owns : Bool) (caller : ℕ) (w : World (Node K V)) (e : EndMap) (past : ℕ) (back : List ℕ) where
   -- what it has reclaimed comes first

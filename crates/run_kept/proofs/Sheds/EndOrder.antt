@@ -11,13 +11,13 @@ use Rattle.run_schedules.specs.declared.effect.Spot.{Spot}
 use Rattle.run_schedules.specs.Schedules.Handing.{pairs_ended, in_order}
 use Rattle.run_schedules.specs.Schedules.Moment.{Moment}
 use Rattle.run_schedules.specs.Schedules.Things.{is_before}
-use Rattle.run_effects.specs.Given.RuleChart.{Phase, Still, Copying, Copied, Place, Empty, Tombstone, Holds, Chart, is_marked}
-use Rattle.run_effects.specs.Given.RuleMaps.{spot_of}
-use Rattle.run_effects.specs.Given.RuleRule.{Rule, Incremental, is_of}
-use Rattle.run_shows.specs.Given.PointsSteps.{AreLawful}
-use Rattle.run_shows.specs.Given.FinishesOrders.{pair_at, with_pairs, pairs_from, pairs_in, pairs_of}
-use Rattle.run_shows.proofs.Given.FinishesEnds.CountedBlocks.{some_here}
-use Rattle.run_shows.proofs.Given.FinishesEnds.OrdersPairs.{GivesAt, Stands, stands_at, stands_current, all_home, phases_apart as not_both}
+use Rattle.run_executor.specs.Given.RuleChart.{Phase, Still, Copying, Copied, Place, Empty, Tombstone, Holds, Chart, is_marked}
+use Rattle.run_executor.specs.Given.RuleMaps.{spot_of}
+use Rattle.run_executor.specs.Given.RuleRule.{Rule, Incremental, is_of}
+use Rattle.run_executor.specs.Given.PointsSteps.{AreLawful}
+use Rattle.run_executor.specs.Given.FinishesOrders.{pair_at, with_pairs, pairs_from, pairs_in, pairs_of}
+use Rattle.run_executor.proofs.Given.FinishesEnds.CountedBlocks.{some_here}
+use Rattle.run_executor.proofs.Given.FinishesEnds.OrdersPairs.{GivesAt, Stands, stands_at, stands_current, all_home, phases_apart as not_both}
 use Rattle.run_executor.specs.Given.MomentsWholeEnds.{all_ended, tables_ended}
 use Rattle.run_executor.specs.Given.SpotsSpots.{named_by, spot_in, LiesAt}
 use Rattle.run_executor.proofs.Given.SpotsNames.{holds_is}

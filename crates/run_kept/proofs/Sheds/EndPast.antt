@@ -6,12 +6,12 @@ use Rattle.papaya_raw.specs.Given.TablesChunks.{is_incremental}
 use Rattle.papaya_raw.specs.Given.TablesDeclared.node.Node.{Node}
 use Rattle.papaya_raw.specs.declared.machines.end_map.Ending.{Ending}
 use Rattle.papaya_raw.specs.declared.machines.end_map.Ending.TheVariants as at
-use Rattle.run_shows.specs.Given.FinishesEndings.{Finishing, FinishingFacts}
-use Rattle.run_shows.specs.Given.FinishesFactsEnds.{AtPairs, EndingFacts, HasDeferred, IsAt, IsTableYet, back_of, from_place, from_table}
-use Rattle.run_shows.specs.Given.FinishesOrders.{pairs_behind, pairs_from}
-use Rattle.run_shows.proofs.Given.FinishesEnds.CountedBlocks.{later_apart, some_last}
-use Rattle.run_shows.proofs.Given.FinishesEnds.OrdersOn.{back_same, table_later}
-use Rattle.run_shows.proofs.Given.FinishesEnds.OrdersOnce.{HasOrder, plain_order}
+use Rattle.run_executor.specs.Given.FinishesEndings.{Finishing, FinishingFacts}
+use Rattle.run_executor.specs.Given.FinishesFactsEnds.{AtPairs, EndingFacts, HasDeferred, IsAt, IsTableYet, back_of, from_place, from_table}
+use Rattle.run_executor.specs.Given.FinishesOrders.{pairs_behind, pairs_from}
+use Rattle.run_executor.proofs.Given.FinishesEnds.CountedBlocks.{later_apart, some_last}
+use Rattle.run_executor.proofs.Given.FinishesEnds.OrdersOn.{back_same, table_later}
+use Rattle.run_executor.proofs.Given.FinishesEnds.OrdersOnce.{HasOrder, plain_order}
 use Rattle.run_kept.proofs.Sheds.EndLists.{once}
 
 module _ {K V : Type 0} (same : K → K → Bool) (size : ℕ) (w : World (Node K V)) (i : ℕ) (f : Finishing K V) (k : FinishingFacts same size w i f) where

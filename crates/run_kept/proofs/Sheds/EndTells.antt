@@ -13,17 +13,17 @@ use Rattle.papaya_raw.specs.declared.machines.end_map.EndMap.{EndMap}
 use Rattle.papaya_raw.specs.declared.machines.end_map.Ending.{Ending}
 use Rattle.papaya_raw.specs.declared.machines.end_map.Ending.TheVariants as ending
 use Rattle.run_schedules.specs.declared.effect.Effect.{Effect}
-use Rattle.run_effects.specs.Tells.Seen.{seen_of}
-use Rattle.run_effects.specs.ReportingMemory.Tells.{observed_of, StepsObserved}
-use Rattle.run_effects.specs.declared.changed.Changed.{Changed}
-use Rattle.run_effects.specs.declared.changed.Changed.TheVariants as changed
-use Rattle.run_effects.specs.Effects.Effects.{led_to, named, names_same, effects_of}
-use Rattle.run_effects.specs.Effects.Known.{Known}
-use Rattle.run_effects.specs.declared.acting.Acting.TheVariants as acts
-use Rattle.run_effects.specs.declared.role.Role.{Role}
-use Rattle.run_effects.specs.declared.role.Role.TheVariants as role
-use Rattle.run_shows.specs.Follows.Steps.{TakesNone}
-use Rattle.run_shows.proofs.Follows.Alike.{AllCalm}
+use Rattle.run_executor.specs.Given.TellsSeen.{seen_of}
+use Rattle.run_executor.specs.Given.TellerTells.{observed_of, StepsObserved}
+use Rattle.run_executor.specs.Given.EffectsDeclared.changed.Changed.{Changed}
+use Rattle.run_executor.specs.Given.EffectsDeclared.changed.Changed.TheVariants as changed
+use Rattle.run_executor.specs.Given.EffectsEffects.{led_to, named, names_same, effects_of}
+use Rattle.run_executor.specs.Given.EffectsKnown.{Known}
+use Rattle.run_executor.specs.Given.EffectsDeclared.acting.Acting.TheVariants as acts
+use Rattle.run_executor.specs.Given.EffectsDeclared.role.Role.{Role}
+use Rattle.run_executor.specs.Given.EffectsDeclared.role.Role.TheVariants as role
+use Rattle.run_executor.specs.Given.FollowsSteps.{TakesNone}
+use Rattle.run_executor.proofs.Given.FollowsAlike.{AllCalm}
 
 -- a word that it writes
 abbrev IsOfEnd : At → Type 0

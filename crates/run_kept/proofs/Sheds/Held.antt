@@ -8,18 +8,18 @@ use Rattle.seize.specs.declared.rows.reclaim_all.ReclaimAll.{ReclaimAll}
 use Rattle.seize.specs.declared.rows.settle.Settled.{Settled}
 use Rattle.papaya_raw.specs.Given.TablesDeclared.node.Node.{Node}
 use Rattle.papaya_raw.specs.Given.TablesDeclared.setting.Setting.{Setting}
-use Rattle.run_shows.specs.Given.FinishesMaps.{Standing}
+use Rattle.run_executor.specs.Given.FinishesMaps.{Standing}
 use Rattle.run_executor.specs.Given.MomentsNumbers.{MapsAreBelow}
 use Rattle.papaya_raw.specs.declared.machines.progress.Progress.{Progress}
-use Rattle.run_shows.specs.Scenes.Ending.{EndingLeads}
-use Rattle.run_shows.specs.Scenes.Held.{IsAt}
-use Rattle.run_shows.specs.Scenes.Making.{MakingLeads}
-use Rattle.run_shows.specs.Scenes.OnSlots.{RowBegins}
-use Rattle.run_shows.specs.Scenes.Replying.{AskLeads, StopLeads}
-use Rattle.run_shows.specs.Scenes.Scene.{Scene, slot_of}
-use Rattle.run_shows.specs.Scenes.Stepping.{StepLeads}
-use Rattle.run_shows.specs.declared.row.SlotCall.{SlotCall}
-use Rattle.run_shows.proofs.Scenes.Leads.{ask_leads, ending_leads, making_leads, reclaiming_leads, row_begins, step_leads, stop_leads}
+use Rattle.run_executor.specs.Given.ScenesEnding.{EndingLeads}
+use Rattle.run_executor.specs.Given.ScenesHeld.{IsAt}
+use Rattle.run_executor.specs.Given.ScenesMaking.{MakingLeads}
+use Rattle.run_executor.specs.Given.ScenesOnSlots.{RowBegins}
+use Rattle.run_executor.specs.Given.ScenesReplying.{AskLeads, StopLeads}
+use Rattle.run_executor.specs.Given.ScenesScene.{Scene, slot_of}
+use Rattle.run_executor.specs.Given.ScenesStepping.{StepLeads}
+use Rattle.run_executor.specs.Given.ScenesDeclared.row.SlotCall.{SlotCall}
+use Rattle.run_executor.proofs.Given.ScenesLeads.{ask_leads, ending_leads, making_leads, reclaiming_leads, row_begins, step_leads, stop_leads}
 use Rattle.run_executor.specs.Executing.Ending.{EndsThere}
 use Rattle.run_executor.specs.Executing.IsThere.{IsThere, held_by}
 use Rattle.run_executor.specs.Executing.Making.{MakesThere}
@@ -28,7 +28,7 @@ use Rattle.run_executor.specs.Executing.Replying.{AsksThere, StopsThere}
 use Rattle.run_executor.specs.Executing.Stepping.{StepsThere}
 use Rattle.run_executor.specs.declared.executor.Executor.{Executor}
 use Rattle.run_executor.specs.ReclaimsAll.Reclaiming.{IsReclaimingThere, ReclaimsThere}
-use Rattle.run_shows.specs.Scenes.Reclaiming.{IsReclaiming, ReclaimingLeads}
+use Rattle.run_executor.specs.Given.ScenesReclaiming.{IsReclaiming, ReclaimingLeads}
 
 -- a map that stands, or is made, has a number that was given
 pub maps_below : {K V S : Type 0} (same : K → K → Bool) (hash : K → ℕ) (e : Executor K V S) (s : Scene K V) → IsThere same hash e s → MapsAreBelow (length e.maps.items) s

@@ -7,32 +7,32 @@ use Rattle.seize.specs.declared.rows.settle.Settled.{Settled}
 use Rattle.seize.specs.declared.rows.settle.Settled.TheVariants as settled
 use Rattle.seize.specs.declared.states.TheConstants.{LAST_SLOT}
 use Rattle.seize.specs.World.{World, Hand, LeftTo, Step}
-use Rattle.run_shows.proofs.Given.SeizeRulePoints.Aside.{HandFits}
-use Rattle.run_effects.proofs.Given.SeizeMemoryWords.There.{value_there}
-use Rattle.run_shows.proofs.Given.SeizeAloneHistories.Reached.{Reached, runs_reached, steps_reached}
+use Rattle.run_executor.proofs.Given.SeizeRulePoints.Aside.{HandFits}
+use Rattle.run_executor.proofs.Given.SeizeMemoryWords.There.{value_there}
+use Rattle.run_executor.proofs.Given.SeizeAloneHistories.Reached.{Reached, runs_reached, steps_reached}
 use Rattle.papaya_raw.specs.Given.TablesNodes.{deferred_word}
 use Rattle.papaya_raw.specs.Given.TablesDeclared.node.Node.{Node}
 use Rattle.papaya_raw.specs.Given.TablesDeclared.setting.Setting.{Setting}
 use Rattle.papaya_raw.specs.declared.machines.progress.Progress.{Progress as CallTold}
 use Rattle.run_schedules.specs.Schedules.Moment.{Moment}
-use Rattle.run_shows.specs.Given.CallersTogether.{UnderWay}
-use Rattle.run_shows.proofs.Given.CallersTogether.Came.{came_reached}
-use Rattle.run_effects.specs.Effects.Effects.{known_after}
-use Rattle.run_effects.specs.Effects.Known.{Known}
-use Rattle.run_effects.specs.declared.acting.Acting.TheVariants as acts
-use Rattle.run_effects.specs.declared.role.Role.TheVariants as role
-use Rattle.run_shows.specs.Given.FinishesEndings.{Finishing}
-use Rattle.run_shows.specs.Given.FinishesFactsEnds.{events_of}
-use Rattle.run_shows.specs.Given.FinishesMakings.{Beginning}
-use Rattle.run_shows.specs.declared.row.RowTold.{RowTold}
-use Rattle.run_shows.specs.declared.row.SlotRow.{SlotRow}
-use Rattle.run_shows.proofs.Follows.Onward.{IsLasting, IsOfMap}
-use Rattle.run_shows.proofs.Follows.Steps.{step_shown, went_to}
+use Rattle.run_executor.specs.Given.CallersTogether.{UnderWay}
+use Rattle.run_executor.proofs.Given.CallersTogether.Came.{came_reached}
+use Rattle.run_executor.specs.Given.EffectsEffects.{known_after}
+use Rattle.run_executor.specs.Given.EffectsKnown.{Known}
+use Rattle.run_executor.specs.Given.EffectsDeclared.acting.Acting.TheVariants as acts
+use Rattle.run_executor.specs.Given.EffectsDeclared.role.Role.TheVariants as role
+use Rattle.run_executor.specs.Given.FinishesEndings.{Finishing}
+use Rattle.run_executor.specs.Given.FinishesFactsEnds.{events_of}
+use Rattle.run_executor.specs.Given.FinishesMakings.{Beginning}
+use Rattle.run_executor.specs.Given.ScenesDeclared.row.RowTold.{RowTold}
+use Rattle.run_executor.specs.Given.ScenesDeclared.row.SlotRow.{SlotRow}
+use Rattle.run_executor.proofs.Given.FollowsOnward.{IsLasting, IsOfMap}
+use Rattle.run_executor.proofs.Given.FollowsSteps.{step_shown, went_to}
 use Rattle.run_executor.proofs.Given.HandsSteps.{calls_store_theirs}
-use Rattle.run_shows.specs.Others.Endings.{ending_after}
-use Rattle.run_shows.specs.Others.Makings.{WasNew}
-use Rattle.run_shows.specs.Others.Rows.{scene_then}
-use Rattle.run_shows.proofs.Others.RowPlans.{row_tells}
+use Rattle.run_executor.specs.Given.OthersEndings.{ending_after}
+use Rattle.run_executor.specs.Given.OthersMakings.{WasNew}
+use Rattle.run_executor.specs.Given.OthersRows.{scene_then}
+use Rattle.run_executor.proofs.Given.OthersRowPlans.{row_tells}
 use Rattle.run_executor.proofs.Given.MomentsEnds.{end_keeps}
 use Rattle.run_executor.specs.Given.MomentsWhole.{RefinesWhole}
 use Rattle.run_blocks.proofs.Given.SettlesHand.All.{own_or_row}
@@ -44,12 +44,12 @@ use Rattle.run_waiting.proofs.Lives.Waiting.{left, reached}
 use Rattle.run_kept.specs.Kept.Kept.{RefinesKept}
 use Rattle.run_kept.proofs.Kept.Calls.{own_made}
 use Rattle.run_waiting.specs.Remains.Remains.{LeftNoted}
-use Rattle.run_shows.specs.Scenes.Ending.{EndingHasOutcome, EndingLeads}
-use Rattle.run_shows.specs.Scenes.Held.{Held, IsAt}
-use Rattle.run_shows.specs.Scenes.Making.{MakingLeads}
-use Rattle.run_shows.specs.Scenes.OnSlots.{RowLeads}
-use Rattle.run_shows.specs.Scenes.Scene.{IsOnSlot, Scene}
-use Rattle.run_shows.specs.Scenes.Stepping.{StepLeads}
+use Rattle.run_executor.specs.Given.ScenesEnding.{EndingHasOutcome, EndingLeads}
+use Rattle.run_executor.specs.Given.ScenesHeld.{Held, IsAt}
+use Rattle.run_executor.specs.Given.ScenesMaking.{MakingLeads}
+use Rattle.run_executor.specs.Given.ScenesOnSlots.{RowLeads}
+use Rattle.run_executor.specs.Given.ScenesScene.{IsOnSlot, Scene}
+use Rattle.run_executor.specs.Given.ScenesStepping.{StepLeads}
 
 -- a block that is left over is there
 module _ {K V : Type 0} (size : ℕ) (w : World (Node K V)) (r : Reached deferred_word size w) (b j : ℕ) (left_over : w.hand b ≡ LeftTo j) where

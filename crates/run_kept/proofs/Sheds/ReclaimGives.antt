@@ -5,7 +5,7 @@ use Rattle.std.proofs.lemmas.Bool.{cases_eq}
 use Rattle.run_schedules.specs.Given.SeizeWordsMem.{Mem, Took, value_at}
 use Rattle.run_schedules.specs.Given.SeizeWordsOp.{Op, Out, Load, Store, Swap, Add, Or, Exchange, Make, Take, Rewrite, Room, Found, Exchanged, Made, Taken, Roomed}
 use Rattle.run_schedules.specs.Given.SeizeWordsPlan.{Plan, Turn, Do, Now, Ends}
-use Rattle.run_shows.specs.Given.SeizeWordsWord.{block_in}
+use Rattle.run_executor.specs.Given.SeizeWordsWord.{block_in}
 use Rattle.seize.specs.Leave as leave
 use Rattle.seize.specs.ReclaimAll as all
 use Rattle.seize.specs.Settle as settle
@@ -22,14 +22,14 @@ use Rattle.seize.specs.declared.rows.settle.Settling.{Settling}
 use Rattle.seize.specs.declared.rows.settle.Settling.TheVariants as settling
 use Rattle.papaya_raw.specs.Given.TablesNodes.{deferred_word, was_left}
 use Rattle.papaya_raw.specs.Given.TablesDeclared.node.Node.{Node}
-use Rattle.run_effects.specs.Tells.Seen.{seen_of}
-use Rattle.run_effects.specs.ReportingMemory.Tells.{StepsObserved, observed_of}
-use Rattle.run_effects.specs.declared.changed.Changed.{Changed}
-use Rattle.run_effects.specs.declared.changed.Changed.TheVariants as changed
-use Rattle.run_shows.proofs.Follows.Operations.{LeavesBy}
-use Rattle.run_shows.specs.Follows.Steps.{TakesNone}
-use Rattle.run_shows.proofs.Others.Outcomes.{told_in}
-use Rattle.run_shows.proofs.Others.RowGives.{IsTakes}
+use Rattle.run_executor.specs.Given.TellsSeen.{seen_of}
+use Rattle.run_executor.specs.Given.TellerTells.{StepsObserved, observed_of}
+use Rattle.run_executor.specs.Given.EffectsDeclared.changed.Changed.{Changed}
+use Rattle.run_executor.specs.Given.EffectsDeclared.changed.Changed.TheVariants as changed
+use Rattle.run_executor.proofs.Given.FollowsOperations.{LeavesBy}
+use Rattle.run_executor.specs.Given.FollowsSteps.{TakesNone}
+use Rattle.run_executor.proofs.Given.OthersOutcomes.{told_in}
+use Rattle.run_executor.proofs.Given.OthersRowGives.{IsTakes}
 
 module _ {T : Type 0} where
   -- an operation, and a plan, that takes no block away

@@ -3,9 +3,9 @@ use Rattle.std.specs.Prelude.{◌≡◌, ℕ, ◌<◌, ◌^◌, Bool, List, Some
 use Rattle.std.proofs.Common.{refl, ap, sym, subst, ◌∙◌, arith, inl, inr}
 use Rattle.papaya_raw.specs.Given.TablesDeclared.node.Node.TheVariants as node
 use Rattle.papaya_raw.specs.Given.TablesDeclared.setting.Setting.{Setting}
-use Rattle.run_effects.specs.Given.ResizeDeclared.dispose.Dispose.{Dispose}
-use Rattle.run_effects.specs.Given.ResizeDeclared.lookup.Lookup.{Lookup}
-use Rattle.run_effects.specs.Given.RuleWords.{Blocks}
+use Rattle.run_blocks.specs.Given.ResizeDeclared.dispose.Dispose.{Dispose}
+use Rattle.run_blocks.specs.Given.ResizeDeclared.lookup.Lookup.{Lookup}
+use Rattle.run_executor.specs.Given.RuleWords.{Blocks}
 use Rattle.papaya_raw.specs.CallPoints.{word_to}
 use Rattle.papaya_raw.specs.declared.machines.answer.End.TheVariants as ends
 use Rattle.papaya_raw.specs.declared.machines.answer.KeyAnswer.{KeyAnswer}
@@ -22,24 +22,24 @@ use Rattle.run_schedules.specs.declared.call.OneKey.{OneKey}
 use Rattle.run_schedules.specs.declared.call.OneKey.TheVariants.{TryInsert}
 use Rattle.run_schedules.specs.Schedules.Moment.{UnderWay as CallThere, Moment}
 use Rattle.run_schedules.specs.Schedules.Views.{call_of}
-use Rattle.run_shows.specs.Given.PointsFactsCalls.{Change, Stored, Replaced, Removed, Unchanged, Holding, InBlock, CallingFacts, HasIts, HasOwn, AnswersChange, holding}
-use Rattle.run_shows.specs.Given.PointsTold.{IsRowOfCall}
-use Rattle.run_shows.specs.Given.LateKinds.{FitsAt}
-use Rattle.run_shows.specs.Given.LateLateCalls.{SupersededCalling}
-use Rattle.run_shows.specs.Given.CallersKind.{tries_to_insert}
-use Rattle.run_shows.specs.Given.CallersPairs.{Begun, Given, KeepsGiven}
-use Rattle.run_shows.specs.Given.CallersRows.{once_over, past_row}
-use Rattle.run_shows.specs.Given.CallersSights.{seen_by}
-use Rattle.run_shows.specs.Given.CallersTogether.{CallOnKey, UnderWay, OnKey, Knows, IsAtPoint, in_slot}
-use Rattle.run_effects.specs.Effects.Known.{Known}
-use Rattle.run_shows.specs.Given.FinishesMaps.{Standing}
-use Rattle.run_shows.specs.Follows.Calls.{IsCalled}
+use Rattle.run_executor.specs.Given.PointsFactsCalls.{Change, Stored, Replaced, Removed, Unchanged, Holding, InBlock, CallingFacts, HasIts, HasOwn, AnswersChange, holding}
+use Rattle.run_executor.specs.Given.PointsTold.{IsRowOfCall}
+use Rattle.run_executor.specs.Given.LateKinds.{FitsAt}
+use Rattle.run_executor.specs.Given.LateLateCalls.{SupersededCalling}
+use Rattle.run_executor.specs.Given.CallersKind.{tries_to_insert}
+use Rattle.run_executor.specs.Given.CallersPairs.{Begun, Given, KeepsGiven}
+use Rattle.run_executor.specs.Given.CallersRows.{once_over, past_row}
+use Rattle.run_executor.specs.Given.CallersSights.{seen_by}
+use Rattle.run_executor.specs.Given.CallersTogether.{CallOnKey, UnderWay, OnKey, Knows, IsAtPoint, in_slot}
+use Rattle.run_executor.specs.Given.EffectsKnown.{Known}
+use Rattle.run_executor.specs.Given.FinishesMaps.{Standing}
+use Rattle.run_executor.specs.Given.FollowsCalls.{IsCalled}
 use Rattle.run_executor.specs.Given.HandsAsked.{IsAsked, IsAskedAs, IsAskedOn}
 use Rattle.run_executor.specs.Given.MomentsWhole.{RefinesWhole}
 use Rattle.run_kept.proofs.Values.KeyEnds.{MayFind}
-use Rattle.run_shows.specs.Scenes.Held.{Held, IsAt}
-use Rattle.run_shows.specs.Scenes.Scene.{Scene, slot_of}
-use Rattle.run_shows.proofs.Given.General.{same_some as same_call}
+use Rattle.run_executor.specs.Given.ScenesHeld.{Held, IsAt}
+use Rattle.run_executor.specs.Given.ScenesScene.{Scene, slot_of}
+use Rattle.run_executor.proofs.Given.General.{same_some as same_call}
 
 -- the word of a block is not that of none
 word_some : (block code : ℕ) → 0 < block → block < 2 ^ 53 → code < 2 ^ 64 → word_to block code ≡ 0 → ⊥

@@ -4,7 +4,7 @@ use Rattle.std.proofs.Common.{◌≡◌, ℕ, Bool, true, false, eqb-true, refl,
 use Rattle.run_schedules.specs.Given.SeizeWordsMem.{Mem, Took, value_at}
 use Rattle.run_schedules.specs.Given.SeizeWordsOp.{Out, Found, Exchanged, Made, Taken}
 use Rattle.run_schedules.specs.Given.SeizeWordsPlan.{Steps}
-use Rattle.run_shows.specs.Given.SeizeWordsWord.{block_in}
+use Rattle.run_executor.specs.Given.SeizeWordsWord.{block_in}
 use Rattle.seize.specs.declared.rows.settle.Settled.{Settled}
 use Rattle.seize.specs.declared.rows.settle.Settled.TheVariants as settled
 use Rattle.seize.specs.declared.advance.Advance.{Advance}
@@ -18,17 +18,17 @@ use Rattle.papaya_raw.specs.Given.TablesDeclared.marks.TheConstants.{TOMBSTONE}
 use Rattle.papaya_raw.specs.Given.TablesDeclared.node.Node.{Node}
 use Rattle.papaya_raw.specs.Given.TablesDeclared.node.Node.TheVariants as node
 use Rattle.papaya_raw.specs.Given.TablesDeclared.table.Table.{Table}
-use Rattle.run_effects.specs.Given.ResizeDispose.{dispose_plan}
-use Rattle.run_effects.specs.Given.ResizeDeclared.dispose.Dispose.{Dispose}
-use Rattle.run_effects.specs.Given.ResizeCopier.{copier_plan}
-use Rattle.run_effects.specs.Given.ResizeCopierStates.{copying_all}
-use Rattle.run_effects.specs.Given.ResizeLookup.{lookup_plan}
-use Rattle.run_effects.specs.Given.ResizeNewTable.{new_table_plan}
-use Rattle.run_effects.specs.Given.ResizeDeclared.copier.Copier.{Copier}
-use Rattle.run_effects.specs.Given.ResizeDeclared.lookup.Lookup.{Lookup}
-use Rattle.run_effects.specs.Given.ResizeDeclared.new_table.NewTable.{NewTable}
-use Rattle.run_effects.specs.Given.ResizeDeclared.yielding.Yielding.{Yielding}
-use Rattle.run_effects.specs.Given.ResizeDeclared.yielding.Yielding.TheVariants as outcome
+use Rattle.run_blocks.specs.Given.ResizeDispose.{dispose_plan}
+use Rattle.run_blocks.specs.Given.ResizeDeclared.dispose.Dispose.{Dispose}
+use Rattle.run_blocks.specs.Given.ResizeCopier.{copier_plan}
+use Rattle.run_blocks.specs.Given.ResizeCopierStates.{copying_all}
+use Rattle.run_blocks.specs.Given.ResizeLookup.{lookup_plan}
+use Rattle.run_blocks.specs.Given.ResizeNewTable.{new_table_plan}
+use Rattle.run_blocks.specs.Given.ResizeDeclared.copier.Copier.{Copier}
+use Rattle.run_blocks.specs.Given.ResizeDeclared.lookup.Lookup.{Lookup}
+use Rattle.run_blocks.specs.Given.ResizeDeclared.new_table.NewTable.{NewTable}
+use Rattle.run_blocks.specs.Given.ResizeDeclared.yielding.Yielding.{Yielding}
+use Rattle.run_blocks.specs.Given.ResizeDeclared.yielding.Yielding.TheVariants as outcome
 use Rattle.papaya_raw.specs.Answers.{ended}
 use Rattle.papaya_raw.specs.Call.{made, makes_of, root_found, next_found, dropped, key_read, pair_read, word_read, word_found, tried, looked, looks_for, first_made, next_made, helped, copied, disposed, plan_at, call_plan}
 use Rattle.papaya_raw.specs.CallFills.{filled, putting_by, fill_by, emptied, fills_with, given_up}
@@ -52,8 +52,8 @@ use Rattle.papaya_raw.specs.declared.machines.asking.Told.TheVariants as tells
 use Rattle.papaya_raw.specs.declared.machines.call.Calling.{Calling}
 use Rattle.papaya_raw.specs.declared.machines.call.Calling.TheVariants as at
 use Rattle.papaya_raw.specs.declared.machines.call.KeyCall.{KeyCall}
-use Rattle.run_shows.proofs.Given.PointsCalls.Asked.{passed_so}
-use Rattle.run_effects.proofs.Given.RuleKeys.Always.{Always, AlwaysOf, always_if, always_plan_as, always_steps}
+use Rattle.run_executor.proofs.Given.PointsCalls.Asked.{passed_so}
+use Rattle.run_executor.proofs.Given.RuleKeys.Always.{Always, AlwaysOf, always_if, always_plan_as, always_steps}
 use Rattle.run_kept.specs.Values.Values.{IsEnding}
 use Rattle.run_schedules.specs.Given.SeizeWordsDeclared.fault.Fault.{Fault}
 

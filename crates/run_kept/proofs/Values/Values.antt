@@ -39,17 +39,17 @@ use Rattle.run_schedules.specs.declared.call.Reply.TheVariants.{Aborts}
 use Rattle.run_schedules.specs.Schedules.Moment.{Asking, UnderWay as CallThere, Moment}
 use Rattle.run_schedules.specs.Schedules.Things.{same_question}
 use Rattle.run_schedules.specs.Schedules.Views.{call_of, reply_to}
-use Rattle.run_shows.specs.Given.CallersKind.{Kind, tries_to_insert}
-use Rattle.run_shows.specs.Given.CallersPairs.{Begun, Given, HandsBack}
-use Rattle.run_shows.specs.Given.CallersTogether.{CallOnKey, UnderWay, OnKey, ForRoom, Counting, OverAll}
-use Rattle.run_effects.specs.Effects.Known.{Known}
-use Rattle.run_shows.specs.Given.FinishesMachines.{DidOfKind, ContinuesAs, machine_of}
-use Rattle.run_shows.specs.Given.FinishesMaps.{Standing}
-use Rattle.run_shows.specs.Follows.Calls.{IsCalled}
+use Rattle.run_executor.specs.Given.CallersKind.{Kind, tries_to_insert}
+use Rattle.run_executor.specs.Given.CallersPairs.{Begun, Given, HandsBack}
+use Rattle.run_executor.specs.Given.CallersTogether.{CallOnKey, UnderWay, OnKey, ForRoom, Counting, OverAll}
+use Rattle.run_executor.specs.Given.EffectsKnown.{Known}
+use Rattle.run_executor.specs.Given.FinishesMachines.{DidOfKind, ContinuesAs, machine_of}
+use Rattle.run_executor.specs.Given.FinishesMaps.{Standing}
+use Rattle.run_executor.specs.Given.FollowsCalls.{IsCalled}
 use Rattle.run_executor.specs.Given.HandsAsked.{AsksThere, reply_to_machine}
 use Rattle.run_executor.specs.Given.MomentsWhole.{RefinesWhole}
-use Rattle.run_shows.proofs.Others.Outcomes.{told_in}
-use Rattle.run_effects.specs.declared.changed.Changed.TheVariants as changed
+use Rattle.run_executor.proofs.Given.OthersOutcomes.{told_in}
+use Rattle.run_executor.specs.Given.EffectsDeclared.changed.Changed.TheVariants as changed
 use Rattle.run_executor.specs.Named.Machines.{aborted_by}
 use Rattle.run_executor.specs.Named.Seen.{kind_of}
 use Rattle.run_executor.specs.Named.Telling.{value_of}
@@ -57,11 +57,11 @@ use Rattle.run_executor.specs.declared.kind.CallKind.TheVariants as kind
 use Rattle.run_kept.specs.Values.Values.{InsertsTellTheirs, IsEnding, KeepsValue, ValuesBegin, ValuesContinue, ValuesTaken, kept_after}
 use Rattle.run_kept.proofs.Values.KeyEnds.{Comes, IsNotOver, MayFind, ending_stays, key_comes_so}
 use Rattle.run_kept.proofs.Values.Inserts.{FoundOver, asked_on, called_so, its_pair, may_find, takes_nothing}
-use Rattle.run_shows.proofs.Scenes.Told.{as_step}
-use Rattle.run_shows.specs.Scenes.Held.{Held, IsAt}
-use Rattle.run_shows.specs.Scenes.Scene.{Scene, slot_of}
-use Rattle.run_shows.specs.Scenes.Stepping.{StepLeads, has_ended}
-use Rattle.run_shows.proofs.Given.General.{same_some as same_call}
+use Rattle.run_executor.proofs.Given.ScenesTold.{as_step}
+use Rattle.run_executor.specs.Given.ScenesHeld.{Held, IsAt}
+use Rattle.run_executor.specs.Given.ScenesScene.{Scene, slot_of}
+use Rattle.run_executor.specs.Given.ScenesStepping.{StepLeads, has_ended}
+use Rattle.run_executor.proofs.Given.General.{same_some as same_call}
 
 pub values_begin : (K V : Type 0) → ValuesBegin K V
 values_begin K V setting hash (On (TryInsert k v)) value = λ word e. absurd (cc e)

@@ -1,7 +1,7 @@
 -- What every step keeps, of whatever kind, beside what a moment of a run shows in one piece.
 use Rattle.std.specs.Prelude.{ℕ, List}
 use Rattle.run_schedules.specs.Schedules.Moment.{Moment}
-use Rattle.run_effects.specs.Effects.Known.{Known}
+use Rattle.run_executor.specs.Given.EffectsKnown.{Known}
 use Rattle.run_blocks.specs.Owes.Grown.{RefinesGrown}
 use Rattle.run_blocks.specs.Owes.Looking.{RefinesLooking}
 use Rattle.run_blocks.specs.Owes.Made.{RefinesMade}
@@ -18,7 +18,7 @@ use Rattle.run_waiting.specs.Lives.Lying.{RefinesLying}
 use Rattle.run_waiting.specs.Lives.Order.{RefinesOrder}
 use Rattle.run_waiting.specs.Lives.Retired.{RefinesRetiredTables}
 use Rattle.run_kept.specs.Kept.Ends.{MapsHaveEnds}
-use Rattle.run_shows.specs.Scenes.Scene.{Scene}
+use Rattle.run_executor.specs.Given.ScenesScene.{Scene}
 
 -- What somebody has is blank, and a row within a call retires one block. Each call has made just that block for a pair, and that table, which the moment says, and is short
 -- of a growth just where it is to be refused for want of memory; one that only looks has a machine that looks. It has to count what the moment says, it owes what it has in hand, and one whose

@@ -15,39 +15,39 @@ use Rattle.run_schedules.specs.Schedules.Beginning.{with_call}
 use Rattle.run_schedules.specs.Schedules.Effects.{with_effects, AtEachEffect}
 use Rattle.run_schedules.specs.Schedules.Entry.{ends_call}
 use Rattle.run_schedules.specs.Schedules.Moment.{Moment, start}
-use Rattle.run_shows.specs.Given.CallersTogether.{UnderWay}
-use Rattle.run_effects.specs.Effects.Effects.{effects_of, known_after}
-use Rattle.run_effects.specs.Effects.Known.{Known, nothing_known}
-use Rattle.run_effects.specs.declared.acting.Acting.TheVariants as acts
-use Rattle.run_shows.specs.declared.row.RowTold.{RowTold}
-use Rattle.run_shows.specs.declared.row.SlotCall.{SlotCall}
-use Rattle.run_shows.specs.declared.row.SlotRow.{SlotRow}
-use Rattle.run_shows.specs.Given.FinishesEndings.{Finishing}
-use Rattle.run_shows.specs.Given.FinishesMachines.{machine_of}
-use Rattle.run_shows.specs.Given.FinishesMakings.{Beginning}
-use Rattle.run_shows.specs.Given.FinishesMaps.{Standing, with_call as with_in}
-use Rattle.run_shows.specs.Follows.Calling.{NoneNamed, told, come_to}
-use Rattle.run_shows.specs.Follows.Calls.{IsCalled}
-use Rattle.run_shows.specs.Follows.Shows.{Refines}
+use Rattle.run_executor.specs.Given.CallersTogether.{UnderWay}
+use Rattle.run_executor.specs.Given.EffectsEffects.{effects_of, known_after}
+use Rattle.run_executor.specs.Given.EffectsKnown.{Known, nothing_known}
+use Rattle.run_executor.specs.Given.EffectsDeclared.acting.Acting.TheVariants as acts
+use Rattle.run_executor.specs.Given.ScenesDeclared.row.RowTold.{RowTold}
+use Rattle.run_executor.specs.Given.ScenesDeclared.row.SlotCall.{SlotCall}
+use Rattle.run_executor.specs.Given.ScenesDeclared.row.SlotRow.{SlotRow}
+use Rattle.run_executor.specs.Given.FinishesEndings.{Finishing}
+use Rattle.run_executor.specs.Given.FinishesMachines.{machine_of}
+use Rattle.run_executor.specs.Given.FinishesMakings.{Beginning}
+use Rattle.run_executor.specs.Given.FinishesMaps.{Standing, with_call as with_in}
+use Rattle.run_executor.specs.Given.FollowsCalling.{NoneNamed, told, come_to}
+use Rattle.run_executor.specs.Given.FollowsCalls.{IsCalled}
+use Rattle.run_executor.specs.Given.FollowsShows.{Refines}
 use Rattle.run_executor.specs.Given.HandsCalling.{IsBegunFor}
-use Rattle.run_shows.specs.Others.Endings.{ending_after}
-use Rattle.run_shows.specs.Others.Makings.{WasNew, making_after}
-use Rattle.run_shows.specs.Others.Rows.{scene_then}
-use Rattle.run_shows.specs.Others.Walks.{given_up}
+use Rattle.run_executor.specs.Given.OthersEndings.{ending_after}
+use Rattle.run_executor.specs.Given.OthersMakings.{WasNew, making_after}
+use Rattle.run_executor.specs.Given.OthersRows.{scene_then}
+use Rattle.run_executor.specs.Given.OthersWalks.{given_up}
 use Rattle.run_executor.specs.Given.SpotsOnSlots.{WaitUnreclaimed}
 use Rattle.run_executor.specs.Given.MomentsEndings.{WaitsOn}
 use Rattle.run_executor.specs.Given.MomentsOnSlots.{HadRetired}
 use Rattle.run_executor.specs.Given.MomentsWhole.{RefinesWhole}
 use Rattle.run_kept.specs.Kept.Kept.{RefinesKept}
-use Rattle.run_shows.specs.Scenes.Beginning.{Begins}
-use Rattle.run_shows.specs.Scenes.Ending.{EndingLeads, ending_begun}
-use Rattle.run_shows.specs.Scenes.Held.{Held, IsAt}
-use Rattle.run_shows.specs.Scenes.Making.{MakingLeads}
-use Rattle.run_shows.specs.Scenes.OnSlots.{RowBegins, RowLeads}
-use Rattle.run_shows.specs.Scenes.Replying.{AskLeads, StopLeads, scene_with, unless_stopped}
-use Rattle.run_shows.specs.Scenes.Rows.{request_of}
-use Rattle.run_shows.specs.Scenes.Scene.{HasCall, IsOnSlot, Scene, at_first, slot_of}
-use Rattle.run_shows.specs.Scenes.Stepping.{StepLeads, scene_after}
+use Rattle.run_executor.specs.Given.ScenesBeginning.{Begins}
+use Rattle.run_executor.specs.Given.ScenesEnding.{EndingLeads, ending_begun}
+use Rattle.run_executor.specs.Given.ScenesHeld.{Held, IsAt}
+use Rattle.run_executor.specs.Given.ScenesMaking.{MakingLeads}
+use Rattle.run_executor.specs.Given.ScenesOnSlots.{RowBegins, RowLeads}
+use Rattle.run_executor.specs.Given.ScenesReplying.{AskLeads, StopLeads, scene_with, unless_stopped}
+use Rattle.run_executor.specs.Given.ScenesRows.{request_of}
+use Rattle.run_executor.specs.Given.ScenesScene.{HasCall, IsOnSlot, Scene, at_first, slot_of}
+use Rattle.run_executor.specs.Given.ScenesStepping.{StepLeads, scene_after}
 
 module _ (K V : Type 0) where
   -- The promises: so it is before all events,

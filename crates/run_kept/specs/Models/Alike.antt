@@ -1,7 +1,7 @@
 -- The same waiting sets under other numbers: each number of one stands for that at the same place of the other.
 use Rattle.std.specs.Prelude.{◌≡◌, ℕ, List, [], ◌∷◌}
 use Rattle.seize.specs.WaitingSets.{Batch, Further, Sets, After, Change, Enters, Leaves, Refreshes, Retires, Flushes, Defers, Ends, ReclaimsAll}
-use Rattle.run_effects.specs.Given.SeizeWaitingHeld.{Every}
+use Rattle.run_executor.specs.Given.SeizeWaitingHeld.{Every}
 
 -- which number stands for which one
 module _ (R : ℕ → ℕ → Type 0) where

@@ -3,14 +3,14 @@
 use Rattle.std.specs.Prelude.{◌≡◌, ◌≢◌, ◌≤◌, ◌⊎◌, ℕ, Bool, List, [], ◌∷◌, ◌++◌, flat_map, Some}
 use Rattle.seize.specs.WaitingSets.{Change, Sets}
 use Rattle.seize.specs.World.{World, Rests, Request, Retire, Defer', Begin, Step, Happens}
-use Rattle.run_effects.specs.Given.SeizeWaitingHeld.{count}
+use Rattle.run_executor.specs.Given.SeizeWaitingHeld.{count}
 use Rattle.papaya_raw.specs.declared.machines.progress.Progress.{Progress}
 use Rattle.papaya_raw.specs.Given.TablesNodes.{deferred_word}
 use Rattle.papaya_raw.specs.Given.TablesDeclared.node.Node.{Node}
-use Rattle.run_shows.specs.Given.CallersTogether.{UnderWay, HandsOver}
-use Rattle.run_effects.specs.Effects.Effects.{effects_of, known_after}
-use Rattle.run_effects.specs.Effects.Known.{Known}
-use Rattle.run_effects.specs.declared.acting.Acting.TheVariants.{Call}
+use Rattle.run_executor.specs.Given.CallersTogether.{UnderWay, HandsOver}
+use Rattle.run_executor.specs.Given.EffectsEffects.{effects_of, known_after}
+use Rattle.run_executor.specs.Given.EffectsKnown.{Known}
+use Rattle.run_executor.specs.Given.EffectsDeclared.acting.Acting.TheVariants.{Call}
 use Rattle.run_executor.specs.Given.MomentsWhole.{RefinesWhole}
 use Rattle.run_schedules.specs.Schedules.After.{moment}
 use Rattle.run_schedules.specs.Runs.Present.{slot_of_guard}
@@ -28,9 +28,9 @@ use Rattle.run_kept.specs.Models.Defers.{AreNoted, HasReportedDefer}
 use Rattle.run_kept.specs.Models.Follows.{FollowsSets, FollowsModel}
 use Rattle.run_kept.specs.Models.Numbers.{HasNumber, EachIsOnce, AreOfThings, NoneBack}
 use Rattle.run_kept.specs.Models.Retires.{HasReportedRetire}
-use Rattle.run_shows.specs.Scenes.Held.{Held, IsAt}
-use Rattle.run_shows.specs.Scenes.Scene.{Scene}
-use Rattle.run_shows.specs.Scenes.Stepping.{StepLeads}
+use Rattle.run_executor.specs.Given.ScenesHeld.{Held, IsAt}
+use Rattle.run_executor.specs.Given.ScenesScene.{Scene}
+use Rattle.run_executor.specs.Given.ScenesStepping.{StepLeads}
 
 module _ (things : List Thing) (known : Known) (slot : ℕ) where
   -- what a row is to hand over is noted as things that came into maps, and it retires under this slot

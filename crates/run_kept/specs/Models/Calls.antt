@@ -4,7 +4,7 @@ use Rattle.std.specs.Prelude.{◌≡◌, ◌≢◌, ◌≤◌, ◌<◌, ◌^◌,
 use Rattle.seize.specs.Sequence.{changes}
 use Rattle.seize.specs.WaitingSets.{Change, Sets, all_changed}
 use Rattle.seize.specs.World.{World, Rests, Request, IsInside}
-use Rattle.run_effects.specs.Given.SeizeWaitingHeld.{count}
+use Rattle.run_executor.specs.Given.SeizeWaitingHeld.{count}
 use Rattle.papaya_raw.specs.Given.TablesNodes.{deferred_word}
 use Rattle.papaya_raw.specs.Given.TablesDeclared.node.Node.{Node}
 use Rattle.run_schedules.specs.Schedules.After.{moment}
@@ -14,7 +14,7 @@ use Rattle.run_schedules.specs.Schedules.Terms.{Terms}
 use Rattle.run_schedules.specs.declared.effect.Effect.{Effect}
 use Rattle.run_schedules.specs.declared.effect.Effect.TheVariants.{Taken}
 use Rattle.run_schedules.specs.declared.effect.Thing.{Thing}
-use Rattle.run_effects.specs.Effects.Known.{Known}
+use Rattle.run_executor.specs.Given.EffectsKnown.{Known}
 use Rattle.run_kept.specs.Models.Alike.{SetsAlike, ChangesAlike}
 use Rattle.run_kept.specs.Models.Follows.{FollowsSets}
 use Rattle.run_kept.specs.Models.Numbers.{HasNumber, EachIsOnce}

@@ -7,7 +7,7 @@ use Rattle.seize.specs.Law.{Ended}
 use Rattle.seize.specs.WaitingSets.{Change, Ends, Sets, is_one_of}
 use Rattle.seize.specs.World.{World, LeftTo, with_effect}
 use Rattle.seize.specs.declared.rows.settle.Settled.{Settled}
-use Rattle.run_effects.specs.Given.SeizeWaitingHeld.{Every}
+use Rattle.run_executor.specs.Given.SeizeWaitingHeld.{Every}
 use Rattle.papaya_raw.specs.Given.TablesNodes.{deferred_word}
 use Rattle.papaya_raw.specs.Given.TablesDeclared.node.Node.{Node}
 use Rattle.run_schedules.specs.Schedules.After.{tables_taken}
@@ -18,12 +18,12 @@ use Rattle.run_schedules.specs.declared.effect.Effect.{Effect}
 use Rattle.run_schedules.specs.declared.effect.Effect.TheVariants.{Stored, Linked, Reclaimed}
 use Rattle.run_schedules.specs.declared.effect.TableId.{TableId}
 use Rattle.run_schedules.specs.declared.effect.Thing.{Thing}
-use Rattle.run_effects.specs.Effects.Effects.{effects_of, known_after}
-use Rattle.run_effects.specs.Effects.Known.{Known}
-use Rattle.run_effects.specs.declared.acting.Acting.TheVariants.{Ending}
-use Rattle.run_effects.specs.declared.role.Role.TheVariants as role
-use Rattle.run_shows.specs.Given.FinishesEndings.{Finishing}
-use Rattle.run_shows.specs.Follows.Blocks.{RefinesBlocks}
+use Rattle.run_executor.specs.Given.EffectsEffects.{effects_of, known_after}
+use Rattle.run_executor.specs.Given.EffectsKnown.{Known}
+use Rattle.run_executor.specs.Given.EffectsDeclared.acting.Acting.TheVariants.{Ending}
+use Rattle.run_executor.specs.Given.EffectsDeclared.role.Role.TheVariants as role
+use Rattle.run_executor.specs.Given.FinishesEndings.{Finishing}
+use Rattle.run_executor.specs.Given.FollowsBlocks.{RefinesBlocks}
 use Rattle.run_executor.specs.Given.MomentsWhole.{RefinesWhole}
 use Rattle.run_kept.specs.Models.Alike.{SetsAlike}
 use Rattle.run_kept.specs.Models.Calls.{sets_on}
@@ -31,9 +31,9 @@ use Rattle.run_kept.specs.Models.Follows.{FollowsSets}
 use Rattle.run_kept.specs.Models.Numbers.{HasNumber, EachIsOnce}
 use Rattle.run_kept.specs.Models.Others.{HandNone}
 use Rattle.run_kept.specs.Models.Turns.{sets_of, CameByTurns}
-use Rattle.run_shows.specs.Scenes.Ending.{EndingLeads}
-use Rattle.run_shows.specs.Scenes.Held.{Held, IsAt}
-use Rattle.run_shows.specs.Scenes.Scene.{Scene}
+use Rattle.run_executor.specs.Given.ScenesEnding.{EndingLeads}
+use Rattle.run_executor.specs.Given.ScenesHeld.{Held, IsAt}
+use Rattle.run_executor.specs.Given.ScenesScene.{Scene}
 
 -- an effect of the end of a map: nothing comes by it, and nothing that was handed over is reclaimed
 abbrev pub IsOfEnd : Effect → Type 0

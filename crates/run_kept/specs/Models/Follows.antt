@@ -9,7 +9,7 @@ use Rattle.run_schedules.specs.Schedules.Entry.{Entry}
 use Rattle.run_schedules.specs.Schedules.Model.{IsByModel, things_in, sets_in, changes_of, left_last}
 use Rattle.run_schedules.specs.Schedules.Terms.{Terms}
 use Rattle.run_schedules.specs.declared.effect.Thing.{Thing}
-use Rattle.run_effects.specs.Effects.Known.{Known}
+use Rattle.run_executor.specs.Given.EffectsKnown.{Known}
 use Rattle.run_kept.specs.Models.Alike.{SetsAlike}
 use Rattle.run_kept.specs.Models.Numbers.{HasNumber}
 use Rattle.run_kept.specs.Models.Turns.{sets_of, CameByTurns}

@@ -5,11 +5,11 @@ use Rattle.seize.specs.World.{World}
 use Rattle.seize.specs.declared.advance.Advance.{Advance}
 use Rattle.papaya_raw.specs.Given.TablesDeclared.node.Node.{Node}
 use Rattle.papaya_raw.specs.Given.TablesDeclared.setting.Setting.{Setting}
-use Rattle.run_effects.specs.Effects.Effects.{effects_of, known_after}
-use Rattle.run_effects.specs.Effects.Known.{Known}
-use Rattle.run_effects.specs.declared.acting.Acting.TheVariants.{Making}
-use Rattle.run_shows.specs.Given.FinishesMakings.{Beginning}
-use Rattle.run_shows.specs.Follows.Blocks.{RefinesBlocks}
+use Rattle.run_executor.specs.Given.EffectsEffects.{effects_of, known_after}
+use Rattle.run_executor.specs.Given.EffectsKnown.{Known}
+use Rattle.run_executor.specs.Given.EffectsDeclared.acting.Acting.TheVariants.{Making}
+use Rattle.run_executor.specs.Given.FinishesMakings.{Beginning}
+use Rattle.run_executor.specs.Given.FollowsBlocks.{RefinesBlocks}
 use Rattle.run_executor.specs.Given.MomentsWhole.{RefinesWhole}
 use Rattle.run_schedules.specs.Schedules.After.{moment}
 use Rattle.run_schedules.specs.Schedules.Entry.{Entry}
@@ -23,11 +23,11 @@ use Rattle.run_kept.specs.Models.Calls.{EndNone}
 use Rattle.run_kept.specs.Models.Ends.{FollowsInEnd, NoTableIsLeft}
 use Rattle.run_kept.specs.Models.Follows.{FollowsSets, IsFollowed}
 use Rattle.run_kept.specs.Models.Numbers.{EachIsOnce, NoneBack}
-use Rattle.run_shows.specs.Others.Makings.{WasNew}
+use Rattle.run_executor.specs.Given.OthersMakings.{WasNew}
 use Rattle.run_kept.specs.Models.Others.{HandNone}
-use Rattle.run_shows.specs.Scenes.Held.{Held, IsAt}
-use Rattle.run_shows.specs.Scenes.Making.{MakingLeads}
-use Rattle.run_shows.specs.Scenes.Scene.{Scene}
+use Rattle.run_executor.specs.Given.ScenesHeld.{Held, IsAt}
+use Rattle.run_executor.specs.Given.ScenesMaking.{MakingLeads}
+use Rattle.run_executor.specs.Given.ScenesScene.{Scene}
 
 module _ {K V : Type 0} (batch_size roots : ℕ) where
   -- In the midst of an event that makes a map, which has done this: it hands nothing over, and the sets are those of the model as it began.

@@ -3,7 +3,7 @@ use Rattle.std.specs.Prelude.{◌≡◌, ◌⊎◌, ◌<◌, ◌^◌, ℕ, Bool,
 use Rattle.seize.specs.Sequence.{changes, taken_in}
 use Rattle.seize.specs.WaitingSets.{Change, Sets}
 use Rattle.seize.specs.World.{World, Rests, Request, Begins, Step, Use}
-use Rattle.run_shows.specs.Given.CallersTogether.{IsOfSlots}
+use Rattle.run_executor.specs.Given.CallersTogether.{IsOfSlots}
 use Rattle.papaya_raw.specs.Given.TablesNodes.{deferred_word}
 use Rattle.papaya_raw.specs.Given.TablesDeclared.node.Node.{Node}
 use Rattle.run_schedules.specs.Schedules.After.{moment}
@@ -16,21 +16,21 @@ use Rattle.run_schedules.specs.declared.effect.Effect.{Effect}
 use Rattle.run_schedules.specs.declared.effect.Thing.{Thing}
 use Rattle.run_schedules.specs.declared.event.Event.{Event}
 use Rattle.run_schedules.specs.declared.outcome.Outcome.{Outcome}
-use Rattle.run_effects.specs.Effects.Effects.{effects_of, known_after}
-use Rattle.run_effects.specs.Effects.Known.{Known}
-use Rattle.run_effects.specs.declared.acting.Acting.TheVariants.{Row}
-use Rattle.run_effects.specs.declared.role.Role.TheVariants.{Free}
-use Rattle.run_shows.specs.declared.row.RowTold.{RowTold}
-use Rattle.run_shows.specs.declared.row.SlotRow.{SlotRow}
-use Rattle.run_shows.specs.Follows.Blocks.{RefinesBlocks}
-use Rattle.run_shows.specs.Others.Rows.{scene_then}
+use Rattle.run_executor.specs.Given.EffectsEffects.{effects_of, known_after}
+use Rattle.run_executor.specs.Given.EffectsKnown.{Known}
+use Rattle.run_executor.specs.Given.EffectsDeclared.acting.Acting.TheVariants.{Row}
+use Rattle.run_executor.specs.Given.EffectsDeclared.role.Role.TheVariants.{Free}
+use Rattle.run_executor.specs.Given.ScenesDeclared.row.RowTold.{RowTold}
+use Rattle.run_executor.specs.Given.ScenesDeclared.row.SlotRow.{SlotRow}
+use Rattle.run_executor.specs.Given.FollowsBlocks.{RefinesBlocks}
+use Rattle.run_executor.specs.Given.OthersRows.{scene_then}
 use Rattle.run_kept.specs.Models.Alike.{SetsAlike}
 use Rattle.run_kept.specs.Models.Follows.{FollowsSets, IsFollowed}
 use Rattle.run_kept.specs.Models.Numbers.{things_of, HasNumber, EachIsOnce, AreOfRow}
 use Rattle.run_kept.specs.Models.Turns.{sets_of, IsInRow}
-use Rattle.run_shows.specs.Scenes.Held.{Held, IsAt}
-use Rattle.run_shows.specs.Scenes.OnSlots.{RowLeads}
-use Rattle.run_shows.specs.Scenes.Scene.{IsOnSlot, Scene}
+use Rattle.run_executor.specs.Given.ScenesHeld.{Held, IsAt}
+use Rattle.run_executor.specs.Given.ScenesOnSlots.{RowLeads}
+use Rattle.run_executor.specs.Given.ScenesScene.{IsOnSlot, Scene}
 
 module _ {K V : Type 0} (batch_size roots : ℕ) where
   -- In the midst of an event that is a row of caller i, which began in that world, once it has done this. As the row began these were the sets, by what was noted then; what it has

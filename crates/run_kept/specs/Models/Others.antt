@@ -11,17 +11,17 @@ use Rattle.run_schedules.specs.Schedules.Terms.{Terms}
 use Rattle.run_schedules.specs.declared.effect.Effect.{Effect}
 use Rattle.run_schedules.specs.declared.effect.Effect.TheVariants.{Retired, Deferred}
 use Rattle.run_schedules.specs.declared.effect.Thing.{Thing}
-use Rattle.run_effects.specs.Effects.Effects.{effects_of, known_after}
-use Rattle.run_effects.specs.Effects.Known.{Known}
-use Rattle.run_effects.specs.declared.acting.Acting.TheVariants.{Making}
-use Rattle.run_shows.specs.Given.FinishesMakings.{Beginning}
+use Rattle.run_executor.specs.Given.EffectsEffects.{effects_of, known_after}
+use Rattle.run_executor.specs.Given.EffectsKnown.{Known}
+use Rattle.run_executor.specs.Given.EffectsDeclared.acting.Acting.TheVariants.{Making}
+use Rattle.run_executor.specs.Given.FinishesMakings.{Beginning}
 use Rattle.run_executor.specs.Given.MomentsWhole.{RefinesWhole}
 use Rattle.run_kept.specs.Models.Calls.{sets_on}
-use Rattle.run_shows.specs.Others.Makings.{WasNew}
+use Rattle.run_executor.specs.Given.OthersMakings.{WasNew}
 use Rattle.run_kept.specs.Models.Follows.{FollowsSets}
-use Rattle.run_shows.specs.Scenes.Held.{Held, IsAt}
-use Rattle.run_shows.specs.Scenes.Making.{MakingLeads}
-use Rattle.run_shows.specs.Scenes.Scene.{Scene}
+use Rattle.run_executor.specs.Given.ScenesHeld.{Held, IsAt}
+use Rattle.run_executor.specs.Given.ScenesMaking.{MakingLeads}
+use Rattle.run_executor.specs.Given.ScenesScene.{Scene}
 
 -- it hands nothing over
 abbrev pub HandsNone : Effect → Type 0

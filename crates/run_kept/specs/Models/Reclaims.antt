@@ -3,7 +3,7 @@ use Rattle.std.specs.Prelude.{◌≡◌, ◌<◌, ◌^◌, ℕ, List, ◌++◌, 
 use Rattle.seize.specs.Sequence.{taken_in}
 use Rattle.seize.specs.WaitingSets.{Change, all_reclaimed}
 use Rattle.seize.specs.World.{World}
-use Rattle.run_shows.specs.Given.SeizeSetsReclaims.{NothingWaits}
+use Rattle.run_executor.specs.Given.SeizeSetsReclaims.{NothingWaits}
 use Rattle.run_kept.specs.Models.Turns.{sets_of, CameByTurns}
 
 module _ {T : Type 0} (defers : T → Option ℕ) (batch_size roots : ℕ) where

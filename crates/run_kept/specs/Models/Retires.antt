@@ -11,7 +11,7 @@ use Rattle.seize.specs.declared.rows.settle.Settling.{Settling}
 use Rattle.seize.specs.declared.rows.settle.Settling.TheVariants as at
 use Rattle.seize.specs.declared.states.TheConstants.{NEXT, FIRST}
 use Rattle.papaya_raw.specs.Given.TablesDeclared.node.Node.{Node}
-use Rattle.run_effects.specs.Effects.Known.{Known}
+use Rattle.run_executor.specs.Given.EffectsKnown.{Known}
 use Rattle.run_schedules.specs.declared.effect.Thing.{Thing}
 use Rattle.run_kept.specs.Models.Alike.{ChangesAlike}
 use Rattle.run_kept.specs.Models.Numbers.{HasNumber}

@@ -3,8 +3,8 @@ use Rattle.std.specs.Prelude.{◌≡◌, ◌<◌, ◌^◌, ℕ, List, [], ◌++�
 use Rattle.seize.specs.Sequence.{Turn, IsBetween, TakesTurns, taken_in, changes, ended_by}
 use Rattle.seize.specs.WaitingSets.{Change, Sets, all_changed, at_start as sets_at_start}
 use Rattle.seize.specs.World.{World, Rests, Request, Begins, Steps', Event, Happens, Runs, at_start}
-use Rattle.run_shows.specs.Given.SeizeAloneAlone.{TakesSteps}
-use Rattle.run_effects.specs.Given.RuleInWorld.{AllUsers}
+use Rattle.run_executor.specs.Given.SeizeAloneAlone.{TakesSteps}
+use Rattle.run_executor.specs.Given.RuleInWorld.{AllUsers}
 
 -- the waiting sets of blocks after these changes
 abbrev pub sets_of : ℕ → List Change → Sets

@@ -7,12 +7,12 @@ use Rattle.seize.specs.declared.rows.leave.Leaving.TheVariants as leaves
 use Rattle.seize.specs.declared.rows.register.Register.{Register}
 use Rattle.seize.specs.declared.rows.register.Registering.{Registering}
 use Rattle.seize.specs.declared.rows.register.Registering.TheVariants as registers
-use Rattle.run_shows.specs.declared.row.RowTold.{RowTold}
-use Rattle.run_shows.specs.declared.row.RowTold.TheVariants as told
-use Rattle.run_shows.specs.declared.row.SlotRow.{SlotRow}
-use Rattle.run_shows.specs.declared.row.SlotRow.TheVariants as rows
-use Rattle.run_shows.specs.declared.row.SlotUse.{SlotUse}
-use Rattle.run_shows.specs.declared.row.SlotUse.TheVariants as used
+use Rattle.run_executor.specs.Given.ScenesDeclared.row.RowTold.{RowTold}
+use Rattle.run_executor.specs.Given.ScenesDeclared.row.RowTold.TheVariants as told
+use Rattle.run_executor.specs.Given.ScenesDeclared.row.SlotRow.{SlotRow}
+use Rattle.run_executor.specs.Given.ScenesDeclared.row.SlotRow.TheVariants as rows
+use Rattle.run_executor.specs.Given.ScenesDeclared.row.SlotUse.{SlotUse}
+use Rattle.run_executor.specs.Given.ScenesDeclared.row.SlotUse.TheVariants as used
 
 -- a row has ended
 abbrev pub has_ended : {T : Type 0} → RowTold T → Bool

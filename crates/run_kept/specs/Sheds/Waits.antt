@@ -3,14 +3,14 @@ use Rattle.std.specs.Prelude.{◌≡◌, ◌<◌, ◌≤◌, ◌-◌, ℕ, zero,
 use Rattle.seize.specs.World.{World}
 use Rattle.papaya_raw.specs.Given.TablesDeclared.node.Node.{Node}
 use Rattle.papaya_raw.specs.declared.machines.end_map.EndMap.{EndMap}
-use Rattle.run_effects.specs.Given.RuleChart.{Chart}
+use Rattle.run_executor.specs.Given.RuleChart.{Chart}
 use Rattle.run_schedules.specs.Schedules.Moment.{Deferral, Moment}
 use Rattle.run_schedules.specs.Schedules.Views.{behind}
-use Rattle.run_effects.specs.Effects.Known.{Known}
-use Rattle.run_effects.specs.declared.role.Role.TheVariants as role
-use Rattle.run_shows.specs.Given.FinishesEndings.{Finishing, FinishingFacts, waiting_by}
-use Rattle.run_shows.specs.Given.FinishesFactsEnds.{Deed, taken_by}
-use Rattle.run_shows.specs.Follows.Maps.{table_of}
+use Rattle.run_executor.specs.Given.EffectsKnown.{Known}
+use Rattle.run_executor.specs.Given.EffectsDeclared.role.Role.TheVariants as role
+use Rattle.run_executor.specs.Given.FinishesEndings.{Finishing, FinishingFacts, waiting_by}
+use Rattle.run_executor.specs.Given.FinishesFactsEnds.{Deed, taken_by}
+use Rattle.run_executor.specs.Given.FollowsMaps.{table_of}
 
 -- the pairs that wait behind so many tables of a map, from this one on
 abbrev pub waited_behind : ℕ → List Deferral → ℕ → ℕ → List ℕ

@@ -19,19 +19,19 @@ use Rattle.run_schedules.specs.declared.call.Reply.{Reply}
 use Rattle.run_schedules.specs.declared.call.Reply.TheVariants.{Aborts}
 use Rattle.run_schedules.specs.Schedules.Moment.{Asking, UnderWay as CallThere, Moment}
 use Rattle.run_schedules.specs.Schedules.Views.{call_of, reply_to}
-use Rattle.run_shows.specs.Given.CallersTogether.{UnderWay}
-use Rattle.run_effects.specs.Effects.Known.{Known}
-use Rattle.run_shows.specs.Given.FinishesMachines.{machine_of}
-use Rattle.run_shows.specs.Given.FinishesMaps.{Standing}
+use Rattle.run_executor.specs.Given.CallersTogether.{UnderWay}
+use Rattle.run_executor.specs.Given.EffectsKnown.{Known}
+use Rattle.run_executor.specs.Given.FinishesMachines.{machine_of}
+use Rattle.run_executor.specs.Given.FinishesMaps.{Standing}
 use Rattle.run_executor.specs.Given.HandsAsked.{reply_to_machine}
 use Rattle.run_executor.specs.Given.MomentsWhole.{RefinesWhole}
 use Rattle.run_executor.specs.Named.Machines.{aborted_by, machine_for}
 use Rattle.run_executor.specs.Named.Seen.{kind_of}
 use Rattle.run_executor.specs.Named.Telling.{kept}
 use Rattle.run_executor.specs.declared.kind.CallKind.{CallKind}
-use Rattle.run_shows.specs.Scenes.Held.{Held, IsAt}
-use Rattle.run_shows.specs.Scenes.Scene.{Scene}
-use Rattle.run_shows.specs.Scenes.Stepping.{StepLeads}
+use Rattle.run_executor.specs.Given.ScenesHeld.{Held, IsAt}
+use Rattle.run_executor.specs.Given.ScenesScene.{Scene}
+use Rattle.run_executor.specs.Given.ScenesStepping.{StepLeads}
 
 -- a call on one key has come to its end, or gives up its own block before
 abbrev pub IsEnding : Calling → Type 0

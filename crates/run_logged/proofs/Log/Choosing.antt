@@ -21,11 +21,11 @@ use Rattle.run_shows.specs.Follows.Blocks.{HasRole}
 use Rattle.run_executor.specs.Given.HandsRows.{HoldsOne}
 use Rattle.run_executor.proofs.Given.HandsSettlingRows.{one_kept}
 use Rattle.run_executor.specs.Given.MomentsWhole.{RefinesWhole}
-use Rattle.run_waiting.specs.Given.SettlesEntries.{IsBlank}
-use Rattle.run_waiting.proofs.Given.SettlesEntryScenes.{one_as}
-use Rattle.run_waiting.specs.Lives.Behind.{IsDeferredTo}
-use Rattle.run_waiting.proofs.Lives.Each.{each_on}
-use Rattle.run_waiting.proofs.Lives.LeftTables.{left_as}
+use Rattle.run_kept.specs.Given.SettlesEntries.{IsBlank}
+use Rattle.run_kept.proofs.Given.SettlesEntryScenes.{one_as}
+use Rattle.run_kept.specs.Given.LivesBehind.{IsDeferredTo}
+use Rattle.run_kept.proofs.Given.LivesEach.{each_on}
+use Rattle.run_kept.proofs.Given.LivesLeftTables.{left_as}
 use Rattle.run_kept.specs.Kept.Kept.{RefinesKept}
 use Rattle.run_logged.specs.Log.Choosing.{ChoiceIsShown, logged_chosen, memory_chosen, scene_chosen}
 use Rattle.run_logged.specs.Log.Shown.{IsCounted}

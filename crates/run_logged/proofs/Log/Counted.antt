@@ -39,16 +39,16 @@ use Rattle.run_shows.specs.Others.Rows.{scene_then}
 use Rattle.run_executor.proofs.Given.MomentsAfter.{effects_after}
 use Rattle.run_executor.proofs.Given.MomentsNumbers.{maps_go}
 use Rattle.run_executor.specs.Given.MomentsNumbers.{MapsAreBelow, NumbersMaps}
-use Rattle.run_waiting.specs.Remains.Numbered.{NumbersUpTo}
-use Rattle.run_waiting.specs.Remains.Remains.{LeftNoted, RefinesRemains}
-use Rattle.run_waiting.specs.Remains.Slots.{SlotsNoted}
-use Rattle.run_waiting.proofs.Remains.Endings.{endings_begin_remain, endings_keep_remains}
-use Rattle.run_waiting.proofs.Remains.Makings.{makings_begin_remain, makings_keep_remains}
-use Rattle.run_waiting.proofs.Remains.Maps.{maps_come_remain, maps_go_remain}
-use Rattle.run_waiting.proofs.Remains.Numbered.{calls_keep_count, ends_keep_count, makings_keep_count, more_are_counted, rows_keep_count}
-use Rattle.run_waiting.proofs.Remains.Slots.{calls_note_slots, endings_note_slots, makings_note_slots, rows_note_slots, slots_begin}
-use Rattle.run_waiting.proofs.Remains.Stays.{begins_remain, stays_remain}
-use Rattle.run_waiting.proofs.Remains.Steps.{calls_keep_remains, rows_begin_remain, rows_keep_remains}
+use Rattle.run_kept.specs.Given.RemainsNumbered.{NumbersUpTo}
+use Rattle.run_kept.specs.Given.RemainsRemains.{LeftNoted, RefinesRemains}
+use Rattle.run_kept.specs.Given.RemainsSlots.{SlotsNoted}
+use Rattle.run_kept.proofs.Given.RemainsEndings.{endings_begin_remain, endings_keep_remains}
+use Rattle.run_kept.proofs.Given.RemainsMakings.{makings_begin_remain, makings_keep_remains}
+use Rattle.run_kept.proofs.Given.RemainsMaps.{maps_come_remain, maps_go_remain}
+use Rattle.run_kept.proofs.Given.RemainsNumbered.{calls_keep_count, ends_keep_count, makings_keep_count, more_are_counted, rows_keep_count}
+use Rattle.run_kept.proofs.Given.RemainsSlots.{calls_note_slots, endings_note_slots, makings_note_slots, rows_note_slots, slots_begin}
+use Rattle.run_kept.proofs.Given.RemainsStays.{begins_remain, stays_remain}
+use Rattle.run_kept.proofs.Given.RemainsSteps.{calls_keep_remains, rows_begin_remain, rows_keep_remains}
 use Rattle.run_kept.specs.Ends.{ended_as}
 use Rattle.run_logged.specs.Log.Shown.{IsCounted}
 use Rattle.run_logged.specs.declared.logged.Logged.{Logged}

@@ -36,9 +36,9 @@ use Rattle.run_shows.specs.Follows.Maps.{table_of}
 use Rattle.run_shows.proofs.Follows.Onward.{IsOfMap}
 use Rattle.run_executor.specs.Given.MomentsWhole.{RefinesWhole}
 use Rattle.run_executor.proofs.Given.MomentsEnds.{end_keeps}
-use Rattle.run_waiting.proofs.Lives.InUse.{list_is}
-use Rattle.run_waiting.proofs.Lives.Order.{noted_still}
-use Rattle.run_waiting.proofs.Lives.OrderEnds.{same_behind, used_before}
+use Rattle.run_kept.proofs.Given.LivesInUse.{list_is}
+use Rattle.run_kept.proofs.Given.LivesOrder.{noted_still}
+use Rattle.run_kept.proofs.Given.LivesOrderEnds.{same_behind, used_before}
 use Rattle.run_kept.specs.Kept.Kept.{RefinesKept}
 use Rattle.run_logged.specs.Log.Ends.{is_done, NotesMap, NotedStill}
 use Rattle.run_kept.specs.Sheds.Waits.{ReportsLeft, ReportsThen, ReportsWaiting, WaitsSo, waited_behind}

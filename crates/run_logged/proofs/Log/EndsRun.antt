@@ -23,9 +23,9 @@ use Rattle.run_shows.specs.Given.FinishesEndings.{Finishing, FinishingFacts, wai
 use Rattle.run_shows.specs.Given.FinishesFactsEnds.{taken_by as taken_of}
 use Rattle.run_shows.specs.Given.FinishesMaps.{Standing}
 use Rattle.run_shows.proofs.Given.FinishesAmong.Own.Steps.{endings_stand}
-use Rattle.run_waiting.specs.Given.MapsEndingsEnds.{HasMore}
-use Rattle.run_waiting.specs.Given.MapsMeasuresEnds.{end_map_left, most_blocks, tables_left, steps_left}
-use Rattle.run_waiting.proofs.Given.MapsEnds.Lower.{end_falls, fits_in_one}
+use Rattle.run_kept.specs.Given.MapsEndingsEnds.{HasMore}
+use Rattle.run_kept.specs.Given.MapsMeasuresEnds.{end_map_left, most_blocks, tables_left, steps_left}
+use Rattle.run_kept.proofs.Given.MapsEnds.Lower.{end_falls, fits_in_one}
 use Rattle.run_executor.specs.declared.executor.Executor.{Executor}
 use Rattle.run_executor.specs.declared.worker.Work.{Work}
 use Rattle.run_executor.specs.declared.worker.Work.TheVariants as work

@@ -22,9 +22,9 @@ use Rattle.run_executor.specs.declared.executor.Executor.{Executor}
 use Rattle.run_executor.specs.Given.MomentsWhole.{RefinesWhole}
 use Rattle.run_kept.specs.Kept.Kept.{RefinesKept}
 use Rattle.run_logged.specs.Log.Makings.{given_back, numbers_then, MakingCame, MakingRan, BelowIfRefused, CameBare, JustAsks}
-use Rattle.run_waiting.specs.Remains.Numbered.{NumbersUpTo}
-use Rattle.run_waiting.specs.Remains.Remains.{RefinesRemains}
-use Rattle.run_waiting.specs.Remains.Slots.{SlotsNoted}
+use Rattle.run_kept.specs.Given.RemainsNumbered.{NumbersUpTo}
+use Rattle.run_kept.specs.Given.RemainsRemains.{RefinesRemains}
+use Rattle.run_kept.specs.Given.RemainsSlots.{SlotsNoted}
 use Rattle.run_logged.specs.Log.Shown.{IsCounted}
 use Rattle.run_logged.specs.declared.logged.Logged.{Logged}
 use Rattle.run_logged.proofs.Log.Counted.{numbers_as}

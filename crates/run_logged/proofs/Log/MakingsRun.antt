@@ -22,8 +22,8 @@ use Rattle.run_shows.proofs.Given.CallersTogether.Users.{events_rows, events_use
 use Rattle.run_shows.specs.Follows.Maps.{shape_at, table_of, tables_to}
 use Rattle.run_shows.specs.Given.FinishesMakings.{Beginning, IsNewChart, StepsOfMaking}
 use Rattle.run_shows.specs.Given.FinishesMaps.{Standing}
-use Rattle.run_waiting.specs.Given.MapsMeasuresBegins.{new_map_left}
-use Rattle.run_waiting.proofs.Given.MapsBegins.ComesToEnd.{beginnings_leave_less}
+use Rattle.run_kept.specs.Given.MapsMeasuresBegins.{new_map_left}
+use Rattle.run_kept.proofs.Given.MapsBegins.ComesToEnd.{beginnings_leave_less}
 use Rattle.run_executor.specs.declared.executor.Executor.{Executor}
 use Rattle.run_executor.specs.declared.worker.Work.{Work}
 use Rattle.run_executor.specs.declared.worker.Work.TheVariants as work

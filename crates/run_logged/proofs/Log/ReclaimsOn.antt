@@ -19,8 +19,8 @@ use Rattle.run_kept.specs.Kept.Kept.{RefinesKept}
 use Rattle.run_logged.specs.Log.Reclaims.{ReclaimingIsShown, ReclaimingThen, ReclaimingContinues, ReclaimingSteps}
 use Rattle.run_logged.specs.Log.Shown.{AreNumbered, IsShown}
 use Rattle.run_logged.specs.declared.logged.Logged.{Logged}
-use Rattle.run_waiting.specs.Remains.Numbered.{NumbersUpTo}
-use Rattle.run_waiting.specs.Remains.Slots.{SlotsNoted}
+use Rattle.run_kept.specs.Given.RemainsNumbered.{NumbersUpTo}
+use Rattle.run_kept.specs.Given.RemainsSlots.{SlotsNoted}
 use Rattle.run_kept.proofs.Sheds.Reclaiming.Numbered.{reclaiming_keeps_count, reclaiming_notes_slots}
 use Rattle.run_logged.proofs.Log.Reclaiming.Rest.{reclaiming_found, reclaiming_keeps}
 use Rattle.run_kept.proofs.Sheds.Reclaiming.Steps.{reclaiming_whole}

@@ -9,7 +9,7 @@ use Rattle.run_shows.specs.Follows.Maps.{RefinesMap}
 use Rattle.run_executor.specs.Given.MomentsWhole.{RefinesWhole}
 use Rattle.run_kept.specs.Kept.Kept.{RefinesKept}
 use Rattle.run_kept.proofs.Kept.Stays.{stays_kept}
-use Rattle.run_waiting.proofs.Remains.Stays.{stays_remain}
+use Rattle.run_kept.proofs.Given.RemainsStays.{stays_remain}
 use Rattle.run_logged.specs.Log.Shown.{AreNumbered, IsCounted}
 use Rattle.run_logged.specs.declared.logged.Logged.{Logged}
 use Rattle.run_shows.specs.Scenes.Scene.{Scene}

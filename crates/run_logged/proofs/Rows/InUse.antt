@@ -10,7 +10,7 @@ use Rattle.run_schedules.specs.Schedules.Lists.{is_among}
 use Rattle.run_shows.specs.declared.row.SlotUse.{SlotUse}
 use Rattle.run_shows.specs.declared.row.SlotUse.TheVariants as used
 use Rattle.run_logged.specs.Rows.Rows.{used_as}
-use Rattle.run_waiting.proofs.Remains.Lists.{among_append as among_both}
+use Rattle.run_kept.proofs.Given.RemainsLists.{among_append as among_both}
 
 eqb_turned : (a b : ℕ) → (a == b) ≡ (b == a)
 eqb_turned a b = by (b == a) refl

@@ -24,7 +24,7 @@ use Rattle.run_shows.specs.Given.FinishesMakings.{Beginning, IsNewChart}
 use Rattle.run_shows.specs.Given.FinishesMaps.{Standing}
 use Rattle.run_shows.specs.Others.Makings.{IsNew, WasNew, making_after}
 use Rattle.run_executor.specs.Given.MomentsNumbers.{NumbersMaps}
-use Rattle.run_waiting.specs.Remains.Numbered.{NumbersUpTo}
+use Rattle.run_kept.specs.Given.RemainsNumbered.{NumbersUpTo}
 use Rattle.run_logged.specs.Log.Shown.{IsShown}
 use Rattle.run_logged.specs.declared.logged.Logged.{Logged}
 use Rattle.run_executor.specs.Executing.IsThere.{IsThere, held_by}

@@ -4,9 +4,9 @@ use Rattle.run_schedules.specs.Schedules.Moment.{Moment}
 use Rattle.run_effects.specs.Effects.Known.{known}
 use Rattle.run_executor.specs.Given.MomentsWhole.{RefinesWhole}
 use Rattle.run_kept.specs.Kept.Kept.{RefinesKept}
-use Rattle.run_waiting.specs.Remains.Numbered.{NumbersUpTo}
-use Rattle.run_waiting.specs.Remains.Remains.{RefinesRemains}
-use Rattle.run_waiting.specs.Remains.Slots.{SlotsNoted}
+use Rattle.run_kept.specs.Given.RemainsNumbered.{NumbersUpTo}
+use Rattle.run_kept.specs.Given.RemainsRemains.{RefinesRemains}
+use Rattle.run_kept.specs.Given.RemainsSlots.{SlotsNoted}
 use Rattle.run_logged.specs.declared.logged.Logged.{Logged}
 use Rattle.run_executor.specs.Executing.IsThere.{IsThere}
 use Rattle.run_shows.specs.Scenes.Scene.{Scene}

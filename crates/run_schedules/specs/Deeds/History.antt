@@ -1,7 +1,7 @@
 -- What is promised of each entry of a history: linearizability, the life of pairs, tables and blocks, protection and sweeps, by what is promised of what an entry does.
 use Rattle.std.specs.Prelude.{◌≡◌, ◌⊎◌, ℕ, ◌+◌, ◌==◌, ◌&&◌, Bool, true, false, not, List, [], ◌∷◌, ◌++◌, filter, length, Option, Some, if◌then◌else◌}
 use Rattle.std.specs.List.{list_all, list_any}
-use Rattle.map_tables.specs.Given.SeizeRegister.{bucket_needed}
+use Rattle.papaya_raw.specs.Given.SeizeRegister.{bucket_needed}
 use Rattle.run_schedules.specs.declared.call.Response.{Response}
 use Rattle.run_schedules.specs.declared.call.Response.TheVariants.{Absent}
 use Rattle.run_schedules.specs.declared.call.Call.{Call}

@@ -1,7 +1,7 @@
 -- What the waiting sets do as guards come and go, and pairs by their numbers and keys.
 use Rattle.std.specs.Prelude.{ℕ, zero, suc, ◌==◌, Bool, false, List, [], slice_get, Option, Some, None, if◌then◌else◌}
 use Rattle.run_schedules.specs.Runs.Present.{Present, guards_on}
-use Rattle.map_tables.specs.Given.SeizeWaitingSets.{Change}
+use Rattle.papaya_raw.specs.Given.SeizeWaitingSets.{Change}
 
 -- a slot is entered by the first guard there, and left and refreshed by the only one
 abbrev pub if_first : ℕ → Present → List Change → List Change

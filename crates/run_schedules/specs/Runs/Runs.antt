@@ -1,7 +1,7 @@
 -- Why a map is refused, how many guards a registration may have, and which pair is the stored one of its number.
 use Rattle.std.specs.Prelude.{◌≡◌, ℕ, zero, ◌*◌, ◌/◌, ◌^◌, nat_lt, List, Option, Some, None, if◌then◌else◌}
-use Rattle.map_tables.specs.declared.resize_mode.ResizeMode.{ResizeMode}
-use Rattle.map_tables.specs.declared.resize_mode.ResizeMode.TheVariants.{Incremental}
+use Rattle.papaya_raw.specs.Given.TablesDeclared.resize_mode.ResizeMode.{ResizeMode}
+use Rattle.papaya_raw.specs.Given.TablesDeclared.resize_mode.ResizeMode.TheVariants.{Incremental}
 use Rattle.seize_words.specs.declared.fault.Fault.{Fault}
 use Rattle.seize_words.specs.declared.fault.Fault.TheVariants.{ZeroChunk, Capacity}
 use Rattle.run_schedules.specs.declared.ended.Pair.{Pair}

@@ -1,6 +1,6 @@
 -- What a call can count: the shards of a map's count, each as it is at a moment of the call.
 use Rattle.std.specs.Prelude.{◌≡◌, ℕ, zero, suc, ◌+◌, ◌%◌, ◌^◌, List}
-use Rattle.map_tables.specs.Counts.{count_in}
+use Rattle.papaya_raw.specs.Given.TablesCounts.{count_in}
 use Rattle.run_schedules.specs.Schedules.Lists.{OneOf}
 use Rattle.run_schedules.specs.Schedules.Moment.{Moment}
 

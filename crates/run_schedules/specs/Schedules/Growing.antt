@@ -2,11 +2,11 @@
 use Rattle.std.specs.Prelude.{◌≡◌, ℕ, ◌+◌, ◌^◌, ◌<◌, ◌≤◌, ◌==◌, nat_le, nat_lt, Bool, true, false, not, ◌||◌, List, [], ◌∷◌, length, None, Result, Ok, Err, ◌⊎◌}
 use Rattle.std.specs.List.{list_all}
 use Rattle.seize_words.specs.declared.fault.Fault.{Fault}
-use Rattle.map_tables.specs.Given.SeizeRegister.{MayNeedRoom}
-use Rattle.map_tables.specs.declared.lengths.Reason.{Reason}
-use Rattle.map_tables.specs.declared.lengths.Reason.TheVariants.{Full, Reserved, NoPlace}
-use Rattle.map_tables.specs.Lengths.{places_for, entries_of, len_of, next_len, next_limit}
-use Rattle.map_tables.specs.Probes.{limit_of}
+use Rattle.papaya_raw.specs.Given.SeizeRegister.{MayNeedRoom}
+use Rattle.papaya_raw.specs.Given.TablesDeclared.lengths.Reason.{Reason}
+use Rattle.papaya_raw.specs.Given.TablesDeclared.lengths.Reason.TheVariants.{Full, Reserved, NoPlace}
+use Rattle.papaya_raw.specs.Given.TablesLengths.{places_for, entries_of, len_of, next_len, next_limit}
+use Rattle.papaya_raw.specs.Given.TablesProbes.{limit_of}
 use Rattle.run_schedules.specs.declared.shapes.TableShape.{TableShape}
 use Rattle.run_schedules.specs.declared.call.Call.{Call}
 use Rattle.run_schedules.specs.declared.call.Call.TheVariants.{On, Reserve, Len}

@@ -1,6 +1,6 @@
 -- The life of each pair, table and block: what an effect finds.
 use Rattle.std.specs.Prelude.{◌≡◌, ℕ, ◌+◌, ◌%◌, ◌<◌, ◌≤◌, nat_le, nat_lt, Bool, true, false, List, [], ◌∷◌, length, filter, sum_by, Option, Some, None, MatchBool}
-use Rattle.map_tables.specs.Lengths.{len_of}
+use Rattle.papaya_raw.specs.Given.TablesLengths.{len_of}
 use Rattle.run_schedules.specs.declared.shapes.TableShape.{TableShape}
 use Rattle.run_schedules.specs.Runs.Present.{slot_of_guard}
 use Rattle.run_schedules.specs.declared.effect.Effect.{Effect}

@@ -1,6 +1,6 @@
 -- What is reclaimed by the waiting-set model, where calls come one after another. The model knows pairs and tables by the order in which they came.
 use Rattle.std.specs.Prelude.{◌≡◌, ℕ, suc, List, [], ◌∷◌, ◌++◌, map, flat_map, Option, Some, None, if◌then◌else◌, MatchBool}
-use Rattle.map_tables.specs.Given.SeizeWaitingSets.{Change, Enters, Leaves, Refreshes, Retires, Flushes, Defers, Ends, ReclaimsAll, Sets, at_start, all_changed}
+use Rattle.papaya_raw.specs.Given.SeizeWaitingSets.{Change, Enters, Leaves, Refreshes, Retires, Flushes, Defers, Ends, ReclaimsAll, Sets, at_start, all_changed}
 use Rattle.run_schedules.specs.Runs.Log.{if_first, if_only}
 use Rattle.run_schedules.specs.Runs.Present.{slot_of_registration, slot_of_guard}
 use Rattle.run_schedules.specs.declared.event.Event.{Event}

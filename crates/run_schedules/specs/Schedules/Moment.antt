@@ -1,6 +1,6 @@
 -- What is so at a moment of a run.
 use Rattle.std.specs.Prelude.{ℕ, Bool, true, false, List, [], Option}
-use Rattle.map_tables.specs.declared.resize_mode.ResizeMode.{ResizeMode}
+use Rattle.papaya_raw.specs.Given.TablesDeclared.resize_mode.ResizeMode.{ResizeMode}
 use Rattle.run_schedules.specs.declared.shapes.TableShape.{TableShape}
 use Rattle.run_schedules.specs.Runs.Present.{Present, nobody}
 use Rattle.run_schedules.specs.declared.call.Call.{Call}

@@ -1,6 +1,6 @@
 -- What a run is made with.
 use Rattle.std.specs.Prelude.{ℕ}
-use Rattle.map_tables.specs.Powers.{next_power}
+use Rattle.papaya_raw.specs.Given.TablesPowers.{next_power}
 
 pub record Terms : Type 0 where
   pub batch_size : ℕ

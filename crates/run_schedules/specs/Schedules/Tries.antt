@@ -1,7 +1,7 @@
 -- What a call meets at its tries in the last table of a map, where it finds all of them taken.
 use Rattle.std.specs.Prelude.{◌≡◌, ℕ, zero, suc, ◌+◌, ◌%◌, ◌==◌, Bool, true, ◌&&◌, List, length, if◌then◌else◌}
 use Rattle.std.specs.List.{list_any}
-use Rattle.map_tables.specs.Probes.{triangular}
+use Rattle.papaya_raw.specs.Given.TablesProbes.{triangular}
 use Rattle.run_schedules.specs.declared.effect.Spot.{Spot}
 use Rattle.run_schedules.specs.Schedules.Lists.{OneOf, numbers_from}
 use Rattle.run_schedules.specs.Schedules.Things.{same_spot}

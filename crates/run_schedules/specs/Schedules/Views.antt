@@ -1,7 +1,7 @@
 -- What is seen at a moment of a run: the finite map, calls by caller, maps by name, and the tables of a map.
 use Rattle.std.specs.Prelude.{ℕ, zero, suc, ◌+◌, ◌==◌, nat_le, nat_lt, Bool, true, false, ◌&&◌, List, [], ◌∷◌, length, filter, find, map, Option, Some, None, option_map, if◌then◌else◌}
 use Rattle.std.specs.List.{list_any}
-use Rattle.map_tables.specs.Chunks.{is_incremental}
+use Rattle.papaya_raw.specs.Given.TablesChunks.{is_incremental}
 use Rattle.run_schedules.specs.Runs.Log.{pair_at, is_key}
 use Rattle.run_schedules.specs.Runs.Same.{is_same}
 use Rattle.run_schedules.specs.declared.call.Reply.{Reply}

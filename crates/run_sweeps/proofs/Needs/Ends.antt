@@ -13,14 +13,14 @@ use Rattle.run_schedules.specs.Schedules.Lives.{EventFinds}
 use Rattle.run_schedules.specs.Schedules.Moment.{InMap, GivenBack, IsTaken, TableThere, Moment}
 use Rattle.run_schedules.specs.Schedules.Things.{same_table}
 use Rattle.run_schedules.specs.Schedules.Views.{is_in_map, is_linked, is_stage}
-use Rattle.run_executor.specs.Given.FinishesOrders.{pairs_of}
-use Rattle.run_executor.specs.Given.FollowsMaps.{table_of}
-use Rattle.run_executor.proofs.Given.FollowsAlike.{put_elsewhere}
-use Rattle.run_executor.proofs.Given.FollowsFinds.{among, same_one}
-use Rattle.run_executor.proofs.Given.SpotsUnreclaimed.{table_is}
-use Rattle.run_executor.specs.Given.MomentsWholeEnds.{tables_ended}
+use Rattle.run_kept.specs.Given.FinishesOrders.{pairs_of}
+use Rattle.run_finds.specs.Given.FollowsMaps.{table_of}
+use Rattle.run_finds.proofs.Given.FollowsAlike.{put_elsewhere}
+use Rattle.run_finds.proofs.Given.FollowsFinds.{among, same_one}
+use Rattle.run_finds.proofs.Given.SpotsUnreclaimed.{table_is}
+use Rattle.run_finds.specs.Given.MomentsWholeEnds.{tables_ended}
 use Rattle.run_sweeps.specs.Needs.Ends.{EndsFindAll}
-use Rattle.run_executor.proofs.Given.FollowsStored.{in_map_true as in_map_is}
+use Rattle.run_finds.proofs.Given.FollowsStored.{in_map_true as in_map_is}
 
 -- of a list with something before the rest
 more_times : (n o : ℕ) (ps : List ℕ) → 0 < times o ps → 0 < times o (n ∷ ps)

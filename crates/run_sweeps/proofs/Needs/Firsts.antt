@@ -3,11 +3,11 @@ use Rattle.std.specs.Prelude.{◌≡◌, ◌≢◌, ℕ, ◌+◌, ◌-◌, ◌^�
 use Rattle.std.specs.List.{list_all}
 use Rattle.std.proofs.Common.{refl, ap, sym, subst, ◌∙◌, inl, inr}
 use Rattle.std.proofs.lemmas.Bool.{cases_eq, and_parts}
-use Rattle.run_executor.specs.Given.SeizeWordsMem.{Mem}
-use Rattle.run_executor.specs.Given.SeizeWordsOp.{Out, Exchanged, Made}
-use Rattle.run_executor.specs.Given.SeizeWordsDeclared.at.At.TheVariants.{Root}
-use Rattle.run_executor.specs.Given.SeizeWordsDeclared.fault.Fault.{Fault}
-use Rattle.run_executor.specs.Given.SeizeWordsDeclared.fault.Fault.TheVariants.{Capacity, RootsUsedUp}
+use Rattle.run_finds.specs.Given.SeizeWordsMem.{Mem}
+use Rattle.run_finds.specs.Given.SeizeWordsOp.{Out, Exchanged, Made}
+use Rattle.run_finds.specs.Given.SeizeWordsDeclared.at.At.TheVariants.{Root}
+use Rattle.run_finds.specs.Given.SeizeWordsDeclared.fault.Fault.{Fault}
+use Rattle.run_finds.specs.Given.SeizeWordsDeclared.fault.Fault.TheVariants.{Capacity, RootsUsedUp}
 use Rattle.papaya_raw.specs.Given.SeizeWorld.{World, with_at}
 use Rattle.papaya_raw.specs.Given.SeizeDeclared.advance.Advance.{Advance}
 use Rattle.papaya_raw.specs.Given.SeizeDeclared.advance.Advance.TheVariants as progress
@@ -34,21 +34,21 @@ use Rattle.run_schedules.specs.Schedules.Handing.{is_first_making}
 use Rattle.run_schedules.specs.Schedules.Lives.{IsMapsFirst, EventFinds}
 use Rattle.run_schedules.specs.Schedules.Moment.{MapThere, Moment}
 use Rattle.run_schedules.specs.Schedules.Views.{map_at, tables_of}
-use Rattle.run_executor.specs.Given.TellerTells.{StepsObserved}
-use Rattle.run_executor.specs.Given.EffectsDeclared.changed.Changed.{Changed}
-use Rattle.run_executor.specs.Given.EffectsDeclared.changed.Changed.TheVariants as changed
-use Rattle.run_executor.proofs.Given.RuleKeys.Always.{Always, AlwaysOf, always_steps}
-use Rattle.run_executor.specs.Given.RuleRule.{no_table}
-use Rattle.run_executor.specs.Given.CallersTogether.{no_blocks}
-use Rattle.run_executor.proofs.Given.CallersTogether.At.{at_other, at_same}
-use Rattle.run_executor.specs.Named.Places.{first_places}
-use Rattle.run_executor.specs.Given.EffectsEffects.{table_at, effects_of, known_after}
-use Rattle.run_executor.specs.Given.EffectsKnown.{Known}
-use Rattle.run_executor.specs.Given.EffectsDeclared.acting.Acting.{Acting}
-use Rattle.run_executor.specs.Given.EffectsDeclared.acting.Acting.TheVariants as acts
-use Rattle.run_executor.specs.Given.FinishesMakings.{Beginning, OpeningFacts}
-use Rattle.run_executor.specs.Given.FollowsShows.{Refines}
-use Rattle.run_executor.specs.Given.OthersMakings.{making_after}
+use Rattle.run_finds.specs.Given.TellerTells.{StepsObserved}
+use Rattle.run_finds.specs.Given.EffectsDeclared.changed.Changed.{Changed}
+use Rattle.run_finds.specs.Given.EffectsDeclared.changed.Changed.TheVariants as changed
+use Rattle.run_finds.proofs.Given.RuleKeys.Always.{Always, AlwaysOf, always_steps}
+use Rattle.run_finds.specs.Given.RuleRule.{no_table}
+use Rattle.run_finds.specs.Given.CallersTogether.{no_blocks}
+use Rattle.run_finds.proofs.Given.CallersTogether.At.{at_other, at_same}
+use Rattle.run_finds.specs.Given.NamedPlaces.{first_places}
+use Rattle.run_finds.specs.Given.EffectsEffects.{table_at, effects_of, known_after}
+use Rattle.run_finds.specs.Given.EffectsKnown.{Known}
+use Rattle.run_finds.specs.Given.EffectsDeclared.acting.Acting.{Acting}
+use Rattle.run_finds.specs.Given.EffectsDeclared.acting.Acting.TheVariants as acts
+use Rattle.run_kept.specs.Given.FinishesMakings.{Beginning, OpeningFacts}
+use Rattle.run_finds.specs.Given.FollowsShows.{Refines}
+use Rattle.run_kept.specs.Given.OthersMakings.{making_after}
 use Rattle.run_kept.specs.Given.OwesMaking.{making_in_opening}
 use Rattle.run_kept.specs.Given.OwesTables.{table_in, table_made, RefinesOwnTables}
 use Rattle.run_kept.specs.Given.OwesTablesBeside.{MakesFirst}
@@ -63,11 +63,11 @@ use Rattle.run_sweeps.proofs.Given.FindsGrown.{found_of}
 use Rattle.run_sweeps.proofs.Given.FindsLinking.{made_so as made_as_shaped, turn_new}
 use Rattle.run_sweeps.proofs.Given.FindsLists.{each_is}
 use Rattle.run_sweeps.proofs.Given.FindsShaping.{always_plan_more, goes_shaped}
-use Rattle.run_executor.proofs.Given.ScenesTold.{as_step}
-use Rattle.run_executor.specs.Given.ScenesHeld.{Held, IsAt}
-use Rattle.run_executor.specs.Given.ScenesMaking.{MakingHasOutcome, MakingLeads}
-use Rattle.run_executor.specs.Given.ScenesScene.{Scene}
-use Rattle.run_executor.proofs.Given.General.{same_some as one_of, equal_so as number_is}
+use Rattle.run_finds.proofs.Given.ScenesTold.{as_step}
+use Rattle.run_finds.specs.Given.ScenesHeld.{Held, IsAt}
+use Rattle.run_kept.specs.Given.ScenesMaking.{MakingHasOutcome, MakingLeads}
+use Rattle.run_finds.specs.Given.ScenesScene.{Scene}
+use Rattle.run_finds.proofs.Given.General.{same_some as one_of, equal_so as number_is}
 
 -- A step of the making of a map leaves it the places that its table is to have, and makes a table for those.
 

@@ -3,12 +3,12 @@ use Rattle.std.specs.Prelude.{◌≡◌, ◌<◌, ◌+◌, ◌%◌, ◌^◌, ℕ
 use Rattle.std.specs.List.{list_all}
 use Rattle.std.proofs.Common.{refl, ap, subst, sym, ◌∙◌, arith}
 use Rattle.std.proofs.lemmas.Bool.{ne_eqb}
-use Rattle.run_executor.specs.Given.SeizeWordsDeclared.at.At.{At}
-use Rattle.run_executor.specs.Given.SeizeWordsDeclared.at.At.TheVariants.{Root, Used}
-use Rattle.run_executor.specs.Given.SeizeWordsMem.{Mem, Took}
-use Rattle.run_executor.specs.Given.SeizeWordsOp.{Out, Found, Stored, Exchanged, Made, Taken, Roomed, Exchange, Make}
-use Rattle.run_executor.specs.Given.SeizeWordsPlan.{plan_as}
-use Rattle.run_executor.specs.Given.SeizeWordsWord.{block_in}
+use Rattle.run_finds.specs.Given.SeizeWordsDeclared.at.At.{At}
+use Rattle.run_finds.specs.Given.SeizeWordsDeclared.at.At.TheVariants.{Root, Used}
+use Rattle.run_finds.specs.Given.SeizeWordsMem.{Mem, Took}
+use Rattle.run_finds.specs.Given.SeizeWordsOp.{Out, Found, Stored, Exchanged, Made, Taken, Roomed, Exchange, Make}
+use Rattle.run_finds.specs.Given.SeizeWordsPlan.{plan_as}
+use Rattle.run_finds.specs.Given.SeizeWordsWord.{block_in}
 use Rattle.papaya_raw.specs.Given.SeizeWorld.{World}
 use Rattle.papaya_raw.specs.Given.SeizeDeclared.advance.Advance.{Advance}
 use Rattle.papaya_raw.specs.Given.TablesDeclared.node.Node.{Node}
@@ -29,25 +29,25 @@ use Rattle.run_finds.specs.Given.ResizeDeclared.new_table.Making.TheVariants as 
 use Rattle.run_finds.specs.Given.ResizeDeclared.new_map.NewMap.{NewMap}
 use Rattle.run_finds.specs.Given.ResizeDeclared.new_map.Opening.{Opening}
 use Rattle.run_finds.specs.Given.ResizeDeclared.new_map.Opening.TheVariants as opens
-use Rattle.run_executor.specs.Given.RuleRule.{no_table}
-use Rattle.run_executor.proofs.Given.RuleWords.TablesSeen.{block_of_link}
-use Rattle.run_executor.specs.Given.PointsFactsTables.{IsOwnTable, IsPlanned, MakingFacts}
+use Rattle.run_finds.specs.Given.RuleRule.{no_table}
+use Rattle.run_finds.proofs.Given.RuleWords.TablesSeen.{block_of_link}
+use Rattle.run_finds.specs.Given.PointsFactsTables.{IsOwnTable, IsPlanned, MakingFacts}
 use Rattle.run_schedules.specs.declared.effect.Effect.TheVariants.{Asked}
 use Rattle.run_schedules.specs.declared.effect.Growth.TheVariants.{ABlock}
 use Rattle.run_schedules.specs.Schedules.Handing.{is_first_making}
-use Rattle.run_executor.specs.Given.TellerTells.{StepsObserved}
-use Rattle.run_executor.specs.Given.EffectsDeclared.changed.Changed.{Changed}
-use Rattle.run_executor.specs.Given.EffectsDeclared.changed.Changed.TheVariants as changed
-use Rattle.run_executor.specs.Given.EffectsDeclared.changed.Kind.TheVariants as kind
-use Rattle.run_executor.specs.Given.EffectsEffects.{effects_of, in_block, led_to, made_by, named, names_same, taken_by}
-use Rattle.run_executor.specs.Given.EffectsKnown.{Known}
-use Rattle.run_executor.specs.Given.EffectsDeclared.acting.Acting.TheVariants as acts
-use Rattle.run_executor.specs.Given.EffectsDeclared.role.Role.{Role}
-use Rattle.run_executor.specs.Given.EffectsDeclared.role.Role.TheVariants as role
-use Rattle.run_executor.specs.Given.CallersTogether.{no_blocks}
-use Rattle.run_executor.specs.Given.FinishesMakings.{HasMade, OpeningFacts}
-use Rattle.run_executor.specs.Given.FollowsBlocks.{HasRole}
-use Rattle.run_executor.proofs.Given.FollowsWrites.{nothing_free, own_table}
+use Rattle.run_finds.specs.Given.TellerTells.{StepsObserved}
+use Rattle.run_finds.specs.Given.EffectsDeclared.changed.Changed.{Changed}
+use Rattle.run_finds.specs.Given.EffectsDeclared.changed.Changed.TheVariants as changed
+use Rattle.run_finds.specs.Given.EffectsDeclared.changed.Kind.TheVariants as kind
+use Rattle.run_finds.specs.Given.EffectsEffects.{effects_of, in_block, led_to, made_by, named, names_same, taken_by}
+use Rattle.run_finds.specs.Given.EffectsKnown.{Known}
+use Rattle.run_finds.specs.Given.EffectsDeclared.acting.Acting.TheVariants as acts
+use Rattle.run_finds.specs.Given.EffectsDeclared.role.Role.{Role}
+use Rattle.run_finds.specs.Given.EffectsDeclared.role.Role.TheVariants as role
+use Rattle.run_finds.specs.Given.CallersTogether.{no_blocks}
+use Rattle.run_kept.specs.Given.FinishesMakings.{HasMade, OpeningFacts}
+use Rattle.run_finds.specs.Given.FollowsBlocks.{HasRole}
+use Rattle.run_finds.proofs.Given.FollowsWrites.{nothing_free, own_table}
 use Rattle.run_kept.proofs.Told.{told_as, told_back}
 use Rattle.run_sweeps.proofs.Needs.Firsts.{firsts_are_all, makings_link_first}
 use Rattle.run_kept.proofs.Given.OwesTables.MakingsOfMaps.{makings_keep_tables}

@@ -2,10 +2,10 @@
 use Rattle.std.specs.Prelude.{◌≡◌, ℕ, nat_lt, Bool, true, false, ◌&&◌, List, [], ◌∷◌, Option, Ok, if◌then◌else◌}
 use Rattle.std.specs.List.{list_all}
 use Rattle.std.proofs.Common.{refl, ap, subst, sym}
-use Rattle.run_executor.specs.Given.SeizeWordsDeclared.at.At.TheVariants.{Root, Used, Slot, Entry, Word}
-use Rattle.run_executor.specs.Given.SeizeWordsMem.{Mem}
-use Rattle.run_executor.specs.Given.SeizeWordsOp.{Op, Out, Load, Store, Swap, Add, Or, Exchange, Make, Take, Rewrite, Room, Found, Exchanged, Roomed}
-use Rattle.run_executor.specs.Given.SeizeWordsPlan.{Plan, Turn, Do, plan_as}
+use Rattle.run_finds.specs.Given.SeizeWordsDeclared.at.At.TheVariants.{Root, Used, Slot, Entry, Word}
+use Rattle.run_finds.specs.Given.SeizeWordsMem.{Mem}
+use Rattle.run_finds.specs.Given.SeizeWordsOp.{Op, Out, Load, Store, Swap, Add, Or, Exchange, Make, Take, Rewrite, Room, Found, Exchanged, Roomed}
+use Rattle.run_finds.specs.Given.SeizeWordsPlan.{Plan, Turn, Do, plan_as}
 use Rattle.papaya_raw.specs.Given.SeizeDeclared.rows.enter.Enter.{Enter}
 use Rattle.papaya_raw.specs.Given.SeizeDeclared.rows.enter.Unregister.{Unregister}
 use Rattle.papaya_raw.specs.Given.SeizeDeclared.rows.leave.Leave.{Leave}
@@ -24,33 +24,33 @@ use Rattle.papaya_raw.specs.Given.SeizeSettle as settle
 use Rattle.papaya_raw.specs.Given.SeizeWorld.{Step}
 use Rattle.papaya_raw.specs.Given.TablesNodes.{deferred_word}
 use Rattle.papaya_raw.specs.Given.TablesDeclared.node.Node.{Node}
-use Rattle.run_executor.specs.Given.TellsSeen.{seen_of}
-use Rattle.run_executor.specs.Given.TellerTells.{observed_of, StepsObserved}
-use Rattle.run_executor.specs.Given.EffectsDeclared.changed.Changed.{Changed}
-use Rattle.run_executor.specs.Given.EffectsDeclared.changed.Changed.TheVariants as changed
+use Rattle.run_finds.specs.Given.TellsSeen.{seen_of}
+use Rattle.run_finds.specs.Given.TellerTells.{observed_of, StepsObserved}
+use Rattle.run_finds.specs.Given.EffectsDeclared.changed.Changed.{Changed}
+use Rattle.run_finds.specs.Given.EffectsDeclared.changed.Changed.TheVariants as changed
 use Rattle.run_schedules.specs.declared.effect.Effect.{Effect}
 use Rattle.run_schedules.specs.declared.effect.Effect.TheVariants.{Asked}
 use Rattle.run_schedules.specs.declared.effect.Growth.TheVariants.{ABucket}
 use Rattle.run_schedules.specs.Schedules.Handing.{asks_for_bucket, is_reclaiming}
 use Rattle.run_schedules.specs.Schedules.Moment.{Moment}
-use Rattle.run_executor.specs.Given.EffectsEffects.{effects_of, names_same, taken_by}
-use Rattle.run_executor.specs.Given.EffectsKnown.{Known}
-use Rattle.run_executor.specs.Given.EffectsDeclared.acting.Acting.TheVariants.{Row}
-use Rattle.run_executor.specs.Given.EffectsDeclared.role.Role.{Role}
-use Rattle.run_executor.specs.Given.EffectsDeclared.role.Role.TheVariants as role
-use Rattle.run_executor.specs.Given.ScenesDeclared.row.RowTold.{RowTold}
-use Rattle.run_executor.specs.Given.ScenesDeclared.row.SlotRow.{SlotRow}
-use Rattle.run_executor.specs.Given.ScenesDeclared.row.SlotRow.TheVariants as rows
-use Rattle.run_executor.specs.Given.FollowsShows.{Refines}
-use Rattle.run_executor.proofs.Given.OthersRowPlans.{IsOfSlots}
+use Rattle.run_finds.specs.Given.EffectsEffects.{effects_of, names_same, taken_by}
+use Rattle.run_finds.specs.Given.EffectsKnown.{Known}
+use Rattle.run_finds.specs.Given.EffectsDeclared.acting.Acting.TheVariants.{Row}
+use Rattle.run_finds.specs.Given.EffectsDeclared.role.Role.{Role}
+use Rattle.run_finds.specs.Given.EffectsDeclared.role.Role.TheVariants as role
+use Rattle.run_kept.specs.Given.ScenesDeclared.row.RowTold.{RowTold}
+use Rattle.run_kept.specs.Given.ScenesDeclared.row.SlotRow.{SlotRow}
+use Rattle.run_kept.specs.Given.ScenesDeclared.row.SlotRow.TheVariants as rows
+use Rattle.run_finds.specs.Given.FollowsShows.{Refines}
+use Rattle.run_finds.proofs.Given.OthersRowPlans.{IsOfSlots}
 use Rattle.run_kept.specs.Given.OwesMade.{RefinesMade}
 use Rattle.run_kept.specs.Given.OwesTables.{RefinesOwnTables}
 use Rattle.run_kept.proofs.Given.OwesInHand.{in_hand}
 use Rattle.run_kept.proofs.Given.OwesLasting.{row_keeps_held}
 use Rattle.run_kept.proofs.Given.OwesTables.Held.{held_by}
-use Rattle.run_executor.specs.Given.ScenesHeld.{Held, IsAt}
-use Rattle.run_executor.specs.Given.ScenesOnSlots.{HappensAt, RowSteps}
-use Rattle.run_executor.specs.Given.ScenesScene.{IsOnSlot, Scene}
+use Rattle.run_finds.specs.Given.ScenesHeld.{Held, IsAt}
+use Rattle.run_kept.specs.Given.ScenesOnSlots.{HappensAt, RowSteps}
+use Rattle.run_finds.specs.Given.ScenesScene.{IsOnSlot, Scene}
 
 -- What a step tells that writes words of the collector alone, or takes a block away too, or makes room.
 abbrev pub Tells : (takes rooms : Bool) → Changed → Type 0

@@ -17,13 +17,13 @@ use Rattle.run_schedules.specs.Schedules.Effects.{with_effect, with_effects}
 use Rattle.run_schedules.specs.Schedules.Handing.{is_first_making, is_table_made}
 use Rattle.run_schedules.specs.Schedules.Moment.{TableThere, Moment}
 use Rattle.run_schedules.specs.Schedules.Views.{tables_of}
-use Rattle.run_executor.specs.Given.EffectsEffects.{effects_of, known_after, table_at}
-use Rattle.run_executor.specs.Given.EffectsKnown.{Known}
-use Rattle.run_executor.specs.Given.EffectsDeclared.acting.Acting.{Acting}
-use Rattle.run_executor.specs.Given.EffectsDeclared.acting.Acting.TheVariants as acts
-use Rattle.run_executor.specs.Given.FinishesMakings.{Beginning}
-use Rattle.run_executor.specs.Given.FollowsShows.{Refines}
-use Rattle.run_executor.specs.Given.OthersMakings.{NotesCounter, making_after}
+use Rattle.run_finds.specs.Given.EffectsEffects.{effects_of, known_after, table_at}
+use Rattle.run_finds.specs.Given.EffectsKnown.{Known}
+use Rattle.run_finds.specs.Given.EffectsDeclared.acting.Acting.{Acting}
+use Rattle.run_finds.specs.Given.EffectsDeclared.acting.Acting.TheVariants as acts
+use Rattle.run_kept.specs.Given.FinishesMakings.{Beginning}
+use Rattle.run_finds.specs.Given.FollowsShows.{Refines}
+use Rattle.run_kept.specs.Given.OthersMakings.{NotesCounter, making_after}
 use Rattle.run_kept.specs.Given.OwesTables.{RefinesOwnTables}
 use Rattle.run_kept.proofs.Given.OwesTables.Held.{shape_of}
 use Rattle.run_kept.proofs.Given.OwesTables.Leaves.{Stays, IsMade, IsGivenUp, IsLinked}
@@ -31,9 +31,9 @@ use Rattle.run_kept.proofs.Given.OwesTables.MakingsOfMaps.{left_tables}
 use Rattle.run_kept.proofs.Given.OwesTables.Roles.{of_table, NoneOfTable}
 use Rattle.run_sweeps.specs.Needs.Makings.{CountsTables, MakingsCountTables, in_hand, table_left}
 use Rattle.run_sweeps.proofs.Needs.Makings.{makings_do_theirs}
-use Rattle.run_executor.specs.Given.ScenesHeld.{Held, IsAt}
-use Rattle.run_executor.specs.Given.ScenesMaking.{MakingLeads}
-use Rattle.run_executor.specs.Given.ScenesScene.{Scene}
+use Rattle.run_finds.specs.Given.ScenesHeld.{Held, IsAt}
+use Rattle.run_kept.specs.Given.ScenesMaking.{MakingLeads}
+use Rattle.run_finds.specs.Given.ScenesScene.{Scene}
 use Rattle.run_sweeps.proofs.Given.FindsGrown.{linked_as as linked}
 
 -- Of the effects of a making those that say nothing of tables make none, and the map has as many as before.

@@ -5,7 +5,7 @@ use Rattle.run_schedules.specs.Given.SeizeWordsMem.{Mem, Took, value_at}
 use Rattle.run_schedules.specs.Given.SeizeWordsPlan.{Steps, plan_as}
 use Rattle.papaya_raw.specs.Given.SeizeDeclared.advance.Advance.{Advance as Counted}
 use Rattle.papaya_raw.specs.Given.SeizeDeclared.advance.Advance.TheVariants as counts
-use Rattle.run_executor.proofs.Given.SeizeRuleRows.Leaving.{steps_back}
+use Rattle.run_finds.proofs.Given.SeizeRuleRows.Leaving.{steps_back}
 use Rattle.papaya_raw.specs.Given.TablesDeclared.node.Node.{Node}
 use Rattle.run_finds.specs.Given.ResizeSum.{sum_plan}
 use Rattle.run_finds.specs.Given.ResizeDeclared.sum.Sum.{Sum}
@@ -24,15 +24,15 @@ use Rattle.papaya_raw.specs.declared.machines.machine.Machine.{Machine}
 use Rattle.papaya_raw.specs.declared.machines.machine.Machine.TheVariants as kinds
 use Rattle.papaya_raw.specs.declared.machines.progress.Progress.{Progress}
 use Rattle.papaya_raw.specs.declared.machines.progress.Progress.TheVariants as progress
-use Rattle.run_executor.proofs.Given.RuleKeys.Always.{always_steps}
-use Rattle.run_executor.specs.Given.LateKinds.{LooksAt}
+use Rattle.run_finds.proofs.Given.RuleKeys.Always.{always_steps}
+use Rattle.run_finds.specs.Given.LateKinds.{LooksAt}
 use Rattle.run_finds.specs.Given.EffectsDeclared.changed.Changed.TheVariants.{Nothing}
 use Rattle.run_kept.proofs.Given.WaitsLaws.{lookups_never_wait}
 use Rattle.run_kept.proofs.Given.WaitsNever.{Advances, sum_goes}
 use Rattle.run_kept.specs.Given.OwesLooking.{IsLooking}
-use Rattle.run_executor.proofs.Given.ScenesTold.{as_step}
-use Rattle.run_executor.specs.Given.ScenesHeld.{Held}
-use Rattle.run_executor.specs.Given.ScenesStepping.{StepsFrom}
+use Rattle.run_finds.proofs.Given.ScenesTold.{as_step}
+use Rattle.run_finds.specs.Given.ScenesHeld.{Held}
+use Rattle.run_finds.specs.Given.ScenesStepping.{StepsFrom}
 
 abbrev SumOn : Sum × Counted ℕ → Type 0
 SumOn end = Advances end

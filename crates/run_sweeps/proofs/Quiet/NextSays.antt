@@ -24,8 +24,8 @@ use Rattle.papaya_raw.specs.declared.machines.progress.Progress.{Progress}
 use Rattle.papaya_raw.specs.declared.machines.progress.Progress.TheVariants as progress
 use Rattle.run_finds.specs.Given.TellerTells.{StepsObserved}
 use Rattle.run_finds.specs.Given.EffectsDeclared.changed.Changed.TheVariants.{Nothing}
-use Rattle.run_executor.specs.Given.ScenesHeld.{Held}
-use Rattle.run_executor.specs.Given.ScenesStepping.{StepsFrom}
+use Rattle.run_finds.specs.Given.ScenesHeld.{Held}
+use Rattle.run_finds.specs.Given.ScenesStepping.{StepsFrom}
 
 module _ {K V : Type 0} where
   abbrev pub NextSays : Sweep → Progress (Node K V) → Sweep → Type 0

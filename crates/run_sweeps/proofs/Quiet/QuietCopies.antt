@@ -32,18 +32,18 @@ use Rattle.papaya_raw.specs.Given.ReservesDeclared.sweep.Swept.{Swept}
 use Rattle.papaya_raw.specs.Given.ReservesDeclared.sweep.Swept.TheVariants as swept
 use Rattle.papaya_raw.specs.Given.ReservesDeclared.sweep.Sweeping.{Sweeping}
 use Rattle.papaya_raw.specs.Given.ReservesDeclared.sweep.Sweeping.TheVariants as sweeps
-use Rattle.run_executor.proofs.Given.RuleWords.PlaceWordsWritten.{or_copying}
-use Rattle.run_executor.specs.Given.RuleChart.{Chart}
-use Rattle.run_executor.specs.Given.LateToldReserves.{IsRowOfReserve}
-use Rattle.run_executor.specs.Given.LateToldSweeps.{IsRowOfSweep}
+use Rattle.run_finds.proofs.Given.RuleWords.PlaceWordsWritten.{or_copying}
+use Rattle.run_finds.specs.Given.RuleChart.{Chart}
+use Rattle.run_finds.specs.Given.LateToldReserves.{IsRowOfReserve}
+use Rattle.run_finds.specs.Given.LateToldSweeps.{IsRowOfSweep}
 use Rattle.run_finds.specs.Given.EffectsDeclared.changed.Changed.{Changed}
 use Rattle.run_finds.specs.Given.EffectsDeclared.changed.Changed.TheVariants as changed
 use Rattle.run_finds.specs.Given.EffectsEffects.{effects_of, in_block, named, names_same}
-use Rattle.run_executor.specs.Given.EffectsKnown.{Known}
-use Rattle.run_executor.specs.Given.EffectsDeclared.acting.Acting.{Acting}
-use Rattle.run_executor.specs.Given.EffectsDeclared.role.Role.{Role}
-use Rattle.run_executor.specs.Given.EffectsDeclared.role.Role.TheVariants as role
-use Rattle.run_executor.proofs.Given.OthersOutcomes.{told_in}
+use Rattle.run_finds.specs.Given.EffectsKnown.{Known}
+use Rattle.run_finds.specs.Given.EffectsDeclared.acting.Acting.{Acting}
+use Rattle.run_finds.specs.Given.EffectsDeclared.role.Role.{Role}
+use Rattle.run_finds.specs.Given.EffectsDeclared.role.Role.TheVariants as role
+use Rattle.run_finds.proofs.Given.OthersOutcomes.{told_in}
 use Rattle.run_schedules.specs.declared.effect.TableId.{TableId as Numbered}
 use Rattle.run_kept.proofs.Given.OwesTables.Hosts.{Step}
 use Rattle.run_kept.proofs.Given.WaitsCopyings.{SweepsOn, telling_goes}

@@ -12,8 +12,8 @@ use Rattle.papaya_raw.specs.Given.SeizeDeclared.rows.settle.Settled.{Settled}
 use Rattle.papaya_raw.specs.Given.SeizeDeclared.rows.settle.Settled.TheVariants as settled
 use Rattle.papaya_raw.specs.Given.SeizeDeclared.rows.settle.Settling.{Settling}
 use Rattle.papaya_raw.specs.Given.SeizeDeclared.rows.settle.Settling.TheVariants as settling
-use Rattle.run_executor.proofs.Given.SeizeEndsBatches.Held.{waits_held}
-use Rattle.run_executor.proofs.Given.SeizeActsWaits.{deferring_never_waits}
+use Rattle.run_finds.proofs.Given.SeizeEndsBatches.Held.{waits_held}
+use Rattle.run_finds.proofs.Given.SeizeActsWaits.{deferring_never_waits}
 use Rattle.papaya_raw.specs.Given.TablesNodes.{deferred_word}
 use Rattle.papaya_raw.specs.Given.TablesDeclared.node.Node.{Node}
 use Rattle.papaya_raw.specs.Given.TablesDeclared.table.Table.{Table}
@@ -40,13 +40,13 @@ use Rattle.papaya_raw.specs.declared.machines.answer.KeyAnswer.{KeyAnswer}
 use Rattle.papaya_raw.specs.declared.machines.call.Calling.{Calling}
 use Rattle.papaya_raw.specs.declared.machines.call.Calling.TheVariants as at
 use Rattle.papaya_raw.specs.declared.machines.call.KeyCall.{KeyCall}
-use Rattle.run_executor.specs.Given.PointsTold.{IsRowOf, IsRowOfCall, IsRowOfCopier}
+use Rattle.run_finds.specs.Given.PointsTold.{IsRowOf, IsRowOfCall, IsRowOfCopier}
 use Rattle.run_finds.specs.Given.EffectsDeclared.changed.Changed.{Changed}
 use Rattle.run_finds.specs.Given.EffectsDeclared.changed.Changed.TheVariants as changed
-use Rattle.run_executor.proofs.Given.OthersOutcomes.{told_in}
+use Rattle.run_finds.proofs.Given.OthersOutcomes.{told_in}
 use Rattle.run_kept.proofs.Given.WaitsCallPlans.{Continues, ending_goes}
 use Rattle.run_kept.proofs.Given.OwesTables.Hosts.{Step}
-use Rattle.run_executor.proofs.Given.ScenesTold.{as_step}
+use Rattle.run_finds.proofs.Given.ScenesTold.{as_step}
 
 module _ {K V : Type 0} (m m2 : Mem (Node K V)) (told : Changed) where
   -- a row that settles waits where it has read the batch of its slot

@@ -5,7 +5,7 @@ use Rattle.run_schedules.specs.Given.SeizeWordsMem.{Mem}
 use Rattle.run_schedules.specs.Given.SeizeWordsPlan.{plan_as}
 use Rattle.papaya_raw.specs.Given.SeizeDeclared.advance.Advance.{Advance as Counted}
 use Rattle.papaya_raw.specs.Given.SeizeDeclared.advance.Advance.TheVariants as counts
-use Rattle.run_executor.proofs.Given.SeizeRuleRows.Leaving.{steps_back}
+use Rattle.run_finds.proofs.Given.SeizeRuleRows.Leaving.{steps_back}
 use Rattle.papaya_raw.specs.Given.TablesDeclared.node.Node.{Node}
 use Rattle.run_finds.specs.Given.ResizeSum.{sum_plan}
 use Rattle.run_finds.specs.Given.ResizeDeclared.yielding.Yielding.{Yielding}
@@ -23,15 +23,15 @@ use Rattle.papaya_raw.specs.declared.machines.machine.Machine.{Machine}
 use Rattle.papaya_raw.specs.declared.machines.machine.Machine.TheVariants as kinds
 use Rattle.papaya_raw.specs.declared.machines.progress.Progress.{Progress}
 use Rattle.papaya_raw.specs.declared.machines.progress.Progress.TheVariants as progress
-use Rattle.run_executor.specs.Given.LateFaults.{IsRoom, RefusesRoom, RoomInReserving, RoomInSweeping, SweepRefusesRoom}
-use Rattle.run_executor.proofs.Given.LateKindsKept.Laws.{reserves_refuse_room, sweeps_refuse_room}
-use Rattle.run_executor.proofs.Given.LateKindsKept.Rooms.Making.{CountsOn, sum_counts}
+use Rattle.run_finds.specs.Given.LateFaults.{IsRoom, RefusesRoom, RoomInReserving, RoomInSweeping, SweepRefusesRoom}
+use Rattle.run_finds.proofs.Given.LateKindsKept.Laws.{reserves_refuse_room, sweeps_refuse_room}
+use Rattle.run_finds.proofs.Given.LateKindsKept.Rooms.Making.{CountsOn, sum_counts}
 use Rattle.run_finds.specs.Given.EffectsDeclared.changed.Changed.TheVariants.{Nothing}
 use Rattle.run_finds.proofs.Given.HistoriesAsking.{always_told, always_turned}
-use Rattle.run_executor.specs.Named.Machines.{RefusedForRoom}
-use Rattle.run_executor.proofs.Given.ScenesTold.{as_step}
-use Rattle.run_executor.specs.Given.ScenesHeld.{Held}
-use Rattle.run_executor.specs.Given.ScenesStepping.{StepsFrom}
+use Rattle.run_finds.specs.Given.NamedMachines.{RefusedForRoom}
+use Rattle.run_finds.proofs.Given.ScenesTold.{as_step}
+use Rattle.run_finds.specs.Given.ScenesHeld.{Held}
+use Rattle.run_finds.specs.Given.ScenesStepping.{StepsFrom}
 
 module _ {K V : Type 0} where
   -- what it says is no refusal, or one for room

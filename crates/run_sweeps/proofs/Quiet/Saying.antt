@@ -19,15 +19,15 @@ use Rattle.run_schedules.specs.declared.outcome.Outcome.{Outcome}
 use Rattle.run_schedules.specs.declared.outcome.Outcome.TheVariants as outcome
 use Rattle.run_schedules.specs.Schedules.Sequential.{Answers, Leaves, Puts, Takes, means, puts_reply}
 use Rattle.run_schedules.specs.Schedules.Views.{reply_to}
-use Rattle.run_executor.specs.Given.EffectsKnown.{Known}
+use Rattle.run_finds.specs.Given.EffectsKnown.{Known}
 use Rattle.run_finds.specs.Given.HistoriesAnswers.{IsAnsweredAs, IsAnsweredDone, NamesPair}
 use Rattle.run_kept.specs.Given.HistoriesEvents.{HasOutcome}
 use Rattle.run_kept.specs.Given.HistoriesInEvent.{HasOutcomeSo}
 use Rattle.run_kept.specs.Given.HistoriesOtherMidsts.{AsksAsSaid}
-use Rattle.run_executor.specs.Named.Seen.{kind_of, kind_on}
-use Rattle.run_executor.specs.Named.Telling.{aborted_with, answer_on, number_by, number_in, occupied_by}
+use Rattle.run_finds.specs.Given.NamedSeen.{kind_of, kind_on}
+use Rattle.run_finds.specs.Given.NamedTelling.{aborted_with, answer_on, number_by, number_in, occupied_by}
 use Rattle.run_sweeps.specs.Says.{outcome_of}
-use Rattle.run_executor.specs.Given.EffectsDeclared.role.Role.TheVariants as role
+use Rattle.run_finds.specs.Given.EffectsDeclared.role.Role.TheVariants as role
 use Rattle.run_kept.specs.Given.HistoriesAsking.{IsQuestionAsked}
 
 -- a question that has words is told by the number of its pair

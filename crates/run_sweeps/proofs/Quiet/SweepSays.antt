@@ -32,12 +32,12 @@ use Rattle.papaya_raw.specs.declared.machines.machine.Machine.{Machine}
 use Rattle.papaya_raw.specs.declared.machines.machine.Machine.TheVariants as kinds
 use Rattle.papaya_raw.specs.declared.machines.progress.Progress.{Progress}
 use Rattle.papaya_raw.specs.declared.machines.progress.Progress.TheVariants as progress
-use Rattle.run_executor.proofs.Given.RuleKeys.Always.{Always, AlwaysOf, always_if, always_plan_as}
+use Rattle.run_finds.proofs.Given.RuleKeys.Always.{Always, AlwaysOf, always_if, always_plan_as}
 use Rattle.run_finds.specs.Given.EffectsDeclared.changed.Changed.TheVariants.{Nothing}
 use Rattle.run_finds.proofs.Given.HistoriesAsking.{always_told, always_turned}
-use Rattle.run_executor.specs.Named.Machines.{IsBefore}
-use Rattle.run_executor.specs.Given.ScenesHeld.{Held}
-use Rattle.run_executor.specs.Given.ScenesStepping.{StepsFrom}
+use Rattle.run_finds.specs.Given.NamedMachines.{IsBefore}
+use Rattle.run_finds.specs.Given.ScenesHeld.{Held}
+use Rattle.run_finds.specs.Given.ScenesStepping.{StepsFrom}
 
 -- a walk before its first pair
 module _ (K V : Type 0) (p : Sweep) (walks : p.purpose ≡ Walks) where

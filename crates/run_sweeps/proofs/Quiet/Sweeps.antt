@@ -4,13 +4,13 @@ use Rattle.std.proofs.Common.{subst, inl, inr}
 use Rattle.papaya_raw.specs.Given.ReservesDeclared.sweep.Purpose.TheVariants.{Walks, Retains}
 use Rattle.papaya_raw.specs.Given.ReservesDeclared.sweep.Sweeping.{Sweeping}
 use Rattle.papaya_raw.specs.Given.ReservesDeclared.sweep.Sweeping.TheVariants as at
-use Rattle.run_executor.specs.Given.LateFactsSweeps.{SweepingFacts}
-use Rattle.run_executor.specs.Given.LateToldSweeps.{IsRowOfSweep}
-use Rattle.run_executor.specs.Given.CallersOverAll.{CallOverAll}
-use Rattle.run_executor.specs.Given.CallersSights.{seen_by}
-use Rattle.run_executor.specs.Given.CallersTogether.{OverAll, IsAtPoint as TogetherStands, Together, in_slot}
-use Rattle.run_executor.specs.Given.FinishesMaps.{Standing}
-use Rattle.run_executor.specs.Given.ScenesScene.{Scene, slot_of}
+use Rattle.run_finds.specs.Given.LateFactsSweeps.{SweepingFacts}
+use Rattle.run_finds.specs.Given.LateToldSweeps.{IsRowOfSweep}
+use Rattle.run_finds.specs.Given.CallersOverAll.{CallOverAll}
+use Rattle.run_finds.specs.Given.CallersSights.{seen_by}
+use Rattle.run_finds.specs.Given.CallersTogether.{OverAll, IsAtPoint as TogetherStands, Together, in_slot}
+use Rattle.run_finds.specs.Given.FinishesMaps.{Standing}
+use Rattle.run_finds.specs.Given.ScenesScene.{Scene, slot_of}
 use Rattle.run_finds.specs.Given.SweepsSweepPoints.{next_at}
 use Rattle.run_finds.specs.Given.ReservesDeclared.sweep.Sweep.{Sweep}
 use Rattle.run_kept.specs.Given.ShardsAdds.{adds_in_sweeping}

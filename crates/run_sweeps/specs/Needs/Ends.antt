@@ -1,15 +1,15 @@
 -- What the end of a map finds: pairs that are in the map, and tables of it that are linked.
 use Rattle.std.specs.Prelude.{◌≡◌, ◌<◌, ℕ, true, false, Some, None}
 use Rattle.papaya_raw.specs.Given.TablesChunks.{is_incremental}
-use Rattle.run_executor.specs.Given.RuleChart.{Chart}
+use Rattle.run_finds.specs.Given.RuleChart.{Chart}
 use Rattle.run_schedules.specs.Schedules.Effects.{AtEachEffect}
 use Rattle.run_schedules.specs.Schedules.Lives.{EventFinds}
 use Rattle.run_schedules.specs.Schedules.Moment.{Moment}
-use Rattle.run_executor.specs.Given.EffectsKnown.{Known}
-use Rattle.run_executor.specs.Given.FinishesEndings.{AllPairsOnce}
-use Rattle.run_executor.specs.Given.FinishesMaps.{Standing}
-use Rattle.run_executor.specs.Given.FollowsMaps.{RefinesMap}
-use Rattle.run_executor.specs.Given.MomentsWholeEnds.{all_ended}
+use Rattle.run_finds.specs.Given.EffectsKnown.{Known}
+use Rattle.run_kept.specs.Given.FinishesEndings.{AllPairsOnce}
+use Rattle.run_finds.specs.Given.FinishesMaps.{Standing}
+use Rattle.run_finds.specs.Given.FollowsMaps.{RefinesMap}
+use Rattle.run_finds.specs.Given.MomentsWholeEnds.{all_ended}
 
 -- these are the numbers of the pairs that a map has
 abbrev pub NumbersPairs : {K : Type 0} → Chart K → (number other : ℕ → ℕ) → Type 0

@@ -17,19 +17,19 @@ use Rattle.run_schedules.specs.Schedules.Handing.{is_first_making}
 use Rattle.run_schedules.specs.Schedules.Lives.{IsMapsFirst, EventFinds}
 use Rattle.run_schedules.specs.Schedules.Moment.{MapThere, Moment}
 use Rattle.run_schedules.specs.Schedules.Views.{map_at, tables_of}
-use Rattle.run_executor.specs.Named.Places.{first_places}
-use Rattle.run_executor.specs.Given.EffectsEffects.{effects_of, known_after}
-use Rattle.run_executor.specs.Given.EffectsKnown.{Known}
-use Rattle.run_executor.specs.Given.EffectsDeclared.acting.Acting.TheVariants as acts
-use Rattle.run_executor.specs.Given.FinishesMakings.{Beginning}
-use Rattle.run_executor.specs.Given.FollowsShows.{Refines}
-use Rattle.run_executor.specs.Given.OthersMakings.{making_after}
+use Rattle.run_finds.specs.Given.NamedPlaces.{first_places}
+use Rattle.run_finds.specs.Given.EffectsEffects.{effects_of, known_after}
+use Rattle.run_finds.specs.Given.EffectsKnown.{Known}
+use Rattle.run_finds.specs.Given.EffectsDeclared.acting.Acting.TheVariants as acts
+use Rattle.run_kept.specs.Given.FinishesMakings.{Beginning}
+use Rattle.run_finds.specs.Given.FollowsShows.{Refines}
+use Rattle.run_kept.specs.Given.OthersMakings.{making_after}
 use Rattle.run_kept.specs.Given.OwesTables.{RefinesOwnTables}
 use Rattle.run_kept.specs.Given.OwesTablesBeside.{MakesFirst}
 use Rattle.run_sweeps.specs.Given.FindsShaping.{ShapedAt}
-use Rattle.run_executor.specs.Given.ScenesHeld.{Held, IsAt}
-use Rattle.run_executor.specs.Given.ScenesMaking.{MakingLeads}
-use Rattle.run_executor.specs.Given.ScenesScene.{Scene}
+use Rattle.run_finds.specs.Given.ScenesHeld.{Held, IsAt}
+use Rattle.run_kept.specs.Given.ScenesMaking.{MakingLeads}
+use Rattle.run_finds.specs.Given.ScenesScene.{Scene}
 
 -- a table for so many places, of which there are eight at least
 abbrev pub IsForPlaces : ℕ → Planned → Type 0

@@ -13,19 +13,19 @@ use Rattle.run_schedules.specs.Schedules.Handing.{is_first_making, is_table_made
 use Rattle.run_schedules.specs.Schedules.Lives.{EventFinds}
 use Rattle.run_schedules.specs.Schedules.Moment.{MapThere, Moment}
 use Rattle.run_schedules.specs.Schedules.Views.{map_at, tables_of}
-use Rattle.run_executor.specs.Given.EffectsEffects.{effects_of, known_after}
-use Rattle.run_executor.specs.Given.EffectsKnown.{Known}
-use Rattle.run_executor.specs.Given.EffectsDeclared.acting.Acting.TheVariants as acts
-use Rattle.run_executor.specs.Given.FinishesMakings.{Beginning}
-use Rattle.run_executor.specs.Given.FollowsShows.{Refines}
-use Rattle.run_executor.specs.Given.OthersMakings.{NotesCounter, making_after}
+use Rattle.run_finds.specs.Given.EffectsEffects.{effects_of, known_after}
+use Rattle.run_finds.specs.Given.EffectsKnown.{Known}
+use Rattle.run_finds.specs.Given.EffectsDeclared.acting.Acting.TheVariants as acts
+use Rattle.run_kept.specs.Given.FinishesMakings.{Beginning}
+use Rattle.run_finds.specs.Given.FollowsShows.{Refines}
+use Rattle.run_kept.specs.Given.OthersMakings.{NotesCounter, making_after}
 use Rattle.run_kept.specs.Given.OwesMaking.{making_in_opening}
 use Rattle.run_kept.specs.Given.OwesTables.{RefinesOwnTables, table_made}
 use Rattle.run_sweeps.specs.Needs.Firsts.{AllMakingsOpen}
-use Rattle.run_executor.specs.Named.Places.{first_places}
-use Rattle.run_executor.specs.Given.ScenesHeld.{Held, IsAt}
-use Rattle.run_executor.specs.Given.ScenesMaking.{MakingLeads}
-use Rattle.run_executor.specs.Given.ScenesScene.{Scene}
+use Rattle.run_finds.specs.Given.NamedPlaces.{first_places}
+use Rattle.run_finds.specs.Given.ScenesHeld.{Held, IsAt}
+use Rattle.run_kept.specs.Given.ScenesMaking.{MakingLeads}
+use Rattle.run_finds.specs.Given.ScenesScene.{Scene}
 
 -- the table that a making has made and not linked, by what it has told: one that is over has none
 abbrev pub table_left : NewMap → Advance Setting → Option Planned

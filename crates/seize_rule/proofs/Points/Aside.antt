@@ -1,7 +1,7 @@
 -- What a step of a settling row leaves as it was beside its move: the slots' heads, without their lists, and who has each block.
 use Rattle.std.proofs.Common.{◌≡◌, ℕ, Bool, true, false, cond, eqb, List, [], ◌∷◌, refl, arith}
-use Rattle.seize.specs.Law.{Effect, Retired, Taken}
-use Rattle.seize.specs.World.{Hand, NoBlock, Making, InUse, Parting, Cutting, Handed, handed_by, LeftTo, MayCut}
+use Rattle.seize_moves.specs.Given.SeizeLaw.{Effect, Retired, Taken}
+use Rattle.seize_moves.specs.Given.SeizeWorld.{Hand, NoBlock, Making, InUse, Parting, Cutting, Handed, handed_by, LeftTo, MayCut}
 use Rattle.seize_moves.proofs.Moves.State.Ghost.{Entry, Active, Life, IsFree, IsOwned, IsLinked, IsUnlinked, IsDeferring, IsDeferred, IsPending, IsIn, IsDoomed, IsLeft, State, emptied}
 use Rattle.seize_moves.proofs.Moves.State.Moves
 

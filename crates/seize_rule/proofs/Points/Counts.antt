@@ -1,17 +1,17 @@
 -- The program point by which a block is retired: it is counted in its batch, which is tried where it is long enough.
 use Rattle.std.specs.Prelude.{Option, Some, IsSome, if◌then◌else◌, nat_lt, ◌/◌}
 use Rattle.std.proofs.Common.{◌≡◌, ℕ, ◌+◌, ◌%◌, ◌^◌, Bool, true, false, List, [], ◌∷◌, ◌++◌, length, refl, arith, ap, sym, subst, ◌∙◌}
-use Rattle.seize_words.specs.declared.at.At.TheVariants.{Entry}
-use Rattle.seize_words.specs.OneMemory.Op.{Found}
-use Rattle.seize_words.specs.OneMemory.Mem.{Mem, Took, value_at, word_at, with_word}
-use Rattle.seize_words.specs.OneMemory.Plan.{Steps, Ends}
-use Rattle.seize_words.proofs.OneMemory.OneOwner.Operations.{added}
-use Rattle.seize.specs.declared.states.TheConstants.{COUNT}
-use Rattle.seize.specs.declared.rows.settle.Settle.{Settle}
-use Rattle.seize.specs.declared.rows.settle.Settled.{Settled}
-use Rattle.seize.specs.declared.rows.settle.Settled.TheVariants.{Goes}
-use Rattle.seize.specs.Law.{Retired}
-use Rattle.seize.specs.Settle.{scanning, onward, to, counted, counts}
+use Rattle.seize_moves.specs.Given.SeizeWordsDeclared.at.At.TheVariants.{Entry}
+use Rattle.seize_moves.specs.Given.SeizeWordsOp.{Found}
+use Rattle.seize_moves.specs.Given.SeizeWordsMem.{Mem, Took, value_at, word_at, with_word}
+use Rattle.seize_moves.specs.Given.SeizeWordsPlan.{Steps, Ends}
+use Rattle.seize_moves.proofs.Given.SeizeWordsOneOwner.Operations.{added}
+use Rattle.seize_moves.specs.Given.SeizeDeclared.states.TheConstants.{COUNT}
+use Rattle.seize_moves.specs.Given.SeizeDeclared.rows.settle.Settle.{Settle}
+use Rattle.seize_moves.specs.Given.SeizeDeclared.rows.settle.Settled.{Settled}
+use Rattle.seize_moves.specs.Given.SeizeDeclared.rows.settle.Settled.TheVariants.{Goes}
+use Rattle.seize_moves.specs.Given.SeizeLaw.{Retired}
+use Rattle.seize_moves.specs.Given.SeizeSettle.{scanning, onward, to, counted, counts}
 use Rattle.seize_moves.specs.Waiting.Held.{count}
 use Rattle.seize_moves.proofs.Moves.State.Ghost.{put, State, Stage, Open, Life, IsPending, is_in}
 use Rattle.seize_moves.proofs.Moves.State.Rule.{Inv, SameUnlessDead, open_length}

@@ -1,16 +1,16 @@
 -- The program points by which slots are given the entries of a closed batch.
 use Rattle.std.specs.Prelude.{Option, is_some, ◌/◌}
 use Rattle.std.proofs.Common.{◌≡◌, ℕ, Bool, true, false, List, [], ◌∷◌, ◌++◌, append_assoc, refl, arith, ap, sym, subst, ◌∙◌}
-use Rattle.seize_words.specs.declared.at.At.TheVariants.{Entry}
-use Rattle.seize_words.specs.OneMemory.Mem.{Mem, Took, value_at, with_word}
-use Rattle.seize_words.specs.OneMemory.Plan.{Steps}
-use Rattle.seize_words.proofs.OneMemory.OneOwner.Operations.{loaded, stored}
-use Rattle.seize.specs.declared.states.TheConstants.{NEXT, LINK, ACTIVE}
-use Rattle.seize.specs.declared.rows.settle.Settle.{Settle}
-use Rattle.seize.specs.declared.rows.settle.Settled.{Settled}
-use Rattle.seize.specs.declared.rows.settle.Settled.TheVariants.{Goes}
-use Rattle.seize.specs.declared.rows.settle.Settling.TheVariants as at
-use Rattle.seize.specs.Settle.{standing, goes, slot_read, reads, links, next_pushed, pushed_next}
+use Rattle.seize_moves.specs.Given.SeizeWordsDeclared.at.At.TheVariants.{Entry}
+use Rattle.seize_moves.specs.Given.SeizeWordsMem.{Mem, Took, value_at, with_word}
+use Rattle.seize_moves.specs.Given.SeizeWordsPlan.{Steps}
+use Rattle.seize_moves.proofs.Given.SeizeWordsOneOwner.Operations.{loaded, stored}
+use Rattle.seize_moves.specs.Given.SeizeDeclared.states.TheConstants.{NEXT, LINK, ACTIVE}
+use Rattle.seize_moves.specs.Given.SeizeDeclared.rows.settle.Settle.{Settle}
+use Rattle.seize_moves.specs.Given.SeizeDeclared.rows.settle.Settled.{Settled}
+use Rattle.seize_moves.specs.Given.SeizeDeclared.rows.settle.Settled.TheVariants.{Goes}
+use Rattle.seize_moves.specs.Given.SeizeDeclared.rows.settle.Settling.TheVariants as at
+use Rattle.seize_moves.specs.Given.SeizeSettle.{standing, goes, slot_read, reads, links, next_pushed, pushed_next}
 use Rattle.seize_moves.proofs.Moves.State.Ghost.{State, list_of}
 use Rattle.seize_moves.proofs.Moves.State.Rule.{Inv}
 use Rattle.seize_moves.proofs.Moves.State.Together.{stays}

@@ -2,16 +2,16 @@
 use Rattle.std.specs.Prelude.{if◌then◌else◌, ◌==◌, nat_lt, Option, IsSome, []}
 use Rattle.std.proofs.Common.{◌≡◌, ℕ, ◌<◌, Bool, true, false, refl, arith, ◌∙◌, inl, inr, ap, sym, subst, eqb-true}
 use Rattle.std.proofs.lemmas.Bool.{eqb-false}
-use Rattle.seize_words.specs.declared.at.At.TheVariants.{Slot}
-use Rattle.seize_words.specs.OneMemory.Mem.{Mem, Took, value_at, word_at, with_word}
-use Rattle.seize_words.specs.OneMemory.Plan.{Steps, Ends, Now}
-use Rattle.seize_words.proofs.OneMemory.OneOwner.Operations.{loaded, stored, exchanged}
-use Rattle.seize.specs.declared.states.TheConstants.{BATCH, HELD, ACTIVE}
-use Rattle.seize.specs.declared.rows.settle.Settle.{Settle}
-use Rattle.seize.specs.declared.rows.settle.Settling.TheVariants as at
-use Rattle.seize.specs.declared.rows.settle.Settled.{Settled}
-use Rattle.seize.specs.declared.rows.settle.Settled.TheVariants.{Goes, Waits}
-use Rattle.seize.specs.Settle.{onward, with_batch, standing, seen, sees, taken_hold, holds, gives}
+use Rattle.seize_moves.specs.Given.SeizeWordsDeclared.at.At.TheVariants.{Slot}
+use Rattle.seize_moves.specs.Given.SeizeWordsMem.{Mem, Took, value_at, word_at, with_word}
+use Rattle.seize_moves.specs.Given.SeizeWordsPlan.{Steps, Ends, Now}
+use Rattle.seize_moves.proofs.Given.SeizeWordsOneOwner.Operations.{loaded, stored, exchanged}
+use Rattle.seize_moves.specs.Given.SeizeDeclared.states.TheConstants.{BATCH, HELD, ACTIVE}
+use Rattle.seize_moves.specs.Given.SeizeDeclared.rows.settle.Settle.{Settle}
+use Rattle.seize_moves.specs.Given.SeizeDeclared.rows.settle.Settling.TheVariants as at
+use Rattle.seize_moves.specs.Given.SeizeDeclared.rows.settle.Settled.{Settled}
+use Rattle.seize_moves.specs.Given.SeizeDeclared.rows.settle.Settled.TheVariants.{Goes, Waits}
+use Rattle.seize_moves.specs.Given.SeizeSettle.{onward, with_batch, standing, seen, sees, taken_hold, holds, gives}
 use Rattle.seize_moves.proofs.Moves.State.Ghost.{State, put, Stage, Open, is_never}
 use Rattle.seize_moves.proofs.Moves.State.Rule.{Inv}
 use Rattle.seize_moves.proofs.Moves.State.Moves.{held, gave}

@@ -1,16 +1,16 @@
 -- The points at which a row counts its list of entries down.
 use Rattle.std.specs.Prelude.{◌/◌, Option, List, [], ◌∷◌}
 use Rattle.std.proofs.Common.{◌≡◌, ℕ, ◌<◌, true, refl, arith, sym, ◌∙◌, ap}
-use Rattle.seize_words.specs.declared.at.At.TheVariants.{Entry}
-use Rattle.seize_words.specs.OneMemory.Mem.{Mem, Took, value_at}
-use Rattle.seize_words.specs.OneMemory.Plan.{Steps}
-use Rattle.seize_words.proofs.OneMemory.OneOwner.Operations.{loaded}
-use Rattle.seize.specs.declared.states.TheConstants.{LINK, FIRST}
-use Rattle.seize.specs.declared.rows.settle.Settle.{Settle}
-use Rattle.seize.specs.declared.rows.settle.Settling.TheVariants as at
-use Rattle.seize.specs.declared.rows.settle.Settled.{Settled}
-use Rattle.seize.specs.declared.rows.settle.Settled.TheVariants.{Goes}
-use Rattle.seize.specs.Settle.{entry_read, lists, batch_read, owns, standing}
+use Rattle.seize_moves.specs.Given.SeizeWordsDeclared.at.At.TheVariants.{Entry}
+use Rattle.seize_moves.specs.Given.SeizeWordsMem.{Mem, Took, value_at}
+use Rattle.seize_moves.specs.Given.SeizeWordsPlan.{Steps}
+use Rattle.seize_moves.proofs.Given.SeizeWordsOneOwner.Operations.{loaded}
+use Rattle.seize_moves.specs.Given.SeizeDeclared.states.TheConstants.{LINK, FIRST}
+use Rattle.seize_moves.specs.Given.SeizeDeclared.rows.settle.Settle.{Settle}
+use Rattle.seize_moves.specs.Given.SeizeDeclared.rows.settle.Settling.TheVariants as at
+use Rattle.seize_moves.specs.Given.SeizeDeclared.rows.settle.Settled.{Settled}
+use Rattle.seize_moves.specs.Given.SeizeDeclared.rows.settle.Settled.TheVariants.{Goes}
+use Rattle.seize_moves.specs.Given.SeizeSettle.{entry_read, lists, batch_read, owns, standing}
 use Rattle.seize_moves.proofs.Moves.State.Ghost.{State, IsIn}
 use Rattle.seize_moves.proofs.Moves.State.Ghost as Ghosts
 use Rattle.seize_moves.proofs.Moves.State.Rule.{Inv}

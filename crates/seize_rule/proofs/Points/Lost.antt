@@ -1,7 +1,7 @@
 -- What a push knows of the list that it has lost exchanges on: the list is longer each time, and never as long as there are numbers of blocks.
 use Rattle.std.proofs.Common.{◌≡◌, ℕ, ◌+◌, ◌^◌, ◌<◌, ◌≤◌, Bool, true, false, cond, eqb, List, [], ◌∷◌, ◌++◌, length, append_assoc, length-append, refl, arith, ap, sym, subst, ◌∙◌, eqb-true}
 use Rattle.std.proofs.lemmas.List.{append-nil}
-use Rattle.seize.specs.declared.rows.settle.Settle.{Settle}
+use Rattle.seize_moves.specs.Given.SeizeDeclared.rows.settle.Settle.{Settle}
 use Rattle.seize_moves.specs.Waiting.Held.{count, same}
 use Rattle.seize_moves.proofs.Moves.State.Ghost.{Entry, Head, Active, State, list_of}
 use Rattle.seize_moves.proofs.Moves.State.Rule.{Grows}

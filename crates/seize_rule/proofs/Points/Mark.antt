@@ -2,16 +2,16 @@
 use Rattle.std.specs.Prelude.{Option, if◌then◌else◌, ◌==◌, ◌/◌, ◌%◌, ◌^◌}
 use Rattle.std.proofs.Common.{◌≡◌, ℕ, ◌+◌, ◌<◌, ◌≤◌, Bool, true, false, List, [], ◌∷◌, ◌++◌, length, refl, arith, ap, sym, subst, ◌∙◌, eqb-true}
 use Rattle.std.proofs.lemmas.Bool.{eqb-false}
-use Rattle.seize_words.specs.declared.at.At.TheVariants.{Entry}
-use Rattle.seize_words.specs.OneMemory.Mem.{Mem, Took, value_at, with_word}
-use Rattle.seize_words.specs.OneMemory.Plan.{Steps}
-use Rattle.seize_words.proofs.OneMemory.OneOwner.Operations.{loaded, stored}
-use Rattle.seize.specs.declared.states.TheConstants.{LINK, NEXT, LAST_SLOT, COUNT}
-use Rattle.seize.specs.declared.rows.settle.Settle.{Settle}
-use Rattle.seize.specs.declared.rows.settle.Settling.TheVariants as at
-use Rattle.seize.specs.declared.rows.settle.Settled.{Settled}
-use Rattle.seize.specs.declared.rows.settle.Settled.TheVariants.{Goes}
-use Rattle.seize.specs.Settle.{standing, behind, to, goes, marks_block, marked_next, marked, closed, closes}
+use Rattle.seize_moves.specs.Given.SeizeWordsDeclared.at.At.TheVariants.{Entry}
+use Rattle.seize_moves.specs.Given.SeizeWordsMem.{Mem, Took, value_at, with_word}
+use Rattle.seize_moves.specs.Given.SeizeWordsPlan.{Steps}
+use Rattle.seize_moves.proofs.Given.SeizeWordsOneOwner.Operations.{loaded, stored}
+use Rattle.seize_moves.specs.Given.SeizeDeclared.states.TheConstants.{LINK, NEXT, LAST_SLOT, COUNT}
+use Rattle.seize_moves.specs.Given.SeizeDeclared.rows.settle.Settle.{Settle}
+use Rattle.seize_moves.specs.Given.SeizeDeclared.rows.settle.Settling.TheVariants as at
+use Rattle.seize_moves.specs.Given.SeizeDeclared.rows.settle.Settled.{Settled}
+use Rattle.seize_moves.specs.Given.SeizeDeclared.rows.settle.Settled.TheVariants.{Goes}
+use Rattle.seize_moves.specs.Given.SeizeSettle.{standing, behind, to, goes, marks_block, marked_next, marked, closed, closes}
 use Rattle.seize_moves.proofs.Moves.State.Ghost.{put, State, Stage, Open, Life, is_in, Unused, Closing, Closed, Debt, was_put, total}
 use Rattle.seize_moves.proofs.Moves.State.Rule.{Inv, SameUnlessDead, AtStage}
 use Rattle.seize_moves.proofs.Moves.State.Moves
@@ -35,7 +35,7 @@ use Rattle.seize_moves.proofs.Memory.Written.Close.{closed_written}
 use Rattle.seize_rule.proofs.Points.Scan.{behind_fits, behind_part}
 use Rattle.seize_moves.proofs.Memory.Words.Apart.{put_here as here}
 use Rattle.seize_rule.proofs.Points.May.{count_mid as count_in}
-use Rattle.seize_words.proofs.General.{length_and_one as length-more}
+use Rattle.seize_moves.proofs.Given.General.{length_and_one as length-more}
 
 length-both : (us vs : List ℕ) → length us ≤ length (us ++ vs)
 length-both [] vs = omega arith

@@ -1,16 +1,16 @@
 -- A settling row may take its next step: the words that it reads and writes are there.
 use Rattle.std.specs.Prelude.{◌%◌, ◌^◌, ◌-◌, Option, Some, None, IsSome, if◌then◌else◌, nat_lt, ◌==◌, ◌/◌}
 use Rattle.std.proofs.Common.{◌≡◌, ℕ, zero, suc, ◌+◌, ◌<◌, Bool, true, false, eqb, List, [], ◌∷◌, ◌++◌, refl, arith, ap, sym, subst, ◌∙◌}
-use Rattle.seize_words.specs.declared.at.At.TheVariants.{Slot, Entry, Word}
-use Rattle.seize_words.specs.OneMemory.Mem.{Mem, Can, Took, value_at, word_at, with_word}
-use Rattle.seize_words.specs.OneMemory.Plan.{Then, May, MaySee}
-use Rattle.seize_words.proofs.OneMemory.OneOwner.Operations.{may_load, may_store, may_add, may_exchange, may_take}
-use Rattle.seize.specs.declared.states.TheConstants.{HEAD, BATCH, NEXT, LINK, FIRST, COUNT, ACTIVE, NEVER, HELD}
-use Rattle.seize.specs.declared.rows.settle.Settle.{Settle}
-use Rattle.seize.specs.declared.rows.settle.Settling.{Settling}
-use Rattle.seize.specs.declared.rows.settle.Settling.TheVariants as at
-use Rattle.seize.specs.Settle as plans
-use Rattle.seize.specs.Settle.{plan_at}
+use Rattle.seize_moves.specs.Given.SeizeWordsDeclared.at.At.TheVariants.{Slot, Entry, Word}
+use Rattle.seize_moves.specs.Given.SeizeWordsMem.{Mem, Can, Took, value_at, word_at, with_word}
+use Rattle.seize_moves.specs.Given.SeizeWordsPlan.{Then, May, MaySee}
+use Rattle.seize_moves.proofs.Given.SeizeWordsOneOwner.Operations.{may_load, may_store, may_add, may_exchange, may_take}
+use Rattle.seize_moves.specs.Given.SeizeDeclared.states.TheConstants.{HEAD, BATCH, NEXT, LINK, FIRST, COUNT, ACTIVE, NEVER, HELD}
+use Rattle.seize_moves.specs.Given.SeizeDeclared.rows.settle.Settle.{Settle}
+use Rattle.seize_moves.specs.Given.SeizeDeclared.rows.settle.Settling.{Settling}
+use Rattle.seize_moves.specs.Given.SeizeDeclared.rows.settle.Settling.TheVariants as at
+use Rattle.seize_moves.specs.Given.SeizeSettle as plans
+use Rattle.seize_moves.specs.Given.SeizeSettle.{plan_at}
 use Rattle.seize_moves.specs.Waiting.Held.{count}
 use Rattle.seize_moves.proofs.Moves.State.Ghost.{Entry as Entry', Head, Stage, Closing, Life, IsIn, IsPending, State, is_never, is_in, is_doomed, is_pending}
 use Rattle.seize_moves.proofs.Moves.State.Rule.{Inv, IsLive, SameUnlessDead}

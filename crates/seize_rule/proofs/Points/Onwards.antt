@@ -2,10 +2,10 @@
 use Rattle.std.specs.Prelude.{if◌then◌else◌, nat_lt, ◌==◌}
 use Rattle.std.proofs.Common.{◌≡◌, ℕ, ◌≤◌, Bool, true, false, refl, arith, eqb-true, ltb-true, ltb-false}
 use Rattle.std.proofs.lemmas.Bool.{eqb-false}
-use Rattle.seize.specs.declared.states.TheConstants.{ACTIVE}
-use Rattle.seize.specs.declared.rows.settle.Settle.{Settle}
-use Rattle.seize.specs.declared.rows.settle.Settling.TheVariants as at
-use Rattle.seize.specs.Settle.{onward, with_batch, standing}
+use Rattle.seize_moves.specs.Given.SeizeDeclared.states.TheConstants.{ACTIVE}
+use Rattle.seize_moves.specs.Given.SeizeDeclared.rows.settle.Settle.{Settle}
+use Rattle.seize_moves.specs.Given.SeizeDeclared.rows.settle.Settling.TheVariants as at
+use Rattle.seize_moves.specs.Given.SeizeSettle.{onward, with_batch, standing}
 use Rattle.seize_moves.proofs.Moves.State.Ghost.{State}
 use Rattle.seize_moves.proofs.Memory.Words.View.{View}
 use Rattle.seize_moves.proofs.Memory.Words.Shows.{Extra}

@@ -7,7 +7,7 @@ use Rattle.seize_moves.proofs.Moves.Moves.Tries.{passed_loose, passed_scanned, p
 use Rattle.seize_moves.proofs.Moves.State.Grown.{other_marked}
 use Rattle.seize_moves.proofs.Memory.Words.View.{View}
 use Rattle.seize_moves.proofs.Memory.Words.Shows.{Extra, Shows, Written, keeps_like}
-use Rattle.seize_words.proofs.General.{at_most_itself as not_longer}
+use Rattle.seize_moves.proofs.Given.General.{at_most_itself as not_longer}
 
 abbrev pub passed_rest : ℕ → State → ℕ → State
 passed_rest n m x = record m { debt = put m.debt x (passed_all n (m.debt x)); seen = put m.seen x n }

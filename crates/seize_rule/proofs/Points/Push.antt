@@ -1,16 +1,16 @@
 -- The program point of the push: the exchange of a slot's head, which succeeds, finds another list, or finds the slot not active.
 use Rattle.std.specs.Prelude.{Option, Some, if◌then◌else◌, nat_lt, ◌||◌, not}
 use Rattle.std.proofs.Common.{◌≡◌, ℕ, suc, ◌+◌, ◌-◌, ◌%◌, ◌^◌, ◌<◌, ◌≤◌, Bool, true, false, List, [], ◌∷◌, ◌++◌, length, length-append, ◌⊎◌, refl, arith, ap, sym, subst, ◌∙◌, ltb-true, ltb-false, inl, inr}
-use Rattle.seize_words.specs.declared.at.At.TheVariants.{Slot}
-use Rattle.seize_words.specs.OneMemory.Mem.{Mem, Took, value_at, word_at, with_word}
-use Rattle.seize_words.specs.OneMemory.Plan.{Steps, Ends}
-use Rattle.seize_words.proofs.OneMemory.OneOwner.Operations.{exchanged}
-use Rattle.seize.specs.declared.states.TheConstants.{HEAD, ACTIVE, MOST_LOST}
-use Rattle.seize.specs.declared.rows.settle.Settle.{Settle}
-use Rattle.seize.specs.declared.rows.settle.Settled.{Settled}
-use Rattle.seize.specs.declared.rows.settle.Settled.TheVariants.{Goes}
-use Rattle.seize.specs.declared.rows.settle.Settling.TheVariants as at
-use Rattle.seize.specs.Settle.{standing, to, goes, after_push, pushes, pushed_of}
+use Rattle.seize_moves.specs.Given.SeizeWordsDeclared.at.At.TheVariants.{Slot}
+use Rattle.seize_moves.specs.Given.SeizeWordsMem.{Mem, Took, value_at, word_at, with_word}
+use Rattle.seize_moves.specs.Given.SeizeWordsPlan.{Steps, Ends}
+use Rattle.seize_moves.proofs.Given.SeizeWordsOneOwner.Operations.{exchanged}
+use Rattle.seize_moves.specs.Given.SeizeDeclared.states.TheConstants.{HEAD, ACTIVE, MOST_LOST}
+use Rattle.seize_moves.specs.Given.SeizeDeclared.rows.settle.Settle.{Settle}
+use Rattle.seize_moves.specs.Given.SeizeDeclared.rows.settle.Settled.{Settled}
+use Rattle.seize_moves.specs.Given.SeizeDeclared.rows.settle.Settled.TheVariants.{Goes}
+use Rattle.seize_moves.specs.Given.SeizeDeclared.rows.settle.Settling.TheVariants as at
+use Rattle.seize_moves.specs.Given.SeizeSettle.{standing, to, goes, after_push, pushes, pushed_of}
 use Rattle.seize_moves.proofs.Moves.State.Ghost.{put, Head, Never, Free, Idle, Active, Entry, Debt, Unscanned, Marked as MarkedDebt, Gone, Skipped, Owing, Loose, Counted, State, list_of, is_active, is_marked, is_never, was_put, total}
 use Rattle.seize_moves.proofs.Moves.State.Rule.{Inv, HasLeft}
 use Rattle.seize_moves.proofs.Moves.State.Sums.{total-put, put_le}

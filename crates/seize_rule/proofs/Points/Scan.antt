@@ -3,16 +3,16 @@ use Rattle.std.specs.Prelude.{Option, if◌then◌else◌, nat_lt, ◌==◌}
 use Rattle.std.proofs.Common.{◌≡◌, ℕ, ◌+◌, ◌<◌, ◌≤◌, Bool, true, false, List, [], ◌∷◌, ◌++◌, length, refl, arith, ap, sym, subst, ◌∙◌, eqb-true, ltb-true, ltb-false}
 use Rattle.std.proofs.lemmas.Bool.{eqb-false}
 use Rattle.std.proofs.lemmas.List.{append-nil}
-use Rattle.seize_words.specs.declared.at.At.TheVariants.{Slot}
-use Rattle.seize_words.specs.OneMemory.Mem.{Mem, Took, value_at}
-use Rattle.seize_words.specs.OneMemory.Plan.{Steps, Ends}
-use Rattle.seize_words.proofs.OneMemory.OneOwner.Operations.{loaded}
-use Rattle.seize.specs.declared.states.TheConstants.{HEAD, NEVER, ACTIVE, LAST_SLOT}
-use Rattle.seize.specs.declared.rows.settle.Settle.{Settle}
-use Rattle.seize.specs.declared.rows.settle.Settling.TheVariants as at
-use Rattle.seize.specs.declared.rows.settle.Settled.{Settled}
-use Rattle.seize.specs.declared.rows.settle.Settled.TheVariants.{Goes}
-use Rattle.seize.specs.Settle.{standing, onward, behind, to, goes, scanned, scans}
+use Rattle.seize_moves.specs.Given.SeizeWordsDeclared.at.At.TheVariants.{Slot}
+use Rattle.seize_moves.specs.Given.SeizeWordsMem.{Mem, Took, value_at}
+use Rattle.seize_moves.specs.Given.SeizeWordsPlan.{Steps, Ends}
+use Rattle.seize_moves.proofs.Given.SeizeWordsOneOwner.Operations.{loaded}
+use Rattle.seize_moves.specs.Given.SeizeDeclared.states.TheConstants.{HEAD, NEVER, ACTIVE, LAST_SLOT}
+use Rattle.seize_moves.specs.Given.SeizeDeclared.rows.settle.Settle.{Settle}
+use Rattle.seize_moves.specs.Given.SeizeDeclared.rows.settle.Settling.TheVariants as at
+use Rattle.seize_moves.specs.Given.SeizeDeclared.rows.settle.Settled.{Settled}
+use Rattle.seize_moves.specs.Given.SeizeDeclared.rows.settle.Settled.TheVariants.{Goes}
+use Rattle.seize_moves.specs.Given.SeizeSettle.{standing, onward, behind, to, goes, scanned, scans}
 use Rattle.seize_moves.proofs.Moves.State.Ghost.{State, Open, is_active}
 use Rattle.seize_moves.proofs.Moves.State.Rule.{Inv}
 use Rattle.seize_moves.proofs.Moves.State.Moves

@@ -1,15 +1,15 @@
 -- Every step of a settling row comes to a move, and leaves the row with what it knows at its next point.
 use Rattle.std.specs.Prelude.{Option, ◌^◌}
 use Rattle.std.proofs.Common.{◌≡◌, ℕ, ◌+◌, ◌<◌, Bool, true, false, arith}
-use Rattle.seize_words.specs.OneMemory.Mem.{Mem, Took, value_at}
-use Rattle.seize_words.specs.OneMemory.Plan.{Steps}
-use Rattle.seize.specs.declared.states.TheConstants.{LAST_SLOT}
-use Rattle.seize.specs.declared.rows.settle.Settle.{Settle}
-use Rattle.seize.specs.declared.rows.settle.Settling.{Settling}
-use Rattle.seize.specs.declared.rows.settle.Settling.TheVariants as at
-use Rattle.seize.specs.declared.rows.settle.Settled.{Settled}
-use Rattle.seize.specs.Settle.{plan_at}
-use Rattle.seize.specs.World.{settle_effects}
+use Rattle.seize_moves.specs.Given.SeizeWordsMem.{Mem, Took, value_at}
+use Rattle.seize_moves.specs.Given.SeizeWordsPlan.{Steps}
+use Rattle.seize_moves.specs.Given.SeizeDeclared.states.TheConstants.{LAST_SLOT}
+use Rattle.seize_moves.specs.Given.SeizeDeclared.rows.settle.Settle.{Settle}
+use Rattle.seize_moves.specs.Given.SeizeDeclared.rows.settle.Settling.{Settling}
+use Rattle.seize_moves.specs.Given.SeizeDeclared.rows.settle.Settling.TheVariants as at
+use Rattle.seize_moves.specs.Given.SeizeDeclared.rows.settle.Settled.{Settled}
+use Rattle.seize_moves.specs.Given.SeizeSettle.{plan_at}
+use Rattle.seize_moves.specs.Given.SeizeWorld.{settle_effects}
 use Rattle.seize_moves.proofs.Moves.State.Ghost.{State}
 use Rattle.seize_moves.proofs.Moves.State.Rule.{Inv}
 use Rattle.seize_moves.proofs.Memory.Words.View.{view}

@@ -2,20 +2,20 @@
 use Rattle.std.specs.Prelude.{Option, Some, if◌then◌else◌, nat_lt, ◌/◌, ◌==◌}
 use Rattle.std.proofs.Common.{◌≡◌, ℕ, ◌+◌, ◌-◌, ◌%◌, ◌^◌, ◌<◌, ◌≤◌, Bool, true, false, cond, eqb, List, [], ◌∷◌, ◌++◌, length, refl, arith, ap, sym, subst, ◌∙◌, eqb-true, ltb-true}
 use Rattle.std.proofs.lemmas.Bool.{eqb-false, eq-eqb}
-use Rattle.seize_words.specs.declared.at.At.TheVariants.{Entry, Slot}
-use Rattle.seize_words.specs.OneMemory.Op.{Found}
-use Rattle.seize_words.specs.OneMemory.Mem.{Mem, Took, value_at, word_at, with_word}
-use Rattle.seize_words.specs.OneMemory.Plan.{Steps, Ends}
-use Rattle.seize_words.proofs.OneMemory.OneOwner.Operations.{added, loaded, stored}
-use Rattle.seize.specs.declared.states.TheConstants.{COUNT, HEAD, NEXT, LINK, NEVER, ACTIVE, LAST_SLOT}
-use Rattle.seize.specs.declared.rows.settle.Settle.{Settle}
-use Rattle.seize.specs.declared.rows.settle.Settling.{Settling}
-use Rattle.seize.specs.declared.rows.settle.Settling.TheVariants as at
-use Rattle.seize.specs.declared.rows.settle.Settled.{Settled}
-use Rattle.seize.specs.declared.rows.settle.Settled.TheVariants.{Goes}
-use Rattle.seize.specs.Settle.{plan_at, scanning, onward, standing, behind, closed, to, goes, counted, scanned, marked_next}
-use Rattle.seize.specs.Law.{Effect}
-use Rattle.seize.specs.World.{Row, settle_effects}
+use Rattle.seize_moves.specs.Given.SeizeWordsDeclared.at.At.TheVariants.{Entry, Slot}
+use Rattle.seize_moves.specs.Given.SeizeWordsOp.{Found}
+use Rattle.seize_moves.specs.Given.SeizeWordsMem.{Mem, Took, value_at, word_at, with_word}
+use Rattle.seize_moves.specs.Given.SeizeWordsPlan.{Steps, Ends}
+use Rattle.seize_moves.proofs.Given.SeizeWordsOneOwner.Operations.{added, loaded, stored}
+use Rattle.seize_moves.specs.Given.SeizeDeclared.states.TheConstants.{COUNT, HEAD, NEXT, LINK, NEVER, ACTIVE, LAST_SLOT}
+use Rattle.seize_moves.specs.Given.SeizeDeclared.rows.settle.Settle.{Settle}
+use Rattle.seize_moves.specs.Given.SeizeDeclared.rows.settle.Settling.{Settling}
+use Rattle.seize_moves.specs.Given.SeizeDeclared.rows.settle.Settling.TheVariants as at
+use Rattle.seize_moves.specs.Given.SeizeDeclared.rows.settle.Settled.{Settled}
+use Rattle.seize_moves.specs.Given.SeizeDeclared.rows.settle.Settled.TheVariants.{Goes}
+use Rattle.seize_moves.specs.Given.SeizeSettle.{plan_at, scanning, onward, standing, behind, closed, to, goes, counted, scanned, marked_next}
+use Rattle.seize_moves.specs.Given.SeizeLaw.{Effect}
+use Rattle.seize_moves.specs.Given.SeizeWorld.{Row, settle_effects}
 use Rattle.seize_moves.proofs.Moves.State.Ghost.{State, is_never}
 use Rattle.seize_moves.proofs.Moves.State.Rule.{Inv, retirals, open_length}
 use Rattle.seize_moves.proofs.Memory.Words.Named.{link, word_found}

@@ -1,13 +1,13 @@
 -- What a step of a settling row comes to: a move, words that show the state after it, and what the row knows then.
 use Rattle.std.specs.Prelude.{Option, Some, is_some, List, [], ◌++◌}
 use Rattle.std.proofs.Common.{◌≡◌, ℕ, ◌+◌, ◌<◌, ◌^◌, true, false, refl, sym, subst}
-use Rattle.seize_words.specs.declared.at.At.{At}
-use Rattle.seize_words.specs.declared.at.At.TheVariants.{Slot, Entry, Word}
-use Rattle.seize_words.specs.OneMemory.Mem.{Mem, value_at, with_word}
-use Rattle.seize.specs.declared.rows.settle.Settle.{Settle}
-use Rattle.seize.specs.declared.rows.settle.Settled.{Settled}
-use Rattle.seize.specs.declared.rows.settle.Settled.TheVariants.{Goes, Waits, Gave, Done}
-use Rattle.seize.specs.Law.{Effect}
+use Rattle.seize_moves.specs.Given.SeizeWordsDeclared.at.At.{At}
+use Rattle.seize_moves.specs.Given.SeizeWordsDeclared.at.At.TheVariants.{Slot, Entry, Word}
+use Rattle.seize_moves.specs.Given.SeizeWordsMem.{Mem, value_at, with_word}
+use Rattle.seize_moves.specs.Given.SeizeDeclared.rows.settle.Settle.{Settle}
+use Rattle.seize_moves.specs.Given.SeizeDeclared.rows.settle.Settled.{Settled}
+use Rattle.seize_moves.specs.Given.SeizeDeclared.rows.settle.Settled.TheVariants.{Goes, Waits, Gave, Done}
+use Rattle.seize_moves.specs.Given.SeizeLaw.{Effect}
 use Rattle.seize_moves.proofs.Moves.State.Ghost.{Head, State, is_never}
 use Rattle.seize_moves.proofs.Moves.State.Rule.{Inv, Moved, Pending}
 use Rattle.seize_moves.proofs.Moves.State.Together.{stays}

@@ -2,17 +2,17 @@
 use Rattle.std.specs.Prelude.{if◌then◌else◌, ◌==◌, ◌/◌, Option, Some, None, IsSome, List, [], ◌∷◌}
 use Rattle.std.proofs.Common.{◌≡◌, ℕ, ◌<◌, Bool, true, false, cond, eqb, refl, arith, eqb-true, sym, subst, ◌∙◌, ap}
 use Rattle.std.proofs.lemmas.Bool.{eqb-false}
-use Rattle.seize_words.specs.declared.at.At.TheVariants.{Entry}
-use Rattle.seize_words.specs.OneMemory.Mem.{Mem, Took, value_at, word_at, with_word, with_block}
-use Rattle.seize_words.specs.OneMemory.Plan.{Steps, Now}
-use Rattle.seize_words.proofs.OneMemory.OneOwner.Operations.{stored, taken as taken_value}
-use Rattle.seize.specs.declared.states.TheConstants.{NEXT}
-use Rattle.seize.specs.declared.rows.settle.Settle.{Settle}
-use Rattle.seize.specs.declared.rows.settle.Settling.TheVariants as at
-use Rattle.seize.specs.declared.rows.settle.Settled.{Settled}
-use Rattle.seize.specs.declared.rows.settle.Settled.TheVariants.{Goes, Gave}
-use Rattle.seize.specs.Law.{Taken}
-use Rattle.seize.specs.Settle.{onward, with_put, without_block, joins, given_back, takes, puts}
+use Rattle.seize_moves.specs.Given.SeizeWordsDeclared.at.At.TheVariants.{Entry}
+use Rattle.seize_moves.specs.Given.SeizeWordsMem.{Mem, Took, value_at, word_at, with_word, with_block}
+use Rattle.seize_moves.specs.Given.SeizeWordsPlan.{Steps, Now}
+use Rattle.seize_moves.proofs.Given.SeizeWordsOneOwner.Operations.{stored, taken as taken_value}
+use Rattle.seize_moves.specs.Given.SeizeDeclared.states.TheConstants.{NEXT}
+use Rattle.seize_moves.specs.Given.SeizeDeclared.rows.settle.Settle.{Settle}
+use Rattle.seize_moves.specs.Given.SeizeDeclared.rows.settle.Settling.TheVariants as at
+use Rattle.seize_moves.specs.Given.SeizeDeclared.rows.settle.Settled.{Settled}
+use Rattle.seize_moves.specs.Given.SeizeDeclared.rows.settle.Settled.TheVariants.{Goes, Gave}
+use Rattle.seize_moves.specs.Given.SeizeLaw.{Taken}
+use Rattle.seize_moves.specs.Given.SeizeSettle.{onward, with_put, without_block, joins, given_back, takes, puts}
 use Rattle.seize_moves.specs.Waiting.Held.{count}
 use Rattle.seize_moves.proofs.Moves.State.Ghost.{State, put}
 use Rattle.seize_moves.proofs.Moves.State.Rule.{Inv, Moved}

@@ -1,11 +1,11 @@
 -- The part of its work that a settling row is at, and the move that each of its steps makes.
 use Rattle.std.specs.Prelude.{nat_lt, ◌==◌, if◌then◌else◌}
 use Rattle.std.proofs.Common.{◌≡◌, ℕ, ◌+◌, ◌-◌, ◌%◌, ◌^◌, ◌<◌, ◌≤◌, Bool, true, false, cond, eqb, List, [], ◌∷◌, length, refl, ap}
-use Rattle.seize.specs.declared.rows.settle.Settle.{Settle}
-use Rattle.seize.specs.declared.rows.settle.Settling.{Settling}
-use Rattle.seize.specs.declared.rows.settle.Settling.TheVariants as at
-use Rattle.seize.specs.declared.states.TheConstants.{ACTIVE}
-use Rattle.seize.specs.Settle.{onward, with_batch, standing}
+use Rattle.seize_moves.specs.Given.SeizeDeclared.rows.settle.Settle.{Settle}
+use Rattle.seize_moves.specs.Given.SeizeDeclared.rows.settle.Settling.{Settling}
+use Rattle.seize_moves.specs.Given.SeizeDeclared.rows.settle.Settling.TheVariants as at
+use Rattle.seize_moves.specs.Given.SeizeDeclared.states.TheConstants.{ACTIVE}
+use Rattle.seize_moves.specs.Given.SeizeSettle.{onward, with_batch, standing}
 use Rattle.seize_moves.proofs.Moves.State.Ghost.{Entry, Active, Closing, Loose, State, was_put, total, is_active}
 use Rattle.seize_moves.proofs.Moves.State.Rule.{open_length, HasLeft}
 use Rattle.seize_rule.proofs.Points.Passed.{passed_rest}

@@ -1,13 +1,13 @@
 -- The program points of a try of an open batch: slots are scanned, active ones are marked, and the batch is closed.
 use Rattle.std.proofs.Common.{◌≡◌, ℕ, ◌+◌, ◌<◌, ◌≤◌, Bool, true, false, eqb, List, [], ◌∷◌, ◌++◌, length, refl, arith, ap, sym, subst, ◌∙◌, eqb-true}
 use Rattle.std.proofs.lemmas.Bool.{eqb-false}
-use Rattle.seize.specs.declared.rows.settle.Settle.{Settle}
+use Rattle.seize_moves.specs.Given.SeizeDeclared.rows.settle.Settle.{Settle}
 use Rattle.seize_moves.proofs.Moves.State.Ghost.{put, Head, Never, Free, Idle, Active, State, is_active, is_never}
 use Rattle.seize_moves.proofs.Memory.Words.Chains.{first_or}
 use Rattle.seize_moves.proofs.Memory.Words.Shows.{Extra, HeadIs}
 use Rattle.seize_rule.proofs.Points.Known.{AllTaken, TakenBelow, Common, HoldingOf, open_blocks, Tries, bare}
 use Rattle.seize_moves.proofs.Memory.Words.Apart.{put_here as here}
-use Rattle.seize_words.proofs.General.{length_and_one as length-more}
+use Rattle.seize_moves.proofs.Given.General.{length_and_one as length-more}
 
 -- what a head's word says
 

@@ -2,19 +2,19 @@
 use Rattle.std.specs.Prelude.{Option, Some, IsSome, ◌/◌}
 use Rattle.std.proofs.Common.{◌≡◌, ℕ, true, refl, arith, ap, sym, subst, ◌∙◌, inl, inr}
 use Rattle.std.proofs.lemmas.Bool.{eq-eqb}
-use Rattle.seize_words.specs.declared.at.At.{At}
-use Rattle.seize_words.specs.declared.at.At.TheVariants.{Entry, Word}
-use Rattle.seize_words.specs.OneMemory.Op.{Load, Store, Exchange}
-use Rattle.seize_words.specs.OneMemory.Mem.{Mem, Took, value_at, word_at, with_word}
-use Rattle.seize_words.specs.OneMemory.Plan.{Steps, Do}
-use Rattle.seize_words.proofs.OneMemory.OneOwner.Operations.{loaded, stored, exchanged}
-use Rattle.seize.specs.declared.states.TheConstants.{NEXT}
-use Rattle.seize.specs.declared.advance.Advance.{Advance}
-use Rattle.seize.specs.declared.advance.Advance.TheVariants.{Goes}
-use Rattle.seize.specs.declared.rows.defer.Defer.{Defer}
-use Rattle.seize.specs.declared.rows.defer.Deferring.{Deferring}
-use Rattle.seize.specs.declared.rows.defer.Deferring.TheVariants as at
-use Rattle.seize.specs.Defer.{standing, goes, head_read, after_push}
+use Rattle.seize_moves.specs.Given.SeizeWordsDeclared.at.At.{At}
+use Rattle.seize_moves.specs.Given.SeizeWordsDeclared.at.At.TheVariants.{Entry, Word}
+use Rattle.seize_moves.specs.Given.SeizeWordsOp.{Load, Store, Exchange}
+use Rattle.seize_moves.specs.Given.SeizeWordsMem.{Mem, Took, value_at, word_at, with_word}
+use Rattle.seize_moves.specs.Given.SeizeWordsPlan.{Steps, Do}
+use Rattle.seize_moves.proofs.Given.SeizeWordsOneOwner.Operations.{loaded, stored, exchanged}
+use Rattle.seize_moves.specs.Given.SeizeDeclared.states.TheConstants.{NEXT}
+use Rattle.seize_moves.specs.Given.SeizeDeclared.advance.Advance.{Advance}
+use Rattle.seize_moves.specs.Given.SeizeDeclared.advance.Advance.TheVariants.{Goes}
+use Rattle.seize_moves.specs.Given.SeizeDeclared.rows.defer.Defer.{Defer}
+use Rattle.seize_moves.specs.Given.SeizeDeclared.rows.defer.Deferring.{Deferring}
+use Rattle.seize_moves.specs.Given.SeizeDeclared.rows.defer.Deferring.TheVariants as at
+use Rattle.seize_moves.specs.Given.SeizeDefer.{standing, goes, head_read, after_push}
 use Rattle.seize_moves.proofs.Moves.State.Ghost.{put, Life, IsDeferring, IsDeferred, State, IsLeft, can_carry}
 use Rattle.seize_moves.proofs.Moves.State.Rule.{Inv, IsGuarded, Moved, Pending}
 use Rattle.seize_moves.proofs.Moves.State.Together.{stays}
@@ -26,7 +26,7 @@ use Rattle.seize_moves.proofs.Memory.Words.Shows.{Extra, Shows, Written, has_nex
 use Rattle.seize_moves.proofs.Memory.Words.Apart.{boxed_none, unlisted_deferring, put_here}
 use Rattle.seize_moves.proofs.Memory.Written.Retire.{next_written}
 use Rattle.seize_moves.proofs.Memory.Written.Own.{deferred_to_written}
-use Rattle.seize.specs.World.{Hand, NoBlock, Making, InUse, Parting, Cutting, Handed, LeftTo}
+use Rattle.seize_moves.specs.Given.SeizeWorld.{Hand, NoBlock, Making, InUse, Parting, Cutting, Handed, LeftTo}
 use Rattle.seize_rule.proofs.Points.Aside.{AllHands, HandFits}
 use Rattle.seize_rule.proofs.Rows.Known.{OnWay, Linked_to, FitsDefer}
 use Rattle.seize_rule.proofs.Rows.Told.{IsOnWay}

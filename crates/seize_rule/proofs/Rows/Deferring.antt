@@ -1,20 +1,20 @@
 -- Steps of deferring rows at the world.
 use Rattle.std.specs.Prelude.{Option, IsSome, ◌/◌}
 use Rattle.std.proofs.Common.{◌≡◌, ℕ, ◌+◌, true, [], length, refl, arith, ap, sym, subst, ◌∙◌}
-use Rattle.seize_words.specs.declared.at.At.{At}
-use Rattle.seize_words.specs.declared.at.At.TheVariants.{Entry}
-use Rattle.seize_words.specs.OneMemory.Mem.{Mem, Can, Took, value_at, word_at}
-use Rattle.seize_words.specs.OneMemory.Plan.{May, Steps}
-use Rattle.seize_words.proofs.OneMemory.OneOwner.Operations.{may_load, may_store, may_exchange}
-use Rattle.seize.specs.declared.states.TheConstants.{NEXT}
-use Rattle.seize.specs.declared.advance.Advance.{Advance}
-use Rattle.seize.specs.declared.advance.Advance.TheVariants.{Goes, Waits, Done, Refused}
-use Rattle.seize.specs.declared.rows.defer.Defer.{Defer}
-use Rattle.seize.specs.declared.rows.defer.Deferring.{Deferring}
-use Rattle.seize.specs.declared.rows.defer.Deferring.TheVariants as at
-use Rattle.seize.specs.Defer.{defer_plan, plan_at, head_read, after_push, goes}
-use Rattle.seize.specs.Law.{is_open}
-use Rattle.seize.specs.World.{World, Row, Rests, Defers, one_less, with_at, after_step, defers_on}
+use Rattle.seize_moves.specs.Given.SeizeWordsDeclared.at.At.{At}
+use Rattle.seize_moves.specs.Given.SeizeWordsDeclared.at.At.TheVariants.{Entry}
+use Rattle.seize_moves.specs.Given.SeizeWordsMem.{Mem, Can, Took, value_at, word_at}
+use Rattle.seize_moves.specs.Given.SeizeWordsPlan.{May, Steps}
+use Rattle.seize_moves.proofs.Given.SeizeWordsOneOwner.Operations.{may_load, may_store, may_exchange}
+use Rattle.seize_moves.specs.Given.SeizeDeclared.states.TheConstants.{NEXT}
+use Rattle.seize_moves.specs.Given.SeizeDeclared.advance.Advance.{Advance}
+use Rattle.seize_moves.specs.Given.SeizeDeclared.advance.Advance.TheVariants.{Goes, Waits, Done, Refused}
+use Rattle.seize_moves.specs.Given.SeizeDeclared.rows.defer.Defer.{Defer}
+use Rattle.seize_moves.specs.Given.SeizeDeclared.rows.defer.Deferring.{Deferring}
+use Rattle.seize_moves.specs.Given.SeizeDeclared.rows.defer.Deferring.TheVariants as at
+use Rattle.seize_moves.specs.Given.SeizeDefer.{defer_plan, plan_at, head_read, after_push, goes}
+use Rattle.seize_moves.specs.Given.SeizeLaw.{is_open}
+use Rattle.seize_moves.specs.Given.SeizeWorld.{World, Row, Rests, Defers, one_less, with_at, after_step, defers_on}
 use Rattle.seize_moves.proofs.Moves.State.Ghost.{Head, State, emptied}
 use Rattle.seize_moves.proofs.Moves.State.Moves.{ends_call}
 use Rattle.seize_moves.proofs.Moves.Moves.Slots.{ends_call_moves}

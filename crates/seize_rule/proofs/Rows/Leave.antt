@@ -2,24 +2,24 @@
 use Rattle.std.specs.Prelude.{Option, IsSome, if◌then◌else◌, nat_lt, ◌==◌}
 use Rattle.std.proofs.Common.{◌≡◌, ℕ, ◌+◌, Bool, true, false, cond, [], ◌∷◌, length, refl, arith, subst, sym, ap, ◌∙◌, eqb-true}
 use Rattle.std.proofs.lemmas.Bool.{eqb-false}
-use Rattle.seize_words.specs.declared.at.At.TheVariants as name
-use Rattle.seize_words.specs.OneMemory.Mem.{Mem, value_at, word_at, with_word, Can, Took}
-use Rattle.seize_words.specs.OneMemory.Plan.{Now, Steps, Ends, May}
-use Rattle.seize_words.proofs.OneMemory.OneOwner.Operations.{stored, swapped, may_swap, may_store}
-use Rattle.seize_words.proofs.OneMemory.Plans.{as_may}
-use Rattle.seize.specs.declared.states.TheConstants.{HEAD, FREE, ACTIVE, LAST_SLOT}
-use Rattle.seize.specs.declared.rows.settle.Settle.{Settle}
-use Rattle.seize.specs.declared.rows.settle.Settling.{Settling}
-use Rattle.seize.specs.declared.rows.settle.Settling.TheVariants as settling
-use Rattle.seize.specs.declared.rows.settle.Settled.{Settled}
-use Rattle.seize.specs.declared.rows.settle.Settled.TheVariants.{Goes, Waits, Gave, Done}
-use Rattle.seize.specs.declared.rows.leave.Leave.{Leave}
-use Rattle.seize.specs.declared.rows.leave.Leaving.{Leaving}
-use Rattle.seize.specs.declared.rows.leave.Leaving.TheVariants as leaving
-use Rattle.seize.specs.Leave.{standing, counted_down, list_taken, settled, plan_at, leave_plan}
-use Rattle.seize.specs.Settle as plans
-use Rattle.seize.specs.Law.{Entered}
-use Rattle.seize.specs.World.{World, Row, Rests, Leaves, Vacant, Outside, Inside, with_at, with_use, after_step, left_row, left_as, leave_effects, leaves_on, settle_effects}
+use Rattle.seize_moves.specs.Given.SeizeWordsDeclared.at.At.TheVariants as name
+use Rattle.seize_moves.specs.Given.SeizeWordsMem.{Mem, value_at, word_at, with_word, Can, Took}
+use Rattle.seize_moves.specs.Given.SeizeWordsPlan.{Now, Steps, Ends, May}
+use Rattle.seize_moves.proofs.Given.SeizeWordsOneOwner.Operations.{stored, swapped, may_swap, may_store}
+use Rattle.seize_moves.proofs.Given.SeizeWordsPlans.{as_may}
+use Rattle.seize_moves.specs.Given.SeizeDeclared.states.TheConstants.{HEAD, FREE, ACTIVE, LAST_SLOT}
+use Rattle.seize_moves.specs.Given.SeizeDeclared.rows.settle.Settle.{Settle}
+use Rattle.seize_moves.specs.Given.SeizeDeclared.rows.settle.Settling.{Settling}
+use Rattle.seize_moves.specs.Given.SeizeDeclared.rows.settle.Settling.TheVariants as settling
+use Rattle.seize_moves.specs.Given.SeizeDeclared.rows.settle.Settled.{Settled}
+use Rattle.seize_moves.specs.Given.SeizeDeclared.rows.settle.Settled.TheVariants.{Goes, Waits, Gave, Done}
+use Rattle.seize_moves.specs.Given.SeizeDeclared.rows.leave.Leave.{Leave}
+use Rattle.seize_moves.specs.Given.SeizeDeclared.rows.leave.Leaving.{Leaving}
+use Rattle.seize_moves.specs.Given.SeizeDeclared.rows.leave.Leaving.TheVariants as leaving
+use Rattle.seize_moves.specs.Given.SeizeLeave.{standing, counted_down, list_taken, settled, plan_at, leave_plan}
+use Rattle.seize_moves.specs.Given.SeizeSettle as plans
+use Rattle.seize_moves.specs.Given.SeizeLaw.{Entered}
+use Rattle.seize_moves.specs.Given.SeizeWorld.{World, Row, Rests, Leaves, Vacant, Outside, Inside, with_at, with_use, after_step, left_row, left_as, leave_effects, leaves_on, settle_effects}
 use Rattle.seize_moves.proofs.Moves.State.Ghost.{Active}
 use Rattle.seize_moves.proofs.Memory.Words.View.{view}
 use Rattle.seize_rule.proofs.Points.Known.{FitsAt, bare}

@@ -1,22 +1,22 @@
 -- What a step of a leaving row tells, and what stays of the row: its slot, and what its head becomes.
 use Rattle.std.specs.Prelude.{Option, if◌then◌else◌, nat_lt, ◌==◌}
 use Rattle.std.proofs.Common.{◌≡◌, ℕ, Bool, true, false, List, [], ◌∷◌, refl, ap, sym, subst, ◌∙◌}
-use Rattle.seize_words.specs.declared.at.At.TheVariants as name
-use Rattle.seize_words.specs.OneMemory.Mem.{Mem, Took, value_at, with_word}
-use Rattle.seize_words.specs.OneMemory.Plan.{Steps, Ends, Now}
-use Rattle.seize_words.proofs.OneMemory.OneOwner.Operations.{swapped, stored}
-use Rattle.seize.specs.declared.states.TheConstants.{HEAD, FREE, ACTIVE}
-use Rattle.seize.specs.declared.rows.settle.Settle.{Settle}
-use Rattle.seize.specs.declared.rows.settle.Settled.{Settled}
-use Rattle.seize.specs.declared.rows.settle.Settled.TheVariants.{Goes, Waits, Gave, Done}
-use Rattle.seize.specs.declared.rows.leave.Leave.{Leave}
-use Rattle.seize.specs.declared.rows.leave.Leaving.{Leaving}
-use Rattle.seize.specs.declared.rows.leave.Leaving.TheVariants as leaving
-use Rattle.seize.specs.Settle.{settle_plan, counting_down}
-use Rattle.seize.specs.Leave.{standing, counted_down, settled, list_taken, plan_at, leave_plan}
-use Rattle.seize.specs.Law.{Effect, Entered, Left}
-use Rattle.seize.specs.World.{Use, Vacant, Changing, leave_effects, settle_effects, left_as}
-use Rattle.seize.specs.Sequence.{taken_in}
+use Rattle.seize_moves.specs.Given.SeizeWordsDeclared.at.At.TheVariants as name
+use Rattle.seize_moves.specs.Given.SeizeWordsMem.{Mem, Took, value_at, with_word}
+use Rattle.seize_moves.specs.Given.SeizeWordsPlan.{Steps, Ends, Now}
+use Rattle.seize_moves.proofs.Given.SeizeWordsOneOwner.Operations.{swapped, stored}
+use Rattle.seize_moves.specs.Given.SeizeDeclared.states.TheConstants.{HEAD, FREE, ACTIVE}
+use Rattle.seize_moves.specs.Given.SeizeDeclared.rows.settle.Settle.{Settle}
+use Rattle.seize_moves.specs.Given.SeizeDeclared.rows.settle.Settled.{Settled}
+use Rattle.seize_moves.specs.Given.SeizeDeclared.rows.settle.Settled.TheVariants.{Goes, Waits, Gave, Done}
+use Rattle.seize_moves.specs.Given.SeizeDeclared.rows.leave.Leave.{Leave}
+use Rattle.seize_moves.specs.Given.SeizeDeclared.rows.leave.Leaving.{Leaving}
+use Rattle.seize_moves.specs.Given.SeizeDeclared.rows.leave.Leaving.TheVariants as leaving
+use Rattle.seize_moves.specs.Given.SeizeSettle.{settle_plan, counting_down}
+use Rattle.seize_moves.specs.Given.SeizeLeave.{standing, counted_down, settled, list_taken, plan_at, leave_plan}
+use Rattle.seize_moves.specs.Given.SeizeLaw.{Effect, Entered, Left}
+use Rattle.seize_moves.specs.Given.SeizeWorld.{Use, Vacant, Changing, leave_effects, settle_effects, left_as}
+use Rattle.seize_moves.specs.Given.SeizeSequence.{taken_in}
 use Rattle.seize_rule.proofs.Rows.Leaving.{steps_back}
 use Rattle.seize_rule.proofs.Words.Kept.{IsQuietPlan, quiet_as, settle_quiet}
 use Rattle.seize_rule.proofs.Rows.Taken.{TellsTaken, settle_tells}

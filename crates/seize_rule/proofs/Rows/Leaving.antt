@@ -2,16 +2,16 @@
 use Rattle.std.specs.Prelude.{Option, if◌then◌else◌}
 use Rattle.std.proofs.Common.{◌≡◌, ℕ, ◌+◌, Bool, true, false, cond, eqb, [], ◌∷◌, length, refl, arith, subst, sym, ap, ◌∙◌, eqb-true}
 use Rattle.std.proofs.Math.Path.{fun_ext}
-use Rattle.seize_words.specs.declared.at.At.TheVariants as name
-use Rattle.seize_words.specs.OneMemory.Mem.{Mem, value_at, with_word, Took}
-use Rattle.seize_words.specs.OneMemory.Plan.{Plan, Then, Turn, Do, Now, Seeing, Sure, Steps, Ends, then_as, plan_as}
-use Rattle.seize.specs.declared.states.TheConstants.{HEAD, FREE}
-use Rattle.seize.specs.declared.rows.settle.Settle.{Settle}
-use Rattle.seize.specs.declared.rows.leave.Leave.{Leave}
-use Rattle.seize.specs.declared.rows.leave.Leaving.TheVariants as leaving
-use Rattle.seize.specs.Leave.{standing, counted_down}
-use Rattle.seize.specs.Law.{Entered, is_open}
-use Rattle.seize.specs.World.{World, Row, Rests, Leaves, Use, Vacant, Outside, Inside, with_at, settle_effects}
+use Rattle.seize_moves.specs.Given.SeizeWordsDeclared.at.At.TheVariants as name
+use Rattle.seize_moves.specs.Given.SeizeWordsMem.{Mem, value_at, with_word, Took}
+use Rattle.seize_moves.specs.Given.SeizeWordsPlan.{Plan, Then, Turn, Do, Now, Seeing, Sure, Steps, Ends, then_as, plan_as}
+use Rattle.seize_moves.specs.Given.SeizeDeclared.states.TheConstants.{HEAD, FREE}
+use Rattle.seize_moves.specs.Given.SeizeDeclared.rows.settle.Settle.{Settle}
+use Rattle.seize_moves.specs.Given.SeizeDeclared.rows.leave.Leave.{Leave}
+use Rattle.seize_moves.specs.Given.SeizeDeclared.rows.leave.Leaving.TheVariants as leaving
+use Rattle.seize_moves.specs.Given.SeizeLeave.{standing, counted_down}
+use Rattle.seize_moves.specs.Given.SeizeLaw.{Entered, is_open}
+use Rattle.seize_moves.specs.Given.SeizeWorld.{World, Row, Rests, Leaves, Use, Vacant, Outside, Inside, with_at, settle_effects}
 use Rattle.seize_moves.proofs.Moves.State.Ghost.{Head, Free, Idle, Active, emptied, is_active}
 use Rattle.seize_moves.proofs.Moves.State.Together.{stays}
 use Rattle.seize_moves.proofs.Moves.State.Moves

@@ -1,17 +1,17 @@
 -- What one caller begins, and a step of its row, leave the other rows as they were, and what users do leaves all rows.
 use Rattle.std.specs.Prelude.{Option, Ok, Err}
 use Rattle.std.proofs.Common.{◌≡◌, ℕ, refl, arith, subst, sym}
-use Rattle.seize_words.specs.OneMemory.Op.{Out, Found, Stored, Exchanged, Made, Taken, Roomed}
-use Rattle.seize_words.specs.OneMemory.Mem.{Mem}
-use Rattle.seize.specs.declared.advance.Advance.{Advance}
-use Rattle.seize.specs.declared.advance.Advance.TheVariants as progress
-use Rattle.seize.specs.declared.rows.settle.Settle.{Settle}
-use Rattle.seize.specs.declared.rows.settle.Settled.{Settled}
-use Rattle.seize.specs.declared.rows.settle.Settled.TheVariants.{Goes, Waits, Gave, Done}
-use Rattle.seize.specs.declared.rows.register.Register.{Register}
-use Rattle.seize.specs.declared.rows.defer.Defer.{Defer}
-use Rattle.seize.specs.World.{World, Row, Rests, Registers, Enters, Settles, Leaves, Defers, Frees, Event, Begin, Step, Makes, Drops, Links, Parts, Unlinks, Rewrites, Operates, Chooses, Request, Register', Enter', Leave', LeaveOwned, Refresh, Unregister', Retire, Flush, Defer', Begins, Happens, Steps', settles_on, registers_on, defers_on, made_by, with_at, LeavesOver, Relinks, Clears, Ends}
-use Rattle.seize.specs.Sequence.{IsBetween}
+use Rattle.seize_moves.specs.Given.SeizeWordsOp.{Out, Found, Stored, Exchanged, Made, Taken, Roomed}
+use Rattle.seize_moves.specs.Given.SeizeWordsMem.{Mem}
+use Rattle.seize_moves.specs.Given.SeizeDeclared.advance.Advance.{Advance}
+use Rattle.seize_moves.specs.Given.SeizeDeclared.advance.Advance.TheVariants as progress
+use Rattle.seize_moves.specs.Given.SeizeDeclared.rows.settle.Settle.{Settle}
+use Rattle.seize_moves.specs.Given.SeizeDeclared.rows.settle.Settled.{Settled}
+use Rattle.seize_moves.specs.Given.SeizeDeclared.rows.settle.Settled.TheVariants.{Goes, Waits, Gave, Done}
+use Rattle.seize_moves.specs.Given.SeizeDeclared.rows.register.Register.{Register}
+use Rattle.seize_moves.specs.Given.SeizeDeclared.rows.defer.Defer.{Defer}
+use Rattle.seize_moves.specs.Given.SeizeWorld.{World, Row, Rests, Registers, Enters, Settles, Leaves, Defers, Frees, Event, Begin, Step, Makes, Drops, Links, Parts, Unlinks, Rewrites, Operates, Chooses, Request, Register', Enter', Leave', LeaveOwned, Refresh, Unregister', Retire, Flush, Defer', Begins, Happens, Steps', settles_on, registers_on, defers_on, made_by, with_at, LeavesOver, Relinks, Clears, Ends}
+use Rattle.seize_moves.specs.Given.SeizeSequence.{IsBetween}
 
 pub with_here : {X : Type 0} (f : ℕ → X) (k : ℕ) (v : X) → with_at f k v k ≡ v
 with_here f k v = grind arith

@@ -5,26 +5,26 @@ use Rattle.std.proofs.Math.Path.{fun_ext}
 use Rattle.std.proofs.lemmas.Bool.{cases_eq, cases_lt, eqb-false}
 use Rattle.std.proofs.lemmas.List.{get_or_append_left, get_or-append_right}
 use Rattle.std.proofs.Math.ListN.{get_or-eq_default}
-use Rattle.seize_words.specs.declared.at.At.{At}
-use Rattle.seize_words.specs.declared.at.At.TheVariants as at
-use Rattle.seize_words.specs.declared.slots.TheConstants.{SLOT_WORDS}
-use Rattle.seize_words.specs.declared.fault.Fault.{Fault}
-use Rattle.seize_words.specs.declared.fault.Fault.TheVariants.{Memory, SlotsUsedUp}
-use Rattle.seize_words.specs.OneMemory.Mem.{Mem, value_at, with_word, with_room, Can, Took}
-use Rattle.seize_words.specs.OneMemory.Place.{capacity}
-use Rattle.seize_words.specs.OneMemory.SlotWords.{slot_word, with_bucket}
-use Rattle.seize_words.specs.OneMemory.Plan.{May, Steps, Now}
-use Rattle.seize_words.proofs.OneMemory.OneOwner.Operations.{loaded, may_load, stored, may_store, exchanged, may_exchange, roomed, may_room}
-use Rattle.seize_words.proofs.OneMemory.Places.Words.{with_bucket_next, with_bucket_there}
-use Rattle.seize.specs.declared.states.TheConstants.{HEAD, IDLE, ACTIVE, LAST_SLOT}
-use Rattle.seize.specs.declared.advance.Advance.{Advance}
-use Rattle.seize.specs.declared.advance.Advance.TheVariants.{Goes, Done, Refused}
-use Rattle.seize.specs.declared.rows.register.Register.{Register}
-use Rattle.seize.specs.declared.rows.register.Registering.{Registering}
-use Rattle.seize.specs.declared.rows.register.Registering.TheVariants as stands
-use Rattle.seize.specs.Register.{begun, looked, widened, taken, further, taking, going, refused, registered, can_be_taken, bucket_needed, plan_at, register_plan}
-use Rattle.seize.specs.Law.{Effect, Entered, is_open}
-use Rattle.seize.specs.World.{World, Row, Rests, Registers, Use, Vacant, Outside, Inside, Changing, with_at, with_use, after_step, register_effects, registered_use, registered_as, registers_on}
+use Rattle.seize_moves.specs.Given.SeizeWordsDeclared.at.At.{At}
+use Rattle.seize_moves.specs.Given.SeizeWordsDeclared.at.At.TheVariants as at
+use Rattle.seize_moves.specs.Given.SeizeWordsDeclared.slots.TheConstants.{SLOT_WORDS}
+use Rattle.seize_moves.specs.Given.SeizeWordsDeclared.fault.Fault.{Fault}
+use Rattle.seize_moves.specs.Given.SeizeWordsDeclared.fault.Fault.TheVariants.{Memory, SlotsUsedUp}
+use Rattle.seize_moves.specs.Given.SeizeWordsMem.{Mem, value_at, with_word, with_room, Can, Took}
+use Rattle.seize_moves.specs.Given.SeizeWordsPlace.{capacity}
+use Rattle.seize_moves.specs.Given.SeizeWordsSlotWords.{slot_word, with_bucket}
+use Rattle.seize_moves.specs.Given.SeizeWordsPlan.{May, Steps, Now}
+use Rattle.seize_moves.proofs.Given.SeizeWordsOneOwner.Operations.{loaded, may_load, stored, may_store, exchanged, may_exchange, roomed, may_room}
+use Rattle.seize_moves.proofs.Given.SeizeWordsPlaces.Words.{with_bucket_next, with_bucket_there}
+use Rattle.seize_moves.specs.Given.SeizeDeclared.states.TheConstants.{HEAD, IDLE, ACTIVE, LAST_SLOT}
+use Rattle.seize_moves.specs.Given.SeizeDeclared.advance.Advance.{Advance}
+use Rattle.seize_moves.specs.Given.SeizeDeclared.advance.Advance.TheVariants.{Goes, Done, Refused}
+use Rattle.seize_moves.specs.Given.SeizeDeclared.rows.register.Register.{Register}
+use Rattle.seize_moves.specs.Given.SeizeDeclared.rows.register.Registering.{Registering}
+use Rattle.seize_moves.specs.Given.SeizeDeclared.rows.register.Registering.TheVariants as stands
+use Rattle.seize_moves.specs.Given.SeizeRegister.{begun, looked, widened, taken, further, taking, going, refused, registered, can_be_taken, bucket_needed, plan_at, register_plan}
+use Rattle.seize_moves.specs.Given.SeizeLaw.{Effect, Entered, is_open}
+use Rattle.seize_moves.specs.Given.SeizeWorld.{World, Row, Rests, Registers, Use, Vacant, Outside, Inside, Changing, with_at, with_use, after_step, register_effects, registered_use, registered_as, registers_on}
 use Rattle.seize_moves.specs.Waiting.Held.{count, same}
 use Rattle.seize_moves.proofs.Moves.State.Ghost.{put, Head, Never, Free, Idle, Active, emptied, is_never, is_active, list_of}
 use Rattle.seize_moves.proofs.Moves.State.Ghost as Ghosts

@@ -2,21 +2,21 @@
 use Rattle.std.specs.Prelude.{Option, if◌then◌else◌, nat_lt, ◌⊎◌}
 use Rattle.std.proofs.Common.{◌≡◌, ℕ, ◌+◌, ◌<◌, ◌≤◌, Bool, true, false, cond, eqb, List, [], ◌∷◌, length, refl, arith, subst, sym, ap, inl, inr, ◌∙◌, eqb-true}
 use Rattle.std.proofs.lemmas.Bool.{eqb-false}
-use Rattle.seize_words.specs.declared.at.At.TheVariants as name
-use Rattle.seize_words.specs.OneMemory.Mem.{Mem, value_at, with_word, Took}
-use Rattle.seize_words.specs.OneMemory.Plan.{Steps}
-use Rattle.seize_words.proofs.OneMemory.OneOwner.Operations.{swapped}
-use Rattle.seize_words.proofs.OneMemory.Plans.{ends_if}
-use Rattle.seize.specs.declared.states.TheConstants.{HEAD, ACTIVE}
-use Rattle.seize.specs.declared.rows.settle.Settled.{Settled}
-use Rattle.seize.specs.declared.rows.settle.Settled.TheVariants.{Goes}
-use Rattle.seize.specs.declared.rows.leave.Leave.{Leave}
-use Rattle.seize.specs.declared.rows.leave.Leaving.{Leaving}
-use Rattle.seize.specs.declared.rows.leave.Leaving.TheVariants as leaving
-use Rattle.seize.specs.Settle.{counting_down}
-use Rattle.seize.specs.Leave.{standing, counted_down, list_taken, swaps}
-use Rattle.seize.specs.Law.{Left, is_open}
-use Rattle.seize.specs.World.{World, Row, Rests, Leaves, Use, Vacant, Outside, Inside, Changing, with_at, with_use, after_step}
+use Rattle.seize_moves.specs.Given.SeizeWordsDeclared.at.At.TheVariants as name
+use Rattle.seize_moves.specs.Given.SeizeWordsMem.{Mem, value_at, with_word, Took}
+use Rattle.seize_moves.specs.Given.SeizeWordsPlan.{Steps}
+use Rattle.seize_moves.proofs.Given.SeizeWordsOneOwner.Operations.{swapped}
+use Rattle.seize_moves.proofs.Given.SeizeWordsPlans.{ends_if}
+use Rattle.seize_moves.specs.Given.SeizeDeclared.states.TheConstants.{HEAD, ACTIVE}
+use Rattle.seize_moves.specs.Given.SeizeDeclared.rows.settle.Settled.{Settled}
+use Rattle.seize_moves.specs.Given.SeizeDeclared.rows.settle.Settled.TheVariants.{Goes}
+use Rattle.seize_moves.specs.Given.SeizeDeclared.rows.leave.Leave.{Leave}
+use Rattle.seize_moves.specs.Given.SeizeDeclared.rows.leave.Leaving.{Leaving}
+use Rattle.seize_moves.specs.Given.SeizeDeclared.rows.leave.Leaving.TheVariants as leaving
+use Rattle.seize_moves.specs.Given.SeizeSettle.{counting_down}
+use Rattle.seize_moves.specs.Given.SeizeLeave.{standing, counted_down, list_taken, swaps}
+use Rattle.seize_moves.specs.Given.SeizeLaw.{Left, is_open}
+use Rattle.seize_moves.specs.Given.SeizeWorld.{World, Row, Rests, Leaves, Use, Vacant, Outside, Inside, Changing, with_at, with_use, after_step}
 use Rattle.seize_moves.proofs.Moves.State.Ghost.{put, Entry, Head, Never, Free, Idle, Active, State, emptied, is_never}
 use Rattle.seize_moves.proofs.Moves.State.Rule.{Inv, Moved, Pending, retirals}
 use Rattle.seize_moves.proofs.Moves.State.Moves.{has_left, refreshed}

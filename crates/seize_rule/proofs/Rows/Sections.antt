@@ -1,16 +1,16 @@
 -- A row that runs within a section works on its slot.
 use Rattle.std.proofs.Common.{◌≡◌, ℕ, ◌+◌, Bool, true, false, eqb, arith}
-use Rattle.seize.specs.declared.rows.settle.Settle.{Settle}
-use Rattle.seize.specs.declared.rows.settle.Settling.{Settling}
-use Rattle.seize.specs.declared.rows.settle.Settling.TheVariants as at
-use Rattle.seize.specs.declared.rows.leave.Leaving.{Leaving}
-use Rattle.seize.specs.declared.rows.leave.Leaving.TheVariants as leaving
-use Rattle.seize.specs.declared.rows.register.Registering.{Registering}
-use Rattle.seize.specs.declared.rows.register.Registering.TheVariants as registering
-use Rattle.seize.specs.declared.rows.defer.Deferring.{Deferring}
-use Rattle.seize.specs.declared.rows.defer.Deferring.TheVariants as deferring
-use Rattle.seize_words.specs.declared.at.At.{At}
-use Rattle.seize.specs.World.{Row, Rests, Registers, Enters, Settles, Leaves, Defers, Frees}
+use Rattle.seize_moves.specs.Given.SeizeDeclared.rows.settle.Settle.{Settle}
+use Rattle.seize_moves.specs.Given.SeizeDeclared.rows.settle.Settling.{Settling}
+use Rattle.seize_moves.specs.Given.SeizeDeclared.rows.settle.Settling.TheVariants as at
+use Rattle.seize_moves.specs.Given.SeizeDeclared.rows.leave.Leaving.{Leaving}
+use Rattle.seize_moves.specs.Given.SeizeDeclared.rows.leave.Leaving.TheVariants as leaving
+use Rattle.seize_moves.specs.Given.SeizeDeclared.rows.register.Registering.{Registering}
+use Rattle.seize_moves.specs.Given.SeizeDeclared.rows.register.Registering.TheVariants as registering
+use Rattle.seize_moves.specs.Given.SeizeDeclared.rows.defer.Deferring.{Deferring}
+use Rattle.seize_moves.specs.Given.SeizeDeclared.rows.defer.Deferring.TheVariants as deferring
+use Rattle.seize_moves.specs.Given.SeizeWordsDeclared.at.At.{At}
+use Rattle.seize_moves.specs.Given.SeizeWorld.{Row, Rests, Registers, Enters, Settles, Leaves, Defers, Frees}
 use Rattle.seize_moves.proofs.Moves.State.Ghost.{State}
 use Rattle.seize_moves.proofs.Moves.State.Rule.{Inv}
 use Rattle.seize_moves.proofs.Memory.Words.View.{View}

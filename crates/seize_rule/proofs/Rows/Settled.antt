@@ -1,16 +1,16 @@
 -- What a step of a settling row comes to at the world, and its end.
 use Rattle.std.specs.Prelude.{Option}
 use Rattle.std.proofs.Common.{◌≡◌, ℕ, ◌+◌, Bool, true, false, List, [], ◌∷◌, length, refl, arith, subst, sym, ap, ◌∙◌}
-use Rattle.seize_words.specs.OneMemory.Mem.{Mem, value_at, Can, Took}
-use Rattle.seize_words.specs.OneMemory.Plan.{May, Steps}
-use Rattle.seize.specs.declared.rows.settle.Settle.{Settle}
-use Rattle.seize.specs.declared.rows.settle.Settling.{Settling}
-use Rattle.seize.specs.declared.rows.settle.Settling.TheVariants as at
-use Rattle.seize.specs.declared.rows.settle.Settled.{Settled}
-use Rattle.seize.specs.declared.rows.settle.Settled.TheVariants.{Goes, Waits, Gave, Done}
-use Rattle.seize.specs.Settle.{settle_plan, plan_at}
-use Rattle.seize.specs.Law.{is_open}
-use Rattle.seize.specs.World.{World, Row, Rests, Settles, Use, Vacant, Outside, Inside, Changing, one_less, with_at, after_step, settles_on, settle_effects}
+use Rattle.seize_moves.specs.Given.SeizeWordsMem.{Mem, value_at, Can, Took}
+use Rattle.seize_moves.specs.Given.SeizeWordsPlan.{May, Steps}
+use Rattle.seize_moves.specs.Given.SeizeDeclared.rows.settle.Settle.{Settle}
+use Rattle.seize_moves.specs.Given.SeizeDeclared.rows.settle.Settling.{Settling}
+use Rattle.seize_moves.specs.Given.SeizeDeclared.rows.settle.Settling.TheVariants as at
+use Rattle.seize_moves.specs.Given.SeizeDeclared.rows.settle.Settled.{Settled}
+use Rattle.seize_moves.specs.Given.SeizeDeclared.rows.settle.Settled.TheVariants.{Goes, Waits, Gave, Done}
+use Rattle.seize_moves.specs.Given.SeizeSettle.{settle_plan, plan_at}
+use Rattle.seize_moves.specs.Given.SeizeLaw.{is_open}
+use Rattle.seize_moves.specs.Given.SeizeWorld.{World, Row, Rests, Settles, Use, Vacant, Outside, Inside, Changing, one_less, with_at, after_step, settles_on, settle_effects}
 use Rattle.seize_moves.proofs.Moves.State.Ghost.{Entry, Head, State, emptied, is_never}
 use Rattle.seize_moves.proofs.Moves.State.Together.{stays}
 use Rattle.seize_moves.proofs.Memory.Words.Chains.{Chain, blocks_of, waiting}

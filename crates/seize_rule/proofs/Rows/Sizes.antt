@@ -1,19 +1,19 @@
 -- A settling keeps the batch size that it began with.
 use Rattle.std.specs.Prelude.{Option, Some, None, Ok, Err, if◌then◌else◌, nat_lt, ◌==◌, ◌+◌, ◌%◌, ◌^◌}
 use Rattle.std.proofs.Common.{◌≡◌, ℕ, Bool, true, false, refl, ap, ◌∙◌}
-use Rattle.seize_words.specs.OneMemory.Op.{Out, Found, Stored, Exchanged, Made, Taken, Roomed}
-use Rattle.seize_words.specs.OneMemory.Mem.{Mem, Took, value_at}
-use Rattle.seize_words.specs.OneMemory.Plan.{Plan, Then, Turn, Do, Now, Seeing, Sure, Steps, Ends}
-use Rattle.seize.specs.declared.states.TheConstants.{HELD, NEVER, ACTIVE}
-use Rattle.seize.specs.declared.rows.settle.Settle.{Settle}
-use Rattle.seize.specs.declared.rows.settle.Settling.{Settling}
-use Rattle.seize.specs.declared.rows.settle.Settling.TheVariants as at
-use Rattle.seize.specs.declared.rows.settle.Settled.{Settled}
-use Rattle.seize.specs.declared.rows.settle.Settled.TheVariants.{Waits}
-use Rattle.seize.specs.declared.rows.leave.Leaving.{Leaving}
-use Rattle.seize.specs.declared.rows.leave.Leaving.TheVariants as leaving
-use Rattle.seize.specs.Settle as plans
-use Rattle.seize.specs.World.{Row, Settles, Leaves, with_at}
+use Rattle.seize_moves.specs.Given.SeizeWordsOp.{Out, Found, Stored, Exchanged, Made, Taken, Roomed}
+use Rattle.seize_moves.specs.Given.SeizeWordsMem.{Mem, Took, value_at}
+use Rattle.seize_moves.specs.Given.SeizeWordsPlan.{Plan, Then, Turn, Do, Now, Seeing, Sure, Steps, Ends}
+use Rattle.seize_moves.specs.Given.SeizeDeclared.states.TheConstants.{HELD, NEVER, ACTIVE}
+use Rattle.seize_moves.specs.Given.SeizeDeclared.rows.settle.Settle.{Settle}
+use Rattle.seize_moves.specs.Given.SeizeDeclared.rows.settle.Settling.{Settling}
+use Rattle.seize_moves.specs.Given.SeizeDeclared.rows.settle.Settling.TheVariants as at
+use Rattle.seize_moves.specs.Given.SeizeDeclared.rows.settle.Settled.{Settled}
+use Rattle.seize_moves.specs.Given.SeizeDeclared.rows.settle.Settled.TheVariants.{Waits}
+use Rattle.seize_moves.specs.Given.SeizeDeclared.rows.leave.Leaving.{Leaving}
+use Rattle.seize_moves.specs.Given.SeizeDeclared.rows.leave.Leaving.TheVariants as leaving
+use Rattle.seize_moves.specs.Given.SeizeSettle as plans
+use Rattle.seize_moves.specs.Given.SeizeWorld.{Row, Settles, Leaves, with_at}
 
 abbrev pub LeaveSized : ℕ → Leaving → Type 0
 LeaveSized size (leaving.Settles settle) = settle.batch_size ≡ size

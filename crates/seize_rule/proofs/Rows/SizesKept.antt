@@ -1,25 +1,25 @@
 -- All rows go on with the batch size that they began with.
 use Rattle.std.specs.Prelude.{Option, Ok, Err, if◌then◌else◌, nat_lt}
 use Rattle.std.proofs.Common.{◌≡◌, ℕ, Bool, true, false, refl, subst, sym, ◌∙◌}
-use Rattle.seize_words.specs.OneMemory.Op.{Out, Found, Stored, Exchanged, Made, Taken, Roomed}
-use Rattle.seize_words.specs.OneMemory.Mem.{Mem, Took, value_at, with_word}
-use Rattle.seize_words.specs.OneMemory.Plan.{Steps, Ends, Now}
-use Rattle.seize_words.proofs.OneMemory.OneOwner.Operations.{swapped, stored}
-use Rattle.seize_words.specs.declared.at.At.TheVariants as name
-use Rattle.seize.specs.declared.states.TheConstants.{HEAD, FREE, ACTIVE}
-use Rattle.seize.specs.declared.advance.Advance.{Advance}
-use Rattle.seize.specs.declared.advance.Advance.TheVariants as progress
-use Rattle.seize.specs.declared.rows.settle.Settle.{Settle}
-use Rattle.seize.specs.declared.rows.settle.Settled.{Settled}
-use Rattle.seize.specs.declared.rows.settle.Settled.TheVariants.{Goes, Waits, Gave, Done}
-use Rattle.seize.specs.declared.rows.leave.Leave.{Leave}
-use Rattle.seize.specs.declared.rows.leave.Leaving.{Leaving}
-use Rattle.seize.specs.declared.rows.leave.Leaving.TheVariants as leaving
-use Rattle.seize.specs.declared.rows.register.Register.{Register}
-use Rattle.seize.specs.declared.rows.defer.Defer.{Defer}
-use Rattle.seize.specs.Settle.{settle_plan, counting_down}
-use Rattle.seize.specs.Leave.{standing, counted_down, settled, list_taken, plan_at}
-use Rattle.seize.specs.World.{World, Row, Rests, Registers, Enters, Settles, Leaves, Defers, Frees, Event, Begin, Step, Makes, Drops, Links, Parts, Unlinks, Rewrites, Operates, Chooses, Request, Register', Enter', Leave', LeaveOwned, Refresh, Unregister', Retire, Flush, Defer', Begins, Happens, Steps', settles_on, leaves_on, registers_on, defers_on, made_by, LeavesOver, Relinks, Clears, Ends as EndsOwner}
+use Rattle.seize_moves.specs.Given.SeizeWordsOp.{Out, Found, Stored, Exchanged, Made, Taken, Roomed}
+use Rattle.seize_moves.specs.Given.SeizeWordsMem.{Mem, Took, value_at, with_word}
+use Rattle.seize_moves.specs.Given.SeizeWordsPlan.{Steps, Ends, Now}
+use Rattle.seize_moves.proofs.Given.SeizeWordsOneOwner.Operations.{swapped, stored}
+use Rattle.seize_moves.specs.Given.SeizeWordsDeclared.at.At.TheVariants as name
+use Rattle.seize_moves.specs.Given.SeizeDeclared.states.TheConstants.{HEAD, FREE, ACTIVE}
+use Rattle.seize_moves.specs.Given.SeizeDeclared.advance.Advance.{Advance}
+use Rattle.seize_moves.specs.Given.SeizeDeclared.advance.Advance.TheVariants as progress
+use Rattle.seize_moves.specs.Given.SeizeDeclared.rows.settle.Settle.{Settle}
+use Rattle.seize_moves.specs.Given.SeizeDeclared.rows.settle.Settled.{Settled}
+use Rattle.seize_moves.specs.Given.SeizeDeclared.rows.settle.Settled.TheVariants.{Goes, Waits, Gave, Done}
+use Rattle.seize_moves.specs.Given.SeizeDeclared.rows.leave.Leave.{Leave}
+use Rattle.seize_moves.specs.Given.SeizeDeclared.rows.leave.Leaving.{Leaving}
+use Rattle.seize_moves.specs.Given.SeizeDeclared.rows.leave.Leaving.TheVariants as leaving
+use Rattle.seize_moves.specs.Given.SeizeDeclared.rows.register.Register.{Register}
+use Rattle.seize_moves.specs.Given.SeizeDeclared.rows.defer.Defer.{Defer}
+use Rattle.seize_moves.specs.Given.SeizeSettle.{settle_plan, counting_down}
+use Rattle.seize_moves.specs.Given.SeizeLeave.{standing, counted_down, settled, list_taken, plan_at}
+use Rattle.seize_moves.specs.Given.SeizeWorld.{World, Row, Rests, Registers, Enters, Settles, Leaves, Defers, Frees, Event, Begin, Step, Makes, Drops, Links, Parts, Unlinks, Rewrites, Operates, Chooses, Request, Register', Enter', Leave', LeaveOwned, Refresh, Unregister', Retire, Flush, Defer', Begins, Happens, Steps', settles_on, leaves_on, registers_on, defers_on, made_by, LeavesOver, Relinks, Clears, Ends as EndsOwner}
 use Rattle.seize_rule.proofs.Rows.Sizes.{LeaveSized, Sized, AllSized, sized_at, same_size}
 use Rattle.seize_rule.proofs.Rows.Leaving.{steps_back}
 

@@ -2,19 +2,19 @@
 use Rattle.std.specs.Prelude.{Option, Some, IsSome, ◌++◌, slice_set, slice_index_or}
 use Rattle.std.proofs.Common.{◌≡◌, ℕ, ◌+◌, ◌<◌, false, List, [], ◌∷◌, length, refl, arith, subst, sym, ap}
 use Rattle.std.proofs.lemmas.List.{length-set}
-use Rattle.seize_words.specs.declared.at.At.{At}
-use Rattle.seize_words.specs.declared.at.At.TheVariants as at
-use Rattle.seize_words.specs.OneMemory.Mem.{Mem, value_at, word_at, with_word, Can, Took}
-use Rattle.seize_words.specs.OneMemory.Plan.{May, Steps, Now}
-use Rattle.seize_words.proofs.OneMemory.OneOwner.Operations.{stored, may_store}
-use Rattle.seize.specs.declared.states.TheConstants.{HEAD, ACTIVE, FREE}
-use Rattle.seize.specs.declared.advance.Advance.{Advance}
-use Rattle.seize.specs.declared.advance.Advance.TheVariants.{Done}
-use Rattle.seize.specs.declared.rows.enter.Enter.{Enter}
-use Rattle.seize.specs.declared.rows.enter.Unregister.{Unregister}
-use Rattle.seize.specs.Enter.{enter_plan, unregister_plan}
-use Rattle.seize.specs.Law.{Effect, Entered, is_open}
-use Rattle.seize.specs.World.{World, Row, Rests, Enters, Frees, Use, Vacant, Inside, with_at, with_use, after_step, handed_by}
+use Rattle.seize_moves.specs.Given.SeizeWordsDeclared.at.At.{At}
+use Rattle.seize_moves.specs.Given.SeizeWordsDeclared.at.At.TheVariants as at
+use Rattle.seize_moves.specs.Given.SeizeWordsMem.{Mem, value_at, word_at, with_word, Can, Took}
+use Rattle.seize_moves.specs.Given.SeizeWordsPlan.{May, Steps, Now}
+use Rattle.seize_moves.proofs.Given.SeizeWordsOneOwner.Operations.{stored, may_store}
+use Rattle.seize_moves.specs.Given.SeizeDeclared.states.TheConstants.{HEAD, ACTIVE, FREE}
+use Rattle.seize_moves.specs.Given.SeizeDeclared.advance.Advance.{Advance}
+use Rattle.seize_moves.specs.Given.SeizeDeclared.advance.Advance.TheVariants.{Done}
+use Rattle.seize_moves.specs.Given.SeizeDeclared.rows.enter.Enter.{Enter}
+use Rattle.seize_moves.specs.Given.SeizeDeclared.rows.enter.Unregister.{Unregister}
+use Rattle.seize_moves.specs.Given.SeizeEnter.{enter_plan, unregister_plan}
+use Rattle.seize_moves.specs.Given.SeizeLaw.{Effect, Entered, is_open}
+use Rattle.seize_moves.specs.Given.SeizeWorld.{World, Row, Rests, Enters, Frees, Use, Vacant, Inside, with_at, with_use, after_step, handed_by}
 use Rattle.seize_moves.proofs.Moves.State.Ghost.{put, Head, Free, Idle, State, emptied, is_never}
 use Rattle.seize_moves.proofs.Moves.State.Rule.{Moved, Pending, retirals}
 use Rattle.seize_moves.proofs.Moves.State.Moves

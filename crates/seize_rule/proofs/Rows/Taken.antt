@@ -1,20 +1,20 @@
 -- A step tells of a value that is reclaimed just where it takes a block away.
 use Rattle.std.specs.Prelude.{Option, Some, None, if◌then◌else◌, nat_lt, ◌==◌, ◌/◌, ◌%◌, ◌^◌, ◌-◌}
 use Rattle.std.proofs.Common.{◌≡◌, ℕ, ◌+◌, Bool, true, false, List, [], ◌∷◌, refl, inl, inr, sym, subst}
-use Rattle.seize_words.specs.declared.at.At.TheVariants.{Slot, Entry, Word}
-use Rattle.seize_words.specs.OneMemory.Mem.{Mem, Took, value_at, with_word, with_block}
-use Rattle.seize_words.specs.OneMemory.Plan.{Then, Steps, Ends}
-use Rattle.seize_words.proofs.OneMemory.OneOwner.Operations.{loaded, stored, added, exchanged, taken as taken_value}
-use Rattle.seize.specs.declared.states.TheConstants.{HEAD, BATCH, NEXT, LINK, FIRST, COUNT, NEVER, ACTIVE, HELD}
-use Rattle.seize.specs.declared.rows.settle.Settle.{Settle}
-use Rattle.seize.specs.declared.rows.settle.Settling.{Settling}
-use Rattle.seize.specs.declared.rows.settle.Settling.TheVariants as at
-use Rattle.seize.specs.declared.rows.settle.Settled.{Settled}
-use Rattle.seize.specs.declared.rows.settle.Settled.TheVariants.{Goes, Waits, Gave, Done}
-use Rattle.seize.specs.Settle as plans
-use Rattle.seize.specs.Law.{Effect, Taken}
-use Rattle.seize.specs.World.{settle_effects}
-use Rattle.seize.specs.Sequence.{taken_in}
+use Rattle.seize_moves.specs.Given.SeizeWordsDeclared.at.At.TheVariants.{Slot, Entry, Word}
+use Rattle.seize_moves.specs.Given.SeizeWordsMem.{Mem, Took, value_at, with_word, with_block}
+use Rattle.seize_moves.specs.Given.SeizeWordsPlan.{Then, Steps, Ends}
+use Rattle.seize_moves.proofs.Given.SeizeWordsOneOwner.Operations.{loaded, stored, added, exchanged, taken as taken_value}
+use Rattle.seize_moves.specs.Given.SeizeDeclared.states.TheConstants.{HEAD, BATCH, NEXT, LINK, FIRST, COUNT, NEVER, ACTIVE, HELD}
+use Rattle.seize_moves.specs.Given.SeizeDeclared.rows.settle.Settle.{Settle}
+use Rattle.seize_moves.specs.Given.SeizeDeclared.rows.settle.Settling.{Settling}
+use Rattle.seize_moves.specs.Given.SeizeDeclared.rows.settle.Settling.TheVariants as at
+use Rattle.seize_moves.specs.Given.SeizeDeclared.rows.settle.Settled.{Settled}
+use Rattle.seize_moves.specs.Given.SeizeDeclared.rows.settle.Settled.TheVariants.{Goes, Waits, Gave, Done}
+use Rattle.seize_moves.specs.Given.SeizeSettle as plans
+use Rattle.seize_moves.specs.Given.SeizeLaw.{Effect, Taken}
+use Rattle.seize_moves.specs.Given.SeizeWorld.{settle_effects}
+use Rattle.seize_moves.specs.Given.SeizeSequence.{taken_in}
 
 module _ {T : Type 0} where
   -- what a step tells, by what it does

@@ -2,8 +2,8 @@
 use Rattle.std.specs.Prelude.{if◌then◌else◌}
 use Rattle.std.proofs.Common.{◌≡◌, ℕ, ◌+◌, Bool, true, false, cond, eqb, List, [], ◌∷◌, length, refl, arith, eqb-true}
 use Rattle.std.proofs.lemmas.Bool.{eqb-false}
-use Rattle.seize.specs.Law.{Effect, is_open}
-use Rattle.seize.specs.World.{Row, Rests, Registers, Enters, Settles, Leaves, Defers, Frees, Use, Vacant, Outside, Inside, Changing, with_at}
+use Rattle.seize_moves.specs.Given.SeizeLaw.{Effect, is_open}
+use Rattle.seize_moves.specs.Given.SeizeWorld.{Row, Rests, Registers, Enters, Settles, Leaves, Defers, Frees, Use, Vacant, Outside, Inside, Changing, with_at}
 use Rattle.seize_moves.specs.Waiting.Held.{same, count}
 use Rattle.seize_moves.proofs.Moves.State.Ghost.{Head, Never, Free, Idle, Active, emptied}
 use Rattle.seize_rule.proofs.Rows.Known.{works_on}

@@ -1,12 +1,12 @@
 -- What a block was of ends, in worlds of two blocks: what it carries is left over with it, and nobody may be putting a block on its list.
 use Rattle.std.specs.Prelude.{◌==◌, if◌then◌else◌, Option, Some, None}
 use Rattle.std.proofs.Common.{◌≡◌, ℕ, zero, suc, [], ◌∷◌, refl, arith}
-use Rattle.seize_words.specs.declared.at.At.TheVariants.{Word}
-use Rattle.seize_words.specs.OneMemory.Mem.{Mem}
-use Rattle.seize.specs.Defer.{deferring}
-use Rattle.seize.specs.Further.{FurtherFrom}
-use Rattle.seize.specs.Law.{Linked, Ended, LeftOver}
-use Rattle.seize.specs.World.{World, Hand, Cutting, Handed, LeftTo, Defers, LeavesOver, Happens, at_start}
+use Rattle.seize_moves.specs.Given.SeizeWordsDeclared.at.At.TheVariants.{Word}
+use Rattle.seize_moves.specs.Given.SeizeWordsMem.{Mem}
+use Rattle.seize_moves.specs.Given.SeizeDefer.{deferring}
+use Rattle.seize_moves.specs.Given.SeizeFurther.{FurtherFrom}
+use Rattle.seize_moves.specs.Given.SeizeLaw.{Linked, Ended, LeftOver}
+use Rattle.seize_moves.specs.Given.SeizeWorld.{World, Hand, Cutting, Handed, LeftTo, Defers, LeavesOver, Happens, at_start}
 
 -- a block of value 0 has a list, in its word 0
 abbrev carries : ℕ → Option ℕ

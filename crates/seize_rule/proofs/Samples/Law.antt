@@ -1,6 +1,6 @@
 -- Logs of effects that the law of reclamation refuses, each beside one that it lets through. Slot 0 and the blocks 7, a pair, and 5, a table.
 use Rattle.std.proofs.Common.{◌≡◌, true, false, List, [], ◌∷◌, inl, inr, refl, arith}
-use Rattle.seize.specs.Law.{Effect, Entered, Left, Made, Linked, Unlinked, Deferred, Retired, Taken, Dropped, Ended, LeftOver, reachable, holds, is_over, IsSound}
+use Rattle.seize_moves.specs.Given.SeizeLaw.{Effect, Entered, Left, Made, Linked, Unlinked, Deferred, Retired, Taken, Dropped, Ended, LeftOver, reachable, holds, is_over, IsSound}
 
 -- block 7 is linked, and taken out while a section is open
 abbrev out : List Effect

@@ -1,10 +1,10 @@
 -- A run of the world worked by hand: a slot is taken and entered, a block is made, linked, unlinked and retired, and reclaimed as the slot leaves.
 use Rattle.std.specs.Prelude.{Option, None, Ok}
 use Rattle.std.proofs.Common.{◌≡◌, ℕ, false, List, [], ◌∷◌, refl, arith}
-use Rattle.seize_words.specs.OneMemory.Op.{Found, Stored, Exchanged, Made, Taken, Roomed}
-use Rattle.seize.specs.Law.{Effect, Entered, Left, Linked, Unlinked, Retired}
-use Rattle.seize.specs.Law as law
-use Rattle.seize.specs.World.{World, Event, Begin, Step, Makes, Links, Unlinks, Register', Enter', Leave', Retire, Runs, at_start}
+use Rattle.seize_moves.specs.Given.SeizeWordsOp.{Found, Stored, Exchanged, Made, Taken, Roomed}
+use Rattle.seize_moves.specs.Given.SeizeLaw.{Effect, Entered, Left, Linked, Unlinked, Retired}
+use Rattle.seize_moves.specs.Given.SeizeLaw as law
+use Rattle.seize_moves.specs.Given.SeizeWorld.{World, Event, Begin, Step, Makes, Links, Unlinks, Register', Enter', Leave', Retire, Runs, at_start}
 
 -- values put nothing
 abbrev plain : ℕ → Option ℕ

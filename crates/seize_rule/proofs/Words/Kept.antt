@@ -1,16 +1,16 @@
 -- What operations of rows leave of a memory beside the word that they write: slots have their words, and blocks that live have theirs.
 use Rattle.std.specs.Prelude.{Option, Some, None, IsSome, is_some, Ok, Err, ◌++◌, bit_or}
 use Rattle.std.proofs.Common.{◌≡◌, ℕ, ◌+◌, ◌%◌, ◌^◌, Bool, true, false, cond, eqb, List, refl, arith, subst, sym, ap}
-use Rattle.seize_words.specs.declared.at.At.{At}
-use Rattle.seize_words.specs.OneMemory.Op.{Op, Out, Load, Store, Swap, Add, Or, Exchange, Make, Take, Rewrite, Room, Found, Stored, Exchanged, Made, Taken, Roomed}
-use Rattle.seize_words.specs.OneMemory.Mem.{Mem, value_at, word_at, with_word, with_block, Can, Took, Gives, after}
-use Rattle.seize_words.specs.OneMemory.Plan.{Plan, Turn, Do, May, Steps, plan_as}
-use Rattle.seize.specs.declared.rows.settle.Settle.{Settle}
-use Rattle.seize.specs.declared.rows.settle.Settling.{Settling}
-use Rattle.seize.specs.declared.rows.settle.Settling.TheVariants as at
-use Rattle.seize.specs.Settle.{plan_at}
-use Rattle.seize.specs.Law.{Effect, is_open}
-use Rattle.seize.specs.World.{settle_effects}
+use Rattle.seize_moves.specs.Given.SeizeWordsDeclared.at.At.{At}
+use Rattle.seize_moves.specs.Given.SeizeWordsOp.{Op, Out, Load, Store, Swap, Add, Or, Exchange, Make, Take, Rewrite, Room, Found, Stored, Exchanged, Made, Taken, Roomed}
+use Rattle.seize_moves.specs.Given.SeizeWordsMem.{Mem, value_at, word_at, with_word, with_block, Can, Took, Gives, after}
+use Rattle.seize_moves.specs.Given.SeizeWordsPlan.{Plan, Turn, Do, May, Steps, plan_as}
+use Rattle.seize_moves.specs.Given.SeizeDeclared.rows.settle.Settle.{Settle}
+use Rattle.seize_moves.specs.Given.SeizeDeclared.rows.settle.Settling.{Settling}
+use Rattle.seize_moves.specs.Given.SeizeDeclared.rows.settle.Settling.TheVariants as at
+use Rattle.seize_moves.specs.Given.SeizeSettle.{plan_at}
+use Rattle.seize_moves.specs.Given.SeizeLaw.{Effect, is_open}
+use Rattle.seize_moves.specs.Given.SeizeWorld.{settle_effects}
 use Rattle.seize_moves.proofs.Moves.State.Ghost.{Head}
 use Rattle.seize_moves.proofs.Memory.Words.Named.{taken_one}
 use Rattle.seize_moves.proofs.Memory.Words.View.{list_in}

@@ -2,15 +2,15 @@
 use Rattle.std.specs.Prelude.{Option, Some, None, is_some, if◌then◌else◌}
 use Rattle.std.proofs.Common.{◌≡◌, ℕ, ◌+◌, ◌<◌, ◌*◌, Bool, true, false, cond, eqb, List, [], ◌∷◌, length, refl, arith, subst, sym, ap, ◌∙◌, eqb-true}
 use Rattle.std.proofs.lemmas.Bool.{eqb-false}
-use Rattle.seize_words.specs.declared.at.At.TheVariants.{Word}
-use Rattle.seize_words.specs.OneMemory.Mem.{value_at}
-use Rattle.seize.specs.declared.states.TheConstants.{IDLE, ACTIVE, LAST_SLOT}
-use Rattle.seize.specs.declared.rows.register.Registering.TheVariants as registering
-use Rattle.seize.specs.Settle.{retiring, flushing}
-use Rattle.seize.specs.Leave.{leaving}
-use Rattle.seize.specs.Defer.{deferring}
-use Rattle.seize.specs.Law.{Effect, Deferred, is_open, holds}
-use Rattle.seize.specs.World.{World, Row, Rests, Registers, Enters, Settles, Leaves, Defers, Frees, Use, Vacant, Outside, Inside, Changing, Hand, Cutting, Handed, Request, Register', Enter', Leave', LeaveOwned, Refresh, Unregister', Retire, Flush, Defer', Begins, IsTaken, IsInside, IsNotLeft, one_more, with_at, with_row, with_use, with_hand, with_effect, MayCut}
+use Rattle.seize_moves.specs.Given.SeizeWordsDeclared.at.At.TheVariants.{Word}
+use Rattle.seize_moves.specs.Given.SeizeWordsMem.{value_at}
+use Rattle.seize_moves.specs.Given.SeizeDeclared.states.TheConstants.{IDLE, ACTIVE, LAST_SLOT}
+use Rattle.seize_moves.specs.Given.SeizeDeclared.rows.register.Registering.TheVariants as registering
+use Rattle.seize_moves.specs.Given.SeizeSettle.{retiring, flushing}
+use Rattle.seize_moves.specs.Given.SeizeLeave.{leaving}
+use Rattle.seize_moves.specs.Given.SeizeDefer.{deferring}
+use Rattle.seize_moves.specs.Given.SeizeLaw.{Effect, Deferred, is_open, holds}
+use Rattle.seize_moves.specs.Given.SeizeWorld.{World, Row, Rests, Registers, Enters, Settles, Leaves, Defers, Frees, Use, Vacant, Outside, Inside, Changing, Hand, Cutting, Handed, Request, Register', Enter', Leave', LeaveOwned, Refresh, Unregister', Retire, Flush, Defer', Begins, IsTaken, IsInside, IsNotLeft, one_more, with_at, with_row, with_use, with_hand, with_effect, MayCut}
 use Rattle.seize_moves.proofs.Moves.State.Ghost.{put, Head, Idle, Active, Life, IsLinked, IsUnlinked, IsPending, IsDeferring, IsLeft, State, emptied, is_never}
 use Rattle.seize_moves.proofs.Moves.State.Moves.{begins_retire, begins_call, begins_defer}
 use Rattle.seize_moves.proofs.Moves.Moves.Blocks.{begins_retire_moves, begins_defer_moves}

@@ -2,11 +2,11 @@
 use Rattle.std.specs.Prelude.{Option, Some, None, ◌++◌, max}
 use Rattle.std.proofs.Common.{◌≡◌, ℕ, zero, suc, ◌+◌, ◌-◌, ◌*◌, ◌^◌, ◌<◌, ◌≤◌, Bool, true, false, cond, eqb, List, [], ◌∷◌, length, refl, arith, subst, sym, ap, ◌∙◌, eqb-true, inl, inr}
 use Rattle.std.proofs.lemmas.Bool.{cases_lt, eqb-false}
-use Rattle.seize_words.specs.declared.at.At.TheVariants as name
-use Rattle.seize_words.specs.OneMemory.Mem.{word_at}
-use Rattle.seize.specs.declared.states.TheConstants.{HEAD, LAST_SLOT}
-use Rattle.seize.specs.Law.{Effect, is_open, is_retired}
-use Rattle.seize.specs.World.{World, Row, Rests, Use, Vacant, Outside, Inside, Changing, at_start, IsOutside, times, SlotsTaken, GarbageIsBounded}
+use Rattle.seize_moves.specs.Given.SeizeWordsDeclared.at.At.TheVariants as name
+use Rattle.seize_moves.specs.Given.SeizeWordsMem.{word_at}
+use Rattle.seize_moves.specs.Given.SeizeDeclared.states.TheConstants.{HEAD, LAST_SLOT}
+use Rattle.seize_moves.specs.Given.SeizeLaw.{Effect, is_open, is_retired}
+use Rattle.seize_moves.specs.Given.SeizeWorld.{World, Row, Rests, Use, Vacant, Outside, Inside, Changing, at_start, IsOutside, times, SlotsTaken, GarbageIsBounded}
 use Rattle.seize_moves.specs.Waiting.Held.{same, count}
 use Rattle.seize_moves.proofs.Waiting.Counts.{count-append}
 use Rattle.seize_moves.proofs.Moves.State.Ghost.{State, Head, Never, Free, Idle, Active, emptied, is_active, is_never}

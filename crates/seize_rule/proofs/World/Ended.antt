@@ -2,13 +2,13 @@
 use Rattle.std.specs.Prelude.{Option, Some, None, IsSome, is_some, if◌then◌else◌}
 use Rattle.std.proofs.Common.{◌≡◌, ℕ, Bool, true, false, cond, eqb, List, [], ◌∷◌, length, refl, arith, subst, sym, ap, ◌∙◌, eqb-true}
 use Rattle.std.proofs.lemmas.Bool.{eq-eqb}
-use Rattle.seize.specs.World.{World, Hand, Cutting, LeftTo, NoBlock, with_hand, with_effect, all_left_to, IsOnto, MayClear}
-use Rattle.seize.specs.Further.{ListFrom, FurtherFrom, FurtherAre}
-use Rattle.seize.specs.Law.{Effect, LeftOver, Dropped, is_orphan}
-use Rattle.seize.specs.WaitingSets.{is_one_of}
-use Rattle.seize.specs.declared.states.TheConstants.{NEXT}
-use Rattle.seize_words.specs.OneMemory.Mem.{Mem, value_at, word_at, with_word, with_block}
-use Rattle.seize_words.specs.declared.at.At.TheVariants.{Entry, Word}
+use Rattle.seize_moves.specs.Given.SeizeWorld.{World, Hand, Cutting, LeftTo, NoBlock, with_hand, with_effect, all_left_to, IsOnto, MayClear}
+use Rattle.seize_moves.specs.Given.SeizeFurther.{ListFrom, FurtherFrom, FurtherAre}
+use Rattle.seize_moves.specs.Given.SeizeLaw.{Effect, LeftOver, Dropped, is_orphan}
+use Rattle.seize_moves.specs.Given.SeizeWaitingSets.{is_one_of}
+use Rattle.seize_moves.specs.Given.SeizeDeclared.states.TheConstants.{NEXT}
+use Rattle.seize_moves.specs.Given.SeizeWordsMem.{Mem, value_at, word_at, with_word, with_block}
+use Rattle.seize_moves.specs.Given.SeizeWordsDeclared.at.At.TheVariants.{Entry, Word}
 use Rattle.seize_moves.specs.Waiting.Held.{count}
 use Rattle.seize_moves.proofs.Waiting.Counts.{none_counted}
 use Rattle.seize_moves.proofs.Moves.State.Ghost.{State, Life, IsUnlinked, IsDeferring, IsDeferred, IsPending, IsLeft, is_deferred}

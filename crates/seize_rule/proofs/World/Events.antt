@@ -2,15 +2,15 @@
 use Rattle.std.specs.Prelude.{Option, Some, None, IsSome, Ok, Err, ◌%◌, ◌^◌, bit_or, slice_get, slice_set, slice_index_or, if◌then◌else◌}
 use Rattle.std.proofs.Common.{◌≡◌, ℕ, zero, suc, ◌+◌, ◌-◌, ◌<◌, false, List, [], ◌∷◌, length, inr, refl, arith, subst, sym, ap, ◌∙◌}
 use Rattle.std.proofs.lemmas.Bool.{ne_eqb, eq-eqb}
-use Rattle.seize_words.specs.OneMemory.Mem.{Mem, value_at, value_in, word_at, word_in, block_of, with_word, with_word_in, with_block, after, Took}
-use Rattle.seize_words.specs.declared.at.At.{At}
-use Rattle.seize_words.specs.declared.at.At.TheVariants.{Root, Used, Slot, Entry, Word}
-use Rattle.seize_words.specs.declared.block.Block.{Block}
-use Rattle.seize_words.specs.OneMemory.Op.{Op, Out, Load, Store, Swap, Add, Or, Exchange, Make, Take, Rewrite, Room, Found, Stored, Exchanged, Made, Taken, Roomed}
-use Rattle.seize_words.proofs.OneMemory.OneOwner.AfterWrites.{placed}
-use Rattle.seize.specs.World.{World, Making, NoBlock, with_hand, with_effect, IsOwn, IsOwnOp, HasListWord, made_by, Happens, Makes, Drops, Links, Parts, Unlinks, Rewrites, Operates, Chooses, Ends, LeavesOver, Relinks, Clears}
-use Rattle.seize.specs.Law.{Dropped, Effect, holds}
-use Rattle.seize.specs.Law as law
+use Rattle.seize_moves.specs.Given.SeizeWordsMem.{Mem, value_at, value_in, word_at, word_in, block_of, with_word, with_word_in, with_block, after, Took}
+use Rattle.seize_moves.specs.Given.SeizeWordsDeclared.at.At.{At}
+use Rattle.seize_moves.specs.Given.SeizeWordsDeclared.at.At.TheVariants.{Root, Used, Slot, Entry, Word}
+use Rattle.seize_moves.specs.Given.SeizeWordsDeclared.block.Block.{Block}
+use Rattle.seize_moves.specs.Given.SeizeWordsOp.{Op, Out, Load, Store, Swap, Add, Or, Exchange, Make, Take, Rewrite, Room, Found, Stored, Exchanged, Made, Taken, Roomed}
+use Rattle.seize_moves.proofs.Given.SeizeWordsOneOwner.AfterWrites.{placed}
+use Rattle.seize_moves.specs.Given.SeizeWorld.{World, Making, NoBlock, with_hand, with_effect, IsOwn, IsOwnOp, HasListWord, made_by, Happens, Makes, Drops, Links, Parts, Unlinks, Rewrites, Operates, Chooses, Ends, LeavesOver, Relinks, Clears}
+use Rattle.seize_moves.specs.Given.SeizeLaw.{Dropped, Effect, holds}
+use Rattle.seize_moves.specs.Given.SeizeLaw as law
 use Rattle.seize_moves.proofs.Moves.Moves.Blocks.{never_held}
 use Rattle.seize_moves.proofs.Moves.Sets.Unmoved.{unmoved_same}
 use Rattle.seize_rule.proofs.World.Good.{Good, StillGood}

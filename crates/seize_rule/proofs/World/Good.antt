@@ -2,9 +2,9 @@
 use Rattle.std.specs.Prelude.{Option, if◌then◌else◌, ◌++◌}
 use Rattle.std.proofs.Common.{◌≡◌, ℕ, ◌+◌, ◌≤◌, Bool, true, false, eqb, List, length, refl, subst, sym, eqb-true}
 use Rattle.std.proofs.lemmas.Bool.{eqb-false, eq-eqb}
-use Rattle.seize_words.specs.OneMemory.Mem.{Mem}
-use Rattle.seize.specs.Law.{Effect}
-use Rattle.seize.specs.World.{World, Row, Use, with_at, handed_by}
+use Rattle.seize_moves.specs.Given.SeizeWordsMem.{Mem}
+use Rattle.seize_moves.specs.Given.SeizeLaw.{Effect}
+use Rattle.seize_moves.specs.Given.SeizeWorld.{World, Row, Use, with_at, handed_by}
 use Rattle.seize_moves.proofs.Moves.State.Ghost.{State, emptied}
 use Rattle.seize_moves.proofs.Moves.State.Rule.{Inv, Moved, Pending}
 use Rattle.seize_moves.proofs.Memory.Words.View.{view}

@@ -1,14 +1,14 @@
 -- The world stays good whatever happens, and each row may take its next step.
 use Rattle.std.specs.Prelude.{Option}
 use Rattle.std.proofs.Common.{◌≡◌, ℕ, ◌+◌, Bool, true, false, List, [], ◌∷◌, length, refl, subst, sym, ap}
-use Rattle.seize_words.specs.OneMemory.Mem.{Mem, Took, value_at}
-use Rattle.seize_words.specs.OneMemory.Plan.{Steps}
-use Rattle.seize.specs.declared.states.TheConstants.{LAST_SLOT}
-use Rattle.seize.specs.declared.rows.settle.Settle.{Settle}
-use Rattle.seize.specs.declared.rows.settle.Settled.{Settled}
-use Rattle.seize.specs.Settle.{settle_plan}
-use Rattle.seize.specs.Law.{Effect, IsSound}
-use Rattle.seize.specs.World.{World, Hand, Row, Rests, Registers, Enters, Settles, Leaves, Defers, Frees, Event, Begin, Step, Makes, Drops, Links, Parts, Unlinks, Rewrites, Operates, Chooses, Happens, Runs, Steps', MayStep, RowsAreSound, RowsMayStep, at_start, settles_on, LeavesOver, Relinks, Clears, Ends}
+use Rattle.seize_moves.specs.Given.SeizeWordsMem.{Mem, Took, value_at}
+use Rattle.seize_moves.specs.Given.SeizeWordsPlan.{Steps}
+use Rattle.seize_moves.specs.Given.SeizeDeclared.states.TheConstants.{LAST_SLOT}
+use Rattle.seize_moves.specs.Given.SeizeDeclared.rows.settle.Settle.{Settle}
+use Rattle.seize_moves.specs.Given.SeizeDeclared.rows.settle.Settled.{Settled}
+use Rattle.seize_moves.specs.Given.SeizeSettle.{settle_plan}
+use Rattle.seize_moves.specs.Given.SeizeLaw.{Effect, IsSound}
+use Rattle.seize_moves.specs.Given.SeizeWorld.{World, Hand, Row, Rests, Registers, Enters, Settles, Leaves, Defers, Frees, Event, Begin, Step, Makes, Drops, Links, Parts, Unlinks, Rewrites, Operates, Chooses, Happens, Runs, Steps', MayStep, RowsAreSound, RowsMayStep, at_start, settles_on, LeavesOver, Relinks, Clears, Ends}
 use Rattle.seize_moves.proofs.Memory.Words.View.{view}
 use Rattle.seize_rule.proofs.Points.Known.{FitsAt, bare}
 use Rattle.seize_rule.proofs.Rows.Known.{FitsRow}

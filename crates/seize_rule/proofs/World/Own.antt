@@ -1,10 +1,10 @@
 -- Operations of users on words of their own, values rewritten, and choices of numbers: the world stays good.
 use Rattle.std.specs.Prelude.{Option, Some, IsSome, ◌++◌}
 use Rattle.std.proofs.Common.{◌≡◌, ℕ, ◌≤◌, [], ◌∷◌, length, refl, arith, subst, sym, ap, ◌∙◌}
-use Rattle.seize_words.specs.OneMemory.Mem.{Mem, value_at, word_at, with_word, with_value}
-use Rattle.seize_words.specs.declared.at.At.{At}
-use Rattle.seize_words.specs.declared.at.At.TheVariants.{Root, Used, Slot, Entry, Word}
-use Rattle.seize.specs.World.{World, IsOwn}
+use Rattle.seize_moves.specs.Given.SeizeWordsMem.{Mem, value_at, word_at, with_word, with_value}
+use Rattle.seize_moves.specs.Given.SeizeWordsDeclared.at.At.{At}
+use Rattle.seize_moves.specs.Given.SeizeWordsDeclared.at.At.TheVariants.{Root, Used, Slot, Entry, Word}
+use Rattle.seize_moves.specs.Given.SeizeWorld.{World, IsOwn}
 use Rattle.seize_moves.proofs.Moves.State.Together.{stays}
 use Rattle.seize_moves.proofs.Memory.Words.Named.{wrote}
 use Rattle.seize_moves.proofs.Memory.Words.View.{View, view, list_in, view_root, view_used, view_own}

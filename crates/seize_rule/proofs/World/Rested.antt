@@ -2,10 +2,10 @@
 use Rattle.std.specs.Prelude.{Option}
 use Rattle.std.proofs.Common.{◌≡◌, ℕ, zero, suc, ◌+◌, List, [], ◌∷◌, inl, inr, refl, subst, sym, ap, ◌∙◌}
 use Rattle.std.proofs.lemmas.Bool.{cases_eq}
-use Rattle.seize.specs.declared.states.TheConstants.{LAST_SLOT}
-use Rattle.seize.specs.WaitingSets.{Change}
-use Rattle.seize.specs.World.{World, Row, Rests, Event, Begin, Step, Happens, Steps', Begins, Request, at_start}
-use Rattle.seize.specs.Sequence.{Turn, Whole, Between, IsBetween, RunsOn, Calls, TakesTurns}
+use Rattle.seize_moves.specs.Given.SeizeDeclared.states.TheConstants.{LAST_SLOT}
+use Rattle.seize_moves.specs.Given.SeizeWaitingSets.{Change}
+use Rattle.seize_moves.specs.Given.SeizeWorld.{World, Row, Rests, Event, Begin, Step, Happens, Steps', Begins, Request, at_start}
+use Rattle.seize_moves.specs.Given.SeizeSequence.{Turn, Whole, Between, IsBetween, RunsOn, Calls, TakesTurns}
 use Rattle.seize_rule.proofs.World.Good.{Good}
 use Rattle.seize_rule.proofs.Rows.Sizes.{AllSized, Sized}
 use Rattle.seize_rule.proofs.Rows.SizesKept.{happens_sized}

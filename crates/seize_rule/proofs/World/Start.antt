@@ -1,11 +1,11 @@
 -- The world at its start, and the words that rows may rely on.
 use Rattle.std.specs.Prelude.{Option, None, is_some, replicate}
 use Rattle.std.proofs.Common.{◌≡◌, ℕ, ◌+◌, ◌<◌, true, false, [], length, refl, arith, ap, sym, subst, ◌∙◌}
-use Rattle.seize_words.specs.OneMemory.Mem.{Mem, Can, Took, value_at, value_in}
-use Rattle.seize_words.specs.OneMemory.Plan.{May}
-use Rattle.seize.specs.declared.rows.settle.Settle.{Settle}
-use Rattle.seize.specs.Settle.{settle_plan}
-use Rattle.seize.specs.World.{World, Row, Settles, at_start}
+use Rattle.seize_moves.specs.Given.SeizeWordsMem.{Mem, Can, Took, value_at, value_in}
+use Rattle.seize_moves.specs.Given.SeizeWordsPlan.{May}
+use Rattle.seize_moves.specs.Given.SeizeDeclared.rows.settle.Settle.{Settle}
+use Rattle.seize_moves.specs.Given.SeizeSettle.{settle_plan}
+use Rattle.seize_moves.specs.Given.SeizeWorld.{World, Row, Settles, at_start}
 use Rattle.seize_moves.proofs.Moves.State.Ghost.{start, is_never}
 use Rattle.seize_moves.proofs.Moves.State.Together.{rule_start, pending_start}
 use Rattle.seize_moves.proofs.Memory.Words.View.{view, list_in}

@@ -1,11 +1,11 @@
 -- What users do beside the rows: blocks are made, dropped, linked and unlinked. The world stays good.
 use Rattle.std.specs.Prelude.{Option, Some, None, is_some, IsSome, Ok, if◌then◌else◌}
 use Rattle.std.proofs.Common.{◌≡◌, ℕ, ◌+◌, ◌<◌, ◌≤◌, ◌^◌, Bool, true, false, cond, eqb, List, [], ◌∷◌, length, refl, arith, subst, sym, ap, ◌∙◌, eqb-true}
-use Rattle.seize_words.specs.OneMemory.Mem.{Mem, value_at, with_block, after, IsFreeNumber}
-use Rattle.seize_words.specs.OneMemory.Op.{Make, Made}
-use Rattle.seize.specs.Law as law
-use Rattle.seize.specs.Law.{Effect, Linked, Unlinked, Dropped, Ended, is_open}
-use Rattle.seize.specs.World.{World, Hand, NoBlock, Making, InUse, Parting, Cutting, MayClear, with_at, with_hand, with_effect, MayCut}
+use Rattle.seize_moves.specs.Given.SeizeWordsMem.{Mem, value_at, with_block, after, IsFreeNumber}
+use Rattle.seize_moves.specs.Given.SeizeWordsOp.{Make, Made}
+use Rattle.seize_moves.specs.Given.SeizeLaw as law
+use Rattle.seize_moves.specs.Given.SeizeLaw.{Effect, Linked, Unlinked, Dropped, Ended, is_open}
+use Rattle.seize_moves.specs.Given.SeizeWorld.{World, Hand, NoBlock, Making, InUse, Parting, Cutting, MayClear, with_at, with_hand, with_effect, MayCut}
 use Rattle.seize_moves.proofs.Moves.State.Ghost.{put, State, Life, IsFree, IsOwned, IsLinked, IsUnlinked, of_dropper, of_row, emptied}
 use Rattle.seize_moves.proofs.Moves.State.Together.{stays}
 use Rattle.seize_moves.proofs.Moves.State.Rule.{Inv, Keeps, Pending, same_row, row_of, same_slot, slot_of, same_batch, batch_of, retirals, open_length}

@@ -2,11 +2,11 @@
 use Rattle.std.specs.Prelude.{Option, Some, None, IsSome, Ok, Err, bit_or, if◌then◌else◌}
 use Rattle.std.proofs.Common.{◌≡◌, ℕ, ◌+◌, ◌%◌, ◌^◌, cond, eqb, refl, ap, ◌∙◌}
 use Rattle.std.proofs.lemmas.Bool.{ne_eqb}
-use Rattle.seize_words.specs.declared.at.At.{At}
-use Rattle.seize_words.specs.OneMemory.Op.{Op, Out, Load, Store, Swap, Add, Or, Exchange, Make, Take, Rewrite, Room, Found, Stored, Exchanged, Made, Taken, Roomed}
-use Rattle.seize_words.specs.OneMemory.Mem.{Mem, Took, after, value_at, word_at, with_word}
-use Rattle.seize_words.proofs.OneMemory.OneOwner.AfterWrites.{value_at-with_word, value_at-with_value}
-use Rattle.seize.specs.World.{IsOwn, IsOwnOp}
+use Rattle.seize_moves.specs.Given.SeizeWordsDeclared.at.At.{At}
+use Rattle.seize_moves.specs.Given.SeizeWordsOp.{Op, Out, Load, Store, Swap, Add, Or, Exchange, Make, Take, Rewrite, Room, Found, Stored, Exchanged, Made, Taken, Roomed}
+use Rattle.seize_moves.specs.Given.SeizeWordsMem.{Mem, Took, after, value_at, word_at, with_word}
+use Rattle.seize_moves.proofs.Given.SeizeWordsOneOwner.AfterWrites.{value_at-with_word, value_at-with_value}
+use Rattle.seize_moves.specs.Given.SeizeWorld.{IsOwn, IsOwnOp}
 use Rattle.seize_moves.proofs.Memory.Words.Named.{made_one, taken_one}
 use Rattle.seize_rule.proofs.World.Events.{missing}
 

@@ -24,13 +24,7 @@ impl<'a, K: Eq + Hash, V, S: Hashes<K>> Ahead<'a, K, V, S> {
 
     /// Removes the pair of its call's key, and ends the call, as far as straight code goes.
     #[inline(always)]
-    pub(crate) fn removes(
-        &mut self,
-        hasher: &S,
-        setting: Setting,
-        hash: u64,
-        key: &K,
-    ) -> RemovalAt
+    pub(crate) fn removes(&mut self, hasher: &S, setting: Setting, hash: u64, key: &K) -> RemovalAt
         requires ahead { IsAhead K.eq S.hash hasher.now (seeking setting hash key.now untried at.Roots) self.old.seat.now.view }
         ensures taken { HasTakenOut K.eq S.hash hasher.now setting hash key.now result self.old.seat.now.view self.new.seat.now.view }
         ensures same { IsSameAhead self.old self.new }

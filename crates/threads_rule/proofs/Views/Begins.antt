@@ -9,7 +9,7 @@ use Rattle.papaya_raw.specs.Machine.{machine_asked, machine_replied}
 use Rattle.papaya_raw.specs.declared.machines.asking.MachineReply.{MachineReply}
 use Rattle.papaya_raw.specs.declared.machines.machine.Machine.{Machine}
 use Rattle.many_acts.specs.Given.CallersRows.{IsRowOn}
-use Rattle.many_calls.specs.Together.{UnderWay, OnKey, ForRoom, Counting, OverAll}
+use Rattle.many_acts.specs.Given.CallersTogether.{UnderWay, OnKey, ForRoom, Counting, OverAll}
 use Rattle.seize.specs.World.{Row, Rests, Use, Vacant, Outside, Inside, Changing, IsInside}
 use Rattle.seize_views.specs.Views.Rows.{row_of}
 use Rattle.many_acts.specs.Given.FinishesMachines.{machine_of}

@@ -10,7 +10,7 @@ use Rattle.many_acts.specs.Given.CallersRows.{IsRowOn}
 use Rattle.seize_model.proofs.Given.SeizeMovesState.Ghost.{emptied}
 use Rattle.seize_model.proofs.Given.SeizeRuleRows.Known.{works_on}
 use Rattle.seize_model.proofs.Given.SeizeRuleRows.Teams.{UseFits, shares, is_shared}
-use Rattle.many_calls.proofs.Together.Came.{came_reached}
+use Rattle.many_acts.proofs.Given.CallersTogether.Came.{came_reached}
 use Rattle.many_acts.specs.Given.ScenesScene.{Scene}
 use Rattle.seize_model.proofs.Alone.Histories.Reached.{Reached}
 use Rattle.seize_seats.specs.Seats.Errands.{IsUnlent}

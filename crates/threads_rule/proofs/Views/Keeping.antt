@@ -5,7 +5,7 @@ use Rattle.seize_words.specs.OneMemory.Mem.{Mem, value_at}
 use Rattle.seize.specs.Law.{holds}
 use Rattle.map_tables.specs.Nodes.{deferred_word}
 use Rattle.map_tables.specs.declared.node.Node.{Node}
-use Rattle.many_calls.proofs.Together.Came.{came_reached}
+use Rattle.many_acts.proofs.Given.CallersTogether.Came.{came_reached}
 use Rattle.many_acts.specs.Given.ScenesScene.{Scene}
 use Rattle.seize_model.proofs.Alone.Histories.NotTaken.{IsHeld as IsHeldBy, kept_there}
 use Rattle.seize_views.specs.declared.view.Has.TheVariants.{Nothing as NoBlock}

@@ -6,9 +6,9 @@ use Rattle.seize.specs.World.{Row, Event, MayStep, Handed}
 use Rattle.seize.specs.declared.rows.settle.Settle.{Settle}
 use Rattle.map_tables.specs.Nodes.{deferred_word}
 use Rattle.map_tables.specs.declared.node.Node.{Node}
-use Rattle.many_calls.specs.Together.{CameAbout}
+use Rattle.many_acts.specs.Given.CallersTogether.{CameAbout}
 use Rattle.seize_model.proofs.Given.SeizeRuleWorld.Kept.{rows_may}
-use Rattle.many_calls.proofs.Together.Came.{came_reached}
+use Rattle.many_acts.proofs.Given.CallersTogether.Came.{came_reached}
 use Rattle.many_acts.specs.Given.ScenesScene.{Scene}
 use Rattle.seize_acts.specs.Bounds.Bounds.{HasCounted, HasTried, IsAloneOnSlot, Meanwhile}
 use Rattle.seize_acts.proofs.Bounds.Bounds.Passing.{still_within}

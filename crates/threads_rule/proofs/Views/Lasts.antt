@@ -6,9 +6,9 @@ use Rattle.seize.specs.World.{Row, Use, Handed, MayStep}
 use Rattle.map_tables.specs.Nodes.{deferred_word}
 use Rattle.map_tables.specs.declared.node.Node.{Node}
 use Rattle.papaya_raw.specs.declared.machines.machine.Machine.{Machine}
-use Rattle.many_calls.specs.Together.{CameAbout}
+use Rattle.many_acts.specs.Given.CallersTogether.{CameAbout}
 use Rattle.seize_model.proofs.Given.SeizeRuleWorld.Kept.{rows_may}
-use Rattle.many_calls.proofs.Together.Came.{came_reached}
+use Rattle.many_acts.proofs.Given.CallersTogether.Came.{came_reached}
 use Rattle.many_acts.specs.Given.ScenesScene.{Scene, slot_of}
 use Rattle.many_acts.specs.Acts.Leads.{AllStand}
 use Rattle.seize_views.proofs.Views.Reclaims.{reclaiming_there}

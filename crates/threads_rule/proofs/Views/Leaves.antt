@@ -7,7 +7,7 @@ use Rattle.seize.specs.World.{Row, Use, Vacant, Outside, Inside, Changing, IsIns
 use Rattle.map_tables.specs.Nodes.{deferred_word}
 use Rattle.map_tables.specs.declared.node.Node.{Node}
 use Rattle.many_acts.specs.Given.CallersRows.{IsUsedAlike, IsRowOn}
-use Rattle.many_calls.specs.Together.{UnderWay}
+use Rattle.many_acts.specs.Given.CallersTogether.{UnderWay}
 use Rattle.many_acts.specs.Given.FinishesMaps.{Standing, with_call}
 use Rattle.many_acts.specs.Given.ScenesScene.{Scene}
 use Rattle.seize_acts.specs.Acts.Stays.{how_many, is_end_of_owner}

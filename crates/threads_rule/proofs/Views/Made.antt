@@ -15,9 +15,9 @@ use Rattle.papaya_raw.specs.declared.machines.machine.Machine.{Machine}
 use Rattle.papaya_raw.specs.declared.machines.progress.Progress.{Progress}
 use Rattle.map_straight.specs.Given.RuleInWorld.{IsHeldBy, PreservesBlocks}
 use Rattle.map_straight.proofs.Given.RuleWorld.OthersSpared.{held_once, keeps_same, keeps_then, keeps_handed}
-use Rattle.many_calls.specs.Together.{UnderWay, OnKey, ForRoom, Counting, OverAll, IsOneStep, HandsOver}
+use Rattle.many_acts.specs.Given.CallersTogether.{UnderWay, OnKey, ForRoom, Counting, OverAll, IsOneStep, HandsOver}
 use Rattle.many_acts.proofs.Given.CallersRows.Beside.{row_keeps_blocks}
-use Rattle.many_calls.proofs.Together.Came.{came_reached}
+use Rattle.many_acts.proofs.Given.CallersTogether.Came.{came_reached}
 use Rattle.many_acts.specs.Given.FinishesMachines.{MachineStepsWithEndings, DidOfKind}
 use Rattle.many_acts.specs.Given.FinishesMakings.{Beginning}
 use Rattle.many_acts.specs.Given.FinishesMaps.{Standing}

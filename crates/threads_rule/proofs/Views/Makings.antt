@@ -21,9 +21,9 @@ use Rattle.many_acts.specs.Given.CallersRows.{IsUsedAlike}
 use Rattle.many_acts.specs.Given.FinishesEndings.{Finishing, MakingStepsWithEndings}
 use Rattle.many_acts.specs.Given.FinishesMakings.{Beginning}
 use Rattle.many_acts.specs.Given.FinishesMaps.{Standing}
-use Rattle.many_calls.proofs.Together.At.{at_same, at_other}
-use Rattle.many_calls.proofs.Together.Came.{came_reached}
-use Rattle.many_calls.proofs.Together.Users.{events_rows, events_uses}
+use Rattle.many_acts.proofs.Given.CallersTogether.At.{at_same, at_other}
+use Rattle.many_acts.proofs.Given.CallersTogether.Came.{came_reached}
+use Rattle.many_acts.proofs.Given.CallersTogether.Users.{events_rows, events_uses}
 use Rattle.many_acts.specs.Given.ScenesMaking.{making_begun}
 use Rattle.many_acts.specs.Given.ScenesScene.{Scene, slot_of}
 use Rattle.many_acts.specs.Acts.Acts.{Act, BeginsMaking, StepsMaking}

@@ -6,7 +6,7 @@ use Rattle.seize_words.specs.OneMemory.Mem.{Mem}
 use Rattle.seize.specs.World.{Use, Inside, IsInside}
 use Rattle.map_tables.specs.declared.node.Node.{Node}
 use Rattle.papaya_raw.specs.declared.machines.machine.Machine.{Machine}
-use Rattle.many_calls.specs.Together.{CameAbout}
+use Rattle.many_acts.specs.Given.CallersTogether.{CameAbout}
 use Rattle.many_acts.specs.Given.ScenesScene.{Scene, slot_of}
 use Rattle.many_acts.specs.Acts.Acts.{Act, Answer}
 use Rattle.many_acts.specs.Acts.Doings.{Does, MayDo}

@@ -10,14 +10,14 @@ use Rattle.papaya_raw.specs.declared.machines.machine.Machine.{Machine}
 use Rattle.papaya_raw.specs.declared.machines.progress.Progress.{Progress}
 use Rattle.papaya_raw.specs.declared.machines.progress.Progress.TheVariants as progress
 use Rattle.many_acts.specs.Given.CallersRows.{IsRowOn}
-use Rattle.many_calls.specs.Together.{UnderWay}
+use Rattle.many_acts.specs.Given.CallersTogether.{UnderWay}
 use Rattle.many_acts.specs.Given.FinishesEndings.{Finishing}
 use Rattle.many_acts.specs.Given.FinishesMachines.{machine_of, MachineStepsWithEndings, ContinuesAs}
 use Rattle.many_acts.specs.Given.FinishesMakings.{Beginning}
 use Rattle.many_acts.specs.Given.FinishesMaps.{Standing, IsSameMap, with_call}
 use Rattle.many_acts.specs.Given.ScenesScene.{Scene, slot_of}
 use Rattle.many_acts.specs.Acts.Leads.{AllStand}
-use Rattle.many_calls.proofs.Together.Came.{came_reached}
+use Rattle.many_acts.proofs.Given.CallersTogether.Came.{came_reached}
 use Rattle.seize_model.proofs.Alone.Histories.Reached.{Reached}
 use Rattle.seize_views.specs.Views.Rows.{row_of, use_of}
 use Rattle.seize_views.specs.declared.view.SlotView.{SlotView}

@@ -19,9 +19,9 @@ use Rattle.papaya_raw.specs.declared.machines.machine.Machine.{Machine}
 use Rattle.papaya_raw.specs.declared.machines.progress.Progress.{Progress}
 use Rattle.many_acts.specs.Acts.Acts.{Wanted, Get, begun}
 use Rattle.many_acts.specs.Given.ScenesScene.{Scene, slot_of}
-use Rattle.many_calls.specs.Pairs.{Given, Begun, IsTold, with_reply, HandsBack as HandsGiven}
-use Rattle.many_calls.specs.Together.{CallOnKey, UnderWay, OnKey, ForRoom, Counting as Counts, OverAll, next_of, next_for_room, next_of_counting, next_over_all}
-use Rattle.many_calls.specs.OverAll.{CallOverAll}
+use Rattle.many_acts.specs.Given.CallersPairs.{Given, Begun, IsTold, with_reply, HandsBack as HandsGiven}
+use Rattle.many_acts.specs.Given.CallersTogether.{CallOnKey, UnderWay, OnKey, ForRoom, Counting as Counts, OverAll, next_of, next_for_room, next_of_counting, next_over_all}
+use Rattle.many_acts.specs.Given.CallersOverAll.{CallOverAll}
 use Rattle.many_acts.specs.Given.CallersRooms.{CallForRoom}
 use Rattle.many_acts.specs.Given.FinishesMachines.{machine_of, DidOfKind, MachineStepsWithEndings, RepliedOfKind}
 use Rattle.many_acts.specs.Given.FinishesMaps.{Standing}

@@ -8,7 +8,7 @@ use Rattle.seize.specs.World.{World, Rests, Use, Outside, Inside, Begin, Request
 use Rattle.map_tables.specs.Nodes.{deferred_word}
 use Rattle.map_tables.specs.declared.node.Node.{Node}
 use Rattle.many_acts.specs.Given.CallersRows.{IsUsedAlike}
-use Rattle.many_calls.specs.Together.{UnderWay, OnKey, ForRoom, Counting, OverAll, UnlessCounts, IsOfSlots, Closes}
+use Rattle.many_acts.specs.Given.CallersTogether.{UnderWay, OnKey, ForRoom, Counting, OverAll, UnlessCounts, IsOfSlots, Closes}
 use Rattle.many_acts.specs.Given.ScenesRows.{request_of}
 use Rattle.many_acts.specs.Given.ScenesScene.{Scene, slot_of}
 use Rattle.many_acts.specs.Given.ScenesDeclared.row.SlotCall.{SlotCall}

@@ -8,7 +8,7 @@ use Rattle.map_tables.specs.Nodes.{deferred_word}
 use Rattle.map_tables.specs.declared.node.Node.{Node}
 use Rattle.many_acts.specs.Given.CallersRows.{IsUsedAlike}
 use Rattle.seize_model.proofs.Given.SeizeRuleRows.Known.{works_on}
-use Rattle.many_calls.proofs.Together.Came.{came_reached}
+use Rattle.many_acts.proofs.Given.CallersTogether.Came.{came_reached}
 use Rattle.many_acts.specs.Given.ScenesScene.{Scene, slot_of}
 use Rattle.many_acts.specs.Acts.Acts.{StepsRow}
 use Rattle.many_acts.specs.Acts.Doings.{Does, MayDo}

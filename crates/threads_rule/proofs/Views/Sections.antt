@@ -9,7 +9,7 @@ use Rattle.map_tables.specs.declared.setting.Setting.{Setting}
 use Rattle.papaya_raw.specs.declared.machines.machine.Machine.{Machine}
 use Rattle.papaya_raw.specs.declared.machines.progress.Progress.{Progress}
 use Rattle.map_straight.specs.Given.RuleInWorld.{AllUsers}
-use Rattle.many_calls.specs.Together.{UnderWay, OnKey, ForRoom, Counting, OverAll, IsOneStep, HandsOver}
+use Rattle.many_acts.specs.Given.CallersTogether.{UnderWay, OnKey, ForRoom, Counting, OverAll, IsOneStep, HandsOver}
 use Rattle.many_acts.specs.Given.FinishesMachines.{MachineStepsWithEndings, DidOfKind}
 use Rattle.many_acts.specs.Given.FinishesMaps.{Standing}
 use Rattle.many_acts.specs.Given.ScenesScene.{Scene}

@@ -14,15 +14,15 @@ use Rattle.papaya_raw.specs.declared.machines.machine.Machine.TheVariants as kin
 use Rattle.papaya_raw.specs.declared.machines.progress.Progress.{Progress}
 use Rattle.papaya_raw.specs.declared.machines.progress.Progress.TheVariants as progress
 use Rattle.seize_words.proofs.General.{same_some}
-use Rattle.many_calls.specs.Together.{UnderWay, OnKey, ForRoom, Counting as Counts, OverAll}
-use Rattle.many_calls.specs.Given.LateFactsSweeps.{CopiesPairs}
-use Rattle.many_calls.specs.OverAll.{CallOverAll}
-use Rattle.many_calls.specs.Sights.{seen_by}
-use Rattle.many_calls.specs.Given.RuleChart.{Chart, Phase, Holds}
-use Rattle.many_calls.specs.Given.RuleWords.{Blocks, byte_of, place_word}
+use Rattle.many_acts.specs.Given.CallersTogether.{UnderWay, OnKey, ForRoom, Counting as Counts, OverAll}
+use Rattle.many_acts.specs.Given.LateFactsSweeps.{CopiesPairs}
+use Rattle.many_acts.specs.Given.CallersOverAll.{CallOverAll}
+use Rattle.many_acts.specs.Given.CallersSights.{seen_by}
+use Rattle.map_straight.specs.Given.RuleChart.{Chart, Phase, Holds}
+use Rattle.map_straight.specs.Given.RuleWords.{Blocks, byte_of, place_word}
 use Rattle.papaya_raw.specs.Progress.{of_swept}
-use Rattle.many_calls.proofs.Given.RuleWords.PlaceWords.{pair_block}
-use Rattle.many_calls.proofs.Given.RuleWords.PlacesShown.{byte_of-few}
+use Rattle.map_straight.proofs.Given.RuleWords.PlaceWords.{pair_block}
+use Rattle.map_straight.proofs.Given.RuleWords.PlacesShown.{byte_of-few}
 use Rattle.many_acts.specs.Given.FinishesEndings.{EndingsTogether}
 use Rattle.many_acts.specs.Given.FinishesMachines.{machine_of, DidOfKind, MachineStepsWithEndings}
 use Rattle.many_acts.specs.Given.FinishesMaps.{Standing}

@@ -22,20 +22,20 @@ use Rattle.papaya_raw.specs.declared.machines.call.Calling.TheVariants as at
 use Rattle.papaya_raw.specs.declared.machines.call.KeyCall.{KeyCall}
 use Rattle.map_straight.specs.Given.RuleChart.{Chart}
 use Rattle.map_straight.specs.Given.RuleWords.{Blocks}
-use Rattle.many_calls.specs.Given.PointsFactsCalls.{Change, CallingFacts}
+use Rattle.many_acts.specs.Given.PointsFactsCalls.{Change, CallingFacts}
 use Rattle.many_acts.specs.Given.PointsFactsCopies.{CopyingFacts, CopierFacts}
 use Rattle.many_acts.specs.Given.PointsFactsCopiesBlocking.{CopyingFactsBlocking, CopierFactsBlocking}
 use Rattle.many_acts.specs.Given.PointsFactsDisposes.{IsToRetire, DisposingFacts, DisposeFacts}
 use Rattle.many_acts.specs.Given.LateFactsReserves.{IsEnding, CopiesWhole, ReservingFacts}
-use Rattle.many_calls.specs.Given.LateFactsSweeps.{CopiesTable, SweepingFacts}
+use Rattle.many_acts.specs.Given.LateFactsSweeps.{CopiesTable, SweepingFacts}
 use Rattle.many_acts.specs.Given.LateLateCalls.{SupersededCalling}
 use Rattle.many_acts.specs.Given.LateLateCopies.{SupersededCopying}
 use Rattle.many_acts.specs.Given.LateLateReserves.{SupersededReserving}
-use Rattle.many_calls.specs.OverAll.{row_of_sweep}
+use Rattle.many_acts.specs.Given.CallersOverAll.{row_of_sweep}
 use Rattle.many_acts.specs.Given.CallersRooms.{row_of_room}
 use Rattle.many_acts.specs.Given.CallersRows.{row_of_disposal, row_of_copier, row_of}
-use Rattle.many_calls.specs.Sights.{seen_by}
-use Rattle.many_calls.specs.Together.{UnderWay, OnKey, ForRoom, Counting, OverAll, Together, IsAtPoint, in_slot}
+use Rattle.many_acts.specs.Given.CallersSights.{seen_by}
+use Rattle.many_acts.specs.Given.CallersTogether.{UnderWay, OnKey, ForRoom, Counting, OverAll, Together, IsAtPoint, in_slot}
 use Rattle.many_acts.specs.Given.FinishesMachines.{machine_of}
 use Rattle.many_acts.specs.Given.FinishesMaps.{Standing}
 use Rattle.many_acts.specs.Given.ScenesScene.{Scene, slot_of}

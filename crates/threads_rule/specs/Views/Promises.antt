@@ -13,7 +13,7 @@ use Rattle.papaya_raw.specs.Machine.{machine_plan}
 use Rattle.papaya_raw.specs.declared.machines.asking.MachineReply.{MachineReply}
 use Rattle.papaya_raw.specs.declared.machines.machine.Machine.{Machine}
 use Rattle.papaya_raw.specs.declared.machines.progress.Progress.{Progress}
-use Rattle.many_calls.specs.Given.PointsSteps.{AreLawful}
+use Rattle.many_acts.specs.Given.PointsSteps.{AreLawful}
 use Rattle.many_acts.specs.Acts.Acts.{Wanted}
 use Rattle.seize_seats.specs.Seats.Lendings.{VisibleTo, IsValueOf}
 use Rattle.seize_seats.specs.Seats.Errands.{TurnsUnlent}

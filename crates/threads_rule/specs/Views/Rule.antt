@@ -10,8 +10,8 @@ use Rattle.map_tables.specs.declared.node.Node.{Node}
 use Rattle.map_machines.specs.declared.new_map.NewMap.{NewMap}
 use Rattle.papaya_raw.specs.declared.machines.machine.Machine.{Machine}
 use Rattle.many_acts.specs.Given.CallersRows.{IsUsedAlike, IsRowOn}
-use Rattle.many_calls.specs.Pairs.{Given, Begun, IsTold}
-use Rattle.many_calls.specs.Together.{UnderWay, OnKey}
+use Rattle.many_acts.specs.Given.CallersPairs.{Given, Begun, IsTold}
+use Rattle.many_acts.specs.Given.CallersTogether.{UnderWay, OnKey}
 use Rattle.many_acts.specs.Given.FinishesMachines.{machine_of}
 use Rattle.many_acts.specs.Given.FinishesMakings.{Beginning}
 use Rattle.many_acts.specs.Given.FinishesMaps.{Standing}

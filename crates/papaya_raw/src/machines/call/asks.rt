@@ -1,6 +1,6 @@
 //! Where a call asks, and how it goes on by what it was told.
 ghost use Rattle.std.specs.Prelude.{◌≡◌};
-ghost use Rattle.seize.specs.Given.SeizeWordsPlan.{May, Steps};
+ghost use Rattle.map_sweeps.specs.Given.SeizeWordsPlan.{May, Steps};
 ghost use Rattle.papaya_raw.specs.CallPoints.{storing, burying, at_gap, gap_by, pair_by, asking_at, asking_of, following_made};
 ghost use Rattle.papaya_raw.specs.declared.machines.asking.Told.TheVariants.{Nothing, Own};
 ghost use Rattle.papaya_raw.specs.CallFills.{asks_at};

@@ -1,6 +1,6 @@
 //! A call helps a resize, or sees it through.
 ghost use Rattle.std.specs.Prelude.{◌≡◌};
-ghost use Rattle.seize.specs.Given.SeizeWordsPlan.{May, Steps};
+ghost use Rattle.map_sweeps.specs.Given.SeizeWordsPlan.{May, Steps};
 ghost use Rattle.papaya_raw.specs.CallPoints.{standing};
 ghost use Rattle.papaya_raw.specs.Call.{call_plan, helped, copied};
 ghost use Rattle.papaya_raw.specs.declared.machines.call.Calling.TheVariants as at;

@@ -1,6 +1,6 @@
 //! A call puts what it was told into its own block, or gives that block up.
 ghost use Rattle.std.specs.Prelude.{None};
-ghost use Rattle.seize.specs.Given.SeizeWordsPlan.{May, Steps};
+ghost use Rattle.map_sweeps.specs.Given.SeizeWordsPlan.{May, Steps};
 ghost use Rattle.papaya_raw.specs.CallFills.{putting, fills_with, fills, gives_up};
 
 use crate::machines::answer::{Called, End};

@@ -1,6 +1,6 @@
 //! From table to table.
 ghost use Rattle.std.specs.Prelude.{◌≡◌, ℕ};
-ghost use Rattle.seize.specs.Given.SeizeWordsPlan.{May, MaySee, Steps, Ends};
+ghost use Rattle.map_sweeps.specs.Given.SeizeWordsPlan.{May, MaySee, Steps, Ends};
 ghost use Rattle.papaya_raw.specs.CallPoints.{tableless, at_last, entering, continued_in, standing};
 ghost use Rattle.papaya_raw.specs.Call.{roots, nexts, first_made, next_made, call_plan};
 ghost use Rattle.papaya_raw.specs.declared.machines.call.Calling.TheVariants as at;

@@ -1,6 +1,6 @@
 //! Tries of the key at a table: what a word says, and its exchange.
 ghost use Rattle.std.specs.Prelude.{◌≡◌, true, false};
-ghost use Rattle.seize.specs.Given.SeizeWordsPlan.{May, MaySee, Steps, Ends};
+ghost use Rattle.map_sweeps.specs.Given.SeizeWordsPlan.{May, MaySee, Steps, Ends};
 ghost use Rattle.map_tables.specs.Trials.{with_met, next_trial};
 ghost use Rattle.papaya_raw.specs.CallPoints.{going, at_free, at_pair, having_met, passed, beyond, halted, told, changed, counted, aim_of};
 ghost use Rattle.papaya_raw.specs.Call.{have_one_key, word_read, probes, tries, counts};

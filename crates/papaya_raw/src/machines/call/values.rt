@@ -1,6 +1,6 @@
 //! The call's own pair, the pairs that it disposes of, and lookups.
 ghost use Rattle.std.specs.Prelude.{◌≡◌, ℕ};
-ghost use Rattle.seize.specs.Given.SeizeWordsPlan.{May, Steps};
+ghost use Rattle.map_sweeps.specs.Given.SeizeWordsPlan.{May, Steps};
 ghost use Rattle.papaya_raw.specs.CallPoints.{word_to, standing};
 ghost use Rattle.papaya_raw.specs.Call.{makes, drops, looked, disposed, call_plan};
 ghost use Rattle.papaya_raw.specs.declared.machines.call.Calling.TheVariants as at;

@@ -7,12 +7,12 @@ use Rattle.run_schedules.specs.Schedules.Entry.{Entry}
 use Rattle.run_schedules.specs.Schedules.Lists.{is_among}
 use Rattle.run_schedules.specs.Schedules.Moment.{Moment}
 use Rattle.run_schedules.specs.Schedules.Terms.{Terms}
-use Rattle.run_kept.specs.Given.EffectsKnown.{known}
+use Rattle.play_lists.specs.Given.EffectsKnown.{known}
 use Rattle.run_legal.specs.AllEvents.{BehindRootsAreLeft, BehindRootsIsLeft, LeftIsBehindRoots}
 use Rattle.run_legal.proofs.BehindTold.{behind_is_told}
-use Rattle.run_kept.specs.Given.RemainsRemains.{RefinesRemains, left_roots, map_roots}
-use Rattle.run_kept.proofs.Given.RemainsInOrder.{all_noted}
-use Rattle.run_kept.proofs.Given.RemainsLists.{among_append}
+use Rattle.play_stepping.specs.Given.RemainsRemains.{RefinesRemains, left_roots, map_roots}
+use Rattle.play_lists.proofs.Given.RemainsInOrder.{all_noted}
+use Rattle.play_stepping.proofs.Given.RemainsLists.{among_append}
 use Rattle.play_stepping.specs.Given.SchedulerDeclared.scheduler.Scheduler.{Scheduler}
 use Rattle.play_events.specs.Events.OfCalls.{Runs}
 use Rattle.play_events.proofs.Events.Remaining.{noted_at}

@@ -5,17 +5,17 @@ use Rattle.play_stepping.specs.Given.SeizeDeclared.rows.reclaim_all.ReclaimAll.{
 use Rattle.play_stepping.specs.Given.SeizeDeclared.rows.settle.Settled.{Settled}
 use Rattle.play_stepping.specs.Given.SeizeDeclared.rows.settle.Settled.TheVariants as settled
 use Rattle.play_lists.specs.Given.TablesDeclared.node.Node.{Node}
-use Rattle.run_kept.specs.Given.EffectsEffects.{effects_of, known_after}
-use Rattle.run_kept.specs.Given.EffectsDeclared.acting.Acting.TheVariants as acts
+use Rattle.play_lists.specs.Given.EffectsEffects.{effects_of, known_after}
+use Rattle.play_lists.specs.Given.EffectsDeclared.acting.Acting.TheVariants as acts
 use Rattle.run_schedules.specs.declared.effect.Effect.{Effect}
 use Rattle.run_schedules.specs.Schedules.Effects.{with_effects}
 use Rattle.run_schedules.specs.Schedules.Moment.{Moment}
 use Rattle.run_schedules.specs.Schedules.Terms.{Terms}
-use Rattle.run_kept.specs.Given.EffectsKnown.{known}
-use Rattle.run_kept.specs.Given.ReclaimsReclaims.{AllIsReclaimed}
+use Rattle.play_lists.specs.Given.EffectsKnown.{known}
+use Rattle.run_legal.specs.Given.ReclaimsReclaims.{AllIsReclaimed}
 use Rattle.play_stepping.specs.Given.ReclaimingReclaiming.{IsReclaimingThere, ReclaimsThere}
-use Rattle.run_kept.specs.Given.ScenesReclaiming.{ReclaimingOutcomeHolds, ReclaimingLeads}
-use Rattle.run_kept.proofs.Sheds.Held.{reclaim_held}
+use Rattle.play_lists.specs.Given.ScenesReclaiming.{ReclaimingOutcomeHolds, ReclaimingLeads}
+use Rattle.play_lists.proofs.Given.ShedsHeld.{reclaim_held}
 use Rattle.play_stepping.specs.Given.LoggedEnds.{is_done}
 use Rattle.play_stepping.specs.Given.LoggedGoes.{Far, GoesFor, ReclaimingGoes, ReclaimingOn}
 use Rattle.run_legal.proofs.Given.LogReclaimsRun.{same_setting}
@@ -23,7 +23,7 @@ use Rattle.run_legal.specs.AllEvents.{AllCome, AllSteps, scene_in}
 use Rattle.run_legal.specs.Chains.{Chain, Come}
 use Rattle.play_events.proofs.Events.OfRows.Chain.{come_as, come_by}
 use Rattle.play_stepping.specs.Given.ExecutorIsThere.{IsThere, held_by}
-use Rattle.run_kept.specs.Given.ScenesScene.{Scene}
+use Rattle.play_lists.specs.Given.ScenesScene.{Scene}
 
 module _ {K V S : Type 0} where
   -- how far an event has come that has run so far, at this moment, in this scene, with these lists behind the roots

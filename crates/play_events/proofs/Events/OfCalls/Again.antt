@@ -13,8 +13,8 @@ use Rattle.run_schedules.specs.Schedules.InTurn.{HasRightOutcome}
 use Rattle.run_schedules.specs.Schedules.Moment.{UnderWay as CallThere, CallState, Moment}
 use Rattle.run_schedules.specs.Schedules.Terms.{Terms}
 use Rattle.run_schedules.specs.Schedules.Views.{call_of}
-use Rattle.run_kept.specs.Given.EffectsKnown.{known}
-use Rattle.run_kept.specs.Given.FinishesMachines.{machine_of}
+use Rattle.play_lists.specs.Given.EffectsKnown.{known}
+use Rattle.play_lists.specs.Given.FinishesMachines.{machine_of}
 use Rattle.run_schedules.specs.declared.event.Event.TheVariants.{Go, Step}
 use Rattle.run_legal.specs.CallEvents.{IsLegalBut}
 use Rattle.run_legal.specs.Carried.{RefinesRun}

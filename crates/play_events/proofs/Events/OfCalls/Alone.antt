@@ -13,10 +13,10 @@ use Rattle.run_schedules.specs.Schedules.Entry.{Entry, speaker}
 use Rattle.run_schedules.specs.Schedules.Model.{sets_in}
 use Rattle.run_schedules.specs.Schedules.Terms.{Terms}
 use Rattle.play_stepping.specs.Given.CallersTogether.{UnderWay}
-use Rattle.run_kept.specs.Given.EffectsKnown.{known}
-use Rattle.run_kept.specs.Given.ScenesDeclared.row.SlotUse.{SlotUse}
-use Rattle.run_kept.specs.Given.ScenesDeclared.row.SlotUse.TheVariants as used
-use Rattle.run_kept.proofs.Models.Quiet.{insides_follow}
+use Rattle.play_lists.specs.Given.EffectsKnown.{known}
+use Rattle.play_lists.specs.Given.ScenesDeclared.row.SlotUse.{SlotUse}
+use Rattle.play_lists.specs.Given.ScenesDeclared.row.SlotUse.TheVariants as used
+use Rattle.play_lists.proofs.Given.ModelsQuiet.{insides_follow}
 use Rattle.run_legal.specs.Carried.{IsSequential, FollowsOrRows}
 use Rattle.play_stepping.proofs.Given.RowsFacts.{row_rests}
 use Rattle.play_stepping.proofs.Given.RowsLists.{all_alike, one_of}
@@ -27,7 +27,7 @@ use Rattle.play_stepping.specs.Given.ExecutorDeclared.caller.NamedCaller.{NamedC
 use Rattle.play_stepping.specs.Given.SchedulerDeclared.scheduler.Scheduler.{Scheduler}
 use Rattle.play_events.proofs.Events.OfCalls.InRows.{insides_follow_in_rows}
 use Rattle.play_stepping.specs.Given.ExecutorIsThere.{IsUsedAs}
-use Rattle.run_kept.specs.Given.ScenesScene.{slot_of}
+use Rattle.play_lists.specs.Given.ScenesScene.{slot_of}
 use Rattle.play_stepping.proofs.Given.General.{both_true as both, none_is}
 
 module _ {V : Type 0} (n j : ℕ) where

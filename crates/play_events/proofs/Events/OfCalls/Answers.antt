@@ -12,23 +12,23 @@ use Rattle.run_schedules.specs.declared.call.Call.TheVariants.{On}
 use Rattle.run_schedules.specs.declared.call.OneKey.{OneKey}
 use Rattle.run_schedules.specs.declared.call.OneKey.TheVariants.{TryInsert, Compute}
 use Rattle.run_schedules.specs.declared.call.Reply.{Reply}
-use Rattle.run_kept.specs.Given.EffectsEffects.{known_after}
-use Rattle.run_kept.specs.Given.EffectsDeclared.acting.Acting.TheVariants as acts
-use Rattle.run_kept.specs.Given.EffectsKnown.{Known}
-use Rattle.run_kept.proofs.Given.HistoriesAnyCall.InEvent.{events_have_words}
-use Rattle.run_kept.specs.Given.HistoriesInEvent.{InEvent, here_of}
+use Rattle.play_lists.specs.Given.EffectsEffects.{known_after}
+use Rattle.play_lists.specs.Given.EffectsDeclared.acting.Acting.TheVariants as acts
+use Rattle.play_lists.specs.Given.EffectsKnown.{Known}
+use Rattle.play_lists.proofs.Given.HistoriesAnyCall.InEvent.{events_have_words}
+use Rattle.play_lists.specs.Given.HistoriesInEvent.{InEvent, here_of}
 use Rattle.run_schedules.specs.declared.effect.Effect.{Effect}
 use Rattle.run_schedules.specs.Schedules.Entry.{Entry}
 use Rattle.run_schedules.specs.Schedules.Moment.{UnderWay as CallThere, Moment}
 use Rattle.play_stepping.specs.Given.CallersTogether.{UnderWay, CallOnKey, OnKey, ForRoom, Counting, OverAll}
-use Rattle.run_kept.specs.Given.FinishesMachines.{machine_of}
-use Rattle.run_kept.specs.Given.HistoriesOtherCalls.{IsOnNoKey}
-use Rattle.run_kept.specs.Values.Values.{KeepsValue}
-use Rattle.run_kept.proofs.Values.Values.{inserts_tell_theirs}
+use Rattle.play_lists.specs.Given.FinishesMachines.{machine_of}
+use Rattle.play_lists.specs.Given.HistoriesOtherCalls.{IsOnNoKey}
+use Rattle.play_lists.specs.Given.ValuesValues.{KeepsValue}
+use Rattle.play_lists.proofs.Given.ValuesValues.{inserts_tell_theirs}
 use Rattle.play_events.specs.Events.OfCalls.{LastStepsTell}
 use Rattle.play_events.proofs.Events.OfCalls.Words.{tells_of}
-use Rattle.run_kept.specs.Given.ScenesScene.{Scene}
-use Rattle.run_kept.specs.Given.ScenesStepping.{StepLeads}
+use Rattle.play_lists.specs.Given.ScenesScene.{Scene}
+use Rattle.play_lists.specs.Given.ScenesStepping.{StepLeads}
 use Rattle.run_schedules.specs.Schedules.Transition.{past}
 use Rattle.play_stepping.proofs.Given.QuietSaying.{Tells, comes_so}
 

@@ -5,14 +5,14 @@ use Rattle.run_schedules.specs.Schedules.After.{moment, slots_on}
 use Rattle.run_schedules.specs.Schedules.Entry.{Entry}
 use Rattle.run_schedules.specs.Schedules.InTurn.{HasRightOutcome}
 use Rattle.run_schedules.specs.Schedules.Terms.{Terms}
-use Rattle.run_kept.specs.Given.EffectsKnown.{known}
+use Rattle.play_lists.specs.Given.EffectsKnown.{known}
 use Rattle.play_stepping.specs.Given.SeizeWorld.{SlotsTaken}
 use Rattle.play_stepping.specs.Given.MomentsWhole.{RefinesWhole}
-use Rattle.run_kept.specs.Kept.Kept.{RefinesKept}
+use Rattle.play_lists.specs.Given.KeptKept.{RefinesKept}
 use Rattle.run_legal.proofs.Come.{events_bring_things}
 use Rattle.run_legal.specs.CallEvents.{IsLegalBut}
 use Rattle.run_legal.specs.Carried.{RefinesRun}
-use Rattle.run_kept.specs.Given.ReclaimsLeft.{LeftWithEndings}
+use Rattle.play_stepping.specs.Given.ReclaimsLeft.{LeftWithEndings}
 use Rattle.play_stepping.specs.Given.LoggedShown.{IsShown}
 use Rattle.play_stepping.specs.Given.LoggedDeclared.logged.Logged.{Logged}
 use Rattle.play_stepping.specs.Given.SchedulerPlayed.{IsPlayed}

@@ -6,16 +6,16 @@ use Rattle.play_stepping.specs.Given.SweepsSweepPoints.{after_next}
 use Rattle.play_stepping.specs.Given.CallersOverAll.{CallOverAll, gone_on}
 use Rattle.play_stepping.specs.Given.CallersTogether.{UnderWay, OverAll}
 use Rattle.play_stepping.specs.Given.ExecutorDeclared.executor.Executor.{Executor}
-use Rattle.run_kept.specs.Given.FinishesEndings.{EndingsTogether}
-use Rattle.run_kept.specs.Given.FinishesMachines.{machine_of}
-use Rattle.run_kept.specs.Given.FinishesMaps.{with_call}
-use Rattle.run_kept.proofs.Given.FinishesAmong.Sweeps.{sweeps_told_among}
-use Rattle.run_kept.proofs.Given.ScenesMay.{standing_is}
+use Rattle.play_lists.specs.Given.FinishesEndings.{EndingsTogether}
+use Rattle.play_lists.specs.Given.FinishesMachines.{machine_of}
+use Rattle.play_lists.specs.Given.FinishesMaps.{with_call}
+use Rattle.play_lists.proofs.Given.FinishesAmong.Sweeps.{sweeps_told_among}
+use Rattle.play_lists.proofs.Given.ScenesMay.{standing_is}
 use Rattle.play_stepping.specs.Given.ExecutorIsThere.{IsThere, PreservesSettings, held_by}
 use Rattle.play_stepping.specs.Given.ExecutorReplying.{AsksThere}
-use Rattle.run_kept.specs.Given.ScenesReplying.{AskLeads, scene_with}
-use Rattle.run_kept.specs.Given.ScenesScene.{Scene, slot_of}
-use Rattle.run_kept.proofs.Sheds.Held.{ask_held}
+use Rattle.play_lists.specs.Given.ScenesReplying.{AskLeads, scene_with}
+use Rattle.play_lists.specs.Given.ScenesScene.{Scene, slot_of}
+use Rattle.play_lists.proofs.Given.ShedsHeld.{ask_held}
 
 -- another one with the same machine in the place of a call
 same_call : {K V : Type 0} (calls : ℕ → ℕ → Option (UnderWay K V K)) (map i : ℕ) (x y : UnderWay K V K) → machine_of x ≡ machine_of y → (n j : ℕ)

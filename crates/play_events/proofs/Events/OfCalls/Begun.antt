@@ -18,15 +18,15 @@ use Rattle.run_schedules.specs.Schedules.Moment.{UnderWay as CallThere, Moment}
 use Rattle.run_schedules.specs.Schedules.Terms.{Terms}
 use Rattle.run_schedules.specs.Schedules.Views.{call_of, number_of}
 use Rattle.play_stepping.specs.Given.CallersTogether.{UnderWay}
-use Rattle.run_kept.specs.Given.EffectsKnown.{Known, known}
-use Rattle.run_kept.specs.Given.FinishesMaps.{Standing}
-use Rattle.run_kept.specs.Given.FollowsCalling.{NoneNamed}
-use Rattle.run_kept.specs.Given.HistoriesAsCalled.{IsBegunAs}
+use Rattle.play_lists.specs.Given.EffectsKnown.{Known, known}
+use Rattle.play_lists.specs.Given.FinishesMaps.{Standing}
+use Rattle.play_lists.specs.Given.FollowsCalling.{NoneNamed}
+use Rattle.play_lists.specs.Given.HistoriesAsCalled.{IsBegunAs}
 use Rattle.play_stepping.specs.Given.RawDeclared.machines.machine.Machine.{Machine}
-use Rattle.run_kept.specs.Given.FinishesMachines.{machine_of}
-use Rattle.run_kept.proofs.Given.FollowsCalling.{apart_back, is_same_refl}
+use Rattle.play_lists.specs.Given.FinishesMachines.{machine_of}
+use Rattle.play_lists.proofs.Given.FollowsCalling.{apart_back, is_same_refl}
 use Rattle.play_stepping.proofs.Given.HandsAsking.{which}
-use Rattle.run_kept.specs.Given.PromisesMeanwhile.{BeginsToLook}
+use Rattle.run_legal.specs.Given.PromisesMeanwhile.{BeginsToLook}
 use Rattle.play_stepping.specs.Given.PurposesPurposes.{IsFor}
 use Rattle.run_legal.proofs.Come.{events_bring_things}
 use Rattle.run_legal.specs.Between.{IsBegunRight}
@@ -43,16 +43,16 @@ use Rattle.play_stepping.specs.Given.SchedulerDeclared.scheduler.Scheduler.{Sche
 use Rattle.play_stepping.proofs.Given.SchedulerBegins as beginning
 use Rattle.play_stepping.proofs.Given.NamedCalled.{begins_so, begun_call, is_begun_for, is_called, its_machine}
 use Rattle.play_stepping.proofs.Given.SchedulerRights.{quiet}
-use Rattle.run_kept.specs.Values.Values.{KeepsValue}
-use Rattle.run_kept.proofs.Values.Values.{values_begin}
+use Rattle.play_lists.specs.Given.ValuesValues.{KeepsValue}
+use Rattle.play_lists.proofs.Given.ValuesValues.{values_begin}
 use Rattle.play_events.proofs.Events.OfCalls.Worth.{SaidIn, event_says, have_values_then}
 use Rattle.play_events.specs.Events.OfCalls.{HaveShards, HaveValues, IsWorth, Runs, RunsOn}
 use Rattle.play_events.proofs.Events.OfCalls.Scenes.{AreNamed, stands_in}
 use Rattle.play_events.proofs.Events.Remaining.{counted_in}
 use Rattle.play_events.proofs.Events.Reached.{reached_by}
-use Rattle.run_kept.specs.Given.ScenesBeginning.{Begins}
-use Rattle.run_kept.specs.Given.ScenesReplying.{scene_with}
-use Rattle.run_kept.specs.Given.ScenesScene.{HasCall, Scene, slot_of}
+use Rattle.play_lists.specs.Given.ScenesBeginning.{Begins}
+use Rattle.play_lists.specs.Given.ScenesReplying.{scene_with}
+use Rattle.play_lists.specs.Given.ScenesScene.{HasCall, Scene, slot_of}
 use Rattle.play_stepping.specs.Given.ExecutorIsThere.{held_by}
 use Rattle.play_stepping.proofs.Given.General.{same_some as the}
 

@@ -22,12 +22,12 @@ use Rattle.run_schedules.specs.Schedules.Moment.{UnderWay as CallThere, Moment}
 use Rattle.run_schedules.specs.Schedules.Sweeps.{IsSwept}
 use Rattle.run_schedules.specs.Schedules.Terms.{Terms, shards_of}
 use Rattle.run_schedules.specs.Schedules.Views.{call_of}
-use Rattle.run_kept.specs.Given.EffectsKnown.{Known, known}
-use Rattle.run_kept.specs.Given.EffectsDeclared.acting.Acting.TheVariants as acts
-use Rattle.run_kept.specs.Given.FinishesMaps.{Standing}
-use Rattle.run_kept.specs.Given.HistoriesInEvent.{HasOutcomeSo}
-use Rattle.run_kept.specs.Given.FinishesMachines.{machine_of}
-use Rattle.run_kept.specs.Models.CallEvents.{slot_of_call}
+use Rattle.play_lists.specs.Given.EffectsKnown.{Known, known}
+use Rattle.play_lists.specs.Given.EffectsDeclared.acting.Acting.TheVariants as acts
+use Rattle.play_lists.specs.Given.FinishesMaps.{Standing}
+use Rattle.play_lists.specs.Given.HistoriesInEvent.{HasOutcomeSo}
+use Rattle.play_lists.specs.Given.FinishesMachines.{machine_of}
+use Rattle.run_legal.specs.Given.ModelsCallEvents.{slot_of_call}
 use Rattle.play_lists.specs.Given.FindsDoing.{takes_steps}
 use Rattle.play_lists.specs.Given.FindsParts.{FindAll}
 use Rattle.run_legal.specs.Noted.{HaveCome}
@@ -38,8 +38,8 @@ use Rattle.run_legal.specs.CallSwept.{OutcomeOf}
 use Rattle.run_legal.specs.Carried.{IsSequential, RefinesRun}
 use Rattle.run_legal.proofs.CallRuns.{call_events_run}
 use Rattle.run_legal.proofs.CallSwept.{calls_are_swept}
-use Rattle.run_kept.specs.Given.RemainsRemains.{RefinesRemains}
-use Rattle.run_kept.proofs.Given.RemainsSlots.{buckets_grow}
+use Rattle.play_stepping.specs.Given.RemainsRemains.{RefinesRemains}
+use Rattle.run_legal.proofs.Given.RemainsSlots.{buckets_grow}
 use Rattle.play_stepping.specs.Given.LoggedShown.{IsShown}
 use Rattle.play_stepping.specs.Given.SchedulerPlayed.{IsPlayed, entry_of}
 use Rattle.play_stepping.specs.Given.NamedSeen.{kind_of}
@@ -57,11 +57,11 @@ use Rattle.play_events.proofs.Events.OfCalls.Found.{mask_is}
 use Rattle.play_events.proofs.Events.OfCalls.Scenes.{stands_in}
 use Rattle.play_events.proofs.Events.OfCalls.Steps.{HasCome, IsStep, as_told, caller_is, follows, hands_then, leads, named_then, noted_so, noted_then, shards_then, shown_then, size_then, taken_then, then_known, then_now, then_scene, there_now, values_then}
 use Rattle.play_events.proofs.Events.OfCalls.Worth.{SaidIn, TellsNone, event_says, have_values_then}
-use Rattle.run_kept.specs.Values.Values.{KeepsValue}
+use Rattle.play_lists.specs.Given.ValuesValues.{KeepsValue}
 use Rattle.play_events.proofs.Events.OfCalls.Words.{not_busy, shows_as_told, tells_end}
 use Rattle.play_events.proofs.Events.Remaining.{counted_in}
 use Rattle.play_events.proofs.Events.Reached.{reached_after}
-use Rattle.run_kept.specs.Given.ScenesScene.{Scene, slot_of}
+use Rattle.play_lists.specs.Given.ScenesScene.{Scene, slot_of}
 use Rattle.play_stepping.specs.Given.ExecutorIsThere.{held_by}
 
 module _ {K V S : Type 0} (same : K → K → Bool) (hash : K → ℕ) (name : ℕ → List ℕ) (terms : Terms) (log : List (Entry K V)) (event : Event K V) (beginning : Moment K V)

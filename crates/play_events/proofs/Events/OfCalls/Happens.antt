@@ -28,7 +28,7 @@ use Rattle.play_events.proofs.Events.OfCalls.Events.{ask_on, begin_on, begin_out
 use Rattle.play_events.proofs.Events.OfCalls.Finds.{go_finds, not_busy, quiet_in_case, step_finds, whole_finds}
 use Rattle.play_events.proofs.Events.OfCalls.Told.{stopped_on, told_on}
 use Rattle.play_stepping.specs.Given.ExecutorIsThere.{PreservesSettings}
-use Rattle.run_kept.proofs.Given.ScenesLeads.{happens}
+use Rattle.play_stepping.proofs.Given.ScenesLeads.{happens}
 
 -- one that is in turn comes to what it must
 pub in_turn_comes : {K V : Type 0} (terms : Terms) (log : List (Entry K V)) (e : Entry K V) → (moment log).is_closed ≡ false → HasRightOutcome terms log e

@@ -20,7 +20,7 @@ use Rattle.run_schedules.specs.Schedules.Terms.{Terms, shards_of}
 use Rattle.run_schedules.specs.Schedules.Views.{call_of}
 use Rattle.play_stepping.specs.Given.CallersRooms.{CallForRoom}
 use Rattle.play_stepping.specs.Given.CallersTogether.{ForRoom}
-use Rattle.run_kept.specs.Given.EffectsKnown.{Known, known}
+use Rattle.play_lists.specs.Given.EffectsKnown.{Known, known}
 use Rattle.play_stepping.proofs.Given.ChangesBegun.{effects_begun}
 use Rattle.play_stepping.proofs.Given.MomentsAfter.{effects_after}
 use Rattle.run_legal.proofs.CallChanges.{reads_shards}

@@ -15,16 +15,16 @@ use Rattle.play_stepping.specs.Given.SeizeDeclared.advance.Advance.TheVariants a
 use Rattle.seize_acts.specs.Given.SeizeAloneAlone.{TakesSteps}
 use Rattle.play_lists.specs.Given.TablesNodes.{deferred_word}
 use Rattle.play_lists.specs.Given.TablesDeclared.node.Node.{Node}
-use Rattle.run_kept.specs.Given.EffectsKnown.{Known}
+use Rattle.play_lists.specs.Given.EffectsKnown.{Known}
 use Rattle.run_schedules.specs.declared.effect.Thing.{Thing}
 use Rattle.play_stepping.proofs.Given.CallersTogether.At.{at_other, at_same}
 use Rattle.seize_acts.proofs.Given.SeizeWaitingFlushes.{retired_all_frame}
-use Rattle.run_kept.specs.Models.Alike.{ChangesAlike}
-use Rattle.run_kept.specs.Models.CallEvents.{HasReportedPart}
-use Rattle.run_kept.specs.Models.Numbers.{HasNumber}
-use Rattle.run_kept.proofs.Models.Turns.{inside_active}
+use Rattle.run_legal.specs.Given.ModelsAlike.{ChangesAlike}
+use Rattle.run_legal.specs.Given.ModelsCallEvents.{HasReportedPart}
+use Rattle.run_legal.specs.Given.ModelsNumbers.{HasNumber}
+use Rattle.run_legal.proofs.Given.ModelsTurns.{inside_active}
 use Rattle.play_events.specs.Events.OfCalls.{InsidesFollowInRows}
-use Rattle.run_kept.specs.Given.ScenesScene.{at_first}
+use Rattle.play_lists.specs.Given.ScenesScene.{at_first}
 use Rattle.play_stepping.proofs.Given.CallersTogether.Handed.{more_back as more_inside}
 use Rattle.play_stepping.proofs.Given.CallersTogether.RowSteps.{less_inside}
 

@@ -13,13 +13,13 @@ use Rattle.run_schedules.specs.Schedules.Moment.{UnderWay as CallThere, Moment}
 use Rattle.run_schedules.specs.Schedules.Steps.{IsBrief, ReadsBriefly}
 use Rattle.run_schedules.specs.Schedules.Terms.{Terms}
 use Rattle.run_schedules.specs.Schedules.Views.{call_of}
-use Rattle.run_kept.specs.Given.EffectsKnown.{known}
-use Rattle.run_kept.specs.Given.PromisesGuards.{EntersInside}
-use Rattle.run_kept.specs.Given.PromisesSheltered.{SectionsHold}
-use Rattle.run_kept.proofs.Given.PromisesBrief.Ends.{events_read_briefly}
+use Rattle.play_lists.specs.Given.EffectsKnown.{known}
+use Rattle.run_legal.specs.Given.PromisesGuards.{EntersInside}
+use Rattle.play_lists.specs.Given.PromisesSheltered.{SectionsHold}
+use Rattle.run_legal.proofs.Given.PromisesBrief.Ends.{events_read_briefly}
 use Rattle.play_stepping.proofs.Given.PurposesNothing.{other_outcomes_are_swept}
-use Rattle.run_kept.specs.Models.CallEvents.{IsOfNoSlot}
-use Rattle.run_kept.proofs.Models.CallEvents.{others_hand_over}
+use Rattle.run_legal.specs.Given.ModelsCallEvents.{IsOfNoSlot}
+use Rattle.run_legal.proofs.Given.ModelsCallEvents.{others_hand_over}
 use Rattle.play_lists.specs.Given.FindsLittle.{ReclaimsAll}
 use Rattle.run_legal.specs.CallEvents.{IsLegalBut}
 use Rattle.run_legal.specs.Carried.{RefinesRun}

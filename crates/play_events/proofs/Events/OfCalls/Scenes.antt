@@ -6,8 +6,8 @@ use Rattle.play_lists.specs.Given.TablesDeclared.setting.Setting.{Setting}
 use Rattle.play_stepping.specs.Given.RawDeclared.machines.machine.Machine.{Machine}
 use Rattle.run_schedules.specs.Schedules.Moment.{Moment}
 use Rattle.run_schedules.specs.Schedules.Terms.{Terms}
-use Rattle.run_kept.specs.Given.FinishesMachines.{machine_of}
-use Rattle.run_kept.specs.Given.FinishesMaps.{Standing}
+use Rattle.play_lists.specs.Given.FinishesMachines.{machine_of}
+use Rattle.play_lists.specs.Given.FinishesMaps.{Standing}
 use Rattle.play_stepping.specs.Given.LoggedShown.{IsShown}
 use Rattle.play_stepping.proofs.Given.RowsLists.{all_so, both_none, both_some}
 use Rattle.play_stepping.specs.Given.SchedulerPlayed.{AsFar, IsUnderWay, RefinesFor}
@@ -15,7 +15,7 @@ use Rattle.play_stepping.specs.Given.ExecutorDeclared.caller.NamedCaller.{NamedC
 use Rattle.play_stepping.specs.Given.ExecutorDeclared.named_map.NamedMap.{NamedMap}
 use Rattle.play_events.proofs.Events.OfCalls.Worth.{all_left, all_set}
 use Rattle.play_stepping.specs.Given.SchedulerDeclared.scheduler.Scheduler.{Scheduler}
-use Rattle.run_kept.specs.Given.ScenesScene.{Scene}
+use Rattle.play_lists.specs.Given.ScenesScene.{Scene}
 
 -- callers have these names
 abbrev pub AreNamed : {V : Type 0} → (ℕ → List ℕ) → List (NamedCaller V) → Type 0

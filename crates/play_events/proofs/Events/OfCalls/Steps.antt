@@ -22,22 +22,22 @@ use Rattle.run_schedules.specs.Schedules.Moment.{UnderWay as CallThere, Moment}
 use Rattle.run_schedules.specs.Schedules.Terms.{Terms, shards_of}
 use Rattle.run_schedules.specs.Schedules.Views.{call_of}
 use Rattle.play_stepping.specs.Given.CallersTogether.{UnderWay, HandsOver}
-use Rattle.run_kept.specs.Given.EffectsEffects.{effects_of, known_after}
-use Rattle.run_kept.specs.Given.EffectsKnown.{Known, known}
-use Rattle.run_kept.specs.Given.EffectsDeclared.acting.Acting.TheVariants as acts
-use Rattle.run_kept.specs.Given.FinishesMaps.{Standing, IsSameMap}
-use Rattle.run_kept.specs.Given.HistoriesInEvent.{here_of}
+use Rattle.play_lists.specs.Given.EffectsEffects.{effects_of, known_after}
+use Rattle.play_lists.specs.Given.EffectsKnown.{Known, known}
+use Rattle.play_lists.specs.Given.EffectsDeclared.acting.Acting.TheVariants as acts
+use Rattle.play_lists.specs.Given.FinishesMaps.{Standing, IsSameMap}
+use Rattle.play_lists.specs.Given.HistoriesInEvent.{here_of}
 use Rattle.run_schedules.specs.declared.effect.Thing.{Thing}
 use Rattle.run_schedules.specs.declared.call.Call.{Call}
 use Rattle.run_schedules.specs.declared.call.Reply.{Reply}
-use Rattle.run_kept.specs.Given.FinishesMachines.{machine_of}
-use Rattle.run_kept.proofs.Given.FollowsCalling.{is_same_is, is_same_refl}
+use Rattle.play_lists.specs.Given.FinishesMachines.{machine_of}
+use Rattle.play_lists.proofs.Given.FollowsCalling.{is_same_is, is_same_refl}
 use Rattle.play_stepping.proofs.Given.HandsAsking.{which}
-use Rattle.run_kept.specs.Models.CallEvents.{IsNoted, things_then}
+use Rattle.run_legal.specs.Given.ModelsCallEvents.{IsNoted, things_then}
 use Rattle.run_legal.specs.Noted.{HaveCome}
 use Rattle.run_legal.proofs.Come.{calls_bring_things}
 use Rattle.run_legal.proofs.Noted.{calls_hand_noted}
-use Rattle.run_kept.proofs.Models.CallEvents.{things_more}
+use Rattle.run_legal.proofs.Given.ModelsCallEvents.{things_more}
 use Rattle.play_stepping.specs.Given.PurposesKept.{ShowsNone}
 use Rattle.run_legal.specs.CallEvents.{InCallEvent}
 use Rattle.run_legal.proofs.Calls.{call_events_go_on_so}
@@ -55,12 +55,12 @@ use Rattle.play_stepping.specs.EventSteps.Stepping.{GoneFor, IsStepOf, IsStepped
 use Rattle.play_stepping.specs.Given.Says.{caller_then, far_then, outcome_of}
 use Rattle.play_stepping.proofs.EventSteps.AfterEffects.{calls_seen}
 use Rattle.play_stepping.proofs.EventSteps.OneStep.{caller_as, going_not_ended, goes_next, value_then}
-use Rattle.run_kept.specs.Values.Values.{KeepsValue, kept_after}
-use Rattle.run_kept.proofs.Values.Values.{values_go_on}
+use Rattle.play_lists.specs.Given.ValuesValues.{KeepsValue, kept_after}
+use Rattle.play_lists.proofs.Given.ValuesValues.{values_go_on}
 use Rattle.play_stepping.specs.Given.ExecutorDeclared.kind.CallKind.{CallKind}
 use Rattle.play_events.specs.Events.OfCalls.{HaveValues, IsWorth, HaveShards}
 use Rattle.play_events.proofs.Events.OfCalls.Worth.{AreWorth, SaidIn, all_gone, all_once, all_set, effects_say, is_worth_then, said_same}
-use Rattle.run_kept.proofs.Given.RemainsSlots.{buckets_grow}
+use Rattle.run_legal.proofs.Given.RemainsSlots.{buckets_grow}
 use Rattle.play_stepping.specs.Given.NeedsNeeds.{AreReached}
 use Rattle.run_legal.proofs.Works.Reached.{reached_still}
 use Rattle.play_events.specs.Folded.Folded.{HandInOrder}
@@ -68,8 +68,8 @@ use Rattle.play_events.proofs.Folded.Steps.{more_in_order}
 use Rattle.play_events.proofs.Events.OfCalls.Scenes.{AreNamed, named_left, named_set}
 use Rattle.play_events.proofs.Events.OfCalls.Words.{shows_none}
 use Rattle.play_stepping.specs.Given.ExecutorIsThere.{PreservesSettings, held_by}
-use Rattle.run_kept.specs.Given.ScenesScene.{Scene, slot_of}
-use Rattle.run_kept.specs.Given.ScenesStepping.{StepLeads, has_ended, scene_after}
+use Rattle.play_lists.specs.Given.ScenesScene.{Scene, slot_of}
+use Rattle.play_lists.specs.Given.ScenesStepping.{StepLeads, has_ended, scene_after}
 use Rattle.run_schedules.specs.Schedules.Transition.{past}
 use Rattle.play_stepping.proofs.Given.General.{same_some as the}
 

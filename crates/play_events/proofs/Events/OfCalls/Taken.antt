@@ -16,7 +16,7 @@ use Rattle.run_schedules.specs.Schedules.Moment.{UnderWay as CallThere, Moment}
 use Rattle.run_schedules.specs.Schedules.Terms.{Terms}
 use Rattle.run_schedules.specs.Schedules.Views.{call_of}
 use Rattle.play_stepping.specs.Given.CallersTogether.{UnderWay}
-use Rattle.run_kept.specs.Given.EffectsKnown.{known}
+use Rattle.play_lists.specs.Given.EffectsKnown.{known}
 use Rattle.run_schedules.specs.declared.effect.Thing.{Thing}
 use Rattle.run_schedules.specs.declared.event.Event.TheVariants.{Replied}
 use Rattle.run_schedules.specs.declared.outcome.Outcome.{Outcome}
@@ -45,7 +45,7 @@ use Rattle.play_events.proofs.Events.OfCalls.Found.{all_find, gone_find}
 use Rattle.play_events.proofs.Events.OfCalls.InCase.{comes_in_case}
 use Rattle.play_events.proofs.Events.OfCalls.Scenes.{its_named}
 use Rattle.play_events.proofs.Events.OfCalls.Steps.{HasCome, as_told, has_come}
-use Rattle.run_kept.specs.Given.ScenesScene.{slot_of}
+use Rattle.play_lists.specs.Given.ScenesScene.{slot_of}
 use Rattle.play_stepping.specs.Given.ExecutorIsThere.{held_by}
 use Rattle.play_stepping.proofs.Given.General.{same_some as the}
 

@@ -23,12 +23,12 @@ use Rattle.run_schedules.specs.Schedules.Moment.{Asking, Moment, CallState, Told
 use Rattle.run_schedules.specs.Schedules.Terms.{Terms}
 use Rattle.run_schedules.specs.Schedules.Views.{call_of}
 use Rattle.play_stepping.specs.Given.CallersTogether.{UnderWay}
-use Rattle.run_kept.specs.Given.EffectsKnown.{Known, known}
-use Rattle.run_kept.specs.Given.FinishesMachines.{machine_of}
-use Rattle.run_kept.specs.Given.FinishesMaps.{Standing, with_call as with_call_of}
-use Rattle.run_kept.specs.Given.FollowsCalling.{NoneNamed}
+use Rattle.play_lists.specs.Given.EffectsKnown.{Known, known}
+use Rattle.play_lists.specs.Given.FinishesMachines.{machine_of}
+use Rattle.play_lists.specs.Given.FinishesMaps.{Standing, with_call as with_call_of}
+use Rattle.play_lists.specs.Given.FollowsCalling.{NoneNamed}
 use Rattle.play_stepping.specs.Given.HandsAsked.{reply_to_machine}
-use Rattle.run_kept.proofs.Given.FollowsCalling.{apart_back, is_same_refl}
+use Rattle.play_lists.proofs.Given.FollowsCalling.{apart_back, is_same_refl}
 use Rattle.play_stepping.proofs.Given.HandsAsking.{which}
 use Rattle.play_stepping.specs.Given.ChangesChanges.{IsTaken}
 use Rattle.play_stepping.specs.Given.RawDeclared.machines.machine.Machine.{Machine}
@@ -36,7 +36,7 @@ use Rattle.run_legal.proofs.Come.{events_bring_things}
 use Rattle.run_legal.specs.CallEvents.{IsLegalBut}
 use Rattle.run_legal.specs.Carried.{RefinesRun}
 use Rattle.run_legal.proofs.Begun.{stopped_events_end, told_events_end}
-use Rattle.run_kept.specs.Given.ReclaimsLeft.{LeftWithEndings}
+use Rattle.play_stepping.specs.Given.ReclaimsLeft.{LeftWithEndings}
 use Rattle.play_stepping.specs.Given.LoggedShown.{IsCounted}
 use Rattle.play_stepping.specs.Given.NamedMachines.{IsAsFar}
 use Rattle.play_stepping.specs.Given.SchedulerPlayed.{HasReplied, HasStopped, IsPlayed}
@@ -50,8 +50,8 @@ use Rattle.play_stepping.proofs.Given.SchedulerHere.{Here, here_at, read_here}
 use Rattle.play_stepping.proofs.Given.SchedulerReplied.{asks_what, far_asks}
 use Rattle.play_stepping.proofs.Given.SchedulerRights.{quiet}
 use Rattle.play_stepping.proofs.Given.SchedulerStopped.{asked_ready, ready_parts, shows_is}
-use Rattle.run_kept.specs.Values.Values.{KeepsValue}
-use Rattle.run_kept.proofs.Values.Values.{values_taken}
+use Rattle.play_lists.specs.Given.ValuesValues.{KeepsValue}
+use Rattle.play_lists.proofs.Given.ValuesValues.{values_taken}
 use Rattle.play_stepping.proofs.Given.RowsLists.{all_so, found_has, set_all}
 use Rattle.play_events.proofs.Events.OfCalls.Worth.{all_left, event_says, found_changed, found_unchanged, is_worth_then}
 use Rattle.play_events.proofs.Folded.Steps.{idle_in_order}
@@ -61,9 +61,9 @@ use Rattle.play_events.proofs.Events.Remaining.{counted_in}
 use Rattle.play_events.proofs.Events.Reached.{reached_by}
 use Rattle.play_stepping.specs.Given.ExecutorIsThere.{IsThere, PreservesSettings, held_by}
 use Rattle.play_stepping.specs.Given.ExecutorReplying.{RepliesThere, StopsThere}
-use Rattle.run_kept.specs.Given.ScenesReplying.{scene_with, unless_stopped}
-use Rattle.run_kept.specs.Given.ScenesScene.{Scene}
-use Rattle.run_kept.proofs.Sheds.Held.{stop_held}
+use Rattle.play_lists.specs.Given.ScenesReplying.{scene_with, unless_stopped}
+use Rattle.play_lists.specs.Given.ScenesScene.{Scene}
+use Rattle.play_lists.proofs.Given.ShedsHeld.{stop_held}
 use Rattle.play_stepping.proofs.Given.General.{both_true as both, same_some as the_one}
 
 -- a call takes a reply of its kind

@@ -28,20 +28,20 @@ use Rattle.run_schedules.specs.Schedules.Terms.{Terms}
 use Rattle.run_schedules.specs.Schedules.Views.{call_of, finite_map}
 use Rattle.play_stepping.specs.Given.CallersOverAll.{CallOverAll, gone_on}
 use Rattle.play_stepping.specs.Given.CallersTogether.{UnderWay, OnKey, ForRoom, Counting, OverAll}
-use Rattle.run_kept.specs.Given.EffectsKnown.{Known, known}
-use Rattle.run_kept.specs.Given.FinishesMachines.{machine_of}
+use Rattle.play_lists.specs.Given.EffectsKnown.{Known, known}
+use Rattle.play_lists.specs.Given.FinishesMachines.{machine_of}
 use Rattle.play_stepping.specs.Given.MomentsWhole.{RefinesWhole}
-use Rattle.run_kept.specs.Given.HistoriesAnswers.{NamesPair}
-use Rattle.run_kept.specs.Given.HistoriesInEvent.{HasOutcomeSo}
-use Rattle.run_kept.specs.Given.HistoriesOtherMidsts.{AsksAsSaid}
+use Rattle.play_lists.specs.Given.HistoriesAnswers.{NamesPair}
+use Rattle.play_lists.specs.Given.HistoriesInEvent.{HasOutcomeSo}
+use Rattle.play_lists.specs.Given.HistoriesOtherMidsts.{AsksAsSaid}
 use Rattle.run_schedules.specs.Runs.Same.{is_same}
-use Rattle.run_kept.proofs.Given.FollowsCalling.{is_same_refl}
+use Rattle.play_lists.proofs.Given.FollowsCalling.{is_same_refl}
 use Rattle.play_stepping.proofs.Given.HandsAsking.{which}
 use Rattle.play_stepping.specs.Given.PurposesPurposes.{IsFor}
 use Rattle.play_stepping.specs.Given.PurposesSwept.{LosesNone, SaysAsWalk}
 use Rattle.play_stepping.proofs.Given.PurposesWalkWords.{walks_have_words}
 use Rattle.play_lists.specs.Given.FindsParts.{FindAll}
-use Rattle.run_kept.specs.Kept.Kept.{RefinesKept}
+use Rattle.play_lists.specs.Given.KeptKept.{RefinesKept}
 use Rattle.run_legal.specs.CallEvents.{InCallEvent}
 use Rattle.run_legal.specs.CallRuns.{OutcomeNamesShown}
 use Rattle.run_legal.specs.CallSwept.{OutcomeOf}
@@ -65,7 +65,7 @@ use Rattle.play_stepping.proofs.Given.SchedulerStopped.{asked_ready, ready_parts
 use Rattle.play_stepping.specs.EventSteps.Stepping.{HasWalked}
 use Rattle.play_stepping.specs.Given.Says.{outcome_of}
 use Rattle.play_stepping.proofs.Given.QuietSweeps.{walks_at}
-use Rattle.run_kept.specs.Values.Values.{KeepsValue}
+use Rattle.play_lists.specs.Given.ValuesValues.{KeepsValue}
 use Rattle.play_events.specs.Events.OfCalls.{HaveValues, IsWorth, Runs, RunsOn}
 use Rattle.play_stepping.specs.Given.NeedsNeeds.{AreReached}
 use Rattle.play_events.proofs.Events.OfCalls.Alone.{only_its_row}
@@ -75,10 +75,10 @@ use Rattle.play_events.proofs.Events.OfCalls.Ends as ends
 use Rattle.play_events.proofs.Events.OfCalls.Scenes.{AreNamed, its_named}
 use Rattle.play_events.proofs.Events.OfCalls.Steps.{HasCome, IsStep, as_told, did, follows, has_walked_on, its_here, leads}
 use Rattle.play_events.proofs.Events.OfCalls.Taken as taken
-use Rattle.run_kept.proofs.Given.ScenesMay.{standing_is}
+use Rattle.play_lists.proofs.Given.ScenesMay.{standing_is}
 use Rattle.play_stepping.specs.Given.ExecutorReplying.{AsksThere}
-use Rattle.run_kept.specs.Given.ScenesReplying.{scene_with}
-use Rattle.run_kept.specs.Given.ScenesScene.{Scene}
+use Rattle.play_lists.specs.Given.ScenesReplying.{scene_with}
+use Rattle.play_lists.specs.Given.ScenesScene.{Scene}
 use Rattle.play_stepping.specs.Given.ExecutorIsThere.{held_by}
 use Rattle.run_schedules.specs.Schedules.Transition.{past}
 use Rattle.play_stepping.proofs.Given.General.{same_some as the}

@@ -20,7 +20,7 @@ use Rattle.run_schedules.specs.Schedules.InTurn.{HasRightOutcome}
 use Rattle.run_schedules.specs.Schedules.Moment.{UnderWay as CallThere, Moment}
 use Rattle.run_schedules.specs.Schedules.Terms.{Terms}
 use Rattle.run_schedules.specs.Schedules.Views.{call_of, number_of}
-use Rattle.run_kept.specs.Given.EffectsKnown.{Known, known}
+use Rattle.play_lists.specs.Given.EffectsKnown.{Known, known}
 use Rattle.run_schedules.specs.declared.effect.Thing.{Thing}
 use Rattle.run_schedules.specs.Runs.Same.{is_same}
 use Rattle.play_lists.specs.Given.FindsWithin.{AllIsInOrder}
@@ -50,7 +50,7 @@ use Rattle.play_events.proofs.Events.OfCalls.InCase.{comes_in_case}
 use Rattle.play_events.proofs.Events.OfCalls.Scenes.{stands_in}
 use Rattle.play_events.proofs.Events.OfCalls.Steps.{HasCome, as_told, has_come}
 use Rattle.play_events.proofs.Events.OfCalls.Words.{not_busy}
-use Rattle.run_kept.specs.Given.ScenesScene.{slot_of}
+use Rattle.play_lists.specs.Given.ScenesScene.{slot_of}
 use Rattle.play_stepping.specs.Given.ExecutorIsThere.{held_by}
 use Rattle.play_stepping.proofs.Given.General.{same_some as the}
 

@@ -13,7 +13,7 @@ use Rattle.run_schedules.specs.declared.outcome.Outcome.{Outcome}
 use Rattle.run_schedules.specs.declared.outcome.Outcome.TheVariants as outcome
 use Rattle.run_schedules.specs.Schedules.Entry.{Entry, is_busy}
 use Rattle.run_schedules.specs.Schedules.Moment.{Moment}
-use Rattle.run_kept.specs.Given.EffectsKnown.{Known}
+use Rattle.play_lists.specs.Given.EffectsKnown.{Known}
 use Rattle.play_stepping.specs.Given.PurposesKept.{ShowsNone}
 use Rattle.run_legal.specs.CallRuns.{OutcomeNamesShown, OutcomeEndsAsStep}
 use Rattle.run_legal.specs.CallSwept.{OutcomeOf}

@@ -19,17 +19,17 @@ use Rattle.run_schedules.specs.Schedules.Effects.{call_by, due_for, with_effect,
 use Rattle.run_schedules.specs.Schedules.Entry.{Entry, acted_on, caller_of, ends_call}
 use Rattle.run_schedules.specs.Schedules.Moment.{Asking, Moment, CallState, UnderWay as CallThere}
 use Rattle.play_stepping.specs.Given.CallersTogether.{UnderWay}
-use Rattle.run_kept.specs.Given.FinishesMachines.{machine_of}
-use Rattle.run_kept.proofs.Given.FollowsCalling.{apart_back, is_same_is}
+use Rattle.play_lists.specs.Given.FinishesMachines.{machine_of}
+use Rattle.play_lists.proofs.Given.FollowsCalling.{apart_back, is_same_is}
 use Rattle.play_stepping.specs.Given.NamedSeen.{is_named}
 use Rattle.play_stepping.specs.Given.ExecutorDeclared.caller.NamedCaller.{NamedCaller}
-use Rattle.run_kept.proofs.Lists.{all_but}
+use Rattle.play_stepping.proofs.Given.Lists.{all_but}
 use Rattle.play_stepping.proofs.Given.RowsLists.{both_some, found_alike, unseen}
 use Rattle.play_stepping.proofs.Given.SchedulerRights.{quiet}
-use Rattle.run_kept.specs.Values.Values.{KeepsValue}
+use Rattle.play_lists.specs.Given.ValuesValues.{KeepsValue}
 use Rattle.play_events.specs.Events.Asked.{is_of_calls}
 use Rattle.play_events.specs.Events.OfCalls.{HaveValues, IsWorth}
-use Rattle.run_kept.specs.Given.ScenesScene.{Scene}
+use Rattle.play_lists.specs.Given.ScenesScene.{Scene}
 
 module _ {X : Type 0} where
   -- of those that are left it is so,

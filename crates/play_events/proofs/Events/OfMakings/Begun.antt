@@ -6,7 +6,7 @@ use Rattle.play_stepping.specs.Given.SeizeDeclared.advance.Advance.{Advance}
 use Rattle.play_stepping.specs.Given.SeizeWorld.{with_at}
 use Rattle.play_lists.specs.Given.TablesDeclared.resize_mode.ResizeMode.{ResizeMode}
 use Rattle.play_lists.specs.Given.TablesDeclared.setting.Setting.{Setting}
-use Rattle.run_kept.specs.Given.FinishesMakings.{Beginning}
+use Rattle.play_lists.specs.Given.FinishesMakings.{Beginning}
 use Rattle.run_schedules.specs.Schedules.After.{moment}
 use Rattle.run_schedules.specs.Schedules.Entry.{Entry}
 use Rattle.run_schedules.specs.Schedules.Terms.{Terms}
@@ -18,7 +18,7 @@ use Rattle.play_events.specs.Events.Asked.{Holds}
 use Rattle.play_events.specs.Events.OfCalls.{Runs}
 use Rattle.play_stepping.proofs.Given.ExecutorFresh.{no_making_yet}
 use Rattle.play_stepping.specs.Given.ExecutorMakingBegins.{next_making}
-use Rattle.run_kept.specs.Given.ScenesScene.{Scene}
+use Rattle.play_lists.specs.Given.ScenesScene.{Scene}
 
 module _ {K V S : Type 0} {same : K → K → Bool} {hash : K → ℕ} {terms : Terms} {log : List (Entry K V)} {own : List ℕ} {mode : ResizeMode} {capacity : ℕ} {told : Advance Setting} {played : Played V}
     {old new : Scheduler K V S} (run : Runs same hash terms log old) (holds : Holds same hash terms (moment log) old) (d : MakingHasRun played old new own mode capacity told) where

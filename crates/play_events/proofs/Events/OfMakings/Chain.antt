@@ -23,14 +23,14 @@ use Rattle.run_schedules.specs.Schedules.Lives.{EventFinds}
 use Rattle.run_schedules.specs.Schedules.Moment.{MapThere, Moment}
 use Rattle.run_schedules.specs.Schedules.Terms.{Terms}
 use Rattle.run_schedules.specs.Schedules.Views.{map_at}
-use Rattle.run_kept.specs.Given.EffectsEffects.{effects_of, known_after}
-use Rattle.run_kept.specs.Given.EffectsKnown.{Known, known}
-use Rattle.run_kept.specs.Given.EffectsDeclared.acting.Acting.TheVariants as acts
-use Rattle.run_kept.specs.Given.FinishesMakings.{Beginning, IsMade}
-use Rattle.run_kept.specs.Given.FinishesMaps.{Standing}
-use Rattle.run_kept.specs.Given.FollowsShows.{Refines}
-use Rattle.run_kept.specs.Given.OthersMakings.{IsNew, WasNew, making_after}
-use Rattle.run_kept.proofs.Given.OthersMakingGoes.{new_maps_stay}
+use Rattle.play_lists.specs.Given.EffectsEffects.{effects_of, known_after}
+use Rattle.play_lists.specs.Given.EffectsKnown.{Known, known}
+use Rattle.play_lists.specs.Given.EffectsDeclared.acting.Acting.TheVariants as acts
+use Rattle.play_lists.specs.Given.FinishesMakings.{Beginning, IsMade}
+use Rattle.play_lists.specs.Given.FinishesMaps.{Standing}
+use Rattle.play_lists.specs.Given.FollowsShows.{Refines}
+use Rattle.play_lists.specs.Given.OthersMakings.{IsNew, WasNew, making_after}
+use Rattle.play_lists.proofs.Given.OthersMakingGoes.{new_maps_stay}
 use Rattle.play_lists.specs.Given.FindsLinking.{IsMadeFor}
 use Rattle.play_lists.proofs.Given.FindsCapacities.{effects_keep_capacities}
 use Rattle.run_legal.specs.Chains.{Chain, Come, MakingSteps}
@@ -42,23 +42,23 @@ use Rattle.run_legal.proofs.Slots.{each_join}
 use Rattle.play_stepping.specs.Given.NeedsFirsts.{AllMakingsOpen}
 use Rattle.play_stepping.specs.Given.NeedsMakings.{CountsTables, table_left}
 use Rattle.play_stepping.proofs.Given.NeedsFirsts.{makings_go_on}
-use Rattle.run_kept.proofs.Given.RemainsNumbered.{made_stays}
+use Rattle.play_lists.proofs.Given.RemainsNumbered.{made_stays}
 use Rattle.play_stepping.specs.Given.LoggedGoes.{Far, GoesFor, MakingGoes, MakingOn}
 use Rattle.play_stepping.specs.Given.LoggedMakings.{is_over}
 use Rattle.play_stepping.specs.Given.LoggedShown.{IsCounted}
 use Rattle.play_stepping.proofs.Given.LoggedCounted.{counted_making_steps}
-use Rattle.run_kept.proofs.Sheds.LeftNoted.{makings_note_left}
+use Rattle.play_lists.proofs.Given.ShedsLeftNoted.{makings_note_left}
 use Rattle.run_legal.proofs.Given.LogMakingSteps.{is_there}
-use Rattle.run_kept.proofs.Sheds.Held.{making_held, maps_below}
+use Rattle.play_lists.proofs.Given.ShedsHeld.{making_held, maps_below}
 use Rattle.play_stepping.specs.Given.NamedPlaces.{first_places}
 use Rattle.play_stepping.proofs.Given.NeedsMakings.{makings_do_theirs, makings_find_theirs}
 use Rattle.play_stepping.proofs.Given.NeedsTablesMade.{makings_count_tables}
 use Rattle.play_events.proofs.Events.OfRows.Chain.{come_as, come_by}
 use Rattle.play_stepping.specs.Given.ExecutorIsThere.{IsThere, held_by}
 use Rattle.play_stepping.specs.Given.ExecutorMaking.{MakesThere}
-use Rattle.run_kept.specs.Given.ScenesScene.{Scene, slot_of}
-use Rattle.run_kept.specs.Given.ScenesHeld.{Held, IsAt}
-use Rattle.run_kept.specs.Given.ScenesMaking.{MakingLeads}
+use Rattle.play_lists.specs.Given.ScenesScene.{Scene, slot_of}
+use Rattle.play_lists.specs.Given.ScenesHeld.{Held, IsAt}
+use Rattle.play_lists.specs.Given.ScenesMaking.{MakingLeads}
 use Rattle.play_stepping.proofs.Given.General.{both_true as and_both}
 
 -- By what a step of a making told: it goes on as another machine, of the same map.

@@ -10,9 +10,9 @@ use Rattle.play_lists.specs.Given.TablesDeclared.resize_mode.ResizeMode.{ResizeM
 use Rattle.play_lists.specs.Given.TablesDeclared.setting.Setting.{Setting}
 use Rattle.play_stepping.proofs.Given.CallersTogether.At.{at_same}
 use Rattle.play_stepping.specs.Given.ExecutorDeclared.executor.Executor.{Executor}
-use Rattle.run_kept.specs.Given.FinishesMakings.{Beginning}
-use Rattle.run_kept.specs.Given.FinishesMaps.{Standing}
-use Rattle.run_kept.specs.Given.OthersMakings.{WasNew}
+use Rattle.play_lists.specs.Given.FinishesMakings.{Beginning}
+use Rattle.play_lists.specs.Given.FinishesMaps.{Standing}
+use Rattle.play_lists.specs.Given.OthersMakings.{WasNew}
 use Rattle.run_schedules.specs.Given.SeizeWordsDeclared.fault.Fault.{Fault}
 use Rattle.run_schedules.specs.Given.SeizeWordsDeclared.fault.Fault.TheVariants.{Memory}
 use Rattle.run_schedules.specs.declared.effect.Effect.{Effect}
@@ -23,10 +23,10 @@ use Rattle.run_schedules.specs.Schedules.Entry.{Entry, is_busy}
 use Rattle.run_schedules.specs.Schedules.InTurn.{HasRightOutcome, is_growth}
 use Rattle.run_schedules.specs.Schedules.Moment.{MapThere, Moment}
 use Rattle.run_schedules.specs.Schedules.Terms.{Terms}
-use Rattle.run_kept.specs.Given.EffectsEffects.{effects_of}
-use Rattle.run_kept.specs.Given.EffectsKnown.{Known, known}
-use Rattle.run_kept.specs.Given.EffectsDeclared.acting.Acting.TheVariants as acts
-use Rattle.run_kept.specs.Given.EffectsDeclared.notes.Notes.{Notes}
+use Rattle.play_lists.specs.Given.EffectsEffects.{effects_of}
+use Rattle.play_lists.specs.Given.EffectsKnown.{Known, known}
+use Rattle.play_lists.specs.Given.EffectsDeclared.acting.Acting.TheVariants as acts
+use Rattle.play_lists.specs.Given.EffectsDeclared.notes.Notes.{Notes}
 use Rattle.run_legal.specs.CallEvents.{IsLegalBut}
 use Rattle.run_legal.specs.Carried.{RefinesRun}
 use Rattle.run_legal.specs.Chains.{Come}
@@ -36,7 +36,7 @@ use Rattle.run_legal.proofs.Heads.Chains.{makings_taken}
 use Rattle.run_legal.proofs.Heads.Rows.{slots_stay}
 use Rattle.run_legal.proofs.Maps.{unmade_maps}
 use Rattle.run_legal.proofs.Refused.{refused_begins, refused_ends}
-use Rattle.run_kept.specs.Given.ReclaimsLeft.{LeftWithEndings}
+use Rattle.play_stepping.specs.Given.ReclaimsLeft.{LeftWithEndings}
 use Rattle.play_stepping.specs.Given.LoggedGoes.{Far, GoesFor, MakingGoes, MakingOn, far}
 use Rattle.play_stepping.specs.Given.LoggedMakings.{MakingCame, MakingIsBegun, given_back, is_over}
 use Rattle.play_stepping.specs.Given.LoggedDeclared.logged.Logged.{Logged}
@@ -59,9 +59,9 @@ use Rattle.play_events.proofs.Events.OfRows.Chain.{come_by}
 use Rattle.play_events.proofs.Events.OfRows.Lone.{alone_follows}
 use Rattle.play_events.proofs.Events.OfRows.Over.{over_runs}
 use Rattle.play_stepping.specs.Given.ExecutorIsThere.{IsThere, held_by}
-use Rattle.run_kept.specs.Given.ScenesScene.{Scene}
-use Rattle.run_kept.proofs.Sheds.Held.{making_held}
-use Rattle.run_kept.specs.Given.ScenesMaking.{MakingLeads}
+use Rattle.play_lists.specs.Given.ScenesScene.{Scene}
+use Rattle.play_lists.proofs.Given.ShedsHeld.{making_held}
+use Rattle.play_lists.specs.Given.ScenesMaking.{MakingLeads}
 use Rattle.play_stepping.proofs.Given.General.{both_true as and_both}
 
 -- where all that was asked for were growths, so were those before, and those that follow

@@ -3,21 +3,21 @@ use Rattle.std.specs.Prelude.{◌≡◌, ℕ, zero, suc, Bool, List, ◌++◌, N
 use Rattle.std.proofs.Common.{refl, subst, ◌∙◌}
 use Rattle.play_stepping.specs.Given.SeizeWorld.{Step}
 use Rattle.play_stepping.specs.Given.ExecutorDeclared.executor.Executor.{Executor}
-use Rattle.run_kept.specs.Given.OthersRows.{scene_then}
+use Rattle.play_lists.specs.Given.OthersRows.{scene_then}
 use Rattle.run_schedules.specs.declared.effect.Effect.{Effect}
 use Rattle.run_schedules.specs.Schedules.Effects.{with_effects}
 use Rattle.run_schedules.specs.Schedules.Moment.{Moment}
 use Rattle.run_schedules.specs.Schedules.Terms.{Terms}
-use Rattle.run_kept.specs.Given.EffectsEffects.{effects_of, known_after}
-use Rattle.run_kept.specs.Given.EffectsKnown.{Known, known}
-use Rattle.run_kept.specs.Given.EffectsDeclared.acting.Acting.TheVariants as acts
+use Rattle.play_lists.specs.Given.EffectsEffects.{effects_of, known_after}
+use Rattle.play_lists.specs.Given.EffectsKnown.{Known, known}
+use Rattle.play_lists.specs.Given.EffectsDeclared.acting.Acting.TheVariants as acts
 use Rattle.play_stepping.specs.Given.LoggedGoes.{Far, GoesFor, RowGoes}
 use Rattle.play_stepping.specs.Given.LoggedShown.{IsCounted}
 use Rattle.play_stepping.proofs.Given.LoggedCounted.{counted_row_steps}
-use Rattle.run_kept.proofs.Sheds.LeftNoted.{rows_note_left}
+use Rattle.play_lists.proofs.Given.ShedsLeftNoted.{rows_note_left}
 use Rattle.run_legal.specs.Chains.{Chain, Come, RowSteps}
 use Rattle.play_stepping.specs.Given.ExecutorIsThere.{IsThere, held_by}
-use Rattle.run_kept.specs.Given.ScenesScene.{Scene}
+use Rattle.play_lists.specs.Given.ScenesScene.{Scene}
 use Rattle.play_stepping.proofs.Given.ExecutorRowLeads.{has_row, held_row}
 
 module _ {K V S : Type 0} where

@@ -21,18 +21,18 @@ use Rattle.run_schedules.specs.Schedules.Beginning.{begun}
 use Rattle.run_schedules.specs.Schedules.Entry.{Entry, is_busy}
 use Rattle.run_schedules.specs.Schedules.Moment.{Moment}
 use Rattle.run_schedules.specs.Schedules.Terms.{Terms}
-use Rattle.run_kept.specs.Given.ScenesDeclared.row.RowTold.{RowTold}
-use Rattle.run_kept.specs.Given.ScenesDeclared.row.RowTold.TheVariants as told
-use Rattle.run_kept.specs.Given.ScenesDeclared.row.SlotCall.{SlotCall}
-use Rattle.run_kept.specs.Given.ScenesDeclared.row.SlotCall.TheVariants as call
-use Rattle.run_kept.specs.Given.ScenesDeclared.row.SlotUse.{SlotUse}
-use Rattle.run_kept.specs.Given.ScenesDeclared.row.SlotUse.TheVariants as used
-use Rattle.run_kept.specs.Given.PromisesOthers.{NobodyOn, SparesGuards}
-use Rattle.run_kept.specs.Given.PromisesProtected.{EndsInside, there_in}
-use Rattle.run_kept.proofs.Given.PromisesGuards.{only_guards_leave_nobody}
-use Rattle.run_kept.specs.Models.OnSlots.{IsRowFor}
-use Rattle.run_kept.specs.Models.Rows.{RowsAre}
-use Rattle.run_kept.proofs.Models.Rows.{events_are_rows}
+use Rattle.play_lists.specs.Given.ScenesDeclared.row.RowTold.{RowTold}
+use Rattle.play_lists.specs.Given.ScenesDeclared.row.RowTold.TheVariants as told
+use Rattle.play_lists.specs.Given.ScenesDeclared.row.SlotCall.{SlotCall}
+use Rattle.play_lists.specs.Given.ScenesDeclared.row.SlotCall.TheVariants as call
+use Rattle.play_lists.specs.Given.ScenesDeclared.row.SlotUse.{SlotUse}
+use Rattle.play_lists.specs.Given.ScenesDeclared.row.SlotUse.TheVariants as used
+use Rattle.run_legal.specs.Given.PromisesOthers.{NobodyOn, SparesGuards}
+use Rattle.run_legal.specs.Given.PromisesProtected.{EndsInside, there_in}
+use Rattle.run_legal.proofs.Given.PromisesGuards.{only_guards_leave_nobody}
+use Rattle.run_legal.specs.Given.ModelsOnSlots.{IsRowFor}
+use Rattle.play_lists.specs.Given.ModelsRows.{RowsAre}
+use Rattle.play_lists.proofs.Given.ModelsRows.{events_are_rows}
 use Rattle.play_stepping.specs.Given.LoggedDeclared.logged.Logged.{Logged}
 use Rattle.run_legal.specs.Given.RowsRows.{RowRan, left_as}
 use Rattle.run_legal.proofs.Given.RowsNeverWaits.{led_alone, over_alone}
@@ -50,7 +50,7 @@ use Rattle.play_stepping.proofs.Given.SchedulerUnregisters as unregisters_so
 use Rattle.play_stepping.proofs.Given.SchedulerVacancies.{first_is}
 use Rattle.play_stepping.specs.Given.ExecutorIsThere.{IsUsedAs, use_at, work_of}
 use Rattle.play_stepping.specs.Given.ExecutorOnSlots.{MayBegin}
-use Rattle.run_kept.specs.Given.ScenesRows.{request_of}
+use Rattle.play_lists.specs.Given.ScenesRows.{request_of}
 
 -- by how a slot is used it is within a section, or not
 pub inside_by : (kind : SlotUse) (v : Use) → IsUsedAs kind v → kind ≡ used.Inside → IsInside v

@@ -7,8 +7,8 @@ use Rattle.run_schedules.specs.Schedules.After.{is_by, moment}
 use Rattle.run_schedules.specs.Schedules.Entry.{Entry, speaker}
 use Rattle.run_schedules.specs.Schedules.Moment.{UnderWay as CallThere}
 use Rattle.run_schedules.specs.Schedules.Terms.{Terms}
-use Rattle.run_kept.specs.Given.EffectsKnown.{known}
-use Rattle.run_kept.specs.Models.Follows.{FollowsModel}
+use Rattle.play_lists.specs.Given.EffectsKnown.{known}
+use Rattle.run_legal.specs.Given.ModelsFollows.{FollowsModel}
 use Rattle.run_legal.specs.Carried.{IsSequential, FollowsOrRows}
 use Rattle.play_stepping.specs.Given.NamedSeen.{seen, seen_of}
 use Rattle.play_stepping.specs.Given.ExecutorDeclared.caller.NamedCaller.{NamedCaller}

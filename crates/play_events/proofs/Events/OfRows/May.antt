@@ -11,8 +11,8 @@ use Rattle.run_schedules.specs.Schedules.After.{moment}
 use Rattle.run_schedules.specs.Schedules.Entry.{Entry}
 use Rattle.run_schedules.specs.Schedules.Handing.{is_only, is_reclaiming, may_do}
 use Rattle.run_schedules.specs.Schedules.Terms.{Terms}
-use Rattle.run_kept.specs.Given.ScenesDeclared.row.SlotCall.{SlotCall}
-use Rattle.run_kept.specs.Given.ScenesDeclared.row.SlotCall.TheVariants as call
+use Rattle.play_lists.specs.Given.ScenesDeclared.row.SlotCall.{SlotCall}
+use Rattle.play_lists.specs.Given.ScenesDeclared.row.SlotCall.TheVariants as call
 use Rattle.run_legal.proofs.Given.RowsThere.{is_inside, on_its_slot}
 use Rattle.play_stepping.specs.Given.SchedulerPlayed.{RefinesFor}
 use Rattle.play_stepping.specs.Given.SchedulerWorks.{IsAbout, IsItsRow}

@@ -8,12 +8,12 @@ use Rattle.run_schedules.specs.Schedules.After.{moment}
 use Rattle.run_schedules.specs.Schedules.Entry.{Entry, caller_of}
 use Rattle.run_schedules.specs.Schedules.InTurn.{HasRightOutcome}
 use Rattle.run_schedules.specs.Schedules.Terms.{Terms}
-use Rattle.run_kept.specs.Given.EffectsKnown.{known}
+use Rattle.play_lists.specs.Given.EffectsKnown.{known}
 use Rattle.run_legal.specs.CallEvents.{IsLegalBut}
 use Rattle.run_legal.specs.Carried.{RefinesRun}
 use Rattle.run_legal.proofs.Come.{events_bring_things}
 use Rattle.play_events.proofs.Folded.Steps.{none_in_order}
-use Rattle.run_kept.specs.Given.ReclaimsLeft.{LeftWithEndings}
+use Rattle.play_stepping.specs.Given.ReclaimsLeft.{LeftWithEndings}
 use Rattle.play_stepping.specs.Given.ExecutorDeclared.caller.NamedCaller.{NamedCaller}
 use Rattle.play_stepping.specs.Given.SchedulerPlayed.{IsPlayed}
 use Rattle.play_stepping.specs.Given.SchedulerDeclared.scheduler.Scheduler.{Scheduler}
@@ -24,7 +24,7 @@ use Rattle.play_events.proofs.Events.OfCalls.Worth.{have_values_then, nobody_say
 use Rattle.play_events.proofs.Events.Reached.{reached_after}
 use Rattle.play_events.proofs.Events.Remaining.{counted_in}
 use Rattle.play_stepping.specs.Given.ExecutorIsThere.{IsThere}
-use Rattle.run_kept.specs.Given.ScenesScene.{Scene}
+use Rattle.play_lists.specs.Given.ScenesScene.{Scene}
 
 -- an event of no call is by no caller
 by_none : {K V : Type 0} (event : Event K V) → is_of_calls event ≡ false → caller_of event ≡ None

@@ -4,7 +4,7 @@ use Rattle.std.specs.List.{list_all, list_any}
 use Rattle.std.proofs.Common.{refl, sym, ap, subst, ◌∙◌}
 use Rattle.play_stepping.specs.Given.SeizeWorld.{World, IsInside}
 use Rattle.play_lists.specs.Given.TablesDeclared.node.Node.{Node}
-use Rattle.run_kept.proofs.Given.HistoriesOtherCalls.{no_calls_are_linearizable}
+use Rattle.play_lists.proofs.Given.HistoriesOtherCalls.{no_calls_are_linearizable}
 use Rattle.run_schedules.specs.Given.SeizeWordsDeclared.fault.Fault.{Fault}
 use Rattle.run_schedules.specs.Given.SeizeWordsDeclared.fault.Fault.TheVariants.{Busy}
 use Rattle.run_schedules.specs.Runs.Present.{Present, guards_on, slot_of_guard, slot_of_registration}
@@ -24,13 +24,13 @@ use Rattle.run_schedules.specs.Schedules.Moment.{UnderWay as CallThere, Moment}
 use Rattle.run_schedules.specs.Schedules.Reclaims.{IsProtected}
 use Rattle.run_schedules.specs.Schedules.Steps.{IsBrief}
 use Rattle.run_schedules.specs.Schedules.Terms.{Terms}
-use Rattle.run_kept.specs.Given.EffectsKnown.{Known, known}
+use Rattle.play_lists.specs.Given.EffectsKnown.{Known, known}
 use Rattle.run_schedules.specs.Schedules.Linearizable.{shift_of}
-use Rattle.run_kept.specs.Given.PromisesGuards.{EntersInside}
-use Rattle.run_kept.specs.Given.PromisesSheltered.{SectionsHold}
-use Rattle.run_kept.proofs.Given.PromisesProtected.{idle_events_are_protected}
-use Rattle.run_kept.proofs.Models.Follows.{idle_events_follow}
-use Rattle.run_kept.proofs.Models.Rows.{events_are_rows}
+use Rattle.run_legal.specs.Given.PromisesGuards.{EntersInside}
+use Rattle.play_lists.specs.Given.PromisesSheltered.{SectionsHold}
+use Rattle.run_legal.proofs.Given.PromisesProtected.{idle_events_are_protected}
+use Rattle.run_legal.proofs.Given.ModelsFollows.{idle_events_follow}
+use Rattle.play_lists.proofs.Given.ModelsRows.{events_are_rows}
 use Rattle.play_stepping.proofs.Given.PurposesNothing.{no_calls_are_swept}
 use Rattle.play_lists.specs.Given.FindsLittle.{ReclaimsAll}
 use Rattle.run_legal.specs.CallEvents.{IsLegalBut}

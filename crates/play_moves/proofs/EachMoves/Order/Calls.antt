@@ -14,14 +14,14 @@ use Rattle.run_schedules.specs.Schedules.Beginning.{with_call}
 use Rattle.run_schedules.specs.Schedules.Entry.{Entry, ends_call}
 use Rattle.run_schedules.specs.Schedules.Moment.{MapThere, Moment, TableThere, UnderWay as CallThere}
 use Rattle.run_schedules.specs.Schedules.Reclaims.{is_kept}
-use Rattle.play_lists.specs.Given.FindsEvents.{EndedHasNoObligation}
-use Rattle.play_lists.specs.Given.FindsTables.{TablesAreInOrder}
-use Rattle.play_lists.specs.Given.FindsWaiting.{PairsArePlaced}
-use Rattle.play_lists.specs.Given.FindsWithin.{AllIsInOrder, HasItsMap}
-use Rattle.play_lists.proofs.Given.FindsEvents.{beginnings_keep_placed, beginnings_keep_tables, events_keep_placed, events_keep_tables}
-use Rattle.play_lists.proofs.Given.FindsLists.{all_so}
-use Rattle.play_lists.proofs.Given.FindsOver.{over_have}
-use Rattle.play_lists.proofs.Given.FindsTables.{each_same}
+use Rattle.play_linear.specs.Given.FindsEvents.{EndedHasNoObligation}
+use Rattle.play_linear.specs.Given.FindsTables.{TablesAreInOrder}
+use Rattle.run_legal.specs.Given.FindsWaiting.{PairsArePlaced}
+use Rattle.run_legal.specs.Given.FindsWithin.{AllIsInOrder, HasItsMap}
+use Rattle.play_linear.proofs.Given.FindsEvents.{beginnings_keep_placed, beginnings_keep_tables, events_keep_placed, events_keep_tables}
+use Rattle.run_legal.proofs.Given.FindsLists.{all_so}
+use Rattle.run_legal.proofs.Given.FindsOver.{over_have}
+use Rattle.play_linear.proofs.Given.FindsTables.{each_same}
 
 module _ {K V : Type 0} (m : Moment K V) (order : AllIsInOrder m) where
   -- where a call begins by a name that none has, on a map that is there

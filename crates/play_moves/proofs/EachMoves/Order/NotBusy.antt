@@ -3,21 +3,21 @@ use Rattle.std.specs.Prelude.{◌≡◌, ℕ, Bool, true, Option, Some}
 use Rattle.std.proofs.Common.{refl, sym, subst, inl, inr}
 use Rattle.run_legal.specs.Given.LateKinds.{FaultFits}
 use Rattle.run_schedules.specs.Given.SeizeWordsDeclared.fault.Fault.TheVariants.{Busy}
-use Rattle.play_lists.specs.Given.TablesDeclared.node.Node.{Node}
+use Rattle.run_legal.specs.Given.TablesDeclared.node.Node.{Node}
 use Rattle.run_schedules.specs.Given.RawDeclared.machines.progress.Progress.{Progress}
 use Rattle.run_schedules.specs.Given.RawDeclared.machines.progress.Progress.TheVariants as progress
 use Rattle.run_schedules.specs.Schedules.Entry.{ends_call}
 use Rattle.run_legal.specs.Given.CallersPairs.{kind_of as kind_given}
 use Rattle.run_legal.specs.Given.CallersTogether.{CallOnKey, Counting, ForRoom, OnKey, OverAll, UnderWay}
-use Rattle.play_lists.specs.Given.EffectsKnown.{Known}
-use Rattle.play_lists.specs.Given.FinishesMachines.{machine_of}
+use Rattle.run_legal.specs.Given.EffectsKnown.{Known}
+use Rattle.run_legal.specs.Given.FinishesMachines.{machine_of}
 use Rattle.run_legal.specs.Given.NamedMachines.{RefusedForRoom}
 use Rattle.run_legal.specs.Given.ExecutorDeclared.kind.CallKind.{CallKind}
-use Rattle.play_lists.specs.Given.ScenesHeld.{Held}
-use Rattle.play_lists.specs.Given.ScenesScene.{Scene}
-use Rattle.play_lists.specs.Given.ScenesStepping.{StepLeads, has_ended}
-use Rattle.run_histories.proofs.Histories.Refusals.{refused}
-use Rattle.play_lists.specs.Played.Play.{outcome_of}
+use Rattle.run_legal.specs.Given.ScenesHeld.{Held}
+use Rattle.run_legal.specs.Given.ScenesScene.{Scene}
+use Rattle.run_legal.specs.Given.ScenesStepping.{StepLeads, has_ended}
+use Rattle.run_legal.proofs.Given.HistoriesRefusals.{refused}
+use Rattle.play_linear.specs.Given.PlayedPlay.{outcome_of}
 use Rattle.run_legal.proofs.Given.QuietRoomSays.{NeverRefused, SaysRoom, reserve_room, sum_room, sweep_room}
 
 module _ {K V : Type 0} where

@@ -3,9 +3,9 @@ use Rattle.std.specs.Prelude.{◌≤◌, ◌==◌, nat_lt, ℕ, Bool, true, fals
 use Rattle.std.specs.List.{AllByRecursion}
 use Rattle.std.proofs.Common.{◌≡◌, refl, arith}
 use Rattle.run_schedules.specs.Schedules.Moment.{Moment, start}
-use Rattle.play_lists.specs.Given.FindsWithin.{many_of}
+use Rattle.run_legal.specs.Given.FindsWithin.{many_of}
 use Rattle.run_legal.specs.Given.GrowsTries.{TablesLast}
-use Rattle.play_lists.proofs.Given.FindsGrows.Steps.{tables_have_been}
+use Rattle.run_legal.proofs.Given.FindsGrows.Steps.{tables_have_been}
 use Rattle.run_legal.proofs.Given.GrowsFinding.Alike.{many_same}
 use Rattle.run_schedules.specs.Deeds.Deeds.{Begins, Deed, Entry, MapComes, acted_on, after, at_work, begun, caller_of, moment}
 use Rattle.run_schedules.specs.Deeds.History.{moments_from, past}

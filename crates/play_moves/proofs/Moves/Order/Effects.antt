@@ -14,15 +14,15 @@ use Rattle.run_schedules.specs.Schedules.Moment.{Moment, TableThere}
 use Rattle.run_schedules.specs.Schedules.Terms.{Terms}
 use Rattle.run_schedules.specs.Schedules.Things.{same_table}
 use Rattle.run_schedules.specs.Schedules.Views.{chain_of, first_of, is_linked, is_stage, tables_of}
-use Rattle.play_lists.specs.Given.FindsLife.{StoresOne}
-use Rattle.play_lists.specs.Given.FindsWithin.{AllIsInOrder, HasItsMap}
+use Rattle.run_legal.specs.Given.FindsLife.{StoresOne}
+use Rattle.run_legal.specs.Given.FindsWithin.{AllIsInOrder, HasItsMap}
 use Rattle.run_legal.proofs.Growths.{growths_leave}
-use Rattle.play_lists.proofs.Given.FindsLife.{each_so}
-use Rattle.play_lists.proofs.Given.FindsLists.{all_so, any_so, each_among, each_is}
-use Rattle.play_lists.proofs.Given.FindsTables.{all_kept}
+use Rattle.run_legal.proofs.Given.FindsLife.{each_so}
+use Rattle.run_legal.proofs.Given.FindsLists.{all_so, any_so, each_among, each_is}
+use Rattle.play_linear.proofs.Given.FindsTables.{all_kept}
 use Rattle.run_legal.proofs.Given.OthersLeads.{same_parts}
-use Rattle.run_histories.proofs.Given.SpotsUnreclaimed.{same_itself}
-use Rattle.play_lists.proofs.Given.FindsRuns.{life_keeps_order}
+use Rattle.run_legal.proofs.Given.SpotsUnreclaimed.{same_itself}
+use Rattle.run_legal.proofs.Given.FindsRuns.{life_keeps_order}
 use Rattle.run_schedules.specs.Deeds.History.{EndFinds, is_first_of, left_tables}
 use Rattle.play_linear.proofs.Linear.Like.{IsLike}
 use Rattle.run_schedules.proofs.Given.General.{equal_so as number_is}

@@ -6,7 +6,7 @@ use Rattle.run_legal.proofs.Given.LateKindsKept.Laws.{told_sweeps_refuse_room}
 use Rattle.seize_acts.specs.Given.SeizeWorld.{Step}
 use Rattle.seize_acts.specs.Given.SeizeDeclared.advance.Advance.{Advance as Making}
 use Rattle.seize_acts.specs.Given.SeizeDeclared.advance.Advance.TheVariants as making
-use Rattle.play_lists.specs.Given.TablesDeclared.setting.Setting.{Setting}
+use Rattle.run_legal.specs.Given.TablesDeclared.setting.Setting.{Setting}
 use Rattle.run_schedules.specs.declared.outcome.Outcome.{Outcome}
 use Rattle.run_schedules.specs.declared.outcome.Outcome.TheVariants as outcome
 use Rattle.run_schedules.specs.Given.RawMachine.{machine_asked}
@@ -19,33 +19,33 @@ use Rattle.run_schedules.specs.Schedules.Moment.{MapThere, Moment, UnderWay as C
 use Rattle.run_schedules.specs.Schedules.Terms.{Terms}
 use Rattle.run_schedules.specs.Schedules.Views.{call_of}
 use Rattle.run_legal.specs.Given.CallersTogether.{OverAll, UnderWay}
-use Rattle.play_lists.specs.Given.EffectsEffects.{effects_of, known_after}
-use Rattle.play_lists.specs.Given.EffectsKnown.{Known}
-use Rattle.play_lists.specs.Given.EffectsDeclared.acting.Acting.TheVariants as acts
-use Rattle.play_lists.specs.Given.FinishesMachines.{machine_of}
-use Rattle.play_lists.specs.Given.FinishesMakings.{Beginning}
-use Rattle.play_lists.specs.Given.FinishesMaps.{with_call}
+use Rattle.run_legal.specs.Given.EffectsEffects.{effects_of, known_after}
+use Rattle.run_legal.specs.Given.EffectsKnown.{Known}
+use Rattle.run_legal.specs.Given.EffectsDeclared.acting.Acting.TheVariants as acts
+use Rattle.run_legal.specs.Given.FinishesMachines.{machine_of}
+use Rattle.run_legal.specs.Given.FinishesMakings.{Beginning}
+use Rattle.run_legal.specs.Given.FinishesMaps.{with_call}
 use Rattle.run_legal.specs.Given.HandsAsked.{reply_to_machine}
 use Rattle.run_legal.specs.Given.SettlesHand.{RefinesObligations}
 use Rattle.run_legal.specs.Given.NamedMachines.{RefusedForRoom}
 use Rattle.run_legal.specs.Given.NamedSeen.{kind_of}
-use Rattle.play_lists.specs.Given.OthersEndings.{ending_after}
-use Rattle.play_lists.specs.Given.OthersMakings.{making_after}
-use Rattle.play_lists.specs.Given.OthersRows.{scene_then}
-use Rattle.play_lists.specs.Given.ScenesHeld.{Held, IsAt}
-use Rattle.play_lists.specs.Given.ScenesMaking.{MakingLeads}
-use Rattle.play_lists.specs.Given.ScenesReplying.{scene_with, unless_stopped}
-use Rattle.play_lists.specs.Given.ScenesScene.{Scene, slot_of}
-use Rattle.play_lists.specs.Given.ScenesStepping.{has_ended, scene_after}
-use Rattle.play_lists.proofs.Given.FindsEvents.{comes_same, told_same}
-use Rattle.play_lists.proofs.Given.FindsGrown.{found_any}
-use Rattle.play_lists.proofs.Given.FindsLists.{all_so}
-use Rattle.play_lists.proofs.Given.FindsOver.{calls_stay}
+use Rattle.run_legal.specs.Given.OthersEndings.{ending_after}
+use Rattle.run_legal.specs.Given.OthersMakings.{making_after}
+use Rattle.run_legal.specs.Given.OthersRows.{scene_then}
+use Rattle.run_legal.specs.Given.ScenesHeld.{Held, IsAt}
+use Rattle.run_legal.specs.Given.ScenesMaking.{MakingLeads}
+use Rattle.run_legal.specs.Given.ScenesReplying.{scene_with, unless_stopped}
+use Rattle.run_legal.specs.Given.ScenesScene.{Scene, slot_of}
+use Rattle.run_legal.specs.Given.ScenesStepping.{has_ended, scene_after}
+use Rattle.play_linear.proofs.Given.FindsEvents.{comes_same, told_same}
+use Rattle.run_legal.proofs.Given.FindsGrown.{found_any}
+use Rattle.run_legal.proofs.Given.FindsLists.{all_so}
+use Rattle.run_legal.proofs.Given.FindsOver.{calls_stay}
 use Rattle.run_legal.proofs.Given.GrowsFinding.Others.{ended_calls}
 use Rattle.run_legal.proofs.Given.NamedCalled.{begins_for_room}
-use Rattle.play_lists.specs.Given.ActsActs.{begun}
+use Rattle.threads_rule.specs.Given.ActsActs.{begun}
 use Rattle.run_schedules.specs.Deeds.Deeds.{Entry, ReclaimsAll, Steps, acted_on, after, come, moment, named}
-use Rattle.play_lists.specs.Played.Play.{call_for, is_over, is_refusal, making_outcome, outcome_of, pairs_for, row_deed, settled_outcome}
+use Rattle.play_linear.specs.Given.PlayedPlay.{call_for, is_over, is_refusal, making_outcome, outcome_of, pairs_for, row_deed, settled_outcome}
 use Rattle.play_linear.specs.Linear.Coming.{ComesBy, IsUnknown}
 use Rattle.play_linear.proofs.Linear.Begun.{begun_is}
 use Rattle.play_linear.proofs.Linear.Like.{IsLike}
@@ -57,7 +57,7 @@ use Rattle.play_moves.proofs.EachMoves.Order.NotBusy.{ends_so, not_busy, room_th
 use Rattle.play_moves.proofs.Moves.Order.Stays.{begins_stay, comes_stay, ends_stay, fails_stay, goes_stay, makes_stay, replies_stay, rows_stay, steps_stay, stops_stay}
 use Rattle.play_moves.proofs.Moves.Order.RoomKept.{goes_on, one_call, ready_has_none, room_on, room_still, told_room}
 use Rattle.play_moves.proofs.Moves.Order.UnderWay.{begins_under, effects_under, ends_under, goes_under, none_named, stays_under, stepped_under, still_under}
-use Rattle.play_lists.proofs.Given.SettlesCalls.{goes_as_one}
+use Rattle.run_legal.proofs.Given.SettlesCalls.{goes_as_one}
 use Rattle.run_schedules.proofs.Given.General.{same_some}
 
 not_over : (q : Bool) → (q ≡ true → ⊥) → q ≡ false

@@ -11,19 +11,19 @@ use Rattle.run_schedules.specs.Schedules.Reclaims.{is_kept}
 use Rattle.run_schedules.specs.Schedules.Things.{same_table}
 use Rattle.run_schedules.specs.Schedules.Views.{first_of, first_or, is_linked, map_at, tables_of}
 use Rattle.run_schedules.specs.Schedules.Beginning.{with_map}
-use Rattle.play_lists.specs.Given.FindsTables.{TablesAreInOrder}
-use Rattle.play_lists.specs.Given.FindsWaiting.{PairsArePlaced}
-use Rattle.play_lists.specs.Given.FindsWithin.{AllIsInOrder, HasItsMap, many_of}
-use Rattle.play_lists.proofs.Given.FollowsCalling.{is_same_is, is_same_refl}
+use Rattle.play_linear.specs.Given.FindsTables.{TablesAreInOrder}
+use Rattle.run_legal.specs.Given.FindsWaiting.{PairsArePlaced}
+use Rattle.run_legal.specs.Given.FindsWithin.{AllIsInOrder, HasItsMap, many_of}
+use Rattle.run_legal.proofs.Given.FollowsCalling.{is_same_is, is_same_refl}
 use Rattle.run_legal.proofs.Given.OthersLeads.{same_parts}
-use Rattle.play_lists.proofs.Given.FindsEndings.{fewer_found, more_found, name_of, number_at, same_number}
-use Rattle.play_lists.proofs.Given.FindsEvents.{beginnings_keep_placed, beginnings_keep_tables}
-use Rattle.play_lists.proofs.Given.FindsLists.{all_both, all_so, any_kept, any_kept_among, any_so, each_among, each_is}
-use Rattle.play_lists.proofs.Given.FindsSomewhere.{others_keep_somewhere}
-use Rattle.play_lists.proofs.Given.FindsTables.{all_append, all_kept, others_keep_tables}
+use Rattle.run_legal.proofs.Given.FindsEndings.{fewer_found, more_found, name_of, number_at, same_number}
+use Rattle.play_linear.proofs.Given.FindsEvents.{beginnings_keep_placed, beginnings_keep_tables}
+use Rattle.run_legal.proofs.Given.FindsLists.{all_both, all_so, any_kept, any_kept_among, any_so, each_among, each_is}
+use Rattle.run_legal.proofs.Given.FindsSomewhere.{others_keep_somewhere}
+use Rattle.play_linear.proofs.Given.FindsTables.{all_append, all_kept, others_keep_tables}
 use Rattle.run_schedules.specs.Deeds.Deeds.{come, named, without_map}
 use Rattle.run_schedules.specs.Deeds.History.{left_tables}
-use Rattle.play_lists.specs.Agrees.Fresh.{AreNamed, IsNamed}
+use Rattle.play_linear.specs.Given.AgreesFresh.{AreNamed, IsNamed}
 use Rattle.play_moves.proofs.Moves.Order.Effects.{itself, linked_one}
 use Rattle.run_schedules.proofs.Given.General.{equal_so as number_is}
 

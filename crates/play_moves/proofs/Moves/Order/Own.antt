@@ -3,7 +3,7 @@ use Rattle.std.specs.Prelude.{◌≡◌, ℕ, true, List, Some}
 use Rattle.run_schedules.specs.Runs.Same.{is_same}
 use Rattle.run_schedules.specs.Schedules.Moment.{UnderWay as CallThere}
 use Rattle.run_schedules.specs.Schedules.Views.{call_of}
-use Rattle.play_lists.proofs.Given.FindsGrown.{found_any}
+use Rattle.run_legal.proofs.Given.FindsGrown.{found_any}
 use Rattle.run_schedules.specs.Deeds.Deeds.{Deed, Entry, Leaves, Opens, ReclaimsAll, Registers, Shuts, Tends, moment, named}
 use Rattle.play_linear.proofs.Linear.RowsPlayed.{IsOfRow}
 use Rattle.play_moves.specs.EachMoves.Own.{FindsItsCall, has_call}

@@ -3,7 +3,7 @@ use Rattle.std.specs.Prelude.{◌≡◌, ℕ, Bool, true, false, List, [], Optio
 use Rattle.std.proofs.Common.{refl, ap, sym, ◌∙◌, inl, inr}
 use Rattle.run_legal.specs.Given.LateFaults.{RoomInSweeping}
 use Rattle.run_legal.proofs.Given.LateKindsKept.Laws.{told_sweeps_refuse_room}
-use Rattle.play_lists.specs.Given.TablesDeclared.node.Node.{Node}
+use Rattle.run_legal.specs.Given.TablesDeclared.node.Node.{Node}
 use Rattle.run_schedules.specs.Given.ReservesDeclared.sweep.Sweeping.{Sweeping}
 use Rattle.run_schedules.specs.Given.ReservesDeclared.sweep.Sweeping.TheVariants as sweeping
 use Rattle.run_schedules.specs.Given.RawMachine.{machine_asked, machine_replied, sweep_with_reply}
@@ -14,15 +14,15 @@ use Rattle.run_schedules.specs.Given.RawDeclared.machines.machine.Machine.TheVar
 use Rattle.run_schedules.specs.Given.RawDeclared.machines.progress.Progress.{Progress}
 use Rattle.run_schedules.specs.Given.RawDeclared.machines.progress.Progress.TheVariants as progress
 use Rattle.run_legal.specs.Given.CallersTogether.{UnderWay}
-use Rattle.play_lists.specs.Given.EffectsKnown.{Known}
-use Rattle.play_lists.specs.Given.FinishesMachines.{ContinuesAs, machine_of}
-use Rattle.play_lists.specs.Given.FinishesMaps.{with_call}
+use Rattle.run_legal.specs.Given.EffectsKnown.{Known}
+use Rattle.run_legal.specs.Given.FinishesMachines.{ContinuesAs, machine_of}
+use Rattle.run_legal.specs.Given.FinishesMaps.{with_call}
 use Rattle.run_legal.specs.Given.NamedMachines.{RefusedForRoom}
-use Rattle.play_lists.specs.Given.ScenesScene.{Scene}
-use Rattle.play_lists.specs.Given.ScenesStepping.{has_ended}
+use Rattle.run_legal.specs.Given.ScenesScene.{Scene}
+use Rattle.run_legal.specs.Given.ScenesStepping.{has_ended}
 use Rattle.run_legal.specs.Given.SettlesHand.{in_hand}
-use Rattle.play_lists.proofs.Given.FollowsCalling.{is_same_refl}
-use Rattle.run_histories.proofs.Given.HandsAsking.{which}
+use Rattle.run_legal.proofs.Given.FollowsCalling.{is_same_refl}
+use Rattle.run_legal.proofs.Given.HandsAsking.{which}
 use Rattle.run_schedules.specs.Deeds.Deeds.{Entry, moment, named}
 use Rattle.run_schedules.specs.Deeds.History.{past}
 use Rattle.play_linear.specs.Linear.Shown.{RefinesAnswers}

@@ -4,7 +4,7 @@ use Rattle.std.specs.List.{AllByRecursion, list_any}
 use Rattle.std.proofs.Common.{refl, ap, sym, subst, ◌∙◌, arith}
 use Rattle.std.proofs.lemmas.Bool.{eq-eqb}
 use Rattle.run_schedules.specs.Runs.Same.{is_same}
-use Rattle.play_lists.specs.Given.TablesDeclared.resize_mode.ResizeMode.{ResizeMode}
+use Rattle.run_legal.specs.Given.TablesDeclared.resize_mode.ResizeMode.{ResizeMode}
 use Rattle.run_schedules.specs.declared.call.Call.{Call}
 use Rattle.run_schedules.specs.declared.call.Reply.{Reply}
 use Rattle.run_schedules.specs.declared.effect.Effect.{Effect}
@@ -20,19 +20,19 @@ use Rattle.run_schedules.specs.Schedules.Lives.{EventFinds, Finds}
 use Rattle.run_schedules.specs.Schedules.Moment.{InMap, MapThere, Moment, Place, TableThere, UnderWay as CallThere}
 use Rattle.run_schedules.specs.Schedules.Terms.{Terms}
 use Rattle.run_schedules.specs.Schedules.Views.{call_of, first_of, is_in_map, is_linked, map_at}
-use Rattle.play_lists.specs.Given.FindsLife.{StoresOne}
-use Rattle.play_lists.specs.Given.FindsWaiting.{is_unborn}
-use Rattle.play_lists.specs.Given.FindsWithin.{ActsOn, AllIsInOrder, many_of}
-use Rattle.play_lists.proofs.Given.FindsLife.{each_so}
-use Rattle.play_lists.proofs.Given.FindsOver.{both_at, calls_stay, ended_owes_none, none_of_name}
-use Rattle.play_lists.proofs.Given.FindsRuns.{life_keeps_order}
+use Rattle.run_legal.specs.Given.FindsLife.{StoresOne}
+use Rattle.run_legal.specs.Given.FindsWaiting.{is_unborn}
+use Rattle.run_legal.specs.Given.FindsWithin.{ActsOn, AllIsInOrder, many_of}
+use Rattle.run_legal.proofs.Given.FindsLife.{each_so}
+use Rattle.run_legal.proofs.Given.FindsOver.{both_at, calls_stay, ended_owes_none, none_of_name}
+use Rattle.run_legal.proofs.Given.FindsRuns.{life_keeps_order}
 use Rattle.run_schedules.specs.Deeds.Deeds.{Begins, Deed, Ends, Entry, Leaves, Makes, MapComes, MapFails, MapGoes, Opens, ReclaimsAll, Registers, Replies, Shuts, Steps, Stops, Tends, acted_on, after, come, map_of_call, moment, named, without_map}
 use Rattle.run_schedules.specs.Deeds.History.{EndFinds, past}
-use Rattle.play_lists.specs.Agrees.Fresh.{AreNamed}
-use Rattle.play_lists.proofs.Agrees.Names.{effects_named}
+use Rattle.play_linear.specs.Given.AgreesFresh.{AreNamed}
+use Rattle.play_linear.proofs.Given.AgreesNames.{effects_named}
 use Rattle.play_linear.proofs.Linear.RowsPlayed.{IsOfRow}
-use Rattle.play_lists.specs.MapsEnd.Ends.{AreStored}
-use Rattle.play_lists.proofs.MapsEnd.Places.{none_in}
+use Rattle.play_linear.specs.Given.MapsEndEnds.{AreStored}
+use Rattle.play_linear.proofs.Given.MapsEndPlaces.{none_in}
 use Rattle.play_moves.specs.Moves.Order.{OrderStays}
 use Rattle.play_moves.proofs.EachMoves.Order.Calls.{begins_in_order, stepped_in_order, stopped_in_order, told_in_order}
 use Rattle.play_moves.proofs.Moves.Order.Effects.{buckets_in_order, effects_in_order, ends_find, order_like}

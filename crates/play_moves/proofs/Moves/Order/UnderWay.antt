@@ -11,14 +11,14 @@ use Rattle.run_schedules.specs.Schedules.Effects.{call_by, calls_by, with_effect
 use Rattle.run_schedules.specs.Schedules.Entry.{ends_call}
 use Rattle.run_schedules.specs.Schedules.Moment.{Moment, UnderWay as CallThere}
 use Rattle.run_legal.specs.Given.CallersTogether.{UnderWay}
-use Rattle.play_lists.specs.Given.FinishesMaps.{with_call}
-use Rattle.play_lists.specs.Given.FollowsCalling.{NoneNamed}
-use Rattle.play_lists.specs.Given.ScenesScene.{Scene}
+use Rattle.run_legal.specs.Given.FinishesMaps.{with_call}
+use Rattle.run_legal.specs.Given.FollowsCalling.{NoneNamed}
+use Rattle.run_legal.specs.Given.ScenesScene.{Scene}
 use Rattle.run_legal.proofs.Given.CallersTogether.At.{at_other, at_same}
-use Rattle.play_lists.proofs.Given.FollowsCalling.{is_same_is, is_same_refl}
-use Rattle.play_lists.proofs.Given.FollowsCalls.{IsOfSame, changed, changed_same}
-use Rattle.play_lists.proofs.Given.FindsLists.{all_so, one_of_them}
-use Rattle.play_lists.proofs.Given.FindsTables.{all_kept, all_under}
+use Rattle.run_legal.proofs.Given.FollowsCalling.{is_same_is, is_same_refl}
+use Rattle.play_linear.proofs.Given.FollowsCalls.{IsOfSame, changed, changed_same}
+use Rattle.run_legal.proofs.Given.FindsLists.{all_so, one_of_them}
+use Rattle.play_linear.proofs.Given.FindsTables.{all_kept, all_under}
 use Rattle.run_schedules.specs.Deeds.Deeds.{named}
 use Rattle.play_moves.specs.Moves.Order.{AreUnderWay, IsUnderWay}
 

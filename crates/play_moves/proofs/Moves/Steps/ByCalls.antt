@@ -1,7 +1,7 @@
 -- What a moment shows of steps of calls it shows where a call begins, takes a step, takes a reply, goes on as a walk, or is given up.
 use Rattle.std.specs.Prelude.{◌≡◌, ℕ, Bool, true, List, [], ◌∷◌, Some}
 use Rattle.std.proofs.Common.{refl, ap, ◌∙◌}
-use Rattle.play_lists.specs.Given.TablesDeclared.node.Node.{Node}
+use Rattle.run_legal.specs.Given.TablesDeclared.node.Node.{Node}
 use Rattle.run_schedules.specs.Given.RawMachine.{machine_replied}
 use Rattle.run_schedules.specs.Given.RawDeclared.machines.machine.Machine.{Machine}
 use Rattle.run_schedules.specs.Given.RawDeclared.machines.progress.Progress.{Progress}
@@ -17,28 +17,28 @@ use Rattle.run_schedules.specs.Schedules.Transition.{Past}
 use Rattle.run_schedules.specs.Schedules.Views.{call_of}
 use Rattle.run_legal.specs.Given.CallersOverAll.{CallOverAll}
 use Rattle.run_legal.specs.Given.CallersTogether.{OverAll, UnderWay}
-use Rattle.play_lists.specs.Given.EffectsEffects.{effects_of, known_after}
-use Rattle.play_lists.specs.Given.EffectsKnown.{Known}
-use Rattle.play_lists.specs.Given.EffectsDeclared.acting.Acting.TheVariants as acts
-use Rattle.play_lists.specs.Given.FinishesMachines.{machine_of}
-use Rattle.play_lists.specs.Given.FinishesMaps.{Standing, with_call as with_call_of}
-use Rattle.play_lists.specs.Given.FollowsCalling.{NoneNamed, come_to, told}
-use Rattle.play_lists.specs.Given.FollowsCalls.{IsCalled}
+use Rattle.run_legal.specs.Given.EffectsEffects.{effects_of, known_after}
+use Rattle.run_legal.specs.Given.EffectsKnown.{Known}
+use Rattle.run_legal.specs.Given.EffectsDeclared.acting.Acting.TheVariants as acts
+use Rattle.run_legal.specs.Given.FinishesMachines.{machine_of}
+use Rattle.run_legal.specs.Given.FinishesMaps.{Standing, with_call as with_call_of}
+use Rattle.run_legal.specs.Given.FollowsCalling.{NoneNamed, come_to, told}
+use Rattle.run_legal.specs.Given.FollowsCalls.{IsCalled}
 use Rattle.run_legal.specs.Given.HandsAsked.{reply_to_machine}
-use Rattle.play_lists.specs.Given.OthersWalks.{given_up}
+use Rattle.run_legal.specs.Given.OthersWalks.{given_up}
 use Rattle.run_legal.specs.Given.SettlesHand.{RefinesObligations, in_hand}
 use Rattle.run_legal.specs.Given.PurposesPurposes.{RefinesPurposes}
 use Rattle.run_legal.specs.Given.GrowsFinding.{RefinesFinding}
 use Rattle.run_legal.specs.Given.GrowsNexts.{RefinesNexts}
 use Rattle.run_legal.specs.Given.GrowsTries.{RefinesTries}
-use Rattle.play_lists.specs.Given.ScenesBeginning.{Begins as BeginsSo}
-use Rattle.play_lists.specs.Given.ScenesHeld.{Held, IsAt}
-use Rattle.play_lists.specs.Given.ScenesReplying.{AskLeads, scene_with, unless_stopped}
-use Rattle.play_lists.specs.Given.ScenesScene.{Scene}
-use Rattle.play_lists.specs.Given.ScenesStepping.{StepLeads, scene_after}
-use Rattle.play_lists.proofs.Given.KeptStays.{calls_come_to_kept}
+use Rattle.run_legal.specs.Given.ScenesBeginning.{Begins as BeginsSo}
+use Rattle.run_legal.specs.Given.ScenesHeld.{Held, IsAt}
+use Rattle.run_legal.specs.Given.ScenesReplying.{AskLeads, scene_with, unless_stopped}
+use Rattle.run_legal.specs.Given.ScenesScene.{Scene}
+use Rattle.run_legal.specs.Given.ScenesStepping.{StepLeads, scene_after}
+use Rattle.run_legal.proofs.Given.KeptStays.{calls_come_to_kept}
 use Rattle.run_legal.proofs.Given.SettlesHand.Asked.{asked_stays, told_stays}
-use Rattle.play_lists.proofs.Given.FindsGrows.Between.{calls_begin_growing, calls_take_growing, walks_go_on_growing}
+use Rattle.run_legal.proofs.Given.FindsGrows.Between.{calls_begin_growing, calls_take_growing, walks_go_on_growing}
 use Rattle.run_legal.proofs.Given.WaitsBetween.{calls_begin_waits}
 use Rattle.run_legal.proofs.Given.GrowsFinding.Alike.{finding_fewer, stood_as}
 use Rattle.run_legal.proofs.Given.GrowsFinding.Between.{asked_same, fewer_calls, none_at_first, puts_begun, puts_on, replied_same, waits_on}

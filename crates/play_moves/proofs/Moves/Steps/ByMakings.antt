@@ -2,27 +2,27 @@
 use Rattle.std.specs.Prelude.{◌≡◌, ◌⊎◌, ℕ, Bool, List, Option, Some, None}
 use Rattle.std.proofs.Common.{refl, ap, sym, ◌∙◌, inl, inr}
 use Rattle.seize_acts.specs.Given.SeizeDeclared.advance.Advance.{Advance as Making}
-use Rattle.play_lists.specs.Given.TablesDeclared.setting.Setting.{Setting}
+use Rattle.run_legal.specs.Given.TablesDeclared.setting.Setting.{Setting}
 use Rattle.run_schedules.specs.declared.effect.Effect.{Effect}
 use Rattle.run_schedules.specs.Schedules.Effects.{with_effects}
 use Rattle.run_schedules.specs.Schedules.Moment.{MapThere, Moment}
 use Rattle.run_schedules.specs.Schedules.Transition.{Past}
 use Rattle.run_schedules.specs.Schedules.Views.{map_at}
-use Rattle.play_lists.specs.Given.EffectsEffects.{effects_of, known_after}
-use Rattle.play_lists.specs.Given.EffectsKnown.{Known}
-use Rattle.play_lists.specs.Given.EffectsDeclared.acting.Acting.TheVariants as acts
-use Rattle.play_lists.specs.Given.FinishesMakings.{Beginning}
-use Rattle.play_lists.specs.Given.FinishesMaps.{Standing}
-use Rattle.play_lists.specs.Given.FindsLinking.{IsMadeFor}
+use Rattle.run_legal.specs.Given.EffectsEffects.{effects_of, known_after}
+use Rattle.run_legal.specs.Given.EffectsKnown.{Known}
+use Rattle.run_legal.specs.Given.EffectsDeclared.acting.Acting.TheVariants as acts
+use Rattle.run_legal.specs.Given.FinishesMakings.{Beginning}
+use Rattle.run_legal.specs.Given.FinishesMaps.{Standing}
+use Rattle.run_legal.specs.Given.FindsLinking.{IsMadeFor}
 use Rattle.run_legal.specs.Given.GrowsFinding.{RefinesFinding}
-use Rattle.play_lists.specs.Given.OthersMakings.{WasNew, making_after}
-use Rattle.play_lists.specs.Given.ScenesHeld.{Held, IsAt}
-use Rattle.play_lists.specs.Given.ScenesMaking.{MakingLeads, scene_making}
-use Rattle.play_lists.specs.Given.ScenesScene.{Scene}
+use Rattle.run_legal.specs.Given.OthersMakings.{WasNew, making_after}
+use Rattle.run_legal.specs.Given.ScenesHeld.{Held, IsAt}
+use Rattle.run_legal.specs.Given.ScenesMaking.{MakingLeads, scene_making}
+use Rattle.run_legal.specs.Given.ScenesScene.{Scene}
 use Rattle.run_legal.specs.MapEvents.{HasNotMade}
-use Rattle.run_histories.proofs.Given.MomentsMakingSteps.{makings_go_beside}
-use Rattle.play_lists.proofs.Given.FindsCapacities.{capacities_stay, effects_keep_capacities}
-use Rattle.play_lists.proofs.Given.FindsGrows.Steps.{tables_have_been}
+use Rattle.run_legal.proofs.Given.MomentsMakingSteps.{makings_go_beside}
+use Rattle.run_legal.proofs.Given.FindsCapacities.{capacities_stay, effects_keep_capacities}
+use Rattle.run_legal.proofs.Given.FindsGrows.Steps.{tables_have_been}
 use Rattle.run_legal.proofs.Given.GrowsFinding.Alike.{stood_as}
 use Rattle.run_legal.proofs.Given.GrowsFinding.Aside.{makings_aside, makings_leave_spots}
 use Rattle.run_legal.proofs.Given.GrowsFinding.Beside.{finding_beside}

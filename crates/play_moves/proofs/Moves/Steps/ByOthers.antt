@@ -4,7 +4,7 @@ use Rattle.std.proofs.Common.{refl, ap, sym, subst, ◌∙◌}
 use Rattle.seize_acts.specs.Given.SeizeWorld.{Begin, Step}
 use Rattle.seize_acts.specs.Given.SeizeDeclared.rows.reclaim_all.ReclaimAll.{ReclaimAll}
 use Rattle.seize_acts.specs.Given.SeizeDeclared.rows.settle.Settled.{Settled}
-use Rattle.play_lists.specs.Given.TablesDeclared.node.Node.{Node}
+use Rattle.run_legal.specs.Given.TablesDeclared.node.Node.{Node}
 use Rattle.run_schedules.specs.Runs.Same.{is_same}
 use Rattle.run_schedules.specs.declared.effect.Effect.{Effect}
 use Rattle.run_schedules.specs.Schedules.Effects.{with_effects}
@@ -12,24 +12,24 @@ use Rattle.run_schedules.specs.Schedules.Moment.{Moment, Remains}
 use Rattle.run_schedules.specs.Schedules.Transition.{Past}
 use Rattle.run_schedules.specs.Schedules.Views.{map_at}
 use Rattle.run_legal.specs.Given.CallersTogether.{UnderWay}
-use Rattle.play_lists.specs.Given.EffectsEffects.{effects_of, known_after}
-use Rattle.play_lists.specs.Given.EffectsKnown.{Known}
-use Rattle.play_lists.specs.Given.EffectsDeclared.acting.Acting.TheVariants as acts
-use Rattle.play_lists.specs.Given.FinishesEndings.{Finishing}
-use Rattle.play_lists.specs.Given.FinishesMaps.{Standing}
-use Rattle.play_lists.specs.Given.FindsCapacities.{StoodSo}
-use Rattle.play_lists.specs.Given.OthersEndings.{ending_after, without_map}
-use Rattle.play_lists.specs.Given.OthersRows.{scene_then}
-use Rattle.play_lists.specs.Given.ScenesEnding.{EndingLeads, ending_begun}
-use Rattle.play_lists.specs.Given.ScenesHeld.{Held, IsAt}
-use Rattle.play_lists.specs.Given.ScenesOnSlots.{RowBegins, RowLeads}
-use Rattle.play_lists.specs.Given.ScenesReclaiming.{IsReclaiming, ReclaimingLeads}
-use Rattle.play_lists.specs.Given.ScenesRows.{request_of}
-use Rattle.play_lists.specs.Given.ScenesScene.{IsOnSlot, Scene, slot_of}
-use Rattle.play_lists.specs.Given.ScenesDeclared.row.RowTold.{RowTold}
-use Rattle.play_lists.specs.Given.ScenesDeclared.row.SlotCall.{SlotCall}
-use Rattle.play_lists.specs.Given.ScenesDeclared.row.SlotRow.{SlotRow}
-use Rattle.run_histories.proofs.Given.SpotsEffects.{AllAside}
+use Rattle.run_legal.specs.Given.EffectsEffects.{effects_of, known_after}
+use Rattle.run_legal.specs.Given.EffectsKnown.{Known}
+use Rattle.run_legal.specs.Given.EffectsDeclared.acting.Acting.TheVariants as acts
+use Rattle.run_legal.specs.Given.FinishesEndings.{Finishing}
+use Rattle.run_legal.specs.Given.FinishesMaps.{Standing}
+use Rattle.run_legal.specs.Given.FindsCapacities.{StoodSo}
+use Rattle.run_legal.specs.Given.OthersEndings.{ending_after, without_map}
+use Rattle.run_legal.specs.Given.OthersRows.{scene_then}
+use Rattle.run_legal.specs.Given.ScenesEnding.{EndingLeads, ending_begun}
+use Rattle.run_legal.specs.Given.ScenesHeld.{Held, IsAt}
+use Rattle.run_legal.specs.Given.ScenesOnSlots.{RowBegins, RowLeads}
+use Rattle.run_legal.specs.Given.ScenesReclaiming.{IsReclaiming, ReclaimingLeads}
+use Rattle.run_legal.specs.Given.ScenesRows.{request_of}
+use Rattle.run_legal.specs.Given.ScenesScene.{IsOnSlot, Scene, slot_of}
+use Rattle.run_legal.specs.Given.ScenesDeclared.row.RowTold.{RowTold}
+use Rattle.run_legal.specs.Given.ScenesDeclared.row.SlotCall.{SlotCall}
+use Rattle.run_legal.specs.Given.ScenesDeclared.row.SlotRow.{SlotRow}
+use Rattle.run_legal.proofs.Given.SpotsEffects.{AllAside}
 use Rattle.run_legal.proofs.Given.GrowsFinding.Alike.{finding_fewer}
 use Rattle.run_legal.proofs.Given.GrowsFinding.Aside.{endings_aside, rows_aside}
 use Rattle.run_legal.proofs.Given.GrowsFinding.Between.{finding_where, found_kept}
@@ -40,7 +40,7 @@ use Rattle.run_legal.proofs.Given.GrowsTries.Others.{endings_keep_tries, rows_be
 use Rattle.run_legal.proofs.Given.GrowsTries.Shows.{tries_where}
 use Rattle.run_legal.proofs.OfAll.Tells.{gone_by, it_reclaims}
 use Rattle.run_legal.proofs.Sourced.{ends_leave, reclaimed_aside, same_maps_aside, so_aside, sources_same, sources_so}
-use Rattle.play_lists.specs.Given.ActsDoings.{scene_chosen}
+use Rattle.play_linear.specs.Given.ActsDoings.{scene_chosen}
 use Rattle.run_schedules.specs.Deeds.Deeds.{named}
 use Rattle.play_linear.specs.Linear.Shown.{RefinesAnswers}
 use Rattle.play_linear.proofs.Linear.MapsPlayed.{IsApart}

@@ -1,7 +1,7 @@
 -- The effects of a step of a call, as an entry of a history, find what they must where all is in order.
 use Rattle.std.specs.Prelude.{◌≡◌, ◌+◌, ℕ, Bool, true, false, List, [], ◌∷◌, Option, Some}
 use Rattle.std.proofs.Common.{refl, ap, sym, subst, ◌∙◌, arith, inl, inr}
-use Rattle.play_lists.specs.Given.TablesDeclared.node.Node.{Node}
+use Rattle.run_legal.specs.Given.TablesDeclared.node.Node.{Node}
 use Rattle.threads_rule.specs.Given.ResizeDeclared.new_table.NewTable.{NewTable}
 use Rattle.threads_rule.specs.Given.ResizeDeclared.sum.Sum.{Sum}
 use Rattle.run_schedules.specs.Given.RawDeclared.machines.progress.Progress.{Progress}
@@ -21,31 +21,31 @@ use Rattle.run_schedules.specs.Schedules.Moment.{Moment, UnderWay as CallThere}
 use Rattle.run_schedules.specs.Schedules.Terms.{Terms, shards_of}
 use Rattle.run_schedules.specs.Schedules.Views.{call_of}
 use Rattle.run_legal.specs.Given.CallersTogether.{Counting, ForRoom, OnKey, OverAll, UnderWay, UnlessCounts}
-use Rattle.play_lists.specs.Given.EffectsEffects.{effects_of}
-use Rattle.play_lists.specs.Given.EffectsKnown.{Known}
-use Rattle.play_lists.specs.Given.EffectsDeclared.acting.Acting.TheVariants as acts
-use Rattle.play_lists.specs.Given.FinishesMachines.{machine_of}
-use Rattle.play_lists.specs.Given.FollowsCalls.{IsCalled}
+use Rattle.run_legal.specs.Given.EffectsEffects.{effects_of}
+use Rattle.run_legal.specs.Given.EffectsKnown.{Known}
+use Rattle.run_legal.specs.Given.EffectsDeclared.acting.Acting.TheVariants as acts
+use Rattle.run_legal.specs.Given.FinishesMachines.{machine_of}
+use Rattle.run_legal.specs.Given.FollowsCalls.{IsCalled}
 use Rattle.run_legal.specs.Given.OwesLooking.{FindAtWork}
 use Rattle.run_legal.specs.Given.PurposesPurposes.{RefinesPurposes}
-use Rattle.play_lists.specs.Given.FindsLinking.{FoundFull}
-use Rattle.play_lists.specs.Given.FindsLife.{StoresOne}
-use Rattle.play_lists.specs.Given.FindsParts.{FindAll}
-use Rattle.play_lists.specs.Given.FindsWithin.{AllIsInOrder, many_of}
+use Rattle.run_legal.specs.Given.FindsLinking.{FoundFull}
+use Rattle.run_legal.specs.Given.FindsLife.{StoresOne}
+use Rattle.run_legal.specs.Given.FindsParts.{FindAll}
+use Rattle.run_legal.specs.Given.FindsWithin.{AllIsInOrder, many_of}
 use Rattle.run_legal.specs.Given.GrowsCopiers.{making_of_copier}
 use Rattle.run_legal.specs.Given.GrowsNexts.{MayFollow}
-use Rattle.play_lists.specs.Given.ScenesHeld.{Held, IsAt}
-use Rattle.play_lists.specs.Given.ScenesScene.{Scene, slot_of}
-use Rattle.play_lists.specs.Given.ScenesStepping.{StepLeads}
+use Rattle.run_legal.specs.Given.ScenesHeld.{Held, IsAt}
+use Rattle.run_legal.specs.Given.ScenesScene.{Scene, slot_of}
+use Rattle.run_legal.specs.Given.ScenesStepping.{StepLeads}
 use Rattle.run_legal.proofs.CallFinds.{steps_find_all}
-use Rattle.play_lists.proofs.Given.FollowsCalling.{is_same_is}
+use Rattle.run_legal.proofs.Given.FollowsCalling.{is_same_is}
 use Rattle.run_legal.proofs.Given.OwesLooking.Calls.{calls_keep_looking}
-use Rattle.play_lists.proofs.Given.FindsGrown.{found_of}
-use Rattle.play_lists.proofs.Given.FindsSteps.{steps_store_one}
+use Rattle.run_legal.proofs.Given.FindsGrown.{found_of}
+use Rattle.run_legal.proofs.Given.FindsSteps.{steps_store_one}
 use Rattle.run_legal.proofs.Given.GrowsFinding.Links.{such_of_making}
 use Rattle.run_legal.proofs.Given.GrowsFinding.Rest.{steps_find_rest}
 use Rattle.run_legal.proofs.Given.GrowsTries.Log.{found_full_so}
-use Rattle.play_lists.specs.Agrees.Guards.{HasItsGuard, guard_on}
+use Rattle.play_linear.specs.Given.AgreesGuards.{HasItsGuard, guard_on}
 use Rattle.run_schedules.specs.Deeds.Deeds.{Entry, Steps, map_of_call, moment, named}
 use Rattle.run_schedules.specs.Deeds.History.{past}
 use Rattle.play_linear.specs.Linear.Shown.{RefinesAnswers}

@@ -4,8 +4,8 @@ use Rattle.std.proofs.Common.{refl, ap, sym, subst, ◌∙◌, arith, inl, inr}
 use Rattle.seize_acts.specs.Given.SeizeWorld.{Step}
 use Rattle.seize_acts.specs.Given.SeizeDeclared.advance.Advance.{Advance as Making}
 use Rattle.seize_acts.specs.Given.SeizeDeclared.advance.Advance.TheVariants as progress
-use Rattle.play_lists.specs.Given.TablesLengths.{entries_of}
-use Rattle.play_lists.specs.Given.TablesDeclared.setting.Setting.{Setting}
+use Rattle.play_linear.specs.Given.TablesLengths.{entries_of}
+use Rattle.run_legal.specs.Given.TablesDeclared.setting.Setting.{Setting}
 use Rattle.run_schedules.specs.declared.effect.Effect.{Effect}
 use Rattle.run_schedules.specs.declared.outcome.Outcome.{Outcome}
 use Rattle.run_schedules.specs.declared.outcome.Outcome.TheVariants as outcome
@@ -16,30 +16,30 @@ use Rattle.run_schedules.specs.Schedules.Moment.{MapThere, Moment, UnderWay as C
 use Rattle.run_schedules.specs.Schedules.Terms.{Terms}
 use Rattle.run_schedules.specs.Schedules.Views.{capacity_or, map_at}
 use Rattle.run_legal.specs.Given.CallersTogether.{OverAll}
-use Rattle.play_lists.specs.Given.EffectsEffects.{effects_of, known_after}
-use Rattle.play_lists.specs.Given.EffectsKnown.{Known}
-use Rattle.play_lists.specs.Given.EffectsDeclared.acting.Acting.TheVariants as acts
-use Rattle.play_lists.specs.Given.FinishesMakings.{Beginning}
-use Rattle.play_lists.specs.Given.FinishesMaps.{with_call as with_call_of}
-use Rattle.play_lists.specs.Given.FindsLinking.{IsMadeFor}
-use Rattle.play_lists.specs.Given.FindsWithin.{AllIsInOrder, many_of}
-use Rattle.play_lists.specs.Given.FollowsCalling.{come_to, told}
+use Rattle.run_legal.specs.Given.EffectsEffects.{effects_of, known_after}
+use Rattle.run_legal.specs.Given.EffectsKnown.{Known}
+use Rattle.run_legal.specs.Given.EffectsDeclared.acting.Acting.TheVariants as acts
+use Rattle.run_legal.specs.Given.FinishesMakings.{Beginning}
+use Rattle.run_legal.specs.Given.FinishesMaps.{with_call as with_call_of}
+use Rattle.run_legal.specs.Given.FindsLinking.{IsMadeFor}
+use Rattle.run_legal.specs.Given.FindsWithin.{AllIsInOrder, many_of}
+use Rattle.run_legal.specs.Given.FollowsCalling.{come_to, told}
 use Rattle.run_legal.specs.Given.NamedSeen.{kind_of}
-use Rattle.play_lists.specs.Given.OthersEndings.{ending_after, without_map}
-use Rattle.play_lists.specs.Given.OthersMakings.{WasNew, making_after}
-use Rattle.play_lists.specs.Given.OthersRows.{scene_then}
-use Rattle.play_lists.specs.Given.OthersWalks.{given_up}
-use Rattle.play_lists.specs.Given.ScenesReplying.{scene_with, unless_stopped}
-use Rattle.play_lists.specs.Given.ScenesScene.{Scene, slot_of}
-use Rattle.play_lists.specs.Given.ScenesStepping.{scene_after}
+use Rattle.run_legal.specs.Given.OthersEndings.{ending_after, without_map}
+use Rattle.run_legal.specs.Given.OthersMakings.{WasNew, making_after}
+use Rattle.run_legal.specs.Given.OthersRows.{scene_then}
+use Rattle.run_legal.specs.Given.OthersWalks.{given_up}
+use Rattle.run_legal.specs.Given.ScenesReplying.{scene_with, unless_stopped}
+use Rattle.run_legal.specs.Given.ScenesScene.{Scene, slot_of}
+use Rattle.run_legal.specs.Given.ScenesStepping.{scene_after}
 use Rattle.run_legal.specs.MapEvents.{HasNotMade}
 use Rattle.run_legal.proofs.Sourced.{sources_so}
 use Rattle.run_legal.specs.Given.SourcesStays.{NoneBorn}
 use Rattle.run_legal.proofs.Given.SourcesSteps.{calls_keep_sources}
-use Rattle.play_lists.specs.Given.ActsActs.{begun}
+use Rattle.threads_rule.specs.Given.ActsActs.{begun}
 use Rattle.run_schedules.specs.Deeds.Deeds.{Begins, Deed, Ends, Entry, Leaves, Makes, MapFails, MapGoes, Opens, ReclaimsAll, Registers, Replies, Shuts, Steps, Stops, Tends, acted_on, after, come, map_of_call, moment, named, worked}
 use Rattle.run_schedules.specs.Deeds.History.{past}
-use Rattle.play_lists.specs.Played.Play.{call_for, is_over, is_refusal, making_outcome, outcome_of, row_deed, settled_outcome}
+use Rattle.play_linear.specs.Given.PlayedPlay.{call_for, is_over, is_refusal, making_outcome, outcome_of, row_deed, settled_outcome}
 use Rattle.play_linear.proofs.Linear.CallsGo.{calls_step}
 use Rattle.play_linear.proofs.Linear.Like.{IsLike, likes_answer}
 use Rattle.play_linear.proofs.Linear.OthersGo.{all_step, ends_step, makings_step, maps_come, maps_go, rows_step}

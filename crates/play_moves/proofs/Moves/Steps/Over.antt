@@ -5,12 +5,12 @@ use Rattle.run_schedules.specs.Schedules.Moment.{Moment, UnderWay as CallThere}
 use Rattle.run_schedules.specs.Schedules.Transition.{Past, further}
 use Rattle.run_schedules.specs.Schedules.Views.{call_of}
 use Rattle.run_legal.specs.Given.CallersTogether.{UnderWay}
-use Rattle.play_lists.specs.Given.EffectsKnown.{Known}
-use Rattle.play_lists.specs.Given.FollowsShows.{Refines}
+use Rattle.run_legal.specs.Given.EffectsKnown.{Known}
+use Rattle.run_legal.specs.Given.FollowsShows.{Refines}
 use Rattle.run_legal.specs.Given.GrowsFinding.{RefinesFinding}
 use Rattle.run_legal.specs.Given.GrowsNexts.{RefinesNexts}
 use Rattle.run_legal.specs.Given.GrowsTries.{RefinesTries}
-use Rattle.play_lists.specs.Given.ScenesScene.{Scene}
+use Rattle.run_legal.specs.Given.ScenesScene.{Scene}
 use Rattle.run_legal.proofs.Given.GrowsFinding.Nexts.{nexts_grow}
 use Rattle.run_legal.proofs.Given.GrowsTries.Shows.{tries_grow}
 use Rattle.run_legal.proofs.Sourced.{sources_so}

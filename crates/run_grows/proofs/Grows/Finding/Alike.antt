@@ -8,11 +8,11 @@ use Rattle.run_schedules.specs.declared.effect.TableId.{TableId}
 use Rattle.run_schedules.specs.Schedules.Growing.{Has}
 use Rattle.run_schedules.specs.Schedules.Moment.{MapThere, Moment, Place, TableThere}
 use Rattle.run_schedules.specs.Schedules.Views.{capacity_or, first_of, first_or, grows_in_chunks, is_in_a_map, map_at}
-use Rattle.run_executor.specs.Given.CallersTogether.{OnKey, UnderWay}
-use Rattle.run_executor.specs.Given.EffectsKnown.{Known}
-use Rattle.run_executor.specs.Given.FinishesMachines.{machine_of}
-use Rattle.run_executor.specs.Given.FinishesMaps.{Standing}
-use Rattle.run_executor.specs.Given.FollowsCalls.{RefinesCalls as IsThere}
+use Rattle.run_finds.specs.Given.CallersTogether.{OnKey, UnderWay}
+use Rattle.run_finds.specs.Given.EffectsKnown.{Known}
+use Rattle.run_finds.specs.Given.FinishesMachines.{machine_of}
+use Rattle.run_finds.specs.Given.FinishesMaps.{Standing}
+use Rattle.run_finds.specs.Given.FollowsCalls.{RefinesCalls as IsThere}
 use Rattle.run_finds.specs.Given.SettlesHand.{RefinesObligations}
 use Rattle.run_finds.proofs.Given.SettlesHand.Roles.{hand_kept}
 use Rattle.run_finds.specs.Capacities.{StoodSo}
@@ -27,8 +27,8 @@ use Rattle.run_grows.proofs.Waits.Puts.{puts_stay}
 use Rattle.run_grows.specs.Grows.Finding.{RefinesFinding}
 use Rattle.run_grows.proofs.Grows.Finding.Making.Between.{further_stays}
 use Rattle.run_grows.proofs.Grows.Finding.Making.Lengths.{lengths_same}
-use Rattle.run_executor.specs.Given.ScenesScene.{Scene}
-use Rattle.run_executor.proofs.Given.General.{at_most_itself as itself}
+use Rattle.run_finds.specs.Given.ScenesScene.{Scene}
+use Rattle.run_finds.proofs.Given.General.{at_most_itself as itself}
 
 -- how many tables a map has had, of the same tables
 pub many_same : {K V : Type 0} (m v : Moment K V) → v.tables ≡ m.tables → (of : ℕ) → many_of of m ≤ many_of of v

@@ -1,9 +1,9 @@
 -- Steps that are of no call leave each pair where it lies: those of rows on slots, of makings of maps, and of their ends.
 use Rattle.std.specs.Prelude.{◌≡◌, ℕ, Bool, true, false, List, [], ◌∷◌, Option, Some, None, if◌then◌else◌}
 use Rattle.std.proofs.Common.{refl, ap, sym, subst, ◌∙◌, inl, inr}
-use Rattle.run_executor.specs.Given.SeizeWordsMem.{word_at}
-use Rattle.run_executor.specs.Given.SeizeWordsWord.{block_in}
-use Rattle.run_executor.specs.Given.SeizeWordsDeclared.at.At.TheVariants.{Entry, Root, Slot, Used, Word}
+use Rattle.run_finds.specs.Given.SeizeWordsMem.{word_at}
+use Rattle.run_finds.specs.Given.SeizeWordsWord.{block_in}
+use Rattle.run_finds.specs.Given.SeizeWordsDeclared.at.At.TheVariants.{Entry, Root, Slot, Used, Word}
 use Rattle.papaya_raw.specs.Given.SeizeWorld.{World}
 use Rattle.papaya_raw.specs.Given.SeizeDeclared.advance.Advance.{Advance as Making}
 use Rattle.papaya_raw.specs.Given.SeizeDeclared.rows.settle.Settled.{Settled}
@@ -14,35 +14,35 @@ use Rattle.run_schedules.specs.declared.effect.Growth.TheVariants.{ABlock}
 use Rattle.run_schedules.specs.declared.effect.TableId.{TableId}
 use Rattle.run_schedules.specs.Schedules.Effects.{with_effects}
 use Rattle.run_schedules.specs.Schedules.Moment.{Moment}
-use Rattle.run_executor.specs.Given.EffectsDeclared.changed.Changed.{Changed}
-use Rattle.run_executor.specs.Given.EffectsDeclared.changed.Changed.TheVariants as changed
-use Rattle.run_executor.specs.Given.EffectsDeclared.changed.Kind.{Kind}
-use Rattle.run_executor.specs.Given.EffectsDeclared.changed.Kind.TheVariants as kind
-use Rattle.run_executor.specs.Given.EffectsEffects.{effects_of, in_block, led_to, made_by, named, names_same, pair_taken, table_taken, taken_by}
-use Rattle.run_executor.specs.Given.EffectsKnown.{Known}
-use Rattle.run_executor.specs.Given.EffectsDeclared.acting.Acting.{Acting}
-use Rattle.run_executor.specs.Given.EffectsDeclared.acting.Acting.TheVariants as acts
-use Rattle.run_executor.specs.Given.EffectsDeclared.role.Role.{Role}
-use Rattle.run_executor.specs.Given.EffectsDeclared.role.Role.TheVariants as role
-use Rattle.run_executor.specs.Given.ScenesDeclared.row.RowTold.{RowTold}
-use Rattle.run_executor.specs.Given.ScenesDeclared.row.SlotRow.{SlotRow}
-use Rattle.run_executor.specs.Given.FinishesEndings.{Finishing}
-use Rattle.run_executor.specs.Given.FinishesMakings.{Beginning}
-use Rattle.run_executor.specs.Given.FollowsShows.{Refines}
-use Rattle.run_executor.proofs.Given.FollowsOperations.{LeavesBy}
-use Rattle.run_executor.proofs.Given.FollowsWrites.{nothing_free}
-use Rattle.run_executor.specs.Given.MomentsWhole.{RefinesWhole}
-use Rattle.run_executor.proofs.Given.MomentsEnds.{says}
-use Rattle.run_executor.proofs.Given.OthersMakes.{left, no_table_word, tells}
-use Rattle.run_executor.proofs.Given.OthersMakingPlans.{TellsMaking}
-use Rattle.run_executor.proofs.Given.OthersRowPlans.{row_tells}
-use Rattle.run_executor.proofs.Given.SpotsEffects.{AllAside, aside_all, calm_aside, is_aside}
-use Rattle.run_executor.proofs.Given.SpotsOnSlots.{row_beside}
-use Rattle.run_executor.specs.Given.ScenesEnding.{EndingLeads}
-use Rattle.run_executor.specs.Given.ScenesHeld.{Held, IsAt}
-use Rattle.run_executor.specs.Given.ScenesMaking.{MakingLeads}
-use Rattle.run_executor.specs.Given.ScenesOnSlots.{RowLeads}
-use Rattle.run_executor.specs.Given.ScenesScene.{IsOnSlot, Scene}
+use Rattle.run_finds.specs.Given.EffectsDeclared.changed.Changed.{Changed}
+use Rattle.run_finds.specs.Given.EffectsDeclared.changed.Changed.TheVariants as changed
+use Rattle.run_finds.specs.Given.EffectsDeclared.changed.Kind.{Kind}
+use Rattle.run_finds.specs.Given.EffectsDeclared.changed.Kind.TheVariants as kind
+use Rattle.run_finds.specs.Given.EffectsEffects.{effects_of, in_block, led_to, made_by, named, names_same, pair_taken, table_taken, taken_by}
+use Rattle.run_finds.specs.Given.EffectsKnown.{Known}
+use Rattle.run_finds.specs.Given.EffectsDeclared.acting.Acting.{Acting}
+use Rattle.run_finds.specs.Given.EffectsDeclared.acting.Acting.TheVariants as acts
+use Rattle.run_finds.specs.Given.EffectsDeclared.role.Role.{Role}
+use Rattle.run_finds.specs.Given.EffectsDeclared.role.Role.TheVariants as role
+use Rattle.run_kept.specs.Given.ScenesDeclared.row.RowTold.{RowTold}
+use Rattle.run_kept.specs.Given.ScenesDeclared.row.SlotRow.{SlotRow}
+use Rattle.run_kept.specs.Given.FinishesEndings.{Finishing}
+use Rattle.run_kept.specs.Given.FinishesMakings.{Beginning}
+use Rattle.run_finds.specs.Given.FollowsShows.{Refines}
+use Rattle.run_finds.proofs.Given.FollowsOperations.{LeavesBy}
+use Rattle.run_finds.proofs.Given.FollowsWrites.{nothing_free}
+use Rattle.run_finds.specs.Given.MomentsWhole.{RefinesWhole}
+use Rattle.run_finds.proofs.Given.MomentsEnds.{says}
+use Rattle.run_finds.proofs.Given.OthersMakes.{left, no_table_word, tells}
+use Rattle.run_finds.proofs.Given.OthersMakingPlans.{TellsMaking}
+use Rattle.run_finds.proofs.Given.OthersRowPlans.{row_tells}
+use Rattle.run_finds.proofs.Given.SpotsEffects.{AllAside, aside_all, calm_aside, is_aside}
+use Rattle.run_finds.proofs.Given.SpotsOnSlots.{row_beside}
+use Rattle.run_kept.specs.Given.ScenesEnding.{EndingLeads}
+use Rattle.run_finds.specs.Given.ScenesHeld.{Held, IsAt}
+use Rattle.run_kept.specs.Given.ScenesMaking.{MakingLeads}
+use Rattle.run_kept.specs.Given.ScenesOnSlots.{RowLeads}
+use Rattle.run_finds.specs.Given.ScenesScene.{IsOnSlot, Scene}
 
 -- a pair, and a table, that is taken away
 pair_aside : (its : Acting) (n : ℕ) → is_aside (pair_taken its n) ≡ true

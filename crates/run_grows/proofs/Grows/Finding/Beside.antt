@@ -4,10 +4,10 @@ use Rattle.std.proofs.Common.{refl, ap, sym, subst, ◌∙◌}
 use Rattle.run_schedules.specs.Runs.Same.{is_same}
 use Rattle.run_schedules.specs.Schedules.Moment.{Behind, GivenBack, Handed, InMap, Left, Moment, Out, Place, Unborn, UnderWay as CallThere}
 use Rattle.run_schedules.specs.Schedules.Views.{is_in_a_map}
-use Rattle.run_executor.specs.Given.CallersTogether.{OnKey, UnderWay}
-use Rattle.run_executor.specs.Given.EffectsKnown.{Known}
-use Rattle.run_executor.specs.Given.MomentsWhole.{RefinesWhole}
-use Rattle.run_executor.proofs.Given.MomentsBeside.{IsBeside}
+use Rattle.run_finds.specs.Given.CallersTogether.{OnKey, UnderWay}
+use Rattle.run_finds.specs.Given.EffectsKnown.{Known}
+use Rattle.run_finds.specs.Given.MomentsWhole.{RefinesWhole}
+use Rattle.run_finds.proofs.Given.MomentsBeside.{IsBeside}
 use Rattle.run_finds.specs.Capacities.{RefinesCapacities}
 use Rattle.run_finds.specs.Waits.{LeavesPending}
 use Rattle.run_finds.specs.Within.{many_of}
@@ -18,9 +18,9 @@ use Rattle.run_grows.proofs.Grows.Finding.Alike.{held_in, map_same}
 use Rattle.run_grows.proofs.Grows.Finding.Making.Between.{further_stays}
 use Rattle.run_grows.proofs.Grows.Finding.Making.Lengths.{KeepsLengths}
 use Rattle.run_grows.proofs.Grows.Finding.Puts.{puts_beside}
-use Rattle.run_executor.specs.Given.ScenesHeld.{Held, IsAt}
-use Rattle.run_executor.specs.Given.ScenesScene.{Scene}
-use Rattle.run_executor.proofs.Given.General.{at_most_itself as itself}
+use Rattle.run_finds.specs.Given.ScenesHeld.{Held, IsAt}
+use Rattle.run_finds.specs.Given.ScenesScene.{Scene}
+use Rattle.run_finds.proofs.Given.General.{at_most_itself as itself}
 
 -- a place is in a map, or in none
 in_which : (p : Place) → is_in_a_map p ≡ true → (map : ℕ) × (p ≡ InMap map)

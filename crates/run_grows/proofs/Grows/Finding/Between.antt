@@ -2,8 +2,8 @@
 use Rattle.std.specs.Prelude.{◌≡◌, ◌≢◌, ◌≤◌, ◌==◌, ◌++◌, ℕ, Bool, true, false, List, [], ◌∷◌, cond, filter, find, length, Option, Some, None, if◌then◌else◌}
 use Rattle.std.proofs.Common.{refl, ap, sym, subst, ◌∙◌, inl, inr}
 use Rattle.std.proofs.lemmas.Bool.{ne_eqb}
-use Rattle.run_executor.specs.Given.SeizeWordsWord.{block_in}
-use Rattle.run_executor.specs.Given.SeizeWordsDeclared.at.At.{At}
+use Rattle.run_finds.specs.Given.SeizeWordsWord.{block_in}
+use Rattle.run_finds.specs.Given.SeizeWordsDeclared.at.At.{At}
 use Rattle.papaya_raw.specs.Given.SweepsSweepPoints.{next_at}
 use Rattle.papaya_raw.specs.Given.ReservesDeclared.sweep.Sweep.{Sweep}
 use Rattle.papaya_raw.specs.Given.ReservesDeclared.sweep.Sweeping.{Sweeping}
@@ -21,17 +21,17 @@ use Rattle.run_schedules.specs.Runs.Same.{is_same}
 use Rattle.run_schedules.specs.declared.effect.Thing.TheVariants.{APair}
 use Rattle.run_schedules.specs.Schedules.Moment.{MapThere, Moment, Place, UnderWay as CallThere}
 use Rattle.run_schedules.specs.Schedules.Views.{capacity_or, is_in_a_map, map_at}
-use Rattle.run_executor.specs.Given.CallersOverAll.{CallOverAll}
-use Rattle.run_executor.specs.Given.CallersPairs.{Given}
-use Rattle.run_executor.specs.Given.CallersRooms.{CallForRoom}
-use Rattle.run_executor.specs.Given.CallersTogether.{Computes, Counting, ForRoom, Gets, Inserts, IsBegun, OnKey, OverAll, Removes, RemovesIf, TriesToInsert, TriesToInsertWith, UnderWay, Updates, UpdatesOrInserts}
-use Rattle.run_executor.specs.Given.EffectsKnown.{Known}
-use Rattle.run_executor.specs.Given.EffectsDeclared.role.Role.{Role}
-use Rattle.run_executor.specs.Given.EffectsDeclared.role.Role.TheVariants as role
-use Rattle.run_executor.specs.Given.FinishesMachines.{machine_of}
-use Rattle.run_executor.specs.Given.FinishesMaps.{Standing, with_call as with_in}
-use Rattle.run_executor.specs.Given.FollowsCalls.{RefinesCalls as IsThere}
-use Rattle.run_executor.proofs.Given.HandsAsking.{which}
+use Rattle.run_finds.specs.Given.CallersOverAll.{CallOverAll}
+use Rattle.run_finds.specs.Given.CallersPairs.{Given}
+use Rattle.run_finds.specs.Given.CallersRooms.{CallForRoom}
+use Rattle.run_finds.specs.Given.CallersTogether.{Computes, Counting, ForRoom, Gets, Inserts, IsBegun, OnKey, OverAll, Removes, RemovesIf, TriesToInsert, TriesToInsertWith, UnderWay, Updates, UpdatesOrInserts}
+use Rattle.run_finds.specs.Given.EffectsKnown.{Known}
+use Rattle.run_finds.specs.Given.EffectsDeclared.role.Role.{Role}
+use Rattle.run_finds.specs.Given.EffectsDeclared.role.Role.TheVariants as role
+use Rattle.run_finds.specs.Given.FinishesMachines.{machine_of}
+use Rattle.run_finds.specs.Given.FinishesMaps.{Standing, with_call as with_in}
+use Rattle.run_finds.specs.Given.FollowsCalls.{RefinesCalls as IsThere}
+use Rattle.run_finds.proofs.Given.HandsAsking.{which}
 use Rattle.run_finds.specs.Given.SettlesDue.{ToPut, due_in_row}
 use Rattle.run_finds.specs.Given.SettlesHand.{HoldsAt, IsPairAt, IsPairRole, NotesPending, NotesOfCall, NotesOfSweep, RefinesObligations, in_hand, in_hand_of_call, in_hand_of_sweep, thing_as, things_at}
 use Rattle.run_finds.specs.Given.SettlesInHand.{pair_in_calling, pair_in_sweeping}
@@ -47,12 +47,12 @@ use Rattle.run_grows.specs.Grows.Finding.{RefinesFinding}
 use Rattle.run_grows.proofs.Grows.Finding.Alike.{held_in, many_same, stood_as}
 use Rattle.run_grows.proofs.Grows.Finding.Making.Between.{further_stays}
 use Rattle.run_grows.proofs.Grows.Finding.Making.Lengths.{lengths_same}
-use Rattle.run_executor.proofs.Given.ScenesMay.{standing_is}
-use Rattle.run_executor.specs.Given.ScenesBeginning.{Begins}
-use Rattle.run_executor.specs.Given.ScenesHeld.{Held, IsAt}
-use Rattle.run_executor.specs.Given.ScenesReplying.{scene_with, unless_stopped}
-use Rattle.run_executor.specs.Given.ScenesScene.{Scene, slot_of}
-use Rattle.run_executor.proofs.Given.General.{same_some as one_of, at_most_itself as itself}
+use Rattle.run_kept.proofs.Given.ScenesMay.{standing_is}
+use Rattle.run_finds.specs.Given.ScenesBeginning.{Begins}
+use Rattle.run_finds.specs.Given.ScenesHeld.{Held, IsAt}
+use Rattle.run_finds.specs.Given.ScenesReplying.{scene_with, unless_stopped}
+use Rattle.run_finds.specs.Given.ScenesScene.{Scene, slot_of}
+use Rattle.run_finds.proofs.Given.General.{same_some as one_of, at_most_itself as itself}
 
 -- A call that begins has no pair in hand, and is to put none behind a table.
 

@@ -4,11 +4,11 @@ use Rattle.papaya_raw.specs.Given.TablesDeclared.node.Node.{Node}
 use Rattle.papaya_raw.specs.declared.machines.progress.Progress.{Progress}
 use Rattle.run_schedules.specs.Schedules.Effects.{with_effects}
 use Rattle.run_schedules.specs.Schedules.Moment.{Moment}
-use Rattle.run_executor.specs.Given.CallersTogether.{UnderWay}
-use Rattle.run_executor.specs.Given.EffectsEffects.{effects_of, known_after}
-use Rattle.run_executor.specs.Given.EffectsKnown.{Known}
-use Rattle.run_executor.specs.Given.EffectsDeclared.acting.Acting.TheVariants as acts
-use Rattle.run_executor.specs.Given.MomentsWhole.{RefinesWhole}
+use Rattle.run_finds.specs.Given.CallersTogether.{UnderWay}
+use Rattle.run_finds.specs.Given.EffectsEffects.{effects_of, known_after}
+use Rattle.run_finds.specs.Given.EffectsKnown.{Known}
+use Rattle.run_finds.specs.Given.EffectsDeclared.acting.Acting.TheVariants as acts
+use Rattle.run_finds.specs.Given.MomentsWhole.{RefinesWhole}
 use Rattle.run_finds.specs.Given.SettlesDue.{OwnAreMade}
 use Rattle.run_kept.specs.Kept.Kept.{RefinesKept}
 use Rattle.run_kept.proofs.Kept.Calls.{own_made}
@@ -18,9 +18,9 @@ use Rattle.run_grows.proofs.Waits.Puts.{calls_keep_puts}
 use Rattle.run_grows.proofs.Waits.Steps.{calls_keep_waits}
 use Rattle.run_grows.specs.Grows.Finding.{RefinesFinding}
 use Rattle.run_grows.proofs.Grows.Finding.Making.Steps.{further_then}
-use Rattle.run_executor.specs.Given.ScenesHeld.{Held, IsAt}
-use Rattle.run_executor.specs.Given.ScenesScene.{Scene}
-use Rattle.run_executor.specs.Given.ScenesStepping.{StepLeads, scene_after}
+use Rattle.run_finds.specs.Given.ScenesHeld.{Held, IsAt}
+use Rattle.run_finds.specs.Given.ScenesScene.{Scene}
+use Rattle.run_finds.specs.Given.ScenesStepping.{StepLeads, scene_after}
 
 module _ (K V : Type 0) (same : K → K → Bool) (hash : ℕ → K → ℕ) (name : ℕ → List ℕ) (m : Moment K V) (known : Known) (s : Scene K V) (old new : Held K V) (at : IsAt same hash old s)
     (whole : RefinesWhole same name m known s) (kept : RefinesKept name m known s) (finding : RefinesFinding name m known s) (map i : ℕ) (u : UnderWay K V K) (here : s.calls map i ≡ Some u)

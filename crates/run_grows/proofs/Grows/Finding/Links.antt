@@ -28,15 +28,15 @@ use Rattle.run_schedules.specs.Schedules.Lists.{OneOf}
 use Rattle.run_schedules.specs.Schedules.Moment.{Moment, TableThere, UnderWay as CallThere}
 use Rattle.run_schedules.specs.Schedules.Terms.{Terms}
 use Rattle.run_schedules.specs.Schedules.Views.{call_of, capacity_or, last_of, map_at, tables_of}
-use Rattle.run_executor.specs.Given.PointsFactsCalls.{IsCopying}
-use Rattle.run_executor.specs.Given.CallersTogether.{Counting, ForRoom, OnKey, OverAll, UnderWay}
-use Rattle.run_executor.specs.Given.EffectsEffects.{effects_of}
-use Rattle.run_executor.specs.Given.EffectsKnown.{Known}
-use Rattle.run_executor.specs.Given.EffectsDeclared.acting.Acting.TheVariants as acts
-use Rattle.run_executor.specs.Given.FinishesMachines.{machine_of}
-use Rattle.run_executor.specs.Given.FollowsCalls.{IsCalled}
-use Rattle.run_executor.specs.Given.FollowsFinds.{FindsMap}
-use Rattle.run_executor.specs.Given.MomentsWhole.{RefinesWhole}
+use Rattle.run_finds.specs.Given.PointsFactsCalls.{IsCopying}
+use Rattle.run_finds.specs.Given.CallersTogether.{Counting, ForRoom, OnKey, OverAll, UnderWay}
+use Rattle.run_finds.specs.Given.EffectsEffects.{effects_of}
+use Rattle.run_finds.specs.Given.EffectsKnown.{Known}
+use Rattle.run_finds.specs.Given.EffectsDeclared.acting.Acting.TheVariants as acts
+use Rattle.run_finds.specs.Given.FinishesMachines.{machine_of}
+use Rattle.run_finds.specs.Given.FollowsCalls.{IsCalled}
+use Rattle.run_finds.specs.Given.FollowsFinds.{FindsMap}
+use Rattle.run_finds.specs.Given.MomentsWhole.{RefinesWhole}
 use Rattle.run_kept.specs.Given.OwesMaking.{making_in_calling, making_in_copying, making_in_sweeping, making_of}
 use Rattle.run_kept.specs.Given.OwesTables.{RefinesOwnTables, of_map, table_made}
 use Rattle.run_kept.proofs.Given.OwesTables.Held.{shape_of, some_making}
@@ -49,9 +49,9 @@ use Rattle.run_finds.proofs.Linking.{made_so, none_shaped, one_shaped, two_shape
 use Rattle.run_finds.proofs.Steps.{steps_find_places}
 use Rattle.run_grows.specs.Grows.Further.{CallMakes, CopierMakes, FollowsFullTable, IsFurther, MachineMakes, RoomMakes, RefinesFurther, SweepMakes, lengths_in, lengths_of}
 use Rattle.run_grows.proofs.Grows.Finding.Making.Lengths.{last_at}
-use Rattle.run_executor.specs.Given.ScenesHeld.{Held, IsAt}
-use Rattle.run_executor.specs.Given.ScenesScene.{Scene}
-use Rattle.run_executor.specs.Given.ScenesStepping.{StepLeads}
+use Rattle.run_finds.specs.Given.ScenesHeld.{Held, IsAt}
+use Rattle.run_finds.specs.Given.ScenesScene.{Scene}
+use Rattle.run_finds.specs.Given.ScenesStepping.{StepLeads}
 
 -- what its call makes a copier makes, and so it is such a making
 module _ (Such : NewTable → Type 0) (n : NewTable) where

@@ -1,8 +1,8 @@
 -- Whatever happens, where a copier makes a table its map has a second table, or had one at a moment since the call began.
 use Rattle.std.specs.Prelude.{◌≡◌, ◌<◌, ◌≤◌, ◌==◌, ℕ, Bool, true, List, find, Option, Some}
 use Rattle.std.proofs.Common.{ap, sym, subst, inl, inr}
-use Rattle.run_executor.specs.Given.SeizeWordsMem.{Mem, word_at}
-use Rattle.run_executor.specs.Given.SeizeWordsPlan.{Do, Now, Plan, Seeing, Sure, Then, Turn}
+use Rattle.run_finds.specs.Given.SeizeWordsMem.{Mem, word_at}
+use Rattle.run_finds.specs.Given.SeizeWordsPlan.{Do, Now, Plan, Seeing, Sure, Then, Turn}
 use Rattle.papaya_raw.specs.Given.TablesTablePlaces.{at_word}
 use Rattle.papaya_raw.specs.Given.TablesDeclared.node.Node.{Node}
 use Rattle.papaya_raw.specs.Given.TablesDeclared.table_words.TheConstants.{NEXT}
@@ -23,20 +23,20 @@ use Rattle.run_schedules.specs.Schedules.Entry.{ends_call}
 use Rattle.run_schedules.specs.Schedules.Growing.{HasNext}
 use Rattle.run_schedules.specs.Schedules.Moment.{MapThere, Moment, TableThere, UnderWay as CallThere}
 use Rattle.run_schedules.specs.Schedules.Views.{call_of, first_of, first_or, map_at}
-use Rattle.run_executor.specs.Given.EffectsDeclared.changed.Changed.{Changed}
-use Rattle.run_executor.specs.Given.EffectsDeclared.changed.Changed.TheVariants as changed
-use Rattle.run_executor.proofs.Given.RuleKeys.Always.{Always, AlwaysOf, always_steps}
-use Rattle.run_executor.specs.Given.CallersTogether.{UnderWay}
-use Rattle.run_executor.specs.Given.EffectsEffects.{effects_of}
-use Rattle.run_executor.specs.Given.EffectsKnown.{Known}
-use Rattle.run_executor.specs.Given.EffectsDeclared.acting.Acting.TheVariants as acts
-use Rattle.run_executor.specs.Given.FinishesMachines.{machine_of}
-use Rattle.run_executor.specs.Given.FinishesMaps.{Standing, with_call as with_in}
-use Rattle.run_executor.specs.Given.FollowsCalling.{NoneNamed, come_to, told}
-use Rattle.run_executor.specs.Given.FollowsCalls.{RefinesCalls as IsThere}
-use Rattle.run_executor.proofs.Given.FollowsSteps.{WentTo, went_to}
-use Rattle.run_executor.specs.Given.OthersWalks.{given_up}
-use Rattle.run_executor.specs.Given.MomentsWhole.{RefinesWhole}
+use Rattle.run_finds.specs.Given.EffectsDeclared.changed.Changed.{Changed}
+use Rattle.run_finds.specs.Given.EffectsDeclared.changed.Changed.TheVariants as changed
+use Rattle.run_finds.proofs.Given.RuleKeys.Always.{Always, AlwaysOf, always_steps}
+use Rattle.run_finds.specs.Given.CallersTogether.{UnderWay}
+use Rattle.run_finds.specs.Given.EffectsEffects.{effects_of}
+use Rattle.run_finds.specs.Given.EffectsKnown.{Known}
+use Rattle.run_finds.specs.Given.EffectsDeclared.acting.Acting.TheVariants as acts
+use Rattle.run_finds.specs.Given.FinishesMachines.{machine_of}
+use Rattle.run_finds.specs.Given.FinishesMaps.{Standing, with_call as with_in}
+use Rattle.run_finds.specs.Given.FollowsCalling.{NoneNamed, come_to, told}
+use Rattle.run_finds.specs.Given.FollowsCalls.{RefinesCalls as IsThere}
+use Rattle.run_finds.proofs.Given.FollowsSteps.{WentTo, went_to}
+use Rattle.run_finds.specs.Given.OthersWalks.{given_up}
+use Rattle.run_finds.specs.Given.MomentsWhole.{RefinesWhole}
 use Rattle.run_grows.proofs.Grows.CopiersNext.{second_there}
 use Rattle.run_grows.specs.Grows.Further.{MachineMakes}
 use Rattle.run_grows.specs.Grows.Nexts.{MayFollow, OthersHadNext, RefinesNexts}
@@ -47,14 +47,14 @@ use Rattle.run_grows.proofs.Grows.Finding.Making.OffRoot.{HasCopier, NoTable, ma
 use Rattle.run_grows.proofs.Grows.Finding.Making.Such.{machine_more}
 use Rattle.run_grows.proofs.Grows.Finding.Making.Unpromoted.{OffRoot, effects_keep_next, many_from, off_promotes_none}
 use Rattle.run_grows.proofs.Grows.Since as since
-use Rattle.run_executor.proofs.Given.ScenesTold.{as_step}
-use Rattle.run_executor.specs.Given.ScenesBeginning.{Begins}
-use Rattle.run_executor.specs.Given.ScenesHeld.{Held, IsAt}
-use Rattle.run_executor.specs.Given.ScenesReplying.{scene_with, unless_stopped}
-use Rattle.run_executor.specs.Given.ScenesScene.{Scene}
-use Rattle.run_executor.specs.Given.ScenesStepping.{StepLeads, scene_after}
+use Rattle.run_finds.proofs.Given.ScenesTold.{as_step}
+use Rattle.run_finds.specs.Given.ScenesBeginning.{Begins}
+use Rattle.run_finds.specs.Given.ScenesHeld.{Held, IsAt}
+use Rattle.run_finds.specs.Given.ScenesReplying.{scene_with, unless_stopped}
+use Rattle.run_finds.specs.Given.ScenesScene.{Scene}
+use Rattle.run_finds.specs.Given.ScenesStepping.{StepLeads, scene_after}
 use Rattle.run_schedules.specs.Schedules.Transition.{Past, further}
-use Rattle.run_executor.specs.Given.ChangesHistories.{IsPast}
+use Rattle.run_finds.specs.Given.ChangesHistories.{IsPast}
 
 -- A map has a second table where it is there with the same root, and the same tables.
 

@@ -8,34 +8,34 @@ use Rattle.papaya_raw.specs.Given.TablesDeclared.node.Node.{Node}
 use Rattle.papaya_raw.specs.Given.TablesDeclared.setting.Setting.{Setting}
 use Rattle.run_schedules.specs.Schedules.Effects.{with_effects}
 use Rattle.run_schedules.specs.Schedules.Moment.{Moment}
-use Rattle.run_executor.specs.Given.CallersTogether.{UnderWay}
-use Rattle.run_executor.specs.Given.EffectsEffects.{effects_of, known_after}
-use Rattle.run_executor.specs.Given.EffectsKnown.{Known}
-use Rattle.run_executor.specs.Given.EffectsDeclared.acting.Acting.TheVariants as acts
-use Rattle.run_executor.specs.Given.ScenesDeclared.row.RowTold.{RowTold}
-use Rattle.run_executor.specs.Given.ScenesDeclared.row.SlotCall.{SlotCall}
-use Rattle.run_executor.specs.Given.ScenesDeclared.row.SlotRow.{SlotRow}
-use Rattle.run_executor.specs.Given.FinishesEndings.{Finishing}
-use Rattle.run_executor.specs.Given.FinishesMakings.{Beginning}
-use Rattle.run_executor.specs.Given.OthersEndings.{ending_after}
-use Rattle.run_executor.specs.Given.OthersMakings.{WasNew, making_after}
-use Rattle.run_executor.specs.Given.OthersRows.{scene_then}
-use Rattle.run_executor.specs.Given.MomentsWhole.{RefinesWhole}
-use Rattle.run_executor.proofs.Given.MomentsEnds.{end_beside}
-use Rattle.run_executor.proofs.Given.MomentsMakingSteps.{makings_go_beside}
-use Rattle.run_executor.proofs.Given.MomentsOnSlots.{row_beside, rows_begin_beside}
+use Rattle.run_finds.specs.Given.CallersTogether.{UnderWay}
+use Rattle.run_finds.specs.Given.EffectsEffects.{effects_of, known_after}
+use Rattle.run_finds.specs.Given.EffectsKnown.{Known}
+use Rattle.run_finds.specs.Given.EffectsDeclared.acting.Acting.TheVariants as acts
+use Rattle.run_kept.specs.Given.ScenesDeclared.row.RowTold.{RowTold}
+use Rattle.run_kept.specs.Given.ScenesDeclared.row.SlotCall.{SlotCall}
+use Rattle.run_kept.specs.Given.ScenesDeclared.row.SlotRow.{SlotRow}
+use Rattle.run_kept.specs.Given.FinishesEndings.{Finishing}
+use Rattle.run_kept.specs.Given.FinishesMakings.{Beginning}
+use Rattle.run_kept.specs.Given.OthersEndings.{ending_after}
+use Rattle.run_kept.specs.Given.OthersMakings.{WasNew, making_after}
+use Rattle.run_kept.specs.Given.OthersRows.{scene_then}
+use Rattle.run_finds.specs.Given.MomentsWhole.{RefinesWhole}
+use Rattle.run_finds.proofs.Given.MomentsEnds.{end_beside}
+use Rattle.run_finds.proofs.Given.MomentsMakingSteps.{makings_go_beside}
+use Rattle.run_finds.proofs.Given.MomentsOnSlots.{row_beside, rows_begin_beside}
 use Rattle.run_schedules.specs.Schedules.Growing.{HasNext}
-use Rattle.run_executor.proofs.Given.MomentsBeside.{IsBeside}
+use Rattle.run_finds.proofs.Given.MomentsBeside.{IsBeside}
 use Rattle.run_grows.specs.Grows.Nexts.{RefinesNexts}
 use Rattle.run_grows.proofs.Grows.Finding.Making.Unpromoted.{same_maps_keep_next}
 use Rattle.run_grows.proofs.Grows.Finding.Nexts.{nexts_alike}
 use Rattle.run_grows.proofs.Grows.Finding.Others.{ended, ended_calls, ended_maps, ended_world}
-use Rattle.run_executor.specs.Given.ScenesEnding.{EndingLeads}
-use Rattle.run_executor.specs.Given.ScenesHeld.{Held, IsAt}
-use Rattle.run_executor.specs.Given.ScenesMaking.{MakingLeads}
-use Rattle.run_executor.specs.Given.ScenesOnSlots.{RowBegins, RowLeads}
-use Rattle.run_executor.specs.Given.ScenesRows.{request_of}
-use Rattle.run_executor.specs.Given.ScenesScene.{IsOnSlot, Scene, slot_of}
+use Rattle.run_kept.specs.Given.ScenesEnding.{EndingLeads}
+use Rattle.run_finds.specs.Given.ScenesHeld.{Held, IsAt}
+use Rattle.run_kept.specs.Given.ScenesMaking.{MakingLeads}
+use Rattle.run_kept.specs.Given.ScenesOnSlots.{RowBegins, RowLeads}
+use Rattle.run_kept.specs.Given.ScenesRows.{request_of}
+use Rattle.run_finds.specs.Given.ScenesScene.{IsOnSlot, Scene, slot_of}
 use Rattle.run_schedules.specs.Schedules.Transition.{Past}
 
 -- where calls and maps are as they were

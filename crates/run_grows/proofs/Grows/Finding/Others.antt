@@ -10,23 +10,23 @@ use Rattle.papaya_raw.specs.Given.TablesDeclared.setting.Setting.{Setting}
 use Rattle.run_schedules.specs.declared.effect.Effect.{Effect}
 use Rattle.run_schedules.specs.Schedules.Effects.{with_effects}
 use Rattle.run_schedules.specs.Schedules.Moment.{Moment}
-use Rattle.run_executor.specs.Given.CallersTogether.{OnKey, UnderWay}
-use Rattle.run_executor.specs.Given.EffectsEffects.{effects_of, known_after}
-use Rattle.run_executor.specs.Given.EffectsKnown.{Known}
-use Rattle.run_executor.specs.Given.EffectsDeclared.acting.Acting.TheVariants as acts
-use Rattle.run_executor.specs.Given.ScenesDeclared.row.RowTold.{RowTold}
-use Rattle.run_executor.specs.Given.ScenesDeclared.row.SlotCall.{SlotCall}
-use Rattle.run_executor.specs.Given.ScenesDeclared.row.SlotRow.{SlotRow}
-use Rattle.run_executor.specs.Given.FinishesEndings.{Finishing}
-use Rattle.run_executor.specs.Given.FinishesMakings.{Beginning}
-use Rattle.run_executor.specs.Given.FinishesMaps.{IsSameMap}
-use Rattle.run_executor.specs.Given.OthersEndings.{ending_after}
-use Rattle.run_executor.specs.Given.OthersMakings.{WasNew, making_after}
-use Rattle.run_executor.specs.Given.OthersRows.{scene_then}
-use Rattle.run_executor.specs.Given.MomentsWhole.{RefinesWhole}
-use Rattle.run_executor.proofs.Given.MomentsEnds.{end_beside}
-use Rattle.run_executor.proofs.Given.MomentsMakingSteps.{makings_go_beside}
-use Rattle.run_executor.proofs.Given.MomentsOnSlots.{row_beside, rows_begin_beside}
+use Rattle.run_finds.specs.Given.CallersTogether.{OnKey, UnderWay}
+use Rattle.run_finds.specs.Given.EffectsEffects.{effects_of, known_after}
+use Rattle.run_finds.specs.Given.EffectsKnown.{Known}
+use Rattle.run_finds.specs.Given.EffectsDeclared.acting.Acting.TheVariants as acts
+use Rattle.run_kept.specs.Given.ScenesDeclared.row.RowTold.{RowTold}
+use Rattle.run_kept.specs.Given.ScenesDeclared.row.SlotCall.{SlotCall}
+use Rattle.run_kept.specs.Given.ScenesDeclared.row.SlotRow.{SlotRow}
+use Rattle.run_kept.specs.Given.FinishesEndings.{Finishing}
+use Rattle.run_kept.specs.Given.FinishesMakings.{Beginning}
+use Rattle.run_finds.specs.Given.FinishesMaps.{IsSameMap}
+use Rattle.run_kept.specs.Given.OthersEndings.{ending_after}
+use Rattle.run_kept.specs.Given.OthersMakings.{WasNew, making_after}
+use Rattle.run_kept.specs.Given.OthersRows.{scene_then}
+use Rattle.run_finds.specs.Given.MomentsWhole.{RefinesWhole}
+use Rattle.run_finds.proofs.Given.MomentsEnds.{end_beside}
+use Rattle.run_finds.proofs.Given.MomentsMakingSteps.{makings_go_beside}
+use Rattle.run_finds.proofs.Given.MomentsOnSlots.{row_beside, rows_begin_beside}
 use Rattle.run_finds.specs.Linking.{IsMadeFor}
 use Rattle.run_finds.specs.Within.{many_of}
 use Rattle.run_finds.proofs.Capacities.{capacities_stay, effects_keep_capacities, makings_keep_capacities, same_maps_stood}
@@ -36,13 +36,13 @@ use Rattle.run_grows.specs.Grows.Finding.{RefinesFinding}
 use Rattle.run_grows.proofs.Grows.Finding.Alike.{stood_as}
 use Rattle.run_grows.proofs.Grows.Finding.Aside.{endings_leave_spots, makings_leave_spots, rows_leave_spots}
 use Rattle.run_grows.proofs.Grows.Finding.Beside.{finding_beside}
-use Rattle.run_executor.specs.Given.ScenesEnding.{EndingLeads}
-use Rattle.run_executor.specs.Given.ScenesHeld.{Held, IsAt}
-use Rattle.run_executor.specs.Given.ScenesMaking.{MakingLeads}
-use Rattle.run_executor.specs.Given.ScenesOnSlots.{RowBegins, RowLeads}
-use Rattle.run_executor.specs.Given.ScenesRows.{request_of}
-use Rattle.run_executor.specs.Given.ScenesScene.{IsOnSlot, Scene, slot_of}
-use Rattle.run_executor.proofs.Given.General.{at_most_itself as itself}
+use Rattle.run_kept.specs.Given.ScenesEnding.{EndingLeads}
+use Rattle.run_finds.specs.Given.ScenesHeld.{Held, IsAt}
+use Rattle.run_kept.specs.Given.ScenesMaking.{MakingLeads}
+use Rattle.run_kept.specs.Given.ScenesOnSlots.{RowBegins, RowLeads}
+use Rattle.run_kept.specs.Given.ScenesRows.{request_of}
+use Rattle.run_finds.specs.Given.ScenesScene.{IsOnSlot, Scene, slot_of}
+use Rattle.run_finds.proofs.Given.General.{at_most_itself as itself}
 
 -- the scene after a step of the end of a map
 module _ {K V : Type 0} (same : K → K → Bool) (hash : ℕ → K → ℕ) (s : Scene K V) (old new : Held K V) (i : ℕ) (f : Finishing K V) (here : s.enders i ≡ Some f) where

@@ -1,17 +1,17 @@
 -- The table behind which a call is to put its pair is noted as it was after a step that is of no call: while its row is under way that block is there, and before that the call knows it anew.
 use Rattle.std.specs.Prelude.{◌≡◌, ◌+◌, ℕ, Bool, List, Option, Some, None, IsSome}
 use Rattle.std.proofs.Common.{refl, ap, sym, subst, ◌∙◌, inl, inr}
-use Rattle.run_executor.specs.Given.SeizeWordsMem.{value_at}
-use Rattle.run_executor.specs.Given.SeizeWordsDeclared.at.At.{At}
-use Rattle.run_executor.specs.Given.SeizeFurther.{IsWordOf}
+use Rattle.run_finds.specs.Given.SeizeWordsMem.{value_at}
+use Rattle.run_finds.specs.Given.SeizeWordsDeclared.at.At.{At}
+use Rattle.run_finds.specs.Given.SeizeFurther.{IsWordOf}
 use Rattle.papaya_raw.specs.Given.SeizeWorld.{Defers, World, IsInside}
 use Rattle.papaya_raw.specs.Given.SeizeDeclared.rows.defer.Defer.{Defer}
 use Rattle.papaya_raw.specs.Given.SeizeDeclared.rows.defer.Deferring.{Deferring}
 use Rattle.papaya_raw.specs.Given.SeizeDeclared.rows.defer.Deferring.TheVariants as deferring
 use Rattle.papaya_raw.specs.Given.SeizeDeclared.states.TheConstants.{LAST_SLOT}
-use Rattle.run_executor.proofs.Given.SeizeAloneHistories.Reached.{Reached}
-use Rattle.run_executor.proofs.Given.SeizeRuleRows.Known.{FitsDefer, FitsRow, OnWay}
-use Rattle.run_executor.proofs.Given.SeizeMemoryWords.View.{list_in, view}
+use Rattle.run_finds.proofs.Given.SeizeAloneHistories.Reached.{Reached}
+use Rattle.run_finds.proofs.Given.SeizeRuleRows.Known.{FitsDefer, FitsRow, OnWay}
+use Rattle.run_finds.proofs.Given.SeizeMemoryWords.View.{list_in, view}
 use Rattle.papaya_raw.specs.Given.TablesNodes.{deferred_word}
 use Rattle.papaya_raw.specs.Given.TablesDeclared.node.Node.{Node}
 use Rattle.run_finds.specs.Given.ResizeDeclared.dispose.Disposing.{Disposing}
@@ -23,24 +23,24 @@ use Rattle.papaya_raw.specs.Given.ReservesDeclared.sweep.Sweeping.TheVariants as
 use Rattle.papaya_raw.specs.declared.machines.call.Calling.{Calling}
 use Rattle.papaya_raw.specs.declared.machines.call.Calling.TheVariants as calling
 use Rattle.run_schedules.specs.Schedules.Moment.{Moment}
-use Rattle.run_executor.specs.Given.RuleWords.{Blocks}
-use Rattle.run_executor.specs.Given.CallersOverAll.{row_of_sweep}
-use Rattle.run_executor.specs.Given.CallersRows.{row_of, row_of_disposal}
-use Rattle.run_executor.specs.Given.CallersSights.{seen_by}
-use Rattle.run_executor.specs.Given.CallersTogether.{Counting, ForRoom, OnKey, OverAll, Together, UnderWay}
-use Rattle.run_executor.proofs.Given.CallersTogether.Came.{came_reached}
-use Rattle.run_executor.specs.Given.EffectsKnown.{Known}
-use Rattle.run_executor.specs.Given.FinishesMachines.{machine_of}
-use Rattle.run_executor.specs.Given.FinishesMaps.{Standing}
-use Rattle.run_executor.proofs.Given.FollowsOnward.{IsOfMap}
-use Rattle.run_executor.specs.Given.MomentsWhole.{RefinesWhole}
+use Rattle.run_finds.specs.Given.RuleWords.{Blocks}
+use Rattle.run_finds.specs.Given.CallersOverAll.{row_of_sweep}
+use Rattle.run_finds.specs.Given.CallersRows.{row_of, row_of_disposal}
+use Rattle.run_finds.specs.Given.CallersSights.{seen_by}
+use Rattle.run_finds.specs.Given.CallersTogether.{Counting, ForRoom, OnKey, OverAll, Together, UnderWay}
+use Rattle.run_finds.proofs.Given.CallersTogether.Came.{came_reached}
+use Rattle.run_finds.specs.Given.EffectsKnown.{Known}
+use Rattle.run_finds.specs.Given.FinishesMachines.{machine_of}
+use Rattle.run_finds.specs.Given.FinishesMaps.{Standing}
+use Rattle.run_finds.proofs.Given.FollowsOnward.{IsOfMap}
+use Rattle.run_finds.specs.Given.MomentsWhole.{RefinesWhole}
 use Rattle.run_finds.specs.Given.SettlesDue.{ToPut, due_in_calling, due_in_copying, due_in_defer, due_in_disposing, due_in_row, due_in_sweeping}
 use Rattle.run_finds.specs.Puts.{IsDeferredOnTheLast, RefinesPuts}
 use Rattle.run_finds.specs.Waits.{waits_in, waits_in_calling, waits_in_sweeping}
 use Rattle.run_grows.proofs.Waits.Behind.{IsBehind, key_behind, room_never, sweep_behind}
-use Rattle.run_executor.proofs.Given.ScenesMay.{standing_is}
-use Rattle.run_executor.specs.Given.ScenesHeld.{Held, IsAt}
-use Rattle.run_executor.specs.Given.ScenesScene.{Scene, slot_of}
+use Rattle.run_kept.proofs.Given.ScenesMay.{standing_is}
+use Rattle.run_finds.specs.Given.ScenesHeld.{Held, IsAt}
+use Rattle.run_finds.specs.Given.ScenesScene.{Scene, slot_of}
 use Rattle.run_finds.proofs.Given.SettlesHand.Behind.{settle_puts as never_put}
 
 -- what has a list is there

@@ -13,13 +13,13 @@ use Rattle.run_schedules.specs.Schedules.Lists.{OneOf}
 use Rattle.run_schedules.specs.Schedules.Moment.{UnderWay as CallThere, Moment}
 use Rattle.run_schedules.specs.Schedules.Terms.{Terms, shards_of}
 use Rattle.run_schedules.specs.Schedules.Views.{call_of}
-use Rattle.run_executor.specs.Given.CallersTogether.{Counting, ForRoom, OnKey, OverAll, UnderWay}
-use Rattle.run_executor.specs.Given.EffectsEffects.{effects_of}
-use Rattle.run_executor.specs.Given.EffectsKnown.{Known}
-use Rattle.run_executor.specs.Given.EffectsDeclared.acting.Acting.TheVariants as acts
-use Rattle.run_executor.specs.Given.FinishesMachines.{machine_of}
-use Rattle.run_executor.specs.Given.MomentsWhole.{RefinesWhole}
-use Rattle.run_executor.proofs.Given.OthersOutcomes.{told_in}
+use Rattle.run_finds.specs.Given.CallersTogether.{Counting, ForRoom, OnKey, OverAll, UnderWay}
+use Rattle.run_finds.specs.Given.EffectsEffects.{effects_of}
+use Rattle.run_finds.specs.Given.EffectsKnown.{Known}
+use Rattle.run_finds.specs.Given.EffectsDeclared.acting.Acting.TheVariants as acts
+use Rattle.run_finds.specs.Given.FinishesMachines.{machine_of}
+use Rattle.run_finds.specs.Given.MomentsWhole.{RefinesWhole}
+use Rattle.run_finds.proofs.Given.OthersOutcomes.{told_in}
 use Rattle.run_kept.specs.Given.OwesTables.{RefinesOwnTables}
 use Rattle.run_kept.proofs.Given.OwesWalks.{sum_at}
 use Rattle.run_finds.specs.Given.SettlesDue.{OwnAreMade}
@@ -42,9 +42,9 @@ use Rattle.run_grows.specs.Grows.Finding.{RefinesFinding}
 use Rattle.run_grows.specs.Grows.Rests.{StepsFindRest}
 use Rattle.run_grows.proofs.Grows.Finding.Links.{copier_links, none_links}
 use Rattle.run_grows.proofs.Grows.Finding.Rooms.{room_asks, room_links}
-use Rattle.run_executor.specs.Given.ScenesHeld.{Held, IsAt}
-use Rattle.run_executor.specs.Given.ScenesScene.{Scene}
-use Rattle.run_executor.specs.Given.ScenesStepping.{StepLeads}
+use Rattle.run_finds.specs.Given.ScenesHeld.{Held, IsAt}
+use Rattle.run_finds.specs.Given.ScenesScene.{Scene}
+use Rattle.run_finds.specs.Given.ScenesStepping.{StepLeads}
 use Rattle.run_schedules.specs.Schedules.Transition.{Past}
 use Rattle.run_finds.proofs.Given.SettlesHand.All.{copies_or_not as copies_or}
 

@@ -2,9 +2,9 @@
 use Rattle.std.specs.Prelude.{◌≡◌, ◌⊎◌, ◌+◌, ◌^◌, ◌<◌, ◌%◌, nat_le, max, ℕ, zero, suc, Bool, true, false, List, ◌∷◌, Ok, Err, Some, if◌then◌else◌}
 use Rattle.std.proofs.Common.{refl, ap, sym, subst, ◌∙◌, inl, inr, arith}
 use Rattle.std.proofs.lemmas.Bool.{leb-true, lt-ltb}
-use Rattle.run_executor.specs.Given.SeizeWordsMem.{Mem, Took, value_at}
-use Rattle.run_executor.specs.Given.SeizeWordsPlan.{Steps}
-use Rattle.run_executor.specs.Given.SeizeWordsDeclared.fault.Fault.TheVariants.{Capacity}
+use Rattle.run_finds.specs.Given.SeizeWordsMem.{Mem, Took, value_at}
+use Rattle.run_finds.specs.Given.SeizeWordsPlan.{Steps}
+use Rattle.run_finds.specs.Given.SeizeWordsDeclared.fault.Fault.TheVariants.{Capacity}
 use Rattle.papaya_raw.specs.Given.SeizeDeclared.advance.Advance.TheVariants as counting
 use Rattle.papaya_raw.specs.Given.TablesCounts.{count_in}
 use Rattle.papaya_raw.specs.Given.TablesLengths.{places_for}
@@ -27,16 +27,16 @@ use Rattle.run_schedules.specs.Schedules.Lists.{OneOf}
 use Rattle.run_schedules.specs.Schedules.Moment.{Moment, UnderWay as CallThere}
 use Rattle.run_schedules.specs.Schedules.Terms.{Terms, shards_of}
 use Rattle.run_schedules.specs.Schedules.Views.{call_of}
-use Rattle.run_executor.specs.Given.CallersRooms.{CallForRoom}
-use Rattle.run_executor.specs.Given.CallersSights.{seen_by}
-use Rattle.run_executor.specs.Given.CallersTogether.{Counting, ForRoom, OnKey, OverAll, UnderWay}
-use Rattle.run_executor.specs.Given.EffectsEffects.{effects_of}
-use Rattle.run_executor.specs.Given.EffectsKnown.{Known}
-use Rattle.run_executor.specs.Given.EffectsDeclared.acting.Acting.TheVariants as acts
+use Rattle.run_finds.specs.Given.CallersRooms.{CallForRoom}
+use Rattle.run_finds.specs.Given.CallersSights.{seen_by}
+use Rattle.run_finds.specs.Given.CallersTogether.{Counting, ForRoom, OnKey, OverAll, UnderWay}
+use Rattle.run_finds.specs.Given.EffectsEffects.{effects_of}
+use Rattle.run_finds.specs.Given.EffectsKnown.{Known}
+use Rattle.run_finds.specs.Given.EffectsDeclared.acting.Acting.TheVariants as acts
 use Rattle.papaya_raw.proofs.Given.TablesTableLens.{next-power-most}
-use Rattle.run_executor.proofs.Given.LateKindsKept.Rooms.Making.{above}
-use Rattle.run_executor.specs.Given.FinishesMaps.{Standing}
-use Rattle.run_executor.specs.Given.MomentsWhole.{RefinesWhole}
+use Rattle.run_finds.proofs.Given.LateKindsKept.Rooms.Making.{above}
+use Rattle.run_finds.specs.Given.FinishesMaps.{Standing}
+use Rattle.run_finds.specs.Given.MomentsWhole.{RefinesWhole}
 use Rattle.run_finds.specs.Capacities.{RefinesCapacities}
 use Rattle.run_finds.proofs.Reserving.{adds_after}
 use Rattle.run_finds.specs.Purposes.Purposes.{RefinesPurposes}
@@ -47,9 +47,9 @@ use Rattle.run_grows.specs.Grows.Limits.{HasLimit, IsAtLimit, NeedsMore, Refines
 use Rattle.run_grows.proofs.Grows.Finding.Rooms.{its_more}
 use Rattle.run_grows.proofs.Grows.Limits.Steps.{refused_for}
 use Rattle.run_grows.proofs.Grows.Limits.Walk.{SummedAt}
-use Rattle.run_executor.specs.Given.ScenesHeld.{Held, IsAt}
-use Rattle.run_executor.specs.Given.ScenesScene.{Scene, slot_of}
-use Rattle.run_executor.specs.Given.ScenesStepping.{StepLeads}
+use Rattle.run_finds.specs.Given.ScenesHeld.{Held, IsAt}
+use Rattle.run_finds.specs.Given.ScenesScene.{Scene, slot_of}
+use Rattle.run_finds.specs.Given.ScenesStepping.{StepLeads}
 use Rattle.run_schedules.specs.Schedules.Transition.{Past}
 
 -- Where pairs need more places than a table can have, they are too many.

@@ -3,7 +3,7 @@ use Rattle.std.specs.Prelude.{◌≡◌, ◌⊎◌, ℕ, zero, suc, ◌^◌, ◌
 use Rattle.std.specs.List.{list_any}
 use Rattle.std.proofs.Common.{refl, ap, subst, ◌∙◌, inl, inr, arith}
 use Rattle.std.proofs.lemmas.Bool.{cases_lt, le-leb}
-use Rattle.run_executor.specs.Given.SeizeWordsMem.{word_at}
+use Rattle.run_finds.specs.Given.SeizeWordsMem.{word_at}
 use Rattle.papaya_raw.specs.Given.SeizeWorld.{World}
 use Rattle.papaya_raw.specs.Given.TablesLengths.{CannotBeFollowed, IsTableLen}
 use Rattle.papaya_raw.specs.Given.TablesTablePlaces.{at_word}
@@ -11,20 +11,20 @@ use Rattle.papaya_raw.specs.Given.TablesDeclared.node.Node.{Node}
 use Rattle.papaya_raw.specs.Given.TablesDeclared.setting.Setting.{Setting}
 use Rattle.papaya_raw.specs.Given.TablesDeclared.table.Table.{Table}
 use Rattle.papaya_raw.specs.Given.TablesDeclared.table_words.TheConstants.{NEXT}
-use Rattle.run_executor.specs.Given.RuleChart.{Chart}
-use Rattle.run_executor.specs.Given.RuleInWorld.{IsMapIn}
-use Rattle.run_executor.specs.Given.RuleMaps.{IsTable}
-use Rattle.run_executor.specs.Given.RuleWords.{Blocks}
+use Rattle.run_finds.specs.Given.RuleChart.{Chart}
+use Rattle.run_finds.specs.Given.RuleInWorld.{IsMapIn}
+use Rattle.run_finds.specs.Given.RuleMaps.{IsTable}
+use Rattle.run_finds.specs.Given.RuleWords.{Blocks}
 use Rattle.run_schedules.specs.Schedules.Moment.{Moment, Stage, TableThere}
 use Rattle.run_schedules.specs.Schedules.Views.{first_of, tables_of}
-use Rattle.run_executor.specs.Given.EffectsKnown.{Known}
-use Rattle.run_executor.specs.Given.FinishesMaps.{Standing}
-use Rattle.run_executor.specs.Given.FollowsMaps.{RefinesMap, shape_at, table_of, tables_to}
+use Rattle.run_finds.specs.Given.EffectsKnown.{Known}
+use Rattle.run_finds.specs.Given.FinishesMaps.{Standing}
+use Rattle.run_finds.specs.Given.FollowsMaps.{RefinesMap, shape_at, table_of, tables_to}
 use Rattle.papaya_raw.proofs.Given.TablesEnds.{longest}
-use Rattle.run_executor.proofs.Given.FollowsFinds.{first_is}
+use Rattle.run_finds.proofs.Given.FollowsFinds.{first_is}
 use Rattle.run_finds.proofs.Grows.There.{last_has_none}
 use Rattle.run_grows.specs.Grows.Limits.{IsAtLimit}
-use Rattle.run_executor.proofs.Given.General.{or_either as or_one}
+use Rattle.run_finds.proofs.Given.General.{or_either as or_one}
 
 -- as long as a table can be, or with the last turn
 abbrev pub is_longest : TableThere → Bool

@@ -1,8 +1,8 @@
 -- What a call finds where it may be refused for the length of a table: none is linked behind the last one of its map, by the points of each kind of call.
 use Rattle.std.specs.Prelude.{◌≡◌, ◌⊎◌, ◌≤◌, ◌<◌, ◌^◌, ℕ, Bool, true, false, cond, Some}
 use Rattle.std.proofs.Common.{sym, subst, inl, inr}
-use Rattle.run_executor.specs.Given.SeizeWordsMem.{Mem, Took, value_at}
-use Rattle.run_executor.specs.Given.SeizeWordsPlan.{Steps}
+use Rattle.run_finds.specs.Given.SeizeWordsMem.{Mem, Took, value_at}
+use Rattle.run_finds.specs.Given.SeizeWordsPlan.{Steps}
 use Rattle.papaya_raw.specs.Given.SeizeWorld.{World}
 use Rattle.papaya_raw.specs.Given.SeizeDeclared.advance.Advance.TheVariants as counting
 use Rattle.papaya_raw.specs.Given.TablesChunks.{is_incremental}
@@ -24,32 +24,32 @@ use Rattle.papaya_raw.specs.Given.ReservesDeclared.sweep.Sweeping.TheVariants as
 use Rattle.papaya_raw.specs.declared.machines.call.Calling.{Calling}
 use Rattle.papaya_raw.specs.declared.machines.call.Calling.TheVariants as calling
 use Rattle.papaya_raw.specs.declared.machines.call.KeyCall.{KeyCall}
-use Rattle.run_executor.specs.Given.RuleChart.{Chart}
-use Rattle.run_executor.specs.Given.RuleInWorld.{IsMapIn}
-use Rattle.run_executor.specs.Given.RuleMaps.{IsTable}
-use Rattle.run_executor.specs.Given.RuleWords.{Blocks}
-use Rattle.run_executor.specs.Given.PointsFactsCalls.{CallingFacts, Change}
-use Rattle.run_executor.specs.Given.PointsFactsCopies.{CopierFacts, CopyingFacts}
-use Rattle.run_executor.specs.Given.PointsFactsCopiesBlocking.{CopierFactsBlocking, CopyingFactsBlocking}
-use Rattle.run_executor.specs.Given.PointsTold.{IsRowOfCall, IsRowOfCopier}
-use Rattle.run_executor.specs.Given.LateEnds.{EndsInCalling, EndsInCopying, EndsInReserving, EndsInSweeping, EndsSo, IsLastWhereNone}
-use Rattle.run_executor.specs.Given.LateFactsReserves.{CopiesWhole, IsEnding, ReservingFacts}
-use Rattle.run_executor.specs.Given.LateFactsSweeps.{SweepingFacts}
-use Rattle.run_executor.specs.Given.LateLateCalls.{SupersededCalling}
-use Rattle.run_executor.specs.Given.LateLateCopies.{SupersededCopying}
-use Rattle.run_executor.specs.Given.LateLateReserves.{SupersededReserving}
-use Rattle.run_executor.specs.Given.LateToldReserves.{IsRowOfReserve}
-use Rattle.run_executor.specs.Given.LateToldSweeps.{IsRowOfSweep}
-use Rattle.run_executor.specs.Given.CallersSights.{IsVisibility, Visible, seen_by}
-use Rattle.run_executor.specs.Given.CallersTogether.{Counting, ForRoom, OnKey, OverAll, Together, UnderWay, in_slot}
-use Rattle.run_executor.specs.Given.FinishesMachines.{machine_of}
-use Rattle.run_executor.specs.Given.FinishesMaps.{Standing}
+use Rattle.run_finds.specs.Given.RuleChart.{Chart}
+use Rattle.run_finds.specs.Given.RuleInWorld.{IsMapIn}
+use Rattle.run_finds.specs.Given.RuleMaps.{IsTable}
+use Rattle.run_finds.specs.Given.RuleWords.{Blocks}
+use Rattle.run_finds.specs.Given.PointsFactsCalls.{CallingFacts, Change}
+use Rattle.run_finds.specs.Given.PointsFactsCopies.{CopierFacts, CopyingFacts}
+use Rattle.run_finds.specs.Given.PointsFactsCopiesBlocking.{CopierFactsBlocking, CopyingFactsBlocking}
+use Rattle.run_finds.specs.Given.PointsTold.{IsRowOfCall, IsRowOfCopier}
+use Rattle.run_finds.specs.Given.LateEnds.{EndsInCalling, EndsInCopying, EndsInReserving, EndsInSweeping, EndsSo, IsLastWhereNone}
+use Rattle.run_finds.specs.Given.LateFactsReserves.{CopiesWhole, IsEnding, ReservingFacts}
+use Rattle.run_finds.specs.Given.LateFactsSweeps.{SweepingFacts}
+use Rattle.run_finds.specs.Given.LateLateCalls.{SupersededCalling}
+use Rattle.run_finds.specs.Given.LateLateCopies.{SupersededCopying}
+use Rattle.run_finds.specs.Given.LateLateReserves.{SupersededReserving}
+use Rattle.run_finds.specs.Given.LateToldReserves.{IsRowOfReserve}
+use Rattle.run_finds.specs.Given.LateToldSweeps.{IsRowOfSweep}
+use Rattle.run_finds.specs.Given.CallersSights.{IsVisibility, Visible, seen_by}
+use Rattle.run_finds.specs.Given.CallersTogether.{Counting, ForRoom, OnKey, OverAll, Together, UnderWay, in_slot}
+use Rattle.run_finds.specs.Given.FinishesMachines.{machine_of}
+use Rattle.run_finds.specs.Given.FinishesMaps.{Standing}
 use Rattle.run_finds.proofs.Grows.There.{unseen}
 use Rattle.run_grows.specs.Grows.Limits.{IsFor, IsForDeferral, NeedsMore}
 use Rattle.run_grows.proofs.Grows.Limits.Last.{LastIsFor, last_for}
 use Rattle.run_grows.proofs.Grows.Limits.Walk.{MachineMayEnd, SummedAt, SummedIn, ends_for}
-use Rattle.run_executor.specs.Given.ScenesHeld.{Held, IsAt}
-use Rattle.run_executor.specs.Given.ScenesScene.{Scene, slot_of}
+use Rattle.run_finds.specs.Given.ScenesHeld.{Held, IsAt}
+use Rattle.run_finds.specs.Given.ScenesScene.{Scene, slot_of}
 
 -- within a row nothing is found of this kind
 module _ (Why : Type 0) {T : Type 0} (m : Mem T) where

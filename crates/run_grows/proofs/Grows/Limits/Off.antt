@@ -1,10 +1,10 @@
 -- A step of a call writes no root, or leaves it where it is to be refused for nothing, and is to put no table behind another one.
 use Rattle.std.specs.Prelude.{◌≡◌, ◌⊎◌, ℕ, Bool, Ok, Err}
 use Rattle.std.proofs.Common.{refl, sym, subst, inl, inr}
-use Rattle.run_executor.specs.Given.SeizeWordsMem.{Mem}
-use Rattle.run_executor.specs.Given.SeizeWordsOp.{Exchanged, Found, Made, Roomed, Stored, Taken}
-use Rattle.run_executor.specs.Given.SeizeWordsPlan.{Plan}
-use Rattle.run_executor.specs.Given.SeizeWordsDeclared.fault.Fault.{Fault}
+use Rattle.run_finds.specs.Given.SeizeWordsMem.{Mem}
+use Rattle.run_finds.specs.Given.SeizeWordsOp.{Exchanged, Found, Made, Roomed, Stored, Taken}
+use Rattle.run_finds.specs.Given.SeizeWordsPlan.{Plan}
+use Rattle.run_finds.specs.Given.SeizeWordsDeclared.fault.Fault.{Fault}
 use Rattle.papaya_raw.specs.Given.SeizeDeclared.advance.Advance.{Advance as Counting}
 use Rattle.papaya_raw.specs.Given.SeizeDeclared.advance.Advance.TheVariants as progress
 use Rattle.papaya_raw.specs.Given.TablesDeclared.node.Node.{Node}
@@ -42,26 +42,26 @@ use Rattle.papaya_raw.specs.declared.machines.call.KeyCall.{KeyCall}
 use Rattle.papaya_raw.specs.declared.machines.machine.Machine.{Machine}
 use Rattle.papaya_raw.specs.declared.machines.machine.Machine.TheVariants as kinds
 use Rattle.papaya_raw.specs.declared.machines.progress.Progress.{Progress}
-use Rattle.run_executor.specs.Given.TellerTells.{StepsObserved}
-use Rattle.run_executor.specs.Given.EffectsDeclared.changed.Changed.{Changed}
-use Rattle.run_executor.specs.Given.EffectsDeclared.changed.Changed.TheVariants as changed
-use Rattle.run_executor.specs.Given.LateEnds.{EndsInCalling, EndsInCopying, EndsInSweeping}
-use Rattle.run_executor.specs.Given.LateFaults.{HoldsInCalling, HoldsInCopying, HoldsInSweeping}
-use Rattle.run_executor.proofs.Given.LateKindsKept.Rooms.Asks.{reserve_asks}
-use Rattle.run_executor.proofs.Given.LateKindsKept.Rooms.Calling as calls_as
-use Rattle.run_executor.proofs.Given.LateKindsKept.Rooms.Calling.{CallsAs, key_as}
-use Rattle.run_executor.proofs.Given.LateKindsKept.Rooms.Copying as copies_as
-use Rattle.run_executor.proofs.Given.LateKindsKept.Rooms.Copying.{CopiesAs, copier_as}
-use Rattle.run_executor.proofs.Given.LateKindsKept.Rooms.Reserving as rooms_as
-use Rattle.run_executor.proofs.Given.LateKindsKept.Rooms.Reserving.{ReservesAs}
-use Rattle.run_executor.proofs.Given.LateKindsKept.Rooms.Sweeping as sweeps_as
-use Rattle.run_executor.proofs.Given.LateKindsKept.Rooms.Sweeping.{SweepsAs, sweep_as}
-use Rattle.run_executor.proofs.Given.OthersOutcomes.{told_in}
+use Rattle.run_finds.specs.Given.TellerTells.{StepsObserved}
+use Rattle.run_finds.specs.Given.EffectsDeclared.changed.Changed.{Changed}
+use Rattle.run_finds.specs.Given.EffectsDeclared.changed.Changed.TheVariants as changed
+use Rattle.run_finds.specs.Given.LateEnds.{EndsInCalling, EndsInCopying, EndsInSweeping}
+use Rattle.run_finds.specs.Given.LateFaults.{HoldsInCalling, HoldsInCopying, HoldsInSweeping}
+use Rattle.run_finds.proofs.Given.LateKindsKept.Rooms.Asks.{reserve_asks}
+use Rattle.run_finds.proofs.Given.LateKindsKept.Rooms.Calling as calls_as
+use Rattle.run_finds.proofs.Given.LateKindsKept.Rooms.Calling.{CallsAs, key_as}
+use Rattle.run_finds.proofs.Given.LateKindsKept.Rooms.Copying as copies_as
+use Rattle.run_finds.proofs.Given.LateKindsKept.Rooms.Copying.{CopiesAs, copier_as}
+use Rattle.run_finds.proofs.Given.LateKindsKept.Rooms.Reserving as rooms_as
+use Rattle.run_finds.proofs.Given.LateKindsKept.Rooms.Reserving.{ReservesAs}
+use Rattle.run_finds.proofs.Given.LateKindsKept.Rooms.Sweeping as sweeps_as
+use Rattle.run_finds.proofs.Given.LateKindsKept.Rooms.Sweeping.{SweepsAs, sweep_as}
+use Rattle.run_finds.proofs.Given.OthersOutcomes.{told_in}
 use Rattle.run_grows.specs.Grows.Limits.{IsFor, IsForDeferral, NeedsMore}
 use Rattle.run_grows.proofs.Grows.Finding.Making.OffRoot.{IsDone, new_table_off, sum_off}
 use Rattle.run_grows.proofs.Grows.Finding.Making.Unpromoted.{OffRoot}
 use Rattle.run_grows.proofs.Grows.Limits.Walk.{EndsThen, key_end, memory_for, room_end, sweep_end}
-use Rattle.run_executor.proofs.Given.ScenesTold.{as_step}
+use Rattle.run_finds.proofs.Given.ScenesTold.{as_step}
 
 module _ {K V : Type 0} (m m2 : Mem (Node K V)) (told : Changed) (hash : K → ℕ) where
   abbrev Step : {R : Type 0} → Plan (Node K V) R → R → Type 0

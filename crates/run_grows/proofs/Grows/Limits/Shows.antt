@@ -17,48 +17,48 @@ use Rattle.run_schedules.specs.Schedules.Effects.{with_effects}
 use Rattle.run_schedules.specs.Schedules.Entry.{ends_call}
 use Rattle.run_schedules.specs.Schedules.Moment.{Moment, UnderWay as CallThere}
 use Rattle.run_schedules.specs.Schedules.Views.{call_of, map_at}
-use Rattle.run_executor.specs.Given.CallersOverAll.{CallOverAll}
-use Rattle.run_executor.specs.Given.CallersPairs.{Given}
-use Rattle.run_executor.specs.Given.CallersRooms.{CallForRoom}
-use Rattle.run_executor.specs.Given.CallersTogether.{Computes, Counting, ForRoom, Gets, Inserts, IsBegun, OnKey, OverAll, Removes, RemovesIf, TriesToInsert, TriesToInsertWith, UnderWay, Updates, UpdatesOrInserts}
-use Rattle.run_executor.specs.Given.EffectsEffects.{effects_of, known_after}
-use Rattle.run_executor.specs.Given.EffectsKnown.{Known}
-use Rattle.run_executor.specs.Given.EffectsDeclared.acting.Acting.TheVariants as acts
-use Rattle.run_executor.specs.Given.ScenesDeclared.row.RowTold.{RowTold}
-use Rattle.run_executor.specs.Given.ScenesDeclared.row.SlotCall.{SlotCall}
-use Rattle.run_executor.specs.Given.ScenesDeclared.row.SlotRow.{SlotRow}
+use Rattle.run_finds.specs.Given.CallersOverAll.{CallOverAll}
+use Rattle.run_finds.specs.Given.CallersPairs.{Given}
+use Rattle.run_finds.specs.Given.CallersRooms.{CallForRoom}
+use Rattle.run_finds.specs.Given.CallersTogether.{Computes, Counting, ForRoom, Gets, Inserts, IsBegun, OnKey, OverAll, Removes, RemovesIf, TriesToInsert, TriesToInsertWith, UnderWay, Updates, UpdatesOrInserts}
+use Rattle.run_finds.specs.Given.EffectsEffects.{effects_of, known_after}
+use Rattle.run_finds.specs.Given.EffectsKnown.{Known}
+use Rattle.run_finds.specs.Given.EffectsDeclared.acting.Acting.TheVariants as acts
+use Rattle.run_kept.specs.Given.ScenesDeclared.row.RowTold.{RowTold}
+use Rattle.run_kept.specs.Given.ScenesDeclared.row.SlotCall.{SlotCall}
+use Rattle.run_kept.specs.Given.ScenesDeclared.row.SlotRow.{SlotRow}
 use Rattle.papaya_raw.specs.declared.machines.call.KeyCall.{KeyCall}
-use Rattle.run_executor.specs.Given.FinishesEndings.{Finishing}
-use Rattle.run_executor.specs.Given.FinishesMachines.{machine_of}
-use Rattle.run_executor.specs.Given.FinishesMakings.{Beginning}
-use Rattle.run_executor.specs.Given.FinishesMaps.{Standing, with_call as with_in}
-use Rattle.run_executor.specs.Given.FollowsCalling.{NoneNamed, come_to, told}
-use Rattle.run_executor.specs.Given.FollowsCalls.{RefinesCalls as IsThere}
-use Rattle.run_executor.specs.Given.OthersEndings.{ending_after}
-use Rattle.run_executor.specs.Given.OthersMakings.{WasNew, making_after}
-use Rattle.run_executor.specs.Given.OthersRows.{scene_then}
-use Rattle.run_executor.specs.Given.OthersWalks.{given_up}
-use Rattle.run_executor.specs.Given.MomentsWhole.{RefinesWhole}
-use Rattle.run_executor.proofs.Given.MomentsBeside.{IsBeside}
-use Rattle.run_executor.proofs.Given.MomentsEnds.{end_beside}
-use Rattle.run_executor.proofs.Given.MomentsMakingSteps.{makings_go_beside}
-use Rattle.run_executor.proofs.Given.MomentsOnSlots.{row_beside, rows_begin_beside}
-use Rattle.run_executor.specs.Given.LateFaults.{HoldsInCalling, HoldsInSweeping}
+use Rattle.run_kept.specs.Given.FinishesEndings.{Finishing}
+use Rattle.run_finds.specs.Given.FinishesMachines.{machine_of}
+use Rattle.run_kept.specs.Given.FinishesMakings.{Beginning}
+use Rattle.run_finds.specs.Given.FinishesMaps.{Standing, with_call as with_in}
+use Rattle.run_finds.specs.Given.FollowsCalling.{NoneNamed, come_to, told}
+use Rattle.run_finds.specs.Given.FollowsCalls.{RefinesCalls as IsThere}
+use Rattle.run_kept.specs.Given.OthersEndings.{ending_after}
+use Rattle.run_kept.specs.Given.OthersMakings.{WasNew, making_after}
+use Rattle.run_kept.specs.Given.OthersRows.{scene_then}
+use Rattle.run_finds.specs.Given.OthersWalks.{given_up}
+use Rattle.run_finds.specs.Given.MomentsWhole.{RefinesWhole}
+use Rattle.run_finds.proofs.Given.MomentsBeside.{IsBeside}
+use Rattle.run_finds.proofs.Given.MomentsEnds.{end_beside}
+use Rattle.run_finds.proofs.Given.MomentsMakingSteps.{makings_go_beside}
+use Rattle.run_finds.proofs.Given.MomentsOnSlots.{row_beside, rows_begin_beside}
+use Rattle.run_finds.specs.Given.LateFaults.{HoldsInCalling, HoldsInSweeping}
 use Rattle.run_grows.specs.Grows.Limits.{IsAtLimit, IsFor, IsForDeferral, MachineEnds, NeedsMore, OthersHadLimit, RoomEnds, RefinesLimits}
 use Rattle.run_grows.proofs.Grows.Finding.Others.{ended, ended_calls, ended_maps, ended_world}
 use Rattle.run_grows.proofs.Grows.Limits.Chain.{limit_where, same_maps_keep_limit}
 use Rattle.run_grows.proofs.Grows.Limits.Walk.{asked_ends, machine_for, reply_ends}
 use Rattle.run_grows.proofs.Grows.Since as since
-use Rattle.run_executor.specs.Given.ScenesBeginning.{Begins}
-use Rattle.run_executor.specs.Given.ScenesEnding.{EndingLeads}
-use Rattle.run_executor.specs.Given.ScenesHeld.{Held, IsAt}
-use Rattle.run_executor.specs.Given.ScenesMaking.{MakingLeads}
-use Rattle.run_executor.specs.Given.ScenesOnSlots.{RowBegins, RowLeads}
-use Rattle.run_executor.specs.Given.ScenesReplying.{scene_with, unless_stopped}
-use Rattle.run_executor.specs.Given.ScenesRows.{request_of}
-use Rattle.run_executor.specs.Given.ScenesScene.{IsOnSlot, Scene, slot_of}
+use Rattle.run_finds.specs.Given.ScenesBeginning.{Begins}
+use Rattle.run_kept.specs.Given.ScenesEnding.{EndingLeads}
+use Rattle.run_finds.specs.Given.ScenesHeld.{Held, IsAt}
+use Rattle.run_kept.specs.Given.ScenesMaking.{MakingLeads}
+use Rattle.run_kept.specs.Given.ScenesOnSlots.{RowBegins, RowLeads}
+use Rattle.run_finds.specs.Given.ScenesReplying.{scene_with, unless_stopped}
+use Rattle.run_kept.specs.Given.ScenesRows.{request_of}
+use Rattle.run_finds.specs.Given.ScenesScene.{IsOnSlot, Scene, slot_of}
 use Rattle.run_schedules.specs.Schedules.Transition.{Past, further}
-use Rattle.run_executor.specs.Given.ChangesHistories.{IsPast}
+use Rattle.run_finds.specs.Given.ChangesHistories.{IsPast}
 
 -- A call that begins has not come so far.
 module _ {K V : Type 0} (same : K → K → Bool) (Why : Type 0) where

@@ -1,10 +1,10 @@
 -- A step of a call: where it can have no further table after it, one of its map's is at the limit, or was; and what it is refused for.
 use Rattle.std.specs.Prelude.{◌≡◌, ◌⊎◌, ◌≤◌, ◌^◌, ℕ, Bool, false, List, Option, Some, Result, Ok, Err, IfOk}
 use Rattle.std.proofs.Common.{refl, sym, subst, ◌∙◌, inl, inr, arith}
-use Rattle.run_executor.specs.Given.SeizeWordsMem.{Mem, Took, value_at}
-use Rattle.run_executor.specs.Given.SeizeWordsPlan.{Steps}
-use Rattle.run_executor.specs.Given.SeizeWordsDeclared.fault.Fault.{Fault}
-use Rattle.run_executor.specs.Given.SeizeWordsDeclared.fault.Fault.TheVariants.{Capacity}
+use Rattle.run_finds.specs.Given.SeizeWordsMem.{Mem, Took, value_at}
+use Rattle.run_finds.specs.Given.SeizeWordsPlan.{Steps}
+use Rattle.run_finds.specs.Given.SeizeWordsDeclared.fault.Fault.{Fault}
+use Rattle.run_finds.specs.Given.SeizeWordsDeclared.fault.Fault.TheVariants.{Capacity}
 use Rattle.papaya_raw.specs.Given.TablesLengths.{entries_of, places_for}
 use Rattle.papaya_raw.specs.Given.TablesPowers.{next_power}
 use Rattle.papaya_raw.specs.Given.TablesDeclared.node.Node.{Node}
@@ -17,17 +17,17 @@ use Rattle.run_schedules.specs.Schedules.Effects.{with_effects}
 use Rattle.run_schedules.specs.Schedules.Growing.{Has}
 use Rattle.run_schedules.specs.Schedules.Moment.{Moment, UnderWay as CallThere}
 use Rattle.run_schedules.specs.Schedules.Views.{call_of, capacity_or, map_at}
-use Rattle.run_executor.specs.Given.EffectsDeclared.changed.Changed.{Changed}
-use Rattle.run_executor.specs.Given.EffectsDeclared.changed.Changed.TheVariants as changed
-use Rattle.run_executor.specs.Given.CallersTogether.{Together, UnderWay}
-use Rattle.run_executor.specs.Given.EffectsEffects.{effects_of}
-use Rattle.run_executor.specs.Given.EffectsKnown.{Known}
-use Rattle.run_executor.specs.Given.EffectsDeclared.acting.Acting.TheVariants as acts
+use Rattle.run_finds.specs.Given.EffectsDeclared.changed.Changed.{Changed}
+use Rattle.run_finds.specs.Given.EffectsDeclared.changed.Changed.TheVariants as changed
+use Rattle.run_finds.specs.Given.CallersTogether.{Together, UnderWay}
+use Rattle.run_finds.specs.Given.EffectsEffects.{effects_of}
+use Rattle.run_finds.specs.Given.EffectsKnown.{Known}
+use Rattle.run_finds.specs.Given.EffectsDeclared.acting.Acting.TheVariants as acts
 use Rattle.papaya_raw.proofs.Given.TablesTableLens.{if_few-holds, next-power-most}
-use Rattle.run_executor.specs.Given.FinishesMachines.{ContinuesAs, machine_of}
-use Rattle.run_executor.specs.Given.FinishesMaps.{Standing}
-use Rattle.run_executor.proofs.Given.FollowsSteps.{WentTo, went_to}
-use Rattle.run_executor.specs.Given.MomentsWhole.{RefinesWhole}
+use Rattle.run_finds.specs.Given.FinishesMachines.{ContinuesAs, machine_of}
+use Rattle.run_finds.specs.Given.FinishesMaps.{Standing}
+use Rattle.run_finds.proofs.Given.FollowsSteps.{WentTo, went_to}
+use Rattle.run_finds.specs.Given.MomentsWhole.{RefinesWhole}
 use Rattle.run_finds.specs.Capacities.{RefinesCapacities}
 use Rattle.run_grows.specs.Grows.Limits.{HasLimit, MachineEnds, OthersHadLimit, SaysFor, RefinesLimits}
 use Rattle.run_grows.proofs.Grows.Finding.Making.Unpromoted.{OffRoot, off_promotes_none}
@@ -38,10 +38,10 @@ use Rattle.run_grows.proofs.Grows.Limits.Off.{machine_off}
 use Rattle.run_grows.proofs.Grows.Limits.Shows.{AnyPairs, Of, So, asked, more, replies, so_where}
 use Rattle.run_grows.proofs.Grows.Limits.Walk.{EndsThen, MachineMayEnd, SummedIn, WhyOf, machine_ends, machine_for, machine_on}
 use Rattle.run_grows.proofs.Grows.Since as since
-use Rattle.run_executor.proofs.Given.ScenesTold.{as_step}
-use Rattle.run_executor.specs.Given.ScenesHeld.{Held, IsAt}
-use Rattle.run_executor.specs.Given.ScenesScene.{Scene, slot_of}
-use Rattle.run_executor.specs.Given.ScenesStepping.{StepLeads, has_ended, scene_after}
+use Rattle.run_finds.proofs.Given.ScenesTold.{as_step}
+use Rattle.run_finds.specs.Given.ScenesHeld.{Held, IsAt}
+use Rattle.run_finds.specs.Given.ScenesScene.{Scene, slot_of}
+use Rattle.run_finds.specs.Given.ScenesStepping.{StepLeads, has_ended, scene_after}
 use Rattle.run_schedules.specs.Schedules.Transition.{Past}
 
 -- a map is made with no more places than a table can have

@@ -1,10 +1,10 @@
 -- A step of a call is refused for the length of a table as that was to be, whichever kind of call it is; and so is one that goes on by a reply, or as it is asked for its next pair.
 use Rattle.std.specs.Prelude.{◌≡◌, ◌⊎◌, ◌≤◌, ◌<◌, ◌^◌, ℕ, Bool, true, false, nat_lt, if◌then◌else◌}
 use Rattle.std.proofs.Common.{refl, sym, subst, inl, inr}
-use Rattle.run_executor.specs.Given.SeizeWordsMem.{Mem, Took, value_at}
-use Rattle.run_executor.specs.Given.SeizeWordsPlan.{Steps}
-use Rattle.run_executor.specs.Given.SeizeWordsDeclared.fault.Fault.TheVariants.{Capacity, Memory}
-use Rattle.run_executor.proofs.Given.SeizeRuleRows.Leaving.{steps_back}
+use Rattle.run_finds.specs.Given.SeizeWordsMem.{Mem, Took, value_at}
+use Rattle.run_finds.specs.Given.SeizeWordsPlan.{Steps}
+use Rattle.run_finds.specs.Given.SeizeWordsDeclared.fault.Fault.TheVariants.{Capacity, Memory}
+use Rattle.run_finds.proofs.Given.SeizeRuleRows.Leaving.{steps_back}
 use Rattle.papaya_raw.specs.Given.SeizeDeclared.advance.Advance.{Advance as Counting}
 use Rattle.papaya_raw.specs.Given.SeizeDeclared.advance.Advance.TheVariants as counting
 use Rattle.papaya_raw.specs.Given.TablesDeclared.node.Node.{Node}
@@ -34,19 +34,19 @@ use Rattle.papaya_raw.specs.declared.machines.call.KeyCall.{KeyCall}
 use Rattle.papaya_raw.specs.declared.machines.machine.Machine.{Machine}
 use Rattle.papaya_raw.specs.declared.machines.machine.Machine.TheVariants as kinds
 use Rattle.papaya_raw.specs.declared.machines.progress.Progress.{Progress}
-use Rattle.run_executor.proofs.Given.RuleKeys.Always.{always_steps}
-use Rattle.run_executor.specs.Given.LateEnds.{EndsInCalling, EndsInReserving, EndsInSweeping, EndsSo}
-use Rattle.run_executor.specs.Given.LateFaults.{RefusesSo, HoldsInSweeping, SweepRefusesSo}
+use Rattle.run_finds.proofs.Given.RuleKeys.Always.{always_steps}
+use Rattle.run_finds.specs.Given.LateEnds.{EndsInCalling, EndsInReserving, EndsInSweeping, EndsSo}
+use Rattle.run_finds.specs.Given.LateFaults.{RefusesSo, HoldsInSweeping, SweepRefusesSo}
 use Rattle.papaya_raw.proofs.Given.TablesEnds.{only_the_last_ends}
-use Rattle.run_executor.proofs.Given.LateKindsKept.Rooms.Asks.{reserve_asks}
-use Rattle.run_executor.proofs.Given.LateKindsKept.Rooms.Bound.{Keeps, calling_on, reserving_on, sweeping_on}
-use Rattle.run_executor.proofs.Given.LateKindsKept.Rooms.Calling.{CallsAs, key_as, key_told_as}
-use Rattle.run_executor.proofs.Given.LateKindsKept.Rooms.Making.{CountsOn, sum_counts}
-use Rattle.run_executor.proofs.Given.LateKindsKept.Rooms.Reserving.{ReservesAs, reserve_as}
-use Rattle.run_executor.proofs.Given.LateKindsKept.Rooms.Sweeping.{SweepsAs, sweep_as, told_as_on}
+use Rattle.run_finds.proofs.Given.LateKindsKept.Rooms.Asks.{reserve_asks}
+use Rattle.run_finds.proofs.Given.LateKindsKept.Rooms.Bound.{Keeps, calling_on, reserving_on, sweeping_on}
+use Rattle.run_finds.proofs.Given.LateKindsKept.Rooms.Calling.{CallsAs, key_as, key_told_as}
+use Rattle.run_finds.proofs.Given.LateKindsKept.Rooms.Making.{CountsOn, sum_counts}
+use Rattle.run_finds.proofs.Given.LateKindsKept.Rooms.Reserving.{ReservesAs, reserve_as}
+use Rattle.run_finds.proofs.Given.LateKindsKept.Rooms.Sweeping.{SweepsAs, sweep_as, told_as_on}
 use Rattle.run_grows.specs.Grows.Limits.{IsFor, IsForDeferral, MachineEnds, NeedsMore, RoomEnds, SaysFor}
-use Rattle.run_executor.specs.Given.ScenesStepping.{has_ended}
-use Rattle.run_executor.proofs.Given.General.{less_not as at_least}
+use Rattle.run_finds.specs.Given.ScenesStepping.{has_ended}
+use Rattle.run_finds.proofs.Given.General.{less_not as at_least}
 
 module _ (Why : Type 0) where
   -- the fault is another one

@@ -2,8 +2,8 @@
 use Rattle.std.specs.Prelude.{◌≡◌, ◌≢◌, ℕ, suc, ◌<◌, ◌≤◌, ◌==◌, ◌^◌, Bool, true, false, cond, Some, if◌then◌else◌}
 use Rattle.std.proofs.Common.{refl, ap, sym, subst, ◌∙◌, arith, inl, inr}
 use Rattle.std.proofs.lemmas.Bool.{cases_eq, ne_eqb}
-use Rattle.run_executor.specs.Given.SeizeWordsMem.{Mem, word_at}
-use Rattle.run_executor.specs.Given.SeizeWordsWord.{block_in}
+use Rattle.run_finds.specs.Given.SeizeWordsMem.{Mem, word_at}
+use Rattle.run_finds.specs.Given.SeizeWordsWord.{block_in}
 use Rattle.papaya_raw.specs.Given.TablesChunks.{is_incremental}
 use Rattle.papaya_raw.specs.Given.TablesFinding.{finding}
 use Rattle.papaya_raw.specs.Given.TablesTablePlaces.{at_place}
@@ -17,21 +17,21 @@ use Rattle.papaya_raw.specs.Given.TablesDeclared.trial.Trial.{Trial}
 use Rattle.run_schedules.specs.Schedules.Moment.{Moment}
 use Rattle.run_schedules.specs.Schedules.Tries.{FindsTaken, try_at}
 use Rattle.run_schedules.specs.Schedules.Views.{is_in_map}
-use Rattle.run_executor.specs.Given.RuleChart.{Chart, Copied, Copying, Empty, Holds, Phase, Place, Share, Still, Tombstone, is_marked}
-use Rattle.run_executor.specs.Given.RuleMaps.{IsMap, IsTrial, spot_at, spot_of}
-use Rattle.run_executor.specs.Given.RuleRule.{Agrees, IsLawful, Rule}
-use Rattle.run_executor.specs.Given.RuleWords.{Blocks, byte_of, place_word}
-use Rattle.run_executor.proofs.Given.RuleKeys.TriesSeen.{spot_inside}
-use Rattle.run_executor.proofs.Given.RuleWords.PlaceWords.{pair_block}
-use Rattle.run_executor.proofs.Given.RuleWords.PlacesShown.{are_stored, byte_of-few, shown_block, shown_byte}
-use Rattle.run_executor.proofs.Given.RuleWords.TablesSeen.{place_there}
-use Rattle.run_executor.proofs.Given.RuleWords.WordsSeen.{Says, says}
-use Rattle.run_executor.specs.Given.EffectsKnown.{Known}
-use Rattle.run_executor.specs.Given.FinishesMaps.{Standing}
-use Rattle.run_executor.specs.Given.FollowsMaps.{RefinesMap}
-use Rattle.run_executor.specs.Given.SpotsSpots.{LiesAt, named_by, spot_in}
-use Rattle.run_executor.proofs.Given.SpotsStills.{still_spot}
-use Rattle.run_executor.proofs.Given.SpotsTaken.{no_pair_there, pair_there, taken_there}
+use Rattle.run_finds.specs.Given.RuleChart.{Chart, Copied, Copying, Empty, Holds, Phase, Place, Share, Still, Tombstone, is_marked}
+use Rattle.run_finds.specs.Given.RuleMaps.{IsMap, IsTrial, spot_at, spot_of}
+use Rattle.run_finds.specs.Given.RuleRule.{Agrees, IsLawful, Rule}
+use Rattle.run_finds.specs.Given.RuleWords.{Blocks, byte_of, place_word}
+use Rattle.run_finds.proofs.Given.RuleKeys.TriesSeen.{spot_inside}
+use Rattle.run_finds.proofs.Given.RuleWords.PlaceWords.{pair_block}
+use Rattle.run_finds.proofs.Given.RuleWords.PlacesShown.{are_stored, byte_of-few, shown_block, shown_byte}
+use Rattle.run_finds.proofs.Given.RuleWords.TablesSeen.{place_there}
+use Rattle.run_finds.proofs.Given.RuleWords.WordsSeen.{Says, says}
+use Rattle.run_finds.specs.Given.EffectsKnown.{Known}
+use Rattle.run_finds.specs.Given.FinishesMaps.{Standing}
+use Rattle.run_finds.specs.Given.FollowsMaps.{RefinesMap}
+use Rattle.run_finds.specs.Given.SpotsSpots.{LiesAt, named_by, spot_in}
+use Rattle.run_finds.proofs.Given.SpotsStills.{still_spot}
+use Rattle.run_finds.proofs.Given.SpotsTaken.{no_pair_there, pair_there, taken_there}
 use Rattle.run_grows.specs.Sources.Sources.{WereLeft}
 
 -- In the last table of a map, which is the root where all pairs are copied at once, nothing is marked.

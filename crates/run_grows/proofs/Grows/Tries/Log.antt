@@ -15,14 +15,14 @@ use Rattle.run_schedules.specs.Schedules.Lists.{OneOf}
 use Rattle.run_schedules.specs.Schedules.Moment.{Moment, UnderWay as CallThere, start}
 use Rattle.run_schedules.specs.Schedules.Tries.{FindsTaken, Meets, try_at}
 use Rattle.run_schedules.specs.Schedules.Views.{call_of, number_of}
-use Rattle.run_executor.specs.Given.CallersTogether.{Counting, ForRoom, OnKey, OverAll, UnderWay}
-use Rattle.run_executor.proofs.Given.ChangesLogs.{each_of}
+use Rattle.run_finds.specs.Given.CallersTogether.{Counting, ForRoom, OnKey, OverAll, UnderWay}
+use Rattle.run_finds.proofs.Given.ChangesLogs.{each_of}
 use Rattle.run_finds.specs.Linking.{FoundFull, HasFoundFull}
 use Rattle.run_finds.specs.Within.{many_of}
 use Rattle.run_finds.proofs.Grows.Steps.{tables_have_been}
 use Rattle.run_grows.specs.Grows.Tries.{HasTaken, MeetsBy, RefinesTries, TakenOrPassed, TriedAt, TablesLast}
 use Rattle.run_grows.proofs.Grows.Finding.Alike.{many_same}
-use Rattle.run_executor.specs.Given.ScenesScene.{Scene}
+use Rattle.run_finds.specs.Given.ScenesScene.{Scene}
 use Rattle.run_schedules.specs.Schedules.Transition.{Past, past}
 use Rattle.std.specs.List.{AllByRecursion}
 

@@ -2,7 +2,7 @@
 use Rattle.std.specs.Prelude.{◌≡◌, ◌&&◌, nat_lt, ℕ, Bool, true, false, List, [], ◌∷◌, Some, if◌then◌else◌}
 use Rattle.std.specs.List.{list_all}
 use Rattle.std.proofs.Common.{refl, subst, sym}
-use Rattle.run_executor.specs.Given.SeizeWordsDeclared.at.At.TheVariants.{Entry, Root, Slot, Used, Word}
+use Rattle.run_finds.specs.Given.SeizeWordsDeclared.at.At.TheVariants.{Entry, Root, Slot, Used, Word}
 use Rattle.papaya_raw.specs.Given.TablesDeclared.table_words.TheConstants.{STATUS}
 use Rattle.run_schedules.specs.declared.effect.Effect.{Effect}
 use Rattle.run_schedules.specs.declared.effect.Effect.TheVariants as effect
@@ -10,18 +10,18 @@ use Rattle.run_schedules.specs.declared.effect.Growth.TheVariants.{ABucket}
 use Rattle.run_schedules.specs.Schedules.Effects.{with_effects}
 use Rattle.run_schedules.specs.Schedules.Handing.{is_call_effect}
 use Rattle.run_schedules.specs.Schedules.Moment.{Moment}
-use Rattle.run_executor.specs.Given.EffectsDeclared.changed.Changed.{Changed}
-use Rattle.run_executor.specs.Given.EffectsDeclared.changed.Changed.TheVariants as changes
-use Rattle.run_executor.specs.Given.EffectsDeclared.changed.Kind.{Kind}
-use Rattle.run_executor.specs.Given.EffectsDeclared.changed.Kind.TheVariants as kind
-use Rattle.run_executor.specs.Given.EffectsEffects.{effects_of, in_block, made_by, named, names_same, taken_by}
-use Rattle.run_executor.specs.Given.EffectsKnown.{Known}
-use Rattle.run_executor.specs.Given.EffectsDeclared.acting.Acting.{Acting}
-use Rattle.run_executor.specs.Given.EffectsDeclared.acting.Acting.TheVariants as acts
-use Rattle.run_executor.specs.Given.EffectsDeclared.role.Role.{Role}
-use Rattle.run_executor.specs.Given.EffectsDeclared.role.Role.TheVariants as role
-use Rattle.run_executor.proofs.Given.FollowsAlike.{AllCalm, calm_still, still_all}
-use Rattle.run_executor.proofs.Given.SpotsEffects.{aside_all, calm_aside}
+use Rattle.run_finds.specs.Given.EffectsDeclared.changed.Changed.{Changed}
+use Rattle.run_finds.specs.Given.EffectsDeclared.changed.Changed.TheVariants as changes
+use Rattle.run_finds.specs.Given.EffectsDeclared.changed.Kind.{Kind}
+use Rattle.run_finds.specs.Given.EffectsDeclared.changed.Kind.TheVariants as kind
+use Rattle.run_finds.specs.Given.EffectsEffects.{effects_of, in_block, made_by, named, names_same, taken_by}
+use Rattle.run_finds.specs.Given.EffectsKnown.{Known}
+use Rattle.run_finds.specs.Given.EffectsDeclared.acting.Acting.{Acting}
+use Rattle.run_finds.specs.Given.EffectsDeclared.acting.Acting.TheVariants as acts
+use Rattle.run_finds.specs.Given.EffectsDeclared.role.Role.{Role}
+use Rattle.run_finds.specs.Given.EffectsDeclared.role.Role.TheVariants as role
+use Rattle.run_finds.proofs.Given.FollowsAlike.{AllCalm, calm_still, still_all}
+use Rattle.run_finds.proofs.Given.SpotsEffects.{aside_all, calm_aside}
 use Rattle.run_grows.proofs.Grows.Since.{HasSamePairs}
 use Rattle.run_grows.proofs.Grows.Tries.Walk.{OffWords}
 

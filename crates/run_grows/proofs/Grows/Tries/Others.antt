@@ -8,21 +8,21 @@ use Rattle.papaya_raw.specs.Given.TablesDeclared.node.Node.{Node}
 use Rattle.papaya_raw.specs.Given.TablesDeclared.setting.Setting.{Setting}
 use Rattle.run_schedules.specs.Schedules.Effects.{with_effects}
 use Rattle.run_schedules.specs.Schedules.Moment.{Moment}
-use Rattle.run_executor.specs.Given.EffectsEffects.{effects_of, known_after}
-use Rattle.run_executor.specs.Given.EffectsKnown.{Known}
-use Rattle.run_executor.specs.Given.EffectsDeclared.acting.Acting.TheVariants as acts
-use Rattle.run_executor.specs.Given.ScenesDeclared.row.RowTold.{RowTold}
-use Rattle.run_executor.specs.Given.ScenesDeclared.row.SlotCall.{SlotCall}
-use Rattle.run_executor.specs.Given.ScenesDeclared.row.SlotRow.{SlotRow}
-use Rattle.run_executor.specs.Given.FinishesEndings.{Finishing}
-use Rattle.run_executor.specs.Given.FinishesMakings.{Beginning}
-use Rattle.run_executor.specs.Given.OthersEndings.{ending_after}
-use Rattle.run_executor.specs.Given.OthersMakings.{WasNew, making_after}
-use Rattle.run_executor.specs.Given.OthersRows.{scene_then}
-use Rattle.run_executor.specs.Given.MomentsWhole.{RefinesWhole}
-use Rattle.run_executor.proofs.Given.MomentsEnds.{end_beside}
-use Rattle.run_executor.proofs.Given.MomentsMakingSteps.{makings_go_beside}
-use Rattle.run_executor.proofs.Given.MomentsOnSlots.{row_beside, rows_begin_beside}
+use Rattle.run_finds.specs.Given.EffectsEffects.{effects_of, known_after}
+use Rattle.run_finds.specs.Given.EffectsKnown.{Known}
+use Rattle.run_finds.specs.Given.EffectsDeclared.acting.Acting.TheVariants as acts
+use Rattle.run_kept.specs.Given.ScenesDeclared.row.RowTold.{RowTold}
+use Rattle.run_kept.specs.Given.ScenesDeclared.row.SlotCall.{SlotCall}
+use Rattle.run_kept.specs.Given.ScenesDeclared.row.SlotRow.{SlotRow}
+use Rattle.run_kept.specs.Given.FinishesEndings.{Finishing}
+use Rattle.run_kept.specs.Given.FinishesMakings.{Beginning}
+use Rattle.run_kept.specs.Given.OthersEndings.{ending_after}
+use Rattle.run_kept.specs.Given.OthersMakings.{WasNew, making_after}
+use Rattle.run_kept.specs.Given.OthersRows.{scene_then}
+use Rattle.run_finds.specs.Given.MomentsWhole.{RefinesWhole}
+use Rattle.run_finds.proofs.Given.MomentsEnds.{end_beside}
+use Rattle.run_finds.proofs.Given.MomentsMakingSteps.{makings_go_beside}
+use Rattle.run_finds.proofs.Given.MomentsOnSlots.{row_beside, rows_begin_beside}
 use Rattle.run_finds.specs.Within.{many_of}
 use Rattle.run_finds.proofs.Grows.Steps.{tables_have_been}
 use Rattle.run_grows.proofs.Grows.Finding.Aside.{endings_leave_spots, makings_leave_spots, rows_leave_spots}
@@ -30,14 +30,14 @@ use Rattle.run_grows.specs.Sources.Sources.{RefinesSources}
 use Rattle.run_grows.specs.Grows.Tries.{RefinesTries}
 use Rattle.run_grows.proofs.Grows.Finding.Others.{ended, ended_calls, ended_maps, ended_world}
 use Rattle.run_grows.proofs.Grows.Tries.Shows.{tries_beside}
-use Rattle.run_executor.specs.Given.ScenesEnding.{EndingLeads}
-use Rattle.run_executor.specs.Given.ScenesHeld.{Held, IsAt}
-use Rattle.run_executor.specs.Given.ScenesMaking.{MakingLeads}
-use Rattle.run_executor.specs.Given.ScenesOnSlots.{RowBegins, RowLeads}
-use Rattle.run_executor.specs.Given.ScenesRows.{request_of}
-use Rattle.run_executor.specs.Given.ScenesScene.{IsOnSlot, Scene, slot_of}
+use Rattle.run_kept.specs.Given.ScenesEnding.{EndingLeads}
+use Rattle.run_finds.specs.Given.ScenesHeld.{Held, IsAt}
+use Rattle.run_kept.specs.Given.ScenesMaking.{MakingLeads}
+use Rattle.run_kept.specs.Given.ScenesOnSlots.{RowBegins, RowLeads}
+use Rattle.run_kept.specs.Given.ScenesRows.{request_of}
+use Rattle.run_finds.specs.Given.ScenesScene.{IsOnSlot, Scene, slot_of}
 use Rattle.run_schedules.specs.Schedules.Transition.{Past}
-use Rattle.run_executor.proofs.Given.General.{at_most_itself as itself}
+use Rattle.run_finds.proofs.Given.General.{at_most_itself as itself}
 
 module _ (K V : Type 0) (same : K → K → Bool) (hash : ℕ → K → ℕ) (name : ℕ → List ℕ) (log : Past K V) (m : Moment K V) (known : Known) (s : Scene K V) (old new : Held K V)
     (sources : RefinesSources same name m known s) (tries : RefinesTries name log m s) where

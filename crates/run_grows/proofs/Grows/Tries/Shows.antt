@@ -13,16 +13,16 @@ use Rattle.run_schedules.specs.Schedules.Beginning.{with_call}
 use Rattle.run_schedules.specs.Schedules.Entry.{ends_call}
 use Rattle.run_schedules.specs.Schedules.Moment.{MapThere, Moment, UnderWay as CallThere}
 use Rattle.run_schedules.specs.Schedules.Views.{call_of, map_at}
-use Rattle.run_executor.specs.Given.CallersPairs.{Given}
-use Rattle.run_executor.specs.Given.CallersTogether.{Computes, Counting, ForRoom, Gets, Inserts, IsBegun, OnKey, OverAll, Removes, RemovesIf, TriesToInsert, TriesToInsertWith, UnderWay, Updates, UpdatesOrInserts}
-use Rattle.run_executor.specs.Given.EffectsKnown.{Known}
-use Rattle.run_executor.specs.Given.FinishesMachines.{machine_of}
-use Rattle.run_executor.specs.Given.FinishesMaps.{Standing, with_call as with_in}
-use Rattle.run_executor.specs.Given.FollowsCalling.{NoneNamed, come_to, told}
-use Rattle.run_executor.specs.Given.FollowsCalls.{RefinesCalls as IsThere}
-use Rattle.run_executor.specs.Given.FollowsShows.{Refines}
-use Rattle.run_executor.specs.Given.OthersWalks.{given_up}
-use Rattle.run_executor.proofs.Given.MomentsBeside.{IsBeside}
+use Rattle.run_finds.specs.Given.CallersPairs.{Given}
+use Rattle.run_finds.specs.Given.CallersTogether.{Computes, Counting, ForRoom, Gets, Inserts, IsBegun, OnKey, OverAll, Removes, RemovesIf, TriesToInsert, TriesToInsertWith, UnderWay, Updates, UpdatesOrInserts}
+use Rattle.run_finds.specs.Given.EffectsKnown.{Known}
+use Rattle.run_finds.specs.Given.FinishesMachines.{machine_of}
+use Rattle.run_finds.specs.Given.FinishesMaps.{Standing, with_call as with_in}
+use Rattle.run_finds.specs.Given.FollowsCalling.{NoneNamed, come_to, told}
+use Rattle.run_finds.specs.Given.FollowsCalls.{RefinesCalls as IsThere}
+use Rattle.run_finds.specs.Given.FollowsShows.{Refines}
+use Rattle.run_finds.specs.Given.OthersWalks.{given_up}
+use Rattle.run_finds.proofs.Given.MomentsBeside.{IsBeside}
 use Rattle.run_finds.specs.Within.{many_of}
 use Rattle.run_grows.specs.Sources.Sources.{RefinesSources}
 use Rattle.run_grows.specs.Grows.Tries.{MachineTried, OthersHadTried, RefinesTries, TakenOrPassed, TriedAt}
@@ -30,13 +30,13 @@ use Rattle.run_grows.proofs.Grows.Since as since
 use Rattle.run_grows.proofs.Grows.Since.{HasSamePairs}
 use Rattle.run_grows.proofs.Grows.Tries.More.{asked_tried, machine_more, reply_tried}
 use Rattle.run_grows.proofs.Grows.Tries.Stays.{chart_taken, taken_where}
-use Rattle.run_executor.proofs.Given.ScenesMay.{standing_is}
-use Rattle.run_executor.specs.Given.ScenesBeginning.{Begins}
-use Rattle.run_executor.specs.Given.ScenesHeld.{Held, IsAt}
-use Rattle.run_executor.specs.Given.ScenesReplying.{scene_with, unless_stopped}
-use Rattle.run_executor.specs.Given.ScenesScene.{Scene, slot_of}
+use Rattle.run_kept.proofs.Given.ScenesMay.{standing_is}
+use Rattle.run_finds.specs.Given.ScenesBeginning.{Begins}
+use Rattle.run_finds.specs.Given.ScenesHeld.{Held, IsAt}
+use Rattle.run_finds.specs.Given.ScenesReplying.{scene_with, unless_stopped}
+use Rattle.run_finds.specs.Given.ScenesScene.{Scene, slot_of}
 use Rattle.run_schedules.specs.Schedules.Transition.{Past, further}
-use Rattle.run_executor.specs.Given.ChangesHistories.{IsPast}
+use Rattle.run_finds.specs.Given.ChangesHistories.{IsPast}
 
 -- A call that begins has made no try.
 module _ {K V : Type 0} (same : K → K → Bool) (Why : Spot × ℕ → Type 0) where

@@ -9,11 +9,11 @@ use Rattle.run_schedules.specs.Schedules.Moment.{Moment, Place}
 use Rattle.run_schedules.specs.Schedules.Things.{same_spot}
 use Rattle.run_schedules.specs.Schedules.Tries.{FindsTaken, has_pair_at, is_taken_at}
 use Rattle.run_schedules.specs.Schedules.Views.{is_in_map, map_at}
-use Rattle.run_executor.specs.Given.RuleChart.{Chart}
-use Rattle.run_executor.specs.Given.EffectsKnown.{Known}
-use Rattle.run_executor.specs.Given.FinishesMaps.{Standing}
-use Rattle.run_executor.specs.Given.FollowsMaps.{RefinesMap}
-use Rattle.run_executor.proofs.Given.FollowsStored.{in_map_true}
+use Rattle.run_finds.specs.Given.RuleChart.{Chart}
+use Rattle.run_finds.specs.Given.EffectsKnown.{Known}
+use Rattle.run_finds.specs.Given.FinishesMaps.{Standing}
+use Rattle.run_finds.specs.Given.FollowsMaps.{RefinesMap}
+use Rattle.run_finds.proofs.Given.FollowsStored.{in_map_true}
 use Rattle.run_finds.specs.Within.{many_of}
 use Rattle.run_grows.specs.Sources.Sources.{AreNumbered}
 use Rattle.run_grows.specs.Sources.Stays.{PairsStay}

@@ -2,8 +2,8 @@
 use Rattle.std.specs.Prelude.{◌≡◌, ◌≢◌, ◌⊎◌, ◌<◌, ◌≤◌, ◌==◌, ◌^◌, ℕ, suc, Bool, true, false, List, Some, if◌then◌else◌}
 use Rattle.std.proofs.Common.{refl, ap, sym, subst, ◌∙◌, arith, inl, inr}
 use Rattle.std.proofs.lemmas.Bool.{cases_eq}
-use Rattle.run_executor.specs.Given.SeizeWordsMem.{Mem, word_at}
-use Rattle.run_executor.specs.Given.SeizeWordsWord.{block_in}
+use Rattle.run_finds.specs.Given.SeizeWordsMem.{Mem, word_at}
+use Rattle.run_finds.specs.Given.SeizeWordsWord.{block_in}
 use Rattle.papaya_raw.specs.Given.TablesChunks.{is_incremental}
 use Rattle.papaya_raw.specs.Given.TablesFinding.{finding}
 use Rattle.papaya_raw.specs.Given.TablesTrials.{place_tried}
@@ -35,32 +35,32 @@ use Rattle.run_schedules.specs.Schedules.Effects.{with_effects}
 use Rattle.run_schedules.specs.Schedules.Moment.{Moment, UnderWay as CallThere}
 use Rattle.run_schedules.specs.Schedules.Tries.{FindsTaken, try_at}
 use Rattle.run_schedules.specs.Schedules.Views.{call_of}
-use Rattle.run_executor.specs.Given.TellerTells.{StepsObserved}
-use Rattle.run_executor.specs.Given.EffectsDeclared.changed.Changed.{Changed}
-use Rattle.run_executor.specs.Given.EffectsDeclared.changed.Changed.TheVariants as changes
-use Rattle.run_executor.specs.Given.RuleInWorld.{IsMapIn}
-use Rattle.run_executor.specs.Given.RuleMaps.{IsTrial}
-use Rattle.run_executor.specs.Given.RuleWords.{Blocks}
-use Rattle.run_executor.proofs.Given.RuleLaws.{current_is_known}
-use Rattle.run_executor.specs.Given.PointsFactsCalls.{CallingFacts}
-use Rattle.run_executor.specs.Given.PointsSteps.{AreLawful}
-use Rattle.run_executor.specs.Given.PointsTold.{IsRowOfCall}
-use Rattle.run_executor.specs.Given.LateLateCalls.{SupersededCalling}
-use Rattle.run_executor.specs.Given.LateLeft.{Left}
-use Rattle.run_executor.specs.Given.CallersSights.{seen_by}
-use Rattle.run_executor.specs.Given.CallersTogether.{CallOnKey, Counting, ForRoom, OnKey, OverAll, Together, UnderWay, in_slot}
-use Rattle.run_executor.proofs.Given.CallersSights.Seen.{map_seen}
-use Rattle.run_executor.proofs.Given.CallersTogether.Fits.{map_in_slot}
-use Rattle.run_executor.specs.Given.EffectsEffects.{effects_of}
-use Rattle.run_executor.specs.Given.EffectsKnown.{Known}
-use Rattle.run_executor.specs.Given.EffectsDeclared.acting.Acting.TheVariants as acts
-use Rattle.run_executor.specs.Given.FinishesMachines.{machine_of}
-use Rattle.run_executor.specs.Given.FinishesMaps.{Standing}
-use Rattle.run_executor.proofs.Given.FollowsFinds.{tables_many}
-use Rattle.run_executor.proofs.Given.FollowsSteps.{WentTo, went_to}
-use Rattle.run_executor.proofs.Given.OthersOutcomes.{told_in}
-use Rattle.run_executor.specs.Given.SpotsSpots.{LiesAt}
-use Rattle.run_executor.specs.Given.MomentsWhole.{RefinesWhole}
+use Rattle.run_finds.specs.Given.TellerTells.{StepsObserved}
+use Rattle.run_finds.specs.Given.EffectsDeclared.changed.Changed.{Changed}
+use Rattle.run_finds.specs.Given.EffectsDeclared.changed.Changed.TheVariants as changes
+use Rattle.run_finds.specs.Given.RuleInWorld.{IsMapIn}
+use Rattle.run_finds.specs.Given.RuleMaps.{IsTrial}
+use Rattle.run_finds.specs.Given.RuleWords.{Blocks}
+use Rattle.run_finds.proofs.Given.RuleLaws.{current_is_known}
+use Rattle.run_finds.specs.Given.PointsFactsCalls.{CallingFacts}
+use Rattle.run_finds.specs.Given.PointsSteps.{AreLawful}
+use Rattle.run_finds.specs.Given.PointsTold.{IsRowOfCall}
+use Rattle.run_finds.specs.Given.LateLateCalls.{SupersededCalling}
+use Rattle.run_finds.specs.Given.LateLeft.{Left}
+use Rattle.run_finds.specs.Given.CallersSights.{seen_by}
+use Rattle.run_finds.specs.Given.CallersTogether.{CallOnKey, Counting, ForRoom, OnKey, OverAll, Together, UnderWay, in_slot}
+use Rattle.run_finds.proofs.Given.CallersSights.Seen.{map_seen}
+use Rattle.run_finds.proofs.Given.CallersTogether.Fits.{map_in_slot}
+use Rattle.run_finds.specs.Given.EffectsEffects.{effects_of}
+use Rattle.run_finds.specs.Given.EffectsKnown.{Known}
+use Rattle.run_finds.specs.Given.EffectsDeclared.acting.Acting.TheVariants as acts
+use Rattle.run_finds.specs.Given.FinishesMachines.{machine_of}
+use Rattle.run_finds.specs.Given.FinishesMaps.{Standing}
+use Rattle.run_finds.proofs.Given.FollowsFinds.{tables_many}
+use Rattle.run_finds.proofs.Given.FollowsSteps.{WentTo, went_to}
+use Rattle.run_finds.proofs.Given.OthersOutcomes.{told_in}
+use Rattle.run_finds.specs.Given.SpotsSpots.{LiesAt}
+use Rattle.run_finds.specs.Given.MomentsWhole.{RefinesWhole}
 use Rattle.run_finds.specs.Within.{many_of}
 use Rattle.run_finds.proofs.Grows.Steps.{tables_have_been}
 use Rattle.run_finds.proofs.Steps.{steps_do_theirs}
@@ -73,9 +73,9 @@ use Rattle.run_grows.proofs.Grows.Tries.Off.{same_pairs}
 use Rattle.run_grows.proofs.Grows.Tries.Shows.{Alike, Of, So, asked, more, replies, so_where}
 use Rattle.run_grows.proofs.Grows.Tries.Stays.{same_taken}
 use Rattle.run_grows.proofs.Grows.Tries.Walk.{OfNone, OffWords, call_tried}
-use Rattle.run_executor.specs.Given.ScenesHeld.{Held, IsAt}
-use Rattle.run_executor.specs.Given.ScenesScene.{Scene, slot_of}
-use Rattle.run_executor.specs.Given.ScenesStepping.{StepLeads, scene_after}
+use Rattle.run_finds.specs.Given.ScenesHeld.{Held, IsAt}
+use Rattle.run_finds.specs.Given.ScenesScene.{Scene, slot_of}
+use Rattle.run_finds.specs.Given.ScenesStepping.{StepLeads, scene_after}
 use Rattle.run_schedules.specs.Schedules.Transition.{Past}
 
 -- a call is at a try

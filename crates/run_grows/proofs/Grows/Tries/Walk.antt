@@ -2,11 +2,11 @@
 use Rattle.std.specs.Prelude.{◌≡◌, ◌≢◌, ◌⊎◌, ◌+◌, ◌-◌, ◌<◌, ◌≤◌, ◌%◌, ◌^◌, ◌==◌, nat_lt, ℕ, suc, Bool, true, false, Option, Some, None, Ok, Err, if◌then◌else◌}
 use Rattle.std.proofs.Common.{refl, sym, subst, arith, inl, inr}
 use Rattle.std.proofs.lemmas.Bool.{ltb-true}
-use Rattle.run_executor.specs.Given.SeizeWordsDeclared.at.At.TheVariants.{Entry, Root, Word}
-use Rattle.run_executor.specs.Given.SeizeWordsMem.{Mem, value_at, word_at}
-use Rattle.run_executor.specs.Given.SeizeWordsOp.{Exchanged, Found, Made, Out, Roomed, Stored, Taken}
-use Rattle.run_executor.specs.Given.SeizeWordsPlan.{Plan}
-use Rattle.run_executor.specs.Given.SeizeWordsWord.{block_in}
+use Rattle.run_finds.specs.Given.SeizeWordsDeclared.at.At.TheVariants.{Entry, Root, Word}
+use Rattle.run_finds.specs.Given.SeizeWordsMem.{Mem, value_at, word_at}
+use Rattle.run_finds.specs.Given.SeizeWordsOp.{Exchanged, Found, Made, Out, Roomed, Stored, Taken}
+use Rattle.run_finds.specs.Given.SeizeWordsPlan.{Plan}
+use Rattle.run_finds.specs.Given.SeizeWordsWord.{block_in}
 use Rattle.papaya_raw.specs.Given.SeizeDeclared.advance.Advance.{Advance as Counting}
 use Rattle.papaya_raw.specs.Given.SeizeDeclared.advance.Advance.TheVariants as progress
 use Rattle.papaya_raw.specs.Given.SeizeDeclared.rows.settle.Settled.{Settled}
@@ -69,15 +69,15 @@ use Rattle.papaya_raw.specs.declared.machines.call.Calling.TheVariants as at
 use Rattle.papaya_raw.specs.declared.machines.call.KeyCall.{KeyCall}
 use Rattle.run_schedules.specs.declared.effect.Spot.{Spot}
 use Rattle.run_schedules.specs.Schedules.Tries.{try_at}
-use Rattle.run_executor.specs.Given.TellerTells.{StepsObserved}
-use Rattle.run_executor.specs.Given.EffectsDeclared.changed.Changed.{Changed}
-use Rattle.run_executor.specs.Given.EffectsDeclared.changed.Changed.TheVariants as changes
-use Rattle.run_executor.proofs.Given.PointsCalls.Asked.{beyond_so}
-use Rattle.run_executor.proofs.Given.RuleKeys.Always.{Always, AlwaysOf, always_ends, always_if, always_plan_as, always_steps}
-use Rattle.run_executor.proofs.Given.OthersOutcomes.{told_in}
+use Rattle.run_finds.specs.Given.TellerTells.{StepsObserved}
+use Rattle.run_finds.specs.Given.EffectsDeclared.changed.Changed.{Changed}
+use Rattle.run_finds.specs.Given.EffectsDeclared.changed.Changed.TheVariants as changes
+use Rattle.run_finds.proofs.Given.PointsCalls.Asked.{beyond_so}
+use Rattle.run_finds.proofs.Given.RuleKeys.Always.{Always, AlwaysOf, always_ends, always_if, always_plan_as, always_steps}
+use Rattle.run_finds.proofs.Given.OthersOutcomes.{told_in}
 use Rattle.run_grows.specs.Grows.Tries.{HasTried, TriedAt, TriedAtGap}
 use Rattle.run_grows.proofs.Grows.Tries.More.{Tried, burying_tried, either, ending_tried, fill, gap_tried, storing_tried}
-use Rattle.run_executor.proofs.Given.ScenesTold.{as_step}
+use Rattle.run_finds.proofs.Given.ScenesTold.{as_step}
 
 -- no root was written, nor a word of a block that says what stands in a table
 abbrev pub OffWords : Changed → Type 0

@@ -1,8 +1,8 @@
 -- Waiting sets that are alike are so, too, by other numbers, where each number that stands in them has the same one still.
 use Rattle.std.proofs.Common.{◌≡◌, ◌≤◌, ℕ, List, [], ◌∷◌, refl, arith}
 use Rattle.seize.specs.WaitingSets.{Batch, Further, Sets}
-use Rattle.run_effects.specs.Given.SeizeWaitingHeld.{same, count, weight_put, held_closed, all_held, Every, Tidy}
-use Rattle.run_effects.proofs.Given.SeizeWaitingTidy.{open_counts, opened_alike}
+use Rattle.run_executor.specs.Given.SeizeWaitingHeld.{same, count, weight_put, held_closed, all_held, Every, Tidy}
+use Rattle.run_executor.proofs.Given.SeizeWaitingTidy.{open_counts, opened_alike}
 use Rattle.run_kept.specs.Models.Alike.{AreAlike, BatchesAlike, FurtherAlike, SetsAlike, EachIs, EachBatchIs, AllAre}
 
 module _ (R Q : ℕ → ℕ → Type 0) (P : ℕ → Type 0) (still : (x y : ℕ) → P x → R x y → Q x y) where

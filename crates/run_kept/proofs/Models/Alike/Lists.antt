@@ -3,7 +3,7 @@ use Rattle.std.specs.Prelude.{◌==◌, ◌||◌, not, map, filter}
 use Rattle.std.proofs.Common.{◌≡◌, ℕ, Bool, true, false, cond, List, [], ◌∷◌, ◌++◌, length, refl, sym, subst, arith, eqb-true}
 use Rattle.std.proofs.lemmas.Bool.{eq-eqb, ne_eqb, eqb-false}
 use Rattle.seize.specs.WaitingSets.{Further, further_of, further_of_all, is_one_of}
-use Rattle.run_effects.specs.Given.SeizeWaitingChanges.{kept}
+use Rattle.run_executor.specs.Given.SeizeWaitingChanges.{kept}
 use Rattle.run_kept.specs.Models.Alike.{AreAlike, FurtherAlike, IsOneToOne}
 
 module _ (R : ℕ → ℕ → Type 0) where

@@ -6,16 +6,16 @@ use Rattle.run_schedules.specs.Given.SeizeWordsDeclared.at.At.{At}
 use Rattle.run_schedules.specs.Given.SeizeWordsDeclared.at.At.TheVariants.{Root, Used, Slot, Entry, Word}
 use Rattle.run_schedules.specs.Given.SeizeWordsMem.{Mem, value_at}
 use Rattle.run_schedules.specs.Given.SeizeWordsOp.{Store}
-use Rattle.run_shows.specs.Given.SeizeWordsWord.{block_in}
+use Rattle.run_executor.specs.Given.SeizeWordsWord.{block_in}
 use Rattle.seize.specs.declared.rows.reclaim_all.ReclaimAll.{ReclaimAll}
 use Rattle.seize.specs.declared.rows.settle.Settled.{Settled}
 use Rattle.seize.specs.Law.{IsSound, is_retired as was_retired}
 use Rattle.seize.specs.World.{World, Hand, Handed, Event, Begin, Step, Steps', Runs}
-use Rattle.run_effects.proofs.Given.SeizeMovesState.Ghost.{is_given}
-use Rattle.run_shows.proofs.Given.SeizeRuleWorld.Values.{own_op_value, taken_value}
-use Rattle.run_shows.proofs.Given.SeizeAloneHistories.NotTaken.{did}
-use Rattle.run_shows.proofs.Given.SeizeAloneHistories.Reached.{Reached, happens_reached, steps_reached}
-use Rattle.run_shows.proofs.Given.SeizeAloneSpared.Rows.{RowStepped}
+use Rattle.run_executor.proofs.Given.SeizeMovesState.Ghost.{is_given}
+use Rattle.run_executor.proofs.Given.SeizeRuleWorld.Values.{own_op_value, taken_value}
+use Rattle.run_executor.proofs.Given.SeizeAloneHistories.NotTaken.{did}
+use Rattle.run_executor.proofs.Given.SeizeAloneHistories.Reached.{Reached, happens_reached, steps_reached}
+use Rattle.run_executor.proofs.Given.SeizeAloneSpared.Rows.{RowStepped}
 use Rattle.papaya_raw.specs.Given.TablesNodes.{deferred_word}
 use Rattle.papaya_raw.specs.Given.TablesDeclared.node.Node.{Node}
 use Rattle.run_schedules.specs.declared.effect.Effect.{Effect}
@@ -25,20 +25,20 @@ use Rattle.run_schedules.specs.declared.effect.TableId.{TableId}
 use Rattle.run_schedules.specs.Schedules.Effects.{AtEachEffect}
 use Rattle.run_schedules.specs.Schedules.Moment.{Moment}
 use Rattle.run_schedules.specs.Schedules.Views.{is_retired, is_stage}
-use Rattle.run_effects.specs.declared.changed.Changed.{Changed}
-use Rattle.run_effects.specs.declared.changed.Changed.TheVariants as changed
-use Rattle.run_effects.specs.Effects.Effects.{led_to, named, names_same, taken_by, effects_of}
-use Rattle.run_effects.specs.Effects.Known.{Known}
-use Rattle.run_effects.specs.declared.acting.Acting.TheVariants.{Row}
-use Rattle.run_effects.specs.declared.role.Role.{Role}
-use Rattle.run_effects.specs.declared.role.Role.TheVariants as role
-use Rattle.run_shows.specs.Given.FinishesFactsEnds.{TakesLeft, WritesRoot, events_of}
-use Rattle.run_shows.specs.Reclaims.Slots.{AreItsRows}
-use Rattle.run_shows.specs.Scenes.Reclaiming.{IsReclaiming, ReclaimingLeads}
-use Rattle.run_shows.specs.Follows.Blocks.{HasRole}
-use Rattle.run_shows.proofs.Follows.Operations.{LeavesBy}
-use Rattle.run_shows.proofs.Follows.Writes.{nothing_free}
-use Rattle.run_shows.proofs.Others.RowPlans.{TellsRow}
+use Rattle.run_executor.specs.Given.EffectsDeclared.changed.Changed.{Changed}
+use Rattle.run_executor.specs.Given.EffectsDeclared.changed.Changed.TheVariants as changed
+use Rattle.run_executor.specs.Given.EffectsEffects.{led_to, named, names_same, taken_by, effects_of}
+use Rattle.run_executor.specs.Given.EffectsKnown.{Known}
+use Rattle.run_executor.specs.Given.EffectsDeclared.acting.Acting.TheVariants.{Row}
+use Rattle.run_executor.specs.Given.EffectsDeclared.role.Role.{Role}
+use Rattle.run_executor.specs.Given.EffectsDeclared.role.Role.TheVariants as role
+use Rattle.run_executor.specs.Given.FinishesFactsEnds.{TakesLeft, WritesRoot, events_of}
+use Rattle.run_executor.specs.Given.ReclaimsSlots.{AreItsRows}
+use Rattle.run_executor.specs.Given.ScenesReclaiming.{IsReclaiming, ReclaimingLeads}
+use Rattle.run_executor.specs.Given.FollowsBlocks.{HasRole}
+use Rattle.run_executor.proofs.Given.FollowsOperations.{LeavesBy}
+use Rattle.run_executor.proofs.Given.FollowsWrites.{nothing_free}
+use Rattle.run_executor.proofs.Given.OthersRowPlans.{TellsRow}
 use Rattle.run_executor.specs.Given.SpotsOnSlots.{WaitUnreclaimed}
 use Rattle.run_executor.specs.Given.MomentsOnSlots.{HadRetired}
 use Rattle.run_executor.specs.Given.MomentsWhole.{RefinesWhole}
@@ -50,9 +50,9 @@ use Rattle.run_waiting.proofs.Lives.Taken.{taken_retired}
 use Rattle.run_waiting.proofs.Lives.Waiting.{row_finds}
 use Rattle.run_kept.proofs.Sheds.Reclaiming.Rows.{EmptiesRoot, begun_kept, step_kept, reclaiming_tells}
 use Rattle.run_kept.proofs.Sheds.Reclaiming.Steps.{left, reached}
-use Rattle.run_shows.specs.Scenes.Held.{Held}
-use Rattle.run_shows.specs.Scenes.Scene.{HasCall, Scene}
-use Rattle.run_shows.proofs.Scenes.Leads.{happens}
+use Rattle.run_executor.specs.Given.ScenesHeld.{Held}
+use Rattle.run_executor.specs.Given.ScenesScene.{HasCall, Scene}
+use Rattle.run_executor.proofs.Given.ScenesLeads.{happens}
 
 module _ {K V : Type 0} (size : ℕ) where
   -- what a step of a row takes away the collector had,

@@ -4,33 +4,33 @@ use Rattle.std.proofs.Common.{refl, ap, sym, subst, ◌∙◌, inl, inr, arith}
 use Rattle.run_schedules.specs.Given.SeizeWordsOp.{Store}
 use Rattle.run_schedules.specs.Given.SeizeWordsDeclared.at.At.TheVariants.{Root, Used}
 use Rattle.run_schedules.specs.Given.SeizeWordsMem.{value_at}
-use Rattle.run_shows.specs.Given.SeizeWordsWord.{block_in}
+use Rattle.run_executor.specs.Given.SeizeWordsWord.{block_in}
 use Rattle.seize.specs.Sequence.{taken_in}
 use Rattle.seize.specs.declared.rows.reclaim_all.ReclaimAll.{ReclaimAll}
 use Rattle.seize.specs.declared.rows.settle.Settled.{Settled}
 use Rattle.seize.specs.declared.states.TheConstants.{LAST_SLOT}
 use Rattle.seize.specs.World.{World, Hand, Handed, Event, Begin, Step, Operates, Clears, Runs, times}
-use Rattle.run_shows.proofs.Given.SeizeRulePoints.Aside.{HandFits}
-use Rattle.run_effects.proofs.Given.SeizeMemoryWords.There.{value_there}
-use Rattle.run_shows.proofs.Given.SeizeAloneHistories.NotTaken.{did}
-use Rattle.run_shows.proofs.Given.SeizeAloneHistories.Reached.{Reached, happens_reached}
-use Rattle.run_shows.proofs.Given.SeizeAloneSpared.Rows.{RowStepped}
+use Rattle.run_executor.proofs.Given.SeizeRulePoints.Aside.{HandFits}
+use Rattle.run_executor.proofs.Given.SeizeMemoryWords.There.{value_there}
+use Rattle.run_executor.proofs.Given.SeizeAloneHistories.NotTaken.{did}
+use Rattle.run_executor.proofs.Given.SeizeAloneHistories.Reached.{Reached, happens_reached}
+use Rattle.run_executor.proofs.Given.SeizeAloneSpared.Rows.{RowStepped}
 use Rattle.papaya_raw.specs.Given.TablesNodes.{deferred_word}
 use Rattle.papaya_raw.specs.Given.TablesDeclared.node.Node.{Node}
 use Rattle.run_schedules.specs.declared.effect.Effect.{Effect}
 use Rattle.run_schedules.specs.Schedules.Effects.{with_effects}
 use Rattle.run_schedules.specs.Schedules.Moment.{Moment}
-use Rattle.run_effects.specs.declared.changed.Changed.{Changed}
-use Rattle.run_effects.specs.declared.changed.Changed.TheVariants as changed
-use Rattle.run_effects.specs.Effects.Effects.{linked_on, named, names_same, effects_of, known_after}
-use Rattle.run_effects.specs.Effects.Known.{Known}
-use Rattle.run_effects.specs.declared.acting.Acting.TheVariants.{Row}
-use Rattle.run_shows.specs.Scenes.Reclaiming.{IsReclaiming, ReclaimingLeads}
-use Rattle.run_shows.specs.Reclaims.Slots.{AreItsRows}
-use Rattle.run_shows.specs.Given.FinishesFactsEnds.{TakesLeft, WritesRoot, events_of}
-use Rattle.run_shows.proofs.Follows.Operations.{LeavesBy}
-use Rattle.run_shows.proofs.Others.RowPlans.{TellsRow}
-use Rattle.run_shows.proofs.Others.Stays.{same_there}
+use Rattle.run_executor.specs.Given.EffectsDeclared.changed.Changed.{Changed}
+use Rattle.run_executor.specs.Given.EffectsDeclared.changed.Changed.TheVariants as changed
+use Rattle.run_executor.specs.Given.EffectsEffects.{linked_on, named, names_same, effects_of, known_after}
+use Rattle.run_executor.specs.Given.EffectsKnown.{Known}
+use Rattle.run_executor.specs.Given.EffectsDeclared.acting.Acting.TheVariants.{Row}
+use Rattle.run_executor.specs.Given.ScenesReclaiming.{IsReclaiming, ReclaimingLeads}
+use Rattle.run_executor.specs.Given.ReclaimsSlots.{AreItsRows}
+use Rattle.run_executor.specs.Given.FinishesFactsEnds.{TakesLeft, WritesRoot, events_of}
+use Rattle.run_executor.proofs.Given.FollowsOperations.{LeavesBy}
+use Rattle.run_executor.proofs.Given.OthersRowPlans.{TellsRow}
+use Rattle.run_executor.proofs.Given.OthersStays.{same_there}
 use Rattle.run_executor.specs.Given.MomentsWhole.{RefinesWhole}
 use Rattle.run_waiting.specs.Lives.Behind.{NoTableLeft, RefinesWaiting}
 use Rattle.run_waiting.specs.Lives.Handed.{IsToHand, IsHandedOver, RefinesHanded}
@@ -43,11 +43,11 @@ use Rattle.run_waiting.proofs.Lives.Worlds.{has_it, log_back}
 use Rattle.run_kept.proofs.Sheds.Reclaiming.Rows.{EmptiesRoot, reclaiming_tells}
 use Rattle.run_kept.proofs.Sheds.Reclaiming.Steps.{kept as kept_there, left, no_call, reached, root_none, nothing_there}
 use Rattle.run_kept.proofs.Sheds.Reclaiming.Waits.{begun_log}
-use Rattle.run_shows.specs.Scenes.Held.{Held}
-use Rattle.run_shows.specs.Scenes.Scene.{HasCall, Scene}
-use Rattle.run_shows.proofs.Scenes.Leads.{happens}
-use Rattle.run_shows.proofs.Given.FinishesBeside.Makings.Outs.{handed_lives}
-use Rattle.run_shows.proofs.Given.SeizeAloneHistories.Waiting.{carries_lives}
+use Rattle.run_executor.specs.Given.ScenesHeld.{Held}
+use Rattle.run_executor.specs.Given.ScenesScene.{HasCall, Scene}
+use Rattle.run_executor.proofs.Given.ScenesLeads.{happens}
+use Rattle.run_blocks.proofs.Given.FinishesBeside.Makings.Outs.{handed_lives}
+use Rattle.run_executor.proofs.Given.SeizeAloneHistories.Waiting.{carries_lives}
 
 -- what rows on slots do to what waits
 module _ {K V : Type 0} (size i p : ℕ) where

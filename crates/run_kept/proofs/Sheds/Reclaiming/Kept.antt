@@ -4,29 +4,29 @@ use Rattle.std.specs.Prelude.{◌≡◌, ◌⊎◌, ℕ, ◌+◌, Bool, true, Li
 use Rattle.std.proofs.Common.{sym, subst, ◌∙◌, inl, inr}
 use Rattle.run_schedules.specs.Given.SeizeWordsDeclared.at.At.TheVariants.{Root, Used}
 use Rattle.run_schedules.specs.Given.SeizeWordsMem.{value_at}
-use Rattle.run_shows.specs.Given.SeizeWordsWord.{block_in}
+use Rattle.run_executor.specs.Given.SeizeWordsWord.{block_in}
 use Rattle.seize.specs.declared.rows.reclaim_all.ReclaimAll.{ReclaimAll}
 use Rattle.seize.specs.declared.rows.settle.Settled.{Settled}
 use Rattle.seize.specs.declared.states.TheConstants.{LAST_SLOT}
 use Rattle.seize.specs.World.{World, Hand}
-use Rattle.run_shows.proofs.Given.SeizeRulePoints.Aside.{HandFits}
-use Rattle.run_effects.proofs.Given.SeizeMemoryWords.Shows.{lives}
-use Rattle.run_effects.proofs.Given.SeizeMemoryWords.There.{value_there}
+use Rattle.run_executor.proofs.Given.SeizeRulePoints.Aside.{HandFits}
+use Rattle.run_executor.proofs.Given.SeizeMemoryWords.Shows.{lives}
+use Rattle.run_executor.proofs.Given.SeizeMemoryWords.There.{value_there}
 use Rattle.papaya_raw.specs.Given.TablesNodes.{deferred_word}
 use Rattle.papaya_raw.specs.Given.TablesDeclared.node.Node.{Node}
 use Rattle.run_schedules.specs.declared.effect.Effect.{Effect}
 use Rattle.run_schedules.specs.Schedules.Effects.{with_effects}
 use Rattle.run_schedules.specs.Schedules.Moment.{Moment}
 use Rattle.run_schedules.specs.Schedules.Views.{is_stage, is_retired}
-use Rattle.run_effects.specs.declared.changed.Changed.{Changed}
-use Rattle.run_effects.specs.declared.changed.Changed.TheVariants as changed
-use Rattle.run_effects.specs.Effects.Effects.{linked_on, named, names_same, effects_of, known_after}
-use Rattle.run_effects.specs.Effects.Known.{Known}
-use Rattle.run_effects.specs.declared.acting.Acting.TheVariants.{Row}
-use Rattle.run_shows.specs.Scenes.Reclaiming.{IsReclaiming, ReclaimingLeads}
-use Rattle.run_shows.proofs.Follows.Operations.{LeavesBy}
-use Rattle.run_shows.proofs.Others.RowPlans.{TellsRow}
-use Rattle.run_shows.proofs.Others.Stays.{same_there}
+use Rattle.run_executor.specs.Given.EffectsDeclared.changed.Changed.{Changed}
+use Rattle.run_executor.specs.Given.EffectsDeclared.changed.Changed.TheVariants as changed
+use Rattle.run_executor.specs.Given.EffectsEffects.{linked_on, named, names_same, effects_of, known_after}
+use Rattle.run_executor.specs.Given.EffectsKnown.{Known}
+use Rattle.run_executor.specs.Given.EffectsDeclared.acting.Acting.TheVariants.{Row}
+use Rattle.run_executor.specs.Given.ScenesReclaiming.{IsReclaiming, ReclaimingLeads}
+use Rattle.run_executor.proofs.Given.FollowsOperations.{LeavesBy}
+use Rattle.run_executor.proofs.Given.OthersRowPlans.{TellsRow}
+use Rattle.run_executor.proofs.Given.OthersStays.{same_there}
 use Rattle.run_executor.specs.Given.MomentsWhole.{RefinesWhole}
 use Rattle.run_waiting.specs.Lives.Behind.{IsLeft, NoTableLeft, RefinesWaiting, WaitsOnce}
 use Rattle.run_waiting.specs.Lives.Lying.{RefinesLying}
@@ -42,9 +42,9 @@ use Rattle.run_kept.proofs.Sheds.Reclaiming.Order.{reclaiming_order}
 use Rattle.run_kept.proofs.Sheds.Reclaiming.Rows.{EmptiesRoot, reclaiming_tells}
 use Rattle.run_kept.proofs.Sheds.Reclaiming.Steps.{kept as kept_there, left, no_call, root_none, nothing_there}
 use Rattle.run_kept.proofs.Sheds.Reclaiming.Waits.{kept_then, rows_leave_waiting}
-use Rattle.run_shows.specs.Scenes.Held.{Held}
-use Rattle.run_shows.specs.Scenes.Scene.{HasCall, Scene}
-use Rattle.run_shows.proofs.Given.FinishesBeside.Makings.Outs.{handed_lives}
+use Rattle.run_executor.specs.Given.ScenesHeld.{Held}
+use Rattle.run_executor.specs.Given.ScenesScene.{HasCall, Scene}
+use Rattle.run_blocks.proofs.Given.FinishesBeside.Makings.Outs.{handed_lives}
 
 module _ {K V : Type 0} (same : K → K → Bool) (hash : ℕ → K → ℕ) (name : ℕ → List ℕ) (m : Moment K V) (known : Known) (s : Scene K V) (whole : RefinesWhole same name m known s)
     (waiting : RefinesWaiting m known s.world) (once : WaitsOnce m.deferred) (retired : RefinesRetiredTables m known s) (lying : RefinesLying m known s.world) (order : RefinesOrder m known s.world) (no_table : NoTableLeft known s.world)

@@ -11,25 +11,25 @@ use Rattle.seize.specs.declared.rows.reclaim_all.Reclaiming.{Reclaiming}
 use Rattle.seize.specs.declared.rows.reclaim_all.Reclaiming.TheVariants as points
 use Rattle.seize.specs.declared.rows.settle.Settled.{Settled}
 use Rattle.seize.specs.World.{World, Row, Rests, Settles, Leaves, Request, Register', Leave', Flush, Unregister', Event, Begin, Step, Begins, Runs, with_at}
-use Rattle.run_shows.proofs.Given.SeizeAloneHistories.NotTaken.{CanBeReached, did, kept_there}
-use Rattle.run_shows.proofs.Given.SeizeAloneHistories.Reached.{Reached, happens_reached, runs_reached}
+use Rattle.run_executor.proofs.Given.SeizeAloneHistories.NotTaken.{CanBeReached, did, kept_there}
+use Rattle.run_executor.proofs.Given.SeizeAloneHistories.Reached.{Reached, happens_reached, runs_reached}
 use Rattle.papaya_raw.specs.Given.TablesNodes.{deferred_word}
 use Rattle.papaya_raw.specs.Given.TablesDeclared.node.Node.{Node}
 use Rattle.run_schedules.specs.Schedules.Effects.{with_effects}
 use Rattle.run_schedules.specs.Schedules.Moment.{Moment}
-use Rattle.run_effects.specs.declared.changed.Changed.{Changed}
-use Rattle.run_effects.specs.Effects.Effects.{effects_of, known_after}
-use Rattle.run_effects.specs.Effects.Known.{Known}
-use Rattle.run_effects.specs.declared.acting.Acting.TheVariants.{Row as OfRow}
-use Rattle.run_effects.specs.declared.role.Role.TheVariants as role
-use Rattle.run_shows.proofs.Given.CallersRows.Behind.{row_back}
-use Rattle.run_shows.specs.Given.FinishesFactsEnds.{TakesLeft, WritesRoot, events_of}
-use Rattle.run_shows.specs.Reclaims.Reclaims.{ReclaimingAt}
-use Rattle.run_shows.specs.Reclaims.Slots.{IsForSlots, AreItsRows}
-use Rattle.run_shows.specs.Scenes.Reclaiming.{IsReclaiming, ReclaimingLeads}
-use Rattle.run_shows.specs.Follows.Blocks.{HasRole}
-use Rattle.run_shows.proofs.Follows.Operations.{LeavesBy}
-use Rattle.run_shows.proofs.Others.RowPlans.{TellsRow}
+use Rattle.run_executor.specs.Given.EffectsDeclared.changed.Changed.{Changed}
+use Rattle.run_executor.specs.Given.EffectsEffects.{effects_of, known_after}
+use Rattle.run_executor.specs.Given.EffectsKnown.{Known}
+use Rattle.run_executor.specs.Given.EffectsDeclared.acting.Acting.TheVariants.{Row as OfRow}
+use Rattle.run_executor.specs.Given.EffectsDeclared.role.Role.TheVariants as role
+use Rattle.run_blocks.proofs.Given.CallersRows.Behind.{row_back}
+use Rattle.run_executor.specs.Given.FinishesFactsEnds.{TakesLeft, WritesRoot, events_of}
+use Rattle.run_executor.specs.Given.ReclaimsReclaims.{ReclaimingAt}
+use Rattle.run_executor.specs.Given.ReclaimsSlots.{IsForSlots, AreItsRows}
+use Rattle.run_executor.specs.Given.ScenesReclaiming.{IsReclaiming, ReclaimingLeads}
+use Rattle.run_executor.specs.Given.FollowsBlocks.{HasRole}
+use Rattle.run_executor.proofs.Given.FollowsOperations.{LeavesBy}
+use Rattle.run_executor.proofs.Given.OthersRowPlans.{TellsRow}
 use Rattle.run_executor.specs.Given.MomentsWhole.{RefinesWhole}
 use Rattle.run_waiting.specs.Lives.Lying.{RefinesLying}
 use Rattle.run_waiting.specs.Lives.Waiting.{IsPutting}
@@ -37,9 +37,9 @@ use Rattle.run_waiting.proofs.Lives.Lying.{lying_on, row_among, row_pair}
 use Rattle.run_waiting.proofs.Lives.Reclaimed.{stays_so}
 use Rattle.run_kept.proofs.Sheds.Reclaiming.Steps.{kept as kept_so, reached}
 use Rattle.run_kept.proofs.Sheds.Reclaiming.Waits.{begun_log}
-use Rattle.run_shows.specs.Scenes.Held.{Held}
-use Rattle.run_shows.specs.Scenes.Scene.{Scene}
-use Rattle.run_shows.proofs.Scenes.Leads.{happens}
+use Rattle.run_executor.specs.Given.ScenesHeld.{Held}
+use Rattle.run_executor.specs.Given.ScenesScene.{Scene}
+use Rattle.run_executor.proofs.Given.ScenesLeads.{happens}
 
 module _ {K V : Type 0} (size : ℕ) where
   -- the beginning of such a row leaves the rows of others

@@ -2,7 +2,7 @@
 use Rattle.std.specs.Prelude.{ℕ, Bool, List, None}
 use Rattle.std.proofs.Common.{sym, subst, inl, inr}
 use Rattle.run_schedules.specs.Given.SeizeWordsDeclared.at.At.TheVariants.{Root, Used}
-use Rattle.run_shows.specs.Given.SeizeWordsWord.{block_in}
+use Rattle.run_executor.specs.Given.SeizeWordsWord.{block_in}
 use Rattle.seize.specs.ReclaimAll.{reclaim_all_plan}
 use Rattle.seize.specs.declared.rows.reclaim_all.ReclaimAll.{ReclaimAll}
 use Rattle.seize.specs.declared.rows.settle.Settled.{Settled}
@@ -11,14 +11,14 @@ use Rattle.papaya_raw.specs.Given.TablesDeclared.node.Node.{Node}
 use Rattle.run_schedules.specs.declared.effect.Effect.{Effect}
 use Rattle.run_schedules.specs.Schedules.Effects.{with_effects}
 use Rattle.run_schedules.specs.Schedules.Moment.{Moment}
-use Rattle.run_effects.specs.declared.changed.Changed.{Changed}
-use Rattle.run_effects.specs.declared.changed.Changed.TheVariants as changed
-use Rattle.run_effects.specs.Effects.Effects.{names_same, named, effects_of, known_after}
-use Rattle.run_effects.specs.Effects.Known.{Known}
-use Rattle.run_effects.specs.declared.acting.Acting.TheVariants.{Row}
-use Rattle.run_shows.specs.Scenes.Reclaiming.{IsReclaiming, ReclaimingLeads}
-use Rattle.run_shows.proofs.Scenes.May.{may_reclaim}
-use Rattle.run_shows.proofs.Follows.Operations.{operated}
+use Rattle.run_executor.specs.Given.EffectsDeclared.changed.Changed.{Changed}
+use Rattle.run_executor.specs.Given.EffectsDeclared.changed.Changed.TheVariants as changed
+use Rattle.run_executor.specs.Given.EffectsEffects.{names_same, named, effects_of, known_after}
+use Rattle.run_executor.specs.Given.EffectsKnown.{Known}
+use Rattle.run_executor.specs.Given.EffectsDeclared.acting.Acting.TheVariants.{Row}
+use Rattle.run_executor.specs.Given.ScenesReclaiming.{IsReclaiming, ReclaimingLeads}
+use Rattle.run_executor.proofs.Given.ScenesMay.{may_reclaim}
+use Rattle.run_executor.proofs.Given.FollowsOperations.{operated}
 use Rattle.run_executor.specs.Given.MomentsWhole.{RefinesWhole}
 use Rattle.run_waiting.specs.Remains.Numbered.{NumbersUpTo}
 use Rattle.run_waiting.specs.Remains.Slots.{SlotsNoted}
@@ -26,8 +26,8 @@ use Rattle.run_waiting.proofs.Remains.Numbered.{told_keeps_count}
 use Rattle.run_waiting.proofs.Remains.Slots.{operation_notes}
 use Rattle.run_kept.proofs.Sheds.Reclaiming.Rows.{EmptiesRoot, reclaiming_tells}
 use Rattle.run_kept.proofs.Sheds.Reclaiming.Steps.{root_none, nothing_there}
-use Rattle.run_shows.specs.Scenes.Held.{Held}
-use Rattle.run_shows.specs.Scenes.Scene.{Scene}
+use Rattle.run_executor.specs.Given.ScenesHeld.{Held}
+use Rattle.run_executor.specs.Given.ScenesScene.{Scene}
 
 module _ {K V : Type 0} (same : K → K → Bool) (hash : ℕ → K → ℕ) (name : ℕ → List ℕ) (m : Moment K V) (noted : Known) (s : Scene K V) (whole : RefinesWhole same name m noted s)
     (old new : Held K V) (i : ℕ) (lists : ℕ → List ℕ) (before after : ReclaimAll) (told : Settled (Node K V)) (at : IsReclaiming same hash old s i lists before)

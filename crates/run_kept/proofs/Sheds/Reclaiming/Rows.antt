@@ -17,26 +17,26 @@ use Rattle.seize.specs.Sequence.{taken_in}
 use Rattle.seize.specs.Settle.{settle_plan}
 use Rattle.seize.specs.Law.{Dropped}
 use Rattle.seize.specs.World.{World, Hand, NoBlock, Request, Register', Leave', Flush, Unregister', Event, Begin, Step, Begins, Steps', Runs, times, with_effect, with_hand}
-use Rattle.run_effects.proofs.Given.SeizeRuleRows.Effects.{hand_kept}
-use Rattle.run_shows.proofs.Given.SeizeRuleWorld.Values.{own_op_value, taken_value}
-use Rattle.run_shows.proofs.Given.SeizeAloneSpared.Rows.{RowStepped}
-use Rattle.run_shows.proofs.Given.SeizeAloneHistories.NotTaken.{did, nobodys, taken_gone}
-use Rattle.run_shows.proofs.Given.SeizeAloneHistories.Reached.{Reached, happens_reached}
+use Rattle.run_executor.proofs.Given.SeizeRuleRows.Effects.{hand_kept}
+use Rattle.run_executor.proofs.Given.SeizeRuleWorld.Values.{own_op_value, taken_value}
+use Rattle.run_executor.proofs.Given.SeizeAloneSpared.Rows.{RowStepped}
+use Rattle.run_executor.proofs.Given.SeizeAloneHistories.NotTaken.{did, nobodys, taken_gone}
+use Rattle.run_executor.proofs.Given.SeizeAloneHistories.Reached.{Reached, happens_reached}
 use Rattle.papaya_raw.specs.Given.TablesNodes.{deferred_word, was_left}
 use Rattle.papaya_raw.specs.Given.TablesDeclared.node.Node.{Node}
-use Rattle.run_effects.specs.ReportingMemory.Tells.{StepsObserved}
-use Rattle.run_effects.specs.declared.changed.Changed.{Changed}
-use Rattle.run_effects.specs.declared.changed.Changed.TheVariants as changed
-use Rattle.run_shows.proofs.Given.CallersTogether.At.{at_other, at_same}
-use Rattle.run_shows.specs.Given.FinishesFactsEnds.{TakesLeft, WritesRoot, events_of}
-use Rattle.run_shows.specs.Reclaims.Slots.{IsForSlots, AreItsRows}
-use Rattle.run_shows.specs.declared.row.SlotRow.TheVariants as rows
-use Rattle.run_shows.proofs.Others.Outcomes.{told_in}
-use Rattle.run_shows.proofs.Others.RowPlans.{TellsRow, row_tells}
+use Rattle.run_executor.specs.Given.TellerTells.{StepsObserved}
+use Rattle.run_executor.specs.Given.EffectsDeclared.changed.Changed.{Changed}
+use Rattle.run_executor.specs.Given.EffectsDeclared.changed.Changed.TheVariants as changed
+use Rattle.run_executor.proofs.Given.CallersTogether.At.{at_other, at_same}
+use Rattle.run_executor.specs.Given.FinishesFactsEnds.{TakesLeft, WritesRoot, events_of}
+use Rattle.run_executor.specs.Given.ReclaimsSlots.{IsForSlots, AreItsRows}
+use Rattle.run_executor.specs.Given.ScenesDeclared.row.SlotRow.TheVariants as rows
+use Rattle.run_executor.proofs.Given.OthersOutcomes.{told_in}
+use Rattle.run_executor.proofs.Given.OthersRowPlans.{TellsRow, row_tells}
 use Rattle.run_executor.proofs.Given.MomentsOnSlots.{none_some}
 use Rattle.std.proofs.lemmas.Bool.{cases_eq}
-use Rattle.run_shows.specs.Scenes.Rows.{of_settling}
-use Rattle.run_shows.proofs.Scenes.Leads.{happens}
+use Rattle.run_executor.specs.Given.ScenesRows.{of_settling}
+use Rattle.run_executor.proofs.Given.ScenesLeads.{happens}
 
 -- a block that is there then is as it was, in the same hands
 abbrev pub KeptThere : {K V : Type 0} → World (Node K V) → World (Node K V) → Type 0

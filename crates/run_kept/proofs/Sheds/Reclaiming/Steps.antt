@@ -3,39 +3,39 @@ use Rattle.std.specs.Prelude.{◌≡◌, ℕ, Bool, true, false, List, [], Optio
 use Rattle.std.proofs.Common.{refl, ap, sym, subst, ◌∙◌, inl, inr}
 use Rattle.run_schedules.specs.Given.SeizeWordsDeclared.at.At.TheVariants.{Root, Used}
 use Rattle.run_schedules.specs.Given.SeizeWordsMem.{Mem, value_at}
-use Rattle.run_shows.specs.Given.SeizeWordsWord.{block_in}
+use Rattle.run_executor.specs.Given.SeizeWordsWord.{block_in}
 use Rattle.seize.specs.declared.rows.reclaim_all.ReclaimAll.{ReclaimAll}
 use Rattle.seize.specs.declared.rows.settle.Settled.{Settled}
 use Rattle.seize.specs.ReclaimAll.{reclaim_all_plan}
 use Rattle.seize.specs.World.{World, Hand, Event, Runs}
-use Rattle.run_shows.proofs.Given.SeizeAloneHistories.Reached.{Reached, runs_reached}
+use Rattle.run_executor.proofs.Given.SeizeAloneHistories.Reached.{Reached, runs_reached}
 use Rattle.papaya_raw.specs.Given.TablesNodes.{deferred_word, was_left}
 use Rattle.papaya_raw.specs.Given.TablesDeclared.node.Node.{Node}
 use Rattle.run_schedules.specs.declared.effect.Effect.{Effect}
 use Rattle.run_schedules.specs.Schedules.Effects.{with_effects, AtEachEffect}
 use Rattle.run_schedules.specs.Schedules.Moment.{Moment}
-use Rattle.run_effects.specs.declared.changed.Changed.{Changed}
-use Rattle.run_effects.specs.declared.changed.Changed.TheVariants as changed
-use Rattle.run_shows.proofs.Given.CallersTogether.Came.{came_reached}
-use Rattle.run_effects.specs.Effects.Effects.{led_to, linked_on, named, names_same, effects_of, known_after}
-use Rattle.run_effects.specs.Effects.Known.{Known}
-use Rattle.run_effects.specs.declared.acting.Acting.TheVariants.{Row}
-use Rattle.run_effects.specs.declared.role.Role.{Role}
-use Rattle.run_effects.specs.declared.role.Role.TheVariants as role
-use Rattle.run_shows.specs.Given.CallersTogether.{UnderWay}
-use Rattle.run_shows.specs.Given.FinishesFactsEnds.{TakesLeft, WritesRoot, events_of}
-use Rattle.run_shows.specs.Given.FinishesMaps.{Standing}
-use Rattle.run_shows.specs.Reclaims.Slots.{AreItsRows}
-use Rattle.run_shows.specs.Scenes.Reclaiming.{IsReclaiming, ReclaimingLeads}
-use Rattle.run_shows.proofs.Scenes.May.{may_reclaim}
-use Rattle.run_shows.proofs.Follows.Operations.{StaysThere, LeavesBy, operated, operated_leaves}
-use Rattle.run_shows.proofs.Follows.Writes.{nothing_free}
-use Rattle.run_shows.specs.Follows.Blocks.{WasLinked}
+use Rattle.run_executor.specs.Given.EffectsDeclared.changed.Changed.{Changed}
+use Rattle.run_executor.specs.Given.EffectsDeclared.changed.Changed.TheVariants as changed
+use Rattle.run_executor.proofs.Given.CallersTogether.Came.{came_reached}
+use Rattle.run_executor.specs.Given.EffectsEffects.{led_to, linked_on, named, names_same, effects_of, known_after}
+use Rattle.run_executor.specs.Given.EffectsKnown.{Known}
+use Rattle.run_executor.specs.Given.EffectsDeclared.acting.Acting.TheVariants.{Row}
+use Rattle.run_executor.specs.Given.EffectsDeclared.role.Role.{Role}
+use Rattle.run_executor.specs.Given.EffectsDeclared.role.Role.TheVariants as role
+use Rattle.run_executor.specs.Given.CallersTogether.{UnderWay}
+use Rattle.run_executor.specs.Given.FinishesFactsEnds.{TakesLeft, WritesRoot, events_of}
+use Rattle.run_executor.specs.Given.FinishesMaps.{Standing}
+use Rattle.run_executor.specs.Given.ReclaimsSlots.{AreItsRows}
+use Rattle.run_executor.specs.Given.ScenesReclaiming.{IsReclaiming, ReclaimingLeads}
+use Rattle.run_executor.proofs.Given.ScenesMay.{may_reclaim}
+use Rattle.run_executor.proofs.Given.FollowsOperations.{StaysThere, LeavesBy, operated, operated_leaves}
+use Rattle.run_executor.proofs.Given.FollowsWrites.{nothing_free}
+use Rattle.run_executor.specs.Given.FollowsBlocks.{WasLinked}
 use Rattle.run_executor.specs.Given.HandsHands.{IsInUse}
-use Rattle.run_shows.specs.Others.Gone.{WasRetired}
-use Rattle.run_shows.proofs.Others.RowPlans.{TellsRow}
-use Rattle.run_shows.proofs.Others.Rows.{row_leads}
-use Rattle.run_shows.proofs.Others.Stays.{StaysBlock, same_there}
+use Rattle.run_executor.specs.Given.OthersGone.{WasRetired}
+use Rattle.run_executor.proofs.Given.OthersRowPlans.{TellsRow}
+use Rattle.run_executor.proofs.Given.OthersRows.{row_leads}
+use Rattle.run_executor.proofs.Given.OthersStays.{StaysBlock, same_there}
 use Rattle.run_executor.specs.Given.SpotsOnSlots.{WaitUnreclaimed}
 use Rattle.run_executor.proofs.Given.SpotsDeferred.{effects_leave_outside}
 use Rattle.run_executor.proofs.Given.SpotsOnSlots.{row_beside, blocks_done}
@@ -45,8 +45,8 @@ use Rattle.run_executor.specs.Given.MomentsWhole.{RefinesWhole}
 use Rattle.run_executor.proofs.Given.MomentsBeside.{IsBeside, hands_beside}
 use Rattle.run_executor.proofs.Given.MomentsOnSlots.{stood_same, with_outside, was_retired, row_alone, row_keeps}
 use Rattle.run_kept.proofs.Sheds.Reclaiming.Rows.{KeptThere, rows_kept, left_kept, root_kept, EmptiesRoot, reclaiming_tells}
-use Rattle.run_shows.specs.Scenes.Held.{Held}
-use Rattle.run_shows.specs.Scenes.Scene.{Scene}
+use Rattle.run_executor.specs.Given.ScenesHeld.{Held}
+use Rattle.run_executor.specs.Given.ScenesScene.{Scene}
 
 module _ {K V : Type 0} (same : K → K → Bool) (hash : ℕ → K → ℕ) (name : ℕ → List ℕ) (m : Moment K V) (known : Known) (s : Scene K V) (whole : RefinesWhole same name m known s)
     (old new : Held K V) (i : ℕ) (lists : ℕ → List ℕ) (before after : ReclaimAll) (told : Settled (Node K V)) (at : IsReclaiming same hash old s i lists before)

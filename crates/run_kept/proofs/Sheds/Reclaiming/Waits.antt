@@ -10,11 +10,11 @@ use Rattle.seize.specs.declared.rows.settle.Settled.{Settled}
 use Rattle.seize.specs.declared.states.TheConstants.{LAST_SLOT}
 use Rattle.seize.specs.Sequence.{taken_in}
 use Rattle.seize.specs.World.{World, Hand, Request, Register', Leave', Flush, Unregister', Event, Begin, Step, Begins, Runs, Clears, Operates, times}
-use Rattle.run_shows.proofs.Given.SeizeRulePoints.Aside.{HandFits}
-use Rattle.run_effects.proofs.Given.SeizeMemoryWords.There.{value_there}
-use Rattle.run_shows.proofs.Given.SeizeAloneHistories.NotTaken.{did, taken_gone}
-use Rattle.run_shows.proofs.Given.SeizeAloneHistories.Reached.{Reached, happens_reached}
-use Rattle.run_shows.proofs.Given.SeizeAloneSpared.Rows.{RowStepped}
+use Rattle.run_executor.proofs.Given.SeizeRulePoints.Aside.{HandFits}
+use Rattle.run_executor.proofs.Given.SeizeMemoryWords.There.{value_there}
+use Rattle.run_executor.proofs.Given.SeizeAloneHistories.NotTaken.{did, taken_gone}
+use Rattle.run_executor.proofs.Given.SeizeAloneHistories.Reached.{Reached, happens_reached}
+use Rattle.run_executor.proofs.Given.SeizeAloneSpared.Rows.{RowStepped}
 use Rattle.papaya_raw.specs.Given.TablesNodes.{deferred_word}
 use Rattle.papaya_raw.specs.Given.TablesDeclared.node.Node.{Node}
 use Rattle.run_schedules.specs.declared.effect.Effect.{Effect}
@@ -26,22 +26,22 @@ use Rattle.run_schedules.specs.Schedules.Lists.{is_among}
 use Rattle.run_schedules.specs.Schedules.Moment.{Place, Behind, Handed as IsHanded, GivenBack, Moment}
 use Rattle.run_schedules.specs.Schedules.Things.{same_table}
 use Rattle.run_schedules.specs.Schedules.Views.{behind}
-use Rattle.run_effects.specs.declared.changed.Changed.{Changed}
-use Rattle.run_effects.specs.declared.changed.Changed.TheVariants as changed
-use Rattle.run_shows.specs.Given.CallersTogether.{CameAbout}
-use Rattle.run_effects.specs.Effects.Effects.{names_same, taken_by, effects_of, known_after}
-use Rattle.run_effects.specs.Effects.Known.{Known}
-use Rattle.run_effects.specs.declared.acting.Acting.TheVariants.{Row}
-use Rattle.run_effects.specs.declared.role.Role.{Role}
-use Rattle.run_effects.specs.declared.role.Role.TheVariants as role
-use Rattle.run_shows.specs.Given.FinishesFactsEnds.{TakesLeft, WritesRoot, events_of}
-use Rattle.run_shows.specs.Reclaims.Slots.{IsForSlots, AreItsRows}
-use Rattle.run_shows.specs.Scenes.Reclaiming.{IsReclaiming, ReclaimingLeads}
-use Rattle.run_shows.specs.Follows.Blocks.{HasRole}
-use Rattle.run_shows.proofs.Follows.Alike.{put_elsewhere}
-use Rattle.run_shows.proofs.Follows.Onward.{IsOfMap}
-use Rattle.run_shows.proofs.Follows.Operations.{LeavesBy}
-use Rattle.run_shows.proofs.Others.RowPlans.{TellsRow}
+use Rattle.run_executor.specs.Given.EffectsDeclared.changed.Changed.{Changed}
+use Rattle.run_executor.specs.Given.EffectsDeclared.changed.Changed.TheVariants as changed
+use Rattle.run_executor.specs.Given.CallersTogether.{CameAbout}
+use Rattle.run_executor.specs.Given.EffectsEffects.{names_same, taken_by, effects_of, known_after}
+use Rattle.run_executor.specs.Given.EffectsKnown.{Known}
+use Rattle.run_executor.specs.Given.EffectsDeclared.acting.Acting.TheVariants.{Row}
+use Rattle.run_executor.specs.Given.EffectsDeclared.role.Role.{Role}
+use Rattle.run_executor.specs.Given.EffectsDeclared.role.Role.TheVariants as role
+use Rattle.run_executor.specs.Given.FinishesFactsEnds.{TakesLeft, WritesRoot, events_of}
+use Rattle.run_executor.specs.Given.ReclaimsSlots.{IsForSlots, AreItsRows}
+use Rattle.run_executor.specs.Given.ScenesReclaiming.{IsReclaiming, ReclaimingLeads}
+use Rattle.run_executor.specs.Given.FollowsBlocks.{HasRole}
+use Rattle.run_executor.proofs.Given.FollowsAlike.{put_elsewhere}
+use Rattle.run_executor.proofs.Given.FollowsOnward.{IsOfMap}
+use Rattle.run_executor.proofs.Given.FollowsOperations.{LeavesBy}
+use Rattle.run_executor.proofs.Given.OthersRowPlans.{TellsRow}
 use Rattle.run_executor.proofs.Given.SpotsUnreclaimed.{same_itself}
 use Rattle.run_executor.specs.Given.MomentsWhole.{RefinesWhole}
 use Rattle.run_executor.proofs.Given.MomentsOnSlots.{none_some, row_keeps}
@@ -53,10 +53,10 @@ use Rattle.run_waiting.proofs.Lives.Taken.{there_still}
 use Rattle.run_waiting.proofs.Lives.Worlds.{Kept, log_back, runs_kept, start_kept, has_it}
 use Rattle.run_kept.proofs.Sheds.Reclaiming.Rows.{rows_kept}
 use Rattle.run_kept.proofs.Sheds.Reclaiming.Steps.{reached}
-use Rattle.run_shows.specs.Scenes.Held.{Held}
-use Rattle.run_shows.specs.Scenes.Scene.{Scene}
-use Rattle.run_shows.proofs.Scenes.Leads.{happens}
-use Rattle.run_shows.proofs.Given.FinishesBeside.Makings.Outs.{handed_lives}
+use Rattle.run_executor.specs.Given.ScenesHeld.{Held}
+use Rattle.run_executor.specs.Given.ScenesScene.{Scene}
+use Rattle.run_executor.proofs.Given.ScenesLeads.{happens}
+use Rattle.run_blocks.proofs.Given.FinishesBeside.Makings.Outs.{handed_lives}
 
 module _ {K V : Type 0} (size : ℕ) where
   -- such a row tells nothing as it begins

@@ -31,11 +31,11 @@ use Rattle.run_shows.proofs.Follows.Alike.{put_here, put_elsewhere}
 use Rattle.run_shows.proofs.Follows.Told.{roomed_as_many}
 use Rattle.run_shows.proofs.Others.RowPlans.{TellsRow}
 use Rattle.run_executor.specs.Given.MomentsWhole.{RefinesWhole}
-use Rattle.run_waiting.proofs.Given.SettlesEntryScenes.{as_zero, as_blank}
-use Rattle.run_waiting.proofs.Given.SettlesEntryUsers.{AllZero, event_zeros}
-use Rattle.run_waiting.proofs.Given.SettlesEntryWorlds.{step_zeros, begin_zeros}
-use Rattle.run_waiting.specs.Lives.Behind.{NoTableLeft}
-use Rattle.run_waiting.proofs.Lives.LeftTables.{none_is_left, where_none_is_left}
+use Rattle.run_kept.proofs.Given.SettlesEntryScenes.{as_zero, as_blank}
+use Rattle.run_kept.proofs.Given.SettlesEntryUsers.{AllZero, event_zeros}
+use Rattle.run_kept.proofs.Given.SettlesEntryWorlds.{step_zeros, begin_zeros}
+use Rattle.run_kept.specs.Given.LivesBehind.{NoTableLeft}
+use Rattle.run_kept.proofs.Given.LivesLeftTables.{none_is_left, where_none_is_left}
 use Rattle.run_kept.specs.Kept.Kept.{RefinesKept}
 use Rattle.run_kept.proofs.Kept.Ends.{maps_stay, stood_so}
 use Rattle.run_logged.specs.Log.Reclaims.{ReclaimRetired}

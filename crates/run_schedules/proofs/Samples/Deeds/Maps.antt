@@ -1,7 +1,7 @@
 -- A map is made with one table, has two pairs, and ends, step by step. And wrong histories of makings and ends.
 use Rattle.std.proofs.Common.{◌≡◌, ℕ, true, List, [], ◌∷◌, refl, sym}
 use Rattle.seize_words.specs.declared.fault.Fault.TheVariants.{Memory}
-use Rattle.map_tables.specs.declared.resize_mode.ResizeMode.TheVariants.{Incremental}
+use Rattle.papaya_raw.specs.Given.TablesDeclared.resize_mode.ResizeMode.TheVariants.{Incremental}
 use Rattle.run_schedules.specs.declared.shapes.TableShape.{TableShape}
 use Rattle.run_schedules.specs.declared.call.Response.TheVariants as answer
 use Rattle.run_schedules.specs.declared.call.Call.TheVariants.{On}

@@ -1,9 +1,9 @@
 -- Which table follows a full one of the same length: all its places are tried where the tries met pairs, and not where those were removed. And wrong runs.
 use Rattle.std.specs.Prelude.{◌-◌, ◌%◌, if◌then◌else◌, map}
 use Rattle.std.proofs.Common.{◌≡◌, ℕ, zero, suc, Bool, true, false, [], ◌∷◌, inl, inr, refl, arith, ap, ◌∙◌}
-use Rattle.map_tables.specs.declared.lengths.Reason.TheVariants.{Full, Reserved, NoPlace}
-use Rattle.map_tables.specs.Lengths.{next_limit}
-use Rattle.map_tables.specs.Probes.{triangular}
+use Rattle.papaya_raw.specs.Given.TablesDeclared.lengths.Reason.TheVariants.{Full, Reserved, NoPlace}
+use Rattle.papaya_raw.specs.Given.TablesLengths.{next_limit}
+use Rattle.papaya_raw.specs.Given.TablesProbes.{triangular}
 use Rattle.run_schedules.specs.declared.call.Call.TheVariants.{On}
 use Rattle.run_schedules.specs.declared.call.OneKey.TheVariants.{Insert}
 use Rattle.run_schedules.specs.Schedules.Lists.{numbers_from}

@@ -3,7 +3,7 @@ use Rattle.std.specs.Prelude.{codes, map}
 use Rattle.std.specs.Global.{Vec}
 use Rattle.std.proofs.Common.{◌≡◌, ℕ, List, [], ◌∷◌, ◌++◌, refl, arith}
 use Rattle.seize_words.specs.declared.fault.Fault.TheVariants.{RootsUsedUp}
-use Rattle.map_tables.specs.declared.resize_mode.ResizeMode.TheVariants.{Blocking}
+use Rattle.papaya_raw.specs.Given.TablesDeclared.resize_mode.ResizeMode.TheVariants.{Blocking}
 use Rattle.run_schedules.specs.declared.shapes.TableShape.{TableShape}
 use Rattle.run_schedules.specs.declared.event.Event.TheVariants.{Unregister, ReclaimAll, Close, MakeMap, EndMap, ShowShape}
 use Rattle.run_schedules.specs.declared.effect.Effect.{Effect}

@@ -2,7 +2,7 @@
 use Rattle.std.specs.Prelude.{codes, drop, nat_eq}
 use Rattle.std.proofs.Common.{◌≡◌, ℕ, List, [], ◌∷◌, inl, inr, refl, arith}
 use Rattle.seize_words.specs.declared.fault.Fault.TheVariants.{Memory}
-use Rattle.map_tables.specs.declared.resize_mode.ResizeMode.TheVariants.{Incremental}
+use Rattle.papaya_raw.specs.Given.TablesDeclared.resize_mode.ResizeMode.TheVariants.{Incremental}
 use Rattle.run_schedules.specs.declared.call.Call.TheVariants.{On}
 use Rattle.run_schedules.specs.declared.call.OneKey.TheVariants.{Insert}
 use Rattle.run_schedules.specs.declared.call.Response.TheVariants as answer

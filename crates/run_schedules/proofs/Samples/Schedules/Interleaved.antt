@@ -1,7 +1,7 @@
 -- A run of two callers worked by hand: a `compute` is under way while another call begins a resize, which copies the pair that it was told of.
 use Rattle.std.specs.Prelude.{codes, drop, nat_eq}
 use Rattle.std.proofs.Common.{ℕ, false, List, [], ◌∷◌, inl, inr, refl, arith, Some}
-use Rattle.map_tables.specs.declared.lengths.Reason.TheVariants.{Full}
+use Rattle.papaya_raw.specs.Given.TablesDeclared.lengths.Reason.TheVariants.{Full}
 use Rattle.run_schedules.specs.declared.call.Call.TheVariants.{On, Walk}
 use Rattle.run_schedules.specs.declared.call.OneKey.TheVariants.{Compute}
 use Rattle.run_schedules.specs.declared.call.Reply.TheVariants.{Gives}

@@ -2,13 +2,13 @@
 use Rattle.std.specs.Prelude.{codes, nat_eq, ◌+◌, ◌%◌, ◌^◌, nat_le, max, if◌then◌else◌}
 use Rattle.std.proofs.Common.{◌≡◌, ◌≤◌, ℕ, Bool, true, false, List, [], ◌∷◌, ◌++◌, inl, inr, refl, arith, Ok, Err}
 use Rattle.seize_words.specs.declared.fault.Fault.TheVariants.{Capacity, SlotsUsedUp, Memory}
-use Rattle.map_tables.specs.declared.lengths.Reason.TheVariants.{Full, Reserved, NoPlace}
-use Rattle.map_tables.specs.Given.SeizeRegister.{MayNeedRoom}
-use Rattle.map_tables.specs.Counts.{count_in}
-use Rattle.map_tables.specs.Lengths.{by_count, len_of, next_len}
+use Rattle.papaya_raw.specs.Given.TablesDeclared.lengths.Reason.TheVariants.{Full, Reserved, NoPlace}
+use Rattle.papaya_raw.specs.Given.SeizeRegister.{MayNeedRoom}
+use Rattle.papaya_raw.specs.Given.TablesCounts.{count_in}
+use Rattle.papaya_raw.specs.Given.TablesLengths.{by_count, len_of, next_len}
 use Rattle.run_schedules.specs.declared.shapes.TableShape.{TableShape}
 use Rattle.run_schedules.specs.Schedules.Growing.{Has, IsNextShape}
-use Rattle.map_tables.specs.declared.resize_mode.ResizeMode.TheVariants.{Incremental}
+use Rattle.papaya_raw.specs.Given.TablesDeclared.resize_mode.ResizeMode.TheVariants.{Incremental}
 use Rattle.run_schedules.specs.Schedules.Beginning.{fresh_call}
 use Rattle.run_schedules.specs.Schedules.Moment.{UnderWay, TableThere, IsLinked, Moment, start}
 use Rattle.run_schedules.specs.declared.call.Call.TheVariants.{On, Reserve, Len}

@@ -1,7 +1,7 @@
 -- A run worked by hand in which a map comes to its next table: a pair that was copied is removed, waits behind the old table, and is reclaimed right after it.
 use Rattle.std.specs.Prelude.{codes, drop, nat_eq}
 use Rattle.std.proofs.Common.{ℕ, List, [], ◌∷◌, inl, inr, refl, arith}
-use Rattle.map_tables.specs.declared.lengths.Reason.TheVariants.{Full}
+use Rattle.papaya_raw.specs.Given.TablesDeclared.lengths.Reason.TheVariants.{Full}
 use Rattle.run_schedules.specs.declared.call.Call.TheVariants.{On, Walk}
 use Rattle.run_schedules.specs.declared.call.OneKey.TheVariants.{Insert, Remove}
 use Rattle.run_schedules.specs.declared.call.Response.TheVariants as answer

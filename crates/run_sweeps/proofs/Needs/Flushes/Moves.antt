@@ -1,15 +1,15 @@
 -- A flush of a slot that is active takes nothing away: the batch that it closes waits for that slot.
 use Rattle.std.proofs.Common.{◌≡◌, ℕ, ◌+◌, ◌%◌, ◌^◌, ◌<◌, ◌≤◌, Bool, true, false, cond, eqb, ltb, List, [], ◌∷◌, ◌++◌, refl, ap, sym, subst, ◌∙◌, arith, eqb-true, inl, inr}
 use Rattle.papaya_raw.specs.Given.SeizeDeclared.rows.settle.Settle.{Settle}
-use Rattle.run_executor.specs.Given.SeizeWaitingHeld.{count}
-use Rattle.run_executor.proofs.Given.SeizeMovesState.Ghost.{put, Debt, Unscanned, Marked, Gone, Skipped, Owing, Loose, Counted, Entry, Active, Stage, Open, Closing, State, is_active, is_marked, owes, counts, was_put, total}
-use Rattle.run_executor.proofs.Given.SeizeMovesState.Moves as moves
-use Rattle.run_executor.proofs.Given.SeizeMovesState.Rule.{AtStage, HasLeft, Inv, SeenIs}
-use Rattle.run_executor.proofs.Given.SeizeMovesState.Sums.{put_le, put_parts, total_le}
-use Rattle.run_executor.proofs.Given.SeizeRulePoints.Passed.{passed_rest}
-use Rattle.run_executor.proofs.Given.SeizeRulePoints.Told as told
-use Rattle.run_executor.proofs.Given.SeizeRulePoints.Told.{Part, Told, part}
-use Rattle.run_executor.proofs.Given.SeizeMemoryWords.Apart.{put_here}
+use Rattle.run_finds.specs.Given.SeizeWaitingHeld.{count}
+use Rattle.run_finds.proofs.Given.SeizeMovesState.Ghost.{put, Debt, Unscanned, Marked, Gone, Skipped, Owing, Loose, Counted, Entry, Active, Stage, Open, Closing, State, is_active, is_marked, owes, counts, was_put, total}
+use Rattle.run_finds.proofs.Given.SeizeMovesState.Moves as moves
+use Rattle.run_finds.proofs.Given.SeizeMovesState.Rule.{AtStage, HasLeft, Inv, SeenIs}
+use Rattle.run_finds.proofs.Given.SeizeMovesState.Sums.{put_le, put_parts, total_le}
+use Rattle.run_finds.proofs.Given.SeizeRulePoints.Passed.{passed_rest}
+use Rattle.run_finds.proofs.Given.SeizeRulePoints.Told as told
+use Rattle.run_finds.proofs.Given.SeizeRulePoints.Told.{Part, Told, part}
+use Rattle.run_finds.proofs.Given.SeizeMemoryWords.Apart.{put_here}
 
 -- a batch that is tried waits for a slot still: it is not scanned, or marked, or has its entry
 abbrev pub awaits : Debt → Bool

@@ -7,21 +7,21 @@ use Rattle.papaya_raw.specs.Given.SeizeDeclared.states.TheConstants.{LAST_SLOT}
 use Rattle.papaya_raw.specs.Given.SeizeLaw.{is_open}
 use Rattle.papaya_raw.specs.Given.SeizeSettle.{flushing}
 use Rattle.papaya_raw.specs.Given.SeizeWorld.{World, Row, Rests, Settles, Use, Vacant, Outside, Inside, Changing, Flush, Begin, Step, Begins, IsInside, Steps'}
-use Rattle.run_executor.proofs.Given.SeizeMovesState.Ghost.{Head, Never, State, emptied, is_active}
-use Rattle.run_executor.proofs.Given.SeizeRulePoints.Told.{Told, part}
-use Rattle.run_executor.proofs.Given.SeizeRuleRows.Known.{FitsRow}
-use Rattle.run_executor.proofs.Given.SeizeRuleRows.Others.{with_here}
-use Rattle.run_executor.proofs.Given.SeizeRuleRows.Sizes.{AllSized}
-use Rattle.run_executor.proofs.Given.SeizeRuleRows.SizesKept.{happens_sized}
-use Rattle.run_executor.proofs.Given.SeizeRuleRows.Teams.{UseFits}
-use Rattle.run_executor.proofs.Given.SeizeRuleRows.Told as told
-use Rattle.run_executor.proofs.Given.SeizeRuleRows.Told.{RowTold}
-use Rattle.run_executor.proofs.Given.SeizeMemoryWords.View.{view}
-use Rattle.run_executor.proofs.Given.SeizeRuleWorld.Begins.{begins_next}
-use Rattle.run_executor.proofs.Given.SeizeRuleWorld.Good.{Good, Next}
-use Rattle.run_executor.proofs.Given.SeizeRuleWorld.Kept.{steps_next}
+use Rattle.run_finds.proofs.Given.SeizeMovesState.Ghost.{Head, Never, State, emptied, is_active}
+use Rattle.run_finds.proofs.Given.SeizeRulePoints.Told.{Told, part}
+use Rattle.run_finds.proofs.Given.SeizeRuleRows.Known.{FitsRow}
+use Rattle.run_finds.proofs.Given.SeizeRuleRows.Others.{with_here}
+use Rattle.run_finds.proofs.Given.SeizeRuleRows.Sizes.{AllSized}
+use Rattle.run_finds.proofs.Given.SeizeRuleRows.SizesKept.{happens_sized}
+use Rattle.run_finds.proofs.Given.SeizeRuleRows.Teams.{UseFits}
+use Rattle.run_finds.proofs.Given.SeizeRuleRows.Told as told
+use Rattle.run_finds.proofs.Given.SeizeRuleRows.Told.{RowTold}
+use Rattle.run_finds.proofs.Given.SeizeMemoryWords.View.{view}
+use Rattle.run_finds.proofs.Given.SeizeRuleWorld.Begins.{begins_next}
+use Rattle.run_finds.proofs.Given.SeizeRuleWorld.Good.{Good, Next}
+use Rattle.run_finds.proofs.Given.SeizeRuleWorld.Kept.{steps_next}
 use Rattle.run_sweeps.proofs.Needs.Flushes.Moves.{FlushesOn, flush_moves}
-use Rattle.run_executor.proofs.Given.SeizeRuleRows.Leaving.{active_head_of as active_by}
+use Rattle.run_finds.proofs.Given.SeizeRuleRows.Leaving.{active_head_of as active_by}
 
 abbrev pub slots : ℕ
 slots = LAST_SLOT + 1

@@ -1,8 +1,8 @@
 -- A list of blocks that are there stands in the memory, as its chain of entries shows it.
 use Rattle.std.specs.Prelude.{Option, Some, None, IsSome}
 use Rattle.std.proofs.Common.{◌≡◌, ℕ, List, [], ◌∷◌, refl, arith, subst}
-use Rattle.seize_words.specs.declared.at.At.TheVariants.{Entry}
-use Rattle.seize_words.specs.OneMemory.Mem.{Mem, word_at}
+use Rattle.seize.specs.Given.SeizeWordsDeclared.at.At.TheVariants.{Entry}
+use Rattle.seize.specs.Given.SeizeWordsMem.{Mem, word_at}
 use Rattle.seize.specs.declared.states.TheConstants.{NEXT}
 use Rattle.seize.specs.Further.{ListFrom}
 use Rattle.seize_moves.specs.Waiting.Held.{count}

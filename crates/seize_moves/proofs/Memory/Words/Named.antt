@@ -5,13 +5,13 @@ use Rattle.std.proofs.Math.Path.{fun_ext}
 use Rattle.std.proofs.lemmas.Bool.{eq-eqb}
 use Rattle.std.proofs.lemmas.Nat.{div-mul-add}
 use Rattle.seize_moves.proofs.Moves.State.Ghost.{put}
-use Rattle.seize_words.specs.declared.at.At.{At}
-use Rattle.seize_words.specs.declared.at.At.TheVariants.{Root, Used, Slot, Entry, Word}
-use Rattle.seize_words.specs.declared.block.Block.{Block}
-use Rattle.seize_words.specs.OneMemory.Op.{Make, Made}
-use Rattle.seize_words.specs.OneMemory.SlotWords.{slot_word}
-use Rattle.seize_words.specs.OneMemory.Mem.{Mem, same_at, block_of, value_in, entry_in, word_in, value_at, word_at, with_block, with_word, IsFreeNumber, fresh, after}
-use Rattle.seize_words.proofs.OneMemory.OneOwner.AfterWrites.{word_at-with_word, value_at-with_word, block_of-with_block, block_of-made}
+use Rattle.seize.specs.Given.SeizeWordsDeclared.at.At.{At}
+use Rattle.seize.specs.Given.SeizeWordsDeclared.at.At.TheVariants.{Root, Used, Slot, Entry, Word}
+use Rattle.seize.specs.Given.SeizeWordsDeclared.block.Block.{Block}
+use Rattle.seize.specs.Given.SeizeWordsOp.{Make, Made}
+use Rattle.seize.specs.Given.SeizeWordsSlotWords.{slot_word}
+use Rattle.seize.specs.Given.SeizeWordsMem.{Mem, same_at, block_of, value_in, entry_in, word_in, value_at, word_at, with_block, with_word, IsFreeNumber, fresh, after}
+use Rattle.seize.proofs.Given.SeizeWordsOneOwner.AfterWrites.{word_at-with_word, value_at-with_word, block_of-with_block, block_of-made}
 
 abbrev pub or_zero : Option ℕ → ℕ
 or_zero None = 0

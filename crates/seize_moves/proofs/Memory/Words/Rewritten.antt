@@ -2,10 +2,10 @@
 use Rattle.std.specs.Prelude.{Option, Some, IsSome, is_some, if◌then◌else◌}
 use Rattle.std.proofs.Common.{◌≡◌, ℕ, Bool, true, false, cond, eqb, refl, subst, sym, ap, ◌∙◌, eqb-true}
 use Rattle.std.proofs.Math.Path.{fun_ext}
-use Rattle.seize_words.specs.declared.at.At.{At}
-use Rattle.seize_words.specs.declared.at.At.TheVariants.{Entry, Word}
-use Rattle.seize_words.specs.OneMemory.Mem.{Mem, value_at, with_value}
-use Rattle.seize_words.proofs.OneMemory.OneOwner.AfterWrites.{word_at-with_value, value_at-with_value}
+use Rattle.seize.specs.Given.SeizeWordsDeclared.at.At.{At}
+use Rattle.seize.specs.Given.SeizeWordsDeclared.at.At.TheVariants.{Entry, Word}
+use Rattle.seize.specs.Given.SeizeWordsMem.{Mem, value_at, with_value}
+use Rattle.seize.proofs.Given.SeizeWordsOneOwner.AfterWrites.{word_at-with_value, value_at-with_value}
 use Rattle.seize_moves.proofs.Moves.State.Ghost.{put}
 use Rattle.seize_moves.proofs.Memory.Words.Named.{or_zero, words_of, has}
 use Rattle.seize_moves.proofs.Memory.Words.View.{View, view, view_of, list_in}

@@ -3,21 +3,21 @@ use Rattle.std.specs.Prelude.{Option, Some, None, is_some, IsSome, if◌then◌e
 use Rattle.std.proofs.Common.{◌≡◌, ◌≢◌, ℕ, zero, suc, ◌+◌, ◌-◌, ◌<◌, ◌≤◌, Bool, true, false, cond, eqb, List, [], ◌++◌, length, refl, arith, subst, sym, ap, ◌∙◌, inl, inr, length-append}
 use Rattle.std.proofs.lemmas.Bool.{cases_eq, cases_lt, eq-eqb}
 use Rattle.std.proofs.lemmas.List.{length-set, length-replicate, get_or_append_left, get_or-append_right}
-use Rattle.seize_words.specs.declared.at.At.{At}
-use Rattle.seize_words.specs.declared.at.At.TheVariants.{Root, Used, Slot, Entry, Word}
-use Rattle.seize_words.specs.declared.slots.TheConstants.{SLOT_WORDS}
-use Rattle.seize_words.specs.OneMemory.Mem.{Mem, word_at, with_word, with_room, with_block, after, Can}
-use Rattle.seize_words.specs.OneMemory.Op.{Make, Made, Room}
-use Rattle.seize_words.specs.OneMemory.Place.{capacity}
-use Rattle.seize_words.specs.OneMemory.SlotWords.{slot_word, with_bucket}
-use Rattle.seize_words.proofs.OneMemory.Places.Words.{capacity-more, capacity_pos, capacity_le_capacity, with_bucket_next, with_bucket_there}
+use Rattle.seize.specs.Given.SeizeWordsDeclared.at.At.{At}
+use Rattle.seize.specs.Given.SeizeWordsDeclared.at.At.TheVariants.{Root, Used, Slot, Entry, Word}
+use Rattle.seize.specs.Given.SeizeWordsDeclared.slots.TheConstants.{SLOT_WORDS}
+use Rattle.seize.specs.Given.SeizeWordsMem.{Mem, word_at, with_word, with_room, with_block, after, Can}
+use Rattle.seize.specs.Given.SeizeWordsOp.{Make, Made, Room}
+use Rattle.seize.specs.Given.SeizeWordsPlace.{capacity}
+use Rattle.seize.specs.Given.SeizeWordsSlotWords.{slot_word, with_bucket}
+use Rattle.seize.proofs.Given.SeizeWordsPlaces.Words.{capacity-more, capacity_pos, capacity_le_capacity, with_bucket_next, with_bucket_there}
 use Rattle.seize.specs.declared.states.TheConstants.{LAST_SLOT}
 use Rattle.seize.specs.Register.{begun_of, bucket_begun, bucket_needed}
 use Rattle.seize_moves.proofs.Moves.State.Ghost.{put, Head, is_never}
 use Rattle.seize_moves.proofs.Memory.Words.Named.{has, wrote}
 use Rattle.seize_moves.proofs.Memory.Words.There.{some_of}
 use Rattle.seize.proofs.Beginnings.{begun_is as begun_some}
-use Rattle.seize_words.proofs.General.{less_so as below_lt, less_true as below_true}
+use Rattle.seize.proofs.Given.General.{less_so as below_lt, less_true as below_true}
 
 -- the slots that have words have both, and are those of whole buckets
 pub record Bucketed {T : Type 0} (m : Mem T) : Type 0 where

@@ -2,8 +2,8 @@
 use Rattle.std.specs.Prelude.{Option, Some, None, is_some, if◌then◌else◌}
 use Rattle.std.proofs.Common.{◌≡◌, ℕ, ◌<◌, Bool, true, false, ltb, eqb, List, [], refl, ap}
 use Rattle.seize_moves.proofs.Moves.State.Ghost.{opening, start}
-use Rattle.seize_words.specs.declared.block.Block.{Block}
-use Rattle.seize_words.specs.OneMemory.Mem.{Mem, block_of, value_in, entry_in}
+use Rattle.seize.specs.Given.SeizeWordsDeclared.block.Block.{Block}
+use Rattle.seize.specs.Given.SeizeWordsMem.{Mem, block_of, value_in, entry_in}
 use Rattle.seize.specs.declared.states.TheConstants.{NEXT, COUNT}
 use Rattle.seize_moves.proofs.Memory.Words.Named.{or_zero}
 use Rattle.seize_moves.proofs.Memory.Words.View.{View, view, list_in}

@@ -1,10 +1,10 @@
 -- Which words are there: each live block's entry has its four, and its list's first word. And what a number without a block has.
 use Rattle.std.specs.Prelude.{Option, Some, None, is_some, IsSome}
 use Rattle.std.proofs.Common.{◌≡◌, ℕ, zero, suc, ◌<◌, ◌^◌, Bool, true, false, cond, eqb, refl, arith, subst, sym, ap, ◌∙◌, eqb-true}
-use Rattle.seize_words.specs.declared.at.At.{At}
-use Rattle.seize_words.specs.declared.at.At.TheVariants.{Entry, Word}
-use Rattle.seize_words.specs.declared.block.Block.{Block}
-use Rattle.seize_words.specs.OneMemory.Mem.{Mem, block_of, value_in, word_in, value_at, word_at}
+use Rattle.seize.specs.Given.SeizeWordsDeclared.at.At.{At}
+use Rattle.seize.specs.Given.SeizeWordsDeclared.at.At.TheVariants.{Entry, Word}
+use Rattle.seize.specs.Given.SeizeWordsDeclared.block.Block.{Block}
+use Rattle.seize.specs.Given.SeizeWordsMem.{Mem, block_of, value_in, word_in, value_at, word_at}
 use Rattle.seize_moves.proofs.Moves.State.Ghost.{State}
 use Rattle.seize_moves.proofs.Memory.Words.Named.{or_zero, words_of, has, Wrote, Made_one, Taken_one}
 use Rattle.seize_moves.proofs.Memory.Words.View.{view, list_in}

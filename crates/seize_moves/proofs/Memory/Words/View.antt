@@ -2,9 +2,9 @@
 use Rattle.std.specs.Prelude.{is_some, Option, Some, None, ◌&&◌}
 use Rattle.std.proofs.Common.{◌≡◌, ℕ, Bool, true, false, cond, eqb, refl, ◌∙◌}
 use Rattle.std.proofs.Math.Path.{fun_ext}
-use Rattle.seize_words.specs.declared.at.At.{At}
-use Rattle.seize_words.specs.declared.at.At.TheVariants.{Root, Used, Slot, Entry, Word}
-use Rattle.seize_words.specs.OneMemory.Mem.{Mem, value_at}
+use Rattle.seize.specs.Given.SeizeWordsDeclared.at.At.{At}
+use Rattle.seize.specs.Given.SeizeWordsDeclared.at.At.TheVariants.{Root, Used, Slot, Entry, Word}
+use Rattle.seize.specs.Given.SeizeWordsMem.{Mem, value_at}
 use Rattle.seize.specs.declared.states.TheConstants.{HEAD, BATCH, NEXT, LINK, FIRST, COUNT}
 use Rattle.seize_moves.proofs.Moves.State.Ghost.{put}
 use Rattle.seize_moves.proofs.Memory.Words.Named.{write, clear, words_of, Wrote, Made_one, Taken_one}

@@ -6,7 +6,7 @@ use Rattle.seize_moves.proofs.Moves.State.Ghost.{put, Life, IsFree, IsOwned, IsL
 use Rattle.seize_moves.proofs.Moves.State.Rule.{Carries, IsGuarded, OnWay, Inv, Moved, same_row, row_of, same_slot, slot_of, same_batch, batch_of}
 use Rattle.seize_moves.proofs.Moves.State.Sums.{put_one}
 use Rattle.seize_moves.proofs.Moves.State.Moves
-use Rattle.seize_words.proofs.General.{at_most_itself as not_longer}
+use Rattle.seize.proofs.Given.General.{at_most_itself as not_longer}
 
 -- no section holds what is not there
 not_held : (n : ℕ) (m : State) (b : ℕ) → Inv n m → m.life b ≡ IsFree → (t : ℕ) → holds t b m.log ≡ false

@@ -8,7 +8,7 @@ use Rattle.seize_moves.proofs.Waiting.Counts.{not_one, not_among}
 use Rattle.seize_moves.proofs.Moves.State.Ghost.{is_deferred, Life, IsUnlinked, IsDeferring, IsDeferred, State}
 use Rattle.seize_moves.proofs.Moves.State.Rule.{Inv, Moved, same_row, row_of, same_slot, slot_of, same_batch, batch_of}
 use Rattle.seize_moves.proofs.Moves.State.Moves
-use Rattle.seize_words.proofs.General.{at_most_itself as not_longer}
+use Rattle.seize.proofs.Given.General.{at_most_itself as not_longer}
 
 -- the block is on the list of b
 abbrev pub is_on : ℕ → Life → Bool

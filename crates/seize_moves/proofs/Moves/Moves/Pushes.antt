@@ -10,7 +10,7 @@ use Rattle.seize_moves.proofs.Moves.Moves.Tries.{put_alike, loose_put, same_box}
 use Rattle.seize_moves.proofs.Moves.State.Logs.{held_open}
 use Rattle.seize_moves.proofs.Moves.State.Grown.{one_grown, other_marked}
 use Rattle.seize_moves.proofs.Moves.State.Moves
-use Rattle.seize_words.proofs.General.{at_most_itself as not_longer}
+use Rattle.seize.proofs.Given.General.{at_most_itself as not_longer}
 
 -- the first slot to do is marked, whether it has left since or not
 pub first_marked : (todo : ℕ → List ℕ) (debt : ℕ → ℕ → Debt) (x t : ℕ) (rest : List ℕ)

@@ -9,7 +9,7 @@ use Rattle.seize_moves.proofs.Moves.State.Grown.{left_grown, none_grown}
 use Rattle.seize_moves.proofs.Moves.State.Moves.{loosened, loosened_at}
 use Rattle.seize_moves.proofs.Moves.State.Moves
 use Rattle.seize_moves.proofs.Moves.Sets.Unmoved.{inactive_list as no_list}
-use Rattle.seize_words.proofs.General.{at_most_itself as not_longer}
+use Rattle.seize.proofs.Given.General.{at_most_itself as not_longer}
 
 -- a slot that isn't active is taken; those below it were taken before
 pub registered_moves : (n i s : ℕ) (m : State)

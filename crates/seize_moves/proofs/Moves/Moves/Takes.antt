@@ -11,7 +11,7 @@ use Rattle.seize_moves.proofs.Moves.State.Sums.{total_zero}
 use Rattle.seize_moves.proofs.Moves.Moves.Tries.{same_box}
 use Rattle.seize_moves.proofs.Moves.State.Moves.{doomed}
 use Rattle.seize_moves.proofs.Moves.State.Moves
-use Rattle.seize_words.proofs.General.{at_most_itself as not_longer}
+use Rattle.seize.proofs.Given.General.{at_most_itself as not_longer}
 
 -- a closed batch at zero waits for no section
 pub unguarded : (n : ℕ) (m : State) (x t c : ℕ)

@@ -11,7 +11,7 @@ use Rattle.seize_moves.proofs.Moves.State.Sums.{total-put, total_zero, total_non
 use Rattle.seize_moves.proofs.Moves.State.Grown.{other_marked}
 use Rattle.seize_moves.proofs.Moves.State.Moves.{passed, passed_all}
 use Rattle.seize_moves.proofs.Moves.State.Moves
-use Rattle.seize_words.proofs.General.{length_and_one as last_length, at_most_itself as not_longer}
+use Rattle.seize.proofs.Given.General.{length_and_one as last_length, at_most_itself as not_longer}
 
 -- the next slot to be scanned isn't scanned
 pub unscanned : (seen : ℕ → ℕ) (debt : ℕ → ℕ → Debt) (x t : ℕ) → Scanned seen debt → seen x ≡ t → debt x t ≡ Unscanned

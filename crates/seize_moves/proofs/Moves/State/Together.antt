@@ -5,7 +5,7 @@ use Rattle.seize_moves.proofs.Moves.State.Ghost.{State, Stage, Unused, Open, Clo
 use Rattle.seize_moves.proofs.Moves.State.Rule.{Inv, IsOf, SameRow, SameBatch, SameSlot, row_of, batch_of, slot_of, same_row, same_batch, same_slot, Grows, Keeps, Moved, Pending}
 use Rattle.seize_moves.proofs.Moves.State.Grown.{grows_then}
 use Rattle.seize_moves.proofs.Moves.State.Sums.{total_none}
-use Rattle.seize_words.proofs.General.{at_most_itself as not_longer}
+use Rattle.seize.proofs.Given.General.{at_most_itself as not_longer}
 
 pub rule_start : (n : ℕ) → Inv n (start n)
 rule_start n = record {

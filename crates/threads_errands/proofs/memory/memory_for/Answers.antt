@@ -1,7 +1,7 @@
 use Rattle.std.specs.Prelude.{fold}
-use Rattle.owner_calls.proofs.Given.PointsLawful.{are_lawful}
+use Rattle.threads_steps.proofs.Given.PointsLawful.{are_lawful}
 use Rattle.threads_rule.proofs.Views.Laws.{rules_start}
-use Rattle.owner_calls.specs.Owned.Owned.{hashed_by}
+use Rattle.threads_steps.specs.Given.OwnedOwned.{hashed_by}
 use Rattle.threads_errands.proofs.memory.memory_for.Goals as goal
 
 pub open-requires-clause-starts : goal.open-requires-clause-starts

@@ -5,7 +5,7 @@ use Rattle.threads_rule.specs.Given.ActsActs.{Remove}
 use Rattle.threads_rule.specs.declared.view.View.{View}
 use Rattle.threads_rule.specs.Errands.Calling.{IsCalling, MayCall}
 use Rattle.threads_rule.specs.Errands.Looking.{Begins}
-use Rattle.seize_callers.proofs.Keeping.{kept_same}
+use Rattle.threads_steps.proofs.Given.Keeping.{kept_same}
 use Rattle.threads_errands.proofs.removing.begins.Goals as goal
 
 pub begins_to_remove-requires : goal.begins_to_remove-requires

@@ -12,5 +12,5 @@ invariant-loop g l =
     IsCalling l.fn.hasher l.machine l.seat.view × StaysThere l.initial.seat.view l.seat.view
     × ((l.seat.base ≡ l.initial.seat.base) × (l.seat.id ≡ l.initial.seat.id) × (l.seat.away ≡ l.initial.seat.away)) × IsOfThem l.initial.seat.view l.seat.view
     × ((pair : Node g.row.K.Denot g.row.V.Denot) → Since g.K.PartialEq.eq (g.S.Hashes.hash l.fn.hasher) pair l.initial.machine l.fn.handed → pair_in l.initial.seat.view.calls ≡ Some pair
-        → Since g.K.PartialEq.eq (g.S.Hashes.hash l.fn.hasher) pair l.machine l.unstored)
+    → Since g.K.PartialEq.eq (g.S.Hashes.hash l.fn.hasher) pair l.machine l.unstored)
     × (sort_of l.machine ≡ sort_of l.initial.machine)

@@ -1,7 +1,7 @@
 use Rattle.std.specs.Prelude.{Some}
 use Rattle.std.proofs.Common.{◌≡◌, sym, subst, ◌∙◌}
 use Rattle.threads_rule.specs.declared.view.View.{View}
-use Rattle.seize_callers.proofs.Keeping.{kept_same}
+use Rattle.threads_steps.proofs.Given.Keeping.{kept_same}
 use Rattle.threads_rule.specs.Views.Told.{pair_in}
 use Rattle.threads_rule.specs.Errands.Calling.{CalledSo, MayCall, wanted_of}
 use Rattle.threads_steps.specs.Storing.{HasBegun}

@@ -1,6 +1,6 @@
 use Rattle.std.proofs.Common.{◌≡◌, sym, subst, ◌∙◌}
 use Rattle.threads_rule.specs.declared.view.View.{View}
-use Rattle.seize_callers.proofs.Keeping.{kept_same}
+use Rattle.threads_steps.proofs.Given.Keeping.{kept_same}
 use Rattle.papaya_raw.specs.CallPoints.{untried}
 use Rattle.papaya_raw.specs.declared.machines.call.Calling.TheVariants as at
 use Rattle.map_straight.specs.Straight.Storing.{storing}

@@ -3,14 +3,14 @@ use Rattle.std.proofs.Common.{refl, sym, subst, ap, ◌∙◌}
 use Rattle.map_tables.specs.declared.node.Node.{Node}
 use Rattle.papaya_raw.specs.Given.ReservesDeclared.sweep.Purpose.TheVariants.{Retains}
 use Rattle.papaya_raw.specs.declared.machines.progress.Progress.{Progress}
-use Rattle.threads_rule.specs.Given.ActsActs.{Wanted}
-use Rattle.threads_rule.specs.declared.view.View.{View}
-use Rattle.threads_rule.specs.Errands.Calling.{wanted_of}
-use Rattle.threads_rule.specs.Errands.Looking.{Begins, HasProgressed}
-use Rattle.threads_rule.specs.Errands.Sweeping.{HasGoneOver}
-use Rattle.threads_rule.proofs.Errands.Beginnings.{is_begun, stays_on}
-use Rattle.threads_rule.proofs.Errands.Runs.{of_them}
-use Rattle.threads_rule.proofs.Errands.Sweeping.{is_sweeping}
+use Rattle.threads_calls.specs.Given.ActsActs.{Wanted}
+use Rattle.threads_calls.specs.Given.ViewsDeclared.view.View.{View}
+use Rattle.threads_calls.specs.Given.ErrandsCalling.{wanted_of}
+use Rattle.threads_calls.specs.Given.ErrandsLooking.{Begins, HasProgressed}
+use Rattle.threads_calls.specs.Given.ErrandsSweeping.{HasGoneOver}
+use Rattle.threads_calls.proofs.Given.ErrandsBeginnings.{is_begun, stays_on}
+use Rattle.threads_calls.proofs.Given.ErrandsRuns.{of_them}
+use Rattle.threads_calls.proofs.Given.ErrandsSweeping.{is_sweeping}
 use Rattle.threads_steps.proofs.Pausing.{them_on}
 use Rattle.threads_sweeps.specs.Heard.{IsHeard}
 use Rattle.threads_sweeps.specs.declared.hearing.Heard.{Heard}

@@ -1,7 +1,7 @@
 use Rattle.std.specs.Prelude.{Some, IsSome}
 use Rattle.std.proofs.Common.{◌≡◌, ℕ, sym, subst, ap, ◌∙◌}
 use Rattle.map_tables.specs.declared.node.Node.{Node}
-use Rattle.threads_rule.specs.Views.Looks.{shown_in}
+use Rattle.threads_calls.specs.Given.ViewsLooks.{shown_in}
 use Rattle.seize_words.proofs.General.{some_is}
 use Rattle.threads_sweeps.proofs.Closures.{called_with}
 use Rattle.threads_sweeps.proofs.walking.shows.Goals as goal

@@ -1,7 +1,7 @@
 use Rattle.std.proofs.Common.{refl, sym, subst}
 use Rattle.map_tables.specs.declared.node.Node.{Node}
 use Rattle.papaya_raw.specs.declared.machines.progress.Progress.{Progress}
-use Rattle.threads_rule.specs.Errands.Sweeping.{WalkedSo}
+use Rattle.threads_calls.specs.Given.ErrandsSweeping.{WalkedSo}
 use Rattle.threads_sweeps.specs.Closures.{ShowsSo}
 use Rattle.threads_sweeps.specs.Heard.{IsHeard}
 use Rattle.threads_sweeps.specs.declared.hearing.Heard.{Heard}

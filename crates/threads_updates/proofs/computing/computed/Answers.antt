@@ -1,8 +1,8 @@
 use Rattle.std.proofs.Common.{◌≡◌, refl, sym, subst, ap, ◌∙◌}
 use Rattle.papaya_raw.specs.declared.machines.machine.Machine.TheVariants as kinds
-use Rattle.threads_rule.specs.Errands.Calling.{MayDoAs}
-use Rattle.threads_rule.specs.Given.ActsActs.{Compute}
-use Rattle.threads_rule.specs.declared.view.View.{View}
+use Rattle.threads_calls.specs.Given.ErrandsCalling.{MayDoAs}
+use Rattle.threads_calls.specs.Given.ActsActs.{Compute}
+use Rattle.threads_calls.specs.Given.ViewsDeclared.view.View.{View}
 use Rattle.threads_updates.specs.Computing.{Once, computes}
 use Rattle.threads_updates.proofs.Asked.{first, may_compute, once_by}
 use Rattle.threads_updates.proofs.computing.computed.Goals as goal

@@ -1,7 +1,7 @@
 use Rattle.std.specs.Prelude.{ℕ}
 use Rattle.threads_steps.specs.Asking.{HasGone}
 use Rattle.threads_steps.specs.Made.{IsSameSeat}
-use Rattle.threads_rule.specs.Errands.Looking.{IsOfThem, StaysThere}
+use Rattle.threads_calls.specs.Given.ErrandsLooking.{IsOfThem, StaysThere}
 use Rattle.threads_updates.specs.Computing.{SaidLast, StandsAt, Told}
 use Rattle.threads_updates.proofs.computing.computes.Given as goal
 

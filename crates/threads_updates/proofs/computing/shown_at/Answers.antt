@@ -1,6 +1,6 @@
 use Rattle.std.specs.Prelude.{ℕ, Option, Some}
 use Rattle.std.proofs.Common.{sym, subst}
-use Rattle.threads_rule.specs.Views.Looks.{shown_in}
+use Rattle.threads_calls.specs.Given.ViewsLooks.{shown_in}
 use Rattle.threads_updates.specs.Computing.{IsAbout}
 use Rattle.threads_updates.proofs.Asked.{pair_is, shown_word}
 use Rattle.threads_updates.proofs.computing.shown_at.Goals as goal

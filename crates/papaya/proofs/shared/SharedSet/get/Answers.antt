@@ -2,7 +2,7 @@ use Rattle.std.specs.Prelude.{option_map}
 use Rattle.std.proofs.Common.{ap, subst}
 use Rattle.papaya.proofs.Elements.{lent_then}
 use Rattle.papaya.specs.OneSet.{SetLentUnder}
-use Rattle.threads_calls.specs.Given.CallersDeclared.caller.MapCaller.{MapCaller}
+use Rattle.papaya_map.specs.Given.CallersDeclared.caller.MapCaller.{MapCaller}
 use Rattle.papaya.proofs.shared.SharedSet.get.Goals as goal
 
 pub returns-clause-one_set : goal.returns-clause-one_set

@@ -1,7 +1,7 @@
 -- What a copier may begin to make it begins where its map has a table behind the root's; or a table follows the one that was aborted, and it makes none.
 use Rattle.std.specs.Prelude.{◌≡◌, ◌⊎◌, ◌<◌, ℕ, suc, Bool, true, false, cond, Some}
 use Rattle.std.proofs.Common.{refl, arith, inl, inr}
-use Rattle.run_executor.specs.Given.SeizeWordsMem.{word_at}
+use Rattle.run_finds.specs.Given.SeizeWordsMem.{word_at}
 use Rattle.papaya_raw.specs.Given.SeizeWorld.{World}
 use Rattle.papaya_raw.specs.Given.TablesChunks.{is_incremental}
 use Rattle.papaya_raw.specs.Given.TablesTablePlaces.{at_word}
@@ -23,22 +23,22 @@ use Rattle.papaya_raw.specs.Given.ReservesDeclared.sweep.Sweeping.TheVariants as
 use Rattle.papaya_raw.specs.declared.machines.call.Calling.{Calling}
 use Rattle.papaya_raw.specs.declared.machines.call.Calling.TheVariants as calling
 use Rattle.papaya_raw.specs.declared.machines.call.KeyCall.{KeyCall}
-use Rattle.run_executor.specs.Given.RuleChart.{Chart}
-use Rattle.run_executor.specs.Given.RuleInWorld.{IsMapIn}
-use Rattle.run_executor.specs.Given.RuleWords.{Blocks}
-use Rattle.run_executor.specs.Given.PointsFactsCalls.{CallingFacts, Change}
-use Rattle.run_executor.specs.Given.PointsFactsCopies.{CopierFacts, CopyingFacts}
-use Rattle.run_executor.specs.Given.PointsFactsCopiesBlocking.{CopierFactsBlocking, CopyingFactsBlocking}
-use Rattle.run_executor.specs.Given.LateFactsReserves.{CopiesWhole, IsEnding, ReservingFacts}
-use Rattle.run_executor.specs.Given.LateFactsSweeps.{CopiesTable, SweepingFacts}
-use Rattle.run_executor.specs.Given.LateLateCalls.{SupersededCalling}
-use Rattle.run_executor.specs.Given.LateLateCopies.{CopiesAborted, SupersededCopying}
-use Rattle.run_executor.specs.Given.LateLateReserves.{SupersededReserving}
-use Rattle.run_executor.proofs.Given.LateCopiers.LateWent.{aborted_behind}
-use Rattle.run_executor.specs.Given.CallersSights.{IsVisibility, Visible, seen_by}
-use Rattle.run_executor.specs.Given.CallersTogether.{Counting, ForRoom, OnKey, OverAll, Together, UnderWay, in_slot}
-use Rattle.run_executor.specs.Given.FinishesMachines.{machine_of}
-use Rattle.run_executor.specs.Given.FinishesMaps.{Standing}
+use Rattle.run_finds.specs.Given.RuleChart.{Chart}
+use Rattle.run_finds.specs.Given.RuleInWorld.{IsMapIn}
+use Rattle.run_finds.specs.Given.RuleWords.{Blocks}
+use Rattle.run_finds.specs.Given.PointsFactsCalls.{CallingFacts, Change}
+use Rattle.run_finds.specs.Given.PointsFactsCopies.{CopierFacts, CopyingFacts}
+use Rattle.run_finds.specs.Given.PointsFactsCopiesBlocking.{CopierFactsBlocking, CopyingFactsBlocking}
+use Rattle.run_finds.specs.Given.LateFactsReserves.{CopiesWhole, IsEnding, ReservingFacts}
+use Rattle.run_finds.specs.Given.LateFactsSweeps.{CopiesTable, SweepingFacts}
+use Rattle.run_finds.specs.Given.LateLateCalls.{SupersededCalling}
+use Rattle.run_finds.specs.Given.LateLateCopies.{CopiesAborted, SupersededCopying}
+use Rattle.run_finds.specs.Given.LateLateReserves.{SupersededReserving}
+use Rattle.run_finds.proofs.Given.LateCopiers.LateWent.{aborted_behind}
+use Rattle.run_finds.specs.Given.CallersSights.{IsVisibility, Visible, seen_by}
+use Rattle.run_finds.specs.Given.CallersTogether.{Counting, ForRoom, OnKey, OverAll, Together, UnderWay, in_slot}
+use Rattle.run_finds.specs.Given.FinishesMachines.{machine_of}
+use Rattle.run_finds.specs.Given.FinishesMaps.{Standing}
 use Rattle.run_finds.proofs.Grows.There.{last_has_none, unseen}
 use Rattle.run_grows.proofs.Grows.Finding.Making.Behind.{call_row, room_row, sweep_row}
 use Rattle.run_grows.proofs.Grows.Finding.Making.Calls.{CallBegins}
@@ -47,8 +47,8 @@ use Rattle.run_grows.proofs.Grows.Finding.Making.Machines.{MachineBegins}
 use Rattle.run_grows.proofs.Grows.Finding.Making.OffRoot.{CallCopier, HasCopier, RoomCopier, SweepCopier}
 use Rattle.run_grows.proofs.Grows.Finding.Making.Rooms.{RoomBegins}
 use Rattle.run_grows.proofs.Grows.Finding.Making.Sweeps.{SweepBegins}
-use Rattle.run_executor.specs.Given.ScenesHeld.{Held, IsAt}
-use Rattle.run_executor.specs.Given.ScenesScene.{Scene, slot_of}
+use Rattle.run_finds.specs.Given.ScenesHeld.{Held, IsAt}
+use Rattle.run_finds.specs.Given.ScenesScene.{Scene, slot_of}
 
 -- it is to read which table follows, and one does
 abbrev pub IsFollowed : {K V : Type 0} → World (Node K V) → Copier → Type 0

@@ -20,31 +20,31 @@ use Rattle.papaya_raw.specs.Given.ReservesDeclared.sweep.Sweeping.TheVariants as
 use Rattle.papaya_raw.specs.declared.machines.call.Calling.{Calling}
 use Rattle.papaya_raw.specs.declared.machines.call.Calling.TheVariants as calling
 use Rattle.papaya_raw.specs.declared.machines.call.KeyCall.{KeyCall}
-use Rattle.run_executor.specs.Given.RuleChart.{Chart}
-use Rattle.run_executor.specs.Given.RuleMaps.{IsTable}
-use Rattle.run_executor.specs.Given.RuleWords.{Blocks}
-use Rattle.run_executor.specs.Given.PointsFactsCalls.{CallingFacts, Change}
-use Rattle.run_executor.specs.Given.PointsFactsCopies.{CopierFacts, CopyingFacts}
-use Rattle.run_executor.specs.Given.PointsFactsCopiesBlocking.{CopierFactsBlocking, CopyingFactsBlocking}
-use Rattle.run_executor.specs.Given.PointsTold.{IsRowOfCall, IsRowOfCopier}
-use Rattle.run_executor.specs.Given.LateFactsReserves.{CopiesWhole, IsEnding, ReservingFacts}
-use Rattle.run_executor.specs.Given.LateFactsSweeps.{CopiesTable, SweepingFacts}
-use Rattle.run_executor.specs.Given.LateLateCalls.{SupersededCalling}
-use Rattle.run_executor.specs.Given.LateLateCopies.{SupersededCopying}
-use Rattle.run_executor.specs.Given.LateLateReserves.{SupersededReserving}
-use Rattle.run_executor.specs.Given.LateToldReserves.{IsRowOfReserve}
-use Rattle.run_executor.specs.Given.LateToldSweeps.{IsRowOfSweep}
-use Rattle.run_executor.specs.Given.CallersSights.{seen_by}
-use Rattle.run_executor.specs.Given.CallersTogether.{Counting, ForRoom, OnKey, OverAll, Together, UnderWay, in_slot}
-use Rattle.run_executor.specs.Given.FinishesMachines.{machine_of}
-use Rattle.run_executor.specs.Given.FinishesMaps.{Standing}
+use Rattle.run_finds.specs.Given.RuleChart.{Chart}
+use Rattle.run_finds.specs.Given.RuleMaps.{IsTable}
+use Rattle.run_finds.specs.Given.RuleWords.{Blocks}
+use Rattle.run_finds.specs.Given.PointsFactsCalls.{CallingFacts, Change}
+use Rattle.run_finds.specs.Given.PointsFactsCopies.{CopierFacts, CopyingFacts}
+use Rattle.run_finds.specs.Given.PointsFactsCopiesBlocking.{CopierFactsBlocking, CopyingFactsBlocking}
+use Rattle.run_finds.specs.Given.PointsTold.{IsRowOfCall, IsRowOfCopier}
+use Rattle.run_finds.specs.Given.LateFactsReserves.{CopiesWhole, IsEnding, ReservingFacts}
+use Rattle.run_finds.specs.Given.LateFactsSweeps.{CopiesTable, SweepingFacts}
+use Rattle.run_finds.specs.Given.LateLateCalls.{SupersededCalling}
+use Rattle.run_finds.specs.Given.LateLateCopies.{SupersededCopying}
+use Rattle.run_finds.specs.Given.LateLateReserves.{SupersededReserving}
+use Rattle.run_finds.specs.Given.LateToldReserves.{IsRowOfReserve}
+use Rattle.run_finds.specs.Given.LateToldSweeps.{IsRowOfSweep}
+use Rattle.run_finds.specs.Given.CallersSights.{seen_by}
+use Rattle.run_finds.specs.Given.CallersTogether.{Counting, ForRoom, OnKey, OverAll, Together, UnderWay, in_slot}
+use Rattle.run_finds.specs.Given.FinishesMachines.{machine_of}
+use Rattle.run_finds.specs.Given.FinishesMaps.{Standing}
 use Rattle.run_grows.proofs.Grows.Finding.Making.Calls.{CallBegins}
 use Rattle.run_grows.proofs.Grows.Finding.Making.Copiers.{CopierBegins}
 use Rattle.run_grows.proofs.Grows.Finding.Making.Machines.{MachineBegins}
 use Rattle.run_grows.proofs.Grows.Finding.Making.Rooms.{RoomBegins}
 use Rattle.run_grows.proofs.Grows.Finding.Making.Sweeps.{SweepBegins}
-use Rattle.run_executor.specs.Given.ScenesHeld.{Held, IsAt}
-use Rattle.run_executor.specs.Given.ScenesScene.{Scene, slot_of}
+use Rattle.run_finds.specs.Given.ScenesHeld.{Held, IsAt}
+use Rattle.run_finds.specs.Given.ScenesScene.{Scene, slot_of}
 
 -- within a row none begins
 module _ (Such : NewTable → Type 0) where

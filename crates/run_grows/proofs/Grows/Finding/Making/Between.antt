@@ -7,21 +7,21 @@ use Rattle.papaya_raw.specs.declared.machines.call.KeyCall.{KeyCall}
 use Rattle.papaya_raw.specs.declared.machines.machine.Machine.{Machine}
 use Rattle.run_finds.specs.Given.ResizeDeclared.new_table.NewTable.{NewTable}
 use Rattle.run_schedules.specs.Schedules.Moment.{Moment}
-use Rattle.run_executor.specs.Given.CallersOverAll.{CallOverAll}
-use Rattle.run_executor.specs.Given.CallersPairs.{Given}
-use Rattle.run_executor.specs.Given.CallersRooms.{CallForRoom}
-use Rattle.run_executor.specs.Given.CallersTogether.{Computes, Counting, ForRoom, Gets, Inserts, IsBegun, OnKey, OverAll, Removes, RemovesIf, TriesToInsert, TriesToInsertWith, UnderWay, Updates, UpdatesOrInserts}
-use Rattle.run_executor.specs.Given.FinishesMachines.{machine_of}
-use Rattle.run_executor.specs.Given.FinishesMaps.{Standing}
-use Rattle.run_executor.proofs.Given.HandsAsking.{which}
+use Rattle.run_finds.specs.Given.CallersOverAll.{CallOverAll}
+use Rattle.run_finds.specs.Given.CallersPairs.{Given}
+use Rattle.run_finds.specs.Given.CallersRooms.{CallForRoom}
+use Rattle.run_finds.specs.Given.CallersTogether.{Computes, Counting, ForRoom, Gets, Inserts, IsBegun, OnKey, OverAll, Removes, RemovesIf, TriesToInsert, TriesToInsertWith, UnderWay, Updates, UpdatesOrInserts}
+use Rattle.run_finds.specs.Given.FinishesMachines.{machine_of}
+use Rattle.run_finds.specs.Given.FinishesMaps.{Standing}
+use Rattle.run_finds.proofs.Given.HandsAsking.{which}
 use Rattle.run_grows.specs.Grows.Further.{CallMakes, IsFurther, MachineMakes, RoomMakes, RefinesFurther, SweepMakes, lengths_of}
 use Rattle.run_grows.proofs.Grows.Finding.Making.Lengths.{KeepsLengths}
 use Rattle.run_grows.proofs.Grows.Finding.Making.Machines.{asked_makes, reply_makes}
 use Rattle.run_grows.proofs.Grows.Finding.Making.Steps.{later}
-use Rattle.run_executor.specs.Given.ScenesBeginning.{Begins}
-use Rattle.run_executor.specs.Given.ScenesReplying.{scene_with}
-use Rattle.run_executor.specs.Given.ScenesScene.{Scene, slot_of}
-use Rattle.run_executor.proofs.Given.General.{same_some as one_of}
+use Rattle.run_finds.specs.Given.ScenesBeginning.{Begins}
+use Rattle.run_finds.specs.Given.ScenesReplying.{scene_with}
+use Rattle.run_finds.specs.Given.ScenesScene.{Scene, slot_of}
+use Rattle.run_finds.proofs.Given.General.{same_some as one_of}
 
 -- where calls are as they were, or under way no more
 pub further_stays : {K V : Type 0} (m v : Moment K V) (s t : Scene K V) → RefinesFurther m s → KeepsLengths m v

@@ -1,7 +1,7 @@
 -- A step of a call on one key makes a table by its copier as that was to make it.
 use Rattle.std.specs.Prelude.{ℕ, ◌==◌, if◌then◌else◌, Bool, true, false, Option, Some, None, Ok, Err}
 use Rattle.papaya_raw.specs.Given.ResizeCopier.{copier_plan}
-use Rattle.run_executor.specs.Given.SeizeWordsOp.{Out, Found, Exchanged, Made, Taken}
+use Rattle.run_finds.specs.Given.SeizeWordsOp.{Out, Found, Exchanged, Made, Taken}
 use Rattle.papaya_raw.specs.Given.SeizeDeclared.advance.Advance.{Advance}
 use Rattle.papaya_raw.specs.Given.SeizeDeclared.advance.Advance.TheVariants as progress
 use Rattle.papaya_raw.specs.Given.SeizeDeclared.rows.settle.Settled.{Settled}
@@ -49,8 +49,8 @@ use Rattle.papaya_raw.specs.declared.machines.asking.Told.TheVariants as tells
 use Rattle.papaya_raw.specs.declared.machines.call.KeyCall.{KeyCall}
 use Rattle.papaya_raw.specs.declared.machines.call.Calling.{Calling}
 use Rattle.papaya_raw.specs.declared.machines.call.Calling.TheVariants as at
-use Rattle.run_executor.proofs.Given.RuleKeys.Always.{Always, AlwaysOf, always_if, always_plan_as}
-use Rattle.run_executor.proofs.Given.PointsCalls.Asked.{asking_so, asking_of_so, passed_so}
+use Rattle.run_finds.proofs.Given.RuleKeys.Always.{Always, AlwaysOf, always_if, always_plan_as}
+use Rattle.run_finds.proofs.Given.PointsCalls.Asked.{asking_so, asking_of_so, passed_so}
 use Rattle.run_finds.proofs.Shaping.{always_plan_more}
 use Rattle.run_grows.specs.Grows.Further.{CallMakes}
 use Rattle.run_grows.proofs.Grows.Finding.Making.Copiers.{CopierBegins, CopierEnds, begun_makes, copier_makes}

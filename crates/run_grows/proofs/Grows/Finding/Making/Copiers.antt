@@ -1,8 +1,8 @@
 -- A step of a copier makes a table as it was to make it, or begins to make one behind a table that has no place.
 use Rattle.std.specs.Prelude.{ℕ, ◌+◌, ◌-◌, ◌%◌, ◌^◌, ◌==◌, nat_lt, Bool, true, false, Ok, Err, if◌then◌else◌}
-use Rattle.run_executor.specs.Given.SeizeWordsOp.{Out, Found, Exchanged}
-use Rattle.run_executor.specs.Given.SeizeWordsWord.{block_in}
-use Rattle.run_executor.specs.Given.SeizeWordsDeclared.fault.Fault.{Fault}
+use Rattle.run_finds.specs.Given.SeizeWordsOp.{Out, Found, Exchanged}
+use Rattle.run_finds.specs.Given.SeizeWordsWord.{block_in}
+use Rattle.run_finds.specs.Given.SeizeWordsDeclared.fault.Fault.{Fault}
 use Rattle.papaya_raw.specs.Given.SeizeDeclared.advance.Advance.{Advance}
 use Rattle.papaya_raw.specs.Given.SeizeDeclared.advance.Advance.TheVariants as progress
 use Rattle.papaya_raw.specs.Given.SeizeDeclared.rows.settle.Settle.{Settle}
@@ -31,7 +31,7 @@ use Rattle.run_finds.specs.Given.ResizeDeclared.copier.Copying.{Copying}
 use Rattle.run_finds.specs.Given.ResizeDeclared.copier.Copying.TheVariants as at
 use Rattle.run_finds.specs.Given.ResizeDeclared.new_table.NewTable.{NewTable}
 use Rattle.run_finds.specs.Given.ResizeDeclared.yielding.Yielding.{Yielding}
-use Rattle.run_executor.proofs.Given.RuleKeys.Always.{Always, AlwaysOf, always_if, always_plan_as}
+use Rattle.run_finds.proofs.Given.RuleKeys.Always.{Always, AlwaysOf, always_if, always_plan_as}
 use Rattle.run_finds.proofs.Shaping.{always_plan_more}
 use Rattle.run_grows.specs.Grows.Further.{CopierMakes}
 

@@ -21,7 +21,7 @@ use Rattle.papaya_raw.specs.declared.machines.call.KeyCall.{KeyCall}
 use Rattle.papaya_raw.specs.declared.machines.machine.Machine.{Machine}
 use Rattle.papaya_raw.specs.declared.machines.machine.Machine.TheVariants as kinds
 use Rattle.papaya_raw.specs.declared.machines.progress.Progress.{Progress}
-use Rattle.run_executor.proofs.Given.RuleKeys.Always.{AlwaysOf, always_plan_as}
+use Rattle.run_finds.proofs.Given.RuleKeys.Always.{AlwaysOf, always_plan_as}
 use Rattle.run_finds.proofs.Shaping.{always_plan_more}
 use Rattle.run_grows.specs.Grows.Further.{MachineMakes}
 use Rattle.run_grows.proofs.Grows.Finding.Making.Calls as calls

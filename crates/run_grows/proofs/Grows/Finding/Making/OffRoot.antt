@@ -1,10 +1,10 @@
 -- A step after which a copier makes a table writes no root: what writes it makes none.
 use Rattle.std.specs.Prelude.{◌≡◌, ℕ, ◌+◌, ◌%◌, ◌^◌, ◌==◌, Bool, true, false, Some, Ok, Err, ◌⊎◌, if◌then◌else◌}
 use Rattle.std.proofs.Common.{refl, ap, sym, subst, ◌∙◌, inl, inr}
-use Rattle.run_executor.specs.Given.SeizeWordsMem.{Gives, Mem, value_at, word_at}
-use Rattle.run_executor.specs.Given.SeizeWordsOp.{Exchanged, Found, Load, Made, Make, Out, Roomed, Stored, Taken}
-use Rattle.run_executor.specs.Given.SeizeWordsPlan.{Ends, Now, Plan, Seeing}
-use Rattle.run_executor.specs.Given.SeizeWordsWord.{block_in}
+use Rattle.run_finds.specs.Given.SeizeWordsMem.{Gives, Mem, value_at, word_at}
+use Rattle.run_finds.specs.Given.SeizeWordsOp.{Exchanged, Found, Load, Made, Make, Out, Roomed, Stored, Taken}
+use Rattle.run_finds.specs.Given.SeizeWordsPlan.{Ends, Now, Plan, Seeing}
+use Rattle.run_finds.specs.Given.SeizeWordsWord.{block_in}
 use Rattle.papaya_raw.specs.Given.SeizeDeclared.advance.Advance.{Advance as Counting}
 use Rattle.papaya_raw.specs.Given.SeizeDeclared.advance.Advance.TheVariants as progress
 use Rattle.papaya_raw.specs.Given.TablesNodes.{table_seen}
@@ -53,12 +53,12 @@ use Rattle.papaya_raw.specs.declared.machines.call.KeyCall.{KeyCall}
 use Rattle.papaya_raw.specs.declared.machines.machine.Machine.{Machine}
 use Rattle.papaya_raw.specs.declared.machines.machine.Machine.TheVariants as kinds
 use Rattle.papaya_raw.specs.declared.machines.progress.Progress.{Progress}
-use Rattle.run_executor.specs.Given.TellerTells.{StepsObserved, observed_of}
-use Rattle.run_executor.specs.Given.EffectsDeclared.changed.Changed.{Changed}
-use Rattle.run_executor.specs.Given.EffectsDeclared.changed.Changed.TheVariants as changed
-use Rattle.run_executor.specs.Given.TellsSeen.{seen_of}
-use Rattle.run_executor.proofs.Given.RuleKeys.Always.{Always, AlwaysOf, always_ends, always_steps}
-use Rattle.run_executor.proofs.Given.OthersOutcomes.{told_in}
+use Rattle.run_finds.specs.Given.TellerTells.{StepsObserved, observed_of}
+use Rattle.run_finds.specs.Given.EffectsDeclared.changed.Changed.{Changed}
+use Rattle.run_finds.specs.Given.EffectsDeclared.changed.Changed.TheVariants as changed
+use Rattle.run_finds.specs.Given.TellsSeen.{seen_of}
+use Rattle.run_finds.proofs.Given.RuleKeys.Always.{Always, AlwaysOf, always_ends, always_steps}
+use Rattle.run_finds.proofs.Given.OthersOutcomes.{told_in}
 use Rattle.run_grows.specs.Grows.Further.{CallMakes, CopierMakes, MachineMakes, RoomMakes, SweepMakes}
 use Rattle.run_grows.proofs.Grows.Finding.Making.Calls as calls
 use Rattle.run_grows.proofs.Grows.Finding.Making.Calls.{CallEnds}
@@ -69,8 +69,8 @@ use Rattle.run_grows.proofs.Grows.Finding.Making.Rooms.{RoomEnds}
 use Rattle.run_grows.proofs.Grows.Finding.Making.Sweeps as sweeps
 use Rattle.run_grows.proofs.Grows.Finding.Making.Sweeps.{SweepEnds}
 use Rattle.run_grows.proofs.Grows.Finding.Making.Unpromoted.{OffRoot}
-use Rattle.run_executor.proofs.Given.ScenesTold.{as_step}
-use Rattle.run_executor.proofs.Given.General.{equal_so as number_is}
+use Rattle.run_finds.proofs.Given.ScenesTold.{as_step}
+use Rattle.run_finds.proofs.Given.General.{equal_so as number_is}
 
 -- the copier of a machine
 abbrev pub CallCopier : Calling → Copier → Type 0

@@ -1,7 +1,7 @@
 -- A step of a reservation makes a table by its copier as that was to make it.
 use Rattle.std.specs.Prelude.{ℕ, ◌^◌, ◌==◌, nat_lt, Bool, true, false, if◌then◌else◌}
-use Rattle.run_executor.specs.Given.SeizeWordsOp.{Out, Found}
-use Rattle.run_executor.specs.Given.SeizeWordsDeclared.fault.Fault.TheVariants.{Capacity}
+use Rattle.run_finds.specs.Given.SeizeWordsOp.{Out, Found}
+use Rattle.run_finds.specs.Given.SeizeWordsDeclared.fault.Fault.TheVariants.{Capacity}
 use Rattle.papaya_raw.specs.Given.SeizeDeclared.advance.Advance.{Advance}
 use Rattle.papaya_raw.specs.Given.SeizeDeclared.advance.Advance.TheVariants as progress
 use Rattle.papaya_raw.specs.Given.TablesDeclared.node.Node.{Node}
@@ -18,7 +18,7 @@ use Rattle.papaya_raw.specs.Given.ReservesReserve.{copied, enough, grown, made, 
 use Rattle.papaya_raw.specs.Given.ReservesDeclared.reserve.Reserve.{Reserve}
 use Rattle.papaya_raw.specs.Given.ReservesDeclared.reserve.Reserving.{Reserving}
 use Rattle.papaya_raw.specs.Given.ReservesDeclared.reserve.Reserving.TheVariants as at
-use Rattle.run_executor.proofs.Given.RuleKeys.Always.{Always, AlwaysOf, always_if, always_plan_as}
+use Rattle.run_finds.proofs.Given.RuleKeys.Always.{Always, AlwaysOf, always_if, always_plan_as}
 use Rattle.run_finds.proofs.Shaping.{always_plan_more}
 use Rattle.run_grows.specs.Grows.Further.{RoomMakes}
 use Rattle.run_grows.proofs.Grows.Finding.Making.Copiers.{CopierBegins, CopierEnds, begun_makes, copier_makes}

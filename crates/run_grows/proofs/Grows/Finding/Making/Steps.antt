@@ -13,29 +13,29 @@ use Rattle.papaya_raw.specs.declared.machines.progress.Progress.{Progress}
 use Rattle.run_schedules.specs.declared.effect.Effect.{Effect}
 use Rattle.run_schedules.specs.Schedules.Effects.{with_effects}
 use Rattle.run_schedules.specs.Schedules.Moment.{Moment}
-use Rattle.run_executor.specs.Given.EffectsDeclared.changed.Changed.{Changed}
-use Rattle.run_executor.specs.Given.EffectsDeclared.changed.Changed.TheVariants as changed
-use Rattle.run_executor.specs.Given.RuleMaps.{IsTable}
-use Rattle.run_executor.proofs.Given.RuleKeys.Always.{always_steps}
-use Rattle.run_executor.specs.Given.CallersSights.{seen_by}
-use Rattle.run_executor.specs.Given.CallersTogether.{UnderWay}
-use Rattle.run_executor.specs.Given.EffectsEffects.{effects_of}
-use Rattle.run_executor.specs.Given.EffectsKnown.{Known}
-use Rattle.run_executor.specs.Given.EffectsDeclared.acting.Acting.TheVariants as acts
-use Rattle.run_executor.specs.Given.FinishesMachines.{machine_of}
-use Rattle.run_executor.specs.Given.FinishesMaps.{Standing}
-use Rattle.run_executor.proofs.Given.FollowsSteps.{WentTo, went_to}
-use Rattle.run_executor.proofs.Given.HandsAsking.{which}
-use Rattle.run_executor.specs.Given.MomentsWhole.{RefinesWhole}
+use Rattle.run_finds.specs.Given.EffectsDeclared.changed.Changed.{Changed}
+use Rattle.run_finds.specs.Given.EffectsDeclared.changed.Changed.TheVariants as changed
+use Rattle.run_finds.specs.Given.RuleMaps.{IsTable}
+use Rattle.run_finds.proofs.Given.RuleKeys.Always.{always_steps}
+use Rattle.run_finds.specs.Given.CallersSights.{seen_by}
+use Rattle.run_finds.specs.Given.CallersTogether.{UnderWay}
+use Rattle.run_finds.specs.Given.EffectsEffects.{effects_of}
+use Rattle.run_finds.specs.Given.EffectsKnown.{Known}
+use Rattle.run_finds.specs.Given.EffectsDeclared.acting.Acting.TheVariants as acts
+use Rattle.run_finds.specs.Given.FinishesMachines.{machine_of}
+use Rattle.run_finds.specs.Given.FinishesMaps.{Standing}
+use Rattle.run_finds.proofs.Given.FollowsSteps.{WentTo, went_to}
+use Rattle.run_finds.proofs.Given.HandsAsking.{which}
+use Rattle.run_finds.specs.Given.MomentsWhole.{RefinesWhole}
 use Rattle.run_grows.specs.Grows.Further.{IsFurther, MachineMakes, RefinesFurther, lengths_of}
 use Rattle.run_grows.proofs.Grows.Finding.Making.Behind.{begins_behind}
 use Rattle.run_grows.proofs.Grows.Finding.Making.Lengths.{KeepsLengths, effects_keep_lengths, table_length}
 use Rattle.run_grows.proofs.Grows.Finding.Making.Machines.{Ends, machine_makes}
 use Rattle.run_grows.proofs.Grows.Finding.Making.Such.{further_begun, further_goes, further_more, machine_more}
-use Rattle.run_executor.proofs.Given.ScenesTold.{as_step}
-use Rattle.run_executor.specs.Given.ScenesHeld.{Held, IsAt}
-use Rattle.run_executor.specs.Given.ScenesScene.{Scene, slot_of}
-use Rattle.run_executor.specs.Given.ScenesStepping.{StepLeads, scene_after}
+use Rattle.run_finds.proofs.Given.ScenesTold.{as_step}
+use Rattle.run_finds.specs.Given.ScenesHeld.{Held, IsAt}
+use Rattle.run_finds.specs.Given.ScenesScene.{Scene, slot_of}
+use Rattle.run_finds.specs.Given.ScenesStepping.{StepLeads, scene_after}
 use Rattle.run_finds.proofs.Given.SettlesCalls.{goes_as_one}
 
 -- where a map has had further tables

@@ -1,9 +1,9 @@
 -- Which table a copier makes: so it goes on, so it begins, and so it is where a map has had further tables.
 use Rattle.std.specs.Prelude.{◌≡◌, ℕ, suc, ◌*◌, ◌^◌, nat_le, max, Bool, true, false, List, Some, Result, Ok, Err, if◌then◌else◌}
 use Rattle.std.proofs.Common.{refl, ap, sym, subst, ◌∙◌}
-use Rattle.run_executor.specs.Given.SeizeWordsPlan.{Do, Now, Plan, Seeing, Sure, Then, Turn}
-use Rattle.run_executor.specs.Given.SeizeWordsDeclared.fault.Fault.{Fault}
-use Rattle.run_executor.specs.Given.SeizeWordsDeclared.fault.Fault.TheVariants.{Capacity}
+use Rattle.run_finds.specs.Given.SeizeWordsPlan.{Do, Now, Plan, Seeing, Sure, Then, Turn}
+use Rattle.run_finds.specs.Given.SeizeWordsDeclared.fault.Fault.{Fault}
+use Rattle.run_finds.specs.Given.SeizeWordsDeclared.fault.Fault.TheVariants.{Capacity}
 use Rattle.papaya_raw.specs.Given.SeizeDeclared.advance.Advance.{Advance}
 use Rattle.papaya_raw.specs.Given.TablesLengths.{next_len, next_limit, next_turn}
 use Rattle.papaya_raw.specs.Given.TablesDeclared.lengths.Reason.{Reason}
@@ -25,7 +25,7 @@ use Rattle.papaya_raw.specs.declared.machines.call.Calling.TheVariants as callin
 use Rattle.papaya_raw.specs.declared.machines.machine.Machine.{Machine}
 use Rattle.papaya_raw.specs.declared.machines.machine.Machine.TheVariants as kinds
 use Rattle.run_schedules.specs.Schedules.Growing.{Has}
-use Rattle.run_executor.proofs.Given.RuleKeys.Always.{Always, AlwaysOf}
+use Rattle.run_finds.proofs.Given.RuleKeys.Always.{Always, AlwaysOf}
 use Rattle.run_finds.specs.Shaping.{ShapedAt}
 use Rattle.run_finds.proofs.Shaping.{goes_shaped, few_is, at_least_eight}
 use Rattle.run_grows.specs.Grows.Further.{CallMakes, CopierMakes, FollowsFullTable, IsFurther, MachineMakes, RoomMakes, SweepMakes, at_turn}

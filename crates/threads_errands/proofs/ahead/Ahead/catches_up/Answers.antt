@@ -1,5 +1,5 @@
 use Rattle.std.proofs.Common.{inl}
-use Rattle.seize_callers.proofs.Keeping.{still_kept}
+use Rattle.threads_steps.proofs.Given.Keeping.{still_kept}
 use Rattle.threads_errands.proofs.Behind.{leans_still, may_catch_up}
 use Rattle.threads_errands.proofs.ahead.Ahead.catches_up.Goals as goal
 

@@ -1,6 +1,6 @@
 use Rattle.std.proofs.Common.{inl, subst, sym}
 use Rattle.papaya_raw.specs.declared.machines.answer.KeyAnswer.{KeyAnswer}
-use Rattle.seize_callers.proofs.Keeping.{still_kept}
+use Rattle.threads_steps.proofs.Given.Keeping.{still_kept}
 use Rattle.threads_errands.specs.Ahead.{HasEndedSo, IsEnding}
 use Rattle.threads_errands.proofs.Behind.{leans_still, may_end}
 use Rattle.threads_errands.proofs.ahead.Ahead.ends_as.Goals as goal

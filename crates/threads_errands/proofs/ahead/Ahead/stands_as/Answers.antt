@@ -1,6 +1,6 @@
 use Rattle.std.proofs.Common.{inl, subst}
 use Rattle.papaya_raw.specs.declared.machines.machine.Machine.{Machine}
-use Rattle.seize_callers.proofs.Keeping.{still_kept}
+use Rattle.threads_steps.proofs.Given.Keeping.{still_kept}
 use Rattle.threads_errands.specs.Ahead.{StandsAt}
 use Rattle.threads_errands.proofs.Behind.{leans_still, may_stand}
 use Rattle.threads_errands.proofs.ahead.Ahead.stands_as.Goals as goal

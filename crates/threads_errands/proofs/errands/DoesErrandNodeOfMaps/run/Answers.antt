@@ -1,7 +1,7 @@
 use Rattle.std.proofs.Common.{◌≡◌, sym, subst, ◌∙◌}
 use Rattle.threads_rule.specs.declared.view.View.{View}
 use Rattle.threads_rule.specs.Errands.Calling.{HasCalled, wanted_of}
-use Rattle.seize_callers.proofs.Keeping.{kept_same}
+use Rattle.threads_steps.proofs.Given.Keeping.{kept_same}
 use Rattle.threads_errands.proofs.errands.DoesErrandNodeOfMaps.run.Goals as goal
 
 -- a call that is to store a pair goes by straight code

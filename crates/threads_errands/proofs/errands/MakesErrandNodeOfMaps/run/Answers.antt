@@ -1,5 +1,5 @@
 use Rattle.std.proofs.Common.{rules}
-use Rattle.seize_callers.proofs.Keeping.{kept_same}
+use Rattle.threads_steps.proofs.Given.Keeping.{kept_same}
 use Rattle.threads_errands.proofs.errands.MakesErrandNodeOfMaps.run.Goals as goal
 
 -- the seat is the one that was lent

@@ -1,7 +1,7 @@
 use Rattle.std.proofs.Common.{◌≡◌, sym, subst, ◌∙◌}
 use Rattle.papaya_raw.specs.Given.ReservesDeclared.sweep.Purpose.TheVariants.{Walks}
-use Rattle.threads_rule.specs.declared.view.View.{View}
-use Rattle.threads_rule.specs.Errands.Sweeping.{HasGoneOver}
+use Rattle.threads_calls.specs.Given.ViewsDeclared.view.View.{View}
+use Rattle.threads_calls.specs.Given.ErrandsSweeping.{HasGoneOver}
 use Rattle.threads_sweeps.specs.Closures.{HasShownEach}
 use Rattle.seize_callers.proofs.Keeping.{kept_same}
 use Rattle.threads_sweeps.proofs.walking.WalksErrandNodeOfMaps.run.Goals as goal

@@ -1,7 +1,7 @@
 use Rattle.std.proofs.Common.{◌≡◌, sym, subst, ◌∙◌}
 use Rattle.seize_callers.proofs.Keeping.{kept_same}
-use Rattle.threads_rule.specs.Errands.Calling.{wanted_of}
-use Rattle.threads_rule.specs.declared.view.View.{View}
+use Rattle.threads_calls.specs.Given.ErrandsCalling.{wanted_of}
+use Rattle.threads_calls.specs.Given.ViewsDeclared.view.View.{View}
 use Rattle.threads_updates.specs.Computing.{Once}
 use Rattle.threads_updates.proofs.computing.ComputationErrandNodeOfMaps.run.Goals as goal
 

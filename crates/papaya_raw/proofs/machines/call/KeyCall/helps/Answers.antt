@@ -1,8 +1,8 @@
 -- A step of the help is the call's, with its outcome turned.
 use Rattle.std.proofs.Common.{refl, subst, sym}
-use Rattle.seize.specs.Given.SeizeWordsPlan.{May, Steps}
-use Rattle.seize.proofs.Given.SeizeWordsPlans.{may_as}
-use Rattle.seize.proofs.StepsInto.{steps_into}
+use Rattle.map_sweeps.specs.Given.SeizeWordsPlan.{May, Steps}
+use Rattle.map_sweeps.proofs.Given.SeizeWordsPlans.{may_as}
+use Rattle.map_tables.proofs.Given.SeizeStepsInto.{steps_into}
 use Rattle.map_sweeps.specs.Given.ResizeCopier.{copier_plan}
 use Rattle.papaya_raw.specs.declared.machines.call.Calling.{Calling}
 use Rattle.papaya_raw.specs.Call.{plan_at, helped}

@@ -1,6 +1,6 @@
 -- The step of the machine of each kind is the one of the call that is of this kind.
 use Rattle.std.proofs.Common.{subst, sym}
-use Rattle.seize.specs.Given.SeizeWordsPlan.{Steps}
+use Rattle.map_sweeps.specs.Given.SeizeWordsPlan.{Steps}
 use Rattle.papaya_raw.specs.declared.machines.machine.Machine.{Machine}
 use Rattle.papaya_raw.specs.declared.machines.machine.Machine.TheVariants as kinds
 use Rattle.papaya_raw.specs.Machine.{machine_plan}

@@ -1,6 +1,6 @@
 use Rattle.std.proofs.Common.{◌∙◌}
 use Rattle.seize_words.specs.OneMemory.Op.{Take, Taken}
-use Rattle.seize_callers.proofs.Keeping.{still_kept}
+use Rattle.threads_steps.proofs.Given.Keeping.{still_kept}
 use Rattle.threads_errands.proofs.Standing.{has_gone, may_make, next_of}
 use Rattle.threads_errands.proofs.ahead.memory.AheadMemoryNode.take.Goals as goal
 
