@@ -18,7 +18,7 @@ use seize_blocks::{Blocks, Seat};
 use seize_words::Fault;
 use std::alloc::Global;
 use std::hash::{BuildHasher, Hash, RandomState};
-use threads_calls::{Fixed, OfMaps, SessionBase as Base, memory_for};
+use papaya_sessions::{Fixed, OfMaps, SessionBase as Base, memory_for};
 
 /// For how many blocks its memory has numbers at first, beside those of its capacity.
 const FIRST: u64 = 64;

@@ -8,12 +8,11 @@ ghost use Rattle.threads_calls.specs.Given.CallersStanding.{known_by};
 
 use crate::shared::SharedMap;
 use map_tables::{Hashes, Node, Setting};
-use papaya_sessions::Session;
+use papaya_sessions::{OfMaps, Session};
 use seize::Collector;
 use seize_blocks::{Home, Seat};
 use seize_words::Fault;
 use std::hash::{Hash, RandomState};
-use threads_calls::OfMaps;
 
 /// A hash map that threads share. It owns its memory, its collector and its hasher, and grows in chunks of places.
 ///

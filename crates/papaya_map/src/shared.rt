@@ -9,11 +9,10 @@ mod storing;
 mod updating;
 
 use map_tables::{Hashes, Node, Setting};
-use papaya_sessions::{Pass, Session};
+use papaya_sessions::{OfMaps, Pass, Session, SessionBase as Base, newcomer};
 use seize_blocks::{Blocks, Seat};
 use seize_words::Fault;
 use std::hash::{Hash, RandomState};
-use threads_calls::{OfMaps, SessionBase as Base, newcomer};
 
 /// A map, lent: it may go to other threads, and several may have it by reference.
 #[derive(Drop)]

@@ -7,3 +7,5 @@ pub mod deeds;
 pub mod steps;
 #[cfg(test)]
 mod wrong;
+
+pub use papaya_steps::running::{run, run_refusing};

@@ -10,7 +10,7 @@ use crate::executor::Executor;
 use crate::worker::{Work, Worker};
 use papaya_raw::Setting;
 use papaya_raw::machines::{Machine, NewMap};
-use run_shows::callers::SLOTS;
+use run_places::callers::SLOTS;
 use std::alloc::AllocError;
 
 /// So many callers there can be. For each further one there is no memory.

@@ -14,7 +14,7 @@ use crate::telling::step_telling;
 use crate::worker::{Work, Worker};
 use papaya_raw::machines::EndMap;
 use papaya_raw::{Node, Setting};
-use run_shows::callers::SLOTS;
+use run_places::callers::SLOTS;
 use seize::rows::Settled;
 use std::alloc::AllocError;
 

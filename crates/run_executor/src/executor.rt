@@ -5,9 +5,9 @@ ghost use Rattle.run_shows.specs.Scenes.Scene.{at_first};
 
 use crate::worker::Worker;
 use papaya_raw::{Node, Setting};
-use run_effects::teller::Teller;
-use run_shows::callers::SLOTS;
-use run_shows::row::SlotUse;
+use run_places::Teller;
+use run_places::callers::SLOTS;
+use run_places::row::SlotUse;
 use seize_words::Plain;
 use std::alloc::{AllocError, Global};
 

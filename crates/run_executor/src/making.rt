@@ -10,7 +10,7 @@ use crate::telling::step_telling;
 use crate::worker::{Work, Worker};
 use papaya_raw::Setting;
 use papaya_raw::machines::NewMap;
-use run_shows::callers::SLOTS;
+use run_places::callers::SLOTS;
 use seize::Advance;
 
 /// The making of a map after a step of it, unless it has ended.

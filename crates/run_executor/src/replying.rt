@@ -8,7 +8,7 @@ use crate::executor::Executor;
 use crate::taking::{TakenCall, take_call};
 use crate::worker::{Work, Worker};
 use papaya_raw::machines::{Machine, MachineReply};
-use run_shows::callers::SLOTS;
+use run_places::callers::SLOTS;
 
 impl<K: Drop, V: Drop, S> Executor<K, V, S> {
     /// Puts a call back to its place.

@@ -5,8 +5,8 @@ ghost use Rattle.run_executor.specs.Named.Telling.{answer_of, answer_on, aborted
 
 use crate::kind::CallKind;
 use papaya_raw::machines::{Answer as Said, KeyAnswer};
-use run_effects::notes::Notes;
-use run_effects::role::Role;
+use run_places::Notes;
+use run_places::Role;
 use run_schedules::call::Response;
 use seize_words::Link;
 

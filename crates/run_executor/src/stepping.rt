@@ -16,8 +16,8 @@ use crate::taking::{TakenCall, take_call};
 use crate::worker::{Work, Worker};
 use papaya_raw::machines::{Machine, Progress};
 use papaya_raw::{Hashes, Node};
-use run_effects::teller::Teller;
-use run_shows::callers::SLOTS;
+use run_places::Teller;
+use run_places::callers::SLOTS;
 use seize_words::Plain;
 use std::hash::Hash;
 

@@ -10,7 +10,7 @@ use crate::executor::Executor;
 use crate::taking::{TakenCall, put_at, take_call};
 use crate::worker::{Work, Worker};
 use papaya_raw::machines::{Machine, Sweeping};
-use run_shows::callers::SLOTS;
+use run_places::callers::SLOTS;
 
 /// Whether it is a walk that is ready.
 fn is_ready<K, V>(machine: &Machine<K, V>) -> bool

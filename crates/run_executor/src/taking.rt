@@ -9,7 +9,7 @@ ghost use Rattle.run_executor.specs.Executing.IsThere.{worker_of, worker_with};
 
 use crate::worker::{Work, Worker};
 use papaya_raw::machines::{EndMap, Machine, NewMap};
-use run_shows::row::SlotRow;
+use run_places::row::SlotRow;
 use std::mem;
 
 /// A call that was taken out of its place.

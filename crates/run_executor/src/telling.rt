@@ -7,7 +7,7 @@ ghost use Rattle.run_effects.specs.declared.changed.Changed.TheVariants.{Nothing
 
 use crate::executor::Executor;
 use papaya_raw::Node;
-use run_effects::teller::Teller;
+use run_places::Teller;
 use seize::StepMachine;
 use seize_words::Plain;
 

@@ -5,7 +5,7 @@ ghost use Rattle.run_executor.specs.Executing.IsThere.{use_at};
 
 use crate::executor::Executor;
 use crate::on_slots::use_as;
-use run_shows::row::SlotUse;
+use run_places::row::SlotUse;
 
 /// Notes of each slot that it is vacant.
 fn vacate(slots: &mut Vec<SlotUse>)

@@ -1,6 +1,6 @@
 //! What a caller has under way.
 use papaya_raw::machines::{EndMap, Machine, NewMap};
-use run_shows::row::SlotRow;
+use run_places::row::SlotRow;
 
 /// What a caller has under way.
 #[derive(Drop)]

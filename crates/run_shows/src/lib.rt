@@ -4,3 +4,7 @@
 pub mod callers;
 pub mod law;
 pub mod row;
+
+pub use run_effects::notes::Notes;
+pub use run_effects::role::Role;
+pub use run_effects::teller::Teller;

@@ -1,7 +1,7 @@
 //! Events that are refused memory at one growth after another, and happen again.
 use crate::rows::{MODES, MapRow, MapTry, ROWS, Then};
 use papaya_raw::ResizeMode;
-use papaya_steps::running::run_refusing;
+use papaya_steps_tests::run_refusing;
 use papaya_steps_tests::steps::Made::{Get, Insert};
 use papaya_steps_tests::steps::Step::{self, Enter, Go, Make, Register, Says};
 use papaya_steps_tests::steps::{ABSENT, DONE, GOES, NO_MEMORY, SLOT, Shown, found, shown};

@@ -4,7 +4,7 @@ use crate::beside::{
     UPDATES, UPDATES_THERE,
 };
 use papaya_raw::ResizeMode::{Blocking, Incremental};
-use papaya_steps::running::run;
+use papaya_steps_tests::run;
 use papaya_steps_tests::deeds::EffectRow::{
     self, Back, Block, Bucket, Copied, Counted, Deferred, Ended, GivenUp, Linked, Pair, Promoted,
     Removed, Replaced, Retired, Stored, TableBack, TableMade, TableRetired, Taken,

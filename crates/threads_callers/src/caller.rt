@@ -16,7 +16,7 @@ use crate::showing::newcomer;
 use map_tables::{Hashes, Node};
 pub use pass::MapPassSeat;
 use seize_blocks::{Blocks, Seat};
-use threads_rule::OfMaps;
+use threads_errands::OfMaps;
 
 /// One of those who share the memory of maps: a seat of it, which is on no errand, with the memory.
 pub struct MapCaller<'a, K: Eq, V, S: Hashes<K>> {

@@ -6,4 +6,4 @@ mod showing;
 
 pub use caller::{MapCaller, MapPassSeat};
 pub use showing::newcomer;
-pub use threads_errands::{Ran, memory_for};
+pub use threads_errands::{Halt, OfMaps, Ran, Within, memory_for};

@@ -6,7 +6,7 @@ ghost use Rattle.seize_callers.specs.Kept.{is_home};
 use map_tables::{Hashes, Node};
 use seize_blocks::{Blocks, Lesson, Seat};
 use seize_views::Fixed;
-use threads_rule::{OfMaps, View};
+use threads_errands::{OfMaps, View};
 
 /// A map is handed on.
 pub struct Showing;

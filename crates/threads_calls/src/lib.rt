@@ -5,5 +5,4 @@ mod session;
 
 pub use seize_views::Fixed;
 pub use session::{Attempt, Found, SessionBase};
-pub use threads_callers::{MapPassSeat, memory_for, newcomer};
-pub use threads_rule::OfMaps;
+pub use threads_callers::{Halt, MapPassSeat, OfMaps, Within, memory_for, newcomer};

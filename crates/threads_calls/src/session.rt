@@ -30,7 +30,7 @@ use seize_words::{Fault, Link, Refused};
 use std::hash::Hash;
 use std::sync::Wait;
 use threads_callers::{MapCaller, Ran};
-use threads_rule::OfMaps;
+use threads_callers::OfMaps;
 
 /// A map, as one of those knows it who share it: with a seat of its own, which may be sent to a thread. It has nothing under way between its calls.
 pub struct SessionBase<'a, K: Eq, V, S: Hashes<K>> {

@@ -23,7 +23,7 @@ use seize_blocks::{Blocks, Errand, Seat};
 use seize_words::Fault;
 use std::hash::Hash;
 use std::sync::Wait;
-use threads_rule::OfMaps;
+use threads_steps::OfMaps;
 use threads_steps::{Ran, Within, goes_on, sees};
 
 /// Makes a map of no table.

@@ -13,4 +13,4 @@ mod turns;
 
 pub use errands::{Counts, Does, Finds, Makes, MakesPair, Removes, RemovesIf};
 pub use memory::memory_for;
-pub use threads_steps::Ran;
+pub use threads_steps::{Halt, OfMaps, Ran, View, Within, leanings_begin};

@@ -6,7 +6,7 @@ use seize_blocks::Home;
 use seize_views::Fixed;
 use std::alloc::{AllocError, Global};
 use std::hash::{BuildHasher, Hash};
-use threads_rule::OfMaps;
+use threads_steps::OfMaps;
 
 /// Makes a memory for maps of such keys, values and hashers: with so many roots, one for each map that is there at a time, and numbers for so many blocks at
 /// first.

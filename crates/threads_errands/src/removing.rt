@@ -19,7 +19,7 @@ use seize_blocks::{Blocks, Seat};
 use seize_words::Fault;
 use std::hash::Hash;
 use std::sync::Wait;
-use threads_rule::OfMaps;
+use threads_steps::OfMaps;
 use threads_steps::{Ran, Within};
 
 /// Begins a call that is to remove the pair of this key.

@@ -14,7 +14,7 @@ use papaya_raw::machines::{KeyCall, Machine, Progress};
 use seize_blocks::{Blocks, Seat};
 use std::hash::Hash;
 use std::sync::Wait;
-use threads_rule::OfMaps;
+use threads_steps::OfMaps;
 use threads_steps::{Ran, Within, ended};
 
 /// The seat takes the turns up to where the code stands.

@@ -22,7 +22,7 @@ use papaya_raw::machines::{Answer, Machine, Progress, There};
 use seize_blocks::{Blocks, Seat};
 use std::hash::Hash;
 use std::sync::Wait;
-use threads_rule::OfMaps;
+use threads_steps::OfMaps;
 use threads_steps::{Ran, Within};
 
 /// Whether a call is to store a pair that it has from the beginning.

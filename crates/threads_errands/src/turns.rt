@@ -3,7 +3,7 @@ use map_tables::Hashes;
 use seize_blocks::Turn;
 use seize_views::Fixed;
 use std::marker::{Brand, PhantomData};
-use threads_rule::View;
+use threads_steps::View;
 
 /// A seat takes the turns up to the operation that its code makes next.
 pub struct CatchingUp;

@@ -6,4 +6,5 @@ mod turns;
 mod within;
 
 pub use finding::{goes_on, sees};
+pub use threads_rule::{OfMaps, View, leanings_begin};
 pub use within::{Halt, Ran, Within, ended};

@@ -23,7 +23,7 @@ use seize_words::{Fault, Link, Look};
 use std::hash::Hash;
 use std::sync::Wait;
 use threads_calls::{OfMaps, SessionBase};
-use threads_steps::Within;
+use threads_calls::Within;
 
 /// A retaining of the pairs of a map of which a test says yes.
 pub struct Retains<'r, R, K, V, S, F> {

@@ -23,7 +23,7 @@ use seize_words::{Fault, Link, Look};
 use std::hash::Hash;
 use std::sync::Wait;
 use threads_calls::{OfMaps, SessionBase};
-use threads_steps::Within;
+use threads_calls::Within;
 
 /// A walk over the pairs of a map.
 pub struct Walks<'w, R, K, V, S, F> {

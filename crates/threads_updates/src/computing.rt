@@ -21,7 +21,7 @@ use seize_words::{Fault, Link, Look, Operation};
 use std::hash::Hash;
 use std::sync::Wait;
 use threads_calls::{OfMaps, SessionBase};
-use threads_steps::{Halt, Within};
+use threads_calls::{Halt, Within};
 
 /// What a call that computes has come to.
 #[derive(Drop)]

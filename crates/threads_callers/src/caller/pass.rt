@@ -20,7 +20,7 @@ use seize_words::Link;
 use std::hash::Hash;
 use std::sync::Wait;
 use threads_errands::Finds;
-use threads_rule::{OfMaps, View, leanings_begin};
+use threads_errands::{OfMaps, View, leanings_begin};
 
 /// A seat begins to lean on one that is within its section.
 pub struct Resorting;

@@ -5,7 +5,7 @@ ghost use Rattle.seize_callers.specs.Kept.{is_home};
 use crate::caller::MapCaller;
 use map_tables::{Hashes, Node};
 use seize_blocks::{Blocks, Seat};
-use threads_rule::OfMaps;
+use threads_errands::OfMaps;
 
 impl<'a, K: Eq, V, S: Hashes<K>> MapCaller<'a, K, V, S> {
     /// Returns the one of this seat.

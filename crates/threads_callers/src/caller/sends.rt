@@ -7,7 +7,7 @@ ghost use Rattle.threads_rule.specs.declared.view.View.{View as AView};
 use crate::caller::MapCaller;
 use map_tables::{Hashes, Node};
 use seize_blocks::Errand;
-use threads_rule::OfMaps;
+use threads_errands::OfMaps;
 
 impl<'a, K: Eq, V, S: Hashes<K>> MapCaller<'a, K, V, S> {
     /// Tells from where on it looks for the numbers of blocks.

@@ -9,7 +9,7 @@ use crate::session::SessionBase;
 use map_tables::{Hashes, Node, Setting};
 use seize_blocks::{Blocks, Seat};
 use threads_callers::MapCaller;
-use threads_rule::OfMaps;
+use threads_callers::OfMaps;
 
 impl<'a, K: Eq, V, S: Hashes<K>> SessionBase<'a, K, V, S> {
     /// Returns the one of this seat, which knows a map of this setting and this hasher.

@@ -9,7 +9,7 @@ ghost use Rattle.seize_views.specs.declared.view.SlotView.TheVariants.{Inside};
 use crate::session::{SessionBase, setting_in};
 use map_tables::{Hashes, Node, Setting};
 use seize_blocks::Errand;
-use threads_rule::OfMaps;
+use threads_callers::OfMaps;
 
 impl<'a, K: Eq, V, S: Hashes<K>> SessionBase<'a, K, V, S> {
     /// Returns the hasher of its map.
