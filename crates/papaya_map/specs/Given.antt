@@ -1,6 +1,8 @@
 -- The words of the crates below, given on to the crates above: these list this crate in place of those.
 pub use Rattle.papaya_sessions.specs.Extended as SessionsExtended
 pub use Rattle.papaya_sessions.specs.Given.ActsActs
+pub use Rattle.papaya_sessions.specs.Given.CallersDeclared
+pub use Rattle.papaya_sessions.specs.Given.CallsAnswers
 pub use Rattle.papaya_sessions.specs.Given.Closures
 pub use Rattle.papaya_sessions.specs.Given.Swept
 pub use Rattle.papaya_sessions.specs.Given.ViewsDeclared
@@ -9,5 +11,3 @@ pub use Rattle.papaya_sessions.specs.Kept as SessionsKept
 pub use Rattle.papaya_sessions.specs.OneMap as SessionsOneMap
 pub use Rattle.papaya_sessions.specs.Sessions as SessionsSessions
 pub use Rattle.papaya_sessions.specs.Under as SessionsUnder
-pub use Rattle.threads_calls.specs.Answers as CallsAnswers
-pub use Rattle.threads_calls.specs.Given.CallersDeclared

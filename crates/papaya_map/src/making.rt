@@ -1,24 +1,24 @@
 //! How a map is made that threads share.
 ghost use Rattle.std.specs.Prelude.{◌≡◌, ◌<◌, ◌≤◌, ◌^◌, Some, None, Ok, true, IfOk, IfErr, OnOk, MatchResult};
-ghost use Rattle.threads_calls.specs.Given.SeizeCallersKept.{is_home};
-ghost use Rattle.threads_calls.specs.Given.SeizeViewsDeclared.view.SlotView.TheVariants.{Rests};
+ghost use Rattle.papaya_sessions.specs.Given.SeizeCallersKept.{is_home};
+ghost use Rattle.papaya_sessions.specs.Given.SeizeViewsDeclared.view.SlotView.TheVariants.{Rests};
 ghost use Rattle.map_tables.specs.Chunks.{is_incremental};
 ghost use Rattle.map_tables.specs.declared.resize_mode.ResizeMode.TheVariants.{Incremental};
 ghost use Rattle.papaya_sessions.specs.Given.ViewsDeclared.view.SeatWork.TheVariants.{Nothing as NoWork};
 ghost use Rattle.papaya_map.specs.Builders.{RefusedBy, first_fault, ids_after};
-ghost use Rattle.threads_calls.specs.Given.CallersStanding.{known_by};
+ghost use Rattle.papaya_sessions.specs.Given.CallersStanding.{known_by};
 ghost use Rattle.seize.specs.Ids.{given, following};
 ghost use Rattle.seize_words.specs.declared.fault.Fault.TheVariants.{Memory};
 
 use crate::builder::HashMapBuilder;
 use crate::map::HashMap;
 use map_tables::{Hashes, Node, Setting};
+use papaya_sessions::{Fixed, OfMaps, SessionBase as Base, memory_for};
 use seize::{Collector, IdSource};
 use seize_blocks::{Blocks, Seat};
 use seize_words::Fault;
 use std::alloc::Global;
 use std::hash::{BuildHasher, Hash, RandomState};
-use papaya_sessions::{Fixed, OfMaps, SessionBase as Base, memory_for};
 
 /// For how many blocks its memory has numbers at first, beside those of its capacity.
 const FIRST: u64 = 64;

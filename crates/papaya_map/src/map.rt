@@ -1,10 +1,10 @@
 //! A hash map that threads share, as one has it who owns it.
 ghost use Rattle.std.specs.Prelude.{◌≡◌, ◌^◌, [], Some, None, true, IfOk, nat_lt};
-ghost use Rattle.threads_calls.specs.Given.SeizeCallersKept.{is_home};
-ghost use Rattle.threads_calls.specs.Given.SeizeViewsDeclared.view.SlotView.TheVariants.{Rests};
+ghost use Rattle.papaya_sessions.specs.Given.SeizeCallersKept.{is_home};
+ghost use Rattle.papaya_sessions.specs.Given.SeizeViewsDeclared.view.SlotView.TheVariants.{Rests};
 ghost use Rattle.map_tables.specs.Chunks.{is_incremental};
 ghost use Rattle.papaya_sessions.specs.Given.ViewsDeclared.view.SeatWork.TheVariants.{Nothing as NoWork};
-ghost use Rattle.threads_calls.specs.Given.CallersStanding.{known_by};
+ghost use Rattle.papaya_sessions.specs.Given.CallersStanding.{known_by};
 
 use crate::shared::SharedMap;
 use map_tables::{Hashes, Node, Setting};

@@ -1,7 +1,7 @@
 //! A hash map, lent to threads, each of which may begin sessions on it.
 ghost use Rattle.std.specs.Prelude.{◌≡◌, ◌^◌, [], Some, true, IfOk, nat_lt};
 ghost use Rattle.map_tables.specs.Chunks.{is_incremental};
-ghost use Rattle.threads_calls.specs.Given.CallersStanding.{known_by};
+ghost use Rattle.papaya_sessions.specs.Given.CallersStanding.{known_by};
 
 mod asking;
 mod looking;

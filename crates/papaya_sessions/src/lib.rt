@@ -7,4 +7,6 @@ mod session;
 pub use pass::{HashMapRef, Pass};
 pub use seize_words::Operation;
 pub use session::Session;
-pub use threads_updates::{Attempt, ComputedPair, Fixed, OfMaps, SessionBase, memory_for, newcomer};
+pub use threads_updates::{
+    Attempt, ComputedPair, Fixed, OfMaps, SessionBase, memory_for, newcomer,
+};

@@ -1,17 +1,4 @@
 -- What is so by the crates below, given on to the crates above: these list this crate in place of those.
-pub use Rattle.run_effects.proofs.Given.RuleHistory
-pub use Rattle.run_effects.proofs.Given.RuleKeys
-pub use Rattle.run_effects.proofs.Given.RuleLaws
-pub use Rattle.run_effects.proofs.Given.RuleWords
-pub use Rattle.run_effects.proofs.Given.RuleWorld
-pub use Rattle.run_effects.proofs.Given.SeizeMemoryWords
-pub use Rattle.run_effects.proofs.Given.SeizeMovesState
-pub use Rattle.run_effects.proofs.Given.SeizeRuleRows
-pub use Rattle.run_effects.proofs.Given.SeizeRuleWords
-pub use Rattle.run_effects.proofs.Given.SeizeWaitingFlushes
-pub use Rattle.run_effects.proofs.Given.SeizeWaitingLaws
-pub use Rattle.run_effects.proofs.Given.SeizeWaitingTidy
-pub use Rattle.run_effects.proofs.Tells.Promised as TellsPromised
 pub use Rattle.run_places.proofs.Changes.Begun as ChangesBegun
 pub use Rattle.run_places.proofs.Changes.Changes as ChangesChanges
 pub use Rattle.run_places.proofs.Changes.Found as ChangesFound
@@ -21,6 +8,78 @@ pub use Rattle.run_places.proofs.Changes.Logs as ChangesLogs
 pub use Rattle.run_places.proofs.Changes.Now as ChangesNow
 pub use Rattle.run_places.proofs.Changes.Steps as ChangesSteps
 pub use Rattle.run_places.proofs.Changes.Within as ChangesWithin
+pub use Rattle.run_places.proofs.Given.CallersAsked
+pub use Rattle.run_places.proofs.Given.CallersSights
+pub use Rattle.run_places.proofs.Given.CallersTogether
+pub use Rattle.run_places.proofs.Given.FinishesAmong
+pub use Rattle.run_places.proofs.Given.FinishesEnds
+pub use Rattle.run_places.proofs.Given.FollowsAlike
+pub use Rattle.run_places.proofs.Given.FollowsCalled
+pub use Rattle.run_places.proofs.Given.FollowsCalling
+pub use Rattle.run_places.proofs.Given.FollowsCalls
+pub use Rattle.run_places.proofs.Given.FollowsContents
+pub use Rattle.run_places.proofs.Given.FollowsFinds
+pub use Rattle.run_places.proofs.Given.FollowsHanded
+pub use Rattle.run_places.proofs.Given.FollowsLinked
+pub use Rattle.run_places.proofs.Given.FollowsOfEach
+pub use Rattle.run_places.proofs.Given.FollowsOnward
+pub use Rattle.run_places.proofs.Given.FollowsOperations
+pub use Rattle.run_places.proofs.Given.FollowsQuiet
+pub use Rattle.run_places.proofs.Given.FollowsRowSteps
+pub use Rattle.run_places.proofs.Given.FollowsRows
+pub use Rattle.run_places.proofs.Given.FollowsSteps
+pub use Rattle.run_places.proofs.Given.FollowsStored
+pub use Rattle.run_places.proofs.Given.FollowsTold
+pub use Rattle.run_places.proofs.Given.FollowsWrites
+pub use Rattle.run_places.proofs.Given.LateCopiers
+pub use Rattle.run_places.proofs.Given.LateKindsKept
+pub use Rattle.run_places.proofs.Given.LateSwept
+pub use Rattle.run_places.proofs.Given.OthersEndBegins
+pub use Rattle.run_places.proofs.Given.OthersLeads
+pub use Rattle.run_places.proofs.Given.OthersMakes
+pub use Rattle.run_places.proofs.Given.OthersMakingGoes
+pub use Rattle.run_places.proofs.Given.OthersMakingPlans
+pub use Rattle.run_places.proofs.Given.OthersOutcomes
+pub use Rattle.run_places.proofs.Given.OthersOutside
+pub use Rattle.run_places.proofs.Given.OthersRowGives
+pub use Rattle.run_places.proofs.Given.OthersRowPlans
+pub use Rattle.run_places.proofs.Given.OthersRows
+pub use Rattle.run_places.proofs.Given.OthersStays
+pub use Rattle.run_places.proofs.Given.OthersWalks
+pub use Rattle.run_places.proofs.Given.PointsCalls
+pub use Rattle.run_places.proofs.Given.PointsMovedLasts
+pub use Rattle.run_places.proofs.Given.RuleHistory
+pub use Rattle.run_places.proofs.Given.RuleKeys
+pub use Rattle.run_places.proofs.Given.RuleLaws
+pub use Rattle.run_places.proofs.Given.RuleMoves
+pub use Rattle.run_places.proofs.Given.RuleWords
+pub use Rattle.run_places.proofs.Given.RuleWorld
+pub use Rattle.run_places.proofs.Given.ScenesGoes
+pub use Rattle.run_places.proofs.Given.ScenesLeads
+pub use Rattle.run_places.proofs.Given.ScenesMay
+pub use Rattle.run_places.proofs.Given.ScenesNoCall
+pub use Rattle.run_places.proofs.Given.ScenesRows
+pub use Rattle.run_places.proofs.Given.ScenesTold
+pub use Rattle.run_places.proofs.Given.SeizeActsWaits
+pub use Rattle.run_places.proofs.Given.SeizeAloneHistories
+pub use Rattle.run_places.proofs.Given.SeizeAloneSpared
+pub use Rattle.run_places.proofs.Given.SeizeAloneWhole
+pub use Rattle.run_places.proofs.Given.SeizeEndsBatches
+pub use Rattle.run_places.proofs.Given.SeizeMemoryWords
+pub use Rattle.run_places.proofs.Given.SeizeMovesState
+pub use Rattle.run_places.proofs.Given.SeizeQuietSlots
+pub use Rattle.run_places.proofs.Given.SeizeReclaimsAllReclaimed
+pub use Rattle.run_places.proofs.Given.SeizeRulePoints
+pub use Rattle.run_places.proofs.Given.SeizeRuleRows
+pub use Rattle.run_places.proofs.Given.SeizeRuleWords
+pub use Rattle.run_places.proofs.Given.SeizeRuleWorld
+pub use Rattle.run_places.proofs.Given.SeizeSetsReclaims
+pub use Rattle.run_places.proofs.Given.SeizeSetsSlots
+pub use Rattle.run_places.proofs.Given.SeizeSetsTurns
+pub use Rattle.run_places.proofs.Given.SeizeWaitingFlushes
+pub use Rattle.run_places.proofs.Given.SeizeWaitingLaws
+pub use Rattle.run_places.proofs.Given.SeizeWaitingTidy
+pub use Rattle.run_places.proofs.Given.TellsPromised
 pub use Rattle.run_places.proofs.Hands.Asking as HandsAsking
 pub use Rattle.run_places.proofs.Hands.Calling as HandsCalling
 pub use Rattle.run_places.proofs.Hands.Firsts as HandsFirsts
@@ -58,65 +117,6 @@ pub use Rattle.run_places.proofs.Spots.Steps as SpotsSteps
 pub use Rattle.run_places.proofs.Spots.Stills as SpotsStills
 pub use Rattle.run_places.proofs.Spots.Taken as SpotsTaken
 pub use Rattle.run_places.proofs.Spots.Unreclaimed as SpotsUnreclaimed
-pub use Rattle.run_shows.proofs.Follows.Alike as FollowsAlike
-pub use Rattle.run_shows.proofs.Follows.Called as FollowsCalled
-pub use Rattle.run_shows.proofs.Follows.Calling as FollowsCalling
-pub use Rattle.run_shows.proofs.Follows.Calls as FollowsCalls
-pub use Rattle.run_shows.proofs.Follows.Contents as FollowsContents
-pub use Rattle.run_shows.proofs.Follows.Finds as FollowsFinds
-pub use Rattle.run_shows.proofs.Follows.Handed as FollowsHanded
-pub use Rattle.run_shows.proofs.Follows.Linked as FollowsLinked
-pub use Rattle.run_shows.proofs.Follows.OfEach as FollowsOfEach
-pub use Rattle.run_shows.proofs.Follows.Onward as FollowsOnward
-pub use Rattle.run_shows.proofs.Follows.Operations as FollowsOperations
-pub use Rattle.run_shows.proofs.Follows.Quiet as FollowsQuiet
-pub use Rattle.run_shows.proofs.Follows.RowSteps as FollowsRowSteps
-pub use Rattle.run_shows.proofs.Follows.Rows as FollowsRows
-pub use Rattle.run_shows.proofs.Follows.Steps as FollowsSteps
-pub use Rattle.run_shows.proofs.Follows.Stored as FollowsStored
-pub use Rattle.run_shows.proofs.Follows.Told as FollowsTold
-pub use Rattle.run_shows.proofs.Follows.Writes as FollowsWrites
-pub use Rattle.run_shows.proofs.Given.CallersAsked
-pub use Rattle.run_shows.proofs.Given.CallersSights
-pub use Rattle.run_shows.proofs.Given.CallersTogether
-pub use Rattle.run_shows.proofs.Given.FinishesAmong
-pub use Rattle.run_shows.proofs.Given.FinishesEnds
-pub use Rattle.run_shows.proofs.Given.LateCopiers
-pub use Rattle.run_shows.proofs.Given.LateKindsKept
-pub use Rattle.run_shows.proofs.Given.LateSwept
-pub use Rattle.run_shows.proofs.Given.PointsCalls
-pub use Rattle.run_shows.proofs.Given.PointsMovedLasts
-pub use Rattle.run_shows.proofs.Given.RuleMoves
-pub use Rattle.run_shows.proofs.Given.SeizeActsWaits
-pub use Rattle.run_shows.proofs.Given.SeizeAloneHistories
-pub use Rattle.run_shows.proofs.Given.SeizeAloneSpared
-pub use Rattle.run_shows.proofs.Given.SeizeAloneWhole
-pub use Rattle.run_shows.proofs.Given.SeizeEndsBatches
-pub use Rattle.run_shows.proofs.Given.SeizeQuietSlots
-pub use Rattle.run_shows.proofs.Given.SeizeReclaimsAllReclaimed
-pub use Rattle.run_shows.proofs.Given.SeizeRulePoints
-pub use Rattle.run_shows.proofs.Given.SeizeRuleWorld
-pub use Rattle.run_shows.proofs.Given.SeizeSetsReclaims
-pub use Rattle.run_shows.proofs.Given.SeizeSetsSlots
-pub use Rattle.run_shows.proofs.Given.SeizeSetsTurns
-pub use Rattle.run_shows.proofs.Others.EndBegins as OthersEndBegins
-pub use Rattle.run_shows.proofs.Others.Leads as OthersLeads
-pub use Rattle.run_shows.proofs.Others.Makes as OthersMakes
-pub use Rattle.run_shows.proofs.Others.MakingGoes as OthersMakingGoes
-pub use Rattle.run_shows.proofs.Others.MakingPlans as OthersMakingPlans
-pub use Rattle.run_shows.proofs.Others.Outcomes as OthersOutcomes
-pub use Rattle.run_shows.proofs.Others.Outside as OthersOutside
-pub use Rattle.run_shows.proofs.Others.RowGives as OthersRowGives
-pub use Rattle.run_shows.proofs.Others.RowPlans as OthersRowPlans
-pub use Rattle.run_shows.proofs.Others.Rows as OthersRows
-pub use Rattle.run_shows.proofs.Others.Stays as OthersStays
-pub use Rattle.run_shows.proofs.Others.Walks as OthersWalks
-pub use Rattle.run_shows.proofs.Scenes.Goes as ScenesGoes
-pub use Rattle.run_shows.proofs.Scenes.Leads as ScenesLeads
-pub use Rattle.run_shows.proofs.Scenes.May as ScenesMay
-pub use Rattle.run_shows.proofs.Scenes.NoCall as ScenesNoCall
-pub use Rattle.run_shows.proofs.Scenes.Rows as ScenesRows
-pub use Rattle.run_shows.proofs.Scenes.Told as ScenesTold
 pub use Rattle.seize_words.proofs.General
 pub use Rattle.seize_words.proofs.OneMemory.OneOwner as SeizeWordsOneOwner
 pub use Rattle.seize_words.proofs.OneMemory.Places as SeizeWordsPlaces

@@ -11,25 +11,95 @@ pub use Rattle.papaya_raw.specs.Machine as RawMachine
 pub use Rattle.papaya_raw.specs.Progress as RawProgress
 pub use Rattle.papaya_raw.specs.Replies as RawReplies
 pub use Rattle.papaya_raw.specs.declared as RawDeclared
-pub use Rattle.run_effects.specs.Effects.Effects as EffectsEffects
-pub use Rattle.run_effects.specs.Effects.Known as EffectsKnown
-pub use Rattle.run_effects.specs.Given.RuleChart
-pub use Rattle.run_effects.specs.Given.RuleInWorld
-pub use Rattle.run_effects.specs.Given.RuleMaps
-pub use Rattle.run_effects.specs.Given.RuleMoments
-pub use Rattle.run_effects.specs.Given.RuleRule
-pub use Rattle.run_effects.specs.Given.RuleWords
-pub use Rattle.run_effects.specs.Given.SeizeWaitingChanges
-pub use Rattle.run_effects.specs.Given.SeizeWaitingHanded
-pub use Rattle.run_effects.specs.Given.SeizeWaitingHeld
-pub use Rattle.run_effects.specs.ReportingMemory.Tells as TellerTells
-pub use Rattle.run_effects.specs.Tells.Seen as TellsSeen
-pub use Rattle.run_effects.specs.Tells.Tells as TellsTells
-pub use Rattle.run_effects.specs.declared as EffectsDeclared
 pub use Rattle.run_places.specs.Changes.Changes as ChangesChanges
 pub use Rattle.run_places.specs.Changes.Had as ChangesHad
 pub use Rattle.run_places.specs.Changes.Histories as ChangesHistories
 pub use Rattle.run_places.specs.Changes.Kept as ChangesKept
+pub use Rattle.run_places.specs.Given.CallersAsked
+pub use Rattle.run_places.specs.Given.CallersKind
+pub use Rattle.run_places.specs.Given.CallersOverAll
+pub use Rattle.run_places.specs.Given.CallersPairs
+pub use Rattle.run_places.specs.Given.CallersRooms
+pub use Rattle.run_places.specs.Given.CallersRows
+pub use Rattle.run_places.specs.Given.CallersSights
+pub use Rattle.run_places.specs.Given.CallersTogether
+pub use Rattle.run_places.specs.Given.EffectsDeclared
+pub use Rattle.run_places.specs.Given.EffectsEffects
+pub use Rattle.run_places.specs.Given.EffectsKnown
+pub use Rattle.run_places.specs.Given.FinishesEndings
+pub use Rattle.run_places.specs.Given.FinishesFactsEnds
+pub use Rattle.run_places.specs.Given.FinishesMachines
+pub use Rattle.run_places.specs.Given.FinishesMakings
+pub use Rattle.run_places.specs.Given.FinishesMaps
+pub use Rattle.run_places.specs.Given.FinishesOrders
+pub use Rattle.run_places.specs.Given.FinishesSweeps
+pub use Rattle.run_places.specs.Given.FollowsBlocks
+pub use Rattle.run_places.specs.Given.FollowsCalling
+pub use Rattle.run_places.specs.Given.FollowsCalls
+pub use Rattle.run_places.specs.Given.FollowsFinds
+pub use Rattle.run_places.specs.Given.FollowsMaps
+pub use Rattle.run_places.specs.Given.FollowsShows
+pub use Rattle.run_places.specs.Given.FollowsSteps
+pub use Rattle.run_places.specs.Given.LateCovers
+pub use Rattle.run_places.specs.Given.LateCoversSweeps
+pub use Rattle.run_places.specs.Given.LateEnds
+pub use Rattle.run_places.specs.Given.LateFactsReserves
+pub use Rattle.run_places.specs.Given.LateFactsSweeps
+pub use Rattle.run_places.specs.Given.LateFaults
+pub use Rattle.run_places.specs.Given.LateKinds
+pub use Rattle.run_places.specs.Given.LateLateCalls
+pub use Rattle.run_places.specs.Given.LateLateCopies
+pub use Rattle.run_places.specs.Given.LateLateReserves
+pub use Rattle.run_places.specs.Given.LateLeft
+pub use Rattle.run_places.specs.Given.LateToldReserves
+pub use Rattle.run_places.specs.Given.LateToldSweeps
+pub use Rattle.run_places.specs.Given.OthersAfter
+pub use Rattle.run_places.specs.Given.OthersElsewhere
+pub use Rattle.run_places.specs.Given.OthersEndings
+pub use Rattle.run_places.specs.Given.OthersGone
+pub use Rattle.run_places.specs.Given.OthersMakings
+pub use Rattle.run_places.specs.Given.OthersRows
+pub use Rattle.run_places.specs.Given.OthersWalks
+pub use Rattle.run_places.specs.Given.PointsFactsCalls
+pub use Rattle.run_places.specs.Given.PointsFactsCopies
+pub use Rattle.run_places.specs.Given.PointsFactsCopiesBlocking
+pub use Rattle.run_places.specs.Given.PointsFactsDisposes
+pub use Rattle.run_places.specs.Given.PointsFactsTables
+pub use Rattle.run_places.specs.Given.PointsSteps
+pub use Rattle.run_places.specs.Given.PointsTold
+pub use Rattle.run_places.specs.Given.ReclaimsReclaims
+pub use Rattle.run_places.specs.Given.ReclaimsSlots
+pub use Rattle.run_places.specs.Given.RuleChart
+pub use Rattle.run_places.specs.Given.RuleInWorld
+pub use Rattle.run_places.specs.Given.RuleLasts
+pub use Rattle.run_places.specs.Given.RuleMaps
+pub use Rattle.run_places.specs.Given.RuleMoments
+pub use Rattle.run_places.specs.Given.RuleMoves
+pub use Rattle.run_places.specs.Given.RuleRule
+pub use Rattle.run_places.specs.Given.RuleWords
+pub use Rattle.run_places.specs.Given.ScenesBeginning
+pub use Rattle.run_places.specs.Given.ScenesContracts
+pub use Rattle.run_places.specs.Given.ScenesDeclared
+pub use Rattle.run_places.specs.Given.ScenesEnding
+pub use Rattle.run_places.specs.Given.ScenesHeld
+pub use Rattle.run_places.specs.Given.ScenesMaking
+pub use Rattle.run_places.specs.Given.ScenesOnSlots
+pub use Rattle.run_places.specs.Given.ScenesReclaiming
+pub use Rattle.run_places.specs.Given.ScenesReplying
+pub use Rattle.run_places.specs.Given.ScenesRows
+pub use Rattle.run_places.specs.Given.ScenesScene
+pub use Rattle.run_places.specs.Given.ScenesStepping
+pub use Rattle.run_places.specs.Given.SeizeAloneAlone
+pub use Rattle.run_places.specs.Given.SeizeQuietSlots
+pub use Rattle.run_places.specs.Given.SeizeReclaimsAllReclaimed
+pub use Rattle.run_places.specs.Given.SeizeReclaimsRoots
+pub use Rattle.run_places.specs.Given.SeizeSetsReclaims
+pub use Rattle.run_places.specs.Given.SeizeWaitingChanges
+pub use Rattle.run_places.specs.Given.SeizeWaitingHanded
+pub use Rattle.run_places.specs.Given.SeizeWaitingHeld
+pub use Rattle.run_places.specs.Given.TellerTells
+pub use Rattle.run_places.specs.Given.TellsSeen
+pub use Rattle.run_places.specs.Given.TellsTells
 pub use Rattle.run_places.specs.Hands.Asked as HandsAsked
 pub use Rattle.run_places.specs.Hands.Calling as HandsCalling
 pub use Rattle.run_places.specs.Hands.Hands as HandsHands
@@ -76,76 +146,6 @@ pub use Rattle.run_schedules.specs.Schedules.Transition as SchedulesTransition
 pub use Rattle.run_schedules.specs.Schedules.Tries as SchedulesTries
 pub use Rattle.run_schedules.specs.Schedules.Views as SchedulesViews
 pub use Rattle.run_schedules.specs.declared as RunsDeclared
-pub use Rattle.run_shows.specs.Follows.Blocks as FollowsBlocks
-pub use Rattle.run_shows.specs.Follows.Calling as FollowsCalling
-pub use Rattle.run_shows.specs.Follows.Calls as FollowsCalls
-pub use Rattle.run_shows.specs.Follows.Finds as FollowsFinds
-pub use Rattle.run_shows.specs.Follows.Maps as FollowsMaps
-pub use Rattle.run_shows.specs.Follows.Shows as FollowsShows
-pub use Rattle.run_shows.specs.Follows.Steps as FollowsSteps
-pub use Rattle.run_shows.specs.Given.CallersAsked
-pub use Rattle.run_shows.specs.Given.CallersKind
-pub use Rattle.run_shows.specs.Given.CallersOverAll
-pub use Rattle.run_shows.specs.Given.CallersPairs
-pub use Rattle.run_shows.specs.Given.CallersRooms
-pub use Rattle.run_shows.specs.Given.CallersRows
-pub use Rattle.run_shows.specs.Given.CallersSights
-pub use Rattle.run_shows.specs.Given.CallersTogether
-pub use Rattle.run_shows.specs.Given.FinishesEndings
-pub use Rattle.run_shows.specs.Given.FinishesFactsEnds
-pub use Rattle.run_shows.specs.Given.FinishesMachines
-pub use Rattle.run_shows.specs.Given.FinishesMakings
-pub use Rattle.run_shows.specs.Given.FinishesMaps
-pub use Rattle.run_shows.specs.Given.FinishesOrders
-pub use Rattle.run_shows.specs.Given.FinishesSweeps
-pub use Rattle.run_shows.specs.Given.LateCovers
-pub use Rattle.run_shows.specs.Given.LateCoversSweeps
-pub use Rattle.run_shows.specs.Given.LateEnds
-pub use Rattle.run_shows.specs.Given.LateFactsReserves
-pub use Rattle.run_shows.specs.Given.LateFactsSweeps
-pub use Rattle.run_shows.specs.Given.LateFaults
-pub use Rattle.run_shows.specs.Given.LateKinds
-pub use Rattle.run_shows.specs.Given.LateLateCalls
-pub use Rattle.run_shows.specs.Given.LateLateCopies
-pub use Rattle.run_shows.specs.Given.LateLateReserves
-pub use Rattle.run_shows.specs.Given.LateLeft
-pub use Rattle.run_shows.specs.Given.LateToldReserves
-pub use Rattle.run_shows.specs.Given.LateToldSweeps
-pub use Rattle.run_shows.specs.Given.PointsFactsCalls
-pub use Rattle.run_shows.specs.Given.PointsFactsCopies
-pub use Rattle.run_shows.specs.Given.PointsFactsCopiesBlocking
-pub use Rattle.run_shows.specs.Given.PointsFactsDisposes
-pub use Rattle.run_shows.specs.Given.PointsFactsTables
-pub use Rattle.run_shows.specs.Given.PointsSteps
-pub use Rattle.run_shows.specs.Given.PointsTold
-pub use Rattle.run_shows.specs.Given.RuleLasts
-pub use Rattle.run_shows.specs.Given.RuleMoves
-pub use Rattle.run_shows.specs.Given.SeizeAloneAlone
-pub use Rattle.run_shows.specs.Given.SeizeQuietSlots
-pub use Rattle.run_shows.specs.Given.SeizeReclaimsAllReclaimed
-pub use Rattle.run_shows.specs.Given.SeizeReclaimsRoots
-pub use Rattle.run_shows.specs.Given.SeizeSetsReclaims
-pub use Rattle.run_shows.specs.Others.After as OthersAfter
-pub use Rattle.run_shows.specs.Others.Elsewhere as OthersElsewhere
-pub use Rattle.run_shows.specs.Others.Endings as OthersEndings
-pub use Rattle.run_shows.specs.Others.Gone as OthersGone
-pub use Rattle.run_shows.specs.Others.Makings as OthersMakings
-pub use Rattle.run_shows.specs.Others.Rows as OthersRows
-pub use Rattle.run_shows.specs.Others.Walks as OthersWalks
-pub use Rattle.run_shows.specs.Reclaims.Reclaims as ReclaimsReclaims
-pub use Rattle.run_shows.specs.Reclaims.Slots as ReclaimsSlots
-pub use Rattle.run_shows.specs.Scenes.Beginning as ScenesBeginning
-pub use Rattle.run_shows.specs.Scenes.Ending as ScenesEnding
-pub use Rattle.run_shows.specs.Scenes.Held as ScenesHeld
-pub use Rattle.run_shows.specs.Scenes.Making as ScenesMaking
-pub use Rattle.run_shows.specs.Scenes.OnSlots as ScenesOnSlots
-pub use Rattle.run_shows.specs.Scenes.Reclaiming as ScenesReclaiming
-pub use Rattle.run_shows.specs.Scenes.Replying as ScenesReplying
-pub use Rattle.run_shows.specs.Scenes.Rows as ScenesRows
-pub use Rattle.run_shows.specs.Scenes.Scene as ScenesScene
-pub use Rattle.run_shows.specs.Scenes.Stepping as ScenesStepping
-pub use Rattle.run_shows.specs.contracts as ScenesContracts
-pub use Rattle.run_shows.specs.declared as ScenesDeclared
 pub use Rattle.seize.specs.Defer as SeizeDefer
 pub use Rattle.seize.specs.Further as SeizeFurther
 pub use Rattle.seize.specs.Law as SeizeLaw

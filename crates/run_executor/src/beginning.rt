@@ -1,10 +1,10 @@
 //! The beginning of a call, and of the making of a map.
 ghost use Rattle.std.specs.Prelude.{◌≡◌, ◌<◌, ◌+◌, ◌*◌, ℕ, Bool, length, IfOk, IfErr, OnErr};
-ghost use Rattle.run_shows.specs.declared.callers.TheConstants.{SLOTS};
+ghost use Rattle.run_places.specs.Given.ScenesDeclared.callers.TheConstants.{SLOTS};
 ghost use Rattle.run_executor.specs.Executing.Beginning.{BeginsThere, HasNoNumber, HasNoPlace, IsRefused};
 ghost use Rattle.run_executor.specs.Executing.IsThere.{IsThere, PreservesSettings, StaysGiven};
 ghost use Rattle.run_executor.specs.Executing.MakingBegins.{MakingBegins};
-ghost use Rattle.run_shows.specs.Scenes.Scene.{Scene};
+ghost use Rattle.run_places.specs.Given.ScenesScene.{Scene};
 
 use crate::executor::Executor;
 use crate::worker::{Work, Worker};

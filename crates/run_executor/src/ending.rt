@@ -1,11 +1,11 @@
 //! The beginning of the end of a map, and a step of it.
 ghost use Rattle.std.specs.Prelude.{◌≡◌, ◌<◌, ◌+◌, ◌*◌, ℕ, Bool, length, slice_index_or, slice_set, Some, None, IfOk, IfErr, OnErr};
 ghost use Rattle.papaya_raw.specs.Given.TablesDeclared.setting.Setting.{Setting};
-ghost use Rattle.run_shows.specs.declared.callers.TheConstants.{SLOTS};
+ghost use Rattle.run_places.specs.Given.ScenesDeclared.callers.TheConstants.{SLOTS};
 ghost use Rattle.run_executor.specs.Executing.Beginning.{HasNoPlace, IsRefused};
 ghost use Rattle.run_executor.specs.Executing.Ending.{EndingBegins, EndsThere, ending_on};
 ghost use Rattle.run_executor.specs.Executing.IsThere.{IsThere, PreservesSettings, worker_of};
-ghost use Rattle.run_shows.specs.Scenes.Scene.{IsEnding, Scene};
+ghost use Rattle.run_places.specs.Given.ScenesScene.{IsEnding, Scene};
 
 use crate::beginning::MOST_CALLERS;
 use crate::executor::Executor;

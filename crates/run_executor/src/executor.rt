@@ -1,7 +1,7 @@
 //! The memory, the maps in it, and the callers that have something under way.
 ghost use Rattle.std.specs.Prelude.{◌≡◌, ℕ, Bool, [], IfOk};
 ghost use Rattle.run_executor.specs.Executing.IsThere.{IsThere};
-ghost use Rattle.run_shows.specs.Scenes.Scene.{at_first};
+ghost use Rattle.run_places.specs.Given.ScenesScene.{at_first};
 
 use crate::worker::Worker;
 use papaya_raw::{Node, Setting};

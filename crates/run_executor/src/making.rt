@@ -2,7 +2,7 @@
 ghost use Rattle.std.specs.Prelude.{◌≡◌, ◌<◌, ℕ, Bool, length};
 ghost use Rattle.run_executor.specs.Executing.IsThere.{IsThere, PreservesSettings, worker_of};
 ghost use Rattle.run_executor.specs.Executing.Making.{MakesThere, making_on, maps_on};
-ghost use Rattle.run_shows.specs.Scenes.Scene.{IsMaking, Scene};
+ghost use Rattle.run_places.specs.Given.ScenesScene.{IsMaking, Scene};
 
 use crate::executor::Executor;
 use crate::taking::{TakenMaking, put_at, take_making};

@@ -2,16 +2,16 @@
 ghost use Rattle.std.specs.Prelude.{◌≡◌, ◌<◌, ◌+◌, ◌*◌, ℕ, Bool, length, slice_set, Some, IfOk, IfErr, OnErr};
 ghost use Rattle.seize.specs.World.{MayStep, Registers, Enters, Settles, Leaves, Frees};
 ghost use Rattle.papaya_raw.specs.Given.TablesNodes.{deferred_word};
-ghost use Rattle.run_shows.specs.declared.row.SlotRow.{SlotRow};
-ghost use Rattle.run_shows.specs.declared.row.SlotRow.TheVariants as rows;
+ghost use Rattle.run_places.specs.Given.ScenesDeclared.row.SlotRow.{SlotRow};
+ghost use Rattle.run_places.specs.Given.ScenesDeclared.row.SlotRow.TheVariants as rows;
 ghost use Rattle.run_executor.specs.declared.worker.Work.TheVariants.{OnSlot};
-ghost use Rattle.run_shows.specs.declared.callers.TheConstants.{SLOTS};
+ghost use Rattle.run_places.specs.Given.ScenesDeclared.callers.TheConstants.{SLOTS};
 ghost use Rattle.run_executor.specs.Executing.Beginning.{HasNoPlace, IsRefused};
 ghost use Rattle.run_executor.specs.Executing.IsThere.{IsThere, PreservesSettings, work_of, worker_of};
 ghost use Rattle.run_executor.specs.Executing.OnSlots.{RowBeginsThere, RowStepsThere, row_on};
-ghost use Rattle.run_shows.specs.Scenes.OnSlots.{RowSteps};
-ghost use Rattle.run_shows.specs.Scenes.Rows.{uses_after, uses_begun};
-ghost use Rattle.run_shows.specs.Scenes.Scene.{Scene, row_of};
+ghost use Rattle.run_places.specs.Given.ScenesOnSlots.{RowSteps};
+ghost use Rattle.run_places.specs.Given.ScenesRows.{uses_after, uses_begun};
+ghost use Rattle.run_places.specs.Given.ScenesScene.{Scene, row_of};
 
 use crate::beginning::MOST_CALLERS;
 use crate::executor::Executor;

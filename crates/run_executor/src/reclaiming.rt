@@ -3,7 +3,7 @@ ghost use Rattle.std.specs.Prelude.{◌≡◌, ℕ, Bool, List, if◌then◌else
 ghost use Rattle.seize.specs.ReclaimAll.{reclaiming_all, clearing};
 ghost use Rattle.run_executor.specs.ReclaimsAll.Reclaiming.{NobodyHas, MayReclaim, IsReclaimingThere, Leaves, ReclaimsThere};
 ghost use Rattle.run_executor.specs.Executing.IsThere.{IsThere, PreservesSettings};
-ghost use Rattle.run_shows.specs.Scenes.Scene.{Scene};
+ghost use Rattle.run_places.specs.Given.ScenesScene.{Scene};
 
 use crate::executor::Executor;
 use papaya_raw::Node;

@@ -2,7 +2,7 @@
 ghost use Rattle.std.specs.Prelude.{◌<◌, ℕ, Bool, length, Some};
 ghost use Rattle.run_executor.specs.Executing.IsThere.{IsThere, PreservesSettings, worker_with};
 ghost use Rattle.run_executor.specs.Executing.Replying.{AsksThere, PutBack, RepliesThere};
-ghost use Rattle.run_shows.specs.Scenes.Scene.{HasCall, Scene};
+ghost use Rattle.run_places.specs.Given.ScenesScene.{HasCall, Scene};
 
 use crate::executor::Executor;
 use crate::taking::{TakenCall, take_call};

@@ -1,12 +1,11 @@
 //! What a call is told to have come to, by what its machine says.
 ghost use Rattle.std.specs.Prelude.{◌≡◌};
-ghost use Rattle.run_effects.specs.Effects.Known.{known};
+ghost use Rattle.run_places.specs.Given.EffectsKnown.{known};
 ghost use Rattle.run_executor.specs.Named.Telling.{answer_of, answer_on, aborted_with, number_by, occupied_by};
 
 use crate::kind::CallKind;
 use papaya_raw::machines::{Answer as Said, KeyAnswer};
-use run_places::Notes;
-use run_places::Role;
+use run_places::{Notes, Role};
 use run_schedules::call::Response;
 use seize_words::Link;
 

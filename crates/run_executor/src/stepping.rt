@@ -3,13 +3,13 @@ ghost use Rattle.std.specs.Prelude.{◌≡◌, ◌<◌, true, false, length};
 ghost use Rattle.seize_words.specs.OneMemory.Mem.{Can, Took, value_at};
 ghost use Rattle.seize_words.specs.OneMemory.Plan.{May};
 ghost use Rattle.papaya_raw.specs.Machine.{machine_plan};
-ghost use Rattle.run_effects.specs.ReportingMemory.Changed.{is_made};
-ghost use Rattle.run_effects.specs.ReportingMemory.Tells.{StepsObserved};
-ghost use Rattle.run_effects.specs.declared.changed.Changed.TheVariants.{Nothing};
+ghost use Rattle.run_places.specs.Given.TellerChanged.{is_made};
+ghost use Rattle.run_places.specs.Given.TellerTells.{StepsObserved};
+ghost use Rattle.run_places.specs.Given.EffectsDeclared.changed.Changed.TheVariants.{Nothing};
 ghost use Rattle.run_executor.specs.Executing.IsThere.{IsThere, PreservesSettings, worker_with};
 ghost use Rattle.run_executor.specs.Executing.Stepping.{SteppedAs, StepsThere};
-ghost use Rattle.run_shows.specs.Scenes.Scene.{HasCall, Scene};
-ghost use Rattle.run_shows.specs.Scenes.Stepping.{going_on};
+ghost use Rattle.run_places.specs.Given.ScenesScene.{HasCall, Scene};
+ghost use Rattle.run_places.specs.Given.ScenesStepping.{going_on};
 
 use crate::executor::Executor;
 use crate::taking::{TakenCall, take_call};

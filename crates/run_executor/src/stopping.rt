@@ -3,8 +3,8 @@ ghost use Rattle.std.specs.Prelude.{◌≡◌, ℕ, Bool};
 ghost use Rattle.papaya_raw.specs.Machine.{machine_asked};
 ghost use Rattle.run_executor.specs.Executing.IsThere.{IsThere, PreservesSettings, worker_with};
 ghost use Rattle.run_executor.specs.Executing.Replying.{StopsThere};
-ghost use Rattle.run_shows.specs.Scenes.Replying.{unless_stopped};
-ghost use Rattle.run_shows.specs.Scenes.Scene.{HasCall, Scene};
+ghost use Rattle.run_places.specs.Given.ScenesReplying.{unless_stopped};
+ghost use Rattle.run_places.specs.Given.ScenesScene.{HasCall, Scene};
 
 use crate::executor::Executor;
 use crate::taking::{TakenCall, put_at, take_call};

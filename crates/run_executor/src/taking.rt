@@ -1,8 +1,8 @@
 //! What is taken out of the place of a caller that has a call under way, before a step of it.
 ghost use Rattle.std.specs.Prelude.{◌≡◌, ◌<◌, ℕ, length, slice_index_or, slice_set, Some, None};
-ghost use Rattle.run_shows.specs.declared.row.SlotRow.{SlotRow};
+ghost use Rattle.run_places.specs.Given.ScenesDeclared.row.SlotRow.{SlotRow};
 ghost use Rattle.run_executor.specs.declared.worker.Work.TheVariants.{Making, Ending, OnSlot};
-ghost use Rattle.run_effects.specs.Given.ResizeDeclared.new_map.NewMap.{NewMap};
+ghost use Rattle.run_places.specs.Given.ResizeDeclared.new_map.NewMap.{NewMap};
 ghost use Rattle.papaya_raw.specs.declared.machines.end_map.EndMap.{EndMap};
 ghost use Rattle.papaya_raw.specs.declared.machines.machine.Machine.{Machine};
 ghost use Rattle.run_executor.specs.Executing.IsThere.{worker_of, worker_with};

@@ -2,8 +2,8 @@
 ghost use Rattle.std.specs.Prelude.{◌≡◌};
 ghost use Rattle.seize_words.specs.OneMemory.Mem.{Can, Took, value_at};
 ghost use Rattle.seize_words.specs.OneMemory.Plan.{May};
-ghost use Rattle.run_effects.specs.ReportingMemory.Tells.{StepsObserved};
-ghost use Rattle.run_effects.specs.declared.changed.Changed.TheVariants.{Nothing};
+ghost use Rattle.run_places.specs.Given.TellerTells.{StepsObserved};
+ghost use Rattle.run_places.specs.Given.EffectsDeclared.changed.Changed.TheVariants.{Nothing};
 
 use crate::executor::Executor;
 use papaya_raw::Node;

@@ -1,6 +1,6 @@
 //! No slot is in use any more.
 ghost use Rattle.std.specs.Prelude.{◌≡◌, ℕ, length, slice_index_or};
-ghost use Rattle.run_shows.specs.declared.row.SlotUse.TheVariants.{Vacant};
+ghost use Rattle.run_places.specs.Given.ScenesDeclared.row.SlotUse.TheVariants.{Vacant};
 ghost use Rattle.run_executor.specs.Executing.IsThere.{use_at};
 
 use crate::executor::Executor;

@@ -8,9 +8,11 @@ pub use Rattle.run_shows.specs.Follows.Shows as FollowsShows
 pub use Rattle.run_shows.specs.Follows.Steps as FollowsSteps
 pub use Rattle.run_shows.specs.Given.CallersAsked
 pub use Rattle.run_shows.specs.Given.CallersAskedOnce
+pub use Rattle.run_shows.specs.Given.CallersClaims
 pub use Rattle.run_shows.specs.Given.CallersKind
 pub use Rattle.run_shows.specs.Given.CallersOverAll
 pub use Rattle.run_shows.specs.Given.CallersPairs
+pub use Rattle.run_shows.specs.Given.CallersRooms
 pub use Rattle.run_shows.specs.Given.CallersRows
 pub use Rattle.run_shows.specs.Given.CallersSights
 pub use Rattle.run_shows.specs.Given.CallersSince
@@ -23,14 +25,28 @@ pub use Rattle.run_shows.specs.Given.FinishesFactsEnds
 pub use Rattle.run_shows.specs.Given.FinishesMachines
 pub use Rattle.run_shows.specs.Given.FinishesMakings
 pub use Rattle.run_shows.specs.Given.FinishesMaps
+pub use Rattle.run_shows.specs.Given.FinishesOrders
+pub use Rattle.run_shows.specs.Given.FinishesSweeps
 pub use Rattle.run_shows.specs.Given.LateCovers
+pub use Rattle.run_shows.specs.Given.LateCoversSweeps
+pub use Rattle.run_shows.specs.Given.LateEnds
+pub use Rattle.run_shows.specs.Given.LateFactsReserves
 pub use Rattle.run_shows.specs.Given.LateFactsSweeps
+pub use Rattle.run_shows.specs.Given.LateFaults
 pub use Rattle.run_shows.specs.Given.LateKinds
 pub use Rattle.run_shows.specs.Given.LateLateCalls
+pub use Rattle.run_shows.specs.Given.LateLateCopies
 pub use Rattle.run_shows.specs.Given.LateLateLooks
+pub use Rattle.run_shows.specs.Given.LateLateReserves
+pub use Rattle.run_shows.specs.Given.LateLeft
+pub use Rattle.run_shows.specs.Given.LateToldReserves
 pub use Rattle.run_shows.specs.Given.LateToldSweeps
 pub use Rattle.run_shows.specs.Given.PointsFactsCalls
+pub use Rattle.run_shows.specs.Given.PointsFactsCopies
+pub use Rattle.run_shows.specs.Given.PointsFactsCopiesBlocking
+pub use Rattle.run_shows.specs.Given.PointsFactsDisposes
 pub use Rattle.run_shows.specs.Given.PointsFactsLooks
+pub use Rattle.run_shows.specs.Given.PointsFactsTables
 pub use Rattle.run_shows.specs.Given.PointsSteps
 pub use Rattle.run_shows.specs.Given.PointsTold
 pub use Rattle.run_shows.specs.Given.RawAnswers
@@ -57,9 +73,12 @@ pub use Rattle.run_shows.specs.Given.ResizeNewTable
 pub use Rattle.run_shows.specs.Given.ResizeSum
 pub use Rattle.run_shows.specs.Given.RuleChart
 pub use Rattle.run_shows.specs.Given.RuleInWorld
+pub use Rattle.run_shows.specs.Given.RuleLasts
 pub use Rattle.run_shows.specs.Given.RuleLinks
 pub use Rattle.run_shows.specs.Given.RuleMaps
+pub use Rattle.run_shows.specs.Given.RuleMoments
 pub use Rattle.run_shows.specs.Given.RuleMoves
+pub use Rattle.run_shows.specs.Given.RuleRule
 pub use Rattle.run_shows.specs.Given.RuleWords
 pub use Rattle.run_shows.specs.Given.RunsDeclared
 pub use Rattle.run_shows.specs.Given.RunsLifeCycle
@@ -86,16 +105,23 @@ pub use Rattle.run_shows.specs.Given.SchedulesTerms
 pub use Rattle.run_shows.specs.Given.SchedulesThings
 pub use Rattle.run_shows.specs.Given.SchedulesTransition
 pub use Rattle.run_shows.specs.Given.SchedulesViews
+pub use Rattle.run_shows.specs.Given.SeizeAloneAlone
 pub use Rattle.run_shows.specs.Given.SeizeDeclared
 pub use Rattle.run_shows.specs.Given.SeizeDefer
 pub use Rattle.run_shows.specs.Given.SeizeEnter
 pub use Rattle.run_shows.specs.Given.SeizeFurther
 pub use Rattle.run_shows.specs.Given.SeizeLaw
 pub use Rattle.run_shows.specs.Given.SeizeLeave
+pub use Rattle.run_shows.specs.Given.SeizeQuietSlots
+pub use Rattle.run_shows.specs.Given.SeizeReclaimsAllReclaimed
 pub use Rattle.run_shows.specs.Given.SeizeReclaimsRoots
 pub use Rattle.run_shows.specs.Given.SeizeRegister
 pub use Rattle.run_shows.specs.Given.SeizeSequence
+pub use Rattle.run_shows.specs.Given.SeizeSetsReclaims
 pub use Rattle.run_shows.specs.Given.SeizeSettle
+pub use Rattle.run_shows.specs.Given.SeizeWaitingChanges
+pub use Rattle.run_shows.specs.Given.SeizeWaitingHanded
+pub use Rattle.run_shows.specs.Given.SeizeWaitingHeld
 pub use Rattle.run_shows.specs.Given.SeizeWaitingSets
 pub use Rattle.run_shows.specs.Given.SeizeWordsDeclared
 pub use Rattle.run_shows.specs.Given.SeizeWordsMem
@@ -129,13 +155,16 @@ pub use Rattle.run_shows.specs.Others.Rows as OthersRows
 pub use Rattle.run_shows.specs.Others.Walks as OthersWalks
 pub use Rattle.run_shows.specs.Reclaims.Left as ReclaimsLeft
 pub use Rattle.run_shows.specs.Reclaims.Reclaims as ReclaimsReclaims
+pub use Rattle.run_shows.specs.Reclaims.Slots as ReclaimsSlots
 pub use Rattle.run_shows.specs.Scenes.Beginning as ScenesBeginning
 pub use Rattle.run_shows.specs.Scenes.Ending as ScenesEnding
 pub use Rattle.run_shows.specs.Scenes.Held as ScenesHeld
 pub use Rattle.run_shows.specs.Scenes.Making as ScenesMaking
 pub use Rattle.run_shows.specs.Scenes.OnSlots as ScenesOnSlots
+pub use Rattle.run_shows.specs.Scenes.Reclaiming as ScenesReclaiming
 pub use Rattle.run_shows.specs.Scenes.Replying as ScenesReplying
 pub use Rattle.run_shows.specs.Scenes.Rows as ScenesRows
 pub use Rattle.run_shows.specs.Scenes.Scene as ScenesScene
 pub use Rattle.run_shows.specs.Scenes.Stepping as ScenesStepping
+pub use Rattle.run_shows.specs.contracts as ScenesContracts
 pub use Rattle.run_shows.specs.declared as ScenesDeclared

@@ -13,6 +13,8 @@ pub use Rattle.many_maps.proofs.Given.PointsCalls
 pub use Rattle.many_maps.proofs.Given.PointsLookups
 pub use Rattle.many_maps.proofs.Given.PointsMovedLasts
 pub use Rattle.many_maps.proofs.Given.RuleMoves
+pub use Rattle.many_maps.proofs.Given.SeizeRuleWords
+pub use Rattle.many_maps.proofs.Samples as ManyMapsSamples
 pub use Rattle.run_effects.proofs.Given.RuleHistory
 pub use Rattle.run_effects.proofs.Given.RuleKeys
 pub use Rattle.run_effects.proofs.Given.RuleLaws
@@ -24,6 +26,10 @@ pub use Rattle.run_effects.proofs.Given.SeizeMemoryWords
 pub use Rattle.run_effects.proofs.Given.SeizeMovesSets
 pub use Rattle.run_effects.proofs.Given.SeizeMovesState
 pub use Rattle.run_effects.proofs.Given.SeizeRuleRows
+pub use Rattle.run_effects.proofs.Given.SeizeWaitingFlushes
+pub use Rattle.run_effects.proofs.Given.SeizeWaitingLaws
+pub use Rattle.run_effects.proofs.Given.SeizeWaitingTidy
+pub use Rattle.run_effects.proofs.ReportingMemory.Laws as ReportingMemoryLaws
 pub use Rattle.run_effects.proofs.Tells.Promised as TellsPromised
 pub use Rattle.seize_acts.proofs.Acts.Waits as SeizeActsWaits
 pub use Rattle.seize_acts.proofs.Given.SeizeAloneHistories
@@ -46,4 +52,3 @@ pub use Rattle.seize_words.proofs.General
 pub use Rattle.seize_words.proofs.OneMemory.OneOwner as SeizeWordsOneOwner
 pub use Rattle.seize_words.proofs.OneMemory.Places as SeizeWordsPlaces
 pub use Rattle.seize_words.proofs.OneMemory.Plans as SeizeWordsPlans
-pub use Rattle.many_maps.proofs.Samples as ManyMapsSamples

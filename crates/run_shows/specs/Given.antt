@@ -106,6 +106,8 @@ pub use Rattle.run_effects.specs.Given.SchedulesThings
 pub use Rattle.run_effects.specs.Given.SchedulesTransition
 pub use Rattle.run_effects.specs.Given.SchedulesTries
 pub use Rattle.run_effects.specs.Given.SchedulesViews
+pub use Rattle.run_effects.specs.Given.SeizeWaitingChanges
+pub use Rattle.run_effects.specs.Given.SeizeWaitingHanded
 pub use Rattle.run_effects.specs.Given.SeizeWaitingHeld
 pub use Rattle.run_effects.specs.Given.SweepsSweep
 pub use Rattle.run_effects.specs.Given.SweepsSweepPoints

@@ -2,7 +2,7 @@
 use Rattle.std.specs.Prelude.{Option, Some, None, IsSome}
 use Rattle.std.proofs.Common.{◌≡◌, refl}
 use Rattle.map_tables.specs.declared.setting.Setting.{Setting}
-use Rattle.threads_rule.specs.declared.view.Map.{Map}
+use Rattle.threads_errands.specs.Given.ViewsDeclared.view.Map.{Map}
 use Rattle.threads_callers.specs.Standing.{known_as}
 use Rattle.seize_words.proofs.General.{same_some}
 

@@ -2,3 +2,4 @@ pub mod Rows
 mod Newcomers
 mod Passing
 pub mod Known
+pub mod Given

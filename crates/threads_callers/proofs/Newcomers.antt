@@ -1,14 +1,14 @@
 -- One that has nothing under way may come to know the map that another one knows, who stays as it is.
 use Rattle.std.specs.Prelude.{Some, slice_set}
 use Rattle.std.proofs.Common.{◌≡◌, ℕ, List, [], Bool, refl, sym, subst, ap}
-use Rattle.threads_rule.proofs.Views.Laws.{maps_are_handed_on}
-use Rattle.threads_rule.specs.Views.Begun.{shown_map}
+use Rattle.threads_errands.proofs.Given.ViewsLaws.{maps_are_handed_on}
+use Rattle.threads_errands.specs.Given.ViewsBegun.{shown_map}
 use Rattle.seize_blocks.specs.Given.SeizeSeatsState.{Learns}
 use Rattle.seize_views.specs.declared.view.Fixed.{Fixed}
-use Rattle.threads_rule.specs.Views.Rule.{Holds, KeepsFor}
-use Rattle.threads_rule.specs.declared.view.Map.{Map}
-use Rattle.threads_rule.specs.declared.view.View.{View}
-use Rattle.threads_rule.specs.declared.view.SeatWork.TheVariants.{Nothing}
+use Rattle.threads_errands.specs.Given.ViewsRule.{Holds, KeepsFor}
+use Rattle.threads_errands.specs.Given.ViewsDeclared.view.Map.{Map}
+use Rattle.threads_errands.specs.Given.ViewsDeclared.view.View.{View}
+use Rattle.threads_errands.specs.Given.ViewsDeclared.view.SeatWork.TheVariants.{Nothing}
 use Rattle.threads_callers.specs.Standing.{LearnsMap}
 use Rattle.seize_words.proofs.General.{set_same as as_before}
 

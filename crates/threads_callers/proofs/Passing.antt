@@ -1,8 +1,8 @@
 -- A seat leans on one that is within its section, looks a key up there, and comes back: that it may, and what that has come to.
 use Rattle.std.specs.Prelude.{List, Option, Some, None, IfSome, IfNone, ◌∷◌}
 use Rattle.std.proofs.Common.{◌≡◌, ℕ, Bool, true, sym, subst, ap, ◌∙◌}
-use Rattle.threads_rule.specs.Views.Begun.{machine_for, shown_map}
-use Rattle.threads_rule.specs.Given.ActsActs.{Wanted, Get}
+use Rattle.threads_errands.specs.Given.ViewsBegun.{machine_for, shown_map}
+use Rattle.threads_errands.specs.Given.ActsActs.{Wanted, Get}
 use Rattle.papaya_raw.specs.declared.machines.progress.Progress.{Progress}
 use Rattle.map_machines.specs.declared.lookup.Lookup.{Lookup}
 use Rattle.seize_seats.specs.Seats.State.{Learns}
@@ -12,14 +12,14 @@ use Rattle.seize_views.specs.declared.view.SlotView.TheVariants.{Rests}
 use Rattle.seize_words.specs.OneMemory.Word.{block_in}
 use Rattle.map_tables.specs.declared.node.Node.{Node}
 use Rattle.map_tables.specs.declared.node.Node.TheVariants.{Pair}
-use Rattle.threads_rule.specs.Views.Looks.{shown_in}
-use Rattle.threads_rule.specs.Views.Notes.{SeatIsQuiescent}
-use Rattle.threads_rule.specs.Views.Promises.{LeaningsBegin}
-use Rattle.threads_rule.specs.Views.Rule.{Holds, KeepsFor, section_of, stand_of}
-use Rattle.threads_rule.specs.declared.view.Map.{Map}
-use Rattle.threads_rule.specs.declared.view.BegunCall.{BegunCall}
-use Rattle.threads_rule.specs.declared.view.View.{View}
-use Rattle.threads_rule.specs.Errands.Looking.{HasFound, HasRun, MayLook, HasLookedAt, StaysThere, found_of}
+use Rattle.threads_errands.specs.Given.ViewsLooks.{shown_in}
+use Rattle.threads_errands.specs.Given.ViewsNotes.{SeatIsQuiescent}
+use Rattle.threads_errands.specs.Given.ViewsPromises.{LeaningsBegin}
+use Rattle.threads_errands.specs.Given.ViewsRule.{Holds, KeepsFor, section_of, stand_of}
+use Rattle.threads_errands.specs.Given.ViewsDeclared.view.Map.{Map}
+use Rattle.threads_errands.specs.Given.ViewsDeclared.view.BegunCall.{BegunCall}
+use Rattle.threads_errands.specs.Given.ViewsDeclared.view.View.{View}
+use Rattle.threads_errands.specs.Given.ErrandsLooking.{HasFound, HasRun, MayLook, HasLookedAt, StaysThere, found_of}
 use Rattle.threads_callers.specs.Passing.{BeginsUnder, LeansNoMore, HasFoundUnder, HasRunUnder, IsBack, IsLentBy}
 use Rattle.threads_callers.proofs.Rows.{own_inside, rests_so}
 use Rattle.seize_words.proofs.General.{some_there as what}

@@ -10,22 +10,22 @@ use Rattle.map_tables.specs.declared.node.Node.{Node}
 use Rattle.map_tables.specs.declared.setting.Setting.{Setting}
 use Rattle.map_machines.specs.declared.new_map.NewMap.{NewMap}
 use Rattle.papaya_raw.specs.declared.machines.progress.Answer.{Answer}
-use Rattle.threads_rule.specs.Given.ActsActs.{Wanted}
-use Rattle.threads_rule.specs.Views.Notes.{beside_of, row_known, notes_of, SeatIsQuiescent}
-use Rattle.threads_rule.specs.declared.view.Map.{Map}
-use Rattle.threads_rule.specs.declared.view.BegunCall.{BegunCall}
-use Rattle.threads_rule.specs.declared.view.View.{View}
-use Rattle.threads_rule.specs.declared.view.SeatWork.{SeatWork}
-use Rattle.threads_rule.specs.declared.view.SeatWork.TheVariants.{Nothing}
-use Rattle.threads_rule.specs.Views.Rule.{section_of, stand_of}
-use Rattle.threads_rule.proofs.Views.Contents.{knows_free}
+use Rattle.threads_errands.specs.Given.ActsActs.{Wanted}
+use Rattle.threads_errands.specs.Given.ViewsNotes.{beside_of, row_known, notes_of, SeatIsQuiescent}
+use Rattle.threads_errands.specs.Given.ViewsDeclared.view.Map.{Map}
+use Rattle.threads_errands.specs.Given.ViewsDeclared.view.BegunCall.{BegunCall}
+use Rattle.threads_errands.specs.Given.ViewsDeclared.view.View.{View}
+use Rattle.threads_errands.specs.Given.ViewsDeclared.view.SeatWork.{SeatWork}
+use Rattle.threads_errands.specs.Given.ViewsDeclared.view.SeatWork.TheVariants.{Nothing}
+use Rattle.threads_errands.specs.Given.ViewsRule.{section_of, stand_of}
+use Rattle.threads_errands.proofs.Given.ViewsContents.{knows_free}
 use Rattle.papaya_raw.specs.declared.machines.asking.MachineReply.{MachineReply}
 use Rattle.threads_errands.specs.Given.StepsAsking.{HasAnswered}
-use Rattle.threads_rule.proofs.Views.Leaves.{own_section}
-use Rattle.threads_rule.specs.Errands.Calling.{HasCalled}
-use Rattle.threads_rule.specs.Errands.Counting.{HasCounted}
-use Rattle.threads_rule.specs.Errands.Looking.{HasFound, StaysThere}
-use Rattle.threads_rule.specs.Errands.Making.{HasOutcome}
+use Rattle.threads_errands.proofs.Given.ViewsLeaves.{own_section}
+use Rattle.threads_errands.specs.Given.ErrandsCalling.{HasCalled}
+use Rattle.threads_errands.specs.Given.ErrandsCounting.{HasCounted}
+use Rattle.threads_errands.specs.Given.ErrandsLooking.{HasFound, StaysThere}
+use Rattle.threads_errands.specs.Given.ErrandsMaking.{HasOutcome}
 
 module _ {K V S : Type 0} where
   -- who has nothing else under way knows its row

@@ -1,6 +1,6 @@
 -- A seat that looks keys up under another one, which is within its section: it leans on that one for as long as it looks, and is lent the pair that it has found by what it knows then.
 use Rattle.std.specs.Prelude.{◌≡◌, ℕ, Bool, true, ◌∷◌, Some, None}
-use Rattle.threads_rule.specs.Given.ActsActs.{Wanted, Get}
+use Rattle.threads_errands.specs.Given.ActsActs.{Wanted, Get}
 use Rattle.papaya_raw.specs.declared.machines.progress.Progress.{Progress}
 use Rattle.seize_seats.specs.Seats.Lendings.{IsValueBy}
 use Rattle.seize_views.specs.declared.view.Fixed.{Fixed}
@@ -9,13 +9,13 @@ use Rattle.seize_views.specs.declared.view.SlotView.TheVariants.{Rests, Inside}
 use Rattle.seize_words.specs.OneMemory.Word.{block_in}
 use Rattle.map_tables.specs.declared.node.Node.{Node}
 use Rattle.map_tables.specs.declared.node.Node.TheVariants.{Pair}
-use Rattle.threads_rule.specs.Views.Begun.{leaning, machine_for}
-use Rattle.threads_rule.specs.Views.Looks.{shown_in}
-use Rattle.threads_rule.specs.Views.Rule.{Holds, section_of}
-use Rattle.threads_rule.specs.declared.view.Map.{Map}
-use Rattle.threads_rule.specs.declared.view.View.{View}
-use Rattle.threads_rule.specs.declared.view.SeatWork.TheVariants.{Nothing}
-use Rattle.threads_rule.specs.Errands.Looking.{found_of}
+use Rattle.threads_errands.specs.Given.ViewsBegun.{leaning, machine_for}
+use Rattle.threads_errands.specs.Given.ViewsLooks.{shown_in}
+use Rattle.threads_errands.specs.Given.ViewsRule.{Holds, section_of}
+use Rattle.threads_errands.specs.Given.ViewsDeclared.view.Map.{Map}
+use Rattle.threads_errands.specs.Given.ViewsDeclared.view.View.{View}
+use Rattle.threads_errands.specs.Given.ViewsDeclared.view.SeatWork.TheVariants.{Nothing}
+use Rattle.threads_errands.specs.Given.ErrandsLooking.{found_of}
 
 module _ {K V S : Type 0} where
   -- it has nothing under way, holds no slot, and leans on nobody

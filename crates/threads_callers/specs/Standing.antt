@@ -3,10 +3,10 @@ use Rattle.std.specs.Prelude.{◌≡◌, [], Option, Some, None}
 use Rattle.seize_views.specs.declared.view.Began.TheVariants.{NotYet}
 use Rattle.seize_views.specs.declared.view.SlotView.TheVariants.{Rests}
 use Rattle.map_tables.specs.declared.setting.Setting.{Setting}
-use Rattle.threads_rule.specs.Views.Begun.{shown_map}
-use Rattle.threads_rule.specs.declared.view.Map.{Map}
-use Rattle.threads_rule.specs.declared.view.View.{View}
-use Rattle.threads_rule.specs.declared.view.SeatWork.TheVariants.{Nothing}
+use Rattle.threads_errands.specs.Given.ViewsBegun.{shown_map}
+use Rattle.threads_errands.specs.Given.ViewsDeclared.view.Map.{Map}
+use Rattle.threads_errands.specs.Given.ViewsDeclared.view.View.{View}
+use Rattle.threads_errands.specs.Given.ViewsDeclared.view.SeatWork.TheVariants.{Nothing}
 
 -- the setting of the map that it knows, and its hasher
 abbrev pub known_as : {S : Type 0} → Option (Map S) → Option (Setting × S)

@@ -1,8 +1,8 @@
 //! One of those who share the memory of maps.
 ghost use Rattle.std.specs.Prelude.{◌≡◌, IsSome, None, true};
 ghost use Rattle.threads_callers.specs.Standing.{come_to, known_by};
-ghost use Rattle.threads_rule.specs.Views.Rule.{at_rest};
-ghost use Rattle.threads_rule.specs.declared.view.SeatWork.TheVariants.{Nothing};
+ghost use Rattle.threads_errands.specs.Given.ViewsRule.{at_rest};
+ghost use Rattle.threads_errands.specs.Given.ViewsDeclared.view.SeatWork.TheVariants.{Nothing};
 ghost use Rattle.seize_views.specs.declared.view.SlotView.TheVariants.{Rests};
 ghost use Rattle.seize_callers.specs.Kept.{is_home};
 

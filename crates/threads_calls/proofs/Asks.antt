@@ -5,19 +5,19 @@ use Rattle.papaya_raw.specs.CallAsks.{removing_if, trying_to_insert_with}
 use Rattle.seize_words.specs.declared.fault.Fault.{Fault}
 use Rattle.map_tables.specs.Chunks.{is_incremental}
 use Rattle.map_tables.specs.declared.setting.Setting.{Setting}
-use Rattle.threads_rule.specs.Given.ActsActs.{RemoveIf, TryToInsertWith}
+use Rattle.threads_callers.specs.Given.ActsActs.{RemoveIf, TryToInsertWith}
 use Rattle.papaya_raw.specs.declared.machines.asking.MachineReply.{MachineReply}
 use Rattle.papaya_raw.specs.declared.machines.progress.Answer.{Answer}
 use Rattle.papaya_raw.specs.declared.machines.call.KeyCall.{KeyCall}
 use Rattle.papaya_raw.specs.declared.machines.machine.Machine.TheVariants.{Key}
 use Rattle.seize_views.specs.declared.view.Has.TheVariants.{Nothing as NoBlock}
 use Rattle.seize_views.specs.declared.view.SlotView.TheVariants.{Inside}
-use Rattle.threads_rule.specs.declared.view.View.{View}
-use Rattle.threads_rule.specs.declared.view.SeatWork.TheVariants.{Nothing}
+use Rattle.threads_callers.specs.Given.ViewsDeclared.view.View.{View}
+use Rattle.threads_callers.specs.Given.ViewsDeclared.view.SeatWork.TheVariants.{Nothing}
 use Rattle.threads_callers.specs.Given.StepsAsking.{HasAnswered, HasAsked, makes_pair, removes_if}
-use Rattle.threads_rule.specs.Errands.Calling.{MayDoAs, outcome_of, wanted_of}
-use Rattle.threads_rule.specs.CallKinds.Kinds.{Continues, Stage}
-use Rattle.threads_rule.specs.Errands.Looking.{HasRun}
+use Rattle.threads_callers.specs.Given.ErrandsCalling.{MayDoAs, outcome_of, wanted_of}
+use Rattle.threads_callers.specs.Given.CallKindsKinds.{Continues, Stage}
+use Rattle.threads_callers.specs.Given.ErrandsLooking.{HasRun}
 use Rattle.threads_callers.specs.Standing.{known_by}
 use Rattle.threads_calls.proofs.Sessions.{may_do}
 

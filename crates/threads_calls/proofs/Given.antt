@@ -1,4 +1,6 @@
 -- What is so by the crates below, given on to the crates above: these list this crate in place of those.
-pub use Rattle.threads_rule.proofs.Errands.Beginnings as ErrandsBeginnings
-pub use Rattle.threads_rule.proofs.Errands.Runs as ErrandsRuns
-pub use Rattle.threads_rule.proofs.Errands.Sweeping as ErrandsSweeping
+pub use Rattle.threads_callers.proofs.Given.ErrandsBeginnings
+pub use Rattle.threads_callers.proofs.Given.ErrandsRuns
+pub use Rattle.threads_callers.proofs.Given.ErrandsSweeping
+pub use Rattle.threads_callers.proofs.Given.Pausing
+pub use Rattle.threads_callers.proofs.Given.Told

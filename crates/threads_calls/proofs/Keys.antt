@@ -6,7 +6,7 @@ use Rattle.map_tables.specs.Chunks.{is_incremental}
 use Rattle.map_tables.specs.declared.node.Node.{Node}
 use Rattle.map_tables.specs.declared.node.Node.TheVariants.{Pair}
 use Rattle.map_tables.specs.declared.setting.Setting.{Setting}
-use Rattle.threads_rule.specs.Given.ActsActs.{Insert, Remove, TryToInsert}
+use Rattle.threads_callers.specs.Given.ActsActs.{Insert, Remove, TryToInsert}
 use Rattle.papaya_raw.specs.CallPoints.{inserting, removing, trying_to_insert}
 use Rattle.papaya_raw.specs.declared.machines.answer.There.TheVariants as there
 use Rattle.papaya_raw.specs.declared.machines.answer.Missing.TheVariants as missing
@@ -16,11 +16,11 @@ use Rattle.papaya_raw.specs.declared.machines.call.KeyCall.{KeyCall}
 use Rattle.papaya_raw.specs.declared.machines.machine.Machine.TheVariants.{Key}
 use Rattle.seize_views.specs.declared.view.Has.TheVariants.{Nothing as NoBlock}
 use Rattle.seize_views.specs.declared.view.SlotView.TheVariants.{Inside}
-use Rattle.threads_rule.specs.declared.view.View.{View}
-use Rattle.threads_rule.specs.declared.view.SeatWork.TheVariants.{Nothing}
-use Rattle.threads_rule.specs.Errands.Calling.{AsksNone, AsksNothing, HasCalled, IsBack, IsToStore, MachineStores, MayCall, is_put, outcome_of, pair_wanted, wanted_of}
-use Rattle.threads_rule.specs.Errands.Looking.{HasRun}
-use Rattle.threads_rule.specs.CallKinds.Kinds.{Kind, Continues}
+use Rattle.threads_callers.specs.Given.ViewsDeclared.view.View.{View}
+use Rattle.threads_callers.specs.Given.ViewsDeclared.view.SeatWork.TheVariants.{Nothing}
+use Rattle.threads_callers.specs.Given.ErrandsCalling.{AsksNone, AsksNothing, HasCalled, IsBack, IsToStore, MachineStores, MayCall, is_put, outcome_of, pair_wanted, wanted_of}
+use Rattle.threads_callers.specs.Given.ErrandsLooking.{HasRun}
+use Rattle.threads_callers.specs.Given.CallKindsKinds.{Kind, Continues}
 use Rattle.threads_calls.specs.Answers.{CameBack, IsOutOf, has_stored}
 use Rattle.threads_calls.specs.declared.session.keys.Attempt.{Attempt}
 use Rattle.threads_calls.specs.declared.session.keys.Attempt.TheVariants.{Stored, Present}

@@ -5,18 +5,18 @@ use Rattle.map_tables.specs.Chunks.{is_incremental}
 use Rattle.map_tables.specs.declared.setting.Setting.{Setting}
 use Rattle.map_machines.specs.Lookup.{looking}
 use Rattle.map_machines.specs.declared.lookup.Lookup.{Lookup}
-use Rattle.threads_rule.specs.declared.view.Map.{Map}
-use Rattle.threads_rule.specs.declared.view.View.{View}
-use Rattle.threads_rule.specs.declared.view.SeatWork.TheVariants.{Nothing}
+use Rattle.threads_callers.specs.Given.ViewsDeclared.view.Map.{Map}
+use Rattle.threads_callers.specs.Given.ViewsDeclared.view.View.{View}
+use Rattle.threads_callers.specs.Given.ViewsDeclared.view.SeatWork.TheVariants.{Nothing}
 use Rattle.seize_views.specs.declared.view.Has.TheVariants.{Nothing as NoBlock}
 use Rattle.seize_views.specs.declared.view.SlotView.TheVariants.{Inside}
-use Rattle.threads_rule.specs.Given.ActsActs.{Wanted}
+use Rattle.threads_callers.specs.Given.ActsActs.{Wanted}
 use Rattle.papaya_raw.specs.declared.machines.call.KeyCall.{KeyCall}
 use Rattle.papaya_raw.specs.declared.machines.machine.Machine.{Machine}
 use Rattle.papaya_raw.specs.declared.machines.machine.Machine.TheVariants.{Key}
-use Rattle.threads_rule.specs.Views.Begun.{machine_for}
-use Rattle.threads_rule.specs.Errands.Calling.{MayDo, wanted_of}
-use Rattle.threads_rule.specs.Errands.Looking.{MayLook}
+use Rattle.threads_callers.specs.Given.ViewsBegun.{machine_for}
+use Rattle.threads_callers.specs.Given.ErrandsCalling.{MayDo, wanted_of}
+use Rattle.threads_callers.specs.Given.ErrandsLooking.{MayLook}
 use Rattle.threads_callers.specs.Standing.{known_by}
 use Rattle.threads_callers.proofs.Known.{known}
 use Rattle.threads_callers.proofs.Rows.{section_own}

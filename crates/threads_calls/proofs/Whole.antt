@@ -18,13 +18,13 @@ use Rattle.papaya_raw.specs.declared.machines.progress.Answer.{Answer}
 use Rattle.papaya_raw.specs.declared.machines.progress.Answer.TheVariants as said
 use Rattle.seize_views.specs.declared.view.Has.TheVariants.{Nothing as NoBlock}
 use Rattle.seize_views.specs.declared.view.SlotView.TheVariants.{Inside}
-use Rattle.threads_rule.specs.Given.ActsActs.{Count, GoOver, MakeRoom, Wanted}
-use Rattle.threads_rule.specs.CallKinds.Sweeps.{IsFor}
-use Rattle.threads_rule.specs.declared.view.View.{View}
-use Rattle.threads_rule.specs.declared.view.SeatWork.TheVariants.{Nothing}
-use Rattle.threads_rule.specs.Errands.Calling.{HasCalled, IsAnswerBy, IsAnswerTo, ForRoom, MayCall, OverAll, outcome_of, wanted_of}
-use Rattle.threads_rule.specs.Errands.Counting.{MayCount}
-use Rattle.threads_rule.specs.Errands.Looking.{HasRun}
+use Rattle.threads_callers.specs.Given.ActsActs.{Count, GoOver, MakeRoom, Wanted}
+use Rattle.threads_callers.specs.Given.CallKindsSweeps.{IsFor}
+use Rattle.threads_callers.specs.Given.ViewsDeclared.view.View.{View}
+use Rattle.threads_callers.specs.Given.ViewsDeclared.view.SeatWork.TheVariants.{Nothing}
+use Rattle.threads_callers.specs.Given.ErrandsCalling.{HasCalled, IsAnswerBy, IsAnswerTo, ForRoom, MayCall, OverAll, outcome_of, wanted_of}
+use Rattle.threads_callers.specs.Given.ErrandsCounting.{MayCount}
+use Rattle.threads_callers.specs.Given.ErrandsLooking.{HasRun}
 use Rattle.threads_callers.specs.Standing.{known_by}
 use Rattle.threads_calls.proofs.Sessions.{may_do_all}
 

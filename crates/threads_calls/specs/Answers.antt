@@ -1,15 +1,15 @@
 -- What the answers of a session's calls say.
 use Rattle.std.specs.Prelude.{◌≡◌, ◌==◌, ℕ, Bool, true, false, Option, Some, Ok}
-use Rattle.threads_rule.specs.Given.ActsActs.{Count, GoOver, Insert, MakeRoom, Remove, TryToInsert, Wanted}
+use Rattle.threads_callers.specs.Given.ActsActs.{Count, GoOver, Insert, MakeRoom, Remove, TryToInsert, Wanted}
 use Rattle.map_tables.specs.declared.node.Node.{Node}
 use Rattle.map_tables.specs.declared.node.Node.TheVariants.{Pair}
 use Rattle.papaya_raw.specs.declared.machines.answer.KeyAnswer.TheVariants as answers
 use Rattle.papaya_raw.specs.declared.machines.progress.Answer.{Answer}
 use Rattle.papaya_raw.specs.Given.ReservesDeclared.sweep.Purpose.TheVariants.{Clears}
 use Rattle.papaya_raw.specs.declared.machines.progress.Answer.TheVariants.{Count as Counted, Key as OfKey, Reserved, Swept}
-use Rattle.threads_rule.specs.declared.view.View.{View}
-use Rattle.threads_rule.specs.Errands.Calling.{is_put, outcome_of}
-use Rattle.threads_rule.specs.Errands.Looking.{HasRun}
+use Rattle.threads_callers.specs.Given.ViewsDeclared.view.View.{View}
+use Rattle.threads_callers.specs.Given.ErrandsCalling.{is_put, outcome_of}
+use Rattle.threads_callers.specs.Given.ErrandsLooking.{HasRun}
 use Rattle.threads_calls.specs.declared.session.keys.Attempt.{Attempt}
 use Rattle.threads_calls.specs.declared.session.keys.Attempt.TheVariants.{Stored, Present}
 

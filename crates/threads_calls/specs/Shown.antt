@@ -3,10 +3,10 @@ use Rattle.std.specs.Prelude.{◌≡◌, ℕ, Bool, Some}
 use Rattle.seize_words.specs.OneMemory.Word.{block_in}
 use Rattle.seize_blocks.specs.Given.SeizeSeatsLendings.{IsValueOf}
 use Rattle.map_tables.specs.declared.node.Node.TheVariants.{Pair}
-use Rattle.threads_rule.specs.Views.Looks.{shown_in}
-use Rattle.threads_rule.specs.Views.Rule.{Holds}
-use Rattle.threads_rule.specs.declared.view.View.{View}
-use Rattle.threads_rule.specs.Errands.Looking.{HasLookedAt}
+use Rattle.threads_callers.specs.Given.ViewsLooks.{shown_in}
+use Rattle.threads_callers.specs.Given.ViewsRule.{Holds}
+use Rattle.threads_callers.specs.Given.ViewsDeclared.view.View.{View}
+use Rattle.threads_callers.specs.Given.ErrandsLooking.{HasLookedAt}
 use Rattle.threads_callers.specs.declared.caller.MapCaller.{MapCaller}
 
 module _ {K V S : Type 0} (same : K → K → Bool) where

@@ -1,15 +1,15 @@
 //! A map, as one of those knows it who share it.
 ghost use Rattle.std.specs.Prelude.{◌≡◌, ◌≤◌, ◌<◌, ◌^◌, [], Some, None, Err, true, IfErr, IfNone, IfOk, IfSome};
-ghost use Rattle.threads_rule.specs.Errands.Calling.{outcome_of};
-ghost use Rattle.threads_rule.specs.Errands.Looking.{HasRun, found_of};
+ghost use Rattle.threads_callers.specs.Given.ErrandsCalling.{outcome_of};
+ghost use Rattle.threads_callers.specs.Given.ErrandsLooking.{HasRun, found_of};
 ghost use Rattle.threads_calls.specs.Answers.{HasStored, is_replaced as replaces};
 ghost use Rattle.threads_calls.specs.Shown.{IsLent, IsShown};
 ghost use Rattle.threads_callers.specs.Standing.{known_by};
-ghost use Rattle.threads_rule.specs.Given.ActsActs.{Get, Insert};
+ghost use Rattle.threads_callers.specs.Given.ActsActs.{Get, Insert};
 ghost use Rattle.map_tables.specs.Chunks.{is_incremental};
 ghost use Rattle.map_tables.specs.declared.node.Node.TheVariants.{Pair};
 ghost use Rattle.map_tables.specs.declared.resize_mode.ResizeMode.TheVariants.{Incremental};
-ghost use Rattle.threads_rule.specs.declared.view.SeatWork.TheVariants.{Nothing as NoWork};
+ghost use Rattle.threads_callers.specs.Given.ViewsDeclared.view.SeatWork.TheVariants.{Nothing as NoWork};
 ghost use Rattle.seize_views.specs.declared.view.Has.TheVariants.{Nothing};
 ghost use Rattle.seize_views.specs.declared.view.SlotView.TheVariants.{Inside, Outside, Rests};
 
@@ -29,8 +29,7 @@ use seize_views::Fixed;
 use seize_words::{Fault, Link, Refused};
 use std::hash::Hash;
 use std::sync::Wait;
-use threads_callers::{MapCaller, Ran};
-use threads_callers::OfMaps;
+use threads_callers::{MapCaller, OfMaps, Ran};
 
 /// A map, as one of those knows it who share it: with a seat of its own, which may be sent to a thread. It has nothing under way between its calls.
 pub struct SessionBase<'a, K: Eq, V, S: Hashes<K>> {

@@ -21,22 +21,22 @@ use Rattle.papaya_raw.specs.declared.machines.progress.Progress.{Progress}
 use Rattle.papaya_raw.specs.declared.machines.progress.Progress.TheVariants as progress
 use Rattle.papaya_raw.specs.Progress.{of_called}
 use Rattle.seize_words.proofs.General.{same_some}
-use Rattle.threads_rule.specs.Views.Looks.{shown_in, TurnsTo}
-use Rattle.threads_rule.specs.Views.Rule.{Holds, KeepsFor, Leans, LeansOn, stand_of}
-use Rattle.threads_rule.specs.Views.Told.{call_after, called, newest_progress, turned}
-use Rattle.threads_rule.specs.declared.view.Map.{Map}
-use Rattle.threads_rule.specs.declared.view.View.{View}
-use Rattle.threads_rule.specs.declared.view.SeatWork.TheVariants.{Calls}
-use Rattle.threads_rule.proofs.Views.Laws.{calls_turn}
+use Rattle.threads_steps.specs.Given.ViewsLooks.{shown_in, TurnsTo}
+use Rattle.threads_steps.specs.Given.ViewsRule.{Holds, KeepsFor, Leans, LeansOn, stand_of}
+use Rattle.threads_steps.specs.Given.ViewsTold.{call_after, called, newest_progress, turned}
+use Rattle.threads_steps.specs.Given.ViewsDeclared.view.Map.{Map}
+use Rattle.threads_steps.specs.Given.ViewsDeclared.view.View.{View}
+use Rattle.threads_steps.specs.Given.ViewsDeclared.view.SeatWork.TheVariants.{Calls}
+use Rattle.threads_steps.proofs.Given.ViewsLaws.{calls_turn}
 use Rattle.map_straight.specs.Straight.Going.{CallGoes}
-use Rattle.threads_rule.specs.CallKinds.Kinds.{Kind, Stage, Continues, SaysSo}
-use Rattle.threads_rule.proofs.CallKinds.Asking.{says}
-use Rattle.threads_rule.specs.CallKinds.Leads.{Leads}
+use Rattle.threads_steps.specs.Given.CallKindsKinds.{Kind, Stage, Continues, SaysSo}
+use Rattle.threads_steps.proofs.Given.CallKindsAsking.{says}
+use Rattle.threads_steps.specs.Given.CallKindsLeads.{Leads}
 use Rattle.threads_errands.specs.Ahead.{CatchesUp, StandsAtOneOf, HasEndedSo, IsAhead, IsBehind, here, turns, IsEnding, over, turns_over, LiesAhead, Makes, MakesNext, PassesTo, StandsAt}
-use Rattle.threads_rule.specs.Errands.Calling.{Works}
-use Rattle.threads_rule.specs.Errands.Looking.{IsOfThem, StaysThere}
-use Rattle.threads_rule.proofs.Errands.Beginnings.{stays_on}
-use Rattle.threads_rule.proofs.Errands.Runs.{of_them, told_last}
+use Rattle.threads_steps.specs.Given.ErrandsCalling.{Works}
+use Rattle.threads_steps.specs.Given.ErrandsLooking.{IsOfThem, StaysThere}
+use Rattle.threads_steps.proofs.Given.ErrandsBeginnings.{stays_on}
+use Rattle.threads_steps.proofs.Given.ErrandsRuns.{of_them, told_last}
 use Rattle.threads_steps.proofs.Tellings.{turned_so}
 use Rattle.threads_errands.proofs.Turning.{turns_as, turns_none, turns_then}
 

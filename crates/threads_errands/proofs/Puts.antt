@@ -12,21 +12,21 @@ use Rattle.papaya_raw.specs.declared.machines.machine.Machine.TheVariants.{Key}
 use Rattle.papaya_raw.specs.declared.machines.progress.Answer.{Answer}
 use Rattle.papaya_raw.specs.declared.machines.progress.Progress.{Progress}
 use Rattle.seize_words.specs.declared.fault.Fault.{Fault}
-use Rattle.threads_rule.specs.Given.ActsActs.{Wanted}
-use Rattle.threads_rule.specs.declared.view.View.{View}
+use Rattle.threads_steps.specs.Given.ActsActs.{Wanted}
+use Rattle.threads_steps.specs.Given.ViewsDeclared.view.View.{View}
 use Rattle.map_straight.specs.Straight.Going.{CallReaches}
 use Rattle.map_straight.specs.Straight.Storing.{call_at, stored_at, storing}
 use Rattle.map_straight.specs.declared.storing.Stored.{Stored}
 use Rattle.map_straight.specs.declared.storing.Stored.TheVariants as stored
 use Rattle.threads_errands.specs.Ahead.{HasGone, IsAhead, here, IsSameAhead, StandsAt, shown_ahead}
-use Rattle.threads_rule.specs.Errands.Calling.{IsReturned, HasCalled, HasEnded, IsCalling, outcome_of}
-use Rattle.threads_rule.specs.Errands.Looking.{IsOfThem, StaysThere}
+use Rattle.threads_steps.specs.Given.ErrandsCalling.{IsReturned, HasCalled, HasEnded, IsCalling, outcome_of}
+use Rattle.threads_steps.specs.Given.ErrandsLooking.{IsOfThem, StaysThere}
 use Rattle.threads_steps.specs.Storing.{HasBegun, IsToPut}
 use Rattle.threads_errands.specs.Puts.{HasPut}
 use Rattle.threads_errands.specs.declared.ahead.Ahead.{Ahead}
-use Rattle.threads_rule.proofs.Errands.Beginnings.{stays_begun, stays_on}
+use Rattle.threads_steps.proofs.Given.ErrandsBeginnings.{stays_begun, stays_on}
 use Rattle.threads_errands.proofs.Behind.{at_point, goes_along}
-use Rattle.threads_rule.proofs.Errands.Runs.{has_run, of_them, told_last}
+use Rattle.threads_steps.proofs.Given.ErrandsRuns.{has_run, of_them, told_last}
 use Rattle.threads_errands.proofs.Standing.{IsAt, answered, led}
 
 -- the call of a machine

@@ -21,31 +21,31 @@ use Rattle.papaya_raw.specs.declared.machines.progress.Answer.TheVariants.{Key a
 use Rattle.papaya_raw.specs.declared.machines.progress.Progress.{Progress}
 use Rattle.papaya_raw.specs.declared.machines.progress.Progress.TheVariants as progress
 use Rattle.papaya_raw.specs.Progress.{of_called}
-use Rattle.threads_rule.specs.Views.Looks.{MayFollow, shown_in}
-use Rattle.threads_rule.specs.Views.Rule.{Holds, KeepsFor, stand_of}
-use Rattle.threads_rule.specs.Views.Told.{MayCome, called, newest_progress, told}
-use Rattle.threads_rule.specs.declared.view.View.{View}
-use Rattle.threads_rule.proofs.Views.Laws.{calls_go_on}
+use Rattle.threads_steps.specs.Given.ViewsLooks.{MayFollow, shown_in}
+use Rattle.threads_steps.specs.Given.ViewsRule.{Holds, KeepsFor, stand_of}
+use Rattle.threads_steps.specs.Given.ViewsTold.{MayCome, called, newest_progress, told}
+use Rattle.threads_steps.specs.Given.ViewsDeclared.view.View.{View}
+use Rattle.threads_steps.proofs.Given.ViewsLaws.{calls_go_on}
 use Rattle.seize_views.proofs.Views.Looks.{IsNow}
 use Rattle.map_straight.specs.Straight.Going.{CallGoes, CallLeads, MayCall}
-use Rattle.threads_rule.specs.CallKinds.Answers.{IsAnswer}
-use Rattle.threads_rule.specs.CallKinds.Kinds.{Continues}
-use Rattle.threads_rule.proofs.CallKinds.Asking.{call_is}
-use Rattle.threads_rule.proofs.CallKinds.Plans.{ReplacesNone, answered_by, follows_as, follows_one, leaves_values, op_as}
-use Rattle.threads_rule.proofs.CallKinds.Quiet.{IsQuiet}
+use Rattle.threads_steps.specs.Given.CallKindsAnswers.{IsAnswer}
+use Rattle.threads_steps.specs.Given.CallKindsKinds.{Continues}
+use Rattle.threads_steps.proofs.Given.CallKindsAsking.{call_is}
+use Rattle.threads_steps.proofs.Given.CallKindsPlans.{ReplacesNone, answered_by, follows_as, follows_one, leaves_values, op_as}
+use Rattle.threads_steps.proofs.Given.CallKindsQuiet.{IsQuiet}
 use Rattle.threads_steps.specs.Given.SeizeCallersKept.{kept}
 use Rattle.seize_straight.specs.Runs.{none_taken, one_more, EndsTelling}
 use Rattle.seize_straight.proofs.Running.{by_law}
 use Rattle.threads_errands.specs.Ahead.{CanGo, CatchesUp, HasEndedSo, HasGone, IsAhead, here, IsEnding, over, turns_over, IsSameAhead, Makes, MakesNext, StandsAt, shown_ahead}
-use Rattle.threads_rule.specs.Errands.Calling.{IsBack, Works}
-use Rattle.threads_rule.specs.Errands.Looking.{IsOfThem, StaysThere}
+use Rattle.threads_steps.specs.Given.ErrandsCalling.{IsBack, Works}
+use Rattle.threads_steps.specs.Given.ErrandsLooking.{IsOfThem, StaysThere}
 use Rattle.threads_steps.specs.Storing.{Since}
 use Rattle.threads_errands.specs.declared.ahead.Ahead.{Ahead}
-use Rattle.threads_rule.proofs.Errands.Beginnings.{stays_on}
+use Rattle.threads_steps.proofs.Given.ErrandsBeginnings.{stays_on}
 use Rattle.threads_errands.proofs.Behind.{ahead_on, at_point, goes_along, goes_by, is_on, plan_here, works_still}
 use Rattle.threads_steps.proofs.Calling.{MadeNone, MadeOne, came_to, leads_by, may_quiet, quiet_leaves}
 use Rattle.threads_steps.proofs.Sinces.{since_last, since_on}
-use Rattle.threads_rule.proofs.Errands.Runs.{of_them}
+use Rattle.threads_steps.proofs.Given.ErrandsRuns.{of_them}
 use Rattle.threads_steps.proofs.Tellings.{told_shown}
 
 -- what a step looks at whose outcome is turned into another

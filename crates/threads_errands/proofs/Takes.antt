@@ -7,8 +7,8 @@ use Rattle.papaya_raw.specs.declared.machines.call.Calling.TheVariants as at
 use Rattle.papaya_raw.specs.declared.machines.call.KeyCall.{KeyCall}
 use Rattle.papaya_raw.specs.declared.machines.progress.Answer.{Answer}
 use Rattle.seize_words.specs.declared.fault.Fault.{Fault}
-use Rattle.threads_rule.specs.Given.ActsActs.{Remove}
-use Rattle.threads_rule.specs.declared.view.View.{View}
+use Rattle.threads_steps.specs.Given.ActsActs.{Remove}
+use Rattle.threads_steps.specs.Given.ViewsDeclared.view.View.{View}
 use Rattle.map_straight.specs.Straight.Going.{CallReaches}
 use Rattle.map_straight.specs.Straight.Removing.{removed_at, removing_at, seeking}
 use Rattle.map_straight.specs.declared.removing.RemovalAt.{RemovalAt}
@@ -16,10 +16,10 @@ use Rattle.map_straight.specs.declared.removing.RemovalAt.TheVariants as removed
 use Rattle.threads_errands.specs.Ahead.{HasGone, IsSameAhead, shown_ahead}
 use Rattle.threads_errands.specs.Takes.{HasTaken}
 use Rattle.threads_errands.specs.declared.ahead.Ahead.{Ahead}
-use Rattle.threads_rule.specs.Errands.Calling.{HasCalled, HasEnded, outcome_of}
-use Rattle.threads_rule.specs.Errands.Looking.{Begins, StaysThere}
-use Rattle.threads_rule.proofs.Errands.Beginnings.{stays_begun, stays_on}
-use Rattle.threads_rule.proofs.Errands.Runs.{has_run}
+use Rattle.threads_steps.specs.Given.ErrandsCalling.{HasCalled, HasEnded, outcome_of}
+use Rattle.threads_steps.specs.Given.ErrandsLooking.{Begins, StaysThere}
+use Rattle.threads_steps.proofs.Given.ErrandsBeginnings.{stays_begun, stays_on}
+use Rattle.threads_steps.proofs.Given.ErrandsRuns.{has_run}
 use Rattle.threads_errands.proofs.Standing.{IsAt, answered, led}
 
 module _ {K V S : Type 0} (same : K → K → Bool) (hash : S → K → ℕ) where

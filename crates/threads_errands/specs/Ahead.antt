@@ -13,16 +13,16 @@ use Rattle.papaya_raw.specs.declared.machines.call.KeyCall.{KeyCall}
 use Rattle.papaya_raw.specs.declared.machines.machine.Machine.{Machine}
 use Rattle.papaya_raw.specs.declared.machines.machine.Machine.TheVariants.{Key}
 use Rattle.papaya_raw.specs.declared.machines.progress.Answer.TheVariants.{Key as OfKey}
-use Rattle.threads_rule.specs.Views.Looks.{shown_in}
-use Rattle.threads_rule.specs.Views.Told.{told}
-use Rattle.threads_rule.specs.declared.view.View.{View}
-use Rattle.threads_rule.specs.declared.view.SeatWork.TheVariants.{Calls}
+use Rattle.threads_steps.specs.Given.ViewsLooks.{shown_in}
+use Rattle.threads_steps.specs.Given.ViewsTold.{told}
+use Rattle.threads_steps.specs.Given.ViewsDeclared.view.View.{View}
+use Rattle.threads_steps.specs.Given.ViewsDeclared.view.SeatWork.TheVariants.{Calls}
 use Rattle.map_straight.specs.Straight.Going.{CallGoes}
-use Rattle.threads_rule.specs.CallKinds.Answers.{IsAnswer}
-use Rattle.threads_rule.specs.CallKinds.Kinds.{Kind, Stage, Continues}
+use Rattle.threads_steps.specs.Given.CallKindsAnswers.{IsAnswer}
+use Rattle.threads_steps.specs.Given.CallKindsKinds.{Kind, Stage, Continues}
 use Rattle.threads_steps.specs.Given.SeizeCallersKept.{kept}
-use Rattle.threads_rule.specs.Errands.Calling.{AsksNothing, HasEnded, Works}
-use Rattle.threads_rule.specs.Errands.Looking.{IsOfThem, StaysThere}
+use Rattle.threads_steps.specs.Given.ErrandsCalling.{AsksNothing, HasEnded, Works}
+use Rattle.threads_steps.specs.Given.ErrandsLooking.{IsOfThem, StaysThere}
 use Rattle.threads_errands.specs.declared.ahead.Ahead.{Ahead}
 
 module _ {K V : Type 0} (same : K → K → Bool) (hashes : K → ℕ) where

@@ -9,15 +9,15 @@ use Rattle.papaya_raw.specs.declared.machines.answer.There.{There}
 use Rattle.papaya_raw.specs.declared.machines.call.Calling.TheVariants as at
 use Rattle.papaya_raw.specs.declared.machines.machine.Machine.TheVariants.{Key}
 use Rattle.papaya_raw.specs.declared.machines.progress.Answer.TheVariants.{Key as OfKey}
-use Rattle.threads_rule.specs.declared.view.View.{View}
+use Rattle.threads_steps.specs.Given.ViewsDeclared.view.View.{View}
 use Rattle.map_straight.specs.Straight.Storing.{call_at, storing}
 use Rattle.map_straight.specs.declared.storing.Stored.{Stored}
 use Rattle.map_straight.specs.declared.storing.Stored.TheVariants as stored
 use Rattle.map_straight.specs.declared.storing.StoringPoint.{StoringPoint}
 use Rattle.threads_steps.specs.Storing.{Since}
 use Rattle.threads_errands.specs.Ahead.{IsAhead, IsEnding}
-use Rattle.threads_rule.specs.Errands.Calling.{HasEnded, IsBack}
-use Rattle.threads_rule.specs.Errands.Looking.{IsOfThem, StaysThere}
+use Rattle.threads_steps.specs.Given.ErrandsCalling.{HasEnded, IsBack}
+use Rattle.threads_steps.specs.Given.ErrandsLooking.{IsOfThem, StaysThere}
 
 module _ {K S : Type 0} (V : Type 0) (same : K → K → Bool) (hash : S → K → ℕ) (hasher : S) (setting : Setting) (hashed : ℕ) (there : There) (own : ℕ) where
   -- a call that was to store this pair has it still at this point, or is over, by what was so where its block was made

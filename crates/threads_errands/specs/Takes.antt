@@ -2,13 +2,13 @@
 use Rattle.std.specs.Prelude.{ℕ, Bool, Ok}
 use Rattle.map_tables.specs.declared.setting.Setting.{Setting}
 use Rattle.papaya_raw.specs.declared.machines.progress.Answer.TheVariants.{Key as OfKey}
-use Rattle.threads_rule.specs.declared.view.View.{View}
+use Rattle.threads_steps.specs.Given.ViewsDeclared.view.View.{View}
 use Rattle.map_straight.specs.Straight.Removing.{removing_at, seeking}
 use Rattle.map_straight.specs.declared.removing.RemovalAt.{RemovalAt}
 use Rattle.map_straight.specs.declared.removing.RemovalAt.TheVariants as removed
 use Rattle.threads_errands.specs.Ahead.{IsAhead, IsEnding}
-use Rattle.threads_rule.specs.Errands.Calling.{HasEnded}
-use Rattle.threads_rule.specs.Errands.Looking.{IsOfThem, StaysThere}
+use Rattle.threads_steps.specs.Given.ErrandsCalling.{HasEnded}
+use Rattle.threads_steps.specs.Given.ErrandsLooking.{IsOfThem, StaysThere}
 
 module _ {K V S : Type 0} (same : K → K → Bool) (hash : S → K → ℕ) (hasher : S) (setting : Setting) (hashed : ℕ) (key : K) where
   -- straight code from the root on has come to this: the code has ended the call, or stands there,

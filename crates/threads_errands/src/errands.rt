@@ -2,16 +2,16 @@
 ghost use Rattle.std.specs.Prelude.{◌≡◌, IfOk, None, false};
 ghost use Rattle.std.specs.Fn.{FnOnceReturns};
 ghost use Rattle.threads_steps.specs.Asking.{HasAnswered, MakingSays, MayTest, TestSays, makes_pair, removes_if};
-ghost use Rattle.threads_rule.specs.Errands.Calling.{HasCalled, IsAnswerBy, MayCall, MayDoAs, wanted_of};
-ghost use Rattle.threads_rule.specs.Errands.Counting.{HasCounted, MayCount};
-ghost use Rattle.threads_rule.specs.CallKinds.Kinds.{Stage};
-ghost use Rattle.threads_rule.specs.Errands.Looking.{HasFound, MayLook};
-ghost use Rattle.threads_rule.specs.Errands.Making.{HasOutcome, MayBegin};
-ghost use Rattle.threads_rule.specs.declared.view.SeatWork.TheVariants.{Nothing as NoWork};
+ghost use Rattle.threads_steps.specs.Given.ErrandsCalling.{HasCalled, IsAnswerBy, MayCall, MayDoAs, wanted_of};
+ghost use Rattle.threads_steps.specs.Given.ErrandsCounting.{HasCounted, MayCount};
+ghost use Rattle.threads_steps.specs.Given.CallKindsKinds.{Stage};
+ghost use Rattle.threads_steps.specs.Given.ErrandsLooking.{HasFound, MayLook};
+ghost use Rattle.threads_steps.specs.Given.ErrandsMaking.{HasOutcome, MayBegin};
+ghost use Rattle.threads_steps.specs.Given.ViewsDeclared.view.SeatWork.TheVariants.{Nothing as NoWork};
 ghost use Rattle.seize_views.specs.declared.view.SlotView.TheVariants.{Rests};
 ghost use Rattle.papaya_raw.specs.CallPoints.{removing};
 ghost use Rattle.papaya_raw.specs.declared.machines.machine.Machine.TheVariants.{Key as KeyMachine};
-ghost use Rattle.threads_rule.specs.Given.ActsActs.{Remove};
+ghost use Rattle.threads_steps.specs.Given.ActsActs.{Remove};
 
 use crate::removing::removes;
 use crate::storing::{is_to_store, stores};
@@ -23,8 +23,7 @@ use seize_blocks::{Blocks, Errand, Seat};
 use seize_words::Fault;
 use std::hash::Hash;
 use std::sync::Wait;
-use threads_steps::OfMaps;
-use threads_steps::{Ran, Within, goes_on, sees};
+use threads_steps::{OfMaps, Ran, Within, goes_on, sees};
 
 /// Makes a map of no table.
 #[derive(Drop)]

@@ -1,8 +1,8 @@
 //! A call of a seat on an errand that is to remove the pair of a key: by straight code as far as that goes, and by steps from there on.
 ghost use Rattle.std.specs.Prelude.{◌≡◌, ◌≢◌, None};
-ghost use Rattle.threads_rule.specs.Given.ActsActs.{Remove};
-ghost use Rattle.threads_rule.specs.Errands.Calling.{HasCalled, HasEnded, IsCalling, MayCall};
-ghost use Rattle.threads_rule.specs.Errands.Looking.{Begins, StaysThere};
+ghost use Rattle.threads_steps.specs.Given.ActsActs.{Remove};
+ghost use Rattle.threads_steps.specs.Given.ErrandsCalling.{HasCalled, HasEnded, IsCalling, MayCall};
+ghost use Rattle.threads_steps.specs.Given.ErrandsLooking.{Begins, StaysThere};
 ghost use Rattle.threads_errands.specs.Ahead.{IsAhead};
 ghost use Rattle.threads_errands.specs.Takes.{HasTakenOut};
 ghost use Rattle.map_straight.specs.Straight.Removing.{removing_at, seeking};
@@ -19,8 +19,7 @@ use seize_blocks::{Blocks, Seat};
 use seize_words::Fault;
 use std::hash::Hash;
 use std::sync::Wait;
-use threads_steps::OfMaps;
-use threads_steps::{Ran, Within};
+use threads_steps::{OfMaps, Ran, Within};
 
 /// Begins a call that is to remove the pair of this key.
 #[inline(always)]

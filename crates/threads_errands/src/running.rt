@@ -3,9 +3,9 @@ ghost use Rattle.std.specs.Prelude.{◌≡◌, ◌≢◌, Option, Some, None, If
 ghost use Rattle.map_tables.specs.declared.node.Node.{Node as AnyNode};
 ghost use Rattle.papaya_raw.specs.declared.machines.machine.Machine.TheVariants.{Key as KeyMachine};
 ghost use Rattle.threads_errands.specs.Ahead.{IsAhead, LiesAhead, StandsAt};
-ghost use Rattle.threads_rule.specs.Errands.Calling.{CalledSo, HasEnded, IsAnswerBy, IsBack, IsCalling, StepsTo, sort_of};
-ghost use Rattle.threads_rule.specs.Errands.Looking.{IsOfThem, StaysThere};
-ghost use Rattle.threads_rule.specs.Views.Told.{pair_in};
+ghost use Rattle.threads_steps.specs.Given.ErrandsCalling.{CalledSo, HasEnded, IsAnswerBy, IsBack, IsCalling, StepsTo, sort_of};
+ghost use Rattle.threads_steps.specs.Given.ErrandsLooking.{IsOfThem, StaysThere};
+ghost use Rattle.threads_steps.specs.Given.ViewsTold.{pair_in};
 ghost use Rattle.threads_steps.specs.Storing.{Since};
 
 use crate::ahead::Ahead;
@@ -14,8 +14,7 @@ use papaya_raw::machines::{KeyCall, Machine, Progress};
 use seize_blocks::{Blocks, Seat};
 use std::hash::Hash;
 use std::sync::Wait;
-use threads_steps::OfMaps;
-use threads_steps::{Ran, Within, ended};
+use threads_steps::{OfMaps, Ran, Within, ended};
 
 /// The seat takes the turns up to where the code stands.
 pub(crate) fn stands<K: Eq, V, S: Hashes<K>>(

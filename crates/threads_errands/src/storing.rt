@@ -2,8 +2,8 @@
 //! and by steps from there on.
 ghost use Rattle.std.specs.Prelude.{◌≡◌, ◌≢◌, true, Some, None, IfOk};
 ghost use Rattle.threads_errands.specs.Ahead.{IsAhead};
-ghost use Rattle.threads_rule.specs.Errands.Calling.{CalledSo, HasCalled, HasEnded, IsAnswerBy, IsAnswerTo, IsBack, IsCalling, MayCall, OnKey as IsOnKey, handed_by, pair_wanted, sort_of, wanted_of};
-ghost use Rattle.threads_rule.specs.Errands.Looking.{StaysThere};
+ghost use Rattle.threads_steps.specs.Given.ErrandsCalling.{CalledSo, HasCalled, HasEnded, IsAnswerBy, IsAnswerTo, IsBack, IsCalling, MayCall, OnKey as IsOnKey, handed_by, pair_wanted, sort_of, wanted_of};
+ghost use Rattle.threads_steps.specs.Given.ErrandsLooking.{StaysThere};
 ghost use Rattle.threads_steps.specs.Storing.{HasBegun, IsFirst, IsToPut, Since, stores_pair};
 ghost use Rattle.threads_errands.specs.Puts.{HasStored};
 ghost use Rattle.map_straight.specs.Straight.Storing.{call_at, storing};
@@ -12,7 +12,7 @@ ghost use Rattle.papaya_raw.specs.declared.machines.call.Calling.TheVariants as 
 ghost use Rattle.papaya_raw.specs.declared.machines.machine.Machine.TheVariants.{Key as KeyMachine};
 ghost use Rattle.papaya_raw.specs.declared.machines.progress.Progress.TheVariants.{Goes as IsOn};
 ghost use Rattle.map_tables.specs.declared.node.Node.{Node as AnyNode};
-ghost use Rattle.threads_rule.specs.Views.Told.{pair_in};
+ghost use Rattle.threads_steps.specs.Given.ViewsTold.{pair_in};
 
 use crate::ahead::Ahead;
 use crate::running::{runs, stands};
@@ -22,8 +22,7 @@ use papaya_raw::machines::{Answer, Machine, Progress, There};
 use seize_blocks::{Blocks, Seat};
 use std::hash::Hash;
 use std::sync::Wait;
-use threads_steps::OfMaps;
-use threads_steps::{Ran, Within};
+use threads_steps::{OfMaps, Ran, Within};
 
 /// Whether a call is to store a pair that it has from the beginning.
 #[inline(always)]

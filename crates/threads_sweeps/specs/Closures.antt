@@ -14,8 +14,8 @@ use Rattle.threads_calls.specs.Given.ViewsBegun.{asked, replied}
 use Rattle.threads_calls.specs.Given.ViewsLooks.{shown_in}
 use Rattle.threads_calls.specs.Given.ViewsDeclared.view.View.{View}
 use Rattle.threads_calls.specs.Given.ViewsDeclared.view.SeatWork.TheVariants.{Calls}
-use Rattle.threads_steps.specs.Asking.{reply_of}
-use Rattle.threads_steps.specs.Steps.{HasStepped}
+use Rattle.threads_calls.specs.Given.StepsAsking.{reply_of}
+use Rattle.threads_calls.specs.Given.Steps.{HasStepped}
 use Rattle.threads_sweeps.specs.Swept.{retains, walks}
 
 -- The closure was called with the pair of this word, which the seat shows, has answered so, and is so then.

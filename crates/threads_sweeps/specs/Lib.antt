@@ -1,3 +1,4 @@
 pub mod Closures
 pub mod Heard
 pub mod Swept
+pub mod Given

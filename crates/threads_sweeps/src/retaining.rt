@@ -2,7 +2,7 @@
 ghost use Rattle.std.specs.Prelude.{◌≡◌, Bool, IfNone, IfSome};
 ghost use Rattle.map_tables.specs.declared.node.Node.{Node};
 ghost use Rattle.papaya_raw.specs.declared.machines.progress.Progress.{Progress};
-ghost use Rattle.threads_steps.specs.Made.{IsSameSeat};
+ghost use Rattle.threads_calls.specs.Given.Made.{IsSameSeat};
 ghost use Rattle.threads_calls.specs.Given.ErrandsLooking.{IsOfThem, StaysThere};
 ghost use Rattle.threads_calls.specs.Given.ErrandsSweeping.{HasGoneOver, IsAskingOf, IsSweeping, MayGoOver, RetainedSo};
 ghost use Rattle.threads_calls.specs.Given.CallKindsKinds.{PairIsVisible};
@@ -22,8 +22,7 @@ use seize_blocks::{Blocks, Errand, Seat};
 use seize_words::{Fault, Link, Look};
 use std::hash::Hash;
 use std::sync::Wait;
-use threads_calls::{OfMaps, SessionBase};
-use threads_calls::Within;
+use threads_calls::{OfMaps, SessionBase, Within};
 
 /// A retaining of the pairs of a map of which a test says yes.
 pub struct Retains<'r, R, K, V, S, F> {

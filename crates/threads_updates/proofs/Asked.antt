@@ -16,8 +16,8 @@ use Rattle.threads_calls.specs.Given.SeizeViewsDeclared.view.Has.TheVariants.{No
 use Rattle.threads_calls.specs.Given.SeizeViewsDeclared.view.SlotView.TheVariants.{Inside}
 use Rattle.threads_calls.specs.Given.CallersStanding.{known_by}
 use Rattle.threads_calls.proofs.Sessions.{may_do}
-use Rattle.threads_steps.specs.Asking.{AsksWith, WasReplied}
-use Rattle.threads_steps.proofs.Told.{asks_none, asks_pair}
+use Rattle.threads_calls.specs.Given.StepsAsking.{AsksWith, WasReplied}
+use Rattle.threads_calls.proofs.Given.Told.{asks_none, asks_pair}
 use Rattle.threads_calls.specs.Given.CallKindsKinds.{Continues, PairIsVisible, Stage, stage_after}
 use Rattle.threads_calls.specs.Given.ErrandsCalling.{IsAsking, IsUnderWay, MayDoAs, wanted_of}
 use Rattle.threads_calls.specs.Given.ActsActs.{Compute}

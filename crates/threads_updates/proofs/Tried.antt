@@ -8,7 +8,7 @@ use Rattle.seize_words.specs.declared.operation.Operation.TheVariants as operati
 use Rattle.papaya_raw.specs.declared.machines.progress.Answer.{Answer}
 use Rattle.threads_calls.specs.Given.ActsActs.{Compute}
 use Rattle.threads_calls.specs.Given.ViewsDeclared.view.View.{View}
-use Rattle.threads_steps.specs.Asking.{HasAnswered}
+use Rattle.threads_calls.specs.Given.StepsAsking.{HasAnswered}
 use Rattle.threads_updates.specs.Computing.{Once, SaidLast, Told}
 use Rattle.threads_updates.specs.Deciding.{NewOldOr}
 use Rattle.threads_updates.specs.Updated.{EndsSo, HasComputed, HasLeft, HasStopped, HasTold, HasTriedOnce, IsLeft, IsSo, SaysAborted}

@@ -11,7 +11,7 @@ use Rattle.papaya_raw.specs.declared.machines.asking.MachineReply.{MachineReply}
 use Rattle.papaya_raw.specs.declared.machines.asking.MachineReply.TheVariants as reply
 use Rattle.papaya_raw.specs.declared.machines.asking.Takes.TheVariants as takes
 use Rattle.papaya_raw.specs.declared.machines.machine.Machine.{Machine}
-use Rattle.threads_steps.specs.Asking.{HasAnswered}
+use Rattle.threads_calls.specs.Given.StepsAsking.{HasAnswered}
 use Rattle.threads_calls.specs.Given.CallKindsKinds.{Kind, Stage, PairIsVisible}
 use Rattle.threads_calls.specs.Given.ErrandsCalling.{IsAsking, IsUnderWay}
 use Rattle.threads_calls.specs.Given.ActsActs.{Wanted}

@@ -7,7 +7,7 @@ use Rattle.seize_words.specs.declared.operation.Operation.TheVariants as operati
 use Rattle.papaya_raw.specs.declared.machines.answer.KeyAnswer.TheVariants as answers
 use Rattle.papaya_raw.specs.declared.machines.progress.Answer.{Answer}
 use Rattle.papaya_raw.specs.declared.machines.progress.Answer.TheVariants.{Key as OfKey}
-use Rattle.threads_steps.specs.Asking.{HasAnswered}
+use Rattle.threads_calls.specs.Given.StepsAsking.{HasAnswered}
 use Rattle.threads_calls.specs.Given.ActsActs.{Compute}
 use Rattle.threads_calls.specs.Given.ViewsDeclared.view.View.{View}
 use Rattle.threads_updates.specs.Computing.{Told}

@@ -3,8 +3,8 @@
 ghost use Rattle.std.specs.Prelude.{◌≡◌, Option, Some, false, option_map};
 ghost use Rattle.seize_words.specs.OneMemory.Word.{block_in};
 ghost use Rattle.map_tables.specs.declared.node.Node.TheVariants.{Pair};
-ghost use Rattle.threads_steps.specs.Asking.{WasReplied};
-ghost use Rattle.threads_steps.specs.Made.{IsSameSeat};
+ghost use Rattle.threads_calls.specs.Given.StepsAsking.{WasReplied};
+ghost use Rattle.threads_calls.specs.Given.Made.{IsSameSeat};
 ghost use Rattle.threads_calls.specs.Given.CallKindsKinds.{PairIsVisible, Stage};
 ghost use Rattle.threads_calls.specs.Given.ErrandsCalling.{MayDoAs, wanted_of};
 ghost use Rattle.threads_calls.specs.Given.ActsActs.{Compute};
@@ -20,8 +20,7 @@ use seize_blocks::{Blocks, Errand, Seat};
 use seize_words::{Fault, Link, Look, Operation};
 use std::hash::Hash;
 use std::sync::Wait;
-use threads_calls::{OfMaps, SessionBase};
-use threads_calls::{Halt, Within};
+use threads_calls::{Halt, OfMaps, SessionBase, Within};
 
 /// What a call that computes has come to.
 #[derive(Drop)]

@@ -3,7 +3,7 @@ ghost use Rattle.std.specs.Prelude.{◌≡◌, ◌≢◌, IfOk, IfErr};
 ghost use Rattle.papaya_sessions.specs.Homes.{OneMap, home_at, home_of};
 ghost use Rattle.papaya_sessions.specs.OneMap.{MapCameToHave, MapGaveUp, MapLacked, WasRefused};
 ghost use Rattle.papaya_sessions.specs.Kept.{KeepsMap};
-ghost use Rattle.threads_calls.specs.Answers.{CameBack, has_stored};
+ghost use Rattle.papaya_sessions.specs.Given.CallsAnswers.{CameBack, has_stored};
 ghost use Rattle.papaya_sessions.specs.Given.ActsActs.{Insert, Remove, TryToInsert};
 ghost use Rattle.seize_words.specs.declared.fault.Fault.TheVariants.{ForeignGuard};
 

@@ -3,19 +3,19 @@ use Rattle.std.specs.Prelude.{◌≡◌, ◌≢◌, ◌<◌, ◌≤◌, ◌⊎�
 use Rattle.std.proofs.Common.{sym, ap, subst, ◌∙◌, inl, inr, arith}
 use Rattle.std.proofs.lemmas.Bool.{cases_eq}
 use Rattle.seize.specs.World.{Use}
-use Rattle.run_shows.specs.Given.CallersRows.{IsRowOn, IsUsedAlike}
-use Rattle.run_shows.specs.Given.FinishesEndings.{EndingsTogether}
-use Rattle.run_shows.specs.Given.FinishesMachines.{machine_of}
-use Rattle.run_shows.specs.Given.FinishesMakings.{Beginning}
-use Rattle.run_shows.specs.Given.FinishesMaps.{Standing}
+use Rattle.run_places.specs.Given.CallersRows.{IsRowOn, IsUsedAlike}
+use Rattle.run_places.specs.Given.FinishesEndings.{EndingsTogether}
+use Rattle.run_places.specs.Given.FinishesMachines.{machine_of}
+use Rattle.run_places.specs.Given.FinishesMakings.{Beginning}
+use Rattle.run_places.specs.Given.FinishesMaps.{Standing}
 use Rattle.run_executor.specs.declared.executor.Executor.{Executor}
-use Rattle.run_shows.specs.declared.row.SlotUse.{SlotUse}
-use Rattle.run_shows.specs.declared.row.SlotUse.TheVariants as slot_use
-use Rattle.run_shows.specs.declared.callers.TheConstants.{SLOTS}
+use Rattle.run_places.specs.Given.ScenesDeclared.row.SlotUse.{SlotUse}
+use Rattle.run_places.specs.Given.ScenesDeclared.row.SlotUse.TheVariants as slot_use
+use Rattle.run_places.specs.Given.ScenesDeclared.callers.TheConstants.{SLOTS}
 use Rattle.run_executor.specs.declared.worker.Work.{Work}
 use Rattle.run_executor.proofs.Executing.Places.{no_worker, own_worker, same_caller}
 use Rattle.run_executor.specs.Executing.IsThere.{ChangesAt, HasRow, IsThere, IsUsedAs, call_in, ending_in, in_slot, making_in, place_of, use_at, work_of, worker_at, worker_of}
-use Rattle.run_shows.specs.Scenes.Scene.{Scene, slot_of}
+use Rattle.run_places.specs.Given.ScenesScene.{Scene, slot_of}
 
 -- Who has this at a place, and something else there later, or nothing: others have what they had.
 module _ {K V S : Type 0} (e e2 : Executor K V S) (i : ℕ) (had has : Option (Work K V)) (before : worker_at e (place_of i) ≡ worker_of (slot_of i) had)

@@ -3,25 +3,25 @@ use Rattle.std.specs.Prelude.{◌≡◌, ◌<◌, ◌^◌, ℕ, Bool, [], ◌∷
 use Rattle.std.proofs.Common.{refl, sym, ap, subst, ◌∙◌}
 use Rattle.seize.specs.World.{IsInside}
 use Rattle.papaya_raw.specs.declared.machines.machine.Machine.{Machine}
-use Rattle.run_shows.proofs.Given.CallersTogether.Slots.{alike_same}
-use Rattle.run_shows.specs.Given.CallersTogether.{UnderWay, OnKey, ForRoom, Counting, OverAll}
-use Rattle.run_shows.specs.Given.FinishesEndings.{EndingsTogether}
-use Rattle.run_shows.specs.Given.FinishesMaps.{Standing, with_call}
-use Rattle.run_shows.proofs.Given.FinishesAmong.Calls.{calls_begin_among}
-use Rattle.run_shows.proofs.Given.FinishesAmong.Countings.{countings_begin_among}
-use Rattle.run_shows.proofs.Given.FinishesAmong.Rooms.{rooms_begin_among}
-use Rattle.run_shows.proofs.Given.FinishesAmong.Sweeps.{sweeps_begin_among}
+use Rattle.run_places.proofs.Given.CallersTogether.Slots.{alike_same}
+use Rattle.run_places.specs.Given.CallersTogether.{UnderWay, OnKey, ForRoom, Counting, OverAll}
+use Rattle.run_places.specs.Given.FinishesEndings.{EndingsTogether}
+use Rattle.run_places.specs.Given.FinishesMaps.{Standing, with_call}
+use Rattle.run_places.proofs.Given.FinishesAmong.Calls.{calls_begin_among}
+use Rattle.run_places.proofs.Given.FinishesAmong.Countings.{countings_begin_among}
+use Rattle.run_places.proofs.Given.FinishesAmong.Rooms.{rooms_begin_among}
+use Rattle.run_places.proofs.Given.FinishesAmong.Sweeps.{sweeps_begin_among}
 use Rattle.run_executor.specs.declared.executor.Executor.{Executor}
-use Rattle.run_shows.specs.declared.callers.TheConstants.{SLOTS}
+use Rattle.run_places.specs.Given.ScenesDeclared.callers.TheConstants.{SLOTS}
 use Rattle.run_executor.specs.declared.worker.Work.TheVariants as work
-use Rattle.run_shows.specs.declared.row.SlotUse.TheVariants as used
+use Rattle.run_places.specs.Given.ScenesDeclared.row.SlotUse.TheVariants as used
 use Rattle.run_executor.proofs.Executing.Changed.{is_at_on}
 use Rattle.run_executor.proofs.Executing.Few.{are_few}
 use Rattle.run_executor.proofs.Executing.Fresh.{caller_in, fresh_before, fresh_changes, fresh_place, no_calls_yet, no_ending_yet, no_making_yet, resting}
 use Rattle.run_executor.specs.Executing.Beginning.{BeginsThere}
 use Rattle.run_executor.specs.Executing.IsThere.{ChangesAt, IsThere, place_of, use_at, worker_with}
-use Rattle.run_shows.specs.Scenes.Beginning.{Begins}
-use Rattle.run_shows.specs.Scenes.Scene.{Scene, slot_of}
+use Rattle.run_places.specs.Given.ScenesBeginning.{Begins}
+use Rattle.run_places.specs.Given.ScenesScene.{Scene, slot_of}
 use Rattle.run_executor.proofs.Executing.Used.{used_slots_are_inside}
 
 module _ {K V S : Type 0} (same : K → K → Bool) (hash : K → ℕ) (e : Executor K V S) (s : Scene K V) (at : IsThere same hash e s) (slot m : ℕ) (machine : Machine K V K)

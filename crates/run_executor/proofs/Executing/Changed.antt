@@ -5,20 +5,20 @@ use Rattle.std.proofs.lemmas.Bool.{cases_eq}
 use Rattle.seize.specs.World.{World, Row, Rests, with_at}
 use Rattle.papaya_raw.specs.Given.TablesDeclared.node.Node.{Node}
 use Rattle.papaya_raw.specs.declared.machines.machine.Machine.{Machine}
-use Rattle.run_shows.specs.Given.CallersRows.{LeavesSlots}
-use Rattle.run_shows.specs.Given.CallersTogether.{UnderWay}
-use Rattle.run_shows.proofs.Given.CallersTogether.At.{at_other, at_same}
-use Rattle.run_shows.specs.Given.FinishesEndings.{EndingsTogether}
-use Rattle.run_shows.specs.Given.FinishesMachines.{machine_of}
-use Rattle.run_shows.specs.Given.FinishesMaps.{Standing, with_call}
+use Rattle.run_places.specs.Given.CallersRows.{LeavesSlots}
+use Rattle.run_places.specs.Given.CallersTogether.{UnderWay}
+use Rattle.run_places.proofs.Given.CallersTogether.At.{at_other, at_same}
+use Rattle.run_places.specs.Given.FinishesEndings.{EndingsTogether}
+use Rattle.run_places.specs.Given.FinishesMachines.{machine_of}
+use Rattle.run_places.specs.Given.FinishesMaps.{Standing, with_call}
 use Rattle.run_executor.specs.declared.executor.Executor.{Executor}
 use Rattle.run_executor.specs.declared.worker.Work.{Work}
 use Rattle.run_executor.specs.declared.worker.Work.TheVariants as work
-use Rattle.run_shows.specs.declared.row.SlotUse.TheVariants as slot_use
+use Rattle.run_places.specs.Given.ScenesDeclared.row.SlotUse.TheVariants as slot_use
 use Rattle.run_executor.proofs.Executing.Again.{there_again, used_on, work_own}
 use Rattle.run_executor.proofs.Executing.Places.{call_found, no_call, own_call, within}
 use Rattle.run_executor.specs.Executing.IsThere.{ChangesAt, HasRow, IsThere, IsUsedAs, call_in, ending_in, making_in, place_of, use_at, worker_at, worker_with}
-use Rattle.run_shows.specs.Scenes.Scene.{Scene, slot_of}
+use Rattle.run_places.specs.Given.ScenesScene.{Scene, slot_of}
 use Rattle.seize_words.proofs.General.{none_mapped as none_of}
 
 module _ {K V : Type 0} where

@@ -6,22 +6,22 @@ use Rattle.std.proofs.lemmas.List.{get_or-set_other, get_or-set_same, length-set
 use Rattle.seize.specs.World.{with_at}
 use Rattle.papaya_raw.specs.Given.TablesDeclared.setting.Setting.{Setting}
 use Rattle.papaya_raw.specs.EndMap.{ending}
-use Rattle.run_shows.proofs.Given.CallersTogether.At.{at_other, at_same}
-use Rattle.run_shows.proofs.Given.CallersTogether.Slots.{alike_same}
-use Rattle.run_shows.specs.Given.FinishesEndings.{finishing_of}
-use Rattle.run_shows.specs.Given.FinishesMachines.{machine_of}
-use Rattle.run_shows.specs.Given.FinishesMaps.{Standing}
-use Rattle.run_shows.proofs.Given.FinishesAmong.Begins.{endings_begin}
+use Rattle.run_places.proofs.Given.CallersTogether.At.{at_other, at_same}
+use Rattle.run_places.proofs.Given.CallersTogether.Slots.{alike_same}
+use Rattle.run_places.specs.Given.FinishesEndings.{finishing_of}
+use Rattle.run_places.specs.Given.FinishesMachines.{machine_of}
+use Rattle.run_places.specs.Given.FinishesMaps.{Standing}
+use Rattle.run_places.proofs.Given.FinishesAmong.Begins.{endings_begin}
 use Rattle.run_executor.specs.declared.executor.Executor.{Executor}
-use Rattle.run_shows.specs.declared.callers.TheConstants.{SLOTS}
+use Rattle.run_places.specs.Given.ScenesDeclared.callers.TheConstants.{SLOTS}
 use Rattle.run_executor.specs.declared.worker.Work.TheVariants as work
 use Rattle.run_executor.proofs.Executing.Fresh.{caller_in, fresh_before, fresh_changes, no_calls_yet, no_ending_yet, no_making_yet, resting}
 use Rattle.run_executor.proofs.Executing.Made.{finished_at}
 use Rattle.run_executor.proofs.Executing.Places.{within}
 use Rattle.run_executor.specs.Executing.Ending.{EndingBegins}
 use Rattle.run_executor.specs.Executing.IsThere.{IsThere}
-use Rattle.run_shows.specs.Scenes.Ending.{ending_begun}
-use Rattle.run_shows.specs.Scenes.Scene.{Scene, slot_of}
+use Rattle.run_places.specs.Given.ScenesEnding.{ending_begun}
+use Rattle.run_places.specs.Given.ScenesScene.{Scene, slot_of}
 use Rattle.seize_words.proofs.General.{none_mapped as none_of}
 
 -- a map whose setting is kept stands

@@ -10,12 +10,12 @@ use Rattle.papaya_raw.specs.Given.TablesNodes.{deferred_word}
 use Rattle.papaya_raw.specs.Given.TablesDeclared.node.Node.{Node}
 use Rattle.papaya_raw.specs.EndMap.{end_map_plan}
 use Rattle.papaya_raw.specs.declared.machines.end_map.EndMap.{EndMap}
-use Rattle.run_effects.specs.declared.changed.Changed.TheVariants.{Nothing}
-use Rattle.run_shows.proofs.Given.CallersTogether.Slots.{between_rows, between_slots}
-use Rattle.run_shows.specs.Given.CallersRows.{LeavesSlots}
-use Rattle.run_shows.specs.Given.FinishesEndings.{Finishing, EndingsTogether, FinishingOutcome, StepsOfEnding, waiting_by}
-use Rattle.run_shows.specs.Given.FinishesFactsEnds.{events_of}
-use Rattle.run_shows.proofs.Given.FinishesAmong.Own.Steps.{endings_stand}
+use Rattle.run_places.specs.Given.EffectsDeclared.changed.Changed.TheVariants.{Nothing}
+use Rattle.run_places.proofs.Given.CallersTogether.Slots.{between_rows, between_slots}
+use Rattle.run_places.specs.Given.CallersRows.{LeavesSlots}
+use Rattle.run_places.specs.Given.FinishesEndings.{Finishing, EndingsTogether, FinishingOutcome, StepsOfEnding, waiting_by}
+use Rattle.run_places.specs.Given.FinishesFactsEnds.{events_of}
+use Rattle.run_places.proofs.Given.FinishesAmong.Own.Steps.{endings_stand}
 use Rattle.run_executor.specs.declared.executor.Executor.{Executor}
 use Rattle.run_executor.specs.declared.worker.Work.{Work}
 use Rattle.run_executor.specs.declared.worker.Work.TheVariants as work
@@ -26,10 +26,10 @@ use Rattle.run_executor.proofs.Executing.Makings.{set_there}
 use Rattle.run_executor.proofs.Executing.Places.{ending_found}
 use Rattle.run_executor.specs.Executing.Ending.{ending_on}
 use Rattle.run_executor.specs.Executing.IsThere.{ChangesAt, HasRow, IsThere, call_in, ending_in, making_in, place_of, worker_at, worker_of, held_by}
-use Rattle.run_shows.proofs.Scenes.Between.{deed_between}
-use Rattle.run_shows.proofs.Scenes.Told.{as_step}
-use Rattle.run_shows.specs.Scenes.Ending.{EndingOutcomeHolds, EndingStepsFrom}
-use Rattle.run_shows.specs.Scenes.Scene.{IsEnding, Scene, slot_of}
+use Rattle.run_places.proofs.Given.ScenesBetween.{deed_between}
+use Rattle.run_places.proofs.Given.ScenesTold.{as_step}
+use Rattle.run_places.specs.Given.ScenesEnding.{EndingOutcomeHolds, EndingStepsFrom}
+use Rattle.run_places.specs.Given.ScenesScene.{IsEnding, Scene, slot_of}
 
 module _ (K V : Type 0) where
   no_call : (m : ℕ) (ending : EndMap) (told : Settled (Node K V)) → call_in (ending_on ending told) m ≡ None

@@ -4,15 +4,15 @@ use Rattle.std.specs.List.{All, AllPairs, AllByRecursion, IsDistinct, list_any}
 use Rattle.std.proofs.Common.{refl, sym, ap, subst, ◌∙◌, inl, inr, arith}
 use Rattle.std.proofs.lemmas.Bool.{ne_eqb}
 use Rattle.std.proofs.lemmas.Map.Steps.{length-le_from_distinct_below}
-use Rattle.run_shows.specs.Given.CallersClaims.{AreFew}
-use Rattle.run_shows.specs.Given.CallersTogether.{UnderWay}
-use Rattle.run_shows.specs.Given.CallersTogether as callers
+use Rattle.run_places.specs.Given.CallersClaims.{AreFew}
+use Rattle.run_places.specs.Given.CallersTogether.{UnderWay}
+use Rattle.run_places.specs.Given.CallersTogether as callers
 use Rattle.run_executor.specs.declared.executor.Executor.{Executor}
 use Rattle.run_executor.proofs.Executing.Changed.{place_there, worker_is}
 use Rattle.run_executor.proofs.Executing.Places.{same_caller}
 use Rattle.run_executor.proofs.Executing.Taken.{same_worker}
 use Rattle.run_executor.specs.Executing.IsThere.{IsThere, place_of}
-use Rattle.run_shows.specs.Scenes.Scene.{Scene}
+use Rattle.run_places.specs.Given.ScenesScene.{Scene}
 
 module _ (f : ℕ → ℕ) where
   same_length : (xs : List ℕ) → length (map f xs) ≡ length xs

@@ -5,18 +5,18 @@ use Rattle.std.proofs.lemmas.Bool.{cases_lt}
 use Rattle.std.proofs.lemmas.List.{get_or-replicate, get_or_past, length-replicate}
 use Rattle.seize.specs.World.{Rests, Vacant, at_start}
 use Rattle.papaya_raw.specs.Given.TablesNodes.{deferred_word}
-use Rattle.run_shows.specs.Given.FinishesEndings.{EndingsTogether}
-use Rattle.run_shows.proofs.Given.FinishesAmong.Begins.{no_endings_begin}
-use Rattle.run_shows.proofs.Given.FinishesBeside.Makings.Promised.{no_makings_begin}
-use Rattle.run_shows.proofs.Given.ManyMapsSamples.Beside.Makings.{start_roots}
-use Rattle.run_shows.proofs.Given.FinishesBeside.Maps.Comes.{no_maps_begin}
+use Rattle.run_places.specs.Given.FinishesEndings.{EndingsTogether}
+use Rattle.run_places.proofs.Given.FinishesAmong.Begins.{no_endings_begin}
+use Rattle.run_places.proofs.Given.FinishesBeside.Makings.Promised.{no_makings_begin}
+use Rattle.run_places.proofs.Given.ManyMapsSamples.Beside.Makings.{start_roots}
+use Rattle.run_places.proofs.Given.FinishesBeside.Maps.Comes.{no_maps_begin}
 use Rattle.run_executor.specs.declared.executor.Executor.{Executor}
-use Rattle.run_shows.specs.declared.row.SlotUse.{SlotUse}
-use Rattle.run_shows.specs.declared.row.SlotUse.TheVariants as slot_use
-use Rattle.run_shows.specs.declared.callers.TheConstants.{SLOTS}
+use Rattle.run_places.specs.Given.ScenesDeclared.row.SlotUse.{SlotUse}
+use Rattle.run_places.specs.Given.ScenesDeclared.row.SlotUse.TheVariants as slot_use
+use Rattle.run_places.specs.Given.ScenesDeclared.callers.TheConstants.{SLOTS}
 use Rattle.run_executor.specs.declared.worker.Work.{Work}
 use Rattle.run_executor.specs.Executing.IsThere.{HasRow, IsThere, IsUsedAs, call_in, ending_in, in_slot, making_in, place_of, work_of}
-use Rattle.run_shows.specs.Scenes.Scene.{at_first, slot_of}
+use Rattle.run_places.specs.Given.ScenesScene.{at_first, slot_of}
 
 -- at first each slot is vacant
 all_vacant : (t : ℕ) → (t < SLOTS) ⊎ (SLOTS ≤ t) → slice_index_or (replicate SLOTS slot_use.Vacant) t slot_use.Vacant ≡ slot_use.Vacant

@@ -4,10 +4,10 @@ use Rattle.std.proofs.Common.{◌≡◌, refl, sym, subst}
 use Rattle.seize_words.specs.OneMemory.Mem.{Can, Took, value_at}
 use Rattle.seize_words.specs.OneMemory.Plan.{Plan, May, Steps}
 use Rattle.papaya_raw.specs.Given.TablesDeclared.node.Node.{Node}
-use Rattle.run_effects.specs.ReportingMemory.Changed.{is_made}
-use Rattle.run_effects.specs.ReportingMemory.Tells.{Telling, CanTell, TookObserved, StepsObserved}
-use Rattle.run_effects.specs.declared.changed.Changed.TheVariants.{Nothing}
-use Rattle.run_effects.proofs.ReportingMemory.Laws.{may_with_teller, refuses_with_teller, steps_with_teller}
+use Rattle.run_places.specs.Given.TellerChanged.{is_made}
+use Rattle.run_places.specs.Given.TellerTells.{Telling, CanTell, TookObserved, StepsObserved}
+use Rattle.run_places.specs.Given.EffectsDeclared.changed.Changed.TheVariants.{Nothing}
+use Rattle.run_places.proofs.Given.ReportingMemoryLaws.{may_with_teller, refuses_with_teller, steps_with_teller}
 
 module _ (K V R : Type 0) (t f : Telling K V R) (is : f ≡ record t { changed = Nothing }) (plan : Plan (Node K V) R) where
   pub may_forgotten : May Can Took value_at t.memory plan → May (CanTell K V R) (TookObserved K V R) (λ t. value_at t.memory) f plan

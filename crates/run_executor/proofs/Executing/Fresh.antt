@@ -4,12 +4,12 @@ use Rattle.std.proofs.Common.{sym, ap, subst, ◌∙◌, inl, inr, arith}
 use Rattle.std.proofs.lemmas.Bool.{cases_lt}
 use Rattle.std.proofs.lemmas.List.{get_or_past, get_or_push, get_or_append_left, length-append}
 use Rattle.seize.specs.World.{Rests}
-use Rattle.run_shows.specs.Given.FinishesMachines.{machine_of}
+use Rattle.run_places.specs.Given.FinishesMachines.{machine_of}
 use Rattle.run_executor.specs.declared.executor.Executor.{Executor}
-use Rattle.run_shows.specs.declared.callers.TheConstants.{SLOTS}
+use Rattle.run_places.specs.Given.ScenesDeclared.callers.TheConstants.{SLOTS}
 use Rattle.run_executor.specs.declared.worker.Work.{Work}
 use Rattle.run_executor.specs.Executing.IsThere.{ChangesAt, HasRow, IsThere, call_in, ending_in, in_slot, making_in, place_of, work_of, worker_at, worker_of}
-use Rattle.run_shows.specs.Scenes.Scene.{Scene, slot_of}
+use Rattle.run_places.specs.Given.ScenesScene.{Scene, slot_of}
 use Rattle.seize_words.proofs.General.{none_mapped as none_of}
 
 -- its number

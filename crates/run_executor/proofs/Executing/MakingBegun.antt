@@ -3,19 +3,19 @@ use Rattle.std.specs.Prelude.{◌≡◌, ◌<◌, ◌+◌, ℕ, Bool, [], ◌∷
 use Rattle.std.proofs.Common.{refl, sym, ap, ◌∙◌, arith}
 use Rattle.std.proofs.lemmas.List.{get_or_past, length-append}
 use Rattle.papaya_raw.specs.Given.TablesDeclared.setting.Setting.{Setting}
-use Rattle.run_shows.proofs.Given.CallersTogether.Slots.{alike_same}
-use Rattle.run_shows.specs.Given.FinishesMakings.{Beginning}
-use Rattle.run_shows.proofs.Given.FinishesAmong.Makings.{makings_begin_among}
-use Rattle.run_shows.proofs.Given.FinishesBeside.Makings.Promised.{makings_begin}
+use Rattle.run_places.proofs.Given.CallersTogether.Slots.{alike_same}
+use Rattle.run_places.specs.Given.FinishesMakings.{Beginning}
+use Rattle.run_places.proofs.Given.FinishesAmong.Makings.{makings_begin_among}
+use Rattle.run_places.proofs.Given.FinishesBeside.Makings.Promised.{makings_begin}
 use Rattle.run_executor.specs.declared.executor.Executor.{Executor}
-use Rattle.run_shows.specs.declared.callers.TheConstants.{SLOTS}
+use Rattle.run_places.specs.Given.ScenesDeclared.callers.TheConstants.{SLOTS}
 use Rattle.run_executor.specs.declared.worker.Work.TheVariants as work
 use Rattle.run_executor.proofs.Executing.Fresh.{caller_in, fresh_before, fresh_changes, no_calls_yet, no_ending_yet, no_making_yet, resting}
 use Rattle.run_executor.proofs.Executing.Made.{made_at}
 use Rattle.run_executor.proofs.Executing.Places.{one_number}
 use Rattle.run_executor.specs.Executing.IsThere.{IsThere}
 use Rattle.run_executor.specs.Executing.MakingBegins.{MakingBegins, next_making}
-use Rattle.run_shows.specs.Scenes.Scene.{Scene, slot_of}
+use Rattle.run_places.specs.Given.ScenesScene.{Scene, slot_of}
 use Rattle.seize_words.proofs.General.{none_mapped as none_of}
 
 module _ {K V S : Type 0} (same : K → K → Bool) (hash : K → ℕ) (e : Executor K V S) (s : Scene K V) (at : IsThere same hash e s) (slot : ℕ) (fits : slot < SLOTS) (given : Setting) (places : ℕ)

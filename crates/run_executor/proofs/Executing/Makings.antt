@@ -11,16 +11,16 @@ use Rattle.seize.specs.declared.advance.Advance.TheVariants as progress
 use Rattle.papaya_raw.specs.Given.TablesNodes.{deferred_word}
 use Rattle.papaya_raw.specs.Given.TablesDeclared.node.Node.{Node}
 use Rattle.papaya_raw.specs.Given.TablesDeclared.setting.Setting.{Setting}
-use Rattle.run_effects.specs.Given.ResizeNewMap.{new_map_plan}
-use Rattle.run_effects.specs.Given.ResizeDeclared.new_map.NewMap.{NewMap}
-use Rattle.run_effects.specs.declared.changed.Changed.TheVariants.{Nothing}
-use Rattle.run_shows.proofs.Given.CallersTogether.At.{at_other, at_same}
-use Rattle.run_shows.proofs.Given.CallersTogether.Slots.{all_between, between_rows, between_slots}
-use Rattle.run_shows.specs.Given.CallersRows.{LeavesSlots}
-use Rattle.run_shows.specs.Given.FinishesEndings.{EndingsTogether, MakingStepsWithEndings, MakingOutcomeWithEndings}
-use Rattle.run_shows.specs.Given.FinishesMakings.{Beginning}
-use Rattle.run_shows.specs.Given.FinishesMaps.{Standing}
-use Rattle.run_shows.proofs.Given.FinishesAmong.Makings.{makings_stand_among}
+use Rattle.run_places.specs.Given.ResizeNewMap.{new_map_plan}
+use Rattle.run_places.specs.Given.ResizeDeclared.new_map.NewMap.{NewMap}
+use Rattle.run_places.specs.Given.EffectsDeclared.changed.Changed.TheVariants.{Nothing}
+use Rattle.run_places.proofs.Given.CallersTogether.At.{at_other, at_same}
+use Rattle.run_places.proofs.Given.CallersTogether.Slots.{all_between, between_rows, between_slots}
+use Rattle.run_places.specs.Given.CallersRows.{LeavesSlots}
+use Rattle.run_places.specs.Given.FinishesEndings.{EndingsTogether, MakingStepsWithEndings, MakingOutcomeWithEndings}
+use Rattle.run_places.specs.Given.FinishesMakings.{Beginning}
+use Rattle.run_places.specs.Given.FinishesMaps.{Standing}
+use Rattle.run_places.proofs.Given.FinishesAmong.Makings.{makings_stand_among}
 use Rattle.run_executor.specs.declared.executor.Executor.{Executor}
 use Rattle.run_executor.specs.declared.worker.Work.{Work}
 use Rattle.run_executor.specs.declared.worker.Work.TheVariants as work
@@ -30,9 +30,9 @@ use Rattle.run_executor.proofs.Executing.Made.{made_at}
 use Rattle.run_executor.proofs.Executing.Places.{making_found}
 use Rattle.run_executor.specs.Executing.IsThere.{ChangesAt, HasRow, IsThere, call_in, ending_in, making_in, place_of, worker_at, worker_of, held_by}
 use Rattle.run_executor.specs.Executing.Making.{making_on, maps_on}
-use Rattle.run_shows.proofs.Scenes.Told.{as_step}
-use Rattle.run_shows.specs.Scenes.Making.{MakingOutcomeHolds, MakingStepsFrom}
-use Rattle.run_shows.specs.Scenes.Scene.{IsMaking, Scene, slot_of}
+use Rattle.run_places.proofs.Given.ScenesTold.{as_step}
+use Rattle.run_places.specs.Given.ScenesMaking.{MakingOutcomeHolds, MakingStepsFrom}
+use Rattle.run_places.specs.Given.ScenesScene.{IsMaking, Scene, slot_of}
 
 -- the settings are as many as they were
 pub same_count : (map : ℕ) (told : Advance Setting) (maps : List (Option Setting)) → length (maps_on map told maps) ≡ length maps

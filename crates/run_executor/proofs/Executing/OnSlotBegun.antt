@@ -4,21 +4,21 @@ use Rattle.std.specs.Option.{is_none}
 use Rattle.std.proofs.Common.{refl, sym, ap, subst, ◌∙◌, arith}
 use Rattle.std.proofs.lemmas.List.{length-set}
 use Rattle.seize.specs.World.{World, Row, Changing, Begin, Begins, Happens, with_at, one_more}
-use Rattle.run_effects.proofs.Given.SeizeRuleRows.Others.{with_here, with_other}
+use Rattle.run_places.proofs.Given.SeizeRuleRows.Others.{with_here, with_other}
 use Rattle.papaya_raw.specs.Given.TablesNodes.{deferred_word}
 use Rattle.papaya_raw.specs.Given.TablesDeclared.node.Node.{Node}
-use Rattle.run_shows.specs.Given.CallersRows.{IsRowOn}
-use Rattle.run_shows.specs.Given.CallersTogether.{UnderWay, IsOfSlots, Closes}
-use Rattle.run_shows.proofs.Given.CallersTogether.Fits.{unless_so}
-use Rattle.run_shows.proofs.Given.CallersTogether.Slots.{alike_more, alike_at}
-use Rattle.run_shows.specs.Given.FinishesEndings.{AllEndingsStand}
-use Rattle.run_shows.specs.Given.FinishesMachines.{machine_of}
-use Rattle.run_shows.proofs.Given.FinishesAmong.Rows.{guards_stand_among}
+use Rattle.run_places.specs.Given.CallersRows.{IsRowOn}
+use Rattle.run_places.specs.Given.CallersTogether.{UnderWay, IsOfSlots, Closes}
+use Rattle.run_places.proofs.Given.CallersTogether.Fits.{unless_so}
+use Rattle.run_places.proofs.Given.CallersTogether.Slots.{alike_more, alike_at}
+use Rattle.run_places.specs.Given.FinishesEndings.{AllEndingsStand}
+use Rattle.run_places.specs.Given.FinishesMachines.{machine_of}
+use Rattle.run_places.proofs.Given.FinishesAmong.Rows.{guards_stand_among}
 use Rattle.run_executor.specs.declared.executor.Executor.{Executor}
-use Rattle.run_shows.specs.declared.row.SlotCall.{SlotCall}
-use Rattle.run_shows.specs.declared.row.SlotCall.TheVariants as call
-use Rattle.run_shows.specs.declared.row.SlotUse.TheVariants as used
-use Rattle.run_shows.specs.declared.callers.TheConstants.{SLOTS}
+use Rattle.run_places.specs.Given.ScenesDeclared.row.SlotCall.{SlotCall}
+use Rattle.run_places.specs.Given.ScenesDeclared.row.SlotCall.TheVariants as call
+use Rattle.run_places.specs.Given.ScenesDeclared.row.SlotUse.TheVariants as used
+use Rattle.run_places.specs.Given.ScenesDeclared.callers.TheConstants.{SLOTS}
 use Rattle.run_executor.specs.declared.worker.Work.{Work}
 use Rattle.run_executor.specs.declared.worker.Work.TheVariants as work
 use Rattle.run_executor.proofs.Executing.Again.{later, there_again, used_on}
@@ -26,11 +26,11 @@ use Rattle.run_executor.proofs.Executing.Fresh.{caller_in, fresh_before, fresh_c
 use Rattle.run_executor.proofs.Executing.Uses.{inside_now, outside_now, taken_now, used_then}
 use Rattle.run_executor.specs.Executing.IsThere.{ChangesAt, IsThere, IsUsedAs, call_in, place_of, use_at, work_of, worker_of, held_by}
 use Rattle.run_executor.specs.Executing.OnSlots.{MayBegin, NobodyIn, RowBeginsThere}
-use Rattle.run_shows.proofs.Scenes.Goes.{same_map_keeps}
-use Rattle.run_shows.proofs.Scenes.OnSlots.{its_row}
-use Rattle.run_shows.specs.Scenes.OnSlots.{HappensTo}
-use Rattle.run_shows.specs.Scenes.Rows.{begun_row, request_of, uses_begun}
-use Rattle.run_shows.specs.Scenes.Scene.{Scene, row_of, slot_of}
+use Rattle.run_places.proofs.Given.ScenesGoes.{same_map_keeps}
+use Rattle.run_places.proofs.Given.ScenesOnSlots.{its_row}
+use Rattle.run_places.specs.Given.ScenesOnSlots.{HappensTo}
+use Rattle.run_places.specs.Given.ScenesRows.{begun_row, request_of, uses_begun}
+use Rattle.run_places.specs.Given.ScenesScene.{Scene, row_of, slot_of}
 
 -- the row of each neither retires nor defers a block
 pub of_slots : (slot : ℕ) (called : SlotCall) → IsOfSlots (request_of slot called)

@@ -5,22 +5,22 @@ use Rattle.std.proofs.Common.{refl, sym, ap, subst, ◌∙◌, arith}
 use Rattle.std.proofs.lemmas.List.{length-set}
 use Rattle.seize_words.specs.OneMemory.Mem.{Mem}
 use Rattle.seize.specs.World.{World, Row, MayStep, Step, Happens, Steps'}
-use Rattle.run_effects.proofs.Given.SeizeRuleRows.Others.{steps_others}
+use Rattle.run_places.proofs.Given.SeizeRuleRows.Others.{steps_others}
 use Rattle.papaya_raw.specs.Given.TablesNodes.{deferred_word}
 use Rattle.papaya_raw.specs.Given.TablesDeclared.node.Node.{Node}
-use Rattle.run_shows.specs.Given.CallersRows.{IsRowOn}
-use Rattle.run_shows.specs.Given.FinishesEndings.{Finishing, AllEndingsStand}
-use Rattle.run_shows.specs.Given.FinishesMachines.{machine_of}
-use Rattle.run_shows.specs.Given.FinishesMakings.{Beginning}
-use Rattle.run_shows.proofs.Given.FinishesAmong.Rows.{guards_stand_among}
+use Rattle.run_places.specs.Given.CallersRows.{IsRowOn}
+use Rattle.run_places.specs.Given.FinishesEndings.{Finishing, AllEndingsStand}
+use Rattle.run_places.specs.Given.FinishesMachines.{machine_of}
+use Rattle.run_places.specs.Given.FinishesMakings.{Beginning}
+use Rattle.run_places.proofs.Given.FinishesAmong.Rows.{guards_stand_among}
 use Rattle.run_executor.specs.declared.executor.Executor.{Executor}
-use Rattle.run_shows.specs.declared.row.RowTold.{RowTold}
-use Rattle.run_shows.specs.declared.row.RowTold.TheVariants as told
-use Rattle.run_shows.specs.declared.row.SlotChange.{SlotChange}
-use Rattle.run_shows.specs.declared.row.SlotChange.TheVariants as change
-use Rattle.run_shows.specs.declared.row.SlotRow.{SlotRow}
-use Rattle.run_shows.specs.declared.row.SlotUse.{SlotUse}
-use Rattle.run_shows.specs.declared.row.SlotUse.TheVariants as used
+use Rattle.run_places.specs.Given.ScenesDeclared.row.RowTold.{RowTold}
+use Rattle.run_places.specs.Given.ScenesDeclared.row.RowTold.TheVariants as told
+use Rattle.run_places.specs.Given.ScenesDeclared.row.SlotChange.{SlotChange}
+use Rattle.run_places.specs.Given.ScenesDeclared.row.SlotChange.TheVariants as change
+use Rattle.run_places.specs.Given.ScenesDeclared.row.SlotRow.{SlotRow}
+use Rattle.run_places.specs.Given.ScenesDeclared.row.SlotUse.{SlotUse}
+use Rattle.run_places.specs.Given.ScenesDeclared.row.SlotUse.TheVariants as used
 use Rattle.run_executor.specs.declared.worker.Work.{Work}
 use Rattle.run_executor.specs.declared.worker.Work.TheVariants as work
 use Rattle.run_executor.specs.declared.worker.Worker.{Worker}
@@ -30,10 +30,10 @@ use Rattle.run_executor.proofs.Executing.Places.{found_in}
 use Rattle.run_executor.proofs.Executing.RowsGo.{Goes, goes}
 use Rattle.run_executor.specs.Executing.IsThere.{ChangesAt, HasRow, IsThere, IsUsedAs, call_in, ending_in, making_in, place_of, work_of, worker_at, worker_of, held_by}
 use Rattle.run_executor.specs.Executing.OnSlots.{row_on}
-use Rattle.run_shows.proofs.Scenes.Goes.{same_map_keeps}
-use Rattle.run_shows.specs.Scenes.OnSlots.{HappensTo, RowSteps}
-use Rattle.run_shows.specs.Scenes.Rows.{change_of, uses_after}
-use Rattle.run_shows.specs.Scenes.Scene.{Scene, row_of, slot_of, IsOnSlot}
+use Rattle.run_places.proofs.Given.ScenesGoes.{same_map_keeps}
+use Rattle.run_places.specs.Given.ScenesOnSlots.{HappensTo, RowSteps}
+use Rattle.run_places.specs.Given.ScenesRows.{change_of, uses_after}
+use Rattle.run_places.specs.Given.ScenesScene.{Scene, row_of, slot_of, IsOnSlot}
 use Rattle.seize_words.proofs.General.{none_mapped as none_of}
 
 module _ (K V : Type 0) where

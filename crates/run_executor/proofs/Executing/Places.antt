@@ -4,14 +4,14 @@ use Rattle.std.proofs.Common.{refl, sym, ap, ◌∙◌, inl, inr, arith}
 use Rattle.std.proofs.lemmas.Bool.{cases_lt, eq-eqb, ne_eqb}
 use Rattle.std.proofs.lemmas.List.{get_or_past, get_or_append_left}
 use Rattle.std.proofs.Math.Seq.{get_or-append_right}
-use Rattle.run_effects.specs.Given.ResizeDeclared.new_map.NewMap.{NewMap}
+use Rattle.run_places.specs.Given.ResizeDeclared.new_map.NewMap.{NewMap}
 use Rattle.papaya_raw.specs.declared.machines.end_map.EndMap.{EndMap}
 use Rattle.papaya_raw.specs.declared.machines.machine.Machine.{Machine}
 use Rattle.run_executor.specs.declared.worker.Work.{Work}
 use Rattle.run_executor.specs.declared.worker.Work.TheVariants as work
 use Rattle.run_executor.specs.declared.worker.Worker.{Worker}
 use Rattle.run_executor.specs.Executing.IsThere.{call_in, ending_in, in_slot, making_in, place_of, worker_of, worker_with}
-use Rattle.run_shows.specs.Scenes.Scene.{slot_of}
+use Rattle.run_places.specs.Given.ScenesScene.{slot_of}
 
 -- a list has no more in it with a place for one more
 nothing : {X : Type 0} (k : ℕ) → slice_index_or {A = Option X} (None ∷ []) k None ≡ None

@@ -4,20 +4,20 @@ use Rattle.std.proofs.Common.{refl, sym, ap, subst, ◌∙◌}
 use Rattle.papaya_raw.specs.Machine.{machine_replied, machine_asked}
 use Rattle.papaya_raw.specs.declared.machines.asking.MachineReply.{MachineReply}
 use Rattle.papaya_raw.specs.declared.machines.machine.Machine.{Machine}
-use Rattle.run_shows.proofs.Given.CallersTogether.Slots.{alike_same}
-use Rattle.run_shows.specs.Given.CallersTogether.{UnderWay}
-use Rattle.run_shows.specs.Given.FinishesEndings.{EndingsTogether}
-use Rattle.run_shows.specs.Given.FinishesMachines.{machine_of}
-use Rattle.run_shows.specs.Given.FinishesMaps.{with_call}
-use Rattle.run_shows.proofs.Given.FinishesAmong.MachinesTold.{machines_told_among}
+use Rattle.run_places.proofs.Given.CallersTogether.Slots.{alike_same}
+use Rattle.run_places.specs.Given.CallersTogether.{UnderWay}
+use Rattle.run_places.specs.Given.FinishesEndings.{EndingsTogether}
+use Rattle.run_places.specs.Given.FinishesMachines.{machine_of}
+use Rattle.run_places.specs.Given.FinishesMaps.{with_call}
+use Rattle.run_places.proofs.Given.FinishesAmong.MachinesTold.{machines_told_among}
 use Rattle.run_executor.specs.declared.executor.Executor.{Executor}
 use Rattle.run_executor.proofs.Executing.Changed.{is_at_on, worker_is}
 use Rattle.run_executor.proofs.Executing.Taken.{taken_call, through}
 use Rattle.run_executor.specs.Executing.IsThere.{ChangesAt, IsThere, place_of, worker_at, worker_with, held_by}
 use Rattle.run_executor.specs.Executing.Replying.{AsksThere, PutBack, RepliesThere}
-use Rattle.run_shows.specs.Scenes.Replying.{scene_with}
-use Rattle.run_shows.specs.Scenes.Scene.{Scene, slot_of}
-use Rattle.run_shows.proofs.Scenes.May.{standing_is}
+use Rattle.run_places.specs.Given.ScenesReplying.{scene_with}
+use Rattle.run_places.specs.Given.ScenesScene.{Scene, slot_of}
+use Rattle.run_places.proofs.Given.ScenesMay.{standing_is}
 
 module _ {K V S : Type 0} (same : K → K → Bool) (hash : K → ℕ) (e : Executor K V S) (s : Scene K V) (at : IsThere same hash e s) (i : ℕ)
     (e1 e2 : Executor K V S) (memory1 : e1.memory ≡ e.memory) (items : e1.workers.items ≡ slice_set e.workers.items (place_of i) None) (hasher : e1.hasher ≡ e.hasher)

@@ -3,16 +3,16 @@ use Rattle.std.specs.Prelude.{◌≡◌, ℕ, Bool, Option, Some, None, option_m
 use Rattle.std.proofs.Common.{refl, sym, ap, subst, ◌∙◌}
 use Rattle.seize.specs.World.{Row, Rests, Step}
 use Rattle.papaya_raw.specs.Given.TablesDeclared.node.Node.{Node}
-use Rattle.run_shows.specs.Given.FinishesMachines.{machine_of}
-use Rattle.run_shows.specs.Scenes.Held.{IsAt}
-use Rattle.run_shows.specs.Scenes.OnSlots.{RowLeads, row_then}
-use Rattle.run_shows.specs.Scenes.Scene.{Scene, IsOnSlot, row_of}
-use Rattle.run_shows.specs.declared.row.RowTold.{RowTold}
-use Rattle.run_shows.specs.declared.row.RowTold.TheVariants as told
-use Rattle.run_shows.specs.declared.row.SlotRow.{SlotRow}
-use Rattle.run_shows.proofs.Scenes.Leads.{happens}
-use Rattle.run_shows.proofs.Scenes.NoCall.{none_is}
-use Rattle.run_shows.proofs.Scenes.Rows.{never_rests, one_row}
+use Rattle.run_places.specs.Given.FinishesMachines.{machine_of}
+use Rattle.run_places.specs.Given.ScenesHeld.{IsAt}
+use Rattle.run_places.specs.Given.ScenesOnSlots.{RowLeads, row_then}
+use Rattle.run_places.specs.Given.ScenesScene.{Scene, IsOnSlot, row_of}
+use Rattle.run_places.specs.Given.ScenesDeclared.row.RowTold.{RowTold}
+use Rattle.run_places.specs.Given.ScenesDeclared.row.RowTold.TheVariants as told
+use Rattle.run_places.specs.Given.ScenesDeclared.row.SlotRow.{SlotRow}
+use Rattle.run_places.proofs.Given.ScenesLeads.{happens}
+use Rattle.run_places.proofs.Given.ScenesNoCall.{none_is}
+use Rattle.run_places.proofs.Given.ScenesRows.{never_rests, one_row}
 use Rattle.run_executor.specs.declared.executor.Executor.{Executor}
 use Rattle.run_executor.specs.declared.worker.Work.{Work}
 use Rattle.run_executor.specs.declared.worker.Work.TheVariants as work

@@ -26,36 +26,36 @@ use Rattle.seize.specs.Leave as leave
 use Rattle.seize.specs.Register as register
 use Rattle.seize.specs.Settle.{settle_plan}
 use Rattle.seize.specs.World.{World, Row, Rests, Registers, Enters, Settles, Leaves, Frees, Use, Vacant, Outside, Inside, left_as, left_row, with_at, with_use, after_step, settles_on, leaves_on, registers_on, registered_use, Steps'}
-use Rattle.run_effects.proofs.Given.SeizeMovesState.Ghost.{State}
-use Rattle.run_effects.proofs.Given.SeizeRuleRows.Known.{FitsRow, FitsRegister, FitsLeave}
-use Rattle.run_effects.proofs.Given.SeizeRuleRows.Others.{with_here}
-use Rattle.run_effects.proofs.Given.SeizeRuleRows.Teams.{shares}
-use Rattle.run_effects.proofs.Given.SeizeMemoryWords.Shows.{Extra}
-use Rattle.run_effects.proofs.Given.SeizeMemoryWords.View.{view}
+use Rattle.run_places.proofs.Given.SeizeMovesState.Ghost.{State}
+use Rattle.run_places.proofs.Given.SeizeRuleRows.Known.{FitsRow, FitsRegister, FitsLeave}
+use Rattle.run_places.proofs.Given.SeizeRuleRows.Others.{with_here}
+use Rattle.run_places.proofs.Given.SeizeRuleRows.Teams.{shares}
+use Rattle.run_places.proofs.Given.SeizeMemoryWords.Shows.{Extra}
+use Rattle.run_places.proofs.Given.SeizeMemoryWords.View.{view}
 use Rattle.papaya_raw.specs.Given.TablesNodes.{deferred_word}
 use Rattle.papaya_raw.specs.Given.TablesDeclared.node.Node.{Node}
-use Rattle.run_effects.specs.declared.changed.Changed.{Changed}
-use Rattle.run_effects.specs.declared.changed.Changed.TheVariants.{Nothing}
-use Rattle.run_shows.specs.Given.CallersRows.{IsRowOn, LeavesSlots}
-use Rattle.run_shows.proofs.Given.CallersTogether.Slots.{alike_same, alike_at, step_leaves}
+use Rattle.run_places.specs.Given.EffectsDeclared.changed.Changed.{Changed}
+use Rattle.run_places.specs.Given.EffectsDeclared.changed.Changed.TheVariants.{Nothing}
+use Rattle.run_places.specs.Given.CallersRows.{IsRowOn, LeavesSlots}
+use Rattle.run_places.proofs.Given.CallersTogether.Slots.{alike_same, alike_at, step_leaves}
 use Rattle.run_executor.specs.declared.executor.Executor.{Executor}
-use Rattle.run_shows.specs.declared.row.RowTold.{RowTold}
-use Rattle.run_shows.specs.declared.row.SlotChange.{SlotChange}
-use Rattle.run_shows.specs.declared.row.SlotChange.TheVariants as change
-use Rattle.run_shows.specs.declared.row.SlotRow.{SlotRow}
-use Rattle.run_shows.specs.declared.row.SlotRow.TheVariants as rows
-use Rattle.run_shows.specs.declared.row.SlotUse.{SlotUse}
-use Rattle.run_shows.specs.declared.row.SlotUse.TheVariants as used
-use Rattle.run_shows.specs.declared.callers.TheConstants.{SLOTS}
+use Rattle.run_places.specs.Given.ScenesDeclared.row.RowTold.{RowTold}
+use Rattle.run_places.specs.Given.ScenesDeclared.row.SlotChange.{SlotChange}
+use Rattle.run_places.specs.Given.ScenesDeclared.row.SlotChange.TheVariants as change
+use Rattle.run_places.specs.Given.ScenesDeclared.row.SlotRow.{SlotRow}
+use Rattle.run_places.specs.Given.ScenesDeclared.row.SlotRow.TheVariants as rows
+use Rattle.run_places.specs.Given.ScenesDeclared.row.SlotUse.{SlotUse}
+use Rattle.run_places.specs.Given.ScenesDeclared.row.SlotUse.TheVariants as used
+use Rattle.run_places.specs.Given.ScenesDeclared.callers.TheConstants.{SLOTS}
 use Rattle.run_executor.proofs.Executing.Again.{used_on}
 use Rattle.run_executor.proofs.Executing.Uses.{reached, used_then}
 use Rattle.run_executor.specs.Executing.IsThere.{HasRow, IsThere, IsUsedAs, use_at}
 use Rattle.run_executor.specs.Executing.OnSlots.{row_on}
-use Rattle.run_shows.proofs.Scenes.OnSlots.{left_at}
-use Rattle.run_shows.proofs.Scenes.Told.{as_step}
-use Rattle.run_shows.specs.Scenes.OnSlots.{RowSteps}
-use Rattle.run_shows.specs.Scenes.Rows.{change_of, left_by, of_registering, of_settling, of_storing, taken_as, uses_after}
-use Rattle.run_shows.specs.Scenes.Scene.{Scene, row_of}
+use Rattle.run_places.proofs.Given.ScenesOnSlots.{left_at}
+use Rattle.run_places.proofs.Given.ScenesTold.{as_step}
+use Rattle.run_places.specs.Given.ScenesOnSlots.{RowSteps}
+use Rattle.run_places.specs.Given.ScenesRows.{change_of, left_by, of_registering, of_settling, of_storing, taken_as, uses_after}
+use Rattle.run_places.specs.Given.ScenesScene.{Scene, row_of}
 
 -- a registering answers the slot that it stands at
 module _ {T : Type 0} (shown : ℕ → Option T) (c c2 : Register) (slot : ℕ) where

@@ -8,22 +8,22 @@ use Rattle.papaya_raw.specs.Given.TablesDeclared.node.Node.{Node}
 use Rattle.papaya_raw.specs.Machine.{machine_plan}
 use Rattle.papaya_raw.specs.declared.machines.machine.Machine.{Machine}
 use Rattle.papaya_raw.specs.declared.machines.progress.Progress.{Progress}
-use Rattle.run_effects.specs.ReportingMemory.Tells.{StepsObserved}
-use Rattle.run_effects.specs.declared.changed.Changed.TheVariants.{Nothing}
-use Rattle.run_shows.specs.Given.CallersTogether.{UnderWay}
-use Rattle.run_shows.specs.Given.FinishesMachines.{machine_of, MachineStepsWithEndings}
-use Rattle.run_shows.specs.Given.FinishesMaps.{Standing}
-use Rattle.run_shows.proofs.Given.FinishesAmong.Machines.{machines_stand_among}
+use Rattle.run_places.specs.Given.TellerTells.{StepsObserved}
+use Rattle.run_places.specs.Given.EffectsDeclared.changed.Changed.TheVariants.{Nothing}
+use Rattle.run_places.specs.Given.CallersTogether.{UnderWay}
+use Rattle.run_places.specs.Given.FinishesMachines.{machine_of, MachineStepsWithEndings}
+use Rattle.run_places.specs.Given.FinishesMaps.{Standing}
+use Rattle.run_places.proofs.Given.FinishesAmong.Machines.{machines_stand_among}
 use Rattle.run_executor.specs.declared.executor.Executor.{Executor}
 use Rattle.run_executor.proofs.Executing.Changed.{is_at_on, worker_is}
 use Rattle.run_executor.proofs.Executing.Taken.{through}
 use Rattle.run_executor.specs.Executing.IsThere.{ChangesAt, IsThere, place_of, worker_with, held_by}
 use Rattle.run_executor.specs.Executing.Stepping.{SteppedAs}
-use Rattle.run_shows.proofs.Scenes.Told.{as_step}
-use Rattle.run_shows.specs.Scenes.Scene.{Scene, slot_of}
-use Rattle.run_shows.specs.Scenes.Stepping.{StepsFrom, going_on, scene_after}
-use Rattle.run_shows.proofs.Scenes.May.{standing_is}
-use Rattle.run_shows.proofs.Scenes.Goes.{Keeps, goes_as, moved_map_keeps, same_map_keeps}
+use Rattle.run_places.proofs.Given.ScenesTold.{as_step}
+use Rattle.run_places.specs.Given.ScenesScene.{Scene, slot_of}
+use Rattle.run_places.specs.Given.ScenesStepping.{StepsFrom, going_on, scene_after}
+use Rattle.run_places.proofs.Given.ScenesMay.{standing_is}
+use Rattle.run_places.proofs.Given.ScenesGoes.{Keeps, goes_as, moved_map_keeps, same_map_keeps}
 
 module _ {K V S : Type 0} (same : K → K → Bool) (hash : K → ℕ) (e : Executor K V S) (s : Scene K V) (at : IsThere same hash e s) (m i : ℕ) (u : UnderWay K V K) (here : s.calls m i ≡ Some u) where
   abbrev standing : Standing K

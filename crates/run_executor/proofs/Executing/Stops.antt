@@ -2,23 +2,23 @@
 use Rattle.std.specs.Prelude.{◌≡◌, ℕ, Bool, true, false, Option, Some, None, option_map}
 use Rattle.std.proofs.Common.{refl, sym, ap, subst, ◌∙◌}
 use Rattle.seize.specs.World.{Rests, with_at}
-use Rattle.run_effects.proofs.Given.SeizeRuleRows.Leaving.{with_same}
+use Rattle.run_places.proofs.Given.SeizeRuleRows.Leaving.{with_same}
 use Rattle.papaya_raw.specs.Given.ReservesDeclared.sweep.Sweeping.{Sweeping}
 use Rattle.papaya_raw.specs.Given.ReservesDeclared.sweep.Sweeping.TheVariants as sweeping
 use Rattle.papaya_raw.specs.Machine.{machine_asked, is_ready}
 use Rattle.papaya_raw.specs.declared.machines.machine.Machine.{Machine}
-use Rattle.run_shows.proofs.Given.CallersTogether.Slots.{alike_same}
-use Rattle.run_shows.specs.Given.CallersTogether.{UnderWay, OnKey, ForRoom, Counting, OverAll}
-use Rattle.run_shows.specs.Given.FinishesEndings.{EndingsTogether}
-use Rattle.run_shows.specs.Given.FinishesMachines.{machine_of}
-use Rattle.run_shows.specs.Given.FinishesMaps.{Standing, with_call}
-use Rattle.run_shows.proofs.Given.FinishesAmong.Sweeps.{walks_stop_among}
+use Rattle.run_places.proofs.Given.CallersTogether.Slots.{alike_same}
+use Rattle.run_places.specs.Given.CallersTogether.{UnderWay, OnKey, ForRoom, Counting, OverAll}
+use Rattle.run_places.specs.Given.FinishesEndings.{EndingsTogether}
+use Rattle.run_places.specs.Given.FinishesMachines.{machine_of}
+use Rattle.run_places.specs.Given.FinishesMaps.{Standing, with_call}
+use Rattle.run_places.proofs.Given.FinishesAmong.Sweeps.{walks_stop_among}
 use Rattle.run_executor.specs.declared.executor.Executor.{Executor}
 use Rattle.run_executor.proofs.Executing.Changed.{is_at_on, worker_is}
 use Rattle.run_executor.specs.Executing.IsThere.{ChangesAt, IsThere, place_of, worker_with, held_by}
-use Rattle.run_shows.specs.Scenes.Replying.{unless_stopped}
-use Rattle.run_shows.specs.Scenes.Scene.{Scene, slot_of}
-use Rattle.run_shows.proofs.Scenes.May.{standing_is}
+use Rattle.run_places.specs.Given.ScenesReplying.{unless_stopped}
+use Rattle.run_places.specs.Given.ScenesScene.{Scene, slot_of}
+use Rattle.run_places.proofs.Given.ScenesMay.{standing_is}
 
 -- a stage that is ready is that one
 ready_is : (stage : Sweeping) → is_ready stage ≡ true → stage ≡ sweeping.Ready

@@ -3,14 +3,14 @@ use Rattle.std.specs.Prelude.{◌≡◌, ℕ, Bool, Option, Some, None, length, 
 use Rattle.std.proofs.Common.{sym, ap, ◌∙◌, arith}
 use Rattle.std.proofs.lemmas.List.{get_or-set_other, length-set}
 use Rattle.papaya_raw.specs.declared.machines.machine.Machine.{Machine}
-use Rattle.run_shows.specs.Given.CallersTogether.{UnderWay}
-use Rattle.run_shows.specs.Given.FinishesMachines.{machine_of}
+use Rattle.run_places.specs.Given.CallersTogether.{UnderWay}
+use Rattle.run_places.specs.Given.FinishesMachines.{machine_of}
 use Rattle.run_executor.specs.declared.executor.Executor.{Executor}
 use Rattle.run_executor.specs.declared.worker.Work.TheVariants as work
 use Rattle.run_executor.specs.declared.worker.Worker.{Worker}
 use Rattle.run_executor.proofs.Executing.Changed.{worker_is}
 use Rattle.run_executor.specs.Executing.IsThere.{ChangesAt, IsThere, place_of, worker_at, worker_with}
-use Rattle.run_shows.specs.Scenes.Scene.{HasCall, Scene, slot_of}
+use Rattle.run_places.specs.Given.ScenesScene.{HasCall, Scene, slot_of}
 
 module _ {K V : Type 0} where
   -- a call at a place is one call

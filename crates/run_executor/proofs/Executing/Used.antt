@@ -2,7 +2,7 @@
 use Rattle.std.specs.Prelude.{ℕ, Bool}
 use Rattle.std.proofs.Common.{sym, subst}
 use Rattle.seize.specs.World.{IsInside}
-use Rattle.run_shows.specs.declared.row.SlotUse.{SlotUse}
+use Rattle.run_places.specs.Given.ScenesDeclared.row.SlotUse.{SlotUse}
 use Rattle.run_executor.specs.Executing.IsThere.{IsUsedAs}
 use Rattle.run_executor.specs.Executing.Used.{UsedSlotsAreInside}
 

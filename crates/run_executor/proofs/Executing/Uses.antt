@@ -5,23 +5,23 @@ use Rattle.std.proofs.lemmas.Bool.{cases_eq}
 use Rattle.std.proofs.lemmas.List.{get_or-set_other, get_or-set_same}
 use Rattle.seize.specs.Law.{is_open}
 use Rattle.seize.specs.World.{Row, Rests, Registers, Enters, Settles, Leaves, Defers, Frees, Use, Outside, Inside, IsTaken, with_at}
-use Rattle.run_effects.specs.Given.SeizeWaitingHeld.{same as alike}
-use Rattle.run_effects.proofs.Given.SeizeMovesState.Ghost.{emptied}
-use Rattle.run_effects.proofs.Given.SeizeRuleRows.Known.{works_on}
-use Rattle.run_effects.proofs.Given.SeizeRuleRows.Teams.{UseFits, shares, is_shared}
-use Rattle.run_shows.proofs.Given.SeizeAloneHistories.Reached.{Reached}
+use Rattle.run_places.specs.Given.SeizeWaitingHeld.{same as alike}
+use Rattle.run_places.proofs.Given.SeizeMovesState.Ghost.{emptied}
+use Rattle.run_places.proofs.Given.SeizeRuleRows.Known.{works_on}
+use Rattle.run_places.proofs.Given.SeizeRuleRows.Teams.{UseFits, shares, is_shared}
+use Rattle.run_places.proofs.Given.SeizeAloneHistories.Reached.{Reached}
 use Rattle.papaya_raw.specs.Given.TablesNodes.{deferred_word}
-use Rattle.run_shows.proofs.Given.CallersTogether.At.{at_other, at_same}
-use Rattle.run_shows.proofs.Given.CallersTogether.Came.{came_reached}
-use Rattle.run_shows.specs.Given.CallersRows.{IsRowOn}
+use Rattle.run_places.proofs.Given.CallersTogether.At.{at_other, at_same}
+use Rattle.run_places.proofs.Given.CallersTogether.Came.{came_reached}
+use Rattle.run_places.specs.Given.CallersRows.{IsRowOn}
 use Rattle.run_executor.specs.declared.executor.Executor.{Executor}
-use Rattle.run_shows.specs.declared.row.SlotUse.{SlotUse}
-use Rattle.run_shows.specs.declared.row.SlotUse.TheVariants as used
+use Rattle.run_places.specs.Given.ScenesDeclared.row.SlotUse.{SlotUse}
+use Rattle.run_places.specs.Given.ScenesDeclared.row.SlotUse.TheVariants as used
 use Rattle.run_executor.specs.declared.worker.Work.{Work}
 use Rattle.run_executor.specs.Executing.IsThere.{HasRow, IsThere, IsUsedAs, use_at}
 use Rattle.run_executor.specs.Executing.OnSlots.{NobodyIn}
-use Rattle.run_shows.specs.Scenes.Scene.{Scene, slot_of}
-use Rattle.run_shows.proofs.Given.SeizeSetsTurns.Heads.{nobody as no_team}
+use Rattle.run_places.specs.Given.ScenesScene.{Scene, slot_of}
+use Rattle.run_places.proofs.Given.SeizeSetsTurns.Heads.{nobody as no_team}
 
 not_alike : (a b : ℕ) → a ≢ b → alike a b ≡ 0
 not_alike a b ne = grind (arith, ne)

@@ -1,7 +1,7 @@
 -- Slots that are noted as vacant, one after another.
 use Rattle.std.specs.Prelude.{◌≡◌, ◌<◌, ℕ, List, length, slice_index_or}
-use Rattle.run_shows.specs.declared.row.SlotUse.{SlotUse}
-use Rattle.run_shows.specs.declared.row.SlotUse.TheVariants.{Vacant}
+use Rattle.run_places.specs.Given.ScenesDeclared.row.SlotUse.{SlotUse}
+use Rattle.run_places.specs.Given.ScenesDeclared.row.SlotUse.TheVariants.{Vacant}
 
 -- so many of the first ones are vacant, of as many as there were
 abbrev pub AreVacant : ℕ → List SlotUse → List SlotUse → Type 0

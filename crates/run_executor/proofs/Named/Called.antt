@@ -2,27 +2,27 @@
 use Rattle.std.specs.Prelude.{◌≡◌, ◌^◌, ℕ, Bool, true, [], Some, None}
 use Rattle.std.proofs.Common.{refl, sym, arith}
 use Rattle.papaya_raw.specs.Given.ReservesReserve.{reserving}
-use Rattle.run_effects.specs.Given.ResizeSum.{summing}
-use Rattle.run_effects.specs.Given.RuleMaps.{IsClass}
-use Rattle.run_shows.specs.Given.PointsSteps.{AreLawful}
+use Rattle.run_places.specs.Given.ResizeSum.{summing}
+use Rattle.run_places.specs.Given.RuleMaps.{IsClass}
+use Rattle.run_places.specs.Given.PointsSteps.{AreLawful}
 use Rattle.papaya_raw.specs.Given.ReservesDeclared.sweep.Purpose.TheVariants.{Walks, Clears, Retains}
 use Rattle.run_schedules.specs.Schedules.Sequential.{key_of}
 use Rattle.run_schedules.specs.declared.call.Call.{Call}
 use Rattle.run_schedules.specs.declared.call.Call.TheVariants.{On, Reserve, Clear, Retain, Len, Walk}
 use Rattle.run_schedules.specs.declared.call.OneKey.{OneKey}
 use Rattle.run_schedules.specs.declared.call.OneKey.TheVariants.{Get, GetKeyValue, ContainsKey, Insert, TryInsert, TryInsertWith, GetOrInsert, GetOrInsertWith, Update, UpdateOrInsert, UpdateOrInsertWith, Compute, Remove, RemoveEntry, RemoveIf}
-use Rattle.run_shows.specs.Given.CallersOverAll.{begun_over_all}
-use Rattle.run_shows.specs.Given.CallersTogether.{UnderWay, OnKey, ForRoom, Counting, OverAll, IsBegun, Gets, Removes, Inserts, TriesToInsert, Computes, Updates, UpdatesOrInserts, TriesToInsertWith, RemovesIf, begun_at, in_slot}
-use Rattle.run_shows.specs.Given.FinishesMachines.{machine_of}
-use Rattle.run_shows.specs.Given.FinishesMaps.{Standing}
-use Rattle.run_shows.specs.Follows.Calls.{IsCalled}
+use Rattle.run_places.specs.Given.CallersOverAll.{begun_over_all}
+use Rattle.run_places.specs.Given.CallersTogether.{UnderWay, OnKey, ForRoom, Counting, OverAll, IsBegun, Gets, Removes, Inserts, TriesToInsert, Computes, Updates, UpdatesOrInserts, TriesToInsertWith, RemovesIf, begun_at, in_slot}
+use Rattle.run_places.specs.Given.FinishesMachines.{machine_of}
+use Rattle.run_places.specs.Given.FinishesMaps.{Standing}
+use Rattle.run_places.specs.Given.FollowsCalls.{IsCalled}
 use Rattle.run_places.specs.Hands.Asked.{given_by}
 use Rattle.run_places.specs.Hands.Calling.{IsBegunFor}
 use Rattle.run_executor.specs.Named.Machines.{IsAsFar, RefusedForRoom, machine_for, machine_on}
 use Rattle.run_executor.specs.Named.Seen.{kind_of}
 use Rattle.run_executor.specs.declared.caller.Stands.TheVariants as far
-use Rattle.run_shows.specs.Scenes.Beginning.{Begins}
-use Rattle.run_shows.specs.Scenes.Scene.{slot_of}
+use Rattle.run_places.specs.Given.ScenesBeginning.{Begins}
+use Rattle.run_places.specs.Given.ScenesScene.{slot_of}
 
 -- a key stands for its class
 module _ {K : Type 0} (same : K → K → Bool) (hash : K → ℕ) (are : AreLawful same hash) where

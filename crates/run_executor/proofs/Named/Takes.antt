@@ -19,10 +19,10 @@ use Rattle.run_schedules.specs.declared.call.OneKey.{OneKey}
 use Rattle.run_schedules.specs.declared.call.OneKey.TheVariants.{Get, GetKeyValue, ContainsKey, Insert, TryInsert, TryInsertWith, GetOrInsert, GetOrInsertWith, Update, UpdateOrInsert, UpdateOrInsertWith, Compute, Remove, RemoveEntry, RemoveIf}
 use Rattle.run_schedules.specs.declared.call.Reply.{Reply}
 use Rattle.run_schedules.specs.declared.call.Reply.TheVariants.{Gives, Removes, Aborts, Decides}
-use Rattle.run_shows.specs.Given.LateKinds.{FitsAsking}
-use Rattle.run_shows.specs.Given.CallersAsked.{Asked}
-use Rattle.run_shows.specs.Given.CallersPairs.{kind_of}
-use Rattle.run_effects.specs.Effects.Known.{Known}
+use Rattle.run_places.specs.Given.LateKinds.{FitsAsking}
+use Rattle.run_places.specs.Given.CallersAsked.{Asked}
+use Rattle.run_places.specs.Given.CallersPairs.{kind_of}
+use Rattle.run_places.specs.Given.EffectsKnown.{Known}
 use Rattle.run_places.specs.Hands.Asked.{IsQuestion, reply_to_machine, given_by}
 use Rattle.run_executor.specs.Named.Machines.{IsFor, SweepIsAt}
 use Rattle.run_executor.specs.Named.Seen.{fits, is_choice, is_gift, kind_on}

@@ -10,24 +10,24 @@ use Rattle.seize.specs.ReclaimAll.{reclaiming_all, clearing, reclaim_all_plan}
 use Rattle.seize.specs.World.{Rests}
 use Rattle.papaya_raw.specs.Given.TablesNodes.{deferred_word, was_left}
 use Rattle.papaya_raw.specs.Given.TablesDeclared.node.Node.{Node}
-use Rattle.run_effects.specs.ReportingMemory.Tells.{StepsObserved}
-use Rattle.run_effects.specs.declared.changed.Changed.TheVariants.{Nothing}
-use Rattle.run_effects.specs.declared.teller.Teller.{Teller}
-use Rattle.run_shows.specs.Given.CallersRows.{IsRowOn}
-use Rattle.run_shows.specs.Given.FinishesEndings.{Finishing}
-use Rattle.run_shows.specs.Given.FinishesMachines.{machine_of}
-use Rattle.run_shows.specs.Given.FinishesMakings.{Beginning}
-use Rattle.run_shows.specs.Reclaims.Reclaims.{AllStandIdle, AllIsReclaimed, ReclaimingTogether, StepsOfReclaiming}
-use Rattle.run_shows.proofs.Reclaims.Promised.{reclaiming_begins, reclaiming_stands}
+use Rattle.run_places.specs.Given.TellerTells.{StepsObserved}
+use Rattle.run_places.specs.Given.EffectsDeclared.changed.Changed.TheVariants.{Nothing}
+use Rattle.run_places.specs.Given.EffectsDeclared.teller.Teller.{Teller}
+use Rattle.run_places.specs.Given.CallersRows.{IsRowOn}
+use Rattle.run_places.specs.Given.FinishesEndings.{Finishing}
+use Rattle.run_places.specs.Given.FinishesMachines.{machine_of}
+use Rattle.run_places.specs.Given.FinishesMakings.{Beginning}
+use Rattle.run_places.specs.Given.ReclaimsReclaims.{AllStandIdle, AllIsReclaimed, ReclaimingTogether, StepsOfReclaiming}
+use Rattle.run_places.proofs.Given.ReclaimsPromised.{reclaiming_begins, reclaiming_stands}
 use Rattle.run_executor.specs.declared.executor.Executor.{Executor}
-use Rattle.run_shows.specs.declared.row.SlotUse.{SlotUse}
+use Rattle.run_places.specs.Given.ScenesDeclared.row.SlotUse.{SlotUse}
 use Rattle.run_executor.specs.declared.worker.Work.{Work}
 use Rattle.run_executor.specs.ReclaimsAll.Reclaiming.{NobodyHas, MayReclaim, IsReclaimingThere, Leaves, ReclaimsThere}
 use Rattle.run_executor.specs.Executing.IsThere.{HasRow, IsThere, IsUsedAs, PreservesSettings, call_in, ending_in, held_by, making_in}
-use Rattle.run_shows.proofs.Scenes.Goes.{same_map_keeps}
-use Rattle.run_shows.proofs.Scenes.Told.{as_step}
-use Rattle.run_shows.specs.Scenes.Reclaiming.{ReclaimingOutcomeHolds}
-use Rattle.run_shows.specs.Scenes.Scene.{Scene, slot_of}
+use Rattle.run_places.proofs.Given.ScenesGoes.{same_map_keeps}
+use Rattle.run_places.proofs.Given.ScenesTold.{as_step}
+use Rattle.run_places.specs.Given.ScenesReclaiming.{ReclaimingOutcomeHolds}
+use Rattle.run_places.specs.Given.ScenesScene.{Scene, slot_of}
 use Rattle.seize_words.proofs.General.{none_mapped as none_of}
 
 module _ {K V S : Type 0} (same : K → K → Bool) (hash : K → ℕ) (e : Executor K V S) (s : Scene K V) (at : IsThere same hash e s) (nobody : NobodyHas e) where

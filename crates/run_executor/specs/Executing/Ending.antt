@@ -4,8 +4,8 @@ use Rattle.seize.specs.declared.rows.settle.Settled.{Settled}
 use Rattle.seize.specs.declared.rows.settle.Settled.TheVariants as settled
 use Rattle.papaya_raw.specs.Given.TablesDeclared.node.Node.{Node}
 use Rattle.papaya_raw.specs.declared.machines.end_map.EndMap.{EndMap}
-use Rattle.run_shows.specs.Scenes.Ending.{EndingBeginsTo, EndingLeadsTo}
-use Rattle.run_shows.specs.Scenes.Scene.{Scene}
+use Rattle.run_places.specs.Given.ScenesEnding.{EndingBeginsTo, EndingLeadsTo}
+use Rattle.run_places.specs.Given.ScenesScene.{Scene}
 use Rattle.run_executor.specs.declared.executor.Executor.{Executor}
 use Rattle.run_executor.specs.declared.worker.Work.{Work}
 use Rattle.run_executor.specs.declared.worker.Work.TheVariants as work

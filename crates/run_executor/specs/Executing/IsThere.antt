@@ -1,16 +1,16 @@
 -- That an executor is there, where callers, maps and a memory stand so at a moment.
 use Rattle.std.specs.Prelude.{◌≡◌, ◌≢◌, ◌<◌, ◌≤◌, ℕ, ◌==◌, ◌/◌, Bool, length, Option, Some, None, option_map, slice_index_or, if◌then◌else◌}
 use Rattle.seize.specs.World.{Row, Rests, Use, Vacant, Outside, Inside, Changing}
-use Rattle.run_effects.specs.Given.ResizeDeclared.new_map.NewMap.{NewMap}
+use Rattle.run_places.specs.Given.ResizeDeclared.new_map.NewMap.{NewMap}
 use Rattle.papaya_raw.specs.declared.machines.end_map.EndMap.{EndMap}
 use Rattle.papaya_raw.specs.declared.machines.machine.Machine.{Machine}
-use Rattle.run_shows.specs.Given.FinishesMachines.{machine_of}
-use Rattle.run_shows.specs.Given.FinishesMakings.{Beginning}
-use Rattle.run_shows.specs.Scenes.Held.{Held, IsAt}
-use Rattle.run_shows.specs.Scenes.Scene.{Scene, row_of, slot_of}
-use Rattle.run_shows.specs.declared.callers.TheConstants.{SLOTS}
-use Rattle.run_shows.specs.declared.row.SlotUse.{SlotUse}
-use Rattle.run_shows.specs.declared.row.SlotUse.TheVariants as slot_use
+use Rattle.run_places.specs.Given.FinishesMachines.{machine_of}
+use Rattle.run_places.specs.Given.FinishesMakings.{Beginning}
+use Rattle.run_places.specs.Given.ScenesHeld.{Held, IsAt}
+use Rattle.run_places.specs.Given.ScenesScene.{Scene, row_of, slot_of}
+use Rattle.run_places.specs.Given.ScenesDeclared.callers.TheConstants.{SLOTS}
+use Rattle.run_places.specs.Given.ScenesDeclared.row.SlotUse.{SlotUse}
+use Rattle.run_places.specs.Given.ScenesDeclared.row.SlotUse.TheVariants as slot_use
 use Rattle.run_executor.specs.declared.executor.Executor.{Executor}
 use Rattle.run_executor.specs.declared.worker.Work.{Work}
 use Rattle.run_executor.specs.declared.worker.Work.TheVariants as work

@@ -3,9 +3,9 @@ use Rattle.std.specs.Prelude.{ℕ, Bool, List, Option, Some, None, slice_set}
 use Rattle.seize.specs.declared.advance.Advance.{Advance}
 use Rattle.seize.specs.declared.advance.Advance.TheVariants as progress
 use Rattle.papaya_raw.specs.Given.TablesDeclared.setting.Setting.{Setting}
-use Rattle.run_effects.specs.Given.ResizeDeclared.new_map.NewMap.{NewMap}
-use Rattle.run_shows.specs.Scenes.Making.{MakingLeadsTo}
-use Rattle.run_shows.specs.Scenes.Scene.{Scene}
+use Rattle.run_places.specs.Given.ResizeDeclared.new_map.NewMap.{NewMap}
+use Rattle.run_places.specs.Given.ScenesMaking.{MakingLeadsTo}
+use Rattle.run_places.specs.Given.ScenesScene.{Scene}
 use Rattle.run_executor.specs.declared.executor.Executor.{Executor}
 use Rattle.run_executor.specs.declared.worker.Work.{Work}
 use Rattle.run_executor.specs.declared.worker.Work.TheVariants as work

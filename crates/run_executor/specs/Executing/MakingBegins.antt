@@ -3,10 +3,10 @@ use Rattle.std.specs.Prelude.{◌≡◌, ◌<◌, ◌≤◌, ◌+◌, ◌^◌, �
 use Rattle.std.specs.Int.{IsPowerOfTwo}
 use Rattle.papaya_raw.specs.Given.TablesLengths.{IsTableLen}
 use Rattle.papaya_raw.specs.Given.TablesDeclared.setting.Setting.{Setting}
-use Rattle.run_shows.specs.Given.PointsSteps.{AreLawful}
-use Rattle.run_shows.specs.Given.FinishesMakings.{Beginning}
-use Rattle.run_shows.specs.Scenes.Making.{making_begun, scene_making}
-use Rattle.run_shows.specs.Scenes.Scene.{Scene}
+use Rattle.run_places.specs.Given.PointsSteps.{AreLawful}
+use Rattle.run_places.specs.Given.FinishesMakings.{Beginning}
+use Rattle.run_places.specs.Given.ScenesMaking.{making_begun, scene_making}
+use Rattle.run_places.specs.Given.ScenesScene.{Scene}
 use Rattle.run_executor.specs.declared.executor.Executor.{Executor}
 use Rattle.run_executor.specs.Executing.IsThere.{IsThere}
 

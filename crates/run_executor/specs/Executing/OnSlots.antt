@@ -2,15 +2,15 @@
 use Rattle.std.specs.Prelude.{◌≡◌, ◌⊎◌, ℕ, Bool, Option, Some, None}
 use Rattle.seize.specs.World.{Step}
 use Rattle.papaya_raw.specs.Given.TablesDeclared.node.Node.{Node}
-use Rattle.run_shows.specs.Scenes.OnSlots.{HappensTo, RowBeginsTo, RowSteps}
-use Rattle.run_shows.specs.Scenes.Rows.{begun_row, uses_begun, uses_after, change_of}
-use Rattle.run_shows.specs.Scenes.Scene.{Scene, IsOnSlot, slot_of}
-use Rattle.run_shows.specs.declared.row.RowTold.{RowTold}
-use Rattle.run_shows.specs.declared.row.RowTold.TheVariants as told
-use Rattle.run_shows.specs.declared.row.SlotCall.{SlotCall}
-use Rattle.run_shows.specs.declared.row.SlotCall.TheVariants as call
-use Rattle.run_shows.specs.declared.row.SlotRow.{SlotRow}
-use Rattle.run_shows.specs.declared.row.SlotUse.TheVariants as used
+use Rattle.run_places.specs.Given.ScenesOnSlots.{HappensTo, RowBeginsTo, RowSteps}
+use Rattle.run_places.specs.Given.ScenesRows.{begun_row, uses_begun, uses_after, change_of}
+use Rattle.run_places.specs.Given.ScenesScene.{Scene, IsOnSlot, slot_of}
+use Rattle.run_places.specs.Given.ScenesDeclared.row.RowTold.{RowTold}
+use Rattle.run_places.specs.Given.ScenesDeclared.row.RowTold.TheVariants as told
+use Rattle.run_places.specs.Given.ScenesDeclared.row.SlotCall.{SlotCall}
+use Rattle.run_places.specs.Given.ScenesDeclared.row.SlotCall.TheVariants as call
+use Rattle.run_places.specs.Given.ScenesDeclared.row.SlotRow.{SlotRow}
+use Rattle.run_places.specs.Given.ScenesDeclared.row.SlotUse.TheVariants as used
 use Rattle.run_executor.specs.declared.executor.Executor.{Executor}
 use Rattle.run_executor.specs.declared.worker.Work.{Work}
 use Rattle.run_executor.specs.declared.worker.Work.TheVariants as work

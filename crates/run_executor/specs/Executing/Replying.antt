@@ -1,8 +1,8 @@
 -- What a reply to the call of a caller leads to, and what it leads to that it is asked for a pair, or given up.
 use Rattle.std.specs.Prelude.{◌≡◌, ℕ, Bool, Option, Result}
 use Rattle.papaya_raw.specs.declared.machines.asking.MachineReply.{MachineReply}
-use Rattle.run_shows.specs.Scenes.Replying.{ReplyLeadsTo, AskLeadsTo, StopLeadsTo}
-use Rattle.run_shows.specs.Scenes.Scene.{Scene, HasCall}
+use Rattle.run_places.specs.Given.ScenesReplying.{ReplyLeadsTo, AskLeadsTo, StopLeadsTo}
+use Rattle.run_places.specs.Given.ScenesScene.{Scene, HasCall}
 use Rattle.run_executor.specs.declared.executor.Executor.{Executor}
 use Rattle.run_executor.specs.declared.worker.Worker.{Worker}
 use Rattle.run_executor.specs.Executing.IsThere.{IsThere, ChangesAt, held_by}

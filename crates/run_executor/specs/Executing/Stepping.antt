@@ -3,8 +3,8 @@ use Rattle.std.specs.Prelude.{ℕ, Bool}
 use Rattle.papaya_raw.specs.Given.TablesDeclared.node.Node.{Node}
 use Rattle.papaya_raw.specs.declared.machines.machine.Machine.{Machine}
 use Rattle.papaya_raw.specs.declared.machines.progress.Progress.{Progress}
-use Rattle.run_shows.specs.Scenes.Scene.{Scene}
-use Rattle.run_shows.specs.Scenes.Stepping.{StepLeadsTo, StepsFrom, going_on}
+use Rattle.run_places.specs.Given.ScenesScene.{Scene}
+use Rattle.run_places.specs.Given.ScenesStepping.{StepLeadsTo, StepsFrom, going_on}
 use Rattle.run_executor.specs.declared.executor.Executor.{Executor}
 use Rattle.run_executor.specs.Executing.IsThere.{IsThere, ChangesAt, held_by, worker_with}
 

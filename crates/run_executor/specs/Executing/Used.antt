@@ -1,8 +1,8 @@
 -- What the use of a slot says of the world.
 use Rattle.std.specs.Prelude.{◌≡◌, ℕ, Bool}
 use Rattle.seize.specs.World.{IsInside}
-use Rattle.run_shows.specs.Scenes.Scene.{Scene}
-use Rattle.run_shows.specs.declared.row.SlotUse.TheVariants as used
+use Rattle.run_places.specs.Given.ScenesScene.{Scene}
+use Rattle.run_places.specs.Given.ScenesDeclared.row.SlotUse.TheVariants as used
 use Rattle.run_executor.specs.declared.executor.Executor.{Executor}
 use Rattle.run_executor.specs.Executing.IsThere.{IsThere, use_at}
 

@@ -7,7 +7,7 @@ use Rattle.papaya_raw.specs.declared.machines.asking.Told.TheVariants.{Nothing, 
 use Rattle.papaya_raw.specs.declared.machines.call.KeyCall.{KeyCall}
 use Rattle.papaya_raw.specs.declared.machines.machine.Machine.{Machine}
 use Rattle.papaya_raw.specs.declared.machines.machine.Machine.TheVariants as kinds
-use Rattle.run_effects.specs.Given.ResizeSum.{summing}
+use Rattle.run_places.specs.Given.ResizeSum.{summing}
 use Rattle.papaya_raw.specs.Given.ReservesReserve.{reserving}
 use Rattle.papaya_raw.specs.Given.SweepsSweepPoints.{sweeping}
 use Rattle.papaya_raw.specs.Given.ReservesDeclared.sweep.Purpose.{Purpose}
@@ -15,7 +15,7 @@ use Rattle.papaya_raw.specs.Given.ReservesDeclared.sweep.Purpose.TheVariants.{Wa
 use Rattle.papaya_raw.specs.Given.ReservesDeclared.sweep.Sweep.{Sweep}
 use Rattle.papaya_raw.specs.Given.ReservesDeclared.sweep.Sweeping.{Sweeping}
 use Rattle.papaya_raw.specs.Given.ReservesDeclared.sweep.Sweeping.TheVariants as at
-use Rattle.run_shows.specs.Given.LateFaults.{RoomInReserving, RoomInSweeping}
+use Rattle.run_places.specs.Given.LateFaults.{RoomInReserving, RoomInSweeping}
 use Rattle.run_schedules.specs.declared.call.Call.{Call}
 use Rattle.run_schedules.specs.declared.call.Call.TheVariants.{On, Reserve, Clear, Retain, Len, Walk}
 use Rattle.run_schedules.specs.declared.call.OneKey.{OneKey}

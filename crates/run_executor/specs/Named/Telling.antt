@@ -11,9 +11,9 @@ use Rattle.run_schedules.specs.declared.call.Response.{Response}
 use Rattle.run_schedules.specs.declared.call.Response.TheVariants as answer
 use Rattle.run_schedules.specs.declared.outcome.Outcome.{Outcome}
 use Rattle.run_schedules.specs.declared.outcome.Outcome.TheVariants as outcome
-use Rattle.run_effects.specs.Effects.Known.{Known}
-use Rattle.run_effects.specs.declared.role.Role.{Role}
-use Rattle.run_effects.specs.declared.role.Role.TheVariants as role
+use Rattle.run_places.specs.Given.EffectsKnown.{Known}
+use Rattle.run_places.specs.Given.EffectsDeclared.role.Role.{Role}
+use Rattle.run_places.specs.Given.EffectsDeclared.role.Role.TheVariants as role
 use Rattle.run_executor.specs.declared.kind.CallKind.{CallKind}
 use Rattle.run_executor.specs.declared.kind.CallKind.TheVariants as kind
 use Rattle.run_executor.specs.declared.callers.Keeps.{Keeps}

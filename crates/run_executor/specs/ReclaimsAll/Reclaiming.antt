@@ -7,14 +7,14 @@ use Rattle.seize.specs.declared.rows.settle.Settled.{Settled}
 use Rattle.seize.specs.declared.rows.settle.Settled.TheVariants as settled
 use Rattle.seize.specs.declared.states.TheConstants.{HEAD}
 use Rattle.papaya_raw.specs.Given.TablesDeclared.node.Node.{Node}
-use Rattle.run_shows.specs.Reclaims.Reclaims.{LeftBehind}
-use Rattle.run_shows.specs.Reclaims.Slots.{IsQuiescent}
+use Rattle.run_places.specs.Given.ReclaimsReclaims.{LeftBehind}
+use Rattle.run_places.specs.Given.ReclaimsSlots.{IsQuiescent}
 use Rattle.run_executor.specs.declared.executor.Executor.{Executor}
-use Rattle.run_shows.specs.declared.callers.TheConstants.{SLOTS}
-use Rattle.run_shows.specs.declared.row.SlotUse.TheVariants.{Vacant}
+use Rattle.run_places.specs.Given.ScenesDeclared.callers.TheConstants.{SLOTS}
+use Rattle.run_places.specs.Given.ScenesDeclared.row.SlotUse.TheVariants.{Vacant}
 use Rattle.run_executor.specs.Executing.IsThere.{IsThere, held_by, use_at, work_of}
-use Rattle.run_shows.specs.Scenes.Reclaiming.{IsReclaiming, ReclaimingLeadsTo}
-use Rattle.run_shows.specs.Scenes.Scene.{Scene}
+use Rattle.run_places.specs.Given.ScenesReclaiming.{IsReclaiming, ReclaimingLeadsTo}
+use Rattle.run_places.specs.Given.ScenesScene.{Scene}
 
 module _ {K V S : Type 0} where
   -- nobody has anything under way

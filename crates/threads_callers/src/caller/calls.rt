@@ -2,17 +2,17 @@
 ghost use Rattle.std.specs.Prelude.{◌≡◌, IfOk, IsSome, Some, None, false};
 ghost use Rattle.std.specs.Fn.{FnOnceReturns};
 ghost use Rattle.threads_errands.specs.Given.StepsAsking.{HasAnswered, MakingSays, MayTest, TestSays, makes_pair as kind_that_makes, removes_if as kind_that_tests};
-ghost use Rattle.threads_rule.specs.Errands.Calling.{HasCalled, IsAnswerBy, MayCall, MayDoAs, wanted_of};
-ghost use Rattle.threads_rule.specs.Errands.Counting.{HasCounted, MayCount};
-ghost use Rattle.threads_rule.specs.CallKinds.Kinds.{Stage};
-ghost use Rattle.threads_rule.specs.Given.ActsActs.{Remove};
+ghost use Rattle.threads_errands.specs.Given.ErrandsCalling.{HasCalled, IsAnswerBy, MayCall, MayDoAs, wanted_of};
+ghost use Rattle.threads_errands.specs.Given.ErrandsCounting.{HasCounted, MayCount};
+ghost use Rattle.threads_errands.specs.Given.CallKindsKinds.{Stage};
+ghost use Rattle.threads_errands.specs.Given.ActsActs.{Remove};
 ghost use Rattle.papaya_raw.specs.CallPoints.{removing};
 ghost use Rattle.papaya_raw.specs.declared.machines.machine.Machine.TheVariants.{Key as KeyMachine};
-ghost use Rattle.threads_rule.specs.Errands.Looking.{HasFound, MayLook};
-ghost use Rattle.threads_rule.specs.Errands.Making.{HasOutcome, MayBegin};
-ghost use Rattle.threads_rule.specs.Views.Looks.{shown_in};
-ghost use Rattle.threads_rule.specs.Views.Rule.{Holds};
-ghost use Rattle.threads_rule.specs.declared.view.SeatWork.TheVariants.{Nothing as NoWork};
+ghost use Rattle.threads_errands.specs.Given.ErrandsLooking.{HasFound, MayLook};
+ghost use Rattle.threads_errands.specs.Given.ErrandsMaking.{HasOutcome, MayBegin};
+ghost use Rattle.threads_errands.specs.Given.ViewsLooks.{shown_in};
+ghost use Rattle.threads_errands.specs.Given.ViewsRule.{Holds};
+ghost use Rattle.threads_errands.specs.Given.ViewsDeclared.view.SeatWork.TheVariants.{Nothing as NoWork};
 ghost use Rattle.seize_seats.specs.Seats.Lendings.{IsValueOf};
 ghost use Rattle.seize_views.specs.declared.view.SlotView.TheVariants.{Rests};
 

@@ -1,12 +1,12 @@
 //! A seat that looks keys up under a caller, who is within its section and is lent for that.
 ghost use Rattle.std.specs.Prelude.{◌≡◌, ℕ, [], IsSome, Some, None, true, IfNone, IfSome};
-ghost use Rattle.threads_rule.specs.Errands.Looking.{HasLooked, MayLook, HasLookedAt, found_of};
+ghost use Rattle.threads_errands.specs.Given.ErrandsLooking.{HasLooked, MayLook, HasLookedAt, found_of};
 ghost use Rattle.threads_callers.specs.Passing.{HasFoundUnder, HasRunUnder, IsBack, IsLentBy};
-ghost use Rattle.threads_rule.specs.Given.ActsActs.{Get};
+ghost use Rattle.threads_errands.specs.Given.ActsActs.{Get};
 ghost use Rattle.seize_seats.specs.Seats.Lendings.{IsValueBy};
-ghost use Rattle.threads_rule.specs.Views.Looks.{shown_in};
-ghost use Rattle.threads_rule.specs.Views.Rule.{Holds};
-ghost use Rattle.threads_rule.specs.declared.view.SeatWork.TheVariants.{Nothing as NoWork};
+ghost use Rattle.threads_errands.specs.Given.ViewsLooks.{shown_in};
+ghost use Rattle.threads_errands.specs.Given.ViewsRule.{Holds};
+ghost use Rattle.threads_errands.specs.Given.ViewsDeclared.view.SeatWork.TheVariants.{Nothing as NoWork};
 ghost use Rattle.seize_words.specs.OneMemory.Word.{block_in};
 ghost use Rattle.seize_callers.specs.Kept.{is_home};
 
@@ -19,8 +19,7 @@ use seize_views::Fixed;
 use seize_words::Link;
 use std::hash::Hash;
 use std::sync::Wait;
-use threads_errands::Finds;
-use threads_errands::{OfMaps, View, leanings_begin};
+use threads_errands::{Finds, OfMaps, View, leanings_begin};
 
 /// A seat begins to lean on one that is within its section.
 pub struct Resorting;

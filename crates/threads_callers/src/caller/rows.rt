@@ -1,6 +1,6 @@
 //! A caller is sent to take a slot, to enter, to leave, and to give the slot up.
 ghost use Rattle.std.specs.Prelude.{◌≡◌, IfErr, IfOk};
-ghost use Rattle.threads_rule.specs.declared.view.SeatWork.TheVariants.{Nothing as NoWork};
+ghost use Rattle.threads_errands.specs.Given.ViewsDeclared.view.SeatWork.TheVariants.{Nothing as NoWork};
 ghost use Rattle.seize_views.specs.declared.view.Has.TheVariants.{Nothing};
 ghost use Rattle.seize_views.specs.declared.view.SlotView.TheVariants.{Inside, Outside, Rests};
 

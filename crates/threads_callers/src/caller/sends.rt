@@ -1,8 +1,8 @@
 //! A caller is sent on an errand.
 ghost use Rattle.std.specs.Prelude.{◌≡◌};
-ghost use Rattle.threads_rule.specs.Errands.Looking.{StaysThere};
-ghost use Rattle.threads_rule.specs.Views.Notes.{SeatIsQuiescent};
-ghost use Rattle.threads_rule.specs.declared.view.View.{View as AView};
+ghost use Rattle.threads_errands.specs.Given.ErrandsLooking.{StaysThere};
+ghost use Rattle.threads_errands.specs.Given.ViewsNotes.{SeatIsQuiescent};
+ghost use Rattle.threads_errands.specs.Given.ViewsDeclared.view.View.{View as AView};
 
 use crate::caller::MapCaller;
 use map_tables::{Hashes, Node};

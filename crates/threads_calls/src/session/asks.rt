@@ -2,10 +2,10 @@
 ghost use Rattle.std.specs.Prelude.{◌≡◌, Ok, Err, IfErr, IfOk};
 ghost use Rattle.std.specs.Fn.{FnOnceReturns};
 ghost use Rattle.threads_callers.specs.Given.StepsAsking.{HasAsked, MakingSays, MayTest, TestSays};
-ghost use Rattle.threads_rule.specs.Errands.Calling.{is_put as puts, outcome_of};
-ghost use Rattle.threads_rule.specs.Errands.Looking.{HasRun};
+ghost use Rattle.threads_callers.specs.Given.ErrandsCalling.{is_put as puts, outcome_of};
+ghost use Rattle.threads_callers.specs.Given.ErrandsLooking.{HasRun};
 ghost use Rattle.threads_calls.specs.Answers.{is_removed as removes};
-ghost use Rattle.threads_rule.specs.Given.ActsActs.{RemoveIf, TryToInsertWith};
+ghost use Rattle.threads_callers.specs.Given.ActsActs.{RemoveIf, TryToInsertWith};
 ghost use Rattle.papaya_raw.specs.declared.machines.progress.Answer.{Answer as AnAnswer};
 ghost use Rattle.seize_views.specs.declared.view.Has.TheVariants.{Nothing};
 ghost use Rattle.seize_views.specs.declared.view.SlotView.TheVariants.{Inside};

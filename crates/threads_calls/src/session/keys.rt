@@ -1,9 +1,9 @@
 //! A session's calls on one key that ask nothing, beside lookups and insertions.
 ghost use Rattle.std.specs.Prelude.{◌≡◌, ℕ, Option, Some, Ok, Err, IfErr, IfOk, is_some};
-ghost use Rattle.threads_rule.specs.Errands.Calling.{IsBack, is_put as puts, outcome_of};
-ghost use Rattle.threads_rule.specs.Errands.Looking.{HasRun, found_of};
+ghost use Rattle.threads_callers.specs.Given.ErrandsCalling.{IsBack, is_put as puts, outcome_of};
+ghost use Rattle.threads_callers.specs.Given.ErrandsLooking.{HasRun, found_of};
 ghost use Rattle.threads_calls.specs.Answers.{CameBack, HasRemoved, HasTried, IsOutOf, has_stored, is_removed as removes};
-ghost use Rattle.threads_rule.specs.Given.ActsActs.{ContainsKey, Remove, TryToInsert};
+ghost use Rattle.threads_callers.specs.Given.ActsActs.{ContainsKey, Remove, TryToInsert};
 ghost use Rattle.map_tables.specs.declared.node.Node.TheVariants.{Pair};
 ghost use Rattle.seize_views.specs.declared.view.Has.TheVariants.{Nothing};
 ghost use Rattle.seize_views.specs.declared.view.SlotView.TheVariants.{Inside};

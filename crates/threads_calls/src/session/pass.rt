@@ -1,8 +1,8 @@
 //! A pass looks keys up under a session that is within its section.
 ghost use Rattle.std.specs.Prelude.{◌≡◌, [], None, IfNone, IfSome};
-ghost use Rattle.threads_rule.specs.Errands.Looking.{found_of};
+ghost use Rattle.threads_callers.specs.Given.ErrandsLooking.{found_of};
 ghost use Rattle.threads_callers.specs.Passing.{HasFoundUnder, HasRunUnder};
-ghost use Rattle.threads_rule.specs.Given.ActsActs.{Get};
+ghost use Rattle.threads_callers.specs.Given.ActsActs.{Get};
 ghost use Rattle.seize_views.specs.declared.view.Has.TheVariants.{Nothing};
 ghost use Rattle.seize_views.specs.declared.view.SlotView.TheVariants.{Inside};
 

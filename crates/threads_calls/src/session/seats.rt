@@ -2,14 +2,13 @@
 ghost use Rattle.std.specs.Prelude.{◌≡◌, Some, None, true};
 ghost use Rattle.threads_callers.specs.Standing.{known_by};
 ghost use Rattle.map_tables.specs.Chunks.{is_incremental};
-ghost use Rattle.threads_rule.specs.declared.view.SeatWork.TheVariants.{Nothing as NoWork};
+ghost use Rattle.threads_callers.specs.Given.ViewsDeclared.view.SeatWork.TheVariants.{Nothing as NoWork};
 ghost use Rattle.seize_callers.specs.Kept.{is_home};
 
 use crate::session::SessionBase;
 use map_tables::{Hashes, Node, Setting};
 use seize_blocks::{Blocks, Seat};
-use threads_callers::MapCaller;
-use threads_callers::OfMaps;
+use threads_callers::{MapCaller, OfMaps};
 
 impl<'a, K: Eq, V, S: Hashes<K>> SessionBase<'a, K, V, S> {
     /// Returns the one of this seat, which knows a map of this setting and this hasher.

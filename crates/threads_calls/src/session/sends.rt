@@ -1,8 +1,8 @@
 //! A session sends its seat on an errand.
 ghost use Rattle.std.specs.Prelude.{◌≡◌};
-ghost use Rattle.threads_rule.specs.Errands.Looking.{StaysThere};
-ghost use Rattle.threads_rule.specs.declared.view.View.{View as AView};
-ghost use Rattle.threads_rule.specs.declared.view.SeatWork.TheVariants.{Nothing as NoWork};
+ghost use Rattle.threads_callers.specs.Given.ErrandsLooking.{StaysThere};
+ghost use Rattle.threads_callers.specs.Given.ViewsDeclared.view.View.{View as AView};
+ghost use Rattle.threads_callers.specs.Given.ViewsDeclared.view.SeatWork.TheVariants.{Nothing as NoWork};
 ghost use Rattle.seize_views.specs.declared.view.Has.TheVariants.{Nothing};
 ghost use Rattle.seize_views.specs.declared.view.SlotView.TheVariants.{Inside};
 

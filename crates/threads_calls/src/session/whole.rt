@@ -1,8 +1,8 @@
 //! A session's calls on its whole map that ask nothing: they count its pairs, make room for further ones, and remove all of them.
 ghost use Rattle.std.specs.Prelude.{◌≡◌, Err, IfErr, IfOk};
-ghost use Rattle.threads_rule.specs.Errands.Calling.{outcome_of};
-ghost use Rattle.threads_rule.specs.Errands.Looking.{HasRun};
-ghost use Rattle.threads_rule.specs.Given.ActsActs.{MakeRoom};
+ghost use Rattle.threads_callers.specs.Given.ErrandsCalling.{outcome_of};
+ghost use Rattle.threads_callers.specs.Given.ErrandsLooking.{HasRun};
+ghost use Rattle.threads_callers.specs.Given.ActsActs.{MakeRoom};
 ghost use Rattle.threads_calls.specs.Answers.{HasFoundEmpty, HasMeasured, HasReserved, HasSweptAll, clears};
 ghost use Rattle.seize_views.specs.declared.view.Has.TheVariants.{Nothing};
 ghost use Rattle.seize_views.specs.declared.view.SlotView.TheVariants.{Inside};

@@ -3,7 +3,7 @@ ghost use Rattle.std.specs.Prelude.{◌≡◌, Option};
 ghost use Rattle.map_tables.specs.declared.node.Node.{Node as AnyNode};
 ghost use Rattle.papaya_raw.specs.declared.machines.machine.Machine.TheVariants.{Key as KeyMachine};
 ghost use Rattle.threads_errands.specs.Ahead.{IsAhead, IsSameAhead};
-ghost use Rattle.threads_rule.specs.Errands.Looking.{IsOfThem, StaysThere};
+ghost use Rattle.threads_steps.specs.Given.ErrandsLooking.{IsOfThem, StaysThere};
 ghost use Rattle.threads_steps.specs.Storing.{Since};
 
 use crate::ahead::Ahead;

@@ -1,6 +1,6 @@
 -- A step of a row, as one on a slot.
 use Rattle.std.proofs.Common.{ap}
-use Rattle.run_shows.specs.declared.row.SlotRow.TheVariants as rows
+use Rattle.run_places.specs.Given.ScenesDeclared.row.SlotRow.TheVariants as rows
 use Rattle.run_executor.proofs.on_slots.flushes.Goals as goal
 
 pub returns : goal.returns

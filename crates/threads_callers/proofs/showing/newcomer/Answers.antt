@@ -1,9 +1,9 @@
 use Rattle.std.proofs.Common.{ap, inl, subst, sym, ◌∙◌}
-use Rattle.threads_rule.proofs.Views.Laws.{seats_come}
-use Rattle.threads_rule.specs.Views.Begun.{shown_map}
-use Rattle.threads_rule.specs.Views.Notes.{SeatIsQuiescent}
-use Rattle.threads_rule.specs.Views.Rule.{Leans}
-use Rattle.threads_rule.specs.declared.view.View.{View}
+use Rattle.threads_errands.proofs.Given.ViewsLaws.{seats_come}
+use Rattle.threads_errands.specs.Given.ViewsBegun.{shown_map}
+use Rattle.threads_errands.specs.Given.ViewsNotes.{SeatIsQuiescent}
+use Rattle.threads_errands.specs.Given.ViewsRule.{Leans}
+use Rattle.threads_errands.specs.Given.ViewsDeclared.view.View.{View}
 use Rattle.threads_callers.proofs.Newcomers.{may_learn}
 use Rattle.threads_callers.proofs.Known.{known_some}
 use Rattle.threads_callers.specs.Standing.{come_to}

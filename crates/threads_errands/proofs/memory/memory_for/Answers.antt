@@ -1,6 +1,6 @@
 use Rattle.std.specs.Prelude.{fold}
 use Rattle.threads_steps.proofs.Given.PointsLawful.{are_lawful}
-use Rattle.threads_rule.proofs.Views.Laws.{rules_start}
+use Rattle.threads_steps.proofs.Given.ViewsLaws.{rules_start}
 use Rattle.threads_steps.specs.Given.OwnedOwned.{hashed_by}
 use Rattle.threads_errands.proofs.memory.memory_for.Goals as goal
 

@@ -1,10 +1,10 @@
 use Rattle.std.proofs.Common.{◌≡◌, sym, subst, ◌∙◌}
 use Rattle.papaya_raw.specs.CallPoints.{removing}
 use Rattle.papaya_raw.specs.declared.machines.machine.Machine.TheVariants.{Key}
-use Rattle.threads_rule.specs.Given.ActsActs.{Remove}
-use Rattle.threads_rule.specs.declared.view.View.{View}
-use Rattle.threads_rule.specs.Errands.Calling.{IsCalling, MayCall}
-use Rattle.threads_rule.specs.Errands.Looking.{Begins}
+use Rattle.threads_steps.specs.Given.ActsActs.{Remove}
+use Rattle.threads_steps.specs.Given.ViewsDeclared.view.View.{View}
+use Rattle.threads_steps.specs.Given.ErrandsCalling.{IsCalling, MayCall}
+use Rattle.threads_steps.specs.Given.ErrandsLooking.{Begins}
 use Rattle.threads_steps.proofs.Given.Keeping.{kept_same}
 use Rattle.threads_errands.proofs.removing.begins.Goals as goal
 

@@ -1,6 +1,6 @@
 use Rattle.std.proofs.Common.{sym, subst, ◌∙◌}
 use Rattle.papaya_raw.specs.declared.machines.call.KeyCall.{KeyCall}
-use Rattle.threads_rule.proofs.Errands.Beginnings.{stays_on}
+use Rattle.threads_steps.proofs.Given.ErrandsBeginnings.{stays_on}
 use Rattle.threads_steps.proofs.Pausing.{ended_on}
 use Rattle.threads_errands.specs.Ahead.{IsAhead}
 use Rattle.threads_errands.proofs.Puts.{calling_there}

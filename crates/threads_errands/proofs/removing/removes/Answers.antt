@@ -4,7 +4,7 @@ use Rattle.papaya_raw.specs.CallPoints.{untried}
 use Rattle.papaya_raw.specs.declared.machines.call.Calling.TheVariants as at
 use Rattle.papaya_raw.specs.declared.machines.progress.Answer.TheVariants.{Key as OfKey}
 use Rattle.map_straight.specs.Straight.Removing.{seeking}
-use Rattle.threads_rule.proofs.Errands.Beginnings.{stays_on}
+use Rattle.threads_steps.proofs.Given.ErrandsBeginnings.{stays_on}
 use Rattle.threads_steps.proofs.Pausing.{ended_on}
 use Rattle.threads_errands.proofs.Puts.{ahead_here}
 use Rattle.threads_errands.proofs.Takes.{has_removed}

@@ -1,5 +1,5 @@
 use Rattle.std.proofs.Common.{◌≡◌, sym, subst, ◌∙◌}
-use Rattle.threads_rule.specs.declared.view.View.{View}
+use Rattle.threads_steps.specs.Given.ViewsDeclared.view.View.{View}
 use Rattle.threads_steps.proofs.Given.Keeping.{kept_same}
 use Rattle.papaya_raw.specs.CallPoints.{untried}
 use Rattle.papaya_raw.specs.declared.machines.call.Calling.TheVariants as at

@@ -1,7 +1,7 @@
 use Rattle.std.proofs.Common.{ap, sym, subst, ◌∙◌}
 use Rattle.papaya_raw.specs.declared.machines.machine.Machine.{Machine}
-use Rattle.threads_rule.specs.Errands.Calling.{IsCalling, sort_of}
-use Rattle.threads_rule.proofs.Errands.Beginnings.{stays_on}
+use Rattle.threads_steps.specs.Given.ErrandsCalling.{IsCalling, sort_of}
+use Rattle.threads_steps.proofs.Given.ErrandsBeginnings.{stays_on}
 use Rattle.threads_steps.specs.Storing.{Since}
 use Rattle.threads_errands.proofs.Puts.{ahead_here, calling_there}
 use Rattle.threads_errands.proofs.running.helps.Goals as goal

@@ -2,10 +2,10 @@ use Rattle.std.specs.Prelude.{Option}
 use Rattle.std.proofs.Common.{refl, sym, subst, ◌∙◌}
 use Rattle.map_tables.specs.declared.node.Node.{Node}
 use Rattle.papaya_raw.specs.declared.machines.progress.Progress.{Progress}
-use Rattle.threads_rule.specs.Errands.Calling.{CalledSo}
-use Rattle.threads_rule.proofs.Errands.Beginnings.{stays_on}
-use Rattle.threads_rule.proofs.Errands.Runs.{asks_none, ended_so, goes_on, of_them, same_pair}
-use Rattle.threads_rule.proofs.Errands.Stepping.{fits_then}
+use Rattle.threads_steps.specs.Given.ErrandsCalling.{CalledSo}
+use Rattle.threads_steps.proofs.Given.ErrandsBeginnings.{stays_on}
+use Rattle.threads_steps.proofs.Given.ErrandsRuns.{asks_none, ended_so, goes_on, of_them, same_pair}
+use Rattle.threads_steps.proofs.Given.ErrandsStepping.{fits_then}
 use Rattle.threads_steps.specs.Storing.{Since, further}
 use Rattle.threads_steps.proofs.Handing.{back_at_last, handed_at_last}
 use Rattle.threads_steps.proofs.Sinces.{hands_it, since_last}

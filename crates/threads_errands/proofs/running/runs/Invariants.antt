@@ -1,8 +1,8 @@
 use Rattle.std.specs.Prelude.{◌≡◌, Some}
 use Rattle.map_tables.specs.declared.node.Node.{Node}
-use Rattle.threads_rule.specs.Views.Told.{pair_in}
-use Rattle.threads_rule.specs.Errands.Calling.{IsCalling, sort_of}
-use Rattle.threads_rule.specs.Errands.Looking.{IsOfThem, StaysThere}
+use Rattle.threads_steps.specs.Given.ViewsTold.{pair_in}
+use Rattle.threads_steps.specs.Given.ErrandsCalling.{IsCalling, sort_of}
+use Rattle.threads_steps.specs.Given.ErrandsLooking.{IsOfThem, StaysThere}
 use Rattle.threads_steps.specs.Storing.{Since}
 use Rattle.threads_errands.proofs.running.runs.Given as goal
 

@@ -1,7 +1,7 @@
 use Rattle.std.proofs.Common.{◌≡◌, sym, subst, ◌∙◌}
-use Rattle.threads_rule.specs.declared.view.View.{View}
+use Rattle.threads_steps.specs.Given.ViewsDeclared.view.View.{View}
 use Rattle.threads_steps.proofs.Given.Keeping.{kept_same}
-use Rattle.threads_rule.specs.Errands.Calling.{CalledSo, IsCalling, StepsTo}
+use Rattle.threads_steps.specs.Given.ErrandsCalling.{CalledSo, IsCalling, StepsTo}
 use Rattle.threads_errands.proofs.running.steps.Goals as goal
 
 pub calls-told-requires : goal.calls-told-requires

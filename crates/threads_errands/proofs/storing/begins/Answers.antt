@@ -1,9 +1,9 @@
 use Rattle.std.specs.Prelude.{Some}
 use Rattle.std.proofs.Common.{◌≡◌, sym, subst, ◌∙◌}
-use Rattle.threads_rule.specs.declared.view.View.{View}
+use Rattle.threads_steps.specs.Given.ViewsDeclared.view.View.{View}
 use Rattle.threads_steps.proofs.Given.Keeping.{kept_same}
-use Rattle.threads_rule.specs.Views.Told.{pair_in}
-use Rattle.threads_rule.specs.Errands.Calling.{CalledSo, MayCall, wanted_of}
+use Rattle.threads_steps.specs.Given.ViewsTold.{pair_in}
+use Rattle.threads_steps.specs.Given.ErrandsCalling.{CalledSo, MayCall, wanted_of}
 use Rattle.threads_steps.specs.Storing.{HasBegun}
 use Rattle.threads_errands.proofs.storing.begins.Goals as goal
 

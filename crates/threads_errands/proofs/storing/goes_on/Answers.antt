@@ -2,8 +2,8 @@ use Rattle.std.specs.Prelude.{None}
 use Rattle.std.proofs.Common.{sym, subst, ◌∙◌}
 use Rattle.papaya_raw.specs.declared.machines.call.KeyCall.{KeyCall}
 use Rattle.papaya_raw.specs.declared.machines.machine.Machine.TheVariants.{Key}
-use Rattle.threads_rule.proofs.Errands.Beginnings.{stays_on}
-use Rattle.threads_rule.proofs.Errands.Runs.{same_pair}
+use Rattle.threads_steps.proofs.Given.ErrandsBeginnings.{stays_on}
+use Rattle.threads_steps.proofs.Given.ErrandsRuns.{same_pair}
 use Rattle.threads_steps.specs.Storing.{Since}
 use Rattle.threads_steps.proofs.Pausing.{ended_on}
 use Rattle.threads_errands.specs.Ahead.{IsAhead}

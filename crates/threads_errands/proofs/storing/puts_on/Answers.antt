@@ -6,12 +6,12 @@ use Rattle.papaya_raw.specs.declared.machines.call.Calling.TheVariants as at
 use Rattle.papaya_raw.specs.declared.machines.machine.Machine.{Machine}
 use Rattle.papaya_raw.specs.declared.machines.progress.Answer.TheVariants.{Key as OfKey}
 use Rattle.map_straight.specs.Straight.Storing.{storing}
-use Rattle.threads_rule.specs.Errands.Calling.{IsAnswerBy, IsCalling}
+use Rattle.threads_steps.specs.Given.ErrandsCalling.{IsAnswerBy, IsCalling}
 use Rattle.threads_steps.specs.Storing.{Since}
-use Rattle.threads_rule.proofs.Errands.Beginnings.{stays_on}
+use Rattle.threads_steps.proofs.Given.ErrandsBeginnings.{stays_on}
 use Rattle.threads_steps.proofs.Pausing.{ended_on}
 use Rattle.threads_errands.proofs.Puts.{ahead_here}
-use Rattle.threads_rule.proofs.Errands.Runs.{same_pair}
+use Rattle.threads_steps.proofs.Given.ErrandsRuns.{same_pair}
 use Rattle.threads_errands.proofs.storing.puts_on.Goals as goal
 
 pub puts-requires-clause-ahead : goal.puts-requires-clause-ahead

@@ -1,6 +1,6 @@
 use Rattle.std.specs.Prelude.{IfOk}
 use Rattle.std.proofs.Common.{subst, ◌∙◌}
-use Rattle.threads_rule.specs.Errands.Calling.{IsAnswerTo, Sort, wanted_of}
+use Rattle.threads_steps.specs.Given.ErrandsCalling.{IsAnswerTo, Sort, wanted_of}
 use Rattle.threads_errands.proofs.Puts.{has_called}
 use Rattle.threads_errands.proofs.storing.stores.Goals as goal
 

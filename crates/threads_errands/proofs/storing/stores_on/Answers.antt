@@ -2,7 +2,7 @@ use Rattle.std.specs.Prelude.{None}
 use Rattle.std.proofs.Common.{subst}
 use Rattle.map_tables.specs.declared.node.Node.{Node}
 use Rattle.papaya_raw.specs.declared.machines.progress.Progress.{Progress}
-use Rattle.threads_rule.specs.Errands.Calling.{CalledSo, handed_by}
+use Rattle.threads_steps.specs.Given.ErrandsCalling.{CalledSo, handed_by}
 use Rattle.threads_steps.specs.Storing.{Since}
 use Rattle.threads_errands.proofs.storing.stores_on.Goals as goal
 

@@ -11,7 +11,7 @@ use Rattle.threads_calls.specs.Given.ErrandsSweeping.{HasGoneOver}
 use Rattle.threads_calls.proofs.Given.ErrandsBeginnings.{is_begun, stays_on}
 use Rattle.threads_calls.proofs.Given.ErrandsRuns.{of_them}
 use Rattle.threads_calls.proofs.Given.ErrandsSweeping.{is_sweeping}
-use Rattle.threads_steps.proofs.Pausing.{them_on}
+use Rattle.threads_calls.proofs.Given.Pausing.{them_on}
 use Rattle.threads_sweeps.specs.Heard.{IsHeard}
 use Rattle.threads_sweeps.specs.declared.hearing.Heard.{Heard}
 use Rattle.threads_sweeps.proofs.Closures.{retaining_free, retaining_tells}

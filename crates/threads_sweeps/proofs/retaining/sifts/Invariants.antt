@@ -3,7 +3,7 @@ use Rattle.std.specs.Prelude.{ℕ}
 use Rattle.papaya_raw.specs.Given.ReservesDeclared.sweep.Purpose.TheVariants.{Retains}
 use Rattle.threads_calls.specs.Given.ErrandsLooking.{IsOfThem, StaysThere}
 use Rattle.threads_calls.specs.Given.ErrandsSweeping.{IsSweeping}
-use Rattle.threads_steps.specs.Made.{IsSameSeat}
+use Rattle.threads_calls.specs.Given.Made.{IsSameSeat}
 use Rattle.threads_sweeps.specs.Closures.{HeedsSo, TakesSteps}
 use Rattle.threads_sweeps.proofs.retaining.sifts.Given as goal
 

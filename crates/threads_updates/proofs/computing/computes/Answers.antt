@@ -1,8 +1,8 @@
 use Rattle.std.specs.Prelude.{suc}
 use Rattle.std.proofs.Common.{inr, refl, subst, ◌∙◌}
-use Rattle.threads_steps.specs.Asking.{PausedSo}
-use Rattle.threads_steps.specs.declared.within.asking.Halt.{Halt}
-use Rattle.threads_steps.proofs.Pausing.{answered, calls_stay_told, ended_on, gone_on, none_said, stays_there_told, them_on}
+use Rattle.threads_calls.specs.Given.StepsAsking.{PausedSo}
+use Rattle.threads_calls.specs.Given.ThreadsStepsDeclared.within.asking.Halt.{Halt}
+use Rattle.threads_calls.proofs.Given.Pausing.{answered, calls_stay_told, ended_on, gone_on, none_said, stays_there_told, them_on}
 use Rattle.threads_calls.specs.Given.ErrandsCalling.{wanted_of}
 use Rattle.threads_calls.proofs.Given.ErrandsBeginnings.{begun_as, stays_on}
 use Rattle.threads_updates.specs.Computing.{Told, computes}

@@ -1,6 +1,6 @@
 use Rattle.std.specs.Prelude.{ℕ}
-use Rattle.threads_steps.specs.Asking.{HasGone}
-use Rattle.threads_steps.specs.Made.{IsSameSeat}
+use Rattle.threads_calls.specs.Given.StepsAsking.{HasGone}
+use Rattle.threads_calls.specs.Given.Made.{IsSameSeat}
 use Rattle.threads_calls.specs.Given.ErrandsLooking.{IsOfThem, StaysThere}
 use Rattle.threads_updates.specs.Computing.{SaidLast, StandsAt, Told}
 use Rattle.threads_updates.proofs.computing.computes.Given as goal

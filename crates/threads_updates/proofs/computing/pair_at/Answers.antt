@@ -2,7 +2,7 @@ use Rattle.std.specs.Prelude.{ℕ, Some, IsSome}
 use Rattle.std.proofs.Common.{◌≡◌, sym, subst, ◌∙◌}
 use Rattle.threads_calls.specs.Given.ViewsLooks.{shown_in}
 use Rattle.seize_words.proofs.General.{some_is}
-use Rattle.threads_steps.proofs.Pausing.{shown_pair}
+use Rattle.threads_calls.proofs.Given.Pausing.{shown_pair}
 use Rattle.threads_updates.proofs.computing.pair_at.Goals as goal
 
 pub value-requires : goal.value-requires

@@ -1,6 +1,6 @@
 -- The beginning of a call.
 use Rattle.std.proofs.Common.{rules, ◌≡◌, ◌<◌, ◌^◌, ◌+◌, ◌*◌, ℕ, length, refl, sym, subst, arith}
-use Rattle.run_shows.specs.declared.callers.TheConstants.{SLOTS}
+use Rattle.run_places.specs.Given.ScenesDeclared.callers.TheConstants.{SLOTS}
 use Rattle.run_executor.proofs.executor.Executor.begin.Goals as goal
 use Rattle.run_executor.proofs.Executing.Begins.{begin_leads}
 use Rattle.run_executor.specs.Executing.Beginning.{BeginsThere}

@@ -1,8 +1,8 @@
 -- The beginning of a row on a slot.
 use Rattle.std.proofs.Common.{rules, ◌≡◌, ◌+◌, ◌*◌, ◌++◌, ◌∷◌, [], ℕ, length, refl, sym, ap, subst, ◌∙◌}
 use Rattle.std.specs.Prelude.{Some}
-use Rattle.run_shows.specs.declared.row.SlotRow.{SlotRow}
-use Rattle.run_shows.specs.declared.callers.TheConstants.{SLOTS}
+use Rattle.run_places.specs.Given.ScenesDeclared.row.SlotRow.{SlotRow}
+use Rattle.run_places.specs.Given.ScenesDeclared.callers.TheConstants.{SLOTS}
 use Rattle.run_executor.specs.declared.worker.Work.TheVariants as work
 use Rattle.run_executor.proofs.executor.Executor.begin_on_slot.Goals as goal
 use Rattle.run_executor.proofs.Executing.OnSlotBegun.{row_begins}

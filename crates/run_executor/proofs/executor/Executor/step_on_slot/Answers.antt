@@ -4,8 +4,8 @@ use Rattle.std.specs.Prelude.{None, slice_set}
 use Rattle.run_executor.proofs.executor.Executor.step_on_slot.Goals as goal
 use Rattle.run_executor.proofs.Executing.OnSlots.{may_taken, row_at, row_leads, taken_row}
 use Rattle.run_executor.specs.Executing.IsThere.{place_of}
-use Rattle.run_shows.specs.Scenes.Rows.{uses_after}
-use Rattle.run_shows.specs.Scenes.Scene.{slot_of}
+use Rattle.run_places.specs.Given.ScenesRows.{uses_after}
+use Rattle.run_places.specs.Given.ScenesScene.{slot_of}
 
 pub take_row-slot-requires : goal.take_row-slot-requires
 take_row-slot-requires g c =

@@ -1,5 +1,5 @@
 -- A step of it.
-use Rattle.run_shows.proofs.Scenes.May.{may_reclaim}
+use Rattle.run_places.proofs.Given.ScenesMay.{may_reclaim}
 use Rattle.run_executor.proofs.ReclaimsAll.Reclaims.{leads, given_then}
 use Rattle.run_executor.proofs.reclaiming.FullReclamation.step.Goals as goal
 

@@ -1,5 +1,5 @@
 use Rattle.seize_callers.proofs.Keeping.{none_away}
-use Rattle.threads_rule.specs.Errands.Calling.{wanted_of}
+use Rattle.threads_errands.specs.Given.ErrandsCalling.{wanted_of}
 use Rattle.threads_callers.proofs.Rows.{rests_called}
 use Rattle.threads_callers.proofs.caller.MapCaller.does.Goals as goal
 

@@ -1,7 +1,7 @@
 use Rattle.seize_views.specs.declared.view.Has.TheVariants.{Nothing}
 use Rattle.seize_views.specs.declared.view.SlotView.TheVariants.{Inside, Outside}
-use Rattle.threads_rule.specs.Views.Notes.{notes_of}
-use Rattle.threads_rule.proofs.Views.Contents.{knows_free}
+use Rattle.threads_errands.specs.Given.ViewsNotes.{notes_of}
+use Rattle.threads_errands.proofs.Given.ViewsContents.{knows_free}
 use Rattle.seize_callers.proofs.Keeping.{none_away}
 use Rattle.seize_callers.proofs.Resting.{at_rest}
 use Rattle.threads_callers.proofs.Rows.{calls_stay, known_free, map_stays}

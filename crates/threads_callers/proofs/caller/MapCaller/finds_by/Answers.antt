@@ -1,8 +1,8 @@
 use Rattle.std.proofs.Common.{sym, subst, ap, inl, ◌∙◌}
 use Rattle.seize_callers.proofs.Keeping.{none_away}
-use Rattle.threads_rule.specs.Views.Notes.{SeatIsQuiescent}
-use Rattle.threads_rule.specs.Views.Rule.{Leans}
-use Rattle.threads_rule.specs.declared.view.View.{View}
+use Rattle.threads_errands.specs.Given.ViewsNotes.{SeatIsQuiescent}
+use Rattle.threads_errands.specs.Given.ViewsRule.{Leans}
+use Rattle.threads_errands.specs.Given.ViewsDeclared.view.View.{View}
 use Rattle.threads_callers.proofs.Newcomers.{may_learn}
 use Rattle.threads_callers.proofs.Passing.{found_since, none_since, still_back}
 use Rattle.threads_callers.proofs.caller.MapCaller.finds_by.Goals as goal

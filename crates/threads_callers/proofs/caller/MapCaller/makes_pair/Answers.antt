@@ -1,7 +1,7 @@
 use Rattle.std.specs.Fn.{FnOnceReturns}
 use Rattle.seize_callers.proofs.Keeping.{none_away}
 use Rattle.threads_errands.specs.Given.StepsAsking.{MakingSays}
-use Rattle.threads_rule.specs.Errands.Calling.{wanted_of}
+use Rattle.threads_errands.specs.Given.ErrandsCalling.{wanted_of}
 use Rattle.threads_callers.proofs.Rows.{rests_answered}
 use Rattle.threads_callers.proofs.caller.MapCaller.makes_pair.Goals as goal
 

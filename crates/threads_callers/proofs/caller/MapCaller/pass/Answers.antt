@@ -1,4 +1,4 @@
-use Rattle.threads_rule.proofs.Views.Laws.{seats_come}
+use Rattle.threads_errands.proofs.Given.ViewsLaws.{seats_come}
 use Rattle.threads_callers.proofs.caller.MapCaller.pass.Goals as goal
 
 pub seat-seat-requires : goal.seat-seat-requires

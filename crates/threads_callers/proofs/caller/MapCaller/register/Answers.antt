@@ -1,7 +1,7 @@
 use Rattle.seize_views.specs.declared.view.SlotView.TheVariants.{Rests}
 use Rattle.seize_callers.proofs.Keeping.{none_away}
 use Rattle.seize_callers.proofs.Resting.{registered}
-use Rattle.threads_rule.specs.Views.Notes.{notes_of}
+use Rattle.threads_errands.specs.Given.ViewsNotes.{notes_of}
 use Rattle.threads_callers.proofs.Rows.{calls_stay, known_free, map_stays, took}
 use Rattle.threads_callers.proofs.caller.MapCaller.register.Goals as goal
 

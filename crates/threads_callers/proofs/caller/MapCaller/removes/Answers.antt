@@ -1,6 +1,6 @@
 use Rattle.std.specs.Prelude.{None}
 use Rattle.seize_callers.proofs.Keeping.{none_away}
-use Rattle.threads_rule.specs.Given.ActsActs.{Remove}
+use Rattle.threads_errands.specs.Given.ActsActs.{Remove}
 use Rattle.threads_callers.proofs.Rows.{rests_called}
 use Rattle.threads_callers.proofs.caller.MapCaller.removes.Goals as goal
 

@@ -1,6 +1,6 @@
 use Rattle.seize_callers.proofs.Keeping.{none_away}
 use Rattle.threads_errands.specs.Given.StepsAsking.{MayTest, TestSays}
-use Rattle.threads_rule.specs.Errands.Calling.{wanted_of}
+use Rattle.threads_errands.specs.Given.ErrandsCalling.{wanted_of}
 use Rattle.threads_callers.proofs.Rows.{rests_answered}
 use Rattle.threads_callers.proofs.caller.MapCaller.removes_if.Goals as goal
 

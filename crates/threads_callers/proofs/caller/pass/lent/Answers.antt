@@ -1,6 +1,6 @@
 use Rattle.std.specs.Prelude.{ℕ, Option, IfSome}
 use Rattle.std.proofs.Common.{subst}
-use Rattle.threads_rule.specs.Errands.Looking.{HasLookedAt}
+use Rattle.threads_errands.specs.Given.ErrandsLooking.{HasLookedAt}
 use Rattle.threads_callers.proofs.caller.pass.lent.Goals as goal
 
 pub parts_by-requires : goal.parts_by-requires

@@ -1,5 +1,5 @@
-use Rattle.threads_rule.proofs.Views.Laws.{seats_come}
-use Rattle.threads_rule.specs.Views.Looks.{shown_in}
+use Rattle.threads_errands.proofs.Given.ViewsLaws.{seats_come}
+use Rattle.threads_errands.specs.Given.ViewsLooks.{shown_in}
 use Rattle.threads_errands.proofs.Given.StepsShown.{is_shown}
 use Rattle.threads_callers.proofs.caller.pass.pair_by.Goals as goal
 use Rattle.seize_words.proofs.General.{some_there as what}

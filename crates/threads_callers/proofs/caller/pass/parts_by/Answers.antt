@@ -3,8 +3,8 @@ use Rattle.std.proofs.Common.{refl, sym, subst, ap, ◌∙◌}
 use Rattle.seize_words.specs.OneMemory.Word.{block_in}
 use Rattle.seize_seats.specs.Seats.Lendings.{IsValueBy}
 use Rattle.map_tables.specs.declared.node.Node.{Node}
-use Rattle.threads_rule.specs.Views.Looks.{shown_in}
-use Rattle.threads_rule.specs.Views.Rule.{Holds}
+use Rattle.threads_errands.specs.Given.ViewsLooks.{shown_in}
+use Rattle.threads_errands.specs.Given.ViewsRule.{Holds}
 use Rattle.threads_callers.proofs.caller.pass.parts_by.Goals as goal
 
 pub pair_by-requires : goal.pair_by-requires

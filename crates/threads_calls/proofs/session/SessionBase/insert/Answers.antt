@@ -1,9 +1,9 @@
 use Rattle.std.specs.Prelude.{Err}
 use Rattle.std.proofs.Common.{refl, sym, subst}
-use Rattle.threads_rule.specs.Given.ActsActs.{Insert}
+use Rattle.threads_callers.specs.Given.ActsActs.{Insert}
 use Rattle.seize_words.specs.declared.fault.Fault.{Fault}
-use Rattle.threads_rule.specs.Errands.Calling.{outcome_of}
-use Rattle.threads_rule.specs.Errands.Looking.{HasRun}
+use Rattle.threads_callers.specs.Given.ErrandsCalling.{outcome_of}
+use Rattle.threads_callers.specs.Given.ErrandsLooking.{HasRun}
 use Rattle.map_tables.specs.declared.node.Node.TheVariants.{Pair}
 use Rattle.threads_calls.proofs.Keys.{back_by, may_insert, one_back, ran_by}
 use Rattle.threads_calls.proofs.session.SessionBase.insert.Goals as goal

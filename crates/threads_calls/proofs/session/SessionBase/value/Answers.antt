@@ -3,8 +3,8 @@ use Rattle.std.proofs.Common.{subst, ap, ◌∙◌}
 use Rattle.seize_words.specs.OneMemory.Word.{block_in}
 use Rattle.seize_blocks.specs.Given.SeizeSeatsLendings.{IsValueOf}
 use Rattle.map_tables.specs.declared.node.Node.{Node}
-use Rattle.threads_rule.specs.Views.Looks.{shown_in}
-use Rattle.threads_rule.specs.Views.Rule.{Holds}
+use Rattle.threads_callers.specs.Given.ViewsLooks.{shown_in}
+use Rattle.threads_callers.specs.Given.ViewsRule.{Holds}
 use Rattle.threads_calls.proofs.session.SessionBase.value.Goals as goal
 
 pub returns : goal.returns

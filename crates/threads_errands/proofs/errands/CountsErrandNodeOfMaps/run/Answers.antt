@@ -1,6 +1,6 @@
 use Rattle.std.proofs.Common.{◌≡◌, sym, subst, ◌∙◌}
-use Rattle.threads_rule.specs.declared.view.View.{View}
-use Rattle.threads_rule.specs.Errands.Counting.{HasCounted}
+use Rattle.threads_steps.specs.Given.ViewsDeclared.view.View.{View}
+use Rattle.threads_steps.specs.Given.ErrandsCounting.{HasCounted}
 use Rattle.threads_steps.proofs.Given.Keeping.{kept_same}
 use Rattle.threads_errands.proofs.errands.CountsErrandNodeOfMaps.run.Goals as goal
 

@@ -1,5 +1,5 @@
 use Rattle.std.proofs.Common.{◌∙◌}
-use Rattle.threads_rule.proofs.Errands.Beginnings.{from_root}
+use Rattle.threads_steps.proofs.Given.ErrandsBeginnings.{from_root}
 use Rattle.threads_steps.proofs.Straight.{found_then}
 use Rattle.threads_errands.proofs.errands.FindsErrandNodeOfMaps.run.Goals as goal
 

@@ -1,8 +1,8 @@
 use Rattle.std.specs.Fn.{FnOnceReturns}
 use Rattle.std.proofs.Common.{◌≡◌, sym, subst, ◌∙◌}
-use Rattle.threads_rule.specs.declared.view.View.{View}
+use Rattle.threads_steps.specs.Given.ViewsDeclared.view.View.{View}
 use Rattle.threads_steps.specs.Asking.{HasAnswered, MakingSays}
-use Rattle.threads_rule.specs.Errands.Calling.{wanted_of}
+use Rattle.threads_steps.specs.Given.ErrandsCalling.{wanted_of}
 use Rattle.threads_steps.proofs.Given.Keeping.{kept_same}
 use Rattle.threads_errands.proofs.errands.MakesPairErrandNodeOfMaps.run.Goals as goal
 

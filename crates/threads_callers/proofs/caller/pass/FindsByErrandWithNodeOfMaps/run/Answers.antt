@@ -2,8 +2,8 @@ use Rattle.std.specs.Prelude.{◌≡◌, ℕ, Some, IfSome}
 use Rattle.std.proofs.Common.{inr, subst, sym, ◌∙◌}
 use Rattle.seize_seats.specs.Seats.Errands.{Away, Lends}
 use Rattle.seize_views.specs.declared.view.Fixed.{Fixed}
-use Rattle.threads_rule.specs.Views.Rule.{LeansOn}
-use Rattle.threads_rule.specs.declared.view.View.{View}
+use Rattle.threads_errands.specs.Given.ViewsRule.{LeansOn}
+use Rattle.threads_errands.specs.Given.ViewsDeclared.view.View.{View}
 use Rattle.threads_callers.specs.Passing.{IsLentBy}
 use Rattle.threads_callers.proofs.Passing.{may_lean, may_look_under, stands_under, found_under, comes_back}
 use Rattle.threads_callers.proofs.caller.pass.FindsByErrandWithNodeOfMaps.run.Goals as goal
