@@ -180,7 +180,15 @@ fn gives_back<R: Wait, K: Eq + Hash + Drop, V: Drop, S: Hashes<K>>(
     ensures stays { StaysThere seat.old.view seat.new.view }
 {
     let call = refused_of(setting, hash, there);
-    runs_on(rt, blocks, seat, near, hasher, Machine::Key(call), Some(pair))
+    runs_on(
+        rt,
+        blocks,
+        seat,
+        near,
+        hasher,
+        Machine::Key(call),
+        Some(pair),
+    )
 }
 
 /// Stores a pair in the map that the seat knows.
@@ -213,8 +221,6 @@ pub(crate) fn stores<R: Wait, K: Eq + Hash + Drop, V: Drop, S: Hashes<K>>(
         Put::Stands(own, trial, spot) => goes_on(
             rt, blocks, seat, next, hasher, setting, hash, there, own, trial, spot,
         ),
-        Put::Back(pair) => gives_back(
-            rt, blocks, seat, next, hasher, setting, hash, there, pair,
-        ),
+        Put::Back(pair) => gives_back(rt, blocks, seat, next, hasher, setting, hash, there, pair),
     }
 }

@@ -1,5 +1,6 @@
 use Rattle.std.specs.Prelude.{None, Some, Ok}
 use Rattle.std.proofs.Common.{sym, subst, ◌∙◌}
+use Rattle.papaya_raw.specs.declared.machines.call.KeyCall.{KeyCall}
 use Rattle.papaya_raw.specs.declared.machines.machine.Machine.TheVariants.{Key}
 use Rattle.papaya_raw.specs.declared.machines.progress.Answer.TheVariants.{Key as OfKey}
 use Rattle.threads_steps.specs.Given.ErrandsCalling.{wanted_of}
@@ -25,11 +26,11 @@ puts-put-requires-clause-ahead g c = let x = c.args in
 -- straight code has gone all the way
 pub returns-in-Answered-clause-called : goal.returns-in-Answered-clause-called
 returns-in-Answered-clause-called g c =
-    let x = c.args in let from = making x.setting x.hash x.there x.pair in let wanted = wanted_of (Key from) in let told = Ok (OfKey c.in-Answered.answer) in
+    let x = c.args in let from : KeyCall g.row.K.Denot g.row.V.Denot g.row.K.Denot = making x.setting x.hash x.there x.pair in let wanted = wanted_of (Key from) in
     let v = x.seat.now.view in let w = c.begins.new.seat.view in let u = c.puts-put.new.seat.view in
     let s = subst (λ (p : Put g.row.K.Denot g.row.V.Denot). HasStored g.K.PartialEq.eq g.S.Hashes.hash x.hasher.now x.setting x.hash x.there from p w u) c.in-Answered.is c.puts-put.ensures.stored in
-    has_called g.K.PartialEq.eq g.S.Hashes.hash wanted told None v w u c.begins.ensures.begun s.0 s.1
-    (comes_back g.K.PartialEq.eq g.S.Hashes.hash wanted told None v w c.begins.ensures.begun
+    has_called g.K.PartialEq.eq g.S.Hashes.hash wanted (Ok (OfKey c.in-Answered.answer)) None v w u c.begins.ensures.begun s.0 s.1
+    (comes_back g.K.PartialEq.eq g.S.Hashes.hash wanted (Ok (OfKey c.in-Answered.answer)) None v w c.begins.ensures.begun
     (λ pair its began. s.2 pair (first (Key from) None (c.requires.may.stores pair its))))
 
 pub returns-in-Answered-clause-same : goal.returns-in-Answered-clause-same
@@ -44,12 +45,12 @@ goes_on-requires-clause-away g c = λ none. c.requires.away (sym c.begins.ensure
 
 pub goes_on-requires-clause-ahead : goal.goes_on-requires-clause-ahead
 goes_on-requires-clause-ahead g c =
-    let x = c.args in let from = making x.setting x.hash x.there x.pair in let w = c.begins.new.seat.view in let u = c.puts-put.new.seat.view in
+    let x = c.args in let from : KeyCall g.row.K.Denot g.row.V.Denot g.row.K.Denot = making x.setting x.hash x.there x.pair in let w = c.begins.new.seat.view in let u = c.puts-put.new.seat.view in
     (subst (λ (p : Put g.row.K.Denot g.row.V.Denot). HasStored g.K.PartialEq.eq g.S.Hashes.hash x.hasher.now x.setting x.hash x.there from p w u) c.in-Stands.is c.puts-put.ensures.stored).0.0
 
 pub returns-in-Stands-clause-called : goal.returns-in-Stands-clause-called
 returns-in-Stands-clause-called g c =
-    let x = c.args in let from = making x.setting x.hash x.there x.pair in let wanted = wanted_of (Key from) in let e = c.goes_on.ensures in
+    let x = c.args in let from : KeyCall g.row.K.Denot g.row.V.Denot g.row.K.Denot = making x.setting x.hash x.there x.pair in let wanted = wanted_of (Key from) in let e = c.goes_on.ensures in
     let v = x.seat.now.view in let w = c.begins.new.seat.view in let u = c.puts-put.new.seat.view in let z = c.goes_on.new.seat.view in
     let s = subst (λ (p : Put g.row.K.Denot g.row.V.Denot). HasStored g.K.PartialEq.eq g.S.Hashes.hash x.hasher.now x.setting x.hash x.there from p w u) c.in-Stands.is c.puts-put.ensures.stored in
     has_called g.K.PartialEq.eq g.S.Hashes.hash wanted c.goes_on.result.told c.goes_on.result.unstored v w z c.begins.ensures.begun
@@ -70,12 +71,12 @@ gives_back-requires-clause-away g c = λ none. c.requires.away (sym c.begins.ens
 
 pub gives_back-requires-clause-ahead : goal.gives_back-requires-clause-ahead
 gives_back-requires-clause-ahead g c =
-    let x = c.args in let from = making x.setting x.hash x.there x.pair in let w = c.begins.new.seat.view in let u = c.puts-put.new.seat.view in
+    let x = c.args in let from : KeyCall g.row.K.Denot g.row.V.Denot g.row.K.Denot = making x.setting x.hash x.there x.pair in let w = c.begins.new.seat.view in let u = c.puts-put.new.seat.view in
     (subst (λ (p : Put g.row.K.Denot g.row.V.Denot). HasStored g.K.PartialEq.eq g.S.Hashes.hash x.hasher.now x.setting x.hash x.there from p w u) c.in-Back.is c.puts-put.ensures.stored).0.0
 
 pub returns-in-Back-clause-called : goal.returns-in-Back-clause-called
 returns-in-Back-clause-called g c =
-    let x = c.args in let from = making x.setting x.hash x.there x.pair in let wanted = wanted_of (Key from) in let e = c.gives_back.ensures in
+    let x = c.args in let from : KeyCall g.row.K.Denot g.row.V.Denot g.row.K.Denot = making x.setting x.hash x.there x.pair in let wanted = wanted_of (Key from) in let e = c.gives_back.ensures in
     let v = x.seat.now.view in let w = c.begins.new.seat.view in let u = c.puts-put.new.seat.view in let z = c.gives_back.new.seat.view in
     let s = subst (λ (p : Put g.row.K.Denot g.row.V.Denot). HasStored g.K.PartialEq.eq g.S.Hashes.hash x.hasher.now x.setting x.hash x.there from p w u) c.in-Back.is c.puts-put.ensures.stored in
     has_called g.K.PartialEq.eq g.S.Hashes.hash wanted c.gives_back.result.told c.gives_back.result.unstored v w z c.begins.ensures.begun
