@@ -76,7 +76,7 @@ module _ {T : Type 0} (defers : T → Option ℕ) (fixed : Fixed) where
       pub used : IsUsedLike Is n (use_of u)
       pub plain : IsPlain u
       pub short : IsShort u
-      pub known : IsKnown n u
+      pub known : IsKnown defers n u
       pub bounded : IsBounded defers fixed n i u
       pub none : hand_of u ≡ None
       pub slot : (t : ℕ) (b : Use) → use_of u ≡ Some (t, b) → ((a : Use) × (use_of v ≡ Some (t, a))) ⊎ ((w.uses t ≡ Vacant) × (t < LAST_SLOT + 1))
@@ -135,7 +135,7 @@ module _ {T : Type 0} (defers : T → Option ℕ) (fixed : Fixed) where
     pub used : IsUsedLike IsJustSo n (use_of u)
     pub plain : IsPlain u
     pub short : IsShort u
-    pub known : IsKnown n u
+    pub known : IsKnown defers n u
     pub bounded : IsBounded defers fixed n i u
     pub none : hand_of u ≡ None
     pub slot : (t : ℕ) (b : Use) → use_of u ≡ Some (t, b) → (a : Use) × (use_of v ≡ Some (t, a))
