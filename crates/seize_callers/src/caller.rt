@@ -1,5 +1,5 @@
 //! One of those who share the memory.
-ghost use Rattle.std.specs.Prelude.{◌≡◌, ◌≢◌, ◌<◌, ◌^◌, true, IfOk, IfErr, IfSome, IfNone, unwrap_or};
+ghost use Rattle.std.specs.Prelude.{◌≡◌, ◌≢◌, ◌<◌, ◌^◌, ℕ, Option, true, IfOk, IfErr, IfSome, IfNone, unwrap_or};
 ghost use Rattle.seize_words.specs.OneMemory.Word.{block_in};
 ghost use Rattle.seize.specs.World.{HasListWord};
 ghost use Rattle.seize_callers.specs.Kept.{is_home};
@@ -7,12 +7,14 @@ ghost use Rattle.seize_views.specs.Views.Promises.{IsLooking};
 ghost use Rattle.seize_views.specs.declared.view.Began.TheVariants.{Section};
 ghost use Rattle.seize_views.specs.declared.view.SlotView.TheVariants.{Rests, Outside, Inside};
 ghost use Rattle.seize_views.specs.declared.view.Has.{Has};
-ghost use Rattle.seize_views.specs.declared.view.Has.TheVariants.{Nothing};
+ghost use Rattle.seize_views.specs.declared.view.Has.TheVariants.{Nothing, Walks};
 
 mod alone;
+mod joining;
 mod pass;
 mod roots;
 mod settling;
+mod walking;
 mod watch;
 
 use crate::errands::{Enters, Frees, Registers};
@@ -141,6 +143,18 @@ impl<'a, T: Defers, C: Content<T>> Caller<'a, T, C> {
 }
 
 impl<'a, T: Defers, C: Content<T>> Caller<'a, T, C> {
+    /// Turns from chains: it knows of no block.
+    pub fn stops(&mut self, _slot: u64)
+        requires walks { (b : ℕ) × (next : Option ℕ) × ((C.notes self.old.seat.view).knows ≡ Inside _slot (Walks b next)) }
+        ensures inside { (C.notes self.new.seat.view).knows ≡ Inside _slot Nothing }
+        ensures blocks { self.new.blocks ≡ self.old.blocks }
+        ensures beside { C.beside self.new.seat.view ≡ C.beside self.old.seat.view }
+        ensures guards { (C.notes self.new.seat.view).guards ≡ (C.notes self.old.seat.view).guards }
+    {
+        C::goes_on();
+        self.blocks.part::<Forgetting<T, C>>(&mut self.seat);
+    }
+
     /// Lets a slot be as it is whose section is watched still.
     pub fn stays(self, _slot: u64)
         requires watched { (C.notes self.seat.view).guards ≢ 0 }

@@ -4,10 +4,10 @@ pub mod Chains
 pub mod Rows
 pub mod Told
 pub mod Promises
-pub mod Stacking
 pub mod Begun
 pub mod Watched
 pub mod Notes
+pub mod Stacking
 pub mod Content
 pub mod Resting
 pub mod Stays

@@ -47,6 +47,15 @@ pub struct Leaning;
 /// It leans on it no longer.
 pub struct Returning;
 
+/// A seat is to make a block for a chain.
+pub struct Joining;
+
+/// A seat within a section is to go down a chain.
+pub struct Walking;
+
+/// It goes on to the block that the link names at which it has looked.
+pub struct Going;
+
 impl<T: Defers, C: Content<T>> Turn<Fixed, C::View> for RegisteringBegins<T, C> {
     ghost use Rattle.seize_views.specs.Views.Begun.{registering, Makes};
     ghost use Rattle.seize_views.specs.Views.Content.{Turned};
@@ -147,4 +156,22 @@ impl<T> Turn<Fixed, Noted<T>> for Returning {
     ghost use Rattle.seize_views.specs.Views.Notes.{ReturnsToRest};
 
     ghost to = { λ _. ReturnsToRest };
+}
+
+impl<T> Turn<Fixed, Noted<T>> for Joining {
+    ghost use Rattle.seize_views.specs.Views.Stacking.{joining, GoesItsWay};
+
+    ghost to = { λ _. GoesItsWay joining };
+}
+
+impl<T> Turn<Fixed, Noted<T>> for Walking {
+    ghost use Rattle.seize_views.specs.Views.Stacking.{walking, GoesItsWay};
+
+    ghost to = { λ _. GoesItsWay walking };
+}
+
+impl<T> Turn<Fixed, Noted<T>> for Going {
+    ghost use Rattle.seize_views.specs.Views.Stacking.{going, GoesItsWay};
+
+    ghost to = { λ _. GoesItsWay going };
 }

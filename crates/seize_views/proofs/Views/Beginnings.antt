@@ -34,7 +34,7 @@ zeros zero r word e = absurd (cc e)
 zeros (suc n) zero word e = same_some 0 word e
 zeros (suc n) (suc r) word e = zeros n r word e
 
-zero_at : (n r : ℕ) → r < n → slice_get (replicate n 0) r ≡ Some 0
+zero_at : (n r : ℕ) → r < n → slice_get {X = ℕ} (replicate n 0) r ≡ Some 0
 zero_at zero r lt = absurd (omega (arith, lt))
 zero_at (suc n) zero lt = refl
 zero_at (suc n) (suc r) lt = zero_at n r (omega (arith, lt))

@@ -18,11 +18,14 @@ module _ {T : Type 0} (defers : T → Option ℕ) (fixed : Fixed) where
   abbrev size : ℕ
   size = fixed.batch_size
 
-  start_reached : Reached defers size (at_start defers (all_roots fixed))
-  start_reached = record { good = start_good defers (LAST_SLOT + 1) size (all_roots fixed); sized = λ i. tt }
+  start_reached : (roots : ℕ) → Reached defers size (at_start defers roots)
+  start_reached roots = record { good = start_good defers (LAST_SLOT + 1) size roots; sized = λ i. tt }
+
+  pub from_start : (roots : ℕ) (events : List (Event T)) (w : World T) → Runs defers size events (at_start defers roots) w → Reached defers size w
+  from_start roots events w runs = runs_reached defers size events (at_start defers roots) w (start_reached roots) runs
 
   pub reached : (w : World T) → Came defers fixed w → Reached defers size w
-  reached w came = runs_reached defers size came.0 (at_start defers (all_roots fixed)) w start_reached came.1
+  reached w came = from_start (all_roots fixed) came.0 w came.1
 
   runs_both : (events more : List (Event T)) (w v n : World T) → Runs defers size events w v → Runs defers size more v n → Runs defers size (events ++ more) w n
   runs_both [] more w v n h step = subst (λ (u : World T). Runs defers size more u n) h step

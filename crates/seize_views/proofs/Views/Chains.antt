@@ -59,8 +59,12 @@ pub not_chain : (fixed : Fixed) (a r : ℕ) → a < fixed.roots → IsChainRoot 
 not_chain fixed a r plain is e = omega (arith, plain, is.0, e)
 
 -- a block that stands before others is one of them
-pub here_once : (b : ℕ) (blocks : List ℕ) → times b (b ∷ blocks) ≡ suc (times b blocks)
+pub here_once : (b : ℕ) (blocks : List ℕ) → times b (b ∷ blocks) ≡ 1 + times b blocks
 here_once b blocks = ap (λ (y : Bool). (if y then 1 else 0) + times b blocks) (eq-eqb b b refl)
+
+pub apart_times : (b c : ℕ) (blocks : List ℕ) → b ≢ c → times b (c ∷ blocks) ≡ times b blocks
+apart_times b c blocks ne =
+    let none : 0 + times b blocks ≡ times b blocks = omega arith in ap (λ (y : Bool). (if y then 1 else 0) + times b blocks) (ne_eqb b c ne) ∙ none
 
 pub there_too : (b c : ℕ) (blocks : List ℕ) → 0 < times b blocks → 0 < times b (c ∷ blocks)
 there_too b c blocks some = by (b == c)
@@ -80,9 +84,11 @@ module _ {T : Type 0} (defers : T → Option ℕ) where
       let mine = same b (subst (λ (k : ℕ). 0 < k) (sym (here_once b blocks)) (omega arith)) stand.1 in (
         stand.0,
         has_link_kept m n b mine stand.1,
-        stand.2.0,
-        links_kept m n b stand.2.0 mine stand.2.1,
-        stand_kept m n blocks stand.2.0 (λ d some. same d (there_too d b blocks some)) stand.2.2,
+        (
+          stand.2.0,
+          links_kept m n b stand.2.0 mine stand.2.1,
+          stand_kept m n blocks stand.2.0 (λ d some. same d (there_too d b blocks some)) stand.2.2,
+        ),
       )
 
   -- a block of a chain stands so many links below the first one
@@ -90,9 +96,9 @@ module _ {T : Type 0} (defers : T → Option ℕ) where
   stands_there m [] c b stand some = absurd (omega (arith, some))
   stands_there m (d ∷ blocks) c b stand some = elim (cases_eq b d) as (λ _. (n : ℕ) × IsBelow m n c b) [
     | inl same ↦ (0, stand.0 ∙ sym same)
-    | inr ne ↦ (let rest : 0 < times b blocks = subst (λ (y : Bool). 0 < (if y then 1 else 0) + times b blocks) (ne_eqb b d ne) some in
+    | inr ne ↦ (let rest : 0 < times b blocks = subst (λ (k : ℕ). 0 < k) (apart_times b d blocks ne) some in
         let k = stands_there m blocks stand.2.0 b stand.2.2 rest in
-        (suc k.0, stand.2.0, subst (λ (x : ℕ). LinksTo m x stand.2.0) (sym stand.0) stand.2.1, k.1))
+        (suc k.0, (stand.2.0, subst (λ (x : ℕ). LinksTo m x stand.2.0) (sym stand.0) stand.2.1, k.1)))
   ]
 
   -- a chain stays where the root names what it named, and who is linked there is linked there, with the same link

@@ -17,7 +17,7 @@ module _ {T : Type 0} (m m2 : Mem T) (b : ℕ) where
       ap (λ (x : Mem T). word_at x (Word c LINK)) is ∙ ap (λ (o : Option (Block T)). word_in o LINK) (block_of-made m value words b c free)
       ∙ ap (λ (t : Bool). word_in (if t then Some (fresh value words) else block_of m c) LINK) (ne_eqb c b ne)
 
-  zero_first : (words i : ℕ) → i < words → slice_get (replicate words 0) i ≡ Some 0
+  zero_first : (words i : ℕ) → i < words → slice_get {X = ℕ} (replicate words 0) i ≡ Some 0
   zero_first zero i lt = absurd (omega (arith, lt))
   zero_first (suc words) zero lt = refl
   zero_first (suc words) (suc i) lt = zero_first words i (omega (arith, lt))

@@ -1,6 +1,6 @@
 -- What a seat has done makes the rule hold again, where it has left what the other seats know.
 use Rattle.std.specs.Prelude.{◌≢◌, Option, Some, None, IsSome, length, slice_get, slice_set}
-use Rattle.std.proofs.Common.{◌≡◌, ℕ, List, ◌⊎◌, true, inl, inr, refl, sym, subst, ap, ◌∙◌}
+use Rattle.std.proofs.Common.{◌≡◌, ℕ, ◌+◌, List, ◌⊎◌, true, false, inl, inr, refl, sym, subst, ap, ◌∙◌}
 use Rattle.std.proofs.lemmas.Bool.{cases_eq}
 use Rattle.seize_words.specs.OneMemory.Mem.{Mem, value_at, word_at}
 use Rattle.seize_words.specs.declared.at.At.TheVariants.{Root}

@@ -7,7 +7,7 @@ use Rattle.seize_words.specs.OneMemory.Word.{block_in}
 use Rattle.seize_words.specs.OneMemory.Op.{Op, Out, Store, Exchange, Make, Take, Found, Stored, Exchanged, Made as OutMade, Taken, Roomed}
 use Rattle.seize_words.specs.declared.at.At.TheVariants.{Root, Word}
 use Rattle.seize.specs.Law.{Linked, Dropped, is_over}
-use Rattle.seize.specs.World.{World, Hand, Links, Operates, times, with_at, with_hand, with_effect, IsOwn}
+use Rattle.seize.specs.World.{World, Hand, Happens, Links, Operates, times, with_at, with_hand, with_effect, IsOwn}
 use Rattle.seize.specs.World as world
 use Rattle.seize_acts.proofs.Given.SeizeMovesState.Held.{held_on}
 use Rattle.seize_acts.proofs.Given.SeizeRuleRows.Others.{with_here, with_other}
@@ -20,12 +20,12 @@ use Rattle.seize_views.specs.Views.Stacking.{JoiningAreMade, LinksAreWritten, Jo
 use Rattle.seize_views.specs.Views.Told.{told}
 use Rattle.seize_views.specs.declared.view.TheConstants.{LINK}
 use Rattle.seize_views.specs.declared.view.SlotView.{SlotView}
-use Rattle.seize_views.specs.declared.view.SlotView.TheVariants.{Joins}
+use Rattle.seize_views.specs.declared.view.SlotView.TheVariants.{Rests, Joins}
 use Rattle.seize_views.specs.declared.view.Has.TheVariants.{Nothing, Made}
 use Rattle.seize_views.specs.declared.view.Fixed.{Fixed}
 use Rattle.seize_views.proofs.Views.Blocks.{makes_with, takes_with, shown, root_words, apart_from}
 use Rattle.seize_views.proofs.Views.Came.{reached, since_one, since_then}
-use Rattle.seize_views.proofs.Views.Chains.{same_blocks, links_once, has_link_kept, stand_kept, chain_kept, linked_beside, linked_back, here_once}
+use Rattle.seize_views.proofs.Views.Chains.{same_blocks, links_once, has_link_kept, stand_kept, chain_kept, linked_beside, linked_back, here_once, apart_times}
 use Rattle.seize_views.proofs.Views.Found.{HasNow, AreFound, found_on}
 use Rattle.seize_views.proofs.Views.Lists.{elsewhere}
 use Rattle.seize_views.proofs.Views.Links.{made_link, stored_beside, stored_link}
@@ -35,13 +35,9 @@ use Rattle.seize_views.proofs.Views.Users.{use_making, same_use, beside, world_t
 use Rattle.seize_views.proofs.Views.Written.{Wrote, wrote, rooted_still, roots_now, written, links_stay, any_root_can, FoundIn, found_but}
 use Rattle.seize_words.proofs.General.{same_some}
 
--- a block is none of those of a chain where it is none of them
-pub apart_times : (b c : ℕ) (blocks : List ℕ) → b ≢ c → times b (c ∷ blocks) ≡ times b blocks
-apart_times b c blocks ne = ap (λ (y : Bool). (if y then 1 else 0) + times b blocks) (ne_eqb b c ne)
-
 none_of : (n : ℕ) → (0 < n → ⊥) → n ≡ 0
-none_of zero no = refl
-none_of (suc n) no = absurd (no (omega arith))
+none_of zero never = refl
+none_of (suc n) never = absurd (never (omega arith))
 
 module _ {T : Type 0} (defers : T → Option ℕ) (m : Mem T) (hand : ℕ → Hand) (r b : ℕ) (none : hand b ≡ world.InUse r → ⊥) (c : Chain defers m hand r) where
   -- a block that is put above the first one of a chain is the first one of the chain then
@@ -51,7 +47,7 @@ module _ {T : Type 0} (defers : T → Option ℕ) (m : Mem T) (hand : ℕ → Ha
     word = word;
     at = at;
     blocks = b ∷ c.blocks;
-    stand = (names, has, block_in c.word, links, stand_kept defers m n c.blocks (block_in c.word) (λ d some has. same_blocks m n d same) c.stand);
+    stand = (names, has, (block_in c.word, links, stand_kept defers m n c.blocks (block_in c.word) (λ d some has. same_blocks m n d same) c.stand));
     once = λ d is. once d is (cases_eq d b);
     linked = λ d some. linked d some (cases_eq d b);
   }
@@ -60,7 +56,7 @@ module _ {T : Type 0} (defers : T → Option ℕ) (m : Mem T) (hand : ℕ → Ha
       not_there = none_of (times b c.blocks) (λ some. none (c.linked b some))
 
       once : (d : ℕ) → with_at hand b (world.InUse r) d ≡ world.InUse r → (d ≡ b) ⊎ (d ≢ b) → times d (b ∷ c.blocks) ≡ 1
-      once d is (inl same) = subst (λ (x : ℕ). times x (b ∷ c.blocks) ≡ 1) (sym same) (here_once b c.blocks ∙ ap suc not_there)
+      once d is (inl same) = subst (λ (x : ℕ). times x (b ∷ c.blocks) ≡ 1) (sym same) (here_once b c.blocks ∙ ap (λ (n : ℕ). 1 + n) not_there)
       once d is (inr ne) = apart_times d b c.blocks ne ∙ c.once d (sym (with_other hand b d (world.InUse r) ne) ∙ is)
 
       linked : (d : ℕ) → 0 < times d (b ∷ c.blocks) → (d ≡ b) ⊎ (d ≢ b) → with_at hand b (world.InUse r) d ≡ world.InUse r
@@ -85,7 +81,7 @@ module _ {T : Type 0} (defers : T → Option ℕ) (fixed : Fixed) (s : State T (
       (u.in_hand, (0, made_link w.memory m2 b value words here.0.0 here.1 long, refl), own) tt (told defers (Joins None) (Make value words) (OutMade (Ok b)))
       (Some (b, value, 0), (lt, refl), refl))
       (λ back m2 same u found.
-      users_on defers fixed s id 0 (Joins None) (Joins None) h at refl refl refl tt m2 (world.made_by defers w id m2 (OutMade (Err back))) Nothing u found refl tt tt
+      users_on defers fixed s id 0 (Joins None) Rests h at refl refl refl tt m2 (world.made_by defers w id m2 (OutMade (Err back))) Nothing u found refl tt tt
       (told defers (Joins None) (Make value words) (OutMade (Err back))) (None, (same, refl), refl)) out m took
 
   module _ (b : ℕ) (x : T) (a : ℕ) (at : view_of s id ≡ Some (Joins (Some (b, x, a)))) where
@@ -106,7 +102,7 @@ module _ {T : Type 0} (defers : T → Option ℕ) (fixed : Fixed) (s : State T (
     takes_it out m took =
         takes_with defers fixed s id 0 v (Made b x) refl h at made b x made refl Nothing refl (λ n held. tt) (told defers v (Take b))
         (λ value m2 same u found.
-        users_on defers fixed s id 0 v (Joins None) h at refl refl refl tt m2
+        users_on defers fixed s id 0 v Rests h at refl refl refl tt m2
         (with_effect (with_hand (record w { memory = m2 }) b world.NoBlock) (Dropped b)) Nothing u found refl tt tt (told defers v (Take b) (Taken value)) (None, (same, refl), refl))
         out m took
 
@@ -119,7 +115,7 @@ module _ {T : Type 0} (defers : T → Option ℕ) (fixed : Fixed) (s : State T (
         let some : IsSome (word_at w.memory (Word b LINK)) = subst IsSome (sym links_to.1) refl in
         let value : (c : ℕ) → value_at m c ≡ value_at w.memory c =
         (λ c. ap (λ (y : Mem T). value_at y c) here.1 ∙ own_op_value defers w.memory c op Stored own) in
-        let happens = (Stored, m, own, here, refl) in
+        let happens : Happens defers fixed.batch_size (Operates op) w n = (Stored, m, own, here, refl) in
         let since = since_one defers fixed w n (Operates op) happens in
         let links : LinksStay defers fixed s id n =
         (λ c apart some2. (
@@ -174,9 +170,9 @@ module _ {T : Type 0} (defers : T → Option ℕ) (fixed : Fixed) (s : State T (
 
     -- it puts it at the root of a chain, above the block that was the first one
     puts : (r old word : ℕ) → block_in word ≡ b → block_in old ≡ a → IsChainRoot fixed r → (m : Mem T) → Wrote defers fixed s id r word old m → (so : SlotView T → Type 0)
-        → so (Joins None) → Leads defers fixed s m id so
+        → so Rests → Leads defers fixed s m id so
     puts r old word names below is m wrote so tells =
-        users_on defers fixed s id 0 v (Joins None) h at refl refl refl tt m n Nothing (record {
+        users_on defers fixed s id 0 v Rests h at refl refl refl tt m n Nothing (record {
           since = since_then defers fixed w (record w { memory = m }) n (Links id b r) wrote.since (made.0, refl);
           memory = refl;
           row = refl;

@@ -23,16 +23,21 @@ use Rattle.seize_views.specs.declared.view.SlotView.TheVariants.{Rests, Register
 use Rattle.seize_views.specs.declared.view.Has.{Has}
 use Rattle.seize_views.specs.declared.view.Has.TheVariants.{Nothing, Made, Seen, Both, Cut, Walks}
 use Rattle.seize_views.specs.declared.view.Fixed.{Fixed}
-use Rattle.seize_views.proofs.Views.Chains.{none_links, links_once, same_blocks, stand_kept, chain_kept, chain_held, linked_beside, linked_back, here_once, there_too}
+use Rattle.seize_views.proofs.Views.Chains.{none_links, links_once, same_blocks, stand_kept, chain_kept, chain_held, linked_beside, linked_back, here_once, apart_times, there_too}
 use Rattle.seize_views.proofs.Views.Came.{since_then}
 use Rattle.seize_views.proofs.Views.Guarding.{aside_on}
 use Rattle.seize_views.proofs.Views.Lists.{elsewhere}
 use Rattle.seize_views.proofs.Views.Moved.{hand_users, inside_of}
 use Rattle.seize_views.proofs.Views.Roots.{linked_held, looks}
-use Rattle.seize_views.proofs.Views.Stacking.{apart_times}
 use Rattle.seize_views.proofs.Views.Users.{same_use, passes_then, within, users}
 use Rattle.seize_views.proofs.Views.Written.{Wrote, wrote, rooted_still, roots_now, written, links_stay, any_root_can, FoundIn, found_but}
 use Rattle.seize_words.proofs.General.{same_some}
+
+-- a word that names a block says that it was unlinked
+cut_is : {T : Type 0} (b word : ℕ) → block_in word ≡ b → b ≢ 0 → cut_in {T = T} word ≡ Cut b
+cut_is {T} b word names some =
+    let seen : Bool → Has T = λ (y : Bool). if y then Nothing else Cut (block_in word) in
+    let cut : ℕ → Has T = λ (k : ℕ). Cut k in ap seen (ne_eqb (block_in word) 0 (λ z. some (sym names ∙ z))) ∙ ap cut names
 
 -- no block stands below none
 none_below : {T : Type 0} (defers : T → Option ℕ) (w : World T) (t : ℕ) → HoldsAllBelow defers w t 0
@@ -246,10 +251,7 @@ module _ {T : Type 0} (defers : T → Option ℕ) (fixed : Fixed) (s : State T (
   exchanges r old word some first names is (Exchanged (Ok was)) m took =
       copies r old word some first names is m
       (wrote defers fixed s id me h at r word old m (Exchange (Root r) old word) (Exchanged (Ok was)) tt took (took.0.0 ∙ ap Some took.0.1) took.1)
-      (told defers me (Exchange (Root r) old word) (Exchanged (Ok was))) (cut_in old, refl, ap (λ (x : Has T). Inside t x) cut)
-    where
-      cut : Cut b ≡ cut_in old
-      cut = ap Cut (sym first) ∙ ap (λ (y : Bool). if y then Nothing else Cut (block_in old)) (sym (ne_eqb (block_in old) 0 (λ z. some (sym first ∙ z))))
+      (told defers me (Exchange (Root r) old word) (Exchanged (Ok was))) (cut_in old, refl, ap (λ (x : Has T). Inside t x) (sym (cut_is b old first some)))
   exchanges r old word some first names is (Exchanged (Err now)) m took =
       comes defers fixed s id t b (Some c) h at m took.1 (block_in now) (root_known defers fixed s id t b (Some c) h at r now is took.0.0)
       (told defers me (Exchange (Root r) old word) (Exchanged (Err now))) (Walks (block_in now) None, (took.0.1, refl), refl)
@@ -277,13 +279,9 @@ module _ {T : Type 0} (defers : T → Option ℕ) (fixed : Fixed) (id : ℕ) whe
   turns_to_chains s h at =
       aside_on defers fixed s id Rests (Joins None) h at refl refl refl tt refl refl tt tt s.memory refl (λ x. x ≡ Joins None) refl
 
-  turns_back : TurnsTo defers fixed id (Joins None) (λ x. x ≡ Rests)
-  turns_back s h at = aside_on defers fixed s id (Joins None) Rests h at refl refl refl tt refl refl tt tt s.memory refl (λ x. x ≡ Rests) refl
-
   turns : (v u : SlotView T) → IsOnItsWay v u → TurnsTo defers fixed id v (λ x. x ≡ u)
   turns Rests u is = to_is Rests (Joins None) u is turns_to_chains
-  turns (Joins None) u is = to_is (Joins None) Rests u is turns_back
-  turns (Joins (Some made)) u is = absurd is
+  turns (Joins block) u is = absurd is
   turns (Inside t (Walks b (Some c))) u (inl is) = to_is (Inside t (Walks b (Some c))) (Inside t (Walks c None)) u is (goes_down t b c)
   turns (Inside t (Walks b (Some c))) u (inr is) = to_is (Inside t (Walks b (Some c))) (Inside t (Walks 0 None)) u is (starts t (Walks b (Some c)) refl)
   turns (Inside t (Walks b None)) u is = absurd is.0

@@ -35,13 +35,11 @@ module _ {T : Type 0} (fixed : Fixed) where
   abbrev pub leaving : SlotView T → SlotView T
   leaving (Inside t Nothing) = Leaves t fixed.batch_size Idle
   leaving (Inside t (Seen b)) = Leaves t fixed.batch_size Idle
-  leaving (Inside t (Walks b next)) = Leaves t fixed.batch_size Idle
   leaving v = v
 
   abbrev pub refreshes : SlotView T → SlotView T
   refreshes (Inside t Nothing) = Leaves t fixed.batch_size Active
   refreshes (Inside t (Seen b)) = Leaves t fixed.batch_size Active
-  refreshes (Inside t (Walks b next)) = Leaves t fixed.batch_size Active
   refreshes v = v
 
   -- what was seen is let go

@@ -1,5 +1,5 @@
 -- Who has nothing under way has nothing under way after an operation, and who leans on nobody leans on nobody.
-use Rattle.std.specs.Prelude.{◌≡◌, ◌==◌, ℕ, Bool, true, false, Option, Some, if◌then◌else◌}
+use Rattle.std.specs.Prelude.{◌≡◌, ◌==◌, ℕ, Bool, true, false, Option, Some, None, if◌then◌else◌}
 use Rattle.std.proofs.Common.{sym, subst, ap}
 use Rattle.seize_words.specs.OneMemory.Op.{Op, Out, Load, Store, Swap, Add, Or, Exchange, Make, Take, Rewrite, Room, Found, Stored, Exchanged, Made as OutMade, Taken, Roomed}
 use Rattle.seize_words.specs.OneMemory.Word.{block_in}
@@ -8,7 +8,7 @@ use Rattle.seize_views.specs.Views.Notes.{noted_observed}
 use Rattle.seize_views.specs.Views.Rows.{IsQuiescent}
 use Rattle.seize_views.specs.Views.Stays.{observed_still}
 use Rattle.seize_views.specs.Views.Watched.{open_at, LeansOn, Leans, IsOwn, IsOfRows}
-use Rattle.seize_views.specs.Views.Told.{told, alone_with, owes_in}
+use Rattle.seize_views.specs.Views.Told.{told, alone_with, joined_as, owes_in}
 use Rattle.seize_views.specs.declared.view.Noted.{Noted}
 use Rattle.seize_views.specs.declared.view.SlotView.{SlotView}
 use Rattle.seize_views.specs.declared.view.SlotView.TheVariants.{Rests, Registers, Outside, Owes, Enters, Inside, Settles, Leaves, Left, Frees, Brings, Bears, Watches, Under, Joins, Busy}
@@ -27,6 +27,10 @@ module _ {T : Type 0} where
   alone_rests (Both b x a) = tt
   alone_rests (Cut b) = tt
   alone_rests (Walks b next) = tt
+
+  joined_rests : (block : Option (ℕ × T × ℕ)) → IsQuiescent (joined_as block)
+  joined_rests None = tt
+  joined_rests (Some made) = tt
 
   rests_as : (w v : SlotView T) → w ≡ v → IsQuiescent v → IsQuiescent w
   rests_as w v e rests = subst IsQuiescent (sym e) rests
@@ -81,7 +85,7 @@ module _ {T : Type 0} (defers : T → Option ℕ) where
   observed_rests (Inside t has) op out w is r = rests_as w (Inside t is.0) is.2 tt
   observed_rests (Brings b x) op out w is r = rests_as w (alone_with is.0) is.2 (alone_rests is.0)
   observed_rests (Bears b) op out w is r = absurd is
-  observed_rests (Joins block) op out w is r = rests_as w (Joins is.0) is.2 tt
+  observed_rests (Joins block) op out w is r = rests_as w (joined_as is.0) is.2 (joined_rests is.0)
   observed_rests (Watches t b) op out w is r = watched t b op out w is
   observed_rests (Under n t b) op out w is r = absurd r
   observed_rests (Registers c) op out w is r = absurd r

@@ -7,31 +7,49 @@ use Rattle.seize_words.specs.declared.at.At.TheVariants.{Root, Word}
 use Rattle.seize.specs.World.{HasListWord}
 use Rattle.seize_seats.specs.Seats.Lendings.{VisibleTo, IsValueOf}
 use Rattle.seize_views.specs.Views.Chains.{IsChainRoot}
+use Rattle.seize_views.specs.Views.Notes.{SameNotes}
 use Rattle.seize_views.specs.Views.Promises.{IsLooking}
 use Rattle.seize_views.specs.Views.Rows.{TurnsTo, Permits, Holds}
 use Rattle.seize_views.specs.Views.Told.{told}
 use Rattle.seize_views.specs.declared.view.TheConstants.{LINK}
+use Rattle.seize_views.specs.declared.view.Noted.{Noted}
 use Rattle.seize_views.specs.declared.view.SlotView.{SlotView}
 use Rattle.seize_views.specs.declared.view.SlotView.TheVariants.{Rests, Inside, Joins}
 use Rattle.seize_views.specs.declared.view.Has.{Has}
 use Rattle.seize_views.specs.declared.view.Has.TheVariants.{Nothing, Seen, Walks}
 use Rattle.seize_views.specs.declared.view.Fixed.{Fixed}
 
--- What a seat may come to know of chains without an operation: that it is to make blocks for them, or not any more; that it has come to none, or to the block
--- that a link names.
+-- What a seat may come to know of chains without an operation: that it is to make a block for one; that it has come to none, or to the block that a link names.
 abbrev pub IsOnItsWay : {T : Type 0} → SlotView T → SlotView T → Type 0
 IsOnItsWay Rests u = u ≡ Joins None
-IsOnItsWay (Joins None) u = u ≡ Rests
 IsOnItsWay (Inside t (Walks b (Some c))) u = (u ≡ Inside t (Walks c None)) ⊎ (u ≡ Inside t (Walks 0 None))
 IsOnItsWay (Inside t has) u = IsLooking has × (u ≡ Inside t (Walks 0 None))
 IsOnItsWay v u = ⊥
+
+-- what makes so of a view
+
+abbrev pub joining : {T : Type 0} → SlotView T → SlotView T
+joining Rests = Joins None
+joining v = v
+
+abbrev pub walking : {T : Type 0} → SlotView T → SlotView T
+walking (Inside t has) = Inside t (Walks 0 None)
+walking v = v
+
+abbrev pub going : {T : Type 0} → SlotView T → SlotView T
+going (Inside t (Walks b (Some c))) = Inside t (Walks c None)
+going v = v
+
+-- which is all that changes
+abbrev pub GoesItsWay : {T : Type 0} → (SlotView T → SlotView T) → Noted T → Noted T → Type 0
+GoesItsWay f v w = (w.knows ≡ f v.knows) × SameNotes v w
 
 module _ (T : Type 0) (defers : T → Option ℕ) where
   -- the seat may make the operation, as told
   abbrev pub MayDo : Fixed → SlotView T → Op T → Type 0
   MayDo fixed v op = (id : ℕ) → Permits defers fixed id v op (told defers v op)
 
-  -- The promise: a seat turns to chains, and from them; it goes down one.
+  -- The promise: a seat turns to chains, and goes down one.
   abbrev pub WaysBegin : Type 0
   WaysBegin = (fixed : Fixed) (id : ℕ) (v u : SlotView T) → IsOnItsWay v u → TurnsTo defers fixed id v (λ x. x ≡ u)
 

@@ -86,6 +86,11 @@ alone_with (Both b x a) = Brings b x
 alone_with (Cut b) = Bears b
 alone_with (Walks b next) = Rests
 
+-- or has made this block for a chain
+abbrev pub joined_as : {T : Type 0} → Option (ℕ × T × ℕ) → SlotView T
+joined_as None = Rests
+joined_as (Some made) = Joins (Some made)
+
 -- and what one outside of a section knows that has taken from a root what this word names
 abbrev pub owes_in : {T : Type 0} → ℕ → ℕ → SlotView T
 owes_in t word = if block_in word == 0 then Outside t else Owes t (block_in word)
@@ -140,6 +145,6 @@ module _ {T : Type 0} (defers : T → Option ℕ) where
   told (Frees t) op out w = w ≡ Rests
   told (Watches t b) (Load (Root r)) (Found word) w = w ≡ Watches t (block_in word)
   told (Under n t b) (Load (Root r)) (Found word) w = w ≡ Under n t (block_in word)
-  told (Joins block) op out w = (after : Option (ℕ × T × ℕ)) × has_joined block op out after × (w ≡ Joins after)
+  told (Joins block) op out w = (after : Option (ℕ × T × ℕ)) × has_joined block op out after × (w ≡ joined_as after)
   told (Under n t b) (Or (Root r) bits) (Found word) w = w ≡ Under n t (block_in word)
   told _ op out w = ⊥
