@@ -10,7 +10,7 @@ ghost use Rattle.seize_views.specs.declared.view.SlotView.TheVariants.{Brings};
 
 use crate::shared::Shared;
 use crate::stay::Stay;
-use crate::{Guard, Owned, Pass, Protected, RootGuard, Tagged, Unlinked};
+use crate::{Guard, Owned, Pass, Protected, RootGuard, Tagged, Unlinked, Unstacked};
 use seize::rows::Defers;
 use seize_blocks::Blocks;
 use seize_callers::Caller;
@@ -176,6 +176,15 @@ impl<'r, 'a, T: Defers + Drop, C: Content<T>, R: Receiver<T>> Guard<T>
     fn flush(&mut self) {
         let registration = &mut *self.registration;
         registration.stay.flushes();
+    }
+}
+
+impl<'r, 'a, T: Defers + Drop, R: Receiver<T>> LocalGuard<'r, 'a, T, OfRows, R> {
+    /// Takes the first block from the chain at this root, if there is one, and retires it: what stood below it stands at the root then, and what `looks` tells
+    /// of its value comes back. Where somebody else was faster it says so. What it has seen it doesn't know any more.
+    pub fn unstack<X, F: FnOnce(&T) -> X>(&mut self, root: u64, looks: F) -> Unstacked<X> {
+        let registration = &mut *self.registration;
+        registration.stay.unstacks(root, looks)
     }
 }
 
@@ -387,6 +396,14 @@ impl<'a, T: Defers + Drop, C: Content<T>, R: Receiver<T>> Guard<T> for OwnedGuar
 
     fn flush(&mut self) {
         self.stay.flushes();
+    }
+}
+
+impl<'a, T: Defers + Drop, R: Receiver<T>> OwnedGuard<'a, T, OfRows, R> {
+    /// Takes the first block from the chain at this root, if there is one, and retires it: what stood below it stands at the root then, and what `looks` tells
+    /// of its value comes back. Where somebody else was faster it says so. What it has seen it doesn't know any more.
+    pub fn unstack<X, F: FnOnce(&T) -> X>(&mut self, root: u64, looks: F) -> Unstacked<X> {
+        self.stay.unstacks(root, looks)
     }
 }
 

@@ -4,6 +4,7 @@ ghost use Rattle.seize_shared.specs.OnThreads.Refused.{HasNoSlot};
 ghost use Rattle.seize_shared.specs.OnThreads.Standing.{standing};
 ghost use Rattle.seize_views.specs.declared.view.Began.TheVariants.{Section, Trial};
 
+mod chains;
 mod roots;
 
 use crate::shared::Shared;
@@ -30,6 +31,7 @@ pub struct Stay<'a, T: Defers + Drop, C: Content<T> = OfRows> {
     /// The slot.
     pub slot: u64,
     roots: u64,
+    chains: u64,
     /// Whether its section is open.
     pub inside: bool,
     seen: u64,
@@ -38,6 +40,7 @@ pub struct Stay<'a, T: Defers + Drop, C: Content<T> = OfRows> {
     ghost counted: { (C.notes caller.seat.view).guards ≡ guards },
     ghost stands: { standing (C.notes caller.seat.view).knows ≡ Some (slot, inside, seen) },
     ghost rooted: { caller.blocks.now.words.fixed.roots ≡ roots },
+    ghost chained: { caller.blocks.now.words.fixed.chains ≡ chains },
     ghost few: { slot < 65536 },
     ghost fits: { seen < 2 ^ 53 },
 }
@@ -60,6 +63,7 @@ impl<'a, T: Defers + Drop, C: Content<T>> Stay<'a, T, C> {
             caller,
             slot,
             roots: fixed.roots,
+            chains: fixed.chains,
             inside: false,
             seen: 0,
             guards: 0,
@@ -74,6 +78,7 @@ impl<'a, T: Defers + Drop, C: Content<T>> Stay<'a, T, C> {
         let chosen = Fixed {
             batch_size: self.caller.batch_size(),
             roots: self.roots,
+            chains: self.chains,
         };
         Shared::of(self.caller.blocks(), chosen, number)
     }
@@ -172,6 +177,7 @@ impl<'a, T: Defers + Drop, C: Content<T>> Drop for Stay<'a, T, C> {
             caller,
             slot,
             roots: _,
+            chains: _,
             inside,
             seen: _,
             guards,

@@ -28,7 +28,7 @@ fn words_with_link<T: Defers>(value: &T) -> Option<u64>
 
 impl<'a, T: Defers> Caller<'a, T> {
     /// Turns to chains: it is to make a block for one.
-    pub fn turns_to_chains(&mut self)
+    fn turns_to_chains(&mut self)
         requires rests { self.old.seat.view.knows ≡ Rests }
         ensures joins { self.new.seat.view.knows ≡ Joins None }
         ensures blocks { self.new.blocks ≡ self.old.blocks }
@@ -36,17 +36,35 @@ impl<'a, T: Defers> Caller<'a, T> {
         self.blocks.part::<Joining>(&mut self.seat);
     }
 
+    /// Makes its own block then, with so many words.
+    fn makes_joined(&mut self, near: &mut u64, value: T, words: u64) -> Result<u64, T>
+        requires joins { self.old.seat.view.knows ≡ Joins None }
+        requires list { HasListWord T.defers (T.defers value) words }
+        requires long { LINK < words }
+        requires link { T.defers value ≢ Some LINK }
+        ensures made { IfOk result (λ block. (self.new.seat.view.knows ≡ Joins (Some (block, value, 0))) × (block < 2 ^ 53)) }
+        ensures refused { IfErr result (λ back. self.new.seat.view.knows ≡ Rests) }
+        ensures back { IfErr result (λ back. back ≡ value) }
+        ensures blocks { self.new.blocks ≡ self.old.blocks }
+    {
+        self.blocks.make(&mut self.seat, near, value, words)
+    }
+
     /// Makes its own block, which has a link, at which no list of further values begins; it names none. A number is looked for from `near` on, which says then
     /// where to look next. Without words for it, or memory, the value comes back.
     pub fn joins(&mut self, near: &mut u64, value: T) -> Result<u64, T>
-        requires joins { self.old.seat.view.knows ≡ Joins None }
+        requires rests { self.old.seat.view.knows ≡ Rests }
         requires link { T.defers value ≢ Some LINK }
         ensures made { IfOk result (λ block. (self.new.seat.view.knows ≡ Joins (Some (block, value, 0))) × (block < 2 ^ 53)) }
+        ensures refused { IfErr result (λ back. self.new.seat.view.knows ≡ Rests) }
         ensures back { IfErr result (λ back. back ≡ value) }
         ensures blocks { self.new.blocks ≡ self.old.blocks }
     {
         match words_with_link(&value) {
-            Some(words) => self.blocks.make(&mut self.seat, near, value, words),
+            Some(words) => {
+                self.turns_to_chains();
+                self.makes_joined(near, value, words)
+            }
             None => Err(value),
         }
     }
