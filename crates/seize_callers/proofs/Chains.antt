@@ -69,7 +69,7 @@ module _ {T : Type 0} (defers : T → Option ℕ) (fixed : Fixed) (id : ℕ) (v 
   may_go f x u is to own own2 stays way s h at unlent =
       let mine = subst (λ (y : SlotView T). IsOnItsWay y u) (sym is) way in
       let g = turns_are_noted T defers fixed id v u v.did v.began (subst IsOwn (sym is) own) own2 (subst (λ (y : SlotView T). Stays v.guards y u) (sym is) stays)
-          (ways_begin T defers fixed id v.knows u mine) s h at unlent in
+      (ways_begin T defers fixed id v.knows u mine) s h at unlent in
       (g.0, g.1, g.2, g.3, (g.4.0 ∙ sym (ap f is ∙ to), g.4.1))
 
   abbrev MayMake : Op T → Type 0

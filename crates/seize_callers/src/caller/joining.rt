@@ -85,7 +85,8 @@ impl<'a, T: Defers> Caller<'a, T> {
         ensures still { joined_by self.new.seat.view.knows ≡ Some (block, block_in word) }
         ensures blocks { self.new.blocks ≡ self.old.blocks }
     {
-        self.blocks.store(&mut self.seat, At::Word(block, LINK), word)
+        self.blocks
+            .store(&mut self.seat, At::Word(block, LINK), word)
     }
 
     /// Takes its own block away, and answers its value.
