@@ -3,7 +3,6 @@ pub mod Keeping
 pub mod Resting
 pub mod Turns
 pub mod Calls
-pub mod Chains
 pub mod Deeds
 pub mod Drives
 pub mod Seen

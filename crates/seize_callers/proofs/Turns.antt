@@ -51,7 +51,7 @@ module _ {T : Type 0} (fixed : Fixed) (guards : ℕ) where
   next_stays (Inside t (Made b x)) u e may = absurd e
   next_stays (Inside t (Both b x a)) u e may = absurd e
   next_stays (Inside t (Cut b)) u e may = absurd e
-  next_stays (Inside t (Walks b next)) u e may = free_stays t (Walks b next) u e may
+  next_stays (Inside t (Walks b next)) u e may = absurd e
   next_stays (Settles c (Retiring Active) seen left) u e may = inl (ap open_at e.1)
   next_stays (Settles c (Retiring Idle) seen left) u e may = inr (inl refl)
   next_stays (Settles c (Ending size way) seen left) u e may = inr (inl refl)
@@ -85,7 +85,7 @@ module _ {T : Type 0} (fixed : Fixed) (guards : ℕ) where
   next_rows (Inside t (Made b x)) u e = absurd e
   next_rows (Inside t (Both b x a)) u e = absurd e
   next_rows (Inside t (Cut b)) u e = absurd e
-  next_rows (Inside t (Walks b next)) u e = free_rows t u e
+  next_rows (Inside t (Walks b next)) u e = absurd e
   next_rows (Settles c (Retiring way) seen left) u e = rows_as u (left_with way c.slot) e.1 (left_rows T way c.slot)
   next_rows (Settles c (Ending size way) seen left) u e = rows_as u (Left c.slot size way) e.1 tt
   next_rows (Left t size way) u e = rows_as u (left_with way t) e (left_rows T way t)

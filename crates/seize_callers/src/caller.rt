@@ -1,5 +1,5 @@
 //! One of those who share the memory.
-ghost use Rattle.std.specs.Prelude.{◌≡◌, ◌≢◌, ◌<◌, ◌^◌, ℕ, Option, true, IfOk, IfErr, IfSome, IfNone, unwrap_or};
+ghost use Rattle.std.specs.Prelude.{◌≡◌, ◌≢◌, ◌<◌, ◌^◌, true, IfOk, IfErr, IfSome, IfNone, unwrap_or};
 ghost use Rattle.seize_words.specs.OneMemory.Word.{block_in};
 ghost use Rattle.seize.specs.World.{HasListWord};
 ghost use Rattle.seize_callers.specs.Kept.{is_home};
@@ -7,17 +7,16 @@ ghost use Rattle.seize_views.specs.Views.Promises.{IsLooking};
 ghost use Rattle.seize_views.specs.declared.view.Began.TheVariants.{Section};
 ghost use Rattle.seize_views.specs.declared.view.SlotView.TheVariants.{Rests, Outside, Inside};
 ghost use Rattle.seize_views.specs.declared.view.Has.{Has};
-ghost use Rattle.seize_views.specs.declared.view.Has.TheVariants.{Nothing, Walks};
+ghost use Rattle.seize_views.specs.declared.view.Has.TheVariants.{Nothing};
 
 mod alone;
-mod joining;
 mod pass;
 mod roots;
 mod settling;
-mod walking;
 mod watch;
 
 use crate::errands::{Enters, Frees, Registers};
+pub use alone::marked;
 pub use pass::PassSeat;
 use seize::rows::Defers;
 use seize_blocks::{Blocks, Errand, Seat};
@@ -30,7 +29,8 @@ pub use watch::watcher;
 pub struct Caller<'a, T: Defers, C: Content<T> = OfRows> {
     blocks: &'a Blocks<T, C>,
     batch_size: u64,
-    seat: Seat<T, C>,
+    /// Its seat.
+    pub seat: Seat<T, C>,
     near: u64,
     ghost own: { seat.base ≡ blocks.now.words.id.views_name },
     ghost sized: { blocks.now.words.fixed.batch_size ≡ batch_size },
@@ -143,18 +143,6 @@ impl<'a, T: Defers, C: Content<T>> Caller<'a, T, C> {
 }
 
 impl<'a, T: Defers, C: Content<T>> Caller<'a, T, C> {
-    /// Turns from chains: it knows of no block.
-    pub fn stops(&mut self, _slot: u64)
-        requires walks { (b : ℕ) × (next : Option ℕ) × ((C.notes self.old.seat.view).knows ≡ Inside _slot (Walks b next)) }
-        ensures inside { (C.notes self.new.seat.view).knows ≡ Inside _slot Nothing }
-        ensures blocks { self.new.blocks ≡ self.old.blocks }
-        ensures beside { C.beside self.new.seat.view ≡ C.beside self.old.seat.view }
-        ensures guards { (C.notes self.new.seat.view).guards ≡ (C.notes self.old.seat.view).guards }
-    {
-        C::goes_on();
-        self.blocks.part::<Forgetting<T, C>>(&mut self.seat);
-    }
-
     /// Lets a slot be as it is whose section is watched still.
     pub fn stays(self, _slot: u64)
         requires watched { (C.notes self.seat.view).guards ≢ 0 }

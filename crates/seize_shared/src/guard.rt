@@ -10,7 +10,7 @@ ghost use Rattle.seize_views.specs.declared.view.SlotView.TheVariants.{Brings};
 
 use crate::shared::Shared;
 use crate::stay::Stay;
-use crate::{Guard, Owned, Pass, Protected, RootGuard, Tagged, Unlinked, Unstacked};
+use crate::{Guard, Owned, Pass, Protected, RootGuard, Tagged, Unlinked};
 use seize::rows::Defers;
 use seize_blocks::Blocks;
 use seize_callers::Caller;
@@ -21,7 +21,8 @@ use std::marker::PhantomData;
 /// A slot of its owner's, on whose thread it stays. It is given up as this ends.
 #[derive(Drop)]
 pub struct Registration<'a, T: Defers + Drop, C: Content<T> = OfRows, R: Receiver<T> = Drops> {
-    stay: Stay<'a, T, C>,
+    /// Who holds the slot.
+    pub stay: Stay<'a, T, C>,
     /// The number of its collector, 0 where there is none.
     number: u64,
     thread: PhantomData<*const R>,
@@ -137,7 +138,8 @@ impl<'a, T: Defers + Drop, R: Receiver<T>> Registration<'a, T, OfRows, R> {
 
 /// A section that is open as long as this lives. What it has seen is there until its next step. It stays on its thread.
 pub struct LocalGuard<'r, 'a, T: Defers + Drop, C: Content<T> = OfRows, R: Receiver<T> = Drops> {
-    registration: &'r mut Registration<'a, T, C, R>,
+    /// The registration that it is of.
+    pub registration: &'r mut Registration<'a, T, C, R>,
 }
 
 impl<'r, 'a, T: Defers + Drop, C: Content<T>, R: Receiver<T>> Guard<T>
@@ -176,15 +178,6 @@ impl<'r, 'a, T: Defers + Drop, C: Content<T>, R: Receiver<T>> Guard<T>
     fn flush(&mut self) {
         let registration = &mut *self.registration;
         registration.stay.flushes();
-    }
-}
-
-impl<'r, 'a, T: Defers + Drop, R: Receiver<T>> LocalGuard<'r, 'a, T, OfRows, R> {
-    /// Takes the first block from the chain at this root, if there is one, and retires it: what stood below it stands at the root then, and what `looks` tells
-    /// of its value comes back. Where somebody else was faster it says so. What it has seen it doesn't know any more.
-    pub fn unstack<X, F: FnOnce(&T) -> X>(&mut self, root: u64, looks: F) -> Unstacked<X> {
-        let registration = &mut *self.registration;
-        registration.stay.unstacks(root, looks)
     }
 }
 
@@ -301,7 +294,8 @@ impl<'r, 'a, T: Defers + Drop, C: Content<T>, R: Receiver<T>> Drop for LocalGuar
 /// sent to another thread, and end there.
 #[derive(Drop)]
 pub struct OwnedGuard<'a, T: Defers + Drop, C: Content<T> = OfRows, R: Receiver<T> = Drops> {
-    stay: Stay<'a, T, C>,
+    /// Who holds its slot.
+    pub stay: Stay<'a, T, C>,
     /// The number of its collector, 0 where there is none.
     number: u64,
     receiver: PhantomData<R>,
@@ -396,14 +390,6 @@ impl<'a, T: Defers + Drop, C: Content<T>, R: Receiver<T>> Guard<T> for OwnedGuar
 
     fn flush(&mut self) {
         self.stay.flushes();
-    }
-}
-
-impl<'a, T: Defers + Drop, R: Receiver<T>> OwnedGuard<'a, T, OfRows, R> {
-    /// Takes the first block from the chain at this root, if there is one, and retires it: what stood below it stands at the root then, and what `looks` tells
-    /// of its value comes back. Where somebody else was faster it says so. What it has seen it doesn't know any more.
-    pub fn unstack<X, F: FnOnce(&T) -> X>(&mut self, root: u64, looks: F) -> Unstacked<X> {
-        self.stay.unstacks(root, looks)
     }
 }
 

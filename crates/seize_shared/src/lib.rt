@@ -4,7 +4,6 @@
 
 mod guard;
 mod guarding;
-mod joined;
 mod owned;
 mod pass;
 mod shared;
@@ -14,7 +13,6 @@ mod unlinked;
 
 pub use guard::{LocalGuard, OwnedGuard, Registration};
 pub use guarding::{Guard, RootGuard};
-pub use joined::{Joined, Unstacked};
 pub use owned::Owned;
 pub use pass::Pass;
 pub use seize_callers::Caller;

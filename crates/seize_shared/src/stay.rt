@@ -4,7 +4,6 @@ ghost use Rattle.seize_shared.specs.OnThreads.Refused.{HasNoSlot};
 ghost use Rattle.seize_shared.specs.OnThreads.Standing.{standing};
 ghost use Rattle.seize_views.specs.declared.view.Began.TheVariants.{Section, Trial};
 
-mod chains;
 mod roots;
 
 use crate::shared::Shared;
@@ -27,11 +26,14 @@ pub(crate) fn refusal(fault: Fault) -> Fault
 /// A caller who holds a slot: whether its section is open, which block was seen there, 0 for none, and how many seats watch that section. The slot is given up
 /// as this ends, but for one whose section somebody has forgotten to watch no longer.
 pub struct Stay<'a, T: Defers + Drop, C: Content<T> = OfRows> {
-    caller: Caller<'a, T, C>,
+    /// Who it is.
+    pub caller: Caller<'a, T, C>,
     /// The slot.
     pub slot: u64,
-    roots: u64,
-    chains: u64,
+    /// How many roots there are of single blocks.
+    pub roots: u64,
+    /// How many of chains.
+    pub chains: u64,
     /// Whether its section is open.
     pub inside: bool,
     seen: u64,
@@ -104,7 +106,7 @@ impl<'a, T: Defers + Drop, C: Content<T>> Stay<'a, T, C> {
     }
 
     /// Opens a section, where none is open. What was seen is not known any more.
-    fn opens(&mut self)
+    pub fn opens(&mut self)
         ensures home { self.new.caller.blocks ≡ self.old.caller.blocks }
         ensures beside { C.beside self.new.caller.seat.view ≡ C.beside self.old.caller.seat.view }
         ensures slot { self.new.slot ≡ self.old.slot }

@@ -56,6 +56,9 @@ pub struct Walking;
 /// It goes on to the block that the link names at which it has looked.
 pub struct Going;
 
+/// It goes on no more, and knows of no block.
+pub struct Stopping;
+
 impl<T: Defers, C: Content<T>> Turn<Fixed, C::View> for RegisteringBegins<T, C> {
     ghost use Rattle.seize_views.specs.Views.Begun.{registering, Makes};
     ghost use Rattle.seize_views.specs.Views.Content.{Turned};
@@ -174,4 +177,10 @@ impl<T> Turn<Fixed, Noted<T>> for Going {
     ghost use Rattle.seize_views.specs.Views.Stacking.{going, GoesItsWay};
 
     ghost to = { λ _. GoesItsWay going };
+}
+
+impl<T> Turn<Fixed, Noted<T>> for Stopping {
+    ghost use Rattle.seize_views.specs.Views.Stacking.{stopping, GoesItsWay};
+
+    ghost to = { λ _. GoesItsWay stopping };
 }

@@ -46,7 +46,7 @@ module _ {T : Type 0} (fixed : Fixed) where
   next_own (Outside t) u (inr is) = (tt, subst IsOwn (sym is) tt)
   next_own (Inside t Nothing) u is = (tt, free_own t u is)
   next_own (Inside t (Seen b)) u is = (tt, free_own t u is)
-  next_own (Inside t (Walks b next)) u is = (tt, free_own t u is)
+  next_own (Inside t (Walks b next)) u is = absurd is
   next_own (Inside t (Made b x)) u is = absurd is
   next_own (Inside t (Both b x a)) u is = absurd is
   next_own (Inside t (Cut b)) u is = absurd is

@@ -50,7 +50,7 @@ module _ {T : Type 0} (defers : T → Option ℕ) (fixed : Fixed) (Is : Use → 
   turning (Enters t) u is = absurd is
   turning (Inside t Nothing) u is = goes_free t Nothing u refl is
   turning (Inside t (Seen b)) u is = goes_free t (Seen b) u refl is
-  turning (Inside t (Walks b next)) u is = goes_free t (Walks b next) u refl is
+  turning (Inside t (Walks b next)) u is = absurd is
   turning (Inside t (Cut b)) u is = absurd is
   turning (Inside t (Made b x)) u is = absurd is
   turning (Inside t (Both b x a)) u is = absurd is

@@ -28,7 +28,7 @@ use Rattle.seize_views.proofs.Views.Came.{since_then}
 use Rattle.seize_views.proofs.Views.Guarding.{aside_on}
 use Rattle.seize_views.proofs.Views.Lists.{elsewhere}
 use Rattle.seize_views.proofs.Views.Moved.{hand_users, inside_of}
-use Rattle.seize_views.proofs.Views.Roots.{linked_held, looks}
+use Rattle.seize_views.proofs.Views.Roots.{linked_held, looks, forgets}
 use Rattle.seize_views.proofs.Views.Users.{same_use, passes_then, within, users}
 use Rattle.seize_views.proofs.Views.Written.{Wrote, wrote, rooted_still, roots_now, written, links_stay, any_root_can, FoundIn, found_but}
 use Rattle.seize_words.proofs.General.{same_some}
@@ -283,8 +283,8 @@ module _ {T : Type 0} (defers : T → Option ℕ) (fixed : Fixed) (id : ℕ) whe
   turns Rests u is = to_is Rests (Joins None) u is turns_to_chains
   turns (Joins block) u is = absurd is
   turns (Inside t (Walks b (Some c))) u (inl is) = to_is (Inside t (Walks b (Some c))) (Inside t (Walks c None)) u is (goes_down t b c)
-  turns (Inside t (Walks b (Some c))) u (inr is) = to_is (Inside t (Walks b (Some c))) (Inside t (Walks 0 None)) u is (starts t (Walks b (Some c)) refl)
-  turns (Inside t (Walks b None)) u is = absurd is.0
+  turns (Inside t (Walks b (Some c))) u (inr is) = to_is (Inside t (Walks b (Some c))) (Inside t Nothing) u is (forgets defers fixed id t (Walks b (Some c)) refl)
+  turns (Inside t (Walks b None)) u is = to_is (Inside t (Walks b None)) (Inside t Nothing) u is (forgets defers fixed id t (Walks b None) refl)
   turns (Inside t Nothing) u is = to_is (Inside t Nothing) (Inside t (Walks 0 None)) u is.1 (starts t Nothing refl)
   turns (Inside t (Seen b)) u is = to_is (Inside t (Seen b)) (Inside t (Walks 0 None)) u is.1 (starts t (Seen b) refl)
   turns (Inside t (Made b x)) u is = absurd is.0

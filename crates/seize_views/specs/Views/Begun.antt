@@ -10,7 +10,7 @@ use Rattle.seize_views.specs.declared.view.SlotView.{SlotView}
 use Rattle.seize_views.specs.declared.view.Becomes.{Becomes}
 use Rattle.seize_views.specs.declared.view.Becomes.TheVariants.{Idle, Active}
 use Rattle.seize_views.specs.declared.view.SlotView.TheVariants.{Rests, Registers, Outside, Owes, Enters, Inside, Settles, Leaves, Left, Frees, Bears}
-use Rattle.seize_views.specs.declared.view.Has.TheVariants.{Nothing, Seen, Cut, Walks}
+use Rattle.seize_views.specs.declared.view.Has.TheVariants.{Nothing, Seen, Cut}
 use Rattle.seize_views.specs.declared.view.Why.TheVariants.{Retiring, Ending}
 use Rattle.seize_views.specs.declared.view.Fixed.{Fixed}
 
@@ -45,7 +45,6 @@ module _ {T : Type 0} (fixed : Fixed) where
   -- what was seen is let go
   abbrev pub forgetting : SlotView T → SlotView T
   forgetting (Inside t (Seen b)) = Inside t Nothing
-  forgetting (Inside t (Walks b next)) = Inside t Nothing
   forgetting v = v
 
   abbrev pub ended : SlotView T → SlotView T

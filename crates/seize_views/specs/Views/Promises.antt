@@ -53,7 +53,6 @@ IsNext fixed Rests u = u ≡ Registers (seeker_at 0 at.Begin)
 IsNext fixed (Outside t) u = (u ≡ Enters t) ⊎ (u ≡ Frees t)
 IsNext fixed (Inside t Nothing) u = IsFree fixed t u
 IsNext fixed (Inside t (Seen b)) u = IsFree fixed t u
-IsNext fixed (Inside t (Walks b next)) u = IsFree fixed t u
 IsNext fixed (Settles c (Retiring way) seen left) u = (c.stands ≡ settling_at.Over) × (u ≡ left_with way c.slot)
 IsNext fixed (Settles c (Ending size way) seen left) u = (c.stands ≡ settling_at.Over) × (u ≡ Left c.slot size way)
 IsNext fixed (Left t size way) u = u ≡ left_with way t

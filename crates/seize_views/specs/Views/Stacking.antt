@@ -16,13 +16,15 @@ use Rattle.seize_views.specs.declared.view.Noted.{Noted}
 use Rattle.seize_views.specs.declared.view.SlotView.{SlotView}
 use Rattle.seize_views.specs.declared.view.SlotView.TheVariants.{Rests, Inside, Joins}
 use Rattle.seize_views.specs.declared.view.Has.{Has}
-use Rattle.seize_views.specs.declared.view.Has.TheVariants.{Nothing, Seen, Walks}
+use Rattle.seize_views.specs.declared.view.Has.TheVariants.{Nothing, Walks}
 use Rattle.seize_views.specs.declared.view.Fixed.{Fixed}
 
--- What a seat may come to know of chains without an operation: that it is to make a block for one; that it has come to none, or to the block that a link names.
+-- What a seat may come to know of chains without an operation: that it is to make a block for one; that it has come to no block of one, or to the one that a link
+-- names; and nothing any more.
 abbrev pub IsOnItsWay : {T : Type 0} → SlotView T → SlotView T → Type 0
 IsOnItsWay Rests u = u ≡ Joins None
-IsOnItsWay (Inside t (Walks b (Some c))) u = (u ≡ Inside t (Walks c None)) ⊎ (u ≡ Inside t (Walks 0 None))
+IsOnItsWay (Inside t (Walks b None)) u = u ≡ Inside t Nothing
+IsOnItsWay (Inside t (Walks b (Some c))) u = (u ≡ Inside t (Walks c None)) ⊎ (u ≡ Inside t Nothing)
 IsOnItsWay (Inside t has) u = IsLooking has × (u ≡ Inside t (Walks 0 None))
 IsOnItsWay v u = ⊥
 
@@ -39,6 +41,10 @@ walking v = v
 abbrev pub going : {T : Type 0} → SlotView T → SlotView T
 going (Inside t (Walks b (Some c))) = Inside t (Walks c None)
 going v = v
+
+abbrev pub stopping : {T : Type 0} → SlotView T → SlotView T
+stopping (Inside t has) = Inside t Nothing
+stopping v = v
 
 -- which is all that changes
 abbrev pub GoesItsWay : {T : Type 0} → (SlotView T → SlotView T) → Noted T → Noted T → Type 0
