@@ -235,7 +235,7 @@ module _ {T : Type 0} (defers : T → Option ℕ) (fixed : Fixed) (s : State T (
     known j (Under n t b) ne e row f = tt
     known j (Joins None) ne e row f = tt
     known j (Joins (Some (b, x, a))) ne e row f =
-        let its = (j, Joins (Some (b, x, a)), ne, e, refl) in
+        let its : (k : ℕ) × (y : SlotView T) × (k ≢ id) × (view_of s k ≡ Some y) × (hand_of y ≡ Some b) = (j, Joins (Some (b, x, a)), ne, e, refl) in
         let is = made b x (inl its) (mo.hands j b (Joins (Some (b, x, a))) ne e refl) f.known.0 in
         (is, links_kept s.world.memory n.memory b a (mo.links b (inr (its, f.known.0.0)) (subst IsSome (sym is.1) refl)) f.known.1, f.known.2)
     known j (Busy t) ne e row f = f.known
