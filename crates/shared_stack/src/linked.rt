@@ -125,8 +125,8 @@ fn takes(registration: &mut Registration<'_, Number>, counts: &Arc<Counts>) -> O
     None
 }
 
-/// What is taken four times after three values were put there.
-fn by_one(ground: &Ground, counts: &Arc<Counts>) -> Result<[Option<u64>; 4], AllocError> {
+/// The number below the first one, what is taken four times after three values were put there.
+fn by_one(ground: &Ground, counts: &Arc<Counts>) -> Result<[Option<u64>; 5], AllocError> {
     let Ok(mut registration) = Registration::new(ground.blocks, &CHOSEN) else {
         return Err(AllocError);
     };
@@ -134,7 +134,11 @@ fn by_one(ground: &Ground, counts: &Arc<Counts>) -> Result<[Option<u64>; 4], All
     puts(ground, &mut near, counts, 1)?;
     puts(ground, &mut near, counts, 2)?;
     puts(ground, &mut near, counts, 3)?;
+    let below = registration
+        .enter()
+        .below(CHAIN, |value: &Number| value.number);
     Ok([
+        below,
         takes(&mut registration, counts),
         takes(&mut registration, counts),
         takes(&mut registration, counts),
@@ -143,7 +147,7 @@ fn by_one(ground: &Ground, counts: &Arc<Counts>) -> Result<[Option<u64>; 4], All
 }
 
 /// The same over a memory of its own, which ends then.
-fn alone(alloc: Global, counts: &Arc<Counts>) -> Result<[Option<u64>; 4], AllocError> {
+fn alone(alloc: Global, counts: &Arc<Counts>) -> Result<[Option<u64>; 5], AllocError> {
     let home = Home::<Number, OfRows>::open(alloc, 2, 8, &CHOSEN)?;
     let ground = Ground {
         blocks: &home.blocks,
@@ -155,7 +159,7 @@ fn alone(alloc: Global, counts: &Arc<Counts>) -> Result<[Option<u64>; 4], AllocE
 fn what_was_put_last_stands_first(rt: HostRuntime) -> Result<(), Fail> {
     let counts = no_counts(rt.alloc())?;
     let taken = alone(rt.alloc(), &counts)?;
-    assert_eq!(rt; taken, [Some(3), Some(2), Some(1), None]);
+    assert_eq!(rt; taken, [Some(2), Some(3), Some(2), Some(1), None]);
     assert_eq!(rt; counts.dropped.load(SeqCst), 3);
     Ok(())
 }
