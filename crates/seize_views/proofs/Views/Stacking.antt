@@ -140,7 +140,7 @@ module _ {T : Type 0} (defers : T → Option ℕ) (fixed : Fixed) (s : State T (
           chains = chains_stay defers fixed s id h m n refl since links (root_words defers fixed s id 0 v (Made b x) refl h at made m roots) (λ c e is f. f) (λ c e is f. f);
           passes = passes_one defers fixed s id 0 (Operates op) n (λ j. tt) happens;
         }) (λ c. found_on defers fixed s id v h at (Some b) m (roots ∙ sym (ap (λ (y : Mem T). y.roots) h.memory)) c (λ mine. mine)) refl
-        ((made.0, value b ∙ made.1), (word, stored_link w.memory m b word some here.1, refl), own.2) tt (told defers v op Stored) (Some (b, x, block_in word), refl, refl)
+        ((made.0, value b ∙ made.1), (word, stored_link w.memory m b word some here.1, refl), (h.seats id v at).known.2) tt (told defers v op Stored) (Some (b, x, block_in word), refl, refl)
     writes word (Found y) m took = absurd took.0
     writes word (Exchanged y) m took = absurd took.0
     writes word (OutMade y) m took = absurd took.0
