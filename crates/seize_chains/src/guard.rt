@@ -51,22 +51,23 @@ fn unstacks<T: Defers + Drop, X, F: FnOnce(&T) -> X>(
         return Unstacked::Empty;
     }
     let slot = stay.slot;
-    let blocks = stay.caller.blocks();
-    walks(blocks, &mut stay.caller.seat, slot);
-    let first = sees_first(blocks, &mut stay.caller.seat, slot, root);
+    let caller = &mut stay.caller;
+    let blocks = caller.blocks();
+    walks(blocks, &mut caller.seat, slot);
+    let first = sees_first(blocks, &mut caller.seat, slot, root);
     let Some(block) = named(first) else {
-        stops(blocks, &mut stay.caller.seat, slot);
+        stops(blocks, &mut caller.seat, slot);
         return Unstacked::Empty;
     };
-    let link = sees_link(blocks, &mut stay.caller.seat, slot, block);
-    match copies_link(blocks, &mut stay.caller.seat, slot, root, first, link) {
+    let link = sees_link(blocks, &mut caller.seat, slot, block);
+    match copies_link(blocks, &mut caller.seat, slot, root, first, link) {
         Ok(()) => {
-            let told = looks(stay.caller.unlinked(slot, block));
-            stay.caller.retire(slot, block);
+            let told = looks(caller.unlinked(slot, block));
+            caller.retire(slot, block);
             Unstacked::Took(told)
         }
         Err(_) => {
-            stops(blocks, &mut stay.caller.seat, slot);
+            stops(blocks, &mut caller.seat, slot);
             Unstacked::Missed
         }
     }
@@ -88,21 +89,22 @@ fn looks_below<T: Defers + Drop, X, F: FnOnce(&T) -> X>(
         return None;
     }
     let slot = stay.slot;
-    let blocks = stay.caller.blocks();
-    walks(blocks, &mut stay.caller.seat, slot);
-    let first = sees_first(blocks, &mut stay.caller.seat, slot, root);
+    let caller = &mut stay.caller;
+    let blocks = caller.blocks();
+    walks(blocks, &mut caller.seat, slot);
+    let first = sees_first(blocks, &mut caller.seat, slot, root);
     let Some(block) = named(first) else {
-        stops(blocks, &mut stay.caller.seat, slot);
+        stops(blocks, &mut caller.seat, slot);
         return None;
     };
-    let link = sees_link(blocks, &mut stay.caller.seat, slot, block);
+    let link = sees_link(blocks, &mut caller.seat, slot, block);
     let Some(next) = named(link) else {
-        stops(blocks, &mut stay.caller.seat, slot);
+        stops(blocks, &mut caller.seat, slot);
         return None;
     };
-    goes_down(blocks, &mut stay.caller.seat, slot, block, next);
-    let told = looks(met(blocks, &stay.caller.seat, slot, next));
-    stops(blocks, &mut stay.caller.seat, slot);
+    goes_down(blocks, &mut caller.seat, slot, block, next);
+    let told = looks(met(blocks, &caller.seat, slot, next));
+    stops(blocks, &mut caller.seat, slot);
     Some(told)
 }
 

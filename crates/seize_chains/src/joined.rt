@@ -10,11 +10,11 @@ use seize::rows::Defers;
 use seize_blocks::Blocks;
 use seize_callers::Caller;
 use seize_shared::Tagged;
-use seize_views::{Fixed, OfRows};
+use seize_views::{Content, Fixed, OfRows};
 
 /// A block that was made for a chain, of its holder's alone: nobody else can reach it. It is spent, by taking it away, or by putting it at the root of a chain.
-pub struct Joined<'a, T: Defers> {
-    caller: Caller<'a, T>,
+pub struct Joined<'a, T: Defers, C: Content<T> = OfRows> {
+    caller: Caller<'a, T, C>,
     roots: u64,
     chains: u64,
     block: u64,
@@ -22,7 +22,7 @@ pub struct Joined<'a, T: Defers> {
     below: u64,
     ghost rooted: { caller.blocks.now.words.fixed.roots ≡ roots },
     ghost chained: { caller.blocks.now.words.fixed.chains ≡ chains },
-    ghost joins: { joined_by caller.seat.view.knows ≡ Some (block, below) },
+    ghost joins: { joined_by (C.notes caller.seat.view).knows ≡ Some (block, below) },
     ghost fits: { block < 2 ^ 53 },
 }
 
