@@ -62,10 +62,10 @@ module _ {T : Type 0} where
   walks_next t (Cut b) looks = absurd looks
   walks_next t (Walks b next) looks = absurd looks
 
-  -- and from them
-  pub stops_next : (t b : ℕ) (next : Option ℕ) → IsOnItsWay {T = T} (Inside t (Walks b next)) (Inside t Nothing)
-  stops_next t b None = refl
-  stops_next t b (Some c) = inr refl
+-- and from them
+pub stops_next : (T : Type 0) (t b : ℕ) (next : Option ℕ) → IsOnItsWay {T = T} (Inside t (Walks b next)) (Inside t Nothing)
+stops_next T t b None = refl
+stops_next T t b (Some c) = inr refl
 
 module _ {T : Type 0} (defers : T → Option ℕ) (fixed : Fixed) (id : ℕ) (v : Noted T) where
   -- a turn of chains, by what the seat knows
@@ -75,7 +75,7 @@ module _ {T : Type 0} (defers : T → Option ℕ) (fixed : Fixed) (id : ℕ) (v 
       let mine = subst (λ (y : SlotView T). IsOnItsWay y u) (sym is) way in
       let g = turns_are_noted T defers fixed id v u v.did v.began (subst IsOwn (sym is) own) own2 (subst (λ (y : SlotView T). Stays v.guards y u) (sym is) stays)
       (ways_begin T defers fixed id v.knows u mine) s h at unlent in
-      (g.0, g.1, g.2, g.3, (g.4.0 ∙ sym (ap f is ∙ to), g.4.1))
+      (g.0, g.1, g.2, g.3, (g.4.0 ∙ sym (ap f is ∙ to), (g.4.1, g.4.2, g.4.3)))
 
   abbrev MayMake : Op T → Type 0
   MayMake op = Allows (NotedHolds defers fixed) NotedKeeps id v op (noted_observed defers v op)

@@ -10,7 +10,7 @@ use Rattle.seize_chains.proofs.walking.stops.Goals as goal
 pub part-requires-clause-may : goal.part-requires-clause-may
 part-requires-clause-may g c =
     let s = c.args.seat.now in let i = c.requires.walks in
-    may_go g.T.Defers.defers c.args.blocks.now.words.fixed s.id s.view stopping (Inside c.args._slot (Walks i.0 i.1)) (Inside c.args._slot Nothing) i.2 refl tt tt (inl refl) (stops_next c.args._slot i.0 i.1)
+    may_go g.T.Defers.defers c.args.blocks.now.words.fixed s.id s.view stopping (Inside c.args._slot (Walks i.0 i.1)) (Inside c.args._slot Nothing) i.2 refl tt tt (inl refl) (stops_next g.row.T.Denot c.args._slot i.0 i.1)
 
 pub part-requires-clause-errand : goal.part-requires-clause-errand
 part-requires-clause-errand g c = λ home rests w so. let i = c.requires.walks in at_rest w.knows (Inside c.args._slot Nothing) (so.0 ∙ ap stopping i.2) tt
