@@ -13,6 +13,7 @@ pub(crate) const ROOTS: u64 = 4;
 pub(crate) const CHOSEN: Fixed = Fixed {
     batch_size: 32,
     roots: ROOTS,
+    chains: 0,
 };
 
 /// A value at a root. It keeps no list of further values.
@@ -61,7 +62,7 @@ fn puts(guard: &mut LocalGuard<'_, '_, Number>, root: u64, turns: u64) -> u64 {
 
 /// Takes so many slots, all of which are taken at once, and answers how many there were.
 fn slots(alloc: Global, blocks: &Blocks<Number, OfRows>, turns: u64) -> u64
-    requires { blocks.now.words.fixed ≡ record { batch_size = 32; roots = 4 } }
+    requires { blocks.now.words.fixed ≡ record { batch_size = 32; roots = 4; chains = 0 } }
 {
     let mut all = Vec::new(alloc);
     for taken in 0..turns {
@@ -86,7 +87,7 @@ pub(crate) fn takes(
     thread: u64,
     turns: u64,
 ) -> u64
-    requires { blocks.now.words.fixed ≡ record { batch_size = 32; roots = 4 } }
+    requires { blocks.now.words.fixed ≡ record { batch_size = 32; roots = 4; chains = 0 } }
 {
     if kind == "slots" {
         return slots(alloc, blocks, turns);

@@ -172,6 +172,7 @@ impl<K: Eq + Hash + Drop, V: Drop, S: BuildHasher + Drop> HashMap<K, V, S> {
         let chosen = Fixed {
             batch_size: collector.size_of_batches(),
             roots: 1,
+            chains: 0,
         };
         let home = memory_for::<K, V, S>(alloc, count_for(making.capacity), &chosen)?;
         match begun(&home.blocks, &hasher, &chosen, making) {

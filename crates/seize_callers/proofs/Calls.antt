@@ -16,7 +16,7 @@ use Rattle.seize_views.specs.declared.view.Noted.{Noted}
 use Rattle.seize_views.specs.declared.view.SlotView.{SlotView}
 use Rattle.seize_views.specs.declared.view.SlotView.TheVariants.{Outside, Inside}
 use Rattle.seize_views.specs.declared.view.Has.{Has}
-use Rattle.seize_views.specs.declared.view.Has.TheVariants.{Nothing, Made, Seen, Both, Cut}
+use Rattle.seize_views.specs.declared.view.Has.TheVariants.{Nothing, Made, Seen, Both, Cut, Walks}
 use Rattle.seize_views.specs.declared.view.Fixed.{Fixed}
 use Rattle.seize_views.proofs.Views.Blocks.{blocks_are_made, made_are_taken, known_are_shown}
 use Rattle.seize_views.proofs.Views.Roots.{made_are_linked, made_are_exchanged, roots_are_cleared, roots_are_seen, roots_are_marked, roots_are_withdrawn}
@@ -97,6 +97,7 @@ module _ {T : Type 0} (defers : T → Option ℕ) (v w : SlotView T) (slot : ℕ
   seen_told (Made b x) r word looks is so = absurd looks
   seen_told (Both b x a) r word looks is so = absurd looks
   seen_told (Cut b) r word looks is so = absurd looks
+  seen_told (Walks b next) r word looks is so = absurd looks
 
   pub marked_told : (has : Has T) (r bits word : ℕ) → IsLooking has → v ≡ Inside slot has → told defers v (Or (Root r) bits) (Found word) w
       → w ≡ Inside slot (seen_in word)
@@ -105,4 +106,5 @@ module _ {T : Type 0} (defers : T → Option ℕ) (v w : SlotView T) (slot : ℕ
   marked_told (Made b x) r bits word looks is so = absurd looks
   marked_told (Both b x a) r bits word looks is so = absurd looks
   marked_told (Cut b) r bits word looks is so = absurd looks
+  marked_told (Walks b next) r bits word looks is so = absurd looks
   -- what a making tells beside a block that was seen, a taking away, and an exchange

@@ -16,9 +16,9 @@ use Rattle.seize_views.specs.Views.Told.{alone_with, cut_in, told}
 use Rattle.seize_views.specs.declared.view.Noted.{Noted}
 use Rattle.seize_views.specs.declared.view.Deed.{Deed}
 use Rattle.seize_views.specs.declared.view.SlotView.{SlotView}
-use Rattle.seize_views.specs.declared.view.SlotView.TheVariants.{Rests, Registers, Outside, Owes, Enters, Inside, Settles, Leaves, Left, Frees, Brings, Bears, Watches, Under, Busy}
+use Rattle.seize_views.specs.declared.view.SlotView.TheVariants.{Rests, Registers, Outside, Owes, Enters, Inside, Settles, Leaves, Left, Frees, Brings, Bears, Watches, Under, Joins, Busy}
 use Rattle.seize_views.specs.declared.view.Has.{Has}
-use Rattle.seize_views.specs.declared.view.Has.TheVariants.{Nothing, Made, Seen, Both, Cut}
+use Rattle.seize_views.specs.declared.view.Has.TheVariants.{Nothing, Made, Seen, Both, Cut, Walks}
 use Rattle.seize_views.specs.declared.view.Fixed.{Fixed}
 use Rattle.seize_views.proofs.Views.Blocks.{own_are_made, own_are_taken, own_are_rewritten, own_are_shown, borne_are_shown}
 use Rattle.seize_callers.proofs.Calls.{by_view}
@@ -44,6 +44,7 @@ module _ {T : Type 0} where
   brings b (Bears c) e = absurd (cc e)
   brings b (Watches t c) e = absurd (cc e)
   brings b (Under n t c) e = absurd (cc e)
+  brings b (Joins block) e = absurd (cc e)
   brings b (Busy t) e = absurd (cc e)
 
   pub bears : (b : ℕ) (v : SlotView T) → borne_by v ≡ Some b → v ≡ Bears b
@@ -61,6 +62,7 @@ module _ {T : Type 0} where
   bears b (Brings c x) e = absurd (cc e)
   bears b (Watches t c) e = absurd (cc e)
   bears b (Under n t c) e = absurd (cc e)
+  bears b (Joins block) e = absurd (cc e)
   bears b (Busy t) e = absurd (cc e)
 
 module _ {T : Type 0} (defers : T → Option ℕ) (fixed : Fixed) (id : ℕ) (v : Noted T) where
@@ -152,6 +154,7 @@ module _ {T : Type 0} (fixed : Fixed) (v u v2 u2 : SlotView T) (slot b : ℕ) wh
   cut_so (Made c x) looks so = absurd looks
   cut_so (Both c x a) looks so = absurd looks
   cut_so (Cut c) looks so = absurd looks
+  cut_so (Walks c next) looks so = absurd looks
 
   pub cuts_told : (has : Has T) → IsLooking has → v ≡ Bears b → u ≡ Inside slot has → Hands fixed v u v2 u2 → u2 ≡ Inside slot (Cut b)
   cuts_told has looks is on so =
@@ -166,6 +169,7 @@ module _ {T : Type 0} (fixed : Fixed) (v u v2 u2 : SlotView T) (slot b : ℕ) wh
   rests_so (Inside t (Made c x)) takes so = absurd takes
   rests_so (Inside t (Both c x a)) takes so = absurd takes
   rests_so (Inside t (Cut c)) takes so = absurd takes
+  rests_so (Inside t (Walks c next)) takes so = absurd takes
   rests_so Rests takes so = absurd takes
   rests_so (Registers c) takes so = absurd takes
   rests_so (Owes t c) takes so = absurd takes
@@ -178,6 +182,7 @@ module _ {T : Type 0} (fixed : Fixed) (v u v2 u2 : SlotView T) (slot b : ℕ) wh
   rests_so (Bears c) takes so = absurd takes
   rests_so (Watches t c) takes so = absurd takes
   rests_so (Under n t c) takes so = absurd takes
+  rests_so (Joins block) takes so = absurd takes
   rests_so (Busy t) takes so = absurd takes
 
   pub rests_told : IsTaker u → v ≡ Bears b → Hands fixed v u v2 u2 → v2 ≡ Rests

@@ -6,8 +6,8 @@ use Rattle.seize_views.specs.Views.Promises.{IsTaker}
 use Rattle.seize_views.specs.Views.Rows.{IsQuiescent}
 use Rattle.seize_views.specs.declared.view.Fixed.{Fixed}
 use Rattle.seize_views.specs.declared.view.SlotView.{SlotView}
-use Rattle.seize_views.specs.declared.view.SlotView.TheVariants.{Rests, Registers, Outside, Owes, Enters, Inside, Settles, Leaves, Left, Frees, Brings, Bears, Watches, Under, Busy}
-use Rattle.seize_views.specs.declared.view.Has.TheVariants.{Nothing, Made, Seen, Both, Cut}
+use Rattle.seize_views.specs.declared.view.SlotView.TheVariants.{Rests, Registers, Outside, Owes, Enters, Inside, Settles, Leaves, Left, Frees, Brings, Bears, Watches, Under, Joins, Busy}
+use Rattle.seize_views.specs.declared.view.Has.TheVariants.{Nothing, Made, Seen, Both, Cut, Walks}
 
 module _ {T : Type 0} where
   pub at_rest : (w v : SlotView T) → w ≡ v → IsQuiescent v → IsQuiescent w
@@ -27,6 +27,7 @@ module _ {T : Type 0} where
   handed fixed b (Inside t (Made c x)) p q takes so = absurd takes
   handed fixed b (Inside t (Both c x a)) p q takes so = absurd takes
   handed fixed b (Inside t (Cut c)) p q takes so = absurd takes
+  handed fixed b (Inside t (Walks c next)) p q takes so = absurd takes
   handed fixed b Rests p q takes so = absurd takes
   handed fixed b (Registers c) p q takes so = absurd takes
   handed fixed b (Owes t c) p q takes so = absurd takes
@@ -39,4 +40,5 @@ module _ {T : Type 0} where
   handed fixed b (Bears c) p q takes so = absurd takes
   handed fixed b (Watches t c) p q takes so = absurd takes
   handed fixed b (Under n t c) p q takes so = absurd takes
+  handed fixed b (Joins block) p q takes so = absurd takes
   handed fixed b (Busy t) p q takes so = absurd takes

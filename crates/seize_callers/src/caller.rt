@@ -16,6 +16,7 @@ mod settling;
 mod watch;
 
 use crate::errands::{Enters, Frees, Registers};
+pub use alone::marked;
 pub use pass::PassSeat;
 use seize::rows::Defers;
 use seize_blocks::{Blocks, Errand, Seat};
@@ -28,7 +29,8 @@ pub use watch::watcher;
 pub struct Caller<'a, T: Defers, C: Content<T> = OfRows> {
     blocks: &'a Blocks<T, C>,
     batch_size: u64,
-    seat: Seat<T, C>,
+    /// Its seat.
+    pub seat: Seat<T, C>,
     near: u64,
     ghost own: { seat.base ≡ blocks.now.words.id.views_name },
     ghost sized: { blocks.now.words.fixed.batch_size ≡ batch_size },

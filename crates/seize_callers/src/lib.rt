@@ -6,4 +6,4 @@ mod caller;
 pub mod errands;
 mod within;
 
-pub use caller::{Caller, PassSeat, named, watcher};
+pub use caller::{Caller, PassSeat, marked, named, watcher};

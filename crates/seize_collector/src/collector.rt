@@ -31,6 +31,7 @@ pub struct Collector<T: Defers + Drop, C: Content<T> = OfRows, R: Receiver<T> = 
     receiver: PhantomData<R>,
     ghost sized: { home.blocks.words.fixed.batch_size ≡ setting.batch_size },
     ghost rooted: { home.blocks.words.fixed.roots ≡ setting.roots },
+    ghost single: { home.blocks.words.fixed.chains ≡ 0 },
     ghost few: { setting.roots ≤ 65536 },
 }
 
@@ -65,6 +66,7 @@ impl<T: Defers + Drop, R: Receiver<T>> Collector<T, OfRows, R> {
         let chosen = Fixed {
             batch_size: setting.size_of_batches(),
             roots: setting.roots(),
+            chains: 0,
         };
         let home = Home::open(alloc, chosen.roots, FIRST, &chosen)?;
         Ok(Collector {
@@ -98,6 +100,7 @@ impl<T: Defers + Drop, C: Content<T>, R: Receiver<T>> Collector<T, C, R> {
         Fixed {
             batch_size: self.setting.size_of_batches(),
             roots: self.setting.roots(),
+            chains: 0,
         }
     }
 

@@ -28,7 +28,7 @@ fn ends<B: Place>(
     drops: &DropCounts,
     inner_first: bool,
 ) -> Option<Drops>
-    requires fixed { blocks.now.words.fixed ≡ record { batch_size = 5; roots = 1 } }
+    requires fixed { blocks.now.words.fixed ≡ record { batch_size = 5; roots = 1; chains = 0 } }
     requires home { blocks.now.words.id.views_name ≡ B.base }
 {
     let mut writer = Registration::new(blocks, &CHOSEN).ok()?;
@@ -81,7 +81,7 @@ fn ends_here(
     drops: &DropCounts,
     inner_first: bool,
 ) -> Option<Drops>
-    requires { blocks.now.words.fixed ≡ record { batch_size = 5; roots = 1 } }
+    requires { blocks.now.words.fixed ≡ record { batch_size = 5; roots = 1; chains = 0 } }
 {
     ends::<Brand>(blocks, drops, inner_first)
 }
@@ -117,7 +117,7 @@ fn enters_all<'d, 'a, B: Place>(
 
 /// As many guards as there may be, one of which ends; whether a further one is refused before, as one too many, and there is one then.
 fn fills<B: Place>(alloc: Global, blocks: &Blocks<Counted, OfRows>) -> Option<(bool, bool)>
-    requires fixed { blocks.now.words.fixed ≡ record { batch_size = 5; roots = 1 } }
+    requires fixed { blocks.now.words.fixed ≡ record { batch_size = 5; roots = 1; chains = 0 } }
     requires home { blocks.now.words.id.views_name ≡ B.base }
 {
     let desk = Desk::<Counted, B>::new(blocks, &CHOSEN).ok()?;
@@ -131,7 +131,7 @@ fn fills<B: Place>(alloc: Global, blocks: &Blocks<Counted, OfRows>) -> Option<(b
 
 /// In this memory.
 fn fills_here(alloc: Global, blocks: &Blocks<Counted, OfRows>) -> Option<(bool, bool)>
-    requires { blocks.now.words.fixed ≡ record { batch_size = 5; roots = 1 } }
+    requires { blocks.now.words.fixed ≡ record { batch_size = 5; roots = 1; chains = 0 } }
 {
     fills::<Brand>(alloc, blocks)
 }
@@ -145,7 +145,7 @@ fn a_desk_refuses_a_guard_where_it_has_the_most(rt: HostRuntime) -> Result<(), F
 
 /// A guard that has seen a value is forgotten, and another slot takes the value away and retires it; answers how often it was dropped, once the desk has ended.
 fn forgets<B: Place>(blocks: &Blocks<Counted, OfRows>, drops: &DropCounts) -> Option<u64>
-    requires fixed { blocks.now.words.fixed ≡ record { batch_size = 5; roots = 1 } }
+    requires fixed { blocks.now.words.fixed ≡ record { batch_size = 5; roots = 1; chains = 0 } }
     requires home { blocks.now.words.id.views_name ≡ B.base }
 {
     let mut writer = Registration::new(blocks, &CHOSEN).ok()?;
@@ -174,7 +174,7 @@ fn forgets_one(alloc: Global, drops: &DropCounts) -> Result<Option<u64>, AllocEr
 
 /// In this memory.
 fn forgets_here(blocks: &Blocks<Counted, OfRows>, drops: &DropCounts) -> Option<u64>
-    requires { blocks.now.words.fixed ≡ record { batch_size = 5; roots = 1 } }
+    requires { blocks.now.words.fixed ≡ record { batch_size = 5; roots = 1; chains = 0 } }
 {
     forgets::<Brand>(blocks, drops)
 }
@@ -195,7 +195,7 @@ fn retires<B: Place>(
     blocks: &Blocks<Counted, OfRows>,
     drops: &DropCounts,
 ) -> Option<(u64, u64, u64)>
-    requires fixed { blocks.now.words.fixed ≡ record { batch_size = 5; roots = 1 } }
+    requires fixed { blocks.now.words.fixed ≡ record { batch_size = 5; roots = 1; chains = 0 } }
     requires home { blocks.now.words.id.views_name ≡ B.base }
 {
     let mut near = 0;
@@ -248,7 +248,7 @@ fn retires_alone(alloc: Global, drops: &DropCounts) -> Result<Option<(u64, u64, 
 
 /// In this memory.
 fn retires_here(blocks: &Blocks<Counted, OfRows>, drops: &DropCounts) -> Option<(u64, u64, u64)>
-    requires { blocks.now.words.fixed ≡ record { batch_size = 5; roots = 1 } }
+    requires { blocks.now.words.fixed ≡ record { batch_size = 5; roots = 1; chains = 0 } }
 {
     retires::<Brand>(blocks, drops)
 }

@@ -18,6 +18,7 @@ const EACH: usize = 50;
 const CHOSEN: Fixed = Fixed {
     batch_size: 5,
     roots: 1,
+    chains: 0,
 };
 
 /// How many values of all four were dropped, or none where one was dropped twice.
@@ -35,7 +36,7 @@ fn sum(drops: &DropCounts) -> Option<u64> {
 
 /// Puts its values under guards of a registration, which is forgotten.
 fn lingers(blocks: &Blocks<Counted, OfRows>, drops: &DropCounts, from: usize) -> Option<()>
-    requires { blocks.now.words.fixed ≡ record { batch_size = 5; roots = 1 } }
+    requires { blocks.now.words.fixed ≡ record { batch_size = 5; roots = 1; chains = 0 } }
 {
     let mut registration = Registration::new(blocks, &CHOSEN).ok()?;
     for place in 0..EACH {
@@ -48,7 +49,7 @@ fn lingers(blocks: &Blocks<Counted, OfRows>, drops: &DropCounts, from: usize) ->
 
 /// Puts its values under one guard of a registration. Both are forgotten.
 fn stays(blocks: &Blocks<Counted, OfRows>, drops: &DropCounts, from: usize) -> Option<()>
-    requires { blocks.now.words.fixed ≡ record { batch_size = 5; roots = 1 } }
+    requires { blocks.now.words.fixed ≡ record { batch_size = 5; roots = 1; chains = 0 } }
 {
     let mut registration = Registration::new(blocks, &CHOSEN).ok()?;
     let mut guard = registration.enter();
@@ -63,7 +64,7 @@ fn stays(blocks: &Blocks<Counted, OfRows>, drops: &DropCounts, from: usize) -> O
 
 /// Puts its values under a guard with a slot of its own, which is forgotten.
 fn owns(blocks: &Blocks<Counted, OfRows>, drops: &DropCounts, from: usize) -> Option<()>
-    requires { blocks.now.words.fixed ≡ record { batch_size = 5; roots = 1 } }
+    requires { blocks.now.words.fixed ≡ record { batch_size = 5; roots = 1; chains = 0 } }
 {
     let mut guard = OwnedGuard::enter(blocks, &CHOSEN).ok()?;
     for place in 0..EACH {
@@ -76,7 +77,7 @@ fn owns(blocks: &Blocks<Counted, OfRows>, drops: &DropCounts, from: usize) -> Op
 
 /// Puts its values, and forgets nothing.
 fn goes(blocks: &Blocks<Counted, OfRows>, drops: &DropCounts, from: usize) -> Option<()>
-    requires { blocks.now.words.fixed ≡ record { batch_size = 5; roots = 1 } }
+    requires { blocks.now.words.fixed ≡ record { batch_size = 5; roots = 1; chains = 0 } }
 {
     let mut registration = Registration::new(blocks, &CHOSEN).ok()?;
     for place in 0..EACH {
@@ -88,7 +89,7 @@ fn goes(blocks: &Blocks<Counted, OfRows>, drops: &DropCounts, from: usize) -> Op
 
 /// The slot that a registration takes then.
 fn visits(blocks: &Blocks<Counted, OfRows>) -> Option<u64>
-    requires { blocks.now.words.fixed ≡ record { batch_size = 5; roots = 1 } }
+    requires { blocks.now.words.fixed ≡ record { batch_size = 5; roots = 1; chains = 0 } }
 {
     let mut registration = Registration::new(blocks, &CHOSEN).ok()?;
     let slot = registration.enter().thread_id();
@@ -97,7 +98,7 @@ fn visits(blocks: &Blocks<Counted, OfRows>) -> Option<u64>
 
 /// Two of the threads, each of which forgets a guard.
 fn guards<R: Threads + Sync>(rt: &R, blocks: &Blocks<Counted, OfRows>, drops: &DropCounts) -> bool
-    requires { blocks.now.words.fixed ≡ record { batch_size = 5; roots = 1 } }
+    requires { blocks.now.words.fixed ≡ record { batch_size = 5; roots = 1; chains = 0 } }
 {
     let (first, second) = thread::join(
         rt,
@@ -113,7 +114,7 @@ fn registrations<R: Threads + Sync>(
     blocks: &Blocks<Counted, OfRows>,
     drops: &DropCounts,
 ) -> bool
-    requires { blocks.now.words.fixed ≡ record { batch_size = 5; roots = 1 } }
+    requires { blocks.now.words.fixed ≡ record { batch_size = 5; roots = 1; chains = 0 } }
 {
     let (first, second) = thread::join(
         rt,

@@ -5,4 +5,5 @@ use seize_shared::Fixed;
 pub(crate) const CHOSEN: Fixed = Fixed {
     batch_size: 5,
     roots: 1,
+    chains: 0,
 };

@@ -21,7 +21,8 @@ use std::marker::PhantomData;
 /// A slot of its owner's, on whose thread it stays. It is given up as this ends.
 #[derive(Drop)]
 pub struct Registration<'a, T: Defers + Drop, C: Content<T> = OfRows, R: Receiver<T> = Drops> {
-    stay: Stay<'a, T, C>,
+    /// Who holds the slot.
+    pub stay: Stay<'a, T, C>,
     /// The number of its collector, 0 where there is none.
     number: u64,
     thread: PhantomData<*const R>,
@@ -137,7 +138,8 @@ impl<'a, T: Defers + Drop, R: Receiver<T>> Registration<'a, T, OfRows, R> {
 
 /// A section that is open as long as this lives. What it has seen is there until its next step. It stays on its thread.
 pub struct LocalGuard<'r, 'a, T: Defers + Drop, C: Content<T> = OfRows, R: Receiver<T> = Drops> {
-    registration: &'r mut Registration<'a, T, C, R>,
+    /// The registration that it is of.
+    pub registration: &'r mut Registration<'a, T, C, R>,
 }
 
 impl<'r, 'a, T: Defers + Drop, C: Content<T>, R: Receiver<T>> Guard<T>
@@ -292,7 +294,8 @@ impl<'r, 'a, T: Defers + Drop, C: Content<T>, R: Receiver<T>> Drop for LocalGuar
 /// sent to another thread, and end there.
 #[derive(Drop)]
 pub struct OwnedGuard<'a, T: Defers + Drop, C: Content<T> = OfRows, R: Receiver<T> = Drops> {
-    stay: Stay<'a, T, C>,
+    /// Who holds its slot.
+    pub stay: Stay<'a, T, C>,
     /// The number of its collector, 0 where there is none.
     number: u64,
     receiver: PhantomData<R>,

@@ -26,10 +26,14 @@ pub(crate) fn refusal(fault: Fault) -> Fault
 /// A caller who holds a slot: whether its section is open, which block was seen there, 0 for none, and how many seats watch that section. The slot is given up
 /// as this ends, but for one whose section somebody has forgotten to watch no longer.
 pub struct Stay<'a, T: Defers + Drop, C: Content<T> = OfRows> {
-    caller: Caller<'a, T, C>,
+    /// Who it is.
+    pub caller: Caller<'a, T, C>,
     /// The slot.
     pub slot: u64,
-    roots: u64,
+    /// How many roots there are of single blocks.
+    pub roots: u64,
+    /// How many of chains.
+    pub chains: u64,
     /// Whether its section is open.
     pub inside: bool,
     seen: u64,
@@ -38,6 +42,7 @@ pub struct Stay<'a, T: Defers + Drop, C: Content<T> = OfRows> {
     ghost counted: { (C.notes caller.seat.view).guards ≡ guards },
     ghost stands: { standing (C.notes caller.seat.view).knows ≡ Some (slot, inside, seen) },
     ghost rooted: { caller.blocks.now.words.fixed.roots ≡ roots },
+    ghost chained: { caller.blocks.now.words.fixed.chains ≡ chains },
     ghost few: { slot < 65536 },
     ghost fits: { seen < 2 ^ 53 },
 }
@@ -60,6 +65,7 @@ impl<'a, T: Defers + Drop, C: Content<T>> Stay<'a, T, C> {
             caller,
             slot,
             roots: fixed.roots,
+            chains: fixed.chains,
             inside: false,
             seen: 0,
             guards: 0,
@@ -74,6 +80,7 @@ impl<'a, T: Defers + Drop, C: Content<T>> Stay<'a, T, C> {
         let chosen = Fixed {
             batch_size: self.caller.batch_size(),
             roots: self.roots,
+            chains: self.chains,
         };
         Shared::of(self.caller.blocks(), chosen, number)
     }
@@ -99,7 +106,7 @@ impl<'a, T: Defers + Drop, C: Content<T>> Stay<'a, T, C> {
     }
 
     /// Opens a section, where none is open. What was seen is not known any more.
-    fn opens(&mut self)
+    pub fn opens(&mut self)
         ensures home { self.new.caller.blocks ≡ self.old.caller.blocks }
         ensures beside { C.beside self.new.caller.seat.view ≡ C.beside self.old.caller.seat.view }
         ensures slot { self.new.slot ≡ self.old.slot }
@@ -172,6 +179,7 @@ impl<'a, T: Defers + Drop, C: Content<T>> Drop for Stay<'a, T, C> {
             caller,
             slot,
             roots: _,
+            chains: _,
             inside,
             seen: _,
             guards,

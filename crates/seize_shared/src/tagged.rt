@@ -19,8 +19,8 @@ impl Tagged {
         Tagged { word }
     }
 
-    /// The whole word.
-    pub(crate) fn word(self) -> u64
+    /// Returns the whole word.
+    pub fn word(self) -> u64
         ensures { result ≡ self.word }
     {
         self.word

@@ -4,6 +4,8 @@ pub mod Aside
 pub mod Lists
 pub mod Reclaims
 pub mod Came
+pub mod Chains
+mod Links
 pub mod Found
 pub mod Moved
 pub mod Steps
@@ -29,5 +31,7 @@ mod Watched
 pub mod Notes
 pub mod Guarding
 pub mod Passing
+pub mod Stacking
+pub mod Walking
 pub mod Contents
 pub mod Values

@@ -47,6 +47,18 @@ pub struct Leaning;
 /// It leans on it no longer.
 pub struct Returning;
 
+/// A seat is to make a block for a chain.
+pub struct Joining;
+
+/// A seat within a section is to go down a chain.
+pub struct Walking;
+
+/// It goes on to the block that the link names at which it has looked.
+pub struct Going;
+
+/// It goes on no more, and knows of no block.
+pub struct Stopping;
+
 impl<T: Defers, C: Content<T>> Turn<Fixed, C::View> for RegisteringBegins<T, C> {
     ghost use Rattle.seize_views.specs.Views.Begun.{registering, Makes};
     ghost use Rattle.seize_views.specs.Views.Content.{Turned};
@@ -147,4 +159,28 @@ impl<T> Turn<Fixed, Noted<T>> for Returning {
     ghost use Rattle.seize_views.specs.Views.Notes.{ReturnsToRest};
 
     ghost to = { λ _. ReturnsToRest };
+}
+
+impl<T> Turn<Fixed, Noted<T>> for Joining {
+    ghost use Rattle.seize_views.specs.Views.Stacking.{joining, GoesItsWay};
+
+    ghost to = { λ _. GoesItsWay joining };
+}
+
+impl<T> Turn<Fixed, Noted<T>> for Walking {
+    ghost use Rattle.seize_views.specs.Views.Stacking.{walking, GoesItsWay};
+
+    ghost to = { λ _. GoesItsWay walking };
+}
+
+impl<T> Turn<Fixed, Noted<T>> for Going {
+    ghost use Rattle.seize_views.specs.Views.Stacking.{going, GoesItsWay};
+
+    ghost to = { λ _. GoesItsWay going };
+}
+
+impl<T> Turn<Fixed, Noted<T>> for Stopping {
+    ghost use Rattle.seize_views.specs.Views.Stacking.{stopping, GoesItsWay};
+
+    ghost to = { λ _. GoesItsWay stopping };
 }

@@ -68,6 +68,9 @@ pub enum SlotView<T> {
     Watches(u64, u64),
     /// It holds no slot, and is on an errand that the seat of this number is lent to, whose section of this slot is open, where it has seen this block, 0 for none.
     Under(u64, u64, u64),
+    /// It holds no slot, and is to make blocks for chains, or has made this one, of this value, which nobody else can reach, and whose link names this
+    /// block, 0 for none.
+    Joins(Option<(u64, T, u64)>),
     /// It has something under way that is no row: within the open section of this slot, or without a slot.
     Busy(Option<u64>),
 }
@@ -84,6 +87,9 @@ pub enum Has<T> {
     Both(u64, T, u64),
     /// It has unlinked this one, and is to retire it.
     Cut(u64),
+    /// It goes down a chain, and has come to this block, 0 for none, which its section holds with all that stands below it; and the link of that names this
+    /// one, 0 for none, if it has looked.
+    Walks(u64, Option<u64>),
 }
 
 /// Why a seat settles.
@@ -107,6 +113,11 @@ pub enum Becomes {
 pub struct Fixed {
     /// The length from which on a batch is tried.
     pub batch_size: u64,
-    /// How many roots there are.
+    /// How many roots there are at which single blocks stand.
     pub roots: u64,
+    /// How many there are behind these, at each of which a chain of blocks stands.
+    pub chains: u64,
 }
+
+/// Which of its own words is a block's link: the one by which a block of a chain names the next one.
+pub const LINK: u64 = 0;

@@ -16,6 +16,7 @@ use std::io;
 const CHOSEN: Fixed = Fixed {
     batch_size: 5,
     roots: 1,
+    chains: 0,
 };
 
 /// How many values are put, all of which are there at once: the memory begins with fewer numbers for blocks.
@@ -56,14 +57,14 @@ impl Defers for Plain {
 
 /// A memory that begins with one number for a block.
 fn open(alloc: Global) -> Result<Home<Listed, OfRows>, AllocError>
-    ensures { IfOk result (λ home. home.blocks.words.fixed ≡ record { batch_size = 5; roots = 1 }) }
+    ensures { IfOk result (λ home. home.blocks.words.fixed ≡ record { batch_size = 5; roots = 1; chains = 0 }) }
 {
     Home::<Listed, OfRows>::open(alloc, 1, 1, &CHOSEN)
 }
 
 /// Such a memory, also where one request is refused.
 fn opens(alloc: Global) -> Result<Home<Listed, OfRows>, AllocError>
-    ensures { IfOk result (λ home. home.blocks.words.fixed ≡ record { batch_size = 5; roots = 1 }) }
+    ensures { IfOk result (λ home. home.blocks.words.fixed ≡ record { batch_size = 5; roots = 1; chains = 0 }) }
 {
     match open(alloc) {
         Ok(home) => Ok(home),
@@ -73,7 +74,7 @@ fn opens(alloc: Global) -> Result<Home<Listed, OfRows>, AllocError>
 
 /// The next slot.
 fn registers<T: Defers + Drop>(blocks: &Blocks<T, OfRows>) -> Result<Registration<'_, T>, Fault>
-    requires { blocks.now.words.fixed ≡ record { batch_size = 5; roots = 1 } }
+    requires { blocks.now.words.fixed ≡ record { batch_size = 5; roots = 1; chains = 0 } }
 {
     match Registration::new(blocks, &CHOSEN) {
         Err(Fault::Memory) => Registration::new(blocks, &CHOSEN),
@@ -141,14 +142,14 @@ fn slots(alloc: Global) -> Result<bool, AllocError> {
 
 /// A memory for numbers without lists, with enough numbers for their blocks.
 fn open_plain(alloc: Global) -> Result<Home<Plain, OfRows>, AllocError>
-    ensures { IfOk result (λ home. home.blocks.words.fixed ≡ record { batch_size = 5; roots = 1 }) }
+    ensures { IfOk result (λ home. home.blocks.words.fixed ≡ record { batch_size = 5; roots = 1; chains = 0 }) }
 {
     Home::<Plain, OfRows>::open(alloc, 1, 64, &CHOSEN)
 }
 
 /// Such a memory, also where one request is refused.
 fn opens_plain(alloc: Global) -> Result<Home<Plain, OfRows>, AllocError>
-    ensures { IfOk result (λ home. home.blocks.words.fixed ≡ record { batch_size = 5; roots = 1 }) }
+    ensures { IfOk result (λ home. home.blocks.words.fixed ≡ record { batch_size = 5; roots = 1; chains = 0 }) }
 {
     match open_plain(alloc) {
         Ok(home) => Ok(home),

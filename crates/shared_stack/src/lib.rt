@@ -8,4 +8,6 @@ pub use pile::Pile;
 pub use stack::{Popped, pop, push};
 
 #[cfg(test)]
+mod linked;
+#[cfg(test)]
 mod tests;

@@ -23,6 +23,7 @@ const TRIES: usize = 10_000;
 const CHOSEN: Fixed = Fixed {
     batch_size: 32,
     roots: 1,
+    chains: 0,
 };
 
 /// What was counted: values that were made, and that were dropped; and sums of those that were pushed, and that were popped.
@@ -47,7 +48,7 @@ type Numbers = Pile<Tally>;
 #[derive(Drop)]
 struct Ground<'a> {
     blocks: &'a Blocks<Numbers, OfRows>,
-    ghost chosen: { blocks.now.words.fixed ≡ record { batch_size = 32; roots = 1 } },
+    ghost chosen: { blocks.now.words.fixed ≡ record { batch_size = 32; roots = 1; chains = 0 } },
 }
 
 impl Drop for Tally {

@@ -13,6 +13,7 @@ use threads_calls::{Fixed, SessionBase, memory_for};
 const CHOSEN: Fixed = Fixed {
     batch_size: 32,
     roots: 1,
+    chains: 0,
 };
 
 /// How many keys there are.

@@ -10,6 +10,7 @@ use threads_calls::{Fixed, SessionBase, memory_for};
 const CHOSEN: Fixed = Fixed {
     batch_size: 32,
     roots: 2,
+    chains: 0,
 };
 
 /// Whether a session finds a key, in a section of a slot that it takes, and gives up then.

@@ -19,7 +19,7 @@ use seize_views::turns::Handing;
 use seize_words::{At, Link};
 
 /// The word that links to a block, with these marks.
-fn marked(block: u64, marks: u64) -> u64
+pub fn marked(block: u64, marks: u64) -> u64
     requires fits { block < 2 ^ 53 }
     requires marks { marks < 8 }
     ensures word { result ≡ link_to block + marks }

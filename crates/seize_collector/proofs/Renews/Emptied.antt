@@ -8,6 +8,7 @@ use Rattle.seize.specs.World.{World, Use}
 use Rattle.seize_model.proofs.Sets.Turns.Heads.{WordOf, word_says}
 use Rattle.seize_acts.specs.Quiet.Slots.{IsQuiescent}
 use Rattle.seize_acts.proofs.Quiet.Slots.Facts.{rested_by}
+use Rattle.seize_views.specs.Views.Chains.{Chain}
 use Rattle.seize_views.specs.Views.Rows.{IsFound, RootsNameLinked, Came}
 use Rattle.seize_views.specs.declared.view.Fixed.{Fixed}
 use Rattle.seize_collector.specs.Renews.Emptied.{AreFree}
@@ -40,6 +41,7 @@ module _ {T : Type 0} (defers : T → Option ℕ) where
         nothing = left_so.1;
         free = subst AreFree (sym here) (are_free fixed s.world h.came left_so.0);
         roots = subst (λ (n : Mem T). RootsNameLinked n s.world.hand) (sym is) h.roots;
-        found = λ b. subst (λ (n : Mem T). IsFound n b (λ k. Unit {0}) (s.world.hand b)) (sym is) (h.found b);
+        chains = λ r its. subst (λ (n : Mem T). Chain defers n s.world.hand r) (sym is) (h.chains r its);
+        found = λ b. subst (λ (n : Mem T). IsFound fixed n b (λ k. Unit {0}) (s.world.hand b)) (sym is) (h.found b);
         rooted = ap (λ (n : Mem T). length n.roots) is ∙ h.rooted;
       }

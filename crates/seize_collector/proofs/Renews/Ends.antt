@@ -35,8 +35,9 @@ module _ {T : Type 0} (defers : T → Option ℕ) (left_over : T → Bool) where
       seats = seats_there;
       one = λ j k a b e f. first j a e ∙ sym (first k b f);
       roots = h.roots;
-      found = λ b. found_at s.memory s.memory b (IsInSomeHand s h.life.began b) (λ k. Unit {0}) refl (λ k has. tt) (s.world.hand b) (h.found b);
+      found = λ b. found_at fixed s.memory s.memory b (IsInSomeHand s h.life.began b) (λ k. Unit {0}) refl (λ k has. tt) (s.world.hand b) (h.found b);
       rooted = h.rooted;
+      chains = h.chains;
     },
   )
     where
@@ -92,8 +93,9 @@ module _ {T : Type 0} (defers : T → Option ℕ) (left_over : T → Bool) where
       sole = λ j k b v u e f p q. absurd (cc e);
       roots = h.roots;
       rooted = h.rooted;
+      chains = h.chains;
       life = record { began = s.world; past = h.came; idle = (quiet_at fixed id c seen left over s h at_id).rests; since = ([], refl) };
-      found = λ b. found_as s.memory b (IsInSomeHand none_there s.world b) (s.world.hand b) (s.world.hand b) refl (λ k is. inr is) (h.found b);
+      found = λ b. found_as fixed s.memory b (IsInSomeHand none_there s.world b) (s.world.hand b) (s.world.hand b) refl (λ k is. inr is) (h.found b);
       bounded = λ j v e. absurd (cc e);
     },
   )

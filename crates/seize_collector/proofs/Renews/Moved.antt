@@ -5,12 +5,13 @@ use Rattle.std.proofs.lemmas.Bool.{cases_eq}
 use Rattle.seize_words.specs.OneMemory.Mem.{Mem}
 use Rattle.seize.specs.World.{World}
 use Rattle.seize_seats.specs.Seats.State.{State, view_of, Goes}
+use Rattle.seize_views.specs.Views.Chains.{Chain}
 use Rattle.seize_views.specs.Views.Rows.{IsFound, RootsNameLinked, Came}
 use Rattle.seize_views.specs.declared.view.Fixed.{Fixed}
 use Rattle.seize_views.proofs.Views.Lists.{there, elsewhere}
 use Rattle.seize_collector.specs.Renews.Rule.{IsAtPoint, HoldsAlone, KeepsNone}
 use Rattle.seize_collector.specs.declared.alone.Alone.{Alone}
-use Rattle.seize_collector.proofs.Renews.Roots.{RootsStay, roots_still, found_still}
+use Rattle.seize_collector.proofs.Renews.Roots.{RootsStay, roots_still, found_still, chains_still}
 use Rattle.seize_words.proofs.General.{same_some}
 
 module _ {T : Type 0} (defers : T → Option ℕ) (left_over : T → Bool) (fixed : Fixed) (s : State T (Alone T) (World T)) (id : ℕ) (v u : Alone T)
@@ -54,8 +55,10 @@ module _ {T : Type 0} (defers : T → Option ℕ) (left_over : T → Bool) (fixe
       seats = stands_there;
       one = λ j k a b e f. both_mine j k a b (who j a e) (who k b f);
       roots = named;
-      found = λ b. subst (λ (m : Mem T). IsFound m b (λ k. Unit {0}) (n.hand b)) memory
-          (found_still defers fixed s.world n stay (λ c. subst (λ (m : Mem T). IsFound m c (λ k. Unit {0}) (s.world.hand c)) h.memory (h.found c)) b);
+      chains = λ r is. subst (λ (m : Mem T). Chain defers m n.hand r) memory
+          (chains_still defers fixed s.world n stay (λ c its. subst (λ (m : Mem T). Chain defers m s.world.hand c) h.memory (h.chains c its)) r is);
+      found = λ b. subst (λ (m : Mem T). IsFound fixed m b (λ k. Unit {0}) (n.hand b)) memory
+          (found_still defers fixed s.world n stay (λ c. subst (λ (m : Mem T). IsFound fixed m c (λ k. Unit {0}) (s.world.hand c)) h.memory (h.found c)) b);
       rooted = ap (λ (m : Mem T). length m.roots) (sym memory) ∙ ap length stay.0 ∙ ap (λ (m : Mem T). length m.roots) (sym h.memory) ∙ h.rooted;
     },
     (λ j k b x y p q e f keeps. keeps),

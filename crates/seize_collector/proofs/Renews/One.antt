@@ -43,6 +43,7 @@ no_row (view.Left t size way) r = absurd r
 no_row (view.Frees t) r = absurd r
 no_row (view.Brings b x) r = refl
 no_row (view.Bears b) r = refl
+no_row (view.Joins block) r = refl
 no_row (view.Watches t b) r = refl
 no_row (view.Under n t b) r = refl
 no_row (view.Busy t) r = absurd r

@@ -1,5 +1,5 @@
 -- The rule by which one seat acts alone: there is a world that came about, of which the memory is that of the state; the seat takes a slot, or reclaims all, and
--- knows where it stands. A root names no block or one that is linked there, and what is linked is named.
+-- knows where it stands. A root names no block or one that is linked there, and what is linked is named, or stands in its chain.
 use Rattle.std.specs.Prelude.{◌≡◌, ◌≢◌, ℕ, ◌<◌, ◌==◌, Bool, false, Option, Some, None, if◌then◌else◌, length}
 use Rattle.seize_words.specs.OneMemory.Mem.{Mem, value_at}
 use Rattle.seize_words.specs.OneMemory.Op.{Op, Out}
@@ -19,6 +19,7 @@ use Rattle.seize.specs.World as world
 use Rattle.seize_seats.specs.Seats.State.{State, view_of}
 use Rattle.seize_acts.specs.Quiet.Slots.{Stage}
 use Rattle.seize_acts.specs.Quiet.Promises.{DoneWithin}
+use Rattle.seize_views.specs.Views.Chains.{all_roots, IsChainRoot, Chain}
 use Rattle.seize_views.specs.Views.Rows.{IsSeeking, IsFound, RootsNameLinked, Came}
 use Rattle.seize_views.specs.Views.Told.{HasOutcome, FollowsBy, shown_by}
 use Rattle.seize_views.specs.declared.view.Fixed.{Fixed}
@@ -87,8 +88,9 @@ module _ {T : Type 0} (defers : T → Option ℕ) (left_over : T → Bool) where
       pub seats : (j : ℕ) (v : Alone T) → view_of s j ≡ Some v → IsAtPoint s.world j v
       pub one : (j k : ℕ) (a b : Alone T) → view_of s j ≡ Some a → view_of s k ≡ Some b → j ≡ k
       pub roots : RootsNameLinked s.memory s.world.hand
-      pub found : (b : ℕ) → IsFound s.memory b (λ k. Unit {0}) (s.world.hand b)
-      pub rooted : length s.memory.roots ≡ fixed.roots
+      pub found : (b : ℕ) → IsFound fixed s.memory b (λ k. Unit {0}) (s.world.hand b)
+      pub chains : (r : ℕ) → IsChainRoot fixed r → Chain defers s.memory s.world.hand r
+      pub rooted : length s.memory.roots ≡ all_roots fixed
 
 -- nobody looks at what another one may take
 abbrev pub KeepsNone : {T : Type 0} → Alone T → Alone T → World T → ℕ → Type 0

@@ -5,9 +5,9 @@ use Rattle.std.proofs.lemmas.Bool.{eqb-false}
 use Rattle.seize_shared.specs.OnThreads.Standing.{standing}
 use Rattle.seize_views.specs.Views.Promises.{IsLooking}
 use Rattle.seize_views.specs.declared.view.SlotView.{SlotView}
-use Rattle.seize_views.specs.declared.view.SlotView.TheVariants.{Rests, Registers, Outside, Owes, Enters, Inside, Settles, Leaves, Left, Frees, Brings, Bears, Watches, Under, Busy}
+use Rattle.seize_views.specs.declared.view.SlotView.TheVariants.{Rests, Registers, Outside, Owes, Enters, Inside, Settles, Leaves, Left, Frees, Brings, Bears, Watches, Under, Joins, Busy}
 use Rattle.seize_views.specs.declared.view.Has.{Has}
-use Rattle.seize_views.specs.declared.view.Has.TheVariants.{Nothing, Made, Seen, Both, Cut}
+use Rattle.seize_views.specs.declared.view.Has.TheVariants.{Nothing, Made, Seen, Both, Cut, Walks}
 use Rattle.seize_words.proofs.General.{same_some}
 
 abbrev Standing : Type 0
@@ -33,6 +33,7 @@ looking (Seen b) k knows = tt
 looking (Made b x) k knows = knows
 looking (Both b x a) k knows = knows
 looking (Cut b) k knows = knows
+looking (Walks b next) k knows = knows
 
 module _ {T : Type 0} (t : ℕ) where
   inside : (k : ℕ) (v : SlotView T) → standing v ≡ Some (stands t true k) → (has : Has T) × Knows has k × (v ≡ Inside t has)
@@ -47,6 +48,7 @@ module _ {T : Type 0} (t : ℕ) where
   inside k (Inside s (Made b x)) e = absurd (cc e)
   inside k (Inside s (Both b x a)) e = absurd (cc e)
   inside k (Inside s (Cut b)) e = absurd (cc e)
+  inside k (Inside s (Walks b next)) e = absurd (cc e)
   inside k (Owes s b) e = absurd (cc e)
   inside k Rests e = absurd (cc e)
   inside k (Registers c) e = absurd (cc e)
@@ -59,6 +61,7 @@ module _ {T : Type 0} (t : ℕ) where
   inside k (Bears b) e = absurd (cc e)
   inside k (Watches s b) e = absurd (cc e)
   inside k (Under n s b) e = absurd (cc e)
+  inside k (Joins block) e = absurd (cc e)
   inside k (Busy s) e = absurd (cc e)
 
   pub is_inside : (k : ℕ) (v : SlotView T) → standing v ≡ Some (stands t true k) → (has : Has T) × IsLooking has × (v ≡ Inside t has)

@@ -156,6 +156,7 @@ impl<'a, T: Defers + Drop> Stay<'a, T> {
         let fixed = Fixed {
             batch_size: self.caller.batch_size(),
             roots: self.roots,
+            chains: self.chains,
         };
         Owned::of(self.caller.blocks(), &fixed, number, near, value)
     }

@@ -11,12 +11,14 @@ use Rattle.seize_acts.specs.Acts.Acts.{Operate, Unlinks}
 use Rattle.seize_acts.proofs.Samples.Acts.Base.{plain, after, enters, links}
 use Rattle.seize_seats.specs.Seats.State.{State}
 use Rattle.seize_views.specs.Reaches.Reached.{words_of_row, LeadsBy, OneLeadsTo}
+use Rattle.seize_views.specs.Views.Chains.{IsBelow}
 use Rattle.seize_views.specs.Views.Rows.{hand_of, row_of, IsSomeones}
 use Rattle.seize_views.specs.Views.Values.{IsAtARoot, IsReached, WasKept}
 use Rattle.seize_views.specs.declared.view.SlotView.{SlotView}
 use Rattle.seize_views.specs.declared.view.SlotView.TheVariants.{Inside}
 use Rattle.seize_views.specs.declared.view.Has.{Has}
 use Rattle.seize_views.specs.declared.view.Has.TheVariants.{Nothing, Cut}
+use Rattle.seize_views.proofs.Views.Chains.{none_links}
 use Rattle.seize_views.proofs.Samples.Reaches.{one_such, row_such, AllBare, no_words}
 use Rattle.seize_words.proofs.General.{same_some}
 
@@ -33,8 +35,12 @@ none_has (zero, v, at, has) = let is = ap hand_of (same_some (Inside 0 Nothing) 
 none_has (suc j, v, at, has) = cc at
 
 none_names : IsAtARoot (knowing Nothing).memory 1 → ⊥
-none_names (zero, (word, at, names)) = let k : 0 ≡ 1 = ap block_in (same_some 0 word at) ∙ names in cc k
-none_names (suc r, (word, at, names)) = cc at
+none_names (zero, n, c, (word, at, names), below) = down n c (sym names ∙ ap block_in (sym (same_some 0 word at))) below
+  where
+    down : (n c : ℕ) → c ≡ 0 → IsBelow cut.memory n c 1 → ⊥
+    down zero c is below = let one : 0 ≡ 1 = sym is ∙ below in cc one
+    down (suc n) c is below = none_links cut.memory c below.0 is below.1
+none_names (suc r, n, c, (word, at, names), below) = cc at
 
 -- no word of a slot names a block
 abbrev none : ℕ → Bool

@@ -1,6 +1,6 @@
 -- Rows begin and end, the rule starts, and seats come.
-use Rattle.std.specs.Prelude.{Option, Some, None, replicate, slice_get}
-use Rattle.std.proofs.Common.{◌≡◌, ℕ, zero, suc, [], ◌⊎◌, inl, inr, refl, sym, subst, ap}
+use Rattle.std.specs.Prelude.{◌<◌, Option, Some, None, replicate, slice_get}
+use Rattle.std.proofs.Common.{◌≡◌, ℕ, zero, suc, [], ◌⊎◌, inl, inr, refl, sym, subst, ap, arith}
 use Rattle.std.proofs.lemmas.List.{length-replicate}
 use Rattle.seize_words.specs.OneMemory.Word.{block_in, link_to}
 use Rattle.seize.specs.declared.rows.settle.Settle.{Settle}
@@ -8,14 +8,15 @@ use Rattle.seize.specs.Settle.{retiring, flushing}
 use Rattle.seize.specs.World.{World, Use, Hand, at_start}
 use Rattle.seize.specs.World as world
 use Rattle.seize_seats.specs.Seats.State.{State, view_of, joined, Comes, Starts}
+use Rattle.seize_views.specs.Views.Chains.{all_roots}
 use Rattle.seize_views.specs.Views.Rows.{TurnsTo, row_of, use_of, hand_of, IsCut, IsKnown, IsInSomeHand, Fits, IsBounded, Holds, Keeps}
 use Rattle.seize_views.specs.Views.Begun.{IsBegun}
 use Rattle.seize_views.specs.Views.Promises.{IsNext, RulesStart, SeatsCome, RowsTurn, SettlingsBegin}
 use Rattle.seize_views.specs.declared.view.SlotView.{SlotView}
 use Rattle.seize_views.specs.declared.view.Becomes.{Becomes}
 use Rattle.seize_views.specs.declared.view.Becomes.TheVariants.{Idle, Active}
-use Rattle.seize_views.specs.declared.view.SlotView.TheVariants.{Rests, Registers, Outside, Owes, Enters, Inside, Settles, Leaves, Left, Frees, Brings, Bears, Watches, Under, Busy}
-use Rattle.seize_views.specs.declared.view.Has.TheVariants.{Nothing, Made, Seen, Both, Cut}
+use Rattle.seize_views.specs.declared.view.SlotView.TheVariants.{Rests, Registers, Outside, Owes, Enters, Inside, Settles, Leaves, Left, Frees, Brings, Bears, Watches, Under, Joins, Busy}
+use Rattle.seize_views.specs.declared.view.Has.TheVariants.{Nothing, Made, Seen, Both, Cut, Walks}
 use Rattle.seize_views.specs.declared.view.Fixed.{Fixed}
 use Rattle.seize_views.proofs.Views.Found.{found_at}
 use Rattle.seize_views.proofs.Views.Lists.{with_last, none_before, with_more}
@@ -32,6 +33,11 @@ zeros : (n r word : ℕ) → slice_get (replicate n 0) r ≡ Some word → 0 ≡
 zeros zero r word e = absurd (cc e)
 zeros (suc n) zero word e = same_some 0 word e
 zeros (suc n) (suc r) word e = zeros n r word e
+
+zero_at : (n r : ℕ) → r < n → slice_get {X = ℕ} (replicate n 0) r ≡ Some 0
+zero_at zero r lt = absurd (omega (arith, lt))
+zero_at (suc n) zero lt = refl
+zero_at (suc n) (suc r) lt = zero_at n r (omega (arith, lt))
 
 module _ {T : Type 0} (defers : T → Option ℕ) (fixed : Fixed) where
   abbrev H : State T (SlotView T) (World T) → Type 0
@@ -52,7 +58,7 @@ module _ {T : Type 0} (defers : T → Option ℕ) (fixed : Fixed) where
 
   -- a block is retired that the seat has unlinked
   retires : (id t b : ℕ) (way : Becomes) (v : SlotView T) → use_of v ≡ used_as t (resting way) → row_of v ≡ world.Rests
-      → hand_of v ≡ Some b → ((w : World T) → IsKnown w v → IsCut w b) → TurnsTo defers fixed id v (IsBegun way (retiring t fixed.batch_size (link_to b)))
+      → hand_of v ≡ Some b → ((w : World T) → IsKnown defers w v → IsCut w b) → TurnsTo defers fixed id v (IsBegun way (retiring t fixed.batch_size (link_to b)))
   retires id t b way v mine rests has cuts s h at_id =
       lifted.begins defers fixed s id v h at_id (IsBegun way (retiring t fixed.batch_size (link_to b)))
       (begins.retires defers fixed s.world id t way v (lifted.has_row defers fixed s id v h at_id) (lifted.lone_on defers fixed s id v h at_id t (resting way) mine)
@@ -77,15 +83,16 @@ module _ {T : Type 0} (defers : T → Option ℕ) (fixed : Fixed) where
     sole = λ j k b x y e f p q. one j k b x y p q (with_last s.views j Rests x e) (with_last s.views k Rests y f);
     roots = h.roots;
     rooted = h.rooted;
+    chains = h.chains;
     life = h.life;
-    found = λ b. found_at s.memory s.memory b (IsInSomeHand s h.life.began b) (IsInSomeHand (joined s Rests s.world) h.life.began b) refl (still b)
+    found = λ b. found_at fixed s.memory s.memory b (IsInSomeHand s h.life.began b) (IsInSomeHand (joined s Rests s.world) h.life.began b) refl (still b)
         (s.world.hand b) (h.found b);
     bounded = λ j x e. bound j x (with_last s.views j Rests x e);
   }
     where
-      fit : (j : ℕ) (x : SlotView T) → (view_of s j ≡ Some x) ⊎ ((view_of s j ≡ None) × (Rests ≡ x)) → Fits s.world j x
+      fit : (j : ℕ) (x : SlotView T) → (view_of s j ≡ Some x) ⊎ ((view_of s j ≡ None) × (Rests ≡ x)) → Fits defers s.world j x
       fit j x (inl e) = h.seats j x e
-      fit j x (inr e) = subst (λ (y : SlotView T). Fits s.world j y) e.1 (record { row = h.unborn j e.0; slot = tt; short = tt; known = tt })
+      fit j x (inr e) = subst (λ (y : SlotView T). Fits defers s.world j y) e.1 (record { row = h.unborn j e.0; slot = tt; short = tt; known = tt })
 
       bound : (j : ℕ) (x : SlotView T) → (view_of s j ≡ Some x) ⊎ ((view_of s j ≡ None) × (Rests ≡ x)) → IsBounded defers fixed s.world j x
       bound j x (inl e) = h.bounded j x e
@@ -115,9 +122,9 @@ module _ {T : Type 0} (defers : T → Option ℕ) (fixed : Fixed) where
       one j k b x y p q (inl e) (inr f) = absurd (no_hand y b f.1 q)
       one j k b x y p q (inr e) f = absurd (no_hand x b e.1 p)
 
-  starts : Starts H fixed.roots
+  starts : Starts H (all_roots fixed)
   starts = (
-    at_start defers fixed.roots,
+    at_start defers (all_roots fixed),
     record {
       came = ([], refl);
       memory = refl;
@@ -125,9 +132,17 @@ module _ {T : Type 0} (defers : T → Option ℕ) (fixed : Fixed) where
       unborn = λ j e. refl;
       apart = λ j k t a b v u e f p q. absurd (cc e);
       sole = λ j k b v u e f p q. absurd (cc e);
-      roots = λ r word e. inl (ap block_in (sym (zeros fixed.roots r word e)));
-      rooted = length-replicate fixed.roots 0;
-      life = record { began = at_start defers fixed.roots; past = ([], refl); idle = λ j. refl; since = ([], refl) };
+      roots = λ r word e. inl (ap block_in (sym (zeros (all_roots fixed) r word e)));
+      rooted = length-replicate (all_roots fixed) 0;
+      chains = λ r is. record {
+        word = 0;
+        at = zero_at (all_roots fixed) r is.1;
+        blocks = [];
+        stand = refl;
+        once = λ b e. absurd (cc e);
+        linked = λ b some. absurd (omega (arith, some));
+      };
+      life = record { began = at_start defers (all_roots fixed); past = ([], refl); idle = λ j. refl; since = ([], refl) };
       found = λ b. tt;
       bounded = λ j v e. absurd (cc e);
     },
@@ -171,6 +186,7 @@ module _ (T : Type 0) (defers : T → Option ℕ) where
   settlings_begin fixed id (Inside t (Seen b)) Idle c is = absurd is
   settlings_begin fixed id (Inside t (Made b x)) way c is = absurd is
   settlings_begin fixed id (Inside t (Both b x a)) way c is = absurd is
+  settlings_begin fixed id (Inside t (Walks b next)) way c is = absurd is
   settlings_begin fixed id (Owes t b) Active c is = absurd is
   settlings_begin fixed id (Outside t) Active c is = absurd is
   settlings_begin fixed id Rests way c is = absurd is
@@ -184,4 +200,5 @@ module _ (T : Type 0) (defers : T → Option ℕ) where
   settlings_begin fixed id (Bears b) way c is = absurd is
   settlings_begin fixed id (Watches t b) way c is = absurd is
   settlings_begin fixed id (Under n t b) way c is = absurd is
+  settlings_begin fixed id (Joins block) way c is = absurd is
   settlings_begin fixed id (Busy t) way c is = absurd is

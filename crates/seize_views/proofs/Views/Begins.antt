@@ -71,7 +71,7 @@ module _ {T : Type 0} (defers : T → Option ℕ) (fixed : Fixed) (w : World T) 
       → row_of v ≡ world.Rests → row_of u ≡ row → slot_in request ≡ Some t → HasNoBlock request
       → (w.uses t ≡ a → world.Begins defers fixed.batch_size i request w (with_use (with_row w i row) t world.Changing))
       → (w.uses t ≡ a → acts.begun defers fixed.batch_size i request w ≡ Some (with_use (with_row w i row) t world.Changing))
-      → IsPlain u → IsShort u → ((n : World T) → IsKnown n u) → ((n : World T) → IsBounded defers fixed n i u) → hand_of u ≡ None → hand_of v ≡ None
+      → IsPlain u → IsShort u → ((n : World T) → IsKnown defers n u) → ((n : World T) → IsBounded defers fixed n i u) → hand_of u ≡ None → hand_of v ≡ None
       → To v (λ x. x ≡ u)
   begins_on t v u a row request h mine its rests is on no_block happens computed plain short known bounded none empty = (
     u,

@@ -6,6 +6,7 @@ use Rattle.seize.specs.World.{World, Hand, Event, Happens, Runs, at_start}
 use Rattle.seize_acts.proofs.Given.SeizeRuleWorld.Start.{start_good}
 use Rattle.seize_acts.specs.Given.SeizeAloneAlone.{IsOfUsers}
 use Rattle.seize_acts.proofs.Given.SeizeAloneHistories.Reached.{Reached, runs_reached}
+use Rattle.seize_views.specs.Views.Chains.{all_roots}
 use Rattle.seize_views.specs.Views.Rows.{Since, Came}
 use Rattle.seize_views.specs.declared.view.Fixed.{Fixed}
 
@@ -17,11 +18,14 @@ module _ {T : Type 0} (defers : T → Option ℕ) (fixed : Fixed) where
   abbrev size : ℕ
   size = fixed.batch_size
 
-  start_reached : Reached defers size (at_start defers fixed.roots)
-  start_reached = record { good = start_good defers (LAST_SLOT + 1) size fixed.roots; sized = λ i. tt }
+  start_reached : (roots : ℕ) → Reached defers size (at_start defers roots)
+  start_reached roots = record { good = start_good defers (LAST_SLOT + 1) size roots; sized = λ i. tt }
+
+  pub from_start : (roots : ℕ) (events : List (Event T)) (w : World T) → Runs defers size events (at_start defers roots) w → Reached defers size w
+  from_start roots events w runs = runs_reached defers size events (at_start defers roots) w (start_reached roots) runs
 
   pub reached : (w : World T) → Came defers fixed w → Reached defers size w
-  reached w came = runs_reached defers size came.0 (at_start defers fixed.roots) w start_reached came.1
+  reached w came = from_start (all_roots fixed) came.0 w came.1
 
   runs_both : (events more : List (Event T)) (w v n : World T) → Runs defers size events w v → Runs defers size more v n → Runs defers size (events ++ more) w n
   runs_both [] more w v n h step = subst (λ (u : World T). Runs defers size more u n) h step
@@ -39,4 +43,4 @@ module _ {T : Type 0} (defers : T → Option ℕ) (fixed : Fixed) where
   since_then w v n e before step = since_both w v n before (since_one v n e step)
 
   pub came_then : (w n : World T) (e : Event T) → Came defers fixed w → Happens defers size e w n → Came defers fixed n
-  came_then w n e came step = since_then (at_start defers fixed.roots) w n e came step
+  came_then w n e came step = since_then (at_start defers (all_roots fixed)) w n e came step

@@ -14,10 +14,10 @@ use Rattle.seize_views.specs.declared.view.Becomes.TheVariants.{Idle, Active}
 use Rattle.seize_views.specs.declared.view.Began.{Began}
 use Rattle.seize_views.specs.declared.view.Deed.{Deed}
 use Rattle.seize_views.specs.declared.view.Fixed.{Fixed}
-use Rattle.seize_views.specs.declared.view.Has.TheVariants.{Nothing, Made, Seen, Both, Cut}
+use Rattle.seize_views.specs.declared.view.Has.TheVariants.{Nothing, Made, Seen, Both, Cut, Walks}
 use Rattle.seize_views.specs.declared.view.Noted.{Noted}
 use Rattle.seize_views.specs.declared.view.SlotView.{SlotView}
-use Rattle.seize_views.specs.declared.view.SlotView.TheVariants.{Rests, Registers, Outside, Owes, Enters, Inside, Settles, Leaves, Left, Frees, Brings, Bears, Watches, Under, Busy}
+use Rattle.seize_views.specs.declared.view.SlotView.TheVariants.{Rests, Registers, Outside, Owes, Enters, Inside, Settles, Leaves, Left, Frees, Brings, Bears, Watches, Under, Joins, Busy}
 use Rattle.seize_views.specs.declared.view.Why.TheVariants.{Retiring, Ending}
 use Rattle.seize_views.proofs.Views.Beginnings.{rows_turn, settlings_begin}
 use Rattle.seize_views.proofs.Views.GoesOn.{rows_go_on}
@@ -46,6 +46,7 @@ module _ {T : Type 0} (fixed : Fixed) where
   next_own (Outside t) u (inr is) = (tt, subst IsOwn (sym is) tt)
   next_own (Inside t Nothing) u is = (tt, free_own t u is)
   next_own (Inside t (Seen b)) u is = (tt, free_own t u is)
+  next_own (Inside t (Walks b next)) u is = absurd is
   next_own (Inside t (Made b x)) u is = absurd is
   next_own (Inside t (Both b x a)) u is = absurd is
   next_own (Inside t (Cut b)) u is = absurd is
@@ -61,6 +62,7 @@ module _ {T : Type 0} (fixed : Fixed) where
   next_own (Bears b) u is = absurd is
   next_own (Watches t b) u is = absurd is
   next_own (Under n t b) u is = absurd is
+  next_own (Joins block) u is = absurd is
   next_own (Busy t) u is = absurd is
 
 -- notes are the same where each of them is

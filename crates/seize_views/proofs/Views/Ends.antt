@@ -63,7 +63,7 @@ module _ {T : Type 0} (defers : T → Option ℕ) (fixed : Fixed) (Is : Use → 
   left_plain Idle t = tt
   left_plain Active t = tt
 
-  left_known : (way : Becomes) (n : World T) (t : ℕ) → IsKnown {T = T} n (left_with way t)
+  left_known : (way : Becomes) (n : World T) (t : ℕ) → IsKnown defers n (left_with way t)
   left_known Idle n t = tt
   left_known Active n t = tt
 

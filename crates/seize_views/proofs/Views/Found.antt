@@ -25,24 +25,25 @@ has_or_not (Some c) b = elim (cases_eq c b) as (λ _. (Some c ≡ Some b) ⊎ (S
 
 module _ {T : Type 0} where
   -- where the roots are as they were, and who has a block has it still
-  pub found_at : (m n : Mem T) (b : ℕ) (has now : Hand → Type 0) → n.roots ≡ m.roots → ((k : Hand) → has k → now k) → (k : Hand) → IsFound m b has k → IsFound n b now k
-  found_at m n b has now same still world.NoBlock f = tt
-  found_at m n b has now same still (world.Making h) f = still (world.Making h) f
-  found_at m n b has now same still (world.InUse r) f = (f.0, ap (λ (l : List ℕ). slice_get l r) same ∙ f.1, f.2)
-  found_at m n b has now same still (world.Parting h) f = f
-  found_at m n b has now same still (world.Cutting h) f = still (world.Cutting h) f
-  found_at m n b has now same still world.Handed f = tt
-  found_at m n b has now same still (world.LeftTo h) f = f
+  pub found_at : (fixed : Fixed) (m n : Mem T) (b : ℕ) (has now : Hand → Type 0) → n.roots ≡ m.roots → ((k : Hand) → has k → now k) → (k : Hand) → IsFound fixed m b has k → IsFound fixed n b now k
+  found_at fixed m n b has now same still world.NoBlock f = tt
+  found_at fixed m n b has now same still (world.Making h) f = still (world.Making h) f
+  found_at fixed m n b has now same still (world.InUse r) (inl f) = inl (f.0, ap (λ (l : List ℕ). slice_get l r) same ∙ f.1, f.2)
+  found_at fixed m n b has now same still (world.InUse r) (inr chain) = inr chain
+  found_at fixed m n b has now same still (world.Parting h) f = f
+  found_at fixed m n b has now same still (world.Cutting h) f = still (world.Cutting h) f
+  found_at fixed m n b has now same still world.Handed f = tt
+  found_at fixed m n b has now same still (world.LeftTo h) f = f
 
   -- a block that is found, whoever has it, is found, where that is who has one in its hand
-  pub found_as : (m : Mem T) (b : ℕ) (has : Hand → Type 0) (hand k : Hand) → hand ≡ k → ((l : Hand) → hand ≡ l → has l) → IsFound m b (λ l. Unit {0}) k → IsFound m b has k
-  found_as m b has hand world.NoBlock is so f = tt
-  found_as m b has hand (world.Making h) is so f = so (world.Making h) is
-  found_as m b has hand (world.InUse r) is so f = f
-  found_as m b has hand (world.Parting h) is so f = f
-  found_as m b has hand (world.Cutting h) is so f = so (world.Cutting h) is
-  found_as m b has hand world.Handed is so f = tt
-  found_as m b has hand (world.LeftTo h) is so f = f
+  pub found_as : (fixed : Fixed) (m : Mem T) (b : ℕ) (has : Hand → Type 0) (hand k : Hand) → hand ≡ k → ((l : Hand) → hand ≡ l → has l) → IsFound fixed m b (λ l. Unit {0}) k → IsFound fixed m b has k
+  found_as fixed m b has hand world.NoBlock is so f = tt
+  found_as fixed m b has hand (world.Making h) is so f = so (world.Making h) is
+  found_as fixed m b has hand (world.InUse r) is so f = f
+  found_as fixed m b has hand (world.Parting h) is so f = f
+  found_as fixed m b has hand (world.Cutting h) is so f = so (world.Cutting h) is
+  found_as fixed m b has hand world.Handed is so f = tt
+  found_as fixed m b has hand (world.LeftTo h) is so f = f
 
 module _ {T : Type 0} (s : State T (SlotView T) (World T)) (id : ℕ) (began : World T) where
   -- another seat has the block in its hand
@@ -53,8 +54,8 @@ module _ {T : Type 0} (s : State T (SlotView T) (World T)) (id : ℕ) (began : W
   abbrev pub HasNow : Option ℕ → ℕ → Hand → Type 0
   HasNow o b k = (o ≡ Some b) ⊎ IsAnothers b ⊎ (began.hand b ≡ k)
 
-  abbrev pub AreFound : Option ℕ → Mem T → (ℕ → Hand) → Type 0
-  AreFound o m hand = (b : ℕ) → IsFound m b (HasNow o b) (hand b)
+  abbrev pub AreFound : Fixed → Option ℕ → Mem T → (ℕ → Hand) → Type 0
+  AreFound fixed o m hand = (b : ℕ) → IsFound fixed m b (HasNow o b) (hand b)
 
   -- whoever the seat has nothing of has it with something in the seat's hand, too
   pub has_more : (o p : Option ℕ) (b : ℕ) → (o ≡ Some b → p ≡ Some b) → (k : Hand) → HasNow o b k → HasNow p b k
@@ -86,18 +87,18 @@ module _ {T : Type 0} (defers : T → Option ℕ) (fixed : Fixed) (s : State T (
   still_has o b still k (inr was) = inr (inr was)
 
   -- a block that is in the same hand, where the roots are the same, too
-  pub found_on : (o : Option ℕ) (m : Mem T) → m.roots ≡ s.memory.roots → (b : ℕ) → (hand_of v ≡ Some b → o ≡ Some b) → IsFound m b (Now o b) (w.hand b)
+  pub found_on : (o : Option ℕ) (m : Mem T) → m.roots ≡ s.memory.roots → (b : ℕ) → (hand_of v ≡ Some b → o ≡ Some b) → IsFound fixed m b (Now o b) (w.hand b)
   found_on o m same b still =
-      found_at s.memory m b (IsInSomeHand s h.life.began b) (Now o b) same (still_has o b still) (w.hand b) (h.found b)
+      found_at fixed s.memory m b (IsInSomeHand s h.life.began b) (Now o b) same (still_has o b still) (w.hand b) (h.found b)
 
   -- each one, where one is in another hand
-  pub found_with : (o : Option ℕ) (m : Mem T) → m.roots ≡ s.memory.roots → (b : ℕ) (k : Hand) → IsFound m b (Now o b) k
-      → ((c : ℕ) → c ≢ b → hand_of v ≡ Some c → o ≡ Some c) → AreFound s id h.life.began o m (with_at w.hand b k)
+  pub found_with : (o : Option ℕ) (m : Mem T) → m.roots ≡ s.memory.roots → (b : ℕ) (k : Hand) → IsFound fixed m b (Now o b) k
+      → ((c : ℕ) → c ≢ b → hand_of v ≡ Some c → o ≡ Some c) → AreFound s id h.life.began fixed o m (with_at w.hand b k)
   found_with o m same b k here still c =
-      elim (cases_eq c b) as (λ _. IsFound m c (Now o c) (with_at w.hand b k c)) [
-        | inl is ↦ subst (λ (d : ℕ). IsFound m d (Now o d) (with_at w.hand b k d)) (sym is)
-            (subst (λ (l : Hand). IsFound m b (Now o b) l) (sym (with_here w.hand b k)) here)
-        | inr ne ↦ subst (λ (l : Hand). IsFound m c (Now o c) l) (sym (with_other w.hand b c k ne)) (found_on o m same c (still c ne))
+      elim (cases_eq c b) as (λ _. IsFound fixed m c (Now o c) (with_at w.hand b k c)) [
+        | inl is ↦ subst (λ (d : ℕ). IsFound fixed m d (Now o d) (with_at w.hand b k d)) (sym is)
+            (subst (λ (l : Hand). IsFound fixed m b (Now o b) l) (sym (with_here w.hand b k)) here)
+        | inr ne ↦ subst (λ (l : Hand). IsFound fixed m c (Now o c) l) (sym (with_other w.hand b c k ne)) (found_on o m same c (still c ne))
       ]
 
   -- a block that is linked has a number

@@ -12,6 +12,7 @@ use Rattle.seize.specs.World as world
 use Rattle.seize_acts.proofs.Given.SeizeAloneHistories.NotTaken.{IsHeld, kept_there}
 use Rattle.seize_seats.specs.Seats.State.{State, view_of, Allows}
 use Rattle.seize_seats.specs.Seats.Lendings.{VisibleTo}
+use Rattle.seize_views.specs.Views.Chains.{Chain}
 use Rattle.seize_views.specs.Views.Rows.{Leads, RootsNameLinked, Holds, row_of, use_of, hand_of, IsShort, IsKnown, IsBounded}
 use Rattle.seize_views.specs.Views.Told.{told}
 use Rattle.seize_views.specs.Views.Watched.{one, open_at, is_watching, LeansOn, watchers, watching, known_by}
@@ -70,7 +71,7 @@ module _ {T : Type 0} (defers : T → Option ℕ) (fixed : Fixed) where
 
   -- a seat that has no row under way and no block in its hand goes on, and the memory stays as it is
   pub aside_on : (s : State T (SlotView T) (World T)) (id : ℕ) (v x : SlotView T) (h : Holds defers fixed s) (at : view_of s id ≡ Some v) → row_of v ≡ world.Rests
-      → row_of x ≡ world.Rests → use_of x ≡ use_of v → IsShort x → hand_of v ≡ None → hand_of x ≡ None → IsKnown s.world x → IsBounded defers fixed s.world id x
+      → row_of x ≡ world.Rests → use_of x ≡ use_of v → IsShort x → hand_of v ≡ None → hand_of x ≡ None → IsKnown defers s.world x → IsBounded defers fixed s.world id x
       → (m : Mem T) → m ≡ s.memory → (so : SlotView T → Type 0) → so x → Leads defers fixed s m id so
   aside_on s id v x h at rests still same_use short empty hand known bounded m same so is =
       users_on defers fixed s id 0 v x h at rests still same_use short m s.world Nothing (record {
@@ -82,6 +83,8 @@ module _ {T : Type 0} (defers : T → Option ℕ) (fixed : Fixed) where
         hands = λ j d x ne e q. refl;
         sole = λ j d x ne e q p. cc p;
         values = λ d its some some2. refl;
+        links = λ d apart some. (refl, refl);
+        chains = λ r is. subst (λ (x : Mem T). Chain defers x s.world.hand r) (sym same) (h.chains r is);
         held = λ a d held. held;
         over = λ a d held. refl;
         roots = subst (λ (x : Mem T). RootsNameLinked x s.world.hand) (sym same) h.roots;

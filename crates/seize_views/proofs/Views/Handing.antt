@@ -8,9 +8,9 @@ use Rattle.seize_views.specs.Views.Begun.{Hands}
 use Rattle.seize_views.specs.Views.Promises.{BorneAreHandedOn}
 use Rattle.seize_views.specs.Views.Rows.{use_of, hand_of, had_in, IsInSomeHand, Fits, IsBounded, Holds}
 use Rattle.seize_views.specs.declared.view.SlotView.{SlotView}
-use Rattle.seize_views.specs.declared.view.SlotView.TheVariants.{Rests, Registers, Outside, Owes, Enters, Inside, Settles, Leaves, Left, Frees, Brings, Bears, Watches, Under, Busy}
+use Rattle.seize_views.specs.declared.view.SlotView.TheVariants.{Rests, Registers, Outside, Owes, Enters, Inside, Settles, Leaves, Left, Frees, Brings, Bears, Watches, Under, Joins, Busy}
 use Rattle.seize_views.specs.declared.view.Has.{Has}
-use Rattle.seize_views.specs.declared.view.Has.TheVariants.{Nothing, Made, Seen, Both, Cut}
+use Rattle.seize_views.specs.declared.view.Has.TheVariants.{Nothing, Made, Seen, Both, Cut, Walks}
 use Rattle.seize_views.specs.declared.view.Fixed.{Fixed}
 use Rattle.seize_views.proofs.Views.Found.{found_at}
 use Rattle.seize_views.proofs.Views.Lists.{there, elsewhere}
@@ -20,8 +20,8 @@ module _ {T : Type 0} (defers : T → Option ℕ) (fixed : Fixed) (s : State T (
     (at_i : view_of s i ≡ Some v) (at_j : view_of s j ≡ Some u) (apart : i ≢ j) where
   -- what both know then: the same slots, and the blocks that one of them had in its hand
   pub record Meeting (p q : SlotView T) : Type 0 where
-    pub one : Fits s.world i p
-    pub other : Fits s.world j q
+    pub one : Fits defers s.world i p
+    pub other : Fits defers s.world j q
     pub one_bound : IsBounded defers fixed s.world i p
     pub other_bound : IsBounded defers fixed s.world j q
     pub one_use : use_of p ≡ use_of v
@@ -113,9 +113,9 @@ module _ {T : Type 0} (defers : T → Option ℕ) (fixed : Fixed) (s : State T (
         by (inr ne) (inl is) = inl (j, q, here, m.hands_on b (inl (is_view i v at_i is)))
         by (inr ne) (inr ne2) = inl (l, x, elsewhere (slice_set s.views i p) j l q ne ∙ elsewhere s.views i l p ne2 ∙ e, has)
 
-    fits : (k : ℕ) (x : SlotView T) → Who k x → Fits s.world k x
-    fits k x (IsOne is e) = subst (λ (n : ℕ). Fits s.world n x) (sym is) (subst (λ (y : SlotView T). Fits s.world i y) e m.one)
-    fits k x (IsOther is e) = subst (λ (n : ℕ). Fits s.world n x) (sym is) (subst (λ (y : SlotView T). Fits s.world j y) e m.other)
+    fits : (k : ℕ) (x : SlotView T) → Who k x → Fits defers s.world k x
+    fits k x (IsOne is e) = subst (λ (n : ℕ). Fits defers s.world n x) (sym is) (subst (λ (y : SlotView T). Fits defers s.world i y) e m.one)
+    fits k x (IsOther is e) = subst (λ (n : ℕ). Fits defers s.world n x) (sym is) (subst (λ (y : SlotView T). Fits defers s.world j y) e m.other)
     fits k x (IsThird ne ne2 e) = h.seats k x e
 
     bound : (k : ℕ) (x : SlotView T) → Who k x → IsBounded defers fixed s.world k x
@@ -137,8 +137,9 @@ module _ {T : Type 0} (defers : T → Option ℕ) (fixed : Fixed) (s : State T (
       sole = λ k l b x y e f a c. one_hand k l b x y (who k x e) (who l y f) a c;
       roots = h.roots;
       rooted = h.rooted;
+      chains = h.chains;
       life = h.life;
-      found = λ b. found_at s.memory s.memory b (IsInSomeHand s h.life.began b) (IsInSomeHand after_meeting h.life.began b) refl (has_still b)
+      found = λ b. found_at fixed s.memory s.memory b (IsInSomeHand s h.life.began b) (IsInSomeHand after_meeting h.life.began b) refl (has_still b)
           (s.world.hand b) (h.found b);
       bounded = λ k x e. bound k x (who k x e);
     }
@@ -197,6 +198,7 @@ module _ (T : Type 0) (defers : T → Option ℕ) where
   borne_are_handed_on fixed i j b (Inside t (Made c x)) takes = absurd takes
   borne_are_handed_on fixed i j b (Inside t (Both c x a)) takes = absurd takes
   borne_are_handed_on fixed i j b (Inside t (Cut c)) takes = absurd takes
+  borne_are_handed_on fixed i j b (Inside t (Walks c next)) takes = absurd takes
   borne_are_handed_on fixed i j b Rests takes = absurd takes
   borne_are_handed_on fixed i j b (Registers c) takes = absurd takes
   borne_are_handed_on fixed i j b (Owes t c) takes = absurd takes
@@ -209,4 +211,5 @@ module _ (T : Type 0) (defers : T → Option ℕ) where
   borne_are_handed_on fixed i j b (Bears c) takes = absurd takes
   borne_are_handed_on fixed i j b (Watches t c) takes = absurd takes
   borne_are_handed_on fixed i j b (Under n t c) takes = absurd takes
+  borne_are_handed_on fixed i j b (Joins block) takes = absurd takes
   borne_are_handed_on fixed i j b (Busy t) takes = absurd takes

@@ -13,7 +13,7 @@ use Rattle.seize_acts.specs.Bounds.Bounds.{IsAloneOnSlot}
 use Rattle.seize_views.specs.Views.Rows.{row_of, use_of, hand_of, IsPlain, IsShort, IsKnown, IsBounded}
 use Rattle.seize_views.specs.declared.view.SlotView.{SlotView}
 use Rattle.seize_views.specs.declared.view.Fixed.{Fixed}
-use Rattle.seize_views.proofs.Views.Came.{reached, came_then}
+use Rattle.seize_views.proofs.Views.Came.{from_start, since_then}
 
 -- the slot that is held, if one is
 abbrev pub slot_held : Option (ℕ × Use) → Option ℕ
@@ -53,10 +53,10 @@ module _ {T : Type 0} (defers : T → Option ℕ) (fixed : Fixed) where
   CameAbout w = (roots : ℕ) × (events : List (Event T)) × Runs defers fixed.batch_size events (at_start defers roots) w
 
   pub is_reached : (w : World T) → CameAbout w → Reached defers fixed.batch_size w
-  is_reached w came = reached defers (record { batch_size = fixed.batch_size; roots = came.0 }) w (came.1, came.2)
+  is_reached w came = from_start defers fixed came.0 came.1 w came.2
 
   pub came_on : (w n : World T) (e : Event T) → CameAbout w → Happens defers fixed.batch_size e w n → CameAbout n
-  came_on w n e came step = let c = came_then defers (record { batch_size = fixed.batch_size; roots = came.0 }) w n e (came.1, came.2) step in (came.0, c.0, c.1)
+  came_on w n e came step = let c = since_then defers fixed (at_start defers came.0) w n e (came.1, came.2) step in (came.0, c.0, c.1)
 
   module _ (Is : Use → Use → Type 0) where
     -- the caller has the row under way, of which this is known, and nobody else settles on its slot
@@ -76,7 +76,7 @@ module _ {T : Type 0} (defers : T → Option ℕ) (fixed : Fixed) where
       pub used : IsUsedLike Is n (use_of u)
       pub plain : IsPlain u
       pub short : IsShort u
-      pub known : IsKnown n u
+      pub known : IsKnown defers n u
       pub bounded : IsBounded defers fixed n i u
       pub none : hand_of u ≡ None
       pub slot : (t : ℕ) (b : Use) → use_of u ≡ Some (t, b) → ((a : Use) × (use_of v ≡ Some (t, a))) ⊎ ((w.uses t ≡ Vacant) × (t < LAST_SLOT + 1))
@@ -135,7 +135,7 @@ module _ {T : Type 0} (defers : T → Option ℕ) (fixed : Fixed) where
     pub used : IsUsedLike IsJustSo n (use_of u)
     pub plain : IsPlain u
     pub short : IsShort u
-    pub known : IsKnown n u
+    pub known : IsKnown defers n u
     pub bounded : IsBounded defers fixed n i u
     pub none : hand_of u ≡ None
     pub slot : (t : ℕ) (b : Use) → use_of u ≡ Some (t, b) → (a : Use) × (use_of v ≡ Some (t, a))

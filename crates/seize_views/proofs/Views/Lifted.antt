@@ -6,6 +6,7 @@ use Rattle.seize_words.specs.OneMemory.Op.{Op, Out}
 use Rattle.seize.specs.World.{World, Use}
 use Rattle.seize_acts.specs.Acts.Waits.{SettlesOn}
 use Rattle.seize_seats.specs.Seats.State.{State, view_of}
+use Rattle.seize_views.specs.Views.Chains.{all_roots}
 use Rattle.seize_views.specs.Views.Rows.{use_of, IsUsed, Holds, Leads}
 use Rattle.seize_views.specs.declared.view.SlotView.{SlotView}
 use Rattle.seize_views.specs.declared.view.Fixed.{Fixed}
@@ -29,7 +30,7 @@ module _ {T : Type 0} (defers : T → Option ℕ) (fixed : Fixed) (s : State T (
   has_row =
       let f = h.seats id v at_id in
       record {
-        came = (fixed.roots, h.came.0, h.came.1);
+        came = (all_roots fixed, h.came.0, h.came.1);
         row = f.row;
         used = like_used s.world (use_of v) f.slot;
         short = f.short;

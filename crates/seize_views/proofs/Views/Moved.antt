@@ -1,26 +1,34 @@
 -- What a seat has done makes the rule hold again, where it has left what the other seats know.
 use Rattle.std.specs.Prelude.{◌≢◌, Option, Some, None, IsSome, length, slice_get, slice_set}
-use Rattle.std.proofs.Common.{◌≡◌, ℕ, List, ◌⊎◌, true, inl, inr, refl, sym, subst, ap, ◌∙◌}
+use Rattle.std.proofs.Common.{◌≡◌, ℕ, ◌+◌, List, ◌⊎◌, true, false, inl, inr, refl, sym, subst, ap, ◌∙◌}
 use Rattle.std.proofs.lemmas.Bool.{cases_eq}
-use Rattle.seize_words.specs.OneMemory.Mem.{Mem, value_at}
-use Rattle.seize.specs.Law.{holds, is_over}
+use Rattle.seize_words.specs.OneMemory.Mem.{Mem, value_at, word_at}
+use Rattle.seize_words.specs.declared.at.At.TheVariants.{Root}
+use Rattle.seize.specs.Law.{Effect, holds, is_over}
 use Rattle.seize.specs.World.{World, Row, Use, Hand, Vacant, Event, MayStep, IsInside, at_start}
 use Rattle.seize.specs.World as world
+use Rattle.seize.specs.declared.states.TheConstants.{LAST_SLOT}
+use Rattle.seize_acts.proofs.Given.SeizeMovesState.Ghost.{IsOwned}
+use Rattle.seize_acts.proofs.Given.SeizeMovesMoves.Blocks.{never_held}
+use Rattle.seize_acts.proofs.Given.SeizeRulePoints.Aside.{HandFits}
+use Rattle.seize_acts.proofs.Given.SeizeAloneHistories.Reached.{Reached}
 use Rattle.seize_acts.proofs.Given.SeizeRuleWorld.Kept.{rows_may}
 use Rattle.seize_acts.specs.Given.SeizeAloneAlone.{IsOfUsers}
-use Rattle.seize_acts.proofs.Given.SeizeAloneHistories.NotTaken.{IsHad, kept_there}
+use Rattle.seize_acts.proofs.Given.SeizeAloneHistories.NotTaken.{IsHad, IsHeld, kept_there}
 use Rattle.seize_seats.specs.Seats.State.{State, view_of, after}
 use Rattle.seize_acts.specs.Bounds.Bounds.{HasCounted, HasTried, IsAloneOnSlot, Meanwhile}
+use Rattle.seize_views.specs.Views.Chains.{all_roots, IsChainRoot, HasLink, HoldsAllBelow, IsLinkSeen, Chain}
 use Rattle.seize_views.specs.Views.Rows.{Leads, use_of, row_of, hand_of, had_in, settles_for, IsUsed, IsMade, IsInHand, IsKnown, RootsNameLinked, IsInSomeHand, Fits, Since, Came, IsBounded, Holds, Keeps}
 use Rattle.seize_views.specs.declared.view.SlotView.{SlotView}
-use Rattle.seize_views.specs.declared.view.SlotView.TheVariants.{Rests, Registers, Outside, Owes, Enters, Inside, Settles, Leaves, Left, Frees, Brings, Bears, Watches, Under, Busy}
+use Rattle.seize_views.specs.declared.view.SlotView.TheVariants.{Rests, Registers, Outside, Owes, Enters, Inside, Settles, Leaves, Left, Frees, Brings, Bears, Watches, Under, Joins, Busy}
 use Rattle.seize_views.specs.declared.view.Has.{Has}
-use Rattle.seize_views.specs.declared.view.Has.TheVariants.{Nothing, Made, Seen, Both, Cut}
+use Rattle.seize_views.specs.declared.view.Has.TheVariants.{Nothing, Made, Seen, Both, Cut, Walks}
 use Rattle.seize_views.specs.declared.view.Why.TheVariants.{Retiring, Ending}
 use Rattle.seize_views.specs.declared.view.Becomes.TheVariants.{Idle, Active}
 use Rattle.seize_views.specs.declared.view.Fixed.{Fixed}
 use Rattle.seize_views.proofs.Views.Aside.{alone_on_slot}
 use Rattle.seize_views.proofs.Views.Came.{of_users, reached, since_both}
+use Rattle.seize_views.proofs.Views.Chains.{SameLink, chain_kept, all_below_kept, link_seen_kept, links_kept}
 use Rattle.seize_views.proofs.Views.Found.{HasNow, AreFound, found_at, some_has}
 use Rattle.seize_acts.proofs.Bounds.Bounds.Passing.{still_within}
 use Rattle.seize_views.proofs.Views.Lists.{there, elsewhere}
@@ -50,6 +58,7 @@ not_vacant {T} x t a e v = by x e
     by (Brings b y) f = cc f
     by (Bears b) f = cc f
     by (Watches s b) f = cc f
+    by (Joins block) f = cc f
     by (Under n s b) f = cc f
     by (Busy None) f = cc f
     by (Busy (Some s)) f = let k = so (s, world.Inside 0) (t, a) f in cc (k, v)
@@ -66,16 +75,18 @@ module _ {T : Type 0} where
   still_used w n None is same = tt
   still_used w n (Some slot) is same = same slot.0 slot.1 refl ∙ is
 
+module _ {T : Type 0} (defers : T → Option ℕ) where
   -- what is in a seat's hand is such a one
 
-  had_users : (w : World T) (t : ℕ) (has : Has T) (b : ℕ) → IsInHand w t has → had_in has ≡ Some b → IsAside (w.hand b)
+  had_users : (w : World T) (t : ℕ) (has : Has T) (b : ℕ) → IsInHand defers w t has → had_in has ≡ Some b → IsAside (w.hand b)
   had_users w t (Made c x) b is e = subst IsAside (sym (ap w.hand (sym (same_some c b e)) ∙ is.0.1)) (tt, λ r q. cc q)
   had_users w t (Both c x a) b is e = subst IsAside (sym (ap w.hand (sym (same_some c b e)) ∙ is.0.0.1)) (tt, λ r q. cc q)
   had_users w t (Cut c) b is e = subst IsAside (sym (ap w.hand (sym (same_some c b e)) ∙ is.1)) (tt, λ r q. cc q)
   had_users w t Nothing b is e = absurd (cc e)
   had_users w t (Seen a) b is e = absurd (cc e)
+  had_users w t (Walks a next) b is e = absurd (cc e)
 
-  pub hand_users : (w : World T) (v : SlotView T) (b : ℕ) → IsKnown w v → hand_of v ≡ Some b → IsAside (w.hand b)
+  pub hand_users : (w : World T) (v : SlotView T) (b : ℕ) → IsKnown defers w v → hand_of v ≡ Some b → IsAside (w.hand b)
   hand_users w (Owes t c) b is e = had_users w t (Cut c) b is e
   hand_users w (Inside t has) b is e = had_users w t has b is e
   hand_users w (Brings c x) b is e = had_users w 0 (Made c x) b is e
@@ -90,11 +101,23 @@ module _ {T : Type 0} where
   hand_users w (Frees t) b is e = absurd (cc e)
   hand_users w (Watches t c) b is e = absurd (cc e)
   hand_users w (Under n t c) b is e = absurd (cc e)
+  hand_users w (Joins None) b is e = absurd (cc e)
+  hand_users w (Joins (Some made)) b is e = had_users w 0 (Made made.0 made.1) b is.0 e
   hand_users w (Busy t) b is e = absurd is
 
+module _ {T : Type 0} where
   -- a seat is within the section of its slot
   pub inside_of : (w : World T) (t : ℕ) (has : Has T) → IsUsed w (use_of {T = T} (Inside t has)) → IsInside (w.uses t)
   inside_of w t has is = subst (λ (a : Use). IsInside a) (sym is) tt
+
+module _ {T : Type 0} where
+  -- a block that its maker has no section holds
+  pub making_not_held : (defers : T → Option ℕ) (size : ℕ) (w : World T) (r : Reached defers size w) (id a b c : ℕ) → holds a c w.log ≡ true
+      → w.hand b ≡ world.Making id → c ≡ b → ⊥
+  making_not_held defers size w r id a b c held mine e =
+      let life : r.good.state.life b ≡ IsOwned id = subst (λ (k : Hand). HandFits k (r.good.state.life b)) mine (r.good.hands b) in
+      let none = never_held (LAST_SLOT + 1) id r.good.state b r.good.inv life a in
+      cc (subst (λ (l : List Effect). holds a b l ≡ false) r.good.logged none, subst (λ (k : ℕ). holds a k w.log ≡ true) e held)
 
 module _ {T : Type 0} (defers : T → Option ℕ) (fixed : Fixed) (s : State T (SlotView T) (World T)) (id : ℕ) where
   -- what the others have in their hands they have still
@@ -115,28 +138,54 @@ module _ {T : Type 0} (defers : T → Option ℕ) (fixed : Fixed) (s : State T (
   abbrev pub IsOthers : ℕ → Type 0
   IsOthers b = ((j : ℕ) × (x : SlotView T) × (j ≢ id) × (view_of s j ≡ Some x) × (hand_of x ≡ Some b)) ⊎ (s.world.hand b ≡ world.Handed)
 
+  -- it is a block with a link that is not aside, or another seat has made it
+  abbrev pub IsApart : ℕ → Type 0
+  IsApart b =
+      (HasLink defers s.world.memory b × ((h : ℕ) → s.world.hand b ≡ world.Making h → ⊥))
+      ⊎ (((j : ℕ) × (x : SlotView T) × (j ≢ id) × (view_of s j ≡ Some x) × (hand_of x ≡ Some b)) × ((h : ℕ) × (s.world.hand b ≡ world.Making h)))
+
+  -- such a one has the link that it had
+  abbrev pub LinksStay : World T → Type 0
+  LinksStay n = (b : ℕ) → IsApart b → IsSome (value_at n.memory b) → SameLink s.world.memory n.memory b
+
   -- The seat has come to this view, this memory and this world, and the others know what they knew. The present lifetime began with that world.
   pub record Moved (began : World T) (u : SlotView T) (m : Mem T) (n : World T) : Type 0 where
     pub since : Since defers fixed s.world n
     pub memory : m ≡ n.memory
     pub rows : (j : ℕ) → j ≢ id → n.row j ≡ s.world.row j
-    pub own : Fits n id u
+    pub own : Fits defers n id u
     pub others : (j : ℕ) (x : SlotView T) → j ≢ id → view_of s j ≡ Some x → IsUsed n (use_of x)
     pub alone : (j t : ℕ) (x : SlotView T) (a b : Use) → j ≢ id → view_of s j ≡ Some x → use_of x ≡ Some (t, a) → use_of u ≡ Some (t, b) → ⊥
     pub hands : StillHave n
     pub sole : IsSole (hand_of u)
     pub values : (b : ℕ) → IsOthers b → IsSome (value_at s.world.memory b) → IsSome (value_at n.memory b) → value_at n.memory b ≡ value_at s.world.memory b
+    pub links : LinksStay n
     pub held : (t b : ℕ) → IsInside (s.world.uses t) → holds t b s.world.log ≡ true → holds t b n.log ≡ true
     pub over : (t b : ℕ) → holds t b s.world.log ≡ true → is_over b n.log ≡ is_over b s.world.log
     pub roots : RootsNameLinked m n.hand
-    pub rooted : length m.roots ≡ fixed.roots
-    pub found : AreFound s id began (hand_of u) m n.hand
+    pub rooted : length m.roots ≡ all_roots fixed
+    pub chains : (r : ℕ) → IsChainRoot fixed r → Chain defers m n.hand r
+    pub found : AreFound s id began fixed (hand_of u) m n.hand
     pub passes : Passes n
     pub bounded : IsBounded defers fixed n id u
 
+  -- each chain stays where links do, its root names what it named, and who is linked there is linked there
+  pub chains_stay : Holds defers fixed s → (m : Mem T) (n : World T) → m ≡ n.memory → Since defers fixed s.world n → LinksStay n
+      → ((r : ℕ) → IsChainRoot fixed r → word_at m (Root r) ≡ word_at s.memory (Root r))
+      → ((b r : ℕ) → IsChainRoot fixed r → s.world.hand b ≡ world.InUse r → n.hand b ≡ world.InUse r)
+      → ((b r : ℕ) → IsChainRoot fixed r → n.hand b ≡ world.InUse r → s.world.hand b ≡ world.InUse r) → (r : ℕ) → IsChainRoot fixed r → Chain defers m n.hand r
+  chains_stay h m n memory since links root on back r is =
+      let came = since_both defers fixed (at_start defers (all_roots fixed)) s.world n h.came since in
+      let same : (b : ℕ) → s.world.hand b ≡ world.InUse r → HasLink defers s.memory b → SameLink s.memory m b =
+      (λ b linked has.
+      let there = kept_there defers fixed.batch_size n (reached defers fixed n came) b (IsHad (of_users n.hand b (world.InUse r) tt (on b r is linked))) in
+      let k = links b (inl (subst (λ (x : Mem T). HasLink defers x b) h.memory has, λ i making. let e = sym linked ∙ making in cc e)) there in
+      subst (λ (x : Mem T). SameLink x m b) (sym h.memory) (subst (λ (x : Mem T). SameLink s.world.memory x b) (sym memory) k)) in
+      chain_kept defers s.memory m s.world.hand n.hand r (root r is) (λ b e. on b r is e) (λ b e. back b r is e) same (h.chains r is)
+
   module _ (v u : SlotView T) (m : Mem T) (n : World T) (so : SlotView T → Type 0) (h : Holds defers fixed s) (at : view_of s id ≡ Some v) (mo : Moved h.life.began u m n) where
     came_now : Came defers fixed n
-    came_now = since_both defers fixed (at_start defers fixed.roots) s.world n h.came mo.since
+    came_now = since_both defers fixed (at_start defers (all_roots fixed)) s.world n h.came mo.since
 
     -- a block that another one has made is there, with its value
     made : (b : ℕ) (x : T) → IsOthers b → n.hand b ≡ s.world.hand b → IsMade s.world b x → IsMade n b x
@@ -145,7 +194,7 @@ module _ {T : Type 0} (defers : T → Option ℕ) (fixed : Fixed) (s : State T (
         let there = kept_there defers fixed.batch_size n (reached defers fixed n came_now) b (IsHad (of_users n.hand b (world.Making is.0.0) tt mine)) in
         ((is.0.0, mine), mo.values b its (subst IsSome (sym is.1) refl) there ∙ is.1)
 
-    known : (j : ℕ) (x : SlotView T) → j ≢ id → view_of s j ≡ Some x → n.row j ≡ row_of x → Fits s.world j x → IsKnown n x
+    known : (j : ℕ) (x : SlotView T) → j ≢ id → view_of s j ≡ Some x → n.row j ≡ row_of x → Fits defers s.world j x → IsKnown defers n x
     known j (Inside t Nothing) ne e row f = tt
     known j (Inside t (Made b x)) ne e row f =
         made b x (inl (j, Inside t (Made b x), ne, e, refl)) (mo.hands j b (Inside t (Made b x)) ne e refl) f.known
@@ -155,10 +204,18 @@ module _ {T : Type 0} (defers : T → Option ℕ) (fixed : Fixed) (s : State T (
       mo.held t a (inside_of s.world t (Both b x a) f.slot) f.known.1,
     )
     known j (Inside t (Cut b)) ne e row f = (f.known.0, mo.hands j b (Inside t (Cut b)) ne e refl ∙ f.known.1)
+    known j (Inside t (Walks b next)) ne e row f =
+        let inside = inside_of s.world t (Walks b next) f.slot in
+        let held : (c : ℕ) → holds t c s.world.log ≡ true → holds t c n.log ≡ true = (λ c is. mo.held t c inside is) in
+        let r = reached defers fixed s.world h.came in
+        let same : (c : ℕ) → holds t c s.world.log ≡ true → HasLink defers s.world.memory c → SameLink s.world.memory n.memory c =
+        (λ c is has. mo.links c (inl (has, λ i making. making_not_held defers fixed.batch_size s.world r i t c c is making refl))
+        (kept_there defers fixed.batch_size n (reached defers fixed n came_now) c (IsHeld t (held c is)))) in
+        (all_below_kept defers s.world n t same held b f.known.0, link_seen_kept defers s.world n t same held b next f.known.0 f.known.1)
     known j (Settles c why None left) ne e row f = tt
     known j (Settles c why (Some seen) left) ne e row f =
         let may : MayStep defers (settles_for why c) n.memory =
-        subst (λ (r : Row). MayStep defers r n.memory) row (rows_may defers fixed.batch_size fixed.roots came_now.0 n came_now.1 j) in
+        subst (λ (r : Row). MayStep defers r n.memory) row (rows_may defers fixed.batch_size (all_roots fixed) came_now.0 n came_now.1 j) in
         let some : IsSome (value_at n.memory seen.0) =
         subst (λ (b : ℕ). IsSome (value_at n.memory b)) (sym f.known.1) (reclaiming_there defers c why n.memory may f.known.0) in
         let handed : s.world.hand seen.0 ≡ world.Handed =
@@ -176,6 +233,11 @@ module _ {T : Type 0} (defers : T → Option ℕ) (fixed : Fixed) (s : State T (
     known j (Bears b) ne e row f = (f.known.0, mo.hands j b (Bears b) ne e refl ∙ f.known.1)
     known j (Watches t b) ne e row f = tt
     known j (Under n t b) ne e row f = tt
+    known j (Joins None) ne e row f = tt
+    known j (Joins (Some (b, x, a))) ne e row f =
+        let its : (k : ℕ) × (y : SlotView T) × (k ≢ id) × (view_of s k ≡ Some y) × (hand_of y ≡ Some b) = (j, Joins (Some (b, x, a)), ne, e, refl) in
+        let is = made b x (inl its) (mo.hands j b (Joins (Some (b, x, a))) ne e refl) f.known.0 in
+        (is, links_kept s.world.memory n.memory b a (mo.links b (inr (its, f.known.0.0)) (subst IsSome (sym is.1) refl)) f.known.1, f.known.2)
     known j (Busy t) ne e row f = f.known
 
     bound : (j : ℕ) (x : SlotView T) → j ≢ id → IsAloneOnSlot j n → IsBounded defers fixed s.world j x → IsBounded defers fixed n j x
@@ -198,6 +260,7 @@ module _ {T : Type 0} (defers : T → Option ℕ) (fixed : Fixed) (s : State T (
     bound j (Bears d) ne after b = tt
     bound j (Watches t d) ne after b = tt
     bound j (Under n t d) ne after b = tt
+    bound j (Joins block) ne after b = tt
     bound j (Busy t) ne after b = tt
 
     pub moved : so u → Leads defers fixed s m id so
@@ -213,13 +276,14 @@ module _ {T : Type 0} (defers : T → Option ℕ) (fixed : Fixed) (s : State T (
         sole = λ j k b x y e f p q. one j k b x y e f p q (cases_eq j id) (cases_eq k id);
         roots = mo.roots;
         rooted = mo.rooted;
+        chains = mo.chains;
         life = record {
           began = h.life.began;
           past = h.life.past;
           idle = h.life.idle;
           since = since_both defers fixed h.life.began s.world n h.life.since mo.since;
         };
-        found = λ b. found_at m m b (HasNow s id h.life.began (hand_of u) b) (IsInSomeHand (after s m id u n) h.life.began b) refl
+        found = λ b. found_at fixed m m b (HasNow s id h.life.began (hand_of u) b) (IsInSomeHand (after s m id u n) h.life.began b) refl
             (some_has s id h.life.began v u at m n b) (n.hand b) (mo.found b);
         bounded = λ j x e. bound_at j x e (cases_eq j id);
       },
@@ -237,9 +301,9 @@ module _ {T : Type 0} (defers : T → Option ℕ) (fixed : Fixed) (s : State T (
         before : (j : ℕ) (x : SlotView T) → j ≢ id → slice_get (slice_set s.views id u) j ≡ Some x → view_of s j ≡ Some x
         before j x ne e = sym (elsewhere s.views id j u ne) ∙ e
 
-        fit : (j : ℕ) (x : SlotView T) → slice_get (slice_set s.views id u) j ≡ Some x → (j ≡ id) ⊎ (j ≢ id) → Fits n j x
+        fit : (j : ℕ) (x : SlotView T) → slice_get (slice_set s.views id u) j ≡ Some x → (j ≡ id) ⊎ (j ≢ id) → Fits defers n j x
         fit j x e (inl same) =
-            subst (λ (y : SlotView T). Fits n j y) (own j x same e) (subst (λ (k : ℕ). Fits n k u) (sym same) mo.own)
+            subst (λ (y : SlotView T). Fits defers n j y) (own j x same e) (subst (λ (k : ℕ). Fits defers n k u) (sym same) mo.own)
         fit j x e (inr ne) =
             let f = h.seats j x (before j x ne e) in
             let row = mo.rows j ne ∙ f.row in

@@ -9,6 +9,7 @@ use Rattle.seize.specs.World.{World}
 use Rattle.seize_seats.specs.Seats.Errands.{TurnsUnlent}
 use Rattle.seize_seats.specs.Seats.State.{State, view_of, Starts, Comes, Allows, Goes}
 use Rattle.seize_seats.specs.Seats.Lendings.{VisibleTo, IsValueOf}
+use Rattle.seize_views.specs.Views.Chains.{all_roots}
 use Rattle.seize_views.specs.Views.Rows.{Leads, TurnsTo, Permits, Holds}
 use Rattle.seize_views.specs.Views.Notes.{noted, newcomer, as_known, deed, NotedHolds, NotedKeeps, noted_observed, StartsAreNoted, ComingsAreNoted, StepsAreNoted, TurnsAreNoted, SettlingsAreNoted, MeetingsAreNoted, LooksAreNoted}
 use Rattle.seize_views.specs.Views.Promises.{IsToSettle, IsTaker}
@@ -27,8 +28,8 @@ use Rattle.seize_views.specs.declared.view.Noted.{Noted}
 use Rattle.seize_views.specs.declared.view.Deed.{Deed}
 use Rattle.seize_views.specs.declared.view.Began.{Began}
 use Rattle.seize_views.specs.declared.view.SlotView.{SlotView}
-use Rattle.seize_views.specs.declared.view.SlotView.TheVariants.{Rests, Registers, Outside, Owes, Enters, Inside, Settles, Leaves, Left, Frees, Brings, Bears, Watches, Under, Busy}
-use Rattle.seize_views.specs.declared.view.Has.TheVariants.{Nothing, Made, Seen, Both, Cut}
+use Rattle.seize_views.specs.declared.view.SlotView.TheVariants.{Rests, Registers, Outside, Owes, Enters, Inside, Settles, Leaves, Left, Frees, Brings, Bears, Watches, Under, Joins, Busy}
+use Rattle.seize_views.specs.declared.view.Has.TheVariants.{Nothing, Made, Seen, Both, Cut, Walks}
 use Rattle.seize_views.specs.declared.view.Becomes.{Becomes}
 use Rattle.seize_views.specs.declared.view.Becomes.TheVariants.{Idle, Active}
 use Rattle.seize_views.specs.declared.view.Fixed.{Fixed}
@@ -148,6 +149,7 @@ handed fixed b (Inside t (Seen a)) p q takes is = (ap open_at is.1, tt, subst Is
 handed fixed b (Inside t (Made c x)) p q takes is = absurd takes
 handed fixed b (Inside t (Both c x a)) p q takes is = absurd takes
 handed fixed b (Inside t (Cut c)) p q takes is = absurd takes
+handed fixed b (Inside t (Walks c next)) p q takes is = absurd takes
 handed fixed b Rests p q takes is = absurd takes
 handed fixed b (Registers c) p q takes is = absurd takes
 handed fixed b (Owes t c) p q takes is = absurd takes
@@ -160,6 +162,7 @@ handed fixed b (Brings c x) p q takes is = absurd takes
 handed fixed b (Bears c) p q takes is = absurd takes
 handed fixed b (Watches t c) p q takes is = absurd takes
 handed fixed b (Under n t c) p q takes is = absurd takes
+handed fixed b (Joins block) p q takes is = absurd takes
 handed fixed b (Busy t) p q takes is = absurd takes
 
 -- a settling begins where no section ends
@@ -172,6 +175,7 @@ settles_open fixed (Owes t b) u Idle c to is = (tt, subst IsOwn (sym is.1) tt, a
 settles_open fixed (Outside t) u Idle c to is = (tt, subst IsOwn (sym is.1) tt, ap open_at is.1)
 settles_open fixed (Inside t (Made b x)) u way c to is = absurd to
 settles_open fixed (Inside t (Both b x a)) u way c to is = absurd to
+settles_open fixed (Inside t (Walks b next)) u way c to is = absurd to
 settles_open fixed (Inside t (Cut b)) u Idle c to is = absurd to
 settles_open fixed (Inside t Nothing) u Idle c to is = absurd to
 settles_open fixed (Inside t (Seen b)) u Idle c to is = absurd to
@@ -188,6 +192,7 @@ settles_open fixed (Brings b x) u way c to is = absurd to
 settles_open fixed (Bears b) u way c to is = absurd to
 settles_open fixed (Watches t b) u way c to is = absurd to
 settles_open fixed (Under n t b) u way c to is = absurd to
+settles_open fixed (Joins block) u way c to is = absurd to
 settles_open fixed (Busy t) u way c to is = absurd to
 
 module _ (T : Type 0) (defers : T → Option ℕ) where
@@ -205,7 +210,7 @@ module _ (T : Type 0) (defers : T → Option ℕ) where
     ),
   )
 
-  pub rules_start : (fixed : Fixed) → Starts (NotedHolds defers fixed) fixed.roots
+  pub rules_start : (fixed : Fixed) → Starts (NotedHolds defers fixed) (all_roots fixed)
   rules_start fixed = starts_are_noted fixed (beginnings.rules_start T defers fixed)
 
   pub comings_are_noted : ComingsAreNoted T defers

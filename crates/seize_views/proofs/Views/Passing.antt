@@ -27,7 +27,7 @@ use Rattle.seize_views.proofs.Views.Notes.{seen_at, goes}
 use Rattle.seize_views.proofs.Views.Roots.{root_held, marked, marked_named, marked_found}
 use Rattle.seize_views.proofs.Views.Users.{users_on}
 use Rattle.seize_views.proofs.Views.Watched.{open_inside}
-use Rattle.seize_views.proofs.Views.Written.{rooted_still, root_can}
+use Rattle.seize_views.proofs.Views.Written.{rooted_still, links_stay, chains_still, root_can}
 use Rattle.seize_words.proofs.General.{same_some}
 
 module _ {T : Type 0} where
@@ -76,9 +76,9 @@ module _ {T : Type 0} (defers : T → Option ℕ) (fixed : Fixed) where
   sees s id n t b r h at (Roomed x) m took = absurd took.0
 
   -- its word is marked, and what that names is seen
-  marks : (s : State T (SlotView T) (World T)) (id n t b r bits : ℕ) → bits < 2 ^ 11 → (h : Holds defers fixed s) (at : view_of s id ≡ Some (Under n t b)) (out : Out T) (m : Mem T)
+  marks : (s : State T (SlotView T) (World T)) (id n t b r bits : ℕ) → r < fixed.roots → bits < 2 ^ 11 → (h : Holds defers fixed s) (at : view_of s id ≡ Some (Under n t b)) (out : Out T) (m : Mem T)
       → Took s.memory (Or (Root r) bits) out m → Leads defers fixed s m id (told defers (Under n t b) (Or (Root r) bits) out)
-  marks s id n t b r bits small h at (Found word) m took =
+  marks s id n t b r bits plain small h at (Found word) m took =
       let v : SlotView T = Under n t b in let over = marked defers fixed s id v h at r bits word m small took in
       users_on defers fixed s id 0 v (Under n t (block_in word)) h at refl refl refl tt m (record s.world { memory = m }) Nothing (record {
         since = over.since;
@@ -89,17 +89,19 @@ module _ {T : Type 0} (defers : T → Option ℕ) (fixed : Fixed) where
         hands = λ j c x ne e q. refl;
         sole = λ j c x ne e q p. cc p;
         values = λ c its some some2. over.values c;
+        links = links_stay defers fixed s id v h at r (bit_or word bits) word m over;
+        chains = chains_still defers fixed s id v h at r (bit_or word bits) word m plain over;
         held = λ a c held. held;
         over = λ a c held. refl;
         roots = marked_named defers fixed s id v h at r bits word m small took;
         rooted = rooted_still defers fixed s id v h at r (bit_or word bits) word m over;
         passes = over.passes;
       }) (λ c. marked_found defers fixed s id v h at r bits word m small took None c (λ e. absurd (cc e))) refl tt tt (told defers v (Or (Root r) bits) (Found word)) refl
-  marks s id n t b r bits small h at Stored m took = absurd took.0
-  marks s id n t b r bits small h at (Exchanged x) m took = absurd took.0
-  marks s id n t b r bits small h at (OutMade x) m took = absurd took.0
-  marks s id n t b r bits small h at (Taken x) m took = absurd took.0
-  marks s id n t b r bits small h at (Roomed x) m took = absurd took.0
+  marks s id n t b r bits plain small h at Stored m took = absurd took.0
+  marks s id n t b r bits plain small h at (Exchanged x) m took = absurd took.0
+  marks s id n t b r bits plain small h at (OutMade x) m took = absurd took.0
+  marks s id n t b r bits plain small h at (Taken x) m took = absurd took.0
+  marks s id n t b r bits plain small h at (Roomed x) m took = absurd took.0
 
   -- an operation at a root by which a seat that leans sees what that names
   record Sees (id n t b r : ℕ) (op : Op T) : Type 0 where
@@ -121,8 +123,8 @@ module _ {T : Type 0} (defers : T → Option ℕ) (fixed : Fixed) where
       tells m m2 (Taken y) took u is = absurd is
       tells m m2 (Roomed y) took u is = absurd is
 
-  by_or : (id n t b r bits : ℕ) → bits < 2 ^ 11 → Sees id n t b r (Or (Root r) bits)
-  by_or id n t b r bits small = record { can = λ m some. some; leads = λ s h at out m took. marks s id n t b r bits small h at out m took; tells = λ m m2 out took u is. tells m m2 out took u is }
+  by_or : (id n t b r bits : ℕ) → r < fixed.roots → bits < 2 ^ 11 → Sees id n t b r (Or (Root r) bits)
+  by_or id n t b r bits plain small = record { can = λ m some. some; leads = λ s h at out m took. marks s id n t b r bits plain small h at out m took; tells = λ m m2 out took u is. tells m m2 out took u is }
     where
       tells : (m m2 : Mem T) (out : Out T) → Took m (Or (Root r) bits) out m2 → (u : SlotView T) → told defers (Under n t b) (Or (Root r) bits) out u
           → (word : ℕ) × (word_at m (Root r) ≡ Some word) × (u ≡ Under n t (block_in word))
@@ -223,7 +225,7 @@ module _ (T : Type 0) (defers : T → Option ℕ) where
   leanings_mark fixed id n t b r bits v is small lt =
       subst (λ (x : SlotView T). Allows (NotedHolds defers fixed) NotedKeeps id (noted x v.did v.began v.guards) (Or (Root r) bits)
       (noted_observed defers (noted x v.did v.began v.guards) (Or (Root r) bits))) (sym is)
-      (may_see defers fixed id n t b r (Or (Root r) bits) (by_or defers fixed id n t b r bits small) v.did v.began v.guards lt)
+      (may_see defers fixed id n t b r (Or (Root r) bits) (by_or defers fixed id n t b r bits lt small) v.did v.began v.guards lt)
 
   pub leanings_end : LeaningsEnd T defers
   leanings_end fixed id n t b v is s h at = ends defers fixed id n t b v is s h at

@@ -88,7 +88,7 @@ module _ {T : Type 0} (defers : T → Option ℕ) (fixed : Fixed) (Is : Use → 
   plain d (progress.Done t) = tt
   plain d (progress.Refused fault) = tt
 
-  known : (v : World T) (d : Register) (o : Advance ℕ) → IsKnown {T = T} v (left_by (d, o))
+  known : (v : World T) (d : Register) (o : Advance ℕ) → IsKnown defers v (left_by (d, o))
   known v d progress.Goes = tt
   known v d progress.Waits = tt
   known v d (progress.Done t) = tt

@@ -19,19 +19,21 @@ use Rattle.seize_acts.proofs.Given.SeizeRuleRows.Others.{with_here, with_other}
 use Rattle.seize_acts.proofs.Given.SeizeRuleRows.Teams.{UseFits}
 use Rattle.seize_acts.proofs.Given.SeizeAloneHistories.Reached.{Reached}
 use Rattle.seize_seats.specs.Seats.State.{State, view_of}
+use Rattle.seize_views.specs.Views.Chains.{Chain}
 use Rattle.seize_views.specs.Views.Rows.{Leads, TurnsTo, had_in, hand_of, IsMade, IsInHand, RootsNameLinked, Holds}
 use Rattle.seize_views.specs.Views.Told.{seen_in, cut_in, made_beside, alone_with, told}
 use Rattle.seize_views.specs.Views.Promises.{MadeAreLinked, MadeAreExchanged, OwnAreLinked, OwnAreExchanged, RootsAreSeen, RootsAreMarked, RootsAreCleared, RootsAreWithdrawn}
 use Rattle.seize_views.specs.declared.view.SlotView.{SlotView}
 use Rattle.seize_views.specs.declared.view.SlotView.TheVariants.{Outside, Owes, Inside, Brings}
 use Rattle.seize_views.specs.declared.view.Has.{Has}
-use Rattle.seize_views.specs.declared.view.Has.TheVariants.{Nothing, Made, Seen, Both, Cut}
+use Rattle.seize_views.specs.declared.view.Has.TheVariants.{Nothing, Made, Seen, Both, Cut, Walks}
 use Rattle.seize_views.specs.declared.view.Fixed.{Fixed}
 use Rattle.seize_views.proofs.Views.Came.{reached, since_then}
+use Rattle.seize_views.proofs.Views.Chains.{chain_kept, linked_beside, linked_back, not_chain}
 use Rattle.seize_views.proofs.Views.Found.{found_on, linked_some}
-use Rattle.seize_views.proofs.Views.Moved.{inside_of}
-use Rattle.seize_views.proofs.Views.Users.{use_making, making_use, beside, making_not_held, passes_then, Carries, within, alone_carries, users, users_outside, users_owe}
-use Rattle.seize_views.proofs.Views.Written.{Wrote, Cuts, wrote, rooted_still, roots_now, written, FoundIn, found_but, fresh, root_can, unlinked, clears}
+use Rattle.seize_views.proofs.Views.Moved.{inside_of, making_not_held}
+use Rattle.seize_views.proofs.Views.Users.{use_making, making_use, same_use, beside, passes_then, Carries, within, alone_carries, users, users_outside, users_owe}
+use Rattle.seize_views.proofs.Views.Written.{Wrote, Cuts, wrote, rooted_still, roots_now, written, links_stay, chains_still, FoundIn, found_but, fresh, root_can, unlinked, clears}
 use Rattle.seize_words.proofs.General.{same_some}
 
 -- bits of the tag leave the block of a word as it is
@@ -59,7 +61,7 @@ module _ {T : Type 0} (defers : T → Option ℕ) (fixed : Fixed) (s : State T (
       by world.Changing is f = absurd is
       by world.Vacant is f = absurd is
 
-  linked_held : (b a : ℕ) → here.hand b ≡ world.InUse a → holds t b here.log ≡ true
+  pub linked_held : (b a : ℕ) → here.hand b ≡ world.InUse a → holds t b here.log ≡ true
   linked_held b a is =
       let life : sound.good.state.life b ≡ IsLinked = subst (λ (k : Hand). HandFits k (sound.good.state.life b)) is (sound.good.hands b) in
       let reach : reachable b here.log ≡ true =
@@ -75,19 +77,19 @@ module _ {T : Type 0} (defers : T → Option ℕ) (fixed : Fixed) (s : State T (
   ]
 
   seen_known : (a word : ℕ) → word_at s.memory (Root a) ≡ Some word → (y : Bool) → (block_in word == 0) ≡ y
-      → IsInHand here t (if y then Nothing else Seen (block_in word))
+      → IsInHand defers here t (if y then Nothing else Seen (block_in word))
   seen_known a word e true is = tt
   seen_known a word e false is = root_held a word e is
 
   -- where its word was written over, too
   marked_known : (a word : ℕ) (m : Mem T) → word_at s.memory (Root a) ≡ Some word → (y : Bool) → (block_in word == 0) ≡ y
-      → IsInHand (record here { memory = m }) t (if y then Nothing else Seen (block_in word))
+      → IsInHand defers (record here { memory = m }) t (if y then Nothing else Seen (block_in word))
   marked_known a word m e true is = tt
   marked_known a word m e false is = root_held a word e is
 
   -- and is known beside a block that was made
   beside_known : (b : ℕ) (x : T) (a word : ℕ) → IsMade here b x → word_at s.memory (Root a) ≡ Some word → (y : Bool) → (block_in word == 0) ≡ y
-      → IsInHand here t (if y then Made b x else Both b x (block_in word))
+      → IsInHand defers here t (if y then Made b x else Both b x (block_in word))
   beside_known b x a word made e true is = made
   beside_known b x a word made e false is = (made, root_held a word e is)
 
@@ -124,7 +126,7 @@ module _ {T : Type 0} (defers : T → Option ℕ) (fixed : Fixed) (s : State T (
       by (inl f) = f
       by (inr is) =
           subst (λ (k : Hand). FoundIn defers fixed s id v h at m o b k) (sym is.1)
-          (marked_word, written defers fixed s id v h at a marked_word word m marked, marked_block word bits small ∙ is.0)
+          (inl (marked_word, written defers fixed s id v h at a marked_word word m marked, marked_block word bits small ∙ is.0))
 
 module _ {T : Type 0} (defers : T → Option ℕ) (fixed : Fixed) (s : State T (SlotView T) (World T)) (id t : ℕ) (place : Has T → SlotView T) (carries : Carries t place)
     (had : Has T) (h : Holds defers fixed s) (at : view_of s id ≡ Some (place had)) where
@@ -138,7 +140,7 @@ module _ {T : Type 0} (defers : T → Option ℕ) (fixed : Fixed) (s : State T (
   IsFoundIn m o b k = FoundIn defers fixed s id (place had) h at m o b k
 
   -- what is known of blocks changes, and nothing else
-  looks : (m : Mem T) (has : Has T) → m ≡ s.memory → IsInHand w t has → had_in has ≡ had_in had → (so : SlotView T → Type 0) → so (place has)
+  pub looks : (m : Mem T) (has : Has T) → m ≡ s.memory → IsInHand defers w t has → had_in has ≡ had_in had → (so : SlotView T → Type 0) → so (place has)
       → Leads defers fixed s m id so
   looks m has same known still so is =
       users defers fixed s id t h place carries had at m w has (record {
@@ -150,10 +152,12 @@ module _ {T : Type 0} (defers : T → Option ℕ) (fixed : Fixed) (s : State T (
         hands = λ j c x ne e q. refl;
         sole = λ j c x ne e q p. ne (h.sole j id c x (place had) e at q (carries.hand had ∙ sym still ∙ p));
         values = λ c its some some2. refl;
+        links = λ b apart some. (refl, refl);
         held = λ b c held. held;
         over = λ a c held. refl;
         roots = subst (λ (x : Mem T). RootsNameLinked x w.hand) (sym same) h.roots;
         rooted = ap (λ (x : Mem T). length x.roots) same ∙ h.rooted;
+        chains = λ r is. subst (λ (x : Mem T). Chain defers x w.hand r) (sym same) (h.chains r is);
         passes = λ j ne was now. ([], refl);
       }) (λ b. found_on defers fixed s id (place had) h at (had_in has) m (ap (λ (x : Mem T). x.roots) same) b (λ mine. still ∙ sym (carries.hand had) ∙ mine)) so is
 
@@ -169,8 +173,8 @@ module _ {T : Type 0} (defers : T → Option ℕ) (fixed : Fixed) (s : State T (
 
   -- the block that was made is put at a root, by a word that links to it
   links : (b a i word : ℕ) → block_in word ≡ b → w.hand b ≡ world.Making i → had_in had ≡ Some b → (old : ℕ) (m : Mem T)
-      → Wrote defers fixed s id a word old m → (so : SlotView T → Type 0) → so (place (cut_in old)) → Leads defers fixed s m id so
-  links b a i word names mine had_it old m wrote so tells =
+      → a < fixed.roots → Wrote defers fixed s id a word old m → (so : SlotView T → Type 0) → so (place (cut_in old)) → Leads defers fixed s m id so
+  links b a i word names mine had_it old m plain wrote so tells =
       let n : World T = with_effect (with_hand (record w { memory = m }) b (world.InUse a)) (Linked b a) in
       let other : (c : ℕ) (k : Hand) → (k ≡ world.Making i → ⊥) → w.hand c ≡ k → n.hand c ≡ k =
       (λ c k ne f. beside w b c (world.InUse a) k (λ e. ne (e ∙ mine)) f) in
@@ -179,7 +183,7 @@ module _ {T : Type 0} (defers : T → Option ℕ) (fixed : Fixed) (s : State T (
       roots_now defers fixed s id (place had) h at a word old m n.hand wrote (inr (ap n.hand names ∙ with_here w.hand b (world.InUse a)))
       (λ c e ne f. other c (world.InUse e) (use_making e i) f) in
       let is_new : (block_in word ≡ 0) ⊎ (block_in word ≢ block_in old) = new_block old mine was (cases_eq b 0) in
-      unlinked defers fixed s id (place had) h at t a old m n so (cuts a old m so tells) (record {
+      unlinked defers fixed s id (place had) h at t a old m n so plain (cuts a old m so tells) (record {
         since = since_then defers fixed w (record w { memory = m }) n (Links id b a) wrote.since ((i, mine), refl);
         memory = refl;
         row = refl;
@@ -189,10 +193,15 @@ module _ {T : Type 0} (defers : T → Option ℕ) (fixed : Fixed) (s : State T (
             (λ k. ne (h.sole j id b x (place had) e at (q ∙ ap Some k) (carries.hand had ∙ had_it)));
         sole = λ j c x ne e q p. cc p;
         values = λ c its some some2. wrote.values c;
+        links = links_stay defers fixed s id (place had) h at a word old m wrote;
         held = λ e c held. held_on e c (Linked b a) w.log tt held;
         over = λ e c held. ap (λ (y : Bool). cond y false (is_over c w.log)) (ne_eqb c b (making_not_held defers fixed.batch_size w r i e b c held mine));
         roots = named;
         rooted = rooted_still defers fixed s id (place had) h at a word old m wrote;
+        chains = λ c is. chain_kept defers m m w.hand n.hand c refl
+            (λ e k. linked_beside w.hand b (world.InUse a) c e (λ its. use_making c i (sym its ∙ mine)) k)
+            (λ e k. linked_back w.hand b (world.InUse a) c e (λ its. not_chain fixed a c plain is (same_use c a (sym its))) k) (λ e k has. (refl, refl))
+            (chains_still defers fixed s id (place had) h at a word old m plain wrote c is);
         passes = passes_then defers fixed s id t (record w { memory = m }) n (Links id b a) tt (λ j. tt) wrote.passes ((i, mine), refl);
       }) named (λ c. found_then c (cases_eq c b)) (λ c f. other c (world.InUse a) (use_making a i) f) was (fresh defers fixed s id (place had) h at a word old m wrote was is_new)
     where
@@ -200,7 +209,7 @@ module _ {T : Type 0} (defers : T → Option ℕ) (fixed : Fixed) (s : State T (
       found_then : (c : ℕ) → (c ≡ b) ⊎ (c ≢ b) → IsFoundIn m None c (with_at w.hand b (world.InUse a) c) ⊎ ((block_in old ≡ c) × (c ≢ 0))
       found_then c (inl is) =
           inl (subst (λ (k : Hand). IsFoundIn m None c k) (sym (ap (with_at w.hand b (world.InUse a)) is ∙ with_here w.hand b (world.InUse a)))
-          (word, written defers fixed s id (place had) h at a word old m wrote, names ∙ sym is))
+          (inl (word, written defers fixed s id (place had) h at a word old m wrote, names ∙ sym is)))
       found_then c (inr ne) =
           but_old (found_but defers fixed s id (place had) h at a word old m wrote None c
           (λ e. absurd (ne (same_some c b (sym e ∙ carries.hand had ∙ had_it)))))
@@ -217,41 +226,41 @@ module _ {T : Type 0} (defers : T → Option ℕ) (fixed : Fixed) (s : State T (
       new_block old mine (inr linked) (inr nz) = inr (λ e. making_use i a (sym mine ∙ ap w.hand (sym names ∙ e) ∙ linked))
 
   -- the block that was made is put at a root in place of this word, or what is there is seen
-  exchanges : (b : ℕ) (x : T) (a old link : ℕ) → block_in link ≡ b → IsMade w b x → had_in had ≡ Some b → (so : Out T → SlotView T → Type 0)
+  exchanges : (b : ℕ) (x : T) (a old link : ℕ) → a < fixed.roots → block_in link ≡ b → IsMade w b x → had_in had ≡ Some b → (so : Out T → SlotView T → Type 0)
       → so (Exchanged (Ok old)) (place (cut_in old))
       → ((word : ℕ) → word_at s.memory (Root a) ≡ Some word → word ≢ old
-      → (has : Has T) × IsInHand w t has × (had_in has ≡ had_in had) × so (Exchanged (Err word)) (place has))
+      → (has : Has T) × IsInHand defers w t has × (had_in has ≡ had_in had) × so (Exchanged (Err word)) (place has))
       → (out : Out T) (m : Mem T) → Took s.memory (Exchange (Root a) old link) out m → Leads defers fixed s m id (so out)
-  exchanges b x a old link names made had_it so cut other (Exchanged (Ok word)) m took =
+  exchanges b x a old link plain names made had_it so cut other (Exchanged (Ok word)) m took =
       subst (λ (k : ℕ). Leads defers fixed s m id (so (Exchanged (Ok k)))) (sym took.0.1)
-      (links b a made.0.0 link names made.0.1 had_it old m
+      (links b a made.0.0 link names made.0.1 had_it old m plain
       (wrote defers fixed s id (place had) h at a link old m (Exchange (Root a) old link) (Exchanged (Ok word)) tt took (took.0.0 ∙ ap Some took.0.1) took.1)
       (so (Exchanged (Ok old))) cut)
-  exchanges b x a old link names made had_it so cut other (Exchanged (Err word)) m took =
+  exchanges b x a old link plain names made had_it so cut other (Exchanged (Err word)) m took =
       let k = other word took.0.0 took.0.1 in looks m k.0 took.1 k.1 k.2 (so (Exchanged (Err word))) k.3
-  exchanges b x a old link names made had_it so cut other (Found y) m took = absurd took.0
-  exchanges b x a old link names made had_it so cut other Stored m took = absurd took.0
-  exchanges b x a old link names made had_it so cut other (OutMade y) m took = absurd took.0
-  exchanges b x a old link names made had_it so cut other (Taken y) m took = absurd took.0
-  exchanges b x a old link names made had_it so cut other (Roomed y) m took = absurd took.0
+  exchanges b x a old link plain names made had_it so cut other (Found y) m took = absurd took.0
+  exchanges b x a old link plain names made had_it so cut other Stored m took = absurd took.0
+  exchanges b x a old link plain names made had_it so cut other (OutMade y) m took = absurd took.0
+  exchanges b x a old link plain names made had_it so cut other (Taken y) m took = absurd took.0
+  exchanges b x a old link plain names made had_it so cut other (Roomed y) m took = absurd took.0
 
   -- or whatever is there
-  swaps : (b : ℕ) (x : T) (a link : ℕ) → block_in link ≡ b → IsMade w b x → had_in had ≡ Some b → (so : Out T → SlotView T → Type 0)
+  swaps : (b : ℕ) (x : T) (a link : ℕ) → a < fixed.roots → block_in link ≡ b → IsMade w b x → had_in had ≡ Some b → (so : Out T → SlotView T → Type 0)
       → ((old : ℕ) → so (Found old) (place (cut_in old))) → (out : Out T) (m : Mem T) → Took s.memory (Swap (Root a) link) out m
       → Leads defers fixed s m id (so out)
-  swaps b x a link names made had_it so tells (Found old) m took =
-      links b a made.0.0 link names made.0.1 had_it old m
+  swaps b x a link plain names made had_it so tells (Found old) m took =
+      links b a made.0.0 link names made.0.1 had_it old m plain
       (wrote defers fixed s id (place had) h at a link old m (Swap (Root a) link) (Found old) tt took took.0 took.1) (so (Found old)) (tells old)
-  swaps b x a link names made had_it so tells Stored m took = absurd took.0
-  swaps b x a link names made had_it so tells (Exchanged y) m took = absurd took.0
-  swaps b x a link names made had_it so tells (OutMade y) m took = absurd took.0
-  swaps b x a link names made had_it so tells (Taken y) m took = absurd took.0
-  swaps b x a link names made had_it so tells (Roomed y) m took = absurd took.0
+  swaps b x a link plain names made had_it so tells Stored m took = absurd took.0
+  swaps b x a link plain names made had_it so tells (Exchanged y) m took = absurd took.0
+  swaps b x a link plain names made had_it so tells (OutMade y) m took = absurd took.0
+  swaps b x a link plain names made had_it so tells (Taken y) m took = absurd took.0
+  swaps b x a link plain names made had_it so tells (Roomed y) m took = absurd took.0
 
   -- bits of the tag of the word at a root are set, and the block that it names is seen
-  marks : (a bits word : ℕ) (m : Mem T) → bits < 2 ^ 11 → had_in had ≡ None → IsInside (w.uses t) → Took s.memory (Or (Root a) bits) (Found word) m
+  marks : (a bits word : ℕ) (m : Mem T) → a < fixed.roots → bits < 2 ^ 11 → had_in had ≡ None → IsInside (w.uses t) → Took s.memory (Or (Root a) bits) (Found word) m
       → (so : SlotView T → Type 0) → so (place (seen_in word)) → Leads defers fixed s m id so
-  marks a bits word m small none inside took so is =
+  marks a bits word m plain small none inside took so is =
       let over = marked defers fixed s id (place had) h at a bits word m small took in
       let still : had_in (seen_in word) ≡ had_in had = seen_hand T (block_in word) (block_in word == 0) ∙ sym none in
       users defers fixed s id t h place carries had at m (record w { memory = m }) (seen_in word) (record {
@@ -263,10 +272,12 @@ module _ {T : Type 0} (defers : T → Option ℕ) (fixed : Fixed) (s : State T (
         hands = λ j c x ne e q. refl;
         sole = λ j c x ne e q p. ne (h.sole j id c x (place had) e at q (carries.hand had ∙ sym still ∙ p));
         values = λ c its some some2. over.values c;
+        links = links_stay defers fixed s id (place had) h at a (bit_or word bits) word m over;
         held = λ b c held. held;
         over = λ e c held. refl;
         roots = marked_named defers fixed s id (place had) h at a bits word m small took;
         rooted = rooted_still defers fixed s id (place had) h at a (bit_or word bits) word m over;
+        chains = chains_still defers fixed s id (place had) h at a (bit_or word bits) word m plain over;
         passes = over.passes;
       }) (λ b. marked_found defers fixed s id (place had) h at a bits word m small took (had_in {T = T} (seen_in word)) b (λ e. still ∙ sym (carries.hand had) ∙ e)) so is
 
@@ -292,15 +303,15 @@ module _ {T : Type 0} (defers : T → Option ℕ) (fixed : Fixed) (s : State T (
   sees a (Taken x) m took so is = absurd took.0
   sees a (Roomed x) m took so is = absurd took.0
 
-  marks_there : (a bits : ℕ) → bits < 2 ^ 11 → (out : Out T) (m : Mem T) → Took s.memory (Or (Root a) bits) out m → (so : SlotView T → Type 0)
+  marks_there : (a bits : ℕ) → a < fixed.roots → bits < 2 ^ 11 → (out : Out T) (m : Mem T) → Took s.memory (Or (Root a) bits) out m → (so : SlotView T → Type 0)
       → ((word : ℕ) → out ≡ Found word → so (Inside t (seen_in word))) → Leads defers fixed s m id so
-  marks_there a bits small (Found word) m took so is =
-      marks defers fixed s id t (Inside t) (within t) had h at a bits word m small none (inside_of s.world t had (h.seats id (Inside t had) at).slot) took so (is word refl)
-  marks_there a bits small Stored m took so is = absurd took.0
-  marks_there a bits small (Exchanged x) m took so is = absurd took.0
-  marks_there a bits small (OutMade x) m took so is = absurd took.0
-  marks_there a bits small (Taken x) m took so is = absurd took.0
-  marks_there a bits small (Roomed x) m took so is = absurd took.0
+  marks_there a bits plain small (Found word) m took so is =
+      marks defers fixed s id t (Inside t) (within t) had h at a bits word m plain small none (inside_of s.world t had (h.seats id (Inside t had) at).slot) took so (is word refl)
+  marks_there a bits plain small Stored m took so is = absurd took.0
+  marks_there a bits plain small (Exchanged x) m took so is = absurd took.0
+  marks_there a bits plain small (OutMade x) m took so is = absurd took.0
+  marks_there a bits plain small (Taken x) m took so is = absurd took.0
+  marks_there a bits plain small (Roomed x) m took so is = absurd took.0
 
 -- within a section what was seen is let go, without an operation
 pub forgets : {T : Type 0} (defers : T → Option ℕ) (fixed : Fixed) (id t : ℕ) (had : Has T) → had_in had ≡ None
@@ -323,45 +334,47 @@ module _ (T : Type 0) (defers : T → Option ℕ) where
   roots_are_seen (Made b x) a fixed id t free lt s h at = absurd free
   roots_are_seen (Both b x c) a fixed id t free lt s h at = absurd free
   roots_are_seen (Cut b) a fixed id t free lt s h at = absurd free
+  roots_are_seen (Walks b next) a fixed id t free lt s h at = absurd free
 
   pub roots_are_marked : RootsAreMarked T defers
   roots_are_marked Nothing a bits fixed id t free small lt s h at = (
     root_can defers fixed s id (Inside t Nothing) h at a lt,
-    λ out m took. marks_there defers fixed s id t Nothing refl h at a bits small out m took (told defers (Inside t Nothing) (Or (Root a) bits) out)
+    λ out m took. marks_there defers fixed s id t Nothing refl h at a bits lt small out m took (told defers (Inside t Nothing) (Or (Root a) bits) out)
         (λ word e. subst (λ (o : Out T). told defers (Inside t Nothing) (Or (Root a) bits) o (Inside t (seen_in word))) (sym e) (seen_in word, refl, refl)),
   )
   roots_are_marked (Seen b) a bits fixed id t free small lt s h at = (
     root_can defers fixed s id (Inside t (Seen b)) h at a lt,
-    λ out m took. marks_there defers fixed s id t (Seen b) refl h at a bits small out m took (told defers (Inside t (Seen b)) (Or (Root a) bits) out)
+    λ out m took. marks_there defers fixed s id t (Seen b) refl h at a bits lt small out m took (told defers (Inside t (Seen b)) (Or (Root a) bits) out)
         (λ word e. subst (λ (o : Out T). told defers (Inside t (Seen b)) (Or (Root a) bits) o (Inside t (seen_in word))) (sym e) (seen_in word, refl, refl)),
   )
   roots_are_marked (Made b x) a bits fixed id t free small lt s h at = absurd free
   roots_are_marked (Both b x c) a bits fixed id t free small lt s h at = absurd free
   roots_are_marked (Cut b) a bits fixed id t free small lt s h at = absurd free
+  roots_are_marked (Walks b next) a bits fixed id t free small lt s h at = absurd free
 
   pub made_are_linked : MadeAreLinked T defers
   made_are_linked b x a word fixed id t names lt s h at = (
     root_can defers fixed s id (Inside t (Made b x)) h at a lt,
-    swaps defers fixed s id t (Inside t) (within t) (Made b x) h at b x a word names (h.seats id (Inside t (Made b x)) at).known refl
+    swaps defers fixed s id t (Inside t) (within t) (Made b x) h at b x a word lt names (h.seats id (Inside t (Made b x)) at).known refl
         (told defers (Inside t (Made b x)) (Swap (Root a) word)) (λ old. (cut_in old, refl, refl)),
   )
 
   pub own_are_linked : OwnAreLinked T defers
   own_are_linked b x a word fixed id names lt s h at = (
     root_can defers fixed s id (Brings b x) h at a lt,
-    swaps defers fixed s id 0 alone_with alone_carries (Made b x) h at b x a word names (h.seats id (Brings b x) at).known refl
+    swaps defers fixed s id 0 alone_with alone_carries (Made b x) h at b x a word lt names (h.seats id (Brings b x) at).known refl
         (told defers (Brings b x) (Swap (Root a) word)) (λ old. (cut_in old, refl, refl)),
   )
 
   -- within a section what is there instead is seen
 
-  exchanged_there : (b c : ℕ) (x : T) (a old link : ℕ) → block_in link ≡ b → (fixed : Fixed) (id t : ℕ) (had : Has T) → had_in had ≡ Some c → c ≡ b → (s : State T (SlotView T) (World T))
+  exchanged_there : (b c : ℕ) (x : T) (a old link : ℕ) → block_in link ≡ b → (fixed : Fixed) → a < fixed.roots → (id t : ℕ) (had : Has T) → had_in had ≡ Some c → c ≡ b → (s : State T (SlotView T) (World T))
       → (h : Holds defers fixed s) → view_of s id ≡ Some (Inside t had) → IsMade s.world c x → (so : Out T → SlotView T → Type 0)
       → so (Exchanged (Ok old)) (Inside t (cut_in old)) → ((word : ℕ) → word ≢ old → so (Exchanged (Err word)) (Inside t (made_beside b x (block_in word))))
       → (out : Out T) (m : Mem T) → Took s.memory (Exchange (Root a) old link) out m → Leads defers fixed s m id (so out)
-  exchanged_there b c x a old link names fixed id t had has is s h at made so cut other =
+  exchanged_there b c x a old link names fixed plain id t had has is s h at made so cut other =
       let made_so = subst (λ (k : ℕ). IsMade s.world k x) is made in
-      exchanges defers fixed s id t (Inside t) (within t) had h at b x a old link names made_so (has ∙ ap Some is) so cut
+      exchanges defers fixed s id t (Inside t) (within t) had h at b x a old link plain names made_so (has ∙ ap Some is) so cut
       (λ word e ne. (
         made_beside b x (block_in word),
         beside_known defers fixed s t h (inside_of s.world t had (h.seats id (Inside t had) at).slot) b x a word made_so e (block_in word == 0) refl,
@@ -372,24 +385,25 @@ module _ (T : Type 0) (defers : T → Option ℕ) where
   pub made_are_exchanged : MadeAreExchanged T defers
   made_are_exchanged (Made c x) b a old link fixed id t is names lt s h at = (
     root_can defers fixed s id (Inside t (Made c x)) h at a lt,
-    exchanged_there b c x a old link names fixed id t (Made c x) refl is s h at (h.seats id (Inside t (Made c x)) at).known
+    exchanged_there b c x a old link names fixed lt id t (Made c x) refl is s h at (h.seats id (Inside t (Made c x)) at).known
         (told defers (Inside t (Made c x)) (Exchange (Root a) old link)) (cut_in old, refl, refl)
         (λ word ne. (made_beside b x (block_in word), (ne, ap (λ (k : ℕ). made_beside k x (block_in word)) (sym is)), refl)),
   )
   made_are_exchanged (Both c x d) b a old link fixed id t is names lt s h at = (
     root_can defers fixed s id (Inside t (Both c x d)) h at a lt,
-    exchanged_there b c x a old link names fixed id t (Both c x d) refl is s h at (h.seats id (Inside t (Both c x d)) at).known.0
+    exchanged_there b c x a old link names fixed lt id t (Both c x d) refl is s h at (h.seats id (Inside t (Both c x d)) at).known.0
         (told defers (Inside t (Both c x d)) (Exchange (Root a) old link)) (cut_in old, refl, refl)
         (λ word ne. (made_beside b x (block_in word), (ne, ap (λ (k : ℕ). made_beside k x (block_in word)) (sym is)), refl)),
   )
   made_are_exchanged Nothing b a old link fixed id t is names lt s h at = absurd is
   made_are_exchanged (Seen c) b a old link fixed id t is names lt s h at = absurd is
   made_are_exchanged (Cut c) b a old link fixed id t is names lt s h at = absurd is
+  made_are_exchanged (Walks c next) b a old link fixed id t is names lt s h at = absurd is
 
   pub own_are_exchanged : OwnAreExchanged T defers
   own_are_exchanged b x a old link fixed id names lt s h at = (
     root_can defers fixed s id (Brings b x) h at a lt,
-    exchanges defers fixed s id 0 alone_with alone_carries (Made b x) h at b x a old link names (h.seats id (Brings b x) at).known refl
+    exchanges defers fixed s id 0 alone_with alone_carries (Made b x) h at b x a old link lt names (h.seats id (Brings b x) at).known refl
         (told defers (Brings b x) (Exchange (Root a) old link)) (cut_in old, refl, refl)
         (λ word e ne. (
           Made b x,
@@ -405,7 +419,7 @@ module _ (T : Type 0) (defers : T → Option ℕ) where
       by : (out : Out T) (m : Mem T) → Took s.memory (Swap (Root a) 0) out m
           → Leads defers fixed s m id (told defers (Inside t Nothing) (Swap (Root a) 0) out)
       by (Found old) m took =
-          clears defers fixed s id (Inside t Nothing) h at t a old m refl
+          clears defers fixed s id (Inside t Nothing) h at t a old m lt refl
           (wrote defers fixed s id (Inside t Nothing) h at a 0 old m (Swap (Root a) 0) (Found old) tt took took.0 took.1)
           (told defers (Inside t Nothing) (Swap (Root a) 0) (Found old))
           (cuts defers fixed s id t (Inside t) (within t) Nothing h at a old m (told defers (Inside t Nothing) (Swap (Root a) 0) (Found old)) (cut_in old, refl, refl))
@@ -432,7 +446,7 @@ module _ (T : Type 0) (defers : T → Option ℕ) where
       by : (out : Out T) (m : Mem T) → Took s.memory (Swap (Root a) 0) out m
           → Leads defers fixed s m id (told defers (Outside t) (Swap (Root a) 0) out)
       by (Found old) m took =
-          clears defers fixed s id (Outside t) h at t a old m refl
+          clears defers fixed s id (Outside t) h at t a old m lt refl
           (wrote defers fixed s id (Outside t) h at a 0 old m (Swap (Root a) 0) (Found old) tt took took.0 took.1)
           (told defers (Outside t) (Swap (Root a) 0) (Found old)) (owes old m)
       by Stored m took = absurd took.0

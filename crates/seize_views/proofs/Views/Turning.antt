@@ -6,9 +6,9 @@ use Rattle.seize.specs.World.{World, Use}
 use Rattle.seize_views.specs.Views.Rows.{row_of, had_in}
 use Rattle.seize_views.specs.Views.Promises.{IsNext, IsFree}
 use Rattle.seize_views.specs.declared.view.SlotView.{SlotView}
-use Rattle.seize_views.specs.declared.view.SlotView.TheVariants.{Rests, Registers, Outside, Owes, Enters, Inside, Settles, Leaves, Left, Frees, Brings, Bears, Watches, Under, Busy}
+use Rattle.seize_views.specs.declared.view.SlotView.TheVariants.{Rests, Registers, Outside, Owes, Enters, Inside, Settles, Leaves, Left, Frees, Brings, Bears, Watches, Under, Joins, Busy}
 use Rattle.seize_views.specs.declared.view.Has.{Has}
-use Rattle.seize_views.specs.declared.view.Has.TheVariants.{Nothing, Made, Seen, Both, Cut}
+use Rattle.seize_views.specs.declared.view.Has.TheVariants.{Nothing, Made, Seen, Both, Cut, Walks}
 use Rattle.seize_views.specs.declared.view.Why.TheVariants.{Retiring, Ending}
 use Rattle.seize_views.specs.declared.view.Fixed.{Fixed}
 use Rattle.seize_views.proofs.Views.InWorld.{IsJustSo, IsLikeness, HasRow, GoesTo, BeginsTo}
@@ -50,6 +50,7 @@ module _ {T : Type 0} (defers : T → Option ℕ) (fixed : Fixed) (Is : Use → 
   turning (Enters t) u is = absurd is
   turning (Inside t Nothing) u is = goes_free t Nothing u refl is
   turning (Inside t (Seen b)) u is = goes_free t (Seen b) u refl is
+  turning (Inside t (Walks b next)) u is = absurd is
   turning (Inside t (Cut b)) u is = absurd is
   turning (Inside t (Made b x)) u is = absurd is
   turning (Inside t (Both b x a)) u is = absurd is
@@ -65,4 +66,5 @@ module _ {T : Type 0} (defers : T → Option ℕ) (fixed : Fixed) (Is : Use → 
   turning (Bears b) u is = absurd is
   turning (Watches t b) u is = absurd is
   turning (Under n t b) u is = absurd is
+  turning (Joins block) u is = absurd is
   turning (Busy t) u is = absurd is

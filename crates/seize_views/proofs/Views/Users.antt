@@ -15,16 +15,18 @@ use Rattle.seize_acts.proofs.Given.SeizeRuleRows.Others.{with_other, users_rows}
 use Rattle.seize_acts.proofs.Given.SeizeAloneHistories.Reached.{Reached}
 use Rattle.seize_seats.specs.Seats.State.{State, view_of}
 use Rattle.seize_acts.specs.Bounds.Bounds.{IsOfOthers, IsAloneOnSlot}
+use Rattle.seize_views.specs.Views.Chains.{all_roots, IsChainRoot, HasLink, Chain}
 use Rattle.seize_views.specs.Views.Rows.{Leads, row_of, use_of, hand_of, had_in, IsShort, IsUsed, IsKnown, IsBounded, IsMade, IsInHand, RootsNameLinked, Fits, Since, Holds}
 use Rattle.seize_views.specs.Views.Told.{alone_with}
 use Rattle.seize_views.specs.declared.view.SlotView.{SlotView}
 use Rattle.seize_views.specs.declared.view.SlotView.TheVariants.{Outside, Owes, Inside}
 use Rattle.seize_views.specs.declared.view.Has.{Has}
-use Rattle.seize_views.specs.declared.view.Has.TheVariants.{Nothing, Made, Seen, Both, Cut}
+use Rattle.seize_views.specs.declared.view.Has.TheVariants.{Nothing, Made, Seen, Both, Cut, Walks}
 use Rattle.seize_views.specs.declared.view.Fixed.{Fixed}
 use Rattle.seize_acts.proofs.Bounds.Bounds.Passing.{both}
+use Rattle.seize_views.proofs.Views.Chains.{same_where, all_below_kept, link_seen_kept}
 use Rattle.seize_views.proofs.Views.Found.{AreFound}
-use Rattle.seize_views.proofs.Views.Moved.{StillHave, IsSole, Passes, IsOthers, moved, still_used}
+use Rattle.seize_views.proofs.Views.Moved.{StillHave, IsSole, Passes, IsOthers, LinksStay, moved, still_used}
 use Rattle.seize_views.proofs.Views.Steps.{alone}
 
 -- hands of different kinds, and of different holders
@@ -52,21 +54,16 @@ module _ {T : Type 0} where
   same_made w n b x hand memory is = ((is.0.0, ap (λ (f : ℕ → Hand). f b) hand ∙ is.0.1), ap (λ (m : Mem T). value_at m b) memory ∙ is.1)
 
   -- what is known of a block stays known where hands and memory are as they were, and what the section holds is held
-  pub same_hand : (w n : World T) (t : ℕ) → n.hand ≡ w.hand → n.memory ≡ w.memory → ((b : ℕ) → holds t b w.log ≡ true → holds t b n.log ≡ true)
-      → (has : Has T) → IsInHand w t has → IsInHand n t has
-  same_hand w n t hand memory held Nothing is = tt
-  same_hand w n t hand memory held (Made b x) is = same_made w n b x hand memory is
-  same_hand w n t hand memory held (Seen b) is = held b is
-  same_hand w n t hand memory held (Both b x a) is = (same_made w n b x hand memory is.0, held a is.1)
-  same_hand w n t hand memory held (Cut b) is = (is.0, ap (λ (f : ℕ → Hand). f b) hand ∙ is.1)
-
-  -- a block that its maker has no section holds
-  pub making_not_held : (defers : T → Option ℕ) (size : ℕ) (w : World T) (r : Reached defers size w) (id a b c : ℕ) → holds a c w.log ≡ true
-      → w.hand b ≡ world.Making id → c ≡ b → ⊥
-  making_not_held defers size w r id a b c held mine e =
-      let life : r.good.state.life b ≡ IsOwned id = subst (λ (k : Hand). HandFits k (r.good.state.life b)) mine (r.good.hands b) in
-      let none = never_held (LAST_SLOT + 1) id r.good.state b r.good.inv life a in
-      cc (subst (λ (l : List Effect). holds a b l ≡ false) r.good.logged none, subst (λ (k : ℕ). holds a k w.log ≡ true) e held)
+  pub same_hand : (defers : T → Option ℕ) (w n : World T) (t : ℕ) → n.hand ≡ w.hand → n.memory ≡ w.memory → ((b : ℕ) → holds t b w.log ≡ true → holds t b n.log ≡ true)
+      → (has : Has T) → IsInHand defers w t has → IsInHand defers n t has
+  same_hand defers w n t hand memory held Nothing is = tt
+  same_hand defers w n t hand memory held (Made b x) is = same_made w n b x hand memory is
+  same_hand defers w n t hand memory held (Seen b) is = held b is
+  same_hand defers w n t hand memory held (Both b x a) is = (same_made w n b x hand memory is.0, held a is.1)
+  same_hand defers w n t hand memory held (Cut b) is = (is.0, ap (λ (f : ℕ → Hand). f b) hand ∙ is.1)
+  same_hand defers w n t hand memory held (Walks b next) is =
+      let same = (λ (c : ℕ) (_ : holds t c w.log ≡ true) (_ : HasLink defers w.memory c). same_where w.memory n.memory c memory) in
+      (all_below_kept defers w n t same held b is.0, link_seen_kept defers w n t same held b next is.0 is.1)
 
 module _ {T : Type 0} (defers : T → Option ℕ) (fixed : Fixed) (s : State T (SlotView T) (World T)) (id t : ℕ) where
   abbrev w : World T
@@ -78,14 +75,16 @@ module _ {T : Type 0} (defers : T → Option ℕ) (fixed : Fixed) (s : State T (
     pub memory : m ≡ n.memory
     pub row : n.row ≡ w.row
     pub uses : n.uses ≡ w.uses
-    pub in_hand : IsInHand n t has
+    pub in_hand : IsInHand defers n t has
     pub hands : StillHave defers fixed s id n
     pub sole : IsSole defers fixed s id (had_in has)
     pub values : (b : ℕ) → IsOthers defers fixed s id b → IsSome (value_at w.memory b) → IsSome (value_at n.memory b) → value_at n.memory b ≡ value_at w.memory b
+    pub links : LinksStay defers fixed s id n
     pub held : (a b : ℕ) → holds a b w.log ≡ true → holds a b n.log ≡ true
     pub over : (a b : ℕ) → holds a b w.log ≡ true → is_over b n.log ≡ is_over b w.log
     pub roots : RootsNameLinked m n.hand
-    pub rooted : length m.roots ≡ fixed.roots
+    pub rooted : length m.roots ≡ all_roots fixed
+    pub chains : (r : ℕ) → IsChainRoot fixed r → Chain defers m n.hand r
     pub passes : Passes defers fixed s id n
 
   -- one event of a user, and one more
@@ -102,12 +101,12 @@ module _ {T : Type 0} (defers : T → Option ℕ) (fixed : Fixed) (s : State T (
 
 module _ {T : Type 0} (defers : T → Option ℕ) (fixed : Fixed) (s : State T (SlotView T) (World T)) (id t : ℕ) (v x : SlotView T) (h : Holds defers fixed s)
     (at : view_of s id ≡ Some v) (rests : row_of v ≡ world.Rests) (still : row_of x ≡ world.Rests) (same : use_of x ≡ use_of v) (short : IsShort x) where
-  fit : Fits s.world id v
+  fit : Fits defers s.world id v
   fit = h.seats id v at
 
   -- the seat goes on from one view to another, of the same slot
-  pub users_on : (m : Mem T) (n : World T) (has : Has T) → Users defers fixed s id t m n has → AreFound s id h.life.began (had_in has) m n.hand
-      → hand_of x ≡ had_in has → IsKnown n x → IsBounded defers fixed n id x
+  pub users_on : (m : Mem T) (n : World T) (has : Has T) → Users defers fixed s id t m n has → AreFound s id h.life.began fixed (had_in has) m n.hand
+      → hand_of x ≡ had_in has → IsKnown defers n x → IsBounded defers fixed n id x
       → (so : SlotView T → Type 0) → so x → Leads defers fixed s m id so
   users_on m n has u found hand known bounded so is =
       moved defers fixed s id v x m n so h at (record {
@@ -126,11 +125,13 @@ module _ {T : Type 0} (defers : T → Option ℕ) (fixed : Fixed) (s : State T (
         hands = u.hands;
         sole = λ j b y ne e p q. u.sole j b y ne e p (sym hand ∙ q);
         values = u.values;
+        links = u.links;
         held = λ a b inside held. u.held a b held;
         over = u.over;
         roots = u.roots;
         rooted = u.rooted;
-        found = subst (λ (o : Option ℕ). AreFound s id h.life.began o m n.hand) (sym hand) found;
+        chains = u.chains;
+        found = subst (λ (o : Option ℕ). AreFound s id h.life.began fixed o m n.hand) (sym hand) found;
         passes = u.passes;
         bounded = bounded;
       }) is
@@ -142,7 +143,7 @@ module _ {T : Type 0} where
     pub stays : (has other : Has T) → use_of (place has) ≡ use_of (place other)
     pub short : (has : Has T) → IsShort (place has)
     pub hand : (has : Has T) → hand_of (place has) ≡ had_in has
-    pub known : (w : World T) (has : Has T) → IsInHand w t has → IsKnown w (place has)
+    pub known : (defers : T → Option ℕ) (w : World T) (has : Has T) → IsInHand defers w t has → IsKnown defers w (place has)
     pub bounded : (defers : T → Option ℕ) (fixed : Fixed) (w : World T) (j : ℕ) (has : Has T) → IsBounded defers fixed w j (place has)
 
   -- as one within a section of this slot does, or one without a slot
@@ -153,7 +154,7 @@ module _ {T : Type 0} where
     stays = λ has other. refl;
     short = λ has. tt;
     hand = λ has. refl;
-    known = λ w has is. is;
+    known = λ defers w has is. is;
     bounded = λ defers fixed w j has. tt;
   }
 
@@ -166,6 +167,7 @@ module _ {T : Type 0} where
       rests (Seen b) = refl
       rests (Both b x a) = refl
       rests (Cut b) = refl
+      rests (Walks b next) = refl
 
       none : (has : Has T) → use_of (alone_with has) ≡ None
       none Nothing = refl
@@ -173,6 +175,7 @@ module _ {T : Type 0} where
       none (Seen b) = refl
       none (Both b x a) = refl
       none (Cut b) = refl
+      none (Walks b next) = refl
 
       short : (has : Has T) → IsShort (alone_with has)
       short Nothing = tt
@@ -180,6 +183,7 @@ module _ {T : Type 0} where
       short (Seen b) = tt
       short (Both b x a) = tt
       short (Cut b) = tt
+      short (Walks b next) = tt
 
       hand : (has : Has T) → hand_of (alone_with has) ≡ had_in has
       hand Nothing = refl
@@ -187,13 +191,15 @@ module _ {T : Type 0} where
       hand (Seen b) = refl
       hand (Both b x a) = refl
       hand (Cut b) = refl
+      hand (Walks b next) = refl
 
-      known : (w : World T) (has : Has T) → IsInHand w 0 has → IsKnown w (alone_with has)
-      known w Nothing is = tt
-      known w (Made b x) is = is
-      known w (Seen b) is = tt
-      known w (Both b x a) is = is.0
-      known w (Cut b) is = is
+      known : (defers : T → Option ℕ) (w : World T) (has : Has T) → IsInHand defers w 0 has → IsKnown defers w (alone_with has)
+      known defers w Nothing is = tt
+      known defers w (Made b x) is = is
+      known defers w (Seen b) is = tt
+      known defers w (Both b x a) is = is.0
+      known defers w (Cut b) is = is
+      known defers w (Walks b next) is = tt
 
       bounded : (defers : T → Option ℕ) (fixed : Fixed) (w : World T) (j : ℕ) (has : Has T) → IsBounded defers fixed w j (alone_with has)
       bounded defers fixed w j Nothing = tt
@@ -201,22 +207,23 @@ module _ {T : Type 0} where
       bounded defers fixed w j (Seen b) = tt
       bounded defers fixed w j (Both b x a) = tt
       bounded defers fixed w j (Cut b) = tt
+      bounded defers fixed w j (Walks b next) = tt
 
 module _ {T : Type 0} (defers : T → Option ℕ) (fixed : Fixed) (s : State T (SlotView T) (World T)) (id t : ℕ) (h : Holds defers fixed s) where
   -- where it is, it knows something else of a block
   pub users : (place : Has T → SlotView T) → Carries t place → (had : Has T) → view_of s id ≡ Some (place had) → (m : Mem T) (n : World T) (has : Has T)
-      → Users defers fixed s id t m n has → AreFound s id h.life.began (had_in has) m n.hand → (so : SlotView T → Type 0) → so (place has)
+      → Users defers fixed s id t m n has → AreFound s id h.life.began fixed (had_in has) m n.hand → (so : SlotView T → Type 0) → so (place has)
       → Leads defers fixed s m id so
   users place c had at m n has u found so is =
       users_on defers fixed s id t (place had) (place has) h at (c.rests had) (c.rests has) (c.stays has had) (c.short has) m n has u found (c.hand has)
-      (c.known n has u.in_hand) (c.bounded defers fixed n id has) so is
+      (c.known defers n has u.in_hand) (c.bounded defers fixed n id has) so is
 
   -- or outside of one, where it knows of no block, or of one that it has unlinked
   pub users_outside : view_of s id ≡ Some (Outside t) → (m : Mem T) (n : World T) → Users defers fixed s id t m n Nothing
-      → AreFound s id h.life.began None m n.hand → (so : SlotView T → Type 0) → so (Outside t) → Leads defers fixed s m id so
+      → AreFound s id h.life.began fixed None m n.hand → (so : SlotView T → Type 0) → so (Outside t) → Leads defers fixed s m id so
   users_outside at m n u found so is = users_on defers fixed s id t (Outside t) (Outside t) h at refl refl refl tt m n Nothing u found refl tt tt so is
 
   pub users_owe : view_of s id ≡ Some (Outside t) → (m : Mem T) (n : World T) (b : ℕ) → Users defers fixed s id t m n (Cut b)
-      → AreFound s id h.life.began (Some b) m n.hand → (so : SlotView T → Type 0) → so (Owes t b) → Leads defers fixed s m id so
+      → AreFound s id h.life.began fixed (Some b) m n.hand → (so : SlotView T → Type 0) → so (Owes t b) → Leads defers fixed s m id so
   users_owe at m n b u found so is =
       users_on defers fixed s id t (Outside t) (Owes t b) h at refl refl refl tt m n (Cut b) u found refl u.in_hand tt so is

@@ -1,17 +1,20 @@
 -- Each value is found by whose its block is; what is the collector's is reached.
-use Rattle.std.specs.Prelude.{Option, Some, None, IsSome}
-use Rattle.std.proofs.Common.{◌≡◌, ℕ, ◌⊎◌, inl, inr, refl, sym, subst, ◌∙◌}
+use Rattle.std.specs.Prelude.{◌<◌, Option, Some, None, IsSome}
+use Rattle.std.proofs.Common.{◌≡◌, ℕ, ◌⊎◌, inl, inr, refl, sym, subst, ◌∙◌, arith}
 use Rattle.seize_words.specs.OneMemory.Mem.{Mem, value_at}
+use Rattle.seize_words.specs.OneMemory.Word.{block_in}
 use Rattle.seize.specs.World.{World, Row, Hand}
 use Rattle.seize.specs.World as world
 use Rattle.seize_acts.proofs.Given.SeizeAloneHistories.NotTaken.{nobodys}
 use Rattle.seize_seats.specs.Seats.State.{State, view_of}
 use Rattle.seize_views.specs.Reaches.Reached.{words_of_row, OneLeadsTo, IsOfASlot, IsOfARow, IsOfABlock}
+use Rattle.seize_views.specs.Views.Chains.{all_roots}
 use Rattle.seize_views.specs.Views.Rows.{row_of, IsSomeones, IsInSomeHand, IsFound, Holds}
 use Rattle.seize_views.specs.Views.Values.{IsAtARoot, IsOfASeat, IsReached, WasKept, ValuesAreFound}
 use Rattle.seize_views.specs.declared.view.SlotView.{SlotView}
 use Rattle.seize_views.specs.declared.view.Fixed.{Fixed}
 use Rattle.seize_views.proofs.Reaches.Reached.{handed_are_reached}
+use Rattle.seize_views.proofs.Views.Chains.{stands_there}
 use Rattle.seize_views.proofs.Views.Came.{reached}
 
 module _ (T : Type 0) (defers : T → Option ℕ) (fixed : Fixed) (s : State T (SlotView T) (World T)) (h : Holds defers fixed s) (b : ℕ) where
@@ -41,15 +44,19 @@ module _ (T : Type 0) (defers : T → Option ℕ) (fixed : Fixed) (s : State T (
   had k e (inl has) = inl has
   had k e (inr was) = inr (inr (inr (e ∙ sym was)))
 
-  found_by_hand : IsSome (value_at s.memory b) → (k : Hand) → s.world.hand b ≡ k → IsFound s.memory b (IsInSomeHand s h.life.began b) k → FoundSo
+  found_by_hand : IsSome (value_at s.memory b) → (k : Hand) → s.world.hand b ≡ k → IsFound fixed s.memory b (IsInSomeHand s h.life.began b) k → FoundSo
   found_by_hand some world.NoBlock e f =
       let none = nobodys defers fixed.batch_size s.world (reached defers fixed s.world h.came) b e in
       let there = subst (λ (m : Mem T). IsSome (value_at m b)) h.memory some in absurd (cc (none, there))
   found_by_hand some (world.Making i) e f = had (world.Making i) e f
-  found_by_hand some (world.InUse r) e f = inr (inl (r, f))
+  found_by_hand some (world.InUse r) e (inl f) = inr (inl (r, 0, b, f, refl))
+  found_by_hand some (world.InUse r) e (inr is) =
+      let c = h.chains r is in
+      let k = stands_there defers s.memory c.blocks (block_in c.word) b c.stand (subst (λ (n : ℕ). 0 < n) (sym (c.once b e)) (omega arith)) in
+      inr (inl (r, k.0, block_in c.word, (c.word, c.at, refl), k.1))
   found_by_hand some (world.Parting i) e f = absurd f
   found_by_hand some (world.Cutting i) e f = had (world.Cutting i) e f
-  found_by_hand some world.Handed e f = inr (inr (inl (is_reached (handed_are_reached defers fixed.batch_size fixed.roots h.came.0 s.world h.came.1 b e))))
+  found_by_hand some world.Handed e f = inr (inr (inl (is_reached (handed_are_reached defers fixed.batch_size (all_roots fixed) h.came.0 s.world h.came.1 b e))))
   found_by_hand some (world.LeftTo i) e f = absurd f
 
 pub values_are_found : (T : Type 0) (defers : T → Option ℕ) → ValuesAreFound T defers

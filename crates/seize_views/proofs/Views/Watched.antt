@@ -10,7 +10,7 @@ use Rattle.seize_views.specs.Views.Rows.{Holds, HeldStay, IsUsed, use_of}
 use Rattle.seize_views.specs.Views.Watched.{one, open_at, is_watching, LeansOn, IsOwn, watchers, watching, Stays, IsBase, Upholds, AreLeaned, AreWatched}
 use Rattle.seize_views.specs.declared.view.Noted.{Noted}
 use Rattle.seize_views.specs.declared.view.SlotView.{SlotView}
-use Rattle.seize_views.specs.declared.view.SlotView.TheVariants.{Rests, Registers, Outside, Owes, Enters, Inside, Settles, Leaves, Left, Frees, Brings, Bears, Watches, Under, Busy}
+use Rattle.seize_views.specs.declared.view.SlotView.TheVariants.{Rests, Registers, Outside, Owes, Enters, Inside, Settles, Leaves, Left, Frees, Brings, Bears, Watches, Under, Joins, Busy}
 use Rattle.seize_views.specs.declared.view.Why.TheVariants.{Retiring, Ending}
 use Rattle.seize_views.specs.declared.view.Becomes.TheVariants.{Idle, Active}
 use Rattle.seize_views.specs.declared.view.Fixed.{Fixed}
@@ -53,6 +53,7 @@ module _ {T : Type 0} where
   open_used (Left u size way) t e = absurd (cc e)
   open_used (Frees u) t e = absurd (cc e)
   open_used (Brings b x) t e = absurd (cc e)
+  open_used (Joins block) t e = absurd (cc e)
   open_used (Bears b) t e = absurd (cc e)
   open_used (Watches u b) t e = absurd (cc e)
   open_used (Under n u b) t e = absurd (cc e)
@@ -75,6 +76,7 @@ module _ {T : Type 0} where
   open_inside w (Left u size way) t e is = absurd (cc e)
   open_inside w (Frees u) t e is = absurd (cc e)
   open_inside w (Brings b x) t e is = absurd (cc e)
+  open_inside w (Joins block) t e is = absurd (cc e)
   open_inside w (Bears b) t e is = absurd (cc e)
   open_inside w (Watches u b) t e is = absurd (cc e)
   open_inside w (Under n u b) t e is = absurd (cc e)
@@ -94,6 +96,7 @@ own_watches (Leaves u size way) t own = refl
 own_watches (Left u size way) t own = refl
 own_watches (Frees u) t own = refl
 own_watches (Brings b x) t own = refl
+own_watches (Joins block) t own = refl
 own_watches (Bears b) t own = refl
 own_watches (Watches u b) t own = absurd own
 own_watches (Under n u b) t own = absurd own

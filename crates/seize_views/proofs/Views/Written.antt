@@ -13,13 +13,15 @@ use Rattle.seize_acts.proofs.Given.SeizeMovesState.Held.{held_on}
 use Rattle.seize_acts.proofs.Given.SeizeRuleRows.Others.{with_here, with_other}
 use Rattle.seize_acts.proofs.Given.SeizeRuleWorld.Values.{own_op_value}
 use Rattle.seize_seats.specs.Seats.State.{State, view_of}
+use Rattle.seize_views.specs.Views.Chains.{all_roots, IsChainRoot, Chain}
 use Rattle.seize_views.specs.Views.Rows.{Leads, hand_of, IsInSomeHand, IsFound, RootsNameLinked, Since, Holds}
 use Rattle.seize_views.specs.declared.view.SlotView.{SlotView}
 use Rattle.seize_views.specs.declared.view.Has.TheVariants.{Nothing, Cut}
 use Rattle.seize_views.specs.declared.view.Fixed.{Fixed}
 use Rattle.seize_views.proofs.Views.Lists.{there, elsewhere}
-use Rattle.seize_views.proofs.Views.Moved.{hand_users, Passes}
+use Rattle.seize_views.proofs.Views.Moved.{hand_users, Passes, LinksStay, chains_stay}
 use Rattle.seize_views.proofs.Views.Came.{since_one, since_then}
+use Rattle.seize_views.proofs.Views.Chains.{chain_kept, same_blocks, linked_beside, linked_back, not_chain}
 use Rattle.seize_views.proofs.Views.Found.{HasNow, AreFound, found_at, has_more, still_has, linked_some}
 use Rattle.seize_views.proofs.Views.Users.{same_use, world_took, passes_one, passes_then, Users}
 use Rattle.seize_words.proofs.General.{same_some}
@@ -45,14 +47,15 @@ module _ {T : Type 0} (defers : T → Option ℕ) (fixed : Fixed) (s : State T (
     pub there : word_at s.memory (Root a) ≡ Some old
     pub roots : m.roots ≡ slice_set s.memory.roots a word
     pub since : Since defers fixed s.world (record s.world { memory = m })
+    pub blocks : m.blocks ≡ s.world.memory.blocks
     pub values : (b : ℕ) → value_at m b ≡ value_at s.world.memory b
     pub passes : Passes defers fixed s id (record s.world { memory = m })
 
   -- the seat goes on where no block was at the root, and where one was, which is in its hand then; each other one is found as before
   pub record Cuts (began : World T) (t : ℕ) (m : Mem T) (old : ℕ) (so : SlotView T → Type 0) : Type 0 where
-    pub none : (block_in old == 0) ≡ true → (n : World T) → Users defers fixed s id t m n Nothing → AreFound s id began None m n.hand → Leads defers fixed s m id so
+    pub none : (block_in old == 0) ≡ true → (n : World T) → Users defers fixed s id t m n Nothing → AreFound s id began fixed None m n.hand → Leads defers fixed s m id so
     pub cut : (block_in old == 0) ≡ false → (n : World T) → Users defers fixed s id t m n (Cut (block_in old))
-        → AreFound s id began (Some (block_in old)) m n.hand → Leads defers fixed s m id so
+        → AreFound s id began fixed (Some (block_in old)) m n.hand → Leads defers fixed s m id so
 
 module _ {T : Type 0} (defers : T → Option ℕ) (fixed : Fixed) (s : State T (SlotView T) (World T)) (id : ℕ) (v : SlotView T) (h : Holds defers fixed s)
     (at : view_of s id ≡ Some v) where
@@ -69,11 +72,12 @@ module _ {T : Type 0} (defers : T → Option ℕ) (fixed : Fixed) (s : State T (
         there = found;
         roots = ap (λ (x : Mem T). x.roots) is;
         since = since_one defers fixed w (record w { memory = m }) (Operates op) (out, m, own, here, refl);
+        blocks = ap (λ (x : Mem T). x.blocks) is ∙ ap (λ (x : Mem T). x.blocks) h.memory;
         values = values;
         passes = passes_one defers fixed s id 0 (Operates op) (record w { memory = m }) (λ j. tt) (out, m, own, here, refl);
       }
 
-  pub rooted_still : (a word old : ℕ) (m : Mem T) → Wrote defers fixed s id a word old m → length m.roots ≡ fixed.roots
+  pub rooted_still : (a word old : ℕ) (m : Mem T) → Wrote defers fixed s id a word old m → length m.roots ≡ all_roots fixed
   rooted_still a word old m wrote = ap length wrote.roots ∙ length_set s.memory.roots a word ∙ h.rooted
 
   -- where a root names a block from now on, each other root is as it was
@@ -119,8 +123,22 @@ module _ {T : Type 0} (defers : T → Option ℕ) (fixed : Fixed) (s : State T (
         | inr is ↦ was_linked ne is was
       ]
 
+  pub any_root_can : (a : ℕ) → a < all_roots fixed → IsSome (word_at s.memory (Root a))
+  any_root_can a lt = root_there s.memory.roots a (subst (λ (k : ℕ). a < k) (sym h.rooted) lt)
+
   pub root_can : (a : ℕ) → a < fixed.roots → IsSome (word_at s.memory (Root a))
-  root_can a lt = root_there s.memory.roots a (subst (λ (k : ℕ). a < k) (sym h.rooted) lt)
+  root_can a lt = any_root_can a (omega (arith, lt))
+
+  -- the links of blocks are as they were
+  pub links_stay : (a word old : ℕ) (m : Mem T) → Wrote defers fixed s id a word old m → LinksStay defers fixed s id (record w { memory = m })
+  links_stay a word old m wrote b apart some = same_blocks w.memory m b wrote.blocks
+
+  -- and so are chains, where it is a root of single blocks, and none of theirs comes or goes
+  pub chains_still : (a word old : ℕ) (m : Mem T) → a < fixed.roots → Wrote defers fixed s id a word old m → (r : ℕ) → IsChainRoot fixed r → Chain defers m w.hand r
+  chains_still a word old m plain wrote r is =
+      chain_kept defers s.memory m w.hand w.hand r
+      (ap (λ (l : List ℕ). slice_get l r) wrote.roots ∙ elsewhere s.memory.roots a r word (not_chain fixed a r plain is)) (λ b e. e) (λ b e. e)
+      (λ b linked has. same_blocks s.memory m b (wrote.blocks ∙ sym (ap (λ (x : Mem T). x.blocks) h.memory))) (h.chains r is)
 
   -- the word that was written is at the root
   pub written : (a word old : ℕ) (m : Mem T) → Wrote defers fixed s id a word old m → word_at m (Root a) ≡ Some word
@@ -128,7 +146,7 @@ module _ {T : Type 0} (defers : T → Option ℕ) (fixed : Fixed) (s : State T (
 
   -- the block is found, where the seat has this in its hand
   abbrev pub FoundIn : Mem T → Option ℕ → ℕ → Hand → Type 0
-  FoundIn m o b k = IsFound m b (HasNow s id h.life.began o b) k
+  FoundIn m o b k = IsFound fixed m b (HasNow s id h.life.began o b) k
 
   -- Each block is found but the one that the root has named, which the seat may have had in its hand before.
   pub found_but : (a word old : ℕ) (m : Mem T) → Wrote defers fixed s id a word old m → (o : Option ℕ) (b : ℕ) → (hand_of v ≡ Some b → o ≡ Some b)
@@ -144,26 +162,27 @@ module _ {T : Type 0} (defers : T → Option ℕ) (fixed : Fixed) (s : State T (
           let was : old ≡ found = same_some old found (sym wrote.there ∙ ap (λ (k : ℕ). slice_get s.memory.roots k) (sym same) ∙ e) in
           inr (ap block_in was ∙ is, ap world.InUse same)
       at_root r found e is (inr ne) =
-          inl (found, ap (λ (l : List ℕ). slice_get l r) wrote.roots ∙ elsewhere s.memory.roots a r word ne ∙ e, is)
+          inl (inl (found, ap (λ (l : List ℕ). slice_get l r) wrote.roots ∙ elsewhere s.memory.roots a r word ne ∙ e, is))
 
-      by : (k : Hand) → IsFound s.memory b (IsInSomeHand s h.life.began b) k → FoundIn m o b k ⊎ ((block_in old ≡ b) × (k ≡ world.InUse a))
+      by : (k : Hand) → IsFound fixed s.memory b (IsInSomeHand s h.life.began b) k → FoundIn m o b k ⊎ ((block_in old ≡ b) × (k ≡ world.InUse a))
       by world.NoBlock f = inl tt
       by (world.Making i) f = inl (has (world.Making i) f)
-      by (world.InUse r) f = at_root r f.0 f.1 f.2 (cases_eq r a)
+      by (world.InUse r) (inl f) = at_root r f.0 f.1 f.2 (cases_eq r a)
+      by (world.InUse r) (inr chain) = inl (inr chain)
       by (world.Parting i) f = absurd f
       by (world.Cutting i) f = inl (has (world.Cutting i) f)
       by world.Handed f = inl tt
       by (world.LeftTo i) f = absurd f
 
   -- The block that was at the root, if there was one, is unlinked; `n` is the world before that, in which it is linked there, and each other one is found.
-  pub unlinked : (t a old : ℕ) (m : Mem T) (n : World T) (so : SlotView T → Type 0) → Cuts defers fixed s id h.life.began t m old so → Users defers fixed s id t m n Nothing
+  pub unlinked : (t a old : ℕ) (m : Mem T) (n : World T) (so : SlotView T → Type 0) → a < fixed.roots → Cuts defers fixed s id h.life.began t m old so → Users defers fixed s id t m n Nothing
       → RootsNameLinked m n.hand
       → ((b : ℕ) → FoundIn m None b (n.hand b) ⊎ ((block_in old ≡ b) × (b ≢ 0)))
       → ((b : ℕ) → w.hand b ≡ world.InUse a → n.hand b ≡ world.InUse a)
       → (block_in old ≡ 0) ⊎ (w.hand (block_in old) ≡ world.InUse a)
       → ((c found : ℕ) → word_at m (Root c) ≡ Some found → (block_in found ≡ 0) ⊎ (block_in found ≢ block_in old))
       → Leads defers fixed s m id so
-  unlinked t a old m n so goes u named found still was fresh = by (block_in old == 0) refl was
+  unlinked t a old m n so plain goes u named found still was fresh = by (block_in old == 0) refl was
     where
       -- where it was none each block was found
       none_found : (b : ℕ) → (block_in old == 0) ≡ true → FoundIn m None b (n.hand b) ⊎ ((block_in old ≡ b) × (b ≢ 0))
@@ -179,7 +198,7 @@ module _ {T : Type 0} (defers : T → Option ℕ) (fixed : Fixed) (s : State T (
           (sym (ap (with_at n.hand (block_in old) (world.Cutting id)) is ∙ with_here n.hand (block_in old) (world.Cutting id))) (inl (ap Some (sym is)))
       cut_found b (inr ne) (inl f) =
           subst (λ (k : Hand). FoundIn m (Some (block_in old)) b k) (sym (with_other n.hand (block_in old) b (world.Cutting id) ne))
-          (found_at m m b (HasNow s id h.life.began None b) (HasNow s id h.life.began (Some (block_in old)) b) refl
+          (found_at fixed m m b (HasNow s id h.life.began None b) (HasNow s id h.life.began (Some (block_in old)) b) refl
           (has_more s id h.life.began None (Some (block_in old)) b (λ e. absurd (cc e))) (n.hand b) f)
       cut_found b (inr ne) (inr is) = absurd (ne (sym is.0))
 
@@ -196,9 +215,10 @@ module _ {T : Type 0} (defers : T → Option ℕ) (fixed : Fixed) (s : State T (
             uses = u.uses;
             in_hand = (id, with_here n.hand (block_in old) (world.Cutting id));
             hands = λ j b y ne e q. with_other n.hand (block_in old) b (world.Cutting id)
-                (λ k. (hand_users w y b (h.seats j y e).known q).1 a (ap w.hand k ∙ linked)) ∙ u.hands j b y ne e q;
-            sole = λ j b y ne e q p. (hand_users w y b (h.seats j y e).known q).1 a (ap w.hand (sym (same_some (block_in old) b p)) ∙ linked);
+                (λ k. (hand_users defers w y b (h.seats j y e).known q).1 a (ap w.hand k ∙ linked)) ∙ u.hands j b y ne e q;
+            sole = λ j b y ne e q p. (hand_users defers w y b (h.seats j y e).known q).1 a (ap w.hand (sym (same_some (block_in old) b p)) ∙ linked);
             values = u.values;
+            links = u.links;
             held = λ c b held. held_on c b (Unlinked (block_in old)) n.log tt (u.held c b held);
             over = u.over;
             roots = λ c found e. elim (fresh c found e) as (λ _. (block_in found ≡ 0) ⊎ (x.hand (block_in found) ≡ world.InUse c)) [
@@ -206,6 +226,9 @@ module _ {T : Type 0} (defers : T → Option ℕ) (fixed : Fixed) (s : State T (
               | inr ne ↦ other c found (named c found e) ne
             ];
             rooted = u.rooted;
+            chains = λ r is. chain_kept defers m m n.hand x.hand r refl
+                (λ b e. linked_beside n.hand (block_in old) (world.Cutting id) r b (λ its. not_chain fixed a r plain is (same_use r a (sym its ∙ mine))) e)
+                (λ b e. linked_back n.hand (block_in old) (world.Cutting id) r b (λ k. cc k) e) (λ b e has. (refl, refl)) (u.chains r is);
             passes = passes_then defers fixed s id t n x (Unlinks id (block_in old)) tt (λ j. tt) u.passes
                 (subst (λ (k : Hand). MayCut id k) (sym mine) tt, refl);
           }) (λ b. cut_found b (cases_eq b (block_in old)) (found b))
@@ -216,13 +239,13 @@ module _ {T : Type 0} (defers : T → Option ℕ) (fixed : Fixed) (s : State T (
           other c found (inr f) ne = inr (with_other n.hand (block_in old) (block_in found) (world.Cutting id) ne ∙ f)
 
   -- a root is cleared
-  pub clears : (t a old : ℕ) (m : Mem T) → hand_of v ≡ None → Wrote defers fixed s id a 0 old m → (so : SlotView T → Type 0)
+  pub clears : (t a old : ℕ) (m : Mem T) → a < fixed.roots → hand_of v ≡ None → Wrote defers fixed s id a 0 old m → (so : SlotView T → Type 0)
       → Cuts defers fixed s id h.life.began t m old so → Leads defers fixed s m id so
-  clears t a old m empty wrote so goes =
+  clears t a old m plain empty wrote so goes =
       let n : World T = record w { memory = m } in
       let was = h.roots a old wrote.there in
       let named : RootsNameLinked m n.hand = roots_now a 0 old m n.hand wrote (inl refl) (λ c e ne f. f) in
-      unlinked t a old m n so goes (record {
+      unlinked t a old m n so plain goes (record {
         since = wrote.since;
         memory = refl;
         row = refl;
@@ -231,10 +254,12 @@ module _ {T : Type 0} (defers : T → Option ℕ) (fixed : Fixed) (s : State T (
         hands = λ j c y ne e q. refl;
         sole = λ j c y ne e q p. cc p;
         values = λ c its some some2. wrote.values c;
+        links = links_stay a 0 old m wrote;
         held = λ e c held. held;
         over = λ e c held. refl;
         roots = named;
         rooted = rooted_still a 0 old m wrote;
+        chains = chains_still a 0 old m plain wrote;
         passes = wrote.passes;
       }) named (λ b. but_old b (found_but a 0 old m wrote None b (λ mine. absurd (cc (empty, mine))))) (λ c f. f) was
       (fresh a 0 old m wrote was (inl refl))

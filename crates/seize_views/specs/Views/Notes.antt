@@ -9,6 +9,7 @@ use Rattle.seize.specs.World.{World}
 use Rattle.seize_seats.specs.Seats.Errands.{TurnsUnlent}
 use Rattle.seize_seats.specs.Seats.State.{State, Starts, Comes, Allows, Turns, Learns, Meets, KeptByTwo, AreThere}
 use Rattle.seize_seats.specs.Seats.Lendings.{VisibleTo, IsValueOf}
+use Rattle.seize_views.specs.Views.Chains.{all_roots}
 use Rattle.seize_views.specs.Views.Rows.{TurnsTo, Permits, Holds}
 use Rattle.seize_views.specs.Views.Begun.{IsBegun, Hands}
 use Rattle.seize_views.specs.Views.Told.{told}
@@ -20,7 +21,7 @@ use Rattle.seize_views.specs.declared.view.Deed.TheVariants.{NoneYet, Looked, Wr
 use Rattle.seize_views.specs.declared.view.Began.{Began}
 use Rattle.seize_views.specs.declared.view.Began.TheVariants.{NotYet}
 use Rattle.seize_views.specs.declared.view.SlotView.{SlotView}
-use Rattle.seize_views.specs.declared.view.SlotView.TheVariants.{Rests, Outside, Inside, Brings, Bears, Watches, Under}
+use Rattle.seize_views.specs.declared.view.SlotView.TheVariants.{Rests, Outside, Inside, Brings, Bears, Watches, Under, Joins}
 use Rattle.seize_views.specs.declared.view.Has.{Has}
 use Rattle.seize_views.specs.declared.view.Has.TheVariants.{Made, Both}
 use Rattle.seize_views.specs.declared.view.Becomes.{Becomes}
@@ -61,6 +62,7 @@ module _ {T : Type 0} where
   deed (Outside t) did op out = deed_at None did op out
   deed (Inside t has) did op out = deed_at (made_in has) did op out
   deed (Brings b x) did op out = deed_at (Some x) did op out
+  deed (Joins (Some made)) did op out = deed_at (Some made.1) did op out
   deed (Watches t b) did op out = deed_at None did op out
   deed (Under n t b) did op out = deed_at None did op out
   deed v did op out = did
@@ -115,7 +117,7 @@ module _ {T : Type 0} (defers : T → Option ℕ) where
 module _ (T : Type 0) (defers : T → Option ℕ) where
   -- The promise: what starts, comes, and may be done by what is known does so with notes.
   abbrev pub StartsAreNoted : Type 0
-  StartsAreNoted = (fixed : Fixed) → Starts (Holds defers fixed) fixed.roots → Starts (NotedHolds defers fixed) fixed.roots
+  StartsAreNoted = (fixed : Fixed) → Starts (Holds defers fixed) (all_roots fixed) → Starts (NotedHolds defers fixed) (all_roots fixed)
 
   abbrev pub ComingsAreNoted : Type 0
   ComingsAreNoted = (fixed : Fixed) → Comes (NotedHolds defers fixed) NotedKeeps newcomer

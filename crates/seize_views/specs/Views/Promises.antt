@@ -1,6 +1,6 @@
 -- What is promised of the rule: it may start, seats may come, and each row may begin, go on and end, whatever the other seats do; and what a seat may do with
 -- blocks within its section.
-use Rattle.std.specs.Prelude.{◌≡◌, ◌<◌, ◌^◌, ◌⊎◌, ℕ, Option, Some, None}
+use Rattle.std.specs.Prelude.{◌≡◌, ◌≢◌, ◌<◌, ◌^◌, ◌⊎◌, ℕ, Option, Some, None}
 use Rattle.seize_words.specs.OneMemory.Word.{block_in, link_to}
 use Rattle.seize_words.specs.OneMemory.Op.{Op, Load, Store, Swap, Or, Exchange, Make, Take, Rewrite}
 use Rattle.seize_words.specs.OneMemory.Plan.{Plan, Turn, Do}
@@ -14,6 +14,7 @@ use Rattle.seize.specs.Settle.{retiring, flushing, settle_plan}
 use Rattle.seize.specs.World.{HasListWord}
 use Rattle.seize_seats.specs.Seats.Lendings.{VisibleTo, IsValueOf}
 use Rattle.seize_seats.specs.Seats.State.{Starts, Comes, Meets}
+use Rattle.seize_views.specs.Views.Chains.{all_roots}
 use Rattle.seize_views.specs.Views.Rows.{TurnsTo, Permits, head_of, Holds, Keeps}
 use Rattle.seize_views.specs.Views.Begun.{IsBegun, Hands, left_with, seeker_at}
 use Rattle.seize_views.specs.Views.Told.{alone_with, told}
@@ -22,7 +23,7 @@ use Rattle.seize_views.specs.declared.view.Becomes.{Becomes}
 use Rattle.seize_views.specs.declared.view.Becomes.TheVariants.{Idle, Active}
 use Rattle.seize_views.specs.declared.view.SlotView.TheVariants.{Rests, Registers, Outside, Owes, Enters, Inside, Settles, Leaves, Left, Frees, Brings, Bears}
 use Rattle.seize_views.specs.declared.view.Has.{Has}
-use Rattle.seize_views.specs.declared.view.Has.TheVariants.{Nothing, Made, Seen, Both, Cut}
+use Rattle.seize_views.specs.declared.view.Has.TheVariants.{Nothing, Made, Seen, Both, Cut, Walks}
 use Rattle.seize_views.specs.declared.view.Why.{Why}
 use Rattle.seize_views.specs.declared.view.Why.TheVariants.{Retiring, Ending}
 use Rattle.seize_views.specs.declared.view.Fixed.{Fixed}
@@ -73,6 +74,7 @@ Names (Made c x) b = c ≡ b
 Names (Seen c) b = c ≡ b
 Names (Both c x a) b = (c ≡ b) ⊎ (a ≡ b)
 Names (Cut c) b = c ≡ b
+Names (Walks c next) b = (c ≡ b) × (b ≢ 0)
 
 -- the block that was made
 abbrev pub HasMade : {T : Type 0} → Has T → ℕ → Type 0
@@ -95,7 +97,7 @@ IsTaker _ = ⊥
 module _ (T : Type 0) (defers : T → Option ℕ) where
   -- The promise: the rule may start, whatever is chosen.
   abbrev pub RulesStart : Type 0
-  RulesStart = (fixed : Fixed) → Starts (Holds defers fixed) fixed.roots
+  RulesStart = (fixed : Fixed) → Starts (Holds defers fixed) (all_roots fixed)
 
   -- and seats may come
   abbrev pub SeatsCome : Type 0

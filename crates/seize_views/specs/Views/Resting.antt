@@ -1,5 +1,5 @@
 -- Who has nothing under way has nothing under way after an operation, and who leans on nobody leans on nobody.
-use Rattle.std.specs.Prelude.{◌≡◌, ◌==◌, ℕ, Bool, true, false, Option, Some, if◌then◌else◌}
+use Rattle.std.specs.Prelude.{◌≡◌, ◌==◌, ℕ, Bool, true, false, Option, Some, None, if◌then◌else◌}
 use Rattle.std.proofs.Common.{sym, subst, ap}
 use Rattle.seize_words.specs.OneMemory.Op.{Op, Out, Load, Store, Swap, Add, Or, Exchange, Make, Take, Rewrite, Room, Found, Stored, Exchanged, Made as OutMade, Taken, Roomed}
 use Rattle.seize_words.specs.OneMemory.Word.{block_in}
@@ -8,12 +8,12 @@ use Rattle.seize_views.specs.Views.Notes.{noted_observed}
 use Rattle.seize_views.specs.Views.Rows.{IsQuiescent}
 use Rattle.seize_views.specs.Views.Stays.{observed_still}
 use Rattle.seize_views.specs.Views.Watched.{open_at, LeansOn, Leans, IsOwn, IsOfRows}
-use Rattle.seize_views.specs.Views.Told.{told, alone_with, owes_in}
+use Rattle.seize_views.specs.Views.Told.{told, alone_with, joined_as, owes_in}
 use Rattle.seize_views.specs.declared.view.Noted.{Noted}
 use Rattle.seize_views.specs.declared.view.SlotView.{SlotView}
-use Rattle.seize_views.specs.declared.view.SlotView.TheVariants.{Rests, Registers, Outside, Owes, Enters, Inside, Settles, Leaves, Left, Frees, Brings, Bears, Watches, Under, Busy}
+use Rattle.seize_views.specs.declared.view.SlotView.TheVariants.{Rests, Registers, Outside, Owes, Enters, Inside, Settles, Leaves, Left, Frees, Brings, Bears, Watches, Under, Joins, Busy}
 use Rattle.seize_views.specs.declared.view.Has.{Has}
-use Rattle.seize_views.specs.declared.view.Has.TheVariants.{Nothing, Made, Seen, Both, Cut}
+use Rattle.seize_views.specs.declared.view.Has.TheVariants.{Nothing, Made, Seen, Both, Cut, Walks}
 
 owes_rests : (T : Type 0) (t word : ℕ) (b : Bool) → IsQuiescent {T = T} (if b then Outside t else Owes t (block_in word))
 owes_rests T t word true = tt
@@ -26,6 +26,11 @@ module _ {T : Type 0} where
   alone_rests (Seen b) = tt
   alone_rests (Both b x a) = tt
   alone_rests (Cut b) = tt
+  alone_rests (Walks b next) = tt
+
+  joined_rests : (block : Option (ℕ × T × ℕ)) → IsQuiescent (joined_as block)
+  joined_rests None = tt
+  joined_rests (Some made) = tt
 
   rests_as : (w v : SlotView T) → w ≡ v → IsQuiescent v → IsQuiescent w
   rests_as w v e rests = subst IsQuiescent (sym e) rests
@@ -80,6 +85,7 @@ module _ {T : Type 0} (defers : T → Option ℕ) where
   observed_rests (Inside t has) op out w is r = rests_as w (Inside t is.0) is.2 tt
   observed_rests (Brings b x) op out w is r = rests_as w (alone_with is.0) is.2 (alone_rests is.0)
   observed_rests (Bears b) op out w is r = absurd is
+  observed_rests (Joins block) op out w is r = rests_as w (joined_as is.0) is.2 (joined_rests is.0)
   observed_rests (Watches t b) op out w is r = watched t b op out w is
   observed_rests (Under n t b) op out w is r = absurd r
   observed_rests (Registers c) op out w is r = absurd r
@@ -110,6 +116,7 @@ module _ {T : Type 0} where
   leans_under (Brings b x) n is = absurd is
   leans_under (Bears b) n is = absurd is
   leans_under (Watches t b) n is = absurd is
+  leans_under (Joins block) n is = absurd is
   leans_under (Busy t) n is = absurd is
 
   pub own_leans : (x : SlotView T) (n : ℕ) → IsOwn x → LeansOn x n → ⊥
@@ -173,6 +180,7 @@ module _ {T : Type 0} (defers : T → Option ℕ) where
   observed_leans (Frees t) op out w is n leans = absurd (own_leans w n (observed_still defers (Frees t) op out w tt is).own leans)
   observed_leans (Brings b x) op out w is n leans = absurd (own_leans w n (observed_still defers (Brings b x) op out w tt is).own leans)
   observed_leans (Bears b) op out w is n leans = absurd (own_leans w n (observed_still defers (Bears b) op out w tt is).own leans)
+  observed_leans (Joins block) op out w is n leans = absurd (own_leans w n (observed_still defers (Joins block) op out w tt is).own leans)
   observed_leans (Busy t) op out w is n leans = absurd (own_leans w n (observed_still defers (Busy t) op out w tt is).own leans)
 
   pub leaning_stay : (v : Noted T) (op : Op T) (out : Out T) (w : Noted T) → noted_observed defers v op out w → (n : ℕ) → Leans w n → Leans v n

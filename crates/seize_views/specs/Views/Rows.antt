@@ -1,6 +1,6 @@
 -- The rule of the collector's rows: there is a world that came about, of which the memory is that of the state; each seat knows its row there, its slot, and a
 -- block; and what a root names is there.
-use Rattle.std.specs.Prelude.{◌≡◌, ℕ, true, false, List, Option, Some, None, length, ◌⊎◌}
+use Rattle.std.specs.Prelude.{◌≡◌, ◌≢◌, ℕ, true, false, List, Option, Some, None, length, ◌⊎◌}
 use Rattle.seize_words.specs.OneMemory.Mem.{Mem, Can, Took, value_at, word_at}
 use Rattle.seize_words.specs.OneMemory.Word.{block_in}
 use Rattle.seize_words.specs.declared.at.At.TheVariants.{Root}
@@ -19,12 +19,14 @@ use Rattle.seize.specs.World as world
 use Rattle.seize_seats.specs.Seats.State.{State, view_of, after, PreservesKept}
 use Rattle.seize_words.specs.OneMemory.Op.{Op, Out}
 use Rattle.seize_acts.specs.Bounds.Bounds.{SettlesWithin, TriesWithin}
+use Rattle.seize_views.specs.Views.Chains.{all_roots, IsChainRoot, LinksTo, IsLinkSeen, HoldsAllBelow, Chain}
+use Rattle.seize_views.specs.declared.view.TheConstants.{LINK}
 use Rattle.seize_views.specs.declared.view.SlotView.{SlotView}
 use Rattle.seize_views.specs.declared.view.Becomes.{Becomes}
 use Rattle.seize_views.specs.declared.view.Becomes.TheVariants.{Idle, Active}
-use Rattle.seize_views.specs.declared.view.SlotView.TheVariants.{Rests, Registers, Outside, Owes, Enters, Inside, Settles, Leaves, Left, Frees, Brings, Bears, Watches, Under, Busy}
+use Rattle.seize_views.specs.declared.view.SlotView.TheVariants.{Rests, Registers, Outside, Owes, Enters, Inside, Settles, Leaves, Left, Frees, Brings, Bears, Watches, Under, Joins, Busy}
 use Rattle.seize_views.specs.declared.view.Has.{Has}
-use Rattle.seize_views.specs.declared.view.Has.TheVariants.{Nothing, Made, Seen, Both, Cut}
+use Rattle.seize_views.specs.declared.view.Has.TheVariants.{Nothing, Made, Seen, Both, Cut, Walks}
 use Rattle.seize_views.specs.declared.view.Why.{Why}
 use Rattle.seize_views.specs.declared.view.Why.TheVariants.{Retiring, Ending}
 use Rattle.seize_views.specs.declared.view.Fixed.{Fixed}
@@ -68,6 +70,7 @@ row_of (Brings b x) = world.Rests
 row_of (Bears b) = world.Rests
 row_of (Watches t b) = world.Rests
 row_of (Under n t b) = world.Rests
+row_of (Joins block) = world.Rests
 row_of (Busy t) = world.Rests
 
 -- it has nothing under way: no row, and nothing beside rows
@@ -98,6 +101,7 @@ use_of (Brings b x) = None
 use_of (Bears b) = None
 use_of (Watches t b) = None
 use_of (Under n t b) = None
+use_of (Joins block) = None
 use_of (Busy None) = None
 use_of (Busy (Some t)) = Some (t, world.Inside 0)
 
@@ -108,12 +112,14 @@ had_in (Made b x) = Some b
 had_in (Seen b) = None
 had_in (Both b x a) = Some b
 had_in (Cut b) = Some b
+had_in (Walks b next) = None
 
 abbrev pub hand_of : {T : Type 0} → SlotView T → Option ℕ
 hand_of (Owes t b) = Some b
 hand_of (Inside t has) = had_in has
 hand_of (Brings b x) = Some b
 hand_of (Bears b) = Some b
+hand_of (Joins (Some made)) = Some made.0
 hand_of _ = None
 
 -- registering seeks a slot, and has none yet
@@ -138,6 +144,7 @@ IsPlain (Brings b x) = ⊥
 IsPlain (Bears b) = ⊥
 IsPlain (Watches t b) = ⊥
 IsPlain (Under n t b) = ⊥
+IsPlain (Joins block) = ⊥
 IsPlain (Busy t) = ⊥
 IsPlain _ = Unit {0}
 
@@ -161,28 +168,10 @@ module _ {T : Type 0} where
   abbrev pub IsCut : World T → ℕ → Type 0
   IsCut w b = (h : ℕ) × (w.hand b ≡ world.Cutting h)
 
-  -- what a seat knows of a block, within a section of this slot where it has seen one
-  abbrev pub IsInHand : World T → ℕ → Has T → Type 0
-  IsInHand w t Nothing = Unit {0}
-  IsInHand w t (Made b x) = IsMade w b x
-  IsInHand w t (Seen b) = holds t b w.log ≡ true
-  IsInHand w t (Both b x a) = IsMade w b x × (holds t a w.log ≡ true)
-  IsInHand w t (Cut b) = IsCut w b
-
   -- the block that a settling is to look at is the one that it is about to reclaim, and has this value
   abbrev pub IsLooked : Mem T → Settle → Option (ℕ × T) → Type 0
   IsLooked m c None = Unit {0}
   IsLooked m c (Some seen) = IsReclaiming c.stands × (seen.0 ≡ block_in c.reclaiming) × (value_at m seen.0 ≡ Some seen.1)
-
-  -- nobody is busy, as rows are all there is
-  abbrev pub IsKnown : World T → SlotView T → Type 0
-  IsKnown w (Owes t b) = IsCut w b
-  IsKnown w (Inside t has) = IsInHand w t has
-  IsKnown w (Brings b x) = IsMade w b x
-  IsKnown w (Bears b) = IsCut w b
-  IsKnown w (Settles c why seen left) = IsLooked w.memory c seen
-  IsKnown w (Busy t) = ⊥
-  IsKnown w _ = Unit {0}
 
   -- some seat has the block in its hand
   abbrev pub IsSomeones : State T (SlotView T) (World T) → ℕ → Type 0
@@ -196,20 +185,46 @@ module _ {T : Type 0} where
   abbrev pub IsNamedAt : Mem T → ℕ → ℕ → Type 0
   IsNamedAt m r b = (word : ℕ) × (word_at m (Root r) ≡ Some word) × (block_in word ≡ b)
 
-  -- Where a block is, by whose it is: who has made or unlinked it has it so, and what is linked at a root is named there; each other one is nobody's, or the
-  -- collector's.
-  abbrev pub IsFound : Mem T → ℕ → (Hand → Type 0) → Hand → Type 0
-  IsFound m b has world.NoBlock = Unit {0}
-  IsFound m b has (world.Making h) = has (world.Making h)
-  IsFound m b has (world.InUse r) = IsNamedAt m r b
-  IsFound m b has (world.Parting h) = ⊥
-  IsFound m b has (world.Cutting h) = has (world.Cutting h)
-  IsFound m b has world.Handed = Unit {0}
-  IsFound m b has (world.LeftTo h) = ⊥
+  -- Where a block is, by whose it is: who has made or unlinked it has it so, and what is linked at a root is named there, or stands in the chain there; each
+  -- other one is nobody's, or the collector's.
+  abbrev pub IsFound : Fixed → Mem T → ℕ → (Hand → Type 0) → Hand → Type 0
+  IsFound fixed m b has world.NoBlock = Unit {0}
+  IsFound fixed m b has (world.Making h) = has (world.Making h)
+  IsFound fixed m b has (world.InUse r) = IsNamedAt m r b ⊎ IsChainRoot fixed r
+  IsFound fixed m b has (world.Parting h) = ⊥
+  IsFound fixed m b has (world.Cutting h) = has (world.Cutting h)
+  IsFound fixed m b has world.Handed = Unit {0}
+  IsFound fixed m b has (world.LeftTo h) = ⊥
 
   -- a root names no block, or one that is linked there
   abbrev pub RootsNameLinked : Mem T → (ℕ → Hand) → Type 0
   RootsNameLinked m hand = (r word : ℕ) → word_at m (Root r) ≡ Some word → (block_in word ≡ 0) ⊎ (hand (block_in word) ≡ world.InUse r)
+
+module _ {T : Type 0} (defers : T → Option ℕ) where
+  -- what a seat knows of a block, within a section of this slot where it has seen one
+  abbrev pub IsInHand : World T → ℕ → Has T → Type 0
+  IsInHand w t Nothing = Unit {0}
+  IsInHand w t (Made b x) = IsMade w b x
+  IsInHand w t (Seen b) = holds t b w.log ≡ true
+  IsInHand w t (Both b x a) = IsMade w b x × (holds t a w.log ≡ true)
+  IsInHand w t (Cut b) = IsCut w b
+  IsInHand w t (Walks b next) = HoldsAllBelow defers w t b × IsLinkSeen w.memory b next
+
+  -- the block was made by some seat, and has a link, which names this one
+  abbrev pub IsToStand : World T → Option (ℕ × T × ℕ) → Type 0
+  IsToStand w None = Unit {0}
+  IsToStand w (Some (b, x, a)) = IsMade w b x × LinksTo w.memory b a × (defers x ≢ Some LINK)
+
+  -- nobody is busy, as rows are all there is
+  abbrev pub IsKnown : World T → SlotView T → Type 0
+  IsKnown w (Owes t b) = IsCut w b
+  IsKnown w (Inside t has) = IsInHand w t has
+  IsKnown w (Brings b x) = IsMade w b x
+  IsKnown w (Bears b) = IsCut w b
+  IsKnown w (Settles c why seen left) = IsLooked w.memory c seen
+  IsKnown w (Joins block) = IsToStand w block
+  IsKnown w (Busy t) = ⊥
+  IsKnown w _ = Unit {0}
 
   -- what a seat knows is so
   pub record Fits (w : World T) (j : ℕ) (v : SlotView T) : Type 0 where
@@ -232,7 +247,7 @@ module _ {T : Type 0} (defers : T → Option ℕ) (fixed : Fixed) where
 
   -- the world came about from the start
   abbrev pub Came : World T → Type 0
-  Came w = Since (at_start defers fixed.roots) w
+  Came w = Since (at_start defers (all_roots fixed)) w
 
   -- The present lifetime of the memory began with this world, in which nobody had a row under way. Seats of an earlier one may have kept blocks, which nobody
   -- has any more.
@@ -245,14 +260,15 @@ module _ {T : Type 0} (defers : T → Option ℕ) (fixed : Fixed) where
   pub record Holds (s : State T (SlotView T) (World T)) : Type 0 where
     pub came : Came s.world
     pub memory : s.memory ≡ s.world.memory
-    pub seats : (j : ℕ) (v : SlotView T) → view_of s j ≡ Some v → Fits s.world j v
+    pub seats : (j : ℕ) (v : SlotView T) → view_of s j ≡ Some v → Fits defers s.world j v
     pub unborn : (j : ℕ) → view_of s j ≡ None → s.world.row j ≡ world.Rests
     pub apart : (j k t : ℕ) (a b : Use) (v u : SlotView T) → view_of s j ≡ Some v → view_of s k ≡ Some u → use_of v ≡ Some (t, a) → use_of u ≡ Some (t, b) → j ≡ k
     pub sole : (j k b : ℕ) (v u : SlotView T) → view_of s j ≡ Some v → view_of s k ≡ Some u → hand_of v ≡ Some b → hand_of u ≡ Some b → j ≡ k
     pub roots : RootsNameLinked s.memory s.world.hand
-    pub rooted : length s.memory.roots ≡ fixed.roots
+    pub rooted : length s.memory.roots ≡ all_roots fixed
     pub life : Lifetime s.world
-    pub found : (b : ℕ) → IsFound s.memory b (IsInSomeHand s life.began b) (s.world.hand b)
+    pub found : (b : ℕ) → IsFound fixed s.memory b (IsInSomeHand s life.began b) (s.world.hand b)
+    pub chains : (r : ℕ) → IsChainRoot fixed r → Chain defers s.memory s.world.hand r
     pub bounded : (j : ℕ) (v : SlotView T) → view_of s j ≡ Some v → IsBounded s.world j v
 
 module _ {T : Type 0} where

@@ -8,12 +8,12 @@ use Rattle.seize.specs.declared.states.TheConstants.{ACTIVE}
 use Rattle.seize.specs.declared.advance.Advance.TheVariants as progress
 use Rattle.seize.specs.declared.advance.Advance.{Advance}
 use Rattle.seize.specs.declared.rows.register.Register.{Register}
-use Rattle.seize_views.specs.Views.Told.{told, left_by, alone_with, owes_in, list_taken}
+use Rattle.seize_views.specs.Views.Told.{told, left_by, alone_with, joined_as, owes_in, list_taken}
 use Rattle.seize_views.specs.Views.Watched.{open_at, IsOwn}
 use Rattle.seize_views.specs.declared.view.SlotView.{SlotView}
-use Rattle.seize_views.specs.declared.view.SlotView.TheVariants.{Rests, Registers, Outside, Owes, Enters, Inside, Settles, Leaves, Left, Frees, Brings, Bears, Watches, Under, Busy}
+use Rattle.seize_views.specs.declared.view.SlotView.TheVariants.{Rests, Registers, Outside, Owes, Enters, Inside, Settles, Leaves, Left, Frees, Brings, Bears, Watches, Under, Joins, Busy}
 use Rattle.seize_views.specs.declared.view.Has.{Has}
-use Rattle.seize_views.specs.declared.view.Has.TheVariants.{Nothing, Made, Seen, Both, Cut}
+use Rattle.seize_views.specs.declared.view.Has.TheVariants.{Nothing, Made, Seen, Both, Cut, Walks}
 use Rattle.seize_views.specs.declared.view.Why.TheVariants.{Retiring, Ending}
 use Rattle.seize_views.specs.declared.view.Becomes.{Becomes}
 use Rattle.seize_views.specs.declared.view.Becomes.TheVariants.{Idle, Active}
@@ -49,6 +49,11 @@ module _ {T : Type 0} where
   alone_own (Seen b) = tt
   alone_own (Both b x a) = tt
   alone_own (Cut b) = tt
+  alone_own (Walks b next) = tt
+
+  joined_own : (block : Option (ℕ × T × ℕ)) → IsOwn (joined_as block)
+  joined_own None = tt
+  joined_own (Some made) = tt
 
   module _ (defers : T → Option ℕ) where
     withdrawn : (t : ℕ) (op : Op T) (out : Out T) (w : SlotView T) → told defers (Outside t) op out w → Still (Outside t) w
@@ -101,4 +106,5 @@ module _ {T : Type 0} where
     observed_still (Bears b) op out w own is = absurd is
     observed_still (Watches t b) op out w own is = absurd own
     observed_still (Under n t b) op out w own is = absurd own
+    observed_still (Joins block) op out w own is = at_own (Joins block) w (joined_as is.0) is.2 (joined_own is.0) (inr refl)
     observed_still (Busy t) op out w own is = absurd is

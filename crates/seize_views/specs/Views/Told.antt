@@ -2,9 +2,9 @@
 use Rattle.std.specs.Prelude.{◌≡◌, ◌≢◌, ◌<◌, ◌^◌, ℕ, ◌==◌, Option, Some, None, Ok, Err, nat_lt, if◌then◌else◌}
 use Rattle.seize_words.specs.OneMemory.Mem.{Mem, Took, value_at}
 use Rattle.seize_words.specs.OneMemory.Word.{block_in}
-use Rattle.seize_words.specs.OneMemory.Op.{Op, Out, Load, Swap, Or, Exchange, Make, Take, Rewrite, Found, Made as OutMade, Taken, Exchanged}
+use Rattle.seize_words.specs.OneMemory.Op.{Op, Out, Load, Store, Swap, Or, Exchange, Make, Take, Rewrite, Found, Stored, Made as OutMade, Taken, Exchanged}
 use Rattle.seize_words.specs.OneMemory.Plan.{Plan, Turn, Do, Ends}
-use Rattle.seize_words.specs.declared.at.At.TheVariants.{Root}
+use Rattle.seize_words.specs.declared.at.At.TheVariants.{Root, Word}
 use Rattle.seize.specs.declared.states.TheConstants.{ACTIVE}
 use Rattle.seize.specs.declared.advance.Advance.{Advance}
 use Rattle.seize.specs.declared.advance.Advance.TheVariants as progress
@@ -17,9 +17,9 @@ use Rattle.seize_straight.specs.Going.{DropGoes}
 use Rattle.seize_views.specs.Views.Rows.{IsShort}
 use Rattle.seize_views.specs.declared.view.SlotView.{SlotView}
 use Rattle.seize_views.specs.declared.view.Becomes.{Becomes}
-use Rattle.seize_views.specs.declared.view.SlotView.TheVariants.{Rests, Registers, Outside, Owes, Enters, Inside, Settles, Leaves, Left, Frees, Brings, Bears, Watches, Under}
+use Rattle.seize_views.specs.declared.view.SlotView.TheVariants.{Rests, Registers, Outside, Owes, Enters, Inside, Settles, Leaves, Left, Frees, Brings, Bears, Watches, Under, Joins}
 use Rattle.seize_views.specs.declared.view.Has.{Has}
-use Rattle.seize_views.specs.declared.view.Has.TheVariants.{Nothing, Made, Seen, Both, Cut}
+use Rattle.seize_views.specs.declared.view.Has.TheVariants.{Nothing, Made, Seen, Both, Cut, Walks}
 use Rattle.seize_views.specs.declared.view.Why.{Why}
 use Rattle.seize_views.specs.declared.view.Why.TheVariants.{Ending}
 
@@ -60,7 +60,22 @@ has_observed Nothing (Load (Root r)) (Found word) after = after ≡ seen_in word
 has_observed (Seen b) (Load (Root r)) (Found word) after = after ≡ seen_in word
 has_observed Nothing (Or (Root r) bits) (Found word) after = after ≡ seen_in word
 has_observed (Seen b) (Or (Root r) bits) (Found word) after = after ≡ seen_in word
+has_observed (Walks b next) (Load (Root r)) (Found word) after = after ≡ Walks (block_in word) None
+has_observed (Walks b next) (Load (Word c field)) (Found word) after = after ≡ Walks b (Some (block_in word))
+has_observed (Walks b next) (Exchange (Root r) old new) (Exchanged (Ok was)) after = after ≡ cut_in old
+has_observed (Walks b next) (Exchange (Root r) old new) (Exchanged (Err word)) after = (word ≢ old) × (after ≡ Walks (block_in word) None)
 has_observed _ op out after = ⊥
+
+-- what one without a slot comes to know that makes a block for a chain, writes its link, takes it away again, or puts it at the root of a chain, in place of
+-- this word alone
+abbrev pub has_joined : {T : Type 0} → Option (ℕ × T × ℕ) → Op T → Out T → Option (ℕ × T × ℕ) → Type 0
+has_joined None (Make value words) (OutMade (Ok b)) after = (b < 2 ^ 53) × (after ≡ Some (b, value, 0))
+has_joined None (Make value words) (OutMade (Err back)) after = (back ≡ value) × (after ≡ None)
+has_joined (Some made) (Store (Word c field) word) Stored after = after ≡ Some (made.0, made.1, block_in word)
+has_joined (Some made) (Take c) (Taken value) after = (value ≡ made.1) × (after ≡ None)
+has_joined (Some made) (Exchange (Root r) old new) (Exchanged (Ok was)) after = after ≡ None
+has_joined (Some made) (Exchange (Root r) old new) (Exchanged (Err word)) after = (word ≢ old) × (after ≡ Some made)
+has_joined _ op out after = ⊥
 
 -- how a seat stands that has no slot, and knows so of a block
 abbrev pub alone_with : {T : Type 0} → Has T → SlotView T
@@ -69,6 +84,12 @@ alone_with (Made b x) = Brings b x
 alone_with (Seen b) = Rests
 alone_with (Both b x a) = Brings b x
 alone_with (Cut b) = Bears b
+alone_with (Walks b next) = Rests
+
+-- or has made this block for a chain
+abbrev pub joined_as : {T : Type 0} → Option (ℕ × T × ℕ) → SlotView T
+joined_as None = Rests
+joined_as (Some made) = Joins (Some made)
 
 -- and what one outside of a section knows that has taken from a root what this word names
 abbrev pub owes_in : {T : Type 0} → ℕ → ℕ → SlotView T
@@ -124,5 +145,6 @@ module _ {T : Type 0} (defers : T → Option ℕ) where
   told (Frees t) op out w = w ≡ Rests
   told (Watches t b) (Load (Root r)) (Found word) w = w ≡ Watches t (block_in word)
   told (Under n t b) (Load (Root r)) (Found word) w = w ≡ Under n t (block_in word)
+  told (Joins block) op out w = (after : Option (ℕ × T × ℕ)) × has_joined block op out after × (w ≡ joined_as after)
   told (Under n t b) (Or (Root r) bits) (Found word) w = w ≡ Under n t (block_in word)
   told _ op out w = ⊥

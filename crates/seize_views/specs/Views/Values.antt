@@ -4,14 +4,15 @@ use Rattle.seize_words.specs.OneMemory.Mem.{Mem, value_at}
 use Rattle.seize.specs.World.{World}
 use Rattle.seize_seats.specs.Seats.State.{State, view_of}
 use Rattle.seize_views.specs.Reaches.Reached.{words_of_row, OneLeadsTo, IsOfASlot, IsOfABlock}
+use Rattle.seize_views.specs.Views.Chains.{IsBelow}
 use Rattle.seize_views.specs.Views.Rows.{row_of, IsSomeones, IsNamedAt, Holds}
 use Rattle.seize_views.specs.declared.view.SlotView.{SlotView}
 use Rattle.seize_views.specs.declared.view.Fixed.{Fixed}
 
 module _ {T : Type 0} where
-  -- some root names the block
+  -- some root names the block, or one that it stands so many links below
   abbrev pub IsAtARoot : Mem T → ℕ → Type 0
-  IsAtARoot m b = (r : ℕ) × IsNamedAt m r b
+  IsAtARoot m b = (r n c : ℕ) × IsNamedAt m r c × IsBelow m n c b
 
   -- a word leads to it that some seat's row has at hand
   abbrev pub IsOfASeat : State T (SlotView T) (World T) → ℕ → Type 0
@@ -26,7 +27,7 @@ module _ {T : Type 0} where
   WasKept began w b = w.hand b ≡ began.hand b
 
 module _ (T : Type 0) (defers : T → Option ℕ) where
-  -- The promise: each value that is there, which is each one that was not reclaimed, some seat has in its hand, or a root names, or words lead to it from a
+  -- The promise: each value that is there, which is each one that was not reclaimed, some seat has in its hand, or a root names, or a chain has, or words lead to it from a
   -- slot, from what a seat has at hand, or from a block; but for those that seats of an earlier lifetime have kept.
   abbrev pub ValuesAreFound : Type 0
   ValuesAreFound =

@@ -7,6 +7,8 @@ ghost use Rattle.seize_views.specs.Views.Notes.{WatchesBegin, WatchesEnd, Watche
 ghost use Rattle.seize_views.specs.Views.Notes.{LeaningsBegin, LeaningsSee, LeaningsMark, LeaningsEnd, LeaningsKeep, KeptAreThere};
 ghost use Rattle.seize_views.specs.Views.Promises.{OwnAreMade, OwnAreTaken, OwnAreRewritten, OwnAreLinked, OwnAreExchanged, OwnAreShown, BorneAreShown, BorneAreHandedOn};
 ghost use Rattle.seize_views.specs.Views.Values.{ValuesAreFound};
+ghost use Rattle.seize_views.specs.Views.Stacking.{WaysBegin, JoiningAreMade, LinksAreWritten, JoiningAreTaken, JoiningArePut, JoiningAreShown};
+ghost use Rattle.seize_views.specs.Views.Stacking.{ChainsAreSeen, LinksAreSeen, LinksAreCopied};
 
 use seize::rows::Defers;
 
@@ -47,7 +49,22 @@ pub fn blocks_have_seats<T: Defers>()
     ensures handed { BorneAreHandedOn T T.defers }
 {}
 
-/// Between any two steps no value is lost: some seat has its block in its hand, or a root names it, or words lead to it from a slot, from what a seat has at
+/// Without a slot a block may be made that has a link, that be written, and the block be put at the root of a chain, above the one that its link names, or taken
+/// away. Within a section a seat may see with which block a chain begins, go down it by links, and copy the link of the first block to the root, in place of
+/// that, which it is to retire.
+pub fn chains_are_kept<T: Defers>()
+    ensures turn { WaysBegin T T.defers }
+    ensures made { JoiningAreMade T T.defers }
+    ensures written { LinksAreWritten T T.defers }
+    ensures taken { JoiningAreTaken T T.defers }
+    ensures put { JoiningArePut T T.defers }
+    ensures shown { JoiningAreShown T T.defers }
+    ensures seen { ChainsAreSeen T T.defers }
+    ensures linked { LinksAreSeen T T.defers }
+    ensures copied { LinksAreCopied T T.defers }
+{}
+
+/// Between any two steps no value is lost: some seat has its block in its hand, or a root names it, or a chain has it, or words lead to it from a slot, from what a seat has at
 /// hand in its row, or from a block that is there.
 pub fn values_are_found<T: Defers>()
     ensures found { ValuesAreFound T T.defers }

@@ -35,7 +35,7 @@ use Rattle.threads_rule.specs.declared.view.SeatWork.TheVariants.{Nothing, Calls
 
 -- batches of 32 blocks, and four roots
 abbrev chosen : Fixed
-chosen = record { batch_size = 32; roots = 4 }
+chosen = record { batch_size = 32; roots = 4; chains = 0 }
 
 abbrev same : ℕ → ℕ → Bool
 same a b = a == b

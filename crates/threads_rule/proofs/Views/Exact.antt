@@ -67,6 +67,7 @@ row_on_slot (slot_view.Brings b x) t on sh = absurd (cc sh)
 row_on_slot (slot_view.Bears b) t on sh = absurd (cc sh)
 row_on_slot (slot_view.Watches s b) t on sh = absurd (cc sh)
 row_on_slot (slot_view.Under n s b) t on sh = absurd (cc sh)
+row_on_slot (slot_view.Joins block) t on sh = absurd (cc sh)
 row_on_slot (slot_view.Busy s) t on sh = absurd (cc sh)
 
 same_here : (a : ℕ) (l : List ℕ) → (count a (a ∷ l) ≡ 0) → ⊥

@@ -41,8 +41,8 @@ module _ {K V S : Type 0} (fixed : Fixed) (j : ℕ) (x : View K V S) where
   module _ (scene n : Scene K V) (came : CameAbout fixed.batch_size scene.world) (came2 : CameAbout fixed.batch_size n.world) (f : HasRow scene c x.slot) (g : HasRow n c x.slot)
       (keeps : Keeps scene.world n.world) (events : List (Event (Node K V)))
       (passes : Meanwhile deferred_word (IsAloneOnSlot c) fixed.batch_size c events scene.world n.world) where
-    looked : (d : Settle) (why : Why) (seen : ℕ × Node K V) (left : ℕ) → x.slot ≡ slot_view.Settles d why (Some seen) left → IsKnown scene.world (slot_view.Settles d why (Some seen) left)
-        → IsKnown n.world (slot_view.Settles d why (Some seen) left)
+    looked : (d : Settle) (why : Why) (seen : ℕ × Node K V) (left : ℕ) → x.slot ≡ slot_view.Settles d why (Some seen) left → IsKnown deferred_word scene.world (slot_view.Settles d why (Some seen) left)
+        → IsKnown deferred_word n.world (slot_view.Settles d why (Some seen) left)
     looked d why seen left is known =
         let row = settles_row scene f d why (Some seen) left is in
         let its : scene.world.hand seen.0 ≡ Handed =
@@ -54,7 +54,7 @@ module _ {K V S : Type 0} (fixed : Fixed) (j : ℕ) (x : View K V S) where
         subst (λ (b : ℕ). IsSome (value_at n.world.memory b)) (sym known.1) (reclaiming_there deferred_word d why n.world.memory may known.0) in
         (known.0, known.1, keeps seen.0 its (subst IsSome (sym known.2) refl) some ∙ known.2)
 
-    known_on : (slot : SlotView (Node K V)) → x.slot ≡ slot → IsPlain slot → IsKnown scene.world slot → IsKnown n.world slot
+    known_on : (slot : SlotView (Node K V)) → x.slot ≡ slot → IsPlain slot → IsKnown deferred_word scene.world slot → IsKnown deferred_word n.world slot
     known_on (slot_view.Settles d why None left) is plain known = tt
     known_on (slot_view.Settles d why (Some seen) left) is plain known = looked d why seen left is known
     known_on slot_view.Rests is plain known = tt
@@ -85,6 +85,7 @@ module _ {K V S : Type 0} (fixed : Fixed) (j : ℕ) (x : View K V S) where
     bound_on (slot_view.Bears d) b = tt
     bound_on (slot_view.Watches t d) b = tt
     bound_on (slot_view.Under n t d) b = tt
+    bound_on (slot_view.Joins block) b = tt
     bound_on (slot_view.Busy t) b = tt
 
     pub knows_on : KnowsRow fixed scene j x.slot → KnowsRow fixed n j x.slot

@@ -14,7 +14,7 @@ use Rattle.seize_acts.specs.Acts.Stays.{how_many, is_end_of_owner}
 use Rattle.many_acts.proofs.Acts.Counts.{its_call, other_call}
 use Rattle.seize_views.specs.Views.Rows.{use_of}
 use Rattle.seize_views.specs.declared.view.Has.{Has}
-use Rattle.seize_views.specs.declared.view.Has.TheVariants.{Nothing as NoBlock, Made, Seen, Both, Cut}
+use Rattle.seize_views.specs.declared.view.Has.TheVariants.{Nothing as NoBlock, Made, Seen, Both, Cut, Walks}
 use Rattle.seize_views.specs.declared.view.SlotView.{SlotView}
 use Rattle.seize_views.specs.declared.view.SlotView.TheVariants as slot_view
 use Rattle.threads_rule.specs.Views.Rule.{IsIdle, IsUsedSo, IsSlot, DoesSo, KnowsMap, KnowsPair, Fits, IsAside, IsLeant, caller_at, place_of, acts_in, section_of, IsInSection, IsOfCall, IsHeld, AllHeld}
@@ -71,6 +71,7 @@ own_section (slot_view.Inside a (Made b x)) t is = absurd (cc is)
 own_section (slot_view.Inside a (Seen b)) t is = absurd (cc is)
 own_section (slot_view.Inside a (Both b x c)) t is = absurd (cc is)
 own_section (slot_view.Inside a (Cut b)) t is = absurd (cc is)
+own_section (slot_view.Inside a (Walks b next)) t is = absurd (cc is)
 own_section slot_view.Rests t is = absurd (cc is)
 own_section (slot_view.Registers c) t is = absurd (cc is)
 own_section (slot_view.Outside a) t is = absurd (cc is)
@@ -84,6 +85,7 @@ own_section (slot_view.Brings b x) t is = absurd (cc is)
 own_section (slot_view.Bears b) t is = absurd (cc is)
 own_section (slot_view.Watches a b) t is = absurd (cc is)
 own_section (slot_view.Under n a b) t is = absurd (cc is)
+own_section (slot_view.Joins block) t is = absurd (cc is)
 own_section (slot_view.Busy a) t is = absurd (cc is)
 
 -- who has calls under way within a section is the caller of that slot

@@ -97,6 +97,7 @@ plain_hand (slot_view.Brings b x) is = absurd is
 plain_hand (slot_view.Bears b) is = absurd is
 plain_hand (slot_view.Watches t b) is = absurd is
 plain_hand (slot_view.Under n t b) is = absurd is
+plain_hand (slot_view.Joins block) is = absurd is
 plain_hand (slot_view.Busy t) is = absurd is
 plain_hand slot_view.Rests is = refl
 plain_hand (slot_view.Registers c) is = refl

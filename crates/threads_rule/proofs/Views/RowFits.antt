@@ -57,6 +57,7 @@ rest_bounded fixed n c (slot_view.Brings d y) e = tt
 rest_bounded fixed n c (slot_view.Bears d) e = tt
 rest_bounded fixed n c (slot_view.Watches t d) e = tt
 rest_bounded fixed n c (slot_view.Under k t d) e = tt
+rest_bounded fixed n c (slot_view.Joins block) e = tt
 rest_bounded fixed n c (slot_view.Busy t) e = tt
 
 module _ {K V S : Type 0} (same : K → K → Bool) (hash : S → K → ℕ) (fixed : Fixed) (s : State (Node K V) (View K V S) (MapsWorld K V S)) (h : Holds same hash fixed s)
@@ -162,7 +163,7 @@ module _ {K V S : Type 0} (same : K → K → Bool) (hash : S → K → ℕ) (fi
         bounds b (inl e) = subst (λ (a : ℕ). IsBounded deferred_word fixed n (caller_at id a) u) (sym e) b
         bounds b (inr (ne, rests)) = rest_bounded fixed n (caller_at id there) u rests
 
-        pub go : IsUnlent Leans id s → (act : Act K V S) → AreNumbered 0 (s.world.doings ++ Does act ∷ []) so.fresh.0 → (m : Mem (Node K V)) → m ≡ n.memory → IsPlain u → IsShort u → IsKnown n u → IsBounded deferred_word fixed n i u
+        pub go : IsUnlent Leans id s → (act : Act K V S) → AreNumbered 0 (s.world.doings ++ Does act ∷ []) so.fresh.0 → (m : Mem (Node K V)) → m ≡ n.memory → IsPlain u → IsShort u → IsKnown deferred_word n u → IsBounded deferred_word fixed n i u
             → ((j t : ℕ) (a b : Use) (x : View K V S) → j ≢ id → view_of s j ≡ Some x → use_of x.slot ≡ Some (t, a) → use_of u ≡ Some (t, b) → ⊥)
             → Moved same hash fixed s h id act m w next
         go unlent act numbered m memory plain short known bounded alone = record {

@@ -22,7 +22,7 @@ use Rattle.seize_views.specs.declared.view.Becomes.TheVariants.{Idle, Active}
 use Rattle.seize_views.specs.declared.view.Began.{Began}
 use Rattle.seize_views.specs.declared.view.Fixed.{Fixed}
 use Rattle.seize_views.specs.declared.view.Has.{Has}
-use Rattle.seize_views.specs.declared.view.Has.TheVariants.{Nothing as NoBlock, Made, Seen, Both, Cut}
+use Rattle.seize_views.specs.declared.view.Has.TheVariants.{Nothing as NoBlock, Made, Seen, Both, Cut, Walks}
 use Rattle.seize_views.specs.declared.view.SlotView.{SlotView}
 use Rattle.seize_views.specs.declared.view.SlotView.TheVariants as slot_view
 use Rattle.seize_views.specs.declared.view.Why.TheVariants.{Retiring}
@@ -51,6 +51,7 @@ plain_has t (Made b x) is = absurd is
 plain_has t (Seen b) is = absurd is
 plain_has t (Both b x a) is = absurd is
 plain_has t (Cut b) is = absurd is
+plain_has t (Walks b next) is = absurd is
 
 module _ {K V S : Type 0} (same : K → K → Bool) (hash : S → K → ℕ) (fixed : Fixed) (s : State (Node K V) (View K V S) (MapsWorld K V S)) (h : Holds same hash fixed s)
     (id : ℕ) (v : View K V S) (at_id : view_of s id ≡ Some v) where
@@ -187,4 +188,4 @@ module _ {K S : Type 0} (V : Type 0) (same : K → K → Bool) (hash : S → K �
       here : (t : State (Node K V) (View K V S) (MapsWorld K V S)) → Holds same hash fixed t → view_of t id ≡ Some v → value_at t.memory b ≡ Some x
       here t h at =
           ap (λ (m : Mem (Node K V)). value_at m b) h.so.memory
-          ∙ (subst (λ (y : SlotView (Node K V)). IsKnown t.world.scene.world y) is (h.rows id v at).known).2
+          ∙ (subst (λ (y : SlotView (Node K V)). IsKnown deferred_word t.world.scene.world y) is (h.rows id v at).known).2

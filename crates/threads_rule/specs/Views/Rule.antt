@@ -159,7 +159,7 @@ module _ {K V : Type 0} where
   pub record KnowsRow (fixed : Fixed) (s : Scene K V) (j : ℕ) (v : SlotView (Node K V)) : Type 0 where
     pub plain : IsPlain v
     pub short : IsShort v
-    pub known : IsKnown s.world v
+    pub known : IsKnown deferred_word s.world v
     pub bounded : IsBounded deferred_word fixed s.world (caller_at j (place_of v)) v
 
 module _ {K V S : Type 0} (same : K → K → Bool) (hash : S → K → ℕ) where

@@ -5,4 +5,4 @@ use Rattle.shared_stack.specs.declared.tests.Tally.{Tally}
 use Rattle.shared_stack.proofs.tests.by_four.Goals as goal
 
 pub open-requires-clause-starts : goal.open-requires-clause-starts
-open-requires-clause-starts g c = rules_start (Pile Tally) (λ _. None) (record { batch_size = 32; roots = 1 })
+open-requires-clause-starts g c = rules_start (Pile Tally) (λ _. None) (record { batch_size = 32; roots = 1; chains = 0 })
