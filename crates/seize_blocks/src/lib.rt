@@ -9,9 +9,11 @@ mod home;
 mod numbers;
 mod part;
 mod places;
+mod reaching;
 mod rooms;
 
 pub use blocks::Blocks;
 pub use errand::{Errand, ErrandWith};
 pub use home::Home;
+pub use part::Place;
 pub use seize_atoms::{Lesson, Meeting, Rule, Seat, StripWords, Turn};
