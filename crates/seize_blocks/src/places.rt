@@ -143,7 +143,7 @@ impl<T, R: Rule<T>> Blocks<T, R> {
         self.words.visit(seat, block);
         let spot = self.spot_of(seat, seat, seat, block);
         let beside = self.beside(seat, &spot, block);
-        if own < beside.count {
+        if beside.count > 0 && own < 1152921504606846976 {
             let address = beside.at;
             return Reached {
                 strip: spot.strip,
