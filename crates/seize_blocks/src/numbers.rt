@@ -118,20 +118,24 @@ impl<T, R: Rule<T>> Blocks<T, R> {
         self.part_behind(door, first)
     }
 
-    /// A number of the strip of this one, if one is free there from this one on.
+    /// A number from this one on, if one is free in the strips that are there.
     fn near(&self, from: u64) -> Option<(Part<T>, u64, Claim)>
         ensures { IfSome result (λ c. IsClaimed self.now.words.id c) }
     {
-        if from >= MOST {
-            return None;
+        let mut next = from;
+        for _ in 0..33 {
+            if next >= MOST {
+                return None;
+            }
+            let Some(part) = self.part_of(next) else {
+                return None;
+            };
+            if let Some((index, claim)) = self.claim_in(&part, next.wrapping_sub(part.first)) {
+                return Some((part, index, claim));
+            }
+            next = part.first + part.count;
         }
-        let Some(part) = self.part_of(from) else {
-            return None;
-        };
-        match self.claim_in(&part, from.wrapping_sub(part.first)) {
-            Some((index, claim)) => Some((part, index, claim)),
-            None => None,
-        }
+        None
     }
 
     /// A number of any strip, from the first one on. Where none is free a strip more is laid.
@@ -151,8 +155,8 @@ impl<T, R: Rule<T>> Blocks<T, R> {
         None
     }
 
-    /// A number that was free and is claimed now, with its strip and its index in it. It is looked for from this one on to the end of its strip, and then from
-    /// the first one on: so who goes on from the one that he had last goes over all numbers before he comes to one again.
+    /// A number that was free and is claimed now, with its strip and its index in it. It is looked for from this one on, and then from the first one on: so
+    /// who goes on from the one that he had last goes over all numbers before he comes to one again.
     pub(crate) fn number(&self, from: u64) -> Option<(Part<T>, u64, Claim)>
         ensures { IfSome result (λ c. IsClaimed self.now.words.id c) }
     {
