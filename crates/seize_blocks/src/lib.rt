@@ -6,6 +6,7 @@ mod alone;
 mod blocks;
 mod errand;
 mod home;
+mod landing;
 mod numbers;
 mod part;
 mod places;

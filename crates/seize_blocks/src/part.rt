@@ -56,3 +56,10 @@ pub(crate) fn words_in<T>(strip: &Strip<T>) -> Address
 {
     Address { at: strip.words }
 }
+
+/// From which address an operation on a word of a block's own is made, and how many words on from there.
+#[derive(Drop)]
+pub(crate) struct Landing {
+    pub(crate) at: *mut u64,
+    pub(crate) place: u64,
+}

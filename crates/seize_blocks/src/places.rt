@@ -12,6 +12,7 @@ ghost use Rattle.seize_atoms.specs.Placed.{IsItsPlace, IsItsIndex, IsBehind, Has
 
 use crate::access::Access;
 use crate::blocks::{Blocks, MOST};
+use crate::landing::lands;
 use crate::part::{Reached, Spot, places_in, words_in};
 use seize_atoms::{Rule, Seat};
 use seize_seats::{Beside, Kept, skip_of};
@@ -143,20 +144,12 @@ impl<T, R: Rule<T>> Blocks<T, R> {
         self.words.visit(seat, block);
         let spot = self.spot_of(seat, seat, seat, block);
         let beside = self.beside(seat, &spot, block);
-        if beside.count > 0 && own < 1152921504606846976 {
-            let address = beside.at;
-            return Reached {
-                strip: spot.strip,
-                address,
-                place: own,
-            };
-        }
-        let words = words_in(&spot.strip);
-        let address = words.at;
+        let landing = lands(&beside, own, &spot.strip);
+        let address = landing.at;
         Reached {
             strip: spot.strip,
             address,
-            place: 0,
+            place: landing.place,
         }
     }
 

@@ -1,5 +1,5 @@
 //! Operations on words, where it is kept at which place a block was found: as long as the next one is on the same block's own words it is not looked for again.
-ghost use Rattle.std.specs.Prelude.{◌≡◌, Some};
+ghost use Rattle.std.specs.Prelude.{◌≡◌};
 ghost use Rattle.seize_words.specs.OneMemory.Op.{Load, Store, Or, Exchange, Found, Stored, Exchanged};
 ghost use Rattle.seize_words.specs.declared.at.At.TheVariants.{Word};
 ghost use Rattle.seize_seats.specs.Seats.State.{Allows};
@@ -8,9 +8,9 @@ ghost use Rattle.seize_blocks.specs.Parts.{IsFound};
 
 use crate::access::{Access, Exchanges, Loads, Sets, Stores};
 use crate::blocks::Blocks;
-use crate::part::{Place, words_in};
+use crate::landing::lands;
+use crate::part::Place;
 use seize_atoms::{Rule, Seat};
-use seize_seats::Beside;
 use seize_words::At;
 
 impl<T, R: Rule<T>> Blocks<T, R> {
@@ -84,58 +84,14 @@ impl<T, R: Rule<T>> Blocks<T, R> {
         self.finds(seat, place, block);
         self.words.visit(seat, block);
         let beside = self.beside(seat, &place.spot, block);
-        if own < beside.count {
-            let address = beside.at;
-            return access.made(
-                self.words.by(&place.spot.strip),
-                seat,
-                &At::Word(block, own),
-                address,
-                own,
-            );
-        }
-        self.access_past(seat, place, block, own, &beside, access)
-    }
-
-    /// The same, where the word is none of those that were seen: then no state is one in which the seat has its view.
-    #[cold]
-    #[inline(never)]
-    fn access_past<A: Access<T, R>>(
-        &self,
-        seat: &mut Seat<T, R>,
-        place: &Place<T>,
-        block: u64,
-        own: u64,
-        beside: &Beside,
-        access: A,
-    ) -> A::Answer
-        requires own { seat.old.base ≡ self.now.words.id.views_name }
-        requires may { Allows (R.holds self.now.words.fixed) R.keeps seat.old.id seat.old.view (A.op access (Word block own))
-            (R.then seat.old.view (A.op access (Word block own))) }
-        requires place { IsFound self.now.words.id place.now × (place.now.block ≡ block) }
-        requires seen { seat.old.visit.spot ≡ Some (block, (beside.now.at, beside.now.count)) }
-        ensures same { (seat.new.base ≡ seat.old.base) × (seat.new.id ≡ seat.old.id) }
-        ensures errand { seat.new.away ≡ seat.old.away }
-        ensures goes { R.then seat.old.view (A.op access (Word block own)) (A.out result) seat.new.view }
-    {
-        if beside.count > 0 && own < 1152921504606846976 {
-            let address = beside.at;
-            return access.made(
-                self.words.by(&place.spot.strip),
-                seat,
-                &At::Word(block, own),
-                address,
-                own,
-            );
-        }
-        let words = words_in(&place.spot.strip);
-        let address = words.at;
+        let landing = lands(&beside, own, &place.spot.strip);
+        let address = landing.at;
         access.made(
             self.words.by(&place.spot.strip),
             seat,
             &At::Word(block, own),
             address,
-            0,
+            landing.place,
         )
     }
 
