@@ -1,5 +1,4 @@
 //! From where an operation on a word of a block's own is made, by what was seen of them.
-ghost use Rattle.std.specs.Prelude.{◌≡◌};
 ghost use denote.RawPtr.{InBlock};
 ghost use Rattle.seize_seats.specs.Plots.Somewhere.{AreBeside};
 ghost use Rattle.seize_blocks.specs.Landing.{Lands};
