@@ -235,7 +235,7 @@ impl<T, R: Rule<T>> Blocks<T, R> {
         if index < self.count {
             return self.near_spot(index);
         }
-        if index >= MOST {
+        if block == 0 || block > MOST {
             return self.near_spot(0);
         }
         self.far_spot_of(pass, guard, owner, block)

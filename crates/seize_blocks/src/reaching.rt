@@ -3,7 +3,8 @@ ghost use Rattle.std.specs.Prelude.{◌≡◌};
 ghost use Rattle.seize_words.specs.OneMemory.Op.{Load, Store, Or, Exchange, Found, Stored, Exchanged};
 ghost use Rattle.seize_words.specs.declared.at.At.TheVariants.{Word};
 ghost use Rattle.seize_seats.specs.Seats.State.{Allows};
-ghost use Rattle.seize_seats.specs.Seats.Lendings.{VisibleTo, VisibleToThree};
+ghost use Rattle.seize_seats.specs.Seats.Lendings.{VisibleToThree};
+ghost use Rattle.seize_atoms.specs.Placed.{HasWord, IsItsIndex};
 ghost use Rattle.seize_blocks.specs.Parts.{IsFound};
 
 use crate::access::{Access, Exchanges, Loads, Sets, Stores};
@@ -31,7 +32,8 @@ impl<T, R: Rule<T>> Blocks<T, R> {
         requires own { seat.now.base ≡ self.now.words.id.views_name }
         requires shown { VisibleToThree (R.holds self.now.words.fixed) seat.now.id seat.now.view seat.now.id seat.now.view seat.now.id seat.now.view block }
         requires place { IsFound self.now.words.id place.old }
-        ensures { IsFound self.now.words.id place.new × (place.new.block ≡ block) }
+        ensures place { IsFound self.now.words.id place.new }
+        ensures index { IsItsIndex place.new.spot.strip.id block place.new.spot.index }
     {
         if place.block != block {
             place.spot = self.spot_of(seat, seat, seat, block);
@@ -75,6 +77,7 @@ impl<T, R: Rule<T>> Blocks<T, R> {
         requires own { seat.old.base ≡ self.now.words.id.views_name }
         requires may { Allows (R.holds self.now.words.fixed) R.keeps seat.old.id seat.old.view (A.op access (Word block own))
             (R.then seat.old.view (A.op access (Word block own))) }
+        requires there { HasWord (R.holds self.now.words.fixed) seat.old.id seat.old.view (Word block own) }
         requires place { IsFound self.now.words.id place.old }
         ensures same { (seat.new.base ≡ seat.old.base) × (seat.new.id ≡ seat.old.id) }
         ensures errand { seat.new.away ≡ seat.old.away }
