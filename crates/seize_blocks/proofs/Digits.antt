@@ -3,7 +3,7 @@ use Rattle.std.specs.Prelude.{◌≡◌, ℕ, zero, suc, ◌+◌, ◌-◌, ◌*�
 use Rattle.std.specs.Int.Count.{count_leading_zeros}
 use Rattle.std.proofs.Common.{inr, inl, arith, ap, sym, ◌∙◌, pow-suc, pow-add, subst}
 use Rattle.std.proofs.lemmas.Bool.{cases_lt}
-use Rattle.std.proofs.lemmas.Nat.{leading_top}
+use Rattle.std.proofs.lemmas.Nat.{leading_top, shl_whole}
 use Rattle.std.proofs.Math.Pow.{pow_mono}
 use Rattle.seize_atoms.specs.Placed.{IsBehind}
 
@@ -25,12 +25,19 @@ fewer i j m low high = case (cases_lt i j)
     case (inl lt) = lt
     case (inr le) = let p = pow_mono le in absurd (omega (arith, p, low, high))
 
+-- a power of two that is shifted to its place
+whole : (d : ℕ) → d < 63 → (1 * 2 ^ d) % 2 ^ 64 ≡ 2 ^ d
+whole d few = let one : 1 * 2 ^ d ≡ 2 ^ d = omega arith in shl_whole 1 1 d 64 (omega arith) (omega (arith, few)) ∙ one
+
+some_power : (d : ℕ) → 0 < 2 ^ d
+some_power d = let none : 0 ≤ d = omega arith in let p = pow_mono none in omega (arith, p)
+
+pub is_power : (d : ℕ) → d ≤ 32 → ((1 * 2 ^ d) % 2 ^ 64 ≡ 2 ^ d) × (0 < (1 * 2 ^ d) % 2 ^ 64) × ((1 * 2 ^ d) % 2 ^ 64 ≤ 2 ^ 32)
+is_power d few = let is = whole d (omega (arith, few)) in let some = some_power d in let most = pow_mono few in (is, omega (arith, is, some), omega (arith, is, most))
+
 module _ (least digits index : ℕ) (even : least ≡ 2 ^ digits) (far : least ≤ index) (small : index < 2 ^ 32) where
   top : HasTop index (top_of index)
-  top = let p = pow_mono (zero_le digits) in has_top index (omega (arith, p, even, far)) small
-    where
-      zero_le : (n : ℕ) → 0 ≤ n
-      zero_le n = omega arith
+  top = let some = some_power digits in has_top index (omega (arith, some, even, far)) small
 
   -- the number has a highest digit
   pub has_digits : count_leading_zeros 64 index ≤ 63
@@ -43,15 +50,11 @@ module _ (least digits index : ℕ) (even : least ≡ 2 ^ digits) (far : least �
   few : top_of index < 32
   few = fewer (top_of index) 32 index top.1 small
 
-  -- the power of two is one of 64 digits
-  pub whole : (1 * 2 ^ top_of index) % 2 ^ 64 ≡ 2 ^ top_of index
-  whole = let low = top.1 in omega (arith, low, small)
-
   -- its strip begins there
   pub begins : IsBehind least index (top_of index - digits) ((1 * 2 ^ top_of index) % 2 ^ 64)
   begins =
       let le = no_fewer in let sum : digits + (top_of index - digits) ≡ top_of index = omega (arith, le) in
       let parts : 2 ^ top_of index ≡ least * 2 ^ (top_of index - digits) =
       ap (λ (k : ℕ). 2 ^ k) (sym sum) ∙ pow-add 2 digits (top_of index - digits) ∙ ap (λ (k : ℕ). k * 2 ^ (top_of index - digits)) (sym even) in
-      let twice : 2 ^ suc (top_of index) ≡ 2 ^ top_of index * 2 = pow-suc 2 (top_of index) in let low = top.1 in let high = top.2 in let less = few in let is = whole in
+      let twice : 2 ^ suc (top_of index) ≡ 2 ^ top_of index * 2 = pow-suc 2 (top_of index) in let low = top.1 in let high = top.2 in let less = few in let is = whole (top_of index) (omega (arith, less)) in
       (is ∙ parts, omega (arith, is, low), omega (arith, is, twice, high), omega (arith, less))
