@@ -16,7 +16,7 @@ HasTop n top = (count_leading_zeros 64 n ≤ 63) × (2 ^ top ≤ n) × (n < 2 ^ 
 
 has_top : (n : ℕ) → 0 < n → n < 2 ^ 32 → HasTop n (top_of n)
 has_top n some small = let l = leading_top 64 n some (omega (arith, small)) in let sum = l.1 in let is : l.0 ≡ top_of n = omega (arith, sum) in
-    (omega (arith, sum), subst (λ (k : ℕ). (2 ^ k ≤ n) × (n < 2 ^ suc k)) is (l.2, l.3))
+    let both = subst (λ (k : ℕ). (2 ^ k ≤ n) × (n < 2 ^ suc k)) is (l.2, l.3) in (omega (arith, sum), both.0, both.1)
 
 fewer : (i j m : ℕ) → 2 ^ i ≤ m → m < 2 ^ j → i < j
 fewer i j m low high = case (cases_lt i j)

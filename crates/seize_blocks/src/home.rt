@@ -1,5 +1,5 @@
 //! The memory with the right to give back what it is made of.
-ghost use Rattle.std.specs.Prelude.{◌≡◌, ◌≤◌, ◌^◌, List, [], ◌∷◌, None, IfOk};
+ghost use Rattle.std.specs.Prelude.{◌≡◌, ◌<◌, ◌≤◌, ◌^◌, List, [], ◌∷◌, None, IfOk};
 ghost use Rattle.core.specs.Mem.Slots.{lease_ptr, lease_len};
 ghost use Rattle.seize_seats.specs.Seats.Errands.{RenewsTo, RenewsFrom};
 ghost use Rattle.seize_seats.specs.Seats.Start.{WasIdle, WasKnown};

@@ -6,8 +6,8 @@ pub overflow_sub-top : goal.overflow_sub-top
 overflow_sub-top g c = let x = c.args.self.now in
     has_digits x.words.id.least x.digits c.args.index (x.counted.2 ∙ x.even) c.requires.0 c.requires.1
 
-pub overflow_sub : goal.overflow_sub
-overflow_sub g c = let x = c.args.self.now in
+pub overflow_sub-result : goal.overflow_sub-result
+overflow_sub-result g c = let x = c.args.self.now in
     no_fewer x.words.id.least x.digits c.args.index (x.counted.2 ∙ x.even) c.requires.0 c.requires.1
 
 pub returns : goal.returns
