@@ -1,4 +1,4 @@
-use Rattle.std.proofs.Common.{◌≡◌, ℕ, ◌≤◌, ◌^◌, subst, ◌∙◌}
+use Rattle.std.proofs.Common.{◌∙◌}
 use Rattle.seize_blocks.proofs.Digits.{has_digits, no_fewer, begins}
 use Rattle.seize_blocks.proofs.blocks.Blocks.door_of.Goals as goal
 
