@@ -61,8 +61,10 @@ impl<'a, K: Eq, V, S: Hashes<K>> Memory<Node<K, V>> for Ahead<'a, K, V, S> {
     #[inline(always)]
     fn make(&mut self, value: Node<K, V>, words: u64) -> Result<u64, Node<K, V>> {
         self.catches_up();
-        self.blocks
-            .make(&mut *self.seat, &mut self.near, value, words)
+        let mut near = self.near;
+        let made = self.blocks.make(&mut *self.seat, &mut near, value, words);
+        self.near = near;
+        made
     }
 
     #[inline(always)]
