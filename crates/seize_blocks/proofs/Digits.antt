@@ -1,5 +1,5 @@
 -- Where the strip of a number begins: at the power of two with as many binary digits, as the first strip has a power of two of numbers.
-use Rattle.std.specs.Prelude.{◌≡◌, ℕ, zero, suc, ◌+◌, ◌-◌, ◌*◌, ◌%◌, ◌<◌, ◌≤◌, ◌^◌, ◌⊎◌}
+use Rattle.std.specs.Prelude.{◌≡◌, ℕ, suc, ◌+◌, ◌-◌, ◌*◌, ◌%◌, ◌<◌, ◌≤◌, ◌^◌, ◌⊎◌}
 use Rattle.std.specs.Int.Count.{count_leading_zeros}
 use Rattle.std.proofs.Common.{inr, inl, arith, ap, sym, ◌∙◌, pow-suc, pow-add, subst}
 use Rattle.std.proofs.lemmas.Bool.{cases_lt}
