@@ -22,6 +22,15 @@ use Rattle.seize_seats.specs.Seats.Owned.{BaseId}
 use Rattle.seize_atoms.specs.Placed.{IsItsPlace, IsItsSign, IsItsIndex, HasWord}
 use Rattle.seize_atoms.specs.declared.claim.Claim.{Claim}
 
+-- of a block that the seat visits, its own words lie where it has seen them
+pub own_lies : {T V W : Type 0} (rests : V → Type 0) (leans : V → ℕ → Type 0) (upright : (v : V) (n : ℕ) → rests v → leans v n → ⊥) (holds : State T V W → Type 0) (keeps : V → V → W → ℕ → Type 0) (id : ℕ) (v : V) (visit : Visit) (away : Away) (b i : ℕ) (s : Ptr × ℕ) (p address : Ptr) (place : ℕ)
+    (z : BaseId) (index : ℕ) → IsItsIndex z b index → visit.spot ≡ Some (b, s) → (InBlock s.0 → i * 8 < 2 ^ 63 → (s.0 ≡ address) × (place ≡ i))
+    → IsAt lies_at (HoldsHere rests leans holds) id ((v, visit), away) p z (Word b i) address place
+own_lies {T} {V} {W} rests leans upright holds keeps id v visit away b i s p address place z index is at lands = (is.0, (s.0, seen, lands))
+  where
+    seen : AreSeenAt lies_at (HoldsHere rests leans holds) id ((v, visit), away) b s.0
+    seen t ok here = let f = visits_found rests leans upright holds keeps t id v visit away b s ok here at in (f.0, f.1, ap (λ (u : Ptr × ℕ). u.0) f.2)
+
 module _ {T V W F : Type 0} (rests : V → Type 0) (leans : V → ℕ → Type 0) (upright : (v : V) (n : ℕ) → rests v → leans v n → ⊥) (holds : F → State T V W → Type 0) (keeps : V → V → W → ℕ → Type 0) where
   -- what `by` ensures
   abbrev Same : Ptr → Ptr → BaseId → BaseId → BaseId → F → F → Type 0
@@ -42,6 +51,15 @@ module _ {T V W F : Type 0} (rests : V → Type 0) (leans : V → ℕ → Type 0
       subst (λ (u : Ptr × BaseId × F). (base' ≡ u.1.views_name) × IsItsPlace (Kinds u.2) id' ((v', visit), away) u.0 u.1 at address place × Allows (holds u.2) keeps id' v' op (so v'))
       (λ i. (sym e.0 i, sym e.1 i, sym e.2 i))
       (s.0 ∙ own ∙ sym e.3, is, subst (λ (w : ℕ × V). Allows (holds h) keeps w.0 w.1 op (so w.1)) (λ i. (sym s.1 i, sym s.2 i)) may)
+
+  -- of a word of a block's own, where the seat has seen them
+  pub on_own : (base base' id id' b i index : ℕ) (at : Spot) (address : Ptr) (place : ℕ) (v v' : V) (visit : Visit) (away : Away) (op : Op T) (so : V → Out T → V → Type 0) (p q : Ptr)
+      (y z x : BaseId) (f h : F) → Same p q y z x f h → AsItWas base' base id' id v' v → base ≡ x.views_name → InBlock address → place < 2 ^ 60 → IsItsIndex z b index
+      → visit.spot ≡ Some (b, at) → (InBlock at.0 → i * 8 < 2 ^ 63 → (at.0 ≡ address) × (place ≡ i)) → Allows (holds h) keeps id v op (so v)
+      → (base' ≡ y.views_name) × IsItsPlace (Kinds f) id' ((v', visit), away) p y (Word b i) address place × Allows (holds f) keeps id' v' op (so v')
+  on_own base base' id id' b i index at address place v v' visit away op so p q y z x f h e s own there few is seen lands may =
+      on_word base base' id id' address place v v' visit away (Word b i) op so p q y z x f h e s own
+      (there, few, own_lies rests leans upright (holds h) keeps id' v' visit away b i at q address place z index is seen lands) may
 
   pub on_take : (base id block index first : ℕ) (v : V) (at p q : Ptr) (y z x : BaseId) (f h : F) (so : Out T → V → Type 0) → Same p q y z x f h → base ≡ x.views_name
       → IsItsIndex z block index → at ≡ z.values → first ≡ index * 5 + z.skip → first + 4 < 2 ^ 60 → Allows (holds h) keeps id v (Take block) so
@@ -108,15 +126,6 @@ entry_some (Some x) i some = refl
 -- where there is such a word, the view shows its block
 pub shows_block : {T V W : Type 0} (holds : State T V W → Type 0) (id : ℕ) (v : V) (b i : ℕ) → HasWord holds id v (Entry b i) → VisibleToThree holds id v id v id v b
 shows_block holds id v b i has = λ t h at at' at''. entry_some (block_of t.memory b) i (has t h at)
-
--- of a block that the seat visits, its own words lie where it has seen them
-pub own_lies : {T V W : Type 0} (rests : V → Type 0) (leans : V → ℕ → Type 0) (upright : (v : V) (n : ℕ) → rests v → leans v n → ⊥) (holds : State T V W → Type 0) (keeps : V → V → W → ℕ → Type 0) (id : ℕ) (v : V) (visit : Visit) (away : Away) (b i : ℕ) (s : Ptr × ℕ) (p address : Ptr) (place : ℕ)
-    (z : BaseId) (index : ℕ) → IsItsIndex z b index → visit.spot ≡ Some (b, s) → (InBlock s.0 → i * 8 < 2 ^ 63 → (s.0 ≡ address) × (place ≡ i))
-    → IsAt lies_at (HoldsHere rests leans holds) id ((v, visit), away) p z (Word b i) address place
-own_lies {T} {V} {W} rests leans upright holds keeps id v visit away b i s p address place z index is at lands = (is.0, (s.0, seen, lands))
-  where
-    seen : AreSeenAt lies_at (HoldsHere rests leans holds) id ((v, visit), away) b s.0
-    seen t ok here = let f = visits_found rests leans upright holds keeps t id v visit away b s ok here at in (f.0, f.1, ap (λ (u : Ptr × ℕ). u.0) f.2)
 
 -- what is found of a block that the seat visits lies where it has seen it
 pub lies_there : {T V W : Type 0} (rests : V → Type 0) (leans : V → ℕ → Type 0) (upright : (v : V) (n : ℕ) → rests v → leans v n → ⊥) (holds : State T V W → Type 0) (keeps : V → V → W → ℕ → Type 0) (id : ℕ) (v : V) (visit : Visit) (away : Away) (b : ℕ)

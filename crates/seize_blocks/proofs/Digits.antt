@@ -1,18 +1,22 @@
--- Which door two numbers' binary digits tell: the next strip has twice as many numbers, and twice a number has a digit more.
-use Rattle.std.specs.Prelude.{◌≡◌, ℕ, zero, suc, ◌+◌, ◌-◌, ◌*◌, ◌/◌, ◌%◌, ◌<◌, ◌≤◌, ◌^◌, ◌⊎◌}
+-- Where the strip of a number begins: at the power of two with as many binary digits, as the first strip has a power of two of numbers.
+use Rattle.std.specs.Prelude.{◌≡◌, ℕ, suc, ◌+◌, ◌-◌, ◌*◌, ◌%◌, ◌<◌, ◌≤◌, ◌^◌, ◌⊎◌}
 use Rattle.std.specs.Int.Count.{count_leading_zeros}
-use Rattle.std.proofs.Common.{inr, inl, arith, ap, sym, ◌∙◌, pow-suc, pow-add, mul_assoc, mul-le-mul_right, subst}
+use Rattle.std.proofs.Common.{inr, inl, arith, ap, sym, ◌∙◌, pow-suc, pow-add, subst}
 use Rattle.std.proofs.lemmas.Bool.{cases_lt}
-use Rattle.std.proofs.lemmas.Nat.{leading_top, shl_below, shl_whole}
+use Rattle.std.proofs.lemmas.Nat.{leading_top, shl_whole}
 use Rattle.std.proofs.Math.Pow.{pow_mono}
 use Rattle.seize_atoms.specs.Placed.{IsBehind}
 
--- how many zeros come before the number's highest digit, and how many digits after it
-abbrev HasTop : ℕ → ℕ → Type 0
-HasTop n top = (count_leading_zeros 64 n + suc top ≡ 64) × (2 ^ top ≤ n) × (n < 2 ^ suc top)
+-- how many digits follow the number's highest one
+abbrev top_of : ℕ → ℕ
+top_of n = 63 - count_leading_zeros 64 n
 
-has_top : (n : ℕ) → 0 < n → n ≤ 2 ^ 32 → (top : ℕ) × HasTop n top
-has_top n some small = let l = leading_top 64 n some (omega (arith, small)) in (l.0, (l.1, l.2, l.3))
+abbrev HasTop : ℕ → ℕ → Type 0
+HasTop n top = (count_leading_zeros 64 n ≤ 63) × (2 ^ top ≤ n) × (n < 2 ^ suc top)
+
+has_top : (n : ℕ) → 0 < n → n < 2 ^ 32 → HasTop n (top_of n)
+has_top n some small = let l = leading_top 64 n some (omega (arith, small)) in let sum = l.1 in let is : l.0 ≡ top_of n = omega (arith, sum) in
+    let both = subst (λ (k : ℕ). (2 ^ k ≤ n) × (n < 2 ^ suc k)) is (l.2, l.3) in (omega (arith, sum), both.0, both.1)
 
 fewer : (i j m : ℕ) → 2 ^ i ≤ m → m < 2 ^ j → i < j
 fewer i j m low high = case (cases_lt i j)
@@ -21,56 +25,36 @@ fewer i j m low high = case (cases_lt i j)
     case (inl lt) = lt
     case (inr le) = let p = pow_mono le in absurd (omega (arith, p, low, high))
 
--- by how many digits a number is longer
-abbrev longer_by : ℕ → ℕ → ℕ
-longer_by least index = count_leading_zeros 64 least - count_leading_zeros 64 index
+-- a power of two that is shifted to its place
+whole : (d : ℕ) → d < 63 → (1 * 2 ^ d) % 2 ^ 64 ≡ 2 ^ d
+whole d few = let one : 1 * 2 ^ d ≡ 2 ^ d = omega arith in shl_whole 1 1 d 64 (omega arith) (omega (arith, few)) ∙ one
 
--- the smaller number, doubled as often as it has fewer digits than the other, has as many as that one
-abbrev IsTold : ℕ → ℕ → ℕ → Type 0
-IsTold least index d = (d < 32) × ((least * 2 ^ d) % 2 ^ 64 ≡ least * 2 ^ d) × (least * 2 ^ d < index * 2) × (index < least * 2 ^ d * 2)
+some_power : (d : ℕ) → 0 < 2 ^ d
+some_power d = let none : 0 ≤ d = omega arith in let p = pow_mono none in omega (arith, p)
 
-told : (least index l i d : ℕ) → index < 2 ^ 32 → HasTop least l → HasTop index i → d + count_leading_zeros 64 index ≡ count_leading_zeros 64 least
-    → IsTold least index d
-told least index l i d small low high more = let more_than = low.2 in let at_least = low.1 in let sum : suc l + d ≡ suc i = omega (arith, more, low.0, high.0) in
-    let few : i < 32 = fewer i 32 index high.1 small in let twice : 2 ^ suc i ≡ 2 ^ i * 2 = pow-suc 2 i in
-    let below : least * 2 ^ d < 2 ^ suc i = subst (λ (k : ℕ). least * 2 ^ d < 2 ^ k) sum (shl_below least (suc l) d more_than) in
-    let parts : 2 ^ i ≡ 2 ^ l * 2 ^ d = ap (λ (k : ℕ). 2 ^ k) (sym (omega (arith, sum))) ∙ pow-add 2 l d in
-    let above : 2 ^ l * 2 ^ d ≤ least * 2 ^ d = mul-le-mul_right (2 ^ d) at_least in let less = high.2 in let most = high.1 in
-    (omega (arith, sum, few), shl_whole least (suc l) d 64 more_than (omega (arith, sum, few)), omega (arith, below, twice, most), omega (arith, less, twice, parts, above))
+pub is_power : (d : ℕ) → d ≤ 32 → ((1 * 2 ^ d) % 2 ^ 64 ≡ 2 ^ d) × (0 < (1 * 2 ^ d) % 2 ^ 64) × ((1 * 2 ^ d) % 2 ^ 64 ≤ 2 ^ 32)
+is_power d few = let is = whole d (omega (arith, few)) in let some = some_power d in let most = pow_mono few in (is, omega (arith, is, some), omega (arith, is, most))
 
-pub longer : (least index : ℕ) → 0 < least → least ≤ index → index < 2 ^ 32 → count_leading_zeros 64 index ≤ count_leading_zeros 64 least
-longer least index some far small = let l = has_top least some (omega (arith, far, small)) in let i = has_top index (omega (arith, some, far)) (omega (arith, small)) in
-    let from = l.1.1 in let to = i.1.2 in let le = fewer l.0 (suc i.0) index (omega (arith, from, far)) to in let a = l.1.0 in let b = i.1.0 in omega (arith, a, b, le)
+module _ (least digits index : ℕ) (even : least ≡ 2 ^ digits) (far : least ≤ index) (small : index < 2 ^ 32) where
+  top : HasTop index (top_of index)
+  top = let some = some_power digits in has_top index (omega (arith, some, even, far)) small
 
-tells : (least index : ℕ) → 0 < least → least ≤ index → index < 2 ^ 32 → IsTold least index (longer_by least index)
-tells least index some far small = let l = has_top least some (omega (arith, far, small)) in let i = has_top index (omega (arith, some, far)) (omega (arith, small)) in
-    let le = longer least index some far small in
-    told least index l.0 i.0 (longer_by least index) small l.1 i.1 (omega (arith, le))
+  -- the number has a highest digit
+  pub has_digits : count_leading_zeros 64 index ≤ 63
+  has_digits = top.0
 
-here_by : (least index : ℕ) → 0 < least → least ≤ index → index < 2 ^ 32 → (least * 2 ^ longer_by least index) % 2 ^ 64 ≤ index
-    → IsBehind least index (longer_by least index) ((least * 2 ^ longer_by least index) % 2 ^ 64)
-here_by least index some far small low = let t = tells least index some far small in let whole = t.1 in let near = t.3 in (whole, low, omega (arith, whole, near), t.0)
+  -- and no fewer digits than the first strip's count
+  pub no_fewer : digits ≤ top_of index
+  no_fewer = let t = fewer digits (suc (top_of index)) index (omega (arith, even, far)) top.2 in omega (arith, t)
 
--- the number lies behind that door, where the smaller one, doubled so often, is not past it
-pub here : (z least index : ℕ) → z ≡ least → 0 < least → z ≤ index → index < 2 ^ 32 → (least * 2 ^ longer_by least index) % 2 ^ 64 ≤ index
-    → IsBehind z index (longer_by least index) ((least * 2 ^ longer_by least index) % 2 ^ 64)
-here z least index is some far small low = subst (λ (n : ℕ). IsBehind n index (longer_by least index) ((least * 2 ^ longer_by least index) % 2 ^ 64)) (sym is)
-    (here_by least index some (omega (arith, is, far)) small low)
+  few : top_of index < 32
+  few = fewer (top_of index) 32 index top.1 small
 
-halved : (least index d : ℕ) → least ≤ index → index < least * 2 ^ d → (0 < d) × (least * 2 ^ d ≡ least * 2 ^ (d - 1) * 2)
-halved least index zero far past = absurd (let one : least * 2 ^ 0 ≡ least = omega arith in omega (arith, one, far, past))
-halved least index (suc d) far past = let e : suc d - 1 ≡ d = omega arith in
-    (omega arith, ap (λ (p : ℕ). least * p) (pow-suc 2 d) ∙ sym (mul_assoc least (2 ^ d) 2) ∙ ap (λ (k : ℕ). least * 2 ^ k * 2) (sym e))
-
-before_by : (least index : ℕ) → 0 < least → least ≤ index → index < 2 ^ 32 → index < (least * 2 ^ longer_by least index) % 2 ^ 64
-    → IsBehind least index (longer_by least index - 1) ((least * 2 ^ longer_by least index) % 2 ^ 64 / 2)
-before_by least index some far small past = let t = tells least index some far small in let whole = t.1 in let less = t.2 in let few = t.0 in
-    let half = (halved least index (longer_by least index) far (omega (arith, whole, past))).1 in
-    (omega (arith, whole, half), omega (arith, whole, half, less), omega (arith, whole, half, past), omega (arith, few))
-
--- or behind the one before
-pub before : (z least index : ℕ) → z ≡ least → 0 < least → z ≤ index → index < 2 ^ 32 → index < (least * 2 ^ longer_by least index) % 2 ^ 64
-    → IsBehind z index (longer_by least index - 1) ((least * 2 ^ longer_by least index) % 2 ^ 64 / 2)
-before z least index is some far small past =
-    subst (λ (n : ℕ). IsBehind n index (longer_by least index - 1) ((least * 2 ^ longer_by least index) % 2 ^ 64 / 2)) (sym is)
-    (before_by least index some (omega (arith, is, far)) small past)
+  -- its strip begins there
+  pub begins : IsBehind least index (top_of index - digits) ((1 * 2 ^ top_of index) % 2 ^ 64)
+  begins =
+      let le = no_fewer in let sum : digits + (top_of index - digits) ≡ top_of index = omega (arith, le) in
+      let parts : 2 ^ top_of index ≡ least * 2 ^ (top_of index - digits) =
+      ap (λ (k : ℕ). 2 ^ k) (sym sum) ∙ pow-add 2 digits (top_of index - digits) ∙ ap (λ (k : ℕ). k * 2 ^ (top_of index - digits)) (sym even) in
+      let twice : 2 ^ suc (top_of index) ≡ 2 ^ top_of index * 2 = pow-suc 2 (top_of index) in let low = top.1 in let high = top.2 in let less = few in let is = whole (top_of index) (omega (arith, less)) in
+      (is ∙ parts, omega (arith, is, low), omega (arith, is, twice, high), omega (arith, less))

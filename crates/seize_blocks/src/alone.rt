@@ -22,6 +22,7 @@ impl<T, R: Rule<T>> Blocks<T, R> {
             words,
             roots,
             count,
+            digits,
             values,
             doors,
         } = self;
@@ -32,6 +33,7 @@ impl<T, R: Rule<T>> Blocks<T, R> {
                 words,
                 roots,
                 count,
+                digits,
                 values,
                 doors,
             },
@@ -53,6 +55,7 @@ impl<T, R: Rule<T>> Blocks<T, R> {
             words,
             roots,
             count,
+            digits,
             values,
             doors,
         } = self;
@@ -62,6 +65,7 @@ impl<T, R: Rule<T>> Blocks<T, R> {
             words,
             roots,
             count,
+            digits,
             values,
             doors,
         }

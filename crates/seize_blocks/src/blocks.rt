@@ -17,19 +17,21 @@ use std::alloc::Global;
 /// The most numbers that a memory has.
 pub(crate) const MOST: u64 = 4294967296;
 
-/// A memory that threads share under a rule. It has words of roots and slots, and numbers for blocks: so many in the first strip,
+/// A memory that threads share under a rule. It has words of roots and slots, and numbers for blocks: a power of two of them in the first strip,
 /// and as many again with each further one, which is laid where it is needed. Words of a block's own lie in memory beside it.
 pub struct Blocks<T, R: Rule<T>> {
     pub(crate) alloc: Global,
     pub words: StripWords<T, R>,
     pub(crate) roots: u64,
     pub(crate) count: u64,
+    pub(crate) digits: u64,
     pub(crate) values: ValuePlaces<T>,
     pub(crate) doors: Doors,
     ghost counted: { (words.id.roots ≡ roots) × (words.id.count ≡ 2 ^ 32) × (words.id.least ≡ count) },
     ghost lies: { (words.id.values ≡ values.at) × (words.id.doors ≡ doors.at) },
     ghost strip: { IsFirst words.words words.id × (words.id.size ≡ count) },
     ghost few: { (roots ≤ 65536) × (0 < count) × (count ≤ 2 ^ 32) },
+    ghost even: { count ≡ 2 ^ digits },
 }
 
 impl<T, R: Rule<T>> Blocks<T, R> {

@@ -1,5 +1,5 @@
 //! The memory with the right to give back what it is made of.
-ghost use Rattle.std.specs.Prelude.{◌≡◌, ◌≤◌, ◌^◌, List, [], ◌∷◌, None, IfOk};
+ghost use Rattle.std.specs.Prelude.{◌≡◌, ◌<◌, ◌≤◌, ◌^◌, List, [], ◌∷◌, None, IfOk};
 ghost use Rattle.core.specs.Mem.Slots.{lease_ptr, lease_len};
 ghost use Rattle.seize_seats.specs.Seats.Errands.{RenewsTo, RenewsFrom};
 ghost use Rattle.seize_seats.specs.Seats.Start.{WasIdle, WasKnown};
@@ -18,6 +18,26 @@ use std::alloc::{AllocError, Global};
 /// How many doors there are: one for each further strip of numbers, and one for each further bucket of slots.
 const DOORS: usize = 64;
 
+/// The exponent of the least power of two that is no less than a count.
+fn digits_of(count: u64) -> u64
+    ensures { result ≤ 32 }
+{
+    for digits in 0..32 {
+        if count <= 1 << digits {
+            return digits;
+        }
+    }
+    32
+}
+
+/// The power of two of an exponent.
+fn power(digits: u64) -> u64
+    requires { digits ≤ 32 }
+    ensures { (result ≡ 2 ^ digits) × (0 < result) × (result ≤ 2 ^ 32) }
+{
+    1 << digits
+}
+
 /// A memory with the right to give its words and places back. It stays with the thread that made it, and lends the memory to others.
 pub struct Home<T: Drop, R: Rule<T>> {
     pub blocks: Blocks<T, R>,
@@ -30,13 +50,14 @@ pub struct Home<T: Drop, R: Rule<T>> {
 }
 
 impl<T: Drop, R: Rule<T>> Home<T, R> {
-    /// Makes a memory of so many roots, with no seat yet, and numbers for so many blocks at first, at least one. The slots have no words yet.
+    /// Makes a memory of so many roots, with no seat yet, and numbers for so many blocks at first, up to the next power of two. The slots have no words yet.
     pub fn open(alloc: Global, roots: u64, count: u64, fixed: &R::Fixed) -> Result<Self, AllocError>
         requires few { (roots ≤ 65536) × (count ≤ 2 ^ 32) }
         requires starts { Starts (R.holds fixed.now) roots }
         ensures { IfOk result (λ home. home.blocks.words.fixed ≡ fixed.now) }
     {
-        let count = if count == 0 { 1 } else { count };
+        let digits = digits_of(count);
+        let count = power(digits);
         let long = ((roots + roots + 32) * 16 + count * 5) as usize;
         let (row, ground) = lay(alloc, long)?;
         let (nulls, doorway) = match lay_doors(alloc, DOORS) {
@@ -56,6 +77,7 @@ impl<T: Drop, R: Rule<T>> Home<T, R> {
                     words,
                     roots,
                     count,
+                    digits,
                     values,
                     doors,
                 };
@@ -136,6 +158,7 @@ impl<T: Drop, R: Rule<T>> Drop for Home<T, R> {
             words,
             roots,
             count,
+            digits: _,
             values,
             doors,
         } = blocks;

@@ -6,12 +6,15 @@ mod alone;
 mod blocks;
 mod errand;
 mod home;
+mod landing;
 mod numbers;
 mod part;
 mod places;
+mod reaching;
 mod rooms;
 
 pub use blocks::Blocks;
 pub use errand::{Errand, ErrandWith};
 pub use home::Home;
+pub use part::Place;
 pub use seize_atoms::{Lesson, Meeting, Rule, Seat, StripWords, Turn};

@@ -11,14 +11,6 @@ use seize_atoms::{Claim, Rule};
 use seize_seats::{Kept, fits, lay_strip, skip_of, take_back};
 use std::ptr::NonNull;
 
-/// The index itself, or what is left of it round at so many.
-fn within(index: u64, count: u64) -> u64
-    requires { 0 < count }
-    ensures { result < count }
-{
-    if index < count { index } else { index % count }
-}
-
 impl<T, R: Rule<T>> Blocks<T, R> {
     /// The first strip.
     fn first_part(&self) -> Part<T>
@@ -93,15 +85,13 @@ impl<T, R: Rule<T>> Blocks<T, R> {
         }
     }
 
-    /// Claims a number of a strip, if one is free: its index in it. One after the other is tried, from this one on.
+    /// Claims a number of a strip, if one is free from this index on: its index in it. One after the other is tried.
     fn claim_in(&self, part: &Part<T>, from: u64) -> Option<(u64, Claim)>
         requires { IsHad self.now.words.id part.now }
         ensures { IfSome result (λ c. (c.0 < part.now.count) × (c.1.found ≡ 0) × (c.1.base ≡ self.now.words.id.hands_name)
             × (c.1.index ≡ part.now.first + c.0)) }
     {
-        let mut next = from;
-        for _ in 0..part.count {
-            let index = within(next, part.count);
+        for index in from..part.count {
             let (found, claim) = self
                 .words
                 .by(&part.strip)
@@ -109,7 +99,6 @@ impl<T, R: Rule<T>> Blocks<T, R> {
             if found == 0 {
                 return Some((index, claim));
             }
-            next = index + 1;
         }
         None
     }
@@ -129,29 +118,33 @@ impl<T, R: Rule<T>> Blocks<T, R> {
         self.part_behind(door, first)
     }
 
-    /// A number of the strip of this one, if one is free there: from this one on.
+    /// A number from this one on, if one is free in the strips that are there.
     fn near(&self, from: u64) -> Option<(Part<T>, u64, Claim)>
         ensures { IfSome result (λ c. IsClaimed self.now.words.id c) }
     {
-        if from >= MOST {
-            return None;
+        let mut next = from;
+        for _ in 0..33 {
+            if next >= MOST {
+                return None;
+            }
+            let Some(part) = self.part_of(next) else {
+                return None;
+            };
+            if let Some((index, claim)) = self.claim_in(&part, next.wrapping_sub(part.first)) {
+                return Some((part, index, claim));
+            }
+            next = part.first + part.count;
         }
-        let Some(part) = self.part_of(from) else {
-            return None;
-        };
-        match self.claim_in(&part, from.wrapping_sub(part.first)) {
-            Some((index, claim)) => Some((part, index, claim)),
-            None => None,
-        }
+        None
     }
 
-    /// A number of any strip, in each from this index on, round at its end. Where none is free a strip more is laid.
-    fn anywhere(&self, from: u64) -> Option<(Part<T>, u64, Claim)>
+    /// A number of any strip, from the first one on. Where none is free a strip more is laid.
+    fn anywhere(&self) -> Option<(Part<T>, u64, Claim)>
         ensures { IfSome result (λ c. IsClaimed self.now.words.id c) }
     {
         let mut part = self.first_part();
         for door in 0..33 {
-            if let Some((index, claim)) = self.claim_in(&part, from) {
+            if let Some((index, claim)) = self.claim_in(&part, 0) {
                 return Some((part, index, claim));
             }
             match self.next_part(&part, door) {
@@ -162,13 +155,14 @@ impl<T, R: Rule<T>> Blocks<T, R> {
         None
     }
 
-    /// A number that was free and is claimed now, with its strip and its index in it. It is looked for from this one on.
+    /// A number that was free and is claimed now, with its strip and its index in it. It is looked for from this one on, and then from the first one on: so
+    /// who goes on from the one that he had last goes over all numbers before he comes to one again.
     pub(crate) fn number(&self, from: u64) -> Option<(Part<T>, u64, Claim)>
         ensures { IfSome result (λ c. IsClaimed self.now.words.id c) }
     {
         match self.near(from) {
             Some(claimed) => Some(claimed),
-            None => self.anywhere(from),
+            None => self.anywhere(),
         }
     }
 }

@@ -18,11 +18,18 @@ pub(crate) struct Part<T> {
 
 /// A block in a strip: where the values of that lie, the index of the block in it, and how many words come before the block's.
 #[derive(Drop)]
-pub(crate) struct Spot<T> {
+pub struct Spot<T> {
     pub(crate) strip: Strip<T>,
     pub(crate) values: *mut Option<Kept<T>>,
     pub(crate) index: u64,
     pub(crate) first: u64,
+}
+
+/// A block that was looked for, 0 if none was, and where it is. It stays there: so it is found once, as long as the memory is borrowed.
+#[derive(Drop)]
+pub struct Place<T> {
+    pub(crate) block: u64,
+    pub(crate) spot: Spot<T>,
 }
 
 /// From where an operation on a word is made: by which strip, from which address, and how many words on from there.
@@ -48,4 +55,11 @@ pub(crate) fn words_in<T>(strip: &Strip<T>) -> Address
     ensures { result.at ≡ strip.now.words }
 {
     Address { at: strip.words }
+}
+
+/// From which address an operation on a word of a block's own is made, and how many words on from there.
+#[derive(Drop)]
+pub(crate) struct Landing {
+    pub(crate) at: *mut u64,
+    pub(crate) place: u64,
 }

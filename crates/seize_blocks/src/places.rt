@@ -12,6 +12,7 @@ ghost use Rattle.seize_atoms.specs.Placed.{IsItsPlace, IsItsIndex, IsBehind, Has
 
 use crate::access::Access;
 use crate::blocks::{Blocks, MOST};
+use crate::landing::lands;
 use crate::part::{Reached, Spot, places_in, words_in};
 use seize_atoms::{Rule, Seat};
 use seize_seats::{Beside, Kept, skip_of};
@@ -143,20 +144,12 @@ impl<T, R: Rule<T>> Blocks<T, R> {
         self.words.visit(seat, block);
         let spot = self.spot_of(seat, seat, seat, block);
         let beside = self.beside(seat, &spot, block);
-        if beside.count > 0 && own < 1152921504606846976 {
-            let address = beside.at;
-            return Reached {
-                strip: spot.strip,
-                address,
-                place: own,
-            };
-        }
-        let words = words_in(&spot.strip);
-        let address = words.at;
+        let landing = lands(&beside, own, &spot.strip);
+        let address = landing.at;
         Reached {
             strip: spot.strip,
             address,
-            place: 0,
+            place: landing.place,
         }
     }
 
@@ -194,25 +187,20 @@ impl<T, R: Rule<T>> Blocks<T, R> {
         index * 5 + (self.roots + self.roots + 32) * 16
     }
 
-    /// Behind which door the strip of a number is, and how many numbers come before those of the strip. Each further strip has a binary digit more before it;
-    /// where the first one's count, with as many digits as the number, is past the number, the strip is the one before.
+    /// Behind which door the strip of a number is, and how many numbers come before those of the strip: those whose highest binary digit is the number's are
+    /// one strip.
     #[inline(always)]
     pub(crate) fn door_of(&self, index: u64) -> (u64, u64)
         requires { (self.now.words.id.least ≤ index) × (index < 2 ^ 32) }
         ensures { IsBehind self.now.words.id.least index result.0 result.1 }
     {
-        let digits = self.count.leading_zeros() - index.leading_zeros();
-        let door = digits as u64;
-        let first = self.count << digits;
-        if first <= index {
-            return (door, first);
-        }
-        (door - 1, first >> 1)
+        let top = 63 - index.leading_zeros();
+        (top as u64 - self.digits, 1 << top)
     }
 
     /// Where a block of the first strip is.
     #[inline(always)]
-    fn near_spot(&self, index: u64) -> Spot<T>
+    pub(crate) fn near_spot(&self, index: u64) -> Spot<T>
         requires { index ≤ 2 ^ 32 }
         ensures strip { (result.strip.id ≡ self.now.words.id) × (core_of result.strip.id ≡ core_of self.now.words.id) × InBlock result.strip.words
             × (result.values ≡ result.strip.id.values) }

@@ -1,6 +1,7 @@
 //! A seat of maps on an errand whose code runs ahead of the machine that it has under way: the seat takes the turns of that machine at once before the
 //! operation that follows them.
 ghost use Rattle.std.specs.Prelude.{◌≡◌, ◌≢◌, None};
+ghost use Rattle.seize_blocks.specs.Parts.{IsFound};
 
 mod helping;
 mod memory;
@@ -9,18 +10,21 @@ mod storing;
 mod turning;
 
 use map_tables::{Hashes, Node};
-use seize_blocks::{Blocks, Seat};
+use seize_blocks::{Blocks, Place, Seat};
 pub(crate) use storing::Put;
 use threads_steps::OfMaps;
 
-/// A seat of maps on an errand, with the memory. It is a memory for code that makes the operations of the call that the seat has under way.
+/// A seat of maps on an errand, with the memory. It is a memory for code that makes the operations of the call that the seat has under way, and
+/// knows at which place the block is whose own words it has reached last.
 #[derive(Drop)]
 pub struct Ahead<'a, K: Eq, V, S: Hashes<K>> {
     blocks: &'a Blocks<Node<K, V>, OfMaps<S>>,
     seat: &'a mut Seat<Node<K, V>, OfMaps<S>>,
     near: u64,
+    place: Place<Node<K, V>>,
     ghost own: { seat.now.base ≡ blocks.now.words.id.views_name },
     ghost away: { seat.now.away ≢ None },
+    ghost found: { IsFound blocks.now.words.id place },
 }
 
 impl<'a, K: Eq, V, S: Hashes<K>> Ahead<'a, K, V, S> {
@@ -37,6 +41,11 @@ impl<'a, K: Eq, V, S: Hashes<K>> Ahead<'a, K, V, S> {
         ensures seat { result.seat.now ≡ seat.old }
         ensures blocks { result.blocks.now ≡ blocks.now }
     {
-        Ahead { blocks, seat, near }
+        Ahead {
+            blocks,
+            seat,
+            near,
+            place: blocks.place(),
+        }
     }
 }

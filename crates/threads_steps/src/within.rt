@@ -1,5 +1,6 @@
 //! A seat of maps on an errand, with the memory.
 ghost use Rattle.std.specs.Prelude.{◌≡◌, ◌≢◌, None};
+ghost use Rattle.seize_blocks.specs.Parts.{IsFound};
 
 mod asking;
 mod calling;
@@ -14,18 +15,21 @@ mod sweeping;
 pub use asking::Halt;
 pub use calling::{Ran, ended};
 use map_tables::{Hashes, Node};
-use seize_blocks::{Blocks, Seat};
+use seize_blocks::{Blocks, Place, Seat};
 use threads_rule::OfMaps;
 
-/// A seat of maps on an errand, with the memory. It is a memory for the machine that it has under way, and knows whether an operation was made.
+/// A seat of maps on an errand, with the memory. It is a memory for the machine that it has under way, and knows whether an operation was made, and
+/// at which place the block is whose own words it has reached last.
 #[derive(Drop)]
 pub struct Within<'a, K: Eq, V, S: Hashes<K>> {
     blocks: &'a Blocks<Node<K, V>, OfMaps<S>>,
     seat: &'a mut Seat<Node<K, V>, OfMaps<S>>,
     near: u64,
+    place: Place<Node<K, V>>,
     made: bool,
     ghost own: { seat.now.base ≡ blocks.now.words.id.views_name },
     ghost away: { seat.now.away ≢ None },
+    ghost found: { IsFound blocks.now.words.id place },
 }
 
 impl<'a, K: Eq, V, S: Hashes<K>> Within<'a, K, V, S> {
@@ -45,6 +49,7 @@ impl<'a, K: Eq, V, S: Hashes<K>> Within<'a, K, V, S> {
             blocks,
             seat,
             near,
+            place: blocks.place(),
             made: false,
         }
     }

@@ -15,7 +15,7 @@ impl<'a, K: Eq, V, S: Hashes<K>> Look<Node<K, V>> for Ahead<'a, K, V, S> {
     #[inline(always)]
     fn load(&mut self, at: At) -> u64 {
         self.catches_up();
-        self.blocks.load(&mut *self.seat, at)
+        self.blocks.load_by(&mut *self.seat, &mut self.place, at)
     }
 
     #[inline(always)]
@@ -28,7 +28,8 @@ impl<'a, K: Eq, V, S: Hashes<K>> Memory<Node<K, V>> for Ahead<'a, K, V, S> {
     #[inline(always)]
     fn store(&mut self, at: At, word: u64) {
         self.catches_up();
-        self.blocks.store(&mut *self.seat, at, word);
+        self.blocks
+            .store_by(&mut *self.seat, &mut self.place, at, word);
     }
 
     #[inline(always)]
@@ -46,20 +47,24 @@ impl<'a, K: Eq, V, S: Hashes<K>> Memory<Node<K, V>> for Ahead<'a, K, V, S> {
     #[inline(always)]
     fn or(&mut self, at: At, bits: u64) -> u64 {
         self.catches_up();
-        self.blocks.or(&mut *self.seat, at, bits)
+        self.blocks
+            .or_by(&mut *self.seat, &mut self.place, at, bits)
     }
 
     #[inline(always)]
     fn exchange(&mut self, at: At, old: u64, new: u64) -> Result<u64, u64> {
         self.catches_up();
-        self.blocks.exchange(&mut *self.seat, at, old, new)
+        self.blocks
+            .exchange_by(&mut *self.seat, &mut self.place, at, old, new)
     }
 
     #[inline(always)]
     fn make(&mut self, value: Node<K, V>, words: u64) -> Result<u64, Node<K, V>> {
         self.catches_up();
-        self.blocks
-            .make(&mut *self.seat, &mut self.near, value, words)
+        let mut near = self.near;
+        let made = self.blocks.make(&mut *self.seat, &mut near, value, words);
+        self.near = near;
+        made
     }
 
     #[inline(always)]

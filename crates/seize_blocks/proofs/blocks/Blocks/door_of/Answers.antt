@@ -1,15 +1,15 @@
-use Rattle.std.proofs.Common.{ℕ, ◌≤◌, subst}
-use Rattle.seize_blocks.proofs.Digits.{longer, here, before}
+use Rattle.std.proofs.Common.{◌∙◌}
+use Rattle.seize_blocks.proofs.Digits.{has_digits, no_fewer, begins}
 use Rattle.seize_blocks.proofs.blocks.Blocks.door_of.Goals as goal
 
-pub overflow_sub-digits : goal.overflow_sub-digits
-overflow_sub-digits g c = let x = c.args.self.now in
-    longer x.count c.args.index x.few.1 (subst (λ (n : ℕ). n ≤ c.args.index) x.counted.2 c.requires.0) c.requires.1
+pub overflow_sub-top : goal.overflow_sub-top
+overflow_sub-top g c = let x = c.args.self.now in
+    has_digits x.words.id.least x.digits c.args.index (x.counted.2 ∙ x.even) c.requires.0 c.requires.1
 
-pub returns-then-first-index : goal.returns-then-first-index
-returns-then-first-index g c = let x = c.args.self.now in
-    here x.words.id.least x.count c.args.index x.counted.2 x.few.1 c.requires.0 c.requires.1 c.if-first-index.true
+pub overflow_sub-result : goal.overflow_sub-result
+overflow_sub-result g c = let x = c.args.self.now in
+    no_fewer x.words.id.least x.digits c.args.index (x.counted.2 ∙ x.even) c.requires.0 c.requires.1
 
 pub returns : goal.returns
 returns g c = let x = c.args.self.now in
-    before x.words.id.least x.count c.args.index x.counted.2 x.few.1 c.requires.0 c.requires.1 c.if-first-index.false
+    begins x.words.id.least x.digits c.args.index (x.counted.2 ∙ x.even) c.requires.0 c.requires.1

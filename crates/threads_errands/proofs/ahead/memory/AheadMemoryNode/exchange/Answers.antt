@@ -7,11 +7,11 @@ use Rattle.threads_errands.proofs.ahead.memory.AheadMemoryNode.exchange.Goals as
 pub catches_up-requires : goal.catches_up-requires
 catches_up-requires g c = record { next = next_of g.K.PartialEq.eq g.S.Hashes.hash c.args.self.now (Exchange c.args.at c.args.old c.args.new) c.requires }
 
-pub exchange-requires-clause-may : goal.exchange-requires-clause-may
-exchange-requires-clause-may g c = let k = c.catches_up.new.self in
+pub exchange_by-requires-clause-may : goal.exchange_by-requires-clause-may
+exchange_by-requires-clause-may g c = let k = c.catches_up.new.self in
     may_make g.K.PartialEq.eq g.S.Hashes.hash c.args.self.now (Exchange c.args.at c.args.old c.args.new) k.blocks.now.words.fixed k.seat.now.id k.seat.now.view c.requires c.catches_up.ensures.caught
 
 pub returns : goal.returns
 returns g c =
-    has_gone g.K.PartialEq.eq g.S.Hashes.hash c.args.self.now (Exchange c.args.at c.args.old c.args.new) (Exchanged c.exchange.result) c.catches_up.new.self.seat.now.view _
-    (still_kept _ _ c.exchange.ensures.same.1 c.exchange.ensures.errand ∙ c.catches_up.ensures.same) tt c.catches_up.ensures.caught c.exchange.ensures.goes
+    has_gone g.K.PartialEq.eq g.S.Hashes.hash c.args.self.now (Exchange c.args.at c.args.old c.args.new) (Exchanged c.exchange_by.result) c.catches_up.new.self.seat.now.view _
+    (still_kept _ _ c.exchange_by.ensures.same.1 c.exchange_by.ensures.errand ∙ c.catches_up.ensures.same) tt c.catches_up.ensures.caught c.exchange_by.ensures.goes

@@ -7,11 +7,11 @@ use Rattle.threads_errands.proofs.ahead.memory.AheadMemoryNode.make.Goals as goa
 pub catches_up-requires : goal.catches_up-requires
 catches_up-requires g c = record { next = next_of g.K.PartialEq.eq g.S.Hashes.hash c.args.self.now (Make c.args.value c.args.words) c.requires }
 
-pub make-requires-clause-may : goal.make-requires-clause-may
-make-requires-clause-may g c = let k = c.catches_up.new.self in
+pub make-made-requires-clause-may : goal.make-made-requires-clause-may
+make-made-requires-clause-may g c = let k = c.catches_up.new.self in
     may_make g.K.PartialEq.eq g.S.Hashes.hash c.args.self.now (Make c.args.value c.args.words) k.blocks.now.words.fixed k.seat.now.id k.seat.now.view c.requires c.catches_up.ensures.caught
 
 pub returns : goal.returns
 returns g c =
-    has_gone g.K.PartialEq.eq g.S.Hashes.hash c.args.self.now (Make c.args.value c.args.words) (Made c.make.result) c.catches_up.new.self.seat.now.view _
-    (still_kept _ _ c.make.ensures.same.1 c.make.ensures.errand ∙ c.catches_up.ensures.same) tt c.catches_up.ensures.caught c.make.ensures.goes
+    has_gone g.K.PartialEq.eq g.S.Hashes.hash c.args.self.now (Make c.args.value c.args.words) (Made c.make-made.result) c.catches_up.new.self.seat.now.view _
+    (still_kept _ _ c.make-made.ensures.same.1 c.make-made.ensures.errand ∙ c.catches_up.ensures.same) tt c.catches_up.ensures.caught c.make-made.ensures.goes

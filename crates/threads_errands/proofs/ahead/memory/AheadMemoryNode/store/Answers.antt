@@ -7,11 +7,11 @@ use Rattle.threads_errands.proofs.ahead.memory.AheadMemoryNode.store.Goals as go
 pub catches_up-requires : goal.catches_up-requires
 catches_up-requires g c = record { next = next_of g.K.PartialEq.eq g.S.Hashes.hash c.args.self.now (Store c.args.at c.args.word) c.requires }
 
-pub store-requires-clause-may : goal.store-requires-clause-may
-store-requires-clause-may g c = let k = c.catches_up.new.self in
+pub store_by-requires-clause-may : goal.store_by-requires-clause-may
+store_by-requires-clause-may g c = let k = c.catches_up.new.self in
     may_make g.K.PartialEq.eq g.S.Hashes.hash c.args.self.now (Store c.args.at c.args.word) k.blocks.now.words.fixed k.seat.now.id k.seat.now.view c.requires c.catches_up.ensures.caught
 
 pub returns : goal.returns
 returns g c =
     has_gone g.K.PartialEq.eq g.S.Hashes.hash c.args.self.now (Store c.args.at c.args.word) (Stored) c.catches_up.new.self.seat.now.view _
-    (still_kept _ _ c.store.ensures.same.1 c.store.ensures.errand ∙ c.catches_up.ensures.same) tt c.catches_up.ensures.caught c.store.ensures.goes
+    (still_kept _ _ c.store_by.ensures.same.1 c.store_by.ensures.errand ∙ c.catches_up.ensures.same) tt c.catches_up.ensures.caught c.store_by.ensures.goes

@@ -3,4 +3,4 @@ use Rattle.seize_callers.proofs.Keeping.{still_kept}
 use Rattle.threads_steps.proofs.within.memory.WithinMemoryNode.exchange.Goals as goal
 
 pub returns : goal.returns
-returns g c = record { seat = still_kept _ _ c.exchange.ensures.same.1 c.exchange.ensures.errand; made = refl; fits = tt; told = c.exchange.ensures.goes }
+returns g c = record { seat = still_kept _ _ c.exchange_by.ensures.same.1 c.exchange_by.ensures.errand; made = refl; fits = tt; told = c.exchange_by.ensures.goes }

@@ -3,4 +3,4 @@ use Rattle.seize_callers.proofs.Keeping.{still_kept}
 use Rattle.threads_steps.proofs.within.memory.WithinMemoryNode.or.Goals as goal
 
 pub returns : goal.returns
-returns g c = record { seat = still_kept _ _ c.or.ensures.same.1 c.or.ensures.errand; made = refl; fits = tt; told = c.or.ensures.goes }
+returns g c = record { seat = still_kept _ _ c.or_by.ensures.same.1 c.or_by.ensures.errand; made = refl; fits = tt; told = c.or_by.ensures.goes }
