@@ -33,7 +33,7 @@ use Rattle.threads_rule.specs.declared.view.View.{View}
 use Rattle.threads_rule.specs.declared.view.SeatWork.TheVariants.{Nothing, Calls}
 use Rattle.threads_rule.specs.CallKinds.Kinds.{Kind, Stage, AsksSo, Continues}
 use Rattle.threads_rule.specs.CallKinds.Leads.{Leads}
-use Rattle.threads_rule.specs.CallKinds.Shows.{ReadPairIsVisible}
+use Rattle.threads_rule.specs.CallKinds.Shows.{AnsweredAreVisible, ToldAreVisible}
 use Rattle.threads_rule.specs.CallKinds.Sweeps.{IsFor}
 use Rattle.threads_rule.specs.Errands.Looking.{HasRun, HasProgressed, StaysThere}
 
@@ -199,10 +199,11 @@ module _ {K V S : Type 0} where
     pub at : Works hasher machine v
     pub asks : MachineAsks k s (shown_in v.held) pair machine
 
-  -- it has nothing under way, and its call has told this last
+  -- it has nothing under way, its call has told this last, and each pair with which that has answered is shown
   pub record HasEnded (answer : Result Answer Fault) (v w : View K V S) : Type 0 where
     pub free : w.work ≡ Nothing
     pub told : HasProgressed (outcome_of answer) v w
+    pub shows : AnsweredAreVisible (outcome_of answer) (shown_in w.held)
 
   -- what a step of it tells: it goes on, asks, or has ended
   abbrev pub StepOutcome : Kind → Stage → S → Machine K V K → Progress (Node K V) → View K V S → Type 0
@@ -240,7 +241,7 @@ module _ {K V S : Type 0} where
     pub leads : Leads (shown_in w.held) (machine_plan same same (hash hasher) machine) (next, told)
     pub came : MayCome (machine_plan same same (hash hasher) machine) (next, told)
     pub hands : HandsBack v.calls told
-    pub shows : ReadPairIsVisible machine told (shown_in w.held)
+    pub shows : ToldAreVisible machine told (shown_in w.held)
 
   -- Within a section, its own or that of the seat that it leans on, with nothing else under way, it may begin this call, in the map that it knows, which is in incremental mode.
   pub record MayDo (same : K → K → Bool) (hash : S → K → ℕ) (hasher : S) (machine : Machine K V K) (v : View K V S) : Type 0 where
@@ -264,9 +265,10 @@ module _ {K V S : Type 0} where
     pub none : AsksNone machine
     pub stores : (pair : Node K V) → pair_wanted (wanted_of machine) ≡ Some pair → MachineStores pair machine
 
-  -- what a call has come to that wanted this
+  -- what a call has come to that wanted this; the pairs with which it has answered are shown
   pub record HasCalled (same : K → K → Bool) (hash : S → K → ℕ) (wanted : Wanted K V) (answer : Result Answer Fault) (unstored : Option (Node K V)) (v w : View K V S) : Type 0 where
     pub free : w.work ≡ Nothing
     pub stays : StaysThere v w
     pub ran : HasRun same hash wanted (outcome_of answer) v w
     pub back : IsReturned wanted answer unstored
+    pub shows : AnsweredAreVisible (outcome_of answer) (shown_in w.held)
