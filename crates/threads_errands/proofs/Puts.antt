@@ -72,4 +72,5 @@ module _ {K V S : Type 0} where
           stays = stays_on v b.first u (stays_begun same hash wanted v b.first b.begins) (stays_on b.first w u b.stays stays);
           ran = has_run same hash wanted (outcome_of answer) v b.first u b.begins (told_last b.first w u (outcome_of answer) them e.told);
           back = comes;
+          shows = e.shows;
         }

@@ -41,4 +41,5 @@ module _ {K V S : Type 0} (same : K → K → Bool) (hash : S → K → ℕ) whe
     stays = stays_on v w u (stays_begun same hash (Remove key) v w b) stays;
     ran = has_run same hash (Remove key) (outcome_of answer) v w u b e.told;
     back = λ pair its. absurd (cc its);
+    shows = e.shows;
   }
