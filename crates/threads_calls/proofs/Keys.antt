@@ -59,7 +59,7 @@ module _ {K V S : Type 0} (same : K → K → Bool) (hash : S → K → ℕ) (v 
         record { so = record { kind = refl; holds = (tt, inr (tt, tt)); gap = tt }; here = (refl, tt, tt) };
     stores =
         stores_so (inserting its hashed key value) made
-        (λ pair e. record { here = refl; unmade = e; absent = refl; present = tt; none = refl; word = fits });
+        (λ pair e. record { here = refl; unmade = e; absent = refl; present = tt; none = refl; word = fits; untold = refl });
   }
 
   pub may_try : (value : V) → call ≡ trying_to_insert its hashed key value → MayCall same hash hasher (Key call) v
@@ -72,7 +72,7 @@ module _ {K V S : Type 0} (same : K → K → Bool) (hash : S → K → ℕ) (v 
         record { so = record { kind = refl; holds = (tt, inr (tt, tt)); gap = tt }; here = (refl, tt, tt) };
     stores =
         stores_so (trying_to_insert its hashed key value) made
-        (λ pair e. record { here = refl; unmade = e; absent = refl; present = tt; none = refl; word = fits });
+        (λ pair e. record { here = refl; unmade = e; absent = refl; present = tt; none = refl; word = fits; untold = refl });
   }
 
   pub may_remove : call ≡ removing its hashed key → MayCall same hash hasher (Key call) v
@@ -105,4 +105,4 @@ one_back unstored k key v value out back = let e = same_some (Pair k v) (Pair ke
 pub came_back : {K V : Type 0} (key : K) (value : V) (attempt : Attempt K V) (answer : Answer) (unstored : Option (Node K V)) → has_stored attempt ≡ is_put answer → IsOutOf unstored attempt
     → IsBack (Pair key value) (Ok answer) unstored → CameBack key value attempt
 came_back key value Stored answer unstored stored out back = tt
-came_back key value (Present k v) answer unstored stored out back = one_back unstored k key v value out (back (sym stored))
+came_back key value (Present k v) answer unstored stored out back = one_back unstored k key v value out (back.0 (sym stored))

@@ -7,6 +7,7 @@ pub mod Told
 pub mod Shown
 pub mod Pausing
 pub mod Straight
+mod Storings
 pub mod Sinces
 mod Firsts
 pub mod Handing

@@ -54,11 +54,11 @@ sweep_none (swept.Asks pair) word is = is
 sweep_none swept.Done word is = is
 sweep_none (swept.Refused fault) word is = is
 
-counting_none : {T : Type 0} (end : Counting ℕ) (word : ℕ) → AnswersWith {T = T} (of_counting end) word → ⊥
-counting_none counting.Goes word is = is
-counting_none counting.Waits word is = is
-counting_none (counting.Done count) word is = is
-counting_none (counting.Refused fault) word is = is
+counting_none : (T : Type 0) (end : Counting ℕ) (word : ℕ) → AnswersWith {T = T} (of_counting end) word → ⊥
+counting_none T counting.Goes word is = is
+counting_none T counting.Waits word is = is
+counting_none T (counting.Done count) word is = is
+counting_none T (counting.Refused fault) word is = is
 
 module _ {K V : Type 0} (same : K → K → Bool) (batch_size roots : ℕ) (s : Scene K V)
     (all : EndingsTogether V same same batch_size roots slot_of s.world s.maps s.calls s.makers s.enders) (m : ℕ) (it : Standing K) (here : s.maps m ≡ Some it) (i : ℕ) (u : UnderWay K V K)
@@ -185,5 +185,5 @@ module _ {K V : Type 0} (same : K → K → Bool) (batch_size roots : ℕ) (s : 
       by (OnKey c) at_i (p2, called.Asks pair, e, f, step) = absurd (as_told (of_called (called.Asks pair)) f)
       by (OnKey c) at_i (p2, called.Refused fault, e, f, step) = absurd (as_told (of_called (called.Refused fault)) f)
       by (ForRoom r) at_i (p2, end, e, f, step) = absurd (room_none end word (as_told (of_outcome end) f))
-      by (Counts sum) at_i (sum2, end, e, f, step) = absurd (counting_none {T = Node K V} end word (as_told (of_counting end) f))
+      by (Counts sum) at_i (sum2, end, e, f, memory, step) = absurd (counting_none (Node K V) end word (as_told (of_counting end) f))
       by (OverAll o) at_i (p2, end, e, f, step) = absurd (sweep_none end word (as_told (of_swept end) f))

@@ -192,18 +192,18 @@ module _ {K V S : Type 0} (same : K → K → Bool) (hash : S → K → ℕ) (fi
 
   -- what the memory took as a step is an act, which leads on
   module _ (m2 : Mem (Node K V)) (end : Machine K V K × Progress (Node K V)) (steps : Steps Took value_at scene.world.memory step_plan m2 end) where
-    granted : (g : Grant) × (call_steps same hash fixed.batch_size fixed.roots slot_of scene g (it.0, does.3.call) ≡ Some (m2, end))
+    pub granted : (g : Grant) × (call_steps same hash fixed.batch_size fixed.roots slot_of scene g (it.0, does.3.call) ≡ Some (m2, end))
     granted =
         acts.1.calls map.number i it.0 does.3.call it.1 does.3.here m2 end
         (plan_was (λ (f : K → ℕ) (x : Machine K V K). Steps Took value_at scene.world.memory (machine_plan same same f x) m2 end) steps)
 
-    may_do : MayDo V same hash fixed.batch_size fixed.roots slot_of (Does (StepsCall i map.number granted.0)) h.reached.0
+    pub may_do : MayDo V same hash fixed.batch_size fixed.roots slot_of (Does (StepsCall i map.number granted.0)) h.reached.0
     may_do = (
       ap is_none h.nobody,
       ap is_none (ap (λ (o : Option (Standing K × UnderWay K V K)). then_on o (call_steps same hash fixed.batch_size fixed.roots slot_of scene granted.0)) called_at ∙ granted.1),
     )
 
-    came : CallCame same hash fixed.batch_size fixed.roots slot_of scene i map.number granted.0 (h.course.told h.reached.0 (Does (StepsCall i map.number granted.0)) may_do)
+    pub came : CallCame same hash fixed.batch_size fixed.roots slot_of scene i map.number granted.0 (h.course.told h.reached.0 (Does (StepsCall i map.number granted.0)) may_do)
         (h.course.next h.reached.0 (Does (StepsCall i map.number granted.0)) may_do).0
     came = (h.course.leads h.reached.0 (Does (StepsCall i map.number granted.0)) may_do).0
 
@@ -262,7 +262,7 @@ module _ {K V S : Type 0} (same : K → K → Bool) (hash : S → K → ℕ) (fi
 
     -- a pair that the step tells is there, and its section holds it then: one that a sweep has read,
     abbrev IsIt : ℕ → Type 0
-    IsIt word = IsThere {K} {V} IsHeldThen m2 word
+    IsIt word = IsThere {K = K} {V = V} IsHeldThen m2 word
 
     told_there : ReadsPlaces machine → (word : ℕ) → ProgressNamesPair end.1 word → IsIt word
     told_there reads word tells =

@@ -1,5 +1,5 @@
 -- What a seat knows while a call is under way, step by step, and once it has ended.
-use Rattle.std.specs.Prelude.{◌≡◌, ◌<◌, ◌^◌, ℕ, Bool, true, false, Option, Some, None, Result, Ok, Err}
+use Rattle.std.specs.Prelude.{◌≡◌, ◌<◌, ◌^◌, ℕ, Bool, true, false, Option, Some, None, IsSome, Result, Ok, Err}
 use Rattle.seize_words.specs.declared.fault.Fault.{Fault}
 use Rattle.map_tables.specs.Chunks.{is_incremental}
 use Rattle.map_tables.specs.declared.node.Node.{Node}
@@ -11,6 +11,7 @@ use Rattle.papaya_raw.specs.declared.machines.answer.Missing.TheVariants as miss
 use Rattle.papaya_raw.specs.declared.machines.answer.KeyAnswer.TheVariants as answers
 use Rattle.papaya_raw.specs.declared.machines.call.Calling.TheVariants as at
 use Rattle.papaya_raw.specs.declared.machines.call.KeyCall.{KeyCall}
+use Rattle.papaya_raw.specs.Replies.{silent}
 use Rattle.papaya_raw.specs.declared.machines.asking.Takes.{Takes}
 use Rattle.papaya_raw.specs.declared.machines.asking.Takes.TheVariants as takes
 use Rattle.papaya_raw.specs.declared.machines.machine.Machine.{Machine}
@@ -113,6 +114,7 @@ pub record IsToStore {K V Q : Type 0} (pair : Node K V) (c : KeyCall K V Q) : Ty
   pub present : PutsOrLeaves c.there
   pub none : c.own ≡ 0
   pub word : c.hash < 2 ^ 64
+  pub untold : c.replies ≡ silent
 
 abbrev pub MachineStores : {K V Q : Type 0} → Node K V → Machine K V Q → Type 0
 MachineStores pair (Key c) = IsToStore pair c
@@ -130,9 +132,16 @@ is_put (OfKey (answers.Stored word)) = true
 is_put (OfKey (answers.Replaced old new)) = true
 is_put _ = false
 
--- with any other outcome the pair has come back
+-- the pair that an answer tells to be in the map: the one that was there, or the call's own
+abbrev pub pair_there : Answer → Option ℕ
+pair_there (OfKey (answers.Found word)) = Some word
+pair_there (OfKey (answers.Stored word)) = Some word
+pair_there (OfKey (answers.Replaced old new)) = Some new
+pair_there _ = None
+
+-- a call that was to store a pair tells which one is in the map, and with any other outcome than that its own is there, that has come back
 abbrev pub IsBack : {T : Type 0} → T → Result Answer Fault → Option T → Type 0
-IsBack pair (Ok answer) back = is_put answer ≡ false → back ≡ Some pair
+IsBack pair (Ok answer) back = (is_put answer ≡ false → back ≡ Some pair) × IsSome (pair_there answer)
 IsBack pair (Err fault) back = back ≡ Some pair
 
 -- that is so of a pair that a call was to store
