@@ -21,6 +21,8 @@ use Rattle.threads_callers.specs.Given.ViewsDeclared.view.SeatWork.TheVariants.{
 use Rattle.threads_callers.specs.Given.ErrandsCalling.{AsksNone, AsksNothing, HasCalled, IsBack, IsToStore, MachineStores, MayCall, is_put, outcome_of, pair_wanted, wanted_of}
 use Rattle.threads_callers.specs.Given.ErrandsLooking.{HasRun}
 use Rattle.threads_callers.specs.Given.CallKindsKinds.{Kind, Continues}
+use Rattle.threads_callers.specs.Given.CallKindsShows.{AnsweredAreVisible}
+use Rattle.threads_callers.specs.Given.ViewsLooks.{shown_in}
 use Rattle.threads_calls.specs.Answers.{CameBack, IsOutOf, has_stored}
 use Rattle.threads_calls.specs.declared.session.keys.Attempt.{Attempt}
 use Rattle.threads_calls.specs.declared.session.keys.Attempt.TheVariants.{Stored, Present}
@@ -96,6 +98,11 @@ pub back_by : {K V S : Type 0} (same : K → K → Bool) (hash : S → K → ℕ
 back_by {K} {V} same hash {call} {made} {answer} {told} {unstored} v w is says called pair wanted =
     subst (λ (r : Result Answer Fault). IsBack pair r unstored) says
     (called.back pair (subst (λ (c : KeyCall K V K). pair_wanted (wanted_of (Key c)) ≡ Some pair) (sym is) wanted))
+
+-- and the pairs with which it has answered are shown
+pub shows_by : {K V S : Type 0} (same : K → K → Bool) (hash : S → K → ℕ) {call : KeyCall K V K} {answer told : Result Answer Fault} {unstored : Option (Node K V)} (v w : View K V S) → answer ≡ told
+    → HasCalled same hash (wanted_of (Key call)) answer unstored v w → AnsweredAreVisible (outcome_of {T = Node K V} told) (shown_in w.held)
+shows_by {K} {V} same hash v w says called = subst (λ (r : Result Answer Fault). AnsweredAreVisible (outcome_of {T = Node K V} r) (shown_in w.held)) says called.shows
 
 -- two pairs that both have come back are one
 pub one_back : {K V : Type 0} (unstored : Option (Node K V)) (k key : K) (v value : V) → unstored ≡ Some (Pair k v) → unstored ≡ Some (Pair key value) → (k ≡ key) × (v ≡ value)

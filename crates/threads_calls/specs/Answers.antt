@@ -1,5 +1,5 @@
 -- What the answers of a session's calls say.
-use Rattle.std.specs.Prelude.{◌≡◌, ◌==◌, ℕ, Bool, true, false, Option, Some, Ok}
+use Rattle.std.specs.Prelude.{◌≡◌, ◌==◌, ℕ, Bool, true, false, Option, Some, None, Ok}
 use Rattle.threads_callers.specs.Given.ActsActs.{Count, GoOver, Insert, MakeRoom, Remove, TryToInsert, Wanted}
 use Rattle.map_tables.specs.declared.node.Node.{Node}
 use Rattle.map_tables.specs.declared.node.Node.TheVariants.{Pair}
@@ -8,7 +8,7 @@ use Rattle.papaya_raw.specs.declared.machines.progress.Answer.{Answer}
 use Rattle.papaya_raw.specs.Given.ReservesDeclared.sweep.Purpose.TheVariants.{Clears}
 use Rattle.papaya_raw.specs.declared.machines.progress.Answer.TheVariants.{Count as Counted, Key as OfKey, Reserved, Swept}
 use Rattle.threads_callers.specs.Given.ViewsDeclared.view.View.{View}
-use Rattle.threads_callers.specs.Given.ErrandsCalling.{is_put, outcome_of}
+use Rattle.threads_callers.specs.Given.ErrandsCalling.{is_put, outcome_of, pair_there}
 use Rattle.threads_callers.specs.Given.ErrandsLooking.{HasRun}
 use Rattle.threads_calls.specs.declared.session.keys.Attempt.{Attempt}
 use Rattle.threads_calls.specs.declared.session.keys.Attempt.TheVariants.{Stored, Present}
@@ -22,6 +22,16 @@ is_replaced _ = false
 abbrev pub is_removed : Answer → Bool
 is_removed (OfKey (answers.Removed word)) = true
 is_removed _ = false
+
+-- the pair that was replaced, if one was,
+abbrev pub replaced_by : Answer → Option ℕ
+replaced_by (OfKey (answers.Replaced old new)) = Some old
+replaced_by _ = None
+
+-- or removed
+abbrev pub removed_by : Answer → Option ℕ
+removed_by (OfKey (answers.Removed word)) = Some word
+removed_by _ = None
 
 -- the pair was stored
 abbrev pub has_stored : {K V : Type 0} → Attempt K V → Bool
@@ -53,6 +63,18 @@ module _ {K V S : Type 0} where
   -- one that removes the pair of this key, and whose answer says whether there was one
   abbrev pub HasRemoved : (K → K → Bool) → (S → K → ℕ) → K → Bool → View K V S → View K V S → Type 0
   HasRemoved same hash key removed v w = (answer : Answer) × HasRun same hash (Remove key) (outcome_of (Ok answer)) v w × (removed ≡ is_removed answer)
+
+  -- one that stores this pair, and whose answer names the pair that was replaced, if one was
+  abbrev pub HasReplaced : (K → K → Bool) → (S → K → ℕ) → K → V → Option ℕ → View K V S → View K V S → Type 0
+  HasReplaced same hash key value old v w = (answer : Answer) × HasRun same hash (Insert key value) (outcome_of (Ok answer)) v w × (replaced_by answer ≡ old)
+
+  -- one that stores this pair where its key is missing, and whose answer names the pair that is there then
+  abbrev pub HasOneThere : (K → K → Bool) → (S → K → ℕ) → K → V → ℕ → View K V S → View K V S → Type 0
+  HasOneThere same hash key value word v w = (answer : Answer) × HasRun same hash (TryToInsert key value) (outcome_of (Ok answer)) v w × (pair_there answer ≡ Some word)
+
+  -- one that removes the pair of this key, and whose answer names that one, if there was one
+  abbrev pub HasTakenOut : (K → K → Bool) → (S → K → ℕ) → K → Option ℕ → View K V S → View K V S → Type 0
+  HasTakenOut same hash key taken v w = (answer : Answer) × HasRun same hash (Remove key) (outcome_of (Ok answer)) v w × (removed_by answer ≡ taken)
 
   -- one that counts the pairs, and has counted so many,
   abbrev pub HasMeasured : (K → K → Bool) → (S → K → ℕ) → ℕ → View K V S → View K V S → Type 0
