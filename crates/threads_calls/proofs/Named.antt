@@ -1,6 +1,6 @@
 -- The pairs that the answers of a session's calls name: whether there is one, and that it is shown.
 use Rattle.std.specs.Prelude.{Option, Some, None, IfSome, Ok, is_some, option_map}
-use Rattle.std.proofs.Common.{◌≡◌, ℕ, Bool, inl, inr, refl, sym, subst, ap, ◌∙◌}
+use Rattle.std.proofs.Common.{◌≡◌, ℕ, inl, inr, refl, sym, ap, ◌∙◌}
 use Rattle.seize_words.proofs.General.{same_some}
 use Rattle.map_tables.specs.declared.node.Node.{Node}
 use Rattle.papaya_raw.specs.declared.machines.answer.KeyAnswer.TheVariants as answers

@@ -3,7 +3,6 @@ use Rattle.std.specs.Prelude.{Option, Some, None, if◌then◌else◌}
 use Rattle.std.specs.Option.{is_none}
 use Rattle.std.proofs.Common.{◌≡◌, ℕ, Bool, List, ◌⊎◌, inl, inr, sym, subst, ap, ◌∙◌, refl, true, false, [], ◌∷◌}
 use Rattle.seize_words.specs.OneMemory.Mem.{Mem, Can, Took, value_at}
-use Rattle.seize_words.specs.OneMemory.Op.{Out}
 use Rattle.seize_words.specs.OneMemory.Plan.{Plan, Steps, May}
 use Rattle.seize_words.specs.OneMemory.Word.{block_in}
 use Rattle.seize.specs.Law.{holds, is_somewhere}
@@ -11,6 +10,7 @@ use Rattle.seize.specs.World.{IsInside, InUse}
 use Rattle.map_tables.specs.Chunks.{is_incremental}
 use Rattle.map_tables.specs.Nodes.{deferred_word}
 use Rattle.map_tables.specs.declared.node.Node.{Node}
+use Rattle.map_tables.specs.declared.node.Node.TheVariants.{Pair}
 use Rattle.map_tables.specs.declared.setting.Setting.{Setting}
 use Rattle.map_machines.specs.declared.copier.Copying.{Copying}
 use Rattle.map_machines.specs.declared.copier.Copying.TheVariants as copies
@@ -69,8 +69,7 @@ use Rattle.threads_rule.proofs.Views.Looked.{AllKnown, AllLooked, IsSo}
 use Rattle.threads_rule.proofs.Views.Naming.{IsThere, Known, none_more, of_these, one_more, with_told}
 use Rattle.threads_rule.proofs.Views.Shown.{is_read, pair_told, read_word, was_read}
 use Rattle.threads_rule.specs.CallKinds.Shows.{ReadsPlaces, AnswersWith, ProgressNamesPair, ToldAreVisible}
-use Rattle.threads_rule.specs.Views.Looks.{shown_in, MayFollow, TurnsTo}
-use Rattle.seize_views.specs.Views.Told.{FollowsBy}
+use Rattle.threads_rule.specs.Views.Looks.{shown_in}
 use Rattle.threads_rule.proofs.Views.RowLooks.{row_sees}
 use Rattle.threads_rule.proofs.Views.Numbers.{slot_at}
 use Rattle.threads_rule.proofs.Views.Pairs.{newest_pair, step_hands, step_pair}
@@ -264,6 +263,9 @@ module _ {K V S : Type 0} (same : K → K → Bool) (hash : S → K → ℕ) (fi
     abbrev IsIt : ℕ → Type 0
     IsIt word = IsThere {K = K} {V = V} IsHeldThen m2 word
 
+    so_after : (word : ℕ) (key : K) (value : V) → value_at came.memory (block_in word) ≡ Some (Pair key value) → value_at m2 (block_in word) ≡ Some (Pair key value)
+    so_after word key value is = ap (λ (x : Mem (Node K V)). value_at x (block_in word)) memory_is ∙ is
+
     told_there : ReadsPlaces machine → (word : ℕ) → ProgressNamesPair end.1 word → IsIt word
     told_there reads word tells =
         let its = subst (λ (x : UnderWay K V K). ReadsPlaces (machine_of x)) (same_some does.3.call came.call (sym does.3.here ∙ came.here))
@@ -272,7 +274,7 @@ module _ {K V S : Type 0} (same : K → K → Bool) (hash : S → K → ℕ) (fi
         (subst (λ (e : Machine K V K × Progress (Node K V)). ProgressNamesPair e.1 word) end_is tells) in (
           t.0,
           t.1,
-          ap (λ (x : Mem (Node K V)). value_at x (block_in word)) memory_is ∙ t.2,
+          so_after word t.0 t.1 t.2,
           held_on (block_in word) (subst (λ (a : ℕ). holds a (block_in word) scene.world.log ≡ true) (slot_at id place fits.slot) t.3),
         )
 
@@ -283,7 +285,7 @@ module _ {K V S : Type 0} (same : K → K → Bool) (hash : S → K → ℕ) (fi
         (subst (λ (e : Machine K V K × Progress (Node K V)). AnswersWith e.1 word) end_is answers) in (
           t.0,
           t.1,
-          ap (λ (x : Mem (Node K V)). value_at x (block_in word)) memory_is ∙ t.2,
+          so_after word t.0 t.1 t.2,
           elim t.3 as (λ _. IsHeldThen (block_in word)) [
             | inl held ↦ held_on (block_in word) (subst (λ (a : ℕ). holds a (block_in word) scene.world.log ≡ true) (slot_at id place fits.slot) held)
             | inr used ↦ used_held (block_in word) used.0 used.1
