@@ -9,6 +9,5 @@ pub mod Pausing
 pub mod Straight
 mod Storings
 pub mod Sinces
-mod Firsts
 pub mod Handing
 pub mod Given
