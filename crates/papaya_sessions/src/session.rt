@@ -158,7 +158,10 @@ impl<'m, K: Eq + Hash + Drop, V: Drop, S: Hashes<K>> Session<'m, K, V, S> {
         ensures asked { HasAsked K.eq S.hash (MakingSays (FnOnceReturns F.FnOnce make tt)) (TryToInsertWith key) self.old.base.caller.seat.view self.new.base.caller.seat.view }
         ensures refused { IfErr result (λ fault. HasBeenRefused K.eq S.hash (TryToInsertWith key) fault self.old.base.caller self.new.base.caller) }
     {
-        self.base.try_insert_with(rt, key, make)
+        match self.base.try_insert_with(rt, key, make) {
+            Ok((_, stored)) => Ok(stored),
+            Err(fault) => Err(fault),
+        }
     }
 
     /// Removes the pair of a key, if the test says yes of it, and answers whether it has. The test is called again where another pair of the key has taken the place of the

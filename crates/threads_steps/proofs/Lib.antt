@@ -9,5 +9,6 @@ pub mod Pausing
 pub mod Straight
 mod Storings
 pub mod Sinces
+pub mod Answering
 pub mod Handing
 pub mod Given

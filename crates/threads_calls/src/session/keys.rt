@@ -55,7 +55,7 @@ fn removed(answer: &Answer) -> Option<Found>
 }
 
 /// Returns the pair that is in the map where a call has answered so that was to store one.
-fn there(answer: &Answer) -> Found
+pub(super) fn there(answer: &Answer) -> Found
     requires { IsSome (pair_there answer.now) }
     ensures { pair_there answer.now ≡ Some result.word }
 {
