@@ -23,9 +23,9 @@ use Rattle.threads_callers.specs.Given.ErrandsLooking.{HasRun}
 use Rattle.threads_callers.specs.Given.CallKindsKinds.{Kind, Continues}
 use Rattle.threads_callers.specs.Given.CallKindsShows.{AnsweredAreVisible}
 use Rattle.threads_callers.specs.Given.ViewsLooks.{shown_in}
-use Rattle.threads_calls.specs.Answers.{CameBack, IsOutOf, has_stored}
-use Rattle.threads_calls.specs.declared.session.keys.Attempt.{Attempt}
-use Rattle.threads_calls.specs.declared.session.keys.Attempt.TheVariants.{Stored, Present}
+use Rattle.threads_callers.specs.Answers.{CameBack, IsOutOf, has_stored}
+use Rattle.threads_callers.specs.declared.answers.Attempt.{Attempt}
+use Rattle.threads_callers.specs.declared.answers.Attempt.TheVariants.{Stored, Present}
 use Rattle.threads_callers.specs.Standing.{known_by}
 use Rattle.threads_calls.proofs.Sessions.{may_do}
 use Rattle.seize_words.proofs.General.{same_some}

@@ -2,12 +2,11 @@
 ghost use Rattle.std.specs.Prelude.{◌≡◌, ◌≤◌, ◌<◌, ◌^◌, [], Some, None, Err, true, IfErr, IfNone, IfOk, IfSome, is_some, option_map};
 ghost use Rattle.threads_callers.specs.Given.ErrandsCalling.{outcome_of};
 ghost use Rattle.threads_callers.specs.Given.ErrandsLooking.{HasRun, found_of};
-ghost use Rattle.threads_calls.specs.Answers.{HasReplaced, HasStored, replaced_by};
+ghost use Rattle.threads_calls.specs.Answers.{HasReplaced, HasStored};
 ghost use Rattle.threads_calls.specs.Shown.{IsLent, IsPairLent, IsShown, Shows};
 ghost use Rattle.threads_callers.specs.Standing.{known_by};
 ghost use Rattle.threads_callers.specs.Given.ActsActs.{Get, Insert};
 ghost use Rattle.map_tables.specs.Chunks.{is_incremental};
-ghost use Rattle.map_tables.specs.declared.node.Node.TheVariants.{Pair};
 ghost use Rattle.map_tables.specs.declared.resize_mode.ResizeMode.TheVariants.{Incremental};
 ghost use Rattle.threads_callers.specs.Given.ViewsDeclared.view.SeatWork.TheVariants.{Nothing as NoWork};
 ghost use Rattle.seize_views.specs.declared.view.Has.TheVariants.{Nothing};
@@ -20,16 +19,15 @@ mod seats;
 mod sends;
 mod whole;
 
-pub use keys::Attempt;
 use map_machines::{Lookup, NewMap};
 use map_tables::{Counter, Hashes, Node, ResizeMode, Setting};
-use papaya_raw::machines::{Answer, KeyAnswer, There};
+use papaya_raw::machines::There;
 use seize_blocks::Blocks;
 use seize_views::Fixed;
 use seize_words::{Fault, Link, Refused};
 use std::hash::Hash;
 use std::sync::Wait;
-use threads_callers::{MapCaller, OfMaps, Ran};
+use threads_callers::{Found, MapCaller, OfMaps, Ran, refused, replaced};
 
 /// A map, as one of those knows it who share it: with a seat of its own, which may be sent to a thread. It has nothing under way between its calls.
 pub struct SessionBase<'a, K: Eq, V, S: Hashes<K>> {
@@ -43,39 +41,11 @@ pub struct SessionBase<'a, K: Eq, V, S: Hashes<K>> {
     ghost incremental: { is_incremental setting.mode ≡ true },
 }
 
-/// A pair that a call has found, stored, replaced or removed, by the word that links to its block.
-#[derive(Clone, Copy)]
-pub struct Found {
-    word: u64,
-}
-
 /// Returns what a call works with in this slot.
 fn setting_in(setting: Setting, slot: u64) -> Setting
     ensures { result ≡ record setting { slot = slot } }
 {
     Setting { slot, ..setting }
-}
-
-/// Returns the pair that was replaced by another one, if one was.
-fn replaced(answer: &Answer) -> Option<Found>
-    ensures { replaced_by answer.now ≡ option_map (λ found. found.word) result }
-{
-    match answer {
-        Answer::Key(KeyAnswer::Replaced { old, .. }) => Some(Found { word: *old }),
-        _ => None,
-    }
-}
-
-/// Returns that a call was refused so, with its pair, which has come back.
-fn refused<K: Drop, V: Drop>(fault: Fault, unstored: Option<Node<K, V>>) -> Refused<K, V>
-    requires back { (key : K) × (value : V) × (unstored ≡ Some (Pair key value)) }
-    ensures fault { result.fault ≡ fault }
-    ensures back { unstored ≡ Some (Pair result.key result.value) }
-{
-    match unstored {
-        Some(Node::Pair(key, value)) => Refused { fault, key, value },
-        _ => unreachable!(),
-    }
 }
 
 impl<'a, K: Eq + Drop, V: Drop, S: Hashes<K>> SessionBase<'a, K, V, S> {

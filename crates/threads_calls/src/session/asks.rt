@@ -11,14 +11,13 @@ ghost use Rattle.papaya_raw.specs.declared.machines.progress.Answer.{Answer as A
 ghost use Rattle.seize_views.specs.declared.view.Has.TheVariants.{Nothing};
 ghost use Rattle.seize_views.specs.declared.view.SlotView.TheVariants.{Inside};
 
-use crate::session::keys::{is_put, is_removed, there};
-use crate::session::{Found, SessionBase, setting_in};
+use crate::session::{SessionBase, setting_in};
 use map_tables::Hashes;
 use papaya_raw::machines::{Answer, KeyCall, Machine};
 use seize_words::Fault;
 use std::hash::Hash;
 use std::sync::Wait;
-use threads_callers::Ran;
+use threads_callers::{Found, Ran, is_put, is_removed, there};
 
 /// Returns what a call has told last.
 fn told_of<K: Drop, V: Drop>(ran: Ran<K, V>) -> Result<Answer, Fault>

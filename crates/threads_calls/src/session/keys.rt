@@ -1,95 +1,21 @@
 //! A session's calls on one key that ask nothing, beside lookups and insertions.
-ghost use Rattle.std.specs.Prelude.{◌≡◌, ℕ, Option, Some, Ok, Err, IsSome, IfErr, IfOk, IfSome, is_some, option_map};
-ghost use Rattle.threads_callers.specs.Given.ErrandsCalling.{IsBack, is_put as puts, outcome_of, pair_there};
+ghost use Rattle.std.specs.Prelude.{◌≡◌, ℕ, Option, Err, IfErr, IfOk, IfSome, is_some, option_map};
+ghost use Rattle.threads_callers.specs.Given.ErrandsCalling.{outcome_of};
 ghost use Rattle.threads_callers.specs.Given.ErrandsLooking.{HasRun, found_of};
-ghost use Rattle.threads_calls.specs.Answers.{CameBack, HasOneThere, HasRemoved, HasTakenOut, HasTried, IsOutOf, has_stored, is_removed as removes, removed_by};
+ghost use Rattle.threads_calls.specs.Answers.{CameBack, HasOneThere, HasRemoved, HasTakenOut, HasTried, has_stored};
 ghost use Rattle.threads_calls.specs.Shown.{Shows};
 ghost use Rattle.threads_callers.specs.Given.ActsActs.{ContainsKey, Remove, TryToInsert};
-ghost use Rattle.map_tables.specs.declared.node.Node.TheVariants.{Pair};
 ghost use Rattle.seize_views.specs.declared.view.Has.TheVariants.{Nothing};
 ghost use Rattle.seize_views.specs.declared.view.SlotView.TheVariants.{Inside};
 
-use crate::session::{Found, SessionBase, refused, setting_in};
+use crate::session::{SessionBase, setting_in};
 use map_machines::Lookup;
 use map_tables::{Hashes, Node};
-use papaya_raw::machines::{Answer, KeyAnswer, There};
+use papaya_raw::machines::There;
 use seize_words::{Fault, Refused};
 use std::hash::Hash;
 use std::sync::Wait;
-use threads_callers::Ran;
-
-/// What came of storing a pair only where its key is missing.
-#[derive(Drop)]
-pub enum Attempt<K, V> {
-    /// It was stored.
-    Stored,
-    /// The key was there, and the pair comes back.
-    Present(K, V),
-}
-
-/// Whether the call's own pair is in the map by this answer.
-pub(super) fn is_put(answer: &Answer) -> bool
-    ensures { result ≡ puts answer.now }
-{
-    matches!(
-        answer,
-        Answer::Key(KeyAnswer::Stored(_) | KeyAnswer::Replaced { .. })
-    )
-}
-
-/// Whether a pair was removed.
-pub(super) fn is_removed(answer: &Answer) -> bool
-    ensures { result ≡ removes answer.now }
-{
-    matches!(answer, Answer::Key(KeyAnswer::Removed(_)))
-}
-
-/// Returns the pair that was removed, if one was.
-fn removed(answer: &Answer) -> Option<Found>
-    ensures { removed_by answer.now ≡ option_map (λ found. found.word) result }
-{
-    match answer {
-        Answer::Key(KeyAnswer::Removed(word)) => Some(Found { word: *word }),
-        _ => None,
-    }
-}
-
-/// Returns the pair that is in the map where a call has answered so that was to store one.
-pub(super) fn there(answer: &Answer) -> Found
-    requires { IsSome (pair_there answer.now) }
-    ensures { pair_there answer.now ≡ Some result.word }
-{
-    match answer {
-        Answer::Key(KeyAnswer::Found(word)) => Found { word: *word },
-        Answer::Key(KeyAnswer::Stored(word)) => Found { word: *word },
-        Answer::Key(KeyAnswer::Replaced { new, .. }) => Found { word: *new },
-        _ => unreachable!(),
-    }
-}
-
-/// Returns the key and the value of a pair that was not stored.
-fn pair_of<K: Drop, V: Drop>(unstored: Option<Node<K, V>>) -> (K, V)
-    requires back { (key : K) × (value : V) × (unstored ≡ Some (Pair key value)) }
-    ensures { unstored ≡ Some (Pair result.0 result.1) }
-{
-    match unstored {
-        Some(Node::Pair(key, value)) => (key, value),
-        _ => unreachable!(),
-    }
-}
-
-/// Returns what came of it, by what its call has answered.
-fn came_of<K: Drop, V: Drop>(answer: &Answer, unstored: Option<Node<K, V>>) -> Attempt<K, V>
-    requires back { (key : K) × (value : V) × IsBack (Pair key value) (Ok answer.now) unstored }
-    ensures stored { has_stored result ≡ puts answer.now }
-    ensures back { IsOutOf unstored result }
-{
-    if is_put(answer) {
-        return Attempt::Stored;
-    }
-    let (key, value) = pair_of(unstored);
-    Attempt::Present(key, value)
-}
+use threads_callers::{Attempt, Found, Ran, came_of, refused, removed, there};
 
 impl<'a, K: Eq + Hash, V, S: Hashes<K>> SessionBase<'a, K, V, S> {
     /// Looks a key up within the section of its slot, and answers whether the map has a pair of it.

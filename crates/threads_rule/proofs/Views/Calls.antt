@@ -46,8 +46,7 @@ module _ {K S : Type 0} (V : Type 0) (same : K → K → Bool) (hash : S → K �
       (let all = known same hash fixed s h id v at_id map machine knows works m step.0 step.1 step.2 step.5 step.3 in
       goes same hash fixed s h id v at_id map machine knows works m step.0 step.1 all.more all.seen (turned same hash v)
       (subst (λ (k : SeatWork K V S). turned_by same hash v v.map k (called v map machine step.0 all.more)) (sym works)
-      (subst (λ (o : Option (Map S)). turned_by same hash v o (Calls machine) (called v map machine step.0 all.more)) (sym knows)
-      (
+      (subst (λ (o : Option (Map S)). turned_by same hash v o (Calls machine) (called v map machine step.0 all.more)) (sym knows) (
         step.0,
         all.turns step.4,
         refl,
