@@ -1,6 +1,6 @@
 -- A call that is to store a pair has it, until it has put it into the map, or hands it back: where its outcome is not that it is there, the pair has come back.
 use Rattle.std.specs.Prelude.{Option, Some, IsSome, Result, Ok, Err}
-use Rattle.std.proofs.Common.{◌≡◌, ℕ, Bool, true, List, ◌⊎◌, inl, inr, refl, sym, subst, ap, ◌∙◌}
+use Rattle.std.proofs.Common.{◌≡◌, ℕ, Bool, true, false, List, ◌⊎◌, inl, inr, refl, sym, subst, ap, ◌∙◌}
 use Rattle.seize_words.specs.OneMemory.Mem.{Mem, Took, value_at}
 use Rattle.seize_words.specs.OneMemory.Plan.{Plan, Turn, Do, Steps, plan_as}
 use Rattle.seize_words.specs.declared.fault.Fault.{Fault}

@@ -23,6 +23,15 @@ use Rattle.threads_rule.specs.Errands.Calling.{IsToStore, MachineStores, PutsOrL
 use Rattle.threads_rule.specs.Views.Told.{MayCome}
 use Rattle.threads_steps.proofs.Handing.{TellsOne, steps_as}
 
+-- a call that puts its pair into the map, or leaves the one that is there, removes none
+none_removed : (present : There) → PutsOrLeaves present → (present ≡ there.Removes) ⊎ ((present ≡ there.Asks) × (takes.Nothing ≢ takes.Values)) → ⊥
+none_removed there.Puts of (inl is) = cc is
+none_removed there.Puts of (inr is) = let asks = is.0 in cc asks
+none_removed there.Answers of (inl is) = cc is
+none_removed there.Answers of (inr is) = let asks = is.0 in cc asks
+none_removed there.Removes of is = of
+none_removed there.Asks of is = of
+
 module _ {K V : Type 0} where
   -- a call of a kind that stores its pair where there is none, and puts it in the place of another one, or leaves that
   abbrev pub Storing : Machine K V K → Type 0
@@ -50,14 +59,6 @@ module _ {K V : Type 0} where
   stores_it pair (kinds.Count s) is = absurd is
 
   -- and answers as one
-  none_removed : (present : There) → PutsOrLeaves present → (present ≡ there.Removes) ⊎ ((present ≡ there.Asks) × (takes.Nothing ≢ takes.Values)) → ⊥
-  none_removed there.Puts of (inl is) = cc is
-  none_removed there.Puts of (inr is) = let asks = is.0 in cc asks
-  none_removed there.Answers of (inl is) = cc is
-  none_removed there.Answers of (inr is) = let asks = is.0 in cc asks
-  none_removed there.Removes of is = of
-  none_removed there.Asks of is = of
-
   tells_one : (present : There) → PutsOrLeaves present → (told : Called (Node K V)) → OutcomeFits present missing.Puts takes.Nothing told → TellsOne (of_called told)
   tells_one present of tells.Goes fits = tt
   tells_one present of tells.Waits fits = tt
