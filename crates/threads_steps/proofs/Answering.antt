@@ -77,14 +77,14 @@ module _ {K V S : Type 0} where
     pub of : OfKind v.work
     pub newest : Newest v.calls
 
-  after : (c : KeyCall K V K) (told : Called (Node K V)) → IsMaking c → OfKind (call_after {S = S} (kinds.Key c) (of_called told))
-  after c tells.Goes is = is
-  after c tells.Waits is = is
-  after c (tells.Gave value) is = is
-  after c (tells.Unstored value) is = is
-  after c (tells.Asks pair) is = is
-  after c (tells.Done answer) is = tt
-  after c (tells.Refused fault) is = tt
+  after : (v : View K V S) (c : KeyCall K V K) (told : Called (Node K V)) → IsMaking c → OfKind (call_after (kinds.Key c) (of_called told))
+  after v c tells.Goes is = is
+  after v c tells.Waits is = is
+  after v c (tells.Gave value) is = is
+  after v c (tells.Unstored value) is = is
+  after v c (tells.Asks pair) is = is
+  after v c (tells.Done answer) is = tt
+  after v c (tells.Refused fault) is = tt
 
   module _ (same : K → K → Bool) (hash : S → K → ℕ) where
     -- its step leaves one, or ends it with such an answer
@@ -94,7 +94,7 @@ module _ {K V S : Type 0} where
         let k = steps_as as_machine m n (call_plan same same (hash map.hasher) c) end s in
         let fits = calls_keep_their_kind same same (hash map.hasher) there.Answers missing.Asks takes.Values c is m n k.0 k.1 in
         subst (λ (e : Machine K V K × Progress (Node K V)). Making (called v map (kinds.Key c) e looks)) (sym k.2)
-        (record { of = after k.0.0 k.0.1 fits.0; newest = newest_then (of_called k.0.1) v.calls (tells_one k.0.1 fits.1) })
+        (record { of = after v k.0.0 k.0.1 fits.0; newest = newest_then (of_called k.0.1) v.calls (tells_one k.0.1 fits.1) })
 
     by_step : (v : View K V S) (map : Option (Map S)) (work : SeatWork K V S) (op : Op (Node K V)) (out : Out (Node K V)) (w : View K V S) → OfKind work → Newest v.calls
         → observed_by same hash v map work op out w → Making w
@@ -120,7 +120,7 @@ module _ {K V S : Type 0} where
     by_turn v (Some map) (Makes m hasher opening) w of is = absurd of
 
     -- so it is where it was told something
-    told_so : (v : View K V S) (machine : Machine K V K) (told : MachineReply V) → OfKind {S = S} (Calls machine) → Newest v.calls → Making (replied v machine told)
+    told_so : (v : View K V S) (machine : Machine K V K) (told : MachineReply V) → OfKind (Calls machine) → Newest v.calls → Making (replied v machine told)
     told_so v (kinds.Key c) told of newest = record { of = replies_keep_the_kind there.Answers missing.Asks takes.Values c of told; newest = newest }
     told_so v (kinds.Reserve r) told of newest = absurd of
     told_so v (kinds.Sweep r) told of newest = absurd of
