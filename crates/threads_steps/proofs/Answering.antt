@@ -1,13 +1,13 @@
 -- A call that stores what is made where its key is missing is of its kind as long as it goes on, and answers with a pair that is in the map then.
 use Rattle.std.specs.Prelude.{zero, suc, List, [], ◌∷◌, Option, Some, None, IsSome, Ok}
-use Rattle.std.proofs.Common.{◌≡◌, ◌≢◌, ◌⊎◌, ℕ, Bool, inl, inr, refl, sym, subst, ap, ◌∙◌}
+use Rattle.std.proofs.Common.{◌⊎◌, ℕ, Bool, inl, inr, refl, sym, subst}
 use Rattle.seize_words.specs.OneMemory.Op.{Op, Out}
 use Rattle.map_tables.specs.declared.node.Node.{Node}
 use Rattle.owner_calls.proofs.Given.LateKindsKept.Calls.Kept.{asking_kinds_begin}
 use Rattle.owner_calls.proofs.Given.LateKindsKept.Laws.{calls_keep_their_kind, replies_keep_the_kind}
 use Rattle.owner_calls.specs.Given.LateKinds.{IsFit, OutcomeFits}
 use Rattle.papaya_raw.specs.Call.{call_plan}
-use Rattle.papaya_raw.specs.Machine.{machine_plan, machine_replied, called as as_machine}
+use Rattle.papaya_raw.specs.Machine.{machine_plan, called as as_machine}
 use Rattle.papaya_raw.specs.Progress.{of_called}
 use Rattle.papaya_raw.specs.declared.machines.answer.Called.{Called}
 use Rattle.papaya_raw.specs.declared.machines.answer.Called.TheVariants as tells
