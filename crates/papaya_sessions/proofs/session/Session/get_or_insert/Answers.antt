@@ -12,7 +12,7 @@ returns-in-Ok g c =
         (
           (refl, record { memory = y.ensures.blocks; map = y.ensures.map }),
           (
-            (has_stored c.in-Ok.field-1, lacked g.K.PartialEq.eq g.S.Hashes.hash c.args.self.now y.new.self y.ensures.inside y.ensures.slot y.ensures.map y.ensures.blocks c.args.key c.args.value _ e.tried),
+            (has_stored c.in-Ok.field-0-1, lacked g.K.PartialEq.eq g.S.Hashes.hash c.args.self.now y.new.self y.ensures.inside y.ensures.slot y.ensures.map y.ensures.blocks c.args.key c.args.value _ e.tried),
             c.in-Ok.there.word,
             e.there,
             c.pair.result.0.now,
@@ -24,8 +24,8 @@ returns-in-Ok g c =
       record { had = tt },
     )
 
-pub returns-in-Err : goal.returns-in-Err
-returns-in-Err g c =
+pub returns : goal.returns
+returns g c =
     let y = c.try_insert in (
       (
         refl,

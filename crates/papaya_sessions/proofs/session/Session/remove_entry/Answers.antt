@@ -1,9 +1,14 @@
-use Rattle.std.specs.Prelude.{Option, true, false, is_some, option_map}
+use Rattle.std.specs.Prelude.{Option, IfSome, true, false, is_some, option_map}
 use Rattle.std.proofs.Common.{refl, subst}
 use Rattle.threads_updates.specs.Given.CallersDeclared.answers.Found.{Found}
 use Rattle.threads_updates.specs.Given.CallsAnswers.{HasRemoved, HasTakenOut}
+use Rattle.threads_updates.specs.Given.CallsShown.{Shows}
 use Rattle.papaya_sessions.proofs.OneMap.{gave_up, not_removed}
 use Rattle.papaya_sessions.proofs.session.Session.remove_entry.Goals as goal
+
+pub pair-requires : goal.pair-requires
+pair-requires g c =
+    record { shown = subst (λ (o : Option Found). IfSome o (λ (f : Found). Shows c.remove.new.self.caller f.word)) c.in-Ok-Some.field-0-is c.in-Ok-Some.ensures.shown }
 
 pub returns-in-Ok-Some : goal.returns-in-Ok-Some
 returns-in-Ok-Some g c =
