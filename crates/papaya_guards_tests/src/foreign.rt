@@ -7,6 +7,11 @@ use std::test::Fail;
 
 type Hashing = BuildHasherDefault<DefaultHasher>;
 
+/// Tells whether a call was refused what is of another map.
+fn is_foreign<T: Drop>(told: Result<T, Fault>) -> bool {
+    matches!(told, Err(Fault::ForeignGuard))
+}
+
 /// What lookups say to a guard and to a pass of another map: with the guard, with the pass, and by the pass under a session.
 fn looks<R: Wait>(rt: &R, alloc: Global) -> Result<[bool; 9], Fault> {
     let mut ids = IdSource::new();
@@ -19,27 +24,12 @@ fn looks<R: Wait>(rt: &R, alloc: Global) -> Result<[bool; 9], Fault> {
     let mut foreign = strange.pass();
     let own_numbers = guard.number() == map.number() && pass.number() == map.number();
     Ok([
-        matches!(
-            map.get(rt, &1, &strange, &mut pass),
-            Err(Fault::ForeignGuard)
-        ),
-        matches!(
-            map.get(rt, &1, &guard, &mut foreign),
-            Err(Fault::ForeignGuard)
-        ),
-        matches!(
-            map.contains_key(rt, &1, &strange, &mut foreign),
-            Err(Fault::ForeignGuard)
-        ),
-        matches!(
-            guard.contains_key_by(rt, &1, &mut foreign),
-            Err(Fault::ForeignGuard)
-        ),
-        matches!(guard.get_by(rt, &1, &mut foreign), Err(Fault::ForeignGuard)),
-        matches!(
-            map.get_key_value(rt, &1, &strange, &mut pass),
-            Err(Fault::ForeignGuard)
-        ),
+        is_foreign(map.get(rt, &1, &strange, &mut pass)),
+        is_foreign(map.get(rt, &1, &guard, &mut foreign)),
+        is_foreign(map.contains_key(rt, &1, &strange, &mut foreign)),
+        is_foreign(guard.contains_key_by(rt, &1, &mut foreign)),
+        is_foreign(guard.get_by(rt, &1, &mut foreign)),
+        is_foreign(map.get_key_value(rt, &1, &strange, &mut pass)),
         matches!(map.get(rt, &1, &guard, &mut pass), Ok(None)),
         matches!(map.get_key_value(rt, &1, &guard, &mut pass), Ok(None)),
         own_numbers && strange.number() == foreign.number() && foreign.number() != map.number(),
@@ -72,14 +62,9 @@ fn stores<R: Wait>(rt: &R, alloc: Global) -> Result<[bool; 6], Fault> {
         }
         Ok(_) => false,
     };
-    let removed = matches!(map.remove(rt, 1, &mut strange), Err(Fault::ForeignGuard));
-    let asked = matches!(
-        map.try_insert_with(rt, 1, || 2, &mut strange),
-        Err(Fault::ForeignGuard)
-    ) && matches!(
-        map.remove_if(rt, 1, |_, _| true, &mut strange),
-        Err(Fault::ForeignGuard)
-    );
+    let removed = is_foreign(map.remove(rt, 1, &mut strange));
+    let asked = is_foreign(map.try_insert_with(rt, 1, || 2, &mut strange))
+        && is_foreign(map.remove_if(rt, 1, |_, _| true, &mut strange));
     let none = !strange.contains_key(rt, &1);
     let stored = matches!(map.insert(rt, 1, 2, &mut guard), Ok(false))
         && matches!(

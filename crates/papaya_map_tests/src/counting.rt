@@ -6,8 +6,7 @@ use std::sync::atomic::AtomicU64;
 use std::sync::atomic::Ordering::SeqCst;
 use std::sync::{Arc, Wait};
 use std::test::Fail;
-use std::thread;
-use std::thread::Threads;
+use std::thread::{self, Threads};
 
 /// How many values each of two threads stores.
 const EACH: u64 = 1_000;
@@ -63,12 +62,8 @@ fn stores_twice<R: Threads + Wait + Sync>(
     let mut ids = IdSource::new();
     let map = HashMap::with_hasher(alloc, &mut ids, Hashing::default())?;
     let first = map.session()?;
-    let second = first.another()?;
-    let (one, other) = thread::join(
-        rt,
-        || stores(rt, first, drops),
-        || stores(rt, second, drops),
-    );
+    let next = first.another()?;
+    let (one, other) = thread::join(rt, || stores(rt, first, drops), || stores(rt, next, drops));
     Ok((one, other, drops.load(SeqCst)))
 }
 
@@ -77,8 +72,7 @@ fn stores_twice<R: Threads + Wait + Sync>(
 fn each_value_that_was_stored_is_dropped_once(rt: HostRuntime) -> Result<(), Fail> {
     let drops = Arc::new(rt.alloc(), AtomicU64::new(0))?;
     let (one, other, before) = stores_twice(&rt, rt.alloc(), &drops)?;
-    assert_eq!(rt; one, Some(EACH));
-    assert_eq!(rt; other, Some(EACH));
+    assert_eq!(rt; (one, other), (Some(EACH), Some(EACH)));
     assert!(rt; before <= 2 * EACH - KEYS);
     assert_eq!(rt; drops.load(SeqCst), 2 * EACH);
     Ok(())

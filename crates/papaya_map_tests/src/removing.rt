@@ -4,8 +4,7 @@ use std::alloc::Global;
 use std::hash::{BuildHasherDefault, DefaultHasher};
 use std::sync::Wait;
 use std::test::Fail;
-use std::thread;
-use std::thread::Threads;
+use std::thread::{self, Threads};
 
 /// How many keys there are.
 const KEYS: u64 = 300;
@@ -63,11 +62,9 @@ fn works_twice<R: Threads + Wait + Sync>(rt: &R, alloc: Global) -> Result<(u64, 
             left = u64::wrapping_add(left, 1);
         }
     }
-    Ok((
-        u64::wrapping_add(one.0, other.0),
-        u64::wrapping_add(one.1, other.1),
-        left,
-    ))
+    let stored = u64::wrapping_add(one.0, other.0);
+    let removed = u64::wrapping_add(one.1, other.1);
+    Ok((stored, removed, left))
 }
 
 // Whoever is faster: each of them removes what it has stored, or the other one has done so.

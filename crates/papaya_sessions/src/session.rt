@@ -15,6 +15,7 @@ ghost use Rattle.threads_updates.specs.Given.StepsAsking.{HasAsked, MakingSays, 
 ghost use Rattle.threads_sweeps.specs.Closures.{HasHeeded, HasShownEach};
 ghost use Rattle.threads_sweeps.specs.Swept.{retains, walks};
 
+mod lends;
 mod updates;
 
 use map_tables::Hashes;
@@ -105,7 +106,10 @@ impl<'m, K: Eq + Hash + Drop, V: Drop, S: Hashes<K>> Session<'m, K, V, S> {
         ensures refused { IfErr result (λ r. WasRefused K.eq S.hash (Insert key value) r.fault self.old.base.caller self.new.base.caller) }
         ensures back { IfErr result (λ r. (r.key ≡ key) × (r.value ≡ value)) }
     {
-        self.base.insert(rt, key, value)
+        match self.base.insert(rt, key, value) {
+            Ok(old) => Ok(old.is_some()),
+            Err(refused) => Err(refused),
+        }
     }
 
     /// Stores a pair, if the map has none of an equal key: else it comes back. The faults are `Fault::Capacity` and `Fault::Memory`; then the pair comes back, too.
@@ -121,7 +125,10 @@ impl<'m, K: Eq + Hash + Drop, V: Drop, S: Hashes<K>> Session<'m, K, V, S> {
         ensures refused { IfErr result (λ r. WasRefused K.eq S.hash (TryToInsert key value) r.fault self.old.base.caller self.new.base.caller) }
         ensures back { IfErr result (λ r. (r.key ≡ key) × (r.value ≡ value)) }
     {
-        self.base.try_insert(rt, key, value)
+        match self.base.try_insert(rt, key, value) {
+            Ok((_, tried)) => Ok(tried),
+            Err(refused) => Err(refused),
+        }
     }
 
     /// Removes the pair of a key, and answers whether there was one. It is dropped once no section that was open before holds it. The faults are `Fault::Capacity` and
@@ -131,7 +138,10 @@ impl<'m, K: Eq + Hash + Drop, V: Drop, S: Hashes<K>> Session<'m, K, V, S> {
         ensures removed { IfOk result (λ removed. MapGaveUp K.eq S.hash key removed self.old.base.caller self.new.base.caller) }
         ensures refused { IfErr result (λ fault. WasRefused K.eq S.hash (Remove key) fault self.old.base.caller self.new.base.caller) }
     {
-        self.base.remove(rt, key)
+        match self.base.remove(rt, key) {
+            Ok(taken) => Ok(taken.is_some()),
+            Err(fault) => Err(fault),
+        }
     }
 
     /// Stores a value that is made, if the map has no pair of this key yet, and answers whether it was stored. The closure is called where the key was missing; if another
@@ -148,7 +158,10 @@ impl<'m, K: Eq + Hash + Drop, V: Drop, S: Hashes<K>> Session<'m, K, V, S> {
         ensures asked { HasAsked K.eq S.hash (MakingSays (FnOnceReturns F.FnOnce make tt)) (TryToInsertWith key) self.old.base.caller.seat.view self.new.base.caller.seat.view }
         ensures refused { IfErr result (λ fault. HasBeenRefused K.eq S.hash (TryToInsertWith key) fault self.old.base.caller self.new.base.caller) }
     {
-        self.base.try_insert_with(rt, key, make)
+        match self.base.try_insert_with(rt, key, make) {
+            Ok((_, stored)) => Ok(stored),
+            Err(fault) => Err(fault),
+        }
     }
 
     /// Removes the pair of a key, if the test says yes of it, and answers whether it has. The test is called again where another pair of the key has taken the place of the

@@ -41,12 +41,6 @@ fn alone<R: Wait>(rt: &R, alloc: Global) -> Result<[bool; 7], Fault> {
     Ok([lacks, new, !again, has, removed, gone, all])
 }
 
-#[test]
-fn an_insertion_says_whether_the_key_was_new(rt: HostRuntime) -> Result<(), Fail> {
-    assert_eq!(rt; alone(&rt, rt.alloc())?, [true; 7]);
-    Ok(())
-}
-
 /// Puts all keys into the set, and takes them out then: answers how many were new, and how many it has taken out.
 fn works<R: Wait>(rt: &R, mut session: Own<'_>) -> Result<(u64, u64), Fault> {
     let (mut new, mut taken) = (0u64, 0u64);
@@ -118,12 +112,6 @@ fn foreign<R: Wait>(rt: &R, alloc: Global) -> Result<[bool; 8], Fault> {
     ])
 }
 
-#[test]
-fn calls_on_a_set_refuse_what_is_of_another_one(rt: HostRuntime) -> Result<(), Fail> {
-    assert_eq!(rt; foreign(&rt, rt.alloc())?, [true; 8]);
-    Ok(())
-}
-
 /// A set of three keys is counted, shown, sifted, and cleared: answers the counts, the sum of what was shown, and whether it is as empty as they say. A reservation of more than
 /// any table has is refused.
 fn counts<R: Wait>(rt: &R, alloc: Global) -> Result<([u64; 5], [bool; 5]), Fault> {
@@ -145,14 +133,14 @@ fn counts<R: Wait>(rt: &R, alloc: Global) -> Result<([u64; 5], [bool; 5]), Fault
     let after = session.len();
     let gone = session.is_empty() && !session.contains(rt, &42);
     let refused = matches!(session.reserve(rt, u64::MAX), Err(Fault::Capacity));
-    Ok((
-        [before, full, sum, kept, after],
-        [empty, some, sifted, gone, refused],
-    ))
+    let counts = [before, full, sum, kept, after];
+    Ok((counts, [empty, some, sifted, gone, refused]))
 }
 
 #[test]
-fn a_set_has_what_it_was_left(rt: HostRuntime) -> Result<(), Fail> {
+fn a_set_has_what_it_was_left_and_says_so(rt: HostRuntime) -> Result<(), Fail> {
+    assert_eq!(rt; alone(&rt, rt.alloc())?, [true; 7]);
+    assert_eq!(rt; foreign(&rt, rt.alloc())?, [true; 8]);
     assert_eq!(rt; counts(&rt, rt.alloc())?, ([0, 3, 96, 2, 0], [true; 5]));
     Ok(())
 }
@@ -210,8 +198,9 @@ fn two_threads_find_what_each_has_left(rt: HostRuntime) -> Result<(), Fail> {
     Ok(())
 }
 
-/// Puts one key there, goes over the set until it is shown the other one, and removes then what was there before. Answers whether each time it was shown its own key.
-fn sweeps<R: Wait + Clock>(rt: &R, mut set: Own<'_>, own: u64, other: u64) -> Result<bool, Fault> {
+/// Puts one of two keys there, goes over the set until it is shown the other one, and removes then what was there before. Answers whether each time it was shown its own key.
+fn sweeps<R: Wait + Clock>(rt: &R, mut set: Own<'_>, own: u64) -> Result<bool, Fault> {
+    let other = own ^ 1;
     let _ = set.insert(rt, own)?;
     for _ in 0..LOOKS {
         let (mut stays, mut met) = (false, false);
@@ -235,12 +224,8 @@ fn sweep<R: Threads + Wait + Clock + Sync>(rt: &R, alloc: Global) -> Result<(boo
     let set = HashSet::with_hasher(alloc, &mut ids, Hashing::default())?;
     let mut session = set.session()?;
     session.extend(rt, 0..KEYS)?;
-    let (first, second) = (session.another()?, session.another()?);
-    let (one, other) = thread::join(
-        rt,
-        || sweeps(rt, first, KEYS, KEYS + 1),
-        || sweeps(rt, second, KEYS + 1, KEYS),
-    );
+    let (one, two) = (session.another()?, session.another()?);
+    let (one, other) = thread::join(rt, || sweeps(rt, one, KEYS), || sweeps(rt, two, KEYS + 1));
     let (one, other) = (one?, other?);
     Ok((one && other, session.len()))
 }

@@ -3,4 +3,5 @@ pub use Rattle.threads_errands.proofs.Given.ErrandsBeginnings
 pub use Rattle.threads_errands.proofs.Given.ErrandsRuns
 pub use Rattle.threads_errands.proofs.Given.ErrandsSweeping
 pub use Rattle.threads_errands.proofs.Given.Pausing
+pub use Rattle.threads_errands.proofs.Given.StepsAnswering
 pub use Rattle.threads_errands.proofs.Given.Told

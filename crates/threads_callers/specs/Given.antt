@@ -1,6 +1,7 @@
 -- The words of the crates below, given on to the crates above: these list this crate in place of those.
 pub use Rattle.threads_errands.specs.Given.ActsActs
 pub use Rattle.threads_errands.specs.Given.CallKindsKinds
+pub use Rattle.threads_errands.specs.Given.CallKindsShows
 pub use Rattle.threads_errands.specs.Given.CallKindsSweeps
 pub use Rattle.threads_errands.specs.Given.ErrandsCalling
 pub use Rattle.threads_errands.specs.Given.ErrandsCounting

@@ -1,9 +1,11 @@
 //! Those who share a memory of maps: each is a seat that makes a map, comes to know one, takes a slot, and is sent for each call; a seat more may look keys up under it.
 #![tactic(auto)]
 
+mod answers;
 mod caller;
 mod showing;
 
+pub use answers::{Attempt, Found, came_of, is_put, is_removed, refused, removed, replaced, there};
 pub use caller::{MapCaller, MapPassSeat};
 pub use showing::newcomer;
 pub use threads_errands::{Halt, OfMaps, Ran, Within, memory_for};

@@ -4,6 +4,7 @@ use Rattle.std.proofs.Common.{◌≡◌, ℕ, Bool, true, false, inr, refl, sym,
 use Rattle.papaya_raw.specs.CallAsks.{removing_if, trying_to_insert_with}
 use Rattle.seize_words.specs.declared.fault.Fault.{Fault}
 use Rattle.map_tables.specs.Chunks.{is_incremental}
+use Rattle.map_tables.specs.declared.node.Node.{Node}
 use Rattle.map_tables.specs.declared.setting.Setting.{Setting}
 use Rattle.threads_callers.specs.Given.ActsActs.{RemoveIf, TryToInsertWith}
 use Rattle.papaya_raw.specs.declared.machines.asking.MachineReply.{MachineReply}
@@ -17,6 +18,8 @@ use Rattle.threads_callers.specs.Given.ViewsDeclared.view.SeatWork.TheVariants.{
 use Rattle.threads_callers.specs.Given.StepsAsking.{HasAnswered, HasAsked, makes_pair, removes_if}
 use Rattle.threads_callers.specs.Given.ErrandsCalling.{MayDoAs, outcome_of, wanted_of}
 use Rattle.threads_callers.specs.Given.CallKindsKinds.{Continues, Stage}
+use Rattle.threads_callers.specs.Given.CallKindsShows.{AnsweredAreVisible}
+use Rattle.threads_callers.specs.Given.ViewsLooks.{shown_in}
 use Rattle.threads_callers.specs.Given.ErrandsLooking.{HasRun}
 use Rattle.threads_callers.specs.Standing.{known_by}
 use Rattle.threads_calls.proofs.Sessions.{may_do}
@@ -50,6 +53,12 @@ module _ {K V S : Type 0} (same : K → K → Bool) (hash : S → K → ℕ) (sa
   answered_by {answer} {so} {told} its its_told answered =
       subst (λ (c : KeyCall K V K). HasRun same hash (wanted_of (Key c)) (outcome_of told) v w) is
       (subst (λ (r : Result Answer Fault). HasRun same hash (wanted_of (Key call)) (outcome_of r) v w) (sym its ∙ its_told) answered.ran)
+
+  -- the pairs with which it has answered are shown,
+  pub shows_asked : {answer so told : Result Answer Fault} → so ≡ answer → so ≡ told → HasAnswered same hash says (wanted_of (Key call)) answer v w
+      → AnsweredAreVisible (outcome_of {T = Node K V} told) (shown_in w.held)
+  shows_asked its its_told answered =
+      subst (λ (r : Result Answer Fault). AnsweredAreVisible (outcome_of {T = Node K V} r) (shown_in w.held)) (sym its ∙ its_told) answered.shows
 
   -- and so is what it has asked
   pub asked_by : {answer : Result Answer Fault} → HasAnswered same hash says (wanted_of (Key call)) answer v w → HasAsked same hash says (wanted_of (Key made)) v w

@@ -21,9 +21,11 @@ use Rattle.threads_callers.specs.Given.ViewsDeclared.view.SeatWork.TheVariants.{
 use Rattle.threads_callers.specs.Given.ErrandsCalling.{AsksNone, AsksNothing, HasCalled, IsBack, IsToStore, MachineStores, MayCall, is_put, outcome_of, pair_wanted, wanted_of}
 use Rattle.threads_callers.specs.Given.ErrandsLooking.{HasRun}
 use Rattle.threads_callers.specs.Given.CallKindsKinds.{Kind, Continues}
-use Rattle.threads_calls.specs.Answers.{CameBack, IsOutOf, has_stored}
-use Rattle.threads_calls.specs.declared.session.keys.Attempt.{Attempt}
-use Rattle.threads_calls.specs.declared.session.keys.Attempt.TheVariants.{Stored, Present}
+use Rattle.threads_callers.specs.Given.CallKindsShows.{AnsweredAreVisible}
+use Rattle.threads_callers.specs.Given.ViewsLooks.{shown_in}
+use Rattle.threads_callers.specs.Answers.{CameBack, IsOutOf, has_stored}
+use Rattle.threads_callers.specs.declared.answers.Attempt.{Attempt}
+use Rattle.threads_callers.specs.declared.answers.Attempt.TheVariants.{Stored, Present}
 use Rattle.threads_callers.specs.Standing.{known_by}
 use Rattle.threads_calls.proofs.Sessions.{may_do}
 use Rattle.seize_words.proofs.General.{same_some}
@@ -59,7 +61,7 @@ module _ {K V S : Type 0} (same : K → K → Bool) (hash : S → K → ℕ) (v 
         record { so = record { kind = refl; holds = (tt, inr (tt, tt)); gap = tt }; here = (refl, tt, tt) };
     stores =
         stores_so (inserting its hashed key value) made
-        (λ pair e. record { here = refl; unmade = e; absent = refl; present = tt; none = refl; word = fits });
+        (λ pair e. record { here = refl; unmade = e; absent = refl; present = tt; none = refl; word = fits; untold = refl });
   }
 
   pub may_try : (value : V) → call ≡ trying_to_insert its hashed key value → MayCall same hash hasher (Key call) v
@@ -72,7 +74,7 @@ module _ {K V S : Type 0} (same : K → K → Bool) (hash : S → K → ℕ) (v 
         record { so = record { kind = refl; holds = (tt, inr (tt, tt)); gap = tt }; here = (refl, tt, tt) };
     stores =
         stores_so (trying_to_insert its hashed key value) made
-        (λ pair e. record { here = refl; unmade = e; absent = refl; present = tt; none = refl; word = fits });
+        (λ pair e. record { here = refl; unmade = e; absent = refl; present = tt; none = refl; word = fits; untold = refl });
   }
 
   pub may_remove : call ≡ removing its hashed key → MayCall same hash hasher (Key call) v
@@ -93,6 +95,11 @@ pub back_by : {K V S : Type 0} (same : K → K → Bool) (hash : S → K → ℕ
     → HasCalled same hash wanted answer unstored v w → (pair : Node K V) → pair_wanted wanted ≡ Some pair → IsBack pair told unstored
 back_by same hash {wanted} {answer} {told} {unstored} v w says called pair its = subst (λ (r : Result Answer Fault). IsBack pair r unstored) says (called.back pair its)
 
+-- and the pairs with which it has answered are shown
+pub shows_by : {K V S : Type 0} (same : K → K → Bool) (hash : S → K → ℕ) {wanted : Wanted K V} {answer told : Result Answer Fault} {unstored : Option (Node K V)} (v w : View K V S) → answer ≡ told
+    → HasCalled same hash wanted answer unstored v w → AnsweredAreVisible (outcome_of {T = Node K V} told) (shown_in w.held)
+shows_by {K} {V} same hash v w says called = subst (λ (r : Result Answer Fault). AnsweredAreVisible (outcome_of {T = Node K V} r) (shown_in w.held)) says called.shows
+
 -- two pairs that both have come back are one
 pub one_back : {K V : Type 0} (unstored : Option (Node K V)) (k key : K) (v value : V) → unstored ≡ Some (Pair k v) → unstored ≡ Some (Pair key value) → (k ≡ key) × (v ≡ value)
 one_back unstored k key v value out back = let e = same_some (Pair k v) (Pair key value) (sym out ∙ back) in (cc e, cc e)
@@ -101,4 +108,4 @@ one_back unstored k key v value out back = let e = same_some (Pair k v) (Pair ke
 pub came_back : {K V : Type 0} (key : K) (value : V) (attempt : Attempt K V) (answer : Answer) (unstored : Option (Node K V)) → has_stored attempt ≡ is_put answer → IsOutOf unstored attempt
     → IsBack (Pair key value) (Ok answer) unstored → CameBack key value attempt
 came_back key value Stored answer unstored stored out back = tt
-came_back key value (Present k v) answer unstored stored out back = one_back unstored k key v value out (back (sym stored))
+came_back key value (Present k v) answer unstored stored out back = one_back unstored k key v value out (back.0 (sym stored))

@@ -4,5 +4,7 @@
 mod session;
 
 pub use seize_views::Fixed;
-pub use session::{Attempt, Found, SessionBase};
-pub use threads_callers::{Halt, MapPassSeat, OfMaps, Within, memory_for, newcomer};
+pub use session::SessionBase;
+pub use threads_callers::{
+    Attempt, Found, Halt, MapPassSeat, OfMaps, Within, memory_for, newcomer,
+};

@@ -1,13 +1,12 @@
 //! A map, as one of those knows it who share it.
-ghost use Rattle.std.specs.Prelude.{◌≡◌, ◌≤◌, ◌<◌, ◌^◌, [], Some, None, Err, true, IfErr, IfNone, IfOk, IfSome};
+ghost use Rattle.std.specs.Prelude.{◌≡◌, ◌≤◌, ◌<◌, ◌^◌, [], Some, None, Err, true, IfErr, IfNone, IfOk, IfSome, is_some, option_map};
 ghost use Rattle.threads_callers.specs.Given.ErrandsCalling.{outcome_of};
 ghost use Rattle.threads_callers.specs.Given.ErrandsLooking.{HasRun, found_of};
-ghost use Rattle.threads_calls.specs.Answers.{HasStored, is_replaced as replaces};
-ghost use Rattle.threads_calls.specs.Shown.{IsLent, IsShown};
+ghost use Rattle.threads_calls.specs.Answers.{HasReplaced, HasStored};
+ghost use Rattle.threads_calls.specs.Shown.{IsLent, IsPairLent, IsShown, Shows};
 ghost use Rattle.threads_callers.specs.Standing.{known_by};
 ghost use Rattle.threads_callers.specs.Given.ActsActs.{Get, Insert};
 ghost use Rattle.map_tables.specs.Chunks.{is_incremental};
-ghost use Rattle.map_tables.specs.declared.node.Node.TheVariants.{Pair};
 ghost use Rattle.map_tables.specs.declared.resize_mode.ResizeMode.TheVariants.{Incremental};
 ghost use Rattle.threads_callers.specs.Given.ViewsDeclared.view.SeatWork.TheVariants.{Nothing as NoWork};
 ghost use Rattle.seize_views.specs.declared.view.Has.TheVariants.{Nothing};
@@ -20,16 +19,15 @@ mod seats;
 mod sends;
 mod whole;
 
-pub use keys::Attempt;
 use map_machines::{Lookup, NewMap};
 use map_tables::{Counter, Hashes, Node, ResizeMode, Setting};
-use papaya_raw::machines::{Answer, KeyAnswer, There};
+use papaya_raw::machines::There;
 use seize_blocks::Blocks;
 use seize_views::Fixed;
 use seize_words::{Fault, Link, Refused};
 use std::hash::Hash;
 use std::sync::Wait;
-use threads_callers::{MapCaller, OfMaps, Ran};
+use threads_callers::{Found, MapCaller, OfMaps, Ran, refused, replaced};
 
 /// A map, as one of those knows it who share it: with a seat of its own, which may be sent to a thread. It has nothing under way between its calls.
 pub struct SessionBase<'a, K: Eq, V, S: Hashes<K>> {
@@ -43,36 +41,11 @@ pub struct SessionBase<'a, K: Eq, V, S: Hashes<K>> {
     ghost incremental: { is_incremental setting.mode ≡ true },
 }
 
-/// A pair that was found, by the word that links to its block.
-#[derive(Clone, Copy)]
-pub struct Found {
-    word: u64,
-}
-
 /// Returns what a call works with in this slot.
 fn setting_in(setting: Setting, slot: u64) -> Setting
     ensures { result ≡ record setting { slot = slot } }
 {
     Setting { slot, ..setting }
-}
-
-/// Tells whether a pair was replaced by another one.
-fn is_replaced(answer: &Answer) -> bool
-    ensures { result ≡ replaces answer.now }
-{
-    matches!(answer, Answer::Key(KeyAnswer::Replaced { .. }))
-}
-
-/// Returns that a call was refused so, with its pair, which has come back.
-fn refused<K: Drop, V: Drop>(fault: Fault, unstored: Option<Node<K, V>>) -> Refused<K, V>
-    requires back { (key : K) × (value : V) × (unstored ≡ Some (Pair key value)) }
-    ensures fault { result.fault ≡ fault }
-    ensures back { unstored ≡ Some (Pair result.key result.value) }
-{
-    match unstored {
-        Some(Node::Pair(key, value)) => Refused { fault, key, value },
-        _ => unreachable!(),
-    }
 }
 
 impl<'a, K: Eq + Drop, V: Drop, S: Hashes<K>> SessionBase<'a, K, V, S> {
@@ -201,26 +174,41 @@ impl<'a, K: Eq + Hash, V, S: Hashes<K>> SessionBase<'a, K, V, S> {
         Some(Found { word })
     }
 
+    /// Returns a pair that the session shows, for as long as it is borrowed.
+    pub fn pair(&self, found: Found) -> (&K, &V)
+        requires shown { Shows self.now.caller found.word }
+        ensures { IsPairLent K.eq S.hash self.now.caller found.word (result.0.now, result.1.now) }
+    {
+        match self.caller.pair(Link::block_of(found.word)) {
+            Node::Pair(key, value) => (key, value),
+            Node::Table { .. } | Node::Shards => unreachable!(),
+        }
+    }
+
     /// Returns the value of the pair that was found, for as long as the session is borrowed.
     pub fn value(&self, found: Found) -> &V
         requires shown { (key : K) × IsShown K.eq key self.now.caller found.word }
         ensures { IsLent K.eq S.hash self.now.caller found.word result.now }
     {
-        match self.caller.pair(Link::block_of(found.word)) {
-            Node::Pair(_, value) => value,
-            Node::Table { .. } | Node::Shards => unreachable!(),
-        }
+        self.pair(found).1
     }
 }
 
 impl<'a, K: Eq + Hash + Drop, V: Drop, S: Hashes<K>> SessionBase<'a, K, V, S> {
-    /// Stores a pair within the section of its slot, in the place of one of an equal key, if there is one, and answers whether one was replaced. The faults are `Memory`
-    /// and `Capacity`; the pair comes back then.
-    pub fn insert<R: Wait>(&mut self, rt: &R, key: K, value: V) -> Result<bool, Refused<K, V>>
+    /// Stores a pair within the section of its slot, in the place of one of an equal key, if there is one, and answers with the one that was replaced, if one was: it is there
+    /// until the session takes its next step. The faults are `Memory` and `Capacity`; the pair comes back then.
+    pub fn insert<R: Wait>(
+        &mut self,
+        rt: &R,
+        key: K,
+        value: V,
+    ) -> Result<Option<Found>, Refused<K, V>>
         requires inside { self.old.caller.seat.view.slot ≡ Inside self.old.slot Nothing }
         ensures inside { self.new.caller.seat.view.slot ≡ Inside self.new.slot Nothing }
         ensures slot { self.new.slot ≡ self.old.slot }
-        ensures stored { IfOk result (λ replaced. HasStored K.eq S.hash key value replaced self.old.caller.seat.view self.new.caller.seat.view) }
+        ensures stored { IfOk result (λ old. HasStored K.eq S.hash key value (is_some old) self.old.caller.seat.view self.new.caller.seat.view) }
+        ensures replaced { IfOk result (λ old. HasReplaced K.eq S.hash key value (option_map (λ found. found.word) old) self.old.caller.seat.view self.new.caller.seat.view) }
+        ensures shown { IfOk result (λ old. IfSome old (λ found. Shows self.new.caller found.word)) }
         ensures refused { IfErr result (λ refused. HasRun K.eq S.hash (Insert key value) (outcome_of (Err refused.fault)) self.old.caller.seat.view self.new.caller.seat.view) }
         ensures back { IfErr result (λ refused. (refused.key ≡ key) × (refused.value ≡ value)) }
         ensures map { self.new.caller.seat.view.map ≡ self.old.caller.seat.view.map }
@@ -238,7 +226,7 @@ impl<'a, K: Eq + Hash + Drop, V: Drop, S: Hashes<K>> SessionBase<'a, K, V, S> {
             near: _,
         } = ran;
         match told {
-            Ok(answer) => Ok(is_replaced(&answer)),
+            Ok(answer) => Ok(replaced(&answer)),
             Err(fault) => Err(refused(fault, unstored)),
         }
     }

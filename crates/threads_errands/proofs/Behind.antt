@@ -1,5 +1,5 @@
 -- A call whose code is ahead of its machine: turns lead to one point that makes an operation, and the seat may take them, or those with which the call ends.
-use Rattle.std.specs.Prelude.{Option, None}
+use Rattle.std.specs.Prelude.{Option, None, List, [], if◌then◌else◌}
 use Rattle.std.proofs.Common.{◌≡◌, ℕ, Bool, refl, sym, subst, ap, ◌∙◌}
 use Rattle.seize_words.specs.OneMemory.Op.{Op}
 use Rattle.seize_words.specs.OneMemory.Plan.{Plan, Turn, Do, Now, Seeing, Sure, plan_as}
@@ -32,6 +32,7 @@ use Rattle.map_straight.specs.Straight.Going.{CallGoes}
 use Rattle.threads_steps.specs.Given.CallKindsKinds.{Kind, Stage, Continues, SaysSo}
 use Rattle.threads_steps.proofs.Given.CallKindsAsking.{says}
 use Rattle.threads_steps.specs.Given.CallKindsLeads.{Leads}
+use Rattle.threads_steps.specs.Given.CallKindsShows.{AnsweredAreVisible}
 use Rattle.threads_errands.specs.Ahead.{CatchesUp, StandsAtOneOf, HasEndedSo, IsAhead, IsBehind, here, turns, IsEnding, over, turns_over, LiesAhead, Makes, MakesNext, PassesTo, StandsAt}
 use Rattle.threads_steps.specs.Given.ErrandsCalling.{Works}
 use Rattle.threads_steps.specs.Given.ErrandsLooking.{IsOfThem, StaysThere}
@@ -138,16 +139,20 @@ module _ {K V S : Type 0} (same : K → K → Bool) (hash : S → K → ℕ) (ha
 
   -- it has taken a turn to there
   turned_to : (x y : KeyCall K V K) (told : Called (Node K V)) (v w : View K V S) (at : Works hasher (Key x) v) → call_plan same same (hash hasher) x ≡ Turn (Now (y, told))
-      → turned same hash v w → w ≡ called v at.map (Key x) (as_machine (y, told)) w.looks
+      → turned same hash v w → (w ≡ called v at.map (Key x) (as_machine (y, told)) w.looks) × AnsweredAreVisible (of_called told) (shown_in w.held)
   turned_to x y told v w at is turn =
       let t = turned_so same hash v at.map (Key x) at.knows at.works w turn in
       let one : t.0 ≡ as_machine (y, told) =
       subst (λ (p : Plan (Node K V) (Machine K V K × Progress (Node K V))). TurnsTo (shown_in w.looks) p t.0) (plan_here x v at (Turn (Now (y, told))) is) t.1 in
-      t.2 ∙ ap (λ (e : Machine K V K × Progress (Node K V)). called v at.map (Key x) e w.looks) one
+      let held : w.held ≡ w.looks = ap (λ (u : View K V S). u.held) t.2 ∙ ap (λ (k : Bool). if k then w.looks else []) at.incremental in (
+        t.2 ∙ ap (λ (e : Machine K V K × Progress (Node K V)). called v at.map (Key x) e w.looks) one,
+        subst (λ (e : Machine K V K × Progress (Node K V)). AnsweredAreVisible e.1 (shown_in w.held)) one
+            (subst (λ (l : List (ℕ × Node K V)). AnsweredAreVisible t.0.1 (shown_in l)) (sym held) t.5.1),
+      )
 
   -- by one that goes on it stands there then
   passed : (x y : KeyCall K V K) (v w : View K V S) (at : Works hasher (Key x) v) → PassesTo same (hash hasher) x y → turned same hash v w → StandsAt (Key y) v w
-  passed x y v w at t turn = let view = turned_to x y t.0 v w at t.2 turn in record {
+  passed x y v w at t turn = let view = (turned_to x y t.0 v w at t.2 turn).0 in record {
     works = ap (λ (u : View K V S). u.work) view ∙ is_on y t.0 (on_still t.0 t.1);
     stays = record { slot = ap (λ (u : View K V S). stand_of u) view; map = ap (λ (u : View K V S). u.map) view };
     calls = of_them v v w (of_called t.0) (λ told. refl) (ap (λ (u : View K V S). u.calls) view);
@@ -225,10 +230,11 @@ module _ {K V S : Type 0} (same : K → K → Bool) (hash : S → K → ℕ) (v 
     -- a turn that ends its call does
     ended_by : (hasher : S) (x y : KeyCall K V K) (answer : KeyAnswer) (w u : View K V S) (at : Works hasher (Key x) w) → StandsAt (Key x) v w
         → call_plan same same (hash hasher) x ≡ Turn (Now (y, tells.Done answer)) → turned same hash w u → HasEndedSo answer v u
-    ended_by hasher x y answer w u at s is turn = let view = turned_to same hash hasher x y (tells.Done answer) w u at is turn in record {
+    ended_by hasher x y answer w u at s is turn = let to = turned_to same hash hasher x y (tells.Done answer) w u at is turn in let view = to.0 in record {
       ended = record {
         free = ap (λ (z : View K V S). z.work) view;
         told = told_last v w u (progress.Done (OfKey answer)) s.calls (ap (λ (z : View K V S). z.calls) view);
+        shows = to.1;
       };
       stays =
           stays_on v w u s.stays (record { slot = ap (λ (z : View K V S). stand_of z) view; map = ap (λ (z : View K V S). z.map) view });

@@ -99,4 +99,5 @@ module _ {K V S : Type 0} (same : K → K → Bool) (hash : S → K → ℕ) (wa
     stays = stays_on v w u (stays_begun same hash wanted v w b) stays;
     ran = has_run same hash wanted (outcome_of answer) v w u b e.told;
     back = comes;
+    shows = e.shows;
   }

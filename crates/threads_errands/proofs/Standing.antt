@@ -30,6 +30,7 @@ use Rattle.seize_views.proofs.Views.Looks.{IsNow}
 use Rattle.map_straight.specs.Straight.Going.{CallGoes, CallLeads, MayCall}
 use Rattle.threads_steps.specs.Given.CallKindsAnswers.{IsAnswer}
 use Rattle.threads_steps.specs.Given.CallKindsKinds.{Continues}
+use Rattle.threads_steps.specs.Given.CallKindsShows.{AnsweredAreVisible}
 use Rattle.threads_steps.proofs.Given.CallKindsAsking.{call_is}
 use Rattle.threads_steps.proofs.Given.CallKindsPlans.{ReplacesNone, answered_by, follows_as, follows_one, leaves_values, op_as}
 use Rattle.threads_steps.proofs.Given.CallKindsQuiet.{IsQuiet}
@@ -95,6 +96,7 @@ module _ {K V S : Type 0} (same : K → K → Bool) (hash : S → K → ℕ) (ha
       pub may : MayFollow (shown_in n.held) plan out
       pub hands : HandsBack before.calls (as_machine end).1
       pub step : MayCome (machine_plan same same (hash hasher) (Key x)) (as_machine end)
+      pub shows : AnsweredAreVisible (as_machine end).1 (shown_in n.held)
 
     came : (op : Op (Node K V)) (out : Out (Node K V)) (n : Ahead K V S) → Makes same (hash hasher) x op → HasGone same hash c op out n → Came out n.seat.now.view
     came op out n e gone =
@@ -117,6 +119,7 @@ module _ {K V S : Type 0} (same : K → K → Bool) (hash : S → K → ℕ) (ha
           step =
               subst (λ (m : Machine K V K × Progress (Node K V)). MayCome (machine_plan same same (hash hasher) (Key x)) m) f.2
               (subst (λ (p : Plan (Node K V) (Machine K V K × Progress (Node K V))). MayCome p so.0) its so.4);
+          shows = subst (λ (m : Machine K V K × Progress (Node K V)). AnsweredAreVisible m.1 (shown_in w.held)) f.2 so.6.1;
         }
 
     pub may_go : May (CanGo same hash) (HasGone same hash) shown_ahead c plan
@@ -138,10 +141,10 @@ module _ {K V S : Type 0} (same : K → K → Bool) (hash : S → K → ℕ) (ha
 
     -- the call has ended with its operation
     ended_now : (y : KeyCall K V K) (answer : KeyAnswer) (v n : View K V S) (at : Works hasher (Key x) v) → n ≡ called v at.map (Key x) (as_machine (y, tells.Done answer)) n.looks
-        → HasEndedSo answer n n
-    ended_now y answer v n at view =
+        → AnsweredAreVisible (progress.Done (OfKey answer)) (shown_in n.held) → HasEndedSo answer n n
+    ended_now y answer v n at view shows =
         let told : Progress (Node K V) = progress.Done (OfKey answer) in let calls = ap (λ (u : View K V S). u.calls) view in record {
-          ended = record { free = ap (λ (u : View K V S). u.work) view; told = calls ∙ sym (of_them v v n told (λ other. refl) calls told) };
+          ended = record { free = ap (λ (u : View K V S). u.work) view; told = calls ∙ sym (of_them v v n told (λ other. refl) calls told); shows = shows };
           stays = record { slot = refl; map = refl };
         }
 
@@ -176,7 +179,9 @@ module _ {K V S : Type 0} (same : K → K → Bool) (hash : S → K → ℕ) (ha
             leads = here y;
           };
           ends = λ answer done. over (ended_now y answer k.before w k.at
-              (view ∙ ap (λ (t : Called (Node K V)). called k.before k.at.map (Key x) (as_machine (y, t)) w.looks) done));
+              (view ∙ ap (λ (t : Called (Node K V)). called k.before k.at.map (Key x) (as_machine (y, t)) w.looks) done)
+              (subst (λ (t : Called (Node K V)). AnsweredAreVisible (of_called t) (shown_in w.held)) done
+              (subst (λ (e : KeyCall K V K × Called (Node K V)). AnsweredAreVisible (as_machine e).1 (shown_in w.held)) one k.shows)));
           step = subst (λ (e : KeyCall K V K × Called (Node K V)). MayCome (machine_plan same same (hash hasher) (Key x)) (as_machine e)) one k.step;
           hands = λ pair its.
               hands_it pair k.before.calls (of_called told) (same_pair u k.before k.stands.calls ∙ its)

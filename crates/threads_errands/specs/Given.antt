@@ -2,6 +2,7 @@
 pub use Rattle.threads_steps.specs.Asking as StepsAsking
 pub use Rattle.threads_steps.specs.Given.ActsActs
 pub use Rattle.threads_steps.specs.Given.CallKindsKinds
+pub use Rattle.threads_steps.specs.Given.CallKindsShows
 pub use Rattle.threads_steps.specs.Given.CallKindsSweeps
 pub use Rattle.threads_steps.specs.Given.ErrandsCalling
 pub use Rattle.threads_steps.specs.Given.ErrandsCounting

@@ -11,7 +11,9 @@ mod Whose
 mod Alone
 mod Sections
 mod Looked
+mod Naming
 mod Shown
+mod Answered
 pub mod Pairs
 mod Settled
 mod RowLooks

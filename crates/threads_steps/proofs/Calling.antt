@@ -21,7 +21,7 @@ use Rattle.threads_steps.specs.Steps.{HasStepped}
 use Rattle.threads_steps.specs.Made.{CanMake, HasMade, IsSameSeat, shown_of}
 use Rattle.threads_rule.specs.Errands.Calling.{MayStep, StepsTo}
 use Rattle.threads_rule.specs.CallKinds.Leads.{Leads}
-use Rattle.threads_rule.specs.CallKinds.Shows.{ReadPairIsVisible}
+use Rattle.threads_rule.specs.CallKinds.Shows.{ToldAreVisible}
 use Rattle.threads_steps.specs.declared.within.Within.{Within}
 use Rattle.threads_steps.proofs.Calls.{can_make, told_shown}
 use Rattle.threads_steps.proofs.Tellings.{turned_so}
@@ -82,7 +82,7 @@ module _ {K V S : Type 0} (same : K → K → Bool) (hash : S → K → ℕ) (ha
   -- what is known once the call has come so far
   knows_so : (w : View K V S) (next : Machine K V K) (told : Progress (Node K V)) (looks : List (ℕ × Node K V))
       → w ≡ called c.seat.now.view is.at.map machine (next, told) looks → Leads (shown_in w.held) plan (next, told) → MayCome plan (next, told) → HandsBack c.seat.now.view.calls told
-      → ReadPairIsVisible machine told (shown_in w.held) → StepsTo same hash hasher machine next told c.seat.now.view w
+      → ToldAreVisible machine told (shown_in w.held) → StepsTo same hash hasher machine next told c.seat.now.view w
   knows_so w next told looks view leads came hands shows = record {
     work = ap (λ (u : View K V S). u.work) view;
     stays = record { slot = ap (λ (u : View K V S). stand_of u) view; map = ap (λ (u : View K V S). u.map) view };
@@ -116,7 +116,7 @@ module _ {K V S : Type 0} (same : K → K → Bool) (hash : S → K → ℕ) (ha
                 knows_so n.seat.now.view next told n.seat.now.view.looks view (leads_by (shown_of n) plan it.1 end (answered_by plan it.0 it.1 it.4 it.2.fits) it.3)
                 (subst (λ (e : Machine K V K × Progress (Node K V)). MayCome plan e) one t.4)
                 (subst (λ (e : Machine K V K × Progress (Node K V)). HandsBack c.seat.now.view.calls e.1) one t.5)
-                (subst (λ (e : Machine K V K × Progress (Node K V)). ReadPairIsVisible machine e.1 (shown_of n)) one t.6);
+                (subst (λ (e : Machine K V K × Progress (Node K V)). ToldAreVisible machine e.1 (shown_of n)) one t.6);
             by = inl (it.0, it.1, it.2.told);
             seat = it.2.seat;
           }
@@ -162,5 +162,5 @@ module _ {K V S : Type 0} (same : K → K → Bool) (hash : S → K → ℕ) (ha
         (now_ends (shown_of c) (shown_in w.held) t.1.0 end now t.1.2))
         (subst (λ (e : Machine K V K × Progress (Node K V)). MayCome plan e) one by_map.3)
         (subst (λ (e : Machine K V K × Progress (Node K V)). HandsBack c.seat.now.view.calls e.1) one by_map.4)
-        (subst (λ (e : Machine K V K × Progress (Node K V)). ReadPairIsVisible machine e.1 (shown_in w.held)) one
-        (subst (λ (l : List (ℕ × Node K V)). ReadPairIsVisible machine by_map.0.1 (shown_in l)) (sym held_is) by_map.5))
+        (subst (λ (e : Machine K V K × Progress (Node K V)). ToldAreVisible machine e.1 (shown_in w.held)) one
+        (subst (λ (l : List (ℕ × Node K V)). ToldAreVisible machine by_map.0.1 (shown_in l)) (sym held_is) by_map.5))

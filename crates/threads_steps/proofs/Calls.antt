@@ -10,7 +10,7 @@ use Rattle.papaya_raw.specs.declared.machines.machine.Machine.{Machine}
 use Rattle.papaya_raw.specs.declared.machines.progress.Progress.{Progress}
 use Rattle.seize_views.specs.Views.Promises.{op_in}
 use Rattle.seize_views.specs.Views.Told.{FollowsBy}
-use Rattle.threads_rule.specs.CallKinds.Shows.{ReadPairIsVisible}
+use Rattle.threads_rule.specs.CallKinds.Shows.{ToldAreVisible}
 use Rattle.threads_rule.specs.Views.Looks.{MayFollow}
 use Rattle.threads_rule.specs.Views.Told.{HandsBack, MayCome, called}
 use Rattle.threads_rule.specs.declared.view.Map.{Map}
@@ -48,5 +48,5 @@ module _ {K V S : Type 0} (same : K → K → Bool) (hash : S → K → ℕ) (c 
     -- in incremental mode it shows what the step looks at
     pub told_shown : is_incremental map.setting.mode ≡ true → (op : Op (Node K V)) (out : Out (Node K V)) (n : Within K V S) → HasMade same hash c op out n
         → (end : Machine K V K × Progress (Node K V)) × FollowsBy (shown_of n) plan out end × (n.seat.now.view ≡ called c.seat.now.view map machine end n.seat.now.view.looks)
-        × MayFollow (shown_of n) plan out × MayCome plan end × HandsBack c.seat.now.view.calls end.1 × ReadPairIsVisible machine end.1 (shown_of n)
+        × MayFollow (shown_of n) plan out × MayCome plan end × HandsBack c.seat.now.view.calls end.1 × ToldAreVisible machine end.1 (shown_of n)
     told_shown incremental op out n made = shown_then same hash c.seat.now.view map machine knows works incremental op out n.seat.now.view made.told

@@ -1,6 +1,6 @@
 -- A call that is to store a pair has it, until it has put it into the map, or hands it back: where its outcome is not that it is there, the pair has come back.
-use Rattle.std.specs.Prelude.{Option, Some, Result, Ok, Err}
-use Rattle.std.proofs.Common.{◌≡◌, ℕ, Bool, true, List, ◌⊎◌, inl, inr, refl, sym, subst, ap, ◌∙◌}
+use Rattle.std.specs.Prelude.{Option, Some, IsSome, Result, Ok, Err}
+use Rattle.std.proofs.Common.{◌≡◌, ℕ, Bool, true, false, List, ◌⊎◌, inl, inr, refl, sym, subst, ap, ◌∙◌}
 use Rattle.seize_words.specs.OneMemory.Mem.{Mem, Took, value_at}
 use Rattle.seize_words.specs.OneMemory.Plan.{Plan, Turn, Do, Steps, plan_as}
 use Rattle.seize_words.specs.declared.fault.Fault.{Fault}
@@ -25,11 +25,11 @@ use Rattle.threads_rule.specs.declared.view.BegunCall.{BegunCall}
 use Rattle.owner_calls.specs.Owned.Owned.{PutsIt}
 use Rattle.owner_calls.proofs.Owned.Owned.ComesBack.{TellsEnd, over_tells}
 use Rattle.owner_calls.proofs.Owned.Owned.HandsBack.{HasPair, HasPairAt, IsOver, KeepsPair, pair_kept}
-use Rattle.threads_rule.specs.Errands.Calling.{IsBack, IsGoing, IsToStore, MachineStores, handed_by, is_put, outcome_of}
+use Rattle.threads_rule.specs.Errands.Calling.{IsBack, IsGoing, IsToStore, MachineStores, handed_by, is_put, outcome_of, pair_there}
 use Rattle.threads_rule.proofs.CallKinds.Plans.{ends_as}
 
 -- a step whose outcome is turned into another one comes to what that is of
-steps_as : {T A B : Type 0} (f : A → B) (m n : Mem T) (plan : Plan T A) (end : B) → Steps Took value_at m (plan_as f plan) n end
+pub steps_as : {T A B : Type 0} (f : A → B) (m n : Mem T) (plan : Plan T A) (end : B) → Steps Took value_at m (plan_as f plan) n end
     → (e : A) × Steps Took value_at m plan n e × (end ≡ f e)
 steps_as f m n (Turn rest) end s = let k = ends_as f (value_at n) rest end s.1 in (k.0, (s.0, k.1), k.2)
 steps_as f m n (Do op rest) end s = let k = ends_as f (value_at n) (rest s.0) end s.2 in (k.0, (s.0, s.1, k.1), k.2)
@@ -40,6 +40,11 @@ puts (answers.Replaced old new) is = refl
 puts (answers.Found word) is = absurd is
 puts answers.Absent is = absurd is
 puts (answers.Removed word) is = absurd is
+
+-- as it ends it tells which pair is in the map
+abbrev pub TellsOne : {T : Type 0} → Progress T → Type 0
+TellsOne (progress.Done answer) = IsSome (pair_there answer)
+TellsOne told = Unit {0}
 
 module _ {K V : Type 0} where
   abbrev HasIt : Machine K V K → Type 0
@@ -54,10 +59,14 @@ module _ {K V : Type 0} where
   abbrev pub StillHas : Node K V → Machine K V K → Option (Node K V) → Type 0
   StillHas pair machine back = ((back ≡ Some pair) × IsEnding machine) ⊎ HasIt machine
 
+  -- where its outcome is not that its pair is in the map, that has come back
+  abbrev pub ComesBack : Node K V → Answer → Option (Node K V) → Type 0
+  ComesBack pair answer back = is_put answer ≡ false → back ≡ Some pair
+
   -- so it is after a step, by what that tells
   abbrev pub HasNext : Node K V → Machine K V K → Option (Node K V) → Progress (Node K V) → Type 0
   HasNext pair machine back (progress.Unstored value) = StillHas pair machine (Some value)
-  HasNext pair machine back (progress.Done answer) = IsBack pair (Ok answer) back
+  HasNext pair machine back (progress.Done answer) = ComesBack pair answer back
   HasNext pair machine back (progress.Refused fault) = IsBack pair (Err fault) back
   HasNext pair machine back (progress.Asks asked) = ⊥
   HasNext pair machine back told = StillHas pair machine back
@@ -133,11 +142,12 @@ module _ {K V : Type 0} where
 
   -- so it is with the outcome
   pub back_at_last : (pair : Node K V) (machine : Machine K V K) (unstored back : Option (Node K V)) (told : Progress (Node K V)) (answer so : Result Answer Fault) → told ≡ outcome_of answer
-      → HasNext pair machine unstored told → so ≡ answer → back ≡ unstored → IsBack pair so back
+      → HasNext pair machine unstored told × TellsOne told → so ≡ answer → back ≡ unstored → IsBack pair so back
   back_at_last pair machine unstored back told (Ok answer) so is has same kept =
-      subst (λ (r : Result Answer Fault). IsBack pair r back) (sym same) (λ e. kept ∙ subst (λ (t : Progress (Node K V)). HasNext pair machine unstored t) is has e)
+      subst (λ (r : Result Answer Fault). IsBack pair r back) (sym same)
+      (λ e. kept ∙ subst (λ (t : Progress (Node K V)). HasNext pair machine unstored t) is has.0 e, subst (λ (t : Progress (Node K V)). TellsOne t) is has.1)
   back_at_last pair machine unstored back told (Err fault) so is has same kept =
-      subst (λ (r : Result Answer Fault). IsBack pair r back) (sym same) (kept ∙ subst (λ (t : Progress (Node K V)). HasNext pair machine unstored t) is has)
+      subst (λ (r : Result Answer Fault). IsBack pair r back) (sym same) (kept ∙ subst (λ (t : Progress (Node K V)). HasNext pair machine unstored t) is has.0)
 
   pub has_it : (pair : Node K V) (machine : Machine K V K) (back : Option (Node K V)) → MachineStores pair machine → StillHas pair machine back
   has_it pair (kinds.Key c) back is = inr (has_first pair c is)

@@ -7,6 +7,8 @@ pub mod Told
 pub mod Shown
 pub mod Pausing
 pub mod Straight
+mod Storings
 pub mod Sinces
+pub mod Answering
 pub mod Handing
 pub mod Given

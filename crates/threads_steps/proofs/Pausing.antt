@@ -27,6 +27,7 @@ use Rattle.threads_rule.specs.declared.view.SeatWork.TheVariants.{Nothing}
 use Rattle.threads_steps.specs.Asking.{HasAnswered, HasGone, IsOfCall, MakingSays, MayTest, NoneSaid, PausedSo, TestSays, WasReplied, makes_pair, removes_if, reply_of, progress_at}
 use Rattle.threads_rule.specs.Errands.Calling.{HasEnded, IsAsking, IsGoing, IsNoQuestion, IsUnderWay, StepOutcome, outcome_of}
 use Rattle.threads_rule.specs.CallKinds.Kinds.{Kind, Stage, IsFit, IsReplied, IsUntold, PairIsVisible, stage_after}
+use Rattle.threads_rule.specs.CallKinds.Shows.{AnsweredAreVisible}
 use Rattle.threads_rule.specs.Errands.Looking.{Begins, HasProgressed, IsOfThem, StaysThere}
 use Rattle.threads_steps.specs.Steps.{HasStepped}
 use Rattle.threads_steps.specs.declared.within.asking.Halt.{Halt}
@@ -66,11 +67,12 @@ module _ {K V S : Type 0} (k : Kind) (s : Stage) (hasher : S) (machine : Machine
   free_at (Err fault) w is = is
 
   pub paused_so : (told : Progress (Node K V)) (at : Halt) (u v w : View K V S) → told ≡ progress_at at → StepOutcome k s hasher machine told w → IsOfThem u v → HasProgressed told v w
-      → PausedSo k s hasher machine at u w
-  paused_so told (pause.Asks pair) u v w e is them has = subst (λ (t : Progress (Node K V)). StepOutcome k s hasher machine t w) e is
-  paused_so told (pause.Ended answer) u v w e is them has = record {
+      → AnsweredAreVisible told (shown_in w.held) → PausedSo k s hasher machine at u w
+  paused_so told (pause.Asks pair) u v w e is them has shows = subst (λ (t : Progress (Node K V)). StepOutcome k s hasher machine t w) e is
+  paused_so told (pause.Ended answer) u v w e is them has shows = record {
     free = free_at answer w (subst (λ (t : Progress (Node K V)). StepOutcome k s hasher machine t w) e is);
     told = told_last u v w (outcome_of answer) them (subst (λ (t : Progress (Node K V)). HasProgressed t v w) e has);
+    shows = subst (λ (t : Progress (Node K V)). AnsweredAreVisible t (shown_in w.held)) e shows;
   }
 
 module _ {K V S : Type 0} (same : K → K → Bool) (hash : S → K → ℕ) (says : Option (K × V) → MachineReply V → Type 0) where
@@ -173,7 +175,7 @@ made_so makes value is (Some pair) said e = absurd e
 
 -- who has ended since a later moment has ended since an earlier one
 pub ended_on : {K V S : Type 0} (answer : Result Answer Fault) (u v w : View K V S) → IsOfThem u v → HasEnded answer v w → HasEnded answer u w
-ended_on answer u v w them ended = record { free = ended.free; told = told_last u v w (outcome_of answer) them ended.told }
+ended_on answer u v w them ended = record { free = ended.free; told = told_last u v w (outcome_of answer) them ended.told; shows = ended.shows }
 
 -- so it has run one call more, which has asked so
 pub answered : {K V S : Type 0} (same : K → K → Bool) (hash : S → K → ℕ) (says : Option (K × V) → MachineReply V → Type 0) (wanted : Wanted K V) (answer : Result Answer Fault) (u v w : View K V S) (n : ℕ)
@@ -183,6 +185,7 @@ answered same hash says wanted answer u v w n begins ended stays gone = record {
   stays = stays_on u v w (stays_begun same hash wanted u v begins) stays;
   ran = has_run same hash wanted (outcome_of answer) u v w begins ended.told;
   asked = (v, n, begins, gone);
+  shows = ended.shows;
 }
 
 module _ {K V S : Type 0} (says : Option (K × V) → MachineReply V → Type 0) (v w : View K V S) (told : WasReplied says v w) where

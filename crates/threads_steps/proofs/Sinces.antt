@@ -16,7 +16,8 @@ use Rattle.threads_rule.specs.declared.view.BegunCall.{BegunCall}
 use Rattle.map_straight.specs.Straight.Going.{CallGoes}
 use Rattle.threads_rule.specs.Errands.Calling.{MachineStores}
 use Rattle.threads_steps.specs.Storing.{HandsIt, Since, first, further}
-use Rattle.threads_steps.proofs.Handing.{HasNext, StillHas, has_it, has_next, still_has}
+use Rattle.threads_steps.proofs.Handing.{HasNext, StillHas, TellsOne, has_it, has_next, still_has}
+use Rattle.threads_steps.proofs.Storings.{Storing, next_storing, stores_it}
 
 module _ {K V : Type 0} where
   -- the pair with which a call began that was to store it
@@ -50,21 +51,30 @@ module _ {K V : Type 0} where
   hands_it pair runs (progress.Refused fault) is hands = tt
 
   module _ (same : K → K → Bool) (hashes : K → ℕ) (pair : Node K V) where
-    abbrev HasBoth : Machine K V K → Option (Node K V) → Type 0
-    HasBoth m back = StillHas pair m back × (runs : List (BegunCall K V)) × (pair_in runs ≡ Some pair)
+    pub record HasAll (m : Machine K V K) (back : Option (Node K V)) : Type 0 where
+      pub has : StillHas pair m back
+      pub storing : Storing m
+      pub runs : List (BegunCall K V)
+      pub its : pair_in runs ≡ Some pair
 
-    next_has : (m n : Machine K V K) (back : Option (Node K V)) (told : Progress (Node K V)) → HasBoth m back → MayCome (machine_plan same same hashes m) (n, told) → HandsIt pair told
+    next_has : (m n : Machine K V K) (back : Option (Node K V)) (told : Progress (Node K V)) → HasAll m back → MayCome (machine_plan same same hashes m) (n, told) → HandsIt pair told
         → HasNext pair n back told
-    next_has m n back told has step hands = has_next pair back same hashes has.1 has.2 m (n, told) step (hands_to pair has.1 told has.2 hands) has.0
+    next_has m n back told h step hands = has_next pair back same hashes h.runs h.its m (n, told) step (hands_to pair h.runs told h.its hands) h.has
 
-    since_has : (m : Machine K V K) (back : Option (Node K V)) → Since same hashes pair m back → HasBoth m back
-    since_has m back (first _ _ is) = (has_it pair m back is, record { began = m; told = untold } ∷ [], begun_with_it pair m is)
-    since_has m back (further k _ before told s step hands on) =
-        let h = since_has k before s in (still_has pair m before told on (next_has k m before told h step hands), h.1, h.2)
+    since_has : (m : Machine K V K) (back : Option (Node K V)) → Since same hashes pair m back → HasAll m back
+    since_has m back (first _ _ is) =
+        record { has = has_it pair m back is; storing = stores_it pair m is; runs = record { began = m; told = untold } ∷ []; its = begun_with_it pair m is }
+    since_has m back (further k _ before told s step hands on) = let h = since_has k before s in record {
+      has = still_has pair m before told on (next_has k m before told h step hands);
+      storing = (next_storing same hashes k (m, told) step h.storing).0;
+      runs = h.runs;
+      its = h.its;
+    }
 
     pub since_last : (m n : Machine K V K) (back : Option (Node K V)) (told : Progress (Node K V)) → Since same hashes pair m back → MayCome (machine_plan same same hashes m) (n, told)
-        → HandsIt pair told → HasNext pair n back told
-    since_last m n back told s step hands = next_has m n back told (since_has m back s) step hands
+        → HandsIt pair told → HasNext pair n back told × TellsOne told
+    since_last m n back told s step hands =
+        let h = since_has m back s in (next_has m n back told h step hands, (next_storing same hashes m (n, told) step h.storing).1)
 
     pub since_on : (x y : KeyCall K V K) (back : Option (Node K V)) (told : Called (Node K V)) → CallGoes told → Since same hashes pair (kinds.Key x) back
         → MayCome (machine_plan same same hashes (kinds.Key x)) (as_machine (y, told)) → Since same hashes pair (kinds.Key y) back

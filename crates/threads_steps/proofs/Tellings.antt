@@ -9,7 +9,7 @@ use Rattle.papaya_raw.specs.Machine.{machine_plan}
 use Rattle.papaya_raw.specs.declared.machines.machine.Machine.{Machine}
 use Rattle.papaya_raw.specs.declared.machines.progress.Progress.{Progress}
 use Rattle.seize_views.specs.Views.Told.{FollowsBy}
-use Rattle.threads_rule.specs.CallKinds.Shows.{ReadPairIsVisible}
+use Rattle.threads_rule.specs.CallKinds.Shows.{ToldAreVisible}
 use Rattle.threads_rule.specs.Views.Looks.{shown_in, MayFollow, TurnsTo}
 use Rattle.threads_rule.specs.Views.Told.{HandsBack, MayCome, told, observed_by, turned, turned_by, called}
 use Rattle.threads_rule.specs.declared.view.Map.{Map}
@@ -25,7 +25,7 @@ module _ {K V S : Type 0} (same : K → K → Bool) (hash : S → K → ℕ) (v 
   abbrev pub HasCome : List (ℕ × Node K V) → Out (Node K V) → View K V S → Type 0
   HasCome shown out w =
       (end : Machine K V K × Progress (Node K V)) × FollowsBy (shown_in shown) plan out end × (w ≡ called v map machine end w.looks) × MayFollow (shown_in shown) plan out
-      × MayCome plan end × HandsBack v.calls end.1 × ReadPairIsVisible machine end.1 (shown_in shown)
+      × MayCome plan end × HandsBack v.calls end.1 × ToldAreVisible machine end.1 (shown_in shown)
 
   told_so : (op : Op (Node K V)) (out : Out (Node K V)) (w : View K V S) → told same hash v op out w → HasCome w.looks out w
   told_so op out w is =
@@ -42,11 +42,11 @@ module _ {K V S : Type 0} (same : K → K → Bool) (hash : S → K → ℕ) (v 
         subst (λ (l : List (ℕ × Node K V)). MayFollow (shown_in l) plan out) (sym shows) t.3,
         t.4,
         t.5,
-        subst (λ (l : List (ℕ × Node K V)). ReadPairIsVisible machine t.0.1 (shown_in l)) (sym shows) t.6,
+        subst (λ (l : List (ℕ × Node K V)). ToldAreVisible machine t.0.1 (shown_in l)) (sym shows) t.6,
       )
 
   -- and by a turn
   pub turned_so : (w : View K V S) → turned same hash v w → (end : Machine K V K × Progress (Node K V)) × TurnsTo (shown_in w.looks) plan end × (w ≡ called v map machine end w.looks)
-      × MayCome plan end × HandsBack v.calls end.1 × ReadPairIsVisible machine end.1 (shown_in w.looks)
+      × MayCome plan end × HandsBack v.calls end.1 × ToldAreVisible machine end.1 (shown_in w.looks)
   turned_so w is =
       subst (λ (o : Option (Map S)). turned_by same hash v o (Calls machine) w) knows (subst (λ (k : SeatWork K V S). turned_by same hash v v.map k w) works is)

@@ -29,6 +29,7 @@ use Rattle.threads_rule.specs.declared.view.View.{View}
 use Rattle.threads_rule.specs.declared.view.SeatWork.TheVariants.{Nothing, Calls}
 use Rattle.threads_rule.specs.Errands.Calling.{HasEnded, IsAsking, outcome_of}
 use Rattle.threads_rule.specs.CallKinds.Kinds.{Kind, Stage, IsFit}
+use Rattle.threads_rule.specs.CallKinds.Shows.{AnsweredAreVisible}
 use Rattle.threads_rule.specs.Errands.Looking.{Begins, HasRun, StaysThere}
 use Rattle.threads_steps.specs.Steps.{HasStepped}
 use Rattle.threads_steps.specs.declared.within.asking.Halt.{Halt}
@@ -91,6 +92,7 @@ module _ {K V S : Type 0} where
       pub stays : StaysThere v w
       pub ran : HasRun same hash wanted (outcome_of answer) v w
       pub asked : HasAsked says wanted v w
+      pub shows : AnsweredAreVisible (outcome_of answer) (shown_in w.held)
 
 -- nothing was told
 abbrev pub NoneSaid : {K V : Type 0} → Option (K × V) → MachineReply V → Type 0

@@ -4,6 +4,7 @@ pub use Rattle.seize_callers.specs.Kept as SeizeCallersKept
 pub use Rattle.threads_rule.specs.CallKinds.Answers as CallKindsAnswers
 pub use Rattle.threads_rule.specs.CallKinds.Kinds as CallKindsKinds
 pub use Rattle.threads_rule.specs.CallKinds.Leads as CallKindsLeads
+pub use Rattle.threads_rule.specs.CallKinds.Shows as CallKindsShows
 pub use Rattle.threads_rule.specs.CallKinds.Sweeps as CallKindsSweeps
 pub use Rattle.threads_rule.specs.Errands.Calling as ErrandsCalling
 pub use Rattle.threads_rule.specs.Errands.Counting as ErrandsCounting

@@ -32,8 +32,11 @@ fn stores<R: Wait>(
     let mut refused = false;
     for key in 0..KEYS {
         match session.try_insert_with(rt, key, || value) {
-            Ok(true) => stored = u64::wrapping_add(stored, 1),
-            Ok(false) => {}
+            Ok((there, made)) => {
+                if made && *session.pair(there).1 == value {
+                    stored = u64::wrapping_add(stored, 1);
+                }
+            }
             Err(_) => refused = true,
         }
     }

@@ -19,7 +19,8 @@ const CHOSEN: Fixed = Fixed {
 /// How many keys there are.
 const KEYS: u64 = 400;
 
-/// How many of the keys it has stored with this value because they were missing, if none was refused and each pair that was not stored came back.
+/// How many of the keys it has stored with this value because they were missing, if none was refused, each pair that was not stored came back, and each key is lent with its own
+/// value or with another one.
 fn stores<R: Wait>(
     rt: &R,
     session: &mut SessionBase<'_, u64, u64, Hashing>,
@@ -32,15 +33,22 @@ fn stores<R: Wait>(
     let mut back = true;
     for key in 0..KEYS {
         match session.try_insert(rt, key, value) {
-            Ok(Attempt::Stored) => stored = u64::wrapping_add(stored, 1),
-            Ok(Attempt::Present(k, v)) => back = back && k == key && v == value,
+            Ok((there, Attempt::Stored)) => {
+                let (its, lent) = session.pair(there);
+                back = back && *its == key && *lent == value;
+                stored = u64::wrapping_add(stored, 1);
+            }
+            Ok((there, Attempt::Present(k, v))) => {
+                let (its, lent) = session.pair(there);
+                back = back && *its == key && *lent != value && k == key && v == value;
+            }
             Err(_) => back = false,
         }
     }
     if back { Some(stored) } else { None }
 }
 
-/// How many pairs of the keys it has removed, if none was refused.
+/// How many pairs of the keys it has removed, and was lent then, if none was refused.
 fn removes<R: Wait>(rt: &R, session: &mut SessionBase<'_, u64, u64, Hashing>) -> Option<u64>
     requires { session.old.caller.seat.view.slot ≡ Inside session.old.slot Nothing }
     ensures { session.new.caller.seat.view.slot ≡ Inside session.new.slot Nothing }
@@ -49,8 +57,12 @@ fn removes<R: Wait>(rt: &R, session: &mut SessionBase<'_, u64, u64, Hashing>) ->
     let mut refused = false;
     for key in 0..KEYS {
         match session.remove(rt, key) {
-            Ok(true) => removed = u64::wrapping_add(removed, 1),
-            Ok(false) => {}
+            Ok(Some(taken)) => {
+                if *session.pair(taken).0 == key {
+                    removed = u64::wrapping_add(removed, 1);
+                }
+            }
+            Ok(None) => {}
             Err(_) => refused = true,
         }
     }

@@ -33,8 +33,13 @@ fn stores<R: Wait>(
     for n in 0..EACH {
         let key = u64::wrapping_add(from, n);
         match session.insert(rt, key, u64::wrapping_mul(key, 2)) {
-            Ok(true) => replaced = u64::wrapping_add(replaced, 1),
-            Ok(false) => {}
+            Ok(Some(old)) => {
+                let (there, double) = session.pair(old);
+                if *there == key && *double == u64::wrapping_mul(key, 2) {
+                    replaced = u64::wrapping_add(replaced, 1);
+                }
+            }
+            Ok(None) => {}
             Err(_) => refused = true,
         }
     }

@@ -1,23 +1,23 @@
 //! A session's calls on one key that ask their caller's closure.
-ghost use Rattle.std.specs.Prelude.{◌≡◌, Ok, Err, IfErr, IfOk};
+ghost use Rattle.std.specs.Prelude.{◌≡◌, Some, Ok, Err, IfErr, IfOk};
 ghost use Rattle.std.specs.Fn.{FnOnceReturns};
 ghost use Rattle.threads_callers.specs.Given.StepsAsking.{HasAsked, MakingSays, MayTest, TestSays};
-ghost use Rattle.threads_callers.specs.Given.ErrandsCalling.{is_put as puts, outcome_of};
+ghost use Rattle.threads_callers.specs.Given.ErrandsCalling.{is_put as puts, outcome_of, pair_there};
 ghost use Rattle.threads_callers.specs.Given.ErrandsLooking.{HasRun};
 ghost use Rattle.threads_calls.specs.Answers.{is_removed as removes};
+ghost use Rattle.threads_calls.specs.Shown.{Shows};
 ghost use Rattle.threads_callers.specs.Given.ActsActs.{RemoveIf, TryToInsertWith};
 ghost use Rattle.papaya_raw.specs.declared.machines.progress.Answer.{Answer as AnAnswer};
 ghost use Rattle.seize_views.specs.declared.view.Has.TheVariants.{Nothing};
 ghost use Rattle.seize_views.specs.declared.view.SlotView.TheVariants.{Inside};
 
-use crate::session::keys::{is_put, is_removed};
 use crate::session::{SessionBase, setting_in};
 use map_tables::Hashes;
 use papaya_raw::machines::{Answer, KeyCall, Machine};
 use seize_words::Fault;
 use std::hash::Hash;
 use std::sync::Wait;
-use threads_callers::Ran;
+use threads_callers::{Found, Ran, is_put, is_removed, there};
 
 /// Returns what a call has told last.
 fn told_of<K: Drop, V: Drop>(ran: Ran<K, V>) -> Result<Answer, Fault>
@@ -33,19 +33,22 @@ fn told_of<K: Drop, V: Drop>(ran: Ran<K, V>) -> Result<Answer, Fault>
 }
 
 impl<'a, K: Eq + Hash + Drop, V: Drop, S: Hashes<K>> SessionBase<'a, K, V, S> {
-    /// Stores a value that is made within the section of its slot, if its key is not there yet, and answers whether it was stored. The closure is called where the key was
-    /// missing; if another one has stored a pair meanwhile, what it has made is dropped. The faults are `Memory` and `Capacity`: nothing was stored then.
+    /// Stores a value that is made within the section of its slot, if its key is not there yet, and answers with the pair that is there then, until the session takes its next
+    /// step, and whether it was stored. The closure is called where the key was missing; if another one has stored a pair meanwhile, what it has made is dropped. The faults are
+    /// `Memory` and `Capacity`: nothing was stored then.
     pub fn try_insert_with<R: Wait, F: FnOnce() -> V>(
         &mut self,
         rt: &R,
         key: K,
         make: F,
-    ) -> Result<bool, Fault>
+    ) -> Result<(Found, bool), Fault>
         requires inside { self.old.caller.seat.view.slot ≡ Inside self.old.slot Nothing }
         requires callable { F.pre make }
         ensures inside { self.new.caller.seat.view.slot ≡ Inside self.new.slot Nothing }
         ensures slot { self.new.slot ≡ self.old.slot }
-        ensures tried { IfOk result (λ stored. (answer : AnAnswer) × HasRun K.eq S.hash (TryToInsertWith key) (outcome_of (Ok answer)) self.old.caller.seat.view self.new.caller.seat.view × (stored ≡ puts answer)) }
+        ensures tried { IfOk result (λ tried. (answer : AnAnswer) × HasRun K.eq S.hash (TryToInsertWith key) (outcome_of (Ok answer)) self.old.caller.seat.view self.new.caller.seat.view
+            × (tried.1 ≡ puts answer) × (pair_there answer ≡ Some tried.0.word)) }
+        ensures shown { IfOk result (λ tried. Shows self.new.caller tried.0.word) }
         ensures refused { IfErr result (λ fault. HasRun K.eq S.hash (TryToInsertWith key) (outcome_of (Err fault)) self.old.caller.seat.view self.new.caller.seat.view) }
         ensures asked { HasAsked K.eq S.hash (MakingSays (FnOnceReturns F.FnOnce make tt)) (TryToInsertWith key) self.old.caller.seat.view self.new.caller.seat.view }
         ensures map { self.new.caller.seat.view.map ≡ self.old.caller.seat.view.map }
@@ -58,7 +61,7 @@ impl<'a, K: Eq + Hash + Drop, V: Drop, S: Hashes<K>> SessionBase<'a, K, V, S> {
             .caller
             .makes_pair(rt, self.hasher, Machine::Key(call), make);
         match told_of(ran) {
-            Ok(answer) => Ok(is_put(&answer)),
+            Ok(answer) => Ok((there(&answer), is_put(&answer))),
             Err(fault) => Err(fault),
         }
     }

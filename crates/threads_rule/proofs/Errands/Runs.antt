@@ -13,6 +13,8 @@ use Rattle.threads_rule.specs.declared.view.BegunCall.{BegunCall}
 use Rattle.threads_rule.specs.declared.view.View.{View}
 use Rattle.threads_rule.specs.declared.view.SeatWork.TheVariants.{Nothing}
 use Rattle.threads_rule.proofs.Views.Pairs.{newest_pair}
+use Rattle.threads_rule.specs.CallKinds.Shows.{AnsweredAreVisible}
+use Rattle.threads_rule.specs.Views.Looks.{shown_in}
 use Rattle.threads_rule.specs.Errands.Calling.{CalledSo, IsReturned, HasEnded, IsBack, IsCalling, IsGoing, IsNoQuestion, outcome_of, pair_wanted}
 use Rattle.threads_rule.specs.Errands.Looking.{Begins, HasRun, HasProgressed, IsOfThem}
 
@@ -71,12 +73,13 @@ module _ {K V S : Type 0} where
   free_then hasher machine (Err fault) w is = is
 
   pub ended_so : (hasher : S) (machine : Machine K V K) (told : Progress (Node K V)) (answer so : Result Answer Fault) (u v w : View K V S) → told ≡ outcome_of answer → so ≡ answer
-      → CalledSo hasher machine told w → IsOfThem u v → HasProgressed told v w → HasEnded so u w
-  ended_so hasher machine told answer so u v w is same called them has =
+      → CalledSo hasher machine told w → IsOfThem u v → HasProgressed told v w → AnsweredAreVisible told (shown_in w.held) → HasEnded so u w
+  ended_so hasher machine told answer so u v w is same called them has shows =
       subst (λ (r : Result Answer Fault). HasEnded r u w) (sym same)
       (record {
         free = free_then hasher machine answer w (subst (λ (t : Progress (Node K V)). CalledSo hasher machine t w) is called);
         told = told_last u v w (outcome_of answer) them (subst (λ (t : Progress (Node K V)). HasProgressed t v w) is has);
+        shows = subst (λ (t : Progress (Node K V)). AnsweredAreVisible t (shown_in w.held)) is shows;
       })
 
   -- a call that asks nothing tells no question,

@@ -107,7 +107,7 @@ module _ {K V S : Type 0} (hasher : S) where
         subst (λ (x : Machine K V K × Progress (Node K V)). WalkedSo hasher x.0 x.1 w) (sym l.2)
         (walk_came c l.0.0 l.0.1 is.at stepped.stays so.0 so.1 (tells_from (hash hasher) c (shown_in w.held) l.0 is.goes.1 l.1)
         (stepped.work ∙ ap (λ (x : Machine K V K × Progress (Node K V)). call_after x.0 x.1) l.2)
-        (subst (λ (x : Machine K V K × Progress (Node K V)). ReadPairIsVisible {K = K} {V = V} {Q = K} (kinds.Sweep c) x.1 (shown_in w.held)) l.2 stepped.shows))
+        (subst (λ (x : Machine K V K × Progress (Node K V)). ReadPairIsVisible {K = K} {V = V} {Q = K} (kinds.Sweep c) x.1 (shown_in w.held)) l.2 stepped.shows.0))
     walked_so (kinds.Key c) next told is stepped = absurd is.goes
     walked_so (kinds.Reserve c) next told is stepped = absurd is.goes
     walked_so (kinds.Count c) next told is stepped = absurd is.goes
@@ -120,7 +120,7 @@ module _ {K V S : Type 0} (hasher : S) where
         subst (λ (x : Machine K V K × Progress (Node K V)). RetainedSo hasher x.0 x.1 w) (sym l.2)
         (retain_came c l.0.0 l.0.1 is.at stepped.stays so.0 so.1 (tells_from (hash hasher) c (shown_in w.held) l.0 is.goes.1 l.1)
         (stepped.work ∙ ap (λ (x : Machine K V K × Progress (Node K V)). call_after x.0 x.1) l.2)
-        (subst (λ (x : Machine K V K × Progress (Node K V)). ReadPairIsVisible {K = K} {V = V} {Q = K} (kinds.Sweep c) x.1 (shown_in w.held)) l.2 stepped.shows))
+        (subst (λ (x : Machine K V K × Progress (Node K V)). ReadPairIsVisible {K = K} {V = V} {Q = K} (kinds.Sweep c) x.1 (shown_in w.held)) l.2 stepped.shows.0))
     retained_so (kinds.Key c) next told is stepped = absurd is.goes
     retained_so (kinds.Reserve c) next told is stepped = absurd is.goes
     retained_so (kinds.Count c) next told is stepped = absurd is.goes

@@ -1,7 +1,7 @@
 -- What the first operation of a lookup tells its seat, on a map that has no table; and what the operation of a row does.
 mod Listed
-use Rattle.std.specs.Prelude.{ℕ, ◌==◌, Bool, List, [], ◌∷◌, Some, None}
-use Rattle.std.proofs.Common.{inl, refl, ap}
+use Rattle.std.specs.Prelude.{ℕ, ◌==◌, Bool, List, [], ◌∷◌, Option, Some, None}
+use Rattle.std.proofs.Common.{inl, inr, refl, subst, ap}
 use Rattle.seize_words.specs.OneMemory.Mem.{Mem}
 use Rattle.seize_words.specs.OneMemory.Op.{Load, Store, Found, Stored}
 use Rattle.seize_words.specs.declared.at.At.TheVariants.{Root, Slot}
@@ -11,7 +11,7 @@ use Rattle.map_tables.specs.declared.resize_mode.ResizeMode.TheVariants.{Increme
 use Rattle.map_tables.specs.declared.setting.Setting.{Setting}
 use Rattle.papaya_raw.specs.declared.machines.machine.Machine.{Machine}
 use Rattle.papaya_raw.specs.declared.machines.answer.KeyAnswer.{KeyAnswer}
-use Rattle.papaya_raw.specs.declared.machines.answer.KeyAnswer.TheVariants.{Absent, Found as FoundThere}
+use Rattle.papaya_raw.specs.declared.machines.answer.KeyAnswer.TheVariants.{Absent, Found as FoundThere, Replaced}
 use Rattle.papaya_raw.specs.declared.machines.progress.Answer.TheVariants.{Key}
 use Rattle.papaya_raw.specs.declared.machines.progress.Progress.{Progress}
 use Rattle.papaya_raw.specs.declared.machines.progress.Progress.TheVariants.{Done, Unstored}
@@ -23,7 +23,10 @@ use Rattle.seize_views.specs.declared.view.Becomes.TheVariants.{Idle}
 use Rattle.seize_views.specs.declared.view.Fixed.{Fixed}
 use Rattle.seize_views.specs.declared.view.SlotView.{SlotView}
 use Rattle.seize_views.specs.declared.view.SlotView.TheVariants.{Outside, Enters, Inside, Leaves}
+use Rattle.threads_rule.specs.CallKinds.Kinds.{PairIsVisible}
+use Rattle.threads_rule.specs.CallKinds.Shows.{AnsweredAreVisible}
 use Rattle.threads_rule.specs.Views.Begun.{machine_for, with_slot}
+use Rattle.threads_rule.specs.Views.Looks.{shown_in}
 use Rattle.threads_rule.specs.Views.Notes.{notes_of}
 use Rattle.seize_views.specs.declared.view.Began.TheVariants.{NotYet, Section}
 use Rattle.threads_rule.specs.Views.Told.{HandsBack, told, call_after, untold}
@@ -68,7 +71,7 @@ no_tables = record { roots = 0 ∷ 0 ∷ 0 ∷ 0 ∷ []; used = []; slots = []; 
 
 -- the root leads nowhere: the call has ended, and has answered that the key is not there
 ends : told same hash (with_work (Calls machine)) (Load (Root 3)) (Found 0) (answered Absent)
-ends = (_, refl, refl, tt, (no_tables, no_tables, (Found 0, (refl, refl), refl)), tt, λ reads word tells. absurd reads)
+ends = (_, refl, refl, tt, (no_tables, no_tables, (Found 0, (refl, refl), refl)), tt, (λ reads word tells. absurd reads, λ word none. absurd none))
 
 -- and not that it is
 abbrev last_told : List (BegunCall ℕ ℕ) → Progress (Node ℕ ℕ)
@@ -91,6 +94,17 @@ stores = record { began = machine_for same hash map 0 (Insert 5 7); told = untol
 
 hands_no_other : HandsBack stores (Unstored (Pair 5 8)) → ⊥
 hands_no_other hands = let is = hands (Pair 5 7) refl in cc is
+
+-- one that has answered with two pairs shows both
+abbrev two : ℕ → Option (Node ℕ ℕ)
+two b = shown_in ((1, Pair 5 7) ∷ (2, Pair 5 8) ∷ []) b
+
+shows_both : AnsweredAreVisible (Done (Key (Replaced 2048 4096))) two
+shows_both word (inl old) = subst (λ (w : ℕ). PairIsVisible two w) old (5, 7, refl)
+shows_both word (inr new) = subst (λ (w : ℕ). PairIsVisible two w) new (5, 8, refl)
+
+not_one : AnsweredAreVisible {K = ℕ} {V = ℕ} (Done (Key (Replaced 2048 6144))) two → ⊥
+not_one shows = let new = shows 6144 (inr refl) in let is = new.2 in cc is
 
 -- while it is under way no row begins, and once it has ended the section may end
 none_begins : (u : SlotView (Node ℕ ℕ)) → IsNext chosen (notes_of (with_work (Calls machine))).knows u → ⊥

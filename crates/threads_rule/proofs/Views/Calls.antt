@@ -11,7 +11,7 @@ use Rattle.threads_rule.specs.declared.view.Map.{Map}
 use Rattle.threads_rule.specs.declared.view.SeatWork.{SeatWork}
 use Rattle.threads_rule.specs.declared.view.SeatWork.TheVariants.{Calls}
 use Rattle.threads_rule.proofs.Views.Looked.{may_op, may_turn}
-use Rattle.threads_rule.proofs.Views.UnderWay.{scene, so, step_plan, may, goes, hands, known}
+use Rattle.threads_rule.proofs.Views.UnderWay.{scene, so, step_plan, may, goes, hands, known, shows_told}
 
 module _ {K S : Type 0} (V : Type 0) (same : K → K → Bool) (hash : S → K → ℕ) where
   pub calls_go_on : CallsContinue V same hash
@@ -32,7 +32,7 @@ module _ {K S : Type 0} (V : Type 0) (same : K → K → Bool) (hash : S → K �
               all.may_follow out made.may,
               ((scene same hash fixed s h id v at_id map machine knows works).world.memory, m2, made.steps),
               hands same hash fixed s h id v at_id map machine knows works m2 made.end made.steps,
-              all.shows,
+              shows_told same hash fixed s h id v at_id map machine knows works m2 made.end made.steps made.looks all,
             ))),
       )
 
@@ -46,5 +46,11 @@ module _ {K S : Type 0} (V : Type 0) (same : K → K → Bool) (hash : S → K �
       (let all = known same hash fixed s h id v at_id map machine knows works m step.0 step.1 step.2 step.5 step.3 in
       goes same hash fixed s h id v at_id map machine knows works m step.0 step.1 all.more all.seen (turned same hash v)
       (subst (λ (k : SeatWork K V S). turned_by same hash v v.map k (called v map machine step.0 all.more)) (sym works)
-      (subst (λ (o : Option (Map S)). turned_by same hash v o (Calls machine) (called v map machine step.0 all.more)) (sym knows)
-      (step.0, all.turns step.4, refl, (m, m, step.1), hands same hash fixed s h id v at_id map machine knows works m step.0 step.1, all.shows))))
+      (subst (λ (o : Option (Map S)). turned_by same hash v o (Calls machine) (called v map machine step.0 all.more)) (sym knows) (
+        step.0,
+        all.turns step.4,
+        refl,
+        (m, m, step.1),
+        hands same hash fixed s h id v at_id map machine knows works m step.0 step.1,
+        shows_told same hash fixed s h id v at_id map machine knows works m step.0 step.1 step.2 all,
+      ))))

@@ -20,8 +20,8 @@ module _ {T : Type 0} where
   IsSo shown looks = (b : ℕ) (x : T) → shown_in looks b ≡ Some x → shown b ≡ Some x
 
   -- one block more
-  one_more : (shown : ℕ → Option T) (looks : List (ℕ × T)) (b : ℕ) (x : T) → shown b ≡ Some x → IsSo shown looks → IsSo shown ((b, x) ∷ looks)
-  one_more shown looks b x is so c y e = by (cases_eq c b)
+  pub so_with : (shown : ℕ → Option T) (looks : List (ℕ × T)) (b : ℕ) (x : T) → shown b ≡ Some x → IsSo shown looks → IsSo shown ((b, x) ∷ looks)
+  so_with shown looks b x is so c y e = by (cases_eq c b)
     where
       by : (c ≡ b) ⊎ (c ≢ b) → shown c ≡ Some y
       by (inl same) =
@@ -31,7 +31,7 @@ module _ {T : Type 0} where
           so c y (sym (ap (λ (k : Bool). if k then Some x else shown_in looks c) (ne_eqb c b other)) ∙ e)
 
   -- what was shown is shown on, with one block more
-  shown_on : (shown : ℕ → Option T) (looks : List (ℕ × T)) (b : ℕ) (x : T) → shown b ≡ Some x → IsSo shown looks → (c : ℕ) (y : T) → shown_in looks c ≡ Some y
+  pub shown_on : (shown : ℕ → Option T) (looks : List (ℕ × T)) (b : ℕ) (x : T) → shown b ≡ Some x → IsSo shown looks → (c : ℕ) (y : T) → shown_in looks c ≡ Some y
       → shown_in ((b, x) ∷ looks) c ≡ Some y
   shown_on shown looks b x is so c y e = by (cases_eq c b)
     where
@@ -82,7 +82,7 @@ module _ {T R : Type 0} where
       let here : shown_in ((block, e.0) ∷ l.0) block ≡ Some e.0 = ap (λ (k : Bool). if k then Some e.0 else shown_in l.0 block) (eq-eqb block block refl) in
       let on = shown_on shown l.0 block e.0 e.1 l.1 in (
         (block, e.0) ∷ l.0,
-        one_more shown l.0 block e.0 e.1 l.1,
+        so_with shown l.0 block e.0 e.1 l.1,
         (e.0, here, ends_on (shown_in l.0) (shown_in ((block, e.0) ∷ l.0)) on (rest e.0) end l.2),
         (inl refl, e.1, seen_on shown block rest e.0 e.1 l.0 l.3),
         (

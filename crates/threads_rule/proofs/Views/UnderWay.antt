@@ -1,15 +1,14 @@
 -- What is so of a seat that has a call under way: the next step of it may be taken, and is that of an act.
 use Rattle.std.specs.Prelude.{Option, Some, None, if◌then◌else◌}
 use Rattle.std.specs.Option.{is_none}
-use Rattle.std.proofs.lemmas.Bool.{eq-eqb}
 use Rattle.std.proofs.Common.{◌≡◌, ℕ, Bool, List, ◌⊎◌, inl, inr, sym, subst, ap, ◌∙◌, refl, true, false, [], ◌∷◌}
 use Rattle.seize_words.specs.OneMemory.Mem.{Mem, Can, Took, value_at}
-use Rattle.seize_words.specs.OneMemory.Op.{Out}
 use Rattle.seize_words.specs.OneMemory.Plan.{Plan, Steps, May}
 use Rattle.seize_words.specs.OneMemory.Word.{block_in}
-use Rattle.seize.specs.Law.{holds}
-use Rattle.seize.specs.World.{IsInside}
+use Rattle.seize.specs.Law.{holds, is_somewhere}
+use Rattle.seize.specs.World.{IsInside, InUse}
 use Rattle.map_tables.specs.Chunks.{is_incremental}
+use Rattle.map_tables.specs.Nodes.{deferred_word}
 use Rattle.map_tables.specs.declared.node.Node.{Node}
 use Rattle.map_tables.specs.declared.node.Node.TheVariants.{Pair}
 use Rattle.map_tables.specs.declared.setting.Setting.{Setting}
@@ -37,13 +36,18 @@ use Rattle.many_acts.specs.Given.FinishesMaps.{Standing}
 use Rattle.many_acts.specs.Given.ScenesScene.{Scene, slot_of}
 use Rattle.many_acts.specs.Looks.Looks.{IsAtRow}
 use Rattle.many_acts.specs.Looks.Sees.{HasSeen, Continues, IsOwnOf}
+use Rattle.many_acts.proofs.Given.CallersRows.Defers.{used_stands}
+use Rattle.many_acts.proofs.Given.CallersTogether.Came.{came_reached}
 use Rattle.many_acts.proofs.Looks.Sees.Promised.{steps_see}
 use Rattle.many_acts.specs.Acts.Acts.{Act, Answer, StepsCall}
 use Rattle.many_acts.specs.Acts.Doings.{Does, MayDo}
 use Rattle.many_acts.specs.Acts.Leads.{AllStand, CallCame, call_at, call_steps}
 use Rattle.many_acts.specs.Acts.Lists.{AllMayStep, AllAreActs}
 use Rattle.many_acts.proofs.Acts.Lists.{steps_are_acts}
+use Rattle.seize_acts.proofs.Given.SeizeAloneHistories.Uses.{inside_open}
+use Rattle.seize_acts.proofs.Given.SeizeMovesState.Logs.{reached_held}
 use Rattle.seize_acts.specs.Acts.Answers.{Grant, then_on}
+use Rattle.seize_model.proofs.Alone.Histories.Reached.{Reached}
 use Rattle.seize_seats.specs.Seats.State.{State, view_of, Goes}
 use Rattle.seize_views.specs.declared.view.Fixed.{Fixed}
 use Rattle.threads_rule.specs.Views.Listed.{Called, calls_of, calls_then, has_progressed, IsNewest}
@@ -55,16 +59,17 @@ use Rattle.threads_rule.specs.declared.view.View.{View}
 use Rattle.threads_rule.specs.declared.view.SeatWork.{SeatWork}
 use Rattle.threads_rule.specs.declared.view.SeatWork.TheVariants.{Calls}
 use Rattle.threads_rule.proofs.Views.Knows.{knows_within}
-use Rattle.threads_rule.proofs.Views.Leaves.{Leaves, section_place, call_here, own_idle, map_on}
+use Rattle.threads_rule.proofs.Views.Answered.{answered_there}
+use Rattle.threads_rule.proofs.Views.Leaves.{Leaves, section_place, section_on, call_here, own_idle, map_on}
 use Rattle.threads_rule.proofs.Views.Held.{value_of}
 use Rattle.threads_rule.proofs.Views.Listed.{is_its, is_other, newest_on, newest_runs, numbered_on}
 use Rattle.threads_rule.proofs.Views.Moved.{scene_of, all_stand, are_so, Moved, Adds, same_slot, moved}
 use Rattle.threads_rule.proofs.Views.Next.{after, step_leaves, step_fresh, own_does}
-use Rattle.threads_rule.proofs.Views.Looked.{AllKnown, AllLooked, IsSo, all_known, follows_more, may_more, turns_more}
+use Rattle.threads_rule.proofs.Views.Looked.{AllKnown, AllLooked, IsSo}
+use Rattle.threads_rule.proofs.Views.Naming.{IsThere, Known, none_more, of_these, one_more, with_told}
 use Rattle.threads_rule.proofs.Views.Shown.{is_read, pair_told, read_word, was_read}
-use Rattle.threads_rule.specs.CallKinds.Shows.{ReadsPlaces, ReadPairIsVisible, ProgressNamesPair}
-use Rattle.threads_rule.specs.Views.Looks.{shown_in, MayFollow, TurnsTo}
-use Rattle.seize_views.specs.Views.Told.{FollowsBy}
+use Rattle.threads_rule.specs.CallKinds.Shows.{ReadsPlaces, AnswersWith, ProgressNamesPair, ToldAreVisible}
+use Rattle.threads_rule.specs.Views.Looks.{shown_in}
 use Rattle.threads_rule.proofs.Views.RowLooks.{row_sees}
 use Rattle.threads_rule.proofs.Views.Numbers.{slot_at}
 use Rattle.threads_rule.proofs.Views.Pairs.{newest_pair, step_hands, step_pair}
@@ -186,18 +191,18 @@ module _ {K V S : Type 0} (same : K → K → Bool) (hash : S → K → ℕ) (fi
 
   -- what the memory took as a step is an act, which leads on
   module _ (m2 : Mem (Node K V)) (end : Machine K V K × Progress (Node K V)) (steps : Steps Took value_at scene.world.memory step_plan m2 end) where
-    granted : (g : Grant) × (call_steps same hash fixed.batch_size fixed.roots slot_of scene g (it.0, does.3.call) ≡ Some (m2, end))
+    pub granted : (g : Grant) × (call_steps same hash fixed.batch_size fixed.roots slot_of scene g (it.0, does.3.call) ≡ Some (m2, end))
     granted =
         acts.1.calls map.number i it.0 does.3.call it.1 does.3.here m2 end
         (plan_was (λ (f : K → ℕ) (x : Machine K V K). Steps Took value_at scene.world.memory (machine_plan same same f x) m2 end) steps)
 
-    may_do : MayDo V same hash fixed.batch_size fixed.roots slot_of (Does (StepsCall i map.number granted.0)) h.reached.0
+    pub may_do : MayDo V same hash fixed.batch_size fixed.roots slot_of (Does (StepsCall i map.number granted.0)) h.reached.0
     may_do = (
       ap is_none h.nobody,
       ap is_none (ap (λ (o : Option (Standing K × UnderWay K V K)). then_on o (call_steps same hash fixed.batch_size fixed.roots slot_of scene granted.0)) called_at ∙ granted.1),
     )
 
-    came : CallCame same hash fixed.batch_size fixed.roots slot_of scene i map.number granted.0 (h.course.told h.reached.0 (Does (StepsCall i map.number granted.0)) may_do)
+    pub came : CallCame same hash fixed.batch_size fixed.roots slot_of scene i map.number granted.0 (h.course.told h.reached.0 (Does (StepsCall i map.number granted.0)) may_do)
         (h.course.next h.reached.0 (Does (StepsCall i map.number granted.0)) may_do).0
     came = (h.course.leads h.reached.0 (Does (StepsCall i map.number granted.0)) may_do).0
 
@@ -239,9 +244,29 @@ module _ {K V S : Type 0} (same : K → K → Bool) (hash : S → K → ℕ) (fi
         subst (λ (e : Machine K V K × Progress (Node K V)). HandsBack v.calls e.1) (sym end_is)
         (step_hands same fixed.batch_size fixed.roots scene map.number came.standing i came.call came.memory came.machine came.progress came.did v.calls (knows_pair came.call came.here))
 
-    -- the pair that a sweep has read, and tells, is there, and its section holds it
-    told_there : ReadsPlaces machine → (word : ℕ) → ProgressNamesPair end.1 word
-        → (key : K) × (value : V) × (value_at m2 (block_in word) ≡ Some (Pair key value)) × (holds place (block_in word) scene.world.log ≡ true)
+    -- what was held is held on, and what is in use then is held, too
+    r2 : Reached deferred_word fixed.batch_size n.world
+    r2 = came_reached fixed.batch_size n.world came.did.together.makings.standing.came
+
+    abbrev IsHeldThen : ℕ → Type 0
+    IsHeldThen b = holds place b n.world.log ≡ true
+
+    held_on : (b : ℕ) → holds place b scene.world.log ≡ true → IsHeldThen b
+    held_on b held = (leaves.held place b (λ a e. cc e) inside held (none_over scene.world.log so.unended b)).0
+
+    used_held : (b o : ℕ) → n.world.hand b ≡ InUse o → IsHeldThen b
+    used_held b o used =
+        reached_held place b n.world.log (ap is_somewhere (used_stands deferred_word fixed.batch_size n.world r2 b used))
+        (inside_open deferred_word fixed.batch_size n.world r2 place (section_on same hash scene n id place fits.slot fixed.batch_size None leaves place (λ a e. cc e) inside))
+
+    -- a pair that the step tells is there, and its section holds it then: one that a sweep has read,
+    abbrev IsIt : ℕ → Type 0
+    IsIt word = IsThere {K = K} {V = V} IsHeldThen m2 word
+
+    so_after : (word : ℕ) (key : K) (value : V) → value_at came.memory (block_in word) ≡ Some (Pair key value) → value_at m2 (block_in word) ≡ Some (Pair key value)
+    so_after word key value is = ap (λ (x : Mem (Node K V)). value_at x (block_in word)) memory_is ∙ is
+
+    told_there : ReadsPlaces machine → (word : ℕ) → ProgressNamesPair end.1 word → IsIt word
     told_there reads word tells =
         let its = subst (λ (x : UnderWay K V K). ReadsPlaces (machine_of x)) (same_some does.3.call came.call (sym does.3.here ∙ came.here))
         (subst (λ (x : Machine K V K). ReadsPlaces x) (sym does.3.is) reads) in
@@ -249,53 +274,52 @@ module _ {K V S : Type 0} (same : K → K → Bool) (hash : S → K → ℕ) (fi
         (subst (λ (e : Machine K V K × Progress (Node K V)). ProgressNamesPair e.1 word) end_is tells) in (
           t.0,
           t.1,
-          ap (λ (x : Mem (Node K V)). value_at x (block_in word)) memory_is ∙ t.2,
-          subst (λ (a : ℕ). holds a (block_in word) scene.world.log ≡ true) (slot_at id place fits.slot) t.3,
+          so_after word t.0 t.1 t.2,
+          held_on (block_in word) (subst (λ (a : ℕ). holds a (block_in word) scene.world.log ≡ true) (slot_at id place fits.slot) t.3),
         )
 
-    abbrev pub IsTold : ℕ → Type 0
-    IsTold b = (word : ℕ) × ReadsPlaces machine × ProgressNamesPair end.1 word × (b ≡ block_in word)
+    -- or one with which a call has answered
+    answer_there : (word : ℕ) → AnswersWith end.1 word → IsIt word
+    answer_there word answers =
+        let t = answered_there same fixed.batch_size fixed.roots scene all map.number came.standing came.stands i came.call came.here came.memory came.machine came.progress came.did word
+        (subst (λ (e : Machine K V K × Progress (Node K V)). AnswersWith e.1 word) end_is answers) in (
+          t.0,
+          t.1,
+          so_after word t.0 t.1 t.2,
+          elim t.3 as (λ _. IsHeldThen (block_in word)) [
+            | inl held ↦ held_on (block_in word) (subst (λ (a : ℕ). holds a (block_in word) scene.world.log ≡ true) (slot_at id place fits.slot) held)
+            | inr used ↦ used_held (block_in word) used.0 used.1
+          ],
+        )
 
-    -- What was looked at, with that pair: by it the step comes to the same.
-    pub record Known (looks : List (ℕ × Node K V)) : Type 0 where
-      pub more : List (ℕ × Node K V)
-      pub seen : AllKnown IsTold scene.world.memory step_plan m2 end more
-      pub shows : ReadPairIsVisible machine end.1 (shown_in more)
-      pub follows : (out : Out (Node K V)) → FollowsBy (shown_in looks) step_plan out end → FollowsBy (shown_in more) step_plan out end
-      pub may_follow : (out : Out (Node K V)) → MayFollow (shown_in looks) step_plan out → MayFollow (shown_in more) step_plan out
-      pub turns : TurnsTo (shown_in looks) step_plan end → TurnsTo (shown_in more) step_plan end
+    -- what was looked at, with these pairs
+    abbrev IsRead : ℕ → Type 0
+    IsRead word = read_word machine end.1 ≡ Some word
 
-    pub known : (looks : List (ℕ × Node K V)) → IsSo (value_at m2) looks → AllLooked scene.world.memory step_plan m2 end looks → Known looks
-    known looks so_looks seen = by (read_word machine end.1) refl
-      where
-        by : (o : Option ℕ) → read_word machine end.1 ≡ o → Known looks
-        by None none = record {
-          more = looks;
-          seen = all_known IsTold scene.world.memory step_plan m2 end looks seen;
-          shows = λ reads word tells. absurd (let some = is_read machine end.1 reads word tells in cc (some, none));
-          follows = λ out f. f;
-          may_follow = λ out f. f;
-          turns = λ f. f;
-        }
-        by (Some word) is =
-            let reads = was_read machine end.1 word is in
-            let there = told_there reads.0 word reads.1 in
-            let pair : Node K V = Pair there.0 there.1 in record {
-              more = (block_in word, pair) ∷ looks;
-              seen = (inr (word, reads.0, reads.1, refl), there.2, all_known IsTold scene.world.memory step_plan m2 end looks seen);
-              shows = λ reads_it other tells.
-                  let one : word ≡ other = same_some word other (sym is ∙ is_read machine end.1 reads_it other tells) in (
-                    there.0,
-                    there.1,
-                    ap (λ (k : Bool). if k then Some pair else shown_in looks (block_in other)) (eq-eqb (block_in other) (block_in word) (ap block_in (sym one))),
-                  );
-              follows = λ out f. follows_more m2 step_plan out end looks (block_in word) pair there.2 so_looks f;
-              may_follow = λ out f. may_more m2 step_plan out looks (block_in word) pair there.2 so_looks f;
-              turns = λ f. turns_more m2 step_plan end looks (block_in word) pair there.2 so_looks f;
-            }
+    abbrev pub More : (ℕ → Type 0) → List (ℕ × Node K V) → Type 0
+    More words looks = Known IsHeldThen scene.world.memory step_plan m2 end looks words
+
+    module _ (looks : List (ℕ × Node K V)) where
+      with_read : More (λ word. ⊥) looks → More IsRead looks
+      with_read k = by (read_word machine end.1) refl
+        where
+          by : (o : Option ℕ) → read_word machine end.1 ≡ o → More IsRead looks
+          by None none = of_these IsHeldThen scene.world.memory step_plan m2 end looks (λ word. ⊥) IsRead (λ word is. absurd (cc (is, none))) k
+          by (Some word) is =
+              let reads = was_read machine end.1 word is in
+              of_these IsHeldThen scene.world.memory step_plan m2 end looks (λ other. (word ≡ other) ⊎ ⊥) IsRead (λ other its. inl (same_some word other (sym is ∙ its)))
+              (one_more IsHeldThen scene.world.memory step_plan m2 end looks (λ other. ⊥) word (told_there reads.0 word reads.1) k)
+
+      pub known : IsSo (value_at m2) looks → AllLooked scene.world.memory step_plan m2 end looks → More (λ word. AnswersWith end.1 word ⊎ IsRead word) looks
+      known so_looks seen =
+          with_told IsHeldThen scene.world.memory step_plan m2 end looks IsRead end.1 answer_there
+          (with_read (none_more IsHeldThen scene.world.memory step_plan m2 end looks so_looks seen))
+
+      pub shows_told : (k : More (λ word. AnswersWith end.1 word ⊎ IsRead word) looks) → ToldAreVisible machine end.1 (shown_in k.more)
+      shows_told k = (λ reads word tells. k.shows word (inr (is_read machine end.1 reads word tells)), λ word answers. k.shows word (inl answers))
 
     -- with what is known of the blocks that it has looked at
-    module _ (looks : List (ℕ × Node K V)) (seen : AllKnown IsTold scene.world.memory step_plan m2 end looks) where
+    module _ (looks : List (ℕ × Node K V)) (seen : AllKnown IsHeldThen scene.world.memory step_plan m2 end looks) where
       abbrev w : View K V S
       w = called v map machine (came.machine, came.progress) looks
 
@@ -305,7 +329,7 @@ module _ {K V S : Type 0} (same : K → K → Bool) (hash : S → K → ℕ) (fi
       of_on next (progress.Refused fault) b of on = absurd on
       of_on next _ b of on = of
 
-      looked_held : is_incremental map.setting.mode ≡ true → (more : List (ℕ × Node K V)) → AllKnown IsTold scene.world.memory step_plan m2 (came.machine, came.progress) more
+      looked_held : is_incremental map.setting.mode ≡ true → (more : List (ℕ × Node K V)) → AllKnown IsHeldThen scene.world.memory step_plan m2 (came.machine, came.progress) more
           → AllHeld same hash n v.under v.slot (call_after came.machine came.progress) more
       looked_held incremental [] each = tt
       looked_held incremental (look ∷ more) each = ((there, by each.0), looked_held incremental more each.2)
@@ -318,14 +342,14 @@ module _ {K V S : Type 0} (same : K → K → Bool) (hash : S → K → ℕ) (fi
           why (inl held) = let g = leaves.held place look.0 (λ a e. cc e) inside held (none_over scene.world.log so.unended look.0) in inl (place, section_is, g.0, g.1)
           why (inr (of, on)) = inr (of_on came.machine came.progress look.0 of on)
 
-          by : HasSeen look.0 scene.world.memory step_plan m2 (came.machine, came.progress) ⊎ IsTold look.0
+          by : HasSeen look.0 scene.world.memory step_plan m2 (came.machine, came.progress) ⊎ IsHeldThen look.0
               → IsInSection same hash n v.under v.slot look.0 ⊎ IsOfCall same hash (call_after {S = S} came.machine came.progress) look.0
           by (inl saw) = why (seen_lasts incremental m2 came.machine came.progress look.0 saw)
-          by (inr (word, reads, tells, is)) = why (inl (ap (λ (b : ℕ). holds place b scene.world.log) is ∙ (told_there reads word tells).3))
+          by (inr then_held) = inl (place, section_is, then_held, none_over n.world.log (λ o. leaves.ended o ∙ so.unended o) look.0)
 
       held_then : (a : Bool) → is_incremental map.setting.mode ≡ a → AllHeld same hash n v.under v.slot (call_after came.machine came.progress) (if a then looks else [])
       held_then true incremental =
-          looked_held incremental looks (subst (λ (e : Machine K V K × Progress (Node K V)). AllKnown IsTold scene.world.memory step_plan m2 e looks) end_is seen)
+          looked_held incremental looks (subst (λ (e : Machine K V K × Progress (Node K V)). AllKnown IsHeldThen scene.world.memory step_plan m2 e looks) end_is seen)
       held_then false incremental = tt
 
       -- the call that goes on was begun with the pair that it was begun with

@@ -1,5 +1,5 @@
 -- What a seat knows while a call is under way, step by step, and once it has ended.
-use Rattle.std.specs.Prelude.{◌≡◌, ◌<◌, ◌^◌, ℕ, Bool, true, false, Option, Some, None, Result, Ok, Err}
+use Rattle.std.specs.Prelude.{◌≡◌, ◌<◌, ◌^◌, ℕ, Bool, true, false, Option, Some, None, IsSome, Result, Ok, Err}
 use Rattle.seize_words.specs.declared.fault.Fault.{Fault}
 use Rattle.map_tables.specs.Chunks.{is_incremental}
 use Rattle.map_tables.specs.declared.node.Node.{Node}
@@ -11,6 +11,7 @@ use Rattle.papaya_raw.specs.declared.machines.answer.Missing.TheVariants as miss
 use Rattle.papaya_raw.specs.declared.machines.answer.KeyAnswer.TheVariants as answers
 use Rattle.papaya_raw.specs.declared.machines.call.Calling.TheVariants as at
 use Rattle.papaya_raw.specs.declared.machines.call.KeyCall.{KeyCall}
+use Rattle.papaya_raw.specs.Replies.{silent}
 use Rattle.papaya_raw.specs.declared.machines.asking.Takes.{Takes}
 use Rattle.papaya_raw.specs.declared.machines.asking.Takes.TheVariants as takes
 use Rattle.papaya_raw.specs.declared.machines.machine.Machine.{Machine}
@@ -33,7 +34,7 @@ use Rattle.threads_rule.specs.declared.view.View.{View}
 use Rattle.threads_rule.specs.declared.view.SeatWork.TheVariants.{Nothing, Calls}
 use Rattle.threads_rule.specs.CallKinds.Kinds.{Kind, Stage, AsksSo, Continues}
 use Rattle.threads_rule.specs.CallKinds.Leads.{Leads}
-use Rattle.threads_rule.specs.CallKinds.Shows.{ReadPairIsVisible}
+use Rattle.threads_rule.specs.CallKinds.Shows.{AnsweredAreVisible, ToldAreVisible}
 use Rattle.threads_rule.specs.CallKinds.Sweeps.{IsFor}
 use Rattle.threads_rule.specs.Errands.Looking.{HasRun, HasProgressed, StaysThere}
 
@@ -113,6 +114,7 @@ pub record IsToStore {K V Q : Type 0} (pair : Node K V) (c : KeyCall K V Q) : Ty
   pub present : PutsOrLeaves c.there
   pub none : c.own ≡ 0
   pub word : c.hash < 2 ^ 64
+  pub untold : c.replies ≡ silent
 
 abbrev pub MachineStores : {K V Q : Type 0} → Node K V → Machine K V Q → Type 0
 MachineStores pair (Key c) = IsToStore pair c
@@ -130,9 +132,16 @@ is_put (OfKey (answers.Stored word)) = true
 is_put (OfKey (answers.Replaced old new)) = true
 is_put _ = false
 
--- with any other outcome the pair has come back
+-- the pair that an answer tells to be in the map: the one that was there, or the call's own
+abbrev pub pair_there : Answer → Option ℕ
+pair_there (OfKey (answers.Found word)) = Some word
+pair_there (OfKey (answers.Stored word)) = Some word
+pair_there (OfKey (answers.Replaced old new)) = Some new
+pair_there _ = None
+
+-- a call that was to store a pair tells which one is in the map, and with any other outcome than that its own is there, that has come back
 abbrev pub IsBack : {T : Type 0} → T → Result Answer Fault → Option T → Type 0
-IsBack pair (Ok answer) back = is_put answer ≡ false → back ≡ Some pair
+IsBack pair (Ok answer) back = (is_put answer ≡ false → back ≡ Some pair) × IsSome (pair_there answer)
 IsBack pair (Err fault) back = back ≡ Some pair
 
 -- that is so of a pair that a call was to store
@@ -199,10 +208,11 @@ module _ {K V S : Type 0} where
     pub at : Works hasher machine v
     pub asks : MachineAsks k s (shown_in v.held) pair machine
 
-  -- it has nothing under way, and its call has told this last
+  -- it has nothing under way, its call has told this last, and each pair with which that has answered is shown
   pub record HasEnded (answer : Result Answer Fault) (v w : View K V S) : Type 0 where
     pub free : w.work ≡ Nothing
     pub told : HasProgressed (outcome_of answer) v w
+    pub shows : AnsweredAreVisible (outcome_of answer) (shown_in w.held)
 
   -- what a step of it tells: it goes on, asks, or has ended
   abbrev pub StepOutcome : Kind → Stage → S → Machine K V K → Progress (Node K V) → View K V S → Type 0
@@ -240,7 +250,7 @@ module _ {K V S : Type 0} where
     pub leads : Leads (shown_in w.held) (machine_plan same same (hash hasher) machine) (next, told)
     pub came : MayCome (machine_plan same same (hash hasher) machine) (next, told)
     pub hands : HandsBack v.calls told
-    pub shows : ReadPairIsVisible machine told (shown_in w.held)
+    pub shows : ToldAreVisible machine told (shown_in w.held)
 
   -- Within a section, its own or that of the seat that it leans on, with nothing else under way, it may begin this call, in the map that it knows, which is in incremental mode.
   pub record MayDo (same : K → K → Bool) (hash : S → K → ℕ) (hasher : S) (machine : Machine K V K) (v : View K V S) : Type 0 where
@@ -264,9 +274,10 @@ module _ {K V S : Type 0} where
     pub none : AsksNone machine
     pub stores : (pair : Node K V) → pair_wanted (wanted_of machine) ≡ Some pair → MachineStores pair machine
 
-  -- what a call has come to that wanted this
+  -- what a call has come to that wanted this; the pairs with which it has answered are shown
   pub record HasCalled (same : K → K → Bool) (hash : S → K → ℕ) (wanted : Wanted K V) (answer : Result Answer Fault) (unstored : Option (Node K V)) (v w : View K V S) : Type 0 where
     pub free : w.work ≡ Nothing
     pub stays : StaysThere v w
     pub ran : HasRun same hash wanted (outcome_of answer) v w
     pub back : IsReturned wanted answer unstored
+    pub shows : AnsweredAreVisible (outcome_of answer) (shown_in w.held)

@@ -18,7 +18,7 @@ use Rattle.papaya_raw.specs.declared.machines.progress.Progress.{Progress}
 use Rattle.papaya_raw.specs.declared.machines.progress.Progress.TheVariants as progress
 use Rattle.seize_views.specs.Views.Told.{FollowsBy, told as row_told}
 use Rattle.seize_views.specs.declared.view.SlotView.{SlotView}
-use Rattle.threads_rule.specs.CallKinds.Shows.{ReadPairIsVisible}
+use Rattle.threads_rule.specs.CallKinds.Shows.{ToldAreVisible}
 use Rattle.threads_rule.specs.Views.Looks.{shown_in, TurnsTo, MayFollow}
 use Rattle.threads_rule.specs.declared.view.Map.{Map}
 use Rattle.threads_rule.specs.declared.view.BegunCall.{BegunCall}
@@ -84,7 +84,7 @@ module _ {K V S : Type 0} (same : K → K → Bool) (hash : S → K → ℕ) whe
   observed_by v (Some map) (Calls machine) op out w =
       (end : Machine K V K × Progress (Node K V)) × FollowsBy (shown_in w.looks) (machine_plan same same (hash map.hasher) machine) out end
       × (w ≡ called v map machine end w.looks) × MayFollow (shown_in w.looks) (machine_plan same same (hash map.hasher) machine) out
-      × MayCome (machine_plan same same (hash map.hasher) machine) end × HandsBack v.calls end.1 × ReadPairIsVisible machine end.1 (shown_in w.looks)
+      × MayCome (machine_plan same same (hash map.hasher) machine) end × HandsBack v.calls end.1 × ToldAreVisible machine end.1 (shown_in w.looks)
   observed_by v None (Calls machine) op out w = ⊥
   observed_by v map (Makes m hasher opening) op out w =
       (end : NewMap × Told Setting) × FollowsBy (shown_in w.looks) (new_map_plan opening) out end × (w ≡ made_after v m hasher w.looks end.0 end.1)
@@ -96,7 +96,7 @@ module _ {K V S : Type 0} (same : K → K → Bool) (hash : S → K → ℕ) whe
   abbrev pub turned_by : View K V S → Option (Map S) → SeatWork K V S → View K V S → Type 0
   turned_by v (Some map) (Calls machine) w =
       (end : Machine K V K × Progress (Node K V)) × TurnsTo (shown_in w.looks) (machine_plan same same (hash map.hasher) machine) end × (w ≡ called v map machine end w.looks)
-      × MayCome (machine_plan same same (hash map.hasher) machine) end × HandsBack v.calls end.1 × ReadPairIsVisible machine end.1 (shown_in w.looks)
+      × MayCome (machine_plan same same (hash map.hasher) machine) end × HandsBack v.calls end.1 × ToldAreVisible machine end.1 (shown_in w.looks)
   turned_by v map work w = ⊥
 
   abbrev pub turned : View K V S → View K V S → Type 0

@@ -40,7 +40,7 @@ pub returns-in-Some-ended-clause-ended : goal.returns-in-Some-ended-clause-ended
 returns-in-Some-ended-clause-ended g c =
     let u = c.args.seat.now.view in let k = c.helps.new.seat.view in
     ended_so c.args.hasher.now c.steps-told.new.machine c.steps-told.result.0 c.in-Some-ended.answer c.in-Some-ended.answer u k c.steps-told.new.seat.view
-    c.in-Some-ended.ensures.ended refl c.steps-told.ensures.told (λ told. c.helps.ensures.them told ∙ c.loop.invariant.3 told) c.steps-told.ensures.stepped.calls
+    c.in-Some-ended.ensures.ended refl c.steps-told.ensures.told (λ told. c.helps.ensures.them told ∙ c.loop.invariant.3 told) c.steps-told.ensures.stepped.calls c.steps-told.ensures.stepped.shows.1
 
 pub returns-in-Some-ended-clause-stays : goal.returns-in-Some-ended-clause-stays
 returns-in-Some-ended-clause-stays g c =

@@ -1,17 +1,16 @@
-use Rattle.std.proofs.lemmas.Result.{IfErr-weaker, IfOk-weaker}
+use Rattle.std.proofs.Common.{sym, subst}
 use Rattle.papaya_sessions.proofs.OneMap.{gave_up, not_removed}
+use Rattle.papaya_sessions.specs.OneMap.{MapGaveUp}
 use Rattle.papaya_sessions.proofs.session.Session.remove.Goals as goal
 
-pub returns-clause-removed : goal.returns-clause-removed
-returns-clause-removed g c =
+pub returns-in-Ok-clause-removed : goal.returns-in-Ok-clause-removed
+returns-in-Ok-clause-removed g c =
     let y = c.remove in
-    IfOk-weaker y.result _ _
-    (gave_up g.K.PartialEq.eq g.S.Hashes.hash c.args.self.now y.new.self y.ensures.inside y.ensures.slot y.ensures.map y.ensures.blocks c.args.key)
-    y.ensures.removed
+    subst (λ there. MapGaveUp {V = g.row.V.Denot} g.K.PartialEq.eq g.S.Hashes.hash c.args.key there c.args.self.now.base.caller y.new.self.caller) (sym c.is_some.ensures)
+    (gave_up g.K.PartialEq.eq g.S.Hashes.hash c.args.self.now y.new.self y.ensures.inside y.ensures.slot y.ensures.map y.ensures.blocks c.args.key _ c.in-Ok.ensures.removed)
 
-pub returns-clause-refused : goal.returns-clause-refused
-returns-clause-refused g c =
+pub returns-in-Err-clause-refused : goal.returns-in-Err-clause-refused
+returns-in-Err-clause-refused g c =
     let y = c.remove in
-    IfErr-weaker y.result _ _
-    (λ r. not_removed g.K.PartialEq.eq g.S.Hashes.hash c.args.self.now y.new.self y.ensures.inside y.ensures.slot y.ensures.map y.ensures.blocks c.args.key r)
-    y.ensures.refused
+    not_removed g.K.PartialEq.eq g.S.Hashes.hash c.args.self.now y.new.self y.ensures.inside y.ensures.slot y.ensures.map y.ensures.blocks c.args.key c.in-Err.fault
+    c.in-Err.ensures.refused

@@ -6,7 +6,10 @@ use Rattle.seize_words.specs.declared.fault.Fault.{Fault}
 use Rattle.threads_callers.specs.Given.ErrandsCalling.{outcome_of}
 use Rattle.threads_callers.specs.Given.ErrandsLooking.{HasRun}
 use Rattle.map_tables.specs.declared.node.Node.TheVariants.{Pair}
-use Rattle.threads_calls.proofs.Keys.{back_by, may_insert, one_back, ran_by}
+use Rattle.threads_callers.specs.Given.ViewsLooks.{shown_in}
+use Rattle.threads_callers.specs.declared.answers.Found.{Found}
+use Rattle.threads_calls.proofs.Keys.{back_by, may_insert, one_back, ran_by, shows_by}
+use Rattle.threads_calls.proofs.Named.{replaced_there, was_replaced}
 use Rattle.threads_calls.proofs.session.SessionBase.insert.Goals as goal
 
 pub stores-ran-requires : goal.stores-ran-requires
@@ -23,8 +26,22 @@ returns-in-Ok-clause-stored g c = (
   c.in-Ok.answer,
   ran_by g.K.PartialEq.eq g.S.Hashes.hash c.args.self.now.caller.seat.view c.stores-ran.new.self.seat.view
       c.in-Ok.is c.stores-ran.ensures.called,
-  c.is_replaced.ensures,
+  was_replaced (λ (f : Found). f.word) c.replaced.result c.in-Ok.answer c.replaced.ensures,
 )
+
+pub returns-in-Ok-clause-replaced : goal.returns-in-Ok-clause-replaced
+returns-in-Ok-clause-replaced g c = (
+  c.in-Ok.answer,
+  ran_by g.K.PartialEq.eq g.S.Hashes.hash c.args.self.now.caller.seat.view c.stores-ran.new.self.seat.view
+      c.in-Ok.is c.stores-ran.ensures.called,
+  c.replaced.ensures,
+)
+
+pub returns-in-Ok-clause-shown : goal.returns-in-Ok-clause-shown
+returns-in-Ok-clause-shown g c =
+    let w = c.stores-ran.new.self.seat.view in
+    replaced_there (shown_in w.held) (λ (f : Found). f.word) c.in-Ok.answer (shows_by g.K.PartialEq.eq g.S.Hashes.hash c.args.self.now.caller.seat.view w c.in-Ok.is c.stores-ran.ensures.called)
+    c.replaced.result c.replaced.ensures
 
 pub returns-in-Err-clause-refused : goal.returns-in-Err-clause-refused
 returns-in-Err-clause-refused g c =

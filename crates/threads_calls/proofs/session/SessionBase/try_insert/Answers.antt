@@ -6,7 +6,9 @@ use Rattle.seize_words.specs.declared.fault.Fault.{Fault}
 use Rattle.threads_callers.specs.Given.ErrandsCalling.{outcome_of}
 use Rattle.threads_callers.specs.Given.ErrandsLooking.{HasRun}
 use Rattle.map_tables.specs.declared.node.Node.TheVariants.{Pair}
-use Rattle.threads_calls.proofs.Keys.{back_by, came_back, may_try, one_back, ran_by}
+use Rattle.threads_callers.specs.Given.ViewsLooks.{shown_in}
+use Rattle.threads_calls.proofs.Keys.{back_by, came_back, may_try, one_back, ran_by, shows_by}
+use Rattle.threads_calls.proofs.Named.{there_shown}
 use Rattle.threads_calls.proofs.session.SessionBase.try_insert.Goals as goal
 
 pub stores-ran-requires : goal.stores-ran-requires
@@ -25,6 +27,25 @@ returns-in-Ok-clause-tried g c = (
       c.in-Ok.is c.stores-ran.ensures.called,
   c.came_of.ensures.stored,
 )
+
+pub there-requires : goal.there-requires
+there-requires g c =
+    (back_by g.K.PartialEq.eq g.S.Hashes.hash c.args.self.now.caller.seat.view c.stores-ran.new.self.seat.view c.in-Ok.is c.stores-ran.ensures.called
+    (Pair c.args.key c.args.value) refl).1
+
+pub returns-in-Ok-clause-there : goal.returns-in-Ok-clause-there
+returns-in-Ok-clause-there g c = (
+  c.in-Ok.answer,
+  ran_by g.K.PartialEq.eq g.S.Hashes.hash c.args.self.now.caller.seat.view c.stores-ran.new.self.seat.view
+      c.in-Ok.is c.stores-ran.ensures.called,
+  c.there.ensures,
+)
+
+pub returns-in-Ok-clause-shown : goal.returns-in-Ok-clause-shown
+returns-in-Ok-clause-shown g c =
+    let w = c.stores-ran.new.self.seat.view in
+    there_shown (shown_in w.held) c.in-Ok.answer c.there.result.word c.there.ensures
+    (shows_by g.K.PartialEq.eq g.S.Hashes.hash c.args.self.now.caller.seat.view w c.in-Ok.is c.stores-ran.ensures.called)
 
 pub came_of-requires : goal.came_of-requires
 came_of-requires g c = record {

@@ -1,18 +1,7 @@
-use Rattle.std.specs.Prelude.{◌≡◌, ℕ, Some}
-use Rattle.std.proofs.Common.{subst, ap, ◌∙◌}
-use Rattle.seize_words.specs.OneMemory.Word.{block_in}
-use Rattle.seize_blocks.specs.Given.SeizeSeatsLendings.{IsValueOf}
-use Rattle.map_tables.specs.declared.node.Node.{Node}
-use Rattle.threads_callers.specs.Given.ViewsLooks.{shown_in}
-use Rattle.threads_callers.specs.Given.ViewsRule.{Holds}
 use Rattle.threads_calls.proofs.session.SessionBase.value.Goals as goal
 
+pub pair-requires : goal.pair-requires
+pair-requires g c = record { shown = (c.requires.shown.1.0, c.requires.shown.1.1, c.requires.shown.1.3) }
+
 pub returns : goal.returns
-returns g c =
-    let x = c.args.self.now.caller in (
-      c.in-Pair.field-0,
-      subst (λ (b : ℕ). shown_in x.seat.view.held b ≡ Some c.pair.result.now) c.block_of.ensures c.pair.ensures.shown ∙ ap Some c.in-Pair.is,
-      subst (λ (n : Node g.row.K.Denot g.row.V.Denot). IsValueOf (Holds g.K.PartialEq.eq g.S.Hashes.hash x.blocks.now.words.fixed) x.seat.id x.seat.view (block_in c.args.found.word) n)
-          c.in-Pair.is
-          (subst (λ (b : ℕ). IsValueOf (Holds g.K.PartialEq.eq g.S.Hashes.hash x.blocks.now.words.fixed) x.seat.id x.seat.view b c.pair.result.now) c.block_of.ensures c.pair.ensures.value),
-    )
+returns g c = (c.pair.result.0.now, c.pair.ensures.0, c.pair.ensures.1)

@@ -24,6 +24,7 @@ returns-in-Some-clause-ended g c =
       told =
           told_last u v w _ c.loop-count.invariant.3
           (subst (λ (told : Progress (Node g.row.K.Denot g.row.V.Denot)). HasProgressed told v w) c.in-Some.ensures.ended c.adds-told.ensures.stepped.calls);
+      shows = λ word none. absurd none;
     }
 
 pub returns-in-Some-clause-stays : goal.returns-in-Some-clause-stays

@@ -28,4 +28,5 @@ returns-clause-called g c =
       back =
           comes_back g.K.PartialEq.eq g.S.Hashes.hash wanted c.runs.result.told c.runs.result.unstored u v c.begins.ensures.begins
           (λ pair its began. c.runs.ensures.back pair (first c.args.machine.now None (c.requires.may.stores pair its)) began);
+      shows = c.runs.ensures.ended.shows;
     }

@@ -29,7 +29,7 @@ ended-requires g c = record { plain = asks_none c.args.hasher.now c.calls-told.n
 pub returns-in-Some-ended-clause-ended : goal.returns-in-Some-ended-clause-ended
 returns-in-Some-ended-clause-ended g c =
     ended_so c.args.hasher.now c.calls-told.new.machine c.calls-told.result c.in-Some-ended.answer c.ran.result.told c.args.self.now.seat.now.view c.loop.self.seat.now.view c.calls-told.new.self.seat.now.view
-    c.in-Some-ended.ensures.ended c.ran.ensures.told c.calls-told.ensures.told c.loop.invariant.3 c.calls-told.ensures.stepped.calls
+    c.in-Some-ended.ensures.ended c.ran.ensures.told c.calls-told.ensures.told c.loop.invariant.3 c.calls-told.ensures.stepped.calls c.calls-told.ensures.stepped.shows.1
 
 pub returns-in-Some-ended-clause-stays : goal.returns-in-Some-ended-clause-stays
 returns-in-Some-ended-clause-stays g c =

@@ -28,7 +28,7 @@ pub returns-in-Some-paused-clause-paused : goal.returns-in-Some-paused-clause-pa
 returns-in-Some-paused-clause-paused g c = λ k s is.
     paused_so k s c.args.hasher.now c.steps-told.new.machine c.steps-told.result c.in-Some-paused.pause c.args.self.now.seat.now.view c.loop.self.seat.now.view c.steps-told.new.self.seat.now.view
     c.in-Some-paused.ensures.paused (tells_so g.K.PartialEq.eq k s c.args.hasher.now g.S.Hashes.hash c.loop.machine c.steps-told.new.machine c.steps-told.result c.loop.self.seat.now.view c.steps-told.new.self.seat.now.view
-    (c.loop.invariant.0 k s is) c.steps-told.ensures.stepped) c.loop.invariant.3 c.steps-told.ensures.stepped.calls
+    (c.loop.invariant.0 k s is) c.steps-told.ensures.stepped) c.loop.invariant.3 c.steps-told.ensures.stepped.calls c.steps-told.ensures.stepped.shows.1
 
 pub returns-in-Some-paused-clause-gone : goal.returns-in-Some-paused-clause-gone
 returns-in-Some-paused-clause-gone g c = let gone = c.loop.invariant.4 in (suc gone.0, (c.loop.self.seat.now.view, gone.1, inl c.steps-told.ensures.by))

@@ -41,7 +41,7 @@ returns-clause-ended g c =
     let ended : HasEnded c.outcome-told.result u w =
     subst (λ (p : Halt). PausedSo makes_pair (stage_after is.0 c.args.pair (Insert c.args.value)) c.args.hasher.now c.runs_on-pause.new.machine p u w) c.outcome-told.ensures paused in
     subst (λ (r : Result Answer Fault). HasEnded r v w) (sym c.ran.ensures.told)
-    (record { free = ended.free; told = ended.told ∙ calls_told c.args.machine.now (Insert c.args.value) v u c.tells.ensures.told (outcome_of c.outcome-told.result) })
+    (record { free = ended.free; told = ended.told ∙ calls_told c.args.machine.now (Insert c.args.value) v u c.tells.ensures.told (outcome_of c.outcome-told.result); shows = ended.shows })
 
 pub returns-clause-gone : goal.returns-clause-gone
 returns-clause-gone g c =

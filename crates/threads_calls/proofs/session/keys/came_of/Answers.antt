@@ -1,5 +1,0 @@
-use Rattle.std.proofs.Common.{sym, ◌∙◌}
-use Rattle.threads_calls.proofs.session.keys.came_of.Goals as goal
-
-pub pair_of-key-requires : goal.pair_of-key-requires
-pair_of-key-requires g c = record { back = (c.requires.back.0, c.requires.back.1, c.requires.back.2 (sym c.is_put.ensures ∙ c.if-is_put.false)) }
