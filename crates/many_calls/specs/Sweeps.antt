@@ -26,7 +26,7 @@ use Rattle.many_calls.specs.Claims.{AreFew}
 use Rattle.many_calls.specs.OverAll.{CallOverAll, begun_over_all, gone_on, come_to, with_verdict, RemovesAsReplied}
 use Rattle.many_calls.specs.Rows.{LeavesSlots}
 use Rattle.many_calls.specs.Sights.{Visible, IsGrown, seen_by}
-use Rattle.many_calls.specs.Together.{UnderWay, OverAll, HasCall, in_slot, next_over_all, IsOneStep, IsReclaimed, Together}
+use Rattle.many_calls.specs.Together.{UnderWay, OverAll, IsWriter, in_slot, next_over_all, IsOneStep, IsReclaimed, Together}
 
 module _ {K : Type 0} (hash : K → ℕ) (c : Chart K) (seen : Blocks) (o : CallOverAll) where
   -- the word names a pair that the map had at a moment since the sweep began
@@ -45,7 +45,7 @@ module _ {K Q : Type 0} (V : Type 0) (same : K → K → Bool) (hash : K → ℕ
   abbrev pub SweepsBeginTogether : Type 0
   SweepsBeginTogether =
       (w : World (Node K V)) (c : Chart K) (blocks : Blocks) (sights : ℕ → Visible) (calls : ℕ → Option (UnderWay K V Q)) (i : ℕ) → Together V same hash asks setting slot w c blocks sights calls → calls i ≡ None
-      → w.row i ≡ Rests → IsInside (w.uses (slot i)) → (is_incremental setting.mode ≡ false → AreFew (λ j. (j ≡ i) ⊎ HasCall calls j))
+      → w.row i ≡ Rests → IsInside (w.uses (slot i)) → (is_incremental setting.mode ≡ false → AreFew (λ j. (j ≡ i) ⊎ IsWriter calls j))
       → (purpose : Purpose) → Together V same hash asks setting slot w c blocks sights (with_at calls i (Some (OverAll (begun_over_all c.now (in_slot setting (slot i)) purpose))))
 
   module _ (w : World (Node K V)) (c : Chart K) (blocks : Blocks) (sights : ℕ → Visible) (calls : ℕ → Option (UnderWay K V Q)) (i : ℕ) (o : CallOverAll) where

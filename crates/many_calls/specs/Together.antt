@@ -32,7 +32,7 @@ use Rattle.map_facts_late.specs.Given.RuleInWorld.{IsHeldBy, IsMapIn, StepSpec}
 use Rattle.map_facts_late.specs.Given.RuleMoments.{Moments, Remembers}
 use Rattle.map_facts_late.specs.Given.PointsFactsIdle.{IsIdle}
 use Rattle.map_facts_late.specs.Given.PointsFactsCalls.{Change, Unchanged, AnswersChange, CallFacts}
-use Rattle.many_calls.specs.Claims.{AreFew, IsToClaim, ClaimsFit}
+use Rattle.many_calls.specs.Claims.{AreFew, IsNoLookup, IsToClaim, ClaimsFit}
 use Rattle.many_calls.specs.Kept.{IsMaking, IsWithin, AllKeptBy, AllOwned, DeferredIsOwned}
 use Rattle.many_calls.specs.Asked.{replies_before}
 use Rattle.map_facts_late.specs.Kinds.{FaultFits}
@@ -92,6 +92,13 @@ UnlessCounts (ForRoom r) Asked = Asked
 UnlessCounts (Counting sum) Asked = Unit {0}
 UnlessCounts (OverAll o) Asked = Asked
 
+-- A call that may write: neither a lookup nor a counting. Calls of no other kind come to claim places.
+abbrev pub MayWrite : {K V Q : Type 0} → UnderWay K V Q → Type 0
+MayWrite (OnKey u) = IsNoLookup u.call.stands
+MayWrite (ForRoom r) = Unit {0}
+MayWrite (Counting sum) = ⊥
+MayWrite (OverAll o) = Unit {0}
+
 -- whether it is under way after a step
 abbrev pub next_of : {K V Q : Type 0} → CallOnKey K V Q → Called (Node K V) → Option (UnderWay K V Q)
 next_of u (called.Done answer) = None
@@ -131,6 +138,10 @@ module _ {K V Q : Type 0} (calls : ℕ → Option (UnderWay K V Q)) where
   abbrev pub HasCall : ℕ → Type 0
   HasCall i = calls i ≢ None
 
+  -- and one that may write
+  abbrev pub IsWriter : ℕ → Type 0
+  IsWriter i = (u : UnderWay K V Q) × (calls i ≡ Some u) × MayWrite u
+
   -- a row that puts a block behind a linked table of this map is within one of them
   abbrev pub PutsWithin : World (Node K V) → Chart K → Blocks → Type 0
   PutsWithin w c blocks = (t j : ℕ) → c.first ≤ t → t < c.past → IsOnto (blocks.table t) (w.row j) → HasCall j
@@ -139,9 +150,9 @@ module _ {K V Q : Type 0} (calls : ℕ → Option (UnderWay K V Q)) where
   abbrev pub ToClaim : ℕ → ℕ → Type 0
   ToClaim t i = (u : UnderWay K V Q) × (calls i ≡ Some u) × ClaimsInto t u
 
-  -- They are few in blocking mode, and so no claim comes near to the end of a word.
+  -- Those that may write are few in blocking mode, and so no claim comes near to the end of a word.
   pub record StayFew (c : Chart K) : Type 0 where
-    pub few : AreFew HasCall
+    pub few : AreFew IsWriter
     pub claims : ClaimsFit c ToClaim
 
 -- the setting of a caller: its slot
@@ -286,7 +297,7 @@ module _ {K Q : Type 0} (V : Type 0) (same : K → K → Bool) (hash : K → ℕ
   abbrev pub BeginsTogether : Type 0
   BeginsTogether =
       (w : World (Node K V)) (c : Chart K) (blocks : Blocks) (sights : ℕ → Visible) (calls : ℕ → Option (UnderWay K V Q)) (i : ℕ) → AreLawful same hash → Together w c blocks sights calls → calls i ≡ None
-      → w.row i ≡ Rests → IsInside (w.uses (slot i)) → (is_incremental setting.mode ≡ false → AreFew (λ j. (j ≡ i) ⊎ HasCall calls j))
+      → w.row i ≡ Rests → IsInside (w.uses (slot i)) → (is_incremental setting.mode ≡ false → AreFew (λ j. (j ≡ i) ⊎ IsWriter calls j))
       → (keys : K → Bool) (pair : Given K V) (call : KeyCall K V Q) → IsBegun i keys pair call → Together w c blocks sights (with_at calls i (Some (OnKey (begun_at c keys pair call))))
 
   -- An answer is one of the call's kind. It tells the one change that the call has made, at a moment since it began, and what was stored is the pair that
@@ -418,7 +429,7 @@ module _ {K Q : Type 0} (V : Type 0) (same : K → K → Bool) (hash : K → ℕ
   abbrev pub RoomsBeginTogether : Type 0
   RoomsBeginTogether =
       (w : World (Node K V)) (c : Chart K) (blocks : Blocks) (sights : ℕ → Visible) (calls : ℕ → Option (UnderWay K V Q)) (i : ℕ) → Together w c blocks sights calls → calls i ≡ None
-      → w.row i ≡ Rests → IsInside (w.uses (slot i)) → (is_incremental setting.mode ≡ false → AreFew (λ j. (j ≡ i) ⊎ HasCall calls j))
+      → w.row i ≡ Rests → IsInside (w.uses (slot i)) → (is_incremental setting.mode ≡ false → AreFew (λ j. (j ≡ i) ⊎ IsWriter calls j))
       → (additional : ℕ) → Together w c blocks sights (with_at calls i (Some (ForRoom (record { began = c.now; reserve = reserving (in_slot setting (slot i)) additional }))))
 
   -- what a step of a reservation tells, in its table, or in one that the root has left
@@ -475,7 +486,7 @@ module _ {K Q : Type 0} (V : Type 0) (same : K → K → Bool) (hash : K → ℕ
   abbrev pub CountingsBeginTogether : Type 0
   CountingsBeginTogether =
       (w : World (Node K V)) (c : Chart K) (blocks : Blocks) (sights : ℕ → Visible) (calls : ℕ → Option (UnderWay K V Q)) (i : ℕ) → Together w c blocks sights calls → calls i ≡ None
-      → w.row i ≡ Rests → (is_incremental setting.mode ≡ false → AreFew (λ j. (j ≡ i) ⊎ HasCall calls j))
+      → w.row i ≡ Rests → (is_incremental setting.mode ≡ false → AreFew (λ j. (j ≡ i) ⊎ IsWriter calls j))
       → Together w c blocks sights (with_at calls i (Some (Counting (summing (in_slot setting (slot i))))))
 
   -- The promise: whichever caller takes a step of its counting, it may take it. It changes nothing, never waits, and is never refused.

@@ -26,7 +26,7 @@ use Rattle.run_shows.specs.Given.RawDeclared.machines.progress.Progress.{Progres
 use Rattle.run_shows.specs.Given.SweepsSweepPoints.{after_next}
 use Rattle.owner_facts.specs.Given.CallersClaims.{AreFew}
 use Rattle.owner_facts.specs.Given.CallersOverAll.{gone_on}
-use Rattle.owner_facts.specs.Given.CallersTogether.{UnderWay, OverAll, UnlessCounts, HasCall, IsOfSlots, Closes}
+use Rattle.owner_facts.specs.Given.CallersTogether.{UnderWay, OverAll, UnlessCounts, IsWriter, IsOfSlots, Closes}
 use Rattle.owner_facts.specs.Given.FinishesEndings.{Finishing, EndingsTogether, StepsOfEnding, MakingStepsWithEndings, HasFinished, waiting_by}
 use Rattle.owner_facts.specs.Given.FinishesFactsEnds.{Deed, taken_by}
 use Rattle.owner_facts.specs.Given.FinishesMachines.{machine_of, RepliedOfKind, MachineStepsWithEndings}
@@ -45,9 +45,9 @@ module _ {K V : Type 0} where
     pub no_making : is_none (s.makers i) ≡ true
     pub no_ending : is_none (s.enders i) ≡ true
 
-  -- with this caller, few have a call on the map, if it is one in blocking mode
+  -- with this caller, few have a call on the map that may write, if it is one in blocking mode
   abbrev pub AreFewWith : Scene K V → ℕ → ℕ → Type 0
-  AreFewWith s i m = (standing : Standing K) → s.maps m ≡ Some standing → is_incremental standing.setting.mode ≡ false → AreFew (λ j. (j ≡ i) ⊎ HasCall (s.calls m) j)
+  AreFewWith s i m = (standing : Standing K) → s.maps m ≡ Some standing → is_incremental standing.setting.mode ≡ false → AreFew (λ j. (j ≡ i) ⊎ IsWriter (s.calls m) j)
 
   -- Once it was asked for its next pair a walk that is ready goes on to that, and any other call is as it was.
   abbrev pub asked_on : UnderWay K V K → UnderWay K V K

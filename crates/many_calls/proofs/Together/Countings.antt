@@ -17,7 +17,7 @@ use Rattle.map_facts_late.specs.Given.PointsFactsTables.{SumFacts}
 use Rattle.map_facts_late.specs.Given.PointsTold.{SumOutcome}
 use Rattle.map_facts_late.proofs.Given.PointsMaking.Sum.{may_sum, told_sum}
 use Rattle.many_calls.specs.Sights.{Visible, seen_by}
-use Rattle.many_calls.specs.Together.{UnderWay, Counting, ClaimsInto, HasCall, next_of_counting, in_slot, Together, CountingsBeginTogether, CountingsPreserveTheInvariant}
+use Rattle.many_calls.specs.Together.{UnderWay, Counting, ClaimsInto, next_of_counting, in_slot, Together, CountingsBeginTogether, CountingsPreserveTheInvariant}
 use Rattle.many_calls.proofs.Together.Few.{few_begun, few_with, few_without}
 use Rattle.many_calls.proofs.Together.Fits.{map_in_slot, fits_some, fits_none, fits_of, stands_by}
 
@@ -40,9 +40,6 @@ module _ {K V Q : Type 0} (same : K → K → Bool) (hash : K → ℕ) (asks : Q
     abbrev its : Setting
     its = in_slot setting (slot i)
 
-    its_call : HasCall calls i
-    its_call none = cc (has, none)
-
     rests : w.row i ≡ Rests
     rests = (s.stand i (Counting sum) has).0
 
@@ -54,13 +51,13 @@ module _ {K V Q : Type 0} (same : K → K → Bool) (hash : K → ℕ) (asks : Q
         stands_by same hash asks setting slot w c blocks sights calls i (Some (Counting sum2)) s.ground
         (fits_some same hash asks setting slot w c blocks (sights (slot i)) i (Counting sum2) (s.inside i (Counting sum) has) (rests, facts, idle))
         (λ j other. fits_of same hash asks setting slot w c blocks sights calls s j)
-        (λ blocking. few_with calls i c (s.few blocking) its_call (Counting sum2) (λ t claims. claims)) s.onto (λ none. absurd (cc none))
+        (λ blocking. few_with calls i c (s.few blocking) (Counting sum2) (λ writes. absurd writes) (λ t claims. claims)) s.onto (λ none. absurd (cc none))
 
     ends : Together V same hash asks setting slot w c blocks sights (with_at calls i None)
     ends =
         stands_by same hash asks setting slot w c blocks sights calls i None s.ground (fits_none same hash asks setting slot w c blocks (sights (slot i)) i idle)
         (λ j other. fits_of same hash asks setting slot w c blocks sights calls s j)
-        (λ blocking. few_without calls i c (s.few blocking) its_call) s.onto (λ none. rests)
+        (λ blocking. few_without calls i c (s.few blocking)) s.onto (λ none. rests)
 
     abbrev Then : Sum × Advance ℕ → Type 0
     Then end = (end.1 ≢ progress.Waits) × ((fault : Fault) → end.1 ≢ progress.Refused fault) × Together V same hash asks setting slot w c blocks sights (with_at calls i (next_of_counting end.0 end.1))

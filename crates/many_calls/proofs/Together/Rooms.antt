@@ -128,7 +128,7 @@ module _ {K V Q : Type 0} (same : K → K → Bool) (hash : K → ℕ) (asks : Q
       -- after it calls are few as before
       pub few : is_incremental setting.mode ≡ false → StayFew (with_at calls i (next_for_room after end)) went.c2
       few blocking =
-          few_step calls i (ForRoom r) has (next_for_room after end) c went.c2 (s.few blocking) same hash setting.mode i s.ground.map.map.rule went.moved
+          few_step calls i (ForRoom r) has (next_for_room after end) c went.c2 (s.few blocking) (λ v is writes. tt) same hash setting.mode i s.ground.map.map.rule went.moved
           (λ t. RoomClaims t p2.stands) (λ v is t claims. subst (ClaimsInto t) (room_next_is after end v is) claims)
           (room_claims_by same hash w i its c seen blocking map r.began r.reserve knows.facts none m2 Tells went beside p2 end may steps)
 

@@ -114,7 +114,7 @@ module _ {K V Q : Type 0} (same : K → K → Bool) (hash : K → ℕ) (asks : Q
       -- after it calls are few as before
       pub few : is_incremental setting.mode ≡ false → StayFew (with_at calls i (next_over_all after end)) went.c2
       few blocking =
-          few_step calls i (OverAll o) has (next_over_all after end) c went.c2 (s.few blocking) same hash setting.mode i s.ground.map.map.rule went.moved
+          few_step calls i (OverAll o) has (next_over_all after end) c went.c2 (s.few blocking) (λ v is writes. tt) same hash setting.mode i s.ground.map.map.rule went.moved
           (λ t. SweepClaims t p2.stands) (λ v is t claims. subst (ClaimsInto t) (over_all_next_is after end v is) claims)
           (sweep_claims_by same hash w i its c seen blocking map o.began o.sweep knows.facts none m2 Tells went went.told.beside p2 end went.told.stands may steps)
 
