@@ -14,6 +14,7 @@ pub mod FactsOn
 pub mod At
 pub mod Few
 pub mod Writers
+pub mod Distinct
 pub mod Told
 pub mod RetiresBlocking
 pub mod WithinRows

@@ -34,7 +34,7 @@ use Rattle.map_facts_late.specs.Given.ReservesDeclared.sweep.Swept.TheVariants a
 use Rattle.map_facts_late.specs.ToldSweeps.{IsRowOfSweep}
 use Rattle.map_facts_late.proofs.Swept.Sweeps.Stands.{IsQuiet}
 use Rattle.many_calls.specs.OverAll.{CallOverAll, SweepClaims}
-use Rattle.many_calls.specs.Together.{OverAll, Counting, next_over_all, next_for_room, ForRoom, ClaimsInto, OnKey, CallOnKey, UnderWay, next_of, MayWrite, IsWriter, ToClaim, StayFew}
+use Rattle.many_calls.specs.Together.{OverAll, Counting, next_over_all, next_for_room, ForRoom, ClaimsInto, OnKey, CallOnKey, UnderWay, next_of, MayWrite, IsWriter, FewWith, ToClaim, StayFew}
 use Rattle.many_calls.proofs.Claims.Charts.{past_moved, claim_new}
 use Rattle.many_calls.proofs.Claims.Fit.{fits_on, fits_few}
 use Rattle.many_calls.proofs.Together.At.{at_other, at_same}
@@ -64,19 +64,31 @@ module _ {K V Q : Type 0} (calls : ℕ → Option (UnderWay K V Q)) (i : ℕ) (i
   ]
 
   module _ (c : Chart K) (s : StayFew calls c) (none : (t : ℕ) (u : UnderWay K V Q) → it ≡ Some u → ClaimsInto t u → ⊥) where
-    -- a call that began is to claim nothing
-    pub few_begun : AreFew (λ j. (j ≡ i) ⊎ IsWriter calls j) → StayFew later c
-    few_begun few = record {
-      few = fewer (λ j. (j ≡ i) ⊎ IsWriter calls j) (IsWriter later) few (writers_then (λ j. (j ≡ i) ⊎ IsWriter calls j) (λ j has. inr has) (λ u is writes. inl refl));
-      claims = fewer_fit c (ToClaim calls) (ToClaim later) s.claims (claims_then none);
-    }
-
-    -- nor is one that goes on, in a step that claims nothing
+    -- one that goes on, in a step that claims nothing
     pub few_gone : ((u : UnderWay K V Q) → it ≡ Some u → MayWrite u → IsWriter calls i) → StayFew later c
     few_gone its = record {
       few = fewer (IsWriter calls) (IsWriter later) s.few (writers_then (IsWriter calls) (λ j has. has) its);
       claims = fewer_fit c (ToClaim calls) (ToClaim later) s.claims (claims_then none);
     }
+
+-- a call that begins is to claim nothing
+module _ {K V Q : Type 0} (calls : ℕ → Option (UnderWay K V Q)) (i : ℕ) (it : UnderWay K V Q) (c : Chart K) (s : StayFew calls c) (none : (t : ℕ) → ClaimsInto t it → ⊥) where
+  same_begun : (x : UnderWay K V Q) → ◌≡◌ {A = Option (UnderWay K V Q)} (Some it) (Some x) → x ≡ it
+  same_begun x e = cc e
+
+  pub few_begun : FewWith calls i it → StayFew (with_at calls i (Some it)) c
+  few_begun few = record {
+    few = fewer (λ j. ((j ≡ i) × MayWrite it) ⊎ IsWriter calls j) (IsWriter (with_at calls i (Some it))) few
+        (writers_then calls i (Some it) (λ j. ((j ≡ i) × MayWrite it) ⊎ IsWriter calls j) (λ j has. inr has) (λ u is writes. inl (refl, subst (λ (x : UnderWay K V Q). MayWrite x) (same_begun u is) writes)));
+    claims = fewer_fit c (ToClaim calls) (ToClaim (with_at calls i (Some it))) s.claims (claims_then calls i (Some it) (λ t u is claims. none t (subst (ClaimsInto t) (same_begun u is) claims)));
+  }
+
+-- few are with any call, where they are few with its caller
+pub few_with_any : {K V Q : Type 0} (calls : ℕ → Option (UnderWay K V Q)) (i : ℕ) (u : UnderWay K V Q) → AreFew (λ j. (j ≡ i) ⊎ IsWriter calls j) → FewWith calls i u
+few_with_any calls i u few = fewer (λ j. (j ≡ i) ⊎ IsWriter calls j) (λ j. ((j ≡ i) × MayWrite u) ⊎ IsWriter calls j) few (λ j such. elim such as (λ _. (j ≡ i) ⊎ IsWriter calls j) [
+  | inl its ↦ inl its.0
+  | inr has ↦ inr has
+])
 
 -- a call that goes on, and is to claim nothing; and one that has ended
 module _ {K V Q : Type 0} (calls : ℕ → Option (UnderWay K V Q)) (i : ℕ) (c : Chart K) (s : StayFew calls c) where

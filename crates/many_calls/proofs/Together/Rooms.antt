@@ -38,11 +38,8 @@ module _ {K V Q : Type 0} (same : K → K → Bool) (hash : K → ℕ) (asks : Q
   abbrev Stand : World (Node K V) → Chart K → Blocks → (ℕ → Visible) → (ℕ → Option (UnderWay K V Q)) → Type 0
   Stand = Together V same hash asks setting slot
 
-  same_call : (x y : UnderWay K V Q) → ◌≡◌ {A = Option (UnderWay K V Q)} (Some x) (Some y) → y ≡ x
-  same_call x y e = cc e
-
   pub rooms_begin_together : RoomsBeginTogether V same hash asks setting slot
-  rooms_begin_together w c blocks sights calls i s none rests inside few additional =
+  rooms_begin_together w c blocks sights calls i s none rests inside additional few =
       stands_by same hash asks setting slot w c blocks sights calls i (Some (ForRoom it)) s.ground
       (fits_some same hash asks setting slot w c blocks (sights (slot i)) i (ForRoom it) inside
       (inl (
@@ -53,7 +50,7 @@ module _ {K V Q : Type 0} (same : K → K → Bool) (hash : K → ℕ) (asks : Q
         },
       )))
       (λ j other. fits_of same hash asks setting slot w c blocks sights calls s j)
-      (λ blocking. few_begun calls i (Some (ForRoom it)) c (s.few blocking) (λ t v is claims. subst (ClaimsInto t) (same_call (ForRoom it) v is) claims) (few blocking)) s.onto (λ none. absurd (cc none))
+      (λ blocking. few_begun calls i (ForRoom it) c (s.few blocking) (λ t claims. claims) (few blocking)) s.onto (λ none. absurd (cc none))
     where
       it : CallForRoom
       it = record { began = c.now; reserve = reserving (in_slot setting (slot i)) additional }

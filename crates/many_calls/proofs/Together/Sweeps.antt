@@ -42,11 +42,8 @@ module _ {K V Q : Type 0} (same : K → K → Bool) (hash : K → ℕ) (asks : Q
   abbrev Stand : World (Node K V) → Chart K → Blocks → (ℕ → Visible) → (ℕ → Option (UnderWay K V Q)) → Type 0
   Stand = Together V same hash asks setting slot
 
-  same_call : (x y : UnderWay K V Q) → ◌≡◌ {A = Option (UnderWay K V Q)} (Some x) (Some y) → y ≡ x
-  same_call x y e = cc e
-
   pub sweeps_begin_together : SweepsBeginTogether V same hash asks setting slot
-  sweeps_begin_together w c blocks sights calls i s none rests inside few purpose =
+  sweeps_begin_together w c blocks sights calls i s none rests inside purpose few =
       stands_by same hash asks setting slot w c blocks sights calls i (Some (OverAll it)) s.ground
       (fits_some same hash asks setting slot w c blocks (sights (slot i)) i (OverAll it) inside
       (inl (
@@ -60,7 +57,7 @@ module _ {K V Q : Type 0} (same : K → K → Bool) (hash : K → ℕ) (asks : Q
         },
       )))
       (λ j other. fits_of same hash asks setting slot w c blocks sights calls s j)
-      (λ blocking. few_begun calls i (Some (OverAll it)) c (s.few blocking) (λ t v is claims. subst (ClaimsInto t) (same_call (OverAll it) v is) claims) (few blocking)) s.onto (λ none. absurd (cc none))
+      (λ blocking. few_begun calls i (OverAll it) c (s.few blocking) (λ t claims. claims) (few blocking)) s.onto (λ none. absurd (cc none))
     where
       it : CallOverAll
       it = begun_over_all c.now (in_slot setting (slot i)) purpose

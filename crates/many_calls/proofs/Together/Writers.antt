@@ -1,6 +1,6 @@
 -- A lookup goes on looking, or has ended: a call that may write after a step could do so before it.
-use Rattle.std.specs.Prelude.{◌≡◌, ℕ, Bool, Option, Some, None}
-use Rattle.std.proofs.Common.{refl, sym, subst, ap, ◌∙◌}
+use Rattle.std.specs.Prelude.{◌≡◌, ◌⊎◌, ℕ, Bool, Option, Some, None}
+use Rattle.std.proofs.Common.{inl, inr, subst}
 use Rattle.seize_model.specs.Given.SeizeWordsMem.{Mem, Took, value_at}
 use Rattle.seize_model.specs.Given.SeizeWordsPlan.{Steps}
 use Rattle.seize_model.specs.Given.SeizeDeclared.advance.Advance.{Advance}
@@ -21,7 +21,7 @@ use Rattle.many_calls.proofs.Together.Few.{next_is}
 
 module _ {K V Q : Type 0} where
   -- it looks on, or has ended
-  abbrev LooksOn : KeyCall K V Q × Called (Node K V) → Type 0
+  abbrev pub LooksOn : KeyCall K V Q × Called (Node K V) → Type 0
   LooksOn (p, called.Done answer) = Unit {0}
   LooksOn (p, called.Refused fault) = Unit {0}
   LooksOn (p, told) = IsNoLookup p.stands → ⊥
@@ -55,11 +55,17 @@ module _ {K V Q : Type 0} where
       by (called.Asks asked) looks is e = goes looks e
 
   module _ (asks : Q → K → Bool) (same : K → K → Bool) (hash : K → ℕ) (p : KeyCall K V Q) (m m2 : Mem (Node K V)) (end : KeyCall K V Q × Called (Node K V))
-      (steps : Steps Took value_at m (call_plan asks same hash p) m2 end) (after : CallOnKey K V Q) (same_call : after.call ≡ end.0) where
-    -- who may write after a step was no lookup before it
-    pub wrote_before : (v : UnderWay K V Q) → next_of after end.1 ≡ Some v → MayWrite v → IsNoLookup p.stands
-    wrote_before v is writes = by p.stands steps
+      (steps : Steps Took value_at m (call_plan asks same hash p) m2 end) where
+    pub no_lookup_or_on : IsNoLookup p.stands ⊎ LooksOn end
+    no_lookup_or_on = by p.stands steps
       where
-        by : (stands : Calling) → Steps Took value_at m (plan_at asks same hash p stands) m2 end → IsNoLookup stands
-        by (at.Looks l) steps = absurd (on_looking end (always_steps LooksOn m m2 (plan_at asks same hash p (at.Looks l)) end (by_asked p asks l p.asked) steps) after same_call v is writes)
-        by _ steps = tt
+        by : (stands : Calling) → Steps Took value_at m (plan_at asks same hash p stands) m2 end → IsNoLookup stands ⊎ LooksOn end
+        by (at.Looks l) steps = inr (always_steps LooksOn m m2 (plan_at asks same hash p (at.Looks l)) end (by_asked p asks l p.asked) steps)
+        by _ steps = inl tt
+
+    -- who may write after a step was no lookup before it
+    pub wrote_before : (after : CallOnKey K V Q) → after.call ≡ end.0 → (v : UnderWay K V Q) → next_of after end.1 ≡ Some v → MayWrite v → IsNoLookup p.stands
+    wrote_before after same_call v is writes = elim no_lookup_or_on as (λ _. IsNoLookup p.stands) [
+      | inl no ↦ no
+      | inr looks ↦ absurd (on_looking end looks after same_call v is writes)
+    ]

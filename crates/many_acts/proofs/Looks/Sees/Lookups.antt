@@ -1,6 +1,6 @@
 -- A lookup has seen tables and pairs of its map, which its section holds.
 use Rattle.std.specs.Prelude.{◌==◌, ◌/◌, ◌^◌, ◌<◌, Option, if◌then◌else◌}
-use Rattle.std.proofs.Common.{◌≡◌, ℕ, suc, Bool, true, false, inl, inr, refl, sym, subst, ap, ◌∙◌}
+use Rattle.std.proofs.Common.{◌≡◌, ℕ, suc, Bool, true, false, inl, inr, sym, subst, ap, ◌∙◌}
 use Rattle.run_shows.specs.Given.SeizeWordsDeclared.at.At.TheVariants.{Root}
 use Rattle.run_shows.specs.Given.SeizeWordsMem.{Mem, value_at, word_at}
 use Rattle.run_shows.specs.Given.SeizeWordsPlan.{Now, Seeing}
@@ -32,7 +32,6 @@ use Rattle.run_shows.proofs.Given.RuleKeys.TriesSeen.{spot_inside}
 use Rattle.run_shows.proofs.Given.RuleWords.PlacesShown.{are_stored}
 use Rattle.run_shows.proofs.Given.RuleWords.TablesSeen.{place_there}
 use Rattle.owner_facts.specs.Given.CallersKept.{IsWithin}
-use Rattle.many_acts.specs.Looks.Blocks.{MayLookAt}
 use Rattle.many_acts.specs.Looks.Sees.{HasSeen}
 use Rattle.many_acts.proofs.Looks.Sees.Copiers.{root_link, next_link}
 use Rattle.many_acts.proofs.Looks.Sees.Held.{sees_link, named_held}

@@ -2,7 +2,6 @@
 use Rattle.std.specs.Prelude.{◌==◌, ◌/◌, ◌<◌, ◌^◌, Option, Some}
 use Rattle.std.proofs.Common.{◌≡◌, ℕ, Bool, true, ◌⊎◌, inl, inr, sym, subst, ap, ◌∙◌}
 use Rattle.run_shows.specs.Given.SeizeWordsMem.{Mem}
-use Rattle.run_shows.specs.Given.SeizeWordsPlan.{Plan, Turn, Do}
 use Rattle.run_shows.specs.Given.SeizeLaw.{holds}
 use Rattle.run_shows.specs.Given.SeizeWorld.{World, IsInside}
 use Rattle.run_shows.specs.Given.TablesDeclared.node.Node.{Node}
@@ -37,7 +36,6 @@ use Rattle.owner_facts.specs.Given.FinishesEndings.{Finishing, EndingsTogether}
 use Rattle.owner_facts.specs.Given.FinishesMachines.{machine_of}
 use Rattle.owner_facts.specs.Given.FinishesMakings.{Beginning}
 use Rattle.owner_facts.specs.Given.FinishesMaps.{Standing}
-use Rattle.many_acts.specs.Looks.Blocks.{LooksAt}
 use Rattle.many_acts.specs.Looks.Looks.{IsAtRow}
 use Rattle.many_acts.specs.Looks.Sees.{HasSeen, Continues, IsOwnOf, StepsSeeWhatLasts}
 use Rattle.many_acts.proofs.Looks.Lookups.{within, map}
@@ -47,11 +45,6 @@ use Rattle.many_acts.proofs.Looks.Sees.Own.{IsOn}
 use Rattle.many_acts.proofs.Looks.Sees.Plans.{seen_as}
 use Rattle.many_acts.proofs.Looks.Sees.Rooms.{reserve_sees, left_reserve_sees, sweep_sees}
 use Rattle.many_acts.proofs.Looks.Sees.Tables.{sum_sees_none}
-
--- what was seen was looked at
-pub seen_looks : {T R : Type 0} (b : ℕ) (m : Mem T) (plan : Plan T R) (n : Mem T) (end : R) → HasSeen b m plan n end → LooksAt b m plan
-seen_looks b m (Turn rest) n end saw = let is = saw.0 in subst (λ (x : Mem _). LooksAt b x (Turn rest)) is saw.2
-seen_looks b m (Do op rest) n end (out, took, ends, sees) = inr (out, n, took, sees)
 
 -- a call on a key goes on as is told
 goes_on : {K V : Type 0} (end : Called (Node K V)) → IsOn end → Continues (of_called end)
