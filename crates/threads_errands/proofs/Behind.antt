@@ -110,7 +110,7 @@ module _ {K V S : Type 0} where
 
   pub works_still : (hasher : S) (machine next : Machine K V K) (v w : View K V S) → Works hasher machine v → StaysThere v w → w.work ≡ Calls next → Works hasher next w
   works_still hasher machine next v w at stays works =
-      record { map = at.map; knows = stays.map ∙ at.knows; hashes = at.hashes; incremental = at.incremental; works = works }
+      record { map = at.map; knows = stays.map ∙ at.knows; hashes = at.hashes; works = works }
 
 module _ {K V S : Type 0} (same : K → K → Bool) (hash : S → K → ℕ) (hasher : S) where
   -- the plan of its machine is that of its call

@@ -33,6 +33,7 @@ use Rattle.owner_facts.specs.Given.PointsSteps.{AreLawful, first_reply}
 use Rattle.owner_facts.specs.Given.CallersAsked.{replies_before}
 use Rattle.owner_facts.specs.Given.CallersKind.{gets, removes, inserts, tries_to_insert, computes, updates, updates_or_inserts, tries_to_insert_with, removes_if}
 use Rattle.owner_facts.specs.Given.CallersPairs.{Given, Begun, IsTold}
+use Rattle.run_shows.specs.Given.TablesChunks.{is_incremental}
 use Rattle.owner_facts.specs.Given.CallersTogether.{UnderWay, OnKey, ForRoom, Counting, OverAll, FewWith, IsBegun}
 use Rattle.owner_facts.specs.Given.CallersTogether as begins
 use Rattle.owner_facts.specs.Given.FinishesEndings.{EndingsTogether}

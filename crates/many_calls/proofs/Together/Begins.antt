@@ -2,6 +2,7 @@
 use Rattle.many_calls.specs.Asked.{last_reply, replies_before}
 use Rattle.many_calls.specs.Kind.{gets, removes, inserts, tries_to_insert, computes, updates, updates_or_inserts, tries_to_insert_with, removes_if}
 use Rattle.many_calls.specs.Pairs.{Given, Begun, IsTold, RemovesNone, KeepsGiven}
+use Rattle.map_facts_late.specs.Given.TablesChunks.{is_incremental}
 use Rattle.map_facts_late.specs.Given.RawDeclared.machines.asking.MachineReply.TheVariants as reply
 use Rattle.map_facts_late.specs.Given.RawDeclared.machines.asking.Told.TheVariants as tells
 use Rattle.many_calls.proofs.Asked.Begins.{begun_told}

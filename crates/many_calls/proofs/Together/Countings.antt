@@ -1,6 +1,6 @@
 -- A counting of the pairs among the calls on its map: it begins, and takes its steps, each of which changes nothing.
 use Rattle.std.specs.Prelude.{◌≡◌, ◌≢◌, ◌⊎◌, ℕ, Option, Some, None, Bool}
-use Rattle.std.proofs.Common.{refl, arith, ◌≤◌}
+use Rattle.std.proofs.Common.{refl, arith, inl, inr, ◌≤◌}
 use Rattle.seize_model.specs.Given.SeizeWordsDeclared.fault.Fault.{Fault}
 use Rattle.seize_model.specs.Given.SeizeWorld.{World, Rests, with_at}
 use Rattle.seize_model.specs.Given.SeizeDeclared.advance.Advance.{Advance}

@@ -66,6 +66,6 @@ module _ {K V Q : Type 0} where
     -- who may write after a step was no lookup before it
     pub wrote_before : (after : CallOnKey K V Q) → after.call ≡ end.0 → (v : UnderWay K V Q) → next_of after end.1 ≡ Some v → MayWrite v → IsNoLookup p.stands
     wrote_before after same_call v is writes = elim no_lookup_or_on as (λ _. IsNoLookup p.stands) [
-      | inl no ↦ no
+      | inl other ↦ other
       | inr looks ↦ absurd (on_looking end looks after same_call v is writes)
     ]

@@ -36,7 +36,7 @@ use Rattle.run_finds.specs.Given.RawDeclared.machines.machine.Machine.{Machine}
 use Rattle.run_finds.specs.Given.RawDeclared.machines.progress.Progress.{Progress as CallProgress}
 use Rattle.run_finds.specs.Given.TellerTells.{StepsObserved}
 use Rattle.run_kept.specs.Given.EffectsDeclared.changed.Changed.TheVariants.{Nothing as NoChange}
-use Rattle.many_acts.specs.Given.CallersTogether.{Closes, Counting, ForRoom, OnKey, OverAll, UnderWay, UnlessCounts}
+use Rattle.many_acts.specs.Given.CallersTogether.{Closes, Counting, MayWrite, ForRoom, OnKey, OverAll, UnderWay, UnlessCounts}
 use Rattle.many_acts.specs.Given.FinishesEndings.{EndingsTogether, Finishing, MakingStepsWithEndings, StepsOfEnding}
 use Rattle.many_acts.specs.Given.FinishesMachines.{machine_of}
 use Rattle.many_acts.specs.Given.FinishesMakings.{Beginning}
@@ -75,7 +75,7 @@ use Rattle.many_acts.specs.Given.ScenesDeclared.row.SlotRow.{SlotRow}
 use Rattle.many_acts.specs.Given.ScenesDeclared.row.SlotRow.TheVariants as rows
 use Rattle.many_acts.specs.Given.ScenesScene.{Scene, row_of, slot_of}
 use Rattle.run_finds.proofs.Given.ExecutingOnSlotBegun.{of_slots as slots_alone}
-use Rattle.run_finds.proofs.Given.General.{none_mapped as none_of}
+use Rattle.run_finds.proofs.Given.General.{same_some, none_mapped as none_of}
 
 -- the memory after a step of a row
 registers_memory : {T : Type 0} (w : World T) (i : ℕ) (c : Register) (m : Mem T) (end : Register × Advance ℕ) → (world.registers_on w i c m end).memory ≡ m

@@ -22,7 +22,7 @@ use Rattle.many_acts.specs.Given.ScenesDeclared.row.SlotUse.TheVariants as used
 use Rattle.run_finds.specs.Given.ExecutorDeclared.executor.Executor.{Executor}
 use Rattle.run_finds.specs.Given.ExecutorDeclared.worker.Work.{Work}
 use Rattle.run_finds.specs.Given.ExecutorIsThere.{HasRow, IsThere, IsUsedAs, call_in, ending_in, making_in, use_at, work_of}
-use Rattle.many_acts.specs.Acts.Acts.{UnlessToCount, Wanted, Get, Remove, Insert, TryToInsert, Compute, Update, UpdateOrInsert, TryToInsertWith, RemoveIf, GetKeyValue, ContainsKey, GetOrInsert, GetOrInsertWith, RemoveEntry, MakeRoom, Count, GoOver}
+use Rattle.many_acts.specs.Acts.Acts.{UnlessToCount, begun, Wanted, Get, Remove, Insert, TryToInsert, Compute, Update, UpdateOrInsert, TryToInsertWith, RemoveIf, GetKeyValue, ContainsKey, GetOrInsert, GetOrInsertWith, RemoveEntry, MakeRoom, Count, GoOver}
 use Rattle.many_acts.specs.Acts.Leads.{AllStand, AreFewWith, IsFree}
 use Rattle.run_finds.proofs.Given.General.{none_mapped as none_of}
 use Rattle.seize_acts.proofs.Acts.Reclaimed.Whole.{taken_so}

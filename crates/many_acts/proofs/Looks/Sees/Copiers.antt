@@ -228,7 +228,7 @@ module _ {K V : Type 0} (same : K → K → Bool) (hash : K → ℕ) (fits : (k 
     by_left began at.Asks point none saw = asks saw
     by_left began at.Sees point none saw = sees saw
     by_left began at.Claims point none saw = claim saw
-    by_left began at.Marks (u, t, copies, less, most) none saw = mark u copies.0.source (omega (arith, less, most)) saw
+    by_left began at.Marks (u, t, copies, range) none saw = mark u copies.0.source (let less = range.0 in let most = range.1 in omega (arith, less, most)) saw
     by_left began (at.Probes word code table probed) point none saw = probe word code table probed saw
     by_left began (at.Puts word code table probed) point none saw = put word code table probed saw
     by_left began at.Counts point none saw = count saw

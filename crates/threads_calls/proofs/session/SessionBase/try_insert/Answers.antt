@@ -13,7 +13,7 @@ does-ran-requires g c =
     let x = c.args.self.now in record {
       may =
           may_try g.K.PartialEq.eq g.S.Hashes.hash x.caller.seat.view x.setting c.setting_in-setting.result x.hasher.now c.args.key c.hash_of-hash.result x.slot c.try_insert-call.result
-          x.caller.lone c.requires.inside x.free x.knows x.incremental c.setting_in-setting.ensures c.hash_of-hash.ensures c.hash_of-hash.type_inv c.args.value c.try_insert-call.ensures;
+          x.caller.lone c.requires.inside x.free x.knows c.setting_in-setting.ensures c.hash_of-hash.ensures c.hash_of-hash.type_inv c.args.value c.try_insert-call.ensures;
     }
 
 pub returns-in-Ok-clause-tried : goal.returns-in-Ok-clause-tried

@@ -8,7 +8,7 @@ use Rattle.threads_steps.proofs.Sinces.{hands_it}
 use Rattle.threads_steps.proofs.within.Within.begins_to_store.Goals as goal
 
 pub begins-requires : goal.begins-requires
-begins-requires g c = let m = c.requires.may.may in record { inside = (m.slot, m.inside); knows = (m.map, m.knows, m.incremental); free = m.free }
+begins-requires g c = let m = c.requires.may.may in record { inside = (m.slot, m.inside); knows = (m.map, m.knows, m.only); free = m.free }
 
 pub calls-told-requires : goal.calls-told-requires
 calls-told-requires g c =
