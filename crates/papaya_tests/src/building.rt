@@ -1,5 +1,5 @@
 //! How sets are built, and why one is refused: the first reason that there is.
-use papaya::{Collector, Fault, HashSet, IdSource};
+use papaya::{Collector, Fault, HashSet, IdSource, ResizeMode};
 use std::alloc::{AllocError, Global};
 use std::hash::{BuildHasherDefault, DefaultHasher, RandomState};
 use std::sync::Wait;
@@ -19,7 +19,8 @@ type Set = HashSet<u64, Hashing>;
 fn reasons(alloc: Global, hasher: RandomState, other: RandomState) -> [bool; 6] {
     let mut ids = IdSource::starting_at(LAST);
     let builder = Set::builder(Hashing::default());
-    let zero = builder.chunk(0).capacity(TOO_MANY).build(alloc, &mut ids);
+    let builder = builder.resize_mode(ResizeMode::Incremental(0));
+    let zero = builder.capacity(TOO_MANY).build(alloc, &mut ids);
     let many = Set::with_capacity_and_hasher(alloc, &mut ids, TOO_MANY, Hashing::default());
     let still = Set::with_capacity_and_hasher(alloc, &mut ids, 100, Hashing::default());
     let none = Set::builder(Hashing::default()).build(alloc, &mut ids);
@@ -44,9 +45,9 @@ fn the_first_reason_refuses_a_set(rt: HostRuntime) -> Result<(), Fail> {
 
 /// How a builder is shown.
 fn is_shown(alloc: Global) -> Result<bool, AllocError> {
-    let set = Set::builder(Hashing::default()).chunk(8);
+    let set = Set::builder(Hashing::default()).resize_mode(ResizeMode::Blocking);
     let set = format!(in alloc; "{set:?}")?;
-    Ok(set.as_str() == "HashMapBuilder { capacity: 0, collector: None, chunk: 8 }")
+    Ok(set.as_str() == "HashMapBuilder { capacity: 0, collector: None, resize_mode: Blocking }")
 }
 
 #[test]
@@ -63,7 +64,7 @@ fn built_set<R: Wait>(rt: &R, alloc: Global, hasher: RandomState) -> Result<bool
         .hasher(Hashing::default())
         .collector(collector)
         .shards(2)
-        .chunk(1)
+        .resize_mode(ResizeMode::Blocking)
         .capacity(10)
         .build(alloc, &mut ids)?;
     let mut session = set.session()?;

@@ -3,6 +3,7 @@
 
 mod session;
 
+pub use map_tables::ResizeMode;
 pub use seize_views::Fixed;
 pub use session::{Attempt, Found, SessionBase};
 pub use threads_callers::{Halt, MapPassSeat, OfMaps, Within, memory_for, newcomer};

@@ -9,7 +9,7 @@ use Rattle.many_calls.proofs.Asked.Begins.{begun_told}
 use Rattle.many_calls.proofs.Once.Stays.{begun_once}
 use Rattle.map_facts_late.specs.Given.RawDeclared.machines.asking.Takes.TheVariants as takes
 use Rattle.std.specs.Prelude.{◌≤◌, ◌≡◌, ℕ, Bool, [], Option, Some, None}
-use Rattle.std.proofs.Common.{refl, arith, inl}
+use Rattle.std.proofs.Common.{false, refl, arith, inl}
 use Rattle.seize_model.specs.Given.SeizeWorld.{World, with_at}
 use Rattle.many_calls.specs.Claims.{IsToClaim}
 use Rattle.many_calls.specs.Together.{OnKey, UnderWay, in_slot, Together, IsBegun, Gets, Removes, Inserts, TriesToInsert, Computes, Updates, UpdatesOrInserts, TriesToInsertWith, RemovesIf, begun_at, BeginsTogether}

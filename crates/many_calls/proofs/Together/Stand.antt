@@ -23,7 +23,7 @@ use Rattle.map_facts_late.specs.Given.RawDeclared.machines.answer.KeyAnswer.TheV
 use Rattle.seize_model.specs.Given.SeizeWordsDeclared.fault.Fault.{Fault}
 use Rattle.map_facts_late.proofs.Values.Never.{never_asks_on}
 use Rattle.std.specs.Prelude.{suc, ◌≡◌, ℕ, Bool, false, Option, Some}
-use Rattle.std.proofs.Common.{◌∙◌, arith, sym, subst, inl, inr}
+use Rattle.std.proofs.Common.{refl, ◌∙◌, arith, sym, subst, inl, inr}
 use Rattle.seize_model.specs.Given.SeizeWordsMem.{Mem, Can, Took, value_at}
 use Rattle.seize_model.specs.Given.SeizeWordsPlan.{May, Steps}
 use Rattle.seize_model.specs.Given.SeizeWorld.{World, Rests, IsInside, with_at}

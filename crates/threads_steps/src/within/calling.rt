@@ -1,5 +1,5 @@
 //! A seat on an errand runs a call, whichever it is.
-ghost use Rattle.std.specs.Prelude.{◌≡◌, ℕ, true, false, Some, IfNone, IfOk, IfSome};
+ghost use Rattle.std.specs.Prelude.{◌≡◌, ℕ, false, Some, IfNone, IfOk, IfSome};
 ghost use Rattle.threads_rule.specs.Errands.Calling.{CalledSo, HasCalled, HasEnded, IsAnswerBy, IsBack, IsCalling, IsGoing, IsNoQuestion, MayCall, MayStep, StepsTo, handed_by, outcome_of, sort_of, wanted_of};
 ghost use Rattle.threads_rule.specs.Errands.Looking.{Begins, StaysThere};
 ghost use Rattle.threads_steps.specs.Made.{IsSameSeat};
@@ -7,7 +7,7 @@ ghost use Rattle.threads_steps.specs.Steps.{HasStepped};
 ghost use Rattle.threads_steps.specs.Storing.{Since};
 ghost use Rattle.map_tables.specs.declared.node.Node.{Node};
 ghost use Rattle.threads_rule.specs.Views.Told.{pair_in};
-ghost use Rattle.threads_rule.specs.Views.Rule.{section_of};
+ghost use Rattle.threads_rule.specs.Views.Rule.{MayWant, section_of};
 ghost use Rattle.threads_rule.specs.declared.view.Map.{Map};
 ghost use Rattle.threads_rule.specs.declared.view.SeatWork.TheVariants.{Nothing as NoWork};
 

@@ -233,7 +233,7 @@ module _ {K V : Type 0} (same : K → K → Bool) (hash : K → ℕ) (fits : (k 
     by_left began (at.Puts word code table probed) point none saw = put word code table probed saw
     by_left began at.Counts point none saw = count saw
     by_left began at.Aborts point none saw = absurd saw.3
-    by_left began at.Replaces (u, t, copies, aborted) none saw = replace t copies.target saw
+    by_left began at.Replaces (u, t, copies) none saw = replace t copies.0.target saw
     by_left began (at.Remakes making) (u, t, copies, facts) none saw = remake t making facts saw
     by_left began at.Promotes point none saw = promote saw
     by_left began at.Announces point none saw = absurd saw.3
