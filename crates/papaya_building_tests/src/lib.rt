@@ -1,5 +1,11 @@
-//! Tests of builders of a hash map that threads share.
+//! Tests of how maps that threads share begin: their builders, their first sessions, and threads that meet there, also within closures.
 #![tactic(auto)]
 
 #[cfg(test)]
+mod asking;
+#[cfg(test)]
 mod building;
+#[cfg(test)]
+mod meeting;
+#[cfg(test)]
+mod opening;

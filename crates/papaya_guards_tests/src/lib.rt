@@ -1,8 +1,6 @@
-//! Tests of what stands beside sessions and their calls on one key: passes under a guard that is lent, guards of another map, and calls that ask.
+//! Tests of what stands beside sessions and their calls on one key: passes under a guard that is lent, and guards of another map.
 #![tactic(auto)]
 
-#[cfg(test)]
-mod asking;
 #[cfg(test)]
 mod foreign;
 #[cfg(test)]

@@ -1,4 +1,4 @@
-//! Tests of a hash map that threads share. Two bodies were tried once that they are to find.
+//! Tests of calls on one key of a hash map that threads share. Two bodies were tried once that these, and those of how maps begin, are to find.
 //!
 //! A `get` that answers the opening state, so that nothing is there: `what_a_session_has_put_there_stays_once_it_has_ended`, `threads_begin_sessions_of_their_own` and
 //! `a_key_that_two_threads_store_is_replaced_once` fail.
@@ -10,10 +10,8 @@
 #[cfg(test)]
 mod counting;
 #[cfg(test)]
-mod meeting;
-#[cfg(test)]
-mod opening;
-#[cfg(test)]
 mod removing;
 #[cfg(test)]
 mod storing;
+#[cfg(test)]
+mod updating;

@@ -1,6 +1,6 @@
 //! How sets are built, and why one is refused: the first reason that there is.
 use papaya::{Collector, Fault, HashSet, IdSource, ResizeMode};
-use std::alloc::{AllocError, Global};
+use std::alloc::Global;
 use std::hash::{BuildHasherDefault, DefaultHasher, RandomState};
 use std::sync::Wait;
 use std::test::Fail;
@@ -43,22 +43,13 @@ fn the_first_reason_refuses_a_set(rt: HostRuntime) -> Result<(), Fail> {
     Ok(())
 }
 
-/// How a builder is shown.
-fn is_shown(alloc: Global) -> Result<bool, AllocError> {
-    let set = Set::builder(Hashing::default()).resize_mode(ResizeMode::Blocking);
-    let set = format!(in alloc; "{set:?}")?;
-    Ok(set.as_str() == "HashMapBuilder { capacity: 0, collector: None, resize_mode: Blocking }")
-}
-
-#[test]
-fn a_builder_shows_what_was_chosen(rt: HostRuntime) -> Result<(), Fail> {
-    assert!(rt; is_shown(rt.alloc())?);
-    Ok(())
-}
-
-/// A set that was built with all that can be chosen holds what is put there.
+/// A builder is shown as its map's, and a set that was built with all that can be chosen holds what is put there.
 fn built_set<R: Wait>(rt: &R, alloc: Global, hasher: RandomState) -> Result<bool, Fault> {
     let mut ids = IdSource::new();
+    let builder = Set::builder(Hashing::default()).resize_mode(ResizeMode::Blocking);
+    let shown = format!(in alloc; "{builder:?}")?;
+    let is_so =
+        shown.as_str() == "HashMapBuilder { capacity: 0, collector: None, resize_mode: Blocking }";
     let collector = Collector::new(&mut ids, 1, 4)?.batch_size(1);
     let set = HashSet::builder(hasher)
         .hasher(Hashing::default())
@@ -68,12 +59,11 @@ fn built_set<R: Wait>(rt: &R, alloc: Global, hasher: RandomState) -> Result<bool
         .capacity(10)
         .build(alloc, &mut ids)?;
     let mut session = set.session()?;
-    Ok(session.insert(rt, 7u64)? && session.contains(rt, &7))
+    Ok(is_so && session.insert(rt, 7u64)? && session.contains(rt, &7))
 }
 
 #[test]
-fn a_set_that_was_built_holds_keys(rt: HostRuntime) -> Result<(), Fail> {
-    let held = built_set(&rt, rt.alloc(), RandomState::new(&rt)?);
-    assert!(rt; held?);
+fn builders_are_shown_and_built_sets_hold_keys(rt: HostRuntime) -> Result<(), Fail> {
+    assert!(rt; built_set(&rt, rt.alloc(), RandomState::new(&rt)?)?);
     Ok(())
 }

@@ -6,8 +6,7 @@ use std::alloc::Global;
 use std::hash::{BuildHasherDefault, DefaultHasher};
 use std::sync::Wait;
 use std::test::Fail;
-use std::thread;
-use std::thread::Threads;
+use std::thread::{self, Threads};
 use std::time::{Clock, Duration};
 
 /// How many keys there are.
@@ -74,8 +73,7 @@ fn works_twice<R: Threads + Wait + Sync>(rt: &R, alloc: Global) -> Result<(u64, 
     let (one, other) = (one?, other?);
     let new = u64::wrapping_add(one.0, other.0);
     let taken = u64::wrapping_add(one.1, other.1);
-    let mut session = set.session()?;
-    Ok((new, taken, session.len()))
+    Ok((new, taken, set.session()?.len()))
 }
 
 // Each key that was new was taken out once, whoever was faster. A body that served one thread after the other would pass, too.

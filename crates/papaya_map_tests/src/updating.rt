@@ -1,7 +1,7 @@
 //! Two threads count keys up, each by what it finds there, and a key is computed by what is there.
-use crate::whole::{Hashing, Own};
-use papaya_map::{ComputedPair, Fault, HashMap, IdSource, Operation};
+use papaya_map::{ComputedPair, Fault, HashMap, IdSource, Operation, Session};
 use std::alloc::Global;
+use std::hash::{BuildHasherDefault, DefaultHasher};
 use std::sync::Wait;
 use std::test::Fail;
 use std::thread;
@@ -9,6 +9,10 @@ use std::thread::Threads;
 
 /// How often each of them adds one.
 const EACH: u64 = 2_000;
+
+type Hashing = BuildHasherDefault<DefaultHasher>;
+
+type Own<'m> = Session<'m, u64, u64, Hashing>;
 
 /// One more than a count.
 fn more(count: &u64) -> u64 {
