@@ -52,7 +52,10 @@ fn the_first_reason_refuses_a_map(rt: HostRuntime) -> Result<(), Fail> {
 fn is_shown(alloc: Global) -> Result<bool, AllocError> {
     let map = Map::builder(Hashing::default()).capacity(10);
     let map = format!(in alloc; "{map:?}")?;
-    Ok(map.as_str() == "HashMapBuilder { capacity: 10, collector: None, resize_mode: Incremental(64) }")
+    Ok(
+        map.as_str()
+            == "HashMapBuilder { capacity: 10, collector: None, resize_mode: Incremental(64) }",
+    )
 }
 
 #[test]

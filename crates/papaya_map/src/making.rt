@@ -155,7 +155,7 @@ impl<K: Eq + Hash + Drop, V: Drop, S: BuildHasher + Drop> HashMap<K, V, S> {
         hasher: S,
         making: Making,
     ) -> Result<Self, Fault>
-            requires processors { making.processors ≤ 2 ^ 63 }
+        requires processors { making.processors ≤ 2 ^ 63 }
         ensures collector { IfOk result (λ map. map.collector ≡ collector) }
         ensures batches { IfOk result (λ map. map.setting.batch_size ≡ collector.batch_size) }
         ensures hasher { IfOk result (λ map. map.hasher ≡ hasher) }

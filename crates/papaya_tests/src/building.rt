@@ -48,8 +48,8 @@ fn built_set<R: Wait>(rt: &R, alloc: Global, hasher: RandomState) -> Result<bool
     let mut ids = IdSource::new();
     let builder = Set::builder(Hashing::default()).resize_mode(ResizeMode::Blocking);
     let shown = format!(in alloc; "{builder:?}")?;
-    let is_so =
-        shown.as_str() == "HashMapBuilder { capacity: 0, collector: None, resize_mode: Blocking }";
+    let is_so = shown.as_str()
+        == "HashMapBuilder { capacity: 0, collector: None, resize_mode: Blocking }";
     let collector = Collector::new(&mut ids, 1, 4)?.batch_size(1);
     let set = HashSet::builder(hasher)
         .hasher(Hashing::default())

@@ -1,6 +1,6 @@
 -- A session may look a key up in the map that it knows, and begin a call on one key, or on the whole map.
 use Rattle.std.specs.Prelude.{Some, None}
-use Rattle.std.proofs.Common.{◌≡◌, ℕ, Bool, true, sym, ap, ◌∙◌}
+use Rattle.std.proofs.Common.{◌≡◌, ℕ, Bool, sym, ap, ◌∙◌}
 use Rattle.map_tables.specs.declared.setting.Setting.{Setting}
 use Rattle.map_machines.specs.Lookup.{looking}
 use Rattle.map_machines.specs.declared.lookup.Lookup.{Lookup}
@@ -17,6 +17,7 @@ use Rattle.threads_callers.specs.Given.ViewsBegun.{machine_for}
 use Rattle.threads_callers.specs.Given.ErrandsCalling.{MayDo, wanted_of}
 use Rattle.threads_callers.specs.Given.ErrandsLooking.{MayLook}
 use Rattle.threads_callers.specs.Standing.{known_by}
+use Rattle.threads_callers.proofs.Given.ErrandsBeginnings.{may_alone}
 use Rattle.threads_callers.proofs.Known.{known}
 use Rattle.threads_callers.proofs.Rows.{section_own}
 
@@ -52,7 +53,7 @@ module _ {K V S : Type 0} (same : K → K → Bool) (hash : S → K → ℕ) (wa
         inside = section_own v t lone inside;
         knows = m.1;
         hashes = ap (λ (p : Setting × S). p.1) m.2;
-        only = λ t. subst (λ (u : Option (ℕ × ℕ)). LooksAside u (Some m.0) (Calls (machine_for same hash m.0 t (wanted_of (Key call))))) (sym lone) tt;
+        only = may_alone same hash v.under m.0 (wanted_of (Key call)) lone;
         free = free;
         begins = ap (λ (c : KeyCall K V K). Key c) call_is ∙ sym (machine m.0 t) ∙ ap (machine_for same hash m.0 t) (sym wanted_is);
       }
@@ -72,7 +73,7 @@ module _ {K V S : Type 0} (same : K → K → Bool) (hash : S → K → ℕ) (wa
         inside = section_own v t lone inside;
         knows = m.1;
         hashes = ap (λ (p : Setting × S). p.1) m.2;
-        only = λ t. subst (λ (u : Option (ℕ × ℕ)). LooksAside u (Some m.0) (Calls (machine_for same hash m.0 t (wanted_of machine)))) (sym lone) tt;
+        only = may_alone same hash v.under m.0 (wanted_of machine) lone;
         free = free;
         begins = its_machine ∙ sym (machine_is m.0 t) ∙ ap (machine_for same hash m.0 t) (sym wanted_is);
       }

@@ -12,7 +12,7 @@ use Rattle.std.specs.Prelude.{◌≤◌, ◌≡◌, ℕ, Bool, [], Option, Some,
 use Rattle.std.proofs.Common.{false, refl, arith, inl}
 use Rattle.seize_model.specs.Given.SeizeWorld.{World, with_at}
 use Rattle.many_calls.specs.Claims.{IsToClaim}
-use Rattle.many_calls.specs.Together.{OnKey, UnderWay, in_slot, Together, IsBegun, Gets, Removes, Inserts, TriesToInsert, Computes, Updates, UpdatesOrInserts, TriesToInsertWith, RemovesIf, begun_at, BeginsTogether}
+use Rattle.many_calls.specs.Together.{OnKey, FewWith, UnderWay, in_slot, Together, IsBegun, Gets, Removes, Inserts, TriesToInsert, Computes, Updates, UpdatesOrInserts, TriesToInsertWith, RemovesIf, begun_at, BeginsTogether}
 use Rattle.map_facts_late.specs.Given.TablesDeclared.node.Node.{Node}
 use Rattle.map_facts_late.specs.Given.TablesDeclared.node.Node.TheVariants as node
 use Rattle.map_facts_late.specs.Given.TablesDeclared.setting.Setting.{Setting}

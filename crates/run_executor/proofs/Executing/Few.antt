@@ -1,5 +1,5 @@
 -- Callers that have calls that may write are few: each has a place of its own.
-use Rattle.std.specs.Prelude.{◌≡◌, ◌≢◌, ◌<◌, ◌≤◌, ◌^◌, ◌⊎◌, ℕ, suc, length, None, slice_index_or}
+use Rattle.std.specs.Prelude.{◌≡◌, ◌≢◌, ◌<◌, ◌≤◌, ◌^◌, ◌⊎◌, ℕ, suc, Bool, length, None, slice_index_or}
 use Rattle.std.proofs.Common.{sym, ap, ◌∙◌, inl, inr, arith}
 use Rattle.run_places.specs.Given.CallersClaims.{AreFew}
 use Rattle.run_places.specs.Given.CallersTogether as callers

@@ -31,6 +31,15 @@ use Rattle.threads_rule.specs.Errands.Looking.{Begins, IsOn, LooksFor, MayLook, 
 use Rattle.threads_rule.specs.Errands.Making.{BeginsMaking, HasOutcome, MayBegin, PlansJust}
 use Rattle.seize_words.proofs.General.{same_some}
 
+module _ {K V S : Type 0} (same : K → K → Bool) (hash : S → K → ℕ) where
+  -- who leans on another seat may look keys up, and who leans on none may begin anything
+  pub may_look_aside : (under : Option (ℕ × ℕ)) (map : Map S) (key : K) → MayWant {V = V} same hash under map (Get key)
+  may_look_aside None map key t = tt
+  may_look_aside (Some leant) map key t = λ blocking writes. writes
+
+  pub may_alone : (under : Option (ℕ × ℕ)) (map : Map S) (wanted : Wanted K V) → under ≡ None → MayWant same hash under map wanted
+  may_alone under map wanted lone t = subst (λ (u : Option (ℕ × ℕ)). LooksAside u (Some map) (Calls (machine_for same hash map t wanted))) (sym lone) tt
+
 module _ {K V S : Type 0} (same : K → K → Bool) (hash : S → K → ℕ) (fixed : Fixed) (id : ℕ) (v : View K V S) where
   -- who may come to know one thing may come to know what that is of
   turns_to : (so other : View K V S → Type 0) → ((w : View K V S) → so w → other w) → Turns (Holds same hash fixed) KeepsFor id v so → Turns (Holds same hash fixed) KeepsFor id v other
@@ -40,14 +49,6 @@ module _ {K V S : Type 0} (same : K → K → Bool) (hash : S → K → ℕ) (fi
       → Turns (Holds same hash fixed) KeepsFor id v (Begins same hash wanted v)
   may_begin t map wanted inside knows only free =
       turns_to _ (Begins same hash wanted v) (λ w e. (map, t, knows, inside, e)) (calls_begin V same hash fixed id t v map wanted inside knows free (only t))
-
-  -- whoever leans on another seat may look keys up, and who leans on none anything
-  pub may_look_aside : (under : Option (ℕ × ℕ)) (map : Map S) (key : K) → MayWant same hash under map (Get key)
-  may_look_aside None map key t = tt
-  may_look_aside (Some leant) map key t = λ blocking writes. writes
-
-  pub may_alone : (map : Map S) (wanted : Wanted K V) → v.under ≡ None → MayWant same hash v.under map wanted
-  may_alone map wanted lone t = subst (λ (u : Option (ℕ × ℕ)). LooksAside u (Some map) (Calls (machine_for same hash map t wanted))) (sym lone) tt
 
   -- a table of eight places is one
   eight : max 0 8 ≤ 2 ^ 48 → IsTableLen (max 0 8)
