@@ -1,6 +1,6 @@
 -- A session may store a pair, store one where its key is missing, and remove one: calls on one key that ask nothing.
 use Rattle.std.specs.Prelude.{◌<◌, ◌^◌, Option, Result, Ok, Some, None}
-use Rattle.std.proofs.Common.{◌≡◌, ℕ, Bool, true, inr, refl, sym, subst, ◌∙◌}
+use Rattle.std.proofs.Common.{◌≡◌, ℕ, Bool, inr, refl, sym, subst, ◌∙◌}
 use Rattle.seize_words.specs.declared.fault.Fault.{Fault}
 use Rattle.map_tables.specs.declared.node.Node.{Node}
 use Rattle.map_tables.specs.declared.node.Node.TheVariants.{Pair}

@@ -1,6 +1,6 @@
 -- A session may count the pairs of its map, make room there, and remove all pairs: calls on the whole map that ask nothing.
 use Rattle.std.specs.Prelude.{Option, Result, Ok, Err, Some, None, IfOk}
-use Rattle.std.proofs.Common.{◌≡◌, ℕ, Bool, true, refl, sym, subst, ap, ◌∙◌}
+use Rattle.std.proofs.Common.{◌≡◌, ℕ, Bool, refl, sym, subst, ap, ◌∙◌}
 use Rattle.seize_words.specs.declared.fault.Fault.{Fault}
 use Rattle.map_tables.specs.declared.node.Node.{Node}
 use Rattle.map_tables.specs.declared.setting.Setting.{Setting}

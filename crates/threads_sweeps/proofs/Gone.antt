@@ -1,6 +1,6 @@
 -- A session that goes over the pairs of its map may begin to, and what its call has come to.
 use Rattle.std.specs.Prelude.{[], Some, None, Result}
-use Rattle.std.proofs.Common.{◌≡◌, ℕ, Bool, true, refl, subst, ap}
+use Rattle.std.proofs.Common.{◌≡◌, ℕ, Bool, refl, subst, ap}
 use Rattle.seize_words.specs.declared.fault.Fault.{Fault}
 use Rattle.map_tables.specs.declared.setting.Setting.{Setting}
 use Rattle.papaya_raw.specs.Given.ReservesDeclared.sweep.Purpose.{Purpose}
