@@ -173,17 +173,18 @@ module _ {K V S : Type 0} (same : K → K → Bool) (hash : S → K → ℕ) (s 
     low j true e = omega arith
     low j false e = omega arith
 
-    apart_by : (j k : ℕ) → Such j → Such k → j ≢ k → (x y : Bool) → (j == i) ≡ x → (k == i) ≡ y → (if x then 65536 else j % 65536) ≢ (if y then 65536 else k % 65536)
-    apart_by j k a b ne true true e f p = ne (eqb-true j i e ∙ sym (eqb-true k i f))
-    apart_by j k a b ne true false e f p = omega (arith, p)
-    apart_by j k a b ne false true e f p = omega (arith, p)
-    apart_by j k (inl a) b ne false false e f p = eqb-false j i e a
-    apart_by j k (inr a) (inl b) ne false false e f p = eqb-false k i f b
-    apart_by j k (inr a) (inr b) ne false false e f p = ne (holds_apart j k (writer_holds j a) (writer_holds k b) p)
+    apart_by : (j k : ℕ) (x y : Bool) → (j == i) ≡ x → (k == i) ≡ y → Such j → Such k → j ≢ k → (if x then 65536 else j % 65536) ≢ (if y then 65536 else k % 65536)
+    apart_by j k true true e f a b ne p = ne (eqb-true j i e ∙ sym (eqb-true k i f))
+    apart_by j k true false e f a b ne p = omega (arith, p)
+    apart_by j k false true e f a b ne p = omega (arith, p)
+    apart_by j k false false e f (inl a) b ne p = eqb-false j i e a
+    apart_by j k false false e f (inr a) (inl b) ne p = eqb-false k i f b
+    apart_by j k false false e f (inr a) (inr b) ne p = ne (holds_apart j k (writer_holds j a) (writer_holds k b) p)
 
     pub few_writers : AreFew Such
     few_writers callers different all =
         let fits : length callers ≤ 65537 = few_below place 65537 callers
-        (λ a b d l k. apart_by _ _ (all a d (omega (arith, l, k))) (all b d k) (different a b d l k) (slice_index_or callers a d == i) (slice_index_or callers b d == i) refl refl)
+        (λ a b d l k. apart_by (slice_index_or callers a d) (slice_index_or callers b d) (slice_index_or callers a d == i) (slice_index_or callers b d == i) refl refl (all a d (omega (arith, l, k)))
+        (all b d k) (different a b d l k))
         (λ k d l. low (slice_index_or callers k d) (slice_index_or callers k d == i) refl) in
         omega (arith, fits)
