@@ -11,11 +11,7 @@ use std::thread::Threads;
 const EACH: u64 = 400;
 
 /// How the map comes to its next tables.
-const MODES: [ResizeMode; 3] = [
-    ResizeMode::Incremental(64),
-    ResizeMode::Incremental(1),
-    ResizeMode::Blocking,
-];
+const MODES: [ResizeMode; 2] = [ResizeMode::Incremental(1), ResizeMode::Blocking];
 
 type Hashing = BuildHasherDefault<DefaultHasher>;
 
