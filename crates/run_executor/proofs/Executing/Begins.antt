@@ -50,11 +50,11 @@ module _ {K V S : Type 0} (same : K → K → Bool) (hash : K → ℕ) (e : Exec
     together (OnKey u) (begun, is) =
         subst (λ x. EndingsTogether V same same e.batch_size e.roots slot_of s.world s.maps (with_call s.calls m caller (Some (OnKey x))) s.makers s.enders) (sym is)
         (calls_begin_among V same same e.batch_size e.roots slot_of s.world s.maps s.calls s.makers s.enders at.held.together caller no_maker no_ender no_calls
-        (resting same hash e s at slot fits) inside m standing stands u.keys u.pair u.call begun (λ blocking. few_with_any (s.calls m) caller (OnKey _) (are_few same hash e s at m caller place_is few)))
+        (resting same hash e s at slot fits) inside m standing stands u.keys u.pair u.call begun (λ blocking. few_with_any (s.calls m) caller (OnKey u) (are_few same hash e s at m caller place_is few)))
     together (ForRoom r) (additional, is) =
         subst (λ x. EndingsTogether V same same e.batch_size e.roots slot_of s.world s.maps (with_call s.calls m caller (Some (ForRoom x))) s.makers s.enders) (sym is)
         (rooms_begin_among V same same e.batch_size e.roots slot_of s.world s.maps s.calls s.makers s.enders at.held.together caller no_maker no_ender no_calls
-        (resting same hash e s at slot fits) inside m standing stands additional (λ blocking. few_with_any (s.calls m) caller (ForRoom _) (are_few same hash e s at m caller place_is few)))
+        (resting same hash e s at slot fits) inside m standing stands additional (λ blocking. few_with_any (s.calls m) caller (ForRoom r) (are_few same hash e s at m caller place_is few)))
     together (Counting sum) is =
         subst (λ x. EndingsTogether V same same e.batch_size e.roots slot_of s.world s.maps (with_call s.calls m caller (Some (Counting x))) s.makers s.enders) (sym is)
         (countings_begin_among V same same e.batch_size e.roots slot_of s.world s.maps s.calls s.makers s.enders at.held.together caller no_maker no_ender no_calls
@@ -62,7 +62,7 @@ module _ {K V S : Type 0} (same : K → K → Bool) (hash : K → ℕ) (e : Exec
     together (OverAll o) (purpose, is) =
         subst (λ x. EndingsTogether V same same e.batch_size e.roots slot_of s.world s.maps (with_call s.calls m caller (Some (OverAll x))) s.makers s.enders) (sym is)
         (sweeps_begin_among V same same e.batch_size e.roots slot_of s.world s.maps s.calls s.makers s.enders at.held.together caller no_maker no_ender no_calls
-        (resting same hash e s at slot fits) inside m standing stands purpose (λ blocking. few_with_any (s.calls m) caller (OverAll _) (are_few same hash e s at m caller place_is few)))
+        (resting same hash e s at slot fits) inside m standing stands purpose (λ blocking. few_with_any (s.calls m) caller (OverAll o) (are_few same hash e s at m caller place_is few)))
 
   -- somebody is inside of a slot that is entered
   entered : use_at e (slot_of caller) ≡ used.Inside → IsInside (s.world.uses (slot_of caller))
