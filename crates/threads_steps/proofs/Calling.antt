@@ -1,6 +1,6 @@
 -- A step of a call of a seat: it may be taken, and the seat knows to what it has come.
-use Rattle.std.specs.Prelude.{Option, Some, if◌then◌else◌}
-use Rattle.std.proofs.Common.{◌≡◌, ℕ, Bool, true, false, ◌⊎◌, List, [], inl, inr, refl, sym, subst, ap, ◌∙◌}
+use Rattle.std.specs.Prelude.{Option, Some}
+use Rattle.std.proofs.Common.{◌≡◌, ℕ, Bool, true, false, ◌⊎◌, List, inl, inr, refl, sym, subst, ap, ◌∙◌}
 use Rattle.seize_words.specs.OneMemory.Op.{Op, Out}
 use Rattle.seize_words.specs.OneMemory.Plan.{Plan, Then, Turn, Do, Now, Seeing, Sure, Ends, MaySee, May, Steps}
 use Rattle.seize_blocks.specs.Given.SeizeSeatsState.{Turns}

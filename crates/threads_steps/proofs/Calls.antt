@@ -1,6 +1,6 @@
 -- A step of the call of a seat: its operation may be made, and what it has come to is known with what it looks at.
-use Rattle.std.specs.Prelude.{Some, if◌then◌else◌}
-use Rattle.std.proofs.Common.{◌≡◌, ℕ, Bool, [], ◌∙◌}
+use Rattle.std.specs.Prelude.{Some}
+use Rattle.std.proofs.Common.{◌≡◌, ℕ, Bool}
 use Rattle.seize_words.specs.OneMemory.Op.{Op, Out, Load, Store, Swap, Add, Or, Exchange, Make, Take, Rewrite, Room}
 use Rattle.seize_words.specs.OneMemory.Plan.{Plan}
 use Rattle.map_tables.specs.declared.node.Node.{Node}

@@ -1,6 +1,6 @@
 -- What a seat knows once its call has taken a step: what the answer of the operation told, or that the step made none.
-use Rattle.std.specs.Prelude.{Option, Some, if◌then◌else◌}
-use Rattle.std.proofs.Common.{◌≡◌, ℕ, Bool, List, [], sym, subst, ap, ◌∙◌}
+use Rattle.std.specs.Prelude.{Option, Some}
+use Rattle.std.proofs.Common.{◌≡◌, ℕ, Bool, List, sym, subst, ap}
 use Rattle.seize_words.specs.OneMemory.Op.{Op, Out}
 use Rattle.seize_words.specs.OneMemory.Plan.{Plan}
 use Rattle.map_tables.specs.declared.node.Node.{Node}

@@ -1,6 +1,6 @@
 -- A call that asks is told what to do: all calls stand together then, and it knows its next point.
 use Rattle.std.specs.Prelude.{List, Option, Some, None, Result, Ok, Err}
-use Rattle.std.proofs.Common.{◌≡◌, ◌≢◌, ℕ, Bool, true, false, ◌==◌, if◌then◌else◌, ◌⊎◌, inl, inr, refl, sym, subst, ◌∙◌}
+use Rattle.std.proofs.Common.{◌≡◌, ◌≢◌, ℕ, Bool, true, false, ◌==◌, if◌then◌else◌, ◌⊎◌, inl, inr, refl, sym, subst}
 use Rattle.seize_model.specs.Given.SeizeWordsMem.{Mem}
 use Rattle.seize_model.specs.Given.SeizeWorld.{World, Rests, with_at}
 use Rattle.map_facts_late.specs.Given.TablesDeclared.marks.TheConstants.{TOMBSTONE}

@@ -1,5 +1,5 @@
 -- Who has a call under way that may write, on a map in blocking mode, holds the slot in which it acts; so they are no more than there are slots.
-use Rattle.std.specs.Prelude.{◌≢◌, ◌^◌, ◌<◌, ◌≤◌, ◌==◌, length, slice_index_or, Option, Some, None, if◌then◌else◌}
+use Rattle.std.specs.Prelude.{◌≢◌, ◌<◌, ◌≤◌, ◌==◌, length, slice_index_or, Option, Some, None, if◌then◌else◌}
 use Rattle.std.proofs.Common.{◌≡◌, ℕ, ◌%◌, Bool, true, false, ◌⊎◌, inl, inr, refl, sym, subst, ap, arith, ◌∙◌, eqb-true}
 use Rattle.std.proofs.lemmas.Bool.{eqb-false}
 use Rattle.seize.specs.World.{Inside}
@@ -20,7 +20,6 @@ use Rattle.papaya_raw.specs.declared.machines.call.KeyCall.{KeyCall}
 use Rattle.papaya_raw.specs.declared.machines.machine.Machine.{Machine}
 use Rattle.papaya_raw.specs.declared.machines.machine.Machine.TheVariants as kinds
 use Rattle.papaya_raw.specs.declared.machines.progress.Progress.{Progress}
-use Rattle.papaya_raw.specs.declared.machines.progress.Progress.TheVariants as progress
 use Rattle.seize_words.specs.OneMemory.Mem.{Mem, Took, value_at}
 use Rattle.seize_words.specs.OneMemory.Plan.{Steps}
 use Rattle.many_acts.specs.Given.CallersClaims.{AreFew, IsNoLookup}

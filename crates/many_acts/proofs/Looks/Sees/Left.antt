@@ -1,6 +1,6 @@
 -- What a step of a call on one key has seen in a table that the root has left, in blocking mode: its section holds it, or it is the call's own pair.
-use Rattle.std.specs.Prelude.{◌/◌, ◌^◌, ◌<◌}
-use Rattle.std.proofs.Common.{◌≡◌, ℕ, Bool, inl}
+use Rattle.std.specs.Prelude.{◌^◌, ◌<◌}
+use Rattle.std.proofs.Common.{ℕ, Bool, inl}
 use Rattle.run_shows.specs.Given.SeizeWordsMem.{Mem}
 use Rattle.run_shows.specs.Given.SeizeWorld.{World}
 use Rattle.run_shows.specs.Given.TablesDeclared.node.Node.{Node}

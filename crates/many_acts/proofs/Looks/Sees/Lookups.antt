@@ -1,5 +1,5 @@
 -- A lookup has seen tables and pairs of its map, which its section holds.
-use Rattle.std.specs.Prelude.{◌==◌, ◌/◌, ◌^◌, ◌<◌, Option, Some, if◌then◌else◌}
+use Rattle.std.specs.Prelude.{◌/◌, ◌^◌, ◌<◌, Option, Some, if◌then◌else◌}
 use Rattle.std.proofs.Common.{◌≡◌, ℕ, suc, Bool, true, false, inl, inr, sym, subst, ap, ◌∙◌}
 use Rattle.run_shows.specs.Given.SeizeWordsDeclared.at.At.TheVariants.{Root}
 use Rattle.run_shows.specs.Given.SeizeWordsMem.{Mem, value_at, word_at}
