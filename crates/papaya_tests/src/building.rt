@@ -8,16 +8,13 @@ use std::test::Fail;
 /// A capacity that no table has the places for.
 const TOO_MANY: u64 = 2_305_843_009_213_693_951;
 
-/// A source that begins here gives one number more, and none then.
-const LAST: u64 = 18_446_744_073_709_551_614;
-
 type Hashing = BuildHasherDefault<DefaultHasher>;
 
 type Set = HashSet<u64, Hashing>;
 
 /// Whether each reason comes before those that follow it, and whether a source of one number still has that afterwards.
 fn reasons(alloc: Global, hasher: RandomState, other: RandomState) -> [bool; 6] {
-    let mut ids = IdSource::starting_at(LAST);
+    let mut ids = IdSource::starting_at(u64::MAX - 1);
     let builder = Set::builder(Hashing::default()).resize_mode(ResizeMode::Incremental(0));
     let zero = builder.capacity(TOO_MANY).build(alloc, &mut ids);
     let many = Set::with_capacity_and_hasher(alloc, &mut ids, TOO_MANY, Hashing::default());

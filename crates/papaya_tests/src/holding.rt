@@ -17,6 +17,8 @@ const LOOKS: u64 = 20_000;
 
 type Hashing = BuildHasherDefault<DefaultHasher>;
 
+type Own<'m> = SetSession<'m, u64, Hashing>;
+
 /// A set of three keys: what insertions and removals say of them.
 fn alone<R: Wait>(rt: &R, alloc: Global) -> Result<[bool; 7], Fault> {
     let mut ids = IdSource::new();
@@ -46,9 +48,8 @@ fn an_insertion_says_whether_the_key_was_new(rt: HostRuntime) -> Result<(), Fail
 }
 
 /// Puts all keys into the set, and takes them out then: answers how many were new, and how many it has taken out.
-fn works<R: Wait>(rt: &R, mut session: SetSession<'_, u64, Hashing>) -> Result<(u64, u64), Fault> {
-    let mut new = 0u64;
-    let mut taken = 0u64;
+fn works<R: Wait>(rt: &R, mut session: Own<'_>) -> Result<(u64, u64), Fault> {
+    let (mut new, mut taken) = (0u64, 0u64);
     for key in 0..KEYS {
         if session.insert(rt, key)? {
             new = u64::wrapping_add(new, 1);
@@ -129,12 +130,10 @@ fn counts<R: Wait>(rt: &R, alloc: Global) -> Result<([u64; 5], [bool; 5]), Fault
     let mut ids = IdSource::new();
     let set = HashSet::with_hasher(alloc, &mut ids, Hashing::default())?;
     let mut session = set.session()?;
-    let before = session.len();
-    let empty = session.is_empty();
+    let (before, empty) = (session.len(), session.is_empty());
     session.reserve(rt, 100)?;
     session.extend(rt, [42u64, 16, 38, 16])?;
-    let full = session.len();
-    let some = !session.is_empty();
+    let (full, some) = (session.len(), !session.is_empty());
     let mut sum = 0u64;
     session.each(rt, |key| {
         sum = u64::wrapping_add(sum, *key);
@@ -161,7 +160,7 @@ fn a_set_has_what_it_was_left(rt: HostRuntime) -> Result<(), Fail> {
 /// Whether this key comes to be there.
 fn meets<R: Wait + Clock>(
     rt: &R,
-    guard: &SetSession<'_, u64, Hashing>,
+    guard: &Own<'_>,
     pass: &mut Pass<u64, (), Hashing>,
     key: u64,
 ) -> Result<bool, Fault>
@@ -180,7 +179,7 @@ fn meets<R: Wait + Clock>(
 fn leaves<R: Wait + Clock>(
     rt: &R,
     set: &SharedSet<'_, u64, Hashing>,
-    guard: &SetSession<'_, u64, Hashing>,
+    guard: &Own<'_>,
     own: u64,
     other: u64,
 ) -> Result<bool, Fault> {
@@ -212,51 +211,43 @@ fn two_threads_find_what_each_has_left(rt: HostRuntime) -> Result<(), Fail> {
 }
 
 /// Puts one key there, goes over the set until it is shown the other one, and removes then what was there before. Answers whether each time it was shown its own key.
-fn sweeps<R: Wait + Clock>(
-    rt: &R,
-    mut session: SetSession<'_, u64, Hashing>,
-    own: u64,
-    other: u64,
-) -> Result<bool, Fault> {
-    let _ = session.insert(rt, own)?;
+fn sweeps<R: Wait + Clock>(rt: &R, mut set: Own<'_>, own: u64, other: u64) -> Result<bool, Fault> {
+    let _ = set.insert(rt, own)?;
     for _ in 0..LOOKS {
         let (mut stays, mut met) = (false, false);
-        session.each(rt, |key| {
+        set.each(rt, |key| {
             stays = stays || *key == own;
             met = met || *key == other;
         })?;
         if met || !stays {
-            session.retain(rt, |key| *key >= KEYS)?;
+            set.retain(rt, |key| *key >= KEYS)?;
             return Ok(stays);
         }
-        session.refresh();
+        set.refresh();
         thread::sleep(rt, Duration::from_millis(1));
     }
     Ok(false)
 }
 
-/// Two threads do so, in a set of many keys. Answers how many are left, too.
-fn sweep<R: Threads + Wait + Clock + Sync>(
-    rt: &R,
-    alloc: Global,
-) -> Result<(bool, bool, u64), Fault> {
+/// Two threads do so, in a set of many keys. Answers whether both were, and how many are left.
+fn sweep<R: Threads + Wait + Clock + Sync>(rt: &R, alloc: Global) -> Result<(bool, u64), Fault> {
     let mut ids = IdSource::new();
     let set = HashSet::with_hasher(alloc, &mut ids, Hashing::default())?;
     let mut session = set.session()?;
     session.extend(rt, 0..KEYS)?;
-    let first = session.another()?;
-    let second = session.another()?;
+    let (first, second) = (session.another()?, session.another()?);
     let (one, other) = thread::join(
         rt,
         || sweeps(rt, first, KEYS, KEYS + 1),
         || sweeps(rt, second, KEYS + 1, KEYS),
     );
-    Ok((one?, other?, session.len()))
+    let (one, other) = (one?, other?);
+    Ok((one && other, session.len()))
 }
 
 // Were the threads served one after another, the first one would not be shown the key of the second.
 #[test]
 fn each_of_two_threads_is_shown_what_the_other_one_has_put(rt: HostRuntime) -> Result<(), Fail> {
-    assert_eq!(rt; sweep(&rt, rt.alloc())?, (true, true, 2));
+    assert_eq!(rt; sweep(&rt, rt.alloc())?, (true, 2));
     Ok(())
 }

@@ -4,11 +4,11 @@ use crate::beside::{
     UPDATES, UPDATES_THERE,
 };
 use papaya_raw::ResizeMode::{Blocking, Incremental};
-use papaya_steps_tests::run;
 use papaya_steps_tests::deeds::EffectRow::{
     self, Back, Block, Bucket, Copied, Counted, Deferred, Ended, GivenUp, Linked, Pair, Promoted,
     Removed, Replaced, Retired, Stored, TableBack, TableMade, TableRetired, Taken,
 };
+use papaya_steps_tests::run;
 use papaya_steps_tests::steps::Made::{Compute, Insert, Remove, RemoveIf, TryInsert, Walk};
 use papaya_steps_tests::steps::ReplyRow::{Decides, Gives};
 use papaya_steps_tests::steps::Step::{

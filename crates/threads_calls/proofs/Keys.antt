@@ -5,7 +5,7 @@ use Rattle.seize_words.specs.declared.fault.Fault.{Fault}
 use Rattle.map_tables.specs.declared.node.Node.{Node}
 use Rattle.map_tables.specs.declared.node.Node.TheVariants.{Pair}
 use Rattle.map_tables.specs.declared.setting.Setting.{Setting}
-use Rattle.threads_callers.specs.Given.ActsActs.{Insert, Remove, TryToInsert}
+use Rattle.threads_callers.specs.Given.ActsActs.{Insert, Remove, TryToInsert, Wanted}
 use Rattle.papaya_raw.specs.CallPoints.{inserting, removing, trying_to_insert}
 use Rattle.papaya_raw.specs.declared.machines.answer.There.TheVariants as there
 use Rattle.papaya_raw.specs.declared.machines.answer.Missing.TheVariants as missing
@@ -82,19 +82,15 @@ module _ {K V S : Type 0} (same : K → K → Bool) (hash : S → K → ℕ) (v 
     stores = stores_so (removing its hashed key) made (λ pair e. absurd (cc e));
   }
 
--- what a call has come to is said of who wanted it
-pub ran_by : {K V S : Type 0} (same : K → K → Bool) (hash : S → K → ℕ) {call made : KeyCall K V K} {answer told : Result Answer Fault} {unstored : Option (Node K V)} (v w : View K V S) → call ≡ made → answer ≡ told
-    → HasCalled same hash (wanted_of (Key call)) answer unstored v w → HasRun same hash (wanted_of (Key made)) (outcome_of told) v w
-ran_by {K} {V} same hash {call} {made} {answer} {told} v w is says called =
-    subst (λ (c : KeyCall K V K). HasRun same hash (wanted_of (Key c)) (outcome_of told) v w) is
-    (subst (λ (r : Result Answer Fault). HasRun same hash (wanted_of (Key call)) (outcome_of r) v w) says called.ran)
+-- what a call has come to is said of what it has answered,
+pub ran_by : {K V S : Type 0} (same : K → K → Bool) (hash : S → K → ℕ) {wanted : Wanted K V} {answer told : Result Answer Fault} {unstored : Option (Node K V)} (v w : View K V S) → answer ≡ told
+    → HasCalled same hash wanted answer unstored v w → HasRun same hash wanted (outcome_of told) v w
+ran_by same hash {wanted} v w says called = subst (λ (r : Result Answer Fault). HasRun same hash wanted (outcome_of r) v w) says called.ran
 
 -- and its pair has come back, unless it is in the map
-pub back_by : {K V S : Type 0} (same : K → K → Bool) (hash : S → K → ℕ) {call made : KeyCall K V K} {answer told : Result Answer Fault} {unstored : Option (Node K V)} (v w : View K V S) → call ≡ made
-    → answer ≡ told → HasCalled same hash (wanted_of (Key call)) answer unstored v w → (pair : Node K V) → pair_wanted (wanted_of (Key made)) ≡ Some pair → IsBack pair told unstored
-back_by {K} {V} same hash {call} {made} {answer} {told} {unstored} v w is says called pair wanted =
-    subst (λ (r : Result Answer Fault). IsBack pair r unstored) says
-    (called.back pair (subst (λ (c : KeyCall K V K). pair_wanted (wanted_of (Key c)) ≡ Some pair) (sym is) wanted))
+pub back_by : {K V S : Type 0} (same : K → K → Bool) (hash : S → K → ℕ) {wanted : Wanted K V} {answer told : Result Answer Fault} {unstored : Option (Node K V)} (v w : View K V S) → answer ≡ told
+    → HasCalled same hash wanted answer unstored v w → (pair : Node K V) → pair_wanted wanted ≡ Some pair → IsBack pair told unstored
+back_by same hash {wanted} {answer} {told} {unstored} v w says called pair its = subst (λ (r : Result Answer Fault). IsBack pair r unstored) says (called.back pair its)
 
 -- two pairs that both have come back are one
 pub one_back : {K V : Type 0} (unstored : Option (Node K V)) (k key : K) (v value : V) → unstored ≡ Some (Pair k v) → unstored ≡ Some (Pair key value) → (k ≡ key) × (v ≡ value)

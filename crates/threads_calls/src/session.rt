@@ -21,7 +21,7 @@ mod whole;
 pub use keys::Attempt;
 use map_machines::{Lookup, NewMap};
 use map_tables::{Counter, Hashes, Node, ResizeMode, Setting};
-use papaya_raw::machines::{Answer, KeyAnswer, KeyCall, Machine};
+use papaya_raw::machines::{Answer, KeyAnswer, There};
 use seize_blocks::Blocks;
 use seize_views::Fixed;
 use seize_words::{Fault, Link, Refused};
@@ -224,8 +224,10 @@ impl<'a, K: Eq + Hash + Drop, V: Drop, S: Hashes<K>> SessionBase<'a, K, V, S> {
     {
         let hash = self.hasher.hash_of(&key);
         let setting = setting_in(self.setting, self.slot);
-        let call = KeyCall::insert(setting, hash, key, value);
-        let ran = self.caller.does(rt, self.hasher, Machine::Key(call));
+        let pair = Node::Pair(key, value);
+        let ran = self
+            .caller
+            .stores(rt, self.hasher, setting, hash, There::Puts, pair);
         let Ran {
             told,
             unstored,

@@ -51,6 +51,23 @@ after_turn (Do op rest) x = x
 abbrev none_shown : {T : Type 0} → ℕ → Option T
 none_shown b = None
 
+module _ {T : Type 0} where
+  -- a call that tells this has not ended, and asks nothing
+  abbrev pub IsOnStill : Called T → Type 0
+  IsOnStill (tells.Asks pair) = ⊥
+  IsOnStill (tells.Done answer) = ⊥
+  IsOnStill (tells.Refused fault) = ⊥
+  IsOnStill told = Unit {0}
+
+  pub on_still : (told : Called T) → CallGoes told → IsOnStill told
+  on_still tells.Goes on = tt
+  on_still tells.Waits on = tt
+  on_still (tells.Gave value) on = absurd on
+  on_still (tells.Unstored value) on = absurd on
+  on_still (tells.Asks pair) on = absurd on
+  on_still (tells.Done answer) on = absurd on
+  on_still (tells.Refused fault) on = absurd on
+
 module _ {K V : Type 0} (same : K → K → Bool) (hashes : K → ℕ) where
   one_turn : (x y z : KeyCall K V K) → PassesTo same hashes x y → PassesTo same hashes x z → y ≡ z
   one_turn x y z t u = ap (λ (p : Plan (Node K V) (KeyCall K V K × Called (Node K V))). after_turn p x) (sym t.2 ∙ u.2)
@@ -71,22 +88,22 @@ module _ {K V : Type 0} (same : K → K → Bool) (hashes : K → ℕ) where
   behind_on x y z (turns _ a _ u l) t = turns x a z u (behind_on a y z l t)
 
   -- a step that goes on from a call of a kind goes on from one of the same
-  said_on : (k : Kind) (s : Stage) (shown : ℕ → Option (Node K V)) (y : KeyCall K V K) (told : Called (Node K V)) → CallGoes told → SaysSo k s shown (y, told) → Continues k s y
+  said_on : (k : Kind) (s : Stage) (shown : ℕ → Option (Node K V)) (y : KeyCall K V K) (told : Called (Node K V)) → IsOnStill told → SaysSo k s shown (y, told) → Continues k s y
   said_on k s shown y tells.Goes on is = is
   said_on k s shown y tells.Waits on is = is
-  said_on k s shown y (tells.Gave value) on is = absurd on
-  said_on k s shown y (tells.Unstored value) on is = absurd on
+  said_on k s shown y (tells.Gave value) on is = is
+  said_on k s shown y (tells.Unstored value) on is = is
   said_on k s shown y (tells.Asks pair) on is = absurd on
   said_on k s shown y (tells.Done answer) on is = absurd on
   said_on k s shown y (tells.Refused fault) on is = absurd on
 
-  pub goes_by : (k : Kind) (s : Stage) (shown : ℕ → Option (Node K V)) (x y : KeyCall K V K) (told : Called (Node K V)) → Continues k s x → CallGoes told
+  pub goes_by : (k : Kind) (s : Stage) (shown : ℕ → Option (Node K V)) (x y : KeyCall K V K) (told : Called (Node K V)) → Continues k s x → IsOnStill told
       → Leads shown (call_plan same same hashes x) (y, told) → Continues k s y
   goes_by k s shown x y told goes on leads = said_on k s shown y told on (says k s same same hashes x goes shown (y, told) leads)
 
   pub goes_past : (k : Kind) (s : Stage) (x y : KeyCall K V K) → Continues k s x → PassesTo same hashes x y → Continues k s y
   goes_past k s x y goes t =
-      goes_by k s (none_shown {T = Node K V}) x y t.0 goes t.1
+      goes_by k s (none_shown {T = Node K V}) x y t.0 goes (on_still t.0 t.1)
       (subst (λ (p : Plan (Node K V) (KeyCall K V K × Called (Node K V))). Leads (none_shown {T = Node K V}) p (y, t.0)) (sym t.2) refl)
 
   pub goes_along : (k : Kind) (s : Stage) (x y : KeyCall K V K) → IsBehind same hashes x y → Continues k s x → Continues k s y
@@ -94,12 +111,12 @@ module _ {K V : Type 0} (same : K → K → Bool) (hashes : K → ℕ) where
   goes_along k s x y (turns _ a _ t l) goes = goes_along k s a y l (goes_past k s x a goes t)
 
 module _ {K V S : Type 0} where
-  -- a call that goes on is under way
-  pub is_on : (y : KeyCall K V K) (told : Called (Node K V)) → CallGoes told → call_after {S = S} (Key y) (of_called told) ≡ Calls (Key y)
+  -- so it is under way
+  pub is_on : (y : KeyCall K V K) (told : Called (Node K V)) → IsOnStill told → call_after {S = S} (Key y) (of_called told) ≡ Calls (Key y)
   is_on y tells.Goes on = refl
   is_on y tells.Waits on = refl
-  is_on y (tells.Gave value) on = absurd on
-  is_on y (tells.Unstored value) on = absurd on
+  is_on y (tells.Gave value) on = refl
+  is_on y (tells.Unstored value) on = refl
   is_on y (tells.Asks pair) on = absurd on
   is_on y (tells.Done answer) on = absurd on
   is_on y (tells.Refused fault) on = absurd on
@@ -131,7 +148,7 @@ module _ {K V S : Type 0} (same : K → K → Bool) (hash : S → K → ℕ) (ha
   -- by one that goes on it stands there then
   passed : (x y : KeyCall K V K) (v w : View K V S) (at : Works hasher (Key x) v) → PassesTo same (hash hasher) x y → turned same hash v w → StandsAt (Key y) v w
   passed x y v w at t turn = let view = turned_to x y t.0 v w at t.2 turn in record {
-    works = ap (λ (u : View K V S). u.work) view ∙ is_on y t.0 t.1;
+    works = ap (λ (u : View K V S). u.work) view ∙ is_on y t.0 (on_still t.0 t.1);
     stays = record { slot = ap (λ (u : View K V S). stand_of u) view; map = ap (λ (u : View K V S). u.map) view };
     calls = of_them v v w (of_called t.0) (λ told. refl) (ap (λ (u : View K V S). u.calls) view);
   }

@@ -1,5 +1,5 @@
 -- Code that is ahead of its machine: it may be run, and what it comes to is known to the seat, but for turns.
-use Rattle.std.specs.Prelude.{Option, None, Ok}
+use Rattle.std.specs.Prelude.{Option, Some, None, Ok}
 use Rattle.std.proofs.Common.{◌≡◌, ℕ, Bool, [], inl, inr, refl, sym, subst, ap, ◌∙◌}
 use Rattle.seize_words.specs.OneMemory.Mem.{Mem}
 use Rattle.seize_words.specs.OneMemory.Op.{Op, Out}
@@ -23,7 +23,7 @@ use Rattle.papaya_raw.specs.declared.machines.progress.Progress.TheVariants as p
 use Rattle.papaya_raw.specs.Progress.{of_called}
 use Rattle.threads_steps.specs.Given.ViewsLooks.{MayFollow, shown_in}
 use Rattle.threads_steps.specs.Given.ViewsRule.{Holds, KeepsFor, stand_of}
-use Rattle.threads_steps.specs.Given.ViewsTold.{MayCome, called, newest_progress, told}
+use Rattle.threads_steps.specs.Given.ViewsTold.{HandsBack, MayCome, called, newest_progress, pair_in, told}
 use Rattle.threads_steps.specs.Given.ViewsDeclared.view.View.{View}
 use Rattle.threads_steps.proofs.Given.ViewsLaws.{calls_go_on}
 use Rattle.seize_views.proofs.Views.Looks.{IsNow}
@@ -39,13 +39,13 @@ use Rattle.seize_straight.proofs.Running.{by_law}
 use Rattle.threads_errands.specs.Ahead.{CanGo, CatchesUp, HasEndedSo, HasGone, IsAhead, here, IsEnding, over, turns_over, IsSameAhead, Makes, MakesNext, StandsAt, shown_ahead}
 use Rattle.threads_steps.specs.Given.ErrandsCalling.{IsBack, Works}
 use Rattle.threads_steps.specs.Given.ErrandsLooking.{IsOfThem, StaysThere}
-use Rattle.threads_steps.specs.Storing.{Since}
+use Rattle.threads_steps.specs.Storing.{HandsIt, Since}
 use Rattle.threads_errands.specs.declared.ahead.Ahead.{Ahead}
 use Rattle.threads_steps.proofs.Given.ErrandsBeginnings.{stays_on}
-use Rattle.threads_errands.proofs.Behind.{ahead_on, at_point, goes_along, goes_by, is_on, plan_here, works_still}
+use Rattle.threads_errands.proofs.Behind.{IsOnStill, ahead_on, at_point, goes_along, goes_by, is_on, on_still, plan_here, works_still}
 use Rattle.threads_steps.proofs.Calling.{MadeNone, MadeOne, came_to, leads_by, may_quiet, quiet_leaves}
-use Rattle.threads_steps.proofs.Sinces.{since_last, since_on}
-use Rattle.threads_steps.proofs.Given.ErrandsRuns.{of_them}
+use Rattle.threads_steps.proofs.Sinces.{hands_it, since_last, since_on}
+use Rattle.threads_steps.proofs.Given.ErrandsRuns.{of_them, same_pair}
 use Rattle.threads_steps.proofs.Tellings.{told_shown}
 
 -- what a step looks at whose outcome is turned into another
@@ -93,6 +93,7 @@ module _ {K V S : Type 0} (same : K → K → Bool) (hash : S → K → ℕ) (ha
       pub follows : FollowsBy (shown_in n.held) plan out end
       pub view : n ≡ called before at.map (Key x) (as_machine end) n.looks
       pub may : MayFollow (shown_in n.held) plan out
+      pub hands : HandsBack before.calls (as_machine end).1
       pub step : MayCome (machine_plan same same (hash hasher) (Key x)) (as_machine end)
 
     came : (op : Op (Node K V)) (out : Out (Node K V)) (n : Ahead K V S) → Makes same (hash hasher) x op → HasGone same hash c op out n → Came out n.seat.now.view
@@ -112,6 +113,7 @@ module _ {K V S : Type 0} (same : K → K → Bool) (hash : S → K → ℕ) (ha
           view = so.2 ∙ ap (λ (m : Machine K V K × Progress (Node K V)). called t.0 at.map (Key x) m w.looks) f.2;
           may =
               may_follow_as as_machine (shown_in w.held) plan out (subst (λ (p : Plan (Node K V) (Machine K V K × Progress (Node K V))). MayFollow (shown_in w.held) p out) its so.3);
+          hands = subst (λ (m : Machine K V K × Progress (Node K V)). HandsBack t.0.calls m.1) f.2 so.5;
           step =
               subst (λ (m : Machine K V K × Progress (Node K V)). MayCome (machine_plan same same (hash hasher) (Key x)) m) f.2
               (subst (λ (p : Plan (Node K V) (Machine K V K × Progress (Node K V))). MayCome p so.0) its so.4);
@@ -143,7 +145,17 @@ module _ {K V S : Type 0} (same : K → K → Bool) (hash : S → K → ℕ) (ha
           stays = record { slot = refl; map = refl };
         }
 
-    made_one : (n : Ahead K V S) (y : KeyCall K V K) (told : Called (Node K V)) → MadeOne (CanGo same hash) (HasGone same hash) shown_ahead c plan n (y, told) → Went n y told
+    -- what it has come to with its operation
+    pub record Made (n : Ahead K V S) (y : KeyCall K V K) (told : Called (Node K V)) : Type 0 where
+      pub stays : StaysThere c.seat.now.view n.seat.now.view
+      pub seat : IsSameAhead c n
+      pub calls : IsOfThem c.seat.now.view n.seat.now.view
+      pub ahead : IsOnStill told → IsAt y n
+      pub ends : (answer : KeyAnswer) → told ≡ tells.Done answer → IsEnding same hash answer n.seat.now.view
+      pub step : MayCome (machine_plan same same (hash hasher) (Key x)) (as_machine (y, told))
+      pub hands : (pair : Node K V) → pair_in c.seat.now.view.calls ≡ Some pair → HandsIt pair (of_called told)
+
+    pub made_one : (n : Ahead K V S) (y : KeyCall K V K) (told : Called (Node K V)) → MadeOne (CanGo same hash) (HasGone same hash) shown_ahead c plan n (y, told) → Made n y told
     made_one n y told it =
         let k = came it.0 it.1 n it.4 it.2 in let w = n.seat.now.view in let u = c.seat.now.view in
         let one : k.end ≡ (y, told) = follows_one (shown_in w.held) plan it.1 k.end (y, told) k.follows it.3 in
@@ -166,7 +178,13 @@ module _ {K V S : Type 0} (same : K → K → Bool) (hash : S → K → ℕ) (ha
           ends = λ answer done. over (ended_now y answer k.before w k.at
               (view ∙ ap (λ (t : Called (Node K V)). called k.before k.at.map (Key x) (as_machine (y, t)) w.looks) done));
           step = subst (λ (e : KeyCall K V K × Called (Node K V)). MayCome (machine_plan same same (hash hasher) (Key x)) (as_machine e)) one k.step;
+          hands = λ pair its.
+              hands_it pair k.before.calls (of_called told) (same_pair u k.before k.stands.calls ∙ its)
+              (subst (λ (e : KeyCall K V K × Called (Node K V)). HandsBack k.before.calls (as_machine e).1) one k.hands);
         }
+
+    went_so : (n : Ahead K V S) (y : KeyCall K V K) (told : Called (Node K V)) → Made n y told → Went n y told
+    went_so n y told m = record { stays = m.stays; seat = m.seat; calls = m.calls; ahead = λ on. m.ahead (on_still told on); ends = m.ends; step = m.step }
 
     -- without an operation nothing has changed
     made_none : (n : Ahead K V S) (y : KeyCall K V K) (told : Called (Node K V)) → MadeNone (CanGo same hash) (HasGone same hash) shown_ahead c plan n (y, told) → Went n y told
@@ -188,7 +206,7 @@ module _ {K V S : Type 0} (same : K → K → Bool) (hash : S → K → ℕ) (ha
 
     pub went : (n : Ahead K V S) (y : KeyCall K V K) (told : Called (Node K V)) → Steps (HasGone same hash) shown_ahead c plan n (y, told) → Went n y told
     went n y told st = elim (came_to (CanGo same hash) (HasGone same hash) shown_ahead c plan n (y, told) st) as (λ _. Went n y told) [
-      | inl it ↦ made_one n y told it
+      | inl it ↦ went_so n y told (made_one n y told it)
       | inr none ↦ made_none n y told none
     ]
 

@@ -16,10 +16,9 @@ use Rattle.map_straight.specs.declared.removing.RemovalAt.TheVariants as removed
 use Rattle.threads_errands.specs.Ahead.{HasGone, IsSameAhead, shown_ahead}
 use Rattle.threads_errands.specs.Takes.{HasTaken}
 use Rattle.threads_errands.specs.declared.ahead.Ahead.{Ahead}
-use Rattle.threads_steps.specs.Given.ErrandsCalling.{HasCalled, HasEnded, outcome_of}
+use Rattle.threads_steps.specs.Given.ErrandsCalling.{HasCalled, HasEnded}
 use Rattle.threads_steps.specs.Given.ErrandsLooking.{Begins, StaysThere}
-use Rattle.threads_steps.proofs.Given.ErrandsBeginnings.{stays_begun, stays_on}
-use Rattle.threads_steps.proofs.Given.ErrandsRuns.{has_run}
+use Rattle.threads_errands.proofs.Puts.{has_called}
 use Rattle.threads_errands.proofs.Standing.{IsAt, answered, led}
 
 module _ {K V S : Type 0} (same : K → K → Bool) (hash : S → K → ℕ) where
@@ -33,12 +32,7 @@ module _ {K V S : Type 0} (same : K → K → Bool) (hash : S → K → ℕ) whe
     has_taken (removed.Stands trial removal) m n r is =
         let a = led same hash hasher from_root (seeking setting hashed key trial (removing_at setting trial removal)) m n r is in ((a.at, a.stays, a.calls), a.seat)
 
-  -- a call that has begun so, and has ended since, has been run
+  -- a call that has begun so, and has ended since, has been run: it had no pair to hand back
   pub has_removed : (key : K) (answer : Result Answer Fault) (v w u : View K V S) → Begins same hash (Remove key) v w → HasEnded answer w u → StaysThere w u
       → HasCalled same hash (Remove key) answer None v u
-  has_removed key answer v w u b e stays = record {
-    free = e.free;
-    stays = stays_on v w u (stays_begun same hash (Remove key) v w b) stays;
-    ran = has_run same hash (Remove key) (outcome_of answer) v w u b e.told;
-    back = λ pair its. absurd (cc its);
-  }
+  has_removed key answer v w u b e stays = has_called same hash (Remove key) answer None v w u b e stays (λ pair its. absurd (cc its))

@@ -17,4 +17,5 @@ pub use Rattle.threads_steps.specs.Given.ViewsRule
 pub use Rattle.threads_steps.specs.Given.ViewsTold
 pub use Rattle.threads_steps.specs.Made
 pub use Rattle.threads_steps.specs.Steps
+pub use Rattle.threads_steps.specs.Storing as StepsStoring
 pub use Rattle.threads_steps.specs.declared as ThreadsStepsDeclared

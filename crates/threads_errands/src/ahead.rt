@@ -10,6 +10,7 @@ mod turning;
 
 use map_tables::{Hashes, Node};
 use seize_blocks::{Blocks, Seat};
+pub(crate) use storing::Put;
 use threads_steps::OfMaps;
 
 /// A seat of maps on an errand, with the memory. It is a memory for code that makes the operations of the call that the seat has under way.

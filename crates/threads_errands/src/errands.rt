@@ -1,4 +1,4 @@
-//! What a seat of maps is sent for: to make a map, to look a key up, to remove the pair of one, to run a call, and to count the pairs of a map.
+//! What a seat of maps is sent for: to make a map, to look a key up, to store a pair, to remove one, to run a call, and to count the pairs of a map.
 ghost use Rattle.std.specs.Prelude.{◌≡◌, IfOk, None, false};
 ghost use Rattle.std.specs.Fn.{FnOnceReturns};
 ghost use Rattle.threads_steps.specs.Asking.{HasAnswered, MakingSays, MayTest, TestSays, makes_pair, removes_if};
@@ -12,13 +12,14 @@ ghost use Rattle.seize_views.specs.declared.view.SlotView.TheVariants.{Rests};
 ghost use Rattle.papaya_raw.specs.CallPoints.{removing};
 ghost use Rattle.papaya_raw.specs.declared.machines.machine.Machine.TheVariants.{Key as KeyMachine};
 ghost use Rattle.threads_steps.specs.Given.ActsActs.{Remove};
+ghost use Rattle.threads_steps.specs.Storing.{making};
 
 use crate::removing::removes;
-use crate::storing::{is_to_store, stores};
+use crate::storing::stores;
 use map_machines::{Lookup, NewMap};
 use map_straight::Sight;
 use map_tables::{Hashes, Node, Setting};
-use papaya_raw::machines::{Answer, Machine};
+use papaya_raw::machines::{Answer, Machine, There};
 use seize_blocks::{Blocks, Errand, Seat};
 use seize_words::Fault;
 use std::hash::Hash;
@@ -114,6 +115,44 @@ impl<'r, R: Wait, K: Eq + Hash + Drop, V: Drop, S: Hashes<K>> Errand<Node<K, V>,
     }
 }
 
+/// Stores a pair: also in the place of one of its key, or only where there is none.
+#[derive(Drop)]
+pub struct Stores<'s, R, K, V, S> {
+    pub rt: &'s R,
+    pub hasher: &'s S,
+    pub setting: Setting,
+    pub hash: u64,
+    pub there: There,
+    pub pair: Node<K, V>,
+    pub near: u64,
+}
+
+impl<'s, R: Wait, K: Eq + Hash + Drop, V: Drop, S: Hashes<K>> Errand<Node<K, V>, OfMaps<S>>
+    for Stores<'s, R, K, V, S> {
+    type Answer = Ran<K, V>;
+
+    ghost asks = { λ s fixed v. MayCall K.eq S.hash s.hasher.now (KeyMachine (making s.setting s.hash s.there s.pair)) v };
+
+    ghost did = { λ s fixed v answer w. HasCalled K.eq S.hash (wanted_of (KeyMachine (making s.setting s.hash s.there s.pair))) answer.told answer.unstored v w };
+
+    fn run(
+        self,
+        blocks: &Blocks<Node<K, V>, OfMaps<S>>,
+        seat: &mut Seat<Node<K, V>, OfMaps<S>>,
+    ) -> Ran<K, V> {
+        let Stores {
+            rt,
+            hasher,
+            setting,
+            hash,
+            there,
+            pair,
+            near,
+        } = self;
+        stores(rt, blocks, seat, near, hasher, setting, hash, there, pair)
+    }
+}
+
 /// Runs a call that asks nothing.
 #[derive(Drop)]
 pub struct Does<'d, R, K, V, S> {
@@ -142,9 +181,6 @@ impl<'d, R: Wait, K: Eq + Hash + Drop, V: Drop, S: Hashes<K>> Errand<Node<K, V>,
             machine,
             near,
         } = self;
-        if is_to_store(machine) {
-            return stores(rt, blocks, seat, near, hasher, machine);
-        }
         let mut within = Within::new(blocks, seat, near);
         within.does(rt, hasher, machine)
     }

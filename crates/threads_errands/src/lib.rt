@@ -11,6 +11,6 @@ mod running;
 mod storing;
 mod turns;
 
-pub use errands::{Counts, Does, Finds, Makes, MakesPair, Removes, RemovesIf};
+pub use errands::{Counts, Does, Finds, Makes, MakesPair, Removes, RemovesIf, Stores};
 pub use memory::memory_for;
 pub use threads_steps::{Halt, OfMaps, Ran, View, Within, leanings_begin};

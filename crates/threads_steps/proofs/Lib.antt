@@ -8,6 +8,5 @@ pub mod Shown
 pub mod Pausing
 pub mod Straight
 pub mod Sinces
-mod Firsts
 pub mod Handing
 pub mod Given

@@ -1,4 +1,4 @@
-//! A caller is sent to make a map, to look a key up, to remove the pair of one, to run a call, and to count the pairs of a map.
+//! A caller is sent to make a map, to look a key up, to store a pair, to remove one, to run a call, and to count the pairs of a map.
 ghost use Rattle.std.specs.Prelude.{◌≡◌, IfOk, IsSome, Some, None, false};
 ghost use Rattle.std.specs.Fn.{FnOnceReturns};
 ghost use Rattle.threads_errands.specs.Given.StepsAsking.{HasAnswered, MakingSays, MayTest, TestSays, makes_pair as kind_that_makes, removes_if as kind_that_tests};
@@ -6,6 +6,7 @@ ghost use Rattle.threads_errands.specs.Given.ErrandsCalling.{HasCalled, IsAnswer
 ghost use Rattle.threads_errands.specs.Given.ErrandsCounting.{HasCounted, MayCount};
 ghost use Rattle.threads_errands.specs.Given.CallKindsKinds.{Stage};
 ghost use Rattle.threads_errands.specs.Given.ActsActs.{Remove};
+ghost use Rattle.threads_errands.specs.Given.StepsStoring.{making};
 ghost use Rattle.papaya_raw.specs.CallPoints.{removing};
 ghost use Rattle.papaya_raw.specs.declared.machines.machine.Machine.TheVariants.{Key as KeyMachine};
 ghost use Rattle.threads_errands.specs.Given.ErrandsLooking.{HasFound, MayLook};
@@ -19,11 +20,11 @@ ghost use Rattle.seize_views.specs.declared.view.SlotView.TheVariants.{Rests};
 use crate::caller::MapCaller;
 use map_machines::{Lookup, NewMap};
 use map_tables::{Hashes, Node, Setting};
-use papaya_raw::machines::{Answer, Machine};
+use papaya_raw::machines::{Answer, Machine, There};
 use seize_words::Fault;
 use std::hash::Hash;
 use std::sync::Wait;
-use threads_errands::{Counts, Does, Finds, Makes, MakesPair, Ran, Removes, RemovesIf};
+use threads_errands::{Counts, Does, Finds, Makes, MakesPair, Ran, Removes, RemovesIf, Stores};
 
 impl<'a, K: Eq + Drop, V: Drop, S: Hashes<K>> MapCaller<'a, K, V, S> {
     /// Makes a map of no table by this machine, with this hasher, and knows it then. Where no root is free, or memory is refused, there is none, and it knows what it
@@ -67,6 +68,36 @@ impl<'a, K: Eq + Hash + Drop, V: Drop, S: Hashes<K>> MapCaller<'a, K, V, S> {
                 rt,
                 hasher,
                 machine: &mut machine,
+                near: self.near,
+            },
+        );
+        self.near = ran.near;
+        ran
+    }
+
+    /// Stores this pair within its section, in the map that it knows, and answers what the call has told, and the pair where it was not stored.
+    pub fn stores<R: Wait>(
+        &mut self,
+        rt: &R,
+        hasher: &S,
+        setting: Setting,
+        hash: u64,
+        there: There,
+        pair: Node<K, V>,
+    ) -> Ran<K, V>
+        requires may { MayCall K.eq S.hash hasher.now (KeyMachine (making setting hash there pair)) self.old.seat.view }
+        ensures called { HasCalled K.eq S.hash (wanted_of (KeyMachine (making setting hash there pair))) result.told result.unstored self.old.seat.view self.new.seat.view }
+        ensures blocks { self.new.blocks ≡ self.old.blocks }
+    {
+        let ran = self.blocks.errand(
+            &mut self.seat,
+            Stores {
+                rt,
+                hasher,
+                setting,
+                hash,
+                there,
+                pair,
                 near: self.near,
             },
         );

@@ -11,7 +11,7 @@ ghost use Rattle.seize_views.specs.declared.view.SlotView.TheVariants.{Inside};
 use crate::session::{SessionBase, refused, setting_in};
 use map_machines::Lookup;
 use map_tables::{Hashes, Node};
-use papaya_raw::machines::{Answer, KeyAnswer, KeyCall, Machine};
+use papaya_raw::machines::{Answer, KeyAnswer, There};
 use seize_words::{Fault, Refused};
 use std::hash::Hash;
 use std::sync::Wait;
@@ -105,8 +105,10 @@ impl<'a, K: Eq + Hash + Drop, V: Drop, S: Hashes<K>> SessionBase<'a, K, V, S> {
     {
         let hash = self.hasher.hash_of(&key);
         let setting = setting_in(self.setting, self.slot);
-        let call = KeyCall::try_insert(setting, hash, key, value);
-        let ran = self.caller.does(rt, self.hasher, Machine::Key(call));
+        let pair = Node::Pair(key, value);
+        let ran = self
+            .caller
+            .stores(rt, self.hasher, setting, hash, There::Answers, pair);
         let Ran {
             told,
             unstored,

@@ -1,38 +1,46 @@
 //! A seat on an errand begins a call that is to store a pair.
-ghost use Rattle.std.specs.Prelude.{◌≡◌, true, Some, None};
-ghost use Rattle.threads_rule.specs.Errands.Calling.{CalledSo, MayCall, handed_by, pair_wanted, sort_of, wanted_of};
+ghost use Rattle.std.specs.Prelude.{◌≡◌, ℕ, Some};
+ghost use Rattle.threads_rule.specs.Errands.Calling.{IsCalling, MayCall, wanted_of};
+ghost use Rattle.threads_rule.specs.Errands.Looking.{Begins};
 ghost use Rattle.threads_steps.specs.Made.{IsSameSeat};
-ghost use Rattle.threads_steps.specs.Storing.{HasBegun, IsFirst, IsToPut, Since, stores_pair};
-ghost use Rattle.papaya_raw.specs.declared.machines.progress.Progress.TheVariants.{Goes as IsOn};
-ghost use Rattle.map_tables.specs.declared.node.Node.{Node as AnyNode};
-ghost use Rattle.threads_rule.specs.Views.Told.{pair_in};
+ghost use Rattle.threads_steps.specs.Storing.{making};
+ghost use Rattle.papaya_raw.specs.declared.machines.machine.Machine.TheVariants.{Key as KeyMachine};
+ghost use Rattle.threads_rule.specs.Views.Rule.{MayWant, section_of};
+ghost use Rattle.threads_rule.specs.declared.view.Map.{Map};
+ghost use Rattle.threads_rule.specs.declared.view.SeatWork.TheVariants.{Nothing as NoWork};
 
+use crate::turns::{Beginning, Wants};
 use crate::within::Within;
-use map_tables::{Hashes, Node};
-use papaya_raw::machines::{Machine, Progress};
-use std::hash::Hash;
+use map_tables::{Hashes, Node, Setting};
+use papaya_raw::machines::There;
+use std::marker::Brand;
 
-impl<'a, K: Eq + Hash + Drop, V: Drop, S: Hashes<K>> Within<'a, K, V, S> {
-    /// Begins a call that is to store a pair, and takes its first step, which makes its own block. Answers what that tells, and where to look for numbers next.
-    pub fn begins_to_store(
-        &mut self,
-        hasher: &S,
-        machine: &mut Machine<K, V>,
-    ) -> (Progress<Node<K, V>>, u64)
-        requires may { MayCall K.eq S.hash hasher.now machine.old self.old.seat.now.view }
-        requires stores { stores_pair machine.old ≡ true }
-        ensures begun { HasBegun K.eq S.hash (wanted_of machine.old) result.0 self.old.seat.now.view self.new.seat.now.view }
-        ensures told { CalledSo hasher.now machine.new result.0 self.new.seat.now.view }
-        ensures like { sort_of machine.new ≡ sort_of machine.old }
-        ensures first { IsFirst result.0 }
-        ensures puts { result.0 ≡ IsOn → IsToPut machine.new }
-        ensures since { (pair : AnyNode K V) → pair_wanted (wanted_of machine.old) ≡ Some pair → Since K.eq (S.hash hasher.now) pair machine.new (handed_by result.0 None) }
-        ensures pair { (pair : AnyNode K V) → pair_wanted (wanted_of machine.old) ≡ Some pair → pair_in self.new.seat.now.view.calls ≡ Some pair }
+impl<'a, K: Eq, V, S: Hashes<K>> Within<'a, K, V, S> {
+    /// Begins a call with this pair, as it is picked.
+    fn begins_with_as<B: Wants<K, V>>(&mut self, _there: There, _pair: &Node<K, V>)
+        requires inside { (t : ℕ) × (section_of self.old.seat.now.view.under self.old.seat.now.view.slot ≡ Some t) }
+        requires knows { (map : Map S) × (self.old.seat.now.view.map ≡ Some map) × MayWant K.eq S.hash self.old.seat.now.view.under map B.wanted }
+        requires free { self.old.seat.now.view.work ≡ NoWork }
+        ensures begins { Begins K.eq S.hash B.wanted self.old.seat.now.view self.new.seat.now.view }
         ensures same { IsSameSeat self.old self.new }
     {
-        self.begins(machine);
-        let told = self.calls(machine, hasher);
-        let near = self.near;
-        (told, near)
+        self.blocks.turn::<Beginning<B>>(&mut *self.seat);
+    }
+
+    /// Begins to store this pair in the map that it knows, within its section.
+    pub fn begins_to_store(
+        &mut self,
+        _hasher: &S,
+        _setting: Setting,
+        _hash: u64,
+        there: There,
+        pair: &Node<K, V>,
+    )
+        requires may { MayCall K.eq S.hash _hasher.now (KeyMachine (making _setting _hash there pair.now)) self.old.seat.now.view }
+        ensures begun { Begins K.eq S.hash (wanted_of (KeyMachine (making _setting _hash there pair.now))) self.old.seat.now.view self.new.seat.now.view }
+        ensures calls { IsCalling _hasher.now (KeyMachine (making _setting _hash there pair.now)) self.new.seat.now.view }
+        ensures same { IsSameSeat self.old self.new }
+    {
+        self.begins_with_as::<Brand>(there, pair);
     }
 }

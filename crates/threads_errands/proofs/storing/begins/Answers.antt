@@ -1,16 +1,18 @@
-use Rattle.std.specs.Prelude.{Some}
 use Rattle.std.proofs.Common.{◌≡◌, sym, subst, ◌∙◌}
+use Rattle.papaya_raw.specs.declared.machines.machine.Machine.TheVariants.{Key}
 use Rattle.threads_steps.specs.Given.ViewsDeclared.view.View.{View}
+use Rattle.threads_steps.specs.Given.ErrandsCalling.{IsCalling, MayCall, wanted_of}
+use Rattle.threads_steps.specs.Given.ErrandsLooking.{Begins}
 use Rattle.threads_steps.proofs.Given.Keeping.{kept_same}
-use Rattle.threads_steps.specs.Given.ViewsTold.{pair_in}
-use Rattle.threads_steps.specs.Given.ErrandsCalling.{CalledSo, MayCall, wanted_of}
-use Rattle.threads_steps.specs.Storing.{HasBegun}
+use Rattle.threads_steps.specs.Storing.{making}
 use Rattle.threads_errands.proofs.storing.begins.Goals as goal
 
-pub begins_to_store-requires-clause-may : goal.begins_to_store-requires-clause-may
-begins_to_store-requires-clause-may g c =
-    let was = c.new-within.ensures.seat in
-    let before : c.args.seat.now.view ≡ c.new-within.result.seat.now.view = cc was in subst (λ (v : View g.row.K.Denot g.row.V.Denot g.row.S.Denot). MayCall g.K.PartialEq.eq g.S.Hashes.hash c.args.hasher.now c.args.machine.now v) before c.requires.may
+pub begins_to_store-requires : goal.begins_to_store-requires
+begins_to_store-requires g c =
+    let x = c.args in let was = c.new-within.ensures.seat in
+    let before : x.seat.now.view ≡ c.new-within.result.seat.now.view = cc was in record {
+      may = subst (λ (v : View g.row.K.Denot g.row.V.Denot g.row.S.Denot). MayCall g.K.PartialEq.eq g.S.Hashes.hash x.hasher.now (Key (making x.setting x.hash x.there x.pair.now)) v) before c.requires.may;
+    }
 
 -- the seat is the one that was lent
 pub returns-clause-same : goal.returns-clause-same
@@ -28,19 +30,12 @@ returns-clause-begun g c =
     let was = c.new-within.ensures.seat in
     let before : c.new-within.result.seat.now.view ≡ c.args.seat.now.view = cc was in
     let after : c.begins_to_store.new.self.seat.now.view ≡ c.seat-1.given.0.view = cc is in
-    subst (λ (v : View g.row.K.Denot g.row.V.Denot g.row.S.Denot). HasBegun g.K.PartialEq.eq g.S.Hashes.hash (wanted_of c.args.machine.now) c.begins_to_store.result.0 v c.seat-1.given.0.view) before
-    (subst (λ (w : View g.row.K.Denot g.row.V.Denot g.row.S.Denot). HasBegun g.K.PartialEq.eq g.S.Hashes.hash (wanted_of c.args.machine.now) c.begins_to_store.result.0 c.new-within.result.seat.now.view w) after c.begins_to_store.ensures.begun)
+    subst (λ (v : View g.row.K.Denot g.row.V.Denot g.row.S.Denot). Begins g.K.PartialEq.eq g.S.Hashes.hash (wanted_of (Key (making c.args.setting c.args.hash c.args.there c.args.pair.now))) v c.seat-1.given.0.view) before
+    (subst (λ (w : View g.row.K.Denot g.row.V.Denot g.row.S.Denot). Begins g.K.PartialEq.eq g.S.Hashes.hash (wanted_of (Key (making c.args.setting c.args.hash c.args.there c.args.pair.now))) c.new-within.result.seat.now.view w) after c.begins_to_store.ensures.begun)
 
-pub returns-clause-told : goal.returns-clause-told
-returns-clause-told g c =
+pub returns-clause-calls : goal.returns-clause-calls
+returns-clause-calls g c =
     let s = kept_same _ _ _ _ _ _ _ _ c.begins_to_store.ensures.same in
     let is = c.seat-1.given.1 (sym (s.1 ∙ c.new-within.ensures.name)) in
     let after : c.begins_to_store.new.self.seat.now.view ≡ c.seat-1.given.0.view = cc is in
-    subst (λ (w : View g.row.K.Denot g.row.V.Denot g.row.S.Denot). CalledSo c.args.hasher.now c.begins_to_store.new.machine c.begins_to_store.result.0 w) after c.begins_to_store.ensures.told
-
-pub returns-clause-pair : goal.returns-clause-pair
-returns-clause-pair g c =
-    let s = kept_same _ _ _ _ _ _ _ _ c.begins_to_store.ensures.same in
-    let is = c.seat-1.given.1 (sym (s.1 ∙ c.new-within.ensures.name)) in
-    let after : c.begins_to_store.new.self.seat.now.view ≡ c.seat-1.given.0.view = cc is in
-    λ pair its. subst (λ (w : View g.row.K.Denot g.row.V.Denot g.row.S.Denot). pair_in w.calls ≡ Some pair) after (c.begins_to_store.ensures.pair pair its)
+    let x = c.args in subst (λ (w : View g.row.K.Denot g.row.V.Denot g.row.S.Denot). IsCalling x.hasher.now (Key (making x.setting x.hash x.there x.pair.now)) w) after c.begins_to_store.ensures.calls

@@ -1,26 +1,24 @@
-use Rattle.std.specs.Prelude.{Ok}
 use Rattle.std.proofs.Common.{◌∙◌}
-use Rattle.papaya_raw.specs.declared.machines.progress.Answer.TheVariants.{Key as OfKey}
-use Rattle.threads_steps.proofs.Given.ErrandsBeginnings.{stays_on}
-use Rattle.threads_steps.proofs.Pausing.{ended_on}
+use Rattle.threads_steps.specs.Storing.{making}
+use Rattle.threads_errands.proofs.Puts.{stored_since}
 use Rattle.threads_errands.proofs.ahead.Ahead.stores.Goals as goal
 
--- the code has ended the call, and the seat takes the turns with which that ends
-pub ends-requires : goal.ends-requires
-ends-requires g c = record { ends = c.in-Answered.ensures.put.0 }
+-- its block is made, and stored
+pub puts_own-requires : goal.puts_own-requires
+puts_own-requires g c = record { ahead = c.in-Ok.ensures.own.0.0 }
 
-pub returns-in-Answered-clause-stored : goal.returns-in-Answered-clause-stored
-returns-in-Answered-clause-stored g c =
-    let v = c.args.self.now.seat.now.view in let w = c.puts.new.self.seat.now.view in let u = c.ends.new.self.seat.now.view in
-    let p = c.in-Answered.ensures.put in let e = c.ends.ensures.ended in
-    (ended_on (Ok (OfKey c.in-Answered.answer)) v w u p.2 e.ended, stays_on v w u p.1 e.stays, p.3)
+pub returns-in-Ok-clause-stored : goal.returns-in-Ok-clause-stored
+returns-in-Ok-clause-stored g c =
+    let x = c.args in let o = c.in-Ok.ensures.own in
+    stored_since g.K.PartialEq.eq g.S.Hashes.hash x.hasher.now x.setting x.hash x.there (making x.setting x.hash x.there x.pair) c.in-Ok.own c.puts_own.result
+    x.self.now.seat.now.view c.makes.new.self.seat.now.view c.puts_own.new.self.seat.now.view o.0.1 o.0.2 o.1 c.puts_own.ensures.stored
 
-pub returns-in-Answered-clause-same : goal.returns-in-Answered-clause-same
-returns-in-Answered-clause-same g c = c.ends.ensures.same ∙ c.in-Answered.ensures.same
+pub returns-in-Ok-clause-same : goal.returns-in-Ok-clause-same
+returns-in-Ok-clause-same g c = c.puts_own.ensures.same ∙ c.in-Ok.ensures.same
 
--- or the code stands at a point of it
-pub returns-in-Stands-clause-stored : goal.returns-in-Stands-clause-stored
-returns-in-Stands-clause-stored g c = c.in-Stands.ensures.put
+-- or its pair has come back
+pub returns-in-Err-clause-stored : goal.returns-in-Err-clause-stored
+returns-in-Err-clause-stored g c = c.in-Err.ensures.own
 
-pub returns-in-Stands-clause-same : goal.returns-in-Stands-clause-same
-returns-in-Stands-clause-same g c = c.in-Stands.ensures.same
+pub returns-in-Err-clause-same : goal.returns-in-Err-clause-same
+returns-in-Err-clause-same g c = c.in-Err.ensures.same

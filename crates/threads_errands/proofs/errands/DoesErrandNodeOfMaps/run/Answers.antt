@@ -4,13 +4,6 @@ use Rattle.threads_steps.specs.Given.ErrandsCalling.{HasCalled, wanted_of}
 use Rattle.threads_steps.proofs.Given.Keeping.{kept_same}
 use Rattle.threads_errands.proofs.errands.DoesErrandNodeOfMaps.run.Goals as goal
 
--- a call that is to store a pair goes by straight code
-pub stores-requires-clause-stores : goal.stores-requires-clause-stores
-stores-requires-clause-stores g c = sym c.is_to_store.ensures ∙ c.if-is_to_store.true
-
-pub returns-then-is_to_store : goal.returns-then-is_to_store
-returns-then-is_to_store g c = let e = c.stores.ensures in (e.same.0, e.same.1, e.same.2, (e.called, e.fits))
-
 -- the seat is the one that was lent
 pub returns : goal.returns
 returns g c =
