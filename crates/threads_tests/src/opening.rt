@@ -30,7 +30,8 @@ fn finds<R: Wait>(rt: &R, resting: Resting<'_>, key: u64) -> Option<bool> {
 fn two_threads_find_no_pair_in_a_map_that_has_none(rt: HostRuntime) -> Result<(), Fail> {
     let hashing = Hashing::default();
     let home = memory_for::<u64, u64, Hashing>(rt.alloc(), 64, &CHOSEN)?;
-    let Ok(mut first) = SessionBase::open(&home.blocks, &hashing, &CHOSEN, ResizeMode::default(), 4) else {
+    let Ok(mut first) = SessionBase::open(&home.blocks, &hashing, &CHOSEN, ResizeMode::default(), 4)
+    else {
         return Err(Fail::new("no map was made"));
     };
     let second = Resting {
@@ -47,8 +48,20 @@ fn two_threads_find_no_pair_in_a_map_that_has_none(rt: HostRuntime) -> Result<()
 fn a_map_needs_a_root_of_its_own(rt: HostRuntime) -> Result<(), Fail> {
     let hashing = Hashing::default();
     let home = memory_for::<u64, u64, Hashing>(rt.alloc(), 64, &CHOSEN)?;
-    let first = SessionBase::open(&home.blocks, &hashing, &CHOSEN, ResizeMode::default(), 4).is_ok();
-    let second = SessionBase::open(&home.blocks, &hashing, &CHOSEN, ResizeMode::default(), 4).is_ok();
+    let first = SessionBase::open(
+        &home.blocks,
+        &hashing,
+        &CHOSEN,
+        ResizeMode::default(),
+        4,
+    ).is_ok();
+    let second = SessionBase::open(
+        &home.blocks,
+        &hashing,
+        &CHOSEN,
+        ResizeMode::default(),
+        4,
+    ).is_ok();
     let third = match SessionBase::open(&home.blocks, &hashing, &CHOSEN, ResizeMode::default(), 4) {
         Ok(_) => None,
         Err(fault) => Some(fault),

@@ -113,7 +113,13 @@ fn both_read<R: Threads + Wait + Sync>(
 fn two_threads_look_up_under_one_session(rt: HostRuntime) -> Result<(), Fail> {
     let hashing = Hashing::default();
     let home = memory_for::<u64, u64, Hashing>(rt.alloc(), 64, &CHOSEN)?;
-    let Ok(mut session) = SessionBase::open(&home.blocks, &hashing, &CHOSEN, ResizeMode::default(), 4) else {
+    let Ok(mut session) = SessionBase::open(
+        &home.blocks,
+        &hashing,
+        &CHOSEN,
+        ResizeMode::default(),
+        4,
+    ) else {
         return Err(Fail::new("no map was made"));
     };
     let other = Resting {

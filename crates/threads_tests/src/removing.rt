@@ -116,7 +116,8 @@ fn sums(one: Option<Done>, other: Option<Done>) -> Option<(u64, u64)> {
 fn of_two_that_try_to_store_a_key_one_does(rt: HostRuntime) -> Result<(), Fail> {
     let hashing = Hashing::default();
     let home = memory_for::<u64, u64, Hashing>(rt.alloc(), 64, &CHOSEN)?;
-    let Ok(mut first) = SessionBase::open(&home.blocks, &hashing, &CHOSEN, ResizeMode::default(), 4) else {
+    let Ok(mut first) = SessionBase::open(&home.blocks, &hashing, &CHOSEN, ResizeMode::default(), 4)
+    else {
         return Err(Fail::new("no map was made"));
     };
     let second = Resting {
@@ -157,7 +158,8 @@ fn of_two_that_try_to_store_a_key_one_does(rt: HostRuntime) -> Result<(), Fail> 
 fn a_pair_that_two_threads_remove_is_removed_once(rt: HostRuntime) -> Result<(), Fail> {
     let hashing = Hashing::default();
     let home = memory_for::<u64, u64, Hashing>(rt.alloc(), 64, &CHOSEN)?;
-    let Ok(mut first) = SessionBase::open(&home.blocks, &hashing, &CHOSEN, ResizeMode::default(), 4) else {
+    let Ok(mut first) = SessionBase::open(&home.blocks, &hashing, &CHOSEN, ResizeMode::default(), 4)
+    else {
         return Err(Fail::new("no map was made"));
     };
     let second = Resting {
