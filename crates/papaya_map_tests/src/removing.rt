@@ -1,5 +1,5 @@
 //! Two threads remove the same keys, and store pairs where their keys are missing.
-use papaya_map::{Attempt, Fault, HashMap, IdSource, ResizeMode, Session, SharedMap};
+use papaya_map::{Attempt, Fault, HashMap, IdSource, Session, SharedMap};
 use std::alloc::Global;
 use std::hash::{BuildHasherDefault, DefaultHasher};
 use std::sync::Wait;
@@ -49,15 +49,10 @@ fn works<R: Wait>(rt: &R, map: &Map<'_>, value: u64) -> Result<(u64, u64), Fault
     Ok((stored, removes(rt, &mut session)?))
 }
 
-/// Two threads do so in a map of this mode. Answers how many pairs both have stored, and how many both have removed, and how many are left.
-fn works_twice<R: Threads + Wait + Sync>(
-    rt: &R,
-    alloc: Global,
-    mode: ResizeMode,
-) -> Result<(u64, u64, u64), Fault> {
+/// Two threads do so. Answers how many pairs both have stored, and how many both have removed, and how many are left.
+fn works_twice<R: Threads + Wait + Sync>(rt: &R, alloc: Global) -> Result<(u64, u64, u64), Fault> {
     let mut ids = IdSource::new();
-    let builder = HashMap::builder(Hashing::default()).resize_mode(mode);
-    let map = builder.build(alloc, &mut ids)?;
+    let map = HashMap::with_hasher(alloc, &mut ids, Hashing::default())?;
     let shared = map.shared();
     let (one, other) = thread::join(rt, || works(rt, &shared, 1), || works(rt, &shared, 2));
     let (one, other) = (one?, other?);
@@ -78,11 +73,9 @@ fn works_twice<R: Threads + Wait + Sync>(
 // Whoever is faster: each of them removes what it has stored, or the other one has done so.
 #[test]
 fn what_two_threads_have_stored_they_remove_once(rt: HostRuntime) -> Result<(), Fail> {
-    for mode in [ResizeMode::default(), ResizeMode::Blocking] {
-        let (stored, removed, left) = works_twice(&rt, rt.alloc(), mode)?;
-        assert!(rt; stored >= KEYS);
-        assert_eq!(rt; (removed, left), (stored, 0));
-    }
+    let (stored, removed, left) = works_twice(&rt, rt.alloc())?;
+    assert!(rt; stored >= KEYS);
+    assert_eq!(rt; (removed, left), (stored, 0));
     Ok(())
 }
 

@@ -10,9 +10,6 @@ use std::thread::Threads;
 /// How many keys each of them stores.
 const EACH: u64 = 400;
 
-/// How the map comes to its next tables.
-const MODES: [ResizeMode; 2] = [ResizeMode::Incremental(1), ResizeMode::Blocking];
-
 type Hashing = BuildHasherDefault<DefaultHasher>;
 
 /// Stores so many keys from this one on, each with its double, and answers how many of them have replaced a pair.
@@ -74,7 +71,7 @@ fn works_twice<R: Threads + Wait + Sync>(
 // there are such keys. A body that served one thread after the other would pass, too.
 #[test]
 fn a_key_that_two_threads_store_is_replaced_once(rt: HostRuntime) -> Result<(), Fail> {
-    for mode in MODES {
+    for mode in [ResizeMode::Incremental(1), ResizeMode::Blocking] {
         let (one, other, later) = works_twice(&rt, rt.alloc(), mode)?;
         let replaced = u64::wrapping_add(one.0, other.0);
         assert_eq!(rt; (one.1, other.1, replaced), (EACH, EACH, EACH / 2));
