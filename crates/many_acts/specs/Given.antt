@@ -1,4 +1,5 @@
 -- The words of the crates below, given on to the crates above: these list this crate in place of those.
+pub use Rattle.owner_facts.specs.Given.CallersClaims
 pub use Rattle.owner_facts.specs.Given.CallersKind
 pub use Rattle.owner_facts.specs.Given.CallersOverAll
 pub use Rattle.owner_facts.specs.Given.CallersPairs

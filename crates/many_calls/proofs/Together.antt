@@ -13,6 +13,8 @@ pub mod RowsOfCopiers
 pub mod FactsOn
 pub mod At
 pub mod Few
+pub mod Writers
+pub mod Distinct
 pub mod Told
 pub mod RetiresBlocking
 pub mod WithinRows

@@ -10,6 +10,11 @@ use Rattle.map_facts_late.specs.Given.RuleChart.{Chart}
 abbrev pub AreFew : (ℕ → Type 0) → Type 0
 AreFew Such = (callers : List ℕ) → AllPairs (λ i j. i ≢ j) callers → All Such callers → length callers ≤ 2 ^ 32
 
+-- a call on one key that stands there is no lookup
+abbrev pub IsNoLookup : Calling → Type 0
+IsNoLookup (at.Looks lookup) = ⊥
+IsNoLookup _ = Unit {0}
+
 -- the next step of a call is to claim a chunk of places, to be copied into the table with this turn
 abbrev pub IsToClaim : ℕ → Calling → Type 0
 IsToClaim t (at.Copies copier) = (copier.stands ≡ copies.Claims) × (copier.target.turn ≡ t)

@@ -1,5 +1,5 @@
 -- Walks, clearings and retainings among the callers of a map: what is promised of each, whoever takes the next step.
-use Rattle.std.specs.Prelude.{◌≡◌, ℕ, ◌≤◌, ◌⊎◌, Bool, false, List, Option, None, Some}
+use Rattle.std.specs.Prelude.{◌≡◌, ℕ, ◌≤◌, Bool, false, List, Option, None, Some}
 use Rattle.std.specs.Int.{IsPowerOfTwo}
 use Rattle.seize_model.specs.Given.SeizeWordsMem.{Mem, Can, Took, value_at}
 use Rattle.seize_model.specs.Given.SeizeWordsPlan.{May, Steps}
@@ -22,11 +22,10 @@ use Rattle.map_facts_late.specs.Given.PointsSteps.{AreLawful}
 use Rattle.map_facts_late.specs.Covers.{WasSince, Came, NamesPair}
 use Rattle.map_facts_late.specs.CoversSweeps.{DoneAt}
 use Rattle.map_facts_late.specs.ToldSweeps.{IsRowOfSweep, word_shown, SweepOutcome}
-use Rattle.many_calls.specs.Claims.{AreFew}
 use Rattle.many_calls.specs.OverAll.{CallOverAll, begun_over_all, gone_on, come_to, with_verdict, RemovesAsReplied}
 use Rattle.many_calls.specs.Rows.{LeavesSlots}
 use Rattle.many_calls.specs.Sights.{Visible, IsGrown, seen_by}
-use Rattle.many_calls.specs.Together.{UnderWay, OverAll, HasCall, in_slot, next_over_all, IsOneStep, IsReclaimed, Together}
+use Rattle.many_calls.specs.Together.{UnderWay, OverAll, FewWith, in_slot, next_over_all, IsOneStep, IsReclaimed, Together}
 
 module _ {K : Type 0} (hash : K → ℕ) (c : Chart K) (seen : Blocks) (o : CallOverAll) where
   -- the word names a pair that the map had at a moment since the sweep began
@@ -41,12 +40,12 @@ module _ {K : Type 0} (hash : K → ℕ) (c : Chart K) (seen : Blocks) (o : Call
     pub replied : (word n : ℕ) → o.sweep.stands ≡ at.Asks word → NamesPair hash c seen word n → (keeps : Bool) → GoesOn (with_verdict o n keeps)
 
 module _ {K Q : Type 0} (V : Type 0) (same : K → K → Bool) (hash : K → ℕ) (asks : Q → K → Bool) (setting : Setting) (slot : ℕ → ℕ) where
-  -- A caller that has no call, and no row under way, begins a sweep within its section, of any purpose. In blocking mode, few calls are under way with it.
+  -- A caller that has no call, and no row under way, begins a sweep within its section, of any purpose. In blocking mode, few that may write are under way with it.
   abbrev pub SweepsBeginTogether : Type 0
   SweepsBeginTogether =
       (w : World (Node K V)) (c : Chart K) (blocks : Blocks) (sights : ℕ → Visible) (calls : ℕ → Option (UnderWay K V Q)) (i : ℕ) → Together V same hash asks setting slot w c blocks sights calls → calls i ≡ None
-      → w.row i ≡ Rests → IsInside (w.uses (slot i)) → (is_incremental setting.mode ≡ false → AreFew (λ j. (j ≡ i) ⊎ HasCall calls j))
-      → (purpose : Purpose) → Together V same hash asks setting slot w c blocks sights (with_at calls i (Some (OverAll (begun_over_all c.now (in_slot setting (slot i)) purpose))))
+      → w.row i ≡ Rests → IsInside (w.uses (slot i)) → (purpose : Purpose)
+      → (is_incremental setting.mode ≡ false → FewWith calls i (OverAll (begun_over_all c.now (in_slot setting (slot i)) purpose))) → Together V same hash asks setting slot w c blocks sights (with_at calls i (Some (OverAll (begun_over_all c.now (in_slot setting (slot i)) purpose))))
 
   module _ (w : World (Node K V)) (c : Chart K) (blocks : Blocks) (sights : ℕ → Visible) (calls : ℕ → Option (UnderWay K V Q)) (i : ℕ) (o : CallOverAll) where
     -- Where a step of a sweep leads that is none of a row: one move at most was made, by this caller, which removes no pair but as it was told. A pair that it

@@ -32,7 +32,7 @@ use Rattle.map_facts_late.specs.Given.RuleInWorld.{IsHeldBy, IsMapIn, StepSpec}
 use Rattle.map_facts_late.specs.Given.RuleMoments.{Moments, Remembers}
 use Rattle.map_facts_late.specs.Given.PointsFactsIdle.{IsIdle}
 use Rattle.map_facts_late.specs.Given.PointsFactsCalls.{Change, Unchanged, AnswersChange, CallFacts}
-use Rattle.many_calls.specs.Claims.{AreFew, IsToClaim, ClaimsFit}
+use Rattle.many_calls.specs.Claims.{AreFew, IsNoLookup, IsToClaim, ClaimsFit}
 use Rattle.many_calls.specs.Kept.{IsMaking, IsWithin, AllKeptBy, AllOwned, DeferredIsOwned}
 use Rattle.many_calls.specs.Asked.{replies_before}
 use Rattle.map_facts_late.specs.Kinds.{FaultFits}
@@ -92,6 +92,13 @@ UnlessCounts (ForRoom r) Asked = Asked
 UnlessCounts (Counting sum) Asked = Unit {0}
 UnlessCounts (OverAll o) Asked = Asked
 
+-- A call that may write: neither a lookup nor a counting. Calls of no other kind come to claim places.
+abbrev pub MayWrite : {K V Q : Type 0} → UnderWay K V Q → Type 0
+MayWrite (OnKey u) = IsNoLookup u.call.stands
+MayWrite (ForRoom r) = Unit {0}
+MayWrite (Counting sum) = ⊥
+MayWrite (OverAll o) = Unit {0}
+
 -- whether it is under way after a step
 abbrev pub next_of : {K V Q : Type 0} → CallOnKey K V Q → Called (Node K V) → Option (UnderWay K V Q)
 next_of u (called.Done answer) = None
@@ -131,6 +138,14 @@ module _ {K V Q : Type 0} (calls : ℕ → Option (UnderWay K V Q)) where
   abbrev pub HasCall : ℕ → Type 0
   HasCall i = calls i ≢ None
 
+  -- and one that may write
+  abbrev pub IsWriter : ℕ → Type 0
+  IsWriter i = (u : UnderWay K V Q) × (calls i ≡ Some u) × MayWrite u
+
+  -- with this call, if caller i begins it, those that may write are few
+  abbrev pub FewWith : ℕ → UnderWay K V Q → Type 0
+  FewWith i u = AreFew (λ j. ((j ≡ i) × MayWrite u) ⊎ IsWriter j)
+
   -- a row that puts a block behind a linked table of this map is within one of them
   abbrev pub PutsWithin : World (Node K V) → Chart K → Blocks → Type 0
   PutsWithin w c blocks = (t j : ℕ) → c.first ≤ t → t < c.past → IsOnto (blocks.table t) (w.row j) → HasCall j
@@ -139,9 +154,9 @@ module _ {K V Q : Type 0} (calls : ℕ → Option (UnderWay K V Q)) where
   abbrev pub ToClaim : ℕ → ℕ → Type 0
   ToClaim t i = (u : UnderWay K V Q) × (calls i ≡ Some u) × ClaimsInto t u
 
-  -- They are few in blocking mode, and so no claim comes near to the end of a word.
+  -- Those that may write are few in blocking mode, and so no claim comes near to the end of a word.
   pub record StayFew (c : Chart K) : Type 0 where
-    pub few : AreFew HasCall
+    pub few : AreFew IsWriter
     pub claims : ClaimsFit c ToClaim
 
 -- the setting of a caller: its slot
@@ -282,12 +297,12 @@ module _ {K Q : Type 0} (V : Type 0) (same : K → K → Bool) (hash : K → ℕ
   abbrev pub begun_at : Chart K → (K → Bool) → Given K V → KeyCall K V Q → CallOnKey K V Q
   begun_at c keys pair call = record { keys = keys; pair = pair; began = c.now; change = Unchanged; call = call }
 
-  -- A caller that has no call, and no row under way, begins one within its section. In blocking mode, few are under way with it.
+  -- A caller that has no call, and no row under way, begins one within its section. In blocking mode, few that may write are under way with it.
   abbrev pub BeginsTogether : Type 0
   BeginsTogether =
       (w : World (Node K V)) (c : Chart K) (blocks : Blocks) (sights : ℕ → Visible) (calls : ℕ → Option (UnderWay K V Q)) (i : ℕ) → AreLawful same hash → Together w c blocks sights calls → calls i ≡ None
-      → w.row i ≡ Rests → IsInside (w.uses (slot i)) → (is_incremental setting.mode ≡ false → AreFew (λ j. (j ≡ i) ⊎ HasCall calls j))
-      → (keys : K → Bool) (pair : Given K V) (call : KeyCall K V Q) → IsBegun i keys pair call → Together w c blocks sights (with_at calls i (Some (OnKey (begun_at c keys pair call))))
+      → w.row i ≡ Rests → IsInside (w.uses (slot i)) → (keys : K → Bool) (pair : Given K V) (call : KeyCall K V Q) → IsBegun i keys pair call
+      → (is_incremental setting.mode ≡ false → FewWith calls i (OnKey (begun_at c keys pair call))) → Together w c blocks sights (with_at calls i (Some (OnKey (begun_at c keys pair call))))
 
   -- An answer is one of the call's kind. It tells the one change that the call has made, at a moment since it began, and what was stored is the pair that
   -- it was begun with, if with one, or what was changed is what it was told to change; or it tells what was so at one, where the call has made none, and
@@ -414,12 +429,13 @@ module _ {K Q : Type 0} (V : Type 0) (same : K → K → Bool) (hash : K → ℕ
       → (i : ℕ) (u : CallOnKey K V Q) → calls i ≡ Some (OnKey u) → (asks_at : Asking) → u.call.stands ≡ at.Asks asks_at
       → RepliesTaken c (seen_by blocks (sights (slot i))) u asks_at (λ told. Together w c blocks sights (with_at calls i (Some (OnKey told))))
 
-  -- A caller that has no call, and no row under way, begins a reservation within its section. In blocking mode, few calls are under way with it.
+  -- A caller that has no call, and no row under way, begins a reservation within its section. In blocking mode, few that may write are under way with it.
   abbrev pub RoomsBeginTogether : Type 0
   RoomsBeginTogether =
       (w : World (Node K V)) (c : Chart K) (blocks : Blocks) (sights : ℕ → Visible) (calls : ℕ → Option (UnderWay K V Q)) (i : ℕ) → Together w c blocks sights calls → calls i ≡ None
-      → w.row i ≡ Rests → IsInside (w.uses (slot i)) → (is_incremental setting.mode ≡ false → AreFew (λ j. (j ≡ i) ⊎ HasCall calls j))
-      → (additional : ℕ) → Together w c blocks sights (with_at calls i (Some (ForRoom (record { began = c.now; reserve = reserving (in_slot setting (slot i)) additional }))))
+      → w.row i ≡ Rests → IsInside (w.uses (slot i)) → (additional : ℕ)
+      → (is_incremental setting.mode ≡ false → FewWith calls i (ForRoom (record { began = c.now; reserve = reserving (in_slot setting (slot i)) additional })))
+      → Together w c blocks sights (with_at calls i (Some (ForRoom (record { began = c.now; reserve = reserving (in_slot setting (slot i)) additional }))))
 
   -- what a step of a reservation tells, in its table, or in one that the root has left
   pub data RoomOutcome (c : Chart K) (i : ℕ) (r : CallForRoom) (p2 : Reserve) (end : Yielding (Node K V) Unit) (w2 : World (Node K V)) (c2 : Chart K) (blocks2 : Blocks) : Type 0 where
@@ -470,13 +486,11 @@ module _ {K Q : Type 0} (V : Type 0) (same : K → K → Bool) (hash : K → ℕ
       × ((m2 : Mem (Node K V)) (p2 : Reserve) (end : Yielding (Node K V) Unit) → Steps Took value_at w.memory (reserve_plan hash r.reserve) m2 (p2, end)
       → RoomRowsTogether w c blocks sights calls i r m2 p2 end)
 
-  -- A caller that has no call, and no row under way, begins to count the pairs, within a section or outside of any. In blocking mode, few calls are under
-  -- way with it.
+  -- A caller that has no call, and no row under way, begins to count the pairs, within a section or outside of any.
   abbrev pub CountingsBeginTogether : Type 0
   CountingsBeginTogether =
       (w : World (Node K V)) (c : Chart K) (blocks : Blocks) (sights : ℕ → Visible) (calls : ℕ → Option (UnderWay K V Q)) (i : ℕ) → Together w c blocks sights calls → calls i ≡ None
-      → w.row i ≡ Rests → (is_incremental setting.mode ≡ false → AreFew (λ j. (j ≡ i) ⊎ HasCall calls j))
-      → Together w c blocks sights (with_at calls i (Some (Counting (summing (in_slot setting (slot i))))))
+      → w.row i ≡ Rests → Together w c blocks sights (with_at calls i (Some (Counting (summing (in_slot setting (slot i))))))
 
   -- The promise: whichever caller takes a step of its counting, it may take it. It changes nothing, never waits, and is never refused.
   abbrev pub CountingsPreserveTheInvariant : Type 0

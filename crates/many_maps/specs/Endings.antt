@@ -26,11 +26,10 @@ use Rattle.many_calls.specs.Given.PointsSteps.{AreLawful}
 use Rattle.many_calls.specs.Given.PointsTold.{IsRowOfCall}
 use Rattle.many_calls.specs.Kept.{IsPair}
 use Rattle.many_calls.specs.Pairs.{Given}
-use Rattle.many_calls.specs.Claims.{AreFew}
 use Rattle.many_maps.specs.Maps.{Standing, IsSameMap, with_call}
 use Rattle.many_maps.specs.Makings.{Beginning, HasTaken, HasMade, MakingsTogether, StepsOfMaking, IsMade}
 use Rattle.many_calls.specs.Sights.{seen_by}
-use Rattle.many_calls.specs.Together.{RepliesTaken, CallOnKey, UnderWay, OnKey, UnlessCounts, HasCall, IsOfSlots, Closes, IsBegun, begun_at, next_of, change_observed, StepsTogether, RowStepsTogether}
+use Rattle.many_calls.specs.Together.{RepliesTaken, CallOnKey, UnderWay, OnKey, UnlessCounts, FewWith, IsOfSlots, Closes, IsBegun, begun_at, next_of, change_observed, StepsTogether, RowStepsTogether}
 use Rattle.many_maps.specs.FactsEnds.{Deed, LeavesTable, events_of, taken_by, left_by, joined_by, Spares, RootIs, BeganIn, CarryTheirs, EndFacts, back_of, wait_before}
 use Rattle.many_maps.specs.Orders.{pairs_of}
 
@@ -176,8 +175,8 @@ module _ {K Q : Type 0} (V : Type 0) (same : K → K → Bool) (asks : Q → K �
   CallsBeginWithEndings =
       (w : World (Node K V)) (maps : ℕ → Option (Standing K)) (calls : ℕ → ℕ → Option (UnderWay K V Q)) (makers : ℕ → Option (Beginning K)) (enders : ℕ → Option (Finishing K V))
       → EndingsTogether w maps calls makers enders → (i : ℕ) → makers i ≡ None → enders i ≡ None → ((n : ℕ) → calls n i ≡ None) → w.row i ≡ Rests → IsInside (w.uses (slot i))
-      → (m : ℕ) (s : Standing K) → maps m ≡ Some s → (is_incremental s.setting.mode ≡ false → AreFew (λ j. (j ≡ i) ⊎ HasCall (calls m) j))
-      → (keys : K → Bool) (pair : Given K V) (call : KeyCall K V Q) → IsBegun V same s.hash asks s.setting slot i keys pair call
+      → (m : ℕ) (s : Standing K) → maps m ≡ Some s → (keys : K → Bool) (pair : Given K V) (call : KeyCall K V Q) → IsBegun V same s.hash asks s.setting slot i keys pair call
+      → (is_incremental s.setting.mode ≡ false → FewWith (calls m) i (OnKey (begun_at V same s.hash asks s.setting slot s.chart keys pair call)))
       → EndingsTogether w maps (with_call calls m i (Some (OnKey (begun_at V same s.hash asks s.setting slot s.chart keys pair call)))) makers enders
 
   -- where a step of a call leads that is none of a row, with ends of maps under way: they go on as they were

@@ -34,10 +34,9 @@ use Rattle.many_calls.specs.Given.PointsFactsTables.{NewTableFacts}
 use Rattle.many_calls.specs.Given.PointsSteps.{AreLawful}
 use Rattle.many_calls.specs.Given.PointsTold.{IsRowOfCall}
 use Rattle.many_calls.specs.Pairs.{Given}
-use Rattle.many_calls.specs.Claims.{AreFew}
 use Rattle.many_maps.specs.Maps.{Standing, IsSameMap, with_call, MapsTogether}
 use Rattle.many_calls.specs.Sights.{seen_by}
-use Rattle.many_calls.specs.Together.{RepliesTaken, OnKey, CallOnKey, UnderWay, UnlessCounts, HasCall, IsOfSlots, Closes, IsBegun, begun_at, next_of, change_observed, no_blocks, StepsTogether, RowStepsTogether}
+use Rattle.many_calls.specs.Together.{RepliesTaken, OnKey, CallOnKey, UnderWay, UnlessCounts, FewWith, IsOfSlots, Closes, IsBegun, begun_at, next_of, change_observed, no_blocks, StepsTogether, RowStepsTogether}
 
 -- The making of a map that is under way: the number that the map is to have, the setting that the making began with, as many places as its first
 -- table is to have, 0 for no table, the hash of its keys, and the machine. The map stands from the step on at which the machine answers.
@@ -231,8 +230,8 @@ module _ {K Q : Type 0} (V : Type 0) (same : K → K → Bool) (asks : Q → K �
   CallsBeginWithMakings =
       (w : World (Node K V)) (maps : ℕ → Option (Standing K)) (calls : ℕ → ℕ → Option (UnderWay K V Q)) (makers : ℕ → Option (Beginning K)) → MakingsTogether w maps calls makers
       → (i : ℕ) → makers i ≡ None → ((n : ℕ) → calls n i ≡ None) → w.row i ≡ Rests → IsInside (w.uses (slot i))
-      → (m : ℕ) (s : Standing K) → maps m ≡ Some s → (is_incremental s.setting.mode ≡ false → AreFew (λ j. (j ≡ i) ⊎ HasCall (calls m) j))
-      → (keys : K → Bool) (pair : Given K V) (call : KeyCall K V Q) → IsBegun V same s.hash asks s.setting slot i keys pair call
+      → (m : ℕ) (s : Standing K) → maps m ≡ Some s → (keys : K → Bool) (pair : Given K V) (call : KeyCall K V Q) → IsBegun V same s.hash asks s.setting slot i keys pair call
+      → (is_incremental s.setting.mode ≡ false → FewWith (calls m) i (OnKey (begun_at V same s.hash asks s.setting slot s.chart keys pair call)))
       → MakingsTogether w maps (with_call calls m i (Some (OnKey (begun_at V same s.hash asks s.setting slot s.chart keys pair call)))) makers
 
   -- where a step of a call leads that is none of a row, with makings under way: they go on as they were

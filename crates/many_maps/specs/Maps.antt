@@ -1,5 +1,5 @@
 -- Several maps on one collector, with calls of many callers on each: under every interleaving the invariant of all maps holds.
-use Rattle.std.specs.Prelude.{◌≡◌, ◌≢◌, ◌≤◌, ℕ, ◌⊎◌, Bool, false, Option, Some, None}
+use Rattle.std.specs.Prelude.{◌≡◌, ◌≢◌, ◌≤◌, ℕ, Bool, false, Option, Some, None}
 use Rattle.std.specs.Int.{IsPowerOfTwo}
 use Rattle.many_calls.specs.Given.SeizeWordsMem.{Mem, Can, Took, value_at, word_at}
 use Rattle.many_calls.specs.Given.SeizeWordsPlan.{May, Steps}
@@ -21,10 +21,9 @@ use Rattle.many_calls.specs.Given.RuleWords.{Blocks}
 use Rattle.many_calls.specs.Given.PointsSteps.{AreLawful}
 use Rattle.many_calls.specs.Given.PointsTold.{IsRowOfCall}
 use Rattle.many_calls.specs.Pairs.{Given}
-use Rattle.many_calls.specs.Claims.{AreFew}
 use Rattle.many_calls.specs.Kept.{IsMaking}
 use Rattle.many_calls.specs.Sights.{Visible, IsPartOf, seen_by}
-use Rattle.many_calls.specs.Together.{RepliesTaken, CallOnKey, UnderWay, OnKey, UnlessCounts, HasCall, CameAbout, IsOfSlots, Closes, IsBegun, begun_at, next_of, change_observed, no_blocks, no_sight, Together, StepsTogether, RowStepsTogether}
+use Rattle.many_calls.specs.Together.{RepliesTaken, CallOnKey, UnderWay, OnKey, UnlessCounts, HasCall, FewWith, CameAbout, IsOfSlots, Closes, IsBegun, begun_at, next_of, change_observed, no_blocks, no_sight, Together, StepsTogether, RowStepsTogether}
 
 -- a map that stands: its setting, the hash of its keys, its tables, the blocks that may be looked at, and what each section sees of them
 pub record Standing (K : Type 0) : Type 0 where
@@ -82,8 +81,8 @@ module _ {K Q : Type 0} (V : Type 0) (same : K → K → Bool) (asks : Q → K �
   CallsBeginInMaps =
       (w : World (Node K V)) (maps : ℕ → Option (Standing K)) (calls : ℕ → ℕ → Option (UnderWay K V Q)) → MapsTogether w maps calls
       → (i : ℕ) → ((n : ℕ) → calls n i ≡ None) → w.row i ≡ Rests → IsInside (w.uses (slot i))
-      → (m : ℕ) (s : Standing K) → maps m ≡ Some s → (is_incremental s.setting.mode ≡ false → AreFew (λ j. (j ≡ i) ⊎ HasCall (calls m) j))
-      → (keys : K → Bool) (pair : Given K V) (call : KeyCall K V Q) → IsBegun V same s.hash asks s.setting slot i keys pair call
+      → (m : ℕ) (s : Standing K) → maps m ≡ Some s → (keys : K → Bool) (pair : Given K V) (call : KeyCall K V Q) → IsBegun V same s.hash asks s.setting slot i keys pair call
+      → (is_incremental s.setting.mode ≡ false → FewWith (calls m) i (OnKey (begun_at V same s.hash asks s.setting slot s.chart keys pair call)))
       → MapsTogether w maps (with_call calls m i (Some (OnKey (begun_at V same s.hash asks s.setting slot s.chart keys pair call))))
 
   -- Where a step of a call leads that is none of a row: in its own map as if this were the only one, and all others are as they were.

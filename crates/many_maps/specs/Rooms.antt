@@ -1,5 +1,5 @@
 -- Reservations on maps, among calls, makings and ends of maps: under every interleaving the invariant of all holds.
-use Rattle.std.specs.Prelude.{◌≡◌, ℕ, ◌⊎◌, Bool, false, Option, Some, None}
+use Rattle.std.specs.Prelude.{◌≡◌, ℕ, Bool, false, Option, Some, None}
 use Rattle.many_calls.specs.Given.SeizeWordsMem.{Mem, Can, Took, value_at}
 use Rattle.many_calls.specs.Given.SeizeWordsPlan.{May, Steps}
 use Rattle.many_calls.specs.Given.SeizeWorld.{World, Rests, IsInside, with_at}
@@ -9,11 +9,10 @@ use Rattle.many_calls.specs.Given.ResizeDeclared.yielding.Yielding.{Yielding}
 use Rattle.many_calls.specs.Given.ReservesReserve.{reserving, reserve_plan}
 use Rattle.many_calls.specs.Given.ReservesDeclared.reserve.Reserve.{Reserve}
 use Rattle.many_calls.specs.Given.LateToldReserves.{IsRowOfReserve}
-use Rattle.many_calls.specs.Claims.{AreFew}
 use Rattle.many_maps.specs.Makings.{Beginning}
 use Rattle.many_maps.specs.Maps.{Standing, with_call}
 use Rattle.many_calls.specs.Rooms.{CallForRoom}
-use Rattle.many_calls.specs.Together.{UnderWay, ForRoom, HasCall, in_slot, next_for_room, RoomStepsTogether, RoomRowsTogether}
+use Rattle.many_calls.specs.Together.{UnderWay, ForRoom, FewWith, in_slot, next_for_room, RoomStepsTogether, RoomRowsTogether}
 use Rattle.many_maps.specs.Endings.{Finishing, EndingsTogether, AllEndingsStand}
 
 module _ {K Q : Type 0} (V : Type 0) (same : K → K → Bool) (asks : Q → K → Bool) (batch_size roots : ℕ) (slot : ℕ → ℕ) where
@@ -23,7 +22,8 @@ module _ {K Q : Type 0} (V : Type 0) (same : K → K → Bool) (asks : Q → K �
       (w : World (Node K V)) (maps : ℕ → Option (Standing K)) (calls : ℕ → ℕ → Option (UnderWay K V Q)) (makers : ℕ → Option (Beginning K)) (enders : ℕ → Option (Finishing K V))
       → EndingsTogether V same asks batch_size roots slot w maps calls makers enders
       → (i : ℕ) → makers i ≡ None → enders i ≡ None → ((n : ℕ) → calls n i ≡ None) → w.row i ≡ Rests → IsInside (w.uses (slot i))
-      → (m : ℕ) (s : Standing K) → maps m ≡ Some s → (is_incremental s.setting.mode ≡ false → AreFew (λ j. (j ≡ i) ⊎ HasCall (calls m) j)) → (additional : ℕ)
+      → (m : ℕ) (s : Standing K) → maps m ≡ Some s → (additional : ℕ)
+      → (is_incremental s.setting.mode ≡ false → FewWith (calls m) i (ForRoom (record { began = s.chart.now; reserve = reserving (in_slot s.setting (slot i)) additional })))
       → EndingsTogether V same asks batch_size roots slot w maps
       (with_call calls m i (Some (ForRoom (record { began = s.chart.now; reserve = reserving (in_slot s.setting (slot i)) additional })))) makers enders
 

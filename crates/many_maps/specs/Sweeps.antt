@@ -1,5 +1,5 @@
 -- Walks, clearings and retainings on maps, among calls, makings and ends of maps: under every interleaving the invariant of all holds.
-use Rattle.std.specs.Prelude.{◌≡◌, ℕ, ◌⊎◌, Bool, false, Option, Some, None}
+use Rattle.std.specs.Prelude.{◌≡◌, ℕ, Bool, false, Option, Some, None}
 use Rattle.many_calls.specs.Given.SeizeWordsMem.{Mem, Can, Took, value_at}
 use Rattle.many_calls.specs.Given.SeizeWordsPlan.{May, Steps}
 use Rattle.many_calls.specs.Given.SeizeWorld.{World, Rests, IsInside, with_at}
@@ -11,11 +11,10 @@ use Rattle.many_calls.specs.Given.ReservesDeclared.sweep.Sweep.{Sweep}
 use Rattle.many_calls.specs.Given.ReservesDeclared.sweep.Sweeping.TheVariants as at
 use Rattle.many_calls.specs.Given.ReservesDeclared.sweep.Swept.{Swept}
 use Rattle.many_calls.specs.Given.LateToldSweeps.{IsRowOfSweep}
-use Rattle.many_calls.specs.Claims.{AreFew}
 use Rattle.many_calls.specs.OverAll.{CallOverAll, begun_over_all, gone_on, come_to}
 use Rattle.many_calls.specs.Sights.{seen_by}
 use Rattle.many_calls.specs.Sweeps.{TakesReply, SweepStepsTogether, SweepRowsTogether}
-use Rattle.many_calls.specs.Together.{UnderWay, OverAll, HasCall, in_slot, next_over_all}
+use Rattle.many_calls.specs.Together.{UnderWay, OverAll, FewWith, in_slot, next_over_all}
 use Rattle.many_maps.specs.Makings.{Beginning}
 use Rattle.many_maps.specs.Maps.{Standing, with_call}
 use Rattle.many_maps.specs.Endings.{Finishing, EndingsTogether, AllEndingsStand}
@@ -28,7 +27,8 @@ module _ {K Q : Type 0} (V : Type 0) (same : K → K → Bool) (asks : Q → K �
       (makers : ℕ → Option (Beginning K)) (enders : ℕ → Option (Finishing K V))
       → EndingsTogether V same asks batch_size roots slot w maps calls makers enders
       → (i : ℕ) → makers i ≡ None → enders i ≡ None → ((n : ℕ) → calls n i ≡ None) → w.row i ≡ Rests → IsInside (w.uses (slot i))
-      → (m : ℕ) (s : Standing K) → maps m ≡ Some s → (is_incremental s.setting.mode ≡ false → AreFew (λ j. (j ≡ i) ⊎ HasCall (calls m) j)) → (purpose : Purpose)
+      → (m : ℕ) (s : Standing K) → maps m ≡ Some s → (purpose : Purpose)
+      → (is_incremental s.setting.mode ≡ false → FewWith (calls m) i (OverAll (begun_over_all s.chart.now (in_slot s.setting (slot i)) purpose)))
       → EndingsTogether V same asks batch_size roots slot w maps
       (with_call calls m i (Some (OverAll (begun_over_all s.chart.now (in_slot s.setting (slot i)) purpose)))) makers enders
 

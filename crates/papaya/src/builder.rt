@@ -1,10 +1,9 @@
 //! What is chosen of a set before it is made.
 ghost use Rattle.std.specs.Prelude.{◌≡◌, Some, None, Ok, IfOk, IfErr, OnOk};
-ghost use Rattle.map_tables.specs.declared.resize_mode.ResizeMode.TheVariants.{Incremental};
 ghost use Rattle.papaya_map.specs.Builders.{RefusedBy, first_fault, ids_after, made_for};
 
 use crate::set::HashSet;
-use papaya_map::{Collector, Given, HashMapBuilder, IdSource, Own};
+use papaya_map::{Collector, Given, HashMapBuilder, IdSource, Own, ResizeMode};
 use seize_words::Fault;
 use std::alloc::Global;
 use std::fmt;
@@ -21,7 +20,7 @@ impl<K, S: Drop> HashSetBuilder<K, S> {
     pub fn hasher<H>(self, hasher: H) -> HashSetBuilder<K, H>
         ensures hasher { result.map.hasher ≡ hasher }
         ensures capacity { result.map.capacity ≡ self.map.capacity }
-        ensures chunk { result.map.chunk ≡ self.map.chunk }
+        ensures mode { result.map.mode ≡ self.map.mode }
         ensures shards { result.map.shards ≡ self.map.shards }
         ensures collector { result.map.collector ≡ self.map.collector }
     {
@@ -48,12 +47,12 @@ impl<K, S, C> HashSetBuilder<K, S, C> {
         }
     }
 
-    /// Chooses that each call that writes copies at most so many places as the set grows.
-    pub fn chunk(self, chunk: u64) -> Self
-        ensures { result.map ≡ record self.map { chunk = chunk } }
+    /// Chooses how the set comes to its next table: bit by bit, or at once.
+    pub fn resize_mode(self, mode: ResizeMode) -> Self
+        ensures { result.map ≡ record self.map { mode = mode } }
     {
         HashSetBuilder {
-            map: self.map.chunk(chunk),
+            map: self.map.resize_mode(mode),
         }
     }
 
@@ -70,7 +69,7 @@ impl<K, S, C> HashSetBuilder<K, S, C> {
     pub fn collector(self, collector: Collector) -> HashSetBuilder<K, S, Given>
         ensures collector { result.map.collector ≡ Some collector }
         ensures capacity { result.map.capacity ≡ self.map.capacity }
-        ensures chunk { result.map.chunk ≡ self.map.chunk }
+        ensures mode { result.map.mode ≡ self.map.mode }
         ensures shards { result.map.shards ≡ self.map.shards }
         ensures hasher { result.map.hasher ≡ self.map.hasher }
     {
@@ -92,13 +91,13 @@ impl<K: Eq + Hash + Drop, S: BuildHasher + Drop, C> HashSetBuilder<K, S, C> {
     /// where no table has the places for so many elements; `Fault::CollectorsUsedUp`, where no collector was given, and the source has no number left; and
     /// `Fault::Memory`. Where a collector was given, and after the first three faults, the source is as it was.
     pub fn build(self, alloc: Global, ids: &mut IdSource) -> Result<HashSet<K, S>, Fault>
-        ensures few { OnOk result (first_fault self.map.chunk self.map.capacity ≡ None) }
+        ensures few { OnOk result (first_fault self.map.mode self.map.capacity ≡ None) }
         ensures collector { IfOk result (λ set. made_for self.map.collector ids.old ≡ Ok set.map.collector) }
         ensures batches { IfOk result (λ set. set.map.setting.batch_size ≡ set.map.collector.batch_size) }
         ensures hasher { IfOk result (λ set. set.map.hasher ≡ self.map.hasher) }
-        ensures mode { IfOk result (λ set. set.map.setting.mode ≡ Incremental self.map.chunk) }
-        ensures fault { IfErr result (RefusedBy (first_fault self.map.chunk self.map.capacity) self.map.collector ids.old) }
-        ensures ids { ids.new ≡ ids_after (first_fault self.map.chunk self.map.capacity) self.map.collector ids.old }
+        ensures mode { IfOk result (λ set. set.map.setting.mode ≡ self.map.mode) }
+        ensures fault { IfErr result (RefusedBy (first_fault self.map.mode self.map.capacity) self.map.collector ids.old) }
+        ensures ids { ids.new ≡ ids_after (first_fault self.map.mode self.map.capacity) self.map.collector ids.old }
     {
         let map = self.map.build(alloc, ids)?;
         Ok(HashSet::of(map))

@@ -12,7 +12,7 @@ mod shared;
 pub use builder::HashSetBuilder;
 pub use papaya_map::{
     Attempt, Collector, Fault, Given, HashMap, HashMapBuilder, HashMapRef, IdSource, Own, Pass,
-    Refused, Session, SharedMap,
+    Refused, ResizeMode, Session, SharedMap,
 };
 pub use pin::HashSetRef;
 pub use seize_words::RefusedKey;

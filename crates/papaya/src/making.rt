@@ -33,12 +33,12 @@ impl<K: Eq + Hash + Drop> HashSet<K> {
         capacity: u64,
         hasher: RandomState,
     ) -> Result<Self, Fault>
-        ensures few { OnOk result (first_fault 64 capacity ≡ None) }
+        ensures few { OnOk result (first_fault (Incremental 64) capacity ≡ None) }
         ensures number { IfOk result (λ set. given ids.old ≡ Ok set.map.collector.number) }
         ensures hasher { IfOk result (λ set. set.map.hasher ≡ hasher) }
         ensures mode { IfOk result (λ set. set.map.setting.mode ≡ Incremental 64) }
-        ensures fault { IfErr result (RefusedBy (first_fault 64 capacity) None ids.old) }
-        ensures ids { ids.new ≡ ids_after (first_fault 64 capacity) None ids.old }
+        ensures fault { IfErr result (RefusedBy (first_fault (Incremental 64) capacity) None ids.old) }
+        ensures ids { ids.new ≡ ids_after (first_fault (Incremental 64) capacity) None ids.old }
     {
         HashSet::with_capacity_and_hasher(alloc, ids, capacity, hasher)
     }
@@ -48,7 +48,7 @@ impl<K: Eq + Hash + Drop, S: BuildHasher + Drop> HashSet<K, S> {
     /// Begins a builder of a set with this hasher: of capacity 0, which copies 64 places at a time as it grows, and makes its collector itself.
     pub fn builder(hasher: S) -> HashSetBuilder<K, S>
         ensures capacity { result.map.capacity ≡ 0 }
-        ensures chunk { result.map.chunk ≡ 64 }
+        ensures mode { result.map.mode ≡ Incremental 64 }
         ensures shards { result.map.shards ≡ None }
         ensures collector { result.map.collector ≡ None }
         ensures hasher { result.map.hasher ≡ hasher }
@@ -76,12 +76,12 @@ impl<K: Eq + Hash + Drop, S: BuildHasher + Drop> HashSet<K, S> {
         capacity: u64,
         hasher: S,
     ) -> Result<Self, Fault>
-        ensures few { OnOk result (first_fault 64 capacity ≡ None) }
+        ensures few { OnOk result (first_fault (Incremental 64) capacity ≡ None) }
         ensures number { IfOk result (λ set. given ids.old ≡ Ok set.map.collector.number) }
         ensures hasher { IfOk result (λ set. set.map.hasher ≡ hasher) }
         ensures mode { IfOk result (λ set. set.map.setting.mode ≡ Incremental 64) }
-        ensures fault { IfErr result (RefusedBy (first_fault 64 capacity) None ids.old) }
-        ensures ids { ids.new ≡ ids_after (first_fault 64 capacity) None ids.old }
+        ensures fault { IfErr result (RefusedBy (first_fault (Incremental 64) capacity) None ids.old) }
+        ensures ids { ids.new ≡ ids_after (first_fault (Incremental 64) capacity) None ids.old }
     {
         let map = HashMap::with_capacity_and_hasher(alloc, ids, capacity, hasher)?;
         Ok(HashSet::of(map))

@@ -1,5 +1,5 @@
 //! How maps are built, and why one is refused: the first reason that there is.
-use papaya_map::{Collector, Fault, HashMap, IdSource, Session};
+use papaya_map::{Collector, Fault, HashMap, IdSource, ResizeMode, Session};
 use std::alloc::{AllocError, Global};
 use std::hash::{BuildHasherDefault, DefaultHasher, RandomState};
 use std::sync::Wait;
@@ -24,7 +24,8 @@ type Map = HashMap<u64, u64, Hashing>;
 fn reasons(alloc: Global, hasher: RandomState) -> [bool; 6] {
     let mut ids = IdSource::starting_at(LAST);
     let builder = Map::builder(Hashing::default());
-    let zero = builder.chunk(0).capacity(TOO_MANY).build(alloc, &mut ids);
+    let builder = builder.resize_mode(ResizeMode::Incremental(0));
+    let zero = builder.capacity(TOO_MANY).build(alloc, &mut ids);
     let builder = Map::builder(Hashing::default()).capacity(TOO_MANY);
     let many = builder.build(alloc, &mut ids);
     let still = Map::builder(Hashing::default()).build(alloc, &mut ids);
@@ -51,7 +52,10 @@ fn the_first_reason_refuses_a_map(rt: HostRuntime) -> Result<(), Fail> {
 fn is_shown(alloc: Global) -> Result<bool, AllocError> {
     let map = Map::builder(Hashing::default()).capacity(10);
     let map = format!(in alloc; "{map:?}")?;
-    Ok(map.as_str() == "HashMapBuilder { capacity: 10, collector: None, chunk: 64 }")
+    Ok(
+        map.as_str()
+            == "HashMapBuilder { capacity: 10, collector: None, resize_mode: Incremental(64) }",
+    )
 }
 
 #[test]
@@ -78,15 +82,15 @@ fn stores<R: Wait>(
     Ok(found)
 }
 
-/// Two threads store in a map that was built with all that can be chosen: of batches of one block, two shards, chunks of one place. Answers what both have found.
-fn built<R: Threads + Wait + Sync>(rt: &R, alloc: Global) -> Result<u64, Fault> {
+/// Two threads store in a map that was built with all that can be chosen: of batches of one block, two shards, and this mode. Answers what both have found.
+fn built<R: Threads + Wait + Sync>(rt: &R, alloc: Global, mode: ResizeMode) -> Result<u64, Fault> {
     let mut ids = IdSource::new();
     let collector = Collector::new(&mut ids, 1, 4)?.batch_size(1);
     let map = HashMap::builder(Hashing::default())
         .hasher(Hashing::default())
         .collector(collector)
         .shards(2)
-        .chunk(1)
+        .resize_mode(mode)
         .capacity(2 * EACH)
         .build(alloc, &mut ids)?;
     let first = map.session()?;
@@ -98,6 +102,8 @@ fn built<R: Threads + Wait + Sync>(rt: &R, alloc: Global) -> Result<u64, Fault> 
 // A body that served one thread after the other would pass, too.
 #[test]
 fn a_map_that_was_built_is_shared(rt: HostRuntime) -> Result<(), Fail> {
-    assert_eq!(rt; built(&rt, rt.alloc())?, 2 * EACH);
+    let chunks = built(&rt, rt.alloc(), ResizeMode::Incremental(1))?;
+    let at_once = built(&rt, rt.alloc(), ResizeMode::Blocking)?;
+    assert_eq!(rt; (chunks, at_once), (2 * EACH, 2 * EACH));
     Ok(())
 }

@@ -1,7 +1,7 @@
 //! Two threads look keys up under one guard, each by a pass of its own, as they store pairs by sessions of their own.
 ghost use Rattle.std.specs.Prelude.{◌≡◌};
 
-use papaya_map::{Fault, HashMap, IdSource, Pass, Session, SharedMap};
+use papaya_map::{Fault, HashMap, IdSource, Pass, ResizeMode, Session, SharedMap};
 use std::alloc::Global;
 use std::hash::{BuildHasherDefault, DefaultHasher};
 use std::sync::Wait;
@@ -138,10 +138,15 @@ fn reads<R: Wait>(rt: &R, guard: &Guard<'_>) -> Result<u64, Fault> {
     Ok(found)
 }
 
-/// Two threads read under one guard, as a third one replaces what they read.
-fn all_go<R: Threads + Wait + Sync>(rt: &R, alloc: Global) -> Result<(u64, u64), Fault> {
+/// Two threads read under one guard, as a third one replaces what they read, in a map of this mode.
+fn all_go<R: Threads + Wait + Sync>(
+    rt: &R,
+    alloc: Global,
+    mode: ResizeMode,
+) -> Result<(u64, u64), Fault> {
     let mut ids = IdSource::new();
-    let map = HashMap::with_hasher(alloc, &mut ids, Hashing::default())?;
+    let builder = HashMap::builder(Hashing::default()).resize_mode(mode);
+    let map = builder.build(alloc, &mut ids)?;
     let shared = map.shared();
     let mut first = shared.session()?;
     stores(rt, &mut first, 0)?;
@@ -158,7 +163,9 @@ fn all_go<R: Threads + Wait + Sync>(rt: &R, alloc: Global) -> Result<(u64, u64),
 // A body that served one thread after the other would pass, too: that a value which was lent stays is proved.
 #[test]
 fn what_passes_were_lent_stays_as_long_as_their_guard(rt: HostRuntime) -> Result<(), Fail> {
-    assert_eq!(rt; all_go(&rt, rt.alloc())?, (KEYS - 1, KEYS - 1));
+    for mode in [ResizeMode::default(), ResizeMode::Blocking] {
+        assert_eq!(rt; all_go(&rt, rt.alloc(), mode)?, (KEYS - 1, KEYS - 1));
+    }
     Ok(())
 }
 

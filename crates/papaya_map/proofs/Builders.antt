@@ -1,26 +1,26 @@
 -- Why a builder makes no map: what each of its tests says of the first reason, and of the source.
-use Rattle.std.specs.Prelude.{◌≢◌, zero, suc, Option, Some, None, Result, Ok, Err, MatchResult}
-use Rattle.std.proofs.Common.{◌≡◌, ◌∙◌, ℕ, refl, sym, subst, ap}
+use Rattle.std.specs.Prelude.{if◌then◌else◌, Option, Some, None, Result, Ok, Err, MatchResult}
+use Rattle.std.proofs.Common.{◌≡◌, ◌∙◌, ℕ, Bool, true, false, refl, sym, subst, ap}
 use Rattle.map_tables.specs.Lengths.{entries_of}
-use Rattle.papaya_map.specs.Builders.{RefusedBy, fault_of, first_fault, ids_after, made_for}
+use Rattle.map_tables.specs.declared.resize_mode.ResizeMode.{ResizeMode}
+use Rattle.papaya_map.specs.Builders.{RefusedBy, fault_of, first_fault, ids_after, is_zero, made_for}
 use Rattle.seize.specs.Collector.{Setting}
 use Rattle.seize_words.specs.declared.fault.Fault.{Fault}
 use Rattle.seize_words.specs.declared.fault.Fault.TheVariants.{Memory, ZeroChunk}
 
 -- no place would be copied
-pub zero_first : (chunk capacity : ℕ) → chunk ≡ 0 → first_fault chunk capacity ≡ Some ZeroChunk
-zero_first chunk capacity is = subst (λ (n : ℕ). first_fault n capacity ≡ Some ZeroChunk) (sym is) refl
+pub zero_first : (mode : ResizeMode) (capacity : ℕ) → is_zero mode ≡ true → first_fault mode capacity ≡ Some ZeroChunk
+zero_first mode capacity is = ap (λ (b : Bool). if b then Some ZeroChunk else fault_of (entries_of capacity)) is
 
 -- else it is as the capacity says
-by_capacity : (chunk capacity : ℕ) → chunk ≢ 0 → first_fault chunk capacity ≡ fault_of (entries_of capacity)
-by_capacity zero capacity some = absurd (some refl)
-by_capacity (suc n) capacity some = refl
+by_capacity : (mode : ResizeMode) (capacity : ℕ) → is_zero mode ≡ false → first_fault mode capacity ≡ fault_of (entries_of capacity)
+by_capacity mode capacity some = ap (λ (b : Bool). if b then Some ZeroChunk else fault_of (entries_of capacity)) some
 
-pub many_first : (chunk capacity : ℕ) (fault : Fault) → chunk ≢ 0 → entries_of capacity ≡ Err fault → first_fault chunk capacity ≡ Some fault
-many_first chunk capacity fault some is = by_capacity chunk capacity some ∙ ap fault_of is
+pub many_first : (mode : ResizeMode) (capacity : ℕ) (fault : Fault) → is_zero mode ≡ false → entries_of capacity ≡ Err fault → first_fault mode capacity ≡ Some fault
+many_first mode capacity fault some is = by_capacity mode capacity some ∙ ap fault_of is
 
-pub none_first : (chunk capacity places : ℕ) → chunk ≢ 0 → entries_of capacity ≡ Ok places → first_fault chunk capacity ≡ None
-none_first chunk capacity places some is = by_capacity chunk capacity some ∙ ap fault_of is
+pub none_first : (mode : ResizeMode) (capacity places : ℕ) → is_zero mode ≡ false → entries_of capacity ≡ Ok places → first_fault mode capacity ≡ None
+none_first mode capacity places some is = by_capacity mode capacity some ∙ ap fault_of is
 
 -- the first reason is told, and the source was not asked
 pub told_first : (first : Option Fault) (collector : Option Setting) (next : ℕ) (fault : Fault) → first ≡ Some fault → RefusedBy first collector next fault

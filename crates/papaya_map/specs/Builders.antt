@@ -1,6 +1,8 @@
 -- Why a builder makes no map, and which collector the map has that it makes.
-use Rattle.std.specs.Prelude.{◌≡◌, ℕ, zero, suc, Option, Some, None, Result, Ok, Err, MatchOption, MatchResult}
+use Rattle.std.specs.Prelude.{◌≡◌, ℕ, zero, Bool, true, false, if◌then◌else◌, Option, Some, None, Result, Ok, Err, MatchOption, MatchResult}
 use Rattle.map_tables.specs.Lengths.{entries_of}
+use Rattle.map_tables.specs.declared.resize_mode.ResizeMode.{ResizeMode}
+use Rattle.map_tables.specs.declared.resize_mode.ResizeMode.TheVariants.{Incremental}
 use Rattle.seize.specs.Collector.{Setting, made_by}
 use Rattle.seize.specs.Ids.{given, following}
 use Rattle.seize_words.specs.declared.fault.Fault.{Fault}
@@ -10,10 +12,14 @@ abbrev pub fault_of : {A : Type 0} → Result A Fault → Option Fault
 fault_of (Ok a) = None
 fault_of (Err fault) = Some fault
 
--- by how many places are copied at a time, and how many pairs are to have room: before anything is asked for
-abbrev pub first_fault : ℕ → ℕ → Option Fault
-first_fault zero capacity = Some ZeroChunk
-first_fault (suc chunk) capacity = fault_of (entries_of capacity)
+-- whether a map would never copy a place so
+abbrev pub is_zero : ResizeMode → Bool
+is_zero (Incremental zero) = true
+is_zero mode = false
+
+-- by how the map comes to its next table, and how many pairs are to have room: before anything is asked for
+abbrev pub first_fault : ResizeMode → ℕ → Option Fault
+first_fault mode capacity = if is_zero mode then Some ZeroChunk else fault_of (entries_of capacity)
 
 -- the collector that was given, or the next one of the source, for one processor and one root
 abbrev pub made_for : Option Setting → ℕ → Result Setting Fault

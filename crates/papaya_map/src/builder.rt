@@ -1,11 +1,11 @@
 //! What is chosen of a map before it is made.
 ghost use Rattle.std.specs.Prelude.{◌≡◌, Some, None, Ok, IfOk, IfErr, OnOk};
 ghost use Rattle.map_tables.specs.declared.resize_mode.ResizeMode.TheVariants.{Incremental};
-ghost use Rattle.papaya_map.specs.Builders.{RefusedBy, first_fault, ids_after, made_for};
+ghost use Rattle.papaya_map.specs.Builders.{RefusedBy, first_fault, ids_after, is_zero, made_for};
 
-use crate::making::{CHUNK, Making};
+use crate::making::Making;
 use crate::map::HashMap;
-use map_tables::entries_for;
+use map_tables::{ResizeMode, entries_for};
 use seize::{Collector, IdSource};
 use seize_words::Fault;
 use std::alloc::Global;
@@ -22,12 +22,12 @@ pub struct Own;
 /// Of a builder: the map's collector was given.
 pub struct Given;
 
-/// What is chosen of a map: its capacity, how many places are copied at a time as it grows, for how many processors it counts its pairs, its collector and its hasher. Each
+/// What is chosen of a map: its capacity, how it comes to its next table, for how many processors it counts its pairs, its collector and its hasher. Each
 /// call takes the builder, and gives it back with that one thing chosen anew.
 #[derive(Drop)]
 pub struct HashMapBuilder<K, V, S = RandomState, C = Own> {
     capacity: u64,
-    chunk: u64,
+    mode: ResizeMode,
     shards: Option<u64>,
     collector: Option<Collector>,
     hasher: S,
@@ -40,14 +40,14 @@ impl<K, V, S> HashMapBuilder<K, V, S> {
     /// One with this hasher.
     pub(crate) fn of(hasher: S) -> Self
         ensures capacity { result.capacity ≡ 0 }
-        ensures chunk { result.chunk ≡ 64 }
+        ensures mode { result.mode ≡ Incremental 64 }
         ensures shards { result.shards ≡ None }
         ensures collector { result.collector ≡ None }
         ensures hasher { result.hasher ≡ hasher }
     {
         HashMapBuilder {
             capacity: 0,
-            chunk: CHUNK,
+            mode: ResizeMode::default(),
             shards: None,
             collector: None,
             hasher,
@@ -63,13 +63,13 @@ impl<K, V, S: Drop> HashMapBuilder<K, V, S> {
     pub fn hasher<H>(self, hasher: H) -> HashMapBuilder<K, V, H>
         ensures hasher { result.hasher ≡ hasher }
         ensures capacity { result.capacity ≡ self.capacity }
-        ensures chunk { result.chunk ≡ self.chunk }
+        ensures mode { result.mode ≡ self.mode }
         ensures shards { result.shards ≡ self.shards }
         ensures collector { result.collector ≡ self.collector }
     {
         let HashMapBuilder {
             capacity,
-            chunk,
+            mode,
             shards,
             collector,
             hasher: _,
@@ -79,7 +79,7 @@ impl<K, V, S: Drop> HashMapBuilder<K, V, S> {
         } = self;
         HashMapBuilder {
             capacity,
-            chunk,
+            mode,
             shards,
             collector,
             hasher,
@@ -98,11 +98,11 @@ impl<K, V, S, C> HashMapBuilder<K, V, S, C> {
         HashMapBuilder { capacity, ..self }
     }
 
-    /// Chooses that each call that writes copies at most so many places as the map grows: `ResizeMode::Incremental(chunk)` of a map for one owner.
-    pub fn chunk(self, chunk: u64) -> Self
-        ensures { result ≡ record self { chunk = chunk } }
+    /// Chooses how the map comes to its next table: bit by bit, or at once.
+    pub fn resize_mode(self, mode: ResizeMode) -> Self
+        ensures { result ≡ record self { mode = mode } }
     {
-        HashMapBuilder { chunk, ..self }
+        HashMapBuilder { mode, ..self }
     }
 
     /// Chooses that its pairs are counted for so many processors, 2^63 at most.
@@ -119,13 +119,13 @@ impl<K, V, S, C> HashMapBuilder<K, V, S, C> {
     pub fn collector(self, collector: Collector) -> HashMapBuilder<K, V, S, Given>
         ensures collector { result.collector ≡ Some collector }
         ensures capacity { result.capacity ≡ self.capacity }
-        ensures chunk { result.chunk ≡ self.chunk }
+        ensures mode { result.mode ≡ self.mode }
         ensures shards { result.shards ≡ self.shards }
         ensures hasher { result.hasher ≡ self.hasher }
     {
         let HashMapBuilder {
             capacity,
-            chunk,
+            mode,
             shards,
             collector: _,
             hasher,
@@ -135,7 +135,7 @@ impl<K, V, S, C> HashMapBuilder<K, V, S, C> {
         } = self;
         HashMapBuilder {
             capacity,
-            chunk,
+            mode,
             shards,
             collector: Some(collector),
             hasher,
@@ -151,9 +151,16 @@ impl<K, V, S, C> fmt::Debug for HashMapBuilder<K, V, S, C> {
         f.debug_struct("HashMapBuilder")
             .field("capacity", &self.capacity)
             .field("collector", &self.collector)
-            .field("chunk", &self.chunk)
+            .field("resize_mode", &self.mode)
             .finish()
     }
+}
+
+/// Tells whether a map would never copy a place so.
+fn copies_none(mode: ResizeMode) -> bool
+    ensures { result ≡ is_zero mode }
+{
+    matches!(mode, ResizeMode::Incremental(0))
 }
 
 /// The collector that was given, or one of one processor and one root.
@@ -172,17 +179,17 @@ impl<K: Eq + Hash + Drop, V: Drop, S: BuildHasher + Drop, C> HashMapBuilder<K, V
     /// `Fault::Capacity`, just where no table has the places for so many pairs; `Fault::CollectorsUsedUp`, where no collector was given, and the source has no
     /// number left; and `Fault::Memory`. Where a collector was given, and after the first three faults, the source is as it was.
     pub fn build(self, alloc: Global, ids: &mut IdSource) -> Result<HashMap<K, V, S>, Fault>
-        ensures few { OnOk result (first_fault self.chunk self.capacity ≡ None) }
+        ensures few { OnOk result (first_fault self.mode self.capacity ≡ None) }
         ensures collector { IfOk result (λ map. made_for self.collector ids.old ≡ Ok map.collector) }
         ensures batches { IfOk result (λ map. map.setting.batch_size ≡ map.collector.batch_size) }
         ensures hasher { IfOk result (λ map. map.hasher ≡ self.hasher) }
-        ensures mode { IfOk result (λ map. map.setting.mode ≡ Incremental self.chunk) }
-        ensures fault { IfErr result (RefusedBy (first_fault self.chunk self.capacity) self.collector ids.old) }
-        ensures ids { ids.new ≡ ids_after (first_fault self.chunk self.capacity) self.collector ids.old }
+        ensures mode { IfOk result (λ map. map.setting.mode ≡ self.mode) }
+        ensures fault { IfErr result (RefusedBy (first_fault self.mode self.capacity) self.collector ids.old) }
+        ensures ids { ids.new ≡ ids_after (first_fault self.mode self.capacity) self.collector ids.old }
     {
         let HashMapBuilder {
             capacity,
-            chunk,
+            mode,
             shards,
             collector,
             hasher,
@@ -190,7 +197,7 @@ impl<K: Eq + Hash + Drop, V: Drop, S: BuildHasher + Drop, C> HashMapBuilder<K, V
             values: _,
             chosen: _,
         } = self;
-        if chunk == 0 {
+        if copies_none(mode) {
             return Err(Fault::ZeroChunk);
         }
         let _ = entries_for(capacity)?;
@@ -201,7 +208,7 @@ impl<K: Eq + Hash + Drop, V: Drop, S: BuildHasher + Drop, C> HashMapBuilder<K, V
         };
         let making = Making {
             capacity,
-            chunk,
+            mode,
             processors: processors.min(MOST_PROCESSORS),
         };
         HashMap::opened(alloc, collector, hasher, making)

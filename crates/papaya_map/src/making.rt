@@ -2,7 +2,6 @@
 ghost use Rattle.std.specs.Prelude.{◌≡◌, ◌<◌, ◌≤◌, ◌^◌, Some, None, Ok, true, IfOk, IfErr, OnOk, MatchResult};
 ghost use Rattle.papaya_sessions.specs.Given.SeizeCallersKept.{is_home};
 ghost use Rattle.papaya_sessions.specs.Given.SeizeViewsDeclared.view.SlotView.TheVariants.{Rests};
-ghost use Rattle.map_tables.specs.Chunks.{is_incremental};
 ghost use Rattle.map_tables.specs.declared.resize_mode.ResizeMode.TheVariants.{Incremental};
 ghost use Rattle.papaya_sessions.specs.Given.ViewsDeclared.view.SeatWork.TheVariants.{Nothing as NoWork};
 ghost use Rattle.papaya_map.specs.Builders.{RefusedBy, first_fault, ids_after};
@@ -12,7 +11,7 @@ ghost use Rattle.seize_words.specs.declared.fault.Fault.TheVariants.{Memory};
 
 use crate::builder::HashMapBuilder;
 use crate::map::HashMap;
-use map_tables::{Hashes, Node, Setting};
+use map_tables::{Hashes, Node, ResizeMode, Setting};
 use papaya_sessions::{Fixed, OfMaps, SessionBase as Base, memory_for};
 use seize::{Collector, IdSource};
 use seize_blocks::{Blocks, Seat};
@@ -26,16 +25,13 @@ const FIRST: u64 = 64;
 /// For how many blocks it has numbers at first at most.
 const MOST: u64 = 1 << 32;
 
-/// How many places a call that writes copies at most, as the map grows, where nothing else was chosen.
-pub(crate) const CHUNK: u64 = 64;
-
 /// What a map is made with beside its collector and its hasher.
 #[derive(Clone, Copy)]
 pub(crate) struct Making {
     /// For how many pairs its memory has numbers at first.
     pub(crate) capacity: u64,
-    /// How many places a call that writes copies at most.
-    pub(crate) chunk: u64,
+    /// How it comes to its next table.
+    pub(crate) mode: ResizeMode,
     /// For how many processors it counts its pairs.
     pub(crate) processors: u64,
 }
@@ -56,7 +52,6 @@ fn begun<K: Eq + Hash + Drop, V: Drop, S: Hashes<K>>(
 ) -> Result<(Seat<Node<K, V>, OfMaps<S>>, Setting), Fault>
     requires fixed { blocks.now.words.fixed ≡ chosen.now }
     requires roots { 0 < chosen.now.roots }
-    requires chunk { 0 < making.chunk }
     requires processors { making.processors ≤ 2 ^ 63 }
     ensures own { IfOk result (λ r. r.0.base ≡ blocks.now.words.id.views_name) }
     ensures stays { IfOk result (λ r. is_home r.0.away ≡ true) }
@@ -65,10 +60,9 @@ fn begun<K: Eq + Hash + Drop, V: Drop, S: Hashes<K>>(
     ensures lone { IfOk result (λ r. r.0.view.under ≡ None) }
     ensures knows { IfOk result (λ r. known_by r.0.view ≡ Some (r.1, hasher.now)) }
     ensures sized { IfOk result (λ r. blocks.now.words.fixed.batch_size ≡ r.1.batch_size) }
-    ensures incremental { IfOk result (λ r. is_incremental r.1.mode ≡ true) }
-    ensures mode { IfOk result (λ r. r.1.mode ≡ Incremental making.chunk) }
+    ensures mode { IfOk result (λ r. r.1.mode ≡ making.mode) }
 {
-    let session = Base::open(blocks, hasher, chosen, making.chunk, making.processors)?;
+    let session = Base::open(blocks, hasher, chosen, making.mode, making.processors)?;
     Ok(session.into_seat())
 }
 
@@ -93,12 +87,12 @@ impl<K: Eq + Hash + Drop, V: Drop> HashMap<K, V> {
         capacity: u64,
         hasher: RandomState,
     ) -> Result<Self, Fault>
-        ensures few { OnOk result (first_fault 64 capacity ≡ None) }
+        ensures few { OnOk result (first_fault (Incremental 64) capacity ≡ None) }
         ensures number { IfOk result (λ map. given ids.old ≡ Ok map.collector.number) }
         ensures hasher { IfOk result (λ map. map.hasher ≡ hasher) }
         ensures mode { IfOk result (λ map. map.setting.mode ≡ Incremental 64) }
-        ensures fault { IfErr result (RefusedBy (first_fault 64 capacity) None ids.old) }
-        ensures ids { ids.new ≡ ids_after (first_fault 64 capacity) None ids.old }
+        ensures fault { IfErr result (RefusedBy (first_fault (Incremental 64) capacity) None ids.old) }
+        ensures ids { ids.new ≡ ids_after (first_fault (Incremental 64) capacity) None ids.old }
     {
         HashMap::with_capacity_and_hasher(alloc, ids, capacity, hasher)
     }
@@ -108,7 +102,7 @@ impl<K: Eq + Hash + Drop, V: Drop, S: BuildHasher + Drop> HashMap<K, V, S> {
     /// Begins a builder of a map with this hasher: of capacity 0, which copies 64 places at a time as it grows, and makes its collector itself.
     pub fn builder(hasher: S) -> HashMapBuilder<K, V, S>
         ensures capacity { result.capacity ≡ 0 }
-        ensures chunk { result.chunk ≡ 64 }
+        ensures mode { result.mode ≡ Incremental 64 }
         ensures shards { result.shards ≡ None }
         ensures collector { result.collector ≡ None }
         ensures hasher { result.hasher ≡ hasher }
@@ -128,7 +122,7 @@ impl<K: Eq + Hash + Drop, V: Drop, S: BuildHasher + Drop> HashMap<K, V, S> {
         let collector = Collector::new(ids, 1, 1)?;
         let making = Making {
             capacity: 0,
-            chunk: CHUNK,
+            mode: ResizeMode::default(),
             processors: 1,
         };
         HashMap::opened(alloc, collector, hasher, making)
@@ -142,12 +136,12 @@ impl<K: Eq + Hash + Drop, V: Drop, S: BuildHasher + Drop> HashMap<K, V, S> {
         capacity: u64,
         hasher: S,
     ) -> Result<Self, Fault>
-        ensures few { OnOk result (first_fault 64 capacity ≡ None) }
+        ensures few { OnOk result (first_fault (Incremental 64) capacity ≡ None) }
         ensures number { IfOk result (λ map. given ids.old ≡ Ok map.collector.number) }
         ensures hasher { IfOk result (λ map. map.hasher ≡ hasher) }
         ensures mode { IfOk result (λ map. map.setting.mode ≡ Incremental 64) }
-        ensures fault { IfErr result (RefusedBy (first_fault 64 capacity) None ids.old) }
-        ensures ids { ids.new ≡ ids_after (first_fault 64 capacity) None ids.old }
+        ensures fault { IfErr result (RefusedBy (first_fault (Incremental 64) capacity) None ids.old) }
+        ensures ids { ids.new ≡ ids_after (first_fault (Incremental 64) capacity) None ids.old }
     {
         HashMap::builder(hasher)
             .capacity(capacity)
@@ -161,12 +155,11 @@ impl<K: Eq + Hash + Drop, V: Drop, S: BuildHasher + Drop> HashMap<K, V, S> {
         hasher: S,
         making: Making,
     ) -> Result<Self, Fault>
-        requires chunk { 0 < making.chunk }
         requires processors { making.processors ≤ 2 ^ 63 }
         ensures collector { IfOk result (λ map. map.collector ≡ collector) }
         ensures batches { IfOk result (λ map. map.setting.batch_size ≡ collector.batch_size) }
         ensures hasher { IfOk result (λ map. map.hasher ≡ hasher) }
-        ensures mode { IfOk result (λ map. map.setting.mode ≡ Incremental making.chunk) }
+        ensures mode { IfOk result (λ map. map.setting.mode ≡ making.mode) }
         ensures fault { IfErr result (λ fault. fault ≡ Memory) }
     {
         let chosen = Fixed {

@@ -2,7 +2,6 @@
 ghost use Rattle.std.specs.Prelude.{◌≡◌, ◌^◌, [], Some, None, true, IfOk, nat_lt};
 ghost use Rattle.papaya_sessions.specs.Given.SeizeCallersKept.{is_home};
 ghost use Rattle.papaya_sessions.specs.Given.SeizeViewsDeclared.view.SlotView.TheVariants.{Rests};
-ghost use Rattle.map_tables.specs.Chunks.{is_incremental};
 ghost use Rattle.papaya_sessions.specs.Given.ViewsDeclared.view.SeatWork.TheVariants.{Nothing as NoWork};
 ghost use Rattle.papaya_sessions.specs.Given.CallersStanding.{known_by};
 
@@ -14,7 +13,7 @@ use seize_blocks::{Home, Seat};
 use seize_words::Fault;
 use std::hash::{Hash, RandomState};
 
-/// A hash map that threads share. It owns its memory, its collector and its hasher, and grows in chunks of places.
+/// A hash map that threads share. It owns its memory, its collector and its hasher, and comes to its next table as was chosen: bit by bit, or at once.
 ///
 /// Who owns it begins a session, and gives each thread one: `session`, and `Session::another`. Once the sessions have ended, the map has what they have left there, and
 /// others may begin. With the map its pairs are dropped.
@@ -34,7 +33,6 @@ pub struct HashMap<K: Eq + Hash + Drop, V: Drop, S: Hashes<K> = RandomState> {
     pub(crate) ghost knows: { known_by seat.view ≡ Some (setting, hasher) },
     pub(crate) ghost sized: { home.blocks.words.fixed.batch_size ≡ setting.batch_size },
     pub(crate) ghost small: { nat_lt home.blocks.words.fixed.batch_size (2 ^ 64) ≡ true },
-    pub(crate) ghost incremental: { is_incremental setting.mode ≡ true },
 }
 
 impl<K: Eq + Hash + Drop, V: Drop, S: Hashes<K>> HashMap<K, V, S> {

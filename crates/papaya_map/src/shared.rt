@@ -1,6 +1,5 @@
 //! A hash map, lent to threads, each of which may begin sessions on it.
 ghost use Rattle.std.specs.Prelude.{◌≡◌, ◌^◌, [], Some, true, IfOk, nat_lt};
-ghost use Rattle.map_tables.specs.Chunks.{is_incremental};
 ghost use Rattle.papaya_sessions.specs.Given.CallersStanding.{known_by};
 
 mod asking;
@@ -27,7 +26,6 @@ pub struct SharedMap<'m, K: Eq + Hash + Drop, V: Drop, S: Hashes<K> = RandomStat
     pub(crate) ghost knows: { known_by seat.now.view ≡ Some (setting, hasher.now) },
     pub(crate) ghost sized: { blocks.now.words.fixed.batch_size ≡ setting.batch_size },
     pub(crate) ghost small: { nat_lt blocks.now.words.fixed.batch_size (2 ^ 64) ≡ true },
-    pub(crate) ghost incremental: { is_incremental setting.mode ≡ true },
 }
 
 impl<'m, K: Eq + Hash + Drop, V: Drop, S: Hashes<K>> SharedMap<'m, K, V, S> {

@@ -1,5 +1,5 @@
-//! Two threads store pairs in one map, half of their keys the same.
-use papaya_map::{Fault, HashMap, IdSource, Session};
+//! Two threads store pairs in one map, half of their keys the same, as it comes to its next tables in each mode.
+use papaya_map::{Fault, HashMap, IdSource, ResizeMode, Session};
 use std::alloc::Global;
 use std::hash::{BuildHasherDefault, DefaultHasher};
 use std::sync::Wait;
@@ -50,13 +50,15 @@ fn works<R: Wait>(
     Ok((replaced, counts(rt, &mut session, from)))
 }
 
-/// Two threads do so, and a third session then.
+/// Two threads do so in a map of this mode, and a third session then.
 fn works_twice<R: Threads + Wait + Sync>(
     rt: &R,
     alloc: Global,
+    mode: ResizeMode,
 ) -> Result<((u64, u64), (u64, u64), (u64, u64)), Fault> {
     let mut ids = IdSource::new();
-    let map = HashMap::with_hasher(alloc, &mut ids, Hashing::default())?;
+    let builder = HashMap::builder(Hashing::default()).resize_mode(mode);
+    let map = builder.build(alloc, &mut ids)?;
     let first = map.session()?;
     let second = first.another()?;
     let third = first.another()?;
@@ -68,10 +70,11 @@ fn works_twice<R: Threads + Wait + Sync>(
 // there are such keys. A body that served one thread after the other would pass, too.
 #[test]
 fn a_key_that_two_threads_store_is_replaced_once(rt: HostRuntime) -> Result<(), Fail> {
-    let (one, other, later) = works_twice(&rt, rt.alloc())?;
-    assert_eq!(rt; one.1, EACH);
-    assert_eq!(rt; other.1, EACH);
-    assert_eq!(rt; u64::wrapping_add(one.0, other.0), EACH / 2);
-    assert_eq!(rt; later, (EACH, EACH));
+    for mode in [ResizeMode::Incremental(1), ResizeMode::Blocking] {
+        let (one, other, later) = works_twice(&rt, rt.alloc(), mode)?;
+        let replaced = u64::wrapping_add(one.0, other.0);
+        assert_eq!(rt; (one.1, other.1, replaced), (EACH, EACH, EACH / 2));
+        assert_eq!(rt; later, (EACH, EACH));
+    }
     Ok(())
 }

@@ -1,5 +1,5 @@
 //! Calls on the whole map: two threads count what both have stored, keys are found while room is made, and all pairs are removed.
-use papaya_map::{Fault, HashMap, IdSource, Session};
+use papaya_map::{Fault, HashMap, IdSource, ResizeMode, Session};
 use std::alloc::Global;
 use std::hash::{BuildHasherDefault, DefaultHasher};
 use std::sync::Wait;
@@ -16,6 +16,9 @@ pub(crate) const LOOKS: u64 = 20_000;
 
 /// How often all keys are looked up while room is made.
 const ROUNDS: u64 = 16;
+
+/// How the map comes to its next tables.
+const MODES: [ResizeMode; 2] = [ResizeMode::Incremental(64), ResizeMode::Blocking];
 
 pub(crate) type Hashing = BuildHasherDefault<DefaultHasher>;
 
@@ -98,10 +101,15 @@ fn finds<R: Wait>(rt: &R, mut session: Own<'_>) -> u64 {
     found
 }
 
-/// One thread makes room while another one looks for each key. Answers how often it has found one, and how many there are then.
-fn grows<R: Threads + Wait + Sync>(rt: &R, alloc: Global) -> Result<(u64, u64), Fault> {
+/// One thread makes room in a map of this mode while another one looks for each key. Answers how often it has found one, and how many there are then.
+fn grows<R: Threads + Wait + Sync>(
+    rt: &R,
+    alloc: Global,
+    mode: ResizeMode,
+) -> Result<(u64, u64), Fault> {
     let mut ids = IdSource::new();
-    let map = HashMap::with_hasher(alloc, &mut ids, Hashing::default())?;
+    let builder = HashMap::builder(Hashing::default()).resize_mode(mode);
+    let map = builder.build(alloc, &mut ids)?;
     let mut first = map.session()?;
     let second = first.another()?;
     let third = first.another()?;
@@ -114,7 +122,9 @@ fn grows<R: Threads + Wait + Sync>(rt: &R, alloc: Global) -> Result<(u64, u64), 
 // Each lookup finds its key, whatever tables there are. A body that served one thread after the other would pass, too.
 #[test]
 fn keys_are_found_while_room_is_made(rt: HostRuntime) -> Result<(), Fail> {
-    assert_eq!(rt; grows(&rt, rt.alloc())?, (ROUNDS * EACH, EACH));
+    for mode in MODES {
+        assert_eq!(rt; grows(&rt, rt.alloc(), mode)?, (ROUNDS * EACH, EACH));
+    }
     Ok(())
 }
 
@@ -192,10 +202,11 @@ fn all_pairs_are_removed_while_others_store(rt: HostRuntime) -> Result<(), Fail>
     Ok(())
 }
 
-/// Of one session: what it counts of a map without a pair, after room was made, after keys were stored, after the odd ones were removed, and after all were.
-fn alone<R: Wait>(rt: &R, alloc: Global) -> Result<([bool; 3], [u64; 2]), Fault> {
+/// Of one session: what it counts of a map of this mode without a pair, after room was made, after keys were stored, after the odd ones were removed, and after all were.
+fn alone<R: Wait>(rt: &R, alloc: Global, mode: ResizeMode) -> Result<([bool; 3], [u64; 2]), Fault> {
     let mut ids = IdSource::new();
-    let map = HashMap::with_hasher(alloc, &mut ids, Hashing::default())?;
+    let builder = HashMap::builder(Hashing::default()).resize_mode(mode);
+    let map = builder.build(alloc, &mut ids)?;
     let mut session = map.session()?;
     let first = session.is_empty();
     session.reserve(rt, 1000)?;
@@ -210,6 +221,11 @@ fn alone<R: Wait>(rt: &R, alloc: Global) -> Result<([bool; 3], [u64; 2]), Fault>
 
 #[test]
 fn what_was_stored_is_counted(rt: HostRuntime) -> Result<(), Fail> {
-    assert_eq!(rt; alone(&rt, rt.alloc())?, ([true; 3], [EACH, EACH / 2]));
+    for mode in MODES {
+        assert_eq!(rt;
+            alone(&rt, rt.alloc(), mode)?,
+            ([true; 3], [EACH, EACH / 2])
+        );
+    }
     Ok(())
 }

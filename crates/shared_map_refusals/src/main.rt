@@ -2,7 +2,7 @@
 //! once for each request for memory, with that one refused: each time it prints the same.
 #![tactic(auto)]
 
-use papaya_map::{Attempt, Fault, HashMap, IdSource, Session};
+use papaya_map::{Attempt, Fault, HashMap, IdSource, ResizeMode, Session};
 use std::alloc::Global;
 use std::hash::{BuildHasherDefault, DefaultHasher};
 use std::io;
@@ -121,7 +121,7 @@ fn built(alloc: Global) -> Result<Map, Fault> {
     let mut ids = IdSource::new();
     let first = HashMap::builder(Hashing::default())
         .capacity(100)
-        .chunk(8)
+        .resize_mode(ResizeMode::Incremental(8))
         .build(alloc, &mut ids);
     match first {
         Err(Fault::Memory) => HashMap::with_capacity_and_hasher(

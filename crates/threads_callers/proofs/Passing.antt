@@ -59,7 +59,6 @@ module _ {K V S : Type 0} (hash : S → K → ℕ) (key : K) (lookup : Lookup) (
     map = may.map;
     inside = leant_in;
     knows = ap (λ (x : View K V S). x.map) begins.2 ∙ sym maps ∙ may.knows;
-    incremental = may.incremental;
     free = ap (λ (x : View K V S). x.work) begins.2 ∙ back.free;
     begins = may.begins;
   }

@@ -3,7 +3,6 @@ use Rattle.std.specs.Prelude.{Option, Some, None, Result}
 use Rattle.std.proofs.Common.{◌≡◌, ℕ, Bool, true, false, inr, refl, sym, subst, ◌∙◌}
 use Rattle.papaya_raw.specs.CallAsks.{removing_if, trying_to_insert_with}
 use Rattle.seize_words.specs.declared.fault.Fault.{Fault}
-use Rattle.map_tables.specs.Chunks.{is_incremental}
 use Rattle.map_tables.specs.declared.node.Node.{Node}
 use Rattle.map_tables.specs.declared.setting.Setting.{Setting}
 use Rattle.threads_callers.specs.Given.ActsActs.{RemoveIf, TryToInsertWith}
@@ -32,18 +31,18 @@ first = record { told = false; gap = false }
 abbrev pub testing : Stage
 testing = record { told = true; gap = false }
 
-module _ {K V S : Type 0} (same : K → K → Bool) (hash : S → K → ℕ) (v : View K V S) (setting its : Setting) (hasher : S) (key : K) (hashed t : ℕ) (call : KeyCall K V K) (lone : v.under ≡ None) (inside : v.slot ≡ Inside t NoBlock) (free : v.work ≡ Nothing) (knows : known_by v ≡ Some (setting, hasher)) (incremental : is_incremental setting.mode ≡ true) (is : its ≡ record setting { slot = t }) (word : hashed ≡ hash hasher key) where
+module _ {K V S : Type 0} (same : K → K → Bool) (hash : S → K → ℕ) (v : View K V S) (setting its : Setting) (hasher : S) (key : K) (hashed t : ℕ) (call : KeyCall K V K) (lone : v.under ≡ None) (inside : v.slot ≡ Inside t NoBlock) (free : v.work ≡ Nothing) (knows : known_by v ≡ Some (setting, hasher)) (is : its ≡ record setting { slot = t }) (word : hashed ≡ hash hasher key) where
   pub may_make : call ≡ trying_to_insert_with its hashed key → MayDoAs same hash makes_pair first hasher (Key call) v
   may_make made =
       record {
-        may = may_do same hash (TryToInsertWith key) key (λ x h. trying_to_insert_with x h key) (λ map s. refl) (λ x h. refl) v setting its hasher hashed t call lone inside free knows incremental is word made;
+        may = may_do same hash (TryToInsertWith key) key (λ x h. trying_to_insert_with x h key) (λ map s. refl) (λ x h. refl) v setting its hasher hashed t call lone inside free knows is word made;
         goes = subst (λ (c : KeyCall K V K). Continues makes_pair first c) (sym made) record { so = record { kind = refl; holds = ((key, refl, refl), tt, tt); gap = tt }; here = tt };
       }
 
   pub may_test : call ≡ removing_if its hashed key → MayDoAs same hash removes_if testing hasher (Key call) v
   may_test made =
       record {
-        may = may_do same hash (RemoveIf key) key (λ x h. removing_if x h key) (λ map s. refl) (λ x h. refl) v setting its hasher hashed t call lone inside free knows incremental is word made;
+        may = may_do same hash (RemoveIf key) key (λ x h. removing_if x h key) (λ map s. refl) (λ x h. refl) v setting its hasher hashed t call lone inside free knows is word made;
         goes = subst (λ (c : KeyCall K V K). Continues removes_if testing c) (sym made) record { so = record { kind = refl; holds = (tt, inr (tt, tt)); gap = tt }; here = tt };
       }
 

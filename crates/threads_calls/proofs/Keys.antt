@@ -1,8 +1,7 @@
 -- A session may store a pair, store one where its key is missing, and remove one: calls on one key that ask nothing.
 use Rattle.std.specs.Prelude.{◌<◌, ◌^◌, Option, Result, Ok, Some, None}
-use Rattle.std.proofs.Common.{◌≡◌, ℕ, Bool, true, inr, refl, sym, subst, ◌∙◌}
+use Rattle.std.proofs.Common.{◌≡◌, ℕ, Bool, inr, refl, sym, subst, ◌∙◌}
 use Rattle.seize_words.specs.declared.fault.Fault.{Fault}
-use Rattle.map_tables.specs.Chunks.{is_incremental}
 use Rattle.map_tables.specs.declared.node.Node.{Node}
 use Rattle.map_tables.specs.declared.node.Node.TheVariants.{Pair}
 use Rattle.map_tables.specs.declared.setting.Setting.{Setting}
@@ -40,7 +39,7 @@ tries = record { present = there.Answers; absent = missing.Puts; takes = takes.N
 abbrev removes : Kind
 removes = record { present = there.Removes; absent = missing.Answers; takes = takes.Nothing }
 
-module _ {K V S : Type 0} (same : K → K → Bool) (hash : S → K → ℕ) (v : View K V S) (setting its : Setting) (hasher : S) (key : K) (hashed t : ℕ) (call : KeyCall K V K) (lone : v.under ≡ None) (inside : v.slot ≡ Inside t NoBlock) (free : v.work ≡ Nothing) (knows : known_by v ≡ Some (setting, hasher)) (incremental : is_incremental setting.mode ≡ true) (is : its ≡ record setting { slot = t }) (word : hashed ≡ hash hasher key) (fits : hashed < 2 ^ 64) where
+module _ {K V S : Type 0} (same : K → K → Bool) (hash : S → K → ℕ) (v : View K V S) (setting its : Setting) (hasher : S) (key : K) (hashed t : ℕ) (call : KeyCall K V K) (lone : v.under ≡ None) (inside : v.slot ≡ Inside t NoBlock) (free : v.work ≡ Nothing) (knows : known_by v ≡ Some (setting, hasher)) (is : its ≡ record setting { slot = t }) (word : hashed ≡ hash hasher key) (fits : hashed < 2 ^ 64) where
   -- it is to store a pair where that is wanted
   stores_so : (made : KeyCall K V K) → call ≡ made → ((other : Node K V) → pair_wanted (wanted_of (Key made)) ≡ Some other → IsToStore other made)
       → (other : Node K V) → pair_wanted (wanted_of (Key call)) ≡ Some other → MachineStores other (Key call)
@@ -54,7 +53,7 @@ module _ {K V S : Type 0} (same : K → K → Bool) (hash : S → K → ℕ) (v 
   pub may_insert : (value : V) → call ≡ inserting its hashed key value → MayCall same hash hasher (Key call) v
   may_insert value made = record {
     may =
-        may_do same hash (Insert key value) key (λ x h. inserting x h key value) (λ map s. refl) (λ x h. refl) v setting its hasher hashed t call lone inside free knows incremental is word
+        may_do same hash (Insert key value) key (λ x h. inserting x h key value) (λ map s. refl) (λ x h. refl) v setting its hasher hashed t call lone inside free knows is word
         made;
     none =
         none_so stores (record { present = tt; absent = tt }) (inserting its hashed key value) made
@@ -67,7 +66,7 @@ module _ {K V S : Type 0} (same : K → K → Bool) (hash : S → K → ℕ) (v 
   pub may_try : (value : V) → call ≡ trying_to_insert its hashed key value → MayCall same hash hasher (Key call) v
   may_try value made = record {
     may =
-        may_do same hash (TryToInsert key value) key (λ x h. trying_to_insert x h key value) (λ map s. refl) (λ x h. refl) v setting its hasher hashed t call lone inside free knows incremental
+        may_do same hash (TryToInsert key value) key (λ x h. trying_to_insert x h key value) (λ map s. refl) (λ x h. refl) v setting its hasher hashed t call lone inside free knows
         is word made;
     none =
         none_so tries (record { present = tt; absent = tt }) (trying_to_insert its hashed key value) made
@@ -79,7 +78,7 @@ module _ {K V S : Type 0} (same : K → K → Bool) (hash : S → K → ℕ) (v 
 
   pub may_remove : call ≡ removing its hashed key → MayCall same hash hasher (Key call) v
   may_remove made = record {
-    may = may_do same hash (Remove key) key (λ x h. removing x h key) (λ map s. refl) (λ x h. refl) v setting its hasher hashed t call lone inside free knows incremental is word made;
+    may = may_do same hash (Remove key) key (λ x h. removing x h key) (λ map s. refl) (λ x h. refl) v setting its hasher hashed t call lone inside free knows is word made;
     none =
         none_so removes (record { present = tt; absent = tt }) (removing its hashed key) made record { so = record { kind = refl; holds = (tt, inr (tt, tt)); gap = tt }; here = tt };
     stores = stores_so (removing its hashed key) made (λ pair e. absurd (cc e));

@@ -1,7 +1,6 @@
 -- A session may look a key up in the map that it knows, and begin a call on one key, or on the whole map.
 use Rattle.std.specs.Prelude.{Some, None}
-use Rattle.std.proofs.Common.{◌≡◌, ℕ, Bool, true, sym, ap, ◌∙◌}
-use Rattle.map_tables.specs.Chunks.{is_incremental}
+use Rattle.std.proofs.Common.{◌≡◌, ℕ, Bool, sym, ap, ◌∙◌}
 use Rattle.map_tables.specs.declared.setting.Setting.{Setting}
 use Rattle.map_machines.specs.Lookup.{looking}
 use Rattle.map_machines.specs.declared.lookup.Lookup.{Lookup}
@@ -18,19 +17,19 @@ use Rattle.threads_callers.specs.Given.ViewsBegun.{machine_for}
 use Rattle.threads_callers.specs.Given.ErrandsCalling.{MayDo, wanted_of}
 use Rattle.threads_callers.specs.Given.ErrandsLooking.{MayLook}
 use Rattle.threads_callers.specs.Standing.{known_by}
+use Rattle.threads_callers.proofs.Given.ErrandsBeginnings.{may_alone}
 use Rattle.threads_callers.proofs.Known.{known}
 use Rattle.threads_callers.proofs.Rows.{section_own}
 
 module _ {K V S : Type 0} (hash : S → K → ℕ) where
   -- it may look a key up, within its section
   pub may_look : (v : View K V S) (setting : Setting) (hasher : S) (key : K) (lookup : Lookup) (t : ℕ) → v.under ≡ None → v.slot ≡ Inside t NoBlock → v.work ≡ Nothing
-      → known_by v ≡ Some (setting, hasher) → is_incremental setting.mode ≡ true → lookup ≡ looking setting.root setting.mode (hash hasher key) → MayLook hash key lookup v
-  may_look v setting hasher key lookup t lone inside free knows incremental is = let k = known v.map (setting, hasher) knows in record {
+      → known_by v ≡ Some (setting, hasher) → lookup ≡ looking setting.root setting.mode (hash hasher key) → MayLook hash key lookup v
+  may_look v setting hasher key lookup t lone inside free knows is = let k = known v.map (setting, hasher) knows in record {
     slot = t;
     map = k.0;
     inside = section_own v t lone inside;
     knows = k.1;
-    incremental = ap (λ (p : Setting × S). is_incremental p.0.mode) k.2 ∙ incremental;
     free = free;
     begins = is ∙ ap (λ (p : Setting × S). looking p.0.root p.0.mode (hash p.1 key)) (sym k.2);
   }
@@ -40,9 +39,9 @@ module _ {K V S : Type 0} (same : K → K → Bool) (hash : S → K → ℕ) (wa
   pub may_do : ((map : Map S) (t : ℕ) → machine_for same hash map t wanted ≡ Key (made (record map.setting { slot = t }) (hash map.hasher key)))
       → ((x : Setting) (h : ℕ) → wanted_of (Key (made x h)) ≡ wanted)
       → (v : View K V S) (setting its : Setting) (hasher : S) (hashed t : ℕ) (call : KeyCall K V K) → v.under ≡ None → v.slot ≡ Inside t NoBlock → v.work ≡ Nothing
-      → known_by v ≡ Some (setting, hasher) → is_incremental setting.mode ≡ true → its ≡ record setting { slot = t } → hashed ≡ hash hasher key → call ≡ made its hashed
+      → known_by v ≡ Some (setting, hasher) → its ≡ record setting { slot = t } → hashed ≡ hash hasher key → call ≡ made its hashed
       → MayDo same hash hasher (Key call) v
-  may_do machine wants v setting its hasher hashed t call lone inside free knows incremental is word made_so =
+  may_do machine wants v setting its hasher hashed t call lone inside free knows is word made_so =
       let m = known v.map (setting, hasher) knows in
       let setting_is : its ≡ record m.0.setting { slot = t } = is ∙ ap (λ (p : Setting × S). record p.0 { slot = t }) (sym m.2) in
       let word_is : hashed ≡ hash m.0.hasher key = word ∙ ap (λ (p : Setting × S). hash p.1 key) (sym m.2) in
@@ -54,7 +53,7 @@ module _ {K V S : Type 0} (same : K → K → Bool) (hash : S → K → ℕ) (wa
         inside = section_own v t lone inside;
         knows = m.1;
         hashes = ap (λ (p : Setting × S). p.1) m.2;
-        incremental = ap (λ (p : Setting × S). is_incremental p.0.mode) m.2 ∙ incremental;
+        only = may_alone same hash v.under m.0 (wanted_of (Key call)) lone;
         free = free;
         begins = ap (λ (c : KeyCall K V K). Key c) call_is ∙ sym (machine m.0 t) ∙ ap (machine_for same hash m.0 t) (sym wanted_is);
       }
@@ -63,8 +62,8 @@ module _ {K V S : Type 0} (same : K → K → Bool) (hash : S → K → ℕ) (wa
   -- it may begin a call on the whole map, by what it works with in this slot
   pub may_do_all : ((map : Map S) (t : ℕ) → machine_for same hash map t wanted ≡ made (record map.setting { slot = t })) → ((x : Setting) → wanted_of (made x) ≡ wanted)
       → (v : View K V S) (setting its : Setting) (hasher : S) (t : ℕ) (machine : Machine K V K) → v.under ≡ None → v.slot ≡ Inside t NoBlock → v.work ≡ Nothing
-      → known_by v ≡ Some (setting, hasher) → is_incremental setting.mode ≡ true → its ≡ record setting { slot = t } → machine ≡ made its → MayDo same hash hasher machine v
-  may_do_all machine_is wants v setting its hasher t machine lone inside free knows incremental is made_so =
+      → known_by v ≡ Some (setting, hasher) → its ≡ record setting { slot = t } → machine ≡ made its → MayDo same hash hasher machine v
+  may_do_all machine_is wants v setting its hasher t machine lone inside free knows is made_so =
       let m = known v.map (setting, hasher) knows in
       let setting_is : its ≡ record m.0.setting { slot = t } = is ∙ ap (λ (p : Setting × S). record p.0 { slot = t }) (sym m.2) in
       let its_machine : machine ≡ made (record m.0.setting { slot = t }) = made_so ∙ ap made setting_is in
@@ -74,7 +73,7 @@ module _ {K V S : Type 0} (same : K → K → Bool) (hash : S → K → ℕ) (wa
         inside = section_own v t lone inside;
         knows = m.1;
         hashes = ap (λ (p : Setting × S). p.1) m.2;
-        incremental = ap (λ (p : Setting × S). is_incremental p.0.mode) m.2 ∙ incremental;
+        only = may_alone same hash v.under m.0 (wanted_of machine) lone;
         free = free;
         begins = its_machine ∙ sym (machine_is m.0 t) ∙ ap (machine_for same hash m.0 t) (sym wanted_is);
       }

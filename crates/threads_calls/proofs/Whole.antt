@@ -1,8 +1,7 @@
 -- A session may count the pairs of its map, make room there, and remove all pairs: calls on the whole map that ask nothing.
 use Rattle.std.specs.Prelude.{Option, Result, Ok, Err, Some, None, IfOk}
-use Rattle.std.proofs.Common.{◌≡◌, ℕ, Bool, true, refl, sym, subst, ap, ◌∙◌}
+use Rattle.std.proofs.Common.{◌≡◌, ℕ, Bool, refl, sym, subst, ap, ◌∙◌}
 use Rattle.seize_words.specs.declared.fault.Fault.{Fault}
-use Rattle.map_tables.specs.Chunks.{is_incremental}
 use Rattle.map_tables.specs.declared.node.Node.{Node}
 use Rattle.map_tables.specs.declared.setting.Setting.{Setting}
 use Rattle.map_machines.specs.Sum.{summing}
@@ -29,11 +28,11 @@ use Rattle.threads_callers.specs.Standing.{known_by}
 use Rattle.threads_calls.proofs.Sessions.{may_do_all}
 
 module _ {K V S : Type 0} (same : K → K → Bool) (hash : S → K → ℕ) (v : View K V S) (setting its : Setting) (hasher : S) (t : ℕ) (lone : v.under ≡ None) (inside : v.slot ≡ Inside t NoBlock)
-    (free : v.work ≡ Nothing) (knows : known_by v ≡ Some (setting, hasher)) (incremental : is_incremental setting.mode ≡ true) (is : its ≡ record setting { slot = t }) where
+    (free : v.work ≡ Nothing) (knows : known_by v ≡ Some (setting, hasher)) (is : its ≡ record setting { slot = t }) where
   pub may_count : (sum : Sum) → sum ≡ summing its → MayCount same hash hasher (kinds.Count sum) v
   may_count sum made = record {
     may =
-        may_do_all same hash Count (λ x. kinds.Count (summing x)) (λ map s. refl) (λ x. refl) v setting its hasher t (kinds.Count sum) lone inside free knows incremental is
+        may_do_all same hash Count (λ x. kinds.Count (summing x)) (λ map s. refl) (λ x. refl) v setting its hasher t (kinds.Count sum) lone inside free knows is
         (ap kinds.Count made);
     setting = its;
     counts = ap kinds.Count made;
@@ -43,7 +42,7 @@ module _ {K V S : Type 0} (same : K → K → Bool) (hash : S → K → ℕ) (v 
   may_reserve additional call made = record {
     may =
         may_do_all same hash (MakeRoom additional) (λ x. kinds.Reserve (reserving x additional)) (λ map s. refl) (λ x. refl) v setting its hasher t (kinds.Reserve call) lone inside free knows
-        incremental is (ap kinds.Reserve made);
+        is (ap kinds.Reserve made);
     none = tt;
     stores = λ pair e. absurd (cc e);
   }
@@ -51,7 +50,7 @@ module _ {K V S : Type 0} (same : K → K → Bool) (hash : S → K → ℕ) (v 
   pub may_clear : (call : Sweep) → call ≡ sweeping its Clears → MayCall same hash hasher (kinds.Sweep call) v
   may_clear call made = record {
     may =
-        may_do_all same hash (GoOver Clears) (λ x. kinds.Sweep (sweeping x Clears)) (λ map s. refl) (λ x. refl) v setting its hasher t (kinds.Sweep call) lone inside free knows incremental is
+        may_do_all same hash (GoOver Clears) (λ x. kinds.Sweep (sweeping x Clears)) (λ map s. refl) (λ x. refl) v setting its hasher t (kinds.Sweep call) lone inside free knows is
         (ap kinds.Sweep made);
     none = subst (IsFor Clears) (sym made) record { is = refl; here = tt };
     stores = λ pair e. absurd (cc e);

@@ -3,6 +3,7 @@
 
 mod session;
 
+pub use map_tables::ResizeMode;
 pub use seize_views::Fixed;
 pub use session::SessionBase;
 pub use threads_callers::{

@@ -1,13 +1,11 @@
 //! A map, as one of those knows it who share it.
-ghost use Rattle.std.specs.Prelude.{◌≡◌, ◌≤◌, ◌<◌, ◌^◌, [], Some, None, Err, true, IfErr, IfNone, IfOk, IfSome, is_some, option_map};
+ghost use Rattle.std.specs.Prelude.{◌≡◌, ◌≤◌, ◌<◌, ◌^◌, [], Some, None, Err, IfErr, IfNone, IfOk, IfSome, is_some, option_map};
 ghost use Rattle.threads_callers.specs.Given.ErrandsCalling.{outcome_of};
 ghost use Rattle.threads_callers.specs.Given.ErrandsLooking.{HasRun, found_of};
 ghost use Rattle.threads_calls.specs.Answers.{HasReplaced, HasStored};
 ghost use Rattle.threads_calls.specs.Shown.{IsLent, IsPairLent, IsShown, Shows};
 ghost use Rattle.threads_callers.specs.Standing.{known_by};
 ghost use Rattle.threads_callers.specs.Given.ActsActs.{Get, Insert};
-ghost use Rattle.map_tables.specs.Chunks.{is_incremental};
-ghost use Rattle.map_tables.specs.declared.resize_mode.ResizeMode.TheVariants.{Incremental};
 ghost use Rattle.threads_callers.specs.Given.ViewsDeclared.view.SeatWork.TheVariants.{Nothing as NoWork};
 ghost use Rattle.seize_views.specs.declared.view.Has.TheVariants.{Nothing};
 ghost use Rattle.seize_views.specs.declared.view.SlotView.TheVariants.{Inside, Outside, Rests};
@@ -38,7 +36,6 @@ pub struct SessionBase<'a, K: Eq, V, S: Hashes<K>> {
     ghost sized: { caller.blocks.now.words.fixed.batch_size ≡ setting.batch_size },
     ghost knows: { known_by caller.seat.view ≡ Some (setting, hasher.now) },
     ghost free: { caller.seat.view.work ≡ NoWork },
-    ghost incremental: { is_incremental setting.mode ≡ true },
 }
 
 /// Returns what a call works with in this slot.
@@ -49,30 +46,29 @@ fn setting_in(setting: Setting, slot: u64) -> Setting
 }
 
 impl<'a, K: Eq + Drop, V: Drop, S: Hashes<K>> SessionBase<'a, K, V, S> {
-    /// Makes a map with no pair, and no table yet, in a memory that was opened so; its keys are hashed by this hasher. It copies at most so many places at a time as it
-    /// grows, and counts its pairs for so many processors. The faults are `RootsUsedUp` and `Memory`: there is no map then, and no root is taken.
+    /// Makes a map with no pair, and no table yet, in a memory that was opened so; its keys are hashed by this hasher. It comes to its next table so as
+    /// it grows, and counts its pairs for so many processors. The faults are `RootsUsedUp` and `Memory`: there is no map then, and no root is taken.
     pub fn open(
         blocks: &'a Blocks<Node<K, V>, OfMaps<S>>,
         hasher: &'a S,
         chosen: &Fixed,
-        chunk: u64,
+        mode: ResizeMode,
         processors: u64,
     ) -> Result<Self, Fault>
         requires fixed { blocks.now.words.fixed ≡ chosen.now }
         requires roots { 0 < chosen.now.roots }
-        requires chunk { 0 < chunk }
         requires processors { processors ≤ 2 ^ 63 }
         ensures blocks { IfOk result (λ session. session.caller.blocks.now ≡ blocks.now) }
         ensures rests { IfOk result (λ session. session.caller.seat.view.slot ≡ Rests) }
         ensures none { IfOk result (λ session. session.caller.seat.view.calls ≡ []) }
         ensures hashes { IfOk result (λ session. session.hasher.now ≡ hasher.now) }
-        ensures mode { IfOk result (λ session. session.setting.mode ≡ Incremental chunk) }
+        ensures mode { IfOk result (λ session. session.setting.mode ≡ mode) }
     {
         let setting = Setting {
             slot: 0,
             batch_size: chosen.batch_size,
             root: 0,
-            mode: ResizeMode::Incremental(chunk),
+            mode,
             counter: 0,
             mask: Counter::new(processors).mask,
             initial: 1,

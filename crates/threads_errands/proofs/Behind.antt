@@ -1,5 +1,5 @@
 -- A call whose code is ahead of its machine: turns lead to one point that makes an operation, and the seat may take them, or those with which the call ends.
-use Rattle.std.specs.Prelude.{Option, None, List, [], if◌then◌else◌}
+use Rattle.std.specs.Prelude.{Option, None, List}
 use Rattle.std.proofs.Common.{◌≡◌, ℕ, Bool, refl, sym, subst, ap, ◌∙◌}
 use Rattle.seize_words.specs.OneMemory.Op.{Op}
 use Rattle.seize_words.specs.OneMemory.Plan.{Plan, Turn, Do, Now, Seeing, Sure, plan_as}
@@ -128,7 +128,7 @@ module _ {K V S : Type 0} where
 
   pub works_still : (hasher : S) (machine next : Machine K V K) (v w : View K V S) → Works hasher machine v → StaysThere v w → w.work ≡ Calls next → Works hasher next w
   works_still hasher machine next v w at stays works =
-      record { map = at.map; knows = stays.map ∙ at.knows; hashes = at.hashes; incremental = at.incremental; works = works }
+      record { map = at.map; knows = stays.map ∙ at.knows; hashes = at.hashes; works = works }
 
 module _ {K V S : Type 0} (same : K → K → Bool) (hash : S → K → ℕ) (hasher : S) where
   -- the plan of its machine is that of its call
@@ -144,7 +144,7 @@ module _ {K V S : Type 0} (same : K → K → Bool) (hash : S → K → ℕ) (ha
       let t = turned_so same hash v at.map (Key x) at.knows at.works w turn in
       let one : t.0 ≡ as_machine (y, told) =
       subst (λ (p : Plan (Node K V) (Machine K V K × Progress (Node K V))). TurnsTo (shown_in w.looks) p t.0) (plan_here x v at (Turn (Now (y, told))) is) t.1 in
-      let held : w.held ≡ w.looks = ap (λ (u : View K V S). u.held) t.2 ∙ ap (λ (k : Bool). if k then w.looks else []) at.incremental in (
+      let held : w.held ≡ w.looks = ap (λ (u : View K V S). u.held) t.2 in (
         t.2 ∙ ap (λ (e : Machine K V K × Progress (Node K V)). called v at.map (Key x) e w.looks) one,
         subst (λ (e : Machine K V K × Progress (Node K V)). AnsweredAreVisible e.1 (shown_in w.held)) one
             (subst (λ (l : List (ℕ × Node K V)). AnsweredAreVisible t.0.1 (shown_in l)) (sym held) t.5.1),

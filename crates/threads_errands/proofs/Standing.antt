@@ -103,7 +103,7 @@ module _ {K V S : Type 0} (same : K → K → Bool) (hash : S → K → ℕ) (ha
         let t = gone.came hasher x is e in
         let at : Works hasher (Key x) t.0 = at_point same hash c.seat.now.view hasher x t.0 is t.1 in
         let w = n.seat.now.view in
-        let so = told_shown same hash t.0 at.map (Key x) at.knows at.works at.incremental op out w t.2 in
+        let so = told_shown same hash t.0 at.map (Key x) at.knows at.works op out w t.2 in
         let its = plan_here same hash hasher x t.0 at plan refl in
         let f = follows_as as_machine (shown_in w.held) plan out so.0
         (subst (λ (p : Plan (Node K V) (Machine K V K × Progress (Node K V))). FollowsBy (shown_in w.held) p out so.0) its so.1) in record {

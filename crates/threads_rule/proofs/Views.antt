@@ -9,6 +9,7 @@ mod Within
 mod Knows
 mod Whose
 mod Alone
+mod Writers
 mod Sections
 mod Looked
 mod Naming

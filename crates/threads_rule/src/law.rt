@@ -5,7 +5,7 @@ ghost use Rattle.threads_rule.specs.Views.Promises.{RowsContinue, RowsTurn, Sett
 
 /// Keys may be compared, and hashed by a hasher, in any way. The rule may start where each hasher is lawful, and seats may come; and the next step of a call that a
 /// seat has under way, with an operation or without, may be taken at any moment, whatever the other seats do. What a step
-/// of any call has looked at in incremental mode is there until its next step, with the value that it had.
+/// of any call has looked at is there until its next step, with the value that it had.
 pub fn calls_go_on<K, V, S>()
     ensures starts { (same : K → K → Bool) (hash : S → K → ℕ) → RulesStart V same hash }
     ensures come { (same : K → K → Bool) (hash : S → K → ℕ) → SeatsCome V same hash }
@@ -14,8 +14,8 @@ pub fn calls_go_on<K, V, S>()
     ensures held { (same : K → K → Bool) (hash : S → K → ℕ) → HeldAreShown V same hash }
 {}
 
-/// Within its section, or that of a seat that it leans on, a seat that knows a map in incremental mode, and has nothing under way, may begin any call on it; what it has under way may be told anything, or asked for its next pair; and a
-/// map that one seat knows may be handed on to another one that has nothing under way.
+/// Within its section a seat that knows a map, and has nothing under way, may begin any call on it, and so may one within the section of a seat that it leans on, but that it only looks keys up in blocking mode; what it has under way may be
+/// told anything, or asked for its next pair; and a map that one seat knows may be handed on to another one that has nothing under way.
 pub fn calls_begin<K, V, S>()
     ensures begin { (same : K → K → Bool) (hash : S → K → ℕ) → CallsBegin V same hash }
     ensures told { (same : K → K → Bool) (hash : S → K → ℕ) → CallsAreReplied V same hash }

@@ -1,6 +1,6 @@
 -- A step of a call of a seat: it may be taken, and the seat knows to what it has come.
-use Rattle.std.specs.Prelude.{Option, Some, if◌then◌else◌}
-use Rattle.std.proofs.Common.{◌≡◌, ℕ, Bool, true, false, ◌⊎◌, List, [], inl, inr, refl, sym, subst, ap, ◌∙◌}
+use Rattle.std.specs.Prelude.{Option, Some}
+use Rattle.std.proofs.Common.{◌≡◌, ℕ, Bool, true, false, ◌⊎◌, List, inl, inr, refl, sym, subst, ap, ◌∙◌}
 use Rattle.seize_words.specs.OneMemory.Op.{Op, Out}
 use Rattle.seize_words.specs.OneMemory.Plan.{Plan, Then, Turn, Do, Now, Seeing, Sure, Ends, MaySee, May, Steps}
 use Rattle.seize_blocks.specs.Given.SeizeSeatsState.{Turns}
@@ -74,7 +74,7 @@ module _ {K V S : Type 0} (same : K → K → Bool) (hash : S → K → ℕ) (ha
   may : May (CanMake same hash) (HasMade same hash) shown_of c plan
   may =
       may_quiet (CanMake same hash) (HasMade same hash) shown_of c plan quiet (can_make same hash c is.at.map machine is.at.knows is.at.works (quiet_leaves plan quiet))
-      (λ op out n e made. (told_shown same hash c is.at.map machine is.at.knows is.at.works is.at.incremental op out n made).3)
+      (λ op out n e made. (told_shown same hash c is.at.map machine is.at.knows is.at.works op out n made).3)
 
   pub may_step : May (CanMake same hash) (HasMade same hash) shown_of c its
   may_step = subst (λ (h : S). May (CanMake same hash) (HasMade same hash) shown_of c (machine_plan same same (hash h) machine)) is.at.hashes may
@@ -109,7 +109,7 @@ module _ {K V S : Type 0} (same : K → K → Bool) (hash : S → K → ℕ) (ha
     pub has_made : n.made ≡ true → Made
     has_made made = elim (came_to (CanMake same hash) (HasMade same hash) shown_of c plan n end steps) as (λ _. Made) [
       | inl it ↦
-          let t = told_shown same hash c is.at.map machine is.at.knows is.at.works is.at.incremental it.0 it.1 n it.2 in
+          let t = told_shown same hash c is.at.map machine is.at.knows is.at.works it.0 it.1 n it.2 in
           let one : t.0 ≡ end = follows_one (shown_of n) plan it.1 t.0 end t.1 it.3 in
           let view = t.2 ∙ ap (λ (e : Machine K V K × Progress (Node K V)). called c.seat.now.view is.at.map machine e n.seat.now.view.looks) one in record {
             stepped =
@@ -156,7 +156,7 @@ module _ {K V S : Type 0} (same : K → K → Bool) (hash : S → K → ℕ) (ha
         let one : by_map.0 ≡ end =
         ends_same (shown_of c) t.1.0 by_map.0 end (now_ends (shown_in w.looks) (shown_of c) t.1.0 by_map.0 now ends) t.1.2 in
         let view = by_map.2 ∙ ap (λ (e : Machine K V K × Progress (Node K V)). called c.seat.now.view is.at.map machine e w.looks) one in
-        let held_is : w.held ≡ w.looks = ap (λ (u : View K V S). u.held) view ∙ ap (λ (k : Bool). if k then w.looks else []) is.at.incremental in
+        let held_is : w.held ≡ w.looks = ap (λ (u : View K V S). u.held) view in
         knows_so w next told w.looks view
         (subst (λ (p : Plan (Node K V) (Machine K V K × Progress (Node K V))). Leads (shown_in w.held) p end) (sym t.1.1)
         (now_ends (shown_of c) (shown_in w.held) t.1.0 end now t.1.2))

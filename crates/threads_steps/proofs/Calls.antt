@@ -1,9 +1,8 @@
 -- A step of the call of a seat: its operation may be made, and what it has come to is known with what it looks at.
-use Rattle.std.specs.Prelude.{Some, if◌then◌else◌}
-use Rattle.std.proofs.Common.{◌≡◌, ℕ, Bool, true, [], ◌∙◌}
+use Rattle.std.specs.Prelude.{Some}
+use Rattle.std.proofs.Common.{◌≡◌, ℕ, Bool}
 use Rattle.seize_words.specs.OneMemory.Op.{Op, Out, Load, Store, Swap, Add, Or, Exchange, Make, Take, Rewrite, Room}
 use Rattle.seize_words.specs.OneMemory.Plan.{Plan}
-use Rattle.map_tables.specs.Chunks.{is_incremental}
 use Rattle.map_tables.specs.declared.node.Node.{Node}
 use Rattle.papaya_raw.specs.Machine.{machine_plan}
 use Rattle.papaya_raw.specs.declared.machines.machine.Machine.{Machine}
@@ -45,8 +44,8 @@ module _ {K V S : Type 0} (same : K → K → Bool) (hash : S → K → ℕ) (c 
       may = calls_go_on V same hash c.blocks.now.words.fixed c.seat.now.id c.seat.now.view map machine op knows works e;
     }
 
-    -- in incremental mode it shows what the step looks at
-    pub told_shown : is_incremental map.setting.mode ≡ true → (op : Op (Node K V)) (out : Out (Node K V)) (n : Within K V S) → HasMade same hash c op out n
+    -- it shows what the step looks at
+    pub told_shown : (op : Op (Node K V)) (out : Out (Node K V)) (n : Within K V S) → HasMade same hash c op out n
         → (end : Machine K V K × Progress (Node K V)) × FollowsBy (shown_of n) plan out end × (n.seat.now.view ≡ called c.seat.now.view map machine end n.seat.now.view.looks)
         × MayFollow (shown_of n) plan out × MayCome plan end × HandsBack c.seat.now.view.calls end.1 × ToldAreVisible machine end.1 (shown_of n)
-    told_shown incremental op out n made = shown_then same hash c.seat.now.view map machine knows works incremental op out n.seat.now.view made.told
+    told_shown op out n made = shown_then same hash c.seat.now.view map machine knows works op out n.seat.now.view made.told

@@ -62,7 +62,7 @@ module _ {K V S : Type 0} (same : K → K → Bool) (hash : S → K → ℕ) (c 
 
   came : (op : Op (Node K V)) (out : Out (Node K V)) (n : Within K V S) → HasMade same hash c op out n → Came n out
   came op out n made =
-      let t = told_shown same hash c is.map machine is.knows is.works is.incremental op out n made in
+      let t = told_shown same hash c is.map machine is.knows is.works op out n made in
       let f = follows_as as_machine (shown_of n) in_call out t.0 (subst (λ (p : Plan (Node K V) (Machine K V K × Told (Node K V))). FollowsBy (shown_of n) p out t.0) its_plan t.1) in
       let g = follows_as (looked standing_here) (shown_of n) own out f.0 f.1 in
       record {
@@ -85,7 +85,6 @@ module _ {K V S : Type 0} (same : K → K → Bool) (hash : S → K → ℕ) (c 
     map = is.map;
     call = is.call;
     knows = ap (λ (v : View K V S). v.map) view ∙ is.knows;
-    incremental = is.incremental;
     asked = is.asked;
     works = ap (λ (v : View K V S). v.work) view;
     on = on;

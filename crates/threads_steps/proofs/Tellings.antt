@@ -1,9 +1,8 @@
 -- What a seat knows once its call has taken a step: what the answer of the operation told, or that the step made none.
-use Rattle.std.specs.Prelude.{Option, Some, if◌then◌else◌}
-use Rattle.std.proofs.Common.{◌≡◌, ℕ, Bool, true, List, [], sym, subst, ap, ◌∙◌}
+use Rattle.std.specs.Prelude.{Option, Some}
+use Rattle.std.proofs.Common.{◌≡◌, ℕ, Bool, List, sym, subst, ap}
 use Rattle.seize_words.specs.OneMemory.Op.{Op, Out}
 use Rattle.seize_words.specs.OneMemory.Plan.{Plan}
-use Rattle.map_tables.specs.Chunks.{is_incremental}
 use Rattle.map_tables.specs.declared.node.Node.{Node}
 use Rattle.papaya_raw.specs.Machine.{machine_plan}
 use Rattle.papaya_raw.specs.declared.machines.machine.Machine.{Machine}
@@ -31,11 +30,11 @@ module _ {K V S : Type 0} (same : K → K → Bool) (hash : S → K → ℕ) (v 
   told_so op out w is =
       subst (λ (o : Option (Map S)). observed_by same hash v o (Calls machine) op out w) knows (subst (λ (k : SeatWork K V S). observed_by same hash v v.map k op out w) works is)
 
-  -- in incremental mode it shows what the step looks at
-  pub told_shown : is_incremental map.setting.mode ≡ true → (op : Op (Node K V)) (out : Out (Node K V)) (w : View K V S) → told same hash v op out w → HasCome w.held out w
-  told_shown incremental op out w is =
+  -- it shows what the step looks at
+  pub told_shown : (op : Op (Node K V)) (out : Out (Node K V)) (w : View K V S) → told same hash v op out w → HasCome w.held out w
+  told_shown op out w is =
       let t = told_so op out w is in
-      let shows : w.held ≡ w.looks = ap (λ (u : View K V S). u.held) t.2 ∙ ap (λ (k : Bool). if k then w.looks else []) incremental in (
+      let shows : w.held ≡ w.looks = ap (λ (u : View K V S). u.held) t.2 in (
         t.0,
         subst (λ (l : List (ℕ × Node K V)). FollowsBy (shown_in l) plan out t.0) (sym shows) t.1,
         t.2,

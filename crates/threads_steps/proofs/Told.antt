@@ -38,7 +38,6 @@ module _ {K V S : Type 0} (k : Kind) (s : Stage) (hasher : S) (pair : Option ℕ
           map = is.at.map;
           knows = ap (λ (u : View K V S). u.map) e ∙ is.at.knows;
           hashes = is.at.hashes;
-          incremental = is.at.incremental;
           works = ap (λ (u : View K V S). u.work) e;
         };
     goes = (machine_takes k s (shown_in v.held) pair reply machine is.asks fit).0;

@@ -1,8 +1,7 @@
 -- A session that goes over the pairs of its map may begin to, and what its call has come to.
 use Rattle.std.specs.Prelude.{[], Some, None, Result}
-use Rattle.std.proofs.Common.{◌≡◌, ℕ, Bool, true, refl, subst, ap}
+use Rattle.std.proofs.Common.{◌≡◌, ℕ, Bool, refl, subst, ap}
 use Rattle.seize_words.specs.declared.fault.Fault.{Fault}
-use Rattle.map_tables.specs.Chunks.{is_incremental}
 use Rattle.map_tables.specs.declared.setting.Setting.{Setting}
 use Rattle.papaya_raw.specs.Given.ReservesDeclared.sweep.Purpose.{Purpose}
 use Rattle.papaya_raw.specs.Given.SweepsSweepPoints.{sweeping}
@@ -49,11 +48,11 @@ module _ {K V S : Type 0} where
 
     -- it may begin
     pub may_go_over : (v : View K V S) (setting its : Setting) (hasher : S) (t : ℕ) (machine : Machine K V K) → v.under ≡ None → v.slot ≡ Inside t NoBlock → v.work ≡ Nothing
-        → known_by v ≡ Some (setting, hasher) → is_incremental setting.mode ≡ true → its ≡ record setting { slot = t } → machine ≡ kinds.Sweep (sweeping its purpose)
+        → known_by v ≡ Some (setting, hasher) → its ≡ record setting { slot = t } → machine ≡ kinds.Sweep (sweeping its purpose)
         → MayGoOver same hash purpose hasher machine v
-    may_go_over v setting its hasher t machine lone inside free knows incremental is made = record {
+    may_go_over v setting its hasher t machine lone inside free knows is made = record {
       may =
-          may_do_all same hash (GoOver purpose) (λ x. kinds.Sweep (sweeping x purpose)) (λ map s. refl) (λ x. refl) v setting its hasher t machine lone inside free knows incremental is made;
+          may_do_all same hash (GoOver purpose) (λ x. kinds.Sweep (sweeping x purpose)) (λ map s. refl) (λ x. refl) v setting its hasher t machine lone inside free knows is made;
       setting = its;
       is = made;
     }

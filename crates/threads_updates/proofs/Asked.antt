@@ -3,7 +3,6 @@ use Rattle.std.specs.Prelude.{Option, Some, None}
 use Rattle.std.proofs.Common.{◌≡◌, ℕ, Bool, true, false, refl, sym, subst}
 use Rattle.seize_words.specs.declared.operation.Operation.{Operation}
 use Rattle.seize_words.specs.declared.operation.Operation.TheVariants as operation
-use Rattle.map_tables.specs.Chunks.{is_incremental}
 use Rattle.map_tables.specs.declared.node.Node.{Node}
 use Rattle.map_tables.specs.declared.node.Node.TheVariants.{Pair}
 use Rattle.map_tables.specs.declared.setting.Setting.{Setting}
@@ -94,11 +93,11 @@ pub shown_word : {K V : Type 0} (shown : ℕ → Option (Node K V)) (word : ℕ)
 shown_word shown word pair is shows = subst (λ (o : Option ℕ). ShowsAsked shown o) is shows
 
 -- A session may begin a call that computes,
-module _ {K V S : Type 0} (same : K → K → Bool) (hash : S → K → ℕ) (v : View K V S) (setting its : Setting) (hasher : S) (key : K) (hashed t : ℕ) (call : KeyCall K V K) (lone : v.under ≡ None) (inside : v.slot ≡ Inside t NoBlock) (free : v.work ≡ Nothing) (knows : known_by v ≡ Some (setting, hasher)) (incremental : is_incremental setting.mode ≡ true) (is : its ≡ record setting { slot = t }) (word : hashed ≡ hash hasher key) where
+module _ {K V S : Type 0} (same : K → K → Bool) (hash : S → K → ℕ) (v : View K V S) (setting its : Setting) (hasher : S) (key : K) (hashed t : ℕ) (call : KeyCall K V K) (lone : v.under ≡ None) (inside : v.slot ≡ Inside t NoBlock) (free : v.work ≡ Nothing) (knows : known_by v ≡ Some (setting, hasher)) (is : its ≡ record setting { slot = t }) (word : hashed ≡ hash hasher key) where
   pub may_compute : call ≡ computing its hashed key → MayDoAs same hash computes first hasher (kinds.Key call) v
   may_compute made =
       record {
-        may = may_do same hash (Compute key) key (λ x h. computing x h key) (λ map s. refl) (λ x h. refl) v setting its hasher hashed t call lone inside free knows incremental is word made;
+        may = may_do same hash (Compute key) key (λ x h. computing x h key) (λ map s. refl) (λ x h. refl) v setting its hasher hashed t call lone inside free knows is word made;
         goes = subst (λ (c : KeyCall K V K). Continues computes first c) (sym made) record { so = record { kind = refl; holds = ((key, refl, refl), tt, tt); gap = tt }; here = tt };
       }
 

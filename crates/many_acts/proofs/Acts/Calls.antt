@@ -33,7 +33,8 @@ use Rattle.owner_facts.specs.Given.PointsSteps.{AreLawful, first_reply}
 use Rattle.owner_facts.specs.Given.CallersAsked.{replies_before}
 use Rattle.owner_facts.specs.Given.CallersKind.{gets, removes, inserts, tries_to_insert, computes, updates, updates_or_inserts, tries_to_insert_with, removes_if}
 use Rattle.owner_facts.specs.Given.CallersPairs.{Given, Begun, IsTold}
-use Rattle.owner_facts.specs.Given.CallersTogether.{UnderWay, OnKey, ForRoom, Counting, OverAll, IsBegun}
+use Rattle.run_shows.specs.Given.TablesChunks.{is_incremental}
+use Rattle.owner_facts.specs.Given.CallersTogether.{UnderWay, OnKey, ForRoom, Counting, OverAll, FewWith, IsBegun}
 use Rattle.owner_facts.specs.Given.CallersTogether as begins
 use Rattle.owner_facts.specs.Given.FinishesEndings.{EndingsTogether}
 use Rattle.owner_facts.specs.Given.FinishesMachines.{machine_of, MachineStepsWithEndings, RepliedOfKind}
@@ -128,7 +129,7 @@ module _ {K V S : Type 0} (same : K → K → Bool) (hash : S → K → ℕ) (ba
 
   pub call_begins : (wanted : Wanted K V) → MayBe same hash batch_size roots slot (BeginsCall i m wanted) s
       → (n : Scene K V) × Led same hash batch_size roots slot (BeginsCall i m wanted) s Nothing n × Stands n
-  call_begins wanted (free, rest, within, there, few) = (scene_with m i (begun same slot standing i wanted) s, (standing, stands, refl, refl), by wanted within)
+  call_begins wanted (free, rest, within, there, few) = (scene_with m i (begun same slot standing i wanted) s, (standing, stands, refl, refl), by wanted within (few standing stands))
     where
       standing : Standing K
       standing = (some_is (s.maps m) there).0
@@ -142,49 +143,53 @@ module _ {K V S : Type 0} (same : K → K → Bool) (hash : S → K → ℕ) (ba
       lawful : AreLawful same standing.hash
       lawful = (all.makings.standing.fit m standing stands).0
 
-      on : is_within (s.world.uses (slot i)) ≡ true → (keys : K → Bool) (pair : Given K V) (call : KeyCall K V K) → IsBegun V same standing.hash same standing.setting slot i keys pair call
-          → Stands (scene_with m i (OnKey (begins.begun_at V same standing.hash same standing.setting slot standing.chart keys pair call)) s)
-      on within keys pair call is =
-          calls_begin_among V same same batch_size roots slot s.world s.maps s.calls s.makers s.enders all i (none_is (s.makers i) free.no_making) (none_is (s.enders i) free.no_ending)
-          no_call (rests_is (s.world.row i) rest) (inside_is (s.world.uses (slot i)) within) m standing stands (few standing stands) keys pair call is
+      FewSo : UnderWay K V K → Type 0
+      FewSo u = is_incremental standing.setting.mode ≡ false → FewWith (s.calls m) i u
 
-      by : (wanted : Wanted K V) → UnlessToCount wanted (is_within (s.world.uses (slot i)) ≡ true) → Stands (scene_with m i (begun same slot standing i wanted) s)
-      by (Get key) within = on within (same key) (Begun gets None) (getting (its slot standing i) (standing.hash key) key)
-          (begins.Gets key (standing.hash key) (lawful.fits key) (its_class same standing.hash lawful key))
-      by (Remove key) within = on within (same key) (Begun removes None) (removing (its slot standing i) (standing.hash key) key)
-          (begins.Removes key (standing.hash key) (lawful.fits key) (its_class same standing.hash lawful key))
-      by (Insert key value) within =
-          on within (same key) (Begun inserts (Some (node.Pair key value))) (inserting (its slot standing i) (standing.hash key) key value) (begins.Inserts key value)
-      by (TryToInsert key value) within =
-          on within (same key) (Begun tries_to_insert (Some (node.Pair key value))) (trying_to_insert (its slot standing i) (standing.hash key) key value) (begins.TriesToInsert key value)
-      by (Compute key) within = on within (same key) (IsTold computes (Some key) []) (computing (its slot standing i) (standing.hash key) key) (begins.Computes key)
-      by (Update key) within = on within (same key) (IsTold updates (Some key) []) (updating (its slot standing i) (standing.hash key) key) (begins.Updates key)
-      by (UpdateOrInsert key absent) within =
+      on : is_within (s.world.uses (slot i)) ≡ true → (keys : K → Bool) (pair : Given K V) (call : KeyCall K V K) → IsBegun V same standing.hash same standing.setting slot i keys pair call
+          → FewSo (OnKey (begins.begun_at V same standing.hash same standing.setting slot standing.chart keys pair call))
+          → Stands (scene_with m i (OnKey (begins.begun_at V same standing.hash same standing.setting slot standing.chart keys pair call)) s)
+      on within keys pair call is few_so =
+          calls_begin_among V same same batch_size roots slot s.world s.maps s.calls s.makers s.enders all i (none_is (s.makers i) free.no_making) (none_is (s.enders i) free.no_ending)
+          no_call (rests_is (s.world.row i) rest) (inside_is (s.world.uses (slot i)) within) m standing stands keys pair call is few_so
+
+      by : (wanted : Wanted K V) → UnlessToCount wanted (is_within (s.world.uses (slot i)) ≡ true) → FewSo (begun same slot standing i wanted) → Stands (scene_with m i (begun same slot standing i wanted) s)
+      by (Get key) within few_so = on within (same key) (Begun gets None) (getting (its slot standing i) (standing.hash key) key)
+          (begins.Gets key (standing.hash key) (lawful.fits key) (its_class same standing.hash lawful key)) few_so
+      by (Remove key) within few_so = on within (same key) (Begun removes None) (removing (its slot standing i) (standing.hash key) key)
+          (begins.Removes key (standing.hash key) (lawful.fits key) (its_class same standing.hash lawful key)) few_so
+      by (Insert key value) within few_so =
+          on within (same key) (Begun inserts (Some (node.Pair key value))) (inserting (its slot standing i) (standing.hash key) key value) (begins.Inserts key value) few_so
+      by (TryToInsert key value) within few_so =
+          on within (same key) (Begun tries_to_insert (Some (node.Pair key value))) (trying_to_insert (its slot standing i) (standing.hash key) key value) (begins.TriesToInsert key value) few_so
+      by (Compute key) within few_so = on within (same key) (IsTold computes (Some key) []) (computing (its slot standing i) (standing.hash key) key) (begins.Computes key) few_so
+      by (Update key) within few_so = on within (same key) (IsTold updates (Some key) []) (updating (its slot standing i) (standing.hash key) key) (begins.Updates key) few_so
+      by (UpdateOrInsert key absent) within few_so =
           on within (same key) (IsTold updates_or_inserts (Some key) (replies_before absent)) (updating_or_inserting (its slot standing i) (standing.hash key) key (first_reply absent))
-          (begins.UpdatesOrInserts key absent)
-      by (TryToInsertWith key) within =
-          on within (same key) (IsTold tries_to_insert_with (Some key) []) (trying_to_insert_with (its slot standing i) (standing.hash key) key) (begins.TriesToInsertWith key)
-      by (RemoveIf key) within = on within (same key) (IsTold removes_if None []) (removing_if (its slot standing i) (standing.hash key) key)
-          (begins.RemovesIf key (standing.hash key) (lawful.fits key) (its_class same standing.hash lawful key))
-      by (GetKeyValue key) within = on within (same key) (Begun gets None) (getting (its slot standing i) (standing.hash key) key)
-          (begins.Gets key (standing.hash key) (lawful.fits key) (its_class same standing.hash lawful key))
-      by (ContainsKey key) within = on within (same key) (Begun gets None) (getting (its slot standing i) (standing.hash key) key)
-          (begins.Gets key (standing.hash key) (lawful.fits key) (its_class same standing.hash lawful key))
-      by (GetOrInsert key value) within =
-          on within (same key) (Begun tries_to_insert (Some (node.Pair key value))) (trying_to_insert (its slot standing i) (standing.hash key) key value) (begins.TriesToInsert key value)
-      by (GetOrInsertWith key) within =
-          on within (same key) (IsTold tries_to_insert_with (Some key) []) (trying_to_insert_with (its slot standing i) (standing.hash key) key) (begins.TriesToInsertWith key)
-      by (RemoveEntry key) within = on within (same key) (Begun removes None) (removing (its slot standing i) (standing.hash key) key)
-          (begins.Removes key (standing.hash key) (lawful.fits key) (its_class same standing.hash lawful key))
-      by (MakeRoom additional) within =
+          (begins.UpdatesOrInserts key absent) few_so
+      by (TryToInsertWith key) within few_so =
+          on within (same key) (IsTold tries_to_insert_with (Some key) []) (trying_to_insert_with (its slot standing i) (standing.hash key) key) (begins.TriesToInsertWith key) few_so
+      by (RemoveIf key) within few_so = on within (same key) (IsTold removes_if None []) (removing_if (its slot standing i) (standing.hash key) key)
+          (begins.RemovesIf key (standing.hash key) (lawful.fits key) (its_class same standing.hash lawful key)) few_so
+      by (GetKeyValue key) within few_so = on within (same key) (Begun gets None) (getting (its slot standing i) (standing.hash key) key)
+          (begins.Gets key (standing.hash key) (lawful.fits key) (its_class same standing.hash lawful key)) few_so
+      by (ContainsKey key) within few_so = on within (same key) (Begun gets None) (getting (its slot standing i) (standing.hash key) key)
+          (begins.Gets key (standing.hash key) (lawful.fits key) (its_class same standing.hash lawful key)) few_so
+      by (GetOrInsert key value) within few_so =
+          on within (same key) (Begun tries_to_insert (Some (node.Pair key value))) (trying_to_insert (its slot standing i) (standing.hash key) key value) (begins.TriesToInsert key value) few_so
+      by (GetOrInsertWith key) within few_so =
+          on within (same key) (IsTold tries_to_insert_with (Some key) []) (trying_to_insert_with (its slot standing i) (standing.hash key) key) (begins.TriesToInsertWith key) few_so
+      by (RemoveEntry key) within few_so = on within (same key) (Begun removes None) (removing (its slot standing i) (standing.hash key) key)
+          (begins.Removes key (standing.hash key) (lawful.fits key) (its_class same standing.hash lawful key)) few_so
+      by (MakeRoom additional) within few_so =
           rooms_begin_among V same same batch_size roots slot s.world s.maps s.calls s.makers s.enders all i (none_is (s.makers i) free.no_making) (none_is (s.enders i) free.no_ending)
-          no_call (rests_is (s.world.row i) rest) (inside_is (s.world.uses (slot i)) within) m standing stands (few standing stands) additional
-      by Count within =
+          no_call (rests_is (s.world.row i) rest) (inside_is (s.world.uses (slot i)) within) m standing stands additional few_so
+      by Count within few_so =
           countings_begin_among V same same batch_size roots slot s.world s.maps s.calls s.makers s.enders all i (none_is (s.makers i) free.no_making) (none_is (s.enders i) free.no_ending)
-          no_call (rests_is (s.world.row i) rest) m standing stands (few standing stands)
-      by (GoOver purpose) within =
+          no_call (rests_is (s.world.row i) rest) m standing stands
+      by (GoOver purpose) within few_so =
           sweeps_begin_among V same same batch_size roots slot s.world s.maps s.calls s.makers s.enders all i (none_is (s.makers i) free.no_making) (none_is (s.enders i) free.no_ending)
-          no_call (rests_is (s.world.row i) rest) (inside_is (s.world.uses (slot i)) within) m standing stands (few standing stands) purpose
+          no_call (rests_is (s.world.row i) rest) (inside_is (s.world.uses (slot i)) within) m standing stands purpose few_so
 
   abbrev Came : Grant → Type 0
   Came g = (told : Answer K V) × (n : Scene K V) × Led same hash batch_size roots slot (StepsCall i m g) s told n × Stands n

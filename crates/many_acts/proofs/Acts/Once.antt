@@ -81,12 +81,12 @@ module _ {K V : Type 0} (s : Scene K V) where
   free_prop : (i : ℕ) → IsProp (IsFree s i)
   free_prop i = hlevel bool_set
 
-  few_prop : (i m : ℕ) → IsProp (AreFewWith s i m)
-  few_prop i m = hlevel le_prop
-
 module _ {K V S : Type 0} (same : K → K → Bool) (hash : S → K → ℕ) (batch_size roots : ℕ) (slot : ℕ → ℕ) where
+  few_prop : (s : Scene K V) (i m : ℕ) (wanted : Wanted K V) → IsProp (AreFewWith same hash batch_size roots slot s i m wanted)
+  few_prop s i m wanted = hlevel le_prop
+
   pub may_prop : (act : Act K V S) (s : Scene K V) → IsProp (MayBe same hash batch_size roots slot act s)
-  may_prop (BeginsCall i m wanted) s = hlevel (bool_set, free_prop s i, to_count_prop (bool_set (is_within (s.world.uses (slot i))) true) wanted, few_prop s i m)
+  may_prop (BeginsCall i m wanted) s = hlevel (bool_set, free_prop s i, to_count_prop (bool_set (is_within (s.world.uses (slot i))) true) wanted, few_prop s i m wanted)
   may_prop (StepsCall i m g) s = bool_set _ _
   may_prop (TellsCall i m reply) s = bool_set _ _
   may_prop (AsksCall i m) s = bool_set _ _

@@ -5,8 +5,10 @@ mod Held
 mod Tables
 mod Copiers
 mod Disposals
+mod Lookups
 mod Rooms
 mod Own
 mod Calls
+mod Left
 pub mod Promised
 pub mod Made

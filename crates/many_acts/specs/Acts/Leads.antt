@@ -1,5 +1,5 @@
 -- When an act may be made, and from which scene to which one it leads, with what it tells.
-use Rattle.std.specs.Prelude.{◌≡◌, ◌≢◌, ◌⊎◌, ℕ, ◌+◌, ◌<◌, ◌≤◌, ◌^◌, max, Bool, true, false, [], ◌∷◌, ◌++◌, Option, Some, None}
+use Rattle.std.specs.Prelude.{◌≡◌, ◌≢◌, ℕ, ◌+◌, ◌<◌, ◌≤◌, ◌^◌, max, Bool, true, false, [], ◌∷◌, ◌++◌, Option, Some, None}
 use Rattle.std.specs.Int.{IsPowerOfTwo}
 use Rattle.std.specs.Option.{is_none}
 use Rattle.std.specs.Result.{is_err}
@@ -24,15 +24,14 @@ use Rattle.run_shows.specs.Given.RawDeclared.machines.end_map.EndMap.{EndMap}
 use Rattle.run_shows.specs.Given.RawDeclared.machines.machine.Machine.{Machine}
 use Rattle.run_shows.specs.Given.RawDeclared.machines.progress.Progress.{Progress as CallProgress}
 use Rattle.run_shows.specs.Given.SweepsSweepPoints.{after_next}
-use Rattle.owner_facts.specs.Given.CallersClaims.{AreFew}
 use Rattle.owner_facts.specs.Given.CallersOverAll.{gone_on}
-use Rattle.owner_facts.specs.Given.CallersTogether.{UnderWay, OverAll, UnlessCounts, HasCall, IsOfSlots, Closes}
+use Rattle.owner_facts.specs.Given.CallersTogether.{UnderWay, OverAll, UnlessCounts, FewWith, IsOfSlots, Closes}
 use Rattle.owner_facts.specs.Given.FinishesEndings.{Finishing, EndingsTogether, StepsOfEnding, MakingStepsWithEndings, HasFinished, waiting_by}
 use Rattle.owner_facts.specs.Given.FinishesFactsEnds.{Deed, taken_by}
 use Rattle.owner_facts.specs.Given.FinishesMachines.{machine_of, RepliedOfKind, MachineStepsWithEndings}
 use Rattle.owner_facts.specs.Given.FinishesMakings.{Beginning, IsMade}
 use Rattle.owner_facts.specs.Given.FinishesMaps.{Standing, IsSameMap, with_call}
-use Rattle.many_acts.specs.Acts.Acts.{Act, Answer, Nothing, OfCall, OfReply, OfAsking, OfMaking, OfEnding, UnlessToCount, begun, BeginsCall, StepsCall, TellsCall, AsksCall, StopsCall, BeginsMaking, StepsMaking, BeginsEnding, StepsEnding, BeginsRow, StepsRow}
+use Rattle.many_acts.specs.Acts.Acts.{Act, Answer, Wanted, Nothing, OfCall, OfReply, OfAsking, OfMaking, OfEnding, UnlessToCount, begun, BeginsCall, StepsCall, TellsCall, AsksCall, StopsCall, BeginsMaking, StepsMaking, BeginsEnding, StepsEnding, BeginsRow, StepsRow}
 use Rattle.run_shows.specs.Scenes.Ending.{ending_begun}
 use Rattle.run_shows.specs.Scenes.Replying.{scene_with, unless_stopped}
 use Rattle.run_shows.specs.Scenes.Making.{making_begun}
@@ -44,10 +43,6 @@ module _ {K V : Type 0} where
     pub no_call : HasNoCall s i
     pub no_making : is_none (s.makers i) ≡ true
     pub no_ending : is_none (s.enders i) ≡ true
-
-  -- with this caller, few have a call on the map, if it is one in blocking mode
-  abbrev pub AreFewWith : Scene K V → ℕ → ℕ → Type 0
-  AreFewWith s i m = (standing : Standing K) → s.maps m ≡ Some standing → is_incremental standing.setting.mode ≡ false → AreFew (λ j. (j ≡ i) ⊎ HasCall (s.calls m) j)
 
   -- Once it was asked for its next pair a walk that is ready goes on to that, and any other call is as it was.
   abbrev pub asked_on : UnderWay K V K → UnderWay K V K
@@ -70,12 +65,17 @@ module _ {K V S : Type 0} (same : K → K → Bool) (hash : S → K → ℕ) (ba
   abbrev pub ending_steps : Scene K V → Grant → Finishing K V → Option (Mem (Node K V) × (EndMap × Settled (Node K V)))
   ending_steps s g f = stepped s.world.memory g (end_map_plan f.machine)
 
+  -- with what a caller begins to do, few calls on the map may write, if it is one in blocking mode
+  abbrev pub AreFewWith : Scene K V → ℕ → ℕ → Wanted K V → Type 0
+  AreFewWith s i m wanted =
+      (standing : Standing K) → s.maps m ≡ Some standing → is_incremental standing.setting.mode ≡ false → FewWith (s.calls m) i (begun same slot standing i wanted)
+
   -- When an act may be made. A call begins within a section, or outside of any to count, on a map that stands; a step is taken where the memory may choose so; a
   -- map that has no number yet is made, with lengths that tables may have; one ends on which nobody has a call; a row begins on a slot between calls, as that is
   -- used, and ends no section in which a call is under way that needs it.
   abbrev pub MayBe : Act K V S → Scene K V → Type 0
   MayBe (BeginsCall i m wanted) s =
-      IsFree s i × (rests (s.world.row i) ≡ true) × UnlessToCount wanted (is_within (s.world.uses (slot i)) ≡ true) × (is_none (s.maps m) ≡ false) × AreFewWith s i m
+      IsFree s i × (rests (s.world.row i) ≡ true) × UnlessToCount wanted (is_within (s.world.uses (slot i)) ≡ true) × (is_none (s.maps m) ≡ false) × AreFewWith s i m wanted
   MayBe (StepsCall i m g) s = is_none (then_on (call_at s i m) (call_steps s g)) ≡ false
   MayBe (TellsCall i m reply) s = is_none (call_at s i m) ≡ false
   MayBe (AsksCall i m) s = is_none (call_at s i m) ≡ false

@@ -6,7 +6,6 @@ use Rattle.run_shows.specs.Given.SeizeWordsPlan.{Plan, Turn, Do, Ends}
 use Rattle.run_shows.specs.Given.SeizeWordsWord.{block_in}
 use Rattle.run_shows.specs.Given.SeizeLaw.{holds}
 use Rattle.run_shows.specs.Given.SeizeWorld.{World, Making}
-use Rattle.run_shows.specs.Given.TablesChunks.{is_incremental}
 use Rattle.run_shows.specs.Given.TablesDeclared.node.Node.{Node}
 use Rattle.run_shows.specs.Given.TablesDeclared.node.Node.TheVariants.{Shards}
 use Rattle.run_shows.specs.Given.RawMachine.{machine_plan}
@@ -52,17 +51,17 @@ IsOwnOf (kinds.Key c) b = IsToStore c.stands × ((c.own == 0) ≡ false) × (b �
 IsOwnOf _ b = ⊥
 
 module _ {K Q : Type 0} (V : Type 0) (same : K → K → Bool) (asks : Q → K → Bool) (batch_size roots : ℕ) (slot : ℕ → ℕ) where
-  -- The promise: what a step of a call has seen, on a map in incremental mode and at no row, its section holds, or it is the own pair of the call, with which it goes on.
+  -- The promise: what a step of a call has seen at no row its section holds, or it is the own pair of the call, with which it goes on.
   abbrev pub StepsSeeWhatLasts : Type 0
   StepsSeeWhatLasts =
       (w : World (Node K V)) (maps : ℕ → Option (Standing K)) (calls : ℕ → ℕ → Option (UnderWay K V Q))
       (makers : ℕ → Option (Beginning K)) (enders : ℕ → Option (Finishing K V))
       → EndingsTogether V same asks batch_size roots slot w maps calls makers enders
-      → (m : ℕ) (s : Standing K) → maps m ≡ Some s → is_incremental s.setting.mode ≡ true → (i : ℕ) (u : UnderWay K V Q) → calls m i ≡ Some u → (IsAtRow u → ⊥)
+      → (m : ℕ) (s : Standing K) → maps m ≡ Some s → (i : ℕ) (u : UnderWay K V Q) → calls m i ≡ Some u → (IsAtRow u → ⊥)
       → (m2 : Mem (Node K V)) (machine : Machine K V Q) (told : Progress (Node K V)) (b : ℕ) → HasSeen b w.memory (machine_plan asks same s.hash (machine_of u)) m2 (machine, told)
       → (holds (slot i) b w.log ≡ true) ⊎ (IsOwnOf machine b × Continues told)
 
-  -- And the own pair of a call, in either mode, is in the hands of its caller, who has made its block, and not as the counter of a map.
+  -- And the own pair of a call is in the hands of its caller, who has made its block, and not as the counter of a map.
   abbrev pub OwnPairsAreMade : Type 0
   OwnPairsAreMade =
       (w : World (Node K V)) (maps : ℕ → Option (Standing K)) (calls : ℕ → ℕ → Option (UnderWay K V Q))

@@ -18,7 +18,7 @@ pub fn steps_look_at_what_is_held<K, V, Q>()
     ensures makings { (same : K → K → Bool) (asks : Q → K → Bool) (batch_size roots : ℕ) (slot : ℕ → ℕ) → MakingsLookAtTheirOwn V same asks batch_size roots slot }
 {}
 
-/// On a map in incremental mode each block whose value a step of any call looks at, once its operation is answered and at no row, is held by its caller's section; or it is
+/// Each block whose value a step of any call looks at, once its operation is answered and at no row, is held by its caller's section; or it is
 /// the call's own pair, with which it goes on, and which its caller has made and has until it is stored or given back. So all of them last until that caller's next step.
 pub fn steps_see_what_lasts<K, V, Q>()
     ensures lasts { (same : K → K → Bool) (asks : Q → K → Bool) (batch_size roots : ℕ) (slot : ℕ → ℕ) → StepsSeeWhatLasts V same asks batch_size roots slot }

@@ -2,16 +2,17 @@
 use Rattle.many_calls.specs.Asked.{last_reply, replies_before}
 use Rattle.many_calls.specs.Kind.{gets, removes, inserts, tries_to_insert, computes, updates, updates_or_inserts, tries_to_insert_with, removes_if}
 use Rattle.many_calls.specs.Pairs.{Given, Begun, IsTold, RemovesNone, KeepsGiven}
+use Rattle.map_facts_late.specs.Given.TablesChunks.{is_incremental}
 use Rattle.map_facts_late.specs.Given.RawDeclared.machines.asking.MachineReply.TheVariants as reply
 use Rattle.map_facts_late.specs.Given.RawDeclared.machines.asking.Told.TheVariants as tells
 use Rattle.many_calls.proofs.Asked.Begins.{begun_told}
 use Rattle.many_calls.proofs.Once.Stays.{begun_once}
 use Rattle.map_facts_late.specs.Given.RawDeclared.machines.asking.Takes.TheVariants as takes
 use Rattle.std.specs.Prelude.{◌≤◌, ◌≡◌, ℕ, Bool, [], Option, Some, None}
-use Rattle.std.proofs.Common.{refl, arith, subst, inl}
+use Rattle.std.proofs.Common.{false, refl, arith, inl}
 use Rattle.seize_model.specs.Given.SeizeWorld.{World, with_at}
 use Rattle.many_calls.specs.Claims.{IsToClaim}
-use Rattle.many_calls.specs.Together.{ClaimsInto, OnKey, UnderWay, in_slot, Together, IsBegun, Gets, Removes, Inserts, TriesToInsert, Computes, Updates, UpdatesOrInserts, TriesToInsertWith, RemovesIf, begun_at, BeginsTogether}
+use Rattle.many_calls.specs.Together.{OnKey, FewWith, UnderWay, in_slot, Together, IsBegun, Gets, Removes, Inserts, TriesToInsert, Computes, Updates, UpdatesOrInserts, TriesToInsertWith, RemovesIf, begun_at, BeginsTogether}
 use Rattle.map_facts_late.specs.Given.TablesDeclared.node.Node.{Node}
 use Rattle.map_facts_late.specs.Given.TablesDeclared.node.Node.TheVariants as node
 use Rattle.map_facts_late.specs.Given.TablesDeclared.setting.Setting.{Setting}
@@ -43,16 +44,14 @@ module _ {K V Q : Type 0} (same : K → K → Bool) (hash : K → ℕ) (asks : Q
   Stand = Together V same hash asks setting slot
 
   pub begins_together : BeginsTogether V same hash asks setting slot
-  begins_together w c blocks sights calls i lawful s none rests inside few keys pair call begun = by keys pair call begun
+  begins_together w c blocks sights calls i lawful s none rests inside keys pair call begun few = by keys pair call begun few
     where
-      same_call : (x y : UnderWay K V Q) → ◌≡◌ {A = Option (UnderWay K V Q)} (Some x) (Some y) → y ≡ x
-      same_call x y e = cc e
-
       with_call : (keys : K → Bool) (pair : Given K V) (call : KeyCall K V Q) → CallFacts same hash asks w i (in_slot setting (slot i)) c (seen_by blocks (sights (slot i))) keys Unchanged call
           → ((answer : KeyAnswer) → HasAnswered answer call.stands → ⊥) → KeepsGiven hash w.memory c (seen_by blocks (sights (slot i))) keys pair Unchanged call call.stands
           → (RemovesNone pair → ⊥) → ((t : ℕ) → IsToClaim t call.stands → ⊥)
+          → (is_incremental setting.mode ≡ false → FewWith calls i (OnKey (begun_at V same hash asks setting slot c keys pair call)))
           → Stand w c blocks sights (with_at calls i (Some (OnKey (begun_at V same hash asks setting slot c keys pair call))))
-      with_call keys pair call facts none keeps never claims =
+      with_call keys pair call facts none keeps never claims few =
           stands_by same hash asks setting slot w c blocks sights calls i (Some (OnKey (begun_at V same hash asks setting slot c keys pair call))) s.ground
           (fits_some same hash asks setting slot w c blocks (sights (slot i)) i (OnKey (begun_at V same hash asks setting slot c keys pair call)) inside
           (inl (
@@ -65,11 +64,10 @@ module _ {K V Q : Type 0} (same : K → K → Bool) (hash : K → ℕ) (asks : Q
             },
           )))
           (λ j other. fits_of same hash asks setting slot w c blocks sights calls s j)
-          (λ blocking. few_begun calls i (Some (OnKey (begun_at V same hash asks setting slot c keys pair call))) c (s.few blocking)
-          (λ t v is to_claim.
-          claims t (subst (ClaimsInto t) (same_call (OnKey (begun_at V same hash asks setting slot c keys pair call)) v is) to_claim)) (few blocking)) s.onto (λ none. absurd (cc none))
+          (λ blocking. few_begun calls i (OnKey (begun_at V same hash asks setting slot c keys pair call)) c (s.few blocking) claims (few blocking)) s.onto (λ none. absurd (cc none))
 
       by : (keys : K → Bool) (pair : Given K V) (call : KeyCall K V Q) → IsBegun V same hash asks setting slot i keys pair call
+          → (is_incremental setting.mode ≡ false → FewWith calls i (OnKey (begun_at V same hash asks setting slot c keys pair call)))
           → Stand w c blocks sights (with_at calls i (Some (OnKey (begun_at V same hash asks setting slot c keys pair call))))
       by _ _ _ (Gets q code fits class) =
           with_call (asks q) (Begun gets None) (getting (in_slot setting (slot i)) code q)

@@ -107,7 +107,7 @@ module _ {K V Q : Type 0} (same : K → K → Bool) (hash : K → ℕ) (asks : Q
         subst (Together V same hash asks setting slot b.v c blocks sights) (ap (with_at calls i) (sym has) ∙ with_same calls i)
         (stands_by same hash asks setting slot b.v c blocks sights calls i (Some x) b.ground
         (fits_some same hash asks setting slot b.v c blocks (sights (slot i)) i x (unless_so x b.now_inside) stands) b.others
-        (λ blocking. few_with calls i c (s.few blocking) (λ none. cc (has, none)) x claims) begun_puts (λ none. absurd (cc none)))
+        (λ blocking. few_with calls i c (s.few blocking) x (λ writes. (x, has, writes)) claims) begun_puts (λ none. absurd (cc none)))
 
   -- what is given back in a step after it was in a block that no open section held before it
   pub begun_gives : (row : Row) (b : RowBegun row) (w2 : World (Node K V)) (value : Node K V) → IsReclaimed b.v w2 value → IsReclaimed w w2 value

@@ -1,6 +1,6 @@
 -- A counting of the pairs among the calls on its map: it begins, and takes its steps, each of which changes nothing.
-use Rattle.std.specs.Prelude.{◌≡◌, ◌≢◌, ℕ, Option, Some, None, Bool}
-use Rattle.std.proofs.Common.{refl, subst, arith, ◌≤◌}
+use Rattle.std.specs.Prelude.{◌≡◌, ◌≢◌, ◌⊎◌, ℕ, Option, Some, None, Bool}
+use Rattle.std.proofs.Common.{refl, arith, inl, inr, ◌≤◌}
 use Rattle.seize_model.specs.Given.SeizeWordsDeclared.fault.Fault.{Fault}
 use Rattle.seize_model.specs.Given.SeizeWorld.{World, Rests, with_at}
 use Rattle.seize_model.specs.Given.SeizeDeclared.advance.Advance.{Advance}
@@ -17,31 +17,32 @@ use Rattle.map_facts_late.specs.Given.PointsFactsTables.{SumFacts}
 use Rattle.map_facts_late.specs.Given.PointsTold.{SumOutcome}
 use Rattle.map_facts_late.proofs.Given.PointsMaking.Sum.{may_sum, told_sum}
 use Rattle.many_calls.specs.Sights.{Visible, seen_by}
-use Rattle.many_calls.specs.Together.{UnderWay, Counting, ClaimsInto, HasCall, next_of_counting, in_slot, Together, CountingsBeginTogether, CountingsPreserveTheInvariant}
-use Rattle.many_calls.proofs.Together.Few.{few_begun, few_with, few_without}
+use Rattle.many_calls.specs.Together.{UnderWay, Counting, MayWrite, IsWriter, FewWith, StayFew, next_of_counting, in_slot, Together, CountingsBeginTogether, CountingsPreserveTheInvariant}
+use Rattle.many_calls.proofs.Together.Few.{fewer, few_begun, few_with, few_without}
 use Rattle.many_calls.proofs.Together.Fits.{map_in_slot, fits_some, fits_none, fits_of, stands_by}
 
 module _ {K V Q : Type 0} (same : K → K → Bool) (hash : K → ℕ) (asks : Q → K → Bool) (setting : Setting) (slot : ℕ → ℕ) where
-  same_call : (x y : UnderWay K V Q) → ◌≡◌ {A = Option (UnderWay K V Q)} (Some x) (Some y) → y ≡ x
-  same_call x y e = cc e
-
   pub countings_begin_together : CountingsBeginTogether V same hash asks setting slot
-  countings_begin_together w c blocks sights calls i s none rests few =
+  countings_begin_together w c blocks sights calls i s none rests =
       stands_by same hash asks setting slot w c blocks sights calls i (Some (Counting it)) s.ground
       (fits_some same hash asks setting slot w c blocks (sights (slot i)) i (Counting it) tt (rests, (refl, (let e : 0 ≤ setting.mask = omega arith in e)), s.idle i none))
       (λ j other. fits_of same hash asks setting slot w c blocks sights calls s j)
-      (λ blocking. few_begun calls i (Some (Counting it)) c (s.few blocking) (λ t v is claims. subst (ClaimsInto t) (same_call (Counting it) v is) claims) (few blocking)) s.onto (λ none. absurd (cc none))
+      (λ blocking. few_begun calls i (Counting it) c (s.few blocking) (λ t claims. claims) (none_more (s.few blocking))) s.onto (λ none. absurd (cc none))
     where
       it : Sum
       it = summing (in_slot setting (slot i))
+
+      -- a counting is none of them
+      none_more : StayFew calls c → FewWith calls i (Counting it)
+      none_more stay = fewer (IsWriter calls) (λ j. ((j ≡ i) × MayWrite {K = K} {V = V} {Q = Q} (Counting it)) ⊎ IsWriter calls j) stay.few (λ j such. elim such as (λ _. IsWriter calls j) [
+        | inl its ↦ absurd its.1
+        | inr has ↦ has
+      ])
 
   module _ (w : World (Node K V)) (c : Chart K) (blocks : Blocks) (sights : ℕ → Visible) (calls : ℕ → Option (UnderWay K V Q)) (s : Together V same hash asks setting slot w c blocks sights calls)
       (i : ℕ) (sum : Sum) (has : calls i ≡ Some (Counting sum)) where
     abbrev its : Setting
     its = in_slot setting (slot i)
-
-    its_call : HasCall calls i
-    its_call none = cc (has, none)
 
     rests : w.row i ≡ Rests
     rests = (s.stand i (Counting sum) has).0
@@ -54,13 +55,13 @@ module _ {K V Q : Type 0} (same : K → K → Bool) (hash : K → ℕ) (asks : Q
         stands_by same hash asks setting slot w c blocks sights calls i (Some (Counting sum2)) s.ground
         (fits_some same hash asks setting slot w c blocks (sights (slot i)) i (Counting sum2) (s.inside i (Counting sum) has) (rests, facts, idle))
         (λ j other. fits_of same hash asks setting slot w c blocks sights calls s j)
-        (λ blocking. few_with calls i c (s.few blocking) its_call (Counting sum2) (λ t claims. claims)) s.onto (λ none. absurd (cc none))
+        (λ blocking. few_with calls i c (s.few blocking) (Counting sum2) (λ writes. absurd writes) (λ t claims. claims)) s.onto (λ none. absurd (cc none))
 
     ends : Together V same hash asks setting slot w c blocks sights (with_at calls i None)
     ends =
         stands_by same hash asks setting slot w c blocks sights calls i None s.ground (fits_none same hash asks setting slot w c blocks (sights (slot i)) i idle)
         (λ j other. fits_of same hash asks setting slot w c blocks sights calls s j)
-        (λ blocking. few_without calls i c (s.few blocking) its_call) s.onto (λ none. rests)
+        (λ blocking. few_without calls i c (s.few blocking)) s.onto (λ none. rests)
 
     abbrev Then : Sum × Advance ℕ → Type 0
     Then end = (end.1 ≢ progress.Waits) × ((fault : Fault) → end.1 ≢ progress.Refused fault) × Together V same hash asks setting slot w c blocks sights (with_at calls i (next_of_counting end.0 end.1))

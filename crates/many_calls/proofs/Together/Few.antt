@@ -26,7 +26,7 @@ use Rattle.map_facts_late.specs.Given.ReservesDeclared.reserve.Reserving.{Reserv
 use Rattle.map_facts_late.specs.Given.ReservesDeclared.reserve.Reserving.TheVariants as reserving
 use Rattle.map_facts_late.specs.ToldReserves.{IsRowOfReserve}
 use Rattle.many_calls.specs.Rooms.{CallForRoom, RoomClaims}
-use Rattle.many_calls.specs.Claims.{AreFew, IsToClaim, ClaimsFit, ClaimsBy}
+use Rattle.many_calls.specs.Claims.{AreFew, IsNoLookup, IsToClaim, ClaimsFit, ClaimsBy}
 use Rattle.map_facts_late.specs.Given.ReservesDeclared.sweep.Sweeping.{Sweeping}
 use Rattle.map_facts_late.specs.Given.ReservesDeclared.sweep.Sweeping.TheVariants as sweeping
 use Rattle.map_facts_late.specs.Given.ReservesDeclared.sweep.Swept.{Swept}
@@ -34,7 +34,7 @@ use Rattle.map_facts_late.specs.Given.ReservesDeclared.sweep.Swept.TheVariants a
 use Rattle.map_facts_late.specs.ToldSweeps.{IsRowOfSweep}
 use Rattle.map_facts_late.proofs.Swept.Sweeps.Stands.{IsQuiet}
 use Rattle.many_calls.specs.OverAll.{CallOverAll, SweepClaims}
-use Rattle.many_calls.specs.Together.{OverAll, next_over_all, next_for_room, ForRoom, ClaimsInto, OnKey, CallOnKey, UnderWay, next_of, HasCall, ToClaim, StayFew}
+use Rattle.many_calls.specs.Together.{OverAll, Counting, next_over_all, next_for_room, ForRoom, ClaimsInto, OnKey, CallOnKey, UnderWay, next_of, MayWrite, IsWriter, FewWith, ToClaim, StayFew}
 use Rattle.many_calls.proofs.Claims.Charts.{past_moved, claim_new}
 use Rattle.many_calls.proofs.Claims.Fit.{fits_on, fits_few}
 use Rattle.many_calls.proofs.Together.At.{at_other, at_same}
@@ -51,10 +51,10 @@ module _ {K V Q : Type 0} (calls : ℕ → Option (UnderWay K V Q)) (i : ℕ) (i
   later = with_at calls i it
 
   -- all others have the calls that they had
-  has_then : (Such : ℕ → Type 0) → ((j : ℕ) → HasCall calls j → Such j) → (it ≢ None → Such i) → (j : ℕ) → HasCall later j → Such j
-  has_then Such others own j has = elim (cases_eq j i) as (λ _. Such j) [
-    | inl e ↦ subst Such (sym e) (own (λ none. has (at_same calls i it j e ∙ none)))
-    | inr ne ↦ others j (λ none. has (at_other calls i it j ne ∙ none))
+  writers_then : (Such : ℕ → Type 0) → ((j : ℕ) → IsWriter calls j → Such j) → ((u : UnderWay K V Q) → it ≡ Some u → MayWrite u → Such i) → (j : ℕ) → IsWriter later j → Such j
+  writers_then Such others own j (u, has, writes) = elim (cases_eq j i) as (λ _. Such j) [
+    | inl e ↦ subst Such (sym e) (own u (sym (at_same calls i it j e) ∙ has) writes)
+    | inr ne ↦ others j (u, sym (at_other calls i it j ne) ∙ has, writes)
   ]
 
   claims_then : ((t : ℕ) (u : UnderWay K V Q) → it ≡ Some u → ClaimsInto t u → ⊥) → (t j : ℕ) → ToClaim later t j → ToClaim calls t j
@@ -64,30 +64,43 @@ module _ {K V Q : Type 0} (calls : ℕ → Option (UnderWay K V Q)) (i : ℕ) (i
   ]
 
   module _ (c : Chart K) (s : StayFew calls c) (none : (t : ℕ) (u : UnderWay K V Q) → it ≡ Some u → ClaimsInto t u → ⊥) where
-    -- a call that began is to claim nothing
-    pub few_begun : AreFew (λ j. (j ≡ i) ⊎ HasCall calls j) → StayFew later c
-    few_begun few = record {
-      few = fewer (λ j. (j ≡ i) ⊎ HasCall calls j) (HasCall later) few (has_then (λ j. (j ≡ i) ⊎ HasCall calls j) (λ j has. inr has) (λ has. inl refl));
+    -- one that goes on, in a step that claims nothing
+    pub few_gone : ((u : UnderWay K V Q) → it ≡ Some u → MayWrite u → IsWriter calls i) → StayFew later c
+    few_gone its = record {
+      few = fewer (IsWriter calls) (IsWriter later) s.few (writers_then (IsWriter calls) (λ j has. has) its);
       claims = fewer_fit c (ToClaim calls) (ToClaim later) s.claims (claims_then none);
     }
 
-    -- nor is one that goes on, in a step that claims nothing
-    pub few_gone : HasCall calls i → StayFew later c
-    few_gone its = record {
-      few = fewer (HasCall calls) (HasCall later) s.few (has_then (HasCall calls) (λ j has. has) (λ has. its));
-      claims = fewer_fit c (ToClaim calls) (ToClaim later) s.claims (claims_then none);
-    }
+-- a call that begins is to claim nothing
+module _ {K V Q : Type 0} (calls : ℕ → Option (UnderWay K V Q)) (i : ℕ) (it : UnderWay K V Q) (c : Chart K) (s : StayFew calls c) (none : (t : ℕ) → ClaimsInto t it → ⊥) where
+  same_begun : (x : UnderWay K V Q) → ◌≡◌ {A = Option (UnderWay K V Q)} (Some it) (Some x) → x ≡ it
+  same_begun x e = cc e
+
+  pub few_begun : FewWith calls i it → StayFew (with_at calls i (Some it)) c
+  few_begun few = record {
+    few = fewer (λ j. ((j ≡ i) × MayWrite it) ⊎ IsWriter calls j) (IsWriter (with_at calls i (Some it))) few
+        (writers_then calls i (Some it) (λ j. ((j ≡ i) × MayWrite it) ⊎ IsWriter calls j) (λ j has. inr has) (λ u is writes. inl (refl, subst (λ (x : UnderWay K V Q). MayWrite x) (same_begun u is) writes)));
+    claims = fewer_fit c (ToClaim calls) (ToClaim (with_at calls i (Some it))) s.claims (claims_then calls i (Some it) (λ t u is claims. none t (subst (ClaimsInto t) (same_begun u is) claims)));
+  }
+
+-- few are with any call, where they are few with its caller
+pub few_with_any : {K V Q : Type 0} (calls : ℕ → Option (UnderWay K V Q)) (i : ℕ) (u : UnderWay K V Q) → AreFew (λ j. (j ≡ i) ⊎ IsWriter calls j) → FewWith calls i u
+few_with_any calls i u few = fewer (λ j. (j ≡ i) ⊎ IsWriter calls j) (λ j. ((j ≡ i) × MayWrite u) ⊎ IsWriter calls j) few (λ j such. elim such as (λ _. (j ≡ i) ⊎ IsWriter calls j) [
+  | inl its ↦ inl its.0
+  | inr has ↦ inr has
+])
 
 -- a call that goes on, and is to claim nothing; and one that has ended
-module _ {K V Q : Type 0} (calls : ℕ → Option (UnderWay K V Q)) (i : ℕ) (c : Chart K) (s : StayFew calls c) (its : HasCall calls i) where
+module _ {K V Q : Type 0} (calls : ℕ → Option (UnderWay K V Q)) (i : ℕ) (c : Chart K) (s : StayFew calls c) where
   same_call : (x y : UnderWay K V Q) → ◌≡◌ {A = Option (UnderWay K V Q)} (Some x) (Some y) → y ≡ x
   same_call x y e = cc e
 
-  pub few_with : (u : UnderWay K V Q) → ((t : ℕ) → ClaimsInto t u → ⊥) → StayFew (with_at calls i (Some u)) c
-  few_with u none = few_gone calls i (Some u) c s (λ t v is claims. none t (subst (ClaimsInto t) (same_call u v is) claims)) its
+  pub few_with : (u : UnderWay K V Q) → (MayWrite u → IsWriter calls i) → ((t : ℕ) → ClaimsInto t u → ⊥) → StayFew (with_at calls i (Some u)) c
+  few_with u its none =
+      few_gone calls i (Some u) c s (λ t v is claims. none t (subst (ClaimsInto t) (same_call u v is) claims)) (λ v is writes. its (subst (λ (x : UnderWay K V Q). MayWrite x) (same_call u v is) writes))
 
   pub few_without : StayFew (with_at calls i None) c
-  few_without = few_gone calls i None c s (λ t v is claims. absurd (cc is)) its
+  few_without = few_gone calls i None c s (λ t v is claims. absurd (cc is)) (λ v is writes. absurd (cc is))
 
 -- what a call is after a step, where it goes on
 pub next_is : {K V Q : Type 0} (after : CallOnKey K V Q) (it : Called (Node K V)) (v : UnderWay K V Q) → next_of after it ≡ Some v → v ≡ OnKey after
@@ -135,7 +148,12 @@ pub row_claims_none : (x : Calling) → IsRowOfCall x → (t : ℕ) → IsToClai
 row_claims_none (at.Copies copier) row t (claims, turn) = subst IsRowOfCopier claims row
 row_claims_none _ row t claims = claims
 
--- nor once its table is retired
+-- but it is no lookup
+pub row_writes : (x : Calling) → IsRowOfCall x → IsNoLookup x
+row_writes (at.Looks lookup) row = row
+row_writes _ row = tt
+
+-- nor is one to claim once its table is retired
 pub retired_claims_none : (p : Copier) (rest : ℕ) (t : ℕ) → IsToClaim t (at.Copies (table_retired p rest)) → ⊥
 retired_claims_none p rest t (claims, turn) = by (rest == 0) claims
   where
@@ -147,15 +165,27 @@ retired_claims_none p rest t (claims, turn) = by (rest == 0) claims
 pub claim_few : {K V Q : Type 0} (calls : ℕ → Option (UnderWay K V Q)) (c : Chart K) → StayFew calls c → (t : ℕ) → t < c.past → c.claim t < 2 ^ 63
 claim_few {K} calls c s = fits_few K (ToClaim calls) c s.claims
 
+-- who is to claim places may write
+claims_write : {K V Q : Type 0} (t : ℕ) (u : UnderWay K V Q) → ClaimsInto t u → MayWrite u
+claims_write t (OnKey u) claims = by u.call.stands claims
+  where
+    by : (x : Calling) → IsToClaim t x → IsNoLookup x
+    by (at.Looks lookup) claims = claims
+    by _ claims = tt
+claims_write t (ForRoom r) claims = tt
+claims_write t (Counting sum) claims = claims
+claims_write t (OverAll o) claims = tt
+
 module _ {K V Q : Type 0} (calls : ℕ → Option (UnderWay K V Q)) (i : ℕ) (u : UnderWay K V Q) (has : calls i ≡ Some u) (it : Option (UnderWay K V Q)) (c c2 : Chart K) (s : StayFew calls c)
+    (writes : (v : UnderWay K V Q) → it ≡ Some v → MayWrite v → MayWrite u)
     (same : K → K → Bool) (hash : K → ℕ) (mode : ResizeMode) (caller : ℕ) (rule : Rule same (spot_of hash) (is_incremental mode) c) (moved : Moved same hash mode caller c c2) where
-  its_call : HasCall calls i
-  its_call none = cc (has, none)
+  its_call : (v : UnderWay K V Q) → it ≡ Some v → MayWrite v → IsWriter calls i
+  its_call v is writes_then = (u, has, writes v is writes_then)
 
   -- over a step of a call, that claims no more than a chunk
   pub few_step : (Then : ℕ → Type 0) → ((v : UnderWay K V Q) → it ≡ Some v → (t : ℕ) → ClaimsInto t v → Then t) → ClaimsBy c c2 (λ t. ClaimsInto t u) Then → StayFew (with_at calls i it) c2
   few_step Then after by = record {
-    few = fewer (HasCall calls) (HasCall (with_at calls i it)) s.few (has_then calls i it (HasCall calls) (λ j h. h) (λ h. its_call));
+    few = fewer (IsWriter calls) (IsWriter (with_at calls i it)) s.few (writers_then calls i it (IsWriter calls) (λ j h. h) its_call);
     claims = fits_on c c2 (ToClaim calls) (ToClaim (with_at calls i it)) i (past_moved hash mode c c2 same caller moved) (λ t l made. claim_new same hash mode caller c c2 rule moved t l) others few_lists grows sees s.claims;
   }
     where
@@ -165,11 +195,8 @@ module _ {K V Q : Type 0} (calls : ℕ → Option (UnderWay K V Q)) (i : ℕ) (u
       others : (t j : ℕ) → ToClaim (with_at calls i it) t j → j ≢ i → ToClaim calls t j
       others t j (v, is, claims) ne = (v, sym (at_other calls i it j ne) ∙ is, claims)
 
-      has_call : (t j : ℕ) → ToClaim (with_at calls i it) t j → HasCall calls j
-      has_call t j (v, is, claims) none = elim (cases_eq j i) [
-        | inl e ↦ cc (e, has, none)
-        | inr ne ↦ (let h = sym (at_other calls i it j ne) ∙ is in cc (h, none))
-      ]
+      has_call : (t j : ℕ) → ToClaim (with_at calls i it) t j → IsWriter calls j
+      has_call t j (v, is, claims) = writers_then calls i it (IsWriter calls) (λ k h. h) its_call j (v, is, claims_write t v claims)
 
       few_lists : (t : ℕ) (callers : List ℕ) → AllPairs (λ x y. x ≢ y) callers → All (ToClaim (with_at calls i it) t) callers → length callers ≤ 2 ^ 32
       few_lists t callers apart all = s.few callers apart (λ k d l. has_call t _ (all k d l))

@@ -10,7 +10,7 @@ use Rattle.map_facts_late.specs.Given.PointsFactsCopies.{HasDone, ClaimsNone}
 use Rattle.map_facts_late.specs.Given.PointsFactsCopiesBlocking.{HasNoShares}
 use Rattle.map_facts_late.specs.Given.RuleRule.{no_table}
 use Rattle.map_facts_late.proofs.Given.RuleHistory.History.{history_begins}
-use Rattle.many_calls.specs.Together.{HasCall, ToClaim, in_slot, no_blocks, MapBeginsTogether}
+use Rattle.many_calls.specs.Together.{IsWriter, ToClaim, in_slot, no_blocks, MapBeginsTogether}
 use Rattle.many_calls.proofs.Claims.Fit.{fits_none}
 use Rattle.many_calls.proofs.MapBegins.{map_begins}
 
@@ -50,6 +50,6 @@ module _ {K Q : Type 0} (V : Type 0) (same : K → K → Bool) (hash : K → ℕ
       idle_begins w i its true = (refl, λ j free. cc free)
       idle_begins w i its false = λ u j l. refl
 
-      no_calls : (callers : List ℕ) → AllPairs (λ i j. i ≢ j) callers → All (HasCall calls) callers → length callers ≤ 2 ^ 32
+      no_calls : (callers : List ℕ) → AllPairs (λ i j. i ≢ j) callers → All (IsWriter calls) callers → length callers ≤ 2 ^ 32
       no_calls [] apart all = omega arith
-      no_calls (x ∷ xs) apart all = absurd (all 0 x (omega arith) (none x))
+      no_calls (x ∷ xs) apart all = absurd (let has = all 0 x (omega arith) in let is = has.1 in let no = none x in cc (is, no))

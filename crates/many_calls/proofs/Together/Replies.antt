@@ -1,6 +1,6 @@
 -- A call that asks is told what to do: all calls stand together then, and it knows its next point.
 use Rattle.std.specs.Prelude.{List, Option, Some, None, Result, Ok, Err}
-use Rattle.std.proofs.Common.{◌≡◌, ◌≢◌, ℕ, Bool, true, false, ◌==◌, if◌then◌else◌, ◌⊎◌, inl, inr, refl, sym, subst, ◌∙◌}
+use Rattle.std.proofs.Common.{◌≡◌, ◌≢◌, ℕ, Bool, true, false, ◌==◌, if◌then◌else◌, ◌⊎◌, inl, inr, refl, sym, subst}
 use Rattle.seize_model.specs.Given.SeizeWordsMem.{Mem}
 use Rattle.seize_model.specs.Given.SeizeWorld.{World, Rests, with_at}
 use Rattle.map_facts_late.specs.Given.TablesDeclared.marks.TheConstants.{TOMBSTONE}
@@ -34,7 +34,7 @@ use Rattle.map_facts_late.proofs.Given.PointsCalls.RepliesKnow.{replies_are_take
 use Rattle.map_facts_late.proofs.Given.PointsCalls.RepliesTaken.{replied_so}
 use Rattle.map_facts_late.proofs.Calls.Replies.{late_replies_are_taken}
 use Rattle.map_facts_late.proofs.Values.Own.{late_never_asks}
-use Rattle.many_calls.specs.Claims.{IsToClaim}
+use Rattle.many_calls.specs.Claims.{IsNoLookup, IsToClaim}
 use Rattle.many_calls.specs.Asked.{Asked, last_reply, RepliesWithin, IsAsReplied, DoesAsReplied, RemembersReplies}
 use Rattle.many_calls.specs.AskedOnce.{AskedAt, AsksOnce}
 use Rattle.map_facts_late.specs.Kinds.{FitsAt}
@@ -206,7 +206,7 @@ module _ {K V Q : Type 0} (same : K → K → Bool) (hash : K → ℕ) (asks : Q
           stands_by same hash asks setting slot w c blocks sights calls i (Some (OnKey told)) s.ground
           (fits_some same hash asks setting slot w c blocks (sights (slot i)) i (OnKey told) (s.inside i (OnKey u) has) (inl ((by_stand (s.stand i (OnKey u) has)).0, knows_then)))
           (λ j other. fits_of same hash asks setting slot w c blocks sights calls s j)
-          (λ blocking. few_with calls i c (s.few blocking) (λ none. (let e = sym has ∙ none in cc e)) (OnKey told) (λ t. claims_none u.call x here t r)) s.onto (λ none. absurd (cc none))
+          (λ blocking. few_with calls i c (s.few blocking) (OnKey told) (λ writes. (OnKey u, has, subst (λ (stands : Calling). IsNoLookup stands) (sym here) tt)) (λ t. claims_none u.call x here t r)) s.onto (λ none. absurd (cc none))
         where
           told : CallOnKey K V Q
           told = replied_about u about r

@@ -30,7 +30,7 @@ use Rattle.map_facts_late.specs.Given.PointsSteps.{AreLawful}
 use Rattle.many_calls.specs.Rows.{row_of_copier, past_copying}
 use Rattle.many_calls.specs.Sights.{Visible, seen_by}
 use Rattle.many_calls.proofs.Together.Few.{room_row_claims_none, few_with, retired_claims_none}
-use Rattle.many_calls.specs.Together.{UnderWay, ForRoom, HasCall, next_for_room, in_slot, IsReclaimed, KnowsRoom, IsAtPoint, Together, RoomRowsTogether, RoomRowsPreserveTheInvariant}
+use Rattle.many_calls.specs.Together.{UnderWay, ForRoom, IsWriter, next_for_room, in_slot, IsReclaimed, KnowsRoom, IsAtPoint, Together, RoomRowsTogether, RoomRowsPreserveTheInvariant}
 use Rattle.many_calls.proofs.Together.RowsOfCopiers.{at_retirement}
 use Rattle.many_calls.proofs.Together.RowSteps.{RowCame, settle_may, settle_came, settle_gives}
 use Rattle.many_calls.proofs.Together.Fits.{map_in_slot, knows_room_on, fits_some, stands_by}
@@ -106,7 +106,7 @@ module _ {K V Q : Type 0} (same : K → K → Bool) (hash : K → ℕ) (asks : Q
       (map_seen same hash (in_slot setting (slot i)) w c blocks (sights (slot i)) (map_in_slot same hash setting w c blocks (slot i) s.ground.map) (s.ground.sight (slot i) inside).0)
       came.sees s.ground.moments came.stays (λ blocking t made l. l) r.began p k
 
-  module _ (its : HasCall calls i) where
+  module _ (its : IsWriter calls i) where
     -- it goes on, still within the row
     module _ (m2 : Mem (Node K V)) (p2 : Reserve) (came : RowCame same hash asks setting slot lawful w c blocks sights calls s i inside m2 (row_of_room p2.stands))
         (is_row : IsRowOfReserve p2.stands) (k : KnowsOf w (room_once_over p2)) where
@@ -114,7 +114,7 @@ module _ {K V Q : Type 0} (same : K → K → Bool) (hash : K → ℕ) (asks : Q
       still =
           stands_by same hash asks setting slot came.w2 c blocks sights calls i (Some (ForRoom (then_at p2))) came.ground
           (fits_some same hash asks setting slot came.w2 c blocks (sights (slot i)) i (ForRoom (then_at p2)) came.still_inside (inr (came.row_is, is_row, knows_came m2 (row_of_room p2.stands) came (room_once_over p2) k))) came.others
-          (λ blocking. few_with calls i c (s.few blocking) its (ForRoom (then_at p2)) (room_row_claims_none p2.stands is_row)) came.puts (λ none. absurd (cc none))
+          (λ blocking. few_with calls i c (s.few blocking) (ForRoom (then_at p2)) (λ writes. its) (room_row_claims_none p2.stands is_row)) came.puts (λ none. absurd (cc none))
 
       goes : Led m2 (p2, outcome.Goes)
       goes = record { w2 = came.w2; memory = came.memory; happened = came.happened; together = still; gives = λ value e. absurd (cc e); rests = λ none. absurd (cc none) }
@@ -137,7 +137,7 @@ module _ {K V Q : Type 0} (same : K → K → Bool) (hash : K → ℕ) (asks : Q
       happened = came.happened;
       together = stands_by same hash asks setting slot came.w2 c blocks sights calls i (Some (ForRoom (then_at p2))) came.ground
           (fits_some same hash asks setting slot came.w2 c blocks (sights (slot i)) i (ForRoom (then_at p2)) came.still_inside (inl (came.row_is, knows_came m2 Rests came p2 k))) came.others
-          (λ blocking. few_with calls i c (s.few blocking) its (ForRoom (then_at p2)) claims) came.puts (λ none. absurd (cc none));
+          (λ blocking. few_with calls i c (s.few blocking) (ForRoom (then_at p2)) (λ writes. its) claims) came.puts (λ none. absurd (cc none));
       gives = λ value e. absurd (cc e);
       rests = λ none. absurd (cc none);
     }
@@ -218,8 +218,8 @@ module _ {K V Q : Type 0} (same : K → K → Bool) (hash : K → ℕ) (asks : Q
   pub room_rows_stand_together : RoomRowsPreserveTheInvariant V same hash asks setting slot
   room_rows_stand_together lawful w c blocks sights calls s i r has is_row = by (s.stand i (ForRoom r) has)
     where
-      its : HasCall calls i
-      its none = cc (has, none)
+      its : IsWriter calls i
+      its = (ForRoom r, has, tt)
 
       by : IsAtPoint V same hash asks setting slot w c (seen_by blocks (sights (slot i))) i (ForRoom r)
           → May Can Took value_at w.memory (reserve_plan hash r.reserve)

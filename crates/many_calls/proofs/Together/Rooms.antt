@@ -38,11 +38,8 @@ module _ {K V Q : Type 0} (same : K → K → Bool) (hash : K → ℕ) (asks : Q
   abbrev Stand : World (Node K V) → Chart K → Blocks → (ℕ → Visible) → (ℕ → Option (UnderWay K V Q)) → Type 0
   Stand = Together V same hash asks setting slot
 
-  same_call : (x y : UnderWay K V Q) → ◌≡◌ {A = Option (UnderWay K V Q)} (Some x) (Some y) → y ≡ x
-  same_call x y e = cc e
-
   pub rooms_begin_together : RoomsBeginTogether V same hash asks setting slot
-  rooms_begin_together w c blocks sights calls i s none rests inside few additional =
+  rooms_begin_together w c blocks sights calls i s none rests inside additional few =
       stands_by same hash asks setting slot w c blocks sights calls i (Some (ForRoom it)) s.ground
       (fits_some same hash asks setting slot w c blocks (sights (slot i)) i (ForRoom it) inside
       (inl (
@@ -53,7 +50,7 @@ module _ {K V Q : Type 0} (same : K → K → Bool) (hash : K → ℕ) (asks : Q
         },
       )))
       (λ j other. fits_of same hash asks setting slot w c blocks sights calls s j)
-      (λ blocking. few_begun calls i (Some (ForRoom it)) c (s.few blocking) (λ t v is claims. subst (ClaimsInto t) (same_call (ForRoom it) v is) claims) (few blocking)) s.onto (λ none. absurd (cc none))
+      (λ blocking. few_begun calls i (ForRoom it) c (s.few blocking) (λ t claims. claims) (few blocking)) s.onto (λ none. absurd (cc none))
     where
       it : CallForRoom
       it = record { began = c.now; reserve = reserving (in_slot setting (slot i)) additional }
@@ -128,7 +125,7 @@ module _ {K V Q : Type 0} (same : K → K → Bool) (hash : K → ℕ) (asks : Q
       -- after it calls are few as before
       pub few : is_incremental setting.mode ≡ false → StayFew (with_at calls i (next_for_room after end)) went.c2
       few blocking =
-          few_step calls i (ForRoom r) has (next_for_room after end) c went.c2 (s.few blocking) same hash setting.mode i s.ground.map.map.rule went.moved
+          few_step calls i (ForRoom r) has (next_for_room after end) c went.c2 (s.few blocking) (λ v is writes. tt) same hash setting.mode i s.ground.map.map.rule went.moved
           (λ t. RoomClaims t p2.stands) (λ v is t claims. subst (ClaimsInto t) (room_next_is after end v is) claims)
           (room_claims_by same hash w i its c seen blocking map r.began r.reserve knows.facts none m2 Tells went beside p2 end may steps)
 

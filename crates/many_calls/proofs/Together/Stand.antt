@@ -23,7 +23,7 @@ use Rattle.map_facts_late.specs.Given.RawDeclared.machines.answer.KeyAnswer.TheV
 use Rattle.seize_model.specs.Given.SeizeWordsDeclared.fault.Fault.{Fault}
 use Rattle.map_facts_late.proofs.Values.Never.{never_asks_on}
 use Rattle.std.specs.Prelude.{suc, ◌≡◌, ℕ, Bool, false, Option, Some}
-use Rattle.std.proofs.Common.{◌∙◌, arith, sym, subst, inl, inr}
+use Rattle.std.proofs.Common.{refl, ◌∙◌, arith, sym, subst, inl, inr}
 use Rattle.seize_model.specs.Given.SeizeWordsMem.{Mem, Can, Took, value_at}
 use Rattle.seize_model.specs.Given.SeizeWordsPlan.{May, Steps}
 use Rattle.seize_model.specs.Given.SeizeWorld.{World, Rests, IsInside, with_at}
@@ -55,6 +55,7 @@ use Rattle.many_calls.specs.Sights.{Visible, seen_by}
 use Rattle.map_facts_late.proofs.Known.Steps.{lasts_went, others_step}
 use Rattle.many_calls.proofs.Together.Moves as moves
 use Rattle.many_calls.proofs.Together.Few.{few_step, claim_few, next_is}
+use Rattle.many_calls.proofs.Together.Writers.{wrote_before}
 use Rattle.many_calls.proofs.Claims.Promised.{claims_by}
 use Rattle.many_calls.proofs.Together.FactsOn.{KnowsOfCall}
 use Rattle.many_calls.proofs.Together.Fits.{Fits, fits_some, fits_none, knows_on}
@@ -195,7 +196,7 @@ module _ {K V Q : Type 0} (same : K → K → Bool) (hash : K → ℕ) (asks : Q
     pub stay_few : (went : ComesTo) → is_incremental setting.mode ≡ false
         → StayFew (with_at calls i (next_of (record { keys = u.keys; pair = u.pair; began = u.began; change = change_observed V same hash asks setting slot went.told; call = p2 }) progress)) went.c2
     stay_few went blocking =
-        few_step calls i (OnKey u) has (next_of (after_by went) progress) c went.c2 (s.few blocking) same hash setting.mode i s.ground.map.map.rule went.moved
+        few_step calls i (OnKey u) has (next_of (after_by went) progress) c went.c2 (s.few blocking) (wrote_before asks same hash u.call w.memory m2 (p2, progress) steps (after_by went) refl) same hash setting.mode i s.ground.map.map.rule went.moved
         (λ t. IsToClaim t p2.stands) (λ v is t claims. subst (ClaimsInto t) (next_is (after_by went) progress v is) claims)
         (claims_by same hash asks w i (in_slot setting (slot i)) c (seen_by blocks (sights (slot i))) blocking its_map u.keys u.began u.change u.call knows.facts none m2 ToldSo went
         (beside_told same hash asks setting slot i u w went.w2 c went.c2 (seen_by blocks (sights (slot i))) went.blocks2 p2 progress went.told) p2 progress may steps)

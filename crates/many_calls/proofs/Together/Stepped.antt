@@ -11,20 +11,21 @@ use Rattle.map_facts_late.specs.Given.RawCall.{call_plan}
 use Rattle.map_facts_late.specs.Given.RawDeclared.machines.answer.Called.{Called}
 use Rattle.map_facts_late.specs.Given.RawDeclared.machines.call.KeyCall.{KeyCall}
 use Rattle.many_calls.specs.Sights.{seen_by}
-use Rattle.many_calls.specs.Together.{OnKey, HasCall, IsAtPoint, RowStepsTogether, RowsPreserveTheInvariant}
+use Rattle.many_calls.specs.Together.{OnKey, IsWriter, IsAtPoint, RowStepsTogether, RowsPreserveTheInvariant}
 use Rattle.many_calls.specs.Rows.{row_of}
 use Rattle.many_calls.proofs.Together.Begun as begun
 use Rattle.many_calls.proofs.Together.BeginsRows.{begun_row, begun_together}
 use Rattle.many_calls.proofs.Together.Came.{came_reached}
 use Rattle.many_calls.proofs.Together.Slots.{step_leaves, begun_leaves, call_shares}
+use Rattle.many_calls.proofs.Together.Few.{row_writes}
 use Rattle.many_calls.proofs.Together.WithinRows.{within_row}
 
 module _ {K V Q : Type 0} (same : K → K → Bool) (hash : K → ℕ) (asks : Q → K → Bool) (setting : Setting) (slot : ℕ → ℕ) where
   pub rows_stand_together : RowsPreserveTheInvariant V same hash asks setting slot
   rows_stand_together lawful w c blocks sights calls s i u has is_row = by (s.stand i (OnKey u) has)
     where
-      its : HasCall calls i
-      its none = cc (has, none)
+      its : IsWriter calls i
+      its = (OnKey u, has, row_writes u.call.stands is_row)
 
       by : IsAtPoint V same hash asks setting slot w c (seen_by blocks (sights (slot i))) i (OnKey u)
           → May Can Took value_at w.memory (call_plan asks same hash u.call)

@@ -49,7 +49,7 @@ use Rattle.map_facts_late.proofs.Swept.Sweeps.Stands.{quiet_further}
 use Rattle.many_calls.specs.OverAll.{CallOverAll, gone_on, row_of_sweep, past_sweeping, sweep_once_over, SweepClaims}
 use Rattle.many_calls.specs.Rows.{row_of_disposal, row_of_copier, past_copying}
 use Rattle.many_calls.specs.Sights.{Visible, seen_by}
-use Rattle.many_calls.specs.Together.{UnderWay, OverAll, HasCall, next_over_all, in_slot, IsReclaimed, KnowsSweep, Together}
+use Rattle.many_calls.specs.Together.{UnderWay, OverAll, IsWriter, next_over_all, in_slot, IsReclaimed, KnowsSweep, Together}
 use Rattle.many_calls.proofs.Sights.Seen.{map_seen}
 use Rattle.many_calls.proofs.Together.Few.{few_with, few_without, sweep_row_claims_none, retired_claims_none}
 use Rattle.many_calls.proofs.Together.Fits.{map_in_slot, knows_sweep_on, fits_some, fits_none, stands_by}
@@ -97,7 +97,7 @@ module _ {K V Q : Type 0} (same : K → K → Bool) (hash : K → ℕ) (asks : Q
       knows_sweep_on same hash asks setting slot lawful i w came.w2 c c (seen_by blocks (sights (slot i))) (seen_by blocks (sights (slot i))) seen_map
       came.sees s.ground.moments came.stays (λ blocking t made l. l) i (inl refl) o p k
 
-  module _ (its : HasCall calls i) where
+  module _ (its : IsWriter calls i) where
     -- it goes on, still within the row
     module _ (m2 : Mem (Node K V)) (p2 : Sweep) (came : RowCame same hash asks setting slot lawful w c blocks sights calls s i inside m2 (row_of_sweep (slot i) p2.stands))
         (is_row : IsRowOfSweep p2.stands) (k : KnowsOf w (sweep_once_over p2)) where
@@ -111,7 +111,7 @@ module _ {K V Q : Type 0} (same : K → K → Bool) (hash : K → ℕ) (asks : Q
             (let h = knows_came m2 (row_of_sweep (slot i) p2.stands) came (sweep_once_over p2) k in
                 record { facts = h.facts; began_before = h.began_before; from = h.from; covers = h.covers; tries = h.tries }),
           ))) came.others
-          (λ blocking. few_with calls i c (s.few blocking) its (OverAll (gone_on o p2)) (sweep_row_claims_none p2.stands is_row)) came.puts (λ none. absurd (cc none))
+          (λ blocking. few_with calls i c (s.few blocking) (OverAll (gone_on o p2)) (λ writes. its) (sweep_row_claims_none p2.stands is_row)) came.puts (λ none. absurd (cc none))
 
       goes : Led m2 (p2, swept.Goes)
       goes = record { w2 = came.w2; memory = came.memory; happened = came.happened; together = still; over = λ none. absurd (none is_row); rests = λ none. absurd (cc none); silent = refl; comes = λ e. absurd (cc e); gives = λ value e. absurd (cc e) }
@@ -146,7 +146,7 @@ module _ {K V Q : Type 0} (same : K → K → Bool) (hash : K → ℕ) (asks : Q
         together = stands_by same hash asks setting slot came.w2 c blocks sights calls i (Some (OverAll (gone_on o p2))) came.ground
             (fits_some same hash asks setting slot came.w2 c blocks (sights (slot i)) i (OverAll (gone_on o p2)) came.still_inside
             (inl (came.row_is, (let h = knows_came m2 Rests came p2 k in record { facts = h.facts; began_before = h.began_before; from = h.from; covers = h.covers; tries = h.tries })))) came.others
-            (λ blocking. few_with calls i c (s.few blocking) its (OverAll (gone_on o p2)) claims) came.puts (λ none. absurd (cc none));
+            (λ blocking. few_with calls i c (s.few blocking) (OverAll (gone_on o p2)) (λ writes. its) claims) came.puts (λ none. absurd (cc none));
         over = λ none. came.row_is;
         rests = λ none. came.row_is;
         silent = refl;
@@ -162,7 +162,7 @@ module _ {K V Q : Type 0} (same : K → K → Bool) (hash : K → ℕ) (asks : Q
         happened = came.happened;
         together = stands_by same hash asks setting slot came.w2 c blocks sights calls i None came.ground
             (fits_none same hash asks setting slot came.w2 c blocks (sights (slot i)) i ((knows_came m2 Rests came p2 k).facts.idle (λ copies. by p2.stands is copies))) came.others
-            (λ blocking. few_without calls i c (s.few blocking) its) came.puts (λ none. came.row_is);
+            (λ blocking. few_without calls i c (s.few blocking)) came.puts (λ none. came.row_is);
         over = λ none. came.row_is;
         rests = λ none. came.row_is;
         silent = refl;

@@ -33,7 +33,7 @@ use Rattle.map_facts_late.specs.ToldSweeps.{IsRowOfSweep}
 use Rattle.many_calls.specs.OverAll.{CallOverAll, row_of_sweep, past_sweeping}
 use Rattle.many_calls.specs.Sights.{Visible, seen_by}
 use Rattle.many_calls.specs.Sweeps.{SweepRowsTogether, SweepRowsPreserveTheInvariant}
-use Rattle.many_calls.specs.Together.{UnderWay, OverAll, HasCall, in_slot, IsAtPoint, Together}
+use Rattle.many_calls.specs.Together.{UnderWay, OverAll, IsWriter, in_slot, IsAtPoint, Together}
 use Rattle.many_calls.proofs.Together.Begun as begun
 use Rattle.many_calls.proofs.Together.Begun.{RowBegun}
 use Rattle.many_calls.proofs.Together.Disposals.{disposal_begins}
@@ -126,8 +126,8 @@ module _ {K V Q : Type 0} (same : K → K → Bool) (hash : K → ℕ) (asks : Q
   pub sweep_rows_stand_together : SweepRowsPreserveTheInvariant V same hash asks setting slot
   sweep_rows_stand_together lawful w c blocks sights calls s i o has is_row = by (s.stand i (OverAll o) has)
     where
-      its : HasCall calls i
-      its none = cc (has, none)
+      its : IsWriter calls i
+      its = (OverAll o, has, tt)
 
       by : IsAtPoint V same hash asks setting slot w c (seen_by blocks (sights (slot i))) i (OverAll o)
           → May Can Took value_at w.memory (sweep_plan hash o.sweep)

@@ -42,11 +42,8 @@ module _ {K V Q : Type 0} (same : K → K → Bool) (hash : K → ℕ) (asks : Q
   abbrev Stand : World (Node K V) → Chart K → Blocks → (ℕ → Visible) → (ℕ → Option (UnderWay K V Q)) → Type 0
   Stand = Together V same hash asks setting slot
 
-  same_call : (x y : UnderWay K V Q) → ◌≡◌ {A = Option (UnderWay K V Q)} (Some x) (Some y) → y ≡ x
-  same_call x y e = cc e
-
   pub sweeps_begin_together : SweepsBeginTogether V same hash asks setting slot
-  sweeps_begin_together w c blocks sights calls i s none rests inside few purpose =
+  sweeps_begin_together w c blocks sights calls i s none rests inside purpose few =
       stands_by same hash asks setting slot w c blocks sights calls i (Some (OverAll it)) s.ground
       (fits_some same hash asks setting slot w c blocks (sights (slot i)) i (OverAll it) inside
       (inl (
@@ -60,7 +57,7 @@ module _ {K V Q : Type 0} (same : K → K → Bool) (hash : K → ℕ) (asks : Q
         },
       )))
       (λ j other. fits_of same hash asks setting slot w c blocks sights calls s j)
-      (λ blocking. few_begun calls i (Some (OverAll it)) c (s.few blocking) (λ t v is claims. subst (ClaimsInto t) (same_call (OverAll it) v is) claims) (few blocking)) s.onto (λ none. absurd (cc none))
+      (λ blocking. few_begun calls i (OverAll it) c (s.few blocking) (λ t claims. claims) (few blocking)) s.onto (λ none. absurd (cc none))
     where
       it : CallOverAll
       it = begun_over_all c.now (in_slot setting (slot i)) purpose
@@ -114,7 +111,7 @@ module _ {K V Q : Type 0} (same : K → K → Bool) (hash : K → ℕ) (asks : Q
       -- after it calls are few as before
       pub few : is_incremental setting.mode ≡ false → StayFew (with_at calls i (next_over_all after end)) went.c2
       few blocking =
-          few_step calls i (OverAll o) has (next_over_all after end) c went.c2 (s.few blocking) same hash setting.mode i s.ground.map.map.rule went.moved
+          few_step calls i (OverAll o) has (next_over_all after end) c went.c2 (s.few blocking) (λ v is writes. tt) same hash setting.mode i s.ground.map.map.rule went.moved
           (λ t. SweepClaims t p2.stands) (λ v is t claims. subst (ClaimsInto t) (over_all_next_is after end v is) claims)
           (sweep_claims_by same hash w i its c seen blocking map o.began o.sweep knows.facts none m2 Tells went went.told.beside p2 end went.told.stands may steps)
 

@@ -24,7 +24,7 @@ use Rattle.map_facts_late.proofs.Swept.Sweeps.Stands.{IsQuiet, quiet_further}
 use Rattle.many_calls.specs.OverAll.{Verdict, verdict, CallOverAll, gone_on, with_verdict, SweepClaims, TriesAsReplied}
 use Rattle.many_calls.specs.Sights.{Visible, seen_by}
 use Rattle.many_calls.specs.Sweeps.{NamesPairSince, TakesReply, SweepRepliesPreserveTheInvariant, WalksStopTogether}
-use Rattle.many_calls.specs.Together.{UnderWay, OverAll, HasCall, in_slot, KnowsSweep, IsAtPoint, Together}
+use Rattle.many_calls.specs.Together.{UnderWay, OverAll, in_slot, KnowsSweep, IsAtPoint, Together}
 use Rattle.many_calls.proofs.Sights.Seen.{map_seen}
 use Rattle.many_calls.proofs.Together.Few.{few_with, few_without, quiet_claims_none}
 use Rattle.many_calls.proofs.Together.Fits.{map_in_slot, fits_some, fits_none, fits_of, stands_by}
@@ -58,9 +58,6 @@ module _ {K V Q : Type 0} (same : K → K → Bool) (hash : K → ℕ) (asks : Q
     abbrev With : CallOverAll → Type 0
     With x = Together V same hash asks setting slot w c blocks sights (with_at calls i (Some (OverAll x)))
 
-    its_call : HasCall calls i
-    its_call none = cc (has, none)
-
     -- nothing changes
     unchanged : With o
     unchanged = subst (Together V same hash asks setting slot w c blocks sights) (sym (ap (with_at calls i) (sym has) ∙ with_same calls i)) s
@@ -74,7 +71,7 @@ module _ {K V Q : Type 0} (same : K → K → Bool) (hash : K → ℕ) (asks : Q
           stands_by same hash asks setting slot w c blocks sights calls i (Some (OverAll x)) s.ground
           (fits_some same hash asks setting slot w c blocks (sights (slot i)) i (OverAll x) (s.inside i (OverAll o) has) (inl (rests, knows)))
           (λ j other. fits_of same hash asks setting slot w c blocks sights calls s j)
-          (λ blocking. few_with calls i c (s.few blocking) its_call (OverAll x) claims) s.onto (λ none. absurd (cc none))
+          (λ blocking. few_with calls i c (s.few blocking) (OverAll x) (λ writes. (OverAll o, has, tt)) claims) s.onto (λ none. absurd (cc none))
 
       -- asked for the next pair
       next_on : (stage : Sweeping) → o.sweep.stands ≡ stage → With (gone_on o (next_at stage o.sweep))
@@ -153,15 +150,12 @@ module _ {K V Q : Type 0} (same : K → K → Bool) (hash : K → ℕ) (asks : Q
   pub walks_stop_together : WalksStopTogether V same hash asks setting slot
   walks_stop_together w c blocks sights calls s i o has ready = by (s.stand i (OverAll o) has)
     where
-      its_call : HasCall calls i
-      its_call none = cc (has, none)
-
       by : IsAtPoint V same hash asks setting slot w c (seen_by blocks (sights (slot i))) i (OverAll o) → Together V same hash asks setting slot w c blocks sights (with_at calls i None) × (w.row i ≡ Rests)
       by (inl (rests, k)) = (
         stands_by same hash asks setting slot w c blocks sights calls i None s.ground
             (fits_none same hash asks setting slot w c blocks (sights (slot i)) i (k.facts.idle (λ copies. subst CopiesPairs ready copies)))
             (λ j other. fits_of same hash asks setting slot w c blocks sights calls s j)
-            (λ blocking. few_without calls i c (s.few blocking) its_call) s.onto (λ none. rests),
+            (λ blocking. few_without calls i c (s.few blocking)) s.onto (λ none. rests),
         rests,
       )
       by (inr (here, row, k)) = absurd (subst IsRowOfSweep ready row)

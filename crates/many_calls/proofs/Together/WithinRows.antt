@@ -51,7 +51,7 @@ use Rattle.many_calls.specs.Since.{ChangedSince}
 use Rattle.many_calls.specs.Sights.{Visible, seen_by}
 use Rattle.many_calls.specs.Claims.{IsToClaim}
 use Rattle.many_calls.proofs.Together.Few.{few_with, few_without, row_claims_none, retired_claims_none}
-use Rattle.many_calls.specs.Together.{OnKey, CallOnKey, UnderWay, HasCall, next_of, in_slot, Knows, Together, AnswersOnce, RefusesOnce, IsReclaimed}
+use Rattle.many_calls.specs.Together.{OnKey, CallOnKey, UnderWay, IsWriter, next_of, in_slot, Knows, Together, AnswersOnce, RefusesOnce, IsReclaimed}
 use Rattle.many_calls.proofs.Together.RowsOfCopiers.{at_retirement}
 use Rattle.many_calls.proofs.Together.FactsOn.{disposes_fresh}
 use Rattle.many_calls.proofs.Together.RowSteps.{never_refused, RowCame, settle_may, settle_came, settle_gives, defer_may, defer_came}
@@ -59,7 +59,7 @@ use Rattle.many_calls.proofs.Together.Fits.{fits_some, fits_none, stands_by}
 
 module _ {K V Q : Type 0} (same : K → K → Bool) (hash : K → ℕ) (asks : Q → K → Bool) (setting : Setting) (slot : ℕ → ℕ) (lawful : AreLawful same hash)
     (w : World (Node K V)) (c : Chart K) (blocks : Blocks) (sights : ℕ → Visible) (calls : ℕ → Option (UnderWay K V Q)) (s : Together V same hash asks setting slot w c blocks sights calls)
-    (i : ℕ) (u : CallOnKey K V Q) (inside : IsInside (w.uses (slot i))) (its : HasCall calls i) where
+    (i : ℕ) (u : CallOnKey K V Q) (inside : IsInside (w.uses (slot i))) (its : IsWriter calls i) where
   -- the call after the step
   abbrev then_at : KeyCall K V Q → CallOnKey K V Q
   then_at p = record { keys = u.keys; pair = u.pair; began = u.began; change = u.change; call = p }
@@ -94,7 +94,7 @@ module _ {K V Q : Type 0} (same : K → K → Bool) (hash : K → ℕ) (asks : Q
     still =
         stands_by same hash asks setting slot came.w2 c blocks sights calls i (Some (OnKey (then_at p2))) came.ground
         (fits_some same hash asks setting slot came.w2 c blocks (sights (slot i)) i (OnKey (then_at p2)) came.still_inside (inr (came.row_is, is_row, known (once_over p2) p2 (came.knows u (once_over p2) k)))) came.others
-        (λ blocking. few_with calls i c (s.few blocking) its (OnKey (then_at p2)) (row_claims_none p2.stands is_row)) came.puts (λ none. absurd (cc none))
+        (λ blocking. few_with calls i c (s.few blocking) (OnKey (then_at p2)) (λ writes. its) (row_claims_none p2.stands is_row)) came.puts (λ none. absurd (cc none))
 
     goes : Led m2 (p2, called.Goes)
     goes = record { w2 = came.w2; memory = came.memory; happened = came.happened; together = still; answers = λ answer e. absurd (cc e); refuses = λ fault e. absurd (cc e); hands = λ value e. absurd (cc e); gives = λ value e. absurd (cc e); over = λ none. absurd (none is_row); rests = λ none. absurd (cc none) }
@@ -128,7 +128,7 @@ module _ {K V Q : Type 0} (same : K → K → Bool) (hash : K → ℕ) (asks : Q
     happened = came.happened;
     together = stands_by same hash asks setting slot came.w2 c blocks sights calls i (Some (OnKey (then_at p2))) came.ground
         (fits_some same hash asks setting slot came.w2 c blocks (sights (slot i)) i (OnKey (then_at p2)) came.still_inside (inl (came.row_is, known p2 p2 (came.knows u p2 k)))) came.others
-        (λ blocking. few_with calls i c (s.few blocking) its (OnKey (then_at p2)) claims) came.puts (λ none. absurd (cc none));
+        (λ blocking. few_with calls i c (s.few blocking) (OnKey (then_at p2)) (λ writes. its) claims) came.puts (λ none. absurd (cc none));
     answers = λ answer e. absurd (cc e);
     refuses = λ fault e. absurd (cc e);
     hands = λ value e. absurd (cc e);
@@ -153,7 +153,7 @@ module _ {K V Q : Type 0} (same : K → K → Bool) (hash : K → ℕ) (asks : Q
           happened = came.happened;
           together = stands_by same hash asks setting slot came.w2 c blocks sights calls i None came.ground
               (fits_none same hash asks setting slot came.w2 c blocks (sights (slot i)) i (all.idle (λ none. none))) came.others
-              (λ blocking. few_without calls i c (s.few blocking) its) came.puts (λ none. came.row_is);
+              (λ blocking. few_without calls i c (s.few blocking)) came.puts (λ none. came.row_is);
           answers = λ it e. subst (AnswersOnce V same hash asks setting slot came.w2 c (seen_by blocks (sights (slot i))) i u u.change) (same_answer it e) (once came.w2
               (fit_of hash u.keys came.w2.memory c (seen_by blocks (sights (slot i))) u.pair u.change (within disposes.Over) (at.Disposes (dispose.standing d disposes.Over) answer) k2.pair).4 k2.since.changed all.point.1
               (given_stored hash u.keys came.w2.memory c (seen_by blocks (sights (slot i))) u.pair u.change (within disposes.Over) (dispose.standing d disposes.Over) answer k2.pair));

@@ -90,6 +90,6 @@ module _ {K Q : Type 0} (V : Type 0) (same : K → K → Bool) (asks : Q → K �
       )
 
   pub calls_begin_among : CallsBeginWithEndings V same asks batch_size roots slot
-  calls_begin_among w maps calls makers enders all i free unending alone rests inside m s here few keys pair call begun =
+  calls_begin_among w maps calls makers enders all i free unending alone rests inside m s here keys pair call begun few =
       endings_with_call V same asks batch_size roots slot w maps calls makers enders all m i _ (λ j f ends e. (let none = ap enders (sym e) ∙ ends in cc (none, unending)))
-      (calls_begin_beside V same asks batch_size roots slot w maps calls makers all.makings i free alone rests inside m s here few keys pair call begun)
+      (calls_begin_beside V same asks batch_size roots slot w maps calls makers all.makings i free alone rests inside m s here keys pair call begun few)

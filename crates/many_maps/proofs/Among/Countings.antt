@@ -10,12 +10,12 @@ use Rattle.many_maps.proofs.Among.Calls.{no_ender, endings_with_call}
 
 module _ {K Q : Type 0} (V : Type 0) (same : K → K → Bool) (asks : Q → K → Bool) (batch_size roots : ℕ) (slot : ℕ → ℕ) where
   pub countings_begin_among : CountingsBeginWithEndings V same asks batch_size roots slot
-  countings_begin_among w maps calls makers enders all i free unending alone rests m s here few =
+  countings_begin_among w maps calls makers enders all i free unending alone rests m s here =
       let standing = all.makings.standing in
       endings_with_call V same asks batch_size roots slot w maps calls makers enders all m i _ (λ j f ends e. (let none = ap enders (sym e) ∙ ends in cc (none, unending)))
       (makings_with_call V same asks batch_size roots slot w maps calls makers all.makings m i _ (λ j b makes e. (let none = ap makers (sym e) ∙ makes in cc (none, free)))
       (maps_with_call V same asks batch_size slot w maps calls standing m s here i _ (λ n ne. alone n)
-      (countings_begin_together same s.hash asks s.setting slot w s.chart s.blocks s.sights (calls m) i (standing.each m s here) (alone m) rests few)))
+      (countings_begin_together same s.hash asks s.setting slot w s.chart s.blocks s.sights (calls m) i (standing.each m s here) (alone m) rests)))
 
   pub countings_stand_among : CountingsPreserveWithEndings V same asks batch_size roots slot
   countings_stand_among w maps calls makers enders all m s here i sum has =

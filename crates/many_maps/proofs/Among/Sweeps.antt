@@ -25,12 +25,12 @@ use Rattle.many_maps.proofs.Among.Rows as rows
 
 module _ {K Q : Type 0} (V : Type 0) (same : K → K → Bool) (asks : Q → K → Bool) (batch_size roots : ℕ) (slot : ℕ → ℕ) where
   pub sweeps_begin_among : SweepsBeginWithEndings V same asks batch_size roots slot
-  sweeps_begin_among w maps calls makers enders all i free unending alone rests inside m s here few purpose =
+  sweeps_begin_among w maps calls makers enders all i free unending alone rests inside m s here purpose few =
       let standing = all.makings.standing in
       endings_with_call V same asks batch_size roots slot w maps calls makers enders all m i _ (λ j f ends e. (let none = ap enders (sym e) ∙ ends in cc (none, unending)))
       (makings_with_call V same asks batch_size roots slot w maps calls makers all.makings m i _ (λ j b makes e. (let none = ap makers (sym e) ∙ makes in cc (none, free)))
       (maps_with_call V same asks batch_size slot w maps calls standing m s here i _ (λ n ne. alone n)
-      (sweeps_begin_together same s.hash asks s.setting slot w s.chart s.blocks s.sights (calls m) i (standing.each m s here) (alone m) rests inside few purpose)))
+      (sweeps_begin_together same s.hash asks s.setting slot w s.chart s.blocks s.sights (calls m) i (standing.each m s here) (alone m) rests inside purpose few)))
 
   pub sweeps_stand_among : SweepsPreserveWithEndings V same asks batch_size roots slot
   sweeps_stand_among w maps calls makers enders all m s here i o has none =

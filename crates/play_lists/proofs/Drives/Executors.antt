@@ -36,7 +36,7 @@ use Rattle.run_finds.specs.Given.RawDeclared.machines.machine.Machine.{Machine}
 use Rattle.run_finds.specs.Given.RawDeclared.machines.progress.Progress.{Progress as CallProgress}
 use Rattle.run_finds.specs.Given.TellerTells.{StepsObserved}
 use Rattle.run_kept.specs.Given.EffectsDeclared.changed.Changed.TheVariants.{Nothing as NoChange}
-use Rattle.many_acts.specs.Given.CallersTogether.{Closes, Counting, ForRoom, OnKey, OverAll, UnderWay, UnlessCounts}
+use Rattle.many_acts.specs.Given.CallersTogether.{Closes, Counting, MayWrite, ForRoom, OnKey, OverAll, UnderWay, UnlessCounts}
 use Rattle.many_acts.specs.Given.FinishesEndings.{EndingsTogether, Finishing, MakingStepsWithEndings, StepsOfEnding}
 use Rattle.many_acts.specs.Given.FinishesMachines.{machine_of}
 use Rattle.many_acts.specs.Given.FinishesMakings.{Beginning}
@@ -48,7 +48,7 @@ use Rattle.play_lists.specs.Drives.Executors.{IsAct, AreSteps, Computes, IsCompu
 use Rattle.many_acts.specs.Acts.Leads.{AllStand, EndingCame, Led, MakingCame, MayBe, asked_on, call_at, call_steps, ending_steps, making_steps}
 use Rattle.many_acts.specs.Acts.Lists.{AllMayStep}
 use Rattle.play_lists.proofs.Drives.Begins.{wants}
-use Rattle.play_lists.proofs.Drives.May.{at_rest, begun_there, few_with, is_entered, is_free, no_map_yet, none_makes_it, unless_to_count}
+use Rattle.play_lists.proofs.Drives.May.{at_rest, begun_there, few_with, none_called, is_entered, is_free, no_map_yet, none_makes_it, unless_to_count}
 use Rattle.play_lists.proofs.Drives.Told.{steps_once, told_so}
 use Rattle.play_lists.proofs.Drives.Wherever.{wherever}
 use Rattle.many_acts.proofs.Acts.AsSteps.Calls.{begins_so}
@@ -75,7 +75,7 @@ use Rattle.many_acts.specs.Given.ScenesDeclared.row.SlotRow.{SlotRow}
 use Rattle.many_acts.specs.Given.ScenesDeclared.row.SlotRow.TheVariants as rows
 use Rattle.many_acts.specs.Given.ScenesScene.{Scene, row_of, slot_of}
 use Rattle.run_finds.proofs.Given.ExecutingOnSlotBegun.{of_slots as slots_alone}
-use Rattle.run_finds.proofs.Given.General.{none_mapped as none_of}
+use Rattle.run_finds.proofs.Given.General.{same_some, none_mapped as none_of}
 
 -- the memory after a step of a row
 registers_memory : {T : Type 0} (w : World T) (i : ℕ) (c : Register) (m : Mem T) (end : Register × Advance ℕ) → (world.registers_on w i c m end).memory ≡ m
@@ -280,7 +280,8 @@ module _ {K V S : Type 0} (same : K → K → Bool) (hash : S → K → ℕ) (e 
           at_rest same (hash e.hasher) e s at i fresh,
           unless_to_count wanted (is_entered same (hash e.hasher) e s at i inside),
           ap is_none stands,
-          few_with same hash e.batch_size e.roots s m i u (all_given (scene_with m i u s) to.1),
+          few_with same hash e.batch_size e.roots s m i u (all_given (scene_with m i u s) to.1) (none_called same (hash e.hasher) e s at i fresh m) wanted
+              (λ other here. subst (λ (x : Standing K). MayWrite (begun same slot_of x i wanted) → MayWrite u) (same_some standing other (sym stands ∙ here)) (λ writes. writes)),
         ) Nothing (scene_with m i u s) (standing, stands, refl, refl) to.1);
     begun_so = λ m standing stands u is. wants same standing (at.held.together.makings.standing.fit m standing stands).0 i u is;
     step = step;

@@ -1,13 +1,13 @@
 -- What an executor begins may be begun: a caller whose place comes next has nothing under way, and is one of few.
 use Rattle.std.specs.Prelude.{◌≢◌, ◌⊎◌, Option, Some, None, length}
 use Rattle.std.specs.Option.{is_none}
-use Rattle.std.proofs.Common.{◌≡◌, ℕ, Bool, true, false, inl, inr, refl, sym, ap, subst, arith, ◌∙◌}
+use Rattle.std.proofs.Common.{◌≡◌, ℕ, Bool, true, false, inl, inr, refl, ap, subst, arith, ◌∙◌}
 use Rattle.std.proofs.lemmas.Bool.{cases_eq}
 use Rattle.std.proofs.lemmas.List.{get_or_past}
 use Rattle.map_tables.specs.Given.SeizeWorld.{Begins, Use, Inside, World, with_at}
 use Rattle.seize_acts.specs.Acts.Acts.{begun as row_begun, is_inside, is_outside, is_taken, is_within, rests}
 use Rattle.seize_acts.specs.Acts.Answers.{given}
-use Rattle.many_acts.specs.Given.CallersTogether.{HasCall, UnderWay}
+use Rattle.many_acts.specs.Given.CallersTogether.{MayWrite, IsWriter, UnderWay}
 use Rattle.many_acts.proofs.Given.CallersTogether.At.{at_other, at_same}
 use Rattle.many_acts.specs.Given.FinishesMachines.{machine_of}
 use Rattle.many_acts.specs.Given.FinishesMakings.{Beginning}
@@ -22,9 +22,8 @@ use Rattle.many_acts.specs.Given.ScenesDeclared.row.SlotUse.TheVariants as used
 use Rattle.run_finds.specs.Given.ExecutorDeclared.executor.Executor.{Executor}
 use Rattle.run_finds.specs.Given.ExecutorDeclared.worker.Work.{Work}
 use Rattle.run_finds.specs.Given.ExecutorIsThere.{HasRow, IsThere, IsUsedAs, call_in, ending_in, making_in, use_at, work_of}
-use Rattle.many_acts.specs.Acts.Acts.{UnlessToCount, Wanted, Get, Remove, Insert, TryToInsert, Compute, Update, UpdateOrInsert, TryToInsertWith, RemoveIf, GetKeyValue, ContainsKey, GetOrInsert, GetOrInsertWith, RemoveEntry, MakeRoom, Count, GoOver}
+use Rattle.many_acts.specs.Acts.Acts.{UnlessToCount, begun, Wanted, Get, Remove, Insert, TryToInsert, Compute, Update, UpdateOrInsert, TryToInsertWith, RemoveIf, GetKeyValue, ContainsKey, GetOrInsert, GetOrInsertWith, RemoveEntry, MakeRoom, Count, GoOver}
 use Rattle.many_acts.specs.Acts.Leads.{AllStand, AreFewWith, IsFree}
-use Rattle.run_finds.proofs.Given.ExecutingOnSlotBegun.{of_slots as slots_alone}
 use Rattle.run_finds.proofs.Given.General.{none_mapped as none_of}
 use Rattle.seize_acts.proofs.Acts.Reclaimed.Whole.{taken_so}
 
@@ -67,7 +66,7 @@ module _ {T : Type 0} (defers : T → Option ℕ) (size i slot : ℕ) (w w2 : Wo
 
 module _ {K V S : Type 0} (same : K → K → Bool) (hash : K → ℕ) (e : Executor K V S) (s : Scene K V) (at : IsThere same hash e s) (i : ℕ) where
   module _ (fresh : work_of e i ≡ None) where
-    none_called : (m : ℕ) → s.calls m i ≡ None
+    pub none_called : (m : ℕ) → s.calls m i ≡ None
     none_called m = none_of machine_of (s.calls m i) (at.calls m i ∙ ap (λ (x : Option (Work K V)). call_in x m) fresh)
 
     pub is_free : IsFree s i
@@ -90,19 +89,22 @@ module _ {K V S : Type 0} (same : K → K → Bool) (hash : K → ℕ) (e : Exec
   pub none_makes_it : (j : ℕ) (d : Beginning K) → s.makers j ≡ Some d → length e.maps.items ≢ d.map
   none_makes_it j d makes is = omega (arith, at.numbers j d makes, is)
 
--- where the call of one more stands together with all others, few have calls with it
-module _ {K V S : Type 0} (same : K → K → Bool) (hash : S → K → ℕ) (batch_size roots : ℕ) (s : Scene K V) (m i : ℕ) (u : UnderWay K V K) (all : AllStand same hash batch_size roots slot_of (scene_with m i u s)) where
-  has_one : (j : ℕ) → (j ≡ i) ⊎ HasCall (s.calls m) j → HasCall (with_call s.calls m i (Some u) m) j
-  has_one j has none = by (cases_eq j i) has
+-- where the call of one more stands together with all others, few calls may write with it
+module _ {K V S : Type 0} (same : K → K → Bool) (hash : S → K → ℕ) (batch_size roots : ℕ) (s : Scene K V) (m i : ℕ) (u : UnderWay K V K) (all : AllStand same hash batch_size roots slot_of (scene_with m i u s))
+    (none : s.calls m i ≡ None) (wanted : Wanted K V) (writes : (standing : Standing K) → s.maps m ≡ Some standing → MayWrite (begun same slot_of standing i wanted) → MayWrite u) where
+  writer : (standing : Standing K) → s.maps m ≡ Some standing → (j : ℕ) → ((j ≡ i) × MayWrite (begun same slot_of standing i wanted)) ⊎ IsWriter (s.calls m) j
+      → IsWriter (with_call s.calls m i (Some u) m) j
+  writer standing stands j such = by (cases_eq j i) such
     where
       here : with_call s.calls m i (Some u) m j ≡ with_at (s.calls m) i (Some u) j
       here = ap (λ (f : ℕ → Option (UnderWay K V K)). f j) (at_same s.calls m (with_at (s.calls m) i (Some u)) m refl)
 
-      by : (j ≡ i) ⊎ (j ≢ i) → (j ≡ i) ⊎ HasCall (s.calls m) j → ⊥
-      by (inl is) its = absurd (let both : Some u ≡ None = sym (at_same (s.calls m) i (Some u) j is) ∙ sym here ∙ none in cc both)
-      by (inr ne) (inl is) = absurd (ne is)
-      by (inr ne) (inr its) = its (sym (at_other (s.calls m) i (Some u) j ne) ∙ sym here ∙ none)
+      by : (j ≡ i) ⊎ (j ≢ i) → ((j ≡ i) × MayWrite (begun same slot_of standing i wanted)) ⊎ IsWriter (s.calls m) j → IsWriter (with_call s.calls m i (Some u) m) j
+      by (inl is) (inl its) = (u, here ∙ at_same (s.calls m) i (Some u) j is, writes standing stands its.1)
+      by (inl is) (inr has) = absurd (let it = has.1 in let no = ap (s.calls m) is ∙ none in cc (it, no))
+      by (inr ne) (inl its) = absurd (ne its.0)
+      by (inr ne) (inr has) = (has.0, here ∙ at_other (s.calls m) i (Some u) j ne ∙ has.1, has.2)
 
-  pub few_with : AreFewWith s i m
+  pub few_with : AreFewWith same hash batch_size roots slot_of s i m wanted
   few_with standing stands blocking callers apart each =
-      ((all.makings.standing.each m standing stands).few blocking).few callers apart (λ k c l. has_one _ (each k c l))
+      ((all.makings.standing.each m standing stands).few blocking).few callers apart (λ k c l. writer standing stands _ (each k c l))

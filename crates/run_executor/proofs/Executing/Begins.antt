@@ -17,6 +17,7 @@ use Rattle.run_executor.specs.declared.worker.Work.TheVariants as work
 use Rattle.run_places.specs.Given.ScenesDeclared.row.SlotUse.TheVariants as used
 use Rattle.run_executor.proofs.Executing.Changed.{is_at_on}
 use Rattle.run_executor.proofs.Executing.Few.{are_few}
+use Rattle.run_places.proofs.Given.CallersTogether.Few.{few_with_any}
 use Rattle.run_executor.proofs.Executing.Fresh.{caller_in, fresh_before, fresh_changes, fresh_place, no_calls_yet, no_ending_yet, no_making_yet, resting}
 use Rattle.run_executor.specs.Executing.Beginning.{BeginsThere}
 use Rattle.run_executor.specs.Executing.IsThere.{ChangesAt, IsThere, place_of, use_at, worker_with}
@@ -49,19 +50,19 @@ module _ {K V S : Type 0} (same : K → K → Bool) (hash : K → ℕ) (e : Exec
     together (OnKey u) (begun, is) =
         subst (λ x. EndingsTogether V same same e.batch_size e.roots slot_of s.world s.maps (with_call s.calls m caller (Some (OnKey x))) s.makers s.enders) (sym is)
         (calls_begin_among V same same e.batch_size e.roots slot_of s.world s.maps s.calls s.makers s.enders at.held.together caller no_maker no_ender no_calls
-        (resting same hash e s at slot fits) inside m standing stands (λ blocking. are_few same hash e s at m caller place_is few) u.keys u.pair u.call begun)
+        (resting same hash e s at slot fits) inside m standing stands u.keys u.pair u.call begun (λ blocking. few_with_any (s.calls m) caller (OnKey u) (are_few same hash e s at m caller place_is few)))
     together (ForRoom r) (additional, is) =
         subst (λ x. EndingsTogether V same same e.batch_size e.roots slot_of s.world s.maps (with_call s.calls m caller (Some (ForRoom x))) s.makers s.enders) (sym is)
         (rooms_begin_among V same same e.batch_size e.roots slot_of s.world s.maps s.calls s.makers s.enders at.held.together caller no_maker no_ender no_calls
-        (resting same hash e s at slot fits) inside m standing stands (λ blocking. are_few same hash e s at m caller place_is few) additional)
+        (resting same hash e s at slot fits) inside m standing stands additional (λ blocking. few_with_any (s.calls m) caller (ForRoom r) (are_few same hash e s at m caller place_is few)))
     together (Counting sum) is =
         subst (λ x. EndingsTogether V same same e.batch_size e.roots slot_of s.world s.maps (with_call s.calls m caller (Some (Counting x))) s.makers s.enders) (sym is)
         (countings_begin_among V same same e.batch_size e.roots slot_of s.world s.maps s.calls s.makers s.enders at.held.together caller no_maker no_ender no_calls
-        (resting same hash e s at slot fits) m standing stands (λ blocking. are_few same hash e s at m caller place_is few))
+        (resting same hash e s at slot fits) m standing stands)
     together (OverAll o) (purpose, is) =
         subst (λ x. EndingsTogether V same same e.batch_size e.roots slot_of s.world s.maps (with_call s.calls m caller (Some (OverAll x))) s.makers s.enders) (sym is)
         (sweeps_begin_among V same same e.batch_size e.roots slot_of s.world s.maps s.calls s.makers s.enders at.held.together caller no_maker no_ender no_calls
-        (resting same hash e s at slot fits) inside m standing stands (λ blocking. are_few same hash e s at m caller place_is few) purpose)
+        (resting same hash e s at slot fits) inside m standing stands purpose (λ blocking. few_with_any (s.calls m) caller (OverAll o) (are_few same hash e s at m caller place_is few)))
 
   -- somebody is inside of a slot that is entered
   entered : use_at e (slot_of caller) ≡ used.Inside → IsInside (s.world.uses (slot_of caller))

@@ -1,7 +1,6 @@
 //! A session is a seat that knows a map, with the memory and the hasher: it is made of these, and taken apart, so that who owns them may keep the seat.
 ghost use Rattle.std.specs.Prelude.{◌≡◌, Some, None, true};
 ghost use Rattle.threads_callers.specs.Standing.{known_by};
-ghost use Rattle.map_tables.specs.Chunks.{is_incremental};
 ghost use Rattle.threads_callers.specs.Given.ViewsDeclared.view.SeatWork.TheVariants.{Nothing as NoWork};
 ghost use Rattle.seize_callers.specs.Kept.{is_home};
 
@@ -24,7 +23,6 @@ impl<'a, K: Eq, V, S: Hashes<K>> SessionBase<'a, K, V, S> {
         requires sized { blocks.now.words.fixed.batch_size ≡ setting.batch_size }
         requires knows { known_by seat.view ≡ Some (setting, hasher.now) }
         requires free { seat.view.work ≡ NoWork }
-        requires incremental { is_incremental setting.mode ≡ true }
         ensures view { result.caller.seat.view ≡ seat.view }
         ensures blocks { result.caller.blocks.now ≡ blocks.now }
     {
@@ -46,7 +44,6 @@ impl<'a, K: Eq, V, S: Hashes<K>> SessionBase<'a, K, V, S> {
         ensures sized { self.entry.caller.blocks.now.words.fixed.batch_size ≡ result.1.batch_size }
         ensures knows { known_by result.0.view ≡ Some (result.1, self.entry.hasher.now) }
         ensures free { result.0.view.work ≡ NoWork }
-        ensures incremental { is_incremental result.1.mode ≡ true }
     {
         let SessionBase {
             caller,

@@ -1,9 +1,8 @@
 -- The turns of a seat of maps, and the lookup that has begun.
 use Rattle.std.specs.Prelude.{max, Result, Ok, Err, IfErr, Option, None}
-use Rattle.std.proofs.Common.{◌≡◌, ℕ, ◌≤◌, ◌^◌, Bool, true, Some, ◌⊎◌, inl, refl, sym, subst, ap, ◌∙◌, arith}
+use Rattle.std.proofs.Common.{◌≡◌, ℕ, ◌≤◌, ◌^◌, Bool, Some, ◌⊎◌, inl, refl, sym, subst, ap, ◌∙◌, arith}
 use Rattle.seize_seats.specs.Seats.State.{Turns}
 use Rattle.seize_words.specs.declared.fault.Fault.{Fault}
-use Rattle.map_tables.specs.Chunks.{is_incremental}
 use Rattle.map_tables.specs.Lengths.{IsTableLen}
 use Rattle.map_tables.specs.declared.setting.Setting.{Setting}
 use Rattle.map_machines.specs.Lookup.{looking}
@@ -19,7 +18,7 @@ use Rattle.many_acts.specs.Acts.Acts.{Wanted, Get}
 use Rattle.seize_views.specs.declared.view.Fixed.{Fixed}
 use Rattle.seize_views.specs.declared.view.SlotView.TheVariants.{Rests}
 use Rattle.threads_rule.specs.Views.Begun.{machine_for, asked, making, replied}
-use Rattle.threads_rule.specs.Views.Rule.{Holds, KeepsFor, Leans, LeansOn, section_of, stand_of}
+use Rattle.threads_rule.specs.Views.Rule.{Holds, KeepsFor, Leans, LeansOn, LooksAside, MayWant, section_of, stand_of}
 use Rattle.threads_rule.specs.Views.Told.{turned, turned_by}
 use Rattle.threads_rule.specs.declared.view.Map.{Map}
 use Rattle.threads_rule.specs.declared.view.View.{View}
@@ -32,15 +31,24 @@ use Rattle.threads_rule.specs.Errands.Looking.{Begins, IsOn, LooksFor, MayLook, 
 use Rattle.threads_rule.specs.Errands.Making.{BeginsMaking, HasOutcome, MayBegin, PlansJust}
 use Rattle.seize_words.proofs.General.{same_some}
 
+module _ {K V S : Type 0} (same : K → K → Bool) (hash : S → K → ℕ) where
+  -- who leans on another seat may look keys up, and who leans on none may begin anything
+  pub may_look_aside : (under : Option (ℕ × ℕ)) (map : Map S) (key : K) → MayWant {V = V} same hash under map (Get key)
+  may_look_aside None map key t = tt
+  may_look_aside (Some leant) map key t = λ blocking writes. writes
+
+  pub may_alone : (under : Option (ℕ × ℕ)) (map : Map S) (wanted : Wanted K V) → under ≡ None → MayWant same hash under map wanted
+  may_alone under map wanted lone t = subst (λ (u : Option (ℕ × ℕ)). LooksAside u (Some map) (Calls (machine_for same hash map t wanted))) (sym lone) tt
+
 module _ {K V S : Type 0} (same : K → K → Bool) (hash : S → K → ℕ) (fixed : Fixed) (id : ℕ) (v : View K V S) where
   -- who may come to know one thing may come to know what that is of
   turns_to : (so other : View K V S → Type 0) → ((w : View K V S) → so w → other w) → Turns (Holds same hash fixed) KeepsFor id v so → Turns (Holds same hash fixed) KeepsFor id v other
   turns_to so other is may s h at = let g = may s h at in (g.0, g.1, g.2, g.3, is g.0 g.4)
 
-  pub may_begin : (t : ℕ) (map : Map S) (wanted : Wanted K V) → section_of v.under v.slot ≡ Some t → v.map ≡ Some map → is_incremental map.setting.mode ≡ true → v.work ≡ Nothing
+  pub may_begin : (t : ℕ) (map : Map S) (wanted : Wanted K V) → section_of v.under v.slot ≡ Some t → v.map ≡ Some map → MayWant same hash v.under map wanted → v.work ≡ Nothing
       → Turns (Holds same hash fixed) KeepsFor id v (Begins same hash wanted v)
-  may_begin t map wanted inside knows incremental free =
-      turns_to _ (Begins same hash wanted v) (λ w e. (map, t, knows, inside, e)) (calls_begin V same hash fixed id t v map wanted inside knows free incremental)
+  may_begin t map wanted inside knows only free =
+      turns_to _ (Begins same hash wanted v) (λ w e. (map, t, knows, inside, e)) (calls_begin V same hash fixed id t v map wanted inside knows free (only t))
 
   -- a table of eight places is one
   eight : max 0 8 ≤ 2 ^ 48 → IsTableLen (max 0 8)
@@ -91,7 +99,6 @@ module _ {K V S : Type 0} (same : K → K → Bool) (hash : S → K → ℕ) (ke
         map = map;
         call = call;
         knows = ap (λ (u : View K V S). u.map) begins.4 ∙ begins.2;
-        incremental = ap (λ (m : Map S). is_incremental m.setting.mode) (sym one) ∙ may.incremental;
         asked = refl;
         works = ap (λ (u : View K V S). u.work) begins.4 ∙ ap (λ (l : Lookup). Calls (Key (standing call (Looks l)))) (sym is);
         on = subst (λ (l : Lookup). IsOn l.stands) (sym is) tt;
@@ -118,7 +125,6 @@ module _ {K V S : Type 0} (same : K → K → Bool) (hash : S → K → ℕ) whe
         map = map;
         knows = ap (λ (u : View K V S). u.map) begins.4 ∙ begins.2;
         hashes = ap (λ (m : Map S). m.hasher) (sym one) ∙ may.hashes;
-        incremental = ap (λ (m : Map S). is_incremental m.setting.mode) (sym one) ∙ may.incremental;
         works = ap (λ (u : View K V S). u.work) begins.4 ∙ ap (λ (x : Machine K V K). Calls x) (sym its);
       }
 

@@ -18,7 +18,7 @@ use Rattle.threads_rule.proofs.CallKinds.Machines.{GoesAs, TellsOn, none_steady,
 module _ {K V S : Type 0} (hasher : S) where
   -- it is under way still, as another machine
   pub works_so : (machine next : Machine K V K) (v w : View K V S) → Works hasher machine v → StaysThere v w → w.work ≡ Calls next → Works hasher next w
-  works_so machine next v w is stays works = record { map = is.map; knows = stays.map ∙ is.knows; hashes = is.hashes; incremental = is.incremental; works = works }
+  works_so machine next v w is stays works = record { map = is.map; knows = stays.map ∙ is.knows; hashes = is.hashes; works = works }
 
   -- its next step may be taken
   pub may_call : (machine : Machine K V K) (v : View K V S) → IsCalling hasher machine v → MayStep hasher machine v

@@ -132,7 +132,6 @@ module _ {K V S : Type 0} (hasher : S) where
           map = is.at.map;
           knows = ap (λ (u : View K V S). u.map) view ∙ is.at.knows;
           hashes = is.at.hashes;
-          incremental = is.at.incremental;
           works = ap (λ (u : View K V S). u.work) view;
         };
     goes = next_so c is.ready.0 is.ready.1;
@@ -150,7 +149,6 @@ module _ {K V S : Type 0} (hasher : S) where
             map = is.at.map;
             knows = ap (λ (u : View K V S). u.map) view ∙ is.at.knows;
             hashes = is.at.hashes;
-            incremental = is.at.incremental;
             works = ap (λ (u : View K V S). u.work) view;
           };
       goes = subst (λ (s : Sweeping). IsFor Retains (sweep_with_reply s c told).0 × AsksNot (sweep_with_reply s c told).0.stands) (sym is.asks.1) goes;

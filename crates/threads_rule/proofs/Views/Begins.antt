@@ -2,7 +2,6 @@
 use Rattle.std.specs.Prelude.{◌++◌, List, [], ◌∷◌, Option, Some, None, if◌then◌else◌}
 use Rattle.std.specs.Option.{is_none}
 use Rattle.std.proofs.Common.{◌≡◌, ℕ, Bool, true, inl, refl, sym, subst, ap, ◌∙◌}
-use Rattle.map_tables.specs.Chunks.{is_incremental}
 use Rattle.map_tables.specs.declared.node.Node.{Node}
 use Rattle.map_tables.specs.declared.setting.Setting.{Setting}
 use Rattle.papaya_raw.specs.Machine.{machine_asked, machine_replied}
@@ -26,7 +25,7 @@ use Rattle.threads_rule.specs.Views.Begun.{machine_for, asked, calling, replied}
 use Rattle.threads_rule.specs.Views.Told.{begun_with, pair_in, untold}
 use Rattle.threads_rule.specs.Views.Promises.{CallsBegin, CallsAreAsked, CallsAreReplied}
 use Rattle.threads_rule.specs.Views.Listed.{Called, calls_of, plain, AreNumbered, IsNewest}
-use Rattle.threads_rule.specs.Views.Rule.{MapsWorld, HasRow, DoesSo, KnowsMap, KnowsPair, IsRun, AreRuns, Fits, Holds, KeepsFor, caller_at, pair_of, IsAside, acts_in, section_of}
+use Rattle.threads_rule.specs.Views.Rule.{MapsWorld, HasRow, DoesSo, KnowsMap, KnowsPair, LooksAside, IsRun, AreRuns, Fits, Holds, KeepsFor, caller_at, pair_of, IsAside, acts_in, section_of}
 use Rattle.threads_rule.specs.declared.view.Map.{Map}
 use Rattle.threads_rule.specs.declared.view.BegunCall.{BegunCall}
 use Rattle.threads_rule.specs.declared.view.View.{View}
@@ -35,8 +34,10 @@ use Rattle.threads_rule.specs.declared.view.SeatWork.TheVariants.{Nothing, Calls
 use Rattle.threads_rule.proofs.Views.Knows.{knows_within}
 use Rattle.threads_rule.proofs.Views.Leaves.{Leaves, leaves_all, own_section, section_place, section_inside, own_idle, map_on, call_here}
 use Rattle.threads_rule.proofs.Views.Listed.{is_its, is_other, numbered_on}
-use Rattle.threads_rule.proofs.Views.Moved.{scene_of, are_so, Moved, Adds, same_slot, moved}
+use Rattle.threads_rule.proofs.Views.Moved.{scene_of, all_stand, are_so, Moved, Adds, same_slot, moved}
 use Rattle.threads_rule.proofs.Views.Numbers.{slot_at}
+use Rattle.threads_rule.proofs.Views.Writers.{asked_writes, few_writers, looks_aside_on, replied_writes}
+use Rattle.many_acts.proofs.Given.CallersTogether.Few.{few_with_any}
 use Rattle.threads_rule.proofs.Views.Pairs.{begun_pair, told_pair}
 use Rattle.threads_rule.proofs.Views.UnderWay.{called_at, does as way_does, section_is as way_section, on_row as way_on}
 use Rattle.seize_words.proofs.General.{same_some}
@@ -119,15 +120,16 @@ module _ {K V S : Type 0} (same : K → K → Bool) (hash : S → K → ℕ) (fi
     leaves : Leaves same hash fixed.batch_size scene n i None
     leaves = leaves_all same hash fixed.batch_size scene map.number i (Some u)
 
-    go : (act : Act K V S) (runs : List (BegunCall K V)) → AreNumbered 0 (s.world.doings ++ Does act ∷ []) (are_so same hash fixed s h).fresh.0 → pair_of u ≡ pair_in runs
+    go : LooksAside v.under (Some map) (Calls machine) → (act : Act K V S) (runs : List (BegunCall K V)) → AreNumbered 0 (s.world.doings ++ Does act ∷ []) (are_so same hash fixed s h).fresh.0 → pair_of u ≡ pair_in runs
         → Moved same hash fixed s h id act s.memory (w runs) n
-    go act runs numbered pair = record {
+    go only act runs numbered pair = record {
       memory = (are_so same hash fixed s h).memory;
       own = record {
         slot = fits.slot;
         does = subst (λ (x : Option (Map S)). DoesSo same hash n i v.under v.slot x (Calls machine)) (sym knows) its_does;
         aside = fits.aside;
         map = map_on same hash scene n id place fits.slot fixed.batch_size None leaves v.map fits.map;
+        only = subst (λ (x : Option (Map S)). LooksAside v.under x (Calls machine)) (sym knows) only;
         held = tt;
         pair =
             subst (λ (x : Option (Map S)). KnowsPair same hash n i x (Calls machine) runs) (sym knows)
@@ -147,7 +149,8 @@ module _ {K V S : Type 0} (same : K → K → Bool) (hash : S → K → ℕ) (fi
     }
 
   -- it has nothing under way, and begins to do this
-  module _ (t : ℕ) (section : section_of v.under v.slot ≡ Some t) (free : v.work ≡ Nothing) (incremental : is_incremental map.setting.mode ≡ true) (wanted : Wanted K V) (plainly : plain wanted ≡ wanted) where
+  module _ (t : ℕ) (section : section_of v.under v.slot ≡ Some t) (free : v.work ≡ Nothing) (wanted : Wanted K V) (plainly : plain wanted ≡ wanted)
+      (only : LooksAside v.under (Some map) (Calls (machine_for same hash map t wanted))) where
     does : HasRow scene i v.slot
     does = subst (λ (x : SeatWork K V S). DoesSo same hash scene i v.under v.slot v.map x) free fits.does
 
@@ -164,11 +167,10 @@ module _ {K V S : Type 0} (same : K → K → Bool) (hash : S → K → ℕ) (fi
     its_slot : slot_of i ≡ t
     its_slot = slot_at id place fits.slot ∙ place_is
 
-    few : AreFewWith scene i map.number
-    few standing stands not =
-        let same_it = same_some it.0 standing (sym it.1 ∙ stands) in
-        let setting : map.setting ≡ standing.setting = sym it.2 ∙ ap (λ (x : Standing K). x.setting) same_it in
-        let mode : is_incremental standing.setting.mode ≡ true = ap (λ (x : Setting). is_incremental x.mode) (sym setting) ∙ incremental in absurd (cc (not, mode))
+    few : AreFewWith same hash fixed.batch_size fixed.roots slot_of scene i map.number wanted
+    few standing stands blocking =
+        few_with_any (scene.calls map.number) i (begun same slot_of standing i wanted)
+        (few_writers same hash s scene (are_so same hash fixed s h) (all_stand same hash fixed s h).makings.standing.once map.number standing stands blocking i)
 
     may : MayDo V same hash fixed.batch_size fixed.roots slot_of (Does (BeginsCall i map.number wanted)) h.reached.0
     may = (
@@ -230,9 +232,15 @@ module _ {K V S : Type 0} (same : K → K → Bool) (hash : S → K → ℕ) (fi
     begins =
         let fresh = (are_so same hash fixed s h).fresh in
         moved same hash fixed s h id v at_id (BeginsCall i map.number wanted) may to led.3 s.memory (calling v machine)
-        (go t section (begun same slot_of led.0 i wanted) machine machine_is on_row (BeginsCall i map.number wanted) (run ∷ v.calls)
+        (go t section (begun same slot_of led.0 i wanted) machine machine_is on_row only (BeginsCall i map.number wanted) (run ∷ v.calls)
         (numbered_on s.world.doings (Does (BeginsCall i map.number wanted) ∷ []) 0 fresh.0 fresh.0 fresh.2 refl) (begun_pair same slot_of led.0 i wanted ∙ ap begun_with machine_is))
         adds (λ x. x ≡ calling v machine) refl
+
+  -- what it has under way it has so, if it leans on another seat
+  only_so : (machine : Machine K V K) → v.work ≡ Calls machine → LooksAside v.under (Some map) (Calls machine)
+  only_so machine works =
+      subst (λ (x : SeatWork K V S). LooksAside v.under (Some map) x) works
+      (subst (λ (x : Option (Map S)). LooksAside v.under x v.work) knows fits.only)
 
   -- its call is told this
   module _ (machine : Machine K V K) (works : v.work ≡ Calls machine) (reply : MachineReply V) where
@@ -264,7 +272,8 @@ module _ {K V S : Type 0} (same : K → K → Bool) (hash : S → K → ℕ) (fi
         let fresh = (are_so same hash fixed s h).fresh in
         moved same hash fixed s h id v at_id (TellsCall i map.number reply) told_may (n place is told_led.3 (machine_replied machine reply).0 reply_is on) told_led.8 s.memory
         (replied v machine reply)
-        (go place is told_led.3 (machine_replied machine reply).0 reply_is on (TellsCall i map.number reply) v.calls
+        (go place is told_led.3 (machine_replied machine reply).0 reply_is on
+        (looks_aside_on v.under (Some map) machine (machine_replied machine reply).0 (replied_writes machine reply) (only_so machine works)) (TellsCall i map.number reply) v.calls
         (numbered_on s.world.doings (Does (TellsCall i map.number reply) ∷ []) 0 fresh.0 fresh.0 fresh.2 refl) its_pair)
         (record { own = ((λ m k. 0), tt); others = λ j ne theirs. refl; its = λ are. are; newest = λ other on. h.newest id v machine at_id works; aside = λ j ne theirs. refl; seen = λ before b x none. absurd (cc none) }) (λ x. x ≡ replied v machine reply) refl
 
@@ -296,15 +305,17 @@ module _ {K V S : Type 0} (same : K → K → Bool) (hash : S → K → ℕ) (fi
         let on = way_on same hash fixed s h id v at_id map machine knows works in
         let fresh = (are_so same hash fixed s h).fresh in
         moved same hash fixed s h id v at_id (AsksCall i map.number) asked_may (n place is (asked_on asked_led.0) (machine_asked machine).0 asked_is on) asked_led.3 s.memory (asked v machine)
-        (go place is (asked_on asked_led.0) (machine_asked machine).0 asked_is on (AsksCall i map.number) v.calls
+        (go place is (asked_on asked_led.0) (machine_asked machine).0 asked_is on
+        (looks_aside_on v.under (Some map) machine (machine_asked machine).0 (asked_writes machine) (only_so machine works)) (AsksCall i map.number) v.calls
         (numbered_on s.world.doings (Does (AsksCall i map.number) ∷ []) 0 fresh.0 fresh.0 fresh.2 refl) asked_pair)
         (record { own = ((λ m k. 0), tt); others = λ j ne theirs. refl; its = λ are. are; newest = λ other on. h.newest id v machine at_id works; aside = λ j ne theirs. refl; seen = λ before b x none. absurd (cc none) }) (λ x. x ≡ asked v machine) refl
 
 module _ {K S : Type 0} (V : Type 0) (same : K → K → Bool) (hash : S → K → ℕ) where
   pub calls_begin : CallsBegin V same hash
-  calls_begin fixed id t v map wanted section knows free incremental s h at_id =
+  calls_begin fixed id t v map wanted section knows free only s h at_id =
       subst (λ (machine : Machine K V K). Goes (Holds same hash fixed) KeepsFor s s.memory id (λ x. x ≡ calling v machine)) (begins_plainly same hash map t wanted)
-      (begins same hash fixed s h id v at_id map knows t section free incremental (plain wanted) (plain_already wanted))
+      (begins same hash fixed s h id v at_id map knows t section free (plain wanted) (plain_already wanted)
+      (subst (λ (machine : Machine K V K). LooksAside v.under (Some map) (Calls machine)) (sym (begins_plainly same hash map t wanted)) only))
 
   pub calls_are_told : CallsAreReplied V same hash
   calls_are_told fixed id v map machine reply knows works s h at_id = tells same hash fixed s h id v at_id map knows machine works reply

@@ -10,7 +10,7 @@ use Rattle.seize_views.proofs.Views.Lists.{there, elsewhere}
 use Rattle.threads_rule.specs.Views.Begun.{shown_map}
 use Rattle.threads_rule.specs.Views.Looks.{shown_in}
 use Rattle.threads_rule.specs.Views.Promises.{MapsAreHandedOn}
-use Rattle.threads_rule.specs.Views.Rule.{MapsWorld, DoesSo, KnowsMap, KnowsPair, Fits, Holds, caller_at, acts_in}
+use Rattle.threads_rule.specs.Views.Rule.{MapsWorld, DoesSo, LooksAside, KnowsMap, KnowsPair, Fits, Holds, caller_at, acts_in}
 use Rattle.threads_rule.specs.declared.view.Map.{Map}
 use Rattle.threads_rule.specs.declared.view.View.{View}
 use Rattle.threads_rule.specs.declared.view.SeatWork.{SeatWork}
@@ -40,6 +40,7 @@ module _ {K V S : Type 0} (same : K → K → Bool) (hash : S → K → ℕ) (fi
             (subst (λ (x : SeatWork K V S). DoesSo same hash scene (caller_at j (acts_in u.under u.slot)) u.under u.slot u.map x) free f.does);
         aside = f.aside;
         map = subst (λ (x : Option (Map S)). KnowsMap same hash scene x) knows (h.so.seats i v at_i).map;
+        only = subst (λ (x : SeatWork K V S). LooksAside u.under (Some map) x) (sym free) tt;
         held = f.held;
         pair = subst (λ (x : SeatWork K V S). KnowsPair same hash scene (caller_at j (acts_in u.under u.slot)) (Some map) x u.calls) (sym free) tt;
         idle = f.idle;

@@ -15,7 +15,7 @@ use Rattle.seize_views.proofs.Views.Lists.{there, elsewhere}
 use Rattle.threads_rule.specs.Views.Begun.{leaning}
 use Rattle.threads_rule.specs.Views.Looks.{shown_in}
 use Rattle.threads_rule.specs.Views.Promises.{LeaningsBegin, LeaningsEnd}
-use Rattle.threads_rule.specs.Views.Rule.{MapsWorld, HasRow, DoesSo, KnowsPair, IsIdle, IsSlot, IsLeant, IsAside, Fits, Holds, KeepsFor, caller_at, acts_in}
+use Rattle.threads_rule.specs.Views.Rule.{MapsWorld, HasRow, DoesSo, LooksAside, KnowsPair, IsIdle, IsSlot, IsLeant, IsAside, Fits, Holds, KeepsFor, caller_at, acts_in}
 use Rattle.threads_rule.specs.declared.view.View.{View}
 use Rattle.threads_rule.specs.declared.view.SeatWork.{SeatWork}
 use Rattle.threads_rule.specs.declared.view.SeatWork.TheVariants.{Nothing}
@@ -67,6 +67,7 @@ module _ {K V S : Type 0} (same : K → K → Bool) (hash : S → K → ℕ) (fi
           does = subst (λ (x : SeatWork K V S). DoesSo same hash scene (caller_at id (acts_in under v.slot)) under v.slot v.map x) (sym free) row;
           aside = aside under;
           map = f.map;
+          only = subst (λ (x : SeatWork K V S). LooksAside under v.map x) (sym free) tt;
           held = tt;
           pair = subst (λ (x : SeatWork K V S). KnowsPair same hash scene (caller_at id (acts_in under v.slot)) v.map x v.calls) (sym free) tt;
           idle = λ t is ne. idle t is;

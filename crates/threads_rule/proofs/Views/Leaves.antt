@@ -240,6 +240,7 @@ module _ {K V S : Type 0} (same : K → K → Bool) (hash : S → K → ℕ) whe
       does = does_on (caller_at j (acts_in v.under v.slot)) (λ e. ne (seat_apart j id (acts_in v.under v.slot) t f.slot its_slot e)) v.under v.slot apart within v.map v.work f.does;
       aside = f.aside;
       map = map_on v.map f.map;
+      only = f.only;
       held =
           held_on (caller_at j (acts_in v.under v.slot)) (λ e. ne (seat_apart j id (acts_in v.under v.slot) t f.slot its_slot e)) v.under v.slot within inside v.work lasts v.held f.held;
       pair = pair_on (caller_at j (acts_in v.under v.slot)) (λ e. ne (seat_apart j id (acts_in v.under v.slot) t f.slot its_slot e)) v.map v.work v.calls f.pair;

@@ -145,6 +145,7 @@ module _ {K V S : Type 0} (same : K → K → Bool) (hash : S → K → ℕ) (fi
         aside = fits.aside;
         does = (rests, record { making = b; here = at_same scene.makers i (Some b) i refl; map = refl; hashes = refl; is = refl; calls = has_row.calls }, has_row.row);
         map = map_on same hash scene n id place fits.slot fixed.batch_size None leaves v.map fits.map;
+        only = tt;
         held = tt;
         pair = tt;
         idle = own_idle same hash scene n id place fits.slot fixed.batch_size None leaves fits.idle;
@@ -348,6 +349,7 @@ module _ {K V S : Type 0} (same : K → K → Bool) (hash : S → K → ℕ) (fi
             aside = fits.aside;
             does = (does.0, record { making = next; here = at_same scene.makers i (Some next) i refl; map = its_map; hashes = its_hash; is = refl; calls = does.1.calls }, rows i ∙ does.2);
             map = map_still scene.maps (Some next) stand_on so.fresh.1.0 (λ e one. ap (λ (x : Beginning K). x.map) (sym (same_some next e one)));
+            only = tt;
             held = tt;
             pair = tt;
             idle = its_idle scene.maps (Some next) stand_on so.fresh.1.0 (λ e one. ap (λ (x : Beginning K). x.map) (sym (same_some next e one)));
@@ -361,6 +363,7 @@ module _ {K V S : Type 0} (same : K → K → Bool) (hash : S → K → ℕ) (fi
             aside = fits.aside;
             does = over scene.maps None stand_on so.fresh.1.0 (λ e one. absurd (cc one)) refl;
             map = map_still scene.maps None stand_on so.fresh.1.0 (λ e one. absurd (cc one));
+            only = tt;
             held = tt;
             pair = tt;
             idle = its_idle scene.maps None stand_on so.fresh.1.0 (λ e one. absurd (cc one));
@@ -374,6 +377,7 @@ module _ {K V S : Type 0} (same : K → K → Bool) (hash : S → K → ℕ) (fi
             aside = fits.aside;
             does = over (with_at scene.maps d.map (Some it)) None (λ a r here. stand_more it a r here (cases_eq a d.map)) (none_more it) (λ e one. absurd (cc one)) refl;
             map = (it, ap (with_at scene.maps d.map (Some it)) (sym its_map) ∙ at_same scene.maps d.map (Some it) d.map refl, is_made.setting_is, is_made.hash_is ∙ its_hash);
+            only = tt;
             held = tt;
             pair = tt;
             idle = its_idle (with_at scene.maps d.map (Some it)) None (λ a r here. stand_more it a r here (cases_eq a d.map)) (none_more it) (λ e one. absurd (cc one));

@@ -173,6 +173,7 @@ module _ {K V S : Type 0} (same : K → K → Bool) (hash : S → K → ℕ) (fi
             does = does (goes_on (cases_eq there place));
             aside = tt;
             map = map_on same hash scene next id place its_place fixed.batch_size (use_of v.slot) leaves v.map fits.map;
+            only = tt;
             held = tt;
             pair = tt;
             idle = λ a is other. idle (goes_on (cases_eq there place)) a is other (cases_eq a place);

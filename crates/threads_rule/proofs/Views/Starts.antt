@@ -61,6 +61,7 @@ module _ {K S : Type 0} (V : Type 0) (same : K → K → Bool) (hash : S → K �
         aside = tt;
         does = record { row = first.row; slot = tt; calls = first.calls; makers = first.makers; enders = first.enders };
         map = tt;
+        only = tt;
         held = tt;
         pair = tt;
         idle = λ t is ne. idle t is;

@@ -7,11 +7,9 @@ use Rattle.seize_words.specs.OneMemory.Plan.{Plan, Steps, May}
 use Rattle.seize_words.specs.OneMemory.Word.{block_in}
 use Rattle.seize.specs.Law.{holds, is_somewhere}
 use Rattle.seize.specs.World.{IsInside, InUse}
-use Rattle.map_tables.specs.Chunks.{is_incremental}
 use Rattle.map_tables.specs.Nodes.{deferred_word}
 use Rattle.map_tables.specs.declared.node.Node.{Node}
 use Rattle.map_tables.specs.declared.node.Node.TheVariants.{Pair}
-use Rattle.map_tables.specs.declared.setting.Setting.{Setting}
 use Rattle.map_machines.specs.declared.copier.Copying.{Copying}
 use Rattle.map_machines.specs.declared.copier.Copying.TheVariants as copies
 use Rattle.map_machines.specs.declared.dispose.Disposing.{Disposing}
@@ -51,7 +49,7 @@ use Rattle.seize_model.proofs.Alone.Histories.Reached.{Reached}
 use Rattle.seize_seats.specs.Seats.State.{State, view_of, Goes}
 use Rattle.seize_views.specs.declared.view.Fixed.{Fixed}
 use Rattle.threads_rule.specs.Views.Listed.{Called, calls_of, calls_then, has_progressed, IsNewest}
-use Rattle.threads_rule.specs.Views.Rule.{MapsWorld, DoesSo, KnowsMap, KnowsPair, AreRuns, Fits, AreSo, Holds, KeepsFor, caller_at, acts_in, section_of, IsInSection, IsOfCall, AllHeld}
+use Rattle.threads_rule.specs.Views.Rule.{MapsWorld, DoesSo, KnowsMap, KnowsPair, LooksAside, Writes, AreRuns, Fits, AreSo, Holds, KeepsFor, caller_at, acts_in, section_of, IsInSection, IsOfCall, AllHeld}
 use Rattle.threads_rule.specs.Views.Reclaims.{IsNextOf, copies_at_row, disposes_at_row, calls_at_row, reserves_at_row, sweeps_at_row, is_at_row}
 use Rattle.threads_rule.specs.Views.Told.{HandsBack, call_after, called, newest_progress}
 use Rattle.threads_rule.specs.declared.view.Map.{Map}
@@ -74,6 +72,7 @@ use Rattle.threads_rule.proofs.Views.RowLooks.{row_sees}
 use Rattle.threads_rule.proofs.Views.Numbers.{slot_at}
 use Rattle.threads_rule.proofs.Views.Pairs.{newest_pair, step_hands, step_pair}
 use Rattle.threads_rule.proofs.Views.Quiet.{none_over}
+use Rattle.threads_rule.proofs.Views.Writers.{looks_aside_on, step_writes}
 use Rattle.seize_words.proofs.General.{same_some}
 
 -- a pair is known by what it is
@@ -173,15 +172,15 @@ module _ {K V S : Type 0} (same : K → K → Bool) (hash : S → K → ℕ) (fi
   none_at (OverAll o) is row = sweeps_none o.sweep.stands is row
 
   -- what a step has seen the section of its slot holds, or its call has it, and goes on
-  seen_lasts : is_incremental map.setting.mode ≡ true → (m2 : Mem (Node K V)) (next : Machine K V K) (told : Progress (Node K V)) (b : ℕ)
+  seen_lasts : (m2 : Mem (Node K V)) (next : Machine K V K) (told : Progress (Node K V)) (b : ℕ)
       → HasSeen b scene.world.memory step_plan m2 (next, told) → (holds place b scene.world.log ≡ true) ⊎ ((IsOwnOf next b ⊎ IsNextOf next b) × Continues told)
-  seen_lasts incremental m2 next told b saw = by (is_at_row {K = K} {V = V} machine) refl
+  seen_lasts m2 next told b saw = by (is_at_row {K = K} {V = V} machine) refl
     where
       by : (x : Bool) → is_at_row {K = K} {V = V} machine ≡ x → (holds place b scene.world.log ≡ true) ⊎ ((IsOwnOf next b ⊎ IsNextOf next b) × Continues told)
       by true row = let r = row_sees b scene.world.memory m2 same (hash map.hasher) machine row next told saw in inr (inr r.0, r.1)
       by false none =
           elim (steps_see V same same fixed.batch_size fixed.roots slot_of scene.world scene.maps scene.calls scene.makers scene.enders all map.number it.0 it.1
-          (ap (λ (x : Setting). is_incremental x.mode) it.2 ∙ incremental) i does.3.call does.3.here
+          i does.3.call does.3.here
           (none_at does.3.call (ap is_at_row does.3.is ∙ none)) m2 next told b
           (plan_was (λ (f : K → ℕ) (x : Machine K V K). HasSeen b scene.world.memory (machine_plan same same f x) m2 (next, told)) saw))
           as (λ _. (holds place b scene.world.log ≡ true) ⊎ ((IsOwnOf next b ⊎ IsNextOf next b) × Continues told)) [
@@ -329,10 +328,10 @@ module _ {K V S : Type 0} (same : K → K → Bool) (hash : S → K → ℕ) (fi
       of_on next (progress.Refused fault) b of on = absurd on
       of_on next _ b of on = of
 
-      looked_held : is_incremental map.setting.mode ≡ true → (more : List (ℕ × Node K V)) → AllKnown IsHeldThen scene.world.memory step_plan m2 (came.machine, came.progress) more
+      looked_held : (more : List (ℕ × Node K V)) → AllKnown IsHeldThen scene.world.memory step_plan m2 (came.machine, came.progress) more
           → AllHeld same hash n v.under v.slot (call_after came.machine came.progress) more
-      looked_held incremental [] each = tt
-      looked_held incremental (look ∷ more) each = ((there, by each.0), looked_held incremental more each.2)
+      looked_held [] each = tt
+      looked_held (look ∷ more) each = ((there, by each.0), looked_held more each.2)
         where
           there : value_at n.world.memory look.0 ≡ Some look.1
           there = ap (λ (x : Mem (Node K V)). value_at x look.0) (came.did.memory ∙ sym memory_is) ∙ each.1
@@ -344,13 +343,24 @@ module _ {K V S : Type 0} (same : K → K → Bool) (hash : S → K → ℕ) (fi
 
           by : HasSeen look.0 scene.world.memory step_plan m2 (came.machine, came.progress) ⊎ IsHeldThen look.0
               → IsInSection same hash n v.under v.slot look.0 ⊎ IsOfCall same hash (call_after {S = S} came.machine came.progress) look.0
-          by (inl saw) = why (seen_lasts incremental m2 came.machine came.progress look.0 saw)
+          by (inl saw) = why (seen_lasts m2 came.machine came.progress look.0 saw)
           by (inr then_held) = inl (place, section_is, then_held, none_over n.world.log (λ o. leaves.ended o ∙ so.unended o) look.0)
 
-      held_then : (a : Bool) → is_incremental map.setting.mode ≡ a → AllHeld same hash n v.under v.slot (call_after came.machine came.progress) (if a then looks else [])
-      held_then true incremental =
-          looked_held incremental looks (subst (λ (e : Machine K V K × Progress (Node K V)). AllKnown IsHeldThen scene.world.memory step_plan m2 e looks) end_is seen)
-      held_then false incremental = tt
+      held_then : AllHeld same hash n v.under v.slot (call_after came.machine came.progress) looks
+      held_then =
+          looked_held looks (subst (λ (e : Machine K V K × Progress (Node K V)). AllKnown IsHeldThen scene.world.memory step_plan m2 e looks) end_is seen)
+
+      -- it looks on, if it leans on another seat
+      only_then : (told : Progress (Node K V)) → (Continues told → Writes came.machine → Writes machine) → LooksAside v.under (Some map) (call_after came.machine told)
+      only_then (progress.Done answer) before = tt
+      only_then (progress.Refused fault) before = tt
+      only_then _ before =
+          looks_aside_on v.under (Some map) machine came.machine (before tt)
+          (subst (λ (x : SeatWork K V S). LooksAside v.under (Some map) x) works
+          (subst (λ (x : Option (Map S)). LooksAside v.under x v.work) knows fits.only))
+
+      its_steps : Steps Took value_at scene.world.memory step_plan m2 (came.machine, came.progress)
+      its_steps = subst (λ (e : Machine K V K × Progress (Node K V)). Steps Took value_at scene.world.memory step_plan m2 e) end_is steps
 
       -- the call that goes on was begun with the pair that it was begun with
       pair_then : (told : Progress (Node K V)) → KnowsPair same hash n i (Some map) (call_after came.machine told) (newest_progress came.progress v.calls)
@@ -369,7 +379,9 @@ module _ {K V S : Type 0} (same : K → K → Bool) (hash : S → K → ℕ) (fi
             came.did v.under v.slot fits.aside section_is map refl came.progress came.did.goes_on);
         aside = fits.aside;
         map = map_on same hash scene n id place fits.slot fixed.batch_size None leaves v.map fits.map;
-        held = held_then (is_incremental map.setting.mode) refl;
+        only = subst (λ (x : Option (Map S)). LooksAside v.under x (call_after came.machine came.progress)) (sym knows)
+            (only_then came.progress (step_writes same (hash map.hasher) scene.world.memory m2 came.machine came.progress machine its_steps));
+        held = held_then;
         pair = subst (λ (x : Option (Map S)). KnowsPair same hash n i x (call_after came.machine came.progress) (newest_progress came.progress v.calls)) (sym knows) (pair_then came.progress);
         idle = own_idle same hash scene n id place fits.slot fixed.batch_size None leaves fits.idle;
       }

@@ -1,7 +1,6 @@
 -- What a seat knows while a call is under way, step by step, and once it has ended.
 use Rattle.std.specs.Prelude.{◌≡◌, ◌<◌, ◌^◌, ℕ, Bool, true, false, Option, Some, None, IsSome, Result, Ok, Err}
 use Rattle.seize_words.specs.declared.fault.Fault.{Fault}
-use Rattle.map_tables.specs.Chunks.{is_incremental}
 use Rattle.map_tables.specs.declared.node.Node.{Node}
 use Rattle.map_tables.specs.declared.node.Node.TheVariants.{Pair}
 use Rattle.papaya_raw.specs.declared.machines.answer.There.{There}
@@ -27,7 +26,7 @@ use Rattle.papaya_raw.specs.declared.machines.progress.Progress.TheVariants as p
 use Rattle.many_acts.specs.Acts.Acts.{Wanted, Get, Remove, Insert, TryToInsert, Compute, Update, TryToInsertWith, RemoveIf, MakeRoom, Count, GoOver}
 use Rattle.threads_rule.specs.Views.Begun.{machine_for}
 use Rattle.threads_rule.specs.Views.Looks.{shown_in}
-use Rattle.threads_rule.specs.Views.Rule.{section_of}
+use Rattle.threads_rule.specs.Views.Rule.{MayWant, section_of}
 use Rattle.threads_rule.specs.Views.Told.{HandsBack, MayCome, call_after}
 use Rattle.threads_rule.specs.declared.view.Map.{Map}
 use Rattle.threads_rule.specs.declared.view.View.{View}
@@ -190,12 +189,11 @@ handed_by (progress.Unstored value) before = Some value
 handed_by told before = before
 
 module _ {K V S : Type 0} where
-  -- this call is under way on the map that it knows, which is in incremental mode, and has this hasher
+  -- this call is under way on the map that it knows, which has this hasher
   pub record Works (hasher : S) (machine : Machine K V K) (v : View K V S) : Type 0 where
     pub map : Map S
     pub knows : v.map ≡ Some map
     pub hashes : map.hasher ≡ hasher
-    pub incremental : is_incremental map.setting.mode ≡ true
     pub works : v.work ≡ Calls machine
 
   -- it is of this kind, has come so far, and goes on,
@@ -252,14 +250,14 @@ module _ {K V S : Type 0} where
     pub hands : HandsBack v.calls told
     pub shows : ToldAreVisible machine told (shown_in w.held)
 
-  -- Within a section, its own or that of the seat that it leans on, with nothing else under way, it may begin this call, in the map that it knows, which is in incremental mode.
+  -- Within a section, its own or that of the seat that it leans on, with nothing else under way, it may begin this call, in the map that it knows.
   pub record MayDo (same : K → K → Bool) (hash : S → K → ℕ) (hasher : S) (machine : Machine K V K) (v : View K V S) : Type 0 where
     pub slot : ℕ
     pub map : Map S
     pub inside : section_of v.under v.slot ≡ Some slot
     pub knows : v.map ≡ Some map
     pub hashes : map.hasher ≡ hasher
-    pub incremental : is_incremental map.setting.mode ≡ true
+    pub only : MayWant same hash v.under map (wanted_of machine)
     pub free : v.work ≡ Nothing
     pub begins : machine ≡ machine_for same hash map slot (wanted_of machine)
 

@@ -3,7 +3,6 @@ use Rattle.std.specs.Prelude.{◌≡◌, ℕ, Bool, true, ◌∷◌, Some, None,
 use Rattle.seize_words.specs.OneMemory.Word.{block_in}
 use Rattle.seize.specs.declared.advance.Advance.{Advance as Told}
 use Rattle.seize.specs.declared.advance.Advance.TheVariants as told_as
-use Rattle.map_tables.specs.Chunks.{is_incremental}
 use Rattle.map_tables.specs.declared.node.Node.{Node}
 use Rattle.map_tables.specs.declared.node.Node.TheVariants.{Pair}
 use Rattle.map_machines.specs.Lookup.{looking}
@@ -58,12 +57,11 @@ module _ {K V S : Type 0} where
   abbrev pub Begins : (K → K → Bool) → (S → K → ℕ) → Wanted K V → View K V S → View K V S → Type 0
   Begins same hash wanted v w = (map : Map S) × (t : ℕ) × (v.map ≡ Some map) × (section_of v.under v.slot ≡ Some t) × (w ≡ calling v (machine_for same hash map t wanted))
 
-  -- its call looks for this key in the map that it knows, which is in incremental mode, and stands at this lookup, which has not ended
+  -- its call looks for this key in the map that it knows, and stands at this lookup, which has not ended
   pub record LooksFor (key : K) (lookup : Lookup) (v : View K V S) : Type 0 where
     pub map : Map S
     pub call : KeyCall K V K
     pub knows : v.map ≡ Some map
-    pub incremental : is_incremental map.setting.mode ≡ true
     pub asked : call.asked ≡ Some key
     pub works : v.work ≡ Calls (Key (standing call (Looks lookup)))
     pub on : IsOn lookup.stands
@@ -94,13 +92,12 @@ module _ {K V S : Type 0} where
   HasRun same hash wanted told v w =
       (map : Map S) × (t : ℕ) × (v.map ≡ Some map) × (section_of v.under v.slot ≡ Some t) × (w.calls ≡ record { began = machine_for same hash map t wanted; told = told } ∷ v.calls)
 
-  -- within its section, with nothing else under way, it may look for the key by this lookup, in the map that it knows, which is in incremental mode
+  -- within its section, with nothing else under way, it may look for the key by this lookup, in the map that it knows
   pub record MayLook (hash : S → K → ℕ) (key : K) (lookup : Lookup) (v : View K V S) : Type 0 where
     pub slot : ℕ
     pub map : Map S
     pub inside : section_of v.under v.slot ≡ Some slot
     pub knows : v.map ≡ Some map
-    pub incremental : is_incremental map.setting.mode ≡ true
     pub free : v.work ≡ Nothing
     pub begins : lookup ≡ looking map.setting.root map.setting.mode (hash map.hasher key)
 

@@ -1,9 +1,8 @@
 -- What is promised of the rule of maps.
-use Rattle.std.specs.Prelude.{◌≡◌, ℕ, Bool, true, Some, ◌+◌, ◌<◌, ◌≤◌, ◌^◌, max, None}
+use Rattle.std.specs.Prelude.{◌≡◌, ℕ, Bool, Some, ◌+◌, ◌<◌, ◌≤◌, ◌^◌, max, None}
 use Rattle.seize_words.specs.OneMemory.Op.{Op}
 use Rattle.seize_words.specs.OneMemory.Plan.{Then, Turn}
 use Rattle.std.specs.Int.{IsPowerOfTwo}
-use Rattle.map_tables.specs.Chunks.{is_incremental}
 use Rattle.map_tables.specs.Lengths.{IsTableLen}
 use Rattle.map_tables.specs.declared.node.Node.{Node}
 use Rattle.map_tables.specs.declared.setting.Setting.{Setting}
@@ -31,7 +30,7 @@ use Rattle.seize_views.specs.declared.view.Why.{Why}
 use Rattle.seize_views.specs.declared.view.Why.TheVariants.{Retiring}
 use Rattle.threads_rule.specs.Views.Begun.{machine_for, asked, calling, replied, shown_map, leaning, making, with_slot}
 use Rattle.threads_rule.specs.Views.Looks.{shown_in}
-use Rattle.threads_rule.specs.Views.Rule.{Holds, KeepsFor, Leans, section_of, at_rest}
+use Rattle.threads_rule.specs.Views.Rule.{Holds, KeepsFor, Leans, LooksAside, section_of, at_rest}
 use Rattle.threads_rule.specs.Views.Told.{told, turned}
 use Rattle.threads_rule.specs.declared.view.Map.{Map}
 use Rattle.threads_rule.specs.declared.view.View.{View}
@@ -66,11 +65,12 @@ module _ {K S : Type 0} (V : Type 0) (same : K → K → Bool) (hash : S → K �
       (fixed : Fixed) (id b : ℕ) (v : View K V S) (x : Node K V) → shown_in v.held b ≡ Some x
       → VisibleTo (Holds same hash fixed) id v b × ((y : Node K V) → IsValueOf (Holds same hash fixed) id v b y → y ≡ x)
 
-  -- Within its section, or that of a seat that it leans on, a seat that knows a map in incremental mode, and has nothing under way, may begin to do anything with it.
+  -- Within its section a seat that knows a map, and has nothing under way, may begin to do anything with it; and so may one within the section of a seat that it
+  -- leans on, but that it only looks keys up where the map is in blocking mode.
   abbrev pub CallsBegin : Type 0
   CallsBegin =
       (fixed : Fixed) (id t : ℕ) (v : View K V S) (map : Map S) (wanted : Wanted K V) → section_of v.under v.slot ≡ Some t → v.map ≡ Some map → v.work ≡ Nothing
-      → is_incremental map.setting.mode ≡ true → Turns (Holds same hash fixed) KeepsFor id v (λ w. w ≡ calling v (machine_for same hash map t wanted))
+      → LooksAside v.under (Some map) (Calls (machine_for same hash map t wanted)) → Turns (Holds same hash fixed) KeepsFor id v (λ w. w ≡ calling v (machine_for same hash map t wanted))
 
   -- what it has under way may be told anything
   abbrev pub CallsAreReplied : Type 0

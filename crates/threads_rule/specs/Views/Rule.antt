@@ -5,10 +5,13 @@ use Rattle.std.specs.List.{AllByRecursion}
 use Rattle.seize_words.specs.OneMemory.Mem.{Mem, value_at}
 use Rattle.seize.specs.Law.{holds, is_over}
 use Rattle.seize.specs.World.{World, Use, Rests, IsInside}
+use Rattle.map_tables.specs.Chunks.{is_incremental}
 use Rattle.map_tables.specs.Nodes.{deferred_word}
 use Rattle.map_tables.specs.declared.node.Node.{Node}
 use Rattle.map_machines.specs.declared.new_map.NewMap.{NewMap}
 use Rattle.papaya_raw.specs.declared.machines.machine.Machine.{Machine}
+use Rattle.papaya_raw.specs.declared.machines.machine.Machine.TheVariants as kinds
+use Rattle.many_acts.specs.Given.CallersClaims.{IsNoLookup}
 use Rattle.many_acts.specs.Given.CallersRows.{IsUsedAlike, IsRowOn}
 use Rattle.many_acts.specs.Given.CallersPairs.{Given, Begun, IsTold}
 use Rattle.many_acts.specs.Given.CallersTogether.{UnderWay, OnKey}
@@ -18,6 +21,7 @@ use Rattle.many_acts.specs.Given.FinishesMaps.{Standing}
 use Rattle.many_acts.specs.Given.ScenesScene.{Scene, slot_of}
 use Rattle.many_acts.specs.Given.ScenesDeclared.callers.TheConstants.{SLOTS}
 use Rattle.many_acts.specs.Looks.Sees.{IsOwnOf}
+use Rattle.many_acts.specs.Acts.Acts.{Wanted}
 use Rattle.many_acts.specs.Acts.Doings.{Doing, reclaiming}
 use Rattle.many_acts.specs.Acts.Lists.{Course, Reached, LedTo, nothing_done}
 use Rattle.seize_acts.specs.Acts.Stays.{how_many, is_end_of_owner}
@@ -113,6 +117,13 @@ module _ {K V : Type 0} where
     pub enders : s.enders i ≡ None
     pub row : s.world.row i ≡ Rests
 
+  -- the machine is that of a call that may write: of neither a lookup nor a counting
+  abbrev pub Writes : Machine K V K → Type 0
+  Writes (kinds.Key call) = IsNoLookup call.stands
+  Writes (kinds.Reserve reserve) = Unit {0}
+  Writes (kinds.Count sum) = ⊥
+  Writes (kinds.Sweep sweep) = Unit {0}
+
   -- it has nothing under way but this call
   pub record HasCall (s : Scene K V) (i m : ℕ) (machine : Machine K V K) : Type 0 where
     pub call : UnderWay K V K
@@ -162,7 +173,20 @@ module _ {K V : Type 0} where
     pub known : IsKnown deferred_word s.world v
     pub bounded : IsBounded deferred_word fixed s.world (caller_at j (place_of v)) v
 
+module _ {K V S : Type 0} where
+  -- Who leans on another seat has no call under way that may write, on a map in blocking mode.
+  abbrev pub LooksAside : Option (ℕ × ℕ) → Option (Map S) → SeatWork K V S → Type 0
+  LooksAside under map Nothing = Unit {0}
+  LooksAside under map (Makes m hasher opening) = Unit {0}
+  LooksAside None map (Calls machine) = Unit {0}
+  LooksAside (Some leant) None (Calls machine) = Unit {0}
+  LooksAside (Some leant) (Some map) (Calls machine) = is_incremental map.setting.mode ≡ false → Writes machine → ⊥
+
 module _ {K V S : Type 0} (same : K → K → Bool) (hash : S → K → ℕ) where
+  -- So it may begin to do this with the map, whichever slot it acts in.
+  abbrev pub MayWant : Option (ℕ × ℕ) → Map S → Wanted K V → Type 0
+  MayWant under map wanted = (t : ℕ) → LooksAside under (Some map) (Calls (machine_for same hash map t wanted))
+
   -- what it has under way, as this caller
   abbrev pub DoesSo : Scene K V → ℕ → Option (ℕ × ℕ) → SlotView (Node K V) → Option (Map S) → SeatWork K V S → Type 0
   DoesSo s i under slot map Nothing = HasRow s i slot
@@ -221,6 +245,7 @@ module _ {K V S : Type 0} (same : K → K → Bool) (hash : S → K → ℕ) whe
     pub does : DoesSo s (caller_at j (acts_in v.under v.slot)) v.under v.slot v.map v.work
     pub aside : IsAside v.under v.slot
     pub map : KnowsMap s v.map
+    pub only : LooksAside v.under v.map v.work
     pub held : AllHeld s v.under v.slot v.work v.held
     pub pair : KnowsPair s (caller_at j (acts_in v.under v.slot)) v.map v.work v.calls
     pub idle : (t : ℕ) → IsSlot t → t ≢ acts_in v.under v.slot → IsIdle s (caller_at j t)

@@ -1,11 +1,10 @@
 -- What the answer of an operation tells its seat: how far what it has under way has come, and at which blocks the step looks.
-use Rattle.std.specs.Prelude.{◌≡◌, ℕ, Bool, List, [], ◌∷◌, Option, Some, None, if◌then◌else◌}
+use Rattle.std.specs.Prelude.{◌≡◌, ℕ, Bool, List, [], ◌∷◌, Option, Some, None}
 use Rattle.seize_words.specs.OneMemory.Mem.{Mem, Took, value_at}
 use Rattle.seize_words.specs.OneMemory.Op.{Op, Out}
 use Rattle.seize_words.specs.OneMemory.Plan.{Plan, Steps}
 use Rattle.seize.specs.declared.advance.Advance.{Advance as Told}
 use Rattle.seize.specs.declared.advance.Advance.TheVariants as told_as
-use Rattle.map_tables.specs.Chunks.{is_incremental}
 use Rattle.map_tables.specs.Nodes.{deferred_word}
 use Rattle.map_tables.specs.declared.node.Node.{Node}
 use Rattle.map_tables.specs.declared.setting.Setting.{Setting}
@@ -62,13 +61,9 @@ module _ {K V S : Type 0} where
   call_after machine (progress.Refused fault) = Nothing
   call_after machine told = Calls machine
 
-  -- what is known to be held for it of these blocks: all, on a map in incremental mode
-  abbrev pub held_of : Map S → List (ℕ × Node K V) → List (ℕ × Node K V)
-  held_of map looks = if is_incremental map.setting.mode then looks else []
-
   -- what a seat knows once its call, which was this one, has come so far, and has looked at these blocks
   abbrev pub called : View K V S → Map S → Machine K V K → Machine K V K × Progress (Node K V) → List (ℕ × Node K V) → View K V S
-  called v map machine end looks = record { slot = v.slot; under = v.under; map = v.map; work = call_after end.0 end.1; looks = looks; held = held_of map looks; began = v.began; calls = newest_progress end.1 v.calls }
+  called v map machine end looks = record { slot = v.slot; under = v.under; map = v.map; work = call_after end.0 end.1; looks = looks; held = looks; began = v.began; calls = newest_progress end.1 v.calls }
 
   -- and once the making of a map has
   abbrev pub made_after : View K V S → ℕ → S → List (ℕ × Node K V) → NewMap → Told Setting → View K V S

@@ -1,14 +1,13 @@
 //! A seat on an errand runs a call, whichever it is.
-ghost use Rattle.std.specs.Prelude.{◌≡◌, ℕ, true, false, Some, IfNone, IfOk, IfSome};
+ghost use Rattle.std.specs.Prelude.{◌≡◌, ℕ, false, Some, IfNone, IfOk, IfSome};
 ghost use Rattle.threads_rule.specs.Errands.Calling.{CalledSo, HasCalled, HasEnded, IsAnswerBy, IsBack, IsCalling, IsGoing, IsNoQuestion, MayCall, MayStep, StepsTo, handed_by, outcome_of, sort_of, wanted_of};
 ghost use Rattle.threads_rule.specs.Errands.Looking.{Begins, StaysThere};
 ghost use Rattle.threads_steps.specs.Made.{IsSameSeat};
 ghost use Rattle.threads_steps.specs.Steps.{HasStepped};
 ghost use Rattle.threads_steps.specs.Storing.{Since};
-ghost use Rattle.map_tables.specs.Chunks.{is_incremental};
 ghost use Rattle.map_tables.specs.declared.node.Node.{Node};
 ghost use Rattle.threads_rule.specs.Views.Told.{pair_in};
-ghost use Rattle.threads_rule.specs.Views.Rule.{section_of};
+ghost use Rattle.threads_rule.specs.Views.Rule.{MayWant, section_of};
 ghost use Rattle.threads_rule.specs.declared.view.Map.{Map};
 ghost use Rattle.threads_rule.specs.declared.view.SeatWork.TheVariants.{Nothing as NoWork};
 
@@ -129,7 +128,7 @@ impl<'a, K: Eq + Hash + Drop, V: Drop, S: Hashes<K>> Within<'a, K, V, S> {
     fn begins_as<B: Wants<K, V>>(&mut self, _machine: &Machine<K, V>)
         requires wanted { B.wanted ≡ wanted_of _machine.now }
         requires inside { (t : ℕ) × (section_of self.old.seat.now.view.under self.old.seat.now.view.slot ≡ Some t) }
-        requires knows { (map : Map S) × (self.old.seat.now.view.map ≡ Some map) × (is_incremental map.setting.mode ≡ true) }
+        requires knows { (map : Map S) × (self.old.seat.now.view.map ≡ Some map) × MayWant K.eq S.hash self.old.seat.now.view.under map (wanted_of _machine.now) }
         requires free { self.old.seat.now.view.work ≡ NoWork }
         ensures begins { Begins K.eq S.hash (wanted_of _machine.now) self.old.seat.now.view self.new.seat.now.view }
         ensures same { IsSameSeat self.old self.new }
@@ -137,10 +136,10 @@ impl<'a, K: Eq + Hash + Drop, V: Drop, S: Hashes<K>> Within<'a, K, V, S> {
         self.blocks.turn::<Beginning<B>>(&mut *self.seat);
     }
 
-    /// Begins this call on the map that it knows, which is in incremental mode, within its section.
+    /// Begins this call on the map that it knows, within its section.
     pub fn begins(&mut self, machine: &Machine<K, V>)
         requires inside { (t : ℕ) × (section_of self.old.seat.now.view.under self.old.seat.now.view.slot ≡ Some t) }
-        requires knows { (map : Map S) × (self.old.seat.now.view.map ≡ Some map) × (is_incremental map.setting.mode ≡ true) }
+        requires knows { (map : Map S) × (self.old.seat.now.view.map ≡ Some map) × MayWant K.eq S.hash self.old.seat.now.view.under map (wanted_of machine.now) }
         requires free { self.old.seat.now.view.work ≡ NoWork }
         ensures begins { Begins K.eq S.hash (wanted_of machine.now) self.old.seat.now.view self.new.seat.now.view }
         ensures same { IsSameSeat self.old self.new }

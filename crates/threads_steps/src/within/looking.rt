@@ -1,11 +1,10 @@
 //! A seat on an errand looks a key up.
-ghost use Rattle.std.specs.Prelude.{◌≡◌, ℕ, true, Some};
+ghost use Rattle.std.specs.Prelude.{◌≡◌, ℕ, Some};
 ghost use Rattle.threads_rule.specs.Given.ActsActs.{Get};
 ghost use Rattle.threads_rule.specs.Errands.Looking.{Begins, HasCome, HasLooked, HasSeen, HasProgressed, LookedSo, LooksFor, MayLook, StaysThere, found_of, progress_of_lookup};
 ghost use Rattle.threads_steps.specs.Made.{IsSameSeat};
 ghost use Rattle.map_machines.specs.Lookup.{looking};
-ghost use Rattle.map_tables.specs.Chunks.{is_incremental};
-ghost use Rattle.threads_rule.specs.Views.Rule.{section_of};
+ghost use Rattle.threads_rule.specs.Views.Rule.{MayWant, section_of};
 ghost use Rattle.threads_rule.specs.declared.view.Map.{Map};
 ghost use Rattle.threads_rule.specs.declared.view.SeatWork.TheVariants.{Nothing as NoWork};
 
@@ -23,7 +22,7 @@ impl<'a, K: Eq, V, S: Hashes<K>> Within<'a, K, V, S> {
     /// Begins a call on this key, as it is picked.
     pub(super) fn begins_on_as<B: Wants<K, V>>(&mut self, _key: &K)
         requires inside { (t : ℕ) × (section_of self.old.seat.now.view.under self.old.seat.now.view.slot ≡ Some t) }
-        requires knows { (map : Map S) × (self.old.seat.now.view.map ≡ Some map) × (is_incremental map.setting.mode ≡ true) }
+        requires knows { (map : Map S) × (self.old.seat.now.view.map ≡ Some map) × MayWant K.eq S.hash self.old.seat.now.view.under map B.wanted }
         requires free { self.old.seat.now.view.work ≡ NoWork }
         ensures begins { Begins K.eq S.hash B.wanted self.old.seat.now.view self.new.seat.now.view }
         ensures same { IsSameSeat self.old self.new }
@@ -31,10 +30,10 @@ impl<'a, K: Eq, V, S: Hashes<K>> Within<'a, K, V, S> {
         self.blocks.turn::<Beginning<B>>(&mut *self.seat);
     }
 
-    /// Begins to look this key up in the map that it knows, which is in incremental mode, within its section.
+    /// Begins to look this key up in the map that it knows, within its section.
     fn begins_to_look(&mut self, key: &K)
         requires inside { (t : ℕ) × (section_of self.old.seat.now.view.under self.old.seat.now.view.slot ≡ Some t) }
-        requires knows { (map : Map S) × (self.old.seat.now.view.map ≡ Some map) × (is_incremental map.setting.mode ≡ true) }
+        requires knows { (map : Map S) × (self.old.seat.now.view.map ≡ Some map) }
         requires free { self.old.seat.now.view.work ≡ NoWork }
         ensures begins { Begins K.eq S.hash (Get key.now) self.old.seat.now.view self.new.seat.now.view }
         ensures same { IsSameSeat self.old self.new }

@@ -1,12 +1,11 @@
 //! A seat on an errand begins a call that is to store a pair.
-ghost use Rattle.std.specs.Prelude.{◌≡◌, ℕ, true, Some};
+ghost use Rattle.std.specs.Prelude.{◌≡◌, ℕ, Some};
 ghost use Rattle.threads_rule.specs.Errands.Calling.{IsCalling, MayCall, wanted_of};
 ghost use Rattle.threads_rule.specs.Errands.Looking.{Begins};
 ghost use Rattle.threads_steps.specs.Made.{IsSameSeat};
 ghost use Rattle.threads_steps.specs.Storing.{making};
-ghost use Rattle.map_tables.specs.Chunks.{is_incremental};
 ghost use Rattle.papaya_raw.specs.declared.machines.machine.Machine.TheVariants.{Key as KeyMachine};
-ghost use Rattle.threads_rule.specs.Views.Rule.{section_of};
+ghost use Rattle.threads_rule.specs.Views.Rule.{MayWant, section_of};
 ghost use Rattle.threads_rule.specs.declared.view.Map.{Map};
 ghost use Rattle.threads_rule.specs.declared.view.SeatWork.TheVariants.{Nothing as NoWork};
 
@@ -20,7 +19,7 @@ impl<'a, K: Eq, V, S: Hashes<K>> Within<'a, K, V, S> {
     /// Begins a call with this pair, as it is picked.
     fn begins_with_as<B: Wants<K, V>>(&mut self, _there: There, _pair: &Node<K, V>)
         requires inside { (t : ℕ) × (section_of self.old.seat.now.view.under self.old.seat.now.view.slot ≡ Some t) }
-        requires knows { (map : Map S) × (self.old.seat.now.view.map ≡ Some map) × (is_incremental map.setting.mode ≡ true) }
+        requires knows { (map : Map S) × (self.old.seat.now.view.map ≡ Some map) × MayWant K.eq S.hash self.old.seat.now.view.under map B.wanted }
         requires free { self.old.seat.now.view.work ≡ NoWork }
         ensures begins { Begins K.eq S.hash B.wanted self.old.seat.now.view self.new.seat.now.view }
         ensures same { IsSameSeat self.old self.new }

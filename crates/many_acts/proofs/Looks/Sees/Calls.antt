@@ -1,4 +1,4 @@
--- What a step of a call on one key has seen, at no row, its section holds, or it is the call's own pair, with which it goes on. Pairs move in incremental mode.
+-- What a step of a call on one key has seen, at no row, its section holds, or it is the call's own pair, with which it goes on.
 use Rattle.std.specs.Prelude.{◌==◌, ◌/◌, ◌^◌, ◌<◌, Option, Some, None, if◌then◌else◌}
 use Rattle.std.proofs.Common.{◌≡◌, ℕ, suc, Bool, true, false, ◌⊎◌, inl, inr, refl, sym, subst, ap, arith, ◌∙◌}
 use Rattle.std.proofs.lemmas.Bool.{ne_eqb}
@@ -8,10 +8,10 @@ use Rattle.run_shows.specs.Given.SeizeWordsOp.{Taken}
 use Rattle.run_shows.specs.Given.SeizeWordsPlan.{Then, Now, Ends}
 use Rattle.run_shows.specs.Given.SeizeLaw.{holds}
 use Rattle.run_shows.specs.Given.SeizeWorld.{World}
-use Rattle.run_shows.specs.Given.TablesChunks.{is_incremental}
+use Rattle.run_shows.specs.Given.SeizeDeclared.advance.Advance.{Advance}
 use Rattle.run_shows.specs.Given.TablesFinding.{may_name}
 use Rattle.run_shows.specs.Given.TablesNodes.{table_seen, vacant}
-use Rattle.run_shows.specs.Given.TablesTablePlaces.{at_word, at_place}
+use Rattle.run_shows.specs.Given.TablesTablePlaces.{at_word}
 use Rattle.run_shows.specs.Given.TablesTrials.{place_tried}
 use Rattle.run_shows.specs.Given.TablesDeclared.node.Node.{Node}
 use Rattle.run_shows.specs.Given.TablesDeclared.node.Node.TheVariants as node
@@ -20,7 +20,9 @@ use Rattle.run_shows.specs.Given.TablesDeclared.table_words.TheConstants.{NEXT}
 use Rattle.run_shows.specs.Given.ResizeCopier.{copier_plan}
 use Rattle.run_shows.specs.Given.ResizeDispose.{dispose_plan}
 use Rattle.run_shows.specs.Given.ResizeNewTable.{new_table_plan}
+use Rattle.run_shows.specs.Given.ResizeLookup.{lookup_plan}
 use Rattle.run_shows.specs.Given.ResizeDeclared.lookup.Lookup.{Lookup}
+use Rattle.run_shows.specs.Given.ResizeDeclared.new_table.NewTable.{NewTable}
 use Rattle.run_shows.specs.Given.RawCall as call
 use Rattle.run_shows.specs.Given.RawCall.{call_plan, plan_at, pair_read, key_read, word_read}
 use Rattle.run_shows.specs.Given.RawCallFills as fills
@@ -33,28 +35,27 @@ use Rattle.run_shows.specs.Given.RawDeclared.machines.call.Calling.{Calling}
 use Rattle.run_shows.specs.Given.RawDeclared.machines.call.Calling.TheVariants as at
 use Rattle.run_shows.specs.Given.RawDeclared.machines.call.KeyCall.{KeyCall}
 use Rattle.run_shows.specs.Given.RuleChart.{Chart}
-use Rattle.run_shows.specs.Given.RuleWords.{Blocks, place_word}
-use Rattle.run_shows.specs.Given.RuleMaps.{spot_at, spot_of, IsTrial}
+use Rattle.run_shows.specs.Given.RuleWords.{Blocks}
+use Rattle.run_shows.specs.Given.RuleMaps.{IsTable, IsTrial}
 use Rattle.run_shows.specs.Given.RuleInWorld.{IsMapIn}
-use Rattle.run_shows.proofs.Given.RuleKeys.TriesSeen.{spot_inside}
-use Rattle.run_shows.proofs.Given.RuleWords.PlacesShown.{are_stored}
-use Rattle.run_shows.proofs.Given.RuleWords.TablesSeen.{place_there}
-use Rattle.owner_facts.specs.Given.PointsFactsCalls.{Change, Holding, Apart, InBlock, ByReply, holding, HasOwn, IsOwnPair, CallingFacts, CallFacts}
+use Rattle.owner_facts.specs.Given.PointsFactsCalls.{Change, Holding, Apart, InBlock, ByReply, holding, HasOwn, HasIts, IsOwnPair, CallingFacts, CallFacts}
+use Rattle.owner_facts.specs.Given.PointsFactsTables.{NewTableFacts}
 use Rattle.owner_facts.specs.Given.PointsTold.{IsRowOfCall}
 use Rattle.owner_facts.specs.Given.CallersKept.{IsWithin}
 use Rattle.many_acts.specs.Looks.Blocks.{MayLookAt}
 use Rattle.many_acts.specs.Looks.Sees.{HasSeen}
-use Rattle.many_acts.proofs.Looks.Sees.Copiers.{root_link, next_link, copier_sees}
+use Rattle.many_acts.proofs.Looks.Sees.Copiers.{root_link, next_link, copier_sees, copier_sees_at_once}
 use Rattle.many_acts.proofs.Looks.Sees.Disposals.{dispose_sees}
-use Rattle.many_acts.proofs.Looks.Sees.Held.{sees_link, named_held}
+use Rattle.many_acts.proofs.Looks.Sees.Held.{sees_link}
+use Rattle.many_acts.proofs.Looks.Sees.Lookups.{tried_held, lookup_sees}
 use Rattle.many_acts.proofs.Looks.Sees.Operations.{loads, exchanges, makes, takes, rewrites}
 use Rattle.many_acts.proofs.Looks.Sees.Own.{KeepsIt, told_keeps}
 use Rattle.many_acts.proofs.Looks.Sees.Plans.{seen_as}
 use Rattle.many_acts.proofs.Looks.Sees.Tables.{new_table_sees}
 
 module _ {K V Q : Type 0} (same : K → K → Bool) (hash : K → ℕ) (asks : Q → K → Bool) (fits : (k : K) → hash k < 2 ^ 64) (w : World (Node K V)) (slot caller : ℕ) (c : Chart K) (seen : Blocks)
-    (setting within_setting : Setting) (incremental : is_incremental setting.mode ≡ true) (within : IsWithin w slot c seen within_setting) (map : IsMapIn same hash setting w c seen)
-    (keys : K → Bool) (change : Change) (p : KeyCall K V Q) (facts : CallFacts same hash asks w caller setting c seen keys change p) where
+    (setting within_setting : Setting) (within : IsWithin w slot c seen within_setting) (map : IsMapIn same hash setting w c seen)
+    (keys : K → Bool) (change : Change) (p : KeyCall K V Q) (setting_is : p.setting ≡ setting) (code : p.hash < 2 ^ 64) where
   -- its own pair was seen, and no more was done: it goes on with it
   pub record SawOwn (b : ℕ) (n : Mem (Node K V)) (end : KeyCall K V Q × Called (Node K V)) : Type 0 where
     pub own : IsOwnPair same hash asks w caller setting c seen keys change p.own p.hash
@@ -67,7 +68,7 @@ module _ {K V Q : Type 0} (same : K → K → Bool) (hash : K → ℕ) (asks : Q
     abbrev IsHeld : Type 0
     IsHeld = holds slot b w.log ≡ true
 
-    abbrev Lasts : Type 0
+    abbrev pub Lasts : Type 0
     Lasts = IsHeld ⊎ SawOwn b n end
 
     abbrev shown : ℕ → Option (Node K V)
@@ -79,23 +80,14 @@ module _ {K V Q : Type 0} (same : K → K → Bool) (hash : K → ℕ) (asks : Q
 
     own_some : IsOwnPair same hash asks w caller setting c seen keys change p.own p.hash → (p.own == 0) ≡ false
     own_some own =
-        let is = own.word_is in let number = own.number in let code = facts.code in
+        let is = own.word_is in let number = own.number in
         ne_eqb p.own 0 (omega (arith, is, number.0, number.1, code))
 
     -- the word of its try was read
     module _ (same_memory : n ≡ w.memory) (t j : ℕ) (trial : IsTrial c seen p.trial p.hash t j) (loaded : Bool) (word : ℕ) (read : word_at w.memory (place_tried p.trial) ≡ Some word) where
-      word_is : word ≡ place_word hash c seen (c.place t (spot_at (c.len t) p.hash j))
-      word_is =
-          let there = ap (λ (i : ℕ). word_at w.memory (at_place p.trial.table i)) trial.place
-          ∙ place_there hash w.memory c seen setting.root map.map.shows p.trial.table t trial.table (spot_at (c.len t) p.hash j)
-          (spot_inside (c.len t) p.hash j (map.map.rule.common.lens t trial.table.made).0) in cc (there, read)
-
       -- the pair that it may name
       pair_held : may_name p.hash word ≡ true → holds slot (word / 2048) w.log ≡ true
-      pair_held may =
-          subst (λ (x : ℕ). holds slot (x / 2048) w.log ≡ true) (sym word_is)
-          (named_held w slot c seen within_setting within hash fits setting.root w.memory map.map.shows (are_stored same (spot_of hash) (is_incremental setting.mode) c map.map.rule.common) t
-          (spot_at (c.len t) p.hash j) trial.table.made trial.table.known p.hash (subst (λ (x : ℕ). may_name p.hash x ≡ true) word_is may))
+      pair_held = tried_held same hash fits w slot caller c seen setting within_setting within map p.trial p.hash t j trial word read
 
       by_pair : may_name p.hash word ≡ true → b ≡ word / 2048 → Lasts
       by_pair may is = inl (subst (λ (x : ℕ). holds slot x w.log ≡ true) (sym is) (pair_held may))
@@ -145,7 +137,7 @@ module _ {K V Q : Type 0} (same : K → K → Bool) (hash : K → ℕ) (asks : Q
       read_lasts own sees = by_word (may_name p.hash word) refl own sees
 
     root_at : (root : ℕ) → word_at w.memory (Root p.setting.root) ≡ Some root → word_at w.memory (Root setting.root) ≡ Some root
-    root_at root read = ap (λ (x : Setting). word_at w.memory (Root x.root)) (sym facts.setting_is) ∙ read
+    root_at root read = ap (λ (x : Setting). word_at w.memory (Root x.root)) (sym setting_is) ∙ read
 
     none_made : (o : Option (Node K V)) → HasSeen b w.memory (call.makes_of p o) n end → ⊥
     none_made None saw = saw.2
@@ -179,48 +171,76 @@ module _ {K V Q : Type 0} (same : K → K → Bool) (hash : K → ℕ) (asks : Q
     none_fills (Some key) word saw = none_filled (value_for p.replies word) (record p { replies = as_own p.replies word }) word key saw
     none_fills None word saw = let r = rewrites b w.memory n end (fills.emptied p word) (p.own / 2048) vacant saw in none_emptied word r.0 r.1.1
 
-    none_asks : (stands : Asking) → HasSeen b w.memory (fills.asks_at p stands) n end → ⊥
+    pub none_asks : (stands : Asking) → HasSeen b w.memory (fills.asks_at p stands) n end → ⊥
     none_asks (asking.Absent gap) saw = saw.2
     none_asks (asking.Present word) saw = saw.2
     none_asks (asking.Fills word) saw = none_fills p.replies.key word saw
     none_asks (asking.GivesUp word) saw = let t = takes b w.memory n end (fills.given_up p word) (p.own / 2048) saw in none_given word t.0 t.1.1
 
-    lasts_at : (stands : Calling) → CallingFacts same hash asks w caller setting c seen keys change p stands → (IsRowOfCall stands → ⊥)
-        → ((l : Lookup) → stands ≡ at.Looks l → IsHeld) → HasSeen b w.memory (plan_at asks same hash p stands) n end → Lasts
-    lasts_at at.Makes point none looks saw = absurd (none_made p.unmade saw)
-    lasts_at (at.Looks l) point none looks saw = inl (looks l refl)
-    lasts_at at.Roots point none looks saw =
+    -- it reads the root, or the link to the next table
+    pub root_lasts : HasSeen b w.memory (plan_at asks same hash p at.Roots) n end → Lasts
+    root_lasts saw =
         let l = loads b w.memory n (Root p.setting.root) end (call.root_found p) saw in
         inl (sees_link w slot c seen within_setting within shown l.0 c.first (root_link same hash fits w slot caller c seen setting within_setting within map l.0 (root_at l.0 l.1))
         (tableless p.missing p) (λ value. entering p (table_seen l.0 value)) b l.3.1)
-    lasts_at at.Probes (its, (t, j, trial, before, root)) none looks saw =
-        let l = loads b w.memory n (place_tried p.trial) end (call.word_found asks same p) saw in read_lasts l.2 t j trial true l.0 l.1 its l.3
-    lasts_at (at.Tries word new) (its, may, (t, j, trial, before, root)) none looks saw =
-        elim (exchanges b w.memory n (place_tried p.trial) end (call.tried asks same p word new) word new saw) as (λ _. Lasts) [
-          | inl made ↦ absurd made.1.1
-          | inr found ↦ read_lasts found.2 t j trial false found.0 found.1 its found.3
-        ]
-    lasts_at (at.Counts removed) point none looks saw = absurd saw.3
-    lasts_at at.Nexts (its, t, (entered, shut)) none looks saw =
+
+    pub next_lasts : (t : ℕ) → IsTable c seen p.trial.table t → HasSeen b w.memory (plan_at asks same hash p at.Nexts) n end → Lasts
+    next_lasts t entered saw =
         let l = loads b w.memory n (at_word p.trial.table NEXT) end (call.next_found p) saw in
         inl (sees_link w slot c seen within_setting within shown l.0 (suc t) (next_link same hash fits w slot caller c seen setting within_setting within map p.trial.table t entered l.0 l.1)
         (at_last p.missing p) (λ value. continued_in p (table_seen l.0 value)) b l.3.1)
-    lasts_at (at.Firsts making) (its, stores, making_facts) none looks saw =
-        let s = seen_as (call.first_made p) b w.memory (new_table_plan making) n end saw in
-        inl (new_table_sees w slot caller c seen setting within_setting within (Root setting.root) 0 making b n s.0 making_facts s.2)
-    lasts_at (at.Allocs making) (its, t, tried, making_facts) none looks saw =
+
+    -- it is at a try
+    pub probe_lasts : HasIts same hash asks w caller setting c seen keys change p → (t j : ℕ) → IsTrial c seen p.trial p.hash t j → HasSeen b w.memory (plan_at asks same hash p at.Probes) n end → Lasts
+    probe_lasts its t j trial saw = let l = loads b w.memory n (place_tried p.trial) end (call.word_found asks same p) saw in read_lasts l.2 t j trial true l.0 l.1 its l.3
+
+    pub try_lasts : (word new : ℕ) → HasIts same hash asks w caller setting c seen keys change p → (t j : ℕ) → IsTrial c seen p.trial p.hash t j
+        → HasSeen b w.memory (plan_at asks same hash p (at.Tries word new)) n end → Lasts
+    try_lasts word new its t j trial saw = elim (exchanges b w.memory n (place_tried p.trial) end (call.tried asks same p word new) word new saw) as (λ _. Lasts) [
+      | inl made ↦ absurd made.1.1
+      | inr found ↦ read_lasts found.2 t j trial false found.0 found.1 its found.3
+    ]
+
+    -- it makes the next table
+    pub alloc_lasts : (making : NewTable) (t : ℕ) → NewTableFacts w caller setting c seen (Word (seen.table t) NEXT) (suc t) making → HasSeen b w.memory (plan_at asks same hash p (at.Allocs making)) n end → Lasts
+    alloc_lasts making t making_facts saw =
         let s = seen_as (call.next_made p) b w.memory (new_table_plan making) n end saw in
         inl (new_table_sees w slot caller c seen setting within_setting within (Word (seen.table t) NEXT) (suc t) making b n s.0 making_facts s.2)
-    lasts_at (at.Helps copier goal) (its, incr, part, t, entered, shut, copier_facts) none looks saw =
+
+    -- its lookup has seen what its section holds, whatever it is asked with
+    pub looked_lasts : (l : Lookup) → ((asked : K → Bool) (next : Lookup × Advance (Option ℕ)) → HasSeen b w.memory (lookup_plan asked l) n next → IsHeld)
+        → HasSeen b w.memory (plan_at asks same hash p (at.Looks l)) n end → Lasts
+    looked_lasts l held saw = by p.asked saw
+      where
+        by : (asked : Option Q) → HasSeen b w.memory (call.looks_for asks p l asked) n end → Lasts
+        by (Some q) saw = let s = seen_as (call.looked p) b w.memory (lookup_plan (asks q) l) n end saw in inl (held (asks q) s.0 s.2)
+        by None saw = absurd saw.2
+
+    lasts_at : (stands : Calling) → CallingFacts same hash asks w caller setting c seen keys change p stands → (IsRowOfCall stands → ⊥) → HasSeen b w.memory (plan_at asks same hash p stands) n end → Lasts
+    lasts_at at.Makes point none saw = absurd (none_made p.unmade saw)
+    lasts_at (at.Looks l) (own, missing, there, q, asked, agree, looks) none saw =
+        looked_lasts l (λ with next seen_so. lookup_sees same hash fits w slot caller c seen setting within_setting within map keys with p.hash l looks b n next seen_so) saw
+    lasts_at at.Roots point none saw = root_lasts saw
+    lasts_at at.Probes (its, (t, j, trial, before, root)) none saw = probe_lasts its t j trial saw
+    lasts_at (at.Tries word new) (its, may, (t, j, trial, before, root)) none saw = try_lasts word new its t j trial saw
+    lasts_at (at.Counts removed) point none saw = absurd saw.3
+    lasts_at at.Nexts (its, t, (entered, shut)) none saw = next_lasts t entered saw
+    lasts_at (at.Firsts making) (its, stores, making_facts) none saw =
+        let s = seen_as (call.first_made p) b w.memory (new_table_plan making) n end saw in
+        inl (new_table_sees w slot caller c seen setting within_setting within (Root setting.root) 0 making b n s.0 making_facts s.2)
+    lasts_at (at.Allocs making) (its, t, tried, making_facts) none saw = alloc_lasts making t making_facts saw
+    lasts_at (at.Helps copier goal) (its, incr, part, t, entered, shut, copier_facts) none saw =
         let s = seen_as (call.helped p goal) b w.memory (copier_plan hash copier) n end saw in
         inl (copier_sees same hash fits w slot caller c seen setting within_setting within map copier copier_facts none b n s.0 s.2)
-    lasts_at (at.Copies copier) (its, blocking, copier_facts) none looks saw = absurd (cc (blocking, incremental))
-    lasts_at (at.Asks stands) point none looks saw = absurd (none_asks stands saw)
-    lasts_at (at.Disposes dispose answer) (dispose_facts, tells) none looks saw =
+    lasts_at (at.Copies copier) (its, blocking, copier_facts) none saw =
+        let s = seen_as (call.copied p) b w.memory (copier_plan hash copier) n end saw in
+        inl (copier_sees_at_once same hash fits w slot caller c seen setting within_setting within map copier copier_facts none b n s.0 s.2)
+    lasts_at (at.Asks stands) point none saw = absurd (none_asks stands saw)
+    lasts_at (at.Disposes dispose answer) (dispose_facts, tells) none saw =
         let s = seen_as (call.disposed p answer) b w.memory (dispose_plan dispose) n end saw in
         inl (dispose_sees same hash fits w slot caller c seen setting within_setting within map dispose dispose_facts b n s.0 none s.2)
-    lasts_at (at.Drops over) point none looks saw = let t = takes b w.memory n end (call.dropped p over) (p.own / 2048) saw in absurd t.1.1
-    lasts_at (at.Over over) point none looks saw = absurd saw.2
+    lasts_at (at.Drops over) point none saw = let t = takes b w.memory n end (call.dropped p over) (p.own / 2048) saw in absurd t.1.1
+    lasts_at (at.Over over) point none saw = absurd saw.2
 
-    pub call_lasts : (IsRowOfCall p.stands → ⊥) → ((l : Lookup) → p.stands ≡ at.Looks l → IsHeld) → HasSeen b w.memory (call_plan asks same hash p) n end → Lasts
-    call_lasts none looks saw = lasts_at p.stands facts.point none looks saw
+    pub call_lasts : CallFacts same hash asks w caller setting c seen keys change p → (IsRowOfCall p.stands → ⊥) → HasSeen b w.memory (call_plan asks same hash p) n end → Lasts
+    call_lasts facts none saw = lasts_at p.stands facts.point none saw

@@ -1,4 +1,4 @@
--- A copier that stands at no row has seen tables and pairs of its map, which its section holds, where pairs move in incremental mode.
+-- A copier that stands at no row has seen tables and pairs of its map, which its section holds.
 use Rattle.std.specs.Prelude.{◌==◌, ◌/◌, ◌%◌, ◌+◌, ◌^◌, ◌<◌, nat_lt, Option, Some}
 use Rattle.std.proofs.Common.{◌≡◌, ℕ, suc, Bool, true, false, inl, inr, sym, subst, ap, arith, ◌∙◌}
 use Rattle.std.proofs.lemmas.Bool.{eqb-false}
@@ -27,6 +27,7 @@ use Rattle.run_shows.specs.Given.ResizeNewTable.{new_table_plan}
 use Rattle.run_shows.specs.Given.ResizeDeclared.copier.Copier.{Copier}
 use Rattle.run_shows.specs.Given.ResizeDeclared.copier.Copying.{Copying}
 use Rattle.run_shows.specs.Given.ResizeDeclared.copier.Copying.TheVariants as at
+use Rattle.run_shows.specs.Given.ResizeDeclared.new_table.NewTable.{NewTable}
 use Rattle.run_shows.specs.Given.ResizeDeclared.yielding.Yielding.{Yielding}
 use Rattle.run_shows.specs.Given.ResizeDeclared.yielding.Yielding.TheVariants.{Goes}
 use Rattle.run_shows.specs.Given.RuleChart.{Chart}
@@ -39,6 +40,9 @@ use Rattle.run_shows.proofs.Given.RuleWords.LinksSeen.{link_made, root_leads, ne
 use Rattle.run_shows.proofs.Given.RuleWords.PlacesShown.{are_stored}
 use Rattle.run_shows.proofs.Given.RuleWords.TablesSeen.{place_there}
 use Rattle.owner_facts.specs.Given.PointsFactsCopies.{CopyingFacts, CopierFacts}
+use Rattle.owner_facts.specs.Given.PointsFactsCopiesBlocking.{CopyingFactsBlocking, CopierFactsBlocking}
+use Rattle.owner_facts.specs.Given.LateLateCopies.{SupersededCopying, SupersededCopierFacts}
+use Rattle.owner_facts.specs.Given.PointsFactsTables.{NewTableFacts}
 use Rattle.owner_facts.specs.Given.PointsTold.{IsRowOfCopier}
 use Rattle.owner_facts.specs.Given.CallersKept.{IsWithin}
 use Rattle.many_acts.specs.Looks.Sees.{HasSeen}
@@ -153,6 +157,17 @@ module _ {K V : Type 0} (same : K → K → Bool) (hash : K → ℕ) (fits : (k 
     succeed : (table : ℕ) → Saw (at.Succeeds table) → IsHeld
     succeed table saw = let l = loads b w.memory n (Word (table / 2048) NEXT) end (promotes.successor_read p table) saw in absurd l.3.1
 
+    replace : (t : ℕ) → IsTable c seen p.target t → Saw at.Replaces → IsHeld
+    replace t entered saw =
+        let l = loads b w.memory n (at_word p.target NEXT) end (further.replacement_read p) saw in
+        sees_link w slot c seen within_setting within shown l.0 (suc t) (next_link p.target t entered l.0 l.1) _ (λ value. (further.anew p (table_seen l.0 value), Goes)) b l.3.1
+
+    remake : (t : ℕ) (making : NewTable) → NewTableFacts w caller setting c seen (Word (seen.table t) NEXT) (suc t) making → Saw (at.Remakes making) → IsHeld
+    remake t making facts saw =
+        let s = seen_as (further.remade p) b w.memory (new_table_plan making) n end saw in
+        new_table_sees w slot caller c seen setting within_setting within (Word (seen.table t) NEXT) (suc t) making b n s.0 facts s.2
+
+    -- in incremental mode
     by_point : (stands : Copying) → CopyingFacts same hash w caller setting c seen p stands → (IsRowOfCopier stands → ⊥) → Saw stands → IsHeld
     by_point at.Begins (some, done, has_done, claims_none, whole) none saw = begins some saw
     by_point at.Follows (done, has_done, claims_none, whole, t, below, entered) none saw = follows t entered saw
@@ -181,6 +196,60 @@ module _ {K V : Type 0} (same : K → K → Bool) (hash : K → ℕ) (fits : (k 
     by_point at.Over point none saw = absurd saw.2
     by_point (at.Refused fault) point none saw = absurd saw.2
 
+    -- where all pairs are copied at once
+    at_once : (stands : Copying) → CopyingFactsBlocking same hash w caller setting c seen p stands → (IsRowOfCopier stands → ⊥) → Saw stands → IsHeld
+    at_once at.Begins point none saw = absurd point
+    at_once at.Follows point none saw = absurd point
+    at_once at.Asks point none saw = asks saw
+    at_once at.Sees point none saw = sees saw
+    at_once at.Claims point none saw = claim saw
+    at_once at.Marks (t, copies, has_done, claims_some, less, most) none saw = mark c.first copies.0 (omega (arith, less, most)) saw
+    at_once (at.Probes word code table probed) point none saw = probe word code table probed saw
+    at_once (at.Puts word code table probed) point none saw = put word code table probed saw
+    at_once (at.Covers word) point none saw = absurd point
+    at_once (at.Passes word code table) point none saw = absurd point
+    at_once (at.Grows word code making) point none saw = absurd point
+    at_once at.Aborts point none saw = absurd saw.3
+    at_once at.Replaces (t, rests, aborted) none saw = replace t rests.0.2 saw
+    at_once (at.Remakes making) (t, rests, aborted, facts) none saw = remake t making facts saw
+    at_once at.Counts point none saw = count saw
+    at_once (at.Tallies word fault) point none saw = absurd point
+    at_once (at.Unmarks word fault) point none saw = absurd point
+    at_once (at.Unclaims fault) point none saw = absurd point
+    at_once at.Promotes point none saw = promote saw
+    at_once at.Announces point none saw = absurd saw.3
+    at_once (at.Succeeds table) point none saw = succeed table saw
+    at_once (at.Retires settle rest) point none saw = absurd (none tt)
+    at_once at.Over point none saw = absurd saw.2
+    at_once (at.Refused fault) point none saw = absurd saw.2
+
+    -- and in a table that the root has left
+    by_left : (began : ℕ) (stands : Copying) → SupersededCopying same hash w caller setting c seen began p stands → (IsRowOfCopier stands → ⊥) → Saw stands → IsHeld
+    by_left began at.Asks point none saw = asks saw
+    by_left began at.Sees point none saw = sees saw
+    by_left began at.Claims point none saw = claim saw
+    by_left began at.Marks (u, t, copies, range) none saw = mark u copies.0.source (let less = range.0 in let most = range.1 in omega (arith, less, most)) saw
+    by_left began (at.Probes word code table probed) point none saw = probe word code table probed saw
+    by_left began (at.Puts word code table probed) point none saw = put word code table probed saw
+    by_left began at.Counts point none saw = count saw
+    by_left began at.Aborts point none saw = absurd saw.3
+    by_left began at.Replaces (u, t, copies) none saw = replace t copies.0.target saw
+    by_left began (at.Remakes making) (u, t, copies, facts) none saw = remake t making facts saw
+    by_left began at.Promotes point none saw = promote saw
+    by_left began at.Announces point none saw = absurd saw.3
+    by_left began (at.Succeeds table) point none saw = succeed table saw
+    by_left began (at.Retires settle rest) point none saw = absurd (none tt)
+    by_left began at.Over point none saw = absurd saw.2
+    by_left began _ point none saw = absurd point
+
   pub copier_sees : (p : Copier) → CopierFacts same hash w caller setting c seen p → (IsRowOfCopier p.stands → ⊥) → (b : ℕ) (n : Mem (Node K V)) (end : Copier × Yielding (Node K V) Table)
       → HasSeen b w.memory (copier_plan hash p) n end → holds slot b w.log ≡ true
   copier_sees p facts none b n end saw = by_point p facts.setting_is b n end p.stands facts.point none saw
+
+  pub copier_sees_at_once : (p : Copier) → CopierFactsBlocking same hash w caller setting c seen p → (IsRowOfCopier p.stands → ⊥) → (b : ℕ) (n : Mem (Node K V)) (end : Copier × Yielding (Node K V) Table)
+      → HasSeen b w.memory (copier_plan hash p) n end → holds slot b w.log ≡ true
+  copier_sees_at_once p facts none b n end saw = at_once p facts.setting_is b n end p.stands facts.point none saw
+
+  pub left_copier_sees : (began : ℕ) (p : Copier) → SupersededCopierFacts same hash w caller setting c seen began p → (IsRowOfCopier p.stands → ⊥) → (b : ℕ) (n : Mem (Node K V))
+      (end : Copier × Yielding (Node K V) Table) → HasSeen b w.memory (copier_plan hash p) n end → holds slot b w.log ≡ true
+  left_copier_sees began p facts none b n end saw = by_left p facts.setting_is b n end began p.stands facts.point none saw

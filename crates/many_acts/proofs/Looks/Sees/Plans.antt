@@ -1,8 +1,8 @@
 -- What a step has seen, it has seen through each machine that it is a step of.
 use Rattle.std.specs.Prelude.{Option, if◌then◌else◌}
 use Rattle.std.proofs.Common.{◌≡◌, ℕ, Bool, true, false, ◌⊎◌, inl, inr, refl}
-use Rattle.run_shows.specs.Given.SeizeWordsMem.{Mem, value_at}
-use Rattle.run_shows.specs.Given.SeizeWordsPlan.{Plan, Then, Turn, Do, Now, Seeing, Sure, Ends, plan_as, then_as}
+use Rattle.run_shows.specs.Given.SeizeWordsMem.{Mem, Took, value_at}
+use Rattle.run_shows.specs.Given.SeizeWordsPlan.{Plan, Then, Turn, Do, Now, Seeing, Sure, Steps, Ends, plan_as, then_as}
 use Rattle.many_acts.specs.Looks.Blocks.{MayLookAt}
 use Rattle.many_acts.specs.Looks.Sees.{HasSeen}
 
@@ -23,6 +23,11 @@ module _ {T A B : Type 0} (f : A → B) where
   seen_as b m (Turn rest) n end (is, ends, sees) = let e = ends_as (value_at n) rest end ends in (e.0, e.1, (is, e.2, sees_as b (value_at n) rest sees))
   seen_as b m (Do op rest) n end (out, took, ends, sees) =
       let e = ends_as (value_at n) (rest out) end ends in (e.0, e.1, (out, took, e.2, sees_as b (value_at n) (rest out) sees))
+
+  -- and has taken the step
+  pub stepped_as : (m : Mem T) (plan : Plan T A) (n : Mem T) (end : B) → Steps Took value_at m (plan_as f plan) n end → (first : A) × (end ≡ f first) × Steps Took value_at m plan n first
+  stepped_as m (Turn rest) n end (is, ends) = let e = ends_as (value_at n) rest end ends in (e.0, e.1, (is, e.2))
+  stepped_as m (Do op rest) n end (out, took, ends) = let e = ends_as (value_at n) (rest out) end ends in (e.0, e.1, (out, took, e.2))
 
 module _ {T R : Type 0} where
   -- it is seen on one of two ways

@@ -1,15 +1,12 @@
--- What a step of any call has seen at no row lasts, where pairs move in incremental mode.
-use Rattle.std.specs.Prelude.{◌==◌, ◌/◌, Option, Some}
+-- What a step of any call has seen at no row lasts.
+use Rattle.std.specs.Prelude.{◌==◌, ◌/◌, ◌<◌, ◌^◌, Option, Some}
 use Rattle.std.proofs.Common.{◌≡◌, ℕ, Bool, true, ◌⊎◌, inl, inr, sym, subst, ap, ◌∙◌}
 use Rattle.run_shows.specs.Given.SeizeWordsMem.{Mem}
-use Rattle.run_shows.specs.Given.SeizeWordsPlan.{Plan, Turn, Do}
 use Rattle.run_shows.specs.Given.SeizeLaw.{holds}
 use Rattle.run_shows.specs.Given.SeizeWorld.{World, IsInside}
-use Rattle.run_shows.specs.Given.TablesChunks.{is_incremental}
 use Rattle.run_shows.specs.Given.TablesDeclared.node.Node.{Node}
 use Rattle.run_shows.specs.Given.TablesDeclared.setting.Setting.{Setting}
 use Rattle.run_shows.specs.Given.ResizeSum.{sum_plan}
-use Rattle.run_shows.specs.Given.ResizeDeclared.lookup.Lookup.{Lookup}
 use Rattle.run_shows.specs.Given.ReservesReserve.{reserve_plan}
 use Rattle.run_shows.specs.Given.SweepsSweep.{sweep_plan}
 use Rattle.run_shows.specs.Given.RawCall.{call_plan}
@@ -18,14 +15,14 @@ use Rattle.run_shows.specs.Given.RawMachine.{machine_plan}
 use Rattle.run_shows.specs.Given.RawProgress.{of_called}
 use Rattle.run_shows.specs.Given.RawDeclared.machines.answer.Called.{Called}
 use Rattle.run_shows.specs.Given.RawDeclared.machines.answer.Called.TheVariants as called
-use Rattle.run_shows.specs.Given.RawDeclared.machines.call.Calling.TheVariants as at
 use Rattle.run_shows.specs.Given.RawDeclared.machines.call.KeyCall.{KeyCall}
 use Rattle.run_shows.specs.Given.RawDeclared.machines.machine.Machine.{Machine}
 use Rattle.run_shows.specs.Given.RawDeclared.machines.machine.Machine.TheVariants as kinds
 use Rattle.run_shows.specs.Given.RawDeclared.machines.progress.Progress.{Progress}
 use Rattle.run_shows.specs.Given.RuleWords.{Blocks}
 use Rattle.run_shows.specs.Given.RuleInWorld.{IsMapIn}
-use Rattle.owner_facts.specs.Given.PointsFactsCalls.{CallFacts}
+use Rattle.owner_facts.specs.Given.LateLateCalls.{SupersededCallFacts}
+use Rattle.owner_facts.specs.Given.PointsFactsCalls.{Change, Unchanged, CallFacts}
 use Rattle.owner_facts.specs.Given.PointsSteps.{AreLawful}
 use Rattle.owner_facts.specs.Given.PointsTold.{IsRowOfCall}
 use Rattle.owner_facts.specs.Given.LateToldReserves.{IsRowOfReserve}
@@ -39,20 +36,15 @@ use Rattle.owner_facts.specs.Given.FinishesEndings.{Finishing, EndingsTogether}
 use Rattle.owner_facts.specs.Given.FinishesMachines.{machine_of}
 use Rattle.owner_facts.specs.Given.FinishesMakings.{Beginning}
 use Rattle.owner_facts.specs.Given.FinishesMaps.{Standing}
-use Rattle.many_acts.specs.Looks.Blocks.{LooksAt}
 use Rattle.many_acts.specs.Looks.Looks.{IsAtRow}
 use Rattle.many_acts.specs.Looks.Sees.{HasSeen, Continues, IsOwnOf, StepsSeeWhatLasts}
-use Rattle.many_acts.proofs.Looks.Lookups.{within, map, lookups_look}
+use Rattle.many_acts.proofs.Looks.Lookups.{within, map}
 use Rattle.many_acts.proofs.Looks.Sees.Calls.{SawOwn, call_lasts}
+use Rattle.many_acts.proofs.Looks.Sees.Left.{left_call_lasts}
 use Rattle.many_acts.proofs.Looks.Sees.Own.{IsOn}
 use Rattle.many_acts.proofs.Looks.Sees.Plans.{seen_as}
-use Rattle.many_acts.proofs.Looks.Sees.Rooms.{reserve_sees, sweep_sees}
+use Rattle.many_acts.proofs.Looks.Sees.Rooms.{reserve_sees, left_reserve_sees, sweep_sees}
 use Rattle.many_acts.proofs.Looks.Sees.Tables.{sum_sees_none}
-
--- what was seen was looked at
-pub seen_looks : {T R : Type 0} (b : ℕ) (m : Mem T) (plan : Plan T R) (n : Mem T) (end : R) → HasSeen b m plan n end → LooksAt b m plan
-seen_looks b m (Turn rest) n end saw = let is = saw.0 in subst (λ (x : Mem _). LooksAt b x (Turn rest)) is saw.2
-seen_looks b m (Do op rest) n end (out, took, ends, sees) = inr (out, n, took, sees)
 
 -- a call on a key goes on as is told
 goes_on : {K V : Type 0} (end : Called (Node K V)) → IsOn end → Continues (of_called end)
@@ -66,7 +58,7 @@ goes_on (called.Refused fault) on = absurd on
 
 module _ {K Q : Type 0} (V : Type 0) (same : K → K → Bool) (asks : Q → K → Bool) (batch_size roots : ℕ) (slot : ℕ → ℕ) where
   module _ (w : World (Node K V)) (maps : ℕ → Option (Standing K)) (calls : ℕ → ℕ → Option (UnderWay K V Q)) (makers : ℕ → Option (Beginning K)) (enders : ℕ → Option (Finishing K V))
-      (all : EndingsTogether V same asks batch_size roots slot w maps calls makers enders) (m : ℕ) (s : Standing K) (stands : maps m ≡ Some s) (incremental : is_incremental s.setting.mode ≡ true)
+      (all : EndingsTogether V same asks batch_size roots slot w maps calls makers enders) (m : ℕ) (s : Standing K) (stands : maps m ≡ Some s)
       (i : ℕ) (m2 : Mem (Node K V)) (machine : Machine K V Q) (told : Progress (Node K V)) (b : ℕ) where
     together : Together V same s.hash asks s.setting slot w s.chart s.blocks s.sights (calls m)
     together = all.makings.standing.each m s stands
@@ -95,15 +87,10 @@ module _ {K Q : Type 0} (V : Type 0) (same : K → K → Bool) (asks : Q → K �
         abbrev Facts : Type 0
         Facts = CallFacts same s.hash asks w i here s.chart its_seen u.keys u.change u.call
 
-        looks_held : HasSeen b w.memory (machine_plan asks same s.hash (kinds.Key u.call)) m2 (machine, told) → (l : Lookup) → u.call.stands ≡ at.Looks l → holds (slot i) b w.log ≡ true
-        looks_held saw l is =
-            lookups_look V same asks batch_size roots slot w maps calls makers enders all m s stands incremental i u has l is b
-            (seen_looks b w.memory (machine_plan asks same s.hash (kinds.Key u.call)) m2 (machine, told) saw)
-
         -- where the call has come to with its own pair
-        own_lasts : (facts : Facts) (first : KeyCall K V Q × Called (Node K V)) → machine ≡ kinds.Key first.0 → told ≡ of_called first.1
-            → SawOwn same s.hash asks (lawful.fits) w (slot i) i s.chart its_seen here s.setting incremental its_within its_map u.keys u.change u.call facts b m2 first → IsOwnOf machine b × Continues told
-        own_lasts facts first is_machine is_told own =
+        own_lasts : (change : Change) (setting_is : u.call.setting ≡ here) (code : u.call.hash < 2 ^ 64) (first : KeyCall K V Q × Called (Node K V)) → machine ≡ kinds.Key first.0 → told ≡ of_called first.1
+            → SawOwn same s.hash asks (lawful.fits) w (slot i) i s.chart its_seen here s.setting its_within its_map u.keys change u.call setting_is code b m2 first → IsOwnOf machine b × Continues told
+        own_lasts change setting_is code first is_machine is_told own =
             let keeps = own.keeps in (
               subst (λ (x : Machine K V Q). IsOwnOf x b) (sym is_machine) (keeps.1, ap (λ (x : ℕ). x == 0) keeps.0 ∙ own.some, own.block ∙ ap (λ (x : ℕ). x / 2048) (sym keeps.0)),
               subst (λ (x : Progress (Node K V)). Continues x) (sym is_told) (goes_on first.1 keeps.2),
@@ -112,17 +99,26 @@ module _ {K Q : Type 0} (V : Type 0) (same : K → K → Bool) (asks : Q → K �
         key_lasts : Facts → HasSeen b w.memory (machine_plan asks same s.hash (kinds.Key u.call)) m2 (machine, told) → Lasts
         key_lasts facts saw =
             let first = seen_as machines.called b w.memory (call_plan asks same s.hash u.call) m2 (machine, told) saw in
-            elim (call_lasts same s.hash asks (lawful.fits) w (slot i) i s.chart its_seen here s.setting incremental its_within its_map u.keys u.change u.call facts b m2 first.0 none
-            (looks_held saw) first.2) as (λ _. Lasts) [
+            elim (call_lasts same s.hash asks (lawful.fits) w (slot i) i s.chart its_seen here s.setting its_within its_map u.keys u.change u.call facts.setting_is facts.code b m2 first.0 facts none
+            first.2) as (λ _. Lasts) [
               | inl held ↦ inl held
-              | inr own ↦ inr (own_lasts facts first.0 (ap (λ (x : Machine K V Q × Progress (Node K V)). x.0) first.1) (ap (λ (x : Machine K V Q × Progress (Node K V)). x.1) first.1) own)
+              | inr own ↦ inr (own_lasts u.change facts.setting_is facts.code first.0 (ap (λ (x : Machine K V Q × Progress (Node K V)). x.0) first.1) (ap (λ (x : Machine K V Q × Progress (Node K V)). x.1) first.1) own)
+            ]
+
+        left_lasts : SupersededCallFacts same s.hash asks w i here s.chart its_seen u.keys u.began u.call → HasSeen b w.memory (machine_plan asks same s.hash (kinds.Key u.call)) m2 (machine, told) → Lasts
+        left_lasts facts saw =
+            let first = seen_as machines.called b w.memory (call_plan asks same s.hash u.call) m2 (machine, told) saw in
+            elim (left_call_lasts same s.hash asks (lawful.fits) w (slot i) i s.chart its_seen here s.setting its_within its_map u.keys u.began u.call facts b m2 first.0 none first.2) as (λ _. Lasts) [
+              | inl held ↦ inl held
+              | inr own ↦ inr (own_lasts Unchanged facts.setting_is facts.code first.0 (ap (λ (x : Machine K V Q × Progress (Node K V)). x.0) first.1)
+                  (ap (λ (x : Machine K V Q × Progress (Node K V)). x.1) first.1) own)
             ]
 
         key_stands : IsAtPoint V same s.hash asks s.setting slot w s.chart its_seen i (OnKey u) → HasSeen b w.memory (machine_plan asks same s.hash (kinds.Key u.call)) m2 (machine, told)
             → Lasts
         key_stands (inl (rests, knows)) saw = elim knows.facts as (λ _. Lasts) [
           | inl facts ↦ key_lasts facts saw
-          | inr late ↦ absurd (let blocking = late.1.blocking in cc (blocking, incremental))
+          | inr late ↦ left_lasts late.1 saw
         ]
         key_stands (inr (row, is_row, knows)) saw = absurd (none is_row)
 
@@ -131,8 +127,8 @@ module _ {K Q : Type 0} (V : Type 0) (same : K → K → Bool) (asks : Q → K �
       room_held r none (inl (rests, knows)) saw =
           let first = seen_as machines.reserved b w.memory (reserve_plan s.hash r.reserve) m2 (machine, told) saw in
           elim knows.facts as (λ _. holds (slot i) b w.log ≡ true) [
-            | inl facts ↦ reserve_sees same s.hash (lawful.fits) w (slot i) i s.chart its_seen here s.setting incremental its_within its_map b m2 r.reserve facts first.0 none first.2
-            | inr late ↦ absurd (let blocking = late.blocking in cc (blocking, incremental))
+            | inl facts ↦ reserve_sees same s.hash (lawful.fits) w (slot i) i s.chart its_seen here s.setting its_within its_map b m2 r.reserve facts first.0 none first.2
+            | inr late ↦ left_reserve_sees same s.hash (lawful.fits) w (slot i) i s.chart its_seen here s.setting its_within its_map b m2 r.began r.reserve late first.0 none first.2
           ]
       room_held r none (inr (row, is_row, knows)) saw = absurd (none is_row)
 
@@ -140,7 +136,7 @@ module _ {K Q : Type 0} (V : Type 0) (same : K → K → Bool) (asks : Q → K �
           → HasSeen b w.memory (machine_plan asks same s.hash (kinds.Sweep o.sweep)) m2 (machine, told) → holds (slot i) b w.log ≡ true
       sweep_held o none (inl (rests, knows)) saw =
           let first = seen_as machines.swept b w.memory (sweep_plan s.hash o.sweep) m2 (machine, told) saw in
-          sweep_sees same s.hash (lawful.fits) w (slot i) i s.chart its_seen here s.setting incremental its_within its_map b m2 o.began o.sweep knows.facts first.0 none first.2
+          sweep_sees same s.hash (lawful.fits) w (slot i) i s.chart its_seen here s.setting its_within its_map b m2 o.began o.sweep knows.facts first.0 none first.2
       sweep_held o none (inr (row, is_row, knows)) saw = absurd (none is_row)
 
     by_kind : (u : UnderWay K V Q) → calls m i ≡ Some u → (IsAtRow u → ⊥) → HasSeen b w.memory (machine_plan asks same s.hash (machine_of u)) m2 (machine, told)
@@ -152,5 +148,5 @@ module _ {K Q : Type 0} (V : Type 0) (same : K → K → Bool) (asks : Q → K �
     by_kind (OverAll o) has none saw = inl (sweep_held (together.inside i (OverAll o) has) o none (together.stand i (OverAll o) has) saw)
 
   pub steps_see : StepsSeeWhatLasts V same asks batch_size roots slot
-  steps_see w maps calls makers enders all m s stands incremental i u has none m2 machine told b saw =
-      by_kind w maps calls makers enders all m s stands incremental i m2 machine told b u has none saw
+  steps_see w maps calls makers enders all m s stands i u has none m2 machine told b saw =
+      by_kind w maps calls makers enders all m s stands i m2 machine told b u has none saw

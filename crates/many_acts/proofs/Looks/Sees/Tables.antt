@@ -23,6 +23,7 @@ use Rattle.run_shows.specs.Given.ResizeDeclared.sum.Summing.{Summing}
 use Rattle.run_shows.specs.Given.ResizeDeclared.sum.Summing.TheVariants as summing
 use Rattle.run_shows.specs.Given.RuleChart.{Chart}
 use Rattle.run_shows.specs.Given.RuleWords.{Blocks}
+use Rattle.owner_facts.specs.Given.LateLateCalls.{SupersededFirst, SupersededFirstFacts}
 use Rattle.owner_facts.specs.Given.PointsFactsTables.{MakingFacts, NewTableFacts}
 use Rattle.owner_facts.specs.Given.CallersKept.{IsWithin}
 use Rattle.many_acts.specs.Looks.Sees.{HasSeen}
@@ -65,3 +66,16 @@ module _ {K V : Type 0} (w : World (Node K V)) (slot caller : ℕ) (c : Chart K)
 
   pub new_table_sees : NewTableFacts w caller setting c seen link turn p → HasSeen b w.memory (new_table_plan p) n end → IsHeld
   new_table_sees facts saw = by_point p.stands facts.point saw
+
+-- the making of a first table that came too late, in blocking mode
+module _ {K V : Type 0} (w : World (Node K V)) (slot caller : ℕ) (c : Chart K) (seen : Blocks) (setting within_setting : Setting) (within : IsWithin w slot c seen within_setting)
+    (began : ℕ) (p : NewTable) (b : ℕ) (n : Mem (Node K V)) (end : NewTable × Advance Table) where
+  by_left : (stands : Making) → SupersededFirst w caller setting c seen began stands → HasSeen b w.memory (new_table.plan_at p stands) n end → holds slot b w.log ≡ true
+  by_left (at.Drops table found) (own, planned, u, left, made, known, is) saw =
+      subst (λ (x : ℕ). holds slot x w.log ≡ true) (sym (sees_one b (found / 2048) (value_at n) (λ value. new_table.done p (table_seen found value)) saw.3))
+      (table_held w slot c seen within_setting within found u (is, made, known))
+  by_left (at.Over table) point saw = absurd saw.2
+  by_left _ point saw = absurd point
+
+  pub left_first_sees : SupersededFirstFacts w caller setting c seen began p → HasSeen b w.memory (new_table_plan p) n end → holds slot b w.log ≡ true
+  left_first_sees facts saw = by_left p.stands facts.point saw

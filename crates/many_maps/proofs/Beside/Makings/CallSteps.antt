@@ -140,6 +140,6 @@ module _ {K Q : Type 0} (V : Type 0) (same : K → K → Bool) (asks : Q → K �
       )
 
   pub calls_begin_beside : CallsBeginWithMakings V same asks batch_size roots slot
-  calls_begin_beside w maps calls makers all i free alone rests inside m s here few keys pair call begun =
+  calls_begin_beside w maps calls makers all i free alone rests inside m s here keys pair call begun few =
       makings_with_call V same asks batch_size roots slot w maps calls makers all m i _ (λ j b makes e. (let none = ap makers (sym e) ∙ makes in cc (none, free)))
-      (calls_begin_in_maps V same asks batch_size slot w maps calls all.standing i alone rests inside m s here few keys pair call begun)
+      (calls_begin_in_maps V same asks batch_size slot w maps calls all.standing i alone rests inside m s here keys pair call begun few)

@@ -25,7 +25,7 @@ use Rattle.many_calls.specs.Given.PointsFactsCopiesBlocking.{HasNoShares}
 use Rattle.many_calls.specs.Claims.{AreFew, ClaimsFit}
 use Rattle.many_calls.specs.Kept.{IsUsersOwn, IsMaking, IsKeptBy, IsWithin}
 use Rattle.many_calls.specs.Sights.{SourcesAreVisible, IsVisibility}
-use Rattle.many_calls.specs.Together.{UnderWay, HasCall, ToClaim, CameAbout, in_slot, Together}
+use Rattle.many_calls.specs.Together.{UnderWay, IsWriter, ToClaim, CameAbout, in_slot, Together}
 use Rattle.many_calls.proofs.Rows.Defers.{used_stands}
 use Rattle.many_calls.proofs.Together.Came.{came_reached}
 
@@ -35,9 +35,9 @@ at_first P here t l = subst P (let e : 0 ≡ t = omega (arith, l) in e) here
 
 -- no calls are under way
 module _ {K V Q : Type 0} (calls : ℕ → Option (UnderWay K V Q)) (none : (i : ℕ) → calls i ≡ None) where
-  pub no_callers : (callers : List ℕ) → All (HasCall calls) callers → length callers ≤ 0
+  pub no_callers : (callers : List ℕ) → All (IsWriter calls) callers → length callers ≤ 0
   no_callers [] all = omega arith
-  no_callers (x ∷ xs) all = absurd (all 0 x (omega arith) (none x))
+  no_callers (x ∷ xs) all = absurd (let has = all 0 x (omega arith) in let is = has.1 in let no = none x in cc (is, no))
 
   pub none_to_claim : (t : ℕ) (callers : List ℕ) → All (ToClaim calls t) callers → length callers ≤ 0
   none_to_claim t [] all = omega arith
@@ -90,7 +90,7 @@ module _ {K V Q : Type 0} (same : K → K → Bool) (hash : K → ℕ) (asks : Q
     fits : ClaimsFit first (ToClaim calls)
     fits t made callers apart all = let few = none_to_claim calls none t callers all in omega (arith, few)
 
-    few : AreFew (HasCall calls)
+    few : AreFew (IsWriter calls)
     few callers apart all = let l = no_callers calls none callers all in omega (arith, l)
 
     pub first_table_together : Together V same hash asks setting slot w first blocks (λ s. record { tables = blocks.table_known; pairs = blocks.pair_known }) calls

@@ -65,6 +65,6 @@ module _ {K Q : Type 0} (V : Type 0) (same : K → K → Bool) (asks : Q → K �
       new = map_begins_together V same hash asks setting slot w (calls m) (λ i. all.only m i none) (subst (λ (n : ℕ). CameAbout n w) (sym is) all.came) root counter shards making
 
   pub calls_begin_in_maps : CallsBeginInMaps V same asks size slot
-  calls_begin_in_maps w maps calls all i alone rests inside m s here few keys pair call begun =
+  calls_begin_in_maps w maps calls all i alone rests inside m s here keys pair call begun few =
       maps_with_call V same asks size slot w maps calls all m s here i _ (λ n ne. alone n)
-      (begins_together same s.hash asks s.setting slot w s.chart s.blocks s.sights (calls m) i (all.fit m s here).0 (all.each m s here) (alone m) rests inside few keys pair call begun)
+      (begins_together same s.hash asks s.setting slot w s.chart s.blocks s.sights (calls m) i (all.fit m s here).0 (all.each m s here) (alone m) rests inside keys pair call begun few)

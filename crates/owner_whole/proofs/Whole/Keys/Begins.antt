@@ -12,11 +12,10 @@ use Rattle.map_measures.specs.Given.RuleWords.{Blocks}
 use Rattle.owner_facts.specs.Given.PointsSteps.{AreLawful}
 use Rattle.owner_facts.specs.Given.LateLateCalls.{SupersededCallFacts}
 use Rattle.owner_facts.specs.Alone.FactsAloneCalls.{TablesAlone, AloneAtPoint}
-use Rattle.map_measures.specs.Given.CallersClaims.{AreFew}
 use Rattle.map_measures.specs.Given.CallersPairs.{Given}
 use Rattle.map_measures.specs.Given.CallersRows.{row_of}
 use Rattle.owner_facts.specs.Given.CallersSights.{Visible, seen_by}
-use Rattle.owner_facts.specs.Given.CallersTogether.{UnderWay, CallOnKey, OnKey, HasCall, IsBegun, Gets, Removes, Inserts, TriesToInsert, Computes, Updates, UpdatesOrInserts, TriesToInsertWith, RemovesIf, begun_at, in_slot, IsAtPoint, Together}
+use Rattle.owner_facts.specs.Given.CallersTogether.{UnderWay, CallOnKey, OnKey, FewWith, IsBegun, Gets, Removes, Inserts, TriesToInsert, Computes, Updates, UpdatesOrInserts, TriesToInsertWith, RemovesIf, begun_at, in_slot, IsAtPoint, Together}
 use Rattle.owner_facts.proofs.Given.CallersTogether.At.{at_other, at_same}
 use Rattle.owner_facts.proofs.Given.CallersTogether.Begins.{begins_together}
 use Rattle.owner_facts.proofs.Given.CallersTogether.FactsOn.{KnowsOfCall}
@@ -25,13 +24,13 @@ use Rattle.owner_whole.specs.Whole.Whole.{CallsBeginAlone}
 use Rattle.owner_whole.proofs.Whole.Rows.Standing.{no_row_rests}
 
 -- one caller is few
-pub one_few : {K V Q : Type 0} (calls : ℕ → Option (UnderWay K V Q)) → ((i : ℕ) → calls i ≡ None) → AreFew (λ j. (j ≡ 0) ⊎ HasCall calls j)
-one_few calls none callers apart all = by (cases_lt 1 (length callers))
+pub one_few : {K V Q : Type 0} (calls : ℕ → Option (UnderWay K V Q)) → ((i : ℕ) → calls i ≡ None) → (u : UnderWay K V Q) → FewWith calls 0 u
+one_few calls none u callers apart all = by (cases_lt 1 (length callers))
   where
     first : (k : ℕ) → k < length callers → slice_index_or callers k 0 ≡ 0
     first k l = elim (all k 0 l) as (λ _. slice_index_or callers k 0 ≡ 0) [
-      | inl e ↦ e
-      | inr has ↦ absurd (has (none (slice_index_or callers k 0)))
+      | inl its ↦ its.0
+      | inr has ↦ absurd (let is = has.1 in let no = none (slice_index_or callers k 0) in cc (is, no))
     ]
 
     by : (1 < length callers) ⊎ (length callers ≤ 1) → length callers ≤ 2 ^ 32
@@ -95,7 +94,7 @@ module _ {K V Q : Type 0} (same : K → K → Bool) (hash : K → ℕ) (asks : Q
     has2 = at_same a.calls 0 (Some (OnKey it)) 0 refl
 
     together2 : Together V same hash asks setting slot w c blocks sights calls2
-    together2 = begins_together same hash asks setting slot w c blocks sights a.calls 0 lawful a.together (a.none 0) (a.rows 0) a.inside (λ blocking. one_few a.calls a.none) keys pair call begun
+    together2 = begins_together same hash asks setting slot w c blocks sights a.calls 0 lawful a.together (a.none 0) (a.rows 0) a.inside keys pair call begun (λ blocking. one_few a.calls a.none (OnKey it))
 
     first : (x : KnowsOfCall same hash asks (in_slot setting (slot 0)) 0 w c seen it.keys it.began it.change call) → IsFirst x
     first (inl facts) = tt

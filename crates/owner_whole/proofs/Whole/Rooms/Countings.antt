@@ -20,7 +20,6 @@ use Rattle.owner_whole.specs.Whole.Owner.{IsOfRoot, IsQuiescent, IsAlone}
 use Rattle.owner_facts.specs.Given.PointsFactsTables.{SumFacts}
 use Rattle.owner_facts.proofs.Maps.Reserves.Sums.{Ahead, sum_ahead}
 use Rattle.owner_whole.specs.Whole.WholeRooms.{CountLeads, HasOutcome, CountingsBeginAlone, CountingsContinueAlone}
-use Rattle.owner_whole.proofs.Whole.Keys.Begins.{one_few}
 
 module _ {K V Q : Type 0} (same : K → K → Bool) (hash : K → ℕ) (asks : Q → K → Bool) (setting : Setting) (slot : ℕ → ℕ) where
   -- what a counting knows is of no table
@@ -30,7 +29,7 @@ module _ {K V Q : Type 0} (same : K → K → Bool) (hash : K → ℕ) (asks : Q
   pub countings_begin_alone : CountingsBeginAlone V same hash asks setting slot
   countings_begin_alone w c blocks sights a =
       let it = summing (in_slot setting (slot 0)) in
-      let together2 = countings_begin_together same hash asks setting slot w c blocks sights a.calls 0 a.together (a.none 0) (a.rows 0) (λ blocking. one_few a.calls a.none) in
+      let together2 = countings_begin_together same hash asks setting slot w c blocks sights a.calls 0 a.together (a.none 0) (a.rows 0) in
       let has2 : with_at a.calls 0 (Some (Counting it)) 0 ≡ Some (Counting it) = at_same a.calls 0 (Some (Counting it)) 0 refl in
       record {
         calls = with_at a.calls 0 (Some (Counting it));

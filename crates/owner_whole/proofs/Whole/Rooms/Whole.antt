@@ -53,7 +53,7 @@ module _ {K V Q : Type 0} (same : K → K → Bool) (hash : K → ℕ) (asks : Q
     has2 = at_same a.calls 0 (Some (ForRoom it)) 0 refl
 
     together2 : Together V same hash asks setting slot w c blocks sights calls2
-    together2 = rooms_begin_together same hash asks setting slot w c blocks sights a.calls 0 a.together (a.none 0) (a.rows 0) a.inside (λ blocking. one_few a.calls a.none) additional
+    together2 = rooms_begin_together same hash asks setting slot w c blocks sights a.calls 0 a.together (a.none 0) (a.rows 0) a.inside additional (λ blocking. one_few a.calls a.none (ForRoom it))
 
     first : (x : ReserveFacts same hash w 0 (in_slot setting (slot 0)) c seen it.reserve ⊎ SupersededReserveFacts same hash w 0 (in_slot setting (slot 0)) c seen c.now it.reserve) → IsFirst x
     first (inl facts) = tt

@@ -31,7 +31,7 @@ module _ {K V Q : Type 0} (same : K → K → Bool) (hash : K → ℕ) (asks : Q
     has2 = at_same a.calls 0 (Some (OverAll it)) 0 refl
 
     together2 : Together V same hash asks setting slot w c blocks sights calls2
-    together2 = sweeps_begin_together same hash asks setting slot w c blocks sights a.calls 0 a.together (a.none 0) (a.rows 0) a.inside (λ blocking. one_few a.calls a.none) purpose
+    together2 = sweeps_begin_together same hash asks setting slot w c blocks sights a.calls 0 a.together (a.none 0) (a.rows 0) a.inside purpose (λ blocking. one_few a.calls a.none (OverAll it))
 
     of_root : (x : IsAtPoint V same hash asks setting slot w c seen 0 (OverAll it)) → IsOfRoot same hash asks setting slot w c seen (OverAll it) x
     of_root (inl (rests, knows)) = (tt, record { table = tt; before = λ once before. refl })

@@ -19,7 +19,7 @@ use Rattle.threads_sweeps.proofs.Gone.{gone_over}
 use Rattle.threads_sweeps.proofs.retaining.sifts.Goals as goal
 
 pub begins-requires : goal.begins-requires
-begins-requires g c = let m = c.requires.may.may in record { inside = (m.slot, m.inside); knows = (m.map, m.knows, m.incremental); free = m.free }
+begins-requires g c = let m = c.requires.may.may in record { inside = (m.slot, m.inside); knows = (m.map, m.knows, m.only); free = m.free }
 
 pub loop-init : goal.loop-init
 loop-init g c = (

@@ -9,7 +9,7 @@ sends-requires-clause-asks g c =
     let x = c.args.session.now in (
       rw (c.hasher-hasher.ensures)
           (may_go_over g.K.PartialEq.eq g.S.Hashes.hash Walks x.caller.seat.view x.setting c.setting.result x.hasher.now x.slot (kinds.Sweep c.walk-sweep.result) x.caller.lone c.requires.inside x.free
-          x.knows x.incremental c.setting.ensures (ap kinds.Sweep c.walk-sweep.ensures)),
+          x.knows c.setting.ensures (ap kinds.Sweep c.walk-sweep.ensures)),
       c.requires.callable,
     )
 

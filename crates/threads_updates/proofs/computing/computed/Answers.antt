@@ -14,7 +14,7 @@ sends-once-requires-clause-asks g c =
       refl,
       subst (λ (h : g.row.S.Denot). MayDoAs g.K.PartialEq.eq g.S.Hashes.hash computes first h (kinds.Key c.compute-call.result) v) (sym its)
           (may_compute g.K.PartialEq.eq g.S.Hashes.hash v x.setting c.setting.result x.hasher.now c.args.key c.hash_of-hash.result x.slot c.compute-call.result x.caller.lone c.requires.inside x.free
-          x.knows x.incremental c.setting.ensures (c.hash_of-hash.ensures ∙ ap (λ (h : g.row.S.Denot). g.S.Hashes.hash h c.args.key) its) c.compute-call.ensures),
+          x.knows c.setting.ensures (c.hash_of-hash.ensures ∙ ap (λ (h : g.row.S.Denot). g.S.Hashes.hash h c.args.key) its) c.compute-call.ensures),
       c.requires.may,
     )
 

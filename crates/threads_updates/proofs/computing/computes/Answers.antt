@@ -12,7 +12,7 @@ pub begins-requires-clause-inside : goal.begins-requires-clause-inside
 begins-requires-clause-inside g c = let m = c.requires.begins.2.may in (m.slot, m.inside)
 
 pub begins-requires-clause-knows : goal.begins-requires-clause-knows
-begins-requires-clause-knows g c = let m = c.requires.begins.2.may in (m.map, m.knows, m.incremental)
+begins-requires-clause-knows g c = let m = c.requires.begins.2.may in (m.map, m.knows, m.only)
 
 pub begins-requires-clause-free : goal.begins-requires-clause-free
 begins-requires-clause-free g c = c.requires.begins.2.may.free

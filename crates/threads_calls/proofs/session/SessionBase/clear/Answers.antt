@@ -5,7 +5,7 @@ pub does-ran-requires : goal.does-ran-requires
 does-ran-requires g c =
     let x = c.args.self.now in record {
       may =
-          may_clear g.K.PartialEq.eq g.S.Hashes.hash x.caller.seat.view x.setting c.setting_in-setting.result x.hasher.now x.slot x.caller.lone c.requires.inside x.free x.knows x.incremental
+          may_clear g.K.PartialEq.eq g.S.Hashes.hash x.caller.seat.view x.setting c.setting_in-setting.result x.hasher.now x.slot x.caller.lone c.requires.inside x.free x.knows
           c.setting_in-setting.ensures c.clear-call.result c.clear-call.ensures;
     }
 

@@ -18,7 +18,7 @@ stores-ran-requires g c =
       may =
           may_insert g.K.PartialEq.eq g.S.Hashes.hash x.caller.seat.view x.setting c.setting_in-setting.result x.hasher.now c.args.key c.hash_of-hash.result x.slot
           (inserting c.setting_in-setting.result c.hash_of-hash.result c.args.key c.args.value)
-          x.caller.lone c.requires.inside x.free x.knows x.incremental c.setting_in-setting.ensures c.hash_of-hash.ensures c.hash_of-hash.type_inv c.args.value refl;
+          x.caller.lone c.requires.inside x.free x.knows c.setting_in-setting.ensures c.hash_of-hash.ensures c.hash_of-hash.type_inv c.args.value refl;
     }
 
 pub returns-in-Ok-clause-stored : goal.returns-in-Ok-clause-stored

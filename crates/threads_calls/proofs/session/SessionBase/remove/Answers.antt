@@ -11,7 +11,7 @@ removes-requires g c =
     let x = c.args.self.now in let its = c.setting_in-setting.result in let hashed = c.hash_of-hash.result in record {
       may =
           may_remove g.K.PartialEq.eq g.S.Hashes.hash x.caller.seat.view x.setting its x.hasher.now c.args.key hashed x.slot (removing its hashed c.args.key) x.caller.lone c.requires.inside
-          x.free x.knows x.incremental c.setting_in-setting.ensures c.hash_of-hash.ensures c.hash_of-hash.type_inv refl;
+          x.free x.knows c.setting_in-setting.ensures c.hash_of-hash.ensures c.hash_of-hash.type_inv refl;
     }
 
 pub returns-in-Ok-clause-removed : goal.returns-in-Ok-clause-removed

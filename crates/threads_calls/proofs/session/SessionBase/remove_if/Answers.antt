@@ -8,7 +8,7 @@ removes_if-ran-requires-clause-may g c =
     let x = c.args.self.now in (
       testing,
       may_test g.K.PartialEq.eq g.S.Hashes.hash x.caller.seat.view x.setting c.setting_in-setting.result x.hasher.now c.args.key c.hash_of-hash.result x.slot c.remove_if-call.result
-          x.caller.lone c.requires.inside x.free x.knows x.incremental c.setting_in-setting.ensures c.hash_of-hash.ensures c.remove_if-call.ensures,
+          x.caller.lone c.requires.inside x.free x.knows c.setting_in-setting.ensures c.hash_of-hash.ensures c.remove_if-call.ensures,
     )
 
 pub returns-in-Ok-clause-removed : goal.returns-in-Ok-clause-removed

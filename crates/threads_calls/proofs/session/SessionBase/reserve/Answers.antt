@@ -5,7 +5,7 @@ pub does-ran-requires : goal.does-ran-requires
 does-ran-requires g c =
     let x = c.args.self.now in record {
       may =
-          may_reserve g.K.PartialEq.eq g.S.Hashes.hash x.caller.seat.view x.setting c.setting_in-setting.result x.hasher.now x.slot x.caller.lone c.requires.inside x.free x.knows x.incremental
+          may_reserve g.K.PartialEq.eq g.S.Hashes.hash x.caller.seat.view x.setting c.setting_in-setting.result x.hasher.now x.slot x.caller.lone c.requires.inside x.free x.knows
           c.setting_in-setting.ensures c.args.additional c.new-call.result c.new-call.ensures;
     }
 

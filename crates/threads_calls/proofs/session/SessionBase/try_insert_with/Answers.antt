@@ -13,7 +13,7 @@ makes_pair-ran-requires-clause-may g c =
       first,
       refl,
       may_make g.K.PartialEq.eq g.S.Hashes.hash x.caller.seat.view x.setting c.setting_in-setting.result x.hasher.now c.args.key c.hash_of-hash.result x.slot c.try_insert_with-call.result
-          x.caller.lone c.requires.inside x.free x.knows x.incremental c.setting_in-setting.ensures c.hash_of-hash.ensures c.try_insert_with-call.ensures,
+          x.caller.lone c.requires.inside x.free x.knows c.setting_in-setting.ensures c.hash_of-hash.ensures c.try_insert_with-call.ensures,
     )
 
 pub there-requires : goal.there-requires

@@ -1,7 +1,8 @@
-use Rattle.std.proofs.Common.{subst}
+use Rattle.std.proofs.Common.{sym, subst}
 use Rattle.threads_rule.specs.Given.ActsActs.{Wanted}
 use Rattle.seize_callers.proofs.Keeping.{still_kept}
 use Rattle.threads_rule.specs.Errands.Looking.{Begins}
+use Rattle.threads_rule.specs.Views.Rule.{MayWant}
 use Rattle.threads_rule.proofs.Errands.Beginnings.{begun_leans, may_begin}
 use Rattle.threads_steps.proofs.within.Within.begins_as.Goals as goal
 
@@ -9,7 +10,8 @@ pub turn-requires-clause-may : goal.turn-requires-clause-may
 turn-requires-clause-may g c =
     let x = c.args.self.now in
     may_begin g.K.PartialEq.eq g.S.Hashes.hash x.blocks.now.words.fixed x.seat.now.id x.seat.now.view c.requires.inside.0 c.requires.knows.0 g.B.Wants.wanted c.requires.inside.1
-    c.requires.knows.1 c.requires.knows.2 c.requires.free
+    c.requires.knows.1
+    (subst (λ (w : Wanted g.row.K.Denot g.row.V.Denot). MayWant g.K.PartialEq.eq g.S.Hashes.hash x.seat.now.view.under c.requires.knows.0 w) (sym c.requires.wanted) c.requires.knows.2) c.requires.free
 
 pub turn-requires-clause-errand : goal.turn-requires-clause-errand
 turn-requires-clause-errand g c = λ home rests w so. absurd (c.args.self.now.away home)

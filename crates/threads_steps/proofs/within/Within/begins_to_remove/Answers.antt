@@ -4,7 +4,7 @@ use Rattle.threads_rule.proofs.Errands.Beginnings.{is_begun}
 use Rattle.threads_steps.proofs.within.Within.begins_to_remove.Goals as goal
 
 pub begins_on_as-requires : goal.begins_on_as-requires
-begins_on_as-requires g c = let m = c.requires.may.may in record { inside = (m.slot, m.inside); knows = (m.map, m.knows, m.incremental); free = m.free }
+begins_on_as-requires g c = let m = c.requires.may.may in record { inside = (m.slot, m.inside); knows = (m.map, m.knows, m.only); free = m.free }
 
 pub returns-clause-begun : goal.returns-clause-begun
 returns-clause-begun g c = c.begins_on_as.ensures.begins

@@ -4,7 +4,7 @@ use Rattle.threads_steps.specs.Storing.{making}
 use Rattle.threads_steps.proofs.within.Within.begins_to_store.Goals as goal
 
 pub begins_with_as-requires : goal.begins_with_as-requires
-begins_with_as-requires g c = let m = c.requires.may.may in record { inside = (m.slot, m.inside); knows = (m.map, m.knows, m.incremental); free = m.free }
+begins_with_as-requires g c = let m = c.requires.may.may in record { inside = (m.slot, m.inside); knows = (m.map, m.knows, m.only); free = m.free }
 
 pub returns-clause-begun : goal.returns-clause-begun
 returns-clause-begun g c = c.begins_with_as.ensures.begins

@@ -10,7 +10,7 @@ use Rattle.threads_rule.proofs.Errands.Runs.{has_run}
 use Rattle.threads_steps.proofs.within.Within.counts.Goals as goal
 
 pub begins-requires : goal.begins-requires
-begins-requires g c = let m = c.requires.may.may in record { inside = (m.slot, m.inside); knows = (m.map, m.knows, m.incremental); free = m.free }
+begins-requires g c = let m = c.requires.may.may in record { inside = (m.slot, m.inside); knows = (m.map, m.knows, m.only); free = m.free }
 
 pub adds_all-requires : goal.adds_all-requires
 adds_all-requires g c =

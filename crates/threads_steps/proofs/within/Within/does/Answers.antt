@@ -6,7 +6,7 @@ use Rattle.threads_rule.proofs.Errands.Runs.{comes_back, has_run}
 use Rattle.threads_steps.proofs.within.Within.does.Goals as goal
 
 pub begins-requires : goal.begins-requires
-begins-requires g c = let m = c.requires.may.may in record { inside = (m.slot, m.inside); knows = (m.map, m.knows, m.incremental); free = m.free }
+begins-requires g c = let m = c.requires.may.may in record { inside = (m.slot, m.inside); knows = (m.map, m.knows, m.only); free = m.free }
 
 pub runs-requires : goal.runs-requires
 runs-requires g c =

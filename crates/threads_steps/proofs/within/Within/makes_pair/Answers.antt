@@ -13,7 +13,7 @@ use Rattle.threads_steps.proofs.Pausing.{answered, ended_on, gone_as, gone_on, m
 use Rattle.threads_steps.proofs.within.Within.makes_pair.Goals as goal
 
 pub begins-requires : goal.begins-requires
-begins-requires g c = let m = c.requires.may.2.may in record { inside = (m.slot, m.inside); knows = (m.map, m.knows, m.incremental); free = m.free }
+begins-requires g c = let m = c.requires.may.2.may in record { inside = (m.slot, m.inside); knows = (m.map, m.knows, m.only); free = m.free }
 
 pub runs_on-requires : goal.runs_on-requires
 runs_on-requires g c =

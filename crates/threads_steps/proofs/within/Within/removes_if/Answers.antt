@@ -10,7 +10,7 @@ use Rattle.threads_steps.proofs.Pausing.{answered, calls_stay_told, ended_on, go
 use Rattle.threads_steps.proofs.within.Within.removes_if.Goals as goal
 
 pub begins-requires : goal.begins-requires
-begins-requires g c = let m = c.requires.may.1.may in record { inside = (m.slot, m.inside); knows = (m.map, m.knows, m.incremental); free = m.free }
+begins-requires g c = let m = c.requires.may.1.may in record { inside = (m.slot, m.inside); knows = (m.map, m.knows, m.only); free = m.free }
 
 pub loop-init : goal.loop-init
 loop-init g c =

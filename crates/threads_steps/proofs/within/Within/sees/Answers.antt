@@ -4,7 +4,7 @@ use Rattle.threads_steps.proofs.Straight.{seen_since}
 use Rattle.threads_steps.proofs.within.Within.sees.Goals as goal
 
 pub begins_to_look-requires : goal.begins_to_look-requires
-begins_to_look-requires g c = let m = c.requires.may in record { inside = (m.slot, m.inside); knows = (m.map, m.knows, m.incremental); free = m.free }
+begins_to_look-requires g c = let m = c.requires.may in record { inside = (m.slot, m.inside); knows = (m.map, m.knows); free = m.free }
 
 pub looks_up-requires : goal.looks_up-requires
 looks_up-requires g c = record {
