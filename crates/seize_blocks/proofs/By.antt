@@ -1,5 +1,5 @@
 -- What is asked of the words of a strip is what is known of the strip.
-use Rattle.std.proofs.Common.{◌≡◌, ◌⊎◌, inl, inr, ℕ, Option, None, Some, IsSome, replicate, refl, sym, ap, ◌∙◌, subst, arith, ◌*◌, ◌+◌, ◌<◌, ◌≤◌, ◌^◌}
+use Rattle.std.proofs.Common.{◌≡◌, ℕ, Option, None, Some, IsSome, replicate, refl, sym, ap, ◌∙◌, subst, arith, ◌*◌, ◌+◌, ◌<◌, ◌≤◌, ◌^◌}
 use denote.RawPtr.{Ptr, InBlock}
 use Rattle.seize_words.specs.OneMemory.Op.{Op, Out, Make, Take, Rewrite}
 use Rattle.seize_words.specs.declared.at.At.{At}
@@ -16,8 +16,6 @@ use Rattle.seize_atoms.proofs.Allowed.{visits_found, value_found}
 use Rattle.seize_seats.specs.Plots.Pieces.{lies, lies_at}
 use Rattle.seize_seats.specs.declared.kept.Kept.{Kept}
 use Rattle.seize_seats.specs.declared.piece.Piece.{Piece}
-use Rattle.seize_seats.specs.Plots.Somewhere.{AreBeside}
-use Rattle.seize_seats.proofs.Plots.Somewhere.{beside_none}
 use Rattle.seize_seats.specs.Seats.Owned.{BaseId}
 use Rattle.seize_atoms.specs.Placed.{IsItsPlace, IsItsSign, IsItsIndex, HasWord}
 use Rattle.seize_atoms.specs.declared.claim.Claim.{Claim}
@@ -135,8 +133,3 @@ lies_there rests leans upright holds keeps id v visit away b x y o s is_x is_y o
     let one : x ≡ y = cc (is_x, is_y) in
     let found : lies x ≡ s.0 = value_found rests leans upright holds keeps id v visit away b s.0 x s.1 (of.0, of.1, of.2, of.4) in
     s.1 ∙ ap (λ (p : Spot). Some (b, p)) (sym found ∙ ap lies one)
-
--- a word that is looked for elsewhere is none
-pub own_away : (p : Ptr) (n i : ℕ) → AreBeside p n → ((0 < n) × (2 ^ 60 ≤ i)) ⊎ (n ≤ 0) → InBlock p → i * 8 < 2 ^ 63 → ⊥
-own_away p n i is (inl far) there few = let high = far.1 in omega (arith, high, few)
-own_away p n i is (inr none) there few = beside_none p n is (omega (arith, none)) there

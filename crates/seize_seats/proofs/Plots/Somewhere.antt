@@ -6,7 +6,3 @@ use Rattle.seize_seats.specs.Plots.Somewhere.{AreBeside}
 pub beside_some : (p : Ptr) (n : ℕ) → AreBeside p n → 0 < n → InBlock p
 beside_some null_ptr n is low = absurd (let at = is.0 in grind (arith, at, low))
 beside_some (block_ptr b o) n is low = tt
-
-pub beside_none : (p : Ptr) (n : ℕ) → AreBeside p n → n ≡ 0 → InBlock p → ⊥
-beside_none null_ptr n is none there = there
-beside_none (block_ptr b o) n is none there = let at = is.0 in grind (arith, at, none)
