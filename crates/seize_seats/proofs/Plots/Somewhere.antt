@@ -1,5 +1,5 @@
 -- Words lie in a block where there are any, else at null.
-use Rattle.std.proofs.Common.{◌≡◌, ℕ, ◌<◌, arith}
+use Rattle.std.proofs.Common.{ℕ, ◌<◌, arith}
 use denote.RawPtr.{Ptr, null_ptr, block_ptr, InBlock}
 use Rattle.seize_seats.specs.Plots.Somewhere.{AreBeside}
 
