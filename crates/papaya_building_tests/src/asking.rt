@@ -6,8 +6,7 @@ use std::sync::Wait;
 use std::sync::atomic::AtomicU64;
 use std::sync::atomic::Ordering::SeqCst;
 use std::test::Fail;
-use std::thread;
-use std::thread::Threads;
+use std::thread::{self, Threads};
 use std::time::{Clock, Duration};
 
 /// How often a closure looks for the other one, a millisecond apart.
@@ -40,16 +39,12 @@ fn makes<R: Wait + Clock>(
 }
 
 /// Two threads do so, each at a key of its own.
-fn both_make<R: Threads + Wait + Clock + Sync>(
-    rt: &R,
-    alloc: Global,
-) -> Result<(bool, bool), Fault> {
+fn both<R: Threads + Wait + Clock + Sync>(rt: &R, alloc: Global) -> Result<(bool, bool), Fault> {
     let mut ids = IdSource::new();
     let map = HashMap::with_hasher(alloc, &mut ids, Hashing::default())?;
     let first = map.session()?;
     let second = first.another()?;
-    let one = AtomicU64::new(0);
-    let other = AtomicU64::new(0);
+    let (one, other) = (AtomicU64::new(0), AtomicU64::new(0));
     let (a, b) = thread::join(
         rt,
         || makes(rt, first, 1, &one, &other),
@@ -61,7 +56,7 @@ fn both_make<R: Threads + Wait + Clock + Sync>(
 // Were one call served after another, the closure of the first would never see the flag of the second.
 #[test]
 fn two_calls_ask_their_closures_at_a_time(rt: HostRuntime) -> Result<(), Fail> {
-    assert_eq!(rt; both_make(&rt, rt.alloc())?, (true, true));
+    assert_eq!(rt; both(&rt, rt.alloc())?, (true, true));
     Ok(())
 }
 
@@ -82,15 +77,9 @@ fn asks<R: Wait>(rt: &R, alloc: Global) -> Result<[bool; 7], Fault> {
     let none = session.remove_if(rt, 42, |_, _| true)?;
     session.extend(rt, [(42, 1), (16, 2), (42, 3)])?;
     let extended = session.get(rt, &42).copied() == Some(3) && session.contains_key(rt, &16);
-    Ok([
-        extended,
-        stored,
-        !again,
-        asked.load(SeqCst) == 0,
-        !kept && there,
-        removed,
-        !none,
-    ])
+    let unasked = asked.load(SeqCst) == 0;
+    let left = !kept && there;
+    Ok([extended, stored, !again, unasked, left, removed, !none])
 }
 
 #[test]

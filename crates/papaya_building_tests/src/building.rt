@@ -4,8 +4,7 @@ use std::alloc::{AllocError, Global};
 use std::hash::{BuildHasherDefault, DefaultHasher, RandomState};
 use std::sync::Wait;
 use std::test::Fail;
-use std::thread;
-use std::thread::Threads;
+use std::thread::{self, Threads};
 
 /// How many keys each of two threads stores.
 const EACH: u64 = 300;
@@ -20,11 +19,12 @@ type Hashing = BuildHasherDefault<DefaultHasher>;
 
 type Map = HashMap<u64, u64, Hashing>;
 
+type Own<'m> = Session<'m, u64, u64, Hashing>;
+
 /// Whether each reason comes before those that follow it, and whether a source of one number still has that afterwards.
 fn reasons(alloc: Global, hasher: RandomState) -> [bool; 6] {
     let mut ids = IdSource::starting_at(LAST);
-    let builder = Map::builder(Hashing::default());
-    let builder = builder.resize_mode(ResizeMode::Incremental(0));
+    let builder = Map::builder(Hashing::default()).resize_mode(ResizeMode::Incremental(0));
     let zero = builder.capacity(TOO_MANY).build(alloc, &mut ids);
     let builder = Map::builder(Hashing::default()).capacity(TOO_MANY);
     let many = builder.build(alloc, &mut ids);
@@ -65,11 +65,7 @@ fn a_builder_shows_what_was_chosen(rt: HostRuntime) -> Result<(), Fail> {
 }
 
 /// Stores so many keys from this one on, and answers how many of them it finds then.
-fn stores<R: Wait>(
-    rt: &R,
-    mut session: Session<'_, u64, u64, Hashing>,
-    from: u64,
-) -> Result<u64, Fault> {
+fn stores<R: Wait>(rt: &R, mut session: Own<'_>, from: u64) -> Result<u64, Fault> {
     let mut found = 0u64;
     for n in 0..EACH {
         let key = u64::wrapping_add(from, n);

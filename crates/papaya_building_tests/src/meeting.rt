@@ -4,8 +4,7 @@ use std::alloc::Global;
 use std::hash::{BuildHasherDefault, DefaultHasher};
 use std::sync::Wait;
 use std::test::Fail;
-use std::thread;
-use std::thread::Threads;
+use std::thread::{self, Threads};
 use std::time::{Clock, Duration};
 
 /// How many of them there are.
@@ -16,8 +15,10 @@ const LOOKS: u64 = 20_000;
 
 type Hashing = BuildHasherDefault<DefaultHasher>;
 
+type Own<'m> = Session<'m, u64, u64, Hashing>;
+
 /// Whether this key comes to be there.
-fn meets<R: Wait + Clock>(rt: &R, session: &mut Session<'_, u64, u64, Hashing>, key: u64) -> bool {
+fn meets<R: Wait + Clock>(rt: &R, session: &mut Own<'_>, key: u64) -> bool {
     for _ in 0..LOOKS {
         if session.contains_key(rt, &key) {
             return true;
@@ -29,11 +30,7 @@ fn meets<R: Wait + Clock>(rt: &R, session: &mut Session<'_, u64, u64, Hashing>, 
 }
 
 /// How many of their keys it finds, once it has left its own there.
-fn finds_all<R: Wait + Clock>(
-    rt: &R,
-    mut session: Session<'_, u64, u64, Hashing>,
-    own: u64,
-) -> Result<u64, Fault> {
+fn finds_all<R: Wait + Clock>(rt: &R, mut session: Own<'_>, own: u64) -> Result<u64, Fault> {
     let _ = session.insert(rt, own, own)?;
     let mut found = 0u64;
     for key in 0..MANY {
@@ -50,8 +47,7 @@ fn meet<R: Threads + Wait + Clock + Sync>(rt: &R, alloc: Global) -> Result<[u64;
     let map = HashMap::with_hasher(alloc, &mut ids, Hashing::default())?;
     let first = map.session()?;
     let second = first.another()?;
-    let third = first.another()?;
-    let fourth = first.another()?;
+    let (third, fourth) = (first.another()?, first.another()?);
     let ((a, b), (c, d)) = thread::join(
         rt,
         || { thread::join(rt, || finds_all(rt, first, 0), || finds_all(rt, second, 1)) },

@@ -4,8 +4,7 @@ use std::alloc::Global;
 use std::hash::{BuildHasherDefault, DefaultHasher, RandomState};
 use std::sync::Wait;
 use std::test::Fail;
-use std::thread;
-use std::thread::Threads;
+use std::thread::{self, Threads};
 
 /// How many keys each of them stores.
 const EACH: u64 = 100;
