@@ -16,17 +16,11 @@ const KEYS: u64 = 16;
 
 type Hashing = BuildHasherDefault<DefaultHasher>;
 
+type Own<'m> = Session<'m, u64, Counted, Hashing>;
+
 /// A value that adds one to a count as it is dropped.
 struct Counted {
     drops: Arc<AtomicU64>,
-}
-
-impl Counted {
-    /// One more of them. There is none where the count has too many owners.
-    fn of(drops: &Arc<AtomicU64>) -> Option<Counted> {
-        let drops = Arc::try_clone(drops).ok()?;
-        Some(Counted { drops })
-    }
 }
 
 impl Drop for Counted {
@@ -36,15 +30,12 @@ impl Drop for Counted {
     }
 }
 
-/// Stores values at a few keys, again and again, and answers how many it has stored.
-fn stores<R: Wait>(
-    rt: &R,
-    mut session: Session<'_, u64, Counted, Hashing>,
-    drops: &Arc<AtomicU64>,
-) -> Option<u64> {
+/// Stores values at a few keys, again and again, and answers how many it has stored. It does not where the count has too many owners.
+fn stores<R: Wait>(rt: &R, mut session: Own<'_>, drops: &Arc<AtomicU64>) -> Option<u64> {
     let mut stored = 0u64;
     for n in 0..EACH {
-        let value = Counted::of(drops)?;
+        let drops = Arc::try_clone(drops).ok()?;
+        let value = Counted { drops };
         if session.insert(rt, n % KEYS, value).is_ok() {
             stored = u64::wrapping_add(stored, 1);
         }

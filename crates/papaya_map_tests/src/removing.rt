@@ -13,12 +13,10 @@ type Hashing = BuildHasherDefault<DefaultHasher>;
 
 type Map<'m> = SharedMap<'m, u64, u64, Hashing>;
 
+type Own<'m> = Session<'m, u64, u64, Hashing>;
+
 /// Stores each key with this value where it is missing; answers how many it has stored.
-fn tries<R: Wait>(
-    rt: &R,
-    session: &mut Session<'_, u64, u64, Hashing>,
-    value: u64,
-) -> Result<u64, Fault> {
+fn tries<R: Wait>(rt: &R, session: &mut Own<'_>, value: u64) -> Result<u64, Fault> {
     let mut stored = 0u64;
     for key in 0..KEYS {
         match session.try_insert(rt, key, value)? {
@@ -30,7 +28,7 @@ fn tries<R: Wait>(
 }
 
 /// Removes each key; answers how many were there.
-fn removes<R: Wait>(rt: &R, session: &mut Session<'_, u64, u64, Hashing>) -> Result<u64, Fault> {
+fn removes<R: Wait>(rt: &R, session: &mut Own<'_>) -> Result<u64, Fault> {
     let mut removed = 0u64;
     for key in 0..KEYS {
         if session.remove(rt, key)? {

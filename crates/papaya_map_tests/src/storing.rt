@@ -11,12 +11,10 @@ const EACH: u64 = 400;
 
 type Hashing = BuildHasherDefault<DefaultHasher>;
 
+type Own<'m> = Session<'m, u64, u64, Hashing>;
+
 /// Stores so many keys from this one on, each with its double, and answers how many of them have replaced a pair.
-fn stores<R: Wait>(
-    rt: &R,
-    session: &mut Session<'_, u64, u64, Hashing>,
-    from: u64,
-) -> Result<u64, Fault> {
+fn stores<R: Wait>(rt: &R, session: &mut Own<'_>, from: u64) -> Result<u64, Fault> {
     let mut replaced = 0u64;
     for n in 0..EACH {
         let key = u64::wrapping_add(from, n);
@@ -28,7 +26,7 @@ fn stores<R: Wait>(
 }
 
 /// How many of so many keys from this one on it finds with their doubles.
-fn counts<R: Wait>(rt: &R, session: &mut Session<'_, u64, u64, Hashing>, from: u64) -> u64 {
+fn counts<R: Wait>(rt: &R, session: &mut Own<'_>, from: u64) -> u64 {
     let mut found = 0u64;
     for n in 0..EACH {
         let key = u64::wrapping_add(from, n);
@@ -41,11 +39,7 @@ fn counts<R: Wait>(rt: &R, session: &mut Session<'_, u64, u64, Hashing>, from: u
 }
 
 /// Stores so many keys from this one on, and answers how many have replaced a pair, and how many it finds then.
-fn works<R: Wait>(
-    rt: &R,
-    mut session: Session<'_, u64, u64, Hashing>,
-    from: u64,
-) -> Result<(u64, u64), Fault> {
+fn works<R: Wait>(rt: &R, mut session: Own<'_>, from: u64) -> Result<(u64, u64), Fault> {
     let replaced = stores(rt, &mut session, from)?;
     Ok((replaced, counts(rt, &mut session, from)))
 }
@@ -60,8 +54,7 @@ fn works_twice<R: Threads + Wait + Sync>(
     let builder = HashMap::builder(Hashing::default()).resize_mode(mode);
     let map = builder.build(alloc, &mut ids)?;
     let first = map.session()?;
-    let second = first.another()?;
-    let third = first.another()?;
+    let (second, third) = (first.another()?, first.another()?);
     let (one, other) = thread::join(rt, || works(rt, first, 0), || works(rt, second, EACH / 2));
     Ok((one?, other?, works(rt, third, 0)?))
 }
@@ -72,9 +65,8 @@ fn works_twice<R: Threads + Wait + Sync>(
 fn a_key_that_two_threads_store_is_replaced_once(rt: HostRuntime) -> Result<(), Fail> {
     for mode in [ResizeMode::Incremental(1), ResizeMode::Blocking] {
         let (one, other, later) = works_twice(&rt, rt.alloc(), mode)?;
-        let replaced = u64::wrapping_add(one.0, other.0);
-        assert_eq!(rt; (one.1, other.1, replaced), (EACH, EACH, EACH / 2));
-        assert_eq!(rt; later, (EACH, EACH));
+        assert_eq!(rt; u64::wrapping_add(one.0, other.0), EACH / 2);
+        assert_eq!(rt; (one.1, other.1, later), (EACH, EACH, (EACH, EACH)));
     }
     Ok(())
 }

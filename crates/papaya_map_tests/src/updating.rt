@@ -33,30 +33,25 @@ fn counts<R: Wait>(rt: &R, mut session: Own<'_>, mask: u64) -> Result<u64, Fault
 }
 
 /// Two threads do so. Answers how many counts both have begun, and the sum of all.
-fn counts_twice<R: Threads + Wait + Sync>(
-    rt: &R,
-    alloc: Global,
-    mask: u64,
-) -> Result<(u64, u64), Fault> {
+fn twice<R: Threads + Wait + Sync>(rt: &R, alloc: Global, mask: u64) -> Result<(u64, u64), Fault> {
     let mut ids = IdSource::new();
     let map = HashMap::with_hasher(alloc, &mut ids, Hashing::default())?;
     let first = map.session()?;
     let second = first.another()?;
     let (one, other) = thread::join(rt, || counts(rt, first, mask), || counts(rt, second, mask));
-    let begun = u64::wrapping_add(one?, other?);
     let mut session = map.session()?;
     let mut sum = 0u64;
     for key in 0..16u64 {
         sum = u64::wrapping_add(sum, session.get(rt, &key).copied().unwrap_or(0));
     }
-    Ok((begun, sum))
+    Ok((u64::wrapping_add(one?, other?), sum))
 }
 
 // A count that one reads, and stores anew, while the other one adds to it would be lost.
 #[test]
 fn two_threads_count_keys_up(rt: HostRuntime) -> Result<(), Fail> {
-    assert_eq!(rt; counts_twice(&rt, rt.alloc(), 0)?, (1, 2 * EACH));
-    assert_eq!(rt; counts_twice(&rt, rt.alloc(), 15)?, (16, 2 * EACH));
+    assert_eq!(rt; twice(&rt, rt.alloc(), 0)?, (1, 2 * EACH));
+    assert_eq!(rt; twice(&rt, rt.alloc(), 15)?, (16, 2 * EACH));
     Ok(())
 }
 
