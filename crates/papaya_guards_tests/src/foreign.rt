@@ -20,8 +20,7 @@ fn looks<R: Wait>(rt: &R, alloc: Global) -> Result<[bool; 9], Fault> {
     let map = own.shared();
     let guard = own.session()?;
     let strange = other.session()?;
-    let mut pass = own.shared().pass();
-    let mut foreign = strange.pass();
+    let (mut pass, mut foreign) = (own.shared().pass(), strange.pass());
     let own_numbers = guard.number() == map.number() && pass.number() == map.number();
     Ok([
         is_foreign(map.get(rt, &1, &strange, &mut pass)),
@@ -34,12 +33,6 @@ fn looks<R: Wait>(rt: &R, alloc: Global) -> Result<[bool; 9], Fault> {
         matches!(map.get_key_value(rt, &1, &guard, &mut pass), Ok(None)),
         own_numbers && strange.number() == foreign.number() && foreign.number() != map.number(),
     ])
-}
-
-#[test]
-fn lookups_refuse_what_is_of_another_map(rt: HostRuntime) -> Result<(), Fail> {
-    assert_eq!(rt; looks(&rt, rt.alloc())?, [true; 9]);
-    Ok(())
 }
 
 /// What calls that change a map say to a guard of another one, and what that one has then; and whether one with its own guard goes.
@@ -67,17 +60,15 @@ fn stores<R: Wait>(rt: &R, alloc: Global) -> Result<[bool; 6], Fault> {
         && is_foreign(map.remove_if(rt, 1, |_, _| true, &mut strange));
     let none = !strange.contains_key(rt, &1);
     let stored = matches!(map.insert(rt, 1, 2, &mut guard), Ok(false))
-        && matches!(
-            map.remove_if(rt, 1, |_, value| *value == 2, &mut guard),
-            Ok(true)
-        )
+        && matches!(map.remove_if(rt, 1, |_, v| *v == 2, &mut guard), Ok(true))
         && matches!(map.try_insert_with(rt, 1, || 3, &mut guard), Ok(true))
         && matches!(map.remove(rt, 1, &mut guard), Ok(true));
     Ok([inserted, tried, asked, removed, none, stored])
 }
 
 #[test]
-fn calls_that_change_a_map_refuse_a_guard_of_another_one(rt: HostRuntime) -> Result<(), Fail> {
+fn lookups_and_changes_refuse_what_is_of_another_map(rt: HostRuntime) -> Result<(), Fail> {
+    assert_eq!(rt; looks(&rt, rt.alloc())?, [true; 9]);
     assert_eq!(rt; stores(&rt, rt.alloc())?, [true; 6]);
     Ok(())
 }

@@ -4,8 +4,7 @@ use std::alloc::Global;
 use std::hash::{BuildHasherDefault, DefaultHasher};
 use std::sync::Wait;
 use std::test::Fail;
-use std::thread;
-use std::thread::Threads;
+use std::thread::{self, Threads};
 
 /// How many keys there are.
 const KEYS: u64 = 300;
@@ -18,8 +17,7 @@ type Own<'m> = Session<'m, u64, u64, Hashing>;
 fn settles<R: Wait>(rt: &R, mut session: Own<'_>, value: u64) -> Result<u64, Fault> {
     let mut sum = 0u64;
     for key in 0..KEYS {
-        let lent = *session.get_or_insert(rt, key, value)?;
-        sum = u64::wrapping_add(sum, lent);
+        sum = u64::wrapping_add(sum, *session.get_or_insert(rt, key, value)?);
     }
     Ok(sum)
 }
@@ -45,8 +43,7 @@ fn sums<R: Threads + Wait + Sync>(rt: &R, alloc: Global) -> Result<(u64, u64, u6
     let mut ids = IdSource::new();
     let map = HashMap::with_hasher(alloc, &mut ids, Hashing::default())?;
     let first = map.session()?;
-    let second = first.another()?;
-    let third = first.another()?;
+    let (second, third) = (first.another()?, first.another()?);
     let (one, other) = thread::join(rt, || settles(rt, first, 1), || settles(rt, second, 2));
     Ok((one?, other?, takes(rt, third)?))
 }
@@ -55,7 +52,9 @@ fn sums<R: Threads + Wait + Sync>(rt: &R, alloc: Global) -> Result<(u64, u64, u6
 #[test]
 fn both_are_lent_what_one_has_stored(rt: HostRuntime) -> Result<(), Fail> {
     let (one, other, taken) = sums(&rt, rt.alloc())?;
-    assert!(rt; one >= KEYS && one <= KEYS * 2);
-    assert_eq!(rt; (other, taken), (one, one));
+    assert_eq!(rt;
+        (one >= KEYS && one <= KEYS * 2, other, taken),
+        (true, one, one)
+    );
     Ok(())
 }

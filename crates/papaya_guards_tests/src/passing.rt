@@ -6,8 +6,7 @@ use std::alloc::Global;
 use std::hash::{BuildHasherDefault, DefaultHasher};
 use std::sync::Wait;
 use std::test::Fail;
-use std::thread;
-use std::thread::Threads;
+use std::thread::{self, Threads};
 use std::time::{Clock, Duration};
 
 /// How often each of them looks, a millisecond apart.
@@ -58,10 +57,7 @@ fn leaves<R: Wait + Clock>(
 }
 
 /// Two threads do so under one guard.
-fn both_leave<R: Threads + Wait + Clock + Sync>(
-    rt: &R,
-    alloc: Global,
-) -> Result<(bool, bool), Fault> {
+fn both<R: Threads + Wait + Clock + Sync>(rt: &R, alloc: Global) -> Result<(bool, bool), Fault> {
     let mut ids = IdSource::new();
     let map = HashMap::with_hasher(alloc, &mut ids, Hashing::default())?;
     let shared = map.shared();
@@ -77,7 +73,7 @@ fn both_leave<R: Threads + Wait + Clock + Sync>(
 // Were the threads served one after another, or one pass under the guard at a time, the first one would not find the key of the second.
 #[test]
 fn two_passes_under_one_guard_find_what_the_others_have_left(rt: HostRuntime) -> Result<(), Fail> {
-    assert_eq!(rt; both_leave(&rt, rt.alloc())?, (true, true));
+    assert_eq!(rt; both(&rt, rt.alloc())?, (true, true));
     Ok(())
 }
 
@@ -160,15 +156,6 @@ fn all_go<R: Threads + Wait + Sync>(
     Ok((one?, other?))
 }
 
-// A body that served one thread after the other would pass, too: that a value which was lent stays is proved.
-#[test]
-fn what_passes_were_lent_stays_as_long_as_their_guard(rt: HostRuntime) -> Result<(), Fail> {
-    for mode in [ResizeMode::default(), ResizeMode::Blocking] {
-        assert_eq!(rt; all_go(&rt, rt.alloc(), mode)?, (KEYS - 1, KEYS - 1));
-    }
-    Ok(())
-}
-
 /// Looks all keys up by a pin, and says of how many it has found the value, and that of the key before, which it holds still.
 fn holds<R: Wait>(rt: &R, guard: &Guard<'_>) -> u64 {
     let mut pin = guard.pin();
@@ -206,8 +193,12 @@ fn all_hold<R: Threads + Wait + Sync>(rt: &R, alloc: Global) -> Result<(u64, u64
     Ok((one, other))
 }
 
+// A body that served one thread after the other would pass, too: that a value which was lent stays is proved.
 #[test]
-fn what_pins_were_lent_stays_as_long_as_their_guard(rt: HostRuntime) -> Result<(), Fail> {
+fn what_passes_and_pins_were_lent_stays_with_their_guard(rt: HostRuntime) -> Result<(), Fail> {
+    for mode in [ResizeMode::default(), ResizeMode::Blocking] {
+        assert_eq!(rt; all_go(&rt, rt.alloc(), mode)?, (KEYS - 1, KEYS - 1));
+    }
     assert_eq!(rt; all_hold(&rt, rt.alloc())?, (KEYS, KEYS));
     Ok(())
 }

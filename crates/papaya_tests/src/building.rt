@@ -32,13 +32,6 @@ fn reasons(alloc: Global, hasher: RandomState, other: RandomState) -> [bool; 6] 
     ]
 }
 
-#[test]
-fn the_first_reason_refuses_a_set(rt: HostRuntime) -> Result<(), Fail> {
-    let (hasher, other) = (RandomState::new(&rt)?, RandomState::new(&rt)?);
-    assert_eq!(rt; reasons(rt.alloc(), hasher, other), [true; 6]);
-    Ok(())
-}
-
 /// A builder is shown as its map's, and a set that was built with all that can be chosen holds what is put there.
 fn built_set<R: Wait>(rt: &R, alloc: Global, hasher: RandomState) -> Result<bool, Fault> {
     let mut ids = IdSource::new();
@@ -55,7 +48,9 @@ fn built_set<R: Wait>(rt: &R, alloc: Global, hasher: RandomState) -> Result<bool
 }
 
 #[test]
-fn builders_are_shown_and_built_sets_hold_keys(rt: HostRuntime) -> Result<(), Fail> {
+fn the_first_reason_refuses_a_set_and_built_ones_hold_keys(rt: HostRuntime) -> Result<(), Fail> {
+    let (hasher, other) = (RandomState::new(&rt)?, RandomState::new(&rt)?);
+    assert_eq!(rt; reasons(rt.alloc(), hasher, other), [true; 6]);
     assert!(rt; built_set(&rt, rt.alloc(), RandomState::new(&rt)?)?);
     Ok(())
 }

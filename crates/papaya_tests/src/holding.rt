@@ -58,7 +58,7 @@ fn works<R: Wait>(rt: &R, mut session: Own<'_>) -> Result<(u64, u64), Fault> {
     Ok((new, taken))
 }
 
-/// Two threads do so. Answers how many were new to both, how many both have taken out, and how many are left.
+/// Two threads do so. Answers how many were new to both, how many both have taken out, and how many are left: each key that was new was taken out once, whoever was faster.
 fn works_twice<R: Threads + Wait + Sync>(rt: &R, alloc: Global) -> Result<(u64, u64, u64), Fault> {
     let mut ids = IdSource::new();
     let set = HashSet::with_hasher(alloc, &mut ids, Hashing::default())?;
@@ -69,15 +69,6 @@ fn works_twice<R: Threads + Wait + Sync>(rt: &R, alloc: Global) -> Result<(u64, 
     let new = u64::wrapping_add(one.0, other.0);
     let taken = u64::wrapping_add(one.1, other.1);
     Ok((new, taken, set.session()?.len()))
-}
-
-// Each key that was new was taken out once, whoever was faster. A body that served one thread after the other would pass, too.
-#[test]
-fn what_two_threads_have_put_there_they_take_out_once(rt: HostRuntime) -> Result<(), Fail> {
-    let (new, taken, left) = works_twice(&rt, rt.alloc())?;
-    assert!(rt; new >= KEYS);
-    assert_eq!(rt; (taken, left), (new, 0));
-    Ok(())
 }
 
 /// Whether a call was refused what is of another set.
@@ -139,6 +130,8 @@ fn counts<R: Wait>(rt: &R, alloc: Global) -> Result<([u64; 5], [bool; 5]), Fault
 
 #[test]
 fn a_set_has_what_it_was_left_and_says_so(rt: HostRuntime) -> Result<(), Fail> {
+    let (new, taken, left) = works_twice(&rt, rt.alloc())?;
+    assert_eq!(rt; (new >= KEYS, taken, left), (true, new, 0));
     assert_eq!(rt; alone(&rt, rt.alloc())?, [true; 7]);
     assert_eq!(rt; foreign(&rt, rt.alloc())?, [true; 8]);
     assert_eq!(rt; counts(&rt, rt.alloc())?, ([0, 3, 96, 2, 0], [true; 5]));
@@ -191,13 +184,6 @@ fn meet<R: Threads + Wait + Clock + Sync>(rt: &R, alloc: Global) -> Result<(bool
     Ok((one?, other?))
 }
 
-// Were the threads served one after another, the first one would not find the key of the second.
-#[test]
-fn two_threads_find_what_each_has_left(rt: HostRuntime) -> Result<(), Fail> {
-    assert_eq!(rt; meet(&rt, rt.alloc())?, (true, true));
-    Ok(())
-}
-
 /// Puts one of two keys there, goes over the set until it is shown the other one, and removes then what was there before. Answers whether each time it was shown its own key.
 fn sweeps<R: Wait + Clock>(rt: &R, mut set: Own<'_>, own: u64) -> Result<bool, Fault> {
     let other = own ^ 1;
@@ -230,9 +216,10 @@ fn sweep<R: Threads + Wait + Clock + Sync>(rt: &R, alloc: Global) -> Result<(boo
     Ok((one && other, session.len()))
 }
 
-// Were the threads served one after another, the first one would not be shown the key of the second.
+// Were the threads served one after another, the first one would neither find nor be shown the key of the second.
 #[test]
-fn each_of_two_threads_is_shown_what_the_other_one_has_put(rt: HostRuntime) -> Result<(), Fail> {
+fn two_threads_find_and_are_shown_what_the_other_one_has_put(rt: HostRuntime) -> Result<(), Fail> {
+    assert_eq!(rt; meet(&rt, rt.alloc())?, (true, true));
     assert_eq!(rt; sweep(&rt, rt.alloc())?, (true, 2));
     Ok(())
 }
