@@ -60,8 +60,7 @@ fn leaves<R: Wait + Clock>(
 fn both<R: Threads + Wait + Clock + Sync>(rt: &R, alloc: Global) -> Result<(bool, bool), Fault> {
     let mut ids = IdSource::new();
     let map = HashMap::with_hasher(alloc, &mut ids, Hashing::default())?;
-    let shared = map.shared();
-    let guard = shared.session()?;
+    let (shared, guard) = (map.shared(), map.session()?);
     let (one, other) = thread::join(
         rt,
         || leaves(rt, &shared, &guard, 1, 2),
