@@ -1,5 +1,5 @@
-"""Counts the ways that lead down through crates.txt, and fails where they are too many for the gate: each library is summed up twice, and where the gate remembers no sum it reads
-the files of a crate anew for each way that leads there, a hundredth of a second a way."""
+"""Counts the ways that lead down through crates.txt, and fails where they are too many for the gate: each library is summed up twice, and where no sum is
+remembered the files of a crate are read anew for each way that leads there, a hundredth of a second a way."""
 import functools
 import os
 import sys
