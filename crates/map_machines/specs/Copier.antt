@@ -1,6 +1,6 @@
 -- How the pairs of a table are copied into the next one, which then becomes the root: what each step does.
 use Rattle.std.specs.Prelude.{ℕ}
-use Rattle.seize_words.specs.OneMemory.Plan.{Plan, Turn, Now}
+use Rattle.map_tables.specs.Given.SeizeWordsPlan.{Plan, Turn, Now}
 use Rattle.map_tables.specs.declared.node.Node.{Node}
 use Rattle.map_tables.specs.declared.table.Table.{Table}
 use Rattle.map_machines.specs.declared.yielding.Yielding.{Yielding}

@@ -1,9 +1,9 @@
 -- How a copying comes to a chunk: the tables are known, the status is read, and places are claimed.
 use Rattle.std.specs.Prelude.{ℕ, ◌+◌, ◌-◌, ◌==◌, false, min, nat_lt, if◌then◌else◌}
-use Rattle.seize_words.specs.OneMemory.Word.{block_in}
-use Rattle.seize_words.specs.declared.at.At.TheVariants.{Root}
-use Rattle.seize_words.specs.OneMemory.Op.{Out, Load, Add, Found}
-use Rattle.seize_words.specs.OneMemory.Plan.{Plan, Then, Do, Now, Seeing}
+use Rattle.map_tables.specs.Given.SeizeWordsWord.{block_in}
+use Rattle.map_tables.specs.Given.SeizeWordsDeclared.at.At.TheVariants.{Root}
+use Rattle.map_tables.specs.Given.SeizeWordsOp.{Out, Load, Add, Found}
+use Rattle.map_tables.specs.Given.SeizeWordsPlan.{Plan, Then, Do, Now, Seeing}
 use Rattle.map_tables.specs.declared.node.Node.{Node}
 use Rattle.map_tables.specs.declared.table.Table.{Table}
 use Rattle.map_tables.specs.declared.table_words.TheConstants.{NEXT, CLAIM, STATUS}

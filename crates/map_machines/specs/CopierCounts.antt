@@ -1,8 +1,8 @@
 -- How a copying counts what it has done, and how it takes back what it can't do.
 use Rattle.std.specs.Prelude.{ℕ, ◌+◌, ◌%◌, ◌^◌, ◌==◌, if◌then◌else◌}
-use Rattle.seize_words.specs.declared.fault.Fault.{Fault}
-use Rattle.seize_words.specs.OneMemory.Op.{Out, Store, Add, Found}
-use Rattle.seize_words.specs.OneMemory.Plan.{Plan, Then, Do, Now}
+use Rattle.map_tables.specs.Given.SeizeWordsDeclared.fault.Fault.{Fault}
+use Rattle.map_tables.specs.Given.SeizeWordsOp.{Out, Store, Add, Found}
+use Rattle.map_tables.specs.Given.SeizeWordsPlan.{Plan, Then, Do, Now}
 use Rattle.map_tables.specs.declared.node.Node.{Node}
 use Rattle.map_tables.specs.declared.table.Table.{Table}
 use Rattle.map_tables.specs.declared.table_words.TheConstants.{CLAIM, COPIED}

@@ -1,8 +1,8 @@
 -- How a copying comes to a further table, where a pair has no place in one.
 use Rattle.std.specs.Prelude.{ℕ, ◌==◌, if◌then◌else◌}
-use Rattle.seize_words.specs.OneMemory.Word.{block_in}
-use Rattle.seize_words.specs.OneMemory.Op.{Out, Load, Store, Found}
-use Rattle.seize_words.specs.OneMemory.Plan.{Plan, Then, Do, Now, Seeing, plan_as}
+use Rattle.map_tables.specs.Given.SeizeWordsWord.{block_in}
+use Rattle.map_tables.specs.Given.SeizeWordsOp.{Out, Load, Store, Found}
+use Rattle.map_tables.specs.Given.SeizeWordsPlan.{Plan, Then, Do, Now, Seeing, plan_as}
 use Rattle.map_tables.specs.Given.SeizeDeclared.advance.Advance.{Advance}
 use Rattle.map_tables.specs.Given.SeizeDeclared.advance.Advance.TheVariants as progress
 use Rattle.map_tables.specs.declared.lengths.Reason.TheVariants.{NoPlace}

@@ -1,8 +1,8 @@
 -- How a copying marks a place, and what it does with the word that it finds there.
 use Rattle.std.specs.Prelude.{ℕ, ◌-◌, ◌%◌, ◌==◌, ◌&&◌, Bool, true, not, if◌then◌else◌, bit_or}
-use Rattle.seize_words.specs.OneMemory.Word.{block_in}
-use Rattle.seize_words.specs.OneMemory.Op.{Out, Store, Or, Found}
-use Rattle.seize_words.specs.OneMemory.Plan.{Plan, Then, Do, Now, Seeing}
+use Rattle.map_tables.specs.Given.SeizeWordsWord.{block_in}
+use Rattle.map_tables.specs.Given.SeizeWordsOp.{Out, Store, Or, Found}
+use Rattle.map_tables.specs.Given.SeizeWordsPlan.{Plan, Then, Do, Now, Seeing}
 use Rattle.map_tables.specs.declared.node.Node.{Node}
 use Rattle.map_tables.specs.declared.node.Node.TheVariants.{Pair}
 use Rattle.map_tables.specs.declared.table.Table.{Table}

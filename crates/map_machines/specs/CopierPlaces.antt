@@ -1,7 +1,7 @@
 -- How a copying finds a place for a pair, in the next table or in one behind it.
 use Rattle.std.specs.Prelude.{ℕ, ◌+◌, ◌-◌, ◌==◌, nat_lt, if◌then◌else◌, Ok, Err}
-use Rattle.seize_words.specs.OneMemory.Op.{Out, Load, Exchange, Found, Exchanged}
-use Rattle.seize_words.specs.OneMemory.Plan.{Plan, Then, Do, Now}
+use Rattle.map_tables.specs.Given.SeizeWordsOp.{Out, Load, Exchange, Found, Exchanged}
+use Rattle.map_tables.specs.Given.SeizeWordsPlan.{Plan, Then, Do, Now}
 use Rattle.map_tables.specs.declared.node.Node.{Node}
 use Rattle.map_tables.specs.declared.table.Table.{Table}
 use Rattle.map_tables.specs.declared.probe.Probe.{Probe}

@@ -1,9 +1,9 @@
 -- How the next table becomes the root, and how the old table and the aborted ones behind it are retired.
 use Rattle.std.specs.Prelude.{ℕ, ◌==◌, if◌then◌else◌, Ok, Err}
-use Rattle.seize_words.specs.OneMemory.Word.{block_in}
-use Rattle.seize_words.specs.declared.at.At.TheVariants.{Root, Word}
-use Rattle.seize_words.specs.OneMemory.Op.{Out, Load, Store, Exchange, Found, Exchanged}
-use Rattle.seize_words.specs.OneMemory.Plan.{Plan, Then, Do, Now, plan_as}
+use Rattle.map_tables.specs.Given.SeizeWordsWord.{block_in}
+use Rattle.map_tables.specs.Given.SeizeWordsDeclared.at.At.TheVariants.{Root, Word}
+use Rattle.map_tables.specs.Given.SeizeWordsOp.{Out, Load, Store, Exchange, Found, Exchanged}
+use Rattle.map_tables.specs.Given.SeizeWordsPlan.{Plan, Then, Do, Now, plan_as}
 use Rattle.map_tables.specs.Given.SeizeDeclared.rows.settle.Settle.{Settle}
 use Rattle.map_tables.specs.Given.SeizeDeclared.rows.settle.Settled.{Settled}
 use Rattle.map_tables.specs.Given.SeizeDeclared.rows.settle.Settled.TheVariants as settled

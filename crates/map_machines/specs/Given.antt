@@ -3,6 +3,11 @@ pub use Rattle.map_tables.specs.Chunks as TablesChunks
 pub use Rattle.map_tables.specs.Counts as TablesCounts
 pub use Rattle.map_tables.specs.Finding as TablesFinding
 pub use Rattle.map_tables.specs.Given.SeizeDeclared
+pub use Rattle.map_tables.specs.Given.SeizeWordsDeclared
+pub use Rattle.map_tables.specs.Given.SeizeWordsMem
+pub use Rattle.map_tables.specs.Given.SeizeWordsOp
+pub use Rattle.map_tables.specs.Given.SeizeWordsPlan
+pub use Rattle.map_tables.specs.Given.SeizeWordsWord
 pub use Rattle.map_tables.specs.Lengths as TablesLengths
 pub use Rattle.map_tables.specs.Marks as TablesMarks
 pub use Rattle.map_tables.specs.Nodes as TablesNodes
@@ -10,8 +15,3 @@ pub use Rattle.map_tables.specs.Probes as TablesProbes
 pub use Rattle.map_tables.specs.TablePlaces as TablesTablePlaces
 pub use Rattle.map_tables.specs.Trials as TablesTrials
 pub use Rattle.map_tables.specs.declared as TablesDeclared
-pub use Rattle.seize_words.specs.OneMemory.Mem as SeizeWordsMem
-pub use Rattle.seize_words.specs.OneMemory.Op as SeizeWordsOp
-pub use Rattle.seize_words.specs.OneMemory.Plan as SeizeWordsPlan
-pub use Rattle.seize_words.specs.OneMemory.Word as SeizeWordsWord
-pub use Rattle.seize_words.specs.declared as SeizeWordsDeclared

@@ -1,9 +1,9 @@
 -- Looking for a key: table by table from the root on, try by try in each.
 use Rattle.std.specs.Prelude.{ℕ, ◌==◌, Bool, false, if◌then◌else◌, Option, Some, None}
-use Rattle.seize_words.specs.OneMemory.Word.{block_in}
-use Rattle.seize_words.specs.declared.at.At.TheVariants.{Root}
-use Rattle.seize_words.specs.OneMemory.Op.{Out, Load, Found}
-use Rattle.seize_words.specs.OneMemory.Plan.{Plan, Then, Turn, Do, Now, Seeing}
+use Rattle.map_tables.specs.Given.SeizeWordsWord.{block_in}
+use Rattle.map_tables.specs.Given.SeizeWordsDeclared.at.At.TheVariants.{Root}
+use Rattle.map_tables.specs.Given.SeizeWordsOp.{Out, Load, Found}
+use Rattle.map_tables.specs.Given.SeizeWordsPlan.{Plan, Then, Turn, Do, Now, Seeing}
 use Rattle.map_tables.specs.Given.SeizeDeclared.advance.Advance.{Advance}
 use Rattle.map_tables.specs.Given.SeizeDeclared.advance.Advance.TheVariants.{Goes, Done}
 use Rattle.map_tables.specs.Chunks.{is_incremental}

@@ -1,10 +1,10 @@
 -- How a map begins: with a root, a counter, and a table where it is to have one.
 use Rattle.std.specs.Prelude.{ℕ, ◌+◌, ◌-◌, ◌%◌, ◌^◌, ◌==◌, nat_lt, if◌then◌else◌, Ok, Err}
-use Rattle.seize_words.specs.declared.at.At.TheVariants.{Used}
-use Rattle.seize_words.specs.declared.fault.Fault.{Fault}
-use Rattle.seize_words.specs.declared.fault.Fault.TheVariants.{RootsUsedUp, Memory}
-use Rattle.seize_words.specs.OneMemory.Op.{Out, Store, Exchange, Make, Take, Exchanged, Made}
-use Rattle.seize_words.specs.OneMemory.Plan.{Plan, Then, Turn, Do, Now, plan_as}
+use Rattle.map_tables.specs.Given.SeizeWordsDeclared.at.At.TheVariants.{Used}
+use Rattle.map_tables.specs.Given.SeizeWordsDeclared.fault.Fault.{Fault}
+use Rattle.map_tables.specs.Given.SeizeWordsDeclared.fault.Fault.TheVariants.{RootsUsedUp, Memory}
+use Rattle.map_tables.specs.Given.SeizeWordsOp.{Out, Store, Exchange, Make, Take, Exchanged, Made}
+use Rattle.map_tables.specs.Given.SeizeWordsPlan.{Plan, Then, Turn, Do, Now, plan_as}
 use Rattle.map_tables.specs.Given.SeizeDeclared.advance.Advance.{Advance}
 use Rattle.map_tables.specs.Given.SeizeDeclared.advance.Advance.TheVariants.{Goes, Waits, Done, Refused}
 use Rattle.map_tables.specs.declared.setting.Setting.{Setting}

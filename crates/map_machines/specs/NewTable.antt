@@ -1,12 +1,12 @@
 -- How a map comes to a table: it is made, and put where it is to stand, unless another call was faster.
 use Rattle.std.specs.Prelude.{ℕ, ◌+◌, ◌%◌, ◌^◌, nat_le, if◌then◌else◌, max, Result, Ok, Err}
-use Rattle.seize_words.specs.OneMemory.Word.{block_in, link_to}
-use Rattle.seize_words.specs.declared.at.At.{At}
-use Rattle.seize_words.specs.declared.at.At.TheVariants.{Root, Word}
-use Rattle.seize_words.specs.declared.fault.Fault.{Fault}
-use Rattle.seize_words.specs.declared.fault.Fault.TheVariants.{Capacity, Memory}
-use Rattle.seize_words.specs.OneMemory.Op.{Out, Store, Exchange, Make, Take, Exchanged, Made}
-use Rattle.seize_words.specs.OneMemory.Plan.{Plan, Then, Turn, Do, Now, Seeing, plan_as}
+use Rattle.map_tables.specs.Given.SeizeWordsWord.{block_in, link_to}
+use Rattle.map_tables.specs.Given.SeizeWordsDeclared.at.At.{At}
+use Rattle.map_tables.specs.Given.SeizeWordsDeclared.at.At.TheVariants.{Root, Word}
+use Rattle.map_tables.specs.Given.SeizeWordsDeclared.fault.Fault.{Fault}
+use Rattle.map_tables.specs.Given.SeizeWordsDeclared.fault.Fault.TheVariants.{Capacity, Memory}
+use Rattle.map_tables.specs.Given.SeizeWordsOp.{Out, Store, Exchange, Make, Take, Exchanged, Made}
+use Rattle.map_tables.specs.Given.SeizeWordsPlan.{Plan, Then, Turn, Do, Now, Seeing, plan_as}
 use Rattle.map_tables.specs.Given.SeizeDeclared.advance.Advance.{Advance}
 use Rattle.map_tables.specs.Given.SeizeDeclared.advance.Advance.TheVariants.{Goes, Waits, Done, Refused}
 use Rattle.map_tables.specs.declared.setting.Setting.{Setting}

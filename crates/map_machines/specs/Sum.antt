@@ -1,8 +1,8 @@
 -- How the pairs of a map are counted: shard by shard.
 use Rattle.std.specs.Prelude.{ℕ, ◌+◌, ◌%◌, ◌^◌, nat_lt, if◌then◌else◌}
-use Rattle.seize_words.specs.declared.at.At.TheVariants.{Word}
-use Rattle.seize_words.specs.OneMemory.Op.{Out, Load, Found}
-use Rattle.seize_words.specs.OneMemory.Plan.{Plan, Then, Turn, Do, Now}
+use Rattle.map_tables.specs.Given.SeizeWordsDeclared.at.At.TheVariants.{Word}
+use Rattle.map_tables.specs.Given.SeizeWordsOp.{Out, Load, Found}
+use Rattle.map_tables.specs.Given.SeizeWordsPlan.{Plan, Then, Turn, Do, Now}
 use Rattle.map_tables.specs.Given.SeizeDeclared.advance.Advance.{Advance}
 use Rattle.map_tables.specs.Given.SeizeDeclared.advance.Advance.TheVariants.{Goes, Done}
 use Rattle.map_tables.specs.declared.setting.Setting.{Setting}

@@ -1,14 +1,13 @@
 //! The copying of a table into the one that follows it, point by point.
 ghost use Rattle.std.specs.Prelude.{◌≡◌};
-ghost use Rattle.seize_words.specs.OneMemory.Plan.{May, Steps};
+ghost use Rattle.map_tables.specs.Given.SeizeWordsPlan.{May, Steps};
 ghost use Rattle.map_machines.specs.Copier.{copier_plan};
 ghost use Rattle.map_machines.specs.CopierStates.{helping, copying_all, behind, none_left, next_place, place_done};
 
 use crate::new_table::NewTable;
 use crate::yielding::Yielding;
-use map_tables::named::Settle;
+use map_tables::named::{Fault, Memory, Settle};
 use map_tables::{Hashes, Node, Probe, Setting, Table};
-use seize_words::{Fault, Memory};
 
 mod claims;
 mod counts;

@@ -1,10 +1,10 @@
 //! How a call counts what it has changed.
 ghost use Rattle.std.specs.Prelude.{ℕ};
 ghost use Rattle.map_tables.specs.Counts.{count_change, shard_of};
-ghost use Rattle.seize_words.specs.OneMemory.Op.{Add, Found};
+ghost use Rattle.map_tables.specs.Given.SeizeWordsOp.{Add, Found};
 
+use map_tables::named::{At, Memory};
 use map_tables::{Counter, Setting};
-use seize_words::{At, Memory};
 
 /// Counts a change of the map in the shard of the slot: one pair less where one was removed, or one more where `removed` is 0.
 pub fn count<T, M: Memory<T>>(setting: Setting, memory: &mut M, removed: u64)

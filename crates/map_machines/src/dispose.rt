@@ -2,13 +2,12 @@
 ghost use Rattle.std.specs.Prelude.{◌≡◌};
 ghost use Rattle.map_machines.specs.Dispose.{disposing, standing, settled, deferred, reads, walks, dispose_plan};
 ghost use Rattle.map_machines.specs.declared.dispose.Disposing.TheVariants as at;
-ghost use Rattle.seize_words.specs.OneMemory.Plan.{May, Steps};
+ghost use Rattle.map_tables.specs.Given.SeizeWordsPlan.{May, Steps};
 
 use map_tables::marks::{BORROWED, has, link_of};
-use map_tables::named::{Advance, Defer, Settle, Settled, StepMachine};
+use map_tables::named::{Advance, At, Defer, Link, Memory, Settle, Settled, StepMachine};
 use map_tables::table_words::{DEFERRED, NEXT};
 use map_tables::{Node, ResizeMode, Setting, Table};
-use seize_words::{At, Link, Memory};
 
 /// Where a disposal stands.
 #[derive(Clone, Copy)]

@@ -2,12 +2,11 @@
 ghost use Rattle.std.specs.Prelude.{◌≡◌};
 ghost use Rattle.map_machines.specs.NewMap.{opening, takes, shards, opened, unmakes, frees};
 ghost use Rattle.map_machines.specs.NewTable.{new_table_plan};
-ghost use Rattle.seize_words.specs.OneMemory.Plan.{May, Steps, plan_as};
+ghost use Rattle.map_tables.specs.Given.SeizeWordsPlan.{May, Steps, plan_as};
 
 use crate::new_table::NewTable;
-use map_tables::named::{Advance, StepMachine};
+use map_tables::named::{Advance, At, Fault, Memory, StepMachine};
 use map_tables::{Counter, Node, Setting, Table};
-use seize_words::{At, Fault, Memory};
 
 /// Where the beginning of a map stands.
 #[derive(Clone, Copy)]

@@ -2,14 +2,13 @@
 ghost use Rattle.std.specs.Prelude.{◌≡◌, ◌≤◌};
 ghost use Rattle.map_machines.specs.NewTable.{first_table, table_after, table_reserved, making_first, making_of, following, counted, makes, promotes, links, drops};
 ghost use Rattle.map_machines.specs.Sum.{sum_plan};
-ghost use Rattle.seize_words.specs.OneMemory.Plan.{May, Steps, plan_as};
+ghost use Rattle.map_tables.specs.Given.SeizeWordsPlan.{May, Steps, plan_as};
 
 use crate::sum::Sum;
 use map_tables::lengths::{LEAST_LEN, MOST_LEN, Reason, len_after, limit_after, turn_after};
-use map_tables::named::{Advance, StepMachine};
+use map_tables::named::{Advance, At, Fault, Link, Memory, StepMachine};
 use map_tables::table_words::{NEXT, PLACES, STATUS};
 use map_tables::{Node, Setting, Status, Table, limit};
-use seize_words::{At, Fault, Link, Memory};
 
 /// Where a making of a table stands. A table that has no block yet has the link 0.
 #[derive(Clone, Copy)]
@@ -102,7 +101,7 @@ impl NewTable {
     }
 
     /// Takes a step of the counting. Once the count is known, so is the table.
-    #[tactic(auto, using(seize_words::proofs::OneMemory::Plans::may_as, seize_words::proofs::OneMemory::Plans::steps_as))]
+    #[tactic(auto, using(map_tables::proofs::Given::SeizeWordsPlans::may_as, map_tables::proofs::Given::SeizeWordsPlans::steps_as))]
     fn sums<T, M: Memory<T>>(
         &mut self,
         memory: &mut M,

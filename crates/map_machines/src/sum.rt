@@ -1,11 +1,10 @@
 //! The counting of a map's pairs.
 ghost use Rattle.std.specs.Prelude.{◌≡◌};
 ghost use Rattle.map_machines.specs.Sum.{summing, adds};
-ghost use Rattle.seize_words.specs.OneMemory.Plan.{May, Steps};
+ghost use Rattle.map_tables.specs.Given.SeizeWordsPlan.{May, Steps};
 
-use map_tables::named::{Advance, StepMachine};
+use map_tables::named::{Advance, At, Memory, StepMachine};
 use map_tables::{Counter, Setting};
-use seize_words::{At, Memory};
 
 /// Where a counting stands.
 #[derive(Clone, Copy)]

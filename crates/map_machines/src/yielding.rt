@@ -1,6 +1,6 @@
 //! How far a machine is.
 
-use seize_words::Fault;
+use map_tables::named::Fault;
 
 /// How far a machine is that may reclaim blocks before it answers.
 #[derive(Drop)]

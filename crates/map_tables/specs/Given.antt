@@ -1,6 +1,11 @@
 -- The words of the crates below, given on to the crates above: these list this crate in place of those.
 pub use Rattle.seize.specs.Defer as SeizeDefer
 pub use Rattle.seize.specs.Enter as SeizeEnter
+pub use Rattle.seize.specs.Given.SeizeWordsDeclared
+pub use Rattle.seize.specs.Given.SeizeWordsMem
+pub use Rattle.seize.specs.Given.SeizeWordsOp
+pub use Rattle.seize.specs.Given.SeizeWordsPlan
+pub use Rattle.seize.specs.Given.SeizeWordsWord
 pub use Rattle.seize.specs.Law as SeizeLaw
 pub use Rattle.seize.specs.Leave as SeizeLeave
 pub use Rattle.seize.specs.ReclaimAll as SeizeReclaimAll

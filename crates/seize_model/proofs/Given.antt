@@ -1,4 +1,7 @@
 -- What is so by the crates below, given on to the crates above: these list this crate in place of those.
+pub use Rattle.seize.proofs.Given.General
+pub use Rattle.seize.proofs.Given.SeizeWordsOneOwner
+pub use Rattle.seize.proofs.Given.SeizeWordsPlans
 pub use Rattle.seize_rule.proofs.Given.SeizeMemoryWords
 pub use Rattle.seize_rule.proofs.Given.SeizeMemoryWritten
 pub use Rattle.seize_rule.proofs.Given.SeizeMovesMoves
@@ -10,6 +13,3 @@ pub use Rattle.seize_rule.proofs.Points as SeizeRulePoints
 pub use Rattle.seize_rule.proofs.Rows as SeizeRuleRows
 pub use Rattle.seize_rule.proofs.Words as SeizeRuleWords
 pub use Rattle.seize_rule.proofs.World as SeizeRuleWorld
-pub use Rattle.seize_words.proofs.General
-pub use Rattle.seize_words.proofs.OneMemory.OneOwner as SeizeWordsOneOwner
-pub use Rattle.seize_words.proofs.OneMemory.Plans as SeizeWordsPlans

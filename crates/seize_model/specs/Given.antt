@@ -1,6 +1,11 @@
 -- The words of the crates below, given on to the crates above: these list this crate in place of those.
 pub use Rattle.seize.specs.Defer as SeizeDefer
 pub use Rattle.seize.specs.Further as SeizeFurther
+pub use Rattle.seize.specs.Given.SeizeWordsDeclared
+pub use Rattle.seize.specs.Given.SeizeWordsMem
+pub use Rattle.seize.specs.Given.SeizeWordsOp
+pub use Rattle.seize.specs.Given.SeizeWordsPlan
+pub use Rattle.seize.specs.Given.SeizeWordsWord
 pub use Rattle.seize.specs.Law as SeizeLaw
 pub use Rattle.seize.specs.Sequence as SeizeSequence
 pub use Rattle.seize.specs.Settle as SeizeSettle
@@ -8,8 +13,3 @@ pub use Rattle.seize.specs.WaitingSets as SeizeWaitingSets
 pub use Rattle.seize.specs.World as SeizeWorld
 pub use Rattle.seize.specs.declared as SeizeDeclared
 pub use Rattle.seize_rule.specs.Given.SeizeWaitingHeld
-pub use Rattle.seize_words.specs.OneMemory.Mem as SeizeWordsMem
-pub use Rattle.seize_words.specs.OneMemory.Op as SeizeWordsOp
-pub use Rattle.seize_words.specs.OneMemory.Plan as SeizeWordsPlan
-pub use Rattle.seize_words.specs.OneMemory.Word as SeizeWordsWord
-pub use Rattle.seize_words.specs.declared as SeizeWordsDeclared

@@ -1,14 +1,13 @@
 //! Slots are taken, entered and given up, and values are reclaimed, each in one whole call.
 ghost use Rattle.std.specs.Prelude.{◌≡◌, ℕ, ◌<◌, ◌^◌, List, [], IsSome, Some, false, ◌+◌};
-ghost use Rattle.seize_words.specs.OneMemory.Mem.{Mem, word_at};
-ghost use Rattle.seize_words.specs.declared.at.At.TheVariants.{Slot};
+ghost use Rattle.seize.specs.Given.SeizeWordsMem.{Mem, word_at};
+ghost use Rattle.seize.specs.Given.SeizeWordsDeclared.at.At.TheVariants.{Slot};
 ghost use Rattle.seize.specs.World.{Outside, Inside, Cutting, IsTaken, MayStep, Request, Retire, Flush, Leave', LeaveOwned, Refresh};
 ghost use Rattle.seize_model.specs.Alone.Alone.{History, IsHistory, IsMidway, Continues, RegisteringAnswers, registered, entered, given_up, row_of, CallSteps, Spares, SameLinks, SameLeft, blocks_in};
 
 use seize::rows::{Defers, Enter, Leave, Register, Settle, Settled, Unregister};
 use seize::states::{FREE, HEAD, IDLE, LAST_SLOT};
-use seize::{Advance, StepMachine};
-use seize_words::{At, Fault, Link, Memory, Plain};
+use seize::{Advance, At, Fault, Link, Memory, Plain, StepMachine};
 
 /// A call that may reclaim values while it runs.
 #[derive(Clone, Copy)]

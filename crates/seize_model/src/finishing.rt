@@ -1,12 +1,12 @@
 //! A call that reclaims values runs to its end, and each of them is ended.
 ghost use Rattle.std.specs.Prelude.{◌≡◌, ◌++◌, ℕ, List};
-ghost use Rattle.seize_words.specs.OneMemory.Mem.{Mem};
+ghost use Rattle.seize.specs.Given.SeizeWordsMem.{Mem};
 ghost use Rattle.seize.specs.World.{Request};
 ghost use Rattle.seize_model.specs.Alone.Alone.{History, IsMidway, IsEnded, row_of};
 
 use crate::calls::WholeCall;
+use seize::Plain;
 use seize::reclaim::{Reclaimed, Reclaimer};
-use seize_words::Plain;
 
 /// Lets a call run to its end, and ends each value that it reclaims, in order, before the next one is reclaimed.
 pub fn finish<T: Reclaimed>(mut call: WholeCall, memory: &mut Plain<T>, reclaimer: T::Reclaimer)

@@ -1,13 +1,13 @@
 //! The tables are known, the status is read, and a chunk is claimed.
 ghost use Rattle.std.specs.Prelude.{◌≡◌, ◌<◌};
-ghost use Rattle.seize_words.specs.OneMemory.Plan.{May, Steps};
+ghost use Rattle.map_tables.specs.Given.SeizeWordsPlan.{May, Steps};
 ghost use Rattle.map_machines.specs.CopierClaims.{chunk, range_claimed, begins, follows, asks, sees, claims};
 
 use crate::copier::{Copier, Copying};
 use crate::yielding::Yielding;
+use map_tables::named::{At, Link, Memory};
 use map_tables::table_words::{CLAIM, NEXT, STATUS};
 use map_tables::{Node, Status, Table};
-use seize_words::{At, Link, Memory};
 
 impl Copier {
     /// Reads the root.

@@ -1,13 +1,13 @@
 //! What is done is counted, and what can't be done is taken back.
 ghost use Rattle.std.specs.Prelude.{◌≡◌};
-ghost use Rattle.seize_words.specs.OneMemory.Plan.{May, Steps};
+ghost use Rattle.map_tables.specs.Given.SeizeWordsPlan.{May, Steps};
 ghost use Rattle.map_machines.specs.CopierCounts.{refusing, given_up, counts, tallies, unmarks, unclaims};
 
 use crate::copier::{Copier, Copying};
 use crate::yielding::Yielding;
+use map_tables::named::{Fault, Memory};
 use map_tables::table_words::{CLAIM, COPIED};
 use map_tables::{Node, Table};
-use seize_words::{Fault, Memory};
 
 impl Copier {
     /// Adds the places done to the count. Where that makes it full, the next table is promoted.

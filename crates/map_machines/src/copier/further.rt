@@ -1,6 +1,6 @@
 //! A further table is looked for, where a pair has no place in one.
 ghost use Rattle.std.specs.Prelude.{◌≡◌, ℕ};
-ghost use Rattle.seize_words.specs.OneMemory.Plan.{May, Steps};
+ghost use Rattle.map_tables.specs.Given.SeizeWordsPlan.{May, Steps};
 ghost use Rattle.map_machines.specs.Copier.{copier_plan};
 ghost use Rattle.map_machines.specs.CopierStates.{standing};
 ghost use Rattle.map_machines.specs.declared.copier.Copying.TheVariants as at;
@@ -10,10 +10,9 @@ use crate::copier::{Copier, Copying};
 use crate::new_table::NewTable;
 use crate::yielding::Yielding;
 use map_tables::lengths::Reason;
-use map_tables::named::{Advance, StepMachine};
+use map_tables::named::{Advance, Link, Memory, StepMachine};
 use map_tables::table_words::{NEXT, STATUS};
 use map_tables::{Node, Status, Table};
-use seize_words::{Link, Memory};
 
 impl Copier {
     /// Reads which table follows one that has no place for a pair.

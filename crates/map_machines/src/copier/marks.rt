@@ -1,13 +1,13 @@
 //! A place is marked, and its pair is copied by the caller that marked it first.
 ghost use Rattle.std.specs.Prelude.{◌≡◌};
-ghost use Rattle.seize_words.specs.OneMemory.Plan.{May, Steps};
+ghost use Rattle.map_tables.specs.Given.SeizeWordsPlan.{May, Steps};
 ghost use Rattle.map_machines.specs.CopierMarks.{is_mine, is_awaited, probing, key_hash, marks, covers};
 
 use crate::copier::{Copier, Copying};
 use crate::yielding::Yielding;
 use map_tables::marks::{COPIED, COPYING, has};
+use map_tables::named::{Link, Memory};
 use map_tables::{Hashes, Node, Probe, Table};
-use seize_words::{Link, Memory};
 
 /// Returns the hash of the key of a pair, and 0 of a value of another kind.
 #[inline(always)]

@@ -1,13 +1,13 @@
 //! A place is looked for, for a pair that is copied.
 ghost use Rattle.std.specs.Prelude.{◌≡◌};
-ghost use Rattle.seize_words.specs.OneMemory.Plan.{May, Steps};
+ghost use Rattle.map_tables.specs.Given.SeizeWordsPlan.{May, Steps};
 ghost use Rattle.map_machines.specs.CopierPlaces.{copied_word, next_try, pair_put, probes, puts};
 
 use crate::copier::{Copier, Copying};
 use crate::yielding::Yielding;
 use map_tables::marks::{BORROWED, unmarked};
+use map_tables::named::Memory;
 use map_tables::{Node, Probe, Table};
-use seize_words::Memory;
 
 impl Copier {
     /// The word of a copied pair. In incremental mode it says that the pair stands in an older table, too.

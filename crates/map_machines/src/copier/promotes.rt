@@ -1,6 +1,6 @@
 //! The next table becomes the root, and the tables before it are retired.
 ghost use Rattle.std.specs.Prelude.{◌≡◌, ℕ};
-ghost use Rattle.seize_words.specs.OneMemory.Plan.{May, Steps};
+ghost use Rattle.map_tables.specs.Given.SeizeWordsPlan.{May, Steps};
 ghost use Rattle.map_machines.specs.Copier.{copier_plan};
 ghost use Rattle.map_machines.specs.CopierStates.{standing};
 ghost use Rattle.map_machines.specs.declared.copier.Copying.TheVariants as at;
@@ -8,10 +8,9 @@ ghost use Rattle.map_machines.specs.CopierPromotes.{table_retired, promotes, ann
 
 use crate::copier::{Copier, Copying};
 use crate::yielding::Yielding;
-use map_tables::named::{Settle, Settled, StepMachine};
+use map_tables::named::{At, Link, Memory, Settle, Settled, StepMachine};
 use map_tables::table_words::{NEXT, STATUS};
 use map_tables::{Node, Status, Table};
-use seize_words::{At, Link, Memory};
 
 impl Copier {
     /// Makes the next table the root.

@@ -1,10 +1,10 @@
 -- Whole calls over a memory that has one owner, who is caller 0: what has happened to it so far, and the call that is under way.
 use Rattle.std.specs.Prelude.{◌≡◌, ℕ, zero, suc, ◌<◌, ◌^◌, Bool, if◌then◌else◌, List, [], ◌∷◌, ◌++◌, map, Option, Some, None, Result, Ok, Err}
-use Rattle.seize_words.specs.declared.fault.Fault.{Fault}
-use Rattle.seize_words.specs.declared.fault.Fault.TheVariants.{Memory, SlotsUsedUp}
-use Rattle.seize_words.specs.declared.at.At.TheVariants.{Slot, Entry, Word}
-use Rattle.seize_words.specs.OneMemory.Mem.{Mem, Took, value_at, word_at}
-use Rattle.seize_words.specs.OneMemory.Plan.{Steps}
+use Rattle.seize.specs.Given.SeizeWordsDeclared.fault.Fault.{Fault}
+use Rattle.seize.specs.Given.SeizeWordsDeclared.fault.Fault.TheVariants.{Memory, SlotsUsedUp}
+use Rattle.seize.specs.Given.SeizeWordsDeclared.at.At.TheVariants.{Slot, Entry, Word}
+use Rattle.seize.specs.Given.SeizeWordsMem.{Mem, Took, value_at, word_at}
+use Rattle.seize.specs.Given.SeizeWordsPlan.{Steps}
 use Rattle.seize.specs.declared.states.TheConstants.{HEAD, NEXT}
 use Rattle.seize.specs.declared.rows.settle.Settled.{Settled}
 use Rattle.seize_model.specs.declared.calls.WholeCall.{WholeCall}

@@ -1,7 +1,7 @@
 -- What is promised of histories: which slots are active, what waits, and what is known of blocks and slots by what has happened; and of a call midway.
 use Rattle.std.specs.Prelude.{◌≡◌, ◌≤◌, ◌<◌, ◌^◌, ◌+◌, ℕ, IsSome, List, [], ◌∷◌, ◌++◌, Option, Some, None, replicate}
-use Rattle.seize_words.specs.declared.at.At.TheVariants.{Slot}
-use Rattle.seize_words.specs.OneMemory.Mem.{Mem, value_at, word_at}
+use Rattle.seize.specs.Given.SeizeWordsDeclared.at.At.TheVariants.{Slot}
+use Rattle.seize.specs.Given.SeizeWordsMem.{Mem, value_at, word_at}
 use Rattle.seize.specs.Law.{Effect}
 use Rattle.seize.specs.Sequence.{new_slot, taken_in}
 use Rattle.seize.specs.WaitingSets.{Sets, further_of, all_changed, at_start as sets_at_start}

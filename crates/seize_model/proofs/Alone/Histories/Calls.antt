@@ -3,7 +3,7 @@ use Rattle.std.specs.Prelude.{Option, if◌then◌else◌, ◌==◌}
 use Rattle.std.proofs.Common.{◌≡◌, ℕ, ◌+◌, Bool, true, false, List, [], ◌∷◌, ◌++◌, refl, ap, sym, subst, ◌∙◌}
 use Rattle.std.proofs.Math.Path.{fun_ext}
 use Rattle.std.proofs.lemmas.List.{append-nil}
-use Rattle.seize_words.specs.OneMemory.Mem.{Mem}
+use Rattle.seize.specs.Given.SeizeWordsMem.{Mem}
 use Rattle.seize.specs.declared.states.TheConstants.{LAST_SLOT}
 use Rattle.seize.specs.WaitingSets.{Change}
 use Rattle.seize.specs.World.{Row, Rests, Request, Event, Happens, with_at, at_start}

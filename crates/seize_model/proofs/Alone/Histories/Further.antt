@@ -1,8 +1,8 @@
 -- What is behind a block in use: its list stands in the memory, the collector has those blocks, and each stands there once.
 use Rattle.std.specs.Prelude.{Option, Some, None, IsSome, is_some}
 use Rattle.std.proofs.Common.{◌^◌, ◌≡◌, ℕ, ◌+◌, ◌<◌, ◌≤◌, Bool, true, false, cond, List, [], length, refl, arith, ap, sym, subst, ◌∙◌}
-use Rattle.seize_words.specs.declared.at.At.TheVariants.{Entry, Word}
-use Rattle.seize_words.specs.OneMemory.Mem.{Mem, value_at, word_at}
+use Rattle.seize.specs.Given.SeizeWordsDeclared.at.At.TheVariants.{Entry, Word}
+use Rattle.seize.specs.Given.SeizeWordsMem.{Mem, value_at, word_at}
 use Rattle.seize.specs.declared.states.TheConstants.{NEXT, LAST_SLOT}
 use Rattle.seize.specs.Law.{With, Nowhere, where_is}
 use Rattle.seize.specs.Further.{FurtherFrom, FurtherAre}

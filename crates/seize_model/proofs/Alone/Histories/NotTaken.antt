@@ -1,8 +1,8 @@
 -- A block that can be reached, that an open section holds, or that a caller has, is there, and no row takes it with its next step.
 use Rattle.std.specs.Prelude.{Option, Some, None, IsSome, is_some}
 use Rattle.std.proofs.Common.{◌≡◌, ℕ, ◌+◌, true, false, List, ◌∷◌, ◌++◌, refl, ap, sym, subst, ◌∙◌}
-use Rattle.seize_words.specs.declared.at.At.TheVariants as name
-use Rattle.seize_words.specs.OneMemory.Mem.{value_at, word_at}
+use Rattle.seize.specs.Given.SeizeWordsDeclared.at.At.TheVariants as name
+use Rattle.seize.specs.Given.SeizeWordsMem.{value_at, word_at}
 use Rattle.seize.specs.declared.states.TheConstants.{LAST_SLOT}
 use Rattle.seize.specs.Law.{Effect, Taken, is_somewhere, where_is, reachable, is_retired, holds, IsSound}
 use Rattle.seize.specs.World.{World, Steps', times, IsInside, IsOwn, Hand, NoBlock, Making, InUse, Parting, Cutting, Handed, LeftTo}

@@ -2,10 +2,10 @@
 use Rattle.std.specs.Prelude.{◌≢◌, ◌⊎◌, Option, IsSome, is_some, Ok, Err, if◌then◌else◌}
 use Rattle.std.proofs.Common.{◌≡◌, ℕ, ◌+◌, Bool, true, false, cond, eqb, List, [], ◌∷◌, length, refl, ap, sym, subst, ◌∙◌, inl, inr, arith}
 use Rattle.std.proofs.lemmas.Bool.{cases_eq, ne_eqb}
-use Rattle.seize_words.specs.declared.at.At.TheVariants.{Entry}
-use Rattle.seize_words.specs.OneMemory.Op.{Out, Store, Make, Found, Stored, Exchanged, Made, Taken, Roomed}
-use Rattle.seize_words.specs.OneMemory.Mem.{Mem, Took, value_at}
-use Rattle.seize_words.proofs.OneMemory.OneOwner.AfterWrites.{value_at-with_word}
+use Rattle.seize.specs.Given.SeizeWordsDeclared.at.At.TheVariants.{Entry}
+use Rattle.seize.specs.Given.SeizeWordsOp.{Out, Store, Make, Found, Stored, Exchanged, Made, Taken, Roomed}
+use Rattle.seize.specs.Given.SeizeWordsMem.{Mem, Took, value_at}
+use Rattle.seize.proofs.Given.SeizeWordsOneOwner.AfterWrites.{value_at-with_word}
 use Rattle.seize.specs.declared.states.TheConstants.{LAST_SLOT, NEXT}
 use Rattle.seize.specs.declared.rows.defer.Defer.{Defer}
 use Rattle.seize.specs.declared.rows.defer.Deferring.{Deferring}

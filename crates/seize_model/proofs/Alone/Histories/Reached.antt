@@ -1,7 +1,7 @@
 -- What holds of every world that is reached from the start.
 use Rattle.std.specs.Prelude.{Option}
 use Rattle.std.proofs.Common.{ℕ, ◌+◌, List, [], ◌∷◌, refl, sym, subst}
-use Rattle.seize_words.specs.OneMemory.Mem.{Mem}
+use Rattle.seize.specs.Given.SeizeWordsMem.{Mem}
 use Rattle.seize.specs.declared.states.TheConstants.{LAST_SLOT}
 use Rattle.seize.specs.World.{World, Event, Step, Happens, Runs, Steps'}
 use Rattle.seize_model.specs.Alone.Alone.{History, IsHistory, at_rest}

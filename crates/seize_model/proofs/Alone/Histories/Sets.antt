@@ -1,7 +1,7 @@
 -- What has happened to the memory of one owner says which slots are active, and what the heads of vacant ones are.
 use Rattle.std.specs.Prelude.{Option}
 use Rattle.std.proofs.Common.{◌≡◌, ℕ, ◌+◌, ◌<◌, ◌≤◌, ◌^◌, refl, ap}
-use Rattle.seize_words.specs.OneMemory.Mem.{Mem}
+use Rattle.seize.specs.Given.SeizeWordsMem.{Mem}
 use Rattle.seize.specs.declared.states.TheConstants.{LAST_SLOT}
 use Rattle.seize.specs.WaitingSets.{all_changed, at_start as sets_at_start}
 use Rattle.seize.specs.World.{Vacant, at_start}

@@ -1,8 +1,8 @@
 -- What has happened to the memory of one owner goes on with what its users do to their blocks and to the words of their own.
 use Rattle.std.specs.Prelude.{Option, Ok}
 use Rattle.std.proofs.Common.{◌≡◌, ℕ, [], ◌∷◌, ◌++◌, replicate, refl, subst, sym}
-use Rattle.seize_words.specs.OneMemory.Op.{Op, Out, Make, Take, Made}
-use Rattle.seize_words.specs.OneMemory.Mem.{Mem, Took}
+use Rattle.seize.specs.Given.SeizeWordsOp.{Op, Out, Make, Take, Made}
+use Rattle.seize.specs.Given.SeizeWordsMem.{Mem, Took}
 use Rattle.seize.specs.World.{Making, InUse, LeftTo, Makes, Links, Unlinks, Operates, Clears, Chooses, HasListWord, IsOwnOp, MayClear, MayCut}
 use Rattle.seize_model.specs.Alone.Alone.{History, IsHistory, nothing_yet, made, linked, unlinked, cleared}
 use Rattle.seize_model.proofs.Alone.Histories.Calls.{happened_history}

@@ -1,12 +1,12 @@
 -- A row makes no block, and with each block that it takes there is one less.
 use Rattle.std.specs.Prelude.{Option, Some, None, IsSome, Ok, Err, if◌then◌else◌, ◌==◌, slice_index_or, slice_set, bit_or}
 use Rattle.std.proofs.Common.{◌≡◌, ℕ, zero, suc, ◌+◌, ◌-◌, ◌%◌, ◌^◌, ◌<◌, ◌≤◌, Bool, true, false, List, [], ◌∷◌, refl, arith, ap, sym, subst}
-use Rattle.seize_words.specs.declared.at.At.{At}
-use Rattle.seize_words.specs.declared.at.At.TheVariants as name
-use Rattle.seize_words.specs.declared.block.Block.{Block}
-use Rattle.seize_words.specs.OneMemory.Op.{Op, Out, Load, Store, Swap, Add, Or, Exchange, Make, Take, Rewrite, Room, Found, Stored, Exchanged, Made, Taken, Roomed}
-use Rattle.seize_words.specs.OneMemory.Mem.{Mem, value_at, value_in, entry_in, word_in, word_at, with_word, with_entry, with_word_in, with_block, Can, Took, Gives, after}
-use Rattle.seize_words.specs.OneMemory.Plan.{Plan, Turn, Do, May, Steps}
+use Rattle.seize.specs.Given.SeizeWordsDeclared.at.At.{At}
+use Rattle.seize.specs.Given.SeizeWordsDeclared.at.At.TheVariants as name
+use Rattle.seize.specs.Given.SeizeWordsDeclared.block.Block.{Block}
+use Rattle.seize.specs.Given.SeizeWordsOp.{Op, Out, Load, Store, Swap, Add, Or, Exchange, Make, Take, Rewrite, Room, Found, Stored, Exchanged, Made, Taken, Roomed}
+use Rattle.seize.specs.Given.SeizeWordsMem.{Mem, value_at, value_in, entry_in, word_in, word_at, with_word, with_entry, with_word_in, with_block, Can, Took, Gives, after}
+use Rattle.seize.specs.Given.SeizeWordsPlan.{Plan, Turn, Do, May, Steps}
 use Rattle.seize_model.specs.Alone.Alone.{number_of, blocks_in}
 use Rattle.seize_rule.proofs.Words.Kept.{IsQuiet, IsQuietPlan}
 

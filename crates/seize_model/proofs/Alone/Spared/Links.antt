@@ -1,13 +1,13 @@
 -- The links of blocks that are left to a caller stay as they are, while a row of the collector takes its steps.
 use Rattle.std.specs.Prelude.{Option, Some, None, IsSome, Ok, Err, if◌then◌else◌, ◌==◌}
 use Rattle.std.proofs.Common.{◌≡◌, ℕ, ◌+◌, ◌/◌, ◌%◌, ◌^◌, ◌<◌, Bool, true, false, List, [], ◌∷◌, refl, arith, ap, sym, subst, ◌∙◌}
-use Rattle.seize_words.specs.declared.at.At.{At}
-use Rattle.seize_words.specs.declared.at.At.TheVariants as name
-use Rattle.seize_words.specs.declared.block.Block.{Block}
-use Rattle.seize_words.specs.OneMemory.Op.{Op, Out, Load, Store, Swap, Add, Or, Exchange, Make, Take, Rewrite, Room, Found, Stored, Exchanged, Made, Taken, Roomed}
-use Rattle.seize_words.specs.OneMemory.Mem.{Mem, same_at, value_at, entry_in, word_at, block_of, with_word, with_block, Can, Took, Gives, after}
-use Rattle.seize_words.specs.OneMemory.Plan.{Plan, Turn, Do, May, Steps, plan_as}
-use Rattle.seize_words.proofs.OneMemory.OneOwner.AfterWrites.{word_at-with_word, word_at-with_value, block_of-with_block}
+use Rattle.seize.specs.Given.SeizeWordsDeclared.at.At.{At}
+use Rattle.seize.specs.Given.SeizeWordsDeclared.at.At.TheVariants as name
+use Rattle.seize.specs.Given.SeizeWordsDeclared.block.Block.{Block}
+use Rattle.seize.specs.Given.SeizeWordsOp.{Op, Out, Load, Store, Swap, Add, Or, Exchange, Make, Take, Rewrite, Room, Found, Stored, Exchanged, Made, Taken, Roomed}
+use Rattle.seize.specs.Given.SeizeWordsMem.{Mem, same_at, value_at, entry_in, word_at, block_of, with_word, with_block, Can, Took, Gives, after}
+use Rattle.seize.specs.Given.SeizeWordsPlan.{Plan, Turn, Do, May, Steps, plan_as}
+use Rattle.seize.proofs.Given.SeizeWordsOneOwner.AfterWrites.{word_at-with_word, word_at-with_value, block_of-with_block}
 use Rattle.seize.specs.declared.states.TheConstants.{NEXT, ACTIVE}
 use Rattle.seize.specs.declared.rows.settle.Settle.{Settle}
 use Rattle.seize.specs.declared.rows.settle.Settling.{Settling}

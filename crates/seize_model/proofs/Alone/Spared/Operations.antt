@@ -3,16 +3,16 @@ use Rattle.std.specs.Prelude.{Option, Some, None, IsSome, Ok, Err, if◌then◌e
 use Rattle.std.proofs.Common.{◌≡◌, ℕ, ◌+◌, ◌%◌, ◌^◌, ◌<◌, Bool, true, false, List, [], ◌∷◌, ◌++◌, length, refl, arith, inl, inr, ap, sym, subst, ◌∙◌}
 use Rattle.std.proofs.lemmas.Bool.{cases_eq}
 use Rattle.std.proofs.lemmas.List.{get_or_append_left}
-use Rattle.seize_words.specs.declared.at.At.{At}
-use Rattle.seize_words.specs.declared.at.At.TheVariants as name
-use Rattle.seize_words.specs.OneMemory.Op.{Op, Out, Load, Store, Swap, Add, Or, Exchange, Make, Take, Rewrite, Room, Found, Stored, Exchanged, Made, Taken, Roomed}
-use Rattle.seize_words.specs.declared.slots.TheConstants.{SLOT_WORDS}
-use Rattle.seize_words.specs.OneMemory.Place.{capacity}
-use Rattle.seize_words.specs.OneMemory.SlotWords.{slot_word, with_bucket}
-use Rattle.seize_words.specs.OneMemory.Mem.{Mem, same_at, value_at, value_in, word_in, word_at, block_of, with_word, with_block, with_room, Can, Took, Gives, after}
-use Rattle.seize_words.specs.OneMemory.Plan.{Plan, Turn, Do, May, Steps, plan_as}
-use Rattle.seize_words.proofs.OneMemory.OneOwner.AfterWrites.{word_at-with_word, value_at-with_word, block_of-with_block}
-use Rattle.seize_words.proofs.OneMemory.Places.Words.{slot_lt, with_bucket_next, with_bucket_there}
+use Rattle.seize.specs.Given.SeizeWordsDeclared.at.At.{At}
+use Rattle.seize.specs.Given.SeizeWordsDeclared.at.At.TheVariants as name
+use Rattle.seize.specs.Given.SeizeWordsOp.{Op, Out, Load, Store, Swap, Add, Or, Exchange, Make, Take, Rewrite, Room, Found, Stored, Exchanged, Made, Taken, Roomed}
+use Rattle.seize.specs.Given.SeizeWordsDeclared.slots.TheConstants.{SLOT_WORDS}
+use Rattle.seize.specs.Given.SeizeWordsPlace.{capacity}
+use Rattle.seize.specs.Given.SeizeWordsSlotWords.{slot_word, with_bucket}
+use Rattle.seize.specs.Given.SeizeWordsMem.{Mem, same_at, value_at, value_in, word_in, word_at, block_of, with_word, with_block, with_room, Can, Took, Gives, after}
+use Rattle.seize.specs.Given.SeizeWordsPlan.{Plan, Turn, Do, May, Steps, plan_as}
+use Rattle.seize.proofs.Given.SeizeWordsOneOwner.AfterWrites.{word_at-with_word, value_at-with_word, block_of-with_block}
+use Rattle.seize.proofs.Given.SeizeWordsPlaces.Words.{slot_lt, with_bucket_next, with_bucket_there}
 use Rattle.seize.specs.declared.states.TheConstants.{HEAD}
 use Rattle.seize.specs.World.{times}
 use Rattle.seize_model.specs.Alone.Alone.{Spares}

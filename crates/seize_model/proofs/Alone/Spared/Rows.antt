@@ -1,17 +1,17 @@
 -- One step of a row leaves its users' words as they were, and takes at most one block, which it tells of.
 use Rattle.std.specs.Prelude.{Option, Some, IsSome, if◌then◌else◌, Bool, true}
 use Rattle.std.proofs.Common.{◌≡◌, ℕ, ◌+◌, false, List, [], ◌∷◌, ◌++◌, length, inl, inr, refl, ap, sym, subst, ◌∙◌}
-use Rattle.seize_words.specs.declared.at.At.{At}
-use Rattle.seize_words.specs.OneMemory.Mem.{Mem, Can, Took, same_at, value_at, word_at, with_word}
-use Rattle.seize_words.specs.declared.at.At.TheVariants.{Word}
-use Rattle.seize_words.proofs.OneMemory.OneOwner.AfterWrites.{word_at-with_word}
+use Rattle.seize.specs.Given.SeizeWordsDeclared.at.At.{At}
+use Rattle.seize.specs.Given.SeizeWordsMem.{Mem, Can, Took, same_at, value_at, word_at, with_word}
+use Rattle.seize.specs.Given.SeizeWordsDeclared.at.At.TheVariants.{Word}
+use Rattle.seize.proofs.Given.SeizeWordsOneOwner.AfterWrites.{word_at-with_word}
 use Rattle.std.proofs.lemmas.Bool.{eq-eqb}
 use Rattle.seize_rule.proofs.Given.SeizeMovesState.Ghost.{IsOwned, lies_with, can_carry}
 use Rattle.seize_rule.proofs.Points.Aside.{HandFits}
 use Rattle.seize_rule.proofs.Given.SeizeMemoryWords.Named.{same_at-true}
 use Rattle.seize.specs.World.{Hand, Making, times, World, Row, Rests, Registers, Enters, Settles, Leaves, Defers, Frees, Use, Vacant, Outside, Inside, Changing, IsInside, Steps', handed_by, settle_effects, leave_effects, register_effects, settles_on, registers_on, defers_on}
-use Rattle.seize_words.specs.OneMemory.Plan.{May, Steps}
-use Rattle.seize_words.proofs.OneMemory.OneOwner.Operations.{exchanged}
+use Rattle.seize.specs.Given.SeizeWordsPlan.{May, Steps}
+use Rattle.seize.proofs.Given.SeizeWordsOneOwner.Operations.{exchanged}
 use Rattle.seize.specs.declared.states.TheConstants.{LAST_SLOT}
 use Rattle.seize.specs.declared.advance.Advance.{Advance}
 use Rattle.seize.specs.declared.advance.Advance.TheVariants as progress

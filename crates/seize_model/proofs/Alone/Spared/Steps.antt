@@ -1,8 +1,8 @@
 -- Each step of a row makes an operation that leaves its users' words as they are, and takes just the block that it tells of.
 use Rattle.std.specs.Prelude.{Option, if◌then◌else◌, ◌==◌}
 use Rattle.std.proofs.Common.{◌≡◌, ℕ, ◌<◌, Bool, true, false, List, [], ◌∷◌, refl, arith, sym, subst, ◌∙◌}
-use Rattle.seize_words.specs.OneMemory.Mem.{Mem, Can, Took, value_at}
-use Rattle.seize_words.specs.OneMemory.Plan.{May, Steps}
+use Rattle.seize.specs.Given.SeizeWordsMem.{Mem, Can, Took, value_at}
+use Rattle.seize.specs.Given.SeizeWordsPlan.{May, Steps}
 use Rattle.seize.specs.declared.states.TheConstants.{ACTIVE}
 use Rattle.seize.specs.declared.advance.Advance.{Advance}
 use Rattle.seize.specs.declared.rows.settle.Settle.{Settle}

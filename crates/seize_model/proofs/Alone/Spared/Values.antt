@@ -1,10 +1,10 @@
 -- The value of a block stays the same until the block is reclaimed, whatever a row does.
 use Rattle.std.specs.Prelude.{Option, Some, None, IsSome, Ok, Err, bit_or}
 use Rattle.std.proofs.Common.{◌≡◌, ℕ, ◌+◌, ◌%◌, ◌^◌, Bool, true, false, cond, eqb, ap, sym, subst, ◌∙◌}
-use Rattle.seize_words.specs.declared.at.At.{At}
-use Rattle.seize_words.specs.OneMemory.Op.{Op, Out, Load, Store, Swap, Add, Or, Exchange, Make, Take, Rewrite, Room, Found, Stored, Exchanged, Made, Taken, Roomed}
-use Rattle.seize_words.specs.OneMemory.Mem.{Mem, value_at, word_at, with_word, with_block, Can, Took, Gives, after}
-use Rattle.seize_words.specs.OneMemory.Plan.{Plan, Turn, Do, May, Steps}
+use Rattle.seize.specs.Given.SeizeWordsDeclared.at.At.{At}
+use Rattle.seize.specs.Given.SeizeWordsOp.{Op, Out, Load, Store, Swap, Add, Or, Exchange, Make, Take, Rewrite, Room, Found, Stored, Exchanged, Made, Taken, Roomed}
+use Rattle.seize.specs.Given.SeizeWordsMem.{Mem, value_at, word_at, with_word, with_block, Can, Took, Gives, after}
+use Rattle.seize.specs.Given.SeizeWordsPlan.{Plan, Turn, Do, May, Steps}
 use Rattle.seize_rule.proofs.Given.SeizeMemoryWords.Named.{wrote, taken_one}
 use Rattle.seize_rule.proofs.Words.Kept.{IsQuiet, IsQuietPlan}
 

@@ -2,7 +2,7 @@
 use Rattle.std.specs.Prelude.{Option, ◌^◌}
 use Rattle.std.proofs.Common.{◌≡◌, ℕ, ◌*◌, ◌<◌, true, false, [], refl, sym}
 use Rattle.std.proofs.lemmas.List.{append-nil}
-use Rattle.seize_words.specs.OneMemory.Mem.{Mem}
+use Rattle.seize.specs.Given.SeizeWordsMem.{Mem}
 use Rattle.seize.specs.declared.states.TheConstants.{IDLE, ACTIVE}
 use Rattle.seize.specs.Settle.{retiring, flushing}
 use Rattle.seize.specs.Leave.{leaving}

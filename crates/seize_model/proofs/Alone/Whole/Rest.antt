@@ -3,9 +3,9 @@ use Rattle.std.specs.Prelude.{Option, Some, Ok, Err, map}
 use Rattle.std.proofs.Common.{◌≡◌, ℕ, zero, suc, ◌<◌, true, List, [], ◌∷◌, ◌++◌, inl, inr, refl, arith, sym, subst}
 use Rattle.std.proofs.lemmas.Bool.{cases_eq}
 use Rattle.std.proofs.lemmas.List.{append-nil, append_assoc}
-use Rattle.seize_words.specs.OneMemory.Op.{Op, Out, Load, Store, Swap, Add, Or, Exchange, Make, Take, Rewrite, Room, Found, Stored, Exchanged, Taken}
-use Rattle.seize_words.specs.OneMemory.Mem.{Mem, Can, Took, Gives, after, value_at}
-use Rattle.seize_words.specs.OneMemory.Plan.{Plan, Then, Turn, Do, Now, Seeing, Sure, May, MaySee, Steps, Ends}
+use Rattle.seize.specs.Given.SeizeWordsOp.{Op, Out, Load, Store, Swap, Add, Or, Exchange, Make, Take, Rewrite, Room, Found, Stored, Exchanged, Taken}
+use Rattle.seize.specs.Given.SeizeWordsMem.{Mem, Can, Took, Gives, after, value_at}
+use Rattle.seize.specs.Given.SeizeWordsPlan.{Plan, Then, Turn, Do, Now, Seeing, Sure, May, MaySee, Steps, Ends}
 use Rattle.seize.specs.declared.rows.settle.Settled.{Settled}
 use Rattle.seize.specs.declared.rows.settle.Settled.TheVariants.{Goes, Waits, Gave, Done}
 use Rattle.seize_model.specs.declared.calls.WholeCall.{WholeCall}
@@ -19,7 +19,7 @@ use Rattle.seize_model.proofs.Ends.Settling.Most.{is_going}
 use Rattle.seize_rule.proofs.Rows.LeavesTold.{leave_quiet}
 use Rattle.seize_model.proofs.Alone.Whole.Steps.{call_may, call_told}
 use Rattle.seize_model.proofs.Alone.Whole.Ends.{call_to_go, call_falls}
-use Rattle.seize_words.proofs.General.{some_there as some_of}
+use Rattle.seize.proofs.Given.General.{some_there as some_of}
 
 -- a step that may be taken comes to something
 

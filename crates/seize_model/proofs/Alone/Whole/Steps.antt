@@ -3,9 +3,9 @@ use Rattle.std.specs.Prelude.{Option, Some, IsSome, map}
 use Rattle.std.proofs.Common.{◌≡◌, ℕ, zero, suc, ◌+◌, ◌*◌, ◌<◌, ◌≤◌, Bool, true, false, List, [], ◌∷◌, ◌++◌, ◌⊎◌, inl, inr, refl, ap, sym, subst, ◌∙◌}
 use Rattle.std.proofs.Math.Path.{fun_ext}
 use Rattle.std.proofs.lemmas.List.{append-nil, append_assoc, append_cancel_left, map-append}
-use Rattle.seize_words.specs.OneMemory.Mem.{Mem, Took, value_at, word_at}
-use Rattle.seize_words.specs.OneMemory.Plan.{Steps}
-use Rattle.seize_words.specs.declared.at.At.TheVariants.{Entry}
+use Rattle.seize.specs.Given.SeizeWordsMem.{Mem, Took, value_at, word_at}
+use Rattle.seize.specs.Given.SeizeWordsPlan.{Steps}
+use Rattle.seize.specs.Given.SeizeWordsDeclared.at.At.TheVariants.{Entry}
 use Rattle.seize.specs.declared.states.TheConstants.{LAST_SLOT, IDLE, ACTIVE, NEXT}
 use Rattle.seize.specs.declared.rows.settle.Settle.{Settle}
 use Rattle.seize.specs.declared.rows.settle.Settled.{Settled}

@@ -2,11 +2,11 @@
 use Rattle.std.specs.Prelude.{not, if◌then◌else◌, nat_lt, ◌==◌, ◌%◌, ◌^◌, ◌&&◌, Option, None, IsSome, is_some, Ok, Err, bit_or, slice_index_or}
 use Rattle.std.proofs.Common.{◌≡◌, ℕ, ◌+◌, ◌-◌, ◌<◌, Bool, true, false, eqb, length, length-set, ltb-true, ltb-false, refl, arith, ap, sym, subst, eqb-true, ◌∙◌}
 use Rattle.std.proofs.lemmas.List.{get_or_past}
-use Rattle.seize_words.specs.declared.at.At.{At}
-use Rattle.seize_words.specs.declared.at.At.TheVariants.{Root, Used, Slot, Entry, Word}
-use Rattle.seize_words.specs.OneMemory.Mem.{Mem, Can, Took, Gives, after, same_at, value_at, value_in, word_at, with_word, with_entry, with_word_in, block_of}
-use Rattle.seize_words.specs.OneMemory.Op.{Op, Out, Load, Store, Swap, Add, Or, Exchange, Make, Take, Rewrite, Room, Found, Stored, Exchanged, Made, Taken, Roomed}
-use Rattle.seize_words.specs.OneMemory.Plan.{Plan, Then, Turn, Do, Now, Seeing, Sure, May, Steps, Ends}
+use Rattle.seize.specs.Given.SeizeWordsDeclared.at.At.{At}
+use Rattle.seize.specs.Given.SeizeWordsDeclared.at.At.TheVariants.{Root, Used, Slot, Entry, Word}
+use Rattle.seize.specs.Given.SeizeWordsMem.{Mem, Can, Took, Gives, after, same_at, value_at, value_in, word_at, with_word, with_entry, with_word_in, block_of}
+use Rattle.seize.specs.Given.SeizeWordsOp.{Op, Out, Load, Store, Swap, Add, Or, Exchange, Make, Take, Rewrite, Room, Found, Stored, Exchanged, Made, Taken, Roomed}
+use Rattle.seize.specs.Given.SeizeWordsPlan.{Plan, Then, Turn, Do, Now, Seeing, Sure, May, Steps, Ends}
 use Rattle.seize_rule.proofs.Given.SeizeMemoryWords.There.{live_pos}
 use Rattle.seize_rule.proofs.Given.SeizeMemoryWords.Named.{words_of, wrote, write_apart}
 use Rattle.seize_rule.proofs.Words.Kept.{IsQuiet, IsQuietPlan}

@@ -2,11 +2,11 @@
 use Rattle.std.specs.Prelude.{if◌then◌else◌, nat_lt, ◌==◌, ◌%◌, ◌^◌, ◌+◌, ◌&&◌, Option, Some, None, IsSome, Ok, Err}
 use Rattle.std.proofs.Common.{◌≡◌, ℕ, ◌*◌, Bool, true, false, eqb, [], refl, arith, ap, sym, eqb-true, ◌∙◌, ◌⊎◌, inl, inr}
 use Rattle.std.proofs.lemmas.Bool.{eqb-false}
-use Rattle.seize_words.specs.declared.at.At.TheVariants.{Slot}
-use Rattle.seize_words.specs.OneMemory.Mem.{Mem, Can, Took, value_at, word_at, with_word}
-use Rattle.seize_words.specs.OneMemory.Op.{Out, Found, Exchanged, Taken}
-use Rattle.seize_words.specs.OneMemory.Plan.{May, Steps, Ends, Now}
-use Rattle.seize_words.proofs.OneMemory.OneOwner.Operations.{loaded, stored, exchanged}
+use Rattle.seize.specs.Given.SeizeWordsDeclared.at.At.TheVariants.{Slot}
+use Rattle.seize.specs.Given.SeizeWordsMem.{Mem, Can, Took, value_at, word_at, with_word}
+use Rattle.seize.specs.Given.SeizeWordsOp.{Out, Found, Exchanged, Taken}
+use Rattle.seize.specs.Given.SeizeWordsPlan.{May, Steps, Ends, Now}
+use Rattle.seize.proofs.Given.SeizeWordsOneOwner.Operations.{loaded, stored, exchanged}
 use Rattle.seize.specs.declared.states.TheConstants.{BATCH, HELD, ACTIVE, NEVER}
 use Rattle.seize.specs.declared.rows.settle.Settle.{Settle}
 use Rattle.seize.specs.declared.rows.settle.Settling.{Settling}

@@ -1,10 +1,10 @@
 -- A leaving row takes no more steps, until it ends or waits, than a number of its memory and its machine, and each step lowers how many it still takes.
 use Rattle.std.specs.Prelude.{Option, if◌then◌else◌, nat_lt}
 use Rattle.std.proofs.Common.{◌≡◌, ℕ, zero, suc, ◌+◌, ◌*◌, ◌<◌, ◌≤◌, Bool, true, false, length, refl, arith, ap, sym, subst, ◌∙◌}
-use Rattle.seize_words.specs.declared.at.At.TheVariants.{Slot}
-use Rattle.seize_words.specs.OneMemory.Mem.{Mem, Took, value_at, with_word}
-use Rattle.seize_words.specs.OneMemory.Plan.{Steps, Ends, Now}
-use Rattle.seize_words.proofs.OneMemory.OneOwner.Operations.{stored, swapped}
+use Rattle.seize.specs.Given.SeizeWordsDeclared.at.At.TheVariants.{Slot}
+use Rattle.seize.specs.Given.SeizeWordsMem.{Mem, Took, value_at, with_word}
+use Rattle.seize.specs.Given.SeizeWordsPlan.{Steps, Ends, Now}
+use Rattle.seize.proofs.Given.SeizeWordsOneOwner.Operations.{stored, swapped}
 use Rattle.seize.specs.declared.states.TheConstants.{HEAD, ACTIVE, FREE, LAST_SLOT}
 use Rattle.seize.specs.declared.rows.settle.Settle.{Settle}
 use Rattle.seize.specs.declared.rows.settle.Settled.{Settled}

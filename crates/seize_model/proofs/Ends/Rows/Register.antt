@@ -1,11 +1,11 @@
 -- Registering ends, whatever others do: a number that each of its steps lowers, save the last.
 use Rattle.std.specs.Prelude.{Option, Some, None, ◌*◌, ◌-◌, nat_lt, if◌then◌else◌}
 use Rattle.std.proofs.Common.{◌≡◌, ℕ, ◌+◌, ◌<◌, ◌≤◌, Bool, true, false, inl, inr, refl, arith, subst, sym}
-use Rattle.seize_words.specs.declared.at.At.TheVariants as at
-use Rattle.seize_words.specs.declared.fault.Fault.TheVariants.{Memory, SlotsUsedUp}
-use Rattle.seize_words.specs.OneMemory.Mem.{Mem, value_at, Took}
-use Rattle.seize_words.specs.OneMemory.Plan.{Steps, Now}
-use Rattle.seize_words.proofs.OneMemory.OneOwner.Operations.{loaded, stored, exchanged, roomed}
+use Rattle.seize.specs.Given.SeizeWordsDeclared.at.At.TheVariants as at
+use Rattle.seize.specs.Given.SeizeWordsDeclared.fault.Fault.TheVariants.{Memory, SlotsUsedUp}
+use Rattle.seize.specs.Given.SeizeWordsMem.{Mem, value_at, Took}
+use Rattle.seize.specs.Given.SeizeWordsPlan.{Steps, Now}
+use Rattle.seize.proofs.Given.SeizeWordsOneOwner.Operations.{loaded, stored, exchanged, roomed}
 use Rattle.seize.specs.declared.states.TheConstants.{HEAD, IDLE, ACTIVE, LAST_SLOT}
 use Rattle.seize.specs.declared.advance.Advance.{Advance}
 use Rattle.seize.specs.declared.advance.Advance.TheVariants.{Goes, Waits, Done, Refused}

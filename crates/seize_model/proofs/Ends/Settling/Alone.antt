@@ -1,8 +1,8 @@
 -- A settling row that runs alone never waits.
 use Rattle.std.specs.Prelude.{Option}
 use Rattle.std.proofs.Common.{◌≡◌, ℕ, ◌+◌, true, false, refl, subst}
-use Rattle.seize_words.specs.OneMemory.Mem.{Mem, Can, Took, value_at}
-use Rattle.seize_words.specs.OneMemory.Plan.{Steps, May}
+use Rattle.seize.specs.Given.SeizeWordsMem.{Mem, Can, Took, value_at}
+use Rattle.seize.specs.Given.SeizeWordsPlan.{Steps, May}
 use Rattle.seize.specs.declared.states.TheConstants.{LAST_SLOT}
 use Rattle.seize.specs.declared.rows.settle.Settle.{Settle}
 use Rattle.seize.specs.declared.rows.settle.Settling.{Settling}

@@ -1,8 +1,8 @@
 -- A settling row takes no more steps, until it ends or waits, than a number of its memory and its machine, and each step lowers how many it still takes.
 use Rattle.std.specs.Prelude.{Option, ◌/◌}
 use Rattle.std.proofs.Common.{◌≡◌, ℕ, zero, suc, ◌+◌, ◌*◌, ◌<◌, ◌≤◌, Bool, true, false, cond, eqb, List, [], ◌∷◌, length, refl, arith, ap, subst}
-use Rattle.seize_words.specs.OneMemory.Mem.{Mem, Took, value_at}
-use Rattle.seize_words.specs.OneMemory.Plan.{Steps}
+use Rattle.seize.specs.Given.SeizeWordsMem.{Mem, Took, value_at}
+use Rattle.seize.specs.Given.SeizeWordsPlan.{Steps}
 use Rattle.seize.specs.declared.states.TheConstants.{LAST_SLOT}
 use Rattle.seize.specs.declared.rows.settle.Settle.{Settle}
 use Rattle.seize.specs.declared.rows.settle.Settling.{Settling}

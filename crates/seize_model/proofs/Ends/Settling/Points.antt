@@ -2,11 +2,11 @@
 use Rattle.std.specs.Prelude.{if◌then◌else◌, nat_lt, ◌==◌, ◌/◌, ◌%◌, ◌^◌, Option, Some, None}
 use Rattle.std.proofs.Common.{◌≡◌, ℕ, ◌+◌, ◌-◌, ◌*◌, ◌<◌, ◌≤◌, Bool, true, false, cond, eqb, List, refl, arith, ap, sym, subst, eqb-true, ◌∙◌, inl, inr}
 use Rattle.std.proofs.lemmas.Bool.{eqb-false, eq-eqb}
-use Rattle.seize_words.specs.declared.at.At.TheVariants.{Slot, Entry}
-use Rattle.seize_words.specs.OneMemory.Mem.{Mem, Took, value_at}
-use Rattle.seize_words.specs.OneMemory.Op.{Found}
-use Rattle.seize_words.specs.OneMemory.Plan.{Steps, Ends, Now}
-use Rattle.seize_words.proofs.OneMemory.OneOwner.Operations.{loaded, stored, added, exchanged, taken as taken_value}
+use Rattle.seize.specs.Given.SeizeWordsDeclared.at.At.TheVariants.{Slot, Entry}
+use Rattle.seize.specs.Given.SeizeWordsMem.{Mem, Took, value_at}
+use Rattle.seize.specs.Given.SeizeWordsOp.{Found}
+use Rattle.seize.specs.Given.SeizeWordsPlan.{Steps, Ends, Now}
+use Rattle.seize.proofs.Given.SeizeWordsOneOwner.Operations.{loaded, stored, added, exchanged, taken as taken_value}
 use Rattle.seize.specs.declared.states.TheConstants.{HEAD, BATCH, NEXT, LINK, FIRST, COUNT, ACTIVE, NEVER, HELD, LAST_SLOT}
 use Rattle.seize.specs.declared.rows.settle.Settle.{Settle}
 use Rattle.seize.specs.declared.rows.settle.Settling.{Settling}

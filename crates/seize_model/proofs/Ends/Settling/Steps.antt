@@ -1,8 +1,8 @@
 -- Every step of a settling row, save its last, lowers what is left of its work, unless it waits.
 use Rattle.std.specs.Prelude.{◌/◌, Option}
 use Rattle.std.proofs.Common.{◌≡◌, ℕ, ◌+◌, ◌<◌, ◌++◌, false, arith}
-use Rattle.seize_words.specs.OneMemory.Mem.{Mem, Took, value_at}
-use Rattle.seize_words.specs.OneMemory.Plan.{Steps}
+use Rattle.seize.specs.Given.SeizeWordsMem.{Mem, Took, value_at}
+use Rattle.seize.specs.Given.SeizeWordsPlan.{Steps}
 use Rattle.seize.specs.declared.rows.settle.Settle.{Settle}
 use Rattle.seize.specs.declared.rows.settle.Settling.{Settling}
 use Rattle.seize.specs.declared.rows.settle.Settling.TheVariants as at

@@ -24,7 +24,7 @@ use Rattle.seize_model.proofs.Sets.Follows.Work.{Lined, Base, Plainly, Flushes, 
 use Rattle.seize_model.proofs.Sets.Follows.Kept.{behind_in, retires_plainly, plainly_retires}
 use Rattle.seize_model.proofs.Sets.Follows.Countdown.{all_closed, all_wait}
 use Rattle.seize_rule.proofs.Given.SeizeMovesState.Moves
-use Rattle.seize_words.proofs.General.{at_most_itself as not_longer}
+use Rattle.seize.proofs.Given.General.{at_most_itself as not_longer}
 
 -- the row has nothing in its hands
 pub record AtRest (i : ℕ) (m : State) : Type 0 where

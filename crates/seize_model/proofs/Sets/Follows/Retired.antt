@@ -20,7 +20,7 @@ use Rattle.seize_rule.proofs.Given.SeizeMovesState.Moves
 use Rattle.seize_rule.proofs.Points.Told.{Part, Plain, Flushing, Trying, Marking, Pushing, Draining, NoneLeft, NotScanned, length_word}
 use Rattle.seize_model.proofs.Sets.Follows.Work.{Base, Plainly, Flushes, rest_tried, TryBounds, Tries, Puts, Follows, Setting}
 use Rattle.seize_model.proofs.Sets.Follows.Kept.{OpenOnly, open_on, rest_on, Retires, plainly_retires, retires_plainly}
-use Rattle.seize_words.proofs.General.{at_most_itself as not_longer}
+use Rattle.seize.proofs.Given.General.{at_most_itself as not_longer}
 
 -- no move
 pub stays_follows : (batch_size n i s : ℕ) (p p2 : Part) (m m2 : State) (before : List ℕ) (target : After) → Setting batch_size n i s p m

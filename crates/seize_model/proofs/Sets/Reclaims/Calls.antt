@@ -1,9 +1,9 @@
 -- Reclaiming all, alone in a world in which every row rests: its work on slots is a list of whole calls, and reclaims what the waiting sets say.
 use Rattle.std.specs.Prelude.{Option}
 use Rattle.std.proofs.Common.{◌≡◌, ℕ, zero, suc, ◌+◌, ◌<◌, ◌≤◌, Bool, true, false, [], ◌⊎◌, inl, inr, refl, arith, subst, sym, ap, ◌∙◌}
-use Rattle.seize_words.specs.declared.at.At.TheVariants as name
-use Rattle.seize_words.specs.OneMemory.Mem.{Mem}
-use Rattle.seize_words.proofs.OneMemory.OneOwner.Operations.{stored}
+use Rattle.seize.specs.Given.SeizeWordsDeclared.at.At.TheVariants as name
+use Rattle.seize.specs.Given.SeizeWordsMem.{Mem}
+use Rattle.seize.proofs.Given.SeizeWordsOneOwner.Operations.{stored}
 use Rattle.seize.specs.declared.states.TheConstants.{HEAD, IDLE, LAST_SLOT}
 use Rattle.seize.specs.declared.advance.Advance.{Advance}
 use Rattle.seize.specs.declared.rows.enter.Unregister.{Unregister}

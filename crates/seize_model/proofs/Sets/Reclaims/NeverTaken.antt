@@ -2,8 +2,8 @@
 use Rattle.std.specs.Prelude.{Option, Some, None}
 use Rattle.std.proofs.Common.{◌≡◌, ℕ, suc, ◌+◌, ◌<◌, ◌≤◌, ◌^◌, List, [], ◌∷◌, length, inl, inr, refl, arith, subst, sym, ap, ◌∙◌}
 use Rattle.std.proofs.lemmas.Bool.{cases_lt}
-use Rattle.seize_words.specs.declared.at.At.TheVariants as name
-use Rattle.seize_words.specs.OneMemory.Mem.{word_at}
+use Rattle.seize.specs.Given.SeizeWordsDeclared.at.At.TheVariants as name
+use Rattle.seize.specs.Given.SeizeWordsMem.{word_at}
 use Rattle.seize.specs.declared.states.TheConstants.{HEAD, LAST_SLOT}
 use Rattle.seize.specs.Law.{is_open}
 use Rattle.seize_model.specs.Sets.Reclaims.{Reclaims}
@@ -20,7 +20,7 @@ use Rattle.seize_rule.proofs.Given.SeizeMemoryWords.View.{view}
 use Rattle.seize_rule.proofs.Given.SeizeMemoryWords.Named.{words_of, word_found}
 use Rattle.seize_model.proofs.Sets.Slots.Registers.{never_used as never_vacant}
 use Rattle.seize_rule.proofs.Points.Try.{never_word as zero_never}
-use Rattle.seize_words.proofs.General.{no_length}
+use Rattle.seize.proofs.Given.General.{no_length}
 
 module _ (n size : ℕ) where
   -- no slot from n on has an open batch

@@ -2,8 +2,8 @@
 use Rattle.std.specs.Prelude.{Option, Some, max, ◌==◌}
 use Rattle.std.proofs.Common.{◌≡◌, ℕ, zero, suc, ◌+◌, ◌<◌, ◌≤◌, ◌^◌, Bool, true, false, cond, eqb, ltb, List, [], ◌++◌, length, refl, ap, arith, subst, sym, ◌∙◌, eqb-true, append_assoc}
 use Rattle.std.proofs.lemmas.Bool.{eqb-false, ltb-true, ltb-false}
-use Rattle.seize_words.specs.declared.at.At.TheVariants as name
-use Rattle.seize_words.specs.OneMemory.Mem.{word_at}
+use Rattle.seize.specs.Given.SeizeWordsDeclared.at.At.TheVariants as name
+use Rattle.seize.specs.Given.SeizeWordsMem.{word_at}
 use Rattle.seize.specs.declared.states.TheConstants.{BATCH, LAST_SLOT}
 use Rattle.seize.specs.WaitingSets.{Sets, After, quietly, then_also, opened, size, all_left, emptied, emptied_all, all_reclaimed}
 use Rattle.seize.specs.World.{World}
@@ -14,7 +14,7 @@ use Rattle.seize_rule.proofs.Given.SeizeMovesSets.Counters.{once_shown}
 use Rattle.seize_model.proofs.Sets.Turns.Begins.{Shown, rest}
 use Rattle.seize_rule.proofs.Given.SeizeMemoryWords.Named.{word_found}
 use Rattle.seize_model.proofs.Sets.Reclaims.Sets.{Comes, slots_fit, active_taken, settled_come, reclaims_come, then_quiet, flush_quiet, emptied_times, flush_all, flush_rounds, open_none}
-use Rattle.seize_words.proofs.General.{no_length}
+use Rattle.seize.proofs.Given.General.{no_length}
 
 abbrev after_as : Sets → List ℕ → After
 after_as s l = record { sets = s; reclaimed = l }

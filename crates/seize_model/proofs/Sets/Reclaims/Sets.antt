@@ -3,8 +3,8 @@ use Rattle.std.specs.Prelude.{Option, Some, None, if◌then◌else◌}
 use Rattle.std.proofs.Common.{◌≡◌, ℕ, zero, suc, ◌+◌, ◌<◌, ◌≤◌, ◌^◌, Bool, true, false, cond, eqb, List, [], ◌∷◌, ◌++◌, length, inl, inr, refl, arith, subst, sym, ap, ◌∙◌, eqb-true, append_assoc}
 use Rattle.std.proofs.lemmas.Bool.{cases_lt}
 use Rattle.std.proofs.lemmas.List.{append-nil}
-use Rattle.seize_words.specs.declared.at.At.TheVariants as name
-use Rattle.seize_words.specs.OneMemory.Mem.{word_at}
+use Rattle.seize.specs.Given.SeizeWordsDeclared.at.At.TheVariants as name
+use Rattle.seize.specs.Given.SeizeWordsMem.{word_at}
 use Rattle.seize.specs.declared.states.TheConstants.{HEAD, BATCH, LAST_SLOT}
 use Rattle.seize.specs.Settle.{flushing}
 use Rattle.seize.specs.Sequence.{Turn, Whole, Calls, TakesTurns, taken_in, changes}

@@ -2,11 +2,11 @@
 use Rattle.std.specs.Prelude.{Option, Some, IsSome, nat_lt, ◌==◌, if◌then◌else◌}
 use Rattle.std.proofs.Common.{◌≡◌, ℕ, zero, suc, ◌+◌, ◌-◌, ◌<◌, ◌≤◌, Bool, true, false, inl, inr, refl, arith, subst, sym, ap, ◌∙◌, eqb-true}
 use Rattle.std.proofs.lemmas.Bool.{cases_eq, eqb-false}
-use Rattle.seize_words.specs.declared.at.At.TheVariants as name
-use Rattle.seize_words.specs.OneMemory.Mem.{Mem, Took, value_at, word_at, with_word}
-use Rattle.seize_words.specs.OneMemory.Plan.{Ends, Steps}
-use Rattle.seize_words.proofs.OneMemory.OneOwner.Operations.{loaded}
-use Rattle.seize_words.proofs.OneMemory.OneOwner.AfterWrites.{word_at-with_word}
+use Rattle.seize.specs.Given.SeizeWordsDeclared.at.At.TheVariants as name
+use Rattle.seize.specs.Given.SeizeWordsMem.{Mem, Took, value_at, word_at, with_word}
+use Rattle.seize.specs.Given.SeizeWordsPlan.{Ends, Steps}
+use Rattle.seize.proofs.Given.SeizeWordsOneOwner.Operations.{loaded}
+use Rattle.seize.proofs.Given.SeizeWordsOneOwner.AfterWrites.{word_at-with_word}
 use Rattle.seize.specs.declared.states.TheConstants.{HEAD, BATCH, NEVER, FREE, IDLE, ACTIVE, LAST_SLOT}
 use Rattle.seize.specs.declared.rows.settle.Settled.{Settled}
 use Rattle.seize.specs.declared.rows.settle.Settled.TheVariants.{Goes}
@@ -25,7 +25,7 @@ use Rattle.seize_model.proofs.Sets.Turns.Heads.{word_says, vacant_by, outside_by
 use Rattle.seize_model.proofs.Sets.Slots.Retaken.{retaken_idle}
 use Rattle.seize_model.proofs.Sets.Reclaims.Ends.{flush_all_vacant, rounds_vacant, untaken_vacant}
 use Rattle.seize_model.proofs.Sets.Slots.Kept.{leave_idles, flush_outside, given_up_vacant}
-use Rattle.seize_words.proofs.General.{less_not as le_of, less_so as lt_of}
+use Rattle.seize.proofs.Given.General.{less_not as le_of, less_so as lt_of}
 
 pub is_two : (a : ℕ) → (a == NEVER) ≡ false → (a == FREE) ≡ false → nat_lt a ACTIVE ≡ true → a ≡ 2
 is_two a p q l = grind (arith, p, q, l)

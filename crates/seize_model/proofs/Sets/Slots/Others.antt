@@ -1,10 +1,10 @@
 -- A row that doesn't register leaves a vacant slot vacant.
 use Rattle.std.specs.Prelude.{Option, if◌then◌else◌, nat_lt}
 use Rattle.std.proofs.Common.{◌≡◌, ℕ, zero, suc, Bool, true, false, eqb, refl, subst, sym, ap, ◌∙◌, eqb-true}
-use Rattle.seize_words.specs.declared.at.At.TheVariants as name
-use Rattle.seize_words.specs.OneMemory.Mem.{Mem, Took, value_at, with_word}
-use Rattle.seize_words.specs.OneMemory.Plan.{Steps, Ends, Now}
-use Rattle.seize_words.proofs.OneMemory.OneOwner.Operations.{swapped, stored}
+use Rattle.seize.specs.Given.SeizeWordsDeclared.at.At.TheVariants as name
+use Rattle.seize.specs.Given.SeizeWordsMem.{Mem, Took, value_at, with_word}
+use Rattle.seize.specs.Given.SeizeWordsPlan.{Steps, Ends, Now}
+use Rattle.seize.proofs.Given.SeizeWordsOneOwner.Operations.{swapped, stored}
 use Rattle.seize.specs.declared.states.TheConstants.{HEAD, FREE, ACTIVE}
 use Rattle.seize.specs.declared.advance.Advance.{Advance}
 use Rattle.seize.specs.declared.advance.Advance.TheVariants as progress

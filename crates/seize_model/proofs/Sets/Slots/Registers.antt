@@ -3,13 +3,13 @@ use Rattle.std.specs.Prelude.{Option, Some, None, slice_get, if◌then◌else◌
 use Rattle.std.proofs.Common.{◌≡◌, ℕ, ◌+◌, ◌<◌, ◌≤◌, Bool, true, false, cond, eqb, eqb-true, List, [], length, ◌⊎◌, inl, inr, refl, arith, sym, subst, ap, ◌∙◌}
 use Rattle.std.proofs.lemmas.Bool.{cases_eq}
 use Rattle.std.proofs.Math.ListN.{get_or-eq_default}
-use Rattle.seize_words.specs.declared.at.At.TheVariants as at
-use Rattle.seize_words.specs.declared.fault.Fault.{Fault}
-use Rattle.seize_words.specs.declared.fault.Fault.TheVariants.{Memory, SlotsUsedUp}
-use Rattle.seize_words.specs.OneMemory.Mem.{Mem, value_at, word_at, with_room, Took}
-use Rattle.seize_words.specs.OneMemory.Place.{capacity}
-use Rattle.seize_words.specs.OneMemory.Plan.{Steps, Now}
-use Rattle.seize_words.proofs.OneMemory.OneOwner.Operations.{loaded, stored, exchanged, roomed}
+use Rattle.seize.specs.Given.SeizeWordsDeclared.at.At.TheVariants as at
+use Rattle.seize.specs.Given.SeizeWordsDeclared.fault.Fault.{Fault}
+use Rattle.seize.specs.Given.SeizeWordsDeclared.fault.Fault.TheVariants.{Memory, SlotsUsedUp}
+use Rattle.seize.specs.Given.SeizeWordsMem.{Mem, value_at, word_at, with_room, Took}
+use Rattle.seize.specs.Given.SeizeWordsPlace.{capacity}
+use Rattle.seize.specs.Given.SeizeWordsPlan.{Steps, Now}
+use Rattle.seize.proofs.Given.SeizeWordsOneOwner.Operations.{loaded, stored, exchanged, roomed}
 use Rattle.seize.specs.declared.states.TheConstants.{HEAD, NEVER, IDLE, ACTIVE, LAST_SLOT}
 use Rattle.seize.specs.declared.advance.Advance.{Advance}
 use Rattle.seize.specs.declared.advance.Advance.TheVariants.{Goes, Done, Refused}

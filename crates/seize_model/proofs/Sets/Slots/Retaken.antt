@@ -1,13 +1,13 @@
 -- A slot that was given up is taken again: the store that does it is all that a whole registering call writes, which takes just this slot.
 use Rattle.std.specs.Prelude.{Option, Some, None, nat_lt, if◌then◌else◌, Ok}
 use Rattle.std.proofs.Common.{◌≡◌, ◌≢◌, ℕ, zero, suc, ◌+◌, ◌<◌, Bool, true, false, eqb, List, [], ◌++◌, length, inl, inr, refl, arith, subst, sym, ap, ◌∙◌}
-use Rattle.seize_words.specs.declared.at.At.TheVariants as name
-use Rattle.seize_words.specs.declared.fault.Fault.TheVariants.{SlotsUsedUp}
-use Rattle.seize_words.specs.OneMemory.Op.{Found, Exchanged, Roomed}
-use Rattle.seize_words.specs.OneMemory.Mem.{Mem, Took, value_at, word_at, with_word, with_room}
-use Rattle.seize_words.specs.OneMemory.Place.{capacity}
-use Rattle.seize_words.specs.OneMemory.Plan.{Steps}
-use Rattle.seize_words.proofs.OneMemory.Places.Words.{with_bucket_there}
+use Rattle.seize.specs.Given.SeizeWordsDeclared.at.At.TheVariants as name
+use Rattle.seize.specs.Given.SeizeWordsDeclared.fault.Fault.TheVariants.{SlotsUsedUp}
+use Rattle.seize.specs.Given.SeizeWordsOp.{Found, Exchanged, Roomed}
+use Rattle.seize.specs.Given.SeizeWordsMem.{Mem, Took, value_at, word_at, with_word, with_room}
+use Rattle.seize.specs.Given.SeizeWordsPlace.{capacity}
+use Rattle.seize.specs.Given.SeizeWordsPlan.{Steps}
+use Rattle.seize.proofs.Given.SeizeWordsPlaces.Words.{with_bucket_there}
 use Rattle.seize.specs.declared.states.TheConstants.{HEAD, FREE, IDLE, LAST_SLOT}
 use Rattle.seize.specs.declared.advance.Advance.{Advance}
 use Rattle.seize.specs.declared.advance.Advance.TheVariants.{Goes}

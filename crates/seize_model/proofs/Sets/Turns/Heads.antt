@@ -1,8 +1,8 @@
 -- What the heads of slots say while every row rests: how each slot is used.
 use Rattle.std.specs.Prelude.{Option, Some, None, IsSome}
 use Rattle.std.proofs.Common.{◌≡◌, ℕ, ◌+◌, ◌<◌, ◌≤◌, Bool, true, false, List, [], ◌∷◌, length, refl, arith, subst, sym, ap, ◌∙◌}
-use Rattle.seize_words.specs.declared.at.At.TheVariants as name
-use Rattle.seize_words.specs.OneMemory.Mem.{word_at}
+use Rattle.seize.specs.Given.SeizeWordsDeclared.at.At.TheVariants as name
+use Rattle.seize.specs.Given.SeizeWordsMem.{word_at}
 use Rattle.seize.specs.declared.states.TheConstants.{HEAD, LAST_SLOT}
 use Rattle.seize.specs.Law.{is_open}
 use Rattle.seize.specs.World.{World, Use, Vacant, Outside, Inside, Changing, SlotsTaken}

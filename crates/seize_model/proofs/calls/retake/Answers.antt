@@ -1,7 +1,7 @@
 use Rattle.std.specs.Prelude.{Option, IsSome, false}
 use Rattle.std.proofs.Common.{ℕ, [], refl, arith, subst, sym}
-use Rattle.seize_words.specs.declared.at.At.TheVariants.{Slot}
-use Rattle.seize_words.specs.OneMemory.Mem.{Mem}
+use Rattle.seize.specs.Given.SeizeWordsDeclared.at.At.TheVariants.{Slot}
+use Rattle.seize.specs.Given.SeizeWordsMem.{Mem}
 use Rattle.seize.specs.declared.states.TheConstants.{HEAD, IDLE}
 use Rattle.seize_model.specs.Alone.Alone.{IsHistory, Spares, SameLinks, registered}
 use Rattle.seize_model.proofs.Alone.Whole.Retake.{retake_history}

@@ -1,6 +1,6 @@
 -- A step of the retirement is the disposal's, with its outcome turned.
 use Rattle.std.proofs.Common.{refl, subst, sym}
-use Rattle.seize_words.specs.OneMemory.Plan.{Steps}
+use Rattle.map_tables.specs.Given.SeizeWordsPlan.{Steps}
 use Rattle.map_tables.proofs.Given.SeizeStepsInto.{steps_into}
 use Rattle.map_tables.specs.Given.SeizeSettle.{settle_plan}
 use Rattle.map_tables.specs.Nodes.{deferred_word}

@@ -1,5 +1,5 @@
 -- A step of the making is the beginning's, with its outcome turned.
-use Rattle.seize_words.proofs.OneMemory.Plans.{may_as}
+use Rattle.map_tables.proofs.Given.SeizeWordsPlans.{may_as}
 use Rattle.map_tables.proofs.Given.SeizeStepsInto.{steps_into}
 use Rattle.map_machines.specs.NewTable.{new_table_plan}
 use Rattle.map_machines.specs.NewMap.{opened}

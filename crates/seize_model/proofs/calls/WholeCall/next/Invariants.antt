@@ -1,5 +1,5 @@
 use Rattle.std.proofs.Common.{ℕ, List, ◌≤◌}
-use Rattle.seize_words.specs.OneMemory.Mem.{Mem}
+use Rattle.seize.specs.Given.SeizeWordsMem.{Mem}
 use Rattle.seize.specs.World.{Request}
 use Rattle.seize_model.specs.Alone.Alone.{History, IsMidway, row_of, blocks_in}
 use Rattle.seize_model.proofs.Alone.Whole.Ends.{call_to_go}
