@@ -80,7 +80,7 @@ module _ {K V Q : Type 0} (same : K → K → Bool) (hash : K → ℕ) (asks : Q
   pub inside : IsInside (now.v.uses (slot 0))
   inside = now.together.inside 0 (OnKey u) a.has
 
-  its : IsWriter a.calls 0
+  pub its : IsWriter a.calls 0
   its = (OnKey u, a.has, row_writes u.call.stands is_row)
 
   leads_on : rows.Leads same hash asks setting slot lawful now.v c blocks sights a.calls now.together 0 u inside its u.call.stands
