@@ -238,7 +238,7 @@ module _ {K V S : Type 0} (same : K → K → Bool) (hash : S → K → ℕ) (fi
 
   -- what it has under way it has so, if it leans on another seat
   only_so : (machine : Machine K V K) → v.work ≡ Calls machine → LooksAside v.under (Some map) (Calls machine)
-  only_so _ works =
+  only_so machine works =
       subst (λ (x : SeatWork K V S). LooksAside v.under (Some map) x) works
       (subst (λ (x : Option (Map S)). LooksAside v.under x v.work) knows fits.only)
 

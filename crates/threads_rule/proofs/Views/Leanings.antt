@@ -121,7 +121,7 @@ same_two j t n a is = let e : ◌≡◌ {A = ℕ × ℕ} (j, t) (n, a) = same_so
 
 module _ {K S : Type 0} (V : Type 0) (same : K → K → Bool) (hash : S → K → ℕ) where
   pub leanings_begin : LeaningsBegin V same hash
-  leanings_begin fixed i j t v u rests _ free inside s h at_i at_j apart =
+  leanings_begin fixed i j t v u rests own free inside s h at_i at_j apart =
       let its_slot : IsSlot t = its (own_slot u.under u.slot t (WithinUse 0) (h.so.seats j u at_j).aside (ap use_of inside)) in
       goes same hash fixed s h i v at_i rests free (Some (j, t)) its_slot (λ n a is. (u, at n a is, inside ∙ ap (λ (b : ℕ). Inside b NoBlock) (place n a is)))
     where
