@@ -4,11 +4,10 @@ use Rattle.std.specs.Coded.{Coded, Coded-set, coded_ℕ, coded×, ×_prop, →_p
 use base.Stored.{coded_via}
 use denote.RawPtr.{Ptr, InBlock, block_ptr, null_ptr, coded_ptr}
 use Rattle.seize_seats.specs.Seats.Owned.{BaseId, Core, IsIts, core_of}
-use Rattle.seize_atoms.specs.Placed.{IsItsIndex}
 use Rattle.seize_blocks.specs.Parts.{IsFound}
 use Rattle.seize_blocks.specs.declared.part.Place.{Place}
 
-pub in_block_prop : (p : Ptr) → IsProp (InBlock p)
+in_block_prop : (p : Ptr) → IsProp (InBlock p)
 in_block_prop (block_ptr b o) = Unit-prop
 in_block_prop null_ptr = λ x y. absurd x
 
