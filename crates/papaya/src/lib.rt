@@ -11,7 +11,7 @@ mod shared;
 
 pub use builder::HashSetBuilder;
 pub use papaya_map::{
-    Attempt, Collector, Fault, Given, HashMap, HashMapBuilder, HashMapRef, IdSource, Own, Pass,
+    Attempt, Collector, Fault, Form, Given, HashMap, HashMapBuilder, HashMapRef, IdSource, Own, Pass,
     Refused, ResizeMode, Session, SharedMap,
 };
 pub use pin::HashSetRef;
