@@ -11,8 +11,8 @@ mod shared;
 
 pub use builder::HashSetBuilder;
 pub use papaya_map::{
-    Attempt, Collector, Fault, Form, Given, HashMap, HashMapBuilder, HashMapRef, IdSource, Own, Pass,
-    Refused, ResizeMode, Session, SharedMap,
+    Attempt, Collector, Equivalent, Fault, Form, Given, HashMap, HashMapBuilder, HashMapRef,
+    IdSource, Own, Pass, Refused, ResizeMode, Session, SharedMap,
 };
 pub use pin::HashSetRef;
 pub use seize_words::RefusedKey;

@@ -142,7 +142,11 @@ impl<'m, K: Eq + Hash + Drop, V: Drop, S: Hashes<K>> Session<'m, K, V, S> {
 impl<'g, 'm, K: Eq + Hash + Drop, V: Drop, S: Hashes<K>> HashMapRef<'g, 'm, K, V, S> {
     /// Looks a key up, and lends its pair, if the map has one, for as long as the session is lent, whoever replaces or removes the pair meanwhile. How many steps that takes
     /// is up to the others.
-    pub fn get_key_value<R: Wait, Q: Form<K, S>>(&mut self, rt: &R, key: &Q) -> Option<(&'g K, &'g V)>
+    pub fn get_key_value<R: Wait, Q: Form<K, S>>(
+        &mut self,
+        rt: &R,
+        key: &Q,
+    ) -> Option<(&'g K, &'g V)>
         ensures session { self.new.session ≡ self.old.session }
         ensures got { HasGotPairUnder K.eq S.hash (Q.stands_for key.now) self.old.session.now.base.caller (option_map (λ pair. (pair.0.now, pair.1.now)) result)
             self.old.pass.base.seat.view self.new.pass.base.seat.view }

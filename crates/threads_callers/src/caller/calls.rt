@@ -43,7 +43,12 @@ impl<'a, K: Eq + Drop, V: Drop, S: Hashes<K>> MapCaller<'a, K, V, S> {
 
 impl<'a, K: Eq + Hash, V, S: Hashes<K>> MapCaller<'a, K, V, S> {
     /// Looks this key up within its section, by this lookup, and answers the word that names the pair found. How many steps it takes is up to the others.
-    pub fn finds<R: Wait, Q: Equivalent<K>>(&mut self, rt: &R, lookup: Lookup, key: &Q) -> Option<u64>
+    pub fn finds<R: Wait, Q: Equivalent<K>>(
+        &mut self,
+        rt: &R,
+        lookup: Lookup,
+        key: &Q,
+    ) -> Option<u64>
         requires may { MayLook S.hash (Q.stands_for key.now) lookup self.old.seat.view }
         ensures found { HasFound K.eq S.hash (Q.stands_for key.now) result self.old.seat.view self.new.seat.view }
         ensures blocks { self.new.blocks ≡ self.old.blocks }

@@ -55,7 +55,12 @@ impl<'a, K: Eq + Hash, V, S: Hashes<K>> Within<'a, K, V, S> {
     }
 
     /// Takes the steps of its lookup until it has ended. A lookup goes on to a later table where pairs are copied there, so how many steps it takes is up to the others.
-    pub fn goes_through<R: Wait, Q: Equivalent<K>>(&mut self, rt: &R, lookup: Lookup, key: &Q) -> Option<u64>
+    pub fn goes_through<R: Wait, Q: Equivalent<K>>(
+        &mut self,
+        rt: &R,
+        lookup: Lookup,
+        key: &Q,
+    ) -> Option<u64>
         requires looks { LooksFor (Q.stands_for key.now) lookup self.old.seat.now.view }
         ensures looked { HasLooked K.eq (Q.stands_for key.now) result self.new.seat.now.view }
         ensures told { HasProgressed (found_of result) self.old.seat.now.view self.new.seat.now.view }
@@ -75,7 +80,13 @@ impl<'a, K: Eq + Hash, V, S: Hashes<K>> Within<'a, K, V, S> {
 
     /// Looks the key up by straight code, as far as that goes: over the tries at the root's table.
     #[inline(always)]
-    fn looks_up<Q: Equivalent<K>>(&mut self, root: u64, mode: ResizeMode, hash: u64, key: &Q) -> Sight
+    fn looks_up<Q: Equivalent<K>>(
+        &mut self,
+        root: u64,
+        mode: ResizeMode,
+        hash: u64,
+        key: &Q,
+    ) -> Sight
         requires looks { LooksFor (Q.stands_for key.now) (looking root mode hash) self.old.seat.now.view }
         ensures come { HasCome K.eq (Q.stands_for key.now) root mode hash result self.old.seat.now.view self.new.seat.now.view }
         ensures stays { StaysThere self.old.seat.now.view self.new.seat.now.view }
@@ -86,7 +97,13 @@ impl<'a, K: Eq + Hash, V, S: Hashes<K>> Within<'a, K, V, S> {
 
     /// Begins to look the key up within its section, and looks by straight code.
     #[inline(always)]
-    pub fn sees<Q: Equivalent<K>>(&mut self, root: u64, mode: ResizeMode, hash: u64, key: &Q) -> Sight
+    pub fn sees<Q: Equivalent<K>>(
+        &mut self,
+        root: u64,
+        mode: ResizeMode,
+        hash: u64,
+        key: &Q,
+    ) -> Sight
         requires may { MayLook S.hash (Q.stands_for key.now) (looking root mode hash) self.old.seat.now.view }
         ensures seen { HasSeen K.eq S.hash (Q.stands_for key.now) root mode hash result self.old.seat.now.view self.new.seat.now.view }
         ensures same { IsSameSeat self.old self.new }
