@@ -5,6 +5,7 @@ mod builder;
 mod extending;
 mod making;
 mod pin;
+mod registration;
 mod session;
 mod set;
 mod shared;
@@ -12,9 +13,10 @@ mod shared;
 pub use builder::HashSetBuilder;
 pub use papaya_map::{
     Attempt, Collector, Fault, Given, HashMap, HashMapBuilder, HashMapRef, IdSource, Own, Pass,
-    Refused, ResizeMode, Session, SharedMap,
+    Refused, Registration, ResizeMode, Session, SharedMap,
 };
 pub use pin::HashSetRef;
+pub use registration::SetRegistration;
 pub use seize_words::RefusedKey;
 pub use session::SetSession;
 pub use set::HashSet;

@@ -2,9 +2,11 @@
 #![tactic(auto)]
 
 mod pass;
+mod registration;
 mod session;
 
 pub use pass::{HashMapRef, Pass};
+pub use registration::Registration;
 pub use seize_words::Operation;
 pub use session::Session;
 pub use threads_updates::{

@@ -18,6 +18,7 @@ ghost use Rattle.threads_sweeps.specs.Swept.{retains, walks};
 mod lends;
 mod updates;
 
+use crate::registration::Registration;
 use map_tables::Hashes;
 use seize_words::{Fault, Refused};
 use std::hash::{Hash, RandomState};
@@ -45,10 +46,8 @@ impl<'m, K: Eq + Hash + Drop, V: Drop, S: Hashes<K>> Session<'m, K, V, S> {
         ensures same { IfOk result (λ session. HasMadeNone base.entry.caller session.base.caller) }
         ensures number { IfOk result (λ session. session.number ≡ number) }
     {
-        let mut base = base;
-        base.register()?;
-        base.enter();
-        Ok(Session { base, number })
+        let registration = Registration::begin(base, number)?;
+        Ok(registration.enter())
     }
 
     /// Returns the number of its map's collector.
