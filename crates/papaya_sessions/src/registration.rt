@@ -49,19 +49,6 @@ impl<'m, K: Eq + Hash + Drop, V: Drop, S: Hashes<K>> Registration<'m, K, V, S> {
     }
 }
 
-impl<'m, K: Eq + Hash + Drop, V: Drop, S: Hashes<K>> Session<'m, K, V, S> {
-    /// Ends its section, and keeps its slot: what it was lent before, and what was replaced or removed meanwhile, is kept from nobody any more.
-    pub fn leave(self) -> Registration<'m, K, V, S>
-        ensures same { HasMadeNone self.entry.base.caller result.base.caller }
-        ensures number { result.number ≡ self.entry.number }
-    {
-        let Session { base, number } = self;
-        let mut base = base;
-        base.leave();
-        Registration { base, number }
-    }
-}
-
 impl<'m, K: Eq + Hash + Drop, V: Drop, S: Hashes<K>> Drop for Registration<'m, K, V, S> {
     fn drop(self) {
         let Registration { base, number: _ } = self;

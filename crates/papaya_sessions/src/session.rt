@@ -77,6 +77,17 @@ impl<'m, K: Eq + Hash + Drop, V: Drop, S: Hashes<K>> Session<'m, K, V, S> {
         self.base.enter();
     }
 
+    /// Ends its section, and keeps its slot: what it was lent before, and what was replaced or removed meanwhile, is kept from nobody any more.
+    pub fn leave(self) -> Registration<'m, K, V, S>
+        ensures same { HasMadeNone self.entry.base.caller result.base.caller }
+        ensures number { result.number ≡ self.entry.number }
+    {
+        let Session { base, number } = self;
+        let mut base = base;
+        base.leave();
+        Registration { base, number }
+    }
+
     /// Looks a key up, and lends the value of its pair, if the map has one, for as long as the session is borrowed, whoever replaces or removes it meanwhile. How many
     /// steps that takes is up to the others.
     pub fn get<R: Wait>(&mut self, rt: &R, key: &K) -> Option<&V>
