@@ -12,8 +12,8 @@ mod shared;
 
 pub use builder::HashSetBuilder;
 pub use papaya_map::{
-    Attempt, Collector, Fault, Given, HashMap, HashMapBuilder, HashMapRef, IdSource, Own, Pass,
-    Refused, Registration, ResizeMode, Session, SharedMap,
+    Attempt, Collector, Equivalent, Fault, Form, Given, HashMap, HashMapBuilder, HashMapRef,
+    IdSource, Own, Pass, Refused, Registration, ResizeMode, Session, SharedMap,
 };
 pub use pin::HashSetRef;
 pub use registration::SetRegistration;

@@ -8,9 +8,9 @@ mod shared;
 
 pub use builder::{Given, HashMapBuilder, Own};
 pub use map::HashMap;
-pub use map_tables::ResizeMode;
+pub use map_tables::{Equivalent, ResizeMode};
 pub use papaya_sessions::{
-    Attempt, ComputedPair, HashMapRef, Operation, Pass, Registration, Session,
+    Attempt, ComputedPair, Form, HashMapRef, Operation, Pass, Registration, Session,
 };
 pub use seize::{Collector, IdSource};
 pub use seize_words::{Fault, Refused};

@@ -10,5 +10,5 @@ pub use registration::Registration;
 pub use seize_words::Operation;
 pub use session::Session;
 pub use threads_updates::{
-    Attempt, ComputedPair, Fixed, OfMaps, SessionBase, memory_for, newcomer,
+    Attempt, ComputedPair, Fixed, Form, OfMaps, SessionBase, memory_for, newcomer,
 };

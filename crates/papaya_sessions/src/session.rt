@@ -23,7 +23,7 @@ use map_tables::Hashes;
 use seize_words::{Fault, Refused};
 use std::hash::{Hash, RandomState};
 use std::sync::Wait;
-use threads_updates::{Attempt, SessionBase as Base};
+use threads_updates::{Attempt, Form, SessionBase as Base};
 
 /// A map, as one of those has it who share it. It may be sent to a thread, and holds a slot, within a section that is open from its beginning to its end: what its calls have
 /// found isn't given back as long as the answer is borrowed. As long as it neither ends nor is refreshed, nothing that was removed or replaced meanwhile is reclaimed,
@@ -90,9 +90,9 @@ impl<'m, K: Eq + Hash + Drop, V: Drop, S: Hashes<K>> Session<'m, K, V, S> {
 
     /// Looks a key up, and lends the value of its pair, if the map has one, for as long as the session is borrowed, whoever replaces or removes it meanwhile. How many
     /// steps that takes is up to the others.
-    pub fn get<R: Wait>(&mut self, rt: &R, key: &K) -> Option<&V>
+    pub fn get<R: Wait, Q: Form<K, S>>(&mut self, rt: &R, key: &Q) -> Option<&V>
         ensures* got { sem 𝓛 (EndsSo K.row V.row S.row K.PartialEq S.Hashes self.entry (λ now. KeepsMap self.old now
-            × MapHad K.eq S.hash key.now (option_map (λ value. value.now) result) self.old.base.caller now.base.caller)) }
+            × MapHad K.eq S.hash (Q.stands_for key.now) (option_map (λ value. value.now) result) self.old.base.caller now.base.caller)) }
     {
         match self.base.find(rt, key) {
             Some(found) => Some(self.base.value(found)),
@@ -101,9 +101,9 @@ impl<'m, K: Eq + Hash + Drop, V: Drop, S: Hashes<K>> Session<'m, K, V, S> {
     }
 
     /// Returns whether the map has a pair of this key.
-    pub fn contains_key<R: Wait>(&mut self, rt: &R, key: &K) -> bool
+    pub fn contains_key<R: Wait, Q: Form<K, S>>(&mut self, rt: &R, key: &Q) -> bool
         ensures keeps { KeepsMap self.old self.new }
-        ensures sought { MapHadOne K.eq S.hash key.now result self.old.base.caller self.new.base.caller }
+        ensures sought { MapHadOne K.eq S.hash (Q.stands_for key.now) result self.old.base.caller self.new.base.caller }
     {
         self.base.contains_key(rt, key)
     }
