@@ -3,6 +3,7 @@
 
 mod builder;
 mod extending;
+mod json;
 mod making;
 mod pin;
 mod session;
@@ -10,9 +11,10 @@ mod set;
 mod shared;
 
 pub use builder::HashSetBuilder;
+pub use json::{FromJson, ToJson};
 pub use papaya_map::{
-    Attempt, Collector, Fault, Given, HashMap, HashMapBuilder, HashMapRef, IdSource, Own, Pass,
-    Refused, ResizeMode, Session, SharedMap,
+    Attempt, Collector, Fault, Given, HashMap, HashMapBuilder, HashMapRef, IdSource, Onlooker, Own,
+    Pass, Refused, ResizeMode, Session, SharedMap,
 };
 pub use pin::HashSetRef;
 pub use seize_words::RefusedKey;

@@ -7,6 +7,7 @@ mod session;
 pub use pass::{HashMapRef, Pass};
 pub use seize_words::Operation;
 pub use session::Session;
+pub use threads_sweeps::Onlooker;
 pub use threads_updates::{
     Attempt, ComputedPair, Fixed, OfMaps, SessionBase, memory_for, newcomer,
 };

@@ -16,7 +16,7 @@ use Rattle.threads_calls.specs.Given.ViewsDeclared.view.View.{View}
 use Rattle.threads_calls.specs.Given.ErrandsCalling.{IsGoing, IsNoQuestion, outcome_of}
 use Rattle.threads_calls.specs.Given.ErrandsSweeping.{swept_by}
 use Rattle.threads_sweeps.specs.Closures.{CalledOn, HasShownEach, ShowsSo, TakesSteps, WasCalledWith}
-use Rattle.threads_sweeps.specs.Onlookers.{HasShownTo, HasTold, SeesSo, WasShown}
+use Rattle.threads_sweeps.specs.Onlookers.{HasBeenShown, HasShownTo, SeesSo, WasShown}
 use Rattle.threads_sweeps.proofs.Closures.{called_with, where_it_ends, where_it_goes}
 
 module _ {T K V S : Type 0} (sees : T → K → V → T → Type 0) (t : T) (v : View K V S) (told : Progress (Node K V)) where
@@ -67,7 +67,7 @@ module _ {T K V S : Type 0} (sees : T → K → V → T → Type 0) where
         (more.0, (have.0, u, have.1, (x, told, stepped, progressed, more.1)), more.2 have.2)
 
     -- The walk has told just some pairs, and the onlooker has come to what it is by these, one after another.
-    pub has_told : (t last : T) (v w : View K V S) → HasShownTo same hash sees t last v w → (pairs : List (K × V)) × HasTold same hash pairs v w × FoldsTo along t pairs last
+    pub has_told : (t last : T) (v w : View K V S) → HasShownTo same hash sees t last v w → HasBeenShown same hash sees t last v w
     has_told t last v w (u, n, begun, steps) = let have = steps_list n t u last w steps in (have.0, (u, n, begun, have.1), have.2)
 
 module _ {C F K V S : Type 0} (inner : C → F) (g : Mut F (Bor K × (Bor V × Unit {0})) (Unit {0})) where

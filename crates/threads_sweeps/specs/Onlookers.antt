@@ -1,5 +1,6 @@
 -- What an onlooker of a walk was shown, step by step, and which pairs those were.
 use Rattle.std.specs.Prelude.{◌≡◌, ℕ, Bool, List, [], ◌∷◌, ◌++◌, Some}
+use Rattle.std.specs.List.{FoldsTo}
 use Rattle.seize_words.specs.OneMemory.Word.{block_in}
 use Rattle.map_tables.specs.declared.node.Node.{Node}
 use Rattle.map_tables.specs.declared.node.Node.TheVariants.{Pair}
@@ -33,3 +34,7 @@ module _ {K V S : Type 0} (same : K → K → Bool) (hash : S → K → ℕ) whe
   -- it has begun a walk, which has told just these pairs, in order
   abbrev pub HasTold : List (K × V) → View K V S → View K V S → Type 0
   HasTold pairs v w = HasShownTo (λ xs key value ys. ys ≡ xs ++ ((key, value) ∷ [])) [] pairs v w
+
+  -- It has begun a walk, which has told just some pairs, in order, and the onlooker has come to be so by being shown these, one after another.
+  abbrev pub HasBeenShown : {T : Type 0} → (T → K → V → T → Type 0) → T → T → View K V S → View K V S → Type 0
+  HasBeenShown sees t last v w = (pairs : List (K × V)) × HasTold pairs v w × FoldsTo (λ x pair y. sees x pair.0 pair.1 y) t pairs last
