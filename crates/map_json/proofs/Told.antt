@@ -11,7 +11,7 @@ use Rattle.map_forms.proofs.Items.{AreSoFar, one_more}
 use Rattle.map_json.specs.Growing.{PutsItem, PutsMember}
 
 module _ {K V W : Type 0} (key_in : K → Type 0) (text : K → List ℕ) (value_in : V → Type 0) (value : V → Data) (refused : W → Bool) (members : W → Members) where
-  along : W → K × V → W → Type 0
+  abbrev pub along : W → K × V → W → Type 0
   along w x n = PutsMember key_in text value_in value x.0 x.1 (refused w) (members w) (refused n) (members n)
 
   pub all_written : (xs : List (K × V)) (w last : W) → FoldsTo along w xs last → refused last ≡ false
@@ -26,7 +26,7 @@ module _ {K V W : Type 0} (key_in : K → Type 0) (text : K → List ℕ) (value
 
 -- And of all elements.
 module _ {K V W : Type 0} (in_range : K → Type 0) (value : K → Data) (refused : W → Bool) (items : W → BTreeMap (String Global) Value) where
-  along_items : W → K × V → W → Type 0
+  abbrev pub along_items : W → K × V → W → Type 0
   along_items w x n = PutsItem in_range value x.0 (refused w) (items w) (refused n) (items n)
 
   pub all_items : (xs : List (K × V)) (before : List K) (w last : W) → FoldsTo along_items w xs last → refused last ≡ false → AreSoFar value before (items w).entries → IsOrdered string_cmp (items w)

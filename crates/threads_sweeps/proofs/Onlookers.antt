@@ -19,6 +19,11 @@ use Rattle.threads_sweeps.specs.Closures.{CalledOn, HasShownEach, ShowsSo, Takes
 use Rattle.threads_sweeps.specs.Onlookers.{HasBeenShown, HasShownTo, SeesSo, WasShown}
 use Rattle.threads_sweeps.proofs.Closures.{called_with, where_it_ends, where_it_goes}
 
+-- the onlooker was shown what the seat shows
+pub was_shown : {T K V S : Type 0} (sees : T → K → V → T → Type 0) (word : ℕ) (v : View K V S) (t : T) (key : K) (value : V) (next : T) → sees t key value next
+    → shown_in v.held (block_in word) ≡ Some (Pair key value) → WasShown sees word v t next
+was_shown sees word v t key value next seen shown = record { key = key; value = value; shown = shown; seen = seen }
+
 module _ {T K V S : Type 0} (sees : T → K → V → T → Type 0) (t : T) (v : View K V S) (told : Progress (Node K V)) where
   -- nothing follows for the onlooker of a walk where that goes on, or has ended
   pub sees_none : IsGoing told × IsNoQuestion told → SeesSo sees told t v t v
@@ -28,11 +33,11 @@ module _ {T K V S : Type 0} (sees : T → K → V → T → Type 0) (t : T) (v :
   sees_no_more end e = where_it_ends (λ (x : Progress (Node K V)). SeesSo sees x t v t v) (refl, refl) (λ fault. (refl, refl)) told end e
 
 -- the onlooker that lists the pairs that it is shown
-lists : {K V : Type 0} → List (K × V) → K → V → List (K × V) → Type 0
+abbrev lists : {K V : Type 0} → List (K × V) → K → V → List (K × V) → Type 0
 lists xs key value ys = ys ≡ xs ++ ((key, value) ∷ [])
 
 module _ {T K V S : Type 0} (sees : T → K → V → T → Type 0) where
-  along : T → K × V → T → Type 0
+  abbrev along : T → K × V → T → Type 0
   along t pair next = sees t pair.0 pair.1 next
 
   module _ (t e : T) (pairs : List (K × V)) (v : View K V S) (next : T) (w : View K V S) where
@@ -71,7 +76,7 @@ module _ {T K V S : Type 0} (sees : T → K → V → T → Type 0) where
     has_told t last v w (u, n, begun, steps) = let have = steps_list n t u last w steps in (have.0, (u, n, begun, have.1), have.2)
 
 module _ {C F K V S : Type 0} (inner : C → F) (g : Mut F (Bor K × (Bor V × Unit {0})) (Unit {0})) where
-  calls : C → K → V → C → Type 0
+  abbrev pub calls : C → K → V → C → Type 0
   calls c key value n = CalledOn g (inner c) key value (inner n)
 
   was_called : (word : ℕ) (v : View K V S) (c next : C) → WasShown calls word v c next → WasCalledWith g word v (inner c) tt (inner next)
