@@ -3,6 +3,7 @@
 
 mod builder;
 mod extending;
+mod json;
 mod making;
 mod pin;
 mod registration;
@@ -11,9 +12,10 @@ mod set;
 mod shared;
 
 pub use builder::HashSetBuilder;
+pub use json::{FromJson, ToJson};
 pub use papaya_map::{
     Attempt, Collector, Equivalent, Fault, Form, Given, HashMap, HashMapBuilder, HashMapRef,
-    IdSource, Own, Pass, Refused, Registration, ResizeMode, Session, SharedMap,
+    IdSource, Onlooker, Own, Pass, Refused, Registration, ResizeMode, Session, SharedMap,
 };
 pub use pin::HashSetRef;
 pub use registration::SetRegistration;

@@ -13,6 +13,7 @@ ghost use Rattle.threads_updates.specs.Given.SeizeViewsDeclared.view.Has.TheVari
 ghost use Rattle.threads_updates.specs.Given.SeizeViewsDeclared.view.SlotView.TheVariants.{Inside, Rests};
 ghost use Rattle.threads_updates.specs.Given.StepsAsking.{HasAsked, MakingSays, MayTest, TestSays};
 ghost use Rattle.threads_sweeps.specs.Closures.{HasHeeded, HasShownEach};
+ghost use Rattle.threads_sweeps.specs.Onlookers.{HasBeenShown};
 ghost use Rattle.threads_sweeps.specs.Swept.{retains, walks};
 
 mod lends;
@@ -23,6 +24,7 @@ use map_tables::Hashes;
 use seize_words::{Fault, Refused};
 use std::hash::{Hash, RandomState};
 use std::sync::Wait;
+use threads_sweeps::Onlooker;
 use threads_updates::{Attempt, Form, SessionBase as Base};
 
 /// A map, as one of those has it who share it. It may be sent to a thread, and holds a slot, within a section that is open from its beginning to its end: what its calls have
@@ -257,6 +259,22 @@ impl<'m, K: Eq + Hash + Drop, V: Drop, S: Hashes<K>> Session<'m, K, V, S> {
         ensures refused { IfErr result (λ fault. WasRefused K.eq S.hash walks fault self.old.base.caller self.new.base.caller) }
     {
         threads_sweeps::each(&mut self.base, rt, each)
+    }
+
+    /// Shows the pairs of the map to an onlooker, as `each` shows them to a closure, and hands it back, beside how the walk has ended. The faults are `Fault::Capacity` and
+    /// `Fault::Memory`, of a table that this needs first; some pairs may have been shown then.
+    pub fn shows_to<R: Wait, T: Onlooker<K, V>>(
+        &mut self,
+        rt: &R,
+        onlooker: T,
+    ) -> (Result<(), Fault>, T)
+        requires may { T.may_see onlooker }
+        ensures keeps { KeepsMap self.old self.new }
+        ensures shown { IfOk result.0 (λ _. MapWasShown K.eq S.hash self.old.base.caller self.new.base.caller) }
+        ensures told { HasBeenShown K.eq S.hash T.has_seen onlooker result.1 self.old.base.caller.seat.view self.new.base.caller.seat.view }
+        ensures refused { IfErr result.0 (λ fault. WasRefused K.eq S.hash walks fault self.old.base.caller self.new.base.caller) }
+    {
+        threads_sweeps::shows_to(&mut self.base, rt, onlooker)
     }
 
     /// Removes the pairs about which a closure says that they are not to be kept. Each pair that is there from the beginning of the call to its end is asked about, and it may be
