@@ -1,2 +1,3 @@
 mod Elements
 mod Swept
+mod Written

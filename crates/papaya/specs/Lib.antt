@@ -1,2 +1,3 @@
+pub mod Json
 pub mod OneSet
 pub mod Swept

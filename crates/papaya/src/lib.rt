@@ -3,18 +3,22 @@
 
 mod builder;
 mod extending;
+mod json;
 mod making;
 mod pin;
+mod registration;
 mod session;
 mod set;
 mod shared;
 
 pub use builder::HashSetBuilder;
+pub use json::{FromJson, ToJson};
 pub use papaya_map::{
     Attempt, Collector, Equivalent, Fault, Form, Given, HashMap, HashMapBuilder, HashMapRef,
-    IdSource, Own, Pass, Refused, ResizeMode, Session, SharedMap,
+    IdSource, Onlooker, Own, Pass, Refused, Registration, ResizeMode, Session, SharedMap,
 };
 pub use pin::HashSetRef;
+pub use registration::SetRegistration;
 pub use seize_words::RefusedKey;
 pub use session::SetSession;
 pub use set::HashSet;
