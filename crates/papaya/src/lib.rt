@@ -12,6 +12,7 @@ mod shared;
 
 pub use builder::HashSetBuilder;
 pub use json::{FromJson, ToJson};
+pub use map_forms::JsonFault;
 pub use papaya_map::{
     Attempt, Collector, Fault, Given, HashMap, HashMapBuilder, HashMapRef, IdSource, Onlooker, Own,
     Pass, Refused, ResizeMode, Session, SharedMap,
