@@ -3,7 +3,6 @@
 
 mod builder;
 mod extending;
-mod json;
 mod making;
 mod pin;
 mod session;
@@ -11,8 +10,6 @@ mod set;
 mod shared;
 
 pub use builder::HashSetBuilder;
-pub use json::{FromJson, ToJson};
-pub use map_forms::JsonFault;
 pub use papaya_map::{
     Attempt, Collector, Fault, Given, HashMap, HashMapBuilder, HashMapRef, IdSource, Onlooker, Own,
     Pass, Refused, ResizeMode, Session, SharedMap,
