@@ -1,3 +1,2 @@
 mod Elements
 mod Swept
-mod Written

@@ -1,3 +1,3 @@
-pub mod Json
+pub mod Given
 pub mod OneSet
 pub mod Swept

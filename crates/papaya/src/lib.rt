@@ -3,7 +3,6 @@
 
 mod builder;
 mod extending;
-mod json;
 mod making;
 mod pin;
 mod registration;
@@ -12,7 +11,6 @@ mod set;
 mod shared;
 
 pub use builder::HashSetBuilder;
-pub use json::{FromJson, ToJson};
 pub use papaya_map::{
     Attempt, Collector, Equivalent, Fault, Form, Given, HashMap, HashMapBuilder, HashMapRef,
     IdSource, Onlooker, Own, Pass, Refused, Registration, ResizeMode, Session, SharedMap,

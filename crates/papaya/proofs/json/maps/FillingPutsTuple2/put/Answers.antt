@@ -1,4 +1,0 @@
-use Rattle.papaya.proofs.json.maps.FillingPutsTuple2.put.Goals as goal
-
-pub returns-in-Ok : goal.returns-in-Ok
-returns-in-Ok g c = (c.in-Ok.field-0, c.in-Ok.ensures.keeps.1, c.in-Ok.ensures.stored)
