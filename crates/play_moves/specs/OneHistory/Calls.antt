@@ -1,5 +1,5 @@
 -- What a seat may say of its newest call: what that was told is what one finite map means. So a public call says it in its own clause.
-use Rattle.std.specs.Prelude.{◌≡◌, ℕ, Bool, List, Option, Some, is_some, if◌then◌else◌}
+use Rattle.std.specs.Prelude.{◌≡◌, ℕ, Bool, List, ◌∷◌, Option, Some, is_some, if◌then◌else◌}
 use Rattle.threads_rule.specs.Given.SeizeSeatsState.{State, view_of}
 use Rattle.threads_rule.specs.Given.SeizeViewsDeclared.view.Fixed.{Fixed}
 use Rattle.run_schedules.specs.Given.SeizeWordsDeclared.fault.Fault.{Fault}
@@ -14,7 +14,8 @@ use Rattle.run_schedules.specs.declared.call.Call.TheVariants.{On}
 use Rattle.run_schedules.specs.declared.call.OneKey.TheVariants.{Insert, TryInsert, Remove}
 use Rattle.run_schedules.specs.declared.outcome.Outcome.TheVariants.{Answered, Refused}
 use Rattle.threads_rule.specs.Given.ActsActs.{Wanted}
-use Rattle.run_schedules.specs.Deeds.Deeds.{Entry}
+use Rattle.run_schedules.specs.Deeds.Deeds.{Entry, moment}
+use Rattle.run_schedules.specs.Runs.Log.{pair_at}
 use Rattle.run_schedules.specs.Deeds.History.{IsLinearizable, IsProtected}
 use Rattle.play_linear.specs.Given.PlayedPlay.{State as Played, call_for, first_state, play_all}
 use Rattle.play_moves.specs.OneHistory.Answered.{ByNewest, IsItsEnd}
@@ -55,9 +56,20 @@ module _ {K V S : Type 0} (same : K → K → Bool) (hash : S → K → ℕ) (fi
   HasTried key value stored =
       ItsCall (λ i m log e. (pair : ℕ) × IsItsEnd same i m (On (TryInsert key value)) (Answered (if stored then answers.Stored pair else answers.Occupied pair value)) log e)
 
+  -- And the pair that its answer names, which is there then, its own or the other one, is stored with this value.
+  abbrev pub HasOne : K → V → V → Type 0
+  HasOne key value lent =
+      ItsCall (λ i m log e. (stored : Bool) × (pair : ℕ) × IsItsEnd same i m (On (TryInsert key value)) (Answered (if stored then answers.Stored pair else answers.Occupied pair value)) log e
+          × (found : K) × (pair_at (moment (e ∷ log)).stored pair ≡ Some (found, lent)))
+
   -- It has removed the pair of this key, if there was one: its answer is the number of that pair, or that none was there.
   abbrev pub HasRemoved : K → Bool → Type 0
   HasRemoved key removed = ItsCall (λ i m log e. (pair : Option ℕ) × (is_some pair ≡ removed) × IsItsEnd same i m (On (Remove key)) (Answered (looked pair)) log e)
+
+  -- And it was this one: its answer is the number under which this is stored.
+  abbrev pub HasRemovedPair : K → K × V → Type 0
+  HasRemovedPair key pair =
+      ItsCall (λ i m log e. (number : ℕ) × IsItsEnd same i m (On (Remove key)) (Answered (answers.Found number)) log e × (pair_at (moment (e ∷ log)).stored number ≡ Some pair))
 
   -- It was refused so, whatever it wanted.
   abbrev pub HasRefused : Wanted K V → Fault → Type 0
