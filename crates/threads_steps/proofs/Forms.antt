@@ -16,12 +16,10 @@ use Rattle.threads_steps.specs.declared.within.Within.{Within}
 use Rattle.threads_steps.proofs.Lookups.{may_look, has_looked}
 use Rattle.threads_steps.proofs.Straight.{has_come, may_run}
 
--- what it asks is that, of any key
 its_keys : {K : Type 0} (same : K → K → Bool) (key : K) (asks : K → Bool) → ((found : K) → asks found ≡ same key found) → same key ≡ asks
 its_keys same key asks stands = fun_ext (λ found. sym (stands found))
 
 module _ {K V S : Type 0} (same : K → K → Bool) (hash : S → K → ℕ) (key : K) (asks : K → Bool) (stands : (found : K) → asks found ≡ same key found) where
-
   -- a step may be taken, and comes to what the seat knows then
   pub may_look_by : (c : Within K V S) (lookup : Lookup) → LooksFor key lookup c.seat.now.view → May (CanMake same hash) (HasMade same hash) shown_of c (lookup_plan asks lookup)
   may_look_by c lookup is = subst (λ (keys : K → Bool). May (CanMake same hash) (HasMade same hash) shown_of c (lookup_plan keys lookup)) (its_keys same key asks stands) (may_look same hash c key lookup is)
