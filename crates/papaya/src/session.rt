@@ -21,7 +21,7 @@ use std::sync::Wait;
 /// from its beginning to its end. Calls of a `SharedSet` take it as their guard.
 #[derive(Drop)]
 pub struct SetSession<'m, K: Eq + Hash + Drop, S: Hashes<K> = RandomState> {
-    session: Session<'m, K, (), S>,
+    pub(crate) session: Session<'m, K, (), S>,
 }
 
 impl<'m, K: Eq + Hash + Drop, S: Hashes<K>> SetSession<'m, K, S> {
