@@ -15,7 +15,7 @@ use Rattle.map_forms.specs.Objects.{members_with}
 use Rattle.map_forms.proofs.Items.{none_yet, written_of}
 use Rattle.map_json.specs.Growing.{HasItems, PutsItem, PutsMember}
 use Rattle.map_json.proofs.Told.{all_items, all_written}
-use Rattle.papaya_json.specs.Json.{AreWrittenAs, IsWrittenAs, WasNotWritten}
+use Rattle.papaya_json.specs.Json.{AreWrittenAs, IsFilledBy, IsFilledWith, IsWrittenAs, WasNotWritten}
 use Rattle.papaya.specs.Given.CallersDeclared.caller.MapCaller.{MapCaller}
 use Rattle.papaya.specs.Given.Onlookers.{HasBeenShown}
 use Rattle.papaya.specs.Given.SessionsExtended.{PutsAll}
@@ -96,8 +96,35 @@ array_is (string s) ds e = absurd (cc e)
 array_is (object ms) ds e = absurd (cc e)
 array_is (array xs) ds e = ap array (same_Some xs ds e)
 
--- what is so of what was read of this value, all of it
-pub read_so : {M E : Type 0} (Its : Data → M → Type 0) (A B C : M → Type 0) (D : Type 0) (d read : Data) → d ≡ read → (r : Result M E) → IfOk r (Its read) → IfOk r A → IfOk r B → IfOk r C → D
-    → IfOk r (λ m. Its d m × A m × B m × C m × D)
-read_so Its A B C D d read is (Ok m) its a b c e = (subst (λ (x : Data). Its x m) (sym is) its, a, b, c, e)
-read_so Its A B C D d read is (Err why) its a b c e = tt
+-- what is so of what was read, all of it
+pub read_so : {M E : Type 0} (X Y A B C : M → Type 0) (D : Type 0) → ((m : M) → X m → Y m) → (r : Result M E) → IfOk r X → IfOk r A → IfOk r B → IfOk r C → D → IfOk r (λ m. Y m × A m × B m × C m × D)
+read_so X Y A B C D turns (Ok m) x a b c d = (turns m x, a, b, c, d)
+read_so X Y A B C D turns (Err why) x a b c d = tt
+
+-- a map that was filled by the members of an object was filled by those of a value that is this object,
+pub of_object : {K V S : Type 0} (key_in : K → Type 0) (text : K → List ℕ) (value_in : V → Type 0) (value : V → Data) (same : K → K → Bool) (hash : S → K → ℕ) (Its : MapCaller K V S → Type 0) (d read : Data)
+    → read ≡ d → IsFilledBy key_in text value_in value same hash Its d → IsFilledBy key_in text value_in value same hash Its read
+of_object key_in text value_in value same hash Its d read is it = record {
+  members = it.members;
+  is = is ∙ it.is;
+  pairs = it.pairs;
+  each = it.each;
+  first = it.first;
+  its = it.its;
+  none = it.none;
+  last = it.last;
+  stored = it.stored;
+}
+
+-- and so of a set
+pub of_array : {K S : Type 0} (in_range : K → Type 0) (value : K → Data) (same : K → K → Bool) (hash : S → K → ℕ) (Its : MapCaller K (Unit {0}) S → Type 0) (d read : Data) → read ≡ d
+    → IsFilledWith in_range value same hash Its d → IsFilledWith in_range value same hash Its read
+of_array in_range value same hash Its d read is it = record {
+  elements = it.elements;
+  each = (it.each.0, is ∙ it.each.1, it.each.2);
+  first = it.first;
+  its = it.its;
+  none = it.none;
+  last = it.last;
+  stored = it.stored;
+}

@@ -100,7 +100,7 @@ fn fill<R: Wait, K: JsonKey + Hash + Drop, V: JsonForm + Drop, S: Hashes<K>>(
 }
 
 /// Stores them in a map, and answers that.
-fn filled<R: Wait, K: JsonKey + Hash + Drop, V: JsonForm + Drop, S: Hashes<K>>(
+fn filled<R: Wait, K: JsonKey + Hash + Drop, V: JsonForm + Drop, S: Hashes<K> + Drop>(
     rt: &R,
     alloc: Global,
     map: HashMap<K, V, S>,

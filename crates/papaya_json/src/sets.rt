@@ -94,7 +94,7 @@ fn fill<R: Wait, K: JsonForm + Hash + Drop, S: Hashes<K>>(
 }
 
 /// Puts them into a set, and answers that.
-fn filled<R: Wait, K: JsonForm + Hash + Drop, S: Hashes<K>>(
+fn filled<R: Wait, K: JsonForm + Hash + Drop, S: Hashes<K> + Drop>(
     rt: &R,
     alloc: Global,
     set: HashSet<K, S>,

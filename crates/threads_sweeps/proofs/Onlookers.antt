@@ -42,7 +42,7 @@ module _ {T K V S : Type 0} (sees : T → K → V → T → Type 0) where
 
   module _ (t e : T) (pairs : List (K × V)) (v : View K V S) (next : T) (w : View K V S) where
     -- what a step has told is a pair more, or none
-    So : Progress (Node K V) → Type 0
+    abbrev So : Progress (Node K V) → Type 0
     So told = (ys : List (K × V)) × SeesSo lists told pairs v ys w × (FoldsTo along t pairs e → FoldsTo along t ys next)
 
     stays_listed : (told : Progress (Node K V)) → (next ≡ e) → ((ys : List (K × V)) → ys ≡ pairs → SeesSo lists told pairs v ys w) → So told
@@ -74,6 +74,10 @@ module _ {T K V S : Type 0} (sees : T → K → V → T → Type 0) where
     -- The walk has told just some pairs, and the onlooker has come to what it is by these, one after another.
     pub has_told : (t last : T) (v w : View K V S) → HasShownTo same hash sees t last v w → HasBeenShown same hash sees t last v w
     has_told t last v w (u, n, begun, steps) = let have = steps_list n t u last w steps in (have.0, (u, n, begun, have.1), have.2)
+
+-- a closure was called so
+pub called_on : {F K V : Type 0} (g : Mut F (Bor K × (Bor V × Unit {0})) (Unit {0})) (f : F) (p : Bor K) (q : Bor V) (next : F) → Called g f (p, (q, tt)) tt next → CalledOn g f p.now q.now next
+called_on g f p q next called = (p, q, refl, refl, called)
 
 module _ {C F K V S : Type 0} (inner : C → F) (g : Mut F (Bor K × (Bor V × Unit {0})) (Unit {0})) where
   abbrev pub calls : C → K → V → C → Type 0
