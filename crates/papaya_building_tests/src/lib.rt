@@ -1,11 +1,9 @@
-//! Tests of how maps that threads share begin: their builders, their first sessions, and threads that meet there, also within closures.
+//! Tests of how maps that threads share begin: their builders, their first sessions, and threads that meet within closures.
 #![tactic(auto)]
 
 #[cfg(test)]
 mod asking;
 #[cfg(test)]
 mod building;
-#[cfg(test)]
-mod meeting;
 #[cfg(test)]
 mod opening;

@@ -1,11 +1,9 @@
 //! A guard or a pass of another map is refused, by each call that takes one, and is as it was.
+use crate::passing::{Hashing, Told};
 use papaya_map::{Fault, HashMap, IdSource};
 use std::alloc::Global;
-use std::hash::{BuildHasherDefault, DefaultHasher};
 use std::sync::Wait;
 use std::test::Fail;
-
-type Hashing = BuildHasherDefault<DefaultHasher>;
 
 /// Tells whether a call was refused what is of another map.
 fn is_foreign<T: Drop>(told: Result<T, Fault>) -> bool {
@@ -13,7 +11,7 @@ fn is_foreign<T: Drop>(told: Result<T, Fault>) -> bool {
 }
 
 /// What lookups say to a guard and to a pass of another map: with the guard, with the pass, and by the pass under a session.
-fn looks<R: Wait>(rt: &R, alloc: Global) -> Result<[bool; 9], Fault> {
+fn looks<R: Wait>(rt: &R, alloc: Global) -> Told<[bool; 9]> {
     let mut ids = IdSource::new();
     let own = HashMap::<u64, u64, Hashing>::with_hasher(alloc, &mut ids, Hashing::default())?;
     let other = HashMap::<u64, u64, Hashing>::with_hasher(alloc, &mut ids, Hashing::default())?;
@@ -36,7 +34,7 @@ fn looks<R: Wait>(rt: &R, alloc: Global) -> Result<[bool; 9], Fault> {
 }
 
 /// What calls that change a map say to a guard of another one, and what that one has then; and whether one with its own guard goes.
-fn stores<R: Wait>(rt: &R, alloc: Global) -> Result<[bool; 6], Fault> {
+fn stores<R: Wait>(rt: &R, alloc: Global) -> Told<[bool; 6]> {
     let mut ids = IdSource::new();
     let own = HashMap::<u64, u64, Hashing>::with_hasher(alloc, &mut ids, Hashing::default())?;
     let other = HashMap::<u64, u64, Hashing>::with_hasher(alloc, &mut ids, Hashing::default())?;

@@ -1,7 +1,7 @@
 //! Two threads settle on one value for each key, which both are lent; then one of them is lent each pair that it removes.
-use papaya_map::{Fault, HashMap, IdSource, Session};
+use crate::passing::{Guard, Hashing, Told};
+use papaya_map::{HashMap, IdSource};
 use std::alloc::Global;
-use std::hash::{BuildHasherDefault, DefaultHasher};
 use std::sync::Wait;
 use std::test::Fail;
 use std::thread::{self, Threads};
@@ -9,12 +9,8 @@ use std::thread::{self, Threads};
 /// How many keys there are.
 const KEYS: u64 = 300;
 
-type Hashing = BuildHasherDefault<DefaultHasher>;
-
-type Own<'m> = Session<'m, u64, u64, Hashing>;
-
 /// Offers this value for each key, and answers the sum of those that are there then.
-fn settles<R: Wait>(rt: &R, mut session: Own<'_>, value: u64) -> Result<u64, Fault> {
+fn settles<R: Wait>(rt: &R, mut session: Guard<'_>, value: u64) -> Told<u64> {
     let mut sum = 0u64;
     for key in 0..KEYS {
         sum = u64::wrapping_add(sum, *session.get_or_insert(rt, key, value)?);
@@ -23,7 +19,7 @@ fn settles<R: Wait>(rt: &R, mut session: Own<'_>, value: u64) -> Result<u64, Fau
 }
 
 /// Removes each key, and answers the sum of the values that it was lent with it. Where none is left, a further one is made.
-fn takes<R: Wait>(rt: &R, mut session: Own<'_>) -> Result<u64, Fault> {
+fn takes<R: Wait>(rt: &R, mut session: Guard<'_>) -> Told<u64> {
     let mut sum = 0u64;
     for key in 0..KEYS {
         if let Some((its, lent)) = session.remove_entry(rt, key)? {
@@ -39,7 +35,7 @@ fn takes<R: Wait>(rt: &R, mut session: Own<'_>) -> Result<u64, Fault> {
 }
 
 /// The sums of the two that settle, and of the one that removes then.
-fn sums<R: Threads + Wait + Sync>(rt: &R, alloc: Global) -> Result<(u64, u64, u64), Fault> {
+fn sums<R: Threads + Wait + Sync>(rt: &R, alloc: Global) -> Told<(u64, u64, u64)> {
     let mut ids = IdSource::new();
     let map = HashMap::with_hasher(alloc, &mut ids, Hashing::default())?;
     let first = map.session()?;

@@ -18,19 +18,18 @@ const KEYS: u64 = 100;
 /// How often each of them is replaced.
 const TURNS: u64 = 20;
 
-type Hashing = BuildHasherDefault<DefaultHasher>;
+pub(crate) type Hashing = BuildHasherDefault<DefaultHasher>;
 
 type Map<'m> = SharedMap<'m, u64, u64, Hashing>;
 
-type Guard<'m> = Session<'m, u64, u64, Hashing>;
+pub(crate) type Guard<'m> = Session<'m, u64, u64, Hashing>;
+
+type Seat = Pass<u64, u64, Hashing>;
+
+pub(crate) type Told<T> = Result<T, Fault>;
 
 /// Whether this key comes to be there.
-fn meets<R: Wait + Clock>(
-    rt: &R,
-    guard: &Guard<'_>,
-    pass: &mut Pass<u64, u64, Hashing>,
-    key: u64,
-) -> Result<bool, Fault>
+fn meets<R: Wait + Clock>(rt: &R, guard: &Guard<'_>, pass: &mut Seat, key: u64) -> Told<bool>
     requires own { pass.old.base.seat.base ≡ guard.now.base.caller.blocks.now.words.id.views_name }
 {
     for turn in 0..LOOKS {
@@ -42,29 +41,23 @@ fn meets<R: Wait + Clock>(
     Ok(false)
 }
 
-/// Stores one key by a session of its own, and waits under the guard until the other key is there.
-fn leaves<R: Wait + Clock>(
-    rt: &R,
-    map: &Map<'_>,
-    guard: &Guard<'_>,
-    own: u64,
-    other: u64,
-) -> Result<bool, Fault> {
+/// Stores one of the keys 1 and 2 by a session of its own, and waits under the guard until the other one is there.
+fn leaves<R: Wait + Clock>(rt: &R, map: &Map<'_>, guard: &Guard<'_>, key: u64) -> Told<bool> {
     let mut session = map.session()?;
-    let _ = session.insert(rt, own, own)?;
+    let _ = session.insert(rt, key, key)?;
     let mut pass = guard.pass();
-    meets(rt, guard, &mut pass, other)
+    meets(rt, guard, &mut pass, u64::wrapping_sub(3, key))
 }
 
 /// Two threads do so under one guard.
-fn both<R: Threads + Wait + Clock + Sync>(rt: &R, alloc: Global) -> Result<(bool, bool), Fault> {
+fn both<R: Threads + Wait + Clock + Sync>(rt: &R, alloc: Global) -> Told<(bool, bool)> {
     let mut ids = IdSource::new();
     let map = HashMap::with_hasher(alloc, &mut ids, Hashing::default())?;
     let (shared, guard) = (map.shared(), map.session()?);
     let (one, other) = thread::join(
         rt,
-        || leaves(rt, &shared, &guard, 1, 2),
-        || leaves(rt, &shared, &guard, 2, 1),
+        || leaves(rt, &shared, &guard, 1),
+        || leaves(rt, &shared, &guard, 2),
     );
     Ok((one?, other?))
 }
@@ -82,7 +75,7 @@ fn value_of(key: u64, turn: u64) -> u64 {
 }
 
 /// Stores all keys with their values of this turn.
-fn stores<R: Wait>(rt: &R, session: &mut Guard<'_>, turn: u64) -> Result<(), Fault> {
+fn stores<R: Wait>(rt: &R, session: &mut Guard<'_>, turn: u64) -> Told<()> {
     for key in 0..KEYS {
         let _ = session.insert(rt, key, value_of(key, turn))?;
     }
@@ -90,7 +83,7 @@ fn stores<R: Wait>(rt: &R, session: &mut Guard<'_>, turn: u64) -> Result<(), Fau
 }
 
 /// Replaces all pairs again and again, in sections of its own.
-fn replaces<R: Wait>(rt: &R, map: &Map<'_>) -> Result<(), Fault> {
+fn replaces<R: Wait>(rt: &R, map: &Map<'_>) -> Told<()> {
     let mut session = map.session()?;
     for turn in 1..TURNS {
         stores(rt, &mut session, turn)?;
@@ -100,12 +93,7 @@ fn replaces<R: Wait>(rt: &R, map: &Map<'_>) -> Result<(), Fault> {
 }
 
 /// Looks two keys up by one pass, and says whether the pair of the one and the value of the other are theirs: the first one is read once the second one has been found, and a third was looked for.
-fn both_are_right<R: Wait>(
-    rt: &R,
-    guard: &Guard<'_>,
-    pass: &mut Pass<u64, u64, Hashing>,
-    key: u64,
-) -> Result<bool, Fault>
+fn both_are_right<R: Wait>(rt: &R, guard: &Guard<'_>, pass: &mut Seat, key: u64) -> Told<bool>
     requires own { pass.old.base.seat.base ≡ guard.now.base.caller.blocks.now.words.id.views_name }
     ensures memory { pass.new.base.seat.base ≡ pass.old.base.seat.base }
 {
@@ -122,7 +110,7 @@ fn both_are_right<R: Wait>(
 }
 
 /// How many of the keys it finds so, by a pass of its own.
-fn reads<R: Wait>(rt: &R, guard: &Guard<'_>) -> Result<u64, Fault> {
+fn reads<R: Wait>(rt: &R, guard: &Guard<'_>) -> Told<u64> {
     let mut pass = guard.pass();
     let mut found = 0u64;
     for key in 0..KEYS - 1 {
@@ -134,11 +122,7 @@ fn reads<R: Wait>(rt: &R, guard: &Guard<'_>) -> Result<u64, Fault> {
 }
 
 /// Two threads read under one guard, as a third one replaces what they read, in a map of this mode.
-fn all_go<R: Threads + Wait + Sync>(
-    rt: &R,
-    alloc: Global,
-    mode: ResizeMode,
-) -> Result<(u64, u64), Fault> {
+fn all_go<R: Threads + Wait + Sync>(rt: &R, alloc: Global, mode: ResizeMode) -> Told<(u64, u64)> {
     let mut ids = IdSource::new();
     let builder = HashMap::builder(Hashing::default()).resize_mode(mode);
     let map = builder.build(alloc, &mut ids)?;
@@ -176,7 +160,7 @@ fn holds<R: Wait>(rt: &R, guard: &Guard<'_>) -> u64 {
 }
 
 /// Two threads do so under one guard, as a third one replaces what they hold.
-fn all_hold<R: Threads + Wait + Sync>(rt: &R, alloc: Global) -> Result<(u64, u64), Fault> {
+fn all_hold<R: Threads + Wait + Sync>(rt: &R, alloc: Global) -> Told<(u64, u64)> {
     let mut ids = IdSource::new();
     let map = HashMap::with_hasher(alloc, &mut ids, Hashing::default())?;
     let shared = map.shared();

@@ -36,9 +36,8 @@ fn stores<R: Wait>(rt: &R, mut session: Own<'_>, drops: &Arc<AtomicU64>) -> Opti
     for n in 0..EACH {
         let drops = Arc::try_clone(drops).ok()?;
         let value = Counted { drops };
-        if session.insert(rt, n % KEYS, value).is_ok() {
-            stored = u64::wrapping_add(stored, 1);
-        }
+        let is_in = session.insert(rt, n % KEYS, value).is_ok();
+        stored = u64::wrapping_add(stored, u64::from(is_in));
         session.refresh();
     }
     Some(stored)

@@ -3,14 +3,11 @@
 //! A `get` that answers the opening state, so that nothing is there: `what_a_session_has_put_there_stays_once_it_has_ended`, `threads_begin_sessions_of_their_own` and
 //! `a_key_that_two_threads_store_is_replaced_once` fail.
 //!
-//! An `insert` that drops its write: these three fail, `each_value_that_was_stored_is_dropped_once`, and `four_threads_find_what_the_others_have_left`, as no thread meets another
-//! one.
+//! An `insert` that drops its write: these three fail, and `each_value_that_was_stored_is_dropped_once`.
 #![tactic(auto)]
 
 #[cfg(test)]
 mod counting;
-#[cfg(test)]
-mod forms;
 #[cfg(test)]
 mod removing;
 #[cfg(test)]

@@ -1,7 +1,7 @@
 //! Two threads remove the same keys, and store pairs where their keys are missing.
-use papaya_map::{Attempt, Fault, HashMap, IdSource, Session, SharedMap};
+use crate::storing::{Hashing, Own};
+use papaya_map::{Attempt, Fault, HashMap, IdSource, SharedMap};
 use std::alloc::Global;
-use std::hash::{BuildHasherDefault, DefaultHasher};
 use std::sync::Wait;
 use std::test::Fail;
 use std::thread::{self, Threads};
@@ -9,20 +9,14 @@ use std::thread::{self, Threads};
 /// How many keys there are.
 const KEYS: u64 = 300;
 
-type Hashing = BuildHasherDefault<DefaultHasher>;
-
 type Map<'m> = SharedMap<'m, u64, u64, Hashing>;
-
-type Own<'m> = Session<'m, u64, u64, Hashing>;
 
 /// Stores each key with this value where it is missing; answers how many it has stored.
 fn tries<R: Wait>(rt: &R, session: &mut Own<'_>, value: u64) -> Result<u64, Fault> {
     let mut stored = 0u64;
     for key in 0..KEYS {
-        match session.try_insert(rt, key, value)? {
-            Attempt::Stored => stored = u64::wrapping_add(stored, 1),
-            Attempt::Present(_, _) => {}
-        }
+        let new = matches!(session.try_insert(rt, key, value)?, Attempt::Stored);
+        stored = u64::wrapping_add(stored, u64::from(new));
     }
     Ok(stored)
 }
@@ -31,9 +25,7 @@ fn tries<R: Wait>(rt: &R, session: &mut Own<'_>, value: u64) -> Result<u64, Faul
 fn removes<R: Wait>(rt: &R, session: &mut Own<'_>) -> Result<u64, Fault> {
     let mut removed = 0u64;
     for key in 0..KEYS {
-        if session.remove(rt, key)? {
-            removed = u64::wrapping_add(removed, 1);
-        }
+        removed = u64::wrapping_add(removed, u64::from(session.remove(rt, key)?));
         session.refresh();
     }
     Ok(removed)
@@ -56,9 +48,7 @@ fn works_twice<R: Threads + Wait + Sync>(rt: &R, alloc: Global) -> Result<(u64, 
     let mut session = map.session()?;
     let mut left = 0u64;
     for key in 0..KEYS {
-        if session.contains_key(rt, &key) {
-            left = u64::wrapping_add(left, 1);
-        }
+        left = u64::wrapping_add(left, u64::from(session.contains_key(rt, &key)));
     }
     let stored = u64::wrapping_add(one.0, other.0);
     let removed = u64::wrapping_add(one.1, other.1);

@@ -9,18 +9,17 @@ use std::thread::{self, Threads};
 /// How many keys each of them stores.
 const EACH: u64 = 400;
 
-type Hashing = BuildHasherDefault<DefaultHasher>;
+pub(crate) type Hashing = BuildHasherDefault<DefaultHasher>;
 
-type Own<'m> = Session<'m, u64, u64, Hashing>;
+pub(crate) type Own<'m> = Session<'m, u64, u64, Hashing>;
 
 /// Stores so many keys from this one on, each with its double, and answers how many of them have replaced a pair.
 fn stores<R: Wait>(rt: &R, session: &mut Own<'_>, from: u64) -> Result<u64, Fault> {
     let mut replaced = 0u64;
     for n in 0..EACH {
         let key = u64::wrapping_add(from, n);
-        if session.insert(rt, key, u64::wrapping_mul(key, 2))? {
-            replaced = u64::wrapping_add(replaced, 1);
-        }
+        let was_there = session.insert(rt, key, u64::wrapping_mul(key, 2))?;
+        replaced = u64::wrapping_add(replaced, u64::from(was_there));
     }
     Ok(replaced)
 }
@@ -30,9 +29,8 @@ fn counts<R: Wait>(rt: &R, session: &mut Own<'_>, from: u64) -> u64 {
     let mut found = 0u64;
     for n in 0..EACH {
         let key = u64::wrapping_add(from, n);
-        if session.get(rt, &key).copied() == Some(u64::wrapping_mul(key, 2)) {
-            found = u64::wrapping_add(found, 1);
-        }
+        let there = session.get(rt, &key).copied() == Some(u64::wrapping_mul(key, 2));
+        found = u64::wrapping_add(found, u64::from(there));
         session.refresh();
     }
     found

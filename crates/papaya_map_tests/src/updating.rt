@@ -1,17 +1,13 @@
 //! Two threads count keys up, each by what it finds there, and a key is computed by what is there.
-use papaya_map::{ComputedPair, Fault, HashMap, IdSource, Operation, Session};
+use crate::storing::{Hashing, Own};
+use papaya_map::{ComputedPair, Fault, HashMap, IdSource, Operation};
 use std::alloc::Global;
-use std::hash::{BuildHasherDefault, DefaultHasher};
 use std::sync::Wait;
 use std::test::Fail;
 use std::thread::{self, Threads};
 
 /// How often each of them adds one.
 const EACH: u64 = 2_000;
-
-type Hashing = BuildHasherDefault<DefaultHasher>;
-
-type Own<'m> = Session<'m, u64, u64, Hashing>;
 
 /// One more than a count.
 fn more(count: &u64) -> u64 {
@@ -22,9 +18,8 @@ fn more(count: &u64) -> u64 {
 fn counts<R: Wait>(rt: &R, mut session: Own<'_>, mask: u64) -> Result<u64, Fault> {
     let mut begun = 0u64;
     for n in 0..EACH {
-        if !session.update_or_insert(rt, &(n & mask), more, &1)? {
-            begun = more(&begun);
-        }
+        let there = session.update_or_insert(rt, &(n & mask), more, &1)?;
+        begun = u64::wrapping_add(begun, u64::from(!there));
         if n % 64 == 0 {
             session.refresh();
         }

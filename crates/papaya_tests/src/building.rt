@@ -1,14 +1,13 @@
 //! How sets are built, and why one is refused: the first reason that there is.
+use crate::holding::Hashing;
 use papaya::{Collector, Fault, HashSet, IdSource, ResizeMode};
 use std::alloc::Global;
-use std::hash::{BuildHasherDefault, DefaultHasher, RandomState};
+use std::hash::RandomState;
 use std::sync::Wait;
 use std::test::Fail;
 
 /// A capacity that no table has the places for.
 const TOO_MANY: u64 = 2_305_843_009_213_693_951;
-
-type Hashing = BuildHasherDefault<DefaultHasher>;
 
 type Set = HashSet<u64, Hashing>;
 

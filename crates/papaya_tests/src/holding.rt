@@ -15,9 +15,13 @@ const KEYS: u64 = 300;
 /// How often one looks for what another one leaves, a millisecond apart.
 const LOOKS: u64 = 20_000;
 
-type Hashing = BuildHasherDefault<DefaultHasher>;
+pub(crate) type Hashing = BuildHasherDefault<DefaultHasher>;
 
 type Own<'m> = SetSession<'m, u64, Hashing>;
+
+type Seat = Pass<u64, (), Hashing>;
+
+type Set<'m> = SharedSet<'m, u64, Hashing>;
 
 /// A set of three keys: what insertions and removals say of them.
 fn alone<R: Wait>(rt: &R, alloc: Global) -> Result<[bool; 7], Fault> {
@@ -30,29 +34,22 @@ fn alone<R: Wait>(rt: &R, alloc: Global) -> Result<[bool; 7], Fault> {
     let has = session.contains(rt, &42);
     session.refresh();
     let removed = session.remove(rt, 42)?;
-    let gone = !session.contains(rt, &42)
-        && !session.remove(rt, 42)?
-        && !session.pin().contains(rt, &42)
-        && session.pin().get(rt, &42).is_none();
+    let gone = !session.contains(rt, &42) && !session.remove(rt, 42)?;
+    let none = gone && !session.pin().contains(rt, &42) && session.pin().get(rt, &42).is_none();
     session.extend(rt, [42, 16, 38])?;
-    let all = session.contains(rt, &42)
-        && session.contains(rt, &16)
-        && session.pin().get(rt, &38).copied() == Some(38);
-    Ok([lacks, new, !again, has, removed, gone, all])
+    let both = session.contains(rt, &42) && session.contains(rt, &16);
+    let all = both && session.pin().get(rt, &38).copied() == Some(38);
+    Ok([lacks, new, !again, has, removed, none, all])
 }
 
 /// Puts all keys into the set, and takes them out then: answers how many were new, and how many it has taken out.
 fn works<R: Wait>(rt: &R, mut session: Own<'_>) -> Result<(u64, u64), Fault> {
     let (mut new, mut taken) = (0u64, 0u64);
     for key in 0..KEYS {
-        if session.insert(rt, key)? {
-            new = u64::wrapping_add(new, 1);
-        }
+        new = u64::wrapping_add(new, u64::from(session.insert(rt, key)?));
     }
     for key in 0..KEYS {
-        if session.remove(rt, key)? {
-            taken = u64::wrapping_add(taken, 1);
-        }
+        taken = u64::wrapping_add(taken, u64::from(session.remove(rt, key)?));
         session.refresh();
     }
     Ok((new, taken))
@@ -65,9 +62,8 @@ fn works_twice<R: Threads + Wait + Sync>(rt: &R, alloc: Global) -> Result<(u64, 
     let first = set.session()?;
     let second = first.another()?;
     let (one, other) = thread::join(rt, || works(rt, first), || works(rt, second));
-    let (one, other) = (one?, other?);
-    let new = u64::wrapping_add(one.0, other.0);
-    let taken = u64::wrapping_add(one.1, other.1);
+    let ((a, b), (c, d)) = (one?, other?);
+    let (new, taken) = (u64::wrapping_add(a, c), u64::wrapping_add(b, d));
     Ok((new, taken, set.session()?.len()))
 }
 
@@ -82,10 +78,8 @@ fn foreign<R: Wait>(rt: &R, alloc: Global) -> Result<[bool; 8], Fault> {
     let own = HashSet::<u64, Hashing>::with_hasher(alloc, &mut ids, Hashing::default())?;
     let other = HashSet::<u64, Hashing>::with_hasher(alloc, &mut ids, Hashing::default())?;
     let set = own.shared();
-    let mut guard = own.session()?;
-    let mut strange = other.session()?;
-    let mut pass = set.pass();
-    let mut unknown = strange.pass();
+    let (mut guard, mut strange) = (own.session()?, other.session()?);
+    let (mut pass, mut unknown) = (set.pass(), strange.pass());
     let new = set.insert(rt, 1, &mut guard)? && guard.number() != strange.number();
     let refused = match set.insert(rt, 1, &mut strange) {
         Err(refused) => matches!(refused.fault, Fault::ForeignGuard) && refused.key == 1,
@@ -103,8 +97,7 @@ fn foreign<R: Wait>(rt: &R, alloc: Global) -> Result<[bool; 8], Fault> {
     ])
 }
 
-/// A set of three keys is counted, shown, sifted, and cleared: answers the counts, the sum of what was shown, and whether it is as empty as they say. A reservation of more than
-/// any table has is refused.
+/// A set of three keys is counted, shown, sifted and cleared: what was counted, the sum of what was shown, and whether all else is as it must be.
 fn counts<R: Wait>(rt: &R, alloc: Global) -> Result<([u64; 5], [bool; 5]), Fault> {
     let mut ids = IdSource::new();
     let set = HashSet::with_hasher(alloc, &mut ids, Hashing::default())?;
@@ -114,9 +107,7 @@ fn counts<R: Wait>(rt: &R, alloc: Global) -> Result<([u64; 5], [bool; 5]), Fault
     session.extend(rt, [42u64, 16, 38, 16])?;
     let (full, some) = (session.len(), !session.is_empty());
     let mut sum = 0u64;
-    session.each(rt, |key| {
-        sum = u64::wrapping_add(sum, *key);
-    })?;
+    session.each(rt, |key| sum = u64::wrapping_add(sum, *key))?;
     session.retain(rt, |key| *key != 16)?;
     let kept = session.len();
     let sifted = session.contains(rt, &38) && !session.contains(rt, &16);
@@ -139,16 +130,11 @@ fn a_set_has_what_it_was_left_and_says_so(rt: HostRuntime) -> Result<(), Fail> {
 }
 
 /// Whether this key comes to be there.
-fn meets<R: Wait + Clock>(
-    rt: &R,
-    guard: &Own<'_>,
-    pass: &mut Pass<u64, (), Hashing>,
-    key: u64,
-) -> Result<bool, Fault>
-    requires own { pass.old.base.seat.base ≡ guard.now.session.base.caller.blocks.now.words.id.views_name }
+fn meets<R: Wait + Clock>(rt: &R, set: &Own<'_>, pass: &mut Seat, key: u64) -> Result<bool, Fault>
+    requires own { pass.old.base.seat.base ≡ set.now.session.base.caller.blocks.now.words.id.views_name }
 {
     for turn in 0..LOOKS {
-        if guard.contains_by(rt, &key, pass)? {
+        if set.contains_by(rt, &key, pass)? {
             return Ok(true);
         }
         thread::sleep(rt, Duration::from_millis(1));
@@ -156,31 +142,20 @@ fn meets<R: Wait + Clock>(
     Ok(false)
 }
 
-/// Puts one key there by a session of its own, and waits until it has found the other one, by a pass under the guard.
-fn leaves<R: Wait + Clock>(
-    rt: &R,
-    set: &SharedSet<'_, u64, Hashing>,
-    guard: &Own<'_>,
-    own: u64,
-    other: u64,
-) -> Result<bool, Fault> {
+/// Puts one of the keys 1 and 2 there by a session of its own, and waits until it has found the other one, by a pass under the guard.
+fn puts<R: Wait + Clock>(rt: &R, set: &Set<'_>, own: &Own<'_>, key: u64) -> Result<bool, Fault> {
     let mut session = set.session()?;
-    let _ = session.insert(rt, own)?;
-    let mut pass = guard.pass();
-    meets(rt, guard, &mut pass, other)
+    let _ = session.insert(rt, key)?;
+    let mut pass = own.pass();
+    meets(rt, own, &mut pass, u64::wrapping_sub(3, key))
 }
 
 /// Two threads do so.
 fn meet<R: Threads + Wait + Clock + Sync>(rt: &R, alloc: Global) -> Result<(bool, bool), Fault> {
     let mut ids = IdSource::new();
     let set = HashSet::with_hasher(alloc, &mut ids, Hashing::default())?;
-    let shared = set.shared();
-    let guard = set.session()?;
-    let (one, other) = thread::join(
-        rt,
-        || leaves(rt, &shared, &guard, 1, 2),
-        || leaves(rt, &shared, &guard, 2, 1),
-    );
+    let (its, own) = (set.shared(), set.session()?);
+    let (one, other) = thread::join(rt, || puts(rt, &its, &own, 1), || puts(rt, &its, &own, 2));
     Ok((one?, other?))
 }
 

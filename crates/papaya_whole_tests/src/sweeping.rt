@@ -1,6 +1,6 @@
 //! One thread goes over the pairs of a map while another one changes it.
-use crate::whole::{Hashing, LOOKS, Own, stores};
-use papaya_map::{Fault, HashMap, IdSource, Onlooker};
+use crate::whole::{Hashing, LOOKS, Own, Told, stores};
+use papaya_map::{HashMap, IdSource, Onlooker};
 use std::alloc::Global;
 use std::sync::Wait;
 use std::test::Fail;
@@ -14,7 +14,7 @@ const STAY: u64 = 100;
 const MORE: u64 = 100;
 
 /// How many of the keys that stay a walk shows, and how many others.
-fn seen<R: Wait>(rt: &R, session: &mut Own<'_>) -> Result<(u64, u64), Fault> {
+fn seen<R: Wait>(rt: &R, session: &mut Own<'_>) -> Told<(u64, u64)> {
     let (mut staying, mut others) = (0u64, 0u64);
     session.each(rt, |key, value| {
         if *key < STAY && u64::wrapping_mul(*key, 2) == *value {
@@ -43,7 +43,7 @@ impl Onlooker<u64, u64> for Counts {
 }
 
 /// Goes over the pairs until it has seen others than those that stay. Answers whether it has, and each time all of those.
-fn walks<R: Wait + Clock>(rt: &R, mut session: Own<'_>) -> Result<bool, Fault> {
+fn walks<R: Wait + Clock>(rt: &R, mut session: Own<'_>) -> Told<bool> {
     for _ in 0..LOOKS {
         let (staying, others) = seen(rt, &mut session)?;
         if staying != STAY {
@@ -59,7 +59,7 @@ fn walks<R: Wait + Clock>(rt: &R, mut session: Own<'_>) -> Result<bool, Fault> {
 }
 
 /// Stores further keys, and waits until the other one has removed one of those that stay. Answers whether that came.
-fn comes<R: Wait + Clock>(rt: &R, mut session: Own<'_>) -> Result<bool, Fault> {
+fn comes<R: Wait + Clock>(rt: &R, mut session: Own<'_>) -> Told<bool> {
     stores(rt, &mut session, STAY, MORE)?;
     for _ in 0..LOOKS {
         if !session.contains_key(rt, &0) {
@@ -72,35 +72,30 @@ fn comes<R: Wait + Clock>(rt: &R, mut session: Own<'_>) -> Result<bool, Fault> {
 }
 
 /// Goes over the pairs until it meets a further one, and removes then those that stayed.
-fn meets<R: Wait + Clock>(rt: &R, session: Own<'_>, mut other: Own<'_>) -> Result<bool, Fault> {
+fn meets<R: Wait + Clock>(rt: &R, session: Own<'_>, mut other: Own<'_>) -> Told<bool> {
     let met = walks(rt, session)?;
     other.retain(rt, |key, _| *key >= STAY)?;
     Ok(met)
 }
 
 /// One thread stores further keys while another one goes over all. Answers what each has met, how many keys are left that stayed, and that came, and how many all are.
-fn sweeps<R: Threads + Wait + Clock + Sync>(
-    rt: &R,
-    alloc: Global,
-) -> Result<(bool, bool, (u64, u64), u64), Fault> {
+fn sweeps<R: Threads + Wait + Clock + Sync>(rt: &R, alloc: Global) -> Told<([bool; 2], [u64; 3])> {
     let mut ids = IdSource::new();
     let map = HashMap::with_hasher(alloc, &mut ids, Hashing::default())?;
     let mut first = map.session()?;
-    let second = first.another()?;
-    let third = first.another()?;
-    let fourth = first.another()?;
+    let (second, third, fourth) = (first.another()?, first.another()?, first.another()?);
     stores(rt, &mut first, 0, STAY)?;
     let (came, met) = thread::join(rt, || comes(rt, second), || meets(rt, third, fourth));
-    let left = seen(rt, &mut first)?;
+    let (left, others) = seen(rt, &mut first)?;
     let (end, counts) = first.shows_to(rt, Counts { pairs: 0 });
     end?;
-    Ok((came?, met?, left, counts.pairs))
+    Ok(([came?, met?], [left, others, counts.pairs]))
 }
 
 // The one waits until a key is gone that the other one removes once it has met a further key: were they served one after another, one of them would wait in vain. Each walk shows
 // all keys that stay, whatever comes meanwhile.
 #[test]
 fn a_walk_shows_what_stays_and_meets_what_comes(rt: HostRuntime) -> Result<(), Fail> {
-    assert_eq!(rt; sweeps(&rt, rt.alloc())?, (true, true, (0, MORE), MORE));
+    assert_eq!(rt; sweeps(&rt, rt.alloc())?, ([true; 2], [0, MORE, MORE]));
     Ok(())
 }

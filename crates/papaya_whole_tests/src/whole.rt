@@ -4,8 +4,7 @@ use std::alloc::Global;
 use std::hash::{BuildHasherDefault, DefaultHasher};
 use std::sync::Wait;
 use std::test::Fail;
-use std::thread;
-use std::thread::Threads;
+use std::thread::{self, Threads};
 use std::time::{Clock, Duration};
 
 /// How many keys each thread stores.
@@ -24,13 +23,10 @@ pub(crate) type Hashing = BuildHasherDefault<DefaultHasher>;
 
 pub(crate) type Own<'m> = Session<'m, u64, u64, Hashing>;
 
+pub(crate) type Told<T> = Result<T, Fault>;
+
 /// Stores so many keys from this one on, each with its double.
-pub(crate) fn stores<R: Wait>(
-    rt: &R,
-    session: &mut Own<'_>,
-    from: u64,
-    many: u64,
-) -> Result<(), Fault> {
+pub(crate) fn stores<R: Wait>(rt: &R, session: &mut Own<'_>, from: u64, many: u64) -> Told<()> {
     for n in 0..many {
         let key = u64::wrapping_add(from, n);
         let _ = session.insert(rt, key, u64::wrapping_mul(key, 2))?;
@@ -51,22 +47,18 @@ fn meets<R: Wait + Clock>(rt: &R, session: &mut Own<'_>, many: u64) -> bool {
 }
 
 /// Stores its keys, and waits until those of both are counted.
-fn counts_all<R: Wait + Clock>(rt: &R, mut session: Own<'_>, from: u64) -> Result<bool, Fault> {
+fn counts<R: Wait + Clock>(rt: &R, mut session: Own<'_>, from: u64) -> Told<bool> {
     stores(rt, &mut session, from, EACH)?;
     Ok(meets(rt, &mut session, EACH * 2))
 }
 
 /// Two threads do so, each with keys of its own. Answers whether each has counted all.
-fn count<R: Threads + Wait + Clock + Sync>(rt: &R, alloc: Global) -> Result<(bool, bool), Fault> {
+fn count<R: Threads + Wait + Clock + Sync>(rt: &R, alloc: Global) -> Told<(bool, bool)> {
     let mut ids = IdSource::new();
     let map = HashMap::with_hasher(alloc, &mut ids, Hashing::default())?;
     let first = map.session()?;
     let second = first.another()?;
-    let (one, other) = thread::join(
-        rt,
-        || counts_all(rt, first, 0),
-        || counts_all(rt, second, EACH),
-    );
+    let (one, other) = thread::join(rt, || counts(rt, first, 0), || counts(rt, second, EACH));
     Ok((one?, other?))
 }
 
@@ -78,7 +70,7 @@ fn two_threads_count_what_both_have_stored(rt: HostRuntime) -> Result<(), Fail> 
 }
 
 /// Makes room again and again, twice as much each time.
-fn reserves<R: Wait>(rt: &R, mut session: Own<'_>) -> Result<(), Fault> {
+fn reserves<R: Wait>(rt: &R, mut session: Own<'_>) -> Told<()> {
     let mut more = 2048u64;
     for _ in 0..5u64 {
         session.reserve(rt, more)?;
@@ -102,17 +94,12 @@ fn finds<R: Wait>(rt: &R, mut session: Own<'_>) -> u64 {
 }
 
 /// One thread makes room in a map of this mode while another one looks for each key. Answers how often it has found one, and how many there are then.
-fn grows<R: Threads + Wait + Sync>(
-    rt: &R,
-    alloc: Global,
-    mode: ResizeMode,
-) -> Result<(u64, u64), Fault> {
+fn grows<R: Threads + Wait + Sync>(rt: &R, alloc: Global, mode: ResizeMode) -> Told<(u64, u64)> {
     let mut ids = IdSource::new();
     let builder = HashMap::builder(Hashing::default()).resize_mode(mode);
     let map = builder.build(alloc, &mut ids)?;
     let mut first = map.session()?;
-    let second = first.another()?;
-    let third = first.another()?;
+    let (second, third) = (first.another()?, first.another()?);
     stores(rt, &mut first, 0, EACH)?;
     let (done, found) = thread::join(rt, || reserves(rt, second), || finds(rt, third));
     done?;
@@ -134,7 +121,7 @@ const LAST: u64 = EACH;
 const MET: u64 = EACH + 1;
 
 /// Removes all pairs again and again, until it has met the last key; says so then. Answers whether that came.
-fn clears<R: Wait + Clock>(rt: &R, mut session: Own<'_>) -> Result<bool, Fault> {
+fn clears<R: Wait + Clock>(rt: &R, mut session: Own<'_>) -> Told<bool> {
     for _ in 0..LOOKS {
         let met = session.contains_key(rt, &LAST);
         session.clear(rt)?;
@@ -149,7 +136,7 @@ fn clears<R: Wait + Clock>(rt: &R, mut session: Own<'_>) -> Result<bool, Fault> 
 }
 
 /// Stores keys, and the last one anew where it is gone, until the other one says that it has met that. Answers whether it was gone once.
-fn leaves<R: Wait + Clock>(rt: &R, mut session: Own<'_>) -> Result<bool, Fault> {
+fn leaves<R: Wait + Clock>(rt: &R, mut session: Own<'_>) -> Told<bool> {
     stores(rt, &mut session, 0, EACH)?;
     let _ = session.insert(rt, LAST, 0)?;
     let mut gone = false;
@@ -181,15 +168,11 @@ fn left<R: Wait>(rt: &R, mut session: Own<'_>) -> u64 {
 }
 
 /// One thread stores keys while another one removes all pairs. Answers what each has met, and how many keys are left.
-fn empties<R: Threads + Wait + Clock + Sync>(
-    rt: &R,
-    alloc: Global,
-) -> Result<(bool, bool, u64), Fault> {
+fn empties<R: Threads + Wait + Clock + Sync>(rt: &R, alloc: Global) -> Told<(bool, bool, u64)> {
     let mut ids = IdSource::new();
     let map = HashMap::with_hasher(alloc, &mut ids, Hashing::default())?;
     let first = map.session()?;
-    let second = first.another()?;
-    let third = first.another()?;
+    let (second, third) = (first.another()?, first.another()?);
     let (gone, met) = thread::join(rt, || leaves(rt, first), || clears(rt, second));
     Ok((gone?, met?, left(rt, third)))
 }
@@ -203,7 +186,7 @@ fn all_pairs_are_removed_while_others_store(rt: HostRuntime) -> Result<(), Fail>
 }
 
 /// Of one session: what it counts of a map of this mode without a pair, after room was made, after keys were stored, after the odd ones were removed, and after all were.
-fn alone<R: Wait>(rt: &R, alloc: Global, mode: ResizeMode) -> Result<([bool; 3], [u64; 2]), Fault> {
+fn alone<R: Wait>(rt: &R, alloc: Global, mode: ResizeMode) -> Told<([bool; 3], [u64; 2])> {
     let mut ids = IdSource::new();
     let builder = HashMap::builder(Hashing::default()).resize_mode(mode);
     let map = builder.build(alloc, &mut ids)?;
@@ -222,10 +205,8 @@ fn alone<R: Wait>(rt: &R, alloc: Global, mode: ResizeMode) -> Result<([bool; 3],
 #[test]
 fn what_was_stored_is_counted(rt: HostRuntime) -> Result<(), Fail> {
     for mode in MODES {
-        assert_eq!(rt;
-            alone(&rt, rt.alloc(), mode)?,
-            ([true; 3], [EACH, EACH / 2])
-        );
+        let counted = alone(&rt, rt.alloc(), mode)?;
+        assert_eq!(rt; counted, ([true; 3], [EACH, EACH / 2]));
     }
     Ok(())
 }

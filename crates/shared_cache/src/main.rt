@@ -1,6 +1,9 @@
 //! Four threads ask one cache for the squares of the same numbers. Who finds one there takes it, and who does not keeps it there for the others; what is long past is let go.
 #![tactic(auto)]
 
+#[cfg(test)]
+mod forms;
+
 use papaya_map::{Fault, HashMap, IdSource, Session};
 use std::alloc::Global;
 use std::hash::{BuildHasherDefault, DefaultHasher};
