@@ -9,16 +9,16 @@ use Rattle.threads_sweeps.proofs.walking.WalksErrandNodeOfMaps.run.Goals as goal
 -- the seat is the one that was lent
 pub returns : goal.returns
 returns g c =
-    let s = kept_same _ _ _ _ _ _ _ _ c.goes_over.ensures.same in
+    let s = kept_same _ _ _ _ _ _ _ _ c.goes_over-end.ensures.same in
     let blocks = s.0 in let name = s.1 in let id = s.2 in let away = s.3 in
     let is = c.seat-1.given.1 (sym (name ∙ c.new-within.ensures.name)) in
-    let was = c.new-within.ensures.seat in let own = c.goes_over.new.within.own in let first = c.new-within.result.own in
+    let was = c.new-within.ensures.seat in let own = c.goes_over-end.new.within.own in let first = c.new-within.result.own in
     let before : c.new-within.result.seat.now.view ≡ c.args.seat.now.view = cc was in
-    let after : c.goes_over.new.within.seat.now.view ≡ c.seat-1.given.0.view = cc is in (
+    let after : c.goes_over-end.new.within.seat.now.view ≡ c.seat-1.given.0.view = cc is in (
       cc (is, own, blocks, first, was),
       cc (is, id, was),
       cc (is, away, was),
-      subst (λ (v : View g.row.K.Denot g.row.V.Denot g.row.S.Denot). HasGoneOver g.K.PartialEq.eq g.S.Hashes.hash Walks c.goes_over.result v c.seat-1.given.0.view × HasShownTo g.K.PartialEq.eq g.S.Hashes.hash g.T.Onlooker.has_seen c.args.self.onlooker c.goes_over.new.onlooker v c.seat-1.given.0.view) before
-          (subst (λ (w : View g.row.K.Denot g.row.V.Denot g.row.S.Denot). HasGoneOver g.K.PartialEq.eq g.S.Hashes.hash Walks c.goes_over.result c.new-within.result.seat.now.view w × HasShownTo g.K.PartialEq.eq g.S.Hashes.hash g.T.Onlooker.has_seen c.args.self.onlooker c.goes_over.new.onlooker c.new-within.result.seat.now.view w) after
-          (c.goes_over.ensures.gone, c.goes_over.ensures.shown)),
+      subst (λ (v : View g.row.K.Denot g.row.V.Denot g.row.S.Denot). HasGoneOver g.K.PartialEq.eq g.S.Hashes.hash Walks c.goes_over-end.result v c.seat-1.given.0.view × HasShownTo g.K.PartialEq.eq g.S.Hashes.hash g.T.Onlooker.has_seen c.args.self.onlooker c.goes_over-end.new.onlooker v c.seat-1.given.0.view) before
+          (subst (λ (w : View g.row.K.Denot g.row.V.Denot g.row.S.Denot). HasGoneOver g.K.PartialEq.eq g.S.Hashes.hash Walks c.goes_over-end.result c.new-within.result.seat.now.view w × HasShownTo g.K.PartialEq.eq g.S.Hashes.hash g.T.Onlooker.has_seen c.args.self.onlooker c.goes_over-end.new.onlooker c.new-within.result.seat.now.view w) after
+          (c.goes_over-end.ensures.gone, c.goes_over-end.ensures.shown)),
     )
