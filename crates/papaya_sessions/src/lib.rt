@@ -8,5 +8,5 @@ pub use pass::{HashMapRef, Pass};
 pub use seize_words::Operation;
 pub use session::Session;
 pub use threads_updates::{
-    Attempt, ComputedPair, Fixed, OfMaps, SessionBase, memory_for, newcomer,
+    Attempt, ComputedPair, Fixed, OfMaps, SessionBase, Sleepers, memory_for, newcomer,
 };

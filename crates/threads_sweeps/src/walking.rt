@@ -22,11 +22,12 @@ use seize_blocks::{Blocks, Errand, Seat};
 use seize_words::{Fault, Link, Look};
 use std::hash::Hash;
 use std::sync::Wait;
-use threads_calls::{OfMaps, SessionBase, Within};
+use threads_calls::{OfMaps, SessionBase, Sleepers, Waiter, Within};
 
 /// A walk over the pairs of a map.
 pub struct Walks<'w, R, K, V, S, F> {
     rt: &'w R,
+    sleepers: &'w Sleepers,
     hasher: &'w S,
     machine: &'w mut Machine<K, V>,
     near: u64,
@@ -110,6 +111,7 @@ fn shows_told<K: Eq + Hash + Drop, V: Drop, S: Hashes<K>, F: FnMut(&K, &V)>(
 fn goes_over<R: Wait, K: Eq + Hash + Drop, V: Drop, S: Hashes<K>, F: FnMut(&K, &V)>(
     within: &mut Within<'_, K, V, S>,
     rt: &R,
+    sleepers: &Sleepers,
     hasher: &S,
     machine: &mut Machine<K, V>,
     each: &mut F,
@@ -121,8 +123,10 @@ fn goes_over<R: Wait, K: Eq + Hash + Drop, V: Drop, S: Hashes<K>, F: FnMut(&K, &
     ensures same { IsSameSeat within.old within.new }
 {
     within.begins(machine);
+    let mut waiter = Waiter::new(sleepers);
     for _ in rt.forever() {
         let told = within.walks(machine, hasher);
+        waiter.heeds(rt, &told, machine);
         let heard = hears(told);
         if let Some(end) = shows_told(within, hasher, machine, heard, each) {
             return end;
@@ -148,13 +152,14 @@ impl<'w, R: Wait, K: Eq + Hash + Drop, V: Drop, S: Hashes<K>, F: FnMut(&K, &V)> 
     ) -> Result<(), Fault> {
         let Walks {
             rt,
+            sleepers,
             hasher,
             machine,
             near,
             each,
         } = self;
         let mut within = Within::new(blocks, seat, near);
-        goes_over(&mut within, rt, hasher, machine, each)
+        goes_over(&mut within, rt, sleepers, hasher, machine, each)
     }
 }
 
@@ -176,10 +181,12 @@ pub fn each<R: Wait, K: Eq + Hash + Drop, V: Drop, S: Hashes<K>, F: FnMut(&K, &V
 {
     let sweep = Sweep::walk(session.setting());
     let mut machine = Machine::Sweep(sweep);
+    let sleepers = session.sleepers();
     let hasher = session.hasher();
     let near = session.near();
     session.sends(Walks {
         rt,
+        sleepers,
         hasher,
         machine: &mut machine,
         near,

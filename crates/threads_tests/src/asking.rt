@@ -7,7 +7,7 @@ use crate::resting::{Hashing, Resting};
 use std::sync::Wait;
 use std::test::Fail;
 use std::thread;
-use threads_calls::{Fixed, ResizeMode, SessionBase, memory_for};
+use threads_calls::{Fixed, ResizeMode, SessionBase, Sleepers, memory_for};
 
 /// Batches of 32 blocks, and one root.
 const CHOSEN: Fixed = Fixed {
@@ -95,8 +95,15 @@ fn sweeps<R: Wait>(rt: &R, resting: Resting<'_>) -> Option<(u64, u64)> {
 fn a_key_has_the_value_of_one_of_two_that_make_one(rt: HostRuntime) -> Result<(), Fail> {
     let hashing = Hashing::default();
     let home = memory_for::<u64, u64, Hashing>(rt.alloc(), 64, &CHOSEN)?;
-    let Ok(mut first) = SessionBase::open(&home.blocks, &hashing, &CHOSEN, ResizeMode::default(), 4)
-    else {
+    let sleepers = Sleepers::new();
+    let Ok(mut first) = SessionBase::open(
+        &home.blocks,
+        &sleepers,
+        &hashing,
+        &CHOSEN,
+        ResizeMode::default(),
+        4,
+    ) else {
         return Err(Fail::new("no map was made"));
     };
     let second = Resting {
@@ -119,8 +126,15 @@ fn a_key_has_the_value_of_one_of_two_that_make_one(rt: HostRuntime) -> Result<()
 fn a_pair_of_which_two_say_yes_is_removed_once(rt: HostRuntime) -> Result<(), Fail> {
     let hashing = Hashing::default();
     let home = memory_for::<u64, u64, Hashing>(rt.alloc(), 64, &CHOSEN)?;
-    let Ok(mut first) = SessionBase::open(&home.blocks, &hashing, &CHOSEN, ResizeMode::default(), 4)
-    else {
+    let sleepers = Sleepers::new();
+    let Ok(mut first) = SessionBase::open(
+        &home.blocks,
+        &sleepers,
+        &hashing,
+        &CHOSEN,
+        ResizeMode::default(),
+        4,
+    ) else {
         return Err(Fail::new("no map was made"));
     };
     let second = Resting {

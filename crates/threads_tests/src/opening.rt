@@ -4,7 +4,7 @@ use seize_words::Fault;
 use std::sync::Wait;
 use std::test::Fail;
 use std::thread;
-use threads_calls::{Fixed, ResizeMode, SessionBase, memory_for};
+use threads_calls::{Fixed, ResizeMode, SessionBase, Sleepers, memory_for};
 
 /// Batches of 32 blocks, and two roots.
 const CHOSEN: Fixed = Fixed {
@@ -31,8 +31,15 @@ fn finds<R: Wait>(rt: &R, resting: Resting<'_>, key: u64) -> Option<bool> {
 fn two_threads_find_no_pair_in_a_map_that_has_none(rt: HostRuntime) -> Result<(), Fail> {
     let hashing = Hashing::default();
     let home = memory_for::<u64, u64, Hashing>(rt.alloc(), 64, &CHOSEN)?;
-    let Ok(mut first) = SessionBase::open(&home.blocks, &hashing, &CHOSEN, ResizeMode::default(), 4)
-    else {
+    let sleepers = Sleepers::new();
+    let Ok(mut first) = SessionBase::open(
+        &home.blocks,
+        &sleepers,
+        &hashing,
+        &CHOSEN,
+        ResizeMode::default(),
+        4,
+    ) else {
         return Err(Fail::new("no map was made"));
     };
     let second = Resting {
@@ -49,21 +56,33 @@ fn two_threads_find_no_pair_in_a_map_that_has_none(rt: HostRuntime) -> Result<()
 fn a_map_needs_a_root_of_its_own(rt: HostRuntime) -> Result<(), Fail> {
     let hashing = Hashing::default();
     let home = memory_for::<u64, u64, Hashing>(rt.alloc(), 64, &CHOSEN)?;
+    let sleepers = Sleepers::new();
     let first = SessionBase::open(
         &home.blocks,
+        &sleepers,
         &hashing,
         &CHOSEN,
         ResizeMode::default(),
         4,
-    ).is_ok();
+    )
+    .is_ok();
     let second = SessionBase::open(
         &home.blocks,
+        &sleepers,
         &hashing,
         &CHOSEN,
         ResizeMode::default(),
         4,
-    ).is_ok();
-    let third = match SessionBase::open(&home.blocks, &hashing, &CHOSEN, ResizeMode::default(), 4) {
+    )
+    .is_ok();
+    let third = match SessionBase::open(
+        &home.blocks,
+        &sleepers,
+        &hashing,
+        &CHOSEN,
+        ResizeMode::default(),
+        4,
+    ) {
         Ok(_) => None,
         Err(fault) => Some(fault),
     };

@@ -8,7 +8,7 @@ use std::sync::Wait;
 use std::test::Fail;
 use std::thread;
 use std::thread::Threads;
-use threads_calls::{Fixed, MapPassSeat, ResizeMode, SessionBase, memory_for};
+use threads_calls::{Fixed, MapPassSeat, ResizeMode, SessionBase, Sleepers, memory_for};
 
 /// Batches of 32 blocks, and one root.
 const CHOSEN: Fixed = Fixed {
@@ -114,8 +114,10 @@ fn both_read<R: Threads + Wait + Sync>(
 fn two_threads_look_up_under_one_session(rt: HostRuntime) -> Result<(), Fail> {
     let hashing = Hashing::default();
     let home = memory_for::<u64, u64, Hashing>(rt.alloc(), 64, &CHOSEN)?;
+    let sleepers = Sleepers::new();
     let Ok(mut session) = SessionBase::open(
         &home.blocks,
+        &sleepers,
         &hashing,
         &CHOSEN,
         ResizeMode::default(),

@@ -7,7 +7,7 @@ use crate::resting::{Hashing, Resting};
 use std::sync::Wait;
 use std::test::Fail;
 use std::thread;
-use threads_calls::{Attempt, Fixed, ResizeMode, SessionBase, memory_for};
+use threads_calls::{Attempt, Fixed, ResizeMode, SessionBase, Sleepers, memory_for};
 
 /// Batches of 32 blocks, and one root.
 const CHOSEN: Fixed = Fixed {
@@ -129,8 +129,15 @@ fn sums(one: Option<Done>, other: Option<Done>) -> Option<(u64, u64)> {
 fn of_two_that_try_to_store_a_key_one_does(rt: HostRuntime) -> Result<(), Fail> {
     let hashing = Hashing::default();
     let home = memory_for::<u64, u64, Hashing>(rt.alloc(), 64, &CHOSEN)?;
-    let Ok(mut first) = SessionBase::open(&home.blocks, &hashing, &CHOSEN, ResizeMode::default(), 4)
-    else {
+    let sleepers = Sleepers::new();
+    let Ok(mut first) = SessionBase::open(
+        &home.blocks,
+        &sleepers,
+        &hashing,
+        &CHOSEN,
+        ResizeMode::default(),
+        4,
+    ) else {
         return Err(Fail::new("no map was made"));
     };
     let second = Resting {
@@ -171,8 +178,15 @@ fn of_two_that_try_to_store_a_key_one_does(rt: HostRuntime) -> Result<(), Fail> 
 fn a_pair_that_two_threads_remove_is_removed_once(rt: HostRuntime) -> Result<(), Fail> {
     let hashing = Hashing::default();
     let home = memory_for::<u64, u64, Hashing>(rt.alloc(), 64, &CHOSEN)?;
-    let Ok(mut first) = SessionBase::open(&home.blocks, &hashing, &CHOSEN, ResizeMode::default(), 4)
-    else {
+    let sleepers = Sleepers::new();
+    let Ok(mut first) = SessionBase::open(
+        &home.blocks,
+        &sleepers,
+        &hashing,
+        &CHOSEN,
+        ResizeMode::default(),
+        4,
+    ) else {
         return Err(Fail::new("no map was made"));
     };
     let second = Resting {

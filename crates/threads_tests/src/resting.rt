@@ -3,20 +3,20 @@ ghost use Rattle.std.specs.Prelude.{◌≡◌};
 ghost use Rattle.threads_calls.specs.Given.SeizeViewsDeclared.view.SlotView.TheVariants.{Rests};
 
 use std::hash::{BuildHasherDefault, DefaultHasher};
-use threads_calls::SessionBase;
+use threads_calls::{Hashes, SessionBase};
 
 /// The hasher of all tests.
 pub(crate) type Hashing = BuildHasherDefault<DefaultHasher>;
 
 /// A session that holds no slot.
-pub(crate) struct Resting<'a> {
-    pub(crate) session: SessionBase<'a, u64, u64, Hashing>,
+pub(crate) struct Resting<'a, S: Hashes<u64> = Hashing> {
+    pub(crate) session: SessionBase<'a, u64, u64, S>,
     ghost rests: { session.caller.seat.view.slot ≡ Rests },
 }
 
-impl<'a> Resting<'a> {
+impl<'a, S: Hashes<u64>> Resting<'a, S> {
     /// The session.
-    pub(crate) fn session(self) -> SessionBase<'a, u64, u64, Hashing>
+    pub(crate) fn session(self) -> SessionBase<'a, u64, u64, S>
         ensures { result.caller.seat.view.slot ≡ Rests }
     {
         let Resting { session } = self;
@@ -24,7 +24,7 @@ impl<'a> Resting<'a> {
     }
 }
 
-impl<'a> Drop for Resting<'a> {
+impl<'a, S: Hashes<u64>> Drop for Resting<'a, S> {
     fn drop(self) {
         let Resting { session } = self;
         drop(session);

@@ -7,5 +7,7 @@ mod deciding;
 mod updating;
 
 pub use changing::ComputedPair;
-pub use threads_calls::{Attempt, Fixed, MapPassSeat, OfMaps, SessionBase, memory_for, newcomer};
+pub use threads_calls::{
+    Attempt, Fixed, MapPassSeat, OfMaps, SessionBase, Sleepers, memory_for, newcomer,
+};
 pub use updating::{compute, update, update_or_insert, update_or_insert_with};

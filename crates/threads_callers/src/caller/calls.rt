@@ -66,6 +66,7 @@ impl<'a, K: Eq + Hash + Drop, V: Drop, S: Hashes<K>> MapCaller<'a, K, V, S> {
             &mut self.seat,
             Does {
                 rt,
+                sleepers: self.sleepers,
                 hasher,
                 machine: &mut machine,
                 near: self.near,
@@ -93,6 +94,7 @@ impl<'a, K: Eq + Hash + Drop, V: Drop, S: Hashes<K>> MapCaller<'a, K, V, S> {
             &mut self.seat,
             Stores {
                 rt,
+                sleepers: self.sleepers,
                 hasher,
                 setting,
                 hash,
@@ -122,6 +124,7 @@ impl<'a, K: Eq + Hash + Drop, V: Drop, S: Hashes<K>> MapCaller<'a, K, V, S> {
             &mut self.seat,
             Removes {
                 rt,
+                sleepers: self.sleepers,
                 hasher,
                 setting,
                 hash,
@@ -166,6 +169,7 @@ impl<'a, K: Eq + Hash + Drop, V: Drop, S: Hashes<K>> MapCaller<'a, K, V, S> {
             &mut self.seat,
             MakesPair {
                 rt,
+                sleepers: self.sleepers,
                 hasher,
                 machine: &mut machine,
                 near: self.near,
@@ -194,6 +198,7 @@ impl<'a, K: Eq + Hash + Drop, V: Drop, S: Hashes<K>> MapCaller<'a, K, V, S> {
             &mut self.seat,
             RemovesIf {
                 rt,
+                sleepers: self.sleepers,
                 hasher,
                 machine: &mut machine,
                 near: self.near,
