@@ -13,8 +13,8 @@ use Rattle.papaya_raw.specs.declared.machines.call.Calling.TheVariants as callin
 use Rattle.papaya_raw.specs.declared.machines.machine.Machine.{Machine}
 use Rattle.papaya_raw.specs.declared.machines.machine.Machine.TheVariants.{Key, Reserve, Sweep, Count}
 
--- A copying stands there once it has come to a place or behind its last one, where in incremental mode the pair of the one before is COPIED; once a table is given up, or is the root;
--- and once it has taken its mark back, and claims it no more.
+-- There a copying stands once a pair is COPIED, in incremental mode, and it goes on to the next place, or counts; once it has given its table up, or made it the
+-- root; and once it has taken its mark back, and gives up.
 abbrev pub point_has_let_on : Bool → Copying → Bool
 point_has_let_on incremental copying.Marks = incremental
 point_has_let_on incremental copying.Counts = incremental

@@ -61,7 +61,8 @@ impl<'s> Waiter<'s> {
         }
     }
 
-    /// Goes by what a step of this call has told: where that waits, it is to be taken again once this returns. Else the others are woken, if they may have waited for it.
+    /// Goes by what a step of this call has told. Where that waits, it is to be taken again once this returns; else the others are woken, if they may have waited
+    /// for it.
     #[inline(always)]
     pub fn heeds<R: Wait, T, K, V>(&mut self, rt: &R, told: &Progress<T>, machine: &Machine<K, V>) {
         if matches!(told, Progress::Waits) {

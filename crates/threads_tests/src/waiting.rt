@@ -123,8 +123,8 @@ fn waits<R: Wait>(rt: &R, gate: &Gate<'_>, resting: Resting<'_, Gate<'_>>) -> Re
     copies(rt, resting)
 }
 
-// Who copies the table stops at its first pair until another one sleeps, and that one goes on only where it is woken: the table has one chunk, which is claimed. A body that
-// takes its step again and again, or serves one call after another, lets the first one look in vain; one that wakes nobody does not come back.
+// Who copies the table stops at its first pair until another one sleeps, and that one goes on only where it is woken: the table has one chunk, which is claimed. A
+// body that takes its step again and again, or serves one call after another, lets the first one look in vain; one that wakes nobody does not come back.
 #[test]
 fn a_call_sleeps_while_another_one_copies(rt: HostRuntime) -> Result<(), Fail> {
     let sleepers = Sleepers::new();
