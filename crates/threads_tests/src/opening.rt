@@ -1,10 +1,10 @@
 //! A map that is made, handed on, and looked through by threads.
-use crate::resting::{Hashing, Resting};
+use crate::resting::{Hashing, MODE, Resting};
 use seize_words::Fault;
 use std::sync::Wait;
 use std::test::Fail;
 use std::thread;
-use threads_calls::{Fixed, ResizeMode, SessionBase, Sleepers, memory_for};
+use threads_calls::{Fixed, SessionBase, Sleepers, memory_for};
 
 /// Batches of 32 blocks, and two roots.
 const CHOSEN: Fixed = Fixed {
@@ -32,14 +32,8 @@ fn two_threads_find_no_pair_in_a_map_that_has_none(rt: HostRuntime) -> Result<()
     let hashing = Hashing::default();
     let home = memory_for::<u64, u64, Hashing>(rt.alloc(), 64, &CHOSEN)?;
     let sleepers = Sleepers::new();
-    let Ok(mut first) = SessionBase::open(
-        &home.blocks,
-        &sleepers,
-        &hashing,
-        &CHOSEN,
-        ResizeMode::default(),
-        4,
-    ) else {
+    let Ok(mut first) = SessionBase::open(&home.blocks, &sleepers, &hashing, &CHOSEN, MODE, 4)
+    else {
         return Err(Fail::new("no map was made"));
     };
     let second = Resting {
@@ -57,32 +51,9 @@ fn a_map_needs_a_root_of_its_own(rt: HostRuntime) -> Result<(), Fail> {
     let hashing = Hashing::default();
     let home = memory_for::<u64, u64, Hashing>(rt.alloc(), 64, &CHOSEN)?;
     let sleepers = Sleepers::new();
-    let first = SessionBase::open(
-        &home.blocks,
-        &sleepers,
-        &hashing,
-        &CHOSEN,
-        ResizeMode::default(),
-        4,
-    )
-    .is_ok();
-    let second = SessionBase::open(
-        &home.blocks,
-        &sleepers,
-        &hashing,
-        &CHOSEN,
-        ResizeMode::default(),
-        4,
-    )
-    .is_ok();
-    let third = match SessionBase::open(
-        &home.blocks,
-        &sleepers,
-        &hashing,
-        &CHOSEN,
-        ResizeMode::default(),
-        4,
-    ) {
+    let first = SessionBase::open(&home.blocks, &sleepers, &hashing, &CHOSEN, MODE, 4).is_ok();
+    let second = SessionBase::open(&home.blocks, &sleepers, &hashing, &CHOSEN, MODE, 4).is_ok();
+    let third = match SessionBase::open(&home.blocks, &sleepers, &hashing, &CHOSEN, MODE, 4) {
         Ok(_) => None,
         Err(fault) => Some(fault),
     };

@@ -3,12 +3,12 @@ ghost use Rattle.std.specs.Prelude.{◌≡◌};
 ghost use Rattle.threads_calls.specs.Given.SeizeViewsDeclared.view.Has.TheVariants.{Nothing};
 ghost use Rattle.threads_calls.specs.Given.SeizeViewsDeclared.view.SlotView.TheVariants.{Inside};
 
-use crate::resting::{Hashing, Resting};
+use crate::resting::{Hashing, MODE, Resting};
 use std::sync::Wait;
 use std::test::Fail;
 use std::thread;
 use std::thread::Threads;
-use threads_calls::{Fixed, MapPassSeat, ResizeMode, SessionBase, Sleepers, memory_for};
+use threads_calls::{Fixed, MapPassSeat, SessionBase, Sleepers, memory_for};
 
 /// Batches of 32 blocks, and one root.
 const CHOSEN: Fixed = Fixed {
@@ -115,14 +115,8 @@ fn two_threads_look_up_under_one_session(rt: HostRuntime) -> Result<(), Fail> {
     let hashing = Hashing::default();
     let home = memory_for::<u64, u64, Hashing>(rt.alloc(), 64, &CHOSEN)?;
     let sleepers = Sleepers::new();
-    let Ok(mut session) = SessionBase::open(
-        &home.blocks,
-        &sleepers,
-        &hashing,
-        &CHOSEN,
-        ResizeMode::default(),
-        4,
-    ) else {
+    let Ok(mut session) = SessionBase::open(&home.blocks, &sleepers, &hashing, &CHOSEN, MODE, 4)
+    else {
         return Err(Fail::new("no map was made"));
     };
     let other = Resting {

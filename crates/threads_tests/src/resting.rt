@@ -3,10 +3,13 @@ ghost use Rattle.std.specs.Prelude.{◌≡◌};
 ghost use Rattle.threads_calls.specs.Given.SeizeViewsDeclared.view.SlotView.TheVariants.{Rests};
 
 use std::hash::{BuildHasherDefault, DefaultHasher};
-use threads_calls::{Hashes, SessionBase};
+use threads_calls::{Hashes, ResizeMode, SessionBase};
 
 /// The hasher of all tests.
 pub(crate) type Hashing = BuildHasherDefault<DefaultHasher>;
+
+/// How the maps of most tests come to their next table.
+pub(crate) const MODE: ResizeMode = ResizeMode::Incremental(64);
 
 /// A session that holds no slot.
 pub(crate) struct Resting<'a, S: Hashes<u64> = Hashing> {

@@ -3,11 +3,11 @@ ghost use Rattle.std.specs.Prelude.{◌≡◌};
 ghost use Rattle.threads_calls.specs.Given.SeizeViewsDeclared.view.Has.TheVariants.{Nothing};
 ghost use Rattle.threads_calls.specs.Given.SeizeViewsDeclared.view.SlotView.TheVariants.{Inside};
 
-use crate::resting::{Hashing, Resting};
+use crate::resting::{Hashing, MODE, Resting};
 use std::sync::Wait;
 use std::test::Fail;
 use std::thread;
-use threads_calls::{Fixed, ResizeMode, SessionBase, Sleepers, memory_for};
+use threads_calls::{Fixed, SessionBase, Sleepers, memory_for};
 
 /// Batches of 32 blocks, and one root.
 const CHOSEN: Fixed = Fixed {
@@ -92,14 +92,8 @@ fn a_key_that_two_threads_store_is_replaced_once(rt: HostRuntime) -> Result<(), 
     let hashing = Hashing::default();
     let home = memory_for::<u64, u64, Hashing>(rt.alloc(), 64, &CHOSEN)?;
     let sleepers = Sleepers::new();
-    let Ok(mut first) = SessionBase::open(
-        &home.blocks,
-        &sleepers,
-        &hashing,
-        &CHOSEN,
-        ResizeMode::default(),
-        4,
-    ) else {
+    let Ok(mut first) = SessionBase::open(&home.blocks, &sleepers, &hashing, &CHOSEN, MODE, 4)
+    else {
         return Err(Fail::new("no map was made"));
     };
     let second = Resting {

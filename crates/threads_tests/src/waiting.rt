@@ -16,18 +16,16 @@ const CHOSEN: Fixed = Fixed {
     chains: 0,
 };
 
-/// How many pairs the map has: their table is copied at once.
+/// How many pairs the map has: so few are copied at once.
 const KEYS: u64 = 400;
 
-/// For how many further pairs room is made: the root is too short for them.
+/// For how many further pairs room is made: their table is too short for them.
 const MORE: u64 = 4_000;
 
 /// How often one looks for another.
 const LOOKS: u64 = 3_000_000;
 
-/// Where the gate stands: whoever comes passes; the first who comes is stopped; it was; it was until another one slept.
-const OPEN: u64 = 0;
-
+/// Where the gate stands: the first who comes is to be stopped; it was; it was until another one slept.
 const CLOSED: u64 = 1;
 
 const STOPPED: u64 = 2;
@@ -43,28 +41,17 @@ struct Gate<'s> {
 }
 
 impl Gate<'_> {
-    /// Lets whoever comes pass, but for the first one where it is closed.
-    fn pass(&self) {
-        if self
+    /// Stops who comes, if that is to be.
+    fn stop(&self) {
+        let first = self
             .stands
-            .compare_exchange(CLOSED, STOPPED, SeqCst, SeqCst)
-            .is_err()
-        {
-            return;
-        }
+            .compare_exchange(CLOSED, STOPPED, SeqCst, SeqCst);
         for _ in 0..LOOKS {
-            if self.sleepers.count() != 0 {
-                self.stands.store(PASSED, SeqCst);
+            if first.is_err() {
                 return;
             }
-            thread::yield_now();
-        }
-    }
-
-    /// Waits until one was stopped.
-    fn stops(&self) {
-        for _ in 0..LOOKS {
-            if self.stands.load(SeqCst) != CLOSED {
+            if self.sleepers.count() != 0 {
+                self.stands.store(PASSED, SeqCst);
                 return;
             }
             thread::yield_now();
@@ -78,38 +65,25 @@ impl BuildHasher for Gate<'_> {
     ghost build_hasher = { λ gate. gate.initial };
 
     fn build_hasher(&self) -> DefaultHasher {
-        self.pass();
+        self.stop();
         self.initial
     }
 }
 
-type Own<'a> = SessionBase<'a, u64, u64, Gate<'a>>;
-
-/// Stores so many keys.
-fn fills<R: Wait>(rt: &R, resting: Resting<'_, Gate<'_>>) -> Result<(), Fault> {
+/// Stores so many keys, makes room for so many further ones, and answers how many pairs the map has then.
+fn works<R: Wait>(
+    rt: &R,
+    resting: Resting<'_, Gate<'_>>,
+    keys: u64,
+    more: u64,
+) -> Result<u64, Fault> {
     let mut session = resting.session();
     session.register()?;
     session.enter();
-    let mut refused = None;
-    for key in 0..KEYS {
-        if let Err(back) = session.insert(rt, key, key) {
-            refused = Some(back.fault);
-        }
+    for key in 0..keys {
+        let _ = session.insert(rt, key, key);
     }
-    session.leave();
-    session.unregister();
-    match refused {
-        Some(fault) => Err(fault),
-        None => Ok(()),
-    }
-}
-
-/// Makes room in the map, which copies it, and answers how many pairs it has then.
-fn copies<R: Wait>(rt: &R, resting: Resting<'_, Gate<'_>>) -> Result<u64, Fault> {
-    let mut session = resting.session();
-    session.register()?;
-    session.enter();
-    let made = session.reserve(rt, MORE);
+    let made = session.reserve(rt, more);
     let count = session.len();
     session.leave();
     session.unregister();
@@ -117,10 +91,15 @@ fn copies<R: Wait>(rt: &R, resting: Resting<'_, Gate<'_>>) -> Result<u64, Fault>
     Ok(count)
 }
 
-/// Does so once another one has begun to copy.
-fn waits<R: Wait>(rt: &R, gate: &Gate<'_>, resting: Resting<'_, Gate<'_>>) -> Result<u64, Fault> {
-    gate.stops();
-    copies(rt, resting)
+/// Makes room once another one was stopped.
+fn follows<R: Wait>(rt: &R, gate: &Gate<'_>, resting: Resting<'_, Gate<'_>>) -> Result<u64, Fault> {
+    for _ in 0..LOOKS {
+        if gate.stands.load(SeqCst) != CLOSED {
+            break;
+        }
+        thread::yield_now();
+    }
+    works(rt, resting, 0, MORE)
 }
 
 // Who copies the table stops at its first pair until another one sleeps, and that one goes on only where it is woken: the table has one chunk, which is claimed. A
@@ -130,29 +109,33 @@ fn a_call_sleeps_while_another_one_copies(rt: HostRuntime) -> Result<(), Fail> {
     let sleepers = Sleepers::new();
     let gate = Gate {
         sleepers: &sleepers,
-        stands: AtomicU64::new(OPEN),
+        stands: AtomicU64::new(0),
         initial: DefaultHasher::new(),
     };
     let home = memory_for::<u64, u64, Gate<'_>>(rt.alloc(), 64, &CHOSEN)?;
-    let Ok(first) = SessionBase::open(
+    let session = SessionBase::open(
         &home.blocks,
         &sleepers,
         &gate,
         &CHOSEN,
         ResizeMode::Blocking,
         4,
-    ) else {
-        return Err(Fail::new("no map was made"));
+    )?;
+    let first = Resting {
+        session: session.session(),
     };
-    let (second, third) = (first.session(), first.session());
-    let first = Resting { session: first };
-    let second = Resting { session: second };
-    assert!(rt; fills(&rt, Resting { session: third }).is_ok());
+    let second = Resting {
+        session: session.session(),
+    };
+    assert_eq!(rt; works(&rt, Resting { session }, KEYS, 0)?, KEYS);
     gate.stands.store(CLOSED, SeqCst);
-    let (one, other) = thread::join(&rt, || copies(&rt, first), || waits(&rt, &gate, second));
+    let (one, other) = thread::join(
+        &rt,
+        || works(&rt, first, 0, MORE),
+        || follows(&rt, &gate, second),
+    );
     assert_eq!(rt; gate.stands.load(SeqCst), PASSED);
-    assert_eq!(rt; one?, KEYS);
-    assert_eq!(rt; other?, KEYS);
+    assert_eq!(rt; (one?, other?), (KEYS, KEYS));
     assert_eq!(rt; sleepers.count(), 0);
     Ok(())
 }
