@@ -1,17 +1,10 @@
 //! A map that is made, handed on, and looked through by threads.
-use crate::resting::{Hashing, MODE, Resting};
+use crate::resting::{CHOSEN, Hashing, MODE, Resting};
 use seize_words::Fault;
 use std::sync::Wait;
 use std::test::Fail;
 use std::thread;
-use threads_calls::{Fixed, SessionBase, Sleepers, memory_for};
-
-/// Batches of 32 blocks, and two roots.
-const CHOSEN: Fixed = Fixed {
-    batch_size: 32,
-    roots: 2,
-    chains: 0,
-};
+use threads_calls::{SessionBase, Sleepers, memory_for};
 
 /// Whether a session finds a key, in a section of a slot that it takes, and gives up then.
 fn finds<R: Wait>(rt: &R, resting: Resting<'_>, key: u64) -> Option<bool> {
@@ -36,10 +29,8 @@ fn two_threads_find_no_pair_in_a_map_that_has_none(rt: HostRuntime) -> Result<()
     else {
         return Err(Fail::new("no map was made"));
     };
-    let second = Resting {
-        session: first.session(),
-    };
-    let first = Resting { session: first };
+    let second = Resting::of(first.session());
+    let first = Resting::of(first);
     let (one, other) = thread::join(&rt, || finds(&rt, first, 1), || finds(&rt, second, 1));
     assert_eq!(rt; one, Some(false));
     assert_eq!(rt; other, Some(false));

@@ -1,5 +1,5 @@
 //! A call that waits for another one's copying sleeps, and is woken.
-use crate::resting::Resting;
+use crate::resting::{CHOSEN, Resting};
 use seize_words::Fault;
 use std::hash::{BuildHasher, DefaultHasher};
 use std::sync::Wait;
@@ -7,14 +7,7 @@ use std::sync::atomic::AtomicU64;
 use std::sync::atomic::Ordering::SeqCst;
 use std::test::Fail;
 use std::thread;
-use threads_calls::{Fixed, ResizeMode, SessionBase, Sleepers, memory_for};
-
-/// Batches of 32 blocks, and one root.
-const CHOSEN: Fixed = Fixed {
-    batch_size: 32,
-    roots: 1,
-    chains: 0,
-};
+use threads_calls::{ResizeMode, SessionBase, Sleepers, memory_for};
 
 /// How many pairs the map has: so few are copied at once.
 const KEYS: u64 = 400;
@@ -121,13 +114,9 @@ fn a_call_sleeps_while_another_one_copies(rt: HostRuntime) -> Result<(), Fail> {
         ResizeMode::Blocking,
         4,
     )?;
-    let first = Resting {
-        session: session.session(),
-    };
-    let second = Resting {
-        session: session.session(),
-    };
-    assert_eq!(rt; works(&rt, Resting { session }, KEYS, 0)?, KEYS);
+    let first = Resting::of(session.session());
+    let second = Resting::of(session.session());
+    assert_eq!(rt; works(&rt, Resting::of(session), KEYS, 0)?, KEYS);
     gate.stands.store(CLOSED, SeqCst);
     let (one, other) = thread::join(
         &rt,
