@@ -63,14 +63,8 @@ fn begun<K: Eq + Hash + Drop, V: Drop, S: Hashes<K>>(
     ensures sized { IfOk result (λ r. blocks.now.words.fixed.batch_size ≡ r.1.batch_size) }
     ensures mode { IfOk result (λ r. r.1.mode ≡ making.mode) }
 {
-    let session = Base::open(
-        blocks,
-        sleepers,
-        hasher,
-        chosen,
-        making.mode,
-        making.processors,
-    )?;
+    let (mode, processors) = (making.mode, making.processors);
+    let session = Base::open(blocks, sleepers, hasher, chosen, mode, processors)?;
     Ok(session.into_seat())
 }
 

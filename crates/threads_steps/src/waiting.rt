@@ -35,12 +35,6 @@ impl Sleepers {
     pub fn count(&self) -> u64 {
         self.count.load(SeqCst)
     }
-
-    /// Wakes all. Who is about to sleep takes its step once more with the lock, so once that was free here it has seen what was done before, or sleeps.
-    fn wake<R: Wait>(&self, rt: &R) {
-        drop(self.lock.lock(rt));
-        self.woken.notify_all();
-    }
 }
 
 /// How a call goes on that may wait: it takes its step again some times, then is counted among those who sleep, takes it once more with their lock, and sleeps.
@@ -90,7 +84,8 @@ impl<'s> Waiter<'s> {
         self.lock = Some(lock);
     }
 
-    /// Somebody sleeps, or this call was about to.
+    /// This call was about to sleep, or others are: they are woken where it has let them on. Who is about to takes its step once more with the lock, so once that was
+    /// free here it has seen what was done, or sleeps.
     #[cold]
     #[inline(never)]
     fn lets_on<R: Wait, K, V>(&mut self, rt: &R, machine: &Machine<K, V>) {
@@ -99,7 +94,8 @@ impl<'s> Waiter<'s> {
             self.sleepers.count.fetch_sub(1, SeqCst);
         }
         if has_let_on(machine) {
-            self.sleepers.wake(rt);
+            drop(self.sleepers.lock.lock(rt));
+            self.sleepers.woken.notify_all();
         }
     }
 }
