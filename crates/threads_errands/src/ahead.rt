@@ -2,6 +2,7 @@
 //! operation that follows them.
 ghost use Rattle.std.specs.Prelude.{◌≡◌, ◌≢◌, None};
 ghost use Rattle.seize_blocks.specs.Parts.{IsFound};
+ghost use Rattle.threads_steps.specs.Found.{found_prop};
 
 mod helping;
 mod memory;
@@ -24,7 +25,7 @@ pub struct Ahead<'a, K: Eq, V, S: Hashes<K>> {
     place: Place<Node<K, V>>,
     ghost own: { seat.now.base ≡ blocks.now.words.id.views_name },
     ghost away: { seat.now.away ≢ None },
-    ghost found: { IsFound blocks.now.words.id place },
+    ghost found: { IsFound blocks.now.words.id place } by { found_prop blocks.now.words.id place },
 }
 
 impl<'a, K: Eq, V, S: Hashes<K>> Ahead<'a, K, V, S> {
