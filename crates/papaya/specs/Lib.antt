@@ -1,2 +1,3 @@
+pub mod Given
 pub mod OneSet
 pub mod Swept

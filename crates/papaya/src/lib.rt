@@ -5,16 +5,19 @@ mod builder;
 mod extending;
 mod making;
 mod pin;
+mod registration;
 mod session;
 mod set;
 mod shared;
 
 pub use builder::HashSetBuilder;
 pub use papaya_map::{
-    Attempt, Collector, Fault, Given, HashMap, HashMapBuilder, HashMapRef, IdSource, Own, Pass,
-    Refused, ResizeMode, Session, SharedMap,
+    Attempt, Collector, ComputedPair, Equivalent, Fault, Form, Given, HashMap, HashMapBuilder,
+    HashMapRef, IdSource, Onlooker, Operation, Own, Pass, Refused, Registration, ResizeMode,
+    Session, SharedMap,
 };
 pub use pin::HashSetRef;
+pub use registration::SetRegistration;
 pub use seize_words::RefusedKey;
 pub use session::SetSession;
 pub use set::HashSet;

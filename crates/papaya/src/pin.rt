@@ -4,7 +4,7 @@ ghost use Rattle.papaya.specs.OneSet.{SetHadUnder, SetLentUnder};
 
 use crate::session::SetSession;
 use map_tables::Hashes;
-use papaya_map::HashMapRef;
+use papaya_map::{Form, HashMapRef};
 use std::hash::{Hash, RandomState};
 use std::sync::Wait;
 
@@ -38,9 +38,9 @@ impl<'m, K: Eq + Hash + Drop, S: Hashes<K>> SetSession<'m, K, S> {
 
 impl<'g, 'm, K: Eq + Hash + Drop, S: Hashes<K>> HashSetRef<'g, 'm, K, S> {
     /// Looks for the element that equals this key, and lends it, if the set has one, for as long as the session is lent, whoever takes it out meanwhile.
-    pub fn get<R: Wait>(&mut self, rt: &R, key: &K) -> Option<&'g K>
+    pub fn get<R: Wait, Q: Form<K, S>>(&mut self, rt: &R, key: &Q) -> Option<&'g K>
         ensures session { self.new.pin.session ≡ self.old.pin.session }
-        ensures one_set { SetLentUnder K.eq S.hash key.now (option_map (λ element. element.now) result) self.old.pin.session.now.base.caller
+        ensures one_set { SetLentUnder K.eq S.hash (Q.stands_for key.now) (option_map (λ element. element.now) result) self.old.pin.session.now.base.caller
             self.old.pin.pass.base.seat.view self.new.pin.pass.base.seat.view }
     {
         let found = self.pin.get_key_value(rt, key);
@@ -48,9 +48,9 @@ impl<'g, 'm, K: Eq + Hash + Drop, S: Hashes<K>> HashSetRef<'g, 'm, K, S> {
     }
 
     /// Returns whether the set has an element that equals this key.
-    pub fn contains<R: Wait>(&mut self, rt: &R, key: &K) -> bool
+    pub fn contains<R: Wait, Q: Form<K, S>>(&mut self, rt: &R, key: &Q) -> bool
         ensures session { self.new.pin.session ≡ self.old.pin.session }
-        ensures one_set { SetHadUnder K.eq S.hash key.now result self.old.pin.session.now.base.caller self.old.pin.pass.base.seat.view self.new.pin.pass.base.seat.view }
+        ensures one_set { SetHadUnder K.eq S.hash (Q.stands_for key.now) result self.old.pin.session.now.base.caller self.old.pin.pass.base.seat.view self.new.pin.pass.base.seat.view }
     {
         self.pin.contains_key(rt, key)
     }

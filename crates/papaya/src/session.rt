@@ -12,7 +12,7 @@ ghost use Rattle.papaya_map.specs.Given.CallsAnswers.{clears};
 mod sweeping;
 
 use map_tables::Hashes;
-use papaya_map::{Pass, Session};
+use papaya_map::{Form, Pass, Session};
 use seize_words::{Fault, Refused, RefusedKey};
 use std::hash::{Hash, RandomState};
 use std::sync::Wait;
@@ -21,7 +21,7 @@ use std::sync::Wait;
 /// from its beginning to its end. Calls of a `SharedSet` take it as their guard.
 #[derive(Drop)]
 pub struct SetSession<'m, K: Eq + Hash + Drop, S: Hashes<K> = RandomState> {
-    session: Session<'m, K, (), S>,
+    pub(crate) session: Session<'m, K, (), S>,
 }
 
 impl<'m, K: Eq + Hash + Drop, S: Hashes<K>> SetSession<'m, K, S> {
@@ -76,18 +76,18 @@ impl<'m, K: Eq + Hash + Drop, S: Hashes<K>> SetSession<'m, K, S> {
     }
 
     /// Returns whether the set has an element that equals this key.
-    pub fn contains<R: Wait>(&mut self, rt: &R, key: &K) -> bool
+    pub fn contains<R: Wait, Q: Form<K, S>>(&mut self, rt: &R, key: &Q) -> bool
         ensures keeps { KeepsMap self.old.session self.new.session }
-        ensures sought { SetHad K.eq S.hash key.now result self.old.session.base.caller self.new.session.base.caller }
+        ensures sought { SetHad K.eq S.hash (Q.stands_for key.now) result self.old.session.base.caller self.new.session.base.caller }
     {
         self.session.contains_key(rt, key)
     }
 
     /// Returns whether it has one, by a pass. A pass of another set is `Fault::ForeignGuard`, and it is as it was.
-    pub fn contains_by<R: Wait>(
+    pub fn contains_by<R: Wait, Q: Form<K, S>>(
         &self,
         rt: &R,
-        key: &K,
+        key: &Q,
         pass: &mut Pass<K, (), S>,
     ) -> Result<bool, Fault>
         requires source { OneSource pass.old.number pass.old.base.seat.base (home_of self.now.session.number self.now.session.base.caller) }
@@ -95,7 +95,7 @@ impl<'m, K: Eq + Hash + Drop, S: Hashes<K>> SetSession<'m, K, S> {
         ensures number { pass.new.number ≡ pass.old.number }
         ensures foreign { IfErr result (λ fault. (fault ≡ ForeignGuard) × (pass.old.number ≢ self.now.session.number) × (pass.new ≡ pass.old)) }
         ensures own { IfOk result (λ _. pass.old.number ≡ self.now.session.number) }
-        ensures one_set { IfOk result (λ there. SetHadUnder K.eq S.hash key.now there self.now.session.base.caller pass.old.base.seat.view pass.new.base.seat.view) }
+        ensures one_set { IfOk result (λ there. SetHadUnder K.eq S.hash (Q.stands_for key.now) there self.now.session.base.caller pass.old.base.seat.view pass.new.base.seat.view) }
     {
         self.session.contains_key_by(rt, key, pass)
     }

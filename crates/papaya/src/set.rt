@@ -1,6 +1,7 @@
 //! A hash set that threads share, as one has it who owns it.
 ghost use Rattle.std.specs.Prelude.{◌≡◌, [], IfOk};
 
+use crate::registration::SetRegistration;
 use crate::session::SetSession;
 use crate::shared::SharedSet;
 use map_tables::Hashes;
@@ -31,6 +32,17 @@ impl<K: Eq + Hash + Drop, S: Hashes<K>> HashSet<K, S> {
         ensures number { result.map.number ≡ self.now.map.collector.number }
     {
         SharedSet::of(self.map.shared())
+    }
+
+    /// Takes a slot of the set, and opens no section of it yet: a thread that comes and goes may keep it. The faults are `Fault::SlotsUsedUp` and `Fault::Memory`.
+    pub fn register(&self) -> Result<SetRegistration<'_, K, S>, Fault>
+        ensures memory { IfOk result (λ other. other.registration.base.caller.blocks.now ≡ self.now.map.home.blocks) }
+        ensures map { IfOk result (λ other. other.registration.base.caller.seat.view.map ≡ self.now.map.seat.view.map) }
+        ensures none { IfOk result (λ other. other.registration.base.caller.seat.view.calls ≡ []) }
+        ensures number { IfOk result (λ other. other.registration.number ≡ self.now.map.collector.number) }
+    {
+        let registration = self.map.register()?;
+        Ok(SetRegistration::of(registration))
     }
 
     /// Begins a session on the set, which may be sent to a thread, and from which others are made. The faults are `Fault::SlotsUsedUp` and `Fault::Memory`.

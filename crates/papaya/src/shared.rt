@@ -3,6 +3,7 @@ ghost use Rattle.std.specs.Prelude.{◌≡◌, [], IfOk};
 
 mod calls;
 
+use crate::registration::SetRegistration;
 use crate::session::SetSession;
 use map_tables::Hashes;
 use papaya_map::{Pass, SharedMap};
@@ -23,6 +24,17 @@ impl<'m, K: Eq + Hash + Drop, S: Hashes<K>> SharedSet<'m, K, S> {
         ensures number { result.map.number ≡ map.entry.number }
     {
         SharedSet { map }
+    }
+
+    /// Takes a slot, and opens no section of it yet. The faults are `Fault::SlotsUsedUp` and `Fault::Memory`.
+    pub fn register(&self) -> Result<SetRegistration<'m, K, S>, Fault>
+        ensures memory { IfOk result (λ other. other.registration.base.caller.blocks.now ≡ self.now.map.blocks.now) }
+        ensures map { IfOk result (λ other. other.registration.base.caller.seat.view.map ≡ self.now.map.seat.now.view.map) }
+        ensures none { IfOk result (λ other. other.registration.base.caller.seat.view.calls ≡ []) }
+        ensures number { IfOk result (λ other. other.registration.number ≡ self.now.map.number) }
+    {
+        let registration = self.map.register()?;
+        Ok(SetRegistration::of(registration))
     }
 
     /// Begins a session on the set. The faults are `Fault::SlotsUsedUp` and `Fault::Memory`.

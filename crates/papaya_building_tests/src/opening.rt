@@ -76,3 +76,25 @@ fn what_a_session_has_put_there_stays_once_it_has_ended(rt: HostRuntime) -> Resu
     assert_eq!(rt; left(&rt, rt.alloc())?, (Some(2), false));
     Ok(())
 }
+
+/// What a registration's first section has put there, and another session meanwhile, as its second section finds it.
+fn between<R: Wait>(rt: &R, alloc: Global) -> Result<(Option<u64>, Option<u64>), Fault> {
+    let mut ids = IdSource::new();
+    let map = HashMap::with_hasher(alloc, &mut ids, Hashing::default())?;
+    let registration = map.register()?;
+    let mut first = registration.enter();
+    let _ = first.insert(rt, 1u64, 2u64)?;
+    let registration = first.leave();
+    let mut other = map.session()?;
+    let _ = other.insert(rt, 3u64, 4u64)?;
+    let mut second = registration.enter();
+    let own = second.get(rt, &1).copied();
+    let others = second.get(rt, &3).copied();
+    Ok((own, others))
+}
+
+#[test]
+fn a_registration_has_one_section_after_another(rt: HostRuntime) -> Result<(), Fail> {
+    assert_eq!(rt; between(&rt, rt.alloc())?, (Some(2), Some(4)));
+    Ok(())
+}

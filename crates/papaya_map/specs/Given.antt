@@ -4,6 +4,7 @@ pub use Rattle.papaya_sessions.specs.Given.ActsActs
 pub use Rattle.papaya_sessions.specs.Given.CallersDeclared
 pub use Rattle.papaya_sessions.specs.Given.CallsAnswers
 pub use Rattle.papaya_sessions.specs.Given.Closures
+pub use Rattle.papaya_sessions.specs.Given.Onlookers
 pub use Rattle.papaya_sessions.specs.Given.Swept
 pub use Rattle.papaya_sessions.specs.Given.ViewsDeclared
 pub use Rattle.papaya_sessions.specs.Homes as SessionsHomes

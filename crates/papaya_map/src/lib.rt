@@ -8,8 +8,10 @@ mod shared;
 
 pub use builder::{Given, HashMapBuilder, Own};
 pub use map::HashMap;
-pub use map_tables::ResizeMode;
-pub use papaya_sessions::{Attempt, ComputedPair, HashMapRef, Operation, Pass, Session};
+pub use map_tables::{Equivalent, ResizeMode};
+pub use papaya_sessions::{
+    Attempt, ComputedPair, Form, HashMapRef, Onlooker, Operation, Pass, Registration, Session,
+};
 pub use seize::{Collector, IdSource};
 pub use seize_words::{Fault, Refused};
 pub use shared::SharedMap;

@@ -7,7 +7,7 @@ ghost use Rattle.papaya_sessions.specs.Given.CallersStanding.{known_by};
 
 use crate::shared::SharedMap;
 use map_tables::{Hashes, Node, Setting};
-use papaya_sessions::{OfMaps, Session, Sleepers};
+use papaya_sessions::{OfMaps, Registration, Session, Sleepers};
 use seize::Collector;
 use seize_blocks::{Home, Seat};
 use seize_words::Fault;
@@ -52,6 +52,16 @@ impl<K: Eq + Hash + Drop, V: Drop, S: Hashes<K>> HashMap<K, V, S> {
             seat: &self.seat,
             number: self.collector.number(),
         }
+    }
+
+    /// Takes a slot of the map, and opens no section of it yet: a thread that comes and goes may keep it. The faults are `Fault::SlotsUsedUp` and `Fault::Memory`.
+    pub fn register(&self) -> Result<Registration<'_, K, V, S>, Fault>
+        ensures memory { IfOk result (λ other. other.base.caller.blocks.now ≡ self.now.home.blocks) }
+        ensures map { IfOk result (λ other. other.base.caller.seat.view.map ≡ self.now.seat.view.map) }
+        ensures none { IfOk result (λ other. other.base.caller.seat.view.calls ≡ []) }
+        ensures number { IfOk result (λ other. other.number ≡ self.now.collector.number) }
+    {
+        self.shared().register()
     }
 
     /// Begins a session on the map, which may be sent to a thread, and from which others are made. The faults are `Fault::SlotsUsedUp` and `Fault::Memory`.

@@ -8,7 +8,9 @@ mod storing;
 mod updating;
 
 use map_tables::{Hashes, Node, Setting};
-use papaya_sessions::{OfMaps, Pass, Session, SessionBase as Base, Sleepers, newcomer};
+use papaya_sessions::{
+    OfMaps, Pass, Registration, Session, SessionBase as Base, Sleepers, newcomer,
+};
 use seize_blocks::{Blocks, Seat};
 use seize_words::Fault;
 use std::hash::{Hash, RandomState};
@@ -37,6 +39,18 @@ impl<'m, K: Eq + Hash + Drop, V: Drop, S: Hashes<K>> SharedMap<'m, K, V, S> {
         self.number
     }
 
+    /// Takes a slot, and opens no section of it yet. The faults are `Fault::SlotsUsedUp` and `Fault::Memory`.
+    pub fn register(&self) -> Result<Registration<'m, K, V, S>, Fault>
+        ensures memory { IfOk result (λ other. other.base.caller.blocks.now ≡ self.now.blocks.now) }
+        ensures map { IfOk result (λ other. other.base.caller.seat.view.map ≡ self.now.seat.now.view.map) }
+        ensures none { IfOk result (λ other. other.base.caller.seat.view.calls ≡ []) }
+        ensures number { IfOk result (λ other. other.number ≡ self.now.number) }
+    {
+        let seat = newcomer(self.blocks, self.seat);
+        let base = Base::of(self.blocks, self.sleepers, self.hasher, self.setting, seat);
+        Registration::begin(base, self.number)
+    }
+
     /// Begins a session on the map. The faults are `Fault::SlotsUsedUp` and `Fault::Memory`.
     pub fn session(&self) -> Result<Session<'m, K, V, S>, Fault>
         ensures memory { IfOk result (λ session. session.base.caller.blocks.now ≡ self.now.blocks.now) }
@@ -44,9 +58,8 @@ impl<'m, K: Eq + Hash + Drop, V: Drop, S: Hashes<K>> SharedMap<'m, K, V, S> {
         ensures none { IfOk result (λ session. session.base.caller.seat.view.calls ≡ []) }
         ensures number { IfOk result (λ session. session.number ≡ self.now.number) }
     {
-        let seat = newcomer(self.blocks, self.seat);
-        let base = Base::of(self.blocks, self.sleepers, self.hasher, self.setting, seat);
-        Session::begin(base, self.number)
+        let registration = self.register()?;
+        Ok(registration.enter())
     }
 
     /// Makes a pass of the map, which may be sent to a thread: by it keys are looked up under any session of the map.

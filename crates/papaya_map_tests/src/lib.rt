@@ -10,6 +10,8 @@
 #[cfg(test)]
 mod counting;
 #[cfg(test)]
+mod forms;
+#[cfg(test)]
 mod removing;
 #[cfg(test)]
 mod storing;

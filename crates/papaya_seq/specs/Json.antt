@@ -22,7 +22,7 @@ module _ {K V : Type 0} (key_in : K → Type 0) (text : K → List ℕ) (value_i
   -- The last member stands for this pair; where there is no member, this is so of it.
   abbrev pub IsLastOf : (Option (K × V) → Type 0) → Members → Option (K × V) → Type 0
   IsLastOf Else no_members met = Else met
-  IsLastOf Else (member name d ms) met = IsLastOf (λ o. (x : K × V) × (o ≡ Some x) × IsPairOf name d x) ms met
+  IsLastOf Else (member name d ms) met = IsLastOf (λ o. (x : K × V) × (o ≡ Some x) × IsPairOf key_in text value_in value name d x) ms met
 
   -- of a map that was read: nothing was taken out of it, and the pair of the object's last member was put there last, or none where it has no member
   abbrev pub LastIsOf : {S : Type 0} → Data → Map K V S → Type 0
@@ -30,7 +30,7 @@ module _ {K V : Type 0} (key_in : K → Type 0) (text : K → List ℕ) (value_i
 
   -- Why a value was not read as a map: it is no object; or it is one, and this is its first fault, or memory, or the length of a table, was refused.
   abbrev pub IsUnread : JsonFault → Data → Type 0
-  IsUnread why d = ((why ≡ NotAnObject) × (as_object d ≡ None)) ⊎ ((ms : Members) × (d ≡ object ms) × (FirstFault why ms ⊎ IsRefusal why))
+  IsUnread why d = ((why ≡ NotAnObject) × (as_object d ≡ None)) ⊎ ((ms : Members) × (d ≡ object ms) × (FirstFault key_in text value_in value why ms ⊎ IsRefusal why))
 
 -- What a map is written as, and what is read of a value as one.
 module _ {K V : Type 0} (key_in : K → Type 0) (text : K → List ℕ) (value_in : V → Type 0) (value : V → Data) where

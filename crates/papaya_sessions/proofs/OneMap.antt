@@ -7,12 +7,14 @@ use Rattle.map_tables.specs.declared.node.Node.{Node}
 use Rattle.papaya_sessions.specs.OneMap.{MapCameToHave, MapCounted, MapGaveUp, MapHad, MapHadOne, MapHadRoom, MapLacked, MapLookedEmpty, MapWasCleared, MapWasShown, MapWasSifted, WasRefused}
 use Rattle.papaya_sessions.specs.Sessions.{HasGot}
 use Rattle.papaya_sessions.specs.declared.session.Session.{Session}
-use Rattle.play_moves.proofs.OneHistory.Calls.{found_none, found_value, has_inserted, has_looked, has_missed, has_refused, has_removed, has_tried}
+use Rattle.play_moves.proofs.OneHistory.Calls.{found_none, found_value, has_inserted, has_looked, has_missed, has_one, has_refused, has_removed, has_removed_pair, has_tried}
 use Rattle.play_moves.proofs.OneHistory.Whole.{has_cleared, has_counted, has_made_room, has_retained, has_walked}
-use Rattle.play_moves.specs.OneHistory.Calls.{HasInserted, HasLooked, HasRemoved as HasGivenUp, HasTried as HasLacked}
+use Rattle.play_moves.specs.OneHistory.Calls.{HasInserted, HasLooked, HasOne, HasRemoved as HasGivenUp, HasRemovedPair, HasTried as HasLacked}
 use Rattle.play_moves.specs.Given.ActsActs.{ContainsKey, Count, Get, GoOver, Insert, MakeRoom, Remove, TryToInsert, Wanted}
 use Rattle.play_moves.specs.Given.ErrandsCalling.{is_put, outcome_of}
 use Rattle.play_moves.specs.Given.ErrandsLooking.{HasRun, found_of}
+use Rattle.play_moves.specs.Given.RawDeclared.machines.answer.KeyAnswer.TheVariants as says
+use Rattle.play_moves.specs.Given.RawDeclared.machines.progress.Answer.{Answer}
 use Rattle.play_moves.specs.Given.RawDeclared.machines.progress.Answer.TheVariants as said
 use Rattle.play_moves.specs.Given.RawDeclared.machines.progress.Progress.{Progress}
 use Rattle.papaya_raw.specs.Given.ReservesDeclared.sweep.Purpose.{Purpose}
@@ -21,13 +23,20 @@ use Rattle.play_moves.specs.Given.ViewsDeclared.view.BegunCall.{BegunCall}
 use Rattle.play_moves.specs.Given.ViewsDeclared.view.View.{View}
 use Rattle.play_moves.specs.Given.ViewsRule.{section_of}
 use Rattle.seize_words.specs.declared.fault.Fault.{Fault}
-use Rattle.threads_updates.specs.Given.CallsAnswers.{HasFoundEmpty, HasMeasured, HasRemoved, HasReserved, HasStored, HasSweptAll, HasTried, clears, is_removed, is_replaced}
+use Rattle.seize_words.proofs.General.{same_some}
+use Rattle.threads_updates.specs.Given.CallsAnswers.{HasFoundEmpty, HasMeasured, HasOneThere, HasRemoved, HasReserved, HasStored, HasSweptAll, HasTakenOut, HasTried, clears, is_removed, is_replaced, removed_by}
 use Rattle.threads_updates.specs.Given.CallersDeclared.caller.MapCaller.{MapCaller}
+use Rattle.threads_updates.specs.Given.CallsShown.{IsPairLent}
 use Rattle.threads_updates.specs.Given.SeizeViewsDeclared.view.Fixed.{Fixed}
 use Rattle.threads_updates.specs.Given.SeizeViewsDeclared.view.Has.TheVariants.{Nothing}
 use Rattle.threads_updates.specs.Given.SeizeViewsDeclared.view.SlotView.TheVariants.{Inside}
 use Rattle.threads_updates.specs.Given.CallsDeclared.session.SessionBase.{SessionBase}
 use Rattle.threads_sweeps.specs.Swept.{HasGone, HasShown, HasSifted, retains, walks}
+
+-- an answer that names a removed pair tells nothing else
+removed_one : (answer : Answer) (word : ℕ) → removed_by answer ≡ Some word → answer ≡ said.Key (says.Removed word)
+removed_one (said.Key (says.Removed one)) word is = ap (λ (x : ℕ). said.Key (says.Removed x)) (same_some one word is)
+removed_one _ word is = absurd (cc is)
 
 -- a session that makes a call, and what it is then
 module _ {K V S : Type 0} {h : hashing.Ghosts K} (same : K → K → Bool) (hash : S → K → ℕ) (x : Session K V S h) (y : SessionBase K V S) (inside : y.caller.seat.view.slot ≡ Inside y.slot Nothing)
@@ -104,6 +113,19 @@ module _ {K V S : Type 0} {h : hashing.Ghosts K} (same : K → K → Bool) (hash
         (has_removed same hash fixed small n.seat.id run.1 w run.0 (begun (Remove key) (outcome_of (Ok answer)) run) v.calls (stays ∙ run.2) (section run.1 run.3) run.4 key answer refl refl is_removed
         (λ word. refl) refl),
   )
+
+  -- it is just the pair that is lent that was removed, or that is there
+  pub gave_up_pair : (key : K) (word : ℕ) (stored : K) (value : V) → HasTakenOut same hash key (Some word) v w → IsPairLent same hash n word (stored, value)
+      → HasRemovedPair same hash fixed n.seat.id w key (stored, value)
+  gave_up_pair key word stored value (answer, run, names) lent =
+      has_removed_pair same hash fixed small n.seat.id run.1 w run.0 (begun (Remove key) (outcome_of (Ok answer)) run) v.calls (stays ∙ run.2) (section run.1 run.3) run.4 key word stored value refl
+      (ap (λ (a : Answer). outcome_of {T = Node K V} (Ok a)) (removed_one answer word names)) lent.0
+
+  pub one_there : (key : K) (value : V) (word : ℕ) (stored : K) (its : V) → HasOneThere same hash key value word v w → IsPairLent same hash n word (stored, its)
+      → HasOne same hash fixed n.seat.id w key value its
+  one_there key value word stored its (answer, run, names) lent =
+      has_one same hash fixed small n.seat.id run.1 w run.0 (begun (TryToInsert key value) (outcome_of (Ok answer)) run) v.calls (stays ∙ run.2) (section run.1 run.3) run.4 key value answer word stored its
+      refl refl names lent.0
 
   pub not_stored : (key : K) (value : V) (fault : Fault) → HasRun same hash (Insert key value) (outcome_of (Err fault)) v w → WasRefused same hash (Insert key value) fault c n
   not_stored key value fault run = (

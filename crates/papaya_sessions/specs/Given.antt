@@ -4,6 +4,7 @@ pub use Rattle.play_moves.specs.Given.ViewsDeclared
 pub use Rattle.threads_sweeps.specs.Closures
 pub use Rattle.threads_sweeps.specs.Given.CallersStanding
 pub use Rattle.threads_sweeps.specs.Given.SeizeCallersKept
+pub use Rattle.threads_sweeps.specs.Onlookers
 pub use Rattle.threads_sweeps.specs.Swept
 pub use Rattle.threads_updates.specs.Deciding as UpdatesDeciding
 pub use Rattle.threads_updates.specs.Given.CallersDeclared

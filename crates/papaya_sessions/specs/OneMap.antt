@@ -1,6 +1,6 @@
 -- What a session has done by one call more, and that its answer is so in one finite map, at a moment of that call: by the caller that it was, and the one that it is.
 use Rattle.std.specs.Prelude.{◌≡◌, ◌==◌, ℕ, Bool, true, false, Option, Some, None, Ok}
-use Rattle.play_moves.specs.OneHistory.Calls.{FoundNone, FoundValue, HasInserted, HasLooked, HasRefused, HasRemoved as HasGivenUp, HasTried as HasLacked}
+use Rattle.play_moves.specs.OneHistory.Calls.{FoundNone, FoundValue, HasInserted, HasLooked, HasOne, HasRefused, HasRemoved as HasGivenUp, HasRemovedPair, HasTried as HasLacked}
 use Rattle.play_moves.specs.OneHistory.Whole.{HasCleared, HasCounted, HasMadeRoom, HasRetained, HasWalked}
 use Rattle.play_moves.specs.Given.ActsActs.{Wanted}
 use Rattle.papaya_sessions.specs.Sessions.{HasBeenRefused, HasGot, HasSought}
@@ -34,16 +34,18 @@ module _ {K V S : Type 0} (same : K → K → Bool) (hash : S → K → ℕ) whe
   abbrev pub MapGaveUp : K → Bool → MapCaller K V S → MapCaller K V S → Type 0
   MapGaveUp key removed c n = HasRemoved same hash key removed c.seat.view n.seat.view × HasGivenUp same hash n.blocks.now.words.fixed n.seat.id n.seat.view key removed
 
-  -- and it lends that pair, which its call names as the one that was removed
+  -- and it lends that pair, which its call names as the one that was removed, and which its map had under the number that it gave up
   abbrev pub MapGaveUpPair : K → Option (K × V) → MapCaller K V S → MapCaller K V S → Type 0
   MapGaveUpPair key None c n = MapGaveUp key false c n
   MapGaveUpPair key (Some pair) c n =
-      MapGaveUp key true c n × (word : ℕ) × HasTakenOut same hash key (Some word) c.seat.view n.seat.view × IsPairLent same hash n word pair
+      MapGaveUp key true c n × HasRemovedPair same hash n.blocks.now.words.fixed n.seat.id n.seat.view key pair
+      × (word : ℕ) × HasTakenOut same hash key (Some word) c.seat.view n.seat.view × IsPairLent same hash n word pair
 
-  -- it has tried to store this pair, and lends the value of the pair that its call names as the one that is there then
+  -- it has tried to store this pair, and lends the value of the pair that its call names as the one that is there then, as its map had it
   abbrev pub MapHasOne : K → V → V → MapCaller K V S → MapCaller K V S → Type 0
   MapHasOne key value lent c n =
-      ((stored : Bool) × MapLacked key value stored c n) × (word : ℕ) × HasOneThere same hash key value word c.seat.view n.seat.view
+      ((stored : Bool) × MapLacked key value stored c n) × HasOne same hash n.blocks.now.words.fixed n.seat.id n.seat.view key value lent
+      × (word : ℕ) × HasOneThere same hash key value word c.seat.view n.seat.view
       × (found : K) × IsPairLent same hash n word (found, lent)
 
   -- or it was to do this, and was refused so

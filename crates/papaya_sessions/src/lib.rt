@@ -2,11 +2,14 @@
 #![tactic(auto)]
 
 mod pass;
+mod registration;
 mod session;
 
 pub use pass::{HashMapRef, Pass};
+pub use registration::Registration;
 pub use seize_words::Operation;
 pub use session::Session;
+pub use threads_sweeps::Onlooker;
 pub use threads_updates::{
-    Attempt, ComputedPair, Fixed, OfMaps, SessionBase, Sleepers, memory_for, newcomer,
+    Attempt, ComputedPair, Fixed, Form, OfMaps, SessionBase, Sleepers, memory_for, newcomer,
 };

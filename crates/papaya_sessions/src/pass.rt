@@ -9,7 +9,7 @@ use map_tables::Hashes;
 use seize_words::Fault;
 use std::hash::{Hash, RandomState};
 use std::sync::Wait;
-use threads_updates::{MapPassSeat as Seat, SessionBase as Base};
+use threads_updates::{Form, MapPassSeat as Seat, SessionBase as Base};
 
 /// A pass of a map. It holds no slot, and rests between two calls; it may go to another thread, and outlive the sessions that it was under.
 #[derive(Drop)]
@@ -70,10 +70,10 @@ impl<'m, K: Eq + Hash + Drop, V: Drop, S: Hashes<K>> Session<'m, K, V, S> {
 
     /// Looks a key up by a pass, and lends its pair, if the map has one, for as long as the session is borrowed, whatever the pass does then, and whoever replaces or
     /// removes the pair meanwhile. How many steps that takes is up to the others. A pass of another map is `Fault::ForeignGuard`, and it is as it was.
-    pub fn get_key_value_by<'g, R: Wait>(
+    pub fn get_key_value_by<'g, R: Wait, Q: Form<K, S>>(
         &'g self,
         rt: &R,
-        key: &K,
+        key: &Q,
         pass: &mut Pass<K, V, S>,
     ) -> Result<Option<(&'g K, &'g V)>, Fault>
         requires source { OneSource pass.old.number pass.old.base.seat.base (home_of self.now.number self.now.base.caller) }
@@ -81,7 +81,7 @@ impl<'m, K: Eq + Hash + Drop, V: Drop, S: Hashes<K>> Session<'m, K, V, S> {
         ensures number { pass.new.number ≡ pass.old.number }
         ensures foreign { IfErr result (λ fault. (fault ≡ ForeignGuard) × (pass.old.number ≢ self.now.number) × (pass.new ≡ pass.old)) }
         ensures own { IfOk result (λ _. pass.old.number ≡ self.now.number) }
-        ensures got { IfOk result (λ found. HasGotPairUnder K.eq S.hash key.now self.now.base.caller (option_map (λ pair. (pair.0.now, pair.1.now)) found)
+        ensures got { IfOk result (λ found. HasGotPairUnder K.eq S.hash (Q.stands_for key.now) self.now.base.caller (option_map (λ pair. (pair.0.now, pair.1.now)) found)
             pass.old.base.seat.view pass.new.base.seat.view) }
     {
         if pass.number() != self.number {
@@ -91,10 +91,10 @@ impl<'m, K: Eq + Hash + Drop, V: Drop, S: Hashes<K>> Session<'m, K, V, S> {
     }
 
     /// Looks a key up as `get_key_value_by` does, and lends the value of its pair, if the map has one.
-    pub fn get_by<'g, R: Wait>(
+    pub fn get_by<'g, R: Wait, Q: Form<K, S>>(
         &'g self,
         rt: &R,
-        key: &K,
+        key: &Q,
         pass: &mut Pass<K, V, S>,
     ) -> Result<Option<&'g V>, Fault>
         requires source { OneSource pass.old.number pass.old.base.seat.base (home_of self.now.number self.now.base.caller) }
@@ -102,7 +102,7 @@ impl<'m, K: Eq + Hash + Drop, V: Drop, S: Hashes<K>> Session<'m, K, V, S> {
         ensures number { pass.new.number ≡ pass.old.number }
         ensures foreign { IfErr result (λ fault. (fault ≡ ForeignGuard) × (pass.old.number ≢ self.now.number) × (pass.new ≡ pass.old)) }
         ensures own { IfOk result (λ _. pass.old.number ≡ self.now.number) }
-        ensures got { IfOk result (λ found. HasGotUnder K.eq S.hash key.now self.now.base.caller (option_map (λ value. value.now) found)
+        ensures got { IfOk result (λ found. HasGotUnder K.eq S.hash (Q.stands_for key.now) self.now.base.caller (option_map (λ value. value.now) found)
             pass.old.base.seat.view pass.new.base.seat.view) }
     {
         let found = self.get_key_value_by(rt, key, pass)?;
@@ -110,10 +110,10 @@ impl<'m, K: Eq + Hash + Drop, V: Drop, S: Hashes<K>> Session<'m, K, V, S> {
     }
 
     /// Returns whether the map has a pair of this key, by a pass. A pass of another map is `Fault::ForeignGuard`, and it is as it was.
-    pub fn contains_key_by<R: Wait>(
+    pub fn contains_key_by<R: Wait, Q: Form<K, S>>(
         &self,
         rt: &R,
-        key: &K,
+        key: &Q,
         pass: &mut Pass<K, V, S>,
     ) -> Result<bool, Fault>
         requires source { OneSource pass.old.number pass.old.base.seat.base (home_of self.now.number self.now.base.caller) }
@@ -121,7 +121,7 @@ impl<'m, K: Eq + Hash + Drop, V: Drop, S: Hashes<K>> Session<'m, K, V, S> {
         ensures number { pass.new.number ≡ pass.old.number }
         ensures foreign { IfErr result (λ fault. (fault ≡ ForeignGuard) × (pass.old.number ≢ self.now.number) × (pass.new ≡ pass.old)) }
         ensures own { IfOk result (λ _. pass.old.number ≡ self.now.number) }
-        ensures sought { IfOk result (λ there. HasSoughtUnder K.eq S.hash key.now self.now.base.caller there pass.old.base.seat.view pass.new.base.seat.view) }
+        ensures sought { IfOk result (λ there. HasSoughtUnder K.eq S.hash (Q.stands_for key.now) self.now.base.caller there pass.old.base.seat.view pass.new.base.seat.view) }
     {
         let found = self.get_key_value_by(rt, key, pass)?;
         Ok(found.is_some())
@@ -142,9 +142,13 @@ impl<'m, K: Eq + Hash + Drop, V: Drop, S: Hashes<K>> Session<'m, K, V, S> {
 impl<'g, 'm, K: Eq + Hash + Drop, V: Drop, S: Hashes<K>> HashMapRef<'g, 'm, K, V, S> {
     /// Looks a key up, and lends its pair, if the map has one, for as long as the session is lent, whoever replaces or removes the pair meanwhile. How many steps that takes
     /// is up to the others.
-    pub fn get_key_value<R: Wait>(&mut self, rt: &R, key: &K) -> Option<(&'g K, &'g V)>
+    pub fn get_key_value<R: Wait, Q: Form<K, S>>(
+        &mut self,
+        rt: &R,
+        key: &Q,
+    ) -> Option<(&'g K, &'g V)>
         ensures session { self.new.session ≡ self.old.session }
-        ensures got { HasGotPairUnder K.eq S.hash key.now self.old.session.now.base.caller (option_map (λ pair. (pair.0.now, pair.1.now)) result)
+        ensures got { HasGotPairUnder K.eq S.hash (Q.stands_for key.now) self.old.session.now.base.caller (option_map (λ pair. (pair.0.now, pair.1.now)) result)
             self.old.pass.base.seat.view self.new.pass.base.seat.view }
     {
         let session = self.session;
@@ -152,9 +156,9 @@ impl<'g, 'm, K: Eq + Hash + Drop, V: Drop, S: Hashes<K>> HashMapRef<'g, 'm, K, V
     }
 
     /// Looks a key up as `get_key_value` does, and lends the value of its pair, if the map has one.
-    pub fn get<R: Wait>(&mut self, rt: &R, key: &K) -> Option<&'g V>
+    pub fn get<R: Wait, Q: Form<K, S>>(&mut self, rt: &R, key: &Q) -> Option<&'g V>
         ensures session { self.new.session ≡ self.old.session }
-        ensures got { HasGotUnder K.eq S.hash key.now self.old.session.now.base.caller (option_map (λ value. value.now) result)
+        ensures got { HasGotUnder K.eq S.hash (Q.stands_for key.now) self.old.session.now.base.caller (option_map (λ value. value.now) result)
             self.old.pass.base.seat.view self.new.pass.base.seat.view }
     {
         let found = self.get_key_value(rt, key);
@@ -162,9 +166,9 @@ impl<'g, 'm, K: Eq + Hash + Drop, V: Drop, S: Hashes<K>> HashMapRef<'g, 'm, K, V
     }
 
     /// Returns whether the map has a pair of this key.
-    pub fn contains_key<R: Wait>(&mut self, rt: &R, key: &K) -> bool
+    pub fn contains_key<R: Wait, Q: Form<K, S>>(&mut self, rt: &R, key: &Q) -> bool
         ensures session { self.new.session ≡ self.old.session }
-        ensures sought { HasSoughtUnder K.eq S.hash key.now self.old.session.now.base.caller result self.old.pass.base.seat.view self.new.pass.base.seat.view }
+        ensures sought { HasSoughtUnder K.eq S.hash (Q.stands_for key.now) self.old.session.now.base.caller result self.old.pass.base.seat.view self.new.pass.base.seat.view }
     {
         let found = self.get_key_value(rt, key);
         found.is_some()

@@ -13,16 +13,19 @@ ghost use Rattle.threads_updates.specs.Given.SeizeViewsDeclared.view.Has.TheVari
 ghost use Rattle.threads_updates.specs.Given.SeizeViewsDeclared.view.SlotView.TheVariants.{Inside, Rests};
 ghost use Rattle.threads_updates.specs.Given.StepsAsking.{HasAsked, MakingSays, MayTest, TestSays};
 ghost use Rattle.threads_sweeps.specs.Closures.{HasHeeded, HasShownEach};
+ghost use Rattle.threads_sweeps.specs.Onlookers.{HasBeenShown};
 ghost use Rattle.threads_sweeps.specs.Swept.{retains, walks};
 
 mod lends;
 mod updates;
 
+use crate::registration::Registration;
 use map_tables::Hashes;
 use seize_words::{Fault, Refused};
 use std::hash::{Hash, RandomState};
 use std::sync::Wait;
-use threads_updates::{Attempt, SessionBase as Base};
+use threads_sweeps::Onlooker;
+use threads_updates::{Attempt, Form, SessionBase as Base};
 
 /// A map, as one of those has it who share it. It may be sent to a thread, and holds a slot, within a section that is open from its beginning to its end: what its calls have
 /// found isn't given back as long as the answer is borrowed. As long as it neither ends nor is refreshed, nothing that was removed or replaced meanwhile is reclaimed,
@@ -45,10 +48,8 @@ impl<'m, K: Eq + Hash + Drop, V: Drop, S: Hashes<K>> Session<'m, K, V, S> {
         ensures same { IfOk result (λ session. HasMadeNone base.entry.caller session.base.caller) }
         ensures number { IfOk result (λ session. session.number ≡ number) }
     {
-        let mut base = base;
-        base.register()?;
-        base.enter();
-        Ok(Session { base, number })
+        let registration = Registration::begin(base, number)?;
+        Ok(registration.enter())
     }
 
     /// Returns the number of its map's collector.
@@ -78,11 +79,22 @@ impl<'m, K: Eq + Hash + Drop, V: Drop, S: Hashes<K>> Session<'m, K, V, S> {
         self.base.enter();
     }
 
+    /// Ends its section, and keeps its slot: what it was lent before, and what was replaced or removed meanwhile, is kept from nobody any more.
+    pub fn leave(self) -> Registration<'m, K, V, S>
+        ensures same { HasMadeNone self.entry.base.caller result.base.caller }
+        ensures number { result.number ≡ self.entry.number }
+    {
+        let Session { base, number } = self;
+        let mut base = base;
+        base.leave();
+        Registration { base, number }
+    }
+
     /// Looks a key up, and lends the value of its pair, if the map has one, for as long as the session is borrowed, whoever replaces or removes it meanwhile. How many
     /// steps that takes is up to the others.
-    pub fn get<R: Wait>(&mut self, rt: &R, key: &K) -> Option<&V>
+    pub fn get<R: Wait, Q: Form<K, S>>(&mut self, rt: &R, key: &Q) -> Option<&V>
         ensures* got { sem 𝓛 (EndsSo K.row V.row S.row K.PartialEq S.Hashes self.entry (λ now. KeepsMap self.old now
-            × MapHad K.eq S.hash key.now (option_map (λ value. value.now) result) self.old.base.caller now.base.caller)) }
+            × MapHad K.eq S.hash (Q.stands_for key.now) (option_map (λ value. value.now) result) self.old.base.caller now.base.caller)) }
     {
         match self.base.find(rt, key) {
             Some(found) => Some(self.base.value(found)),
@@ -91,9 +103,9 @@ impl<'m, K: Eq + Hash + Drop, V: Drop, S: Hashes<K>> Session<'m, K, V, S> {
     }
 
     /// Returns whether the map has a pair of this key.
-    pub fn contains_key<R: Wait>(&mut self, rt: &R, key: &K) -> bool
+    pub fn contains_key<R: Wait, Q: Form<K, S>>(&mut self, rt: &R, key: &Q) -> bool
         ensures keeps { KeepsMap self.old self.new }
-        ensures sought { MapHadOne K.eq S.hash key.now result self.old.base.caller self.new.base.caller }
+        ensures sought { MapHadOne K.eq S.hash (Q.stands_for key.now) result self.old.base.caller self.new.base.caller }
     {
         self.base.contains_key(rt, key)
     }
@@ -247,6 +259,22 @@ impl<'m, K: Eq + Hash + Drop, V: Drop, S: Hashes<K>> Session<'m, K, V, S> {
         ensures refused { IfErr result (λ fault. WasRefused K.eq S.hash walks fault self.old.base.caller self.new.base.caller) }
     {
         threads_sweeps::each(&mut self.base, rt, each)
+    }
+
+    /// Shows the pairs of the map to an onlooker, as `each` shows them to a closure, and hands it back, beside how the walk has ended. The faults are `Fault::Capacity` and
+    /// `Fault::Memory`, of a table that this needs first; some pairs may have been shown then.
+    pub fn shows_to<R: Wait, T: Onlooker<K, V>>(
+        &mut self,
+        rt: &R,
+        onlooker: T,
+    ) -> (Result<(), Fault>, T)
+        requires may { T.may_see onlooker }
+        ensures keeps { KeepsMap self.old self.new }
+        ensures shown { IfOk result.0 (λ _. MapWasShown K.eq S.hash self.old.base.caller self.new.base.caller) }
+        ensures told { HasBeenShown K.eq S.hash T.has_seen onlooker result.1 self.old.base.caller.seat.view self.new.base.caller.seat.view }
+        ensures refused { IfErr result.0 (λ fault. WasRefused K.eq S.hash walks fault self.old.base.caller self.new.base.caller) }
+    {
+        threads_sweeps::shows_to(&mut self.base, rt, onlooker)
     }
 
     /// Removes the pairs about which a closure says that they are not to be kept. Each pair that is there from the beginning of the call to its end is asked about, and it may be

@@ -1,11 +1,10 @@
 //! One thread goes over the pairs of a map while another one changes it.
 use crate::whole::{Hashing, LOOKS, Own, stores};
-use papaya_map::{Fault, HashMap, IdSource};
+use papaya_map::{Fault, HashMap, IdSource, Onlooker};
 use std::alloc::Global;
 use std::sync::Wait;
 use std::test::Fail;
-use std::thread;
-use std::thread::Threads;
+use std::thread::{self, Threads};
 use std::time::{Clock, Duration};
 
 /// How many keys stay.
@@ -16,8 +15,7 @@ const MORE: u64 = 100;
 
 /// How many of the keys that stay a walk shows, and how many others.
 fn seen<R: Wait>(rt: &R, session: &mut Own<'_>) -> Result<(u64, u64), Fault> {
-    let mut staying = 0u64;
-    let mut others = 0u64;
+    let (mut staying, mut others) = (0u64, 0u64);
     session.each(rt, |key, value| {
         if *key < STAY && u64::wrapping_mul(*key, 2) == *value {
             staying = u64::wrapping_add(staying, 1);
@@ -26,6 +24,22 @@ fn seen<R: Wait>(rt: &R, session: &mut Own<'_>) -> Result<(u64, u64), Fault> {
         }
     })?;
     Ok((staying, others))
+}
+
+/// An onlooker that counts what it is shown.
+#[derive(Drop)]
+struct Counts {
+    pairs: u64,
+}
+
+impl Onlooker<u64, u64> for Counts {
+    ghost may_see = { λ counts. Unit {0} };
+
+    ghost has_seen = { λ counts key value n. Unit {0} };
+
+    fn sees(&mut self, _: &u64, _: &u64) {
+        self.pairs = u64::wrapping_add(self.pairs, 1);
+    }
 }
 
 /// Goes over the pairs until it has seen others than those that stay. Answers whether it has, and each time all of those.
@@ -64,11 +78,11 @@ fn meets<R: Wait + Clock>(rt: &R, session: Own<'_>, mut other: Own<'_>) -> Resul
     Ok(met)
 }
 
-/// One thread stores further keys while another one goes over all. Answers what each has met, and how many keys are left that stayed, and that came.
+/// One thread stores further keys while another one goes over all. Answers what each has met, how many keys are left that stayed, and that came, and how many all are.
 fn sweeps<R: Threads + Wait + Clock + Sync>(
     rt: &R,
     alloc: Global,
-) -> Result<(bool, bool, (u64, u64)), Fault> {
+) -> Result<(bool, bool, (u64, u64), u64), Fault> {
     let mut ids = IdSource::new();
     let map = HashMap::with_hasher(alloc, &mut ids, Hashing::default())?;
     let mut first = map.session()?;
@@ -77,13 +91,16 @@ fn sweeps<R: Threads + Wait + Clock + Sync>(
     let fourth = first.another()?;
     stores(rt, &mut first, 0, STAY)?;
     let (came, met) = thread::join(rt, || comes(rt, second), || meets(rt, third, fourth));
-    Ok((came?, met?, seen(rt, &mut first)?))
+    let left = seen(rt, &mut first)?;
+    let (end, counts) = first.shows_to(rt, Counts { pairs: 0 });
+    end?;
+    Ok((came?, met?, left, counts.pairs))
 }
 
 // The one waits until a key is gone that the other one removes once it has met a further key: were they served one after another, one of them would wait in vain. Each walk shows
 // all keys that stay, whatever comes meanwhile.
 #[test]
 fn a_walk_shows_what_stays_and_meets_what_comes(rt: HostRuntime) -> Result<(), Fail> {
-    assert_eq!(rt; sweeps(&rt, rt.alloc())?, (true, true, (0, MORE)));
+    assert_eq!(rt; sweeps(&rt, rt.alloc())?, (true, true, (0, MORE), MORE));
     Ok(())
 }

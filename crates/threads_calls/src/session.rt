@@ -17,6 +17,7 @@ mod seats;
 mod sends;
 mod whole;
 
+use crate::form::Form;
 use map_machines::{Lookup, NewMap};
 use map_tables::{Counter, Hashes, Node, ResizeMode, Setting};
 use papaya_raw::machines::There;
@@ -155,17 +156,17 @@ impl<'a, K: Eq + Drop, V: Drop, S: Hashes<K>> SessionBase<'a, K, V, S> {
 impl<'a, K: Eq + Hash, V, S: Hashes<K>> SessionBase<'a, K, V, S> {
     /// Looks a key up within the section of its slot, and answers its pair, if the map has one. The pair is there until the session takes its next step, whoever replaces or
     /// removes it meanwhile.
-    pub fn find<R: Wait>(&mut self, rt: &R, key: &K) -> Option<Found>
+    pub fn find<R: Wait, Q: Form<K, S>>(&mut self, rt: &R, key: &Q) -> Option<Found>
         requires inside { self.old.caller.seat.view.slot ≡ Inside self.old.slot Nothing }
         ensures inside { self.new.caller.seat.view.slot ≡ Inside self.new.slot Nothing }
         ensures slot { self.new.slot ≡ self.old.slot }
-        ensures shown { IfSome result (λ found. IsShown K.eq key.now self.new.caller found.word) }
-        ensures found { IfSome result (λ found. HasRun K.eq S.hash (Get key.now) (found_of (Some found.word)) self.old.caller.seat.view self.new.caller.seat.view) }
-        ensures absent { IfNone result (HasRun K.eq S.hash (Get key.now) (found_of None) self.old.caller.seat.view self.new.caller.seat.view) }
+        ensures shown { IfSome result (λ found. IsShown K.eq (Q.stands_for key.now) self.new.caller found.word) }
+        ensures found { IfSome result (λ found. HasRun K.eq S.hash (Get (Q.stands_for key.now)) (found_of (Some found.word)) self.old.caller.seat.view self.new.caller.seat.view) }
+        ensures absent { IfNone result (HasRun K.eq S.hash (Get (Q.stands_for key.now)) (found_of None) self.old.caller.seat.view self.new.caller.seat.view) }
         ensures map { self.new.caller.seat.view.map ≡ self.old.caller.seat.view.map }
         ensures blocks { self.new.caller.blocks ≡ self.old.caller.blocks }
     {
-        let hash = self.hasher.hash_of(key);
+        let hash = key.hash_by(self.hasher);
         let lookup = Lookup::new(self.setting.root, self.setting.mode, hash);
         let word = self.caller.finds(rt, lookup, key)?;
         Some(Found { word })

@@ -18,7 +18,7 @@ use crate::removing::removes;
 use crate::storing::stores;
 use map_machines::{Lookup, NewMap};
 use map_straight::Sight;
-use map_tables::{Hashes, Node, Setting};
+use map_tables::{Equivalent, Hashes, Node, Setting};
 use papaya_raw::machines::{Answer, Machine, There};
 use seize_blocks::{Blocks, Errand, Seat};
 use seize_words::Fault;
@@ -53,18 +53,19 @@ impl<'h, K: Eq + Drop, V: Drop, S: Hashes<K>> Errand<Node<K, V>, OfMaps<S>> for 
 
 /// Looks a key up, by this lookup.
 #[derive(Drop)]
-pub struct Finds<'f, R, K> {
+pub struct Finds<'f, R, Q> {
     pub rt: &'f R,
-    pub key: &'f K,
+    pub key: &'f Q,
     pub lookup: Lookup,
 }
 
-impl<'f, R: Wait, K: Eq + Hash, V, S: Hashes<K>> Errand<Node<K, V>, OfMaps<S>> for Finds<'f, R, K> {
+impl<'f, R: Wait, K: Eq + Hash, V, S: Hashes<K>, Q: Equivalent<K>> Errand<Node<K, V>, OfMaps<S>>
+    for Finds<'f, R, Q> {
     type Answer = Option<u64>;
 
-    ghost asks = { λ f fixed v. MayLook S.hash f.key.now f.lookup v };
+    ghost asks = { λ f fixed v. MayLook S.hash (Q.stands_for f.key.now) f.lookup v };
 
-    ghost did = { λ f fixed v answer w. HasFound K.eq S.hash f.key.now answer v w };
+    ghost did = { λ f fixed v answer w. HasFound K.eq S.hash (Q.stands_for f.key.now) answer v w };
 
     fn run(
         self,

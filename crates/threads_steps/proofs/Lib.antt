@@ -1,6 +1,7 @@
 pub mod Tellings
 mod Calls
 pub mod Calling
+mod Forms
 mod Lookups
 mod Makings
 pub mod Told

@@ -7,7 +7,7 @@ ghost use Rattle.map_machines.specs.Lookup.{looking};
 use crate::within::Within;
 use map_machines::{Looking, Lookup};
 use map_straight::Sight;
-use map_tables::{Hashes, Node, ResizeMode};
+use map_tables::{Equivalent, Hashes, Node, ResizeMode};
 use seize_blocks::{Blocks, Seat};
 use std::hash::Hash;
 use std::sync::Wait;
@@ -15,19 +15,19 @@ use threads_rule::OfMaps;
 
 /// Begins to look the key up in the map that the seat knows, within its section, and looks by straight code, as far as that goes.
 #[inline(always)]
-pub fn sees<K: Eq + Hash, V, S: Hashes<K>>(
+pub fn sees<K: Eq + Hash, V, S: Hashes<K>, Q: Equivalent<K>>(
     blocks: &Blocks<Node<K, V>, OfMaps<S>>,
     seat: &mut Seat<Node<K, V>, OfMaps<S>>,
     root: u64,
     mode: ResizeMode,
     hash: u64,
-    key: &K,
+    key: &Q,
 ) -> Sight
     requires own { seat.old.base ≡ blocks.now.words.id.views_name }
     requires away { seat.old.away ≢ None }
-    requires may { MayLook S.hash key.now (looking root mode hash) seat.old.view }
+    requires may { MayLook S.hash (Q.stands_for key.now) (looking root mode hash) seat.old.view }
     ensures same { (seat.new.base ≡ seat.old.base) × (seat.new.id ≡ seat.old.id) × (seat.new.away ≡ seat.old.away) }
-    ensures seen { HasSeen K.eq S.hash key.now root mode hash result seat.old.view seat.new.view }
+    ensures seen { HasSeen K.eq S.hash (Q.stands_for key.now) root mode hash result seat.old.view seat.new.view }
 {
     let mut within = Within::new(blocks, seat, 0);
     within.sees(root, mode, hash, key)
@@ -37,7 +37,7 @@ pub fn sees<K: Eq + Hash, V, S: Hashes<K>>(
 /// goes all the way nothing of the errand lies in memory.
 #[cold]
 #[inline(never)]
-pub fn goes_on<R: Wait, K: Eq + Hash, V, S: Hashes<K>>(
+pub fn goes_on<R: Wait, K: Eq + Hash, V, S: Hashes<K>, Q: Equivalent<K>>(
     rt: &R,
     blocks: &Blocks<Node<K, V>, OfMaps<S>>,
     seat: &mut Seat<Node<K, V>, OfMaps<S>>,
@@ -45,13 +45,13 @@ pub fn goes_on<R: Wait, K: Eq + Hash, V, S: Hashes<K>>(
     mode: ResizeMode,
     hash: u64,
     stands: Looking,
-    key: &K,
+    key: &Q,
 ) -> Option<u64>
     requires own { seat.old.base ≡ blocks.now.words.id.views_name }
     requires away { seat.old.away ≢ None }
-    requires looks { LooksFor key.now (looks root mode hash stands) seat.old.view }
+    requires looks { LooksFor (Q.stands_for key.now) (looks root mode hash stands) seat.old.view }
     ensures same { (seat.new.base ≡ seat.old.base) × (seat.new.id ≡ seat.old.id) × (seat.new.away ≡ seat.old.away) }
-    ensures looked { HasLooked K.eq key.now result seat.new.view }
+    ensures looked { HasLooked K.eq (Q.stands_for key.now) result seat.new.view }
     ensures told { HasProgressed (found_of result) seat.old.view seat.new.view }
     ensures stays { StaysThere seat.old.view seat.new.view }
 {

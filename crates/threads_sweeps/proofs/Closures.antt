@@ -17,7 +17,7 @@ use Rattle.threads_calls.specs.Given.ViewsDeclared.view.View.{View}
 use Rattle.threads_calls.specs.Given.ViewsDeclared.view.SeatWork.TheVariants.{Nothing}
 use Rattle.threads_calls.specs.Given.ErrandsCalling.{IsGoing, IsNoQuestion, outcome_of}
 use Rattle.threads_calls.specs.Given.ErrandsSweeping.{IsSweeping, RetainedSo, WalkedSo, swept_by}
-use Rattle.threads_sweeps.specs.Closures.{HeedsSo, ShowsSo, WasCalledWith}
+use Rattle.threads_sweeps.specs.Closures.{HeedsSo, WasCalledWith}
 use Rattle.threads_sweeps.specs.Heard.{IsOfSweep}
 
 -- the closure was called with what the seat shows
@@ -27,7 +27,7 @@ called_with g word v f p q answer next called shown = record { key = p; value = 
 
 module _ {T : Type 0} (P : Progress T → Type 0) where
   -- what is so of each step that goes on, and asks nothing,
-  where_it_goes : P progress.Goes → P progress.Waits → ((value : T) → P (progress.Gave value)) → ((value : T) → P (progress.Unstored value)) → (told : Progress T) → IsGoing told × IsNoQuestion told → P told
+  pub where_it_goes : P progress.Goes → P progress.Waits → ((value : T) → P (progress.Gave value)) → ((value : T) → P (progress.Unstored value)) → (told : Progress T) → IsGoing told × IsNoQuestion told → P told
   where_it_goes goes waits gave unstored progress.Goes is = goes
   where_it_goes goes waits gave unstored progress.Waits is = waits
   where_it_goes goes waits gave unstored (progress.Gave value) is = gave value
@@ -39,7 +39,7 @@ module _ {T : Type 0} (P : Progress T → Type 0) where
   where_it_goes goes waits gave unstored (progress.Refused fault) is = absurd is.0
 
   -- or of each by which a sweep ends
-  where_it_ends : P (progress.Done said.Swept) → ((fault : Fault) → P (progress.Refused fault)) → (told : Progress T) (end : Result Unit Fault) → told ≡ outcome_of (swept_by end) → P told
+  pub where_it_ends : P (progress.Done said.Swept) → ((fault : Fault) → P (progress.Refused fault)) → (told : Progress T) (end : Result Unit Fault) → told ≡ outcome_of (swept_by end) → P told
   where_it_ends swept refused told (Ok done) e = subst P (sym e) swept
   where_it_ends swept refused told (Err fault) e = subst P (sym e) (refused fault)
 
@@ -91,14 +91,6 @@ module _ {K V S : Type 0} (hasher : S) (machine : Machine K V K) (v : View K V S
 
   pub retaining_free : (told : Progress (Node K V)) (end : Result Unit Fault) → told ≡ outcome_of (swept_by end) → RetainedSo hasher machine told v → v.work ≡ Nothing
   retaining_free told end e = where_it_ends (λ (t : Progress (Node K V)). RetainedSo hasher machine t v → v.work ≡ Nothing) (λ so. so) (λ fault so. so) told end e
-
-module _ {F K V S : Type 0} (g : Mut F (Bor K × (Bor V × Unit {0})) (Unit {0})) (f : F) (v : View K V S) (told : Progress (Node K V)) where
-  -- nothing follows for the closure of a walk where that goes on, or has ended,
-  pub shows_none : IsGoing told × IsNoQuestion told → ShowsSo g told f v f v
-  shows_none goes = where_it_goes (λ (t : Progress (Node K V)). ShowsSo g t f v f v) (refl, refl) (refl, refl) (λ value. (refl, refl)) (λ value. (refl, refl)) told goes
-
-  pub shows_no_more : (end : Result Unit Fault) → told ≡ outcome_of (swept_by end) → ShowsSo g told f v f v
-  shows_no_more end e = where_it_ends (λ (t : Progress (Node K V)). ShowsSo g t f v f v) (refl, refl) (λ fault. (refl, refl)) told end e
 
 module _ {F K V S : Type 0} (g : Mut F (Bor K × (Bor V × Unit {0})) Bool) (f : F) (v : View K V S) (told : Progress (Node K V)) where
   -- or for that of a retaining

@@ -1,2 +1,3 @@
 mod Closures
 mod Gone
+pub mod Onlookers

@@ -25,6 +25,10 @@ pub record WasCalledWith {F A K V S : Type 0} (g : Mut F (Bor K × (Bor V × Uni
   pub shown : shown_in v.held (block_in word) ≡ Some (Pair key.now value.now)
   pub called : Called g f (key, (value, tt)) answer next
 
+-- it was called with this key and this value, and is so then
+abbrev pub CalledOn : {F K V : Type 0} → Mut F (Bor K × (Bor V × Unit {0})) (Unit {0}) → F → K → V → F → Type 0
+CalledOn {F} {K} {V} g f key value next = (p : Bor K) × (q : Bor V) × (p.now ≡ key) × (q.now ≡ value) × Called g f (p, (q, tt)) tt next
+
 module _ {K V S : Type 0} where
   -- the walk that is under way was asked for its next pair,
   abbrev pub WasAskedNext : View K V S → View K V S → Type 0

@@ -1,4 +1,5 @@
 pub mod Closures
 pub mod Heard
+pub mod Onlookers
 pub mod Swept
 pub mod Given

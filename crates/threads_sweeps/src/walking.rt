@@ -1,4 +1,4 @@
-//! A session goes over the pairs of its map, and shows each of them to a closure.
+//! A session goes over the pairs of its map, and shows each of them to an onlooker.
 ghost use Rattle.std.specs.Prelude.{◌≡◌, IfNone, IfSome};
 ghost use Rattle.map_tables.specs.declared.node.Node.{Node};
 ghost use Rattle.papaya_raw.specs.declared.machines.progress.Progress.{Progress};
@@ -10,12 +10,14 @@ ghost use Rattle.threads_calls.specs.Given.ViewsLooks.{shown_in};
 ghost use Rattle.papaya_raw.specs.Given.ReservesDeclared.sweep.Purpose.TheVariants.{Walks as ForWalk};
 ghost use Rattle.threads_calls.specs.Given.SeizeViewsDeclared.view.Has.TheVariants.{Nothing};
 ghost use Rattle.threads_calls.specs.Given.SeizeViewsDeclared.view.SlotView.TheVariants.{Inside};
-ghost use Rattle.threads_sweeps.specs.Closures.{HasShownEach, ShowsSo, WasAskedNext, WasCalledWith};
+ghost use Rattle.threads_sweeps.specs.Closures.{WasAskedNext};
+ghost use Rattle.threads_sweeps.specs.Onlookers.{HasShownTo, SeesSo, WasShown};
 ghost use Rattle.threads_sweeps.specs.Heard.{IsHeard};
 ghost use Rattle.threads_sweeps.specs.Swept.{HasGone};
 ghost use Rattle.threads_sweeps.specs.declared.hearing.Heard.TheVariants.{Ended};
 
 use crate::hearing::{Heard, hears};
+use crate::onlooker::Onlooker;
 use map_tables::{Hashes, Node};
 use papaya_raw::machines::{Machine, Sweep};
 use seize_blocks::{Blocks, Errand, Seat};
@@ -25,72 +27,72 @@ use std::sync::Wait;
 use threads_calls::{OfMaps, SessionBase, Sleepers, Waiter, Within};
 
 /// A walk over the pairs of a map.
-pub struct Walks<'w, R, K, V, S, F> {
+pub struct Walks<'w, R, K, V, S, T> {
     rt: &'w R,
     sleepers: &'w Sleepers,
     hasher: &'w S,
     machine: &'w mut Machine<K, V>,
     near: u64,
-    each: &'w mut F,
+    onlooker: T,
 }
 
 /// Shows the pair of a word.
-fn shows<K: Eq, V, S: Hashes<K>, F: FnMut(&K, &V)>(
+fn shows<K: Eq, V, S: Hashes<K>, T: Onlooker<K, V>>(
     within: &Within<'_, K, V, S>,
     word: u64,
-    each: &mut F,
+    onlooker: &mut T,
 )
-    requires callable { F.IsAlwaysCallable each.old }
+    requires may { T.may_see onlooker.old }
     requires shown { PairIsVisible (shown_in within.now.seat.now.view.held) word }
-    ensures called { WasCalledWith F.FnMut word within.now.seat.now.view each.old tt each.new }
-    ensures callable { F.IsAlwaysCallable each.new }
+    ensures seen { WasShown T.has_seen word within.now.seat.now.view onlooker.old onlooker.new }
+    ensures may { T.may_see onlooker.new }
 {
     match within.value(Link::block_of(word)) {
-        Node::Pair(key, value) => each(key, value),
+        Node::Pair(key, value) => onlooker.sees(key, value),
         Node::Table { .. } | Node::Shards => unreachable!(),
     }
 }
 
 /// Shows the pair of a word, and asks for the next one.
-fn shows_next<K: Eq + Hash + Drop, V: Drop, S: Hashes<K>, F: FnMut(&K, &V)>(
+fn shows_next<K: Eq + Hash + Drop, V: Drop, S: Hashes<K>, T: Onlooker<K, V>>(
     within: &mut Within<'_, K, V, S>,
     hasher: &S,
     machine: &mut Machine<K, V>,
     word: u64,
-    each: &mut F,
+    onlooker: &mut T,
 )
     requires ready { IsReady hasher.now machine.old within.old.seat.now.view }
     requires shown { PairIsVisible (shown_in within.old.seat.now.view.held) word }
-    requires callable { F.IsAlwaysCallable each.old }
+    requires may { T.may_see onlooker.old }
     ensures walks { IsSweeping ForWalk hasher.now machine.new within.new.seat.now.view }
-    ensures called { WasCalledWith F.FnMut word within.old.seat.now.view each.old tt each.new }
+    ensures seen { WasShown T.has_seen word within.old.seat.now.view onlooker.old onlooker.new }
     ensures next { WasAskedNext within.old.seat.now.view within.new.seat.now.view }
     ensures stays { StaysThere within.old.seat.now.view within.new.seat.now.view }
     ensures them { IsOfThem within.old.seat.now.view within.new.seat.now.view }
     ensures same { IsSameSeat within.old within.new }
-    ensures callable { F.IsAlwaysCallable each.new }
+    ensures may { T.may_see onlooker.new }
 {
-    shows(within, word, each);
+    shows(within, word, onlooker);
     within.asks_next(hasher, machine);
 }
 
 /// Does what follows on what a step of a walk has told: a pair is shown, and the next one asked for. Returns how the walk has ended, if it has.
-fn shows_told<K: Eq + Hash + Drop, V: Drop, S: Hashes<K>, F: FnMut(&K, &V)>(
+fn shows_told<K: Eq + Hash + Drop, V: Drop, S: Hashes<K>, T: Onlooker<K, V>>(
     within: &mut Within<'_, K, V, S>,
     hasher: &S,
     machine: &mut Machine<K, V>,
     heard: Heard,
-    each: &mut F,
+    onlooker: &mut T,
 ) -> Option<Result<(), Fault>>
     requires walked { (told : Progress (Node K V)) × IsHeard told heard × WalkedSo hasher.now machine.old told within.old.seat.now.view }
-    requires callable { F.IsAlwaysCallable each.old }
+    requires may { T.may_see onlooker.old }
     ensures ended { IfSome result (λ end. (heard ≡ Ended end) × (within.new.seat.now.view ≡ within.old.seat.now.view)) }
     ensures goes { IfNone result (IsSweeping ForWalk hasher.now machine.new within.new.seat.now.view) }
-    ensures shown { (told : Progress (Node K V)) → IsHeard told heard → ShowsSo F.FnMut told each.old within.old.seat.now.view each.new within.new.seat.now.view }
+    ensures seen { (told : Progress (Node K V)) → IsHeard told heard → SeesSo T.has_seen told onlooker.old within.old.seat.now.view onlooker.new within.new.seat.now.view }
     ensures stays { StaysThere within.old.seat.now.view within.new.seat.now.view }
     ensures them { IsOfThem within.old.seat.now.view within.new.seat.now.view }
     ensures same { IsSameSeat within.old within.new }
-    ensures callable { F.IsAlwaysCallable each.new }
+    ensures may { T.may_see onlooker.new }
 {
     match heard {
         Heard::Goes => None,
@@ -99,7 +101,7 @@ fn shows_told<K: Eq + Hash + Drop, V: Drop, S: Hashes<K>, F: FnMut(&K, &V)>(
             None
         }
         Heard::Shows(word) => {
-            shows_next(within, hasher, machine, word, each);
+            shows_next(within, hasher, machine, word, onlooker);
             None
         }
         Heard::Ended(end) => Some(end),
@@ -108,18 +110,18 @@ fn shows_told<K: Eq + Hash + Drop, V: Drop, S: Hashes<K>, F: FnMut(&K, &V)>(
 }
 
 /// Takes the steps of a walk until it has ended, and shows each pair to which it comes. How many steps it takes is up to the others.
-fn goes_over<R: Wait, K: Eq + Hash + Drop, V: Drop, S: Hashes<K>, F: FnMut(&K, &V)>(
+fn goes_over<R: Wait, K: Eq + Hash + Drop, V: Drop, S: Hashes<K>, T: Onlooker<K, V>>(
     within: &mut Within<'_, K, V, S>,
     rt: &R,
     sleepers: &Sleepers,
     hasher: &S,
     machine: &mut Machine<K, V>,
-    each: &mut F,
+    onlooker: &mut T,
 ) -> Result<(), Fault>
-    requires may { MayGoOver K.eq S.hash ForWalk hasher.now machine.old within.old.seat.now.view }
-    requires callable { F.IsAlwaysCallable each.old }
+    requires over { MayGoOver K.eq S.hash ForWalk hasher.now machine.old within.old.seat.now.view }
+    requires may { T.may_see onlooker.old }
     ensures gone { HasGoneOver K.eq S.hash ForWalk result within.old.seat.now.view within.new.seat.now.view }
-    ensures each { HasShownEach K.eq S.hash F.FnMut each.old within.old.seat.now.view within.new.seat.now.view }
+    ensures shown { HasShownTo K.eq S.hash T.has_seen onlooker.old onlooker.new within.old.seat.now.view within.new.seat.now.view }
     ensures same { IsSameSeat within.old within.new }
 {
     within.begins(machine);
@@ -128,54 +130,56 @@ fn goes_over<R: Wait, K: Eq + Hash + Drop, V: Drop, S: Hashes<K>, F: FnMut(&K, &
         let told = within.walks(machine, hasher);
         waiter.heeds(rt, &told, machine);
         let heard = hears(told);
-        if let Some(end) = shows_told(within, hasher, machine, heard, each) {
+        if let Some(end) = shows_told(within, hasher, machine, heard, onlooker) {
             return end;
         }
     }
     unreachable!()
 }
 
-impl<'w, R: Wait, K: Eq + Hash + Drop, V: Drop, S: Hashes<K>, F: FnMut(&K, &V)> Errand<
+impl<'w, R: Wait, K: Eq + Hash + Drop, V: Drop, S: Hashes<K>, T: Onlooker<K, V>> Errand<
     Node<K, V>,
     OfMaps<S>,
-> for Walks<'w, R, K, V, S, F> {
-    type Answer = Result<(), Fault>;
+> for Walks<'w, R, K, V, S, T> {
+    type Answer = (Result<(), Fault>, T);
 
-    ghost asks = { λ w fixed v. MayGoOver K.eq S.hash ForWalk w.hasher.now w.machine.now v × F.IsAlwaysCallable w.each.now };
+    ghost asks = { λ w fixed v. MayGoOver K.eq S.hash ForWalk w.hasher.now w.machine.now v × T.may_see w.onlooker };
 
-    ghost did = { λ w fixed v answer n. HasGoneOver K.eq S.hash ForWalk answer v n × HasShownEach K.eq S.hash F.FnMut w.each.now v n };
+    ghost did = { λ w fixed v answer n. HasGoneOver K.eq S.hash ForWalk answer.0 v n × HasShownTo K.eq S.hash T.has_seen w.onlooker answer.1 v n };
 
     fn run(
         self,
         blocks: &Blocks<Node<K, V>, OfMaps<S>>,
         seat: &mut Seat<Node<K, V>, OfMaps<S>>,
-    ) -> Result<(), Fault> {
+    ) -> (Result<(), Fault>, T) {
         let Walks {
             rt,
             sleepers,
             hasher,
             machine,
             near,
-            each,
+            onlooker,
         } = self;
+        let mut onlooker = onlooker;
         let mut within = Within::new(blocks, seat, near);
-        goes_over(&mut within, rt, sleepers, hasher, machine, each)
+        let end = goes_over(&mut within, rt, sleepers, hasher, machine, &mut onlooker);
+        (end, onlooker)
     }
 }
 
-/// Shows the pairs of a session's map, within the section of its slot: each that is there from its beginning to its end once, and others that were there at a moment of it, none
-/// twice. The faults are `Capacity` and `Memory`, of a table that this needs first; some pairs may have been shown then.
-pub fn each<R: Wait, K: Eq + Hash + Drop, V: Drop, S: Hashes<K>, F: FnMut(&K, &V)>(
+/// Shows the pairs of a session's map to an onlooker, within the section of its slot, and hands that back: each pair that is there from the beginning of the walk to its end once, and
+/// others that were there at a moment of it, none twice. The faults are `Capacity` and `Memory`, of a table that this needs first; some pairs may have been shown then.
+pub fn shows_to<R: Wait, K: Eq + Hash + Drop, V: Drop, S: Hashes<K>, T: Onlooker<K, V>>(
     session: &mut SessionBase<'_, K, V, S>,
     rt: &R,
-    mut each: F,
-) -> Result<(), Fault>
+    onlooker: T,
+) -> (Result<(), Fault>, T)
     requires inside { session.old.caller.seat.view.slot ≡ Inside session.old.slot Nothing }
-    requires callable { F.IsAlwaysCallable each }
+    requires may { T.may_see onlooker }
     ensures inside { session.new.caller.seat.view.slot ≡ Inside session.new.slot Nothing }
     ensures slot { session.new.slot ≡ session.old.slot }
-    ensures gone { HasGone K.eq S.hash ForWalk result session.old.caller.seat.view session.new.caller.seat.view }
-    ensures each { HasShownEach K.eq S.hash F.FnMut each session.old.caller.seat.view session.new.caller.seat.view }
+    ensures gone { HasGone K.eq S.hash ForWalk result.0 session.old.caller.seat.view session.new.caller.seat.view }
+    ensures shown { HasShownTo K.eq S.hash T.has_seen onlooker result.1 session.old.caller.seat.view session.new.caller.seat.view }
     ensures map { session.new.caller.seat.view.map ≡ session.old.caller.seat.view.map }
     ensures blocks { session.new.caller.blocks ≡ session.old.caller.blocks }
 {
@@ -190,6 +194,6 @@ pub fn each<R: Wait, K: Eq + Hash + Drop, V: Drop, S: Hashes<K>, F: FnMut(&K, &V
         hasher,
         machine: &mut machine,
         near,
-        each: &mut each,
+        onlooker,
     })
 }

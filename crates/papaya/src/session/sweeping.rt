@@ -2,12 +2,14 @@
 ghost use Rattle.std.specs.Prelude.{IfOk, IfErr};
 ghost use Rattle.papaya.specs.OneSet.{SetWasShown, SetWasSifted};
 ghost use Rattle.papaya.specs.Swept.{HasHeededElements, HasShownElements};
+ghost use Rattle.papaya_map.specs.Given.Onlookers.{HasBeenShown};
 ghost use Rattle.papaya_map.specs.Given.SessionsKept.{KeepsMap};
 ghost use Rattle.papaya_map.specs.Given.SessionsOneMap.{WasRefused};
 ghost use Rattle.papaya_map.specs.Given.Swept.{retains, walks};
 
 use super::SetSession;
 use map_tables::Hashes;
+use papaya_map::Onlooker;
 use seize_words::Fault;
 use std::hash::Hash;
 use std::sync::Wait;
@@ -23,6 +25,21 @@ impl<'m, K: Eq + Hash + Drop, S: Hashes<K>> SetSession<'m, K, S> {
         ensures refused { IfErr result (λ fault. WasRefused K.eq S.hash walks fault self.old.session.base.caller self.new.session.base.caller) }
     {
         self.session.each(rt, move |element, _| each(element))
+    }
+
+    /// Shows the elements of the set to an onlooker, each with a unit for its value, and hands it back, beside how the walk has ended. The faults are those of `each`.
+    pub fn shows_to<R: Wait, T: Onlooker<K, ()>>(
+        &mut self,
+        rt: &R,
+        onlooker: T,
+    ) -> (Result<(), Fault>, T)
+        requires may { T.may_see onlooker }
+        ensures keeps { KeepsMap self.old.session self.new.session }
+        ensures shown { IfOk result.0 (λ _. SetWasShown K.eq S.hash self.old.session.base.caller self.new.session.base.caller) }
+        ensures told { HasBeenShown K.eq S.hash T.has_seen onlooker result.1 self.old.session.base.caller.seat.view self.new.session.base.caller.seat.view }
+        ensures refused { IfErr result.0 (λ fault. WasRefused K.eq S.hash walks fault self.old.session.base.caller self.new.session.base.caller) }
+    {
+        self.session.shows_to(rt, onlooker)
     }
 
     /// Removes the elements about which a closure says that they are not to be kept. Each that is there from the beginning of the call to its end is asked about, and it may be

@@ -11,7 +11,7 @@ use crate::pin::element_of;
 use crate::session::SetSession;
 use crate::shared::SharedSet;
 use map_tables::Hashes;
-use papaya_map::Pass;
+use papaya_map::{Form, Pass};
 use seize_words::{Fault, RefusedKey};
 use std::hash::Hash;
 use std::sync::Wait;
@@ -19,10 +19,10 @@ use std::sync::Wait;
 impl<'m, K: Eq + Hash + Drop, S: Hashes<K>> SharedSet<'m, K, S> {
     /// Looks for the element that equals this key within the section of the guard, by a pass, and lends it, if the set has one, for as long as the guard is borrowed,
     /// whatever the pass does then. A guard or a pass of another set is `Fault::ForeignGuard`; then the pass is as it was.
-    pub fn get<'g, R: Wait>(
+    pub fn get<'g, R: Wait, Q: Form<K, S>>(
         &self,
         rt: &R,
-        key: &K,
+        key: &Q,
         guard: &'g SetSession<'_, K, S>,
         pass: &mut Pass<K, (), S>,
     ) -> Result<Option<&'g K>, Fault>
@@ -34,7 +34,7 @@ impl<'m, K: Eq + Hash + Drop, S: Hashes<K>> SharedSet<'m, K, S> {
         ensures number { pass.new.number ≡ pass.old.number }
         ensures foreign { IfErr result (λ fault. (fault ≡ ForeignGuard) × ((guard.now.session.number ≢ self.now.map.number) ⊎ (pass.old.number ≢ self.now.map.number)) × (pass.new ≡ pass.old)) }
         ensures own { IfOk result (λ _. (guard.now.session.number ≡ self.now.map.number) × (pass.old.number ≡ self.now.map.number)) }
-        ensures one_set { IfOk result (λ found. SetLentUnder K.eq S.hash key.now (option_map (λ element. element.now) found) guard.now.session.base.caller
+        ensures one_set { IfOk result (λ found. SetLentUnder K.eq S.hash (Q.stands_for key.now) (option_map (λ element. element.now) found) guard.now.session.base.caller
             pass.old.base.seat.view pass.new.base.seat.view) }
     {
         let found = self.map.get_key_value(rt, key, guard.session(), pass)?;
@@ -43,10 +43,10 @@ impl<'m, K: Eq + Hash + Drop, S: Hashes<K>> SharedSet<'m, K, S> {
 
     /// Returns whether the set has an element that equals this key, looked for within the section of the guard, by a pass. A guard or a pass of another set is
     /// `Fault::ForeignGuard`; then the pass is as it was.
-    pub fn contains<R: Wait>(
+    pub fn contains<R: Wait, Q: Form<K, S>>(
         &self,
         rt: &R,
-        key: &K,
+        key: &Q,
         guard: &SetSession<'_, K, S>,
         pass: &mut Pass<K, (), S>,
     ) -> Result<bool, Fault>
@@ -58,7 +58,7 @@ impl<'m, K: Eq + Hash + Drop, S: Hashes<K>> SharedSet<'m, K, S> {
         ensures number { pass.new.number ≡ pass.old.number }
         ensures foreign { IfErr result (λ fault. (fault ≡ ForeignGuard) × ((guard.now.session.number ≢ self.now.map.number) ⊎ (pass.old.number ≢ self.now.map.number)) × (pass.new ≡ pass.old)) }
         ensures own { IfOk result (λ _. (guard.now.session.number ≡ self.now.map.number) × (pass.old.number ≡ self.now.map.number)) }
-        ensures one_set { IfOk result (λ there. SetHadUnder K.eq S.hash key.now there guard.now.session.base.caller pass.old.base.seat.view pass.new.base.seat.view) }
+        ensures one_set { IfOk result (λ there. SetHadUnder K.eq S.hash (Q.stands_for key.now) there guard.now.session.base.caller pass.old.base.seat.view pass.new.base.seat.view) }
     {
         self.map.contains_key(rt, key, guard.session(), pass)
     }

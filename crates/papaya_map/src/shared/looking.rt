@@ -6,7 +6,7 @@ ghost use Rattle.seize_words.specs.declared.fault.Fault.TheVariants.{ForeignGuar
 
 use crate::shared::SharedMap;
 use map_tables::Hashes;
-use papaya_sessions::{Pass, Session};
+use papaya_sessions::{Form, Pass, Session};
 use seize_words::Fault;
 use std::hash::Hash;
 use std::sync::Wait;
@@ -14,10 +14,10 @@ use std::sync::Wait;
 impl<'m, K: Eq + Hash + Drop, V: Drop, S: Hashes<K>> SharedMap<'m, K, V, S> {
     /// Looks a key up within the section of the guard, by a pass, and lends its pair, if the map has one, for as long as the guard is borrowed, whatever the pass does then.
     /// A guard or a pass of another map is `Fault::ForeignGuard`; then the pass is as it was.
-    pub fn get_key_value<'g, R: Wait>(
+    pub fn get_key_value<'g, R: Wait, Q: Form<K, S>>(
         &self,
         rt: &R,
-        key: &K,
+        key: &Q,
         guard: &'g Session<'_, K, V, S>,
         pass: &mut Pass<K, V, S>,
     ) -> Result<Option<(&'g K, &'g V)>, Fault>
@@ -28,7 +28,7 @@ impl<'m, K: Eq + Hash + Drop, V: Drop, S: Hashes<K>> SharedMap<'m, K, V, S> {
         ensures number { pass.new.number ≡ pass.old.number }
         ensures foreign { IfErr result (λ fault. (fault ≡ ForeignGuard) × ((guard.now.number ≢ self.now.number) ⊎ (pass.old.number ≢ self.now.number)) × (pass.new ≡ pass.old)) }
         ensures own { IfOk result (λ _. (guard.now.number ≡ self.now.number) × (pass.old.number ≡ self.now.number)) }
-        ensures got { IfOk result (λ found. HasGotPairUnder K.eq S.hash key.now guard.now.base.caller (option_map (λ pair. (pair.0.now, pair.1.now)) found)
+        ensures got { IfOk result (λ found. HasGotPairUnder K.eq S.hash (Q.stands_for key.now) guard.now.base.caller (option_map (λ pair. (pair.0.now, pair.1.now)) found)
             pass.old.base.seat.view pass.new.base.seat.view) }
     {
         if guard.number() != self.number {
@@ -38,10 +38,10 @@ impl<'m, K: Eq + Hash + Drop, V: Drop, S: Hashes<K>> SharedMap<'m, K, V, S> {
     }
 
     /// Looks a key up as `get_key_value` does, and lends the value of its pair, if the map has one.
-    pub fn get<'g, R: Wait>(
+    pub fn get<'g, R: Wait, Q: Form<K, S>>(
         &self,
         rt: &R,
-        key: &K,
+        key: &Q,
         guard: &'g Session<'_, K, V, S>,
         pass: &mut Pass<K, V, S>,
     ) -> Result<Option<&'g V>, Fault>
@@ -52,7 +52,7 @@ impl<'m, K: Eq + Hash + Drop, V: Drop, S: Hashes<K>> SharedMap<'m, K, V, S> {
         ensures number { pass.new.number ≡ pass.old.number }
         ensures foreign { IfErr result (λ fault. (fault ≡ ForeignGuard) × ((guard.now.number ≢ self.now.number) ⊎ (pass.old.number ≢ self.now.number)) × (pass.new ≡ pass.old)) }
         ensures own { IfOk result (λ _. (guard.now.number ≡ self.now.number) × (pass.old.number ≡ self.now.number)) }
-        ensures got { IfOk result (λ found. HasGotUnder K.eq S.hash key.now guard.now.base.caller (option_map (λ value. value.now) found)
+        ensures got { IfOk result (λ found. HasGotUnder K.eq S.hash (Q.stands_for key.now) guard.now.base.caller (option_map (λ value. value.now) found)
             pass.old.base.seat.view pass.new.base.seat.view) }
     {
         if guard.number() != self.number {
@@ -62,10 +62,10 @@ impl<'m, K: Eq + Hash + Drop, V: Drop, S: Hashes<K>> SharedMap<'m, K, V, S> {
     }
 
     /// Returns whether the map has a pair of this key, looked up as `get` does.
-    pub fn contains_key<R: Wait>(
+    pub fn contains_key<R: Wait, Q: Form<K, S>>(
         &self,
         rt: &R,
-        key: &K,
+        key: &Q,
         guard: &Session<'_, K, V, S>,
         pass: &mut Pass<K, V, S>,
     ) -> Result<bool, Fault>
@@ -76,7 +76,7 @@ impl<'m, K: Eq + Hash + Drop, V: Drop, S: Hashes<K>> SharedMap<'m, K, V, S> {
         ensures number { pass.new.number ≡ pass.old.number }
         ensures foreign { IfErr result (λ fault. (fault ≡ ForeignGuard) × ((guard.now.number ≢ self.now.number) ⊎ (pass.old.number ≢ self.now.number)) × (pass.new ≡ pass.old)) }
         ensures own { IfOk result (λ _. (guard.now.number ≡ self.now.number) × (pass.old.number ≡ self.now.number)) }
-        ensures sought { IfOk result (λ there. HasSoughtUnder K.eq S.hash key.now guard.now.base.caller there pass.old.base.seat.view pass.new.base.seat.view) }
+        ensures sought { IfOk result (λ there. HasSoughtUnder K.eq S.hash (Q.stands_for key.now) guard.now.base.caller there pass.old.base.seat.view pass.new.base.seat.view) }
     {
         if guard.number() != self.number {
             return Err(Fault::ForeignGuard);

@@ -2,15 +2,11 @@
 use Rattle.std.specs.Prelude.{◌≢◌, ◌==◌, ◌⊎◌, ◌++◌, Option, Some, None, if◌then◌else◌, is_ok, length}
 use Rattle.std.proofs.Common.{◌≡◌, ℕ, Bool, true, false, List, [], ◌∷◌, inl, inr, refl, sym, subst, ap, ◌∙◌}
 use Rattle.std.proofs.lemmas.Bool.{cases_eq, eq-eqb, ne_eqb}
-use Rattle.run_schedules.specs.Given.SeizeWordsMem.{Mem, value_at}
-use Rattle.run_schedules.specs.Given.SeizeWordsWord.{block_in}
+use Rattle.run_schedules.specs.Given.SeizeWordsMem.{Mem}
 use Rattle.run_legal.specs.Given.TablesDeclared.node.Node.{Node}
-use Rattle.run_legal.specs.Given.TablesDeclared.node.Node.TheVariants as node
 use Rattle.run_legal.specs.Given.TablesDeclared.setting.Setting.{Setting}
 use Rattle.run_schedules.specs.Given.RawMachine.{machine_asked, machine_replied}
 use Rattle.run_schedules.specs.Given.RawDeclared.machines.machine.Machine.{Machine}
-use Rattle.run_schedules.specs.Given.RawDeclared.machines.answer.KeyAnswer.TheVariants.{Found}
-use Rattle.run_schedules.specs.Given.RawDeclared.machines.progress.Answer.TheVariants.{Key}
 use Rattle.run_schedules.specs.Given.RawDeclared.machines.progress.Progress.{Progress}
 use Rattle.run_schedules.specs.Given.RawDeclared.machines.progress.Progress.TheVariants.{Done}
 use Rattle.threads_rule.specs.Views.Listed.{Called, calls_then, has_progressed, seat_of}
@@ -21,10 +17,7 @@ use Rattle.run_schedules.specs.Schedules.Views.{call_of}
 use Rattle.run_schedules.specs.declared.call.Call.{Call}
 use Rattle.run_schedules.specs.declared.call.Call.TheVariants.{On}
 use Rattle.run_schedules.specs.declared.call.OneKey.TheVariants.{Get}
-use Rattle.run_schedules.specs.declared.call.OneKey.TheVariants as one_key
 use Rattle.run_schedules.specs.declared.call.Response.{Response as Answer'}
-use Rattle.run_schedules.specs.declared.call.Response.TheVariants as answer
-use Rattle.run_schedules.specs.declared.call.Reply.{Reply as Told}
 use Rattle.run_schedules.specs.declared.outcome.Outcome.{Outcome}
 use Rattle.run_schedules.specs.declared.outcome.Outcome.TheVariants.{Answered}
 use Rattle.threads_rule.specs.Given.ActsActs.{Act, Answer, Wanted, BeginsCall, StepsCall, TellsCall, AsksCall, StopsCall, BeginsMaking, StepsMaking, BeginsEnding, StepsEnding, BeginsRow, StepsRow}
@@ -34,10 +27,8 @@ use Rattle.run_schedules.specs.Deeds.History.{IsLinearizable, answered, answers_
 use Rattle.run_legal.specs.Given.EffectsEffects.{effects_of, known_after}
 use Rattle.run_legal.specs.Given.EffectsKnown.{Known}
 use Rattle.run_legal.specs.Given.EffectsDeclared.acting.Acting.TheVariants as acting
-use Rattle.run_legal.specs.Given.EffectsDeclared.role.Role.TheVariants as role
 use Rattle.run_legal.specs.Given.HistoriesEvents.{HasOutcome}
 use Rattle.run_legal.specs.Given.HistoriesInEvent.{HasOutcomeSo}
-use Rattle.run_schedules.specs.Runs.Log.{pair_at}
 use Rattle.run_legal.specs.Given.NamedSeen.{kind_of}
 use Rattle.play_linear.specs.Given.PlayedPlay.{Calling, State, begun_call, call_asked, call_begun, call_for, call_stepped, call_stopped, call_replied, has_root, is_over, is_refusal, keeps, leaves_as, making_deed, outcome_of, pairs_for, registers_as, reply_for, row_deed, replied_call}
 use Rattle.run_legal.specs.Given.ScenesReplying.{unless_stopped}
@@ -57,12 +48,12 @@ use Rattle.seize_acts.specs.Given.SeizeWorld.{with_at}
 use Rattle.run_legal.proofs.Given.CallersTogether.At.{at_same, at_other}
 use Rattle.play_linear.proofs.Given.PlayedNoted.{CallsAreNoted, at_it, at_other_map, made_calls, one_call}
 use Rattle.play_linear.proofs.Given.PlayedPlayedAs.{PlayedAs, ReclaimedAs}
-use Rattle.play_moves.specs.OneHistory.Lookups.{WasHad, WasSo}
+use Rattle.play_moves.specs.OneHistory.Lookups.{WasSo}
 use Rattle.play_moves.specs.OneHistory.Answered.{ByNewest, IfElse, IsItsEnd}
 use Rattle.play_moves.specs.OneHistory.Order.{HaveGot, is_answer}
 use Rattle.play_moves.proofs.OneHistory.Order.{IsAside, IsOpen, NewestCall, aside_if, either_of, got_then, open_then, others_got, others_newest, same_answers}
 use Rattle.play_moves.proofs.OneHistory.Lookups.{so_then}
-use Rattle.play_moves.proofs.OneHistory.Tells.{EndsAs, GoesOn, HasAnswered, HasEndedLast, HasSeenPair, IfNewest, IsCalled, SaysSo, Tells, answered_on, answered_then, called_on, last_on, quiet, wants}
+use Rattle.play_moves.proofs.OneHistory.Tells.{EndsAs, EndsIn, GoesOn, HasAnswered, HasEndedIn, HasEndedLast, IfNewest, IsCalled, NotedAreThere, SaysSo, Tells, answered_on, answered_then, called_on, last_on, quiet, wants}
 use Rattle.play_moves.proofs.OneHistory.Words.{HasWords}
 use Rattle.run_schedules.proofs.Given.General.{same_some}
 
@@ -118,15 +109,7 @@ module _ (K V : Type 0) (j : ℕ) where
 
 -- what is noted as a pair is that pair, in this memory
 abbrev pub PairsAreThere : {K V S : Type 0} → State K V S → Mem (Node K V) → Type 0
-PairsAreThere {K} {V} x memory =
-    (b k : ℕ) → x.known.roles b ≡ role.Pair k → (key : K) × (value : V) × (pair_at (moment x.history).stored k ≡ Some (key, value)) × (value_at memory b ≡ Some (node.Pair key value))
-
--- where a lookup has found a pair, its word names that pair
-found_pair : {K V : Type 0} (known : Known) (key : K) (word : ℕ) (replies : List (Option ℕ × Told V)) (o : Outcome V) → HasOutcome known (Get key) replies (Done (Key (Found word))) o
-    → (n : ℕ) × (known.roles (block_in word) ≡ role.Pair n) × (o ≡ Answered (answer.Found n))
-found_pair known key word replies (Answered a) (inl (n, names, means)) = (n, names, ap Answered (let is = means 0 in let one : answer.Found n ≡ a = cc is in sym one))
-found_pair known key word replies (Answered a) (inr done) = absurd done
-found_pair known key word replies _ comes = absurd comes
+PairsAreThere x memory = NotedAreThere x.known memory x.history
 
 module _ {K V S : Type 0} (same : K → K → Bool) (seat : ℕ) (x : State K V S) (calls : List (Called K V)) (seen : Option (ℕ × Mem (Node K V))) (tells : Tells same seat x calls seen) where
   -- each call was there, and is what it was
@@ -201,23 +184,9 @@ module _ {K V S : Type 0} (same : K → K → Bool) (seat : ℕ) (x : State K V 
                   (its_own.2 ∙ sym map_is);
             }
 
-        -- it is the newest step of its caller's calls,
+        -- it is the newest step of its caller's calls.
         by_it : (So : List (Entry K V) → Entry K V → Type 0) → So x.history entry → ByNewest one.caller So stepped.history
         by_it So so = subst (λ (q : Bool). IfElse q (So x.history entry) (ByNewest one.caller So x.history)) (sym (eq-eqb one.caller i caller_is)) so
-
-        -- and a pair that it has found has the value that is there.
-        has_pair : (memory : Mem (Node K V)) → PairsAreThere stepped memory → HasSeenPair same stepped.history memory (record one { told = progress })
-        has_pair memory pairs key word wanted told_is =
-            let word_says = says (one_key.Get key) wanted in
-            let found =
-            found_pair known key word word_says.0 (outcome_of known (kind_of (call_for one.wanted)) c.value progress)
-            (subst (λ (p : Progress (Node K V)). HasOutcome known (one_key.Get key) word_says.0 p (outcome_of known (kind_of (call_for one.wanted)) c.value progress)) told_is word_says.1) in
-            let pair = pairs (block_in word) found.0 found.1 in (
-              pair.0,
-              pair.1,
-              pair.3,
-              by_it (WasHad same one.caller one.map key pair.1) (record { number = found.0; found = was_so key (answer.Found found.0) wanted found.2; stored = pair.0; pair = pair.2 }),
-            )
 
         -- By its entry it was answered, if it has ended.
         its_end : IsItsEnd same one.caller one.map (call_for one.wanted) (outcome_of known (kind_of (call_for one.wanted)) c.value progress) x.history entry
@@ -237,18 +206,22 @@ module _ {K V S : Type 0} (same : K → K → Bool) (seat : ℕ) (x : State K V 
         ends_last : HasEndedLast same stepped.history (record one { told = progress })
         ends_last ended = by_it (EndsAs same one.caller one.map one.wanted progress) (known, c.value, its_end, (λ key answer call is. was_so key answer call is), says)
 
+        ends_in : (memory : Mem (Node K V)) → PairsAreThere stepped memory → HasEndedIn same stepped.history memory (record one { told = progress })
+        ends_in memory pairs ended =
+            by_it (EndsIn same memory one.caller one.map one.wanted progress) ((known, c.value, its_end, (λ key answer call is. was_so key answer call is), says), pairs)
+
       before : (on j : ℕ) (d : Calling K V) → stepped.now.calls on j ≡ Some d → (b : Calling K V) × (x.now.calls on j ≡ Some b) × (b.call ≡ d.call)
       before on j d has =
           one_goes i m c here (if has_ended progress then None else Some (record c { machine = machine; value = keeps (kind_of c.call) progress c.value }))
           (λ e is. ap (λ (v : Calling K V). v.call) (if_is (has_ended progress) (record c { machine = machine; value = keeps (kind_of c.call) progress c.value }) e is)) on j d has
 
-      -- the pair that the newest call has found
+      -- the pairs that were noted as the newest call ended
       abbrev NewestAs : Mem (Node K V) → Called K V → List (Called K V) → Bool → Type 0
       NewestAs memory one earlier q =
-          IfNewest same i (HasSeenPair same stepped.history memory) (if q then record one { told = progress } ∷ earlier else one ∷ has_progressed i progress earlier)
+          IfNewest same i (HasEndedIn same stepped.history memory) (if q then record one { told = progress } ∷ earlier else one ∷ has_progressed i progress earlier)
 
       newest_found : (memory : Mem (Node K V)) → PairsAreThere stepped memory → (calls : List (Called K V)) → IsCalled same i m c.call calls
-          → IfNewest same i (HasSeenPair same stepped.history memory) (has_progressed i progress calls)
+          → IfNewest same i (HasEndedIn same stepped.history memory) (has_progressed i progress calls)
       newest_found memory pairs [] is = tt
       newest_found memory pairs (one ∷ earlier) is = by (cases_eq one.caller i)
         where
@@ -256,7 +229,7 @@ module _ {K V S : Type 0} (same : K → K → Bool) (seat : ℕ) (x : State K V 
           by (inl e) =
               let test = eq-eqb one.caller i e in
               let its_own = subst (λ (q : Bool). IfElse q ((one.map ≡ m) × (call_for one.wanted ≡ c.call)) (IsCalled same i m c.call earlier)) test is in
-              subst (NewestAs memory one earlier) (sym test) (λ of. has_pair one e its_own.0 its_own.1 memory pairs)
+              subst (NewestAs memory one earlier) (sym test) (λ of. ends_in one e its_own.0 its_own.1 memory pairs)
           by (inr ne) = subst (NewestAs memory one earlier) (sym (ne_eqb one.caller i ne)) (λ of. absurd (ne of))
 
       -- of a call of the caller that goes on nothing was answered
@@ -332,8 +305,8 @@ module _ {K V S : Type 0} (same : K → K → Bool) (seat : ℕ) (x : State K V 
                     let both = same_some (i, memory) (j, then_there) is in
                     let one : i ≡ j = ap (λ (p : ℕ × Mem (Node K V)). p.0) both in
                     let there : memory ≡ then_there = ap (λ (p : ℕ × Mem (Node K V)). p.1) both in
-                    subst (λ (k : ℕ). IfNewest same k (HasSeenPair same stepped.history then_there) (has_progressed i progress calls)) one
-                    (subst (λ (n : Mem (Node K V)). IfNewest same i (HasSeenPair same stepped.history n) (has_progressed i progress calls)) there (newest_found memory pairs calls (tells.under_way m i c e here)));
+                    subst (λ (k : ℕ). IfNewest same k (HasEndedIn same stepped.history then_there) (has_progressed i progress calls)) one
+                    (subst (λ (n : Mem (Node K V)). IfNewest same i (HasEndedIn same stepped.history n) (has_progressed i progress calls)) there (newest_found memory pairs calls (tells.under_way m i c e here)));
                 unanswered = λ on j d of has. opens on j d has of (cases_eq j i) (cases_eq on m);
                 got = λ j of. gets j of (cases_eq j i);
                 last = λ j of. lasts j of (cases_eq j i);
@@ -398,7 +371,7 @@ module _ {K V S : Type 0} (same : K → K → Bool) (seat : ℕ) (x : State K V 
           by (inl e) =
               subst BegunBy (sym (eq-eqb seat (seat_of i) e)) (record {
                 answered = ((λ ended. absurd (cc ended)), answered_on same x.history begins.history goes_then calls tells.answered);
-                found = λ j memory its_seat is. (λ of key word asks told. absurd (cc told));
+                found = λ j memory its_seat is. (λ of ended. absurd (cc ended));
                 last = λ j of. lasts j of (cases_eq j i);
                 unanswered = λ on j d of has. opened on j d of has (cases_eq j i);
                 got = λ j of. tells.got j of;

@@ -35,18 +35,21 @@ use Rattle.play_linear.specs.Given.ActsLists.{nothing_done}
 use Rattle.run_legal.specs.Given.NamedSeen.{kind_of}
 use Rattle.run_legal.specs.Given.ScenesStepping.{has_ended}
 use Rattle.run_schedules.specs.Given.SeizeWordsMem.{Mem, value_at}
+use Rattle.threads_rule.specs.Errands.Calling.{is_put, pair_there}
 use Rattle.threads_rule.specs.Given.ActsActs.{Wanted, Get, Insert, TryToInsert, Remove}
-use Rattle.run_schedules.specs.Deeds.Deeds.{Entry}
+use Rattle.run_schedules.specs.Deeds.Deeds.{Entry, moment}
+use Rattle.run_schedules.specs.Runs.Log.{pair_at}
 use Rattle.run_legal.specs.Given.EffectsKnown.{Known}
+use Rattle.run_legal.specs.Given.EffectsDeclared.role.Role.TheVariants as role
 use Rattle.play_linear.specs.Given.PlayedPlay.{State as Played, call_for, outcome_of}
 use Rattle.run_legal.specs.Given.HistoriesEvents.{HasOutcome}
 use Rattle.play_moves.specs.OneHistory.Answered.{ByNewest, IfElse, IsItsEnd}
-use Rattle.play_moves.specs.OneHistory.Calls.{FoundNone, FoundValue, HasInserted, HasLooked, HasRefused, HasRemoved, HasTried, ItsCall}
+use Rattle.play_moves.specs.OneHistory.Calls.{FoundNone, FoundValue, HasInserted, HasLooked, HasOne, HasRefused, HasRemoved, HasRemovedPair, HasTried, ItsCall, WasTaken, WasThere}
 use Rattle.play_moves.specs.OneHistory.Lookups.{WasHad, WasSo}
 use Rattle.play_moves.proofs.OneHistory.Answered.{IsIts, calls_its, runs, same_caller, same_map, same_wanted, such, tell}
 use Rattle.play_moves.proofs.OneHistory.Legal.{histories_are_legal}
 use Rattle.play_moves.proofs.OneHistory.Order.{NewestCall, newest_as}
-use Rattle.play_moves.proofs.OneHistory.Tells.{EndsAs, HasEndedLast, HasSeenPair, IfNewest}
+use Rattle.play_moves.proofs.OneHistory.Tells.{EndsAs, EndsIn, HasEndedIn, HasEndedLast, IfNewest, NotedAreThere}
 use Rattle.run_schedules.proofs.Given.General.{same_some}
 
 -- What a call on one key has come to, by what it was told of it.
@@ -100,6 +103,35 @@ module _ {K V : Type 0} (known : Known) (replies : List (Option ℕ × Reply V))
   removed key is_removed if_so if_not (said.Key (says.Replaced old new)) (Answered a) (inl so) = absurd so
   removed key is_removed if_so if_not (said.Key (says.Removed word)) (Answered a) (inl so) = absurd so
   removed key is_removed if_so if_not _ _ come = absurd come
+
+  -- And which pair its answer names: one that a lookup has found,
+  met : (key : K) (word : ℕ) (o : Outcome V) → HasOutcome known (one_key.Get key) replies (progress.Done (said.Key (says.Found word))) o
+      → (n : ℕ) × (known.roles (block_in word) ≡ role.Pair n) × (o ≡ Answered (answers.Found n))
+  met key word (Answered a) (inl (n, names, means)) = (n, names, ap Answered (let is = means 0 in let one : answers.Found n ≡ a = cc is in sym one))
+  met key word (Answered a) (inr done) = absurd done
+  met key word _ comes = absurd comes
+
+  -- one that was removed,
+  taken : (key : K) (word : ℕ) (o : Outcome V) → HasOutcome known (one_key.Remove key) replies (progress.Done (said.Key (says.Removed word))) o
+      → (n : ℕ) × (known.roles (block_in word) ≡ role.Pair n) × (o ≡ Answered (answers.Found n))
+  taken key word (Answered a) (inr (n, names, means)) = (n, names, ap Answered (let is = means 0 in let one : answers.Found n ≡ a = cc is in sym one))
+  taken key word (Answered a) (inl so) = absurd so
+  taken key word _ comes = absurd comes
+
+  -- and one that is there where a pair was to be stored
+  put : (key : K) (value : V) (word : ℕ) (it : Said) (o : Outcome V) → HasOutcome known (one_key.TryInsert key value) replies (progress.Done it) o → pair_there it ≡ Some word
+      → (n : ℕ) × (known.roles (block_in word) ≡ role.Pair n) × (o ≡ Answered (if is_put it then answers.Stored n else answers.Occupied n value))
+  put key value word (said.Key (says.Stored new)) (Answered a) (inr (n, names, v, means)) is =
+      (n, subst (λ (w : ℕ). known.roles (block_in w) ≡ role.Pair n) (same_some new word is) names, ap Answered (let one : answers.Stored n ≡ a = cc means in sym one))
+  put key value word (said.Key (says.Found old)) (Answered a) (inl (n, names, means)) is =
+      (n, subst (λ (w : ℕ). known.roles (block_in w) ≡ role.Pair n) (same_some old word is) names, ap Answered (let so = means 0 in let one : answers.Occupied n value ≡ a = cc so in sym one))
+  put key value word (said.Key (says.Replaced old new)) (Answered a) (inr (o, n, was, names, v, means)) is = absurd (cc means)
+  put key value word (said.Key (says.Found old)) (Answered a) (inr done) is = absurd done
+  put key value word (said.Key (says.Stored new)) (Answered a) (inl so) is = absurd so
+  put key value word (said.Key (says.Replaced old new)) (Answered a) (inl so) is = absurd so
+  put key value word (said.Key (says.Removed old)) o comes is = absurd (cc is)
+  put key value word (said.Key says.Absent) o comes is = absurd (cc is)
+  put key value word _ _ comes is = absurd comes
 
 module _ {K V S : Type 0} (same : K → K → Bool) (hash : S → K → ℕ) (fixed : Fixed) (small : fixed.batch_size < 2 ^ 64) (id t : ℕ) (v : View K V S) (map : Map S) (run : BegunCall K V)
     (before : List (BegunCall K V)) (knows : v.map ≡ Some map) (section : section_of v.under v.slot ≡ Some t) (calls_are : v.calls ≡ run ∷ before) where
@@ -172,6 +204,60 @@ module _ {K V S : Type 0} (same : K → K → Bool) (hash : S → K → ℕ) (fi
         (λ aborts s h at_id.
         newest_as (caller_at id t) (EndsAs same (caller_at id t) map.number wanted run.told) (So (caller_at id t) map.number) so (history aborts s h at_id) (ends aborts s h at_id))
 
+    -- A pair that the seat has seen last is in the memory that it was seen in: so its number, as that was noted when the call came to its end, is that of this pair.
+    module _ (word : ℕ) (stored : K) (value : V) (shown : shown_in v.held (block_in word) ≡ Some (Pair stored value)) where
+      -- by this number it is stored
+      abbrev Names : Known → List (Entry K V) → Type 0
+      Names known log = (n : ℕ) → known.roles (block_in word) ≡ role.Pair n → pair_at (moment log).stored n ≡ Some (stored, value)
+
+      names : (known : Known) (memory : Mem (Node K V)) (log : List (Entry K V)) → NotedAreThere known memory log → value_at memory (block_in word) ≡ Some (Pair stored value) → Names known log
+      names known memory log noted there n is =
+          let p = noted (block_in word) n is in
+          let same_pair : Pair p.0 p.1 ≡ Pair stored value = same_some (Pair p.0 p.1) (Pair stored value) (sym p.3 ∙ there) in
+          let key_is : p.0 ≡ stored = cc same_pair in
+          let value_is : p.1 ≡ value = cc same_pair in p.2 ∙ ap (λ (k : K). Some (k, p.1)) key_is ∙ ap (λ (x : V). Some (stored, x)) value_is
+
+      module _ (aborts : ℕ → V) (s : State (Node K V) (View K V S) (MapsWorld K V S)) (h : Holds same hash fixed s) (at_id : view_of s id ≡ Some v) where
+        abbrev then_ : List (Entry K V)
+        then_ = history aborts s h at_id
+
+        abbrev i : ℕ
+        i = caller_at id (acts_in v.under v.slot)
+
+        seen : (memory : Mem (Node K V))
+            × (seen_of V same hash fixed.batch_size fixed.roots slot_of h.course id s.world.doings (nothing_done V same hash fixed.batch_size fixed.roots slot_of h.course) h.reached h.led None ≡ Some (i, memory))
+            × IsNewest i (calls_of id s.world.doings h.reached.1 []) × (value_at memory (block_in word) ≡ Some (Pair stored value))
+        seen = h.seen id v at_id (block_in word) (Pair stored value) shown
+
+        -- so it is of the newest call of the list
+        by : (calls : List (Called K V)) → AreRuns same hash s.world.scene calls (run ∷ before) → IsNewest i calls → IfNewest same i (HasEndedIn same then_ seen.0) calls
+            → ByNewest (caller_at id t) (EndsIn same seen.0 (caller_at id t) map.number wanted run.told) then_
+        by [] are newest last = absurd are
+        by (one ∷ earlier) are newest last =
+            let wanted_is = same_wanted same hash fixed small aborts id t v map wanted run [] before knows calls_are simple began ended s h at_id one are.0 in
+            let map_is = same_map same hash fixed small aborts id t v map wanted run [] before knows calls_are simple began ended s h at_id one are.0 in
+            subst (λ (c : ℕ). ByNewest c (EndsIn same seen.0 c map.number wanted run.told) then_) (newest ∙ ap (caller_at id) (section_place v.under v.slot t section))
+            (subst (λ (m : ℕ). ByNewest one.caller (EndsIn same seen.0 one.caller m wanted run.told) then_) (sym map_is)
+            (subst (λ (w : Wanted K V). ByNewest one.caller (EndsIn same seen.0 one.caller one.map w run.told) then_) (sym wanted_is)
+            (subst (λ (p : Progress (Node K V)). ByNewest one.caller (EndsIn same seen.0 one.caller one.map one.wanted p) then_) (sym are.0.told)
+            (last newest (ap has_ended (sym are.0.told) ∙ ended)))))
+
+        ends_in : ByNewest (caller_at id t) (EndsIn same seen.0 (caller_at id t) map.number wanted run.told) then_
+        ends_in =
+            by (calls_of id s.world.doings h.reached.1 []) (its_runs aborts s h at_id) seen.2
+            ((tell same hash fixed small aborts id t v map wanted run [] before knows calls_are simple began ended s h at_id).2.found i seen.0
+            (sym (its_seat id (acts_in v.under v.slot) (h.so.seats id v at_id).slot)) seen.1)
+
+      pub by_seen : (So : ℕ → ℕ → List (Entry K V) → Entry K V → Type 0)
+          → ((log : List (Entry K V)) (e : Entry K V) (ends : EndsAs same (caller_at id t) map.number wanted run.told log e) → Names ends.0 (e ∷ log) → So (caller_at id t) map.number log e)
+          → ItsCall same hash fixed id v So
+      by_seen So so =
+          in_its So
+          (λ aborts s h at_id.
+          let its = seen aborts s h at_id in
+          newest_as (caller_at id t) (EndsIn same its.0 (caller_at id t) map.number wanted run.told) (So (caller_at id t) map.number)
+          (λ log e ends. so log e ends.0 (names ends.0.0 its.0 (e ∷ log) ends.1 its.3)) (history aborts s h at_id) (ends_in aborts s h at_id))
+
   -- It has looked a key up: there was no pair for it,
   pub found_none : (key : K) → run.began ≡ machine_for same hash map t (Get key) → run.told ≡ progress.Done (said.Key says.Absent) → FoundNone same hash fixed id v key
   found_none key began told =
@@ -199,45 +285,14 @@ module _ {K V S : Type 0} (same : K → K → Bool) (hash : S → K → ℕ) (fi
       (None, refl, ends.3 key answers.Absent refl (by.2 ∙ ap Answered by.1)))
 
   -- of which this is the value that it holds.
-  module _ (key : K) (word : ℕ) (stored : K) (value : V) (began : run.began ≡ machine_for same hash map t (Get key)) (told : run.told ≡ progress.Done (said.Key (says.Found word)))
-      (shown : shown_in v.held (block_in word) ≡ Some (Pair stored value)) where
-    ended : has_ended run.told ≡ true
-    ended = ap has_ended told
-
-    module _ (aborts : ℕ → V) (s : State (Node K V) (View K V S) (MapsWorld K V S)) (h : Holds same hash fixed s) (at_id : view_of s id ≡ Some v) where
-      abbrev then_ : List (Entry K V)
-      then_ = history (Get key) refl began ended aborts s h at_id
-
-      abbrev i : ℕ
-      i = caller_at id (acts_in v.under v.slot)
-
-      seen : (memory : Mem (Node K V))
-          × (seen_of V same hash fixed.batch_size fixed.roots slot_of h.course id s.world.doings (nothing_done V same hash fixed.batch_size fixed.roots slot_of h.course) h.reached h.led None ≡ Some (i, memory))
-          × IsNewest i (calls_of id s.world.doings h.reached.1 []) × (value_at memory (block_in word) ≡ Some (Pair stored value))
-      seen = h.seen id v at_id (block_in word) (Pair stored value) shown
-
-      -- what the newest call of the list has found
-      by : (calls : List (Called K V)) → AreRuns same hash s.world.scene calls (run ∷ before) → IsNewest i calls → IfNewest same i (HasSeenPair same then_ seen.0) calls
-          → ByNewest (caller_at id t) (WasHad same (caller_at id t) map.number key value) then_
-      by [] are newest found = absurd are
-      by (one ∷ earlier) are newest found =
-          let wanted_is = same_wanted same hash fixed small aborts id t v map (Get key) run [] before knows calls_are refl began ended s h at_id one are.0 in
-          let map_is = same_map same hash fixed small aborts id t v map (Get key) run [] before knows calls_are refl began ended s h at_id one are.0 in
-          let it = found newest key word (ap call_for (sym wanted_is)) (sym are.0.told ∙ told) in
-          let same_pair : Pair it.0 it.1 ≡ Pair stored value = same_some (Pair it.0 it.1) (Pair stored value) (sym it.2 ∙ seen.3) in
-          let one_value : it.1 ≡ value = cc same_pair in
-          subst (λ (x : V). ByNewest (caller_at id t) (WasHad same (caller_at id t) map.number key x) then_) one_value
-          (subst (λ (c : ℕ). ByNewest c (WasHad same c map.number key it.1) then_) (newest ∙ ap (caller_at id) (section_place v.under v.slot t section))
-          (subst (λ (m : ℕ). ByNewest one.caller (WasHad same one.caller m key it.1) then_) (sym map_is) it.3))
-
-      had : ByNewest (caller_at id t) (WasHad same (caller_at id t) map.number key value) then_
-      had =
-          by (calls_of id s.world.doings h.reached.1 []) (its_runs (Get key) refl began ended aborts s h at_id) seen.2
-          ((tell same hash fixed small aborts id t v map (Get key) run [] before knows calls_are refl began ended s h at_id).2.found i seen.0
-          (sym (its_seat id (acts_in v.under v.slot) (h.so.seats id v at_id).slot)) seen.1)
-
-    pub found_value : FoundValue same hash fixed id v key value
-    found_value = in_its (Get key) refl began ended (λ i m. WasHad same i m key value) (λ aborts s h at_id. had aborts s h at_id)
+  pub found_value : (key : K) (word : ℕ) (stored : K) (value : V) → run.began ≡ machine_for same hash map t (Get key) → run.told ≡ progress.Done (said.Key (says.Found word))
+      → shown_in v.held (block_in word) ≡ Some (Pair stored value) → FoundValue same hash fixed id v key value
+  found_value key word stored value began told shown =
+      by_seen (Get key) refl began (ap has_ended told) word stored value shown (λ i m. WasHad same i m key value) (λ log e ends names.
+      let o = outcome_of ends.0 (kind_of (call_for {K = K} {V = V} (Get key))) ends.1 run.told in
+      let on = ends.4 (one_key.Get key) refl in
+      let found = met ends.0 on.0 key word o (subst (λ (p : Progress (Node K V)). HasOutcome ends.0 (one_key.Get key) on.0 p o) told on.1) in
+      record { number = found.0; found = ends.3 key (answers.Found found.0) refl found.2; stored = stored; pair = names found.0 found.1 })
 
   -- It has stored a pair, in the place of another one or of none,
   pub has_inserted : (key : K) (value : V) (it : Said) → run.began ≡ machine_for same hash map t (Insert key value) → run.told ≡ progress.Done it → (is_replaced : Said → Bool)
@@ -271,6 +326,28 @@ module _ {K V S : Type 0} (same : K → K → Bool) (hash : S → K → ℕ) (fi
       let on = ends.4 (one_key.Remove key) refl in
       let by = removed ends.0 on.0 key is_removed if_so if_not it o (subst (λ (p : Progress (Node K V)). HasOutcome ends.0 (one_key.Remove key) on.0 p o) told on.1) in
       (by.0, by.1, subst (λ (a : Outcome V). IsItsEnd same (caller_at id t) map.number (On (one_key.Remove key)) a log e) by.2 ends.2))
+
+  -- just this one,
+  pub has_removed_pair : (key : K) (word : ℕ) (stored : K) (value : V) → run.began ≡ machine_for same hash map t (Remove key) → run.told ≡ progress.Done (said.Key (says.Removed word))
+      → shown_in v.held (block_in word) ≡ Some (Pair stored value) → HasRemovedPair same hash fixed id v key (stored, value)
+  has_removed_pair key word stored value began told shown =
+      by_seen (Remove key) refl began (ap has_ended told) word stored value shown
+      (λ i m. WasTaken same i m key (stored, value)) (λ log e ends names.
+      let o = outcome_of ends.0 (kind_of (call_for {K = K} {V = V} (Remove key))) ends.1 run.told in
+      let on = ends.4 (one_key.Remove key) refl in
+      let by = taken ends.0 on.0 key word o (subst (λ (p : Progress (Node K V)). HasOutcome ends.0 (one_key.Remove key) on.0 p o) told on.1) in
+      (by.0, subst (λ (a : Outcome V). IsItsEnd same (caller_at id t) map.number (On (one_key.Remove key)) a log e) by.2 ends.2, names by.0 by.1))
+
+  -- or has come upon one that is there now, its own or the other one,
+  pub has_one : (key : K) (value : V) (it : Said) (word : ℕ) (stored : K) (lent : V) → run.began ≡ machine_for same hash map t (TryToInsert key value) → run.told ≡ progress.Done it
+      → pair_there it ≡ Some word → shown_in v.held (block_in word) ≡ Some (Pair stored lent) → HasOne same hash fixed id v key value lent
+  has_one key value it word stored lent began told there shown =
+      by_seen (TryToInsert key value) refl began (ap has_ended told) word stored lent shown
+      (λ i m. WasThere same i m key value lent) (λ log e ends names.
+      let o = outcome_of ends.0 (kind_of (call_for (TryToInsert key value))) ends.1 run.told in
+      let on = ends.4 (one_key.TryInsert key value) refl in
+      let by = put ends.0 on.0 key value word it o (subst (λ (p : Progress (Node K V)). HasOutcome ends.0 (one_key.TryInsert key value) on.0 p o) told on.1) there in
+      (is_put it, by.0, subst (λ (a : Outcome V). IsItsEnd same (caller_at id t) map.number (On (one_key.TryInsert key value)) a log e) by.2 ends.2, stored, names by.0 by.1))
 
   -- or was refused.
   pub has_refused : (wanted : Wanted K V) → plain wanted ≡ wanted → (fault : Fault) → run.began ≡ machine_for same hash map t wanted → run.told ≡ progress.Refused fault → HasRefused same hash fixed id v wanted fault

@@ -1,16 +1,12 @@
 -- What a state that is played tells of the calls of a seat: those that have ended were answered in its history, and those that are under way are the newest of their callers; and
--- the pair that the newest one has found is the one that was seen.
+-- the pairs that were noted as the newest one ended are those that were seen.
 use Rattle.std.specs.Prelude.{◌≢◌, ◌==◌, ◌⊎◌, Option, Some, if◌then◌else◌}
 use Rattle.std.specs.List.{AllByRecursion}
 use Rattle.std.proofs.Common.{◌≡◌, ℕ, Bool, true, false, List, [], ◌∷◌, inl, inr, sym, subst}
 use Rattle.std.proofs.lemmas.Bool.{cases_eq, eq-eqb, ne_eqb}
-use Rattle.run_schedules.specs.Given.SeizeWordsWord.{block_in}
 use Rattle.run_legal.specs.Given.TablesDeclared.node.Node.{Node}
 use Rattle.run_legal.specs.Given.TablesDeclared.node.Node.TheVariants.{Pair}
-use Rattle.run_schedules.specs.Given.RawDeclared.machines.answer.KeyAnswer.TheVariants.{Found}
-use Rattle.run_schedules.specs.Given.RawDeclared.machines.progress.Answer.TheVariants.{Key}
 use Rattle.run_schedules.specs.Given.RawDeclared.machines.progress.Progress.{Progress}
-use Rattle.run_schedules.specs.Given.RawDeclared.machines.progress.Progress.TheVariants.{Done}
 use Rattle.threads_rule.specs.Views.Listed.{Called, has_progressed, seat_of}
 use Rattle.run_schedules.specs.declared.call.Response.{Response}
 use Rattle.run_schedules.specs.declared.call.Call.{Call}
@@ -23,18 +19,25 @@ use Rattle.run_legal.specs.Given.HistoriesEvents.{HasOutcome}
 use Rattle.run_schedules.specs.declared.outcome.Outcome.{Outcome}
 use Rattle.run_schedules.specs.declared.outcome.Outcome.TheVariants.{Answered}
 use Rattle.threads_rule.specs.Given.ActsActs.{Wanted}
-use Rattle.run_schedules.specs.Deeds.Deeds.{Entry}
+use Rattle.run_schedules.specs.Deeds.Deeds.{Entry, moment}
 use Rattle.run_schedules.specs.Deeds.History.{answers_of}
 use Rattle.run_legal.specs.Given.EffectsKnown.{Known}
+use Rattle.run_legal.specs.Given.EffectsDeclared.role.Role.TheVariants as role
 use Rattle.run_legal.specs.Given.NamedSeen.{kind_of}
+use Rattle.run_schedules.specs.Runs.Log.{pair_at}
 use Rattle.play_linear.specs.Given.PlayedPlay.{Calling, State, call_for, outcome_of}
 use Rattle.run_legal.specs.Given.ScenesStepping.{has_ended}
 use Rattle.play_moves.specs.OneHistory.Answered.{ByNewest, IfElse, IsAnswered, IsItsEnd}
-use Rattle.play_moves.specs.OneHistory.Lookups.{IsLookedUp, WasHad, WasSo}
+use Rattle.play_moves.specs.OneHistory.Lookups.{IsLookedUp, WasSo}
 use Rattle.play_moves.specs.OneHistory.Order.{HaveGot}
 use Rattle.play_moves.proofs.OneHistory.Order.{IsAside, IsOpen, NewestCall, Wants, newest_still, same_answers}
 
 module _ {K V : Type 0} where
+  -- what is noted as a pair is that pair, in this memory
+  abbrev pub NotedAreThere : Known → Mem (Node K V) → List (Entry K V) → Type 0
+  NotedAreThere known memory history =
+      (b n : ℕ) → known.roles b ≡ role.Pair n → (key : K) × (value : V) × (pair_at (moment history).stored n ≡ Some (key, value)) × (value_at memory b ≡ Some (Pair key value))
+
   -- of the history nothing is lost
   abbrev pub GoesOn : List (Entry K V) → List (Entry K V) → Type 0
   GoesOn history then_ = (then_ ≡ history) ⊎ ((e : Entry K V) × (then_ ≡ e ∷ history))
@@ -69,28 +72,10 @@ module _ {K V : Type 0} (same : K → K → Bool) where
       by rest true its = its.1
       by rest false its = rest its
 
-  -- the pair that a lookup has found is the one that was seen in this memory
-  abbrev pub HasSeenPair : List (Entry K V) → Mem (Node K V) → Called K V → Type 0
-  HasSeenPair history memory one =
-      (key : K) (word : ℕ) → call_for one.wanted ≡ On (Get key) → one.told ≡ Done (Key (Found word))
-      → (stored : K) × (value : V) × (value_at memory (block_in word) ≡ Some (Pair stored value)) × ByNewest one.caller (WasHad same one.caller one.map key value) history
-
   -- of the newest call, if it is this caller's
   abbrev pub IfNewest : ℕ → (Called K V → Type 0) → List (Called K V) → Type 0
   IfNewest i P [] = Unit {0}
   IfNewest i P (one ∷ before) = one.caller ≡ i → P one
-
-  pub newest_on : (history then_ : List (Entry K V)) (i : ℕ) (memory : Mem (Node K V)) → IsAside i history then_ → (calls : List (Called K V)) → IfNewest i (HasSeenPair history memory) calls
-      → IfNewest i (HasSeenPair then_ memory) calls
-  newest_on history then_ i memory aside [] has = tt
-  newest_on history then_ i memory aside (one ∷ before) has =
-      λ of key word asks told.
-      let it = has of key word asks told in (
-        it.0,
-        it.1,
-        it.2,
-        newest_still one.caller (WasHad same one.caller one.map key it.1) history then_ (subst (λ (k : ℕ). IsAside k history then_) (sym of) aside) it.3,
-      )
 
   -- By this entry a call comes to its end, as this was told of it.
   abbrev pub EndsAs : ℕ → ℕ → Wanted K V → Progress (Node K V) → List (Entry K V) → Entry K V → Type 0
@@ -98,6 +83,21 @@ module _ {K V : Type 0} (same : K → K → Bool) where
       (known : Known) × (value : Option V) × IsItsEnd same i m (call_for wanted) (outcome_of known (kind_of (call_for wanted)) value told) log e
       × ((key : K) (answer : Response V) → call_for wanted ≡ On (Get key) → outcome_of known (kind_of (call_for wanted)) value told ≡ Answered answer → WasSo same i m key answer log e)
       × ((key : OneKey K V) → call_for wanted ≡ On key → (replies : List (Option ℕ × Reply V)) × HasOutcome known key replies told (outcome_of known (kind_of (call_for wanted)) value told))
+
+  -- and what is noted as a pair by then is that pair, in this memory
+  abbrev pub EndsIn : Mem (Node K V) → ℕ → ℕ → Wanted K V → Progress (Node K V) → List (Entry K V) → Entry K V → Type 0
+  EndsIn memory i m wanted told log e = (ends : EndsAs i m wanted told log e) × NotedAreThere ends.0 memory (e ∷ log)
+
+  -- if it has ended
+  abbrev pub HasEndedIn : List (Entry K V) → Mem (Node K V) → Called K V → Type 0
+  HasEndedIn history memory one = has_ended one.told ≡ true → ByNewest one.caller (EndsIn memory one.caller one.map one.wanted one.told) history
+
+  pub newest_on : (history then_ : List (Entry K V)) (i : ℕ) (memory : Mem (Node K V)) → IsAside i history then_ → (calls : List (Called K V)) → IfNewest i (HasEndedIn history memory) calls
+      → IfNewest i (HasEndedIn then_ memory) calls
+  newest_on history then_ i memory aside [] has = tt
+  newest_on history then_ i memory aside (one ∷ before) has =
+      λ of ended.
+      newest_still one.caller (EndsIn memory one.caller one.map one.wanted one.told) history then_ (subst (λ (k : ℕ). IsAside k history then_) (sym of) aside) (has of ended)
 
   -- it is the newest step of its caller's calls
   abbrev pub HasEndedLast : List (Entry K V) → Called K V → Type 0
@@ -168,7 +168,7 @@ module _ {K V : Type 0} (same : K → K → Bool) where
   -- So a state tells of the calls of a seat.
   pub record Tells {S : Type 0} (seat : ℕ) (x : State K V S) (calls : List (Called K V)) (seen : Option (ℕ × Mem (Node K V))) : Type 0 where
     pub answered : AllByRecursion (HasAnswered x.history) calls
-    pub found : (i : ℕ) (memory : Mem (Node K V)) → seat ≡ seat_of i → seen ≡ Some (i, memory) → IfNewest i (HasSeenPair x.history memory) calls
+    pub found : (i : ℕ) (memory : Mem (Node K V)) → seat ≡ seat_of i → seen ≡ Some (i, memory) → IfNewest i (HasEndedIn x.history memory) calls
     pub under_way : (m i : ℕ) (c : Calling K V) → seat ≡ seat_of i → x.now.calls m i ≡ Some c → IsCalled i m c.call calls
     pub unanswered : (m i : ℕ) (c : Calling K V) → seat ≡ seat_of i → x.now.calls m i ≡ Some c → IsOpen i calls
     pub got : (i : ℕ) → seat ≡ seat_of i → HaveGot i calls (answers_of i x.history)

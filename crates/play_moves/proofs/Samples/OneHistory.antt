@@ -25,6 +25,7 @@ use Rattle.run_schedules.specs.Given.RawDeclared.machines.answer.KeyAnswer.TheVa
 use Rattle.run_schedules.specs.Given.RawDeclared.machines.progress.Answer.TheVariants.{Key}
 use Rattle.run_schedules.specs.Given.RawDeclared.machines.progress.Progress.TheVariants as progress
 use Rattle.threads_rule.specs.Views.Listed.{Called}
+use Rattle.play_moves.specs.OneHistory.Calls.{WasTaken}
 use Rattle.play_moves.specs.OneHistory.Lookups.{IsLookedUp, WasHad, WasSo}
 use Rattle.play_moves.specs.OneHistory.Order.{HaveGot}
 use Rattle.run_schedules.proofs.Given.General.{either, true_not_false as none_no, same_some}
@@ -176,6 +177,25 @@ had_other was =
     let found = was.found.comes in
     let one : was.number ≡ 1 = cc found in
     two_values was.stored (subst (λ (n : ℕ). pair_at (moment (told (answer.Found 1) stored)).stored n ≡ Some (was.stored, 11)) one was.pair)
+
+-- A removal was answered with the pair that it has taken out,
+abbrev taking : is_none (call_of (named 2) (moment removed)) ≡ false → (c : UnderWay ℕ ℕ) × (call_of (named 2) (moment removed) ≡ Some c)
+taking is = the (call_of (named 2) (moment removed)) is
+
+abbrev taken : Entry ℕ ℕ
+taken = entry (Steps 2) (Answered (answer.Found 1)) []
+
+was_taken : WasTaken nat_eq 2 0 1 (1, 10) removed taken
+was_taken = (
+  1,
+  record { deed = refl; comes = refl; there = (taking refl).0; here = (taking refl).1; on = refl; what = refl; right = record { changes = inl refl; ends = refl; asks = tt } },
+  refl,
+)
+
+-- wrong: with another value.
+took_other : WasTaken nat_eq 2 0 1 (1, 11) removed taken → ⊥
+took_other (number, is, pair) =
+    let comes = is.comes in let one : number ≡ 1 = cc comes in two_values 1 (subst (λ (n : ℕ). pair_at (moment (taken ∷ removed)).stored n ≡ Some (1, 11)) one pair)
 
 -- A storing that has found none to replace;
 abbrev storing : List (Entry ℕ ℕ)

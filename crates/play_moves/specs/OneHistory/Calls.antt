@@ -1,5 +1,5 @@
 -- What a seat may say of its newest call: what that was told is what one finite map means. So a public call says it in its own clause.
-use Rattle.std.specs.Prelude.{◌≡◌, ℕ, Bool, List, Option, Some, is_some, if◌then◌else◌}
+use Rattle.std.specs.Prelude.{◌≡◌, ℕ, Bool, List, ◌∷◌, Option, Some, is_some, if◌then◌else◌}
 use Rattle.threads_rule.specs.Given.SeizeSeatsState.{State, view_of}
 use Rattle.threads_rule.specs.Given.SeizeViewsDeclared.view.Fixed.{Fixed}
 use Rattle.run_schedules.specs.Given.SeizeWordsDeclared.fault.Fault.{Fault}
@@ -14,11 +14,25 @@ use Rattle.run_schedules.specs.declared.call.Call.TheVariants.{On}
 use Rattle.run_schedules.specs.declared.call.OneKey.TheVariants.{Insert, TryInsert, Remove}
 use Rattle.run_schedules.specs.declared.outcome.Outcome.TheVariants.{Answered, Refused}
 use Rattle.threads_rule.specs.Given.ActsActs.{Wanted}
-use Rattle.run_schedules.specs.Deeds.Deeds.{Entry}
+use Rattle.run_schedules.specs.Deeds.Deeds.{Entry, moment}
+use Rattle.run_schedules.specs.Runs.Log.{pair_at}
 use Rattle.run_schedules.specs.Deeds.History.{IsLinearizable, IsProtected}
 use Rattle.play_linear.specs.Given.PlayedPlay.{State as Played, call_for, first_state, play_all}
 use Rattle.play_moves.specs.OneHistory.Answered.{ByNewest, IsItsEnd}
 use Rattle.play_moves.specs.OneHistory.Lookups.{WasHad, WasSo}
+
+module _ {K V : Type 0} (same : K → K → Bool) where
+  -- By this entry the caller's call on this map, to remove this key, ends: it is answered with the number of a pair, under which this is stored.
+  abbrev pub WasTaken : ℕ → ℕ → K → K × V → List (Entry K V) → Entry K V → Type 0
+  WasTaken i map key pair log e =
+      (number : ℕ) × IsItsEnd same i map (On (Remove key)) (Answered (answers.Found number)) log e × (pair_at (moment (e ∷ log)).stored number ≡ Some pair)
+
+  -- By this one its call to store this where the key is missing ends: it is answered with the number of its own pair, or of the one that is there, and that is stored with this
+  -- value.
+  abbrev pub WasThere : ℕ → ℕ → K → V → V → List (Entry K V) → Entry K V → Type 0
+  WasThere i map key value its log e =
+      (stored : Bool) × (number : ℕ) × IsItsEnd same i map (On (TryInsert key value)) (Answered (if stored then answers.Stored number else answers.Occupied number value)) log e
+      × (found : K) × (pair_at (moment (e ∷ log)).stored number ≡ Some (found, its))
 
 module _ {K V S : Type 0} (same : K → K → Bool) (hash : S → K → ℕ) (fixed : Fixed) (id : ℕ) (v : View K V S) where
   -- Wherever the memory stands while the rule holds and the seat knows this: what was done is played to a history of which each entry is linearizable, and reclaims nothing
@@ -55,9 +69,17 @@ module _ {K V S : Type 0} (same : K → K → Bool) (hash : S → K → ℕ) (fi
   HasTried key value stored =
       ItsCall (λ i m log e. (pair : ℕ) × IsItsEnd same i m (On (TryInsert key value)) (Answered (if stored then answers.Stored pair else answers.Occupied pair value)) log e)
 
+  -- And the pair that is there then, its own or the other one, has this value.
+  abbrev pub HasOne : K → V → V → Type 0
+  HasOne key value its = ItsCall (λ i m. WasThere same i m key value its)
+
   -- It has removed the pair of this key, if there was one: its answer is the number of that pair, or that none was there.
   abbrev pub HasRemoved : K → Bool → Type 0
   HasRemoved key removed = ItsCall (λ i m log e. (pair : Option ℕ) × (is_some pair ≡ removed) × IsItsEnd same i m (On (Remove key)) (Answered (looked pair)) log e)
+
+  -- And it was this one.
+  abbrev pub HasRemovedPair : K → K × V → Type 0
+  HasRemovedPair key pair = ItsCall (λ i m. WasTaken same i m key pair)
 
   -- It was refused so, whatever it wanted.
   abbrev pub HasRefused : Wanted K V → Fault → Type 0

@@ -19,7 +19,7 @@ ghost use Rattle.seize_views.specs.declared.view.SlotView.TheVariants.{Rests};
 
 use crate::caller::MapCaller;
 use map_machines::{Lookup, NewMap};
-use map_tables::{Hashes, Node, Setting};
+use map_tables::{Equivalent, Hashes, Node, Setting};
 use papaya_raw::machines::{Answer, Machine, There};
 use seize_words::Fault;
 use std::hash::Hash;
@@ -43,9 +43,14 @@ impl<'a, K: Eq + Drop, V: Drop, S: Hashes<K>> MapCaller<'a, K, V, S> {
 
 impl<'a, K: Eq + Hash, V, S: Hashes<K>> MapCaller<'a, K, V, S> {
     /// Looks this key up within its section, by this lookup, and answers the word that names the pair found. How many steps it takes is up to the others.
-    pub fn finds<R: Wait>(&mut self, rt: &R, lookup: Lookup, key: &K) -> Option<u64>
-        requires may { MayLook S.hash key.now lookup self.old.seat.view }
-        ensures found { HasFound K.eq S.hash key.now result self.old.seat.view self.new.seat.view }
+    pub fn finds<R: Wait, Q: Equivalent<K>>(
+        &mut self,
+        rt: &R,
+        lookup: Lookup,
+        key: &Q,
+    ) -> Option<u64>
+        requires may { MayLook S.hash (Q.stands_for key.now) lookup self.old.seat.view }
+        ensures found { HasFound K.eq S.hash (Q.stands_for key.now) result self.old.seat.view self.new.seat.view }
         ensures blocks { self.new.blocks ≡ self.old.blocks }
     {
         self.blocks

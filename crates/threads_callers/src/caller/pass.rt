@@ -13,7 +13,7 @@ ghost use Rattle.seize_callers.specs.Kept.{is_home};
 use crate::caller::MapCaller;
 use crate::showing::Showing;
 use map_machines::Lookup;
-use map_tables::{Hashes, Node};
+use map_tables::{Equivalent, Hashes, Node};
 use seize_blocks::{Blocks, Errand, ErrandWith, Lesson, Seat, Turn};
 use seize_views::Fixed;
 use seize_words::Link;
@@ -90,16 +90,16 @@ fn parts_by<'g, K: Eq, V, S: Hashes<K>>(
 }
 
 /// Returns the pair that a seat has found of this key while it leans on the guard's, if it has found one.
-fn lent<'g, K: Eq, V, S: Hashes<K>>(
+fn lent<'g, K: Eq + Hash, V, S: Hashes<K>, Q: Equivalent<K>>(
     blocks: &'g Blocks<Node<K, V>, OfMaps<S>>,
     seat: &Seat<Node<K, V>, OfMaps<S>>,
     guard: &'g Seat<Node<K, V>, OfMaps<S>>,
-    _key: &K,
+    _key: &Q,
     found: Option<u64>,
 ) -> Option<(&'g K, &'g V)>
     requires own { (seat.now.base ≡ blocks.now.words.id.views_name) × (guard.now.base ≡ blocks.now.words.id.views_name) }
     requires under { (t : ℕ) × (seat.now.view.under ≡ Some (guard.now.id, t)) }
-    requires looked { HasLooked K.eq _key.now found seat.now.view }
+    requires looked { HasLooked K.eq (Q.stands_for _key.now) found seat.now.view }
     ensures lent { IfSome result (λ pair. (word : ℕ) × (found ≡ Some word)
         × IsLentBy K.eq S.hash blocks.now.words.fixed seat.now.id seat.now.view guard.now.id guard.now.view word (pair.0.now, pair.1.now)) }
     ensures none { IfNone result (found ≡ None) }
@@ -110,24 +110,26 @@ fn lent<'g, K: Eq, V, S: Hashes<K>>(
 
 /// Looks a key up, by this lookup, under the guard's seat, which is within its section. It answers that seat, too: by that it is known that keys and hashers last as long as
 /// what is lent.
-struct FindsBy<'g, 'f, R, K: Eq, V, S: Hashes<K>> {
+struct FindsBy<'g, 'f, R, K: Eq, V, S: Hashes<K>, Q> {
     rt: &'f R,
-    key: &'f K,
+    key: &'f Q,
     lookup: Lookup,
     blocks: &'g Blocks<Node<K, V>, OfMaps<S>>,
     guard: &'g Seat<Node<K, V>, OfMaps<S>>,
 }
 
-impl<'g, 'f, R: Wait, K: Eq + Hash, V, S: Hashes<K>> ErrandWith<Node<K, V>, OfMaps<S>>
-    for FindsBy<'g, 'f, R, K, V, S> {
+impl<'g, 'f, R: Wait, K: Eq + Hash, V, S: Hashes<K>, Q: Equivalent<K>> ErrandWith<
+    Node<K, V>,
+    OfMaps<S>,
+> for FindsBy<'g, 'f, R, K, V, S, Q> {
     type Answer = (Option<(&'g K, &'g V)>, &'g Seat<Node<K, V>, OfMaps<S>>);
 
     ghost asks = { λ f name fixed lent u v. (f.blocks.now.words.id.views_name ≡ name) × (f.blocks.now.words.fixed ≡ fixed) × (f.guard.now.base ≡ name)
-        × (f.guard.now.id ≡ lent) × (f.guard.now.view.under ≡ None) × (f.guard.now.view.map ≡ v.map) × MayLook S.hash f.key.now f.lookup f.guard.now.view × IsBack v };
+        × (f.guard.now.id ≡ lent) × (f.guard.now.view.under ≡ None) × (f.guard.now.view.map ≡ v.map) × MayLook S.hash (Q.stands_for f.key.now) f.lookup f.guard.now.view × IsBack v };
 
     ghost did = { λ f fixed v answer w. IsBack w
-        × IfSome answer.0 (λ pair. HasFoundUnder K.eq S.hash fixed f.key.now f.guard.now.id f.guard.now.view v w (pair.0.now, pair.1.now))
-        × IfNone answer.0 (HasRunUnder K.eq S.hash (Get f.key.now) (found_of None) f.guard.now.view v w) };
+        × IfSome answer.0 (λ pair. HasFoundUnder K.eq S.hash fixed (Q.stands_for f.key.now) f.guard.now.id f.guard.now.view v w (pair.0.now, pair.1.now))
+        × IfNone answer.0 (HasRunUnder K.eq S.hash (Get (Q.stands_for f.key.now)) (found_of None) f.guard.now.view v w) };
 
     fn run(
         self,
@@ -151,25 +153,25 @@ impl<'g, 'f, R: Wait, K: Eq + Hash, V, S: Hashes<K>> ErrandWith<Node<K, V>, OfMa
 }
 
 /// Sends a seat that has learnt the guard's map to look this key up under the guard's seat.
-fn sends<'g, R: Wait, K: Eq + Hash, V, S: Hashes<K>>(
+fn sends<'g, R: Wait, K: Eq + Hash, V, S: Hashes<K>, Q: Equivalent<K>>(
     blocks: &'g Blocks<Node<K, V>, OfMaps<S>>,
     guard: &'g Seat<Node<K, V>, OfMaps<S>>,
     seat: &mut Seat<Node<K, V>, OfMaps<S>>,
     rt: &R,
     lookup: Lookup,
-    key: &K,
+    key: &Q,
 ) -> Option<(&'g K, &'g V)>
     requires own { (seat.old.base ≡ blocks.now.words.id.views_name) × (guard.now.base ≡ blocks.now.words.id.views_name) }
     requires home { seat.old.away ≡ None }
     requires lone { guard.now.view.under ≡ None }
     requires map { guard.now.view.map ≡ seat.old.view.map }
-    requires may { MayLook S.hash key.now lookup guard.now.view }
+    requires may { MayLook S.hash (Q.stands_for key.now) lookup guard.now.view }
     requires back { IsBack seat.old.view }
     ensures same { seat.new.base ≡ seat.old.base }
     ensures home { seat.new.away ≡ None }
     ensures back { IsBack seat.new.view }
-    ensures found { IfSome result (λ pair. HasFoundUnder K.eq S.hash blocks.now.words.fixed key.now guard.now.id guard.now.view seat.old.view seat.new.view (pair.0.now, pair.1.now)) }
-    ensures absent { IfNone result (HasRunUnder K.eq S.hash (Get key.now) (found_of None) guard.now.view seat.old.view seat.new.view) }
+    ensures found { IfSome result (λ pair. HasFoundUnder K.eq S.hash blocks.now.words.fixed (Q.stands_for key.now) guard.now.id guard.now.view seat.old.view seat.new.view (pair.0.now, pair.1.now)) }
+    ensures absent { IfNone result (HasRunUnder K.eq S.hash (Get (Q.stands_for key.now)) (found_of None) guard.now.view seat.old.view seat.new.view) }
 {
     let errand = FindsBy {
         rt,
@@ -195,19 +197,19 @@ impl<'a, K: Eq, V, S: Hashes<K>> MapCaller<'a, K, V, S> {
 impl<'a, K: Eq + Hash, V, S: Hashes<K>> MapCaller<'a, K, V, S> {
     /// Looks this key up by a pass, within its section, by this lookup, in the map that it knows, and returns the pair found: it is lent for as long as the
     /// caller is borrowed, whatever the pass does then. How many steps it takes is up to the others.
-    pub fn finds_by<'g, R: Wait>(
+    pub fn finds_by<'g, R: Wait, Q: Equivalent<K>>(
         &'g self,
         rt: &R,
         lookup: Lookup,
-        key: &K,
+        key: &Q,
         pass: &mut MapPassSeat<K, V, S>,
     ) -> Option<(&'g K, &'g V)>
         requires own { pass.old.seat.base ≡ self.now.blocks.now.words.id.views_name }
-        requires may { MayLook S.hash key.now lookup self.now.seat.view }
+        requires may { MayLook S.hash (Q.stands_for key.now) lookup self.now.seat.view }
         ensures own { pass.new.seat.base ≡ pass.old.seat.base }
-        ensures found { IfSome result (λ pair. HasFoundUnder K.eq S.hash self.now.blocks.now.words.fixed key.now self.now.seat.id self.now.seat.view
+        ensures found { IfSome result (λ pair. HasFoundUnder K.eq S.hash self.now.blocks.now.words.fixed (Q.stands_for key.now) self.now.seat.id self.now.seat.view
             pass.old.seat.view pass.new.seat.view (pair.0.now, pair.1.now)) }
-        ensures absent { IfNone result (HasRunUnder K.eq S.hash (Get key.now) (found_of None) self.now.seat.view pass.old.seat.view pass.new.seat.view) }
+        ensures absent { IfNone result (HasRunUnder K.eq S.hash (Get (Q.stands_for key.now)) (found_of None) self.now.seat.view pass.old.seat.view pass.new.seat.view) }
     {
         let guard = &self.seat;
         self.blocks.learn::<Showing>(&mut pass.seat, guard);

@@ -8,6 +8,7 @@ ghost use Rattle.threads_callers.specs.Given.ActsActs.{ContainsKey, Remove, TryT
 ghost use Rattle.seize_views.specs.declared.view.Has.TheVariants.{Nothing};
 ghost use Rattle.seize_views.specs.declared.view.SlotView.TheVariants.{Inside};
 
+use crate::form::Form;
 use crate::session::{SessionBase, setting_in};
 use map_machines::Lookup;
 use map_tables::{Hashes, Node};
@@ -19,15 +20,15 @@ use threads_callers::{Attempt, Found, Ran, came_of, refused, removed, there};
 
 impl<'a, K: Eq + Hash, V, S: Hashes<K>> SessionBase<'a, K, V, S> {
     /// Looks a key up within the section of its slot, and answers whether the map has a pair of it.
-    pub fn contains_key<R: Wait>(&mut self, rt: &R, key: &K) -> bool
+    pub fn contains_key<R: Wait, Q: Form<K, S>>(&mut self, rt: &R, key: &Q) -> bool
         requires inside { self.old.caller.seat.view.slot ≡ Inside self.old.slot Nothing }
         ensures inside { self.new.caller.seat.view.slot ≡ Inside self.new.slot Nothing }
         ensures slot { self.new.slot ≡ self.old.slot }
-        ensures ran { (found : Option ℕ) × HasRun K.eq S.hash (ContainsKey key.now) (found_of found) self.old.caller.seat.view self.new.caller.seat.view × (result ≡ is_some found) }
+        ensures ran { (found : Option ℕ) × HasRun K.eq S.hash (ContainsKey (Q.stands_for key.now)) (found_of found) self.old.caller.seat.view self.new.caller.seat.view × (result ≡ is_some found) }
         ensures map { self.new.caller.seat.view.map ≡ self.old.caller.seat.view.map }
         ensures blocks { self.new.caller.blocks ≡ self.old.caller.blocks }
     {
-        let hash = self.hasher.hash_of(key);
+        let hash = key.hash_by(self.hasher);
         let lookup = Lookup::new(self.setting.root, self.setting.mode, hash);
         let found = self.caller.finds(rt, lookup, key);
         found.is_some()

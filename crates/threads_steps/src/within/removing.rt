@@ -19,6 +19,6 @@ impl<'a, K: Eq, V, S: Hashes<K>> Within<'a, K, V, S> {
         ensures calls { IsCalling _hasher.now (KeyMachine (removing _setting _hash key.now)) self.new.seat.now.view }
         ensures same { IsSameSeat self.old self.new }
     {
-        self.begins_on_as::<Brand>(key);
+        self.begins_on_as::<Brand, K>(key);
     }
 }

@@ -10,7 +10,7 @@ goes_through-requires g c =
     let was = c.new-within.ensures.seat in
     let before : c.args.seat.now.view ≡ c.new-within.result.seat.now.view = cc was in record {
       looks =
-          subst (λ (v : View g.row.K.Denot g.row.V.Denot g.row.S.Denot). LooksFor c.args.key.now (looks c.args.root c.args.mode c.args.hash c.args.stands) v) before c.requires.looks;
+          subst (λ (v : View g.row.K.Denot g.row.V.Denot g.row.S.Denot). LooksFor (g.Q.Equivalent.stands_for c.args.key.now) (looks c.args.root c.args.mode c.args.hash c.args.stands) v) before c.requires.looks;
     }
 
 -- the seat is the one that was lent
@@ -27,7 +27,7 @@ returns-clause-looked g c =
     let s = kept_same _ _ _ _ _ _ _ _ c.goes_through.ensures.same in
     let is = c.seat-1.given.1 (sym (s.1 ∙ c.new-within.ensures.name)) in
     let after : c.goes_through.new.self.seat.now.view ≡ c.seat-1.given.0.view = cc is in
-    subst (λ (w : View g.row.K.Denot g.row.V.Denot g.row.S.Denot). HasLooked g.K.PartialEq.eq c.args.key.now c.goes_through.result w) after c.goes_through.ensures.looked
+    subst (λ (w : View g.row.K.Denot g.row.V.Denot g.row.S.Denot). HasLooked g.K.PartialEq.eq (g.Q.Equivalent.stands_for c.args.key.now) c.goes_through.result w) after c.goes_through.ensures.looked
 
 pub returns-clause-told : goal.returns-clause-told
 returns-clause-told g c =

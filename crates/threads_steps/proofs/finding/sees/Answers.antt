@@ -20,6 +20,6 @@ returns-clause-seen g c =
     let was = c.new-within.ensures.seat in
     let before : c.new-within.result.seat.now.view ≡ c.args.seat.now.view = cc was in
     let after : c.sees.new.self.seat.now.view ≡ c.seat-1.given.0.view = cc is in
-    subst (λ (v : View g.row.K.Denot g.row.V.Denot g.row.S.Denot). HasSeen g.K.PartialEq.eq g.S.Hashes.hash c.args.key.now c.args.root c.args.mode c.args.hash c.sees.result v c.seat-1.given.0.view) before
-    (subst (λ (w : View g.row.K.Denot g.row.V.Denot g.row.S.Denot). HasSeen g.K.PartialEq.eq g.S.Hashes.hash c.args.key.now c.args.root c.args.mode c.args.hash c.sees.result c.new-within.result.seat.now.view w) after
+    subst (λ (v : View g.row.K.Denot g.row.V.Denot g.row.S.Denot). HasSeen g.K.PartialEq.eq g.S.Hashes.hash (g.Q.Equivalent.stands_for c.args.key.now) c.args.root c.args.mode c.args.hash c.sees.result v c.seat-1.given.0.view) before
+    (subst (λ (w : View g.row.K.Denot g.row.V.Denot g.row.S.Denot). HasSeen g.K.PartialEq.eq g.S.Hashes.hash (g.Q.Equivalent.stands_for c.args.key.now) c.args.root c.args.mode c.args.hash c.sees.result c.new-within.result.seat.now.view w) after
     c.sees.ensures.seen)

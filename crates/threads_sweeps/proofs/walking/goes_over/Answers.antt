@@ -19,16 +19,16 @@ use Rattle.threads_sweeps.proofs.Gone.{gone_over}
 use Rattle.threads_sweeps.proofs.walking.goes_over.Goals as goal
 
 pub begins-requires : goal.begins-requires
-begins-requires g c = let m = c.requires.may.may in record { inside = (m.slot, m.inside); knows = (m.map, m.knows, m.only); free = m.free }
+begins-requires g c = let m = c.requires.over.may in record { inside = (m.slot, m.inside); knows = (m.map, m.knows, m.only); free = m.free }
 
 pub loop-init : goal.loop-init
 loop-init g c = (
-  is_sweeping c.args.hasher.now g.K.PartialEq.eq g.S.Hashes.hash Walks c.args.machine.now c.args.within.now.seat.now.view c.begins.new.self.seat.now.view c.requires.may
-      (is_begun g.K.PartialEq.eq g.S.Hashes.hash c.args.hasher.now c.args.machine.now c.args.within.now.seat.now.view c.begins.new.self.seat.now.view c.requires.may.may c.begins.ensures.begins),
+  is_sweeping c.args.hasher.now g.K.PartialEq.eq g.S.Hashes.hash Walks c.args.machine.now c.args.within.now.seat.now.view c.begins.new.self.seat.now.view c.requires.over
+      (is_begun g.K.PartialEq.eq g.S.Hashes.hash c.args.hasher.now c.args.machine.now c.args.within.now.seat.now.view c.begins.new.self.seat.now.view c.requires.over.may c.begins.ensures.begins),
   record { slot = refl; map = refl },
   refl,
   λ told. refl,
-  c.requires.callable,
+  c.requires.may,
   (0, (refl, refl)),
 )
 
@@ -36,7 +36,7 @@ pub hears-heard-requires : goal.hears-heard-requires
 hears-heard-requires g c = record { sweep = walk_tells c.args.hasher.now c.walks-told.new.machine c.walks-told.new.self.seat.now.view c.walks-told.result c.walks-told.ensures.told }
 
 pub shows_told-requires : goal.shows_told-requires
-shows_told-requires g c = record { walked = (c.walks-told.result, c.hears-heard.ensures, c.walks-told.ensures.told); callable = c.loop.invariant.4 }
+shows_told-requires g c = record { walked = (c.walks-told.result, c.hears-heard.ensures, c.walks-told.ensures.told); may = c.loop.invariant.4 }
 
 pub returns-in-Some-shows_told-clause-gone : goal.returns-in-Some-shows_told-clause-gone
 returns-in-Some-shows_told-clause-gone g c =
@@ -44,23 +44,22 @@ returns-in-Some-shows_told-clause-gone g c =
     let end = c.in-Some-shows_told.end in let ended = c.in-Some-shows_told.ensures.ended in
     let told = subst (λ (h : Heard). IsHeard c.walks-told.result h) ended.0 c.hears-heard.ensures in
     subst (λ (x : View g.row.K.Denot g.row.V.Denot g.row.S.Denot). HasGoneOver g.K.PartialEq.eq g.S.Hashes.hash Walks end u x) (sym {A = View g.row.K.Denot g.row.V.Denot g.row.S.Denot} ended.1)
-    (gone_over g.K.PartialEq.eq g.S.Hashes.hash Walks c.args.machine.now c.requires.may.setting u b v w end c.requires.may.is c.begins.ensures.begins
+    (gone_over g.K.PartialEq.eq g.S.Hashes.hash Walks c.args.machine.now c.requires.over.setting u b v w end c.requires.over.is c.begins.ensures.begins
     (stays_on b v w c.loop.invariant.1 c.walks-told.ensures.stepped.stays) c.loop.invariant.3
     (subst (λ (t : Progress (Node g.row.K.Denot g.row.V.Denot)). HasProgressed t v w) told c.walks-told.ensures.stepped.calls)
     (walk_free c.args.hasher.now c.walks-told.new.machine w c.walks-told.result end told c.walks-told.ensures.told))
 
-pub returns-in-Some-shows_told-clause-each : goal.returns-in-Some-shows_told-clause-each
-returns-in-Some-shows_told-clause-each g c =
+pub returns-in-Some-shows_told-clause-shown : goal.returns-in-Some-shows_told-clause-shown
+returns-in-Some-shows_told-clause-shown g c =
     let u = c.args.within.now.seat.now.view in let b = c.begins.new.self.seat.now.view in let n = c.loop.invariant.5 in (
       b,
       suc n.0,
-      c.shows_told.new.each,
-      subst (λ (wanted : Wanted g.row.K.Denot g.row.V.Denot). Begins g.K.PartialEq.eq g.S.Hashes.hash wanted u b) (ap wanted_of c.requires.may.is) c.begins.ensures.begins,
+      subst (λ (wanted : Wanted g.row.K.Denot g.row.V.Denot). Begins g.K.PartialEq.eq g.S.Hashes.hash wanted u b) (ap wanted_of c.requires.over.is) c.begins.ensures.begins,
       (
-        c.loop.each,
+        c.loop.onlooker,
         c.loop.within.seat.now.view,
         n.1,
-        (c.walks-told.new.self.seat.now.view, c.walks-told.result, c.walks-told.ensures.by, c.walks-told.ensures.stepped.calls, c.shows_told.ensures.shown c.walks-told.result c.hears-heard.ensures),
+        (c.walks-told.new.self.seat.now.view, c.walks-told.result, c.walks-told.ensures.by, c.walks-told.ensures.stepped.calls, c.shows_told.ensures.seen c.walks-told.result c.hears-heard.ensures),
       ),
     )
 
@@ -75,6 +74,6 @@ loop-preserved g c =
       stays_on b w x (stays_on b v w c.loop.invariant.1 c.walks-told.ensures.stepped.stays) shows.stays,
       shows.same ∙ c.walks-told.ensures.same ∙ c.loop.invariant.2,
       them_on b w x (of_them b v w c.walks-told.result c.loop.invariant.3 c.walks-told.ensures.stepped.calls) shows.them,
-      shows.callable,
-      (suc n.0, (c.loop.each, v, n.1, (w, c.walks-told.result, c.walks-told.ensures.by, c.walks-told.ensures.stepped.calls, shows.shown c.walks-told.result c.hears-heard.ensures))),
+      shows.may,
+      (suc n.0, (c.loop.onlooker, v, n.1, (w, c.walks-told.result, c.walks-told.ensures.by, c.walks-told.ensures.stepped.calls, shows.seen c.walks-told.result c.hears-heard.ensures))),
     )

@@ -10,7 +10,7 @@ returns-in-Some g c =
         λ _. tt,
         (
           (refl, record { memory = y.ensures.blocks; map = y.ensures.map }),
-          had_value g.K.PartialEq.eq g.S.Hashes.hash c.args.self.now y.new.self y.ensures.inside y.ensures.slot y.ensures.map y.ensures.blocks c.args.key.now c.value.result.now
+          had_value g.K.PartialEq.eq g.S.Hashes.hash c.args.self.now y.new.self y.ensures.inside y.ensures.slot y.ensures.map y.ensures.blocks (g.Q.Equivalent.stands_for c.args.key.now) c.value.result.now
               (c.in-Some.found.word, e.found, e.shown, c.value.ensures),
         ),
       ),
@@ -25,7 +25,7 @@ returns-in-None g c =
         λ _. tt,
         (
           (refl, record { memory = y.ensures.blocks; map = y.ensures.map }),
-          had_none g.K.PartialEq.eq g.S.Hashes.hash c.args.self.now y.new.self y.ensures.inside y.ensures.slot y.ensures.map y.ensures.blocks c.args.key.now c.in-None.ensures.absent,
+          had_none g.K.PartialEq.eq g.S.Hashes.hash c.args.self.now y.new.self y.ensures.inside y.ensures.slot y.ensures.map y.ensures.blocks (g.Q.Equivalent.stands_for c.args.key.now) c.in-None.ensures.absent,
         ),
       ),
       record { got = tt },

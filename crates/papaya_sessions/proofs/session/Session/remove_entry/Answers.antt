@@ -3,7 +3,7 @@ use Rattle.std.proofs.Common.{refl, subst}
 use Rattle.threads_updates.specs.Given.CallersDeclared.answers.Found.{Found}
 use Rattle.threads_updates.specs.Given.CallsAnswers.{HasRemoved, HasTakenOut}
 use Rattle.threads_updates.specs.Given.CallsShown.{Shows}
-use Rattle.papaya_sessions.proofs.OneMap.{gave_up, not_removed}
+use Rattle.papaya_sessions.proofs.OneMap.{gave_up, gave_up_pair, not_removed}
 use Rattle.papaya_sessions.proofs.session.Session.remove_entry.Goals as goal
 
 pub pair-requires : goal.pair-requires
@@ -12,7 +12,8 @@ pair-requires g c =
 
 pub returns-in-Ok-Some : goal.returns-in-Ok-Some
 returns-in-Ok-Some g c =
-    let y = c.remove in let at = c.in-Ok-Some in let v = c.args.self.now.base.caller.seat.view in let w = y.new.self.caller.seat.view in (
+    let y = c.remove in let at = c.in-Ok-Some in let v = c.args.self.now.base.caller.seat.view in let w = y.new.self.caller.seat.view in
+    let took = subst (λ (o : Option Found). HasTakenOut g.K.PartialEq.eq g.S.Hashes.hash c.args.key (option_map (λ (f : Found). f.word) o) v w) at.field-0-is at.ensures.taken in (
       (
         refl,
         λ _. tt,
@@ -21,8 +22,10 @@ returns-in-Ok-Some g c =
           (
             gave_up g.K.PartialEq.eq g.S.Hashes.hash c.args.self.now y.new.self y.ensures.inside y.ensures.slot y.ensures.map y.ensures.blocks c.args.key true
                 (subst (λ (o : Option Found). HasRemoved g.K.PartialEq.eq g.S.Hashes.hash c.args.key (is_some o) v w) at.field-0-is at.ensures.removed),
+            gave_up_pair g.K.PartialEq.eq g.S.Hashes.hash c.args.self.now y.new.self y.ensures.inside y.ensures.slot y.ensures.map y.ensures.blocks c.args.key at.taken.word c.pair.result.0.now
+                c.pair.result.1.now took c.pair.ensures,
             at.taken.word,
-            subst (λ (o : Option Found). HasTakenOut g.K.PartialEq.eq g.S.Hashes.hash c.args.key (option_map (λ (f : Found). f.word) o) v w) at.field-0-is at.ensures.taken,
+            took,
             c.pair.ensures,
           ),
           tt,

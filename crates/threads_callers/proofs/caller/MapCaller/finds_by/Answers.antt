@@ -36,11 +36,11 @@ sends-requires g c =
 pub returns-clause-found : goal.returns-clause-found
 returns-clause-found g c =
     let x = c.args.self.now in let so = c.learn.ensures.goes in
-    found_since g.K.PartialEq.eq g.S.Hashes.hash x.blocks.now.words.fixed c.args.key.now x.seat.id x.seat.view c.learn.new.seat.view c.args.pass.now.seat.view c.sends.new.seat.view
+    found_since g.K.PartialEq.eq g.S.Hashes.hash x.blocks.now.words.fixed (g.Q.Equivalent.stands_for c.args.key.now) x.seat.id x.seat.view c.learn.new.seat.view c.args.pass.now.seat.view c.sends.new.seat.view
     (ap (λ (v : View g.row.K.Denot g.row.V.Denot g.row.S.Denot). v.calls) so.2) (λ pair. (pair.0.now, pair.1.now)) c.sends.result c.sends.ensures.found
 
 pub returns-clause-absent : goal.returns-clause-absent
 returns-clause-absent g c =
     let x = c.args.self.now in let so = c.learn.ensures.goes in
-    none_since g.K.PartialEq.eq g.S.Hashes.hash x.blocks.now.words.fixed c.args.key.now x.seat.id x.seat.view c.learn.new.seat.view c.args.pass.now.seat.view c.sends.new.seat.view
+    none_since g.K.PartialEq.eq g.S.Hashes.hash x.blocks.now.words.fixed (g.Q.Equivalent.stands_for c.args.key.now) x.seat.id x.seat.view c.learn.new.seat.view c.args.pass.now.seat.view c.sends.new.seat.view
     (ap (λ (v : View g.row.K.Denot g.row.V.Denot g.row.S.Denot). v.calls) so.2) c.sends.result c.sends.ensures.absent

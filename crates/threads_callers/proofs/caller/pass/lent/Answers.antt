@@ -9,7 +9,7 @@ parts_by-requires g c = record {
   under = c.requires.under;
   free = c.requires.looked.free;
   shown = (
-    c.args._key.now,
-    subst (λ (o : Option ℕ). IfSome o (HasLookedAt g.K.PartialEq.eq c.args._key.now c.args.seat.now.view)) c.in_ok-word.was c.requires.looked.shows,
+    (g.Q.Equivalent.stands_for c.args._key.now),
+    subst (λ (o : Option ℕ). IfSome o (HasLookedAt g.K.PartialEq.eq (g.Q.Equivalent.stands_for c.args._key.now) c.args.seat.now.view)) c.in_ok-word.was c.requires.looked.shows,
   );
 }

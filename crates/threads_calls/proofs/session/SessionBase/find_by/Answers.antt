@@ -8,6 +8,6 @@ finds_by-requires g c =
     let x = c.args.self.now in record {
       own = c.requires.own;
       may =
-          may_look g.S.Hashes.hash x.caller.seat.view x.setting x.hasher.now c.args.key.now c.new-lookup.result x.slot x.caller.lone c.requires.inside x.free x.knows
-          (c.new-lookup.ensures ∙ ap (looking x.setting.root x.setting.mode) c.hash_of-hash.ensures);
+          may_look g.S.Hashes.hash x.caller.seat.view x.setting x.hasher.now (g.Q.Equivalent.stands_for c.args.key.now) c.new-lookup.result x.slot x.caller.lone c.requires.inside x.free x.knows
+          (c.new-lookup.ensures ∙ ap (looking x.setting.root x.setting.mode) c.hash_by-hash.ensures);
     }

@@ -2,7 +2,7 @@ use Rattle.std.proofs.Common.{◌≡◌, sym, subst, ◌∙◌}
 use Rattle.papaya_raw.specs.Given.ReservesDeclared.sweep.Purpose.TheVariants.{Walks}
 use Rattle.threads_calls.specs.Given.ViewsDeclared.view.View.{View}
 use Rattle.threads_calls.specs.Given.ErrandsSweeping.{HasGoneOver}
-use Rattle.threads_sweeps.specs.Closures.{HasShownEach}
+use Rattle.threads_sweeps.specs.Onlookers.{HasShownTo}
 use Rattle.seize_callers.proofs.Keeping.{kept_same}
 use Rattle.threads_sweeps.proofs.walking.WalksErrandNodeOfMaps.run.Goals as goal
 
@@ -18,7 +18,7 @@ returns g c =
       cc (is, own, blocks, first, was),
       cc (is, id, was),
       cc (is, away, was),
-      subst (λ (v : View g.row.K.Denot g.row.V.Denot g.row.S.Denot). HasGoneOver g.K.PartialEq.eq g.S.Hashes.hash Walks c.goes_over.result v c.seat-1.given.0.view × HasShownEach g.K.PartialEq.eq g.S.Hashes.hash g.F.FnMut c.args.self.each.now v c.seat-1.given.0.view) before
-          (subst (λ (w : View g.row.K.Denot g.row.V.Denot g.row.S.Denot). HasGoneOver g.K.PartialEq.eq g.S.Hashes.hash Walks c.goes_over.result c.new-within.result.seat.now.view w × HasShownEach g.K.PartialEq.eq g.S.Hashes.hash g.F.FnMut c.args.self.each.now c.new-within.result.seat.now.view w) after
-          (c.goes_over.ensures.gone, c.goes_over.ensures.each)),
+      subst (λ (v : View g.row.K.Denot g.row.V.Denot g.row.S.Denot). HasGoneOver g.K.PartialEq.eq g.S.Hashes.hash Walks c.goes_over.result v c.seat-1.given.0.view × HasShownTo g.K.PartialEq.eq g.S.Hashes.hash g.T.Onlooker.has_seen c.args.self.onlooker c.goes_over.new.onlooker v c.seat-1.given.0.view) before
+          (subst (λ (w : View g.row.K.Denot g.row.V.Denot g.row.S.Denot). HasGoneOver g.K.PartialEq.eq g.S.Hashes.hash Walks c.goes_over.result c.new-within.result.seat.now.view w × HasShownTo g.K.PartialEq.eq g.S.Hashes.hash g.T.Onlooker.has_seen c.args.self.onlooker c.goes_over.new.onlooker c.new-within.result.seat.now.view w) after
+          (c.goes_over.ensures.gone, c.goes_over.ensures.shown)),
     )

@@ -15,7 +15,7 @@ pub learn-requires-clause-may : goal.learn-requires-clause-may
 learn-requires-clause-may g c =
     let asks = c.requires.1.3 in let k = c.args.self.guard.now in let s = c.args.seat.now in
     may_lean g.K.PartialEq.eq g.S.Hashes.hash c.args.blocks.now.words.fixed (c.leanings_begin.ensures.begin g.K.PartialEq.eq g.S.Hashes.hash) s.id k.id s.view k.view
-    c.args.self.key.now c.args.self.lookup asks.7 asks.4 asks.6
+    (g.Q.Equivalent.stands_for c.args.self.key.now) c.args.self.lookup asks.7 asks.4 asks.6
 
 pub learn-requires-clause-errand : goal.learn-requires-clause-errand
 learn-requires-clause-errand g c = λ home rests w told. absurd (subst (λ (e : Away). Lends e c.requires.1.0) home c.requires.1.2)
@@ -32,7 +32,7 @@ run-found-requires g c =
     let asks = c.requires.1.3 in let k = c.args.self.guard.now in let s = c.args.seat.now in (
       c.learn.ensures.same.0 ∙ c.requires.0,
       (λ home. subst (λ (e : Away). Lends e c.requires.1.0) (sym c.learn.ensures.errand ∙ home) c.requires.1.2),
-      may_look_under g.S.Hashes.hash c.args.self.key.now c.args.self.lookup k.view s.view c.learn.new.seat.view k.id asks.4 asks.6 c.learn.ensures.goes asks.7 asks.5,
+      may_look_under g.S.Hashes.hash (g.Q.Equivalent.stands_for c.args.self.key.now) c.args.self.lookup k.view s.view c.learn.new.seat.view k.id asks.4 asks.6 c.learn.ensures.goes asks.7 asks.5,
     )
 
 pub lent-pair-requires : goal.lent-pair-requires
@@ -41,7 +41,7 @@ lent-pair-requires g c =
       own = (c.run-found.ensures.0 ∙ c.learn.ensures.same.0 ∙ sym asks.0, asks.2 ∙ sym asks.0);
       under = (
         c.learn.ensures.goes.0,
-        (stands_under g.S.Hashes.hash c.args.self.key.now c.args.self.lookup k.view s.view c.learn.new.seat.view k.id asks.4 asks.6 c.learn.ensures.goes g.K.PartialEq.eq
+        (stands_under g.S.Hashes.hash (g.Q.Equivalent.stands_for c.args.self.key.now) c.args.self.lookup k.view s.view c.learn.new.seat.view k.id asks.4 asks.6 c.learn.ensures.goes g.K.PartialEq.eq
             c.run-found.result c.run-found.new.seat.view has).0,
       );
       looked = has.looked;
@@ -54,7 +54,7 @@ pub turn-requires-clause-may : goal.turn-requires-clause-may
 turn-requires-clause-may g c =
     let asks = c.requires.1.3 in let k = c.args.self.guard.now in let s = c.args.seat.now in let n = c.run-found.new.seat in let has = c.run-found.ensures.3 in
     c.leanings_begin.ensures.end g.K.PartialEq.eq g.S.Hashes.hash c.args.blocks.now.words.fixed n.id n.view
-    ((stands_under g.S.Hashes.hash c.args.self.key.now c.args.self.lookup k.view s.view c.learn.new.seat.view k.id asks.4 asks.6 c.learn.ensures.goes g.K.PartialEq.eq
+    ((stands_under g.S.Hashes.hash (g.Q.Equivalent.stands_for c.args.self.key.now) c.args.self.lookup k.view s.view c.learn.new.seat.view k.id asks.4 asks.6 c.learn.ensures.goes g.K.PartialEq.eq
     c.run-found.result n.view has).1 ∙ asks.7.rests) has.looked.free
 
 pub turn-requires-clause-errand : goal.turn-requires-clause-errand
@@ -68,7 +68,7 @@ pub returns : goal.returns
 returns g c =
     let asks = c.requires.1.3 in let k = c.args.self.guard.now in let s = c.args.seat.now in let n = c.run-found.new.seat in let has = c.run-found.ensures.3 in
     let found =
-    found_under g.S.Hashes.hash c.args.self.key.now c.args.self.lookup k.view s.view c.learn.new.seat.view k.id asks.4 asks.6 c.learn.ensures.goes g.K.PartialEq.eq asks.5
+    found_under g.S.Hashes.hash (g.Q.Equivalent.stands_for c.args.self.key.now) c.args.self.lookup k.view s.view c.learn.new.seat.view k.id asks.4 asks.6 c.learn.ensures.goes g.K.PartialEq.eq asks.5
     n.view c.turn.new.seat.view c.turn.ensures.goes c.args.blocks.now.words.fixed n.id c.run-found.result has (λ pair. (pair.0.now, pair.1.now)) c.lent-pair.result
     (subst (λ (f : Fixed). IfSome c.lent-pair.result (λ pair. (word : ℕ) × (c.run-found.result ≡ Some word) × IsLentBy g.K.PartialEq.eq g.S.Hashes.hash f n.id n.view k.id k.view word (pair.0.now, pair.1.now))) asks.1
     c.lent-pair.ensures.lent) c.lent-pair.ensures.none in (
@@ -76,7 +76,7 @@ returns g c =
       c.turn.ensures.same.1 ∙ c.run-found.ensures.1 ∙ c.learn.ensures.same.1,
       c.turn.ensures.errand ∙ c.run-found.ensures.2 ∙ c.learn.ensures.errand,
       (
-        comes_back g.S.Hashes.hash c.args.self.key.now c.args.self.lookup k.view s.view c.learn.new.seat.view k.id asks.4 asks.6 c.learn.ensures.goes g.K.PartialEq.eq
+        comes_back g.S.Hashes.hash (g.Q.Equivalent.stands_for c.args.self.key.now) c.args.self.lookup k.view s.view c.learn.new.seat.view k.id asks.4 asks.6 c.learn.ensures.goes g.K.PartialEq.eq
             c.run-found.result n.view c.turn.new.seat.view asks.7 has c.turn.ensures.goes,
         found.0,
         found.1,

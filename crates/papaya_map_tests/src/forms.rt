@@ -1,0 +1,69 @@
+//! Two threads store texts, which are found by lent ones then, with no copy of them.
+use map_forms::Text;
+use papaya_map::{Fault, HashMap, IdSource, Session};
+use std::alloc::Global;
+use std::hash::{BuildHasherDefault, DefaultHasher};
+use std::sync::Wait;
+use std::test::Fail;
+use std::thread::{self, Threads};
+
+type Hashing = BuildHasherDefault<DefaultHasher>;
+
+type Own<'m> = Session<'m, Text, u64, Hashing>;
+
+/// Stores this text with this value.
+fn stores<R: Wait>(
+    rt: &R,
+    alloc: Global,
+    mut session: Own<'_>,
+    text: &str,
+    value: u64,
+) -> Result<bool, Fault> {
+    let replaced = session.insert(rt, Text::new(alloc, text)?, value)?;
+    Ok(replaced)
+}
+
+/// What a session finds of these texts.
+fn finds<R: Wait>(rt: &R, session: &mut Own<'_>, texts: [&str; 3]) -> [Option<u64>; 3] {
+    let [one, other, third] = texts;
+    [
+        session.get(rt, &one).copied(),
+        session.get(rt, &other).copied(),
+        session.get(rt, &third).copied(),
+    ]
+}
+
+/// Two threads store a text each. Answers what a session finds of the two and of a third one, whether it says that the first is there, and what a pin and a guard with a
+/// pass find of it.
+fn both<R: Threads + Wait + Sync>(
+    rt: &R,
+    alloc: Global,
+    texts: [&str; 3],
+) -> Result<([Option<u64>; 3], [bool; 3]), Fault> {
+    let [one, other, _] = texts;
+    let mut ids = IdSource::new();
+    let map = HashMap::with_hasher(alloc, &mut ids, Hashing::default())?;
+    let first = map.session()?;
+    let (second, mut third) = (first.another()?, first.another()?);
+    let stored = thread::join(
+        rt,
+        || stores(rt, alloc, first, one, 1),
+        || stores(rt, alloc, second, other, 2),
+    );
+    let (_, _) = (stored.0?, stored.1?);
+    let found = finds(rt, &mut third, texts);
+    let there = third.contains_key(rt, &one);
+    let pinned = third.pin().get_key_value(rt, &one).is_some();
+    let shared = map.shared();
+    let mut pass = shared.pass();
+    let passed = shared.get(rt, &one, &third, &mut pass)?.is_some();
+    Ok((found, [there, pinned, passed]))
+}
+
+#[test]
+fn a_text_is_found_by_a_lent_one(rt: HostRuntime) -> Result<(), Fail> {
+    let (found, there) = both(&rt, rt.alloc(), ["carp", "pike", "perch"])?;
+    assert_eq!(rt; found, [Some(1), Some(2), None]);
+    assert_eq!(rt; there, [true, true, true]);
+    Ok(())
+}
