@@ -12,7 +12,7 @@ ghost use Rattle.seize_words.specs.declared.fault.Fault.TheVariants.{Memory};
 use crate::builder::HashMapBuilder;
 use crate::map::HashMap;
 use map_tables::{Hashes, Node, ResizeMode, Setting};
-use papaya_sessions::{Fixed, OfMaps, SessionBase as Base, memory_for};
+use papaya_sessions::{Fixed, OfMaps, SessionBase as Base, Sleepers, memory_for};
 use seize::{Collector, IdSource};
 use seize_blocks::{Blocks, Seat};
 use seize_words::Fault;
@@ -46,6 +46,7 @@ fn count_for(capacity: u64) -> u64
 /// Makes a map in this memory, and answers the seat that knows it, and what each call on it works with.
 fn begun<K: Eq + Hash + Drop, V: Drop, S: Hashes<K>>(
     blocks: &Blocks<Node<K, V>, OfMaps<S>>,
+    sleepers: &Sleepers,
     hasher: &S,
     chosen: &Fixed,
     making: Making,
@@ -62,7 +63,8 @@ fn begun<K: Eq + Hash + Drop, V: Drop, S: Hashes<K>>(
     ensures sized { IfOk result (λ r. blocks.now.words.fixed.batch_size ≡ r.1.batch_size) }
     ensures mode { IfOk result (λ r. r.1.mode ≡ making.mode) }
 {
-    let session = Base::open(blocks, hasher, chosen, making.mode, making.processors)?;
+    let (mode, processors) = (making.mode, making.processors);
+    let session = Base::open(blocks, sleepers, hasher, chosen, mode, processors)?;
     Ok(session.into_seat())
 }
 
@@ -168,10 +170,12 @@ impl<K: Eq + Hash + Drop, V: Drop, S: BuildHasher + Drop> HashMap<K, V, S> {
             chains: 0,
         };
         let home = memory_for::<K, V, S>(alloc, count_for(making.capacity), &chosen)?;
-        match begun(&home.blocks, &hasher, &chosen, making) {
+        let sleepers = Sleepers::new();
+        match begun(&home.blocks, &sleepers, &hasher, &chosen, making) {
             Ok((seat, setting)) => Ok(HashMap {
                 collector,
                 home,
+                sleepers,
                 hasher,
                 setting,
                 seat,

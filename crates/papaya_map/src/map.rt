@@ -7,7 +7,7 @@ ghost use Rattle.papaya_sessions.specs.Given.CallersStanding.{known_by};
 
 use crate::shared::SharedMap;
 use map_tables::{Hashes, Node, Setting};
-use papaya_sessions::{OfMaps, Registration, Session};
+use papaya_sessions::{OfMaps, Registration, Session, Sleepers};
 use seize::Collector;
 use seize_blocks::{Home, Seat};
 use seize_words::Fault;
@@ -21,6 +21,8 @@ use std::hash::{Hash, RandomState};
 pub struct HashMap<K: Eq + Hash + Drop, V: Drop, S: Hashes<K> = RandomState> {
     pub(crate) collector: Collector,
     pub(crate) home: Home<Node<K, V>, OfMaps<S>>,
+    /// Those of its sessions that sleep until another one has taken a step.
+    pub(crate) sleepers: Sleepers,
     pub(crate) hasher: S,
     pub(crate) setting: Setting,
     /// It knows the map, and holds no slot. It hands the map on to each session that begins.
@@ -44,6 +46,7 @@ impl<K: Eq + Hash + Drop, V: Drop, S: Hashes<K>> HashMap<K, V, S> {
     {
         SharedMap {
             blocks: &self.home.blocks,
+            sleepers: &self.sleepers,
             hasher: &self.hasher,
             setting: self.setting,
             seat: &self.seat,

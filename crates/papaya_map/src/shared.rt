@@ -8,7 +8,9 @@ mod storing;
 mod updating;
 
 use map_tables::{Hashes, Node, Setting};
-use papaya_sessions::{OfMaps, Pass, Registration, Session, SessionBase as Base, newcomer};
+use papaya_sessions::{
+    OfMaps, Pass, Registration, Session, SessionBase as Base, Sleepers, newcomer,
+};
 use seize_blocks::{Blocks, Seat};
 use seize_words::Fault;
 use std::hash::{Hash, RandomState};
@@ -17,6 +19,7 @@ use std::hash::{Hash, RandomState};
 #[derive(Drop)]
 pub struct SharedMap<'m, K: Eq + Hash + Drop, V: Drop, S: Hashes<K> = RandomState> {
     pub(crate) blocks: &'m Blocks<Node<K, V>, OfMaps<S>>,
+    pub(crate) sleepers: &'m Sleepers,
     pub(crate) hasher: &'m S,
     pub(crate) setting: Setting,
     pub(crate) seat: &'m Seat<Node<K, V>, OfMaps<S>>,
@@ -44,7 +47,7 @@ impl<'m, K: Eq + Hash + Drop, V: Drop, S: Hashes<K>> SharedMap<'m, K, V, S> {
         ensures number { IfOk result (λ other. other.number ≡ self.now.number) }
     {
         let seat = newcomer(self.blocks, self.seat);
-        let base = Base::of(self.blocks, self.hasher, self.setting, seat);
+        let base = Base::of(self.blocks, self.sleepers, self.hasher, self.setting, seat);
         Registration::begin(base, self.number)
     }
 
@@ -66,7 +69,7 @@ impl<'m, K: Eq + Hash + Drop, V: Drop, S: Hashes<K>> SharedMap<'m, K, V, S> {
         ensures none { result.base.seat.view.calls ≡ [] }
     {
         let seat = newcomer(self.blocks, self.seat);
-        let base = Base::of(self.blocks, self.hasher, self.setting, seat);
+        let base = Base::of(self.blocks, self.sleepers, self.hasher, self.setting, seat);
         Pass::of(&base, self.number)
     }
 }

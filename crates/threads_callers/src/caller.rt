@@ -16,11 +16,12 @@ use crate::showing::newcomer;
 use map_tables::{Hashes, Node};
 pub use pass::MapPassSeat;
 use seize_blocks::{Blocks, Seat};
-use threads_errands::OfMaps;
+use threads_errands::{OfMaps, Sleepers};
 
-/// One of those who share the memory of maps: a seat of it, which is on no errand, with the memory.
+/// One of those who share the memory of maps: a seat of it, which is on no errand, with the memory, and with those who sleep until another one has taken a step.
 pub struct MapCaller<'a, K: Eq, V, S: Hashes<K>> {
     blocks: &'a Blocks<Node<K, V>, OfMaps<S>>,
+    sleepers: &'a Sleepers,
     seat: Seat<Node<K, V>, OfMaps<S>>,
     near: u64,
     ghost own: { seat.base ≡ blocks.now.words.id.views_name },
@@ -30,13 +31,14 @@ pub struct MapCaller<'a, K: Eq, V, S: Hashes<K>> {
 
 impl<'a, K: Eq, V, S: Hashes<K>> MapCaller<'a, K, V, S> {
     /// Makes one more of them, who holds no slot and knows no map.
-    pub fn new(blocks: &'a Blocks<Node<K, V>, OfMaps<S>>) -> Self
+    pub fn new(blocks: &'a Blocks<Node<K, V>, OfMaps<S>>, sleepers: &'a Sleepers) -> Self
         ensures rests { result.seat.view ≡ at_rest }
         ensures blocks { result.blocks.now ≡ blocks.now }
     {
         let seat = blocks.seat();
         MapCaller {
             blocks,
+            sleepers,
             seat,
             near: 0,
         }
@@ -49,7 +51,7 @@ impl<'a, K: Eq, V, S: Hashes<K>> MapCaller<'a, K, V, S> {
         ensures shown { result.seat.view ≡ come_to self.now.seat.view.map }
     {
         let seat = newcomer(self.blocks, &self.seat);
-        MapCaller::of(self.blocks, seat)
+        MapCaller::of(self.blocks, self.sleepers, seat)
     }
 }
 
@@ -60,6 +62,7 @@ impl<'a, K: Eq, V, S: Hashes<K>> Drop for MapCaller<'a, K, V, S> {
     {
         let MapCaller {
             blocks: _,
+            sleepers: _,
             seat: _,
             near: _,
         } = self;

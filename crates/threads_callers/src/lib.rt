@@ -8,4 +8,4 @@ mod showing;
 pub use answers::{Attempt, Found, came_of, is_put, is_removed, refused, removed, replaced, there};
 pub use caller::{MapCaller, MapPassSeat};
 pub use showing::newcomer;
-pub use threads_errands::{Halt, OfMaps, Ran, Within, memory_for};
+pub use threads_errands::{Halt, OfMaps, Ran, Sleepers, Waiter, Within, memory_for};

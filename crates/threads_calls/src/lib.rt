@@ -5,9 +5,9 @@ mod form;
 mod session;
 
 pub use form::Form;
-pub use map_tables::ResizeMode;
+pub use map_tables::{Hashes, ResizeMode};
 pub use seize_views::Fixed;
 pub use session::SessionBase;
 pub use threads_callers::{
-    Attempt, Found, Halt, MapPassSeat, OfMaps, Within, memory_for, newcomer,
+    Attempt, Found, Halt, MapPassSeat, OfMaps, Sleepers, Waiter, Within, memory_for, newcomer,
 };

@@ -26,7 +26,7 @@ use seize_views::Fixed;
 use seize_words::{Fault, Link, Refused};
 use std::hash::Hash;
 use std::sync::Wait;
-use threads_callers::{Found, MapCaller, OfMaps, Ran, refused, replaced};
+use threads_callers::{Found, MapCaller, OfMaps, Ran, Sleepers, refused, replaced};
 
 /// A map, as one of those knows it who share it: with a seat of its own, which may be sent to a thread. It has nothing under way between its calls.
 pub struct SessionBase<'a, K: Eq, V, S: Hashes<K>> {
@@ -51,6 +51,7 @@ impl<'a, K: Eq + Drop, V: Drop, S: Hashes<K>> SessionBase<'a, K, V, S> {
     /// it grows, and counts its pairs for so many processors. The faults are `RootsUsedUp` and `Memory`: there is no map then, and no root is taken.
     pub fn open(
         blocks: &'a Blocks<Node<K, V>, OfMaps<S>>,
+        sleepers: &'a Sleepers,
         hasher: &'a S,
         chosen: &Fixed,
         mode: ResizeMode,
@@ -75,7 +76,7 @@ impl<'a, K: Eq + Drop, V: Drop, S: Hashes<K>> SessionBase<'a, K, V, S> {
             initial: 1,
         };
         let opening = NewMap::new(setting, chosen.roots, 0);
-        let mut caller = MapCaller::new(blocks);
+        let mut caller = MapCaller::new(blocks, sleepers);
         let setting = caller.makes_map(hasher, opening)?;
         Ok(SessionBase {
             caller,

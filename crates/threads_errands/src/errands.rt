@@ -24,7 +24,7 @@ use seize_blocks::{Blocks, Errand, Seat};
 use seize_words::Fault;
 use std::hash::Hash;
 use std::sync::Wait;
-use threads_steps::{OfMaps, Ran, Within, goes_on, sees};
+use threads_steps::{OfMaps, Ran, Sleepers, Within, goes_on, sees};
 
 /// Makes a map of no table.
 #[derive(Drop)]
@@ -86,6 +86,7 @@ impl<'f, R: Wait, K: Eq + Hash, V, S: Hashes<K>, Q: Equivalent<K>> Errand<Node<K
 /// Removes the pair of a key.
 pub struct Removes<'r, R, K, S> {
     pub rt: &'r R,
+    pub sleepers: &'r Sleepers,
     pub hasher: &'r S,
     pub setting: Setting,
     pub hash: u64,
@@ -107,12 +108,13 @@ impl<'r, R: Wait, K: Eq + Hash + Drop, V: Drop, S: Hashes<K>> Errand<Node<K, V>,
     ) -> Result<Answer, Fault> {
         let Removes {
             rt,
+            sleepers,
             hasher,
             setting,
             hash,
             key,
         } = self;
-        removes(rt, blocks, seat, hasher, setting, hash, key)
+        removes(rt, sleepers, blocks, seat, hasher, setting, hash, key)
     }
 }
 
@@ -120,6 +122,7 @@ impl<'r, R: Wait, K: Eq + Hash + Drop, V: Drop, S: Hashes<K>> Errand<Node<K, V>,
 #[derive(Drop)]
 pub struct Stores<'s, R, K, V, S> {
     pub rt: &'s R,
+    pub sleepers: &'s Sleepers,
     pub hasher: &'s S,
     pub setting: Setting,
     pub hash: u64,
@@ -143,6 +146,7 @@ impl<'s, R: Wait, K: Eq + Hash + Drop, V: Drop, S: Hashes<K>> Errand<Node<K, V>,
     ) -> Ran<K, V> {
         let Stores {
             rt,
+            sleepers,
             hasher,
             setting,
             hash,
@@ -150,7 +154,9 @@ impl<'s, R: Wait, K: Eq + Hash + Drop, V: Drop, S: Hashes<K>> Errand<Node<K, V>,
             pair,
             near,
         } = self;
-        stores(rt, blocks, seat, near, hasher, setting, hash, there, pair)
+        stores(
+            rt, sleepers, blocks, seat, near, hasher, setting, hash, there, pair,
+        )
     }
 }
 
@@ -158,6 +164,7 @@ impl<'s, R: Wait, K: Eq + Hash + Drop, V: Drop, S: Hashes<K>> Errand<Node<K, V>,
 #[derive(Drop)]
 pub struct Does<'d, R, K, V, S> {
     pub rt: &'d R,
+    pub sleepers: &'d Sleepers,
     pub hasher: &'d S,
     pub machine: &'d mut Machine<K, V>,
     pub near: u64,
@@ -178,18 +185,20 @@ impl<'d, R: Wait, K: Eq + Hash + Drop, V: Drop, S: Hashes<K>> Errand<Node<K, V>,
     ) -> Ran<K, V> {
         let Does {
             rt,
+            sleepers,
             hasher,
             machine,
             near,
         } = self;
         let mut within = Within::new(blocks, seat, near);
-        within.does(rt, hasher, machine)
+        within.does(rt, sleepers, hasher, machine)
     }
 }
 
 /// Stores a value that is made where the key is missing.
 pub struct MakesPair<'m, R, K, V, S, F> {
     pub rt: &'m R,
+    pub sleepers: &'m Sleepers,
     pub hasher: &'m S,
     pub machine: &'m mut Machine<K, V>,
     pub near: u64,
@@ -213,19 +222,21 @@ impl<'m, R: Wait, K: Eq + Hash + Drop, V: Drop, S: Hashes<K>, F: FnOnce() -> V> 
     ) -> Ran<K, V> {
         let MakesPair {
             rt,
+            sleepers,
             hasher,
             machine,
             near,
             make,
         } = self;
         let mut within = Within::new(blocks, seat, near);
-        within.makes_pair(rt, hasher, machine, make)
+        within.makes_pair(rt, sleepers, hasher, machine, make)
     }
 }
 
 /// Removes a pair of which a test says yes.
 pub struct RemovesIf<'r, R, K, V, S, F> {
     pub rt: &'r R,
+    pub sleepers: &'r Sleepers,
     pub hasher: &'r S,
     pub machine: &'r mut Machine<K, V>,
     pub near: u64,
@@ -249,13 +260,14 @@ impl<'r, R: Wait, K: Eq + Hash + Drop, V: Drop, S: Hashes<K>, F: Fn(&K, &V) -> b
     ) -> Ran<K, V> {
         let RemovesIf {
             rt,
+            sleepers,
             hasher,
             machine,
             near,
             test,
         } = self;
         let mut within = Within::new(blocks, seat, near);
-        within.removes_if(rt, hasher, machine, test)
+        within.removes_if(rt, sleepers, hasher, machine, test)
     }
 }
 

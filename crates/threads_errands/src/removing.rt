@@ -19,7 +19,7 @@ use seize_blocks::{Blocks, Seat};
 use seize_words::Fault;
 use std::hash::Hash;
 use std::sync::Wait;
-use threads_steps::{OfMaps, Ran, Within};
+use threads_steps::{OfMaps, Ran, Sleepers, Within};
 
 /// Begins a call that is to remove the pair of this key.
 #[inline(always)]
@@ -67,6 +67,7 @@ fn takes<K: Eq + Hash, V, S: Hashes<K>>(
 #[inline(never)]
 fn goes_on<R: Wait, K: Eq + Hash + Drop, V: Drop, S: Hashes<K>>(
     rt: &R,
+    sleepers: &Sleepers,
     blocks: &Blocks<Node<K, V>, OfMaps<S>>,
     seat: &mut Seat<Node<K, V>, OfMaps<S>>,
     hasher: &S,
@@ -85,7 +86,7 @@ fn goes_on<R: Wait, K: Eq + Hash + Drop, V: Drop, S: Hashes<K>>(
 {
     let mut machine = Machine::Key(removal_of(setting, hash, key, trial, removal));
     stands(blocks, seat, hasher, &machine);
-    let ran = runs(rt, blocks, seat, 0, hasher, &mut machine, None);
+    let ran = runs(rt, sleepers, blocks, seat, 0, hasher, &mut machine, None);
     let Ran {
         told,
         unstored,
@@ -99,6 +100,7 @@ fn goes_on<R: Wait, K: Eq + Hash + Drop, V: Drop, S: Hashes<K>>(
 #[inline(always)]
 pub(crate) fn removes<R: Wait, K: Eq + Hash + Drop, V: Drop, S: Hashes<K>>(
     rt: &R,
+    sleepers: &Sleepers,
     blocks: &Blocks<Node<K, V>, OfMaps<S>>,
     seat: &mut Seat<Node<K, V>, OfMaps<S>>,
     hasher: &S,
@@ -116,7 +118,7 @@ pub(crate) fn removes<R: Wait, K: Eq + Hash + Drop, V: Drop, S: Hashes<K>>(
     match takes(blocks, seat, hasher, setting, hash, &key) {
         RemovalAt::Answered(answer) => Ok(Answer::Key(answer)),
         RemovalAt::Stands(trial, removal) => goes_on(
-            rt, blocks, seat, hasher, setting, hash, key, trial, removal,
+            rt, sleepers, blocks, seat, hasher, setting, hash, key, trial, removal,
         ),
     }
 }

@@ -14,7 +14,7 @@ use papaya_raw::machines::{KeyCall, Machine, Progress};
 use seize_blocks::{Blocks, Seat};
 use std::hash::Hash;
 use std::sync::Wait;
-use threads_steps::{OfMaps, Ran, Within, ended};
+use threads_steps::{OfMaps, Ran, Sleepers, Waiter, Within, ended};
 
 /// The seat takes the turns up to where the code stands.
 pub(crate) fn stands<K: Eq, V, S: Hashes<K>>(
@@ -106,6 +106,7 @@ fn steps<K: Eq + Hash + Drop, V: Drop, S: Hashes<K>>(
 /// Runs the seat's call until it has ended. This pair has come back by then, if one has.
 pub(crate) fn runs<R: Wait, K: Eq + Hash + Drop, V: Drop, S: Hashes<K>>(
     rt: &R,
+    sleepers: &Sleepers,
     blocks: &Blocks<Node<K, V>, OfMaps<S>>,
     seat: &mut Seat<Node<K, V>, OfMaps<S>>,
     near: u64,
@@ -125,10 +126,12 @@ pub(crate) fn runs<R: Wait, K: Eq + Hash + Drop, V: Drop, S: Hashes<K>>(
 {
     let mut unstored = handed;
     let mut near = near;
+    let mut waiter = Waiter::new(sleepers);
     for _ in rt.forever() {
         helps(blocks, seat, hasher, machine);
         let (told, up_to) = steps(blocks, seat, near, hasher, machine);
         near = up_to;
+        waiter.heeds(rt, &told, machine);
         if let Some(answer) = ended(told, &mut unstored) {
             return Ran {
                 told: answer,

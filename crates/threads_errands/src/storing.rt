@@ -21,7 +21,7 @@ use seize_blocks::{Blocks, Seat};
 use seize_words::Fault;
 use std::hash::Hash;
 use std::sync::Wait;
-use threads_steps::{OfMaps, Ran, Within};
+use threads_steps::{OfMaps, Ran, Sleepers, Within};
 
 /// Begins a call that is to store this pair.
 #[inline(always)]
@@ -72,6 +72,7 @@ fn puts<K: Eq + Hash, V, S: Hashes<K>>(
 /// Takes the turns up to where the code stands, and the steps of the seat's call from there on. This pair has come back by then, if one has.
 fn runs_on<R: Wait, K: Eq + Hash + Drop, V: Drop, S: Hashes<K>>(
     rt: &R,
+    sleepers: &Sleepers,
     blocks: &Blocks<Node<K, V>, OfMaps<S>>,
     seat: &mut Seat<Node<K, V>, OfMaps<S>>,
     near: u64,
@@ -89,7 +90,16 @@ fn runs_on<R: Wait, K: Eq + Hash + Drop, V: Drop, S: Hashes<K>>(
 {
     let mut machine = machine;
     stands(blocks, seat, hasher, &machine);
-    runs(rt, blocks, seat, near, hasher, &mut machine, handed)
+    runs(
+        rt,
+        sleepers,
+        blocks,
+        seat,
+        near,
+        hasher,
+        &mut machine,
+        handed,
+    )
 }
 
 /// Takes the steps of the seat's call from where its code stands on. It is a call of its own: where straight code goes all the way, there is no machine.
@@ -97,6 +107,7 @@ fn runs_on<R: Wait, K: Eq + Hash + Drop, V: Drop, S: Hashes<K>>(
 #[inline(never)]
 fn goes_on<R: Wait, K: Eq + Hash + Drop, V: Drop, S: Hashes<K>>(
     rt: &R,
+    sleepers: &Sleepers,
     blocks: &Blocks<Node<K, V>, OfMaps<S>>,
     seat: &mut Seat<Node<K, V>, OfMaps<S>>,
     near: u64,
@@ -118,7 +129,16 @@ fn goes_on<R: Wait, K: Eq + Hash + Drop, V: Drop, S: Hashes<K>>(
     ensures stays { StaysThere seat.old.view seat.new.view }
 {
     let call = call_of(setting, hash, there, own, trial, spot);
-    runs_on(rt, blocks, seat, near, hasher, Machine::Key(call), None)
+    runs_on(
+        rt,
+        sleepers,
+        blocks,
+        seat,
+        near,
+        hasher,
+        Machine::Key(call),
+        None,
+    )
 }
 
 /// The call whose pair has come back, as memory for its block was refused.
@@ -161,6 +181,7 @@ fn refused_of<K, V>(setting: Setting, hash: u64, there: There) -> KeyCall<K, V, 
 #[inline(never)]
 fn gives_back<R: Wait, K: Eq + Hash + Drop, V: Drop, S: Hashes<K>>(
     rt: &R,
+    sleepers: &Sleepers,
     blocks: &Blocks<Node<K, V>, OfMaps<S>>,
     seat: &mut Seat<Node<K, V>, OfMaps<S>>,
     near: u64,
@@ -182,6 +203,7 @@ fn gives_back<R: Wait, K: Eq + Hash + Drop, V: Drop, S: Hashes<K>>(
     let call = refused_of(setting, hash, there);
     runs_on(
         rt,
+        sleepers,
         blocks,
         seat,
         near,
@@ -195,6 +217,7 @@ fn gives_back<R: Wait, K: Eq + Hash + Drop, V: Drop, S: Hashes<K>>(
 #[inline(always)]
 pub(crate) fn stores<R: Wait, K: Eq + Hash + Drop, V: Drop, S: Hashes<K>>(
     rt: &R,
+    sleepers: &Sleepers,
     blocks: &Blocks<Node<K, V>, OfMaps<S>>,
     seat: &mut Seat<Node<K, V>, OfMaps<S>>,
     near: u64,
@@ -219,8 +242,10 @@ pub(crate) fn stores<R: Wait, K: Eq + Hash + Drop, V: Drop, S: Hashes<K>>(
             near: next,
         },
         Put::Stands(own, trial, spot) => goes_on(
-            rt, blocks, seat, next, hasher, setting, hash, there, own, trial, spot,
+            rt, sleepers, blocks, seat, next, hasher, setting, hash, there, own, trial, spot,
         ),
-        Put::Back(pair) => gives_back(rt, blocks, seat, next, hasher, setting, hash, there, pair),
+        Put::Back(pair) => gives_back(
+            rt, sleepers, blocks, seat, next, hasher, setting, hash, there, pair,
+        ),
     }
 }

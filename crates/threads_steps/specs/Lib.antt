@@ -3,4 +3,5 @@ pub mod Made
 pub mod Steps
 pub mod Storing
 pub mod Asking
+pub mod Waiting
 pub mod Given

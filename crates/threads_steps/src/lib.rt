@@ -3,8 +3,10 @@
 
 mod finding;
 mod turns;
+mod waiting;
 mod within;
 
 pub use finding::{goes_on, sees};
 pub use threads_rule::{OfMaps, View, leanings_begin};
+pub use waiting::{Sleepers, Waiter};
 pub use within::{Halt, Ran, Within, ended};

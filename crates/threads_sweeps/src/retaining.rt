@@ -22,11 +22,12 @@ use seize_blocks::{Blocks, Errand, Seat};
 use seize_words::{Fault, Link, Look};
 use std::hash::Hash;
 use std::sync::Wait;
-use threads_calls::{OfMaps, SessionBase, Within};
+use threads_calls::{OfMaps, SessionBase, Sleepers, Waiter, Within};
 
 /// A retaining of the pairs of a map of which a test says yes.
 pub struct Retains<'r, R, K, V, S, F> {
     rt: &'r R,
+    sleepers: &'r Sleepers,
     hasher: &'r S,
     machine: &'r mut Machine<K, V>,
     near: u64,
@@ -105,6 +106,7 @@ fn tells_asked<K: Eq + Hash + Drop, V: Drop, S: Hashes<K>, F: FnMut(&K, &V) -> b
 fn sifts<R: Wait, K: Eq + Hash + Drop, V: Drop, S: Hashes<K>, F: FnMut(&K, &V) -> bool>(
     within: &mut Within<'_, K, V, S>,
     rt: &R,
+    sleepers: &Sleepers,
     hasher: &S,
     machine: &mut Machine<K, V>,
     keep: &mut F,
@@ -116,8 +118,10 @@ fn sifts<R: Wait, K: Eq + Hash + Drop, V: Drop, S: Hashes<K>, F: FnMut(&K, &V) -
     ensures same { IsSameSeat within.old within.new }
 {
     within.begins(machine);
+    let mut waiter = Waiter::new(sleepers);
     for _ in rt.forever() {
         let told = within.retains(machine, hasher);
+        waiter.heeds(rt, &told, machine);
         let heard = hears(told);
         if let Some(end) = tells_asked(within, hasher, machine, heard, keep) {
             return end;
@@ -143,13 +147,14 @@ impl<'r, R: Wait, K: Eq + Hash + Drop, V: Drop, S: Hashes<K>, F: FnMut(&K, &V) -
     ) -> Result<(), Fault> {
         let Retains {
             rt,
+            sleepers,
             hasher,
             machine,
             near,
             keep,
         } = self;
         let mut within = Within::new(blocks, seat, near);
-        sifts(&mut within, rt, hasher, machine, keep)
+        sifts(&mut within, rt, sleepers, hasher, machine, keep)
     }
 }
 
@@ -171,10 +176,12 @@ pub fn retain<R: Wait, K: Eq + Hash + Drop, V: Drop, S: Hashes<K>, F: FnMut(&K, 
 {
     let sweep = Sweep::retain(session.setting());
     let mut machine = Machine::Sweep(sweep);
+    let sleepers = session.sleepers();
     let hasher = session.hasher();
     let near = session.near();
     session.sends(Retains {
         rt,
+        sleepers,
         hasher,
         machine: &mut machine,
         near,

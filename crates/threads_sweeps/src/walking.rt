@@ -24,11 +24,12 @@ use seize_blocks::{Blocks, Errand, Seat};
 use seize_words::{Fault, Link, Look};
 use std::hash::Hash;
 use std::sync::Wait;
-use threads_calls::{OfMaps, SessionBase, Within};
+use threads_calls::{OfMaps, SessionBase, Sleepers, Waiter, Within};
 
 /// A walk over the pairs of a map.
 pub struct Walks<'w, R, K, V, S, T> {
     rt: &'w R,
+    sleepers: &'w Sleepers,
     hasher: &'w S,
     machine: &'w mut Machine<K, V>,
     near: u64,
@@ -112,6 +113,7 @@ fn shows_told<K: Eq + Hash + Drop, V: Drop, S: Hashes<K>, T: Onlooker<K, V>>(
 fn goes_over<R: Wait, K: Eq + Hash + Drop, V: Drop, S: Hashes<K>, T: Onlooker<K, V>>(
     within: &mut Within<'_, K, V, S>,
     rt: &R,
+    sleepers: &Sleepers,
     hasher: &S,
     machine: &mut Machine<K, V>,
     onlooker: &mut T,
@@ -123,8 +125,10 @@ fn goes_over<R: Wait, K: Eq + Hash + Drop, V: Drop, S: Hashes<K>, T: Onlooker<K,
     ensures same { IsSameSeat within.old within.new }
 {
     within.begins(machine);
+    let mut waiter = Waiter::new(sleepers);
     for _ in rt.forever() {
         let told = within.walks(machine, hasher);
+        waiter.heeds(rt, &told, machine);
         let heard = hears(told);
         if let Some(end) = shows_told(within, hasher, machine, heard, onlooker) {
             return end;
@@ -150,6 +154,7 @@ impl<'w, R: Wait, K: Eq + Hash + Drop, V: Drop, S: Hashes<K>, T: Onlooker<K, V>>
     ) -> (Result<(), Fault>, T) {
         let Walks {
             rt,
+            sleepers,
             hasher,
             machine,
             near,
@@ -157,7 +162,7 @@ impl<'w, R: Wait, K: Eq + Hash + Drop, V: Drop, S: Hashes<K>, T: Onlooker<K, V>>
         } = self;
         let mut onlooker = onlooker;
         let mut within = Within::new(blocks, seat, near);
-        let end = goes_over(&mut within, rt, hasher, machine, &mut onlooker);
+        let end = goes_over(&mut within, rt, sleepers, hasher, machine, &mut onlooker);
         (end, onlooker)
     }
 }
@@ -180,10 +185,12 @@ pub fn shows_to<R: Wait, K: Eq + Hash + Drop, V: Drop, S: Hashes<K>, T: Onlooker
 {
     let sweep = Sweep::walk(session.setting());
     let mut machine = Machine::Sweep(sweep);
+    let sleepers = session.sleepers();
     let hasher = session.hasher();
     let near = session.near();
     session.sends(Walks {
         rt,
+        sleepers,
         hasher,
         machine: &mut machine,
         near,

@@ -3,18 +3,11 @@ ghost use Rattle.std.specs.Prelude.{◌≡◌};
 ghost use Rattle.threads_calls.specs.Given.SeizeViewsDeclared.view.Has.TheVariants.{Nothing};
 ghost use Rattle.threads_calls.specs.Given.SeizeViewsDeclared.view.SlotView.TheVariants.{Inside};
 
-use crate::resting::{Hashing, Resting};
+use crate::resting::{CHOSEN, Hashing, MODE, Resting};
 use std::sync::Wait;
 use std::test::Fail;
 use std::thread;
-use threads_calls::{Fixed, ResizeMode, SessionBase, memory_for};
-
-/// Batches of 32 blocks, and one root.
-const CHOSEN: Fixed = Fixed {
-    batch_size: 32,
-    roots: 1,
-    chains: 0,
-};
+use threads_calls::{SessionBase, Sleepers, memory_for};
 
 /// How many keys there are.
 const KEYS: u64 = 400;
@@ -95,17 +88,14 @@ fn sweeps<R: Wait>(rt: &R, resting: Resting<'_>) -> Option<(u64, u64)> {
 fn a_key_has_the_value_of_one_of_two_that_make_one(rt: HostRuntime) -> Result<(), Fail> {
     let hashing = Hashing::default();
     let home = memory_for::<u64, u64, Hashing>(rt.alloc(), 64, &CHOSEN)?;
-    let Ok(mut first) = SessionBase::open(&home.blocks, &hashing, &CHOSEN, ResizeMode::default(), 4)
+    let sleepers = Sleepers::new();
+    let Ok(mut first) = SessionBase::open(&home.blocks, &sleepers, &hashing, &CHOSEN, MODE, 4)
     else {
         return Err(Fail::new("no map was made"));
     };
-    let second = Resting {
-        session: first.session(),
-    };
-    let third = Resting {
-        session: first.session(),
-    };
-    let first = Resting { session: first };
+    let second = Resting::of(first.session());
+    let third = Resting::of(first.session());
+    let first = Resting::of(first);
     let (one, other) = thread::join(&rt, || makes(&rt, first, 1), || makes(&rt, second, 2));
     let (Some(one), Some(other)) = (one, other) else {
         return Err(Fail::new("a call was refused"));
@@ -119,17 +109,14 @@ fn a_key_has_the_value_of_one_of_two_that_make_one(rt: HostRuntime) -> Result<()
 fn a_pair_of_which_two_say_yes_is_removed_once(rt: HostRuntime) -> Result<(), Fail> {
     let hashing = Hashing::default();
     let home = memory_for::<u64, u64, Hashing>(rt.alloc(), 64, &CHOSEN)?;
-    let Ok(mut first) = SessionBase::open(&home.blocks, &hashing, &CHOSEN, ResizeMode::default(), 4)
+    let sleepers = Sleepers::new();
+    let Ok(mut first) = SessionBase::open(&home.blocks, &sleepers, &hashing, &CHOSEN, MODE, 4)
     else {
         return Err(Fail::new("no map was made"));
     };
-    let second = Resting {
-        session: first.session(),
-    };
-    let third = Resting {
-        session: first.session(),
-    };
-    let first = Resting { session: first };
+    let second = Resting::of(first.session());
+    let third = Resting::of(first.session());
+    let first = Resting::of(first);
     assert_eq!(rt; makes(&rt, third, 1), Some(KEYS));
     let (one, other) = thread::join(&rt, || sweeps(&rt, first), || sweeps(&rt, second));
     let (Some((one, none)), Some((other, neither))) = (one, other) else {

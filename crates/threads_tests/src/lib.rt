@@ -1,4 +1,5 @@
-//! Tests of maps that threads share: they are made, handed on, looked through, and pairs are stored and removed there.
+//! Tests of maps that threads share: they are made, handed on, looked through, pairs are stored and removed there, and a call sleeps while
+//! another one copies.
 #![tactic(auto)]
 
 #[cfg(test)]
@@ -13,3 +14,5 @@ mod removing;
 mod resting;
 #[cfg(test)]
 mod storing;
+#[cfg(test)]
+mod waiting;

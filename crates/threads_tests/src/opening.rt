@@ -1,17 +1,10 @@
 //! A map that is made, handed on, and looked through by threads.
-use crate::resting::{Hashing, Resting};
+use crate::resting::{CHOSEN, Hashing, MODE, Resting};
 use seize_words::Fault;
 use std::sync::Wait;
 use std::test::Fail;
 use std::thread;
-use threads_calls::{Fixed, ResizeMode, SessionBase, memory_for};
-
-/// Batches of 32 blocks, and two roots.
-const CHOSEN: Fixed = Fixed {
-    batch_size: 32,
-    roots: 2,
-    chains: 0,
-};
+use threads_calls::{SessionBase, Sleepers, memory_for};
 
 /// Whether a session finds a key, in a section of a slot that it takes, and gives up then.
 fn finds<R: Wait>(rt: &R, resting: Resting<'_>, key: u64) -> Option<bool> {
@@ -31,14 +24,13 @@ fn finds<R: Wait>(rt: &R, resting: Resting<'_>, key: u64) -> Option<bool> {
 fn two_threads_find_no_pair_in_a_map_that_has_none(rt: HostRuntime) -> Result<(), Fail> {
     let hashing = Hashing::default();
     let home = memory_for::<u64, u64, Hashing>(rt.alloc(), 64, &CHOSEN)?;
-    let Ok(mut first) = SessionBase::open(&home.blocks, &hashing, &CHOSEN, ResizeMode::default(), 4)
+    let sleepers = Sleepers::new();
+    let Ok(mut first) = SessionBase::open(&home.blocks, &sleepers, &hashing, &CHOSEN, MODE, 4)
     else {
         return Err(Fail::new("no map was made"));
     };
-    let second = Resting {
-        session: first.session(),
-    };
-    let first = Resting { session: first };
+    let second = Resting::of(first.session());
+    let first = Resting::of(first);
     let (one, other) = thread::join(&rt, || finds(&rt, first, 1), || finds(&rt, second, 1));
     assert_eq!(rt; one, Some(false));
     assert_eq!(rt; other, Some(false));
@@ -49,21 +41,10 @@ fn two_threads_find_no_pair_in_a_map_that_has_none(rt: HostRuntime) -> Result<()
 fn a_map_needs_a_root_of_its_own(rt: HostRuntime) -> Result<(), Fail> {
     let hashing = Hashing::default();
     let home = memory_for::<u64, u64, Hashing>(rt.alloc(), 64, &CHOSEN)?;
-    let first = SessionBase::open(
-        &home.blocks,
-        &hashing,
-        &CHOSEN,
-        ResizeMode::default(),
-        4,
-    ).is_ok();
-    let second = SessionBase::open(
-        &home.blocks,
-        &hashing,
-        &CHOSEN,
-        ResizeMode::default(),
-        4,
-    ).is_ok();
-    let third = match SessionBase::open(&home.blocks, &hashing, &CHOSEN, ResizeMode::default(), 4) {
+    let sleepers = Sleepers::new();
+    let first = SessionBase::open(&home.blocks, &sleepers, &hashing, &CHOSEN, MODE, 4).is_ok();
+    let second = SessionBase::open(&home.blocks, &sleepers, &hashing, &CHOSEN, MODE, 4).is_ok();
+    let third = match SessionBase::open(&home.blocks, &sleepers, &hashing, &CHOSEN, MODE, 4) {
         Ok(_) => None,
         Err(fault) => Some(fault),
     };

@@ -3,19 +3,12 @@ ghost use Rattle.std.specs.Prelude.{◌≡◌};
 ghost use Rattle.threads_calls.specs.Given.SeizeViewsDeclared.view.Has.TheVariants.{Nothing};
 ghost use Rattle.threads_calls.specs.Given.SeizeViewsDeclared.view.SlotView.TheVariants.{Inside};
 
-use crate::resting::{Hashing, Resting};
+use crate::resting::{CHOSEN, Hashing, MODE, Resting};
 use std::sync::Wait;
 use std::test::Fail;
 use std::thread;
 use std::thread::Threads;
-use threads_calls::{Fixed, MapPassSeat, ResizeMode, SessionBase, memory_for};
-
-/// Batches of 32 blocks, and one root.
-const CHOSEN: Fixed = Fixed {
-    batch_size: 32,
-    roots: 1,
-    chains: 0,
-};
+use threads_calls::{MapPassSeat, SessionBase, Sleepers, memory_for};
 
 /// How many keys there are.
 const KEYS: u64 = 200;
@@ -114,18 +107,12 @@ fn both_read<R: Threads + Wait + Sync>(
 fn two_threads_look_up_under_one_session(rt: HostRuntime) -> Result<(), Fail> {
     let hashing = Hashing::default();
     let home = memory_for::<u64, u64, Hashing>(rt.alloc(), 64, &CHOSEN)?;
-    let Ok(mut session) = SessionBase::open(
-        &home.blocks,
-        &hashing,
-        &CHOSEN,
-        ResizeMode::default(),
-        4,
-    ) else {
+    let sleepers = Sleepers::new();
+    let Ok(mut session) = SessionBase::open(&home.blocks, &sleepers, &hashing, &CHOSEN, MODE, 4)
+    else {
         return Err(Fail::new("no map was made"));
     };
-    let other = Resting {
-        session: session.session(),
-    };
+    let other = Resting::of(session.session());
     if session.register().is_err() {
         return Err(Fail::new("no slot was free"));
     }

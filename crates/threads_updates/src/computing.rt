@@ -20,7 +20,7 @@ use seize_blocks::{Blocks, Errand, Seat};
 use seize_words::{Fault, Link, Look, Operation};
 use std::hash::Hash;
 use std::sync::Wait;
-use threads_calls::{Halt, OfMaps, SessionBase, Within};
+use threads_calls::{Halt, OfMaps, SessionBase, Sleepers, Within};
 
 /// What a call that computes has come to.
 #[derive(Drop)]
@@ -37,6 +37,7 @@ pub(crate) struct ComputedOnce<E> {
 #[derive(Drop)]
 pub(crate) struct Computation<'c, R, K, V, S, D> {
     rt: &'c R,
+    sleepers: &'c Sleepers,
     hasher: &'c S,
     machine: &'c mut Machine<K, V>,
     near: u64,
@@ -144,6 +145,7 @@ fn tells<K: Eq + Hash + Drop, V: Drop, S: Hashes<K>, D: Decides<K, V>>(
 fn computes<R: Wait, K: Eq + Hash + Drop, V: Drop, S: Hashes<K>, D: Decides<K, V>>(
     within: &mut Within<'_, K, V, S>,
     rt: &R,
+    sleepers: &Sleepers,
     hasher: &S,
     machine: &mut Machine<K, V>,
     decider: &D,
@@ -157,7 +159,7 @@ fn computes<R: Wait, K: Eq + Hash + Drop, V: Drop, S: Hashes<K>, D: Decides<K, V
     let mut value = false;
     let mut end = None;
     for _ in rt.forever() {
-        match within.runs_on(rt, hasher, machine) {
+        match within.runs_on(rt, sleepers, hasher, machine) {
             Halt::Ended(told) => {
                 let near = within.near();
                 return ComputedOnce { told, near, end };
@@ -187,13 +189,14 @@ impl<'c, R: Wait, K: Eq + Hash + Drop, V: Drop, S: Hashes<K>, D: Decides<K, V>> 
     ) -> ComputedOnce<D::End> {
         let Computation {
             rt,
+            sleepers,
             hasher,
             machine,
             near,
             decider,
         } = self;
         let mut within = Within::new(blocks, seat, near);
-        computes(&mut within, rt, hasher, machine, decider)
+        computes(&mut within, rt, sleepers, hasher, machine, decider)
     }
 }
 
@@ -212,6 +215,7 @@ pub(crate) fn computed<R: Wait, K: Eq + Hash + Drop, V: Drop, S: Hashes<K>, D: D
     ensures map { session.new.caller.seat.view.map ≡ session.old.caller.seat.view.map }
     ensures blocks { session.new.caller.blocks ≡ session.old.caller.blocks }
 {
+    let sleepers = session.sleepers();
     let hasher = session.hasher();
     let hash = hasher.hash_of(&key);
     let call = KeyCall::compute(session.setting(), hash, key);
@@ -219,6 +223,7 @@ pub(crate) fn computed<R: Wait, K: Eq + Hash + Drop, V: Drop, S: Hashes<K>, D: D
     let near = session.near();
     let once = session.sends(Computation {
         rt,
+        sleepers,
         hasher,
         machine: &mut machine,
         near,

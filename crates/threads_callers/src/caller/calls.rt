@@ -71,6 +71,7 @@ impl<'a, K: Eq + Hash + Drop, V: Drop, S: Hashes<K>> MapCaller<'a, K, V, S> {
             &mut self.seat,
             Does {
                 rt,
+                sleepers: self.sleepers,
                 hasher,
                 machine: &mut machine,
                 near: self.near,
@@ -98,6 +99,7 @@ impl<'a, K: Eq + Hash + Drop, V: Drop, S: Hashes<K>> MapCaller<'a, K, V, S> {
             &mut self.seat,
             Stores {
                 rt,
+                sleepers: self.sleepers,
                 hasher,
                 setting,
                 hash,
@@ -127,6 +129,7 @@ impl<'a, K: Eq + Hash + Drop, V: Drop, S: Hashes<K>> MapCaller<'a, K, V, S> {
             &mut self.seat,
             Removes {
                 rt,
+                sleepers: self.sleepers,
                 hasher,
                 setting,
                 hash,
@@ -171,6 +174,7 @@ impl<'a, K: Eq + Hash + Drop, V: Drop, S: Hashes<K>> MapCaller<'a, K, V, S> {
             &mut self.seat,
             MakesPair {
                 rt,
+                sleepers: self.sleepers,
                 hasher,
                 machine: &mut machine,
                 near: self.near,
@@ -199,6 +203,7 @@ impl<'a, K: Eq + Hash + Drop, V: Drop, S: Hashes<K>> MapCaller<'a, K, V, S> {
             &mut self.seat,
             RemovesIf {
                 rt,
+                sleepers: self.sleepers,
                 hasher,
                 machine: &mut machine,
                 near: self.near,

@@ -5,11 +5,15 @@ ghost use Rattle.seize_callers.specs.Kept.{is_home};
 use crate::caller::MapCaller;
 use map_tables::{Hashes, Node};
 use seize_blocks::{Blocks, Seat};
-use threads_errands::OfMaps;
+use threads_errands::{OfMaps, Sleepers};
 
 impl<'a, K: Eq, V, S: Hashes<K>> MapCaller<'a, K, V, S> {
     /// Returns the one of this seat.
-    pub fn of(blocks: &'a Blocks<Node<K, V>, OfMaps<S>>, seat: Seat<Node<K, V>, OfMaps<S>>) -> Self
+    pub fn of(
+        blocks: &'a Blocks<Node<K, V>, OfMaps<S>>,
+        sleepers: &'a Sleepers,
+        seat: Seat<Node<K, V>, OfMaps<S>>,
+    ) -> Self
         requires own { seat.base ≡ blocks.now.words.id.views_name }
         requires home { is_home seat.away ≡ true }
         requires lone { seat.view.under ≡ None }
@@ -18,6 +22,7 @@ impl<'a, K: Eq, V, S: Hashes<K>> MapCaller<'a, K, V, S> {
     {
         MapCaller {
             blocks,
+            sleepers,
             seat,
             near: 0,
         }
@@ -32,6 +37,7 @@ impl<'a, K: Eq, V, S: Hashes<K>> MapCaller<'a, K, V, S> {
     {
         let MapCaller {
             blocks: _,
+            sleepers: _,
             seat,
             near: _,
         } = self;

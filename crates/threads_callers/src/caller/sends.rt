@@ -7,9 +7,14 @@ ghost use Rattle.threads_errands.specs.Given.ViewsDeclared.view.View.{View as AV
 use crate::caller::MapCaller;
 use map_tables::{Hashes, Node};
 use seize_blocks::Errand;
-use threads_errands::OfMaps;
+use threads_errands::{OfMaps, Sleepers};
 
 impl<'a, K: Eq, V, S: Hashes<K>> MapCaller<'a, K, V, S> {
+    /// Returns those who sleep until another one has taken a step.
+    pub fn sleepers(&self) -> &'a Sleepers {
+        self.sleepers
+    }
+
     /// Tells from where on it looks for the numbers of blocks.
     pub fn near(&self) -> u64 {
         self.near

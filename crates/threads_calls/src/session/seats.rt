@@ -7,12 +7,13 @@ ghost use Rattle.seize_callers.specs.Kept.{is_home};
 use crate::session::SessionBase;
 use map_tables::{Hashes, Node, Setting};
 use seize_blocks::{Blocks, Seat};
-use threads_callers::{MapCaller, OfMaps};
+use threads_callers::{MapCaller, OfMaps, Sleepers};
 
 impl<'a, K: Eq, V, S: Hashes<K>> SessionBase<'a, K, V, S> {
     /// Returns the one of this seat, which knows a map of this setting and this hasher.
     pub fn of(
         blocks: &'a Blocks<Node<K, V>, OfMaps<S>>,
+        sleepers: &'a Sleepers,
         hasher: &'a S,
         setting: Setting,
         seat: Seat<Node<K, V>, OfMaps<S>>,
@@ -27,7 +28,7 @@ impl<'a, K: Eq, V, S: Hashes<K>> SessionBase<'a, K, V, S> {
         ensures blocks { result.caller.blocks.now ≡ blocks.now }
     {
         SessionBase {
-            caller: MapCaller::of(blocks, seat),
+            caller: MapCaller::of(blocks, sleepers, seat),
             hasher,
             setting,
             slot: 0,

@@ -9,7 +9,7 @@ ghost use Rattle.seize_views.specs.declared.view.SlotView.TheVariants.{Inside};
 use crate::session::{SessionBase, setting_in};
 use map_tables::{Hashes, Node, Setting};
 use seize_blocks::Errand;
-use threads_callers::OfMaps;
+use threads_callers::{OfMaps, Sleepers};
 
 impl<'a, K: Eq, V, S: Hashes<K>> SessionBase<'a, K, V, S> {
     /// Returns the hasher of its map.
@@ -17,6 +17,11 @@ impl<'a, K: Eq, V, S: Hashes<K>> SessionBase<'a, K, V, S> {
         ensures { result.now ≡ self.now.hasher.now }
     {
         self.hasher
+    }
+
+    /// Returns those who sleep until another one has taken a step.
+    pub fn sleepers(&self) -> &'a Sleepers {
+        self.caller.sleepers()
     }
 
     /// Returns what a call of it works with.

@@ -17,6 +17,7 @@ ghost use Rattle.threads_rule.specs.declared.view.Map.{Map};
 ghost use Rattle.threads_rule.specs.declared.view.SeatWork.TheVariants.{Calls};
 
 use crate::turns::{Says, Telling};
+use crate::waiting::{Sleepers, Waiter};
 use crate::within::{Ran, Within};
 use map_tables::{Hashes, Node};
 use papaya_raw::machines::{Answer, Machine, MachineReply, Progress};
@@ -127,7 +128,13 @@ impl<'a, K: Eq + Hash + Drop, V: Drop, S: Hashes<K>> Within<'a, K, V, S> {
     }
 
     /// Takes the steps of its call until that asks, or has ended. How many it takes is up to the others.
-    pub fn runs_on<R: Wait>(&mut self, rt: &R, hasher: &S, machine: &mut Machine<K, V>) -> Halt
+    pub fn runs_on<R: Wait>(
+        &mut self,
+        rt: &R,
+        sleepers: &Sleepers,
+        hasher: &S,
+        machine: &mut Machine<K, V>,
+    ) -> Halt
         requires calls { (k : Kind) × (s : Stage) × IsUnderWay k s hasher.now machine.old self.old.seat.now.view }
         ensures paused { (k : Kind) (s : Stage) → IsUnderWay k s hasher.now machine.old self.old.seat.now.view → PausedSo k s hasher.now machine.new result self.old.seat.now.view self.new.seat.now.view }
         ensures gone { (n : ℕ) × HasGone K.eq S.hash NoneSaid n self.old.seat.now.view self.new.seat.now.view }
@@ -135,8 +142,10 @@ impl<'a, K: Eq + Hash + Drop, V: Drop, S: Hashes<K>> Within<'a, K, V, S> {
         ensures stays { StaysThere self.old.seat.now.view self.new.seat.now.view }
         ensures same { IsSameSeat self.old self.new }
     {
+        let mut waiter = Waiter::new(sleepers);
         for _ in rt.forever() {
             let told = self.steps(machine, hasher);
+            waiter.heeds(rt, &told, machine);
             if let Some(pause) = paused(told) {
                 return pause;
             }
@@ -148,6 +157,7 @@ impl<'a, K: Eq + Hash + Drop, V: Drop, S: Hashes<K>> Within<'a, K, V, S> {
     fn stores_made<R: Wait>(
         &mut self,
         rt: &R,
+        sleepers: &Sleepers,
         hasher: &S,
         machine: &mut Machine<K, V>,
         pair: Option<u64>,
@@ -160,7 +170,7 @@ impl<'a, K: Eq + Hash + Drop, V: Drop, S: Hashes<K>> Within<'a, K, V, S> {
         ensures same { IsSameSeat self.old self.new }
     {
         self.tells(hasher, machine, pair, MachineReply::Insert(value));
-        let pause = self.runs_on(rt, hasher, machine);
+        let pause = self.runs_on(rt, sleepers, hasher, machine);
         let told = outcome(pause);
         self.ran(told, None)
     }
@@ -169,6 +179,7 @@ impl<'a, K: Eq + Hash + Drop, V: Drop, S: Hashes<K>> Within<'a, K, V, S> {
     pub fn makes_pair<R: Wait, F: FnOnce() -> V>(
         &mut self,
         rt: &R,
+        sleepers: &Sleepers,
         hasher: &S,
         machine: &mut Machine<K, V>,
         make: F,
@@ -179,11 +190,11 @@ impl<'a, K: Eq + Hash + Drop, V: Drop, S: Hashes<K>> Within<'a, K, V, S> {
         ensures same { IsSameSeat self.old self.new }
     {
         self.begins(machine);
-        match self.runs_on(rt, hasher, machine) {
+        match self.runs_on(rt, sleepers, hasher, machine) {
             Halt::Ended(told) => self.ran(told, None),
             Halt::Asks(pair) => {
                 let value = make();
-                self.stores_made(rt, hasher, machine, pair, value)
+                self.stores_made(rt, sleepers, hasher, machine, pair, value)
             }
         }
     }
@@ -223,6 +234,7 @@ impl<'a, K: Eq + Hash + Drop, V: Drop, S: Hashes<K>> Within<'a, K, V, S> {
     pub fn removes_if<R: Wait, F: Fn(&K, &V) -> bool>(
         &mut self,
         rt: &R,
+        sleepers: &Sleepers,
         hasher: &S,
         machine: &mut Machine<K, V>,
         test: &F,
@@ -234,7 +246,7 @@ impl<'a, K: Eq + Hash + Drop, V: Drop, S: Hashes<K>> Within<'a, K, V, S> {
     {
         self.begins(machine);
         for _ in rt.forever() {
-            match self.runs_on(rt, hasher, machine) {
+            match self.runs_on(rt, sleepers, hasher, machine) {
                 Halt::Ended(told) => return self.ran(told, None),
                 Halt::Asks(pair) => self.says(hasher, machine, pair, test),
             }

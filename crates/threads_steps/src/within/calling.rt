@@ -12,6 +12,7 @@ ghost use Rattle.threads_rule.specs.declared.view.Map.{Map};
 ghost use Rattle.threads_rule.specs.declared.view.SeatWork.TheVariants.{Nothing as NoWork};
 
 use crate::turns::{Beginning, Stepping, Wants};
+use crate::waiting::{Sleepers, Waiter};
 use crate::within::Within;
 use map_tables::{Hashes, Node};
 use papaya_raw::machines::{Answer, Machine, Progress};
@@ -102,6 +103,7 @@ impl<'a, K: Eq + Hash + Drop, V: Drop, S: Hashes<K>> Within<'a, K, V, S> {
     pub fn runs<R: Wait>(
         &mut self,
         rt: &R,
+        sleepers: &Sleepers,
         hasher: &S,
         machine: &mut Machine<K, V>,
         handed: Option<Node<K, V>>,
@@ -115,8 +117,10 @@ impl<'a, K: Eq + Hash + Drop, V: Drop, S: Hashes<K>> Within<'a, K, V, S> {
         ensures same { IsSameSeat self.old self.new }
     {
         let mut unstored = handed;
+        let mut waiter = Waiter::new(sleepers);
         for _ in rt.forever() {
             let told = self.calls(machine, hasher);
+            waiter.heeds(rt, &told, machine);
             if let Some(answer) = ended(told, &mut unstored) {
                 return self.ran(answer, unstored);
             }
@@ -148,13 +152,19 @@ impl<'a, K: Eq + Hash + Drop, V: Drop, S: Hashes<K>> Within<'a, K, V, S> {
     }
 
     /// Runs this call, which asks nothing, on the map that it knows.
-    pub fn does<R: Wait>(&mut self, rt: &R, hasher: &S, machine: &mut Machine<K, V>) -> Ran<K, V>
+    pub fn does<R: Wait>(
+        &mut self,
+        rt: &R,
+        sleepers: &Sleepers,
+        hasher: &S,
+        machine: &mut Machine<K, V>,
+    ) -> Ran<K, V>
         requires may { MayCall K.eq S.hash hasher.now machine.old self.old.seat.now.view }
         ensures called { HasCalled K.eq S.hash (wanted_of machine.old) result.told result.unstored self.old.seat.now.view self.new.seat.now.view }
         ensures fits { IfOk result.told (IsAnswerBy machine.old) }
         ensures same { IsSameSeat self.old self.new }
     {
         self.begins(machine);
-        self.runs(rt, hasher, machine, None)
+        self.runs(rt, sleepers, hasher, machine, None)
     }
 }
