@@ -6,7 +6,6 @@ use Rattle.map_tables.specs.declared.node.Node.TheVariants.{Pair}
 use Rattle.threads_callers.specs.Given.CallKindsKinds.{PairIsVisible}
 use Rattle.threads_callers.specs.Given.ViewsLooks.{shown_in}
 use Rattle.threads_callers.specs.Given.ViewsRule.{Holds}
-use Rattle.threads_callers.specs.Given.ViewsDeclared.view.View.{View}
 use Rattle.threads_callers.specs.Given.ErrandsLooking.{HasLookedAt}
 use Rattle.threads_callers.specs.declared.caller.MapCaller.{MapCaller}
 

@@ -154,8 +154,7 @@ impl<'a, K: Eq + Drop, V: Drop, S: Hashes<K>> SessionBase<'a, K, V, S> {
 }
 
 impl<'a, K: Eq + Hash, V, S: Hashes<K>> SessionBase<'a, K, V, S> {
-    /// Looks a key up within the section of its slot, and answers its pair, if the map has one. The pair is there until the session takes its next step, whoever replaces or
-    /// removes it meanwhile.
+    /// Looks a key up within the section of its slot, and answers its pair, if the map has one: it is there until the session takes its next step.
     pub fn find<R: Wait, Q: Form<K, S>>(&mut self, rt: &R, key: &Q) -> Option<Found>
         requires inside { self.old.caller.seat.view.slot ≡ Inside self.old.slot Nothing }
         ensures inside { self.new.caller.seat.view.slot ≡ Inside self.new.slot Nothing }

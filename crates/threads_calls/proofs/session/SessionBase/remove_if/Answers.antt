@@ -1,4 +1,3 @@
-use Rattle.std.proofs.Common.{refl, sym}
 use Rattle.threads_callers.specs.Given.StepsAsking.{MayTest, TestSays}
 use Rattle.threads_calls.proofs.Asks.{answered_by, asked_by, testing, may_test}
 use Rattle.threads_calls.proofs.session.SessionBase.remove_if.Goals as goal
