@@ -1,6 +1,6 @@
 //! A guard or a pass of another map is refused, by each call that takes one, and is as it was.
 use crate::passing::{Hashing, Told};
-use papaya_map::{Fault, HashMap, IdSource};
+use papaya_map::{Fault, HashMap, IdSource, Refused};
 use std::alloc::Global;
 use std::sync::Wait;
 use std::test::Fail;
@@ -8,6 +8,14 @@ use std::test::Fail;
 /// Tells whether a call was refused what is of another map.
 fn is_foreign<T: Drop>(told: Result<T, Fault>) -> bool {
     matches!(told, Err(Fault::ForeignGuard))
+}
+
+/// Tells whether one that was to store 2 at 1 was refused so, and both have come back.
+fn has_come_back<T: Drop>(told: Result<T, Refused<u64, u64>>) -> bool {
+    match told {
+        Err(back) => is_foreign::<()>(Err(back.fault)) && (back.key, back.value) == (1, 2),
+        Ok(_) => false,
+    }
 }
 
 /// What lookups say to a guard and to a pass of another map: with the guard, with the pass, and by the pass under a session.
@@ -41,18 +49,8 @@ fn stores<R: Wait>(rt: &R, alloc: Global) -> Told<[bool; 6]> {
     let map = own.shared();
     let mut guard = own.session()?;
     let mut strange = other.session()?;
-    let inserted = match map.insert(rt, 1, 2, &mut strange) {
-        Err(refused) => {
-            matches!(refused.fault, Fault::ForeignGuard) && (refused.key, refused.value) == (1, 2)
-        }
-        Ok(_) => false,
-    };
-    let tried = match map.try_insert(rt, 1, 2, &mut strange) {
-        Err(refused) => {
-            matches!(refused.fault, Fault::ForeignGuard) && (refused.key, refused.value) == (1, 2)
-        }
-        Ok(_) => false,
-    };
+    let inserted = has_come_back(map.insert(rt, 1, 2, &mut strange));
+    let tried = has_come_back(map.try_insert(rt, 1, 2, &mut strange));
     let removed = is_foreign(map.remove(rt, 1, &mut strange));
     let asked = is_foreign(map.try_insert_with(rt, 1, || 2, &mut strange))
         && is_foreign(map.remove_if(rt, 1, |_, _| true, &mut strange));

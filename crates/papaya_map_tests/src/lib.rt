@@ -3,11 +3,9 @@
 //! A `get` that answers the opening state, so that nothing is there: `what_a_session_has_put_there_stays_once_it_has_ended`, `threads_begin_sessions_of_their_own` and
 //! `a_key_that_two_threads_store_is_replaced_once` fail.
 //!
-//! An `insert` that drops its write: these three fail, and `each_value_that_was_stored_is_dropped_once`.
+//! An `insert` that drops its write: these three fail, and `each_value_that_was_stored_is_dropped_once` of `shared_cache`.
 #![tactic(auto)]
 
-#[cfg(test)]
-mod counting;
 #[cfg(test)]
 mod removing;
 #[cfg(test)]

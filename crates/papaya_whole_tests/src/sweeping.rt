@@ -46,11 +46,8 @@ impl Onlooker<u64, u64> for Counts {
 fn walks<R: Wait + Clock>(rt: &R, mut session: Own<'_>) -> Told<bool> {
     for _ in 0..LOOKS {
         let (staying, others) = seen(rt, &mut session)?;
-        if staying != STAY {
-            return Ok(false);
-        }
-        if others != 0 {
-            return Ok(true);
+        if staying != STAY || others != 0 {
+            return Ok(staying == STAY);
         }
         session.refresh();
         thread::sleep(rt, Duration::from_millis(1));

@@ -62,19 +62,10 @@ fn count<R: Threads + Wait + Clock + Sync>(rt: &R, alloc: Global) -> Told<(bool,
     Ok((one?, other?))
 }
 
-// Were the threads served one after another, the first one would count its own keys alone.
-#[test]
-fn two_threads_count_what_both_have_stored(rt: HostRuntime) -> Result<(), Fail> {
-    assert_eq!(rt; count(&rt, rt.alloc())?, (true, true));
-    Ok(())
-}
-
 /// Makes room again and again, twice as much each time.
 fn reserves<R: Wait>(rt: &R, mut session: Own<'_>) -> Told<()> {
-    let mut more = 2048u64;
-    for _ in 0..5u64 {
+    for more in [2_048u64, 4_096, 8_192, 16_384, 32_768] {
         session.reserve(rt, more)?;
-        more = u64::wrapping_mul(more, 2);
     }
     Ok(())
 }
@@ -84,9 +75,8 @@ fn finds<R: Wait>(rt: &R, mut session: Own<'_>) -> u64 {
     let mut found = 0u64;
     for _ in 0..ROUNDS {
         for key in 0..EACH {
-            if session.get(rt, &key).copied() == Some(u64::wrapping_mul(key, 2)) {
-                found = u64::wrapping_add(found, 1);
-            }
+            let there = session.get(rt, &key).copied() == Some(u64::wrapping_mul(key, 2));
+            found = u64::wrapping_add(found, u64::from(there));
         }
         session.refresh();
     }
@@ -160,9 +150,7 @@ fn leaves<R: Wait + Clock>(rt: &R, mut session: Own<'_>) -> Told<bool> {
 fn left<R: Wait>(rt: &R, mut session: Own<'_>) -> u64 {
     let mut found = 0u64;
     for key in 0..EACH {
-        if session.contains_key(rt, &key) {
-            found = u64::wrapping_add(found, 1);
-        }
+        found = u64::wrapping_add(found, u64::from(session.contains_key(rt, &key)));
     }
     found
 }
@@ -202,8 +190,10 @@ fn alone<R: Wait>(rt: &R, alloc: Global, mode: ResizeMode) -> Told<([bool; 3], [
     Ok(([first, then, session.is_empty()], [stored, kept]))
 }
 
+// Were the threads served one after another, the first one would count its own keys alone.
 #[test]
-fn what_was_stored_is_counted(rt: HostRuntime) -> Result<(), Fail> {
+fn what_was_stored_is_counted_by_one_and_by_two_threads(rt: HostRuntime) -> Result<(), Fail> {
+    assert_eq!(rt; count(&rt, rt.alloc())?, (true, true));
     for mode in MODES {
         let counted = alone(&rt, rt.alloc(), mode)?;
         assert_eq!(rt; counted, ([true; 3], [EACH, EACH / 2]));

@@ -1,26 +1,17 @@
 //! Two threads store texts, which are found by lent ones then, with no copy of them.
+use crate::Hashing;
 use map_forms::Text;
 use papaya_map::{Fault, HashMap, IdSource, Session};
 use std::alloc::Global;
-use std::hash::{BuildHasherDefault, DefaultHasher};
 use std::sync::Wait;
 use std::test::Fail;
 use std::thread::{self, Threads};
 
-type Hashing = BuildHasherDefault<DefaultHasher>;
-
 type Own<'m> = Session<'m, Text, u64, Hashing>;
 
-/// Stores this text with this value.
-fn stores<R: Wait>(
-    rt: &R,
-    alloc: Global,
-    mut session: Own<'_>,
-    text: &str,
-    value: u64,
-) -> Result<bool, Fault> {
-    let replaced = session.insert(rt, Text::new(alloc, text)?, value)?;
-    Ok(replaced)
+/// Stores this text with its length.
+fn stores<R: Wait>(rt: &R, alloc: Global, mut own: Own<'_>, text: &str) -> Result<bool, Fault> {
+    Ok(own.insert(rt, Text::new(alloc, text)?, text.len())?)
 }
 
 /// What a session finds of these texts.
@@ -47,8 +38,8 @@ fn both<R: Threads + Wait + Sync>(
     let (second, mut third) = (first.another()?, first.another()?);
     let stored = thread::join(
         rt,
-        || stores(rt, alloc, first, one, 1),
-        || stores(rt, alloc, second, other, 2),
+        || stores(rt, alloc, first, one),
+        || stores(rt, alloc, second, other),
     );
     let (_, _) = (stored.0?, stored.1?);
     let found = finds(rt, &mut third, texts);
@@ -62,8 +53,8 @@ fn both<R: Threads + Wait + Sync>(
 
 #[test]
 fn a_text_is_found_by_a_lent_one(rt: HostRuntime) -> Result<(), Fail> {
-    let (found, there) = both(&rt, rt.alloc(), ["carp", "pike", "perch"])?;
-    assert_eq!(rt; found, [Some(1), Some(2), None]);
+    let (found, there) = both(&rt, rt.alloc(), ["cod", "pike", "perch"])?;
+    assert_eq!(rt; found, [Some(3), Some(4), None]);
     assert_eq!(rt; there, [true, true, true]);
     Ok(())
 }

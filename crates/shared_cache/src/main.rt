@@ -2,6 +2,8 @@
 #![tactic(auto)]
 
 #[cfg(test)]
+mod counting;
+#[cfg(test)]
 mod forms;
 
 use papaya_map::{Fault, HashMap, IdSource, Session};

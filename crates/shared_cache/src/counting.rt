@@ -1,7 +1,7 @@
 //! Values that count their drops: each that was stored is dropped once.
+use crate::Hashing;
 use papaya_map::{Fault, HashMap, IdSource, Session};
 use std::alloc::Global;
-use std::hash::{BuildHasherDefault, DefaultHasher};
 use std::sync::atomic::AtomicU64;
 use std::sync::atomic::Ordering::SeqCst;
 use std::sync::{Arc, Wait};
@@ -13,8 +13,6 @@ const EACH: u64 = 1_000;
 
 /// At how many keys.
 const KEYS: u64 = 16;
-
-type Hashing = BuildHasherDefault<DefaultHasher>;
 
 type Own<'m> = Session<'m, u64, Counted, Hashing>;
 
