@@ -47,7 +47,7 @@ module _ {K V S : Type 0} (same : K → K → Bool) (hash : S → K → ℕ) (c 
             pairs = pairs;
             told = told;
             shown = subst (λ (e : Result (Unit {0}) Fault). IfOk e (λ _. MapWasShown same hash c n)) is shown;
-            in_range = it.1;
+            ranged = it.1;
             is = so ∙ ap object (it.2 ∙ ap (λ ms. members_with text value ms pairs) none);
           },
         )
@@ -67,7 +67,7 @@ module _ {K S : Type 0} (same : K → K → Bool) (hash : S → K → ℕ) (c n 
           pairs = pairs;
           told = told;
           shown = subst (λ (e : Result (Unit {0}) Fault). IfOk e (λ _. MapWasShown same hash c n)) is shown;
-          in_range = it.0;
+          ranged = it.0;
           is = subst (λ (x : Value). IsArrayOf value (map (λ x. x.0) pairs) (view x)) (sym same_value) (written_of value (map (λ x. x.0) pairs) (items last).entries vs it.1 it.2 those);
         },
       )

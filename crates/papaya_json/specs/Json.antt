@@ -46,7 +46,7 @@ module _ {K V : Type 0} (key_in : K → Type 0) (text : K → List ℕ) (value_i
       pub pairs : List (K × V)
       pub told : HasTold same hash pairs c.seat.view n.seat.view
       pub shown : MapWasShown same hash c n
-      pub in_range : All (λ x. key_in x.0 × value_in x.1) pairs
+      pub ranged : All (λ x. key_in x.0 × value_in x.1) pairs
       pub is : written ≡ object (members_with text value no_members pairs)
 
     -- A session of this map, which had made no call before, has stored the pairs that the members of this object stand for, in their order, and nothing else.
@@ -73,7 +73,7 @@ module _ {K : Type 0} (in_range : K → Type 0) (value : K → Data) where
       pub pairs : List (K × Unit {0})
       pub told : HasTold same hash pairs c.seat.view n.seat.view
       pub shown : MapWasShown same hash c n
-      pub in_range : All (λ x. in_range x.0) pairs
+      pub ranged : All (λ x. in_range x.0) pairs
       pub is : IsArrayOf value (map (λ x. x.0) pairs) written
 
     -- A session of this set, which had made no call before, has put the elements there for which the items of this array stand, in their order, and nothing else.

@@ -1,7 +1,7 @@
 -- What a seat may do with chains, and what it knows then.
 use Rattle.std.specs.Prelude.{◌≢◌, ◌<◌, Option, Some, None}
-use Rattle.std.proofs.Common.{◌≡◌, ℕ, inl, inr, refl, sym, subst, ap, ◌∙◌}
-use Rattle.seize_words.specs.OneMemory.Op.{Op, Load, Store, Exchange, Make, Take, Found, Stored, Exchanged, Taken}
+use Rattle.std.proofs.Common.{◌≡◌, ℕ, inr, refl, sym, subst, ap, ◌∙◌}
+use Rattle.seize_words.specs.OneMemory.Op.{Op, Load, Store, Exchange, Make, Take, Stored, Taken}
 use Rattle.seize_words.specs.OneMemory.Word.{block_in}
 use Rattle.seize_words.specs.declared.at.At.TheVariants.{Root, Word}
 use Rattle.seize.specs.World.{HasListWord}
@@ -9,18 +9,18 @@ use Rattle.seize_seats.specs.Seats.Errands.{TurnsUnlent}
 use Rattle.seize_seats.specs.Seats.Lendings.{VisibleTo, IsValueOf}
 use Rattle.seize_seats.specs.Seats.State.{Allows}
 use Rattle.seize_views.specs.Views.Chains.{IsChainRoot}
-use Rattle.seize_views.specs.Views.Notes.{NotedHolds, NotedKeeps, SameNotes, noted_observed}
+use Rattle.seize_views.specs.Views.Notes.{NotedHolds, NotedKeeps, noted_observed}
 use Rattle.seize_views.specs.Views.Promises.{IsLooking}
-use Rattle.seize_views.specs.Views.Rows.{Holds, IsQuiescent}
-use Rattle.seize_views.specs.Views.Stacking.{IsOnItsWay, GoesItsWay, walking}
+use Rattle.seize_views.specs.Views.Rows.{Holds}
+use Rattle.seize_views.specs.Views.Stacking.{IsOnItsWay, GoesItsWay}
 use Rattle.seize_views.specs.Views.Told.{joined_as, told}
-use Rattle.seize_views.specs.Views.Watched.{open_at, Leans, LeansOn, IsOwn, Stays}
+use Rattle.seize_views.specs.Views.Watched.{Leans, LeansOn, IsOwn, Stays}
 use Rattle.seize_views.specs.declared.view.TheConstants.{LINK}
 use Rattle.seize_views.specs.declared.view.Noted.{Noted}
 use Rattle.seize_views.specs.declared.view.SlotView.{SlotView}
-use Rattle.seize_views.specs.declared.view.SlotView.TheVariants.{Rests, Registers, Outside, Owes, Enters, Inside, Settles, Leaves, Left, Frees, Brings, Bears, Watches, Under, Joins, Busy}
+use Rattle.seize_views.specs.declared.view.SlotView.TheVariants.{Rests, Inside, Joins}
 use Rattle.seize_views.specs.declared.view.Has.{Has}
-use Rattle.seize_views.specs.declared.view.Has.TheVariants.{Nothing, Made, Seen, Both, Cut, Walks}
+use Rattle.seize_views.specs.declared.view.Has.TheVariants.{Nothing, Seen, Walks}
 use Rattle.seize_views.specs.declared.view.Fixed.{Fixed}
 use Rattle.seize_views.proofs.Views.Blocks.{known_are_shown}
 use Rattle.seize_views.proofs.Views.Notes.{looks_are_noted, turns_are_noted}
@@ -37,30 +37,13 @@ module _ {T : Type 0} where
       let same = same_some (c, d) (b, a) e in
       (x, ap (λ (k : ℕ). Joins (Some (k, x, d))) (ap (λ (p : ℕ × ℕ). p.0) same) ∙ ap (λ (k : ℕ). Joins (Some (b, x, k))) (ap (λ (p : ℕ × ℕ). p.1) same))
   joins b a (Joins None) e = absurd (cc e)
-  joins b a Rests e = absurd (cc e)
-  joins b a (Registers c) e = absurd (cc e)
-  joins b a (Outside t) e = absurd (cc e)
-  joins b a (Owes t c) e = absurd (cc e)
-  joins b a (Enters t) e = absurd (cc e)
-  joins b a (Inside t has) e = absurd (cc e)
-  joins b a (Settles c why seen left) e = absurd (cc e)
-  joins b a (Leaves t size way) e = absurd (cc e)
-  joins b a (Left t size way) e = absurd (cc e)
-  joins b a (Frees t) e = absurd (cc e)
-  joins b a (Brings c x) e = absurd (cc e)
-  joins b a (Bears c) e = absurd (cc e)
-  joins b a (Watches t c) e = absurd (cc e)
-  joins b a (Under n t c) e = absurd (cc e)
-  joins b a (Busy t) e = absurd (cc e)
+  joins b a _ e = absurd (cc e)
 
   -- turning to chains within a section
   pub walks_next : (t : ℕ) (has : Has T) → IsLooking has → IsOnItsWay (Inside t has) (Inside t (Walks 0 None))
   walks_next t Nothing looks = (looks, refl)
   walks_next t (Seen b) looks = (looks, refl)
-  walks_next t (Made b x) looks = absurd looks
-  walks_next t (Both b x a) looks = absurd looks
-  walks_next t (Cut b) looks = absurd looks
-  walks_next t (Walks b next) looks = absurd looks
+  walks_next t _ looks = absurd looks
 
 -- and from them
 pub stops_next : (T : Type 0) (t b : ℕ) (next : Option ℕ) → IsOnItsWay {T = T} (Inside t (Walks b next)) (Inside t Nothing)

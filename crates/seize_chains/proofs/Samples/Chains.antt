@@ -1,5 +1,5 @@
 -- Two blocks that stand in a chain, one above the other; and one that is linked there and stands nowhere, so that this is no chain.
-use Rattle.std.specs.Prelude.{◌<◌, ◌≢◌, Option, Some, None}
+use Rattle.std.specs.Prelude.{◌<◌, Option, Some, None}
 use Rattle.std.proofs.Common.{◌≡◌, ℕ, zero, suc, List, [], ◌∷◌, refl, subst, ◌∙◌, arith}
 use Rattle.seize_words.specs.OneMemory.Mem.{Mem, word_at}
 use Rattle.seize_words.specs.OneMemory.Word.{block_in, link_to}

@@ -1,4 +1,3 @@
-use Rattle.std.specs.Prelude.{ℕ}
 use Rattle.std.proofs.Common.{refl, subst, ap, ◌∙◌}
 use Rattle.seize_words.specs.OneMemory.Word.{block_in}
 use Rattle.seize_views.specs.Views.Chains.{IsChainRoot}

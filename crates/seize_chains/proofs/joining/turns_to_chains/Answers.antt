@@ -1,5 +1,5 @@
 use Rattle.std.proofs.Common.{inl, inr, refl, ap, ◌∙◌}
-use Rattle.std.specs.Prelude.{Some, None}
+use Rattle.std.specs.Prelude.{None}
 use Rattle.seize_views.specs.Views.Stacking.{joining}
 use Rattle.seize_views.specs.declared.view.SlotView.TheVariants.{Rests, Joins}
 use Rattle.seize_callers.proofs.Resting.{at_rest}

@@ -1,4 +1,4 @@
-use Rattle.std.proofs.Common.{inl, inr, refl, ap, ◌∙◌}
+use Rattle.std.proofs.Common.{inl, refl, ap, ◌∙◌}
 use Rattle.std.specs.Prelude.{Some, None}
 use Rattle.seize_views.specs.Views.Stacking.{going}
 use Rattle.seize_views.specs.declared.view.SlotView.TheVariants.{Inside}

@@ -1,5 +1,4 @@
-use Rattle.std.proofs.Common.{inl, inr, refl, ap, ◌∙◌}
-use Rattle.std.specs.Prelude.{Some, None}
+use Rattle.std.proofs.Common.{inl, refl, ap, ◌∙◌}
 use Rattle.seize_views.specs.Views.Stacking.{stopping}
 use Rattle.seize_views.specs.declared.view.SlotView.TheVariants.{Inside}
 use Rattle.seize_views.specs.declared.view.Has.TheVariants.{Nothing, Walks}

@@ -1,5 +1,5 @@
-use Rattle.std.proofs.Common.{inl, inr, refl, ap, ◌∙◌}
-use Rattle.std.specs.Prelude.{Some, None}
+use Rattle.std.proofs.Common.{inl, refl, ap, ◌∙◌}
+use Rattle.std.specs.Prelude.{None}
 use Rattle.seize_views.specs.Views.Stacking.{walking}
 use Rattle.seize_views.specs.declared.view.SlotView.TheVariants.{Inside}
 use Rattle.seize_views.specs.declared.view.Has.TheVariants.{Walks}
