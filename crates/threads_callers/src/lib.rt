@@ -3,9 +3,11 @@
 
 mod answers;
 mod caller;
+mod form;
 mod showing;
 
 pub use answers::{Attempt, Found, came_of, is_put, is_removed, refused, removed, replaced, there};
 pub use caller::{MapCaller, MapPassSeat};
+pub use form::Form;
 pub use showing::newcomer;
 pub use threads_errands::{Halt, OfMaps, Ran, Sleepers, Waiter, Within, memory_for};

@@ -17,7 +17,6 @@ mod seats;
 mod sends;
 mod whole;
 
-use crate::form::Form;
 use map_machines::{Lookup, NewMap};
 use map_tables::{Counter, Hashes, Node, ResizeMode, Setting};
 use papaya_raw::machines::There;
@@ -26,7 +25,7 @@ use seize_views::Fixed;
 use seize_words::{Fault, Link, Refused};
 use std::hash::Hash;
 use std::sync::Wait;
-use threads_callers::{Found, MapCaller, OfMaps, Ran, Sleepers, refused, replaced};
+use threads_callers::{Form, Found, MapCaller, OfMaps, Ran, Sleepers, refused, replaced};
 
 /// A map, as one of those knows it who share it: with a seat of its own, which may be sent to a thread. It has nothing under way between its calls.
 pub struct SessionBase<'a, K: Eq, V, S: Hashes<K>> {
@@ -192,8 +191,7 @@ impl<'a, K: Eq + Hash, V, S: Hashes<K>> SessionBase<'a, K, V, S> {
 }
 
 impl<'a, K: Eq + Hash + Drop, V: Drop, S: Hashes<K>> SessionBase<'a, K, V, S> {
-    /// Stores a pair within the section of its slot, in the place of one of an equal key, if there is one, and answers with the one that was replaced, if one was: it is there
-    /// until the session takes its next step. The faults are `Memory` and `Capacity`; the pair comes back then.
+    /// Stores a pair within its section, and answers with the one that it replaced, which is there until its next step. After `Memory` and `Capacity` it comes back.
     pub fn insert<R: Wait>(
         &mut self,
         rt: &R,

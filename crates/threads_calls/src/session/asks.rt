@@ -33,9 +33,8 @@ fn told_of<K: Drop, V: Drop>(ran: Ran<K, V>) -> Result<Answer, Fault>
 }
 
 impl<'a, K: Eq + Hash + Drop, V: Drop, S: Hashes<K>> SessionBase<'a, K, V, S> {
-    /// Stores a value that is made within the section of its slot, if its key is not there yet, and answers with the pair that is there then, until the session takes its next
-    /// step, and whether it was stored. The closure is called where the key was missing; if another one has stored a pair meanwhile, what it has made is dropped. The faults are
-    /// `Memory` and `Capacity`: nothing was stored then.
+    /// Stores a value that is made within the section of its slot, if its key is not there yet, and answers with the pair that is there then, until its next step, and whether it
+    /// was stored. The closure is called where the key was missing; what it has made is dropped if it is not stored, as after the faults, `Memory` and `Capacity`.
     pub fn try_insert_with<R: Wait, F: FnOnce() -> V>(
         &mut self,
         rt: &R,

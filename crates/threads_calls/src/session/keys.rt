@@ -8,7 +8,6 @@ ghost use Rattle.threads_callers.specs.Given.ActsActs.{ContainsKey, Remove, TryT
 ghost use Rattle.seize_views.specs.declared.view.Has.TheVariants.{Nothing};
 ghost use Rattle.seize_views.specs.declared.view.SlotView.TheVariants.{Inside};
 
-use crate::form::Form;
 use crate::session::{SessionBase, setting_in};
 use map_machines::Lookup;
 use map_tables::{Hashes, Node};
@@ -16,7 +15,7 @@ use papaya_raw::machines::There;
 use seize_words::{Fault, Refused};
 use std::hash::Hash;
 use std::sync::Wait;
-use threads_callers::{Attempt, Found, Ran, came_of, refused, removed, there};
+use threads_callers::{Attempt, Form, Found, Ran, came_of, refused, removed, there};
 
 impl<'a, K: Eq + Hash, V, S: Hashes<K>> SessionBase<'a, K, V, S> {
     /// Looks a key up within the section of its slot, and answers whether the map has a pair of it.

@@ -6,13 +6,12 @@ ghost use Rattle.threads_callers.specs.Given.ActsActs.{Get};
 ghost use Rattle.seize_views.specs.declared.view.Has.TheVariants.{Nothing};
 ghost use Rattle.seize_views.specs.declared.view.SlotView.TheVariants.{Inside};
 
-use crate::form::Form;
 use crate::session::SessionBase;
 use map_machines::Lookup;
 use map_tables::Hashes;
 use std::hash::Hash;
 use std::sync::Wait;
-use threads_callers::MapPassSeat;
+use threads_callers::{Form, MapPassSeat};
 
 impl<'a, K: Eq, V, S: Hashes<K>> SessionBase<'a, K, V, S> {
     /// Makes a pass more, which may be sent to a thread.

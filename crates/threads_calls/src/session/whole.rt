@@ -16,8 +16,7 @@ use std::sync::Wait;
 use threads_callers::Ran;
 
 impl<'a, K: Eq + Hash + Drop, V: Drop, S: Hashes<K>> SessionBase<'a, K, V, S> {
-    /// Counts the pairs of the map, within the section of its slot: it reads each shard of the map's count once, so while others change the map it may answer what was never
-    /// so at one moment. It takes as many steps as there are shards.
+    /// Counts the pairs within its section, a shard of the map's count a step: while others change the map it may answer what was never so at one moment.
     pub fn len(&mut self) -> u64
         requires inside { self.old.caller.seat.view.slot ≡ Inside self.old.slot Nothing }
         ensures inside { self.new.caller.seat.view.slot ≡ Inside self.new.slot Nothing }
