@@ -191,7 +191,7 @@ impl<'a, K: Eq + Hash, V, S: Hashes<K>> SessionBase<'a, K, V, S> {
 }
 
 impl<'a, K: Eq + Hash + Drop, V: Drop, S: Hashes<K>> SessionBase<'a, K, V, S> {
-    /// Stores a pair within its section, and answers with the one that it replaced, which is there until its next step. After `Memory` and `Capacity` it comes back.
+    /// Stores a pair within its section, and answers with the one that it replaced, there until its next step. After `Memory` and `Capacity` it comes back.
     pub fn insert<R: Wait>(
         &mut self,
         rt: &R,
