@@ -11,7 +11,7 @@ type Own<'m> = Session<'m, Text, u64, Hashing>;
 
 /// Stores this text with its length.
 fn stores<R: Wait>(rt: &R, alloc: Global, mut own: Own<'_>, text: &str) -> Result<bool, Fault> {
-    Ok(own.insert(rt, Text::new(alloc, text)?, text.len())?)
+    Ok(own.insert(rt, Text::new(alloc, text)?, text.len() as u64)?)
 }
 
 /// What a session finds of these texts.
