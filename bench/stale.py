@@ -44,6 +44,7 @@ use std::{io, thread};
 const CHOSEN: Fixed = Fixed {
     batch_size: 5,
     roots: 1,
+    chains: 0,
 };
 
 /// How many flags a thread has for its values.

@@ -32,6 +32,7 @@ use std::thread::Threads;
 const CHOSEN: Fixed = Fixed {
     batch_size: 5,
     roots: 1,
+    chains: 0,
 };
 
 struct Plain;
