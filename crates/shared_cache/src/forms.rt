@@ -42,12 +42,12 @@ fn both<R: Threads + Wait + Sync>(
         || stores(rt, alloc, second, other),
     );
     let (_, _) = (stored.0?, stored.1?);
-    let found = finds(rt, &mut third, texts);
-    let there = third.contains_key(rt, &one);
-    let pinned = third.pin().get_key_value(rt, &one).is_some();
     let shared = map.shared();
     let mut pass = shared.pass();
     let passed = shared.get(rt, &one, &third, &mut pass)?.is_some();
+    let pinned = third.pin().get_key_value(rt, &one).is_some();
+    let there = third.contains_key(rt, &one);
+    let found = finds(rt, &mut third, texts);
     Ok((found, [there, pinned, passed]))
 }
 
