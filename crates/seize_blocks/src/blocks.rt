@@ -10,9 +10,10 @@ ghost use Rattle.seize_seats.specs.Seats.Lendings.{VisibleTo, VisibleToBoth, IsV
 use crate::access::{Adds, Exchanges, Loads, Sets, Stores, Swaps};
 use crate::errand::{Charged, Errand, ErrandWith, Sent};
 use seize_atoms::{Lesson, Meeting, Rule, Seat, StripWords, Turn};
-use seize_seats::{Doors, Kept, Laid, ValuePlaces, give_words, lay_words};
+use seize_seats::{Doors, Kept, Laid, Piece, ValuePlaces, give_words, lay_words};
 use seize_words::At;
 use std::alloc::Global;
+use std::ptr::null_mut;
 
 /// The most numbers that a memory has.
 pub(crate) const MOST: u64 = 4294967296;
@@ -234,6 +235,7 @@ impl<T, R: Rule<T>> Blocks<T, R> {
     /// Makes a block of a value and so many words of its own, each 0, and answers its number. Where there is no memory for the words, or no number is free and no
     /// further strip can be laid, the value comes back. A number is looked for from `near` on, which is then where to look for the next one: with one of their
     /// own, those who make blocks don't meet.
+    #[inline(always)]
     pub fn make(
         &self,
         seat: &mut Seat<T, R>,
@@ -241,6 +243,35 @@ impl<T, R: Rule<T>> Blocks<T, R> {
         value: T,
         words: u64,
     ) -> Result<u64, T>
+        requires own { seat.old.base ≡ self.now.words.id.views_name }
+        requires may { Allows (R.holds self.now.words.fixed) R.keeps seat.old.id seat.old.view (Make value words) (R.then seat.old.view (Make value words)) }
+        ensures same { (seat.new.base ≡ seat.old.base) × (seat.new.id ≡ seat.old.id) }
+        ensures errand { seat.new.away ≡ seat.old.away }
+        ensures goes { R.then seat.old.view (Make value words) (Made result) seat.new.view }
+    {
+        if words != 0 {
+            return self.makes(seat, near, value, words);
+        }
+        match self.close(*near) {
+            Some((part, index, claim)) => {
+                *near = part.first + index + 1;
+                let kept = Kept {
+                    value,
+                    at: null_mut(),
+                    count: 0,
+                };
+                self.words
+                    .by(&part.strip)
+                    .put(seat, claim, index, part.values, kept, Piece::none());
+                Ok(part.first + index + 1)
+            }
+            None => self.makes(seat, near, value, 0),
+        }
+    }
+
+    /// The same, wherever a number is free. It is a call of its own: where one is near at hand, there is little to it.
+    #[inline(never)]
+    fn makes(&self, seat: &mut Seat<T, R>, near: &mut u64, value: T, words: u64) -> Result<u64, T>
         requires own { seat.old.base ≡ self.now.words.id.views_name }
         requires may { Allows (R.holds self.now.words.fixed) R.keeps seat.old.id seat.old.view (Make value words) (R.then seat.old.view (Make value words)) }
         ensures same { (seat.new.base ≡ seat.old.base) × (seat.new.id ≡ seat.old.id) }

@@ -1,7 +1,7 @@
 //! A seat of maps on an errand whose code runs ahead of the machine that it has under way: the seat takes the turns of that machine at once before the
 //! operation that follows them.
 ghost use Rattle.std.specs.Prelude.{◌≡◌, ◌≢◌, None};
-ghost use Rattle.seize_blocks.specs.Parts.{IsFound};
+ghost use Rattle.seize_blocks.specs.Parts.{AreFound};
 
 mod helping;
 mod memory;
@@ -10,7 +10,7 @@ mod storing;
 mod turning;
 
 use map_tables::{Hashes, Node};
-use seize_blocks::{Blocks, Place, Seat};
+use seize_blocks::{Blocks, Places, Seat};
 pub(crate) use storing::Put;
 use threads_steps::OfMaps;
 
@@ -21,10 +21,10 @@ pub struct Ahead<'a, K: Eq, V, S: Hashes<K>> {
     blocks: &'a Blocks<Node<K, V>, OfMaps<S>>,
     seat: &'a mut Seat<Node<K, V>, OfMaps<S>>,
     near: u64,
-    place: Place<Node<K, V>>,
+    places: Places<Node<K, V>>,
     ghost own: { seat.now.base ≡ blocks.now.words.id.views_name },
     ghost away: { seat.now.away ≢ None },
-    ghost found: { IsFound blocks.now.words.id place },
+    ghost found: { AreFound blocks.now.words.id places },
 }
 
 impl<'a, K: Eq, V, S: Hashes<K>> Ahead<'a, K, V, S> {
@@ -45,7 +45,7 @@ impl<'a, K: Eq, V, S: Hashes<K>> Ahead<'a, K, V, S> {
             blocks,
             seat,
             near,
-            place: blocks.place(),
+            places: blocks.places(),
         }
     }
 }
