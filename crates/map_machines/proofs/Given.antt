@@ -5,3 +5,4 @@ pub use Rattle.map_tables.proofs.Given.SeizeWordsOneOwner
 pub use Rattle.map_tables.proofs.Given.SeizeWordsPlans
 pub use Rattle.map_tables.proofs.Lists as TablesLists
 pub use Rattle.map_tables.proofs.Places as TablesPlaces
+pub use Rattle.map_tables.proofs.Given.SeizeWordsPlans.{may_as, steps_as}

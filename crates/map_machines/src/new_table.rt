@@ -101,7 +101,7 @@ impl NewTable {
     }
 
     /// Takes a step of the counting. Once the count is known, so is the table.
-    #[tactic(auto, using(map_tables::proofs::Given::SeizeWordsPlans::may_as, map_tables::proofs::Given::SeizeWordsPlans::steps_as))]
+    #[tactic(auto, using(crate::proofs::Given::may_as, crate::proofs::Given::steps_as))]
     fn sums<T, M: Memory<T>>(
         &mut self,
         memory: &mut M,

@@ -16,7 +16,7 @@ use Rattle.seize_views.specs.declared.view.Noted.{Noted}
 use Rattle.seize_views.specs.declared.view.SlotView.{SlotView}
 use Rattle.seize_views.specs.declared.view.SlotView.TheVariants.{Outside, Inside}
 use Rattle.seize_views.specs.declared.view.Has.{Has}
-use Rattle.seize_views.specs.declared.view.Has.TheVariants.{Nothing, Made, Seen, Both, Cut, Walks}
+use Rattle.seize_views.specs.declared.view.Has.TheVariants.{Nothing, Made, Seen, Both}
 use Rattle.seize_views.specs.declared.view.Fixed.{Fixed}
 use Rattle.seize_views.proofs.Views.Blocks.{blocks_are_made, made_are_taken, known_are_shown}
 use Rattle.seize_views.proofs.Views.Roots.{made_are_linked, made_are_exchanged, roots_are_cleared, roots_are_seen, roots_are_marked, roots_are_withdrawn}
@@ -94,17 +94,11 @@ module _ {T : Type 0} (defers : T → Option ℕ) (v w : SlotView T) (slot : ℕ
   pub seen_told : (has : Has T) (r word : ℕ) → IsLooking has → v ≡ Inside slot has → told defers v (Load (Root r)) (Found word) w → w ≡ Inside slot (seen_in word)
   seen_told Nothing r word looks is so = let k = subst (λ (x : SlotView T). told defers x (Load (Root r)) (Found word) w) is so in k.2 ∙ ap (Inside slot) k.1
   seen_told (Seen b) r word looks is so = let k = subst (λ (x : SlotView T). told defers x (Load (Root r)) (Found word) w) is so in k.2 ∙ ap (Inside slot) k.1
-  seen_told (Made b x) r word looks is so = absurd looks
-  seen_told (Both b x a) r word looks is so = absurd looks
-  seen_told (Cut b) r word looks is so = absurd looks
-  seen_told (Walks b next) r word looks is so = absurd looks
+  seen_told _ r word looks is so = absurd looks
 
   pub marked_told : (has : Has T) (r bits word : ℕ) → IsLooking has → v ≡ Inside slot has → told defers v (Or (Root r) bits) (Found word) w
       → w ≡ Inside slot (seen_in word)
   marked_told Nothing r bits word looks is so = let k = subst (λ (x : SlotView T). told defers x (Or (Root r) bits) (Found word) w) is so in k.2 ∙ ap (Inside slot) k.1
   marked_told (Seen b) r bits word looks is so = let k = subst (λ (x : SlotView T). told defers x (Or (Root r) bits) (Found word) w) is so in k.2 ∙ ap (Inside slot) k.1
-  marked_told (Made b x) r bits word looks is so = absurd looks
-  marked_told (Both b x a) r bits word looks is so = absurd looks
-  marked_told (Cut b) r bits word looks is so = absurd looks
-  marked_told (Walks b next) r bits word looks is so = absurd looks
+  marked_told _ r bits word looks is so = absurd looks
   -- what a making tells beside a block that was seen, a taking away, and an exchange

@@ -45,22 +45,9 @@ module _ {T : Type 0} (defers : T → Option ℕ) where
   registering_none c _ = tt
 
   none_rewrites : (v : SlotView T) → IsNoRewrite (op_of defers v)
-  none_rewrites Rests = tt
   none_rewrites (Registers c) = registering_none c c.stands
-  none_rewrites (Outside t) = tt
-  none_rewrites (Owes t b) = tt
-  none_rewrites (Enters t) = tt
-  none_rewrites (Inside t has) = tt
   none_rewrites (Settles c why seen left) = settling_none c c.stands
-  none_rewrites (Leaves t size way) = tt
-  none_rewrites (Left t size way) = tt
-  none_rewrites (Frees t) = tt
-  none_rewrites (Brings b x) = tt
-  none_rewrites (Bears b) = tt
-  none_rewrites (Watches t b) = tt
-  none_rewrites (Under n t b) = tt
-  none_rewrites (Joins block) = tt
-  none_rewrites (Busy t) = tt
+  none_rewrites _ = tt
 
   pub not_rewrite : (v : SlotView T) (b : ℕ) (x : T) → op_of defers v ≡ Some (Rewrite b x) → ⊥
   not_rewrite v b x e = subst IsNoRewrite e (none_rewrites v)

@@ -16,9 +16,9 @@ use Rattle.seize_views.specs.Views.Told.{alone_with, cut_in, told}
 use Rattle.seize_views.specs.declared.view.Noted.{Noted}
 use Rattle.seize_views.specs.declared.view.Deed.{Deed}
 use Rattle.seize_views.specs.declared.view.SlotView.{SlotView}
-use Rattle.seize_views.specs.declared.view.SlotView.TheVariants.{Rests, Registers, Outside, Owes, Enters, Inside, Settles, Leaves, Left, Frees, Brings, Bears, Watches, Under, Joins, Busy}
+use Rattle.seize_views.specs.declared.view.SlotView.TheVariants.{Rests, Outside, Owes, Inside, Brings, Bears}
 use Rattle.seize_views.specs.declared.view.Has.{Has}
-use Rattle.seize_views.specs.declared.view.Has.TheVariants.{Nothing, Made, Seen, Both, Cut, Walks}
+use Rattle.seize_views.specs.declared.view.Has.TheVariants.{Nothing, Seen, Cut}
 use Rattle.seize_views.specs.declared.view.Fixed.{Fixed}
 use Rattle.seize_views.proofs.Views.Blocks.{own_are_made, own_are_taken, own_are_rewritten, own_are_shown, borne_are_shown}
 use Rattle.seize_callers.proofs.Calls.{by_view}
@@ -31,39 +31,11 @@ module _ {T : Type 0} where
   -- which view it has
   pub brings : (b : ℕ) (v : SlotView T) → brought_by v ≡ Some b → (x : T) × (v ≡ Brings b x)
   brings b (Brings c x) e = (x, ap (λ (k : ℕ). Brings k x) (same_some c b e))
-  brings b Rests e = absurd (cc e)
-  brings b (Registers c) e = absurd (cc e)
-  brings b (Outside t) e = absurd (cc e)
-  brings b (Owes t c) e = absurd (cc e)
-  brings b (Enters t) e = absurd (cc e)
-  brings b (Inside t has) e = absurd (cc e)
-  brings b (Settles c why seen left) e = absurd (cc e)
-  brings b (Leaves t size way) e = absurd (cc e)
-  brings b (Left t size way) e = absurd (cc e)
-  brings b (Frees t) e = absurd (cc e)
-  brings b (Bears c) e = absurd (cc e)
-  brings b (Watches t c) e = absurd (cc e)
-  brings b (Under n t c) e = absurd (cc e)
-  brings b (Joins block) e = absurd (cc e)
-  brings b (Busy t) e = absurd (cc e)
+  brings b _ e = absurd (cc e)
 
   pub bears : (b : ℕ) (v : SlotView T) → borne_by v ≡ Some b → v ≡ Bears b
   bears b (Bears c) e = ap Bears (same_some c b e)
-  bears b Rests e = absurd (cc e)
-  bears b (Registers c) e = absurd (cc e)
-  bears b (Outside t) e = absurd (cc e)
-  bears b (Owes t c) e = absurd (cc e)
-  bears b (Enters t) e = absurd (cc e)
-  bears b (Inside t has) e = absurd (cc e)
-  bears b (Settles c why seen left) e = absurd (cc e)
-  bears b (Leaves t size way) e = absurd (cc e)
-  bears b (Left t size way) e = absurd (cc e)
-  bears b (Frees t) e = absurd (cc e)
-  bears b (Brings c x) e = absurd (cc e)
-  bears b (Watches t c) e = absurd (cc e)
-  bears b (Under n t c) e = absurd (cc e)
-  bears b (Joins block) e = absurd (cc e)
-  bears b (Busy t) e = absurd (cc e)
+  bears b _ e = absurd (cc e)
 
 module _ {T : Type 0} (defers : T → Option ℕ) (fixed : Fixed) (id : ℕ) (v : Noted T) where
   abbrev MayMake : Op T → Type 0
@@ -151,10 +123,7 @@ module _ {T : Type 0} (fixed : Fixed) (v u v2 u2 : SlotView T) (slot b : ℕ) wh
   cut_so : (has : Has T) → IsLooking has → Hands fixed (Bears b) (Inside slot has) v2 u2 → u2 ≡ Inside slot (Cut b)
   cut_so Nothing looks so = so.1
   cut_so (Seen a) looks so = so.1
-  cut_so (Made c x) looks so = absurd looks
-  cut_so (Both c x a) looks so = absurd looks
-  cut_so (Cut c) looks so = absurd looks
-  cut_so (Walks c next) looks so = absurd looks
+  cut_so _ looks so = absurd looks
 
   pub cuts_told : (has : Has T) → IsLooking has → v ≡ Bears b → u ≡ Inside slot has → Hands fixed v u v2 u2 → u2 ≡ Inside slot (Cut b)
   cuts_told has looks is on so =
@@ -166,24 +135,7 @@ module _ {T : Type 0} (fixed : Fixed) (v u v2 u2 : SlotView T) (slot b : ℕ) wh
   rests_so (Outside t) takes so = so.0
   rests_so (Inside t Nothing) takes so = so.0
   rests_so (Inside t (Seen a)) takes so = so.0
-  rests_so (Inside t (Made c x)) takes so = absurd takes
-  rests_so (Inside t (Both c x a)) takes so = absurd takes
-  rests_so (Inside t (Cut c)) takes so = absurd takes
-  rests_so (Inside t (Walks c next)) takes so = absurd takes
-  rests_so Rests takes so = absurd takes
-  rests_so (Registers c) takes so = absurd takes
-  rests_so (Owes t c) takes so = absurd takes
-  rests_so (Enters t) takes so = absurd takes
-  rests_so (Settles c why seen left) takes so = absurd takes
-  rests_so (Leaves t size way) takes so = absurd takes
-  rests_so (Left t size way) takes so = absurd takes
-  rests_so (Frees t) takes so = absurd takes
-  rests_so (Brings c x) takes so = absurd takes
-  rests_so (Bears c) takes so = absurd takes
-  rests_so (Watches t c) takes so = absurd takes
-  rests_so (Under n t c) takes so = absurd takes
-  rests_so (Joins block) takes so = absurd takes
-  rests_so (Busy t) takes so = absurd takes
+  rests_so _ takes so = absurd takes
 
   pub rests_told : IsTaker u → v ≡ Bears b → Hands fixed v u v2 u2 → v2 ≡ Rests
   rests_told takes is so = rests_so u takes (subst (λ (x : SlotView T). Hands fixed x u v2 u2) is so)

@@ -6,8 +6,8 @@ use Rattle.seize_views.specs.Views.Promises.{IsTaker}
 use Rattle.seize_views.specs.Views.Rows.{IsQuiescent}
 use Rattle.seize_views.specs.declared.view.Fixed.{Fixed}
 use Rattle.seize_views.specs.declared.view.SlotView.{SlotView}
-use Rattle.seize_views.specs.declared.view.SlotView.TheVariants.{Rests, Registers, Outside, Owes, Enters, Inside, Settles, Leaves, Left, Frees, Brings, Bears, Watches, Under, Joins, Busy}
-use Rattle.seize_views.specs.declared.view.Has.TheVariants.{Nothing, Made, Seen, Both, Cut, Walks}
+use Rattle.seize_views.specs.declared.view.SlotView.TheVariants.{Rests, Outside, Owes, Inside, Bears}
+use Rattle.seize_views.specs.declared.view.Has.TheVariants.{Nothing, Seen, Cut}
 
 module _ {T : Type 0} where
   pub at_rest : (w v : SlotView T) → w ≡ v → IsQuiescent v → IsQuiescent w
@@ -24,21 +24,4 @@ module _ {T : Type 0} where
   handed fixed b (Outside t) p q takes so = (at_rest p Rests so.0 tt, at_rest q (Owes t b) so.1 tt)
   handed fixed b (Inside t Nothing) p q takes so = (at_rest p Rests so.0 tt, at_rest q (Inside t (Cut b)) so.1 tt)
   handed fixed b (Inside t (Seen a)) p q takes so = (at_rest p Rests so.0 tt, at_rest q (Inside t (Cut b)) so.1 tt)
-  handed fixed b (Inside t (Made c x)) p q takes so = absurd takes
-  handed fixed b (Inside t (Both c x a)) p q takes so = absurd takes
-  handed fixed b (Inside t (Cut c)) p q takes so = absurd takes
-  handed fixed b (Inside t (Walks c next)) p q takes so = absurd takes
-  handed fixed b Rests p q takes so = absurd takes
-  handed fixed b (Registers c) p q takes so = absurd takes
-  handed fixed b (Owes t c) p q takes so = absurd takes
-  handed fixed b (Enters t) p q takes so = absurd takes
-  handed fixed b (Settles c why seen left) p q takes so = absurd takes
-  handed fixed b (Leaves t size way) p q takes so = absurd takes
-  handed fixed b (Left t size way) p q takes so = absurd takes
-  handed fixed b (Frees t) p q takes so = absurd takes
-  handed fixed b (Brings c x) p q takes so = absurd takes
-  handed fixed b (Bears c) p q takes so = absurd takes
-  handed fixed b (Watches t c) p q takes so = absurd takes
-  handed fixed b (Under n t c) p q takes so = absurd takes
-  handed fixed b (Joins block) p q takes so = absurd takes
-  handed fixed b (Busy t) p q takes so = absurd takes
+  handed fixed b _ p q takes so = absurd takes

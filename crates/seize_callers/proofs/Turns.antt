@@ -20,9 +20,9 @@ use Rattle.seize_views.specs.declared.view.Began.{Began}
 use Rattle.seize_views.specs.declared.view.SlotView.{SlotView}
 use Rattle.seize_views.specs.declared.view.Becomes.{Becomes}
 use Rattle.seize_views.specs.declared.view.Becomes.TheVariants.{Idle, Active}
-use Rattle.seize_views.specs.declared.view.SlotView.TheVariants.{Rests, Registers, Outside, Owes, Enters, Inside, Settles, Leaves, Left, Frees, Brings, Bears, Watches, Under, Joins, Busy}
+use Rattle.seize_views.specs.declared.view.SlotView.TheVariants.{Rests, Registers, Outside, Owes, Enters, Inside, Settles, Leaves, Left, Frees}
 use Rattle.seize_views.specs.declared.view.Has.{Has}
-use Rattle.seize_views.specs.declared.view.Has.TheVariants.{Nothing, Made, Seen, Both, Cut, Walks}
+use Rattle.seize_views.specs.declared.view.Has.TheVariants.{Nothing, Seen, Cut}
 use Rattle.seize_views.specs.declared.view.Why.TheVariants.{Retiring, Ending}
 use Rattle.seize_views.specs.declared.view.Fixed.{Fixed}
 use Rattle.seize_callers.specs.Made.{IsSettling, Task, task_of}
@@ -48,25 +48,11 @@ module _ {T : Type 0} (fixed : Fixed) (guards : ℕ) where
   next_stays (Outside t) u e may = inr (inl refl)
   next_stays (Inside t Nothing) u e may = free_stays t Nothing u e may
   next_stays (Inside t (Seen b)) u e may = free_stays t (Seen b) u e may
-  next_stays (Inside t (Made b x)) u e may = absurd e
-  next_stays (Inside t (Both b x a)) u e may = absurd e
-  next_stays (Inside t (Cut b)) u e may = absurd e
-  next_stays (Inside t (Walks b next)) u e may = absurd e
   next_stays (Settles c (Retiring Active) seen left) u e may = inl (ap open_at e.1)
   next_stays (Settles c (Retiring Idle) seen left) u e may = inr (inl refl)
   next_stays (Settles c (Ending size way) seen left) u e may = inr (inl refl)
   next_stays (Left t size way) u e may = inr (inl refl)
-  next_stays (Registers c) u e may = absurd e
-  next_stays (Owes t b) u e may = absurd e
-  next_stays (Enters t) u e may = absurd e
-  next_stays (Leaves t size way) u e may = absurd e
-  next_stays (Frees t) u e may = absurd e
-  next_stays (Brings b x) u e may = absurd e
-  next_stays (Bears b) u e may = absurd e
-  next_stays (Watches t b) u e may = absurd e
-  next_stays (Under n t b) u e may = absurd e
-  next_stays (Joins block) u e may = absurd e
-  next_stays (Busy t) u e may = absurd e
+  next_stays _ u e may = absurd e
 
   -- then it has a row under way, or nothing
   rows_as : (u x : SlotView T) → u ≡ x → IsOfRows x → IsOfRows u
@@ -82,24 +68,10 @@ module _ {T : Type 0} (fixed : Fixed) (guards : ℕ) where
   next_rows (Outside t) u (inr e) = rows_as u (Frees t) e tt
   next_rows (Inside t Nothing) u e = free_rows t u e
   next_rows (Inside t (Seen b)) u e = free_rows t u e
-  next_rows (Inside t (Made b x)) u e = absurd e
-  next_rows (Inside t (Both b x a)) u e = absurd e
-  next_rows (Inside t (Cut b)) u e = absurd e
-  next_rows (Inside t (Walks b next)) u e = absurd e
   next_rows (Settles c (Retiring way) seen left) u e = rows_as u (left_with way c.slot) e.1 (left_rows T way c.slot)
   next_rows (Settles c (Ending size way) seen left) u e = rows_as u (Left c.slot size way) e.1 tt
   next_rows (Left t size way) u e = rows_as u (left_with way t) e (left_rows T way t)
-  next_rows (Registers c) u e = absurd e
-  next_rows (Owes t b) u e = absurd e
-  next_rows (Enters t) u e = absurd e
-  next_rows (Leaves t size way) u e = absurd e
-  next_rows (Frees t) u e = absurd e
-  next_rows (Brings b x) u e = absurd e
-  next_rows (Bears b) u e = absurd e
-  next_rows (Watches t b) u e = absurd e
-  next_rows (Under n t b) u e = absurd e
-  next_rows (Joins block) u e = absurd e
-  next_rows (Busy t) u e = absurd e
+  next_rows _ u e = absurd e
 
 module _ {T V W B : Type 0} (holds : Fixed → State T V W → Type 0) (keeps : V → V → W → ℕ → Type 0) (notes : V → Noted T) (beside : V → B)
     (leans : V → ℕ → Type 0) where
@@ -156,10 +128,7 @@ module _ {T V W B : Type 0} (holds : Fixed → State T V W → Type 0) (keeps : 
       pub may_flush : (has : Has T) → IsLooking has → (notes v).knows ≡ Inside slot has → MayTake fixed id v (Turned notes beside Flushes (λ _. began) fixed v)
       may_flush Nothing looks is = may_settle (Inside slot Nothing) is Flushes Active (flushing slot batch) refl (λ u e. e)
       may_flush (Seen b) looks is = may_settle (Inside slot (Seen b)) is Flushes Active (flushing slot batch) refl (λ u e. e)
-      may_flush (Made b x) looks is = absurd looks
-      may_flush (Both b x a) looks is = absurd looks
-      may_flush (Cut b) looks is = absurd looks
-      may_flush (Walks b next) looks is = absurd looks
+      may_flush _ looks is = absurd looks
 
       pub may_flush_idle : (notes v).knows ≡ Outside slot → MayTake fixed id v (Turned notes beside Flushes (λ _. began) fixed v)
       may_flush_idle is = may_settle (Outside slot) is Flushes Idle (flushing slot batch) refl (λ u e. e)
@@ -182,10 +151,7 @@ module _ {T V W B : Type 0} (holds : Fixed → State T V W → Type 0) (keeps : 
       pub leans_flush : (has : Has T) → IsLooking has → (notes v).knows ≡ Inside slot has → MayLean leans e v (Turned notes beside Flushes (λ _. began) fixed v)
       leans_flush Nothing looks is = leans_settle (Inside slot Nothing) is Flushes Active (flushing slot fixed.batch_size) (λ u k. k)
       leans_flush (Seen b) looks is = leans_settle (Inside slot (Seen b)) is Flushes Active (flushing slot fixed.batch_size) (λ u k. k)
-      leans_flush (Made b x) looks is = absurd looks
-      leans_flush (Both b x a) looks is = absurd looks
-      leans_flush (Cut b) looks is = absurd looks
-      leans_flush (Walks b next) looks is = absurd looks
+      leans_flush _ looks is = absurd looks
 
       pub leans_flush_idle : (notes v).knows ≡ Outside slot → MayLean leans e v (Turned notes beside Flushes (λ _. began) fixed v)
       leans_flush_idle is = leans_settle (Outside slot) is Flushes Idle (flushing slot fixed.batch_size) (λ u k. k)
@@ -208,10 +174,7 @@ module _ {T : Type 0} (fixed : Fixed) (v u : SlotView T) (slot : ℕ) where
   flushes_so : (has : Has T) → IsLooking has → Flushes fixed (Inside slot has) u → IsBegun Active (flushing slot fixed.batch_size) u
   flushes_so Nothing looks so = so
   flushes_so (Seen b) looks so = so
-  flushes_so (Made b x) looks so = absurd looks
-  flushes_so (Both b x a) looks so = absurd looks
-  flushes_so (Cut b) looks so = absurd looks
-  flushes_so (Walks b next) looks so = absurd looks
+  flushes_so _ looks so = absurd looks
 
   pub flushes_told : (has : Has T) (row : Settle) → IsLooking has → v ≡ Inside slot has → Flushes fixed v u → row ≡ flushing slot fixed.batch_size
       → IsBegun Active row u
@@ -234,52 +197,34 @@ module _ (T : Type 0) (fixed : Fixed) (slot : ℕ) where
   pub leaves_next : (has : Has T) → IsLooking has → IsNext {T = T} fixed (Inside slot has) (leaving fixed (Inside slot has))
   leaves_next Nothing looks = inl (Idle, refl)
   leaves_next (Seen b) looks = inl (Idle, refl)
-  leaves_next (Made b x) looks = absurd looks
-  leaves_next (Both b x a) looks = absurd looks
-  leaves_next (Cut b) looks = absurd looks
-  leaves_next (Walks b next) looks = absurd looks
+  leaves_next _ looks = absurd looks
 
   pub leaves_so : (has : Has T) → IsLooking has → leaving {T = T} fixed (Inside slot has) ≡ Leaves slot fixed.batch_size Idle
   leaves_so Nothing looks = refl
   leaves_so (Seen b) looks = refl
-  leaves_so (Made b x) looks = absurd looks
-  leaves_so (Both b x a) looks = absurd looks
-  leaves_so (Cut b) looks = absurd looks
-  leaves_so (Walks b next) looks = absurd looks
+  leaves_so _ looks = absurd looks
 
   -- and so is refreshing
   pub refreshes_next : (has : Has T) → IsLooking has → IsNext {T = T} fixed (Inside slot has) (refreshes fixed (Inside slot has))
   refreshes_next Nothing looks = inl (Active, refl)
   refreshes_next (Seen b) looks = inl (Active, refl)
-  refreshes_next (Made b x) looks = absurd looks
-  refreshes_next (Both b x a) looks = absurd looks
-  refreshes_next (Cut b) looks = absurd looks
-  refreshes_next (Walks b next) looks = absurd looks
+  refreshes_next _ looks = absurd looks
 
   pub refreshes_so : (has : Has T) → IsLooking has → refreshes {T = T} fixed (Inside slot has) ≡ Leaves slot fixed.batch_size Active
   refreshes_so Nothing looks = refl
   refreshes_so (Seen b) looks = refl
-  refreshes_so (Made b x) looks = absurd looks
-  refreshes_so (Both b x a) looks = absurd looks
-  refreshes_so (Cut b) looks = absurd looks
-  refreshes_so (Walks b next) looks = absurd looks
+  refreshes_so _ looks = absurd looks
 
   -- and what was seen is let go
   pub forgets_next : (has : Has T) → IsLooking has → IsNext {T = T} fixed (Inside slot has) (forgetting fixed (Inside slot has))
   forgets_next Nothing looks = inr refl
   forgets_next (Seen b) looks = inr refl
-  forgets_next (Made b x) looks = absurd looks
-  forgets_next (Both b x a) looks = absurd looks
-  forgets_next (Cut b) looks = absurd looks
-  forgets_next (Walks b next) looks = absurd looks
+  forgets_next _ looks = absurd looks
 
   pub forgets_so : (has : Has T) → IsLooking has → forgetting {T = T} fixed (Inside slot has) ≡ Inside slot Nothing
   forgets_so Nothing looks = refl
   forgets_so (Seen b) looks = refl
-  forgets_so (Made b x) looks = absurd looks
-  forgets_so (Both b x a) looks = absurd looks
-  forgets_so (Cut b) looks = absurd looks
-  forgets_so (Walks b next) looks = absurd looks
+  forgets_so _ looks = absurd looks
 
 -- a list with entries is counted down, and an empty one is settled
 is_above : (head : ℕ) → ACTIVE < head → nat_lt ACTIVE head ≡ true

@@ -6,10 +6,10 @@ use Rattle.run_shows.specs.Given.SeizeWordsPlan.{May, plan_as}
 use Rattle.run_shows.proofs.Given.SeizeWordsPlans.{as_may}
 use Rattle.run_shows.specs.Given.SeizeLaw.{holds}
 use Rattle.run_shows.specs.Given.SeizeWorld.{World, IsInside}
-use Rattle.run_shows.specs.Given.TablesChunks.{is_incremental}
 use Rattle.run_shows.specs.Given.TablesDeclared.node.Node.{Node}
 use Rattle.run_shows.specs.Given.TablesDeclared.setting.Setting.{Setting}
 use Rattle.run_shows.specs.Given.ResizeLookup as lookup
+use Rattle.run_shows.specs.Given.ResizeLookup.{lookup_plan}
 use Rattle.run_shows.specs.Given.ResizeDeclared.lookup.Lookup.{Lookup}
 use Rattle.run_shows.specs.Given.ResizeDeclared.lookup.Looking.{Looking}
 use Rattle.run_shows.specs.Given.ResizeDeclared.lookup.Looking.TheVariants as looking
@@ -21,16 +21,19 @@ use Rattle.run_shows.specs.Given.RawDeclared.machines.call.Calling.TheVariants a
 use Rattle.run_shows.specs.Given.RawDeclared.machines.call.KeyCall.{KeyCall}
 use Rattle.run_shows.specs.Given.RawDeclared.machines.machine.Machine.TheVariants as kinds
 use Rattle.run_shows.specs.Given.RuleChart.{Chart}
-use Rattle.run_shows.specs.Given.RuleMaps.{IsMap}
+use Rattle.run_shows.specs.Given.RuleMaps.{spot_at, IsMap}
 use Rattle.run_shows.specs.Given.RuleWords.{Blocks}
 use Rattle.run_shows.specs.Given.RuleInWorld.{IsMapIn}
 use Rattle.run_shows.proofs.Given.RuleWorld.Framed.{shows_kept}
+use Rattle.owner_facts.specs.Given.LateLateCalls.{SupersededCalling, SupersededCallFacts}
+use Rattle.run_shows.specs.Given.LateLateLooks.{SupersededLooking}
 use Rattle.owner_facts.specs.Given.PointsFactsCalls.{CallFacts, CallingFacts}
 use Rattle.owner_facts.specs.Given.PointsSteps.{AreLawful}
 use Rattle.owner_facts.specs.Given.PointsTold.{IsRowOfCall}
 use Rattle.owner_facts.proofs.Given.PointsCalls.May.{may_looks}
 use Rattle.owner_facts.proofs.Given.PointsCalls.StepsTold.{lookups_tell}
 use Rattle.owner_facts.proofs.Given.PointsLookups.LooksAsked.{class_asked, lookup_asked}
+use Rattle.owner_facts.proofs.Given.PointsLookups.Reads.{sees_place, may_probes}
 use Rattle.owner_facts.specs.Given.CallersKept.{IsWithin}
 use Rattle.owner_facts.specs.Given.CallersSights.{Visible, seen_by}
 use Rattle.owner_facts.specs.Given.CallersTogether.{UnderWay, CallOnKey, OnKey, Together, IsAtPoint, in_slot}
@@ -76,25 +79,41 @@ module _ {K V Q : Type 0} (same : K → K → Bool) (hash : K → ℕ) (asks : Q
   }
 
   -- so a lookup may take its step there
-  pub may_lookup : is_incremental setting.mode ≡ true → (u : CallOnKey K V Q) → calls i ≡ Some (OnKey u) → (l : Lookup) → u.call.stands ≡ at.Looks l
-      → May Can Took value_at less (call_plan asks same hash u.call)
-  may_lookup incremental u is l stands = by (s.stand i (OnKey u) is)
-    where
-      by_point : CallFacts same hash asks w i here c seen u.keys u.change u.call → CallingFacts same hash asks w i here c seen u.keys u.change u.call (at.Looks l)
-          → May Can Took value_at less (call_plan asks same hash u.call)
-      by_point facts point =
-          subst (λ (x : Calling). May Can Took value_at less (plan_at asks same hash u.call x)) (sym stands)
-          (may_looks less u.call asks l point.3 point.4
-          (lookups_tell V same hash lawful setting.mode setting.root (asks point.3) u.call.hash less c seen l
-          (class_asked same hash setting.mode setting.root u.keys (asks point.3) point.5 u.call.hash facts.class) map2
-          (lookup_asked same hash setting.mode setting.root u.keys (asks point.3) point.5 u.call.hash c seen l point.6)).0)
+  module _ (u : CallOnKey K V Q) (l : Lookup) (stands : u.call.stands ≡ at.Looks l) where
+    -- whatever it asks for
+    asked_may : (q : Q) → u.call.asked ≡ Some q → May Can Took value_at less (lookup_plan (asks q) l) → May Can Took value_at less (call_plan asks same hash u.call)
+    asked_may q asked may = subst (λ (x : Calling). May Can Took value_at less (plan_at asks same hash u.call x)) (sym stands) (may_looks less u.call asks l q asked may)
 
-      by : IsAtPoint V same hash asks setting slot w c seen i (OnKey u) → May Can Took value_at less (call_plan asks same hash u.call)
-      by (inl (rests, knows)) = elim knows.facts as (λ _. May Can Took value_at less (call_plan asks same hash u.call)) [
-        | inl facts ↦ by_point facts (subst (λ (x : Calling). CallingFacts same hash asks w i here c seen u.keys u.change u.call x) stands facts.point)
-        | inr late ↦ (let blocking = late.1.blocking in absurd (cc (blocking, incremental)))
-      ]
-      by (inr (row, is_row, knows)) = absurd (subst (λ (x : Calling). IsRowOfCall x) stands is_row)
+    -- in the root's table, or on the way there,
+    by_point : CallFacts same hash asks w i here c seen u.keys u.change u.call → CallingFacts same hash asks w i here c seen u.keys u.change u.call (at.Looks l)
+        → May Can Took value_at less (call_plan asks same hash u.call)
+    by_point facts point =
+        asked_may point.3 point.4
+        (lookups_tell V same hash lawful setting.mode setting.root (asks point.3) u.call.hash less c seen l
+        (class_asked same hash setting.mode setting.root u.keys (asks point.3) point.5 u.call.hash facts.class) map2
+        (lookup_asked same hash setting.mode setting.root u.keys (asks point.3) point.5 u.call.hash c seen l point.6)).0
+
+    -- and in a table that the root has left
+    by_left : SupersededCallFacts same hash asks w i here c seen u.keys u.began u.call → SupersededCalling same hash asks w i here c seen u.keys u.began u.call (at.Looks l)
+        → May Can Took value_at less (call_plan asks same hash u.call)
+    by_left facts (own, missing, there, q, asked, agree, looks) = asked_may q asked (probes_at l.stands looks.point)
+      where
+        probes_at : (x : Looking) → SupersededLooking same hash u.keys u.call.hash c seen u.began x → May Can Took value_at less (lookup.plan_at (asks q) l x)
+        probes_at (looking.Probes trial) (t, j, tries, passed, left) =
+            may_probes hash (asks q) u.call.hash less c seen l looks.hash_is trial t (c.place t (spot_at (c.len t) u.call.hash j))
+            (sees_place same hash lawful.fits setting.mode setting.root (asks q) u.call.hash
+            (class_asked same hash setting.mode setting.root u.keys (asks q) agree u.call.hash facts.class) less c seen map2 trial t j tries)
+        probes_at _ point = absurd point
+
+    pub may_lookup : calls i ≡ Some (OnKey u) → May Can Took value_at less (call_plan asks same hash u.call)
+    may_lookup is = by (s.stand i (OnKey u) is)
+      where
+        by : IsAtPoint V same hash asks setting slot w c seen i (OnKey u) → May Can Took value_at less (call_plan asks same hash u.call)
+        by (inl (rests, knows)) = elim knows.facts as (λ _. May Can Took value_at less (call_plan asks same hash u.call)) [
+          | inl facts ↦ by_point facts (subst (λ (x : Calling). CallingFacts same hash asks w i here c seen u.keys u.change u.call x) stands facts.point)
+          | inr late ↦ by_left late.1 (subst (λ (x : Calling). SupersededCalling same hash asks w i here c seen u.keys u.began u.call x) stands late.1.point)
+        ]
+        by (inr (row, is_row, knows)) = absurd (subst (λ (x : Calling). IsRowOfCall x) stands is_row)
 
 -- a lookup makes no block
 module _ {K V Q : Type 0} (asks : Q → K → Bool) (same : K → K → Bool) (hash : K → ℕ) (b : ℕ) (m : Mem (Node K V)) (c : KeyCall K V Q) where
@@ -114,14 +133,14 @@ module _ {K V Q : Type 0} (asks : Q → K → Bool) (same : K → K → Bool) (h
 
 module _ {K Q : Type 0} (V : Type 0) (same : K → K → Bool) (asks : Q → K → Bool) (batch_size roots : ℕ) (slot : ℕ → ℕ) where
   pub lookups_look : LookupsLookAtWhatIsHeld V same asks batch_size roots slot
-  lookups_look w maps calls makers enders all m s here incremental i u has l stands b looks =
+  lookups_look w maps calls makers enders all m s here i u has l stands b looks =
       let together = all.makings.standing.each m s here in
       let inside = together.inside i (OnKey u) has in
       let lawful = (all.makings.standing.fit m s here).0 in
       let kept = keep same s.hash asks s.setting slot lawful w s.chart s.blocks s.sights (calls m) together i inside in
       elim (looks_kept kept w.memory (machine_plan asks same s.hash (kinds.Key u.call))
       (as_may machines.called Can Took value_at (less same s.hash asks s.setting slot lawful w s.chart s.blocks s.sights (calls m) together i inside) (call_plan asks same s.hash u.call)
-      (may_lookup same s.hash asks s.setting slot lawful w s.chart s.blocks s.sights (calls m) together i inside incremental u has l stands)) b looks)
+      (may_lookup same s.hash asks s.setting slot lawful w s.chart s.blocks s.sights (calls m) together i inside u l stands has)) b looks)
       as (λ _. holds (slot i) b w.log ≡ true) [
         | inl is ↦ is.0
         | inr made ↦ absurd (none_made asks same s.hash b w.memory u.call l stands made)

@@ -1,4 +1,5 @@
 -- Acts that may be made at first, and some that may not.
+mod Few
 mod Untrue
 use Rattle.std.specs.Prelude.{◌≡◌, ℕ, zero, suc, ◌+◌, ◌*◌, ◌<◌, ◌≤◌, ◌^◌, Bool, List, [], max, Some, None}
 use Rattle.std.specs.Int.{IsPowerOfTwo}

@@ -3,7 +3,6 @@ use Rattle.std.specs.Prelude.{◌≡◌, ℕ, Bool, true, Option, Some, IsSome, 
 use Rattle.run_shows.specs.Given.SeizeWordsMem.{value_at}
 use Rattle.run_shows.specs.Given.SeizeLaw.{holds}
 use Rattle.run_shows.specs.Given.SeizeWorld.{World}
-use Rattle.run_shows.specs.Given.TablesChunks.{is_incremental}
 use Rattle.run_shows.specs.Given.TablesDeclared.node.Node.{Node}
 use Rattle.run_shows.specs.Given.ResizeNewMap.{new_map_plan}
 use Rattle.run_shows.specs.Given.ResizeDeclared.lookup.Lookup.{Lookup}
@@ -44,13 +43,13 @@ module _ {K Q : Type 0} (V : Type 0) (same : K → K → Bool) (asks : Q → K �
       → (b : ℕ) → LooksAt b w.memory (machine_plan asks same s.hash (machine_of u))
       → (IsSome (value_at w.memory b) × (IsAtRow u ⊎ IsHeldFor w (slot i) i s.setting.counter b)) ⊎ MayMake b w.memory (machine_plan asks same s.hash (machine_of u))
 
-  -- A lookup in incremental mode looks only at what its section holds.
+  -- A lookup, in either mode, looks only at what its section holds.
   abbrev pub LookupsLookAtWhatIsHeld : Type 0
   LookupsLookAtWhatIsHeld =
       (w : World (Node K V)) (maps : ℕ → Option (Standing K)) (calls : ℕ → ℕ → Option (UnderWay K V Q))
       (makers : ℕ → Option (Beginning K)) (enders : ℕ → Option (Finishing K V))
       → EndingsTogether V same asks batch_size roots slot w maps calls makers enders
-      → (m : ℕ) (s : Standing K) → maps m ≡ Some s → is_incremental s.setting.mode ≡ true → (i : ℕ) (u : CallOnKey K V Q) → calls m i ≡ Some (OnKey u)
+      → (m : ℕ) (s : Standing K) → maps m ≡ Some s → (i : ℕ) (u : CallOnKey K V Q) → calls m i ≡ Some (OnKey u)
       → (l : Lookup) → u.call.stands ≡ at.Looks l
       → (b : ℕ) → LooksAt b w.memory (machine_plan asks same s.hash (kinds.Key u.call)) → holds (slot i) b w.log ≡ true
 

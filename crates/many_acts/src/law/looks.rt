@@ -8,7 +8,7 @@ ghost use Rattle.many_acts.specs.Looks.There.{BlocksAreThere, WordsAreThere, Ste
 
 /// Any callers have calls under way on any maps of one collector, in either mode, and make and end others. Whichever block the next step of one looks at, by its
 /// operation or for its value, is there; and unless the step is one of a row of the collector, its caller's open section holds it, or its caller has it, having made
-/// it or taken it out of its map, or it is the counter of the map; at a lookup in incremental mode its section
+/// it or taken it out of its map, or it is the counter of the map; at a lookup, in either mode, its section
 /// holds it. What a section holds keeps its value, and no other block gets its number. So no step looks at a
 /// block that was given back, nor at another one than its number named. And who makes a map looks at blocks of its own.
 pub fn steps_look_at_what_is_held<K, V, Q>()

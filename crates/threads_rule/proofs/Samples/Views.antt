@@ -1,4 +1,5 @@
 -- What the first operation of a lookup tells its seat, on a map that has no table; and what the operation of a row does.
+mod Aside
 mod Listed
 use Rattle.std.specs.Prelude.{ℕ, ◌==◌, Bool, List, [], ◌∷◌, Option, Some, None}
 use Rattle.std.proofs.Common.{inl, inr, refl, subst, ap}

@@ -3,7 +3,7 @@ use Rattle.seize_atoms.specs.Visiting.{Seen, HoldsSince, keeps_here, seat_coded}
 use Rattle.seize_seats.specs.Seats.Errands.{coded_of, then_away}
 use Rattle.seize_atoms.proofs.Allowed.{make_allowed}
 use Rattle.seize_seats.specs.Seats.Visits.{then_kept}
-use Rattle.std.proofs.Common.{◌≡◌, ℕ, List, [], ◌∷◌, sym, refl, w64}
+use Rattle.std.proofs.Common.{◌≡◌, ℕ, List, [], ◌∷◌, sym, refl, w64, arith}
 use mir.Syntax.{dcons, dnil, a_type, named}
 use mir.MapTy.{inst_fn}
 use mir.Val.{Val, vint, vptr, vunit}
@@ -87,7 +87,7 @@ refuse_spec 𝓤 𝓛 𝓜 𝓡 wired X P U F LX LP LU LF g d _ =
     let o₂ : ℕ = a.1.1.0.ref_ptr.1 in
     let x : X.Denot = a.1.1.0.now in let count : ℕ = a.1.1.1.0 in
     let so : Out K₀.Denot → Seen U.Denot → Type 0 = then_away h.away (then_kept value_of h.visit (g.then h.view (Make x count))) in
-    let kept : K₀.Denot = record { value = x; at = null_ptr; count = 0; beside = refl } in let out : Out K₀.Denot = Made (Err kept) in
+    let kept : K₀.Denot = record { value = x; at = null_ptr; count = 0; beside = (refl, omega arith) } in let out : Out K₀.Denot = Made (Err kept) in
     let others : Fml = fsep (flft κs.1.1.0 qs.1.1.0) (fsep (flft κs.1.1.1.0 qs.1.1.1.0) (fsep (flft κs.1.1.1.1.0 qs.1.1.1.1.0)
     (fsep (flft κs.1.1.1.1.1.0 qs.1.1.1.1.1.0) (fsep (flft κs.1.1.1.1.1.1.0 qs.1.1.1.1.1.1.0) ftrue)))) in
     let Asked : Type 0 = (h.base ≡ z.views_name) × Allows rule g.keeps id h.view (Make x count) (g.then h.view (Make x count)) in
