@@ -4,8 +4,6 @@ use denote.RawPtr.{InBlock}
 use Rattle.seize_seats.specs.Seats.Owned.{BaseId, core_of}
 use Rattle.seize_blocks.specs.declared.part.Part.{Part}
 use Rattle.seize_blocks.specs.declared.part.Place.{Place}
-use Rattle.seize_blocks.specs.declared.part.Places.{Places}
-use Rattle.seize_blocks.specs.declared.part.Spot.{Spot}
 use Rattle.seize_atoms.specs.Placed.{IsItsIndex}
 use Rattle.seize_atoms.specs.declared.claim.Claim.{Claim}
 
@@ -17,19 +15,11 @@ IsHad z p = (core_of p.strip.id ≡ core_of z) × InBlock p.strip.words
 abbrev pub IsPart : {T : Type 0} → BaseId → Part T → ℕ → Type 0
 IsPart z p place = IsHad z p × (p.strip.id.place ≡ place) × (p.first + p.count ≡ z.least * 2 ^ place)
 
--- the block of this number, if there is one, is there, in a strip of this memory
-abbrev pub IsThere : {T : Type 0} → BaseId → ℕ → Spot T → Type 0
-IsThere z block s =
-    (core_of s.strip.id ≡ core_of z) × InBlock s.strip.words × (s.values ≡ s.strip.id.values) × IsItsIndex s.strip.id block s.index
-    × (s.first ≡ s.index * 5 + s.strip.id.skip) × (s.first + 4 < 2 ^ 60)
-
--- the block, if one was looked for, is at the place
+-- the block, if one was looked for, is at the place, which is in a strip of this memory
 abbrev pub IsFound : {T : Type 0} → BaseId → Place T → Type 0
-IsFound z p = IsThere z p.block p.spot
-
--- and so it is with both places
-abbrev pub AreFound : {T : Type 0} → BaseId → Places T → Type 0
-AreFound z p = IsFound z p.last × IsFound z p.before
+IsFound z p =
+    (core_of p.spot.strip.id ≡ core_of z) × InBlock p.spot.strip.words × (p.spot.values ≡ p.spot.strip.id.values)
+    × IsItsIndex p.spot.strip.id p.block p.spot.index
 
 -- a number of a strip, with its index in it, is claimed
 abbrev pub IsClaimed : {T : Type 0} → BaseId → Part T × ℕ × Claim → Type 0

@@ -26,6 +26,7 @@ pub struct Blocks<T, R: Rule<T>> {
     pub(crate) roots: u64,
     pub(crate) count: u64,
     pub(crate) digits: u64,
+    pub(crate) skip: u64,
     pub(crate) values: ValuePlaces<T>,
     pub(crate) doors: Doors,
     ghost counted: { (words.id.roots ≡ roots) × (words.id.count ≡ 2 ^ 32) × (words.id.least ≡ count) },
@@ -33,6 +34,7 @@ pub struct Blocks<T, R: Rule<T>> {
     ghost strip: { IsFirst words.words words.id × (words.id.size ≡ count) },
     ghost few: { (roots ≤ 65536) × (0 < count) × (count ≤ 2 ^ 32) },
     ghost even: { count ≡ 2 ^ digits },
+    ghost skips: { skip ≡ (roots + roots + 32) * 16 },
 }
 
 impl<T, R: Rule<T>> Blocks<T, R> {
@@ -254,7 +256,8 @@ impl<T, R: Rule<T>> Blocks<T, R> {
         }
         match self.close(*near) {
             Some((part, index, claim)) => {
-                *near = part.first + index + 1;
+                let block = part.first + index + 1;
+                *near = block;
                 let kept = Kept {
                     value,
                     at: null_mut(),
@@ -263,7 +266,7 @@ impl<T, R: Rule<T>> Blocks<T, R> {
                 self.words
                     .by(&part.strip)
                     .put(seat, claim, index, part.values, kept, Piece::none());
-                Ok(part.first + index + 1)
+                Ok(block)
             }
             None => self.makes(seat, near, value, 0),
         }

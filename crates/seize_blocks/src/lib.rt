@@ -16,5 +16,5 @@ mod rooms;
 pub use blocks::Blocks;
 pub use errand::{Errand, ErrandWith};
 pub use home::Home;
-pub use part::Places;
+pub use part::Place;
 pub use seize_atoms::{Lesson, Meeting, Rule, Seat, StripWords, Turn};

@@ -22,13 +22,12 @@ impl<T, R: Rule<T>> Blocks<T, R> {
             values: self.values.at,
             first: 0,
             count: self.count,
-            skip: (self.roots + self.roots + 32) * 16,
+            skip: self.skip,
         }
     }
 
     /// The strip behind a door, if there is one.
-    #[inline(always)]
-    pub(crate) fn part_behind(&self, door: u64, first: u64) -> Option<Part<T>>
+    fn part_behind(&self, door: u64, first: u64) -> Option<Part<T>>
         requires { (door < 32) × (first ≡ self.now.words.id.least * 2 ^ door) × (first + first ≤ 2 ^ 32) }
         ensures { IfSome result (λ p. IsPart self.now.words.id p (door + 1)) }
     {

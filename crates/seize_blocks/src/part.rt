@@ -32,13 +32,6 @@ pub struct Place<T> {
     pub(crate) spot: Spot<T>,
 }
 
-/// The two blocks that were looked for last, and where they are.
-#[derive(Drop)]
-pub struct Places<T> {
-    pub(crate) last: Place<T>,
-    pub(crate) before: Place<T>,
-}
-
 /// From where an operation on a word is made: by which strip, from which address, and how many words on from there.
 #[derive(Drop)]
 pub(crate) struct Reached<T> {

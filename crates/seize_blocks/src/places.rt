@@ -1,5 +1,5 @@
 //! Where the words and the values of a memory lie.
-ghost use Rattle.std.specs.Prelude.{◌≡◌, ℕ, ◌+◌, ◌-◌, ◌*◌, ◌≤◌, ◌<◌, ◌^◌, Some, IfSome};
+ghost use Rattle.std.specs.Prelude.{◌≡◌, ℕ, ◌+◌, ◌-◌, ◌*◌, ◌≤◌, ◌<◌, ◌^◌, Some};
 ghost use denote.RawPtr.{Ptr, InBlock};
 ghost use Rattle.seize_seats.specs.Seats.Lines.{long};
 ghost use Rattle.seize_seats.specs.Seats.Owned.{core_of};
@@ -9,7 +9,6 @@ ghost use Rattle.seize_atoms.specs.Visiting.{HoldsHere};
 ghost use Rattle.seize_words.specs.declared.at.At.TheVariants.{Slot, Word};
 ghost use Rattle.seize_seats.specs.Plots.Pieces.{lies};
 ghost use Rattle.seize_atoms.specs.Placed.{IsItsPlace, IsItsIndex, IsBehind, HasWord};
-ghost use Rattle.seize_blocks.specs.Parts.{IsThere};
 
 use crate::access::Access;
 use crate::blocks::{Blocks, MOST};
@@ -185,7 +184,7 @@ impl<T, R: Rule<T>> Blocks<T, R> {
         requires { index ≤ 2 ^ 32 }
         ensures { result ≡ index * 5 + long self.now.words.id.roots }
     {
-        index * 5 + (self.roots + self.roots + 32) * 16
+        index * 5 + self.skip
     }
 
     /// Behind which door the strip of a number is, and how many numbers come before those of the strip: those whose highest binary digit is the number's are
@@ -240,37 +239,6 @@ impl<T, R: Rule<T>> Blocks<T, R> {
             return self.near_spot(0);
         }
         self.far_spot_of(pass, guard, owner, block)
-    }
-
-    /// Where a block is, if its strip is there, whatever a view shows.
-    #[inline(always)]
-    pub(crate) fn spot_ahead(&self, block: u64) -> Option<Spot<T>>
-        ensures { IfSome result (λ s. IsThere self.now.words.id block s) }
-    {
-        let index = block.wrapping_sub(1);
-        if index < self.count {
-            return Some(self.near_spot(index));
-        }
-        if index >= MOST {
-            return None;
-        }
-        let (door, first) = self.door_of(index);
-        if first > MOST / 2 {
-            return None;
-        }
-        match self.part_behind(door, first) {
-            Some(part) => {
-                let values = part.values;
-                let behind = index - part.first;
-                Some(Spot {
-                    strip: part.strip,
-                    values,
-                    index: behind,
-                    first: behind * 5 + part.skip,
-                })
-            }
-            None => None,
-        }
     }
 
     /// The same, of a block whose number lies behind a door.

@@ -1,7 +1,7 @@
 //! A seat of maps on an errand whose code runs ahead of the machine that it has under way: the seat takes the turns of that machine at once before the
 //! operation that follows them.
 ghost use Rattle.std.specs.Prelude.{◌≡◌, ◌≢◌, None};
-ghost use Rattle.seize_blocks.specs.Parts.{AreFound};
+ghost use Rattle.seize_blocks.specs.Parts.{IsFound};
 
 mod helping;
 mod memory;
@@ -10,21 +10,23 @@ mod storing;
 mod turning;
 
 use map_tables::{Hashes, Node};
-use seize_blocks::{Blocks, Places, Seat};
+use seize_blocks::{Blocks, Place, Seat};
 pub(crate) use storing::Put;
 use threads_steps::OfMaps;
 
 /// A seat of maps on an errand, with the memory. It is a memory for code that makes the operations of the call that the seat has under way, and
-/// knows at which place the block is whose own words it has reached last.
+/// knows at which place the block is whose own words it has read last, and at which one that whose it has written: where places are copied these are two tables.
 #[derive(Drop)]
 pub struct Ahead<'a, K: Eq, V, S: Hashes<K>> {
     blocks: &'a Blocks<Node<K, V>, OfMaps<S>>,
     seat: &'a mut Seat<Node<K, V>, OfMaps<S>>,
     near: u64,
-    places: Places<Node<K, V>>,
+    place: Place<Node<K, V>>,
+    written: Place<Node<K, V>>,
     ghost own: { seat.now.base ≡ blocks.now.words.id.views_name },
     ghost away: { seat.now.away ≢ None },
-    ghost found: { AreFound blocks.now.words.id places },
+    ghost found: { IsFound blocks.now.words.id place },
+    ghost writes: { IsFound blocks.now.words.id written },
 }
 
 impl<'a, K: Eq, V, S: Hashes<K>> Ahead<'a, K, V, S> {
@@ -45,7 +47,8 @@ impl<'a, K: Eq, V, S: Hashes<K>> Ahead<'a, K, V, S> {
             blocks,
             seat,
             near,
-            places: blocks.places(),
+            place: blocks.place(),
+            written: blocks.place(),
         }
     }
 }

@@ -1,6 +1,6 @@
 //! A seat of maps on an errand, with the memory.
 ghost use Rattle.std.specs.Prelude.{◌≡◌, ◌≢◌, None};
-ghost use Rattle.seize_blocks.specs.Parts.{AreFound};
+ghost use Rattle.seize_blocks.specs.Parts.{IsFound};
 
 mod asking;
 mod calling;
@@ -15,7 +15,7 @@ mod sweeping;
 pub use asking::Halt;
 pub use calling::{Ran, ended};
 use map_tables::{Hashes, Node};
-use seize_blocks::{Blocks, Places, Seat};
+use seize_blocks::{Blocks, Place, Seat};
 use threads_rule::OfMaps;
 
 /// A seat of maps on an errand, with the memory. It is a memory for the machine that it has under way, and knows whether an operation was made, and
@@ -25,11 +25,11 @@ pub struct Within<'a, K: Eq, V, S: Hashes<K>> {
     blocks: &'a Blocks<Node<K, V>, OfMaps<S>>,
     seat: &'a mut Seat<Node<K, V>, OfMaps<S>>,
     near: u64,
-    places: Places<Node<K, V>>,
+    place: Place<Node<K, V>>,
     made: bool,
     ghost own: { seat.now.base ≡ blocks.now.words.id.views_name },
     ghost away: { seat.now.away ≢ None },
-    ghost found: { AreFound blocks.now.words.id places },
+    ghost found: { IsFound blocks.now.words.id place },
 }
 
 impl<'a, K: Eq, V, S: Hashes<K>> Within<'a, K, V, S> {
@@ -49,7 +49,7 @@ impl<'a, K: Eq, V, S: Hashes<K>> Within<'a, K, V, S> {
             blocks,
             seat,
             near,
-            places: blocks.places(),
+            place: blocks.place(),
             made: false,
         }
     }

@@ -1,7 +1,7 @@
 //! A seat on an errand as the memory of code that runs ahead of its machine.
 use crate::ahead::Ahead;
 use map_tables::{Hashes, Node};
-use seize_words::{At, Fault, Link, Look, Memory};
+use seize_words::{At, Fault, Look, Memory};
 
 impl<'a, K: Eq, V, S: Hashes<K>> Look<Node<K, V>> for Ahead<'a, K, V, S> {
     ghost use Rattle.threads_errands.specs.Ahead.{CanGo, HasGone, shown_ahead};
@@ -15,16 +15,12 @@ impl<'a, K: Eq, V, S: Hashes<K>> Look<Node<K, V>> for Ahead<'a, K, V, S> {
     #[inline(always)]
     fn load(&mut self, at: At) -> u64 {
         self.catches_up();
-        let word = self.blocks.load_by(&mut *self.seat, &mut self.places, at);
-        if let At::Root(_) = at {
-            self.blocks.foresees(&mut self.places, Link::block_of(word));
-        }
-        word
+        self.blocks.load_by(&mut *self.seat, &mut self.place, at)
     }
 
     #[inline(always)]
     fn value(&self, block: u64) -> &Node<K, V> {
-        self.blocks.value_by_place(&*self.seat, &self.places, block)
+        self.blocks.value(&*self.seat, block)
     }
 }
 
@@ -33,7 +29,7 @@ impl<'a, K: Eq, V, S: Hashes<K>> Memory<Node<K, V>> for Ahead<'a, K, V, S> {
     fn store(&mut self, at: At, word: u64) {
         self.catches_up();
         self.blocks
-            .store_by(&mut *self.seat, &mut self.places, at, word);
+            .store_by(&mut *self.seat, &mut self.written, at, word);
     }
 
     #[inline(always)]
@@ -45,22 +41,21 @@ impl<'a, K: Eq, V, S: Hashes<K>> Memory<Node<K, V>> for Ahead<'a, K, V, S> {
     #[inline(always)]
     fn add(&mut self, at: At, by: u64) -> u64 {
         self.catches_up();
-        self.blocks
-            .add_by(&mut *self.seat, &mut self.places, at, by)
+        self.blocks.add(&mut *self.seat, at, by)
     }
 
     #[inline(always)]
     fn or(&mut self, at: At, bits: u64) -> u64 {
         self.catches_up();
         self.blocks
-            .or_by(&mut *self.seat, &mut self.places, at, bits)
+            .or_by(&mut *self.seat, &mut self.written, at, bits)
     }
 
     #[inline(always)]
     fn exchange(&mut self, at: At, old: u64, new: u64) -> Result<u64, u64> {
         self.catches_up();
         self.blocks
-            .exchange_by(&mut *self.seat, &mut self.places, at, old, new)
+            .exchange_by(&mut *self.seat, &mut self.place, at, old, new)
     }
 
     #[inline(always)]

@@ -1,6 +1,6 @@
 use Rattle.seize_words.specs.OneMemory.Op.{Make}
 use Rattle.seize_blocks.proofs.By.{on_put}
-use Rattle.seize_blocks.proofs.blocks.Blocks.make.Goals as goal
+use Rattle.seize_blocks.proofs.blocks.Blocks.makes.Goals as goal
 
 pub put-requires : goal.put-requires
 put-requires g c = let s = c.in-Some-number in let k = s.ensures in let l = c.in-Some in
