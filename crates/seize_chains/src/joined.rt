@@ -1,8 +1,9 @@
 //! A block that was made for a chain, and has a seat of its own, and so needs no slot.
-ghost use Rattle.std.specs.Prelude.{◌≡◌, ◌≢◌, ◌<◌, ◌^◌, Some, IfOk, IfErr, true};
+ghost use Rattle.std.specs.Prelude.{◌≡◌, ◌≢◌, ◌<◌, ◌^◌, Some, IfOk, IfErr, IfNone, IfSome, true, false};
 ghost use Rattle.seize_chains.specs.Joining.{joined_by};
 ghost use Rattle.seize_views.specs.Views.Chains.{IsChainRoot};
 ghost use Rattle.seize_views.specs.declared.view.TheConstants.{LINK};
+ghost use Rattle.seize_views.specs.declared.view.Deed.TheVariants.{Looked};
 ghost use Rattle.seize_views.specs.declared.view.SlotView.TheVariants.{Joins};
 
 use crate::joining::{joined, joins, names_below, stacks, takes_apart};
@@ -84,7 +85,8 @@ impl<'a, T: Defers> Joined<'a, T> {
 
     /// Tells whether this is the root of a chain.
     fn has_chain(&self, root: u64) -> bool
-        ensures { result ≡ true → IsChainRoot self.now.caller.blocks.now.words.fixed root }
+        ensures is { result ≡ true → IsChainRoot self.now.caller.blocks.now.words.fixed root }
+        ensures not { result ≡ false → IsChainRoot self.now.caller.blocks.now.words.fixed root → ⊥ }
     {
         root >= self.roots && root - self.roots < self.chains
     }
@@ -94,6 +96,10 @@ impl<'a, T: Defers> Joined<'a, T> {
     pub fn stack(self, root: u64, old: Tagged) -> Result<(), (Option<Tagged>, Self)>
         ensures home { IfErr result (λ back. back.1.caller.blocks.now ≡ self.entry.caller.blocks.now) }
         ensures block { IfErr result (λ back. back.1.block ≡ self.entry.block) }
+        ensures back { IfErr result (λ back. (value : T) → self.entry.caller.seat.view.knows ≡ Joins (Some (self.entry.block, value, self.entry.below))
+            → back.1.caller.seat.view.knows ≡ Joins (Some (back.1.block, value, back.1.below))) }
+        ensures other { IfErr result (λ back. IfSome back.0 (λ found. (found.word ≢ old.word) × (back.1.caller.seat.view.did ≡ Looked root found.word))) }
+        ensures none { IfErr result (λ back. IfNone back.0 ((IsChainRoot self.entry.caller.blocks.now.words.fixed root → ⊥) × (back.1 ≡ self.entry))) }
     {
         if !self.has_chain(root) {
             return Err((None, self));

@@ -1,6 +1,8 @@
 //! A seat that goes down a chain within its section.
 ghost use Rattle.std.specs.Prelude.{◌≡◌, ◌≢◌, ℕ, Option, Some, None, IfOk, IfErr};
 ghost use Rattle.seize_words.specs.OneMemory.Word.{block_in};
+ghost use Rattle.seize_seats.specs.Seats.Lendings.{IsValueOf};
+ghost use Rattle.seize_views.specs.Views.Notes.{NotedHolds};
 ghost use Rattle.seize_views.specs.Views.Chains.{IsChainRoot};
 ghost use Rattle.seize_views.specs.Views.Promises.{IsLooking};
 ghost use Rattle.seize_views.specs.declared.view.Deed.TheVariants.{Looked, Wrote};
@@ -54,6 +56,7 @@ pub(crate) fn sees_link<T: Defers>(
     requires walks { (next : Option ℕ) × (seat.old.view.knows ≡ Inside _slot (Walks block next)) }
     requires some { block ≢ 0 }
     ensures walks { seat.new.view.knows ≡ Inside _slot (Walks block (Some (block_in result))) }
+    ensures did { seat.new.view.did ≡ seat.old.view.did }
     ensures guards { seat.new.view.guards ≡ seat.old.view.guards }
     ensures same { (seat.new.base ≡ seat.old.base) × (seat.new.id ≡ seat.old.id) × (seat.new.away ≡ seat.old.away) }
 {
@@ -71,6 +74,7 @@ pub(crate) fn goes_down<T: Defers>(
     requires own { seat.old.base ≡ blocks.now.words.id.views_name }
     requires walks { seat.old.view.knows ≡ Inside _slot (Walks _block (Some _next)) }
     ensures walks { seat.new.view.knows ≡ Inside _slot (Walks _next None) }
+    ensures did { seat.new.view.did ≡ seat.old.view.did }
     ensures guards { seat.new.view.guards ≡ seat.old.view.guards }
     ensures same { (seat.new.base ≡ seat.old.base) × (seat.new.id ≡ seat.old.id) × (seat.new.away ≡ seat.old.away) }
 {
@@ -87,6 +91,7 @@ pub(crate) fn met<'s, T: Defers>(
     requires own { seat.now.base ≡ blocks.now.words.id.views_name }
     requires walks { (next : Option ℕ) × (seat.now.view.knows ≡ Inside _slot (Walks block next)) }
     requires some { block ≢ 0 }
+    ensures { IsValueOf (NotedHolds T.defers blocks.now.words.fixed) seat.now.id seat.now.view block result.now }
 {
     blocks.value(seat, block)
 }
@@ -123,6 +128,7 @@ pub(crate) fn stops<T: Defers>(blocks: &Blocks<T, OfRows>, seat: &mut Seat<T, Of
     requires own { seat.old.base ≡ blocks.now.words.id.views_name }
     requires walks { (b : ℕ) × (next : Option ℕ) × (seat.old.view.knows ≡ Inside _slot (Walks b next)) }
     ensures inside { seat.new.view.knows ≡ Inside _slot Nothing }
+    ensures did { seat.new.view.did ≡ seat.old.view.did }
     ensures guards { seat.new.view.guards ≡ seat.old.view.guards }
     ensures same { (seat.new.base ≡ seat.old.base) × (seat.new.id ≡ seat.old.id) × (seat.new.away ≡ seat.old.away) }
 {

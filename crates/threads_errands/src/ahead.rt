@@ -2,6 +2,7 @@
 //! operation that follows them.
 ghost use Rattle.std.specs.Prelude.{◌≡◌, ◌≢◌, None};
 ghost use Rattle.seize_blocks.specs.Parts.{IsFound};
+ghost use Rattle.threads_steps.specs.Found.{found_prop};
 
 mod helping;
 mod memory;
@@ -25,8 +26,8 @@ pub struct Ahead<'a, K: Eq, V, S: Hashes<K>> {
     written: Place<Node<K, V>>,
     ghost own: { seat.now.base ≡ blocks.now.words.id.views_name },
     ghost away: { seat.now.away ≢ None },
-    ghost found: { IsFound blocks.now.words.id place },
-    ghost writes: { IsFound blocks.now.words.id written },
+    ghost found: { IsFound blocks.now.words.id place } by { found_prop blocks.now.words.id place },
+    ghost writes: { IsFound blocks.now.words.id written } by { found_prop blocks.now.words.id written },
 }
 
 impl<'a, K: Eq, V, S: Hashes<K>> Ahead<'a, K, V, S> {

@@ -1,3 +1,4 @@
+pub mod Found
 pub mod Made
 pub mod Steps
 pub mod Storing

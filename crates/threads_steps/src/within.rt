@@ -1,6 +1,7 @@
 //! A seat of maps on an errand, with the memory.
 ghost use Rattle.std.specs.Prelude.{◌≡◌, ◌≢◌, None};
 ghost use Rattle.seize_blocks.specs.Parts.{IsFound};
+ghost use Rattle.threads_steps.specs.Found.{found_prop};
 
 mod asking;
 mod calling;
@@ -29,7 +30,7 @@ pub struct Within<'a, K: Eq, V, S: Hashes<K>> {
     made: bool,
     ghost own: { seat.now.base ≡ blocks.now.words.id.views_name },
     ghost away: { seat.now.away ≢ None },
-    ghost found: { IsFound blocks.now.words.id place },
+    ghost found: { IsFound blocks.now.words.id place } by { found_prop blocks.now.words.id place },
 }
 
 impl<'a, K: Eq, V, S: Hashes<K>> Within<'a, K, V, S> {

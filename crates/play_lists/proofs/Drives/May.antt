@@ -11,7 +11,7 @@ use Rattle.many_acts.specs.Given.CallersTogether.{MayWrite, IsWriter, UnderWay}
 use Rattle.many_acts.proofs.Given.CallersTogether.At.{at_other, at_same}
 use Rattle.many_acts.specs.Given.FinishesMachines.{machine_of}
 use Rattle.many_acts.specs.Given.FinishesMakings.{Beginning}
-use Rattle.many_acts.specs.Given.FinishesMaps.{with_call}
+use Rattle.many_acts.specs.Given.FinishesMaps.{Standing, with_call}
 use Rattle.many_acts.specs.Given.ScenesReplying.{scene_with}
 use Rattle.many_acts.specs.Given.ScenesRows.{request_of}
 use Rattle.many_acts.specs.Given.ScenesScene.{Scene, slot_of}

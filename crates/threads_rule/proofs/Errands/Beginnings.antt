@@ -31,12 +31,13 @@ use Rattle.threads_rule.specs.Errands.Looking.{Begins, IsOn, LooksFor, MayLook, 
 use Rattle.threads_rule.specs.Errands.Making.{BeginsMaking, HasOutcome, MayBegin, PlansJust}
 use Rattle.seize_words.proofs.General.{same_some}
 
-module _ {K V S : Type 0} (same : K → K → Bool) (hash : S → K → ℕ) where
+module _ {K S : Type 0} (V : Type 0) (same : K → K → Bool) (hash : S → K → ℕ) where
   -- who leans on another seat may look keys up, and who leans on none may begin anything
   pub may_look_aside : (under : Option (ℕ × ℕ)) (map : Map S) (key : K) → MayWant {V = V} same hash under map (Get key)
   may_look_aside None map key t = tt
   may_look_aside (Some leant) map key t = λ blocking writes. writes
 
+module _ {K V S : Type 0} (same : K → K → Bool) (hash : S → K → ℕ) where
   pub may_alone : (under : Option (ℕ × ℕ)) (map : Map S) (wanted : Wanted K V) → under ≡ None → MayWant same hash under map wanted
   may_alone under map wanted lone t = subst (λ (u : Option (ℕ × ℕ)). LooksAside u (Some map) (Calls (machine_for same hash map t wanted))) (sym lone) tt
 

@@ -36,12 +36,13 @@ use Rattle.owner_facts.specs.Given.LateLateCalls.{SupersededCallFacts}
 use Rattle.owner_facts.specs.Given.CallersKept.{IsKeptBy}
 use Rattle.map_measures.specs.Given.CallersRows.{past_row, once_over}
 use Rattle.owner_facts.specs.Given.CallersSights.{Visible, seen_by}
-use Rattle.owner_facts.specs.Given.CallersTogether.{UnderWay, CallOnKey, OnKey, HasCall, next_of, in_slot, IsAtPoint}
+use Rattle.owner_facts.specs.Given.CallersTogether.{UnderWay, CallOnKey, OnKey, IsWriter, next_of, in_slot, IsAtPoint}
 use Rattle.owner_facts.proofs.Given.CallersTogether.At.{at_other, at_same}
 use Rattle.map_measures.proofs.Given.CallersRows.Keep.{kept_block}
 use Rattle.owner_facts.proofs.Given.CallersSights.Seen.{map_seen}
 use Rattle.owner_facts.proofs.Given.CallersTogether.Came.{came_reached}
 use Rattle.owner_facts.proofs.Given.CallersTogether.FactsOn.{KnowsOfCall}
+use Rattle.owner_facts.proofs.Given.CallersTogether.Few.{row_writes}
 use Rattle.owner_facts.proofs.Given.CallersTogether.Fits.{map_in_slot}
 use Rattle.owner_facts.proofs.Given.CallersTogether.WithinRows as rows
 use Rattle.owner_facts.specs.Alone.Counted.{HasAdded, counted_for, counted_at}
@@ -79,8 +80,8 @@ module _ {K V Q : Type 0} (same : K → K → Bool) (hash : K → ℕ) (asks : Q
   pub inside : IsInside (now.v.uses (slot 0))
   inside = now.together.inside 0 (OnKey u) a.has
 
-  pub its : HasCall a.calls 0
-  its none = let has = a.has in cc (has, none)
+  pub its : IsWriter a.calls 0
+  its = (OnKey u, a.has, row_writes u.call.stands is_row)
 
   leads_on : rows.Leads same hash asks setting slot lawful now.v c blocks sights a.calls now.together 0 u inside its u.call.stands
   leads_on = rows.within_row same hash asks setting slot lawful now.v c blocks sights a.calls now.together 0 u inside its u.call.stands is_row now.row_is now.knows

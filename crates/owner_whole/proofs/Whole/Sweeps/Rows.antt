@@ -37,7 +37,7 @@ use Rattle.owner_facts.specs.Given.LateToldSweeps.{IsRowOfSweep}
 use Rattle.owner_facts.proofs.Given.LateSwept.Sweeps.Stands.{quiet_further}
 use Rattle.owner_facts.specs.Given.CallersOverAll.{CallOverAll, gone_on, row_of_sweep, past_sweeping, sweep_once_over}
 use Rattle.owner_facts.specs.Given.CallersSights.{Visible, seen_by}
-use Rattle.owner_facts.specs.Given.CallersTogether.{UnderWay, OverAll, HasCall, next_over_all, in_slot, IsReclaimed, KnowsSweep, IsAtPoint, Together}
+use Rattle.owner_facts.specs.Given.CallersTogether.{UnderWay, OverAll, IsWriter, next_over_all, in_slot, IsReclaimed, KnowsSweep, IsAtPoint, Together}
 use Rattle.owner_facts.proofs.Given.CallersSights.Seen.{map_seen}
 use Rattle.owner_facts.proofs.Given.CallersTogether.At.{at_other, at_same}
 use Rattle.owner_facts.proofs.Given.CallersTogether.Begun as begun
@@ -116,8 +116,8 @@ module _ {K V Q : Type 0} (same : K → K → Bool) (hash : K → ℕ) (asks : Q
             reclaims = begun.begun_gives same hash asks setting slot lawful w c blocks sights a.calls a.together 0 inside rests (row_of_sweep (slot 0) o.sweep.stands) d.row;
           }
 
-  its : HasCall a.calls 0
-  its none = cc (a.has, none)
+  its : IsWriter a.calls 0
+  its = (OverAll o, a.has, tt)
 
   pub inside_now : IsInside (now.v.uses (slot 0))
   inside_now = now.together.inside 0 (OverAll o) a.has

@@ -1,0 +1,2 @@
+-- Samples: chains worked by hand, and what the definition refuses.
+mod Chains
