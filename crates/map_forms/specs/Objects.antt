@@ -1,9 +1,14 @@
--- Pairs as the members of a JSON object.
-use Rattle.std.specs.Prelude.{◌≡◌, ◌≢◌, ℕ, List, [], ◌∷◌, Some}
+-- Pairs as the members of a JSON object, and which pair each member stands for.
+use Rattle.std.specs.Prelude.{◌≡◌, ◌≢◌, ◌⊎◌, ℕ, List, [], ◌∷◌, Some}
 use Rattle.std.specs.List.{All, Contains}
 use Rattle.std.specs.List.Sorted.{IsPermutation}
-use Rattle.serde_json.specs.Data.{Data, Members, no_members, put, object}
+use Rattle.seize_words.specs.declared.fault.Fault.{Fault}
+use Rattle.seize_words.specs.declared.fault.Fault.TheVariants.{Memory, Capacity}
+use Rattle.serde_json.specs.Data.{Data, Members, no_members, member, put, object}
 use Rattle.serde_json.specs.Find.{get_member}
+use Rattle.map_forms.specs.Forms.{IsNone}
+use Rattle.map_forms.specs.declared.fault.JsonFault.{JsonFault}
+use Rattle.map_forms.specs.declared.fault.JsonFault.TheVariants.{BadKey, BadElement, Refused}
 
 module _ {K V : Type 0} (text : K → List ℕ) (value : V → Data) where
   -- the members, with these pairs put among them one after another
@@ -32,3 +37,24 @@ ObjectsHaveTheirPairs K V =
 abbrev pub ObjectsHaveNoOrder : Type 0 → Type 0 → Type 0
 ObjectsHaveNoOrder K V =
     (text : K → List ℕ) (value : V → Data) (xs ys : List (K × V)) → IsPermutation xs ys → (written : Data) → IsObjectOf text value xs written → IsObjectOf text value ys written
+
+-- memory, or the length of a table, was refused
+abbrev pub IsRefusal : JsonFault → Type 0
+IsRefusal why = (fault : Fault) × (why ≡ Refused fault) × ((fault ≡ Memory) ⊎ (fault ≡ Capacity))
+
+-- What keys and values are in range, and what each is written as.
+module _ {K V : Type 0} (key_in : K → Type 0) (text : K → List ℕ) (value_in : V → Type 0) (value : V → Data) where
+  -- a member with this name and this value stands for this pair
+  abbrev pub IsPairOf : List ℕ → Data → K × V → Type 0
+  IsPairOf name d x = (key_in x.0 × (text x.0 ≡ name)) × (value_in x.1 × (value x.1 ≡ d))
+
+  -- It stands for none, for this: no key is written as its name; or a key is, and no value is written as its value.
+  abbrev pub IsNoPair : JsonFault → List ℕ → Data → Type 0
+  IsNoPair why name d =
+      ((why ≡ BadKey) × IsNone key_in text name)
+      ⊎ ((why ≡ BadElement) × ((key : K) × key_in key × (text key ≡ name)) × IsNone value_in value d)
+
+  -- The first member that stands for no pair stands for none for this: all before it do.
+  abbrev pub FirstFault : JsonFault → Members → Type 0
+  FirstFault why no_members = ⊥
+  FirstFault why (member name d ms) = IsNoPair why name d ⊎ (((x : K × V) × IsPairOf name d x) × FirstFault why ms)

@@ -13,7 +13,7 @@ use serde_json::{Map, Value};
 use std::alloc::{AllocError, Global};
 
 /// Puts an element's value among the items of an array, by its compact text. One that equals it has the same text.
-fn put_item<K: JsonForm>(
+pub fn put_item<K: JsonForm>(
     alloc: Global,
     items: &mut Map<String, Value>,
     element: &K,
@@ -28,8 +28,8 @@ fn put_item<K: JsonForm>(
     Ok(())
 }
 
-/// The values, in the order of their texts.
-fn in_order(alloc: Global, items: Map<String, Value>) -> Result<Vec<Value>, AllocError>
+/// Returns the values, in the order of their texts.
+pub fn in_order(alloc: Global, items: Map<String, Value>) -> Result<Vec<Value>, AllocError>
     ensures { IfOk result (λ listed. listed.items ≡ values items) }
 {
     items.into_values().collect(alloc)

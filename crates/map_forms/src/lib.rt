@@ -16,12 +16,12 @@ mod text;
 mod truth;
 mod unsigned;
 
-pub use arrays::array_of;
+pub use arrays::{array_of, in_order, put_item};
 pub use elements::elements_of;
 pub use fault::JsonFault;
 pub use gathers::Gathers;
 pub use json_form::JsonForm;
 pub use json_key::JsonKey;
 pub use listed::Listed;
-pub use objects::object_of;
+pub use objects::{object_of, pair_of, put_member};
 pub use text::Text;

@@ -1,8 +1,9 @@
 //! A seat of maps on an errand whose code runs ahead of the machine that it has under way: the seat takes the turns of that machine at once before the
 //! operation that follows them.
+ghost use Rattle.std.proofs.Props.{props};
 ghost use Rattle.std.specs.Prelude.{◌≡◌, ◌≢◌, None};
 ghost use Rattle.seize_blocks.specs.Parts.{IsFound};
-ghost use Rattle.threads_steps.specs.Found.{found_prop};
+ghost use Rattle.threads_steps.specs.Found.{in_block_prop};
 
 mod helping;
 mod memory;
@@ -26,8 +27,8 @@ pub struct Ahead<'a, K: Eq, V, S: Hashes<K>> {
     written: Place<Node<K, V>>,
     ghost own: { seat.now.base ≡ blocks.now.words.id.views_name },
     ghost away: { seat.now.away ≢ None },
-    ghost found: { IsFound blocks.now.words.id place } by { found_prop blocks.now.words.id place },
-    ghost writes: { IsFound blocks.now.words.id written } by { found_prop blocks.now.words.id written },
+    ghost found: { IsFound blocks.now.words.id place } by { Prim.hlevel (props, in_block_prop) },
+    ghost writes: { IsFound blocks.now.words.id written } by { Prim.hlevel (props, in_block_prop) },
 }
 
 impl<'a, K: Eq, V, S: Hashes<K>> Ahead<'a, K, V, S> {

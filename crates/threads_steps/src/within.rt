@@ -1,7 +1,8 @@
 //! A seat of maps on an errand, with the memory.
+ghost use Rattle.std.proofs.Props.{props};
 ghost use Rattle.std.specs.Prelude.{◌≡◌, ◌≢◌, None};
 ghost use Rattle.seize_blocks.specs.Parts.{IsFound};
-ghost use Rattle.threads_steps.specs.Found.{found_prop};
+ghost use Rattle.threads_steps.specs.Found.{in_block_prop};
 
 mod asking;
 mod calling;
@@ -30,7 +31,7 @@ pub struct Within<'a, K: Eq, V, S: Hashes<K>> {
     made: bool,
     ghost own: { seat.now.base ≡ blocks.now.words.id.views_name },
     ghost away: { seat.now.away ≢ None },
-    ghost found: { IsFound blocks.now.words.id place } by { found_prop blocks.now.words.id place },
+    ghost found: { IsFound blocks.now.words.id place } by { Prim.hlevel (props, in_block_prop) },
 }
 
 impl<'a, K: Eq, V, S: Hashes<K>> Within<'a, K, V, S> {

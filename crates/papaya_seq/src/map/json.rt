@@ -9,26 +9,12 @@ ghost use Rattle.papaya_seq.specs.Json.{ArePairsOf, FirstFault, IsMapOf, IsNoPai
 ghost use Rattle.owner_map.specs.Given.SeqShowsStored.{HasPut};
 
 use crate::json::{FromJson, ToJson};
-use map_forms::{JsonFault, JsonForm, JsonKey, object_of};
+use map_forms::{JsonFault, JsonForm, JsonKey, object_of, pair_of};
 use owner_map::{HashMap, Receiver, store};
 use serde_json::Value;
 use serde_json::value::Map;
 use std::alloc::{AllocError, Global};
 use std::hash::{BuildHasher, Hash};
-
-/// The pair that a member of an object stands for: the key of its name, then the value of what it has.
-fn pair_of<K: JsonKey + Drop, V: JsonForm + Drop>(
-    alloc: Global,
-    name: &str,
-    value: &Value,
-) -> Result<(K, V), JsonFault>
-    ensures pair { IfOk result (λ x. IsPairOf K.JsonForm.in_range K.JsonKey.key_text V.JsonForm.in_range V.JsonForm.json_value name.now (view value.now) x) }
-    ensures fault { IfErr result (λ why. IsNoPair K.JsonForm.in_range K.JsonKey.key_text V.JsonForm.in_range V.JsonForm.json_value why name.now (view value.now) ⊎ IsRefusal why) }
-{
-    let key = K::from_key_text(alloc, name)?;
-    let value = V::from_value(alloc, value)?;
-    Ok((key, value))
-}
 
 /// Stores the pair that a member of an object stands for.
 fn store_member<K: JsonKey + Hash + Drop, V: JsonForm + Drop, S: BuildHasher>(
