@@ -268,7 +268,7 @@ impl<T, R: Rule<T>> Blocks<T, R> {
                     .put(seat, claim, index, part.values, kept, Piece::none());
                 Ok(block)
             }
-            None => self.makes(seat, near, value, 0),
+            None => self.makes(seat, near, value, words),
         }
     }
 
