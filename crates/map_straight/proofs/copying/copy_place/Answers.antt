@@ -84,5 +84,5 @@ returns-in-Past g c =
 pub returns-in-Next : goal.returns-in-Next
 returns-in-Next g c =
     let x = goal.at.returns-in-Next g c in
-    subst (λ (e : Copier). CopyLeads (g.S.Hashes.hash c.args.hasher.now) g.M.Look.took g.M.Look.shown c.args.copier.now c.args.memory.now e c.put_pair.new.memory) (sym c.stands_at.ensures)
+    subst (λ (e : Copier). CopyLeads (g.S.Hashes.hash c.args.hasher.now) g.M.Look.took g.M.Look.shown c.args.copier.now c.args.memory.now e c.put_pair.new.memory) (sym c.stands_at-in-Next.ensures)
     (by.came (paired g x.After-key_hash-hash (marked g x.After-or-word)) c.put_pair.new.memory (placed.Next c.in-Next.probe) c.in-Next.ensures)
