@@ -114,6 +114,25 @@ fn put_pair<K, V, S: Hashes<K>, M: Memory<Node<K, V>>>(
     Placed::Next(probe)
 }
 
+/// The copying stands where the pair of this word has come to in the table that is copied into. It is a call of its own: a loop over places has nothing to clear
+/// for it.
+#[cold]
+#[inline(never)]
+fn stands_at(copier: &mut Copier, word: u64, hash: u64, table: Table, placed: Placed)
+    ensures { copier.new ≡ standing copier.old (placing word hash table placed) }
+{
+    copier.stands = match placed {
+        Placed::Put => Copying::Covers { word },
+        Placed::Past => Copying::Passes { word, hash, table },
+        Placed::Next(probe) => Copying::Probes {
+            word,
+            hash,
+            table,
+            probe,
+        },
+    };
+}
+
 /// Copies a place, if a further one follows, and answers whether it stands at that one then.
 #[inline(always)]
 fn copy_place<K: Drop, V: Drop, S: Hashes<K>, M: Memory<Node<K, V>>>(
@@ -149,20 +168,11 @@ fn copy_place<K: Drop, V: Drop, S: Hashes<K>, M: Memory<Node<K, V>>>(
             true
         }
         Placed::Past => {
-            copier.stands = Copying::Passes {
-                word: pair,
-                hash,
-                table,
-            };
+            stands_at(copier, pair, hash, table, Placed::Past);
             false
         }
         Placed::Next(probe) => {
-            copier.stands = Copying::Probes {
-                word: pair,
-                hash,
-                table,
-                probe,
-            };
+            stands_at(copier, pair, hash, table, Placed::Next(probe));
             false
         }
     }

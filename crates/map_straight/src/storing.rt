@@ -227,7 +227,8 @@ fn put<K: Eq + Hash, V, Q: Equivalent<K>, S: Hashes<K>, M: Memory<Node<K, V>>>(
     match memory.exchange(trial.at(), word, own) {
         Ok(_) => {
             if word == 0 {
-                count(setting, memory, 0);
+                let of = setting;
+                count(of, memory, 0);
                 return Stored::Answered(KeyAnswer::Stored(own));
             }
             let disposed = dispose(memory, setting, word, trial.table);

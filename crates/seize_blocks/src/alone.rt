@@ -23,6 +23,7 @@ impl<T, R: Rule<T>> Blocks<T, R> {
             roots,
             count,
             digits,
+            skip,
             values,
             doors,
         } = self;
@@ -34,6 +35,7 @@ impl<T, R: Rule<T>> Blocks<T, R> {
                 roots,
                 count,
                 digits,
+                skip,
                 values,
                 doors,
             },
@@ -56,6 +58,7 @@ impl<T, R: Rule<T>> Blocks<T, R> {
             roots,
             count,
             digits,
+            skip,
             values,
             doors,
         } = self;
@@ -66,6 +69,7 @@ impl<T, R: Rule<T>> Blocks<T, R> {
             roots,
             count,
             digits,
+            skip,
             values,
             doors,
         }

@@ -1,5 +1,5 @@
 //! The memory as a whole, as those use it who share it.
-ghost use Rattle.std.specs.Prelude.{◌≡◌, None, ◌≤◌, ◌<◌, ◌^◌};
+ghost use Rattle.std.specs.Prelude.{◌≡◌, None, ◌+◌, ◌*◌, ◌≤◌, ◌<◌, ◌^◌};
 ghost use Rattle.seize_words.specs.OneMemory.Op.{Load, Store, Swap, Add, Or, Exchange, Make, Take, Rewrite, Found, Stored, Exchanged, Made, Taken};
 ghost use Rattle.seize_seats.specs.Seats.State.{Allows, Owns, Turns, Learns, KeptByTwo, AreThere, Comes, Meets};
 ghost use Rattle.seize_seats.specs.Seats.Errands.{MayGo, MayLean, MayMeet, MayLeanBoth, TurnsUnlent, RenewsIdle};
@@ -10,9 +10,10 @@ ghost use Rattle.seize_seats.specs.Seats.Lendings.{VisibleTo, VisibleToBoth, IsV
 use crate::access::{Adds, Exchanges, Loads, Sets, Stores, Swaps};
 use crate::errand::{Charged, Errand, ErrandWith, Sent};
 use seize_atoms::{Lesson, Meeting, Rule, Seat, StripWords, Turn};
-use seize_seats::{Doors, Kept, Laid, ValuePlaces, give_words, lay_words};
+use seize_seats::{Doors, Kept, Laid, Piece, ValuePlaces, give_words, lay_words};
 use seize_words::At;
 use std::alloc::Global;
+use std::ptr::null_mut;
 
 /// The most numbers that a memory has.
 pub(crate) const MOST: u64 = 4294967296;
@@ -25,6 +26,7 @@ pub struct Blocks<T, R: Rule<T>> {
     pub(crate) roots: u64,
     pub(crate) count: u64,
     pub(crate) digits: u64,
+    pub(crate) skip: u64,
     pub(crate) values: ValuePlaces<T>,
     pub(crate) doors: Doors,
     ghost counted: { (words.id.roots ≡ roots) × (words.id.count ≡ 2 ^ 32) × (words.id.least ≡ count) },
@@ -32,6 +34,7 @@ pub struct Blocks<T, R: Rule<T>> {
     ghost strip: { IsFirst words.words words.id × (words.id.size ≡ count) },
     ghost few: { (roots ≤ 65536) × (0 < count) × (count ≤ 2 ^ 32) },
     ghost even: { count ≡ 2 ^ digits },
+    ghost skips: { skip ≡ (roots + roots + 32) * 16 },
 }
 
 impl<T, R: Rule<T>> Blocks<T, R> {
@@ -234,6 +237,7 @@ impl<T, R: Rule<T>> Blocks<T, R> {
     /// Makes a block of a value and so many words of its own, each 0, and answers its number. Where there is no memory for the words, or no number is free and no
     /// further strip can be laid, the value comes back. A number is looked for from `near` on, which is then where to look for the next one: with one of their
     /// own, those who make blocks don't meet.
+    #[inline(always)]
     pub fn make(
         &self,
         seat: &mut Seat<T, R>,
@@ -241,6 +245,36 @@ impl<T, R: Rule<T>> Blocks<T, R> {
         value: T,
         words: u64,
     ) -> Result<u64, T>
+        requires own { seat.old.base ≡ self.now.words.id.views_name }
+        requires may { Allows (R.holds self.now.words.fixed) R.keeps seat.old.id seat.old.view (Make value words) (R.then seat.old.view (Make value words)) }
+        ensures same { (seat.new.base ≡ seat.old.base) × (seat.new.id ≡ seat.old.id) }
+        ensures errand { seat.new.away ≡ seat.old.away }
+        ensures goes { R.then seat.old.view (Make value words) (Made result) seat.new.view }
+    {
+        if words != 0 {
+            return self.makes(seat, near, value, words);
+        }
+        match self.close(*near) {
+            Some((part, index, claim)) => {
+                let block = part.first + index + 1;
+                *near = block;
+                let kept = Kept {
+                    value,
+                    at: null_mut(),
+                    count: 0,
+                };
+                self.words
+                    .by(&part.strip)
+                    .put(seat, claim, index, part.values, kept, Piece::none());
+                Ok(block)
+            }
+            None => self.makes(seat, near, value, words),
+        }
+    }
+
+    /// The same, wherever a number is free. It is a call of its own: where one is near at hand, there is little to it.
+    #[inline(never)]
+    fn makes(&self, seat: &mut Seat<T, R>, near: &mut u64, value: T, words: u64) -> Result<u64, T>
         requires own { seat.old.base ≡ self.now.words.id.views_name }
         requires may { Allows (R.holds self.now.words.fixed) R.keeps seat.old.id seat.old.view (Make value words) (R.then seat.old.view (Make value words)) }
         ensures same { (seat.new.base ≡ seat.old.base) × (seat.new.id ≡ seat.old.id) }

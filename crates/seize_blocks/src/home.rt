@@ -58,7 +58,8 @@ impl<T: Drop, R: Rule<T>> Home<T, R> {
     {
         let digits = digits_of(count);
         let count = power(digits);
-        let long = ((roots + roots + 32) * 16 + count * 5) as usize;
+        let skip = (roots + roots + 32) * 16;
+        let long = (skip + count * 5) as usize;
         let (row, ground) = lay(alloc, long)?;
         let (nulls, doorway) = match lay_doors(alloc, DOORS) {
             Ok(laid) => laid,
@@ -78,6 +79,7 @@ impl<T: Drop, R: Rule<T>> Home<T, R> {
                     roots,
                     count,
                     digits,
+                    skip,
                     values,
                     doors,
                 };
@@ -159,6 +161,7 @@ impl<T: Drop, R: Rule<T>> Drop for Home<T, R> {
             roots,
             count,
             digits: _,
+            skip: _,
             values,
             doors,
         } = blocks;

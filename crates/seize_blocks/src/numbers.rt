@@ -13,6 +13,7 @@ use std::ptr::NonNull;
 
 impl<T, R: Rule<T>> Blocks<T, R> {
     /// The first strip.
+    #[inline(always)]
     fn first_part(&self) -> Part<T>
         ensures { IsPart self.now.words.id result 0 }
     {
@@ -21,7 +22,7 @@ impl<T, R: Rule<T>> Blocks<T, R> {
             values: self.values.at,
             first: 0,
             count: self.count,
-            skip: (self.roots + self.roots + 32) * 16,
+            skip: self.skip,
         }
     }
 
@@ -86,6 +87,7 @@ impl<T, R: Rule<T>> Blocks<T, R> {
     }
 
     /// Claims a number of a strip, if one is free from this index on: its index in it. One after the other is tried.
+    #[inline(always)]
     fn claim_in(&self, part: &Part<T>, from: u64) -> Option<(u64, Claim)>
         requires { IsHad self.now.words.id part.now }
         ensures { IfSome result (λ c. (c.0 < part.now.count) × (c.1.found ≡ 0) × (c.1.base ≡ self.now.words.id.hands_name)
@@ -104,6 +106,7 @@ impl<T, R: Rule<T>> Blocks<T, R> {
     }
 
     /// The strip of a number, if it is there.
+    #[inline(always)]
     fn part_of(&self, number: u64) -> Option<Part<T>>
         requires { number < 2 ^ 32 }
         ensures { IfSome result (λ p. IsHad self.now.words.id p) }
@@ -116,6 +119,23 @@ impl<T, R: Rule<T>> Blocks<T, R> {
             return None;
         }
         self.part_behind(door, first)
+    }
+
+    /// A number of the strip of this one, from that on, if the strip is there and one is free.
+    #[inline(always)]
+    pub(crate) fn close(&self, from: u64) -> Option<(Part<T>, u64, Claim)>
+        ensures { IfSome result (λ c. IsClaimed self.now.words.id c) }
+    {
+        if from >= MOST {
+            return None;
+        }
+        let Some(part) = self.part_of(from) else {
+            return None;
+        };
+        match self.claim_in(&part, from.wrapping_sub(part.first)) {
+            Some((index, claim)) => Some((part, index, claim)),
+            None => None,
+        }
     }
 
     /// A number from this one on, if one is free in the strips that are there.

@@ -184,7 +184,7 @@ impl<T, R: Rule<T>> Blocks<T, R> {
         requires { index ≤ 2 ^ 32 }
         ensures { result ≡ index * 5 + long self.now.words.id.roots }
     {
-        index * 5 + (self.roots + self.roots + 32) * 16
+        index * 5 + self.skip
     }
 
     /// Behind which door the strip of a number is, and how many numbers come before those of the strip: those whose highest binary digit is the number's are
@@ -235,7 +235,7 @@ impl<T, R: Rule<T>> Blocks<T, R> {
         if index < self.count {
             return self.near_spot(index);
         }
-        if block == 0 || block > MOST {
+        if index >= MOST {
             return self.near_spot(0);
         }
         self.far_spot_of(pass, guard, owner, block)

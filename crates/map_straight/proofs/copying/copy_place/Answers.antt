@@ -5,8 +5,10 @@ use Rattle.std.proofs.Common.{sym, ◌∙◌, subst}
 use Rattle.seize_words.specs.OneMemory.Op.{Or, Store, Found, Stored}
 use Rattle.seize_words.specs.declared.at.At.{At}
 use Rattle.map_tables.specs.declared.marks.TheConstants.{COPIED, COPYING}
+use Rattle.map_machines.specs.declared.copier.Copier.{Copier}
 use Rattle.seize_straight.specs.Runs.{none_taken}
 use Rattle.map_straight.specs.declared.copying.Placed.TheVariants as placed
+use Rattle.map_straight.specs.Straight.Going.{CopyLeads}
 use Rattle.map_straight.proofs.Straight.Copies as by
 use Rattle.map_straight.proofs.copying.copy_place.Given as given
 use Rattle.map_straight.proofs.copying.copy_place.Goals as goal
@@ -75,8 +77,12 @@ returns-in-Put g c =
 
 pub returns-in-Past : goal.returns-in-Past
 returns-in-Past g c =
-    let x = goal.at.returns-in-Past g c in by.came (paired g x.After-key_hash-hash (marked g x.After-or-word)) c.put_pair.new.memory placed.Past c.in-Past.ensures
+    let x = goal.at.returns-in-Past g c in
+    subst (λ (e : Copier). CopyLeads (g.S.Hashes.hash c.args.hasher.now) g.M.Look.took g.M.Look.shown c.args.copier.now c.args.memory.now e c.put_pair.new.memory) (sym c.stands_at.ensures)
+    (by.came (paired g x.After-key_hash-hash (marked g x.After-or-word)) c.put_pair.new.memory placed.Past c.in-Past.ensures)
 
 pub returns-in-Next : goal.returns-in-Next
 returns-in-Next g c =
-    let x = goal.at.returns-in-Next g c in by.came (paired g x.After-key_hash-hash (marked g x.After-or-word)) c.put_pair.new.memory (placed.Next c.in-Next.probe) c.in-Next.ensures
+    let x = goal.at.returns-in-Next g c in
+    subst (λ (e : Copier). CopyLeads (g.S.Hashes.hash c.args.hasher.now) g.M.Look.took g.M.Look.shown c.args.copier.now c.args.memory.now e c.put_pair.new.memory) (sym c.stands_at-in-Next.ensures)
+    (by.came (paired g x.After-key_hash-hash (marked g x.After-or-word)) c.put_pair.new.memory (placed.Next c.in-Next.probe) c.in-Next.ensures)
